@@ -1,0 +1,37 @@
+-- GCM (SP 800-38D). The block cipher is the argument e.
+use Rattle.std.specs.Prelude.{ℕ, ◌+◌, ◌*◌, ◌%◌, ◌^◌, Bool, true, false, List, [], ◌∷◌, ◌++◌, length, take, drop, replicate, nat_eq, if◌then◌else◌}
+use Rattle.std.specs.List.{concat}
+use Rattle.std.specs.Int.{w32, w64, to_be_bytes, from_be_bytes}
+use Rattle.mbj_types.specs.Blocks.{xor_lists, blocks, zero_block}
+use Rattle.mbj_types.specs.Ghash.{ghash, filled_blocks}
+
+-- 6.2: the last 4 bytes, as a number, rise by 1 modulo 2^32
+unfoldable pub inc32 : List ℕ → List ℕ
+inc32 b = take 12 b ++ to_be_bytes w32 ((from_be_bytes w32 (drop 12 b) + 1) % 2 ^ 32)
+
+-- 6.5, GCTR from the counter block j on: each block is xored with the enciphered counter block, the last one cut
+abbrev pub gctr : (List ℕ → List ℕ) → List ℕ → List (List ℕ) → List (List ℕ)
+gctr e j [] = []
+gctr e j (p ∷ ps) = xor_lists p (e j) ∷ gctr e (inc32 j) ps
+
+-- the bit length of a part of n bytes, in 8 bytes; modulo 2^64, far above what the standard allows
+abbrev pub bit_length : ℕ → List ℕ
+bit_length n = to_be_bytes w64 (8 * n % 2 ^ 64)
+
+-- 7.1, step 2: the counter block before the first one, for an IV of 12 bytes
+unfoldable pub pre_counter_block : List ℕ → List ℕ
+pre_counter_block iv = iv ++ 0 ∷ 0 ∷ 0 ∷ 1 ∷ []
+
+-- 7.1, step 3: the text is xored with the key stream in both directions
+abbrev pub gcm_text : (List ℕ → List ℕ) → List ℕ → List ℕ → List ℕ
+gcm_text e iv text = concat (gctr e (inc32 (pre_counter_block iv)) (blocks text))
+
+-- 7.1, steps 4 to 6: the 16 bytes of tag over aad and ciphertext
+abbrev pub gcm_tag : (List ℕ → List ℕ) → List ℕ → List ℕ → List ℕ → List ℕ
+gcm_tag e iv aad ciphertext =
+    let lengths = bit_length (length aad) ++ bit_length (length ciphertext) in
+    xor_lists (e (pre_counter_block iv)) (ghash (e zero_block) (filled_blocks aad ++ filled_blocks ciphertext ++ lengths ∷ []))
+
+-- the other text, and the tag over the ciphertext, which is that text where the text is sealed, else the given one
+abbrev pub gcm : (List ℕ → List ℕ) → List ℕ → List ℕ → List ℕ → Bool → List ℕ × List ℕ
+gcm e iv aad text sealing = (gcm_text e iv text, gcm_tag e iv aad (if sealing then gcm_text e iv text else text))

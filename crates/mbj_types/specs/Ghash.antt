@@ -1,0 +1,26 @@
+-- GHASH (SP 800-38D) on blocks of 16 bytes.
+use Rattle.std.specs.Prelude.{ℕ, Bool, List, [], ◌∷◌, ◌++◌, length, map}
+use Rattle.std.specs.Int.{w128, to_be_bytes, from_be_bytes}
+use Rattle.mbj_types.specs.Blocks.{xor_lists, blocks, zero_block, filled_block}
+use Rattle.mbj_types.specs.Field.{bits, number, product}
+
+-- a block as an element of the field: its leftmost bit is the coefficient of x^0 (6.3)
+abbrev pub element : List ℕ → List Bool
+element b = bits 128 (from_be_bytes w128 b)
+
+-- the product of two blocks (6.3)
+unfoldable pub block_product : List ℕ → List ℕ → List ℕ
+block_product x h = to_be_bytes w128 (number (product (element x) (element h)))
+
+-- 6.4, steps 2 and 3, from the value y on
+abbrev pub ghash_from : List ℕ → List ℕ → List (List ℕ) → List ℕ
+ghash_from h y [] = y
+ghash_from h y (x ∷ xs) = ghash_from h (block_product (xor_lists y x) h) xs
+
+-- 6.4: GHASH of blocks under h
+abbrev pub ghash : List ℕ → List (List ℕ) → List ℕ
+ghash h xs = ghash_from h zero_block xs
+
+-- the blocks of a part, the last one filled with zero bytes; an empty part has none
+abbrev pub filled_blocks : List ℕ → List (List ℕ)
+filled_blocks part = map filled_block (blocks part)

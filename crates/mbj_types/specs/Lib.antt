@@ -1,0 +1,13 @@
+pub mod Reasons
+pub mod Kinds
+pub mod Blank
+pub mod Blocks
+pub mod Aes
+pub mod Modes
+pub mod Cmac
+pub mod Field
+pub mod Ghash
+pub mod Gcm
+pub mod Hmac
+pub mod Verdict
+pub mod Result

@@ -1,0 +1,103 @@
+-- The result of a job, by the standards.
+use Rattle.std.specs.Prelude.{ℕ, ◌+◌, Bool, true, false, List, [], ◌++◌, take, drop}
+use Rattle.std.specs.Option.{option_map_or}
+use Rattle.mbj_types.specs.Aes.{aes, aes_inverse}
+use Rattle.mbj_types.specs.Modes.{cbc_text, uncbc_text, ctr_text}
+use Rattle.mbj_types.specs.Cmac.{cmac}
+use Rattle.mbj_types.specs.Gcm.{gcm}
+use Rattle.mbj_types.specs.Hmac.{hmac, sha1_hash, sha224_hash, sha256_hash, sha384_hash, sha512_hash}
+use Rattle.mbj_types.specs.Verdict.{verdict}
+use Rattle.mbj_types.specs.declared.job.Job.{Job}
+use Rattle.mbj_types.specs.declared.job.Cipher.{Cipher}
+use Rattle.mbj_types.specs.declared.job.Cipher.TheVariants as cipher
+use Rattle.mbj_types.specs.declared.job.Dir.{Dir}
+use Rattle.mbj_types.specs.declared.job.Dir.TheVariants.{Enc, Dec}
+use Rattle.mbj_types.specs.declared.job.Order.{Order}
+use Rattle.mbj_types.specs.declared.job.Order.TheVariants.{CipherHash, HashCipher}
+use Rattle.mbj_types.specs.declared.job.Auth.{Auth}
+use Rattle.mbj_types.specs.declared.job.Auth.TheVariants as auth
+use Rattle.mbj_types.specs.declared.done.Done.{Done}
+use Rattle.mbj_types.specs.declared.done.Status.TheVariants as status
+use Rattle.mbj_types.specs.declared.reason.Reason.{Reason}
+
+-- len bytes of the packet p, from off on
+abbrev pub range : ℕ → ℕ → List ℕ → List ℕ
+range off len p = take len (drop off p)
+
+abbrev pub cipher_range : Job → List ℕ → List ℕ
+cipher_range j p = range j.cipher_off j.cipher_len p
+
+abbrev pub hash_range : Job → List ℕ → List ℕ
+hash_range j p = range j.hash_off j.hash_len p
+
+-- the packet p with another text in its cipher range
+abbrev pub with_cipher_range : Job → List ℕ → List ℕ → List ℕ
+with_cipher_range j text p = take j.cipher_off p ++ text ++ drop (j.cipher_off + j.cipher_len) p
+
+-- whether the direction is that of encryption
+abbrev pub is_enc : Dir → Bool
+is_enc Enc = true
+is_enc Dec = false
+
+-- GCM on the cipher range of the packet p: the other text, and the whole tag
+unfoldable pub gcm_of : Job → List ℕ → List ℕ × List ℕ
+gcm_of j p = gcm (aes j.key) j.iv j.aad (cipher_range j p) (is_enc j.dir)
+
+-- what the cipher makes of the packet p: its cipher range is replaced
+abbrev pub ciphered_by : Cipher → Dir → Job → List ℕ → List ℕ
+ciphered_by cipher.Null d j p = p
+ciphered_by cipher.Cbc Enc j p = with_cipher_range j (cbc_text (aes j.key) j.iv (cipher_range j p)) p
+ciphered_by cipher.Cbc Dec j p = with_cipher_range j (uncbc_text (aes_inverse j.key) j.iv (cipher_range j p)) p
+ciphered_by cipher.Ctr d j p = with_cipher_range j (ctr_text (aes j.key) j.iv (cipher_range j p)) p
+ciphered_by cipher.Gcm d j p = with_cipher_range j (gcm_of j p).0 p
+
+unfoldable pub ciphered : Job → List ℕ → List ℕ
+ciphered j p = ciphered_by j.cipher j.dir j p
+
+-- what the authentication makes of the packet p, in full; GCM takes the text as it was before the cipher
+abbrev pub mac_by : Auth → Job → List ℕ → List ℕ
+mac_by auth.Null j p = []
+mac_by auth.HmacSha1 j p = hmac sha1_hash j.auth_key (hash_range j p)
+mac_by auth.HmacSha224 j p = hmac sha224_hash j.auth_key (hash_range j p)
+mac_by auth.HmacSha256 j p = hmac sha256_hash j.auth_key (hash_range j p)
+mac_by auth.HmacSha384 j p = hmac sha384_hash j.auth_key (hash_range j p)
+mac_by auth.HmacSha512 j p = hmac sha512_hash j.auth_key (hash_range j p)
+mac_by auth.Cmac128 j p = cmac (aes j.auth_key) (hash_range j p)
+mac_by auth.Cmac256 j p = cmac (aes j.auth_key) (hash_range j p)
+mac_by auth.Gcm j p = (gcm_of j p).1
+
+-- the tag over the packet p: the leftmost bytes
+unfoldable pub tag_over : Job → List ℕ → List ℕ
+tag_over j p = take j.tag_len (mac_by j.auth j p)
+
+-- the packet that the tag is over: in the order of cipher and hash the ciphered one, else the job's own
+abbrev pub authenticated_in : Order → Job → List ℕ
+authenticated_in CipherHash j = ciphered j j.packet
+authenticated_in HashCipher j = j.packet
+
+-- GCM has no order: it is given the job's packet, and its tag is over the ciphertext in both directions
+abbrev pub authenticated_by : Auth → Job → List ℕ
+authenticated_by auth.Null j = authenticated_in j.order j
+authenticated_by auth.HmacSha1 j = authenticated_in j.order j
+authenticated_by auth.HmacSha224 j = authenticated_in j.order j
+authenticated_by auth.HmacSha256 j = authenticated_in j.order j
+authenticated_by auth.HmacSha384 j = authenticated_in j.order j
+authenticated_by auth.HmacSha512 j = authenticated_in j.order j
+authenticated_by auth.Cmac128 j = authenticated_in j.order j
+authenticated_by auth.Cmac256 j = authenticated_in j.order j
+authenticated_by auth.Gcm j = j.packet
+
+-- the result of a job that is accepted
+abbrev pub accepted : Job → Done
+accepted j = record {
+  status = status.Ok;
+  packet = ciphered j j.packet;
+  tag = tag_over j (authenticated_by j.auth j);
+}
+
+-- the result of a job that is refused: its packet as it is, and no tag
+abbrev pub refused : Job → Reason → Done
+refused j reason = record { status = status.InvalidArgs reason; packet = j.packet; tag = [] }
+
+unfoldable pub result_of : Job → Done
+result_of j = option_map_or (refused j) (verdict j) (accepted j)

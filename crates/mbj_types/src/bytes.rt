@@ -1,0 +1,40 @@
+ghost use Rattle.std.specs.Prelude.{◌≡◌, ℕ, List};
+
+use std::marker::Model;
+
+/// Bytes of a job or a result: a `Vec<u8>` that contracts see as the list of its bytes.
+#[derive(Debug, Drop)]
+pub struct Bytes {
+    bytes: Vec<u8>,
+}
+
+impl Model for Bytes {
+    ghost use Rattle.std.specs.Prelude.{List, ℕ};
+
+    ghost Value = { List ℕ };
+
+    ghost view = { λ b. b.bytes.items };
+}
+
+impl Bytes {
+    /// The bytes of a vector. It takes no memory.
+    pub fn from_vec(bytes: Vec<u8>) -> Bytes
+        ensures { result ≡ bytes.items }
+    {
+        Bytes { bytes }
+    }
+
+    /// The vector that holds the bytes. It takes no memory.
+    pub fn into_vec(self) -> Vec<u8>
+        ensures { result.items ≡ self }
+    {
+        self.bytes
+    }
+
+    /// The bytes as a slice.
+    pub fn as_slice(&self) -> &[u8]
+        ensures { result.now ≡ self.now }
+    {
+        self.bytes.as_slice()
+    }
+}

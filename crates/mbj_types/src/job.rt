@@ -1,0 +1,114 @@
+ghost use Rattle.std.specs.Prelude.{◌≡◌};
+ghost use Rattle.mbj_types.specs.Blank.{blank};
+
+use crate::bytes::Bytes;
+use std::alloc::Global;
+
+/// What a job does with its cipher range.
+#[derive(Clone, Copy, Debug, PartialEq, Eq)]
+pub enum Cipher {
+    /// Nothing.
+    Null,
+    /// AES in cipher block chaining (SP 800-38A, 6.2).
+    Cbc,
+    /// AES in counter mode (SP 800-38A, 6.5).
+    Ctr,
+    /// AES in Galois/counter mode (SP 800-38D), which gives the tag too.
+    Gcm,
+}
+
+/// The direction of the cipher.
+#[derive(Clone, Copy, Debug, PartialEq, Eq)]
+pub enum Dir {
+    /// Encryption.
+    Enc,
+    /// Decryption.
+    Dec,
+}
+
+/// Which of cipher and authentication is done first.
+#[derive(Clone, Copy, Debug, PartialEq, Eq)]
+pub enum Order {
+    /// The tag is over the packet after ciphering.
+    CipherHash,
+    /// The tag is over the packet before ciphering.
+    HashCipher,
+}
+
+/// How a job's tag is made.
+#[derive(Clone, Copy, Debug, PartialEq, Eq)]
+pub enum Auth {
+    /// No tag.
+    Null,
+    /// HMAC (RFC 2104) with SHA-1.
+    HmacSha1,
+    /// HMAC with SHA-224.
+    HmacSha224,
+    /// HMAC with SHA-256.
+    HmacSha256,
+    /// HMAC with SHA-384.
+    HmacSha384,
+    /// HMAC with SHA-512.
+    HmacSha512,
+    /// CMAC (SP 800-38B) with AES and a key of 128 bits.
+    Cmac128,
+    /// CMAC with AES and a key of 256 bits.
+    Cmac256,
+    /// The tag of Galois/counter mode, which goes with that cipher.
+    Gcm,
+}
+
+/// A job: one packet with one cipher, one authentication, or both.
+///
+/// A field that the chosen cipher and authentication don't use is ignored. GCM uses `key`, `iv`, `aad` and the
+/// cipher range, and ignores `order`, `auth_key` and the hash range.
+#[derive(Debug, Drop)]
+pub struct Job {
+    pub cipher: Cipher,
+    pub dir: Dir,
+    pub order: Order,
+    /// The cipher's key: 16, 24 or 32 bytes.
+    pub key: Bytes,
+    /// The cipher's initialization vector.
+    pub iv: Bytes,
+    /// Where the range of the packet that is ciphered in place begins, in bytes.
+    pub cipher_off: u32,
+    /// The length of that range, in bytes.
+    pub cipher_len: u32,
+    pub auth: Auth,
+    /// The key of an HMAC or a CMAC.
+    pub auth_key: Bytes,
+    /// GCM's additional authenticated data.
+    pub aad: Bytes,
+    /// Where the range that an HMAC or a CMAC is over begins, in bytes.
+    pub hash_off: u32,
+    /// The length of that range, in bytes.
+    pub hash_len: u32,
+    /// The length of the tag, in bytes.
+    pub tag_len: u8,
+    pub packet: Bytes,
+}
+
+impl Job {
+    /// A job that does nothing with an empty packet. It takes no memory: the allocator is that of its empty bytes.
+    pub fn blank(alloc: Global) -> Job
+        ensures { result ≡ blank }
+    {
+        Job {
+            cipher: Cipher::Null,
+            dir: Dir::Enc,
+            order: Order::CipherHash,
+            key: Bytes::from_vec(Vec::new(alloc)),
+            iv: Bytes::from_vec(Vec::new(alloc)),
+            cipher_off: 0,
+            cipher_len: 0,
+            auth: Auth::Null,
+            auth_key: Bytes::from_vec(Vec::new(alloc)),
+            aad: Bytes::from_vec(Vec::new(alloc)),
+            hash_off: 0,
+            hash_len: 0,
+            tag_len: 0,
+            packet: Bytes::from_vec(Vec::new(alloc)),
+        }
+    }
+}

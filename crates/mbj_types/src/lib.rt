@@ -1,0 +1,24 @@
+//! Jobs, results and the tables that go with them, as plain values, and the definitions of the standards
+//! (in `specs/`) that every contract of the library cites.
+#![tactic(auto)]
+
+mod bytes;
+mod done;
+mod job;
+mod kind;
+mod limits;
+mod reason;
+mod refusal;
+mod tag;
+
+pub use bytes::Bytes;
+pub use done::{Done, Status};
+pub use job::{Auth, Cipher, Dir, Job, Order};
+pub use kind::Kind;
+pub use limits::{MAX_AAD_BYTES, MAX_HMAC_KEY_BYTES, MAX_PACKET_BYTES, MAX_TAG_BYTES};
+pub use reason::Reason;
+pub use refusal::{PostFull, RingFull};
+pub use tag::Tag;
+
+#[cfg(test)]
+mod tests;

@@ -1,0 +1,47 @@
+ghost use Rattle.std.specs.Prelude.{◌≡◌};
+ghost use Rattle.mbj_types.specs.Reasons.{number_of};
+
+/// Why a job is refused. `number` gives the number that a result line shows.
+#[derive(Clone, Copy, Debug, PartialEq, Eq)]
+pub enum Reason {
+    /// The packet is longer than 65,535 bytes.
+    PacketLong,
+    /// Exactly one of cipher and authentication is GCM.
+    GcmPair,
+    /// The cipher's key has neither 16, 24 nor 32 bytes.
+    CipherKey,
+    /// The initialization vector has a length that the cipher doesn't take.
+    IvLength,
+    /// The cipher range passes the packet's end.
+    CipherRange,
+    /// The cipher range has a length that the cipher doesn't take.
+    CipherLength,
+    /// The authentication's key has a length that it doesn't take.
+    AuthKey,
+    /// The hash range passes the packet's end.
+    HashRange,
+    /// The additional authenticated data is longer than 65,535 bytes.
+    AadLong,
+    /// The tag's length is outside what the authentication gives.
+    TagLength,
+}
+
+impl Reason {
+    /// The reason's number, from 1 to 10 in the order in which the variants stand.
+    pub fn number(&self) -> u8
+        ensures { result ≡ number_of self.now }
+    {
+        match self {
+            Reason::PacketLong => 1,
+            Reason::GcmPair => 2,
+            Reason::CipherKey => 3,
+            Reason::IvLength => 4,
+            Reason::CipherRange => 5,
+            Reason::CipherLength => 6,
+            Reason::AuthKey => 7,
+            Reason::HashRange => 8,
+            Reason::AadLong => 9,
+            Reason::TagLength => 10,
+        }
+    }
+}

@@ -1,0 +1,41 @@
+use super::*;
+use std::test::Fail;
+
+/// Takes a value that may cross to another thread.
+fn cross<T: Send + Drop>(_value: T) {}
+
+#[test]
+fn bytes_go_in_and_out(rt: HostRuntime) -> Result<(), Fail> {
+    let bytes = Bytes::from_vec(b"packet".to_vec(rt.alloc())?);
+    assert_eq!(rt; bytes.as_slice(), b"packet".as_slice());
+    assert_eq!(rt; bytes.into_vec().as_slice(), b"packet".as_slice());
+    Ok(())
+}
+
+#[test]
+fn a_tag_holds_up_to_64_bytes(rt: HostRuntime) {
+    assert_eq!(rt; Tag::from_slice(b"tag").bytes(), b"tag".as_slice());
+    assert_eq!(rt; Tag::from_slice(&[]).bytes().len(), 0);
+    assert_eq!(rt; Tag::from_slice(&[7; 64]).bytes(), [7u8; 64].as_slice());
+}
+
+#[test]
+fn jobs_and_results_may_cross_to_another_thread(rt: HostRuntime) {
+    let job = Job::blank(rt.alloc());
+    assert_eq!(rt; job.auth, Auth::Null);
+    assert_eq!(rt; job.packet.as_slice().len(), 0);
+    cross(PostFull(job));
+    cross(Done {
+        status: Status::InvalidArgs(Reason::GcmPair),
+        packet: Bytes::from_vec(Vec::new(rt.alloc())),
+        tag: Tag::from_slice(&[]),
+    });
+}
+
+#[test]
+fn reasons_and_lanes_have_their_numbers(rt: HostRuntime) {
+    assert_eq!(rt; Reason::PacketLong.number(), 1);
+    assert_eq!(rt; Reason::TagLength.number(), 10);
+    assert_eq!(rt; Kind::Cmac256.lanes(), 16);
+    assert_eq!(rt; Kind::HmacSha512.lanes(), 4);
+}
