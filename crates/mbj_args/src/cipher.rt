@@ -1,0 +1,54 @@
+//! What a cipher takes.
+
+ghost use Rattle.std.specs.Prelude.{◌≡◌, length, not};
+ghost use Rattle.mbj_types.specs.Verdict.{is_null_cipher, is_gcm_cipher, takes_key, takes_iv, takes_range};
+
+use mbj_types::Cipher;
+
+pub(crate) fn is_null(cipher: Cipher) -> bool
+    ensures { result ≡ is_null_cipher cipher }
+{
+    match cipher {
+        Cipher::Null => true,
+        Cipher::Cbc | Cipher::Ctr | Cipher::Gcm => false,
+    }
+}
+
+pub(crate) fn is_gcm(cipher: Cipher) -> bool
+    ensures { result ≡ is_gcm_cipher cipher }
+{
+    match cipher {
+        Cipher::Gcm => true,
+        Cipher::Null | Cipher::Cbc | Cipher::Ctr => false,
+    }
+}
+
+/// Keys of this many bytes: 16, 24 or 32 for AES.
+pub(crate) fn takes_key(cipher: Cipher, len: usize) -> bool
+    ensures { result ≡ takes_key cipher len }
+{
+    is_null(cipher) || len == 16 || len == 24 || len == 32
+}
+
+/// Initialization vectors of this many bytes.
+pub(crate) fn takes_iv(cipher: Cipher, len: usize) -> bool
+    ensures { result ≡ takes_iv cipher len }
+{
+    match cipher {
+        Cipher::Null => true,
+        Cipher::Cbc => len == 16,
+        Cipher::Ctr => len == 12 || len == 16,
+        Cipher::Gcm => len == 12,
+    }
+}
+
+/// Cipher ranges of this many bytes.
+pub(crate) fn takes_range(cipher: Cipher, len: u32) -> bool
+    ensures { result ≡ takes_range cipher len }
+{
+    match cipher {
+        Cipher::Null | Cipher::Gcm => true,
+        Cipher::Cbc => len > 0 && len % 16 == 0,
+        Cipher::Ctr => len > 0,
+    }
+}
