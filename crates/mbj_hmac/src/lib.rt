@@ -1,13 +1,10 @@
-// A library with one function.
+//! HMAC (RFC 2104) with the hashes of FIPS 180-4.
 #![tactic(auto)]
 
-ghost use Rattle.std.specs.Prelude.{◌≡◌};
-ghost use Rattle.mbj_hmac.specs.Echo.{echo_of};
+mod hasher;
+mod plain;
 
-// The `ensures` clause is the contract: what `echo` returns is `echo_of` of its argument, a definition
-// in `specs/Echo.antt`, which a caller's clause can cite too.
-pub fn echo(x: usize) -> usize
-    ensures { result ≡ echo_of x }
-{
-    x
-}
+pub use plain::{MAX_BLOCK_BYTES, hmac_plain, pad_key};
+
+#[cfg(test)]
+mod tests;

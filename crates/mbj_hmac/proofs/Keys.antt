@@ -1,0 +1,36 @@
+-- Keys that are filled with zero bytes.
+use Rattle.std.proofs.Common.{◌≡◌, ℕ, ◌+◌, ◌-◌, ◌≤◌, ◌<◌, List, ◌++◌, length, ap, sym, ◌∙◌, arith, append_assoc, refl, take, map, bit_xor, length-append}
+use Rattle.std.proofs.lemmas.List.{replicate-append-replicate, length-replicate, length-map, map-append}
+use Rattle.std.proofs.Math.Seq.{take-append_seam}
+use Rattle.std.specs.Prelude.{replicate}
+use Rattle.std.proofs.lemmas.Bool.{le-leb, lt-leb}
+use Rattle.mbj_types.specs.Hmac.{Hash, filled_key, block_key, padded_key}
+
+-- zeros up to n bytes are zeros up to the block and zeros behind it
+pub filled_on : (key : List ℕ) (block_bytes n : ℕ) → length key ≤ block_bytes → block_bytes ≤ n
+    → key ++ replicate (n - length key) 0 ≡ filled_key block_bytes key ++ replicate (n - block_bytes) 0
+filled_on key b n h k =
+    let sum : (b - length key) + (n - b) ≡ n - length key = omega arith in
+    ap (λ m. key ++ replicate m 0) (sym sum)
+    ∙ ap (λ z. key ++ z) (sym (replicate-append-replicate (b - length key) (n - b) 0))
+    ∙ sym (append_assoc key (replicate (b - length key) 0) (replicate (n - b) 0))
+
+-- a filled key is as long as the block
+pub length-filled_key : (block_bytes : ℕ) (key : List ℕ) → length key ≤ block_bytes → length (filled_key block_bytes key) ≡ block_bytes
+length-filled_key b key h = simp (length-append, length-replicate) (omega arith)
+
+-- the key of a block is a key that is no longer than the block, filled
+pub block_key-short : (h : Hash) (key : List ℕ) → length key ≤ h.block_bytes → block_key h key ≡ filled_key h.block_bytes key
+block_key-short h key short = rw (le-leb (length key) h.block_bytes short) refl
+
+-- the key of a block is the digest of a longer key, filled
+pub block_key-long : (h : Hash) (key : List ℕ) → h.block_bytes < length key → block_key h key ≡ filled_key h.block_bytes (h.digest key)
+block_key-long h key long = rw (lt-leb (length key) h.block_bytes long) refl
+
+-- the front of a padded key is the padded front
+pub padded_key-front : (pad : ℕ) (front rest : List ℕ) (n : ℕ) → length front ≡ n → take n (padded_key pad (front ++ rest)) ≡ padded_key pad front
+padded_key-front pad front rest n h =
+    let f : ℕ → ℕ = λ x. bit_xor x pad in
+    ap (λ (l : List ℕ). take n l) (map-append f front rest)
+    ∙ ap (λ (k : ℕ). take k (map f front ++ map f rest)) (sym h ∙ sym (length-map front f))
+    ∙ take-append_seam (map f front) (map f rest)

@@ -1,0 +1,7 @@
+//! The program `mbjobs`.
+#![tactic(auto)]
+
+mod command;
+mod reading;
+
+fn main() {}

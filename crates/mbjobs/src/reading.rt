@@ -1,0 +1,51 @@
+ghost use Rattle.std.specs.Prelude.{◌≡◌, ◌≤◌, ◌+◌, List, ℕ, IfOk, OnOk, IfSome, IsErrOf, length, vec_len};
+ghost use Rattle.std.specs.Io.KnownBytes.{Consumes};
+ghost use Rattle.mbj_io.specs.Faults.{Rose};
+ghost use Rattle.mbjobs.specs.Reading.{ReadsAll};
+
+use mbj_io::Source;
+use std::alloc::Global;
+
+const INPUT_LIMIT: usize = 16_777_216;
+
+/// How many bytes one read asks for at most.
+const PIECE_BYTES: usize = 4_096;
+
+/// Why an input isn't read to its end.
+#[derive(Clone, Copy, Debug, PartialEq, Eq)]
+pub(crate) enum ReadFault {
+    /// A read failed.
+    Failed,
+    /// It has more than `INPUT_LIMIT` bytes.
+    Over,
+    /// There wasn't memory enough.
+    Memory,
+}
+
+/// Reads an input to its end.
+pub(crate) fn read_all<S: Source>(alloc: Global, input: &mut S) -> Result<Vec<u8>, ReadFault>
+    ensures read { IfOk result (λ v. ReadsAll (S.rest input.old) (S.rest input.new) v.items) }
+    ensures told { IfOk result (λ v. IfSome (S.rest input.old) (λ bytes. v.items ≡ bytes)) }
+    ensures limit { IfOk result (λ v. vec_len v ≤ INPUT_LIMIT) }
+    ensures over { IsErrOf result ReadFault.Over
+        → (bytes : List ℕ) × (length bytes ≡ INPUT_LIMIT + 1) × Consumes (S.rest input.old) (S.rest input.new) bytes }
+    ensures failed { IsErrOf result ReadFault.Failed → Rose (S.faults input.old) (S.faults input.new) }
+    ensures calm { OnOk result (S.faults input.new ≡ S.faults input.old) }
+{
+    let mut bytes = Vec::new(alloc);
+    let mut piece = [0; PIECE_BYTES];
+    while bytes.len() <= INPUT_LIMIT {
+        let room = (INPUT_LIMIT + 1 - bytes.len()).min(PIECE_BYTES);
+        let count = match input.read(&mut piece[..room]) {
+            Ok(count) => count,
+            Err(_) => return Err(ReadFault::Failed),
+        };
+        if count == 0 {
+            return Ok(bytes);
+        }
+        if bytes.extend_from_slice(&piece[..count]).is_err() {
+            return Err(ReadFault::Memory);
+        }
+    }
+    Err(ReadFault::Over)
+}
