@@ -1,0 +1,67 @@
+ghost use Rattle.std.specs.Prelude.{◌≡◌, ◌≢◌, ◌⊎◌, ◌≤◌, List, ℕ, Some, All, IfErr, OnOk, OnErr, length};
+ghost use Rattle.std.specs.Io.KnownBytes.{Appends};
+ghost use Rattle.mbj_types.specs.declared.job.Job.{Job};
+ghost use Rattle.mbj_io.specs.Faults.{Rose};
+ghost use Rattle.mbj_text.specs.Words.{IsOffered};
+ghost use Rattle.mbj_text.specs.Flow.{GainsPrefix};
+ghost use Rattle.mbj_text.specs.declared.limits.TheConstants.{JOB_LIMIT};
+ghost use Rattle.mbjobs.specs.Outcome.{IsUntouched, RunsWhole, Stands, result_text, stream};
+
+use crate::cause::Cause;
+use crate::job::do_job;
+use crate::reading::{ReadFault, read_all};
+use mbj_io::{Failed, Sink, Source};
+use mbj_text::{TextFault, read_file, write_done};
+use mbj_types::Job;
+use std::alloc::Global;
+
+impl From<ReadFault> for Cause {
+    fn from(fault: ReadFault) -> Cause {
+        match fault {
+            ReadFault::Failed => Cause::Read,
+            ReadFault::Over => Cause::Bytes,
+            ReadFault::Memory => Cause::Memory,
+        }
+    }
+}
+
+/// Does the jobs one after another, and writes the line of each result.
+fn write_results<O: Sink>(out: &mut O, jobs: Vec<Job>) -> Result<(), Failed>
+    requires offered { All IsOffered jobs.items }
+    requires few { length jobs.items ≤ JOB_LIMIT }
+    ensures ok { OnOk result (Appends (O.held out.old) (O.held out.new) (result_text jobs.items)) }
+    ensures err { OnErr result (GainsPrefix (O.held out.old) (O.held out.new) (result_text jobs.items)) }
+    ensures failed { OnErr result (Rose (O.faults out.old) (O.faults out.new)) }
+{
+    let mut number: u32 = 0;
+    for job in jobs {
+        write_done(out, number, &do_job(job))?;
+        number += 1;
+    }
+    Ok(())
+}
+
+/// Reads a job file, does its jobs and writes their results.
+pub(crate) fn run<S: Source, O: Sink>(alloc: Global, input: &mut S, out: &mut O) -> Result<(), Cause>
+    ensures ok { OnOk result (RunsWhole (stream S.rest S.faults input.old input.new)
+        (stream O.held O.faults out.old out.new)) }
+    ensures err { IfErr result (λ cause. Stands cause (stream S.rest S.faults input.old input.new)
+        (stream O.held O.faults out.old out.new)) }
+    ensures untouched { IfErr result (λ cause. cause ≢ Cause.Write
+        → IsUntouched (stream O.held O.faults out.old out.new)) }
+{
+    let bytes = match read_all(alloc, input) {
+        Ok(bytes) => bytes,
+        Err(fault) => return Err(Cause::from(fault)),
+    };
+    let jobs = match read_file(alloc, &bytes) {
+        Ok(jobs) => jobs,
+        Err(TextFault::Line { line, field }) => return Err(Cause::Line { line, field }),
+        Err(TextFault::Limit { line }) => return Err(Cause::Jobs { line }),
+        Err(TextFault::Memory) => return Err(Cause::Memory),
+    };
+    match write_results(out, jobs) {
+        Ok(()) => Ok(()),
+        Err(Failed) => Err(Cause::Write),
+    }
+}
