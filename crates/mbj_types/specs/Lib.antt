@@ -11,3 +11,4 @@ pub mod Gcm
 pub mod Hmac
 pub mod Verdict
 pub mod Result
+pub mod Lanes

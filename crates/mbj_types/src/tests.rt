@@ -1,3 +1,5 @@
+mod lanes;
+
 use super::*;
 use std::test::Fail;
 

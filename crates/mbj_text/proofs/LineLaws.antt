@@ -1,0 +1,141 @@
+-- A field is read exactly where it has its form, and a line where each of its fields has.
+use Rattle.std.proofs.Common.{◌≡◌, ◌≢◌, ◌⊎◌, ◌∙◌, ◌==◌, ◌+◌, inl, inr, ap, sym, subst, refl, ℕ, suc, Bool, cond, List, [], ◌∷◌, Option, Some, None, Result, Ok, Err, length, arith, eq-eqb}
+use Rattle.std.specs.Option.{option_map_or}
+use Rattle.std.proofs.lemmas.Bool.{ne_eqb}
+use Rattle.std.proofs.lemmas.Bool.Decides.{eqb_tells}
+use Rattle.mbj_types.specs.declared.job.Job.{Job}
+use Rattle.mbj_text.specs.Spelling.{Spells, Spelled, SpellsFields, Value, Values, values, HasForm, Form, CipherWord, DirWord, OrderWord, AuthWord, Hex, Number, Small, forms, fields_of, IsFirstBad, IsBadLine}
+use Rattle.mbj_text.specs.Reading.{◌>>=◌, Cursor, value_of, next_of, fields_from, job_with, job_of}
+use Rattle.mbj_text.proofs.WordLaws.{cipher_read, cipher_back, dir_read, dir_back, order_read, order_back, auth_read, auth_back}
+use Rattle.mbj_text.proofs.ValueLaws.{bytes_read, bytes_back, number_read, number_back, small_read, small_back}
+
+-- ---- fields
+
+-- what is read is spelled
+pub value_read : (form : Form) (t : List ℕ) (v : Value form) → value_of form t ≡ Some v → Spelled form t v
+value_read CipherWord t v h = cipher_read t v h
+value_read DirWord t v h = dir_read t v h
+value_read OrderWord t v h = order_read t v h
+value_read AuthWord t v h = auth_read t v h
+value_read Hex t v h = bytes_read t v h
+value_read Number t v h = number_read t v h
+value_read Small t v h = small_read t v h
+
+-- what is spelled is read
+pub value_back : (form : Form) (t : List ℕ) (v : Value form) → Spelled form t v → value_of form t ≡ Some v
+value_back CipherWord t v s = cipher_back t v s
+value_back DirWord t v s = dir_back t v s
+value_back OrderWord t v s = order_back t v s
+value_back AuthWord t v s = auth_back t v s
+value_back Hex t v s = bytes_back t v s
+value_back Number t v s = number_back t v s
+value_back Small t v s = small_back t v s
+
+-- a field that isn't of its form is not read
+value_unread : (form : Form) (t : List ℕ) → ¬ (HasForm form t) → value_of form t ≡ None
+value_unread form t h = go (value_of form t) (λ v e. h (v, value_read form t v e))
+  where
+    go : (r : Option (Value form)) → ((v : Value form) → r ≡ Some v → ⊥) → r ≡ None
+    go None not = refl
+    go (Some v) not = absurd (not v refl)
+
+-- ---- the fields of a line
+
+-- one field, and then the others
+abbrev step : {A : Type 0} (n : ℕ) (form : Form) (rest : List Form) (texts : List (List ℕ)) → (Values (form ∷ rest) → Result A ℕ) → Option (Value form) → Result A ℕ
+step n form rest texts next o =
+    option_map_or (λ x. Ok (x, (n + 1, texts))) o (Err (n + 1)) >>= λ (x : Value form × Cursor). fields_from rest x.1 (λ vs. next (x.0, vs))
+
+-- each field spells its value: the values are read
+fields_back : {A : Type 0} (n : ℕ) (fs : List Form) (texts : List (List ℕ)) (vs : Values fs) (next : Values fs → Result A ℕ)
+    → SpellsFields fs texts vs → fields_from fs (n, texts) next ≡ next vs
+fields_back n [] [] vs next s = refl
+fields_back n [] (t ∷ ts) vs next s = absurd s
+fields_back n (form ∷ rest) [] vs next s = absurd s
+fields_back n (form ∷ rest) (t ∷ ts) vs next s =
+    ap (step n form rest ts next) (value_back form t vs.0 s.0)
+    ∙ fields_back (n + 1) rest ts vs.1 (λ us. next (vs.0, us)) s.1
+
+-- a field isn't of its form: the first such is the fault
+first_bad_back : {A : Type 0} (n : ℕ) (fs : List Form) (texts : List (List ℕ)) (f : ℕ) (next : Values fs → Result A ℕ)
+    → IsFirstBad (n + 1) fs texts f → fields_from fs (n, texts) next ≡ Err f
+first_bad_back n [] texts f next bad = absurd bad
+first_bad_back n (form ∷ rest) [] f next bad = absurd bad
+first_bad_back n (form ∷ rest) (t ∷ ts) f next (inl bad) =
+    ap (step n form rest ts next) (value_unread form t bad.1) ∙ ap (λ (k : ℕ). Err k) (sym bad.0)
+first_bad_back n (form ∷ rest) (t ∷ ts) f next (inr (good, bad)) =
+    ap (step n form rest ts next) (value_back form t good.0 good.1)
+    ∙ first_bad_back (n + 1) rest ts f (λ us. next (good.0, us)) bad
+
+-- one of the two holds
+fields_total : (n : ℕ) (fs : List Form) (texts : List (List ℕ)) → length texts ≡ length fs
+    → ((vs : Values fs) × SpellsFields fs texts vs) ⊎ ((f : ℕ) × IsFirstBad n fs texts f)
+fields_total n [] [] h = inl (tt, tt)
+fields_total n [] (t ∷ ts) h = absurd (omega arith)
+fields_total n (form ∷ rest) [] h = absurd (omega arith)
+fields_total n (form ∷ rest) (t ∷ ts) h = go (value_of form t) refl (fields_total (n + 1) rest ts (omega (arith, h)))
+  where
+    go : (o : Option (Value form)) → value_of form t ≡ o → ((vs : Values rest) × SpellsFields rest ts vs) ⊎ ((f : ℕ) × IsFirstBad (n + 1) rest ts f)
+        → ((vs : Values (form ∷ rest)) × SpellsFields (form ∷ rest) (t ∷ ts) vs) ⊎ ((f : ℕ) × IsFirstBad n (form ∷ rest) (t ∷ ts) f)
+    go None e more = inr (n, inl (refl, λ has. let bad = sym e ∙ value_back form t has.0 has.1 in cc))
+    go (Some v) e (inl good) = inl ((v, good.0), (value_read form t v e, good.1))
+    go (Some v) e (inr bad) = inr (bad.0, inr ((v, value_read form t v e), bad.1))
+
+-- a spelled line has a field for each form
+spelled_count : (fs : List Form) (texts : List (List ℕ)) (vs : Values fs) → SpellsFields fs texts vs → length texts ≡ length fs
+spelled_count [] [] vs s = refl
+spelled_count [] (t ∷ ts) vs s = absurd s
+spelled_count (form ∷ rest) [] vs s = absurd s
+spelled_count (form ∷ rest) (t ∷ ts) vs s = ap suc (spelled_count rest ts vs.1 s.1)
+
+-- ---- the line
+
+abbrev counted : Bool → List ℕ → Result Job ℕ
+counted b line = cond b (fields_from forms (0, fields_of line) (λ vs. Ok (job_with vs))) (Err 0)
+
+right_count : (line : List ℕ) → length (fields_of line) ≡ length forms → job_of line ≡ fields_from forms (0, fields_of line) (λ vs. Ok (job_with vs))
+unfolding job_of
+right_count line h = ap (λ b. counted b line) (eq-eqb (length (fields_of line)) (length forms) h)
+
+wrong_count : (line : List ℕ) → length (fields_of line) ≢ length forms → job_of line ≡ Err 0
+unfolding job_of
+wrong_count line h = ap (λ b. counted b line) (ne_eqb (length (fields_of line)) (length forms) h)
+
+-- what is spelled is read, and a fault is found
+pub job_back : (line : List ℕ) (j : Job) → Spells line j → job_of line ≡ Ok j
+job_back line j s =
+    right_count line (spelled_count forms (fields_of line) (values j) s)
+    ∙ fields_back 0 forms (fields_of line) (values j) (λ vs. Ok (job_with vs)) s
+
+pub fault_back : (line : List ℕ) (f : ℕ) → IsBadLine line f → job_of line ≡ Err f
+fault_back line f (inl count) = wrong_count line count.1 ∙ ap (λ (n : ℕ). Err n) (sym count.0)
+fault_back line f (inr (count, bad)) = right_count line count ∙ first_bad_back 0 forms (fields_of line) f (λ vs. Ok (job_with vs)) bad
+
+-- one of the two holds
+pub line_total : (line : List ℕ) → ((j : Job) × Spells line j) ⊎ ((f : ℕ) × IsBadLine line f)
+line_total line = elim (eqb_tells (length (fields_of line)) (length forms)) [
+  | inl same ↦ elim (fields_total 1 forms (fields_of line) same.1) [
+    | inl good ↦ inl (job_with good.0, good.1)
+    | inr bad ↦ inr (bad.0, inr (same.1, bad.1))
+  ]
+  | inr other ↦ inr (0, inl (refl, other.1))
+]
+
+-- what is read is spelled, and a fault that is found is one
+pub job_read : (line : List ℕ) (j : Job) → job_of line ≡ Ok j → Spells line j
+job_read line j h = elim (line_total line) [
+  | inl good ↦
+      let both : ◌≡◌ {A = Result Job ℕ} (Ok good.0) (Ok j) = sym (job_back line good.0 good.1) ∙ h in
+      let same : good.0 ≡ j = cc in
+      let P : Job → Type 0 = λ x. Spells line x in subst P same good.1
+  | inr bad ↦ let both = sym (fault_back line bad.0 bad.1) ∙ h in cc
+]
+
+pub fault_read : (line : List ℕ) (f : ℕ) → job_of line ≡ Err f → IsBadLine line f
+fault_read line f h = elim (line_total line) [
+  | inl good ↦ let both = sym (job_back line good.0 good.1) ∙ h in cc
+  | inr bad ↦
+      let both : ◌≡◌ {A = Result Job ℕ} (Err bad.0) (Err f) = sym (fault_back line bad.0 bad.1) ∙ h in
+      let same : bad.0 ≡ f = cc in
+      let P : ℕ → Type 0 = λ k. IsBadLine line k in subst P same bad.1
+]

@@ -1,0 +1,109 @@
+-- Bytes and numbers are read exactly as they are spelled.
+use Rattle.std.proofs.Common.{◌≡◌, ◌⊎◌, ◌∙◌, ◌==◌, ◌&&◌, ◌||◌, ◌<◌, ◌≤◌, ◌+◌, ◌-◌, ◌*◌, ◌^◌, inl, inr, ap, sym, refl, ℕ, zero, suc, Bool, true, false, cond, not, List, [], ◌∷◌, Option, Some, None, Result, Ok, Err, length, arith, rules, codes}
+use Rattle.std.specs.Prelude.{decimal, slice_index, nat_lt, nat_le}
+use Rattle.std.specs.Char.{is_ascii_digit}
+use Rattle.std.specs.Str.{bytes_eq, all_ascii_digits}
+use Rattle.std.specs.Option.{option_and_then}
+use Rattle.std.specs.Result.{result_ok}
+use Rattle.std.proofs.lemmas.Slice.Eq.{bytes_eq-Decides}
+use Rattle.std.proofs.lemmas.Bool.{eqb-true, eqb-false}
+use Rattle.std.proofs.lemmas.Bool.Decides.{nat_tests}
+use Rattle.std.proofs.lemmas.Str.Parse.{IsNumeralModel, numerals_by_fold, digits_value_short}
+use Rattle.std.proofs.lemmas.Fmt.{decimal-digits_value, digits_value-decimal, digits_decimal, decimal_nonempty, length-decimal-le, first_decimal}
+use Rattle.hex.specs.Hex.{decode_of}
+use Rattle.hex.specs.declared.error.FromHexError.{FromHexError}
+use Rattle.mbj_text.specs.Spelling.{SpellsBytes, SpellsNumber}
+use Rattle.mbj_text.specs.Reading.{bytes_of, number_of, small_of, digits_after, is_number_sized}
+
+-- ---- bytes
+
+pub bytes_read : (t bytes : List ℕ) → bytes_of t ≡ Some bytes → SpellsBytes t bytes
+bytes_read t bytes h = go (bytes_eq t (codes "-")) (length t == 0) (decode_of t) refl (bytes_eq-Decides t (codes "-")).0 (λ e. omega (arith, eqb-false (length t) 0 e)) h
+  where
+    go : (x y : Bool) (r : Result (List ℕ) FromHexError) → decode_of t ≡ r → (x ≡ true → t ≡ codes "-") → (y ≡ false → 0 < length t)
+        → cond x (Some []) (cond y None (result_ok r)) ≡ Some bytes → SpellsBytes t bytes
+    go true y r e p q h = let same : ◌≡◌ {A = List ℕ} bytes [] = cc in inl (p refl, same)
+    go false true r e p q h = cc
+    go false false (Ok bs) e p q h = let same : bs ≡ bytes = cc in inr (q refl, e ∙ ap (λ (l : List ℕ). Ok l) same)
+    go false false (Err x) e p q h = cc
+
+pub bytes_back : (t bytes : List ℕ) → SpellsBytes t bytes → bytes_of t ≡ Some bytes
+bytes_back t bytes (inl bar) = ap bytes_of bar.0 ∙ ap (λ (l : List ℕ). Some l) (sym bar.1)
+bytes_back t bytes (inr hex) = go (bytes_eq t (codes "-")) (length t == 0) (bytes_eq-Decides t (codes "-")).0 (λ e. omega (arith, eqb-true (length t) 0 e, hex.0))
+  where
+    go : (x y : Bool) → (x ≡ true → t ≡ codes "-") → (y ≡ true → ⊥) → cond x (Some []) (cond y None (result_ok (decode_of t))) ≡ Some bytes
+    go true y p q = let bad : decode_of (codes "-") ≡ Ok bytes = ap decode_of (sym (p refl)) ∙ hex.1 in cc
+    go false true p q = absurd (q refl)
+    go false false p q = ap result_ok hex.1
+
+-- ---- numbers
+
+-- the number that digits write behind n
+abbrev pub value_after : ℕ → List ℕ → ℕ
+value_after n [] = n
+value_after n (x ∷ xs) = value_after (n * 10 + (x - 48)) xs
+
+own : IsNumeralModel (λ ds. all_ascii_digits ds ≡ true) (value_after 0)
+own = numerals_by_fold _ (search rules) value_after (search rules)
+
+digits_are : (n : ℕ) (xs : List ℕ) → digits_after n xs ≡ cond (all_ascii_digits xs) (Some (value_after n xs)) None
+digits_are n [] = refl
+digits_are n (x ∷ xs) = elim (is_ascii_digit x) as (λ b. cond b (digits_after (n * 10 + (x - 48)) xs) None ≡ cond (b && all_ascii_digits xs) (Some (value_after (n * 10 + (x - 48)) xs)) None) [
+  | true ↦ digits_are (n * 10 + (x - 48)) xs
+  | false ↦ refl
+]
+
+-- what the test of length and first byte tells
+sized : (t : List ℕ) → is_number_sized t ≡ true → (0 < length t) × (length t ≤ 5) × (slice_index t 0 ≡ 48 → length t ≤ 1)
+sized t h = grind (arith, nat_tests)
+
+is_sized : (t : List ℕ) → 0 < length t → length t ≤ 5 → (slice_index t 0 ≡ 48 → length t ≤ 1) → is_number_sized t ≡ true
+is_sized t a b c = grind (arith, nat_tests)
+
+pub number_read : (t : List ℕ) (n : ℕ) → number_of t ≡ Some n → SpellsNumber t n
+number_read t n h = go (is_number_sized t) (all_ascii_digits t) refl refl (ap (λ o. cond (is_number_sized t) o None) (sym (digits_are 0 t)) ∙ h)
+  where
+    go : (x y : Bool) → is_number_sized t ≡ x → all_ascii_digits t ≡ y → cond x (cond y (Some (value_after 0 t)) None) None ≡ Some n → SpellsNumber t n
+    go false y p q h = cc
+    go true false p q h = cc
+    go true true p q h =
+        let same : value_after 0 t ≡ n = cc in
+        let shape = sized t p in
+        let small : value_after 0 t < 10 ^ 5 = digits_value_short own t 5 q shape.1 in
+        let spelled : decimal (value_after 0 t) ≡ t = decimal-digits_value own t q shape.0 (λ e. omega (arith, shape.2 e, shape.0)) (omega (arith, small)) in
+        (sym spelled ∙ ap (λ (k : ℕ). decimal k) same, omega (arith, small, same))
+
+number_known : (n : ℕ) → n < 10 ^ 5 → number_of (decimal n) ≡ Some n
+number_known n h =
+    let small : n < 2 ^ 64 = omega (arith, h) in
+    let inside : is_number_sized (decimal n) ≡ true = is_sized (decimal n) (decimal_nonempty n small) (length-decimal-le 5 n (omega arith) h small) (lead n small) in
+    ap (λ b. cond b (digits_after 0 (decimal n)) None) inside ∙ digits_are 0 (decimal n)
+    ∙ ap (λ b. cond b (Some (value_after 0 (decimal n))) None) (digits_decimal own n small)
+    ∙ ap (λ (k : ℕ). Some k) (digits_value-decimal own n small)
+  where
+    lead : (n : ℕ) → n < 2 ^ 64 → slice_index (decimal n) 0 ≡ 48 → length (decimal n) ≤ 1
+    lead zero h e = length-decimal-le 1 0 (omega arith) (omega arith) h
+    lead (suc n) h e = absurd (omega (arith, first_decimal (suc n) (omega arith) h, e))
+
+pub number_back : (t : List ℕ) (n : ℕ) → SpellsNumber t n → number_of t ≡ Some n
+number_back t n s = ap number_of s.0 ∙ number_known n s.1
+
+pub small_read : (t : List ℕ) (n : ℕ) → small_of t ≡ Some n → SpellsNumber t n × (n ≤ 255)
+small_read t n h = go (number_of t) refl h
+  where
+    in_range : (m : ℕ) (b : Bool) → nat_le m 255 ≡ b → number_of t ≡ Some m → cond b (Some m) None ≡ Some n → SpellsNumber t n × (n ≤ 255)
+    in_range m true e is q =
+        let same : m ≡ n = cc in
+        let below : m ≤ 255 = grind (arith, nat_tests) in
+        (number_read t n (is ∙ ap (λ (k : ℕ). Some k) same), omega (arith, below, same))
+    in_range m false e is q = cc
+
+    go : (o : Option ℕ) → number_of t ≡ o → option_and_then (λ n. cond (nat_le n 255) (Some n) None) o ≡ Some n → SpellsNumber t n × (n ≤ 255)
+    go None is q = cc
+    go (Some m) is q = in_range m (nat_le m 255) refl is q
+
+pub small_back : (t : List ℕ) (n : ℕ) → SpellsNumber t n × (n ≤ 255) → small_of t ≡ Some n
+small_back t n s =
+    let small : n ≤ 255 = s.1 in
+    let fits : nat_le n 255 ≡ true = grind (arith, nat_tests) in
+    ap (option_and_then (λ n. cond (nat_le n 255) (Some n) None)) (number_back t n s.0) ∙ ap (λ b. cond b (Some n) None) fits

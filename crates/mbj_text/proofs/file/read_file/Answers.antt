@@ -1,0 +1,23 @@
+use Rattle.mbj_text.proofs.AnswerLaws.{ok_reads, line_is_bad, limit_is_over, reads_only, bad_only, over_only, ok_offered}
+use Rattle.mbj_text.proofs.file.read_file.Goals as goal
+
+pub returns-clause-reads : goal.returns-clause-reads
+returns-clause-reads c = ok_reads c.args.bytes.now c.jobs_of.result c.jobs_of.ensures
+
+pub returns-clause-bad : goal.returns-clause-bad
+returns-clause-bad c = line_is_bad c.args.bytes.now c.jobs_of.result c.jobs_of.ensures
+
+pub returns-clause-over : goal.returns-clause-over
+returns-clause-over c = limit_is_over c.args.bytes.now c.jobs_of.result c.jobs_of.ensures
+
+pub returns-clause-only_reads : goal.returns-clause-only_reads
+returns-clause-only_reads c = reads_only c.args.bytes.now c.jobs_of.result c.jobs_of.ensures
+
+pub returns-clause-only_bad : goal.returns-clause-only_bad
+returns-clause-only_bad c = bad_only c.args.bytes.now c.jobs_of.result c.jobs_of.ensures
+
+pub returns-clause-only_over : goal.returns-clause-only_over
+returns-clause-only_over c = over_only c.args.bytes.now c.jobs_of.result c.jobs_of.ensures
+
+pub returns-clause-offered : goal.returns-clause-offered
+returns-clause-offered c = ok_offered c.args.bytes.now c.jobs_of.result c.jobs_of.ensures

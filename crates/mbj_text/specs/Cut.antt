@@ -1,0 +1,59 @@
+-- A file as lines, and a line as fields.
+use Rattle.std.specs.Prelude.{◌≡◌, ℕ, ◌+◌, ◌==◌, Bool, true, List, [], ◌∷◌, Option, Some, None, if◌then◌else◌}
+use Rattle.std.specs.List.{slice_split}
+use Rattle.std.specs.Str.Lines.{strip_carriage_return}
+
+-- the bytes LF, at which a file is cut into lines, the space, at which a line is cut into fields, and `#`
+abbrev pub line_feed : ℕ
+line_feed = 10
+
+abbrev pub space : ℕ
+space = 32
+
+abbrev pub number_sign : ℕ
+number_sign = 35
+
+-- the parts between the bytes that are mark: one more than there are such bytes
+unfoldable pub cut : ℕ → List ℕ → List (List ℕ)
+cut mark text = slice_split (λ b. b == mark) text
+
+-- the parts of what is left of a text, where anything is
+abbrev pub parts_left : ℕ → Option (List ℕ) → List (List ℕ)
+parts_left mark None = []
+parts_left mark (Some text) = cut mark text
+
+-- the first element is taken, where there is one
+abbrev pub Takes : {A : Type 0} → List A → Option A → List A → Type 0
+Takes old None new = (old ≡ []) × (new ≡ [])
+Takes old (Some first) new = old ≡ first ∷ new
+
+-- the parts without an empty last one
+abbrev pub without_empty_end : List (List ℕ) → List (List ℕ)
+without_empty_end [] = []
+without_empty_end ([] ∷ []) = []
+without_empty_end (part ∷ []) = part ∷ []
+without_empty_end (part ∷ next ∷ parts) = part ∷ without_empty_end (next ∷ parts)
+
+-- the lines of a file: it is cut at each LF, and a last part that isn't empty is a line too
+abbrev pub lines_of : List ℕ → List (List ℕ)
+lines_of bytes = without_empty_end (cut line_feed bytes)
+
+-- a line is no job line where it is empty or begins with `#`
+abbrev pub is_skipped : List ℕ → Bool
+is_skipped [] = true
+is_skipped (first ∷ rest) = first == number_sign
+
+-- a line with its number in the file
+abbrev pub Numbered : Type 0
+Numbered = ℕ × List ℕ
+
+-- the job lines among these lines, of which the first has number n; one CR at a line's end is dropped before anything else
+unfoldable pub job_lines_from : ℕ → List (List ℕ) → List Numbered
+job_lines_from n [] = []
+job_lines_from n (line ∷ lines) =
+    let text = strip_carriage_return line in
+    if is_skipped text then job_lines_from (n + 1) lines else (n, text) ∷ job_lines_from (n + 1) lines
+
+-- the job lines of a file, whose lines are counted from 1
+abbrev pub job_lines : List ℕ → List Numbered
+job_lines bytes = job_lines_from 1 (lines_of bytes)

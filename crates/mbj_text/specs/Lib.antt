@@ -1,0 +1,6 @@
+pub mod Fault
+pub mod Cut
+pub mod Words
+pub mod Spelling
+pub mod File
+pub mod Reading

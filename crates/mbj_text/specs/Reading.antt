@@ -1,0 +1,126 @@
+-- The reader of a line as a function, from left to right. Private functions alone promise it.
+use Rattle.std.specs.Prelude.{◌≡◌, ◌==◌, ◌&&◌, ◌||◌, ◌+◌, ◌-◌, ◌*◌, ℕ, Bool, not, List, [], ◌∷◌, length, find, Ok, Err, Result, Option, Some, None, nat_le, nat_lt, if◌then◌else◌, codes, slice_index}
+use Rattle.std.specs.Char.{is_ascii_digit}
+use Rattle.std.specs.Str.{bytes_eq}
+use Rattle.std.specs.Option.{option_map_or, option_and_then}
+use Rattle.std.specs.Result.{result_ok}
+use Rattle.hex.specs.Hex.{decode_of}
+use Rattle.mbj_types.specs.declared.job.Job.{Job}
+use Rattle.mbj_types.specs.declared.job.Cipher.{Cipher}
+use Rattle.mbj_types.specs.declared.job.Dir.{Dir}
+use Rattle.mbj_types.specs.declared.job.Dir.TheVariants.{Enc, Dec}
+use Rattle.mbj_types.specs.declared.job.Order.{Order}
+use Rattle.mbj_types.specs.declared.job.Order.TheVariants.{CipherHash, HashCipher}
+use Rattle.mbj_types.specs.declared.job.Auth.{Auth}
+use Rattle.mbj_text.specs.declared.fault.LineFault.{LineFault}
+use Rattle.mbj_text.specs.declared.fault.LineFault.TheVariants as fault
+use Rattle.mbj_text.specs.Cut.{cut, space}
+use Rattle.mbj_text.specs.Words.{cipher_word, dir_word, order_word, auth_word, file_ciphers, file_auths}
+use Rattle.mbj_text.specs.Spelling.{Form, CipherWord, DirWord, OrderWord, AuthWord, Hex, Number, Small, Value, Values, forms, fields_of}
+
+-- ---- fields
+
+-- the first of the values whose word is the text
+abbrev pub lookup : {A : Type 0} → (A → List ℕ) → List A → List ℕ → Option A
+lookup word values text = find (λ v. bytes_eq (word v) text) values
+
+abbrev pub cipher_of : List ℕ → Option Cipher
+cipher_of = lookup cipher_word file_ciphers
+
+abbrev pub dir_of : List ℕ → Option Dir
+dir_of = lookup dir_word (Enc ∷ Dec ∷ [])
+
+abbrev pub order_of : List ℕ → Option Order
+order_of = lookup order_word (CipherHash ∷ HashCipher ∷ [])
+
+abbrev pub auth_of : List ℕ → Option Auth
+auth_of = lookup auth_word file_auths
+
+abbrev pub bytes_of : List ℕ → Option (List ℕ)
+bytes_of text =
+    if bytes_eq text (codes "-") then Some []
+    else (if length text == 0 then None else result_ok (decode_of text))
+
+-- the number that the digits write behind n, or none
+abbrev pub digits_after : ℕ → List ℕ → Option ℕ
+digits_after n [] = Some n
+digits_after n (x ∷ xs) = if is_ascii_digit x then digits_after (n * 10 + (x - 48)) xs else None
+
+-- it has 1 to 5 bytes, and the first isn't `0` unless it is the only one
+abbrev pub is_number_sized : List ℕ → Bool
+is_number_sized text =
+    nat_lt 0 (length text) && (nat_le (length text) 5 && (length text == 1 || not (slice_index text 0 == 48)))
+
+abbrev pub number_of : List ℕ → Option ℕ
+number_of text = if is_number_sized text then digits_after 0 text else None
+
+abbrev pub small_of : List ℕ → Option ℕ
+small_of text = option_and_then (λ n. if nat_le n 255 then Some n else None) (number_of text)
+
+-- what the text is read as in a form
+abbrev pub value_of : (form : Form) → List ℕ → Option (Value form)
+value_of CipherWord = cipher_of
+value_of DirWord = dir_of
+value_of OrderWord = order_of
+value_of AuthWord = auth_of
+value_of Hex = bytes_of
+value_of Number = number_of
+value_of Small = small_of
+
+-- ---- lines
+
+-- the ? of the logic; an error is the number of a field
+infixl 10 ◌>>=◌
+abbrev pub ◌>>=◌ : {A B : Type 0} → Result A ℕ → (A → Result B ℕ) → Result B ℕ
+(Ok x) >>= f = f x
+(Err e) >>= f = Err e
+
+-- how many fields are read, and those that are left
+abbrev pub Cursor : Type 0
+Cursor = ℕ × List (List ℕ)
+
+-- the next field as a value, and where that leaves the cursor
+abbrev pub next_of : {A : Type 0} → (List ℕ → Option A) → Cursor → Result (A × Cursor) ℕ
+next_of read (n, []) = Err 0
+next_of read (n, text ∷ texts) = option_map_or (λ x. Ok (x, (n + 1, texts))) (read text) (Err (n + 1))
+
+-- the fields one after the other, and then what comes of their values
+abbrev pub fields_from : {A : Type 0} → (fs : List Form) → Cursor → (Values fs → Result A ℕ) → Result A ℕ
+fields_from [] cursor next = next tt
+fields_from (form ∷ rest) cursor next =
+    next_of (value_of form) cursor >>= λ (x : Value form × Cursor). fields_from rest x.1 (λ vs. next (x.0, vs))
+
+abbrev pub job_with : Values forms → Job
+job_with vs = record {
+  cipher = vs.0;
+  dir = vs.1.0;
+  order = vs.1.1.0;
+  key = vs.1.1.1.0;
+  iv = vs.1.1.1.1.0;
+  cipher_off = vs.1.1.1.1.1.0;
+  cipher_len = vs.1.1.1.1.1.1.0;
+  auth = vs.1.1.1.1.1.1.1.0;
+  auth_key = vs.1.1.1.1.1.1.1.1.0;
+  aad = vs.1.1.1.1.1.1.1.1.1.0;
+  hash_off = vs.1.1.1.1.1.1.1.1.1.1.0;
+  hash_len = vs.1.1.1.1.1.1.1.1.1.1.1.0;
+  tag_len = vs.1.1.1.1.1.1.1.1.1.1.1.1.0;
+  packet = vs.1.1.1.1.1.1.1.1.1.1.1.1.1.0;
+}
+
+-- the job of a line, or the field that is its fault
+unfoldable pub job_of : List ℕ → Result Job ℕ
+job_of line =
+    if length (fields_of line) == length forms then fields_from forms (0, fields_of line) (λ vs. Ok (job_with vs)) else Err 0
+
+-- ---- answers
+
+-- the fault is that of the reading, unless memory ran out
+abbrev pub Fails : {A : Type 0} → LineFault → Result A ℕ → Type 0
+Fails fault.Memory read = Unit {0}
+Fails (fault.Field f) read = read ≡ Err f
+
+-- the answer is that of the reading, unless memory ran out
+abbrev pub Gives : {A : Type 0} → Result A LineFault → Result A ℕ → Type 0
+Gives (Ok x) read = read ≡ Ok x
+Gives (Err e) read = Fails e read

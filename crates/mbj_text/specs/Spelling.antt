@@ -1,0 +1,133 @@
+-- What a field and a line of a job file spell, and which field of a bad line is its fault.
+use Rattle.std.specs.Prelude.{◌≡◌, ◌≢◌, ◌⊎◌, ◌<◌, ◌≤◌, ◌+◌, ◌^◌, ℕ, List, [], ◌∷◌, length, codes, decimal, Ok, Contains}
+use Rattle.hex.specs.Hex.{decode_of}
+use Rattle.mbj_types.specs.declared.job.Job.{Job}
+use Rattle.mbj_types.specs.declared.job.Cipher.{Cipher}
+use Rattle.mbj_types.specs.declared.job.Dir.{Dir}
+use Rattle.mbj_types.specs.declared.job.Order.{Order}
+use Rattle.mbj_types.specs.declared.job.Auth.{Auth}
+use Rattle.mbj_text.specs.Cut.{cut, space}
+use Rattle.mbj_text.specs.Words.{cipher_word, dir_word, order_word, auth_word, file_ciphers, file_auths}
+
+-- ---- fields
+
+-- bytes: `-` for none, or an even number, at least 2, of hexadecimal digits of either case, two for each byte
+abbrev pub SpellsBytes : List ℕ → List ℕ → Type 0
+SpellsBytes text bytes = ((text ≡ codes "-") × (bytes ≡ [])) ⊎ ((0 < length text) × (decode_of text ≡ Ok bytes))
+
+-- a number: 1 to 5 digits, the first of them not `0` unless it is the only one
+abbrev pub SpellsNumber : List ℕ → ℕ → Type 0
+SpellsNumber text n = (text ≡ decimal n) × (n < 10 ^ 5)
+
+-- the forms of fields
+pub data Form : Type 0 where
+  CipherWord : Form
+  DirWord : Form
+  OrderWord : Form
+  AuthWord : Form
+  Hex : Form
+  Number : Form
+  Small : Form
+
+-- what a field of each form stands for
+abbrev pub Value : Form → Type 0
+Value CipherWord = Cipher
+Value DirWord = Dir
+Value OrderWord = Order
+Value AuthWord = Auth
+Value Hex = List ℕ
+Value Number = ℕ
+Value Small = ℕ
+
+-- the text spells the value in the form; words are in lower case, and a small number is at most 255
+abbrev pub Spelled : (form : Form) → List ℕ → Value form → Type 0
+Spelled CipherWord text c = (text ≡ cipher_word c) × Contains file_ciphers c
+Spelled DirWord text d = text ≡ dir_word d
+Spelled OrderWord text o = text ≡ order_word o
+Spelled AuthWord text a = (text ≡ auth_word a) × Contains file_auths a
+Spelled Hex text bytes = SpellsBytes text bytes
+Spelled Number text n = SpellsNumber text n
+Spelled Small text n = SpellsNumber text n × (n ≤ 255)
+
+-- the text is of the form
+abbrev pub HasForm : Form → List ℕ → Type 0
+HasForm form text = (v : Value form) × Spelled form text v
+
+-- ---- lines
+
+-- the forms of the fields of a job line, in their order
+abbrev pub forms : List Form
+forms =
+    CipherWord ∷ DirWord ∷ OrderWord ∷ Hex ∷ Hex ∷ Number ∷ Number ∷ AuthWord ∷ Hex ∷ Hex ∷ Number ∷ Number ∷ Small ∷ Hex ∷ []
+
+-- a value for each form
+abbrev pub Values : List Form → Type 0
+Values [] = Unit {0}
+Values (form ∷ rest) = Value form × Values rest
+
+-- the fields of a job, in the order of the line
+abbrev pub values : Job → Values forms
+values j =
+    (j.cipher, (j.dir, (j.order, (j.key, (j.iv, (j.cipher_off, (j.cipher_len, (j.auth, (j.auth_key, (j.aad, (j.hash_off, (j.hash_len, (j.tag_len, (j.packet, tt))))))))))))))
+
+-- there is a text for each form, and each spells its value
+abbrev pub SpellsFields : (fs : List Form) → List (List ℕ) → Values fs → Type 0
+SpellsFields [] [] vs = Unit {0}
+SpellsFields [] (text ∷ texts) vs = ⊥
+SpellsFields (form ∷ rest) [] vs = ⊥
+SpellsFields (form ∷ rest) (text ∷ texts) vs = Spelled form text vs.0 × SpellsFields rest texts vs.1
+
+-- the fields of a line: it is cut at each space
+abbrev pub fields_of : List ℕ → List (List ℕ)
+fields_of line = cut space line
+
+-- the line spells the job
+abbrev pub Spells : List ℕ → Job → Type 0
+Spells line j = SpellsFields forms (fields_of line) (values j)
+
+-- the first of the texts that isn't of its form has number f, where the first of all has number n
+abbrev pub IsFirstBad : ℕ → List Form → List (List ℕ) → ℕ → Type 0
+IsFirstBad n [] texts f = ⊥
+IsFirstBad n (form ∷ rest) [] f = ⊥
+IsFirstBad n (form ∷ rest) (text ∷ texts) f =
+    ((f ≡ n) × ¬ (HasForm form text)) ⊎ (HasForm form text × IsFirstBad (n + 1) rest texts f)
+
+-- the line spells no job, and its fault is field f: 0 where it has another number of fields, else the number of the first field that isn't of its form
+abbrev pub IsBadLine : List ℕ → ℕ → Type 0
+IsBadLine line f =
+    ((f ≡ 0) × (length (fields_of line) ≢ length forms))
+    ⊎ ((length (fields_of line) ≡ length forms) × IsFirstBad 1 forms (fields_of line) f)
+
+-- ---- the same with the fields by their names
+
+-- the line spells the job: each of its fourteen fields, the one after the other
+pub record SpellsByName (line : List ℕ) (j : Job) : Type 0 where
+  pub cipher : List ℕ
+  pub dir : List ℕ
+  pub order : List ℕ
+  pub key : List ℕ
+  pub iv : List ℕ
+  pub cipher_off : List ℕ
+  pub cipher_len : List ℕ
+  pub auth : List ℕ
+  pub auth_key : List ℕ
+  pub aad : List ℕ
+  pub hash_off : List ℕ
+  pub hash_len : List ℕ
+  pub tag_len : List ℕ
+  pub packet : List ℕ
+  pub fields : fields_of line ≡ cipher ∷ dir ∷ order ∷ key ∷ iv ∷ cipher_off ∷ cipher_len ∷ auth ∷ auth_key ∷ aad ∷ hash_off ∷ hash_len ∷ tag_len ∷ packet ∷ []
+  pub cipher_is : (cipher ≡ cipher_word j.cipher) × Contains file_ciphers j.cipher
+  pub dir_is : dir ≡ dir_word j.dir
+  pub order_is : order ≡ order_word j.order
+  pub key_is : SpellsBytes key j.key
+  pub iv_is : SpellsBytes iv j.iv
+  pub cipher_off_is : SpellsNumber cipher_off j.cipher_off
+  pub cipher_len_is : SpellsNumber cipher_len j.cipher_len
+  pub auth_is : (auth ≡ auth_word j.auth) × Contains file_auths j.auth
+  pub auth_key_is : SpellsBytes auth_key j.auth_key
+  pub aad_is : SpellsBytes aad j.aad
+  pub hash_off_is : SpellsNumber hash_off j.hash_off
+  pub hash_len_is : SpellsNumber hash_len j.hash_len
+  pub tag_len_is : SpellsNumber tag_len j.tag_len × (j.tag_len ≤ 255)
+  pub packet_is : SpellsBytes packet j.packet

@@ -1,0 +1,48 @@
+-- The words of a job line.
+use Rattle.std.specs.Prelude.{ℕ, List, [], ◌∷◌, codes, Contains}
+use Rattle.mbj_types.specs.declared.job.Job.{Job}
+use Rattle.mbj_types.specs.declared.job.Cipher.{Cipher}
+use Rattle.mbj_types.specs.declared.job.Cipher.TheVariants as cipher
+use Rattle.mbj_types.specs.declared.job.Dir.{Dir}
+use Rattle.mbj_types.specs.declared.job.Dir.TheVariants.{Enc, Dec}
+use Rattle.mbj_types.specs.declared.job.Order.{Order}
+use Rattle.mbj_types.specs.declared.job.Order.TheVariants.{CipherHash, HashCipher}
+use Rattle.mbj_types.specs.declared.job.Auth.{Auth}
+use Rattle.mbj_types.specs.declared.job.Auth.TheVariants as auth
+
+abbrev pub cipher_word : Cipher → List ℕ
+cipher_word cipher.Null = codes "null"
+cipher_word cipher.Cbc = codes "cbc"
+cipher_word cipher.Ctr = codes "ctr"
+cipher_word cipher.Gcm = codes "gcm"
+
+abbrev pub dir_word : Dir → List ℕ
+dir_word Enc = codes "enc"
+dir_word Dec = codes "dec"
+
+abbrev pub order_word : Order → List ℕ
+order_word CipherHash = codes "ch"
+order_word HashCipher = codes "hc"
+
+abbrev pub auth_word : Auth → List ℕ
+auth_word auth.Null = codes "null"
+auth_word auth.HmacSha1 = codes "hmac-sha1"
+auth_word auth.HmacSha224 = codes "hmac-sha224"
+auth_word auth.HmacSha256 = codes "hmac-sha256"
+auth_word auth.HmacSha384 = codes "hmac-sha384"
+auth_word auth.HmacSha512 = codes "hmac-sha512"
+auth_word auth.Cmac128 = codes "cmac128"
+auth_word auth.Cmac256 = codes "cmac256"
+auth_word auth.Gcm = codes "gcm"
+
+-- the ciphers that a file may name
+abbrev pub file_ciphers : List Cipher
+file_ciphers = cipher.Null ∷ []
+
+-- the authentications that a file may name
+abbrev pub file_auths : List Auth
+file_auths = auth.Null ∷ auth.HmacSha1 ∷ []
+
+-- a file may name both the job's cipher and its authentication
+abbrev pub IsOffered : Job → Type 0
+IsOffered j = Contains file_ciphers j.cipher × Contains file_auths j.auth

@@ -1,0 +1,55 @@
+ghost use Rattle.std.specs.Prelude.{◌≡◌};
+ghost use Rattle.mbj_text.specs.declared.fault.LineFault.TheVariants as line_fault;
+ghost use Rattle.mbj_text.specs.declared.fault.TextFault.TheVariants as text_fault;
+ghost use Rattle.mbj_text.specs.Fault.{fault_at};
+
+use std::alloc::{AllocError, AllocFailed};
+
+/// Why a file isn't read. Lines are counted from 1.
+#[derive(Clone, Copy, Debug, PartialEq, Eq)]
+pub enum TextFault {
+    /// The line is the first job line that spells no job. The field is 0 where the line hasn't 14 fields, else
+    /// the number, from 1 to 14, of the first field that isn't of its form.
+    Line { line: u32, field: u32 },
+    /// The line is one job line more than a file may have.
+    Limit { line: u32 },
+    /// There wasn't memory enough.
+    Memory,
+}
+
+/// Why a line isn't read.
+#[derive(Clone, Copy, Debug, PartialEq, Eq)]
+pub(crate) enum LineFault {
+    /// The field with this number, as in `TextFault`.
+    Field(u32),
+    /// There wasn't memory enough.
+    Memory,
+}
+
+impl LineFault {
+    /// The fault of a file whose line with this number has this fault.
+    pub(crate) fn at(self, line: u32) -> TextFault
+        ensures { result ≡ fault_at line self }
+    {
+        match self {
+            LineFault::Field(field) => TextFault::Line { line, field },
+            LineFault::Memory => TextFault::Memory,
+        }
+    }
+}
+
+impl<T: Drop> From<AllocFailed<T>> for TextFault {
+    ghost from_gives = { λ _ e. e ≡ text_fault.Memory };
+
+    fn from(_e: AllocFailed<T>) -> TextFault {
+        TextFault::Memory
+    }
+}
+
+impl From<AllocError> for LineFault {
+    ghost from_gives = { λ _ e. e ≡ line_fault.Memory };
+
+    fn from(_e: AllocError) -> LineFault {
+        LineFault::Memory
+    }
+}

@@ -1,0 +1,110 @@
+ghost use Rattle.std.specs.Prelude.{◌≡◌, ◌≤◌, List, ℕ, Option, IfOk, length};
+ghost use Rattle.mbj_text.specs.Reading.{cipher_of, dir_of, order_of, auth_of, bytes_of, number_of, small_of, digits_after};
+ghost use Rattle.mbj_text.specs.declared.field.TheConstants.{MAX_DIGITS};
+
+use crate::words;
+use mbj_types::{Auth, Bytes, Cipher, Dir, Order};
+use std::alloc::{AllocError, Global};
+
+/// The most digits of a number.
+const MAX_DIGITS: usize = 5;
+
+/// A value that a field of a job line spells. The type says in which form.
+pub(crate) trait Field: Sized {
+    ghost value_of: { List ℕ → Option Self };
+
+    /// What the text spells, or none where it isn't of the form.
+    fn read(alloc: Global, text: &[u8]) -> Result<Option<Self>, AllocError>
+        ensures { IfOk result (λ value. value ≡ value_of text.now) };
+}
+
+impl Field for Cipher {
+    ghost value_of = { cipher_of };
+
+    fn read(_alloc: Global, text: &[u8]) -> Result<Option<Cipher>, AllocError> {
+        Ok(words::cipher(text))
+    }
+}
+
+impl Field for Dir {
+    ghost value_of = { dir_of };
+
+    fn read(_alloc: Global, text: &[u8]) -> Result<Option<Dir>, AllocError> {
+        Ok(words::dir(text))
+    }
+}
+
+impl Field for Order {
+    ghost value_of = { order_of };
+
+    fn read(_alloc: Global, text: &[u8]) -> Result<Option<Order>, AllocError> {
+        Ok(words::order(text))
+    }
+}
+
+impl Field for Auth {
+    ghost value_of = { auth_of };
+
+    fn read(_alloc: Global, text: &[u8]) -> Result<Option<Auth>, AllocError> {
+        Ok(words::auth(text))
+    }
+}
+
+impl Field for Bytes {
+    ghost value_of = { bytes_of };
+
+    fn read(alloc: Global, text: &[u8]) -> Result<Option<Bytes>, AllocError> {
+        if text == b"-".as_slice() {
+            return Ok(Some(Bytes::from_vec(Vec::new(alloc))));
+        }
+        if text.is_empty() {
+            return Ok(None);
+        }
+        match hex::decode(alloc, text) {
+            Ok(bytes) => Ok(Some(Bytes::from_vec(bytes))),
+            Err(hex::FromHexError::OutOfMemory) => Err(AllocError),
+            Err(_) => Ok(None),
+        }
+    }
+}
+
+impl Field for u32 {
+    ghost value_of = { number_of };
+
+    fn read(_alloc: Global, text: &[u8]) -> Result<Option<u32>, AllocError> {
+        Ok(number(text))
+    }
+}
+
+impl Field for u8 {
+    ghost value_of = { small_of };
+
+    fn read(_alloc: Global, text: &[u8]) -> Result<Option<u8>, AllocError> {
+        Ok(number(text).and_then(|n| u8::try_from(n).ok()))
+    }
+}
+
+/// The number that 1 to 5 digits write, with no `0` in front of another digit.
+fn number(text: &[u8]) -> Option<u32>
+    ensures { result ≡ number_of text.now }
+{
+    match text {
+        [] | [b'0', _, ..] => None,
+        _ if text.len() > MAX_DIGITS => None,
+        _ => digits(text),
+    }
+}
+
+fn digits(text: &[u8]) -> Option<u32>
+    requires { length text.now ≤ MAX_DIGITS }
+    ensures { result ≡ digits_after 0 text.now }
+{
+    let mut number = 0;
+    for digit in text {
+        if !digit.is_ascii_digit() {
+            return None;
+        }
+        number = number * 10 + u32::from(*digit - b'0');
+    }
+    Some(number)
+}

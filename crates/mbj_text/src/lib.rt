@@ -1,0 +1,15 @@
+//! Jobs and results as text: the job file.
+#![tactic(auto)]
+
+mod fault;
+mod field;
+mod file;
+mod job;
+mod limits;
+mod lines;
+mod parts;
+mod words;
+
+pub use fault::TextFault;
+pub use file::{each_file_is_one, read_file, table_says_the_names};
+pub use limits::{INPUT_LIMIT, JOB_LIMIT};

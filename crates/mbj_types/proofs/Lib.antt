@@ -1,0 +1,3 @@
+pub mod LaneLists
+pub mod LaneRotations
+pub mod Vectors
