@@ -62,7 +62,8 @@ fn padded(key: &[u8; MAX_BLOCK_BYTES], pad: u8) -> [u8; MAX_BLOCK_BYTES]
 
 /// HMAC over the hash `H`.
 fn hmac_over<H: Hasher>(key: &[u8], message: &[u8]) -> Tag
-    ensures { result ≡ hmac H.hash key.now message.now }
+    ensures value { result ≡ hmac H.hash key.now message.now }
+    ensures len { length result ≡ H.hash.digest_bytes }
 {
     let key = key_of_block::<H>(key);
     let inner = digest_of_both::<H>(&padded(&key, IPAD)[..H::block_bytes()], message);
@@ -74,7 +75,8 @@ fn hmac_over<H: Hasher>(key: &[u8], message: &[u8]) -> Tag
 /// It takes no memory. The authentication is one of the five HMACs.
 pub fn hmac_plain(auth: Auth, key: &[u8], message: &[u8]) -> Tag
     requires { IsHmac auth }
-    ensures { IfSome (hash_of auth) (λ h. result ≡ hmac h key.now message.now) }
+    ensures value { IfSome (hash_of auth) (λ h. result ≡ hmac h key.now message.now) }
+    ensures len { IfSome (hash_of auth) (λ h. length result ≡ h.digest_bytes) }
 {
     match auth {
         Auth::HmacSha1 => hmac_over::<Sha1>(key, message),

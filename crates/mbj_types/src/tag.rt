@@ -38,7 +38,8 @@ impl Tag {
 
     /// The bytes of the tag.
     pub fn bytes(&self) -> &[u8]
-        ensures { result.now ≡ self.now }
+        ensures value { result.now ≡ self.now }
+        ensures within { length result.now ≤ MAX_TAG_BYTES }
     {
         &self.bytes[..self.len]
     }

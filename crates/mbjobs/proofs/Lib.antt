@@ -1,0 +1,2 @@
+pub mod HmacTags
+pub mod Results

@@ -1,4 +1,2 @@
 pub mod Command
 pub mod Reading
-pub mod Message
-pub mod Outcome

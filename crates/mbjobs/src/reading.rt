@@ -1,12 +1,11 @@
-ghost use Rattle.std.specs.Prelude.{◌≡◌, ◌≤◌, ◌+◌, List, ℕ, IfOk, OnOk, IfSome, IsErrOf, length, vec_len};
-ghost use Rattle.std.specs.Io.KnownBytes.{Consumes};
+ghost use Rattle.std.specs.Prelude.{◌≡◌, ◌≤◌, IfOk, OnOk, IfSome, IsErrOf, vec_len};
 ghost use Rattle.mbj_io.specs.Faults.{Rose};
-ghost use Rattle.mbjobs.specs.Reading.{ReadsAll};
+ghost use Rattle.mbj_text.specs.declared.limits.TheConstants.{INPUT_LIMIT};
+ghost use Rattle.mbjobs.specs.Reading.{ReadsAll, ReadsTooMuch};
 
 use mbj_io::Source;
+use mbj_text::INPUT_LIMIT;
 use std::alloc::Global;
-
-const INPUT_LIMIT: usize = 16_777_216;
 
 /// How many bytes one read asks for at most.
 const PIECE_BYTES: usize = 4_096;
@@ -27,8 +26,7 @@ pub(crate) fn read_all<S: Source>(alloc: Global, input: &mut S) -> Result<Vec<u8
     ensures read { IfOk result (λ v. ReadsAll (S.rest input.old) (S.rest input.new) v.items) }
     ensures told { IfOk result (λ v. IfSome (S.rest input.old) (λ bytes. v.items ≡ bytes)) }
     ensures limit { IfOk result (λ v. vec_len v ≤ INPUT_LIMIT) }
-    ensures over { IsErrOf result ReadFault.Over
-        → (bytes : List ℕ) × (length bytes ≡ INPUT_LIMIT + 1) × Consumes (S.rest input.old) (S.rest input.new) bytes }
+    ensures over { IsErrOf result ReadFault.Over → ReadsTooMuch (S.rest input.old) (S.rest input.new) }
     ensures failed { IsErrOf result ReadFault.Failed → Rose (S.faults input.old) (S.faults input.new) }
     ensures calm { OnOk result (S.faults input.new ≡ S.faults input.old) }
 {

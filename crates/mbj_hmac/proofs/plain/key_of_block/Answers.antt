@@ -27,7 +27,7 @@ returns-else-key-block_bytes g c =
     let fits : length (hash.digest key) ≤ hash.block_bytes = subst Fits digest_is c.digest_of_both.ensures.fits in
     let IsFilled : List ℕ → Type 0 = λ d. c.filled-else-key-block_bytes.result ≡ d ++ replicate (128 - length d) 0 in
     record {
-      value = subst IsFilled (c.bytes.ensures ∙ digest_is) c.filled-else-key-block_bytes.ensures
+      value = subst IsFilled (c.bytes.ensures.value ∙ digest_is) c.filled-else-key-block_bytes.ensures
           ∙ filled_on (hash.digest key) hash.block_bytes 128 fits (omega arith)
           ∙ ap (λ (k : List ℕ). k ++ replicate (128 - hash.block_bytes) 0) (sym (block_key-long hash key long));
       len = ap length (block_key-long hash key long) ∙ length-filled_key hash.block_bytes (hash.digest key) fits;
