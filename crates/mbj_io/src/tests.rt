@@ -2,11 +2,11 @@ use super::*;
 use std::test::Fail;
 
 // The calls as code over any source or sink makes them, through the bound.
-pub fn read<S: Source>(source: &mut S, buf: &mut [u8]) -> Result<usize, Failed> {
+pub(crate) fn read<S: Source>(source: &mut S, buf: &mut [u8]) -> Result<usize, Failed> {
     source.read(buf)
 }
 
-pub fn write<O: Sink>(sink: &mut O, piece: &[u8]) -> Result<usize, Failed> {
+pub(crate) fn write<O: Sink>(sink: &mut O, piece: &[u8]) -> Result<usize, Failed> {
     sink.write(piece)
 }
 

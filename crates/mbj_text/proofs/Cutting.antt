@@ -14,7 +14,7 @@ pub cut_at : (m : ℕ) (xs : List ℕ) (i : ℕ) → position (λ x. x == m) xs 
 unfolding cut
 cut_at m xs i h =
     let behind : take (length xs - (i + 1)) (drop (i + 1) xs) ≡ drop (i + 1) xs =
-        ap (λ n. take n (drop (i + 1) xs)) (sym (length-drop (i + 1) xs)) ∙ take-length (drop (i + 1) xs) in
+    ap (λ n. take n (drop (i + 1) xs)) (sym (length-drop (i + 1) xs)) ∙ take-length (drop (i + 1) xs) in
     rw behind (grind (arith, slice_split_first (λ x. x == m) xs 0))
 
 -- the mark stands nowhere

@@ -10,10 +10,9 @@ use Rattle.mbj_text.specs.declared.fault.LineFault.TheVariants as line_fault
 use Rattle.mbj_text.specs.declared.fault.TextFault.{TextFault}
 use Rattle.mbj_text.specs.declared.fault.TextFault.TheVariants as text_fault
 use Rattle.mbj_text.specs.Cut.{Numbered, job_lines}
-use Rattle.mbj_text.specs.Fault.{fault_at}
 use Rattle.mbj_text.specs.Spelling.{Spells, IsBadLine}
 use Rattle.mbj_text.specs.File.{SpellAll, Reads, Bad, Over, Answers, EachFileIsOne, ReadsIsUnique, BadIsUnique, OverIsUnique}
-use Rattle.mbj_text.specs.Reading.{job_of, Fails}
+use Rattle.mbj_text.specs.Reading.{job_of, Fails, fault_at}
 use Rattle.mbj_text.proofs.LineLaws.{job_back, fault_back, fault_read, line_total}
 
 -- ---- line after line

@@ -5,7 +5,7 @@ use Rattle.std.proofs.lemmas.Bool.{ne_eqb}
 use Rattle.std.proofs.lemmas.Bool.Decides.{eqb_tells}
 use Rattle.mbj_types.specs.declared.job.Job.{Job}
 use Rattle.mbj_text.specs.Spelling.{Spells, Spelled, SpellsFields, Value, Values, values, HasForm, Form, CipherWord, DirWord, OrderWord, AuthWord, Hex, Number, Small, forms, fields_of, IsFirstBad, IsBadLine}
-use Rattle.mbj_text.specs.Reading.{◌>>=◌, Cursor, value_of, next_of, fields_from, job_with, job_of}
+use Rattle.mbj_text.specs.Reading.{◌>>=◌, Cursor, at_start, value_of, fields_from, job_with, job_of}
 use Rattle.mbj_text.proofs.WordLaws.{cipher_read, cipher_back, dir_read, dir_back, order_read, order_back, auth_read, auth_back}
 use Rattle.mbj_text.proofs.ValueLaws.{bytes_read, bytes_back, number_read, number_back, small_read, small_back}
 
@@ -44,11 +44,11 @@ value_unread form t h = go (value_of form t) (λ v e. h (v, value_read form t v 
 -- one field, and then the others
 abbrev step : {A : Type 0} (n : ℕ) (form : Form) (rest : List Form) (texts : List (List ℕ)) → (Values (form ∷ rest) → Result A ℕ) → Option (Value form) → Result A ℕ
 step n form rest texts next o =
-    option_map_or (λ x. Ok (x, (n + 1, texts))) o (Err (n + 1)) >>= λ (x : Value form × Cursor). fields_from rest x.1 (λ vs. next (x.0, vs))
+    option_map_or (λ x. Ok (x, record { taken = n + 1; left = texts })) o (Err (n + 1)) >>= λ (x : Value form × Cursor). fields_from rest x.1 (λ vs. next (x.0, vs))
 
 -- each field spells its value: the values are read
 fields_back : {A : Type 0} (n : ℕ) (fs : List Form) (texts : List (List ℕ)) (vs : Values fs) (next : Values fs → Result A ℕ)
-    → SpellsFields fs texts vs → fields_from fs (n, texts) next ≡ next vs
+    → SpellsFields fs texts vs → fields_from fs (record { taken = n; left = texts }) next ≡ next vs
 fields_back n [] [] vs next s = refl
 fields_back n [] (t ∷ ts) vs next s = absurd s
 fields_back n (form ∷ rest) [] vs next s = absurd s
@@ -58,7 +58,7 @@ fields_back n (form ∷ rest) (t ∷ ts) vs next s =
 
 -- a field isn't of its form: the first such is the fault
 first_bad_back : {A : Type 0} (n : ℕ) (fs : List Form) (texts : List (List ℕ)) (f : ℕ) (next : Values fs → Result A ℕ)
-    → IsFirstBad (n + 1) fs texts f → fields_from fs (n, texts) next ≡ Err f
+    → IsFirstBad (n + 1) fs texts f → fields_from fs (record { taken = n; left = texts }) next ≡ Err f
 first_bad_back n [] texts f next bad = absurd bad
 first_bad_back n (form ∷ rest) [] f next bad = absurd bad
 first_bad_back n (form ∷ rest) (t ∷ ts) f next (inl bad) =
@@ -91,9 +91,9 @@ spelled_count (form ∷ rest) (t ∷ ts) vs s = ap suc (spelled_count rest ts vs
 -- ---- the line
 
 abbrev counted : Bool → List ℕ → Result Job ℕ
-counted b line = cond b (fields_from forms (0, fields_of line) (λ vs. Ok (job_with vs))) (Err 0)
+counted b line = cond b (fields_from forms (at_start line) (λ vs. Ok (job_with vs))) (Err 0)
 
-right_count : (line : List ℕ) → length (fields_of line) ≡ length forms → job_of line ≡ fields_from forms (0, fields_of line) (λ vs. Ok (job_with vs))
+right_count : (line : List ℕ) → length (fields_of line) ≡ length forms → job_of line ≡ fields_from forms (at_start line) (λ vs. Ok (job_with vs))
 unfolding job_of
 right_count line h = ap (λ b. counted b line) (eq-eqb (length (fields_of line)) (length forms) h)
 

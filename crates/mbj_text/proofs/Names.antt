@@ -2,7 +2,7 @@
 use Rattle.std.proofs.Common.{◌≡◌, ◌∙◌, ap, sym, subst, refl, drop, ℕ, List, [], ◌∷◌}
 use Rattle.mbj_types.specs.declared.job.Job.{Job}
 use Rattle.mbj_text.specs.Spelling.{Spells, SpellsFields, SpellsByName, Spelled, Value, Values, values, Form, CipherWord, DirWord, OrderWord, AuthWord, Hex, Number, Small, forms, fields_of}
-use Rattle.mbj_text.specs.File.{TableSaysTheNames}
+use Rattle.mbj_text.specs.File.{TableAndNamesAgree}
 
 -- the first field, and the others
 record Next (form : Form) (rest : List Form) (texts : List (List ℕ)) (v : Value form) (vs : Values rest) : Type 0 where
@@ -73,5 +73,5 @@ by_table line j n =
     let P : List (List ℕ) → Type 0 = λ texts. SpellsFields forms texts (values j) in
     subst P (sym n.fields) (n.cipher_is, (n.dir_is, (n.order_is, (n.key_is, (n.iv_is, (n.cipher_off_is, (n.cipher_len_is, (n.auth_is, (n.auth_key_is, (n.aad_is, (n.hash_off_is, (n.hash_len_is, (n.tag_len_is, (n.packet_is, tt))))))))))))))
 
-pub same : TableSaysTheNames
+pub same : TableAndNamesAgree
 same line j = (by_name line j, by_table line j)

@@ -1,5 +1,5 @@
 -- A file as lines, and a line as fields.
-use Rattle.std.specs.Prelude.{◌≡◌, ℕ, ◌+◌, ◌==◌, Bool, true, List, [], ◌∷◌, Option, Some, None, if◌then◌else◌}
+use Rattle.std.specs.Prelude.{ℕ, ◌+◌, ◌==◌, Bool, true, List, [], ◌∷◌, Option, Some, None, if◌then◌else◌}
 use Rattle.std.specs.List.{slice_split}
 use Rattle.std.specs.Str.Lines.{strip_carriage_return}
 
@@ -21,11 +21,6 @@ cut mark text = slice_split (λ b. b == mark) text
 abbrev pub parts_left : ℕ → Option (List ℕ) → List (List ℕ)
 parts_left mark None = []
 parts_left mark (Some text) = cut mark text
-
--- the first element is taken, where there is one
-abbrev pub Takes : {A : Type 0} → List A → Option A → List A → Type 0
-Takes old None new = (old ≡ []) × (new ≡ [])
-Takes old (Some first) new = old ≡ first ∷ new
 
 -- the parts without an empty last one
 abbrev pub without_empty_end : List (List ℕ) → List (List ℕ)

@@ -87,5 +87,5 @@ abbrev pub OverIsUnique : Type 0
 OverIsUnique = (bytes : List ℕ) (line line' : ℕ) → Over bytes line → Over bytes line' → line ≡ line'
 
 -- a line spells a job by the table of the forms exactly where it does so field by field
-abbrev pub TableSaysTheNames : Type 0
-TableSaysTheNames = (line : List ℕ) (job : Job) → Spells line job ↔ SpellsByName line job
+abbrev pub TableAndNamesAgree : Type 0
+TableAndNamesAgree = (line : List ℕ) (job : Job) → Spells line job ↔ SpellsByName line job

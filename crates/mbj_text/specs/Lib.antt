@@ -1,4 +1,3 @@
-pub mod Fault
 pub mod Cut
 pub mod Words
 pub mod Spelling

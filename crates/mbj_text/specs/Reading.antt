@@ -13,7 +13,9 @@ use Rattle.mbj_types.specs.declared.job.Order.{Order}
 use Rattle.mbj_types.specs.declared.job.Order.TheVariants.{CipherHash, HashCipher}
 use Rattle.mbj_types.specs.declared.job.Auth.{Auth}
 use Rattle.mbj_text.specs.declared.fault.LineFault.{LineFault}
-use Rattle.mbj_text.specs.declared.fault.LineFault.TheVariants as fault
+use Rattle.mbj_text.specs.declared.fault.LineFault.TheVariants as line_fault
+use Rattle.mbj_text.specs.declared.fault.TextFault.{TextFault}
+use Rattle.mbj_text.specs.declared.fault.TextFault.TheVariants as text_fault
 use Rattle.mbj_text.specs.Cut.{cut, space}
 use Rattle.mbj_text.specs.Words.{cipher_word, dir_word, order_word, auth_word, file_ciphers, file_auths}
 use Rattle.mbj_text.specs.Spelling.{Form, CipherWord, DirWord, OrderWord, AuthWord, Hex, Number, Small, Value, Values, forms, fields_of}
@@ -76,13 +78,21 @@ abbrev pub ◌>>=◌ : {A B : Type 0} → Result A ℕ → (A → Result B ℕ) 
 (Err e) >>= f = Err e
 
 -- how many fields are read, and those that are left
-abbrev pub Cursor : Type 0
-Cursor = ℕ × List (List ℕ)
+pub record Cursor : Type 0 where
+  pub taken : ℕ
+  pub left : List (List ℕ)
 
--- the next field as a value, and where that leaves the cursor
+-- before the first field of a line
+abbrev pub at_start : List ℕ → Cursor
+at_start line = record { taken = 0; left = fields_of line }
+
+-- the next field as a value, and the cursor behind it
+abbrev pub next_from : {A : Type 0} → (List ℕ → Option A) → ℕ → List (List ℕ) → Result (A × Cursor) ℕ
+next_from read n [] = Err 0
+next_from read n (text ∷ texts) = option_map_or (λ x. Ok (x, record { taken = n + 1; left = texts })) (read text) (Err (n + 1))
+
 abbrev pub next_of : {A : Type 0} → (List ℕ → Option A) → Cursor → Result (A × Cursor) ℕ
-next_of read (n, []) = Err 0
-next_of read (n, text ∷ texts) = option_map_or (λ x. Ok (x, (n + 1, texts))) (read text) (Err (n + 1))
+next_of read cursor = next_from read cursor.taken cursor.left
 
 -- the fields one after the other, and then what comes of their values
 abbrev pub fields_from : {A : Type 0} → (fs : List Form) → Cursor → (Values fs → Result A ℕ) → Result A ℕ
@@ -111,16 +121,26 @@ job_with vs = record {
 -- the job of a line, or the field that is its fault
 unfoldable pub job_of : List ℕ → Result Job ℕ
 job_of line =
-    if length (fields_of line) == length forms then fields_from forms (0, fields_of line) (λ vs. Ok (job_with vs)) else Err 0
+    if length (fields_of line) == length forms then fields_from forms (at_start line) (λ vs. Ok (job_with vs)) else Err 0
 
--- ---- answers
+-- ---- answers, but for want of memory
 
--- the fault is that of the reading, unless memory ran out
+-- the fault is that of the reading
 abbrev pub Fails : {A : Type 0} → LineFault → Result A ℕ → Type 0
-Fails fault.Memory read = Unit {0}
-Fails (fault.Field f) read = read ≡ Err f
+Fails line_fault.Memory read = Unit {0}
+Fails (line_fault.Field f) read = read ≡ Err f
 
--- the answer is that of the reading, unless memory ran out
+-- the answer is that of the reading
 abbrev pub Gives : {A : Type 0} → Result A LineFault → Result A ℕ → Type 0
 Gives (Ok x) read = read ≡ Ok x
 Gives (Err e) read = Fails e read
+
+-- the answer is the next field's value, and the cursor moves from old to new
+abbrev pub ReadsNext : {A : Type 0} → (List ℕ → Option A) → Cursor → Result A LineFault → Cursor → Type 0
+ReadsNext read old (Ok x) new = next_of read old ≡ Ok (x, new)
+ReadsNext read old (Err e) new = Fails e (next_of read old)
+
+-- the fault of a file whose line n has this fault
+abbrev pub fault_at : ℕ → LineFault → TextFault
+fault_at n (line_fault.Field f) = text_fault.Line n f
+fault_at n line_fault.Memory = text_fault.Memory

@@ -1,15 +1,14 @@
 ghost use Rattle.std.specs.Prelude.{◌≡◌, ◌≤◌, List, ℕ, Option, IfOk, length};
-ghost use Rattle.mbj_text.specs.Reading.{cipher_of, dir_of, order_of, auth_of, bytes_of, number_of, small_of, digits_after};
+ghost use Rattle.mbj_text.specs.Reading.{bytes_of, number_of, small_of, digits_after};
 ghost use Rattle.mbj_text.specs.declared.field.TheConstants.{MAX_DIGITS};
 
-use crate::words;
-use mbj_types::{Auth, Bytes, Cipher, Dir, Order};
+use mbj_types::Bytes;
 use std::alloc::{AllocError, Global};
 
 /// The most digits of a number.
 const MAX_DIGITS: usize = 5;
 
-/// A value that a field of a job line spells. The type says in which form.
+/// A value that a field of a job line spells, in the form that goes with its type.
 pub(crate) trait Field: Sized {
     ghost value_of: { List ℕ → Option Self };
 
@@ -18,38 +17,7 @@ pub(crate) trait Field: Sized {
         ensures { IfOk result (λ value. value ≡ value_of text.now) };
 }
 
-impl Field for Cipher {
-    ghost value_of = { cipher_of };
-
-    fn read(_alloc: Global, text: &[u8]) -> Result<Option<Cipher>, AllocError> {
-        Ok(words::cipher(text))
-    }
-}
-
-impl Field for Dir {
-    ghost value_of = { dir_of };
-
-    fn read(_alloc: Global, text: &[u8]) -> Result<Option<Dir>, AllocError> {
-        Ok(words::dir(text))
-    }
-}
-
-impl Field for Order {
-    ghost value_of = { order_of };
-
-    fn read(_alloc: Global, text: &[u8]) -> Result<Option<Order>, AllocError> {
-        Ok(words::order(text))
-    }
-}
-
-impl Field for Auth {
-    ghost value_of = { auth_of };
-
-    fn read(_alloc: Global, text: &[u8]) -> Result<Option<Auth>, AllocError> {
-        Ok(words::auth(text))
-    }
-}
-
+/// `-` for none, or two hexadecimal digits for each byte.
 impl Field for Bytes {
     ghost value_of = { bytes_of };
 
@@ -68,6 +36,7 @@ impl Field for Bytes {
     }
 }
 
+/// A number of 1 to 5 digits.
 impl Field for u32 {
     ghost value_of = { number_of };
 
@@ -76,6 +45,7 @@ impl Field for u32 {
     }
 }
 
+/// A number that is at most 255.
 impl Field for u8 {
     ghost value_of = { small_of };
 
@@ -84,7 +54,7 @@ impl Field for u8 {
     }
 }
 
-/// The number that 1 to 5 digits write, with no `0` in front of another digit.
+/// The number that 1 to 5 digits write, the first of them not `0` unless it is the only one.
 fn number(text: &[u8]) -> Option<u32>
     ensures { result ≡ number_of text.now }
 {
@@ -95,6 +65,7 @@ fn number(text: &[u8]) -> Option<u32>
     }
 }
 
+/// The number that digits write.
 fn digits(text: &[u8]) -> Option<u32>
     requires { length text.now ≤ MAX_DIGITS }
     ensures { result ≡ digits_after 0 text.now }

@@ -2,7 +2,7 @@ ghost use Rattle.std.specs.Prelude.{◌≡◌, ◌≤◌, ℕ, List, Err, IfOk, 
 ghost use Rattle.mbj_types.specs.declared.job.Job.{Job};
 ghost use Rattle.mbj_text.specs.declared.limits.TheConstants.{INPUT_LIMIT};
 ghost use Rattle.mbj_text.specs.Words.{IsOffered};
-ghost use Rattle.mbj_text.specs.File.{Reads, Bad, Over, Answers, IsOkOnly, IsErrOnly, EachFileIsOne, ReadsIsUnique, BadIsUnique, OverIsUnique, TableSaysTheNames};
+ghost use Rattle.mbj_text.specs.File.{Reads, Bad, Over, Answers, IsOkOnly, IsErrOnly, EachFileIsOne, ReadsIsUnique, BadIsUnique, OverIsUnique, TableAndNamesAgree};
 
 use crate::fault::TextFault;
 use crate::job::read_job;
@@ -30,8 +30,7 @@ fn jobs_of(alloc: Global, bytes: &[u8]) -> Result<Vec<Job>, TextFault>
     ensures { Answers bytes.now result }
 {
     let mut jobs = Vec::new(alloc);
-    let mut lines = JobLines::of(bytes);
-    while let Some((number, line)) = lines.next() {
+    for (number, line) in JobLines::of(bytes) {
         if jobs.len() == JOB_LIMIT {
             return Err(TextFault::Limit { line: number });
         }
@@ -52,6 +51,6 @@ pub fn each_file_is_one()
 {}
 
 /// A line spells a job by the table of its fields exactly where it does so field by field.
-pub fn table_says_the_names()
-    ensures { TableSaysTheNames }
+pub fn table_and_names_agree()
+    ensures { TableAndNamesAgree }
 {}

@@ -1,6 +1,5 @@
-ghost use Rattle.std.specs.Prelude.{◌≡◌, ◌+◌, ◌<◌, ◌^◌, MatchResult, OnOk, Ok, length};
-ghost use Rattle.mbj_text.specs.Reading.{Gives, Fails, next_of, job_of};
-ghost use Rattle.mbj_text.specs.Spelling.{fields_of};
+ghost use Rattle.std.specs.Prelude.{◌≡◌, ◌+◌, ◌<◌, OnOk};
+ghost use Rattle.mbj_text.specs.Reading.{ReadsNext, Gives, at_start, job_of};
 
 use crate::fault::LineFault;
 use crate::field::Field;
@@ -10,14 +9,13 @@ use std::alloc::Global;
 use std::marker::Model;
 
 /// How many fields a job line has.
-const FIELDS: usize = 14;
+const FIELDS: u32 = 14;
 
-/// The fields of a job line, from left to right.
+/// The fields of a job line, read from left to right.
 #[derive(Drop)]
 struct Fields<'a> {
     alloc: Global,
-    /// How many are read.
-    read: u32,
+    taken: u32,
     left: Parts<'a>,
 }
 
@@ -26,31 +24,31 @@ impl<'a> Model for Fields<'a> {
 
     ghost Value = { Cursor };
 
-    ghost view = { λ f. (f.read, f.left) };
+    ghost view = { λ f. record { taken = f.taken; left = f.left } };
 }
 
 impl<'a> Fields<'a> {
     fn of(alloc: Global, line: &'a [u8]) -> Fields<'a>
-        ensures { result ≡ (0, fields_of line.now) }
+        ensures { result ≡ at_start line.now }
     {
         Fields {
             alloc,
-            read: 0,
+            taken: 0,
             left: Parts::of(line, b' '),
         }
     }
 
     /// The next field, which stands for a `T`.
-    fn next<T: Field>(&mut self) -> Result<T, LineFault>
-        requires { self.old.0 < 2 ^ 31 }
-        ensures value { MatchResult result (λ x. next_of T.value_of self.old ≡ Ok (x, self.new)) (λ e. Fails e (next_of T.value_of self.old)) }
-        ensures counted { OnOk result (self.new.0 ≡ self.old.0 + 1) }
+    fn read<T: Field>(&mut self) -> Result<T, LineFault>
+        requires { self.old.taken < FIELDS }
+        ensures value { ReadsNext T.value_of self.old result self.new }
+        ensures counted { OnOk result (self.new.taken ≡ self.old.taken + 1) }
     {
         let Some(text) = self.left.next() else {
             return Err(LineFault::Field(0));
         };
-        self.read += 1;
-        T::read(self.alloc, text)?.ok_or(LineFault::Field(self.read))
+        self.taken += 1;
+        T::read(self.alloc, text)?.ok_or(LineFault::Field(self.taken))
     }
 }
 
@@ -59,24 +57,24 @@ impl<'a> Fields<'a> {
 pub(crate) fn read_job(alloc: Global, line: &[u8]) -> Result<Job, LineFault>
     ensures { Gives result (job_of line.now) }
 {
-    if count_parts(line, b' ') != FIELDS {
+    if count_parts(line, b' ') != FIELDS as usize {
         return Err(LineFault::Field(0));
     }
     let mut fields = Fields::of(alloc, line);
     Ok(Job {
-        cipher: fields.next()?,
-        dir: fields.next()?,
-        order: fields.next()?,
-        key: fields.next()?,
-        iv: fields.next()?,
-        cipher_off: fields.next()?,
-        cipher_len: fields.next()?,
-        auth: fields.next()?,
-        auth_key: fields.next()?,
-        aad: fields.next()?,
-        hash_off: fields.next()?,
-        hash_len: fields.next()?,
-        tag_len: fields.next()?,
-        packet: fields.next()?,
+        cipher: fields.read()?,
+        dir: fields.read()?,
+        order: fields.read()?,
+        key: fields.read()?,
+        iv: fields.read()?,
+        cipher_off: fields.read()?,
+        cipher_len: fields.read()?,
+        auth: fields.read()?,
+        auth_key: fields.read()?,
+        aad: fields.read()?,
+        hash_off: fields.read()?,
+        hash_len: fields.read()?,
+        tag_len: fields.read()?,
+        packet: fields.read()?,
     })
 }

@@ -11,5 +11,8 @@ mod parts;
 mod words;
 
 pub use fault::TextFault;
-pub use file::{each_file_is_one, read_file, table_says_the_names};
+pub use file::{each_file_is_one, read_file, table_and_names_agree};
 pub use limits::{INPUT_LIMIT, JOB_LIMIT};
+
+#[cfg(test)]
+mod tests;

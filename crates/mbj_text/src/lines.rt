@@ -1,6 +1,7 @@
 ghost use Rattle.std.specs.Prelude.{◌≡◌, ◌≤◌, length, option_map};
 ghost use Rattle.std.specs.Str.Lines.{strip_carriage_return};
-ghost use Rattle.mbj_text.specs.Cut.{Takes, is_skipped, job_lines};
+ghost use Rattle.std.specs.Iterator.{YieldsFirstBy, item_count};
+ghost use Rattle.mbj_text.specs.Cut.{is_skipped, job_lines};
 ghost use Rattle.mbj_text.specs.declared.limits.TheConstants.{INPUT_LIMIT};
 
 use crate::limits::INPUT_LIMIT;
@@ -38,12 +39,17 @@ impl<'a> JobLines<'a> {
             left: Parts::of(bytes, b'\n'),
         }
     }
+}
 
-    /// The next job line, where one is left.
+impl<'a> Iterator for JobLines<'a> {
+    type Item = (u32, &'a [u8]);
+
+    ghost next_gives = { YieldsFirstBy (λ line. (line.0, line.1.now)) (λ left. left) };
+
+    ghost remaining = { item_count (λ left. left) };
+
     #[tactic(auto, using(crate::proofs::LineLemmas::none_left, crate::proofs::LineLemmas::keep, crate::proofs::LineLemmas::skip))]
-    pub(crate) fn next(&mut self) -> Option<(u32, &'a [u8])>
-        ensures { Takes self.old (option_map (λ line. (line.0, line.1.now)) result) self.new }
-    {
+    fn next(&mut self) -> Option<(u32, &'a [u8])> {
         while let Some(text) = self.left.next() {
             self.taken += 1;
             let line = without_return(text);

@@ -1,5 +1,6 @@
 ghost use Rattle.std.specs.Prelude.{◌≡◌, ◌==◌, ◌<◌, ◌∷◌, length, position, option_copied, IfSome};
-ghost use Rattle.mbj_text.specs.Cut.{Takes, cut, parts_left};
+ghost use Rattle.std.specs.Iterator.{YieldsFirstRef, item_count};
+ghost use Rattle.mbj_text.specs.Cut.{cut, parts_left};
 
 use std::marker::Model;
 
@@ -29,11 +30,16 @@ impl<'a> Parts<'a> {
             mark,
         }
     }
+}
 
-    /// The next part, where one is left.
-    pub(crate) fn next(&mut self) -> Option<&'a [u8]>
-        ensures { Takes self.old (option_copied result) self.new }
-    {
+impl<'a> Iterator for Parts<'a> {
+    type Item = &'a [u8];
+
+    ghost next_gives = { YieldsFirstRef (λ left. left) };
+
+    ghost remaining = { item_count (λ left. left) };
+
+    fn next(&mut self) -> Option<&'a [u8]> {
         let (part, rest) = cut_once(self.rest?, self.mark);
         self.rest = rest;
         Some(part)

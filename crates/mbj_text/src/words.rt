@@ -2,7 +2,9 @@ ghost use Rattle.std.specs.Prelude.{◌≡◌, option_map, find};
 ghost use Rattle.std.specs.Str.{bytes_eq};
 ghost use Rattle.mbj_text.specs.Reading.{cipher_of, dir_of, order_of, auth_of};
 
+use crate::field::Field;
 use mbj_types::{Auth, Cipher, Dir, Order};
+use std::alloc::{AllocError, Global};
 
 /// The ciphers that a file may name.
 const CIPHERS: [(&[u8], Cipher); 1] = [(b"null", Cipher::Null)];
@@ -14,33 +16,41 @@ const ORDERS: [(&[u8], Order); 2] = [(b"ch", Order::CipherHash), (b"hc", Order::
 /// The authentications that a file may name.
 const AUTHS: [(&[u8], Auth); 2] = [(b"null", Auth::Null), (b"hmac-sha1", Auth::HmacSha1)];
 
+impl Field for Cipher {
+    ghost value_of = { cipher_of };
+
+    fn read(_alloc: Global, text: &[u8]) -> Result<Option<Cipher>, AllocError> {
+        Ok(lookup(&CIPHERS, text))
+    }
+}
+
+impl Field for Dir {
+    ghost value_of = { dir_of };
+
+    fn read(_alloc: Global, text: &[u8]) -> Result<Option<Dir>, AllocError> {
+        Ok(lookup(&DIRS, text))
+    }
+}
+
+impl Field for Order {
+    ghost value_of = { order_of };
+
+    fn read(_alloc: Global, text: &[u8]) -> Result<Option<Order>, AllocError> {
+        Ok(lookup(&ORDERS, text))
+    }
+}
+
+impl Field for Auth {
+    ghost value_of = { auth_of };
+
+    fn read(_alloc: Global, text: &[u8]) -> Result<Option<Auth>, AllocError> {
+        Ok(lookup(&AUTHS, text))
+    }
+}
+
 /// The value in the first row whose word is the text.
 fn lookup<T: Copy>(rows: &[(&[u8], T)], text: &[u8]) -> Option<T>
     ensures { result ≡ option_map (λ row. row.1) (find (λ row. bytes_eq row.0.now text.now) rows.now) }
 {
     rows.iter().find(|row| row.0 == text).map(|row| row.1)
-}
-
-pub(crate) fn cipher(text: &[u8]) -> Option<Cipher>
-    ensures { result ≡ cipher_of text.now }
-{
-    lookup(&CIPHERS, text)
-}
-
-pub(crate) fn dir(text: &[u8]) -> Option<Dir>
-    ensures { result ≡ dir_of text.now }
-{
-    lookup(&DIRS, text)
-}
-
-pub(crate) fn order(text: &[u8]) -> Option<Order>
-    ensures { result ≡ order_of text.now }
-{
-    lookup(&ORDERS, text)
-}
-
-pub(crate) fn auth(text: &[u8]) -> Option<Auth>
-    ensures { result ≡ auth_of text.now }
-{
-    lookup(&AUTHS, text)
 }

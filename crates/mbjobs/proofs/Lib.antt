@@ -1,2 +1,4 @@
 pub mod HmacTags
 pub mod Results
+pub mod Writing
+pub mod Told

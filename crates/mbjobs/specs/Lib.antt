@@ -1,2 +1,4 @@
 pub mod Command
 pub mod Reading
+pub mod Message
+pub mod Outcome

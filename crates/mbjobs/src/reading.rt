@@ -1,6 +1,5 @@
-ghost use Rattle.std.specs.Prelude.{◌≡◌, ◌≤◌, IfOk, OnOk, IfSome, IsErrOf, vec_len};
+ghost use Rattle.std.specs.Prelude.{◌≡◌, ◌≢◌, Err, IfOk, IsErrOf};
 ghost use Rattle.mbj_io.specs.Faults.{Rose};
-ghost use Rattle.mbj_text.specs.declared.limits.TheConstants.{INPUT_LIMIT};
 ghost use Rattle.mbjobs.specs.Reading.{ReadsAll, ReadsTooMuch};
 
 use mbj_io::Source;
@@ -24,11 +23,9 @@ pub(crate) enum ReadFault {
 /// Reads an input to its end.
 pub(crate) fn read_all<S: Source>(alloc: Global, input: &mut S) -> Result<Vec<u8>, ReadFault>
     ensures read { IfOk result (λ v. ReadsAll (S.rest input.old) (S.rest input.new) v.items) }
-    ensures told { IfOk result (λ v. IfSome (S.rest input.old) (λ bytes. v.items ≡ bytes)) }
-    ensures limit { IfOk result (λ v. vec_len v ≤ INPUT_LIMIT) }
     ensures over { IsErrOf result ReadFault.Over → ReadsTooMuch (S.rest input.old) (S.rest input.new) }
     ensures failed { IsErrOf result ReadFault.Failed → Rose (S.faults input.old) (S.faults input.new) }
-    ensures calm { OnOk result (S.faults input.new ≡ S.faults input.old) }
+    ensures calm { result ≢ Err ReadFault.Failed → S.faults input.new ≡ S.faults input.old }
 {
     let mut bytes = Vec::new(alloc);
     let mut piece = [0; PIECE_BYTES];

@@ -1,7 +1,7 @@
 -- The lines that are skipped change nothing.
 use Rattle.std.proofs.Common.{◌≡◌, ◌+◌, ◌<◌, ◌^◌, length}
 use Rattle.mbj_text.specs.Cut.{job_lines_from}
-use Rattle.mbj_text.proofs.lines.JobLines.next.Given as goal
+use Rattle.mbj_text.proofs.lines.JobLinesIterator.next.Given as goal
 
 abbrev pub invariant-loop-text : goal.invariant-loop-text
 invariant-loop-text l = record {

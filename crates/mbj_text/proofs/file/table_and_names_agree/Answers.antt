@@ -1,5 +1,5 @@
 use Rattle.mbj_text.proofs.Names.{same}
-use Rattle.mbj_text.proofs.file.table_says_the_names.Goals as goal
+use Rattle.mbj_text.proofs.file.table_and_names_agree.Goals as goal
 
 pub returns : goal.returns
 returns c = same

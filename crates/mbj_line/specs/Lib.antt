@@ -1,0 +1,3 @@
+pub mod Flow
+pub mod Line
+pub mod Done

@@ -1,0 +1,30 @@
+-- The lines of results. Numbers are in decimal, and each line ends with LF.
+use Rattle.std.specs.Prelude.{ℕ, List, [], ◌∷◌, ◌++◌, codes, decimal}
+use Rattle.hex.specs.Hex.{encode_lower}
+use Rattle.mbj_line.specs.declared.line.Part.{Part}
+use Rattle.mbj_line.specs.declared.line.Part.TheVariants.{Words, Number, Hex}
+
+-- bytes in lower-case hexadecimal, `-` for none
+abbrev pub shown : List ℕ → List ℕ
+shown [] = codes "-"
+shown (byte ∷ bytes) = encode_lower (byte ∷ bytes)
+
+-- a part as text
+abbrev pub text_of : Part → List ℕ
+text_of (Words words) = words.now
+text_of (Number n) = decimal n
+text_of (Hex bytes) = shown bytes.now
+
+-- the parts one after another, and LF
+abbrev pub line_of : List Part → List ℕ
+line_of [] = codes "\n"
+line_of (part ∷ parts) = text_of part ++ line_of parts
+
+-- `N ok PACKET TAG`
+abbrev pub ok_line : ℕ → List ℕ → List ℕ → List ℕ
+ok_line n packet tag =
+    decimal n ++ codes " ok " ++ shown packet ++ codes " " ++ shown tag ++ codes "\n"
+
+-- `N invalid-args R`
+abbrev pub invalid_line : ℕ → ℕ → List ℕ
+invalid_line n reason = decimal n ++ codes " invalid-args " ++ decimal reason ++ codes "\n"

@@ -1,0 +1,38 @@
+ghost use Rattle.std.specs.Prelude.{◌≡◌};
+ghost use Rattle.mbjobs.specs.Message.{status_of};
+
+/// Why the program didn't end with status 0. Lines are counted from 1.
+#[derive(Clone, Copy, Debug, PartialEq, Eq)]
+pub enum Cause {
+    /// The words are no command.
+    Words,
+    /// A read of the input failed.
+    Read,
+    /// A write of the results failed.
+    Write,
+    /// The line is the first that spells no job; the field is 0 where its number of fields is wrong, else the first
+    /// that isn't of its form.
+    Line { line: u32, field: u32 },
+    /// The input is longer than 16,777,216 bytes.
+    Bytes,
+    /// The line is one job line more than the 65,536 that a file may have.
+    Jobs { line: u32 },
+    /// There wasn't memory enough.
+    Memory,
+}
+
+impl Cause {
+    /// The status that the program ends with.
+    pub fn status(&self) -> u8
+        ensures { result ≡ status_of self.now }
+    {
+        match self {
+            Cause::Words => 2,
+            Cause::Read => 3,
+            Cause::Write => 4,
+            Cause::Line { .. } => 5,
+            Cause::Bytes | Cause::Jobs { .. } => 6,
+            Cause::Memory => 7,
+        }
+    }
+}

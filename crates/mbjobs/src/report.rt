@@ -1,0 +1,44 @@
+ghost use Rattle.mbj_line.specs.Line.{line_of};
+ghost use Rattle.mbjobs.specs.Message.{message_of};
+ghost use Rattle.mbjobs.specs.Outcome.{Gains, stream};
+
+use crate::cause::Cause;
+use mbj_io::Sink;
+use mbj_line::{Part, write_line};
+
+/// Writes a line. A fault of the sink is passed over.
+fn tell<E: Sink>(err: &mut E, parts: &[Part])
+    ensures { Gains (stream E.held E.faults err.old err.new) (line_of parts.now) }
+{
+    let _ = write_line(err, parts);
+}
+
+/// Tells the cause in one line. A fault of the sink is passed over.
+pub(crate) fn report<E: Sink>(err: &mut E, cause: Cause)
+    ensures { Gains (stream E.held E.faults err.old err.new) (message_of cause) }
+{
+    match cause {
+        Cause::Words => tell(err, &[Part::Words("mbjobs: bad command line")]),
+        Cause::Read => tell(err, &[Part::Words("mbjobs: read failed")]),
+        Cause::Write => tell(err, &[Part::Words("mbjobs: write failed")]),
+        Cause::Line { line, field } => tell(
+            err,
+            &[
+                Part::Words("mbjobs: line "),
+                Part::Number(line as u64),
+                Part::Words(": field "),
+                Part::Number(field as u64),
+            ],
+        ),
+        Cause::Bytes => tell(err, &[Part::Words("mbjobs: input over 16777216 bytes")]),
+        Cause::Jobs { line } => tell(
+            err,
+            &[
+                Part::Words("mbjobs: line "),
+                Part::Number(line as u64),
+                Part::Words(": over 65536 jobs"),
+            ],
+        ),
+        Cause::Memory => tell(err, &[Part::Words("mbjobs: out of memory")]),
+    }
+}
