@@ -8,10 +8,9 @@ mod job;
 mod reading;
 mod report;
 mod run;
-mod top;
-
 #[cfg(test)]
 mod tests;
+mod top;
 
 use crate::cause::Cause;
 use crate::gate::OpenGate;

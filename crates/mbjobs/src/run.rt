@@ -35,7 +35,11 @@ fn write_results<O: Sink>(out: &mut O, jobs: Vec<Job>) -> Result<(), Failed>
 }
 
 /// Reads a job file, does its jobs and writes their results.
-pub(crate) fn run<S: Source, O: Sink>(alloc: Global, input: &mut S, out: &mut O) -> Result<(), Cause>
+pub(crate) fn run<S: Source, O: Sink>(
+    alloc: Global,
+    input: &mut S,
+    out: &mut O,
+) -> Result<(), Cause>
     ensures ok { OnOk result (RunsWhole (stream S.rest S.faults input.old input.new)
         (stream O.held O.faults out.old out.new)) }
     ensures err { IfErr result (λ cause. Stands cause (stream S.rest S.faults input.old input.new)

@@ -1,7 +1,9 @@
 use super::*;
 use mbj_io::{MemSink, MemSource};
 use std::alloc::{AllocError, Global};
+use std::sync::Wait;
 use std::test::Fail;
+use std::thread::Threads;
 
 const RUN: [&str; 6] = ["mbjobs", "run", "--submitters", "1", "--workers", "0"];
 
@@ -17,6 +19,7 @@ const NULL_JOB: &str = "null enc ch - - 0 0 null - - 0 0 0 -\n";
 const ROOM: usize = 1 << 18;
 
 /// How the program ended, and what it wrote.
+#[derive(Drop)]
 struct Ending {
     status: u8,
     out: MemSink,
@@ -31,26 +34,29 @@ fn words_of(alloc: Global, words: &[&str]) -> Result<Vec<String>, AllocError> {
 }
 
 /// Runs the program over a source and two sinks in memory.
-fn run_over(
-    rt: &HostRuntime,
+fn run_over<R: Threads + Wait + Sync>(
+    rt: &R,
+    alloc: Global,
     words: &[&str],
     input: &mut MemSource,
     mut out: MemSink,
     mut err: MemSink,
 ) -> Result<Ending, AllocError> {
-    let alloc = rt.alloc();
     let words = words_of(alloc, words)?;
     let status = mbjobs(rt, alloc, &words, input, &mut out, &mut err, &OpenGate);
     Ok(Ending { status, out, err })
 }
 
 /// Runs the program on a job file.
-fn run_file(rt: &HostRuntime, file: &[u8]) -> Result<Ending, AllocError> {
-    let alloc = rt.alloc();
+fn run_file<R: Threads + Wait + Sync>(
+    rt: &R,
+    alloc: Global,
+    file: &[u8],
+) -> Result<Ending, AllocError> {
     let mut input = MemSource::new(alloc, file, 4_096, &[])?;
     let out = MemSink::new(alloc, ROOM, 1_024, &[])?;
     let err = MemSink::new(alloc, ROOM, 1_024, &[])?;
-    run_over(rt, &RUN, &mut input, out, err)
+    run_over(rt, alloc, &RUN, &mut input, out, err)
 }
 
 #[test]
@@ -112,7 +118,7 @@ fn files_get_their_status_and_their_text(rt: HostRuntime) -> Result<(), Fail> {
         ("%\n", 5, "", "mbjobs: line 1: field 0\n"),
     ];
     for (file, status, out, err) in cases {
-        let ending = run_file(&rt, file.as_bytes())?;
+        let ending = run_file(&rt, rt.alloc(), file.as_bytes())?;
         assert_eq!(rt; ending.status, status, "{file}");
         assert_eq!(rt; ending.out.held(), out.as_bytes(), "{file}");
         assert_eq!(rt; ending.err.held(), err.as_bytes(), "{file}");
@@ -125,10 +131,13 @@ fn a_key_longer_than_a_block_is_hashed(rt: HostRuntime) -> Result<(), Fail> {
     // RFC 2202, test case 6.
     let alloc = rt.alloc();
     let key = hex::encode(alloc, [0xaa; 80].as_slice())?;
-    let packet = hex::encode(alloc, b"Test Using Larger Than Block-Size Key - Hash Key First".as_slice())?;
+    let packet = hex::encode(
+        alloc,
+        b"Test Using Larger Than Block-Size Key - Hash Key First".as_slice(),
+    )?;
     let file = format!(in alloc; "null enc ch - - 0 0 hmac-sha1 {key} - 0 54 20 {packet}\n")?;
     let line = format!(in alloc; "0 ok {packet} aa4ae5e15272d00e95705637ce8a3b55ed402112\n")?;
-    let ending = run_file(&rt, file.as_bytes())?;
+    let ending = run_file(&rt, rt.alloc(), file.as_bytes())?;
     assert_eq!(rt; ending.status, 0);
     assert_eq!(rt; ending.out.held(), line.as_bytes());
     Ok(())
@@ -139,7 +148,7 @@ fn the_longest_packet_is_done(rt: HostRuntime) -> Result<(), Fail> {
     let alloc = rt.alloc();
     let packet = hex::encode(alloc, vec![in alloc; 0; 65_535]?.as_slice())?;
     let file = format!(in alloc; "null enc ch - - 0 0 hmac-sha1 - - 0 65535 20 {packet}\n")?;
-    let ending = run_file(&rt, file.as_bytes())?;
+    let ending = run_file(&rt, rt.alloc(), file.as_bytes())?;
     assert_eq!(rt; ending.status, 0);
     assert_eq!(rt; ending.out.held().len(), 5 + 2 * 65_535 + 1 + 2 * 20 + 1);
     Ok(())
@@ -159,7 +168,7 @@ fn words_that_are_no_command_read_nothing(rt: HostRuntime) -> Result<(), Fail> {
         let mut input = MemSource::new(alloc, FIRST_JOB.as_bytes(), 64, &[])?;
         let out = MemSink::new(alloc, ROOM, 64, &[])?;
         let err = MemSink::new(alloc, ROOM, 64, &[])?;
-        let ending = run_over(&rt, words, &mut input, out, err)?;
+        let ending = run_over(&rt, alloc, words, &mut input, out, err)?;
         assert_eq!(rt; ending.status, 2);
         assert_eq!(rt; input.rest(), FIRST_JOB.as_bytes());
         assert_eq!(rt; ending.out.held().len(), 0);
@@ -174,7 +183,7 @@ fn a_failed_read_or_write_ends_the_run(rt: HostRuntime) -> Result<(), Fail> {
     let mut input = MemSource::new(alloc, FIRST_JOB.as_bytes(), 5, &[1])?;
     let out = MemSink::new(alloc, ROOM, 7, &[])?;
     let err = MemSink::new(alloc, ROOM, 7, &[])?;
-    let ending = run_over(&rt, &RUN, &mut input, out, err)?;
+    let ending = run_over(&rt, alloc, &RUN, &mut input, out, err)?;
     assert_eq!(rt; ending.status, 3);
     assert_eq!(rt; ending.out.held().len(), 0);
     assert_eq!(rt; ending.err.held(), b"mbjobs: read failed\n".as_slice());
@@ -183,7 +192,7 @@ fn a_failed_read_or_write_ends_the_run(rt: HostRuntime) -> Result<(), Fail> {
     let mut input = MemSource::new(alloc, FIRST_JOB.as_bytes(), 64, &[])?;
     let out = MemSink::new(alloc, ROOM, 7, &[2])?;
     let err = MemSink::new(alloc, ROOM, 7, &[])?;
-    let ending = run_over(&rt, &RUN, &mut input, out, err)?;
+    let ending = run_over(&rt, alloc, &RUN, &mut input, out, err)?;
     assert_eq!(rt; ending.status, 4);
     assert_eq!(rt; ending.out.held(), b"0 ok 486920546".as_slice());
     assert_eq!(rt; ending.err.held(), b"mbjobs: write failed\n".as_slice());
@@ -196,7 +205,7 @@ fn a_fault_of_err_changes_no_status(rt: HostRuntime) -> Result<(), Fail> {
     let mut input = MemSource::new(alloc, b"null\n", 64, &[])?;
     let out = MemSink::new(alloc, ROOM, 64, &[])?;
     let err = MemSink::new(alloc, 8, 64, &[])?;
-    let ending = run_over(&rt, &RUN, &mut input, out, err)?;
+    let ending = run_over(&rt, alloc, &RUN, &mut input, out, err)?;
     assert_eq!(rt; ending.status, 5);
     assert_eq!(rt; ending.err.held(), b"mbjobs: ".as_slice());
     Ok(())
@@ -227,11 +236,17 @@ fn a_file_has_at_most_65536_jobs(rt: HostRuntime) -> Result<(), Fail> {
     let cases: [(usize, &str, usize, u8, &str); 3] = [
         (65_537, "", 0, 6, "mbjobs: line 65537: over 65536 jobs\n"),
         (2, "null\n", 65_534, 5, "mbjobs: line 3: field 0\n"),
-        (65_536, "null\n", 0, 6, "mbjobs: line 65537: over 65536 jobs\n"),
+        (
+            65_536,
+            "null\n",
+            0,
+            6,
+            "mbjobs: line 65537: over 65536 jobs\n",
+        ),
     ];
     for (before, between, after, status, err) in cases {
         let file = lines_around(alloc, NULL_JOB, before, between, after)?;
-        let ending = run_file(&rt, file.as_bytes())?;
+        let ending = run_file(&rt, rt.alloc(), file.as_bytes())?;
         assert_eq!(rt; ending.status, status);
         assert_eq!(rt; ending.out.held().len(), 0);
         assert_eq!(rt; ending.err.held(), err.as_bytes());
@@ -243,10 +258,13 @@ fn a_file_has_at_most_65536_jobs(rt: HostRuntime) -> Result<(), Fail> {
 fn an_input_has_at_most_16_mib(rt: HostRuntime) -> Result<(), Fail> {
     let alloc = rt.alloc();
     let over = vec![in alloc; b'\n'; 16_777_217]?;
-    let ending = run_file(&rt, &over)?;
+    let ending = run_file(&rt, rt.alloc(), &over)?;
     assert_eq!(rt; ending.status, 6);
-    assert_eq!(rt; ending.err.held(), b"mbjobs: input over 16777216 bytes\n".as_slice());
-    let ending = run_file(&rt, &over[1..])?;
+    assert_eq!(rt;
+        ending.err.held(),
+        b"mbjobs: input over 16777216 bytes\n".as_slice()
+    );
+    let ending = run_file(&rt, rt.alloc(), &over[1..])?;
     assert_eq!(rt; ending.status, 0);
     assert_eq!(rt; ending.out.held().len(), 0);
     Ok(())

@@ -27,9 +27,9 @@ returns c =
     let whole : List ℕ = c.hmac_plain-whole.result in
     let key_is : c.as_slice-2.result.now ≡ j.auth_key = c.as_slice-2.ensures in
     let message_is : c.range-message.result.now ≡ hash_range j j.packet =
-        c.range-message.ensures ∙ ap (λ (p : List ℕ). range j.hash_off j.hash_len p) c.as_slice.ensures in
+    c.range-message.ensures ∙ ap (λ (p : List ℕ). range j.hash_off j.hash_len p) c.as_slice.ensures in
     let OfKey : List ℕ → Type 0 = λ k. IfSome (hash_of j.auth) (λ h. whole ≡ hmac h k c.range-message.result.now) in
     let OfMessage : List ℕ → Type 0 = λ m. IfSome (hash_of j.auth) (λ h. whole ≡ hmac h j.auth_key m) in
     let mac_is : whole ≡ mac_by j.auth j j.packet =
-        hmac_is_mac j.auth j j.packet whole c.requires.hmac (subst OfMessage message_is (subst OfKey key_is c.hmac_plain-whole.ensures.value)) in
+    hmac_is_mac j.auth j j.packet whole c.requires.hmac (subst OfMessage message_is (subst OfKey key_is c.hmac_plain-whole.ensures.value)) in
     c.cut.ensures ∙ ap (λ (t : List ℕ). take j.tag_len t) mac_is

@@ -12,7 +12,7 @@ invariant-loop-job g l = record {
   offered : All IsOffered (into_iter_items l.rest);
   count : l.number + length (into_iter_items l.rest) ≤ 65536;
   flows : Flows (g.O.Sink.held l.initial.out) (g.O.Sink.held l.out) (result_text l.fn.jobs.items)
-    (text_from l.number (map result_of (into_iter_items l.rest)));
+      (text_from l.number (map result_of (into_iter_items l.rest)));
   calm : g.O.Sink.faults l.out ≡ g.O.Sink.faults l.initial.out;
 }
 

@@ -1,0 +1,34 @@
+-- The laws of encryption and decryption under each key.
+use Rattle.std.proofs.Common.{◌+◌, ◌*◌, arith}
+use Rattle.mbj_types.specs.Aes.{key_schedule, rounds_of, aes, aes_inverse}
+use Rattle.mbj_aes.specs.Laws.{Undoes, KeepsBlocks}
+use Rattle.mbj_aes.proofs.KeyLists.{IsSchedule, IsSchedule-key_schedule}
+use Rattle.mbj_aes.proofs.Rounds.{IsBlock-encipher, IsBlock-decipher, decipher-encipher, encipher-decipher}
+
+-- decryption undoes encryption
+pub decryption_undoes : Undoes aes_inverse aes
+unfolding aes aes_inverse
+decryption_undoes key b k h =
+    let w : IsSchedule (4 * (rounds_of key + 1)) (key_schedule key) = IsSchedule-key_schedule key k in
+    decipher-encipher (key_schedule key) b w.bytes h (omega arith)
+
+-- encryption undoes decryption
+pub encryption_undoes : Undoes aes aes_inverse
+unfolding aes aes_inverse
+encryption_undoes key b k h =
+    let w : IsSchedule (4 * (rounds_of key + 1)) (key_schedule key) = IsSchedule-key_schedule key k in
+    encipher-decipher (key_schedule key) b w.bytes h (omega arith)
+
+-- encryption makes blocks
+pub encryption_keeps : KeepsBlocks aes
+unfolding aes
+encryption_keeps key b k h =
+    let w : IsSchedule (4 * (rounds_of key + 1)) (key_schedule key) = IsSchedule-key_schedule key k in
+    IsBlock-encipher (key_schedule key) b w.bytes h (omega arith)
+
+-- decryption makes blocks
+pub decryption_keeps : KeepsBlocks aes_inverse
+unfolding aes_inverse
+decryption_keeps key b k h =
+    let w : IsSchedule (4 * (rounds_of key + 1)) (key_schedule key) = IsSchedule-key_schedule key k in
+    IsBlock-decipher (key_schedule key) b w.bytes h (omega arith)

@@ -1,0 +1,15 @@
+pub mod ByteCases
+pub mod XorLists
+pub mod Sums
+pub mod FieldProducts
+pub mod SBoxes
+pub mod ByteMaps
+pub mod States
+pub mod Circulants
+pub mod Columns
+pub mod KeyLists
+pub mod KeyWords
+pub mod Padding
+pub mod ExpandedKeys
+pub mod Rounds
+pub mod AesLaws

@@ -1,0 +1,4 @@
+pub mod Bytes
+pub mod Padding
+pub mod Laws
+pub mod Examples

@@ -1,0 +1,130 @@
+ghost use Rattle.std.specs.Prelude.{◌≡◌, ◌+◌, ◌*◌, ◌-◌, ◌<◌, ◌≤◌, ◌++◌, length, take, drop, replicate, ◌/◌};
+ghost use Rattle.mbj_types.specs.Blocks.{xor_lists};
+ghost use Rattle.mbj_types.specs.Aes.{word, sub_bytes, rot_word, rcon, schedule_term, rounds_of, key_schedule};
+ghost use Rattle.mbj_aes.specs.Bytes.{IsKeySize, IsKeyWords};
+ghost use Rattle.mbj_aes.specs.declared.expansion.TheConstants.{MAX_SCHEDULE_BYTES};
+
+use crate::state::substitute;
+use crate::tables::{ROUND_CONSTANTS, SBOX};
+use crate::xor::xor_in_place;
+
+/// The bytes of the longest schedule, that of a key of 32 bytes: 16 for each of its 14 rounds, and 16 more.
+pub const MAX_SCHEDULE_BYTES: usize = 240;
+
+// The bytes of a word of a schedule.
+const WORD_BYTES: usize = 4;
+
+// The words of the round key of one round.
+const ROUND_WORDS: usize = 4;
+
+// How many rounds there are more than words of the key.
+const EXTRA_ROUNDS: usize = 6;
+
+/// The number of rounds for a key of so many bytes, which are 16, 24 or 32 (FIPS 197, 5).
+pub fn round_count(key_bytes: usize) -> usize
+    ensures { result ≡ key_bytes / 4 + 6 }
+{
+    key_bytes / WORD_BYTES + EXTRA_ROUNDS
+}
+
+// SUBWORD (FIPS 197, 5.2).
+fn sub_word(word: &[u8; 4]) -> [u8; 4]
+    ensures { result ≡ sub_bytes word.now }
+{
+    let mut word = *word;
+    substitute(&mut word, &SBOX);
+    word
+}
+
+// ROTWORD (FIPS 197, 5.2).
+fn rot_word(word: &[u8; 4]) -> [u8; 4]
+    ensures { result ≡ rot_word word.now }
+{
+    [word[1], word[2], word[3], word[0]]
+}
+
+// Rcon[j] (FIPS 197, 5.2).
+fn round_constant(j: usize) -> [u8; 4]
+    requires least { 1 ≤ j }
+    requires most { j ≤ 10 }
+    ensures { result ≡ rcon j }
+{
+    [ROUND_CONSTANTS[j - 1], 0, 0, 0]
+}
+
+// Word `i` of `words`.
+fn word_at(words: &[u8], i: usize) -> [u8; 4]
+    requires { 4 * i + 4 ≤ length words.now }
+    ensures { result ≡ word words.now i }
+{
+    let mut word = [0; WORD_BYTES];
+    word.copy_from_slice(&words[WORD_BYTES * i..WORD_BYTES * (i + 1)]);
+    word
+}
+
+// Writes word `i` of `words`.
+fn put_word(words: &mut [u8], i: usize, word: &[u8; 4])
+    requires { 4 * i + 4 ≤ length words.old }
+    ensures { words.new ≡ take (4 * i) words.old ++ word.now ++ drop (4 * i + 4) words.old }
+{
+    words[WORD_BYTES * i..WORD_BYTES * (i + 1)].copy_from_slice(word);
+}
+
+// What is added to word `i - key_words` to make word `i` of the schedule of a key of `key_words` words.
+fn schedule_term(words: &[u8], key_words: usize, i: usize) -> [u8; 4]
+    requires key { IsKeyWords key_words }
+    requires first { key_words ≤ i }
+    requires last { i < 4 * (key_words + 7) }
+    requires written { 4 * i ≤ length words.now }
+    ensures { result ≡ schedule_term key_words words.now i }
+{
+    let last = word_at(words, i - 1);
+    if i % key_words == 0 {
+        let mut term = sub_word(&rot_word(&last));
+        xor_in_place(&mut term, &round_constant(i / key_words));
+        term
+    } else if key_words == 8 && i % 8 == 4 {
+        // Keys of 32 bytes have one substitution more, between two round constants.
+        sub_word(&last)
+    } else {
+        last
+    }
+}
+
+// Word `i` of the schedule of a key of `key_words` words, from the words before it.
+fn next_word(words: &[u8], key_words: usize, i: usize) -> [u8; 4]
+    requires key { IsKeyWords key_words }
+    requires first { key_words ≤ i }
+    requires last { i < 4 * (key_words + 7) }
+    requires written { 4 * i ≤ length words.now }
+    ensures { result ≡ xor_lists (word words.now (i - key_words)) (schedule_term key_words words.now i) }
+{
+    let mut word = word_at(words, i - key_words);
+    xor_in_place(&mut word, &schedule_term(words, key_words, i));
+    word
+}
+
+// The key, and zeros.
+fn key_and_zeros(key: &[u8]) -> [u8; MAX_SCHEDULE_BYTES]
+    requires { length key.now ≤ MAX_SCHEDULE_BYTES }
+    ensures { result ≡ key.now ++ replicate (MAX_SCHEDULE_BYTES - length key.now) 0 }
+{
+    let mut bytes = [0; MAX_SCHEDULE_BYTES];
+    bytes[..key.len()].copy_from_slice(key);
+    bytes
+}
+
+/// KEYEXPANSION (FIPS 197, 5.2): the schedule of the key, and zeros.
+pub fn expanded_key(key: &[u8]) -> [u8; MAX_SCHEDULE_BYTES]
+    requires { IsKeySize (length key.now) }
+    ensures { let zeros = MAX_SCHEDULE_BYTES - 16 * (rounds_of key.now + 1) in
+        result ≡ key_schedule key.now ++ replicate zeros 0 }
+{
+    let key_words = key.len() / WORD_BYTES;
+    let mut bytes = key_and_zeros(key);
+    'words: for i in key_words..ROUND_WORDS * (round_count(key.len()) + 1) {
+        let word = next_word(&bytes, key_words, i);
+        put_word(&mut bytes, i, &word);
+    }
+    bytes
+}

@@ -1,0 +1,118 @@
+ghost use Rattle.std.specs.Prelude.{◌≡◌, ℕ, ◌+◌, ◌-◌, ◌*◌, ◌/◌, ◌≤◌, List, length};
+ghost use Rattle.mbj_types.specs.Aes.{key_schedule, rounds_of, round_key, encipher, decipher, aes, aes_inverse};
+ghost use Rattle.mbj_aes.specs.Bytes.{IsBytes, IsKeySize, IsRoundCount};
+
+use crate::expansion::{MAX_SCHEDULE_BYTES, expanded_key, round_count};
+use crate::state::{
+    inv_mix_columns, inv_shift_rows, inv_sub_bytes, mix_columns, shift_rows, sub_bytes,
+};
+use crate::xor::xor_in_place;
+use std::marker::Model;
+
+// The bytes of a block, and of the round key of one round.
+const BLOCK_BYTES: usize = 16;
+
+/// The round keys of an AES key (FIPS 197, 5.2), which contracts see as the list of their bytes, 16 for each of
+/// 10, 12 or 14 rounds and 16 more. It is a plain value of 244 bytes, `Copy`, and owns no memory.
+#[derive(Clone, Copy)]
+pub struct Schedule {
+    bytes: [u8; MAX_SCHEDULE_BYTES],
+    rounds: u32,
+}
+
+// The size that stands in the documentation.
+const _: () = prove!(size_of::<Schedule>() == 244);
+
+impl Model for Schedule {
+    ghost use Rattle.std.specs.Prelude.{ℕ, ◌+◌, ◌-◌, ◌*◌, ◌/◌, List, length, take, ◌++◌, replicate};
+    ghost use Rattle.mbj_aes.specs.Bytes.{IsBytes, IsRoundCount};
+    ghost use Rattle.mbj_aes.specs.Padding.{IsPadded};
+    ghost use Rattle.mbj_aes.specs.declared.expansion.TheConstants.{MAX_SCHEDULE_BYTES};
+
+    ghost Value = { List ℕ };
+
+    ghost view = { λ s. take (16 * (s.rounds + 1)) s.bytes };
+
+    ghost invariant = { λ s. IsRoundCount s.rounds × IsBytes s.bytes
+        × IsPadded MAX_SCHEDULE_BYTES (16 * (s.rounds + 1)) s.bytes };
+
+    ghost inverse = { λ w. record {
+      bytes = w ++ replicate (MAX_SCHEDULE_BYTES - length w) 0;
+      rounds = length w / 16 - 1;
+    } };
+}
+
+impl Schedule {
+    /// The schedule of a key of 16, 24 or 32 bytes: KEYEXPANSION (FIPS 197, 5.2). It takes no memory.
+    pub fn expand(key: &[u8]) -> Schedule
+        requires { IsKeySize (length key.now) }
+        ensures schedule { result ≡ key_schedule key.now }
+        ensures length { length result ≡ 16 * (rounds_of key.now + 1) }
+        ensures encipher { (b : List ℕ) → encipher result b ≡ aes key.now b }
+        ensures decipher { (b : List ℕ) → decipher result b ≡ aes_inverse key.now b }
+    {
+        Schedule {
+            bytes: expanded_key(key),
+            rounds: round_count(key.len()) as u32,
+        }
+    }
+
+    /// The number of rounds: 10, 12 or 14 for a key of 16, 24 or 32 bytes (FIPS 197, 5).
+    pub fn rounds(&self) -> u32
+        ensures value { result ≡ length self.now / 16 - 1 }
+        ensures count { IsRoundCount result }
+        ensures least { 10 ≤ result }
+        ensures most { result ≤ 14 }
+        ensures length { length self.now ≡ 16 * (result + 1) }
+        ensures bytes { IsBytes self.now }
+    {
+        self.rounds
+    }
+
+    /// The round key of round `r`, which is at most `rounds`: the bytes of words `4 * r` to `4 * r + 3`. Round 0
+    /// stands for what is added before the first round.
+    pub fn round_key(&self, r: u32) -> [u8; 16]
+        requires { r ≤ length self.now / 16 - 1 }
+        ensures { result ≡ round_key self.now r }
+    {
+        let start = BLOCK_BYTES * r as usize;
+        let mut key = [0; BLOCK_BYTES];
+        key.copy_from_slice(&self.bytes[start..start + BLOCK_BYTES]);
+        key
+    }
+
+    /// Encrypts a block in place: CIPHER (FIPS 197, 5.1). It takes no memory.
+    pub fn encrypt(&self, block: &mut [u8; 16])
+        ensures { block.new ≡ encipher self.now block.old }
+    {
+        let rounds = self.rounds();
+        xor_in_place(block, &self.round_key(0));
+        'rounds: for r in 1..rounds {
+            sub_bytes(block);
+            shift_rows(block);
+            mix_columns(block);
+            xor_in_place(block, &self.round_key(r));
+        }
+        sub_bytes(block);
+        shift_rows(block);
+        // The last round mixes no columns.
+        xor_in_place(block, &self.round_key(rounds));
+    }
+
+    /// Decrypts a block in place: INVCIPHER (FIPS 197, 5.3). It takes no memory.
+    pub fn decrypt(&self, block: &mut [u8; 16])
+        ensures { block.new ≡ decipher self.now block.old }
+    {
+        let rounds = self.rounds();
+        xor_in_place(block, &self.round_key(rounds));
+        inv_shift_rows(block);
+        inv_sub_bytes(block);
+        'rounds: for r in (1..rounds).rev() {
+            xor_in_place(block, &self.round_key(r));
+            inv_mix_columns(block);
+            inv_shift_rows(block);
+            inv_sub_bytes(block);
+        }
+        xor_in_place(block, &self.round_key(0));
+    }
+}
