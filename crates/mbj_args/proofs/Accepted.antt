@@ -1,10 +1,10 @@
 -- What holds of a job that is accepted: no row of the argument table applies.
-use Rattle.std.proofs.Common.{◌≡◌, ℕ, ◌+◌, ◌≤◌, ◌<◌, Bool, true, false, cond, not, ◌&&◌, ◌||◌, List, ◌∷◌, length, Option, Some, None, refl, sym}
+use Rattle.std.proofs.Common.{◌≡◌, ℕ, ◌+◌, ◌≤◌, Bool, true, false, cond, not, ◌&&◌, ◌||◌, length, Option, Some, None, refl, sym}
 use Rattle.std.proofs.lemmas.Bool.{ltb-false}
 use Rattle.mbj_types.specs.declared.job.Job.{Job}
 use Rattle.mbj_types.specs.declared.reason.Reason.{Reason}
 use Rattle.mbj_types.specs.declared.limits.TheConstants.{MAX_PACKET_BYTES, MAX_AAD_BYTES}
-use Rattle.mbj_types.specs.Verdict.{is_null_cipher, is_gcm_cipher, takes_key, takes_iv, takes_range, takes_auth_key, has_hash_range, least_tag_bytes, most_tag_bytes, is_half_gcm, first_reason, rows, verdict_at}
+use Rattle.mbj_types.specs.Verdict.{is_null_cipher, is_gcm_cipher, takes_key, takes_iv, takes_range, takes_auth_key, has_hash_range, least_tag_bytes, most_tag_bytes, is_half_gcm, verdict_at}
 
 -- a job with a packet of n bytes, read off the rows
 pub record IsAccepted (j : Job) (n : ℕ) : Type 0 where

@@ -1,5 +1,5 @@
 -- GHASH (SP 800-38D) on blocks of 16 bytes.
-use Rattle.std.specs.Prelude.{ℕ, Bool, List, [], ◌∷◌, ◌++◌, length, map}
+use Rattle.std.specs.Prelude.{ℕ, Bool, List, [], ◌∷◌, map}
 use Rattle.std.specs.Int.{w128, to_be_bytes, from_be_bytes}
 use Rattle.mbj_types.specs.Blocks.{xor_lists, blocks, zero_block, filled_block}
 use Rattle.mbj_types.specs.Field.{bits, number, product}
