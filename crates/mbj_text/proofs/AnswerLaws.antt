@@ -1,5 +1,5 @@
 -- A right answer is what the file's relation says, and no other; and jobs that are read are offered.
-use Rattle.std.proofs.Common.{◌≡◌, ◌⊎◌, inl, inr, ap, subst, refl, ℕ, List, [], ◌∷◌, Result, Ok, Err, length, arith}
+use Rattle.std.proofs.Common.{◌≡◌, inl, inr, subst, refl, ℕ, List, [], ◌∷◌, Result, Ok, Err, arith}
 use Rattle.std.specs.Prelude.{IfOk, All}
 use Rattle.std.proofs.lemmas.List.Elements.{All-cons}
 use Rattle.std.specs.declared.vec.Vec.{Vec}
@@ -9,7 +9,6 @@ use Rattle.mbj_text.specs.declared.fault.TextFault.{TextFault}
 use Rattle.mbj_text.specs.declared.fault.TextFault.TheVariants as text_fault
 use Rattle.mbj_text.specs.Cut.{Numbered, job_lines}
 use Rattle.mbj_text.specs.Words.{IsOffered}
-use Rattle.mbj_text.specs.Spelling.{Spells, SpellsFields, forms, fields_of, values}
 use Rattle.mbj_text.specs.File.{SpellAll, Reads, Bad, Over, Answers, IsOkOnly, IsErrOnly}
 use Rattle.mbj_text.proofs.Names.{by_name}
 use Rattle.mbj_text.proofs.FileLaws.{reads_not_bad, reads_not_over, bad_not_over, reads_once, bad_once, over_once}

@@ -1,11 +1,11 @@
 -- How a cut goes on behind its first part.
-use Rattle.std.proofs.Common.{◌≡◌, ◌∙◌, ◌≤◌, ◌<◌, ◌+◌, ◌-◌, ◌∷◌, ◌==◌, ℕ, List, [], take, drop, length, Some, None, ap, sym, arith, length-drop}
-use Rattle.std.specs.Prelude.{position, count_by}
+use Rattle.std.proofs.Common.{◌≡◌, ◌∙◌, ◌≤◌, ◌+◌, ◌-◌, ◌∷◌, ◌==◌, ℕ, List, [], take, drop, length, Some, None, ap, sym, arith, length-drop}
+use Rattle.std.specs.Prelude.{position}
 use Rattle.std.specs.List.{position_or_len}
 use Rattle.std.proofs.Math.Seq.{take-length}
 use Rattle.std.proofs.lemmas.Bool.Decides.{nat_tests}
 use Rattle.std.proofs.lemmas.List.Splits.{slice_split_first, slice_split_none, length-slice_split}
-use Rattle.std.proofs.lemmas.List.Sums.{fails_before_first}
+use Rattle.std.proofs.lemmas.List.Sums.{fails_before_first, count_by-le-length}
 use Rattle.mbj_text.specs.Cut.{cut}
 
 -- the mark stands first at i; what is behind it is what `&xs[i + 1..]` is
@@ -24,7 +24,7 @@ cut_nowhere m xs h =
     let all : length xs ≤ position_or_len (λ x. x == m) xs = grind (arith, nat_tests) in
     slice_split_none (λ x. x == m) xs (λ k d lt. fails_before_first (λ x. x == m) xs k d (omega arith))
 
--- one part more than there are marks
-pub cut_count : (m : ℕ) (xs : List ℕ) → length (cut m xs) ≡ count_by (λ x. x == m) xs + 1
+-- a text has at most one part more than bytes
+pub cut_bound : (m : ℕ) (xs : List ℕ) → length (cut m xs) ≤ length xs + 1
 unfolding cut
-cut_count m xs = length-slice_split (λ x. x == m) xs
+cut_bound m xs = omega (arith, length-slice_split (λ x. x == m) xs, count_by-le-length (λ x. x == m) xs)

@@ -1,5 +1,5 @@
 -- Reading a file line after line, and that each file is exactly one of good, bad and too long.
-use Rattle.std.proofs.Common.{◌≡◌, ◌≢◌, ◌⊎◌, ◌∙◌, ◌==◌, ◌<◌, ◌≤◌, ◌+◌, ◌++◌, inl, inr, ap, sym, subst, refl, ℕ, Bool, false, cond, List, [], ◌∷◌, Result, Ok, Err, length, arith, append_assoc, append-nil, length-append, eq-eqb}
+use Rattle.std.proofs.Common.{◌≡◌, ◌≢◌, ◌⊎◌, ◌∙◌, ◌==◌, ◌≤◌, ◌+◌, ◌++◌, inl, inr, ap, sym, subst, refl, ℕ, Bool, false, cond, List, [], ◌∷◌, Result, Ok, Err, length, arith, append_assoc, append-nil, length-append, eq-eqb}
 use Rattle.std.proofs.lemmas.Bool.{ne_eqb}
 use Rattle.std.proofs.lemmas.Bool.Decides.{eqb_tells}
 use Rattle.std.proofs.lemmas.Slice.Zip.{all_zipped_more}

@@ -6,3 +6,5 @@ pub mod LineLaws
 pub mod FileLaws
 pub mod Names
 pub mod AnswerLaws
+pub mod Flows
+pub mod HexText

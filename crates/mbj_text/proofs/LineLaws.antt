@@ -1,5 +1,5 @@
 -- A field is read exactly where it has its form, and a line where each of its fields has.
-use Rattle.std.proofs.Common.{◌≡◌, ◌≢◌, ◌⊎◌, ◌∙◌, ◌==◌, ◌+◌, inl, inr, ap, sym, subst, refl, ℕ, suc, Bool, cond, List, [], ◌∷◌, Option, Some, None, Result, Ok, Err, length, arith, eq-eqb}
+use Rattle.std.proofs.Common.{◌≡◌, ◌≢◌, ◌⊎◌, ◌∙◌, ◌+◌, inl, inr, ap, sym, subst, refl, ℕ, suc, Bool, cond, List, [], ◌∷◌, Option, Some, None, Result, Ok, Err, length, arith, eq-eqb}
 use Rattle.std.specs.Option.{option_map_or}
 use Rattle.std.proofs.lemmas.Bool.{ne_eqb}
 use Rattle.std.proofs.lemmas.Bool.Decides.{eqb_tells}

@@ -1,9 +1,7 @@
 -- The job lines among lines, one line after the other.
-use Rattle.std.proofs.Common.{◌≡◌, ◌≤◌, ◌+◌, ◌∷◌, ◌∙◌, ◌==◌, ℕ, Bool, true, false, cond, List, [], length, ap, refl, arith}
+use Rattle.std.proofs.Common.{◌≡◌, ◌+◌, ◌∷◌, ℕ, true, false, cond, List, [], ap, refl}
 use Rattle.std.specs.Str.Lines.{strip_carriage_return}
-use Rattle.std.proofs.lemmas.List.Sums.{count_by-le-length}
-use Rattle.mbj_text.specs.Cut.{cut, is_skipped, Numbered, job_lines_from, without_empty_end}
-use Rattle.mbj_text.proofs.Cutting.{cut_count}
+use Rattle.mbj_text.specs.Cut.{is_skipped, Numbered, job_lines_from, without_empty_end}
 
 -- no line is left
 pub none_left : (n : ℕ) → job_lines_from n [] ≡ []
@@ -31,7 +29,3 @@ skip_empty_end n ((x ∷ xs) ∷ []) = refl
 skip_empty_end n (part ∷ next ∷ parts) =
     let text : List ℕ = strip_carriage_return part in
     ap (λ (ls : List Numbered). cond (is_skipped text) ls ((n, text) ∷ ls)) (skip_empty_end (n + 1) (next ∷ parts))
-
--- a text has at most one part more than bytes
-pub cut_bound : (m : ℕ) (xs : List ℕ) → length (cut m xs) ≤ length xs + 1
-cut_bound m xs = omega (arith, cut_count m xs, count_by-le-length (λ x. x == m) xs)

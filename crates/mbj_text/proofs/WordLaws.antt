@@ -1,6 +1,7 @@
 -- A word is found exactly where it is that of a value in the list.
-use Rattle.std.proofs.Common.{◌≡◌, ◌⊎◌, ◌∙◌, inl, inr, ap, sym, refl, ℕ, zero, suc, Bool, true, false, cond, List, [], ◌∷◌, Option, Some, length, arith}
-use Rattle.std.specs.Prelude.{Contains}
+use Rattle.std.proofs.Common.{◌≡◌, ◌⊎◌, ◌∙◌, inl, inr, ap, sym, refl, ℕ, zero, suc, Bool, true, false, cond, List, [], ◌∷◌, map, Some, arith}
+use Rattle.std.specs.Prelude.{Contains, find, option_map}
+use denote.Ref.{Bor}
 use Rattle.std.specs.Str.{bytes_eq}
 use Rattle.std.proofs.lemmas.Slice.Eq.{bytes_eq-Decides}
 use Rattle.mbj_types.specs.declared.job.Cipher.{Cipher}
@@ -12,7 +13,7 @@ use Rattle.mbj_types.specs.declared.job.Order.TheVariants.{CipherHash, HashCiphe
 use Rattle.mbj_types.specs.declared.job.Auth.{Auth}
 use Rattle.mbj_types.specs.declared.job.Auth.TheVariants as auth
 use Rattle.mbj_text.specs.Words.{cipher_word, dir_word, order_word, auth_word, file_ciphers, file_auths}
-use Rattle.mbj_text.specs.Reading.{lookup, cipher_of, dir_of, order_of, auth_of}
+use Rattle.mbj_text.specs.Reading.{lookup, rows_of, cipher_of, dir_of, order_of, auth_of}
 
 -- an element is the first one, or one of the others
 Contains-cons : {A : Type 0} (y : A) (ys : List A) (x : A) → Contains (y ∷ ys) x → (y ≡ x) ⊎ Contains ys x
@@ -23,30 +24,43 @@ Contains-cons y ys x (suc k, lt, is) = inr (k, omega (arith, lt), is)
 Contains-later : {A : Type 0} (y : A) (ys : List A) (x : A) → Contains ys x → Contains (y ∷ ys) x
 Contains-later y ys x (k, lt, is) = (suc k, omega (arith, lt), is)
 
+-- looking up as a search among the rows
+pub find_is_lookup : {A : Type 0} (rows : List (Bor (List ℕ) × A)) (t : List ℕ)
+    → option_map (λ row. row.1) (find (λ row. bytes_eq row.0.now t) rows) ≡ lookup (map (λ row. (row.0.now, row.1)) rows) t
+unfolding lookup
+find_is_lookup [] t = refl
+find_is_lookup (row ∷ rows) t = elim (bytes_eq row.0.now t) as (λ b. option_map (λ row. row.1) (cond b (Some row) (find (λ row. bytes_eq row.0.now t) rows)) ≡ cond b (Some row.1) (lookup (map (λ row. (row.0.now, row.1)) rows) t)) [
+  | true ↦ refl
+  | false ↦ find_is_lookup rows t
+]
+
 module _ {A : Type 0} (word : A → List ℕ) where
   -- what is found is in the list, and the text is its word
-  pub lookup_finds : (vs : List A) (t : List ℕ) (v : A) → lookup word vs t ≡ Some v → (t ≡ word v) × Contains vs v
+  lookup_finds : (vs : List A) (t : List ℕ) (v : A) → lookup (rows_of word vs) t ≡ Some v → (t ≡ word v) × Contains vs v
+  unfolding lookup
   lookup_finds [] t v h = cc
   lookup_finds (w ∷ ws) t v h = go (bytes_eq (word w) t) (bytes_eq-Decides (word w) t).0 h (lookup_finds ws t v)
     where
-      go : (x : Bool) → (x ≡ true → word w ≡ t) → cond x (Some w) (lookup word ws t) ≡ Some v → (lookup word ws t ≡ Some v → (t ≡ word v) × Contains ws v) → (t ≡ word v) × Contains (w ∷ ws) v
+      go : (x : Bool) → (x ≡ true → word w ≡ t) → cond x (Some w) (lookup (rows_of word ws) t) ≡ Some v
+          → (lookup (rows_of word ws) t ≡ Some v → (t ≡ word v) × Contains ws v) → (t ≡ word v) × Contains (w ∷ ws) v
       go true p q more = let same : w ≡ v = cc in (sym (p refl) ∙ ap word same, (0, omega arith, same))
       go false p q more = let found = more q in (found.0, Contains-later w ws v found.1)
 
   -- the word of a value in the list is found, where no two values have one word
-  pub lookup_found : ((v w : A) → word v ≡ word w → v ≡ w) → (vs : List A) (v : A) → Contains vs v → lookup word vs (word v) ≡ Some v
+  lookup_found : ((v w : A) → word v ≡ word w → v ≡ w) → (vs : List A) (v : A) → Contains vs v → lookup (rows_of word vs) (word v) ≡ Some v
+  unfolding lookup
   lookup_found other [] v (k, lt, is) = absurd (omega (arith, lt))
   lookup_found other (w ∷ ws) v h = go (bytes_eq (word w) (word v)) (bytes_eq-Decides (word w) (word v)) (Contains-cons w ws v h) (lookup_found other ws v)
     where
       go : (x : Bool) → (x ≡ true → word w ≡ word v) × (word w ≡ word v → x ≡ true) → (w ≡ v) ⊎ Contains ws v
-          → (Contains ws v → lookup word ws (word v) ≡ Some v) → cond x (Some w) (lookup word ws (word v)) ≡ Some v
+          → (Contains ws v → lookup (rows_of word ws) (word v) ≡ Some v) → cond x (Some w) (lookup (rows_of word ws) (word v)) ≡ Some v
       go true p h more = ap (λ (u : A). Some u) (other w v (p.0 refl))
       go false p (inl same) more = let hit = p.1 (ap word same) in cc
       go false p (inr later) more = more later
 
--- no two values have one word, since all words can be told apart
-told_apart : {A : Type 0} (word : A → List ℕ) (named : List ℕ → Option A) → ((v : A) → named (word v) ≡ Some v) → (v w : A) → word v ≡ word w → v ≡ w
-told_apart word named known v w same = let both = sym (known v) ∙ ap named same ∙ known w in cc
+  -- no two values have one word, where each word is found in a list of all
+  told_apart : (all : List A) → ((v : A) → lookup (rows_of word all) (word v) ≡ Some v) → (v w : A) → word v ≡ word w → v ≡ w
+  told_apart all known v w same = let both = sym (known v) ∙ ap (lookup (rows_of word all)) same ∙ known w in cc
 
 abbrev all_ciphers : List Cipher
 all_ciphers = cipher.Null ∷ cipher.Cbc ∷ cipher.Ctr ∷ cipher.Gcm ∷ []
@@ -55,13 +69,15 @@ abbrev all_auths : List Auth
 all_auths =
     auth.Null ∷ auth.HmacSha1 ∷ auth.HmacSha224 ∷ auth.HmacSha256 ∷ auth.HmacSha384 ∷ auth.HmacSha512 ∷ auth.Cmac128 ∷ auth.Cmac256 ∷ auth.Gcm ∷ []
 
-cipher_known : (c : Cipher) → lookup cipher_word all_ciphers (cipher_word c) ≡ Some c
+cipher_known : (c : Cipher) → lookup (rows_of cipher_word all_ciphers) (cipher_word c) ≡ Some c
+unfolding lookup
 cipher_known cipher.Null = refl
 cipher_known cipher.Cbc = refl
 cipher_known cipher.Ctr = refl
 cipher_known cipher.Gcm = refl
 
-auth_known : (a : Auth) → lookup auth_word all_auths (auth_word a) ≡ Some a
+auth_known : (a : Auth) → lookup (rows_of auth_word all_auths) (auth_word a) ≡ Some a
+unfolding lookup
 auth_known auth.Null = refl
 auth_known auth.HmacSha1 = refl
 auth_known auth.HmacSha224 = refl
@@ -77,18 +93,19 @@ pub cipher_read : (t : List ℕ) (c : Cipher) → cipher_of t ≡ Some c → (t 
 cipher_read t c h = lookup_finds cipher_word file_ciphers t c h
 
 pub cipher_back : (t : List ℕ) (c : Cipher) → (t ≡ cipher_word c) × Contains file_ciphers c → cipher_of t ≡ Some c
-cipher_back t c s = ap cipher_of s.0 ∙ lookup_found cipher_word (told_apart cipher_word (lookup cipher_word all_ciphers) cipher_known) file_ciphers c s.1
+cipher_back t c s = ap cipher_of s.0 ∙ lookup_found cipher_word (told_apart cipher_word all_ciphers cipher_known) file_ciphers c s.1
 
 pub auth_read : (t : List ℕ) (a : Auth) → auth_of t ≡ Some a → (t ≡ auth_word a) × Contains file_auths a
 auth_read t a h = lookup_finds auth_word file_auths t a h
 
 pub auth_back : (t : List ℕ) (a : Auth) → (t ≡ auth_word a) × Contains file_auths a → auth_of t ≡ Some a
-auth_back t a s = ap auth_of s.0 ∙ lookup_found auth_word (told_apart auth_word (lookup auth_word all_auths) auth_known) file_auths a s.1
+auth_back t a s = ap auth_of s.0 ∙ lookup_found auth_word (told_apart auth_word all_auths auth_known) file_auths a s.1
 
 pub dir_read : (t : List ℕ) (d : Dir) → dir_of t ≡ Some d → t ≡ dir_word d
 dir_read t d h = (lookup_finds dir_word (Enc ∷ Dec ∷ []) t d h).0
 
 pub dir_back : (t : List ℕ) (d : Dir) → t ≡ dir_word d → dir_of t ≡ Some d
+unfolding lookup
 dir_back t Enc e = ap dir_of e
 dir_back t Dec e = ap dir_of e
 
@@ -96,5 +113,6 @@ pub order_read : (t : List ℕ) (o : Order) → order_of t ≡ Some o → t ≡ 
 order_read t o h = (lookup_finds order_word (CipherHash ∷ HashCipher ∷ []) t o h).0
 
 pub order_back : (t : List ℕ) (o : Order) → t ≡ order_word o → order_of t ≡ Some o
+unfolding lookup
 order_back t CipherHash e = ap order_of e
 order_back t HashCipher e = ap order_of e

@@ -3,7 +3,7 @@ use Rattle.std.specs.Prelude.{ℕ, ◌+◌, ◌==◌, Bool, true, List, [], ◌�
 use Rattle.std.specs.List.{slice_split}
 use Rattle.std.specs.Str.Lines.{strip_carriage_return}
 
--- the bytes LF, at which a file is cut into lines, the space, at which a line is cut into fields, and `#`
+-- LF, at which a file is cut into lines, the space, at which a line is cut into fields, and `#`
 abbrev pub line_feed : ℕ
 line_feed = 10
 
@@ -33,7 +33,7 @@ without_empty_end (part ∷ next ∷ parts) = part ∷ without_empty_end (next �
 abbrev pub lines_of : List ℕ → List (List ℕ)
 lines_of bytes = without_empty_end (cut line_feed bytes)
 
--- a line is no job line where it is empty or begins with `#`
+-- a line is skipped where it is empty or begins with `#`
 abbrev pub is_skipped : List ℕ → Bool
 is_skipped [] = true
 is_skipped (first ∷ rest) = first == number_sign
@@ -42,7 +42,7 @@ is_skipped (first ∷ rest) = first == number_sign
 abbrev pub Numbered : Type 0
 Numbered = ℕ × List ℕ
 
--- the job lines among these lines, of which the first has number n; one CR at a line's end is dropped before anything else
+-- the job lines among lines that are numbered from n on; one CR at a line's end is dropped first
 unfoldable pub job_lines_from : ℕ → List (List ℕ) → List Numbered
 job_lines_from n [] = []
 job_lines_from n (line ∷ lines) =

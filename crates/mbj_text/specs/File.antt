@@ -1,5 +1,5 @@
--- What a job file spells, which line is its fault, and that each file is exactly one of good, bad and too long.
-use Rattle.std.specs.Prelude.{◌≡◌, ◌⊎◌, ◌<◌, ◌≤◌, ◌↔◌, ◌++◌, ℕ, List, [], ◌∷◌, length, Ok, Err, Result, MatchResult}
+-- What a job file spells, where it is bad or too long, and that each file is exactly one of the three.
+use Rattle.std.specs.Prelude.{◌≡◌, ◌⊎◌, ◌<◌, ◌≤◌, ◌↔◌, ◌++◌, ℕ, List, ◌∷◌, length, Ok, Err, Result, MatchResult}
 use Rattle.std.specs.List.{AllZip}
 use Rattle.std.specs.declared.vec.Vec.{Vec}
 use Rattle.std.specs.declared.alloc.Global.{Global}
@@ -21,7 +21,8 @@ pub record Reads (bytes : List ℕ) (jobs : List Job) : Type 0 where
   pub count : length jobs ≤ JOB_LIMIT
   pub each : SpellAll (job_lines bytes) jobs
 
--- the line with this number is the first job line that spells no job, fewer than JOB_LIMIT are before it, and its fault is the field
+-- the line with this number is the first job line that spells no job, and stands among the first JOB_LIMIT;
+-- the field is its fault
 pub record Bad (bytes : List ℕ) (line field : ℕ) : Type 0 where
   pub before : List Numbered
   pub text : List ℕ
@@ -44,7 +45,7 @@ pub record Over (bytes : List ℕ) (line : ℕ) : Type 0 where
 
 -- ---- answers
 
--- the answer is right: it holds what the file spells, or says where it is bad or too long, or memory ran out
+-- the answer is right: what the file spells, or where it is bad or too long, or memory ran out
 abbrev pub Answers : List ℕ → Result (Vec Job Global) TextFault → Type 0
 Answers bytes (Ok v) = Reads bytes v.items
 Answers bytes (Err (text_fault.Line line field)) = Bad bytes line field

@@ -3,3 +3,5 @@ pub mod Words
 pub mod Spelling
 pub mod File
 pub mod Reading
+pub mod Flow
+pub mod Line

@@ -1,5 +1,5 @@
 -- The reader of a line as a function, from left to right. Private functions alone promise it.
-use Rattle.std.specs.Prelude.{◌≡◌, ◌==◌, ◌&&◌, ◌||◌, ◌+◌, ◌-◌, ◌*◌, ℕ, Bool, not, List, [], ◌∷◌, length, find, Ok, Err, Result, Option, Some, None, nat_le, nat_lt, if◌then◌else◌, codes, slice_index}
+use Rattle.std.specs.Prelude.{◌≡◌, ◌==◌, ◌&&◌, ◌||◌, ◌+◌, ◌-◌, ◌*◌, ℕ, Bool, not, List, [], ◌∷◌, length, map, Ok, Err, Result, Option, Some, None, nat_le, nat_lt, if◌then◌else◌, codes, slice_index}
 use Rattle.std.specs.Char.{is_ascii_digit}
 use Rattle.std.specs.Str.{bytes_eq}
 use Rattle.std.specs.Option.{option_map_or, option_and_then}
@@ -16,27 +16,31 @@ use Rattle.mbj_text.specs.declared.fault.LineFault.{LineFault}
 use Rattle.mbj_text.specs.declared.fault.LineFault.TheVariants as line_fault
 use Rattle.mbj_text.specs.declared.fault.TextFault.{TextFault}
 use Rattle.mbj_text.specs.declared.fault.TextFault.TheVariants as text_fault
-use Rattle.mbj_text.specs.Cut.{cut, space}
 use Rattle.mbj_text.specs.Words.{cipher_word, dir_word, order_word, auth_word, file_ciphers, file_auths}
 use Rattle.mbj_text.specs.Spelling.{Form, CipherWord, DirWord, OrderWord, AuthWord, Hex, Number, Small, Value, Values, forms, fields_of}
 
 -- ---- fields
 
--- the first of the values whose word is the text
-abbrev pub lookup : {A : Type 0} → (A → List ℕ) → List A → List ℕ → Option A
-lookup word values text = find (λ v. bytes_eq (word v) text) values
+-- the value in the first row whose word is the text
+unfoldable pub lookup : {A : Type 0} → List (List ℕ × A) → List ℕ → Option A
+lookup [] text = None
+lookup (row ∷ rows) text = if bytes_eq row.0 text then Some row.1 else lookup rows text
+
+-- a row for each value
+abbrev pub rows_of : {A : Type 0} → (A → List ℕ) → List A → List (List ℕ × A)
+rows_of word values = map (λ v. (word v, v)) values
 
 abbrev pub cipher_of : List ℕ → Option Cipher
-cipher_of = lookup cipher_word file_ciphers
+cipher_of text = lookup (rows_of cipher_word file_ciphers) text
 
 abbrev pub dir_of : List ℕ → Option Dir
-dir_of = lookup dir_word (Enc ∷ Dec ∷ [])
+dir_of text = lookup (rows_of dir_word (Enc ∷ Dec ∷ [])) text
 
 abbrev pub order_of : List ℕ → Option Order
-order_of = lookup order_word (CipherHash ∷ HashCipher ∷ [])
+order_of text = lookup (rows_of order_word (CipherHash ∷ HashCipher ∷ [])) text
 
 abbrev pub auth_of : List ℕ → Option Auth
-auth_of = lookup auth_word file_auths
+auth_of text = lookup (rows_of auth_word file_auths) text
 
 abbrev pub bytes_of : List ℕ → Option (List ℕ)
 bytes_of text =

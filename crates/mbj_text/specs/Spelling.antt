@@ -11,11 +11,11 @@ use Rattle.mbj_text.specs.Words.{cipher_word, dir_word, order_word, auth_word, f
 
 -- ---- fields
 
--- bytes: `-` for none, or an even number, at least 2, of hexadecimal digits of either case, two for each byte
+-- bytes: `-` for none, or hexadecimal digits of either case, at least 2, two for each byte
 abbrev pub SpellsBytes : List ℕ → List ℕ → Type 0
 SpellsBytes text bytes = ((text ≡ codes "-") × (bytes ≡ [])) ⊎ ((0 < length text) × (decode_of text ≡ Ok bytes))
 
--- a number: 1 to 5 digits, the first of them not `0` unless it is the only one
+-- a number: 1 to 5 digits, the first of them not `0` unless it is the only one, as decimal writes it
 abbrev pub SpellsNumber : List ℕ → ℕ → Type 0
 SpellsNumber text n = (text ≡ decimal n) × (n < 10 ^ 5)
 
@@ -39,7 +39,8 @@ Value Hex = List ℕ
 Value Number = ℕ
 Value Small = ℕ
 
--- the text spells the value in the form; words are in lower case, and a small number is at most 255
+-- the text spells the value in the form: of ciphers and authentications only the offered ones,
+-- and a small number is at most 255
 abbrev pub Spelled : (form : Form) → List ℕ → Value form → Type 0
 Spelled CipherWord text c = (text ≡ cipher_word c) × Contains file_ciphers c
 Spelled DirWord text d = text ≡ dir_word d
@@ -55,10 +56,13 @@ HasForm form text = (v : Value form) × Spelled form text v
 
 -- ---- lines
 
--- the forms of the fields of a job line, in their order
+-- the forms of the 14 fields of a job line:
+-- cipher, direction, order; key, initialization vector; offset and length of the cipher range;
+-- authentication, its key, additional data; offset and length of the hash range; length of the tag; packet
 abbrev pub forms : List Form
 forms =
-    CipherWord ∷ DirWord ∷ OrderWord ∷ Hex ∷ Hex ∷ Number ∷ Number ∷ AuthWord ∷ Hex ∷ Hex ∷ Number ∷ Number ∷ Small ∷ Hex ∷ []
+    CipherWord ∷ DirWord ∷ OrderWord ∷ Hex ∷ Hex ∷ Number ∷ Number
+    ∷ AuthWord ∷ Hex ∷ Hex ∷ Number ∷ Number ∷ Small ∷ Hex ∷ []
 
 -- a value for each form
 abbrev pub Values : List Form → Type 0
@@ -67,10 +71,9 @@ Values (form ∷ rest) = Value form × Values rest
 
 -- the fields of a job, in the order of the line
 abbrev pub values : Job → Values forms
-values j =
-    (j.cipher, (j.dir, (j.order, (j.key, (j.iv, (j.cipher_off, (j.cipher_len, (j.auth, (j.auth_key, (j.aad, (j.hash_off, (j.hash_len, (j.tag_len, (j.packet, tt))))))))))))))
+values j = (j.cipher, (j.dir, (j.order, (j.key, (j.iv, (j.cipher_off, (j.cipher_len, (j.auth, (j.auth_key, (j.aad, (j.hash_off, (j.hash_len, (j.tag_len, (j.packet, tt))))))))))))))
 
--- there is a text for each form, and each spells its value
+-- there are as many texts as forms, and each spells its value
 abbrev pub SpellsFields : (fs : List Form) → List (List ℕ) → Values fs → Type 0
 SpellsFields [] [] vs = Unit {0}
 SpellsFields [] (text ∷ texts) vs = ⊥
@@ -85,14 +88,15 @@ fields_of line = cut space line
 abbrev pub Spells : List ℕ → Job → Type 0
 Spells line j = SpellsFields forms (fields_of line) (values j)
 
--- the first of the texts that isn't of its form has number f, where the first of all has number n
+-- the first of the texts that isn't of its form has number f, where they are numbered from n on
 abbrev pub IsFirstBad : ℕ → List Form → List (List ℕ) → ℕ → Type 0
 IsFirstBad n [] texts f = ⊥
 IsFirstBad n (form ∷ rest) [] f = ⊥
 IsFirstBad n (form ∷ rest) (text ∷ texts) f =
     ((f ≡ n) × ¬ (HasForm form text)) ⊎ (HasForm form text × IsFirstBad (n + 1) rest texts f)
 
--- the line spells no job, and its fault is field f: 0 where it has another number of fields, else the number of the first field that isn't of its form
+-- the line spells no job, and its fault is field f: 0 where it hasn't 14 fields,
+-- else the number of the first one that isn't of its form
 abbrev pub IsBadLine : List ℕ → ℕ → Type 0
 IsBadLine line f =
     ((f ≡ 0) × (length (fields_of line) ≢ length forms))
@@ -100,7 +104,7 @@ IsBadLine line f =
 
 -- ---- the same with the fields by their names
 
--- the line spells the job: each of its fourteen fields, the one after the other
+-- the line has these fourteen fields, and each spells that of the job
 pub record SpellsByName (line : List ℕ) (j : Job) : Type 0 where
   pub cipher : List ℕ
   pub dir : List ℕ
@@ -116,7 +120,8 @@ pub record SpellsByName (line : List ℕ) (j : Job) : Type 0 where
   pub hash_len : List ℕ
   pub tag_len : List ℕ
   pub packet : List ℕ
-  pub fields : fields_of line ≡ cipher ∷ dir ∷ order ∷ key ∷ iv ∷ cipher_off ∷ cipher_len ∷ auth ∷ auth_key ∷ aad ∷ hash_off ∷ hash_len ∷ tag_len ∷ packet ∷ []
+  pub fields : fields_of line ≡ cipher ∷ dir ∷ order ∷ key ∷ iv ∷ cipher_off ∷ cipher_len
+      ∷ auth ∷ auth_key ∷ aad ∷ hash_off ∷ hash_len ∷ tag_len ∷ packet ∷ []
   pub cipher_is : (cipher ≡ cipher_word j.cipher) × Contains file_ciphers j.cipher
   pub dir_is : dir ≡ dir_word j.dir
   pub order_is : order ≡ order_word j.order

@@ -6,25 +6,60 @@ ghost use Rattle.mbj_text.specs.File.{Reads, Bad, Over, Answers, IsOkOnly, IsErr
 
 use crate::fault::TextFault;
 use crate::job::read_job;
+use crate::job_lines::JobLines;
 use crate::limits::{INPUT_LIMIT, JOB_LIMIT};
-use crate::lines::JobLines;
 use mbj_types::Job;
 use std::alloc::Global;
 
-/// The jobs of a file of at most `INPUT_LIMIT` bytes.
+/// Reads a job file of at most `INPUT_LIMIT` bytes: its jobs, in the order of their lines.
+///
+/// The file is cut into lines at each LF. A last part that isn't empty is a line too, and one CR at a
+/// line's end is dropped. A line that is then empty, or begins with `#`, is skipped. Each other line is
+/// a job line: 14 fields, parted by single spaces.
+///
+/// | No | Field | Form |
+/// |---|---|---|
+/// | 1 | cipher | the word of an offered cipher |
+/// | 2 | direction | `enc`, `dec` |
+/// | 3 | order | `ch` (cipher, then hash), `hc` (hash, then cipher) |
+/// | 4, 5 | key, initialization vector | bytes |
+/// | 6, 7 | offset and length of the cipher range | number |
+/// | 8 | authentication | the word of an offered authentication |
+/// | 9, 10 | key of the authentication, additional data | bytes |
+/// | 11, 12 | offset and length of the hash range | number |
+/// | 13 | length of the tag | number, at most 255 |
+/// | 14 | packet | bytes |
+///
+/// Bytes are `-` for none, or two hexadecimal digits of either case for each. A number has 1 to 5
+/// digits, the first of them not `0` unless it is the only one. `specs/Words.antt` has all words, and
+/// which of them are offered.
+///
+/// It answers `Line` at the first job line that isn't so, `Limit` at the job line behind `JOB_LIMIT`
+/// good ones, whatever it says, and `Memory` where there isn't memory enough.
 pub fn read_file(alloc: Global, bytes: &[u8]) -> Result<Vec<Job>, TextFault>
     requires { length bytes.now ≤ INPUT_LIMIT }
+
+    // Each answer but `Memory` is right.
     ensures reads { IfOk result (λ v. Reads bytes.now v.items) }
-    ensures bad { (line field : ℕ) → result ≡ Err (TextFault.Line line field) → Bad bytes.now line field }
+    ensures bad { (line field : ℕ) → result ≡ Err (TextFault.Line line field)
+        → Bad bytes.now line field }
     ensures over { (line : ℕ) → result ≡ Err (TextFault.Limit line) → Over bytes.now line }
-    ensures only_reads { (jobs : List Job) → Reads bytes.now jobs → IsOkOnly result (λ v. v.items ≡ jobs) }
-    ensures only_bad { (line field : ℕ) → Bad bytes.now line field → IsErrOnly result (TextFault.Line line field) }
-    ensures only_over { (line : ℕ) → Over bytes.now line → IsErrOnly result (TextFault.Limit line) }
+
+    // What is right is answered, unless there isn't memory enough.
+    ensures only_reads { (jobs : List Job) → Reads bytes.now jobs
+        → IsOkOnly result (λ v. v.items ≡ jobs) }
+    ensures only_bad { (line field : ℕ) → Bad bytes.now line field
+        → IsErrOnly result (TextFault.Line line field) }
+    ensures only_over { (line : ℕ) → Over bytes.now line
+        → IsErrOnly result (TextFault.Limit line) }
+
+    // A file names no other ciphers and authentications than those that are offered.
     ensures offered { IfOk result (λ v. All IsOffered v.items) }
 {
     jobs_of(alloc, bytes)
 }
 
+/// The jobs of a file, line after line.
 fn jobs_of(alloc: Global, bytes: &[u8]) -> Result<Vec<Job>, TextFault>
     requires { length bytes.now ≤ INPUT_LIMIT }
     ensures { Answers bytes.now result }
@@ -42,7 +77,8 @@ fn jobs_of(alloc: Global, bytes: &[u8]) -> Result<Vec<Job>, TextFault>
     Ok(jobs)
 }
 
-/// Each file spells jobs, or has a first bad line, or has too many job lines: exactly one, and in one way.
+/// Each file spells jobs, or has a first bad line, or has too many job lines: exactly one of these,
+/// and in one way.
 pub fn each_file_is_one()
     ensures one { EachFileIsOne }
     ensures reads { ReadsIsUnique }

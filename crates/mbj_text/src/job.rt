@@ -3,20 +3,20 @@ ghost use Rattle.mbj_text.specs.Reading.{ReadsNext, Gives, at_start, job_of};
 
 use crate::fault::LineFault;
 use crate::field::Field;
-use crate::parts::{Parts, count_parts};
+use crate::split::Split;
 use mbj_types::Job;
 use std::alloc::Global;
 use std::marker::Model;
 
 /// How many fields a job line has.
-const FIELDS: u32 = 14;
+const FIELDS: usize = 14;
 
 /// The fields of a job line, read from left to right.
 #[derive(Drop)]
 struct Fields<'a> {
     alloc: Global,
     taken: u32,
-    left: Parts<'a>,
+    left: Split<'a>,
 }
 
 impl<'a> Model for Fields<'a> {
@@ -34,7 +34,7 @@ impl<'a> Fields<'a> {
         Fields {
             alloc,
             taken: 0,
-            left: Parts::of(line, b' '),
+            left: Split::new(line, b' '),
         }
     }
 
@@ -53,11 +53,11 @@ impl<'a> Fields<'a> {
 }
 
 /// The job that a line spells, or the field that is the line's fault.
-#[tactic(auto, unfolding(crate::specs::Reading::job_of))]
+#[tactic(auto, using(crate::proofs::Cutting::cut_bound), unfolding(crate::specs::Reading::job_of))]
 pub(crate) fn read_job(alloc: Global, line: &[u8]) -> Result<Job, LineFault>
     ensures { Gives result (job_of line.now) }
 {
-    if count_parts(line, b' ') != FIELDS as usize {
+    if Split::new(line, b' ').count() != FIELDS {
         return Err(LineFault::Field(0));
     }
     let mut fields = Fields::of(alloc, line);

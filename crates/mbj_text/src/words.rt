@@ -1,6 +1,6 @@
-ghost use Rattle.std.specs.Prelude.{◌≡◌, option_map, find};
+ghost use Rattle.std.specs.Prelude.{◌≡◌, map, find, option_map};
 ghost use Rattle.std.specs.Str.{bytes_eq};
-ghost use Rattle.mbj_text.specs.Reading.{cipher_of, dir_of, order_of, auth_of};
+ghost use Rattle.mbj_text.specs.Reading.{lookup, cipher_of, dir_of, order_of, auth_of};
 
 use crate::field::Field;
 use mbj_types::{Auth, Cipher, Dir, Order};
@@ -50,7 +50,14 @@ impl Field for Auth {
 
 /// The value in the first row whose word is the text.
 fn lookup<T: Copy>(rows: &[(&[u8], T)], text: &[u8]) -> Option<T>
-    ensures { result ≡ option_map (λ row. row.1) (find (λ row. bytes_eq row.0.now text.now) rows.now) }
+    ensures { result ≡ lookup (map (λ row. (row.0.now, row.1)) rows.now) text.now }
+{
+    find_value(rows, text)
+}
+
+fn find_value<T: Copy>(rows: &[(&[u8], T)], text: &[u8]) -> Option<T>
+    ensures { result ≡ option_map (λ row. row.1)
+        (find (λ row. bytes_eq row.0.now text.now) rows.now) }
 {
     rows.iter().find(|row| row.0 == text).map(|row| row.1)
 }

@@ -5,9 +5,9 @@ use Rattle.std.proofs.KnownBytes.{Appends-nil}
 use Rattle.mbj_types.specs.declared.job.Job.{Job}
 use Rattle.mbj_types.specs.declared.done.Done.{Done}
 use Rattle.mbj_types.specs.Result.{result_of}
-use Rattle.mbj_line.specs.Flow.{Flows, GainsPrefix}
-use Rattle.mbj_line.specs.Done.{done_line, text_from}
-use Rattle.mbj_line.proofs.Flows.{flows_then, gains_then, gains_more}
+use Rattle.mbj_text.specs.Flow.{Flows, GainsPrefix}
+use Rattle.mbj_text.specs.Line.{done_line, text_from}
+use Rattle.mbj_text.proofs.Flows.{flows_then, gains_then, gains_more}
 use Rattle.mbjobs.specs.Outcome.{result_text}
 
 -- what holds of all holds of the first and of the others

@@ -4,8 +4,8 @@ use Rattle.std.specs.Io.KnownBytes.{Appends}
 use Rattle.mbj_types.specs.declared.job.Job.{Job}
 use Rattle.mbj_types.specs.Result.{result_of}
 use Rattle.mbj_io.specs.Faults.{Rose}
-use Rattle.mbj_line.specs.Flow.{GainsPrefix}
-use Rattle.mbj_line.specs.Done.{text}
+use Rattle.mbj_text.specs.Flow.{GainsPrefix}
+use Rattle.mbj_text.specs.Line.{text}
 use Rattle.mbj_text.specs.File.{Reads, Bad, Over}
 use Rattle.mbjobs.specs.Reading.{ReadsAll, ReadsTooMuch}
 use Rattle.mbjobs.specs.Message.{message_of}

@@ -1,10 +1,10 @@
-ghost use Rattle.mbj_line.specs.Line.{line_of};
+ghost use Rattle.mbj_text.specs.Line.{line_of};
 ghost use Rattle.mbjobs.specs.Message.{message_of};
 ghost use Rattle.mbjobs.specs.Outcome.{Gains, stream};
 
 use crate::cause::Cause;
 use mbj_io::Sink;
-use mbj_line::{Part, write_line};
+use mbj_text::{Part, write_line};
 
 /// Writes a line. A fault of the sink is passed over.
 fn tell<E: Sink>(err: &mut E, parts: &[Part])

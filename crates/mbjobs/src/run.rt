@@ -2,7 +2,7 @@ ghost use Rattle.std.specs.Prelude.{◌≡◌, ◌≢◌, ◌≤◌, All, Err, I
 ghost use Rattle.std.specs.Io.KnownBytes.{Appends};
 ghost use Rattle.mbj_io.specs.Faults.{Rose};
 ghost use Rattle.mbj_text.specs.Words.{IsOffered};
-ghost use Rattle.mbj_line.specs.Flow.{GainsPrefix};
+ghost use Rattle.mbj_text.specs.Flow.{GainsPrefix};
 ghost use Rattle.mbj_text.specs.declared.limits.TheConstants.{JOB_LIMIT};
 ghost use Rattle.mbjobs.specs.Outcome.{IsUntouched, RunsWhole, Stands, result_text, stream};
 
@@ -10,8 +10,7 @@ use crate::cause::Cause;
 use crate::job::do_job;
 use crate::reading::{ReadFault, read_all};
 use mbj_io::{Failed, Sink, Source};
-use mbj_line::write_done;
-use mbj_text::{TextFault, read_file};
+use mbj_text::{TextFault, read_file, write_done};
 use mbj_types::Job;
 use std::alloc::Global;
 

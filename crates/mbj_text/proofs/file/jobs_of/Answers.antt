@@ -1,5 +1,5 @@
 -- One more good line, and a line with a fault.
-use Rattle.std.proofs.Common.{◌≡◌, ◌≢◌, ◌∷◌, length, arith, rules, vec_len}
+use Rattle.std.proofs.Common.{◌≡◌, ◌≢◌, length, arith, rules, vec_len}
 use Rattle.mbj_text.specs.declared.limits.TheConstants.{JOB_LIMIT}
 use Rattle.mbj_text.proofs.LineLaws.{job_read}
 use Rattle.mbj_text.proofs.FileLaws.{one_more, stops}

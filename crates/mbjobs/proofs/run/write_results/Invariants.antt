@@ -2,8 +2,8 @@ use Rattle.std.proofs.Common.{◌≡◌, ◌≤◌, ◌+◌, length, map, All}
 use Rattle.std.specs.Vec.Iter.{into_iter_items, into_iter_len}
 use Rattle.mbj_types.specs.Result.{result_of}
 use Rattle.mbj_text.specs.Words.{IsOffered}
-use Rattle.mbj_line.specs.Flow.{Flows}
-use Rattle.mbj_line.specs.Done.{text_from}
+use Rattle.mbj_text.specs.Flow.{Flows}
+use Rattle.mbj_text.specs.Line.{text_from}
 use Rattle.mbjobs.specs.Outcome.{result_text}
 use Rattle.mbjobs.proofs.run.write_results.Given as goal
 

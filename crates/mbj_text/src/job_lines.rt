@@ -1,0 +1,82 @@
+ghost use Rattle.std.specs.Prelude.{◌≡◌, ◌≤◌, length, option_map};
+ghost use Rattle.std.specs.Str.Lines.{strip_carriage_return};
+ghost use Rattle.std.specs.Iterator.{YieldsFirstBy, item_count};
+ghost use Rattle.mbj_text.specs.Cut.{is_skipped, job_lines};
+ghost use Rattle.mbj_text.specs.declared.limits.TheConstants.{INPUT_LIMIT};
+
+use crate::limits::INPUT_LIMIT;
+use crate::split::Split;
+use std::marker::Model;
+
+/// The job lines of a file that are left, each with its number in the file.
+#[derive(Drop)]
+pub(crate) struct JobLines<'a> {
+    /// How many lines were taken, job lines and others.
+    taken: u32,
+    left: Split<'a>,
+}
+
+impl<'a> Model for JobLines<'a> {
+    ghost use Rattle.std.specs.Prelude.{List, ◌+◌, ◌<◌, ◌^◌, length};
+    ghost use Rattle.mbj_text.specs.Cut.{Numbered, job_lines_from};
+
+    ghost Value = { List Numbered };
+
+    ghost view = { λ l. job_lines_from (l.taken + 1) l.left };
+
+    ghost invariant = { λ l. l.taken + length l.left < 2 ^ 32 };
+}
+
+impl<'a> JobLines<'a> {
+    /// All job lines of the file.
+    #[tactic(auto, using(crate::proofs::LineLemmas::skip_empty_end, crate::proofs::Cutting::cut_bound))]
+    pub(crate) fn of(bytes: &'a [u8]) -> JobLines<'a>
+        requires { length bytes.now ≤ INPUT_LIMIT }
+        ensures { result ≡ job_lines bytes.now }
+    {
+        JobLines {
+            taken: 0,
+            left: Split::new(bytes, b'\n'),
+        }
+    }
+}
+
+impl<'a> Iterator for JobLines<'a> {
+    type Item = (u32, &'a [u8]);
+
+    ghost next_gives = { YieldsFirstBy (λ line. (line.0, line.1.now)) (λ left. left) };
+
+    ghost remaining = { item_count (λ left. left) };
+
+    #[tactic(auto, using(crate::proofs::LineLemmas::none_left, crate::proofs::LineLemmas::keep, crate::proofs::LineLemmas::skip))]
+    fn next(&mut self) -> Option<(u32, &'a [u8])> {
+        while let Some(text) = self.left.next() {
+            self.taken += 1;
+            let line = without_return(text);
+            if !is_skipped(line) {
+                return Some((self.taken, line));
+            }
+        }
+        None
+    }
+}
+
+/// The line without one CR at its end.
+fn without_return(line: &[u8]) -> &[u8]
+    ensures { result.now ≡ strip_carriage_return line.now }
+{
+    match line {
+        [front @ .., b'\r'] => front,
+        _ => line,
+    }
+}
+
+/// Whether a line is empty or begins with `#`.
+fn is_skipped(line: &[u8]) -> bool
+    ensures { result ≡ is_skipped line.now }
+{
+    match line {
+        [] => true,
+        [first, ..] => *first == b'#',
+    }
+}
