@@ -24,6 +24,7 @@ pub record SoFar (bytes : List ℕ) (left : List Numbered) (jobs : List Job) : T
   pub good : SpellAll before jobs
   pub count : length jobs ≤ JOB_LIMIT
 
+-- no line is read yet
 pub at_start : (bytes : List ℕ) → SoFar bytes (job_lines bytes) []
 at_start bytes = record { before = []; lines = refl; good = tt; count = omega arith }
 
@@ -79,9 +80,11 @@ next_is_over bytes left rest jobs n text s next full = record {
 
 -- ---- the three relations exclude one another: each is told by what this function gives
 
+-- jobs, or a fault
 abbrev Outcome : Type 0
 Outcome = Result (List Job) TextFault
 
+-- a line's job comes to those before, and a line's fault ends it
 abbrev after_line : List Job → Result Job ℕ → ℕ → (List Job → Outcome) → Outcome
 after_line before (Ok job) n next = next (before ++ job ∷ [])
 after_line before (Err f) n next = Err (text_fault.Line n f)
@@ -92,9 +95,11 @@ outcome before [] = Ok before
 outcome before (first ∷ rest) =
     cond (length before == JOB_LIMIT) (Err (text_fault.Limit first.0)) (after_line before (job_of first.1) first.0 (λ jobs. outcome jobs rest))
 
+-- the first line, given the test of the limit and what the line is read as
 abbrev step : List Job → Bool → Result Job ℕ → ℕ → List Numbered → Outcome
 step before full read n rest = cond full (Err (text_fault.Limit n)) (after_line before read n (λ jobs. outcome jobs rest))
 
+-- a step is what the outcome does first
 one : (before : List Job) (p : Numbered) (rest : List Numbered) → outcome before (p ∷ rest) ≡ step before (length before == JOB_LIMIT) (job_of p.1) p.0 rest
 unfolding outcome
 one before p rest = refl
@@ -112,11 +117,13 @@ good_front before (p ∷ ps) (j ∷ js) rest (s, more) le =
     ∙ good_front (before ++ j ∷ []) ps js rest more (omega (arith, le, length-append before (j ∷ [])))
     ∙ ap (λ (l : List Job). outcome l rest) (append_assoc before (j ∷ []) js)
 
+-- a good file gives its jobs
 reads_gives : (bytes : List ℕ) (jobs : List Job) → Reads bytes jobs → outcome [] (job_lines bytes) ≡ Ok jobs
 unfolding outcome
 reads_gives bytes jobs r =
     ap (outcome []) (sym (append-nil (job_lines bytes))) ∙ good_front [] (job_lines bytes) jobs [] r.each (omega (arith, r.count))
 
+-- a bad file gives its fault
 bad_gives : (bytes : List ℕ) (line f : ℕ) → Bad bytes line f → outcome [] (job_lines bytes) ≡ Err (text_fault.Line line f)
 bad_gives bytes line f b =
     ap (outcome []) b.lines
@@ -125,6 +132,7 @@ bad_gives bytes line f b =
     ∙ ap (λ c. step b.jobs c (job_of b.text) line b.after) (ne_eqb (length b.jobs) JOB_LIMIT (λ full. omega (arith, full, b.count)))
     ∙ ap (λ r. step b.jobs false r line b.after) (fault_back b.text f b.bad)
 
+-- a file that is too long gives the limit
 over_gives : (bytes : List ℕ) (line : ℕ) → Over bytes line → outcome [] (job_lines bytes) ≡ Err (text_fault.Limit line)
 over_gives bytes line o =
     ap (outcome []) o.lines
@@ -132,18 +140,23 @@ over_gives bytes line o =
     ∙ one o.jobs (line, o.text) o.after
     ∙ ap (λ c. step o.jobs c (job_of o.text) line o.after) (eq-eqb (length o.jobs) JOB_LIMIT o.count)
 
+-- a good file isn't bad
 pub reads_not_bad : (bytes : List ℕ) (jobs : List Job) (line f : ℕ) → Reads bytes jobs → Bad bytes line f → ⊥
 reads_not_bad bytes jobs line f a b = let both = sym (reads_gives bytes jobs a) ∙ bad_gives bytes line f b in cc
 
+-- a good file isn't too long
 pub reads_not_over : (bytes : List ℕ) (jobs : List Job) (line : ℕ) → Reads bytes jobs → Over bytes line → ⊥
 reads_not_over bytes jobs line a b = let both = sym (reads_gives bytes jobs a) ∙ over_gives bytes line b in cc
 
+-- a bad file isn't too long
 pub bad_not_over : (bytes : List ℕ) (line f at : ℕ) → Bad bytes line f → Over bytes at → ⊥
 bad_not_over bytes line f at a b = let both = sym (bad_gives bytes line f a) ∙ over_gives bytes at b in cc
 
+-- it spells one list of jobs
 pub reads_once : ReadsIsUnique
 reads_once bytes jobs others a b = let both = sym (reads_gives bytes jobs a) ∙ reads_gives bytes others b in cc
 
+-- it has one first fault
 pub bad_once : BadIsUnique
 bad_once bytes line field line' field' a b =
     let both = sym (bad_gives bytes line field a) ∙ bad_gives bytes line' field' b in
@@ -152,15 +165,17 @@ bad_once bytes line field line' field' a b =
     let fields : field ≡ field' = cc in
     (lines, fields)
 
+-- it has one line that is one too many
 pub over_once : OverIsUnique
 over_once bytes line line' a b = let both = sym (over_gives bytes line a) ∙ over_gives bytes line' b in cc
 
 -- ---- one of the three holds
 
--- from the lines that are left on
+-- what a file is
 abbrev Fate : List ℕ → Type 0
 Fate bytes = ((jobs : List Job) × Reads bytes jobs) ⊎ (((line : ℕ) × (field : ℕ) × Bad bytes line field) ⊎ ((line : ℕ) × Over bytes line))
 
+-- reading on from the lines that are left tells
 fate_from : (bytes : List ℕ) (left : List Numbered) (jobs : List Job) → SoFar bytes left jobs → Fate bytes
 fate_from bytes [] jobs s = inl (jobs, all_read bytes [] jobs s refl)
 fate_from bytes ((n, text) ∷ rest) jobs s = elim (eqb_tells (length jobs) JOB_LIMIT) [
@@ -171,6 +186,7 @@ fate_from bytes ((n, text) ∷ rest) jobs s = elim (eqb_tells (length jobs) JOB_
   ]
 ]
 
+-- and the other two don't hold
 pub one_of_three : EachFileIsOne
 one_of_three bytes = elim (fate_from bytes (job_lines bytes) [] (at_start bytes)) [
   | inl r ↦ inl (r, λ b. reads_not_bad bytes r.0 b.0 b.1 r.1 b.2, λ o. reads_not_over bytes r.0 o.0 r.1 o.1)

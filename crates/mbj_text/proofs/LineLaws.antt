@@ -90,23 +90,27 @@ spelled_count (form ∷ rest) (t ∷ ts) vs s = ap suc (spelled_count rest ts vs
 
 -- ---- the line
 
+-- what a line is read as, given the test of its number of fields
 abbrev counted : Bool → List ℕ → Result Job ℕ
 counted b line = cond b (fields_from forms (at_start line) (λ vs. Ok (job_with vs))) (Err 0)
 
+-- a line with 14 fields is read field by field
 right_count : (line : List ℕ) → length (fields_of line) ≡ length forms → job_of line ≡ fields_from forms (at_start line) (λ vs. Ok (job_with vs))
 unfolding job_of
 right_count line h = ap (λ b. counted b line) (eq-eqb (length (fields_of line)) (length forms) h)
 
+-- and another isn't
 wrong_count : (line : List ℕ) → length (fields_of line) ≢ length forms → job_of line ≡ Err 0
 unfolding job_of
 wrong_count line h = ap (λ b. counted b line) (ne_eqb (length (fields_of line)) (length forms) h)
 
--- what is spelled is read, and a fault is found
+-- what is spelled is read
 pub job_back : (line : List ℕ) (j : Job) → Spells line j → job_of line ≡ Ok j
 job_back line j s =
     right_count line (spelled_count forms (fields_of line) (values j) s)
     ∙ fields_back 0 forms (fields_of line) (values j) (λ vs. Ok (job_with vs)) s
 
+-- a fault is found
 pub fault_back : (line : List ℕ) (f : ℕ) → IsBadLine line f → job_of line ≡ Err f
 fault_back line f (inl count) = wrong_count line count.1 ∙ ap (λ (n : ℕ). Err n) (sym count.0)
 fault_back line f (inr (count, bad)) = right_count line count ∙ first_bad_back 0 forms (fields_of line) f (λ vs. Ok (job_with vs)) bad
@@ -121,7 +125,7 @@ line_total line = elim (eqb_tells (length (fields_of line)) (length forms)) [
   | inr other ↦ inr (0, inl (refl, other.1))
 ]
 
--- what is read is spelled, and a fault that is found is one
+-- what is read is spelled
 pub job_read : (line : List ℕ) (j : Job) → job_of line ≡ Ok j → Spells line j
 job_read line j h = elim (line_total line) [
   | inl good ↦
@@ -131,6 +135,7 @@ job_read line j h = elim (line_total line) [
   | inr bad ↦ let both = sym (fault_back line bad.0 bad.1) ∙ h in cc
 ]
 
+-- a fault that is found is one
 pub fault_read : (line : List ℕ) (f : ℕ) → job_of line ≡ Err f → IsBadLine line f
 fault_read line f h = elim (line_total line) [
   | inl good ↦ let both = sym (job_back line good.0 good.1) ∙ h in cc

@@ -12,14 +12,17 @@ record Next (form : Form) (rest : List Form) (texts : List (List ℕ)) (v : Valu
   is : Spelled form text v
   more : SpellsFields rest left vs
 
+-- there is a first field
 next : (form : Form) (rest : List Form) (texts : List (List ℕ)) (v : Value form) (vs : Values rest) → SpellsFields (form ∷ rest) texts (v, vs) → Next form rest texts v vs
 next form rest [] v vs s = absurd s
 next form rest (t ∷ ts) v vs s = record { text = t; left = ts; cut_so = refl; is = s.0; more = s.1 }
 
+-- there is no field more
 ended : (texts : List (List ℕ)) → SpellsFields [] texts tt → texts ≡ []
 ended [] s = refl
 ended (t ∷ ts) s = absurd s
 
+-- from the table to the names
 pub by_name : (line : List ℕ) (j : Job) → Spells line j → SpellsByName line j
 by_name line j s =
     let f1 = next CipherWord (drop 1 forms) (fields_of line) j.cipher (values j).1 s in
@@ -68,10 +71,12 @@ by_name line j s =
       packet_is = f14.is;
     }
 
+-- from the names to the table
 by_table : (line : List ℕ) (j : Job) → SpellsByName line j → Spells line j
 by_table line j n =
     let P : List (List ℕ) → Type 0 = λ texts. SpellsFields forms texts (values j) in
     subst P (sym n.fields) (n.cipher_is, (n.dir_is, (n.order_is, (n.key_is, (n.iv_is, (n.cipher_off_is, (n.cipher_len_is, (n.auth_is, (n.auth_key_is, (n.aad_is, (n.hash_off_is, (n.hash_len_is, (n.tag_len_is, (n.packet_is, tt))))))))))))))
 
+-- both ways
 pub same : TableAndNamesAgree
 same line j = (by_name line j, by_table line j)

@@ -17,6 +17,7 @@ use Rattle.mbj_text.specs.Reading.{bytes_of, number_of, small_of, digits_after, 
 
 -- ---- bytes
 
+-- bytes that are read are spelled
 pub bytes_read : (t bytes : List ℕ) → bytes_of t ≡ Some bytes → SpellsBytes t bytes
 bytes_read t bytes h = go (bytes_eq t (codes "-")) (length t == 0) (decode_of t) refl (bytes_eq-Decides t (codes "-")).0 (λ e. omega (arith, eqb-false (length t) 0 e)) h
   where
@@ -27,6 +28,7 @@ bytes_read t bytes h = go (bytes_eq t (codes "-")) (length t == 0) (decode_of t)
     go false false (Ok bs) e p q h = let same : bs ≡ bytes = cc in inr (q refl, e ∙ ap (λ (l : List ℕ). Ok l) same)
     go false false (Err x) e p q h = cc
 
+-- bytes that are spelled are read
 pub bytes_back : (t bytes : List ℕ) → SpellsBytes t bytes → bytes_of t ≡ Some bytes
 bytes_back t bytes (inl bar) = ap bytes_of bar.0 ∙ ap (λ (l : List ℕ). Some l) (sym bar.1)
 bytes_back t bytes (inr hex) = go (bytes_eq t (codes "-")) (length t == 0) (bytes_eq-Decides t (codes "-")).0 (λ e. omega (arith, eqb-true (length t) 0 e, hex.0))
@@ -43,9 +45,11 @@ abbrev pub value_after : ℕ → List ℕ → ℕ
 value_after n [] = n
 value_after n (x ∷ xs) = value_after (n * 10 + (x - 48)) xs
 
+-- these are digits and their value
 own : IsNumeralModel (λ ds. all_ascii_digits ds ≡ true) (value_after 0)
 own = numerals_by_fold _ (search rules) value_after (search rules)
 
+-- the reader of digits gives their value, and nothing at another byte
 digits_are : (n : ℕ) (xs : List ℕ) → digits_after n xs ≡ cond (all_ascii_digits xs) (Some (value_after n xs)) None
 digits_are n [] = refl
 digits_are n (x ∷ xs) = elim (is_ascii_digit x) as (λ b. cond b (digits_after (n * 10 + (x - 48)) xs) None ≡ cond (b && all_ascii_digits xs) (Some (value_after (n * 10 + (x - 48)) xs)) None) [
@@ -57,9 +61,11 @@ digits_are n (x ∷ xs) = elim (is_ascii_digit x) as (λ b. cond b (digits_after
 sized : (t : List ℕ) → is_number_sized t ≡ true → (0 < length t) × (length t ≤ 5) × (slice_index t 0 ≡ 48 → length t ≤ 1)
 sized t h = grind (arith, nat_tests)
 
+-- and what it is told by
 is_sized : (t : List ℕ) → 0 < length t → length t ≤ 5 → (slice_index t 0 ≡ 48 → length t ≤ 1) → is_number_sized t ≡ true
 is_sized t a b c = grind (arith, nat_tests)
 
+-- a number that is read is spelled
 pub number_read : (t : List ℕ) (n : ℕ) → number_of t ≡ Some n → SpellsNumber t n
 number_read t n h = go (is_number_sized t) (all_ascii_digits t) refl refl (ap (λ o. cond (is_number_sized t) o None) (sym (digits_are 0 t)) ∙ h)
   where
@@ -73,6 +79,7 @@ number_read t n h = go (is_number_sized t) (all_ascii_digits t) refl refl (ap (�
         let spelled : decimal (value_after 0 t) ≡ t = decimal-digits_value own t q shape.0 (λ e. omega (arith, shape.2 e, shape.0)) (omega (arith, small)) in
         (sym spelled ∙ ap (λ (k : ℕ). decimal k) same, omega (arith, small, same))
 
+-- what decimal writes is read
 number_known : (n : ℕ) → n < 10 ^ 5 → number_of (decimal n) ≡ Some n
 number_known n h =
     let small : n < 2 ^ 64 = omega (arith, h) in
@@ -85,9 +92,11 @@ number_known n h =
     lead zero h e = length-decimal-le 1 0 (omega arith) (omega arith) h
     lead (suc n) h e = absurd (omega (arith, first_decimal (suc n) (omega arith) h, e))
 
+-- a number that is spelled is read
 pub number_back : (t : List ℕ) (n : ℕ) → SpellsNumber t n → number_of t ≡ Some n
 number_back t n s = ap number_of s.0 ∙ number_known n s.1
 
+-- a small number that is read is spelled
 pub small_read : (t : List ℕ) (n : ℕ) → small_of t ≡ Some n → SpellsNumber t n × (n ≤ 255)
 small_read t n h = go (number_of t) refl h
   where
@@ -102,6 +111,7 @@ small_read t n h = go (number_of t) refl h
     go None is q = cc
     go (Some m) is q = in_range m (nat_le m 255) refl is q
 
+-- a small number that is spelled is read
 pub small_back : (t : List ℕ) (n : ℕ) → SpellsNumber t n × (n ≤ 255) → small_of t ≡ Some n
 small_back t n s =
     let small : n ≤ 255 = s.1 in

@@ -62,6 +62,7 @@ module _ {A : Type 0} (word : A → List ℕ) where
   told_apart : (all : List A) → ((v : A) → lookup (rows_of word all) (word v) ≡ Some v) → (v w : A) → word v ≡ word w → v ≡ w
   told_apart all known v w same = let both = sym (known v) ∙ ap (lookup (rows_of word all)) same ∙ known w in cc
 
+-- lists of all values
 abbrev all_ciphers : List Cipher
 all_ciphers = cipher.Null ∷ cipher.Cbc ∷ cipher.Ctr ∷ cipher.Gcm ∷ []
 
@@ -69,6 +70,7 @@ abbrev all_auths : List Auth
 all_auths =
     auth.Null ∷ auth.HmacSha1 ∷ auth.HmacSha224 ∷ auth.HmacSha256 ∷ auth.HmacSha384 ∷ auth.HmacSha512 ∷ auth.Cmac128 ∷ auth.Cmac256 ∷ auth.Gcm ∷ []
 
+-- each word is found in the list of all
 cipher_known : (c : Cipher) → lookup (rows_of cipher_word all_ciphers) (cipher_word c) ≡ Some c
 unfolding lookup
 cipher_known cipher.Null = refl
@@ -76,6 +78,7 @@ cipher_known cipher.Cbc = refl
 cipher_known cipher.Ctr = refl
 cipher_known cipher.Gcm = refl
 
+-- the same of authentications
 auth_known : (a : Auth) → lookup (rows_of auth_word all_auths) (auth_word a) ≡ Some a
 unfolding lookup
 auth_known auth.Null = refl
@@ -88,30 +91,39 @@ auth_known auth.Cmac128 = refl
 auth_known auth.Cmac256 = refl
 auth_known auth.Gcm = refl
 
--- a word of each kind is read exactly as it is spelled
+-- ---- a word is read exactly where it is spelled
+
+-- what is read is spelled
 pub cipher_read : (t : List ℕ) (c : Cipher) → cipher_of t ≡ Some c → (t ≡ cipher_word c) × Contains file_ciphers c
 cipher_read t c h = lookup_finds cipher_word file_ciphers t c h
 
+-- what is spelled is read
 pub cipher_back : (t : List ℕ) (c : Cipher) → (t ≡ cipher_word c) × Contains file_ciphers c → cipher_of t ≡ Some c
 cipher_back t c s = ap cipher_of s.0 ∙ lookup_found cipher_word (told_apart cipher_word all_ciphers cipher_known) file_ciphers c s.1
 
+-- what is read is spelled
 pub auth_read : (t : List ℕ) (a : Auth) → auth_of t ≡ Some a → (t ≡ auth_word a) × Contains file_auths a
 auth_read t a h = lookup_finds auth_word file_auths t a h
 
+-- what is spelled is read
 pub auth_back : (t : List ℕ) (a : Auth) → (t ≡ auth_word a) × Contains file_auths a → auth_of t ≡ Some a
 auth_back t a s = ap auth_of s.0 ∙ lookup_found auth_word (told_apart auth_word all_auths auth_known) file_auths a s.1
 
+-- what is read is spelled
 pub dir_read : (t : List ℕ) (d : Dir) → dir_of t ≡ Some d → t ≡ dir_word d
 dir_read t d h = (lookup_finds dir_word (Enc ∷ Dec ∷ []) t d h).0
 
+-- what is spelled is read
 pub dir_back : (t : List ℕ) (d : Dir) → t ≡ dir_word d → dir_of t ≡ Some d
 unfolding lookup
 dir_back t Enc e = ap dir_of e
 dir_back t Dec e = ap dir_of e
 
+-- what is read is spelled
 pub order_read : (t : List ℕ) (o : Order) → order_of t ≡ Some o → t ≡ order_word o
 order_read t o h = (lookup_finds order_word (CipherHash ∷ HashCipher ∷ []) t o h).0
 
+-- what is spelled is read
 pub order_back : (t : List ℕ) (o : Order) → t ≡ order_word o → order_of t ≡ Some o
 unfolding lookup
 order_back t CipherHash e = ap order_of e

@@ -1,3 +1,4 @@
+-- The laws of files.
 use Rattle.mbj_text.proofs.FileLaws.{one_of_three, reads_once, bad_once, over_once}
 use Rattle.mbj_text.proofs.file.each_file_is_one.Goals as goal
 

@@ -1,3 +1,4 @@
+-- Each clause follows from the answer being right.
 use Rattle.mbj_text.proofs.AnswerLaws.{ok_reads, line_is_bad, limit_is_over, reads_only, bad_only, over_only, ok_offered}
 use Rattle.mbj_text.proofs.file.read_file.Goals as goal
 

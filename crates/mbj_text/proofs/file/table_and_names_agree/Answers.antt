@@ -1,3 +1,4 @@
+-- The table and the names say the same.
 use Rattle.mbj_text.proofs.Names.{same}
 use Rattle.mbj_text.proofs.file.table_and_names_agree.Goals as goal
 
