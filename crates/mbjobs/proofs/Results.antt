@@ -8,12 +8,11 @@ use Rattle.mbj_types.specs.declared.job.Order.{Order}
 use Rattle.mbj_types.specs.declared.job.Order.TheVariants.{CipherHash, HashCipher}
 use Rattle.mbj_types.specs.declared.job.Auth.{Auth}
 use Rattle.mbj_types.specs.declared.job.Auth.TheVariants.{Null, HmacSha1, HmacSha224, HmacSha256, HmacSha384, HmacSha512, Cmac128, Cmac256, Gcm}
-use Rattle.mbj_types.specs.declared.done.Done.{Done}
 use Rattle.mbj_types.specs.declared.done.Status.TheVariants as status
 use Rattle.mbj_types.specs.declared.reason.Reason.{Reason}
 use Rattle.mbj_types.specs.Verdict.{verdict}
 use Rattle.mbj_types.specs.Result.{ciphered, ciphered_by, tag_over, authenticated_in, authenticated_by, accepted, refused, result_of}
-use Rattle.mbj_text.specs.Words.{file_ciphers, IsOffered}
+use Rattle.mbj_text.specs.Words.{IsOffered}
 
 -- the result of a job that has a reason
 pub result_of-refused : (j : Job) (reason : Reason) → verdict j ≡ Some reason → result_of j ≡ refused j reason

@@ -1,5 +1,5 @@
 -- How a run ends over a source that tells its bytes.
-use Rattle.std.proofs.Common.{◌≡◌, ◌≢◌, ◌⊎◌, ◌∙◌, ◌+◌, ◌≤◌, ◌<◌, ◌++◌, ap, sym, subst, refl, inl, inr, ℕ, List, Option, None, Some, length, append-nil, length-append, arith}
+use Rattle.std.proofs.Common.{◌≡◌, ◌≢◌, ◌⊎◌, ◌∙◌, ◌≤◌, ◌<◌, ◌++◌, ap, sym, subst, refl, inl, inr, ℕ, List, Option, None, Some, length, append-nil, length-append, arith}
 use Rattle.mbj_types.specs.declared.job.Job.{Job}
 use Rattle.mbj_text.specs.declared.limits.TheConstants.{INPUT_LIMIT}
 use Rattle.mbj_text.specs.File.{Reads, Bad, Over}

@@ -1,5 +1,5 @@
 -- How a run ends, as its source and its sinks show.
-use Rattle.std.specs.Prelude.{◌≡◌, ◌⊎◌, ◌≤◌, ℕ, List, Option, map, length}
+use Rattle.std.specs.Prelude.{◌≡◌, ◌⊎◌, ℕ, List, Option, map}
 use Rattle.std.specs.Io.KnownBytes.{Appends}
 use Rattle.mbj_types.specs.declared.job.Job.{Job}
 use Rattle.mbj_types.specs.Result.{result_of}
@@ -8,7 +8,6 @@ use Rattle.mbj_text.specs.Flow.{GainsPrefix}
 use Rattle.mbj_text.specs.Line.{text}
 use Rattle.mbj_text.specs.File.{Reads, Bad, Over}
 use Rattle.mbjobs.specs.Reading.{ReadsAll, ReadsTooMuch}
-use Rattle.mbjobs.specs.Message.{message_of}
 use Rattle.mbjobs.specs.declared.cause.Cause.{Cause}
 use Rattle.mbjobs.specs.declared.cause.Cause.TheVariants as cause
 

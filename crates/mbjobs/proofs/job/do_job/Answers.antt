@@ -1,7 +1,6 @@
 use Rattle.std.proofs.Common.{◌∙◌, ap, sym, List, ℕ}
 use Rattle.mbj_types.specs.declared.job.Job.{Job}
 use Rattle.mbj_types.specs.declared.done.Status.TheVariants as status
-use Rattle.mbj_types.specs.declared.done.Done.{Done}
 use Rattle.mbjobs.proofs.Results.{result_of-refused, result_of-offered}
 use Rattle.mbjobs.proofs.job.do_job.Goals as goal
 

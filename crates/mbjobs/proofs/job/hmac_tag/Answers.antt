@@ -1,8 +1,8 @@
 use Rattle.std.proofs.Common.{◌≡◌, ◌∙◌, ◌+◌, ◌≤◌, List, ℕ, length, take, ap, sym, subst}
 use Rattle.std.specs.Prelude.{IfSome}
-use Rattle.mbj_args.proofs.Accepted.{IsAccepted, accepted}
+use Rattle.mbj_args.proofs.Accepted.{accepted}
 use Rattle.mbj_types.specs.declared.job.Job.{Job}
-use Rattle.mbj_types.specs.Hmac.{Hash, hmac, hash_of}
+use Rattle.mbj_types.specs.Hmac.{hmac, hash_of}
 use Rattle.mbj_types.specs.Result.{range, tag_over, mac_by, hash_range}
 use Rattle.mbjobs.proofs.HmacTags.{hmac_has_range, hmac_is_mac, tag_within_digest}
 use Rattle.mbjobs.proofs.job.hmac_tag.Goals as goal

@@ -1,4 +1,4 @@
-use Rattle.std.proofs.Common.{◌≡◌, ◌+◌, ◌∷◌, List, ℕ, All, ap, sym, subst, length, arith, refl, ◌∙◌}
+use Rattle.std.proofs.Common.{◌≡◌, List, ℕ, All, ap, sym, subst, length, arith, refl, ◌∙◌}
 use Rattle.std.specs.Vec.Iter.{into_iter_items}
 use Rattle.mbj_io.specs.Faults.{Rose}
 use Rattle.mbj_types.specs.declared.job.Job.{Job}

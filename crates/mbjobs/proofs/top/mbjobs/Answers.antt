@@ -1,7 +1,5 @@
 use Rattle.std.proofs.Common.{◌∙◌, ◌⊎◌, ◌≡◌, inl, inr, ℕ}
 use Rattle.mbjobs.specs.Outcome.{Stream, stream}
-use Rattle.mbjobs.specs.Message.{status_of}
-use Rattle.mbjobs.specs.declared.cause.Cause.{Cause}
 use Rattle.mbjobs.proofs.Told.{good_ends, bad_ends, bad_not_whole, over_ends, over_not_whole}
 use Rattle.mbjobs.proofs.top.mbjobs.Goals as goal
 
