@@ -12,11 +12,14 @@ use Rattle.mbj_ghash.proofs.Multiples.{times_power-add, multiple-append}
 use Rattle.mbj_ghash.proofs.Elements.{length-bits, bits-xor, times_x-even}
 
 -- ---- the product by x^4 of an element whose last digit is 0
+
+-- twice a number, times x
 times_x-twice : (u : ℕ) → u * 2 < 2 ^ 128 → times_x (bits 128 (u * 2)) ≡ bits 128 u
 times_x-twice u h =
     let half : u * 2 / 2 ≡ u = omega arith in
     sym (times_x-even (u * 2) h (omega arith)) ∙ ap (bits 128) half
 
+-- 16 times a number, times x^4
 times_x4-moved : (w : ℕ) → w * 16 < 2 ^ 128 → times_power 4 (bits 128 (w * 16)) ≡ bits 128 w
 times_x4-moved w h =
     let a : w * 16 ≡ w * 8 * 2 = omega arith in
@@ -28,10 +31,13 @@ times_x4-moved w h =
     ∙ times_x-twice w (omega arith)
 
 -- ---- the product by x^4 of the last digit: each of the 16, computed
+
+-- P at each number below n
 EachBelow : (ℕ → Type 0) → ℕ → Type 0
 EachBelow P zero = Unit {0}
 EachBelow P (suc n) = P n × EachBelow P n
 
+-- P at one of them
 at_each : (P : ℕ → Type 0) (n k : ℕ) → EachBelow P n → k < n → P k
 unfolding EachBelow
 at_each P zero k h l = absurd (omega arith)
@@ -40,6 +46,7 @@ at_each P (suc n) k h l = elim (cases_lt k n) [
   | inr not_below ↦ let e : k ≡ n = omega arith in rw e h.0
 ]
 
+-- each entry of the table
 reduction_is : (n : ℕ) → n < 16 → bits 128 (slice_index REDUCTIONS n) ≡ times_power 4 (bits 128 n)
 unfolding bits EachBelow
 reduction_is n h =
@@ -47,6 +54,8 @@ reduction_is n h =
     (refl, (refl, (refl, (refl, (refl, (refl, (refl, (refl, (refl, (refl, (refl, (refl, (refl, (refl, (refl, (refl, tt)))))))))))))))) h
 
 -- ---- the two together
+
+-- a number is its higher digits with the last one
 split_xor : (v : ℕ) → bit_xor (v / 16 * 16) (v % 16) ≡ v
 split_xor v =
     let n : v % 16 < 2 ^ 4 = omega arith in
@@ -55,6 +64,7 @@ split_xor v =
     ap₂ bit_xor a b ∙ xor_block 4 (v / 16) 0 0 (v % 16) (omega arith) n
     ∙ ap₂ (λ (x y : ℕ). x * 2 ^ 4 + y) (xor_comm (v / 16) 0 ∙ xor_zero_l (v / 16)) (xor_zero_l (v % 16)) ∙ omega arith
 
+-- any element, times x^4
 pub times_x4-number : (v : ℕ) → v < 2 ^ 128
     → bits 128 (bit_xor (v / 16) (slice_index REDUCTIONS (v % 16))) ≡ times_power 4 (bits 128 v)
 times_x4-number v h =
@@ -64,6 +74,8 @@ times_x4-number v h =
     ∙ ap (times_power 4) (sym (bits-xor 128 (v / 16 * 16) (v % 16)) ∙ ap (bits 128) (split_xor v))
 
 -- ---- one digit more, above those that are summed
+
+-- the higher n bits before the lower m bits
 bits-append : (n m v : ℕ) → bits (n + m) v ≡ bits n (v / 2 ^ m) ++ bits m v
 unfolding bits
 bits-append zero m v = let e : 0 + m ≡ m = omega arith in rw e refl
@@ -72,6 +84,7 @@ bits-append (suc n) m v =
     let f : v / 2 ^ (n + m) ≡ v / 2 ^ m / 2 ^ n = ap (λ (k : ℕ). v / 2 ^ k) (omega arith) ∙ sym (shr-shr v m n) in
     rw e (ap₂ (λ x xs. x ∷ xs) (ap (λ (x : ℕ). x % 2 == 1) f) (bits-append n m v))
 
+-- the 4 lowest bits are those of the last digit
 bits-digit : (w : ℕ) → bits 4 (w % 16) ≡ bits 4 w
 unfolding bits
 bits-digit w =
@@ -81,6 +94,7 @@ bits-digit w =
     let e : w % 16 / 1 % 2 ≡ w / 1 % 2 = omega arith in
     rw (a, b, d, e) refl
 
+-- the sum of the lower digits is moved up, and the multiple of the next digit added
 pub digit_next : (x i sum moved digit : ℕ) (v : List Bool) → length v ≡ 128
     → bits 128 sum ≡ multiple (bits (4 * i) x) v
     → bits 128 moved ≡ times_power 4 (bits 128 sum)
@@ -97,6 +111,8 @@ digit_next x i sum moved digit v l s m d =
     ∙ ap (λ p. multiple p v) (sym (ap (λ (n : ℕ). bits n x) e ∙ bits-append 4 (4 * i) x))
 
 -- ---- a table of multiples, one after another
+
+-- the multiple by k is written
 pub multiples_next : (table : List ℕ) (k entry d : ℕ) (v : List Bool) → length table ≡ 16 → k < 16
     → ((j : ℕ) → j < k → bits 128 (slice_index table j) ≡ multiple (bits 4 j) v)
     → bits 128 entry ≡ multiple (bits 4 k) v

@@ -10,6 +10,7 @@ ghash_from-last : (h y : List ℕ) (xs : List (List ℕ)) (x : List ℕ)
 ghash_from-last h y [] x = refl
 ghash_from-last h y (z ∷ xs) x = ghash_from-last h (block_product (xor_lists y z) h) xs x
 
+-- the state after the last block, from the one before it
 pub state_after-last : (old new : HashState) (h : List ℕ) (xs : List (List ℕ)) (x : List ℕ) → old ≡ state_after h xs
     → new ≡ record old { value = block_product (xor_lists old.value x) old.subkey }
     → new ≡ state_after h (xs ++ x ∷ [])

@@ -15,7 +15,8 @@ fn next_value(subkey: &Subkey, value: &[u8; 16], block: &[u8; 16]) -> [u8; 16]
 }
 
 /// A hash that takes one block after another. Contracts see it as a `HashState`: the hash subkey and the value so
-/// far, as lists of 16 bytes. It owns no memory.
+/// far, as lists of 16 bytes. It owns no memory. A table is looked up by the digits of what is hashed, so the time
+/// that a block takes may depend on it.
 #[derive(Drop)]
 pub struct Ghash {
     subkey: Subkey,

@@ -1,0 +1,66 @@
+//! The blocks of 16 bytes of a text, numbered from 0 on, of which the last may be shorter: reading one, putting one in
+//! its place, xoring one with a mask, and the step from block to block of CBC encryption. No call takes memory.
+#![tactic(auto)]
+
+ghost use Rattle.std.specs.Prelude.{◌≡◌, ◌+◌, ◌*◌, ◌<◌, ◌≤◌, length};
+ghost use Rattle.mbj_types.specs.Aes.{encipher};
+ghost use Rattle.mbj_types.specs.Blocks.{xor_lists, filled_block};
+ghost use Rattle.mbj_blocks.specs.Places.{block_of, with_block};
+
+use mbj_aes::{Schedule, xor_in_place};
+
+#[cfg(test)]
+mod tests;
+
+/// The bytes of a block.
+pub const BLOCK_BYTES: usize = 16;
+
+/// Block `i` of a text that has that block whole.
+pub fn block_at(text: &[u8], i: usize) -> [u8; 16]
+    requires { 16 * (i + 1) ≤ length text.now }
+    ensures { result ≡ block_of text.now i }
+{
+    let start = BLOCK_BYTES * i;
+    let mut block = [0; BLOCK_BYTES];
+    block.copy_from_slice(&text[start..start + BLOCK_BYTES]);
+    block
+}
+
+/// Puts `block` in the place of block `i` of a text that has that block whole.
+pub fn put_block(text: &mut [u8], i: usize, block: &[u8; 16])
+    requires { 16 * (i + 1) ≤ length text.old }
+    ensures { text.new ≡ with_block text.old i block.now }
+{
+    let start = BLOCK_BYTES * i;
+    text[start..start + BLOCK_BYTES].copy_from_slice(block);
+}
+
+/// Xors block `i` of a text with `mask`, of which the last block of the text takes as many bytes as it has.
+pub fn xor_block(text: &mut [u8], i: usize, mask: &[u8; 16])
+    requires { 16 * i < length text.old }
+    ensures { text.new ≡ with_block text.old i (xor_lists (block_of text.old i) mask.now) }
+{
+    let start = BLOCK_BYTES * i;
+    let end = (start + BLOCK_BYTES).min(text.len());
+    xor_in_place(&mut text[start..end], mask);
+}
+
+/// A part of a block, of at most 16 bytes, with zero bytes behind it.
+pub fn filled_block(part: &[u8]) -> [u8; 16]
+    requires { length part.now ≤ 16 }
+    ensures { result ≡ filled_block part.now }
+{
+    let mut block = [0; BLOCK_BYTES];
+    block[..part.len()].copy_from_slice(part);
+    block
+}
+
+/// The block that follows `chain` in CBC encryption (SP 800-38A, 6.2): `block` xored with `chain`, and enciphered.
+pub fn chained(key: &Schedule, chain: &[u8; 16], block: &[u8; 16]) -> [u8; 16]
+    ensures { result ≡ encipher key.now (xor_lists block.now chain.now) }
+{
+    let mut next = *block;
+    xor_in_place(&mut next, chain);
+    key.encrypt(&mut next);
+    next
+}

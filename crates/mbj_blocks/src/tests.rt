@@ -1,0 +1,30 @@
+use super::*;
+
+#[test]
+fn a_text_of_20_bytes_has_a_whole_block_and_one_of_4_bytes(rt: HostRuntime) {
+    let mut text = [0x0f; 20];
+    put_block(&mut text, 0, &[0xf0; BLOCK_BYTES]);
+    assert_eq!(rt; block_at(&text, 0), [0xf0; BLOCK_BYTES]);
+
+    let mut mask = [0x11; BLOCK_BYTES];
+    mask[0] = 0xff;
+    xor_block(&mut text, 1, &mask);
+    assert_eq!(rt; block_at(&text, 0), [0xf0; BLOCK_BYTES]);
+    assert_eq!(rt; &text[16..], [0xf0, 0x1e, 0x1e, 0x1e].as_slice());
+
+    assert_eq!(rt;
+        filled_block(&text[15..18]),
+        [0xf0, 0xf0, 0x1e, 0, 0, 0, 0, 0, 0, 0, 0, 0, 0, 0, 0, 0]
+    );
+}
+
+// The block and the chaining value cancel, which leaves the zero block, enciphered under the zero key.
+#[test]
+fn a_block_is_xored_with_the_chaining_value(rt: HostRuntime) {
+    let key = Schedule::expand(&[0; 16]);
+    let block = chained(&key, &[0x3c; BLOCK_BYTES], &[0x3c; BLOCK_BYTES]);
+    assert_eq!(rt;
+        u128::from_be_bytes(block),
+        0x66e94bd4ef8a2c3b884cfa59ca342b2e
+    );
+}

@@ -1,0 +1,63 @@
+ghost use Rattle.std.specs.Prelude.{◌≡◌, ◌≤◌, length};
+ghost use Rattle.mbj_types.specs.Aes.{encipher};
+ghost use Rattle.mbj_types.specs.Cmac.{doubled_number, doubled, first_subkey, second_subkey, closed_block};
+
+use mbj_aes::{Schedule, xor_in_place};
+use mbj_blocks::{BLOCK_BYTES, filled_block};
+
+// R of SP 800-38B, 5.3, for blocks of 128 bits: what a bit that is shifted out of a block comes back as.
+const REDUCTION: u128 = 0x87;
+
+// What follows a message whose last block isn't whole: a bit 1 and zeros.
+const PADDING_BYTE: u8 = 0x80;
+
+// A block, as a string of bits, doubled (SP 800-38B, 6.1).
+fn doubled_number(block: u128) -> u128
+    ensures { result ≡ doubled_number block }
+{
+    let shifted = block << 1;
+    if block >> 127 == 1 {
+        shifted ^ REDUCTION
+    } else {
+        shifted
+    }
+}
+
+// A block doubled.
+fn doubled(block: &[u8; 16]) -> [u8; 16]
+    ensures { result ≡ doubled block.now }
+{
+    doubled_number(u128::from_be_bytes(*block)).to_be_bytes()
+}
+
+// K1 (SP 800-38B, 6.1).
+fn first_subkey(key: &Schedule) -> [u8; 16]
+    ensures { result ≡ first_subkey (encipher key.now) }
+{
+    let mut block = [0; BLOCK_BYTES];
+    key.encrypt(&mut block);
+    doubled(&block)
+}
+
+// K2 (SP 800-38B, 6.1).
+fn second_subkey(key: &Schedule) -> [u8; 16]
+    ensures { result ≡ second_subkey (encipher key.now) }
+{
+    doubled(&first_subkey(key))
+}
+
+/// The last block of a message as it goes into CBC (SP 800-38B, 6.2, step 4): a whole one xored with K1, a shorter one
+/// followed by a bit 1 and zeros and xored with K2. `last` has at most 16 bytes, and none if the message is empty.
+pub fn closed_block(key: &Schedule, last: &[u8]) -> [u8; 16]
+    requires { length last.now ≤ 16 }
+    ensures { result ≡ closed_block (encipher key.now) last.now }
+{
+    let mut block = filled_block(last);
+    if last.len() == BLOCK_BYTES {
+        xor_in_place(&mut block, &first_subkey(key));
+    } else {
+        block[last.len()] = PADDING_BYTE;
+        xor_in_place(&mut block, &second_subkey(key));
+    }
+    block
+}
