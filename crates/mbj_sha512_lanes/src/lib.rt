@@ -1,0 +1,15 @@
+//! The compression function of SHA-384 and SHA-512 (FIPS 180-4, 6.4.2) on many blocks at once: one block and
+//! one hash value in each lane.
+#![tactic(auto)]
+
+mod blocks;
+mod constants;
+mod functions;
+mod lanes;
+mod rounds;
+
+pub use blocks::compress;
+pub use lanes::compress_lanes;
+
+#[cfg(test)]
+mod tests;
