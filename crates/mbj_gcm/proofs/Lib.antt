@@ -1,0 +1,3 @@
+mod Absorbed
+mod Counters
+mod Undoing

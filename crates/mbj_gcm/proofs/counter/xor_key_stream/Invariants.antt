@@ -1,0 +1,9 @@
+-- The blocks before the next one are xored, and the counter block is the one before the next block's.
+use Rattle.mbj_types.specs.Aes.{encipher}
+use Rattle.mbj_types.specs.Gcm.{inc32, gctr, gcm_text}
+use Rattle.mbj_blocks.proofs.Walk.{Walked}
+use Rattle.mbj_gcm.proofs.counter.xor_key_stream.Given as goal
+
+abbrev pub invariant-xoring : goal.invariant-xoring
+invariant-xoring l =
+    Walked (gctr (encipher l.key) (inc32 l.counter)) l.text l.i (gcm_text (encipher l.key) l.fn.iv l.fn.text)
