@@ -18,7 +18,7 @@ pub fn seal(key: &Schedule, iv: &[u8], aad: &[u8], text: &mut [u8]) -> [u8; 16]
     tag(key, iv, aad, text)
 }
 
-/// Decrypts a text in place by GCM (SP 800-38D, 7.2, steps 3 to 7) from an IV of 12 bytes, and answers the 16 bytes
+/// Decrypts a text in place by GCM (SP 800-38D, 7.2, steps 2 to 7) from an IV of 12 bytes, and answers the 16 bytes
 /// of tag over `aad` and the text as it was, the ciphertext. Nothing is compared: the text is decrypted whatever tag
 /// it came with, and the caller compares that tag with the leftmost bytes of the answer.
 pub fn unseal(key: &Schedule, iv: &[u8], aad: &[u8], text: &mut [u8]) -> [u8; 16]

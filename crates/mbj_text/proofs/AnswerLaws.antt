@@ -1,16 +1,12 @@
--- A right answer is what the file's relation says, and no other; and jobs that are read are offered.
+-- A right answer is what the file's relation says, and no other.
 use Rattle.std.proofs.Common.{◌≡◌, inl, inr, subst, refl, ℕ, List, [], ◌∷◌, Result, Ok, Err, arith}
-use Rattle.std.specs.Prelude.{IfOk, All}
-use Rattle.std.proofs.lemmas.List.Elements.{All-cons}
+use Rattle.std.specs.Prelude.{IfOk}
 use Rattle.std.specs.declared.vec.Vec.{Vec}
 use Rattle.std.specs.declared.alloc.Global.{Global}
 use Rattle.mbj_types.specs.declared.job.Job.{Job}
 use Rattle.mbj_text.specs.declared.fault.TextFault.{TextFault}
 use Rattle.mbj_text.specs.declared.fault.TextFault.TheVariants as text_fault
-use Rattle.mbj_text.specs.Cut.{Numbered, job_lines}
-use Rattle.mbj_text.specs.Words.{IsOffered}
-use Rattle.mbj_text.specs.File.{SpellAll, Reads, Bad, Over, Answers, IsOkOnly, IsErrOnly}
-use Rattle.mbj_text.proofs.Names.{by_name}
+use Rattle.mbj_text.specs.File.{Reads, Bad, Over, Answers, IsOkOnly, IsErrOnly}
 use Rattle.mbj_text.proofs.FileLaws.{reads_not_bad, reads_not_over, bad_not_over, reads_once, bad_once, over_once}
 
 -- what `read_file` may answer
@@ -54,19 +50,3 @@ over_only bytes (Ok v) a line o = absurd (reads_not_over bytes v.items line a o)
 over_only bytes (Err (text_fault.Line line' field')) a line o = absurd (bad_not_over bytes line' field' line a o)
 over_only bytes (Err (text_fault.Limit line')) a line o = let same = over_once bytes line' line a o in inl (cc same)
 over_only bytes (Err text_fault.Memory) a line o = inr refl
-
--- ---- offered
-
--- each job that a line spells is offered
-all_offered : (lines : List Numbered) (jobs : List Job) → SpellAll lines jobs → All IsOffered jobs
-all_offered [] [] s = λ k d lt. absurd (omega (arith, lt))
-all_offered [] (j ∷ js) s = absurd s
-all_offered (line ∷ lines) [] s = absurd s
-all_offered (line ∷ lines) (j ∷ js) (s, more) =
-    let names = by_name line.1 j s in
-    All-cons IsOffered j js (names.cipher_is.1, names.auth_is.1) (all_offered lines js more)
-
--- and so are the jobs of an answer
-pub ok_offered : (bytes : List ℕ) (r : Answer) → Answers bytes r → IfOk r (λ v. All IsOffered v.items)
-ok_offered bytes (Ok v) a = all_offered (job_lines bytes) v.items a.each
-ok_offered bytes (Err e) a = tt

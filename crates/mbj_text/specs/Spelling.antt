@@ -39,7 +39,7 @@ Value Hex = List ℕ
 Value Number = ℕ
 Value Small = ℕ
 
--- the text spells the value in the form: of ciphers and authentications only the offered ones,
+-- the text spells the value in the form: of ciphers and authentications only those that a file may name,
 -- and a small number is at most 255
 abbrev pub Spelled : (form : Form) → List ℕ → Value form → Type 0
 Spelled CipherWord text c = (text ≡ cipher_word c) × Contains file_ciphers c

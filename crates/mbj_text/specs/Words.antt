@@ -1,6 +1,5 @@
 -- The words of a job line.
-use Rattle.std.specs.Prelude.{ℕ, List, [], ◌∷◌, codes, Contains}
-use Rattle.mbj_types.specs.declared.job.Job.{Job}
+use Rattle.std.specs.Prelude.{ℕ, List, [], ◌∷◌, codes}
 use Rattle.mbj_types.specs.declared.job.Cipher.{Cipher}
 use Rattle.mbj_types.specs.declared.job.Cipher.TheVariants as cipher
 use Rattle.mbj_types.specs.declared.job.Dir.{Dir}
@@ -37,12 +36,9 @@ auth_word auth.Gcm = codes "gcm"
 
 -- the ciphers that a file may name
 abbrev pub file_ciphers : List Cipher
-file_ciphers = cipher.Null ∷ []
+file_ciphers = cipher.Null ∷ cipher.Cbc ∷ cipher.Ctr ∷ cipher.Gcm ∷ []
 
 -- the authentications that a file may name
 abbrev pub file_auths : List Auth
-file_auths = auth.Null ∷ auth.HmacSha1 ∷ []
-
--- a file may name both the job's cipher and its authentication
-abbrev pub IsOffered : Job → Type 0
-IsOffered j = Contains file_ciphers j.cipher × Contains file_auths j.auth
+file_auths =
+    auth.Null ∷ auth.HmacSha1 ∷ auth.HmacSha224 ∷ auth.HmacSha256 ∷ auth.HmacSha384 ∷ auth.HmacSha512 ∷ auth.Cmac128 ∷ auth.Cmac256 ∷ auth.Gcm ∷ []

@@ -1,7 +1,6 @@
-ghost use Rattle.std.specs.Prelude.{◌≡◌, ◌≤◌, ℕ, List, Err, IfOk, All, length};
+ghost use Rattle.std.specs.Prelude.{◌≡◌, ◌≤◌, ℕ, List, Err, IfOk, length};
 ghost use Rattle.mbj_types.specs.declared.job.Job.{Job};
 ghost use Rattle.mbj_text.specs.declared.limits.TheConstants.{INPUT_LIMIT};
-ghost use Rattle.mbj_text.specs.Words.{IsOffered};
 ghost use Rattle.mbj_text.specs.File.{Reads, Bad, Over, Answers, IsOkOnly, IsErrOnly, EachFileIsOne, ReadsIsUnique, BadIsUnique, OverIsUnique, TableAndNamesAgree};
 
 use crate::fault::TextFault;
@@ -19,20 +18,19 @@ use std::alloc::Global;
 ///
 /// | No | Field | Form |
 /// |---|---|---|
-/// | 1 | cipher | the word of an offered cipher |
+/// | 1 | cipher | `null`, `cbc`, `ctr`, `gcm` |
 /// | 2 | direction | `enc`, `dec` |
 /// | 3 | order | `ch` (cipher, then hash), `hc` (hash, then cipher) |
 /// | 4, 5 | key, initialization vector | bytes |
 /// | 6, 7 | offset and length of the cipher range | number |
-/// | 8 | authentication | the word of an offered authentication |
+/// | 8 | authentication | `null`, `gcm`, or the word of an HMAC or a CMAC |
 /// | 9, 10 | key of the authentication, additional data | bytes |
 /// | 11, 12 | offset and length of the hash range | number |
 /// | 13 | length of the tag | number, at most 255 |
 /// | 14 | packet | bytes |
 ///
 /// Bytes are `-` for none, or two hexadecimal digits of either case for each. A number has 1 to 5
-/// digits, the first of them not `0` unless it is the only one. `specs/Words.antt` has all words, and
-/// which of them are offered.
+/// digits, the first of them not `0` unless it is the only one. `specs/Words.antt` has all words.
 ///
 /// It answers `Line` at the first job line that isn't so, `Limit` at the job line behind `JOB_LIMIT`
 /// good ones, whatever it says, and `Memory` where there isn't memory enough.
@@ -52,9 +50,6 @@ pub fn read_file(alloc: Global, bytes: &[u8]) -> Result<Vec<Job>, TextFault>
         → IsErrOnly result (TextFault.Line line field) }
     ensures only_over { (line : ℕ) → Over bytes.now line
         → IsErrOnly result (TextFault.Limit line) }
-
-    // A file names no other ciphers and authentications than those that are offered.
-    ensures offered { IfOk result (λ v. All IsOffered v.items) }
 {
     jobs_of(alloc, bytes)
 }

@@ -7,14 +7,29 @@ use mbj_types::{Auth, Cipher, Dir, Order};
 use std::alloc::{AllocError, Global};
 
 /// The ciphers that a file may name.
-const CIPHERS: [(&[u8], Cipher); 1] = [(b"null", Cipher::Null)];
+const CIPHERS: [(&[u8], Cipher); 4] = [
+    (b"null", Cipher::Null),
+    (b"cbc", Cipher::Cbc),
+    (b"ctr", Cipher::Ctr),
+    (b"gcm", Cipher::Gcm),
+];
 
 const DIRS: [(&[u8], Dir); 2] = [(b"enc", Dir::Enc), (b"dec", Dir::Dec)];
 
 const ORDERS: [(&[u8], Order); 2] = [(b"ch", Order::CipherHash), (b"hc", Order::HashCipher)];
 
 /// The authentications that a file may name.
-const AUTHS: [(&[u8], Auth); 2] = [(b"null", Auth::Null), (b"hmac-sha1", Auth::HmacSha1)];
+const AUTHS: [(&[u8], Auth); 9] = [
+    (b"null", Auth::Null),
+    (b"hmac-sha1", Auth::HmacSha1),
+    (b"hmac-sha224", Auth::HmacSha224),
+    (b"hmac-sha256", Auth::HmacSha256),
+    (b"hmac-sha384", Auth::HmacSha384),
+    (b"hmac-sha512", Auth::HmacSha512),
+    (b"cmac128", Auth::Cmac128),
+    (b"cmac256", Auth::Cmac256),
+    (b"gcm", Auth::Gcm),
+];
 
 impl Field for Cipher {
     ghost value_of = { cipher_of };

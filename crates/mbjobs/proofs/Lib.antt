@@ -1,4 +1,2 @@
-pub mod HmacTags
-pub mod Results
 pub mod Writing
 pub mod Told

@@ -10,13 +10,6 @@ use Rattle.mbj_text.specs.Line.{done_line, text_from}
 use Rattle.mbj_text.proofs.Flows.{flows_then, gains_then, gains_more}
 use Rattle.mbjobs.specs.Outcome.{result_text}
 
--- what holds of all holds of the first and of the others
-pub all_first : {A : Type 0} (P : A → Type 0) (x : A) (xs : List A) → All P (x ∷ xs) → P x
-all_first P x xs h = h 0 x (omega arith)
-
-pub all_others : {A : Type 0} (P : A → Type 0) (x : A) (xs : List A) → All P (x ∷ xs) → All P xs
-all_others P x xs h = λ k d below. h (suc k) d (omega arith)
-
 -- before the first result nothing is written
 pub flows_start : (a : Option (List ℕ)) (jobs items : List Job) → items ≡ jobs
     → Flows a a (result_text jobs) (text_from 0 (map result_of items))

@@ -4,7 +4,6 @@
 mod cause;
 mod command;
 mod gate;
-mod job;
 mod reading;
 mod report;
 mod run;

@@ -1,23 +1,21 @@
-ghost use Rattle.std.specs.Prelude.{◌≡◌, ◌≢◌, ◌≤◌, All, Err, IfErr, OnOk, OnErr, length};
+ghost use Rattle.std.specs.Prelude.{◌≡◌, ◌≢◌, ◌≤◌, Err, IfErr, OnOk, OnErr, length};
 ghost use Rattle.std.specs.Io.KnownBytes.{Appends};
 ghost use Rattle.mbj_io.specs.Faults.{Rose};
-ghost use Rattle.mbj_text.specs.Words.{IsOffered};
 ghost use Rattle.mbj_text.specs.Flow.{GainsPrefix};
 ghost use Rattle.mbj_text.specs.declared.limits.TheConstants.{JOB_LIMIT};
 ghost use Rattle.mbjobs.specs.Outcome.{IsUntouched, RunsWhole, Stands, result_text, stream};
 
 use crate::cause::Cause;
-use crate::job::do_job;
 use crate::reading::{ReadFault, read_all};
 use mbj_io::{Failed, Sink, Source};
+use mbj_stage::do_job;
 use mbj_text::{TextFault, read_file, write_done};
 use mbj_types::Job;
 use std::alloc::Global;
 
 /// Does the jobs one after another, and writes the line of each result.
 fn write_results<O: Sink>(out: &mut O, jobs: Vec<Job>) -> Result<(), Failed>
-    requires offered { All IsOffered jobs.items }
-    requires few { length jobs.items ≤ JOB_LIMIT }
+    requires { length jobs.items ≤ JOB_LIMIT }
     ensures ok { OnOk result (Appends (O.held out.old) (O.held out.new) (result_text jobs.items)) }
     ensures err { OnErr result (GainsPrefix (O.held out.old) (O.held out.new) (result_text jobs.items)) }
     ensures failed { OnErr result (Rose (O.faults out.old) (O.faults out.new)) }

@@ -24,7 +24,7 @@ const FIELDS: [&[u8]; 14] = [
 
 /// Texts that the field with this number may not have.
 const BAD: [(u32, &[u8]); 30] = [
-    (1, b"cbc"),
+    (1, b"ecb"),
     (1, b"NULL"),
     (1, b""),
     (2, b"encrypt"),
@@ -41,9 +41,9 @@ const BAD: [(u32, &[u8]); 30] = [
     (6, b""),
     (7, b"+1"),
     (7, b"1a"),
-    (8, b"hmac-sha256"),
+    (8, b"hmac-md5"),
     (8, b"hmac"),
-    (8, b"gcm"),
+    (8, b"cmac192"),
     (9, b"\t0b"),
     (9, b"0b0"),
     (10, b"zz"),
@@ -57,13 +57,17 @@ const BAD: [(u32, &[u8]); 30] = [
 ];
 
 /// Texts that the field with this number may have.
-const GOOD: [(u32, &[u8]); 9] = [
+const GOOD: [(u32, &[u8]); 13] = [
+    (1, b"cbc"),
+    (1, b"gcm"),
     (2, b"enc"),
     (3, b"ch"),
     (4, b"00"),
     (5, b"-"),
     (6, b"99999"),
     (8, b"null"),
+    (8, b"hmac-sha384"),
+    (8, b"cmac256"),
     (11, b"0"),
     (13, b"0"),
     (14, b"ABCDEFabcdef0123456789"),

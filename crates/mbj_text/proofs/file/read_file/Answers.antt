@@ -1,5 +1,5 @@
 -- Each clause follows from the answer being right.
-use Rattle.mbj_text.proofs.AnswerLaws.{ok_reads, line_is_bad, limit_is_over, reads_only, bad_only, over_only, ok_offered}
+use Rattle.mbj_text.proofs.AnswerLaws.{ok_reads, line_is_bad, limit_is_over, reads_only, bad_only, over_only}
 use Rattle.mbj_text.proofs.file.read_file.Goals as goal
 
 pub returns-clause-reads : goal.returns-clause-reads
@@ -19,6 +19,3 @@ returns-clause-only_bad c = bad_only c.args.bytes.now c.jobs_of.result c.jobs_of
 
 pub returns-clause-only_over : goal.returns-clause-only_over
 returns-clause-only_over c = over_only c.args.bytes.now c.jobs_of.result c.jobs_of.ensures
-
-pub returns-clause-offered : goal.returns-clause-offered
-returns-clause-offered c = ok_offered c.args.bytes.now c.jobs_of.result c.jobs_of.ensures

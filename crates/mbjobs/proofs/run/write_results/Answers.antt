@@ -2,34 +2,23 @@ use Rattle.std.proofs.Common.{◌≡◌, List, ℕ, All, ap, sym, subst, length,
 use Rattle.std.specs.Vec.Iter.{into_iter_items}
 use Rattle.mbj_io.specs.Faults.{Rose}
 use Rattle.mbj_types.specs.declared.job.Job.{Job}
-use Rattle.mbj_text.specs.Words.{IsOffered}
-use Rattle.mbjobs.proofs.Writing.{all_first, all_others, flows_start, flows_line, gains_line}
+use Rattle.mbjobs.proofs.Writing.{flows_start, flows_line, gains_line}
 use Rattle.mbjobs.proofs.run.write_results.Goals as goal
 
 pub loop-job-init : goal.loop-job-init
 loop-job-init g c =
     let items_are : into_iter_items c.into_iter-rest.result ≡ c.args.jobs.items = c.into_iter-rest.ensures.rest in
-    let Offered : List Job → Type 0 = λ js. All IsOffered js in
     record {
-      offered = subst Offered (sym items_are) c.requires.offered;
-      count = omega (arith, ap length items_are, c.requires.few);
+      count = omega (arith, ap length items_are, c.requires);
       flows = flows_start _ c.args.jobs.items _ items_are;
       calm = refl;
     }
-
-pub do_job-requires : goal.do_job-requires
-do_job-requires g c =
-    let rest : List Job = into_iter_items c.next.new.self in
-    let Offered : List Job → Type 0 = λ js. All IsOffered js in
-    all_first IsOffered c.in-Some.job rest (subst Offered c.in-Some.ensures.items c.loop-job.invariant.offered)
 
 pub loop-job-preserved : goal.loop-job-preserved
 loop-job-preserved g c =
     let job : Job = c.in-Some.job in
     let rest : List Job = into_iter_items c.next.new.self in
-    let Offered : List Job → Type 0 = λ js. All IsOffered js in
     record {
-      offered = all_others IsOffered job rest (subst Offered c.in-Some.ensures.items c.loop-job.invariant.offered);
       count = omega (arith, ap length c.in-Some.ensures.items, c.loop-job.invariant.count);
       flows = flows_line c.loop-job.number _ rest job c.do_job.result c.in-Some.ensures.items c.do_job.ensures c.loop-job.invariant.flows c.in-Ok.ensures.ok;
       calm = c.in-Ok.ensures.calm ∙ c.loop-job.invariant.calm;

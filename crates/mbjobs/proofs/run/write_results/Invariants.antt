@@ -1,7 +1,6 @@
-use Rattle.std.proofs.Common.{◌≡◌, ◌≤◌, ◌+◌, length, map, All}
+use Rattle.std.proofs.Common.{◌≡◌, ◌≤◌, ◌+◌, length, map}
 use Rattle.std.specs.Vec.Iter.{into_iter_items, into_iter_len}
 use Rattle.mbj_types.specs.Result.{result_of}
-use Rattle.mbj_text.specs.Words.{IsOffered}
 use Rattle.mbj_text.specs.Flow.{Flows}
 use Rattle.mbj_text.specs.Line.{text_from}
 use Rattle.mbjobs.specs.Outcome.{result_text}
@@ -9,7 +8,6 @@ use Rattle.mbjobs.proofs.run.write_results.Given as goal
 
 abbrev pub invariant-loop-job : goal.invariant-loop-job
 invariant-loop-job g l = record {
-  offered : All IsOffered (into_iter_items l.rest);
   count : l.number + length (into_iter_items l.rest) ≤ 65536;
   flows : Flows (g.O.Sink.held l.initial.out) (g.O.Sink.held l.out) (result_text l.fn.jobs.items)
       (text_from l.number (map result_of (into_iter_items l.rest)));

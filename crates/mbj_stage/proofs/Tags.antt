@@ -1,11 +1,16 @@
--- The tags of HMAC jobs.
-use Rattle.std.proofs.Common.{◌≡◌, ℕ, ◌≤◌, true, List, length, refl, IfSome, arith}
+-- The tags of HMAC, CMAC and GCM jobs.
+use Rattle.std.proofs.Common.{◌≡◌, ℕ, ◌+◌, ◌-◌, ◌≤◌, ◌⊎◌, inl, inr, true, List, length, take, drop, refl, sym, ap, ◌∙◌, IfSome, arith}
 use Rattle.mbj_types.specs.declared.job.Job.{Job}
 use Rattle.mbj_types.specs.declared.job.Auth.{Auth}
 use Rattle.mbj_types.specs.declared.job.Auth.TheVariants.{Null, HmacSha1, HmacSha224, HmacSha256, HmacSha384, HmacSha512, Cmac128, Cmac256, Gcm}
+use Rattle.mbj_types.specs.Aes.{aes}
 use Rattle.mbj_types.specs.Hmac.{IsHmac, hash_of, hmac}
+use Rattle.mbj_types.specs.Cmac.{cmac}
 use Rattle.mbj_types.specs.Verdict.{has_hash_range, most_tag_bytes}
-use Rattle.mbj_types.specs.Result.{hash_range, mac_by}
+use Rattle.mbj_types.specs.Result.{hash_range, gcm_of, mac_by, tag_over}
+use Rattle.mbj_stage.specs.Texts.{gcm_by}
+
+-- ---- HMAC
 
 -- an HMAC is over the hash range
 pub hmac_has_range : (a : Auth) → IsHmac a → has_hash_range a ≡ true
@@ -44,3 +49,28 @@ tag_within_digest HmacSha512 tag n h is le = omega arith
 tag_within_digest Cmac128 tag n h is le = absurd (cc)
 tag_within_digest Cmac256 tag n h is le = absurd (cc)
 tag_within_digest Gcm tag n h is le = absurd (cc)
+
+-- ---- CMAC
+
+-- a CMAC has 16 bytes of tag
+pub cmac_most : (a : Auth) → (a ≡ Cmac128) ⊎ (a ≡ Cmac256) → most_tag_bytes a ≡ 16
+cmac_most a (inl h) = ap most_tag_bytes h
+cmac_most a (inr h) = ap most_tag_bytes h
+
+-- the value of a CMAC
+pub cmac_is_mac : (a : Auth) (j : Job) (p : List ℕ) → (a ≡ Cmac128) ⊎ (a ≡ Cmac256)
+    → cmac (aes j.auth_key) (hash_range j p) ≡ mac_by a j p
+cmac_is_mac a j p (inl h) = sym (ap (λ (x : Auth). mac_by x j p) h)
+cmac_is_mac a j p (inr h) = sym (ap (λ (x : Auth). mac_by x j p) h)
+
+-- ---- GCM
+
+-- the tag of GCM over the cipher range
+pub gcm_is_tag : (j : Job) (p whole : List ℕ) → j.auth ≡ Gcm
+    → whole ≡ (gcm_by j (take (j.cipher_off + j.cipher_len - j.cipher_off) (drop j.cipher_off p))).1
+    → take j.tag_len whole ≡ tag_over j p
+unfolding tag_over gcm_of
+gcm_is_tag j p whole is e =
+    let len : j.cipher_off + j.cipher_len - j.cipher_off ≡ j.cipher_len = omega arith in
+    ap (take j.tag_len)
+    (e ∙ ap (λ (n : ℕ). (gcm_by j (take n (drop j.cipher_off p))).1) len ∙ sym (ap (λ (x : Auth). mac_by x j p) is))

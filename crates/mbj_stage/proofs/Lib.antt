@@ -1,0 +1,5 @@
+pub mod Gcms
+pub mod Packets
+pub mod Tags
+pub mod Soundness
+pub mod Owing

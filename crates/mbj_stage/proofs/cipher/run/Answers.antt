@@ -1,0 +1,11 @@
+-- The cipher range is replaced by its other text.
+use Rattle.std.proofs.Common.{refl}
+use Rattle.mbj_types.specs.declared.job.Cipher.TheVariants as cipher
+use Rattle.mbj_stage.proofs.Packets.{ciphered-range}
+use Rattle.mbj_stage.proofs.cipher.run.Goals as goal
+
+pub returns-in-Cbc : goal.returns-in-Cbc
+returns-in-Cbc c = ciphered-range cipher.Cbc c.args.job.now c.args.packet.now c.cbc.new.text c.in-Cbc.is refl c.cbc.ensures
+
+pub returns-in-Ctr : goal.returns-in-Ctr
+returns-in-Ctr c = ciphered-range cipher.Ctr c.args.job.now c.args.packet.now c.ctr.new.text c.in-Ctr.is refl c.ctr.ensures

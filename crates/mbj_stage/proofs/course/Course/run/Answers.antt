@@ -1,0 +1,62 @@
+-- Each arm does the first step, and leaves what follows it.
+use Rattle.std.proofs.Common.{◌≡◌, [], ◌∷◌, None, List, ℕ, ap, subst}
+use Rattle.std.specs.List.{All}
+use Rattle.std.proofs.lemmas.List.Elements.{All-head}
+use Rattle.mbj_types.specs.declared.job.Job.{Job}
+use Rattle.mbj_stage.specs.declared.stage.Steps.{Steps}
+use Rattle.mbj_stage.specs.Steps.{IsStepOf, steps_in}
+use Rattle.mbj_stage.specs.Going.{Going, ran, IsSound}
+use Rattle.mbj_stage.proofs.Soundness.{sound_next}
+use Rattle.mbj_stage.proofs.Owing.{ran-step}
+use Rattle.mbj_stage.proofs.course.Course.run.Goals as goal
+
+pub run_step-requires-clause-own : goal.run_step-requires-clause-own
+run_step-requires-clause-own c =
+    let j : Job = c.self.inside.job in
+    let Own : Steps → Type 0 = λ l. All (IsStepOf j) (steps_in l) in
+    All-head (IsStepOf j) c.in-One.step [] (subst Own c.in-One.is c.self.invariant.own)
+
+pub run_step-requires-in-Two-clause-own : goal.run_step-requires-in-Two-clause-own
+run_step-requires-in-Two-clause-own c =
+    let j : Job = c.self.inside.job in
+    let Own : Steps → Type 0 = λ l. All (IsStepOf j) (steps_in l) in
+    All-head (IsStepOf j) c.in-Two.step (c.in-Two.later ∷ []) (subst Own c.in-Two.is c.self.invariant.own)
+
+pub invariant_of-self-in-Two : goal.invariant_of-self-in-Two
+invariant_of-self-in-Two c =
+    let j : Job = c.self.inside.job in
+    let p : List ℕ = c.self.inside.packet.items in
+    let Sound : Steps → Type 0 = λ l. IsSound j p (steps_in l) in
+    sound_next j p c.run_step-in-Two.new.packet.items c.in-Two.step (c.in-Two.later ∷ [])
+    (subst Sound c.in-Two.is c.self.invariant) c.run_step-in-Two.ensures.len
+
+pub returns-in-One : goal.returns-in-One
+returns-in-One c =
+    let f = c.self.inside in
+    let after : Going = record {
+      job = record f.job { packet = c.run_step.new.packet.items };
+      tag = c.run_step.new.tag;
+      reason = f.reason;
+      left = [];
+      out = None;
+    } in
+    let Ran : Going → Type 0 = λ v. after ≡ ran v in
+    subst Ran c.self.view_is
+    (ran-step f.job f.packet.items c.run_step.new.packet.items f.tag c.run_step.new.tag f.reason c.in-One.step [] (steps_in f.left)
+    (ap steps_in c.in-One.is) c.run_step.ensures.packet c.run_step.ensures.tag)
+
+pub returns-in-Two : goal.returns-in-Two
+returns-in-Two c =
+    let f = c.self.inside in
+    let after : Going = record {
+      job = record f.job { packet = c.run_step-in-Two.new.packet.items };
+      tag = c.run_step-in-Two.new.tag;
+      reason = f.reason;
+      left = c.in-Two.later ∷ [];
+      out = None;
+    } in
+    let Ran : Going → Type 0 = λ v. after ≡ ran v in
+    subst Ran c.self.view_is
+    (ran-step f.job f.packet.items c.run_step-in-Two.new.packet.items f.tag c.run_step-in-Two.new.tag f.reason c.in-Two.step
+    (c.in-Two.later ∷ []) (steps_in f.left) (ap steps_in c.in-Two.is) c.run_step-in-Two.ensures.packet
+    c.run_step-in-Two.ensures.tag)

@@ -1,0 +1,85 @@
+-- The course of a job: what contracts see of it, how it goes on, and the result to which it leads.
+use Rattle.std.specs.Prelude.{◌≡◌, ◌≢◌, ℕ, List, [], ◌∷◌, length, Option, Some, None}
+use Rattle.std.specs.List.{All}
+use Rattle.mbj_types.specs.Verdict.{verdict, verdict_at}
+use Rattle.mbj_types.specs.Result.{ciphered, tag_over}
+use Rattle.mbj_types.specs.declared.job.Job.{Job}
+use Rattle.mbj_types.specs.declared.done.Done.{Done}
+use Rattle.mbj_types.specs.declared.done.Status.{Status}
+use Rattle.mbj_types.specs.declared.done.Status.TheVariants as status
+use Rattle.mbj_types.specs.declared.reason.Reason.{Reason}
+use Rattle.mbj_stage.specs.declared.stage.Stage.{Stage}
+use Rattle.mbj_stage.specs.declared.stage.Step.{Step}
+use Rattle.mbj_stage.specs.declared.stage.Step.TheVariants as step
+use Rattle.mbj_stage.specs.Steps.{steps_by, stage_at, IsStepOf}
+
+-- a job on its way
+pub record Going : Type 0 where
+  -- the job with its packet as it now is
+  pub job : Job
+  -- the tag where it is made, else no bytes
+  pub tag : List ℕ
+  -- why the job is refused
+  pub reason : Option Reason
+  -- the steps that are left
+  pub left : List Step
+  -- the length of the packet where it is out of the course, in a lane
+  pub out : Option ℕ
+
+abbrev pub stage_of : Going → Stage
+stage_of c = stage_at c.job c.left
+
+-- ---- how a course goes on
+
+-- a course with nothing done
+abbrev pub begun : Job → Going
+begun j = record { job = j; tag = []; reason = verdict j; left = steps_by (verdict j) j; out = None }
+
+-- what a step makes of the packet p
+abbrev pub packet_after : Step → Job → List ℕ → List ℕ
+packet_after step.Cipher j p = ciphered j p
+packet_after step.Auth j p = p
+packet_after step.Gcm j p = ciphered j p
+
+-- the tag when a step is done on the packet p
+abbrev pub tag_after : Step → Job → List ℕ → List ℕ → List ℕ
+tag_after step.Cipher j p tag = tag
+tag_after step.Auth j p tag = tag_over j p
+tag_after step.Gcm j p tag = tag_over j p
+
+-- the course with the first of the steps left done
+abbrev pub ran_at : Going → List Step → Going
+ran_at c [] = c
+ran_at c (s ∷ left) = record {
+  job = record c.job { packet = packet_after s c.job c.job.packet };
+  tag = tag_after s c.job c.job.packet c.tag;
+  reason = c.reason;
+  left = left;
+  out = c.out;
+}
+
+abbrev pub ran : Going → Going
+ran c = ran_at c c.left
+
+-- ---- where a course leads
+
+abbrev pub status_of : Option Reason → Status
+status_of None = status.Ok
+status_of (Some reason) = status.InvalidArgs reason
+
+-- the result when the steps left are done
+abbrev pub led_to : Option Reason → List Step → Job → List ℕ → Done
+led_to reason [] j tag = record { status = status_of reason; packet = j.packet; tag = tag }
+led_to reason (s ∷ left) j tag =
+    led_to reason left (record j { packet = packet_after s j j.packet }) (tag_after s j j.packet tag)
+
+-- the result that a course owes
+unfoldable pub owed : Going → Done
+owed c = led_to c.reason c.left c.job c.tag
+
+-- ---- what the fields of a course keep
+
+-- where a step is left no row of the argument table applies, and each step left is one of the job's
+pub record IsSound (j : Job) (p : List ℕ) (left : List Step) : Type 0 where
+  pub accepted : left ≢ [] → verdict_at j (length p) ≡ None
+  pub own : All (IsStepOf j) left

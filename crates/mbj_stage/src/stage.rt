@@ -1,0 +1,83 @@
+ghost use Rattle.std.specs.Prelude.{◌≡◌, Option};
+ghost use Rattle.std.specs.Option.{option_to_list};
+ghost use Rattle.mbj_stage.specs.Steps.{cipher_steps, auth_steps, steps_of, steps_by, steps_in};
+
+use mbj_types::{Auth, Cipher, Job, Kind, Order, Reason};
+
+/// What comes next in the course of a job.
+#[derive(Clone, Copy, Debug, PartialEq, Eq)]
+pub enum Stage {
+    /// A stage that `Course::run_now` does at once.
+    Now,
+    /// A stage that is done in the lanes of this kind.
+    Lane(Kind),
+    /// No stage is left.
+    Finished,
+}
+
+/// A stage of a job by the work that it does.
+#[derive(Clone, Copy)]
+pub(crate) enum Step {
+    /// The cipher, which is CBC or CTR.
+    Cipher,
+    /// The authentication, which is an HMAC or a CMAC.
+    Auth,
+    /// GCM, which is cipher and authentication together.
+    Gcm,
+}
+
+/// The steps of a job that are left, in their order.
+#[derive(Clone, Copy)]
+pub(crate) enum Steps {
+    Done,
+    One(Step),
+    Two(Step, Step),
+}
+
+fn cipher_step(cipher: Cipher) -> Option<Step>
+    ensures { option_to_list result ≡ cipher_steps cipher }
+{
+    match cipher {
+        Cipher::Null => None,
+        Cipher::Cbc | Cipher::Ctr => Some(Step::Cipher),
+        Cipher::Gcm => Some(Step::Gcm),
+    }
+}
+
+fn auth_step(auth: Auth) -> Option<Step>
+    ensures { option_to_list result ≡ auth_steps auth }
+{
+    match auth {
+        Auth::Null | Auth::Gcm => None,
+        Auth::HmacSha1
+        | Auth::HmacSha224
+        | Auth::HmacSha256
+        | Auth::HmacSha384
+        | Auth::HmacSha512 => Some(Step::Auth),
+        Auth::Cmac128 | Auth::Cmac256 => Some(Step::Auth),
+    }
+}
+
+/// The steps of an accepted job: those of its cipher and its authentication, in its order.
+fn all_steps(job: &Job) -> Steps
+    ensures { steps_in result ≡ steps_of job.now }
+{
+    match (cipher_step(job.cipher), auth_step(job.auth)) {
+        (None, None) => Steps::Done,
+        (Some(step), None) | (None, Some(step)) => Steps::One(step),
+        (Some(cipher), Some(auth)) => match job.order {
+            Order::CipherHash => Steps::Two(cipher, auth),
+            Order::HashCipher => Steps::Two(auth, cipher),
+        },
+    }
+}
+
+/// The steps of a job by the reason for which it is refused: then there are none.
+pub(crate) fn steps_by(reason: Option<Reason>, job: &Job) -> Steps
+    ensures { steps_in result ≡ steps_by reason job.now }
+{
+    match reason {
+        None => all_steps(job),
+        Some(_) => Steps::Done,
+    }
+}
