@@ -1,52 +1,111 @@
-use super::*;
-use mbj_types::{Auth, Bytes, Cipher, Job, Reason};
-use std::alloc::{AllocError, Global};
+use crate::check;
+use mbj_types::{Auth, Reason};
+use std::alloc::Global;
+use std::process::Abort;
 use std::test::Fail;
 
-fn zeros(alloc: Global, len: usize) -> Result<Bytes, AllocError> {
-    Ok(Bytes::from_vec(vec![in alloc; 0; len]?))
-}
+mod auth_rows;
+mod cipher_rows;
+mod shape;
 
-/// A CBC job over the first `cipher_len` bytes of a packet of `packet_len` zero bytes.
-fn cbc_job(alloc: Global, packet_len: usize, cipher_len: u32) -> Result<Job, AllocError> {
-    let mut job = Job::blank(alloc);
-    job.cipher = Cipher::Cbc;
-    job.key = zeros(alloc, 16)?;
-    job.iv = zeros(alloc, 16)?;
-    job.cipher_len = cipher_len;
-    job.packet = zeros(alloc, packet_len)?;
-    Ok(job)
-}
+use auth_rows::AUTH_ROWS;
+use cipher_rows::CIPHER_ROWS;
+use shape::{CBC, CBC_HMAC, GCM, HMAC, Shape};
 
-#[test]
-fn the_first_row_that_applies_decides(rt: HostRuntime) -> Result<(), Fail> {
-    let alloc = rt.alloc();
-    assert_eq!(rt; check(&cbc_job(alloc, 16, 16)?), None);
-    // The range passes the end before its length is looked at.
-    assert_eq!(rt; check(&cbc_job(alloc, 17, 17)?), Some(Reason::CipherLength));
-    assert_eq!(rt; check(&cbc_job(alloc, 16, 17)?), Some(Reason::CipherRange));
-    // A packet of 65,536 bytes is too long whatever else is wrong.
-    assert_eq!(rt;
-        check(&cbc_job(alloc, 65_536, 17)?),
-        Some(Reason::PacketLong)
-    );
-    assert_eq!(rt; check(&cbc_job(alloc, 65_535, 65_520)?), None);
+/// For each two neighbouring rows that one job can meet, a job that meets both. None meets rows 8 and 9.
+const BOTH: [(Shape, Option<Reason>); 9] = [
+    (
+        Shape {
+            packet: 65_536,
+            auth: Auth::Null,
+            ..GCM
+        },
+        Some(Reason::PacketLong),
+    ),
+    (
+        Shape {
+            auth: Auth::Null,
+            key: 15,
+            ..GCM
+        },
+        Some(Reason::GcmPair),
+    ),
+    (
+        Shape {
+            key: 15,
+            iv: 15,
+            ..CBC
+        },
+        Some(Reason::CipherKey),
+    ),
+    (
+        Shape {
+            iv: 15,
+            cipher_len: 17,
+            ..CBC
+        },
+        Some(Reason::IvLength),
+    ),
+    (
+        Shape {
+            cipher_len: 17,
+            ..CBC
+        },
+        Some(Reason::CipherRange),
+    ),
+    (
+        Shape {
+            cipher_len: 0,
+            auth_key: 1_025,
+            ..CBC_HMAC
+        },
+        Some(Reason::CipherLength),
+    ),
+    (
+        Shape {
+            auth_key: 1_025,
+            hash_len: 17,
+            ..HMAC
+        },
+        Some(Reason::AuthKey),
+    ),
+    (
+        Shape {
+            hash_len: 17,
+            tag_len: 21,
+            ..HMAC
+        },
+        Some(Reason::HashRange),
+    ),
+    (
+        Shape {
+            aad: 65_536,
+            tag_len: 17,
+            ..GCM
+        },
+        Some(Reason::AadLong),
+    ),
+];
+
+/// Judges each job.
+fn judge(rt: &impl Abort, alloc: Global, table: &[(Shape, Option<Reason>)]) -> Result<(), Fail> {
+    for (shape, reason) in table {
+        assert_eq!(rt; check(&shape.job(alloc)?), *reason);
+    }
     Ok(())
 }
 
 #[test]
-fn a_null_job_takes_no_tag_and_no_half_of_gcm(rt: HostRuntime) {
-    let mut job = Job::blank(rt.alloc());
-    assert_eq!(rt; check(&job), None);
-    job.tag_len = 1;
-    assert_eq!(rt; check(&job), Some(Reason::TagLength));
-    job.cipher = Cipher::Gcm;
-    assert_eq!(rt; check(&job), Some(Reason::GcmPair));
-    job.auth = Auth::Gcm;
-    assert_eq!(rt; check(&job), Some(Reason::CipherKey));
-    job.cipher = Cipher::Null;
-    job.auth = Auth::HmacSha1;
-    job.hash_off = u32::MAX;
-    job.hash_len = 1;
-    assert_eq!(rt; check(&job), Some(Reason::HashRange));
+fn a_cipher_is_refused_from_its_boundaries_on(rt: HostRuntime) -> Result<(), Fail> {
+    judge(&rt, rt.alloc(), &CIPHER_ROWS)
+}
+
+#[test]
+fn an_authentication_is_refused_from_its_boundaries_on(rt: HostRuntime) -> Result<(), Fail> {
+    judge(&rt, rt.alloc(), &AUTH_ROWS)
+}
+
+#[test]
+fn the_first_of_two_rows_decides(rt: HostRuntime) -> Result<(), Fail> {
+    judge(&rt, rt.alloc(), &BOTH)
 }
