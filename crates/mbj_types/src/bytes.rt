@@ -1,5 +1,6 @@
-ghost use Rattle.std.specs.Prelude.{◌≡◌, ℕ, List};
+ghost use Rattle.std.specs.Prelude.{◌≡◌, ℕ, List, IfOk};
 
+use std::alloc::{AllocError, Global};
 use std::marker::Model;
 
 /// Bytes of a job or a result: a `Vec<u8>` that contracts see as the list of its bytes.
@@ -29,6 +30,16 @@ impl Bytes {
         ensures { result.items ≡ self }
     {
         self.bytes
+    }
+
+    /// Equal bytes in memory of their own.
+    ///
+    /// Answers `AllocError` for want of memory.
+    pub fn copy(&self, alloc: Global) -> Result<Bytes, AllocError>
+        ensures { IfOk result (λ b. b ≡ self.now) }
+    {
+        let bytes = Vec::from_slice(alloc, self.as_slice())?;
+        Ok(Bytes { bytes })
     }
 
     /// The bytes as a slice.

@@ -1,8 +1,8 @@
-ghost use Rattle.std.specs.Prelude.{◌≡◌};
+ghost use Rattle.std.specs.Prelude.{◌≡◌, IfOk};
 ghost use Rattle.mbj_types.specs.Blank.{blank};
 
 use crate::bytes::Bytes;
-use std::alloc::Global;
+use std::alloc::{AllocError, Global};
 
 /// What a job does with its cipher range.
 #[derive(Clone, Copy, Debug, PartialEq, Eq)]
@@ -110,5 +110,29 @@ impl Job {
             tag_len: 0,
             packet: Bytes::from_vec(Vec::new(alloc)),
         }
+    }
+
+    /// An equal job in memory of its own.
+    ///
+    /// Answers `AllocError` for want of memory.
+    pub fn copy(&self, alloc: Global) -> Result<Job, AllocError>
+        ensures { IfOk result (λ j. j ≡ self.now) }
+    {
+        Ok(Job {
+            cipher: self.cipher,
+            dir: self.dir,
+            order: self.order,
+            key: self.key.copy(alloc)?,
+            iv: self.iv.copy(alloc)?,
+            cipher_off: self.cipher_off,
+            cipher_len: self.cipher_len,
+            auth: self.auth,
+            auth_key: self.auth_key.copy(alloc)?,
+            aad: self.aad.copy(alloc)?,
+            hash_off: self.hash_off,
+            hash_len: self.hash_len,
+            tag_len: self.tag_len,
+            packet: self.packet.copy(alloc)?,
+        })
     }
 }

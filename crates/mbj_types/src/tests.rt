@@ -35,6 +35,22 @@ fn jobs_and_results_may_cross_to_another_thread(rt: HostRuntime) {
 }
 
 #[test]
+fn a_copied_job_is_equal_and_stands_alone(rt: HostRuntime) -> Result<(), Fail> {
+    let mut job = Job::blank(rt.alloc());
+    job.auth = Auth::HmacSha1;
+    job.aad = Bytes::from_vec(b"header".to_vec(rt.alloc())?);
+    job.packet = Bytes::from_vec(b"packet".to_vec(rt.alloc())?);
+    job.tag_len = 12;
+    let copy = job.copy(rt.alloc())?;
+    drop(job);
+    assert_eq!(rt; copy.auth, Auth::HmacSha1);
+    assert_eq!(rt; copy.aad.as_slice(), b"header".as_slice());
+    assert_eq!(rt; copy.packet.as_slice(), b"packet".as_slice());
+    assert_eq!(rt; copy.tag_len, 12);
+    Ok(())
+}
+
+#[test]
 fn reasons_and_lanes_have_their_numbers(rt: HostRuntime) {
     assert_eq!(rt; Reason::PacketLong.number(), 1);
     assert_eq!(rt; Reason::TagLength.number(), 10);
