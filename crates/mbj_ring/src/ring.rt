@@ -1,6 +1,6 @@
 //! `Ring` and its calls. A clause sees a ring as the list of its committed values, the value of its open cell, and the
 //! place of its first value (`specs/Ring.antt`).
-ghost use Rattle.std.specs.Prelude.{◌≡◌, ◌+◌, ◌%◌, ◌<◌, ◌≤◌, [], length, slice_get, Some, None, IfOk};
+ghost use Rattle.std.specs.Prelude.{◌≡◌, ◌↔◌, ◌+◌, ◌%◌, ◌<◌, ◌≤◌, [], length, slice_get, Some, None, IfOk, IsTrue};
 ghost use Rattle.std.specs.Option.{option_copied_mut, IsSome, MatchOption};
 ghost use Rattle.std.specs.Borrow.{sem};
 ghost use Rattle.mbj_ring.specs.Ring.{ring, all_values, place_of, index_at, IsLive, IsWithin, without_first};
@@ -72,6 +72,13 @@ impl<T> Ring<T> {
         ensures within { IsWithin self.now }
     {
         self.len
+    }
+
+    /// Whether a cell is open.
+    pub fn has_open(&self) -> bool
+        ensures { IsTrue result ↔ IsSome self.now.opened }
+    {
+        self.has_open
     }
 
     /// Opens the cell after the committed values, and puts `value` there.

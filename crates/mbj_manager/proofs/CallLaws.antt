@@ -1,0 +1,84 @@
+-- What is given back over a list of calls.
+use Rattle.std.proofs.Common.{◌≡◌, ◌↔◌, List, [], ◌∷◌, ◌++◌, map, Option, Some, None, option_to_list, slice_get, refl, ap, sym, ◌∙◌, append_assoc, append-nil, arith}
+use Rattle.std.proofs.lemmas.List.{map-append}
+use Rattle.mbj_types.specs.declared.job.Job.{Job}
+use Rattle.mbj_types.specs.declared.done.Done.{Done}
+use Rattle.mbj_types.specs.Result.{result_of}
+use Rattle.mbj_manager.specs.Rounds.{Pending}
+use Rattle.mbj_manager.specs.State.{ManagerState, IsEarliestFinished, given, given_at, entered, entered_at, submitted}
+use Rattle.mbj_manager.specs.Calls.{Call, get_next, write, submit, get_completed, flush, called, jobs_in, opened_next, submitted_at, written_at, given_back, jobs_submitted, after_calls}
+
+given-order-at : (ds : List Done) (left : List (List Pending)) (h : ManagerState) → h.owed ≡ ds
+    → option_to_list (given_at ds left h).0 ++ (given_at ds left h).1.owed ≡ ds
+given-order-at [] left h e = e
+given-order-at (d ∷ ds) [] h e = e
+given-order-at (d ∷ ds) ([] ∷ left) h e = refl
+given-order-at (d ∷ ds) ((p ∷ ps) ∷ left) h e = e
+
+-- the first of what is owed is given back, and the rest is still owed
+pub given-order : (h : ManagerState) → option_to_list (given h).0 ++ (given h).1.owed ≡ h.owed
+given-order h = given-order-at h.owed h.machine.left h refl
+
+none-then : (ds : List Done) (left : List (List Pending)) (h : ManagerState) → h.owed ≡ ds → h.machine.left ≡ left
+    → (given_at ds left h).0 ≡ None → ¬ IsEarliestFinished h
+none-then [] left h e f n = λ x. x.some e
+none-then (d ∷ ds) [] h e f n = λ x. cc
+none-then (d ∷ ds) ([] ∷ left) h e f n = cc
+none-then (d ∷ ds) ((p ∷ ps) ∷ left) h e f n = λ x. let g : Some (p ∷ ps) ≡ Some [] = sym (ap (λ l. slice_get l 0) f) ∙ x.done in cc
+
+none-if : (ds : List Done) (left : List (List Pending)) (h : ManagerState) → h.owed ≡ ds → h.machine.left ≡ left
+    → ¬ IsEarliestFinished h → (given_at ds left h).0 ≡ None
+none-if [] left h e f n = refl
+none-if (d ∷ ds) [] h e f n = refl
+none-if (d ∷ ds) ([] ∷ left) h e f n = elim (n (record { some = λ x. let g : d ∷ ds ≡ [] = sym e ∙ x in cc; done = ap (λ l. slice_get l 0) f })) [ ]
+none-if (d ∷ ds) ((p ∷ ps) ∷ left) h e f n = refl
+
+-- nothing is given back exactly where the earliest job isn't finished
+pub none-where : (h : ManagerState) → ((given h).0 ≡ None) ↔ ¬ IsEarliestFinished h
+none-where h = (none-then h.owed h.machine.left h refl refl, none-if h.owed h.machine.left h refl refl)
+
+entered-owed : (o : Option Job) (h : ManagerState) → (entered_at o h).owed ≡ h.owed ++ map result_of (option_to_list o)
+entered-owed None h = sym (append-nil h.owed)
+entered-owed (Some j) h = refl
+
+pub submitted-order : (h : ManagerState)
+    → option_to_list (submitted h).0 ++ (submitted h).1.owed ≡ h.owed ++ map result_of (option_to_list h.opened)
+submitted-order h = given-order (entered h) ∙ entered-owed h.opened h
+
+-- what a call gives back, and then what is owed, are what was owed and the results of what the call submits
+abbrev pub Keeps : Call → ManagerState → Type 0
+Keeps c h = option_to_list (called c h).0 ++ (called c h).1.owed ≡ h.owed ++ map result_of (jobs_in c h)
+
+submit-keeps : (o : Option Job) (h : ManagerState) → h.opened ≡ o
+    → option_to_list (submitted_at o h).0 ++ (submitted_at o h).1.owed ≡ h.owed ++ map result_of (option_to_list o)
+submit-keeps None h e = sym (append-nil h.owed)
+submit-keeps (Some j) h e = submitted-order h ∙ ap (λ o. h.owed ++ map result_of (option_to_list o)) e
+
+write-keeps : (o : Option Job) (j : Job) (h : ManagerState) → (written_at o j h).owed ≡ h.owed
+write-keeps None j h = refl
+write-keeps (Some old) j h = refl
+
+next-keeps : (h : ManagerState) → (opened_next h).owed ≡ h.owed
+next-keeps h = grind arith
+
+keeps : (c : Call) (h : ManagerState) → Keeps c h
+keeps get_next h = next-keeps h ∙ sym (append-nil h.owed)
+keeps (write j) h = write-keeps h.opened j h ∙ sym (append-nil h.owed)
+keeps submit h = submit-keeps h.opened h refl
+keeps get_completed h = given-order h ∙ sym (append-nil h.owed)
+keeps flush h = given-order (record h { machine = Rattle.mbj_manager.specs.Course.flushed h.machine }) ∙ sym (append-nil h.owed)
+
+pub all-in-order : (cs : List Call) (h : ManagerState)
+    → given_back cs h ++ (after_calls cs h).owed ≡ h.owed ++ map result_of (jobs_submitted cs h)
+unfolding given_back jobs_submitted after_calls
+all-in-order [] h = sym (append-nil h.owed)
+all-in-order (c ∷ cs) h =
+    let n = (called c h).1 in
+    let back = option_to_list (called c h).0 in
+    let jobs = jobs_submitted cs n in
+    append_assoc back (given_back cs n) (after_calls cs n).owed
+    ∙ ap (λ ds. back ++ ds) (all-in-order cs n)
+    ∙ sym (append_assoc back n.owed (map result_of jobs))
+    ∙ ap (λ ds. ds ++ map result_of jobs) (keeps c h)
+    ∙ append_assoc h.owed (map result_of (jobs_in c h)) (map result_of jobs)
+    ∙ ap (λ ds. h.owed ++ ds) (sym (map-append result_of (jobs_in c h) jobs))

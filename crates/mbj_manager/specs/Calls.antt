@@ -1,0 +1,62 @@
+-- The calls of a manager one after another, and the law of what they give back.
+use Rattle.std.specs.Prelude.{◌≡◌, ◌==◌, List, [], ◌∷◌, ◌++◌, length, map, Option, Some, None, option_to_list, if◌then◌else◌}
+use Rattle.mbj_types.specs.declared.job.Job.{Job}
+use Rattle.mbj_types.specs.declared.done.Done.{Done}
+use Rattle.mbj_types.specs.Result.{result_of}
+use Rattle.mbj_ring.specs.declared.ring.TheConstants.{CELLS}
+use Rattle.mbj_manager.specs.State.{ManagerState, new_manager, lent, with_open, given, submitted, flushing}
+
+-- a call, or a write of the job that is lent
+pub data Call : Type 0 where
+  get_next : Call
+  write : Job → Call
+  submit : Call
+  get_completed : Call
+  flush : Call
+
+abbrev pub opened_next : ManagerState → ManagerState
+opened_next h = if length h.owed == CELLS then h else with_open h (lent h)
+
+-- only a job that is lent is written
+abbrev pub written_at : Option Job → Job → ManagerState → ManagerState
+written_at None j h = h
+written_at (Some old) j h = with_open h j
+
+-- only an open job is submitted
+abbrev pub submitted_at : Option Job → ManagerState → Option Done × ManagerState
+submitted_at None h = (None, h)
+submitted_at (Some j) h = submitted h
+
+-- what a call gives back, and the state after it
+abbrev pub called : Call → ManagerState → Option Done × ManagerState
+called get_next h = (None, opened_next h)
+called (write j) h = (None, written_at h.opened j h)
+called submit h = submitted_at h.opened h
+called get_completed h = given h
+called flush h = flushing h
+
+-- the jobs that a call submits
+abbrev pub jobs_in : Call → ManagerState → List Job
+jobs_in get_next h = []
+jobs_in (write j) h = []
+jobs_in submit h = option_to_list h.opened
+jobs_in get_completed h = []
+jobs_in flush h = []
+
+-- what the calls give back, in order
+unfoldable pub given_back : List Call → ManagerState → List Done
+given_back [] h = []
+given_back (c ∷ cs) h = option_to_list (called c h).0 ++ given_back cs (called c h).1
+
+-- the jobs that the calls submit, each as it is when it is submitted, in order
+unfoldable pub jobs_submitted : List Call → ManagerState → List Job
+jobs_submitted [] h = []
+jobs_submitted (c ∷ cs) h = jobs_in c h ++ jobs_submitted cs (called c h).1
+
+unfoldable pub after_calls : List Call → ManagerState → ManagerState
+after_calls [] h = h
+after_calls (c ∷ cs) h = after_calls cs (called c h).1
+
+-- what is given back, and then what is still owed, are the results of what was submitted, each once and in order
+abbrev pub GivesInOrder : List Call → Type 0
+GivesInOrder cs = given_back cs new_manager ++ (after_calls cs new_manager).owed ≡ map result_of (jobs_submitted cs new_manager)

@@ -1,0 +1,23 @@
+-- What a manager ends as, once a `&mut` to its open job has ended.
+use Rattle.std.specs.Prelude.{Result}
+use Rattle.std.specs.Borrow.{Fml, Lends, LendsIfOk, MutBor}
+use Rattle.mbj_types.specs.declared.job.Job.{Job}
+use Rattle.mbj_types.specs.declared.refusal.RingFull.{RingFull}
+use Rattle.mbj_types.specs.contracts.job.Job.{the_row as job_row}
+use Rattle.mbj_manager.specs.State.{ManagerState, with_open}
+use Rattle.mbj_manager.specs.declared.cell.Cell.{Cell}
+use Rattle.mbj_manager.specs.declared.cell.Cell.TheVariants as cell
+use Rattle.mbj_manager.specs.contracts.cell.Cell.{the_row as cell_row}
+use Rattle.mbj_manager.specs.contracts.manager.Manager.{the_row}
+
+-- the cell holds the job that was last written through r
+abbrev pub LendsJobIn : MutBor Cell → MutBor Job → Fml
+LendsJobIn c r = Lends cell_row job_row c r (λ j. cell.Open j)
+
+-- the open job is what was last written through r
+abbrev pub LendsOpen : MutBor ManagerState → MutBor Job → Fml
+LendsOpen m r = Lends the_row job_row m r (with_open m.now)
+
+-- likewise, and where the call is refused the manager stays as it is
+abbrev pub LendsNext : MutBor ManagerState → Result (MutBor Job) RingFull → Fml
+LendsNext m r = LendsIfOk the_row job_row m r (with_open m.now) m.now

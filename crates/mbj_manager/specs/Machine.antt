@@ -1,0 +1,133 @@
+-- The lane machine: which jobs wait for lanes, in which order, and what one run takes off them. It moves numbers alone.
+use Rattle.std.specs.Prelude.{ℕ, ◌+◌, ◌*◌, ◌-◌, ◌%◌, ◌^◌, ◌==◌, min, zero, suc, Bool, List, [], ◌∷◌, ◌++◌, map, filter, length, slice_index_or, not}
+use Rattle.mbj_types.specs.declared.kind.Kind.{Kind}
+use Rattle.mbj_types.specs.declared.kind.Kind.TheVariants as kind
+use Rattle.mbj_manager.specs.Rounds.{Pending}
+
+-- a job that waits in a list: its number, and its rest, which is how many rounds are left of its stage
+pub record Waiting : Type 0 where
+  pub number : ℕ
+  pub rest : ℕ
+
+-- the list of a kind, and what its full runs came to: how many rounds they took, and how many blocks went through them
+pub record Lane : Type 0 where
+  pub waiting : List Waiting
+  pub rounds : ℕ
+  pub blocks : ℕ
+
+-- The jobs that are submitted and not given back have the numbers from 0 on, in the order of submission.
+pub record Machine : Type 0 where
+  -- job by job the stages that are left. That of a waiting job stays until its rounds are done. A job with none left is
+  -- finished
+  pub left : List (List Pending)
+  -- the lanes of each kind, in the order of the kinds
+  pub lanes : List Lane
+  -- the jobs that stand between two stages
+  pub agenda : List ℕ
+  -- how many runs there were within a flush
+  pub flush_runs : ℕ
+
+-- counts are kept modulo this
+abbrev pub count_end : ℕ
+count_end = 2 ^ 64
+
+-- ---- changes of one place
+
+-- the list with f of the item at n in its place
+abbrev pub changed : {A : Type 0} → (A → A) → ℕ → List A → List A
+changed f n [] = []
+changed f zero (x ∷ xs) = f x ∷ xs
+changed f (suc n) (x ∷ xs) = x ∷ changed f n xs
+
+-- how many kinds there are
+abbrev pub kind_count : ℕ
+kind_count = 8
+
+abbrev pub index_of : Kind → ℕ
+index_of kind.Cbc128 = 0
+index_of kind.Cbc192 = 1
+index_of kind.Cbc256 = 2
+index_of kind.Cmac128 = 3
+index_of kind.Cmac256 = 4
+index_of kind.HmacSha1 = 5
+index_of kind.HmacSha256 = 6
+index_of kind.HmacSha512 = 7
+
+-- lanes in which no job waits, and in which nothing ran
+abbrev pub idle_lane : Lane
+idle_lane = record { waiting = []; rounds = 0; blocks = 0 }
+
+abbrev pub lane_of : Kind → Machine → Lane
+lane_of k m = slice_index_or m.lanes (index_of k) idle_lane
+
+-- the lanes with l for those of the kind k
+abbrev pub with_lane : Kind → Lane → List Lane → List Lane
+with_lane k l lanes = changed (λ _. l) (index_of k) lanes
+
+-- ---- a run
+
+abbrev pub rest_of : Waiting → ℕ
+rest_of w = w.rest
+
+abbrev pub least_from : ℕ → List Waiting → ℕ
+least_from n [] = n
+least_from n (w ∷ ws) = least_from (min n w.rest) ws
+
+-- the least rest in a list
+abbrev pub least : List Waiting → ℕ
+least [] = 0
+least (w ∷ ws) = least_from w.rest ws
+
+abbrev pub lowered : ℕ → Waiting → Waiting
+lowered m w = record { number = w.number; rest = w.rest - m }
+
+-- a list once it ran by its least rest, those at rest 0 still in it
+abbrev pub shortened : List Waiting → List Waiting
+shortened ws = map (lowered (least ws)) ws
+
+abbrev pub is_at_end : Waiting → Bool
+is_at_end w = w.rest == 0
+
+-- the numbers of those whose rounds are done, in list order; and the others, in theirs
+abbrev pub leavers : List Waiting → List ℕ
+leavers ws = map (λ w. w.number) (filter is_at_end ws)
+
+abbrev pub stayers : List Waiting → List Waiting
+stayers ws = filter (λ w. not (is_at_end w)) ws
+
+abbrev pub without_first : List Pending → List Pending
+without_first [] = []
+without_first (p ∷ ps) = ps
+
+-- the stages left once the first of each of these jobs is done
+abbrev pub stage_done : List ℕ → List (List Pending) → List (List Pending)
+stage_done [] left = left
+stage_done (n ∷ ns) left = stage_done ns (changed without_first n left)
+
+-- the list of the kind k runs by its least rest: those whose rounds are done leave in list order, and join the agenda's end
+abbrev pub ran : Kind → (List Waiting → Lane) → Machine → Machine
+ran k after m = record {
+  left = stage_done (leavers (shortened (lane_of k m).waiting)) m.left;
+  lanes = with_lane k (after (stayers (shortened (lane_of k m).waiting))) m.lanes;
+  agenda = m.agenda ++ leavers (shortened (lane_of k m).waiting);
+  flush_runs = m.flush_runs;
+}
+
+abbrev pub with_waiting : Lane → List Waiting → Lane
+with_waiting l ws = record { waiting = ws; rounds = l.rounds; blocks = l.blocks }
+
+-- that run in the counts of its kind: all lanes are in use
+abbrev pub with_run : Lane → List Waiting → Lane
+with_run l ws = record {
+  waiting = ws;
+  rounds = (l.rounds + least l.waiting) % count_end;
+  blocks = (l.blocks + least l.waiting * length l.waiting) % count_end;
+}
+
+-- a run of a full list
+abbrev pub run_full : Kind → Machine → Machine
+run_full k m = ran k (with_run (lane_of k m)) m
+
+-- a run within a flush, some lanes idle
+abbrev pub run_idle : Kind → Machine → Machine
+run_idle k m = ran k (with_waiting (lane_of k m)) (record m { flush_runs = (m.flush_runs + 1) % count_end })

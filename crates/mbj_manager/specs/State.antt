@@ -1,0 +1,90 @@
+-- What a contract sees of a manager, and what each call makes of it.
+use Rattle.std.specs.Prelude.{◌≡◌, ◌≢◌, ◌-◌, List, [], ◌∷◌, ◌++◌, length, map, replicate, Option, Some, None, slice_get, unwrap_or}
+use Rattle.mbj_types.specs.declared.job.Job.{Job}
+use Rattle.mbj_types.specs.declared.done.Done.{Done}
+use Rattle.mbj_types.specs.Blank.{blank}
+use Rattle.mbj_types.specs.Result.{result_of}
+use Rattle.mbj_stage.specs.Going.{begun}
+use Rattle.mbj_manager.specs.Rounds.{Pending, pending}
+use Rattle.mbj_manager.specs.Machine.{Waiting, Lane, Machine, kind_count, idle_lane}
+use Rattle.mbj_manager.specs.Course.{course, flushed}
+
+pub record ManagerState : Type 0 where
+  -- the results of the jobs that are submitted and not given back, in the order of submission
+  pub owed : List Done
+  -- the job that is being filled
+  pub opened : Option Job
+  -- where the submitted jobs stand
+  pub machine : Machine
+
+-- a machine with the jobs whose stages left these are, and whose lanes are idle
+abbrev pub idle_machine : List (List Pending) → Machine
+idle_machine left = record { left = left; lanes = replicate kind_count idle_lane; agenda = []; flush_runs = 0 }
+
+abbrev pub new_manager : ManagerState
+new_manager = record { owed = []; opened = None; machine = idle_machine [] }
+
+-- ---- get_next
+
+-- the job that is lent: the open one, or a blank one where none is open
+abbrev pub lent : ManagerState → Job
+lent h = unwrap_or h.opened blank
+
+-- what is written there is the open job
+abbrev pub with_open : ManagerState → Job → ManagerState
+with_open h j = record h { opened = Some j }
+
+-- ---- giving back
+
+abbrev pub earlier : Waiting → Waiting
+earlier w = record { number = w.number - 1; rest = w.rest }
+
+abbrev pub renumbered : Lane → Lane
+renumbered l = record { waiting = map earlier l.waiting; rounds = l.rounds; blocks = l.blocks }
+
+-- the machine once the first job left: each number is one lower
+abbrev pub without_earliest : List (List Pending) → Machine → Machine
+without_earliest left m = record m { left = left; lanes = map renumbered m.lanes }
+
+-- the earliest job's result is given back where that job is finished
+abbrev pub given_at : List Done → List (List Pending) → ManagerState → Option Done × ManagerState
+given_at (d ∷ ds) ([] ∷ left) h =
+    (Some d, record { owed = ds; opened = h.opened; machine = without_earliest left h.machine })
+given_at ds left h = (None, h)
+
+abbrev pub given : ManagerState → Option Done × ManagerState
+given h = given_at h.owed h.machine.left h
+
+-- there is an earliest job, and no stage of it is left
+pub record IsEarliestFinished (h : ManagerState) : Type 0 where
+  pub some : h.owed ≢ []
+  pub done : slice_get h.machine.left 0 ≡ Some []
+
+-- ---- submit
+
+-- the job goes last among those that are submitted, and the course is followed from it
+abbrev pub with_job : Job → ManagerState → ManagerState
+with_job j h = record {
+  owed = h.owed ++ result_of j ∷ [];
+  opened = None;
+  machine = course (record h.machine {
+    left = h.machine.left ++ pending (begun j) ∷ [];
+    agenda = length h.owed ∷ [];
+  });
+}
+
+abbrev pub entered_at : Option Job → ManagerState → ManagerState
+entered_at None h = h
+entered_at (Some j) h = with_job j h
+
+-- the open job is submitted as it is
+abbrev pub entered : ManagerState → ManagerState
+entered h = entered_at h.opened h
+
+abbrev pub submitted : ManagerState → Option Done × ManagerState
+submitted h = given (entered h)
+
+-- ---- flush
+
+abbrev pub flushing : ManagerState → Option Done × ManagerState
+flushing h = given (record h { machine = flushed h.machine })

@@ -1,0 +1,16 @@
+//! The manager: a caller gets the next job cell, fills it, submits it, and takes finished jobs back in the order of
+//! submission.
+#![tactic(auto)]
+
+mod calls;
+mod cell;
+mod manager;
+
+pub use calls::results_come_back_in_order;
+// A crate can name a manager in a contract only if the types of its fields are exported.
+#[doc(hidden)]
+pub use cell::Cell;
+pub use manager::Manager;
+
+#[cfg(test)]
+mod tests;

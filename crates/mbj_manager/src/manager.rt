@@ -1,0 +1,193 @@
+ghost use Rattle.std.specs.Prelude.{◌≡◌, ◌↔◌, ◌<◌, ◌≤◌, ◌++◌, [], None, IfOk, OnOk, OnErr, IsSome, length, map, option_to_list, replicate};
+ghost use Rattle.std.specs.Borrow.{sem};
+ghost use Rattle.mbj_types.specs.Result.{result_of};
+ghost use Rattle.mbj_ring.specs.declared.ring.TheConstants.{CELLS};
+ghost use Rattle.mbj_manager.specs.Machine.{kind_count, idle_lane, lane_of};
+ghost use Rattle.mbj_manager.specs.State.{IsEarliestFinished, entered, flushing, given, lent, new_manager, submitted, with_open};
+ghost use Rattle.mbj_manager.specs.Lending.{LendsNext, LendsOpen};
+
+use crate::cell::Cell;
+use mbj_ring::{CELLS, Ring};
+use mbj_types::{Done, Job, Kind, RingFull};
+use std::alloc::{AllocError, Global};
+use std::marker::Model;
+
+/// A manager of jobs for one thread.
+///
+/// `get_next` lends the next cell, in which the caller fills a job; `submit` takes the job as it then is; `submit`,
+/// `get_completed` and `flush` give finished jobs back, always in the order of submission. A job that is refused comes
+/// back in its place, as `Status::InvalidArgs`.
+///
+/// `new` takes all the memory of the cells; no other call takes any. At most 256 jobs are submitted and not given back.
+#[derive(Drop)]
+pub struct Manager {
+    ring: Ring<Cell>,
+    alloc: Global,
+}
+
+impl Model for Manager {
+    ghost use Rattle.mbj_manager.specs.State.{ManagerState};
+    ghost use Rattle.mbj_manager.specs.Held.{held, IsHeld};
+
+    ghost Value = { ManagerState };
+
+    ghost view = { λ m. held m.ring };
+
+    ghost invariant = { λ m. IsHeld m.ring };
+}
+
+impl Manager {
+    /// A manager with no job and no open cell, and with counts of 0.
+    ///
+    /// Answers `AllocError` for want of memory.
+    pub fn new(alloc: Global) -> Result<Manager, AllocError>
+        ensures { IfOk result (λ m. m ≡ new_manager) }
+    {
+        let ring = Ring::new(alloc)?;
+        Ok(Manager { ring, alloc })
+    }
+
+    /// Lends the open job, to be filled: a blank one where none was open, else that one as it was written. What is
+    /// written there is the open job.
+    ///
+    /// Answers `RingFull` exactly where 256 jobs are submitted and not given back; nothing changes then.
+    pub fn get_next(&mut self) -> Result<&mut Job, RingFull>
+        ensures* lends { sem 𝓛 (LendsNext self.entry result) }
+        ensures value { IfOk result (λ j. j.now ≡ lent self.old) }
+        ensures full { OnErr result (length self.old.owed ≡ CELLS) }
+        ensures room { OnOk result (length self.old.owed < CELLS) }
+    {
+        if self.ring.len() == CELLS {
+            return Err(RingFull);
+        }
+        self.open_cell();
+        Ok(self.open_job())
+    }
+
+    /// Opens a cell with a blank job, where none is open.
+    fn open_cell(&mut self)
+        requires { length self.old.owed < CELLS }
+        ensures { self.new ≡ with_open self.old (lent self.old) }
+    {
+        if !self.ring.has_open() {
+            self.ring.open_cell(Cell::Open(Job::blank(self.alloc)));
+        }
+    }
+
+    fn open_job(&mut self) -> &mut Job
+        requires { IsSome self.old.opened }
+        ensures* lends { sem 𝓛 (LendsOpen self.entry result) }
+        ensures value { result.now ≡ lent self.old }
+    {
+        match self.ring.open_mut() {
+            Some(cell) => cell.job_mut(),
+            None => unreachable!(),
+        }
+    }
+
+    /// Submits the open job as it is: the results that are owed get its result, its stages are done, and then the earliest
+    /// job is given back where it is finished.
+    ///
+    /// Answers `None` exactly where, after that, the earliest job isn't finished.
+    pub fn submit(&mut self) -> Option<Done>
+        requires is_open { IsSome self.old.opened }
+        ensures result { result ≡ (submitted self.old).0 }
+        ensures state { self.new ≡ (submitted self.old).1 }
+        ensures none { (result ≡ None) ↔ ¬ IsEarliestFinished (entered self.old) }
+        ensures order { option_to_list result ++ self.new.owed
+            ≡ self.old.owed ++ map result_of (option_to_list self.old.opened) }
+    {
+        self.enter();
+        self.get_completed()
+    }
+
+    /// The open job goes last among those that are submitted, and its stages are done.
+    fn enter(&mut self)
+        requires { IsSome self.old.opened }
+        ensures { self.new ≡ entered self.old }
+    {
+        match self.ring.open_mut() {
+            Some(cell) => cell.submit(self.alloc),
+            None => unreachable!(),
+        }
+        self.ring.commit();
+    }
+
+    /// Gives the earliest job back where it is finished, and runs nothing.
+    ///
+    /// Answers `None` exactly where no job is submitted and not given back, or the earliest isn't finished; nothing
+    /// changes then.
+    pub fn get_completed(&mut self) -> Option<Done>
+        ensures result { result ≡ (given self.old).0 }
+        ensures state { self.new ≡ (given self.old).1 }
+        ensures none { (result ≡ None) ↔ ¬ IsEarliestFinished self.old }
+        ensures order { option_to_list result ++ self.new.owed ≡ self.old.owed }
+    {
+        match self.ring.pop() {
+            Some(cell) => Some(cell.into_done()),
+            None => None,
+        }
+    }
+
+    /// Finishes the earliest job, and gives it back. An open cell stays as it is.
+    ///
+    /// Answers `None` exactly where no job is submitted and not given back.
+    pub fn flush(&mut self) -> Option<Done>
+        ensures result { result ≡ (flushing self.old).0 }
+        ensures state { self.new ≡ (flushing self.old).1 }
+        ensures none { (result ≡ None) ↔ (self.old.owed ≡ []) }
+        ensures open_stays { self.new.opened ≡ self.old.opened }
+        ensures order { option_to_list result ++ self.new.owed ≡ self.old.owed }
+    {
+        // By the invariant each submitted job is finished.
+        let _cells = &self.ring;
+        self.get_completed()
+    }
+
+    /// How many jobs are submitted and not given back, at most 256.
+    pub fn queue_size(&self) -> u32
+        ensures size { result ≡ length self.now.owed }
+        ensures within { result ≤ CELLS }
+    {
+        self.ring.len()
+    }
+
+    /// How many jobs of a kind wait for lanes.
+    pub fn waiting(&self, _kind: Kind) -> u32
+        ensures { result ≡ length (lane_of _kind self.now.machine).waiting }
+    {
+        self.idle_count()
+    }
+
+    /// How many rounds the full runs of a kind took, modulo 2^64.
+    pub fn rounds(&self, _kind: Kind) -> u64
+        ensures { result ≡ (lane_of _kind self.now.machine).rounds }
+    {
+        self.idle_count() as u64
+    }
+
+    /// How many blocks went through the full runs of a kind, modulo 2^64.
+    pub fn blocks(&self, _kind: Kind) -> u64
+        ensures { result ≡ (lane_of _kind self.now.machine).blocks }
+    {
+        self.idle_count() as u64
+    }
+
+    /// How many runs there were within `flush`, modulo 2^64.
+    pub fn flush_runs(&self) -> u64
+        ensures { result ≡ self.now.machine.flush_runs }
+    {
+        self.idle_count() as u64
+    }
+
+    /// What is counted of the lanes: nothing, since every stage finishes at once.
+    fn idle_count(&self) -> u32
+        ensures zero { result ≡ 0 }
+        ensures lanes { self.now.machine.lanes ≡ replicate kind_count idle_lane }
+        ensures flush_runs { self.now.machine.flush_runs ≡ 0 }
+    {
+        // By the invariant no lanes are used.
+        let _ = &self.ring;
+        0
+    }
+}
