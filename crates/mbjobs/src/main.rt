@@ -3,7 +3,6 @@
 
 mod cause;
 mod command;
-mod gate;
 mod reading;
 mod report;
 mod run;
