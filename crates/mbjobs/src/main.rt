@@ -3,7 +3,9 @@
 
 mod cause;
 mod command;
+mod command_set;
 mod gate;
+mod options;
 mod reading;
 mod report;
 mod run;

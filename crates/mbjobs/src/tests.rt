@@ -1,3 +1,5 @@
+mod command;
+
 use super::*;
 use mbj_io::{MemSink, MemSource};
 use std::alloc::{AllocError, Global};
