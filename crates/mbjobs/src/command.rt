@@ -1,6 +1,6 @@
-ghost use Rattle.std.specs.Prelude.{◌≡◌, ◌≢◌, IfErr, IfOk, IfSome, Some, None, map, option_and_then, string_bytes};
+ghost use Rattle.std.specs.Prelude.{◌≡◌, ◌≢◌, ◌∷◌, [], IfErr, IfOk, IfSome, Some, None, map, option_and_then, option_map, string_bytes};
 ghost use Rattle.clap.specs.Words.{found_of, kind_of, rows_of, subcommand_rows_of};
-ghost use Rattle.mbjobs.specs.Command.{IsInRange, IsText, command, entry_command, found_command, gen, is_run, run};
+ghost use Rattle.mbjobs.specs.Command.{IsInRange, IsParties, IsText, command, entry_command, found_command, gen, is_run, numbers_of, run, submitters, workers};
 
 use crate::command_set::command_set;
 use crate::options::{JOBS, SEED, SUBMITTERS, WORKERS, number};
@@ -12,7 +12,10 @@ use std::alloc::Global;
 #[derive(Clone, Copy, Debug, PartialEq, Eq)]
 pub enum Command {
     /// `run`: reads a job file, does its jobs, and writes a result line for each, in file order.
-    Run { submitters: u32, workers: u32 },
+    Run {
+        submitters: u32,
+        workers: u32,
+    },
     /// `trace`: reads a job file, drives one manager with its jobs, and prints what each call gives back.
     Trace,
     /// `gen`: makes jobs from the seed, does them as `run` does, and prints a summary.
@@ -34,15 +37,25 @@ pub(crate) enum WordFault {
     Memory,
 }
 
+/// How many submitters and workers were asked for.
+fn parties(matches: &ArgMatches<'_>) -> Option<(u32, u32)>
+    ensures value { option_map (λ p. p.0 ∷ p.1 ∷ []) result
+        ≡ numbers_of (rows_of (found_of matches.now)) (submitters ∷ workers ∷ []) }
+    ensures range { IfSome result (λ p. IsParties p.0 p.1) }
+{
+    let submitters = number(matches, &SUBMITTERS)?;
+    let workers = number(matches, &WORKERS)?;
+    Some((submitters as u32, workers as u32))
+}
+
 fn run_of(matches: &ArgMatches<'_>) -> Option<Command>
     ensures meaning { result ≡ entry_command (rows_of (found_of matches.now)) run }
     ensures range { IfSome result IsInRange }
 {
-    let submitters = number(matches, &SUBMITTERS)?;
-    let workers = number(matches, &WORKERS)?;
+    let (submitters, workers) = parties(matches)?;
     Some(Command::Run {
-        submitters: submitters as u32,
-        workers: workers as u32,
+        submitters,
+        workers,
     })
 }
 
@@ -52,13 +65,12 @@ fn gen_of(matches: &ArgMatches<'_>) -> Option<Command>
 {
     let seed = number(matches, &SEED)?;
     let jobs = number(matches, &JOBS)?;
-    let submitters = number(matches, &SUBMITTERS)?;
-    let workers = number(matches, &WORKERS)?;
+    let (submitters, workers) = parties(matches)?;
     Some(Command::Gen {
         seed,
         jobs: jobs as u32,
-        submitters: submitters as u32,
-        workers: workers as u32,
+        submitters,
+        workers,
     })
 }
 
@@ -93,6 +105,14 @@ fn fault_of(alloc: Global, error: &clap::Error) -> WordFault
     }
 }
 
+/// The fault where clap found no fault and yet no command.
+fn no_command(alloc: Global) -> WordFault {
+    String::from_str(alloc, "error: no command was found").map_or(
+        WordFault::Memory,
+        WordFault::Text,
+    )
+}
+
 /// The command that the words are, the first of which is the program's name.
 ///
 /// The words are read by clap's rules: options come in any order, once each, as `--NAME NUMBER` or `--NAME=NUMBER`, and
@@ -100,9 +120,9 @@ fn fault_of(alloc: Global, error: &clap::Error) -> WordFault
 ///
 /// Answers `Text` exactly where the words are no command, and `Memory` for want of memory.
 pub(crate) fn read_command<'a>(alloc: Global, words: &'a [String]) -> Result<Command, WordFault>
-    ensures found { IfOk result (λ c. command (map string_bytes words.entry.now) ≡ Some c) }
+    ensures found { IfOk result (λ c. command (map string_bytes words.now) ≡ Some c) }
     ensures range { IfOk result IsInRange }
-    ensures none { IfErr result (λ fault. IsText fault → command (map string_bytes words.entry.now) ≡ None) }
+    ensures none { IfErr result (λ fault. IsText fault → command (map string_bytes words.now) ≡ None) }
 {
     let Ok(set) = command_set(alloc) else {
         return Err(WordFault::Memory);
@@ -111,7 +131,10 @@ pub(crate) fn read_command<'a>(alloc: Global, words: &'a [String]) -> Result<Com
         Ok(matches) => matches,
         Err(error) => return Err(fault_of(alloc, &error)),
     };
-    found_command(&matches).ok_or(WordFault::Text(String::new(alloc)))
+    match found_command(&matches) {
+        Some(command) => Ok(command),
+        None => Err(no_command(alloc)),
+    }
 }
 
 /// How many words make up the command, the program's name among them.

@@ -19,7 +19,7 @@ pub(crate) struct NumberOption {
 pub(crate) const SUBMITTERS: NumberOption = NumberOption {
     name: "submitters",
     placeholder: "S",
-    help: "How many threads hand in jobs: 1 to 16, as in --submitters 1",
+    help: "Threads that hand in jobs: 1 to 16, as in --submitters 1",
     least: 1,
     greatest: 16,
 };
@@ -27,7 +27,7 @@ pub(crate) const SUBMITTERS: NumberOption = NumberOption {
 pub(crate) const WORKERS: NumberOption = NumberOption {
     name: "workers",
     placeholder: "W",
-    help: "How many threads do nothing but jobs: 0, as in --workers 0",
+    help: "Threads that only do jobs: 0, as in --workers 0",
     least: 0,
     greatest: 0,
 };
@@ -35,7 +35,7 @@ pub(crate) const WORKERS: NumberOption = NumberOption {
 pub(crate) const SEED: NumberOption = NumberOption {
     name: "seed",
     placeholder: "N",
-    help: "Which jobs are made: 0 to 18446744073709551615, as in --seed 7",
+    help: "What the jobs are made from: 0 to 18446744073709551615, as in --seed 7",
     least: 0,
     greatest: u64::MAX,
 };
@@ -43,7 +43,7 @@ pub(crate) const SEED: NumberOption = NumberOption {
 pub(crate) const JOBS: NumberOption = NumberOption {
     name: "jobs",
     placeholder: "M",
-    help: "How many jobs are made: 0 to 65536, as in --jobs 1000",
+    help: "Jobs to make: 0 to 65536, as in --jobs 1000",
     least: 0,
     greatest: 65_536,
 };

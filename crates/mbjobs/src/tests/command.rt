@@ -59,8 +59,14 @@ const GOOD: [(&str, Command); 11] = [
         },
     ),
     ("mbjobs trace", Command::Trace),
-    ("mbjobs gen --seed 7 --jobs 65536 --submitters 16 --workers 0", GEN),
-    ("mbjobs gen --workers=0 --submitters=16 --jobs=65536 --seed=7", GEN),
+    (
+        "mbjobs gen --seed 7 --jobs 65536 --submitters 16 --workers 0",
+        GEN,
+    ),
+    (
+        "mbjobs gen --workers=0 --submitters=16 --jobs=65536 --seed=7",
+        GEN,
+    ),
     (
         "mbjobs gen --seed 18446744073709551615 --jobs 0 --submitters 2 --workers 0",
         Command::Gen {
@@ -116,7 +122,10 @@ fn other_words_are_no_command(rt: HostRuntime) -> Result<(), Fail> {
     let alloc = rt.alloc();
     for line in FAULTY {
         let text = text_of(&rt, alloc, line)?;
-        assert!(&rt; text.as_str().contains("error: ") || text.as_str().contains("mbjobs"), "{line}: {text}");
+        assert!(&rt;
+            text.as_str().contains("error: ") || text.as_str().contains("mbjobs"),
+            "{line}: {text}"
+        );
     }
     Ok(())
 }
@@ -126,9 +135,23 @@ fn other_words_are_no_command(rt: HostRuntime) -> Result<(), Fail> {
 fn texts_say_what_is_wrong_and_what_is_right(rt: HostRuntime) -> Result<(), Fail> {
     let alloc = rt.alloc();
     let cases: [(&str, &[&str]); 7] = [
-        ("mbjobs --help", &["Usage: mbjobs", "run", "trace", "gen", "--version"]),
-        ("mbjobs run --help", &["Usage: mbjobs run", "--submitters <S>", "1 to 16", "--workers <W>"]),
-        ("mbjobs trace --help", &["Usage: mbjobs trace", "mbjobs trace"]),
+        (
+            "mbjobs --help",
+            &["Usage: mbjobs", "run", "trace", "gen", "--version"],
+        ),
+        (
+            "mbjobs run --help",
+            &[
+                "Usage: mbjobs run",
+                "--submitters <S>",
+                "1 to 16",
+                "--workers <W>",
+            ],
+        ),
+        (
+            "mbjobs trace --help",
+            &["Usage: mbjobs trace", "mbjobs trace"],
+        ),
         (
             "mbjobs gen --help",
             &[
@@ -141,8 +164,14 @@ fn texts_say_what_is_wrong_and_what_is_right(rt: HostRuntime) -> Result<(), Fail
             ],
         ),
         ("mbjobs --version", &["mbjobs 0.1.0"]),
-        ("mbjobs run --submitters 17 --workers 0", &["'17'", "'--submitters <S>'", "--help"]),
-        ("mbjobs", &["Usage: mbjobs", "run", "trace", "gen", "--help"]),
+        (
+            "mbjobs run --submitters 17 --workers 0",
+            &["'17'", "'--submitters <S>'", "--help"],
+        ),
+        (
+            "mbjobs",
+            &["Usage: mbjobs", "run", "trace", "gen", "--help"],
+        ),
     ];
     for (line, parts) in cases {
         let text = text_of(&rt, alloc, line)?;

@@ -26,4 +26,4 @@ pub returns-in-Err-clause-value : goal.returns-in-Err-clause-value
 returns-in-Err-clause-value c =
     let text : List ℕ = c.args.text.now in
     sym (is_out (is_unsigned_in c.args.least c.args.greatest text) (digits_value 10 (without_leading_plus text)) (λ within.
-      let is = accepts-Accepts false (vp.Unsigned c.args.least c.args.greatest) text within in c.in-Err.ensures.value.0 (is.0, is.1)))
+    let is = accepts-Accepts false (vp.Unsigned c.args.least c.args.greatest) text within in c.in-Err.ensures.value.0 (is.0, is.1)))
