@@ -4,7 +4,9 @@
 mod cause;
 mod command;
 mod command_set;
+mod draws;
 mod gate;
+mod generator;
 mod options;
 mod reading;
 mod report;

@@ -1,4 +1,5 @@
 mod command;
+mod generator;
 
 use super::*;
 use mbj_io::{MemSink, MemSource};
