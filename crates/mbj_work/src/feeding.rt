@@ -30,7 +30,7 @@ fn make_room(manager: &mut Manager) -> Option<Done>
 }
 
 /// Writes a job into the next cell.
-fn fill(manager: &mut Manager, job: Job)
+pub fn fill(manager: &mut Manager, job: Job)
     requires { length manager.old.owed < CELLS }
     ensures { manager.new ≡ with_open manager.old job }
 {

@@ -6,7 +6,7 @@ mod gate;
 mod private;
 mod task;
 
-pub use feeding::{Submitted, submit_job};
+pub use feeding::{Submitted, fill, submit_job};
 pub use gate::{Gate, Moment, OpenGate};
 pub use private::run_private;
 

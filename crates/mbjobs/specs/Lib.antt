@@ -1,4 +1,10 @@
 pub mod Command
-pub mod Reading
+pub mod Dealing
+pub mod Generator
+pub mod Lines
 pub mod Message
 pub mod Outcome
+pub mod Reading
+pub mod Summary
+pub mod Trace
+pub mod TraceState

@@ -1,10 +1,9 @@
--- The lines that tell on standard error why the program didn't end with status 0, and the statuses.
+-- The lines that tell on standard error why a command didn't complete, and the statuses.
 use Rattle.std.specs.Prelude.{ℕ, List, ◌++◌, codes, decimal}
 use Rattle.mbjobs.specs.declared.cause.Cause.{Cause}
 use Rattle.mbjobs.specs.declared.cause.Cause.TheVariants as cause
 
 abbrev pub message_of : Cause → List ℕ
-message_of cause.Words = codes "mbjobs: bad command line\n"
 message_of cause.Read = codes "mbjobs: read failed\n"
 message_of cause.Write = codes "mbjobs: write failed\n"
 message_of (cause.Line line field) =
@@ -14,7 +13,6 @@ message_of (cause.Jobs line) = codes "mbjobs: line " ++ (decimal line ++ codes "
 message_of cause.Memory = codes "mbjobs: out of memory\n"
 
 abbrev pub status_of : Cause → ℕ
-status_of cause.Words = 2
 status_of cause.Read = 3
 status_of cause.Write = 4
 status_of (cause.Line line field) = 5

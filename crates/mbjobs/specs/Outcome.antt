@@ -1,76 +1,88 @@
--- How a run ends, as its source and its sinks show.
-use Rattle.std.specs.Prelude.{◌≡◌, ◌⊎◌, ℕ, List, Option, map}
+-- How a command ends, as its source and its sinks show.
+use Rattle.std.specs.Prelude.{◌≡◌, ◌⊎◌, ℕ, List, map}
 use Rattle.std.specs.Io.KnownBytes.{Appends}
 use Rattle.mbj_types.specs.declared.job.Job.{Job}
 use Rattle.mbj_types.specs.Result.{result_of}
-use Rattle.mbj_io.specs.Faults.{Rose}
 use Rattle.mbj_text.specs.Flow.{GainsPrefix}
 use Rattle.mbj_text.specs.Line.{text}
 use Rattle.mbj_text.specs.File.{Reads, Bad, Over}
-use Rattle.mbjobs.specs.Reading.{ReadsAll, ReadsTooMuch}
+use Rattle.mbjobs.specs.Reading.{Stream, Fails, IsUntouched, ReadsAll, ReadsBytes, ReadsTooMuch}
+use Rattle.mbjobs.specs.Trace.{trace_text}
+use Rattle.mbjobs.specs.Summary.{gen_text}
 use Rattle.mbjobs.specs.declared.cause.Cause.{Cause}
 use Rattle.mbjobs.specs.declared.cause.Cause.TheVariants as cause
+use Rattle.mbjobs.specs.declared.command.Command.{Command}
+use Rattle.mbjobs.specs.declared.command.Command.TheVariants.{Run, Trace, Gen}
 
--- a source or a sink before and after a call: the bytes that it tells, and its count of faults
-pub record Stream : Type 0 where
-  pub before : Option (List ℕ)
-  pub after : Option (List ℕ)
-  pub faults_before : ℕ
-  pub faults_after : ℕ
-
-abbrev pub stream : {X : Type 0} → (X → Option (List ℕ)) → (X → ℕ) → X → X → Stream
-stream bytes faults old new = record { before = bytes old; after = bytes new; faults_before = faults old; faults_after = faults new }
-
-abbrev pub Fails : Stream → Type 0
-Fails s = Rose s.faults_before s.faults_after
-
--- the bytes stay, and so does the count of faults
-pub record IsUntouched (s : Stream) : Type 0 where
-  pub bytes : s.after ≡ s.before
-  pub faults : s.faults_after ≡ s.faults_before
+-- ---- what a command reads and writes
 
 -- the result text of jobs: a line for the standards' result of each, in order
 abbrev pub result_text : List Job → List ℕ
 result_text jobs = text (map result_of jobs)
 
--- the input was read to its end and spells jobs, and out gained exactly their result text
-pub record RunsWhole (input out : Stream) : Type 0 where
-  pub bytes : List ℕ
+-- the input spells jobs, and this is the text that the command is to write of them
+pub record Asks (text_of : List Job → List ℕ) (bytes text : List ℕ) : Type 0 where
   pub jobs : List Job
-  pub read : ReadsAll input.before input.after bytes
   pub spelled : Reads bytes jobs
-  pub written : Appends out.before out.after (result_text jobs)
+  pub text_is : text ≡ text_of jobs
 
--- the input was read to its end and spells jobs, and out gained a front of their result text
-pub record RunsInPart (input out : Stream) : Type 0 where
-  pub bytes : List ℕ
-  pub jobs : List Job
-  pub read : ReadsAll input.before input.after bytes
-  pub spelled : Reads bytes jobs
-  pub written : GainsPrefix out.before out.after (result_text jobs)
+-- what the input of a command that reads one asks for
+abbrev pub AsksFor : Command → List ℕ → List ℕ → Type 0
+AsksFor (Run s w) bytes text = Asks result_text bytes text
+AsksFor Trace bytes text = Asks trace_text bytes text
+AsksFor (Gen n m s w) bytes text = ⊥
 
--- the input was read to its end, and its first bad line is this, at this field
-pub record HasBadLine (input : Stream) (line field : ℕ) : Type 0 where
-  pub bytes : List ℕ
-  pub read : ReadsAll input.before input.after bytes
-  pub bad : Bad bytes line field
+-- the line is the first bad one of the command's input, at this field
+abbrev pub IsBadFor : Command → List ℕ → ℕ → ℕ → Type 0
+IsBadFor (Run s w) bytes line field = Bad bytes line field
+IsBadFor Trace bytes line field = Bad bytes line field
+IsBadFor (Gen n m s w) bytes line field = ⊥
 
--- the input was read to its end, and this line is the first job line too many
-pub record HasTooManyJobs (input : Stream) (line : ℕ) : Type 0 where
+-- the line is one job line more than the command's input may have
+abbrev pub IsOverFor : Command → List ℕ → ℕ → Type 0
+IsOverFor (Run s w) bytes line = Over bytes line
+IsOverFor Trace bytes line = Over bytes line
+IsOverFor (Gen n m s w) bytes line = ⊥
+
+-- whether the command reads an input
+abbrev pub ReadsInput : Command → Type 0
+ReadsInput (Run s w) = Unit {0}
+ReadsInput Trace = Unit {0}
+ReadsInput (Gen n m s w) = ⊥
+
+-- the input was read to its end and asks for a text, and that text was written so
+pub record Answers (c : Command) (input : Stream) (IsWritten : List ℕ → Type 0) : Type 0 where
   pub bytes : List ℕ
+  pub text : List ℕ
   pub read : ReadsAll input.before input.after bytes
-  pub over : Over bytes line
+  pub asked : AsksFor c bytes text
+  pub written : IsWritten text
+
+-- a command that reads no input leaves it untouched
+abbrev pub Does : Command → Stream → (List ℕ → Type 0) → Type 0
+Does (Run s w) input IsWritten = Answers (Run s w) input IsWritten
+Does Trace input IsWritten = Answers Trace input IsWritten
+Does (Gen n m s w) input IsWritten = IsUntouched input × IsWritten (gen_text n m)
+
+-- the command did all that it is to do, and out gained exactly its text
+abbrev pub Completes : Command → Stream → Stream → Type 0
+Completes c input out = Does c input (Appends out.before out.after)
+
+-- out gained a front of the command's text
+abbrev pub BreaksOff : Command → Stream → Stream → Type 0
+BreaksOff c input out = Does c input (GainsPrefix out.before out.after)
+
+-- ---- why a command doesn't complete
 
 -- what stands behind each cause
-abbrev pub Stands : Cause → Stream → Stream → Type 0
-Stands cause.Words input out = IsUntouched input
-Stands cause.Read input out = Fails input
-Stands cause.Write input out = Fails out × RunsInPart input out
-Stands (cause.Line line field) input out = HasBadLine input line field
-Stands cause.Bytes input out = ReadsTooMuch input.before input.after
-Stands (cause.Jobs line) input out = HasTooManyJobs input line
-Stands cause.Memory input out = Unit {0}
+abbrev pub Stands : Command → Cause → Stream → Stream → Type 0
+Stands c cause.Read input out = Fails input
+Stands c cause.Write input out = Fails out × BreaksOff c input out
+Stands c (cause.Line line field) input out = ReadsBytes input (λ bytes. IsBadFor c bytes line field)
+Stands c cause.Bytes input out = ReadsInput c × ReadsTooMuch input.before input.after
+Stands c (cause.Jobs line) input out = ReadsBytes input (λ bytes. IsOverFor c bytes line)
+Stands c cause.Memory input out = Unit {0}
 
--- the sink gained the line, or, where its faults rose, a front of it
+-- the sink gained the text, or, where its faults rose, a front of it
 abbrev pub Gains : Stream → List ℕ → Type 0
-Gains err line = Appends err.before err.after line ⊎ (Fails err × GainsPrefix err.before err.after line)
+Gains err text = Appends err.before err.after text ⊎ (Fails err × GainsPrefix err.before err.after text)

@@ -1,14 +1,12 @@
 ghost use Rattle.std.specs.Prelude.{◌≡◌};
 ghost use Rattle.mbjobs.specs.Message.{status_of};
 
-/// Why the program didn't end with status 0. Lines are counted from 1.
+/// Why a command didn't complete. Lines are counted from 1.
 #[derive(Clone, Copy, Debug, PartialEq, Eq)]
 pub enum Cause {
-    /// The words are no command.
-    Words,
     /// A read of the input failed.
     Read,
-    /// A write of the results failed.
+    /// A write to standard output failed.
     Write,
     /// The line is the first that spells no job; the field is 0 where its number of fields is wrong, else the first
     /// that isn't of its form.
@@ -27,7 +25,6 @@ impl Cause {
         ensures { result ≡ status_of self.now }
     {
         match self {
-            Cause::Words => 2,
             Cause::Read => 3,
             Cause::Write => 4,
             Cause::Line { .. } => 5,

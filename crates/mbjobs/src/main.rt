@@ -3,12 +3,21 @@
 
 mod cause;
 mod command;
+mod command_set;
+mod dealing;
+mod digest;
+mod draws;
+mod gen;
+mod generator;
+mod line;
+mod options;
 mod reading;
 mod report;
 mod run;
 #[cfg(test)]
 mod tests;
 mod top;
+mod trace;
 
 use crate::cause::Cause;
 use crate::gate::OpenGate;

@@ -1,9 +1,12 @@
-ghost use Rattle.std.specs.Prelude.{◌≡◌, ◌≢◌, Err, IfOk, IsErrOf};
+ghost use Rattle.std.specs.Prelude.{◌≡◌, ◌≢◌, ◌≤◌, Err, IfErr, IfOk, IsErrOf, length};
 ghost use Rattle.mbj_io.specs.Faults.{Rose};
-ghost use Rattle.mbjobs.specs.Reading.{ReadsAll, ReadsTooMuch};
+ghost use Rattle.mbj_text.specs.declared.limits.TheConstants.{JOB_LIMIT};
+ghost use Rattle.mbjobs.specs.Reading.{ReadsAll, ReadsJobs, ReadsTooMuch, StopsReading, stream};
 
+use crate::cause::Cause;
 use mbj_io::Source;
-use mbj_text::INPUT_LIMIT;
+use mbj_text::{INPUT_LIMIT, TextFault, read_file};
+use mbj_types::Job;
 use std::alloc::Global;
 
 /// How many bytes one read asks for at most.
@@ -43,4 +46,25 @@ pub(crate) fn read_all<S: Source>(alloc: Global, input: &mut S) -> Result<Vec<u8
         }
     }
     Err(ReadFault::Over)
+}
+
+/// Reads a job file to its end.
+pub(crate) fn read_jobs<S: Source>(alloc: Global, input: &mut S) -> Result<Vec<Job>, Cause>
+    ensures read { IfOk result (λ jobs. ReadsJobs (stream S.rest S.faults input.old input.new) jobs.items) }
+    ensures count { IfOk result (λ jobs. length jobs.items ≤ JOB_LIMIT) }
+    ensures stops { IfErr result (λ cause. StopsReading cause (stream S.rest S.faults input.old input.new)) }
+    ensures calm { result ≢ Err Cause.Read → S.faults input.new ≡ S.faults input.old }
+{
+    let bytes = match read_all(alloc, input) {
+        Ok(bytes) => bytes,
+        Err(ReadFault::Failed) => return Err(Cause::Read),
+        Err(ReadFault::Over) => return Err(Cause::Bytes),
+        Err(ReadFault::Memory) => return Err(Cause::Memory),
+    };
+    match read_file(alloc, &bytes) {
+        Ok(jobs) => Ok(jobs),
+        Err(TextFault::Line { line, field }) => Err(Cause::Line { line, field }),
+        Err(TextFault::Limit { line }) => Err(Cause::Jobs { line }),
+        Err(TextFault::Memory) => Err(Cause::Memory),
+    }
 }

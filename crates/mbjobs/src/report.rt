@@ -1,10 +1,12 @@
+ghost use Rattle.std.specs.Prelude.{string_bytes};
 ghost use Rattle.mbj_text.specs.Line.{line_of};
 ghost use Rattle.mbjobs.specs.Message.{message_of};
-ghost use Rattle.mbjobs.specs.Outcome.{Gains, stream};
+ghost use Rattle.mbjobs.specs.Outcome.{Gains};
+ghost use Rattle.mbjobs.specs.Reading.{stream};
 
 use crate::cause::Cause;
 use mbj_io::Sink;
-use mbj_text::{Part, write_line};
+use mbj_text::{Part, write_all, write_line};
 
 /// Writes a line. A fault of the sink is passed over.
 fn tell<E: Sink>(err: &mut E, parts: &[Part])
@@ -18,7 +20,6 @@ pub(crate) fn report<E: Sink>(err: &mut E, cause: Cause)
     ensures { Gains (stream E.held E.faults err.old err.new) (message_of cause) }
 {
     match cause {
-        Cause::Words => tell(err, &[Part::Words("mbjobs: bad command line")]),
         Cause::Read => tell(err, &[Part::Words("mbjobs: read failed")]),
         Cause::Write => tell(err, &[Part::Words("mbjobs: write failed")]),
         Cause::Line { line, field } => tell(
@@ -41,4 +42,11 @@ pub(crate) fn report<E: Sink>(err: &mut E, cause: Cause)
         ),
         Cause::Memory => tell(err, &[Part::Words("mbjobs: out of memory")]),
     }
+}
+
+/// Tells what is wrong with the words, or the help that they ask for. A fault of the sink is passed over.
+pub(crate) fn report_words<E: Sink>(err: &mut E, text: &String)
+    ensures { Gains (stream E.held E.faults err.old err.new) (string_bytes text.now) }
+{
+    let _ = write_all(err, text.as_bytes());
 }

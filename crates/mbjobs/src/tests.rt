@@ -1,3 +1,6 @@
+mod command;
+mod generator;
+
 use super::*;
 use mbj_io::{MemSink, MemSource};
 use std::alloc::{AllocError, Global};

@@ -1,28 +1,70 @@
-ghost use Rattle.std.specs.Prelude.{◌≡◌, ◌≢◌, ◌↔◌, ◌⊎◌, ◌≤◌, ◌<◌, List, ℕ, Some, true, false, map, string_bytes, length};
-ghost use Rattle.mbj_types.specs.declared.job.Job.{Job};
-ghost use Rattle.mbj_text.specs.File.{Reads, Bad, Over};
+ghost use Rattle.std.specs.Prelude.{◌≡◌, ◌≢◌, ◌⊎◌, ◌≤◌, ◌<◌, List, ℕ, Err, IfErr, OnOk, Some, None, map, string_bytes, length};
 ghost use Rattle.mbj_text.specs.declared.limits.TheConstants.{INPUT_LIMIT};
-ghost use Rattle.mbjobs.specs.Command.{is_run};
+ghost use Rattle.mbjobs.specs.Command.{IsInRange, command};
 ghost use Rattle.mbjobs.specs.Message.{message_of, status_of};
-ghost use Rattle.mbjobs.specs.Reading.{ReadsTooMuch};
-ghost use Rattle.mbjobs.specs.Outcome.{Fails, Gains, HasBadLine, HasTooManyJobs, IsUntouched, RunsInPart, RunsWhole, Stands, stream};
+ghost use Rattle.mbjobs.specs.Reading.{Fails, IsUntouched, ReadsBytes, ReadsTooMuch, stream};
+ghost use Rattle.mbjobs.specs.Outcome.{AsksFor, BreaksOff, Completes, Gains, IsBadFor, IsOverFor, ReadsInput, Stands};
 ghost use Rattle.mbjobs.specs.declared.cause.Cause.{Cause};
+ghost use Rattle.mbjobs.specs.declared.command.Command.{Command};
+ghost use Rattle.mbjobs.specs.declared.command.Command.TheVariants.{Gen};
 
 use crate::cause::Cause;
-use crate::command::is_run;
-use crate::gate::Gate;
-use crate::report::report;
+use crate::command::{Command, WordFault, read_command};
+use crate::gen::run_gen;
+use crate::report::{report, report_words};
 use crate::run::run;
+use crate::trace::run_trace;
 use mbj_io::{Sink, Source};
+use mbj_work::Gate;
 use std::alloc::Global;
 use std::sync::Wait;
 use std::thread::Threads;
 
+/// The status where the words are no command.
+pub(crate) const BAD_WORDS: u8 = 2;
+
+/// Tells a cause, and answers its status.
+fn tell<E: Sink>(err: &mut E, cause: Cause) -> u8
+    ensures status { result ≡ status_of cause }
+    ensures told { Gains (stream E.held E.faults err.old err.new) (message_of cause) }
+{
+    report(err, cause);
+    cause.status()
+}
+
+/// Does what a command says.
+fn perform<R: Threads + Sync, S: Source, O: Sink>(
+    rt: &R,
+    alloc: Global,
+    command: Command,
+    input: &mut S,
+    out: &mut O,
+) -> Result<(), Cause>
+    requires { IsInRange command }
+    ensures ok { OnOk result (Completes command (stream S.rest S.faults input.old input.new)
+        (stream O.held O.faults out.old out.new)) }
+    ensures err { IfErr result (λ cause. Stands command cause (stream S.rest S.faults input.old input.new)
+        (stream O.held O.faults out.old out.new)) }
+    ensures calm { result ≢ Err Cause.Read → S.faults input.new ≡ S.faults input.old }
+    ensures untouched { IfErr result (λ cause. cause ≢ Cause.Write
+        → IsUntouched (stream O.held O.faults out.old out.new)) }
+    ensures unread { ReadsInput command ⊎ IsUntouched (stream S.rest S.faults input.old input.new) }
+{
+    match command {
+        Command::Run { submitters, workers } => run(rt, alloc, submitters, workers, input, out),
+        Command::Trace => run_trace(alloc, input, out),
+        Command::Gen { seed, jobs, submitters, workers } => {
+            run_gen(rt, alloc, seed, jobs, submitters, workers, out)
+        }
+    }
+}
+
 /// Does what the command line says, and answers the status that the program ends with.
 ///
-/// `words` are the command line, with the program's name first; the one command is
-/// `run --submitters 1 --workers 0`, which reads a job file from `input`, does its jobs, and writes the line of each
-/// result to `out`. Every status but 0 is told by one line on `err`; a fault of `err` changes no status.
+/// `words` are the command line, with the program's name first. `run` reads a job file from `input`, does its jobs and
+/// writes the line of each result to `out`; `trace` drives one manager with a job file and writes what each call gives
+/// back; `gen` reads nothing, makes jobs from a seed and writes what they come to. Every status but 0 is told on `err`; a
+/// fault of `err` changes no status.
 ///
 /// | Status | Comes |
 /// |---|---|
@@ -34,7 +76,7 @@ use std::thread::Threads;
 /// | 6 | exactly where the input has over 16,777,216 bytes, or a 65,537th job line before any bad line |
 /// | 7 | for want of memory |
 pub fn mbjobs<R: Threads + Wait + Sync, S: Source, O: Sink, E: Sink, G: Gate + Sync>(
-    _rt: &R,
+    rt: &R,
     alloc: Global,
     words: &[String],
     input: &mut S,
@@ -42,57 +84,70 @@ pub fn mbjobs<R: Threads + Wait + Sync, S: Source, O: Sink, E: Sink, G: Gate + S
     err: &mut E,
     _gate: &G,
 ) -> u8
-    // Status 0: the input was read to its end, and out gained exactly the result text of its jobs.
-    ensures done { result ≡ 0 → RunsWhole (stream S.rest S.faults input.old input.new)
-        (stream O.held O.faults out.old out.new) }
+    // Status 0: the command did all that it is to do, and out gained exactly its text.
+    ensures done { result ≡ 0 → (c : Command) × (command (map string_bytes words.now) ≡ Some c)
+        × Completes c (stream S.rest S.faults input.old input.new) (stream O.held O.faults out.old out.new) }
 
     // Every other status.
-    ensures words { (result ≡ 2) ↔ (is_run (map string_bytes words.now) ≡ false) }
+    ensures words { result ≡ 2 → command (map string_bytes words.now) ≡ None }
+    ensures only_words { command (map string_bytes words.now) ≡ None → (result ≡ 2) ⊎ (result ≡ 7) }
     ensures unread { result ≡ 2 → IsUntouched (stream S.rest S.faults input.old input.new) }
+    ensures gen_unread { (n m s w : ℕ) → command (map string_bytes words.now) ≡ Some (Gen n m s w)
+        → IsUntouched (stream S.rest S.faults input.old input.new) }
     ensures read_failed { result ≡ 3 → Fails (stream S.rest S.faults input.old input.new) }
     ensures calm { result ≢ 3 → S.faults input.new ≡ S.faults input.old }
     ensures write_failed { result ≡ 4 → Fails (stream O.held O.faults out.old out.new)
-        × RunsInPart (stream S.rest S.faults input.old input.new) (stream O.held O.faults out.old out.new) }
-    ensures bad { result ≡ 5 → (line field : ℕ) × HasBadLine (stream S.rest S.faults input.old input.new) line field }
-    ensures over { result ≡ 6 → ReadsTooMuch (S.rest input.old) (S.rest input.new)
-        ⊎ ((line : ℕ) × HasTooManyJobs (stream S.rest S.faults input.old input.new) line) }
+        × ((c : Command) × (command (map string_bytes words.now) ≡ Some c)
+        × BreaksOff c (stream S.rest S.faults input.old input.new) (stream O.held O.faults out.old out.new)) }
+    ensures bad { result ≡ 5 → (c : Command) (line field : ℕ) × (command (map string_bytes words.now) ≡ Some c)
+        × ReadsBytes (stream S.rest S.faults input.old input.new) (λ bytes. IsBadFor c bytes line field) }
+    ensures over { result ≡ 6 → (c : Command) × (command (map string_bytes words.now) ≡ Some c) × ReadsInput c
+        × (ReadsTooMuch (S.rest input.old) (S.rest input.new)
+        ⊎ ((line : ℕ) × ReadsBytes (stream S.rest S.faults input.old input.new) (λ bytes. IsOverFor c bytes line))) }
     ensures known { (result ≡ 0) ⊎ ((2 ≤ result) × (result ≤ 7)) }
     ensures untouched { result ≢ 0 → result ≢ 4 → IsUntouched (stream O.held O.faults out.old out.new) }
 
-    // What err gained: nothing, or the line of a cause that stands.
+    // What err gained: nothing, clap's text, or the line of a cause that stands.
     ensures quiet { result ≡ 0 → IsUntouched (stream E.held E.faults err.old err.new) }
-    ensures told { result ≢ 0 → (cause : Cause) × (result ≡ status_of cause)
-        × Stands cause (stream S.rest S.faults input.old input.new) (stream O.held O.faults out.old out.new)
-        × Gains (stream E.held E.faults err.old err.new) (message_of cause) }
+    ensures told_words { result ≡ 2 → (text : List ℕ) × Gains (stream E.held E.faults err.old err.new) text }
+    ensures told { result ≢ 0 → result ≢ 2 → (cause : Cause) × (result ≡ status_of cause)
+        × Gains (stream E.held E.faults err.old err.new) (message_of cause)
+        × ((cause ≡ Cause.Memory) ⊎ ((c : Command) × (command (map string_bytes words.now) ≡ Some c)
+        × Stands c cause (stream S.rest S.faults input.old input.new) (stream O.held O.faults out.old out.new))) }
 
-    // Where the input tells its bytes and no read fails, each file gets its own status, unless memory runs out.
-    ensures complete { (bytes : List ℕ) (jobs : List Job) → is_run (map string_bytes words.now) ≡ true
-        → S.rest input.old ≡ Some bytes → length bytes ≤ INPUT_LIMIT → Reads bytes jobs
+    // Where the input tells its bytes and no read fails, each input gets its own status, unless memory runs out.
+    ensures complete { (c : Command) (bytes text : List ℕ) → command (map string_bytes words.now) ≡ Some c
+        → S.rest input.old ≡ Some bytes → length bytes ≤ INPUT_LIMIT → AsksFor c bytes text
         → ¬ Fails (stream S.rest S.faults input.old input.new)
         → ¬ Fails (stream O.held O.faults out.old out.new)
         → (result ≡ 0) ⊎ (result ≡ 7) }
-    ensures only_bad { (bytes : List ℕ) (line field : ℕ) → is_run (map string_bytes words.now) ≡ true
-        → S.rest input.old ≡ Some bytes → length bytes ≤ INPUT_LIMIT → Bad bytes line field
+    ensures complete_gen { (n m s w : ℕ) → command (map string_bytes words.now) ≡ Some (Gen n m s w)
+        → ¬ Fails (stream O.held O.faults out.old out.new)
+        → (result ≡ 0) ⊎ (result ≡ 7) }
+    ensures only_bad { (c : Command) (bytes : List ℕ) (line field : ℕ)
+        → command (map string_bytes words.now) ≡ Some c
+        → S.rest input.old ≡ Some bytes → length bytes ≤ INPUT_LIMIT → IsBadFor c bytes line field
         → ¬ Fails (stream S.rest S.faults input.old input.new)
         → (result ≡ 5) ⊎ (result ≡ 7) }
-    ensures only_over { (bytes : List ℕ) (line : ℕ) → is_run (map string_bytes words.now) ≡ true
-        → S.rest input.old ≡ Some bytes → length bytes ≤ INPUT_LIMIT → Over bytes line
+    ensures only_over { (c : Command) (bytes : List ℕ) (line : ℕ) → command (map string_bytes words.now) ≡ Some c
+        → S.rest input.old ≡ Some bytes → length bytes ≤ INPUT_LIMIT → IsOverFor c bytes line
         → ¬ Fails (stream S.rest S.faults input.old input.new)
         → (result ≡ 6) ⊎ (result ≡ 7) }
-    ensures only_long { (bytes : List ℕ) → is_run (map string_bytes words.now) ≡ true
-        → S.rest input.old ≡ Some bytes → INPUT_LIMIT < length bytes
+    ensures only_long { (c : Command) (bytes : List ℕ) → command (map string_bytes words.now) ≡ Some c
+        → ReadsInput c → S.rest input.old ≡ Some bytes → INPUT_LIMIT < length bytes
         → ¬ Fails (stream S.rest S.faults input.old input.new)
         → (result ≡ 6) ⊎ (result ≡ 7) }
 {
-    if !is_run(words) {
-        report(err, Cause::Words);
-        return Cause::Words.status();
-    }
-    match run(alloc, input, out) {
-        Ok(()) => 0,
-        Err(cause) => {
-            report(err, cause);
-            cause.status()
+    let command = match read_command(alloc, words) {
+        Ok(command) => command,
+        Err(WordFault::Text(text)) => {
+            report_words(err, &text);
+            return BAD_WORDS;
         }
+        Err(WordFault::Memory) => return tell(err, Cause::Memory),
+    };
+    match perform(rt, alloc, command, input, out) {
+        Ok(()) => 0,
+        Err(cause) => tell(err, cause),
     }
 }

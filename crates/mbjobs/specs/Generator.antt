@@ -1,0 +1,145 @@
+-- Jobs that are drawn from a state, a number of 64 bits. What draws answers what it drew, and the state after it.
+use Rattle.std.specs.Prelude.{◌+◌, ◌-◌, ◌*◌, ◌/◌, ◌%◌, ◌^◌, ◌==◌, ℕ, zero, suc, List, [], ◌∷◌, if◌then◌else◌, slice_get, unwrap_or}
+use Rattle.mbj_types.specs.Blank.{blank}
+use Rattle.mbj_types.specs.declared.job.Job.{Job}
+use Rattle.mbj_types.specs.declared.job.Cipher.{Cipher}
+use Rattle.mbj_types.specs.declared.job.Cipher.TheVariants as cipher
+use Rattle.mbj_types.specs.declared.job.Dir.{Dir}
+use Rattle.mbj_types.specs.declared.job.Dir.TheVariants.{Enc, Dec}
+use Rattle.mbj_types.specs.declared.job.Order.{Order}
+use Rattle.mbj_types.specs.declared.job.Order.TheVariants.{CipherHash, HashCipher}
+use Rattle.mbj_types.specs.declared.job.Auth.{Auth}
+use Rattle.mbj_types.specs.declared.job.Auth.TheVariants as auth
+
+-- ---- draws
+
+-- a byte: the highest of the next state of a linear congruential generator
+unfoldable pub byte : ℕ → ℕ × ℕ
+byte x = let next = (x * 6364136223846793005 + 1442695040888963407) % 2 ^ 64 in (next / 2 ^ 56, next)
+
+-- n bytes
+unfoldable pub bytes : ℕ → ℕ → List ℕ × ℕ
+bytes zero x = ([], x)
+bytes (suc n) x = let first = byte x in let rest = bytes n first.1 in (first.0 ∷ rest.0, rest.1)
+
+-- the length n, or up to 15 less
+unfoldable pub shortened : ℕ → ℕ → ℕ × ℕ
+shortened n x = let b = byte x in (n - b.0 % 16, b.1)
+
+-- ---- the kinds of jobs
+
+-- a cipher, an authentication, and the length of the tag; the last job's tag is longer than it may be
+abbrev pub Recipe : Type 0
+Recipe = Cipher × Auth × ℕ
+
+abbrev pub refused : Recipe
+refused = (cipher.Null, auth.Null, 1)
+
+abbrev pub recipes : List Recipe
+recipes =
+    (cipher.Null, auth.HmacSha1, 20)
+    ∷ (cipher.Null, auth.HmacSha224, 28)
+    ∷ (cipher.Null, auth.HmacSha256, 32)
+    ∷ (cipher.Null, auth.HmacSha384, 48)
+    ∷ (cipher.Null, auth.HmacSha512, 64)
+    ∷ (cipher.Null, auth.Cmac128, 16)
+    ∷ (cipher.Null, auth.Cmac256, 16)
+    ∷ (cipher.Cbc, auth.Null, 0)
+    ∷ (cipher.Ctr, auth.Null, 0)
+    ∷ (cipher.Gcm, auth.Gcm, 16)
+    ∷ (cipher.Cbc, auth.HmacSha1, 20)
+    ∷ (cipher.Cbc, auth.HmacSha256, 32)
+    ∷ (cipher.Cbc, auth.Cmac128, 16)
+    ∷ (cipher.Ctr, auth.HmacSha512, 64)
+    ∷ (cipher.Ctr, auth.HmacSha384, 48)
+    ∷ refused
+    ∷ []
+
+abbrev pub recipe_of : ℕ → Recipe
+recipe_of b = unwrap_or (slice_get recipes (b % 16)) refused
+
+abbrev pub dir_of : ℕ → Dir
+dir_of b = if b % 2 == 0 then Enc else Dec
+
+abbrev pub order_of : ℕ → Order
+order_of b = if b % 2 == 0 then CipherHash else HashCipher
+
+-- ---- the parts of a job whose packet has n bytes
+
+abbrev pub iv_length : Cipher → ℕ → ℕ × ℕ
+iv_length cipher.Null x = (0, x)
+iv_length cipher.Cbc x = (16, x)
+iv_length cipher.Ctr x = let b = byte x in (16 - 4 * (b.0 % 2), b.1)
+iv_length cipher.Gcm x = (12, x)
+
+abbrev pub cipher_length : Cipher → ℕ → ℕ → ℕ × ℕ
+cipher_length cipher.Null n x = (0, x)
+cipher_length cipher.Cbc n x = (n, x)
+cipher_length cipher.Ctr n x = shortened n x
+cipher_length cipher.Gcm n x = shortened n x
+
+-- a key of 16, 24 or 32 bytes, an IV and a range
+unfoldable pub keyed : ℕ → Job → ℕ → Job × ℕ
+keyed n j x =
+    let b = byte x in
+    let key = bytes (16 + 8 * (b.0 % 3)) b.1 in
+    let size = iv_length j.cipher key.1 in
+    let iv = bytes size.0 size.1 in
+    let len = cipher_length j.cipher n iv.1 in
+    (record j { key = key.0; iv = iv.0; cipher_len = len.0 }, len.1)
+
+abbrev pub ciphered_by : Cipher → ℕ → Job → ℕ → Job × ℕ
+ciphered_by cipher.Null n j x = (j, x)
+ciphered_by _ n j x = keyed n j x
+
+-- a key of k bytes and a range
+unfoldable pub hashed : ℕ → ℕ → Job → ℕ → Job × ℕ
+hashed k n j x =
+    let key = bytes k x in
+    let len = shortened n key.1 in
+    (record j { auth_key = key.0; hash_len = len.0 }, len.1)
+
+-- a key of up to 255 bytes and a range
+unfoldable pub hmac : ℕ → Job → ℕ → Job × ℕ
+hmac n j x = let b = byte x in hashed b.0 n j b.1
+
+-- up to 63 bytes of additional authenticated data
+unfoldable pub with_aad : Job → ℕ → Job × ℕ
+with_aad j x = let b = byte x in let aad = bytes (b.0 % 64) b.1 in (record j { aad = aad.0 }, aad.1)
+
+abbrev pub authenticated_by : Auth → ℕ → Job → ℕ → Job × ℕ
+authenticated_by auth.Null n j x = (j, x)
+authenticated_by auth.Cmac128 n j x = hashed 16 n j x
+authenticated_by auth.Cmac256 n j x = hashed 32 n j x
+authenticated_by auth.Gcm n j x = with_aad j x
+authenticated_by _ n j x = hmac n j x
+
+-- ---- the job
+
+-- a job without its parts
+unfoldable pub bare : ℕ → Job × ℕ
+bare x =
+    let kind = byte x in
+    let dir = byte kind.1 in
+    let order = byte dir.1 in
+    let recipe = recipe_of kind.0 in (
+      record blank {
+        cipher = recipe.0;
+        dir = dir_of dir.0;
+        order = order_of order.0;
+        auth = recipe.1;
+        tag_len = recipe.2;
+      },
+      order.1,
+    )
+
+-- the next job
+unfoldable pub job : ℕ → Job × ℕ
+job x =
+    let j = bare x in
+    let b = byte j.1 in
+    let n = 16 * (1 + b.0 % 32) in
+    let ciphered = ciphered_by j.0.cipher n j.0 b.1 in
+    let authenticated = authenticated_by ciphered.0.auth n ciphered.0 ciphered.1 in
+    let packet = bytes n authenticated.1 in
+    (record authenticated.0 { packet = packet.0 }, packet.1)

@@ -1,0 +1,11 @@
+-- What the fields of a trace stand for.
+use Rattle.std.specs.Prelude.{ℕ, ◌-◌, ◌^◌}
+use Rattle.mbjobs.specs.Trace.{Tracing}
+use Rattle.mbjobs.specs.declared.trace.Trace.{Trace}
+
+abbrev pub state_of : Trace → Tracing
+state_of t = record { manager = t.manager; given = t.given }
+
+-- the number of jobs is kept in 32 bits
+abbrev pub MAX_GIVEN : ℕ
+MAX_GIVEN = 2 ^ 32 - 1

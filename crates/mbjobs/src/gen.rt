@@ -1,0 +1,74 @@
+ghost use Rattle.std.specs.Prelude.{◌≡◌, ◌≢◌, ◌≤◌, IfErr, IfOk, OnOk, length, map};
+ghost use Rattle.mbj_types.specs.Result.{result_of};
+ghost use Rattle.mbj_text.specs.declared.limits.TheConstants.{JOB_LIMIT};
+ghost use Rattle.std.specs.Io.KnownBytes.{Appends};
+ghost use Rattle.mbj_text.specs.Flow.{GainsPrefix};
+ghost use Rattle.mbjobs.specs.Command.{IsParties};
+ghost use Rattle.mbjobs.specs.Reading.{Fails, IsUntouched, stream};
+ghost use Rattle.mbjobs.specs.Summary.{gen_text, generated, summary_lines};
+
+use crate::cause::Cause;
+use crate::dealing::{Results, do_jobs};
+use crate::generator::Generator;
+use crate::line::{Line, write_lines};
+use mbj_io::{Failed, Sink};
+use mbj_types::Job;
+use std::alloc::{AllocError, Global};
+use std::thread::Threads;
+
+/// Makes jobs from a seed.
+///
+/// Answers `AllocError` for want of memory.
+fn make_jobs(alloc: Global, seed: u64, count: u32) -> Result<Vec<Job>, AllocError>
+    ensures { IfOk result (λ jobs. jobs.items ≡ generated count seed) }
+{
+    let mut generator = Generator::new(seed);
+    let mut jobs = Vec::with_capacity(alloc, count as usize)?;
+    for _ in 0..count {
+        let job = generator.job(alloc)?;
+        jobs.push_reserved(job);
+    }
+    Ok(jobs)
+}
+
+/// What results come to. Their text is made line by line, and not kept.
+fn summarize(results: &Results, count: u32) -> [Line; 5]
+    requires generated { results.now.all ≡ map result_of (generated count seed) }
+    requires limit { count ≤ JOB_LIMIT }
+    ensures { result ≡ summary_lines results.now.all }
+{
+    todo
+}
+
+/// Makes jobs from a seed, does them, dealt to submitters, and writes what they come to.
+pub(crate) fn run_gen<R: Threads + Sync, O: Sink>(
+    rt: &R,
+    alloc: Global,
+    seed: u64,
+    jobs: u32,
+    submitters: u32,
+    _workers: u32,
+    out: &mut O,
+) -> Result<(), Cause>
+    requires jobs { jobs ≤ JOB_LIMIT }
+    requires parties { IsParties submitters _workers }
+    ensures ok { OnOk result (Appends (O.held out.old) (O.held out.new) (gen_text seed jobs)) }
+    ensures memory { IfErr result (λ cause. (cause ≡ Cause.Memory) ⊎ (cause ≡ Cause.Write)) }
+    ensures write { IfErr result (λ cause. cause ≡ Cause.Write → Fails (stream O.held O.faults out.old out.new)
+        × GainsPrefix (O.held out.old) (O.held out.new) (gen_text seed jobs)) }
+    ensures untouched { IfErr result (λ cause. cause ≢ Cause.Write
+        → IsUntouched (stream O.held O.faults out.old out.new)) }
+{
+    let made = match make_jobs(alloc, seed, jobs) {
+        Ok(made) => made,
+        Err(AllocError) => return Err(Cause::Memory),
+    };
+    let results = match do_jobs(rt, alloc, made, submitters) {
+        Ok(results) => results,
+        Err(AllocError) => return Err(Cause::Memory),
+    };
+    match write_lines(out, &summarize(&results, jobs)) {
+        Ok(()) => Ok(()),
+        Err(Failed) => Err(Cause::Write),
+    }
+}
