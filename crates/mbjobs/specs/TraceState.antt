@@ -1,9 +1,9 @@
 -- What the fields of a trace stand for.
 use Rattle.std.specs.Prelude.{ℕ, ◌-◌, ◌^◌}
 use Rattle.mbjobs.specs.Trace.{Tracing}
-use Rattle.mbjobs.specs.declared.trace.Trace.{Trace}
+use Rattle.mbjobs.specs.declared.trace.Tracer.{Tracer}
 
-abbrev pub state_of : Trace → Tracing
+abbrev pub state_of : Tracer → Tracing
 state_of t = record { manager = t.manager; given = t.given }
 
 -- the number of jobs is kept in 32 bits

@@ -37,6 +37,13 @@ pub(crate) enum WordFault {
     Memory,
 }
 
+impl WordFault {
+    /// The fault that a text tells.
+    pub(crate) fn from_str(alloc: Global, text: &str) -> WordFault {
+        String::from_str(alloc, text).map_or(WordFault::Memory, WordFault::Text)
+    }
+}
+
 /// How many submitters and workers were asked for.
 fn parties(matches: &ArgMatches<'_>) -> Option<(u32, u32)>
     ensures value { option_map (λ p. p.0 ∷ p.1 ∷ []) result
@@ -105,14 +112,6 @@ fn fault_of(alloc: Global, error: &clap::Error) -> WordFault
     }
 }
 
-/// The fault where clap found no fault and yet no command.
-fn no_command(alloc: Global) -> WordFault {
-    String::from_str(alloc, "error: no command was found").map_or(
-        WordFault::Memory,
-        WordFault::Text,
-    )
-}
-
 /// The command that the words are, the first of which is the program's name.
 ///
 /// The words are read by clap's rules: options come in any order, once each, as `--NAME NUMBER` or `--NAME=NUMBER`, and
@@ -133,6 +132,6 @@ pub(crate) fn read_command<'a>(alloc: Global, words: &'a [String]) -> Result<Com
     };
     match found_command(&matches) {
         Some(command) => Ok(command),
-        None => Err(no_command(alloc)),
+        None => Err(WordFault::from_str(alloc, "error: no command was found\n")),
     }
 }

@@ -1,33 +1,38 @@
-ghost use Rattle.std.specs.Prelude.{◌≡◌, ◌≢◌, ◌≤◌, Err, IfErr, OnErr, OnOk, length, map};
+ghost use Rattle.std.specs.Prelude.{◌≡◌, ◌≢◌, ◌≤◌, Err, IfErr, List, OnErr, OnOk, length, map};
 ghost use Rattle.std.specs.Io.KnownBytes.{Appends};
 ghost use Rattle.mbj_io.specs.Faults.{Rose};
 ghost use Rattle.mbj_text.specs.Flow.{GainsPrefix};
 ghost use Rattle.mbj_text.specs.Line.{text};
 ghost use Rattle.mbj_text.specs.declared.limits.TheConstants.{JOB_LIMIT};
+ghost use Rattle.mbj_types.specs.declared.done.Done.{Done};
 ghost use Rattle.mbjobs.specs.Command.{IsParties};
+ghost use Rattle.mbjobs.specs.Dealing.{AreDealt};
 ghost use Rattle.mbjobs.specs.Outcome.{Completes, Stands};
 ghost use Rattle.mbjobs.specs.Reading.{IsUntouched, stream};
 ghost use Rattle.mbjobs.specs.declared.command.Command.TheVariants.{Run};
 
 use crate::cause::Cause;
-use crate::dealing::{Results, do_jobs};
+use crate::dealing::{do_jobs, result_at};
 use crate::reading::read_jobs;
 use mbj_io::{Failed, Sink, Source};
 use mbj_text::write_done;
+use mbj_types::Done;
 use std::alloc::{AllocError, Global};
 use std::thread::Threads;
 
 /// Writes the line of each result, in the order of the jobs.
-pub(crate) fn write_results<O: Sink>(out: &mut O, results: &Results, count: u32) -> Result<(), Failed>
-    requires count { count ≡ length results.now.all }
+fn write_results<O: Sink>(out: &mut O, lists: &[Vec<Done>], count: u32) -> Result<(), Failed>
+    ghost results: { List Done }
+    requires dealt { AreDealt results (length lists.now) (map (λ list. list.items) lists.now) }
+    requires count { count ≡ length results }
     requires limit { count ≤ JOB_LIMIT }
-    ensures ok { OnOk result (Appends (O.held out.old) (O.held out.new) (text results.now.all)) }
-    ensures err { OnErr result (GainsPrefix (O.held out.old) (O.held out.new) (text results.now.all)) }
+    ensures ok { OnOk result (Appends (O.held out.old) (O.held out.new) (text results)) }
+    ensures err { OnErr result (GainsPrefix (O.held out.old) (O.held out.new) (text results)) }
     ensures calm { OnOk result (O.faults out.new ≡ O.faults out.old) }
     ensures failed { OnErr result (Rose (O.faults out.old) (O.faults out.new)) }
 {
     for number in 0..count {
-        write_done(out, number, results.get(number))?;
+        write_done(out, number, result_at(lists, number))?;
     }
     Ok(())
 }

@@ -1,6 +1,6 @@
 ghost use Rattle.std.specs.Prelude.{◌≡◌, ◌≢◌, ◌⊎◌, ◌≤◌, ◌<◌, List, ℕ, Err, IfErr, OnOk, Some, None, map, string_bytes, length};
 ghost use Rattle.mbj_text.specs.declared.limits.TheConstants.{INPUT_LIMIT};
-ghost use Rattle.mbjobs.specs.Command.{IsInRange, command};
+ghost use Rattle.mbjobs.specs.Command.{IsInRange, IsText, command};
 ghost use Rattle.mbjobs.specs.Message.{message_of, status_of};
 ghost use Rattle.mbjobs.specs.Reading.{Fails, IsUntouched, ReadsBytes, ReadsTooMuch, stream};
 ghost use Rattle.mbjobs.specs.Outcome.{AsksFor, BreaksOff, Completes, Gains, IsBadFor, IsOverFor, ReadsInput, Stands};
@@ -10,9 +10,9 @@ ghost use Rattle.mbjobs.specs.declared.command.Command.TheVariants.{Gen};
 
 use crate::cause::Cause;
 use crate::command::{Command, WordFault, read_command};
-use crate::gen::run_gen;
 use crate::report::{report, report_words};
 use crate::run::run;
+use crate::summary::run_gen;
 use crate::trace::run_trace;
 use mbj_io::{Sink, Source};
 use mbj_work::Gate;
@@ -21,7 +21,7 @@ use std::sync::Wait;
 use std::thread::Threads;
 
 /// The status where the words are no command.
-pub(crate) const BAD_WORDS: u8 = 2;
+const BAD_WORDS: u8 = 2;
 
 /// Tells a cause, and answers its status.
 fn tell<E: Sink>(err: &mut E, cause: Cause) -> u8
@@ -30,6 +30,22 @@ fn tell<E: Sink>(err: &mut E, cause: Cause) -> u8
 {
     report(err, cause);
     cause.status()
+}
+
+/// Tells why words gave no command, and answers the status.
+pub(crate) fn refuse<E: Sink>(err: &mut E, fault: WordFault) -> u8
+    ensures text { IsText fault → (result ≡ 2)
+        × ((text : List ℕ) × Gains (stream E.held E.faults err.old err.new) text) }
+    ensures memory { ¬ IsText fault → (result ≡ 7)
+        × Gains (stream E.held E.faults err.old err.new) (message_of Cause.Memory) }
+{
+    match fault {
+        WordFault::Text(text) => {
+            report_words(err, &text);
+            BAD_WORDS
+        }
+        WordFault::Memory => tell(err, Cause::Memory),
+    }
 }
 
 /// Does what a command says.
@@ -99,7 +115,8 @@ pub fn mbjobs<R: Threads + Wait + Sync, S: Source, O: Sink, E: Sink, G: Gate + S
     ensures write_failed { result ≡ 4 → Fails (stream O.held O.faults out.old out.new)
         × ((c : Command) × (command (map string_bytes words.now) ≡ Some c)
         × BreaksOff c (stream S.rest S.faults input.old input.new) (stream O.held O.faults out.old out.new)) }
-    ensures bad { result ≡ 5 → (c : Command) (line field : ℕ) × (command (map string_bytes words.now) ≡ Some c)
+    ensures bad { result ≡ 5 → (c : Command) × (line : ℕ) × (field : ℕ)
+        × (command (map string_bytes words.now) ≡ Some c)
         × ReadsBytes (stream S.rest S.faults input.old input.new) (λ bytes. IsBadFor c bytes line field) }
     ensures over { result ≡ 6 → (c : Command) × (command (map string_bytes words.now) ≡ Some c) × ReadsInput c
         × (ReadsTooMuch (S.rest input.old) (S.rest input.new)
@@ -140,11 +157,7 @@ pub fn mbjobs<R: Threads + Wait + Sync, S: Source, O: Sink, E: Sink, G: Gate + S
 {
     let command = match read_command(alloc, words) {
         Ok(command) => command,
-        Err(WordFault::Text(text)) => {
-            report_words(err, &text);
-            return BAD_WORDS;
-        }
-        Err(WordFault::Memory) => return tell(err, Cause::Memory),
+        Err(fault) => return refuse(err, fault),
     };
     match perform(rt, alloc, command, input, out) {
         Ok(()) => 0,

@@ -41,20 +41,20 @@ pub enum Taking {
 
 /// A manager whose calls are told in lines.
 #[derive(Drop)]
-struct Trace {
+struct Tracer {
     manager: Manager,
     // How many jobs it gave back.
     given: u32,
     lines: Vec<Line>,
 }
 
-impl Trace {
+impl Tracer {
     /// A new manager, and no lines.
-    fn new(alloc: Global) -> Result<Trace, AllocError>
+    fn new(alloc: Global) -> Result<Tracer, AllocError>
         ensures { IfOk result (λ t. (state_of t ≡ tracing new_manager) × (t.lines.items ≡ [])) }
     {
         let manager = Manager::new(alloc)?;
-        Ok(Trace {
+        Ok(Tracer {
             manager,
             given: 0,
             lines: Vec::new(alloc),
@@ -104,7 +104,8 @@ impl Trace {
         fill(&mut self.manager, job);
         let done = self.manager.submit();
         let given = self.number(done);
-        self.lines.push(Line::Submit { job: number, given })
+        self.lines.push(Line::Submit { job: number, given })?;
+        Ok(())
     }
 
     /// Submits the jobs of a file.
@@ -175,16 +176,16 @@ impl Trace {
 /// The lines that tell what each call of one manager gives back over the jobs of a file.
 ///
 /// Answers `AllocError` for want of memory.
-pub(crate) fn trace(alloc: Global, jobs: Vec<Job>) -> Result<Vec<Line>, AllocError>
+pub(crate) fn lines_of(alloc: Global, jobs: Vec<Job>) -> Result<Vec<Line>, AllocError>
     requires { length jobs.items ≤ JOB_LIMIT }
     ensures { IfOk result (λ lines. lines.items ≡ trace_lines jobs.items) }
 {
-    let mut trace = Trace::new(alloc)?;
-    trace.submit_all(jobs)?;
-    trace.take_all(Taking::Completed)?;
-    trace.take_all(Taking::Flushed)?;
-    trace.count()?;
-    Ok(trace.lines)
+    let mut tracer = Tracer::new(alloc)?;
+    tracer.submit_all(jobs)?;
+    tracer.take_all(Taking::Completed)?;
+    tracer.take_all(Taking::Flushed)?;
+    tracer.count()?;
+    Ok(tracer.lines)
 }
 
 /// Reads a job file, and writes what each call of one manager gives back over its jobs.
@@ -202,7 +203,7 @@ pub(crate) fn run_trace<S: Source, O: Sink>(
         → IsUntouched (stream O.held O.faults out.old out.new)) }
 {
     let jobs = read_jobs(alloc, input)?;
-    let lines = match trace(alloc, jobs) {
+    let lines = match lines_of(alloc, jobs) {
         Ok(lines) => lines,
         Err(AllocError) => return Err(Cause::Memory),
     };

