@@ -1,0 +1,9 @@
+pub mod Cells
+pub mod Parties
+pub mod Lawful
+pub mod Events
+pub mod Runs
+pub mod CoreStates
+pub mod Stands
+pub mod Inside
+pub mod Claims
