@@ -1,5 +1,5 @@
 -- Entries of a list by their index: one more at the end, and one that leaves.
-use Rattle.std.proofs.Common.{◌≡◌, ◌≢◌, ℕ, zero, suc, ◌<◌, List, [], ◌∷◌, ◌++◌, length, refl, ap, arith, ⊎_elim, ◌⊎◌, inl, inr}
+use Rattle.std.proofs.Common.{◌≡◌, ◌≢◌, ℕ, zero, suc, ◌<◌, List, [], ◌∷◌, ◌++◌, length, set, refl, ap, arith, ⊎_elim, ◌⊎◌, inl, inr}
 use Rattle.std.specs.Prelude.{Some, None, slice_get}
 use Rattle.std.proofs.lemmas.Option.{none-some, same_Some}
 
@@ -14,6 +14,28 @@ module _ {A : Type 0} where
   at_longer [] m i a e = absurd (none-some a e)
   at_longer (x ∷ xs) m zero a e = e
   at_longer (x ∷ xs) m (suc i) a e = at_longer xs m i a e
+
+  pub at_index : (l : List A) (i : ℕ) → i < length l → (a : A) × (slice_get l i ≡ Some a)
+  at_index [] i h = absurd (omega arith)
+  at_index (x ∷ xs) zero h = (x, refl)
+  at_index (x ∷ xs) (suc i) h = at_index xs i (omega arith)
+
+  pub at_left : (l m : List A) (i : ℕ) → i < length l → slice_get (l ++ m) i ≡ slice_get l i
+  at_left [] m i h = absurd (omega arith)
+  at_left (x ∷ xs) m zero h = refl
+  at_left (x ∷ xs) m (suc i) h = at_left xs m i (omega arith)
+
+  pub set_here : (l : List A) (i : ℕ) (a : A) → i < length l → slice_get (set l i a) i ≡ Some a
+  set_here [] i a h = absurd (omega arith)
+  set_here (x ∷ xs) zero a h = refl
+  set_here (x ∷ xs) (suc i) a h = set_here xs i a (omega arith)
+
+  pub set_else : (l : List A) (i j : ℕ) (a : A) → j ≢ i → slice_get (set l i a) j ≡ slice_get l j
+  set_else [] i j a n = refl
+  set_else (x ∷ xs) zero zero a n = absurd (n refl)
+  set_else (x ∷ xs) zero (suc j) a n = refl
+  set_else (x ∷ xs) (suc i) zero a n = refl
+  set_else (x ∷ xs) (suc i) (suc j) a n = set_else xs i j a (λ e. n (ap suc e))
 
   -- the entry between two lists
   pub at_middle : (before after : List A) (x : A) → slice_get (before ++ x ∷ after) (length before) ≡ Some x

@@ -4,3 +4,7 @@ pub mod Hands
 pub mod Posts
 pub mod Steps
 pub mod RunLaws
+pub mod Words
+pub mod Carried
+pub mod Facts
+pub mod Calls

@@ -61,7 +61,8 @@ module _ {J D : Type 0} (owed : J → D) where
   abbrev pub Is : Cell J D → Cell J D → Type 0
   Is x y = y ≡ x
 
-  pub free_there : (v : View D) (s n : ℕ) (y : Cell J D) → Fits owed v s n y → v.stage ≡ Rest → n ≡ length v.due → Is free y
+  -- at rest, the cell of a number that isn't out is free
+  pub free_there : (v : View D) (s n : ℕ) (y : Cell J D) → Fits owed v s n y → v.stage ≡ Rest → length v.due ≤ n → Is free y
   free_there v s n free h r e = refl
   free_there v s n (ready j) h r e = let l = slice_get_within v.due n (owed j) h in absurd (omega arith)
   free_there v s n (done d) h r e = let l = slice_get_within v.due n d h in absurd (omega arith)
@@ -82,7 +83,7 @@ module _ {J D : Type 0} (owed : J → D) where
       (f.cells i ≡ free) × Lawful owed S (front (put f.cells i (open_by p)) (put f.seats p (view v.number Opening v.due v.handed v.hand looks)))
   opens S f p looks law less at_rest room =
       let v : View D = f.seats p in let m : ℕ = length v.due in let i : ℕ = cell_of p m in let x : Cell J D = open_by p in
-      let here = free_there v p m (f.cells i) (law.each_number p m less (law.behind p) room) at_rest refl in (
+      let here = free_there v p m (f.cells i) (law.each_number p m less (law.behind p) room) at_rest (omega arith) in (
         here,
         reposts S f p m x Opening v.due v.handed looks law less (law.behind p) (law.within p) (λ _. room) (ap is_hand here) refl
             (λ n lo hi. dite (ℕ_discrete n m)
@@ -137,7 +138,7 @@ module _ {J D : Type 0} (owed : J → D) where
       (f.cells i ≡ free) × Lawful owed S (front (put f.cells i (ready j)) (put f.seats p (view v.number Rest (v.due ++ owed j ∷ []) v.handed v.hand looks)))
   posts S f p j looks law less at_rest room =
       let v : View D = f.seats p in let m : ℕ = length v.due in let i : ℕ = cell_of p m in
-      let here = free_there v p m (f.cells i) (law.each_number p m less (law.behind p) room) at_rest refl in
+      let here = free_there v p m (f.cells i) (law.each_number p m less (law.behind p) room) at_rest (omega arith) in
       (here, fills S f p j looks law less (λ e. rest_take (sym at_rest ∙ e)) room (ap is_hand here))
 
   -- at the cell of the number handed stands a result where its word is 2

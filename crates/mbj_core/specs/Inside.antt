@@ -4,10 +4,8 @@ use Rattle.mbj_types.specs.Result.{result_of}
 use Rattle.mbj_types.specs.declared.job.Job.{Job}
 use Rattle.mbj_types.specs.declared.done.Done.{Done}
 use Rattle.mbj_core.specs.Cells.{Cell, free, ready, done, hand_of}
-use Rattle.mbj_core.specs.Parties.{FrontState}
-use Rattle.mbj_core.specs.Lawful.{Lawful}
 use Rattle.mbj_core.specs.CoreStates.{CoreState}
-use Rattle.mbj_core.specs.Stands.{StandsFor}
+use Rattle.mbj_core.specs.Stands.{IsBacked}
 use Rattle.mbj_core.specs.declared.cells.Slot.{Slot}
 use Rattle.mbj_core.specs.declared.cells.Slot.TheVariants as slot
 use Rattle.mbj_core.specs.declared.cells.TheConstants.{CELLS, MAX_SUBMITTERS}
@@ -40,5 +38,4 @@ pub record IsCore (a : Inside) : Type 0 where
   pub outs : vec_len a.outs ≡ a.submitters
   pub each_first : All (λ n. n < CELLS) a.firsts.items
   pub each_out : All (λ n. n ≤ CELLS) a.outs.items
-  -- a lawful state stands behind the core
-  pub lawful : ∥ ((f : FrontState Job Done) × StandsFor (state_of a) f × Lawful result_of a.submitters f) ∥₁
+  pub backed : IsBacked (state_of a)

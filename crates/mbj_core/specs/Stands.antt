@@ -5,6 +5,7 @@ use Rattle.mbj_types.specs.declared.job.Job.{Job}
 use Rattle.mbj_types.specs.declared.done.Done.{Done}
 use Rattle.mbj_core.specs.Cells.{result_in, cell_of}
 use Rattle.mbj_core.specs.Parties.{FrontState}
+use Rattle.mbj_core.specs.Lawful.{Lawful}
 use Rattle.mbj_core.specs.Events.{Event, Answer, Step}
 use Rattle.mbj_core.specs.CoreStates.{CoreState, cell_in, out_of}
 use Rattle.mbj_core.specs.declared.cells.TheConstants.{CELLS}
@@ -31,3 +32,7 @@ abbrev pub Leads : CoreState → Event Job Done → Answer Job Done → CoreStat
 Leads old e a new =
     (f : FrontState Job Done) → StandsFor old f
     → (g : FrontState Job Done) × Step result_of old.submitters old.workers f e a g × StandsFor new g
+
+-- a lawful state stands behind the core
+abbrev pub IsBacked : CoreState → Type 0
+IsBacked core = ∥ ((f : FrontState Job Done) × StandsFor core f × Lawful result_of core.submitters f) ∥₁
