@@ -128,7 +128,7 @@ module _ (c : CoreState) (size : Sizes c) (f : FrontState Job Done) (sf : Stands
               (cells_more v.hand i d ∙ ap (λ (t : List ℕ). t ++ i ∷ []) (sym (hand_is p lp))) stands,
       )
     where
-      more : (k q : ℕ) (e : Done) → (slice_get (f.seats p).hand k ≡ Some (q, e)) ⊎ ((k ≡ length (f.seats p).hand) × ((i, result_of j) ≡ (q, e))) → result_in result_of (f.cells q) ≡ Some e
+      more : (k q : ℕ) (e : Done) → (slice_get (f.seats p).hand k ≡ Some (q, e)) ⊎ ((k ≡ length (f.seats p).hand) × (◌≡◌ {A = ℕ × Done} (i, result_of j) (q, e))) → result_in result_of (f.cells q) ≡ Some e
       more k q e at = ⊎_elim (λ old. sf.hand_results p k q e old)
           (λ new. subst (λ (z : ℕ × Done). result_in result_of (f.cells z.0) ≡ Some z.1) new.1 (ap (result_in result_of) (cell_is i (ready j) li is))) at
 

@@ -8,3 +8,4 @@ pub mod Words
 pub mod Carried
 pub mod Facts
 pub mod Calls
+pub mod Fields
