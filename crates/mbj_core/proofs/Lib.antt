@@ -9,3 +9,4 @@ pub mod Carried
 pub mod Facts
 pub mod Calls
 pub mod Fields
+pub mod New

@@ -1,4 +1,4 @@
-ghost use Rattle.std.specs.Prelude.{◌≡◌, ◌≢◌, ℕ, ◌<◌, MatchBool, MatchOption};
+ghost use Rattle.std.specs.Prelude.{◌≡◌, ◌≢◌, ℕ, ◌<◌, replicate, IfOk, MatchBool, MatchOption};
 ghost use Rattle.mbj_types.specs.declared.job.Job.{Job};
 ghost use Rattle.mbj_types.specs.declared.done.Done.{Done};
 ghost use Rattle.mbj_core.specs.Cells.{cell_of};
@@ -6,6 +6,7 @@ ghost use Rattle.mbj_core.specs.declared.cells.Slot.TheVariants as slot;
 ghost use Rattle.mbj_core.specs.declared.cells.TheConstants.{MAX_SUBMITTERS};
 
 use mbj_types::{Done, Job};
+use std::alloc::{AllocError, Global};
 use std::mem;
 
 /// How many cells a submitter has.
@@ -66,6 +67,19 @@ impl Slot {
             }
         }
     }
+}
+
+/// So many cells that hold nothing.
+///
+/// Answers `AllocError` for want of memory.
+pub(crate) fn free_cells(alloc: Global, count: usize) -> Result<Vec<Slot>, AllocError>
+    ensures { IfOk result (λ v. v.items ≡ replicate count slot.Free) }
+{
+    let mut cells = Vec::new(alloc);
+    for _ in 0..count {
+        cells.push(Slot::Free)?;
+    }
+    Ok(cells)
 }
 
 /// The cell of a submitter's job `number`.

@@ -1,4 +1,4 @@
-ghost use Rattle.std.specs.Prelude.{◌≡◌, ◌<◌, [], ◌∷◌, ◌++◌, not, ◌==◌, length, IfOk};
+ghost use Rattle.std.specs.Prelude.{◌≡◌, ◌<◌, [], ◌∷◌, ◌++◌, not, ◌==◌, length, replicate, IfOk};
 ghost use Rattle.std.specs.List.{filter};
 ghost use Rattle.mbj_core.specs.declared.hand.TheConstants.{ROOM};
 
@@ -51,4 +51,17 @@ impl Hand {
     {
         self.cells.retain(|held| *held != cell);
     }
+}
+
+/// So many empty hands.
+///
+/// Answers `AllocError` for want of memory.
+pub(crate) fn empty_hands(alloc: Global, count: usize) -> Result<Vec<Hand>, AllocError>
+    ensures { IfOk result (λ v. v.items ≡ replicate count []) }
+{
+    let mut hands = Vec::new(alloc);
+    for _ in 0..count {
+        hands.push(Hand::new(alloc)?)?;
+    }
+    Ok(hands)
 }

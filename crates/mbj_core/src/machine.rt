@@ -11,8 +11,8 @@ ghost use Rattle.mbj_core.specs.Events.{post, finish, collect, accepted, returne
 ghost use Rattle.mbj_core.specs.CoreStates.{new_core, out_of, first_cell, cell_in, posted, finished, handed_out};
 ghost use Rattle.mbj_core.specs.Stands.{StandsFor, Leads};
 
-use crate::cells::{cell_at, Slot, CELLS};
-use crate::hand::Hand;
+use crate::cells::{cell_at, free_cells, Slot, CELLS};
+use crate::hand::{empty_hands, Hand};
 use mbj_types::{Done, Job, PostFull};
 use std::alloc::{AllocError, Global};
 use std::marker::Model;
@@ -56,14 +56,8 @@ impl Core {
         ensures empty { IfOk result (λ core. core ≡ new_core submitters workers) }
         ensures stands { IfOk result (λ core. StandsFor core new_front) }
     {
-        let mut cells = Vec::with_capacity(alloc, (CELLS * submitters) as usize)?;
-        for _ in 0..CELLS * submitters {
-            cells.push_reserved(Slot::Free);
-        }
-        let mut hands = Vec::with_capacity(alloc, (submitters + workers) as usize)?;
-        for _ in 0..submitters + workers {
-            hands.push_reserved(Hand::new(alloc)?);
-        }
+        let cells = free_cells(alloc, (CELLS * submitters) as usize)?;
+        let hands = empty_hands(alloc, (submitters + workers) as usize)?;
         Ok(Core {
             submitters,
             workers,
