@@ -33,6 +33,12 @@ shown_ready (slot.Ready j) job e = ap slot.Ready cc
 shown_ready (slot.Held p j) job e = absurd cc
 shown_ready (slot.Done d) job e = absurd cc
 
+shown_held : (x : Slot) (p : ℕ) (d : Done) → cell_shown x ≡ hand_of p d → (job : Job) × (x ≡ slot.Held p job)
+shown_held slot.Free p d e = absurd cc
+shown_held (slot.Ready j) p d e = absurd cc
+shown_held (slot.Held q j) p d e = let same : q ≡ p = cc in (j, ap (λ (r : ℕ). slot.Held r j) same)
+shown_held (slot.Done b) p d e = absurd cc
+
 shown_done : (x : Slot) (d : Done) → cell_shown x ≡ done d → x ≡ slot.Done d
 shown_done slot.Free d e = absurd cc
 shown_done (slot.Ready j) d e = absurd cc
@@ -40,10 +46,10 @@ shown_done (slot.Held p j) d e = absurd cc
 shown_done (slot.Done b) d e = ap slot.Done cc
 
 -- the job that a claimed cell lends
-pub lent : (r : Option (Bor Job)) (x : Slot) (p : ℕ) (job : Job) → MatchOption r ((q : ℕ) (j : Job) → x ≢ slot.Held q j) (λ j. (q : ℕ) × (x ≡ slot.Held q j.now)) → x ≡ slot.Held p job
+pub lent : (r : Option (Bor Job)) (x : Slot) (p : ℕ) (job : Job) → MatchOption r ((j : Job) → x ≢ slot.Held p j) (λ j. x ≡ slot.Held p j.now) → x ≡ slot.Held p job
     → (b : Bor Job) × (r ≡ Some b) × (job ≡ b.now)
-lent None x p job m e = absurd (m p job e)
-lent (Some b) x p job m e = let same : slot.Held p job ≡ slot.Held m.0 b.now = sym e ∙ m.1 in (b, refl, cc)
+lent None x p job m e = absurd (m job e)
+lent (Some b) x p job m e = let same : slot.Held p job ≡ slot.Held p b.now = sym e ∙ m in (b, refl, cc)
 
 module _ (a : Inside) where
   pub sizes_of : IsCore a → Sizes (state_of a)
@@ -169,3 +175,9 @@ module _ (a : Inside) (is : IsCore a) where
       ∙ ap (λ (n : ℕ). record c { cells = set c.cells (first_cell c s) free; firsts = set c.firsts s ((n + 1) % CELLS); outs = set c.outs s (out - 1) }) first_is
       ∙ ap (λ (n : ℕ). record c { cells = set c.cells (first_cell c s) free; firsts = set c.firsts s ((slice_index c.firsts s + 1) % CELLS); outs = set c.outs s (n - 1) }) out_is)
       refl (collects_lead c (sizes_of a is) is.backed s d l (omega arith) (done_read s at first d x l here f e is_done))
+
+  -- the job that a party has claimed, as it is read out of its cell
+  pub held_read : (r : Option (Bor Job)) (p i : ℕ) (x : Slot) → i < CELLS * a.submitters → x ≡ get_or a.cells.items i x → MatchOption r ((j : Job) → x ≢ slot.Held p j) (λ j. x ≡ slot.Held p j.now)
+      → MatchOption r ((d : Done) → cell_in (state_of a) i ≢ Some (hand_of p d)) (λ j. cell_in (state_of a) i ≡ Some (hand_of p (result_of j.now)))
+  held_read None p i x li e none = λ d h. let was = shown_held x p d (same_Some (cell_shown x) (hand_of p d) (sym (cell_read i x li e) ∙ h)) in none was.0 was.1
+  held_read (Some b) p i x li e is_held = cell_read i x li e ∙ ap (λ (t : Slot). Some (cell_shown t)) is_held

@@ -8,7 +8,7 @@ use Rattle.std.proofs.lemmas.Option.{none-some, slice_get-get_or}
 use Rattle.mbj_types.specs.Result.{result_of}
 use Rattle.mbj_types.specs.declared.job.Job.{Job}
 use Rattle.mbj_types.specs.declared.done.Done.{Done}
-use Rattle.mbj_core.specs.declared.cells.TheConstants.{CELLS, MAX_SUBMITTERS}
+use Rattle.mbj_core.specs.declared.cells.TheConstants.{CELLS, MAX_SUBMITTERS, MAX_WORKERS}
 use Rattle.mbj_core.specs.declared.cells.Slot.{Slot}
 use Rattle.mbj_core.specs.declared.cells.Slot.TheVariants as slot
 use Rattle.mbj_core.specs.declared.machine.Core.TheInside.{Inside}
@@ -59,7 +59,7 @@ module _ (a : Inside) (free_cells : a.cells.items ≡ replicate (CELLS * a.submi
     outs = outs t;
   }
 
-  pub is_new : 1 ≤ a.submitters → a.submitters ≤ MAX_SUBMITTERS → a.workers ≤ MAX_SUBMITTERS → IsCore a
+  pub is_new : 1 ≤ a.submitters → a.submitters ≤ MAX_SUBMITTERS → a.workers ≤ MAX_WORKERS → IsCore a
   is_new some few_submitters few_workers = record {
     some_submitter = some;
     submitters = few_submitters;

@@ -8,7 +8,7 @@ use Rattle.mbj_core.specs.CoreStates.{CoreState}
 use Rattle.mbj_core.specs.Stands.{IsBacked}
 use Rattle.mbj_core.specs.declared.cells.Slot.{Slot}
 use Rattle.mbj_core.specs.declared.cells.Slot.TheVariants as slot
-use Rattle.mbj_core.specs.declared.cells.TheConstants.{CELLS, MAX_SUBMITTERS}
+use Rattle.mbj_core.specs.declared.cells.TheConstants.{CELLS, MAX_SUBMITTERS, MAX_WORKERS}
 use Rattle.mbj_core.specs.declared.machine.Core.TheInside.{Inside}
 
 -- what the cell holds; the job of a claimed cell has a result, whether it is computed or not
@@ -31,7 +31,7 @@ state_of a = record {
 pub record IsCore (a : Inside) : Type 0 where
   pub some_submitter : 1 ≤ a.submitters
   pub submitters : a.submitters ≤ MAX_SUBMITTERS
-  pub workers : a.workers ≤ MAX_SUBMITTERS
+  pub workers : a.workers ≤ MAX_WORKERS
   pub cells : vec_len a.cells ≡ CELLS * a.submitters
   pub hands : vec_len a.hands ≡ a.submitters + a.workers
   pub firsts : vec_len a.firsts ≡ a.submitters

@@ -1,4 +1,4 @@
-ghost use Rattle.std.specs.Prelude.{◌≡◌, ◌≢◌, ℕ, ◌<◌, replicate, IfOk, MatchBool, MatchOption};
+ghost use Rattle.std.specs.Prelude.{◌≡◌, ◌≢◌, ◌<◌, replicate, IfOk, MatchBool, MatchOption};
 ghost use Rattle.mbj_types.specs.declared.job.Job.{Job};
 ghost use Rattle.mbj_types.specs.declared.done.Done.{Done};
 ghost use Rattle.mbj_core.specs.Cells.{cell_of};
@@ -13,7 +13,10 @@ use std::mem;
 pub const CELLS: u32 = 256;
 
 /// The most submitters that a front has.
-pub(crate) const MAX_SUBMITTERS: u32 = 16;
+pub const MAX_SUBMITTERS: u32 = 16;
+
+/// The most workers that a front has.
+pub const MAX_WORKERS: u32 = 16;
 
 /// What a cell of the core holds.
 #[derive(Drop)]
@@ -45,12 +48,12 @@ impl Slot {
         }
     }
 
-    /// The job that a party has claimed, if there is one.
-    pub(crate) fn held_job(&self) -> Option<&Job>
-        ensures { MatchOption result ((p : ℕ) (job : Job) → self.now ≢ slot.Held p job) (λ job. (p : ℕ) × (self.now ≡ slot.Held p job.now)) }
+    /// The job that the party has claimed. `None` exactly where it has claimed none here.
+    pub(crate) fn held_by(&self, party: u32) -> Option<&Job>
+        ensures { MatchOption result ((job : Job) → self.now ≢ slot.Held party job) (λ job. self.now ≡ slot.Held party job.now) }
     {
         match self {
-            Slot::Held { party: _, job } => Some(job),
+            Slot::Held { party: holder, job } if *holder == party => Some(job),
             _ => None,
         }
     }

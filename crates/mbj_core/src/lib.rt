@@ -9,7 +9,7 @@ mod laws;
 mod machine;
 mod party;
 
-pub use cells::CELLS;
+pub use cells::{CELLS, MAX_SUBMITTERS, MAX_WORKERS};
 pub use laws::{events_keep_the_front_lawful, results_come_in_the_order_of_posts};
 pub use machine::Core;
 pub use party::{Stage, View};

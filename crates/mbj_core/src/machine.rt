@@ -3,7 +3,7 @@ ghost use Rattle.std.specs.Borrow.{sem};
 ghost use Rattle.mbj_types.specs.Result.{result_of};
 ghost use Rattle.mbj_types.specs.declared.job.Job.{Job};
 ghost use Rattle.mbj_types.specs.declared.done.Done.{Done};
-ghost use Rattle.mbj_core.specs.declared.cells.TheConstants.{CELLS, MAX_SUBMITTERS};
+ghost use Rattle.mbj_core.specs.declared.cells.TheConstants.{CELLS, MAX_SUBMITTERS, MAX_WORKERS};
 ghost use Rattle.mbj_core.specs.Cells.{ready, hand_of, done as done_cell};
 ghost use Rattle.mbj_core.specs.Parties.{FrontState, new_front};
 ghost use Rattle.mbj_core.specs.Lawful.{Lawful};
@@ -17,7 +17,7 @@ use mbj_types::{Done, Job, PostFull};
 use std::alloc::{AllocError, Global};
 use std::marker::Model;
 
-/// Up to 16 submitters, each with `CELLS` cells, and up to 16 workers. A submitter's jobs are counted from 0, and job
+/// Submitters, each with `CELLS` cells, and workers. A submitter's jobs are counted from 0, and job
 /// `n` of submitter `s` has cell `CELLS * s + n % CELLS`. Party `p` is submitter `p`, and from the number of
 /// submitters on a worker; every party may claim jobs and finish them.
 ///
@@ -47,12 +47,12 @@ impl Model for Core {
 impl Core {
     ghost use Rattle.mbj_core.specs.Claims.{ClaimEnds};
 
-    /// A core in which nothing is posted, for 1 to 16 submitters and up to 16 workers.
+    /// A core in which nothing is posted, for 1 to `MAX_SUBMITTERS` submitters and up to `MAX_WORKERS` workers.
     ///
     /// Answers `AllocError` for want of memory.
     pub fn new(alloc: Global, submitters: u32, workers: u32) -> Result<Core, AllocError>
-        requires submitters { (1 ≤ submitters) × (submitters ≤ 16) }
-        requires workers { workers ≤ 16 }
+        requires submitters { (1 ≤ submitters) × (submitters ≤ MAX_SUBMITTERS) }
+        requires workers { workers ≤ MAX_WORKERS }
         ensures empty { IfOk result (λ core. core ≡ new_core submitters workers) }
         ensures stands { IfOk result (λ core. StandsFor core new_front) }
     {
@@ -70,14 +70,14 @@ impl Core {
 
     /// How many submitters there are.
     pub fn submitters(&self) -> u32
-        ensures { (result ≡ self.now.submitters) × (1 ≤ result) × (result ≤ 16) }
+        ensures { (result ≡ self.now.submitters) × (1 ≤ result) × (result ≤ MAX_SUBMITTERS) }
     {
         self.submitters
     }
 
     /// How many workers there are.
     pub fn workers(&self) -> u32
-        ensures { (result ≡ self.now.workers) × (result ≤ 16) }
+        ensures { (result ≡ self.now.workers) × (result ≤ MAX_WORKERS) }
     {
         self.workers
     }
@@ -134,7 +134,15 @@ impl Core {
             return None;
         }
         self.hands[p as usize].push(cell);
-        self.cells[at].held_job()
+        self.cells[at].held_by(p)
+    }
+
+    /// The job of a cell in a party's hand. `None` exactly where that hand doesn't have the cell.
+    pub fn held_job(&self, p: u32, cell: u32) -> Option<&Job>
+        requires cell { cell < CELLS * self.now.submitters }
+        ensures { MatchOption result ((d : Done) → cell_in self.now cell ≢ Some (hand_of p d)) (λ job. cell_in self.now cell ≡ Some (hand_of p (result_of job.now))) }
+    {
+        self.cells[cell as usize].held_by(p)
     }
 
     /// Takes a cell out of a party's hand, and puts the result of its job there. The cell is in that hand, and the
@@ -172,7 +180,7 @@ impl Core {
     }
 
     /// A law: each state that a core stands for is lawful.
-    pub fn lawful(&self)
+    pub fn stands_for_lawful_states(&self)
         ensures { (f : FrontState Job Done) → StandsFor self.now f → Lawful result_of self.now.submitters f }
     {
         let _ = &self.submitters;

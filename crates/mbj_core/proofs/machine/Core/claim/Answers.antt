@@ -62,7 +62,7 @@ returns c =
     let a = c.self.inside in let is = c.self.invariant in let i = c.args.cell in
     let lp = rw (← c.self.view_is) at c.requires.party in let li = rw (← c.self.view_is) at c.requires.cell in let h = c.if-not-hold.ensures {u = tt} in
     let back = read_back a is i c.hold.new.self c.index.result.now li c.index.ensures in
-    let b = lent c.held_job.result c.index.result.now c.args.p h.0 c.held_job.ensures (back ∙ h.2) in
+    let b = lent c.held_by.result c.index.result.now c.args.p h.0 c.held_by.ensures (back ∙ h.2) in
     let job = b.0.now in
     let was : c.index_mut.result.now ≡ slot.Ready job = h.1 ∙ ap slot.Ready b.2 in
     let after = after_claim a is c.args.p i job c.index_mut.result.now c.hold.new.self c.index_mut-2.result.now c.push.new.self lp li
