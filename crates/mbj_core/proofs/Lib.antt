@@ -10,3 +10,4 @@ pub mod Facts
 pub mod Calls
 pub mod Fields
 pub mod New
+pub mod NullJobs

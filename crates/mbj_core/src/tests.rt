@@ -29,10 +29,14 @@ fn job(alloc: Global, byte: u8) -> Result<Job, AllocError> {
 fn result_of_null(alloc: Global, job: &Job) -> Result<Option<Done>, AllocError>
     ensures { IfOk result (λ made. IfSome made (λ done. done ≡ result_of job.now)) }
 {
-    if job.cipher != Cipher::Null || job.auth != Auth::Null || job.tag_len != 0 {
+    if job.cipher != Cipher::Null {
         return Ok(None);
     }
-    if job.packet.as_slice().len() > MAX_PACKET_BYTES {
+    if job.auth != Auth::Null {
+        return Ok(None);
+    }
+    let bytes = job.packet.as_slice().len();
+    if job.tag_len != 0 || bytes > MAX_PACKET_BYTES {
         return Ok(None);
     }
     Ok(Some(Done {
