@@ -20,7 +20,7 @@ use Rattle.mbj_core.specs.Events.{post, claim, finish, collect, accepted, return
 use Rattle.mbj_core.specs.CoreStates.{CoreState, cell_in, hand_in, out_of, first_cell, next_cell, posted, claimed_by, finished, handed_out}
 use Rattle.mbj_core.specs.Stands.{StandsFor, Leads, IsBacked}
 use Rattle.mbj_core.proofs.Puts.{put, at_put, put_here, put_else}
-use Rattle.mbj_core.proofs.Entries.{at_left, at_end, at_middle, skip, at_skip, set_here, set_else}
+use Rattle.mbj_core.proofs.Entries.{at_left, at_end, at_middle, skip, in_whole, set_here, set_else}
 use Rattle.mbj_core.proofs.Words.{free_word, hand_word, same_result}
 use Rattle.mbj_core.proofs.Carried.{cells_of, Once, leaving, room}
 use Rattle.mbj_core.proofs.Posts.{one_owner, one_number, near}
@@ -144,7 +144,7 @@ module _ (c : CoreState) (size : Sizes c) (f : FrontState Job Done) (sf : Stands
       let same : d ≡ r.0 = same_result result_of (f.cells i) p d r.0 here (sf.hand_results p r.4.0 i r.0 r.4.1) in
       let leaves : Leaves v.hand i d rest = subst (λ (e : Done). Leaves v.hand i e rest) (sym same) r.2 in
       let stands = stands_hand i p (done d) rest (ap (result_in result_of) (sym here)) lp
-        (λ k j e at. sf.hand_results p (skip leaves.0 k) j e (ap (λ (l : List (ℕ × Done)). slice_get l (skip leaves.0 k)) leaves.2 ∙ at_skip leaves.0 leaves.1 (i, d) k ∙ sym (ap (λ (l : List (ℕ × Done)). slice_get l k) leaves.3) ∙ at)) in (
+        (λ k j e at. sf.hand_results p (skip leaves.0 k) j e (in_whole v.hand rest leaves.0 leaves.1 (i, d) (j, e) k leaves.2 leaves.3 at)) in (
           front (put f.cells i (done d)) (put f.seats p w),
           (lp, (rest, leaves, put_changes f i (done d) p w)),
           subst (λ (t : List ℕ). StandsFor (record c { cells = set c.cells i (done d); hands = set c.hands p t }) (front (put f.cells i (done d)) (put f.seats p w)))

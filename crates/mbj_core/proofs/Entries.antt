@@ -1,5 +1,5 @@
 -- Entries of a list by their index: one more at the end, and one that leaves.
-use Rattle.std.proofs.Common.{◌≡◌, ◌≢◌, ℕ, zero, suc, ◌<◌, List, [], ◌∷◌, ◌++◌, length, set, refl, ap, arith, ⊎_elim, ◌⊎◌, inl, inr}
+use Rattle.std.proofs.Common.{◌≡◌, ◌≢◌, ℕ, zero, suc, ◌<◌, List, [], ◌∷◌, ◌++◌, length, set, sym, ◌∙◌, refl, ap, arith, ⊎_elim, ◌⊎◌, inl, inr}
 use Rattle.std.specs.Prelude.{Some, None, slice_get}
 use Rattle.std.proofs.lemmas.Option.{none-some, same_Some}
 
@@ -52,6 +52,11 @@ module _ {A : Type 0} where
   at_skip [] after x k = refl
   at_skip (b ∷ before) after x zero = refl
   at_skip (b ∷ before) after x (suc k) = at_skip before after x k
+
+  -- an entry of what is left stands in the whole list
+  pub in_whole : (whole left before after : List A) (x y : A) (k : ℕ) → whole ≡ before ++ x ∷ after → left ≡ before ++ after → slice_get left k ≡ Some y → slice_get whole (skip before k) ≡ Some y
+  in_whole whole left before after x y k is_whole is_left at =
+      ap (λ (l : List A). slice_get l (skip before k)) is_whole ∙ (at_skip before after x k ∙ (sym (ap (λ (l : List A). slice_get l k) is_left) ∙ at))
 
   pub skip_apart : (before : List A) (k l : ℕ) → skip before k ≡ skip before l → k ≡ l
   skip_apart [] k l e = omega arith

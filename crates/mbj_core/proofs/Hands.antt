@@ -9,7 +9,7 @@ use Rattle.mbj_core.specs.Parties.{view, front, FrontState}
 use Rattle.mbj_core.specs.Lawful.{Fits, Lawful}
 use Rattle.mbj_core.specs.Events.{Leaves}
 use Rattle.mbj_core.proofs.Puts.{put, at_put, put_here, put_else}
-use Rattle.mbj_core.proofs.Entries.{at_end, at_longer, at_middle, skip, at_skip, skip_apart, skip_misses, stays}
+use Rattle.mbj_core.proofs.Entries.{at_end, at_longer, at_middle, skip, in_whole, skip_apart, skip_misses, stays}
 
 module _ {J D : Type 0} where
   -- whether the cell is in a hand: 1, and else 0
@@ -95,7 +95,7 @@ module _ {J D : Type 0} (owed : J → D) where
       let w : View D = rehanded (f.seats p) more looks in let x : Cell J D = done d in
       let there : slice_get (f.seats p).hand (length before) ≡ Some (c, d) = ap (λ (l : List (ℕ × D)). slice_get l (length before)) leaves.2 ∙ at_middle before after (c, d) in
       let later : (k i : ℕ) (e : D) → slice_get more k ≡ Some (i, e) → slice_get (f.seats p).hand (skip before k) ≡ Some (i, e) = λ k i e at.
-        ap (λ (l : List (ℕ × D)). slice_get l (skip before k)) leaves.2 ∙ at_skip before after (c, d) k ∙ sym (ap (λ (l : List (ℕ × D)). slice_get l k) leaves.3) ∙ at in
+        in_whole (f.seats p).hand more before after (c, d) (i, e) k leaves.2 leaves.3 at in
       let here = (law.in_hand p (length before) c d there).1 in
       let apart : (k i : ℕ) (e : D) → slice_get more k ≡ Some (i, e) → i ≢ c = λ k i e at same.
         skip_misses before k (law.once p (skip before k) (length before) i e d (later k i e at) (subst (λ (a : ℕ). slice_get (f.seats p).hand (length before) ≡ Some (a, d)) (sym same) there)) in
