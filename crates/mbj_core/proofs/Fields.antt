@@ -2,7 +2,7 @@
 use Rattle.std.proofs.Common.{◌≡◌, ◌≢◌, ℕ, ◌+◌, ◌-◌, ◌*◌, ◌%◌, ◌<◌, ◌≤◌, List, [], ◌∷◌, ◌++◌, map, length, set, get_or, sym, refl, ap, ◌∙◌, subst, arith}
 use Rattle.std.proofs.lemmas.List.{map-set, length-map, get_or_default, set-get_or, get_or-set_same}
 use Rattle.std.proofs.lemmas.Option.{same_Some, slice_get-map, slice_get_read, slice_get_within}
-use Rattle.std.specs.Prelude.{vec_len, slice_index, Option, None, Some, MatchOption, not, ◌==◌}
+use Rattle.std.specs.Prelude.{vec_len, slice_index, Option, None, Some, IfSome, IfNone, MatchOption, not, ◌==◌}
 use Rattle.std.specs.Borrow.{Bor}
 use Rattle.std.specs.Option.{option_map}
 use Rattle.std.specs.List.{filter}
@@ -10,7 +10,7 @@ use Rattle.mbj_types.specs.Result.{result_of}
 use Rattle.mbj_types.specs.declared.job.Job.{Job}
 use Rattle.mbj_types.specs.declared.done.Done.{Done}
 use Rattle.mbj_core.specs.Cells.{Cell, free, ready, done, hand_of, cell_of}
-use Rattle.mbj_core.specs.CoreStates.{CoreState, cell_in, hand_in, out_of, first_cell, next_cell, posted, claimed_by, finished, handed_out}
+use Rattle.mbj_core.specs.CoreStates.{CoreState, HasHand, cell_in, hand_in, out_of, first_cell, next_cell, posted, claimed_by, finished, handed_out}
 use Rattle.mbj_core.specs.Inside.{cell_shown, state_of, IsCore}
 use Rattle.mbj_core.specs.declared.cells.Slot.{Slot}
 use Rattle.mbj_core.specs.declared.cells.Slot.TheVariants as slot
@@ -178,6 +178,6 @@ module _ (a : Inside) (is : IsCore a) where
 
   -- the job that a party has claimed, as it is read out of its cell
   pub held_read : (r : Option (Bor Job)) (p i : ℕ) (x : Slot) → i < CELLS * a.submitters → x ≡ get_or a.cells.items i x → MatchOption r ((j : Job) → x ≢ slot.Held p j) (λ j. x ≡ slot.Held p j.now)
-      → MatchOption r ((d : Done) → cell_in (state_of a) i ≢ Some (hand_of p d)) (λ j. cell_in (state_of a) i ≡ Some (hand_of p (result_of j.now)))
-  held_read None p i x li e none = λ d h. let was = shown_held x p d (same_Some (cell_shown x) (hand_of p d) (sym (cell_read i x li e) ∙ h)) in none was.0 was.1
-  held_read (Some b) p i x li e is_held = cell_read i x li e ∙ ap (λ (t : Slot). Some (cell_shown t)) is_held
+      → IfSome r (λ j. HasHand (state_of a) i p (result_of j.now)) × IfNone r ((d : Done) → ¬ HasHand (state_of a) i p d)
+  held_read None p i x li e none = (tt, λ d h. let was = shown_held x p d (same_Some (cell_shown x) (hand_of p d) (sym (cell_read i x li e) ∙ h)) in none was.0 was.1)
+  held_read (Some b) p i x li e is_held = (cell_read i x li e ∙ ap (λ (t : Slot). Some (cell_shown t)) is_held, tt)

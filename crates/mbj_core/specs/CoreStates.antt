@@ -1,5 +1,5 @@
 -- What a contract sees of a core, and what each call makes of it.
-use Rattle.std.specs.Prelude.{ℕ, ◌+◌, ◌-◌, ◌*◌, ◌%◌, not, ◌==◌, List, [], ◌∷◌, ◌++◌, replicate, set, slice_index, slice_index_or, slice_get, Option}
+use Rattle.std.specs.Prelude.{◌≡◌, ℕ, ◌+◌, ◌-◌, ◌*◌, ◌%◌, not, ◌==◌, List, [], ◌∷◌, ◌++◌, replicate, set, slice_index, slice_index_or, slice_get, Option, Some}
 use Rattle.std.specs.List.{filter}
 use Rattle.mbj_types.specs.Result.{result_of}
 use Rattle.mbj_types.specs.declared.job.Job.{Job}
@@ -42,6 +42,17 @@ next_cell c s = cell_of s (slice_index c.firsts s + slice_index c.outs s)
 -- what a cell holds
 abbrev pub cell_in : CoreState → ℕ → Option (Cell Job Done)
 cell_in c i = slice_get c.cells i
+
+-- the cell i holds a job that no party has claimed, is in the hand of the party p with this result of its job, or
+-- holds a result
+abbrev pub HasJob : CoreState → ℕ → Job → Type 0
+HasJob c i job = cell_in c i ≡ Some (ready job)
+
+abbrev pub HasHand : CoreState → ℕ → ℕ → Done → Type 0
+HasHand c i p d = cell_in c i ≡ Some (hand_of p d)
+
+abbrev pub HasResult : CoreState → ℕ → Done → Type 0
+HasResult c i d = cell_in c i ≡ Some (done d)
 
 -- the cells in the hand of the party p
 abbrev pub hand_in : CoreState → ℕ → List ℕ

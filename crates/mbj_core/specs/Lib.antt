@@ -2,6 +2,7 @@ pub mod Cells
 pub mod Parties
 pub mod Lawful
 pub mod Events
+pub mod Answers
 pub mod Runs
 pub mod CoreStates
 pub mod Stands

@@ -1,14 +1,14 @@
-ghost use Rattle.std.specs.Prelude.{◌≡◌, ◌≢◌, ◌+◌, ◌*◌, ◌<◌, ◌≤◌, ◌↔◌, ◌⊎◌, Some, IsErr, IfOk, IfErr, IfSome, OnOk, IfNone, MatchResult, MatchOption};
+ghost use Rattle.std.specs.Prelude.{◌≡◌, ◌≢◌, ◌+◌, ◌*◌, ◌<◌, ◌≤◌, ◌↔◌, ◌⊎◌, IsErr, IfOk, IfErr, IfSome, OnOk, IfNone, MatchOption};
 ghost use Rattle.std.specs.Borrow.{sem};
 ghost use Rattle.mbj_types.specs.Result.{result_of};
 ghost use Rattle.mbj_types.specs.declared.job.Job.{Job};
 ghost use Rattle.mbj_types.specs.declared.done.Done.{Done};
 ghost use Rattle.mbj_core.specs.declared.cells.TheConstants.{CELLS, MAX_SUBMITTERS, MAX_WORKERS};
-ghost use Rattle.mbj_core.specs.Cells.{ready, hand_of, done as done_cell};
 ghost use Rattle.mbj_core.specs.Parties.{FrontState, new_front};
 ghost use Rattle.mbj_core.specs.Lawful.{Lawful};
-ghost use Rattle.mbj_core.specs.Events.{post, finish, collect, accepted, returned, collected, nothing};
-ghost use Rattle.mbj_core.specs.CoreStates.{new_core, out_of, first_cell, cell_in, posted, finished, handed_out};
+ghost use Rattle.mbj_core.specs.Events.{post, finish, collect, accepted};
+ghost use Rattle.mbj_core.specs.Answers.{post_answer, collect_answer};
+ghost use Rattle.mbj_core.specs.CoreStates.{new_core, out_of, first_cell, HasJob, HasHand, HasResult, posted, finished, handed_out};
 ghost use Rattle.mbj_core.specs.Stands.{StandsFor, Leads};
 
 use crate::cells::{cell_at, free_cells, Slot, CELLS};
@@ -107,7 +107,7 @@ impl Core {
         ensures full { IsErr result ↔ (out_of self.old s ≡ CELLS) }
         ensures posted { OnOk result (self.new ≡ posted self.old s job) }
         ensures back { IfErr result (λ e. (e.0 ≡ job) × (self.new ≡ self.old)) }
-        ensures leads { MatchResult result (λ _. Leads self.old (post s job) accepted self.new) (λ e. Leads self.old (post s job) (returned e.0) self.new) }
+        ensures leads { Leads self.old (post s job) (post_answer result) self.new }
     {
         let submitter = s as usize;
         let out = self.outs[submitter];
@@ -126,8 +126,8 @@ impl Core {
         requires party { p < self.old.submitters + self.old.workers }
         requires cell { cell < CELLS * self.old.submitters }
         ensures* claims { sem 𝓛 (ClaimEnds self.entry p cell result) }
-        ensures ready { IfSome result (λ job. cell_in self.old cell ≡ Some (ready job.now)) }
-        ensures unready { IfNone result ((job : Job) → cell_in self.old cell ≢ Some (ready job)) }
+        ensures ready { IfSome result (λ job. HasJob self.old cell job.now) }
+        ensures unready { IfNone result ((job : Job) → ¬ HasJob self.old cell job) }
     {
         let at = cell as usize;
         if !self.cells[at].hold(p) {
@@ -140,7 +140,8 @@ impl Core {
     /// The job of a cell in a party's hand. `None` exactly where that hand doesn't have the cell.
     pub fn held_job(&self, p: u32, cell: u32) -> Option<&Job>
         requires cell { cell < CELLS * self.now.submitters }
-        ensures { MatchOption result ((d : Done) → cell_in self.now cell ≢ Some (hand_of p d)) (λ job. cell_in self.now cell ≡ Some (hand_of p (result_of job.now))) }
+        ensures held { IfSome result (λ job. HasHand self.now cell p (result_of job.now)) }
+        ensures none { IfNone result ((d : Done) → ¬ HasHand self.now cell p d) }
     {
         self.cells[cell as usize].held_by(p)
     }
@@ -149,7 +150,7 @@ impl Core {
     /// result is the one that its job is owed.
     pub fn finish(&mut self, p: u32, cell: u32, done: Done)
         requires party { p < self.old.submitters + self.old.workers }
-        requires held { cell_in self.old cell ≡ Some (hand_of p done) }
+        requires held { HasHand self.old cell p done }
         ensures finished { self.new ≡ finished self.old p cell done }
         ensures leads { Leads self.old (finish p cell done) accepted self.new }
     {
@@ -161,10 +162,14 @@ impl Core {
     /// has no result yet; then nothing changes.
     pub fn collect(&mut self, s: u32) -> Option<Done>
         requires submitter { s < self.old.submitters }
-        ensures done { IfSome result (λ d. (out_of self.old s ≢ 0) × (cell_in self.old (first_cell self.old s) ≡ Some (done_cell d))) }
-        ensures none { IfNone result ((out_of self.old s ≡ 0) ⊎ ((d : Done) → cell_in self.old (first_cell self.old s) ≢ Some (done_cell d))) }
+        ensures some_out { IfSome result (λ _. out_of self.old s ≢ 0) }
+        ensures done { IfSome result (λ d. HasResult self.old (first_cell self.old s) d) }
+        ensures none {
+            IfNone result
+                ((out_of self.old s ≡ 0) ⊎ ((d : Done) → ¬ HasResult self.old (first_cell self.old s) d))
+        }
         ensures collected { MatchOption result (self.new ≡ self.old) (λ _. self.new ≡ handed_out self.old s) }
-        ensures leads { MatchOption result (Leads self.old (collect s) nothing self.new) (λ d. Leads self.old (collect s) (collected d) self.new) }
+        ensures leads { Leads self.old (collect s) (collect_answer result) self.new }
     {
         let submitter = s as usize;
         let out = self.outs[submitter];

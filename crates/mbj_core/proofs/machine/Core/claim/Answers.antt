@@ -31,8 +31,8 @@ returns-then-not-hold c =
     let same = unchanged a is i c.index_mut.result.now c.hold.new.self c.index_mut.ensures.value (c.if-not-hold.ensures {u = tt}).1 in
     rw (← c.self.view_is) (
     (refl, (λ _. tt), record {
-      state = same;
-      event = rw same (vain_claims_lead (state_of a) (sizes_of a is) is.backed c.args.p i lp li none);
+      claimed = same;
+      leads = rw same (vain_claims_lead (state_of a) (sizes_of a is) is.backed c.args.p i lp li none);
     }), record { claims = tt; ready = tt; unready = none })
 
 pub push-requires : goal.push-requires
@@ -68,5 +68,5 @@ returns c =
     let after = after_claim a is c.args.p i job c.index_mut.result.now c.hold.new.self c.index_mut-2.result.now c.push.new.self lp li
       c.index_mut.ensures.value was (h.2 ∙ ap (slot.Held c.args.p) b.2) c.index_mut-2.ensures.value c.push.ensures in
     rw (b.1, ← c.self.view_is) (
-    (refl, (λ _. tt), record { state = after.0; event = after.2 }),
+    (refl, (λ _. tt), record { claimed = after.0; leads = after.2 }),
     record { claims = tt; ready = ready_read a is i job c.index_mut.result.now li c.index_mut.ensures.value was; unready = tt })

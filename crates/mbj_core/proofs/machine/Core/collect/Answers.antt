@@ -60,12 +60,16 @@ invariant_of-self-2 c =
           c.cell_at-at.ensures c.index-first.ensures c.index-out.ensures c.if-out-eq0.false c.index_mut.ensures.value c.in_ok-done.ensures.0 c.in_ok-done.ensures.1).1;
     }
 
+pub returns-clause-some_out : goal.returns-clause-some_out
+returns-clause-some_out c =
+    let near = rw (← c.self.view_is) at c.requires.submitter in
+    rw (← c.self.view_is) (λ e. c.if-out-eq0.false (out_read c.self.inside c.self.invariant c.args.s c.index-out.result.now near c.index-out.ensures ∙ e))
+
 pub returns-clause-done : goal.returns-clause-done
 returns-clause-done c =
-    let a = c.self.inside in let is = c.self.invariant in let s = c.args.s in
     let near = rw (← c.self.view_is) at c.requires.submitter in
-    rw (← c.self.view_is) ((λ e. c.if-out-eq0.false (out_read a is s c.index-out.result.now near c.index-out.ensures ∙ e)),
-    done_read a is s c.cell_at-at.result c.index-first.result.now c.in_ok-done.done c.index_mut.result.now near c.cell_at-at.ensures c.index-first.ensures c.index_mut.ensures.value c.in_ok-done.ensures.0)
+    rw (← c.self.view_is) (done_read c.self.inside c.self.invariant c.args.s c.cell_at-at.result c.index-first.result.now c.in_ok-done.done c.index_mut.result.now near
+    c.cell_at-at.ensures c.index-first.ensures c.index_mut.ensures.value c.in_ok-done.ensures.0)
 
 pub returns-clause-collected : goal.returns-clause-collected
 returns-clause-collected c =
