@@ -1,9 +1,9 @@
 -- What a call makes of a core leads each state that it stands for by the call's event.
-use Rattle.std.proofs.Common.{◌≡◌, ◌≢◌, ℕ, zero, suc, ◌+◌, ◌-◌, ◌*◌, ◌%◌, ◌<◌, ◌≤◌, Bool, true, not, eqb, List, [], ◌∷◌, ◌++◌, map, length, set, get_or, sym, refl, ap, ◌∙◌, subst, arith, length-append, get_or-set_same, get_or-set_other, ◌⊎◌, inl, inr, ⊎_elim}
+use Rattle.std.proofs.Common.{◌≡◌, ◌≢◌, ℕ, ◌+◌, ◌-◌, ◌*◌, ◌%◌, ◌<◌, ◌≤◌, not, eqb, List, [], ◌∷◌, ◌++◌, length, set, sym, refl, ap, ◌∙◌, subst, arith, length-append, get_or-set_same, get_or-set_other, ◌⊎◌, ⊎_elim}
 use Rattle.std.proofs.lemmas.List.{set-get_or}
-use Rattle.std.specs.Prelude.{Option, Some, None, slice_get, slice_index, slice_index_or}
-use Rattle.std.specs.List.{list_any, filter}
-use Rattle.std.proofs.lemmas.Option.{none-some, same_Some, get_or_from_slice_get}
+use Rattle.std.specs.Prelude.{Some, slice_get, slice_index}
+use Rattle.std.specs.List.{filter}
+use Rattle.std.proofs.lemmas.Option.{same_Some, get_or_from_slice_get}
 use Rattle.std.proofs.Math.Logic.{∥∥₁_elim}
 use Rattle.std.proofs.Math.Bridge.{le_prop}
 use mathlib.Core.Logic.{dite}
@@ -21,8 +21,8 @@ use Rattle.mbj_core.specs.CoreStates.{CoreState, cell_in, hand_in, out_of, first
 use Rattle.mbj_core.specs.Stands.{StandsFor, Leads, IsBacked}
 use Rattle.mbj_core.proofs.Puts.{put, at_put, put_here, put_else}
 use Rattle.mbj_core.proofs.Entries.{at_left, at_end, at_middle, skip, in_whole, set_here, set_else}
-use Rattle.mbj_core.proofs.Words.{free_word, hand_word, same_result}
-use Rattle.mbj_core.proofs.Carried.{cells_of, Once, leaving, room}
+use Rattle.mbj_core.proofs.Words.{same_result}
+use Rattle.mbj_core.proofs.Carried.{cells_of, leaving, room}
 use Rattle.mbj_core.proofs.Posts.{one_owner, one_number, near}
 use Rattle.mbj_core.proofs.Steps.{put_changes}
 use Rattle.mbj_core.proofs.Facts.{Facts, facts_of}
@@ -68,7 +68,7 @@ module _ (c : CoreState) (size : Sizes c) (f : FrontState Job Done) (sf : Stands
       StandsFor (record c { cells = set c.cells (cell_of s m) x; firsts = set c.firsts s first; outs = set c.outs s out }) (front (put f.cells (cell_of s m) x) (put f.seats s (view v.number v.stage due handed v.hand v.looks)))
   stands_part s m first out x due handed ls lacks is_first is_out results = let v : View Done = f.seats s in let w : View Done = view v.number v.stage due handed v.hand v.looks in let i : ℕ = cell_of s m in
       let kept : (p k j : ℕ) (d : Done) → slice_get (f.seats p).hand k ≡ Some (j, d) → result_in result_of (put f.cells i x j) ≡ Some d = λ p k j d at.
-        at_put f.cells i x (λ r y. slice_get (f.seats p).hand k ≡ Some (r, d) → result_in result_of y ≡ Some d) j (λ here. absurd (lacks p k d here)) (λ _ at. sf.hand_results p k j d at) at in record {
+      at_put f.cells i x (λ r y. slice_get (f.seats p).hand k ≡ Some (r, d) → result_in result_of y ≡ Some d) j (λ here. absurd (lacks p k d here)) (λ _ at. sf.hand_results p k j d at) at in record {
         each_cell = cell_after i x;
         at_rest = λ q. at_put f.seats s w (λ r y. (y.number ≡ r) × (y.stage ≡ Rest) × (y.looks ≡ [])) q (sf.at_rest s) (λ _. sf.at_rest q);
         each_hand = λ q. at_put f.seats s w (λ r y. r < c.submitters + c.workers → slice_get c.hands r ≡ Some (cells_of y.hand)) q (sf.each_hand s) (λ _. sf.each_hand q);
@@ -103,16 +103,16 @@ module _ (c : CoreState) (size : Sizes c) (f : FrontState Job Done) (sf : Stands
       let out = sf.each_out s l in let longer = length-append v.due (d ∷ []) in let o : ℕ = out_of c s in
       let empty = all.idle s m l (omega arith) (omega arith) in
       let stands = stands_part s m (slice_index c.firsts s) (o + 1) (ready j) due v.handed l
-        (λ p k e at. let word = all.holder p k i e at in absurd (omega arith))
-        (sf.each_first s l) (omega arith)
-        (λ n lo hi. dite (ℕ_discrete n m)
-        (λ e. subst (λ (k : ℕ). result_in result_of (put f.cells i (ready j) (cell_of s k)) ≡ slice_get due k) (sym e) (ap (result_in result_of) (put_here f.cells i (ready j)) ∙ sym (at_middle v.due [] d)))
-        (λ ne. ap (result_in result_of) (put_else f.cells i (cell_of s n) (ready j) (λ e. ne (one_number s v.handed n m lo (omega arith) (omega arith) (omega arith) e)))
-        ∙ sf.due_results s n l lo (omega arith) ∙ sym (at_left v.due (d ∷ []) n (omega arith)))) in (
-          front (put f.cells i (ready j)) (put f.seats s w),
-          (l, omega arith, put_changes f i (ready j) s w),
-          subst (λ (k : ℕ). StandsFor (record c { cells = set c.cells k (ready j); outs = set c.outs s (o + 1) }) (front (put f.cells i (ready j)) (put f.seats s w))) (sym (next_is s l))
-              (subst (λ (t : List ℕ). StandsFor (record c { cells = set c.cells i (ready j); firsts = t; outs = set c.outs s (o + 1) }) (front (put f.cells i (ready j)) (put f.seats s w))) (set-get_or c.firsts s 0) stands),
+      (λ p k e at. let word = all.holder p k i e at in absurd (omega arith))
+      (sf.each_first s l) (omega arith)
+      (λ n lo hi. dite (ℕ_discrete n m)
+      (λ e. subst (λ (k : ℕ). result_in result_of (put f.cells i (ready j) (cell_of s k)) ≡ slice_get due k) (sym e) (ap (result_in result_of) (put_here f.cells i (ready j)) ∙ sym (at_middle v.due [] d)))
+      (λ ne. ap (result_in result_of) (put_else f.cells i (cell_of s n) (ready j) (λ e. ne (one_number s v.handed n m lo (omega arith) (omega arith) (omega arith) e)))
+      ∙ sf.due_results s n l lo (omega arith) ∙ sym (at_left v.due (d ∷ []) n (omega arith)))) in (
+        front (put f.cells i (ready j)) (put f.seats s w),
+        (l, omega arith, put_changes f i (ready j) s w),
+        subst (λ (k : ℕ). StandsFor (record c { cells = set c.cells k (ready j); outs = set c.outs s (o + 1) }) (front (put f.cells i (ready j)) (put f.seats s w))) (sym (next_is s l))
+            (subst (λ (t : List ℕ). StandsFor (record c { cells = set c.cells i (ready j); firsts = t; outs = set c.outs s (o + 1) }) (front (put f.cells i (ready j)) (put f.seats s w))) (set-get_or c.firsts s 0) stands),
       )
 
   claim_leads : (p i : ℕ) (j : Job) → p < c.submitters + c.workers → i < CELLS * c.submitters → cell_in c i ≡ Some (ready j)
@@ -121,11 +121,11 @@ module _ (c : CoreState) (size : Sizes c) (f : FrontState Job Done) (sf : Stands
       let v : View Done = f.seats p in let d : Done = result_of j in let hand : List (ℕ × Done) = v.hand ++ (i, d) ∷ [] in let w : View Done = with_hand v hand in
       let here = cell_is i (ready j) li is in
       let stands = stands_hand i p (hand_of p d) hand (ap (result_in result_of) (sym here)) lp
-        (λ k q e at. more k q e (at_end v.hand (i, d) (q, e) k at)) in (
-          front (put f.cells i (hand_of p d)) (put f.seats p w),
-          (lp, li, here, put_changes f i (hand_of p d) p w),
-          subst (λ (t : List ℕ). StandsFor (record c { cells = set c.cells i (hand_of p d); hands = set c.hands p t }) (front (put f.cells i (hand_of p d)) (put f.seats p w)))
-              (cells_more v.hand i d ∙ ap (λ (t : List ℕ). t ++ i ∷ []) (sym (hand_is p lp))) stands,
+      (λ k q e at. more k q e (at_end v.hand (i, d) (q, e) k at)) in (
+        front (put f.cells i (hand_of p d)) (put f.seats p w),
+        (lp, li, here, put_changes f i (hand_of p d) p w),
+        subst (λ (t : List ℕ). StandsFor (record c { cells = set c.cells i (hand_of p d); hands = set c.hands p t }) (front (put f.cells i (hand_of p d)) (put f.seats p w)))
+            (cells_more v.hand i d ∙ ap (λ (t : List ℕ). t ++ i ∷ []) (sym (hand_is p lp))) stands,
       )
     where
       more : (k q : ℕ) (e : Done) → (slice_get (f.seats p).hand k ≡ Some (q, e)) ⊎ ((k ≡ length (f.seats p).hand) × (◌≡◌ {A = ℕ × Done} (i, result_of j) (q, e))) → result_in result_of (f.cells q) ≡ Some e
@@ -144,11 +144,11 @@ module _ (c : CoreState) (size : Sizes c) (f : FrontState Job Done) (sf : Stands
       let same : d ≡ r.0 = same_result result_of (f.cells i) p d r.0 here (sf.hand_results p r.4.0 i r.0 r.4.1) in
       let leaves : Leaves v.hand i d rest = subst (λ (e : Done). Leaves v.hand i e rest) (sym same) r.2 in
       let stands = stands_hand i p (done d) rest (ap (result_in result_of) (sym here)) lp
-        (λ k j e at. sf.hand_results p (skip leaves.0 k) j e (in_whole v.hand rest leaves.0 leaves.1 (i, d) (j, e) k leaves.2 leaves.3 at)) in (
-          front (put f.cells i (done d)) (put f.seats p w),
-          (lp, (rest, leaves, put_changes f i (done d) p w)),
-          subst (λ (t : List ℕ). StandsFor (record c { cells = set c.cells i (done d); hands = set c.hands p t }) (front (put f.cells i (done d)) (put f.seats p w)))
-              (r.3 ∙ ap (filter (λ k. not (eqb k i))) (sym (hand_is p lp))) stands,
+      (λ k j e at. sf.hand_results p (skip leaves.0 k) j e (in_whole v.hand rest leaves.0 leaves.1 (i, d) (j, e) k leaves.2 leaves.3 at)) in (
+        front (put f.cells i (done d)) (put f.seats p w),
+        (lp, (rest, leaves, put_changes f i (done d) p w)),
+        subst (λ (t : List ℕ). StandsFor (record c { cells = set c.cells i (done d); hands = set c.hands p t }) (front (put f.cells i (done d)) (put f.seats p w)))
+            (r.3 ∙ ap (filter (λ k. not (eqb k i))) (sym (hand_is p lp))) stands,
       )
 
   collect_leads : (s : ℕ) (d : Done) → Facts c f → s < c.submitters → 0 < out_of c s → cell_in c (first_cell c s) ≡ Some (done d)
@@ -158,13 +158,13 @@ module _ (c : CoreState) (size : Sizes c) (f : FrontState Job Done) (sf : Stands
       let out = sf.each_out s l in let at_first = sf.each_first s l in let few = all.few s l in
       let here : f.cells i ≡ done d = cell_is i (done d) (near c.submitters s h l) (ap (cell_in c) (sym (first_is s l)) ∙ is) in
       let stands = stands_part s h ((n + 1) % CELLS) (o - 1) free v.due (h + 1) l
-        (λ p k e at. let word = sym (ap word_of here) ∙ all.holder p k i e at in absurd (omega arith))
-        (omega arith) (omega arith)
-        (λ m lo hi. ap (result_in result_of) (put_else f.cells i (cell_of s m) free (λ e. let same = one_number s h m h (omega arith) (omega arith) (omega arith) (omega arith) e in omega arith))
-        ∙ sf.due_results s m l (omega arith) hi) in (
-          front (put f.cells i free) (put f.seats s w),
-          (l, here, put_changes f i free s w),
-          subst (λ (k : ℕ). StandsFor (record c { cells = set c.cells k free; firsts = set c.firsts s ((n + 1) % CELLS); outs = set c.outs s (o - 1) }) (front (put f.cells i free) (put f.seats s w))) (sym (first_is s l)) stands,
+      (λ p k e at. let word = sym (ap word_of here) ∙ all.holder p k i e at in absurd (omega arith))
+      (omega arith) (omega arith)
+      (λ m lo hi. ap (result_in result_of) (put_else f.cells i (cell_of s m) free (λ e. let same = one_number s h m h (omega arith) (omega arith) (omega arith) (omega arith) e in omega arith))
+      ∙ sf.due_results s m l (omega arith) hi) in (
+        front (put f.cells i free) (put f.seats s w),
+        (l, here, put_changes f i free s w),
+        subst (λ (k : ℕ). StandsFor (record c { cells = set c.cells k free; firsts = set c.firsts s ((n + 1) % CELLS); outs = set c.outs s (o - 1) }) (front (put f.cells i free) (put f.seats s w))) (sym (first_is s l)) stands,
       )
 
 module _ (c : CoreState) (size : Sizes c) (backed : IsBacked c) where
@@ -189,11 +189,15 @@ module _ (c : CoreState) (size : Sizes c) (backed : IsBacked c) where
   -- none is out, or the earliest has no result
   pub vain_collects_lead : (s : ℕ) → s < c.submitters → (out_of c s ≡ 0) ⊎ ((d : Done) → cell_in c (first_cell c s) ≢ Some (done d)) → Leads c (collect s) nothing c
   vain_collects_lead s l why f sf = let h : ℕ = (f.seats s).handed in (
-      f,
-      (l, (λ d e. ⊎_elim
-      (λ none. let out = sf.each_out s l in let word = sym (ap word_of e) ∙ (facts_of c f sf backed).idle s h l (omega arith) (omega arith) in omega arith)
-      (λ other. other d (ap (cell_in c) (first_is c size f sf s l) ∙ sf.each_cell (cell_of s h) (near c.submitters s h l) ∙ ap Some e)) why), refl),
-      sf,
+    f,
+    (
+      l,
+      (λ d e. ⊎_elim
+          (λ none. let out = sf.each_out s l in let word = sym (ap word_of e) ∙ (facts_of c f sf backed).idle s h l (omega arith) (omega arith) in omega arith)
+          (λ other. other d (ap (cell_in c) (first_is c size f sf s l) ∙ sf.each_cell (cell_of s h) (near c.submitters s h l) ∙ ap Some e)) why),
+      refl,
+    ),
+    sf,
   )
 
   -- the hand of p has room for a cell that is ready

@@ -1,6 +1,6 @@
 -- Lists of cells with their results, as hands are: the cell that leaves, and how many there can be.
-use Rattle.std.proofs.Common.{◌≡◌, ◌≢◌, ℕ, zero, suc, ◌+◌, ◌*◌, ◌<◌, ◌≤◌, Bool, true, false, not, ◌||◌, cond, eqb, List, [], ◌∷◌, ◌++◌, map, length, sym, refl, ap, ◌∙◌, subst, arith, eq-eqb, ne_eqb, ◌⊎◌, inl, inr, ⊎_elim}
-use Rattle.std.specs.Prelude.{Some, None, slice_get}
+use Rattle.std.proofs.Common.{◌≡◌, ◌≢◌, ℕ, zero, suc, ◌<◌, Bool, true, false, not, ◌||◌, cond, eqb, List, [], ◌∷◌, map, length, sym, refl, ap, ◌∙◌, subst, arith, eq-eqb, ne_eqb, ◌⊎◌, inl, inr, ⊎_elim}
+use Rattle.std.specs.Prelude.{Some, slice_get}
 use Rattle.std.specs.List.{filter, list_any, IsDistinct, AllByRecursion}
 use Rattle.std.proofs.lemmas.Bool.{eqb-true}
 use Rattle.std.proofs.lemmas.Option.{none-some, same_Some}
@@ -63,21 +63,21 @@ module _ {D : Type 0} where
   leaving [] i once e = absurd cc
   leaving (x ∷ l) i once e = dite (ℕ_discrete x.0 i)
       (λ same. (
-          x.1,
-          l,
-          ([], l, ap (λ (j : ℕ). (j, x.1) ∷ l) same, refl),
-          sym (ap (λ (b : Bool). cond (not b) (x.0 ∷ filter (λ j. not (eqb j i)) (cells_of l)) (filter (λ j. not (eqb j i)) (cells_of l))) (eq-eqb x.0 i same)
-          ∙ filter_all l i (λ k d at. first_only x l once k d (at ∙ ap (λ (j : ℕ). Some (j, d)) (sym same)))),
-          (zero, ap (λ (j : ℕ). Some (j, x.1)) same),
+        x.1,
+        l,
+        ([], l, ap (λ (j : ℕ). (j, x.1) ∷ l) same, refl),
+        sym (ap (λ (b : Bool). cond (not b) (x.0 ∷ filter (λ j. not (eqb j i)) (cells_of l)) (filter (λ j. not (eqb j i)) (cells_of l))) (eq-eqb x.0 i same)
+            ∙ filter_all l i (λ k d at. first_only x l once k d (at ∙ ap (λ (j : ℕ). Some (j, d)) (sym same)))),
+        (zero, ap (λ (j : ℕ). Some (j, x.1)) same),
       ))
       (λ other. let tail : list_any (eqb i) (cells_of l) ≡ true = sym (ap (λ (b : Bool). b || list_any (eqb i) (cells_of l)) (ne_eqb i x.0 (λ e. other (sym e)))) ∙ e in
       let r = leaving l i (once_in x l once) tail in (
-          r.0,
-          x ∷ r.1,
-          (x ∷ r.2.0, r.2.1, ap (λ (t : List (ℕ × D)). x ∷ t) r.2.2, ap (λ (t : List (ℕ × D)). x ∷ t) r.2.3),
-          ap (λ (t : List ℕ). x.0 ∷ t) r.3
-          ∙ sym (ap (λ (b : Bool). cond (not b) (x.0 ∷ filter (λ j. not (eqb j i)) (cells_of l)) (filter (λ j. not (eqb j i)) (cells_of l))) (ne_eqb x.0 i other)),
-          (suc r.4.0, r.4.1),
+        r.0,
+        x ∷ r.1,
+        (x ∷ r.2.0, r.2.1, ap (λ (t : List (ℕ × D)). x ∷ t) r.2.2, ap (λ (t : List (ℕ × D)). x ∷ t) r.2.3),
+        ap (λ (t : List ℕ). x.0 ∷ t) r.3
+            ∙ sym (ap (λ (b : Bool). cond (not b) (x.0 ∷ filter (λ j. not (eqb j i)) (cells_of l)) (filter (λ j. not (eqb j i)) (cells_of l))) (ne_eqb x.0 i other)),
+        (suc r.4.0, r.4.1),
       ))
 
   apart : (l : List (ℕ × D)) (i : ℕ) → ((k : ℕ) (d : D) → slice_get l k ≢ Some (i, d)) → AllByRecursion (λ j. eqb i j ≡ false) (cells_of l)
@@ -93,5 +93,5 @@ module _ {D : Type 0} where
   pub room : (l : List (ℕ × D)) (i n : ℕ) → Once l → ((k j : ℕ) (d : D) → slice_get l k ≡ Some (j, d) → j < n) → ((k : ℕ) (d : D) → slice_get l k ≢ Some (i, d)) → i < n → length (cells_of l) < n
   room l i n once below lacks near =
       let h = length-le_from_distinct_below (i ∷ cells_of l) n (IsDistinct-cons eqb i (cells_of l) (apart l i lacks) (distinct l once))
-        (λ q e. ⊎_elim (λ s. subst (λ (j : ℕ). j < n) (sym (eqb-true q i s)) near) (λ s. let r = find l q s in below r.0 q r.1 r.2) (either (eqb q i) (list_any (eqb q) (cells_of l)) e)) in
+      (λ q e. ⊎_elim (λ s. subst (λ (j : ℕ). j < n) (sym (eqb-true q i s)) near) (λ s. let r = find l q s in below r.0 q r.1 r.2) (either (eqb q i) (list_any (eqb q) (cells_of l)) e)) in
       omega (arith, h)

@@ -2,7 +2,7 @@
 use Rattle.std.proofs.Common.{◌≡◌, ◌≢◌, ℕ, ◌+◌, ◌-◌, ◌*◌, ◌%◌, ◌<◌, ◌≤◌, List, [], ◌∷◌, ◌++◌, map, length, set, get_or, sym, refl, ap, ◌∙◌, subst, arith}
 use Rattle.std.proofs.lemmas.List.{map-set, length-map, get_or_default, set-get_or, get_or-set_same}
 use Rattle.std.proofs.lemmas.Option.{same_Some, slice_get-map, slice_get_read, slice_get_within}
-use Rattle.std.specs.Prelude.{vec_len, slice_index, Option, None, Some, IfSome, IfNone, MatchOption, not, ◌==◌}
+use Rattle.std.specs.Prelude.{slice_index, Option, None, Some, IfSome, IfNone, MatchOption, not, ◌==◌}
 use Rattle.std.specs.Borrow.{Bor}
 use Rattle.std.specs.Option.{option_map}
 use Rattle.std.specs.List.{filter}

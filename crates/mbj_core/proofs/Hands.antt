@@ -1,5 +1,5 @@
 -- A claim and a finish lead from a lawful state to a lawful one.
-use Rattle.std.proofs.Common.{◌≡◌, ◌≢◌, ℕ, ◌+◌, ◌*◌, ◌<◌, ◌≤◌, List, [], ◌∷◌, ◌++◌, length, sym, refl, ap, ◌∙◌, subst, ⊎_elim, ◌⊎◌, inl, inr, arith}
+use Rattle.std.proofs.Common.{◌≡◌, ◌≢◌, ℕ, ◌+◌, ◌*◌, ◌<◌, ◌≤◌, List, [], ◌∷◌, ◌++◌, length, sym, refl, ap, ◌∙◌, subst, ⊎_elim, arith}
 use Rattle.std.specs.Prelude.{Some, slice_get}
 use Rattle.mbj_core.specs.declared.party.View.{View}
 use Rattle.mbj_core.specs.declared.party.Stage.TheVariants.{Rest}
@@ -65,7 +65,7 @@ module _ {J D : Type 0} (owed : J → D) where
       let hand : List (ℕ × D) = (f.seats p).hand in let d : D = owed j in let w : View D = rehanded (f.seats p) (hand ++ (c, d) ∷ []) looks in let x : Cell J D = hand_of p d in
       -- no hand has the cell
       let apart : (q k i : ℕ) (e : D) → slice_get (f.seats q).hand k ≡ Some (i, e) → i ≢ c = λ q k i e at same.
-        not_in_hand (f.cells i) q e (ap (λ (z : ℕ). is_hand (f.cells z)) same ∙ ap is_hand is) (law.in_hand q k i e at).1 in
+      not_in_hand (f.cells i) q e (ap (λ (z : ℕ). is_hand (f.cells z)) same ∙ ap is_hand is) (law.in_hand q k i e at).1 in
       rehands S f c p x (hand ++ (c, d) ∷ []) looks law
       (λ v s n old. subst (Fits owed v s n) is old)
       (λ q k i e. at_put f.seats p w (λ q y. slice_get y.hand k ≡ Some (i, e) → (i < CELLS * S) × (put f.cells c x i ≡ hand_of q e)) q
@@ -95,10 +95,10 @@ module _ {J D : Type 0} (owed : J → D) where
       let w : View D = rehanded (f.seats p) more looks in let x : Cell J D = done d in
       let there : slice_get (f.seats p).hand (length before) ≡ Some (c, d) = ap (λ (l : List (ℕ × D)). slice_get l (length before)) leaves.2 ∙ at_middle before after (c, d) in
       let later : (k i : ℕ) (e : D) → slice_get more k ≡ Some (i, e) → slice_get (f.seats p).hand (skip before k) ≡ Some (i, e) = λ k i e at.
-        in_whole (f.seats p).hand more before after (c, d) (i, e) k leaves.2 leaves.3 at in
+      in_whole (f.seats p).hand more before after (c, d) (i, e) k leaves.2 leaves.3 at in
       let here = (law.in_hand p (length before) c d there).1 in
       let apart : (k i : ℕ) (e : D) → slice_get more k ≡ Some (i, e) → i ≢ c = λ k i e at same.
-        skip_misses before k (law.once p (skip before k) (length before) i e d (later k i e at) (subst (λ (a : ℕ). slice_get (f.seats p).hand (length before) ≡ Some (a, d)) (sym same) there)) in
+      skip_misses before k (law.once p (skip before k) (length before) i e d (later k i e at) (subst (λ (a : ℕ). slice_get (f.seats p).hand (length before) ≡ Some (a, d)) (sym same) there)) in
       rehands S f c p x more looks law
       (λ v s n old. subst (Fits owed v s n) here old)
       (λ q k i e. at_put f.seats p w (λ q y. slice_get y.hand k ≡ Some (i, e) → (i < CELLS * S) × (put f.cells c x i ≡ hand_of q e)) q

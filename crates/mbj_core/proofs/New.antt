@@ -1,21 +1,19 @@
 -- The new core stands for the new front.
-use Rattle.std.proofs.Common.{◌≡◌, ℕ, zero, suc, ◌+◌, ◌*◌, ◌%◌, ◌<◌, ◌≤◌, List, [], ◌∷◌, map, length, replicate, get_or, sym, refl, ap, ◌∙◌, subst, arith}
+use Rattle.std.proofs.Common.{◌≡◌, ℕ, zero, suc, ◌+◌, ◌*◌, ◌<◌, ◌≤◌, List, [], ◌∷◌, map, length, replicate, sym, refl, ap, ◌∙◌, subst, arith}
 use Rattle.std.specs.Prelude.{Some, slice_get, slice_index}
 use Rattle.std.specs.List.{All}
 use Rattle.std.proofs.lemmas.List.Elements.{All-replicate}
 use Rattle.std.proofs.lemmas.List.{get_or-replicate, length-replicate}
 use Rattle.std.proofs.lemmas.Option.{none-some, slice_get-get_or}
 use Rattle.mbj_types.specs.Result.{result_of}
-use Rattle.mbj_types.specs.declared.job.Job.{Job}
-use Rattle.mbj_types.specs.declared.done.Done.{Done}
 use Rattle.mbj_core.specs.declared.cells.TheConstants.{CELLS, MAX_SUBMITTERS, MAX_WORKERS}
 use Rattle.mbj_core.specs.declared.cells.Slot.{Slot}
 use Rattle.mbj_core.specs.declared.cells.Slot.TheVariants as slot
 use Rattle.mbj_core.specs.declared.machine.Core.TheInside.{Inside}
 use Rattle.mbj_core.specs.Inside.{cell_shown, state_of, IsCore}
-use Rattle.mbj_core.specs.Cells.{Cell, free}
+use Rattle.mbj_core.specs.Cells.{free}
 use Rattle.mbj_core.specs.Parties.{new_front}
-use Rattle.mbj_core.specs.CoreStates.{CoreState, new_core}
+use Rattle.mbj_core.specs.CoreStates.{new_core}
 use Rattle.mbj_core.specs.Stands.{StandsFor, IsBacked}
 use Rattle.mbj_core.proofs.RunLaws.{new_front_sound}
 

@@ -1,13 +1,12 @@
 -- The result of a job with no cipher and no authentication, as tests post it.
-use Rattle.std.proofs.Common.{◌≡◌, ℕ, ◌<◌, ◌≤◌, Bool, true, false, [], length, ap, ◌∙◌, sym, refl, le-ltb}
-use Rattle.std.specs.Prelude.{Option, Some, None, nat_lt, if◌then◌else◌}
+use Rattle.std.proofs.Common.{◌≡◌, ◌≤◌, Bool, false, [], length, ap, ◌∙◌, le-ltb}
+use Rattle.std.specs.Prelude.{Some, None, nat_lt, if◌then◌else◌}
 use Rattle.std.specs.Option.{option_map_or}
 use Rattle.mbj_types.specs.Result.{result_of, accepted, refused, ciphered, tag_over}
 use Rattle.mbj_types.specs.declared.job.Job.{Job}
 use Rattle.mbj_types.specs.declared.job.Cipher.TheVariants as cipher
 use Rattle.mbj_types.specs.declared.job.Auth.TheVariants as auth
 use Rattle.mbj_types.specs.declared.reason.Reason.TheVariants.{PacketLong}
-use Rattle.mbj_types.specs.declared.done.Done.{Done}
 use Rattle.mbj_types.specs.declared.done.Status.TheVariants as status
 use Rattle.mbj_types.specs.declared.limits.TheConstants.{MAX_PACKET_BYTES}
 

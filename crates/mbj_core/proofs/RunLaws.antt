@@ -1,5 +1,5 @@
 -- What holds after each list of events.
-use Rattle.std.proofs.Common.{◌≡◌, ◌≢◌, ℕ, zero, suc, ◌+◌, ◌*◌, ◌<◌, ◌≤◌, List, [], ◌∷◌, ◌++◌, length, take, sym, refl, ap, ◌∙◌, subst, arith, eq-eqb, ne_eqb, append-nil, append_assoc, cond}
+use Rattle.std.proofs.Common.{◌≡◌, ◌≢◌, ℕ, zero, suc, ◌+◌, List, [], ◌∷◌, ◌++◌, take, sym, refl, ap, ◌∙◌, subst, arith, eq-eqb, ne_eqb, append-nil, append_assoc, cond}
 use Rattle.std.specs.Prelude.{Some, slice_get, if◌then◌else◌, ◌==◌}
 use Rattle.std.specs.List.{flat_map}
 use Rattle.std.proofs.lemmas.List.{take-append-le}
@@ -7,16 +7,14 @@ use Rattle.std.proofs.lemmas.Option.{none-some, same_Some}
 use mathlib.Core.Logic.{dite}
 use native.Mathlib.Decide.{ℕ_discrete}
 use Rattle.mbj_core.specs.declared.party.View.{View}
-use Rattle.mbj_core.specs.declared.party.Stage.TheVariants.{Rest, Opening, Emptying}
-use Rattle.mbj_core.specs.declared.cells.TheConstants.{CELLS}
-use Rattle.mbj_core.specs.Cells.{Cell, free, ready, done, hand_of, cell_of}
-use Rattle.mbj_core.specs.Parties.{view, front, FrontState, new_front, with_due, with_handed, with_hand}
+use Rattle.mbj_core.specs.Cells.{Cell, free, done, hand_of}
+use Rattle.mbj_core.specs.Parties.{FrontState, new_front, with_hand}
 use Rattle.mbj_core.specs.Lawful.{Lawful}
 use Rattle.mbj_core.specs.Events.{Event, post, claim, finish, collect, Answer, accepted, returned, claimed, collected, nothing, Changes, Step}
 use Rattle.mbj_core.specs.Runs.{Run, posted_by, collected_by}
 use Rattle.mbj_core.proofs.Hands.{not_in_hand}
 use Rattle.mbj_core.proofs.Posts.{rest_open, rest_take, collects}
-use Rattle.mbj_core.proofs.Steps.{AtRest, Sound, step_sound}
+use Rattle.mbj_core.proofs.Steps.{Sound, step_sound}
 
 module _ {D : Type 0} where
   take_one_more : (n : ℕ) (l : List D) (x : D) → slice_get l n ≡ Some x → take (suc n) l ≡ take n l ++ x ∷ []
@@ -96,12 +94,15 @@ module _ {J D : Type 0} (owed : J → D) (submitters workers : ℕ) where
       let h : FrontState J D = run.0 in let one = step_adds q f h e.0 e.1 run.1 ok in
       let more = run_adds q h g es run.2 (step_sound owed submitters workers f h e.0 e.1 run.1 ok) in
       let p : List D = posted_by owed q e.0 e.1 in let c : List D = collected_by owed q e.0 e.1 in
-      let ps : List D = flat_map (λ e. posted_by owed q e.0 e.1) es in let cs : List D = flat_map (λ e. collected_by owed q e.0 e.1) es in
-      (more.0 ∙ ap (λ (l : List D). l ++ ps) one.0 ∙ append_assoc (f.seats q).due p ps,
-      more.1 ∙ ap (λ (l : List D). l ++ cs) one.1 ∙ append_assoc (take (f.seats q).handed (f.seats q).due) c cs)
+      let ps : List D = flat_map (λ e. posted_by owed q e.0 e.1) es in let cs : List D = flat_map (λ e. collected_by owed q e.0 e.1) es in (
+        more.0 ∙ ap (λ (l : List D). l ++ ps) one.0 ∙ append_assoc (f.seats q).due p ps,
+        more.1 ∙ ap (λ (l : List D). l ++ cs) one.1 ∙ append_assoc (take (f.seats q).handed (f.seats q).due) c cs,
+      )
 
   pub new_front_sound : Sound owed submitters workers new_front
-  new_front_sound = (λ p. refl, record {
+  new_front_sound = (
+    λ p. refl,
+    record {
       behind = λ s. omega arith;
       within = λ s. omega arith;
       spare = λ s e. absurd (e refl);
@@ -110,7 +111,8 @@ module _ {J D : Type 0} (owed : J → D) (submitters workers : ℕ) where
       held = λ p c d l e. absurd (not_in_hand free p d refl e);
       once = λ p k l c d e h i. absurd (none-some (c, d) h);
       workers = λ p l. (refl, refl);
-    })
+    },
+  )
 
   pub events_keep_the_law : (events : List (Event J D × Answer J D)) (f : FrontState J D) → Run owed submitters workers new_front events f → Lawful owed submitters f
   events_keep_the_law events f run = (run_sound new_front f events run new_front_sound).1

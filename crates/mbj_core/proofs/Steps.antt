@@ -1,10 +1,8 @@
 -- Each event leads from a lawful state with all at rest to such a state.
-use Rattle.std.proofs.Common.{◌≡◌, ◌≢◌, ℕ, ◌+◌, ◌*◌, ◌<◌, ◌≤◌, List, [], ◌∷◌, ◌++◌, length, sym, refl, ap, ◌∙◌, subst, arith, length-append}
-use Rattle.std.specs.Prelude.{Some, slice_get}
+use Rattle.std.proofs.Common.{◌≡◌, ℕ, ◌+◌, [], ◌∷◌, ◌++◌, length, sym, refl, ap, subst}
 use mathlib.Core.Path.{fun_ext}
 use Rattle.mbj_core.specs.declared.party.View.{View}
 use Rattle.mbj_core.specs.declared.party.Stage.TheVariants.{Rest}
-use Rattle.mbj_core.specs.declared.cells.TheConstants.{CELLS}
 use Rattle.mbj_core.specs.Cells.{Cell, free, ready, done, hand_of, cell_of}
 use Rattle.mbj_core.specs.Parties.{view, front, FrontState, with_due, with_handed, with_hand}
 use Rattle.mbj_core.specs.Lawful.{Lawful}
@@ -43,8 +41,10 @@ module _ {J D : Type 0} (owed : J → D) (submitters workers : ℕ) where
   Sound f = AtRest f × Lawful owed submitters f
 
   changed : (f g : FrontState J D) (c : ℕ) (x : Cell J D) (p : ℕ) (v w : View D) → Changes f g c x p v → w ≡ v → v.stage ≡ Rest → AtRest f → Lawful owed submitters (front (put f.cells c x) (put f.seats p w)) → Sound g
-  changed f g c x p v w ch same r all law = (rests f g c x p v ch r all,
-    subst (Lawful owed submitters) (sym (changes_are f g c x p v ch)) (subst (λ (u : View D). Lawful owed submitters (front (put f.cells c x) (put f.seats p u))) same law))
+  changed f g c x p v w ch same r all law = (
+    rests f g c x p v ch r all,
+    subst (Lawful owed submitters) (sym (changes_are f g c x p v ch)) (subst (λ (u : View D). Lawful owed submitters (front (put f.cells c x) (put f.seats p u))) same law),
+  )
 
   pub step_sound : (f g : FrontState J D) (e : Event J D) (a : Answer J D) → Step owed submitters workers f e a g → Sound f → Sound g
   step_sound f g (post s j) accepted step ok =

@@ -1,5 +1,5 @@
 -- What a contract sees of the core's fields, and what holds of them.
-use Rattle.std.specs.Prelude.{◌≡◌, ℕ, ◌+◌, ◌*◌, ◌<◌, ◌≤◌, map, length, vec_len, All}
+use Rattle.std.specs.Prelude.{◌≡◌, ◌+◌, ◌*◌, ◌<◌, ◌≤◌, map, vec_len, All}
 use Rattle.mbj_types.specs.Result.{result_of}
 use Rattle.mbj_types.specs.declared.job.Job.{Job}
 use Rattle.mbj_types.specs.declared.done.Done.{Done}

@@ -1,5 +1,5 @@
 -- The law of the front: what holds in each state that events lead to.
-use Rattle.std.specs.Prelude.{◌≡◌, ◌≢◌, ℕ, ◌+◌, ◌*◌, ◌<◌, ◌≤◌, List, [], length, slice_get, Some}
+use Rattle.std.specs.Prelude.{◌≡◌, ◌≢◌, ℕ, ◌+◌, ◌*◌, ◌<◌, ◌≤◌, [], length, slice_get, Some}
 use Rattle.mbj_core.specs.Cells.{Cell, free, ready, done, open_by, hand_of, take_by, cell_of}
 use Rattle.mbj_core.specs.Parties.{FrontState}
 use Rattle.mbj_core.specs.declared.cells.TheConstants.{CELLS}

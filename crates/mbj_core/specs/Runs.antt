@@ -3,7 +3,7 @@ use Rattle.std.specs.Prelude.{◌≡◌, ℕ, List, [], ◌∷◌, take, if◌th
 use Rattle.std.specs.List.{flat_map}
 use Rattle.mbj_core.specs.Parties.{FrontState, new_front}
 use Rattle.mbj_core.specs.Lawful.{Lawful}
-use Rattle.mbj_core.specs.Events.{Event, post, claim, finish, collect, Answer, accepted, returned, claimed, collected, nothing, Step}
+use Rattle.mbj_core.specs.Events.{Event, post, collect, Answer, accepted, collected, Step}
 
 module _ {J D : Type 0} (owed : J → D) where
   -- the events lead from f to g, each with its answer

@@ -34,11 +34,9 @@ pub(crate) enum Slot {
 impl Slot {
     /// Gives a job that no party has claimed to a party. `false` exactly where there is none; then nothing changes.
     pub(crate) fn hold(&mut self, party: u32) -> bool
-        ensures {
-            MatchBool result
-                ((job : Job) × (self.old ≡ slot.Ready job) × (self.new ≡ slot.Held party job))
-                (((job : Job) → self.old ≢ slot.Ready job) × (self.new ≡ self.old))
-        }
+        ensures { MatchBool result
+            ((job : Job) × (self.old ≡ slot.Ready job) × (self.new ≡ slot.Held party job))
+            (((job : Job) → self.old ≢ slot.Ready job) × (self.new ≡ self.old)) }
     {
         match mem::replace(self, Slot::Free) {
             Slot::Ready(job) => {
@@ -54,11 +52,9 @@ impl Slot {
 
     /// The job that the party has claimed. `None` exactly where it has claimed none here.
     pub(crate) fn held_by(&self, party: u32) -> Option<&Job>
-        ensures {
-            MatchOption result
-                ((job : Job) → self.now ≢ slot.Held party job)
-                (λ job. self.now ≡ slot.Held party job.now)
-        }
+        ensures { MatchOption result
+            ((job : Job) → self.now ≢ slot.Held party job)
+            (λ job. self.now ≡ slot.Held party job.now) }
     {
         match self {
             Slot::Held { party: holder, job } if *holder == party => Some(job),
@@ -68,11 +64,9 @@ impl Slot {
 
     /// Takes a result out, and leaves the cell free. `None` exactly where there is none; then nothing changes.
     pub(crate) fn take_done(&mut self) -> Option<Done>
-        ensures {
-            MatchOption result
-                (((d : Done) → self.old ≢ slot.Done d) × (self.new ≡ self.old))
-                (λ d. (self.old ≡ slot.Done d) × (self.new ≡ slot.Free))
-        }
+        ensures { MatchOption result
+            (((d : Done) → self.old ≢ slot.Done d) × (self.new ≡ self.old))
+            (λ d. (self.old ≡ slot.Done d) × (self.new ≡ slot.Free)) }
     {
         match mem::replace(self, Slot::Free) {
             Slot::Done(done) => Some(done),

@@ -11,8 +11,8 @@ ghost use Rattle.mbj_core.specs.Answers.{post_answer, collect_answer};
 ghost use Rattle.mbj_core.specs.CoreStates.{new_core, out_of, first_cell, HasJob, HasHand, HasResult, posted, finished, handed_out};
 ghost use Rattle.mbj_core.specs.Stands.{StandsFor, Leads};
 
-use crate::cells::{cell_at, free_cells, Slot, CELLS};
-use crate::hand::{empty_hands, Hand};
+use crate::cells::{CELLS, Slot, cell_at, free_cells};
+use crate::hand::{Hand, empty_hands};
 use mbj_types::{Done, Job, PostFull};
 use std::alloc::{AllocError, Global};
 use std::marker::Model;
@@ -164,10 +164,8 @@ impl Core {
         requires submitter { s < self.old.submitters }
         ensures some_out { IfSome result (λ _. out_of self.old s ≢ 0) }
         ensures done { IfSome result (λ d. HasResult self.old (first_cell self.old s) d) }
-        ensures none {
-            IfNone result
-                ((out_of self.old s ≡ 0) ⊎ ((d : Done) → ¬ HasResult self.old (first_cell self.old s) d))
-        }
+        ensures none { IfNone result
+            ((out_of self.old s ≡ 0) ⊎ ((d : Done) → ¬ HasResult self.old (first_cell self.old s) d)) }
         ensures collected { MatchOption result (self.new ≡ self.old) (λ _. self.new ≡ handed_out self.old s) }
         ensures leads { Leads self.old (collect s) (collect_answer result) self.new }
     {

@@ -1,8 +1,12 @@
-ghost use Rattle.std.specs.Prelude.{◌≡◌, IfOk, IfSome};
+ghost use Rattle.std.specs.Prelude.{◌≡◌, ◌+◌, ◌*◌, ◌<◌, IfOk, IfSome};
+ghost use Rattle.std.specs.Bool.{OnTrue, OnFalse};
+ghost use Rattle.mbj_types.specs.declared.job.Job.{Job};
+ghost use Rattle.mbj_core.specs.CoreStates.{claimed_by};
+ghost use Rattle.mbj_core.specs.declared.cells.TheConstants.{CELLS};
 ghost use Rattle.mbj_types.specs.Result.{result_of};
 
 use super::*;
-use mbj_types::{Auth, Bytes, Cipher, Done, Job, PostFull, Status, Tag, MAX_PACKET_BYTES};
+use mbj_types::{Auth, Bytes, Cipher, Done, Job, MAX_PACKET_BYTES, PostFull, Status, Tag};
 use std::alloc::{AllocError, Global};
 use std::test::Fail;
 
@@ -67,6 +71,19 @@ fn claim(core: &mut Core, p: u32, cell: u32) -> Got {
     byte_of(&core.claim(p, cell)?.packet)
 }
 
+/// Whether a party got the job of the cell. A caller learns what the core is once the job is given back.
+fn claims(core: &mut Core, p: u32, cell: u32) -> bool
+    requires party { p < core.old.submitters + core.old.workers }
+    requires cell { cell < CELLS * core.old.submitters }
+    ensures yes { OnTrue result ((job : Job) × (core.new ≡ claimed_by core.old p cell job)) }
+    ensures not { OnFalse result (core.new ≡ core.old) }
+{
+    match core.claim(p, cell) {
+        Some(_job) => true,
+        None => false,
+    }
+}
+
 fn finish(core: &mut Core, alloc: Global, p: u32, cell: u32) -> Result<Got, AllocError> {
     if p >= core.submitters() + core.workers() || cell >= CELLS * core.submitters() {
         return Ok(None);
@@ -102,6 +119,7 @@ fn play(core: &mut Core, alloc: Global, step: &Move) -> Result<Got, AllocError> 
 #[test]
 fn results_come_in_order(rt: HostRuntime) -> Result<(), Fail> {
     let mut core = Core::new(rt.alloc(), 2, 1)?;
+    assert!(rt; !claims(&mut core, 2, 511));
     let steps = [
         (Move::Post(0, 10), None),
         (Move::Post(0, 11), None),

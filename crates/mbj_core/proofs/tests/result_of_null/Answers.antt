@@ -1,4 +1,4 @@
-use Rattle.std.proofs.Common.{◌≡◌, ◌∙◌, ◌≤◌, length, ap, sym, arith, rules}
+use Rattle.std.proofs.Common.{◌≡◌, ◌≤◌, length, ap, sym, arith, rules}
 use Rattle.mbj_types.specs.declared.limits.TheConstants.{MAX_PACKET_BYTES}
 use Rattle.mbj_types.specs.declared.job.Cipher.TheVariants as cipher
 use Rattle.mbj_types.specs.declared.job.Auth.TheVariants as auth

@@ -1,6 +1,4 @@
 use Rattle.std.proofs.Common.{◌≡◌, ◌∙◌, sym, subst, ap, refl}
-use Rattle.std.specs.Prelude.{Some}
-use Rattle.mbj_core.specs.Cells.{ready}
 use Rattle.mbj_core.specs.Inside.{state_of}
 use Rattle.mbj_core.specs.Stands.{IsBacked}
 use Rattle.mbj_core.specs.declared.cells.Slot.TheVariants as slot
@@ -30,10 +28,16 @@ returns-then-not-hold c =
     let none = unready a is i c.index_mut.result.now li c.index_mut.ensures.value (c.if-not-hold.ensures {u = tt}).0 in
     let same = unchanged a is i c.index_mut.result.now c.hold.new.self c.index_mut.ensures.value (c.if-not-hold.ensures {u = tt}).1 in
     rw (← c.self.view_is) (
-    (refl, (λ _. tt), record {
-      claimed = same;
-      leads = rw same (vain_claims_lead (state_of a) (sizes_of a is) is.backed c.args.p i lp li none);
-    }), record { claims = tt; ready = tt; unready = none })
+      (
+        refl,
+        (λ _. tt),
+        record {
+          claimed = same;
+          leads = rw same (vain_claims_lead (state_of a) (sizes_of a is) is.backed c.args.p i lp li none);
+        },
+      ),
+      record { claims = tt; ready = tt; unready = none },
+    )
 
 pub push-requires : goal.push-requires
 push-requires c =
@@ -66,7 +70,8 @@ returns c =
     let job = b.0.now in
     let was : c.index_mut.result.now ≡ slot.Ready job = h.1 ∙ ap slot.Ready b.2 in
     let after = after_claim a is c.args.p i job c.index_mut.result.now c.hold.new.self c.index_mut-2.result.now c.push.new.self lp li
-      c.index_mut.ensures.value was (h.2 ∙ ap (slot.Held c.args.p) b.2) c.index_mut-2.ensures.value c.push.ensures in
+    c.index_mut.ensures.value was (h.2 ∙ ap (slot.Held c.args.p) b.2) c.index_mut-2.ensures.value c.push.ensures in
     rw (b.1, ← c.self.view_is) (
-    (refl, (λ _. tt), record { claimed = after.0; leads = after.2 }),
-    record { claims = tt; ready = ready_read a is i job c.index_mut.result.now li c.index_mut.ensures.value was; unready = tt })
+      (refl, (λ _. tt), record { claimed = after.0; leads = after.2 }),
+      record { claims = tt; ready = ready_read a is i job c.index_mut.result.now li c.index_mut.ensures.value was; unready = tt },
+    )
