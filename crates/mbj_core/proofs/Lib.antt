@@ -2,6 +2,7 @@ pub mod Puts
 pub mod Entries
 pub mod Hands
 pub mod Posts
+pub mod Stages
 pub mod Steps
 pub mod RunLaws
 pub mod Words

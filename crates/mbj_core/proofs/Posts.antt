@@ -1,4 +1,4 @@
--- Opening, publishing, taking and freeing a cell lead from a lawful state to a lawful one.
+-- A post and a collect lead from a lawful state to a lawful one.
 use Rattle.std.proofs.Common.{◌≡◌, ◌≢◌, ℕ, ◌+◌, ◌*◌, ◌<◌, ◌≤◌, List, [], ◌∷◌, ◌++◌, length, sym, refl, ap, ◌∙◌, subst, arith, length-append}
 use Rattle.std.specs.Prelude.{Some, slice_get}
 use Rattle.std.proofs.lemmas.Option.{slice_get_within}
@@ -8,7 +8,7 @@ use Rattle.mbj_core.specs.declared.party.View.{View}
 use Rattle.mbj_core.specs.declared.party.Stage.{Stage}
 use Rattle.mbj_core.specs.declared.party.Stage.TheVariants.{Rest, Opening, Emptying}
 use Rattle.mbj_core.specs.declared.cells.TheConstants.{CELLS}
-use Rattle.mbj_core.specs.Cells.{Cell, free, ready, done, open_by, hand_of, take_by, word_of, cell_of}
+use Rattle.mbj_core.specs.Cells.{Cell, free, ready, done, open_by, hand_of, take_by, cell_of}
 use Rattle.mbj_core.specs.Parties.{view, front, FrontState}
 use Rattle.mbj_core.specs.Lawful.{Fits, Lawful}
 use Rattle.mbj_core.proofs.Puts.{put, at_put, put_here, put_else}
@@ -34,6 +34,11 @@ one_number s h n m a b c d e = omega arith
 pub near : (S s n : ℕ) → s < S → cell_of s n < CELLS * S
 near S s n l = omega arith
 
+module _ {J D : Type 0} where
+  -- the cell y is x
+  abbrev pub Is : Cell J D → Cell J D → Type 0
+  Is x y = y ≡ x
+
 module _ {J D : Type 0} (owed : J → D) where
   -- the part of the submitter p changes, but not its hand, and one of its cells
   pub reposts : (S : ℕ) (f : FrontState J D) (p m : ℕ) (x : Cell J D) (st : Stage) (due : List D) (handed : ℕ) (looks : List (ℕ × ℕ)) → Lawful owed S f → p < S
@@ -58,9 +63,6 @@ module _ {J D : Type 0} (owed : J → D) where
       mine : (q k j : ℕ) (d : D) → slice_get (f.seats q).hand k ≡ Some (j, d) → (j < CELLS * S) × (put f.cells (cell_of p m) x j ≡ hand_of q d)
       mine q k j d at = let was = law.in_hand q k j d at in (was.0, put_else f.cells (cell_of p m) j x (λ e. not_in_hand (f.cells j) q d (ap (λ (t : ℕ). is_hand (f.cells t)) e ∙ quiet) was.1) ∙ was.1)
 
-  abbrev pub Is : Cell J D → Cell J D → Type 0
-  Is x y = y ≡ x
-
   -- at rest, the cell of a number that isn't out is free
   pub free_there : (v : View D) (s n : ℕ) (y : Cell J D) → Fits owed v s n y → v.stage ≡ Rest → length v.due ≤ n → Is free y
   free_there v s n free h r e = refl
@@ -70,29 +72,6 @@ module _ {J D : Type 0} (owed : J → D) where
   free_there v s n (hand_of p d) h r e = let l = slice_get_within v.due n d h in absurd (omega arith)
   free_there v s n (take_by p) h r e = absurd (rest_take (sym r ∙ h.2))
 
-  opened_fits : (v : View D) (looks : List (ℕ × ℕ)) (s n : ℕ) (y : Cell J D) → Fits owed v s n y → v.stage ≡ Rest → n ≢ length v.due → Fits owed (view v.number Opening v.due v.handed v.hand looks) s n y
-  opened_fits v looks s n free h r ne = (h.0, (λ _. ne), λ e. absurd (open_take e))
-  opened_fits v looks s n (ready j) h r ne = h
-  opened_fits v looks s n (done d) h r ne = h
-  opened_fits v looks s n (open_by p) h r ne = absurd (ne h.0)
-  opened_fits v looks s n (hand_of p d) h r ne = h
-  opened_fits v looks s n (take_by p) h r ne = absurd (rest_take (sym r ∙ h.2))
-
-  pub opens : (S : ℕ) (f : FrontState J D) (p : ℕ) (looks : List (ℕ × ℕ)) → Lawful owed S f → p < S → (f.seats p).stage ≡ Rest → length (f.seats p).due < (f.seats p).handed + CELLS
-      → let v : View D = f.seats p in let i : ℕ = cell_of p (length v.due) in
-      (f.cells i ≡ free) × Lawful owed S (front (put f.cells i (open_by p)) (put f.seats p (view v.number Opening v.due v.handed v.hand looks)))
-  opens S f p looks law less at_rest room =
-      let v : View D = f.seats p in let m : ℕ = length v.due in let i : ℕ = cell_of p m in let x : Cell J D = open_by p in
-      let here = free_there v p m (f.cells i) (law.each_number p m less (law.behind p) room) at_rest (omega arith) in (
-        here,
-        reposts S f p m x Opening v.due v.handed looks law less (law.behind p) (law.within p) (λ _. room) (ap is_hand here) refl
-            (λ n lo hi. dite (ℕ_discrete n m)
-            (λ e. subst (λ (k : ℕ). Fits owed (view v.number Opening v.due v.handed v.hand looks) p k (put f.cells i x (cell_of p k))) (sym e)
-            (subst (Fits owed (view v.number Opening v.due v.handed v.hand looks) p m) (sym (put_here f.cells i x)) (refl, refl, refl)))
-            (λ ne. subst (Fits owed (view v.number Opening v.due v.handed v.hand looks) p n) (sym (put_else f.cells i (cell_of p n) x (λ e. ne (one_number p v.handed n m lo hi (law.behind p) room e))))
-            (opened_fits v looks p n (f.cells (cell_of p n)) (law.each_number p n less lo hi) at_rest ne))),
-      )
-
   posted_fits : (v : View D) (d : D) (looks : List (ℕ × ℕ)) (s n : ℕ) (y : Cell J D) → Fits owed v s n y → v.stage ≢ Emptying → n ≢ length v.due → Fits owed (view v.number Rest (v.due ++ d ∷ []) v.handed v.hand looks) s n y
   posted_fits v d looks s n free h r ne = (omega (arith, h.0, length-append v.due (d ∷ [])), (λ e. absurd (rest_open e)), λ e. absurd (rest_take e))
   posted_fits v d looks s n (ready j) h r ne = at_longer v.due (d ∷ []) n (owed j) h
@@ -100,14 +79,6 @@ module _ {J D : Type 0} (owed : J → D) where
   posted_fits v d looks s n (open_by p) h r ne = absurd (ne h.0)
   posted_fits v d looks s n (hand_of p e) h r ne = at_longer v.due (d ∷ []) n e h
   posted_fits v d looks s n (take_by p) h r ne = absurd (r h.2)
-
-  open_there : (v : View D) (s n : ℕ) (y : Cell J D) → Fits owed v s n y → v.stage ≡ Opening → n ≡ length v.due → Is (open_by s) y
-  open_there v s n free h r e = absurd (h.1 r e)
-  open_there v s n (ready j) h r e = let l = slice_get_within v.due n (owed j) h in absurd (omega arith)
-  open_there v s n (done d) h r e = let l = slice_get_within v.due n d h in absurd (omega arith)
-  open_there v s n (open_by p) h r e = ap open_by h.1
-  open_there v s n (hand_of p d) h r e = let l = slice_get_within v.due n d h in absurd (omega arith)
-  open_there v s n (take_by p) h r e = absurd (open_take (sym r ∙ h.2))
 
   -- the cell of the next number gets a job, and the submitter is at rest
   pub fills : (S : ℕ) (f : FrontState J D) (p : ℕ) (j : J) (looks : List (ℕ × ℕ)) → Lawful owed S f → p < S → (f.seats p).stage ≢ Emptying → length (f.seats p).due < (f.seats p).handed + CELLS
@@ -123,15 +94,6 @@ module _ {J D : Type 0} (owed : J → D) where
       (λ ne. subst (Fits owed w p n) (sym (put_else f.cells i (cell_of p n) x (λ e. ne (one_number p v.handed n m lo hi lo0 room e))))
       (posted_fits v d looks p n (f.cells (cell_of p n)) (law.each_number p n less lo hi) at ne)))
 
-  pub publishes : (S : ℕ) (f : FrontState J D) (p : ℕ) (j : J) (looks : List (ℕ × ℕ)) → Lawful owed S f → p < S → (f.seats p).stage ≡ Opening
-      → let v : View D = f.seats p in let i : ℕ = cell_of p (length v.due) in
-      (f.cells i ≡ open_by p) × Lawful owed S (front (put f.cells i (ready j)) (put f.seats p (view v.number Rest (v.due ++ owed j ∷ []) v.handed v.hand looks)))
-  publishes S f p j looks law less at =
-      let v : View D = f.seats p in let m : ℕ = length v.due in let i : ℕ = cell_of p m in
-      let room = law.spare p (λ e. rest_open (sym e ∙ at)) in
-      let here = open_there v p m (f.cells i) (law.each_number p m less (law.behind p) room) at refl in
-      (here, fills S f p j looks law less (λ e. open_take (sym at ∙ e)) room (ap is_hand here))
-
   -- the submitter at rest posts a job
   pub posts : (S : ℕ) (f : FrontState J D) (p : ℕ) (j : J) (looks : List (ℕ × ℕ)) → Lawful owed S f → p < S → (f.seats p).stage ≡ Rest → length (f.seats p).due < (f.seats p).handed + CELLS
       → let v : View D = f.seats p in let i : ℕ = cell_of p (length v.due) in
@@ -140,68 +102,6 @@ module _ {J D : Type 0} (owed : J → D) where
       let v : View D = f.seats p in let m : ℕ = length v.due in let i : ℕ = cell_of p m in
       let here = free_there v p m (f.cells i) (law.each_number p m less (law.behind p) room) at_rest (omega arith) in
       (here, fills S f p j looks law less (λ e. rest_take (sym at_rest ∙ e)) room (ap is_hand here))
-
-  -- at the cell of the number handed stands a result where its word is 2
-  pub done_there : (v : View D) (s : ℕ) (y : Cell J D) → Fits owed v s v.handed y → word_of y ≡ 2 → (d : D) × Is (done d) y × (slice_get v.due v.handed ≡ Some d)
-  done_there v s free h two = absurd (omega arith)
-  done_there v s (ready j) h two = absurd (omega arith)
-  done_there v s (done d) h two = (d, refl, h)
-  done_there v s (open_by p) h two = absurd (omega arith)
-  done_there v s (hand_of p d) h two = absurd (omega arith)
-  done_there v s (take_by p) h two = absurd (omega arith)
-
-  taken_fits : (v : View D) (looks : List (ℕ × ℕ)) (s n : ℕ) (y : Cell J D) → Fits owed v s n y → v.stage ≡ Rest → n < v.handed + CELLS → Fits owed (view v.number Emptying v.due (v.handed + 1) v.hand looks) s n y
-  taken_fits v looks s n free h r l = (h.0, (λ e. absurd (open_take (sym e))), λ _ e. omega arith)
-  taken_fits v looks s n (ready j) h r l = h
-  taken_fits v looks s n (done d) h r l = h
-  taken_fits v looks s n (open_by p) h r l = absurd (rest_open (sym r ∙ h.2))
-  taken_fits v looks s n (hand_of p d) h r l = h
-  taken_fits v looks s n (take_by p) h r l = absurd (rest_take (sym r ∙ h.2))
-
-  pub takes_done : (S : ℕ) (f : FrontState J D) (p : ℕ) (d : D) (looks : List (ℕ × ℕ)) → Lawful owed S f → p < S → (f.seats p).stage ≡ Rest → (f.seats p).handed < length (f.seats p).due
-      → f.cells (cell_of p (f.seats p).handed) ≡ done d
-      → let v : View D = f.seats p in let i : ℕ = cell_of p v.handed in
-      Lawful owed S (front (put f.cells i (take_by p)) (put f.seats p (view v.number Emptying v.due (v.handed + 1) v.hand looks)))
-  takes_done S f p d looks law less at_rest some_out is =
-      let v : View D = f.seats p in let h : ℕ = v.handed in let i : ℕ = cell_of p h in let x : Cell J D = take_by p in let w : View D = view v.number Emptying v.due (h + 1) v.hand looks in
-      let b = law.behind p in let c = law.within p in
-      reposts S f p h x Emptying v.due (h + 1) looks law less (omega arith) (omega arith) (λ _. omega arith) (ap is_hand is) refl
-      (λ n lo hi. dite (ℕ_discrete n (h + CELLS))
-      (λ e. subst (λ (k : Cell J D). Fits owed w p n k) (sym (put_here f.cells i x) ∙ ap (put f.cells i x) (let same : i ≡ cell_of p n = omega arith in same)) (omega arith, refl, refl))
-      (λ ne. subst (Fits owed w p n) (sym (put_else f.cells i (cell_of p n) x (λ e. let same = one_number p h n h (omega arith) (omega arith) (omega arith) (omega arith) e in absurd (omega arith))))
-      (taken_fits v looks p n (f.cells (cell_of p n)) (law.each_number p n less (omega arith) (omega arith)) at_rest (omega arith))))
-
-  take_there : (v : View D) (s n : ℕ) (y : Cell J D) → Fits owed v s n y → v.stage ≡ Emptying → n + 1 ≡ v.handed + CELLS → length v.due < v.handed + CELLS → Is (take_by s) y
-  take_there v s n free h r e le = absurd (h.2 r e)
-  take_there v s n (ready j) h r e le = let l = slice_get_within v.due n (owed j) h in absurd (omega arith)
-  take_there v s n (done d) h r e le = let l = slice_get_within v.due n d h in absurd (omega arith)
-  take_there v s n (open_by p) h r e le = absurd (open_take (sym h.2 ∙ r))
-  take_there v s n (hand_of p d) h r e le = let l = slice_get_within v.due n d h in absurd (omega arith)
-  take_there v s n (take_by p) h r e le = ap take_by h.1
-
-  freed_fits : (v : View D) (looks : List (ℕ × ℕ)) (s n : ℕ) (y : Cell J D) → Fits owed v s n y → v.stage ≡ Emptying → n + 1 ≢ v.handed + CELLS → Fits owed (view v.number Rest v.due v.handed v.hand looks) s n y
-  freed_fits v looks s n free h r ne = (h.0, (λ e. absurd (rest_open e)), λ e. absurd (rest_take e))
-  freed_fits v looks s n (ready j) h r ne = h
-  freed_fits v looks s n (done d) h r ne = h
-  freed_fits v looks s n (open_by p) h r ne = absurd (open_take (sym h.2 ∙ r))
-  freed_fits v looks s n (hand_of p d) h r ne = h
-  freed_fits v looks s n (take_by p) h r ne = absurd (ne h.0)
-
-  pub frees : (S : ℕ) (f : FrontState J D) (p : ℕ) (looks : List (ℕ × ℕ)) → Lawful owed S f → p < S → (f.seats p).stage ≡ Emptying
-      → let v : View D = f.seats p in let i : ℕ = cell_of p (v.handed + 255) in
-      (f.cells i ≡ take_by p) × Lawful owed S (front (put f.cells i free) (put f.seats p (view v.number Rest v.due v.handed v.hand looks)))
-  frees S f p looks law less at =
-      let v : View D = f.seats p in let m : ℕ = v.handed + 255 in let i : ℕ = cell_of p m in let x : Cell J D = free in let w : View D = view v.number Rest v.due v.handed v.hand looks in
-      let room : length v.due < v.handed + CELLS = law.spare p (λ e. rest_take (sym e ∙ at)) in
-      let here = take_there v p m (f.cells i) (law.each_number p m less (omega arith) (omega arith)) at (omega arith) room in (
-        here,
-        reposts S f p m x Rest v.due v.handed looks law less (law.behind p) (law.within p) (λ e. absurd (e refl)) (ap is_hand here) refl
-            (λ n lo hi. dite (ℕ_discrete n m)
-            (λ e. subst (λ (k : ℕ). Fits owed w p k (put f.cells i x (cell_of p k))) (sym e)
-            (subst (Fits owed w p m) (sym (put_here f.cells i x)) (omega arith, (λ e. absurd (rest_open e)), λ e. absurd (rest_take e))))
-            (λ ne. subst (Fits owed w p n) (sym (put_else f.cells i (cell_of p n) x (λ e. ne (one_number p v.handed n m lo hi (omega arith) (omega arith) e))))
-            (freed_fits v looks p n (f.cells (cell_of p n)) (law.each_number p n less lo hi) at (λ e. ne (omega arith))))),
-      )
 
   collected_fits : (v : View D) (looks : List (ℕ × ℕ)) (s n : ℕ) (y : Cell J D) → Fits owed v s n y → v.stage ≡ Rest → Fits owed (view v.number Rest v.due (v.handed + 1) v.hand looks) s n y
   collected_fits v looks s n free h r = (h.0, (λ e. absurd (rest_open e)), λ e. absurd (rest_take e))

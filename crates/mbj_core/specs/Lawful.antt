@@ -8,7 +8,8 @@ use Rattle.mbj_core.specs.declared.party.Stage.TheVariants.{Rest, Opening, Empty
 
 module _ {J D : Type 0} (owed : J → D) where
   -- What the cell of the number n may hold, for a submitter s whose part is v. The number is one of the CELLS numbers
-  -- from v.handed on, so each cell of s is that of one of them; that of the number v.handed - 1 is the last one's.
+  -- from v.handed on, so each cell of s is that of exactly one of them. The cell of the number v.handed - 1, which was
+  -- handed out last, is that of the last of them, v.handed + CELLS - 1.
   abbrev pub Fits : View D → ℕ → ℕ → Cell J D → Type 0
   -- n isn't out, and its cell is neither being filled nor being emptied
   Fits v s n free = (length v.due ≤ n) × (v.stage ≡ Opening → n ≢ length v.due) × (v.stage ≡ Emptying → n + 1 ≢ v.handed + CELLS)
