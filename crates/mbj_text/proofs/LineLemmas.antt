@@ -1,28 +1,28 @@
 -- The job lines among lines, one line after the other.
 use Rattle.std.proofs.Common.{◌≡◌, ◌+◌, ◌∷◌, ℕ, true, false, cond, List, [], ap, refl}
 use Rattle.std.specs.Str.Lines.{strip_carriage_return}
-use Rattle.mbj_text.specs.Cut.{is_skipped, Numbered, job_lines_from, without_empty_end}
+use Rattle.mbj_text.specs.Cut.{is_skipped, Numbered, kept_lines_from, without_empty_end}
 
 -- no line is left
-pub none_left : (n : ℕ) → job_lines_from n [] ≡ []
-unfolding job_lines_from
+pub none_left : (n : ℕ) → kept_lines_from n [] ≡ []
+unfolding kept_lines_from
 none_left n = refl
 
 -- a line that is skipped
 pub skip : (n : ℕ) (line : List ℕ) (lines : List (List ℕ)) → is_skipped (strip_carriage_return line) ≡ true
-    → job_lines_from n (line ∷ lines) ≡ job_lines_from (n + 1) lines
-unfolding job_lines_from
-skip n line lines h = ap (λ b. cond b (job_lines_from (n + 1) lines) ((n, strip_carriage_return line) ∷ job_lines_from (n + 1) lines)) h
+    → kept_lines_from n (line ∷ lines) ≡ kept_lines_from (n + 1) lines
+unfolding kept_lines_from
+skip n line lines h = ap (λ b. cond b (kept_lines_from (n + 1) lines) ((n, strip_carriage_return line) ∷ kept_lines_from (n + 1) lines)) h
 
 -- a job line
 pub keep : (n : ℕ) (line : List ℕ) (lines : List (List ℕ)) → is_skipped (strip_carriage_return line) ≡ false
-    → job_lines_from n (line ∷ lines) ≡ (n, strip_carriage_return line) ∷ job_lines_from (n + 1) lines
-unfolding job_lines_from
-keep n line lines h = ap (λ b. cond b (job_lines_from (n + 1) lines) ((n, strip_carriage_return line) ∷ job_lines_from (n + 1) lines)) h
+    → kept_lines_from n (line ∷ lines) ≡ (n, strip_carriage_return line) ∷ kept_lines_from (n + 1) lines
+unfolding kept_lines_from
+keep n line lines h = ap (λ b. cond b (kept_lines_from (n + 1) lines) ((n, strip_carriage_return line) ∷ kept_lines_from (n + 1) lines)) h
 
 -- an empty last part would be skipped anyway
-pub skip_empty_end : (n : ℕ) (parts : List (List ℕ)) → job_lines_from n (without_empty_end parts) ≡ job_lines_from n parts
-unfolding job_lines_from
+pub skip_empty_end : (n : ℕ) (parts : List (List ℕ)) → kept_lines_from n (without_empty_end parts) ≡ kept_lines_from n parts
+unfolding kept_lines_from
 skip_empty_end n [] = refl
 skip_empty_end n ([] ∷ []) = refl
 skip_empty_end n ((x ∷ xs) ∷ []) = refl

@@ -1,47 +1,69 @@
-ghost use Rattle.std.specs.Prelude.{◌≡◌, ◌≤◌, length, option_map};
+ghost use Rattle.std.specs.Prelude.{◌≡◌, ◌≤◌, ◌<◌, length, option_map, IfSome};
 ghost use Rattle.std.specs.Str.Lines.{strip_carriage_return};
 ghost use Rattle.std.specs.Iterator.{YieldsFirstBy, item_count};
-ghost use Rattle.mbj_text.specs.Cut.{is_skipped, job_lines};
+ghost use Rattle.mbj_text.specs.Cut.{is_skipped, kept_lines};
+ghost use Rattle.mbj_text.specs.Reading.{TakesJobLine};
 ghost use Rattle.mbj_text.specs.declared.limits.TheConstants.{INPUT_LIMIT};
 
 use crate::limits::INPUT_LIMIT;
 use crate::split::Split;
 use std::marker::Model;
 
-/// The job lines of a file that are left, each with its number in the file.
+/// Where the job lines of a file end.
+#[derive(Clone, Copy, Debug, PartialEq, Eq)]
+pub(crate) enum JobsEnd {
+    /// At the end of the file.
+    File,
+    /// Before the first line that is exactly `%`, or at the end of the file.
+    Mark,
+}
+
+/// The lines of a file that are left, without those that are skipped, each with its number in the file.
 #[derive(Drop)]
-pub(crate) struct JobLines<'a> {
-    /// How many lines were taken, job lines and others.
+pub(crate) struct KeptLines<'a> {
+    /// How many lines were taken, those that were skipped too.
     taken: u32,
     left: Split<'a>,
 }
 
-impl<'a> Model for JobLines<'a> {
+impl<'a> Model for KeptLines<'a> {
     ghost use Rattle.std.specs.Prelude.{List, ◌+◌, ◌<◌, ◌^◌, length};
-    ghost use Rattle.mbj_text.specs.Cut.{Numbered, job_lines_from};
+    ghost use Rattle.mbj_text.specs.Cut.{Numbered, kept_lines_from};
 
     ghost Value = { List Numbered };
 
-    ghost view = { λ l. job_lines_from (l.taken + 1) l.left };
+    ghost view = { λ l. kept_lines_from (l.taken + 1) l.left };
 
     ghost invariant = { λ l. l.taken + length l.left < 2 ^ 32 };
 }
 
-impl<'a> JobLines<'a> {
-    /// All job lines of the file.
+impl<'a> KeptLines<'a> {
+    /// All lines of the file.
     #[tactic(auto, using(crate::proofs::LineLemmas::skip_empty_end, crate::proofs::Cutting::cut_bound))]
-    pub(crate) fn of(bytes: &'a [u8]) -> JobLines<'a>
+    pub(crate) fn of(bytes: &'a [u8]) -> KeptLines<'a>
         requires { length bytes.now ≤ INPUT_LIMIT }
-        ensures { result ≡ job_lines bytes.now }
+        ensures { result ≡ kept_lines bytes.now }
     {
-        JobLines {
+        KeptLines {
             taken: 0,
             left: Split::new(bytes, b'\n'),
         }
     }
+
+    /// The next job line, or none where the job lines end; the line that ends them is taken too.
+    pub(crate) fn next_job_line(&mut self, end: JobsEnd) -> Option<(u32, &'a [u8])>
+        ensures line { TakesJobLine end self.old result self.new }
+        ensures shorter { IfSome result (λ _. length self.new < length self.old) }
+    {
+        let (number, line) = self.next()?;
+        if end == JobsEnd::Mark && line == b"%".as_slice() {
+            return None;
+        }
+        Some((number, line))
+    }
 }
 
-impl<'a> Iterator for JobLines<'a> {
+impl<'a> Iterator for KeptLines<'a> {
     type Item = (u32, &'a [u8]);
 
     ghost next_gives = { YieldsFirstBy (λ line. (line.0, line.1.now)) (λ left. left) };
