@@ -149,11 +149,12 @@ over_gives lines line o =
     ∙ ap (λ c. step o.jobs c (job_of o.text) line o.after) (eq-eqb (length o.jobs) JOB_LIMIT o.count)
 
 -- the outcome of job lines
-abbrev pub jobs_outcome : List Numbered → Outcome
+pub jobs_outcome : List Numbered → Result (List Job) TextFault
 jobs_outcome lines = outcome [] lines
 
 -- and it tells the three relations apart
 pub lines_tell : (lines : List Numbered) → Tells (ReadsLines lines) (BadLines lines) (OverLines lines) (jobs_outcome lines)
+unfolding jobs_outcome
 lines_tell lines = record { good = reads_gives lines; bad = bad_gives lines; over = over_gives lines }
 
 -- ---- one of the three holds

@@ -55,13 +55,13 @@ abbrev pub kept_lines : List ℕ → List Numbered
 kept_lines bytes = kept_lines_from 1 (lines_of bytes)
 
 -- a line that is exactly `%` ends the job lines of a replay
-abbrev pub is_mark : Numbered → Bool
-is_mark line = bytes_eq line.1 (codes "%")
+abbrev pub is_mark : List ℕ → Bool
+is_mark line = bytes_eq line (codes "%")
 
 -- the job lines of a replay: those before the first such line, or all where there is none
 abbrev pub job_part : List Numbered → List Numbered
-job_part lines = before_first is_mark lines
+job_part lines = before_first (λ line. is_mark line.1) lines
 
 -- its script lines: those behind the first such line, or none where there is none
 abbrev pub script_part : List Numbered → List Numbered
-script_part lines = after_first is_mark lines
+script_part lines = after_first (λ line. is_mark line.1) lines

@@ -1,5 +1,5 @@
 -- The reader of a line as a function, from left to right. Private functions alone promise it.
-use Rattle.std.specs.Prelude.{◌≡◌, ◌==◌, ◌&&◌, ◌||◌, ◌+◌, ◌-◌, ◌*◌, ℕ, Bool, not, List, [], ◌∷◌, length, map, Ok, Err, Result, Option, Some, None, nat_le, nat_lt, if◌then◌else◌, codes, slice_index, MatchOption}
+use Rattle.std.specs.Prelude.{◌≡◌, ◌==◌, ◌&&◌, ◌||◌, ◌+◌, ◌-◌, ◌*◌, ℕ, Bool, false, not, List, [], ◌∷◌, length, map, Ok, Err, Result, Option, Some, None, nat_le, nat_lt, if◌then◌else◌, codes, slice_index, MatchOption}
 use denote.Ref.{Bor}
 use Rattle.std.specs.Char.{is_ascii_digit}
 use Rattle.std.specs.Str.{bytes_eq}
@@ -24,7 +24,7 @@ use Rattle.mbj_text.specs.declared.fault.LineFault.TheVariants as line_fault
 use Rattle.mbj_text.specs.declared.fault.TextFault.{TextFault}
 use Rattle.mbj_text.specs.declared.fault.TextFault.TheVariants as text_fault
 use Rattle.mbj_text.specs.Words.{cipher_word, dir_word, order_word, auth_word, verb_word, file_ciphers, file_auths, verbs}
-use Rattle.mbj_text.specs.Cut.{Numbered, job_part, script_part}
+use Rattle.mbj_text.specs.Cut.{Numbered, is_mark, job_part, script_part}
 use Rattle.mbj_text.specs.Script.{number_forms}
 use Rattle.mbj_text.specs.Spelling.{Form, CipherWord, DirWord, OrderWord, AuthWord, Hex, Number, Below, Value, Values, forms, fields_of}
 
@@ -179,6 +179,11 @@ fault_at n (line_fault.Field f) = text_fault.Line n f
 fault_at n line_fault.Memory = text_fault.Memory
 
 -- ---- the parts of a file
+
+-- the job lines end at this line
+abbrev pub ends_jobs : JobsEnd → List ℕ → Bool
+ends_jobs jobs_end.File line = false
+ends_jobs jobs_end.Mark line = is_mark line
 
 -- the job lines among lines, which end where this says
 abbrev pub part_before : JobsEnd → List Numbered → List Numbered

@@ -2,7 +2,7 @@ ghost use Rattle.std.specs.Prelude.{◌≡◌, ◌≤◌, ◌<◌, length, optio
 ghost use Rattle.std.specs.Str.Lines.{strip_carriage_return};
 ghost use Rattle.std.specs.Iterator.{YieldsFirstBy, item_count};
 ghost use Rattle.mbj_text.specs.Cut.{is_skipped, kept_lines};
-ghost use Rattle.mbj_text.specs.Reading.{TakesJobLine};
+ghost use Rattle.mbj_text.specs.Reading.{ends_jobs, TakesJobLine};
 ghost use Rattle.mbj_text.specs.declared.limits.TheConstants.{INPUT_LIMIT};
 
 use crate::limits::INPUT_LIMIT;
@@ -16,6 +16,18 @@ pub(crate) enum JobsEnd {
     File,
     /// Before the first line that is exactly `%`, or at the end of the file.
     Mark,
+}
+
+impl JobsEnd {
+    /// Whether the job lines end at this line.
+    fn is_at(self, line: &[u8]) -> bool
+        ensures { result ≡ ends_jobs self line.now }
+    {
+        match self {
+            JobsEnd::File => false,
+            JobsEnd::Mark => line == b"%".as_slice(),
+        }
+    }
 }
 
 /// The lines of a file that are left, without those that are skipped, each with its number in the file.
@@ -51,15 +63,17 @@ impl<'a> KeptLines<'a> {
     }
 
     /// The next job line, or none where the job lines end; the line that ends them is taken too.
+    #[tactic(auto, using(crate::proofs::LineLemmas::no_part, crate::proofs::LineLemmas::part_ends, crate::proofs::LineLemmas::part_goes_on))]
     pub(crate) fn next_job_line(&mut self, end: JobsEnd) -> Option<(u32, &'a [u8])>
         ensures line { TakesJobLine end self.old result self.new }
         ensures shorter { IfSome result (λ _. length self.new < length self.old) }
     {
         let (number, line) = self.next()?;
-        if end == JobsEnd::Mark && line == b"%".as_slice() {
-            return None;
+        if end.is_at(line) {
+            None
+        } else {
+            Some((number, line))
         }
-        Some((number, line))
     }
 }
 
