@@ -1,5 +1,5 @@
 -- A script line is read exactly as it is spelled.
-use Rattle.std.proofs.Common.{◌≡◌, ◌⊎◌, ◌∙◌, ◌+◌, ◌≤◌, inl, inr, ap, sym, subst, refl, ℕ, List, [], ◌∷◌, Option, Some, None, Result, Ok, Err, length, arith}
+use Rattle.std.proofs.Common.{◌≡◌, ◌⊎◌, ◌∙◌, ◌+◌, ◌==◌, inl, inr, ap, sym, subst, refl, ℕ, List, [], ◌∷◌, Option, Some, None, Result, Ok, Err, length, arith}
 use Rattle.std.specs.Option.{option_map_or}
 use Rattle.std.proofs.lemmas.List.Splits.{length-slice_split}
 use Rattle.mbj_text.specs.declared.command.Cmd.{Cmd}
@@ -17,7 +17,7 @@ use Rattle.mbj_text.proofs.LineLaws.{all_back, all_fault_back, all_total}
 -- a line has a first field
 cut_some : (m : ℕ) (line : List ℕ) → cut m line ≡ [] → ⊥
 unfolding cut
-cut_some m line none = let size = length-slice_split _ line in omega (arith, size, ap length none)
+cut_some m line none = let size = length-slice_split (λ b. b == m) line in omega (arith, size, ap length none)
 
 -- ---- the numbers behind a verb
 

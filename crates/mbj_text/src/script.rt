@@ -17,8 +17,8 @@ pub(crate) fn read_script(
     submitters: u32,
     workers: u32,
 ) -> Result<Vec<Cmd>, TextFault>
-    ensures { Answers (λ v. SpellScript submitters workers lines v.items)
-        (BadScript submitters workers lines) (λ _. ⊥) result }
+    ensures { Answers (λ v. SpellScript submitters workers lines.entry v.items)
+        (BadScript submitters workers lines.entry) (λ _. ⊥) result }
 {
     let mut commands = Vec::new(alloc);
     for (number, line) in lines {
