@@ -1,5 +1,5 @@
 -- A script line is read exactly as it is spelled.
-use Rattle.std.proofs.Common.{◌≡◌, ◌⊎◌, ◌∙◌, ◌+◌, ◌==◌, inl, inr, ap, sym, subst, refl, ℕ, List, [], ◌∷◌, Option, Some, None, Result, Ok, Err, length, arith}
+use Rattle.std.proofs.Common.{◌≡◌, ◌⊎◌, ◌∙◌, ◌==◌, inl, inr, ap, sym, subst, refl, ℕ, List, [], ◌∷◌, Option, Some, None, Result, Ok, Err, length, arith}
 use Rattle.std.specs.Option.{option_map_or}
 use Rattle.std.proofs.lemmas.List.Splits.{length-slice_split}
 use Rattle.mbj_text.specs.declared.command.Cmd.{Cmd}
@@ -8,8 +8,8 @@ use Rattle.mbj_text.specs.declared.command.Verb.{Verb}
 use Rattle.mbj_text.specs.declared.command.Verb.TheVariants as verb
 use Rattle.mbj_text.specs.Cut.{cut}
 use Rattle.mbj_text.specs.Words.{verb_word}
-use Rattle.mbj_text.specs.Spelling.{Values, SpellsFields, HasFault, fields_of}
-use Rattle.mbj_text.specs.Script.{number_forms, numbers, verb_of_command, SpellsCommand, HasBadNumbers, HasVerb, IsBadCommand}
+use Rattle.mbj_text.specs.Spelling.{Values, SpellsFields, fields_of}
+use Rattle.mbj_text.specs.Script.{number_forms, numbers, verb_of_command, SpellsCommand, HasVerb, IsBadCommand}
 use Rattle.mbj_text.specs.Reading.{◌>>=◌, Cursor, all_from, next_from, verb_of, command_with, command_of}
 use Rattle.mbj_text.proofs.WordLaws.{verb_read, verb_back}
 use Rattle.mbj_text.proofs.LineLaws.{all_back, all_fault_back, all_total}
@@ -20,13 +20,6 @@ unfolding cut
 cut_some m line none = let size = length-slice_split (λ b. b == m) line in omega (arith, size, ap length none)
 
 -- ---- the numbers behind a verb
-
--- the command of a verb and numbers has them
-with_numbers : (s w : ℕ) (v : Verb) (vs : Values (number_forms s w v)) → verb_of_command (command_with s w v vs) ≡ v
-with_numbers s w verb.Post vs = refl
-with_numbers s w verb.Claim vs = refl
-with_numbers s w verb.Flush vs = refl
-with_numbers s w verb.Collect vs = refl
 
 -- a command is made of its verb and its numbers
 made_of : (s w : ℕ) (c : Cmd) → command_with s w (verb_of_command c) (numbers s w c) ≡ c
@@ -101,10 +94,16 @@ pub command_total : (s w : ℕ) (line : List ℕ) → CommandFate s w line
 command_total s w line = by_fields (fields_of line) refl
   where
     by_verb : (t : List ℕ) (ts : List (List ℕ)) → fields_of line ≡ t ∷ ts → (o : Option Verb) → verb_of t ≡ o → CommandFate s w line
-    by_verb t ts is None e = inr (1, inl (refl, λ has.
-        let heads : t ∷ ts ≡ verb_word has.0 ∷ has.1 = sym is ∙ has.2 in
-        let same : t ≡ verb_word has.0 = cc in
-        let found = sym e ∙ verb_back t has.0 same in cc))
+    by_verb t ts is None e = inr (
+      1,
+      inl (
+        refl,
+        λ has.
+            let heads : t ∷ ts ≡ verb_word has.0 ∷ has.1 = sym is ∙ has.2 in
+            let same : t ≡ verb_word has.0 = cc in
+            let found = sym e ∙ verb_back t has.0 same in cc,
+      ),
+    )
     by_verb t ts is (Some v) e =
         let begins : fields_of line ≡ verb_word v ∷ ts = is ∙ ap (λ (t : List ℕ). t ∷ ts) (verb_read t v e) in
         elim (all_total 2 (number_forms s w v) ts) [

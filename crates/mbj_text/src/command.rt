@@ -3,7 +3,7 @@
 pub enum Cmd {
     /// This submitter posts its next job.
     Post(u32),
-    /// This worker claims a job of this submitter.
+    /// The worker, which is the first number, claims a job of the submitter, which is the second.
     Claim(u32, u32),
     /// This worker flushes.
     Flush(u32),
@@ -12,7 +12,7 @@ pub enum Cmd {
 }
 
 /// The word that a script line begins with.
-#[derive(Clone, Copy, Debug, PartialEq, Eq)]
+#[derive(Clone, Copy, Debug)]
 pub(crate) enum Verb {
     Post,
     Claim,

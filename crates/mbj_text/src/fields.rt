@@ -1,4 +1,4 @@
-ghost use Rattle.std.specs.Prelude.{◌≡◌, ◌+◌, ◌<◌, OnOk};
+ghost use Rattle.std.specs.Prelude.{◌≡◌, ◌+◌, ◌<◌, [], ◌∷◌, OnOk, MatchResult};
 ghost use Rattle.mbj_text.specs.Reading.{ReadsNext, at_start, below_of};
 ghost use Rattle.mbj_text.specs.declared.fields.TheConstants.{MAX_FIELDS};
 
@@ -44,10 +44,7 @@ impl<'a> Fields<'a> {
         ensures value { ReadsNext T.value_of self.old result self.new }
         ensures counted { OnOk result (self.new.taken ≡ self.old.taken + 1) }
     {
-        let Some(text) = self.left.next() else {
-            return Err(LineFault::Field(0));
-        };
-        self.taken += 1;
+        let text = self.next_text()?;
         T::read(self.alloc, text)?.ok_or(LineFault::Field(self.taken))
     }
 
@@ -57,10 +54,19 @@ impl<'a> Fields<'a> {
         ensures value { ReadsNext (below_of limit) self.old result self.new }
         ensures counted { OnOk result (self.new.taken ≡ self.old.taken + 1) }
     {
-        let Some(text) = self.left.next() else {
-            return Err(LineFault::Field(0));
-        };
-        self.taken += 1;
+        let text = self.next_text()?;
         below(text, limit).ok_or(LineFault::Field(self.taken))
+    }
+
+    /// The next field as it stands.
+    fn next_text(&mut self) -> Result<&'a [u8], LineFault>
+        requires { self.old.taken < MAX_FIELDS }
+        ensures left { MatchResult result (λ text. self.old.left ≡ text.now ∷ self.new.left)
+            (λ fault. (fault ≡ LineFault.Field 0) × (self.old.left ≡ [])) }
+        ensures counted { OnOk result (self.new.taken ≡ self.old.taken + 1) }
+    {
+        let text = self.left.next().ok_or(LineFault::Field(0))?;
+        self.taken += 1;
+        Ok(text)
     }
 }

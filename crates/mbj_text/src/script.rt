@@ -32,12 +32,7 @@ pub(crate) fn read_script(
 
 /// The command that a line spells, or the field that is the line's fault.
 #[tactic(auto, using(crate::proofs::Cutting::cut_bound), unfolding(crate::specs::Reading::command_of))]
-fn read_command(
-    alloc: Global,
-    line: &[u8],
-    submitters: u32,
-    workers: u32,
-) -> Result<Cmd, LineFault>
+fn read_command(alloc: Global, line: &[u8], submitters: u32, workers: u32) -> Result<Cmd, LineFault>
     ensures { Gives result (command_of submitters workers line.now) }
 {
     let mut fields = Fields::of(alloc, line);
@@ -71,10 +66,7 @@ fn read_numbers(
 {
     Ok(match verb {
         Verb::Post => Cmd::Post(fields.read_below(submitters)?),
-        Verb::Claim => Cmd::Claim(
-            fields.read_below(workers)?,
-            fields.read_below(submitters)?,
-        ),
+        Verb::Claim => Cmd::Claim(fields.read_below(workers)?, fields.read_below(submitters)?),
         Verb::Flush => Cmd::Flush(fields.read_below(workers)?),
         Verb::Collect => Cmd::Collect(fields.read_below(submitters)?),
     })

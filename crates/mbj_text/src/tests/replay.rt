@@ -4,9 +4,11 @@ use std::process::Abort;
 use std::test::Fail;
 
 /// A good job line.
-const JOB: &[u8] = b"null enc ch - - 0 0 hmac-sha1 0b0b0b0b0b0b0b0b0b0b0b0b0b0b0b0b0b0b0b0b - 0 8 20 4869205468657265";
+const JOB: &[u8] =
+    b"null enc ch - - 0 0 hmac-sha1 0b0b0b0b0b0b0b0b0b0b0b0b0b0b0b0b0b0b0b0b - 0 8 20 4869205468657265";
 
 const SUBMITTERS: u32 = 3;
+
 const WORKERS: u32 = 2;
 
 /// Files, where `@` stands for the good job line, with the number of their jobs and their commands.
@@ -86,11 +88,7 @@ fn file_of(alloc: Global, text: &[u8]) -> Result<Vec<u8>, AllocError> {
 }
 
 /// How many jobs the file has, and its commands, or its fault.
-fn read(
-    rt: &impl Abort,
-    alloc: Global,
-    file: &[u8],
-) -> Result<(usize, Vec<Cmd>), TextFault> {
+fn read(rt: &impl Abort, alloc: Global, file: &[u8]) -> Result<(usize, Vec<Cmd>), TextFault> {
     assert!(rt; file.len() <= INPUT_LIMIT);
     let (jobs, commands) = read_replay(alloc, file, SUBMITTERS, WORKERS)?;
     Ok((jobs.len(), commands))

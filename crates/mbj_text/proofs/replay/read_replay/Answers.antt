@@ -1,7 +1,6 @@
 -- Each clause follows from the answer being right.
-use Rattle.mbj_text.specs.Replay.{BadReplay, OverReplay}
 use Rattle.mbj_text.proofs.AnswerLaws.{ok_is_good, line_is_bad, limit_is_over, bad_only, over_only}
-use Rattle.mbj_text.proofs.ReplayLaws.{Spelled, lists_of, replay_outcome, replay_tells, replay_only}
+use Rattle.mbj_text.proofs.ReplayLaws.{Spelled, lists_of, replay_tells, replay_only}
 use Rattle.mbj_text.proofs.replay.read_replay.Goals as goal
 
 pub returns-clause-reads : goal.returns-clause-reads
