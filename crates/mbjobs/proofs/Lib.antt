@@ -1,1 +1,4 @@
 pub mod Drawing
+mod Printing
+mod Tracing
+mod Told
