@@ -13,8 +13,8 @@ mod reading;
 mod report;
 mod run;
 mod summary;
-//#[cfg(test)]
-//mod tests;
+#[cfg(test)]
+mod tests;
 mod top;
 mod trace;
 

@@ -166,7 +166,11 @@ impl Tracer {
         let rounds = self.manager.rounds(kind);
         if rounds != 0 {
             let blocks = self.manager.blocks(kind);
-            self.lines.push(Line::Rounds { kind, rounds, blocks })?;
+            self.lines.push(Line::Rounds {
+                kind,
+                rounds,
+                blocks,
+            })?;
         }
         Ok(())
     }
