@@ -3,3 +3,4 @@ pub mod Packets
 pub mod Tags
 pub mod Soundness
 pub mod Owing
+pub mod Lengths

@@ -6,10 +6,12 @@ mod cipher;
 mod course;
 mod gcm;
 mod job;
+mod laws;
 mod stage;
 
 pub use course::Course;
 pub use job::do_job;
+pub use laws::results_keep_length;
 pub use stage::Stage;
 
 #[cfg(test)]

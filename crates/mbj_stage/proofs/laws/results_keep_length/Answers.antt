@@ -1,0 +1,6 @@
+-- The law, cipher by cipher.
+use Rattle.mbj_stage.proofs.Lengths.{length-result_of}
+use Rattle.mbj_stage.proofs.laws.results_keep_length.Goals as goal
+
+pub returns : goal.returns
+returns c = length-result_of
