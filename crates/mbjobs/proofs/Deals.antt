@@ -1,5 +1,5 @@
 -- Lists to which items are dealt by turns.
-use Rattle.std.proofs.Common.{◌≡◌, ◌≢◌, ◌∙◌, ◌+◌, ◌-◌, ◌*◌, ◌/◌, ◌%◌, ◌<◌, ◌≤◌, ◌⊎◌, inl, inr, min, ℕ, zero, suc, List, [], ◌∷◌, ◌++◌, Option, Some, None, All, Vec, Global, refl, ap, sym, subst, length, map, option_map, slice_get, get_or, set, arith, vec_len, vec_capacity, append-nil, append_assoc}
+use Rattle.std.proofs.Common.{◌≡◌, ◌≢◌, ◌∙◌, ◌+◌, ◌-◌, ◌*◌, ◌/◌, ◌%◌, ◌<◌, ◌≤◌, ◌⊎◌, inl, inr, min, ℕ, zero, suc, List, [], ◌∷◌, ◌++◌, Option, Some, None, All, Vec, Global, refl, ap, sym, subst, length, map, option_map, option_to_list, drop, slice_get, get_or, set, arith, vec_len, vec_capacity, append-nil, append_assoc}
 use Rattle.std.proofs.Math.Nat.{div-add-mod, div-lt_iff_lt-mul, div-eq_of_lt, div-eq-sub-div, mod-eq-sub-mod}
 use Rattle.std.proofs.Math.ListN.{length-set, length-append}
 use Rattle.std.proofs.lemmas.Nat.{mod_below}
@@ -32,6 +32,21 @@ length_at_none : {X : Type 0} (xs : List X) (k : ℕ) → slice_get xs k ≡ Non
 length_at_none [] k none = omega arith
 length_at_none (x ∷ xs) zero none = let no : ⊥ = cc in absurd no
 length_at_none (x ∷ xs) (suc k) none = let le : length xs ≤ k = length_at_none xs k none in omega arith
+
+-- from a place on stands what is there, and then what is from the next place on
+pub drop_next : {X : Type 0} (xs : List X) (n : ℕ) (x : X) → slice_get xs n ≡ Some x → drop n xs ≡ x ∷ drop (n + 1) xs
+drop_next [] n x is = let no : ⊥ = cc in absurd no
+drop_next (y ∷ xs) zero x is = cc
+drop_next (y ∷ xs) (suc n) x is =
+    let next : suc (n + 1) ≡ suc n + 1 = omega arith in
+    drop_next xs n x is ∙ ap (λ k. x ∷ drop k (y ∷ xs)) next
+
+-- nothing stands from the end on
+drop-all : {X : Type 0} (xs : List X) (n : ℕ) → length xs ≤ n → drop n xs ≡ []
+drop-all [] zero past = refl
+drop-all [] (suc n) past = refl
+drop-all (x ∷ xs) zero past = absurd (let no : ⊥ = omega arith in no)
+drop-all (x ∷ xs) (suc n) past = drop-all xs n (omega arith)
 
 -- ---- turns
 
@@ -298,3 +313,32 @@ pub item_is : {X : Type 0} (items : List X) (i : ℕ) (lists : List (Vec X Globa
 item_is items i lists list x dealt inside is here =
     sym (at_place items i lists list dealt inside is)
     ∙ slice_get-get_or list.items (i / length lists) x (place_below items i lists list dealt inside is) ∙ ap Some (sym here)
+
+-- ---- the items, gathered from their lists
+
+-- so many items, from number i on
+pub gathered : {X : Type 0} → ℕ → ℕ → ℕ → List (List X) → List X
+gathered zero i n lists = []
+gathered (suc k) i n lists = option_to_list (slice_get (get_or lists (i % n) []) (i / n)) ++ gathered k (i + 1) n lists
+
+-- those from number i on are gathered
+gathered_from : {X : Type 0} (items : List X) (k i n : ℕ) (lists : List (List X)) → AreDealt items n lists
+    → k + i ≡ length items → gathered k i n lists ≡ drop i items
+unfolding gathered
+gathered_from items zero i n lists dealt all = sym (drop-all items i (omega arith))
+gathered_from {X} [] (suc k) i n lists dealt all = absurd (let no : ⊥ = omega arith in no)
+gathered_from {X} (x ∷ items) (suc k) i n lists dealt all =
+    let whole : List X = x ∷ items in
+    let inside : i < length whole = omega arith in
+    let item : slice_get whole i ≡ Some (get_or whole i x) = slice_get-get_or whole i x inside in
+    let rest : gathered k (i + 1) n lists ≡ drop (i + 1) whole = gathered_from whole k (i + 1) n lists dealt (omega arith) in
+    ap (λ o. option_to_list o ++ gathered k (i + 1) n lists) (dealt.each i ∙ item)
+    ∙ ap (λ l. get_or whole i x ∷ l) rest ∙ sym (drop_next whole i (get_or whole i x) item)
+
+-- what is gathered is what was dealt
+pub gathered_all : {X Y : Type 0} (items : List Y) (count n : ℕ) (list_of : X → List Y) (lists : List X) → count ≡ length items
+    → AreDealt items n (map list_of lists) → gathered count 0 (length lists) (map list_of lists) ≡ items
+gathered_all {X} {Y} items count n list_of lists all dealt =
+    let lengths : length lists ≡ n = sym (length-map lists list_of) ∙ dealt.count in
+    ap (λ m. gathered count 0 m (map list_of lists)) lengths
+    ∙ gathered_from items count 0 n (map list_of lists) dealt (omega arith)

@@ -1,19 +1,12 @@
 -- The lines of results, written one after another.
-use Rattle.std.proofs.Common.{◌≡◌, ◌∙◌, ◌+◌, ◌++◌, [], ◌∷◌, ap, sym, subst, refl, ℕ, zero, suc, List, Option, Some, None, arith, drop, slice_get}
+use Rattle.std.proofs.Common.{Result, Ok, Err, OnErr, ◌≡◌, ◌∙◌, ◌+◌, ◌++◌, [], ◌∷◌, ap, sym, subst, refl, ℕ, zero, suc, List, Option, Some, None, arith, drop, slice_get}
 use Rattle.std.specs.Io.KnownBytes.{Appends}
 use Rattle.std.proofs.KnownBytes.{Appends-nil}
 use Rattle.mbj_types.specs.declared.done.Done.{Done}
 use Rattle.mbj_text.specs.Flow.{Flows, GainsPrefix}
 use Rattle.mbj_text.specs.Line.{done_line, text, text_from}
+use Rattle.mbjobs.proofs.Deals.{drop_next}
 use Rattle.mbj_text.proofs.Flows.{flows_then, gains_then, gains_more}
-
--- from a place on stands what is there, and then what is from the next place on
-drop_next : {X : Type 0} (xs : List X) (n : ℕ) (x : X) → slice_get xs n ≡ Some x → drop n xs ≡ x ∷ drop (n + 1) xs
-drop_next [] n x is = let no : ⊥ = cc in absurd no
-drop_next (y ∷ xs) zero x is = cc
-drop_next (y ∷ xs) (suc n) x is =
-    let next : suc (n + 1) ≡ suc n + 1 = omega arith in
-    drop_next xs n x is ∙ ap (λ k. x ∷ drop k (y ∷ xs)) next
 
 -- the text of the results from a place on begins with the line of the result there
 text_first : (n : ℕ) (results : List Done) (done : Done) → slice_get results n ≡ Some done
@@ -44,3 +37,8 @@ gains_line {a} {b} {c} {whole} n results done is flows gained =
     let P : List ℕ → Type 0 = λ text. GainsPrefix b c text in
     gains_then flows (subst P (sym (text_first n results done is))
     (gains_more (text_from (n + 1) (drop (n + 1) results)) gained))
+
+-- what holds, holds where there is a fault
+pub on_err : {T E P : Type 0} (r : Result T E) → P → OnErr r P
+on_err (Ok t) holds = tt
+on_err (Err e) holds = holds
