@@ -1,4 +1,6 @@
+pub mod Deals
 pub mod Drawing
 mod Printing
 mod Tracing
 mod Told
+pub mod Writing
