@@ -98,19 +98,10 @@ fn fault_of(alloc: Global, error: &clap::Error) -> WordFault
 {
     match error.kind() {
         ErrorKind::OutOfMemory => WordFault::Memory,
-        _ => match error.to_string(alloc) {
-            Ok(text) => WordFault::Text(text),
-            Err(_) => WordFault::Memory,
-        },
+        _ => error
+            .to_string(alloc)
+            .map_or(WordFault::Memory, WordFault::Text),
     }
-}
-
-/// The fault where clap found no fault and yet no command.
-fn no_command(alloc: Global) -> WordFault {
-    String::from_str(alloc, "error: no command was found").map_or(
-        WordFault::Memory,
-        WordFault::Text,
-    )
 }
 
 /// The command that the words are, the first of which is the program's name.
@@ -133,7 +124,11 @@ pub(crate) fn read_command<'a>(alloc: Global, words: &'a [String]) -> Result<Com
     };
     match found_command(&matches) {
         Some(command) => Ok(command),
-        None => Err(no_command(alloc)),
+        // The set has no words in which clap finds no fault and that are no command. That isn't proved.
+        None => Err(String::from_str(alloc, "error: no command was found\n").map_or(
+            WordFault::Memory,
+            WordFault::Text,
+        )),
     }
 }
 
