@@ -1,5 +1,5 @@
 -- Bytes that are drawn one by one.
-use Rattle.std.proofs.Common.{◌≡◌, ◌∙◌, ◌+◌, ◌-◌, ◌<◌, ◌≤◌, ◌++◌, [], ◌∷◌, ap, ap₂, arith, append_assoc, append-nil, ℕ, List, suc}
+use Rattle.std.proofs.Common.{◌≡◌, ◌+◌, ◌-◌, ◌<◌, ◌≤◌, ◌++◌, [], ◌∷◌, ap, arith, append_assoc, append-nil, ℕ, List, suc}
 use Rattle.mbjobs.specs.Generator.{byte, bytes}
 
 -- i of n bytes from the state x on are drawn: with the bytes from the state y on, they are the n bytes

@@ -1,5 +1,5 @@
 -- The command line, by clap's meaning of a set of commands.
-use Rattle.std.specs.Prelude.{◌-◌, ◌^◌, ◌≤◌, ◌<◌, Bool, ℕ, true, false, List, [], ◌∷◌, Option, Some, None, codes, find, map, option_and_then, option_map, if◌then◌else◌}
+use Rattle.std.specs.Prelude.{◌-◌, ◌^◌, ◌≤◌, Bool, ℕ, true, false, List, [], ◌∷◌, Option, Some, None, codes, find, map, option_and_then, option_map, if◌then◌else◌}
 use Rattle.std.specs.Str.{bytes_eq}
 use Rattle.std.specs.Str.Parse.{digits_value, without_leading_plus}
 use Rattle.clap.specs.Words.{App, Row, Rule, Shape, Text, first_of, new_rule, subcommand_of}
@@ -121,14 +121,17 @@ command words = unless_faulty (fault_of app words) (option_and_then found_comman
 
 -- ---- what is known of a command and of a fault
 
--- from 1 to 16 submitters and no worker
-abbrev pub IsParties : ℕ → ℕ → Type 0
-IsParties s w = (1 ≤ s) × (s ≤ 16) × (w ≤ 0)
+abbrev pub IsWithin : RangedOption → ℕ → Type 0
+IsWithin o n = (o.least ≤ n) × (n ≤ o.greatest)
 
+abbrev pub IsParties : ℕ → ℕ → Type 0
+IsParties s w = IsWithin submitters s × IsWithin workers w
+
+-- each number is in its option's range
 abbrev pub IsInRange : Command → Type 0
 IsInRange (Run s w) = IsParties s w
 IsInRange Trace = Unit {0}
-IsInRange (Gen n m s w) = (n < 2 ^ 64) × (m ≤ 65536) × IsParties s w
+IsInRange (Gen n m s w) = IsWithin seed n × IsWithin jobs m × IsParties s w
 
 -- the fault is in the words
 abbrev pub IsText : WordFault → Type 0

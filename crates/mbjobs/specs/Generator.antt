@@ -69,7 +69,7 @@ order_of b = if b % 2 == 0 then CipherHash else HashCipher
 abbrev pub iv_length : Cipher → ℕ → ℕ × ℕ
 iv_length cipher.Null x = (0, x)
 iv_length cipher.Cbc x = (16, x)
-iv_length cipher.Ctr x = let b = byte x in (16 - 4 * (b.0 % 2), b.1)
+iv_length cipher.Ctr x = let b = byte x in (if b.0 % 2 == 0 then 16 else 12, b.1)
 iv_length cipher.Gcm x = (12, x)
 
 abbrev pub cipher_length : Cipher → ℕ → ℕ → ℕ × ℕ

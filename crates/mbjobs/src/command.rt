@@ -105,10 +105,9 @@ fn fault_of(alloc: Global, error: &clap::Error) -> WordFault
 {
     match error.kind() {
         ErrorKind::OutOfMemory => WordFault::Memory,
-        _ => match error.to_string(alloc) {
-            Ok(text) => WordFault::Text(text),
-            Err(_) => WordFault::Memory,
-        },
+        _ => error
+            .to_string(alloc)
+            .map_or(WordFault::Memory, WordFault::Text),
     }
 }
 
@@ -132,6 +131,7 @@ pub(crate) fn read_command<'a>(alloc: Global, words: &'a [String]) -> Result<Com
     };
     match found_command(&matches) {
         Some(command) => Ok(command),
+        // No words are known in which clap finds neither a fault nor a command; that there are none isn't proved.
         None => Err(WordFault::from_str(alloc, "error: no command was found\n")),
     }
 }

@@ -1,4 +1,4 @@
-ghost use Rattle.std.specs.Prelude.{◌≡◌, IfOk, false};
+ghost use Rattle.std.specs.Prelude.{◌≡◌, IfOk, Some, false};
 ghost use Rattle.clap.specs.Words.{app_of, shape_of};
 ghost use Rattle.clap.specs.Simple.{new_shape};
 ghost use Rattle.clap.specs.declared.builder.command.Command.TheViews.{out-Command as fields_of};
@@ -14,6 +14,8 @@ const VERSION: &str = "0.1.0";
 fn bare_command<'a>(alloc: Global, name: &'a str, about: &'a str, example: &'a str) -> Command<'a>
     ensures shape { shape_of result ≡ new_shape name.now }
     ensures local { (fields_of result).has_globals ≡ false }
+    ensures text { ((fields_of result).about ≡ Some about.entry)
+        × ((fields_of result).after_help ≡ Some example.entry) }
 {
     Command::new(alloc, name).about(about).after_help(example)
 }

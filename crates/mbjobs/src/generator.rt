@@ -1,5 +1,4 @@
-ghost use Rattle.std.specs.Prelude.{◌≡◌, ◌≤◌, ◌<◌, ℕ, IfOk, OnErr, OnOk};
-ghost use Rattle.mbj_types.specs.declared.job.Cipher.{Cipher};
+ghost use Rattle.std.specs.Prelude.{◌≡◌, ◌≤◌, IfOk, OnErr, OnOk};
 ghost use Rattle.mbjobs.specs.Generator.{authenticated_by, bare, cipher_length, ciphered_by, dir_of, hashed, hmac, iv_length, job, keyed, order_of, recipe_of, with_aad};
 
 use crate::draws::Draws;
@@ -11,6 +10,18 @@ use std::alloc::{AllocError, Global};
 pub struct Generator {
     state: u64,
 }
+
+/// The length of AES's block and of the longer IVs, in bytes.
+const BLOCK_BYTES: usize = 16;
+
+/// The length of the shorter IVs, in bytes.
+const SHORT_IV_BYTES: usize = 12;
+
+/// The most blocks that a packet has.
+const MOST_BLOCKS: u8 = 32;
+
+/// Additional authenticated data has fewer bytes.
+const AAD_BYTES: u8 = 64;
 
 /// The ciphers and authentications of jobs, and the length of their tags in bytes. The last asks for a tag that it
 /// can't have, and is refused.
@@ -36,7 +47,7 @@ const RECIPES: [(Cipher, Auth, u8); 16] = [
 fn recipe_of(draw: u8) -> (Cipher, Auth, u8)
     ensures { result ≡ recipe_of draw }
 {
-    RECIPES[(draw % 16) as usize]
+    RECIPES[draw as usize % RECIPES.len()]
 }
 
 fn dir_of(draw: u8) -> Dir
@@ -62,9 +73,15 @@ fn iv_length(draws: &mut Draws, cipher: Cipher) -> usize
 {
     match cipher {
         Cipher::Null => 0,
-        Cipher::Cbc => 16,
-        Cipher::Ctr => 16 - 4 * (draws.byte() % 2) as usize,
-        Cipher::Gcm => 12,
+        Cipher::Cbc => BLOCK_BYTES,
+        Cipher::Ctr => {
+            if draws.byte() % 2 == 0 {
+                BLOCK_BYTES
+            } else {
+                SHORT_IV_BYTES
+            }
+        }
+        Cipher::Gcm => SHORT_IV_BYTES,
     }
 }
 
@@ -137,7 +154,7 @@ fn draw_aad(draws: &mut Draws, alloc: Global, job: &mut Job) -> Result<(), Alloc
     ensures { OnOk result ((job.new ≡ (with_aad job.old draws.old.state).0)
         × (draws.new.state ≡ (with_aad job.old draws.old.state).1)) }
 {
-    let aad_bytes = (draws.byte() % 64) as usize;
+    let aad_bytes = (draws.byte() % AAD_BYTES) as usize;
     job.aad = draws.bytes(alloc, aad_bytes)?;
     Ok(())
 }
@@ -197,7 +214,8 @@ fn draw_job(draws: &mut Draws, alloc: Global) -> Result<Job, AllocError>
     ensures { IfOk result (λ j. (j ≡ (job draws.old.state).0) × (draws.new.state ≡ (job draws.old.state).1)) }
 {
     let mut job = draw_bare(draws, alloc);
-    let length = 16 * (1 + (draws.byte() % 32) as u32);
+    let blocks = 1 + (draws.byte() % MOST_BLOCKS) as u32;
+    let length = BLOCK_BYTES as u32 * blocks;
     draw_cipher(draws, alloc, length, &mut job)?;
     draw_auth(draws, alloc, length, &mut job)?;
     job.packet = draws.bytes(alloc, length as usize)?;

@@ -16,12 +16,18 @@ pub(crate) struct NumberOption {
     greatest: u64,
 }
 
+const MOST_SUBMITTERS: u64 = 16;
+
+const MOST_WORKERS: u64 = 0;
+
+const MOST_JOBS: u64 = 65_536;
+
 pub(crate) const SUBMITTERS: NumberOption = NumberOption {
     name: "submitters",
     placeholder: "S",
     help: "Threads that hand in jobs: 1 to 16, as in --submitters 1",
     least: 1,
-    greatest: 16,
+    greatest: MOST_SUBMITTERS,
 };
 
 pub(crate) const WORKERS: NumberOption = NumberOption {
@@ -29,7 +35,7 @@ pub(crate) const WORKERS: NumberOption = NumberOption {
     placeholder: "W",
     help: "Threads that only do jobs: 0, as in --workers 0",
     least: 0,
-    greatest: 0,
+    greatest: MOST_WORKERS,
 };
 
 pub(crate) const SEED: NumberOption = NumberOption {
@@ -45,7 +51,7 @@ pub(crate) const JOBS: NumberOption = NumberOption {
     placeholder: "M",
     help: "Jobs to make: 0 to 65536, as in --jobs 1000",
     least: 0,
-    greatest: 65_536,
+    greatest: MOST_JOBS,
 };
 
 /// The option as clap is told it.

@@ -1,6 +1,6 @@
-use Rattle.std.proofs.Common.{◌≡◌, ◌∙◌, ap, ap₂, true}
+use Rattle.std.proofs.Common.{◌∙◌, ap, ap₂, true}
 use Rattle.std.proofs.lemmas.Result.{IfOk-weaker}
-use Rattle.clap.specs.Words.{App, app_of, with_subcommand}
+use Rattle.clap.specs.Words.{App, with_subcommand}
 use Rattle.clap.specs.Simple.{app_of_fields}
 use Rattle.mbjobs.proofs.command_set.command_set.Goals as goal
 

@@ -1,4 +1,4 @@
-use Rattle.std.proofs.Common.{◌≡◌, ◌∙◌, sym, ap, ℕ, List, Option, option_map}
+use Rattle.std.proofs.Common.{◌∙◌, sym, ap, ℕ, List, Option, option_map}
 use Rattle.std.specs.Prelude.{option_and_then}
 use denote.Ref.{Bor}
 use Rattle.clap.specs.Words.{found_of}

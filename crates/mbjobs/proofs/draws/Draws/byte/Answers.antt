@@ -1,4 +1,4 @@
-use Rattle.std.proofs.Common.{◌≡◌, ◌*◌, ◌/◌, ◌^◌, ap}
+use Rattle.std.proofs.Common.{◌*◌, ◌/◌, ◌^◌, ap}
 use Rattle.std.proofs.Math.Nat.{mod-add-mod}
 use Rattle.mbjobs.specs.Generator.{byte}
 use Rattle.mbjobs.proofs.draws.Draws.byte.Goals as goal

@@ -1,4 +1,4 @@
-use Rattle.std.proofs.Common.{◌≡◌, ◌∙◌, ◌≤◌, List, ℕ, ap, arith, subst, sym, []}
+use Rattle.std.proofs.Common.{◌∙◌, ◌≤◌, List, ℕ, arith, subst, sym}
 use Rattle.mbjobs.proofs.Drawing.{IsDrawn, draws_all, draws_none, draws_one}
 use Rattle.mbjobs.proofs.draws.Draws.bytes.Goals as goal
 
