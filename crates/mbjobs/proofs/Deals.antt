@@ -1,11 +1,11 @@
 -- Lists to which items are dealt by turns.
-use Rattle.std.proofs.Common.{◌≡◌, ◌≢◌, ◌∙◌, ◌+◌, ◌-◌, ◌*◌, ◌/◌, ◌%◌, ◌<◌, ◌≤◌, ◌⊎◌, inl, inr, min, ℕ, zero, suc, List, [], ◌∷◌, ◌++◌, Option, Some, None, All, Vec, Global, refl, ap, sym, subst, length, map, option_map, option_to_list, drop, slice_get, get_or, set, arith, vec_len, vec_capacity, append-nil, append_assoc}
+use Rattle.std.proofs.Common.{◌≡◌, ◌≢◌, ◌∙◌, ◌+◌, ◌-◌, ◌*◌, ◌/◌, ◌%◌, ◌<◌, ◌≤◌, ◌⊎◌, inl, inr, ℕ, zero, suc, List, [], ◌∷◌, ◌++◌, Some, None, All, Vec, Global, refl, ap, sym, subst, length, map, option_map, option_to_list, drop, slice_get, get_or, set, arith, vec_capacity, append-nil, append_assoc}
 use Rattle.std.proofs.Math.Nat.{div-add-mod, div-lt_iff_lt-mul, div-eq_of_lt, div-eq-sub-div, mod-eq-sub-mod}
 use Rattle.std.proofs.Math.ListN.{length-set, length-append}
 use Rattle.std.proofs.lemmas.Nat.{mod_below}
 use Rattle.std.proofs.lemmas.Bool.{cases_lt}
 use Rattle.std.proofs.lemmas.Option.{slice_get_past, slice_get_within, slice_get-get_or, slice_get-map}
-use Rattle.std.proofs.lemmas.List.{get_or-map, get_or-set_same, get_or-set_other, get_or_past, map-set, length-map}
+use Rattle.std.proofs.lemmas.List.{get_or-map, get_or-set_same, get_or-set_other, map-set, length-map}
 use Rattle.std.proofs.lemmas.List.Elements.{All-set}
 use Rattle.std.proofs.lemmas.Simd.{map-map}
 use Rattle.std.proofs.lemmas.Grind.{div_ceil_times}

@@ -1,7 +1,6 @@
-use Rattle.std.proofs.Common.{◌≡◌, ◌∙◌, ◌≤◌, All, subst, vec_capacity, ◌+◌, ◌%◌, ◌<◌, ℕ, List, Vec, Global, rules, arith, ap, sym, length, map, get_or, refl}
+use Rattle.std.proofs.Common.{◌≡◌, ◌∙◌, ◌≤◌, All, subst, vec_capacity, ◌+◌, ◌%◌, ◌<◌, ℕ, rules, arith, ap, sym, length, map}
 use Rattle.std.specs.Int.{div_ceil}
 use Rattle.std.specs.Vec.Iter.{into_iter_items}
-use Rattle.mbj_types.specs.declared.job.Job.{Job}
 use Rattle.mbjobs.proofs.Deals.{IsDealing, dealing_start, dealing_more, dealing_done, renumbered, room_more, turn_inside, turn_room}
 use Rattle.mbjobs.proofs.dealing.deal.Goals as goal
 

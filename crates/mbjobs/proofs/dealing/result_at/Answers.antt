@@ -1,4 +1,4 @@
-use Rattle.std.proofs.Common.{◌≡◌, ◌∙◌, ◌<◌, ◌%◌, ◌/◌, length, arith}
+use Rattle.std.proofs.Common.{◌<◌, ◌/◌, length, arith}
 use Rattle.std.proofs.lemmas.Nat.{mod_below}
 use Rattle.mbjobs.proofs.Deals.{some_list, place_below, item_is}
 use Rattle.mbjobs.proofs.dealing.result_at.Goals as goal
