@@ -1,11 +1,11 @@
 -- Lists to which items are dealt by turns.
-use Rattle.std.proofs.Common.{◌≡◌, ◌≢◌, ◌∙◌, ◌+◌, ◌-◌, ◌*◌, ◌/◌, ◌%◌, ◌<◌, ◌≤◌, ◌⊎◌, inl, inr, min, ℕ, zero, suc, List, [], ◌∷◌, ◌++◌, Option, Some, None, All, Vec, Global, refl, ap, sym, subst, length, map, option_map, option_to_list, drop, slice_get, get_or, set, arith, vec_len, vec_capacity, append-nil, append_assoc}
+use Rattle.std.proofs.Common.{◌≡◌, ◌≢◌, ◌∙◌, ◌+◌, ◌-◌, ◌*◌, ◌/◌, ◌%◌, ◌<◌, ◌≤◌, ◌⊎◌, inl, inr, ℕ, zero, suc, List, [], ◌∷◌, ◌++◌, Some, None, All, Vec, Global, refl, ap, sym, subst, length, map, option_map, option_to_list, drop, slice_get, get_or, set, arith, vec_capacity, append-nil, append_assoc}
 use Rattle.std.proofs.Math.Nat.{div-add-mod, div-lt_iff_lt-mul, div-eq_of_lt, div-eq-sub-div, mod-eq-sub-mod}
 use Rattle.std.proofs.Math.ListN.{length-set, length-append}
 use Rattle.std.proofs.lemmas.Nat.{mod_below}
 use Rattle.std.proofs.lemmas.Bool.{cases_lt}
 use Rattle.std.proofs.lemmas.Option.{slice_get_past, slice_get_within, slice_get-get_or, slice_get-map}
-use Rattle.std.proofs.lemmas.List.{get_or-map, get_or-set_same, get_or-set_other, get_or_past, map-set, length-map}
+use Rattle.std.proofs.lemmas.List.{get_or-map, get_or-set_same, get_or-set_other, map-set, length-map}
 use Rattle.std.proofs.lemmas.List.Elements.{All-set}
 use Rattle.std.proofs.lemmas.Simd.{map-map}
 use Rattle.std.proofs.lemmas.Grind.{div_ceil_times}
@@ -52,9 +52,9 @@ drop-all (x ∷ xs) (suc n) past = drop-all xs n (omega arith)
 
 equal_or_not : (i j : ℕ) → (i ≡ j) ⊎ (i ≢ j)
 equal_or_not i j = elim (cases_lt i j) [
-    inl below ↦ inr (omega arith)
+  | inl below ↦ inr (omega arith)
   | inr least ↦ elim (cases_lt j i) [ inl above ↦ inr (omega arith) | inr most ↦ inl (omega arith) ]
-  ]
+]
 
 -- a turn and a place are those of one item
 item_at : (i j n : ℕ) → i % n ≡ j % n → i / n ≡ j / n → i ≡ j
@@ -69,23 +69,23 @@ place_is_next {X} xs n lists some dealt =
     let none : slice_get list (length xs / n) ≡ None = dealt.each (length xs) ∙ slice_get_past xs (length xs) (omega arith) in
     let most : length list ≤ length xs / n = length_at_none list (length xs / n) none in
     elim (cases_lt (length xs) n) [
-      inl below ↦ (let first : length xs / n ≡ 0 = div-eq_of_lt below in omega arith)
-    | inr least ↦ (
-      let before : ℕ = length xs - n in
-      let inside : before < length xs = omega arith in
-      let turn : length xs % n ≡ before % n = mod-eq-sub-mod least in
-      let place : length xs / n ≡ before / n + 1 = div-eq-sub-div some least in
-      let stands : slice_get list (before / n) ≡ slice_get xs before
+      | inl below ↦ (let first : length xs / n ≡ 0 = div-eq_of_lt below in omega arith)
+      | inr least ↦ (
+          let before : ℕ = length xs - n in
+          let inside : before < length xs = omega arith in
+          let turn : length xs % n ≡ before % n = mod-eq-sub-mod least in
+          let place : length xs / n ≡ before / n + 1 = div-eq-sub-div some least in
+          let stands : slice_get list (before / n) ≡ slice_get xs before
           = ap (λ t. slice_get (get_or lists t []) (before / n)) turn ∙ dealt.each before in
-      elim xs as (λ ys. 0 < length ys → length list ≡ length xs / n) [
-        [] ↦ λ no. absurd (let bad : ⊥ = omega arith in bad)
-      | x ∷ rest ↦ λ _. (
-        let is : slice_get xs before ≡ Some (get_or xs before x) = slice_get-get_or xs before x inside in
-        let least_place : before / n < length list = slice_get_within list (before / n) _ (stands ∙ is) in
-        omega arith
-        )
-      ] (omega arith)
-      )
+          elim xs as (λ ys. 0 < length ys → length list ≡ length xs / n) [
+            | [] ↦ λ no. absurd (let bad : ⊥ = omega arith in bad)
+            | x ∷ rest ↦ λ _. (
+                let is : slice_get xs before ≡ Some (get_or xs before x) = slice_get-get_or xs before x inside in
+                let least_place : before / n < length list = slice_get_within list (before / n) _ (stands ∙ is) in
+                omega arith
+                )
+          ] (omega arith)
+          )
     ]
 
 -- the next item goes behind the list whose turn it is
@@ -102,24 +102,24 @@ dealt_more {X} xs x n lists some dealt =
     record {
       count = length-set lists turn (list ++ x ∷ []) ∙ count;
       each = λ i. elim (equal_or_not i (length xs)) [
-          inl last ↦ ap (λ j. slice_get (get_or more (j % n) []) (j / n)) last
+        | inl last ↦ ap (λ j. slice_get (get_or more (j % n) []) (j / n)) last
             ∙ ap (λ l. slice_get l (length xs / n)) here
             ∙ ap (λ k. slice_get (list ++ x ∷ []) k) (sym place)
             ∙ snoc_same list x ∙ sym (snoc_same xs x) ∙ ap (λ j. slice_get (xs ++ x ∷ []) j) (sym last)
         | inr other ↦ elim (equal_or_not (i % n) turn) [
-            inl same ↦ (
+          | inl same ↦ (
               let away : i / n ≢ length list = λ e. other (item_at i (length xs) n same (e ∙ place)) in
               ap (λ t. slice_get (get_or more t []) (i / n)) same
               ∙ ap (λ l. slice_get l (i / n)) here
               ∙ snoc_other list x (i / n) away
               ∙ ap (λ t. slice_get (get_or lists t []) (i / n)) (sym same)
               ∙ dealt.each i ∙ sym (snoc_other xs x i other)
-            )
+              )
           | inr apart ↦
               ap (λ l. slice_get l (i / n)) (get_or-set_other lists turn (i % n) (list ++ x ∷ []) [] apart)
               ∙ dealt.each i ∙ sym (snoc_other xs x i other)
-          ]
-        ];
+        ]
+      ];
     }
 
 -- ---- as the lists are made
@@ -191,14 +191,14 @@ pub dealing_more : {X : Type 0} {items rest left : List X} {i n : ℕ} (lists : 
     → IsDealing items rest (i + 1) n (map (λ l. l.items) (set lists (i % n) new))
 dealing_more {X} {items} {rest} {left} {i} {n} lists list new x some dealing first is more =
     let F : ℕ → Type 0 = λ j. AreDealt (dealing.dealt ++ x ∷ []) n
-        (set (map (λ l. l.items) lists) (j % n) (get_or (map (λ l. l.items) lists) (j % n) [] ++ x ∷ [])) in
+    (set (map (λ l. l.items) lists) (j % n) (get_or (map (λ l. l.items) lists) (j % n) [] ++ x ∷ [])) in
     let G : List (List X) → Type 0 = λ ls. AreDealt (dealing.dealt ++ x ∷ []) n ls in
     let old : list.items ≡ get_or (map (λ l. l.items) lists) (i % n) [] = list_items lists list (i % n) (turn_inside lists some dealing) is in
     let written : set (map (λ l. l.items) lists) (i % n) (get_or (map (λ l. l.items) lists) (i % n) [] ++ x ∷ [])
-          ≡ map (λ l. l.items) (set lists (i % n) new)
-        = ap (λ l. set (map (λ v. v.items) lists) (i % n) (l ++ x ∷ [])) (sym old)
-          ∙ ap (λ l. set (map (λ v. v.items) lists) (i % n) l) (sym more)
-          ∙ sym (map-set (λ l. l.items) lists (i % n) new) in
+    ≡ map (λ l. l.items) (set lists (i % n) new)
+    = ap (λ l. set (map (λ v. v.items) lists) (i % n) (l ++ x ∷ [])) (sym old)
+    ∙ ap (λ l. set (map (λ v. v.items) lists) (i % n) l) (sym more)
+    ∙ sym (map-set (λ l. l.items) lists (i % n) new) in
     record {
       dealt = dealing.dealt ++ x ∷ [];
       parts = append_assoc dealing.dealt (x ∷ []) rest ∙ ap (λ l. dealing.dealt ++ l) (sym first) ∙ dealing.parts;
@@ -221,7 +221,7 @@ pub dealing_done : {X : Type 0} {items rest : List X} {i n : ℕ} {lists : List 
 dealing_done {X} {items} {rest} {i} {n} {lists} none dealing =
     let G : List X → Type 0 = λ l. AreDealt l n lists in
     let whole : dealing.dealt ≡ items = sym (append-nil dealing.dealt)
-        ∙ ap (λ l. dealing.dealt ++ l) (sym (nil_of_length rest none)) ∙ dealing.parts in
+    ∙ ap (λ l. dealing.dealt ++ l) (sym (nil_of_length rest none)) ∙ dealing.parts in
     subst G whole dealing.by_turns
 
 -- the number under another name

@@ -1,5 +1,5 @@
 -- The lines of results, written one after another.
-use Rattle.std.proofs.Common.{Result, Ok, Err, OnErr, ◌≡◌, ◌∙◌, ◌+◌, ◌++◌, [], ◌∷◌, ap, sym, subst, refl, ℕ, zero, suc, List, Option, Some, None, arith, drop, slice_get}
+use Rattle.std.proofs.Common.{Result, Ok, Err, OnErr, ◌≡◌, ◌+◌, ◌++◌, [], ap, sym, subst, refl, ℕ, List, Option, Some, drop, slice_get}
 use Rattle.std.specs.Io.KnownBytes.{Appends}
 use Rattle.std.proofs.KnownBytes.{Appends-nil}
 use Rattle.mbj_types.specs.declared.done.Done.{Done}

@@ -22,7 +22,11 @@ pub(crate) fn result_at(lists: &[Vec<Done>], number: u32) -> &Done
 /// A list for each submitter, without jobs as yet and with room for `capacity` of them.
 ///
 /// Answers `AllocError` for want of memory.
-fn empty_lists(alloc: Global, submitters: usize, capacity: usize) -> Result<Vec<Vec<Job>>, AllocError>
+fn empty_lists(
+    alloc: Global,
+    submitters: usize,
+    capacity: usize,
+) -> Result<Vec<Vec<Job>>, AllocError>
     ensures count { IfOk result (λ lists. length lists.items ≡ submitters) }
     ensures empty { IfOk result (λ lists. All (λ list. list.items ≡ []) lists.items) }
     ensures room { IfOk result (λ lists. All (λ list. capacity ≤ vec_capacity list) lists.items) }

@@ -1,5 +1,5 @@
 -- The jobs before those that are left are dealt, and there is room for the others.
-use Rattle.std.proofs.Common.{◌≡◌, ◌≤◌, All, length, map, vec_capacity}
+use Rattle.std.proofs.Common.{◌≤◌, All, length, map, vec_capacity}
 use Rattle.std.specs.Vec.Iter.{into_iter_items}
 use Rattle.std.specs.Int.{div_ceil}
 use Rattle.mbjobs.proofs.Deals.{IsDealing}

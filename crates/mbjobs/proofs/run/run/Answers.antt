@@ -1,4 +1,4 @@
-use Rattle.std.proofs.Common.{◌≡◌, ◌∙◌, ◌≤◌, ℕ, List, Vec, Global, length, map, ap, sym, subst, refl, arith}
+use Rattle.std.proofs.Common.{◌≡◌, ◌∙◌, ℕ, List, Vec, Global, length, map, ap, sym, subst, refl, arith}
 use Rattle.std.proofs.lemmas.List.{length-map}
 use Rattle.std.specs.Io.KnownBytes.{Appends}
 use Rattle.mbj_text.specs.Flow.{GainsPrefix}
@@ -46,11 +46,13 @@ answered s w input jobs results IsWritten reads are written = record {
 pub write_results-requires : goal.write_results-requires
 write_results-requires g c κs within =
     let all : c.len-count.result ≡ length c.in_ok-jobs.jobs.items = c.len-count.ensures ∙ c.in_ok-jobs.jobs.ok.0 in
-    let are = results_are c.in_ok-jobs.jobs.items c.len-count.result c.args.submitters c.in-Ok.results.items c.deref.result.now c.deref.ensures.value all c.in-Ok.ensures in
-    (within, (
-      results_dealt c.in_ok-jobs.jobs.items c.len-count.result c.args.submitters c.in-Ok.results.items c.deref.result.now c.deref.ensures.value all c.in-Ok.ensures,
-      (all ∙ sym (ap length are ∙ length-map c.in_ok-jobs.jobs.items result_of), omega (arith, all, c.in_ok-jobs.ensures.count))
-    ))
+    let are = results_are c.in_ok-jobs.jobs.items c.len-count.result c.args.submitters c.in-Ok.results.items c.deref.result.now c.deref.ensures.value all c.in-Ok.ensures in (
+      within,
+      (
+        results_dealt c.in_ok-jobs.jobs.items c.len-count.result c.args.submitters c.in-Ok.results.items c.deref.result.now c.deref.ensures.value all c.in-Ok.ensures,
+        (all ∙ sym (ap length are ∙ length-map c.in_ok-jobs.jobs.items result_of), omega (arith, all, c.in_ok-jobs.ensures.count)),
+      ),
+    )
 
 pub returns-in-Ok-write_results-clause-ok : goal.returns-in-Ok-write_results-clause-ok
 returns-in-Ok-write_results-clause-ok g c =
@@ -64,8 +66,8 @@ pub returns-clause-err : goal.returns-clause-err
 returns-clause-err g c = (
   c.in-Err-write_results.ensures.failed,
   answered c.args.submitters c.args._workers _ c.in_ok-jobs.jobs.items _
-    (λ t. GainsPrefix (g.O.Sink.held c.args.out.now) (g.O.Sink.held c.write_results.new.out) t) c.in_ok-jobs.ensures.read
-    (results_are c.in_ok-jobs.jobs.items c.len-count.result c.args.submitters c.in-Ok.results.items c.deref.result.now
-    c.deref.ensures.value (c.len-count.ensures ∙ c.in_ok-jobs.jobs.ok.0) c.in-Ok.ensures)
-    c.in-Err-write_results.ensures.err,
+      (λ t. GainsPrefix (g.O.Sink.held c.args.out.now) (g.O.Sink.held c.write_results.new.out) t) c.in_ok-jobs.ensures.read
+      (results_are c.in_ok-jobs.jobs.items c.len-count.result c.args.submitters c.in-Ok.results.items c.deref.result.now
+      c.deref.ensures.value (c.len-count.ensures ∙ c.in_ok-jobs.jobs.ok.0) c.in-Ok.ensures)
+      c.in-Err-write_results.ensures.err,
 )
