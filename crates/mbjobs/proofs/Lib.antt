@@ -1,1 +1,4 @@
 pub mod Drawing
+pub mod Made
+pub mod ResultLines
+pub mod Sums

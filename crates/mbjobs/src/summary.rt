@@ -9,11 +9,13 @@ ghost use Rattle.mbjobs.specs.Reading.{Fails, IsUntouched, stream};
 ghost use Rattle.mbjobs.specs.Summary.{gen_text, generated, summary_lines};
 
 use crate::cause::Cause;
-use crate::dealing::do_jobs;
+use crate::dealing::{do_jobs, result_at};
 use crate::generator::Generator;
 use crate::line::{Line, write_lines};
+use crate::line_sink::LineSink;
 use mbj_io::{Failed, Sink};
-use mbj_types::{Done, Job};
+use mbj_types::{Done, Job, Status};
+use sha2::{Digest, Sha256};
 use std::alloc::{AllocError, Global};
 use std::thread::Threads;
 
@@ -40,12 +42,22 @@ fn summarize(lists: &[Vec<Done>], count: u32) -> [Line; 5]
     requires limit { count ≤ JOB_LIMIT }
     ensures { result ≡ summary_lines (map result_of (generated count seed)) }
 {
+    let mut accepted = 0;
+    let mut bytes = 0;
+    let mut hasher = Sha256::new();
+    for number in 0..count {
+        let done = result_at(lists, number);
+        let line = LineSink::of(number, done);
+        accepted += u32::from(done.status == Status::Ok);
+        bytes += line.as_bytes().len() as u64;
+        hasher.update(line.as_bytes());
+    }
     [
         Line::Jobs(count),
-        Line::Accepted(0),
-        Line::Invalid(0),
-        Line::Bytes(0),
-        Line::Sha256([0; 32]),
+        Line::Accepted(accepted),
+        Line::Invalid(count - accepted),
+        Line::Bytes(bytes),
+        Line::Sha256(hasher.finalize()),
     ]
 }
 
