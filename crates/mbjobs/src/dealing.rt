@@ -1,4 +1,4 @@
-ghost use Rattle.std.specs.Prelude.{◌≡◌, ◌<◌, ◌≤◌, IfOk, List, length, map, slice_get, Some};
+ghost use Rattle.std.specs.Prelude.{◌≡◌, ◌<◌, ◌≤◌, [], All, IfOk, List, length, map, slice_get, Some, vec_capacity};
 ghost use Rattle.mbj_types.specs.declared.done.Done.{Done};
 ghost use Rattle.mbj_types.specs.Result.{result_of};
 ghost use Rattle.mbjobs.specs.Dealing.{AreDealt};
@@ -19,6 +19,22 @@ pub(crate) fn result_at(lists: &[Vec<Done>], number: u32) -> &Done
     &lists[number as usize % submitters][number as usize / submitters]
 }
 
+/// A list for each submitter, without jobs as yet and with room for `capacity` of them.
+///
+/// Answers `AllocError` for want of memory.
+fn empty_lists(alloc: Global, submitters: usize, capacity: usize) -> Result<Vec<Vec<Job>>, AllocError>
+    ensures count { IfOk result (λ lists. length lists.items ≡ submitters) }
+    ensures empty { IfOk result (λ lists. All (λ list. list.items ≡ []) lists.items) }
+    ensures room { IfOk result (λ lists. All (λ list. capacity ≤ vec_capacity list) lists.items) }
+{
+    let mut lists = Vec::with_capacity(alloc, submitters)?;
+    for _ in 0..submitters {
+        let list = Vec::with_capacity(alloc, capacity)?;
+        lists.push_reserved(list);
+    }
+    Ok(lists)
+}
+
 /// Deals jobs to submitters by turns: job i is that of submitter i modulo their number.
 ///
 /// Answers `AllocError` for want of memory.
@@ -27,12 +43,9 @@ fn deal(alloc: Global, jobs: Vec<Job>, submitters: u32) -> Result<Vec<Vec<Job>>,
     ensures { IfOk result (λ lists. AreDealt jobs.items submitters (map (λ list. list.items) lists.items)) }
 {
     let submitters = submitters as usize;
-    let mut lists = Vec::with_capacity(alloc, submitters)?;
-    for _ in 0..submitters {
-        lists.push(Vec::with_capacity(alloc, jobs.len().div_ceil(submitters))?)?;
-    }
+    let mut lists = empty_lists(alloc, submitters, jobs.len().div_ceil(submitters))?;
     for (i, job) in jobs.into_iter().enumerate() {
-        lists[i % submitters].push(job)?;
+        lists[i % submitters].push_reserved(job);
     }
     Ok(lists)
 }
