@@ -1,52 +1,101 @@
--- A right answer is what the file's relation says, and no other.
-use Rattle.std.proofs.Common.{◌≡◌, inl, inr, subst, refl, ℕ, List, [], ◌∷◌, Result, Ok, Err, arith}
+-- Three relations that one outcome tells apart, and answers that are right by them.
+use Rattle.std.proofs.Common.{◌≡◌, ◌⊎◌, ◌∙◌, inl, inr, sym, subst, refl, ℕ, Result, Ok, Err}
 use Rattle.std.specs.Prelude.{IfOk}
-use Rattle.std.specs.declared.vec.Vec.{Vec}
-use Rattle.std.specs.declared.alloc.Global.{Global}
-use Rattle.mbj_types.specs.declared.job.Job.{Job}
 use Rattle.mbj_text.specs.declared.fault.TextFault.{TextFault}
 use Rattle.mbj_text.specs.declared.fault.TextFault.TheVariants as text_fault
-use Rattle.mbj_text.specs.File.{Reads, Bad, Over, Answers, IsOkOnly, IsErrOnly}
-use Rattle.mbj_text.proofs.FileLaws.{reads_not_bad, reads_not_over, bad_not_over, reads_once, bad_once, over_once}
+use Rattle.mbj_text.specs.Answer.{Answers, IsOkOnly, IsErrOnly, ExactlyOne}
 
--- what `read_file` may answer
-abbrev pub Answer : Type 0
-Answer = Result (Vec Job Global) TextFault
+-- each relation says what the outcome is
+pub record Tells {V : Type 0} (Good : V → Type 0) (Bad : ℕ → ℕ → Type 0) (Over : ℕ → Type 0) (outcome : Result V TextFault) : Type 0 where
+  pub good : (v : V) → Good v → outcome ≡ Ok v
+  pub bad : (line field : ℕ) → Bad line field → outcome ≡ Err (text_fault.Line line field)
+  pub over : (line : ℕ) → Over line → outcome ≡ Err (text_fault.Limit line)
+
+module _ {V : Type 0} (Good : V → Type 0) (Bad : ℕ → ℕ → Type 0) (Over : ℕ → Type 0) (outcome : Result V TextFault) (tells : Tells Good Bad Over outcome) where
+  -- ---- the relations exclude one another
+
+  -- what is good isn't bad
+  pub good_not_bad : (v : V) (line field : ℕ) → Good v → Bad line field → ⊥
+  good_not_bad v line field a b = let both = sym (tells.good v a) ∙ tells.bad line field b in cc
+
+  -- what is good isn't too long
+  pub good_not_over : (v : V) (line : ℕ) → Good v → Over line → ⊥
+  good_not_over v line a b = let both = sym (tells.good v a) ∙ tells.over line b in cc
+
+  -- what is bad isn't too long
+  pub bad_not_over : (line field at : ℕ) → Bad line field → Over at → ⊥
+  bad_not_over line field at a b = let both = sym (tells.bad line field a) ∙ tells.over at b in cc
+
+  -- it is good in one way
+  pub good_once : (v w : V) → Good v → Good w → v ≡ w
+  good_once v w a b = let both = sym (tells.good v a) ∙ tells.good w b in cc
+
+  -- it has one first fault
+  pub bad_once : (line field line' field' : ℕ) → Bad line field → Bad line' field' → (line ≡ line') × (field ≡ field')
+  bad_once line field line' field' a b =
+      let both = sym (tells.bad line field a) ∙ tells.bad line' field' b in
+      let faults : text_fault.Line line field ≡ text_fault.Line line' field' = cc in
+      let lines : line ≡ line' = cc in
+      let fields : field ≡ field' = cc in
+      (lines, fields)
+
+  -- it has one line that is one too many
+  pub over_once : (line line' : ℕ) → Over line → Over line' → line ≡ line'
+  over_once line line' a b = let both = sym (tells.over line a) ∙ tells.over line' b in cc
 
 -- ---- each answer has its relation
 
--- jobs
-pub ok_reads : (bytes : List ℕ) (r : Answer) → Answers bytes r → IfOk r (λ v. Reads bytes v.items)
-ok_reads bytes (Ok v) a = a
-ok_reads bytes (Err e) a = tt
+module _ {A : Type 0} (Good : A → Type 0) (Bad : ℕ → ℕ → Type 0) (Over : ℕ → Type 0) where
+  -- what is read
+  pub ok_is_good : (r : Result A TextFault) → Answers Good Bad Over r → IfOk r Good
+  ok_is_good (Ok v) a = a
+  ok_is_good (Err e) a = tt
 
--- a bad line
-pub line_is_bad : (bytes : List ℕ) (r : Answer) → Answers bytes r → (line field : ℕ) → r ≡ Err (text_fault.Line line field) → Bad bytes line field
-line_is_bad bytes r a line field is = let P : Answer → Type 0 = λ r. Answers bytes r in subst P is a
+  -- a bad line
+  pub line_is_bad : (r : Result A TextFault) → Answers Good Bad Over r → (line field : ℕ) → r ≡ Err (text_fault.Line line field) → Bad line field
+  line_is_bad r a line field is = let P : Result A TextFault → Type 0 = λ r. Answers Good Bad Over r in subst P is a
 
--- the limit
-pub limit_is_over : (bytes : List ℕ) (r : Answer) → Answers bytes r → (line : ℕ) → r ≡ Err (text_fault.Limit line) → Over bytes line
-limit_is_over bytes r a line is = let P : Answer → Type 0 = λ r. Answers bytes r in subst P is a
+  -- the limit
+  pub limit_is_over : (r : Result A TextFault) → Answers Good Bad Over r → (line : ℕ) → r ≡ Err (text_fault.Limit line) → Over line
+  limit_is_over r a line is = let P : Result A TextFault → Type 0 = λ r. Answers Good Bad Over r in subst P is a
 
--- ---- each relation has its answer
+-- ---- each relation has its answer, where a value is seen as what it stands for
 
--- a good file's answer
-pub reads_only : (bytes : List ℕ) (r : Answer) → Answers bytes r → (jobs : List Job) → Reads bytes jobs → IsOkOnly r (λ v. v.items ≡ jobs)
-reads_only bytes (Ok v) a jobs s = reads_once bytes v.items jobs a s
-reads_only bytes (Err (text_fault.Line line field)) a jobs s = absurd (reads_not_bad bytes jobs line field s a)
-reads_only bytes (Err (text_fault.Limit line)) a jobs s = absurd (reads_not_over bytes jobs line s a)
-reads_only bytes (Err text_fault.Memory) a jobs s = refl
+module _ {A V : Type 0} (view : A → V) (Good : V → Type 0) (Bad : ℕ → ℕ → Type 0) (Over : ℕ → Type 0) (outcome : Result V TextFault) (tells : Tells Good Bad Over outcome) where
+  -- the answer where it is good
+  pub good_only : (r : Result A TextFault) → Answers (λ x. Good (view x)) Bad Over r → (v : V) → Good v → IsOkOnly r (λ x. view x ≡ v)
+  good_only (Ok x) a v s = good_once Good Bad Over outcome tells (view x) v a s
+  good_only (Err (text_fault.Line line field)) a v s = absurd (good_not_bad Good Bad Over outcome tells v line field s a)
+  good_only (Err (text_fault.Limit line)) a v s = absurd (good_not_over Good Bad Over outcome tells v line s a)
+  good_only (Err text_fault.Memory) a v s = refl
 
--- a bad file's answer
-pub bad_only : (bytes : List ℕ) (r : Answer) → Answers bytes r → (line field : ℕ) → Bad bytes line field → IsErrOnly r (text_fault.Line line field)
-bad_only bytes (Ok v) a line field b = absurd (reads_not_bad bytes v.items line field a b)
-bad_only bytes (Err (text_fault.Line line' field')) a line field b = let same = bad_once bytes line' field' line field a b in inl (cc (same.0, same.1))
-bad_only bytes (Err (text_fault.Limit line')) a line field b = absurd (bad_not_over bytes line field line' b a)
-bad_only bytes (Err text_fault.Memory) a line field b = inr refl
+  -- the answer where it is bad
+  pub bad_only : (r : Result A TextFault) → Answers (λ x. Good (view x)) Bad Over r → (line field : ℕ) → Bad line field → IsErrOnly r (text_fault.Line line field)
+  bad_only (Ok x) a line field b = absurd (good_not_bad Good Bad Over outcome tells (view x) line field a b)
+  bad_only (Err (text_fault.Line line' field')) a line field b = let same = bad_once Good Bad Over outcome tells line' field' line field a b in inl (cc (same.0, same.1))
+  bad_only (Err (text_fault.Limit line')) a line field b = absurd (bad_not_over Good Bad Over outcome tells line field line' b a)
+  bad_only (Err text_fault.Memory) a line field b = inr refl
 
--- the answer at a file that is too long
-pub over_only : (bytes : List ℕ) (r : Answer) → Answers bytes r → (line : ℕ) → Over bytes line → IsErrOnly r (text_fault.Limit line)
-over_only bytes (Ok v) a line o = absurd (reads_not_over bytes v.items line a o)
-over_only bytes (Err (text_fault.Line line' field')) a line o = absurd (bad_not_over bytes line' field' line a o)
-over_only bytes (Err (text_fault.Limit line')) a line o = let same = over_once bytes line' line a o in inl (cc same)
-over_only bytes (Err text_fault.Memory) a line o = inr refl
+  -- the answer where it is too long
+  pub over_only : (r : Result A TextFault) → Answers (λ x. Good (view x)) Bad Over r → (line : ℕ) → Over line → IsErrOnly r (text_fault.Limit line)
+  over_only (Ok x) a line o = absurd (good_not_over Good Bad Over outcome tells (view x) line a o)
+  over_only (Err (text_fault.Line line' field')) a line o = absurd (bad_not_over Good Bad Over outcome tells line' field' line a o)
+  over_only (Err (text_fault.Limit line')) a line o = let same = over_once Good Bad Over outcome tells line' line a o in inl (cc same)
+  over_only (Err text_fault.Memory) a line o = inr refl
+
+-- ---- exactly one holds
+
+module _ {V : Type 0} (Good : V → Type 0) (Bad : ℕ → ℕ → Type 0) (Over : ℕ → Type 0) where
+  -- one of the three holds
+  abbrev pub Fate : Type 0
+  Fate = ((v : V) × Good v) ⊎ (((line : ℕ) × (field : ℕ) × Bad line field) ⊎ ((line : ℕ) × Over line))
+
+  -- and the other two don't
+  pub exactly_one : (outcome : Result V TextFault) → Tells Good Bad Over outcome → Fate
+      → ExactlyOne ((v : V) × Good v) ((line : ℕ) × (field : ℕ) × Bad line field) ((line : ℕ) × Over line)
+  exactly_one outcome tells (inl g) =
+      inl (g, λ b. good_not_bad Good Bad Over outcome tells g.0 b.0 b.1 g.1 b.2, λ o. good_not_over Good Bad Over outcome tells g.0 o.0 g.1 o.1)
+  exactly_one outcome tells (inr (inl b)) =
+      inr (inl (λ g. good_not_bad Good Bad Over outcome tells g.0 b.0 b.1 g.1 b.2, b, λ o. bad_not_over Good Bad Over outcome tells b.0 b.1 o.0 b.2 o.1))
+  exactly_one outcome tells (inr (inr o)) =
+      inr (inr (λ g. good_not_over Good Bad Over outcome tells g.0 o.0 g.1 o.1, λ b. bad_not_over Good Bad Over outcome tells b.0 b.1 o.0 b.2 o.1, o))

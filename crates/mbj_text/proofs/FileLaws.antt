@@ -1,5 +1,5 @@
--- Reading a file line after line, and that each file is exactly one of good, bad and too long.
-use Rattle.std.proofs.Common.{◌≡◌, ◌≢◌, ◌⊎◌, ◌∙◌, ◌==◌, ◌≤◌, ◌+◌, ◌++◌, inl, inr, ap, sym, subst, refl, ℕ, Bool, false, cond, List, [], ◌∷◌, Result, Ok, Err, length, arith, append_assoc, append-nil, length-append, eq-eqb}
+-- Reading job lines one after the other, and that each file is exactly one of good, bad and too long.
+use Rattle.std.proofs.Common.{◌≡◌, ◌≢◌, ◌∙◌, ◌==◌, ◌≤◌, ◌+◌, ◌++◌, inl, inr, ap, sym, subst, refl, ℕ, Bool, false, cond, List, [], ◌∷◌, Result, Ok, Err, length, arith, append_assoc, append-nil, length-append, eq-eqb}
 use Rattle.std.proofs.lemmas.Bool.{ne_eqb}
 use Rattle.std.proofs.lemmas.Bool.Decides.{eqb_tells}
 use Rattle.std.proofs.lemmas.Slice.Zip.{all_zipped_more}
@@ -9,71 +9,79 @@ use Rattle.mbj_text.specs.declared.fault.LineFault.{LineFault}
 use Rattle.mbj_text.specs.declared.fault.LineFault.TheVariants as line_fault
 use Rattle.mbj_text.specs.declared.fault.TextFault.{TextFault}
 use Rattle.mbj_text.specs.declared.fault.TextFault.TheVariants as text_fault
-use Rattle.mbj_text.specs.Cut.{Numbered, job_lines}
+use Rattle.std.specs.declared.vec.Vec.{Vec}
+use Rattle.std.specs.declared.alloc.Global.{Global}
+use Rattle.mbj_text.specs.Cut.{Numbered, kept_lines}
 use Rattle.mbj_text.specs.Spelling.{Spells, IsBadLine}
-use Rattle.mbj_text.specs.File.{SpellAll, Reads, Bad, Over, Answers, EachFileIsOne, ReadsIsUnique, BadIsUnique, OverIsUnique}
+use Rattle.mbj_text.specs.Answer.{Answers}
+use Rattle.mbj_text.specs.File.{SpellAll, ReadsLines, BadLines, OverLines, Reads, Bad, Over, EachFileIsOne, ReadsIsUnique, BadIsUnique, OverIsUnique}
 use Rattle.mbj_text.specs.Reading.{job_of, Fails, fault_at}
 use Rattle.mbj_text.proofs.LineLaws.{job_back, fault_back, fault_read, line_total}
+use Rattle.mbj_text.proofs.AnswerLaws.{Tells, Fate, exactly_one, good_not_bad, good_not_over, bad_not_over as bad_not_over_by, good_once, bad_once as bad_once_by, over_once as over_once_by}
 
 -- ---- line after line
 
 -- the job lines before those that are left spell the jobs
-pub record SoFar (bytes : List ℕ) (left : List Numbered) (jobs : List Job) : Type 0 where
+pub record SoFar (all : List Numbered) (left : List Numbered) (jobs : List Job) : Type 0 where
   pub before : List Numbered
-  pub lines : job_lines bytes ≡ before ++ left
+  pub cut_so : all ≡ before ++ left
   pub good : SpellAll before jobs
   pub count : length jobs ≤ JOB_LIMIT
 
+-- the answer is right for these lines
+abbrev pub AnswersLines : List Numbered → Result (Vec Job Global) TextFault → Type 0
+AnswersLines all r = Answers (λ v. ReadsLines all v.items) (BadLines all) (OverLines all) r
+
 -- no line is read yet
-pub at_start : (bytes : List ℕ) → SoFar bytes (job_lines bytes) []
-at_start bytes = record { before = []; lines = refl; good = tt; count = omega arith }
+pub at_start : (all : List Numbered) → SoFar all (all) []
+at_start all = record { before = []; cut_so = refl; good = tt; count = omega arith }
 
 -- one more line is good
-pub one_more : (bytes : List ℕ) (left rest : List Numbered) (jobs : List Job) (n : ℕ) (text : List ℕ) (job : Job) → SoFar bytes left jobs
-    → left ≡ (n, text) ∷ rest → length jobs ≢ JOB_LIMIT → Spells text job → SoFar bytes rest (jobs ++ job ∷ [])
-one_more bytes left rest jobs n text job s next room spelled = record {
+pub one_more : (all : List Numbered) (left rest : List Numbered) (jobs : List Job) (n : ℕ) (text : List ℕ) (job : Job) → SoFar all left jobs
+    → left ≡ (n, text) ∷ rest → length jobs ≢ JOB_LIMIT → Spells text job → SoFar all rest (jobs ++ job ∷ [])
+one_more all left rest jobs n text job s next room spelled = record {
   before = s.before ++ (n, text) ∷ [];
-  lines = s.lines ∙ ap (λ (l : List Numbered). s.before ++ l) next ∙ sym (append_assoc s.before ((n, text) ∷ []) rest);
+  cut_so = s.cut_so ∙ ap (λ (l : List Numbered). s.before ++ l) next ∙ sym (append_assoc s.before ((n, text) ∷ []) rest);
   good = all_zipped_more (λ line job. Spells line.1 job) s.before jobs (n, text) job s.good spelled;
   count = omega (arith, s.count, room, length-append jobs (job ∷ []));
 }
 
 -- no line is left
-pub all_read : (bytes : List ℕ) (left : List Numbered) (jobs : List Job) → SoFar bytes left jobs → left ≡ [] → Reads bytes jobs
-all_read bytes left jobs s none =
-    let whole : s.before ≡ job_lines bytes = sym (s.lines ∙ ap (λ (l : List Numbered). s.before ++ l) none ∙ append-nil s.before) in
+pub all_read : (all : List Numbered) (left : List Numbered) (jobs : List Job) → SoFar all left jobs → left ≡ [] → ReadsLines all jobs
+all_read all left jobs s none =
+    let whole : s.before ≡ all = sym (s.cut_so ∙ ap (λ (l : List Numbered). s.before ++ l) none ∙ append-nil s.before) in
     let P : List Numbered → Type 0 = λ l. SpellAll l jobs in
     record { count = s.count; each = subst P whole s.good }
 
 -- the next line is bad
-pub next_is_bad : (bytes : List ℕ) (left rest : List Numbered) (jobs : List Job) (n : ℕ) (text : List ℕ) (f : ℕ) → SoFar bytes left jobs
-    → left ≡ (n, text) ∷ rest → length jobs ≢ JOB_LIMIT → IsBadLine text f → Bad bytes n f
-next_is_bad bytes left rest jobs n text f s next room bad = record {
+pub next_is_bad : (all : List Numbered) (left rest : List Numbered) (jobs : List Job) (n : ℕ) (text : List ℕ) (f : ℕ) → SoFar all left jobs
+    → left ≡ (n, text) ∷ rest → length jobs ≢ JOB_LIMIT → IsBadLine text f → BadLines all n f
+next_is_bad all left rest jobs n text f s next room bad = record {
   before = s.before;
   text = text;
   after = rest;
   jobs = jobs;
-  lines = s.lines ∙ ap (λ (l : List Numbered). s.before ++ l) next;
+  cut_so = s.cut_so ∙ ap (λ (l : List Numbered). s.before ++ l) next;
   good = s.good;
   count = omega (arith, s.count, room);
   bad = bad;
 }
 
 -- the next line's fault is that of the file
-pub stops : (bytes : List ℕ) (left rest : List Numbered) (jobs : List Job) (n : ℕ) (text : List ℕ) (fault : LineFault) → SoFar bytes left jobs
-    → left ≡ (n, text) ∷ rest → length jobs ≢ JOB_LIMIT → Fails fault (job_of text) → Answers bytes (Err (fault_at n fault))
-stops bytes left rest jobs n text (line_fault.Field f) s next room fails = next_is_bad bytes left rest jobs n text f s next room (fault_read text f fails)
-stops bytes left rest jobs n text line_fault.Memory s next room fails = tt
+pub stops : (all : List Numbered) (left rest : List Numbered) (jobs : List Job) (n : ℕ) (text : List ℕ) (fault : LineFault) → SoFar all left jobs
+    → left ≡ (n, text) ∷ rest → length jobs ≢ JOB_LIMIT → Fails fault (job_of text) → AnswersLines all (Err (fault_at n fault))
+stops all left rest jobs n text (line_fault.Field f) s next room fails = next_is_bad all left rest jobs n text f s next room (fault_read text f fails)
+stops all left rest jobs n text line_fault.Memory s next room fails = tt
 
 -- the next line is one too many
-pub next_is_over : (bytes : List ℕ) (left rest : List Numbered) (jobs : List Job) (n : ℕ) (text : List ℕ) → SoFar bytes left jobs
-    → left ≡ (n, text) ∷ rest → length jobs ≡ JOB_LIMIT → Over bytes n
-next_is_over bytes left rest jobs n text s next full = record {
+pub next_is_over : (all : List Numbered) (left rest : List Numbered) (jobs : List Job) (n : ℕ) (text : List ℕ) → SoFar all left jobs
+    → left ≡ (n, text) ∷ rest → length jobs ≡ JOB_LIMIT → OverLines all n
+next_is_over all left rest jobs n text s next full = record {
   before = s.before;
   text = text;
   after = rest;
   jobs = jobs;
-  lines = s.lines ∙ ap (λ (l : List Numbered). s.before ++ l) next;
+  cut_so = s.cut_so ∙ ap (λ (l : List Numbered). s.before ++ l) next;
   good = s.good;
   count = full;
 }
@@ -117,81 +125,81 @@ good_front before (p ∷ ps) (j ∷ js) rest (s, more) le =
     ∙ good_front (before ++ j ∷ []) ps js rest more (omega (arith, le, length-append before (j ∷ [])))
     ∙ ap (λ (l : List Job). outcome l rest) (append_assoc before (j ∷ []) js)
 
--- a good file gives its jobs
-reads_gives : (bytes : List ℕ) (jobs : List Job) → Reads bytes jobs → outcome [] (job_lines bytes) ≡ Ok jobs
+-- good lines give their jobs
+reads_gives : (lines : List Numbered) (jobs : List Job) → ReadsLines lines jobs → outcome [] lines ≡ Ok jobs
 unfolding outcome
-reads_gives bytes jobs r =
-    ap (outcome []) (sym (append-nil (job_lines bytes))) ∙ good_front [] (job_lines bytes) jobs [] r.each (omega (arith, r.count))
+reads_gives lines jobs r =
+    ap (outcome []) (sym (append-nil lines)) ∙ good_front [] lines jobs [] r.each (omega (arith, r.count))
 
--- a bad file gives its fault
-bad_gives : (bytes : List ℕ) (line f : ℕ) → Bad bytes line f → outcome [] (job_lines bytes) ≡ Err (text_fault.Line line f)
-bad_gives bytes line f b =
-    ap (outcome []) b.lines
+-- a bad line gives its fault
+bad_gives : (lines : List Numbered) (line f : ℕ) → BadLines lines line f → outcome [] lines ≡ Err (text_fault.Line line f)
+bad_gives lines line f b =
+    ap (outcome []) b.cut_so
     ∙ good_front [] b.before b.jobs ((line, b.text) ∷ b.after) b.good (omega (arith, b.count))
     ∙ one b.jobs (line, b.text) b.after
     ∙ ap (λ c. step b.jobs c (job_of b.text) line b.after) (ne_eqb (length b.jobs) JOB_LIMIT (λ full. omega (arith, full, b.count)))
     ∙ ap (λ r. step b.jobs false r line b.after) (fault_back b.text f b.bad)
 
--- a file that is too long gives the limit
-over_gives : (bytes : List ℕ) (line : ℕ) → Over bytes line → outcome [] (job_lines bytes) ≡ Err (text_fault.Limit line)
-over_gives bytes line o =
-    ap (outcome []) o.lines
+-- a line too many gives the limit
+over_gives : (lines : List Numbered) (line : ℕ) → OverLines lines line → outcome [] lines ≡ Err (text_fault.Limit line)
+over_gives lines line o =
+    ap (outcome []) o.cut_so
     ∙ good_front [] o.before o.jobs ((line, o.text) ∷ o.after) o.good (omega (arith, o.count))
     ∙ one o.jobs (line, o.text) o.after
     ∙ ap (λ c. step o.jobs c (job_of o.text) line o.after) (eq-eqb (length o.jobs) JOB_LIMIT o.count)
 
--- a good file isn't bad
-pub reads_not_bad : (bytes : List ℕ) (jobs : List Job) (line f : ℕ) → Reads bytes jobs → Bad bytes line f → ⊥
-reads_not_bad bytes jobs line f a b = let both = sym (reads_gives bytes jobs a) ∙ bad_gives bytes line f b in cc
+-- the outcome of job lines
+pub jobs_outcome : List Numbered → Result (List Job) TextFault
+jobs_outcome lines = outcome [] lines
 
--- a good file isn't too long
-pub reads_not_over : (bytes : List ℕ) (jobs : List Job) (line : ℕ) → Reads bytes jobs → Over bytes line → ⊥
-reads_not_over bytes jobs line a b = let both = sym (reads_gives bytes jobs a) ∙ over_gives bytes line b in cc
-
--- a bad file isn't too long
-pub bad_not_over : (bytes : List ℕ) (line f at : ℕ) → Bad bytes line f → Over bytes at → ⊥
-bad_not_over bytes line f at a b = let both = sym (bad_gives bytes line f a) ∙ over_gives bytes at b in cc
-
--- it spells one list of jobs
-pub reads_once : ReadsIsUnique
-reads_once bytes jobs others a b = let both = sym (reads_gives bytes jobs a) ∙ reads_gives bytes others b in cc
-
--- it has one first fault
-pub bad_once : BadIsUnique
-bad_once bytes line field line' field' a b =
-    let both = sym (bad_gives bytes line field a) ∙ bad_gives bytes line' field' b in
-    let faults : text_fault.Line line field ≡ text_fault.Line line' field' = cc in
-    let lines : line ≡ line' = cc in
-    let fields : field ≡ field' = cc in
-    (lines, fields)
-
--- it has one line that is one too many
-pub over_once : OverIsUnique
-over_once bytes line line' a b = let both = sym (over_gives bytes line a) ∙ over_gives bytes line' b in cc
+-- and it tells the three relations apart
+pub lines_tell : (lines : List Numbered) → Tells (ReadsLines lines) (BadLines lines) (OverLines lines) (jobs_outcome lines)
+unfolding jobs_outcome
+lines_tell lines = record { good = reads_gives lines; bad = bad_gives lines; over = over_gives lines }
 
 -- ---- one of the three holds
 
--- what a file is
-abbrev Fate : List ℕ → Type 0
-Fate bytes = ((jobs : List Job) × Reads bytes jobs) ⊎ (((line : ℕ) × (field : ℕ) × Bad bytes line field) ⊎ ((line : ℕ) × Over bytes line))
-
 -- reading on from the lines that are left tells
-fate_from : (bytes : List ℕ) (left : List Numbered) (jobs : List Job) → SoFar bytes left jobs → Fate bytes
-fate_from bytes [] jobs s = inl (jobs, all_read bytes [] jobs s refl)
-fate_from bytes ((n, text) ∷ rest) jobs s = elim (eqb_tells (length jobs) JOB_LIMIT) [
-  | inl full ↦ inr (inr (n, next_is_over bytes ((n, text) ∷ rest) rest jobs n text s refl full.1))
+fate_from : (all : List Numbered) (left : List Numbered) (jobs : List Job) → SoFar all left jobs → Fate (ReadsLines all) (BadLines all) (OverLines all)
+fate_from all [] jobs s = inl (jobs, all_read all [] jobs s refl)
+fate_from all ((n, text) ∷ rest) jobs s = elim (eqb_tells (length jobs) JOB_LIMIT) [
+  | inl full ↦ inr (inr (n, next_is_over all ((n, text) ∷ rest) rest jobs n text s refl full.1))
   | inr room ↦ elim (line_total text) [
-    | inl good ↦ fate_from bytes rest (jobs ++ good.0 ∷ []) (one_more bytes ((n, text) ∷ rest) rest jobs n text good.0 s refl room.1 good.1)
-    | inr bad ↦ inr (inl (n, bad.0, next_is_bad bytes ((n, text) ∷ rest) rest jobs n text bad.0 s refl room.1 bad.1))
+    | inl good ↦ fate_from all rest (jobs ++ good.0 ∷ []) (one_more all ((n, text) ∷ rest) rest jobs n text good.0 s refl room.1 good.1)
+    | inr bad ↦ inr (inl (n, bad.0, next_is_bad all ((n, text) ∷ rest) rest jobs n text bad.0 s refl room.1 bad.1))
   ]
 ]
 
--- and the other two don't hold
+-- of job lines
+pub fate_of_lines : (lines : List Numbered) → Fate (ReadsLines lines) (BadLines lines) (OverLines lines)
+fate_of_lines lines = fate_from lines lines [] (at_start lines)
+
+-- ---- files
+
+-- exactly one of the three holds
 pub one_of_three : EachFileIsOne
-one_of_three bytes = elim (fate_from bytes (job_lines bytes) [] (at_start bytes)) [
-  | inl r ↦ inl (r, λ b. reads_not_bad bytes r.0 b.0 b.1 r.1 b.2, λ o. reads_not_over bytes r.0 o.0 r.1 o.1)
-  | inr other ↦ elim other [
-    | inl b ↦ inr (inl (λ r. reads_not_bad bytes r.0 b.0 b.1 r.1 b.2, b, λ o. bad_not_over bytes b.0 b.1 o.0 b.2 o.1))
-    | inr o ↦ inr (inr (λ r. reads_not_over bytes r.0 o.0 r.1 o.1, λ b. bad_not_over bytes b.0 b.1 o.0 b.2 o.1, o))
-  ]
-]
+one_of_three bytes = exactly_one (Reads bytes) (Bad bytes) (Over bytes) (jobs_outcome (kept_lines bytes)) (lines_tell (kept_lines bytes)) (fate_of_lines (kept_lines bytes))
+
+-- a good file isn't bad
+pub reads_not_bad : (bytes : List ℕ) (jobs : List Job) (line f : ℕ) → Reads bytes jobs → Bad bytes line f → ⊥
+reads_not_bad bytes = good_not_bad (Reads bytes) (Bad bytes) (Over bytes) (jobs_outcome (kept_lines bytes)) (lines_tell (kept_lines bytes))
+
+-- a good file isn't too long
+pub reads_not_over : (bytes : List ℕ) (jobs : List Job) (line : ℕ) → Reads bytes jobs → Over bytes line → ⊥
+reads_not_over bytes = good_not_over (Reads bytes) (Bad bytes) (Over bytes) (jobs_outcome (kept_lines bytes)) (lines_tell (kept_lines bytes))
+
+-- a bad file isn't too long
+pub bad_not_over : (bytes : List ℕ) (line f at : ℕ) → Bad bytes line f → Over bytes at → ⊥
+bad_not_over bytes = bad_not_over_by (Reads bytes) (Bad bytes) (Over bytes) (jobs_outcome (kept_lines bytes)) (lines_tell (kept_lines bytes))
+
+-- it spells one list of jobs
+pub reads_once : ReadsIsUnique
+reads_once bytes = good_once (Reads bytes) (Bad bytes) (Over bytes) (jobs_outcome (kept_lines bytes)) (lines_tell (kept_lines bytes))
+
+-- it has one first fault
+pub bad_once : BadIsUnique
+bad_once bytes = bad_once_by (Reads bytes) (Bad bytes) (Over bytes) (jobs_outcome (kept_lines bytes)) (lines_tell (kept_lines bytes))
+
+-- it has one line that is one too many
+pub over_once : OverIsUnique
+over_once bytes = over_once_by (Reads bytes) (Bad bytes) (Over bytes) (jobs_outcome (kept_lines bytes)) (lines_tell (kept_lines bytes))

@@ -3,8 +3,11 @@ pub mod LineLemmas
 pub mod WordLaws
 pub mod ValueLaws
 pub mod LineLaws
+pub mod CommandLaws
+pub mod AnswerLaws
 pub mod FileLaws
 pub mod Names
-pub mod AnswerLaws
+pub mod ScriptLaws
+pub mod ReplayLaws
 pub mod Flows
 pub mod HexText

@@ -1,13 +1,13 @@
 -- A field is read exactly where it has its form, and a line where each of its fields has.
-use Rattle.std.proofs.Common.{◌≡◌, ◌≢◌, ◌⊎◌, ◌∙◌, ◌+◌, inl, inr, ap, sym, subst, refl, ℕ, suc, Bool, cond, List, [], ◌∷◌, Option, Some, None, Result, Ok, Err, length, arith, eq-eqb}
+use Rattle.std.proofs.Common.{◌≡◌, ◌⊎◌, ◌∙◌, ◌+◌, inl, inr, ap, sym, subst, refl, ℕ, suc, Bool, cond, List, [], ◌∷◌, Option, Some, None, Result, Ok, Err, length, arith, eq-eqb}
 use Rattle.std.specs.Option.{option_map_or}
 use Rattle.std.proofs.lemmas.Bool.{ne_eqb}
 use Rattle.std.proofs.lemmas.Bool.Decides.{eqb_tells}
 use Rattle.mbj_types.specs.declared.job.Job.{Job}
-use Rattle.mbj_text.specs.Spelling.{Spells, Spelled, SpellsFields, Value, Values, values, HasForm, Form, CipherWord, DirWord, OrderWord, AuthWord, Hex, Number, Small, forms, fields_of, IsFirstBad, IsBadLine}
-use Rattle.mbj_text.specs.Reading.{◌>>=◌, Cursor, at_start, value_of, fields_from, job_with, job_of}
+use Rattle.mbj_text.specs.Spelling.{Spells, Spelled, SpellsFields, Value, Values, values, HasForm, Form, CipherWord, DirWord, OrderWord, AuthWord, Hex, Number, Below, forms, fields_of, IsFirstBad, HasFault, IsBadLine}
+use Rattle.mbj_text.specs.Reading.{◌>>=◌, Cursor, value_of, fields_from, all_from, job_with, job_of}
 use Rattle.mbj_text.proofs.WordLaws.{cipher_read, cipher_back, dir_read, dir_back, order_read, order_back, auth_read, auth_back}
-use Rattle.mbj_text.proofs.ValueLaws.{bytes_read, bytes_back, number_read, number_back, small_read, small_back}
+use Rattle.mbj_text.proofs.ValueLaws.{bytes_read, bytes_back, number_read, number_back, below_read, below_back}
 
 -- ---- fields
 
@@ -19,7 +19,7 @@ value_read OrderWord t v h = order_read t v h
 value_read AuthWord t v h = auth_read t v h
 value_read Hex t v h = bytes_read t v h
 value_read Number t v h = number_read t v h
-value_read Small t v h = small_read t v h
+value_read (Below limit) t v h = below_read limit t v h
 
 -- what is spelled is read
 pub value_back : (form : Form) (t : List ℕ) (v : Value form) → Spelled form t v → value_of form t ≡ Some v
@@ -29,7 +29,7 @@ value_back OrderWord t v s = order_back t v s
 value_back AuthWord t v s = auth_back t v s
 value_back Hex t v s = bytes_back t v s
 value_back Number t v s = number_back t v s
-value_back Small t v s = small_back t v s
+value_back (Below limit) t v s = below_back limit t v s
 
 -- a field that isn't of its form is not read
 value_unread : (form : Form) (t : List ℕ) → ¬ (HasForm form t) → value_of form t ≡ None
@@ -88,41 +88,55 @@ spelled_count [] (t ∷ ts) vs s = absurd s
 spelled_count (form ∷ rest) [] vs s = absurd s
 spelled_count (form ∷ rest) (t ∷ ts) vs s = ap suc (spelled_count rest ts vs.1 s.1)
 
--- ---- the line
+-- ---- all fields that are left
 
--- what a line is read as, given the test of its number of fields
-abbrev counted : Bool → List ℕ → Result Job ℕ
-counted b line = cond b (fields_from forms (at_start line) (λ vs. Ok (job_with vs))) (Err 0)
-
--- a line with 14 fields is read field by field
-right_count : (line : List ℕ) → length (fields_of line) ≡ length forms → job_of line ≡ fields_from forms (at_start line) (λ vs. Ok (job_with vs))
-unfolding job_of
-right_count line h = ap (λ b. counted b line) (eq-eqb (length (fields_of line)) (length forms) h)
-
--- and another isn't
-wrong_count : (line : List ℕ) → length (fields_of line) ≢ length forms → job_of line ≡ Err 0
-unfolding job_of
-wrong_count line h = ap (λ b. counted b line) (ne_eqb (length (fields_of line)) (length forms) h)
+-- what they are read as, given the test of their number
+abbrev counted : {A : Type 0} → Bool → (fs : List Form) → Cursor → (Values fs → A) → Result A ℕ
+counted b fs cursor make = cond b (fields_from fs cursor (λ vs. Ok (make vs))) (Err 0)
 
 -- what is spelled is read
-pub job_back : (line : List ℕ) (j : Job) → Spells line j → job_of line ≡ Ok j
-job_back line j s =
-    right_count line (spelled_count forms (fields_of line) (values j) s)
-    ∙ fields_back 0 forms (fields_of line) (values j) (λ vs. Ok (job_with vs)) s
+pub all_back : {A : Type 0} (n : ℕ) (fs : List Form) (texts : List (List ℕ)) (vs : Values fs) (make : Values fs → A)
+    → SpellsFields fs texts vs → all_from fs (record { taken = n; left = texts }) make ≡ Ok (make vs)
+all_back n fs texts vs make s =
+    ap (λ b. counted b fs (record { taken = n; left = texts }) make) (eq-eqb (length texts) (length fs) (spelled_count fs texts vs s))
+    ∙ fields_back n fs texts vs (λ vs. Ok (make vs)) s
 
 -- a fault is found
-pub fault_back : (line : List ℕ) (f : ℕ) → IsBadLine line f → job_of line ≡ Err f
-fault_back line f (inl count) = wrong_count line count.1 ∙ ap (λ (n : ℕ). Err n) (sym count.0)
-fault_back line f (inr (count, bad)) = right_count line count ∙ first_bad_back 0 forms (fields_of line) f (λ vs. Ok (job_with vs)) bad
+pub all_fault_back : {A : Type 0} (n : ℕ) (fs : List Form) (texts : List (List ℕ)) (f : ℕ) (make : Values fs → A)
+    → HasFault (n + 1) fs texts f → all_from fs (record { taken = n; left = texts }) make ≡ Err f
+all_fault_back n fs texts f make (inl count) =
+    ap (λ b. counted b fs (record { taken = n; left = texts }) make) (ne_eqb (length texts) (length fs) count.1) ∙ ap (λ (k : ℕ). Err k) (sym count.0)
+all_fault_back n fs texts f make (inr (count, bad)) =
+    ap (λ b. counted b fs (record { taken = n; left = texts }) make) (eq-eqb (length texts) (length fs) count)
+    ∙ first_bad_back n fs texts f (λ vs. Ok (make vs)) bad
 
 -- one of the two holds
-pub line_total : (line : List ℕ) → ((j : Job) × Spells line j) ⊎ ((f : ℕ) × IsBadLine line f)
-line_total line = elim (eqb_tells (length (fields_of line)) (length forms)) [
-  | inl same ↦ elim (fields_total 1 forms (fields_of line) same.1) [
-    | inl good ↦ inl (job_with good.0, good.1)
+pub all_total : (n : ℕ) (fs : List Form) (texts : List (List ℕ)) → ((vs : Values fs) × SpellsFields fs texts vs) ⊎ ((f : ℕ) × HasFault n fs texts f)
+all_total n fs texts = elim (eqb_tells (length texts) (length fs)) [
+  | inl same ↦ elim (fields_total n fs texts same.1) [
+    | inl good ↦ inl good
     | inr bad ↦ inr (bad.0, inr (same.1, bad.1))
   ]
   | inr other ↦ inr (0, inl (refl, other.1))
+]
+
+-- ---- the line
+
+-- what is spelled is read
+pub job_back : (line : List ℕ) (j : Job) → Spells line j → job_of line ≡ Ok j
+unfolding job_of
+job_back line j s = all_back 0 forms (fields_of line) (values j) job_with s
+
+-- a fault is found
+pub fault_back : (line : List ℕ) (f : ℕ) → IsBadLine line f → job_of line ≡ Err f
+unfolding job_of
+fault_back line f bad = all_fault_back 0 forms (fields_of line) f job_with bad
+
+-- one of the two holds
+pub line_total : (line : List ℕ) → ((j : Job) × Spells line j) ⊎ ((f : ℕ) × IsBadLine line f)
+line_total line = elim (all_total 1 forms (fields_of line)) [
+  | inl good ↦ inl (job_with good.0, good.1)
+  | inr bad ↦ inr bad
 ]
 
 -- what is read is spelled

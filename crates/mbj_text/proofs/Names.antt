@@ -1,7 +1,7 @@
 -- The table of the forms and the record of the fields' names say the same.
 use Rattle.std.proofs.Common.{◌≡◌, ◌∙◌, ap, sym, subst, refl, drop, ℕ, List, [], ◌∷◌}
 use Rattle.mbj_types.specs.declared.job.Job.{Job}
-use Rattle.mbj_text.specs.Spelling.{Spells, SpellsFields, SpellsByName, Spelled, Value, Values, values, Form, CipherWord, DirWord, OrderWord, AuthWord, Hex, Number, Small, forms, fields_of}
+use Rattle.mbj_text.specs.Spelling.{Spells, SpellsFields, SpellsByName, Spelled, Value, Values, values, Form, CipherWord, DirWord, OrderWord, AuthWord, Hex, Number, Below, forms, fields_of}
 use Rattle.mbj_text.specs.File.{TableAndNamesAgree}
 
 -- the first field, and the others
@@ -37,7 +37,7 @@ by_name line j s =
     let f10 = next Hex (drop 10 forms) f9.left j.aad (values j).1.1.1.1.1.1.1.1.1.1 f9.more in
     let f11 = next Number (drop 11 forms) f10.left j.hash_off (values j).1.1.1.1.1.1.1.1.1.1.1 f10.more in
     let f12 = next Number (drop 12 forms) f11.left j.hash_len (values j).1.1.1.1.1.1.1.1.1.1.1.1 f11.more in
-    let f13 = next Small (drop 13 forms) f12.left j.tag_len (values j).1.1.1.1.1.1.1.1.1.1.1.1.1 f12.more in
+    let f13 = next (Below 256) (drop 13 forms) f12.left j.tag_len (values j).1.1.1.1.1.1.1.1.1.1.1.1.1 f12.more in
     let f14 = next Hex (drop 14 forms) f13.left j.packet (values j).1.1.1.1.1.1.1.1.1.1.1.1.1.1 f13.more in
     record {
       cipher = f1.text;

@@ -1,6 +1,6 @@
 -- Bytes and numbers are read exactly as they are spelled.
 use Rattle.std.proofs.Common.{◌≡◌, ◌∙◌, ◌==◌, ◌&&◌, ◌<◌, ◌≤◌, ◌+◌, ◌-◌, ◌*◌, ◌^◌, inl, inr, ap, sym, refl, ℕ, zero, suc, Bool, true, false, cond, List, [], ◌∷◌, Option, Some, None, Result, Ok, Err, length, arith, rules, codes}
-use Rattle.std.specs.Prelude.{decimal, slice_index, nat_le}
+use Rattle.std.specs.Prelude.{decimal, slice_index, nat_lt}
 use Rattle.std.specs.Char.{is_ascii_digit}
 use Rattle.std.specs.Str.{bytes_eq, all_ascii_digits}
 use Rattle.std.specs.Option.{option_and_then}
@@ -13,7 +13,7 @@ use Rattle.std.proofs.lemmas.Fmt.{decimal-digits_value, digits_value-decimal, di
 use Rattle.hex.specs.Hex.{decode_of}
 use Rattle.hex.specs.declared.error.FromHexError.{FromHexError}
 use Rattle.mbj_text.specs.Spelling.{SpellsBytes, SpellsNumber}
-use Rattle.mbj_text.specs.Reading.{bytes_of, number_of, small_of, digits_after, is_number_sized}
+use Rattle.mbj_text.specs.Reading.{bytes_of, number_of, below_of, digits_after, is_number_sized}
 
 -- ---- bytes
 
@@ -96,24 +96,24 @@ number_known n h =
 pub number_back : (t : List ℕ) (n : ℕ) → SpellsNumber t n → number_of t ≡ Some n
 number_back t n s = ap number_of s.0 ∙ number_known n s.1
 
--- a small number that is read is spelled
-pub small_read : (t : List ℕ) (n : ℕ) → small_of t ≡ Some n → SpellsNumber t n × (n ≤ 255)
-small_read t n h = go (number_of t) refl h
+-- a number below a limit that is read is spelled
+pub below_read : (limit : ℕ) (t : List ℕ) (n : ℕ) → below_of limit t ≡ Some n → SpellsNumber t n × (n < limit)
+below_read limit t n h = go (number_of t) refl h
   where
-    in_range : (m : ℕ) (b : Bool) → nat_le m 255 ≡ b → number_of t ≡ Some m → cond b (Some m) None ≡ Some n → SpellsNumber t n × (n ≤ 255)
+    in_range : (m : ℕ) (b : Bool) → nat_lt m limit ≡ b → number_of t ≡ Some m → cond b (Some m) None ≡ Some n → SpellsNumber t n × (n < limit)
     in_range m true e is q =
         let same : m ≡ n = cc in
-        let below : m ≤ 255 = grind (arith, nat_tests) in
+        let below : m < limit = grind (arith, nat_tests) in
         (number_read t n (is ∙ ap (λ (k : ℕ). Some k) same), omega (arith, below, same))
     in_range m false e is q = cc
 
-    go : (o : Option ℕ) → number_of t ≡ o → option_and_then (λ n. cond (nat_le n 255) (Some n) None) o ≡ Some n → SpellsNumber t n × (n ≤ 255)
+    go : (o : Option ℕ) → number_of t ≡ o → option_and_then (λ n. cond (nat_lt n limit) (Some n) None) o ≡ Some n → SpellsNumber t n × (n < limit)
     go None is q = cc
-    go (Some m) is q = in_range m (nat_le m 255) refl is q
+    go (Some m) is q = in_range m (nat_lt m limit) refl is q
 
--- a small number that is spelled is read
-pub small_back : (t : List ℕ) (n : ℕ) → SpellsNumber t n × (n ≤ 255) → small_of t ≡ Some n
-small_back t n s =
-    let small : n ≤ 255 = s.1 in
-    let fits : nat_le n 255 ≡ true = grind (arith, nat_tests) in
-    ap (option_and_then (λ n. cond (nat_le n 255) (Some n) None)) (number_back t n s.0) ∙ ap (λ b. cond b (Some n) None) fits
+-- a number below a limit that is spelled is read
+pub below_back : (limit : ℕ) (t : List ℕ) (n : ℕ) → SpellsNumber t n × (n < limit) → below_of limit t ≡ Some n
+below_back limit t n s =
+    let small : n < limit = s.1 in
+    let fits : nat_lt n limit ≡ true = grind (arith, nat_tests) in
+    ap (option_and_then (λ n. cond (nat_lt n limit) (Some n) None)) (number_back t n s.0) ∙ ap (λ b. cond b (Some n) None) fits

@@ -12,8 +12,10 @@ use Rattle.mbj_types.specs.declared.job.Order.{Order}
 use Rattle.mbj_types.specs.declared.job.Order.TheVariants.{CipherHash, HashCipher}
 use Rattle.mbj_types.specs.declared.job.Auth.{Auth}
 use Rattle.mbj_types.specs.declared.job.Auth.TheVariants as auth
-use Rattle.mbj_text.specs.Words.{cipher_word, dir_word, order_word, auth_word, file_ciphers, file_auths}
-use Rattle.mbj_text.specs.Reading.{lookup, rows_of, cipher_of, dir_of, order_of, auth_of}
+use Rattle.mbj_text.specs.declared.command.Verb.{Verb}
+use Rattle.mbj_text.specs.declared.command.Verb.TheVariants.{Post, Claim, Flush, Collect}
+use Rattle.mbj_text.specs.Words.{cipher_word, dir_word, order_word, auth_word, verb_word, file_ciphers, file_auths, verbs}
+use Rattle.mbj_text.specs.Reading.{lookup, rows_of, cipher_of, dir_of, order_of, auth_of, verb_of}
 
 -- an element is the first one, or one of the others
 Contains-cons : {A : Type 0} (y : A) (ys : List A) (x : A) → Contains (y ∷ ys) x → (y ≡ x) ⊎ Contains ys x
@@ -128,3 +130,15 @@ pub order_back : (t : List ℕ) (o : Order) → t ≡ order_word o → order_of 
 unfolding lookup
 order_back t CipherHash e = ap order_of e
 order_back t HashCipher e = ap order_of e
+
+-- what is read is spelled
+pub verb_read : (t : List ℕ) (v : Verb) → verb_of t ≡ Some v → t ≡ verb_word v
+verb_read t v h = (lookup_finds verb_word verbs t v h).0
+
+-- what is spelled is read
+pub verb_back : (t : List ℕ) (v : Verb) → t ≡ verb_word v → verb_of t ≡ Some v
+unfolding lookup
+verb_back t Post e = ap verb_of e
+verb_back t Claim e = ap verb_of e
+verb_back t Flush e = ap verb_of e
+verb_back t Collect e = ap verb_of e

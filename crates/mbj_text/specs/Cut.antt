@@ -1,6 +1,7 @@
 -- A file as lines, and a line as fields.
-use Rattle.std.specs.Prelude.{ℕ, ◌+◌, ◌==◌, Bool, true, List, [], ◌∷◌, Option, Some, None, if◌then◌else◌}
-use Rattle.std.specs.List.{slice_split}
+use Rattle.std.specs.Prelude.{ℕ, ◌+◌, ◌==◌, Bool, true, List, [], ◌∷◌, Option, Some, None, if◌then◌else◌, codes}
+use Rattle.std.specs.List.{slice_split, before_first, after_first}
+use Rattle.std.specs.Str.{bytes_eq}
 use Rattle.std.specs.Str.Lines.{strip_carriage_return}
 
 -- LF, at which a file is cut into lines, the space, at which a line is cut into fields, and `#`
@@ -42,13 +43,25 @@ is_skipped (first ∷ rest) = first == number_sign
 abbrev pub Numbered : Type 0
 Numbered = ℕ × List ℕ
 
--- the job lines among lines that are numbered from n on; one CR at a line's end is dropped first
-unfoldable pub job_lines_from : ℕ → List (List ℕ) → List Numbered
-job_lines_from n [] = []
-job_lines_from n (line ∷ lines) =
+-- the lines that aren't skipped, where lines are numbered from n on; one CR at a line's end is dropped first
+unfoldable pub kept_lines_from : ℕ → List (List ℕ) → List Numbered
+kept_lines_from n [] = []
+kept_lines_from n (line ∷ lines) =
     let text = strip_carriage_return line in
-    if is_skipped text then job_lines_from (n + 1) lines else (n, text) ∷ job_lines_from (n + 1) lines
+    if is_skipped text then kept_lines_from (n + 1) lines else (n, text) ∷ kept_lines_from (n + 1) lines
 
--- the job lines of a file, whose lines are counted from 1
-abbrev pub job_lines : List ℕ → List Numbered
-job_lines bytes = job_lines_from 1 (lines_of bytes)
+-- the lines of a file that aren't skipped; lines are counted from 1
+abbrev pub kept_lines : List ℕ → List Numbered
+kept_lines bytes = kept_lines_from 1 (lines_of bytes)
+
+-- a line that is exactly `%` ends the job lines of a replay
+abbrev pub is_mark : List ℕ → Bool
+is_mark line = bytes_eq line (codes "%")
+
+-- the job lines of a replay: those before the first such line, or all where there is none
+abbrev pub job_part : List Numbered → List Numbered
+job_part lines = before_first (λ line. is_mark line.1) lines
+
+-- its script lines: those behind the first such line, or none where there is none
+abbrev pub script_part : List Numbered → List Numbered
+script_part lines = after_first (λ line. is_mark line.1) lines

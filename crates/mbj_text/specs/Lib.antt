@@ -1,7 +1,10 @@
 pub mod Cut
 pub mod Words
 pub mod Spelling
+pub mod Script
+pub mod Answer
 pub mod File
+pub mod Replay
 pub mod Reading
 pub mod Flow
 pub mod Line

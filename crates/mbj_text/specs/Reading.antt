@@ -1,5 +1,6 @@
 -- The reader of a line as a function, from left to right. Private functions alone promise it.
-use Rattle.std.specs.Prelude.{◌≡◌, ◌==◌, ◌&&◌, ◌||◌, ◌+◌, ◌-◌, ◌*◌, ℕ, Bool, not, List, [], ◌∷◌, length, map, Ok, Err, Result, Option, Some, None, nat_le, nat_lt, if◌then◌else◌, codes, slice_index}
+use Rattle.std.specs.Prelude.{◌≡◌, ◌==◌, ◌&&◌, ◌||◌, ◌+◌, ◌-◌, ◌*◌, ℕ, Bool, false, not, List, [], ◌∷◌, length, map, Ok, Err, Result, Option, Some, None, nat_le, nat_lt, if◌then◌else◌, codes, slice_index, MatchOption}
+use denote.Ref.{Bor}
 use Rattle.std.specs.Char.{is_ascii_digit}
 use Rattle.std.specs.Str.{bytes_eq}
 use Rattle.std.specs.Option.{option_map_or, option_and_then}
@@ -12,12 +13,20 @@ use Rattle.mbj_types.specs.declared.job.Dir.TheVariants.{Enc, Dec}
 use Rattle.mbj_types.specs.declared.job.Order.{Order}
 use Rattle.mbj_types.specs.declared.job.Order.TheVariants.{CipherHash, HashCipher}
 use Rattle.mbj_types.specs.declared.job.Auth.{Auth}
+use Rattle.mbj_text.specs.declared.command.Cmd.{Cmd}
+use Rattle.mbj_text.specs.declared.command.Cmd.TheVariants as command
+use Rattle.mbj_text.specs.declared.command.Verb.{Verb}
+use Rattle.mbj_text.specs.declared.command.Verb.TheVariants as verb
+use Rattle.mbj_text.specs.declared.kept_lines.JobsEnd.{JobsEnd}
+use Rattle.mbj_text.specs.declared.kept_lines.JobsEnd.TheVariants as jobs_end
 use Rattle.mbj_text.specs.declared.fault.LineFault.{LineFault}
 use Rattle.mbj_text.specs.declared.fault.LineFault.TheVariants as line_fault
 use Rattle.mbj_text.specs.declared.fault.TextFault.{TextFault}
 use Rattle.mbj_text.specs.declared.fault.TextFault.TheVariants as text_fault
-use Rattle.mbj_text.specs.Words.{cipher_word, dir_word, order_word, auth_word, file_ciphers, file_auths}
-use Rattle.mbj_text.specs.Spelling.{Form, CipherWord, DirWord, OrderWord, AuthWord, Hex, Number, Small, Value, Values, forms, fields_of}
+use Rattle.mbj_text.specs.Words.{cipher_word, dir_word, order_word, auth_word, verb_word, file_ciphers, file_auths, verbs}
+use Rattle.mbj_text.specs.Cut.{Numbered, is_mark, job_part, script_part}
+use Rattle.mbj_text.specs.Script.{number_forms}
+use Rattle.mbj_text.specs.Spelling.{Form, CipherWord, DirWord, OrderWord, AuthWord, Hex, Number, Below, Value, Values, forms, fields_of}
 
 -- ---- fields
 
@@ -42,6 +51,9 @@ order_of text = lookup (rows_of order_word (CipherHash ∷ HashCipher ∷ [])) t
 abbrev pub auth_of : List ℕ → Option Auth
 auth_of text = lookup (rows_of auth_word file_auths) text
 
+abbrev pub verb_of : List ℕ → Option Verb
+verb_of text = lookup (rows_of verb_word verbs) text
+
 abbrev pub bytes_of : List ℕ → Option (List ℕ)
 bytes_of text =
     if bytes_eq text (codes "-") then Some []
@@ -60,8 +72,8 @@ is_number_sized text =
 abbrev pub number_of : List ℕ → Option ℕ
 number_of text = if is_number_sized text then digits_after 0 text else None
 
-abbrev pub small_of : List ℕ → Option ℕ
-small_of text = option_and_then (λ n. if nat_le n 255 then Some n else None) (number_of text)
+abbrev pub below_of : ℕ → List ℕ → Option ℕ
+below_of limit text = option_and_then (λ n. if nat_lt n limit then Some n else None) (number_of text)
 
 -- what the text is read as in a form
 abbrev pub value_of : (form : Form) → List ℕ → Option (Value form)
@@ -71,7 +83,7 @@ value_of OrderWord = order_of
 value_of AuthWord = auth_of
 value_of Hex = bytes_of
 value_of Number = number_of
-value_of Small = small_of
+value_of (Below limit) = below_of limit
 
 -- ---- lines
 
@@ -122,10 +134,27 @@ job_with vs = record {
   packet = vs.1.1.1.1.1.1.1.1.1.1.1.1.1.0;
 }
 
+-- what comes of the fields that are left, where there are as many as forms
+abbrev pub all_from : {A : Type 0} → (fs : List Form) → Cursor → (Values fs → A) → Result A ℕ
+all_from fs cursor make =
+    if length cursor.left == length fs then fields_from fs cursor (λ vs. Ok (make vs)) else Err 0
+
 -- the job of a line, or the field that is its fault
 unfoldable pub job_of : List ℕ → Result Job ℕ
-job_of line =
-    if length (fields_of line) == length forms then fields_from forms (at_start line) (λ vs. Ok (job_with vs)) else Err 0
+job_of line = all_from forms (at_start line) job_with
+
+-- the command with this word and these numbers
+abbrev pub command_with : (submitters workers : ℕ) (verb : Verb) → Values (number_forms submitters workers verb) → Cmd
+command_with submitters workers verb.Post vs = command.Post vs.0
+command_with submitters workers verb.Claim vs = command.Claim vs.0 vs.1.0
+command_with submitters workers verb.Flush vs = command.Flush vs.0
+command_with submitters workers verb.Collect vs = command.Collect vs.0
+
+-- the command of a line, or the field that is its fault
+unfoldable pub command_of : ℕ → ℕ → List ℕ → Result Cmd ℕ
+command_of submitters workers line =
+    next_of verb_of (at_start line)
+    >>= λ (x : Verb × Cursor). all_from (number_forms submitters workers x.0) x.1 (command_with submitters workers x.0)
 
 -- ---- answers, but for want of memory
 
@@ -148,3 +177,26 @@ ReadsNext read old (Err e) new = Fails e (next_of read old)
 abbrev pub fault_at : ℕ → LineFault → TextFault
 fault_at n (line_fault.Field f) = text_fault.Line n f
 fault_at n line_fault.Memory = text_fault.Memory
+
+-- ---- the parts of a file
+
+-- the job lines end at this line
+abbrev pub ends_jobs : JobsEnd → List ℕ → Bool
+ends_jobs jobs_end.File line = false
+ends_jobs jobs_end.Mark line = is_mark line
+
+-- the job lines among lines, which end where this says
+abbrev pub part_before : JobsEnd → List Numbered → List Numbered
+part_before jobs_end.File lines = lines
+part_before jobs_end.Mark lines = job_part lines
+
+-- the lines behind the one that ends the job lines
+abbrev pub part_behind : JobsEnd → List Numbered → List Numbered
+part_behind jobs_end.File lines = []
+part_behind jobs_end.Mark lines = script_part lines
+
+-- the answer is the next job line of old, or none; new is what is left
+abbrev pub TakesJobLine : JobsEnd → List Numbered → Option (ℕ × Bor (List ℕ)) → List Numbered → Type 0
+TakesJobLine end old line new = MatchOption line
+    ((part_before end old ≡ []) × (new ≡ part_behind end old))
+    (λ l. (part_before end old ≡ (l.0, l.1.now) ∷ part_before end new) × (part_behind end old ≡ part_behind end new))

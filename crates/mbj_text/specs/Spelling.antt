@@ -1,5 +1,5 @@
--- What a field and a line of a job file spell, and which field of a bad line is its fault.
-use Rattle.std.specs.Prelude.{◌≡◌, ◌≢◌, ◌⊎◌, ◌<◌, ◌≤◌, ◌+◌, ◌^◌, ℕ, List, [], ◌∷◌, length, codes, decimal, Ok, Contains}
+-- What a field and a job line spell, and which field of a bad line is its fault.
+use Rattle.std.specs.Prelude.{◌≡◌, ◌≢◌, ◌⊎◌, ◌<◌, ◌+◌, ◌^◌, ℕ, List, [], ◌∷◌, length, codes, decimal, Ok, Contains}
 use Rattle.hex.specs.Hex.{decode_of}
 use Rattle.mbj_types.specs.declared.job.Job.{Job}
 use Rattle.mbj_types.specs.declared.job.Cipher.{Cipher}
@@ -27,7 +27,7 @@ pub data Form : Type 0 where
   AuthWord : Form
   Hex : Form
   Number : Form
-  Small : Form
+  Below : ℕ → Form
 
 -- what a field of each form stands for
 abbrev pub Value : Form → Type 0
@@ -37,10 +37,10 @@ Value OrderWord = Order
 Value AuthWord = Auth
 Value Hex = List ℕ
 Value Number = ℕ
-Value Small = ℕ
+Value (Below limit) = ℕ
 
 -- the text spells the value in the form: of ciphers and authentications only those that a file may name,
--- and a small number is at most 255
+-- and a number below a limit is a number that is less
 abbrev pub Spelled : (form : Form) → List ℕ → Value form → Type 0
 Spelled CipherWord text c = (text ≡ cipher_word c) × Contains file_ciphers c
 Spelled DirWord text d = text ≡ dir_word d
@@ -48,7 +48,7 @@ Spelled OrderWord text o = text ≡ order_word o
 Spelled AuthWord text a = (text ≡ auth_word a) × Contains file_auths a
 Spelled Hex text bytes = SpellsBytes text bytes
 Spelled Number text n = SpellsNumber text n
-Spelled Small text n = SpellsNumber text n × (n ≤ 255)
+Spelled (Below limit) text n = SpellsNumber text n × (n < limit)
 
 -- the text is of the form
 abbrev pub HasForm : Form → List ℕ → Type 0
@@ -62,7 +62,7 @@ HasForm form text = (v : Value form) × Spelled form text v
 abbrev pub forms : List Form
 forms =
     CipherWord ∷ DirWord ∷ OrderWord ∷ Hex ∷ Hex ∷ Number ∷ Number
-    ∷ AuthWord ∷ Hex ∷ Hex ∷ Number ∷ Number ∷ Small ∷ Hex ∷ []
+    ∷ AuthWord ∷ Hex ∷ Hex ∷ Number ∷ Number ∷ Below 256 ∷ Hex ∷ []
 
 -- a value for each form
 abbrev pub Values : List Form → Type 0
@@ -95,12 +95,16 @@ IsFirstBad n (form ∷ rest) [] f = ⊥
 IsFirstBad n (form ∷ rest) (text ∷ texts) f =
     ((f ≡ n) × ¬ (HasForm form text)) ⊎ (HasForm form text × IsFirstBad (n + 1) rest texts f)
 
--- the line spells no job, and its fault is field f: 0 where it hasn't 14 fields,
+-- the texts don't spell the forms, and the fault is field f: 0 where there aren't as many texts as forms,
 -- else the number of the first one that isn't of its form
+abbrev pub HasFault : ℕ → List Form → List (List ℕ) → ℕ → Type 0
+HasFault n fs texts f =
+    ((f ≡ 0) × (length texts ≢ length fs))
+    ⊎ ((length texts ≡ length fs) × IsFirstBad n fs texts f)
+
+-- the line spells no job, and its fault is field f
 abbrev pub IsBadLine : List ℕ → ℕ → Type 0
-IsBadLine line f =
-    ((f ≡ 0) × (length (fields_of line) ≢ length forms))
-    ⊎ ((length (fields_of line) ≡ length forms) × IsFirstBad 1 forms (fields_of line) f)
+IsBadLine line f = HasFault 1 forms (fields_of line) f
 
 -- ---- the same with the fields by their names
 
@@ -134,5 +138,5 @@ pub record SpellsByName (line : List ℕ) (j : Job) : Type 0 where
   pub aad_is : SpellsBytes aad j.aad
   pub hash_off_is : SpellsNumber hash_off j.hash_off
   pub hash_len_is : SpellsNumber hash_len j.hash_len
-  pub tag_len_is : SpellsNumber tag_len j.tag_len × (j.tag_len ≤ 255)
+  pub tag_len_is : SpellsNumber tag_len j.tag_len × (j.tag_len < 256)
   pub packet_is : SpellsBytes packet j.packet

@@ -1,4 +1,4 @@
--- The words of a job line.
+-- The words of job lines and script lines.
 use Rattle.std.specs.Prelude.{ℕ, List, [], ◌∷◌, codes}
 use Rattle.mbj_types.specs.declared.job.Cipher.{Cipher}
 use Rattle.mbj_types.specs.declared.job.Cipher.TheVariants as cipher
@@ -8,6 +8,8 @@ use Rattle.mbj_types.specs.declared.job.Order.{Order}
 use Rattle.mbj_types.specs.declared.job.Order.TheVariants.{CipherHash, HashCipher}
 use Rattle.mbj_types.specs.declared.job.Auth.{Auth}
 use Rattle.mbj_types.specs.declared.job.Auth.TheVariants as auth
+use Rattle.mbj_text.specs.declared.command.Verb.{Verb}
+use Rattle.mbj_text.specs.declared.command.Verb.TheVariants.{Post, Claim, Flush, Collect}
 
 abbrev pub cipher_word : Cipher → List ℕ
 cipher_word cipher.Null = codes "null"
@@ -42,3 +44,12 @@ file_ciphers = cipher.Null ∷ cipher.Cbc ∷ cipher.Ctr ∷ cipher.Gcm ∷ []
 abbrev pub file_auths : List Auth
 file_auths =
     auth.Null ∷ auth.HmacSha1 ∷ auth.HmacSha224 ∷ auth.HmacSha256 ∷ auth.HmacSha384 ∷ auth.HmacSha512 ∷ auth.Cmac128 ∷ auth.Cmac256 ∷ auth.Gcm ∷ []
+
+abbrev pub verb_word : Verb → List ℕ
+verb_word Post = codes "post"
+verb_word Claim = codes "claim"
+verb_word Flush = codes "flush"
+verb_word Collect = codes "collect"
+
+abbrev pub verbs : List Verb
+verbs = Post ∷ Claim ∷ Flush ∷ Collect ∷ []

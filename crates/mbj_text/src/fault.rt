@@ -8,8 +8,9 @@ use std::alloc::{AllocError, AllocFailed};
 /// Why a file isn't read. Lines are counted from 1.
 #[derive(Clone, Copy, Debug, PartialEq, Eq)]
 pub enum TextFault {
-    /// The line is the first job line that spells no job. The field is 0 where the line hasn't 14
-    /// fields, else the number, from 1 to 14, of the first field that isn't of its form.
+    /// The line is the first one that spells no job, or behind the job lines no command. The field is
+    /// 0 where the line hasn't as many fields as it should, else the number, from 1 on, of the first
+    /// field that isn't of its form.
     Line { line: u32, field: u32 },
     /// The line is one job line more than a file may have.
     Limit { line: u32 },

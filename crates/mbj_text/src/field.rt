@@ -1,5 +1,5 @@
 ghost use Rattle.std.specs.Prelude.{◌≡◌, ◌≤◌, List, ℕ, Option, IfOk, length};
-ghost use Rattle.mbj_text.specs.Reading.{bytes_of, number_of, small_of, digits_after};
+ghost use Rattle.mbj_text.specs.Reading.{bytes_of, number_of, below_of, digits_after};
 ghost use Rattle.mbj_text.specs.declared.field.TheConstants.{MAX_DIGITS};
 
 use mbj_types::Bytes;
@@ -8,7 +8,7 @@ use std::alloc::{AllocError, Global};
 /// The most digits of a number.
 const MAX_DIGITS: usize = 5;
 
-/// A value that a field of a job line spells, in the form that goes with its type.
+/// A value that a field of a line spells, in the form that goes with its type.
 pub(crate) trait Field: Sized {
     ghost value_of: { List ℕ → Option Self };
 
@@ -45,13 +45,20 @@ impl Field for u32 {
     }
 }
 
-/// A number that is at most 255.
+/// A number below 256.
 impl Field for u8 {
-    ghost value_of = { small_of };
+    ghost value_of = { below_of 256 };
 
     fn read(_alloc: Global, text: &[u8]) -> Result<Option<u8>, AllocError> {
         Ok(number(text).and_then(|n| u8::try_from(n).ok()))
     }
+}
+
+/// The number of 1 to 5 digits that is below the limit.
+pub(crate) fn below(text: &[u8], limit: u32) -> Option<u32>
+    ensures { result ≡ below_of limit text.now }
+{
+    number(text).filter(|n| *n < limit)
 }
 
 /// The number that 1 to 5 digits write, the first of them not `0` unless it is the only one.

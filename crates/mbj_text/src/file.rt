@@ -1,12 +1,13 @@
 ghost use Rattle.std.specs.Prelude.{◌≡◌, ◌≤◌, ℕ, List, Err, IfOk, length};
 ghost use Rattle.mbj_types.specs.declared.job.Job.{Job};
 ghost use Rattle.mbj_text.specs.declared.limits.TheConstants.{INPUT_LIMIT};
-ghost use Rattle.mbj_text.specs.File.{Reads, Bad, Over, Answers, IsOkOnly, IsErrOnly, EachFileIsOne, ReadsIsUnique, BadIsUnique, OverIsUnique, TableAndNamesAgree};
+ghost use Rattle.mbj_text.specs.Answer.{Answers, IsOkOnly, IsErrOnly};
+ghost use Rattle.mbj_text.specs.File.{Reads, Bad, Over, EachFileIsOne, ReadsIsUnique, BadIsUnique, OverIsUnique, TableAndNamesAgree};
 
 use crate::fault::TextFault;
-use crate::job::read_job;
-use crate::job_lines::JobLines;
-use crate::limits::{INPUT_LIMIT, JOB_LIMIT};
+use crate::jobs::read_jobs;
+use crate::kept_lines::{JobsEnd, KeptLines};
+use crate::limits::INPUT_LIMIT;
 use mbj_types::Job;
 use std::alloc::Global;
 
@@ -54,22 +55,12 @@ pub fn read_file(alloc: Global, bytes: &[u8]) -> Result<Vec<Job>, TextFault>
     jobs_of(alloc, bytes)
 }
 
-/// The jobs of a file, line after line.
+/// The jobs of a file, each line of which is a job line.
 fn jobs_of(alloc: Global, bytes: &[u8]) -> Result<Vec<Job>, TextFault>
     requires { length bytes.now ≤ INPUT_LIMIT }
-    ensures { Answers bytes.now result }
+    ensures { Answers (λ v. Reads bytes.now v.items) (Bad bytes.now) (Over bytes.now) result }
 {
-    let mut jobs = Vec::new(alloc);
-    for (number, line) in JobLines::of(bytes) {
-        if jobs.len() == JOB_LIMIT {
-            return Err(TextFault::Limit { line: number });
-        }
-        match read_job(alloc, line) {
-            Ok(job) => jobs.push(job)?,
-            Err(fault) => return Err(fault.at(number)),
-        }
-    }
-    Ok(jobs)
+    read_jobs(alloc, &mut KeptLines::of(bytes), JobsEnd::File)
 }
 
 /// Each file spells jobs, or has a first bad line, or has too many job lines: exactly one of these,

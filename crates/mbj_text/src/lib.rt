@@ -1,24 +1,32 @@
-//! Jobs and results as text: the job file, and the lines of results on their way to a sink.
+//! Jobs and results as text: the job file, the file of a replay, and the lines of results on their
+//! way to a sink.
 #![tactic(auto)]
 
+mod command;
 mod done;
 mod fault;
 mod field;
+mod fields;
 mod file;
 mod job;
-mod job_lines;
+mod jobs;
+mod kept_lines;
 mod limits;
 mod line;
 mod piece;
+mod replay;
+mod script;
 mod split;
 mod words;
 mod writing;
 
+pub use command::Cmd;
 pub use done::write_done;
 pub use fault::TextFault;
 pub use file::{each_file_is_one, read_file, table_and_names_agree};
 pub use limits::{INPUT_LIMIT, JOB_LIMIT};
 pub use line::{Part, write_line};
+pub use replay::{each_replay_is_one, read_replay};
 pub use writing::write_all;
 
 #[cfg(test)]

@@ -1,7 +1,8 @@
 ghost use Rattle.std.specs.Prelude.{◌≡◌, map, find, option_map};
 ghost use Rattle.std.specs.Str.{bytes_eq};
-ghost use Rattle.mbj_text.specs.Reading.{lookup, cipher_of, dir_of, order_of, auth_of};
+ghost use Rattle.mbj_text.specs.Reading.{lookup, cipher_of, dir_of, order_of, auth_of, verb_of};
 
+use crate::command::Verb;
 use crate::field::Field;
 use mbj_types::{Auth, Cipher, Dir, Order};
 use std::alloc::{AllocError, Global};
@@ -29,6 +30,13 @@ const AUTHS: [(&[u8], Auth); 9] = [
     (b"cmac128", Auth::Cmac128),
     (b"cmac256", Auth::Cmac256),
     (b"gcm", Auth::Gcm),
+];
+
+const VERBS: [(&[u8], Verb); 4] = [
+    (b"post", Verb::Post),
+    (b"claim", Verb::Claim),
+    (b"flush", Verb::Flush),
+    (b"collect", Verb::Collect),
 ];
 
 impl Field for Cipher {
@@ -60,6 +68,14 @@ impl Field for Auth {
 
     fn read(_alloc: Global, text: &[u8]) -> Result<Option<Auth>, AllocError> {
         Ok(lookup(&AUTHS, text))
+    }
+}
+
+impl Field for Verb {
+    ghost value_of = { verb_of };
+
+    fn read(_alloc: Global, text: &[u8]) -> Result<Option<Verb>, AllocError> {
+        Ok(lookup(&VERBS, text))
     }
 }
 

@@ -1,6 +1,9 @@
 pub mod Deals
 pub mod Drawing
 pub mod Made
+pub mod Printing
 pub mod ResultLines
 pub mod Sums
+pub mod Told
+pub mod Tracing
 pub mod Writing

@@ -1,5 +1,5 @@
 -- Jobs that are made from a seed are small, and so are the lines of their results.
-use Rattle.std.proofs.Common.{◌≡◌, ℕ, zero, suc, ◌+◌, ◌-◌, ◌*◌, ◌%◌, ◌/◌, ◌<◌, ◌≤◌, List, [], ◌∷◌, length, take, map, slice_get, Option, Some, None, refl, sym, ap, ◌∙◌, arith}
+use Rattle.std.proofs.Common.{◌≡◌, ℕ, zero, suc, ◌+◌, ◌-◌, ◌*◌, ◌%◌, ◌/◌, ◌<◌, ◌≤◌, List, [], ◌∷◌, ◌++◌, append_assoc, length, take, map, slice_get, Option, Some, None, refl, sym, ap, ◌∙◌, arith}
 use Rattle.std.specs.Option.{option_map_or}
 use Rattle.std.proofs.lemmas.List.{length-map, length-take}
 use Rattle.std.proofs.lemmas.Nat.{mod_below}
@@ -35,6 +35,15 @@ packet-small x =
 pub length-generated : (n x : ℕ) → length (generated n x) ≡ n
 length-generated zero x = refl
 length-generated (suc n) x = ap suc (length-generated n (job x).1)
+
+-- one more job is made
+pub made-next : (made more : List Job) (count i x y : ℕ) (all : List Job) → i < count → made ++ generated (count - i) x ≡ all
+    → more ≡ made ++ (job x).0 ∷ [] → y ≡ (job x).1 → more ++ generated (count - (i + 1)) y ≡ all
+made-next made more count i x y all below is pushed state =
+    let left : count - i ≡ suc (count - (i + 1)) = omega arith in
+    let first : generated (count - i) x ≡ (job x).0 ∷ generated (count - (i + 1)) (job x).1 = ap (λ (n : ℕ). generated n x) left in
+    let moved = append_assoc made ((job x).0 ∷ []) (generated (count - (i + 1)) y) in
+    cc (first, moved)
 
 -- ---- tags
 

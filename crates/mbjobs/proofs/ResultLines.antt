@@ -103,7 +103,7 @@ text_from-next from (suc n) (first ∷ rest) done h =
     ∙ ap (λ (k : ℕ). (done_line from first ++ text_from (from + 1) (take n rest)) ++ done_line k done) number
 
 -- the text of one more result
-text-next : (n : ℕ) (results : List Done) (done : Done) → slice_get results n ≡ Some done
+pub text-next : (n : ℕ) (results : List Done) (done : Done) → slice_get results n ≡ Some done
     → text (take (n + 1) results) ≡ text (take n results) ++ done_line n done
 text-next n results done h =
     let next : n + 1 ≡ suc n = omega arith in
@@ -113,11 +113,15 @@ text-next n results done h =
 
 -- ---- the count of accepted results
 
-abbrev one_if : Bool → ℕ
+abbrev pub one_if : Bool → ℕ
 one_if true = 1
 one_if false = 0
 
-accepted-next : (n : ℕ) (results : List Done) (done : Done) (b : Bool) → slice_get results n ≡ Some done → is_ok done.status ≡ b
+pub one_if-small : (b : Bool) → one_if b ≤ 1
+one_if-small true = omega arith
+one_if-small false = omega arith
+
+pub accepted-next : (n : ℕ) (results : List Done) (done : Done) (b : Bool) → slice_get results n ≡ Some done → is_ok done.status ≡ b
     → accepted (take (n + 1) results) ≡ accepted (take n results) + one_if b
 accepted-next n results done true h is =
     let here = get_or_from_slice_get results n done done h in

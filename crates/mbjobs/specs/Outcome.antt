@@ -76,7 +76,7 @@ BreaksOff c input out = Does c input (GainsPrefix out.before out.after)
 
 -- what stands behind each cause
 abbrev pub Stands : Command → Cause → Stream → Stream → Type 0
-Stands c cause.Read input out = Fails input
+Stands c cause.Read input out = ReadsInput c × Fails input
 Stands c cause.Write input out = Fails out × BreaksOff c input out
 Stands c (cause.Line line field) input out = ReadsBytes input (λ bytes. IsBadFor c bytes line field)
 Stands c cause.Bytes input out = ReadsInput c × ReadsTooMuch input.before input.after

@@ -122,8 +122,8 @@ tracing h = record { manager = h; given = 0 }
 abbrev pub end_lines : Tracing → List Line
 end_lines t =
     all_taken taking.Completed t
-    ++ all_taken taking.Flushed (after_all_taken taking.Completed t)
-    ++ flat_map (count_lines (after_all_taken taking.Flushed (after_all_taken taking.Completed t)).manager.machine) kinds
+    ++ (all_taken taking.Flushed (after_all_taken taking.Completed t)
+    ++ flat_map (count_lines (after_all_taken taking.Flushed (after_all_taken taking.Completed t)).manager.machine) kinds)
 
 unfoldable pub trace_lines : List Job → List Line
 trace_lines jobs = job_lines 0 jobs (tracing new_manager) ++ end_lines (after_jobs jobs (tracing new_manager))

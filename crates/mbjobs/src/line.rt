@@ -13,7 +13,10 @@ use mbj_types::Kind;
 #[derive(Clone, Copy, Debug, PartialEq, Eq)]
 pub enum Line {
     /// A job was submitted, and this one was given back, or none.
-    Submit { job: u32, given: Option<u32> },
+    Submit {
+        job: u32,
+        given: Option<u32>,
+    },
     /// No cell was left for the next job.
     Full,
     /// A finished job was taken back, or there was none.
@@ -21,7 +24,11 @@ pub enum Line {
     /// A job was flushed, or there was none.
     Flush(Option<u32>),
     /// What the full runs of a kind came to.
-    Rounds { kind: Kind, rounds: u64, blocks: u64 },
+    Rounds {
+        kind: Kind,
+        rounds: u64,
+        blocks: u64,
+    },
     /// How many jobs there were.
     Jobs(u32),
     /// How many of them were accepted.
@@ -71,30 +78,48 @@ impl Line {
         ensures calm { OnOk result (O.faults out.new ≡ O.faults out.old) }
         ensures failed { OnErr result (Rose (O.faults out.old) (O.faults out.new)) }
     {
-        match *self {
+        match self {
             Line::Submit { job, given } => write_line(
                 out,
-                &[Part::Words("submit "), Part::Number(job as u64), Part::Words(" "), number(given)],
+                &[
+                    Part::Words("submit "),
+                    Part::Number(*job as u64),
+                    Part::Words(" "),
+                    number(*given),
+                ],
             ),
             Line::Full => write_line(out, &[Part::Words("full")]),
-            Line::Completed(given) => write_line(out, &[Part::Words("completed "), number(given)]),
-            Line::Flush(given) => write_line(out, &[Part::Words("flush "), number(given)]),
-            Line::Rounds { kind, rounds, blocks } => write_line(
+            Line::Completed(given) => write_line(out, &[Part::Words("completed "), number(*given)]),
+            Line::Flush(given) => write_line(out, &[Part::Words("flush "), number(*given)]),
+            Line::Rounds {
+                kind,
+                rounds,
+                blocks,
+            } => write_line(
                 out,
                 &[
                     Part::Words("rounds "),
-                    name(kind),
+                    name(*kind),
                     Part::Words(" "),
-                    Part::Number(rounds),
+                    Part::Number(*rounds),
                     Part::Words(" "),
-                    Part::Number(blocks),
+                    Part::Number(*blocks),
                 ],
             ),
-            Line::Jobs(count) => write_line(out, &[Part::Words("jobs "), Part::Number(count as u64)]),
-            Line::Accepted(count) => write_line(out, &[Part::Words("ok "), Part::Number(count as u64)]),
-            Line::Invalid(count) => write_line(out, &[Part::Words("invalid "), Part::Number(count as u64)]),
-            Line::Bytes(count) => write_line(out, &[Part::Words("bytes "), Part::Number(count)]),
-            Line::Sha256(digest) => write_line(out, &[Part::Words("sha256 "), Part::Hex(&digest)]),
+            Line::Jobs(count) => write_line(
+                out,
+                &[Part::Words("jobs "), Part::Number(*count as u64)],
+            ),
+            Line::Accepted(count) => write_line(
+                out,
+                &[Part::Words("ok "), Part::Number(*count as u64)],
+            ),
+            Line::Invalid(count) => write_line(
+                out,
+                &[Part::Words("invalid "), Part::Number(*count as u64)],
+            ),
+            Line::Bytes(count) => write_line(out, &[Part::Words("bytes "), Part::Number(*count)]),
+            Line::Sha256(digest) => write_line(out, &[Part::Words("sha256 "), Part::Hex(digest)]),
         }
     }
 }

@@ -14,8 +14,8 @@ mod reading;
 mod report;
 mod run;
 mod summary;
-//#[cfg(test)]
-//mod tests;
+#[cfg(test)]
+mod tests;
 mod top;
 mod trace;
 

@@ -67,11 +67,17 @@ fn perform<R: Threads + Sync, S: Source, O: Sink>(
     ensures unread { ReadsInput command ⊎ IsUntouched (stream S.rest S.faults input.old input.new) }
 {
     match command {
-        Command::Run { submitters, workers } => run(rt, alloc, submitters, workers, input, out),
+        Command::Run {
+            submitters,
+            workers,
+        } => run(rt, alloc, submitters, workers, input, out),
         Command::Trace => run_trace(alloc, input, out),
-        Command::Gen { seed, jobs, submitters, workers } => {
-            run_gen(rt, alloc, seed, jobs, submitters, workers, out)
-        }
+        Command::Gen {
+            seed,
+            jobs,
+            submitters,
+            workers,
+        } => { run_gen(rt, alloc, seed, jobs, submitters, workers, out) }
     }
 }
 

@@ -157,17 +157,31 @@ impl Tracer {
         Ok(())
     }
 
+    /// Tells what the full runs of a kind came to, where there were any.
+    fn count_kind(&mut self, kind: Kind) -> Result<(), AllocError>
+        ensures lines { OnOk result (self.new.lines.items
+            ≡ self.old.lines.items ++ count_lines self.old.manager.machine kind) }
+        ensures manager { self.new.manager ≡ self.old.manager }
+    {
+        let rounds = self.manager.rounds(kind);
+        if rounds != 0 {
+            let blocks = self.manager.blocks(kind);
+            self.lines.push(Line::Rounds {
+                kind,
+                rounds,
+                blocks,
+            })?;
+        }
+        Ok(())
+    }
+
     /// Tells what the full runs of each kind came to.
     fn count(&mut self) -> Result<(), AllocError>
         ensures { OnOk result (self.new.lines.items
             ≡ self.old.lines.items ++ flat_map (count_lines self.old.manager.machine) kinds) }
     {
         for kind in KINDS {
-            let rounds = self.manager.rounds(kind);
-            if rounds != 0 {
-                let blocks = self.manager.blocks(kind);
-                self.lines.push(Line::Rounds { kind, rounds, blocks })?;
-            }
+            self.count_kind(kind)?;
         }
         Ok(())
     }

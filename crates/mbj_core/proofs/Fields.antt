@@ -1,0 +1,183 @@
+-- What a call makes of the core's fields, as contracts see it.
+use Rattle.std.proofs.Common.{◌≡◌, ◌≢◌, ℕ, ◌+◌, ◌-◌, ◌*◌, ◌%◌, ◌<◌, ◌≤◌, List, [], ◌∷◌, ◌++◌, map, length, set, get_or, sym, refl, ap, ◌∙◌, subst, arith}
+use Rattle.std.proofs.lemmas.List.{map-set, length-map, get_or_default, set-get_or, get_or-set_same}
+use Rattle.std.proofs.lemmas.Option.{same_Some, slice_get-map, slice_get_read, slice_get_within}
+use Rattle.std.specs.Prelude.{slice_index, Option, None, Some, IfSome, IfNone, MatchOption, not, ◌==◌}
+use Rattle.std.specs.Borrow.{Bor}
+use Rattle.std.specs.Option.{option_map}
+use Rattle.std.specs.List.{filter}
+use Rattle.mbj_types.specs.Result.{result_of}
+use Rattle.mbj_types.specs.declared.job.Job.{Job}
+use Rattle.mbj_types.specs.declared.done.Done.{Done}
+use Rattle.mbj_core.specs.Cells.{Cell, free, ready, done, hand_of, cell_of}
+use Rattle.mbj_core.specs.CoreStates.{CoreState, HasHand, cell_in, hand_in, out_of, first_cell, next_cell, posted, claimed_by, finished, handed_out}
+use Rattle.mbj_core.specs.Inside.{cell_shown, state_of, IsCore}
+use Rattle.mbj_core.specs.declared.cells.Slot.{Slot}
+use Rattle.mbj_core.specs.declared.cells.Slot.TheVariants as slot
+use Rattle.mbj_core.specs.declared.cells.TheConstants.{CELLS, MAX_SUBMITTERS}
+use Rattle.mbj_core.specs.declared.machine.Core.TheInside.{Inside}
+use Rattle.mbj_core.specs.Events.{Event, Answer, post, claim, finish, collect, accepted, claimed, collected}
+use Rattle.mbj_core.specs.Stands.{Leads, IsBacked}
+use Rattle.mbj_core.proofs.Posts.{near}
+use Rattle.mbj_core.proofs.Facts.{backed_after}
+use Rattle.mbj_core.proofs.Calls.{Sizes, posts_lead, claims_lead, finishes_lead, collects_lead, has_room}
+
+-- a number that is read out of a list
+pub read : (xs : List ℕ) (i n : ℕ) → n ≡ get_or xs i n → i < length xs → n ≡ slice_index xs i
+read xs i n e l = e ∙ get_or_default xs i n 0 l
+
+-- a slot that shows a job that can be claimed, or a result, is one
+shown_ready : (x : Slot) (job : Job) → cell_shown x ≡ ready job → x ≡ slot.Ready job
+shown_ready slot.Free job e = absurd cc
+shown_ready (slot.Ready j) job e = ap slot.Ready cc
+shown_ready (slot.Held p j) job e = absurd cc
+shown_ready (slot.Done d) job e = absurd cc
+
+shown_held : (x : Slot) (p : ℕ) (d : Done) → cell_shown x ≡ hand_of p d → (job : Job) × (x ≡ slot.Held p job)
+shown_held slot.Free p d e = absurd cc
+shown_held (slot.Ready j) p d e = absurd cc
+shown_held (slot.Held q j) p d e = let same : q ≡ p = cc in (j, ap (λ (r : ℕ). slot.Held r j) same)
+shown_held (slot.Done b) p d e = absurd cc
+
+shown_done : (x : Slot) (d : Done) → cell_shown x ≡ done d → x ≡ slot.Done d
+shown_done slot.Free d e = absurd cc
+shown_done (slot.Ready j) d e = absurd cc
+shown_done (slot.Held p j) d e = absurd cc
+shown_done (slot.Done b) d e = ap slot.Done cc
+
+-- the job that a claimed cell lends
+pub lent : (r : Option (Bor Job)) (x : Slot) (p : ℕ) (job : Job) → MatchOption r ((j : Job) → x ≢ slot.Held p j) (λ j. x ≡ slot.Held p j.now) → x ≡ slot.Held p job
+    → (b : Bor Job) × (r ≡ Some b) × (job ≡ b.now)
+lent None x p job m e = absurd (m job e)
+lent (Some b) x p job m e = let same : slot.Held p job ≡ slot.Held p b.now = sym e ∙ m in (b, refl, cc)
+
+module _ (a : Inside) where
+  pub sizes_of : IsCore a → Sizes (state_of a)
+  sizes_of is = record {
+    cells = length-map a.cells.items cell_shown ∙ sym a.cells.ok.0 ∙ is.cells;
+    hands = sym a.hands.ok.0 ∙ is.hands;
+    firsts = sym a.firsts.ok.0 ∙ is.firsts;
+    outs = sym a.outs.ok.0 ∙ is.outs;
+  }
+
+  -- the fields, with other cells, hands, first numbers and counts
+  abbrev pub state_with : List Slot → List (List ℕ) → List ℕ → List ℕ → CoreState
+  state_with cells hands firsts outs = record { submitters = a.submitters; workers = a.workers; cells = map cell_shown cells; hands = hands; firsts = firsts; outs = outs }
+
+  -- one cell is replaced
+  pub cell_set : (i : ℕ) (x : Slot) (y : Cell Job Done) (hands : List (List ℕ)) (firsts outs : List ℕ) → cell_shown x ≡ y
+      → state_with (set a.cells.items i x) hands firsts outs ≡ record { submitters = a.submitters; workers = a.workers; cells = set (map cell_shown a.cells.items) i y; hands = hands; firsts = firsts; outs = outs }
+  cell_set i x y hands firsts outs e = ap (λ (t : List (Cell Job Done)). record { submitters = a.submitters; workers = a.workers; cells = t; hands = hands; firsts = firsts; outs = outs })
+      (map-set cell_shown a.cells.items i x ∙ ap (set (map cell_shown a.cells.items) i) e)
+
+module _ (a : Inside) (is : IsCore a) where
+  -- the number of jobs that are out, and the number of the earliest, as they are read
+  pub out_read : (s n : ℕ) → s < a.submitters → n ≡ get_or a.outs.items s n → n ≡ out_of (state_of a) s
+  out_read s n l e = read a.outs.items s n e (omega (arith, (sizes_of a is).outs))
+
+  pub first_read : (s n : ℕ) → s < a.submitters → n ≡ get_or a.firsts.items s n → n ≡ slice_index a.firsts.items s
+  first_read s n l e = read a.firsts.items s n e (omega (arith, (sizes_of a is).firsts))
+
+  pub out_within : (s : ℕ) → s < a.submitters → out_of (state_of a) s ≤ CELLS
+  out_within s l = is.each_out s 0 (omega (arith, (sizes_of a is).outs))
+
+  -- a call that leaves these fields made what it should of the core, and led by its event
+  led : (new what : CoreState) (e : Event Job Done) (r : Answer Job Done) → new ≡ what → what.submitters ≡ a.submitters → Leads (state_of a) e r what → (new ≡ what) × IsBacked new × Leads (state_of a) e r new
+  led new what e r same wide leads = (same, subst IsBacked (sym same) (backed_after (state_of a) what e r wide leads is.backed), subst (Leads (state_of a) e r) (sym same) leads)
+
+  pub after_post : (s next first out : ℕ) (job : Job) → s < a.submitters → next ≡ cell_of s (first + out) → first ≡ get_or a.firsts.items s first → out ≡ get_or a.outs.items s out → out ≢ CELLS
+      → let new : CoreState = state_with a (set a.cells.items next (slot.Ready job)) a.hands.items a.firsts.items (set a.outs.items s (out + 1)) in
+      (new ≡ posted (state_of a) s job) × IsBacked new × Leads (state_of a) (post s job) accepted new
+  after_post s next first out job l at f o room =
+      let c : CoreState = state_of a in let out_is = out_read s out l o in let most = out_within s l in
+      let next_is : next ≡ next_cell c s = at ∙ ap (cell_of s) (ap (λ (n : ℕ). n + out) (first_read s first l f) ∙ ap (λ (n : ℕ). slice_index a.firsts.items s + n) out_is) in
+      led (state_with a (set a.cells.items next (slot.Ready job)) a.hands.items a.firsts.items (set a.outs.items s (out + 1))) (posted c s job) (post s job) accepted
+      (cell_set a next (slot.Ready job) (ready job) a.hands.items a.firsts.items (set a.outs.items s (out + 1)) refl
+      ∙ ap (λ (i : ℕ). record c { cells = set c.cells i (ready job); outs = set c.outs s (out + 1) }) next_is
+      ∙ ap (λ (n : ℕ). record c { cells = set c.cells (next_cell c s) (ready job); outs = set c.outs s (n + 1) }) out_is)
+      refl (posts_lead c (sizes_of a is) is.backed s job l (omega arith))
+
+  cell_read : (i : ℕ) (x : Slot) → i < CELLS * a.submitters → x ≡ get_or a.cells.items i x → cell_in (state_of a) i ≡ Some (cell_shown x)
+  cell_read i x l e = slice_get-map cell_shown a.cells.items i ∙ ap (option_map cell_shown) (slice_get_read a.cells.items (CELLS * a.submitters) i x (sym is.cells ∙ a.cells.ok.0) l e)
+
+  hand_read : (p : ℕ) (hand : List ℕ) → p < a.submitters + a.workers → hand ≡ get_or a.hands.items p hand → hand ≡ hand_in (state_of a) p
+  hand_read p hand l e = e ∙ get_or_default a.hands.items p hand [] (omega (arith, (sizes_of a is).hands))
+
+  -- a cell is written back as it was read
+  pub unchanged : (i : ℕ) (x y : Slot) → x ≡ get_or a.cells.items i x → y ≡ x → state_with a (set a.cells.items i y) a.hands.items a.firsts.items a.outs.items ≡ state_of a
+  unchanged i x y e same = ap (λ (t : List Slot). state_with a t a.hands.items a.firsts.items a.outs.items) (ap (set a.cells.items i) (same ∙ e) ∙ set-get_or a.cells.items i x)
+
+  pub ready_read : (i : ℕ) (job : Job) (x : Slot) → i < CELLS * a.submitters → x ≡ get_or a.cells.items i x → x ≡ slot.Ready job → cell_in (state_of a) i ≡ Some (ready job)
+  ready_read i job x li e is_ready = cell_read i x li e ∙ ap (λ (t : Slot). Some (cell_shown t)) is_ready
+
+  pub after_claim : (p i : ℕ) (job : Job) (x y : Slot) (hand more : List ℕ) → p < a.submitters + a.workers → i < CELLS * a.submitters → x ≡ get_or a.cells.items i x → x ≡ slot.Ready job → y ≡ slot.Held p job
+      → hand ≡ get_or a.hands.items p hand → more ≡ hand ++ i ∷ []
+      → let new : CoreState = state_with a (set a.cells.items i y) (set a.hands.items p more) a.firsts.items a.outs.items in
+      (new ≡ claimed_by (state_of a) p i job) × IsBacked new × Leads (state_of a) (claim p i) (claimed job) new
+  after_claim p i job x y hand more lp li e is_ready is_held h longer =
+      let c : CoreState = state_of a in
+      led (state_with a (set a.cells.items i y) (set a.hands.items p more) a.firsts.items a.outs.items) (claimed_by c p i job) (claim p i) (claimed job)
+      (cell_set a i y (hand_of p (result_of job)) (set a.hands.items p more) a.firsts.items a.outs.items (ap cell_shown is_held)
+      ∙ ap (λ (t : List ℕ). record c { cells = set c.cells i (hand_of p (result_of job)); hands = set c.hands p t }) (longer ∙ ap (λ (t : List ℕ). t ++ i ∷ []) (hand_read p hand lp h)))
+      refl (claims_lead c (sizes_of a is) is.backed p i job lp li (ready_read i job x li e is_ready))
+
+  -- what is read at a place that has just been written
+  pub read_back : (i : ℕ) (y z : Slot) → i < CELLS * a.submitters → z ≡ get_or (set a.cells.items i y) i z → z ≡ y
+  read_back i y z li e = e ∙ get_or-set_same a.cells.items i y z (omega (arith, is.cells, a.cells.ok.0))
+
+  -- the hand has room for the cell of a job that no party has claimed
+  pub hand_room : (p i : ℕ) (job : Job) (x : Slot) (hand : List ℕ) → p < a.submitters + a.workers → i < CELLS * a.submitters → x ≡ get_or a.cells.items i x → x ≡ slot.Ready job
+      → hand ≡ get_or a.hands.items p hand → length hand < CELLS * MAX_SUBMITTERS
+  hand_room p i job x hand lp li e is_ready h =
+      let less = has_room (state_of a) (sizes_of a is) is.backed p i job lp li (ready_read i job x li e is_ready) in
+      let same = ap (λ (t : List ℕ). length t) (hand_read p hand lp h) in let few = is.submitters in omega arith
+
+  -- a slot with no job that can be claimed
+  pub unready : (i : ℕ) (x : Slot) → i < CELLS * a.submitters → x ≡ get_or a.cells.items i x → ((job : Job) → x ≢ slot.Ready job) → (job : Job) → cell_in (state_of a) i ≢ Some (ready job)
+  unready i x li e others job h = others job (shown_ready x job (same_Some (cell_shown x) (ready job) (sym (cell_read i x li e) ∙ h)))
+
+  pub after_finish : (p i : ℕ) (d : Done) (hand left : List ℕ) → p < a.submitters + a.workers → cell_in (state_of a) i ≡ Some (hand_of p d) → hand ≡ get_or a.hands.items p hand
+      → left ≡ filter (λ k. not (k == i)) hand
+      → let new : CoreState = state_with a (set a.cells.items i (slot.Done d)) (set a.hands.items p left) a.firsts.items a.outs.items in
+      (new ≡ finished (state_of a) p i d) × IsBacked new × Leads (state_of a) (finish p i d) accepted new
+  after_finish p i d hand left lp is_held h shorter =
+      let c : CoreState = state_of a in
+      let li : i < CELLS * a.submitters = omega (arith, slice_get_within c.cells i (hand_of p d) is_held, (sizes_of a is).cells) in
+      led (state_with a (set a.cells.items i (slot.Done d)) (set a.hands.items p left) a.firsts.items a.outs.items) (finished c p i d) (finish p i d) accepted
+      (cell_set a i (slot.Done d) (done d) (set a.hands.items p left) a.firsts.items a.outs.items refl
+      ∙ ap (λ (t : List ℕ). record c { cells = set c.cells i (done d); hands = set c.hands p t }) (shorter ∙ ap (filter (λ k. not (k == i))) (hand_read p hand lp h)))
+      refl (finishes_lead c (sizes_of a is) is.backed p i d lp li is_held)
+
+  first_at : (s at first : ℕ) → s < a.submitters → at ≡ cell_of s first → first ≡ get_or a.firsts.items s first → at ≡ first_cell (state_of a) s
+  first_at s at first l here f = here ∙ ap (cell_of s) (first_read s first l f)
+
+  pub done_read : (s at first : ℕ) (d : Done) (x : Slot) → s < a.submitters → at ≡ cell_of s first → first ≡ get_or a.firsts.items s first → x ≡ get_or a.cells.items at x → x ≡ slot.Done d
+      → cell_in (state_of a) (first_cell (state_of a) s) ≡ Some (done d)
+  done_read s at first d x l here f e is_done = let same = first_at s at first l here f in
+      ap (cell_in (state_of a)) (sym same) ∙ cell_read at x (subst (λ (k : ℕ). k < CELLS * a.submitters) (sym same) (near a.submitters s (slice_index a.firsts.items s) l)) e ∙ ap (λ (t : Slot). Some (cell_shown t)) is_done
+
+  -- a slot with no result
+  pub undone : (s at first : ℕ) (x : Slot) → s < a.submitters → at ≡ cell_of s first → first ≡ get_or a.firsts.items s first → x ≡ get_or a.cells.items at x → ((d : Done) → x ≢ slot.Done d)
+      → (d : Done) → cell_in (state_of a) (first_cell (state_of a) s) ≢ Some (done d)
+  undone s at first x l here f e others d h = let same = first_at s at first l here f in
+      others d (shown_done x d (same_Some (cell_shown x) (done d)
+      (sym (cell_read at x (subst (λ (k : ℕ). k < CELLS * a.submitters) (sym same) (near a.submitters s (slice_index a.firsts.items s) l)) e) ∙ ap (cell_in (state_of a)) same ∙ h)))
+
+  pub after_collect : (s at first out : ℕ) (d : Done) (x y : Slot) → s < a.submitters → at ≡ cell_of s first → first ≡ get_or a.firsts.items s first → out ≡ get_or a.outs.items s out → out ≢ 0
+      → x ≡ get_or a.cells.items at x → x ≡ slot.Done d → y ≡ slot.Free
+      → let new : CoreState = state_with a (set a.cells.items at y) a.hands.items (set a.firsts.items s ((first + 1) % CELLS)) (set a.outs.items s (out - 1)) in
+      (new ≡ handed_out (state_of a) s) × IsBacked new × Leads (state_of a) (collect s) (collected d) new
+  after_collect s at first out d x y l here f o some_out e is_done is_free =
+      let c : CoreState = state_of a in let out_is = out_read s out l o in let first_is = first_read s first l f in let same = first_at s at first l here f in
+      led (state_with a (set a.cells.items at y) a.hands.items (set a.firsts.items s ((first + 1) % CELLS)) (set a.outs.items s (out - 1))) (handed_out c s) (collect s) (collected d)
+      (cell_set a at y free a.hands.items (set a.firsts.items s ((first + 1) % CELLS)) (set a.outs.items s (out - 1)) (ap cell_shown is_free)
+      ∙ ap (λ (i : ℕ). record c { cells = set c.cells i free; firsts = set c.firsts s ((first + 1) % CELLS); outs = set c.outs s (out - 1) }) same
+      ∙ ap (λ (n : ℕ). record c { cells = set c.cells (first_cell c s) free; firsts = set c.firsts s ((n + 1) % CELLS); outs = set c.outs s (out - 1) }) first_is
+      ∙ ap (λ (n : ℕ). record c { cells = set c.cells (first_cell c s) free; firsts = set c.firsts s ((slice_index c.firsts s + 1) % CELLS); outs = set c.outs s (n - 1) }) out_is)
+      refl (collects_lead c (sizes_of a is) is.backed s d l (omega arith) (done_read s at first d x l here f e is_done))
+
+  -- the job that a party has claimed, as it is read out of its cell
+  pub held_read : (r : Option (Bor Job)) (p i : ℕ) (x : Slot) → i < CELLS * a.submitters → x ≡ get_or a.cells.items i x → MatchOption r ((j : Job) → x ≢ slot.Held p j) (λ j. x ≡ slot.Held p j.now)
+      → IfSome r (λ j. HasHand (state_of a) i p (result_of j.now)) × IfNone r ((d : Done) → ¬ HasHand (state_of a) i p d)
+  held_read None p i x li e none = (tt, λ d h. let was = shown_held x p d (same_Some (cell_shown x) (hand_of p d) (sym (cell_read i x li e) ∙ h)) in none was.0 was.1)
+  held_read (Some b) p i x li e is_held = (cell_read i x li e ∙ ap (λ (t : Slot). Some (cell_shown t)) is_held, tt)

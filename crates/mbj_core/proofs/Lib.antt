@@ -1,0 +1,14 @@
+pub mod Puts
+pub mod Entries
+pub mod Hands
+pub mod Posts
+pub mod Stages
+pub mod Steps
+pub mod RunLaws
+pub mod Words
+pub mod Carried
+pub mod Facts
+pub mod Calls
+pub mod Fields
+pub mod New
+pub mod NullJobs

@@ -1,0 +1,10 @@
+pub mod Cells
+pub mod Parties
+pub mod Lawful
+pub mod Events
+pub mod Answers
+pub mod Runs
+pub mod CoreStates
+pub mod Stands
+pub mod Inside
+pub mod Claims

@@ -1,0 +1,13 @@
+ghost use Rattle.mbj_core.specs.Runs.{EventsKeepTheLaw, ResultsComeInOrder};
+ghost use Rattle.mbj_types.specs.Result.{result_of};
+
+/// A law: each list of events leads from the new front to lawful states only.
+pub fn events_keep_the_front_lawful()
+    ensures { EventsKeepTheLaw result_of }
+{}
+
+/// A law: after each list of events from the new front on, the results that a submitter has collected are the first
+/// ones of those that its accepted posts are owed, each once, in the order of its posts.
+pub fn results_come_in_the_order_of_posts()
+    ensures { ResultsComeInOrder result_of }
+{}

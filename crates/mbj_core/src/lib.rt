@@ -1,0 +1,18 @@
+//! The core of the shared front: submitters that post jobs and collect their results in order, and parties that
+//! claim any job and finish it, as one pure machine. Its contracts name the events of the front, over states in
+//! which a later front with threads can be seen too, and its laws hold of every list of events.
+#![tactic(auto)]
+
+mod cells;
+mod hand;
+mod laws;
+mod machine;
+mod party;
+
+pub use cells::{CELLS, MAX_SUBMITTERS, MAX_WORKERS};
+pub use laws::{events_keep_the_front_lawful, results_come_in_the_order_of_posts};
+pub use machine::Core;
+pub use party::{Stage, View};
+
+#[cfg(test)]
+mod tests;

@@ -1,0 +1,191 @@
+ghost use Rattle.std.specs.Prelude.{◌≡◌, ◌≢◌, ◌+◌, ◌*◌, ◌<◌, ◌≤◌, ◌↔◌, ◌⊎◌, IsErr, IfOk, IfErr, IfSome, OnOk, IfNone, MatchOption};
+ghost use Rattle.std.specs.Borrow.{sem};
+ghost use Rattle.mbj_types.specs.Result.{result_of};
+ghost use Rattle.mbj_types.specs.declared.job.Job.{Job};
+ghost use Rattle.mbj_types.specs.declared.done.Done.{Done};
+ghost use Rattle.mbj_core.specs.declared.cells.TheConstants.{CELLS, MAX_SUBMITTERS, MAX_WORKERS};
+ghost use Rattle.mbj_core.specs.Parties.{FrontState, new_front};
+ghost use Rattle.mbj_core.specs.Lawful.{Lawful};
+ghost use Rattle.mbj_core.specs.Events.{post, finish, collect, accepted};
+ghost use Rattle.mbj_core.specs.Answers.{post_answer, collect_answer};
+ghost use Rattle.mbj_core.specs.CoreStates.{new_core, out_of, first_cell, HasJob, HasHand, HasResult, posted, finished, handed_out};
+ghost use Rattle.mbj_core.specs.Stands.{StandsFor, Leads};
+
+use crate::cells::{CELLS, Slot, cell_at, free_cells};
+use crate::hand::{Hand, empty_hands};
+use mbj_types::{Done, Job, PostFull};
+use std::alloc::{AllocError, Global};
+use std::marker::Model;
+
+/// Submitters, each with `CELLS` cells, and workers. A submitter's jobs are counted from 0, and job
+/// `n` of submitter `s` has cell `CELLS * s + n % CELLS`. Party `p` is submitter `p`, and from the number of
+/// submitters on a worker; every party may claim jobs and finish them.
+///
+/// Only `new` takes memory.
+#[derive(Drop)]
+pub struct Core {
+    submitters: u32,
+    workers: u32,
+    cells: Vec<Slot>,
+    hands: Vec<Hand>,
+    firsts: Vec<u32>,
+    outs: Vec<u32>,
+}
+
+impl Model for Core {
+    ghost use Rattle.mbj_core.specs.CoreStates.{CoreState};
+
+    ghost Value = { CoreState };
+
+    ghost use Rattle.mbj_core.specs.Inside.{state_of, IsCore};
+
+    ghost view = { state_of };
+
+    ghost invariant = { IsCore };
+}
+
+impl Core {
+    ghost use Rattle.mbj_core.specs.Claims.{ClaimEnds};
+
+    /// A core in which nothing is posted, for 1 to `MAX_SUBMITTERS` submitters and up to `MAX_WORKERS` workers.
+    ///
+    /// Answers `AllocError` for want of memory.
+    pub fn new(alloc: Global, submitters: u32, workers: u32) -> Result<Core, AllocError>
+        requires submitters { (1 ≤ submitters) × (submitters ≤ MAX_SUBMITTERS) }
+        requires workers { workers ≤ MAX_WORKERS }
+        ensures empty { IfOk result (λ core. core ≡ new_core submitters workers) }
+        ensures stands { IfOk result (λ core. StandsFor core new_front) }
+    {
+        let cells = free_cells(alloc, (CELLS * submitters) as usize)?;
+        let hands = empty_hands(alloc, (submitters + workers) as usize)?;
+        Ok(Core {
+            submitters,
+            workers,
+            cells,
+            hands,
+            firsts: vec![in alloc; 0; submitters as usize]?,
+            outs: vec![in alloc; 0; submitters as usize]?,
+        })
+    }
+
+    /// How many submitters there are.
+    pub fn submitters(&self) -> u32
+        ensures { (result ≡ self.now.submitters) × (1 ≤ result) × (result ≤ MAX_SUBMITTERS) }
+    {
+        self.submitters
+    }
+
+    /// How many workers there are.
+    pub fn workers(&self) -> u32
+        ensures { (result ≡ self.now.workers) × (result ≤ MAX_WORKERS) }
+    {
+        self.workers
+    }
+
+    /// How many jobs of a submitter are out: posted, and their results not collected.
+    pub fn out(&self, s: u32) -> u32
+        requires submitter { s < self.now.submitters }
+        ensures out { result ≡ out_of self.now s }
+        ensures within { result ≤ CELLS }
+    {
+        self.outs[s as usize]
+    }
+
+    /// The cell of a submitter's earliest job that is out, or of its next job where none is out.
+    pub fn first_cell(&self, s: u32) -> u32
+        requires submitter { s < self.now.submitters }
+        ensures cell { result ≡ first_cell self.now s }
+        ensures within { result < CELLS * self.now.submitters }
+    {
+        cell_at(s, self.firsts[s as usize])
+    }
+
+    /// Posts a job of a submitter. Answers the job itself exactly where `CELLS` of this submitter are out; then
+    /// nothing changes.
+    pub fn post(&mut self, s: u32, job: Job) -> Result<(), PostFull>
+        requires submitter { s < self.old.submitters }
+        ensures full { IsErr result ↔ (out_of self.old s ≡ CELLS) }
+        ensures posted { OnOk result (self.new ≡ posted self.old s job) }
+        ensures back { IfErr result (λ e. (e.0 ≡ job) × (self.new ≡ self.old)) }
+        ensures leads { Leads self.old (post s job) (post_answer result) self.new }
+    {
+        let submitter = s as usize;
+        let out = self.outs[submitter];
+        if out == CELLS {
+            return Err(PostFull(job));
+        }
+        let next = cell_at(s, self.firsts[submitter] + out);
+        self.cells[next as usize] = Slot::Ready(job);
+        self.outs[submitter] = out + 1;
+        Ok(())
+    }
+
+    /// Gives a cell's job to a party, and lends it; it stays in the core until the party finishes it. `None` exactly
+    /// where the cell isn't ready; then nothing changes.
+    pub fn claim(&mut self, p: u32, cell: u32) -> Option<&Job>
+        requires party { p < self.old.submitters + self.old.workers }
+        requires cell { cell < CELLS * self.old.submitters }
+        ensures* claims { sem 𝓛 (ClaimEnds self.entry p cell result) }
+        ensures ready { IfSome result (λ job. HasJob self.old cell job.now) }
+        ensures unready { IfNone result ((job : Job) → ¬ HasJob self.old cell job) }
+    {
+        let at = cell as usize;
+        if !self.cells[at].hold(p) {
+            return None;
+        }
+        self.hands[p as usize].push(cell);
+        self.cells[at].held_by(p)
+    }
+
+    /// The job of a cell in a party's hand. `None` exactly where that hand doesn't have the cell.
+    pub fn held_job(&self, p: u32, cell: u32) -> Option<&Job>
+        requires cell { cell < CELLS * self.now.submitters }
+        ensures held { IfSome result (λ job. HasHand self.now cell p (result_of job.now)) }
+        ensures none { IfNone result ((d : Done) → ¬ HasHand self.now cell p d) }
+    {
+        self.cells[cell as usize].held_by(p)
+    }
+
+    /// Takes a cell out of a party's hand, and puts the result of its job there. The cell is in that hand, and the
+    /// result is the one that its job is owed.
+    pub fn finish(&mut self, p: u32, cell: u32, done: Done)
+        requires party { p < self.old.submitters + self.old.workers }
+        requires held { HasHand self.old cell p done }
+        ensures finished { self.new ≡ finished self.old p cell done }
+        ensures leads { Leads self.old (finish p cell done) accepted self.new }
+    {
+        self.hands[p as usize].take_out(cell);
+        self.cells[cell as usize] = Slot::Done(done);
+    }
+
+    /// Takes the result of a submitter's earliest job that is out. `None` exactly where none is out or the earliest
+    /// has no result yet; then nothing changes.
+    pub fn collect(&mut self, s: u32) -> Option<Done>
+        requires submitter { s < self.old.submitters }
+        ensures some_out { IfSome result (λ _. out_of self.old s ≢ 0) }
+        ensures done { IfSome result (λ d. HasResult self.old (first_cell self.old s) d) }
+        ensures none { IfNone result
+            ((out_of self.old s ≡ 0) ⊎ ((d : Done) → ¬ HasResult self.old (first_cell self.old s) d)) }
+        ensures collected { MatchOption result (self.new ≡ self.old) (λ _. self.new ≡ handed_out self.old s) }
+        ensures leads { Leads self.old (collect s) (collect_answer result) self.new }
+    {
+        let submitter = s as usize;
+        let out = self.outs[submitter];
+        if out == 0 {
+            return None;
+        }
+        let first = self.firsts[submitter];
+        let at = cell_at(s, first) as usize;
+        let done = self.cells[at].take_done()?;
+        self.firsts[submitter] = (first + 1) % CELLS;
+        self.outs[submitter] = out - 1;
+        Some(done)
+    }
+
+    /// A law: each state that a core stands for is lawful.
+    pub fn stands_for_lawful_states(&self)
+        ensures { (f : FrontState Job Done) → StandsFor self.now f → Lawful result_of self.now.submitters f }
+    {
+        let _ = &self.submitters;
+    }
+}

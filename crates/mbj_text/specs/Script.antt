@@ -1,0 +1,71 @@
+-- What a script line spells, and which field of a bad one is its fault.
+use Rattle.std.specs.Prelude.{◌≡◌, ◌⊎◌, ◌++◌, ℕ, List, [], ◌∷◌}
+use Rattle.std.specs.List.{AllZip}
+use Rattle.mbj_text.specs.declared.command.Cmd.{Cmd}
+use Rattle.mbj_text.specs.declared.command.Cmd.TheVariants as command
+use Rattle.mbj_text.specs.declared.command.Verb.{Verb}
+use Rattle.mbj_text.specs.declared.command.Verb.TheVariants as verb
+use Rattle.mbj_text.specs.Cut.{Numbered}
+use Rattle.mbj_text.specs.Words.{verb_word}
+use Rattle.mbj_text.specs.Spelling.{Form, Below, Values, SpellsFields, HasFault, fields_of}
+
+-- ---- lines
+
+-- the verb of a command
+abbrev pub verb_of_command : Cmd → Verb
+verb_of_command (command.Post submitter) = verb.Post
+verb_of_command (command.Claim worker submitter) = verb.Claim
+verb_of_command (command.Flush worker) = verb.Flush
+verb_of_command (command.Collect submitter) = verb.Collect
+
+-- the forms of the fields behind a verb's word: of submitters and of workers, numbers below how many there are
+abbrev pub number_forms : ℕ → ℕ → Verb → List Form
+number_forms submitters workers verb.Post = Below submitters ∷ []
+number_forms submitters workers verb.Claim = Below workers ∷ Below submitters ∷ []
+number_forms submitters workers verb.Flush = Below workers ∷ []
+number_forms submitters workers verb.Collect = Below submitters ∷ []
+
+-- the numbers of a command, in the order of the line
+abbrev pub numbers : (submitters workers : ℕ) (c : Cmd) → Values (number_forms submitters workers (verb_of_command c))
+numbers submitters workers (command.Post submitter) = (submitter, tt)
+numbers submitters workers (command.Claim worker submitter) = (worker, (submitter, tt))
+numbers submitters workers (command.Flush worker) = (worker, tt)
+numbers submitters workers (command.Collect submitter) = (submitter, tt)
+
+-- the line spells the command: the word of its verb, and then its numbers
+pub record SpellsCommand (submitters workers : ℕ) (line : List ℕ) (c : Cmd) : Type 0 where
+  pub texts : List (List ℕ)
+  pub fields : fields_of line ≡ verb_word (verb_of_command c) ∷ texts
+  pub numbers_are : SpellsFields (number_forms submitters workers (verb_of_command c)) texts (numbers submitters workers c)
+
+-- the line begins with the word of a verb, and then its fields don't spell the verb's numbers; its fault is field f:
+-- 0 where it hasn't as many fields as the verb asks, else the number of the first one that isn't a number below its limit
+pub record HasBadNumbers (submitters workers : ℕ) (line : List ℕ) (f : ℕ) : Type 0 where
+  pub word : Verb
+  pub texts : List (List ℕ)
+  pub fields : fields_of line ≡ verb_word word ∷ texts
+  pub fault : HasFault 2 (number_forms submitters workers word) texts f
+
+-- the line begins with the word of a verb
+abbrev pub HasVerb : List ℕ → Type 0
+HasVerb line = (v : Verb) × (texts : List (List ℕ)) × (fields_of line ≡ verb_word v ∷ texts)
+
+-- the line spells no command, and its fault is field f: 1 where its first field is no verb's word
+abbrev pub IsBadCommand : ℕ → ℕ → List ℕ → ℕ → Type 0
+IsBadCommand submitters workers line f = ((f ≡ 1) × ¬ (HasVerb line)) ⊎ HasBadNumbers submitters workers line f
+
+-- ---- scripts
+
+-- there are as many commands as lines, and each line spells its command
+abbrev pub SpellScript : ℕ → ℕ → List Numbered → List Cmd → Type 0
+SpellScript submitters workers lines commands = AllZip (λ line c. SpellsCommand submitters workers line.1 c) lines commands
+
+-- the line with this number is the first one that spells no command; the field is its fault
+pub record BadScript (submitters workers : ℕ) (lines : List Numbered) (line field : ℕ) : Type 0 where
+  pub before : List Numbered
+  pub text : List ℕ
+  pub after : List Numbered
+  pub commands : List Cmd
+  pub cut_so : lines ≡ before ++ (line, text) ∷ after
+  pub good : SpellScript submitters workers before commands
+  pub bad : IsBadCommand submitters workers text field

@@ -1,0 +1,90 @@
+ghost use Rattle.std.specs.Prelude.{◌≡◌, ◌≤◌, ℕ, List, Err, IfOk, length};
+ghost use Rattle.mbj_types.specs.declared.job.Job.{Job};
+ghost use Rattle.mbj_text.specs.declared.command.Cmd.{Cmd};
+ghost use Rattle.mbj_text.specs.declared.limits.TheConstants.{INPUT_LIMIT};
+ghost use Rattle.mbj_text.specs.Answer.{Answers, IsOkOnly, IsErrOnly};
+ghost use Rattle.mbj_text.specs.Replay.{ReadsReplay, BadReplay, OverReplay, EachReplayIsOne, ReplayIsUnique, BadReplayIsUnique, OverReplayIsUnique};
+
+use crate::command::Cmd;
+use crate::fault::TextFault;
+use crate::jobs::read_jobs;
+use crate::kept_lines::{JobsEnd, KeptLines};
+use crate::limits::INPUT_LIMIT;
+use crate::script::read_script;
+use mbj_types::Job;
+use std::alloc::Global;
+
+/// Reads the file of a replay, of at most `INPUT_LIMIT` bytes: its jobs and the commands of its
+/// script, each in the order of their lines.
+///
+/// Lines are cut, skipped and counted as those of a job file (see [`read_file`](crate::read_file)).
+/// The job lines end before the first line that is exactly `%`, and the lines behind it are the
+/// script; without such a line the script is empty. A script line is parted by single spaces: its
+/// first field is a word, the others are numbers as in job lines.
+///
+/// | Line | Command |
+/// |---|---|
+/// | `post S` | `Post(S)` |
+/// | `claim W S` | `Claim(W, S)` |
+/// | `flush W` | `Flush(W)` |
+/// | `collect S` | `Collect(S)` |
+///
+/// S is below `submitters`, and W is below `workers`.
+///
+/// It answers `Line` at the first bad line, `Limit` at the job line behind `JOB_LIMIT` good ones,
+/// whatever it says, and `Memory` where there isn't memory enough. Of a bad job line the field is
+/// that of `read_file`. Of a bad script line it is 1 where the first field is no such word, else 0
+/// where the number of fields isn't that of the command, else the number of the first field that is
+/// no number below its limit. A job line that is bad or one too many comes before all script lines.
+pub fn read_replay(
+    alloc: Global,
+    bytes: &[u8],
+    submitters: u32,
+    workers: u32,
+) -> Result<(Vec<Job>, Vec<Cmd>), TextFault>
+    requires { length bytes.now ≤ INPUT_LIMIT }
+
+    // Each answer but `Memory` is right.
+    ensures reads { IfOk result (λ r.
+        ReadsReplay submitters workers bytes.now r.0.items r.1.items) }
+    ensures bad { (line field : ℕ) → result ≡ Err (TextFault.Line line field)
+        → BadReplay submitters workers bytes.now line field }
+    ensures over { (line : ℕ) → result ≡ Err (TextFault.Limit line) → OverReplay bytes.now line }
+
+    // What is right is answered, unless there isn't memory enough.
+    ensures only_reads { (jobs : List Job) (commands : List Cmd)
+        → ReadsReplay submitters workers bytes.now jobs commands
+        → IsOkOnly result (λ r. (r.0.items ≡ jobs) × (r.1.items ≡ commands)) }
+    ensures only_bad { (line field : ℕ) → BadReplay submitters workers bytes.now line field
+        → IsErrOnly result (TextFault.Line line field) }
+    ensures only_over { (line : ℕ) → OverReplay bytes.now line
+        → IsErrOnly result (TextFault.Limit line) }
+{
+    jobs_and_commands(alloc, bytes, submitters, workers)
+}
+
+/// The jobs of a file, and then the commands of its script.
+fn jobs_and_commands(
+    alloc: Global,
+    bytes: &[u8],
+    submitters: u32,
+    workers: u32,
+) -> Result<(Vec<Job>, Vec<Cmd>), TextFault>
+    requires { length bytes.now ≤ INPUT_LIMIT }
+    ensures { Answers (λ r. ReadsReplay submitters workers bytes.now r.0.items r.1.items)
+        (BadReplay submitters workers bytes.now) (OverReplay bytes.now) result }
+{
+    let mut lines = KeptLines::of(bytes);
+    let jobs = read_jobs(alloc, &mut lines, JobsEnd::Mark)?;
+    let commands = read_script(alloc, lines, submitters, workers)?;
+    Ok((jobs, commands))
+}
+
+/// Each file spells a replay, or has a first bad line, or has too many job lines: exactly one of
+/// these, and in one way.
+pub fn each_replay_is_one()
+    ensures one { EachReplayIsOne }
+    ensures reads { ReplayIsUnique }
+    ensures bad { BadReplayIsUnique }
+    ensures over { OverReplayIsUnique }
+{}
