@@ -1,4 +1,4 @@
--- Ciphers keep the lengths of texts, and so a result's packet is as long as its job's.
+-- Ciphers keep the lengths of texts, and so a result's packet is as long as its job's; and how long a result's tag may be.
 use Rattle.std.proofs.Common.{◌≡◌, ℕ, zero, suc, ◌==◌, ◌&&◌, ◌||◌, nat_lt, ◌+◌, ◌-◌, ◌*◌, ◌/◌, ◌%◌, ◌^◌, ◌<◌, ◌≤◌, inl, inr, true, false, List, [], ◌∷◌, ◌++◌, length, take, drop, Option, Some, None, refl, sym, ap, ◌∙◌, arith, length-append, length-drop}
 use Rattle.std.specs.List.{All, concat}
 use Rattle.std.specs.Option.{option_map_or}
@@ -10,13 +10,16 @@ use Rattle.mbj_types.specs.Aes.{key_schedule, schedule, schedule_term, word, rou
 use Rattle.mbj_types.specs.Blocks.{xor_lists, first_blocks, blocks}
 use Rattle.mbj_types.specs.Modes.{cbc, uncbc, ctr_blocks, first_counter, cbc_text, uncbc_text, ctr_text}
 use Rattle.mbj_types.specs.Gcm.{inc32, pre_counter_block, gctr, gcm_text}
-use Rattle.mbj_types.specs.Verdict.{is_null_cipher, takes_key, takes_iv, takes_range, verdict}
-use Rattle.mbj_types.specs.Result.{cipher_range, with_cipher_range, gcm_of, ciphered, ciphered_by, accepted, refused, result_of}
+use Rattle.mbj_types.specs.Verdict.{is_null_cipher, takes_key, takes_iv, takes_range, most_tag_bytes, verdict}
+use Rattle.mbj_types.specs.Result.{cipher_range, with_cipher_range, gcm_of, ciphered, ciphered_by, authenticated_by, mac_by, tag_over, accepted, refused, result_of}
 use Rattle.mbj_types.specs.declared.job.Job.{Job}
 use Rattle.mbj_types.specs.declared.job.Cipher.{Cipher}
 use Rattle.mbj_types.specs.declared.job.Cipher.TheVariants as cipher
+use Rattle.mbj_types.specs.declared.job.Auth.{Auth}
+use Rattle.mbj_types.specs.declared.job.Auth.TheVariants as auth
 use Rattle.mbj_types.specs.declared.job.Dir.{Dir}
 use Rattle.mbj_types.specs.declared.job.Dir.TheVariants.{Enc, Dec}
+use Rattle.mbj_types.specs.declared.limits.TheConstants.{MAX_TAG_BYTES}
 use Rattle.mbj_types.specs.declared.reason.Reason.{Reason}
 use Rattle.mbj_aes.proofs.XorLists.{length-xor_lists}
 use Rattle.mbj_aes.proofs.KeyLists.{length-round_key}
@@ -223,3 +226,30 @@ length-by_verdict (Some reason) j e = refl
 pub length-result_of : (j : Job) → length (result_of j).packet ≡ length j.packet
 unfolding result_of
 length-result_of j = length-by_verdict (verdict j) j refl
+
+-- ---- tags
+
+most_tag_bytes-most : (a : Auth) → most_tag_bytes a ≤ MAX_TAG_BYTES
+most_tag_bytes-most auth.Null = omega arith
+most_tag_bytes-most auth.HmacSha1 = omega arith
+most_tag_bytes-most auth.HmacSha224 = omega arith
+most_tag_bytes-most auth.HmacSha256 = omega arith
+most_tag_bytes-most auth.HmacSha384 = omega arith
+most_tag_bytes-most auth.HmacSha512 = omega arith
+most_tag_bytes-most auth.Cmac128 = omega arith
+most_tag_bytes-most auth.Cmac256 = omega arith
+most_tag_bytes-most auth.Gcm = omega arith
+
+length-tag_by : (reason : Option Reason) (j : Job) → verdict j ≡ reason
+    → length (option_map_or (refused j) reason (accepted j)).tag ≤ MAX_TAG_BYTES
+unfolding tag_over
+length-tag_by None j none =
+    let most : j.tag_len ≤ most_tag_bytes j.auth = (table.accepted j (length j.packet) none).most_tag in
+    let bound = most_tag_bytes-most j.auth in
+    omega (arith, length-take j.tag_len (mac_by j.auth j (authenticated_by j.auth j)))
+length-tag_by (Some reason) j e = omega arith
+
+-- a result's tag is no longer than the longest tag
+pub length-tag : (j : Job) → length (result_of j).tag ≤ MAX_TAG_BYTES
+unfolding result_of
+length-tag j = length-tag_by (verdict j) j refl

@@ -1,9 +1,9 @@
 -- The lines of results: each fits a sink, and one after another they are the text.
-use Rattle.std.proofs.Common.{◌≡◌, ℕ, zero, suc, ◌+◌, ◌-◌, ◌*◌, ◌<◌, ◌≤◌, ◌⊎◌, ◌^◌, inl, inr, Bool, true, false, List, [], ◌∷◌, ◌++◌, length, take, map, slice_get, codes, decimal, count_by, Option, Some, None, refl, sym, ap, ap₂, ◌∙◌, arith, append_assoc, append-nil, length-append}
+use Rattle.std.proofs.Common.{◌≡◌, ℕ, zero, suc, ◌+◌, ◌-◌, ◌*◌, ◌<◌, ◌≤◌, ◌⊎◌, ◌^◌, inl, inr, Bool, cond, get_or, List, [], ◌∷◌, ◌++◌, length, take, map, slice_get, codes, decimal, count_by, Option, Some, None, refl, sym, ap, ap₂, ◌∙◌, arith, append_assoc, append-nil, length-append}
 use Rattle.std.specs.Option.{option_map_or}
 use Rattle.std.proofs.lemmas.Fmt.{length-decimal-le}
 use Rattle.std.proofs.lemmas.List.{length-map, length-take, take_all}
-use Rattle.std.proofs.lemmas.List.Sums.{count_by-le-length, count_by_more_no, count_by_more_yes}
+use Rattle.std.proofs.lemmas.List.Sums.{sum_by_more}
 use Rattle.std.proofs.lemmas.Option.{get_or_from_slice_get, slice_get_within}
 use Rattle.hex.specs.Hex.{encode_lower, lower_digits}
 use Rattle.hex.proofs.HexLemmas.{length-encode_with}
@@ -113,20 +113,10 @@ text-next n results done h =
 
 -- ---- the count of accepted results
 
-abbrev pub one_if : Bool → ℕ
-one_if true = 1
-one_if false = 0
-
-pub one_if-small : (b : Bool) → one_if b ≤ 1
-one_if-small true = omega arith
-one_if-small false = omega arith
-
-pub accepted-next : (n : ℕ) (results : List Done) (done : Done) (b : Bool) → slice_get results n ≡ Some done → is_ok done.status ≡ b
-    → accepted (take (n + 1) results) ≡ accepted (take n results) + one_if b
-accepted-next n results done true h is =
-    let here = get_or_from_slice_get results n done done h in
-    count_by_more_yes (λ (d : Done). is_ok d.status) results n done (slice_get_within results n done h) (ap (λ (d : Done). is_ok d.status) here ∙ is)
-accepted-next n results done false h is =
-    let here = get_or_from_slice_get results n done done h in
-    count_by_more_no (λ (d : Done). is_ok d.status) results n done (slice_get_within results n done h) (ap (λ (d : Done). is_ok d.status) here ∙ is)
-    ∙ omega arith
+-- with one more result
+pub accepted-next : (n : ℕ) (results : List Done) (done : Done) (ok : Bool) → slice_get results n ≡ Some done
+    → ok ≡ is_ok done.status → accepted (take (n + 1) results) ≡ accepted (take n results) + cond ok 1 0
+accepted-next n results done ok at is =
+    let here : get_or results n done ≡ done = get_or_from_slice_get results n done done at in
+    sum_by_more (λ (d : Done). cond (is_ok d.status) 1 0) results n done (slice_get_within results n done at)
+    ∙ ap (λ (b : Bool). accepted (take n results) + cond b 1 0) (ap (λ (d : Done). is_ok d.status) here ∙ sym is)

@@ -1,12 +1,15 @@
-ghost use Rattle.std.specs.Prelude.{◌≡◌, ◌≢◌, ◌≤◌, ◌⊎◌, ℕ, IfErr, IfOk, OnOk, length, map};
+ghost use Rattle.std.specs.Prelude.{◌≡◌, ◌≢◌, ◌<◌, ◌≤◌, ◌⊎◌, ℕ, IfErr, IfOk, List, OnOk, Some, length, map, slice_get};
+ghost use Rattle.mbj_types.specs.declared.done.Done.{Done};
 ghost use Rattle.mbj_types.specs.Result.{result_of};
+ghost use Rattle.mbj_text.specs.Line.{done_line};
 ghost use Rattle.mbj_text.specs.declared.limits.TheConstants.{JOB_LIMIT};
 ghost use Rattle.std.specs.Io.KnownBytes.{Appends};
 ghost use Rattle.mbj_text.specs.Flow.{GainsPrefix};
 ghost use Rattle.mbjobs.specs.Command.{IsParties};
 ghost use Rattle.mbjobs.specs.Dealing.{AreDealt};
 ghost use Rattle.mbjobs.specs.Reading.{Fails, IsUntouched, stream};
-ghost use Rattle.mbjobs.specs.Summary.{gen_text, generated, summary_lines};
+ghost use Rattle.mbjobs.specs.Summary.{gen_text, generated, is_ok, summary_lines};
+ghost use Rattle.mbjobs.specs.declared.line_sink.TheConstants.{LINE_ROOM};
 
 use crate::cause::Cause;
 use crate::dealing::{do_jobs, result_at};
@@ -34,13 +37,23 @@ fn make_jobs(alloc: Global, seed: u64, count: u32) -> Result<Vec<Job>, AllocErro
     Ok(jobs)
 }
 
-/// What results come to. Their text is made line by line, and not kept.
+/// Whether the job was accepted.
+fn is_ok(done: &Done) -> bool
+    ensures { result ≡ is_ok done.now.status }
+{
+    done.status == Status::Ok
+}
+
+/// What results come to. Their text is made line by line, and not kept: each line has less than [`LINE_ROOM`] bytes.
+///
+/// [`LINE_ROOM`]: crate::line_sink::LINE_ROOM
 fn summarize(lists: &[Vec<Done>], count: u32) -> [Line; 5]
-    ghost seed: { ℕ }
-    requires dealt { AreDealt (map result_of (generated count seed)) (length lists.now)
-        (map (λ list. list.items) lists.now) }
+    ghost results: { List Done }
+    requires dealt { AreDealt results (length lists.now) (map (λ list. list.items) lists.now) }
+    requires count { count ≡ length results }
     requires limit { count ≤ JOB_LIMIT }
-    ensures { result ≡ summary_lines (map result_of (generated count seed)) }
+    requires lines { (n : ℕ) (done : Done) → slice_get results n ≡ Some done → length (done_line n done) < LINE_ROOM }
+    ensures { result ≡ summary_lines results }
 {
     let mut accepted = 0;
     let mut bytes = 0;
@@ -48,9 +61,10 @@ fn summarize(lists: &[Vec<Done>], count: u32) -> [Line; 5]
     for number in 0..count {
         let done = result_at(lists, number);
         let line = LineSink::of(number, done);
-        accepted += u32::from(done.status == Status::Ok);
-        bytes += line.as_bytes().len() as u64;
-        hasher.update(line.as_bytes());
+        accepted += u32::from(is_ok(done));
+        let text = line.as_bytes();
+        bytes += text.len() as u64;
+        hasher.update(text);
     }
     [
         Line::Jobs(count),
