@@ -1,6 +1,10 @@
-pub mod Deals
-pub mod Drawing
+mod Deals
+mod Drawing
+mod Made
 mod Printing
-mod Tracing
+mod ResultLines
+mod Sums
+mod TagLengths
 mod Told
-pub mod Writing
+mod Tracing
+mod Writing

@@ -8,6 +8,7 @@ mod dealing;
 mod draws;
 mod generator;
 mod line;
+mod line_sink;
 mod options;
 mod reading;
 mod report;

@@ -1,19 +1,24 @@
-ghost use Rattle.std.specs.Prelude.{◌≡◌, ◌≢◌, ◌≤◌, ◌⊎◌, ℕ, IfErr, IfOk, OnOk, length, map};
+ghost use Rattle.std.specs.Prelude.{◌≡◌, ◌≢◌, ◌<◌, ◌≤◌, ◌⊎◌, ℕ, IfErr, IfOk, List, OnOk, Some, length, map, slice_get};
+ghost use Rattle.mbj_types.specs.declared.done.Done.{Done};
 ghost use Rattle.mbj_types.specs.Result.{result_of};
+ghost use Rattle.mbj_text.specs.Line.{done_line};
 ghost use Rattle.mbj_text.specs.declared.limits.TheConstants.{JOB_LIMIT};
 ghost use Rattle.std.specs.Io.KnownBytes.{Appends};
 ghost use Rattle.mbj_text.specs.Flow.{GainsPrefix};
 ghost use Rattle.mbjobs.specs.Command.{IsParties};
 ghost use Rattle.mbjobs.specs.Dealing.{AreDealt};
 ghost use Rattle.mbjobs.specs.Reading.{Fails, IsUntouched, stream};
-ghost use Rattle.mbjobs.specs.Summary.{gen_text, generated, summary_lines};
+ghost use Rattle.mbjobs.specs.Summary.{gen_text, generated, is_ok, summary_lines};
+ghost use Rattle.mbjobs.specs.declared.line_sink.TheConstants.{LINE_ROOM};
 
 use crate::cause::Cause;
-use crate::dealing::do_jobs;
+use crate::dealing::{do_jobs, result_at};
 use crate::generator::Generator;
 use crate::line::{Line, write_lines};
+use crate::line_sink::LineSink;
 use mbj_io::{Failed, Sink};
-use mbj_types::{Done, Job};
+use mbj_types::{Done, Job, Status};
+use sha2::{Digest, Sha256};
 use std::alloc::{AllocError, Global};
 use std::thread::Threads;
 
@@ -32,20 +37,41 @@ fn make_jobs(alloc: Global, seed: u64, count: u32) -> Result<Vec<Job>, AllocErro
     Ok(jobs)
 }
 
-/// What results come to. Their text is made line by line, and not kept.
-fn summarize(lists: &[Vec<Done>], count: u32) -> [Line; 5]
-    ghost seed: { ℕ }
-    requires dealt { AreDealt (map result_of (generated count seed)) (length lists.now)
-        (map (λ list. list.items) lists.now) }
-    requires limit { count ≤ JOB_LIMIT }
-    ensures { result ≡ summary_lines (map result_of (generated count seed)) }
+/// Whether the job was accepted.
+fn is_ok(done: &Done) -> bool
+    ensures { result ≡ is_ok done.now.status }
 {
+    done.status == Status::Ok
+}
+
+/// What results come to. Their text is made line by line, and not kept: each line has less than [`LINE_ROOM`] bytes.
+///
+/// [`LINE_ROOM`]: crate::line_sink::LINE_ROOM
+fn summarize(lists: &[Vec<Done>], count: u32) -> [Line; 5]
+    ghost results: { List Done }
+    requires dealt { AreDealt results (length lists.now) (map (λ list. list.items) lists.now) }
+    requires count { count ≡ length results }
+    requires limit { count ≤ JOB_LIMIT }
+    requires lines { (n : ℕ) (done : Done) → slice_get results n ≡ Some done → length (done_line n done) < LINE_ROOM }
+    ensures { result ≡ summary_lines results }
+{
+    let mut accepted = 0;
+    let mut bytes = 0;
+    let mut hasher = Sha256::new();
+    for number in 0..count {
+        let done = result_at(lists, number);
+        let line = LineSink::of(number, done);
+        accepted += u32::from(is_ok(done));
+        let text = line.as_bytes();
+        bytes += text.len() as u64;
+        hasher.update(text);
+    }
     [
         Line::Jobs(count),
-        Line::Accepted(0),
-        Line::Invalid(0),
-        Line::Bytes(0),
-        Line::Sha256([0; 32]),
+        Line::Accepted(accepted),
+        Line::Invalid(count - accepted),
+        Line::Bytes(bytes),
+        Line::Sha256(hasher.finalize()),
     ]
 }
 
