@@ -1,5 +1,5 @@
 -- Jobs that are made from a seed are small, and so are the lines of their results.
-use Rattle.std.proofs.Common.{◌≡◌, ℕ, zero, suc, ◌+◌, ◌-◌, ◌*◌, ◌%◌, ◌/◌, ◌<◌, ◌≤◌, List, [], ◌∷◌, ◌++◌, append_assoc, length, take, map, slice_get, Option, Some, None, refl, sym, subst, ap, ◌∙◌, arith}
+use Rattle.std.proofs.Common.{◌≡◌, ℕ, zero, suc, ◌+◌, ◌-◌, ◌*◌, ◌%◌, ◌<◌, ◌≤◌, List, [], ◌∷◌, ◌++◌, append_assoc, length, map, slice_get, Some, refl, sym, subst, ap, ◌∙◌, arith}
 use Rattle.std.proofs.lemmas.List.{length-map}
 use Rattle.std.proofs.lemmas.Nat.{mod_below}
 use Rattle.mbj_types.specs.Result.{result_of}
@@ -97,8 +97,8 @@ results-gathered results count n list_of lists all dealt limit fits =
     let lengths : n ≡ length lists = sym dealt.count ∙ length-map lists list_of in
     let Dealt : ℕ → Type 0 = λ k. AreDealt results k (map list_of lists) in
     let Asked : List Done → Type 0 = λ ds. AreDealt ds (length lists) (map list_of lists)
-        × ((count ≡ length ds) × ((count ≤ JOB_LIMIT)
-        × ((i : ℕ) (done : Done) → slice_get ds i ≡ Some done → length (done_line i done) < LINE_ROOM))) in
+    × ((count ≡ length ds) × ((count ≤ JOB_LIMIT)
+    × ((i : ℕ) (done : Done) → slice_get ds i ≡ Some done → length (done_line i done) < LINE_ROOM))) in
     subst Asked (sym same) (subst Dealt lengths dealt, (all, (limit, fits)))
 
 -- the results of the jobs that were made stand in the lists by turns

@@ -1,5 +1,5 @@
 -- Lines that are written, or told, one after another.
-use Rattle.std.proofs.Common.{◌≡◌, ◌∙◌, ◌<◌, ◌+◌, ◌++◌, [], ◌∷◌, ap, sym, subst, ℕ, suc, List, Option, Result, Ok, Err, OnErr, IsErr, length, drop, get_or, flat_map, arith}
+use Rattle.std.proofs.Common.{◌≡◌, ◌∙◌, ◌<◌, ◌+◌, ◌++◌, ap, sym, subst, ℕ, suc, List, Option, Result, Ok, Err, OnErr, length, drop, get_or, flat_map, arith}
 use Rattle.std.proofs.Math.Seq.{drop-cons}
 use Rattle.std.specs.Io.KnownBytes.{Appends}
 use Rattle.mbj_text.specs.Flow.{Flows, GainsPrefix}

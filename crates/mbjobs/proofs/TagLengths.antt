@@ -1,5 +1,5 @@
 -- How long a result's tag may be.
-use Rattle.std.proofs.Common.{◌≡◌, ◌≤◌, ℕ, length, take, Option, Some, None, refl, arith}
+use Rattle.std.proofs.Common.{◌≡◌, ◌≤◌, length, Option, Some, None, refl, arith}
 use Rattle.std.specs.Option.{option_map_or}
 use Rattle.std.proofs.lemmas.List.{length-take}
 use Rattle.mbj_types.specs.Verdict.{most_tag_bytes, verdict}

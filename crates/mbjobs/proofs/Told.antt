@@ -1,11 +1,9 @@
 -- How a command ends over a source that tells its bytes.
-use Rattle.std.proofs.Common.{◌≡◌, ◌≢◌, ◌⊎◌, ◌∙◌, ◌≤◌, ◌<◌, ◌++◌, ap, sym, subst, refl, inl, inr, ℕ, List, Option, None, Some, length, append-nil, length-append, arith}
-use Rattle.mbj_types.specs.declared.job.Job.{Job}
+use Rattle.std.proofs.Common.{◌≡◌, ◌⊎◌, ◌∙◌, ◌≤◌, ◌<◌, ◌++◌, ap, sym, subst, refl, inl, inr, ℕ, List, Option, None, Some, length, append-nil, length-append, arith}
 use Rattle.mbj_text.specs.declared.limits.TheConstants.{INPUT_LIMIT}
-use Rattle.mbj_text.specs.File.{Reads, Bad, Over}
 use Rattle.mbj_text.proofs.FileLaws.{reads_not_bad, reads_not_over, bad_not_over}
 use Rattle.mbjobs.specs.Message.{status_of}
-use Rattle.mbjobs.specs.Outcome.{Answers, Asks, AsksFor, BreaksOff, Completes, Does, IsBadFor, IsOverFor, ReadsInput, Stands}
+use Rattle.mbjobs.specs.Outcome.{AsksFor, Does, IsBadFor, IsOverFor, ReadsInput, Stands}
 use Rattle.mbjobs.specs.Reading.{Fails, ReadsAll, ReadsBytes, ReadsTooMuch, Stream}
 use Rattle.mbjobs.specs.declared.cause.Cause.{Cause}
 use Rattle.mbjobs.specs.declared.cause.Cause.TheVariants.{Read, Write, Line, Bytes, Jobs, Memory}

@@ -1,5 +1,5 @@
 -- The lines of a trace, put together from those of its parts.
-use Rattle.std.proofs.Common.{◌≡◌, ◌∙◌, ◌<◌, ◌+◌, ◌++◌, [], ap, sym, refl, ℕ, List, length, drop, get_or, flat_map, append_assoc}
+use Rattle.std.proofs.Common.{◌≡◌, ◌∙◌, ◌<◌, ◌+◌, ◌++◌, [], ap, sym, ℕ, List, length, drop, get_or, flat_map, append_assoc}
 use Rattle.mbj_types.specs.declared.job.Job.{Job}
 use Rattle.mbj_types.specs.declared.kind.Kind.{Kind}
 use Rattle.mbj_manager.specs.State.{ManagerState, new_manager}

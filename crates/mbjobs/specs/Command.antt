@@ -1,5 +1,5 @@
 -- The command line, by clap's meaning of a set of commands.
-use Rattle.std.specs.Prelude.{◌-◌, ◌^◌, ◌≤◌, Bool, ℕ, true, false, List, [], ◌∷◌, Option, Some, None, codes, find, map, option_and_then, option_map, if◌then◌else◌}
+use Rattle.std.specs.Prelude.{◌-◌, ◌^◌, ◌≤◌, ℕ, true, false, List, [], ◌∷◌, Option, Some, None, codes, find, map, option_and_then, option_map, if◌then◌else◌}
 use Rattle.std.specs.Str.{bytes_eq}
 use Rattle.std.specs.Str.Parse.{digits_value, without_leading_plus}
 use Rattle.clap.specs.Words.{App, Row, Rule, Shape, Text, first_of, new_rule, subcommand_of}

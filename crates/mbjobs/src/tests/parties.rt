@@ -106,3 +106,56 @@ fn the_text_does_not_depend_on_the_submitters(rt: HostRuntime) -> Result<(), Fai
     }
     Ok(())
 }
+
+/// Seed and number of jobs, and what they come to by a program of their own.
+const SUMMARIES: [(&str, &str, &str); 4] = [
+    (
+        "1",
+        "0",
+        "jobs 0\nok 0\ninvalid 0\nbytes 0\nsha256 e3b0c44298fc1c149afbf4c8996fb92427ae41e4649b934ca495991b7852b855\n",
+    ),
+    (
+        "0",
+        "1",
+        "jobs 1\nok 1\ninvalid 0\nbytes 359\nsha256 9b39b258c9bbf0144181b9ee57a5282a0b4876739eef93be99691d121e1fe4b2\n",
+    ),
+    (
+        "1",
+        "16",
+        "jobs 16\nok 13\ninvalid 3\nbytes 7066\nsha256 800c0c47f067824b21f6847a1ab6709d99a1b767eccd8a52ae6afb961df6a1ad\n",
+    ),
+    (
+        "7",
+        "600",
+        "jobs 600\nok 570\ninvalid 30\nbytes 325085\nsha256 b35ae57deabbe22d57517b5f198e0ca793dbd961373cb31ce1d1f7966b13e1f3\n",
+    ),
+];
+
+#[test]
+fn generated_jobs_come_to_their_summary(rt: HostRuntime) -> Result<(), Fail> {
+    let alloc = rt.alloc();
+    for (seed, jobs, summary) in SUMMARIES {
+        for submitters in SUBMITTERS {
+            let words = [
+                "mbjobs",
+                "gen",
+                "--seed",
+                seed,
+                "--jobs",
+                jobs,
+                "--submitters",
+                submitters,
+                "--workers",
+                "0",
+            ];
+            let ending = run_words(&rt, alloc, &words, b"")?;
+            assert_eq!(rt; ending.status, 0);
+            assert_eq!(rt;
+                ending.out.held(),
+                summary.as_bytes(),
+                "{seed} {jobs} {submitters}"
+            );
+        }
+    }
+    Ok(())
+}

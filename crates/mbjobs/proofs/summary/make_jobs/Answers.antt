@@ -1,5 +1,5 @@
 -- The job that is pushed is the first of those that are left.
-use Rattle.std.proofs.Common.{◌≡◌, ◌∙◌, ◌+◌, ◌≤◌, ◌++◌, ◌∷◌, [], List, ap, subst, sym, arith, vec_capacity, vec_len}
+use Rattle.std.proofs.Common.{◌∙◌, ◌++◌, ◌∷◌, [], ap, arith}
 use Rattle.mbj_types.specs.declared.job.Job.{Job}
 use Rattle.mbjobs.proofs.Made.{made-next}
 use Rattle.mbjobs.proofs.summary.make_jobs.Goals as goal

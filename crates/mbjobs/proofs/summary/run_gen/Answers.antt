@@ -1,5 +1,5 @@
 -- The results are those of the jobs that were made, dealt by turns.
-use Rattle.std.proofs.Common.{◌≡◌, ℕ, List, Option, map, subst}
+use Rattle.std.proofs.Common.{List, map, subst}
 use Rattle.std.specs.Io.KnownBytes.{Appends}
 use Rattle.mbj_types.specs.Result.{result_of}
 use Rattle.mbj_text.specs.Flow.{GainsPrefix}

@@ -1,5 +1,5 @@
 -- One result after another is summed.
-use Rattle.std.proofs.Common.{◌≡◌, ◌∙◌, ◌≤◌, ◌<◌, ◌+◌, length, arith, sym, subst, ℕ}
+use Rattle.std.proofs.Common.{◌≡◌, ◌∙◌, arith, subst, ℕ}
 use Rattle.mbjobs.proofs.Sums.{IsSum, number-of-test, sum-next, sum-all}
 use Rattle.mbjobs.proofs.summary.summarize.Goals as goal
 

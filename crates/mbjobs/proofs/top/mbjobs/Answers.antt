@@ -1,6 +1,5 @@
 -- Where the input tells its bytes, what they are decides the status.
-use Rattle.std.proofs.Common.{◌∙◌, ◌≡◌, Option, Some, inr, subst, List, ℕ}
-use Rattle.mbjobs.specs.Command.{command}
+use Rattle.std.proofs.Common.{◌∙◌, inr, subst}
 use Rattle.mbjobs.specs.Outcome.{AsksFor, IsBadFor, IsOverFor}
 use Rattle.mbjobs.specs.Reading.{Stream, stream}
 use Rattle.mbjobs.proofs.Told.{along, bad_ends, bad_not_whole, good_ends, over_ends, over_not_whole, same-command}
