@@ -4,7 +4,7 @@ use Rattle.mbj_types.specs.declared.job.Job.{Job}
 use Rattle.mbj_stage.specs.declared.stage.Step.{Step}
 use Rattle.mbj_stage.specs.declared.stage.Step.TheVariants as step
 use Rattle.mbj_manager.specs.Rounds.{Pending, pending_at}
-use Rattle.mbj_manager.specs.Machine.{Machine, changed}
+use Rattle.mbj_manager.specs.Machine.{submit, Machine, changed}
 use Rattle.mbj_manager.specs.Course.{in_lanes_next, goes_on, stepped, stepped_at, stages_left, after_steps, course, after_flush_steps, flushed}
 use Rattle.mbj_manager.specs.State.{idle_machine}
 
@@ -28,33 +28,33 @@ last-changed zero ps = refl
 last-changed (suc n) ps = ap (λ left. [] ∷ left) (last-changed n ps)
 
 -- with nothing in the agenda a course changes nothing
-rests : (steps : ℕ) (m : Machine) → m.agenda ≡ [] → after_steps steps m ≡ m
+rests : (steps : ℕ) (m : Machine) → m.agenda ≡ [] → after_steps submit steps m ≡ m
 unfolding after_steps
 rests zero m e = refl
 rests (suc steps) m e =
-    let stays : stepped m ≡ m = ap (λ a. stepped_at a m) e in
-    ap (after_steps steps) stays ∙ rests steps m e
+    let stays : stepped submit m ≡ m = ap (λ a. stepped_at submit a m) e in
+    ap (after_steps submit steps) stays ∙ rests steps m e
 
 -- a job whose stages finish at once, behind n that are finished
 abbrev pub entering : ℕ → List Pending → Machine
 entering n ps = record (idle_machine (finished n ++ ps ∷ [])) { agenda = n ∷ [] }
 
-one-step : (n : ℕ) (ps : List Pending) → in_lanes_next ps ≡ [] → stepped (entering n ps) ≡ idle_machine (finished n ++ [] ∷ [])
+one-step : (n : ℕ) (ps : List Pending) → in_lanes_next ps ≡ [] → stepped submit (entering n ps) ≡ idle_machine (finished n ++ [] ∷ [])
 one-step n ps none =
     let next : in_lanes_next (slice_index_or (finished n ++ ps ∷ []) n []) ≡ [] = ap in_lanes_next (last-left n ps) ∙ none in
     let left : changed in_lanes_next n (finished n ++ ps ∷ []) ≡ finished n ++ [] ∷ [] = last-changed n ps ∙ ap (λ l. finished n ++ l ∷ []) none in
-    ap (λ l. goes_on n l (idle_machine (changed in_lanes_next n (finished n ++ ps ∷ [])))) next ∙ ap idle_machine left
+    ap (λ l. goes_on submit n l (idle_machine (changed in_lanes_next n (finished n ++ ps ∷ [])))) next ∙ ap idle_machine left
 
-some-steps : (steps n : ℕ) (ps : List Pending) → in_lanes_next ps ≡ [] → after_steps (suc steps) (entering n ps) ≡ idle_machine (finished n ++ [] ∷ [])
+some-steps : (steps n : ℕ) (ps : List Pending) → in_lanes_next ps ≡ [] → after_steps submit (suc steps) (entering n ps) ≡ idle_machine (finished n ++ [] ∷ [])
 unfolding after_steps
-some-steps steps n ps none = ap (after_steps steps) (one-step n ps none) ∙ rests steps (idle_machine (finished n ++ [] ∷ [])) refl
+some-steps steps n ps none = ap (after_steps submit steps) (one-step n ps none) ∙ rests steps (idle_machine (finished n ++ [] ∷ [])) refl
 
-pub enters : (n : ℕ) (ps : List Pending) → in_lanes_next ps ≡ [] → course (entering n ps) ≡ idle_machine (finished n ++ [] ∷ [])
+pub enters : (n : ℕ) (ps : List Pending) → in_lanes_next ps ≡ [] → course submit (entering n ps) ≡ idle_machine (finished n ++ [] ∷ [])
 unfolding course
 enters n ps none =
     let k = 2 * stages_left (finished n ++ ps ∷ []) in
     let one : k + 1 ≡ suc k = omega arith in
-    ap (λ s. after_steps s (entering n ps)) one ∙ some-steps k n ps none
+    ap (λ s. after_steps submit s (entering n ps)) one ∙ some-steps k n ps none
 
 -- where all jobs are finished a flush runs nothing
 flush-rests : (steps n : ℕ) → after_flush_steps steps (idle_machine (finished n)) ≡ idle_machine (finished n)

@@ -124,10 +124,19 @@ with_run l ws = record {
   blocks = (l.blocks + least l.waiting * length l.waiting) % count_end;
 }
 
--- a run of a full list
+-- the call within which a list runs
+pub data Within : Type 0 where
+  submit : Within
+  flush : Within
+
+-- a run of a full list, within a submit
 abbrev pub run_full : Kind → Machine → Machine
 run_full k m = ran k (with_run (lane_of k m)) m
 
--- a run within a flush, some lanes idle
+-- a run within a flush, of the list of the earliest job or of one that fills then
 abbrev pub run_idle : Kind → Machine → Machine
 run_idle k m = ran k (with_waiting (lane_of k m)) (record m { flush_runs = (m.flush_runs + 1) % count_end })
+
+abbrev pub run_within : Within → Kind → Machine → Machine
+run_within submit k m = run_full k m
+run_within flush k m = run_idle k m

@@ -6,7 +6,7 @@ use Rattle.mbj_types.specs.Blank.{blank}
 use Rattle.mbj_types.specs.Result.{result_of}
 use Rattle.mbj_stage.specs.Going.{begun}
 use Rattle.mbj_manager.specs.Rounds.{Pending, pending}
-use Rattle.mbj_manager.specs.Machine.{Waiting, Lane, Machine, kind_count, idle_lane}
+use Rattle.mbj_manager.specs.Machine.{submit, Waiting, Lane, Machine, kind_count, idle_lane}
 use Rattle.mbj_manager.specs.Course.{course, flushed}
 
 pub record ManagerState : Type 0 where
@@ -67,7 +67,7 @@ abbrev pub with_job : Job → ManagerState → ManagerState
 with_job j h = record {
   owed = h.owed ++ result_of j ∷ [];
   opened = None;
-  machine = course (record h.machine {
+  machine = course submit (record h.machine {
     left = h.machine.left ++ pending (begun j) ∷ [];
     agenda = length h.owed ∷ [];
   });
