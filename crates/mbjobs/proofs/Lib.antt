@@ -1,10 +1,16 @@
+mod Begun
 mod Deals
 mod Drawing
+mod Fronts
 mod Made
+mod Playing
 mod Printing
+mod ReadyCells
+mod Replays
 mod ResultLines
 mod Sums
 mod TagLengths
+mod Telling
 mod Told
 mod Tracing
 mod Writing

@@ -2,13 +2,14 @@
 use Rattle.std.proofs.Common.{◌≡◌, ◌⊎◌, ◌∙◌, ◌≤◌, ◌<◌, ◌++◌, ap, sym, subst, refl, inl, inr, ℕ, List, Option, None, Some, length, append-nil, length-append, arith}
 use Rattle.mbj_text.specs.declared.limits.TheConstants.{INPUT_LIMIT}
 use Rattle.mbj_text.proofs.FileLaws.{reads_not_bad, reads_not_over, bad_not_over}
+use Rattle.mbjobs.proofs.Replays.{replay_not_bad, replay_not_over, bad_replay_not_over}
 use Rattle.mbjobs.specs.Message.{status_of}
 use Rattle.mbjobs.specs.Outcome.{AsksFor, Does, IsBadFor, IsOverFor, ReadsInput, Stands}
 use Rattle.mbjobs.specs.Reading.{Fails, ReadsAll, ReadsBytes, ReadsTooMuch, Stream}
 use Rattle.mbjobs.specs.declared.cause.Cause.{Cause}
 use Rattle.mbjobs.specs.declared.cause.Cause.TheVariants.{Read, Write, Line, Bytes, Jobs, Memory}
 use Rattle.mbjobs.specs.declared.command.Command.{Command}
-use Rattle.mbjobs.specs.declared.command.Command.TheVariants.{Run, Trace, Gen}
+use Rattle.mbjobs.specs.declared.command.Command.TheVariants.{Run, Trace, Gen, Replay}
 
 all_of_told : (told bytes : List ℕ) (after : Option (List ℕ)) → ReadsAll (Some told) after bytes → bytes ≡ told
 all_of_told told bytes None r = absurd r.taken
@@ -40,16 +41,19 @@ asks_not_bad : (c : Command) (told text : List ℕ) (line field : ℕ) → AsksF
 asks_not_bad (Run s w) told text line field a b = reads_not_bad told a.jobs line field a.spelled b
 asks_not_bad Trace told text line field a b = reads_not_bad told a.jobs line field a.spelled b
 asks_not_bad (Gen n m s w) told text line field a b = b
+asks_not_bad (Replay s w) told text line field a b = replay_not_bad s w told a.jobs a.commands line field a.spelled b
 
 asks_not_over : (c : Command) (told text : List ℕ) (line : ℕ) → AsksFor c told text → IsOverFor c told line → ⊥
 asks_not_over (Run s w) told text line a o = reads_not_over told a.jobs line a.spelled o
 asks_not_over Trace told text line a o = reads_not_over told a.jobs line a.spelled o
 asks_not_over (Gen n m s w) told text line a o = o
+asks_not_over (Replay s w) told text line a o = replay_not_over s w told a.jobs a.commands line a.spelled o
 
 bad_not_over_for : (c : Command) (told : List ℕ) (line field at : ℕ) → IsBadFor c told line field → IsOverFor c told at → ⊥
 bad_not_over_for (Run s w) told line field at b o = bad_not_over told line field at b o
 bad_not_over_for Trace told line field at b o = bad_not_over told line field at b o
 bad_not_over_for (Gen n m s w) told line field at b o = o
+bad_not_over_for (Replay s w) told line field at b o = bad_replay_not_over s w told line field at b o
 
 -- what a command writes that reads its input, it was asked for
 abbrev pub Asked : Command → List ℕ → Type 0
@@ -59,21 +63,25 @@ does_asked : (c : Command) (input : Stream) (IsWritten : List ℕ → Type 0) (t
 does_asked (Run s w) input IsWritten told reads d tells = (d.text, subst (λ bytes. AsksFor (Run s w) bytes d.text) (read_is_told input told d.bytes tells d.read) d.asked)
 does_asked Trace input IsWritten told reads d tells = (d.text, subst (λ bytes. AsksFor Trace bytes d.text) (read_is_told input told d.bytes tells d.read) d.asked)
 does_asked (Gen n m s w) input IsWritten told reads d tells = absurd reads
+does_asked (Replay s w) input IsWritten told reads d tells = (d.text, subst (λ bytes. AsksFor (Replay s w) bytes d.text) (read_is_told input told d.bytes tells d.read) d.asked)
 
 does_short : (c : Command) (input : Stream) (IsWritten : List ℕ → Type 0) (told : List ℕ) → ReadsInput c → Does c input IsWritten → input.before ≡ Some told → INPUT_LIMIT < length told → ⊥
 does_short (Run s w) input IsWritten told reads d tells long = read_is_short input told d.bytes tells d.read long
 does_short Trace input IsWritten told reads d tells long = read_is_short input told d.bytes tells d.read long
 does_short (Gen n m s w) input IsWritten told reads d tells long = reads
+does_short (Replay s w) input IsWritten told reads d tells long = read_is_short input told d.bytes tells d.read long
 
 bad_reads : (c : Command) (told : List ℕ) (line field : ℕ) → IsBadFor c told line field → ReadsInput c
 bad_reads (Run s w) told line field b = tt
 bad_reads Trace told line field b = tt
 bad_reads (Gen n m s w) told line field b = b
+bad_reads (Replay s w) told line field b = tt
 
 over_reads : (c : Command) (told : List ℕ) (line : ℕ) → IsOverFor c told line → ReadsInput c
 over_reads (Run s w) told line o = tt
 over_reads Trace told line o = tt
 over_reads (Gen n m s w) told line o = o
+over_reads (Replay s w) told line o = tt
 
 -- ---- a good input
 
@@ -161,3 +169,13 @@ same-command found c d one two = let e : Some d ≡ Some c = sym two ∙ one in 
 pub along : {s c m n : ℕ} → s ≡ c → (c ≡ m) ⊎ (c ≡ n) → (s ≡ m) ⊎ (s ≡ n)
 along e (inl h) = inl (e ∙ h)
 along e (inr h) = inr (e ∙ h)
+
+-- what stands behind the status of an input that is too long
+pub status_6 : (c : Command) (cause : Cause) (input out : Stream) (status : ℕ) → Stands c cause input out → status ≡ status_of cause → status ≡ 6
+    → ReadsInput c × (ReadsTooMuch input.before input.after ⊎ ((line : ℕ) × ReadsBytes input (λ bytes. IsOverFor c bytes line)))
+status_6 c Read input out status s is six = let bad : 3 ≡ 6 = sym is ∙ six in absurd (omega (arith, bad))
+status_6 c Write input out status s is six = let bad : 4 ≡ 6 = sym is ∙ six in absurd (omega (arith, bad))
+status_6 c (Line line field) input out status s is six = let bad : 5 ≡ 6 = sym is ∙ six in absurd (omega (arith, bad))
+status_6 c Bytes input out status s is six = (s.0, inl s.1)
+status_6 c (Jobs line) input out status s is six = (over_reads c s.bytes line s.holds, inr (line, s))
+status_6 c Memory input out status s is six = let bad : 7 ≡ 6 = sym is ∙ six in absurd (omega (arith, bad))

@@ -10,7 +10,7 @@ use Rattle.clap.specs.ValueTests.{is_unsigned_in}
 use Rattle.clap.specs.declared.builder.action.ArgAction.TheVariants.{Set}
 use Rattle.clap.specs.declared.builder.value_parser.ValueParser.TheVariants as vp
 use Rattle.mbjobs.specs.declared.command.Command.{Command}
-use Rattle.mbjobs.specs.declared.command.Command.TheVariants.{Run, Trace, Gen}
+use Rattle.mbjobs.specs.declared.command.Command.TheVariants.{Run, Trace, Gen, Replay}
 use Rattle.mbjobs.specs.declared.command.WordFault.{WordFault}
 use Rattle.mbjobs.specs.declared.command.WordFault.TheVariants as fault
 
@@ -30,6 +30,9 @@ submitters = ranged (codes "submitters") 1 16
 
 abbrev pub workers : RangedOption
 workers = ranged (codes "workers") 0 0
+
+abbrev pub replay_workers : RangedOption
+replay_workers = ranged (codes "workers") 0 16
 
 abbrev pub seed : RangedOption
 seed = ranged (codes "seed") 0 (2 ^ 64 - 1)
@@ -64,8 +67,15 @@ gen_of _ = None
 abbrev pub gen : Entry
 gen = record { name = codes "gen"; options = seed ∷ jobs ∷ submitters ∷ workers ∷ []; meaning = gen_of }
 
+abbrev pub replay_of : List ℕ → Option Command
+replay_of (s ∷ w ∷ []) = Some (Replay s w)
+replay_of _ = None
+
+abbrev pub replay : Entry
+replay = record { name = codes "replay"; options = submitters ∷ replay_workers ∷ []; meaning = replay_of }
+
 abbrev pub entries : List Entry
-entries = run ∷ trace ∷ gen ∷ []
+entries = run ∷ trace ∷ gen ∷ replay ∷ []
 
 -- ---- the set as clap is told it
 
@@ -127,11 +137,15 @@ IsWithin o n = (o.least ≤ n) × (n ≤ o.greatest)
 abbrev pub IsParties : ℕ → ℕ → Type 0
 IsParties s w = IsWithin submitters s × IsWithin workers w
 
+abbrev pub IsReplayParties : ℕ → ℕ → Type 0
+IsReplayParties s w = IsWithin submitters s × IsWithin replay_workers w
+
 -- each number is in its option's range
 abbrev pub IsInRange : Command → Type 0
 IsInRange (Run s w) = IsParties s w
 IsInRange Trace = Unit {0}
 IsInRange (Gen n m s w) = IsWithin seed n × IsWithin jobs m × IsParties s w
+IsInRange (Replay s w) = IsReplayParties s w
 
 -- the fault is in the words
 abbrev pub IsText : WordFault → Type 0

@@ -6,13 +6,16 @@ use Rattle.mbj_types.specs.Result.{result_of}
 use Rattle.mbj_text.specs.Flow.{GainsPrefix}
 use Rattle.mbj_text.specs.Line.{text}
 use Rattle.mbj_text.specs.File.{Reads, Bad, Over}
+use Rattle.mbj_text.specs.Replay.{ReadsReplay, BadReplay, OverReplay}
+use Rattle.mbj_text.specs.declared.command.Cmd.{Cmd}
 use Rattle.mbjobs.specs.Reading.{Stream, Fails, IsUntouched, ReadsAll, ReadsBytes, ReadsTooMuch}
+use Rattle.mbjobs.specs.Replay.{replay_text}
 use Rattle.mbjobs.specs.Trace.{trace_text}
 use Rattle.mbjobs.specs.Summary.{gen_text}
 use Rattle.mbjobs.specs.declared.cause.Cause.{Cause}
 use Rattle.mbjobs.specs.declared.cause.Cause.TheVariants as cause
 use Rattle.mbjobs.specs.declared.command.Command.{Command}
-use Rattle.mbjobs.specs.declared.command.Command.TheVariants.{Run, Trace, Gen}
+use Rattle.mbjobs.specs.declared.command.Command.TheVariants.{Run, Trace, Gen, Replay}
 
 -- ---- what a command reads and writes
 
@@ -26,29 +29,40 @@ pub record Asks (text_of : List Job → List ℕ) (bytes text : List ℕ) : Type
   pub spelled : Reads bytes jobs
   pub text_is : text ≡ text_of jobs
 
+-- the input spells jobs and a script, and this is the text that the script's commands print
+pub record AsksReplay (submitters workers : ℕ) (bytes text : List ℕ) : Type 0 where
+  pub jobs : List Job
+  pub commands : List Cmd
+  pub spelled : ReadsReplay submitters workers bytes jobs commands
+  pub text_is : text ≡ replay_text jobs commands submitters workers
+
 -- what the input of a command that reads one asks for
 abbrev pub AsksFor : Command → List ℕ → List ℕ → Type 0
 AsksFor (Run s w) bytes text = Asks result_text bytes text
 AsksFor Trace bytes text = Asks trace_text bytes text
 AsksFor (Gen n m s w) bytes text = ⊥
+AsksFor (Replay s w) bytes text = AsksReplay s w bytes text
 
 -- the line is the first bad one of the command's input, at this field
 abbrev pub IsBadFor : Command → List ℕ → ℕ → ℕ → Type 0
 IsBadFor (Run s w) bytes line field = Bad bytes line field
 IsBadFor Trace bytes line field = Bad bytes line field
 IsBadFor (Gen n m s w) bytes line field = ⊥
+IsBadFor (Replay s w) bytes line field = BadReplay s w bytes line field
 
 -- the line is one job line more than the command's input may have
 abbrev pub IsOverFor : Command → List ℕ → ℕ → Type 0
 IsOverFor (Run s w) bytes line = Over bytes line
 IsOverFor Trace bytes line = Over bytes line
 IsOverFor (Gen n m s w) bytes line = ⊥
+IsOverFor (Replay s w) bytes line = OverReplay bytes line
 
 -- whether the command reads an input
 abbrev pub ReadsInput : Command → Type 0
 ReadsInput (Run s w) = Unit {0}
 ReadsInput Trace = Unit {0}
 ReadsInput (Gen n m s w) = ⊥
+ReadsInput (Replay s w) = Unit {0}
 
 -- the input was read to its end and asks for a text, and that text was written so
 pub record Answers (c : Command) (input : Stream) (IsWritten : List ℕ → Type 0) : Type 0 where
@@ -63,6 +77,7 @@ abbrev pub Does : Command → Stream → (List ℕ → Type 0) → Type 0
 Does (Run s w) input IsWritten = Answers (Run s w) input IsWritten
 Does Trace input IsWritten = Answers Trace input IsWritten
 Does (Gen n m s w) input IsWritten = IsUntouched input × IsWritten (gen_text n m)
+Does (Replay s w) input IsWritten = Answers (Replay s w) input IsWritten
 
 -- the command did all that it is to do, and out gained exactly its text
 abbrev pub Completes : Command → Stream → Stream → Type 0

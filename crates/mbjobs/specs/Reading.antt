@@ -3,7 +3,9 @@ use Rattle.std.specs.Prelude.{◌≡◌, ◌+◌, ◌≤◌, ℕ, List, Option, 
 use Rattle.std.specs.Io.KnownBytes.{Consumes, IsAtEnd}
 use Rattle.mbj_types.specs.declared.job.Job.{Job}
 use Rattle.mbj_io.specs.Faults.{Rose}
-use Rattle.mbj_text.specs.File.{Reads, Bad, Over}
+use Rattle.mbj_text.specs.File.{Reads}
+use Rattle.mbj_text.specs.Replay.{ReadsReplay}
+use Rattle.mbj_text.specs.declared.command.Cmd.{Cmd}
 use Rattle.mbj_text.specs.declared.limits.TheConstants.{INPUT_LIMIT}
 use Rattle.mbjobs.specs.declared.cause.Cause.{Cause}
 use Rattle.mbjobs.specs.declared.cause.Cause.TheVariants as cause
@@ -44,17 +46,23 @@ pub record ReadsJobs (input : Stream) (jobs : List Job) : Type 0 where
   pub read : ReadsAll input.before input.after bytes
   pub spelled : Reads bytes jobs
 
+-- the input was read to its end, and spells the jobs and the commands of a replay
+pub record ReadsScript (submitters workers : ℕ) (input : Stream) (jobs : List Job) (commands : List Cmd) : Type 0 where
+  pub bytes : List ℕ
+  pub read : ReadsAll input.before input.after bytes
+  pub spelled : ReadsReplay submitters workers bytes jobs commands
+
 -- the input was read to its end, and a relation holds of its bytes
 pub record ReadsBytes (input : Stream) (Holds : List ℕ → Type 0) : Type 0 where
   pub bytes : List ℕ
   pub read : ReadsAll input.before input.after bytes
   pub holds : Holds bytes
 
--- why the input gave no jobs
-abbrev pub StopsReading : Cause → Stream → Type 0
-StopsReading cause.Read input = Fails input
-StopsReading cause.Write input = ⊥
-StopsReading (cause.Line line field) input = ReadsBytes input (λ bytes. Bad bytes line field)
-StopsReading cause.Bytes input = ReadsTooMuch input.before input.after
-StopsReading (cause.Jobs line) input = ReadsBytes input (λ bytes. Over bytes line)
-StopsReading cause.Memory input = Unit {0}
+-- why the input gave nothing, where these relations say which line is bad, at which field, and which is over the limit
+abbrev pub StopsReading : (List ℕ → ℕ → ℕ → Type 0) → (List ℕ → ℕ → Type 0) → Cause → Stream → Type 0
+StopsReading IsBad IsOver cause.Read input = Fails input
+StopsReading IsBad IsOver cause.Write input = ⊥
+StopsReading IsBad IsOver (cause.Line line field) input = ReadsBytes input (λ bytes. IsBad bytes line field)
+StopsReading IsBad IsOver cause.Bytes input = ReadsTooMuch input.before input.after
+StopsReading IsBad IsOver (cause.Jobs line) input = ReadsBytes input (λ bytes. IsOver bytes line)
+StopsReading IsBad IsOver cause.Memory input = Unit {0}

@@ -1,9 +1,9 @@
 ghost use Rattle.std.specs.Prelude.{◌≡◌, ◌≢◌, ◌∷◌, [], IfErr, IfOk, IfSome, Some, None, map, option_and_then, option_map, string_bytes};
 ghost use Rattle.clap.specs.Words.{found_of, kind_of, rows_of, subcommand_rows_of};
-ghost use Rattle.mbjobs.specs.Command.{IsInRange, IsParties, IsText, command, entry_command, found_command, gen, numbers_of, run, submitters, workers};
+ghost use Rattle.mbjobs.specs.Command.{IsInRange, IsParties, IsText, command, entry_command, found_command, gen, numbers_of, replay, run, submitters, workers};
 
 use crate::command_set::command_set;
-use crate::options::{JOBS, SEED, SUBMITTERS, WORKERS, number};
+use crate::options::{JOBS, REPLAY_WORKERS, SEED, SUBMITTERS, WORKERS, number};
 use clap::ArgMatches;
 use clap::error::ErrorKind;
 use std::alloc::Global;
@@ -22,6 +22,12 @@ pub enum Command {
     Gen {
         seed: u64,
         jobs: u32,
+        submitters: u32,
+        workers: u32,
+    },
+    /// `replay`: reads a job file with a script behind its jobs, drives one front by the script, and prints what each
+    /// command comes to.
+    Replay {
         submitters: u32,
         workers: u32,
     },
@@ -81,6 +87,18 @@ fn gen_of(matches: &ArgMatches<'_>) -> Option<Command>
     })
 }
 
+fn replay_of(matches: &ArgMatches<'_>) -> Option<Command>
+    ensures meaning { result ≡ entry_command (rows_of (found_of matches.now)) replay }
+    ensures range { IfSome result IsInRange }
+{
+    let submitters = number(matches, &SUBMITTERS)?;
+    let workers = number(matches, &REPLAY_WORKERS)?;
+    Some(Command::Replay {
+        submitters: submitters as u32,
+        workers: workers as u32,
+    })
+}
+
 /// The command that clap found in the words.
 fn found_command(matches: &ArgMatches<'_>) -> Option<Command>
     ensures meaning { result ≡ option_and_then found_command (subcommand_rows_of matches.now) }
@@ -95,6 +113,9 @@ fn found_command(matches: &ArgMatches<'_>) -> Option<Command>
     }
     if name == "gen" {
         return gen_of(options);
+    }
+    if name == "replay" {
+        return replay_of(options);
     }
     None
 }

@@ -2,9 +2,9 @@ ghost use Rattle.std.specs.Prelude.{◌≡◌, IfOk, Some, false};
 ghost use Rattle.clap.specs.Words.{app_of, shape_of};
 ghost use Rattle.clap.specs.Simple.{new_shape};
 ghost use Rattle.clap.specs.declared.builder.command.Command.TheViews.{out-Command as fields_of};
-ghost use Rattle.mbjobs.specs.Command.{app, gen, run, shape, trace};
+ghost use Rattle.mbjobs.specs.Command.{app, gen, replay, run, shape, trace};
 
-use crate::options::{JOBS, SEED, SUBMITTERS, WORKERS, argument};
+use crate::options::{JOBS, REPLAY_WORKERS, SEED, SUBMITTERS, WORKERS, argument};
 use clap::Command;
 use std::alloc::{AllocError, Global};
 
@@ -52,6 +52,18 @@ fn gen_command<'a>(alloc: Global) -> Result<Command<'a>, AllocError>
         .arg(argument(alloc, &WORKERS))
 }
 
+fn replay_command<'a>(alloc: Global) -> Result<Command<'a>, AllocError>
+    ensures shape { IfOk result (λ c. shape_of c ≡ shape replay) }
+    ensures local { IfOk result (λ c. (fields_of c).has_globals ≡ false) }
+{
+    let about =
+        "Reads a job file with a script behind its jobs, and prints what each command of the script comes to";
+    let example = "Example: mbjobs replay --submitters 1 --workers 2 < replay.txt";
+    bare_command(alloc, "replay", about, example)
+        .arg(argument(alloc, &SUBMITTERS))?
+        .arg(argument(alloc, &REPLAY_WORKERS))
+}
+
 /// The program's commands and their options, as clap is told them.
 ///
 /// Answers `AllocError` for want of memory.
@@ -67,5 +79,6 @@ pub(crate) fn command_set<'a>(alloc: Global) -> Result<Command<'a>, AllocError>
         .subcommand_required(true)
         .subcommand(run_command(alloc)?)?
         .subcommand(trace_command(alloc))?
-        .subcommand(gen_command(alloc)?)
+        .subcommand(gen_command(alloc)?)?
+        .subcommand(replay_command(alloc)?)
 }

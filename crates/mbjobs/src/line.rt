@@ -58,7 +58,7 @@ fn name(kind: Kind) -> Part<'static>
 }
 
 /// The number of a job that was given back, or that none was.
-fn number(given: Option<u32>) -> Part<'static>
+pub(crate) fn number(given: Option<u32>) -> Part<'static>
     ensures { text_of result ≡ given_text given }
 {
     match given {

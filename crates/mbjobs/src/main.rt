@@ -2,6 +2,7 @@
 #![tactic(auto)]
 
 mod cause;
+mod claiming;
 mod command;
 mod command_set;
 mod dealing;
@@ -11,13 +12,17 @@ mod line;
 mod line_sink;
 mod options;
 mod reading;
+mod replay;
+mod replay_line;
 mod report;
 mod run;
+mod run_replay;
 mod summary;
 #[cfg(test)]
 mod tests;
 mod top;
 mod trace;
+mod worker;
 
 use crate::command::WordFault;
 use crate::top::{mbjobs, refuse};

@@ -20,6 +20,8 @@ const MOST_SUBMITTERS: u64 = 16;
 
 const MOST_WORKERS: u64 = 0;
 
+const MOST_REPLAY_WORKERS: u64 = 16;
+
 const MOST_JOBS: u64 = 65_536;
 
 pub(crate) const SUBMITTERS: NumberOption = NumberOption {
@@ -36,6 +38,14 @@ pub(crate) const WORKERS: NumberOption = NumberOption {
     help: "Threads that only do jobs: 0, as in --workers 0",
     least: 0,
     greatest: MOST_WORKERS,
+};
+
+pub(crate) const REPLAY_WORKERS: NumberOption = NumberOption {
+    name: "workers",
+    placeholder: "W",
+    help: "Parties that only do jobs: 0 to 16, as in --workers 2",
+    least: 0,
+    greatest: MOST_REPLAY_WORKERS,
 };
 
 pub(crate) const SEED: NumberOption = NumberOption {

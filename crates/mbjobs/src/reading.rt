@@ -1,11 +1,13 @@
 ghost use Rattle.std.specs.Prelude.{◌≡◌, ◌≢◌, ◌≤◌, Err, IfErr, IfOk, IsErrOf, length};
 ghost use Rattle.mbj_io.specs.Faults.{Rose};
+ghost use Rattle.mbj_text.specs.File.{Bad, Over};
+ghost use Rattle.mbj_text.specs.Replay.{BadReplay, OverReplay};
 ghost use Rattle.mbj_text.specs.declared.limits.TheConstants.{JOB_LIMIT};
-ghost use Rattle.mbjobs.specs.Reading.{ReadsAll, ReadsJobs, ReadsTooMuch, StopsReading, stream};
+ghost use Rattle.mbjobs.specs.Reading.{ReadsAll, ReadsJobs, ReadsScript, ReadsTooMuch, StopsReading, stream};
 
 use crate::cause::Cause;
 use mbj_io::Source;
-use mbj_text::{INPUT_LIMIT, TextFault, read_file};
+use mbj_text::{Cmd, INPUT_LIMIT, TextFault, read_file, read_replay};
 use mbj_types::Job;
 use std::alloc::Global;
 
@@ -52,7 +54,7 @@ pub(crate) fn read_all<S: Source>(alloc: Global, input: &mut S) -> Result<Vec<u8
 pub(crate) fn read_jobs<S: Source>(alloc: Global, input: &mut S) -> Result<Vec<Job>, Cause>
     ensures read { IfOk result (λ jobs. ReadsJobs (stream S.rest S.faults input.old input.new) jobs.items) }
     ensures count { IfOk result (λ jobs. length jobs.items ≤ JOB_LIMIT) }
-    ensures stops { IfErr result (λ cause. StopsReading cause (stream S.rest S.faults input.old input.new)) }
+    ensures stops { IfErr result (λ cause. StopsReading Bad Over cause (stream S.rest S.faults input.old input.new)) }
     ensures calm { result ≢ Err Cause.Read → S.faults input.new ≡ S.faults input.old }
 {
     let bytes = match read_all(alloc, input) {
@@ -63,6 +65,33 @@ pub(crate) fn read_jobs<S: Source>(alloc: Global, input: &mut S) -> Result<Vec<J
     };
     match read_file(alloc, &bytes) {
         Ok(jobs) => Ok(jobs),
+        Err(TextFault::Line { line, field }) => Err(Cause::Line { line, field }),
+        Err(TextFault::Limit { line }) => Err(Cause::Jobs { line }),
+        Err(TextFault::Memory) => Err(Cause::Memory),
+    }
+}
+
+/// Reads the file of a replay to its end: its jobs, and the commands of its script.
+pub(crate) fn read_script<S: Source>(
+    alloc: Global,
+    input: &mut S,
+    submitters: u32,
+    workers: u32,
+) -> Result<(Vec<Job>, Vec<Cmd>), Cause>
+    ensures read { IfOk result (λ r. ReadsScript submitters workers
+        (stream S.rest S.faults input.old input.new) r.0.items r.1.items) }
+    ensures stops { IfErr result (λ cause. StopsReading (BadReplay submitters workers) OverReplay cause
+        (stream S.rest S.faults input.old input.new)) }
+    ensures calm { result ≢ Err Cause.Read → S.faults input.new ≡ S.faults input.old }
+{
+    let bytes = match read_all(alloc, input) {
+        Ok(bytes) => bytes,
+        Err(ReadFault::Failed) => return Err(Cause::Read),
+        Err(ReadFault::Over) => return Err(Cause::Bytes),
+        Err(ReadFault::Memory) => return Err(Cause::Memory),
+    };
+    match read_replay(alloc, &bytes, submitters, workers) {
+        Ok(replay) => Ok(replay),
         Err(TextFault::Line { line, field }) => Err(Cause::Line { line, field }),
         Err(TextFault::Limit { line }) => Err(Cause::Jobs { line }),
         Err(TextFault::Memory) => Err(Cause::Memory),

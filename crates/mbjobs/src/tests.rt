@@ -1,6 +1,7 @@
 mod command;
 mod generator;
 mod parties;
+mod replay;
 mod trace;
 
 use super::*;

@@ -12,6 +12,7 @@ use crate::cause::Cause;
 use crate::command::{Command, WordFault, read_command};
 use crate::report::{report, report_words};
 use crate::run::run;
+use crate::run_replay::run_replay;
 use crate::summary::run_gen;
 use crate::trace::run_trace;
 use mbj_io::{Sink, Source};
@@ -78,6 +79,10 @@ fn perform<R: Threads + Sync, S: Source, O: Sink>(
             submitters,
             workers,
         } => { run_gen(rt, alloc, seed, jobs, submitters, workers, out) }
+        Command::Replay {
+            submitters,
+            workers,
+        } => run_replay(alloc, submitters, workers, input, out),
     }
 }
 
@@ -85,8 +90,9 @@ fn perform<R: Threads + Sync, S: Source, O: Sink>(
 ///
 /// `words` are the command line, with the program's name first. `run` reads a job file from `input`, does its jobs and
 /// writes the line of each result to `out`; `trace` drives one manager with a job file and writes what each call gives
-/// back; `gen` reads nothing, makes jobs from a seed and writes what they come to. Every status but 0 is told on `err`; a
-/// fault of `err` changes no status.
+/// back; `gen` reads nothing, makes jobs from a seed and writes what they come to; `replay` reads a job file with a script
+/// behind its jobs, and writes what each command of the script comes to. Every status but 0 is told on `err`; a fault of
+/// `err` changes no status.
 ///
 /// | Status | Comes |
 /// |---|---|

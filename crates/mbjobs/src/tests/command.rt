@@ -4,7 +4,7 @@ use std::process::Abort;
 use std::test::Fail;
 
 /// Words that are no command.
-const FAULTY: [&str; 25] = [
+const FAULTY: [&str; 27] = [
     "mbjobs",
     "mbjobs run",
     "mbjobs run --submitters 1",
@@ -18,7 +18,9 @@ const FAULTY: [&str; 25] = [
     "mbjobs run --submitters 1 --workers 0 --threads 2",
     "mbjobs run --submitters 1 --workers 0 jobs.txt",
     "mbjobs --submitters 1 --workers 0 run",
-    "mbjobs replay --submitters 1 --workers 0",
+    "mbjobs replay --submitters 1",
+    "mbjobs replay --submitters 0 --workers 1",
+    "mbjobs replay --submitters 1 --workers 17",
     "mbjobs trace x",
     "mbjobs trace --workers 0",
     "mbjobs gen --seed 1 --submitters 1 --workers 0",
@@ -45,7 +47,7 @@ const GEN: Command = Command::Gen {
 };
 
 /// Words that are a command, and which.
-const GOOD: [(&str, Command); 11] = [
+const GOOD: [(&str, Command); 13] = [
     ("mbjobs run --submitters 1 --workers 0", RUN),
     ("mbjobs run --workers 0 --submitters 1", RUN),
     ("mbjobs run --submitters=1 --workers=0", RUN),
@@ -82,6 +84,20 @@ const GOOD: [(&str, Command); 11] = [
             seed: 1 << 32,
             jobs: 1,
             submitters: 3,
+            workers: 0,
+        },
+    ),
+    (
+        "mbjobs replay --submitters 16 --workers 16",
+        Command::Replay {
+            submitters: 16,
+            workers: 16,
+        },
+    ),
+    (
+        "mbjobs replay --workers=0 --submitters=1",
+        Command::Replay {
+            submitters: 1,
             workers: 0,
         },
     ),

@@ -13,5 +13,6 @@ returns c =
     let one = c.in_ok-subcommand.ensures.shape c.in_ok-run_command.ensures.local
     ∙ ap₂ with_subcommand top c.in_ok-run_command.ensures.shape in
     let two = c.in_ok-subcommand-2.ensures.shape c.trace_command.ensures.local ∙ ap₂ with_subcommand one c.trace_command.ensures.shape in
-    IfOk-weaker c.subcommand-3.result _ _ (λ r adds. adds.shape c.in_ok-gen_command.ensures.local
-    ∙ ap₂ with_subcommand two c.in_ok-gen_command.ensures.shape) c.subcommand-3.ensures
+    let three = c.in_ok-subcommand-3.ensures.shape c.in_ok-gen_command.ensures.local ∙ ap₂ with_subcommand two c.in_ok-gen_command.ensures.shape in
+    IfOk-weaker c.subcommand-4.result _ _ (λ r adds. adds.shape c.in_ok-replay_command.ensures.local
+    ∙ ap₂ with_subcommand three c.in_ok-replay_command.ensures.shape) c.subcommand-4.ensures

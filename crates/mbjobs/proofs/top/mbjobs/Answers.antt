@@ -2,7 +2,7 @@
 use Rattle.std.proofs.Common.{◌∙◌, inr, subst}
 use Rattle.mbjobs.specs.Outcome.{AsksFor, IsBadFor, IsOverFor}
 use Rattle.mbjobs.specs.Reading.{Stream, stream}
-use Rattle.mbjobs.proofs.Told.{along, bad_ends, bad_not_whole, good_ends, over_ends, over_not_whole, same-command}
+use Rattle.mbjobs.proofs.Told.{along, bad_ends, bad_not_whole, good_ends, over_ends, over_not_whole, same-command, status_6}
 use Rattle.mbjobs.proofs.top.mbjobs.Goals as goal
 
 pub returns-in-Ok-perform-clause-only_bad : goal.returns-in-Ok-perform-clause-only_bad
@@ -39,3 +39,10 @@ returns-in-Err-perform-clause-only_over g c = λ d bytes line found tells short 
     let out : Stream = stream g.O.Sink.held g.O.Sink.faults c.args.out.now c.perform.new.out in
     let same = same-command _ c.in-Ok.command d c.in-Ok.ensures.found found in
     along c.tell.ensures.status (over_ends c.in-Ok.command c.in-Err-perform.cause input out bytes line c.in-Err-perform.ensures.err tells short (subst (λ k. IsOverFor k bytes line) same over) calm)
+
+pub returns-in-Err-perform-clause-over : goal.returns-in-Err-perform-clause-over
+returns-in-Err-perform-clause-over g c = λ six.
+    let input : Stream = stream g.S.Source.rest g.S.Source.faults c.args.input.now c.perform.new.input in
+    let out : Stream = stream g.O.Sink.held g.O.Sink.faults c.args.out.now c.perform.new.out in
+    let over = status_6 c.in-Ok.command c.in-Err-perform.cause input out c.tell.result c.in-Err-perform.ensures.err c.tell.ensures.status six in
+    (c.in-Ok.command, c.in-Ok.ensures.found, over.0, over.1)

@@ -1,0 +1,40 @@
+ghost use Rattle.std.specs.Prelude.{◌≡◌, ◌≢◌, Err, IfErr, OnOk};
+ghost use Rattle.mbjobs.specs.Command.{IsReplayParties};
+ghost use Rattle.mbjobs.specs.Outcome.{Completes, Stands};
+ghost use Rattle.mbjobs.specs.Reading.{IsUntouched, stream};
+ghost use Rattle.mbjobs.specs.declared.command.Command.TheVariants as command;
+
+use crate::cause::Cause;
+use crate::reading::read_script;
+use crate::replay::lines_of_script;
+use crate::replay_line::write_replay;
+use mbj_io::{Failed, Sink, Source};
+use std::alloc::{AllocError, Global};
+
+/// Reads the file of a replay, and writes what each command of its script comes to.
+pub(crate) fn run_replay<S: Source, O: Sink>(
+    alloc: Global,
+    submitters: u32,
+    workers: u32,
+    input: &mut S,
+    out: &mut O,
+) -> Result<(), Cause>
+    requires { IsReplayParties submitters workers }
+    ensures ok { OnOk result (Completes (command.Replay submitters workers)
+        (stream S.rest S.faults input.old input.new) (stream O.held O.faults out.old out.new)) }
+    ensures err { IfErr result (λ cause. Stands (command.Replay submitters workers) cause
+        (stream S.rest S.faults input.old input.new) (stream O.held O.faults out.old out.new)) }
+    ensures calm { result ≢ Err Cause.Read → S.faults input.new ≡ S.faults input.old }
+    ensures untouched { IfErr result (λ cause. cause ≢ Cause.Write
+        → IsUntouched (stream O.held O.faults out.old out.new)) }
+{
+    let (jobs, commands) = read_script(alloc, input, submitters, workers)?;
+    let lines = match lines_of_script(alloc, jobs, commands, submitters, workers) {
+        Ok(lines) => lines,
+        Err(AllocError) => return Err(Cause::Memory),
+    };
+    match write_replay(out, &lines) {
+        Ok(()) => Ok(()),
+        Err(Failed) => Err(Cause::Write),
+    }
+}
