@@ -1,3 +1,4 @@
 mod Courses
+mod Counting
 mod Rings
 mod CallLaws

@@ -4,12 +4,14 @@
 
 mod calls;
 mod cell;
+mod counts;
 mod manager;
 
 pub use calls::results_come_back_in_order;
 // A crate can name a manager in a contract only if the types of its fields are exported.
 #[doc(hidden)]
 pub use cell::Cell;
+pub use counts::counts_are_kept_apart;
 pub use manager::Manager;
 
 #[cfg(test)]

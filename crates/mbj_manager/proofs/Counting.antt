@@ -1,0 +1,93 @@
+-- Each run of a course goes into the count of the call that it is within.
+use Rattle.std.proofs.Common.{◌≡◌, ℕ, ◌==◌, zero, suc, Bool, true, false, List, [], ◌∷◌, ◌++◌, map, length, Option, Some, None, slice_get, slice_index_or, if◌then◌else◌, refl, ap, ◌∙◌}
+use Rattle.mbj_types.specs.declared.kind.Kind.{Kind}
+use Rattle.mbj_types.specs.Kinds.{lanes_of}
+use Rattle.mbj_manager.specs.Rounds.{Pending, at_once, in_lanes}
+use Rattle.mbj_manager.specs.Machine.{Lane, Machine, Waiting, Within, submit, flush, changed, idle_lane, index_of, lane_of, run_idle, run_within, with_lane, with_waiting}
+use Rattle.mbj_manager.specs.Course.{after_flush_steps, after_steps, course, flush_step, flush_step_at, flushed, goes_on, in_lanes_next, joined, stages_left, stepped, stepped_at, steps_ahead, waits}
+use Rattle.mbj_manager.specs.Counts.{CountsApart, counts_of, full_runs}
+
+-- what a change of the machine leaves as it was, as a run, a job that joins a list, and a job that is taken do
+record Leaves {A : Type 0} (f : Machine → A) (at : Within) : Type 0 where
+  runs : (k : Kind) (m : Machine) → f (run_within at k m) ≡ f m
+  joins : (k : Kind) (ws : List Waiting) (m : Machine)
+      → f (record m { lanes = with_lane k (with_waiting (lane_of k m) ws) m.lanes }) ≡ f m
+  takes : (left : List (List Pending)) (agenda : List ℕ) (m : Machine) → f (record m { left = left; agenda = agenda }) ≡ f m
+
+either-way : {A : Type 0} (f : Machine → A) (b : Bool) (x y : Machine) → f x ≡ f y → f (if b then x else y) ≡ f y
+either-way f true x y e = e
+either-way f false x y e = refl
+
+leaves-joined : {A : Type 0} (f : Machine → A) (at : Within) → Leaves f at → (k : Kind) (n rest : ℕ) (m : Machine)
+    → f (joined at k n rest m) ≡ f m
+leaves-joined f at l k n rest m =
+    let ws = (lane_of k m).waiting ++ waits n rest ∷ [] in
+    let m' = record m { lanes = with_lane k (with_waiting (lane_of k m) ws) m.lanes } in
+    either-way f (length (lane_of k m').waiting == lanes_of k) (run_within at k m') m' (l.runs k m') ∙ l.joins k ws m
+
+leaves-going : {A : Type 0} (f : Machine → A) (at : Within) → Leaves f at → (n : ℕ) (left : List Pending) (m : Machine)
+    → f (goes_on at n left m) ≡ f m
+leaves-going f at l n [] m = refl
+leaves-going f at l n (at_once ∷ left) m = refl
+leaves-going f at l n (in_lanes k rest ∷ left) m = leaves-joined f at l k n rest m
+
+leaves-step : {A : Type 0} (f : Machine → A) (at : Within) → Leaves f at → (agenda : List ℕ) (m : Machine)
+    → f (stepped_at at agenda m) ≡ f m
+leaves-step f at l [] m = refl
+leaves-step f at l (n ∷ agenda) m =
+    let left = changed in_lanes_next n m.left in
+    leaves-going f at l n (in_lanes_next (slice_index_or m.left n [])) (record m { left = left; agenda = agenda })
+    ∙ l.takes left agenda m
+
+leaves-steps : {A : Type 0} (f : Machine → A) (at : Within) → Leaves f at → (steps : ℕ) (m : Machine)
+    → f (after_steps at steps m) ≡ f m
+unfolding after_steps
+leaves-steps f at l zero m = refl
+leaves-steps f at l (suc steps) m = leaves-steps f at l steps (stepped at m) ∙ leaves-step f at l m.agenda m
+
+leaves-course : {A : Type 0} (f : Machine → A) (at : Within) → Leaves f at → (m : Machine) → f (course at m) ≡ f m
+unfolding course
+leaves-course f at l m = leaves-steps f at l (steps_ahead m) m
+
+-- ---- within a submit
+
+flush-runs-left : Leaves (λ m. m.flush_runs) submit
+flush-runs-left = record {
+  runs = λ k m. refl;
+  joins = λ k ws m. refl;
+  takes = λ left agenda m. refl;
+}
+
+-- ---- within a flush
+
+same-counts : (i : ℕ) (ws : List Waiting) (lanes : List Lane)
+    → map counts_of (changed (λ _. with_waiting (slice_index_or lanes i idle_lane) ws) i lanes) ≡ map counts_of lanes
+same-counts i ws [] = refl
+same-counts zero ws (l ∷ lanes) = refl
+same-counts (suc i) ws (l ∷ lanes) = ap (λ counts. counts_of l ∷ counts) (same-counts i ws lanes)
+
+full-runs-left : Leaves full_runs flush
+full-runs-left = record {
+  runs = λ k m. same-counts (index_of k) _ m.lanes;
+  joins = λ k ws m. same-counts (index_of k) ws m.lanes;
+  takes = λ left agenda m. refl;
+}
+
+flush-step-counts : (left : Option (List Pending)) (m : Machine) → full_runs (flush_step_at left m) ≡ full_runs m
+flush-step-counts None m = refl
+flush-step-counts (Some []) m = refl
+flush-step-counts (Some (at_once ∷ left)) m = refl
+flush-step-counts (Some (in_lanes k rest ∷ left)) m =
+    leaves-course full_runs flush full-runs-left (run_idle k m) ∙ full-runs-left.runs k m
+
+flush-steps-count : (steps : ℕ) (m : Machine) → full_runs (after_flush_steps steps m) ≡ full_runs m
+unfolding after_flush_steps
+flush-steps-count zero m = refl
+flush-steps-count (suc steps) m = flush-steps-count steps (flush_step m) ∙ flush-step-counts (slice_get m.left 0) m
+
+flush-counts : (m : Machine) → full_runs (flushed m) ≡ full_runs m
+unfolding flushed
+flush-counts m = flush-steps-count (stages_left m.left) m
+
+pub counts-apart : (m : Machine) → CountsApart m
+counts-apart m = record { submitting = leaves-course (λ m. m.flush_runs) submit flush-runs-left m; flushing = flush-counts m }
