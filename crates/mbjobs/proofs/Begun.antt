@@ -1,5 +1,5 @@
 -- The state that a replay begins with.
-use Rattle.std.proofs.Common.{◌≡◌, ◌∙◌, ◌+◌, ◌*◌, ◌%◌, ◌<◌, ◌≤◌, ◌++◌, [], ◌∷◌, ap, sym, subst, refl, ℕ, zero, suc, List, Some, map, replicate, length, option_map, arith, Vec, Global}
+use Rattle.std.proofs.Common.{◌≡◌, ◌∙◌, ◌+◌, ◌*◌, ◌%◌, ◌<◌, ◌++◌, [], ◌∷◌, ap, sym, subst, refl, ℕ, zero, suc, List, Some, map, replicate, length, option_map, arith}
 use Rattle.std.specs.Prelude.{slice_get}
 use Rattle.std.specs.List.{range_with_len}
 use Rattle.std.proofs.lemmas.List.{length-map, length-replicate}
@@ -15,7 +15,7 @@ use Rattle.mbj_core.specs.Stands.{StandsFor}
 use Rattle.mbj_core.specs.declared.cells.TheConstants.{CELLS}
 use Rattle.mbj_manager.specs.State.{ManagerState, new_manager}
 use Rattle.mbjobs.specs.Replay.{Replaying, new_replay}
-use Rattle.mbjobs.specs.ReplayState.{Follows, HasStock, IsPlaying}
+use Rattle.mbjobs.specs.ReplayState.{IsPlaying}
 use Rattle.mbjobs.specs.declared.replay.Posted.{Posted}
 use Rattle.mbjobs.specs.declared.replay.Replayer.{Replayer}
 use Rattle.mbjobs.specs.declared.worker.Worker.{Worker}

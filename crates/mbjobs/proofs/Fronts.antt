@@ -1,10 +1,10 @@
 -- What the steps of a front do to one hand.
-use Rattle.std.proofs.Common.{◌≡◌, ◌≢◌, ◌∙◌, ◌+◌, ◌*◌, ◌<◌, ◌++◌, [], ◌∷◌, ap, sym, subst, refl, ℕ, zero, suc, List, Option, None, Some, map, length, option_map, option_to_list, IfSome, arith}
+use Rattle.std.proofs.Common.{◌≡◌, ◌≢◌, ◌∙◌, ◌*◌, ◌<◌, ◌++◌, [], ◌∷◌, ap, sym, subst, refl, ℕ, List, Option, None, Some, map, length, option_map, option_to_list, IfSome, arith}
 use Rattle.std.specs.Prelude.{slice_get}
 use Rattle.mbj_types.specs.Result.{result_of}
 use Rattle.mbj_types.specs.declared.job.Job.{Job}
 use Rattle.mbj_types.specs.declared.done.Done.{Done}
-use Rattle.mbj_core.specs.Cells.{Cell, ready, done, hand_of}
+use Rattle.mbj_core.specs.Cells.{ready, done}
 use Rattle.mbj_core.specs.Parties.{FrontState}
 use Rattle.mbj_core.specs.Lawful.{Lawful}
 use Rattle.mbj_core.specs.Events.{accepted, finish}

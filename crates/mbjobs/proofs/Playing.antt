@@ -2,14 +2,14 @@
 use Rattle.std.proofs.Common.{◌≡◌, ◌≢◌, ◌∙◌, ◌+◌, ◌*◌, ◌%◌, ◌<◌, ◌≤◌, ◌++◌, [], ◌∷◌, ap, sym, subst, refl, ℕ, zero, suc, List, Option, None, Some, map, length, set, slice_index, Vec, Global, option_map, option_to_list, IfSome, arith, length-set}
 use Rattle.std.specs.Prelude.{slice_get}
 use Rattle.std.proofs.lemmas.List.{map-append}
-use Rattle.std.proofs.lemmas.Option.{get_or_from_slice_get, none-some, same_Some, slice_get_within}
+use Rattle.std.proofs.lemmas.Option.{get_or_from_slice_get, none-some, same_Some}
 use Rattle.std.proofs.Math.Nat.{add-mod_right}
 use mathlib.Core.Logic.{dite}
 use native.Mathlib.Decide.{ℕ_discrete}
 use Rattle.mbj_types.specs.Result.{result_of}
 use Rattle.mbj_types.specs.declared.job.Job.{Job}
 use Rattle.mbj_types.specs.declared.done.Done.{Done}
-use Rattle.mbj_core.specs.Cells.{Cell, ready, done, free, hand_of, cell_of}
+use Rattle.mbj_core.specs.Cells.{ready, free, hand_of, cell_of}
 use Rattle.mbj_core.specs.Parties.{FrontState}
 use Rattle.mbj_core.specs.Lawful.{Lawful}
 use Rattle.mbj_core.specs.Events.{accepted, collect, collected, finish, post}
@@ -23,7 +23,7 @@ use Rattle.mbjobs.specs.ReplayState.{EachHolds, Follows, HasStock, Holds, IsPlay
 use Rattle.mbjobs.specs.declared.replay.Posted.{Posted}
 use Rattle.mbjobs.specs.declared.replay.Replayer.{Replayer}
 use Rattle.mbjobs.specs.declared.worker.Worker.{Worker}
-use Rattle.mbjobs.proofs.Fronts.{Entry, Finishes, KeepsHands, KeepsJobs, first-finishes, first-held, first-taken}
+use Rattle.mbjobs.proofs.Fronts.{Entry, KeepsHands, KeepsJobs, first-finishes, first-held, first-taken}
 
 -- ---- places of a list
 

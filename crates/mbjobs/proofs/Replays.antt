@@ -1,10 +1,10 @@
 -- What the input of a replay spells, and that it is good, bad or too long in one way only.
-use Rattle.std.proofs.Common.{◌≡◌, ◌+◌, ◌<◌, [], ◌∷◌, All, List, ℕ, zero, suc, arith, inl, inr, get_or, length}
+use Rattle.std.proofs.Common.{◌<◌, [], ◌∷◌, All, List, ℕ, zero, suc, arith, inl, inr, get_or, length}
 use Rattle.mbj_types.specs.declared.job.Job.{Job}
 use Rattle.mbj_text.specs.Answer.{ExactlyOne}
 use Rattle.mbj_text.specs.Cut.{Numbered}
 use Rattle.mbj_text.specs.Replay.{ReadsReplay, BadReplay, OverReplay}
-use Rattle.mbj_text.specs.Script.{SpellScript, SpellsCommand, number_forms, numbers, verb_of_command}
+use Rattle.mbj_text.specs.Script.{SpellScript, number_forms, numbers, verb_of_command}
 use Rattle.mbj_text.specs.Spelling.{SpellsFields}
 use Rattle.mbj_text.specs.declared.command.Cmd.{Cmd}
 use Rattle.mbj_text.specs.declared.command.Cmd.TheVariants as command

@@ -1,12 +1,11 @@
 -- What a command prints, from what its calls did.
-use Rattle.std.proofs.Common.{◌≡◌, ◌≢◌, ◌∙◌, ◌+◌, ◌<◌, ◌++◌, [], ◌∷◌, ap, sym, subst, refl, ℕ, zero, suc, All, append_assoc, Result, Ok, Err, IfOk, Vec, Global, List, Bool, true, false, IsTrue, ◌↔◌, Option, None, Some, map, length, set, slice_index, slice_index_or, option_map, option_to_list, arith, if◌then◌else◌, ◌==◌}
+use Rattle.std.proofs.Common.{◌≡◌, ◌≢◌, ◌∙◌, ◌+◌, ◌++◌, [], ◌∷◌, ap, sym, subst, ℕ, zero, suc, All, append_assoc, Result, Ok, Err, IfOk, Vec, Global, List, Bool, true, false, IsTrue, ◌↔◌, Option, None, Some, map, length, set, slice_index, slice_index_or, option_map, option_to_list, arith, if◌then◌else◌, ◌==◌}
 use Rattle.std.specs.Prelude.{slice_get}
 use Rattle.std.proofs.lemmas.List.{map-set}
 use Rattle.std.proofs.lemmas.Option.{get_or_from_slice_get, none-some, same_Some, slice_get-map}
 use Rattle.std.proofs.Math.Seq.{map-set_same}
 use Rattle.mbj_types.specs.declared.job.Job.{Job}
-use Rattle.mbj_types.specs.declared.done.Done.{Done}
-use Rattle.mbj_core.specs.CoreStates.{CoreState, claimed_by, finished, hand_in, next_cell, out_of, posted}
+use Rattle.mbj_core.specs.CoreStates.{CoreState, claimed_by, next_cell, out_of, posted}
 use Rattle.mbj_core.specs.declared.cells.TheConstants.{CELLS}
 use Rattle.mbj_text.specs.declared.command.Cmd.{Cmd}
 use Rattle.std.specs.declared.alloc.AllocError.{AllocError}

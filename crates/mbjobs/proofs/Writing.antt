@@ -1,5 +1,5 @@
 -- The lines of results, written one after another.
-use Rattle.std.proofs.Common.{Result, Ok, Err, OnErr, ◌≡◌, ◌+◌, ◌++◌, [], ap, sym, subst, refl, ℕ, List, Option, Some, drop, slice_get}
+use Rattle.std.proofs.Common.{◌≡◌, ◌+◌, ◌++◌, [], ap, sym, subst, refl, ℕ, List, Option, Some, drop, slice_get}
 use Rattle.std.specs.Io.KnownBytes.{Appends}
 use Rattle.std.proofs.KnownBytes.{Appends-nil}
 use Rattle.mbj_types.specs.declared.done.Done.{Done}
@@ -37,8 +37,3 @@ gains_line {a} {b} {c} {whole} n results done is flows gained =
     let P : List ℕ → Type 0 = λ text. GainsPrefix b c text in
     gains_then flows (subst P (sym (text_first n results done is))
     (gains_more (text_from (n + 1) (drop (n + 1) results)) gained))
-
--- what holds, holds where there is a fault
-pub on_err : {T E P : Type 0} (r : Result T E) → P → OnErr r P
-on_err (Ok t) holds = tt
-on_err (Err e) holds = holds

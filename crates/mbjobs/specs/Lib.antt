@@ -1,3 +1,4 @@
+pub mod Causes
 pub mod Claiming
 pub mod Command
 pub mod Dealing

@@ -1,5 +1,8 @@
 ghost use Rattle.std.specs.Prelude.{◌≡◌};
 ghost use Rattle.mbjobs.specs.Message.{status_of};
+ghost use Rattle.mbjobs.specs.declared.cause.Cause.TheVariants as variant;
+
+use std::alloc::AllocError;
 
 /// Why a command didn't complete. Lines are counted from 1.
 #[derive(Clone, Copy, Debug, PartialEq, Eq)]
@@ -31,5 +34,13 @@ impl Cause {
             Cause::Bytes | Cause::Jobs { .. } => 6,
             Cause::Memory => 7,
         }
+    }
+}
+
+impl From<AllocError> for Cause {
+    ghost from_gives = { λ _ given. given ≡ variant.Memory };
+
+    fn from(_e: AllocError) -> Cause {
+        Cause::Memory
     }
 }

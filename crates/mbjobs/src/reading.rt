@@ -3,6 +3,7 @@ ghost use Rattle.mbj_io.specs.Faults.{Rose};
 ghost use Rattle.mbj_text.specs.File.{Bad, Over};
 ghost use Rattle.mbj_text.specs.Replay.{BadReplay, OverReplay};
 ghost use Rattle.mbj_text.specs.declared.limits.TheConstants.{JOB_LIMIT};
+ghost use Rattle.mbjobs.specs.Causes.{cause_of_read, cause_of_text};
 ghost use Rattle.mbjobs.specs.Reading.{ReadsAll, ReadsJobs, ReadsScript, ReadsTooMuch, StopsReading, stream};
 
 use crate::cause::Cause;
@@ -23,6 +24,30 @@ pub(crate) enum ReadFault {
     Over,
     /// There wasn't memory enough.
     Memory,
+}
+
+impl From<ReadFault> for Cause {
+    ghost from_gives = { λ fault given. given ≡ cause_of_read fault };
+
+    fn from(fault: ReadFault) -> Cause {
+        match fault {
+            ReadFault::Failed => Cause::Read,
+            ReadFault::Over => Cause::Bytes,
+            ReadFault::Memory => Cause::Memory,
+        }
+    }
+}
+
+impl From<TextFault> for Cause {
+    ghost from_gives = { λ fault given. given ≡ cause_of_text fault };
+
+    fn from(fault: TextFault) -> Cause {
+        match fault {
+            TextFault::Line { line, field } => Cause::Line { line, field },
+            TextFault::Limit { line } => Cause::Jobs { line },
+            TextFault::Memory => Cause::Memory,
+        }
+    }
 }
 
 /// Reads an input to its end.
@@ -57,18 +82,8 @@ pub(crate) fn read_jobs<S: Source>(alloc: Global, input: &mut S) -> Result<Vec<J
     ensures stops { IfErr result (λ cause. StopsReading Bad Over cause (stream S.rest S.faults input.old input.new)) }
     ensures calm { result ≢ Err Cause.Read → S.faults input.new ≡ S.faults input.old }
 {
-    let bytes = match read_all(alloc, input) {
-        Ok(bytes) => bytes,
-        Err(ReadFault::Failed) => return Err(Cause::Read),
-        Err(ReadFault::Over) => return Err(Cause::Bytes),
-        Err(ReadFault::Memory) => return Err(Cause::Memory),
-    };
-    match read_file(alloc, &bytes) {
-        Ok(jobs) => Ok(jobs),
-        Err(TextFault::Line { line, field }) => Err(Cause::Line { line, field }),
-        Err(TextFault::Limit { line }) => Err(Cause::Jobs { line }),
-        Err(TextFault::Memory) => Err(Cause::Memory),
-    }
+    let bytes = read_all(alloc, input)?;
+    Ok(read_file(alloc, &bytes)?)
 }
 
 /// Reads the file of a replay to its end: its jobs, and the commands of its script.
@@ -84,16 +99,6 @@ pub(crate) fn read_script<S: Source>(
         (stream S.rest S.faults input.old input.new)) }
     ensures calm { result ≢ Err Cause.Read → S.faults input.new ≡ S.faults input.old }
 {
-    let bytes = match read_all(alloc, input) {
-        Ok(bytes) => bytes,
-        Err(ReadFault::Failed) => return Err(Cause::Read),
-        Err(ReadFault::Over) => return Err(Cause::Bytes),
-        Err(ReadFault::Memory) => return Err(Cause::Memory),
-    };
-    match read_replay(alloc, &bytes, submitters, workers) {
-        Ok(replay) => Ok(replay),
-        Err(TextFault::Line { line, field }) => Err(Cause::Line { line, field }),
-        Err(TextFault::Limit { line }) => Err(Cause::Jobs { line }),
-        Err(TextFault::Memory) => Err(Cause::Memory),
-    }
+    let bytes = read_all(alloc, input)?;
+    Ok(read_replay(alloc, &bytes, submitters, workers)?)
 }

@@ -17,7 +17,7 @@ use crate::reading::read_jobs;
 use mbj_io::{Failed, Sink, Source};
 use mbj_text::write_done;
 use mbj_types::Done;
-use std::alloc::{AllocError, Global};
+use std::alloc::Global;
 use std::thread::Threads;
 
 /// Writes the line of each result, in the order of the jobs.
@@ -57,10 +57,7 @@ pub(crate) fn run<R: Threads + Sync, S: Source, O: Sink>(
 {
     let jobs = read_jobs(alloc, input)?;
     let count = jobs.len() as u32;
-    let results = match do_jobs(rt, alloc, jobs, submitters) {
-        Ok(results) => results,
-        Err(AllocError) => return Err(Cause::Memory),
-    };
+    let results = do_jobs(rt, alloc, jobs, submitters)?;
     match write_results(out, &results, count) {
         Ok(()) => Ok(()),
         Err(Failed) => Err(Cause::Write),

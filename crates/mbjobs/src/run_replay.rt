@@ -9,7 +9,7 @@ use crate::reading::read_script;
 use crate::replay::lines_of_script;
 use crate::replay_line::write_replay;
 use mbj_io::{Failed, Sink, Source};
-use std::alloc::{AllocError, Global};
+use std::alloc::Global;
 
 /// Reads the file of a replay, and writes what each command of its script comes to.
 pub(crate) fn run_replay<S: Source, O: Sink>(
@@ -29,10 +29,7 @@ pub(crate) fn run_replay<S: Source, O: Sink>(
         → IsUntouched (stream O.held O.faults out.old out.new)) }
 {
     let (jobs, commands) = read_script(alloc, input, submitters, workers)?;
-    let lines = match lines_of_script(alloc, jobs, commands, submitters, workers) {
-        Ok(lines) => lines,
-        Err(AllocError) => return Err(Cause::Memory),
-    };
+    let lines = lines_of_script(alloc, jobs, commands, submitters, workers)?;
     match write_replay(out, &lines) {
         Ok(()) => Ok(()),
         Err(Failed) => Err(Cause::Write),

@@ -94,14 +94,8 @@ pub(crate) fn run_gen<R: Threads + Sync, O: Sink>(
     ensures untouched { IfErr result (λ cause. cause ≢ Cause.Write
         → IsUntouched (stream O.held O.faults out.old out.new)) }
 {
-    let made = match make_jobs(alloc, seed, jobs) {
-        Ok(made) => made,
-        Err(AllocError) => return Err(Cause::Memory),
-    };
-    let results = match do_jobs(rt, alloc, made, submitters) {
-        Ok(results) => results,
-        Err(AllocError) => return Err(Cause::Memory),
-    };
+    let made = make_jobs(alloc, seed, jobs)?;
+    let results = do_jobs(rt, alloc, made, submitters)?;
     match write_lines(out, &summarize(&results, jobs)) {
         Ok(()) => Ok(()),
         Err(Failed) => Err(Cause::Write),

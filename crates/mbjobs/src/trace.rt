@@ -217,10 +217,7 @@ pub(crate) fn run_trace<S: Source, O: Sink>(
         → IsUntouched (stream O.held O.faults out.old out.new)) }
 {
     let jobs = read_jobs(alloc, input)?;
-    let lines = match lines_of(alloc, jobs) {
-        Ok(lines) => lines,
-        Err(AllocError) => return Err(Cause::Memory),
-    };
+    let lines = lines_of(alloc, jobs)?;
     match write_lines(out, &lines) {
         Ok(()) => Ok(()),
         Err(Failed) => Err(Cause::Write),

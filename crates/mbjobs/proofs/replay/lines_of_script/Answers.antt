@@ -1,7 +1,7 @@
-use Rattle.std.proofs.Common.{◌≡◌, ◌∙◌, ◌≤◌, ap, sym, subst, ℕ, All, List, length}
+use Rattle.std.proofs.Common.{◌≡◌, ◌≤◌, ap, sym, subst, All, List, length}
 use Rattle.mbj_types.specs.declared.job.Job.{Job}
 use Rattle.mbj_text.specs.declared.limits.TheConstants.{JOB_LIMIT}
-use Rattle.mbjobs.specs.Replay.{Replaying, lines_from, replay_lines}
+use Rattle.mbjobs.specs.Replay.{Replaying, replay_lines}
 use Rattle.mbjobs.specs.ReplayState.{IsFor, IsPlaying, state_of}
 use Rattle.mbjobs.proofs.Telling.{answered-by}
 use Rattle.mbjobs.proofs.replay.lines_of_script.Goals as goal

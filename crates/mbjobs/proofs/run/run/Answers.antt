@@ -46,28 +46,28 @@ answered s w input jobs results IsWritten reads are written = record {
 pub write_results-requires : goal.write_results-requires
 write_results-requires g c κs within =
     let all : c.len-count.result ≡ length c.in_ok-jobs.jobs.items = c.len-count.ensures ∙ c.in_ok-jobs.jobs.ok.0 in
-    let are = results_are c.in_ok-jobs.jobs.items c.len-count.result c.args.submitters c.in-Ok.results.items c.deref.result.now c.deref.ensures.value all c.in-Ok.ensures in (
+    let are = results_are c.in_ok-jobs.jobs.items c.len-count.result c.args.submitters c.in_ok-results.results.items c.deref.result.now c.deref.ensures.value all c.in_ok-results.ensures in (
       within,
       (
-        results_dealt c.in_ok-jobs.jobs.items c.len-count.result c.args.submitters c.in-Ok.results.items c.deref.result.now c.deref.ensures.value all c.in-Ok.ensures,
+        results_dealt c.in_ok-jobs.jobs.items c.len-count.result c.args.submitters c.in_ok-results.results.items c.deref.result.now c.deref.ensures.value all c.in_ok-results.ensures,
         (all ∙ sym (ap length are ∙ length-map c.in_ok-jobs.jobs.items result_of), omega (arith, all, c.in_ok-jobs.ensures.count)),
       ),
     )
 
-pub returns-in-Ok-write_results-clause-ok : goal.returns-in-Ok-write_results-clause-ok
-returns-in-Ok-write_results-clause-ok g c =
+pub returns-in-Ok-clause-ok : goal.returns-in-Ok-clause-ok
+returns-in-Ok-clause-ok g c =
     answered c.args.submitters c.args._workers _ c.in_ok-jobs.jobs.items _
     (λ t. Appends (g.O.Sink.held c.args.out.now) (g.O.Sink.held c.write_results.new.out) t) c.in_ok-jobs.ensures.read
-    (results_are c.in_ok-jobs.jobs.items c.len-count.result c.args.submitters c.in-Ok.results.items c.deref.result.now
-    c.deref.ensures.value (c.len-count.ensures ∙ c.in_ok-jobs.jobs.ok.0) c.in-Ok.ensures)
-    c.in-Ok-write_results.ensures.ok
+    (results_are c.in_ok-jobs.jobs.items c.len-count.result c.args.submitters c.in_ok-results.results.items c.deref.result.now
+    c.deref.ensures.value (c.len-count.ensures ∙ c.in_ok-jobs.jobs.ok.0) c.in_ok-results.ensures)
+    c.in-Ok.ensures.ok
 
 pub returns-clause-err : goal.returns-clause-err
 returns-clause-err g c = (
-  c.in-Err-write_results.ensures.failed,
+  c.in-Err.ensures.failed,
   answered c.args.submitters c.args._workers _ c.in_ok-jobs.jobs.items _
       (λ t. GainsPrefix (g.O.Sink.held c.args.out.now) (g.O.Sink.held c.write_results.new.out) t) c.in_ok-jobs.ensures.read
-      (results_are c.in_ok-jobs.jobs.items c.len-count.result c.args.submitters c.in-Ok.results.items c.deref.result.now
-      c.deref.ensures.value (c.len-count.ensures ∙ c.in_ok-jobs.jobs.ok.0) c.in-Ok.ensures)
-      c.in-Err-write_results.ensures.err,
+      (results_are c.in_ok-jobs.jobs.items c.len-count.result c.args.submitters c.in_ok-results.results.items c.deref.result.now
+      c.deref.ensures.value (c.len-count.ensures ∙ c.in_ok-jobs.jobs.ok.0) c.in_ok-results.ensures)
+      c.in-Err.ensures.err,
 )

@@ -1,5 +1,6 @@
 use Rattle.std.proofs.Common.{refl, ◌∙◌}
-use Rattle.mbjobs.proofs.Writing.{flows_start, flows_line, gains_line, on_err}
+use Rattle.mbjobs.proofs.Printing.{on-err}
+use Rattle.mbjobs.proofs.Writing.{flows_start, flows_line, gains_line}
 use Rattle.mbjobs.proofs.run.write_results.Goals as goal
 
 pub loop-number-init : goal.loop-number-init
@@ -14,5 +15,5 @@ loop-number-preserved g c = record {
 
 pub returns-in_err-write_done-clause-err : goal.returns-in_err-write_done-clause-err
 returns-in_err-write_done-clause-err g c =
-    on_err c.from_residual.result (gains_line c.loop-number.number g.results c.result_at.result.now c.result_at.ensures
+    on-err c.from_residual.result _ (gains_line c.loop-number.number g.results c.result_at.result.now c.result_at.ensures
     c.loop-number.invariant.flows c.in_err-write_done.ensures.err)

@@ -11,26 +11,26 @@ use Rattle.mbjobs.proofs.summary.run_gen.Goals as goal
 
 pub summarize-requires : goal.summarize-requires
 summarize-requires g c =
-    let dealt = results-dealt c.in-Ok.made.items c.args.jobs c.args.seed c.args.submitters (λ list. list.items)
-    c.in-Ok-do_jobs.results.items c.deref.result.now c.in-Ok.ensures c.deref.ensures.value c.in-Ok-do_jobs.ensures in
+    let dealt = results-dealt c.in_ok-made.made.items c.args.jobs c.args.seed c.args.submitters (λ list. list.items)
+    c.in_ok-results.results.items c.deref.result.now c.in_ok-made.ensures c.deref.ensures.value c.in_ok-results.ensures in
     results-gathered (map result_of (generated c.args.jobs c.args.seed)) c.args.jobs c.args.submitters (λ list. list.items)
     c.deref.result.now (length-results c.args.jobs c.args.seed) dealt c.requires.jobs
     (lines-fit c.args.jobs c.args.seed c.requires.jobs)
 
-pub returns-in-Ok-write_lines-clause-ok : goal.returns-in-Ok-write_lines-clause-ok
-returns-in-Ok-write_lines-clause-ok g c =
-    let dealt = results-dealt c.in-Ok.made.items c.args.jobs c.args.seed c.args.submitters (λ list. list.items)
-    c.in-Ok-do_jobs.results.items c.deref.result.now c.in-Ok.ensures c.deref.ensures.value c.in-Ok-do_jobs.ensures in
+pub returns-in-Ok-clause-ok : goal.returns-in-Ok-clause-ok
+returns-in-Ok-clause-ok g c =
+    let dealt = results-dealt c.in_ok-made.made.items c.args.jobs c.args.seed c.args.submitters (λ list. list.items)
+    c.in_ok-results.results.items c.deref.result.now c.in_ok-made.ensures c.deref.ensures.value c.in_ok-results.ensures in
     let told = told-of-made c.args.jobs c.args.seed c.args.submitters (λ list. list.items) c.deref.result.now c.summarize.result dealt
     c.summarize.ensures in
     let Told : List Line → Type 0 = λ lines. Appends (g.O.Sink.held c.args.out.now) (g.O.Sink.held c.write_lines.new.out) (lines_text lines) in
-    subst Told told c.in-Ok-write_lines.ensures.ok
+    subst Told told c.in-Ok.ensures.ok
 
 pub returns-clause-write : goal.returns-clause-write
 returns-clause-write g c =
-    let dealt = results-dealt c.in-Ok.made.items c.args.jobs c.args.seed c.args.submitters (λ list. list.items)
-    c.in-Ok-do_jobs.results.items c.deref.result.now c.in-Ok.ensures c.deref.ensures.value c.in-Ok-do_jobs.ensures in
+    let dealt = results-dealt c.in_ok-made.made.items c.args.jobs c.args.seed c.args.submitters (λ list. list.items)
+    c.in_ok-results.results.items c.deref.result.now c.in_ok-made.ensures c.deref.ensures.value c.in_ok-results.ensures in
     let told = told-of-made c.args.jobs c.args.seed c.args.submitters (λ list. list.items) c.deref.result.now c.summarize.result dealt
     c.summarize.ensures in
     let Told : List Line → Type 0 = λ lines. GainsPrefix (g.O.Sink.held c.args.out.now) (g.O.Sink.held c.write_lines.new.out) (lines_text lines) in
-    λ _. (c.in-Err-write_lines.ensures.failed, subst Told told c.in-Err-write_lines.ensures.err)
+    λ _. (c.in-Err.ensures.failed, subst Told told c.in-Err.ensures.err)

@@ -1,16 +1,14 @@
 -- By the law of the front, the first cell of the hand is the one whose result comes.
-use Rattle.std.proofs.Common.{◌≡◌, ◌≢◌, ◌∙◌, ◌+◌, ◌*◌, ap, sym, subst, refl, ℕ, List, Some, None, option_map, option_to_list, slice_index, length, arith, set, map, ◌++◌, [], ◌∷◌, length-set}
+use Rattle.std.proofs.Common.{◌≡◌, ◌∙◌, ◌*◌, ap, sym, refl, ℕ, List, Some, None, option_map, option_to_list, slice_index, length, arith, set, map, ◌++◌, [], ◌∷◌, length-set}
 use Rattle.std.specs.Prelude.{slice_get}
-use Rattle.std.proofs.lemmas.Option.{same_Some, slice_get_read}
+use Rattle.std.proofs.lemmas.Option.{slice_get_read}
 use Rattle.mbj_core.specs.CoreStates.{CoreState}
 use Rattle.mbj_core.specs.declared.cells.TheConstants.{CELLS}
 use Rattle.mbj_manager.specs.State.{submitted, with_open}
 use Rattle.mbj_types.specs.Result.{result_of}
 use Rattle.mbj_types.specs.declared.job.Job.{Job}
 use Rattle.mbjobs.specs.Replay.{first_with}
-use Rattle.mbjobs.specs.Claiming.{ClaimsAt}
 use Rattle.mbjobs.specs.ReplayState.{state_of}
-use Rattle.mbjobs.specs.declared.replay.Posted.{Posted}
 use Rattle.mbjobs.specs.declared.replay_line.ReplayLine.TheVariants as line
 use Rattle.mbjobs.proofs.Fronts.{held-at, within-cells}
 use Rattle.mbjobs.proofs.Playing.{claim-copy, claim-hand, claim-held, claim-plays, worker-hand}

@@ -6,9 +6,6 @@ use Rattle.mbjobs.proofs.Fronts.{held-at, within-cells}
 use Rattle.mbjobs.proofs.Playing.{flush-held, flush-plays, worker-hand}
 use Rattle.mbjobs.proofs.Telling.{finish-number, flush-is, flush-state, manager-is}
 use Rattle.mbjobs.specs.ReplayState.{state_of}
-use Rattle.mbjobs.specs.declared.replay.Replayer.{Replayer}
-use Rattle.mbjobs.specs.declared.worker.Worker.{Worker}
-use Rattle.mbjobs.specs.ReplayState.{IsPlaying}
 use Rattle.mbjobs.proofs.replay.Replayer.flush.Goals as goal
 
 pub finish_given-finished-requires-clause-held : goal.finish_given-finished-requires-clause-held

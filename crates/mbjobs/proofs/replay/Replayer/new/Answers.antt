@@ -1,5 +1,4 @@
-use Rattle.std.proofs.Common.{◌≡◌, ◌∙◌, ap, sym, subst}
-use Rattle.mbj_core.specs.CoreStates.{CoreState, new_core}
+use Rattle.std.proofs.Common.{◌∙◌}
 use Rattle.mbj_core.specs.contracts.machine.Core.{the_view}
 use Rattle.mbjobs.proofs.Begun.{begun, begun-state}
 use Rattle.mbjobs.proofs.replay.Replayer.new.Goals as goal

@@ -1,6 +1,6 @@
-use Rattle.std.proofs.Common.{rules, ◌≡◌, ◌∙◌, All, subst, sym}
+use Rattle.std.proofs.Common.{rules, All, subst, sym}
 use Rattle.std.specs.Vec.Iter.{into_iter_items}
-use Rattle.mbjobs.specs.ReplayState.{IsFor, lines_of, state_of}
+use Rattle.mbjobs.specs.ReplayState.{IsFor, state_of}
 use Rattle.mbjobs.proofs.Telling.{all-first, all-rest, one-told}
 use Rattle.mbjobs.proofs.replay.Replayer.play.Goals as goal
 

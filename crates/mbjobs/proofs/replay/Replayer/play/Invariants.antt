@@ -2,7 +2,7 @@
 use Rattle.std.proofs.Common.{◌≡◌, ◌++◌, All}
 use Rattle.std.specs.Vec.Iter.{into_iter_items}
 use Rattle.mbjobs.specs.Replay.{lines_from}
-use Rattle.mbjobs.specs.ReplayState.{HasPartiesOf, IsFor, IsPlaying, state_of}
+use Rattle.mbjobs.specs.ReplayState.{IsFor, IsPlaying, state_of}
 use Rattle.mbjobs.proofs.replay.Replayer.play.Given as goal
 
 abbrev pub ghost-perform : goal.ghost-perform
