@@ -3,6 +3,7 @@ mod Deals
 mod Drawing
 mod Fronts
 mod Made
+mod Places
 mod Playing
 mod Printing
 mod ReadyCells

@@ -6,6 +6,7 @@ use Rattle.mbj_types.specs.declared.done.Done.{Done}
 use Rattle.mbj_core.specs.Cells.{Cell, ready, done, cell_of}
 use Rattle.mbj_core.specs.CoreStates.{CoreState, new_core, cell_in, claimed_by, finished, first_cell, hand_in, handed_out, next_cell, out_of, posted}
 use Rattle.mbj_core.specs.declared.cells.TheConstants.{CELLS}
+use Rattle.mbj_ring.specs.declared.ring.TheConstants as ring
 use Rattle.mbj_manager.specs.State.{ManagerState, flushing, new_manager, submitted, with_open}
 use Rattle.mbj_text.specs.declared.command.Cmd.{Cmd}
 use Rattle.mbj_text.specs.declared.command.Cmd.TheVariants as command
@@ -121,10 +122,10 @@ claim_of w (Some found) r =
     submit_told w (line.Claim w (Some (number_in r found.0))) (submitted (with_open (manager w r) found.1)).0
     (with_claim w found.0 found.1 (submitted (with_open (manager w r) found.1)).1 r)
 
--- a worker whose hand has as many cells as its manager tries nothing
+-- a worker whose hand has as many cells as its manager's ring tries nothing
 abbrev pub claim_told : ℕ → ℕ → Replaying → Told
 claim_told w s r =
-    if length (hand w r) == CELLS then (line.ClaimFull w ∷ [], r) else claim_of w (first_ready r.core (cells_out r.core s)) r
+    if length (hand w r) == ring.CELLS then (line.ClaimFull w ∷ [], r) else claim_of w (first_ready r.core (cells_out r.core s)) r
 
 -- ---- flush
 

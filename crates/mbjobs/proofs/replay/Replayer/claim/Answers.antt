@@ -1,7 +1,5 @@
 -- By the law of the front, the first cell of the hand is the one whose result comes.
-use Rattle.std.proofs.Common.{◌≡◌, ◌∙◌, ◌*◌, ap, sym, refl, ℕ, List, Some, None, option_map, option_to_list, slice_index, length, arith, set, map, ◌++◌, [], ◌∷◌, length-set}
-use Rattle.std.specs.Prelude.{slice_get}
-use Rattle.std.proofs.lemmas.Option.{slice_get_read}
+use Rattle.std.proofs.Common.{◌≡◌, ◌∙◌, ◌*◌, ap, sym, refl, ℕ, List, Some, None, option_map, option_to_list, slice_index, length, set, map, ◌++◌, [], ◌∷◌, length-set}
 use Rattle.mbj_core.specs.CoreStates.{CoreState}
 use Rattle.mbj_core.specs.declared.cells.TheConstants.{CELLS}
 use Rattle.mbj_manager.specs.State.{submitted, with_open}
@@ -11,6 +9,7 @@ use Rattle.mbjobs.specs.Replay.{first_with}
 use Rattle.mbjobs.specs.ReplayState.{state_of}
 use Rattle.mbjobs.specs.declared.replay_line.ReplayLine.TheVariants as line
 use Rattle.mbjobs.proofs.Fronts.{held-at, within-cells}
+use Rattle.mbjobs.proofs.Places.{posted-at, worker-at}
 use Rattle.mbjobs.proofs.Playing.{claim-copy, claim-hand, claim-held, claim-plays, worker-hand}
 use Rattle.mbjobs.proofs.Telling.{claim-is, claim-state, finish-number, manager-is, no-claim-is, numbers-stay, refuted}
 use Rattle.mbjobs.proofs.replay.Replayer.claim.Goals as goal
@@ -22,12 +21,8 @@ finish_given-finished-requires-clause-held g c =
     let z = c.index_mut.result.now in
     let p = c.party_of-party.result in
     let mid = c.claim_earliest.new.core in
-    let workers = c.requires.0.1.worker_count in
-    let cells = c.requires.0.1.stock.cell_count in
-    let at : slice_get r.workers.items c.args.w ≡ Some x
-    = slice_get_read r.workers.items (length r.workers.items) c.args.w x refl (omega (arith, workers, c.requires.1.0)) c.index_mut-2.ensures.value in
-    let there : slice_get r.posted.items c.in-Some.cell ≡ Some z
-    = slice_get_read r.posted.items (length r.posted.items) c.in-Some.cell z refl (omega (arith, cells, c.in-Some.ensures.within)) c.index_mut.ensures.value in
+    let at = worker-at g.jobs r c.args.w x c.requires.0 c.requires.1.0 c.index_mut-2.ensures.value in
+    let there = posted-at g.jobs r c.in-Some.cell z c.requires.0 c.in-Some.ensures.within c.index_mut.ensures.value in
     let owed = c.submit-given.ensures.owed ∙ ap (λ (j : Job). x.manager.owed ++ result_of j ∷ []) c.take_copy-copy.ensures.copy in
     held-at mid p c.submit-given.result
     (claim-held g.jobs r c.args.w p c.submit-given.result x c.submit-given.new.self c.requires.0 c.party_of-party.ensures at
@@ -40,12 +35,9 @@ number_at-requires g c =
     let z = c.index_mut.result.now in
     let p = c.party_of-party.result in
     let mid = c.claim_earliest.new.core in
-    let workers = c.requires.0.1.worker_count in
     let cells = c.requires.0.1.stock.cell_count in
-    let at : slice_get r.workers.items c.args.w ≡ Some x
-    = slice_get_read r.workers.items (length r.workers.items) c.args.w x refl (omega (arith, workers, c.requires.1.0)) c.index_mut-2.ensures.value in
-    let there : slice_get r.posted.items c.in-Some.cell ≡ Some z
-    = slice_get_read r.posted.items (length r.posted.items) c.in-Some.cell z refl (omega (arith, cells, c.in-Some.ensures.within)) c.index_mut.ensures.value in
+    let at = worker-at g.jobs r c.args.w x c.requires.0 c.requires.1.0 c.index_mut-2.ensures.value in
+    let there = posted-at g.jobs r c.in-Some.cell z c.requires.0 c.in-Some.ensures.within c.index_mut.ensures.value in
     let owed = c.submit-given.ensures.owed ∙ ap (λ (j : Job). x.manager.owed ++ result_of j ∷ []) c.take_copy-copy.ensures.copy in
     let submitters : mid.submitters ≡ r.core.submitters = ap (λ (d : CoreState). d.submitters) c.in-Some.ensures.claimed.0.state in
     let count : length (set r.posted.items c.in-Some.cell c.take_copy-copy.new.self) ≡ CELLS * mid.submitters
@@ -58,9 +50,7 @@ pub returns-in_default-clause-told : goal.returns-in_default-clause-told
 returns-in_default-clause-told g c =
     let r = c.args.self.now in
     let x = c.index.result.now in
-    let workers = c.requires.0.1.worker_count in
-    let at : slice_get r.workers.items c.args.w ≡ Some x
-    = slice_get_read r.workers.items (length r.workers.items) c.args.w x refl (omega (arith, workers, c.requires.1.0)) c.index.ensures in
+    let at = worker-at g.jobs r c.args.w x c.requires.0 c.requires.1.0 c.index.ensures in
     no-claim-is c.args.w c.args.s (state_of r) _ x.hand.items
     (worker-hand g.jobs r c.args.w c.party_of-party.result None x x c.requires.0 c.party_of-party.ensures at c.requires.1.0)
     (refuted c.is_full.result (length x.hand.items ≡ CELLS) c.is_full.ensures.full c.if-is_full.false)
@@ -77,14 +67,9 @@ returns-clause-told g c =
     let p = c.party_of-party.result in
     let mid = c.claim_earliest.new.core in
     let claims = c.in-Some.ensures.claimed.0 in
-    let workers = c.requires.0.1.worker_count in
-    let cells = c.requires.0.1.stock.cell_count in
-    let at : slice_get r.workers.items c.args.w ≡ Some x
-    = slice_get_read r.workers.items (length r.workers.items) c.args.w x refl (omega (arith, workers, c.requires.1.0)) c.index_mut-2.ensures.value in
-    let at_first : slice_get r.workers.items c.args.w ≡ Some first
-    = slice_get_read r.workers.items (length r.workers.items) c.args.w first refl (omega (arith, workers, c.requires.1.0)) c.index.ensures in
-    let there : slice_get r.posted.items c.in-Some.cell ≡ Some z
-    = slice_get_read r.posted.items (length r.posted.items) c.in-Some.cell z refl (omega (arith, cells, c.in-Some.ensures.within)) c.index_mut.ensures.value in
+    let at = worker-at g.jobs r c.args.w x c.requires.0 c.requires.1.0 c.index_mut-2.ensures.value in
+    let at_first = worker-at g.jobs r c.args.w first c.requires.0 c.requires.1.0 c.index.ensures in
+    let there = posted-at g.jobs r c.in-Some.cell z c.requires.0 c.in-Some.ensures.within c.index_mut.ensures.value in
     let owed = c.submit-given.ensures.owed ∙ ap (λ (j : Job). x.manager.owed ++ result_of j ∷ []) c.take_copy-copy.ensures.copy in
     let copy : c.take_copy-copy.result ≡ claims.job = c.take_copy-copy.ensures.copy
     ∙ claim-copy g.jobs r c.args.w p c.submit-given.result x y c.requires.0 c.party_of-party.ensures at
@@ -114,12 +99,8 @@ returns-clause-playing g c =
     let z = c.index_mut.result.now in
     let p = c.party_of-party.result in
     let mid = c.claim_earliest.new.core in
-    let workers = c.requires.0.1.worker_count in
-    let cells = c.requires.0.1.stock.cell_count in
-    let at : slice_get r.workers.items c.args.w ≡ Some x
-    = slice_get_read r.workers.items (length r.workers.items) c.args.w x refl (omega (arith, workers, c.requires.1.0)) c.index_mut-2.ensures.value in
-    let there : slice_get r.posted.items c.in-Some.cell ≡ Some z
-    = slice_get_read r.posted.items (length r.posted.items) c.in-Some.cell z refl (omega (arith, cells, c.in-Some.ensures.within)) c.index_mut.ensures.value in
+    let at = worker-at g.jobs r c.args.w x c.requires.0 c.requires.1.0 c.index_mut-2.ensures.value in
+    let there = posted-at g.jobs r c.in-Some.cell z c.requires.0 c.in-Some.ensures.within c.index_mut.ensures.value in
     let owed = c.submit-given.ensures.owed ∙ ap (λ (j : Job). x.manager.owed ++ result_of j ∷ []) c.take_copy-copy.ensures.copy in
     claim-plays g.jobs r c.args.w p c.submit-given.result x c.submit-given.new.self c.requires.0 c.party_of-party.ensures at
     mid c.in-Some.cell z there c.in-Some.ensures.claimed.0 c.submit-given.ensures.hand owed c.stands_for_lawful_states.ensures

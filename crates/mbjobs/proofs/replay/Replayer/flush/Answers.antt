@@ -1,8 +1,7 @@
 -- By the law of the front, the first cell of the hand is the one whose result comes.
-use Rattle.std.proofs.Common.{◌≡◌, ◌∙◌, refl, Some, length, arith}
-use Rattle.std.specs.Prelude.{slice_get}
-use Rattle.std.proofs.lemmas.Option.{slice_get_read}
+use Rattle.std.proofs.Common.{◌∙◌, refl, length}
 use Rattle.mbjobs.proofs.Fronts.{held-at, within-cells}
+use Rattle.mbjobs.proofs.Places.{worker-at}
 use Rattle.mbjobs.proofs.Playing.{flush-held, flush-plays, worker-hand}
 use Rattle.mbjobs.proofs.Telling.{finish-number, flush-is, flush-state, manager-is}
 use Rattle.mbjobs.specs.ReplayState.{state_of}
@@ -12,9 +11,7 @@ pub finish_given-finished-requires-clause-held : goal.finish_given-finished-requ
 finish_given-finished-requires-clause-held g c =
     let r = c.args.self.now in
     let x = c.index_mut.result.now in
-    let workers = c.requires.0.1.worker_count in
-    let at : slice_get r.workers.items c.args.w ≡ Some x
-    = slice_get_read r.workers.items (length r.workers.items) c.args.w x refl (omega (arith, workers, c.requires.1)) c.index_mut.ensures.value in
+    let at = worker-at g.jobs r c.args.w x c.requires.0 c.requires.1 c.index_mut.ensures.value in
     held-at r.core c.party_of-party.result c.flush-given.result
     (flush-held g.jobs r c.args.w c.party_of-party.result c.flush-given.result x c.flush-given.new.self c.requires.0 c.party_of-party.ensures at
     c.flush-given.ensures.hand c.flush-given.ensures.owed c.stands_for_lawful_states.ensures)
@@ -23,9 +20,7 @@ pub number_at-job-requires : goal.number_at-job-requires
 number_at-job-requires g c =
     let r = c.args.self.now in
     let x = c.index_mut.result.now in
-    let workers = c.requires.0.1.worker_count in
-    let at : slice_get r.workers.items c.args.w ≡ Some x
-    = slice_get_read r.workers.items (length r.workers.items) c.args.w x refl (omega (arith, workers, c.requires.1)) c.index_mut.ensures.value in
+    let at = worker-at g.jobs r c.args.w x c.requires.0 c.requires.1 c.index_mut.ensures.value in
     within-cells r.core c.party_of-party.result c.flush-given.result (length r.posted.items) c.finish_given-finished.result
     c.requires.0.1.stock.cell_count c.finish_given-finished.ensures.cell
     (flush-held g.jobs r c.args.w c.party_of-party.result c.flush-given.result x c.flush-given.new.self c.requires.0 c.party_of-party.ensures at
@@ -35,9 +30,7 @@ pub returns-clause-told : goal.returns-clause-told
 returns-clause-told g c =
     let r = c.args.self.now in
     let x = c.index_mut.result.now in
-    let workers = c.requires.0.1.worker_count in
-    let at : slice_get r.workers.items c.args.w ≡ Some x
-    = slice_get_read r.workers.items (length r.workers.items) c.args.w x refl (omega (arith, workers, c.requires.1)) c.index_mut.ensures.value in
+    let at = worker-at g.jobs r c.args.w x c.requires.0 c.requires.1 c.index_mut.ensures.value in
     flush-is c.args.w (state_of r) _ x.manager x.hand.items c.flush-given.result c.number_at-job.result
     (manager-is r.workers.items c.args.w x at)
     (worker-hand g.jobs r c.args.w c.party_of-party.result c.flush-given.result x c.flush-given.new.self c.requires.0 c.party_of-party.ensures at c.requires.1)
@@ -50,9 +43,7 @@ pub returns-clause-playing : goal.returns-clause-playing
 returns-clause-playing g c =
     let r = c.args.self.now in
     let x = c.index_mut.result.now in
-    let workers = c.requires.0.1.worker_count in
-    let at : slice_get r.workers.items c.args.w ≡ Some x
-    = slice_get_read r.workers.items (length r.workers.items) c.args.w x refl (omega (arith, workers, c.requires.1)) c.index_mut.ensures.value in
+    let at = worker-at g.jobs r c.args.w x c.requires.0 c.requires.1 c.index_mut.ensures.value in
     flush-plays g.jobs r c.args.w c.party_of-party.result c.flush-given.result x c.flush-given.new.self c.requires.0 c.party_of-party.ensures at
     c.flush-given.ensures.hand c.flush-given.ensures.owed c.stands_for_lawful_states.ensures c.finish_given-finished.new.core _
     c.finish_given-finished.ensures.core c.finish_given-finished.ensures.leads refl

@@ -6,6 +6,7 @@ use Rattle.mbj_core.specs.Cells.{cell_of}
 use Rattle.mbj_core.specs.CoreStates.{CoreState, next_cell, out_of}
 use Rattle.mbj_core.specs.declared.cells.TheConstants.{CELLS}
 use Rattle.mbjobs.specs.ReplayState.{state_of}
+use Rattle.mbjobs.proofs.Places.{next-at}
 use Rattle.mbjobs.proofs.Playing.{post-plays, same-plays}
 use Rattle.mbjobs.proofs.Telling.{post-is, post-state, put-back}
 use Rattle.mbjobs.proofs.replay.Replayer.post.Goals as goal
@@ -30,8 +31,7 @@ returns-clause-told g c =
     let within : n < length r.jobs.items = omega (arith, c.if-at-len.false, c.len.ensures, r.jobs.ok.0) in
     let at : slice_get r.jobs.items n ≡ Some c.replace-job.result
     = slice_get_read r.jobs.items (length r.jobs.items) n job refl within c.index_mut.ensures.value ∙ ap Some (sym c.replace-job.ensures.value) in
-    let next : slice_get r.nexts.items c.args.s ≡ Some n
-    = slice_get_read r.nexts.items (length r.nexts.items) c.args.s n refl (omega (arith, stock.next_count, c.requires.1.1)) c.index-number.ensures in
+    let next = next-at g.jobs r c.args.s n c.requires.0 c.requires.1.1 c.index-number.ensures in
     let cell : c.cell_behind-cell.result ≡ next_cell r.core c.args.s
     = c.cell_behind-cell.ensures.cell ∙ ap (λ (k : ℕ). cell_of c.args.s (slice_index r.core.firsts c.args.s + k)) c.out.ensures.out in
     let submitters : c.submitters.result ≡ r.core.submitters = c.submitters.ensures.0 ∙ ap (λ (d : CoreState). d.submitters) c.in_default.ensures.posted in
@@ -53,8 +53,7 @@ returns-clause-playing g c =
     = slice_get_read r.jobs.items (length r.jobs.items) n job refl within c.index_mut.ensures.value ∙ ap Some (sym c.replace-job.ensures.value) in
     let at_copy : slice_get r.copies.items n ≡ Some copy
     = slice_get_read r.copies.items (length r.copies.items) n copy refl (omega (arith, within, stock.job_count, stock.copy_count)) c.index_mut-2.ensures.value in
-    let next : slice_get r.nexts.items c.args.s ≡ Some n
-    = slice_get_read r.nexts.items (length r.nexts.items) c.args.s n refl (omega (arith, stock.next_count, c.requires.1.1)) c.index-number.ensures in
+    let next = next-at g.jobs r c.args.s n c.requires.0 c.requires.1.1 c.index-number.ensures in
     let cell : c.cell_behind-cell.result ≡ next_cell r.core c.args.s
     = c.cell_behind-cell.ensures.cell ∙ ap (λ (k : ℕ). cell_of c.args.s (slice_index r.core.firsts c.args.s + k)) c.out.ensures.out in
     let submitters : c.submitters.result ≡ r.core.submitters = c.submitters.ensures.0 ∙ ap (λ (d : CoreState). d.submitters) c.in_default.ensures.posted in
