@@ -46,7 +46,7 @@ module _ (c : CoreState) (size : Sizes c) (f : FrontState Job Done) (sf : Stands
   stands_hand i p x hand same lp results = let w : View Done = with_hand (f.seats p) hand in
       let kept : (j : ℕ) → result_in result_of (put f.cells i x j) ≡ result_in result_of (f.cells j) = λ j. at_put f.cells i x (λ k y. result_in result_of y ≡ result_in result_of (f.cells k)) j same (λ _. refl) in record {
         each_cell = cell_after i x;
-        at_rest = λ q. at_put f.seats p w (λ r y. (y.number ≡ r) × (y.stage ≡ Rest) × (y.looks ≡ [])) q (sf.at_rest p) (λ _. sf.at_rest q);
+        at_rest = λ q. at_put f.seats p w (λ r y. (y.number ≡ r) × (y.stage ≡ Rest)) q (sf.at_rest p) (λ _. sf.at_rest q);
         each_hand = λ q l. at_put f.seats p w (λ r y. r < c.submitters + c.workers → slice_get (set c.hands p (cells_of hand)) r ≡ Some (cells_of y.hand)) q
             (λ _. set_here c.hands p (cells_of hand) (omega (arith, size.hands))) (λ ne l. set_else c.hands p q (cells_of hand) ne ∙ sf.each_hand q l) l;
         hand_results = λ q k j d. at_put f.seats p w (λ r y. slice_get y.hand k ≡ Some (j, d) → result_in result_of (put f.cells i x j) ≡ Some d) q
@@ -70,7 +70,7 @@ module _ (c : CoreState) (size : Sizes c) (f : FrontState Job Done) (sf : Stands
       let kept : (p k j : ℕ) (d : Done) → slice_get (f.seats p).hand k ≡ Some (j, d) → result_in result_of (put f.cells i x j) ≡ Some d = λ p k j d at.
       at_put f.cells i x (λ r y. slice_get (f.seats p).hand k ≡ Some (r, d) → result_in result_of y ≡ Some d) j (λ here. absurd (lacks p k d here)) (λ _ at. sf.hand_results p k j d at) at in record {
         each_cell = cell_after i x;
-        at_rest = λ q. at_put f.seats s w (λ r y. (y.number ≡ r) × (y.stage ≡ Rest) × (y.looks ≡ [])) q (sf.at_rest s) (λ _. sf.at_rest q);
+        at_rest = λ q. at_put f.seats s w (λ r y. (y.number ≡ r) × (y.stage ≡ Rest)) q (sf.at_rest s) (λ _. sf.at_rest q);
         each_hand = λ q. at_put f.seats s w (λ r y. r < c.submitters + c.workers → slice_get c.hands r ≡ Some (cells_of y.hand)) q (sf.each_hand s) (λ _. sf.each_hand q);
         hand_results = λ q k j d. at_put f.seats s w (λ r y. slice_get y.hand k ≡ Some (j, d) → result_in result_of (put f.cells i x j) ≡ Some d) q (kept s k j d) (λ _. kept q k j d);
         each_first = λ t l. at_put f.seats s w (λ r y. r < c.submitters → y.handed % CELLS ≡ slice_index (set c.firsts s first) r) t

@@ -31,7 +31,7 @@ none_out n s l = let none : slice_index (replicate n 0) s ≡ 0 = get_or-replica
 pub new_stands : (submitters workers : ℕ) → StandsFor (new_core submitters workers) new_front
 new_stands submitters workers = record {
   each_cell = λ c l. at_replicate (CELLS * submitters) c free l;
-  at_rest = λ p. (refl, refl, refl);
+  at_rest = λ p. (refl, refl);
   each_hand = λ p l. at_replicate (submitters + workers) p [] l;
   hand_results = λ p k c d at. absurd (none-some (c, d) at);
   each_first = λ s l. sym (get_or-replicate submitters s 0 0 l);
