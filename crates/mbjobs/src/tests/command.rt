@@ -150,10 +150,17 @@ fn other_words_are_no_command(rt: HostRuntime) -> Result<(), Fail> {
 #[test]
 fn texts_say_what_is_wrong_and_what_is_right(rt: HostRuntime) -> Result<(), Fail> {
     let alloc = rt.alloc();
-    let cases: [(&str, &[&str]); 7] = [
+    let cases: [(&str, &[&str]); 8] = [
         (
             "mbjobs --help",
-            &["Usage: mbjobs", "run", "trace", "gen", "--version"],
+            &[
+                "Usage: mbjobs",
+                "run",
+                "trace",
+                "gen",
+                "replay",
+                "--version",
+            ],
         ),
         (
             "mbjobs run --help",
@@ -179,6 +186,15 @@ fn texts_say_what_is_wrong_and_what_is_right(rt: HostRuntime) -> Result<(), Fail
                 "--workers <W>",
             ],
         ),
+        (
+            "mbjobs replay --help",
+            &[
+                "Usage: mbjobs replay",
+                "--submitters <S>",
+                "--workers <W>",
+                "0 to 16",
+            ],
+        ),
         ("mbjobs --version", &["mbjobs 0.1.0"]),
         (
             "mbjobs run --submitters 17 --workers 0",
@@ -186,7 +202,7 @@ fn texts_say_what_is_wrong_and_what_is_right(rt: HostRuntime) -> Result<(), Fail
         ),
         (
             "mbjobs",
-            &["Usage: mbjobs", "run", "trace", "gen", "--help"],
+            &["Usage: mbjobs", "run", "trace", "gen", "replay", "--help"],
         ),
     ];
     for (line, parts) in cases {
