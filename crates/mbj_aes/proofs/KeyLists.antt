@@ -5,7 +5,8 @@ use Rattle.std.proofs.lemmas.List.Elements.{All-cons, All-replicate, All-take, A
 use Rattle.mbj_types.specs.Blocks.{xor_lists}
 use Rattle.mbj_types.specs.Aes.{power, sub_byte, sub_bytes, word, rcon, rot_word, schedule_term, schedule, round_key, rounds_of, key_schedule}
 use Rattle.mbj_aes.specs.Bytes.{IsBytes, IsBlock, IsKey, IsKeySize}
-use Rattle.mbj_aes.proofs.XorLists.{length-xor_lists, IsBytes-xor_lists}
+use Rattle.mbj_types.proofs.XorLists.{length-xor_lists}
+use Rattle.mbj_aes.proofs.XorLists.{IsBytes-xor_lists}
 use Rattle.mbj_aes.proofs.FieldProducts.{power_small}
 use Rattle.mbj_aes.proofs.ByteMaps.{IsBytes-sub_bytes}
 

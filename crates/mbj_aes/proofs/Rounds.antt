@@ -3,7 +3,8 @@ use Rattle.std.proofs.Common.{◌≡◌, ℕ, zero, suc, ◌+◌, ◌-◌, ◌*�
 use Rattle.mbj_types.specs.Blocks.{xor_lists}
 use Rattle.mbj_types.specs.Aes.{sub_bytes, inv_sub_bytes, shift_rows, inv_shift_rows, mix_columns, inv_mix_columns, round_key, full_round, undone_round, after_rounds, undone_rounds, encipher, decipher}
 use Rattle.mbj_aes.specs.Bytes.{IsBytes, IsBlock}
-use Rattle.mbj_aes.proofs.XorLists.{xor_lists_twice, length-xor_lists, IsBlock-xor_lists}
+use Rattle.mbj_types.proofs.XorLists.{xor_lists_twice, length-xor_lists}
+use Rattle.mbj_aes.proofs.XorLists.{IsBlock-xor_lists}
 use Rattle.mbj_aes.proofs.ByteMaps.{unsubstituted_bytes, resubstituted_bytes, IsBlock-sub_bytes, IsBytes-inv_sub_bytes}
 use Rattle.mbj_aes.proofs.States.{IsBytes-shift_rows, IsBytes-inv_shift_rows, unshifted_rows, reshifted_rows}
 use Rattle.mbj_aes.proofs.Columns.{unmixed_columns, remixed_columns, IsBlock-mix_columns, IsBlock-inv_mix_columns}

@@ -6,7 +6,7 @@ ghost use Rattle.mbj_aes.specs.declared.expansion.TheConstants.{MAX_SCHEDULE_BYT
 
 use crate::state::substitute;
 use crate::tables::{ROUND_CONSTANTS, SBOX};
-use crate::xor::xor_in_place;
+use mbj_types::xor_in_place;
 
 /// The bytes of the longest schedule, that of a key of 32 bytes: 16 for each of its 14 rounds, and 16 more.
 pub const MAX_SCHEDULE_BYTES: usize = 240;

@@ -7,11 +7,9 @@ mod laws;
 mod schedule;
 mod state;
 mod tables;
-mod xor;
 
 pub use laws::{blocks_stay_blocks, each_undoes_the_other, examples_of_the_standard};
 pub use schedule::Schedule;
-pub use xor::xor_in_place;
 
 #[cfg(test)]
 mod tests;

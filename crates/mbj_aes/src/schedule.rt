@@ -6,11 +6,8 @@ use crate::expansion::{MAX_SCHEDULE_BYTES, expanded_key, round_count};
 use crate::state::{
     inv_mix_columns, inv_shift_rows, inv_sub_bytes, mix_columns, shift_rows, sub_bytes,
 };
-use crate::xor::xor_in_place;
+use mbj_types::{BLOCK_BYTES, xor_in_place};
 use std::marker::Model;
-
-// The bytes of a block, and of the round key of one round.
-const BLOCK_BYTES: usize = 16;
 
 /// The round keys of an AES key (FIPS 197, 5.2), which contracts see as the list of their bytes, 16 for each of
 /// 10, 12 or 14 rounds and 16 more. It is a plain value of 244 bytes, `Copy`, and owns no memory.

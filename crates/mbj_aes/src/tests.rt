@@ -84,10 +84,3 @@ fn a_schedule_is_copied_and_may_cross_to_another_thread(rt: HostRuntime) {
     blocks_stay_blocks();
     examples_of_the_standard();
 }
-
-#[test]
-fn bytes_are_xored_as_far_as_the_text_goes(rt: HostRuntime) {
-    let mut text = [0x00, 0x0f, 0xff];
-    xor_in_place(&mut text, &[0xf0, 0xff, 0xff, 0x55]);
-    assert_eq!(rt; text, [0xf0, 0xf0, 0x00]);
-}

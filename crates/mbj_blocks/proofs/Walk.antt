@@ -4,7 +4,7 @@ use Rattle.std.specs.List.{concat}
 use Rattle.std.proofs.lemmas.List.{take_all, drop_all, append_assoc, length-take, take_at, drop_at}
 use Rattle.std.proofs.lemmas.Bool.{cases_lt}
 use Rattle.mbj_types.specs.Blocks.{xor_lists, blocks}
-use Rattle.mbj_aes.proofs.XorLists.{length-xor_lists}
+use Rattle.mbj_types.proofs.XorLists.{length-xor_lists}
 use Rattle.mbj_blocks.specs.Places.{block_of, with_block}
 use Rattle.mbj_blocks.proofs.Blocks.{blocks-nil, blocks-drop}
 

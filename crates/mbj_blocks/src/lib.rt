@@ -7,13 +7,11 @@ ghost use Rattle.mbj_types.specs.Aes.{encipher};
 ghost use Rattle.mbj_types.specs.Blocks.{xor_lists, filled_block};
 ghost use Rattle.mbj_blocks.specs.Places.{block_of, with_block};
 
-use mbj_aes::{Schedule, xor_in_place};
+use mbj_aes::Schedule;
+use mbj_types::{BLOCK_BYTES, xor_in_place};
 
 #[cfg(test)]
 mod tests;
-
-/// The bytes of a block.
-pub const BLOCK_BYTES: usize = 16;
 
 /// Block `i` of a text that has that block whole.
 pub fn block_at(text: &[u8], i: usize) -> [u8; 16]

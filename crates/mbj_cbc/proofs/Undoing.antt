@@ -7,7 +7,8 @@ use Rattle.mbj_types.specs.Blocks.{xor_lists, blocks}
 use Rattle.mbj_types.specs.Modes.{cbc, uncbc}
 use Rattle.mbj_aes.specs.Bytes.{IsBlock, IsKey}
 use Rattle.mbj_aes.proofs.AesLaws.{decryption_undoes, encryption_keeps}
-use Rattle.mbj_aes.proofs.XorLists.{xor_lists_twice, IsBlock-xor_lists}
+use Rattle.mbj_types.proofs.XorLists.{xor_lists_twice}
+use Rattle.mbj_aes.proofs.XorLists.{IsBlock-xor_lists}
 use Rattle.mbj_blocks.proofs.Blocks.{concat-blocks, blocks-concat, All-blocks}
 use Rattle.mbj_cbc.specs.Laws.{DecryptionUndoesCbc}
 

@@ -2,8 +2,9 @@ ghost use Rattle.std.specs.Prelude.{◌≡◌, ◌%◌, length};
 ghost use Rattle.mbj_types.specs.Aes.{encipher, decipher};
 ghost use Rattle.mbj_types.specs.Modes.{cbc_text, uncbc_text};
 
-use mbj_aes::{Schedule, xor_in_place};
-use mbj_blocks::{BLOCK_BYTES, block_at, chained, put_block};
+use mbj_aes::Schedule;
+use mbj_blocks::{block_at, chained, put_block};
+use mbj_types::{BLOCK_BYTES, xor_in_place};
 
 /// Encrypts a text in place by CBC (SP 800-38A, 6.2): each block of 16 bytes is xored with the ciphertext before it,
 /// the first one with the IV, and enciphered. The text's length is a multiple of 16 bytes, and may be 0.

@@ -2,8 +2,9 @@ ghost use Rattle.std.specs.Prelude.{◌≡◌, ◌≤◌, length};
 ghost use Rattle.mbj_types.specs.Aes.{encipher};
 ghost use Rattle.mbj_types.specs.Cmac.{doubled_number, doubled, first_subkey, second_subkey, closed_block};
 
-use mbj_aes::{Schedule, xor_in_place};
-use mbj_blocks::{BLOCK_BYTES, filled_block};
+use mbj_aes::Schedule;
+use mbj_blocks::filled_block;
+use mbj_types::{BLOCK_BYTES, xor_in_place};
 
 // R of SP 800-38B, 5.3, for blocks of 128 bits: what a bit that is shifted out of a block comes back as.
 const REDUCTION: u128 = 0x87;

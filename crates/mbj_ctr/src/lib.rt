@@ -6,7 +6,8 @@ ghost use Rattle.mbj_types.specs.Aes.{encipher};
 ghost use Rattle.mbj_types.specs.Modes.{first_counter, ctr_text};
 
 use mbj_aes::Schedule;
-use mbj_blocks::{BLOCK_BYTES, xor_block};
+use mbj_blocks::xor_block;
+use mbj_types::BLOCK_BYTES;
 
 #[cfg(test)]
 mod tests;

@@ -8,7 +8,7 @@ use Rattle.mbj_types.specs.Blocks.{xor_lists, blocks}
 use Rattle.mbj_types.specs.Gcm.{inc32, pre_counter_block, gctr, gcm_text, gcm_tag}
 use Rattle.mbj_aes.specs.Bytes.{IsBlock}
 use Rattle.mbj_aes.proofs.AesLaws.{encryption_keeps}
-use Rattle.mbj_aes.proofs.XorLists.{length-xor_lists, xor_lists_twice}
+use Rattle.mbj_types.proofs.XorLists.{length-xor_lists, xor_lists_twice}
 use Rattle.mbj_blocks.proofs.Blocks.{blocks-nil, blocks-cons}
 use Rattle.mbj_gcm.specs.Laws.{UnsealingUndoesSealing}
 use Rattle.mbj_gcm.proofs.Counters.{IsBlock-inc32, IsBlock-pre_counter_block}

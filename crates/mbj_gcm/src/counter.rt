@@ -3,7 +3,8 @@ ghost use Rattle.mbj_types.specs.Aes.{encipher};
 ghost use Rattle.mbj_types.specs.Gcm.{inc32, pre_counter_block, gcm_text};
 
 use mbj_aes::Schedule;
-use mbj_blocks::{BLOCK_BYTES, xor_block};
+use mbj_blocks::xor_block;
+use mbj_types::BLOCK_BYTES;
 
 // The bytes of the IV, with which a counter block begins.
 const IV_BYTES: usize = 12;

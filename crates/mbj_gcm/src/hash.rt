@@ -7,9 +7,10 @@ ghost use Rattle.mbj_blocks.specs.Places.{block_of};
 ghost use Rattle.mbj_gcm.specs.Absorbing.{state_with};
 
 use crate::counter::pre_counter_block;
-use mbj_aes::{Schedule, xor_in_place};
-use mbj_blocks::{BLOCK_BYTES, filled_block};
+use mbj_aes::Schedule;
+use mbj_blocks::filled_block;
 use mbj_ghash::Ghash;
+use mbj_types::{BLOCK_BYTES, xor_in_place};
 
 // The bits of a byte.
 const BYTE_BITS: u64 = 8;

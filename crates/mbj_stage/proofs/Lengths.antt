@@ -18,7 +18,7 @@ use Rattle.mbj_types.specs.declared.job.Cipher.TheVariants as cipher
 use Rattle.mbj_types.specs.declared.job.Dir.{Dir}
 use Rattle.mbj_types.specs.declared.job.Dir.TheVariants.{Enc, Dec}
 use Rattle.mbj_types.specs.declared.reason.Reason.{Reason}
-use Rattle.mbj_aes.proofs.XorLists.{length-xor_lists}
+use Rattle.mbj_types.proofs.XorLists.{length-xor_lists}
 use Rattle.mbj_aes.proofs.KeyLists.{length-round_key}
 use Rattle.mbj_aes.proofs.Rounds.{length-encipher, length-decipher}
 use Rattle.mbj_blocks.proofs.Blocks.{concat-blocks}

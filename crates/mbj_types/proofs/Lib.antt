@@ -1,3 +1,4 @@
 pub mod LaneLists
 pub mod LaneRotations
 pub mod Vectors
+pub mod XorLists

@@ -2,6 +2,7 @@
 //! (in `specs/`) that every contract of the library cites.
 #![tactic(auto)]
 
+mod block;
 mod bytes;
 mod done;
 mod job;
@@ -14,6 +15,7 @@ mod reason;
 mod refusal;
 mod tag;
 
+pub use block::{BLOCK_BYTES, xor_in_place};
 pub use bytes::Bytes;
 pub use done::{Done, Status};
 pub use job::{Auth, Cipher, Dir, Job, Order};

@@ -57,3 +57,10 @@ fn reasons_and_lanes_have_their_numbers(rt: HostRuntime) {
     assert_eq!(rt; Kind::Cmac256.lanes(), 16);
     assert_eq!(rt; Kind::HmacSha512.lanes(), 4);
 }
+
+#[test]
+fn bytes_are_xored_as_far_as_the_text_goes(rt: HostRuntime) {
+    let mut text = [0x00, 0x0f, 0xff];
+    xor_in_place(&mut text, &[0xf0, 0xff, 0xff, 0x55]);
+    assert_eq!(rt; text, [0xf0, 0xf0, 0x00]);
+}
