@@ -4,21 +4,22 @@ use Rattle.std.proofs.lemmas.Bool.{ltb-false}
 use Rattle.mbj_types.specs.declared.job.Job.{Job}
 use Rattle.mbj_types.specs.declared.reason.Reason.{Reason}
 use Rattle.mbj_types.specs.declared.limits.TheConstants.{MAX_PACKET_BYTES, MAX_AAD_BYTES}
+use Rattle.mbj_types.specs.Auths.{class_of}
 use Rattle.mbj_types.specs.Verdict.{is_null_cipher, is_gcm_cipher, takes_key, takes_iv, takes_range, takes_auth_key, has_hash_range, least_tag_bytes, most_tag_bytes, is_half_gcm, verdict_at}
 
 -- a job with a packet of n bytes, read off the rows
 pub record IsAccepted (j : Job) (n : ℕ) : Type 0 where
   pub packet : n ≤ MAX_PACKET_BYTES
-  pub pair : is_half_gcm j.cipher j.auth ≡ false
+  pub pair : is_half_gcm j.cipher (class_of j.auth) ≡ false
   pub key : takes_key j.cipher (length j.key) ≡ true
   pub iv : takes_iv j.cipher (length j.iv) ≡ true
   pub cipher_range : is_null_cipher j.cipher ≡ false → j.cipher_off + j.cipher_len ≤ n
   pub cipher_len : takes_range j.cipher j.cipher_len ≡ true
-  pub auth_key : takes_auth_key j.auth (length j.auth_key) ≡ true
-  pub hash_range : has_hash_range j.auth ≡ true → j.hash_off + j.hash_len ≤ n
+  pub auth_key : takes_auth_key (class_of j.auth) (length j.auth_key) ≡ true
+  pub hash_range : has_hash_range (class_of j.auth) ≡ true → j.hash_off + j.hash_len ≤ n
   pub aad : is_gcm_cipher j.cipher ≡ true → length j.aad ≤ MAX_AAD_BYTES
-  pub least_tag : least_tag_bytes j.auth ≤ j.tag_len
-  pub most_tag : j.tag_len ≤ most_tag_bytes j.auth
+  pub least_tag : least_tag_bytes (class_of j.auth) ≤ j.tag_len
+  pub most_tag : j.tag_len ≤ most_tag_bytes (class_of j.auth)
 
 -- a choice that is none took the second way
 second_way : (b : Bool) (r : Reason) (rest : Option Reason) → cond b (Some r) rest ≡ None → (b ≡ false) × (rest ≡ None)
@@ -63,8 +64,8 @@ accepted j n none =
       cipher_range = λ c. ltb-false n (j.cipher_off + j.cipher_len) (not_and-false (is_null_cipher j.cipher) _ cipher_range.0 c);
       cipher_len = not-false _ cipher_len.0;
       auth_key = not-false _ auth_key.0;
-      hash_range = λ a. ltb-false n (j.hash_off + j.hash_len) (and-false (has_hash_range j.auth) _ hash_range.0 a);
+      hash_range = λ a. ltb-false n (j.hash_off + j.hash_len) (and-false (has_hash_range (class_of j.auth)) _ hash_range.0 a);
       aad = λ c. ltb-false MAX_AAD_BYTES (length j.aad) (and-false (is_gcm_cipher j.cipher) _ aad.0 c);
-      least_tag = ltb-false j.tag_len (least_tag_bytes j.auth) tag_bounds.0;
-      most_tag = ltb-false (most_tag_bytes j.auth) j.tag_len tag_bounds.1;
+      least_tag = ltb-false j.tag_len (least_tag_bytes (class_of j.auth)) tag_bounds.0;
+      most_tag = ltb-false (most_tag_bytes (class_of j.auth)) j.tag_len tag_bounds.1;
     }

@@ -1,12 +1,13 @@
 //! What an authentication takes.
 
 ghost use Rattle.std.specs.Prelude.{◌≡◌};
+ghost use Rattle.mbj_types.specs.Auths.{class_of};
 ghost use Rattle.mbj_types.specs.Verdict.{is_gcm_auth, has_hash_range, takes_auth_key, least_tag_bytes, most_tag_bytes};
 
 use mbj_types::{Auth, MAX_HMAC_KEY_BYTES};
 
 pub(crate) fn is_gcm(auth: Auth) -> bool
-    ensures { result ≡ is_gcm_auth auth }
+    ensures { result ≡ is_gcm_auth (class_of auth) }
 {
     match auth {
         Auth::Gcm => true,
@@ -21,7 +22,7 @@ pub(crate) fn is_gcm(auth: Auth) -> bool
 
 /// Whether the authentication is over the hash range.
 pub(crate) fn has_hash_range(auth: Auth) -> bool
-    ensures { result ≡ has_hash_range auth }
+    ensures { result ≡ has_hash_range (class_of auth) }
 {
     match auth {
         Auth::Null | Auth::Gcm => false,
@@ -36,7 +37,7 @@ pub(crate) fn has_hash_range(auth: Auth) -> bool
 
 /// Authentication keys of this many bytes.
 pub(crate) fn takes_key(auth: Auth, len: usize) -> bool
-    ensures { result ≡ takes_auth_key auth len }
+    ensures { result ≡ takes_auth_key (class_of auth) len }
 {
     match auth {
         Auth::Null | Auth::Gcm => true,
@@ -52,7 +53,7 @@ pub(crate) fn takes_key(auth: Auth, len: usize) -> bool
 
 /// The shortest tag that the authentication gives, in bytes.
 pub(crate) fn least_tag_bytes(auth: Auth) -> u8
-    ensures { result ≡ least_tag_bytes auth }
+    ensures { result ≡ least_tag_bytes (class_of auth) }
 {
     match auth {
         Auth::Null => 0,
@@ -69,7 +70,7 @@ pub(crate) fn least_tag_bytes(auth: Auth) -> u8
 
 /// The longest tag that the authentication gives, in bytes.
 pub(crate) fn most_tag_bytes(auth: Auth) -> u8
-    ensures { result ≡ most_tag_bytes auth }
+    ensures { result ≡ most_tag_bytes (class_of auth) }
 {
     match auth {
         Auth::Null => 0,

@@ -1,5 +1,6 @@
 ghost use Rattle.std.specs.Prelude.{◌≡◌, ◌-◌, ◌≤◌, ◌++◌, length, replicate, IfSome};
-ghost use Rattle.mbj_types.specs.Hmac.{IsHmac, hash_of, block_key, padded_key, hmac, ipad, opad};
+ghost use Rattle.mbj_types.specs.Auths.{IsHmac, hash_of};
+ghost use Rattle.mbj_types.specs.Hmac.{block_key, padded_key, hmac, ipad, opad};
 
 use crate::hasher::Hasher;
 use mbj_types::{Auth, Tag};

@@ -7,11 +7,10 @@ use Rattle.mbj_types.specs.declared.job.Cipher.{Cipher}
 use Rattle.mbj_types.specs.declared.job.Cipher.TheVariants as cipher
 use Rattle.mbj_types.specs.declared.job.Order.{Order}
 use Rattle.mbj_types.specs.declared.job.Order.TheVariants.{CipherHash, HashCipher}
-use Rattle.mbj_types.specs.declared.job.Auth.{Auth}
-use Rattle.mbj_types.specs.declared.job.Auth.TheVariants as auth
 use Rattle.mbj_types.specs.declared.done.Done.{Done}
 use Rattle.mbj_types.specs.declared.done.Status.TheVariants as status
 use Rattle.mbj_types.specs.declared.reason.Reason.{Reason}
+use Rattle.mbj_types.specs.Auths.{AuthClass, no_auth, hmac_auth, cmac_auth, gcm_auth, class_of}
 use Rattle.mbj_types.specs.Verdict.{is_gcm_cipher, is_gcm_auth, verdict}
 use Rattle.mbj_types.specs.Result.{ciphered, ciphered_by, mac_by, tag_over, authenticated_in, authenticated_by, accepted, refused, result_of}
 use Rattle.mbj_args.proofs.Accepted as table
@@ -40,64 +39,54 @@ after_cipher cipher.Ctr j tag left e h = refl
 after_cipher cipher.Gcm j tag left e h = absurd (cc)
 
 -- the steps of an authentication that isn't GCM make the tag
-after_auth : (a : Auth) (j : Job) (left : List Step) → j.auth ≡ a → is_gcm_auth a ≡ false
+after_auth : (a : AuthClass) (j : Job) (left : List Step) → class_of j.auth ≡ a → is_gcm_auth a ≡ false
     → led_to None (auth_steps a ++ left) j [] ≡ led_to None left j (tag_over j j.packet)
 unfolding tag_over
-after_auth auth.Null j left e h =
+after_auth no_auth j left e h =
     ap (λ (t : List ℕ). led_to None left j t)
-    (sym (ap (λ (a : Auth). take j.tag_len (mac_by a j j.packet)) e ∙ take-nil j.tag_len))
-after_auth auth.HmacSha1 j left e h = refl
-after_auth auth.HmacSha224 j left e h = refl
-after_auth auth.HmacSha256 j left e h = refl
-after_auth auth.HmacSha384 j left e h = refl
-after_auth auth.HmacSha512 j left e h = refl
-after_auth auth.Cmac128 j left e h = refl
-after_auth auth.Cmac256 j left e h = refl
-after_auth auth.Gcm j left e h = absurd (cc)
+    (sym (ap (λ (a : AuthClass). take j.tag_len (mac_by a j j.packet)) e ∙ take-nil j.tag_len))
+after_auth (hmac_auth hash) j left e h = refl
+after_auth (cmac_auth key_bytes) j left e h = refl
+after_auth gcm_auth j left e h = absurd (cc)
 
 -- without GCM the packet that is authenticated goes by the order
-authenticated-ordered : (a : Auth) (j : Job) → is_gcm_auth a ≡ false → authenticated_by a j ≡ authenticated_in j.order j
-authenticated-ordered auth.Null j h = refl
-authenticated-ordered auth.HmacSha1 j h = refl
-authenticated-ordered auth.HmacSha224 j h = refl
-authenticated-ordered auth.HmacSha256 j h = refl
-authenticated-ordered auth.HmacSha384 j h = refl
-authenticated-ordered auth.HmacSha512 j h = refl
-authenticated-ordered auth.Cmac128 j h = refl
-authenticated-ordered auth.Cmac256 j h = refl
-authenticated-ordered auth.Gcm j h = absurd (cc)
+authenticated-ordered : (a : AuthClass) (j : Job) → is_gcm_auth a ≡ false → authenticated_by a j ≡ authenticated_in j.order j
+authenticated-ordered no_auth j h = refl
+authenticated-ordered (hmac_auth hash) j h = refl
+authenticated-ordered (cmac_auth key_bytes) j h = refl
+authenticated-ordered gcm_auth j h = absurd (cc)
 
 -- the steps of a job without GCM lead to its result
-ordered-led : (o : Order) (j : Job) → j.order ≡ o → is_gcm_cipher j.cipher ≡ false → is_gcm_auth j.auth ≡ false
-    → led_to None (ordered o (cipher_steps j.cipher) (auth_steps j.auth)) j [] ≡ done_over j (authenticated_in o j)
+ordered-led : (o : Order) (j : Job) → j.order ≡ o → is_gcm_cipher j.cipher ≡ false → is_gcm_auth (class_of j.auth) ≡ false
+    → led_to None (ordered o (cipher_steps j.cipher) (auth_steps (class_of j.auth))) j [] ≡ done_over j (authenticated_in o j)
 ordered-led CipherHash j e hc ha =
     let after : Job = record j { packet = ciphered j j.packet } in
-    after_cipher j.cipher j [] (auth_steps j.auth) refl hc
-    ∙ ap (λ (steps : List Step). led_to None steps after []) (sym (append-nil (auth_steps j.auth)))
-    ∙ after_auth j.auth after [] refl ha
+    after_cipher j.cipher j [] (auth_steps (class_of j.auth)) refl hc
+    ∙ ap (λ (steps : List Step). led_to None steps after []) (sym (append-nil (auth_steps (class_of j.auth))))
+    ∙ after_auth (class_of j.auth) after [] refl ha
     ∙ ap (λ (t : List ℕ). record { status = status.Ok; packet = ciphered j j.packet; tag = t })
     (tag_over-packet j (ciphered j j.packet) (ciphered j j.packet))
 ordered-led HashCipher j e hc ha =
-    after_auth j.auth j (cipher_steps j.cipher) refl ha
+    after_auth (class_of j.auth) j (cipher_steps j.cipher) refl ha
     ∙ ap (λ (steps : List Step). led_to None steps j (tag_over j j.packet)) (sym (append-nil (cipher_steps j.cipher)))
     ∙ after_cipher j.cipher j (tag_over j j.packet) [] refl hc
 
 -- the one step of a GCM job, in either order
-ordered-gcm : (o : Order) → ordered o (cipher_steps cipher.Gcm) (auth_steps auth.Gcm) ≡ step.Gcm ∷ []
+ordered-gcm : (o : Order) → ordered o (cipher_steps cipher.Gcm) (auth_steps gcm_auth) ≡ step.Gcm ∷ []
 ordered-gcm CipherHash = refl
 ordered-gcm HashCipher = refl
 
 -- the steps of an accepted job lead to its result
 accepted-led : (j : Job) → verdict j ≡ None → led_to None (steps_of j) j [] ≡ accepted j
 accepted-led j none =
-    elim (gcm_pair j.cipher j.auth (table.accepted j _ none).pair) [
+    elim (gcm_pair j.cipher (class_of j.auth) (table.accepted j _ none).pair) [
       | inl both ↦
-          ap₂ (λ (c : Cipher) (a : Auth). led_to None (ordered j.order (cipher_steps c) (auth_steps a)) j []) both.0 both.1
+          ap₂ (λ (c : Cipher) (a : AuthClass). led_to None (ordered j.order (cipher_steps c) (auth_steps a)) j []) both.0 both.1
           ∙ ap (λ (steps : List Step). led_to None steps j []) (ordered-gcm j.order)
-          ∙ ap (λ (a : Auth). done_over j (authenticated_by a j)) (sym both.1)
+          ∙ ap (λ (a : AuthClass). done_over j (authenticated_by a j)) (sym both.1)
       | inr neither ↦
           ordered-led j.order j refl neither.0 neither.1
-          ∙ ap (done_over j) (sym (authenticated-ordered j.auth j neither.1))
+          ∙ ap (done_over j) (sym (authenticated-ordered (class_of j.auth) j neither.1))
     ]
 
 begun-led : (reason : Option Reason) (j : Job) → verdict j ≡ reason

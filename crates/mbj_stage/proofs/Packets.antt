@@ -6,8 +6,7 @@ use Rattle.mbj_types.specs.declared.job.Cipher.{Cipher}
 use Rattle.mbj_types.specs.declared.job.Cipher.TheVariants as cipher
 use Rattle.mbj_types.specs.declared.job.Dir.{Dir}
 use Rattle.mbj_types.specs.declared.job.Dir.TheVariants.{Enc, Dec}
-use Rattle.mbj_types.specs.declared.job.Auth.{Auth}
-use Rattle.mbj_types.specs.declared.job.Auth.TheVariants as auth
+use Rattle.mbj_types.specs.Auths.{AuthClass, no_auth, hmac_auth, cmac_auth, gcm_auth, class_of}
 use Rattle.mbj_types.specs.Verdict.{is_null_cipher}
 use Rattle.mbj_types.specs.Result.{cipher_range, with_cipher_range, gcm_of, ciphered, ciphered_by, mac_by, tag_over}
 use Rattle.mbj_stage.specs.declared.stage.Step.{Step}
@@ -57,21 +56,16 @@ pub ciphered-packet : (j : Job) (p q : List ℕ) → ciphered (record j { packet
 unfolding ciphered
 ciphered-packet j p q = ciphered_by-packet j.cipher j.dir j p q
 
-mac_by-packet : (a : Auth) (j : Job) (p q : List ℕ) → mac_by a (record j { packet = q }) p ≡ mac_by a j p
+mac_by-packet : (a : AuthClass) (j : Job) (p q : List ℕ) → mac_by a (record j { packet = q }) p ≡ mac_by a j p
 unfolding gcm_of
-mac_by-packet auth.Null j p q = refl
-mac_by-packet auth.HmacSha1 j p q = refl
-mac_by-packet auth.HmacSha224 j p q = refl
-mac_by-packet auth.HmacSha256 j p q = refl
-mac_by-packet auth.HmacSha384 j p q = refl
-mac_by-packet auth.HmacSha512 j p q = refl
-mac_by-packet auth.Cmac128 j p q = refl
-mac_by-packet auth.Cmac256 j p q = refl
-mac_by-packet auth.Gcm j p q = refl
+mac_by-packet no_auth j p q = refl
+mac_by-packet (hmac_auth h) j p q = refl
+mac_by-packet (cmac_auth key_bytes) j p q = refl
+mac_by-packet gcm_auth j p q = refl
 
 pub tag_over-packet : (j : Job) (p q : List ℕ) → tag_over (record j { packet = q }) p ≡ tag_over j p
 unfolding tag_over
-tag_over-packet j p q = ap (take j.tag_len) (mac_by-packet j.auth j p q)
+tag_over-packet j p q = ap (take j.tag_len) (mac_by-packet (class_of j.auth) j p q)
 
 -- what a step makes of a packet, whatever packet the job has
 pub packet_after-packet : (s : Step) (j : Job) (p q : List ℕ) → packet_after s (record j { packet = q }) p ≡ packet_after s j p

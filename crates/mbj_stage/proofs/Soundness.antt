@@ -7,9 +7,8 @@ use Rattle.mbj_types.specs.declared.job.Cipher.{Cipher}
 use Rattle.mbj_types.specs.declared.job.Cipher.TheVariants as cipher
 use Rattle.mbj_types.specs.declared.job.Order.{Order}
 use Rattle.mbj_types.specs.declared.job.Order.TheVariants.{CipherHash, HashCipher}
-use Rattle.mbj_types.specs.declared.job.Auth.{Auth}
-use Rattle.mbj_types.specs.declared.job.Auth.TheVariants as auth
 use Rattle.mbj_types.specs.declared.reason.Reason.{Reason}
+use Rattle.mbj_types.specs.Auths.{AuthClass, no_auth, hmac_auth, cmac_auth, gcm_auth, class_of}
 use Rattle.mbj_types.specs.Verdict.{verdict_at}
 use Rattle.mbj_stage.specs.declared.stage.Step.{Step}
 use Rattle.mbj_stage.specs.declared.stage.Step.TheVariants as step
@@ -26,16 +25,11 @@ own_cipher cipher.Cbc j e = own_one j step.Cipher e
 own_cipher cipher.Ctr j e = own_one j step.Cipher e
 own_cipher cipher.Gcm j e = own_one j step.Gcm e
 
-own_auth : (a : Auth) (j : Job) → auth_steps j.auth ≡ auth_steps a → All (IsStepOf j) (auth_steps a)
-own_auth auth.Null j e = All-nil (IsStepOf j)
-own_auth auth.HmacSha1 j e = own_one j step.Auth e
-own_auth auth.HmacSha224 j e = own_one j step.Auth e
-own_auth auth.HmacSha256 j e = own_one j step.Auth e
-own_auth auth.HmacSha384 j e = own_one j step.Auth e
-own_auth auth.HmacSha512 j e = own_one j step.Auth e
-own_auth auth.Cmac128 j e = own_one j step.Auth e
-own_auth auth.Cmac256 j e = own_one j step.Auth e
-own_auth auth.Gcm j e = All-nil (IsStepOf j)
+own_auth : (a : AuthClass) (j : Job) → auth_steps (class_of j.auth) ≡ auth_steps a → All (IsStepOf j) (auth_steps a)
+own_auth no_auth j e = All-nil (IsStepOf j)
+own_auth (hmac_auth hash) j e = own_one j step.Auth e
+own_auth (cmac_auth key_bytes) j e = own_one j step.Auth e
+own_auth gcm_auth j e = All-nil (IsStepOf j)
 
 own_ordered : (o : Order) (j : Job) (ciphers auths : List Step) → All (IsStepOf j) ciphers → All (IsStepOf j) auths
     → All (IsStepOf j) (ordered o ciphers auths)
@@ -45,7 +39,7 @@ own_ordered HashCipher j ciphers auths hc ha = All-append (IsStepOf j) auths cip
 -- the steps of a job are its own
 own : (j : Job) → All (IsStepOf j) (steps_of j)
 own j =
-    own_ordered j.order j (cipher_steps j.cipher) (auth_steps j.auth) (own_cipher j.cipher j refl) (own_auth j.auth j refl)
+    own_ordered j.order j (cipher_steps j.cipher) (auth_steps (class_of j.auth)) (own_cipher j.cipher j refl) (own_auth (class_of j.auth) j refl)
 
 -- at the start, when another packet stands in the job
 pub sound_begun : (reason : Option Reason) (j : Job) (p q : List ℕ) (left : List Step)

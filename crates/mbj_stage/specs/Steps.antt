@@ -1,12 +1,11 @@
 -- The steps of a job, and when each is done.
 use Rattle.std.specs.Prelude.{◌≡◌, List, [], ◌∷◌, ◌++◌, Option, Some, None}
+use Rattle.mbj_types.specs.Auths.{AuthClass, no_auth, hmac_auth, cmac_auth, gcm_auth, class_of}
 use Rattle.mbj_types.specs.declared.job.Job.{Job}
 use Rattle.mbj_types.specs.declared.job.Cipher.{Cipher}
 use Rattle.mbj_types.specs.declared.job.Cipher.TheVariants as cipher
 use Rattle.mbj_types.specs.declared.job.Order.{Order}
 use Rattle.mbj_types.specs.declared.job.Order.TheVariants.{CipherHash, HashCipher}
-use Rattle.mbj_types.specs.declared.job.Auth.{Auth}
-use Rattle.mbj_types.specs.declared.job.Auth.TheVariants as auth
 use Rattle.mbj_types.specs.declared.reason.Reason.{Reason}
 use Rattle.mbj_stage.specs.declared.stage.Stage.{Stage}
 use Rattle.mbj_stage.specs.declared.stage.Stage.TheVariants as stage
@@ -23,16 +22,11 @@ cipher_steps cipher.Ctr = step.Cipher ∷ []
 cipher_steps cipher.Gcm = step.Gcm ∷ []
 
 -- the steps of an authentication; the tag of GCM is made with its cipher
-abbrev pub auth_steps : Auth → List Step
-auth_steps auth.Null = []
-auth_steps auth.HmacSha1 = step.Auth ∷ []
-auth_steps auth.HmacSha224 = step.Auth ∷ []
-auth_steps auth.HmacSha256 = step.Auth ∷ []
-auth_steps auth.HmacSha384 = step.Auth ∷ []
-auth_steps auth.HmacSha512 = step.Auth ∷ []
-auth_steps auth.Cmac128 = step.Auth ∷ []
-auth_steps auth.Cmac256 = step.Auth ∷ []
-auth_steps auth.Gcm = []
+abbrev pub auth_steps : AuthClass → List Step
+auth_steps no_auth = []
+auth_steps (hmac_auth h) = step.Auth ∷ []
+auth_steps (cmac_auth key_bytes) = step.Auth ∷ []
+auth_steps gcm_auth = []
 
 abbrev pub ordered : Order → List Step → List Step → List Step
 ordered CipherHash ciphers auths = ciphers ++ auths
@@ -40,7 +34,7 @@ ordered HashCipher ciphers auths = auths ++ ciphers
 
 -- the steps of an accepted job: its cipher's and its authentication's, in its order
 abbrev pub steps_of : Job → List Step
-steps_of j = ordered j.order (cipher_steps j.cipher) (auth_steps j.auth)
+steps_of j = ordered j.order (cipher_steps j.cipher) (auth_steps (class_of j.auth))
 
 -- the steps of a job by the reason for which it is refused: then there are none
 abbrev pub steps_by : Option Reason → Job → List Step
@@ -50,7 +44,7 @@ steps_by (Some reason) j = []
 -- the step is one of the job's
 abbrev pub IsStepOf : Job → Step → Type 0
 IsStepOf j step.Cipher = cipher_steps j.cipher ≡ step.Cipher ∷ []
-IsStepOf j step.Auth = auth_steps j.auth ≡ step.Auth ∷ []
+IsStepOf j step.Auth = auth_steps (class_of j.auth) ≡ step.Auth ∷ []
 IsStepOf j step.Gcm = cipher_steps j.cipher ≡ step.Gcm ∷ []
 
 -- steps as a list

@@ -1,7 +1,7 @@
 //! HMAC and CMAC over the hash range of a packet.
 
 ghost use Rattle.std.specs.Prelude.{◌≡◌, ◌+◌, ◌≤◌, ◌⊎◌, [], ◌∷◌, None, length, take};
-ghost use Rattle.mbj_types.specs.Hmac.{IsHmac};
+ghost use Rattle.mbj_types.specs.Auths.{IsHmac, class_of};
 ghost use Rattle.mbj_types.specs.Verdict.{verdict_at};
 ghost use Rattle.mbj_types.specs.Result.{range, tag_over};
 ghost use Rattle.mbj_types.specs.declared.job.Auth.TheVariants as auth;
@@ -57,7 +57,7 @@ fn cmac(job: &Job, packet: &[u8]) -> Tag
 
 /// The tag of an accepted job over its packet, cut to the job's length.
 pub(crate) fn run(job: &Job, packet: &[u8]) -> Tag
-    requires step { auth_steps job.now.auth ≡ step.Auth ∷ [] }
+    requires step { auth_steps (class_of job.now.auth) ≡ step.Auth ∷ [] }
     requires accepted { verdict_at job.now (length packet.now) ≡ None }
     ensures { result ≡ tag_over job.now packet.now }
 {

@@ -1,5 +1,6 @@
 ghost use Rattle.std.specs.Prelude.{◌≡◌, Option};
 ghost use Rattle.std.specs.Option.{option_to_list};
+ghost use Rattle.mbj_types.specs.Auths.{class_of};
 ghost use Rattle.mbj_stage.specs.Steps.{cipher_steps, auth_steps, steps_of, steps_by, steps_in};
 
 use mbj_types::{Auth, Cipher, Job, Kind, Order, Reason};
@@ -45,7 +46,7 @@ fn cipher_step(cipher: Cipher) -> Option<Step>
 }
 
 fn auth_step(auth: Auth) -> Option<Step>
-    ensures { option_to_list result ≡ auth_steps auth }
+    ensures { option_to_list result ≡ auth_steps (class_of auth) }
 {
     match auth {
         Auth::Null | Auth::Gcm => None,

@@ -9,6 +9,7 @@ pub mod Field
 pub mod Ghash
 pub mod Gcm
 pub mod Hmac
+pub mod Auths
 pub mod Verdict
 pub mod Result
 pub mod Lanes

@@ -14,12 +14,13 @@ abbrev pub uncbc : (List ℕ → List ℕ) → List ℕ → List (List ℕ) → 
 uncbc d c [] = []
 uncbc d c (x ∷ xs) = xor_lists (d x) c ∷ uncbc d x xs
 
--- 6.5, CTR from the counter t on: each block is xored with the enciphered counter, the last one cut to the block
+-- 6.5, CTR from the counter t on: each block is xored with the enciphered counter, the last one cut to the block; counters are
+-- numbers modulo 2^128 that rise by 1 (appendix B.1)
 abbrev pub ctr_blocks : (List ℕ → List ℕ) → ℕ → List (List ℕ) → List (List ℕ)
 ctr_blocks e t [] = []
 ctr_blocks e t (p ∷ ps) = xor_lists p (e (to_be_bytes w128 t)) ∷ ctr_blocks e ((t + 1) % 2 ^ 128) ps
 
--- the first counter: an IV of 16 bytes is one, and an IV of 12 bytes begins at its block number 1
+-- the first counter: an IV of 16 bytes is one, and one of 12 bytes is followed by the block number 1 in 4 bytes (appendix B.2; RFC 3686, 4)
 abbrev pub first_counter : List ℕ → ℕ
 first_counter iv = from_be_bytes w128 (if nat_eq (length iv) 12 then iv ++ 0 ∷ 0 ∷ 0 ∷ 1 ∷ [] else iv)
 

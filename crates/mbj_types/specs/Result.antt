@@ -5,7 +5,8 @@ use Rattle.mbj_types.specs.Aes.{aes, aes_inverse}
 use Rattle.mbj_types.specs.Modes.{cbc_text, uncbc_text, ctr_text}
 use Rattle.mbj_types.specs.Cmac.{cmac}
 use Rattle.mbj_types.specs.Gcm.{gcm}
-use Rattle.mbj_types.specs.Hmac.{hmac, sha1_hash, sha224_hash, sha256_hash, sha384_hash, sha512_hash}
+use Rattle.mbj_types.specs.Hmac.{hmac}
+use Rattle.mbj_types.specs.Auths.{AuthClass, no_auth, hmac_auth, cmac_auth, gcm_auth, class_of}
 use Rattle.mbj_types.specs.Verdict.{verdict}
 use Rattle.mbj_types.specs.declared.job.Job.{Job}
 use Rattle.mbj_types.specs.declared.job.Cipher.{Cipher}
@@ -14,8 +15,6 @@ use Rattle.mbj_types.specs.declared.job.Dir.{Dir}
 use Rattle.mbj_types.specs.declared.job.Dir.TheVariants.{Enc, Dec}
 use Rattle.mbj_types.specs.declared.job.Order.{Order}
 use Rattle.mbj_types.specs.declared.job.Order.TheVariants.{CipherHash, HashCipher}
-use Rattle.mbj_types.specs.declared.job.Auth.{Auth}
-use Rattle.mbj_types.specs.declared.job.Auth.TheVariants as auth
 use Rattle.mbj_types.specs.declared.done.Done.{Done}
 use Rattle.mbj_types.specs.declared.done.Status.TheVariants as status
 use Rattle.mbj_types.specs.declared.reason.Reason.{Reason}
@@ -55,20 +54,15 @@ unfoldable pub ciphered : Job → List ℕ → List ℕ
 ciphered j p = ciphered_by j.cipher j.dir j p
 
 -- what the authentication makes of the packet p, in full; GCM takes the text as it was before the cipher
-abbrev pub mac_by : Auth → Job → List ℕ → List ℕ
-mac_by auth.Null j p = []
-mac_by auth.HmacSha1 j p = hmac sha1_hash j.auth_key (hash_range j p)
-mac_by auth.HmacSha224 j p = hmac sha224_hash j.auth_key (hash_range j p)
-mac_by auth.HmacSha256 j p = hmac sha256_hash j.auth_key (hash_range j p)
-mac_by auth.HmacSha384 j p = hmac sha384_hash j.auth_key (hash_range j p)
-mac_by auth.HmacSha512 j p = hmac sha512_hash j.auth_key (hash_range j p)
-mac_by auth.Cmac128 j p = cmac (aes j.auth_key) (hash_range j p)
-mac_by auth.Cmac256 j p = cmac (aes j.auth_key) (hash_range j p)
-mac_by auth.Gcm j p = (gcm_of j p).1
+abbrev pub mac_by : AuthClass → Job → List ℕ → List ℕ
+mac_by no_auth j p = []
+mac_by (hmac_auth h) j p = hmac h j.auth_key (hash_range j p)
+mac_by (cmac_auth key_bytes) j p = cmac (aes j.auth_key) (hash_range j p)
+mac_by gcm_auth j p = (gcm_of j p).1
 
 -- the tag over the packet p: the leftmost bytes
 unfoldable pub tag_over : Job → List ℕ → List ℕ
-tag_over j p = take j.tag_len (mac_by j.auth j p)
+tag_over j p = take j.tag_len (mac_by (class_of j.auth) j p)
 
 -- the packet that the tag is over: in the order of cipher and hash the ciphered one, else the job's own
 abbrev pub authenticated_in : Order → Job → List ℕ
@@ -76,23 +70,18 @@ authenticated_in CipherHash j = ciphered j j.packet
 authenticated_in HashCipher j = j.packet
 
 -- GCM has no order: it is given the job's packet, and its tag is over the ciphertext in both directions
-abbrev pub authenticated_by : Auth → Job → List ℕ
-authenticated_by auth.Null j = authenticated_in j.order j
-authenticated_by auth.HmacSha1 j = authenticated_in j.order j
-authenticated_by auth.HmacSha224 j = authenticated_in j.order j
-authenticated_by auth.HmacSha256 j = authenticated_in j.order j
-authenticated_by auth.HmacSha384 j = authenticated_in j.order j
-authenticated_by auth.HmacSha512 j = authenticated_in j.order j
-authenticated_by auth.Cmac128 j = authenticated_in j.order j
-authenticated_by auth.Cmac256 j = authenticated_in j.order j
-authenticated_by auth.Gcm j = j.packet
+abbrev pub authenticated_by : AuthClass → Job → List ℕ
+authenticated_by no_auth j = authenticated_in j.order j
+authenticated_by (hmac_auth h) j = authenticated_in j.order j
+authenticated_by (cmac_auth key_bytes) j = authenticated_in j.order j
+authenticated_by gcm_auth j = j.packet
 
 -- the result of a job that is accepted
 abbrev pub accepted : Job → Done
 accepted j = record {
   status = status.Ok;
   packet = ciphered j j.packet;
-  tag = tag_over j (authenticated_by j.auth j);
+  tag = tag_over j (authenticated_by (class_of j.auth) j);
 }
 
 -- the result of a job that is refused: its packet as it is, and no tag

@@ -1,10 +1,9 @@
 -- The argument table: the reason for which a job is refused, or none. Sums are whole numbers and never wrap.
 use Rattle.std.specs.Prelude.{ℕ, ◌+◌, ◌%◌, ◌==◌, ◌&&◌, ◌||◌, Bool, true, false, not, nat_lt, nat_le, List, [], ◌∷◌, length, Option, Some, None, if◌then◌else◌}
+use Rattle.mbj_types.specs.Auths.{AuthClass, no_auth, hmac_auth, cmac_auth, gcm_auth, class_of}
 use Rattle.mbj_types.specs.declared.job.Job.{Job}
 use Rattle.mbj_types.specs.declared.job.Cipher.{Cipher}
 use Rattle.mbj_types.specs.declared.job.Cipher.TheVariants as cipher
-use Rattle.mbj_types.specs.declared.job.Auth.{Auth}
-use Rattle.mbj_types.specs.declared.job.Auth.TheVariants as auth
 use Rattle.mbj_types.specs.declared.reason.Reason.{Reason}
 use Rattle.mbj_types.specs.declared.reason.Reason.TheVariants.{PacketLong, GcmPair, CipherKey, IvLength, CipherRange, CipherLength, AuthKey, HashRange, AadLong, TagLength}
 use Rattle.mbj_types.specs.declared.limits.TheConstants.{MAX_PACKET_BYTES, MAX_AAD_BYTES, MAX_HMAC_KEY_BYTES}
@@ -43,68 +42,43 @@ takes_range cipher.Gcm n = true
 
 -- ---- what an authentication takes
 
-abbrev pub is_gcm_auth : Auth → Bool
-is_gcm_auth auth.Null = false
-is_gcm_auth auth.HmacSha1 = false
-is_gcm_auth auth.HmacSha224 = false
-is_gcm_auth auth.HmacSha256 = false
-is_gcm_auth auth.HmacSha384 = false
-is_gcm_auth auth.HmacSha512 = false
-is_gcm_auth auth.Cmac128 = false
-is_gcm_auth auth.Cmac256 = false
-is_gcm_auth auth.Gcm = true
+abbrev pub is_gcm_auth : AuthClass → Bool
+is_gcm_auth no_auth = false
+is_gcm_auth (hmac_auth h) = false
+is_gcm_auth (cmac_auth key_bytes) = false
+is_gcm_auth gcm_auth = true
 
 -- whether it is over the hash range
-abbrev pub has_hash_range : Auth → Bool
-has_hash_range auth.Null = false
-has_hash_range auth.HmacSha1 = true
-has_hash_range auth.HmacSha224 = true
-has_hash_range auth.HmacSha256 = true
-has_hash_range auth.HmacSha384 = true
-has_hash_range auth.HmacSha512 = true
-has_hash_range auth.Cmac128 = true
-has_hash_range auth.Cmac256 = true
-has_hash_range auth.Gcm = false
+abbrev pub has_hash_range : AuthClass → Bool
+has_hash_range no_auth = false
+has_hash_range (hmac_auth h) = true
+has_hash_range (cmac_auth key_bytes) = true
+has_hash_range gcm_auth = false
 
 -- keys of n bytes
-abbrev pub takes_auth_key : Auth → ℕ → Bool
-takes_auth_key auth.Null n = true
-takes_auth_key auth.HmacSha1 n = nat_le n MAX_HMAC_KEY_BYTES
-takes_auth_key auth.HmacSha224 n = nat_le n MAX_HMAC_KEY_BYTES
-takes_auth_key auth.HmacSha256 n = nat_le n MAX_HMAC_KEY_BYTES
-takes_auth_key auth.HmacSha384 n = nat_le n MAX_HMAC_KEY_BYTES
-takes_auth_key auth.HmacSha512 n = nat_le n MAX_HMAC_KEY_BYTES
-takes_auth_key auth.Cmac128 n = n == 16
-takes_auth_key auth.Cmac256 n = n == 32
-takes_auth_key auth.Gcm n = true
+abbrev pub takes_auth_key : AuthClass → ℕ → Bool
+takes_auth_key no_auth n = true
+takes_auth_key (hmac_auth h) n = nat_le n MAX_HMAC_KEY_BYTES
+takes_auth_key (cmac_auth key_bytes) n = n == key_bytes
+takes_auth_key gcm_auth n = true
 
 -- how many bytes of tag it gives at most, and at least where it gives any
-abbrev pub most_tag_bytes : Auth → ℕ
-most_tag_bytes auth.Null = 0
-most_tag_bytes auth.HmacSha1 = 20
-most_tag_bytes auth.HmacSha224 = 28
-most_tag_bytes auth.HmacSha256 = 32
-most_tag_bytes auth.HmacSha384 = 48
-most_tag_bytes auth.HmacSha512 = 64
-most_tag_bytes auth.Cmac128 = 16
-most_tag_bytes auth.Cmac256 = 16
-most_tag_bytes auth.Gcm = 16
+abbrev pub most_tag_bytes : AuthClass → ℕ
+most_tag_bytes no_auth = 0
+most_tag_bytes (hmac_auth h) = h.digest_bytes
+most_tag_bytes (cmac_auth key_bytes) = 16
+most_tag_bytes gcm_auth = 16
 
-abbrev pub least_tag_bytes : Auth → ℕ
-least_tag_bytes auth.Null = 0
-least_tag_bytes auth.HmacSha1 = 1
-least_tag_bytes auth.HmacSha224 = 1
-least_tag_bytes auth.HmacSha256 = 1
-least_tag_bytes auth.HmacSha384 = 1
-least_tag_bytes auth.HmacSha512 = 1
-least_tag_bytes auth.Cmac128 = 1
-least_tag_bytes auth.Cmac256 = 1
-least_tag_bytes auth.Gcm = 1
+abbrev pub least_tag_bytes : AuthClass → ℕ
+least_tag_bytes no_auth = 0
+least_tag_bytes (hmac_auth h) = 1
+least_tag_bytes (cmac_auth key_bytes) = 1
+least_tag_bytes gcm_auth = 1
 
 -- ---- the table
 
 -- exactly one of the two is GCM
-abbrev pub is_half_gcm : Cipher → Auth → Bool
+abbrev pub is_half_gcm : Cipher → AuthClass → Bool
 is_half_gcm c a = if is_gcm_cipher c then not (is_gcm_auth a) else is_gcm_auth a
 
 -- the range of length len from off on passes the end of a packet of n bytes
@@ -115,15 +89,15 @@ passes_end off len n = nat_lt n (off + len)
 abbrev pub rows : Job → ℕ → List (Bool × Reason)
 rows j n =
     (nat_lt MAX_PACKET_BYTES n, PacketLong)
-    ∷ (is_half_gcm j.cipher j.auth, GcmPair)
+    ∷ (is_half_gcm j.cipher (class_of j.auth), GcmPair)
     ∷ (not (takes_key j.cipher (length j.key)), CipherKey)
     ∷ (not (takes_iv j.cipher (length j.iv)), IvLength)
     ∷ (not (is_null_cipher j.cipher) && passes_end j.cipher_off j.cipher_len n, CipherRange)
     ∷ (not (takes_range j.cipher j.cipher_len), CipherLength)
-    ∷ (not (takes_auth_key j.auth (length j.auth_key)), AuthKey)
-    ∷ (has_hash_range j.auth && passes_end j.hash_off j.hash_len n, HashRange)
+    ∷ (not (takes_auth_key (class_of j.auth) (length j.auth_key)), AuthKey)
+    ∷ (has_hash_range (class_of j.auth) && passes_end j.hash_off j.hash_len n, HashRange)
     ∷ (is_gcm_cipher j.cipher && nat_lt MAX_AAD_BYTES (length j.aad), AadLong)
-    ∷ (nat_lt j.tag_len (least_tag_bytes j.auth) || nat_lt (most_tag_bytes j.auth) j.tag_len, TagLength)
+    ∷ (nat_lt j.tag_len (least_tag_bytes (class_of j.auth)) || nat_lt (most_tag_bytes (class_of j.auth)) j.tag_len, TagLength)
     ∷ []
 
 -- the reason of the first row that applies
