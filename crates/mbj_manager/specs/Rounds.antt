@@ -1,25 +1,13 @@
 -- The stages of a job as the lane machine sees them: those that are done at once, and those in lanes with their rounds.
-use Rattle.std.specs.Prelude.{ℕ, ◌+◌, ◌/◌, max, List, [], ◌∷◌, ◌++◌}
+use Rattle.std.specs.Prelude.{ℕ, List, [], ◌∷◌, ◌++◌}
+use Rattle.mbj_types.specs.Rounds.{rounds_of}
 use Rattle.mbj_types.specs.declared.job.Job.{Job}
 use Rattle.mbj_types.specs.declared.kind.Kind.{Kind}
-use Rattle.mbj_types.specs.declared.kind.Kind.TheVariants as kind
 use Rattle.mbj_stage.specs.declared.stage.Stage.{Stage}
 use Rattle.mbj_stage.specs.declared.stage.Stage.TheVariants as stage
 use Rattle.mbj_stage.specs.declared.stage.Step.{Step}
 use Rattle.mbj_stage.specs.Steps.{stage_at}
 use Rattle.mbj_stage.specs.Going.{Going}
-
--- how many rounds a job needs in the lanes of a kind. An HMAC takes a round for the inner pad, one for each block of the
--- padded message, one for the outer pad, and one for the block that holds the inner digest
-abbrev pub rounds_of : Kind → Job → ℕ
-rounds_of kind.Cbc128 j = j.cipher_len / 16
-rounds_of kind.Cbc192 j = j.cipher_len / 16
-rounds_of kind.Cbc256 j = j.cipher_len / 16
-rounds_of kind.Cmac128 j = max 1 ((j.hash_len + 15) / 16)
-rounds_of kind.Cmac256 j = max 1 ((j.hash_len + 15) / 16)
-rounds_of kind.HmacSha1 j = (j.hash_len + 8) / 64 + 4
-rounds_of kind.HmacSha256 j = (j.hash_len + 8) / 64 + 4
-rounds_of kind.HmacSha512 j = (j.hash_len + 16) / 128 + 4
 
 -- a stage that is left of a job: one that is done at once, or one that is done in a kind's lanes, with its rounds
 pub data Pending : Type 0 where

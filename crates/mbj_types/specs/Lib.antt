@@ -10,6 +10,7 @@ pub mod Ghash
 pub mod Gcm
 pub mod Hmac
 pub mod Auths
+pub mod Rounds
 pub mod Verdict
 pub mod Result
 pub mod Lanes

@@ -19,7 +19,7 @@ pub use block::{BLOCK_BYTES, xor_in_place};
 pub use bytes::Bytes;
 pub use done::{Done, Status};
 pub use job::{Auth, Cipher, Dir, Job, Order};
-pub use kind::Kind;
+pub use kind::{Kind, kinds_are_told_in_order};
 pub use lane8::Lane8;
 pub use lane32::Lane32;
 pub use lane64::Lane64;

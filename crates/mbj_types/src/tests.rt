@@ -56,6 +56,8 @@ fn reasons_and_lanes_have_their_numbers(rt: HostRuntime) {
     assert_eq!(rt; Reason::TagLength.number(), 10);
     assert_eq!(rt; Kind::Cmac256.lanes(), 16);
     assert_eq!(rt; Kind::HmacSha512.lanes(), 4);
+    assert_eq!(rt; Kind::ALL[5].name(), "hmac-sha1");
+    kinds_are_told_in_order();
 }
 
 #[test]

@@ -1,0 +1,29 @@
+-- How many rounds a job takes in the lanes of its kind.
+use Rattle.std.specs.Prelude.{ℕ, ◌+◌, ◌/◌, max}
+use Rattle.mbj_types.specs.declared.job.Job.{Job}
+use Rattle.mbj_types.specs.declared.kind.Kind.{Kind}
+use Rattle.mbj_types.specs.declared.kind.Kind.TheVariants.{Cbc128, Cbc192, Cbc256, Cmac128, Cmac256, HmacSha1, HmacSha256, HmacSha512}
+
+-- CBC over a text of n bytes: one for each block
+abbrev pub cbc_rounds : ℕ → ℕ
+cbc_rounds n = n / 16
+
+-- CMAC over a message of n bytes: one for each block, of which the empty message has one
+abbrev pub cmac_rounds : ℕ → ℕ
+cmac_rounds n = max 1 ((n + 15) / 16)
+
+-- HMAC over a message of n bytes, by a hash with blocks of b bytes, whose padding is a byte, zeros, and a bit length of b / 8
+-- bytes: one for the inner pad, one for each block of the padded message, one for the outer pad, and one for the block that
+-- holds the inner digest
+abbrev pub hmac_rounds : ℕ → ℕ → ℕ
+hmac_rounds b n = (n + b / 8) / b + 4
+
+abbrev pub rounds_of : Kind → Job → ℕ
+rounds_of Cbc128 j = cbc_rounds j.cipher_len
+rounds_of Cbc192 j = cbc_rounds j.cipher_len
+rounds_of Cbc256 j = cbc_rounds j.cipher_len
+rounds_of Cmac128 j = cmac_rounds j.hash_len
+rounds_of Cmac256 j = cmac_rounds j.hash_len
+rounds_of HmacSha1 j = hmac_rounds 64 j.hash_len
+rounds_of HmacSha256 j = hmac_rounds 64 j.hash_len
+rounds_of HmacSha512 j = hmac_rounds 128 j.hash_len
