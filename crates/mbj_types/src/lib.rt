@@ -23,7 +23,9 @@ pub use kind::{Kind, kinds_are_told_in_order};
 pub use lane8::Lane8;
 pub use lane32::Lane32;
 pub use lane64::Lane64;
-pub use limits::{MAX_AAD_BYTES, MAX_HMAC_KEY_BYTES, MAX_PACKET_BYTES, MAX_TAG_BYTES};
+pub use limits::{
+    MAX_AAD_BYTES, MAX_HMAC_KEY_BYTES, MAX_PACKET_BYTES, MAX_TAG_BYTES, limits_are_these_numbers,
+};
 pub use reason::Reason;
 pub use refusal::{PostFull, RingFull};
 pub use tag::Tag;

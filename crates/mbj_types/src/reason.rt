@@ -1,6 +1,9 @@
 ghost use Rattle.std.specs.Prelude.{◌≡◌};
 ghost use Rattle.mbj_types.specs.Reasons.{number_of};
 
+use std::error::Error;
+use std::fmt;
+
 /// Why a job is refused. `number` gives the number that a result line shows.
 #[derive(Clone, Copy, Debug, PartialEq, Eq)]
 pub enum Reason {
@@ -45,3 +48,22 @@ impl Reason {
         }
     }
 }
+
+impl fmt::Display for Reason {
+    fn fmt<W: fmt::Write>(&self, f: &mut fmt::Formatter<W>) -> fmt::Result {
+        f.write_str(match self {
+            Reason::PacketLong => "the packet is longer than 65,535 bytes",
+            Reason::GcmPair => "exactly one of cipher and authentication is GCM",
+            Reason::CipherKey => "the cipher's key has neither 16, 24 nor 32 bytes",
+            Reason::IvLength => "the cipher doesn't take an IV of this length",
+            Reason::CipherRange => "the cipher range passes the packet's end",
+            Reason::CipherLength => "the cipher doesn't take a range of this length",
+            Reason::AuthKey => "the authentication doesn't take a key of this length",
+            Reason::HashRange => "the hash range passes the packet's end",
+            Reason::AadLong => "the additional data is longer than 65,535 bytes",
+            Reason::TagLength => "the authentication doesn't give a tag of this length",
+        })
+    }
+}
+
+impl Error for Reason {}

@@ -57,7 +57,29 @@ fn reasons_and_lanes_have_their_numbers(rt: HostRuntime) {
     assert_eq!(rt; Kind::Cmac256.lanes(), 16);
     assert_eq!(rt; Kind::HmacSha512.lanes(), 4);
     assert_eq!(rt; Kind::ALL[5].name(), "hmac-sha1");
+    limits_are_these_numbers();
     kinds_are_told_in_order();
+}
+
+#[test]
+fn refusals_say_what_is_wrong(rt: HostRuntime) -> Result<(), Fail> {
+    let alloc = rt.alloc();
+    let reason = format!(in alloc; "{}", Reason::GcmPair)?;
+    assert_eq!(rt;
+        reason.as_str(),
+        "exactly one of cipher and authentication is GCM"
+    );
+    let ring = format!(in alloc; "{RingFull}")?;
+    assert_eq!(rt;
+        ring.as_str(),
+        "every cell of the manager's ring has a job that was not given back"
+    );
+    let post = format!(in alloc; "{}", PostFull(Job::blank(alloc)))?;
+    assert_eq!(rt;
+        post.as_str(),
+        "every cell of the submitter has a job that was not collected"
+    );
+    Ok(())
 }
 
 #[test]
