@@ -15,7 +15,7 @@ use Rattle.mbj_core.specs.declared.party.View.{View}
 use Rattle.mbj_core.specs.declared.party.Stage.TheVariants.{Rest}
 use Rattle.mbj_core.specs.declared.cells.TheConstants.{CELLS}
 use Rattle.mbj_core.specs.Cells.{Cell, free, ready, done, hand_of, word_of, result_in, cell_of}
-use Rattle.mbj_core.specs.Parties.{view, front, FrontState, with_due, with_handed, with_hand}
+use Rattle.mbj_core.specs.Parties.{view, front, FrontState, new_party, with_due, with_handed, with_hand}
 use Rattle.mbj_core.specs.Events.{post, claim, finish, collect, accepted, returned, claimed, collected, nothing, Leaves, Step}
 use Rattle.mbj_core.specs.CoreStates.{CoreState, cell_in, hand_in, out_of, first_cell, next_cell, posted, claimed_by, finished, handed_out}
 use Rattle.mbj_core.specs.Stands.{StandsFor, Leads, IsBacked}
@@ -56,7 +56,7 @@ module _ (c : CoreState) (size : Sizes c) (f : FrontState Job Done) (sf : Stands
         due_results = λ s n l. at_put f.seats p w (λ r y. r < c.submitters → y.handed ≤ n → n < length y.due → result_in result_of (put f.cells i x (cell_of r n)) ≡ slice_get y.due n) s
             (λ l lo hi. kept (cell_of p n) ∙ sf.due_results p n l lo hi) (λ _ l lo hi. kept (cell_of s n) ∙ sf.due_results s n l lo hi) l;
         posters = λ q. at_put f.seats p w (λ r y. c.submitters ≤ r → (y.due ≡ []) × (y.handed ≡ 0)) q (sf.posters p) (λ _. sf.posters q);
-        nobody = λ q. at_put f.seats p w (λ r y. c.submitters + c.workers ≤ r → y.hand ≡ []) q (λ far. absurd (omega arith)) (λ _. sf.nobody q);
+        nobody = λ q. at_put f.seats p w (λ r y. c.submitters + c.workers ≤ r → y ≡ new_party r) q (λ far. absurd (omega arith)) (λ _. sf.nobody q);
       }
 
   -- the cell of the number m of the submitter s changes, which is in no hand, and what is due and handed out
@@ -80,7 +80,7 @@ module _ (c : CoreState) (size : Sizes c) (f : FrontState Job Done) (sf : Stands
         due_results = λ t n l. at_put f.seats s w (λ r y. r < c.submitters → y.handed ≤ n → n < length y.due → result_in result_of (put f.cells i x (cell_of r n)) ≡ slice_get y.due n) t
             (λ _. results n) (λ ne l lo hi. ap (result_in result_of) (put_else f.cells i (cell_of t n) x (λ e. ne (one_owner t s n m e))) ∙ sf.due_results t n l lo hi) l;
         posters = λ q. at_put f.seats s w (λ r y. c.submitters ≤ r → (y.due ≡ []) × (y.handed ≡ 0)) q (λ far. absurd (omega arith)) (λ _. sf.posters q);
-        nobody = λ q. at_put f.seats s w (λ r y. c.submitters + c.workers ≤ r → y.hand ≡ []) q (sf.nobody s) (λ _. sf.nobody q);
+        nobody = λ q. at_put f.seats s w (λ r y. c.submitters + c.workers ≤ r → y ≡ new_party r) q (λ far. absurd (omega arith)) (λ _. sf.nobody q);
       }
 
   -- the cells of the next number and of the earliest that is out

@@ -40,13 +40,13 @@ module _ (c : CoreState) (f g : FrontState Job Done) (sf : StandsFor c f) (sg : 
 
   same_hand : (p : ℕ) → cells_of (f.seats p).hand ≡ cells_of (g.seats p).hand
   same_hand p = dite (dec_le (c.submitters + c.workers) p)
-      (λ far. ap cells_of (sf.nobody p far) ∙ sym (ap cells_of (sg.nobody p far)))
+      (λ far. ap (λ (v : View Done). cells_of v.hand) (sf.nobody p far ∙ sym (sg.nobody p far)))
       (λ near. same_Some (cells_of (f.seats p).hand) (cells_of (g.seats p).hand) (sym (sf.each_hand p (omega arith)) ∙ sg.each_hand p (omega arith)))
 
   entry_in : (p k i : ℕ) (d : Done) → slice_get (f.seats p).hand k ≡ Some (i, d) → (e : Done) × (slice_get (g.seats p).hand k ≡ Some (i, e))
   entry_in p k i d at = entry_at (g.seats p).hand k i (ap (λ (l : List ℕ). slice_get l k) (sym (same_hand p)) ∙ cell_at (f.seats p).hand k i d at)
 
-  idle_in : Lawful result_of c.submitters g → (s n : ℕ) → s < c.submitters → length (f.seats s).due ≤ n → n < (f.seats s).handed + CELLS → word_of (f.cells (cell_of s n)) ≡ 0
+  idle_in : Lawful result_of c.submitters c.workers g → (s n : ℕ) → s < c.submitters → length (f.seats s).due ≤ n → n < (f.seats s).handed + CELLS → word_of (f.cells (cell_of s n)) ≡ 0
   idle_in law s n l lo hi =
       let h : ℕ = (f.seats s).handed in let h' : ℕ = (g.seats s).handed in let m : ℕ = h' + (n - h) in
       let a = sf.each_out s l in let b = sg.each_out s l in let x = sf.each_first s l in let y = sg.each_first s l in
@@ -55,7 +55,7 @@ module _ (c : CoreState) (f g : FrontState Job Done) (sf : StandsFor c f) (sg : 
       let there = free_there result_of (g.seats s) s m (g.cells (cell_of s m)) (law.each_number s m l (omega arith) (omega arith)) (sg.at_rest s).1 (omega arith) in
       ap (λ (i : ℕ). word_of (f.cells i)) same ∙ ap word_of (same_cell (cell_of s m) (near c.submitters s m l) ∙ there)
 
-  pub facts : Lawful result_of c.submitters g → Facts c f
+  pub facts : Lawful result_of c.submitters c.workers g → Facts c f
   facts law = record {
     few = λ s l. let a = sf.each_out s l in let b = sg.each_out s l in let w = law.within s in omega arith;
     idle = idle_in law;
@@ -84,11 +84,12 @@ module _ (c : CoreState) (f : FrontState Job Done) (sf : StandsFor c f) where
       (λ out. fits_due result_of v s n (f.cells (cell_of s n)) (omega arith) (sf.due_results s n l lo (omega arith)))
 
   -- each state that the core stands for is lawful
-  pub lawful_of : Facts c f → Lawful result_of c.submitters f
+  pub lawful_of : Facts c f → Lawful result_of c.submitters c.workers f
   lawful_of all = record {
     behind = λ s. dite (dec_le c.submitters s) (λ far. let z = (sf.posters s far).1 in omega arith) (λ near. let a = sf.each_out s (omega arith) in omega arith);
     within = λ s. dite (dec_le c.submitters s) (λ far. let z = ap (λ (l : List Done). length l) (sf.posters s far).0 in omega arith) (λ near. all.few s (omega arith));
     spare = λ s ne. absurd (ne (sf.at_rest s).1);
+    emptied = λ s e. absurd (rest_take (sym (sf.at_rest s).1 ∙ e));
     each_number = number_fits all;
     in_hand = λ p k i d at. let h = hand_word (f.cells i) p (all.holder p k i d at) in
         (all.close p k i d at, h.1 ∙ ap (hand_of p) (same_result result_of (f.cells i) p h.0 d h.1 (sf.hand_results p k i d at)));
@@ -96,10 +97,11 @@ module _ (c : CoreState) (f : FrontState Job Done) (sf : StandsFor c f) where
         let same : d ≡ r.1 = same_result result_of (f.cells i) p d r.1 is (sf.hand_results p r.0 i r.1 r.2) in
         (r.0, r.2 ∙ ap (λ (e : Done). Some (i, e)) (sym same));
     once = all.once;
-    workers = λ p far. ((sf.posters p far).0, (sf.at_rest p).1);
+    posters = λ p far. ((sf.posters p far).0, (sf.at_rest p).1);
+    nobody = sf.nobody;
   }
 
 -- a call that leads by an event keeps a lawful state behind the core
-pub backed_after : (old new : CoreState) (e : Event Job Done) (a : Answer Job Done) → new.submitters ≡ old.submitters → Leads old e a new → IsBacked old → IsBacked new
-backed_after old new e a same leads backed = ∥∥₁_elim backed ∥∥₁_prop (λ h. let to = leads h.0 h.1 in
-    ∣ (to.0, to.2, subst (λ (n : ℕ). Lawful result_of n to.0) (sym same) (step_sound result_of old.submitters old.workers h.0 to.0 e a to.1 ((λ p. (h.1.at_rest p).1), h.2)).1) ∣₁)
+pub backed_after : (old new : CoreState) (e : Event Job Done) (a : Answer Job Done) → new.submitters ≡ old.submitters → new.workers ≡ old.workers → Leads old e a new → IsBacked old → IsBacked new
+backed_after old new e a same same' leads backed = ∥∥₁_elim backed ∥∥₁_prop (λ h. let to = leads h.0 h.1 in
+    ∣ (to.0, to.2, subst (λ (n : ℕ × ℕ). Lawful result_of n.0 n.1 to.0) (λ t. (sym same t, sym same' t)) (step_sound result_of old.submitters old.workers h.0 to.0 e a to.1 ((λ p. (h.1.at_rest p).1), h.2)).1) ∣₁)

@@ -82,8 +82,8 @@ module _ (a : Inside) (is : IsCore a) where
   out_within s l = is.each_out s 0 (omega (arith, (sizes_of a is).outs))
 
   -- a call that leaves these fields made what it should of the core, and led by its event
-  led : (new what : CoreState) (e : Event Job Done) (r : Answer Job Done) → new ≡ what → what.submitters ≡ a.submitters → Leads (state_of a) e r what → (new ≡ what) × IsBacked new × Leads (state_of a) e r new
-  led new what e r same wide leads = (same, subst IsBacked (sym same) (backed_after (state_of a) what e r wide leads is.backed), subst (Leads (state_of a) e r) (sym same) leads)
+  led : (new what : CoreState) (e : Event Job Done) (r : Answer Job Done) → new ≡ what → what.submitters ≡ a.submitters → what.workers ≡ a.workers → Leads (state_of a) e r what → (new ≡ what) × IsBacked new × Leads (state_of a) e r new
+  led new what e r same wide deep leads = (same, subst IsBacked (sym same) (backed_after (state_of a) what e r wide deep leads is.backed), subst (Leads (state_of a) e r) (sym same) leads)
 
   pub after_post : (s next first out : ℕ) (job : Job) → s < a.submitters → next ≡ cell_of s (first + out) → first ≡ get_or a.firsts.items s first → out ≡ get_or a.outs.items s out → out ≢ CELLS
       → let new : CoreState = state_with a (set a.cells.items next (slot.Ready job)) a.hands.items a.firsts.items (set a.outs.items s (out + 1)) in
@@ -95,7 +95,7 @@ module _ (a : Inside) (is : IsCore a) where
       (cell_set a next (slot.Ready job) (ready job) a.hands.items a.firsts.items (set a.outs.items s (out + 1)) refl
       ∙ ap (λ (i : ℕ). record c { cells = set c.cells i (ready job); outs = set c.outs s (out + 1) }) next_is
       ∙ ap (λ (n : ℕ). record c { cells = set c.cells (next_cell c s) (ready job); outs = set c.outs s (n + 1) }) out_is)
-      refl (posts_lead c (sizes_of a is) is.backed s job l (omega arith))
+      refl refl (posts_lead c (sizes_of a is) is.backed s job l (omega arith))
 
   cell_read : (i : ℕ) (x : Slot) → i < CELLS * a.submitters → x ≡ get_or a.cells.items i x → cell_in (state_of a) i ≡ Some (cell_shown x)
   cell_read i x l e = slice_get-map cell_shown a.cells.items i ∙ ap (option_map cell_shown) (slice_get_read a.cells.items (CELLS * a.submitters) i x (sym is.cells ∙ a.cells.ok.0) l e)
@@ -119,7 +119,7 @@ module _ (a : Inside) (is : IsCore a) where
       led (state_with a (set a.cells.items i y) (set a.hands.items p more) a.firsts.items a.outs.items) (claimed_by c p i job) (claim p i) (claimed job)
       (cell_set a i y (hand_of p (result_of job)) (set a.hands.items p more) a.firsts.items a.outs.items (ap cell_shown is_held)
       ∙ ap (λ (t : List ℕ). record c { cells = set c.cells i (hand_of p (result_of job)); hands = set c.hands p t }) (longer ∙ ap (λ (t : List ℕ). t ++ i ∷ []) (hand_read p hand lp h)))
-      refl (claims_lead c (sizes_of a is) is.backed p i job lp li (ready_read i job x li e is_ready))
+      refl refl (claims_lead c (sizes_of a is) is.backed p i job lp li (ready_read i job x li e is_ready))
 
   -- what is read at a place that has just been written
   pub read_back : (i : ℕ) (y z : Slot) → i < CELLS * a.submitters → z ≡ get_or (set a.cells.items i y) i z → z ≡ y
@@ -146,7 +146,7 @@ module _ (a : Inside) (is : IsCore a) where
       led (state_with a (set a.cells.items i (slot.Done d)) (set a.hands.items p left) a.firsts.items a.outs.items) (finished c p i d) (finish p i d) accepted
       (cell_set a i (slot.Done d) (done d) (set a.hands.items p left) a.firsts.items a.outs.items refl
       ∙ ap (λ (t : List ℕ). record c { cells = set c.cells i (done d); hands = set c.hands p t }) (shorter ∙ ap (filter (λ k. not (k == i))) (hand_read p hand lp h)))
-      refl (finishes_lead c (sizes_of a is) is.backed p i d lp li is_held)
+      refl refl (finishes_lead c (sizes_of a is) is.backed p i d lp li is_held)
 
   first_at : (s at first : ℕ) → s < a.submitters → at ≡ cell_of s first → first ≡ get_or a.firsts.items s first → at ≡ first_cell (state_of a) s
   first_at s at first l here f = here ∙ ap (cell_of s) (first_read s first l f)
@@ -174,7 +174,7 @@ module _ (a : Inside) (is : IsCore a) where
       ∙ ap (λ (i : ℕ). record c { cells = set c.cells i free; firsts = set c.firsts s ((first + 1) % CELLS); outs = set c.outs s (out - 1) }) same
       ∙ ap (λ (n : ℕ). record c { cells = set c.cells (first_cell c s) free; firsts = set c.firsts s ((n + 1) % CELLS); outs = set c.outs s (out - 1) }) first_is
       ∙ ap (λ (n : ℕ). record c { cells = set c.cells (first_cell c s) free; firsts = set c.firsts s ((slice_index c.firsts s + 1) % CELLS); outs = set c.outs s (n - 1) }) out_is)
-      refl (collects_lead c (sizes_of a is) is.backed s d l (omega arith) (done_read s at first d x l here f e is_done))
+      refl refl (collects_lead c (sizes_of a is) is.backed s d l (omega arith) (done_read s at first d x l here f e is_done))
 
   -- the job that a party has claimed, as it is read out of its cell
   pub held_read : (r : Option (Bor Job)) (p i : ℕ) (x : Slot) → i < CELLS * a.submitters → x ≡ get_or a.cells.items i x → MatchOption r ((j : Job) → x ≢ slot.Held p j) (λ j. x ≡ slot.Held p j.now)

@@ -2,10 +2,10 @@
 use Rattle.std.proofs.Common.{◌≡◌, ◌≢◌, ℕ, ◌+◌, ◌*◌, ◌<◌, ◌≤◌, List, [], ◌∷◌, ◌++◌, length, sym, refl, ap, ◌∙◌, subst, ⊎_elim, arith}
 use Rattle.std.specs.Prelude.{Some, slice_get}
 use Rattle.mbj_core.specs.declared.party.View.{View}
-use Rattle.mbj_core.specs.declared.party.Stage.TheVariants.{Rest}
+use Rattle.mbj_core.specs.declared.party.Stage.TheVariants.{Rest, Emptying}
 use Rattle.mbj_core.specs.declared.cells.TheConstants.{CELLS}
 use Rattle.mbj_core.specs.Cells.{Cell, free, ready, done, open_by, hand_of, take_by, cell_of}
-use Rattle.mbj_core.specs.Parties.{view, front, FrontState}
+use Rattle.mbj_core.specs.Parties.{view, front, FrontState, new_party}
 use Rattle.mbj_core.specs.Lawful.{Fits, Lawful}
 use Rattle.mbj_core.specs.Events.{Leaves}
 use Rattle.mbj_core.proofs.Puts.{put, at_put, put_here, put_else}
@@ -37,16 +37,17 @@ module _ {J D : Type 0} (owed : J → D) where
   rehanded v hand looks = view v.number v.stage v.due v.handed hand looks
 
   -- the hand of p and its looks change, and one cell, for one that fits wherever the old one does
-  pub rehands : (S : ℕ) (f : FrontState J D) (c p : ℕ) (x : Cell J D) (hand : List (ℕ × D)) (looks : List (ℕ × ℕ)) → Lawful owed S f
+  pub rehands : (S W : ℕ) (f : FrontState J D) (c p : ℕ) (x : Cell J D) (hand : List (ℕ × D)) (looks : List (ℕ × ℕ)) → Lawful owed S W f → p < S + W
       → ((v : View D) (s n : ℕ) → Fits owed v s n (f.cells c) → Fits owed v s n x)
       → ((q k i : ℕ) (d : D) → slice_get (put f.seats p (rehanded (f.seats p) hand looks) q).hand k ≡ Some (i, d) → (i < CELLS * S) × (put f.cells c x i ≡ hand_of q d))
       → ((q i : ℕ) (d : D) → i < CELLS * S → put f.cells c x i ≡ hand_of q d → (k : ℕ) × (slice_get (put f.seats p (rehanded (f.seats p) hand looks) q).hand k ≡ Some (i, d)))
       → ((k l i : ℕ) (d e : D) → slice_get hand k ≡ Some (i, d) → slice_get hand l ≡ Some (i, e) → k ≡ l)
-      → Lawful owed S (front (put f.cells c x) (put f.seats p (rehanded (f.seats p) hand looks)))
-  rehands S f c p x hand looks law fits in_hand held once = let w : View D = rehanded (f.seats p) hand looks in record {
+      → Lawful owed S W (front (put f.cells c x) (put f.seats p (rehanded (f.seats p) hand looks)))
+  rehands S W f c p x hand looks law lp fits in_hand held once = let w : View D = rehanded (f.seats p) hand looks in record {
     behind = λ s. at_put f.seats p w (λ q y. y.handed ≤ length y.due) s (law.behind p) (λ _. law.behind s);
     within = λ s. at_put f.seats p w (λ q y. length y.due ≤ y.handed + CELLS) s (law.within p) (λ _. law.within s);
     spare = λ s. at_put f.seats p w (λ q y. y.stage ≢ Rest → length y.due < y.handed + CELLS) s (law.spare p) (λ _. law.spare s);
+    emptied = λ s. at_put f.seats p w (λ q y. y.stage ≡ Emptying → 1 ≤ y.handed) s (law.emptied p) (λ _. law.emptied s);
     each_number = λ s n less. let all : (v : View D) → Fits owed v s n (f.cells (cell_of s n)) → Fits owed v s n (put f.cells c x (cell_of s n)) = λ v old.
         at_put f.cells c x (λ i y. i ≡ cell_of s n → Fits owed v s n y) (cell_of s n) (λ e. fits v s n (subst (λ (i : ℕ). Fits owed v s n (f.cells i)) (sym e) old)) (λ _ _. old) refl in
         at_put f.seats p w (λ q y. q ≡ s → y.handed ≤ n → n < y.handed + CELLS → Fits owed y s n (put f.cells c x (cell_of s n))) s
@@ -55,18 +56,19 @@ module _ {J D : Type 0} (owed : J → D) where
     in_hand = in_hand;
     held = held;
     once = λ q k l i d e. at_put f.seats p w (λ q y. slice_get y.hand k ≡ Some (i, d) → slice_get y.hand l ≡ Some (i, e) → k ≡ l) q (once k l i d e) (λ _. law.once q k l i d e);
-    workers = λ q far. at_put f.seats p w (λ q y. S ≤ q → (y.due ≡ []) × (y.stage ≡ Rest)) q (law.workers p) (λ _. law.workers q) far;
+    posters = λ q far. at_put f.seats p w (λ q y. S ≤ q → (y.due ≡ []) × (y.stage ≡ Rest)) q (law.posters p) (λ _. law.posters q) far;
+    nobody = λ q far. at_put f.seats p w (λ q y. S + W ≤ q → y ≡ new_party q) q (λ far. absurd (omega arith)) (λ _. law.nobody q) far;
   }
 
   -- the party p claims the job of the cell c
-  pub claims : (S : ℕ) (f : FrontState J D) (c p : ℕ) (j : J) (looks : List (ℕ × ℕ)) → Lawful owed S f → c < CELLS * S → f.cells c ≡ ready j
-      → Lawful owed S (front (put f.cells c (hand_of p (owed j))) (put f.seats p (rehanded (f.seats p) ((f.seats p).hand ++ (c, owed j) ∷ []) looks)))
-  claims S f c p j looks law near is =
+  pub claims : (S W : ℕ) (f : FrontState J D) (c p : ℕ) (j : J) (looks : List (ℕ × ℕ)) → Lawful owed S W f → p < S + W → c < CELLS * S → f.cells c ≡ ready j
+      → Lawful owed S W (front (put f.cells c (hand_of p (owed j))) (put f.seats p (rehanded (f.seats p) ((f.seats p).hand ++ (c, owed j) ∷ []) looks)))
+  claims S W f c p j looks law lp near is =
       let hand : List (ℕ × D) = (f.seats p).hand in let d : D = owed j in let w : View D = rehanded (f.seats p) (hand ++ (c, d) ∷ []) looks in let x : Cell J D = hand_of p d in
       -- no hand has the cell
       let apart : (q k i : ℕ) (e : D) → slice_get (f.seats q).hand k ≡ Some (i, e) → i ≢ c = λ q k i e at same.
       not_in_hand (f.cells i) q e (ap (λ (z : ℕ). is_hand (f.cells z)) same ∙ ap is_hand is) (law.in_hand q k i e at).1 in
-      rehands S f c p x (hand ++ (c, d) ∷ []) looks law
+      rehands S W f c p x (hand ++ (c, d) ∷ []) looks law lp
       (λ v s n old. subst (Fits owed v s n) is old)
       (λ q k i e. at_put f.seats p w (λ q y. slice_get y.hand k ≡ Some (i, e) → (i < CELLS * S) × (put f.cells c x i ≡ hand_of q e)) q
       (λ at. ⊎_elim (λ old. let was = law.in_hand p k i e old in (was.0, put_else f.cells c i x (apart p k i e old) ∙ was.1))
@@ -88,9 +90,9 @@ module _ {J D : Type 0} (owed : J → D) where
       (at_end hand (c, d) (i, a) k ka))
 
   -- the party p finishes a cell of its hand
-  pub finishes : (S : ℕ) (f : FrontState J D) (c p : ℕ) (d : D) (more : List (ℕ × D)) (looks : List (ℕ × ℕ)) → Lawful owed S f → Leaves (f.seats p).hand c d more
-      → Lawful owed S (front (put f.cells c (done d)) (put f.seats p (rehanded (f.seats p) more looks)))
-  finishes S f c p d more looks law leaves =
+  pub finishes : (S W : ℕ) (f : FrontState J D) (c p : ℕ) (d : D) (more : List (ℕ × D)) (looks : List (ℕ × ℕ)) → Lawful owed S W f → p < S + W → Leaves (f.seats p).hand c d more
+      → Lawful owed S W (front (put f.cells c (done d)) (put f.seats p (rehanded (f.seats p) more looks)))
+  finishes S W f c p d more looks law lp leaves =
       let before : List (ℕ × D) = leaves.0 in let after : List (ℕ × D) = leaves.1 in
       let w : View D = rehanded (f.seats p) more looks in let x : Cell J D = done d in
       let there : slice_get (f.seats p).hand (length before) ≡ Some (c, d) = ap (λ (l : List (ℕ × D)). slice_get l (length before)) leaves.2 ∙ at_middle before after (c, d) in
@@ -99,7 +101,7 @@ module _ {J D : Type 0} (owed : J → D) where
       let here = (law.in_hand p (length before) c d there).1 in
       let apart : (k i : ℕ) (e : D) → slice_get more k ≡ Some (i, e) → i ≢ c = λ k i e at same.
       skip_misses before k (law.once p (skip before k) (length before) i e d (later k i e at) (subst (λ (a : ℕ). slice_get (f.seats p).hand (length before) ≡ Some (a, d)) (sym same) there)) in
-      rehands S f c p x more looks law
+      rehands S W f c p x more looks law lp
       (λ v s n old. subst (Fits owed v s n) here old)
       (λ q k i e. at_put f.seats p w (λ q y. slice_get y.hand k ≡ Some (i, e) → (i < CELLS * S) × (put f.cells c x i ≡ hand_of q e)) q
       (λ at. let was = law.in_hand p (skip before k) i e (later k i e at) in (was.0, put_else f.cells c i x (apart k i e at) ∙ was.1))

@@ -74,7 +74,7 @@ module _ {J D : Type 0} (owed : J → D) (submitters workers : ℕ) where
       (λ e. subst (λ (l : List D). Adds (f.seats q) (g.seats q) [] l) (sym (if_same q s (d ∷ []) e))
       (subst (λ (r : ℕ). Adds (f.seats r) (g.seats r) [] (d ∷ [])) (sym e)
       (let v : View D = f.seats s in let next : v.handed + 1 ≡ suc v.handed = omega arith in
-      let first = (collects owed submitters f s d v.looks ok.1 step.0 (ok.0 s) step.1).0 in
+      let first = (collects owed submitters workers f s d v.looks ok.1 step.0 (ok.0 s) step.1).0 in
       (ap (λ (y : View D). y.due) ch.party ∙ sym (append-nil v.due), ap (λ (y : View D). take y.handed y.due) ch.party ∙ ap (λ (n : ℕ). take n v.due) next ∙ take_one_more v.handed v.due d first))))
       (λ ne. subst (λ (l : List D). Adds (f.seats q) (g.seats q) [] l) (sym (if_other q s (d ∷ []) ne))
       (let same = ch.other_parties q ne in adds_nothing (f.seats q) (g.seats q) (ap (λ (y : View D). y.due) same) (ap (λ (y : View D). y.handed) same)))
@@ -106,15 +106,17 @@ module _ {J D : Type 0} (owed : J → D) (submitters workers : ℕ) where
       behind = λ s. omega arith;
       within = λ s. omega arith;
       spare = λ s e. absurd (e refl);
+      emptied = λ s e. absurd (rest_take e);
       each_number = λ s n l lo hi. (omega arith, (λ e. absurd (rest_open e)), λ e. absurd (rest_take e));
       in_hand = λ p k c d e. absurd (none-some (c, d) e);
       held = λ p c d l e. absurd (not_in_hand free p d refl e);
       once = λ p k l c d e h i. absurd (none-some (c, d) h);
-      workers = λ p l. (refl, refl);
+      posters = λ p l. (refl, refl);
+      nobody = λ p l. refl;
     },
   )
 
-  pub events_keep_the_law : (events : List (Event J D × Answer J D)) (f : FrontState J D) → Run owed submitters workers new_front events f → Lawful owed submitters f
+  pub events_keep_the_law : (events : List (Event J D × Answer J D)) (f : FrontState J D) → Run owed submitters workers new_front events f → Lawful owed submitters workers f
   events_keep_the_law events f run = (run_sound new_front f events run new_front_sound).1
 
   pub results_come_in_order : (events : List (Event J D × Answer J D)) (f : FrontState J D) → Run owed submitters workers new_front events f → (s : ℕ)

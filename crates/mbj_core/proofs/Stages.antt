@@ -25,14 +25,14 @@ module _ {J D : Type 0} (owed : J → D) where
   opened_fits v looks s n (take_by p) h r ne = absurd (rest_take (sym r ∙ h.2))
 
   -- the submitter at rest opens the cell of its next number
-  pub opens : (S : ℕ) (f : FrontState J D) (p : ℕ) (looks : List (ℕ × ℕ)) → Lawful owed S f → p < S → (f.seats p).stage ≡ Rest → length (f.seats p).due < (f.seats p).handed + CELLS
+  pub opens : (S W : ℕ) (f : FrontState J D) (p : ℕ) (looks : List (ℕ × ℕ)) → Lawful owed S W f → p < S → (f.seats p).stage ≡ Rest → length (f.seats p).due < (f.seats p).handed + CELLS
       → let v : View D = f.seats p in let i : ℕ = cell_of p (length v.due) in
-      (f.cells i ≡ free) × Lawful owed S (front (put f.cells i (open_by p)) (put f.seats p (view v.number Opening v.due v.handed v.hand looks)))
-  opens S f p looks law less at_rest room =
+      (f.cells i ≡ free) × Lawful owed S W (front (put f.cells i (open_by p)) (put f.seats p (view v.number Opening v.due v.handed v.hand looks)))
+  opens S W f p looks law less at_rest room =
       let v : View D = f.seats p in let m : ℕ = length v.due in let i : ℕ = cell_of p m in let x : Cell J D = open_by p in
       let here = free_there owed v p m (f.cells i) (law.each_number p m less (law.behind p) room) at_rest (omega arith) in (
         here,
-        reposts owed S f p m x Opening v.due v.handed looks law less (law.behind p) (law.within p) (λ _. room) (ap is_hand here) refl
+        reposts owed S W f p m x Opening v.due v.handed looks law less (law.behind p) (law.within p) (λ _. room) (λ e. absurd (open_take e)) (ap is_hand here) refl
             (λ n lo hi. dite (ℕ_discrete n m)
             (λ e. subst (λ (k : ℕ). Fits owed (view v.number Opening v.due v.handed v.hand looks) p k (put f.cells i x (cell_of p k))) (sym e)
             (subst (Fits owed (view v.number Opening v.due v.handed v.hand looks) p m) (sym (put_here f.cells i x)) (refl, refl, refl)))
@@ -49,14 +49,14 @@ module _ {J D : Type 0} (owed : J → D) where
   open_there v s n (take_by p) h r e = absurd (open_take (sym r ∙ h.2))
 
   -- the cell that the submitter fills gets a job
-  pub publishes : (S : ℕ) (f : FrontState J D) (p : ℕ) (j : J) (looks : List (ℕ × ℕ)) → Lawful owed S f → p < S → (f.seats p).stage ≡ Opening
+  pub publishes : (S W : ℕ) (f : FrontState J D) (p : ℕ) (j : J) (looks : List (ℕ × ℕ)) → Lawful owed S W f → p < S → (f.seats p).stage ≡ Opening
       → let v : View D = f.seats p in let i : ℕ = cell_of p (length v.due) in
-      (f.cells i ≡ open_by p) × Lawful owed S (front (put f.cells i (ready j)) (put f.seats p (view v.number Rest (v.due ++ owed j ∷ []) v.handed v.hand looks)))
-  publishes S f p j looks law less at =
+      (f.cells i ≡ open_by p) × Lawful owed S W (front (put f.cells i (ready j)) (put f.seats p (view v.number Rest (v.due ++ owed j ∷ []) v.handed v.hand looks)))
+  publishes S W f p j looks law less at =
       let v : View D = f.seats p in let m : ℕ = length v.due in let i : ℕ = cell_of p m in
       let room = law.spare p (λ e. rest_open (sym e ∙ at)) in
       let here = open_there v p m (f.cells i) (law.each_number p m less (law.behind p) room) at refl in
-      (here, fills owed S f p j looks law less (λ e. open_take (sym at ∙ e)) room (ap is_hand here))
+      (here, fills owed S W f p j looks law less (λ e. open_take (sym at ∙ e)) room (ap is_hand here))
 
   -- at the cell of the number handed stands a result where its word is 2
   pub done_there : (v : View D) (s : ℕ) (y : Cell J D) → Fits owed v s v.handed y → word_of y ≡ 2 → (d : D) × Is (done d) y × (slice_get v.due v.handed ≡ Some d)
@@ -76,14 +76,14 @@ module _ {J D : Type 0} (owed : J → D) where
   taken_fits v looks s n (take_by p) h r l = absurd (rest_take (sym r ∙ h.2))
 
   -- the submitter at rest takes the result of its earliest job that is out
-  pub takes_done : (S : ℕ) (f : FrontState J D) (p : ℕ) (d : D) (looks : List (ℕ × ℕ)) → Lawful owed S f → p < S → (f.seats p).stage ≡ Rest → (f.seats p).handed < length (f.seats p).due
+  pub takes_done : (S W : ℕ) (f : FrontState J D) (p : ℕ) (d : D) (looks : List (ℕ × ℕ)) → Lawful owed S W f → p < S → (f.seats p).stage ≡ Rest → (f.seats p).handed < length (f.seats p).due
       → f.cells (cell_of p (f.seats p).handed) ≡ done d
       → let v : View D = f.seats p in let i : ℕ = cell_of p v.handed in
-      Lawful owed S (front (put f.cells i (take_by p)) (put f.seats p (view v.number Emptying v.due (v.handed + 1) v.hand looks)))
-  takes_done S f p d looks law less at_rest some_out is =
+      Lawful owed S W (front (put f.cells i (take_by p)) (put f.seats p (view v.number Emptying v.due (v.handed + 1) v.hand looks)))
+  takes_done S W f p d looks law less at_rest some_out is =
       let v : View D = f.seats p in let h : ℕ = v.handed in let i : ℕ = cell_of p h in let x : Cell J D = take_by p in let w : View D = view v.number Emptying v.due (h + 1) v.hand looks in
       let b = law.behind p in let c = law.within p in
-      reposts owed S f p h x Emptying v.due (h + 1) looks law less (omega arith) (omega arith) (λ _. omega arith) (ap is_hand is) refl
+      reposts owed S W f p h x Emptying v.due (h + 1) looks law less (omega arith) (omega arith) (λ _. omega arith) (λ _. omega arith) (ap is_hand is) refl
       (λ n lo hi. dite (ℕ_discrete n (h + CELLS))
       (λ e. subst (λ (k : Cell J D). Fits owed w p n k) (sym (put_here f.cells i x) ∙ ap (put f.cells i x) (let same : i ≡ cell_of p n = omega arith in same)) (omega arith, refl, refl))
       (λ ne. subst (Fits owed w p n) (sym (put_else f.cells i (cell_of p n) x (λ e. let same = one_number p h n h (omega arith) (omega arith) (omega arith) (omega arith) e in absurd (omega arith))))
@@ -106,15 +106,15 @@ module _ {J D : Type 0} (owed : J → D) where
   freed_fits v looks s n (take_by p) h r ne = absurd (ne h.0)
 
   -- the cell that the submitter empties is free again
-  pub frees : (S : ℕ) (f : FrontState J D) (p : ℕ) (looks : List (ℕ × ℕ)) → Lawful owed S f → p < S → (f.seats p).stage ≡ Emptying
+  pub frees : (S W : ℕ) (f : FrontState J D) (p : ℕ) (looks : List (ℕ × ℕ)) → Lawful owed S W f → p < S → (f.seats p).stage ≡ Emptying
       → let v : View D = f.seats p in let i : ℕ = cell_of p (v.handed + (CELLS - 1)) in
-      (f.cells i ≡ take_by p) × Lawful owed S (front (put f.cells i free) (put f.seats p (view v.number Rest v.due v.handed v.hand looks)))
-  frees S f p looks law less at =
+      (f.cells i ≡ take_by p) × Lawful owed S W (front (put f.cells i free) (put f.seats p (view v.number Rest v.due v.handed v.hand looks)))
+  frees S W f p looks law less at =
       let v : View D = f.seats p in let m : ℕ = v.handed + (CELLS - 1) in let i : ℕ = cell_of p m in let x : Cell J D = free in let w : View D = view v.number Rest v.due v.handed v.hand looks in
       let room : length v.due < v.handed + CELLS = law.spare p (λ e. rest_take (sym e ∙ at)) in
       let here = take_there v p m (f.cells i) (law.each_number p m less (omega arith) (omega arith)) at (omega arith) room in (
         here,
-        reposts owed S f p m x Rest v.due v.handed looks law less (law.behind p) (law.within p) (λ e. absurd (e refl)) (ap is_hand here) refl
+        reposts owed S W f p m x Rest v.due v.handed looks law less (law.behind p) (law.within p) (λ e. absurd (e refl)) (λ e. absurd (rest_take e)) (ap is_hand here) refl
             (λ n lo hi. dite (ℕ_discrete n m)
             (λ e. subst (λ (k : ℕ). Fits owed w p k (put f.cells i x (cell_of p k))) (sym e)
             (subst (Fits owed w p m) (sym (put_here f.cells i x)) (omega arith, (λ e. absurd (rest_open e)), λ e. absurd (rest_take e))))

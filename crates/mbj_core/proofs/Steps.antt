@@ -38,12 +38,12 @@ module _ {J D : Type 0} where
 
 module _ {J D : Type 0} (owed : J → D) (submitters workers : ℕ) where
   abbrev pub Sound : FrontState J D → Type 0
-  Sound f = AtRest f × Lawful owed submitters f
+  Sound f = AtRest f × Lawful owed submitters workers f
 
-  changed : (f g : FrontState J D) (c : ℕ) (x : Cell J D) (p : ℕ) (v w : View D) → Changes f g c x p v → w ≡ v → v.stage ≡ Rest → AtRest f → Lawful owed submitters (front (put f.cells c x) (put f.seats p w)) → Sound g
+  changed : (f g : FrontState J D) (c : ℕ) (x : Cell J D) (p : ℕ) (v w : View D) → Changes f g c x p v → w ≡ v → v.stage ≡ Rest → AtRest f → Lawful owed submitters workers (front (put f.cells c x) (put f.seats p w)) → Sound g
   changed f g c x p v w ch same r all law = (
     rests f g c x p v ch r all,
-    subst (Lawful owed submitters) (sym (changes_are f g c x p v ch)) (subst (λ (u : View D). Lawful owed submitters (front (put f.cells c x) (put f.seats p u))) same law),
+    subst (Lawful owed submitters workers) (sym (changes_are f g c x p v ch)) (subst (λ (u : View D). Lawful owed submitters workers (front (put f.cells c x) (put f.seats p u))) same law),
   )
 
   pub step_sound : (f g : FrontState J D) (e : Event J D) (a : Answer J D) → Step owed submitters workers f e a g → Sound f → Sound g
@@ -51,21 +51,21 @@ module _ {J D : Type 0} (owed : J → D) (submitters workers : ℕ) where
       let v : View D = f.seats s in
       changed f g (cell_of s (length v.due)) (ready j) s (with_due v (v.due ++ owed j ∷ [])) (view v.number Rest (v.due ++ owed j ∷ []) v.handed v.hand v.looks) step.2
       (ap (λ st. view v.number st (v.due ++ owed j ∷ []) v.handed v.hand v.looks) (sym (ok.0 s))) (ok.0 s) ok.0
-      (posts owed submitters f s j v.looks ok.1 step.0 (ok.0 s) step.1).1
+      (posts owed submitters workers f s j v.looks ok.1 step.0 (ok.0 s) step.1).1
   step_sound f g (post s j) (returned i) step ok = subst Sound (sym step.3) ok
   step_sound f g (post s j) (claimed i) step ok = absurd step
   step_sound f g (post s j) (collected d) step ok = absurd step
   step_sound f g (post s j) nothing step ok = absurd step
   step_sound f g (claim p c) (claimed j) step ok =
       let v : View D = f.seats p in let w : View D = with_hand v (v.hand ++ (c, owed j) ∷ []) in
-      changed f g c (hand_of p (owed j)) p w w step.3 refl (ok.0 p) ok.0 (claims owed submitters f c p j v.looks ok.1 step.1 step.2)
+      changed f g c (hand_of p (owed j)) p w w step.3 refl (ok.0 p) ok.0 (claims owed submitters workers f c p j v.looks ok.1 step.0 step.1 step.2)
   step_sound f g (claim p c) nothing step ok = subst Sound (sym step.3) ok
   step_sound f g (claim p c) accepted step ok = absurd step
   step_sound f g (claim p c) (returned i) step ok = absurd step
   step_sound f g (claim p c) (collected d) step ok = absurd step
   step_sound f g (finish p c d) accepted step ok =
       let v : View D = f.seats p in let w : View D = with_hand v step.1.0 in
-      changed f g c (done d) p w w step.1.2 refl (ok.0 p) ok.0 (finishes owed submitters f c p d step.1.0 v.looks ok.1 step.1.1)
+      changed f g c (done d) p w w step.1.2 refl (ok.0 p) ok.0 (finishes owed submitters workers f c p d step.1.0 v.looks ok.1 step.0 step.1.1)
   step_sound f g (finish p c d) (returned i) step ok = absurd step
   step_sound f g (finish p c d) (claimed i) step ok = absurd step
   step_sound f g (finish p c d) (collected e) step ok = absurd step
@@ -74,7 +74,7 @@ module _ {J D : Type 0} (owed : J → D) (submitters workers : ℕ) where
       let v : View D = f.seats s in
       changed f g (cell_of s v.handed) free s (with_handed v (v.handed + 1)) (view v.number Rest v.due (v.handed + 1) v.hand v.looks) step.2
       (ap (λ st. view v.number st v.due (v.handed + 1) v.hand v.looks) (sym (ok.0 s))) (ok.0 s) ok.0
-      (collects owed submitters f s d v.looks ok.1 step.0 (ok.0 s) step.1).1
+      (collects owed submitters workers f s d v.looks ok.1 step.0 (ok.0 s) step.1).1
   step_sound f g (collect s) nothing step ok = subst Sound (sym step.2) ok
   step_sound f g (collect s) accepted step ok = absurd step
   step_sound f g (collect s) (returned i) step ok = absurd step

@@ -1,7 +1,7 @@
 -- The law of the front: what holds in each state that events lead to.
 use Rattle.std.specs.Prelude.{◌≡◌, ◌≢◌, ℕ, ◌+◌, ◌*◌, ◌<◌, ◌≤◌, [], length, slice_get, Some}
 use Rattle.mbj_core.specs.Cells.{Cell, free, ready, done, open_by, hand_of, take_by, cell_of}
-use Rattle.mbj_core.specs.Parties.{FrontState}
+use Rattle.mbj_core.specs.Parties.{FrontState, new_party}
 use Rattle.mbj_core.specs.declared.cells.TheConstants.{CELLS}
 use Rattle.mbj_core.specs.declared.party.View.{View}
 use Rattle.mbj_core.specs.declared.party.Stage.TheVariants.{Rest, Opening, Emptying}
@@ -22,13 +22,15 @@ module _ {J D : Type 0} (owed : J → D) where
   -- the submitter empties the cell of the number v.handed - 1
   Fits v s n (take_by p) = (n + 1 ≡ v.handed + CELLS) × (p ≡ s) × (v.stage ≡ Emptying)
 
-  pub record Lawful (submitters : ℕ) (f : FrontState J D) : Type 0 where
+  pub record Lawful (submitters workers : ℕ) (f : FrontState J D) : Type 0 where
     -- no more results are handed out than are due
     pub behind : (s : ℕ) → (f.seats s).handed ≤ length (f.seats s).due
     -- no more are out than there are cells
     pub within : (s : ℕ) → length (f.seats s).due ≤ (f.seats s).handed + CELLS
     -- a cell that is being filled or emptied isn't one of those that are out
     pub spare : (s : ℕ) → (f.seats s).stage ≢ Rest → length (f.seats s).due < (f.seats s).handed + CELLS
+    -- a submitter that empties a cell has been handed a result
+    pub emptied : (s : ℕ) → (f.seats s).stage ≡ Emptying → 1 ≤ (f.seats s).handed
     -- each cell of a submitter holds what fits its number
     pub each_number : (s n : ℕ) → s < submitters → (f.seats s).handed ≤ n → n < (f.seats s).handed + CELLS → Fits (f.seats s) s n (f.cells (cell_of s n))
     -- a cell in a hand says whose hand it is, and the same result
@@ -38,4 +40,6 @@ module _ {J D : Type 0} (owed : J → D) where
     -- no hand has a cell twice; by in_hand no two hands have the same cell
     pub once : (p k l c : ℕ) (d e : D) → slice_get (f.seats p).hand k ≡ Some (c, d) → slice_get (f.seats p).hand l ≡ Some (c, e) → k ≡ l
     -- workers post nothing
-    pub workers : (p : ℕ) → submitters ≤ p → ((f.seats p).due ≡ []) × ((f.seats p).stage ≡ Rest)
+    pub posters : (p : ℕ) → submitters ≤ p → ((f.seats p).due ≡ []) × ((f.seats p).stage ≡ Rest)
+    -- there are no other parties
+    pub nobody : (p : ℕ) → submitters + workers ≤ p → f.seats p ≡ new_party p

@@ -26,7 +26,7 @@ module _ {J D : Type 0} (owed : J → D) where
   abbrev pub EventsKeepTheLaw : Type 0
   EventsKeepTheLaw =
       (submitters workers : ℕ) (events : List (Event J D × Answer J D)) (f : FrontState J D)
-      → Run submitters workers new_front events f → Lawful owed submitters f
+      → Run submitters workers new_front events f → Lawful owed submitters workers f
 
   -- after each list of events from the new front on, the results that a submitter has collected are the first ones
   -- of those of its accepted posts, each once, in the order of the posts

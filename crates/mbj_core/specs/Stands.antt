@@ -4,7 +4,7 @@ use Rattle.mbj_types.specs.Result.{result_of}
 use Rattle.mbj_types.specs.declared.job.Job.{Job}
 use Rattle.mbj_types.specs.declared.done.Done.{Done}
 use Rattle.mbj_core.specs.Cells.{result_in, cell_of}
-use Rattle.mbj_core.specs.Parties.{FrontState}
+use Rattle.mbj_core.specs.Parties.{FrontState, new_party}
 use Rattle.mbj_core.specs.Lawful.{Lawful}
 use Rattle.mbj_core.specs.Events.{Event, Answer, Step}
 use Rattle.mbj_core.specs.CoreStates.{CoreState, cell_in, out_of}
@@ -25,7 +25,7 @@ pub record StandsFor (core : CoreState) (f : FrontState Job Done) : Type 0 where
   pub due_results : (s n : ℕ) → s < core.submitters → (f.seats s).handed ≤ n → n < length (f.seats s).due → result_in result_of (f.cells (cell_of s n)) ≡ slice_get (f.seats s).due n
   -- workers post nothing, and there are no other parties
   pub posters : (p : ℕ) → core.submitters ≤ p → ((f.seats p).due ≡ []) × ((f.seats p).handed ≡ 0)
-  pub nobody : (p : ℕ) → core.submitters + core.workers ≤ p → (f.seats p).hand ≡ []
+  pub nobody : (p : ℕ) → core.submitters + core.workers ≤ p → f.seats p ≡ new_party p
 
 -- the call led from each state that the old core stands for to one that the new core stands for, by this event
 abbrev pub Leads : CoreState → Event Job Done → Answer Job Done → CoreState → Type 0
@@ -35,4 +35,4 @@ Leads old e a new =
 
 -- a lawful state stands behind the core
 abbrev pub IsBacked : CoreState → Type 0
-IsBacked core = ∥ ((f : FrontState Job Done) × StandsFor core f × Lawful result_of core.submitters f) ∥₁
+IsBacked core = ∥ ((f : FrontState Job Done) × StandsFor core f × Lawful result_of core.submitters core.workers f) ∥₁

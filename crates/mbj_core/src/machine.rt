@@ -184,7 +184,7 @@ impl Core {
 
     /// A law: each state that a core stands for is lawful.
     pub fn stands_for_lawful_states(&self)
-        ensures { (f : FrontState Job Done) → StandsFor self.now f → Lawful result_of self.now.submitters f }
+        ensures { (f : FrontState Job Done) → StandsFor self.now f → Lawful result_of self.now.submitters self.now.workers f }
     {
         let _ = &self.submitters;
     }

@@ -50,7 +50,7 @@ pub record Finishes (core : CoreState) (p : ℕ) (rest : List Entry) (g h : Fron
 
 -- the first entry of a hand is in its cell
 pub first-held : (core : CoreState) (g : FrontState Job Done) (p : ℕ) (given : Option Entry) (rest : List Entry)
-    → StandsFor core g → Lawful result_of core.submitters g → (g.seats p).hand ≡ option_to_list given ++ rest
+    → StandsFor core g → Lawful result_of core.submitters core.workers g → (g.seats p).hand ≡ option_to_list given ++ rest
     → IfSome given (λ e. (e.0 < CELLS * core.submitters) × HasHand core e.0 p e.1)
 first-held core g p None rest stands law is = tt
 first-held core g p (Some e) rest stands law is =
@@ -65,7 +65,7 @@ rest-left e hand rest [] after left first cut leaves none = let same : e ∷ res
 rest-left e hand rest (b ∷ before) after left first cut leaves none = let bad : ⊥ = omega (arith, none) in absurd bad
 
 pub first-finishes : (core new : CoreState) (g : FrontState Job Done) (p : ℕ) (given : Option Entry) (rest : List Entry)
-    → StandsFor core g → Lawful result_of core.submitters g → (g.seats p).hand ≡ option_to_list given ++ rest
+    → StandsFor core g → Lawful result_of core.submitters core.workers g → (g.seats p).hand ≡ option_to_list given ++ rest
     → new ≡ core_after p given core → IfSome given (λ e. Leads core (finish p e.0 e.1) accepted new)
     → (h : FrontState Job Done) × Finishes new p rest g h
 first-finishes core new g p None rest stands law is same leads =

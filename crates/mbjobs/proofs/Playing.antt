@@ -310,7 +310,7 @@ module _ (jobs : List Job) (r : Replayer) (w p : ℕ) (given : Option Entry) (x 
   -- a worker's flush, and the finish that it leads to
   module _ (hand : option_to_list (option_map (λ t. t.0) given) ++ y.hand.items ≡ x.hand.items)
       (owed : option_to_list (option_map (λ t. t.1) given) ++ y.manager.owed ≡ x.manager.owed)
-      (law : (f : FrontState Job Done) → StandsFor r.core f → Lawful result_of r.core.submitters f) where
+      (law : (f : FrontState Job Done) → StandsFor r.core f → Lawful result_of r.core.submitters r.core.workers f) where
     flushed : Taken r.core p x.hand.items given y playing.0 playing.0
     flushed = flush-taken r.core p given x y playing.0 playing.1.front holds hand owed
 
@@ -337,7 +337,7 @@ module _ (jobs : List Job) (r : Replayer) (w p : ℕ) (given : Option Entry) (x 
   module _ (mid : CoreState) (cell : ℕ) (z : Posted) (there : slice_get r.posted.items cell ≡ Some z) (claims : ClaimsAt r.core p cell mid)
       (hand : option_to_list (option_map (λ t. t.0) given) ++ y.hand.items ≡ x.hand.items ++ cell ∷ [])
       (owed : option_to_list (option_map (λ t. t.1) given) ++ y.manager.owed ≡ x.manager.owed ++ result_of z.copy ∷ [])
-      (law : (f : FrontState Job Done) → StandsFor mid f → Lawful result_of mid.submitters f) where
+      (law : (f : FrontState Job Done) → StandsFor mid f → Lawful result_of mid.submitters mid.workers f) where
     claimed-by : (g : FrontState Job Done) × Claimed mid p cell given x y z claims.job playing.0 g
     claimed-by = claim-taken jobs r mid p cell given x y z playing.0 playing.1 holds there claims hand owed
 
