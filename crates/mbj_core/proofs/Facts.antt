@@ -16,13 +16,14 @@ use Rattle.mbj_core.specs.declared.party.View.{View}
 use Rattle.mbj_core.specs.declared.cells.TheConstants.{CELLS}
 use Rattle.mbj_core.specs.Cells.{hand_of, word_of, cell_of}
 use Rattle.mbj_core.specs.Parties.{FrontState}
-use Rattle.mbj_core.specs.Lawful.{Fits, Lawful}
+use Rattle.mbj_core.specs.Lawful.{Lawful}
 use Rattle.mbj_core.specs.Events.{Event, Answer}
 use Rattle.mbj_core.specs.CoreStates.{CoreState}
 use Rattle.mbj_core.specs.Stands.{StandsFor, Leads, IsBacked}
-use Rattle.mbj_core.proofs.Words.{free_word, hand_word, same_result, fits_due}
+use Rattle.mbj_core.proofs.Words.{free_word, hand_word, same_result}
 use Rattle.mbj_core.proofs.Carried.{cells_of, Once, cell_at, entry_at, found, find}
-use Rattle.mbj_core.proofs.Posts.{rest_open, rest_take, near, free_there}
+use Rattle.mbj_core.proofs.Fitting.{rest_open, rest_take, Fits, fits_due, free_there, lawful, each_number}
+use Rattle.mbj_core.proofs.Posts.{near}
 use Rattle.mbj_core.proofs.Steps.{step_sound}
 
 pub record Facts (c : CoreState) (f : FrontState Job Done) : Type 0 where
@@ -52,7 +53,7 @@ module _ (c : CoreState) (f g : FrontState Job Done) (sf : StandsFor c f) (sg : 
       let a = sf.each_out s l in let b = sg.each_out s l in let x = sf.each_first s l in let y = sg.each_first s l in
       let turn : h % CELLS ≡ h' % CELLS = x ∙ sym y in
       let same : cell_of s n ≡ cell_of s m = omega arith in
-      let there = free_there result_of (g.seats s) s m (g.cells (cell_of s m)) (law.each_number s m l (omega arith) (omega arith)) (sg.at_rest s).1 (omega arith) in
+      let there = free_there result_of (g.seats s) s m (g.cells (cell_of s m)) (each_number result_of c.submitters c.workers g law s m l (omega arith) (omega arith)) (sg.at_rest s).1 (omega arith) in
       ap (λ (i : ℕ). word_of (f.cells i)) same ∙ ap word_of (same_cell (cell_of s m) (near c.submitters s m l) ∙ there)
 
   pub facts : Lawful result_of c.submitters c.workers g → Facts c f
@@ -85,7 +86,7 @@ module _ (c : CoreState) (f : FrontState Job Done) (sf : StandsFor c f) where
 
   -- each state that the core stands for is lawful
   pub lawful_of : Facts c f → Lawful result_of c.submitters c.workers f
-  lawful_of all = record {
+  lawful_of all = lawful result_of c.submitters c.workers _ (record {
     behind = λ s. dite (dec_le c.submitters s) (λ far. let z = (sf.posters s far).1 in omega arith) (λ near. let a = sf.each_out s (omega arith) in omega arith);
     within = λ s. dite (dec_le c.submitters s) (λ far. let z = ap (λ (l : List Done). length l) (sf.posters s far).0 in omega arith) (λ near. all.few s (omega arith));
     spare = λ s ne. absurd (ne (sf.at_rest s).1);
@@ -99,7 +100,7 @@ module _ (c : CoreState) (f : FrontState Job Done) (sf : StandsFor c f) where
     once = all.once;
     posters = λ p far. ((sf.posters p far).0, (sf.at_rest p).1);
     nobody = sf.nobody;
-  }
+  })
 
 -- a call that leads by an event keeps a lawful state behind the core
 pub backed_after : (old new : CoreState) (e : Event Job Done) (a : Answer Job Done) → new.submitters ≡ old.submitters → new.workers ≡ old.workers → Leads old e a new → IsBacked old → IsBacked new

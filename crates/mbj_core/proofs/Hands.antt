@@ -1,12 +1,13 @@
--- A claim and a finish lead from a lawful state to a lawful one.
-use Rattle.std.proofs.Common.{◌≡◌, ◌≢◌, ℕ, ◌+◌, ◌*◌, ◌<◌, ◌≤◌, List, [], ◌∷◌, ◌++◌, length, sym, refl, ap, ◌∙◌, subst, ⊎_elim, arith}
+-- A claim, a finish and a look lead from a lawful state to a lawful one.
+use Rattle.std.proofs.Common.{◌≡◌, ◌≢◌, ℕ, ◌+◌, ◌-◌, ◌*◌, ◌<◌, ◌≤◌, List, [], ◌∷◌, ◌++◌, length, sym, refl, ap, ◌∙◌, subst, ⊎_elim, arith}
 use Rattle.std.specs.Prelude.{Some, slice_get}
 use Rattle.mbj_core.specs.declared.party.View.{View}
-use Rattle.mbj_core.specs.declared.party.Stage.TheVariants.{Rest, Emptying}
+use Rattle.mbj_core.specs.declared.party.Stage.TheVariants.{Rest, Opening, Emptying}
 use Rattle.mbj_core.specs.declared.cells.TheConstants.{CELLS}
-use Rattle.mbj_core.specs.Cells.{Cell, free, ready, done, open_by, hand_of, take_by, cell_of}
+use Rattle.mbj_core.specs.Cells.{Cell, free, ready, done, open_by, hand_of, take_by, result_in, cell_of}
 use Rattle.mbj_core.specs.Parties.{view, front, FrontState, new_party}
-use Rattle.mbj_core.specs.Lawful.{Fits, Lawful}
+use Rattle.mbj_core.specs.Lawful.{Lawful}
+use Rattle.mbj_core.proofs.Fitting.{Fits, lawful, each_number}
 use Rattle.mbj_core.specs.Events.{Leaves}
 use Rattle.mbj_core.proofs.Puts.{put, at_put, put_here, put_else}
 use Rattle.mbj_core.proofs.Entries.{at_end, at_longer, at_middle, skip, in_whole, skip_apart, skip_misses, stays}
@@ -43,7 +44,7 @@ module _ {J D : Type 0} (owed : J → D) where
       → ((q i : ℕ) (d : D) → i < CELLS * S → put f.cells c x i ≡ hand_of q d → (k : ℕ) × (slice_get (put f.seats p (rehanded (f.seats p) hand looks) q).hand k ≡ Some (i, d)))
       → ((k l i : ℕ) (d e : D) → slice_get hand k ≡ Some (i, d) → slice_get hand l ≡ Some (i, e) → k ≡ l)
       → Lawful owed S W (front (put f.cells c x) (put f.seats p (rehanded (f.seats p) hand looks)))
-  rehands S W f c p x hand looks law lp fits in_hand held once = let w : View D = rehanded (f.seats p) hand looks in record {
+  rehands S W f c p x hand looks law lp fits in_hand held once = let w : View D = rehanded (f.seats p) hand looks in lawful owed S W _ (record {
     behind = λ s. at_put f.seats p w (λ q y. y.handed ≤ length y.due) s (law.behind p) (λ _. law.behind s);
     within = λ s. at_put f.seats p w (λ q y. length y.due ≤ y.handed + CELLS) s (law.within p) (λ _. law.within s);
     spare = λ s. at_put f.seats p w (λ q y. y.stage ≢ Rest → length y.due < y.handed + CELLS) s (law.spare p) (λ _. law.spare s);
@@ -51,14 +52,14 @@ module _ {J D : Type 0} (owed : J → D) where
     each_number = λ s n less. let all : (v : View D) → Fits owed v s n (f.cells (cell_of s n)) → Fits owed v s n (put f.cells c x (cell_of s n)) = λ v old.
         at_put f.cells c x (λ i y. i ≡ cell_of s n → Fits owed v s n y) (cell_of s n) (λ e. fits v s n (subst (λ (i : ℕ). Fits owed v s n (f.cells i)) (sym e) old)) (λ _ _. old) refl in
         at_put f.seats p w (λ q y. q ≡ s → y.handed ≤ n → n < y.handed + CELLS → Fits owed y s n (put f.cells c x (cell_of s n))) s
-        (λ e lo hi. same_fits (f.seats p) hand looks s n (put f.cells c x (cell_of s n)) (all (f.seats p) (subst (λ (q : ℕ). (f.seats q).handed ≤ n → n < (f.seats q).handed + CELLS → Fits owed (f.seats q) s n (f.cells (cell_of s n))) (sym e) (law.each_number s n less) lo hi)))
-        (λ _ _ lo hi. all (f.seats s) (law.each_number s n less lo hi)) refl;
+        (λ e lo hi. same_fits (f.seats p) hand looks s n (put f.cells c x (cell_of s n)) (all (f.seats p) (subst (λ (q : ℕ). (f.seats q).handed ≤ n → n < (f.seats q).handed + CELLS → Fits owed (f.seats q) s n (f.cells (cell_of s n))) (sym e) (each_number owed S W f law s n less) lo hi)))
+        (λ _ _ lo hi. all (f.seats s) (each_number owed S W f law s n less lo hi)) refl;
     in_hand = in_hand;
     held = held;
     once = λ q k l i d e. at_put f.seats p w (λ q y. slice_get y.hand k ≡ Some (i, d) → slice_get y.hand l ≡ Some (i, e) → k ≡ l) q (once k l i d e) (λ _. law.once q k l i d e);
     posters = λ q far. at_put f.seats p w (λ q y. S ≤ q → (y.due ≡ []) × (y.stage ≡ Rest)) q (law.posters p) (λ _. law.posters q) far;
     nobody = λ q far. at_put f.seats p w (λ q y. S + W ≤ q → y ≡ new_party q) q (λ far. absurd (omega arith)) (λ _. law.nobody q) far;
-  }
+  })
 
   -- the party p claims the job of the cell c
   pub claims : (S W : ℕ) (f : FrontState J D) (c p : ℕ) (j : J) (looks : List (ℕ × ℕ)) → Lawful owed S W f → p < S + W → c < CELLS * S → f.cells c ≡ ready j
@@ -115,3 +116,23 @@ module _ {J D : Type 0} (owed : J → D) where
       (stays before after (c, d) (i, e) was.0 (sym (ap (λ (m : List (ℕ × D)). slice_get m was.0) leaves.2) ∙ a))) (λ _ a. (was.0, a)) was.1)
       less)
       (λ k l i a b ka lb. skip_apart before k l (law.once p (skip before k) (skip before l) i a b (later k i a ka) (later l i b lb)))
+
+  -- only the looks of the party p change
+  pub relooks : (S W : ℕ) (f : FrontState J D) (p : ℕ) (looks : List (ℕ × ℕ)) → Lawful owed S W f → p < S + W → Lawful owed S W (front f.cells (put f.seats p (rehanded (f.seats p) (f.seats p).hand looks)))
+  relooks S W f p looks law lp = let v : View D = f.seats p in let w : View D = rehanded v v.hand looks in record {
+    behind = λ s. at_put f.seats p w (λ q y. y.handed ≤ length y.due) s (law.behind p) (λ _. law.behind s);
+    within = λ s. at_put f.seats p w (λ q y. length y.due ≤ y.handed + CELLS) s (law.within p) (λ _. law.within s);
+    spare = λ s. at_put f.seats p w (λ q y. y.stage ≢ Rest → length y.due < y.handed + CELLS) s (law.spare p) (λ _. law.spare s);
+    emptied = λ s. at_put f.seats p w (λ q y. y.stage ≡ Emptying → 1 ≤ y.handed) s (law.emptied p) (λ _. law.emptied s);
+    each_out = λ s n. at_put f.seats p w (λ q y. q < S → y.handed ≤ n → n < length y.due → result_in owed (f.cells (cell_of q n)) ≡ slice_get y.due n) s (law.each_out p n) (λ _. law.each_out s n);
+    filling = λ s. at_put f.seats p w (λ q y. q < S → y.stage ≡ Opening → f.cells (cell_of q (length y.due)) ≡ open_by q) s (law.filling p) (λ _. law.filling s);
+    emptying = λ s. at_put f.seats p w (λ q y. q < S → y.stage ≡ Emptying → f.cells (cell_of q (y.handed - 1)) ≡ take_by q) s (law.emptying p) (λ _. law.emptying s);
+    idle = λ s n. at_put f.seats p w
+        (λ q y. q < S → length y.due ≤ n → n < y.handed + CELLS → (y.stage ≡ Opening → cell_of q n ≢ cell_of q (length y.due)) → (y.stage ≡ Emptying → cell_of q n ≢ cell_of q (y.handed - 1)) → f.cells (cell_of q n) ≡ free) s
+        (law.idle p n) (λ _. law.idle s n);
+    in_hand = λ q k i d. at_put f.seats p w (λ q y. slice_get y.hand k ≡ Some (i, d) → (i < CELLS * S) × (f.cells i ≡ hand_of q d)) q (law.in_hand p k i d) (λ _. law.in_hand q k i d);
+    held = λ q i d. at_put f.seats p w (λ q y. i < CELLS * S → f.cells i ≡ hand_of q d → (k : ℕ) × (slice_get y.hand k ≡ Some (i, d))) q (law.held p i d) (λ _. law.held q i d);
+    once = λ q k l i d e. at_put f.seats p w (λ q y. slice_get y.hand k ≡ Some (i, d) → slice_get y.hand l ≡ Some (i, e) → k ≡ l) q (law.once p k l i d e) (λ _. law.once q k l i d e);
+    posters = λ q. at_put f.seats p w (λ q y. S ≤ q → (y.due ≡ []) × (y.stage ≡ Rest)) q (law.posters p) (λ _. law.posters q);
+    nobody = λ q far. at_put f.seats p w (λ q y. S + W ≤ q → y ≡ new_party q) q (λ far. absurd (omega arith)) (λ _. law.nobody q) far;
+  }

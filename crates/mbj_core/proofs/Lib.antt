@@ -1,5 +1,6 @@
 pub mod Puts
 pub mod Entries
+pub mod Fitting
 pub mod Hands
 pub mod Posts
 pub mod Stages

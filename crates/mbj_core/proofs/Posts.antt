@@ -6,23 +6,15 @@ use mathlib.Core.Logic.{dite}
 use native.Mathlib.Decide.{ℕ_discrete}
 use Rattle.mbj_core.specs.declared.party.View.{View}
 use Rattle.mbj_core.specs.declared.party.Stage.{Stage}
-use Rattle.mbj_core.specs.declared.party.Stage.TheVariants.{Rest, Opening, Emptying}
+use Rattle.mbj_core.specs.declared.party.Stage.TheVariants.{Rest, Emptying}
 use Rattle.mbj_core.specs.declared.cells.TheConstants.{CELLS}
 use Rattle.mbj_core.specs.Cells.{Cell, free, ready, done, open_by, hand_of, take_by, cell_of}
 use Rattle.mbj_core.specs.Parties.{view, front, FrontState, new_party}
-use Rattle.mbj_core.specs.Lawful.{Fits, Lawful}
+use Rattle.mbj_core.specs.Lawful.{Lawful}
+use Rattle.mbj_core.proofs.Fitting.{rest_open, rest_take, Fits, free_there, lawful, each_number}
 use Rattle.mbj_core.proofs.Puts.{put, at_put, put_here, put_else}
 use Rattle.mbj_core.proofs.Entries.{at_longer, at_middle}
 use Rattle.mbj_core.proofs.Hands.{is_hand, not_in_hand}
-
-pub rest_open : Rest ≢ Opening
-rest_open e = cc
-
-pub rest_take : Rest ≢ Emptying
-rest_take e = cc
-
-pub open_take : Opening ≢ Emptying
-open_take e = cc
 
 -- two submitters have no cell in common, and two numbers in one turn have two cells
 pub one_owner : (s t n m : ℕ) → cell_of s n ≡ cell_of t m → s ≡ t
@@ -34,11 +26,6 @@ one_number s h n m a b c d e = omega arith
 pub near : (S s n : ℕ) → s < S → cell_of s n < CELLS * S
 near S s n l = omega arith
 
-module _ {J D : Type 0} where
-  -- the cell y is x
-  abbrev pub Is : Cell J D → Cell J D → Type 0
-  Is x y = y ≡ x
-
 module _ {J D : Type 0} (owed : J → D) where
   -- the part of the submitter p changes, but not its hand, and one of its cells
   pub reposts : (S W : ℕ) (f : FrontState J D) (p m : ℕ) (x : Cell J D) (st : Stage) (due : List D) (handed : ℕ) (looks : List (ℕ × ℕ)) → Lawful owed S W f → p < S
@@ -46,13 +33,13 @@ module _ {J D : Type 0} (owed : J → D) where
       → let w : View D = view (f.seats p).number st due handed (f.seats p).hand looks in
       ((n : ℕ) → handed ≤ n → n < handed + CELLS → Fits owed w p n (put f.cells (cell_of p m) x (cell_of p n)))
       → Lawful owed S W (front (put f.cells (cell_of p m) x) (put f.seats p w))
-  reposts S W f p m x st due handed looks law less a b c some quiet quiet' numbers = let w : View D = view (f.seats p).number st due handed (f.seats p).hand looks in let i : ℕ = cell_of p m in record {
+  reposts S W f p m x st due handed looks law less a b c some quiet quiet' numbers = let w : View D = view (f.seats p).number st due handed (f.seats p).hand looks in let i : ℕ = cell_of p m in lawful owed S W _ (record {
     behind = λ s. at_put f.seats p w (λ q y. y.handed ≤ length y.due) s a (λ _. law.behind s);
     within = λ s. at_put f.seats p w (λ q y. length y.due ≤ y.handed + CELLS) s b (λ _. law.within s);
     spare = λ s. at_put f.seats p w (λ q y. y.stage ≢ Rest → length y.due < y.handed + CELLS) s c (λ _. law.spare s);
     emptied = λ s. at_put f.seats p w (λ q y. y.stage ≡ Emptying → 1 ≤ y.handed) s some (λ _. law.emptied s);
     each_number = λ s n l. at_put f.seats p w (λ q y. y.handed ≤ n → n < y.handed + CELLS → Fits owed y q n (put f.cells i x (cell_of q n))) s (λ lo hi. numbers n lo hi)
-        (λ other lo hi. subst (Fits owed (f.seats s) s n) (sym (put_else f.cells i (cell_of s n) x (λ e. other (one_owner s p n m e)))) (law.each_number s n l lo hi));
+        (λ other lo hi. subst (Fits owed (f.seats s) s n) (sym (put_else f.cells i (cell_of s n) x (λ e. other (one_owner s p n m e)))) (each_number owed S W f law s n l lo hi));
     in_hand = λ q k j d. at_put f.seats p w (λ q y. slice_get y.hand k ≡ Some (j, d) → (j < CELLS * S) × (put f.cells i x j ≡ hand_of q d)) q (mine p k j d) (λ _. mine q k j d);
     held = λ q j d l. at_put f.cells i x (λ j y. j < CELLS * S → y ≡ hand_of q d → (k : ℕ) × (slice_get (put f.seats p w q).hand k ≡ Some (j, d))) j
         (λ _ h. absurd (not_in_hand x q d quiet' h))
@@ -60,19 +47,10 @@ module _ {J D : Type 0} (owed : J → D) where
     once = λ q k l j d e. at_put f.seats p w (λ q y. slice_get y.hand k ≡ Some (j, d) → slice_get y.hand l ≡ Some (j, e) → k ≡ l) q (law.once p k l j d e) (λ _. law.once q k l j d e);
     posters = λ q far. at_put f.seats p w (λ q y. S ≤ q → (y.due ≡ []) × (y.stage ≡ Rest)) q (λ far. absurd (omega arith)) (λ _. law.posters q) far;
     nobody = λ q far. at_put f.seats p w (λ q y. S + W ≤ q → y ≡ new_party q) q (λ far. absurd (omega arith)) (λ _. law.nobody q) far;
-  }
+  })
     where
       mine : (q k j : ℕ) (d : D) → slice_get (f.seats q).hand k ≡ Some (j, d) → (j < CELLS * S) × (put f.cells (cell_of p m) x j ≡ hand_of q d)
       mine q k j d at = let was = law.in_hand q k j d at in (was.0, put_else f.cells (cell_of p m) j x (λ e. not_in_hand (f.cells j) q d (ap (λ (t : ℕ). is_hand (f.cells t)) e ∙ quiet) was.1) ∙ was.1)
-
-  -- at rest, the cell of a number that isn't out is free
-  pub free_there : (v : View D) (s n : ℕ) (y : Cell J D) → Fits owed v s n y → v.stage ≡ Rest → length v.due ≤ n → Is free y
-  free_there v s n free h r e = refl
-  free_there v s n (ready j) h r e = let l = slice_get_within v.due n (owed j) h in absurd (omega arith)
-  free_there v s n (done d) h r e = let l = slice_get_within v.due n d h in absurd (omega arith)
-  free_there v s n (open_by p) h r e = absurd (rest_open (sym r ∙ h.2))
-  free_there v s n (hand_of p d) h r e = let l = slice_get_within v.due n d h in absurd (omega arith)
-  free_there v s n (take_by p) h r e = absurd (rest_take (sym r ∙ h.2))
 
   posted_fits : (v : View D) (d : D) (looks : List (ℕ × ℕ)) (s n : ℕ) (y : Cell J D) → Fits owed v s n y → v.stage ≢ Emptying → n ≢ length v.due → Fits owed (view v.number Rest (v.due ++ d ∷ []) v.handed v.hand looks) s n y
   posted_fits v d looks s n free h r ne = (omega (arith, h.0, length-append v.due (d ∷ [])), (λ e. absurd (rest_open e)), λ e. absurd (rest_take e))
@@ -94,7 +72,7 @@ module _ {J D : Type 0} (owed : J → D) where
       (λ e. subst (λ (k : ℕ). Fits owed w p k (put f.cells i x (cell_of p k))) (sym e)
       (subst (Fits owed w p m) (sym (put_here f.cells i x)) (at_middle v.due [] d)))
       (λ ne. subst (Fits owed w p n) (sym (put_else f.cells i (cell_of p n) x (λ e. ne (one_number p v.handed n m lo hi lo0 room e))))
-      (posted_fits v d looks p n (f.cells (cell_of p n)) (law.each_number p n less lo hi) at ne)))
+      (posted_fits v d looks p n (f.cells (cell_of p n)) (each_number owed S W f law p n less lo hi) at ne)))
 
   -- the submitter at rest posts a job
   pub posts : (S W : ℕ) (f : FrontState J D) (p : ℕ) (j : J) (looks : List (ℕ × ℕ)) → Lawful owed S W f → p < S → (f.seats p).stage ≡ Rest → length (f.seats p).due < (f.seats p).handed + CELLS
@@ -102,7 +80,7 @@ module _ {J D : Type 0} (owed : J → D) where
       (f.cells i ≡ free) × Lawful owed S W (front (put f.cells i (ready j)) (put f.seats p (view v.number Rest (v.due ++ owed j ∷ []) v.handed v.hand looks)))
   posts S W f p j looks law less at_rest room =
       let v : View D = f.seats p in let m : ℕ = length v.due in let i : ℕ = cell_of p m in
-      let here = free_there v p m (f.cells i) (law.each_number p m less (law.behind p) room) at_rest (omega arith) in
+      let here = free_there owed v p m (f.cells i) (each_number owed S W f law p m less (law.behind p) room) at_rest (omega arith) in
       (here, fills S W f p j looks law less (λ e. rest_take (sym at_rest ∙ e)) room (ap is_hand here))
 
   collected_fits : (v : View D) (looks : List (ℕ × ℕ)) (s n : ℕ) (y : Cell J D) → Fits owed v s n y → v.stage ≡ Rest → Fits owed (view v.number Rest v.due (v.handed + 1) v.hand looks) s n y
@@ -120,12 +98,12 @@ module _ {J D : Type 0} (owed : J → D) where
   collects S W f p d looks law less at_rest is =
       let v : View D = f.seats p in let h : ℕ = v.handed in let i : ℕ = cell_of p h in let x : Cell J D = free in let w : View D = view v.number Rest v.due (h + 1) v.hand looks in
       let b = law.behind p in let c = law.within p in
-      let due : slice_get v.due h ≡ Some d = subst (Fits owed v p h) is (law.each_number p h less (omega arith) (omega arith)) in
+      let due : slice_get v.due h ≡ Some d = subst (Fits owed v p h) is (each_number owed S W f law p h less (omega arith) (omega arith)) in
       let some_out = slice_get_within v.due h d due in (
         due,
         reposts S W f p h x Rest v.due (h + 1) looks law less (omega arith) (omega arith) (λ e. absurd (e refl)) (λ e. absurd (rest_take e)) (ap is_hand is) refl
             (λ n lo hi. dite (ℕ_discrete n (h + CELLS))
             (λ e. subst (λ (k : Cell J D). Fits owed w p n k) (sym (put_here f.cells i x) ∙ ap (put f.cells i x) (let same : i ≡ cell_of p n = omega arith in same)) (omega arith, (λ e. absurd (rest_open e)), λ e. absurd (rest_take e)))
             (λ ne. subst (Fits owed w p n) (sym (put_else f.cells i (cell_of p n) x (λ e. let same = one_number p h n h (omega arith) (omega arith) (omega arith) (omega arith) e in absurd (omega arith))))
-            (collected_fits v looks p n (f.cells (cell_of p n)) (law.each_number p n less (omega arith) (omega arith)) at_rest))),
+            (collected_fits v looks p n (f.cells (cell_of p n)) (each_number owed S W f law p n less (omega arith) (omega arith)) at_rest))),
       )

@@ -13,7 +13,8 @@ use Rattle.mbj_core.specs.Lawful.{Lawful}
 use Rattle.mbj_core.specs.Events.{Event, post, claim, finish, collect, Answer, accepted, returned, claimed, collected, nothing, Changes, Step}
 use Rattle.mbj_core.specs.Runs.{Run, posted_by, collected_by}
 use Rattle.mbj_core.proofs.Hands.{not_in_hand}
-use Rattle.mbj_core.proofs.Posts.{rest_open, rest_take, collects}
+use Rattle.mbj_core.proofs.Fitting.{rest_open, rest_take, lawful}
+use Rattle.mbj_core.proofs.Posts.{collects}
 use Rattle.mbj_core.proofs.Steps.{Sound, step_sound}
 
 module _ {D : Type 0} where
@@ -102,7 +103,7 @@ module _ {J D : Type 0} (owed : J → D) (submitters workers : ℕ) where
   pub new_front_sound : Sound owed submitters workers new_front
   new_front_sound = (
     λ p. refl,
-    record {
+    lawful owed submitters workers _ (record {
       behind = λ s. omega arith;
       within = λ s. omega arith;
       spare = λ s e. absurd (e refl);
@@ -113,7 +114,7 @@ module _ {J D : Type 0} (owed : J → D) (submitters workers : ℕ) where
       once = λ p k l c d e h i. absurd (none-some (c, d) h);
       posters = λ p l. (refl, refl);
       nobody = λ p l. refl;
-    },
+    }),
   )
 
   pub events_keep_the_law : (events : List (Event J D × Answer J D)) (f : FrontState J D) → Run owed submitters workers new_front events f → Lawful owed submitters workers f

@@ -2,7 +2,6 @@
 -- publishing its job, taking a result and freeing its cell. Each leads from a lawful state to a lawful one.
 use Rattle.std.proofs.Common.{◌≡◌, ◌≢◌, ℕ, ◌+◌, ◌-◌, ◌<◌, List, [], ◌∷◌, ◌++◌, length, sym, refl, ap, ◌∙◌, subst, arith}
 use Rattle.std.specs.Prelude.{Some, slice_get}
-use Rattle.std.proofs.lemmas.Option.{slice_get_within}
 use mathlib.Core.Logic.{dite}
 use native.Mathlib.Decide.{ℕ_discrete}
 use Rattle.mbj_core.specs.declared.party.View.{View}
@@ -10,10 +9,11 @@ use Rattle.mbj_core.specs.declared.party.Stage.TheVariants.{Rest, Opening, Empty
 use Rattle.mbj_core.specs.declared.cells.TheConstants.{CELLS}
 use Rattle.mbj_core.specs.Cells.{Cell, free, ready, done, open_by, hand_of, take_by, word_of, cell_of}
 use Rattle.mbj_core.specs.Parties.{view, front, FrontState}
-use Rattle.mbj_core.specs.Lawful.{Fits, Lawful}
+use Rattle.mbj_core.specs.Lawful.{Lawful}
+use Rattle.mbj_core.proofs.Fitting.{rest_open, rest_take, open_take, Is, Fits, free_there, open_there, take_there, each_number}
 use Rattle.mbj_core.proofs.Puts.{put, put_here, put_else}
 use Rattle.mbj_core.proofs.Hands.{is_hand}
-use Rattle.mbj_core.proofs.Posts.{rest_open, rest_take, open_take, one_number, reposts, Is, free_there, fills}
+use Rattle.mbj_core.proofs.Posts.{one_number, reposts, fills}
 
 module _ {J D : Type 0} (owed : J → D) where
   opened_fits : (v : View D) (looks : List (ℕ × ℕ)) (s n : ℕ) (y : Cell J D) → Fits owed v s n y → v.stage ≡ Rest → n ≢ length v.due → Fits owed (view v.number Opening v.due v.handed v.hand looks) s n y
@@ -30,23 +30,15 @@ module _ {J D : Type 0} (owed : J → D) where
       (f.cells i ≡ free) × Lawful owed S W (front (put f.cells i (open_by p)) (put f.seats p (view v.number Opening v.due v.handed v.hand looks)))
   opens S W f p looks law less at_rest room =
       let v : View D = f.seats p in let m : ℕ = length v.due in let i : ℕ = cell_of p m in let x : Cell J D = open_by p in
-      let here = free_there owed v p m (f.cells i) (law.each_number p m less (law.behind p) room) at_rest (omega arith) in (
+      let here = free_there owed v p m (f.cells i) (each_number owed S W f law p m less (law.behind p) room) at_rest (omega arith) in (
         here,
         reposts owed S W f p m x Opening v.due v.handed looks law less (law.behind p) (law.within p) (λ _. room) (λ e. absurd (open_take e)) (ap is_hand here) refl
             (λ n lo hi. dite (ℕ_discrete n m)
             (λ e. subst (λ (k : ℕ). Fits owed (view v.number Opening v.due v.handed v.hand looks) p k (put f.cells i x (cell_of p k))) (sym e)
             (subst (Fits owed (view v.number Opening v.due v.handed v.hand looks) p m) (sym (put_here f.cells i x)) (refl, refl, refl)))
             (λ ne. subst (Fits owed (view v.number Opening v.due v.handed v.hand looks) p n) (sym (put_else f.cells i (cell_of p n) x (λ e. ne (one_number p v.handed n m lo hi (law.behind p) room e))))
-            (opened_fits v looks p n (f.cells (cell_of p n)) (law.each_number p n less lo hi) at_rest ne))),
+            (opened_fits v looks p n (f.cells (cell_of p n)) (each_number owed S W f law p n less lo hi) at_rest ne))),
       )
-
-  open_there : (v : View D) (s n : ℕ) (y : Cell J D) → Fits owed v s n y → v.stage ≡ Opening → n ≡ length v.due → Is (open_by s) y
-  open_there v s n free h r e = absurd (h.1 r e)
-  open_there v s n (ready j) h r e = let l = slice_get_within v.due n (owed j) h in absurd (omega arith)
-  open_there v s n (done d) h r e = let l = slice_get_within v.due n d h in absurd (omega arith)
-  open_there v s n (open_by p) h r e = ap open_by h.1
-  open_there v s n (hand_of p d) h r e = let l = slice_get_within v.due n d h in absurd (omega arith)
-  open_there v s n (take_by p) h r e = absurd (open_take (sym r ∙ h.2))
 
   -- the cell that the submitter fills gets a job
   pub publishes : (S W : ℕ) (f : FrontState J D) (p : ℕ) (j : J) (looks : List (ℕ × ℕ)) → Lawful owed S W f → p < S → (f.seats p).stage ≡ Opening
@@ -55,7 +47,7 @@ module _ {J D : Type 0} (owed : J → D) where
   publishes S W f p j looks law less at =
       let v : View D = f.seats p in let m : ℕ = length v.due in let i : ℕ = cell_of p m in
       let room = law.spare p (λ e. rest_open (sym e ∙ at)) in
-      let here = open_there v p m (f.cells i) (law.each_number p m less (law.behind p) room) at refl in
+      let here = open_there owed v p m (f.cells i) (each_number owed S W f law p m less (law.behind p) room) at refl in
       (here, fills owed S W f p j looks law less (λ e. open_take (sym at ∙ e)) room (ap is_hand here))
 
   -- at the cell of the number handed stands a result where its word is 2
@@ -87,15 +79,7 @@ module _ {J D : Type 0} (owed : J → D) where
       (λ n lo hi. dite (ℕ_discrete n (h + CELLS))
       (λ e. subst (λ (k : Cell J D). Fits owed w p n k) (sym (put_here f.cells i x) ∙ ap (put f.cells i x) (let same : i ≡ cell_of p n = omega arith in same)) (omega arith, refl, refl))
       (λ ne. subst (Fits owed w p n) (sym (put_else f.cells i (cell_of p n) x (λ e. let same = one_number p h n h (omega arith) (omega arith) (omega arith) (omega arith) e in absurd (omega arith))))
-      (taken_fits v looks p n (f.cells (cell_of p n)) (law.each_number p n less (omega arith) (omega arith)) at_rest (omega arith))))
-
-  take_there : (v : View D) (s n : ℕ) (y : Cell J D) → Fits owed v s n y → v.stage ≡ Emptying → n + 1 ≡ v.handed + CELLS → length v.due < v.handed + CELLS → Is (take_by s) y
-  take_there v s n free h r e le = absurd (h.2 r e)
-  take_there v s n (ready j) h r e le = let l = slice_get_within v.due n (owed j) h in absurd (omega arith)
-  take_there v s n (done d) h r e le = let l = slice_get_within v.due n d h in absurd (omega arith)
-  take_there v s n (open_by p) h r e le = absurd (open_take (sym h.2 ∙ r))
-  take_there v s n (hand_of p d) h r e le = let l = slice_get_within v.due n d h in absurd (omega arith)
-  take_there v s n (take_by p) h r e le = ap take_by h.1
+      (taken_fits v looks p n (f.cells (cell_of p n)) (each_number owed S W f law p n less (omega arith) (omega arith)) at_rest (omega arith))))
 
   freed_fits : (v : View D) (looks : List (ℕ × ℕ)) (s n : ℕ) (y : Cell J D) → Fits owed v s n y → v.stage ≡ Emptying → n + 1 ≢ v.handed + CELLS → Fits owed (view v.number Rest v.due v.handed v.hand looks) s n y
   freed_fits v looks s n free h r ne = (h.0, (λ e. absurd (rest_open e)), λ e. absurd (rest_take e))
@@ -112,12 +96,12 @@ module _ {J D : Type 0} (owed : J → D) where
   frees S W f p looks law less at =
       let v : View D = f.seats p in let m : ℕ = v.handed + (CELLS - 1) in let i : ℕ = cell_of p m in let x : Cell J D = free in let w : View D = view v.number Rest v.due v.handed v.hand looks in
       let room : length v.due < v.handed + CELLS = law.spare p (λ e. rest_take (sym e ∙ at)) in
-      let here = take_there v p m (f.cells i) (law.each_number p m less (omega arith) (omega arith)) at (omega arith) room in (
+      let here = take_there owed v p m (f.cells i) (each_number owed S W f law p m less (omega arith) (omega arith)) at (omega arith) room in (
         here,
         reposts owed S W f p m x Rest v.due v.handed looks law less (law.behind p) (law.within p) (λ e. absurd (e refl)) (λ e. absurd (rest_take e)) (ap is_hand here) refl
             (λ n lo hi. dite (ℕ_discrete n m)
             (λ e. subst (λ (k : ℕ). Fits owed w p k (put f.cells i x (cell_of p k))) (sym e)
             (subst (Fits owed w p m) (sym (put_here f.cells i x)) (omega arith, (λ e. absurd (rest_open e)), λ e. absurd (rest_take e))))
             (λ ne. subst (Fits owed w p n) (sym (put_else f.cells i (cell_of p n) x (λ e. ne (one_number p v.handed n m lo hi (omega arith) (omega arith) e))))
-            (freed_fits v looks p n (f.cells (cell_of p n)) (law.each_number p n less lo hi) at (λ e. ne (omega arith))))),
+            (freed_fits v looks p n (f.cells (cell_of p n)) (each_number owed S W f law p n less lo hi) at (λ e. ne (omega arith))))),
       )

@@ -1,27 +1,11 @@
 -- The law of the front: what holds in each state that events lead to.
-use Rattle.std.specs.Prelude.{◌≡◌, ◌≢◌, ℕ, ◌+◌, ◌*◌, ◌<◌, ◌≤◌, [], length, slice_get, Some}
-use Rattle.mbj_core.specs.Cells.{Cell, free, ready, done, open_by, hand_of, take_by, cell_of}
+use Rattle.std.specs.Prelude.{◌≡◌, ◌≢◌, ℕ, ◌+◌, ◌-◌, ◌*◌, ◌<◌, ◌≤◌, [], length, slice_get, Some}
+use Rattle.mbj_core.specs.Cells.{free, open_by, hand_of, take_by, result_in, cell_of}
 use Rattle.mbj_core.specs.Parties.{FrontState, new_party}
 use Rattle.mbj_core.specs.declared.cells.TheConstants.{CELLS}
-use Rattle.mbj_core.specs.declared.party.View.{View}
 use Rattle.mbj_core.specs.declared.party.Stage.TheVariants.{Rest, Opening, Emptying}
 
 module _ {J D : Type 0} (owed : J → D) where
-  -- What the cell of the number n may hold, for a submitter s whose part is v. The number is one of the CELLS numbers
-  -- from v.handed on, so each cell of s is that of exactly one of them. The cell of the number v.handed - 1, which was
-  -- handed out last, is that of the last of them, v.handed + CELLS - 1.
-  abbrev pub Fits : View D → ℕ → ℕ → Cell J D → Type 0
-  -- n isn't out, and its cell is neither being filled nor being emptied
-  Fits v s n free = (length v.due ≤ n) × (v.stage ≡ Opening → n ≢ length v.due) × (v.stage ≡ Emptying → n + 1 ≢ v.handed + CELLS)
-  -- n is out, and this is its result
-  Fits v s n (ready j) = slice_get v.due n ≡ Some (owed j)
-  Fits v s n (done d) = slice_get v.due n ≡ Some d
-  Fits v s n (hand_of p d) = slice_get v.due n ≡ Some d
-  -- n is the number of the next job, and the submitter fills its cell
-  Fits v s n (open_by p) = (n ≡ length v.due) × (p ≡ s) × (v.stage ≡ Opening)
-  -- the submitter empties the cell of the number v.handed - 1
-  Fits v s n (take_by p) = (n + 1 ≡ v.handed + CELLS) × (p ≡ s) × (v.stage ≡ Emptying)
-
   pub record Lawful (submitters workers : ℕ) (f : FrontState J D) : Type 0 where
     -- no more results are handed out than are due
     pub behind : (s : ℕ) → (f.seats s).handed ≤ length (f.seats s).due
@@ -31,8 +15,16 @@ module _ {J D : Type 0} (owed : J → D) where
     pub spare : (s : ℕ) → (f.seats s).stage ≢ Rest → length (f.seats s).due < (f.seats s).handed + CELLS
     -- a submitter that empties a cell has been handed a result
     pub emptied : (s : ℕ) → (f.seats s).stage ≡ Emptying → 1 ≤ (f.seats s).handed
-    -- each cell of a submitter holds what fits its number
-    pub each_number : (s n : ℕ) → s < submitters → (f.seats s).handed ≤ n → n < (f.seats s).handed + CELLS → Fits (f.seats s) s n (f.cells (cell_of s n))
+    -- the cell of a number that is out has that number's result: it holds its job or the result, or is in a hand with it
+    pub each_out : (s n : ℕ) → s < submitters → (f.seats s).handed ≤ n → n < length (f.seats s).due → result_in owed (f.cells (cell_of s n)) ≡ slice_get (f.seats s).due n
+    -- a submitter that fills a cell fills that of its next number
+    pub filling : (s : ℕ) → s < submitters → (f.seats s).stage ≡ Opening → f.cells (cell_of s (length (f.seats s).due)) ≡ open_by s
+    -- a submitter that empties a cell empties that of the number that was handed out last
+    pub emptying : (s : ℕ) → s < submitters → (f.seats s).stage ≡ Emptying → f.cells (cell_of s ((f.seats s).handed - 1)) ≡ take_by s
+    -- each other cell of a submitter is free: the CELLS numbers from the first that is out on have all its cells
+    pub idle : (s n : ℕ) → s < submitters → length (f.seats s).due ≤ n → n < (f.seats s).handed + CELLS
+        → ((f.seats s).stage ≡ Opening → cell_of s n ≢ cell_of s (length (f.seats s).due)) → ((f.seats s).stage ≡ Emptying → cell_of s n ≢ cell_of s ((f.seats s).handed - 1))
+        → f.cells (cell_of s n) ≡ free
     -- a cell in a hand says whose hand it is, and the same result
     pub in_hand : (p k c : ℕ) (d : D) → slice_get (f.seats p).hand k ≡ Some (c, d) → (c < CELLS * submitters) × (f.cells c ≡ hand_of p d)
     -- a cell that is said to be in a hand is there
@@ -43,3 +35,11 @@ module _ {J D : Type 0} (owed : J → D) where
     pub posters : (p : ℕ) → submitters ≤ p → ((f.seats p).due ≡ []) × ((f.seats p).stage ≡ Rest)
     -- there are no other parties
     pub nobody : (p : ℕ) → submitters + workers ≤ p → f.seats p ≡ new_party p
+
+  -- no state is lawful in which a party empties a cell before a result is handed to it
+  abbrev pub EmptiesAfterAResult : Type 0
+  EmptiesAfterAResult = (submitters workers s : ℕ) (f : FrontState J D) → (f.seats s).handed ≡ 0 → (f.seats s).stage ≡ Emptying → ¬ Lawful submitters workers f
+
+  -- no state is lawful in which a party past submitters and workers has anything
+  abbrev pub OthersHaveNothing : Type 0
+  OthersHaveNothing = (submitters workers p : ℕ) (f : FrontState J D) → submitters + workers ≤ p → f.seats p ≢ new_party p → ¬ Lawful submitters workers f

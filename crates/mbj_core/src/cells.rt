@@ -18,6 +18,13 @@ pub const MAX_SUBMITTERS: u32 = 16;
 /// The most workers that a front has.
 pub const MAX_WORKERS: u32 = 16;
 
+/// A law: a submitter has 256 cells, and a front at most 16 submitters and 16 workers.
+pub fn the_front_has_these_limits()
+    ensures cells { CELLS ≡ 256 }
+    ensures submitters { MAX_SUBMITTERS ≡ 16 }
+    ensures workers { MAX_WORKERS ≡ 16 }
+{}
+
 /// What a cell of the core holds.
 #[derive(Drop)]
 pub(crate) enum Slot {

@@ -9,7 +9,7 @@ ghost use Rattle.mbj_core.specs.Lawful.{Lawful};
 ghost use Rattle.mbj_core.specs.Events.{post, finish, collect, accepted};
 ghost use Rattle.mbj_core.specs.Answers.{post_answer, collect_answer};
 ghost use Rattle.mbj_core.specs.CoreStates.{new_core, out_of, first_cell, HasJob, HasHand, HasResult, posted, finished, handed_out};
-ghost use Rattle.mbj_core.specs.Stands.{StandsFor, Leads};
+ghost use Rattle.mbj_core.specs.Stands.{StandsFor, Leads, IsBacked};
 
 use crate::cells::{CELLS, Slot, cell_at, free_cells};
 use crate::hand::{Hand, empty_hands};
@@ -180,6 +180,13 @@ impl Core {
         self.firsts[submitter] = (first + 1) % CELLS;
         self.outs[submitter] = out - 1;
         Some(done)
+    }
+
+    /// A law: a core stands for at least one state.
+    pub fn stands_for_a_state(&self)
+        ensures { IsBacked self.now }
+    {
+        let _ = &self.submitters;
     }
 
     /// A law: each state that a core stands for is lawful.

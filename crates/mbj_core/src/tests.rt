@@ -173,3 +173,20 @@ fn a_submitter_has_256_cells(rt: HostRuntime) -> Result<(), Fail> {
     assert_eq!(rt; core.first_cell(0), 1);
     Ok(())
 }
+
+// Sixteen submitters and sixteen workers, the last of which claims the last submitter's job.
+#[test]
+fn the_most_parties(rt: HostRuntime) -> Result<(), Fail> {
+    let mut core = Core::new(rt.alloc(), MAX_SUBMITTERS, MAX_WORKERS)?;
+    assert_eq!(rt; core.workers(), 16);
+    let steps = [
+        (Move::Post(15, 1), None),
+        (Move::Claim(31, 3840), Some(1)),
+        (Move::Finish(31, 3840), None),
+        (Move::Collect(15), Some(1)),
+    ];
+    for (step, got) in &steps {
+        assert_eq!(rt; play(&mut core, rt.alloc(), step)?, *got);
+    }
+    Ok(())
+}
