@@ -10,4 +10,5 @@ pub mod Names
 pub mod ScriptLaws
 pub mod ReplayLaws
 pub mod Flows
+pub mod Lines
 pub mod HexText

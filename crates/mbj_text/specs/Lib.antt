@@ -7,4 +7,5 @@ pub mod File
 pub mod Replay
 pub mod Reading
 pub mod Flow
+pub mod Inside
 pub mod Line

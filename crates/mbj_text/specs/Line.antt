@@ -1,5 +1,5 @@
 -- The lines of results. Numbers are in decimal, and each line ends with LF.
-use Rattle.std.specs.Prelude.{ℕ, ◌+◌, List, [], ◌∷◌, ◌++◌, codes, decimal}
+use Rattle.std.specs.Prelude.{ℕ, ◌+◌, List, [], ◌∷◌, ◌++◌, Option, Some, None, codes, decimal}
 use Rattle.hex.specs.Hex.{encode_lower}
 use Rattle.mbj_types.specs.declared.done.Done.{Done}
 use Rattle.mbj_types.specs.declared.done.Status.{Status}
@@ -19,10 +19,19 @@ text_of (Words words) = words.now
 text_of (Number n) = decimal n
 text_of (Hex bytes) = shown bytes.now
 
+-- a number in decimal, or that there is none
+abbrev pub number_or_none : Option ℕ → List ℕ
+number_or_none None = codes "none"
+number_or_none (Some n) = decimal n
+
+-- the parts one after another, and a text behind them
+abbrev pub text_before : List Part → List ℕ → List ℕ
+text_before [] rest = rest
+text_before (part ∷ parts) rest = text_of part ++ text_before parts rest
+
 -- the parts one after another, and LF
 abbrev pub line_of : List Part → List ℕ
-line_of [] = codes "\n"
-line_of (part ∷ parts) = text_of part ++ line_of parts
+line_of parts = text_before parts (codes "\n")
 
 -- `N ok PACKET TAG`
 abbrev pub ok_line : ℕ → List ℕ → List ℕ → List ℕ

@@ -1,7 +1,5 @@
-ghost use Rattle.std.specs.Prelude.{◌≡◌, ◌≤◌, OnOk, OnErr};
-ghost use Rattle.std.specs.Io.KnownBytes.{Appends};
-ghost use Rattle.mbj_io.specs.Faults.{Rose};
-ghost use Rattle.mbj_text.specs.Flow.{GainsPrefix};
+ghost use Rattle.mbj_io.specs.Streams.{stream};
+ghost use Rattle.mbj_text.specs.Flow.{Writes};
 ghost use Rattle.mbj_text.specs.Line.{ok_line, invalid_line, done_line};
 
 use crate::line::{Part, write_line};
@@ -14,14 +12,7 @@ use mbj_types::{Done, Status};
 /// [`Failed`] comes only where the sink's faults rose; the sink has then taken a front of the line.
 /// It takes no memory.
 pub fn write_done<O: Sink>(sink: &mut O, n: u32, done: &Done) -> Result<(), Failed>
-    ensures ok { OnOk result (Appends (O.held sink.old) (O.held sink.new)
-        (done_line n done.now)) }
-    ensures err { OnErr result (GainsPrefix (O.held sink.old) (O.held sink.new)
-        (done_line n done.now)) }
-
-    ensures never_falls { O.faults sink.old ≤ O.faults sink.new }
-    ensures calm { OnOk result (O.faults sink.new ≡ O.faults sink.old) }
-    ensures failed { OnErr result (Rose (O.faults sink.old) (O.faults sink.new)) }
+    ensures { Writes result (stream O.held O.faults sink.old sink.new) (done_line n done.now) }
 {
     match done.status {
         Status::Ok => write_ok_line(sink, n, done.packet.as_slice(), done.tag.bytes()),
@@ -36,14 +27,7 @@ fn write_ok_line<'a, O: Sink>(
     packet: &'a [u8],
     tag: &'a [u8],
 ) -> Result<(), Failed>
-    ensures ok { OnOk result (Appends (O.held sink.old) (O.held sink.new)
-        (ok_line n packet.now tag.now)) }
-    ensures err { OnErr result (GainsPrefix (O.held sink.old) (O.held sink.new)
-        (ok_line n packet.now tag.now)) }
-
-    ensures never_falls { O.faults sink.old ≤ O.faults sink.new }
-    ensures calm { OnOk result (O.faults sink.new ≡ O.faults sink.old) }
-    ensures failed { OnErr result (Rose (O.faults sink.old) (O.faults sink.new)) }
+    ensures { Writes result (stream O.held O.faults sink.old sink.new) (ok_line n packet.now tag.now) }
 {
     let parts = [
         Part::Number(u64::from(n)),
@@ -57,13 +41,7 @@ fn write_ok_line<'a, O: Sink>(
 
 /// Writes `N invalid-args R`.
 fn write_invalid_line<O: Sink>(sink: &mut O, n: u32, reason: u8) -> Result<(), Failed>
-    ensures ok { OnOk result (Appends (O.held sink.old) (O.held sink.new) (invalid_line n reason)) }
-    ensures err { OnErr result (GainsPrefix (O.held sink.old) (O.held sink.new)
-        (invalid_line n reason)) }
-
-    ensures never_falls { O.faults sink.old ≤ O.faults sink.new }
-    ensures calm { OnOk result (O.faults sink.new ≡ O.faults sink.old) }
-    ensures failed { OnErr result (Rose (O.faults sink.old) (O.faults sink.new)) }
+    ensures { Writes result (stream O.held O.faults sink.old sink.new) (invalid_line n reason) }
 {
     write_line(
         sink,

@@ -17,6 +17,7 @@ mod piece;
 mod replay;
 mod script;
 mod split;
+mod text_line;
 mod words;
 mod writing;
 
@@ -25,8 +26,9 @@ pub use done::write_done;
 pub use fault::TextFault;
 pub use file::{each_file_is_one, read_file, table_and_names_agree};
 pub use limits::{INPUT_LIMIT, JOB_LIMIT};
-pub use line::{Part, write_line};
+pub use line::{Part, write_line, write_parts};
 pub use replay::{each_replay_is_one, read_replay};
+pub use text_line::{TextLine, write_lines};
 pub use writing::write_all;
 
 #[cfg(test)]

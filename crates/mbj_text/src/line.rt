@@ -1,9 +1,9 @@
-ghost use Rattle.std.specs.Prelude.{◌≡◌, ◌≤◌, ◌++◌, OnOk, OnErr, length};
+ghost use Rattle.std.specs.Prelude.{◌≡◌, ◌≤◌, ◌++◌, [], length};
 ghost use Rattle.hex.specs.Hex.{encode_lower};
-ghost use Rattle.std.specs.Io.KnownBytes.{Appends};
-ghost use Rattle.mbj_io.specs.Faults.{Rose};
-ghost use Rattle.mbj_text.specs.Flow.{Flows, GainsPrefix};
-ghost use Rattle.mbj_text.specs.Line.{line_of, text_of};
+ghost use Rattle.mbj_io.specs.Streams.{stream};
+ghost use Rattle.mbj_text.specs.Flow.{Writes};
+ghost use Rattle.mbj_text.specs.Inside.Pieces.{Puts};
+ghost use Rattle.mbj_text.specs.Line.{line_of, number_or_none, text_before, text_of};
 
 use crate::piece::{PIECE_LEN, Piece};
 use mbj_io::{Failed, Sink};
@@ -22,16 +22,21 @@ pub enum Part<'a> {
     Hex(&'a [u8]),
 }
 
+impl Part<'_> {
+    /// A number in decimal, or `none`.
+    pub fn or_none(number: Option<u32>) -> Part<'static>
+        ensures { text_of result ≡ number_or_none number }
+    {
+        match number {
+            Some(number) => Part::Number(number as u64),
+            None => Part::Words("none"),
+        }
+    }
+}
+
 /// Puts the part's text behind what waits.
 fn put_part<O: Sink>(piece: &mut Piece, sink: &mut O, part: Part) -> Result<(), Failed>
-    ensures ok { OnOk result (Flows (O.held sink.old) (O.held sink.new)
-        (piece.old ++ text_of part.entry) piece.new) }
-    ensures err { OnErr result (GainsPrefix (O.held sink.old) (O.held sink.new)
-        (piece.old ++ text_of part.entry)) }
-
-    ensures never_falls { O.faults sink.old ≤ O.faults sink.new }
-    ensures calm { OnOk result (O.faults sink.new ≡ O.faults sink.old) }
-    ensures failed { OnErr result (Rose (O.faults sink.old) (O.faults sink.new)) }
+    ensures { Puts result (stream O.held O.faults sink.old sink.new) (piece.old ++ text_of part.entry) piece.new }
 {
     match part {
         Part::Words(words) => piece.put(sink, words.as_bytes()),
@@ -43,14 +48,7 @@ fn put_part<O: Sink>(piece: &mut Piece, sink: &mut O, part: Part) -> Result<(), 
 
 /// Puts the bytes in lower-case hexadecimal behind what waits.
 fn put_hex<O: Sink>(piece: &mut Piece, sink: &mut O, bytes: &[u8]) -> Result<(), Failed>
-    ensures ok { OnOk result (Flows (O.held sink.old) (O.held sink.new)
-        (piece.old ++ encode_lower bytes.now) piece.new) }
-    ensures err { OnErr result (GainsPrefix (O.held sink.old) (O.held sink.new)
-        (piece.old ++ encode_lower bytes.now)) }
-
-    ensures never_falls { O.faults sink.old ≤ O.faults sink.new }
-    ensures calm { OnOk result (O.faults sink.new ≡ O.faults sink.old) }
-    ensures failed { OnErr result (Rose (O.faults sink.old) (O.faults sink.new)) }
+    ensures { Puts result (stream O.held O.faults sink.old sink.new) (piece.old ++ encode_lower bytes.now) piece.new }
 {
     for chunk in bytes.chunks(HEX_STEP) {
         put_hex_chunk(piece, sink, chunk)?;
@@ -60,14 +58,7 @@ fn put_hex<O: Sink>(piece: &mut Piece, sink: &mut O, bytes: &[u8]) -> Result<(),
 
 fn put_hex_chunk<O: Sink>(piece: &mut Piece, sink: &mut O, chunk: &[u8]) -> Result<(), Failed>
     requires { length chunk.now ≤ HEX_STEP }
-    ensures ok { OnOk result (Flows (O.held sink.old) (O.held sink.new)
-        (piece.old ++ encode_lower chunk.now) piece.new) }
-    ensures err { OnErr result (GainsPrefix (O.held sink.old) (O.held sink.new)
-        (piece.old ++ encode_lower chunk.now)) }
-
-    ensures never_falls { O.faults sink.old ≤ O.faults sink.new }
-    ensures calm { OnOk result (O.faults sink.new ≡ O.faults sink.old) }
-    ensures failed { OnErr result (Rose (O.faults sink.old) (O.faults sink.new)) }
+    ensures { Puts result (stream O.held O.faults sink.old sink.new) (piece.old ++ encode_lower chunk.now) piece.new }
 {
     let mut room = [0; PIECE_LEN];
     let digits = &mut room[..2 * chunk.len()];
@@ -77,22 +68,35 @@ fn put_hex_chunk<O: Sink>(piece: &mut Piece, sink: &mut O, chunk: &[u8]) -> Resu
     }
 }
 
-/// Writes the parts one after another, and LF.
+/// Puts the parts, one after another, behind what waits.
+fn put_parts<O: Sink>(piece: &mut Piece, sink: &mut O, parts: &[Part]) -> Result<(), Failed>
+    ensures { Puts result (stream O.held O.faults sink.old sink.new) (piece.old ++ text_before parts.now []) piece.new }
+{
+    for part in parts {
+        put_part(piece, sink, *part)?;
+    }
+    Ok(())
+}
+
+/// Writes the parts one after another, and nothing behind them. It takes no memory.
+///
+/// [`Failed`] comes only where the sink's faults rose; the sink has then taken a front of their text.
+pub fn write_parts<O: Sink>(sink: &mut O, parts: &[Part]) -> Result<(), Failed>
+    ensures { Writes result (stream O.held O.faults sink.old sink.new) (text_before parts.now []) }
+{
+    let mut piece = Piece::new();
+    put_parts(&mut piece, sink, parts)?;
+    piece.finish(sink)
+}
+
+/// Writes the parts one after another, and LF. It takes no memory.
 ///
 /// [`Failed`] comes only where the sink's faults rose; the sink has then taken a front of the line.
 pub fn write_line<O: Sink>(sink: &mut O, parts: &[Part]) -> Result<(), Failed>
-    ensures ok { OnOk result (Appends (O.held sink.old) (O.held sink.new) (line_of parts.now)) }
-    ensures err { OnErr result (GainsPrefix (O.held sink.old) (O.held sink.new)
-        (line_of parts.now)) }
-
-    ensures never_falls { O.faults sink.old ≤ O.faults sink.new }
-    ensures calm { OnOk result (O.faults sink.new ≡ O.faults sink.old) }
-    ensures failed { OnErr result (Rose (O.faults sink.old) (O.faults sink.new)) }
+    ensures { Writes result (stream O.held O.faults sink.old sink.new) (line_of parts.now) }
 {
     let mut piece = Piece::new();
-    for part in parts {
-        put_part(&mut piece, sink, *part)?;
-    }
+    put_parts(&mut piece, sink, parts)?;
     piece.put(sink, b"\n")?;
     piece.finish(sink)
 }

@@ -1,7 +1,7 @@
-ghost use Rattle.std.specs.Prelude.{◌≡◌, ◌+◌, ◌≤◌, ◌<◌, [], ◌++◌, length, OnOk, OnErr};
-ghost use Rattle.std.specs.Io.KnownBytes.{Appends};
-ghost use Rattle.mbj_io.specs.Faults.{Rose};
-ghost use Rattle.mbj_text.specs.Flow.{Flows, GainsPrefix};
+ghost use Rattle.std.specs.Prelude.{◌≡◌, ◌+◌, ◌≤◌, ◌<◌, [], ◌++◌, length, OnOk};
+ghost use Rattle.mbj_io.specs.Streams.{stream};
+ghost use Rattle.mbj_text.specs.Flow.{Writes};
+ghost use Rattle.mbj_text.specs.Inside.Pieces.{Puts};
 
 use crate::writing::write_all;
 use mbj_io::{Failed, Sink};
@@ -42,14 +42,7 @@ impl Piece {
 
     /// Puts a text behind what waits, and writes each piece that is whole and not the last.
     pub(crate) fn put<O: Sink>(&mut self, sink: &mut O, text: &[u8]) -> Result<(), Failed>
-        ensures ok { OnOk result (Flows (O.held sink.old) (O.held sink.new)
-            (self.old ++ text.now) self.new) }
-        ensures err { OnErr result (GainsPrefix (O.held sink.old) (O.held sink.new)
-            (self.old ++ text.now)) }
-
-        ensures never_falls { O.faults sink.old ≤ O.faults sink.new }
-        ensures calm { OnOk result (O.faults sink.new ≡ O.faults sink.old) }
-        ensures failed { OnErr result (Rose (O.faults sink.old) (O.faults sink.new)) }
+        ensures { Puts result (stream O.held O.faults sink.old sink.new) (self.old ++ text.now) self.new }
     {
         let mut rest = text;
         while !rest.is_empty() {
@@ -63,12 +56,7 @@ impl Piece {
 
     /// Writes what still waits.
     pub(crate) fn finish<O: Sink>(self, sink: &mut O) -> Result<(), Failed>
-        ensures ok { OnOk result (Appends (O.held sink.old) (O.held sink.new) self) }
-        ensures err { OnErr result (GainsPrefix (O.held sink.old) (O.held sink.new) self) }
-
-        ensures never_falls { O.faults sink.old ≤ O.faults sink.new }
-        ensures calm { OnOk result (O.faults sink.new ≡ O.faults sink.old) }
-        ensures failed { OnErr result (Rose (O.faults sink.old) (O.faults sink.new)) }
+        ensures { Writes result (stream O.held O.faults sink.old sink.new) self }
     {
         write_all(sink, &self.bytes[..self.len])
     }
@@ -91,13 +79,8 @@ impl Piece {
 
     /// Writes the piece if it is whole.
     fn make_room<O: Sink>(&mut self, sink: &mut O) -> Result<(), Failed>
-        ensures ok { OnOk result (Flows (O.held sink.old) (O.held sink.new) self.old self.new) }
+        ensures put { Puts result (stream O.held O.faults sink.old sink.new) self.old self.new }
         ensures room { OnOk result (length self.new < PIECE_LEN) }
-        ensures err { OnErr result (GainsPrefix (O.held sink.old) (O.held sink.new) self.old) }
-
-        ensures never_falls { O.faults sink.old ≤ O.faults sink.new }
-        ensures calm { OnOk result (O.faults sink.new ≡ O.faults sink.old) }
-        ensures failed { OnErr result (Rose (O.faults sink.old) (O.faults sink.new)) }
     {
         if self.len == PIECE_LEN {
             write_all(sink, &self.bytes)?;

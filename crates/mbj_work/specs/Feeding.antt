@@ -1,5 +1,5 @@
 -- How a job is given to a manager whose ring may be full.
-use Rattle.std.specs.Prelude.{◌==◌, List, [], ◌++◌, length, Option, None, option_to_list, if◌then◌else◌}
+use Rattle.std.specs.Prelude.{◌==◌, List, ◌++◌, length, Option, None, option_to_list, if◌then◌else◌}
 use Rattle.mbj_types.specs.declared.job.Job.{Job}
 use Rattle.mbj_types.specs.declared.done.Done.{Done}
 use Rattle.mbj_ring.specs.declared.ring.TheConstants.{CELLS}

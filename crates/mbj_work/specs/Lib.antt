@@ -1,2 +1,3 @@
+pub mod Dealing
 pub mod Feeding
 pub mod Tasks

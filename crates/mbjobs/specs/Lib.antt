@@ -1,15 +1,4 @@
 pub mod Causes
-pub mod Claiming
-pub mod Command
-pub mod Dealing
-pub mod Generator
-pub mod Lines
 pub mod Message
 pub mod Outcome
 pub mod Reading
-pub mod Replay
-pub mod ReplayLines
-pub mod ReplayState
-pub mod Summary
-pub mod Trace
-pub mod TraceState

@@ -8,14 +8,15 @@ use Rattle.mbj_text.specs.Line.{text}
 use Rattle.mbj_text.specs.File.{Reads, Bad, Over}
 use Rattle.mbj_text.specs.Replay.{ReadsReplay, BadReplay, OverReplay}
 use Rattle.mbj_text.specs.declared.command.Cmd.{Cmd}
-use Rattle.mbjobs.specs.Reading.{Stream, Fails, IsUntouched, ReadsAll, ReadsBytes, ReadsTooMuch}
-use Rattle.mbjobs.specs.Replay.{replay_text}
-use Rattle.mbjobs.specs.Trace.{trace_text}
-use Rattle.mbjobs.specs.Summary.{gen_text}
+use Rattle.mbj_io.specs.Streams.{Stream, Fails, IsUntouched}
+use Rattle.mbjobs.specs.Reading.{ReadsAll, ReadsBytes, ReadsTooMuch}
+use Rattle.mbj_replay.specs.Replay.{replay_text}
+use Rattle.mbj_trace.specs.Trace.{trace_text}
+use Rattle.mbj_gen.specs.Summary.{gen_text}
 use Rattle.mbjobs.specs.declared.cause.Cause.{Cause}
 use Rattle.mbjobs.specs.declared.cause.Cause.TheVariants as cause
-use Rattle.mbjobs.specs.declared.command.Command.{Command}
-use Rattle.mbjobs.specs.declared.command.Command.TheVariants.{Run, Trace, Gen, Replay}
+use Rattle.mbj_command.specs.declared.command.Command.{Command}
+use Rattle.mbj_command.specs.declared.command.Command.TheVariants.{Run, Trace, Gen, Replay}
 
 -- ---- what a command reads and writes
 

@@ -2,31 +2,13 @@
 use Rattle.std.specs.Prelude.{◌≡◌, ◌+◌, ◌≤◌, ℕ, List, Option, length}
 use Rattle.std.specs.Io.KnownBytes.{Consumes, IsAtEnd}
 use Rattle.mbj_types.specs.declared.job.Job.{Job}
-use Rattle.mbj_io.specs.Faults.{Rose}
+use Rattle.mbj_io.specs.Streams.{Stream, Fails}
 use Rattle.mbj_text.specs.File.{Reads}
 use Rattle.mbj_text.specs.Replay.{ReadsReplay}
 use Rattle.mbj_text.specs.declared.command.Cmd.{Cmd}
 use Rattle.mbj_text.specs.declared.limits.TheConstants.{INPUT_LIMIT}
 use Rattle.mbjobs.specs.declared.cause.Cause.{Cause}
 use Rattle.mbjobs.specs.declared.cause.Cause.TheVariants as cause
-
--- a source or a sink before and after a call: the bytes that it tells, and its count of faults
-pub record Stream : Type 0 where
-  pub before : Option (List ℕ)
-  pub after : Option (List ℕ)
-  pub faults_before : ℕ
-  pub faults_after : ℕ
-
-abbrev pub stream : {X : Type 0} → (X → Option (List ℕ)) → (X → ℕ) → X → X → Stream
-stream bytes faults old new = record { before = bytes old; after = bytes new; faults_before = faults old; faults_after = faults new }
-
-abbrev pub Fails : Stream → Type 0
-Fails s = Rose s.faults_before s.faults_after
-
--- the bytes stay, and so does the count of faults
-pub record IsUntouched (s : Stream) : Type 0 where
-  pub bytes : s.after ≡ s.before
-  pub faults : s.faults_after ≡ s.faults_before
 
 -- these bytes, no more than an input may have, were read, and the source then was at its end
 pub record ReadsAll (before after : Option (List ℕ)) (bytes : List ℕ) : Type 0 where

@@ -2,6 +2,7 @@ ghost use Rattle.std.specs.Prelude.{◌≡◌};
 ghost use Rattle.mbjobs.specs.Message.{status_of};
 ghost use Rattle.mbjobs.specs.declared.cause.Cause.TheVariants as variant;
 
+use mbj_io::Failed;
 use std::alloc::AllocError;
 
 /// Why a command didn't complete. Lines are counted from 1.
@@ -34,6 +35,15 @@ impl Cause {
             Cause::Bytes | Cause::Jobs { .. } => 6,
             Cause::Memory => 7,
         }
+    }
+}
+
+impl From<Failed> for Cause {
+    ghost from_gives = { λ _ given. given ≡ variant.Write };
+
+    /// The fault of a sink.
+    fn from(_fault: Failed) -> Cause {
+        Cause::Write
     }
 }
 

@@ -2,30 +2,19 @@
 #![tactic(auto)]
 
 mod cause;
-mod claiming;
-mod command;
-mod command_set;
-mod dealing;
-mod draws;
-mod generator;
-mod line;
-mod line_sink;
-mod options;
+mod generate;
 mod reading;
 mod replay;
-mod replay_line;
 mod report;
 mod run;
-mod run_replay;
-mod summary;
 #[cfg(test)]
 mod tests;
 mod top;
 mod trace;
-mod worker;
 
-use crate::command::WordFault;
 use crate::top::{mbjobs, refuse};
+use mbj_command::WordFault;
+pub use mbj_gen::Generator;
 use mbj_io::{StdSink, StdSource};
 use mbj_work::OpenGate;
 use std::env;

@@ -4,7 +4,8 @@ ghost use Rattle.mbj_text.specs.File.{Bad, Over};
 ghost use Rattle.mbj_text.specs.Replay.{BadReplay, OverReplay};
 ghost use Rattle.mbj_text.specs.declared.limits.TheConstants.{JOB_LIMIT};
 ghost use Rattle.mbjobs.specs.Causes.{cause_of_read, cause_of_text};
-ghost use Rattle.mbjobs.specs.Reading.{ReadsAll, ReadsJobs, ReadsScript, ReadsTooMuch, StopsReading, stream};
+ghost use Rattle.mbj_io.specs.Streams.{stream};
+ghost use Rattle.mbjobs.specs.Reading.{ReadsAll, ReadsJobs, ReadsScript, ReadsTooMuch, StopsReading};
 
 use crate::cause::Cause;
 use mbj_io::Source;

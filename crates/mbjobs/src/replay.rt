@@ -1,307 +1,34 @@
-ghost use Rattle.std.specs.Prelude.{◌≡◌, ◌<◌, ◌≤◌, [], ◌∷◌, ◌++◌, All, IfOk, IfSome, List, OnOk, Some, length, map, option_map, option_to_list, replicate};
-ghost use Rattle.std.specs.List.{range_with_len};
-ghost use Rattle.mbj_types.specs.declared.job.Job.{Job};
-ghost use Rattle.mbj_core.specs.declared.cells.TheConstants.{MAX_SUBMITTERS, MAX_WORKERS};
-ghost use Rattle.mbj_text.specs.declared.limits.TheConstants.{JOB_LIMIT};
-ghost use Rattle.mbjobs.specs.Replay.{Replaying, claim_told, collect_told, flush_told, lines_from, new_replay, number_in, post_told, replay_lines, told};
-ghost use Rattle.mbjobs.specs.ReplayState.{HasPartiesOf, IsFor, IsPlaying, lines_of, state_of};
+ghost use Rattle.std.specs.Prelude.{◌≡◌, ◌≢◌, Err, IfErr, OnOk};
+ghost use Rattle.mbj_command.specs.Command.{IsReplayParties};
+ghost use Rattle.mbj_io.specs.Streams.{IsUntouched, stream};
+ghost use Rattle.mbjobs.specs.Outcome.{Completes, Stands};
+ghost use Rattle.mbj_command.specs.declared.command.Command.TheVariants as command;
 
-use crate::claiming::{cell_behind, claim_earliest, finish_given, party_of};
-use crate::replay_line::ReplayLine;
-use crate::worker::{Worker, idle_workers};
-use mbj_core::{CELLS, Core};
-use mbj_text::Cmd;
-use mbj_types::{Job, PostFull};
-use std::alloc::{AllocError, Global};
-use std::mem;
+use crate::cause::Cause;
+use crate::reading::read_script;
+use mbj_io::{Sink, Source};
+use mbj_replay::replay_lines;
+use mbj_text::write_lines;
+use std::alloc::Global;
 
-/// What a replay keeps of a cell: the number of the job that was last posted there, and a copy of that job until a
-/// worker claims it.
-#[derive(Drop)]
-pub(crate) struct Posted {
-    number: u32,
-    copy: Job,
-}
-
-/// What a command prints: a line, and, where a claim led to a finish, the line of that.
-type Told = (ReplayLine, Option<ReplayLine>);
-
-impl Posted {
-    /// Takes the copy, and leaves a blank job.
-    fn take_copy(&mut self, alloc: Global) -> Job
-        ensures copy { result ≡ self.old.copy }
-        ensures number { self.new.number ≡ self.old.number }
-    {
-        mem::replace(&mut self.copy, Job::blank(alloc))
-    }
-}
-
-/// A front, a worker for each manager, and the jobs of a file, which the commands of a script drive.
-#[derive(Drop)]
-pub(crate) struct Replayer {
+/// Reads the file of a replay, and writes what each command of its script comes to.
+pub(crate) fn run_replay<S: Source, O: Sink>(
     alloc: Global,
-    core: Core,
-    workers: Vec<Worker>,
-    // By their numbers, the jobs that are not posted, and a copy of each.
-    jobs: Vec<Job>,
-    copies: Vec<Job>,
-    // For each submitter, the number of its next job.
-    nexts: Vec<u32>,
-    // For each cell of the core.
-    posted: Vec<Posted>,
-}
-
-/// A copy of each job.
-fn copies_of(alloc: Global, jobs: &[Job]) -> Result<Vec<Job>, AllocError>
-    ensures { IfOk result (λ copies. copies.items ≡ jobs.now) }
-{
-    let mut copies = Vec::new(alloc);
-    for job in jobs {
-        copies.push(job.copy(alloc)?)?;
-    }
-    Ok(copies)
-}
-
-/// The numbers below this one.
-fn numbers_below(alloc: Global, count: u32) -> Result<Vec<u32>, AllocError>
-    ensures { IfOk result (λ ns. ns.items ≡ range_with_len 0 count) }
-{
-    let mut numbers = Vec::new(alloc);
-    for number in 0..count {
-        numbers.push(number)?;
-    }
-    Ok(numbers)
-}
-
-/// So many cells in which nothing was posted.
-fn unused_cells(alloc: Global, count: u32) -> Result<Vec<Posted>, AllocError>
-    ensures { IfOk result (λ cells. map (λ x. x.number) cells.items ≡ replicate count 0) }
-{
-    let mut cells = Vec::new(alloc);
-    for _ in 0..count {
-        cells.push(Posted {
-            number: 0,
-            copy: Job::blank(alloc),
-        })?;
-    }
-    Ok(cells)
-}
-
-/// The line of a finish that a claim led to, where it led to one.
-fn finish_line(w: u32, job: Option<u32>) -> Option<ReplayLine>
-    ensures { option_to_list result ≡ map (λ n. ReplayLine.Finish w (Some n)) (option_to_list job) }
-{
-    let job = job?;
-    Some(ReplayLine::Finish {
-        worker: w,
-        job: Some(job),
-    })
-}
-
-/// Puts what a command prints behind the lines.
-fn push_told(lines: &mut Vec<ReplayLine>, told: Told) -> Result<(), AllocError>
-    ensures { OnOk result (lines.new.items ≡ lines.old.items ++ lines_of told) }
-{
-    let (line, finish) = told;
-    lines.push(line)?;
-    if let Some(finish) = finish {
-        lines.push(finish)?;
-    }
-    Ok(())
-}
-
-impl Replayer {
-    /// Takes the memory of the core, of the workers and of a copy of each job. The commands take none.
-    ///
-    /// Answers `AllocError` for want of memory.
-    fn new(
-        alloc: Global,
-        jobs: Vec<Job>,
-        submitters: u32,
-        workers: u32,
-    ) -> Result<Replayer, AllocError>
-        requires submitters { (1 ≤ submitters) × (submitters ≤ MAX_SUBMITTERS) }
-        requires workers { workers ≤ MAX_WORKERS }
-        ensures state { IfOk result (λ r. state_of r ≡ new_replay submitters workers) }
-        ensures jobs { IfOk result (λ r. r.jobs ≡ jobs) }
-        ensures playing { IfOk result (IsPlaying jobs.items) }
-    {
-        let core = Core::new(alloc, submitters, workers)?;
-        let copies = copies_of(alloc, &jobs)?;
-        Ok(Replayer {
-            alloc,
-            core,
-            workers: idle_workers(alloc, workers)?,
-            jobs,
-            copies,
-            nexts: numbers_below(alloc, submitters)?,
-            posted: unused_cells(alloc, CELLS * submitters)?,
-        })
-    }
-
-    /// The number of the job in a cell, where there is a cell.
-    fn number_at(&self, cell: Option<u32>) -> Option<u32>
-        requires { IfSome cell (λ c. c < length self.now.posted.items) }
-        ensures { result ≡ option_map (number_in (state_of self.now)) cell }
-    {
-        let cell = cell?;
-        Some(self.posted[cell as usize].number)
-    }
-
-    /// A submitter posts its next job. Where all its cells hold jobs that are out, that job stays the next one.
-    fn post(&mut self, s: u32) -> ReplayLine
-        ghost jobs: { List Job }
-        requires playing { IsPlaying jobs self.old }
-        requires limit { length jobs ≤ JOB_LIMIT }
-        requires submitter { s < self.old.core.submitters }
-        ensures told { (result ∷ [], state_of self.new) ≡ post_told jobs s (state_of self.old) }
-        ensures playing { IsPlaying jobs self.new }
-        ensures parties { HasPartiesOf self.old self.new }
-    {
-        let number = self.nexts[s as usize];
-        let at = number as usize;
-        if at >= self.jobs.len() {
-            return ReplayLine::PostEnd(s);
-        }
-        let cell = cell_behind(&self.core, s, self.core.out(s)) as usize;
-        let job = mem::replace(&mut self.jobs[at], Job::blank(self.alloc));
-        if let Err(PostFull(job)) = self.core.post(s, job) {
-            self.jobs[at] = job;
-            return ReplayLine::PostFull(s);
-        }
-        let copy = mem::replace(&mut self.copies[at], Job::blank(self.alloc));
-        self.posted[cell] = Posted { number, copy };
-        self.nexts[s as usize] = number + self.core.submitters();
-        ReplayLine::Post {
-            submitter: s,
-            job: number,
-        }
-    }
-
-    /// A worker claims the earliest job of a submitter that is out and that no party has claimed, and submits it. What
-    /// the worker's manager gives back goes into the first cell of its hand.
-    fn claim(&mut self, w: u32, s: u32) -> Told
-        ghost jobs: { List Job }
-        requires playing { IsPlaying jobs self.old }
-        requires worker { w < self.old.core.workers }
-        requires submitter { s < self.old.core.submitters }
-        ensures told { (lines_of result, state_of self.new) ≡ claim_told w s (state_of self.old) }
-        ensures playing { IsPlaying jobs self.new }
-        ensures parties { HasPartiesOf self.old self.new }
-    {
-        let worker = w as usize;
-        if self.workers[worker].is_full() {
-            return (ReplayLine::ClaimFull(w), None);
-        }
-        let party = party_of(&self.core, w);
-        let Some(cell) = claim_earliest(&mut self.core, party, s) else {
-            return (
-                ReplayLine::Claim {
-                    worker: w,
-                    job: None,
-                },
-                None,
-            );
-        };
-        let job = self.number_at(Some(cell));
-        let copy = self.posted[cell as usize].take_copy(self.alloc);
-        let given = self.workers[worker].submit(cell, copy);
-        // By the law of the front each cell of the hand is there once.
-        self.core.stands_for_lawful_states();
-        let finished = finish_given(&mut self.core, party, given);
-        let finish = finish_line(w, self.number_at(finished));
-        (ReplayLine::Claim { worker: w, job }, finish)
-    }
-
-    /// A worker flushes its manager. What that gives back goes into the first cell of the worker's hand.
-    fn flush(&mut self, w: u32) -> ReplayLine
-        ghost jobs: { List Job }
-        requires playing { IsPlaying jobs self.old }
-        requires worker { w < self.old.core.workers }
-        ensures told { (result ∷ [], state_of self.new) ≡ flush_told w (state_of self.old) }
-        ensures playing { IsPlaying jobs self.new }
-        ensures parties { HasPartiesOf self.old self.new }
-    {
-        let given = self.workers[w as usize].flush();
-        let party = party_of(&self.core, w);
-        // By the law of the front each cell of the hand is there once.
-        self.core.stands_for_lawful_states();
-        let finished = finish_given(&mut self.core, party, given);
-        let job = self.number_at(finished);
-        ReplayLine::Finish { worker: w, job }
-    }
-
-    /// A submitter collects the result of its earliest job that is out.
-    fn collect(&mut self, s: u32) -> ReplayLine
-        ghost jobs: { List Job }
-        requires playing { IsPlaying jobs self.old }
-        requires submitter { s < self.old.core.submitters }
-        ensures told { (result ∷ [], state_of self.new) ≡ collect_told s (state_of self.old) }
-        ensures playing { IsPlaying jobs self.new }
-        ensures parties { HasPartiesOf self.old self.new }
-    {
-        let cell = self.core.first_cell(s);
-        match self.core.collect(s) {
-            Some(done) => ReplayLine::Collect {
-                submitter: s,
-                job: self.posted[cell as usize].number,
-                done,
-            },
-            None => ReplayLine::CollectNone(s),
-        }
-    }
-
-    /// Does what a command says.
-    fn perform(&mut self, command: Cmd) -> Told
-        ghost jobs: { List Job }
-        requires playing { IsPlaying jobs self.old }
-        requires limit { length jobs ≤ JOB_LIMIT }
-        requires parties { IsFor self.old.core.submitters self.old.core.workers command }
-        ensures told { (lines_of result, state_of self.new) ≡ told jobs command (state_of self.old) }
-        ensures playing { IsPlaying jobs self.new }
-        ensures parties { HasPartiesOf self.old self.new }
-    {
-        match command {
-            Cmd::Post(s) => (self.post(s), None),
-            Cmd::Claim(w, s) => self.claim(w, s),
-            Cmd::Flush(w) => (self.flush(w), None),
-            Cmd::Collect(s) => (self.collect(s), None),
-        }
-    }
-
-    /// Does what the commands say, and answers what they print.
-    fn play(&mut self, commands: Vec<Cmd>) -> Result<Vec<ReplayLine>, AllocError>
-        ghost jobs: { List Job }
-        requires playing { IsPlaying jobs self.old }
-        requires limit { length jobs ≤ JOB_LIMIT }
-        requires parties { All (IsFor self.old.core.submitters self.old.core.workers) commands.items }
-        ensures { IfOk result (λ lines. lines.items ≡ lines_from jobs commands.items (state_of self.old)) }
-    {
-        let mut lines = Vec::new(self.alloc);
-        for command in commands {
-            let told = self.perform(command);
-            push_told(&mut lines, told)?;
-        }
-        Ok(lines)
-    }
-}
-
-/// The lines that tell what each command of a script comes to, over one front and a manager for each worker.
-///
-/// Answers `AllocError` for want of memory.
-pub(crate) fn lines_of_script(
-    alloc: Global,
-    jobs: Vec<Job>,
-    commands: Vec<Cmd>,
     submitters: u32,
     workers: u32,
-) -> Result<Vec<ReplayLine>, AllocError>
-    requires submitters { (1 ≤ submitters) × (submitters ≤ MAX_SUBMITTERS) }
-    requires workers { workers ≤ MAX_WORKERS }
-    requires jobs { length jobs.items ≤ JOB_LIMIT }
-    requires parties { All (IsFor submitters workers) commands.items }
-    ensures { IfOk result (λ lines. lines.items ≡ replay_lines jobs.items commands.items submitters workers) }
+    input: &mut S,
+    out: &mut O,
+) -> Result<(), Cause>
+    requires { IsReplayParties submitters workers }
+    ensures ok { OnOk result (Completes (command.Replay submitters workers)
+        (stream S.rest S.faults input.old input.new) (stream O.held O.faults out.old out.new)) }
+    ensures err { IfErr result (λ cause. Stands (command.Replay submitters workers) cause
+        (stream S.rest S.faults input.old input.new) (stream O.held O.faults out.old out.new)) }
+    ensures calm { result ≢ Err Cause.Read → S.faults input.new ≡ S.faults input.old }
+    ensures untouched { IfErr result (λ cause. cause ≢ Cause.Write
+        → IsUntouched (stream O.held O.faults out.old out.new)) }
 {
-    let mut replayer = Replayer::new(alloc, jobs, submitters, workers)?;
-    replayer.play(commands)
+    let (jobs, commands) = read_script(alloc, input, submitters, workers)?;
+    let lines = replay_lines(alloc, jobs, commands, submitters, workers)?;
+    Ok(write_lines(out, &lines)?)
 }

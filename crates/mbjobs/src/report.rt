@@ -2,7 +2,7 @@ ghost use Rattle.std.specs.Prelude.{string_bytes};
 ghost use Rattle.mbj_text.specs.Line.{line_of};
 ghost use Rattle.mbjobs.specs.Message.{message_of};
 ghost use Rattle.mbjobs.specs.Outcome.{Gains};
-ghost use Rattle.mbjobs.specs.Reading.{stream};
+ghost use Rattle.mbj_io.specs.Streams.{stream};
 
 use crate::cause::Cause;
 use mbj_io::Sink;

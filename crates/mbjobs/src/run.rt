@@ -1,22 +1,20 @@
-ghost use Rattle.std.specs.Prelude.{◌≡◌, ◌≢◌, ◌≤◌, Err, IfErr, List, OnErr, OnOk, length, map};
-ghost use Rattle.std.specs.Io.KnownBytes.{Appends};
-ghost use Rattle.mbj_io.specs.Faults.{Rose};
-ghost use Rattle.mbj_text.specs.Flow.{GainsPrefix};
+ghost use Rattle.std.specs.Prelude.{◌≡◌, ◌≢◌, ◌≤◌, Err, IfErr, List, OnOk, length, map};
+ghost use Rattle.mbj_io.specs.Streams.{IsUntouched, stream};
+ghost use Rattle.mbj_text.specs.Flow.{Writes};
 ghost use Rattle.mbj_text.specs.Line.{text};
 ghost use Rattle.mbj_text.specs.declared.limits.TheConstants.{JOB_LIMIT};
 ghost use Rattle.mbj_types.specs.declared.done.Done.{Done};
-ghost use Rattle.mbjobs.specs.Command.{IsParties};
-ghost use Rattle.mbjobs.specs.Dealing.{AreDealt};
+ghost use Rattle.mbj_command.specs.Command.{IsParties};
+ghost use Rattle.mbj_command.specs.declared.command.Command.TheVariants.{Run};
+ghost use Rattle.mbj_work.specs.Dealing.{AreDealt};
 ghost use Rattle.mbjobs.specs.Outcome.{Completes, Stands};
-ghost use Rattle.mbjobs.specs.Reading.{IsUntouched, stream};
-ghost use Rattle.mbjobs.specs.declared.command.Command.TheVariants.{Run};
 
 use crate::cause::Cause;
-use crate::dealing::{do_jobs, result_at};
 use crate::reading::read_jobs;
 use mbj_io::{Failed, Sink, Source};
 use mbj_text::write_done;
 use mbj_types::Done;
+use mbj_work::{do_jobs, result_at};
 use std::alloc::Global;
 use std::thread::Threads;
 
@@ -26,10 +24,7 @@ fn write_results<O: Sink>(out: &mut O, lists: &[Vec<Done>], count: u32) -> Resul
     requires dealt { AreDealt results (length lists.now) (map (λ list. list.items) lists.now) }
     requires count { count ≡ length results }
     requires limit { count ≤ JOB_LIMIT }
-    ensures ok { OnOk result (Appends (O.held out.old) (O.held out.new) (text results)) }
-    ensures err { OnErr result (GainsPrefix (O.held out.old) (O.held out.new) (text results)) }
-    ensures calm { OnOk result (O.faults out.new ≡ O.faults out.old) }
-    ensures failed { OnErr result (Rose (O.faults out.old) (O.faults out.new)) }
+    ensures { Writes result (stream O.held O.faults out.old out.new) (text results) }
 {
     for number in 0..count {
         write_done(out, number, result_at(lists, number))?;
@@ -58,8 +53,5 @@ pub(crate) fn run<R: Threads + Sync, S: Source, O: Sink>(
     let jobs = read_jobs(alloc, input)?;
     let count = jobs.len() as u32;
     let results = do_jobs(rt, alloc, jobs, submitters)?;
-    match write_results(out, &results, count) {
-        Ok(()) => Ok(()),
-        Err(Failed) => Err(Cause::Write),
-    }
+    Ok(write_results(out, &results, count)?)
 }

@@ -1,5 +1,3 @@
-mod command;
-mod generator;
 mod limits;
 mod parties;
 mod replay;

@@ -1,20 +1,21 @@
 ghost use Rattle.std.specs.Prelude.{◌≡◌, ◌≢◌, ◌⊎◌, ◌≤◌, ◌<◌, List, ℕ, Err, IfErr, OnOk, Some, None, map, string_bytes, length};
 ghost use Rattle.mbj_text.specs.declared.limits.TheConstants.{INPUT_LIMIT};
-ghost use Rattle.mbjobs.specs.Command.{IsInRange, IsText, command};
+ghost use Rattle.mbj_command.specs.Command.{IsInRange, IsText, command};
 ghost use Rattle.mbjobs.specs.Message.{message_of, status_of};
-ghost use Rattle.mbjobs.specs.Reading.{Fails, IsUntouched, ReadsBytes, ReadsTooMuch, stream};
+ghost use Rattle.mbj_io.specs.Streams.{Fails, IsUntouched, stream};
+ghost use Rattle.mbjobs.specs.Reading.{ReadsBytes, ReadsTooMuch};
 ghost use Rattle.mbjobs.specs.Outcome.{AsksFor, BreaksOff, Completes, Gains, IsBadFor, IsOverFor, ReadsInput, Stands};
 ghost use Rattle.mbjobs.specs.declared.cause.Cause.{Cause};
-ghost use Rattle.mbjobs.specs.declared.command.Command.{Command};
-ghost use Rattle.mbjobs.specs.declared.command.Command.TheVariants.{Gen};
+ghost use Rattle.mbj_command.specs.declared.command.Command.{Command};
+ghost use Rattle.mbj_command.specs.declared.command.Command.TheVariants.{Gen};
 
 use crate::cause::Cause;
-use crate::command::{Command, WordFault, read_command};
+use crate::generate::run_gen;
+use crate::replay::run_replay;
 use crate::report::{report, report_words};
 use crate::run::run;
-use crate::run_replay::run_replay;
-use crate::summary::run_gen;
 use crate::trace::run_trace;
+use mbj_command::{Command, WordFault, read_command};
 use mbj_io::{Sink, Source};
 use mbj_work::Gate;
 use std::alloc::Global;

@@ -1,5 +1,5 @@
 use super::run_words;
-use crate::generator::Generator;
+use mbj_gen::Generator;
 use mbj_types::{Auth, Bytes, Cipher, Dir, Job, Order};
 use std::alloc::{AllocError, Global};
 use std::test::Fail;

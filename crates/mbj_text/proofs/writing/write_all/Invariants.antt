@@ -1,13 +1,11 @@
 -- What was written and what is left make the text.
-use Rattle.std.proofs.Common.{◌≡◌, length}
-use Rattle.mbj_text.specs.Flow.{Flows}
+use Rattle.std.proofs.Common.{length}
+use Rattle.mbj_io.specs.Streams.{stream}
+use Rattle.mbj_text.specs.Inside.Pieces.{FlowsOn}
 use Rattle.mbj_text.proofs.writing.write_all.Given as goal
 
 abbrev pub invariant-loop-rest : goal.invariant-loop-rest
-invariant-loop-rest g l = record {
-  flows : Flows (g.O.Sink.held l.initial.sink) (g.O.Sink.held l.sink) l.text l.rest;
-  calm : g.O.Sink.faults l.sink ≡ g.O.Sink.faults l.initial.sink;
-}
+invariant-loop-rest g l = FlowsOn (stream g.O.Sink.held g.O.Sink.faults l.initial.sink l.sink) l.text l.rest
 
 abbrev pub decreases-loop-rest : goal.decreases-loop-rest
 decreases-loop-rest g l = length l.rest

@@ -1,6 +1,6 @@
 -- The results are those that the lists have by turns.
 use Rattle.std.proofs.Common.{length, map}
-use Rattle.mbjobs.proofs.Deals.{gathered}
+use Rattle.mbj_work.proofs.Deals.{gathered}
 use Rattle.mbjobs.proofs.run.run.Given as goal
 
 abbrev pub ghost-write_results : goal.ghost-write_results

@@ -1,19 +1,26 @@
-use Rattle.std.proofs.Common.{refl, ◌∙◌}
-use Rattle.mbjobs.proofs.Printing.{on-err}
-use Rattle.mbjobs.proofs.Writing.{flows_start, flows_line, gains_line}
+-- Each result's line is written behind those before it.
+use Rattle.std.proofs.Common.{◌≡◌, [], arith, drop}
+use Rattle.std.proofs.lemmas.List.{drop_all}
+use Rattle.std.proofs.lemmas.Result.{err_from_is_err_and}
+use Rattle.mbj_text.specs.Line.{text}
+use Rattle.mbj_text.proofs.Flows.{all_flowed, flows_line, flows_start, front_line}
+use Rattle.mbjobs.proofs.ResultTexts.{text_first}
 use Rattle.mbjobs.proofs.run.write_results.Goals as goal
 
 pub loop-number-init : goal.loop-number-init
-loop-number-init g c = record { flows = flows_start _ g.results; calm = refl }
+loop-number-init g c = flows_start (text g.results)
 
 pub loop-number-preserved : goal.loop-number-preserved
-loop-number-preserved g c = record {
-  flows = flows_line c.loop-number.number g.results c.result_at.result.now c.result_at.ensures c.loop-number.invariant.flows
-      c.in_ok-write_done.ensures.ok;
-  calm = c.in_ok-write_done.ensures.calm ∙ c.loop-number.invariant.calm;
-}
+loop-number-preserved g c = flows_line c.loop-number.invariant
+    (text_first c.loop-number.number g.results c.result_at.result.now c.result_at.ensures) c.in_ok-write_done.ensures
 
-pub returns-in_err-write_done-clause-err : goal.returns-in_err-write_done-clause-err
-returns-in_err-write_done-clause-err g c =
-    on-err c.from_residual.result _ (gains_line c.loop-number.number g.results c.result_at.result.now c.result_at.ensures
-    c.loop-number.invariant.flows c.in_err-write_done.ensures.err)
+pub returns-in_err-write_done : goal.returns-in_err-write_done
+returns-in_err-write_done g c =
+    let exit = err_from_is_err_and c.from_residual.result c.from_residual.ensures.1 in
+    rw exit.1 (front_line _ c.loop-number.invariant
+    (text_first c.loop-number.number g.results c.result_at.result.now c.result_at.ensures) c.in_err-write_done.ensures)
+
+pub returns : goal.returns
+returns g c =
+    let none : drop c.loop-number.number g.results ≡ [] = drop_all c.loop-number.number g.results (omega arith) in
+    all_flowed (rw none at c.loop-number.invariant)

@@ -1,8 +1,8 @@
 -- Where the input tells its bytes, what they are decides the status.
 use Rattle.std.proofs.Common.{◌∙◌, inr, subst}
 use Rattle.mbjobs.specs.Outcome.{AsksFor, IsBadFor, IsOverFor}
-use Rattle.mbjobs.specs.Reading.{Stream, stream}
-use Rattle.mbjobs.proofs.Told.{along, bad_ends, bad_not_whole, good_ends, over_ends, over_not_whole, same-command, status_6}
+use Rattle.mbj_io.specs.Streams.{Stream, stream}
+use Rattle.mbjobs.proofs.Endings.{along, bad_ends, bad_not_whole, good_ends, over_ends, over_not_whole, same-command, status_6}
 use Rattle.mbjobs.proofs.top.mbjobs.Goals as goal
 
 pub returns-in-Ok-perform-clause-only_bad : goal.returns-in-Ok-perform-clause-only_bad

@@ -1,0 +1,120 @@
+-- Jobs that are made from a seed are small, and so are the lines of their results.
+use Rattle.std.proofs.Common.{◌≡◌, ℕ, zero, suc, ◌+◌, ◌-◌, ◌*◌, ◌%◌, ◌<◌, ◌≤◌, List, [], ◌∷◌, ◌++◌, append_assoc, length, map, slice_get, Some, refl, sym, subst, ap, ◌∙◌, arith}
+use Rattle.std.proofs.lemmas.List.{length-map}
+use Rattle.std.proofs.lemmas.Nat.{mod_below}
+use Rattle.mbj_types.specs.Result.{result_of}
+use Rattle.mbj_types.specs.declared.job.Job.{Job}
+use Rattle.mbj_types.specs.declared.done.Done.{Done}
+use Rattle.mbj_stage.proofs.Lengths.{length-result_of}
+use Rattle.mbj_gen.proofs.TagLengths.{length-tag}
+use Rattle.mbj_text.specs.Line.{done_line}
+use Rattle.mbj_gen.specs.Generator.{authenticated_by, bare, byte, bytes, ciphered_by, job}
+use Rattle.mbj_gen.specs.Summary.{generated, summary_lines}
+use Rattle.mbj_gen.specs.declared.line.SummaryLine.{SummaryLine}
+use Rattle.mbj_gen.specs.declared.line_sink.TheConstants.{LINE_ROOM}
+use Rattle.mbj_text.specs.declared.limits.TheConstants.{JOB_LIMIT}
+use Rattle.mbj_work.specs.Dealing.{AreDealt}
+use Rattle.mbj_work.proofs.Deals.{gathered, gathered_all}
+use Rattle.mbj_gen.proofs.ResultLines.{length-done_line}
+use Rattle.std.proofs.lemmas.Option.{slice_get_within}
+
+-- ---- packets
+
+length-bytes : (n x : ℕ) → length (bytes n x).0 ≡ n
+unfolding bytes
+length-bytes zero x = refl
+length-bytes (suc n) x = ap suc (length-bytes n (byte x).1)
+
+packet-small : (x : ℕ) → length (job x).0.packet ≤ 512
+unfolding job
+packet-small x =
+    let b : ℕ = (byte (bare x).1).0 in
+    let n : ℕ = 16 * (1 + b % 32) in
+    let below : b % 32 < 32 = mod_below b 32 (omega arith) in
+    let ciphered = ciphered_by (bare x).0.cipher n (bare x).0 (byte (bare x).1).1 in
+    let y : ℕ = (authenticated_by ciphered.0.auth n ciphered.0 ciphered.1).1 in
+    omega (arith, length-bytes n y)
+
+pub length-generated : (n x : ℕ) → length (generated n x) ≡ n
+length-generated zero x = refl
+length-generated (suc n) x = ap suc (length-generated n (job x).1)
+
+-- one more job is made
+pub made-next : (made more : List Job) (count i x y : ℕ) (all : List Job) → i < count → made ++ generated (count - i) x ≡ all
+    → more ≡ made ++ (job x).0 ∷ [] → y ≡ (job x).1 → more ++ generated (count - (i + 1)) y ≡ all
+made-next made more count i x y all below is pushed state =
+    let left : count - i ≡ suc (count - (i + 1)) = omega arith in
+    let first : generated (count - i) x ≡ (job x).0 ∷ generated (count - (i + 1)) (job x).1 = ap (λ (n : ℕ). generated n x) left in
+    let moved = append_assoc made ((job x).0 ∷ []) (generated (count - (i + 1)) y) in
+    cc (first, moved)
+
+-- ---- lines
+
+result-small : (count x n : ℕ) (done : Done) → slice_get (map result_of (generated count x)) n ≡ Some done
+    → (length done.packet ≤ 512) × (length done.tag ≤ 64)
+result-small zero x n done h = absurd (cc)
+result-small (suc count) x zero done h =
+    let j : Job = (job x).0 in
+    let is : result_of j ≡ done = cc in
+    let packet : length done.packet ≡ length j.packet = ap (λ (d : Done). length d.packet) (sym is) ∙ length-result_of j in
+    let tag : length done.tag ≡ length (result_of j).tag = ap (λ (d : Done). length d.tag) (sym is) in
+    let small = packet-small x in
+    let tag_small = length-tag j in (omega arith, omega arith)
+result-small (suc count) x (suc n) done h = result-small count (job x).1 n done h
+
+-- the line of each result leaves room in a sink for one line
+pub line-fits : (count x n : ℕ) (done : Done) → n < 65536 → slice_get (map result_of (generated count x)) n ≡ Some done
+    → length (done_line n done) < LINE_ROOM
+line-fits count x n done h at =
+    let small = result-small count x n done at in
+    let packet = small.0 in
+    let tag = small.1 in
+    omega (arith, length-done_line n done (omega arith))
+
+-- there are as many results as jobs
+pub length-results : (count x : ℕ) → count ≡ length (map result_of (generated count x))
+length-results count x = sym (length-map (generated count x) result_of ∙ length-generated count x)
+
+-- each line of a result of jobs that were made leaves room
+pub lines-fit : (count x : ℕ) → count ≤ JOB_LIMIT → (n : ℕ) (done : Done)
+    → slice_get (map result_of (generated count x)) n ≡ Some done → length (done_line n done) < LINE_ROOM
+lines-fit count x limit n done at =
+    let inside = slice_get_within (map result_of (generated count x)) n done at in
+    line-fits count x n done (omega (arith, length-results count x)) at
+
+-- ---- from the lists to which the jobs were dealt
+
+-- the results that are gathered from where they were dealt, and what is asked of them
+pub results-gathered : {X : Type 0} (results : List Done) (count n : ℕ) (list_of : X → List Done) (lists : List X)
+    → count ≡ length results → AreDealt results n (map list_of lists) → count ≤ JOB_LIMIT
+    → ((i : ℕ) (done : Done) → slice_get results i ≡ Some done → length (done_line i done) < LINE_ROOM)
+    → let gathered_results = gathered count 0 (length lists) (map list_of lists) in
+    AreDealt gathered_results (length lists) (map list_of lists)
+    × ((count ≡ length gathered_results) × ((count ≤ JOB_LIMIT)
+    × ((i : ℕ) (done : Done) → slice_get gathered_results i ≡ Some done → length (done_line i done) < LINE_ROOM)))
+results-gathered results count n list_of lists all dealt limit fits =
+    let same = gathered_all results count n list_of lists all dealt in
+    let lengths : n ≡ length lists = sym dealt.count ∙ length-map lists list_of in
+    let Dealt : ℕ → Type 0 = λ k. AreDealt results k (map list_of lists) in
+    let Asked : List Done → Type 0 = λ ds. AreDealt ds (length lists) (map list_of lists)
+    × ((count ≡ length ds) × ((count ≤ JOB_LIMIT)
+    × ((i : ℕ) (done : Done) → slice_get ds i ≡ Some done → length (done_line i done) < LINE_ROOM))) in
+    subst Asked (sym same) (subst Dealt lengths dealt, (all, (limit, fits)))
+
+-- the results of the jobs that were made stand in the lists by turns
+pub results-dealt : {X : Type 0} (made : List Job) (jobs seed n : ℕ) (list_of : X → List Done) (lists now : List X)
+    → made ≡ generated jobs seed → now ≡ lists → AreDealt (map result_of made) n (map list_of lists)
+    → AreDealt (map result_of (generated jobs seed)) n (map list_of now)
+results-dealt {X} made jobs seed n list_of lists now made_is now_is dealt =
+    let Made : List Job → Type 0 = λ js. AreDealt (map result_of js) n (map list_of lists) in
+    let Now : List X → Type 0 = λ ls. AreDealt (map result_of (generated jobs seed)) n (map list_of ls) in
+    subst Now (sym now_is) (subst Made made_is dealt)
+
+-- what is told of the results that are gathered is told of those of the jobs that were made
+pub told-of-made : {X : Type 0} (jobs seed n : ℕ) (list_of : X → List Done) (lists : List X) (told : List SummaryLine)
+    → AreDealt (map result_of (generated jobs seed)) n (map list_of lists)
+    → told ≡ summary_lines (gathered jobs 0 (length lists) (map list_of lists))
+    → told ≡ summary_lines (map result_of (generated jobs seed))
+told-of-made jobs seed n list_of lists told dealt is =
+    let results : List Done = map result_of (generated jobs seed) in
+    is ∙ ap (λ (ds : List Done). summary_lines ds) (gathered_all results jobs n list_of lists (length-results jobs seed) dealt)

@@ -1,0 +1,5 @@
+mod DrawnBytes
+pub mod GeneratedJobs
+mod ResultLines
+mod Sums
+mod TagLengths

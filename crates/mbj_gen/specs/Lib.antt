@@ -1,0 +1,3 @@
+pub mod Generator
+pub mod Lines
+pub mod Summary

@@ -1,0 +1,37 @@
+-- What is told of generated jobs: how many there are, how they ended, and length and digest of their result text.
+use Rattle.std.specs.Prelude.{◌-◌, ℕ, zero, suc, List, [], ◌∷◌, length, map, count_by, Bool, true, false}
+use Rattle.sha2.specs.Sha256.{sha256}
+use Rattle.mbj_types.specs.declared.job.Job.{Job}
+use Rattle.mbj_types.specs.declared.done.Done.{Done}
+use Rattle.mbj_types.specs.declared.done.Status.{Status}
+use Rattle.mbj_types.specs.declared.done.Status.TheVariants as status
+use Rattle.mbj_types.specs.Result.{result_of}
+use Rattle.mbj_text.specs.Line.{text}
+use Rattle.mbj_gen.specs.Generator.{job}
+use Rattle.mbj_gen.specs.Lines.{lines_text}
+use Rattle.mbj_gen.specs.declared.line.SummaryLine.{SummaryLine}
+use Rattle.mbj_gen.specs.declared.line.SummaryLine.TheVariants as line
+
+-- so many jobs, made one after another from the state x
+abbrev pub generated : ℕ → ℕ → List Job
+generated zero x = []
+generated (suc count) x = (job x).0 ∷ generated count (job x).1
+
+abbrev pub is_ok : Status → Bool
+is_ok status.Ok = true
+is_ok (status.InvalidArgs reason) = false
+
+abbrev pub accepted : List Done → ℕ
+accepted results = count_by (λ done. is_ok done.status) results
+
+abbrev pub summary_lines : List Done → List SummaryLine
+summary_lines results =
+    line.Jobs (length results)
+    ∷ line.Accepted (accepted results)
+    ∷ line.Invalid (length results - accepted results)
+    ∷ line.Bytes (length (text results))
+    ∷ line.Sha256 (sha256 (text results))
+    ∷ []
+
+abbrev pub gen_text : ℕ → ℕ → List ℕ
+gen_text seed count = lines_text (summary_lines (map result_of (generated count seed)))

@@ -1,0 +1,190 @@
+-- What a command prints, from what its calls did.
+use Rattle.std.proofs.Common.{◌≡◌, ◌≢◌, ◌∙◌, ◌+◌, ◌++◌, [], ◌∷◌, ap, sym, subst, ℕ, zero, suc, All, append_assoc, Result, Ok, Err, IfOk, Vec, Global, List, Bool, true, false, IsTrue, ◌↔◌, Option, None, Some, map, length, set, slice_index, slice_index_or, option_map, option_to_list, arith, if◌then◌else◌, ◌==◌}
+use Rattle.std.specs.Prelude.{slice_get}
+use Rattle.std.proofs.lemmas.List.{map-set}
+use Rattle.std.proofs.lemmas.Option.{get_or_from_slice_get, none-some, same_Some, slice_get-map}
+use Rattle.std.proofs.Math.Seq.{map-set_same}
+use Rattle.mbj_types.specs.declared.job.Job.{Job}
+use Rattle.mbj_core.specs.CoreStates.{CoreState, claimed_by, next_cell, out_of, posted}
+use Rattle.mbj_core.specs.declared.cells.TheConstants.{CELLS}
+use Rattle.mbj_text.specs.declared.command.Cmd.{Cmd}
+use Rattle.std.specs.declared.alloc.AllocError.{AllocError}
+use Rattle.mbj_manager.specs.State.{ManagerState, flushing, new_manager, submitted, with_open}
+use Rattle.mbj_replay.specs.Replay.{Replaying, Told, after_finish, cells_out, claim_of, claim_told, core_after, finish_of, first_ready, first_with, flush_told, hand, lines_from, manager, number_in, party, post_of, post_told, told, with_claim, with_manager, with_post}
+use Rattle.mbj_replay.specs.Inside.State.{state_of}
+use Rattle.mbj_replay.specs.declared.replayer.Posted.{Posted}
+use Rattle.mbj_replay.specs.declared.replayer.Replayer.{Replayer}
+use Rattle.mbj_replay.specs.declared.line.ReplayLine.{ReplayLine}
+use Rattle.mbj_replay.specs.declared.line.ReplayLine.TheVariants as line
+use Rattle.mbj_replay.specs.declared.worker.Worker.{Worker}
+use Rattle.mbj_replay.proofs.Fronts.{Entry}
+
+pub if-apart : {T : Type 0} (n m : ℕ) (a b : T) → n ≢ m → (if n == m then a else b) ≡ b
+if-apart n m a b apart = grind arith
+
+-- the manager of a worker
+pub manager-is : (workers : List Worker) (w : ℕ) (x : Worker) → slice_get workers w ≡ Some x
+    → slice_index_or (map (λ y. y.manager) workers) w new_manager ≡ x.manager
+manager-is workers w x at =
+    get_or_from_slice_get (map (λ y. y.manager) workers) w x.manager new_manager
+    (slice_get-map (λ (y : Worker). y.manager) workers w ∙ ap (option_map (λ (y : Worker). y.manager)) at)
+
+told-is : (a b : List ReplayLine) (q r : Replaying) → a ≡ b → q ≡ r → ◌≡◌ {A = Told} (a, q) (b, r)
+told-is a b q r lines state = ap (λ (l : List ReplayLine). (l, q)) lines ∙ ap (λ (u : Replaying). (b, u)) state
+
+-- a flush, and the finish that it leads to
+pub flush-is : (w : ℕ) (r q : Replaying) (x : ManagerState) (cells : List ℕ) (given : Option Entry) (job : Option ℕ)
+    → manager w r ≡ x → hand w r ≡ cells → given ≡ first_with cells (flushing x).0
+    → q ≡ after_finish w given (with_manager w (flushing x).1 r) → job ≡ finish_of r given
+    → ◌≡◌ {A = Told} (line.Finish w job ∷ [], q) (flush_told w r)
+flush-is w r q x cells given job is_manager is_hand is_given is_state is_job =
+    let found : given ≡ first_with (hand w r) (flushing (manager w r)).0
+    = is_given ∙ ap (λ (cs : List ℕ). first_with cs (flushing x).0) (sym is_hand) ∙ ap (λ (m : ManagerState). first_with (hand w r) (flushing m).0) (sym is_manager) in
+    let state : q ≡ after_finish w (first_with (hand w r) (flushing (manager w r)).0) (with_manager w (flushing (manager w r)).1 r)
+    = is_state ∙ ap (λ (m : ManagerState). after_finish w given (with_manager w (flushing m).1 r)) (sym is_manager)
+    ∙ ap (λ (g : Option Entry). after_finish w g (with_manager w (flushing (manager w r)).1 r)) found in
+    let number : job ≡ finish_of r (first_with (hand w r) (flushing (manager w r)).0) = is_job ∙ ap (finish_of r) found in
+    told-is (line.Finish w job ∷ []) (line.Finish w (finish_of r (first_with (hand w r) (flushing (manager w r)).0)) ∷ []) q _
+    (ap (λ (n : Option ℕ). line.Finish w n ∷ []) number) state
+
+-- a claim, and the finish that it leads to
+pub claim-is : (w s cell : ℕ) (job : Job) (r q : Replaying) (x : ManagerState) (full cells : List ℕ) (given : Option Entry) (number : Option ℕ) (finishes : List ReplayLine)
+    → hand w r ≡ full → length full ≢ CELLS → first_ready r.core (cells_out r.core s) ≡ Some (cell, job)
+    → manager w r ≡ x → hand w (with_claim w cell job (submitted (with_open x job)).1 r) ≡ cells
+    → given ≡ first_with cells (submitted (with_open x job)).0
+    → q ≡ after_finish w given (with_claim w cell job (submitted (with_open x job)).1 r)
+    → number ≡ Some (number_in r cell) → finishes ≡ map (λ n. line.Finish w (Some n)) (option_to_list (finish_of r given))
+    → ◌≡◌ {A = Told} (line.Claim w number ∷ finishes, q) (claim_told w s r)
+claim-is w s cell job r q x full cells given number finishes is_full is_room is_ready is_manager is_hand is_given is_state is_number are =
+    let after : ManagerState → Replaying = λ m. with_claim w cell job (submitted (with_open m job)).1 r in
+    let back : ManagerState → Option Entry = λ m. first_with (hand w (after m)) (submitted (with_open m job)).0 in
+    let found : given ≡ back (manager w r)
+    = is_given ∙ ap (λ (cs : List ℕ). first_with cs (submitted (with_open x job)).0) (sym is_hand) ∙ ap back (sym is_manager) in
+    let state : q ≡ after_finish w (back (manager w r)) (after (manager w r))
+    = is_state ∙ ap (λ (m : ManagerState). after_finish w given (after m)) (sym is_manager)
+    ∙ ap (λ (g : Option Entry). after_finish w g (after (manager w r))) found in
+    let lines : ◌≡◌ {A = List ReplayLine} (line.Claim w number ∷ finishes)
+    (line.Claim w (Some (number_in r cell)) ∷ map (λ n. line.Finish w (Some n)) (option_to_list (finish_of r (back (manager w r)))))
+    = ap (λ (n : Option ℕ). line.Claim w n ∷ finishes) is_number
+    ∙ ap (λ (ls : List ReplayLine). line.Claim w (Some (number_in r cell)) ∷ ls)
+    (are ∙ ap (λ (g : Option Entry). map (λ n. line.Finish w (Some n)) (option_to_list (finish_of r g))) found) in
+    told-is (line.Claim w number ∷ finishes) _ q _ lines state
+    ∙ ap (λ f. claim_of w f r) (sym is_ready)
+    ∙ sym (if-apart (length (hand w r)) CELLS (line.ClaimFull w ∷ [], r) (claim_of w (first_ready r.core (cells_out r.core s)) r)
+    (λ e. is_room (ap length (sym is_full) ∙ e)))
+
+-- where the submitter has no job that is ready
+pub no-claim-is : (w s : ℕ) (r q : Replaying) (full : List ℕ) → hand w r ≡ full → length full ≢ CELLS → first_ready r.core (cells_out r.core s) ≡ None
+    → q ≡ r → ◌≡◌ {A = Told} (line.Claim w None ∷ [], q) (claim_told w s r)
+no-claim-is w s r q full is_full is_room is_none same =
+    ap (λ (u : Replaying). (line.Claim w None ∷ [], u)) same
+    ∙ ap (λ f. claim_of w f r) (sym is_none)
+    ∙ sym (if-apart (length (hand w r)) CELLS (line.ClaimFull w ∷ [], r) (claim_of w (first_ready r.core (cells_out r.core s)) r)
+    (λ e. is_room (ap length (sym is_full) ∙ e)))
+
+-- a post
+pub post-is : (jobs : List Job) (s n : ℕ) (job : Job) (r q : Replaying) → n ≡ slice_index r.nexts s → slice_get jobs n ≡ Some job
+    → out_of r.core s ≢ CELLS → q ≡ with_post s n job r
+    → ◌≡◌ {A = Told} (line.Post s n ∷ [], q) (post_told jobs s r)
+post-is jobs s n job r q next is_job room state =
+    ap (λ (u : Replaying). (line.Post s n ∷ [], u)) state
+    ∙ sym (if-apart (out_of r.core s) CELLS (line.PostFull s ∷ [], r) (line.Post s n ∷ [], with_post s n job r) room)
+    ∙ ap (λ o. post_of s n o r) (sym is_job)
+    ∙ ap (λ (m : ℕ). post_of s m (slice_get jobs m) r) next
+
+-- the numbers stay where a cell's copy is taken
+pub numbers-stay : (posted : List Posted) (cell : ℕ) (z taken : Posted) → slice_get posted cell ≡ Some z → taken.number ≡ z.number
+    → map (λ x. x.number) (set posted cell taken) ≡ map (λ x. x.number) posted
+numbers-stay posted cell z taken at same =
+    map-set_same (λ (x : Posted). x.number) posted cell taken z (same ∙ ap (λ (x : Posted). x.number) (sym (get_or_from_slice_get posted cell z z at)))
+
+-- the numbers of what is finished
+pub finish-number : (r : Replaying) (given : Option Entry) (cell : Option ℕ) → cell ≡ option_map (λ g. g.0) given → option_map (number_in r) cell ≡ finish_of r given
+finish-number r None cell is = ap (option_map (number_in r)) is
+finish-number r (Some g) cell is = ap (option_map (number_in r)) is
+
+replaying : CoreState → List ManagerState → List ℕ → List ℕ → Replaying
+replaying core managers nexts numbers = record { core = core; managers = managers; nexts = nexts; numbers = numbers }
+
+-- the state after a flush
+pub flush-state : (r : Replayer) (new : CoreState) (w p : ℕ) (given : Option Entry) (y : Worker) (after : ManagerState) → p ≡ r.core.submitters + w
+    → new ≡ core_after p given r.core → y.manager ≡ after
+    → record { core = new; managers = map (λ x. x.manager) (set r.workers.items w y); nexts = r.nexts.items; numbers = map (λ x. x.number) r.posted.items }
+    ≡ after_finish w given (with_manager w after (state_of r))
+unfolding replaying
+flush-state r new w p given y after party same is =
+    let managers : map (λ (x : Worker). x.manager) (set r.workers.items w y) ≡ set (map (λ (x : Worker). x.manager) r.workers.items) w after
+    = map-set (λ (x : Worker). x.manager) r.workers.items w y ∙ ap (set (map (λ (x : Worker). x.manager) r.workers.items) w) is in
+    ap (λ (c : CoreState). replaying c (map (λ (x : Worker). x.manager) (set r.workers.items w y)) r.nexts.items (map (λ (x : Posted). x.number) r.posted.items))
+    (same ∙ ap (λ (q : ℕ). core_after q given r.core) party)
+    ∙ ap (λ (ms : List ManagerState). replaying (core_after (r.core.submitters + w) given r.core) ms r.nexts.items (map (λ (x : Posted). x.number) r.posted.items)) managers
+
+-- the state after a claim
+pub claim-state : (r : Replayer) (mid new : CoreState) (w p cell : ℕ) (job : Job) (given : Option Entry) (y : Worker) (z taken : Posted) (after : ManagerState)
+    → p ≡ r.core.submitters + w → mid ≡ claimed_by r.core p cell job → new ≡ core_after p given mid → y.manager ≡ after
+    → slice_get r.posted.items cell ≡ Some z → taken.number ≡ z.number
+    → record { core = new; managers = map (λ x. x.manager) (set r.workers.items w y); nexts = r.nexts.items; numbers = map (λ x. x.number) (set r.posted.items cell taken) }
+    ≡ after_finish w given (with_claim w cell job after (state_of r))
+unfolding replaying
+claim-state r mid new w p cell job given y z taken after party claimed same is at number =
+    let managers : map (λ (x : Worker). x.manager) (set r.workers.items w y) ≡ set (map (λ (x : Worker). x.manager) r.workers.items) w after
+    = map-set (λ (x : Worker). x.manager) r.workers.items w y ∙ ap (set (map (λ (x : Worker). x.manager) r.workers.items) w) is in
+    let core : new ≡ core_after (r.core.submitters + w) given (claimed_by r.core (r.core.submitters + w) cell job)
+    = same ∙ ap (core_after p given) claimed ∙ ap (λ (q : ℕ). core_after q given (claimed_by r.core q cell job)) party in
+    ap (λ (c : CoreState). replaying c (map (λ (x : Worker). x.manager) (set r.workers.items w y)) r.nexts.items (map (λ (x : Posted). x.number) (set r.posted.items cell taken))) core
+    ∙ ap (λ (ms : List ManagerState). replaying (core_after (r.core.submitters + w) given (claimed_by r.core (r.core.submitters + w) cell job)) ms r.nexts.items (map (λ (x : Posted). x.number) (set r.posted.items cell taken))) managers
+    ∙ ap (λ (ns : List ℕ). replaying (core_after (r.core.submitters + w) given (claimed_by r.core (r.core.submitters + w) cell job)) (set (map (λ (x : Worker). x.manager) r.workers.items) w after) r.nexts.items ns)
+    (numbers-stay r.posted.items cell z taken at number)
+
+-- the state after a post
+pub post-state : (r : Replayer) (new : CoreState) (s n step cell : ℕ) (job : Job) (x : Posted) → new ≡ posted r.core s job → step ≡ r.core.submitters
+    → cell ≡ next_cell r.core s → x.number ≡ n
+    → record { core = new; managers = map (λ y. y.manager) r.workers.items; nexts = set r.nexts.items s (n + step); numbers = map (λ y. y.number) (set r.posted.items cell x) }
+    ≡ with_post s n job (state_of r)
+unfolding replaying
+post-state r new s n step cell job x same far at is =
+    let numbers : map (λ (y : Posted). y.number) (set r.posted.items cell x) ≡ set (map (λ (y : Posted). y.number) r.posted.items) (next_cell r.core s) n
+    = map-set (λ (y : Posted). y.number) r.posted.items cell x
+    ∙ ap (set (map (λ (y : Posted). y.number) r.posted.items) cell) is
+    ∙ ap (λ (i : ℕ). set (map (λ (y : Posted). y.number) r.posted.items) i n) at in
+    ap (λ (c : CoreState). replaying c (map (λ (y : Worker). y.manager) r.workers.items) (set r.nexts.items s (n + step)) (map (λ (y : Posted). y.number) (set r.posted.items cell x))) same
+    ∙ ap (λ (k : ℕ). replaying (posted r.core s job) (map (λ (y : Worker). y.manager) r.workers.items) (set r.nexts.items s (n + k)) (map (λ (y : Posted). y.number) (set r.posted.items cell x))) far
+    ∙ ap (λ (ns : List ℕ). replaying (posted r.core s job) (map (λ (y : Worker). y.manager) r.workers.items) (set r.nexts.items s (n + r.core.submitters)) ns) numbers
+
+pub refuted : (b : Bool) (P : Type 0) → (IsTrue b ↔ P) → b ≡ false → ¬ P
+refuted true P decides is p = let bad : true ≡ false = is in cc
+refuted false P decides is p = let bad : false ≡ true = decides.1 p in cc
+
+-- an item that is taken and put back
+pub put-back : {X : Type 0} (xs : List X) (i : ℕ) (x y : X) → slice_get xs i ≡ Some x → set (set xs i y) i x ≡ xs
+put-back [] i x y at = absurd (none-some x at)
+put-back (z ∷ xs) zero x y at = ap (λ a. a ∷ xs) (sym (same_Some z x at))
+put-back (z ∷ xs) (suc i) x y at = ap (λ l. z ∷ l) (put-back xs i x y at)
+
+-- the lines of commands over the jobs and the state that a replay begins with
+pub answered-by : (result : Result (Vec ReplayLine Global) AllocError) (own jobs : List Job) (commands : List Cmd) (r q : Replaying) → own ≡ jobs → r ≡ q
+    → IfOk result (λ lines. lines.items ≡ lines_from own commands r) → IfOk result (λ lines. lines.items ≡ lines_from jobs commands q)
+answered-by (Err e) own jobs commands r q same begun told = told
+answered-by (Ok lines) own jobs commands r q same begun told =
+    told ∙ ap (λ (js : List Job). lines_from js commands r) same ∙ ap (lines_from jobs commands) begun
+
+-- one command more is told
+pub one-told : (jobs : List Job) (commands rest : List Cmd) (command : Cmd) (before after lines all : List ReplayLine) (r q : Replaying)
+    → commands ≡ command ∷ rest → ◌≡◌ {A = Told} (lines, q) (told jobs command r) → after ≡ before ++ lines
+    → before ++ lines_from jobs commands r ≡ all → after ++ lines_from jobs rest q ≡ all
+one-told jobs commands rest command before after lines all r q is does more told_all =
+    let first : lines ≡ (told jobs command r).0 = ap (λ (t : Told). t.0) does in
+    let state : q ≡ (told jobs command r).1 = ap (λ (t : Told). t.1) does in
+    ap (λ (l : List ReplayLine). l ++ lines_from jobs rest q) more
+    ∙ append_assoc before lines (lines_from jobs rest q)
+    ∙ ap (λ (u : Replaying). before ++ (lines ++ lines_from jobs rest u)) state
+    ∙ ap (λ (l : List ReplayLine). before ++ (l ++ lines_from jobs rest (told jobs command r).1)) first
+    ∙ ap (λ (cs : List Cmd). before ++ lines_from jobs cs r) (sym is)
+    ∙ told_all
+
+-- of all commands, the first and those behind it
+pub all-first : (P : Cmd → Type 0) (commands rest : List Cmd) (command : Cmd) → commands ≡ command ∷ rest → All P commands → P command
+all-first P commands rest command is all = let each : All P (command ∷ rest) = subst (All P) is all in each 0 command (omega arith)
+
+pub all-rest : (P : Cmd → Type 0) (commands rest : List Cmd) (command : Cmd) → commands ≡ command ∷ rest → All P commands → All P rest
+all-rest P commands rest command is all = let each : All P (command ∷ rest) = subst (All P) is all in λ k d below. each (suc k) d (omega (arith, below))

@@ -1,0 +1,6 @@
+mod CommandLines
+mod Commands
+mod Fronts
+mod NewReplayers
+mod Places
+mod ReadyCells

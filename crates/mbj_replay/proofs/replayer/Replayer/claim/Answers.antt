@@ -1,0 +1,107 @@
+-- By the law of the front, the first cell of the hand is the one whose result comes.
+use Rattle.std.proofs.Common.{◌≡◌, ◌∙◌, ◌*◌, ap, sym, refl, ℕ, List, Some, None, option_map, option_to_list, slice_index, length, set, map, ◌++◌, [], ◌∷◌, length-set}
+use Rattle.mbj_core.specs.CoreStates.{CoreState}
+use Rattle.mbj_core.specs.declared.cells.TheConstants.{CELLS}
+use Rattle.mbj_manager.specs.State.{submitted, with_open}
+use Rattle.mbj_types.specs.Result.{result_of}
+use Rattle.mbj_types.specs.declared.job.Job.{Job}
+use Rattle.mbj_replay.specs.Replay.{first_with}
+use Rattle.mbj_replay.specs.Inside.State.{state_of}
+use Rattle.mbj_replay.specs.declared.line.ReplayLine.TheVariants as line
+use Rattle.mbj_replay.proofs.Fronts.{held-at, within-cells}
+use Rattle.mbj_replay.proofs.Places.{posted-at, worker-at}
+use Rattle.mbj_replay.proofs.Commands.{claim-copy, claim-hand, claim-held, claim-plays, worker-hand}
+use Rattle.mbj_replay.proofs.CommandLines.{claim-is, claim-state, finish-number, manager-is, no-claim-is, numbers-stay, refuted}
+use Rattle.mbj_replay.proofs.replayer.Replayer.claim.Goals as goal
+
+pub finish_given-finished-requires-clause-held : goal.finish_given-finished-requires-clause-held
+finish_given-finished-requires-clause-held g c =
+    let r = c.args.self.now in
+    let x = c.index_mut-2.result.now in
+    let z = c.index_mut.result.now in
+    let p = c.party_of-party.result in
+    let mid = c.claim_earliest.new.core in
+    let at = worker-at g.jobs r c.args.w x c.requires.0 c.requires.1.0 c.index_mut-2.ensures.value in
+    let there = posted-at g.jobs r c.in-Some.cell z c.requires.0 c.in-Some.ensures.within c.index_mut.ensures.value in
+    let owed = c.submit-given.ensures.owed ∙ ap (λ (j : Job). x.manager.owed ++ result_of j ∷ []) c.take_copy-copy.ensures.copy in
+    held-at mid p c.submit-given.result
+    (claim-held g.jobs r c.args.w p c.submit-given.result x c.submit-given.new.self c.requires.0 c.party_of-party.ensures at
+    mid c.in-Some.cell z there c.in-Some.ensures.claimed.0 c.submit-given.ensures.hand owed c.stands_for_lawful_states.ensures)
+
+pub number_at-requires : goal.number_at-requires
+number_at-requires g c =
+    let r = c.args.self.now in
+    let x = c.index_mut-2.result.now in
+    let z = c.index_mut.result.now in
+    let p = c.party_of-party.result in
+    let mid = c.claim_earliest.new.core in
+    let cells = c.requires.0.1.stock.cell_count in
+    let at = worker-at g.jobs r c.args.w x c.requires.0 c.requires.1.0 c.index_mut-2.ensures.value in
+    let there = posted-at g.jobs r c.in-Some.cell z c.requires.0 c.in-Some.ensures.within c.index_mut.ensures.value in
+    let owed = c.submit-given.ensures.owed ∙ ap (λ (j : Job). x.manager.owed ++ result_of j ∷ []) c.take_copy-copy.ensures.copy in
+    let submitters : mid.submitters ≡ r.core.submitters = ap (λ (d : CoreState). d.submitters) c.in-Some.ensures.claimed.0.state in
+    let count : length (set r.posted.items c.in-Some.cell c.take_copy-copy.new.self) ≡ CELLS * mid.submitters
+    = length-set r.posted.items c.in-Some.cell c.take_copy-copy.new.self ∙ cells ∙ ap (λ n. CELLS * n) (sym submitters) in
+    within-cells mid p c.submit-given.result _ c.finish_given-finished.result count c.finish_given-finished.ensures.cell
+    (claim-held g.jobs r c.args.w p c.submit-given.result x c.submit-given.new.self c.requires.0 c.party_of-party.ensures at
+    mid c.in-Some.cell z there c.in-Some.ensures.claimed.0 c.submit-given.ensures.hand owed c.stands_for_lawful_states.ensures)
+
+pub returns-in_default-clause-told : goal.returns-in_default-clause-told
+returns-in_default-clause-told g c =
+    let r = c.args.self.now in
+    let x = c.index.result.now in
+    let at = worker-at g.jobs r c.args.w x c.requires.0 c.requires.1.0 c.index.ensures in
+    no-claim-is c.args.w c.args.s (state_of r) _ x.hand.items
+    (worker-hand g.jobs r c.args.w c.party_of-party.result None x x c.requires.0 c.party_of-party.ensures at c.requires.1.0)
+    (refuted c.is_full.result (length x.hand.items ≡ CELLS) c.is_full.ensures.full c.if-is_full.false)
+    c.in_default.ensures.none
+    (ap (λ (d : CoreState). record (state_of r) { core = d }) c.in_default.ensures.same)
+
+pub returns-clause-told : goal.returns-clause-told
+returns-clause-told g c =
+    let r = c.args.self.now in
+    let first = c.index.result.now in
+    let x = c.index_mut-2.result.now in
+    let y = c.submit-given.new.self in
+    let z = c.index_mut.result.now in
+    let p = c.party_of-party.result in
+    let mid = c.claim_earliest.new.core in
+    let claims = c.in-Some.ensures.claimed.0 in
+    let at = worker-at g.jobs r c.args.w x c.requires.0 c.requires.1.0 c.index_mut-2.ensures.value in
+    let at_first = worker-at g.jobs r c.args.w first c.requires.0 c.requires.1.0 c.index.ensures in
+    let there = posted-at g.jobs r c.in-Some.cell z c.requires.0 c.in-Some.ensures.within c.index_mut.ensures.value in
+    let owed = c.submit-given.ensures.owed ∙ ap (λ (j : Job). x.manager.owed ++ result_of j ∷ []) c.take_copy-copy.ensures.copy in
+    let copy : c.take_copy-copy.result ≡ claims.job = c.take_copy-copy.ensures.copy
+    ∙ claim-copy g.jobs r c.args.w p c.submit-given.result x y c.requires.0 c.party_of-party.ensures at
+    mid c.in-Some.cell z there claims c.submit-given.ensures.hand owed c.stands_for_lawful_states.ensures in
+    let numbers = numbers-stay r.posted.items c.in-Some.cell z c.take_copy-copy.new.self there c.take_copy-copy.ensures.number in
+    claim-is c.args.w c.args.s c.in-Some.cell claims.job (state_of r) _ x.manager first.hand.items (x.hand.items ++ c.in-Some.cell ∷ []) c.submit-given.result
+    c.number_at-job.result _
+    (worker-hand g.jobs r c.args.w p c.submit-given.result first y c.requires.0 c.party_of-party.ensures at_first c.requires.1.0)
+    (refuted c.is_full.result (length first.hand.items ≡ CELLS) c.is_full.ensures.full c.if-is_full.false)
+    c.in-Some.ensures.claimed.1
+    (manager-is r.workers.items c.args.w x at)
+    (claim-hand g.jobs r c.args.w p c.submit-given.result x y c.requires.0 c.party_of-party.ensures at
+    mid c.in-Some.cell z there claims c.submit-given.ensures.hand owed c.stands_for_lawful_states.ensures c.requires.1.0)
+    (c.submit-given.ensures.finished ∙ ap (λ (j : Job). first_with (x.hand.items ++ c.in-Some.cell ∷ []) (submitted (with_open x.manager j)).0) copy)
+    (claim-state r mid c.finish_given-finished.new.core c.args.w p c.in-Some.cell claims.job c.submit-given.result y z c.take_copy-copy.new.self _
+    c.party_of-party.ensures claims.state c.finish_given-finished.ensures.core
+    (c.submit-given.ensures.manager ∙ ap (λ (j : Job). (submitted (with_open x.manager j)).1) copy) there c.take_copy-copy.ensures.number)
+    c.number_at-job.ensures
+    (c.finish_line-finish.ensures ∙ ap (λ o. map (λ n. line.Finish c.args.w (Some n)) (option_to_list o))
+    (c.number_at.ensures ∙ ap (λ (ns : List ℕ). option_map (λ i. slice_index ns i) c.finish_given-finished.result) numbers
+    ∙ finish-number (state_of r) c.submit-given.result c.finish_given-finished.result c.finish_given-finished.ensures.cell))
+
+pub returns-clause-playing : goal.returns-clause-playing
+returns-clause-playing g c =
+    let r = c.args.self.now in
+    let x = c.index_mut-2.result.now in
+    let z = c.index_mut.result.now in
+    let p = c.party_of-party.result in
+    let mid = c.claim_earliest.new.core in
+    let at = worker-at g.jobs r c.args.w x c.requires.0 c.requires.1.0 c.index_mut-2.ensures.value in
+    let there = posted-at g.jobs r c.in-Some.cell z c.requires.0 c.in-Some.ensures.within c.index_mut.ensures.value in
+    let owed = c.submit-given.ensures.owed ∙ ap (λ (j : Job). x.manager.owed ++ result_of j ∷ []) c.take_copy-copy.ensures.copy in
+    claim-plays g.jobs r c.args.w p c.submit-given.result x c.submit-given.new.self c.requires.0 c.party_of-party.ensures at
+    mid c.in-Some.cell z there c.in-Some.ensures.claimed.0 c.submit-given.ensures.hand owed c.stands_for_lawful_states.ensures
+    c.finish_given-finished.new.core c.take_copy-copy.new.self _ _ c.finish_given-finished.ensures.core c.finish_given-finished.ensures.leads refl refl

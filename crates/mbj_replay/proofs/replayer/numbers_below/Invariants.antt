@@ -1,0 +1,7 @@
+-- The numbers below this one are there.
+use Rattle.std.proofs.Common.{◌≡◌}
+use Rattle.std.specs.List.{range_with_len}
+use Rattle.mbj_replay.proofs.replayer.numbers_below.Given as goal
+
+abbrev pub invariant-loop-number : goal.invariant-loop-number
+invariant-loop-number l = l.numbers.items ≡ range_with_len 0 l.number

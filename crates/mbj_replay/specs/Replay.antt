@@ -1,0 +1,172 @@
+-- What a replay prints: what each command of a script comes to, over one front and a manager for each worker.
+use Rattle.std.specs.Prelude.{◌==◌, ◌+◌, ◌*◌, ℕ, List, [], ◌∷◌, ◌++◌, length, map, replicate, set, slice_get, slice_index, slice_index_or, Option, Some, None, option_map, option_to_list, if◌then◌else◌}
+use Rattle.std.specs.List.{range_with_len}
+use Rattle.mbj_types.specs.declared.job.Job.{Job}
+use Rattle.mbj_types.specs.declared.done.Done.{Done}
+use Rattle.mbj_core.specs.Cells.{Cell, ready, done, cell_of}
+use Rattle.mbj_core.specs.CoreStates.{CoreState, new_core, cell_in, claimed_by, finished, first_cell, hand_in, handed_out, next_cell, out_of, posted}
+use Rattle.mbj_core.specs.declared.cells.TheConstants.{CELLS}
+use Rattle.mbj_ring.specs.declared.ring.TheConstants as ring
+use Rattle.mbj_manager.specs.State.{ManagerState, flushing, new_manager, submitted, with_open}
+use Rattle.mbj_text.specs.declared.command.Cmd.{Cmd}
+use Rattle.mbj_text.specs.declared.command.Cmd.TheVariants as command
+use Rattle.mbj_replay.specs.Lines.{replay_lines_text}
+use Rattle.mbj_replay.specs.declared.line.ReplayLine.{ReplayLine}
+use Rattle.mbj_replay.specs.declared.line.ReplayLine.TheVariants as line
+
+-- Jobs are known by their numbers in the file. Job i is that of submitter i modulo the number of submitters, and a
+-- submitter posts its jobs in the order of the file.
+pub record Replaying : Type 0 where
+  pub core : CoreState
+  -- the manager of each worker
+  pub managers : List ManagerState
+  -- for each submitter, the number of its next job
+  pub nexts : List ℕ
+  -- for each cell, the number of the job that was last posted there
+  pub numbers : List ℕ
+
+abbrev pub new_replay : ℕ → ℕ → Replaying
+new_replay submitters workers = record {
+  core = new_core submitters workers;
+  managers = replicate workers new_manager;
+  nexts = range_with_len 0 submitters;
+  numbers = replicate (CELLS * submitters) 0;
+}
+
+-- the party of a worker, its manager, and the cells in its hand
+abbrev pub party : ℕ → Replaying → ℕ
+party w r = r.core.submitters + w
+
+abbrev pub manager : ℕ → Replaying → ManagerState
+manager w r = slice_index_or r.managers w new_manager
+
+abbrev pub hand : ℕ → Replaying → List ℕ
+hand w r = hand_in r.core (party w r)
+
+-- the number of the job in a cell
+abbrev pub number_in : Replaying → ℕ → ℕ
+number_in r cell = slice_index r.numbers cell
+
+-- the lines that a command prints, and the state after it
+abbrev pub Told : Type 0
+Told = List ReplayLine × Replaying
+
+-- ---- post
+
+-- the job n is posted, and the submitter's next job is as many further on as there are submitters
+abbrev pub with_post : ℕ → ℕ → Job → Replaying → Replaying
+with_post s n job r = record r {
+  core = posted r.core s job;
+  nexts = set r.nexts s (n + r.core.submitters);
+  numbers = set r.numbers (next_cell r.core s) n;
+}
+
+-- where there is no job n, there is nothing to post; where all cells of the submitter are out, the job stays the next one
+abbrev pub post_of : ℕ → ℕ → Option Job → Replaying → Told
+post_of s n None r = (line.PostEnd s ∷ [], r)
+post_of s n (Some job) r =
+    if out_of r.core s == CELLS then (line.PostFull s ∷ [], r) else (line.Post s n ∷ [], with_post s n job r)
+
+abbrev pub post_told : List Job → ℕ → Replaying → Told
+post_told jobs s r = post_of s (slice_index r.nexts s) (slice_get jobs (slice_index r.nexts s)) r
+
+-- ---- finish
+
+-- what a manager gave back goes into the first cell of the worker's hand
+abbrev pub first_with : List ℕ → Option Done → Option (ℕ × Done)
+first_with (cell ∷ cells) (Some d) = Some (cell, d)
+first_with _ _ = None
+
+abbrev pub finish_of : Replaying → Option (ℕ × Done) → Option ℕ
+finish_of r given = option_map (λ g. number_in r g.0) given
+
+abbrev pub core_after : ℕ → Option (ℕ × Done) → CoreState → CoreState
+core_after p None c = c
+core_after p (Some given) c = finished c p given.0 given.1
+
+abbrev pub after_finish : ℕ → Option (ℕ × Done) → Replaying → Replaying
+after_finish w given r = record r { core = core_after (party w r) given r.core }
+
+-- ---- claim
+
+-- the cells of a submitter's jobs that are out, the earliest first
+abbrev pub cells_out : CoreState → ℕ → List ℕ
+cells_out c s = map (cell_of s) (range_with_len (slice_index c.firsts s) (out_of c s))
+
+abbrev pub job_or : Option (Cell Job Done) → ℕ → Option (ℕ × Job) → Option (ℕ × Job)
+job_or (Some (ready job)) cell later = Some (cell, job)
+job_or _ cell later = later
+
+-- the first of the cells that holds a job that no party has claimed, and that job
+abbrev pub first_ready : CoreState → List ℕ → Option (ℕ × Job)
+first_ready c [] = None
+first_ready c (cell ∷ cells) = job_or (cell_in c cell) cell (first_ready c cells)
+
+abbrev pub with_claim : ℕ → ℕ → Job → ManagerState → Replaying → Replaying
+with_claim w cell job after r = record r {
+  core = claimed_by r.core (party w r) cell job;
+  managers = set r.managers w after;
+}
+
+abbrev pub finish_told : ℕ → ReplayLine → Option (ℕ × Done) → Replaying → Told
+finish_told w claim given r =
+    (claim ∷ map (λ n. line.Finish w (Some n)) (option_to_list (finish_of r given)), after_finish w given r)
+
+-- the claimed job is submitted to the worker's manager, and what that gives back is finished
+abbrev pub submit_told : ℕ → ReplayLine → Option Done → Replaying → Told
+submit_told w claim given r = finish_told w claim (first_with (hand w r) given) r
+
+abbrev pub claim_of : ℕ → Option (ℕ × Job) → Replaying → Told
+claim_of w None r = (line.Claim w None ∷ [], r)
+claim_of w (Some found) r =
+    submit_told w (line.Claim w (Some (number_in r found.0))) (submitted (with_open (manager w r) found.1)).0
+    (with_claim w found.0 found.1 (submitted (with_open (manager w r) found.1)).1 r)
+
+-- a worker whose hand has as many cells as its manager's ring tries nothing
+abbrev pub claim_told : ℕ → ℕ → Replaying → Told
+claim_told w s r =
+    if length (hand w r) == ring.CELLS then (line.ClaimFull w ∷ [], r) else claim_of w (first_ready r.core (cells_out r.core s)) r
+
+-- ---- flush
+
+abbrev pub with_manager : ℕ → ManagerState → Replaying → Replaying
+with_manager w after r = record r { managers = set r.managers w after }
+
+abbrev pub flush_of : ℕ → Option (ℕ × Done) → Replaying → Told
+flush_of w given r = (line.Finish w (finish_of r given) ∷ [], after_finish w given r)
+
+abbrev pub flush_told : ℕ → Replaying → Told
+flush_told w r = flush_of w (first_with (hand w r) (flushing (manager w r)).0) (with_manager w (flushing (manager w r)).1 r)
+
+-- ---- collect
+
+abbrev pub collect_of : ℕ → Option (Cell Job Done) → Replaying → Told
+collect_of s (Some (done d)) r =
+    (line.Collect s (number_in r (first_cell r.core s)) d ∷ [], record r { core = handed_out r.core s })
+collect_of s _ r = (line.CollectNone s ∷ [], r)
+
+-- what the cell of the submitter's earliest job that is out holds, where one is out
+abbrev pub earliest_out : CoreState → ℕ → Option (Cell Job Done)
+earliest_out c s = if out_of c s == 0 then None else cell_in c (first_cell c s)
+
+abbrev pub collect_told : ℕ → Replaying → Told
+collect_told s r = collect_of s (earliest_out r.core s) r
+
+-- ---- the whole
+
+abbrev pub told : List Job → Cmd → Replaying → Told
+told jobs (command.Post s) r = post_told jobs s r
+told jobs (command.Claim w s) r = claim_told w s r
+told jobs (command.Flush w) r = flush_told w r
+told jobs (command.Collect s) r = collect_told s r
+
+-- the lines of commands, one after another
+abbrev pub lines_from : List Job → List Cmd → Replaying → List ReplayLine
+lines_from jobs [] r = []
+lines_from jobs (c ∷ commands) r = (told jobs c r).0 ++ lines_from jobs commands (told jobs c r).1
+
+unfoldable pub replay_lines : List Job → List Cmd → ℕ → ℕ → List ReplayLine
+replay_lines jobs commands submitters workers = lines_from jobs commands (new_replay submitters workers)
+
+abbrev pub replay_text : List Job → List Cmd → ℕ → ℕ → List ℕ
+replay_text jobs commands submitters workers = replay_lines_text (replay_lines jobs commands submitters workers)

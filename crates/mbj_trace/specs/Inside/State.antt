@@ -1,0 +1,11 @@
+-- What the fields of a trace stand for.
+use Rattle.std.specs.Prelude.{ℕ, ◌-◌, ◌^◌}
+use Rattle.mbj_trace.specs.Trace.{Tracing}
+use Rattle.mbj_trace.specs.declared.tracer.Tracer.{Tracer}
+
+abbrev pub state_of : Tracer → Tracing
+state_of t = record { manager = t.manager; given = t.given }
+
+-- the number of jobs is kept in 32 bits
+abbrev pub MAX_GIVEN : ℕ
+MAX_GIVEN = 2 ^ 32 - 1

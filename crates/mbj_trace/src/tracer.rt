@@ -1,0 +1,186 @@
+ghost use Rattle.std.specs.Prelude.{◌≡◌, ◌+◌, ◌<◌, ◌≤◌, ◌++◌, ◌∷◌, [], IfOk, OnOk, flat_map, is_some, length};
+ghost use Rattle.mbj_types.specs.Kinds.{all_kinds};
+ghost use Rattle.mbj_ring.specs.declared.ring.TheConstants.{CELLS};
+ghost use Rattle.mbj_manager.specs.State.{new_manager};
+ghost use Rattle.mbj_text.specs.declared.limits.TheConstants.{JOB_LIMIT};
+ghost use Rattle.mbj_trace.specs.Trace.{after_all_taken, after_jobs, after_submit, after_take, all_taken, count_after, count_lines, job_lines, jobs_in, number_at, room_lines, submit_line, take_line, taken_by, trace_lines, tracing, with_room};
+ghost use Rattle.mbj_trace.specs.Inside.State.{MAX_GIVEN, state_of};
+
+use crate::line::TraceLine;
+use mbj_manager::Manager;
+use mbj_ring::CELLS;
+use mbj_types::{Done, Job, Kind};
+use mbj_work::fill;
+use std::alloc::{AllocError, Global};
+
+/// How a job is taken back.
+#[derive(Clone, Copy, Debug, PartialEq, Eq)]
+pub enum Taking {
+    /// By `Manager::get_completed`.
+    Completed,
+    /// By `Manager::flush`.
+    Flushed,
+}
+
+/// A manager whose calls are told in lines.
+#[derive(Drop)]
+struct Tracer {
+    manager: Manager,
+    // How many jobs it gave back.
+    given: u32,
+    lines: Vec<TraceLine>,
+}
+
+impl Tracer {
+    /// A new manager, and no lines.
+    fn new(alloc: Global) -> Result<Tracer, AllocError>
+        ensures { IfOk result (λ t. (state_of t ≡ tracing new_manager) × (t.lines.items ≡ [])) }
+    {
+        let manager = Manager::new(alloc)?;
+        Ok(Tracer {
+            manager,
+            given: 0,
+            lines: Vec::new(alloc),
+        })
+    }
+
+    /// Counts a job that was given back, and answers its number.
+    fn number(&mut self, done: Option<Done>) -> Option<u32>
+        requires { self.old.given < MAX_GIVEN }
+        ensures number { result ≡ number_at done self.old.given }
+        ensures given { self.new.given ≡ count_after done self.old.given }
+        ensures manager { self.new.manager ≡ self.old.manager }
+        ensures lines { self.new.lines ≡ self.old.lines }
+    {
+        done?;
+        let number = self.given;
+        self.given += 1;
+        Some(number)
+    }
+
+    /// Where no cell is left, tells that and flushes the earliest job.
+    fn make_room(&mut self) -> Result<(), AllocError>
+        requires { jobs_in (state_of self.old) ≤ JOB_LIMIT }
+        ensures lines { OnOk result (self.new.lines.items ≡ self.old.lines.items ++ room_lines (state_of self.old)) }
+        ensures state { OnOk result (state_of self.new ≡ with_room (state_of self.old)) }
+        ensures room { OnOk result (length self.new.manager.owed < CELLS) }
+        ensures count { OnOk result (jobs_in (state_of self.new) ≡ jobs_in (state_of self.old)) }
+    {
+        if self.manager.queue_size() == CELLS {
+            self.lines.push(TraceLine::Full)?;
+            let done = self.manager.flush();
+            let flushed = self.number(done);
+            self.lines.push(TraceLine::Flush(flushed))?;
+        }
+        Ok(())
+    }
+
+    /// Submits job `number` of the file.
+    fn submit(&mut self, number: u32, job: Job) -> Result<(), AllocError>
+        requires { jobs_in (state_of self.old) < JOB_LIMIT }
+        ensures lines { OnOk result (self.new.lines.items ≡ self.old.lines.items
+            ++ (room_lines (state_of self.old) ++ submit_line number job (with_room (state_of self.old)) ∷ [])) }
+        ensures state { OnOk result (state_of self.new ≡ after_submit job (with_room (state_of self.old))) }
+        ensures count { OnOk result (jobs_in (state_of self.new) ≡ jobs_in (state_of self.old) + 1) }
+    {
+        self.make_room()?;
+        fill(&mut self.manager, job);
+        let done = self.manager.submit();
+        let given = self.number(done);
+        self.lines.push(TraceLine::Submit { job: number, given })?;
+        Ok(())
+    }
+
+    /// Submits the jobs of a file.
+    fn submit_all(&mut self, jobs: Vec<Job>) -> Result<(), AllocError>
+        requires jobs { length jobs.items ≤ JOB_LIMIT }
+        requires none { jobs_in (state_of self.old) ≡ 0 }
+        ensures lines { OnOk result (self.new.lines.items
+            ≡ self.old.lines.items ++ job_lines 0 jobs.items (state_of self.old)) }
+        ensures state { OnOk result (state_of self.new ≡ after_jobs jobs.items (state_of self.old)) }
+        ensures count { OnOk result (jobs_in (state_of self.new) ≤ JOB_LIMIT) }
+    {
+        let mut number = 0;
+        for job in jobs {
+            self.submit(number, job)?;
+            number += 1;
+        }
+        Ok(())
+    }
+
+    /// Takes a job back, and answers whether there was one.
+    fn take(&mut self, how: Taking) -> Result<bool, AllocError>
+        requires { jobs_in (state_of self.old) ≤ JOB_LIMIT }
+        ensures taken { IfOk result (λ taken. taken ≡ is_some (taken_by how self.old.manager).0) }
+        ensures lines { OnOk result (self.new.lines.items
+            ≡ self.old.lines.items ++ take_line how (state_of self.old) ∷ []) }
+        ensures state { OnOk result (state_of self.new ≡ after_take how (state_of self.old)) }
+        ensures count { OnOk result (jobs_in (state_of self.new) ≡ jobs_in (state_of self.old)) }
+    {
+        let done = match how {
+            Taking::Completed => self.manager.get_completed(),
+            Taking::Flushed => self.manager.flush(),
+        };
+        let given = self.number(done);
+        self.lines.push(match how {
+            Taking::Completed => TraceLine::Completed(given),
+            Taking::Flushed => TraceLine::Flush(given),
+        })?;
+        Ok(given.is_some())
+    }
+
+    /// Takes jobs back until there is none.
+    fn take_all(&mut self, how: Taking) -> Result<(), AllocError>
+        requires { jobs_in (state_of self.old) ≤ JOB_LIMIT }
+        ensures lines { OnOk result (self.new.lines.items ≡ self.old.lines.items ++ all_taken how (state_of self.old)) }
+        ensures state { OnOk result (state_of self.new ≡ after_all_taken how (state_of self.old)) }
+        ensures count { OnOk result (jobs_in (state_of self.new) ≡ jobs_in (state_of self.old)) }
+    {
+        'taking: while self.take(how)? {}
+        Ok(())
+    }
+
+    /// Tells what the full runs of a kind came to, where there were any.
+    fn count_kind(&mut self, kind: Kind) -> Result<(), AllocError>
+        ensures lines { OnOk result (self.new.lines.items
+            ≡ self.old.lines.items ++ count_lines self.old.manager.machine kind) }
+        ensures manager { self.new.manager ≡ self.old.manager }
+    {
+        let rounds = self.manager.rounds(kind);
+        if rounds != 0 {
+            let blocks = self.manager.blocks(kind);
+            self.lines.push(TraceLine::Rounds {
+                kind,
+                rounds,
+                blocks,
+            })?;
+        }
+        Ok(())
+    }
+
+    /// Tells what the full runs of each kind came to.
+    fn count(&mut self) -> Result<(), AllocError>
+        ensures { OnOk result (self.new.lines.items
+            ≡ self.old.lines.items ++ flat_map (count_lines self.old.manager.machine) all_kinds) }
+    {
+        for kind in Kind::ALL {
+            self.count_kind(kind)?;
+        }
+        Ok(())
+    }
+}
+
+/// The lines that tell what each call of one manager gives back over the jobs of a file.
+///
+/// Answers `AllocError` for want of memory.
+pub fn trace_lines(alloc: Global, jobs: Vec<Job>) -> Result<Vec<TraceLine>, AllocError>
+    requires { length jobs.items ≤ JOB_LIMIT }
+    ensures { IfOk result (λ lines. lines.items ≡ trace_lines jobs.items) }
+{
+    let mut tracer = Tracer::new(alloc)?;
+    tracer.submit_all(jobs)?;
+    tracer.take_all(Taking::Completed)?;
+    tracer.take_all(Taking::Flushed)?;
+    tracer.count()?;
+    Ok(tracer.lines)
+}
