@@ -1,7 +1,16 @@
-mod Digits
+mod BlockRuns
+mod Carryless
+mod CarrylessProducts
+mod Classes
+mod Columns
 mod Elements
+mod FieldLaws
+mod Folding
+mod HashSteps
+mod Karatsuba
 mod Multiples
 mod Numbers
 mod Reductions
 mod States
 mod Sums
+mod Xors

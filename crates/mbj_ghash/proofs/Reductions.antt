@@ -2,33 +2,33 @@
 use Rattle.std.proofs.Common.{◌≡◌, ℕ, zero, suc, ◌+◌, ◌≤◌, Bool, true, false, List, [], ◌∷◌, ◌++◌, length, take, refl, sym, ap, ap₂, ◌∙◌, arith, length-append}
 use Rattle.std.proofs.lemmas.List.{length-replicate, length-take-le, append_assoc, append-nil, take-replicate}
 use Rattle.mbj_types.specs.Field.{plus, add, scale, mul, zeros, tail, coefficient, fold_top, reduce, product}
-use Rattle.mbj_ghash.specs.Products.{times_x, multiple}
+use Rattle.mbj_ghash.proofs.Multiples.{times_x, multiple}
 use Rattle.mbj_ghash.proofs.Sums.{plus_comm, zeros_add, add_zeros, add_swap, append-add, length-add, length-scale, scale_true, scale_false}
 use Rattle.mbj_ghash.proofs.Multiples.{length-times_x, times_x-add, times_x-multiple}
 
 -- ---- a polynomial of any length, reduced from its lowest coefficient on: b + x * p
 
 -- each polynomial as an element: x times the rest, and the lowest coefficient added
-unfoldable reduced : List Bool → List Bool
+unfoldable pub reduced : List Bool → List Bool
 reduced [] = zeros 128
 reduced (b ∷ p) = add (b ∷ zeros 127) (times_x (reduced p))
 
 -- it has 128 coefficients
-length-reduced : (p : List Bool) → length (reduced p) ≡ 128
+pub length-reduced : (p : List Bool) → length (reduced p) ≡ 128
 unfolding reduced
 length-reduced [] = refl
 length-reduced (b ∷ p) =
     length-add (b ∷ zeros 127) (times_x (reduced p)) ∙ omega (arith, length-times_x (reduced p) (length-reduced p))
 
 -- the lowest coefficient is 0
-reduced-false : (p : List Bool) → reduced (false ∷ p) ≡ times_x (reduced p)
+pub reduced-false : (p : List Bool) → reduced (false ∷ p) ≡ times_x (reduced p)
 unfolding reduced
 reduced-false p = zeros_add 128 (times_x (reduced p)) (omega (arith, length-times_x (reduced p) (length-reduced p)))
 
 -- ---- it is linear
 
 -- of a sum
-reduced-add : (p q : List Bool) → reduced (add p q) ≡ add (reduced p) (reduced q)
+pub reduced-add : (p q : List Bool) → reduced (add p q) ≡ add (reduced p) (reduced q)
 unfolding reduced
 reduced-add [] q = sym (zeros_add 128 (reduced q) (omega (arith, length-reduced q)))
 reduced-add (a ∷ p) [] = sym (add_zeros 128 (reduced (a ∷ p)) (omega (arith, length-reduced (a ∷ p))))
@@ -101,7 +101,7 @@ reduced-short (b ∷ p) n h =
     ∙ ap₂ (λ x xs. x ∷ xs) (plus_comm b false) (zeros_add 127 (p ++ zeros n) (omega (arith, length-padded p n 127 l)))
 
 -- 128 coefficients are the element
-reduced-whole : (p : List Bool) → length p ≡ 128 → reduced p ≡ p
+pub reduced-whole : (p : List Bool) → length p ≡ 128 → reduced p ≡ p
 reduced-whole p h = reduced-short p 0 (omega arith) ∙ append-nil p
 
 -- ---- the highest coefficient may be replaced by way of x^128
@@ -157,7 +157,7 @@ length-fold_top n p h =
     length-add (take (n + 128) p) (zeros n ++ scale c tail) ∙ omega (arith, length-take-le (n + 128) p (omega arith))
 
 -- all coefficients from x^128 on, replaced from the highest down
-reduced-reduce : (n : ℕ) (p : List Bool) → length p ≡ n + 128 → reduced p ≡ reduce n p
+pub reduced-reduce : (n : ℕ) (p : List Bool) → length p ≡ n + 128 → reduced p ≡ reduce n p
 reduced-reduce zero p h = reduced-whole p (omega arith)
 reduced-reduce (suc n) p h =
     let l : length p ≡ suc (n + 128) = omega arith in

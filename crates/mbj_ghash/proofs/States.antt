@@ -2,6 +2,7 @@
 use Rattle.std.proofs.Common.{◌≡◌, ℕ, List, [], ◌∷◌, ◌++◌, refl, ap, ◌∙◌, sym}
 use Rattle.mbj_types.specs.Blocks.{xor_lists, zero_block}
 use Rattle.mbj_types.specs.Ghash.{block_product, ghash_from}
+use Rattle.mbj_ghash.proofs.BlockRuns.{ghash_from-append}
 use Rattle.mbj_ghash.specs.State.{HashState, state_after}
 
 -- the value after the last block, from the one before it
@@ -17,3 +18,11 @@ pub state_after-last : (old new : HashState) (h : List ℕ) (xs : List (List ℕ
 state_after-last old new h xs x e f =
     f ∙ ap (λ (s : HashState). record s { value = block_product (xor_lists s.value x) s.subkey }) e
     ∙ ap (λ (y : List ℕ). record { subkey = h; value = y }) (sym (ghash_from-last h zero_block xs x))
+
+-- the state after more blocks
+pub state_after-more : (old new : HashState) (h : List ℕ) (xs ys : List (List ℕ)) → old ≡ state_after h xs
+    → new ≡ record old { value = ghash_from old.subkey old.value ys }
+    → new ≡ state_after h (xs ++ ys)
+state_after-more old new h xs ys e f =
+    f ∙ ap (λ (s : HashState). record s { value = ghash_from s.subkey s.value ys }) e
+    ∙ ap (λ (y : List ℕ). record { subkey = h; value = y }) (sym (ghash_from-append h zero_block xs ys))

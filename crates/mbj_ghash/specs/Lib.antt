@@ -2,5 +2,5 @@ pub use Rattle.mbj_types.specs.Blocks
 pub use Rattle.mbj_types.specs.Field
 pub use Rattle.mbj_types.specs.Ghash
 pub mod Examples
-pub mod Products
+pub mod Inside
 pub mod State

@@ -1,34 +1,39 @@
-ghost use Rattle.std.specs.Prelude.{◌≡◌, ℕ, List, [], ◌∷◌, ◌++◌};
-ghost use Rattle.mbj_types.specs.Blocks.{xor_lists};
-ghost use Rattle.mbj_types.specs.Ghash.{block_product, ghash};
+ghost use Rattle.std.specs.Prelude.{◌≡◌, ℕ, ◌≤◌, List, [], ◌∷◌, ◌++◌, length};
+ghost use Rattle.mbj_types.specs.Blocks.{xor_lists, filled_block};
+ghost use Rattle.mbj_types.specs.Ghash.{block_product, ghash, ghash_from, filled_blocks};
 ghost use Rattle.mbj_ghash.specs.State.{HashState, state_after};
 
-use crate::subkey::Subkey;
+use crate::horner::{after_block, after_blocks};
 use std::marker::Model;
 
-// One turn of SP 800-38D, 6.4, step 3.
-fn next_value(subkey: &Subkey, value: &[u8; 16], block: &[u8; 16]) -> [u8; 16]
-    ensures { result ≡ block_product (xor_lists value.now block.now) subkey.now.block }
+// The bytes of a block.
+const BLOCK_BYTES: usize = 16;
+
+// A block that isn't whole, with zero bytes behind it.
+fn filled(part: &[u8]) -> [u8; 16]
+    requires { length part.now ≤ 16 }
+    ensures { result ≡ filled_block part.now }
 {
-    let sum = u128::from_be_bytes(*value) ^ u128::from_be_bytes(*block);
-    subkey.times(sum).to_be_bytes()
+    let mut block = [0; BLOCK_BYTES];
+    block[..part.len()].copy_from_slice(part);
+    block
 }
 
 /// A hash that takes one block after another. Contracts see it as a `HashState`: the hash subkey and the value so
-/// far, as lists of 16 bytes. It owns no memory. A table is looked up by the digits of what is hashed, so the time
-/// that a block takes may depend on it.
+/// far, as lists of 16 bytes. It owns no memory.
 #[derive(Drop)]
 pub struct Ghash {
-    subkey: Subkey,
-    value: [u8; 16],
+    subkey: [u8; 16],
+    value: u128,
 }
 
 impl Model for Ghash {
+    ghost use Rattle.std.specs.Int.{w128, to_be_bytes};
     ghost use Rattle.mbj_ghash.specs.State.{HashState};
 
     ghost Value = { HashState };
 
-    ghost view = { λ g. record { subkey = g.subkey.block; value = g.value } };
+    ghost view = { λ g. record { subkey = g.subkey; value = to_be_bytes w128 g.value } };
 }
 
 impl Ghash {
@@ -38,8 +43,8 @@ impl Ghash {
         ensures { result ≡ state_after h [] }
     {
         Ghash {
-            subkey: Subkey::new(h),
-            value: [0; 16],
+            subkey: h,
+            value: 0,
         }
     }
 
@@ -52,7 +57,35 @@ impl Ghash {
         ensures so_far { (h : List ℕ) (xs : List (List ℕ)) → self.old ≡ state_after h xs
             → self.new ≡ state_after h (xs ++ block.now ∷ []) }
     {
-        self.value = next_value(&self.subkey, &self.value, block);
+        self.value = after_block(self.value, &self.subkey, block);
+    }
+
+    /// Takes blocks, the first one first, as `update_block` takes each (SP 800-38D, 6.4, step 3). Of many blocks four
+    /// are multiplied at once.
+    pub fn update_blocks(&mut self, blocks: &[[u8; 16]])
+        ensures next { self.new ≡ record self.old {
+          value = ghash_from self.old.subkey self.old.value blocks.now;
+        } }
+        ensures so_far { (h : List ℕ) (xs : List (List ℕ)) → self.old ≡ state_after h xs
+            → self.new ≡ state_after h (xs ++ blocks.now) }
+    {
+        self.value = after_blocks(self.value, &self.subkey, blocks);
+    }
+
+    /// Takes the blocks of a part, the last one filled with zero bytes to 16, as GCM hashes its parts (SP 800-38D, 7.1,
+    /// steps 4 and 5). A part of no bytes has no block.
+    pub fn update_padded(&mut self, bytes: &[u8])
+        ensures next { self.new ≡ record self.old {
+          value = ghash_from self.old.subkey self.old.value (filled_blocks bytes.now);
+        } }
+        ensures so_far { (h : List ℕ) (xs : List (List ℕ)) → self.old ≡ state_after h xs
+            → self.new ≡ state_after h (xs ++ filled_blocks bytes.now) }
+    {
+        let (blocks, rest) = bytes.as_chunks::<BLOCK_BYTES>();
+        self.update_blocks(blocks);
+        if !rest.is_empty() {
+            self.update_block(&filled(rest));
+        }
     }
 
     /// The value so far, a block: GHASH of the blocks that were taken.
@@ -61,6 +94,6 @@ impl Ghash {
         ensures so_far { (h : List ℕ) (xs : List (List ℕ)) → self.now ≡ state_after h xs
             → result ≡ ghash h xs }
     {
-        self.value
+        self.value.to_be_bytes()
     }
 }

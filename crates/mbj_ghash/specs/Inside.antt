@@ -1,0 +1,4 @@
+-- What the functions inside the crate compute. No public clause cites it.
+pub mod Carryless
+pub mod Lanes
+pub mod Powers
