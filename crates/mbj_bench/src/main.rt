@@ -3,6 +3,7 @@
 //! in the same run. Other arguments are ignored.
 #![tactic(auto)]
 
+mod ghash;
 mod kernel;
 mod message;
 mod sha1_kernel;
@@ -16,8 +17,10 @@ fn main(rt: HostRuntime) -> io::Result<()> {
     sha1_kernel::print_digests(&rt)?;
     sha256_kernel::print_digests(&rt)?;
     sha512_kernel::print_digests(&rt)?;
+    ghash::print_digest(&rt)?;
     if env::args(&rt)?.any(|word| word.as_str() == "--time") {
         timing::print(&rt)?;
+        ghash::print_times(&rt)?;
     }
     Ok(())
 }

@@ -95,8 +95,9 @@ fn columns(
     masked(sum(three, integer_product(x.fourth, to_fourth)), mask)
 }
 
-/// The products of polynomials of degree below 32.
-#[inline(always)]
+/// The products of polynomials of degree below 32. It is a call, since code that has it nine times over no longer fits where
+/// a processor keeps decoded instructions.
+#[inline(never)]
 pub fn products_32(x: u64x4, y: u64x4) -> u64x4
     ensures { (i : ℕ) → i < 4 → lane_at 64 x i < 2 ^ 32 → lane_at 64 y i < 2 ^ 32
         → lane_at 64 result i ≡ carryless 32 (lane_at 64 x i) (lane_at 64 y i) }
