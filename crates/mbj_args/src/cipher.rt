@@ -3,7 +3,7 @@
 ghost use Rattle.std.specs.Prelude.{◌≡◌, length, not};
 ghost use Rattle.mbj_types.specs.Verdict.{is_null_cipher, is_gcm_cipher, takes_key, takes_iv, takes_range};
 
-use mbj_types::Cipher;
+use mbj_types::{Cipher, MAX_IV_BYTES};
 
 pub(crate) fn is_null(cipher: Cipher) -> bool
     ensures { result ≡ is_null_cipher cipher }
@@ -30,7 +30,7 @@ pub(crate) fn takes_key(cipher: Cipher, len: usize) -> bool
     is_null(cipher) || len == 16 || len == 24 || len == 32
 }
 
-/// Initialization vectors of this many bytes.
+/// Initialization vectors of this many bytes: 16 for CBC, 12 or 16 for CTR, 1 to 65,535 for GCM.
 pub(crate) fn takes_iv(cipher: Cipher, len: usize) -> bool
     ensures { result ≡ takes_iv cipher len }
 {
@@ -38,7 +38,7 @@ pub(crate) fn takes_iv(cipher: Cipher, len: usize) -> bool
         Cipher::Null => true,
         Cipher::Cbc => len == 16,
         Cipher::Ctr => len == 12 || len == 16,
-        Cipher::Gcm => len == 12,
+        Cipher::Gcm => len > 0 && len <= MAX_IV_BYTES,
     }
 }
 

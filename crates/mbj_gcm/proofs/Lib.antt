@@ -1,3 +1,2 @@
-mod Absorbed
 mod Counters
 mod Undoing

@@ -4,7 +4,7 @@ use Rattle.std.specs.List.{concat}
 use Rattle.std.proofs.lemmas.List.{take_all, drop_all, length-take, take-append-drop, take_at, drop_at}
 use Rattle.std.proofs.lemmas.Bool.{cases_lt}
 use Rattle.mbj_types.specs.Aes.{aes}
-use Rattle.mbj_types.specs.Blocks.{xor_lists, blocks}
+use Rattle.mbj_types.specs.Blocks.{xor_lists, blocks, zero_block}
 use Rattle.mbj_types.specs.Gcm.{inc32, pre_counter_block, gctr, gcm_text, gcm_tag}
 use Rattle.mbj_aes.specs.Bytes.{IsBlock}
 use Rattle.mbj_aes.proofs.AesLaws.{encryption_keeps}
@@ -67,8 +67,9 @@ twice (suc n) e j text keeps block h = elim (cases_lt 0 (length text)) [
 
 -- the law, for texts
 pub gcm_undone : UnsealingUndoesSealing
-gcm_undone key iv aad text k a h =
-    let j : List ℕ = inc32 (pre_counter_block iv) in
-    let block : IsBlock j = IsBlock-inc32 (pre_counter_block iv) (IsBlock-pre_counter_block iv h a) in
+gcm_undone key iv aad text k a =
+    let start : List ℕ = pre_counter_block (aes key zero_block) iv in
+    let j : List ℕ = inc32 start in
+    let block : IsBlock j = IsBlock-inc32 start (IsBlock-pre_counter_block (aes key zero_block) iv a) in
     ap (λ ys. (ys, gcm_tag (aes key) iv aad (gcm_text (aes key) iv text)))
     (twice (length text) (aes key) j text (λ b. encryption_keeps key b k) block (omega arith))

@@ -1,2 +1,1 @@
-pub mod Absorbing
 pub mod Laws

@@ -1,32 +1,38 @@
-ghost use Rattle.std.specs.Prelude.{◌≡◌, true, false, length};
+ghost use Rattle.std.specs.Prelude.{◌≡◌, ◌≤◌, true, false, length};
 ghost use Rattle.mbj_types.specs.Aes.{encipher};
 ghost use Rattle.mbj_types.specs.Gcm.{gcm};
 
-use crate::counter::xor_key_stream;
-use crate::hash::tag;
+use crate::counter::{pre_counter_block, xor_key_stream};
+use crate::hash::{hash_subkey, tag};
 use mbj_aes::Schedule;
 
-/// Encrypts a text in place by GCM (SP 800-38D, 7.1) from an IV of 12 bytes, and answers the 16 bytes of tag over
-/// `aad` and the ciphertext, of which a shorter tag is the leftmost ones. The text and `aad` may have any number of
+/// Encrypts a text in place by GCM (SP 800-38D, 7.1) from an IV of 1 to 65,535 bytes, and answers the 16 bytes of tag
+/// over `aad` and the ciphertext, of which a shorter tag is the leftmost ones. The text and `aad` may have any number of
 /// bytes, and the hash counts their bits modulo 2^64.
 pub fn seal(key: &Schedule, iv: &[u8], aad: &[u8], text: &mut [u8]) -> [u8; 16]
-    requires { length iv.now ≡ 12 }
+    requires some_iv { 1 ≤ length iv.now }
+    requires iv_fits { length iv.now ≤ 65535 }
     ensures text { text.new ≡ (gcm (encipher key.now) iv.now aad.now text.old true).0 }
     ensures tag { result ≡ (gcm (encipher key.now) iv.now aad.now text.old true).1 }
 {
-    xor_key_stream(key, iv, text);
-    tag(key, iv, aad, text)
+    let subkey = hash_subkey(key);
+    let pre_counter = pre_counter_block(&subkey, iv);
+    xor_key_stream(key, &pre_counter, text);
+    tag(key, &subkey, &pre_counter, aad, text)
 }
 
-/// Decrypts a text in place by GCM (SP 800-38D, 7.2, steps 2 to 7) from an IV of 12 bytes, and answers the 16 bytes
-/// of tag over `aad` and the text as it was, the ciphertext. Nothing is compared: the text is decrypted whatever tag
-/// it came with, and the caller compares that tag with the leftmost bytes of the answer.
+/// Decrypts a text in place by GCM (SP 800-38D, 7.2, steps 2 to 7) from an IV of 1 to 65,535 bytes, and answers the 16
+/// bytes of tag over `aad` and the text as it was, the ciphertext. Nothing is compared: the text is decrypted whatever
+/// tag it came with, and the caller compares that tag with the leftmost bytes of the answer.
 pub fn unseal(key: &Schedule, iv: &[u8], aad: &[u8], text: &mut [u8]) -> [u8; 16]
-    requires { length iv.now ≡ 12 }
+    requires some_iv { 1 ≤ length iv.now }
+    requires iv_fits { length iv.now ≤ 65535 }
     ensures text { text.new ≡ (gcm (encipher key.now) iv.now aad.now text.old false).0 }
     ensures tag { result ≡ (gcm (encipher key.now) iv.now aad.now text.old false).1 }
 {
-    let computed = tag(key, iv, aad, text);
-    xor_key_stream(key, iv, text);
+    let subkey = hash_subkey(key);
+    let pre_counter = pre_counter_block(&subkey, iv);
+    let computed = tag(key, &subkey, &pre_counter, aad, text);
+    xor_key_stream(key, &pre_counter, text);
     computed
 }

@@ -1,4 +1,4 @@
-//! GCM with AES (SP 800-38D) on a text in place, with IVs of 12 bytes, and the law that unsealing undoes sealing.
+//! GCM with AES (SP 800-38D) on a text in place, with IVs of 1 to 65,535 bytes, and the law that unsealing undoes sealing.
 //! Nothing is compared: a caller compares the tag that it gets. No call takes memory.
 #![tactic(auto)]
 

@@ -1,5 +1,5 @@
 -- The value of a hash after runs of blocks, and the blocks of a part.
-use Rattle.std.proofs.Common.{◌≡◌, ℕ, zero, suc, ◌+◌, ◌-◌, ◌*◌, ◌/◌, ◌%◌, ◌<◌, ◌≤◌, List, [], ◌∷◌, ◌++◌, length, take, drop, map, replicate, slice_index_or, refl, sym, ap, ap₂, ◌∙◌, arith, length-drop, append_assoc, append-nil}
+use Rattle.std.proofs.Common.{◌≡◌, ℕ, zero, suc, ◌+◌, ◌-◌, ◌*◌, ◌/◌, ◌%◌, ◌<◌, List, [], ◌∷◌, ◌++◌, length, take, drop, map, replicate, slice_index_or, refl, sym, ap, ap₂, ◌∙◌, arith, length-drop, append_assoc, append-nil}
 use Rattle.std.specs.List.{flat_map}
 use Rattle.std.specs.Simd.{first_chunks}
 use Rattle.std.proofs.lemmas.Grind.{flat_map-append}
@@ -8,7 +8,8 @@ use Rattle.mbj_types.specs.Blocks.{xor_lists, first_blocks, blocks, filled_block
 use Rattle.mbj_types.specs.Ghash.{block_product, ghash_from, filled_blocks}
 
 -- one run after another
-pub ghash_from-append : (h y : List ℕ) (xs ys : List (List ℕ)) → ghash_from h y (xs ++ ys) ≡ ghash_from h (ghash_from h y xs) ys
+pub ghash_from-append : (h y : List ℕ) (xs ys : List (List ℕ))
+    → ghash_from h y (xs ++ ys) ≡ ghash_from h (ghash_from h y xs) ys
 ghash_from-append h y [] ys = refl
 ghash_from-append h y (x ∷ xs) ys = ghash_from-append h (block_product (xor_lists y x) h) xs ys
 
@@ -96,7 +97,8 @@ last_block (suc k) part h l =
     (drop-drop (k * 16) 16 part ∙ ap (λ (m : ℕ). drop m part) (omega arith)))
 
 -- a part of whole blocks
-pub filled_blocks-whole : (part : List ℕ) → length part % 16 ≡ 0 → filled_blocks part ≡ first_chunks 16 (length part / 16) part
+pub filled_blocks-whole : (part : List ℕ) → length part % 16 ≡ 0
+    → filled_blocks part ≡ first_chunks 16 (length part / 16) part
 unfolding blocks
 filled_blocks-whole part h =
     let k : ℕ = length part / 16 in
@@ -105,7 +107,8 @@ filled_blocks-whole part h =
 
 -- any other part
 pub filled_blocks-last : (part : List ℕ) → 0 < length part % 16
-    → filled_blocks part ≡ first_chunks 16 (length part / 16) part ++ filled_block (drop (length part / 16 * 16) part) ∷ []
+    → filled_blocks part ≡ first_chunks 16 (length part / 16) part ++ filled_block
+    (drop (length part / 16 * 16) part) ∷ []
 unfolding blocks
 filled_blocks-last part h =
     let k : ℕ = length part / 16 in

@@ -95,7 +95,8 @@ carryless-lt (suc n) m x y h =
     let p : 2 ^ suc (m + n) ≡ 2 ^ (m + n) * 2 = pow-suc 2 (m + n) in
     let c : carryless (suc n) (x / 2) y < 2 ^ (m + n) = carryless-lt n m (x / 2) y h in
     rw e (xor_lt (suc (m + n)) (x % 2 * y) (carryless (suc n) (x / 2) y * 2)
-    (times_below (x % 2) y (2 ^ suc (m + n)) (omega arith) (omega (arith, pow_mono {i = m} {j = suc (m + n)} (omega arith))))
+    (times_below (x % 2) y (2 ^ suc (m + n)) (omega arith)
+    (omega (arith, pow_mono {i = m} {j = suc (m + n)} (omega arith))))
     (omega (arith, c, p)))
   where
     times_below : (a y b : ℕ) → a < 2 → y < b → a * y < b

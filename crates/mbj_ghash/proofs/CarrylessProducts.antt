@@ -1,5 +1,5 @@
 -- The product of polynomials, reduced, is the product of elements.
-use Rattle.std.proofs.Common.{◌≡◌, ℕ, zero, suc, ◌+◌, ◌*◌, ◌/◌, ◌%◌, ◌^◌, ◌<◌, ◌==◌, Bool, true, false, List, [], ◌∷◌, ◌++◌, length, bit_or, bit_xor, refl, sym, ap, ap₂, ◌∙◌, arith}
+use Rattle.std.proofs.Common.{◌≡◌, ℕ, zero, suc, ◌+◌, ◌*◌, ◌/◌, ◌%◌, ◌^◌, ◌<◌, ◌==◌, Bool, false, List, [], ◌∷◌, ◌++◌, length, bit_or, bit_xor, refl, sym, ap, ap₂, ◌∙◌, arith}
 use Rattle.std.specs.Int.Bits.{xor_shifted}
 use Rattle.std.proofs.lemmas.Nat.{or_shifted}
 use Rattle.std.proofs.Math.Nat.{mul_assoc, pow-suc, zero-div}
@@ -49,7 +49,8 @@ bits-none (suc n) = ap₂ (λ (d : ℕ) xs. (d % 2 == 1) ∷ xs) (zero-div (2 ^ 
 reduced-small : (n v : ℕ) → v < 2 ^ 128 → reduced (bits (n + 128) v) ≡ times_power n (bits 128 v)
 reduced-small n v h =
     let z : v / 2 ^ 128 ≡ 0 = omega arith in
-    ap reduced (bits-append n 128 v ∙ ap (λ (t : ℕ). bits n t ++ bits 128 v) z ∙ ap (λ xs. xs ++ bits 128 v) (bits-none n))
+    ap reduced (bits-append n 128 v ∙ ap (λ (t : ℕ). bits n t ++ bits 128 v) z
+    ∙ ap (λ xs. xs ++ bits 128 v) (bits-none n))
     ∙ reduced-up n (bits 128 v) ∙ ap (times_power n) (reduced-whole (bits 128 v) (length-bits 128 v))
 
 -- a bit times an element
@@ -68,7 +69,8 @@ bit_times-lt (suc (suc a)) h l g = absurd (omega arith)
 multiple-last : (c : Bool) (v : List Bool) → length v ≡ 128 → multiple (c ∷ []) v ≡ scale c v
 multiple-last c v h = add_zeros 128 (scale c v) (omega (arith, length-scale c v))
 
-carryless-multiple : (n x h : ℕ) → h < 2 ^ 128 → reduced (bits (n + 128) (carryless n x h * 2)) ≡ multiple (bits n x) (bits 128 h)
+carryless-multiple : (n x h : ℕ) → h < 2 ^ 128
+    → reduced (bits (n + 128) (carryless n x h * 2)) ≡ multiple (bits n x) (bits 128 h)
 unfolding carryless bits
 carryless-multiple zero x h l = ap reduced bits-zero ∙ reduced-whole (zeros 128) refl
 carryless-multiple (suc n) x h l =
@@ -81,7 +83,8 @@ carryless-multiple (suc n) x h l =
     ap (λ (m : ℕ). reduced (bits m (bit_xor (a * h) (c * 2) * 2))) e
     ∙ reduced-twice (n + 128) (bit_xor (a * h) (c * 2))
     ∙ ap reduced (bits-xor (n + 128) (a * h) (c * 2)) ∙ reduced-add (bits (n + 128) (a * h)) (bits (n + 128) (c * 2))
-    ∙ ap₂ add (reduced-small n (a * h) (bit_times-lt a h (omega arith) l) ∙ ap (times_power n) (bits-times a h (omega arith)))
+    ∙ ap₂ add (reduced-small n (a * h) (bit_times-lt a h (omega arith) l)
+    ∙ ap (times_power n) (bits-times a h (omega arith)))
     (carryless-multiple n (x / 2) h l)
     ∙ add_comm (times_power n (scale (a == 1) v)) (multiple (bits n (x / 2)) v)
     ∙ ap (add (multiple (bits n (x / 2)) v)) (ap₂ (λ (k : ℕ) q. times_power k q) (sym (length-bits n (x / 2)))
@@ -115,7 +118,8 @@ reduce-folded high low v k e =
     ∙ reduce-twice v
 
 -- of a product
-pub reduce-carryless : (x h : ℕ) → h < 2 ^ 128 → reduce 127 (bits 255 (carryless 128 x h)) ≡ product (bits 128 x) (bits 128 h)
+pub reduce-carryless : (x h : ℕ) → h < 2 ^ 128
+    → reduce 127 (bits 255 (carryless 128 x h)) ≡ product (bits 128 x) (bits 128 h)
 reduce-carryless x h l =
     sym (reduce-twice (carryless 128 x h)) ∙ carryless-multiple 128 x h l
     ∙ sym (product-multiple (bits 128 x) (bits 128 h) (length-bits 128 x) (length-bits 128 h))
@@ -125,7 +129,8 @@ reduce-xor : (u v : ℕ) → reduce 127 (bits 255 (bit_xor u v)) ≡ add (reduce
 reduce-xor u v =
     let at : (w : ℕ) → reduced (bits 255 w) ≡ reduce 127 (bits 255 w) =
     λ w. reduced-reduce 127 (bits 255 w) (length-bits 255 w ∙ omega arith) in
-    sym (at (bit_xor u v)) ∙ ap reduced (bits-xor 255 u v) ∙ reduced-add (bits 255 u) (bits 255 v) ∙ ap₂ add (at u) (at v)
+    sym (at (bit_xor u v)) ∙ ap reduced (bits-xor 255 u v) ∙ reduced-add (bits 255 u) (bits 255 v)
+    ∙ ap₂ add (at u) (at v)
 
 -- of four products
 pub reduce-four : (x0 x1 x2 x3 y0 y1 y2 y3 : ℕ) → y0 < 2 ^ 128 → y1 < 2 ^ 128 → y2 < 2 ^ 128 → y3 < 2 ^ 128
@@ -137,5 +142,6 @@ reduce-four x0 x1 x2 x3 y0 y1 y2 y3 h0 h1 h2 h3 =
     let c : ℕ → ℕ → ℕ = carryless 128 in
     reduce-xor (bit_xor (bit_xor (c x0 y0) (c x1 y1)) (c x2 y2)) (c x3 y3)
     ∙ ap₂ add (reduce-xor (bit_xor (c x0 y0) (c x1 y1)) (c x2 y2)
-    ∙ ap₂ add (reduce-xor (c x0 y0) (c x1 y1) ∙ ap₂ add (reduce-carryless x0 y0 h0) (reduce-carryless x1 y1 h1)) (reduce-carryless x2 y2 h2))
+    ∙ ap₂ add (reduce-xor (c x0 y0) (c x1 y1) ∙ ap₂ add (reduce-carryless x0 y0 h0) (reduce-carryless x1 y1 h1))
+    (reduce-carryless x2 y2 h2))
     (reduce-carryless x3 y3 h3)

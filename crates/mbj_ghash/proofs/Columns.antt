@@ -1,4 +1,5 @@
--- Numbers with a bit in every fourth place alone: their integer product has columns of 4 bits that count, and the lowest bit of a
+-- Numbers with a bit in every fourth place alone: their integer product has columns of 4 bits that count, and the
+-- lowest bit of a
 -- column is the coefficient of the product of polynomials.
 use Rattle.std.proofs.Common.{◌≡◌, ℕ, zero, suc, ◌+◌, ◌*◌, ◌/◌, ◌%◌, ◌^◌, ◌<◌, ◌≤◌, bit_xor, bit_and, refl, sym, ap, ap₂, subst, ◌∙◌, arith}
 use Rattle.std.specs.Int.Bits.{xor_zero_l, and_block, xor_block, and_zero_l, and_zero_r}
@@ -22,7 +23,8 @@ pub mask_step : (n u : ℕ) → bit_and u (ones (suc n)) ≡ bit_and (u / 16) (o
 mask_step n u =
     let e : u ≡ u / 16 * 2 ^ 4 + u % 16 = omega arith in
     let f : bit_and (u % 16) 1 ≡ u % 2 = and_mask (u % 16) 1 ∙ omega arith in
-    ap (λ (x : ℕ). bit_and x (ones n * 2 ^ 4 + 1)) e ∙ and_block 4 (u / 16) (ones n) (u % 16) 1 (omega arith) (omega arith)
+    ap (λ (x : ℕ). bit_and x (ones n * 2 ^ 4 + 1)) e
+    ∙ and_block 4 (u / 16) (ones n) (u % 16) 1 (omega arith) (omega arith)
     ∙ ap (λ (x : ℕ). bit_and (u / 16) (ones n) * 16 + x) f
 
 Columns-zero : (d n : ℕ) → Columns d n 0
@@ -64,7 +66,8 @@ mask-sum d e (suc n) u v l h g =
     let a : u % 16 ≤ d = h.0 in
     let b : v % 16 ≤ e = g.0 in
     let q : (u + v) / 16 ≡ u / 16 + v / 16 = omega arith in
-    let s : (u + v) % 2 ≡ bit_xor (u % 2) (v % 2) = omega (arith, xor_bits (u % 2) (v % 2) (omega arith) (omega arith)) in
+    let s : (u + v) % 2 ≡ bit_xor (u % 2) (v % 2) =
+    omega (arith, xor_bits (u % 2) (v % 2) (omega arith) (omega arith)) in
     mask_step n (u + v)
     ∙ ap₂ (λ (x y : ℕ). x * 16 + y)
     (ap (λ (x : ℕ). bit_and x (ones n)) q ∙ mask-sum d e n (u / 16) (v / 16) l h.1 g.1) s
@@ -107,7 +110,8 @@ carryless-column n x y h =
     let z : 0 * y ≡ 0 = omega arith in
     let c : ℕ = carryless n (x / 16) y in
     let k : c * 2 * 2 * 2 * 2 ≡ c * 16 = omega arith in
-    rw e (rw (a, b, d, f, g) (rw z (rw (xor_zero_l (c * 2), xor_zero_l (c * 2 * 2), xor_zero_l (c * 2 * 2 * 2)) (rw k refl))))
+    rw e (rw (a, b, d, f, g) (rw z (rw (xor_zero_l (c * 2), xor_zero_l (c * 2 * 2), xor_zero_l (c * 2 * 2 * 2))
+    (rw k refl))))
 
 -- ---- the product
 
@@ -142,7 +146,8 @@ module _ (m y : ℕ) (bits_y : Columns 1 m y) where
       let f : 1 + n ≡ suc n = omega arith in
       let w : ℕ = x / 16 * y in
       let there : ℕ → Type 0 = λ d. Columns d (suc (n + m)) (x % 16 * y + w * 16) in
-      rw (e, product_split x y) (subst there f (Columns-sum 1 n (suc (n + m)) (x % 16 * y) (w * 16) (omega arith) (low_part n x h.0)
+      rw (e, product_split x y) (subst there f
+      (Columns-sum 1 n (suc (n + m)) (x % 16 * y) (w * 16) (omega arith) (low_part n x h.0)
       (Columns-up n (n + m) w (Columns-product n (x / 16) (omega arith) h.1))))
 
   -- and their lowest bits are the product of polynomials
@@ -175,7 +180,8 @@ class r x = bit_and x (0x11111111 * 2 ^ r)
 mask_shifted : (r x m : ℕ) → bit_and x (m * 2 ^ r) ≡ bit_and (x / 2 ^ r) m * 2 ^ r
 mask_shifted r x m =
     let f : m * 2 ^ r ≡ m * 2 ^ r + 0 = omega arith in
-    ap₂ bit_and (sym (shr_split x r)) f ∙ and_block r (x / 2 ^ r) m (x % 2 ^ r) 0 (mod_below x (2 ^ r) (pow_pos r)) (pow_pos r)
+    ap₂ bit_and (sym (shr_split x r)) f ∙ and_block r (x / 2 ^ r) m (x % 2 ^ r) 0 (mod_below x (2 ^ r) (pow_pos r))
+    (pow_pos r)
     ∙ ap (λ (v : ℕ). bit_and (x / 2 ^ r) m * 2 ^ r + v) (and_zero_r (x % 2 ^ r)) ∙ omega arith
 
 -- a column more, where there is none
@@ -184,7 +190,8 @@ ones_less zero u h = let e : u ≡ 0 = omega arith in rw e (and_zero_l (ones 1) 
 ones_less (suc n) u h =
     let e : 4 * suc n ≡ 4 * n + 4 = omega arith in
     let g : u < 2 ^ (4 * n + 4) = rw (← e) h in
-    mask_step (suc n) u ∙ ap (λ (v : ℕ). v * 16 + u % 2) (ones_less n (u / 16) (shr_below u (4 * n) 4 g)) ∙ sym (mask_step n u)
+    mask_step (suc n) u ∙ ap (λ (v : ℕ). v * 16 + u % 2) (ones_less n (u / 16) (shr_below u (4 * n) 4 g))
+    ∙ sym (mask_step n u)
 
 module _ (r s x y : ℕ) (fits : x < 2 ^ 32) where
   row : ℕ
@@ -200,7 +207,8 @@ module _ (r s x y : ℕ) (fits : x < 2 ^ 32) where
   lowest_15 : bit_and (row * column) (ones 15) ≡ carryless 32 row column
   unfolding row column
   lowest_15 =
-      let b : row * column ≤ 0x11111111 * 0x11111111 = mul-le row column 0x11111111 0x11111111 (and_le_r (x / 2 ^ r) (ones 8)) (and_le_r (y / 2 ^ s) (ones 8)) in
+      let b : row * column ≤ 0x11111111 * 0x11111111 =
+      mul-le row column 0x11111111 0x11111111 (and_le_r (x / 2 ^ r) (ones 8)) (and_le_r (y / 2 ^ s) (ones 8)) in
       sym (ones_less 15 (row * column) (omega (arith, b))) ∙ lowest
 
   both : class r x * class s y ≡ row * column * 2 ^ (r + s)
@@ -243,5 +251,6 @@ module _ (r s x y : ℕ) (fits : x < 2 ^ 32) where
       ∙ ap (λ (u : ℕ). u * 2 ^ k) (mask_step 15 (p * 16) ∙ ap₂ (λ (u v : ℕ). bit_and u (ones 15) * 16 + v) q z
       ∙ ap (λ (u : ℕ). u * 16 + 0) lowest_15)
       ∙ ap (λ (u : ℕ). u * 2 ^ k) (omega arith)
-      ∙ mul_assoc (carryless 32 row column) 16 (2 ^ k) ∙ ap (λ (v : ℕ). carryless 32 row column * v) (sym (pow-add 2 4 k) ∙ ap (λ (v : ℕ). 2 ^ v) (sym e))
+      ∙ mul_assoc (carryless 32 row column) 16 (2 ^ k)
+      ∙ ap (λ (v : ℕ). carryless 32 row column * v) (sym (pow-add 2 4 k) ∙ ap (λ (v : ℕ). 2 ^ v) (sym e))
       ∙ sym result

@@ -42,7 +42,8 @@ pub product-add : (p q v : List Bool) → length p ≡ 128 → length q ≡ 128 
 product-add p q v h k l =
     let s : length (add p q) ≡ 128 = length-add p q ∙ omega (arith, h, k) in
     product_comm (add p q) v s l ∙ product-multiple v (add p q) l s ∙ multiple-add v p q
-    ∙ ap₂ add (sym (product-multiple v p l h) ∙ product_comm v p l h) (sym (product-multiple v q l k) ∙ product_comm v q l k)
+    ∙ ap₂ add (sym (product-multiple v p l h) ∙ product_comm v p l h) (sym (product-multiple v q l k)
+    ∙ product_comm v q l k)
 
 pub product_assoc : (p q v : List Bool) → length p ≡ 128 → length q ≡ 128 → length v ≡ 128
     → product (product p q) v ≡ product p (product q v)
@@ -75,11 +76,15 @@ module _ (h h2 h3 h4 : List Bool) (l : length h ≡ 128) (e2 : h2 ≡ product h 
   four_steps a x2 x3 x4 la m2 m3 m4 =
       let two : product (add (product a h) x2) h ≡ add (product a h2) (product x2 h) =
       step a h x2 la l m2 ∙ ap (λ t. add (product a t) (product x2 h)) (sym e2) in
-      let three : product (add (product (add (product a h) x2) h) x3) h ≡ add (add (product a h3) (product x2 h2)) (product x3 h) =
+      let three : product (add (product (add (product a h) x2) h) x3) h
+      ≡ add (add (product a h3) (product x2 h2)) (product x3 h) =
       ap (λ t. product (add t x3) h) two
-      ∙ product-add (add (product a h2) (product x2 h)) x3 h (both (product a h2) (product x2 h) (length-product a h2 la l2) (length-product x2 h m2 l)) m3 l
-      ∙ ap (λ t. add t (product x3 h)) (product-add (product a h2) (product x2 h) h (length-product a h2 la l2) (length-product x2 h m2 l) l
-      ∙ ap₂ add (product_assoc a h2 h la l2 l ∙ ap (product a) (sym e3)) (product_assoc x2 h h m2 l l ∙ ap (product x2) (sym e2))) in
+      ∙ product-add (add (product a h2) (product x2 h)) x3 h
+      (both (product a h2) (product x2 h) (length-product a h2 la l2) (length-product x2 h m2 l)) m3 l
+      ∙ ap (λ t. add t (product x3 h)) (product-add (product a h2) (product x2 h) h (length-product a h2 la l2)
+      (length-product x2 h m2 l) l
+      ∙ ap₂ add (product_assoc a h2 h la l2 l ∙ ap (product a) (sym e3)) (product_assoc x2 h h m2 l l
+      ∙ ap (product x2) (sym e2))) in
       let ah3 : List Bool = product a h3 in
       let xh2 : List Bool = product x2 h2 in
       let xh : List Bool = product x3 h in
@@ -90,7 +95,8 @@ module _ (h h2 h3 h4 : List Bool) (l : length h ≡ 128) (e2 : h2 ≡ product h 
       ∙ product-add (add (add ah3 xh2) xh) x4 h (both (add ah3 xh2) xh (both ah3 xh2 la3 lx2) lx) m4 l
       ∙ ap (λ t. add t (product x4 h)) (product-add (add ah3 xh2) xh h (both ah3 xh2 la3 lx2) lx l
       ∙ ap₂ add (product-add ah3 xh2 h la3 lx2 l
-      ∙ ap₂ add (product_assoc a h3 h la l3 l ∙ ap (product a) (sym e4)) (product_assoc x2 h2 h m2 l2 l ∙ ap (product x2) (sym e3)))
+      ∙ ap₂ add (product_assoc a h3 h la l3 l ∙ ap (product a) (sym e4)) (product_assoc x2 h2 h m2 l2 l
+      ∙ ap (product x2) (sym e3)))
       (product_assoc x3 h h m3 l l ∙ ap (product x3) (sym e2)))
     where
       both : (p q : List Bool) → length p ≡ 128 → length q ≡ 128 → length (add p q) ≡ 128

@@ -1,15 +1,14 @@
 -- The product of polynomials, reduced: its 128 highest coefficients are folded back by way of x^128.
-use Rattle.std.proofs.Common.{◌≡◌, ℕ, zero, suc, ◌+◌, ◌*◌, ◌/◌, ◌%◌, ◌^◌, ◌<◌, ◌==◌, Bool, true, false, List, [], ◌∷◌, ◌++◌, length, bit_xor, refl, sym, ap, ap₂, ◌∙◌, arith}
+use Rattle.std.proofs.Common.{◌≡◌, ℕ, zero, suc, ◌+◌, ◌*◌, ◌/◌, ◌%◌, ◌^◌, ◌<◌, Bool, true, false, List, [], ◌∷◌, ◌++◌, length, bit_xor, refl, sym, ap, ap₂, ◌∙◌, arith}
 use Rattle.std.specs.Int.Bits.{xor_shifted, xor_assoc}
 use Rattle.std.proofs.lemmas.Nat.{xor_shr, shr_split, mod_below, pow_pos}
-use Rattle.std.proofs.Math.Nat.{mul_assoc, pow-suc, zero-div}
-use Rattle.mbj_types.specs.Field.{add, scale, zeros, bits, product}
-use Rattle.mbj_ghash.specs.Inside.Carryless.{carryless, sum_of_four}
+use Rattle.std.proofs.Math.Nat.{mul_assoc, pow-suc}
+use Rattle.mbj_types.specs.Field.{add, scale, zeros, bits}
 use Rattle.mbj_ghash.proofs.Multiples.{times_x, times_power, multiple}
-use Rattle.mbj_ghash.proofs.Sums.{add_comm, add_swap, add_zeros, length-scale, scale_true, scale_false}
-use Rattle.mbj_ghash.proofs.Multiples.{length-times_x, times_x-add, times_x-multiple, times_power-add, multiple-append}
-use Rattle.mbj_ghash.proofs.Elements.{length-bits, bits-xor, bits-zero, bits-append, times_x-even}
-use Rattle.mbj_ghash.proofs.Reductions.{reduced, reduced-add, reduced-false, reduced-whole, product-multiple}
+use Rattle.mbj_ghash.proofs.Sums.{add_swap, scale_true}
+use Rattle.mbj_ghash.proofs.Multiples.{length-times_x, times_x-add, times_x-multiple, times_power-add}
+use Rattle.mbj_ghash.proofs.Elements.{length-bits, bits-xor, times_x-even}
+use Rattle.mbj_ghash.proofs.Reductions.{reduced, reduced-false, reduced-whole}
 use Rattle.mbj_ghash.proofs.Xors.{xor_swap}
 
 -- ---- the product by x^n
@@ -29,7 +28,8 @@ pub reduced-up : (n : ℕ) (p : List Bool) → reduced (zeros n ++ p) ≡ times_
 reduced-up zero p = refl
 reduced-up (suc n) p = reduced-false (zeros n ++ p) ∙ ap times_x (reduced-up n p) ∙ times_x-power n (reduced p)
 
-times_power-multiple : (n : ℕ) (p v : List Bool) → length v ≡ 128 → times_power n (multiple p v) ≡ multiple p (times_power n v)
+times_power-multiple : (n : ℕ) (p v : List Bool) → length v ≡ 128
+    → times_power n (multiple p v) ≡ multiple p (times_power n v)
 times_power-multiple zero p v h = refl
 times_power-multiple (suc n) p v h =
     ap (times_power n) (times_x-multiple p v h) ∙ times_power-multiple n p (times_x v) (length-times_x v h)
@@ -92,7 +92,8 @@ spread w = bit_xor w (bit_xor (w / 2) (bit_xor (w / 4) (w / 128)))
 
 -- an element and what passes x^127 of its products by x, x^2 and x^7, moved to the front
 abbrev pub overflowed : ℕ → ℕ
-overflowed low = bit_xor (bit_xor (bit_xor low (low * 2 ^ 127 % 2 ^ 128)) (low * 2 ^ 126 % 2 ^ 128)) (low * 2 ^ 121 % 2 ^ 128)
+overflowed low = bit_xor (bit_xor (bit_xor low (low * 2 ^ 127 % 2 ^ 128)) (low * 2 ^ 126 % 2 ^ 128))
+    (low * 2 ^ 121 % 2 ^ 128)
 
 -- where the coefficients that pass x^127 are 0
 times_power-shifted : (j u : ℕ) → u * 2 ^ j < 2 ^ 128 → times_power j (bits 128 (u * 2 ^ j)) ≡ bits 128 u
@@ -113,9 +114,11 @@ spread-times u h =
     let e : w ≡ u * 64 * 2 ^ 1 = omega arith in
     let f : w ≡ u * 32 * 2 ^ 2 = omega arith in
     let by_1 : times_x (bits 128 w) ≡ bits 128 (w / 2) =
-    ap (λ (t : ℕ). times_power 1 (bits 128 t)) e ∙ times_power-shifted 1 (u * 64) (omega arith) ∙ ap (bits 128) (sym a) in
+    ap (λ (t : ℕ). times_power 1 (bits 128 t)) e ∙ times_power-shifted 1 (u * 64) (omega arith)
+    ∙ ap (bits 128) (sym a) in
     let by_2 : times_power 2 (bits 128 w) ≡ bits 128 (w / 4) =
-    ap (λ (t : ℕ). times_power 2 (bits 128 t)) f ∙ times_power-shifted 2 (u * 32) (omega arith) ∙ ap (bits 128) (sym b) in
+    ap (λ (t : ℕ). times_power 2 (bits 128 t)) f ∙ times_power-shifted 2 (u * 32) (omega arith)
+    ∙ ap (bits 128) (sym b) in
     let by_7 : times_power 7 (bits 128 w) ≡ bits 128 (w / 128) = times_power-shifted 7 u h ∙ ap (bits 128) (sym d) in
     times_x128 (bits 128 w) (length-bits 128 w)
     ∙ sym (bits-xor 128 w (bit_xor (w / 2) (bit_xor (w / 4) (w / 128)))
@@ -128,7 +131,8 @@ passed : (m k r u : ℕ) → m + k ≡ 128 → r * 2 ^ m ≡ u * 128 → r * 2 ^
 passed m k r u e f h =
     ap (times_power k) (sym (times_power-shifted m r h)) ∙ times_power-plus m k (bits 128 (r * 2 ^ m))
     ∙ ap (λ (n : ℕ). times_power n (bits 128 (r * 2 ^ m))) e
-    ∙ ap (λ (t : ℕ). times_power 128 (bits 128 t)) f ∙ spread-times u (omega (arith, f, h)) ∙ ap (λ (t : ℕ). bits 128 (spread t)) (sym f)
+    ∙ ap (λ (t : ℕ). times_power 128 (bits 128 t)) f ∙ spread-times u (omega (arith, f, h))
+    ∙ ap (λ (t : ℕ). bits 128 (spread t)) (sym f)
 
 -- any element, times x^k
 moved : (m k v : ℕ) (u : ℕ) → m + k ≡ 128 → v < 2 ^ 128 → v % 2 ^ k * 2 ^ m ≡ u * 128 → v % 2 ^ k * 2 ^ m < 2 ^ 128
@@ -171,12 +175,14 @@ fold-number low h =
     let x2 : ℕ = bit_xor (low / 4) (spread w2) in
     let x7 : ℕ = bit_xor (low / 128) (spread w7) in
     times_x128 (bits 128 low) (length-bits 128 low)
-    ∙ ap (add (bits 128 low)) (ap₂ add by_1 (ap₂ add by_2 by_7 ∙ sym (bits-xor 128 x2 x7)) ∙ sym (bits-xor 128 x1 (bit_xor x2 x7)))
+    ∙ ap (add (bits 128 low)) (ap₂ add by_1 (ap₂ add by_2 by_7 ∙ sym (bits-xor 128 x2 x7))
+    ∙ sym (bits-xor 128 x1 (bit_xor x2 x7)))
     ∙ sym (bits-xor 128 low (bit_xor x1 (bit_xor x2 x7)))
     ∙ ap (bits 128)
     (ap (bit_xor low) (ap (bit_xor x1) (xor_swap (low / 4) (spread w2) (low / 128) (spread w7))
     ∙ xor_swap (low / 2) (spread w1) (bit_xor (low / 4) (low / 128)) (bit_xor (spread w2) (spread w7)))
-    ∙ sym (xor_assoc low (bit_xor (low / 2) (bit_xor (low / 4) (low / 128))) (bit_xor (spread w1) (bit_xor (spread w2) (spread w7))))
+    ∙ sym (xor_assoc low (bit_xor (low / 2) (bit_xor (low / 4) (low / 128)))
+    (bit_xor (spread w1) (bit_xor (spread w2) (spread w7))))
     ∙ sym (xor_assoc (spread low) (spread w1) (bit_xor (spread w2) (spread w7)))
     ∙ sym (xor_assoc (bit_xor (spread low) (spread w1)) (spread w2) (spread w7))
     ∙ sym (spread-xor (bit_xor (bit_xor low w1) w2) w7

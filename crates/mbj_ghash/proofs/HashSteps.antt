@@ -1,5 +1,5 @@
 -- The value of a hash after one block more, and after four.
-use Rattle.std.proofs.Common.{◌≡◌, ℕ, ◌^◌, ◌<◌, Bool, List, [], ◌∷◌, length, bit_xor, refl, sym, ap, ◌∙◌}
+use Rattle.std.proofs.Common.{◌≡◌, ℕ, ◌^◌, ◌<◌, Bool, List, [], ◌∷◌, length, bit_xor, sym, ap, ◌∙◌}
 use Rattle.std.specs.Int.{w128, to_be_bytes, from_be_bytes}
 use Rattle.mbj_types.specs.Blocks.{xor_lists}
 use Rattle.mbj_types.specs.Field.{add, bits, number, product}
@@ -29,7 +29,8 @@ module _ (h : List ℕ) where
   length-next : (v : ℕ) (xs : List ℕ) → length (next v xs) ≡ 128
   unfolding key next
   length-next v xs =
-      length-product (bits 128 (bit_xor v (from_be_bytes w128 xs))) key (length-bits 128 (bit_xor v (from_be_bytes w128 xs)))
+      length-product (bits 128 (bit_xor v (from_be_bytes w128 xs))) key
+      (length-bits 128 (bit_xor v (from_be_bytes w128 xs)))
       (length-bits 128 (from_be_bytes w128 h))
 
   next_number : ℕ → List ℕ → ℕ
@@ -56,7 +57,8 @@ module _ (h : List ℕ) where
       bits 128 h2 ≡ product (bits 128 k) (bits 128 k) → bits 128 h3 ≡ product (bits 128 h2) (bits 128 k)
       → bits 128 h4 ≡ product (bits 128 h3) (bits 128 k)
       → bits 128 r ≡ add (add (add (product (bits 128 (bit_xor v (from_be_bytes w128 a))) (bits 128 h4))
-      (product (bits 128 (from_be_bytes w128 b)) (bits 128 h3))) (product (bits 128 (from_be_bytes w128 c)) (bits 128 h2)))
+      (product (bits 128 (from_be_bytes w128 b)) (bits 128 h3)))
+      (product (bits 128 (from_be_bytes w128 c)) (bits 128 h2)))
       (product (bits 128 (from_be_bytes w128 d)) (bits 128 k))
       → to_be_bytes w128 r ≡ ghash_from h (to_be_bytes w128 v) (a ∷ b ∷ c ∷ d ∷ [])
   unfolding key next
@@ -74,7 +76,8 @@ module _ (h : List ℕ) where
       λ n x p f. bits-xor 128 n (from_be_bytes w128 x) ∙ ap (λ q. add q (bits 128 (from_be_bytes w128 x))) f in
       let all : bits 128 r ≡ next n3 d =
       e ∙ sym (four_steps key (bits 128 h2) (bits 128 h3) (bits 128 h4) (long (from_be_bytes w128 h)) e2 e3 e4
-      y xb xc xd (long (bit_xor v (from_be_bytes w128 a))) (long (from_be_bytes w128 b)) (long (from_be_bytes w128 c)) (long (from_be_bytes w128 d)))
+      y xb xc xd (long (bit_xor v (from_be_bytes w128 a))) (long (from_be_bytes w128 b)) (long (from_be_bytes w128 c))
+      (long (from_be_bytes w128 d)))
       ∙ sym (ap (λ p. product p key) (added n3 d _ (bits-next_number n2 c
       ∙ ap (λ p. product p key) (added n2 c _ (bits-next_number n1 b
       ∙ ap (λ p. product p key) (added n1 b _ (bits-next_number v a))))))) in

@@ -7,7 +7,7 @@ use Rattle.std.specs.Int.{bit_at}
 use Rattle.std.proofs.Math.Nat.{mul_assoc}
 use Rattle.mbj_ghash.specs.Inside.Carryless.{carryless, sum_of_four}
 use Rattle.mbj_ghash.proofs.Xors.{xor_shl}
-use Rattle.mbj_ghash.proofs.Carryless.{carryless-xor_l, carryless-xor_r, carryless-shl_l, carryless-shl_r, carryless-wide, carryless-lt}
+use Rattle.mbj_ghash.proofs.Carryless.{carryless-xor_l, carryless-xor_r, carryless-shl_l, carryless-shl_r, carryless-wide}
 
 -- the halves of a number, summed
 halves : (n x : ℕ) → x ≡ bit_xor (x / 2 ^ n * 2 ^ n) (x % 2 ^ n)
@@ -18,7 +18,8 @@ first_halves : (n x y : ℕ) → carryless (n + n) x y
     ≡ bit_xor (carryless n (x / 2 ^ n) y * 2 ^ n) (carryless n (x % 2 ^ n) y)
 first_halves n x y =
     ap (λ (t : ℕ). carryless (n + n) t y) (halves n x) ∙ carryless-xor_l (n + n) (x / 2 ^ n * 2 ^ n) (x % 2 ^ n) y
-    ∙ ap₂ bit_xor (carryless-shl_l n n (x / 2 ^ n) y) (carryless-wide n n (x % 2 ^ n) y (mod_below x (2 ^ n) (pow_pos n)))
+    ∙ ap₂ bit_xor (carryless-shl_l n n (x / 2 ^ n) y)
+    (carryless-wide n n (x % 2 ^ n) y (mod_below x (2 ^ n) (pow_pos n)))
 
 second_halves : (n x y : ℕ) → carryless n x y
     ≡ bit_xor (carryless n x (y / 2 ^ n) * 2 ^ n) (carryless n x (y % 2 ^ n))
@@ -93,7 +94,9 @@ pub joined_128 : (low high three x y : ℕ)
 joined_128 low high three x y e0 e1 e l =
     let middle : ℕ = bit_xor (bit_xor three low) high in
     let m : middle ≡ bit_xor (carryless 64 (x / 2 ^ 64) (y % 2 ^ 64)) (carryless 64 (x % 2 ^ 64) (y / 2 ^ 64)) =
-    ap₂ (λ (s t : ℕ). bit_xor (bit_xor s t) high) e e0 ∙ ap (bit_xor (bit_xor (carryless 64 (bit_xor (x % 2 ^ 64) (x / 2 ^ 64)) (bit_xor (y % 2 ^ 64) (y / 2 ^ 64))) (carryless 64 (x % 2 ^ 64) (y % 2 ^ 64)))) e1
+    ap₂ (λ (s t : ℕ). bit_xor (bit_xor s t) high) e e0
+    ∙ ap (bit_xor (bit_xor (carryless 64 (bit_xor (x % 2 ^ 64) (x / 2 ^ 64)) (bit_xor (y % 2 ^ 64) (y / 2 ^ 64)))
+    (carryless 64 (x % 2 ^ 64) (y % 2 ^ 64)))) e1
     ∙ middle_is 64 (x % 2 ^ 64) (x / 2 ^ 64) (y % 2 ^ 64) (y / 2 ^ 64) in
     let q : middle / 2 ^ 64 * 2 ^ 128 + middle * 2 ^ 64 % 2 ^ 128 ≡ middle * 2 ^ 64 = omega arith in
     sym (xor_block 128 high (middle / 2 ^ 64) low (middle * 2 ^ 64 % 2 ^ 128) l (omega arith))
@@ -124,7 +127,8 @@ joined_lanes low high three x y e0 e1 e l =
     let middle : ℕ = bit_xor (bit_xor three low) high in
     let m : middle ≡ bit_xor (carryless 32 (x / 2 ^ 32) (y % 2 ^ 32)) (carryless 32 (x % 2 ^ 32) (y / 2 ^ 32)) =
     ap₂ (λ (s t : ℕ). bit_xor (bit_xor s t) high) e e0
-    ∙ ap (bit_xor (bit_xor (carryless 32 (bit_xor (x % 2 ^ 32) (x / 2 ^ 32)) (bit_xor (y % 2 ^ 32) (y / 2 ^ 32))) (carryless 32 (x % 2 ^ 32) (y % 2 ^ 32)))) e1
+    ∙ ap (bit_xor (bit_xor (carryless 32 (bit_xor (x % 2 ^ 32) (x / 2 ^ 32)) (bit_xor (y % 2 ^ 32) (y / 2 ^ 32)))
+    (carryless 32 (x % 2 ^ 32) (y % 2 ^ 32)))) e1
     ∙ middle_is 32 (x % 2 ^ 32) (x / 2 ^ 32) (y % 2 ^ 32) (y / 2 ^ 32) in
     let q : middle / 2 ^ 32 * 2 ^ 64 + middle * 2 ^ 32 % 2 ^ 64 ≡ middle * 2 ^ 32 = omega arith in
     sym (xor_block 64 high (middle / 2 ^ 32) low (middle * 2 ^ 32 % 2 ^ 64) l (omega arith))
@@ -162,12 +166,14 @@ joined_words l1 l0 g1 g0 t1 t0 x1 x0 y1 y0 fx fy b1 b0 c0 c1 d0 d1 el eg et =
     let three : ℕ = t1 * 2 ^ 64 + t0 in
     let middle : ℕ = bit_xor (bit_xor three low) high in
     let m : middle ≡ m1 * 2 ^ 64 + m0 =
-    ap (λ (v : ℕ). bit_xor v high) (xor_block 64 t1 l1 t0 l0 d0 b0) ∙ xor_block 64 (bit_xor t1 l1) g1 (bit_xor t0 l0) g0 (xor_lt 64 t0 l0 d0 b0) c0 in
+    ap (λ (v : ℕ). bit_xor v high) (xor_block 64 t1 l1 t0 l0 d0 b0)
+    ∙ xor_block 64 (bit_xor t1 l1) g1 (bit_xor t0 l0) g0 (xor_lt 64 t0 l0 d0 b0) c0 in
     let q : middle / 2 ^ 64 ≡ 0 * 2 ^ 64 + m1 = omega (arith, m) in
     let r : middle * 2 ^ 64 % 2 ^ 128 ≡ m0 * 2 ^ 64 + 0 = omega (arith, m) in
     sym (ap₂ (λ (s t : ℕ). s * 2 ^ 128 + t)
     (ap (bit_xor high) q ∙ xor_block 64 g1 0 g0 m1 c0 f1 ∙ ap (λ (v : ℕ). v * 2 ^ 64 + bit_xor g0 m1) (xor_zero_r g1))
-    (ap (bit_xor low) r ∙ xor_block 64 l1 m0 l0 0 b0 (omega arith) ∙ ap (λ (v : ℕ). bit_xor l1 m0 * 2 ^ 64 + v) (xor_zero_r l0)))
+    (ap (bit_xor low) r ∙ xor_block 64 l1 m0 l0 0 b0 (omega arith)
+    ∙ ap (λ (v : ℕ). bit_xor l1 m0 * 2 ^ 64 + v) (xor_zero_r l0)))
     ∙ joined_128 low high three x y
     (el ∙ ap₂ (carryless 64) xl yl) (eg ∙ ap₂ (carryless 64) xh yh)
     (et ∙ ap₂ (carryless 64) (ap₂ bit_xor xl xh) (ap₂ bit_xor yl yh)) (omega arith)
@@ -176,7 +182,8 @@ joined_words l1 l0 g1 g0 t1 t0 x1 x0 y1 y0 fx fy b1 b0 c0 c1 d0 d1 el eg et =
 
 -- by blocks of k bits
 pub sum_of_four-block : (k a0 a1 a2 a3 r0 r1 r2 r3 : ℕ) → r0 < 2 ^ k → r1 < 2 ^ k → r2 < 2 ^ k → r3 < 2 ^ k
-    → sum_of_four (a0 * 2 ^ k + r0) (a1 * 2 ^ k + r1) (a2 * 2 ^ k + r2) (a3 * 2 ^ k + r3) ≡ sum_of_four a0 a1 a2 a3 * 2 ^ k + sum_of_four r0 r1 r2 r3
+    → sum_of_four (a0 * 2 ^ k + r0) (a1 * 2 ^ k + r1) (a2 * 2 ^ k + r2) (a3 * 2 ^ k + r3)
+    ≡ sum_of_four a0 a1 a2 a3 * 2 ^ k + sum_of_four r0 r1 r2 r3
 sum_of_four-block k a0 a1 a2 a3 r0 r1 r2 r3 h0 h1 h2 h3 =
     let l1 : bit_xor r0 r1 < 2 ^ k = xor_lt k r0 r1 h0 h1 in
     let l2 : bit_xor (bit_xor r0 r1) r2 < 2 ^ k = xor_lt k (bit_xor r0 r1) r2 l1 h2 in
@@ -197,7 +204,8 @@ summed_words w3 w2 w1 w0 f2 f1 f0 =
     ap₂ (λ (s t : ℕ). s * 2 ^ 128 + t)
     (sym (sum_of_four-block 64 (w3 0) (w3 1) (w3 2) (w3 3) (w2 0) (w2 1) (w2 2) (w2 3) (f2 0) (f2 1) (f2 2) (f2 3)))
     (sym (sum_of_four-block 64 (w1 0) (w1 1) (w1 2) (w1 3) (w0 0) (w0 1) (w0 2) (w0 3) (f0 0) (f0 1) (f0 2) (f0 3)))
-    ∙ sym (sum_of_four-block 128 (high 0) (high 1) (high 2) (high 3) (low 0) (low 1) (low 2) (low 3) (fits 0) (fits 1) (fits 2) (fits 3))
+    ∙ sym (sum_of_four-block 128 (high 0) (high 1) (high 2) (high 3) (low 0) (low 1) (low 2) (low 3) (fits 0) (fits 1)
+    (fits 2) (fits 3))
 
 pub sum_of_four-lt : (k a b c d : ℕ) → a < 2 ^ k → b < 2 ^ k → c < 2 ^ k → d < 2 ^ k → sum_of_four a b c d < 2 ^ k
 sum_of_four-lt k a b c d ha hb hc hd =

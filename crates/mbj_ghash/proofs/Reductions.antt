@@ -145,7 +145,8 @@ reduced-fold_top n p h =
     let l : length (take m p) ≡ m = length-take-le m p (omega arith) in
     reduced-add (take m p) (zeros n ++ scale c tail) ∙ ap (λ x. add (reduced (take m p)) x) (sym (reduced-top n c))
     ∙ sym (reduced-add (take m p) (zeros m ++ c ∷ []))
-    ∙ ap reduced (ap (λ k. add (take m p) (zeros k ++ c ∷ [])) (sym l) ∙ sym (append-add (take m p) c) ∙ sym (last_apart p m h))
+    ∙ ap reduced (ap (λ k. add (take m p) (zeros k ++ c ∷ [])) (sym l) ∙ sym (append-add (take m p) c)
+    ∙ sym (last_apart p m h))
 
 -- one coefficient fewer is left
 length-fold_top : (n : ℕ) (p : List Bool) → length p ≡ suc (n + 128) → length (fold_top n p) ≡ n + 128

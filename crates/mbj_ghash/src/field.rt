@@ -8,8 +8,8 @@ use crate::lanes::Lanes128;
 use crate::polynomial;
 use crate::polynomial::Polynomial;
 
-// A product of two elements as polynomials has 255 coefficients, that of x^0 first. Those from x^128 on are folded back,
-// since x^128 is 1 + x + x^2 + x^7.
+// The product of two elements as polynomials has 255 coefficients, which are the bits of a number, that of x^0 the
+// highest. Those from x^128 on are folded back, since x^128 is 1 + x + x^2 + x^7.
 #[inline(always)]
 fn reduced(p: Polynomial) -> u128
     requires { p.high * 2 ^ 128 + p.low < 2 ^ 255 }

@@ -4,10 +4,8 @@ ghost use Rattle.mbj_types.specs.Ghash.{block_product, ghash, ghash_from, filled
 ghost use Rattle.mbj_ghash.specs.State.{HashState, state_after};
 
 use crate::horner::{after_block, after_blocks};
+use mbj_types::BLOCK_BYTES;
 use std::marker::Model;
-
-// The bytes of a block.
-const BLOCK_BYTES: usize = 16;
 
 // A block that isn't whole, with zero bytes behind it.
 fn filled(part: &[u8]) -> [u8; 16]

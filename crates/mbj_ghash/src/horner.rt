@@ -11,13 +11,15 @@ ghost use Rattle.mbj_ghash.specs.Inside.Powers.{ArePowers};
 use crate::field::{product, sum_of_products};
 use crate::lanes::Lanes128;
 
-// The fewest blocks that are taken by fours: the powers take the time of three products.
+// The fewest blocks that are taken by fours, since the powers take the time of three blocks. From this number on fours
+// are faster, with vectors of 128 bits as with those of 256.
 const MANY_BLOCKS: usize = 12;
 
 /// The value after one block more.
 #[inline(always)]
 pub fn after_block(value: u128, subkey: &[u8; 16], block: &[u8; 16]) -> u128
-    ensures { to_be_bytes w128 result ≡ block_product (xor_lists (to_be_bytes w128 value) block.now) subkey.now }
+    ensures { to_be_bytes w128 result
+        ≡ block_product (xor_lists (to_be_bytes w128 value) block.now) subkey.now }
 {
     product(
         value ^ u128::from_be_bytes(*block),
@@ -59,7 +61,8 @@ fn after_four(
 
 // The value after fours of blocks more.
 fn after_fours(value: u128, subkey: &[u8; 16], fours: &[[[u8; 16]; 4]]) -> u128
-    ensures { to_be_bytes w128 result ≡ ghash_from subkey.now (to_be_bytes w128 value) (flat_map (λ four. four) fours.now) }
+    ensures { to_be_bytes w128 result
+        ≡ ghash_from subkey.now (to_be_bytes w128 value) (flat_map (λ four. four) fours.now) }
 {
     let powers = powers_of(subkey);
     let mut sum = value;

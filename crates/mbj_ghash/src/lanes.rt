@@ -10,6 +10,9 @@ ghost use Rattle.mbj_ghash.specs.Inside.Lanes.{wide_lane};
 use crate::words::{high_word, low_word};
 use std::simd::u64x4;
 
+// The lowest bit of each column of 4 bits.
+const LOWEST: u64 = 0x1111_1111_1111_1111;
+
 #[inline(always)]
 fn sum(x: u64x4, y: u64x4) -> u64x4
     ensures { (i : ℕ) → i < 4 → lane_at 64 result i ≡ bit_xor (lane_at 64 x i) (lane_at 64 y i) }
@@ -84,8 +87,10 @@ fn columns(
     mask: u64,
 ) -> u64x4
     ensures { (i : ℕ) → i < 4 → lane_at 64 result i ≡ bit_and (sum_of_four
-        (lane_at 64 x.first i * lane_at 64 to_first i % 2 ^ 64) (lane_at 64 x.second i * lane_at 64 to_second i % 2 ^ 64)
-        (lane_at 64 x.third i * lane_at 64 to_third i % 2 ^ 64) (lane_at 64 x.fourth i * lane_at 64 to_fourth i % 2 ^ 64)) mask }
+        (lane_at 64 x.first i * lane_at 64 to_first i % 2 ^ 64)
+        (lane_at 64 x.second i * lane_at 64 to_second i % 2 ^ 64)
+        (lane_at 64 x.third i * lane_at 64 to_third i % 2 ^ 64)
+        (lane_at 64 x.fourth i * lane_at 64 to_fourth i % 2 ^ 64)) mask }
 {
     let two = sum(
         integer_product(x.first, to_first),
@@ -95,8 +100,8 @@ fn columns(
     masked(sum(three, integer_product(x.fourth, to_fourth)), mask)
 }
 
-/// The products of polynomials of degree below 32. It is a call, since code that has it nine times over no longer fits where
-/// a processor keeps decoded instructions.
+/// The products of polynomials of degree below 32. It is called and not inlined: a loop that has it nine times over is
+/// slower, since it no longer fits where a processor keeps decoded instructions.
 #[inline(never)]
 pub fn products_32(x: u64x4, y: u64x4) -> u64x4
     ensures { (i : ℕ) → i < 4 → lane_at 64 x i < 2 ^ 32 → lane_at 64 y i < 2 ^ 32
@@ -104,38 +109,10 @@ pub fn products_32(x: u64x4, y: u64x4) -> u64x4
 {
     let xs = split(x);
     let ys = split(y);
-    let first = columns(
-        xs,
-        ys.first,
-        ys.fourth,
-        ys.third,
-        ys.second,
-        0x1111_1111_1111_1111,
-    );
-    let second = columns(
-        xs,
-        ys.second,
-        ys.first,
-        ys.fourth,
-        ys.third,
-        0x2222_2222_2222_2222,
-    );
-    let third = columns(
-        xs,
-        ys.third,
-        ys.second,
-        ys.first,
-        ys.fourth,
-        0x4444_4444_4444_4444,
-    );
-    let fourth = columns(
-        xs,
-        ys.fourth,
-        ys.third,
-        ys.second,
-        ys.first,
-        0x8888_8888_8888_8888,
-    );
+    let first = columns(xs, ys.first, ys.fourth, ys.third, ys.second, LOWEST);
+    let second = columns(xs, ys.second, ys.first, ys.fourth, ys.third, LOWEST << 1);
+    let third = columns(xs, ys.third, ys.second, ys.first, ys.fourth, LOWEST << 2);
+    let fourth = columns(xs, ys.fourth, ys.third, ys.second, ys.first, LOWEST << 3);
     sum(sum(sum(first, second), third), fourth)
 }
 

@@ -7,7 +7,7 @@ use Rattle.std.proofs.lemmas.Bool.{cases_lt, eqb-true}
 use Rattle.std.proofs.lemmas.List.{length-take, length-take-le}
 use Rattle.std.proofs.lemmas.List.Elements.{All-cons, All-head, All-nil, All-tail}
 use Rattle.mbj_types.specs.Aes.{key_schedule, schedule, schedule_term, word, round_key, rounds_of, decipher, undone_rounds, inv_sub_bytes, inv_shift_rows, aes, aes_inverse}
-use Rattle.mbj_types.specs.Blocks.{xor_lists, first_blocks, blocks}
+use Rattle.mbj_types.specs.Blocks.{zero_block, xor_lists, first_blocks, blocks}
 use Rattle.mbj_types.specs.Modes.{cbc, uncbc, ctr_blocks, first_counter, cbc_text, uncbc_text, ctr_text}
 use Rattle.mbj_types.specs.Gcm.{inc32, pre_counter_block, gctr, gcm_text}
 use Rattle.mbj_types.specs.Verdict.{is_null_cipher, takes_key, takes_iv, takes_range, verdict}
@@ -149,7 +149,7 @@ length-ctr_text e iv text g =
 length-gcm_text : (e : List ℕ → List ℕ) (iv text : List ℕ) → GivesBlocks e → length (gcm_text e iv text) ≡ length text
 unfolding blocks
 length-gcm_text e iv text g =
-    length-gctr e (inc32 (pre_counter_block iv)) (blocks text) g (All-within ((length text + 15) / 16) text) ∙ ap length (concat-blocks text)
+    length-gctr e (inc32 (pre_counter_block (e zero_block) iv)) (blocks text) g (All-within ((length text + 15) / 16) text) ∙ ap length (concat-blocks text)
 
 -- ---- packets
 

@@ -1,6 +1,7 @@
 //! GCM on the cipher range of a packet.
 
-ghost use Rattle.std.specs.Prelude.{◌≡◌, [], ◌∷◌, None, length};
+ghost use Rattle.std.specs.Prelude.{◌≡◌, ◌<◌, ◌≤◌, [], ◌∷◌, None, length};
+ghost use Rattle.mbj_types.specs.declared.limits.TheConstants.{MAX_IV_BYTES};
 ghost use Rattle.mbj_types.specs.Verdict.{verdict_at};
 ghost use Rattle.mbj_types.specs.Result.{ciphered, tag_over};
 ghost use Rattle.mbj_aes.specs.Bytes.{IsKeySize};
@@ -16,7 +17,8 @@ use mbj_types::{Dir, Job, Tag};
 /// GCM on a text by a job's key, IV, additional data and direction: the text changes, and the answer is the whole tag.
 fn gcm(job: &Job, text: &mut [u8]) -> [u8; 16]
     requires key { IsKeySize (length job.now.key) }
-    requires iv { length job.now.iv ≡ 12 }
+    requires iv_some { 0 < length job.now.iv }
+    requires iv_most { length job.now.iv ≤ MAX_IV_BYTES }
     ensures text { text.new ≡ (gcm_by job.now text.old).0 }
     ensures tag { result ≡ (gcm_by job.now text.old).1 }
 {

@@ -1,5 +1,5 @@
 -- GCM (SP 800-38D). The block cipher is the argument e.
-use Rattle.std.specs.Prelude.{ℕ, ◌+◌, ◌*◌, ◌%◌, ◌^◌, Bool, List, [], ◌∷◌, ◌++◌, length, take, drop, if◌then◌else◌}
+use Rattle.std.specs.Prelude.{ℕ, ◌+◌, ◌*◌, ◌%◌, ◌^◌, Bool, nat_eq, List, [], ◌∷◌, ◌++◌, length, take, drop, replicate, if◌then◌else◌}
 use Rattle.std.specs.List.{concat}
 use Rattle.std.specs.Int.{w32, w64, to_be_bytes, from_be_bytes}
 use Rattle.mbj_types.specs.Blocks.{xor_lists, blocks, zero_block}
@@ -18,19 +18,23 @@ gctr e j (p ∷ ps) = xor_lists p (e j) ∷ gctr e (inc32 j) ps
 abbrev pub bit_length : ℕ → List ℕ
 bit_length n = to_be_bytes w64 (8 * n % 2 ^ 64)
 
--- 7.1, step 2: the counter block before the first one, for an IV of 12 bytes
-unfoldable pub pre_counter_block : List ℕ → List ℕ
-pre_counter_block iv = iv ++ 0 ∷ 0 ∷ 0 ∷ 1 ∷ []
+-- 7.1, step 2: the counter block before the first one, h being the hash subkey. An IV of 12 bytes is followed by the number 1
+-- in 4 bytes; one of another length is hashed, its last block filled with zero bytes, and behind it 8 zero bytes and its bit
+-- length
+unfoldable pub pre_counter_block : List ℕ → List ℕ → List ℕ
+pre_counter_block h iv =
+    if nat_eq (length iv) 12 then iv ++ 0 ∷ 0 ∷ 0 ∷ 1 ∷ []
+    else ghash h (filled_blocks iv ++ (replicate 8 0 ++ bit_length (length iv)) ∷ [])
 
 -- 7.1, step 3: the text is xored with the key stream in both directions
 abbrev pub gcm_text : (List ℕ → List ℕ) → List ℕ → List ℕ → List ℕ
-gcm_text e iv text = concat (gctr e (inc32 (pre_counter_block iv)) (blocks text))
+gcm_text e iv text = concat (gctr e (inc32 (pre_counter_block (e zero_block) iv)) (blocks text))
 
 -- 7.1, steps 4 to 6: the 16 bytes of tag over aad and ciphertext
 abbrev pub gcm_tag : (List ℕ → List ℕ) → List ℕ → List ℕ → List ℕ → List ℕ
 gcm_tag e iv aad ciphertext =
     let lengths = bit_length (length aad) ++ bit_length (length ciphertext) in
-    xor_lists (e (pre_counter_block iv)) (ghash (e zero_block) (filled_blocks aad ++ filled_blocks ciphertext ++ lengths ∷ []))
+    xor_lists (e (pre_counter_block (e zero_block) iv)) (ghash (e zero_block) (filled_blocks aad ++ filled_blocks ciphertext ++ lengths ∷ []))
 
 -- 7.1 and 7.2: the other text, and the tag over the ciphertext, which is that text where the text is sealed, else the given one
 abbrev pub gcm : (List ℕ → List ℕ) → List ℕ → List ℕ → List ℕ → Bool → List ℕ × List ℕ

@@ -6,7 +6,7 @@ use Rattle.mbj_types.specs.declared.job.Cipher.{Cipher}
 use Rattle.mbj_types.specs.declared.job.Cipher.TheVariants as cipher
 use Rattle.mbj_types.specs.declared.reason.Reason.{Reason}
 use Rattle.mbj_types.specs.declared.reason.Reason.TheVariants.{PacketLong, GcmPair, CipherKey, IvLength, CipherRange, CipherLength, AuthKey, HashRange, AadLong, TagLength}
-use Rattle.mbj_types.specs.declared.limits.TheConstants.{MAX_PACKET_BYTES, MAX_AAD_BYTES, MAX_HMAC_KEY_BYTES}
+use Rattle.mbj_types.specs.declared.limits.TheConstants.{MAX_PACKET_BYTES, MAX_IV_BYTES, MAX_AAD_BYTES, MAX_HMAC_KEY_BYTES}
 
 -- ---- what a cipher takes
 
@@ -31,7 +31,7 @@ abbrev pub takes_iv : Cipher → ℕ → Bool
 takes_iv cipher.Null n = true
 takes_iv cipher.Cbc n = n == 16
 takes_iv cipher.Ctr n = n == 12 || n == 16
-takes_iv cipher.Gcm n = n == 12
+takes_iv cipher.Gcm n = nat_lt 0 n && nat_le n MAX_IV_BYTES
 
 -- ranges of n bytes
 abbrev pub takes_range : Cipher → ℕ → Bool

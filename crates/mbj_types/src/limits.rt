@@ -3,6 +3,9 @@ ghost use Rattle.std.specs.Prelude.{◌≡◌};
 /// The longest packet that a job may have, in bytes.
 pub const MAX_PACKET_BYTES: usize = 65_535;
 
+/// The longest initialization vector that a GCM job may have, in bytes.
+pub const MAX_IV_BYTES: usize = 65_535;
+
 /// The longest additional authenticated data that a GCM job may have, in bytes.
 pub const MAX_AAD_BYTES: usize = 65_535;
 
@@ -15,6 +18,7 @@ pub const MAX_TAG_BYTES: usize = 64;
 /// A law: the limits on a job are these numbers, which the argument table takes from the constants.
 pub fn limits_are_these_numbers()
     ensures packet { MAX_PACKET_BYTES ≡ 65535 }
+    ensures iv { MAX_IV_BYTES ≡ 65535 }
     ensures aad { MAX_AAD_BYTES ≡ 65535 }
     ensures hmac_key { MAX_HMAC_KEY_BYTES ≡ 1024 }
     ensures tag { MAX_TAG_BYTES ≡ 64 }

@@ -4,7 +4,7 @@ use super::shape::{CBC, CTR, GCM, NULL, Shape};
 use mbj_types::{Auth, Cipher, Reason};
 
 /// Jobs at the boundaries of each row, on both sides.
-pub(crate) const CIPHER_ROWS: [(Shape, Option<Reason>); 47] = [
+pub(crate) const CIPHER_ROWS: [(Shape, Option<Reason>); 49] = [
     (
         Shape {
             packet: 65_535,
@@ -79,9 +79,11 @@ pub(crate) const CIPHER_ROWS: [(Shape, Option<Reason>); 47] = [
     (Shape { iv: 15, ..CTR }, Some(Reason::IvLength)),
     (Shape { iv: 16, ..CTR }, None),
     (Shape { iv: 17, ..CTR }, Some(Reason::IvLength)),
-    (Shape { iv: 11, ..GCM }, Some(Reason::IvLength)),
-    (Shape { iv: 13, ..GCM }, Some(Reason::IvLength)),
-    (Shape { iv: 16, ..GCM }, Some(Reason::IvLength)),
+    (Shape { iv: 0, ..GCM }, Some(Reason::IvLength)),
+    (Shape { iv: 1, ..GCM }, None),
+    (Shape { iv: 60, ..GCM }, None),
+    (Shape { iv: 65_535, ..GCM }, None),
+    (Shape { iv: 65_536, ..GCM }, Some(Reason::IvLength)),
     (
         Shape {
             cipher_off: 15,

@@ -1,16 +1,10 @@
 -- One block more is xored in each turn, and at the end all are.
 use Rattle.std.proofs.Common.{◌≡◌, ℕ, List, ◌∷◌, refl, sym, ap, ap₂, ◌∙◌, arith}
-use Rattle.std.specs.List.{concat}
 use Rattle.mbj_types.specs.Aes.{encipher}
-use Rattle.mbj_types.specs.Blocks.{xor_lists, blocks}
+use Rattle.mbj_types.specs.Blocks.{xor_lists}
 use Rattle.mbj_types.specs.Gcm.{inc32, gctr}
 use Rattle.mbj_blocks.proofs.Walk.{walk_xor, walk_end}
 use Rattle.mbj_gcm.proofs.counter.xor_key_stream.Goals as goal
-
-pub xoring-init : goal.xoring-init
-xoring-init c =
-    ap (λ j. concat (gctr (encipher c.args.key.now) (inc32 j) (blocks c.args.text.now)))
-    c.pre_counter_block-counter.ensures
 
 pub xoring-preserved : goal.xoring-preserved
 xoring-preserved c =

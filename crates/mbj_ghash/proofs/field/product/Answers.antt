@@ -1,4 +1,4 @@
-use Rattle.std.proofs.Common.{ap, ◌+◌, ◌*◌, ◌^◌, ◌<◌, ◌∙◌, arith}
+use Rattle.std.proofs.Common.{ap, ◌^◌, ◌<◌, ◌∙◌, arith}
 use Rattle.mbj_types.specs.Field.{bits, reduce}
 use Rattle.mbj_ghash.specs.Inside.Carryless.{carryless}
 use Rattle.mbj_ghash.proofs.Carryless.{carryless-lt}

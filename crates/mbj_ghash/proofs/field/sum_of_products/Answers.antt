@@ -1,4 +1,4 @@
-use Rattle.std.proofs.Common.{ℕ, ap, ◌+◌, ◌*◌, ◌^◌, ◌<◌, ◌∙◌, arith}
+use Rattle.std.proofs.Common.{ℕ, ap, ◌^◌, ◌<◌, ◌∙◌, arith}
 use Rattle.mbj_types.specs.Field.{bits, reduce}
 use Rattle.mbj_types.specs.Lanes.{lane_at-lt}
 use Rattle.mbj_ghash.specs.declared.lanes.Lanes128.{Lanes128}

@@ -13,5 +13,6 @@ returns c =
     let y : List ℕ = to_be_bytes w128 c.args.value in
     ghash_from-fours h y (to_be_bytes w128 c.after_each-2.result) xs (length xs / 4)
     (c.after_each-2.ensures
-    ∙ ap₂ (ghash_from h) (c.after_fours.ensures ∙ ap (λ fs. ghash_from h y (flat_map (λ four. four) fs)) c.as_chunks.ensures.front)
+    ∙ ap₂ (ghash_from h) (c.after_fours.ensures
+    ∙ ap (λ fs. ghash_from h y (flat_map (λ four. four) fs)) c.as_chunks.ensures.front)
     c.as_chunks.ensures.back)

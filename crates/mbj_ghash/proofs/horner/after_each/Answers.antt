@@ -13,4 +13,5 @@ loop-block-preserved c =
     let i = c.loop-block.block-index in
     let y : List ℕ = to_be_bytes w128 c.args.value in
     ghash_from-next h y xs i [] (to_be_bytes w128 c.after_block-sum.result) c.loop-block-test.true
-    (c.after_block-sum.ensures ∙ ap (λ t. block_product (xor_lists t (slice_index_or xs i [])) h) c.loop-block.invariant)
+    (c.after_block-sum.ensures ∙ ap (λ t. block_product (xor_lists t (slice_index_or xs i [])) h)
+    c.loop-block.invariant)

@@ -1,8 +1,6 @@
 -- The sum of the products by the powers is the value after the four blocks.
-use Rattle.std.proofs.Common.{ℕ, ◌<◌, ◌^◌, Bool, List, bit_xor, ap, ap₂, ◌∙◌, arith}
-use Rattle.std.specs.Int.{w128, from_be_bytes}
+use Rattle.std.proofs.Common.{ℕ, Bool, List, bit_xor, ap, ap₂, ◌∙◌}
 use Rattle.mbj_types.specs.Field.{add, bits, product}
-use Rattle.mbj_types.specs.Lanes.{lane_at-lt}
 use Rattle.mbj_ghash.specs.Inside.Lanes.{wide_lane}
 use Rattle.mbj_ghash.proofs.HashSteps.{four_bytes}
 use Rattle.mbj_ghash.proofs.horner.after_four.Goals as goal
@@ -12,7 +10,8 @@ returns c h p =
     let s = c.new-factors.ensures in
     let at : ℕ → ℕ = wide_lane c.args.powers in
     let times : ℕ → ℕ → List Bool = λ x y. product (bits 128 x) (bits 128 y) in
-    four_bytes h c.args.value c.sum_of_products.result (at 2) (at 1) (at 0) c.args.a.now c.args.b.now c.args.c.now c.args.d.now
+    four_bytes h c.args.value c.sum_of_products.result (at 2) (at 1)
+    (at 0) c.args.a.now c.args.b.now c.args.c.now c.args.d.now
     c.ranges.value.fits c.sum_of_products.type_inv
     (record { size = c.told-a; bytes = c.fits-a }) (record { size = c.told-b; bytes = c.fits-b })
     (record { size = c.told-c; bytes = c.fits-c }) (record { size = c.told-d; bytes = c.fits-d })

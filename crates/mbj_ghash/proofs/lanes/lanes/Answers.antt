@@ -5,5 +5,6 @@ use Rattle.mbj_ghash.proofs.lanes.lanes.Goals as goal
 
 pub returns : goal.returns
 returns c i h =
-    let fits : slice_index c.args.x i < 2 ^ 64 = (Each1-get_or (Fits w64) c.args.x i 0 (omega (arith, c.fits-x.0, h)) c.fits-x.1).fits in
+    let fits : slice_index c.args.x i < 2 ^ 64 =
+    (Each1-get_or (Fits w64) c.args.x i 0 (omega (arith, c.fits-x.0, h)) c.fits-x.1).fits in
     sym (mod-eq_of_lt fits)

@@ -6,7 +6,12 @@ use Rattle.mbj_ghash.proofs.lanes.products_32.Goals as goal
 pub returns : goal.returns
 returns c i h small_x small_y =
     rw (c.sum-3.ensures i h, c.sum-2.ensures i h, c.sum.ensures i h)
-    (rw (c.columns-first.ensures i h, c.columns-second.ensures i h, c.columns-third.ensures i h, c.columns-fourth.ensures i h)
+    (rw (
+      c.columns-first.ensures i h,
+      c.columns-second.ensures i h,
+      c.columns-third.ensures i h,
+      c.columns-fourth.ensures i h,
+    )
     (rw (
       c.split-xs.ensures.first i h,
       c.split-xs.ensures.second i h,

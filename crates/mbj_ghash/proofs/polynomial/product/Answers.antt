@@ -1,5 +1,5 @@
 -- Karatsuba's three products, joined.
-use Rattle.std.proofs.Common.{ap₂, bit_xor, ℕ, ◌∙◌}
+use Rattle.std.proofs.Common.{ap₂, bit_xor, ◌∙◌}
 use Rattle.mbj_ghash.specs.Inside.Carryless.{carryless}
 use Rattle.mbj_ghash.proofs.Karatsuba.{joined_128}
 use Rattle.mbj_ghash.proofs.polynomial.product.Goals as goal
