@@ -1,11 +1,12 @@
 -- Each run of a course goes into the count of the call that it is within.
 use Rattle.std.proofs.Common.{◌≡◌, ℕ, ◌==◌, zero, suc, Bool, true, false, List, [], ◌∷◌, ◌++◌, map, length, Option, Some, None, slice_get, slice_index_or, if◌then◌else◌, refl, ap, ◌∙◌}
 use Rattle.mbj_types.specs.declared.kind.Kind.{Kind}
+use Rattle.mbj_types.specs.declared.kind.Kind.TheVariants as kind
 use Rattle.mbj_types.specs.Kinds.{lanes_of}
 use Rattle.mbj_manager.specs.Rounds.{Pending, at_once, in_lanes}
-use Rattle.mbj_manager.specs.Machine.{Lane, Machine, Waiting, Within, submit, flush, changed, idle_lane, index_of, lane_of, run_idle, run_within, with_lane, with_waiting}
+use Rattle.mbj_manager.specs.Machine.{Lane, Machine, Waiting, Within, submit, flush, changed, lane_of, run_idle, run_within, with_lane, with_waiting}
 use Rattle.mbj_manager.specs.Course.{after_flush_steps, after_steps, course, flush_step, flush_step_at, flushed, goes_on, in_lanes_next, joined, stages_left, stepped, stepped_at, steps_ahead, waits}
-use Rattle.mbj_manager.specs.Counts.{CountsApart, counts_of, full_runs}
+use Rattle.mbj_manager.specs.Counts.{CountsApart, full_runs}
 
 -- what a change of the machine leaves as it was, as a run, a job that joins a list, and a job that is taken do
 record Leaves {A : Type 0} (f : Machine → A) (at : Within) : Type 0 where
@@ -60,34 +61,41 @@ flush-runs-left = record {
 
 -- ---- within a flush
 
-same-counts : (i : ℕ) (ws : List Waiting) (lanes : List Lane)
-    → map counts_of (changed (λ _. with_waiting (slice_index_or lanes i idle_lane) ws) i lanes) ≡ map counts_of lanes
-same-counts i ws [] = refl
-same-counts zero ws (l ∷ lanes) = refl
-same-counts (suc i) ws (l ∷ lanes) = ap (λ counts. counts_of l ∷ counts) (same-counts i ws lanes)
+-- a list that changes keeps its kind's counts, and those of the other kinds
+same-counts : (k j : Kind) (ws : List Waiting) (m : Machine)
+    → full_runs k (record m { lanes = with_lane j (with_waiting (lane_of j m) ws) m.lanes }) ≡ full_runs k m
+same-counts kind.Cbc128 kind.Cbc128 ws m = refl
+same-counts kind.Cbc192 kind.Cbc192 ws m = refl
+same-counts kind.Cbc256 kind.Cbc256 ws m = refl
+same-counts kind.Cmac128 kind.Cmac128 ws m = refl
+same-counts kind.Cmac256 kind.Cmac256 ws m = refl
+same-counts kind.HmacSha1 kind.HmacSha1 ws m = refl
+same-counts kind.HmacSha256 kind.HmacSha256 ws m = refl
+same-counts kind.HmacSha512 kind.HmacSha512 ws m = refl
+same-counts _ _ ws m = refl
 
-full-runs-left : Leaves full_runs flush
-full-runs-left = record {
-  runs = λ k m. same-counts (index_of k) _ m.lanes;
-  joins = λ k ws m. same-counts (index_of k) ws m.lanes;
+full-runs-left : (k : Kind) → Leaves (full_runs k) flush
+full-runs-left k = record {
+  runs = λ j m. same-counts k j _ m;
+  joins = λ j ws m. same-counts k j ws m;
   takes = λ left agenda m. refl;
 }
 
-flush-step-counts : (left : Option (List Pending)) (m : Machine) → full_runs (flush_step_at left m) ≡ full_runs m
-flush-step-counts None m = refl
-flush-step-counts (Some []) m = refl
-flush-step-counts (Some (at_once ∷ left)) m = refl
-flush-step-counts (Some (in_lanes k rest ∷ left)) m =
-    leaves-course full_runs flush full-runs-left (run_idle k m) ∙ full-runs-left.runs k m
+flush-step-counts : (k : Kind) (left : Option (List Pending)) (m : Machine) → full_runs k (flush_step_at left m) ≡ full_runs k m
+flush-step-counts k None m = refl
+flush-step-counts k (Some []) m = refl
+flush-step-counts k (Some (at_once ∷ left)) m = refl
+flush-step-counts k (Some (in_lanes j rest ∷ left)) m =
+    leaves-course (full_runs k) flush (full-runs-left k) (run_idle j m) ∙ (full-runs-left k).runs j m
 
-flush-steps-count : (steps : ℕ) (m : Machine) → full_runs (after_flush_steps steps m) ≡ full_runs m
+flush-steps-count : (k : Kind) (steps : ℕ) (m : Machine) → full_runs k (after_flush_steps steps m) ≡ full_runs k m
 unfolding after_flush_steps
-flush-steps-count zero m = refl
-flush-steps-count (suc steps) m = flush-steps-count steps (flush_step m) ∙ flush-step-counts (slice_get m.left 0) m
+flush-steps-count k zero m = refl
+flush-steps-count k (suc steps) m = flush-steps-count k steps (flush_step m) ∙ flush-step-counts k (slice_get m.left 0) m
 
-flush-counts : (m : Machine) → full_runs (flushed m) ≡ full_runs m
+flush-counts : (k : Kind) (m : Machine) → full_runs k (flushed m) ≡ full_runs k m
 unfolding flushed
-flush-counts m = flush-steps-count (stages_left m.left) m
+flush-counts k m = flush-steps-count k (stages_left m.left) m
 
 pub counts-apart : (m : Machine) → CountsApart m
-counts-apart m = record { submitting = leaves-course (λ m. m.flush_runs) submit flush-runs-left m; flushing = flush-counts m }
+counts-apart m = record { submitting = leaves-course (λ m. m.flush_runs) submit flush-runs-left m; flushing = λ k. flush-counts k m }

@@ -1,19 +1,16 @@
 -- Which counts a run of a list goes into.
-use Rattle.std.specs.Prelude.{◌≡◌, ℕ, List, map}
-use Rattle.mbj_manager.specs.Machine.{Lane, Machine, submit}
+use Rattle.std.specs.Prelude.{◌≡◌, ℕ}
+use Rattle.mbj_types.specs.declared.kind.Kind.{Kind}
+use Rattle.mbj_manager.specs.Machine.{Lane, Machine, lane_of, submit}
 use Rattle.mbj_manager.specs.Course.{course, flushed}
 
 -- the rounds of a kind's full runs, and their blocks
-abbrev pub counts_of : Lane → ℕ × ℕ
-counts_of l = (l.rounds, l.blocks)
-
--- those of each kind
-abbrev pub full_runs : Machine → List (ℕ × ℕ)
-full_runs m = map counts_of m.lanes
+abbrev pub full_runs : Kind → Machine → ℕ × ℕ
+full_runs k m = ((lane_of k m).rounds, (lane_of k m).blocks)
 
 -- a run goes into the count of the call that it is within, and into no other
 pub record CountsApart (m : Machine) : Type 0 where
   -- a list that fills as a submitted job goes on is no run of a flush
   pub submitting : (course submit m).flush_runs ≡ m.flush_runs
   -- a list that fills as jobs go on within a flush is no full run
-  pub flushing : full_runs (flushed m) ≡ full_runs m
+  pub flushing : (k : Kind) → full_runs k (flushed m) ≡ full_runs k m

@@ -1,12 +1,12 @@
 -- What a contract sees of a manager, and what each call makes of it.
-use Rattle.std.specs.Prelude.{◌≡◌, ◌≢◌, ◌-◌, List, [], ◌∷◌, ◌++◌, length, map, replicate, Option, Some, None, slice_get, unwrap_or}
+use Rattle.std.specs.Prelude.{◌≡◌, ◌≢◌, ◌-◌, List, [], ◌∷◌, ◌++◌, length, map, Option, Some, None, slice_get, unwrap_or}
 use Rattle.mbj_types.specs.declared.job.Job.{Job}
 use Rattle.mbj_types.specs.declared.done.Done.{Done}
 use Rattle.mbj_types.specs.Blank.{blank}
 use Rattle.mbj_types.specs.Result.{result_of}
 use Rattle.mbj_stage.specs.Going.{begun}
 use Rattle.mbj_manager.specs.Rounds.{Pending, pending}
-use Rattle.mbj_manager.specs.Machine.{submit, Waiting, Lane, Machine, kind_count, idle_lane}
+use Rattle.mbj_manager.specs.Machine.{submit, Waiting, Lane, Machine, idle_lanes, lane_of, lanes_by}
 use Rattle.mbj_manager.specs.Course.{course, flushed}
 
 pub record ManagerState : Type 0 where
@@ -19,7 +19,7 @@ pub record ManagerState : Type 0 where
 
 -- a machine with the jobs whose stages left these are, and whose lanes are idle
 abbrev pub idle_machine : List (List Pending) → Machine
-idle_machine left = record { left = left; lanes = replicate kind_count idle_lane; agenda = []; flush_runs = 0 }
+idle_machine left = record { left = left; lanes = idle_lanes; agenda = []; flush_runs = 0 }
 
 abbrev pub new_manager : ManagerState
 new_manager = record { owed = []; opened = None; machine = idle_machine [] }
@@ -44,7 +44,7 @@ renumbered l = record { waiting = map earlier l.waiting; rounds = l.rounds; bloc
 
 -- the machine once the first job left: each number is one lower
 abbrev pub without_earliest : List (List Pending) → Machine → Machine
-without_earliest left m = record m { left = left; lanes = map renumbered m.lanes }
+without_earliest left m = record m { left = left; lanes = lanes_by (λ k. renumbered (lane_of k m)) }
 
 -- the earliest job's result is given back where that job is finished
 abbrev pub given_at : List Done → List (List Pending) → ManagerState → Option Done × ManagerState

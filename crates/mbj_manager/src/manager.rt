@@ -1,8 +1,8 @@
-ghost use Rattle.std.specs.Prelude.{◌≡◌, ◌↔◌, ◌<◌, ◌≤◌, ◌++◌, [], None, IfOk, OnOk, OnErr, IsSome, length, map, option_to_list, replicate};
+ghost use Rattle.std.specs.Prelude.{◌≡◌, ◌↔◌, ◌<◌, ◌≤◌, ◌++◌, [], None, IfOk, OnOk, OnErr, IsSome, length, map, option_to_list};
 ghost use Rattle.std.specs.Borrow.{sem};
 ghost use Rattle.mbj_types.specs.Result.{result_of};
 ghost use Rattle.mbj_ring.specs.declared.ring.TheConstants.{CELLS};
-ghost use Rattle.mbj_manager.specs.Machine.{kind_count, idle_lane, lane_of};
+ghost use Rattle.mbj_manager.specs.Machine.{idle_lanes, lane_of};
 ghost use Rattle.mbj_manager.specs.State.{IsEarliestFinished, entered, flushing, given, lent, new_manager, submitted, with_open};
 ghost use Rattle.mbj_manager.specs.Lending.{LendsNext, LendsOpen};
 
@@ -183,7 +183,7 @@ impl Manager {
     /// What is counted of the lanes: nothing, since every stage finishes at once.
     fn idle_count(&self) -> u32
         ensures zero { result ≡ 0 }
-        ensures lanes { self.now.machine.lanes ≡ replicate kind_count idle_lane }
+        ensures lanes { self.now.machine.lanes ≡ idle_lanes }
         ensures flush_runs { self.now.machine.flush_runs ≡ 0 }
     {
         // By the invariant no lanes are used.
