@@ -4,3 +4,4 @@ pub mod Tags
 pub mod Soundness
 pub mod Owing
 pub mod Lengths
+mod Handings

@@ -5,13 +5,11 @@ mod auth;
 mod cipher;
 mod course;
 mod gcm;
-mod job;
 mod laws;
 mod stage;
 
 pub use course::Course;
-pub use job::do_job;
-pub use laws::results_keep_length;
+pub use laws::{a_course_owes_the_same_while_it_is_out, results_keep_length};
 pub use stage::Stage;
 
 #[cfg(test)]

@@ -1,3 +1,6 @@
+ghost use Rattle.std.specs.Prelude.{◌≡◌};
+ghost use Rattle.mbj_types.specs.Result.{result_of};
+
 use super::*;
 use mbj_types::{Auth, Bytes, Cipher, Dir, Done, Job, Order, Reason, Status};
 use std::alloc::{AllocError, Global};
@@ -36,6 +39,20 @@ fn cbc_cmac(alloc: Global, dir: Dir, order: Order, packet: u128) -> Result<Job, 
     job.tag_len = 16;
     job.packet = bytes(alloc, packet)?;
     Ok(job)
+}
+
+/// Does a job, stage after stage, and answers its result.
+fn do_job(job: Job) -> Done
+    ensures { result ≡ result_of job }
+{
+    let mut course = Course::begin(job);
+    'stages: loop {
+        match course.next_stage() {
+            Stage::Now => course.run_now(),
+            Stage::Lane(_) => unreachable!(),
+            Stage::Finished => return course.into_done(),
+        }
+    }
 }
 
 fn is(done: &Done, status: Status, packet: u128, tag: &[u8]) -> bool {

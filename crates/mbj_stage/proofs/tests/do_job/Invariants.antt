@@ -2,7 +2,7 @@
 use Rattle.std.proofs.Common.{◌≡◌, length}
 use Rattle.mbj_types.specs.Result.{result_of}
 use Rattle.mbj_stage.specs.Going.{owed}
-use Rattle.mbj_stage.proofs.job.do_job.Given as goal
+use Rattle.mbj_stage.proofs.tests.do_job.Given as goal
 
 abbrev pub invariant-stages : goal.invariant-stages
 invariant-stages l = owed l.course ≡ result_of l.fn.job

@@ -1,0 +1,57 @@
+-- A course whose packet is out in a lane: how it is handed out and taken back, and what is owed meanwhile.
+use Rattle.std.specs.Prelude.{◌≡◌, ℕ, List, [], ◌∷◌, length, take, None, Some}
+use Rattle.mbj_types.specs.Auths.{class_of}
+use Rattle.mbj_types.specs.Result.{mac_by}
+use Rattle.mbj_types.specs.declared.job.Job.{Job}
+use Rattle.mbj_types.specs.declared.done.Done.{Done}
+use Rattle.mbj_stage.specs.declared.stage.Step.{Step}
+use Rattle.mbj_stage.specs.declared.stage.Step.TheVariants as step
+use Rattle.mbj_stage.specs.Going.{Going, owed, packet_after}
+
+-- what an entry holds when its rounds are done: the packet, and the whole value of an HMAC or a CMAC, which a cipher's entry
+-- doesn't have
+pub record End : Type 0 where
+  pub packet : List ℕ
+  pub mac : List ℕ
+
+-- the course with its packet out in an entry
+abbrev pub handed_out : Going → Going
+handed_out c = record c { job = record c.job { packet = [] }; out = Some (length c.job.packet) }
+
+-- the tag once an entry's end is taken back
+abbrev pub tag_back : Step → Job → List ℕ → List ℕ → List ℕ
+tag_back step.Cipher j mac tag = tag
+tag_back step.Auth j mac tag = take j.tag_len mac
+tag_back step.Gcm j mac tag = tag
+
+abbrev pub taken_back_at : List Step → End → Going → Going
+taken_back_at [] e c = c
+taken_back_at (s ∷ left) e c = record {
+  job = record c.job { packet = e.packet };
+  tag = tag_back s c.job e.mac c.tag;
+  reason = c.reason;
+  left = left;
+  out = None;
+}
+
+-- the course once its entry's end is taken back, which does the first of its steps
+abbrev pub taken_back : End → Going → Going
+taken_back e c = taken_back_at c.left e c
+
+-- what the course owes whose entry, which is out, ends so
+abbrev pub owed_with : End → Going → Done
+owed_with e c = owed (taken_back e c)
+
+-- the end of an entry that does this step
+abbrev pub end_of : Step → Job → End
+end_of s j = record { packet = packet_after s j j.packet; mac = mac_by (class_of j.auth) j j.packet }
+
+-- a step that is done in a lane: a cipher or an authentication alone
+abbrev pub IsForLanes : Step → Type 0
+IsForLanes step.Cipher = Unit {0}
+IsForLanes step.Auth = Unit {0}
+IsForLanes step.Gcm = ⊥
+
+-- a course owes the same while its packet is out in an entry that does its first step
+abbrev pub OwesTheSame : Going → Type 0
+OwesTheSame c = (s : Step) (left : List Step) → c.left ≡ s ∷ left → IsForLanes s → owed_with (end_of s c.job) (handed_out c) ≡ owed c
