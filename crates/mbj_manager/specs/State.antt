@@ -1,9 +1,10 @@
 -- What a contract sees of a manager, and what each call makes of it.
-use Rattle.std.specs.Prelude.{◌≡◌, ◌≢◌, ◌-◌, List, [], ◌∷◌, ◌++◌, length, map, Option, Some, None, slice_get, unwrap_or}
+use Rattle.std.specs.Prelude.{◌≡◌, ◌≢◌, ◌==◌, ◌-◌, List, [], ◌∷◌, ◌++◌, length, map, Option, Some, None, slice_get, unwrap_or, if◌then◌else◌}
 use Rattle.mbj_types.specs.declared.job.Job.{Job}
 use Rattle.mbj_types.specs.declared.done.Done.{Done}
 use Rattle.mbj_types.specs.Blank.{blank}
 use Rattle.mbj_types.specs.Result.{result_of}
+use Rattle.mbj_ring.specs.declared.ring.TheConstants.{CELLS}
 use Rattle.mbj_stage.specs.Going.{begun}
 use Rattle.mbj_manager.specs.Rounds.{Pending, pending}
 use Rattle.mbj_manager.specs.Machine.{submit, Waiting, Lane, Machine, idle_lanes, lane_of, lanes_by}
@@ -88,3 +89,9 @@ submitted h = given (entered h)
 
 abbrev pub flushing : ManagerState → Option Done × ManagerState
 flushing h = given (record h { machine = flushed h.machine })
+
+-- ---- room for a job
+
+-- where no cell is left, the earliest job is flushed
+abbrev pub room_made : ManagerState → Option Done × ManagerState
+room_made h = if length h.owed == CELLS then flushing h else (None, h)

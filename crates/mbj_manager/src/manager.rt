@@ -1,9 +1,10 @@
-ghost use Rattle.std.specs.Prelude.{◌≡◌, ◌↔◌, ◌<◌, ◌≤◌, ◌++◌, [], None, IfOk, OnOk, OnErr, IsSome, length, map, option_to_list};
+ghost use Rattle.std.specs.Prelude.{◌≡◌, ◌↔◌, ◌<◌, ◌≤◌, ◌++◌, [], None, IfOk, OnOk, OnErr, IsSome, IsTrue, length, map, option_to_list};
+ghost use Rattle.std.specs.Bool.{OnFalse};
 ghost use Rattle.std.specs.Borrow.{sem};
 ghost use Rattle.mbj_types.specs.Result.{result_of};
 ghost use Rattle.mbj_ring.specs.declared.ring.TheConstants.{CELLS};
 ghost use Rattle.mbj_manager.specs.Machine.{idle_lanes, lane_of};
-ghost use Rattle.mbj_manager.specs.State.{IsEarliestFinished, entered, flushing, given, lent, new_manager, submitted, with_open};
+ghost use Rattle.mbj_manager.specs.State.{IsEarliestFinished, entered, flushing, given, lent, new_manager, room_made, submitted, with_open};
 ghost use Rattle.mbj_manager.specs.Lending.{LendsNext, LendsOpen};
 
 use crate::cell::Cell;
@@ -57,11 +58,43 @@ impl Manager {
         ensures full { OnErr result (length self.old.owed ≡ CELLS) }
         ensures room { OnOk result (length self.old.owed < CELLS) }
     {
-        if self.ring.len() == CELLS {
+        if self.is_full() {
             return Err(RingFull);
         }
         self.open_cell();
         Ok(self.open_job())
+    }
+
+    /// Whether 256 jobs are submitted and not given back, so that `get_next` has no cell for another one.
+    pub fn is_full(&self) -> bool
+        ensures full { IsTrue result ↔ (length self.now.owed ≡ CELLS) }
+        ensures room { OnFalse result (length self.now.owed < CELLS) }
+    {
+        self.ring.len() == CELLS
+    }
+
+    /// Where no cell is left, flushes the earliest job and gives it back.
+    ///
+    /// Answers `None` exactly where there is a cell; nothing changes then.
+    pub fn make_room(&mut self) -> Option<Done>
+        ensures result { result ≡ (room_made self.old).0 }
+        ensures state { self.new ≡ (room_made self.old).1 }
+        ensures room { length self.new.owed < CELLS }
+        ensures none { (result ≡ None) ↔ ¬ (length self.old.owed ≡ CELLS) }
+        ensures order { option_to_list result ++ self.new.owed ≡ self.old.owed }
+    {
+        if self.is_full() { self.flush() } else { None }
+    }
+
+    /// Puts a job into the next cell, where it is the open job. It takes no memory.
+    pub fn put_next(&mut self, job: Job)
+        requires { length self.old.owed < CELLS }
+        ensures { self.new ≡ with_open self.old job }
+    {
+        match self.get_next() {
+            Ok(cell) => *cell = job,
+            Err(RingFull) => unreachable!(),
+        }
     }
 
     /// Opens a cell with a blank job, where none is open.
@@ -94,6 +127,7 @@ impl Manager {
         ensures result { result ≡ (submitted self.old).0 }
         ensures state { self.new ≡ (submitted self.old).1 }
         ensures none { (result ≡ None) ↔ ¬ IsEarliestFinished (entered self.old) }
+        ensures some { IsEarliestFinished (entered self.old) → IsSome result }
         ensures order { option_to_list result ++ self.new.owed
             ≡ self.old.owed ++ map result_of (option_to_list self.old.opened) }
     {
@@ -121,6 +155,7 @@ impl Manager {
         ensures result { result ≡ (given self.old).0 }
         ensures state { self.new ≡ (given self.old).1 }
         ensures none { (result ≡ None) ↔ ¬ IsEarliestFinished self.old }
+        ensures some { IsEarliestFinished self.old → IsSome result }
         ensures order { option_to_list result ++ self.new.owed ≡ self.old.owed }
     {
         match self.ring.pop() {

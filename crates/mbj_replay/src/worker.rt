@@ -7,7 +7,6 @@ ghost use Rattle.mbj_replay.specs.Replay.{first_with};
 use mbj_manager::Manager;
 use mbj_ring::CELLS;
 use mbj_types::{Done, Job};
-use mbj_work::fill;
 use std::alloc::{AllocError, Global};
 
 /// A worker of a replay: its manager, and its hand, which are the cells whose jobs it has claimed and not finished, the
@@ -50,7 +49,7 @@ impl Worker {
         ensures full { IsTrue result ↔ (length self.now.hand.items ≡ CELLS) }
         ensures within { length self.now.hand.items ≤ CELLS }
     {
-        self.manager.queue_size() == CELLS
+        self.manager.is_full()
     }
 
     /// Takes a cell with its job into the hand, and submits the job. What the manager gives back is answered with the
@@ -66,7 +65,7 @@ impl Worker {
             ≡ self.old.manager.owed ++ result_of job ∷ [] }
     {
         self.hand.push_reserved(cell);
-        fill(&mut self.manager, job);
+        self.manager.put_next(job);
         let done = self.manager.submit();
         take_first(&mut self.hand, done)
     }

@@ -1,11 +1,13 @@
 -- The lines of a trace, put together from those of its parts.
-use Rattle.std.proofs.Common.{◌≡◌, ◌∙◌, ◌<◌, ◌+◌, ◌++◌, [], ap, sym, ℕ, List, length, drop, get_or, flat_map, append_assoc}
+use Rattle.std.proofs.Common.{◌≡◌, ◌∙◌, ◌<◌, ◌+◌, ◌++◌, [], ◌∷◌, arith, Bool, true, if◌then◌else◌, is_some, None, Option, Some, refl, suc, ap, sym, ℕ, List, length, drop, get_or, flat_map, append_assoc}
 use Rattle.mbj_types.specs.declared.job.Job.{Job}
 use Rattle.mbj_types.specs.Kinds.{all_kinds}
 use Rattle.mbj_types.specs.declared.kind.Kind.{Kind}
 use Rattle.mbj_manager.specs.State.{ManagerState, new_manager}
-use Rattle.mbj_trace.specs.Trace.{Tracing, after_all_taken, after_jobs, all_taken, count_lines, end_lines, job_lines, trace_lines, tracing}
+use Rattle.mbj_trace.specs.Trace.{Tracing, after_all_taken, after_jobs, after_take, after_takes, all_taken, count_after, count_lines, end_lines, job_lines, jobs_in, take_line, take_lines, taken_by, trace_lines, tracing}
 use Rattle.mbj_trace.specs.declared.line.TraceLine.{TraceLine}
+use Rattle.mbj_types.specs.declared.done.Done.{Done}
+use Rattle.mbj_trace.specs.declared.tracer.Taking.{Taking}
 use Rattle.mbj_trace.specs.declared.tracer.Taking.TheVariants as taking
 use Rattle.mbj_text.proofs.Lines.{flat-next}
 
@@ -49,3 +51,32 @@ whole jobs t0 t1 l0 l1 l4 start none first state rest =
     let told : l1 ≡ job_lines 0 jobs new = first ∙ ap (λ ls. ls ++ job_lines 0 jobs t0) none ∙ ap (job_lines 0 jobs) start in
     let after : t1 ≡ after_jobs jobs new = state ∙ ap (after_jobs jobs) start in
     rest ∙ ap (λ ls. ls ++ end_lines t1) told ∙ ap (λ t. job_lines 0 jobs new ++ end_lines t) after
+
+-- ---- one job more is taken back
+
+next-count : (o : Option Done) (n : ℕ) → is_some o ≡ true → count_after o n ≡ n + 1
+next-count None n h = absurd (cc)
+next-count (Some done) n h = refl
+
+-- one job less is owed then
+one-less : (how : Taking) (t : Tracing) → is_some (taken_by how t.manager).0 ≡ true → jobs_in (after_take how t) ≡ jobs_in t
+    → length t.manager.owed ≡ suc (length (after_take how t).manager.owed)
+one-less how t some same =
+    let count = next-count (taken_by how t.manager).0 t.given some in
+    omega (arith, count, same)
+
+-- the calls after one that gave a job back
+pub rest-taken : (how : Taking) (t : Tracing) (lines : List TraceLine) → is_some (taken_by how t.manager).0 ≡ true
+    → jobs_in (after_take how t) ≡ jobs_in t
+    → ((lines ++ take_line how t ∷ []) ++ all_taken how (after_take how t) ≡ lines ++ all_taken how t)
+    × (after_all_taken how (after_take how t) ≡ after_all_taken how t)
+rest-taken how t lines some same =
+    let next : Tracing = after_take how t in
+    let n : ℕ = length next.manager.owed in
+    let len : length t.manager.owed ≡ suc n = one-less how t some same in
+    let told : all_taken how t ≡ take_line how t ∷ all_taken how next =
+    ap (λ k. take_lines how k t) len
+    ∙ ap (λ (b : Bool). take_line how t ∷ (if b then take_lines how n next else [])) some in
+    let left : after_all_taken how t ≡ after_all_taken how next =
+    ap (λ k. after_takes how k t) len ∙ ap (λ (b : Bool). if b then after_takes how n next else next) some in
+    (append_assoc lines (take_line how t ∷ []) (all_taken how next) ∙ ap (λ ls. lines ++ ls) (sym told), sym left)

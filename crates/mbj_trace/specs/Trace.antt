@@ -6,7 +6,7 @@ use Rattle.mbj_types.specs.declared.kind.Kind.{Kind}
 use Rattle.mbj_types.specs.Kinds.{all_kinds}
 use Rattle.mbj_ring.specs.declared.ring.TheConstants.{CELLS}
 use Rattle.mbj_manager.specs.Machine.{Machine, lane_of}
-use Rattle.mbj_manager.specs.State.{ManagerState, new_manager, with_open, submitted, given, flushing}
+use Rattle.mbj_manager.specs.State.{ManagerState, new_manager, with_open, submitted, given, flushing, room_made}
 use Rattle.mbj_trace.specs.Lines.{lines_text}
 use Rattle.mbj_trace.specs.declared.line.TraceLine.{TraceLine}
 use Rattle.mbj_trace.specs.declared.line.TraceLine.TheVariants as line
@@ -43,11 +43,11 @@ after_answer a next = record { manager = a.1; given = count_after a.0 next }
 abbrev pub room_lines : Tracing → List TraceLine
 room_lines t =
     if length t.manager.owed == CELLS
-    then line.Full ∷ line.Flush (number_at (flushing t.manager).0 t.given) ∷ []
+    then line.Full ∷ line.Flush (number_at (room_made t.manager).0 t.given) ∷ []
     else []
 
 abbrev pub with_room : Tracing → Tracing
-with_room t = if length t.manager.owed == CELLS then after_answer (flushing t.manager) t.given else t
+with_room t = after_answer (room_made t.manager) t.given
 
 -- the job is written into the next cell and submitted
 abbrev pub submitting : Job → Tracing → Answer

@@ -8,9 +8,7 @@ ghost use Rattle.mbj_trace.specs.Inside.State.{MAX_GIVEN, state_of};
 
 use crate::line::TraceLine;
 use mbj_manager::Manager;
-use mbj_ring::CELLS;
 use mbj_types::{Done, Job, Kind};
-use mbj_work::fill;
 use std::alloc::{AllocError, Global};
 
 /// How a job is taken back.
@@ -66,10 +64,11 @@ impl Tracer {
         ensures room { OnOk result (length self.new.manager.owed < CELLS) }
         ensures count { OnOk result (jobs_in (state_of self.new) ≡ jobs_in (state_of self.old)) }
     {
-        if self.manager.queue_size() == CELLS {
+        let full = self.manager.is_full();
+        let done = self.manager.make_room();
+        let flushed = self.number(done);
+        if full {
             self.lines.push(TraceLine::Full)?;
-            let done = self.manager.flush();
-            let flushed = self.number(done);
             self.lines.push(TraceLine::Flush(flushed))?;
         }
         Ok(())
@@ -84,7 +83,7 @@ impl Tracer {
         ensures count { OnOk result (jobs_in (state_of self.new) ≡ jobs_in (state_of self.old) + 1) }
     {
         self.make_room()?;
-        fill(&mut self.manager, job);
+        self.manager.put_next(job);
         let done = self.manager.submit();
         let given = self.number(done);
         self.lines.push(TraceLine::Submit { job: number, given })?;

@@ -8,7 +8,7 @@ mod private;
 mod task;
 
 pub use dealing::{do_jobs, result_at};
-pub use feeding::{Submitted, fill, submit_job};
+pub use feeding::{Submitted, submit_job};
 pub use gate::{Gate, Moment, OpenGate};
 pub use private::run_private;
 
