@@ -1,6 +1,6 @@
 -- What a call does to a source or to a sink.
 use Rattle.std.specs.Prelude.{◌≡◌, ℕ, List, Option}
-use Rattle.mbj_io.specs.Faults.{Rose}
+use Rattle.mbj_io.specs.Faults.{Rose, counted}
 
 -- a source or a sink before and after a call: the bytes that it tells, and its count of faults
 pub record Stream : Type 0 where
@@ -14,6 +14,11 @@ stream bytes faults old new = record { before = bytes old; after = bytes new; fa
 
 abbrev pub Fails : Stream → Type 0
 Fails s = Rose s.faults_before s.faults_after
+
+-- exactly one fault was counted, unless the count stood at its last value
+pub record FailsOnce (s : Stream) : Type 0 where
+  pub rose : Fails s
+  pub once : s.faults_after ≡ counted s.faults_before
 
 -- the bytes stay, and so does the count of faults
 pub record IsUntouched (s : Stream) : Type 0 where

@@ -1,7 +1,7 @@
 ghost use Rattle.std.specs.Prelude.{◌≡◌, ℕ, ◌-◌, ◌<◌, ◌≤◌, ◌⊎◌, ◌↔◌, [], min, length, Some, IfOk, OnOk, OnErr, IsErr, is_err};
 ghost use Rattle.std.specs.Io.{ReadsAtMost, WritesAtMost};
 ghost use Rattle.std.specs.Io.KnownBytes.{ReadConsumes, WriteAppends};
-ghost use Rattle.mbj_io.specs.Faults.{Rose};
+ghost use Rattle.mbj_io.specs.Faults.{Rose, counted};
 ghost use Rattle.mbj_io.specs.Calls.{IsListed, first_calls, after_call};
 
 use crate::calls::Calls;
@@ -79,6 +79,7 @@ impl Source for MemSource {
         ensures never_falls { self.old.calls.faults ≤ self.new.calls.faults }
         ensures calm { OnOk result (self.new.calls.faults ≡ self.old.calls.faults) }
         ensures failed { OnErr result (Rose self.old.calls.faults self.new.calls.faults) }
+        ensures once { OnErr result (self.new.calls.faults ≡ counted self.old.calls.faults) }
 
         // It fails exactly at the calls that are listed, and gives all that the call may.
         ensures listed { IsErr result ↔ IsListed self.old.calls }

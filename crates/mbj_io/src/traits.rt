@@ -1,7 +1,7 @@
 ghost use Rattle.std.specs.Prelude.{◌≡◌, ℕ, ◌<◌, ◌≤◌, List, Option, length, IfOk, OnOk, OnErr};
 ghost use Rattle.std.specs.Io.{ReadsAtMost, WritesAtMost};
 ghost use Rattle.std.specs.Io.KnownBytes.{ReadConsumes, WriteAppends};
-ghost use Rattle.mbj_io.specs.Faults.{Rose};
+ghost use Rattle.mbj_io.specs.Faults.{Rose, counted};
 
 use std::error::Error;
 use std::fmt;
@@ -28,16 +28,17 @@ pub trait Source {
 
     /// Puts the next bytes into the front of `buf`, and answers how many: at most `buf.len()`.
     ///
-    /// `Ok(0)` on a buffer that isn't empty means the end. [`Failed`] comes only where the count of
-    /// faults rose in this call, or stands at its last value, and nothing is taken then. Every
-    /// other call leaves the count as it was.
+    /// `Ok(0)` on a buffer that isn't empty means the end. [`Failed`] counts exactly one fault, unless
+    /// the count stands at its last value, and nothing is taken then. Every other call leaves the
+    /// count as it was.
     fn read(&mut self, buf: &mut [u8]) -> Result<usize, Failed>
         ensures bound { ReadsAtMost result buf.new }
         ensures bytes { ReadConsumes (rest self.old) (rest self.new) result buf.new }
 
         ensures never_falls { faults self.old ≤ faults self.new }
         ensures calm { OnOk result (faults self.new ≡ faults self.old) }
-        ensures failed { OnErr result (Rose (faults self.old) (faults self.new)) };
+        ensures failed { OnErr result (Rose (faults self.old) (faults self.new)) }
+        ensures once { OnErr result (faults self.new ≡ counted (faults self.old)) };
 }
 
 /// Where bytes go.

@@ -1,10 +1,10 @@
 -- Each run of a course goes into the count of the call that it is within.
-use Rattle.std.proofs.Common.{◌≡◌, ℕ, ◌==◌, zero, suc, Bool, true, false, List, [], ◌∷◌, ◌++◌, map, length, Option, Some, None, slice_get, slice_index_or, if◌then◌else◌, refl, ap, ◌∙◌}
+use Rattle.std.proofs.Common.{◌≡◌, ℕ, ◌==◌, zero, suc, Bool, true, false, List, [], ◌∷◌, ◌++◌, length, Option, Some, None, slice_get, slice_index_or, if◌then◌else◌, refl, ◌∙◌}
 use Rattle.mbj_types.specs.declared.kind.Kind.{Kind}
 use Rattle.mbj_types.specs.declared.kind.Kind.TheVariants as kind
 use Rattle.mbj_types.specs.Kinds.{lanes_of}
 use Rattle.mbj_manager.specs.Rounds.{Pending, at_once, in_lanes}
-use Rattle.mbj_manager.specs.Machine.{Lane, Machine, Waiting, Within, submit, flush, changed, lane_of, run_idle, run_within, with_lane, with_waiting}
+use Rattle.mbj_manager.specs.Machine.{Machine, Waiting, Within, submit, flush, changed, lane_of, run_idle, run_within, with_lane, with_waiting}
 use Rattle.mbj_manager.specs.Course.{after_flush_steps, after_steps, course, flush_step, flush_step_at, flushed, goes_on, in_lanes_next, joined, stages_left, stepped, stepped_at, steps_ahead, waits}
 use Rattle.mbj_manager.specs.Counts.{CountsApart, full_runs}
 

@@ -1,7 +1,7 @@
 -- Which counts a run of a list goes into.
 use Rattle.std.specs.Prelude.{◌≡◌, ℕ}
 use Rattle.mbj_types.specs.declared.kind.Kind.{Kind}
-use Rattle.mbj_manager.specs.Machine.{Lane, Machine, lane_of, submit}
+use Rattle.mbj_manager.specs.Machine.{Machine, lane_of, submit}
 use Rattle.mbj_manager.specs.Course.{course, flushed}
 
 -- the rounds of a kind's full runs, and their blocks

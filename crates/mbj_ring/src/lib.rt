@@ -9,4 +9,4 @@ mod tests;
 // A crate can name a ring in a contract only if the types of its fields are exported.
 #[doc(hidden)]
 pub use cells::Cells;
-pub use ring::{CELLS, Ring};
+pub use ring::{CELLS, Ring, the_ring_has_256_cells};

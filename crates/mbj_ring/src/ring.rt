@@ -12,6 +12,11 @@ use std::marker::Model;
 /// How many cells a ring has.
 pub const CELLS: u32 = 256;
 
+/// A law: a ring has 256 cells.
+pub fn the_ring_has_256_cells()
+    ensures { CELLS ≡ 256 }
+{}
+
 /// A queue of committed values in `CELLS` cells of one block of memory, with at most one open cell behind them.
 ///
 /// The number of a value's cell is its place. The committed values stand at places that follow each other, and after

@@ -1,11 +1,10 @@
 -- What is owed while a course's packet is out in a lane.
-use Rattle.std.proofs.Common.{◌≡◌, ◌∙◌, ℕ, List, [], ◌∷◌, length, Some, None, take, ap, sym, refl}
+use Rattle.std.proofs.Common.{◌≡◌, ◌∙◌, List, ◌∷◌, ap, sym, refl}
 use Rattle.mbj_types.specs.Result.{tag_over}
-use Rattle.mbj_types.specs.declared.done.Done.{Done}
 use Rattle.mbj_stage.specs.declared.stage.Step.{Step}
 use Rattle.mbj_stage.specs.declared.stage.Step.TheVariants as step
-use Rattle.mbj_stage.specs.Going.{Going, led_to, owed, ran_at}
-use Rattle.mbj_stage.specs.Handing.{End, IsForLanes, OwesTheSame, end_of, handed_out, owed_with, taken_back, taken_back_at}
+use Rattle.mbj_stage.specs.Going.{Going, led_to, owed}
+use Rattle.mbj_stage.specs.Handing.{IsForLanes, OwesTheSame, end_of, handed_out, taken_back_at}
 
 -- the end of a step, taken back, does that step
 back-ran : (s : Step) (left : List Step) (c : Going) → IsForLanes s

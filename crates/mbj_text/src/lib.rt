@@ -25,7 +25,7 @@ pub use command::Cmd;
 pub use done::write_done;
 pub use fault::TextFault;
 pub use file::{each_file_is_one, read_file, table_and_names_agree};
-pub use limits::{INPUT_LIMIT, JOB_LIMIT};
+pub use limits::{INPUT_LIMIT, JOB_LIMIT, files_have_these_limits};
 pub use line::{Part, write_line, write_parts};
 pub use replay::{each_replay_is_one, read_replay};
 pub use text_line::{TextLine, write_lines};

@@ -34,6 +34,7 @@ impl Piece {
     pub(crate) fn new() -> Piece
         ensures { result ≡ [] }
     {
+        prove!(PIECE_LEN == 64);
         Piece {
             bytes: [0; PIECE_LEN],
             len: 0,

@@ -1,5 +1,5 @@
 -- How a job is given to a manager whose ring may be full.
-use Rattle.std.specs.Prelude.{List, ◌++◌, Option, option_to_list}
+use Rattle.std.specs.Prelude.{List, ◌++◌, option_to_list}
 use Rattle.mbj_types.specs.declared.job.Job.{Job}
 use Rattle.mbj_types.specs.declared.done.Done.{Done}
 use Rattle.mbj_manager.specs.State.{ManagerState, room_made, submitted, with_open}

@@ -1,3 +1,5 @@
+ghost use Rattle.std.specs.Prelude.{IsTrue};
+
 /// A moment in the life of a job that several parties share.
 #[derive(Clone, Copy, Debug, PartialEq, Eq)]
 pub enum Moment {
@@ -28,7 +30,9 @@ pub struct OpenGate;
 impl Gate for OpenGate {
     fn pass(&self, _party: u32, _moment: Moment) {}
 
-    fn may_help(&self, _party: u32) -> bool {
+    fn may_help(&self, _party: u32) -> bool
+        ensures { IsTrue result }
+    {
         true
     }
 }

@@ -89,7 +89,7 @@ over_reads (Replay s w) told line o = tt
 pub good_ends : (c : Command) (cause : Cause) (input out : Stream) (told text : List ℕ)
     → Stands c cause input out → input.before ≡ Some told → length told ≤ INPUT_LIMIT → AsksFor c told text
     → ¬ Fails input → ¬ Fails out → status_of cause ≡ 7
-good_ends c Read input out told text s tells short good calm calm_out = absurd (calm s.1)
+good_ends c Read input out told text s tells short good calm calm_out = absurd (calm s.1.rose)
 good_ends c Write input out told text s tells short good calm calm_out = absurd (calm_out s.0)
 good_ends c (Line line field) input out told text s tells short good calm calm_out =
     absurd (asks_not_bad c told text line field good (holds_of_told input told (λ bytes. IsBadFor c bytes line field) tells s))
@@ -119,7 +119,7 @@ bad_not_whole c input out IsWritten told line field d tells bad =
 pub bad_ends : (c : Command) (cause : Cause) (input out : Stream) (told : List ℕ) (line field : ℕ)
     → Stands c cause input out → input.before ≡ Some told → length told ≤ INPUT_LIMIT → IsBadFor c told line field
     → ¬ Fails input → (status_of cause ≡ 5) ⊎ (status_of cause ≡ 7)
-bad_ends c Read input out told line field s tells short bad calm = absurd (calm s.1)
+bad_ends c Read input out told line field s tells short bad calm = absurd (calm s.1.rose)
 bad_ends c Write input out told line field s tells short bad calm = absurd (bad_not_whole c input out _ told line field s.1 tells bad)
 bad_ends c (Line at f) input out told line field s tells short bad calm = inl refl
 bad_ends c Bytes input out told line field s tells short bad calm =
@@ -138,7 +138,7 @@ over_not_whole c input out IsWritten told line d tells over =
 pub over_ends : (c : Command) (cause : Cause) (input out : Stream) (told : List ℕ) (line : ℕ)
     → Stands c cause input out → input.before ≡ Some told → length told ≤ INPUT_LIMIT → IsOverFor c told line
     → ¬ Fails input → (status_of cause ≡ 6) ⊎ (status_of cause ≡ 7)
-over_ends c Read input out told line s tells short over calm = absurd (calm s.1)
+over_ends c Read input out told line s tells short over calm = absurd (calm s.1.rose)
 over_ends c Write input out told line s tells short over calm = absurd (over_not_whole c input out _ told line s.1 tells over)
 over_ends c (Line at f) input out told line s tells short over calm =
     absurd (bad_not_over_for c told at f line (holds_of_told input told (λ bytes. IsBadFor c bytes at f) tells s) over)
@@ -155,7 +155,7 @@ long_not_whole c input out IsWritten told reads d tells long = does_short c inpu
 pub long_ends : (c : Command) (cause : Cause) (input out : Stream) (told : List ℕ) → ReadsInput c
     → Stands c cause input out → input.before ≡ Some told → INPUT_LIMIT < length told
     → ¬ Fails input → (status_of cause ≡ 6) ⊎ (status_of cause ≡ 7)
-long_ends c Read input out told reads s tells long calm = absurd (calm s.1)
+long_ends c Read input out told reads s tells long calm = absurd (calm s.1.rose)
 long_ends c Write input out told reads s tells long calm = absurd (does_short c input _ told reads s.1 tells long)
 long_ends c (Line at f) input out told reads s tells long calm = absurd (read_is_short input told s.bytes tells s.read long)
 long_ends c Bytes input out told reads s tells long calm = inl refl

@@ -3,12 +3,12 @@ use Rattle.std.specs.Prelude.{◌≡◌, ◌⊎◌, ℕ, List, map}
 use Rattle.std.specs.Io.KnownBytes.{Appends}
 use Rattle.mbj_types.specs.declared.job.Job.{Job}
 use Rattle.mbj_types.specs.Result.{result_of}
-use Rattle.mbj_text.specs.Flow.{GainsPrefix}
+use Rattle.mbj_text.specs.Flow.{GainsPrefix, WritesAll}
 use Rattle.mbj_text.specs.Line.{text}
 use Rattle.mbj_text.specs.File.{Reads, Bad, Over}
 use Rattle.mbj_text.specs.Replay.{ReadsReplay, BadReplay, OverReplay}
 use Rattle.mbj_text.specs.declared.command.Cmd.{Cmd}
-use Rattle.mbj_io.specs.Streams.{Stream, Fails, IsUntouched}
+use Rattle.mbj_io.specs.Streams.{Fails, FailsOnce, IsUntouched, Stream}
 use Rattle.mbjobs.specs.Reading.{ReadsAll, ReadsBytes, ReadsTooMuch}
 use Rattle.mbj_replay.specs.Replay.{replay_text}
 use Rattle.mbj_trace.specs.Trace.{trace_text}
@@ -80,9 +80,9 @@ Does Trace input IsWritten = Answers Trace input IsWritten
 Does (Gen n m s w) input IsWritten = IsUntouched input × IsWritten (gen_text n m)
 Does (Replay s w) input IsWritten = Answers (Replay s w) input IsWritten
 
--- the command did all that it is to do, and out gained exactly its text
+-- the command did all that it is to do, and out gained exactly its text, without a fault
 abbrev pub Completes : Command → Stream → Stream → Type 0
-Completes c input out = Does c input (Appends out.before out.after)
+Completes c input out = Does c input (WritesAll out)
 
 -- out gained a front of the command's text
 abbrev pub BreaksOff : Command → Stream → Stream → Type 0
@@ -92,7 +92,7 @@ BreaksOff c input out = Does c input (GainsPrefix out.before out.after)
 
 -- what stands behind each cause
 abbrev pub Stands : Command → Cause → Stream → Stream → Type 0
-Stands c cause.Read input out = ReadsInput c × Fails input
+Stands c cause.Read input out = ReadsInput c × FailsOnce input
 Stands c cause.Write input out = Fails out × BreaksOff c input out
 Stands c (cause.Line line field) input out = ReadsBytes input (λ bytes. IsBadFor c bytes line field)
 Stands c cause.Bytes input out = ReadsInput c × ReadsTooMuch input.before input.after

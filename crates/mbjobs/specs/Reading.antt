@@ -2,7 +2,7 @@
 use Rattle.std.specs.Prelude.{◌≡◌, ◌+◌, ◌≤◌, ℕ, List, Option, length}
 use Rattle.std.specs.Io.KnownBytes.{Consumes, IsAtEnd}
 use Rattle.mbj_types.specs.declared.job.Job.{Job}
-use Rattle.mbj_io.specs.Streams.{Stream, Fails}
+use Rattle.mbj_io.specs.Streams.{Stream, FailsOnce}
 use Rattle.mbj_text.specs.File.{Reads}
 use Rattle.mbj_text.specs.Replay.{ReadsReplay}
 use Rattle.mbj_text.specs.declared.command.Cmd.{Cmd}
@@ -42,7 +42,7 @@ pub record ReadsBytes (input : Stream) (Holds : List ℕ → Type 0) : Type 0 wh
 
 -- why the input gave nothing, where these relations say which line is bad, at which field, and which is over the limit
 abbrev pub StopsReading : (List ℕ → ℕ → ℕ → Type 0) → (List ℕ → ℕ → Type 0) → Cause → Stream → Type 0
-StopsReading IsBad IsOver cause.Read input = Fails input
+StopsReading IsBad IsOver cause.Read input = FailsOnce input
 StopsReading IsBad IsOver cause.Write input = ⊥
 StopsReading IsBad IsOver (cause.Line line field) input = ReadsBytes input (λ bytes. IsBad bytes line field)
 StopsReading IsBad IsOver cause.Bytes input = ReadsTooMuch input.before input.after

@@ -1,7 +1,6 @@
 ghost use Rattle.std.specs.Prelude.{◌≡◌, ◌≢◌, ◌⊎◌, ◌≤◌, IfErr, OnOk};
-ghost use Rattle.std.specs.Io.KnownBytes.{Appends};
 ghost use Rattle.mbj_io.specs.Streams.{Fails, IsUntouched, stream};
-ghost use Rattle.mbj_text.specs.Flow.{GainsPrefix};
+ghost use Rattle.mbj_text.specs.Flow.{GainsPrefix, WritesAll};
 ghost use Rattle.mbj_text.specs.declared.limits.TheConstants.{JOB_LIMIT};
 ghost use Rattle.mbj_command.specs.Command.{IsParties};
 ghost use Rattle.mbj_gen.specs.Summary.{gen_text};
@@ -25,7 +24,7 @@ pub(crate) fn run_gen<R: Threads + Sync, O: Sink>(
 ) -> Result<(), Cause>
     requires jobs { jobs ≤ JOB_LIMIT }
     requires parties { IsParties submitters _workers }
-    ensures ok { OnOk result (Appends (O.held out.old) (O.held out.new) (gen_text seed jobs)) }
+    ensures ok { OnOk result (WritesAll (stream O.held O.faults out.old out.new) (gen_text seed jobs)) }
     ensures memory { IfErr result (λ cause. (cause ≡ Cause.Memory) ⊎ (cause ≡ Cause.Write)) }
     ensures write { IfErr result (λ cause. cause ≡ Cause.Write → Fails (stream O.held O.faults out.old out.new)
         × GainsPrefix (O.held out.old) (O.held out.new) (gen_text seed jobs)) }

@@ -1,10 +1,9 @@
 ghost use Rattle.std.specs.Prelude.{◌≡◌, ◌≢◌, ◌≤◌, Err, IfErr, IfOk, IsErrOf, length};
-ghost use Rattle.mbj_io.specs.Faults.{Rose};
 ghost use Rattle.mbj_text.specs.File.{Bad, Over};
 ghost use Rattle.mbj_text.specs.Replay.{BadReplay, OverReplay};
 ghost use Rattle.mbj_text.specs.declared.limits.TheConstants.{JOB_LIMIT};
 ghost use Rattle.mbjobs.specs.Causes.{cause_of_read, cause_of_text};
-ghost use Rattle.mbj_io.specs.Streams.{stream};
+ghost use Rattle.mbj_io.specs.Streams.{FailsOnce, stream};
 ghost use Rattle.mbjobs.specs.Reading.{ReadsAll, ReadsJobs, ReadsScript, ReadsTooMuch, StopsReading};
 
 use crate::cause::Cause;
@@ -55,7 +54,7 @@ impl From<TextFault> for Cause {
 pub(crate) fn read_all<S: Source>(alloc: Global, input: &mut S) -> Result<Vec<u8>, ReadFault>
     ensures read { IfOk result (λ v. ReadsAll (S.rest input.old) (S.rest input.new) v.items) }
     ensures over { IsErrOf result ReadFault.Over → ReadsTooMuch (S.rest input.old) (S.rest input.new) }
-    ensures failed { IsErrOf result ReadFault.Failed → Rose (S.faults input.old) (S.faults input.new) }
+    ensures failed { IsErrOf result ReadFault.Failed → FailsOnce (stream S.rest S.faults input.old input.new) }
     ensures calm { result ≢ Err ReadFault.Failed → S.faults input.new ≡ S.faults input.old }
 {
     let mut bytes = Vec::new(alloc);

@@ -2,7 +2,7 @@ ghost use Rattle.std.specs.Prelude.{◌≡◌, ◌≢◌, ◌⊎◌, ◌≤◌, 
 ghost use Rattle.mbj_text.specs.declared.limits.TheConstants.{INPUT_LIMIT};
 ghost use Rattle.mbj_command.specs.Command.{IsInRange, IsText, command};
 ghost use Rattle.mbjobs.specs.Message.{message_of, status_of};
-ghost use Rattle.mbj_io.specs.Streams.{Fails, IsUntouched, stream};
+ghost use Rattle.mbj_io.specs.Streams.{Fails, FailsOnce, IsUntouched, stream};
 ghost use Rattle.mbjobs.specs.Reading.{ReadsBytes, ReadsTooMuch};
 ghost use Rattle.mbjobs.specs.Outcome.{AsksFor, BreaksOff, Completes, Gains, IsBadFor, IsOverFor, ReadsInput, Stands};
 ghost use Rattle.mbjobs.specs.declared.cause.Cause.{Cause};
@@ -123,7 +123,7 @@ pub fn mbjobs<R: Threads + Wait + Sync, S: Source, O: Sink, E: Sink, G: Gate + S
     ensures unread { result ≡ 2 → IsUntouched (stream S.rest S.faults input.old input.new) }
     ensures gen_unread { (n m s w : ℕ) → command (map string_bytes words.now) ≡ Some (Gen n m s w)
         → IsUntouched (stream S.rest S.faults input.old input.new) }
-    ensures read_failed { result ≡ 3 → Fails (stream S.rest S.faults input.old input.new) }
+    ensures read_failed { result ≡ 3 → FailsOnce (stream S.rest S.faults input.old input.new) }
     ensures calm { result ≢ 3 → S.faults input.new ≡ S.faults input.old }
     ensures write_failed { result ≡ 4 → Fails (stream O.held O.faults out.old out.new)
         × ((c : Command) × (command (map string_bytes words.now) ≡ Some c)

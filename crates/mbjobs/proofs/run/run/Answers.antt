@@ -1,15 +1,14 @@
 use Rattle.std.proofs.Common.{◌≡◌, ◌∙◌, ℕ, List, Vec, Global, length, map, ap, sym, subst, refl, arith}
 use Rattle.std.proofs.lemmas.List.{length-map}
 use Rattle.std.proofs.lemmas.Result.{err_from_is_err_and}
-use Rattle.std.specs.Io.KnownBytes.{Appends}
-use Rattle.mbj_text.specs.Flow.{GainsPrefix}
+use Rattle.mbj_text.specs.Flow.{GainsPrefix, WritesAll}
 use Rattle.mbj_text.specs.Line.{text}
 use Rattle.mbj_types.specs.declared.done.Done.{Done}
 use Rattle.mbj_types.specs.declared.job.Job.{Job}
 use Rattle.mbj_types.specs.Result.{result_of}
 use Rattle.mbj_work.specs.Dealing.{AreDealt}
 use Rattle.mbjobs.specs.Outcome.{Answers, result_text}
-use Rattle.mbj_io.specs.Streams.{Stream}
+use Rattle.mbj_io.specs.Streams.{Stream, stream}
 use Rattle.mbjobs.specs.Reading.{ReadsJobs}
 use Rattle.mbj_command.specs.declared.command.Command.TheVariants.{Run}
 use Rattle.mbj_work.proofs.Deals.{gathered, gathered_all}
@@ -59,10 +58,10 @@ write_results-requires g c κs within =
 pub returns-clause-ok : goal.returns-clause-ok
 returns-clause-ok g c =
     answered c.args.submitters c.args._workers _ c.in_ok-jobs.jobs.items _
-    (λ t. Appends (g.O.Sink.held c.args.out.now) (g.O.Sink.held c.write_results.new.out) t) c.in_ok-jobs.ensures.read
+    (WritesAll (stream g.O.Sink.held g.O.Sink.faults c.args.out.now c.write_results.new.out)) c.in_ok-jobs.ensures.read
     (results_are c.in_ok-jobs.jobs.items c.len-count.result c.args.submitters c.in_ok-results.results.items c.deref.result.now
     c.deref.ensures.value (c.len-count.ensures ∙ c.in_ok-jobs.jobs.ok.0) c.in_ok-results.ensures)
-    c.in_ok-write_results.ensures.written
+    c.in_ok-write_results.ensures
 
 pub returns-in_err-write_results-clause-err : goal.returns-in_err-write_results-clause-err
 returns-in_err-write_results-clause-err g c =

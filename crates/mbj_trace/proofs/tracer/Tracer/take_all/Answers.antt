@@ -1,6 +1,6 @@
 -- A job was taken back, and the calls that are left are one fewer.
-use Rattle.std.proofs.Common.{◌≡◌, ◌∙◌, ◌++◌, [], ◌∷◌, ap, sym, subst, true, List, is_some}
-use Rattle.mbj_trace.specs.Trace.{Tracing, after_all_taken, after_take, all_taken, jobs_in, take_line, taken_by}
+use Rattle.std.proofs.Common.{◌≡◌, ◌∙◌, ◌++◌, ap, sym, subst, true, List, is_some}
+use Rattle.mbj_trace.specs.Trace.{Tracing, after_all_taken, after_take, all_taken, jobs_in, taken_by}
 use Rattle.mbj_trace.specs.Inside.State.{state_of}
 use Rattle.mbj_trace.specs.declared.line.TraceLine.{TraceLine}
 use Rattle.mbj_trace.proofs.TraceLines.{rest-taken}
