@@ -1,0 +1,7 @@
+pub mod Shown
+pub mod MoveLaws
+pub mod Allowed
+pub mod Cutting
+pub mod Kept
+pub mod Told
+pub mod Settled

@@ -1,0 +1,31 @@
+-- What holds of each kind of step, and of the states of a running front as the core sees them.
+use Rattle.std.specs.Prelude.{ℕ}
+use Rattle.mbj_core.specs.Parties.{FrontState}
+use Rattle.mbj_core.specs.Lawful.{Lawful}
+use Rattle.mbj_front.specs.AsCore.{as_core}
+use Rattle.mbj_front.specs.Moves.{Move, Moves, Finds, CoreSees}
+
+module _ {J D : Type 0} (owed : J → D) where
+  -- a step leads from a lawful state to a lawful one
+  abbrev pub StepsKeepTheLaw : Type 0
+  StepsKeepTheLaw =
+      (submitters workers p : ℕ) (move : Move J D) (f g : FrontState J D)
+      → Lawful owed submitters workers f → Moves owed submitters workers f p move g → Lawful owed submitters workers g
+
+  -- a step that is allowed finds at its cell what it leads on from
+  abbrev pub StepsFindTheirCell : Type 0
+  StepsFindTheirCell =
+      (submitters workers p : ℕ) (move : Move J D) (f g : FrontState J D)
+      → Lawful owed submitters workers f → Moves owed submitters workers f p move g → Finds f p move
+
+  -- a step is one event of the core, or changes nothing that the core sees
+  abbrev pub StepsAreEvents : Type 0
+  StepsAreEvents =
+      (submitters workers p : ℕ) (move : Move J D) (f g : FrontState J D)
+      → Lawful owed submitters workers f → Moves owed submitters workers f p move g → CoreSees owed submitters workers (as_core f) p move (as_core g)
+
+  -- a lawful state is lawful too as the core sees it
+  abbrev pub CoreSeesLawfulStates : Type 0
+  CoreSeesLawfulStates =
+      (submitters workers : ℕ) (f : FrontState J D)
+      → Lawful owed submitters workers f → Lawful owed submitters workers (as_core f)

@@ -1,0 +1,7 @@
+pub mod Views
+pub mod AsCore
+pub mod Moves
+pub mod Laws
+pub mod Rule
+pub mod Seats
+pub mod Inside

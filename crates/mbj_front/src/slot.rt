@@ -1,0 +1,10 @@
+/// What stands beside the word of a cell.
+#[derive(Drop)]
+pub enum Slot<J, D> {
+    /// Nothing.
+    Blank,
+    /// A job.
+    Task(J),
+    /// A result.
+    Made(D),
+}

@@ -1,0 +1,90 @@
+// What every party may do with every cell: look at it, claim its job, and finish it.
+ghost use Rattle.std.specs.Prelude.{◌≡◌, ◌≢◌, ◌*◌, ◌<◌, ◌≤◌, ◌∷◌, IfErr, MatchResult};
+ghost use Rattle.mbj_core.specs.declared.cells.TheConstants.{CELLS, MAX_SUBMITTERS};
+ghost use Rattle.mbj_core.specs.declared.party.Stage.TheVariants.{Rest};
+ghost use Rattle.mbj_front.specs.Views.{after_look, after_claim, after_finish};
+ghost use Rattle.mbj_front.specs.Moves.{claiming, finishing, looking};
+ghost use Rattle.mbj_front.specs.Seats.{view_of, cells_of, IsOf, IsFirst, Did};
+
+use crate::front::SharedFront;
+use crate::plays::{Claim, Finish, Scan};
+use crate::results::Results;
+use crate::seat::PartySeat;
+use crate::slot::Slot;
+use crate::words::{DONE, READY, hand_word};
+use mbj_core::CELLS;
+
+impl<J, D, R: Results<J, D>> SharedFront<J, D, R> {
+    /// How many cells there are: `CELLS` for each submitter.
+    pub fn cells(&self) -> u32
+        ensures cells { result ≡ cells_of self.now }
+        ensures within { result ≤ CELLS * MAX_SUBMITTERS }
+    {
+        CELLS * self.submitters
+    }
+
+    /// Looks at a cell, and answers its word.
+    pub fn scan(&self, seat: &mut PartySeat<J, D>, cell: u32) -> u64
+        requires front { IsOf self.now seat.old }
+        requires cell { cell < cells_of self.now }
+        ensures front { IsOf self.now seat.new }
+        ensures view { view_of seat.new ≡ after_look (view_of seat.old) cell result }
+        ensures step { Did R.owed seat.old (looking cell result) seat.new }
+    {
+        self.table
+            .shared
+            .load::<Scan<R>>(&mut seat.inner, cell as usize)
+    }
+
+    /// Claims the job of a cell for a party at rest: it goes to the end of the party's hand. One look is made, at that
+    /// cell. Answers the word that it found exactly where that isn't `READY`; then only the looks grow.
+    pub fn try_claim(&self, seat: &mut PartySeat<J, D>, cell: u32) -> Result<J, u64>
+        requires front { IsOf self.now seat.old }
+        requires rest { (view_of seat.old).stage ≡ Rest }
+        requires cell { cell < cells_of self.now }
+        ensures front { IsOf self.now seat.new }
+        ensures found { IfErr result (λ word. word ≢ READY) }
+        ensures view { MatchResult result
+            (λ job. view_of seat.new ≡ after_claim (view_of seat.old) cell (R.owed job))
+            (λ word. view_of seat.new ≡ after_look (view_of seat.old) cell word) }
+        ensures step { MatchResult result
+            (λ job. Did R.owed seat.old (claiming cell job) seat.new)
+            (λ word. Did R.owed seat.old (looking cell word) seat.new) }
+    {
+        let at = cell as usize;
+        let hand = hand_word(seat.party);
+        let table = &self.table.shared;
+        let word = table.compare_exchange::<Claim<R>>(&mut seat.inner, at, READY, hand);
+        if word != READY {
+            return Err(word);
+        }
+        let slot = table.exchange(&mut seat.inner, at, Slot::Blank);
+        seat.inner.turn();
+        match slot {
+            Slot::Task(job) => Ok(job),
+            _ => unreachable!(),
+        }
+    }
+
+    /// Finishes the first cell in the hand of a party at rest: the cell gets the result, which is the one that its job
+    /// is owed.
+    pub fn finish(&self, seat: &mut PartySeat<J, D>, cell: u32, done: D)
+        requires front { IsOf self.now seat.old }
+        requires rest { (view_of seat.old).stage ≡ Rest }
+        requires first { IsFirst cell done (view_of seat.old).hand }
+        ensures front { IsOf self.now seat.new }
+        ensures hand { (view_of seat.old).hand ≡ (cell, done) ∷ (view_of seat.new).hand }
+        ensures view { view_of seat.new ≡ after_finish (view_of seat.old) (view_of seat.new).hand }
+        ensures step { Did R.owed seat.old (finishing cell done) seat.new }
+    {
+        let at = cell as usize;
+        let hand = hand_word(seat.party);
+        let table = &self.table.shared;
+        let old = table.exchange(&mut seat.inner, at, Slot::Made(done));
+        table.compare_exchange::<Finish<R>>(&mut seat.inner, at, hand, DONE);
+        match old {
+            Slot::Blank => {}
+            _ => unreachable!(),
+        }
+    }
+}
