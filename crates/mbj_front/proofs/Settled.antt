@@ -1,5 +1,5 @@
--- A lawful state is lawful as the core sees it.
-use Rattle.std.proofs.Common.{◌≡◌, ℕ, ◌+◌, ◌<◌, length, refl, ap, ◌∙◌, sym, arith}
+-- A lawful state is lawful as the core sees it, and empty where no party has done anything.
+use Rattle.std.proofs.Common.{◌≡◌, ℕ, ◌+◌, ◌/◌, ◌%◌, ◌<◌, ◌≤◌, length, subst, refl, ap, ◌∙◌, sym, arith}
 use Rattle.mbj_core.specs.declared.cells.TheConstants.{CELLS}
 use Rattle.mbj_core.specs.declared.party.View.{View}
 use Rattle.mbj_core.specs.declared.party.Stage.TheVariants.{Emptying}
@@ -7,7 +7,7 @@ use Rattle.mbj_core.specs.Cells.{Cell, free, ready, done, open_by, hand_of, take
 use Rattle.mbj_core.proofs.Hands.{not_in_hand}
 use Rattle.mbj_core.proofs.Fitting.{rest_open, rest_take, Fits, lawful, each_number}
 use Rattle.mbj_front.specs.AsCore.{settled, rested, as_core}
-use Rattle.mbj_front.specs.Laws.{CoreSeesLawfulStates}
+use Rattle.mbj_front.specs.Laws.{CoreSeesLawfulStates, NewFrontsAreEmpty}
 
 module _ {J D : Type 0} where
   still_held : (y : Cell J D) (p : ℕ) (d : D) → settled y ≡ hand_of p d → y ≡ hand_of p d
@@ -40,3 +40,12 @@ module _ {J D : Type 0} (owed : J → D) where
     posters = λ p far. ((law.posters p far).0, refl);
     nobody = λ p far. ap rested (law.nobody p far);
   })
+
+  -- where no party has done anything each cell is free
+  pub all_free : NewFrontsAreEmpty owed
+  all_free S W f law new c less =
+      let s : ℕ = c / CELLS in let n : ℕ = c % CELLS in let v : View D = f.seats s in let is = new s in
+      let here : cell_of s n ≡ c = omega arith in
+      ap f.cells (sym here)
+      ∙ law.idle s n (omega arith) (subst (λ (w : View D). length w.due ≤ n) (sym is) (omega arith)) (subst (λ (w : View D). n < w.handed + CELLS) (sym is) (omega arith))
+      (λ e. absurd (rest_open (sym (ap (λ (w : View D). w.stage) is) ∙ e))) (λ e. absurd (rest_take (sym (ap (λ (w : View D). w.stage) is) ∙ e)))

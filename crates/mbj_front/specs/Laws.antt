@@ -1,6 +1,8 @@
 -- What holds of each kind of step, and of the states of a running front as the core sees them.
-use Rattle.std.specs.Prelude.{ℕ}
-use Rattle.mbj_core.specs.Parties.{FrontState}
+use Rattle.std.specs.Prelude.{◌≡◌, ℕ, ◌*◌, ◌<◌}
+use Rattle.mbj_core.specs.declared.cells.TheConstants.{CELLS}
+use Rattle.mbj_core.specs.Cells.{free}
+use Rattle.mbj_core.specs.Parties.{FrontState, new_party}
 use Rattle.mbj_core.specs.Lawful.{Lawful}
 use Rattle.mbj_front.specs.AsCore.{as_core}
 use Rattle.mbj_front.specs.Moves.{Move, Moves, Finds, CoreSees}
@@ -29,3 +31,9 @@ module _ {J D : Type 0} (owed : J → D) where
   CoreSeesLawfulStates =
       (submitters workers : ℕ) (f : FrontState J D)
       → Lawful owed submitters workers f → Lawful owed submitters workers (as_core f)
+
+  -- where no party has done anything each cell is free
+  abbrev pub NewFrontsAreEmpty : Type 0
+  NewFrontsAreEmpty =
+      (submitters workers : ℕ) (f : FrontState J D)
+      → Lawful owed submitters workers f → ((p : ℕ) → f.seats p ≡ new_party p) → (c : ℕ) → c < CELLS * submitters → f.cells c ≡ free

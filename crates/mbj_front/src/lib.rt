@@ -23,8 +23,8 @@ mod working;
 
 pub use front::SharedFront;
 pub use laws::{
-    steps_are_events_of_the_core, steps_find_their_cell, steps_keep_the_front_lawful,
-    the_core_sees_lawful_states,
+    new_fronts_are_empty, steps_are_events_of_the_core, steps_find_their_cell,
+    steps_keep_the_front_lawful, the_core_sees_lawful_states,
 };
 pub use results::Results;
 pub use seat::PartySeat;
@@ -39,5 +39,5 @@ pub use rule::FrontRule;
 #[doc(hidden)]
 pub use slot::Slot;
 
-
-
+#[cfg(test)]
+mod tests;
