@@ -98,8 +98,8 @@ pub(crate) fn free_cells(alloc: Global, count: usize) -> Result<Vec<Slot>, Alloc
     Ok(cells)
 }
 
-/// The cell of a submitter's job `number`.
-pub(crate) fn cell_at(submitter: u32, number: u32) -> u32
+/// The cell of a submitter's job `number`, counted from 0, or from a number that many turns of `CELLS` later.
+pub fn cell_at(submitter: u32, number: u32) -> u32
     requires submitter { submitter < MAX_SUBMITTERS }
     ensures { result ≡ cell_of submitter number }
 {

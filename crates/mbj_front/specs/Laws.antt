@@ -1,10 +1,12 @@
 -- What holds of each kind of step, and of the states of a running front as the core sees them.
-use Rattle.std.specs.Prelude.{◌≡◌, ℕ, ◌*◌, ◌<◌}
+use Rattle.std.specs.Prelude.{◌≡◌, ℕ, ◌+◌, ◌*◌, ◌<◌}
+use Rattle.atomic_table.specs.Table.{Splits}
 use Rattle.mbj_core.specs.declared.cells.TheConstants.{CELLS}
 use Rattle.mbj_core.specs.Cells.{free}
 use Rattle.mbj_core.specs.Parties.{FrontState, new_party}
 use Rattle.mbj_core.specs.Lawful.{Lawful}
 use Rattle.mbj_front.specs.AsCore.{as_core}
+use Rattle.mbj_front.specs.Rule.{place, root, Rule}
 use Rattle.mbj_front.specs.Moves.{Move, Moves, Finds, CoreSees}
 
 module _ {J D : Type 0} (owed : J → D) where
@@ -37,3 +39,9 @@ module _ {J D : Type 0} (owed : J → D) where
   NewFrontsAreEmpty =
       (submitters workers : ℕ) (f : FrontState J D)
       → Lawful owed submitters workers f → ((p : ℕ) → f.seats p ≡ new_party p) → (c : ℕ) → c < CELLS * submitters → f.cells c ≡ free
+
+  -- the next party is cut from the root, where the rule holds before and after: the party has done nothing
+  abbrev pub CutsKeepTheRule : Type 0
+  CutsKeepTheRule =
+      (submitters workers seat k : ℕ) → k < submitters + workers
+      → Splits (Rule owed submitters workers) seat (root submitters workers k) (root submitters workers (k + 1)) (place submitters workers (new_party k))

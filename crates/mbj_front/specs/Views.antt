@@ -4,15 +4,16 @@ use Rattle.mbj_core.specs.declared.party.View.{View}
 use Rattle.mbj_core.specs.declared.party.Stage.{Stage}
 use Rattle.mbj_core.specs.declared.party.Stage.TheVariants.{Rest, Emptying}
 use Rattle.mbj_core.specs.Parties.{view}
+use Rattle.mbj_front.specs.declared.words.TheConstants.{READY, DONE}
 
 module _ {D : Type 0} where
   -- it found the word at the cell
   abbrev pub after_look : View D → ℕ → ℕ → View D
   after_look v cell word = view v.number v.stage v.due v.handed v.hand (v.looks ++ (cell, word) ∷ [])
 
-  -- it claimed the job of the cell, whose result is d; it found the word 1 there
+  -- it claimed the job of the cell, whose result is d
   abbrev pub after_claim : View D → ℕ → D → View D
-  after_claim v cell d = view v.number v.stage v.due v.handed (v.hand ++ (cell, d) ∷ []) (v.looks ++ (cell, 1) ∷ [])
+  after_claim v cell d = view v.number v.stage v.due v.handed (v.hand ++ (cell, d) ∷ []) (v.looks ++ (cell, READY) ∷ [])
 
   -- it finished a cell, and has this hand left
   abbrev pub after_finish : View D → List (ℕ × D) → View D
@@ -22,9 +23,9 @@ module _ {D : Type 0} where
   abbrev pub after_publish : View D → D → View D
   after_publish v d = view v.number Rest (v.due ++ d ∷ []) v.handed v.hand v.looks
 
-  -- it took its earliest result from the cell; it found the word 2 there
+  -- it took its earliest result from the cell
   abbrev pub after_take : View D → ℕ → View D
-  after_take v cell = view v.number Emptying v.due (v.handed + 1) v.hand (v.looks ++ (cell, 2) ∷ [])
+  after_take v cell = view v.number Emptying v.due (v.handed + 1) v.hand (v.looks ++ (cell, DONE) ∷ [])
 
   -- only what it is in the midst of has changed
   abbrev pub at_stage : View D → Stage → View D

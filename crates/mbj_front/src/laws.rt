@@ -1,4 +1,4 @@
-ghost use Rattle.mbj_front.specs.Laws.{StepsKeepTheLaw, StepsFindTheirCell, StepsAreEvents, CoreSeesLawfulStates, NewFrontsAreEmpty};
+ghost use Rattle.mbj_front.specs.Laws.{StepsKeepTheLaw, StepsFindTheirCell, StepsAreEvents, CoreSeesLawfulStates, NewFrontsAreEmpty, CutsKeepTheRule};
 
 use crate::results::Results;
 
@@ -27,4 +27,10 @@ pub fn the_core_sees_lawful_states<J, D, R: Results<J, D>>()
 /// A law: in a lawful state in which no party has done anything each cell is free.
 pub fn new_fronts_are_empty<J, D, R: Results<J, D>>()
     ensures { NewFrontsAreEmpty R.owed }
+{}
+
+/// A law: where fewer parties are cut than there are, the next one is cut from the root's place, and the rule of the
+/// table still holds. The party has done nothing.
+pub fn cuts_keep_the_rule<J, D, R: Results<J, D>>()
+    ensures { CutsKeepTheRule R.owed }
 {}

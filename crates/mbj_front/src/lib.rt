@@ -23,7 +23,7 @@ mod working;
 
 pub use front::SharedFront;
 pub use laws::{
-    new_fronts_are_empty, steps_are_events_of_the_core, steps_find_their_cell,
+    cuts_keep_the_rule, new_fronts_are_empty, steps_are_events_of_the_core, steps_find_their_cell,
     steps_keep_the_front_lawful, the_core_sees_lawful_states,
 };
 pub use results::Results;

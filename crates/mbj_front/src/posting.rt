@@ -13,7 +13,7 @@ use crate::results::Results;
 use crate::seat::PartySeat;
 use crate::slot::Slot;
 use crate::words::{DONE, FREE, READY, open_word, take_word};
-use mbj_core::CELLS;
+use mbj_core::{CELLS, cell_at};
 
 impl<J, D, R: Results<J, D>> SharedFront<J, D, R> {
     /// A submitter at rest, with fewer than `CELLS` out, begins to fill the cell of its next job.
@@ -26,7 +26,7 @@ impl<J, D, R: Results<J, D>> SharedFront<J, D, R> {
         ensures view { view_of seat.new ≡ at_stage (view_of seat.old) Opening }
         ensures step { Did R.owed seat.old opening seat.new }
     {
-        let at = CELLS * seat.party + (seat.first + seat.out) % CELLS;
+        let at = cell_at(seat.party, seat.first + seat.out);
         let open = open_word(seat.party);
         self.table
             .shared
@@ -41,7 +41,7 @@ impl<J, D, R: Results<J, D>> SharedFront<J, D, R> {
         ensures view { view_of seat.new ≡ after_publish (view_of seat.old) (R.owed job) }
         ensures step { Did R.owed seat.old (publishing job) seat.new }
     {
-        let at = (CELLS * seat.party + (seat.first + seat.out) % CELLS) as usize;
+        let at = cell_at(seat.party, seat.first + seat.out) as usize;
         let open = open_word(seat.party);
         let table = &self.table.shared;
         let old = table.exchange(&mut seat.inner, at, Slot::Task(job));
@@ -67,7 +67,7 @@ impl<J, D, R: Results<J, D>> SharedFront<J, D, R> {
         ensures step { let v = view_of seat.old in let cell = cell_of v.number v.handed in
             MatchResult result (λ d. Did R.owed seat.old (taking d) seat.new) (λ word. Did R.owed seat.old (looking cell word) seat.new) }
     {
-        let at = (CELLS * seat.party + seat.first) as usize;
+        let at = cell_at(seat.party, seat.first) as usize;
         let take = take_word(seat.party);
         let table = &self.table.shared;
         let word = table.compare_exchange::<Take<R>>(&mut seat.inner, at, DONE, take);
@@ -91,7 +91,7 @@ impl<J, D, R: Results<J, D>> SharedFront<J, D, R> {
         ensures view { view_of seat.new ≡ at_stage (view_of seat.old) Rest }
         ensures step { Did R.owed seat.old freeing seat.new }
     {
-        let at = CELLS * seat.party + (seat.first + (CELLS - 1)) % CELLS;
+        let at = cell_at(seat.party, seat.first + (CELLS - 1));
         let take = take_word(seat.party);
         self.table
             .shared

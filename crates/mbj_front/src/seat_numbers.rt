@@ -4,7 +4,7 @@ ghost use Rattle.mbj_core.specs.declared.cells.TheConstants.{CELLS};
 ghost use Rattle.mbj_front.specs.Seats.{view_of, IsSubmitter};
 
 use crate::seat::PartySeat;
-use mbj_core::CELLS;
+use mbj_core::cell_at;
 
 impl<J, D> PartySeat<J, D> {
     /// The party's number: submitter `p` is party `p`, and the workers come after the submitters.
@@ -28,6 +28,6 @@ impl<J, D> PartySeat<J, D> {
         requires { IsSubmitter self.now }
         ensures { result ≡ cell_of (view_of self.now).number (view_of self.now).handed }
     {
-        CELLS * self.party + self.first
+        cell_at(self.party, self.first)
     }
 }

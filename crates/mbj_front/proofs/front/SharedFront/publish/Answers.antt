@@ -1,5 +1,4 @@
-use Rattle.std.proofs.Common.{sym, subst, ap, ◌∙◌, ◌≡◌, ◌<◌, ◌*◌, ◌+◌, ◌%◌, ℕ, length, arith}
-use Rattle.mbj_core.specs.declared.cells.TheConstants.{CELLS}
+use Rattle.std.proofs.Common.{sym, subst, ap, ◌∙◌, ◌≡◌, ◌<◌, ◌*◌, ◌+◌, ℕ, length, arith}
 use Rattle.mbj_core.specs.declared.party.View.{View}
 use Rattle.mbj_core.specs.Cells.{cell_of}
 use Rattle.mbj_core.proofs.Fitting.{rest_open}
@@ -9,15 +8,18 @@ use Rattle.mbj_front.proofs.Kept.{kept_published}
 use Rattle.mbj_front.proofs.Told.{told_published}
 use Rattle.mbj_front.proofs.front.SharedFront.publish.Goals as goal
 
+pub cell_at-at-requires : goal.cell_at-at-requires
+cell_at-at-requires g c = let k = c.args.seat.now.keeps in omega (arith, k.few_submitters, (k.spare (λ e. rest_open (sym e ∙ c.requires.opening))).1)
+
 pub compare_exchange-requires : goal.compare_exchange-requires
 compare_exchange-requires g c = let t = c.args.self.now.table.shared in let seat = c.args.seat.now in let k = seat.keeps in let v = seat.inner.me.0.view in let told = c.exchange-old.ensures in
     let room = k.spare (λ e. rest_open (sym e ∙ c.requires.opening)) in
-    let here : CELLS * seat.party + (seat.first + seat.out) % CELLS ≡ cell_of v.number (length v.due) = omega (arith, k.party_is, k.first_is, k.out_is) in (
+    let here : cell_of seat.party (seat.first + seat.out) ≡ cell_of v.number (length v.due) = omega (arith, k.party_is, k.first_is, k.out_is) in (
       told.0 ∙ c.requires.front.0,
-      omega (arith, k.word_count, room.1, ap (λ i. i.words) c.requires.front.0),
+      omega (arith, k.word_count, c.cell_at-at.ensures, room.1, ap (λ i. i.words) c.requires.front.0),
       publishes_job g.R.Results.owed t.key.submitters t.key.workers _ _ _ _ _ c.args.job _ (ap (λ m. m.0.root) told.3 ∙ k.cut)
           (subst (λ m. m.0.view.number < m.0.submitters) (sym told.3) (subst (λ (n : ℕ). n < seat.inner.me.0.submitters) k.party_is room.1))
-          (here ∙ ap (λ m. cell_of m.0.view.number (length m.0.view.due)) (sym told.3)) (c.open_word-open.ensures ∙ ap (λ (n : ℕ). 3 + 3 * n) (k.party_is ∙ ap (λ m. m.0.view.number) (sym told.3)))
+          (c.cell_at-at.ensures ∙ here ∙ ap (λ m. cell_of m.0.view.number (length m.0.view.due)) (sym told.3)) (c.open_word-open.ensures ∙ ap (λ (n : ℕ). 3 + 3 * n) (k.party_is ∙ ap (λ m. m.0.view.number) (sym told.3)))
           (ap (λ m. m.0.view.stage) told.3 ∙ c.requires.opening) (ap (λ m. m.1) told.3),
     )
 
