@@ -98,7 +98,7 @@ pub(crate) fn free_cells(alloc: Global, count: usize) -> Result<Vec<Slot>, Alloc
     Ok(cells)
 }
 
-/// The cell of a submitter's job `number`, counted from 0, or from a number that many turns of `CELLS` later.
+/// The cell of a submitter's job `number`. Numbers that differ by a multiple of `CELLS` have one cell.
 pub fn cell_at(submitter: u32, number: u32) -> u32
     requires submitter { submitter < MAX_SUBMITTERS }
     ensures { result ≡ cell_of submitter number }

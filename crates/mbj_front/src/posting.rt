@@ -26,11 +26,10 @@ impl<J, D, R: Results<J, D>> SharedFront<J, D, R> {
         ensures view { view_of seat.new ≡ at_stage (view_of seat.old) Opening }
         ensures step { Did R.owed seat.old opening seat.new }
     {
-        let at = cell_at(seat.party, seat.first + seat.out);
+        let at = cell_at(seat.party, seat.first + seat.out) as usize;
         let open = open_word(seat.party);
-        self.table
-            .shared
-            .compare_exchange::<Open<R>>(&mut seat.inner, at as usize, FREE, open);
+        let table = &self.table.shared;
+        table.compare_exchange::<Open<R>>(&mut seat.inner, at, FREE, open);
     }
 
     /// The cell that the submitter fills gets the job, which is then out.
@@ -91,10 +90,9 @@ impl<J, D, R: Results<J, D>> SharedFront<J, D, R> {
         ensures view { view_of seat.new ≡ at_stage (view_of seat.old) Rest }
         ensures step { Did R.owed seat.old freeing seat.new }
     {
-        let at = cell_at(seat.party, seat.first + (CELLS - 1));
+        let at = cell_at(seat.party, seat.first + (CELLS - 1)) as usize;
         let take = take_word(seat.party);
-        self.table
-            .shared
-            .compare_exchange::<Free<R>>(&mut seat.inner, at as usize, take, FREE);
+        let table = &self.table.shared;
+        table.compare_exchange::<Free<R>>(&mut seat.inner, at, take, FREE);
     }
 }

@@ -4,9 +4,11 @@ ghost use Rattle.mbj_core.specs.declared.cells.TheConstants.{CELLS, MAX_SUBMITTE
 ghost use Rattle.mbj_core.specs.declared.party.Stage.TheVariants.{Rest};
 ghost use Rattle.mbj_front.specs.Views.{after_look, after_claim, after_finish};
 ghost use Rattle.mbj_front.specs.Moves.{claiming, finishing, looking};
-ghost use Rattle.mbj_front.specs.Seats.{view_of, cells_of, IsOf, IsFirst, Did};
+ghost use Rattle.mbj_front.specs.Seats.{view_of, submitters_of, workers_of, cells_of, IsOf, IsFirst, Did};
+ghost use Rattle.mbj_front.specs.Inside.Plays.{ClaimIsAllowed, ClaimTold};
 
 use crate::front::SharedFront;
+use crate::place::Place;
 use crate::plays::{Claim, Finish, Scan};
 use crate::results::Results;
 use crate::seat::PartySeat;
@@ -31,9 +33,8 @@ impl<J, D, R: Results<J, D>> SharedFront<J, D, R> {
         ensures view { view_of seat.new ≡ after_look (view_of seat.old) cell result }
         ensures step { Did R.owed seat.old (looking cell result) seat.new }
     {
-        self.table
-            .shared
-            .load::<Scan<R>>(&mut seat.inner, cell as usize)
+        let table = &self.table.shared;
+        table.load::<Scan<R>>(&mut seat.inner, cell as usize)
     }
 
     /// Claims the job of a cell for a party at rest: it goes to the end of the party's hand. One look is made, at that
@@ -53,17 +54,35 @@ impl<J, D, R: Results<J, D>> SharedFront<J, D, R> {
     {
         let at = cell as usize;
         let hand = hand_word(seat.party);
-        let table = &self.table.shared;
-        let word = table.compare_exchange::<Claim<R>>(&mut seat.inner, at, READY, hand);
+        let word = self.claim_word(&mut seat.inner, at, hand);
         if word != READY {
             return Err(word);
         }
-        let slot = table.exchange(&mut seat.inner, at, Slot::Blank);
+        let slot = self.table.shared.exchange(&mut seat.inner, at, Slot::Blank);
         seat.inner.turn();
         match slot {
             Slot::Task(job) => Ok(job),
             _ => unreachable!(),
         }
+    }
+
+    /// The atomic step of a claim, which is allowed: where the word is `READY` it becomes that of the party's hand, and
+    /// the seat takes the slot. Answers the word that it found.
+    fn claim_word(
+        &self,
+        inner: &mut atomic_table::Seat<Slot<J, D>, Place<D>>,
+        at: usize,
+        hand: u64,
+    ) -> u64
+        requires table { inner.old.table_id ≡ self.now.table.shared.table_id }
+        requires cell { at < self.now.table.shared.table_id.words }
+        requires allowed { let slots = self.now.table.shared.table_id.slots in
+            ClaimIsAllowed R.owed slots (submitters_of self.now) (workers_of self.now) inner.old.id at hand inner.old.me }
+        ensures table { inner.new.table_id ≡ inner.old.table_id }
+        ensures told { ClaimTold R.owed self.now.table.shared.table_id.slots at hand inner.old.me result inner.new.me }
+    {
+        let table = &self.table.shared;
+        table.compare_exchange::<Claim<R>>(inner, at, READY, hand)
     }
 
     /// Finishes the first cell in the hand of a party at rest: the cell gets the result, which is the one that its job
