@@ -1,8 +1,9 @@
-ghost use Rattle.std.specs.Prelude.{◌≡◌};
+ghost use Rattle.std.specs.Prelude.{◌≡◌, [], ◌∷◌, ◌++◌, length, replicate};
 ghost use Rattle.std.specs.List.{concat};
 ghost use Rattle.mbj_types.specs.Aes.{encipher};
 ghost use Rattle.mbj_types.specs.Blocks.{blocks};
-ghost use Rattle.mbj_types.specs.Gcm.{gctr, inc32, pre_counter_block};
+ghost use Rattle.mbj_types.specs.Ghash.{ghash, filled_blocks};
+ghost use Rattle.mbj_types.specs.Gcm.{bit_length, gctr, inc32, pre_counter_block};
 
 use crate::hash::hash_of_parts;
 use mbj_aes::Schedule;
@@ -28,18 +29,35 @@ fn inc32(block: &mut [u8; 16])
     block[COUNTER_IV_BYTES..].copy_from_slice(&next.to_be_bytes());
 }
 
-/// The counter block before the first one of the text, J0 (SP 800-38D, 7.1, step 2), which masks the tag. An IV of 12
-/// bytes begins it. An IV of another length is hashed as a ciphertext without additional data is.
+// An IV of 12 bytes, and the number 1 in 4 bytes.
+fn numbered_iv(iv: &[u8]) -> [u8; 16]
+    requires { length iv.now ≡ 12 }
+    ensures { result ≡ iv.now ++ 0 ∷ 0 ∷ 0 ∷ 1 ∷ [] }
+{
+    let mut block = [0; BLOCK_BYTES];
+    block[BLOCK_BYTES - 1] = PRE_COUNTER_NUMBER;
+    block[..COUNTER_IV_BYTES].copy_from_slice(iv);
+    block
+}
+
+// GHASH of an IV, filled with zero bytes to whole blocks, and of a block of 8 zero bytes and its bit length: what it would be
+// of a ciphertext without additional data.
+#[tactic(auto, unfolding(mbj_types::specs::Blocks::blocks))]
+fn hashed_iv(subkey: &[u8; 16], iv: &[u8]) -> [u8; 16]
+    ensures { result ≡ ghash subkey.now (filled_blocks iv.now ++ (replicate 8 0 ++ bit_length (length iv.now)) ∷ []) }
+{
+    hash_of_parts(subkey, &[], iv)
+}
+
+/// The counter block before the first one of the text, J0 (SP 800-38D, 7.1, step 2), which masks the tag.
+#[tactic(auto, unfolding(mbj_types::specs::Gcm::pre_counter_block))]
 pub fn pre_counter_block(subkey: &[u8; 16], iv: &[u8]) -> [u8; 16]
     ensures { result ≡ pre_counter_block subkey.now iv.now }
 {
     if iv.len() == COUNTER_IV_BYTES {
-        let mut block = [0; BLOCK_BYTES];
-        block[BLOCK_BYTES - 1] = PRE_COUNTER_NUMBER;
-        block[..COUNTER_IV_BYTES].copy_from_slice(iv);
-        block
+        numbered_iv(iv)
     } else {
-        hash_of_parts(subkey, &[], iv)
+        hashed_iv(subkey, iv)
     }
 }
 

@@ -4,7 +4,7 @@ use Rattle.std.specs.Int.Bits.{xor_zero_l, xor_lt}
 use Rattle.std.proofs.lemmas.Nat.{xor_shr, xor_mod, pow_pos}
 use Rattle.std.proofs.Math.Nat.{mul_assoc, mul_right_comm, pow-suc}
 use Rattle.mbj_ghash.specs.Inside.Carryless.{carryless}
-use Rattle.mbj_ghash.proofs.Xors.{xor_swap, xor_shl, bit_times, bits_times}
+use Rattle.mbj_ghash.proofs.Xors.{xor_swap, xor_shl, bit_times, bit_times-lt, bits_times}
 
 -- the sum of two second factors
 pub carryless-xor_r : (n x y z : ℕ) → carryless n x (bit_xor y z) ≡ bit_xor (carryless n x y) (carryless n x z)
@@ -84,22 +84,11 @@ pub carryless-lt : (n m x y : ℕ) → y < 2 ^ m → carryless (suc n) x y < 2 ^
 unfolding carryless
 carryless-lt zero m x y h =
     let e : m + zero ≡ m = omega arith in
-    rw e (xor_lt m (x % 2 * y) 0 (times_below (x % 2) y (2 ^ m) (omega arith) h) (pow_pos m))
-  where
-    times_below : (a y b : ℕ) → a < 2 → y < b → a * y < b
-    times_below zero y b h g = omega arith
-    times_below (suc zero) y b h g = omega arith
-    times_below (suc (suc a)) y b h g = absurd (omega arith)
+    rw e (xor_lt m (x % 2 * y) 0 (bit_times-lt (x % 2) y (2 ^ m) (omega arith) h) (pow_pos m))
 carryless-lt (suc n) m x y h =
     let e : m + suc n ≡ suc (m + n) = omega arith in
     let p : 2 ^ suc (m + n) ≡ 2 ^ (m + n) * 2 = pow-suc 2 (m + n) in
     let c : carryless (suc n) (x / 2) y < 2 ^ (m + n) = carryless-lt n m (x / 2) y h in
+    let more : y < 2 ^ suc (m + n) = omega (arith, pow_mono {i = m} {j = suc (m + n)} (omega arith)) in
     rw e (xor_lt (suc (m + n)) (x % 2 * y) (carryless (suc n) (x / 2) y * 2)
-    (times_below (x % 2) y (2 ^ suc (m + n)) (omega arith)
-    (omega (arith, pow_mono {i = m} {j = suc (m + n)} (omega arith))))
-    (omega (arith, c, p)))
-  where
-    times_below : (a y b : ℕ) → a < 2 → y < b → a * y < b
-    times_below zero y b h g = omega arith
-    times_below (suc zero) y b h g = omega arith
-    times_below (suc (suc a)) y b h g = absurd (omega arith)
+    (bit_times-lt (x % 2) y (2 ^ suc (m + n)) (omega arith) more) (omega (arith, c, p)))

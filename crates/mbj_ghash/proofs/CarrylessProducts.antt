@@ -9,6 +9,7 @@ use Rattle.mbj_ghash.proofs.Sums.{add_comm, add_zeros, length-scale, scale_true,
 use Rattle.mbj_ghash.proofs.Multiples.{times_x, times_power, multiple, multiple-append}
 use Rattle.mbj_ghash.proofs.Elements.{length-bits, bits-xor, bits-zero, bits-append}
 use Rattle.mbj_ghash.proofs.Reductions.{reduced, reduced-add, reduced-whole, reduced-reduce, product-multiple}
+use Rattle.mbj_ghash.proofs.Xors.{bit_times-lt}
 use Rattle.mbj_ghash.proofs.Folding.{reduced-up, spread, overflowed, fold-number}
 
 -- ---- a number as a polynomial of many coefficients
@@ -61,11 +62,6 @@ bits-times zero h l =
 bits-times (suc zero) h l = let e : suc zero * h ≡ h = omega arith in ap (bits 128) e ∙ sym (scale_true (bits 128 h))
 bits-times (suc (suc a)) h l = absurd (omega arith)
 
-bit_times-lt : (a h : ℕ) → a < 2 → h < 2 ^ 128 → a * h < 2 ^ 128
-bit_times-lt zero h l g = omega arith
-bit_times-lt (suc zero) h l g = omega arith
-bit_times-lt (suc (suc a)) h l g = absurd (omega arith)
-
 multiple-last : (c : Bool) (v : List Bool) → length v ≡ 128 → multiple (c ∷ []) v ≡ scale c v
 multiple-last c v h = add_zeros 128 (scale c v) (omega (arith, length-scale c v))
 
@@ -83,7 +79,7 @@ carryless-multiple (suc n) x h l =
     ap (λ (m : ℕ). reduced (bits m (bit_xor (a * h) (c * 2) * 2))) e
     ∙ reduced-twice (n + 128) (bit_xor (a * h) (c * 2))
     ∙ ap reduced (bits-xor (n + 128) (a * h) (c * 2)) ∙ reduced-add (bits (n + 128) (a * h)) (bits (n + 128) (c * 2))
-    ∙ ap₂ add (reduced-small n (a * h) (bit_times-lt a h (omega arith) l)
+    ∙ ap₂ add (reduced-small n (a * h) (bit_times-lt a h (2 ^ 128) (omega arith) l)
     ∙ ap (times_power n) (bits-times a h (omega arith)))
     (carryless-multiple n (x / 2) h l)
     ∙ add_comm (times_power n (scale (a == 1) v)) (multiple (bits n (x / 2)) v)

@@ -1,7 +1,7 @@
 -- The product of polynomials from products of their halves.
 use Rattle.std.proofs.Common.{◌≡◌, ℕ, ◌+◌, ◌*◌, ◌/◌, ◌%◌, ◌^◌, ◌<◌, bit_xor, sym, ap, ap₂, ◌∙◌, arith}
 use Rattle.std.specs.Int.Bits.{xor_zero_r, xor_assoc, xor_shifted, xor_block}
-use Rattle.std.proofs.lemmas.Nat.{xor_comm, xor_lt, shr_split, mod_below, pow_pos, pow-add}
+use Rattle.std.proofs.lemmas.Nat.{xor_comm, xor_lt, shl-shr, shr-shr, shr_split, mod_below, pow_pos, pow-add}
 use Rattle.std.proofs.lemmas.Nat.Bits.{bit_at-lt, bit_at_xor, same_from_bits}
 use Rattle.std.specs.Int.{bit_at}
 use Rattle.std.proofs.Math.Nat.{mul_assoc}
@@ -84,26 +84,30 @@ middle_is n x0 x1 y0 y1 =
     (carryless-xor_l n x0 x1 (bit_xor y0 y1) ∙ ap₂ bit_xor (carryless-xor_r n x0 y0 y1) (carryless-xor_r n x1 y0 y1))
     ∙ middle_sum (carryless n x0 y0) (carryless n x0 y1) (carryless n x1 y0) (carryless n x1 y1)
 
--- 128 bits, as they are computed
-pub joined_128 : (low high three x y : ℕ)
-    → low ≡ carryless 64 (x % 2 ^ 64) (y % 2 ^ 64) → high ≡ carryless 64 (x / 2 ^ 64) (y / 2 ^ 64)
-    → three ≡ carryless 64 (bit_xor (x % 2 ^ 64) (x / 2 ^ 64)) (bit_xor (y % 2 ^ 64) (y / 2 ^ 64))
-    → low < 2 ^ 128
-    → let middle : ℕ = bit_xor (bit_xor three low) high in
-    bit_xor high (middle / 2 ^ 64) * 2 ^ 128 + bit_xor low (middle * 2 ^ 64 % 2 ^ 128) ≡ carryless 128 x y
-joined_128 low high three x y e0 e1 e l =
-    let middle : ℕ = bit_xor (bit_xor three low) high in
-    let m : middle ≡ bit_xor (carryless 64 (x / 2 ^ 64) (y % 2 ^ 64)) (carryless 64 (x % 2 ^ 64) (y / 2 ^ 64)) =
-    ap₂ (λ (s t : ℕ). bit_xor (bit_xor s t) high) e e0
-    ∙ ap (bit_xor (bit_xor (carryless 64 (bit_xor (x % 2 ^ 64) (x / 2 ^ 64)) (bit_xor (y % 2 ^ 64) (y / 2 ^ 64)))
-    (carryless 64 (x % 2 ^ 64) (y % 2 ^ 64)))) e1
-    ∙ middle_is 64 (x % 2 ^ 64) (x / 2 ^ 64) (y % 2 ^ 64) (y / 2 ^ 64) in
-    let q : middle / 2 ^ 64 * 2 ^ 128 + middle * 2 ^ 64 % 2 ^ 128 ≡ middle * 2 ^ 64 = omega arith in
-    sym (xor_block 128 high (middle / 2 ^ 64) low (middle * 2 ^ 64 % 2 ^ 128) l (omega arith))
-    ∙ ap₂ bit_xor (sym (xor_shifted high 128 low l)) q
-    ∙ sym (turned (high * 2 ^ 128) (middle * 2 ^ 64) low)
-    ∙ ap₂ (λ (s t : ℕ). bit_xor (s * 2 ^ 128) t) e1 (ap₂ (λ (s t : ℕ). bit_xor (s * 2 ^ 64) t) m e0)
-    ∙ sym (both_halves 64 x y)
+-- a number moved up by n bits, of which the 2 n lowest bits stay together
+moved_up : (n m : ℕ) → m / 2 ^ n * 2 ^ (n + n) + m * 2 ^ n % 2 ^ (n + n) ≡ m * 2 ^ n
+moved_up n m =
+    let e : m / 2 ^ n ≡ m * 2 ^ n / 2 ^ (n + n) =
+    ap (λ (t : ℕ). t / 2 ^ n) (sym (shl-shr m n)) ∙ shr-shr (m * 2 ^ n) n n in
+    ap (λ (t : ℕ). t * 2 ^ (n + n) + m * 2 ^ n % 2 ^ (n + n)) e ∙ shr_split (m * 2 ^ n) (n + n)
+
+-- 2 n bits by three products of n bits, as they are computed
+pub joined_halves : (n low high of_sums x y : ℕ)
+    → low ≡ carryless n (x % 2 ^ n) (y % 2 ^ n) → high ≡ carryless n (x / 2 ^ n) (y / 2 ^ n)
+    → of_sums ≡ carryless n (bit_xor (x % 2 ^ n) (x / 2 ^ n)) (bit_xor (y % 2 ^ n) (y / 2 ^ n))
+    → low < 2 ^ (n + n)
+    → let middle : ℕ = bit_xor (bit_xor of_sums low) high in
+    bit_xor high (middle / 2 ^ n) * 2 ^ (n + n) + bit_xor low (middle * 2 ^ n % 2 ^ (n + n)) ≡ carryless (n + n) x y
+joined_halves n low high of_sums x y e0 e1 e l =
+    let middle : ℕ = bit_xor (bit_xor of_sums low) high in
+    let m : middle ≡ bit_xor (carryless n (x / 2 ^ n) (y % 2 ^ n)) (carryless n (x % 2 ^ n) (y / 2 ^ n)) =
+    ap₂ bit_xor (ap₂ bit_xor e e0) e1 ∙ middle_is n (x % 2 ^ n) (x / 2 ^ n) (y % 2 ^ n) (y / 2 ^ n) in
+    let below : middle * 2 ^ n % 2 ^ (n + n) < 2 ^ (n + n) = mod_below (middle * 2 ^ n) (2 ^ (n + n)) (pow_pos (n + n)) in
+    sym (xor_block (n + n) high (middle / 2 ^ n) low (middle * 2 ^ n % 2 ^ (n + n)) l below)
+    ∙ ap₂ bit_xor (sym (xor_shifted high (n + n) low l)) (moved_up n middle)
+    ∙ sym (turned (high * 2 ^ (n + n)) (middle * 2 ^ n) low)
+    ∙ ap₂ (λ (s t : ℕ). bit_xor (s * 2 ^ (n + n)) t) e1 (ap₂ (λ (s t : ℕ). bit_xor (s * 2 ^ n) t) m e0)
+    ∙ sym (both_halves n x y)
 
 -- a lane as a number
 pub lane_result : (w r a b : ℕ) → w ≡ r % 2 ^ 64 → a < 2 ^ 32 → b < 2 ^ 32
@@ -115,27 +119,6 @@ lane_result w r a b l h g e =
     l ∙ e (omega arith) (omega arith) ∙ ap₂ (carryless 32) p q
 
 -- ---- in lanes
-
--- 64 bits in two halves of a lane each
-pub joined_lanes : (low high three x y : ℕ)
-    → low ≡ carryless 32 (x % 2 ^ 32) (y % 2 ^ 32) → high ≡ carryless 32 (x / 2 ^ 32) (y / 2 ^ 32)
-    → three ≡ carryless 32 (bit_xor (x % 2 ^ 32) (x / 2 ^ 32)) (bit_xor (y % 2 ^ 32) (y / 2 ^ 32))
-    → low < 2 ^ 64
-    → let middle : ℕ = bit_xor (bit_xor three low) high in
-    bit_xor high (middle / 2 ^ 32) * 2 ^ 64 + bit_xor low (middle * 2 ^ 32 % 2 ^ 64) ≡ carryless 64 x y
-joined_lanes low high three x y e0 e1 e l =
-    let middle : ℕ = bit_xor (bit_xor three low) high in
-    let m : middle ≡ bit_xor (carryless 32 (x / 2 ^ 32) (y % 2 ^ 32)) (carryless 32 (x % 2 ^ 32) (y / 2 ^ 32)) =
-    ap₂ (λ (s t : ℕ). bit_xor (bit_xor s t) high) e e0
-    ∙ ap (bit_xor (bit_xor (carryless 32 (bit_xor (x % 2 ^ 32) (x / 2 ^ 32)) (bit_xor (y % 2 ^ 32) (y / 2 ^ 32)))
-    (carryless 32 (x % 2 ^ 32) (y % 2 ^ 32)))) e1
-    ∙ middle_is 32 (x % 2 ^ 32) (x / 2 ^ 32) (y % 2 ^ 32) (y / 2 ^ 32) in
-    let q : middle / 2 ^ 32 * 2 ^ 64 + middle * 2 ^ 32 % 2 ^ 64 ≡ middle * 2 ^ 32 = omega arith in
-    sym (xor_block 64 high (middle / 2 ^ 32) low (middle * 2 ^ 32 % 2 ^ 64) l (omega arith))
-    ∙ ap₂ bit_xor (sym (xor_shifted high 64 low l)) q
-    ∙ sym (turned (high * 2 ^ 64) (middle * 2 ^ 32) low)
-    ∙ ap₂ (λ (s t : ℕ). bit_xor (s * 2 ^ 64) t) e1 (ap₂ (λ (s t : ℕ). bit_xor (s * 2 ^ 32) t) m e0)
-    ∙ sym (both_halves 32 x y)
 
 -- a product of 32 bits from lanes that fit
 pub lane_product : (r a b x y : ℕ) → a ≡ x → b ≡ y → x < 2 ^ 32 → y < 2 ^ 32
@@ -174,7 +157,7 @@ joined_words l1 l0 g1 g0 t1 t0 x1 x0 y1 y0 fx fy b1 b0 c0 c1 d0 d1 el eg et =
     (ap (bit_xor high) q ∙ xor_block 64 g1 0 g0 m1 c0 f1 ∙ ap (λ (v : ℕ). v * 2 ^ 64 + bit_xor g0 m1) (xor_zero_r g1))
     (ap (bit_xor low) r ∙ xor_block 64 l1 m0 l0 0 b0 (omega arith)
     ∙ ap (λ (v : ℕ). bit_xor l1 m0 * 2 ^ 64 + v) (xor_zero_r l0)))
-    ∙ joined_128 low high three x y
+    ∙ joined_halves 64 low high three x y
     (el ∙ ap₂ (carryless 64) xl yl) (eg ∙ ap₂ (carryless 64) xh yh)
     (et ∙ ap₂ (carryless 64) (ap₂ bit_xor xl xh) (ap₂ bit_xor yl yh)) (omega arith)
 

@@ -1,7 +1,7 @@
 use Rattle.std.proofs.Common.{◌≡◌, ℕ, ◌+◌, ◌*◌, ◌/◌, ◌%◌, ◌^◌, ◌<◌, bit_xor, ap, ap₂, ◌∙◌, arith}
 use Rattle.std.proofs.lemmas.Nat.{and_mask, xor_lt}
 use Rattle.mbj_types.specs.Lanes.{lane_at, lane_at-lt}
-use Rattle.mbj_ghash.proofs.Karatsuba.{joined_lanes, lane_product}
+use Rattle.mbj_ghash.proofs.Karatsuba.{joined_halves, lane_product}
 use Rattle.mbj_ghash.proofs.lanes.products_64.Goals as goal
 
 pub returns : goal.returns
@@ -25,7 +25,7 @@ returns c i h =
     ap₂ (λ (s t : ℕ). s * 2 ^ 64 + t)
     (c.sum-4.ensures i h ∙ ap (bit_xor high) (c.upper.ensures i h ∙ ap (λ (t : ℕ). t / 2 ^ 32) middle))
     (c.sum-5.ensures i h ∙ ap (bit_xor low) (c.raised.ensures i h ∙ ap (λ (t : ℕ). t * 2 ^ 32 % 2 ^ 64) middle))
-    ∙ joined_lanes low high of_sums x y
+    ∙ joined_halves 32 low high of_sums x y
     (lane_product low (lane_at 64 c.masked-x0.result i) (lane_at 64 c.masked-y0.result i) (x % 2 ^ 32)
     (y % 2 ^ 32) x0 y0 (omega arith) (omega arith) (c.products_32-low.ensures i h))
     (lane_product high (lane_at 64 c.upper-x1.result i) (lane_at 64 c.upper-y1.result i) (x / 2 ^ 32)
