@@ -1,6 +1,6 @@
-//! Prints digests that the lane kernels compute, as the standards' examples give them. With the argument
-//! `--time` it also prints how fast each kernel is, in MB/s and beside the plain crate on as many bytes
-//! in the same run. Other arguments are ignored.
+//! Prints digests that the lane kernels compute, as the standards' examples give them, and one of GHASH, as another
+//! program gives it. With the argument `--time` it also prints how fast each kernel, GHASH and GCM are, in MB/s and beside
+//! the plain crate on as many bytes in the same run. Other arguments are ignored.
 #![tactic(auto)]
 
 mod ghash;

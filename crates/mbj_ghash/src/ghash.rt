@@ -8,7 +8,7 @@ use mbj_types::BLOCK_BYTES;
 use std::marker::Model;
 
 // A block that isn't whole, with zero bytes behind it.
-fn filled(part: &[u8]) -> [u8; 16]
+fn filled_block(part: &[u8]) -> [u8; 16]
     requires { length part.now ≤ 16 }
     ensures { result ≡ filled_block part.now }
 {
@@ -82,7 +82,7 @@ impl Ghash {
         let (blocks, rest) = bytes.as_chunks::<BLOCK_BYTES>();
         self.update_blocks(blocks);
         if !rest.is_empty() {
-            self.update_block(&filled(rest));
+            self.update_block(&filled_block(rest));
         }
     }
 

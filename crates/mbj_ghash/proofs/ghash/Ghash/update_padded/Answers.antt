@@ -21,12 +21,12 @@ returns-then-not-is_empty-clause-next c =
           ∙ c.if-not-is_empty.true),
       c.as_chunks.ensures.back_len,
     ) in
-    let last : c.filled.result ≡ filled_block (drop (length bytes / 16 * 16) bytes) =
-    c.filled.ensures ∙ ap filled_block c.as_chunks.ensures.back in
+    let last : c.filled_block.result ≡ filled_block (drop (length bytes / 16 * 16) bytes) =
+    c.filled_block.ensures ∙ ap filled_block c.as_chunks.ensures.back in
     let blocks : List (List ℕ) = c.as_chunks.result.0.now in
-    c.update_block.ensures.next ∙ ap (λ t. after t (c.filled.result ∷ [])) c.update_blocks.ensures.next
+    c.update_block.ensures.next ∙ ap (λ t. after t (c.filled_block.result ∷ [])) c.update_blocks.ensures.next
     ∙ ap (λ (y : List ℕ). record s { value = y })
-    (sym (ghash_from-append s.subkey s.value blocks (c.filled.result ∷ []))
+    (sym (ghash_from-append s.subkey s.value blocks (c.filled_block.result ∷ []))
     ∙ ap (ghash_from s.subkey s.value) (ap₂ (λ xs x. xs ++ x ∷ []) c.as_chunks.ensures.front last
     ∙ sym (filled_blocks-last bytes rest)))
 
