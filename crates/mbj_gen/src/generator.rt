@@ -4,11 +4,22 @@ ghost use Rattle.mbj_gen.specs.Generator.{authenticated_by, bare, cipher_length,
 use crate::draws::Draws;
 use mbj_types::{Auth, Cipher, Dir, Job, Order};
 use std::alloc::{AllocError, Global};
+use std::marker::Model;
 
 /// Makes jobs from a seed, one after another: the same seed makes the same jobs.
-#[derive(Clone, Copy, Debug, PartialEq, Eq)]
+///
+/// Contracts see its state, from which the next job is drawn.
+#[derive(Debug, Drop)]
 pub struct Generator {
     state: u64,
+}
+
+impl Model for Generator {
+    ghost use Rattle.std.specs.Prelude.{ℕ};
+
+    ghost Value = { ℕ };
+
+    ghost view = { λ g. g.state };
 }
 
 /// The length of AES's block and of the longer IVs, in bytes.
@@ -225,7 +236,7 @@ fn draw_job(draws: &mut Draws, alloc: Global) -> Result<Job, AllocError>
 impl Generator {
     /// The generator whose jobs are made from this seed. It takes no memory.
     pub fn new(seed: u64) -> Generator
-        ensures { result.state ≡ seed }
+        ensures { result ≡ seed }
     {
         Generator { state: seed }
     }
@@ -234,8 +245,8 @@ impl Generator {
     ///
     /// Answers `AllocError` for want of memory; the generator is then as before the call.
     pub fn job(&mut self, alloc: Global) -> Result<Job, AllocError>
-        ensures made { IfOk result (λ j. j ≡ (job self.old.state).0) }
-        ensures state { OnOk result (self.new.state ≡ (job self.old.state).1) }
+        ensures made { IfOk result (λ j. j ≡ (job self.old).0) }
+        ensures state { OnOk result (self.new ≡ (job self.old).1) }
         ensures unmade { OnErr result (self.new ≡ self.old) }
     {
         let mut draws = Draws { state: self.state };

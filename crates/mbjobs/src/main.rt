@@ -1,6 +1,9 @@
 //! The program `mbjobs`: it reads a job file from standard input, does its jobs, and prints the result of each.
 #![tactic(auto)]
 
+ghost use Rattle.std.specs.Prelude.{◌≡◌};
+ghost use Rattle.std.specs.Process.{exit_status};
+
 mod cause;
 mod generate;
 mod reading;
@@ -33,11 +36,18 @@ fn command_line(rt: &HostRuntime) -> Result<Vec<String>, WordFault> {
     }
 }
 
+/// The end of the program with this status.
+fn ended(status: u8) -> ExitCode
+    ensures { exit_status result ≡ status }
+{
+    ExitCode::from(status)
+}
+
 fn main(rt: HostRuntime) -> ExitCode {
     let mut err = StdSink::new(rt.stderr());
     let words = match command_line(&rt) {
         Ok(words) => words,
-        Err(fault) => return ExitCode::from(refuse(&mut err, fault)),
+        Err(fault) => return ended(refuse(&mut err, fault)),
     };
     let mut input = StdSource::new(rt.stdin());
     let mut out = StdSink::new(rt.stdout());
@@ -50,5 +60,5 @@ fn main(rt: HostRuntime) -> ExitCode {
         &mut err,
         &OpenGate,
     );
-    ExitCode::from(status)
+    ended(status)
 }

@@ -1,4 +1,4 @@
-ghost use Rattle.std.specs.Prelude.{string_bytes};
+ghost use Rattle.std.specs.Prelude.{◌≢◌, ℕ, List, []};
 ghost use Rattle.mbj_text.specs.Line.{line_of};
 ghost use Rattle.mbjobs.specs.Message.{message_of};
 ghost use Rattle.mbjobs.specs.Outcome.{Gains};
@@ -44,9 +44,14 @@ pub(crate) fn report<E: Sink>(err: &mut E, cause: Cause)
     }
 }
 
-/// Tells what is wrong with the words, or the help that they ask for. A fault of the sink is passed over.
+/// Tells what is wrong with the words, or the help that they ask for; where the text is empty, that they are no command. A
+/// fault of the sink is passed over.
 pub(crate) fn report_words<E: Sink>(err: &mut E, text: &String)
-    ensures { Gains (stream E.held E.faults err.old err.new) (string_bytes text.now) }
+    ensures { (told : List ℕ) × (told ≢ []) × Gains (stream E.held E.faults err.old err.new) told }
 {
-    let _ = write_all(err, text.as_bytes());
+    if text.is_empty() {
+        tell(err, &[Part::Words("mbjobs: no command")]);
+    } else {
+        let _ = write_all(err, text.as_bytes());
+    }
 }

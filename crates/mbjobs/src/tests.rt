@@ -4,8 +4,10 @@ mod replay;
 mod results;
 mod trace;
 
+ghost use Rattle.std.specs.Prelude.{None};
+
 use super::*;
-use mbj_io::{MemSink, MemSource};
+use mbj_io::{Failed, MemSink, MemSource, Source};
 use std::alloc::{AllocError, Global};
 use std::process::Abort;
 use std::sync::Wait;
@@ -103,6 +105,18 @@ fn bad_files_are_told_by_line_and_field(rt: HostRuntime) -> Result<(), Fail> {
             "mbjobs: line 2: field 0\n",
         ),
         (
+            "null enc ch - - 0 0 hmac-sha1 0b0b0b0b0b0b0b0b0b0b0b0b0b0b0b0b0b0b0b0b - 0 8 20 4869205468657265\ncbc enc ch abc - 0 0 null - - 0 0 0 -\n",
+            5,
+            "",
+            "mbjobs: line 2: field 4\n",
+        ),
+        (
+            "cbc  enc ch 2b7e151628aed2a6abf7158809cf4f3c 000102030405060708090a0b0c0d0e0f 0 16 null - - 0 0 0 6bc1bee22e409f96e93d7e117393172a\n",
+            5,
+            "",
+            "mbjobs: line 1: field 0\n",
+        ),
+        (
             "null enc ch - - 0 0 null - - 0 0 0 -\ncbc enc ch abc - 0 0 null - - 0 0 0 -\n",
             5,
             "",
@@ -163,6 +177,40 @@ fn a_failed_read_or_write_ends_the_run(rt: HostRuntime) -> Result<(), Fail> {
     assert_eq!(rt; ending.status, 4);
     assert_eq!(rt; ending.out.held(), b"0 ok 486920546".as_slice());
     assert_eq!(rt; ending.err.held(), b"mbjobs: write failed\n".as_slice());
+    Ok(())
+}
+
+/// A source that is at its end once, and would then give more.
+#[derive(Drop)]
+struct Reopened {
+    reads: u32,
+}
+
+impl Source for Reopened {
+    ghost rest = { λ _. None };
+
+    ghost faults = { λ _. 0 };
+
+    fn read(&mut self, buf: &mut [u8]) -> Result<usize, Failed> {
+        let given = self.reads.min(1) as usize;
+        self.reads = self.reads.saturating_add(1);
+        Ok(given.min(buf.len()))
+    }
+}
+
+#[test]
+fn nothing_is_read_after_the_end(rt: HostRuntime) -> Result<(), Fail> {
+    let alloc = rt.alloc();
+    let mut input = Reopened { reads: 0 };
+    let words = words_of(alloc, &RUN)?;
+    let mut out = MemSink::new(alloc, ROOM, 64, &[])?;
+    let mut err = MemSink::new(alloc, ROOM, 64, &[])?;
+    let status = mbjobs(
+        &rt, alloc, &words, &mut input, &mut out, &mut err, &OpenGate,
+    );
+    assert_eq!(rt; status, 0);
+    assert_eq!(rt; input.reads, 1);
+    assert_eq!(rt; out.held().len(), 0);
     Ok(())
 }
 

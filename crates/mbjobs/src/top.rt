@@ -1,4 +1,4 @@
-ghost use Rattle.std.specs.Prelude.{◌≡◌, ◌≢◌, ◌⊎◌, ◌≤◌, ◌<◌, List, ℕ, Err, IfErr, OnOk, Some, None, map, string_bytes, length};
+ghost use Rattle.std.specs.Prelude.{◌≡◌, ◌≢◌, ◌⊎◌, ◌≤◌, ◌<◌, List, [], ℕ, Err, IfErr, OnOk, Some, None, map, string_bytes, length};
 ghost use Rattle.mbj_text.specs.declared.limits.TheConstants.{INPUT_LIMIT};
 ghost use Rattle.mbj_command.specs.Command.{IsInRange, IsText, command};
 ghost use Rattle.mbjobs.specs.Message.{message_of, status_of};
@@ -37,7 +37,7 @@ fn tell<E: Sink>(err: &mut E, cause: Cause) -> u8
 /// Tells why words gave no command, and answers the status.
 pub(crate) fn refuse<E: Sink>(err: &mut E, fault: WordFault) -> u8
     ensures text { IsText fault → (result ≡ 2)
-        × ((text : List ℕ) × Gains (stream E.held E.faults err.old err.new) text) }
+        × ((text : List ℕ) × (text ≢ []) × Gains (stream E.held E.faults err.old err.new) text) }
     ensures memory { ¬ IsText fault → (result ≡ 7)
         × Gains (stream E.held E.faults err.old err.new) (message_of Cause.Memory) }
 {
@@ -139,7 +139,7 @@ pub fn mbjobs<R: Threads + Wait + Sync, S: Source, O: Sink, E: Sink, G: Gate + S
 
     // What err gained: nothing, clap's text, or the line of a cause that stands.
     ensures quiet { result ≡ 0 → IsUntouched (stream E.held E.faults err.old err.new) }
-    ensures told_words { result ≡ 2 → (text : List ℕ) × Gains (stream E.held E.faults err.old err.new) text }
+    ensures told_words { result ≡ 2 → (text : List ℕ) × (text ≢ []) × Gains (stream E.held E.faults err.old err.new) text }
     ensures told { result ≢ 0 → result ≢ 2 → (cause : Cause) × (result ≡ status_of cause)
         × Gains (stream E.held E.faults err.old err.new) (message_of cause)
         × ((cause ≡ Cause.Memory) ⊎ ((c : Command) × (command (map string_bytes words.now) ≡ Some c)

@@ -53,6 +53,7 @@ fn an_input_has_at_most_16_mib(rt: HostRuntime) -> Result<(), Fail> {
     let over = vec![in alloc; b'\n'; 16_777_217]?;
     let ending = run_file(&rt, rt.alloc(), &over)?;
     assert_eq!(rt; ending.status, 6);
+    assert_eq!(rt; ending.out.held().len(), 0);
     assert_eq!(rt;
         ending.err.held(),
         b"mbjobs: input over 16777216 bytes\n".as_slice()

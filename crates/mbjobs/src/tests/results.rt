@@ -10,6 +10,12 @@ fn hmac_jobs_are_done(rt: HostRuntime) -> Result<(), Fail> {
         (FIRST_JOB, 0, FIRST_RESULT, ""),
         ("", 0, "", ""),
         (
+            "null enc ch - - 0 0 hmac-sha1 0b0b0b0b0b0b0b0b0b0b0b0b0b0b0b0b0b0b0b0b - 0 8 20 4869205468657265\r\n",
+            0,
+            FIRST_RESULT,
+            "",
+        ),
+        (
             "null enc ch - - 0 0 hmac-sha1 0b0b0b0b0b0b0b0b0b0b0b0b0b0b0b0b0b0b0b0b - 0 8 12 4869205468657265\r\n",
             0,
             "0 ok 4869205468657265 b617318655057264e28bc0b6\n",
@@ -60,6 +66,12 @@ fn refused_jobs_keep_their_place(rt: HostRuntime) -> Result<(), Fail> {
             "",
         ),
         (
+            "null enc ch - - 0 0 hmac-sha1 0b0b0b0b0b0b0b0b0b0b0b0b0b0b0b0b0b0b0b0b - 0 8 20 4869205468657265\ncbc enc ch 000102030405060708090a0b0c0d0e - 0 0 null - - 0 0 0 -\nnull enc ch - - 0 0 hmac-sha1 0b0b0b0b0b0b0b0b0b0b0b0b0b0b0b0b0b0b0b0b - 0 8 20 4869205468657265\n",
+            0,
+            "0 ok 4869205468657265 b617318655057264e28bc0b6fb378c8ef146be00\n1 invalid-args 3\n2 ok 4869205468657265 b617318655057264e28bc0b6fb378c8ef146be00\n",
+            "",
+        ),
+        (
             "cbc enc ch 2b7e151628aed2a6abf7158809cf4f3c 000102030405060708090a0b0c0d0e0f 0 17 null - - 0 0 0 6bc1bee22e409f96e93d7e117393172aae\n",
             0,
             "0 invalid-args 6\n",
@@ -80,6 +92,18 @@ fn refused_jobs_keep_their_place(rt: HostRuntime) -> Result<(), Fail> {
 #[test]
 fn texts_are_ciphered(rt: HostRuntime) -> Result<(), Fail> {
     let cases = [
+        (
+            "cbc enc ch 2b7e151628aed2a6abf7158809cf4f3c 000102030405060708090a0b0c0d0e0f 0 16 null - - 0 0 0 6bc1bee22e409f96e93d7e117393172a\n",
+            0,
+            "0 ok 7649abac8119b246cee98e9b12e9197d -\n",
+            "",
+        ),
+        (
+            "# test\n\ncbc enc ch 2B7E151628AED2A6ABF7158809CF4F3C 000102030405060708090a0b0c0d0e0f 0 16 null - - 0 0 0 6BC1BEE22E409F96E93D7E117393172A\r\ncbc enc ch 2B7E151628AED2A6ABF7158809CF4F3C 000102030405060708090a0b0c0d0e0f 0 16 null - - 0 0 0 6BC1BEE22E409F96E93D7E117393172A",
+            0,
+            "0 ok 7649abac8119b246cee98e9b12e9197d -\n1 ok 7649abac8119b246cee98e9b12e9197d -\n",
+            "",
+        ),
         (
             "# upper case, CR and no last LF\n\ncbc enc ch 2B7E151628AED2A6ABF7158809CF4F3C 000102030405060708090a0b0c0d0e0f 0 16 null - - 0 0 0 6BC1BEE22E409F96E93D7E117393172A\r\ncbc dec ch 2b7e151628aed2a6abf7158809cf4f3c 000102030405060708090a0b0c0d0e0f 0 16 null - - 0 0 0 7649abac8119b246cee98e9b12e9197d",
             0,
@@ -111,6 +135,12 @@ fn cmac_and_gcm_jobs_are_done(rt: HostRuntime) -> Result<(), Fail> {
             "cbc dec ch 2b7e151628aed2a6abf7158809cf4f3c 000102030405060708090a0b0c0d0e0f 0 16 cmac128 2b7e151628aed2a6abf7158809cf4f3c - 0 16 16 7649abac8119b246cee98e9b12e9197d\n",
             0,
             "0 ok 6bc1bee22e409f96e93d7e117393172a 070a16b46b4d4144f79bdd9dd04a287c\n",
+            "",
+        ),
+        (
+            "cbc enc ch 2b7e151628aed2a6abf7158809cf4f3c 000102030405060708090a0b0c0d0e0f 0 16 cmac128 2b7e151628aed2a6abf7158809cf4f3c - 0 16 16 6bc1bee22e409f96e93d7e117393172a\nnull enc ch - - 0 0 cmac128 2b7e151628aed2a6abf7158809cf4f3c - 0 16 16 7649abac8119b246cee98e9b12e9197d\n",
+            0,
+            "0 ok 7649abac8119b246cee98e9b12e9197d a758d79234b33c0166c97ecb7a5311e9\n1 ok 7649abac8119b246cee98e9b12e9197d a758d79234b33c0166c97ecb7a5311e9\n",
             "",
         ),
         (

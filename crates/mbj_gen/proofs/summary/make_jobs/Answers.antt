@@ -10,8 +10,8 @@ loop-preserved c =
     let count = c.loop.invariant.len in
     let room = c.loop.invariant.room in
     record {
-      made = made-next c.loop.jobs.items c.push_reserved.new.self.items c.args.count c.loop.counter c.loop.generator.state
-          c.job.new.self.state _ c.loop-test.true c.loop.invariant.made pushed c.in_ok-job.ensures.state;
+      made = made-next c.loop.jobs.items c.push_reserved.new.self.items c.args.count c.loop.counter c.loop.generator
+          c.job.new.self _ c.loop-test.true c.loop.invariant.made pushed c.in_ok-job.ensures.state;
       len = omega (arith, c.push_reserved.ensures.len);
       room = omega (arith, c.push_reserved.ensures.capacity);
     }

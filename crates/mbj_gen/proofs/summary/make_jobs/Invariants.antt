@@ -4,7 +4,7 @@ use Rattle.mbj_gen.proofs.summary.make_jobs.Given as goal
 
 abbrev pub invariant-loop : goal.invariant-loop
 invariant-loop l = record {
-  made : l.jobs.items ++ generated (l.count - l.counter) l.generator.state ≡ generated l.count l.seed;
+  made : l.jobs.items ++ generated (l.count - l.counter) l.generator ≡ generated l.count l.seed;
   len : vec_len l.jobs ≡ l.counter;
   room : l.count ≤ vec_capacity l.jobs;
 }
