@@ -13,3 +13,6 @@ pub mod Padding
 pub mod ExpandedKeys
 pub mod Rounds
 pub mod AesLaws
+pub mod Bits
+pub mod Octets
+pub mod SBoxCircuit
