@@ -7,6 +7,10 @@ use Rattle.std.proofs.lemmas.Nat.Bits.{bit_at_xor, bit_at_and, bit_at_not, bit_a
 use Rattle.mbj_aes.proofs.ByteCases.{at_each, each_below}
 use Rattle.mbj_aes.specs.Planes.Gates.{nth_bit, xor_bits, and_bits, not_bit}
 
+pub nth_bit-is : (x t : ℕ) → nth_bit x t ≡ bit_at x t
+unfolding nth_bit
+nth_bit-is x t = refl
+
 pub nth_bit-lt : (x t : ℕ) → nth_bit x t < 2
 unfolding nth_bit
 nth_bit-lt x t = bit_at-lt x t

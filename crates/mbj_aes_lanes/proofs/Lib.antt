@@ -1,0 +1,4 @@
+pub mod Exchanges
+pub mod Matrices
+pub mod PlaneBytes
+pub mod TurnedRows

@@ -1,0 +1,4 @@
+-- States and round keys in bit planes. Clauses of private functions alone cite these.
+pub mod Exchange
+pub mod State
+pub mod Keys
