@@ -1,4 +1,5 @@
 pub mod Exchanges
+pub mod LaneWords
 pub mod Matrices
 pub mod PlaneBytes
 pub mod TurnedRows

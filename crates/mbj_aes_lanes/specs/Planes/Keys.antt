@@ -17,14 +17,17 @@ octet_from xs k = record {
   p7 = slice_index xs (k + 7);
 }
 
--- the block that has these 16 plane bytes
+-- the block that has these plane bytes
+abbrev pub block_of_planes : Octet ℕ → Octet ℕ → List ℕ
+block_of_planes upper lower = state_bytes (λ x i. x) (record { upper = upper; lower = lower }) 0
+
 unfoldable pub unplaned : List ℕ → List ℕ
-unplaned xs = state_bytes (λ x i. x) (record { upper = octet_from xs 0; lower = octet_from xs 8 }) 0
+unplaned xs = block_of_planes (octet_from xs 0) (octet_from xs 8)
 
 -- round key r of a list of round keys, which stand there in planes or as they are
 abbrev pub round_key_in : Bool → List ℕ → ℕ → List ℕ
 round_key_in planed ks r = if planed then unplaned (round_key ks r) else round_key ks r
 
--- the list has round keys 0 to n of the schedule w
+-- the list ks has round keys 0 to n of the schedule w
 abbrev pub HasKeys : Bool → List ℕ → ℕ → List ℕ → Type 0
 HasKeys planed ks n w = (r : ℕ) → r ≤ n → round_key w r ≡ round_key_in planed ks r

@@ -1,0 +1,51 @@
+-- Slices of lane words, lane by lane: parts of 16 of them, read and written.
+use Rattle.std.proofs.Common.{◌≡◌, ℕ, ◌+◌, ◌<◌, ◌≤◌, List, [], ◌∷◌, length, take, drop, slice_index, slice_set, refl, sym, ap, ◌∙◌, arith, length-drop}
+use Rattle.std.proofs.lemmas.List.{get_or-drop, get_or-take, length-take-le}
+use Rattle.mbj_types.specs.Lanes.{lane_of}
+use Rattle.mbj_aes_lanes.specs.Planes.State.{rows_from}
+use Rattle.mbj_aes_lanes.specs.Planes.Keys.{octet_from}
+
+-- byte k of the 16 from `start` on
+slice_index-part : (ys : List ℕ) (start k at : ℕ) → at ≡ start + k → k < 16
+    → slice_index ys at ≡ slice_index (take 16 (drop start ys)) k
+slice_index-part ys start k at e h =
+    ap (slice_index ys) e ∙ sym (get_or-drop start ys k 0) ∙ sym (get_or-take 16 (drop start ys) k 0 h)
+
+pub length-part : (ys : List ℕ) (start : ℕ) → start + 16 ≤ length ys → length (take 16 (drop start ys)) ≡ 16
+length-part ys start h = length-take-le 16 (drop start ys) (omega (arith, length-drop start ys))
+
+pub rows_from-part : (ys : List ℕ) (start k at : ℕ) → at ≡ start + k → k ≤ 2
+    → rows_from ys at ≡ rows_from (take 16 (drop start ys)) k
+rows_from-part ys start k at e h =
+    rw (
+      slice_index-part ys start k at e (omega arith),
+      slice_index-part ys start (k + 4) (at + 4) (omega arith) (omega arith),
+      slice_index-part ys start (k + 8) (at + 8) (omega arith) (omega arith),
+      slice_index-part ys start (k + 12) (at + 12) (omega arith) (omega arith),
+      slice_index-part ys start (k + 1) (at + 1) (omega arith) (omega arith),
+      slice_index-part ys start (k + 5) (at + 5) (omega arith) (omega arith),
+      slice_index-part ys start (k + 9) (at + 9) (omega arith) (omega arith),
+      slice_index-part ys start (k + 13) (at + 13) (omega arith) (omega arith),
+    ) refl
+
+pub octet_from-part : (ys : List ℕ) (start k at : ℕ) → at ≡ start + k → k ≤ 8
+    → octet_from ys at ≡ octet_from (take 16 (drop start ys)) k
+octet_from-part ys start k at e h =
+    rw (
+      slice_index-part ys start k at e (omega arith),
+      slice_index-part ys start (k + 1) (at + 1) (omega arith) (omega arith),
+      slice_index-part ys start (k + 2) (at + 2) (omega arith) (omega arith),
+      slice_index-part ys start (k + 3) (at + 3) (omega arith) (omega arith),
+      slice_index-part ys start (k + 4) (at + 4) (omega arith) (omega arith),
+      slice_index-part ys start (k + 5) (at + 5) (omega arith) (omega arith),
+      slice_index-part ys start (k + 6) (at + 6) (omega arith) (omega arith),
+      slice_index-part ys start (k + 7) (at + 7) (omega arith) (omega arith),
+    ) refl
+
+-- sixteen lane words written one after another
+pub lane_of-written : {V : Type 0} (lane : V → ℕ → ℕ) (words : List V) (v0 v1 v2 v3 v4 v5 v6 v7 v8 v9 v10 v11 v12 v13 v14 v15 : V) (i : ℕ)
+    → length words ≡ 16
+    → lane_of lane (slice_set (slice_set (slice_set (slice_set (slice_set (slice_set (slice_set (slice_set (slice_set (slice_set (slice_set (slice_set (slice_set (slice_set (slice_set (slice_set words 0 v0) 1 v1) 2 v2) 3 v3) 4 v4) 5 v5) 6 v6) 7 v7) 8 v8) 9 v9) 10 v10) 11 v11) 12 v12) 13 v13) 14 v14) 15 v15) i
+    ≡ lane v0 i ∷ lane v1 i ∷ lane v2 i ∷ lane v3 i ∷ lane v4 i ∷ lane v5 i ∷ lane v6 i ∷ lane v7 i ∷ lane v8 i ∷ lane v9 i ∷ lane v10 i ∷ lane v11 i ∷ lane v12 i ∷ lane v13 i ∷ lane v14 i ∷ lane v15 i ∷ []
+lane_of-written lane (x0 ∷ x1 ∷ x2 ∷ x3 ∷ x4 ∷ x5 ∷ x6 ∷ x7 ∷ x8 ∷ x9 ∷ x10 ∷ x11 ∷ x12 ∷ x13 ∷ x14 ∷ x15 ∷ []) v0 v1 v2 v3 v4 v5 v6 v7 v8 v9 v10 v11 v12 v13 v14 v15 i h = refl
+lane_of-written lane words v0 v1 v2 v3 v4 v5 v6 v7 v8 v9 v10 v11 v12 v13 v14 v15 i h = absurd (omega arith)
