@@ -2,3 +2,4 @@
 pub mod Exchange
 pub mod State
 pub mod Keys
+pub mod Matrix
