@@ -9,7 +9,7 @@ use Rattle.mbj_types.specs.Lanes.{lane_at, lane_list, lane_of}
 use Rattle.mbj_types.proofs.LaneLists.{length-lane_list, slice_index-lane_list, length-lane_of, slice_index-lane_of}
 use Rattle.mbj_aes.proofs.ByteCases.{same_at_each}
 use Rattle.mbj_aes_lanes.specs.Planes.Matrix.{row_at, interleaved_at}
-use Rattle.mbj_aes_lanes.proofs.Sixteen.{at_sixteen}
+use Rattle.mbj_aes_lanes.proofs.EachOfSixteen.{at_sixteen}
 
 -- ---- two rows side by side
 

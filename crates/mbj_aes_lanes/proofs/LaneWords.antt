@@ -3,7 +3,6 @@ use Rattle.std.proofs.Common.{◌≡◌, ℕ, ◌+◌, ◌<◌, ◌≤◌, List,
 use Rattle.std.proofs.lemmas.List.{get_or-drop, get_or-take, length-take-le}
 use Rattle.mbj_types.specs.Lanes.{lane_of}
 use Rattle.mbj_aes_lanes.specs.Planes.State.{rows_from}
-use Rattle.mbj_aes_lanes.specs.Planes.Keys.{octet_from}
 
 -- byte k of the 16 from `start` on
 slice_index-part : (ys : List ℕ) (start k at : ℕ) → at ≡ start + k → k < 16
@@ -26,20 +25,6 @@ rows_from-part ys start k at e h =
       slice_index-part ys start (k + 5) (at + 5) (omega arith) (omega arith),
       slice_index-part ys start (k + 9) (at + 9) (omega arith) (omega arith),
       slice_index-part ys start (k + 13) (at + 13) (omega arith) (omega arith),
-    ) refl
-
-pub octet_from-part : (ys : List ℕ) (start k at : ℕ) → at ≡ start + k → k ≤ 8
-    → octet_from ys at ≡ octet_from (take 16 (drop start ys)) k
-octet_from-part ys start k at e h =
-    rw (
-      slice_index-part ys start k at e (omega arith),
-      slice_index-part ys start (k + 1) (at + 1) (omega arith) (omega arith),
-      slice_index-part ys start (k + 2) (at + 2) (omega arith) (omega arith),
-      slice_index-part ys start (k + 3) (at + 3) (omega arith) (omega arith),
-      slice_index-part ys start (k + 4) (at + 4) (omega arith) (omega arith),
-      slice_index-part ys start (k + 5) (at + 5) (omega arith) (omega arith),
-      slice_index-part ys start (k + 6) (at + 6) (omega arith) (omega arith),
-      slice_index-part ys start (k + 7) (at + 7) (omega arith) (omega arith),
     ) refl
 
 -- sixteen lane words written one after another

@@ -1,7 +1,10 @@
+pub mod Blends
 pub mod ByteMatrices
 pub mod Exchanges
 pub mod LaneWords
 pub mod Matrices
 pub mod PlaneBytes
-pub mod Sixteen
+pub mod EachOfSixteen
+pub mod RoundKeys
 pub mod TurnedRows
+pub mod Written

@@ -3,8 +3,10 @@ ghost use Rattle.mbj_types.specs.Aes.{encipher, decipher};
 ghost use Rattle.mbj_types.specs.Lanes.{lane_of};
 ghost use Rattle.mbj_aes_lanes.specs.Lanes.{IsScheduleSize};
 
-use crate::rounds::{decrypt, encrypt};
-use mbj_types::Lane8;
+use crate::columns::add_round_key;
+use crate::rounds::{full_round, last_round, undone_last_round, undone_round};
+use crate::words::{put_state, state_at};
+use mbj_types::{BLOCK_BYTES, Lane8};
 
 /// Encrypts the block in each lane under the schedule in that lane: CIPHER (FIPS 197, 5.1). `state` has 16 lane words,
 /// of which word j is byte j of every block, and `keys` has the bytes of the schedules likewise, 16 lane words for each
@@ -15,7 +17,15 @@ pub fn encrypt_lanes<V: Lane8>(keys: &[V], state: &mut [V])
     ensures { (i : ℕ) → i < V.LANES
         → lane_of V.lane state.new i ≡ encipher (lane_of V.lane keys.now i) (lane_of V.lane state.old i) }
 {
-    encrypt::<V, false>(keys, state);
+    let rounds = keys.len() / BLOCK_BYTES - 1;
+    let mut s = add_round_key(state_at(state, 0), state_at(keys, 0));
+    'rounds: for r in 1..rounds {
+        s = full_round(s, state_at(keys, BLOCK_BYTES * r));
+    }
+    put_state(
+        state,
+        last_round(s, state_at(keys, BLOCK_BYTES * rounds)),
+    );
 }
 
 /// Decrypts the block in each lane by the schedule in that lane: INVCIPHER (FIPS 197, 5.3). The lane words are as for
@@ -26,5 +36,10 @@ pub fn decrypt_lanes<V: Lane8>(keys: &[V], state: &mut [V])
     ensures { (i : ℕ) → i < V.LANES
         → lane_of V.lane state.new i ≡ decipher (lane_of V.lane keys.now i) (lane_of V.lane state.old i) }
 {
-    decrypt::<V, false>(keys, state);
+    let rounds = keys.len() / BLOCK_BYTES - 1;
+    let mut s = undone_last_round(state_at(state, 0), state_at(keys, BLOCK_BYTES * rounds));
+    'rounds: for r in (1..rounds).rev() {
+        s = undone_round(s, state_at(keys, BLOCK_BYTES * r));
+    }
+    put_state(state, add_round_key(s, state_at(keys, 0)));
 }

@@ -11,5 +11,6 @@ mod state;
 mod substitution;
 mod transposition;
 mod words;
+mod write;
 
 pub use lanes::{decrypt_lanes, encrypt_lanes};

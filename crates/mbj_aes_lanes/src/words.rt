@@ -3,7 +3,7 @@ ghost use Rattle.std.specs.Prelude.{◌≡◌, ℕ, ◌+◌, ◌<◌, ◌≤◌,
 ghost use Rattle.mbj_types.specs.Lanes.{lane_of};
 ghost use Rattle.mbj_aes.specs.Planes.Bytes.{octet_lane};
 ghost use Rattle.mbj_aes_lanes.specs.Planes.State.{state_bytes, rows_from};
-ghost use Rattle.mbj_aes_lanes.specs.Planes.Keys.{octet_from, unplaned};
+ghost use Rattle.mbj_aes_lanes.specs.Planes.Keys.{unplaned};
 
 use crate::state::State;
 use crate::transposition::transposed;
@@ -65,35 +65,6 @@ pub fn put_state<V: Lane8>(words: &mut [V], s: State<V>)
     words[13] = upper.p7;
     words[14] = lower.p3;
     words[15] = lower.p7;
-}
-
-#[inline(always)]
-fn eight_words<V: Lane8>(words: &[V], start: usize) -> Octet<V>
-    requires { start + 8 ≤ length words.now }
-    ensures { (i : ℕ) → octet_lane V.lane result i ≡ octet_from (lane_of V.lane words.now i) start }
-{
-    Octet {
-        p0: words[start],
-        p1: words[start + 1],
-        p2: words[start + 2],
-        p3: words[start + 3],
-        p4: words[start + 4],
-        p5: words[start + 5],
-        p6: words[start + 6],
-        p7: words[start + 7],
-    }
-}
-
-/// The state whose planes are the 16 lane words from `start` on.
-#[inline(always)]
-pub fn planes_at<V: Lane8>(words: &[V], start: usize) -> State<V>
-    requires { start + 16 ≤ length words.now }
-    ensures { (i : ℕ) → state_bytes V.lane result i ≡ unplaned (take 16 (drop start (lane_of V.lane words.now i))) }
-{
-    State {
-        upper: eight_words(words, start),
-        lower: eight_words(words, start + 8),
-    }
 }
 
 /// Writes the planes of the state into 16 lane words.

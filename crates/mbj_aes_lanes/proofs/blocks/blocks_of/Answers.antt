@@ -2,7 +2,7 @@
 use Rattle.std.proofs.Common.{◌≡◌, ℕ, ◌<◌, List, [], ◌∷◌, slice_index, slice_index_or, sym, ◌∙◌}
 use Rattle.mbj_types.specs.Lanes.{lane_at, lane_list}
 use Rattle.mbj_types.proofs.LaneLists.{length-lane_list, slice_index-lane_list}
-use Rattle.mbj_aes_lanes.proofs.Sixteen.{at_sixteen}
+use Rattle.mbj_aes_lanes.proofs.EachOfSixteen.{at_sixteen}
 use Rattle.mbj_aes_lanes.proofs.ByteMatrices.{column_is}
 use Rattle.mbj_aes_lanes.proofs.blocks.blocks_of.Goals as goal
 

@@ -1,14 +1,52 @@
--- The lane has its own schedule.
-use Rattle.std.proofs.Common.{◌≡◌, ℕ, ◌-◌, ◌/◌, List, length, refl, sym, ap, ◌∙◌}
-use Rattle.mbj_types.specs.Aes.{inv_cipher, decipher}
+-- INVCIPHER, round by round, in each lane.
+use Rattle.std.proofs.Common.{◌≡◌, ℕ, suc, ◌+◌, ◌-◌, ◌*◌, ◌/◌, ◌≤◌, List, length, arith, sym, ap, ap₂, ◌∙◌}
+use Rattle.std.proofs.lemmas.List.{take_all}
+use Rattle.mbj_types.specs.Blocks.{xor_lists}
+use Rattle.mbj_types.specs.Aes.{undone_rounds, round_key, undone_round, inv_shift_rows, inv_sub_bytes, inv_cipher, decipher}
 use Rattle.mbj_types.specs.Lanes.{lane_of}
 use Rattle.mbj_types.proofs.LaneLists.{length-lane_of}
+use Rattle.mbj_aes_lanes.specs.Planes.State.{state_bytes}
 use Rattle.mbj_aes_lanes.proofs.lanes.decrypt_lanes.Goals as goal
 
-pub returns : goal.returns
+pub rounds-init : goal.rounds-init
 unfolding decipher
+rounds-init g c i h =
+    let lane = g.V.Lane8.lane in
+    let w : List ℕ = lane_of lane c.args.keys.now i in
+    let n : ℕ = length c.args.keys.now / 16 - 1 in
+    let block : List ℕ = lane_of lane c.args.state.now i in
+    let whole : length block ≡ length c.args.state.now = length-lane_of lane c.args.state.now i in
+    let size : length w ≡ length c.args.keys.now = length-lane_of lane c.args.keys.now i in
+    let count : length w / 16 - 1 ≡ n = ap (λ (k : ℕ). k / 16 - 1) size in
+    ap (λ s. undone_rounds w s (n - 1))
+    (c.undone_last_round-s.ensures i h
+    ∙ ap₂ (λ s k. inv_sub_bytes (inv_shift_rows (xor_lists s k))) (c.state_at.ensures i h ∙ take_all 16 block (omega arith))
+    (c.state_at-2.ensures i h))
+    ∙ ap (λ (k : ℕ). inv_cipher w k block) (sym count)
+
+pub rounds-preserved : goal.rounds-preserved
+unfolding undone_rounds
+rounds-preserved g c i h =
+    let lane = g.V.Lane8.lane in
+    let w : List ℕ = lane_of lane c.args.keys.now i in
+    let n : ℕ = length c.args.keys.now / 16 - 1 in
+    let before : c.rounds.r - 1 ≡ suc (c.rounds.r - 1 - 1) = omega arith in
+    let s : List ℕ = state_bytes lane c.rounds.s i in
+    ap (λ x. undone_rounds w x (c.rounds.r - 1 - 1))
+    (c.undone_round-s.ensures i h ∙ ap (undone_round s) (c.state_at-in-rounds.ensures i h ∙ ap (round_key w) before))
+    ∙ ap (undone_rounds w s) (sym before)
+    ∙ c.rounds.invariant i h
+
+pub returns : goal.returns
+unfolding undone_rounds
 returns g c i h =
     let lane = g.V.Lane8.lane in
     let w : List ℕ = lane_of lane c.args.keys.now i in
-    c.decrypt.ensures i w h (λ r below. refl)
-    ∙ ap (λ (n : ℕ). inv_cipher w (n / 16 - 1) (lane_of lane c.args.state.now i)) (sym (length-lane_of lane c.args.keys.now i))
+    let n : ℕ = length c.args.keys.now / 16 - 1 in
+    let first : c.rounds.r - 1 ≡ 0 = omega arith in
+    let s : List ℕ = state_bytes lane c.rounds.s i in
+    c.put_state.ensures i h
+    ∙ c.add_round_key.ensures i h
+    ∙ ap (xor_lists s) (c.state_at-3.ensures i h)
+    ∙ ap (undone_rounds w s) (sym first)
+    ∙ c.rounds.invariant i h

@@ -1,0 +1,11 @@
+-- The rounds before the next one are done in each lane.
+use Rattle.std.proofs.Common.{◌≡◌, ℕ, ◌<◌, ◌-◌}
+use Rattle.mbj_types.specs.Aes.{after_rounds}
+use Rattle.mbj_types.specs.Lanes.{lane_of}
+use Rattle.mbj_aes_lanes.specs.Planes.State.{state_bytes}
+use Rattle.mbj_aes_lanes.proofs.lanes.encrypt_lanes.Given as goal
+
+abbrev pub invariant-rounds : goal.invariant-rounds
+invariant-rounds g l =
+    let lane = g.V.Lane8.lane in
+    (i : ℕ) → i < g.V.Lane8.LANES → state_bytes lane l.s i ≡ after_rounds (lane_of lane l.keys i) (lane_of lane l.state i) (l.r - 1)
