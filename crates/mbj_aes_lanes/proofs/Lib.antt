@@ -1,10 +1,13 @@
 pub mod Blends
 pub mod ByteMatrices
+pub mod EachOfSixteen
 pub mod Exchanges
+pub mod HeldKeys
+pub mod KeySchedules
 pub mod LaneWords
 pub mod Matrices
 pub mod PlaneBytes
-pub mod EachOfSixteen
 pub mod RoundKeys
+pub mod StatePlanes
 pub mod TurnedRows
-pub mod Written
+pub mod WrittenKeys

@@ -3,14 +3,18 @@
 
 mod blocks;
 mod columns;
+mod key_planes;
+mod lane_keys;
 mod lanes;
 mod octets;
 mod rounds;
 mod rows;
+mod sixteen;
 mod state;
 mod substitution;
 mod transposition;
 mod words;
-mod write;
 
+pub use lane_keys::LaneKeys;
 pub use lanes::{decrypt_lanes, encrypt_lanes};
+pub use sixteen::{decrypt16, encrypt16};

@@ -1,7 +1,7 @@
 -- One lane of zeros is written.
 use Rattle.std.proofs.Common.{ℕ, ◌%◌, ◌^◌, List, replicate, ap, ◌∙◌, get_or-set_same, get_or-set_other}
 use Rattle.std.proofs.lemmas.Simd.{get_or-replicate}
-use Rattle.mbj_aes_lanes.proofs.write.lane_mask.Goals as goal
+use Rattle.mbj_aes_lanes.proofs.key_planes.lane_mask.Goals as goal
 
 zeros : List ℕ
 zeros = replicate 16 0

@@ -1,0 +1,10 @@
+-- Each block goes through its own lane.
+use Rattle.std.proofs.Common.{◌≡◌, ap₂, ◌∙◌}
+use Rattle.mbj_types.specs.Aes.{encipher}
+use Rattle.mbj_aes_lanes.proofs.sixteen.encrypt16.Goals as goal
+
+pub returns : goal.returns
+returns c i h =
+    c.blocks_of.ensures i h
+    ∙ c.encrypt.ensures i h
+    ∙ ap₂ encipher (c.round_keys.ensures.schedules i h (c.requires i h)) (c.words_of-words.ensures.lanes i h)

@@ -1,9 +1,0 @@
--- In each lane the words before the next one are written.
-use Rattle.std.proofs.Common.{ℕ, ◌<◌}
-use Rattle.mbj_types.specs.Lanes.{lane_at, lane_of}
-use Rattle.mbj_aes_lanes.proofs.Written.{IsWritten}
-use Rattle.mbj_aes_lanes.proofs.write.write_all_lanes.Given as goal
-
-abbrev pub invariant-words : goal.invariant-words
-invariant-words l =
-    (i : ℕ) → i < 16 → IsWritten l.k l.bytes (lane_of (lane_at 8) l.initial.words i) (lane_of (lane_at 8) l.words i)

@@ -1,0 +1,119 @@
+ghost use Rattle.std.specs.Prelude.{◌≡◌, ℕ, ◌+◌, ◌*◌, ◌<◌, ◌≤◌, length, slice_index_or, None, IsSome};
+ghost use Rattle.mbj_types.specs.Lanes.{lane_at};
+ghost use Rattle.mbj_aes.specs.Bytes.{IsRoundCount};
+ghost use Rattle.mbj_aes_lanes.specs.KeyLanes.{no_keys, same_keys, with_key, schedule_at};
+ghost use Rattle.mbj_aes_lanes.specs.Planes.Keys.{schedule_in};
+
+use crate::key_planes::{planes_of, write_all_lanes, write_lane};
+use crate::state::State;
+use mbj_aes::{Octet, Schedule};
+use std::marker::Model;
+use std::simd::u8x16;
+
+// The round keys of the longest schedule, of 14 rounds.
+const MAX_ROUND_KEYS: usize = 15;
+
+/// The schedules of sixteen keys side by side, of 10, 12 or 14 rounds each, which contracts see as the number of rounds
+/// and, for each lane, the schedule that was put there, or none. It keeps the round keys in bit planes, as encryption
+/// and decryption take them, so a key is transposed once, when it is put. It is a plain value of 3,860 bytes, and owns
+/// no memory.
+#[derive(Drop)]
+pub struct LaneKeys {
+    round_keys: [State<u8x16>; MAX_ROUND_KEYS],
+    rounds: u32,
+    put: [bool; 16],
+}
+
+// The size that stands in the documentation.
+const _: () = prove!(size_of::<LaneKeys>() == 3860);
+
+impl Model for LaneKeys {
+    ghost use Rattle.std.specs.Prelude.{◌≡◌, length};
+    ghost use Rattle.mbj_aes.specs.Bytes.{IsRoundCount};
+    ghost use Rattle.mbj_aes_lanes.specs.KeyLanes.{KeyLanes};
+    ghost use Rattle.mbj_aes_lanes.specs.Planes.Keys.{held_lanes};
+
+    ghost Value = { KeyLanes };
+
+    ghost view = { λ k. record { rounds = k.rounds; lanes = held_lanes k.rounds k.round_keys k.put } };
+
+    ghost invariant = { λ k. IsRoundCount k.rounds × (length k.round_keys ≡ 15) × (length k.put ≡ 16) };
+}
+
+// Round keys of zeros.
+#[inline(always)]
+fn zero_keys() -> [State<u8x16>; MAX_ROUND_KEYS]
+    ensures { length result ≡ 15 }
+{
+    let zero = u8x16::splat(0);
+    let octet = Octet {
+        p0: zero,
+        p1: zero,
+        p2: zero,
+        p3: zero,
+        p4: zero,
+        p5: zero,
+        p6: zero,
+        p7: zero,
+    };
+    [State {
+        upper: octet,
+        lower: octet,
+    }; MAX_ROUND_KEYS]
+}
+
+impl LaneKeys {
+    /// Sixteen lanes for keys of 10, 12 or 14 rounds, none of which is put. It takes no memory.
+    pub fn new(rounds: u32) -> LaneKeys
+        requires { IsRoundCount rounds }
+        ensures { result ≡ no_keys rounds }
+    {
+        LaneKeys {
+            round_keys: zero_keys(),
+            rounds,
+            put: [false; 16],
+        }
+    }
+
+    /// The same schedule in every lane, at the cost of little more than one `put`. It takes no memory.
+    pub fn all(key: &Schedule) -> LaneKeys
+        ensures { result ≡ same_keys key.now }
+    {
+        let planes = planes_of(key);
+        let rounds = key.rounds();
+        let mut round_keys = zero_keys();
+        write_all_lanes(&mut round_keys[..rounds as usize + 1], &planes);
+        LaneKeys {
+            round_keys,
+            rounds,
+            put: [true; 16],
+        }
+    }
+
+    /// Puts a schedule in a lane below 16, in place of the one that was there. It has as many rounds as the others. It
+    /// takes no memory.
+    pub fn put(&mut self, lane: u32, key: &Schedule)
+        requires lane { lane < 16 }
+        requires rounds { length key.now ≡ 16 * (self.old.rounds + 1) }
+        ensures { self.new ≡ with_key self.old lane key.now }
+    {
+        let planes = planes_of(key);
+        let rounds = self.rounds as usize;
+        write_lane(
+            &mut self.round_keys[..rounds + 1],
+            lane as usize,
+            &planes,
+        );
+        self.put[lane as usize] = true;
+    }
+
+    /// The round keys in planes, of each lane those of its schedule.
+    #[inline(always)]
+    pub(crate) fn round_keys(&self) -> &[State<u8x16>]
+        ensures least { 11 ≤ length result.now }
+        ensures schedules { (i : ℕ) → i < 16 → IsSome (slice_index_or self.now.lanes i None)
+            → schedule_in (lane_at 8) result.now i ≡ schedule_at self.now i }
+    {
+        &self.round_keys[..self.rounds as usize + 1]
+    }
+}

@@ -1,0 +1,31 @@
+ghost use Rattle.std.specs.Prelude.{◌≡◌, ℕ, ◌<◌, [], slice_index_or};
+ghost use Rattle.mbj_types.specs.Aes.{encipher, decipher};
+ghost use Rattle.mbj_aes_lanes.specs.KeyLanes.{IsFull, schedule_at};
+
+use crate::blocks::{blocks_of, words_of};
+use crate::lane_keys::LaneKeys;
+use crate::rounds::{decrypt, encrypt};
+
+/// Encrypts each of sixteen blocks under the schedule that was put in its lane: CIPHER (FIPS 197, 5.1). It takes no
+/// memory.
+pub fn encrypt16(keys: &LaneKeys, blocks: &mut [[u8; 16]; 16])
+    requires { IsFull keys.now }
+    ensures { (i : ℕ) → i < 16 → slice_index_or blocks.new i []
+        ≡ encipher (schedule_at keys.now i) (slice_index_or blocks.old i []) }
+{
+    let mut words = words_of(blocks);
+    encrypt(keys.round_keys(), &mut words);
+    *blocks = blocks_of(&words);
+}
+
+/// Decrypts each of sixteen blocks by the schedule that was put in its lane: INVCIPHER (FIPS 197, 5.3). It takes no
+/// memory.
+pub fn decrypt16(keys: &LaneKeys, blocks: &mut [[u8; 16]; 16])
+    requires { IsFull keys.now }
+    ensures { (i : ℕ) → i < 16 → slice_index_or blocks.new i []
+        ≡ decipher (schedule_at keys.now i) (slice_index_or blocks.old i []) }
+{
+    let mut words = words_of(blocks);
+    decrypt(keys.round_keys(), &mut words);
+    *blocks = blocks_of(&words);
+}
