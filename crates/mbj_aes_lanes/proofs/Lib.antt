@@ -8,6 +8,7 @@ pub mod LaneWords
 pub mod Matrices
 pub mod PlaneBytes
 pub mod RoundKeys
+pub mod SameKeys
 pub mod StatePlanes
 pub mod TurnedRows
 pub mod WrittenKeys

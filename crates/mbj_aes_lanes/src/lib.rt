@@ -9,6 +9,7 @@ mod lanes;
 mod octets;
 mod rounds;
 mod rows;
+mod same;
 mod sixteen;
 mod state;
 mod substitution;
@@ -17,4 +18,8 @@ mod words;
 
 pub use lane_keys::LaneKeys;
 pub use lanes::{decrypt_lanes, encrypt_lanes};
+pub use same::{chained, encrypt_same};
 pub use sixteen::{decrypt16, encrypt16};
+
+#[cfg(test)]
+mod tests;
