@@ -7,6 +7,7 @@ pub mod KeySchedules
 pub mod LaneWords
 pub mod Matrices
 pub mod PlaneBytes
+pub mod RoundByRound
 pub mod RoundKeys
 pub mod SameKeys
 pub mod StatePlanes

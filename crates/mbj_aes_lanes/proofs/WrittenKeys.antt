@@ -25,11 +25,11 @@ pub IsWritten-next : {V : Type 0} (lane : V → ℕ → ℕ) (planes : List (Lis
 unfolding schedule_in
 IsWritten-next lane planes keys i r key inside some same h = record {
   bytes =
-    ap (flat_map (λ k. state_bytes lane k i)) (take_more_set keys r key inside)
-        ∙ flat_map-append (λ k. state_bytes lane k i) (take r keys) (key ∷ [])
-        ∙ ap₂ (λ xs ys. xs ++ (ys ++ [])) h.bytes same
-        ∙ sym (flat_map-append unplaned (take r planes) (get_or planes r [] ∷ []))
-        ∙ ap (flat_map unplaned) (sym (take_more planes r [] some));
+      ap (flat_map (λ k. state_bytes lane k i)) (take_more_set keys r key inside)
+      ∙ flat_map-append (λ k. state_bytes lane k i) (take r keys) (key ∷ [])
+      ∙ ap₂ (λ xs ys. xs ++ (ys ++ [])) h.bytes same
+      ∙ sym (flat_map-append unplaned (take r planes) (get_or planes r [] ∷ []))
+      ∙ ap (flat_map unplaned) (sym (take_more planes r [] some));
 }
 
 -- all of them

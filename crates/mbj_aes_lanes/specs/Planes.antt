@@ -1,5 +1,6 @@
 -- States and round keys in bit planes. Clauses of private functions alone cite these.
 pub mod Exchange
 pub mod State
+pub mod Rounds
 pub mod Keys
 pub mod Matrix

@@ -116,28 +116,13 @@ pub fn words_of(blocks: &[[u8; 16]; 16]) -> [u8x16; 16]
     ])
 }
 
-/// The sixteen blocks of these lane words.
+/// Writes the sixteen blocks of these lane words.
 #[inline(always)]
-pub fn blocks_of(words: &[u8x16; 16]) -> [[u8; 16]; 16]
-    ensures { (i : ℕ) → i < 16 → slice_index_or result i [] ≡ lane_of (lane_at 8) words.now i }
+pub fn put_blocks(blocks: &mut [[u8; 16]; 16], words: &[u8x16; 16])
+    ensures { (i : ℕ) → i < 16 → slice_index_or blocks.new i [] ≡ lane_of (lane_at 8) words.now i }
 {
     let rows = transposed(words);
-    [
-        block_of(rows[0]),
-        block_of(rows[1]),
-        block_of(rows[2]),
-        block_of(rows[3]),
-        block_of(rows[4]),
-        block_of(rows[5]),
-        block_of(rows[6]),
-        block_of(rows[7]),
-        block_of(rows[8]),
-        block_of(rows[9]),
-        block_of(rows[10]),
-        block_of(rows[11]),
-        block_of(rows[12]),
-        block_of(rows[13]),
-        block_of(rows[14]),
-        block_of(rows[15]),
-    ]
+    'rows: for i in 0..16 {
+        blocks[i] = block_of(rows[i]);
+    }
 }

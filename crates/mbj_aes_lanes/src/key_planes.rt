@@ -7,7 +7,7 @@ ghost use Rattle.mbj_aes.specs.Planes.Bytes.{octet_lane};
 ghost use Rattle.mbj_aes_lanes.specs.Planes.State.{state_bytes};
 ghost use Rattle.mbj_aes_lanes.specs.Planes.Keys.{octet_from, unplaned, schedule_in};
 
-use crate::blocks::{blocks_of, words_of};
+use crate::blocks::{put_blocks, words_of};
 use crate::state::State;
 use crate::words::{put_planes, state_at};
 use mbj_aes::{Octet, Schedule};
@@ -36,7 +36,8 @@ pub fn planes_of(key: &Schedule) -> [[u8; 16]; 16]
     }
     let mut words = words_of(&round_keys);
     put_in_planes(&mut words);
-    blocks_of(&words)
+    put_blocks(&mut round_keys, &words);
+    round_keys
 }
 
 // Eight plane bytes, from `start` on, in every lane.

@@ -99,11 +99,7 @@ impl LaneKeys {
     {
         let planes = planes_of(key);
         let rounds = self.rounds as usize;
-        write_lane(
-            &mut self.round_keys[..rounds + 1],
-            lane as usize,
-            &planes,
-        );
+        write_lane(&mut self.round_keys[..rounds + 1], lane as usize, &planes);
         self.put[lane as usize] = true;
     }
 

@@ -4,7 +4,7 @@ ghost use Rattle.mbj_types.specs.Lanes.{lane_of};
 ghost use Rattle.mbj_aes_lanes.specs.Lanes.{IsScheduleSize};
 
 use crate::columns::add_round_key;
-use crate::rounds::{full_round, last_round, undone_last_round, undone_round};
+use crate::rounds::{round, undone_round};
 use crate::words::{put_state, state_at};
 use mbj_types::{BLOCK_BYTES, Lane8};
 
@@ -19,13 +19,10 @@ pub fn encrypt_lanes<V: Lane8>(keys: &[V], state: &mut [V])
 {
     let rounds = keys.len() / BLOCK_BYTES - 1;
     let mut s = add_round_key(state_at(state, 0), state_at(keys, 0));
-    'rounds: for r in 1..rounds {
-        s = full_round(s, state_at(keys, BLOCK_BYTES * r));
+    'rounds: for r in 1..rounds + 1 {
+        s = round(s, state_at(keys, BLOCK_BYTES * r), r == rounds);
     }
-    put_state(
-        state,
-        last_round(s, state_at(keys, BLOCK_BYTES * rounds)),
-    );
+    put_state(state, s);
 }
 
 /// Decrypts the block in each lane by the schedule in that lane: INVCIPHER (FIPS 197, 5.3). The lane words are as for
@@ -37,9 +34,9 @@ pub fn decrypt_lanes<V: Lane8>(keys: &[V], state: &mut [V])
         → lane_of V.lane state.new i ≡ decipher (lane_of V.lane keys.now i) (lane_of V.lane state.old i) }
 {
     let rounds = keys.len() / BLOCK_BYTES - 1;
-    let mut s = undone_last_round(state_at(state, 0), state_at(keys, BLOCK_BYTES * rounds));
-    'rounds: for r in (1..rounds).rev() {
-        s = undone_round(s, state_at(keys, BLOCK_BYTES * r));
+    let mut s = state_at(state, 0);
+    'rounds: for r in (1..rounds + 1).rev() {
+        s = undone_round(s, state_at(keys, BLOCK_BYTES * r), r == rounds);
     }
     put_state(state, add_round_key(s, state_at(keys, 0)));
 }

@@ -32,7 +32,9 @@ fn lower_left<V: Lane8>(x: V) -> V
     let second_up = x.shl(2).anded(V::splat(0x0c));
     let third_up = x.shl(1).anded(V::splat(0xe0));
     let third_down = x.shr(3).anded(V::splat(0x10));
-    second_down.xored(second_up).xored(third_up.xored(third_down))
+    second_down
+        .xored(second_up)
+        .xored(third_up.xored(third_down))
 }
 
 // Rows 0 and 1 of a plane: row 0 stays, and row 1 goes right by 1.
@@ -57,7 +59,9 @@ fn lower_right<V: Lane8>(x: V) -> V
     let second_up = x.shl(2).anded(V::splat(0x0c));
     let third_up = x.shl(3).anded(V::splat(0x80));
     let third_down = x.shr(1).anded(V::splat(0x70));
-    second_down.xored(second_up).xored(third_up.xored(third_down))
+    second_down
+        .xored(second_up)
+        .xored(third_up.xored(third_down))
 }
 
 #[tactic(auto, unfolding(mbj_aes::specs::Planes::Bytes::byte_at))]

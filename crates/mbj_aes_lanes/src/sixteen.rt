@@ -2,7 +2,7 @@ ghost use Rattle.std.specs.Prelude.{◌≡◌, ℕ, ◌<◌, [], slice_index_or}
 ghost use Rattle.mbj_types.specs.Aes.{encipher, decipher};
 ghost use Rattle.mbj_aes_lanes.specs.KeyLanes.{IsFull, schedule_at};
 
-use crate::blocks::{blocks_of, words_of};
+use crate::blocks::{put_blocks, words_of};
 use crate::lane_keys::LaneKeys;
 use crate::rounds::{decrypt, encrypt};
 
@@ -15,7 +15,7 @@ pub fn encrypt16(keys: &LaneKeys, blocks: &mut [[u8; 16]; 16])
 {
     let mut words = words_of(blocks);
     encrypt(keys.round_keys(), &mut words);
-    *blocks = blocks_of(&words);
+    put_blocks(blocks, &words);
 }
 
 /// Decrypts each of sixteen blocks by the schedule that was put in its lane: INVCIPHER (FIPS 197, 5.3). It takes no
@@ -27,5 +27,5 @@ pub fn decrypt16(keys: &LaneKeys, blocks: &mut [[u8; 16]; 16])
 {
     let mut words = words_of(blocks);
     decrypt(keys.round_keys(), &mut words);
-    *blocks = blocks_of(&words);
+    put_blocks(blocks, &words);
 }

@@ -27,7 +27,21 @@ returns g c i h =
     ∙ spread_is (l t) (u t) (byte_at-lt lane s.lower i t) (byte_at-lt lane s.upper i t) in
     let spread : state_bytes lane (record { upper = c.sum.result; lower = c.sum-2.result }) i ≡ columns spread_byte (state_bytes lane s i) =
     rw (
-      upper 0, upper 1, upper 2, upper 3, upper 4, upper 5, upper 6, upper 7,
-      lower 0, lower 1, lower 2, lower 3, lower 4, lower 5, lower 6, lower 7,
+      upper 0,
+      upper 1,
+      upper 2,
+      upper 3,
+      upper 4,
+      upper 5,
+      upper 6,
+      upper 7,
+      lower 0,
+      lower 1,
+      lower 2,
+      lower 3,
+      lower 4,
+      lower 5,
+      lower 6,
+      lower 7,
     ) refl in
     ap mix_columns spread ∙ mix_columns-spread (state_bytes lane s i) (IsBlock-state_bytes lane s i)

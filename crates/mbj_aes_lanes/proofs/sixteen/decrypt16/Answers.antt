@@ -5,6 +5,6 @@ use Rattle.mbj_aes_lanes.proofs.sixteen.decrypt16.Goals as goal
 
 pub returns : goal.returns
 returns c i h =
-    c.blocks_of.ensures i h
+    c.put_blocks.ensures i h
     ∙ c.decrypt.ensures i h
     ∙ ap₂ decipher (c.round_keys.ensures.schedules i h (c.requires i h)) (c.words_of-words.ensures.lanes i h)
