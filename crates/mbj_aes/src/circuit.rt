@@ -261,15 +261,19 @@ pub fn sub_planes<V: Lane8>(q: Octet<V>) -> Octet<V>
 fn inv_affine_layer<V: Lane8>(q: Octet<V>) -> Octet<V>
     ensures { (i t : ℕ) → i < V.LANES → t < 8 → bits_at V.lane result i t ≡ inv_affine_octet (bits_at V.lane q i t) }
 {
+    let a = xor(q.p2, q.p5);
+    let b = xor(q.p0, q.p3);
+    let c = xor(q.p6, q.p1);
+    let d = xor(q.p4, q.p7);
     Octet {
-        p0: not(xor(xor(q.p2, q.p5), q.p7)),
-        p1: xor(xor(q.p3, q.p6), q.p0),
-        p2: not(xor(xor(q.p4, q.p7), q.p1)),
-        p3: xor(xor(q.p5, q.p0), q.p2),
-        p4: xor(xor(q.p6, q.p1), q.p3),
-        p5: xor(xor(q.p7, q.p2), q.p4),
-        p6: xor(xor(q.p0, q.p3), q.p5),
-        p7: xor(xor(q.p1, q.p4), q.p6),
+        p0: not(xor(a, q.p7)),
+        p1: xor(b, q.p6),
+        p2: not(xor(d, q.p1)),
+        p3: xor(a, q.p0),
+        p4: xor(c, q.p3),
+        p5: xor(d, q.p2),
+        p6: xor(b, q.p5),
+        p7: xor(c, q.p4),
     }
 }
 

@@ -1,15 +1,11 @@
 -- Matrices of 16 times 16 bytes, shuffled and transposed.
-use Rattle.std.proofs.Common.{◌≡◌, ℕ, ◌+◌, ◌-◌, ◌*◌, ◌/◌, ◌%◌, ◌^◌, ◌<◌, ◌&&◌, ◌==◌, true, List, [], ◌++◌, length, slice_index, slice_index_or, map, refl, sym, ap, ◌∙◌, arith, inl, inr}
-use Rattle.std.specs.Prelude.{nat_eq, if◌then◌else◌}
-use Rattle.std.specs.List.{range_with_len}
-use Rattle.std.proofs.lemmas.Bool.{eqb-true, cases_lt}
+use Rattle.std.proofs.Common.{◌≡◌, ℕ, ◌+◌, ◌-◌, ◌*◌, ◌/◌, ◌%◌, ◌^◌, ◌<◌, List, [], ◌++◌, length, slice_index, slice_index_or, refl, sym, ap, ◌∙◌, arith, inl, inr}
+use Rattle.std.proofs.lemmas.Bool.{cases_lt}
 use Rattle.std.proofs.lemmas.Grind.{same_number_lists}
 use Rattle.std.proofs.lemmas.List.{get_or_append_left, get_or-append_right}
-use Rattle.mbj_types.specs.Lanes.{lane_at, lane_list, lane_of}
-use Rattle.mbj_types.proofs.LaneLists.{length-lane_list, slice_index-lane_list, length-lane_of, slice_index-lane_of}
-use Rattle.mbj_aes.proofs.ByteCases.{same_at_each}
+use Rattle.mbj_types.specs.Lanes.{lane_at, lane_of}
+use Rattle.mbj_types.proofs.LaneLists.{length-lane_of, slice_index-lane_of}
 use Rattle.mbj_aes_lanes.specs.Planes.Matrix.{row_at, interleaved_at}
-use Rattle.mbj_aes_lanes.proofs.EachOfSixteen.{at_sixteen}
 
 -- ---- two rows side by side
 

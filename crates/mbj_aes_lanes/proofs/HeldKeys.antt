@@ -1,11 +1,11 @@
 -- What the lanes hold after some were put.
 use Rattle.std.proofs.Common.{◌≡◌, ◌≢◌, ℕ, ◌+◌, ◌<◌, Bool, true, false, List, [], length, take, get_or, set, map, replicate, Option, Some, None, refl, sym, ap, subst, ◌∙◌, arith, inl, inr, get_or-set_same, get_or-set_other}
-use Rattle.std.specs.Prelude.{if◌then◌else◌, IsSome, unwrap_or}
+use Rattle.std.specs.Prelude.{IsSome, unwrap_or}
 use Rattle.std.specs.List.{range_with_len}
 use Rattle.std.proofs.lemmas.Bool.{cases_eq}
 use Rattle.std.proofs.lemmas.List.{length-set}
 use Rattle.std.proofs.lemmas.List.FromFn.{fill_by_all, get_or-map-range_with_len, length-map-range_with_len}
-use Rattle.std.proofs.lemmas.Simd.{get_or-replicate, length-replicate}
+use Rattle.std.proofs.lemmas.Simd.{get_or-replicate}
 use Rattle.mbj_types.specs.Lanes.{lane_at}
 use Rattle.mbj_aes_lanes.specs.declared.state.State.{State}
 use Rattle.mbj_aes_lanes.specs.Planes.Keys.{schedule_in, held_lane, held_lanes}

@@ -1,5 +1,5 @@
 -- Eight bytes as a matrix of bits, and the transposed one.
-use Rattle.std.proofs.Common.{◌≡◌, ℕ, ◌^◌, ◌<◌, List, [], ◌∷◌, get_or, refl, sym, ap, ◌∙◌}
+use Rattle.std.proofs.Common.{◌≡◌, ℕ, ◌^◌, ◌<◌, List, [], ◌∷◌, get_or, ap, ◌∙◌}
 use Rattle.mbj_aes.specs.declared.octet.Octet.{Octet}
 use Rattle.mbj_aes.specs.Planes.Gates.{nth_bit}
 use Rattle.mbj_aes.specs.Planes.Bytes.{byte_of, bits_of, across, octet_lane, nth_of}

@@ -1,12 +1,11 @@
 -- Bytes in planes: their sums, their doubles, and those of the rows below.
-use Rattle.std.proofs.Common.{◌≡◌, ℕ, ◌+◌, ◌-◌, ◌*◌, ◌<◌, ◌≤◌, ◌++◌, Bool, true, false, List, [], ◌∷◌, if◌then◌else◌, refl, sym, ap, ap₂, ◌∙◌, arith, inl, inr, bit_xor}
-use Rattle.std.specs.Prelude.{nat_lt}
+use Rattle.std.proofs.Common.{◌≡◌, ℕ, ◌+◌, ◌-◌, ◌<◌, ◌≤◌, ◌++◌, Bool, true, false, List, [], ◌∷◌, if◌then◌else◌, refl, sym, ap, ap₂, ◌∙◌, arith, inl, inr, bit_xor}
 use Rattle.std.proofs.lemmas.Bool.{cases_lt, lt-ltb, le-ltb}
 use Rattle.std.proofs.lemmas.Nat.{xor_lt}
 use Rattle.std.proofs.lemmas.Nat.Bits.{bit_at_above}
 use Rattle.std.proofs.lemmas.List.Elements.{All-append, All-cons, All-nil}
 use lib.Bits.{xor_assoc}
-use Rattle.mbj_types.specs.Aes.{xtime, times, mixed_byte}
+use Rattle.mbj_types.specs.Aes.{xtime, mixed_byte}
 use Rattle.mbj_aes.specs.Bytes.{IsBytes, IsBlock}
 use Rattle.mbj_aes.specs.declared.octet.Octet.{Octet}
 use Rattle.mbj_aes.specs.Planes.Gates.{nth_bit, xor_bits, from_place}

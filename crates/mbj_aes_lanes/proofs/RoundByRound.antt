@@ -1,5 +1,5 @@
 -- CIPHER and INVCIPHER, round by round.
-use Rattle.std.proofs.Common.{◌≡◌, ℕ, suc, ◌+◌, ◌-◌, ◌<◌, ◌≤◌, List, nat_lt, refl, sym, ap, ap₂, ◌∙◌, arith, inl, inr, eq-eqb}
+use Rattle.std.proofs.Common.{◌≡◌, ℕ, suc, ◌+◌, ◌-◌, ◌<◌, ◌≤◌, List, nat_lt, refl, ap, arith, inl, inr, eq-eqb}
 use Rattle.std.specs.Prelude.{nat_eq, if◌then◌else◌}
 use Rattle.std.proofs.lemmas.Bool.{cases_eq, lt-ltb, le-ltb, ne_eqb}
 use Rattle.mbj_types.specs.Blocks.{xor_lists}

@@ -1,9 +1,8 @@
 -- One schedule in all lanes.
 use Rattle.std.proofs.Common.{◌≡◌, ℕ, ◌<◌, ◌≤◌, List, [], ◌++◌, length, take, map, get_or, Option, Some, None, ap, sym, ◌∙◌, arith}
-use Rattle.std.specs.Prelude.{IsSome, unwrap_or}
+use Rattle.std.specs.Prelude.{unwrap_or}
 use Rattle.std.proofs.lemmas.List.{get_or_default, get_or-map, get_or-take, get_or_append_left, length-map, length-take-le, same_lists}
 use Rattle.std.proofs.lemmas.Simd.{get_or-replicate}
-use Rattle.mbj_types.specs.Aes.{encipher}
 use Rattle.mbj_aes_lanes.specs.KeyLanes.{KeyLanes, same_keys, schedule_at}
 
 abbrev no_block : List ℕ

@@ -1,5 +1,5 @@
 -- Turned rows of a plane, computed at each byte.
-use Rattle.std.proofs.Common.{◌≡◌, ℕ, ◌+◌, ◌*◌, ◌/◌, ◌%◌, ◌^◌, ◌<◌, ◌==◌, Bool, true, refl, bit_and, bit_xor}
+use Rattle.std.proofs.Common.{◌≡◌, ℕ, ◌*◌, ◌/◌, ◌%◌, ◌^◌, ◌<◌, ◌==◌, Bool, true, refl, bit_and, bit_xor}
 use Rattle.std.specs.Int.{bit_at}
 use Rattle.std.proofs.lemmas.Bool.{eqb-true}
 use Rattle.mbj_aes.proofs.ByteCases.{at_each, each_below}

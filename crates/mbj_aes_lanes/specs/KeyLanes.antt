@@ -1,5 +1,5 @@
 -- Keys side by side: in each of sixteen lanes the schedule that was put there, or none.
-use Rattle.std.specs.Prelude.{◌≡◌, ℕ, ◌-◌, ◌/◌, ◌<◌, List, [], length, replicate, slice_set, slice_index_or, Option, Some, None, IsSome, unwrap_or}
+use Rattle.std.specs.Prelude.{ℕ, ◌-◌, ◌/◌, ◌<◌, List, [], length, replicate, slice_set, slice_index_or, Option, Some, None, IsSome, unwrap_or}
 
 pub record KeyLanes : Type 0 where
   -- the rounds of each key

@@ -232,13 +232,17 @@ circuit_bits q = bottom_bits (middle_bits (top_bits q)) (top_bits q)
 
 unfoldable pub inv_affine_octet : Octet ℕ → Octet ℕ
 inv_affine_octet q =
+    let a : ℕ = xor_bits q.p2 q.p5 in
+    let b : ℕ = xor_bits q.p0 q.p3 in
+    let c : ℕ = xor_bits q.p6 q.p1 in
+    let d : ℕ = xor_bits q.p4 q.p7 in
     record {
-      p0 = not_bit (xor_bits (xor_bits q.p2 q.p5) q.p7);
-      p1 = xor_bits (xor_bits q.p3 q.p6) q.p0;
-      p2 = not_bit (xor_bits (xor_bits q.p4 q.p7) q.p1);
-      p3 = xor_bits (xor_bits q.p5 q.p0) q.p2;
-      p4 = xor_bits (xor_bits q.p6 q.p1) q.p3;
-      p5 = xor_bits (xor_bits q.p7 q.p2) q.p4;
-      p6 = xor_bits (xor_bits q.p0 q.p3) q.p5;
-      p7 = xor_bits (xor_bits q.p1 q.p4) q.p6;
+      p0 = not_bit (xor_bits a q.p7);
+      p1 = xor_bits b q.p6;
+      p2 = not_bit (xor_bits d q.p1);
+      p3 = xor_bits a q.p0;
+      p4 = xor_bits c q.p3;
+      p5 = xor_bits d q.p2;
+      p6 = xor_bits b q.p5;
+      p7 = xor_bits c q.p4;
     }

@@ -1,5 +1,5 @@
 -- Round keys in bit planes.
-use Rattle.std.specs.Prelude.{ℕ, zero, suc, ◌+◌, Bool, false, List, map, slice_index, slice_index_or, take, Option, Some, None, if◌then◌else◌}
+use Rattle.std.specs.Prelude.{ℕ, ◌+◌, Bool, false, List, map, slice_index, slice_index_or, take, Option, Some, None, if◌then◌else◌}
 use Rattle.std.specs.List.{flat_map, range_with_len}
 use Rattle.mbj_types.specs.Lanes.{lane_at}
 use Rattle.mbj_aes.specs.declared.octet.Octet.{Octet}

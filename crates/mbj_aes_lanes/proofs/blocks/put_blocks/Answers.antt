@@ -1,5 +1,5 @@
 -- The rows of the transposed matrix are its columns, lane by lane.
-use Rattle.std.proofs.Common.{◌≡◌, ◌≢◌, ℕ, ◌<◌, List, [], length, get_or, sym, ◌∙◌, arith, below_more, get_or-set_same, get_or-set_other}
+use Rattle.std.proofs.Common.{◌≢◌, ℕ, ◌<◌, List, [], length, get_or, sym, ◌∙◌, arith, below_more, get_or-set_same, get_or-set_other}
 use Rattle.std.proofs.lemmas.List.{length-set}
 use Rattle.mbj_types.specs.Lanes.{lane_at, lane_list}
 use Rattle.mbj_types.proofs.LaneLists.{length-lane_list, slice_index-lane_list}

@@ -1,5 +1,5 @@
 -- Each row is half of two rows in turn.
-use Rattle.std.proofs.Common.{◌≡◌, ℕ, ◌+◌, ◌*◌, ◌/◌, ◌%◌, ◌<◌, List, [], ◌∷◌, ◌∙◌, refl, arith}
+use Rattle.std.proofs.Common.{◌≡◌, ℕ, ◌+◌, ◌*◌, ◌/◌, ◌%◌, List, [], ◌∷◌, ◌∙◌, arith}
 use Rattle.mbj_aes_lanes.specs.Planes.Matrix.{row_at}
 use Rattle.mbj_aes_lanes.proofs.EachOfSixteen.{at_sixteen}
 use Rattle.mbj_aes_lanes.proofs.ByteMatrices.{interleaved_rows}

@@ -1,5 +1,5 @@
 -- The sixteen bytes, each with that of the key.
-use Rattle.std.proofs.Common.{◌≡◌, refl}
+use Rattle.std.proofs.Common.{refl}
 use Rattle.mbj_aes_lanes.proofs.columns.add_round_key.Goals as goal
 
 pub returns : goal.returns

@@ -1,5 +1,5 @@
 -- The sixteen bytes, each mixed with the three below it.
-use Rattle.std.proofs.Common.{◌≡◌, refl, arith}
+use Rattle.std.proofs.Common.{refl, arith}
 use Rattle.mbj_aes_lanes.proofs.columns.mix_columns.Goals as goal
 
 pub returns : goal.returns

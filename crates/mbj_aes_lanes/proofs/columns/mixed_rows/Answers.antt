@@ -1,5 +1,4 @@
 -- Twice the sum of two bytes is twice the one and twice the other.
-use Rattle.std.proofs.Common.{◌≡◌}
 use Rattle.mbj_aes.proofs.Octets.{byte_at-lt}
 use Rattle.mbj_aes_lanes.proofs.PlaneBytes.{mixed_byte-sums}
 use Rattle.mbj_aes_lanes.proofs.columns.mixed_rows.Goals as goal

@@ -1,5 +1,4 @@
 -- Each plane has the bits of the same rows.
-use Rattle.std.proofs.Common.{◌≡◌}
 use Rattle.std.specs.Prelude.{nat_lt}
 use Rattle.mbj_aes.specs.Planes.Bytes.{octet_lane, byte_at}
 use Rattle.mbj_aes_lanes.proofs.PlaneBytes.{rows_between-bytes}

@@ -1,5 +1,4 @@
 -- The second row moves down, and the first one moves up.
-use Rattle.std.proofs.Common.{◌≡◌}
 use Rattle.mbj_aes_lanes.proofs.PlaneBytes.{rows_between-bits}
 use Rattle.mbj_aes_lanes.proofs.columns.second_and_first.Goals as goal
 

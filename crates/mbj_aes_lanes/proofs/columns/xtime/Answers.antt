@@ -1,5 +1,4 @@
 -- The bits of the product by x.
-use Rattle.std.proofs.Common.{◌≡◌}
 use Rattle.mbj_aes.specs.Planes.Bytes.{bits_at, byte_at}
 use Rattle.mbj_aes.proofs.Octets.{AreBits-across}
 use Rattle.mbj_aes_lanes.proofs.PlaneBytes.{byte_of-xtime}

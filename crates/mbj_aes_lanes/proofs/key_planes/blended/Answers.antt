@@ -1,5 +1,4 @@
 -- Computed at each pair of bytes.
-use Rattle.std.proofs.Common.{◌≡◌}
 use Rattle.mbj_types.specs.Lanes.{lane_at, lane_at-lt}
 use Rattle.mbj_aes_lanes.proofs.Blends.{under_mask, beside_mask}
 use Rattle.mbj_aes_lanes.proofs.key_planes.blended.Goals as goal

@@ -1,5 +1,5 @@
 -- The round keys before the next one are written in each lane.
-use Rattle.std.proofs.Common.{◌≡◌, ℕ, ◌<◌, length}
+use Rattle.std.proofs.Common.{ℕ, ◌<◌}
 use Rattle.mbj_types.specs.Lanes.{lane_at}
 use Rattle.mbj_aes_lanes.proofs.WrittenKeys.{IsWritten}
 use Rattle.mbj_aes_lanes.proofs.key_planes.write_all_lanes.Given as goal

@@ -1,5 +1,5 @@
 -- One round key more is written in each turn, and at the end all are.
-use Rattle.std.proofs.Common.{◌≡◌, ◌≢◌, ℕ, length, refl, ap, ◌∙◌, arith, take}
+use Rattle.std.proofs.Common.{◌≡◌, ℕ, length, refl, ap, ◌∙◌, arith, take}
 use Rattle.std.specs.List.{flat_map}
 use Rattle.std.proofs.lemmas.List.{get_or_default}
 use Rattle.mbj_types.specs.Lanes.{lane_at}

@@ -1,5 +1,5 @@
 -- In each lane, undoing the rounds that are left gives the deciphered block.
-use Rattle.std.proofs.Common.{◌≡◌, ℕ, ◌<◌, ◌-◌, ◌/◌, length}
+use Rattle.std.proofs.Common.{◌≡◌, ℕ, ◌<◌, ◌-◌, length}
 use Rattle.mbj_types.specs.Aes.{inv_cipher}
 use Rattle.mbj_types.specs.Lanes.{lane_of}
 use Rattle.mbj_aes_lanes.specs.Planes.State.{state_bytes}

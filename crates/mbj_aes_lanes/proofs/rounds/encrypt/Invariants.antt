@@ -1,5 +1,5 @@
 -- In each lane the rounds before the next one are done.
-use Rattle.std.proofs.Common.{◌≡◌, ℕ, ◌<◌, ◌-◌, ◌/◌, length}
+use Rattle.std.proofs.Common.{◌≡◌, ℕ, ◌<◌, ◌-◌, length}
 use Rattle.mbj_types.specs.Lanes.{lane_of}
 use Rattle.mbj_aes_lanes.specs.Planes.State.{state_bytes}
 use Rattle.mbj_aes_lanes.specs.Planes.Keys.{schedule_in}

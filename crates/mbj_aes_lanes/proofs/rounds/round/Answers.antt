@@ -1,7 +1,7 @@
 -- The steps, one after another.
-use Rattle.std.proofs.Common.{◌≡◌, List, ℕ, ap, ◌∙◌}
+use Rattle.std.proofs.Common.{List, ℕ, ap, ◌∙◌}
 use Rattle.mbj_types.specs.Blocks.{xor_lists}
-use Rattle.mbj_types.specs.Aes.{sub_bytes, shift_rows, mix_columns}
+use Rattle.mbj_types.specs.Aes.{shift_rows, mix_columns}
 use Rattle.mbj_aes_lanes.specs.Planes.State.{state_bytes}
 use Rattle.mbj_aes_lanes.proofs.rounds.round.Goals as goal
 use Rattle.mbj_aes_lanes.proofs.rounds.round.Goals.{then-is_last, else-is_last}

@@ -1,5 +1,5 @@
 -- The steps undone, one after another.
-use Rattle.std.proofs.Common.{◌≡◌, ap, ◌∙◌}
+use Rattle.std.proofs.Common.{ap, ◌∙◌}
 use Rattle.mbj_types.specs.Aes.{inv_sub_bytes, inv_shift_rows, inv_mix_columns}
 use Rattle.mbj_aes_lanes.specs.Planes.State.{state_bytes}
 use Rattle.mbj_aes_lanes.proofs.rounds.undone_round.Goals as goal

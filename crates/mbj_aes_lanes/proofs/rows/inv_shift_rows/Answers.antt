@@ -1,5 +1,5 @@
 -- The sixteen bytes, each from its place.
-use Rattle.std.proofs.Common.{◌≡◌, refl, arith}
+use Rattle.std.proofs.Common.{refl, arith}
 use Rattle.mbj_aes_lanes.proofs.rows.inv_shift_rows.Goals as goal
 
 pub returns : goal.returns

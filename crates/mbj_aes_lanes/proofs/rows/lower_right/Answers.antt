@@ -1,5 +1,4 @@
 -- Computed at each byte.
-use Rattle.std.proofs.Common.{◌≡◌}
 use Rattle.mbj_aes_lanes.proofs.TurnedRows.{lower_right_is}
 use Rattle.mbj_aes_lanes.proofs.rows.lower_right.Goals as goal
 

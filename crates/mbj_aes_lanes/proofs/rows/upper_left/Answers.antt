@@ -1,5 +1,4 @@
 -- Computed at each byte.
-use Rattle.std.proofs.Common.{◌≡◌}
 use Rattle.mbj_aes_lanes.proofs.TurnedRows.{upper_left_is}
 use Rattle.mbj_aes_lanes.proofs.rows.upper_left.Goals as goal
 

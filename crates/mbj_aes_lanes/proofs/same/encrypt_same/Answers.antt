@@ -1,5 +1,5 @@
 -- The blocks go through the first lanes, all of which have the same schedule.
-use Rattle.std.proofs.Common.{◌≡◌, ℕ, List, [], length, drop, replicate, get_or, ◌++◌, ap₂, ◌∙◌}
+use Rattle.std.proofs.Common.{ℕ, List, [], length, drop, replicate, get_or, ◌++◌, ap₂, ◌∙◌}
 use Rattle.mbj_types.specs.Aes.{encipher}
 use Rattle.mbj_aes_lanes.proofs.SameKeys.{schedule_at-same, first-changed}
 use Rattle.mbj_aes_lanes.proofs.same.encrypt_same.Goals as goal

@@ -1,5 +1,5 @@
 -- Each block goes through its own lane.
-use Rattle.std.proofs.Common.{◌≡◌, ap₂, ◌∙◌}
+use Rattle.std.proofs.Common.{ap₂, ◌∙◌}
 use Rattle.mbj_types.specs.Aes.{encipher}
 use Rattle.mbj_aes_lanes.proofs.sixteen.encrypt16.Goals as goal
 

@@ -1,5 +1,5 @@
 -- The sixteen bytes, each substituted.
-use Rattle.std.proofs.Common.{◌≡◌, refl, arith}
+use Rattle.std.proofs.Common.{refl, arith}
 use Rattle.mbj_aes_lanes.proofs.substitution.inv_sub_bytes.Goals as goal
 
 pub returns : goal.returns

@@ -1,8 +1,7 @@
 -- Each bit is followed through three exchanges.
-use Rattle.std.proofs.Common.{◌≡◌, ℕ, ◌<◌, List, [], ◌∷◌, refl, arith}
-use Rattle.mbj_aes.specs.Planes.Gates.{nth_bit}
-use Rattle.mbj_aes.specs.Planes.Bytes.{bits_of, across, octet_lane, nth_of}
-use Rattle.mbj_aes_lanes.proofs.Matrices.{rows_across, rows_of, by_rows}
+use Rattle.std.proofs.Common.{◌<◌, arith}
+use Rattle.mbj_aes.specs.Planes.Bytes.{octet_lane}
+use Rattle.mbj_aes_lanes.proofs.Matrices.{by_rows}
 use Rattle.mbj_aes_lanes.proofs.transposition.mirrored.Goals as goal
 
 pub returns : goal.returns

@@ -1,6 +1,6 @@
 -- The bytes of the one are those across the other.
-use Rattle.std.proofs.Common.{◌≡◌, ℕ, ◌<◌, sym}
-use Rattle.mbj_aes.specs.Planes.Bytes.{octet_lane, nth_of, byte_at}
+use Rattle.std.proofs.Common.{sym}
+use Rattle.mbj_aes.specs.Planes.Bytes.{octet_lane, byte_at}
 use Rattle.mbj_aes_lanes.proofs.Matrices.{byte_of-across, nth_of-lt}
 use Rattle.mbj_aes_lanes.proofs.transposition.transposed.Goals as goal
 

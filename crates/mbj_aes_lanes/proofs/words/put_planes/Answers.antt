@@ -1,5 +1,5 @@
 -- Lane by lane the sixteen words are the planes.
-use Rattle.std.proofs.Common.{◌≡◌, ap}
+use Rattle.std.proofs.Common.{ap}
 use Rattle.mbj_aes.specs.Planes.Bytes.{byte_at}
 use Rattle.mbj_aes_lanes.specs.Planes.Keys.{unplaned}
 use Rattle.mbj_aes_lanes.proofs.LaneWords.{lane_of-written}

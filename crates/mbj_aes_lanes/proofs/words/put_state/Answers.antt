@@ -1,5 +1,5 @@
 -- The sixteen bytes, each written at its place.
-use Rattle.std.proofs.Common.{◌≡◌, refl, ◌∙◌, arith}
+use Rattle.std.proofs.Common.{refl, ◌∙◌, arith}
 use Rattle.mbj_aes_lanes.proofs.LaneWords.{lane_of-written}
 use Rattle.mbj_aes_lanes.proofs.words.put_state.Goals as goal
 

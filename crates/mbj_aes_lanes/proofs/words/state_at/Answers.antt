@@ -1,5 +1,5 @@
 -- The sixteen bytes, each read at its place.
-use Rattle.std.proofs.Common.{◌≡◌, ℕ, ◌+◌, ◌<◌, ◌≤◌, List, length, take, drop, ap, ◌∙◌, arith}
+use Rattle.std.proofs.Common.{◌≡◌, ℕ, ◌+◌, ◌<◌, List, length, take, drop, ap, ◌∙◌, arith}
 use Rattle.mbj_types.specs.Lanes.{lane_of}
 use Rattle.mbj_types.proofs.LaneLists.{length-lane_of}
 use Rattle.mbj_aes.specs.Planes.Bytes.{byte_at, nth_of}

@@ -1,5 +1,5 @@
 -- Each lane word, read at its place.
-use Rattle.std.proofs.Common.{◌≡◌, ℕ, ◌+◌, ◌<◌, length, refl, arith}
+use Rattle.std.proofs.Common.{ℕ, ◌+◌, refl, arith}
 use Rattle.mbj_types.proofs.LaneLists.{lane_read}
 use Rattle.mbj_aes_lanes.proofs.words.two_rows.Goals as goal
 

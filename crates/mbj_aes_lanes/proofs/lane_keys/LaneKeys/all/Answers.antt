@@ -1,7 +1,6 @@
 -- Each lane has the schedule.
-use Rattle.std.proofs.Common.{◌≡◌, ℕ, ◌+◌, ◌-◌, ◌*◌, ◌/◌, List, ◌++◌, length, drop, take, replicate, Option, Some, ap₂, ◌∙◌, arith}
+use Rattle.std.proofs.Common.{◌≡◌, ℕ, ◌+◌, List, ◌++◌, length, drop, take, ap₂, ◌∙◌, arith}
 use Rattle.std.proofs.lemmas.List.{length-take-le}
-use Rattle.mbj_aes_lanes.specs.KeyLanes.{KeyLanes}
 use Rattle.mbj_aes_lanes.proofs.HeldKeys.{held_lanes-all}
 use Rattle.mbj_aes_lanes.proofs.KeySchedules.{schedule_in-written}
 use Rattle.mbj_aes_lanes.proofs.lane_keys.LaneKeys.all.Goals as goal
