@@ -118,11 +118,12 @@ pub fn words_of(blocks: &[[u8; 16]; 16]) -> [u8x16; 16]
 
 /// Writes the sixteen blocks of these lane words.
 #[inline(always)]
-pub fn put_blocks(blocks: &mut [[u8; 16]; 16], words: &[u8x16; 16])
-    ensures { (i : ℕ) → i < 16 → slice_index_or blocks.new i [] ≡ lane_of (lane_at 8) words.now i }
+pub fn put_blocks(to: &mut [[u8; 16]; 16], words: &[u8x16; 16])
+    ensures bytes { (i : ℕ) → i < 16 → slice_index_or to.new i [] ≡ lane_of (lane_at 8) words.now i }
+    ensures lengths { (i : ℕ) → i < 16 → length (slice_index_or to.new i []) ≡ 16 }
 {
     let rows = transposed(words);
     'rows: for i in 0..16 {
-        blocks[i] = block_of(rows[i]);
+        to[i] = block_of(rows[i]);
     }
 }

@@ -1,4 +1,5 @@
 ghost use Rattle.std.specs.Prelude.{◌≡◌, ◌≤◌, length, map};
+ghost use Rattle.std.specs.List.{All};
 ghost use Rattle.mbj_types.specs.Aes.{encipher};
 ghost use Rattle.mbj_types.specs.Blocks.{xor_lists};
 
@@ -11,7 +12,8 @@ use mbj_types::{BLOCK_BYTES, xor_in_place};
 /// better served by `LaneKeys::all` and `encrypt16`, since each call of this one transposes the key.
 pub fn encrypt_same(key: &Schedule, blocks: &mut [[u8; 16]])
     requires { length blocks.old ≤ 16 }
-    ensures { blocks.new ≡ map (encipher key.now) blocks.old }
+    ensures each { blocks.new ≡ map (encipher key.now) blocks.old }
+    ensures lengths { All (λ b. length b ≡ 16) blocks.new }
 {
     let many = blocks.len();
     let mut lanes = [[0; BLOCK_BYTES]; 16];

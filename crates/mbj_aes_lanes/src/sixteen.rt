@@ -1,4 +1,4 @@
-ghost use Rattle.std.specs.Prelude.{◌≡◌, ℕ, ◌<◌, [], slice_index_or};
+ghost use Rattle.std.specs.Prelude.{◌≡◌, ℕ, ◌<◌, [], length, slice_index_or};
 ghost use Rattle.mbj_types.specs.Aes.{encipher, decipher};
 ghost use Rattle.mbj_aes_lanes.specs.KeyLanes.{IsFull, schedule_at};
 
@@ -10,8 +10,9 @@ use crate::rounds::{decrypt, encrypt};
 /// memory.
 pub fn encrypt16(keys: &LaneKeys, blocks: &mut [[u8; 16]; 16])
     requires { IsFull keys.now }
-    ensures { (i : ℕ) → i < 16 → slice_index_or blocks.new i []
+    ensures each { (i : ℕ) → i < 16 → slice_index_or blocks.new i []
         ≡ encipher (schedule_at keys.now i) (slice_index_or blocks.old i []) }
+    ensures lengths { (i : ℕ) → i < 16 → length (slice_index_or blocks.new i []) ≡ 16 }
 {
     let mut words = words_of(blocks);
     encrypt(keys.round_keys(), &mut words);
@@ -22,8 +23,9 @@ pub fn encrypt16(keys: &LaneKeys, blocks: &mut [[u8; 16]; 16])
 /// memory.
 pub fn decrypt16(keys: &LaneKeys, blocks: &mut [[u8; 16]; 16])
     requires { IsFull keys.now }
-    ensures { (i : ℕ) → i < 16 → slice_index_or blocks.new i []
+    ensures each { (i : ℕ) → i < 16 → slice_index_or blocks.new i []
         ≡ decipher (schedule_at keys.now i) (slice_index_or blocks.old i []) }
+    ensures lengths { (i : ℕ) → i < 16 → length (slice_index_or blocks.new i []) ≡ 16 }
 {
     let mut words = words_of(blocks);
     decrypt(keys.round_keys(), &mut words);

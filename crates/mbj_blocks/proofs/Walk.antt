@@ -44,6 +44,11 @@ around text ys i h l =
       | inr whole ↦ (take_at done left (16 * (i + 1)) (omega arith), drop_at done left (16 * (i + 1)) (omega arith))
     ]
 
+-- what follows block i stays when that block becomes ys, which is as long
+pub drop-with_block : (text ys after : List ℕ) (i : ℕ) → 16 * i < length text → length ys ≡ min 16 (length text - 16 * i)
+    → after ≡ with_block text i ys → drop (16 * (i + 1)) after ≡ drop (16 * (i + 1)) text
+drop-with_block text ys after i h l e = ap (drop (16 * (i + 1))) e ∙ (around text ys i h l).1
+
 -- block i becomes ys, which is as long: what rest made of it and the others, next makes of the others
 pub walk_step : (rest next : List (List ℕ) → List (List ℕ)) (text ys after whole : List ℕ) (i : ℕ) → 16 * i < length text
     → length ys ≡ min 16 (length text - 16 * i) → ((bs : List (List ℕ)) → rest (block_of text i ∷ bs) ≡ ys ∷ next bs)
@@ -66,3 +71,13 @@ walk_xor rest next text mask after whole i h m s e w =
     let size : length block ≡ min 16 (length text - 16 * i) = length-block_of text i in
     walk_step rest next text (xor_lists block mask) after whole i h (length-xor_lists block mask (omega arith) ∙ size)
     (s block) e w
+
+-- a walk that is at its end stays there
+pub walk_over : (rest next : List (List ℕ) → List (List ℕ)) (text whole : List ℕ) (i j : ℕ) → rest [] ≡ [] → next [] ≡ []
+    → length text ≤ 16 * i → length text ≤ 16 * j → Walked rest text i whole → Walked next text j whole
+walk_over rest next text whole i j e f h k w =
+    let none : blocks (drop (16 * j) text) ≡ [] = ap blocks (drop_all (16 * j) text k) ∙ blocks-nil [] refl in
+    ap₂ (λ xs bs. xs ++ concat (next bs)) (take_all (16 * j) text k) none
+    ∙ ap (λ bs. text ++ concat bs) f
+    ∙ append-nil text
+    ∙ walk_end rest text whole i e h w

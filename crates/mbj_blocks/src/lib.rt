@@ -1,13 +1,11 @@
 //! The blocks of 16 bytes of a text, numbered from 0 on, of which the last may be shorter: reading one, putting one in
-//! its place, xoring one with a mask, and the step from block to block of CBC encryption. No call takes memory.
+//! its place, and xoring one with a mask. No call takes memory.
 #![tactic(auto)]
 
 ghost use Rattle.std.specs.Prelude.{◌≡◌, ◌+◌, ◌*◌, ◌<◌, ◌≤◌, length};
-ghost use Rattle.mbj_types.specs.Aes.{encipher};
 ghost use Rattle.mbj_types.specs.Blocks.{xor_lists, filled_block};
 ghost use Rattle.mbj_blocks.specs.Places.{block_of, with_block};
 
-use mbj_aes::Schedule;
 use mbj_types::{BLOCK_BYTES, xor_in_place};
 
 #[cfg(test)]
@@ -39,8 +37,13 @@ pub fn xor_block(text: &mut [u8], i: usize, mask: &[u8; 16])
     ensures { text.new ≡ with_block text.old i (xor_lists (block_of text.old i) mask.now) }
 {
     let start = BLOCK_BYTES * i;
-    let end = (start + BLOCK_BYTES).min(text.len());
-    xor_in_place(&mut text[start..end], mask);
+    if text.len() - start >= BLOCK_BYTES {
+        let mut block = block_at(text, i);
+        xor_in_place(&mut block, mask);
+        put_block(text, i, &block);
+    } else {
+        xor_in_place(&mut text[start..], mask);
+    }
 }
 
 /// A part of a block, of at most 16 bytes, with zero bytes behind it.
@@ -51,14 +54,4 @@ pub fn filled_block(part: &[u8]) -> [u8; 16]
     let mut block = [0; BLOCK_BYTES];
     block[..part.len()].copy_from_slice(part);
     block
-}
-
-/// The block that follows `chain` in CBC encryption (SP 800-38A, 6.2): `block` xored with `chain`, and enciphered.
-pub fn chained(key: &Schedule, chain: &[u8; 16], block: &[u8; 16]) -> [u8; 16]
-    ensures { result ≡ encipher key.now (xor_lists block.now chain.now) }
-{
-    let mut next = *block;
-    xor_in_place(&mut next, chain);
-    key.encrypt(&mut next);
-    next
 }

@@ -17,14 +17,3 @@ fn a_text_of_20_bytes_has_a_whole_block_and_one_of_4_bytes(rt: HostRuntime) {
         [0xf0, 0xf0, 0x1e, 0, 0, 0, 0, 0, 0, 0, 0, 0, 0, 0, 0, 0]
     );
 }
-
-// The block and the chaining value cancel, which leaves the zero block, enciphered under the zero key.
-#[test]
-fn a_block_is_xored_with_the_chaining_value(rt: HostRuntime) {
-    let key = Schedule::expand(&[0; 16]);
-    let block = chained(&key, &[0x3c; BLOCK_BYTES], &[0x3c; BLOCK_BYTES]);
-    assert_eq!(rt;
-        u128::from_be_bytes(block),
-        0x66e94bd4ef8a2c3b884cfa59ca342b2e
-    );
-}

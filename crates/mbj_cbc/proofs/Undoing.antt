@@ -9,7 +9,8 @@ use Rattle.mbj_aes.specs.Bytes.{IsBlock, IsKey}
 use Rattle.mbj_aes.proofs.AesLaws.{decryption_undoes, encryption_keeps}
 use Rattle.mbj_types.proofs.XorLists.{xor_lists_twice}
 use Rattle.mbj_aes.proofs.XorLists.{IsBlock-xor_lists}
-use Rattle.mbj_blocks.proofs.Blocks.{concat-blocks, blocks-concat, All-blocks}
+use Rattle.mbj_blocks.proofs.Blocks.{concat-blocks}
+use Rattle.mbj_cbc.proofs.WholeBlocks.{blocks-concat, All-blocks}
 use Rattle.mbj_cbc.specs.Laws.{DecryptionUndoesCbc}
 
 -- the ciphertext of one block is a block

@@ -3,6 +3,7 @@ ghost use Rattle.mbj_types.specs.Aes.{encipher};
 ghost use Rattle.mbj_types.specs.Cmac.{doubled_number, doubled, first_subkey, second_subkey, closed_block};
 
 use mbj_aes::Schedule;
+use mbj_aes_lanes::encrypt_same;
 use mbj_blocks::filled_block;
 use mbj_types::{BLOCK_BYTES, xor_in_place};
 
@@ -35,9 +36,9 @@ fn doubled(block: &[u8; 16]) -> [u8; 16]
 fn first_subkey(key: &Schedule) -> [u8; 16]
     ensures { result ≡ first_subkey (encipher key.now) }
 {
-    let mut block = [0; BLOCK_BYTES];
-    key.encrypt(&mut block);
-    doubled(&block)
+    let mut blocks = [[0; BLOCK_BYTES]];
+    encrypt_same(key, &mut blocks);
+    doubled(&blocks[0])
 }
 
 // K2 (SP 800-38B, 6.1).

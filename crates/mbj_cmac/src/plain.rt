@@ -4,7 +4,8 @@ ghost use Rattle.mbj_types.specs.Cmac.{cmac};
 
 use crate::closing::closed_block;
 use mbj_aes::Schedule;
-use mbj_blocks::{block_at, chained};
+use mbj_aes_lanes::chained;
+use mbj_blocks::block_at;
 use mbj_types::BLOCK_BYTES;
 
 /// The CMAC of a message of any length, which may be 0 (SP 800-38B, 6.2): its 16 bytes, of which a shorter tag is the

@@ -1,16 +1,21 @@
 //! CTR with AES (SP 800-38A, 6.5) on a text in place, with counters of 128 bits. No call takes memory.
 #![tactic(auto)]
 
-ghost use Rattle.std.specs.Prelude.{◌≡◌, ◌⊎◌, length};
+ghost use Rattle.std.specs.Prelude.{◌≡◌, ◌⊎◌, ℕ, ◌+◌, ◌%◌, ◌^◌, ◌<◌, [], length, slice_index_or};
+ghost use Rattle.std.specs.Int.{w128, to_be_bytes};
 ghost use Rattle.mbj_types.specs.Aes.{encipher};
 ghost use Rattle.mbj_types.specs.Modes.{first_counter, ctr_text};
 
 use mbj_aes::Schedule;
+use mbj_aes_lanes::{LaneKeys, encrypt16};
 use mbj_blocks::xor_block;
 use mbj_types::BLOCK_BYTES;
 
 #[cfg(test)]
 mod tests;
+
+// The blocks that are enciphered at once.
+const LANES: usize = 16;
 
 // The number of the block with which an IV of 12 bytes begins.
 const FIRST_BLOCK_NUMBER: u8 = 1;
@@ -26,6 +31,17 @@ fn first_counter(iv: &[u8]) -> u128
     u128::from_be_bytes(first)
 }
 
+// The counter blocks from `counter` on.
+fn counter_blocks(counter: u128) -> [[u8; 16]; 16]
+    ensures { (j : ℕ) → j < 16 → slice_index_or result j [] ≡ to_be_bytes w128 ((counter + j) % 2 ^ 128) }
+{
+    let mut counters = [[0; BLOCK_BYTES]; LANES];
+    'each: for j in 0..LANES {
+        counters[j] = counter.wrapping_add(j as u128).to_be_bytes();
+    }
+    counters
+}
+
 /// Encrypts or decrypts a text in place by CTR (SP 800-38A, 6.5), which is the same map: each block of 16 bytes is
 /// xored with its enciphered counter, and the last one, which may be shorter, with as many bytes of it.
 ///
@@ -35,11 +51,16 @@ pub fn apply(key: &Schedule, iv: &[u8], text: &mut [u8])
     requires { (length iv.now ≡ 12) ⊎ (length iv.now ≡ 16) }
     ensures { text.new ≡ ctr_text (encipher key.now) iv.now text.old }
 {
+    let keys = LaneKeys::all(key);
+    let many = text.len().div_ceil(BLOCK_BYTES);
     let mut counter = first_counter(iv);
-    'applying: for i in 0..text.len().div_ceil(BLOCK_BYTES) {
-        let mut mask = counter.to_be_bytes();
-        key.encrypt(&mut mask);
-        xor_block(text, i, &mask);
-        counter = counter.wrapping_add(1);
+    'batches: for b in 0..many.div_ceil(LANES) {
+        let mut masks = counter_blocks(counter);
+        encrypt16(&keys, &mut masks);
+        let first = LANES * b;
+        'each: for j in 0..(many - first).min(LANES) {
+            xor_block(text, first + j, &masks[j]);
+        }
+        counter = counter.wrapping_add(LANES as u128);
     }
 }

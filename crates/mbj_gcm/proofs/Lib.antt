@@ -1,2 +1,3 @@
 mod Counters
 mod Undoing
+pub mod RisenCounters

@@ -1,12 +1,14 @@
-ghost use Rattle.std.specs.Prelude.{◌≡◌, [], ◌∷◌, ◌++◌, length, replicate};
+ghost use Rattle.std.specs.Prelude.{◌≡◌, ℕ, ◌+◌, ◌<◌, [], ◌∷◌, ◌++◌, length, replicate, slice_index_or};
 ghost use Rattle.std.specs.List.{concat};
 ghost use Rattle.mbj_types.specs.Aes.{encipher};
 ghost use Rattle.mbj_types.specs.Blocks.{blocks};
 ghost use Rattle.mbj_types.specs.Ghash.{ghash, filled_blocks};
 ghost use Rattle.mbj_types.specs.Gcm.{bit_length, gctr, inc32, pre_counter_block};
+ghost use Rattle.mbj_gcm.specs.Counting.Risen.{risen};
 
 use crate::hash::hash_of_parts;
 use mbj_aes::Schedule;
+use mbj_aes_lanes::{LaneKeys, encrypt16};
 use mbj_blocks::xor_block;
 use mbj_types::BLOCK_BYTES;
 
@@ -16,17 +18,33 @@ const COUNTER_IV_BYTES: usize = 12;
 // The bytes of the number that follows it, the highest first.
 const NUMBER_BYTES: usize = 4;
 
+// The blocks that are enciphered at once.
+const LANES: usize = 16;
+
 // The number of the counter block before the first one of the text.
 const PRE_COUNTER_NUMBER: u8 = 1;
 
-// The number rises by 1 modulo 2^32, and the bytes before it stay (SP 800-38D, 6.2).
-fn inc32(block: &mut [u8; 16])
-    ensures { block.new ≡ inc32 block.old }
+// The number rises by `by` modulo 2^32, and the bytes before it stay (SP 800-38D, 6.2).
+fn risen(block: &[u8; 16], by: u32) -> [u8; 16]
+    ensures { result ≡ risen block.now by }
 {
     let mut number = [0; NUMBER_BYTES];
     number.copy_from_slice(&block[COUNTER_IV_BYTES..]);
-    let next = u32::from_be_bytes(number).wrapping_add(1);
-    block[COUNTER_IV_BYTES..].copy_from_slice(&next.to_be_bytes());
+    let next = u32::from_be_bytes(number).wrapping_add(by);
+    let mut risen = *block;
+    risen[COUNTER_IV_BYTES..].copy_from_slice(&next.to_be_bytes());
+    risen
+}
+
+// The counter blocks after `counter`.
+fn counters_after(counter: &[u8; 16]) -> [[u8; 16]; 16]
+    ensures { (j : ℕ) → j < 16 → slice_index_or result j [] ≡ risen counter.now (j + 1) }
+{
+    let mut counters = [[0; BLOCK_BYTES]; LANES];
+    'each: for j in 0..LANES {
+        counters[j] = risen(counter, j as u32 + 1);
+    }
+    counters
 }
 
 // An IV of 12 bytes, and the number 1 in 4 bytes.
@@ -67,11 +85,16 @@ pub fn pre_counter_block(subkey: &[u8; 16], iv: &[u8]) -> [u8; 16]
 pub fn xor_key_stream(key: &Schedule, pre_counter: &[u8; 16], text: &mut [u8])
     ensures { text.new ≡ concat (gctr (encipher key.now) (inc32 pre_counter.now) (blocks text.old)) }
 {
+    let keys = LaneKeys::all(key);
+    let many = text.len().div_ceil(BLOCK_BYTES);
     let mut counter = *pre_counter;
-    'xoring: for i in 0..text.len().div_ceil(BLOCK_BYTES) {
-        inc32(&mut counter);
-        let mut mask = counter;
-        key.encrypt(&mut mask);
-        xor_block(text, i, &mask);
+    'batches: for b in 0..many.div_ceil(LANES) {
+        let mut masks = counters_after(&counter);
+        encrypt16(&keys, &mut masks);
+        let first = LANES * b;
+        'each: for j in 0..(many - first).min(LANES) {
+            xor_block(text, first + j, &masks[j]);
+        }
+        counter = risen(&counter, LANES as u32);
     }
 }

@@ -5,6 +5,7 @@ ghost use Rattle.mbj_types.specs.Ghash.{ghash, filled_blocks};
 ghost use Rattle.mbj_types.specs.Gcm.{bit_length};
 
 use mbj_aes::Schedule;
+use mbj_aes_lanes::encrypt_same;
 use mbj_ghash::Ghash;
 use mbj_types::{BLOCK_BYTES, xor_in_place};
 
@@ -18,9 +19,9 @@ const BIT_LENGTH_BYTES: usize = 8;
 pub fn hash_subkey(key: &Schedule) -> [u8; 16]
     ensures { result ≡ encipher key.now zero_block }
 {
-    let mut subkey = [0; BLOCK_BYTES];
-    key.encrypt(&mut subkey);
-    subkey
+    let mut blocks = [[0; BLOCK_BYTES]];
+    encrypt_same(key, &mut blocks);
+    blocks[0]
 }
 
 // The bit length of a part, modulo 2^64.
@@ -66,8 +67,9 @@ pub fn tag(
         result ≡ xor_lists (encipher key.now pre_counter.now)
         (ghash subkey.now (filled_blocks aad.now ++ filled_blocks ciphertext.now ++ lengths ∷ [])) }
 {
-    let mut tag = *pre_counter;
-    key.encrypt(&mut tag);
+    let mut blocks = [*pre_counter];
+    encrypt_same(key, &mut blocks);
+    let mut tag = blocks[0];
     xor_in_place(&mut tag, &hash_of_parts(subkey, aad, ciphertext));
     tag
 }

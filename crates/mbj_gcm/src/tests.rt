@@ -2,6 +2,7 @@ ghost use Rattle.std.specs.Prelude.{◌≤◌, length};
 
 use super::*;
 use mbj_aes::Schedule;
+use mbj_aes_lanes::encrypt_same;
 use mbj_ghash::Ghash;
 use std::process::Abort;
 
@@ -189,10 +190,10 @@ fn an_iv_of_8_bytes_is_hashed(rt: HostRuntime) {
     let mut hash = Ghash::new(0x66e94bd4ef8a2c3b884cfa59ca342b2eu128.to_be_bytes());
     hash.update_block(&0xcafebabefacedbad0000000000000000u128.to_be_bytes());
     hash.update_block(&0x40u128.to_be_bytes());
-    let mut enciphered = hash.value();
-    key.encrypt(&mut enciphered);
+    let mut enciphered = [hash.value()];
+    encrypt_same(&key, &mut enciphered);
     let tag = seal(&key, &IV[..8], &[], &mut []);
-    assert_eq!(rt; tag, enciphered);
+    assert_eq!(rt; tag, enciphered[0]);
     assert_eq!(rt;
         u128::from_be_bytes(tag),
         0x88c4736bea448d08d767f46374e9fe05

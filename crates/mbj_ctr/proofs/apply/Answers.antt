@@ -1,29 +1,63 @@
 -- One block more is xored in each turn, and at the end all are.
-use Rattle.std.proofs.Common.{◌≡◌, ℕ, ◌+◌, ◌%◌, ◌^◌, List, ◌∷◌, refl, sym, ap, ◌∙◌, arith}
+use Rattle.std.proofs.Common.{◌≡◌, ℕ, ◌+◌, ◌*◌, ◌%◌, ◌^◌, ◌<◌, inl, inr, List, [], ◌∷◌, get_or, refl, sym, ap, ap₂, ◌∙◌, arith}
 use Rattle.std.specs.List.{concat}
 use Rattle.std.specs.Int.{w128, to_be_bytes}
+use Rattle.std.proofs.lemmas.Bool.{cases_lt}
 use Rattle.mbj_types.specs.Aes.{encipher}
 use Rattle.mbj_types.specs.Blocks.{xor_lists, blocks}
 use Rattle.mbj_types.specs.Modes.{ctr_blocks}
-use Rattle.mbj_blocks.proofs.Walk.{walk_xor, walk_end}
+use Rattle.mbj_aes_lanes.proofs.SameKeys.{schedule_at-same}
+use Rattle.mbj_blocks.proofs.Walk.{walk_xor, walk_end, walk_over}
 use Rattle.mbj_ctr.proofs.apply.Goals as goal
 
-pub applying-init : goal.applying-init
-applying-init c =
+pub batches-init : goal.batches-init
+batches-init c =
     ap (λ (t : ℕ). concat (ctr_blocks (encipher c.args.key.now) t (blocks c.args.text.now)))
     c.first_counter-counter.ensures
 
-pub applying-preserved : goal.applying-preserved
-applying-preserved c =
+pub each-init : goal.each-init
+each-init c =
+    let first : (c.batches.counter + 0) % 2 ^ 128 ≡ c.batches.counter = omega arith in
+    let block : 16 * c.batches.b + 0 ≡ 16 * c.batches.b = omega arith in
+    rw (first, block) c.batches.invariant
+
+pub each-preserved : goal.each-preserved
+each-preserved c =
     let e : List ℕ → List ℕ = encipher c.args.key.now in
-    let next : ℕ = (c.applying.counter + 1) % 2 ^ 128 in
-    let mask : e (to_be_bytes w128 c.applying.counter) ≡ c.encrypt.new.block =
-    sym (c.encrypt.ensures ∙ ap e c.to_be_bytes-mask.ensures) in
-    walk_xor (ctr_blocks e c.applying.counter) (ctr_blocks e next) c.applying.text c.encrypt.new.block _ _ c.applying.i
-    (omega arith) c.encrypt.array_long (λ b bs. ap (λ m. xor_lists b m ∷ ctr_blocks e next bs) mask)
-    c.xor_block.ensures c.applying.invariant
+    let j : ℕ = c.each.j in
+    let inside : j < 16 = omega arith in
+    let now : ℕ = (c.batches.counter + j) % 2 ^ 128 in
+    let next : ℕ = (c.batches.counter + (j + 1)) % 2 ^ 128 in
+    let more : (now + 1) % 2 ^ 128 ≡ next = omega arith in
+    let mask : List ℕ = get_or c.encrypt16.new.blocks j [] in
+    let made : mask ≡ e (to_be_bytes w128 now) =
+    c.encrypt16.ensures.each j inside
+    ∙ ap₂ encipher (schedule_at-same c.all-keys.result c.args.key.now j inside c.all-keys.ensures)
+    (c.counter_blocks-masks.ensures j inside) in
+    let block : 16 * c.batches.b + (j + 1) ≡ 16 * c.batches.b + j + 1 = omega arith in
+    rw block
+    (walk_xor (ctr_blocks e now) (ctr_blocks e next) c.each.text mask _ _ (16 * c.batches.b + j) (omega arith)
+    (c.encrypt16.ensures.lengths j inside) (λ b bs. ap₂ (λ m (t : ℕ). xor_lists b m ∷ ctr_blocks e t bs) (sym made) more) c.xor_block.ensures c.each.invariant)
+
+pub batches-preserved : goal.batches-preserved
+batches-preserved c =
+    let e : List ℕ → List ℕ = encipher c.args.key.now in
+    let b : ℕ = c.batches.b in
+    let j : ℕ = c.each.j in
+    let text : List ℕ = c.each.text in
+    elim (cases_lt j 16) [
+      | inl fewer ↦
+          walk_over (ctr_blocks e ((c.batches.counter + j) % 2 ^ 128)) (ctr_blocks e ((c.batches.counter + 16) % 2 ^ 128)) text
+          _ (16 * b + j) (16 * (b + 1)) refl refl (omega arith) (omega arith) c.each.invariant
+      | inr all ↦
+          let last : j ≡ 16 = omega arith in
+          let block : 16 * (b + 1) ≡ 16 * b + j = omega arith in
+          let counter : (c.batches.counter + 16) % 2 ^ 128 ≡ (c.batches.counter + j) % 2 ^ 128 =
+          ap (λ (k : ℕ). (c.batches.counter + k) % 2 ^ 128) (sym last) in
+          rw (block, counter) c.each.invariant
+    ]
 
 pub returns : goal.returns
 returns c =
-    walk_end (ctr_blocks (encipher c.args.key.now) c.applying.counter) c.applying.text _ c.applying.i refl (omega arith)
-    c.applying.invariant
+    walk_end (ctr_blocks (encipher c.args.key.now) c.batches.counter) c.batches.text _ (16 * c.batches.b) refl (omega arith)
+    c.batches.invariant

@@ -5,4 +5,4 @@ use Rattle.mbj_aes_lanes.proofs.blocks.put_blocks.Given as goal
 
 abbrev pub invariant-rows : goal.invariant-rows
 invariant-rows l =
-    (length l.blocks ≡ 16) × ((k : ℕ) → k < l.i → get_or l.blocks k [] ≡ lane_list (lane_at 8) 16 (get_or l.rows k []))
+    (length l.to ≡ 16) × ((k : ℕ) → k < l.i → get_or l.to k [] ≡ lane_list (lane_at 8) 16 (get_or l.rows k []))

@@ -20,7 +20,7 @@ keys-preserved c =
 pub returns-clause-keys : goal.returns-clause-keys
 returns-clause-keys c r h =
     let below : r < 16 = omega arith in
-    ap unplaned (c.put_blocks.ensures r below)
+    ap unplaned (c.put_blocks.ensures.bytes r below)
     ∙ c.put_in_planes.ensures r below
     ∙ c.words_of-words.ensures.lanes r below
     ∙ c.keys.invariant.1 r (omega arith)

@@ -3,8 +3,8 @@ use Rattle.std.proofs.Common.{ap₂, ◌∙◌}
 use Rattle.mbj_types.specs.Aes.{decipher}
 use Rattle.mbj_aes_lanes.proofs.sixteen.decrypt16.Goals as goal
 
-pub returns : goal.returns
-returns c i h =
-    c.put_blocks.ensures i h
+pub returns-clause-each : goal.returns-clause-each
+returns-clause-each c i h =
+    c.put_blocks.ensures.bytes i h
     ∙ c.decrypt.ensures i h
     ∙ ap₂ decipher (c.round_keys.ensures.schedules i h (c.requires i h)) (c.words_of-words.ensures.lanes i h)

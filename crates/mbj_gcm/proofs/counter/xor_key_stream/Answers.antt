@@ -1,21 +1,63 @@
 -- One block more is xored in each turn, and at the end all are.
-use Rattle.std.proofs.Common.{◌≡◌, ℕ, List, ◌∷◌, refl, sym, ap, ap₂, ◌∙◌, arith}
+use Rattle.std.proofs.Common.{◌≡◌, ℕ, ◌+◌, ◌*◌, ◌<◌, inl, inr, List, [], ◌∷◌, get_or, refl, sym, ap, ap₂, ◌∙◌, arith}
+use Rattle.std.proofs.lemmas.Bool.{cases_lt}
 use Rattle.mbj_types.specs.Aes.{encipher}
 use Rattle.mbj_types.specs.Blocks.{xor_lists}
 use Rattle.mbj_types.specs.Gcm.{inc32, gctr}
-use Rattle.mbj_blocks.proofs.Walk.{walk_xor, walk_end}
+use Rattle.mbj_aes_lanes.proofs.SameKeys.{schedule_at-same}
+use Rattle.mbj_blocks.proofs.Walk.{Walked, walk_xor, walk_end, walk_over}
+use Rattle.mbj_gcm.specs.Counting.Risen.{risen}
+use Rattle.mbj_gcm.proofs.RisenCounters.{risen-1, inc32-risen}
 use Rattle.mbj_gcm.proofs.counter.xor_key_stream.Goals as goal
 
-pub xoring-preserved : goal.xoring-preserved
-xoring-preserved c =
+pub each-init : goal.each-init
+each-init c =
+    let block : 16 * c.batches.b + 0 ≡ 16 * c.batches.b = omega arith in
+    rw (block, risen-1 c.batches.counter) c.batches.invariant.1
+
+pub each-preserved : goal.each-preserved
+each-preserved c =
     let e : List ℕ → List ℕ = encipher c.args.key.now in
-    let counter : inc32 c.xoring.counter ≡ c.inc32.new.block = sym c.inc32.ensures in
-    let mask : e (inc32 c.xoring.counter) ≡ c.encrypt.new.block = ap e counter ∙ sym c.encrypt.ensures in
-    walk_xor (gctr e (inc32 c.xoring.counter)) (gctr e (inc32 c.inc32.new.block)) c.xoring.text c.encrypt.new.block _ _
-    c.xoring.i (omega arith) c.encrypt.array_long
-    (λ b bs. ap₂ (λ m j. xor_lists b m ∷ gctr e (inc32 j) bs) mask counter) c.xor_block.ensures c.xoring.invariant
+    let j : ℕ = c.each.j in
+    let inside : j < 16 = omega arith in
+    let now : List ℕ = risen c.batches.counter (j + 1) in
+    let next : List ℕ = risen c.batches.counter (j + 1 + 1) in
+    let more : inc32 now ≡ next = inc32-risen c.batches.counter (j + 1) c.batches.invariant.0 in
+    let mask : List ℕ = get_or c.encrypt16.new.blocks j [] in
+    let made : mask ≡ e now =
+    c.encrypt16.ensures.each j inside
+    ∙ ap₂ encipher (schedule_at-same c.all-keys.result c.args.key.now j inside c.all-keys.ensures)
+    (c.counters_after-masks.ensures j inside) in
+    let block : 16 * c.batches.b + (j + 1) ≡ 16 * c.batches.b + j + 1 = omega arith in
+    rw block
+    (walk_xor (gctr e now) (gctr e next) c.each.text mask _ _ (16 * c.batches.b + j) (omega arith)
+    (c.encrypt16.ensures.lengths j inside) (λ b bs. ap₂ (λ m k. xor_lists b m ∷ gctr e k bs) (sym made) more)
+    c.xor_block.ensures c.each.invariant)
+
+pub batches-preserved : goal.batches-preserved
+batches-preserved c =
+    let e : List ℕ → List ℕ = encipher c.args.key.now in
+    let b : ℕ = c.batches.b in
+    let j : ℕ = c.each.j in
+    let text : List ℕ = c.each.text in
+    let counter : List ℕ = c.batches.counter in
+    let after : inc32 c.risen-counter.result ≡ risen counter (16 + 1) =
+    ap inc32 c.risen-counter.ensures ∙ inc32-risen counter 16 c.batches.invariant.0 in (
+      omega arith,
+      elim (cases_lt j 16) [
+            | inl fewer ↦
+                walk_over (gctr e (risen counter (j + 1))) (gctr e (inc32 c.risen-counter.result)) text _ (16 * b + j)
+                (16 * (b + 1)) refl refl (omega arith) (omega arith) c.each.invariant
+            | inr all ↦
+                let last : j ≡ 16 = omega arith in
+                let block : 16 * (b + 1) ≡ 16 * b + j = omega arith in
+                let next : inc32 c.risen-counter.result ≡ risen counter (j + 1) =
+                after ∙ ap (λ (k : ℕ). risen counter (k + 1)) (sym last) in
+                rw (block, next) c.each.invariant
+          ],
+    )
 
 pub returns : goal.returns
 returns c =
-    walk_end (gctr (encipher c.args.key.now) (inc32 c.xoring.counter)) c.xoring.text _ c.xoring.i refl (omega arith)
-    c.xoring.invariant
+    walk_end (gctr (encipher c.args.key.now) (inc32 c.batches.counter)) c.batches.text _ (16 * c.batches.b) refl (omega arith)
+    c.batches.invariant.1

@@ -1,0 +1,2 @@
+-- What functions that make counter blocks cite.
+pub mod Risen
