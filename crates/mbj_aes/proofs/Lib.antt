@@ -2,7 +2,6 @@ pub mod ByteCases
 pub mod XorLists
 pub mod Sums
 pub mod FieldProducts
-pub mod SBoxes
 pub mod ByteMaps
 pub mod States
 pub mod Circulants
@@ -16,3 +15,5 @@ pub mod AesLaws
 pub mod Bits
 pub mod Octets
 pub mod SBoxCircuit
+pub mod RoundConstants
+pub mod LowestBits

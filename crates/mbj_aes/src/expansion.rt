@@ -4,8 +4,7 @@ ghost use Rattle.mbj_types.specs.Aes.{word, sub_bytes, rot_word, rcon, schedule_
 ghost use Rattle.mbj_aes.specs.Bytes.{IsKeySize, IsKeyWords};
 ghost use Rattle.mbj_aes.specs.declared.expansion.TheConstants.{MAX_SCHEDULE_BYTES};
 
-use crate::state::substitute;
-use crate::tables::{ROUND_CONSTANTS, SBOX};
+use crate::substitution::sub_word;
 use mbj_types::xor_in_place;
 
 /// The bytes of the longest schedule, that of a key of 32 bytes: 16 for each of its 14 rounds, and 16 more.
@@ -17,6 +16,9 @@ const WORD_BYTES: usize = 4;
 // The words of the round key of one round.
 const ROUND_WORDS: usize = 4;
 
+// The first byte of each round constant, from Rcon[1] on (FIPS 197, 5.2).
+const ROUND_CONSTANTS: [u8; 10] = [0x01, 0x02, 0x04, 0x08, 0x10, 0x20, 0x40, 0x80, 0x1b, 0x36];
+
 // How many rounds there are more than words of the key.
 const EXTRA_ROUNDS: usize = 6;
 
@@ -25,15 +27,6 @@ pub fn round_count(key_bytes: usize) -> usize
     ensures { result ≡ key_bytes / 4 + 6 }
 {
     key_bytes / WORD_BYTES + EXTRA_ROUNDS
-}
-
-// SUBWORD (FIPS 197, 5.2).
-fn sub_word(word: &[u8; 4]) -> [u8; 4]
-    ensures { result ≡ sub_bytes word.now }
-{
-    let mut word = *word;
-    substitute(&mut word, &SBOX);
-    word
 }
 
 // ROTWORD (FIPS 197, 5.2).

@@ -1,5 +1,5 @@
-//! AES on one block (FIPS 197): the schedule of a key, encryption and decryption, proved to undo each other. No
-//! call takes memory.
+//! What AES (FIPS 197) on many blocks stands on: the schedule of a key, the S-box as a circuit of gates on bit planes, and
+//! the laws that encryption and decryption undo each other. No call takes memory.
 #![tactic(auto)]
 
 pub mod circuit;
@@ -8,8 +8,7 @@ pub mod gates;
 mod laws;
 mod octet;
 mod schedule;
-mod state;
-mod tables;
+mod substitution;
 
 pub use laws::{blocks_stay_blocks, each_undoes_the_other, examples_of_the_standard};
 pub use octet::Octet;

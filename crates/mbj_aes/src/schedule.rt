@@ -3,10 +3,7 @@ ghost use Rattle.mbj_types.specs.Aes.{key_schedule, rounds_of, round_key, enciph
 ghost use Rattle.mbj_aes.specs.Bytes.{IsBytes, IsKeySize, IsRoundCount};
 
 use crate::expansion::{MAX_SCHEDULE_BYTES, expanded_key, round_count};
-use crate::state::{
-    inv_mix_columns, inv_shift_rows, inv_sub_bytes, mix_columns, shift_rows, sub_bytes,
-};
-use mbj_types::{BLOCK_BYTES, xor_in_place};
+use mbj_types::BLOCK_BYTES;
 use std::marker::Model;
 
 /// The round keys of an AES key (FIPS 197, 5.2), which contracts see as the list of their bytes, 16 for each of
@@ -76,40 +73,5 @@ impl Schedule {
         let mut key = [0; BLOCK_BYTES];
         key.copy_from_slice(&self.bytes[start..start + BLOCK_BYTES]);
         key
-    }
-
-    /// Encrypts a block in place: CIPHER (FIPS 197, 5.1). It takes no memory.
-    pub fn encrypt(&self, block: &mut [u8; 16])
-        ensures { block.new ≡ encipher self.now block.old }
-    {
-        let rounds = self.rounds();
-        xor_in_place(block, &self.round_key(0));
-        'rounds: for r in 1..rounds {
-            sub_bytes(block);
-            shift_rows(block);
-            mix_columns(block);
-            xor_in_place(block, &self.round_key(r));
-        }
-        sub_bytes(block);
-        shift_rows(block);
-        // The last round mixes no columns.
-        xor_in_place(block, &self.round_key(rounds));
-    }
-
-    /// Decrypts a block in place: INVCIPHER (FIPS 197, 5.3). It takes no memory.
-    pub fn decrypt(&self, block: &mut [u8; 16])
-        ensures { block.new ≡ decipher self.now block.old }
-    {
-        let rounds = self.rounds();
-        xor_in_place(block, &self.round_key(rounds));
-        inv_shift_rows(block);
-        inv_sub_bytes(block);
-        'rounds: for r in (1..rounds).rev() {
-            xor_in_place(block, &self.round_key(r));
-            inv_mix_columns(block);
-            inv_shift_rows(block);
-            inv_sub_bytes(block);
-        }
-        xor_in_place(block, &self.round_key(0));
     }
 }

@@ -9,50 +9,6 @@ const COUNTING: [u8; 32] = [
     0x10, 0x11, 0x12, 0x13, 0x14, 0x15, 0x16, 0x17, 0x18, 0x19, 0x1a, 0x1b, 0x1c, 0x1d, 0x1e, 0x1f,
 ];
 
-#[test]
-fn blocks_are_those_of_the_standard(rt: HostRuntime) {
-    const PLAINTEXT: u128 = 0x00112233445566778899aabbccddeeff;
-    let vectors: [(&[u8], u32, u128, u128); 4] = [
-        (
-            &COUNTING[..16],
-            10,
-            PLAINTEXT,
-            0x69c4e0d86a7b0430d8cdb78070b4c55a,
-        ),
-        (
-            &COUNTING[..24],
-            12,
-            PLAINTEXT,
-            0xdda97ca4864cdfe06eaf70a0ec0d7191,
-        ),
-        (
-            &COUNTING[..32],
-            14,
-            PLAINTEXT,
-            0x8ea2b7ca516745bfeafc49904b496089,
-        ),
-        (&[0; 16], 10, 0, 0x66e94bd4ef8a2c3b884cfa59ca342b2e),
-    ];
-    for (key, rounds, plaintext, ciphertext) in vectors {
-        assert!(rt; matches!(key.len(), 16 | 24 | 32));
-        let schedule = Schedule::expand(key);
-        assert_eq!(rt; schedule.rounds(), rounds);
-        let mut block = plaintext.to_be_bytes();
-        schedule.encrypt(&mut block);
-        assert_eq!(rt;
-            u128::from_be_bytes(block),
-            ciphertext,
-            "encrypted in {rounds} rounds"
-        );
-        schedule.decrypt(&mut block);
-        assert_eq!(rt;
-            u128::from_be_bytes(block),
-            plaintext,
-            "decrypted in {rounds} rounds"
-        );
-    }
-}
-
 // FIPS 197, appendix A.1.
 #[test]
 fn round_keys_are_those_of_the_standard(rt: HostRuntime) {

@@ -1,6 +1,6 @@
 -- The table holds the powers of the definition.
 use Rattle.std.proofs.Common.{◌-◌, [], ◌∷◌, ap, arith}
-use Rattle.mbj_aes.proofs.SBoxes.{round_constant_is}
+use Rattle.mbj_aes.proofs.RoundConstants.{round_constant_is}
 use Rattle.mbj_aes.proofs.expansion.round_constant.Goals as goal
 
 pub returns : goal.returns

@@ -1,0 +1,10 @@
+-- A vector is the list of its lanes.
+use Rattle.std.proofs.Common.{w8, Fits, sym, arith}
+use Rattle.std.proofs.lemmas.Simd.{Each1-get_or}
+use Rattle.mbj_types.proofs.LaneLists.{lane_list-vector}
+use Rattle.mbj_aes.proofs.substitution.bytes_of.Goals as goal
+
+pub returns : goal.returns
+returns c =
+    sym (lane_list-vector 8 16 c.args.x c.fits-x.0
+    (λ i h. (Each1-get_or (Fits w8) c.args.x i 0 (omega arith) c.fits-x.1).fits))
