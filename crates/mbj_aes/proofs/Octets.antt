@@ -1,6 +1,5 @@
 -- Eight bits and the byte of them.
-use Rattle.std.proofs.Common.{◌≡◌, ℕ, zero, suc, ◌<◌, ◌==◌, refl, sym, ap, ◌∙◌, arith}
-use Rattle.std.proofs.lemmas.Bool.{eqb-true}
+use Rattle.std.proofs.Common.{◌≡◌, ℕ, zero, suc, ◌<◌, refl, sym, ap, ◌∙◌, arith}
 use Rattle.mbj_aes.proofs.ByteCases.{same_at_each}
 use Rattle.mbj_aes.proofs.Bits.{nth_bit-lt}
 use Rattle.mbj_aes.specs.declared.octet.Octet.{Octet}

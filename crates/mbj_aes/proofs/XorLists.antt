@@ -1,5 +1,5 @@
 -- Bytes and blocks, one xored with another.
-use Rattle.std.proofs.Common.{◌≡◌, ◌+◌, ◌<◌, ℕ, List, [], ◌∷◌, bit_xor, ◌∙◌, arith}
+use Rattle.std.proofs.Common.{◌<◌, ℕ, List, [], ◌∷◌, bit_xor, ◌∙◌, arith}
 use Rattle.std.proofs.lemmas.List.Elements.{All-cons, All-head, All-tail, All-nil}
 use Rattle.std.proofs.lemmas.Nat.{xor_of_8}
 use Rattle.mbj_types.specs.Blocks.{xor_lists}

@@ -1,8 +1,7 @@
 -- The blocks of a text: one after another, and joined again.
-use Rattle.std.proofs.Common.{◌≡◌, ℕ, zero, suc, ◌+◌, ◌*◌, ◌/◌, ◌%◌, ◌<◌, ◌≤◌, List, [], ◌∷◌, ◌++◌, length, take, drop, refl, sym, ap, ap₂, ◌∙◌, arith, length-drop, length-append}
-use Rattle.std.specs.List.{All, concat}
-use Rattle.std.proofs.lemmas.List.{drop_all, drop-drop, length-take-le, take-append-drop, take_at, drop_at}
-use Rattle.std.proofs.lemmas.List.Elements.{All-cons, All-drop, All-head, All-nil, All-tail, All-take}
+use Rattle.std.proofs.Common.{◌≡◌, ℕ, zero, suc, ◌+◌, ◌*◌, ◌/◌, ◌<◌, ◌≤◌, List, [], ◌∷◌, ◌++◌, length, take, drop, sym, ap, ◌∙◌, arith, length-drop}
+use Rattle.std.specs.List.{concat}
+use Rattle.std.proofs.lemmas.List.{drop_all, drop-drop, take-append-drop}
 use Rattle.mbj_types.specs.Blocks.{first_blocks, blocks}
 use Rattle.mbj_blocks.specs.Places.{block_of}
 

@@ -1,5 +1,5 @@
 -- The S-box stands between two inverses of its affine map.
-use Rattle.std.proofs.Common.{◌≡◌, ap, ◌∙◌}
+use Rattle.std.proofs.Common.{ap, ◌∙◌}
 use Rattle.mbj_types.specs.Aes.{sub_byte}
 use Rattle.mbj_aes.specs.Planes.Bytes.{bits_at, byte_of, byte_at}
 use Rattle.mbj_aes.proofs.Octets.{AreBits-across}

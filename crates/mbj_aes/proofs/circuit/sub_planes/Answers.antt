@@ -1,5 +1,5 @@
 -- The three layers are the circuit.
-use Rattle.std.proofs.Common.{◌≡◌, ap, ap₂, ◌∙◌}
+use Rattle.std.proofs.Common.{ap, ap₂, ◌∙◌}
 use Rattle.mbj_aes.specs.Planes.Bytes.{bits_at, byte_of, byte_at}
 use Rattle.mbj_aes.specs.Planes.Circuit.{middle_bits, bottom_bits}
 use Rattle.mbj_aes.proofs.Octets.{AreBits-across}

@@ -1,5 +1,5 @@
 -- The bits of a shifted byte.
-use Rattle.std.proofs.Common.{◌≡◌, ap, ◌∙◌}
+use Rattle.std.proofs.Common.{ap, ◌∙◌}
 use Rattle.mbj_aes.specs.Planes.Gates.{nth_bit}
 use Rattle.mbj_aes.proofs.Bits.{nth_bit-up}
 use Rattle.mbj_aes.proofs.gates.moved_up.Goals as goal

@@ -1,5 +1,5 @@
 -- The gate on each bit of the lane.
-use Rattle.std.proofs.Common.{◌≡◌, ap, ◌∙◌}
+use Rattle.std.proofs.Common.{ap, ◌∙◌}
 use Rattle.mbj_aes.specs.Planes.Gates.{nth_bit}
 use Rattle.mbj_aes.proofs.Bits.{nth_bit-xor}
 use Rattle.mbj_aes.proofs.gates.xor.Goals as goal

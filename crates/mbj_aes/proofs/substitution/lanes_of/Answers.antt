@@ -1,5 +1,4 @@
 -- The lowest bits of the planes, each moved to its place.
-use Rattle.std.proofs.Common.{◌≡◌}
 use Rattle.mbj_aes.specs.Planes.Bytes.{bits_at, byte_at}
 use Rattle.mbj_aes.proofs.Octets.{AreBits-across}
 use Rattle.mbj_aes.proofs.LowestBits.{joined_is}

@@ -1,5 +1,5 @@
 -- What is left of the lane is its lowest bit.
-use Rattle.std.proofs.Common.{◌≡◌, ℕ, ◌*◌, ◌%◌, ◌^◌, bit_and, ap, ◌∙◌}
+use Rattle.std.proofs.Common.{ℕ, ◌*◌, ◌%◌, ◌^◌, bit_and, ap, ◌∙◌}
 use Rattle.mbj_aes.proofs.LowestBits.{lowest_bit}
 use Rattle.mbj_aes.proofs.substitution.placed.Goals as goal
 

@@ -1,7 +1,6 @@
 -- The lowest bits of the planes are the bits of the lane.
-use Rattle.std.proofs.Common.{◌≡◌, ℕ, ◌<◌, ap, ◌∙◌, refl, arith}
-use Rattle.mbj_aes.specs.Planes.Bytes.{byte_of, bits_of, bits_at, byte_at}
-use Rattle.mbj_aes.specs.declared.octet.Octet.{Octet}
+use Rattle.std.proofs.Common.{◌<◌, arith}
+use Rattle.mbj_aes.specs.Planes.Bytes.{byte_at}
 use Rattle.mbj_aes.proofs.Octets.{byte_of-bits_of}
 use Rattle.mbj_aes.proofs.substitution.planes_of.Goals as goal
 

@@ -1,5 +1,5 @@
 -- The circuit stands between the planes and the lanes.
-use Rattle.std.proofs.Common.{◌≡◌, ◌<◌, ap, ◌∙◌, arith}
+use Rattle.std.proofs.Common.{◌<◌, ap, ◌∙◌, arith}
 use Rattle.mbj_types.specs.Aes.{sub_byte}
 use Rattle.mbj_aes.proofs.substitution.substituted.Goals as goal
 

@@ -1,5 +1,5 @@
 -- One block more is decrypted in each turn, and at the end all are.
-use Rattle.std.proofs.Common.{◌≡◌, List, ℕ, ◌+◌, ◌*◌, ◌<◌, [], get_or, take, drop, length, inl, inr, ap, ap₂, ◌∙◌, sym, refl, arith}
+use Rattle.std.proofs.Common.{◌≡◌, List, ℕ, ◌+◌, ◌*◌, ◌<◌, [], get_or, take, drop, inl, inr, ap, ap₂, ◌∙◌, sym, refl, arith}
 use Rattle.std.proofs.lemmas.Bool.{cases_lt}
 use Rattle.std.proofs.lemmas.List.{drop-drop}
 use Rattle.mbj_types.specs.Blocks.{xor_lists}
@@ -35,15 +35,15 @@ each-preserved c =
     rw next record {
       size = omega arith;
       walked =
-        walk_step (uncbc d c.each.chain) (uncbc d c.block_at-ciphertext.result) text c.xor_in_place.new.text _ _ i (omega arith)
-            (omega arith) (λ bs. rw (block, opened) refl) c.put_block.ensures c.each.invariant.walked;
+          walk_step (uncbc d c.each.chain) (uncbc d c.block_at-ciphertext.result) text c.xor_in_place.new.text _ _ i (omega arith)
+          (omega arith) (λ bs. rw (block, opened) refl) c.put_block.ensures c.each.invariant.walked;
       left =
-        drop-with_block text c.xor_in_place.new.text c.put_block.new.text i (omega arith) (omega arith) c.put_block.ensures
-            ∙ ap (λ (n : ℕ). drop n text) (sym behind)
-            ∙ sym (drop-drop 16 (16 * i) text)
-            ∙ ap (drop 16) c.each.invariant.left
-            ∙ drop-drop 16 (16 * i) c.batches.text
-            ∙ ap (λ (n : ℕ). drop n c.batches.text) behind;
+          drop-with_block text c.xor_in_place.new.text c.put_block.new.text i (omega arith) (omega arith) c.put_block.ensures
+          ∙ ap (λ (n : ℕ). drop n text) (sym behind)
+          ∙ sym (drop-drop 16 (16 * i) text)
+          ∙ ap (drop 16) c.each.invariant.left
+          ∙ drop-drop 16 (16 * i) c.batches.text
+          ∙ ap (λ (n : ℕ). drop n c.batches.text) behind;
     }
 
 pub batches-preserved : goal.batches-preserved
@@ -53,13 +53,13 @@ batches-preserved c =
     let j : ℕ = c.each.j in (
       c.each.invariant.size,
       elim (cases_lt j 16) [
-            | inl fewer ↦
-                walk_over (uncbc d c.each.chain) (uncbc d c.each.chain) c.each.text _ (16 * b + j) (16 * (b + 1)) refl refl
-                (omega arith) (omega arith) c.each.invariant.walked
-            | inr all ↦
-                let block : 16 * (b + 1) ≡ 16 * b + j = omega arith in
-                rw block c.each.invariant.walked
-          ],
+        | inl fewer ↦
+            walk_over (uncbc d c.each.chain) (uncbc d c.each.chain) c.each.text _ (16 * b + j) (16 * (b + 1)) refl refl
+            (omega arith) (omega arith) c.each.invariant.walked
+        | inr all ↦
+            let block : 16 * (b + 1) ≡ 16 * b + j = omega arith in
+            rw block c.each.invariant.walked
+      ],
     )
 
 pub returns : goal.returns

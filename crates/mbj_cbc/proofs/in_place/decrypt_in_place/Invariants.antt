@@ -17,5 +17,5 @@ invariant-each l =
     record {
       size : length l.chain ≡ 16;
       walked : Walked (uncbc (decipher l.key) l.chain) l.text i (uncbc_text (decipher l.key) l.fn.iv l.fn.text);
-      left : drop (16 * i) l.text ≡ drop (16 * i) l.initial.text
+      left : drop (16 * i) l.text ≡ drop (16 * i) l.initial.text;
     }

@@ -1,5 +1,5 @@
 -- One counter block more is made in each turn.
-use Rattle.std.proofs.Common.{◌≡◌, ◌≢◌, ℕ, ◌<◌, length, arith, get_or-set_other, get_or-set_same, below_more, ◌∙◌}
+use Rattle.std.proofs.Common.{◌≢◌, ◌<◌, length, arith, get_or-set_other, get_or-set_same, below_more, ◌∙◌}
 use Rattle.std.proofs.lemmas.List.{length-set}
 use Rattle.mbj_gcm.proofs.counter.counters_after.Goals as goal
 

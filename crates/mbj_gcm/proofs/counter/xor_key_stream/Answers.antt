@@ -5,7 +5,7 @@ use Rattle.mbj_types.specs.Aes.{encipher}
 use Rattle.mbj_types.specs.Blocks.{xor_lists}
 use Rattle.mbj_types.specs.Gcm.{inc32, gctr}
 use Rattle.mbj_aes_lanes.proofs.SameKeys.{schedule_at-same}
-use Rattle.mbj_blocks.proofs.Walk.{Walked, walk_xor, walk_end, walk_over}
+use Rattle.mbj_blocks.proofs.Walk.{walk_xor, walk_end, walk_over}
 use Rattle.mbj_gcm.specs.Counting.Risen.{risen}
 use Rattle.mbj_gcm.proofs.RisenCounters.{risen-1, inc32-risen}
 use Rattle.mbj_gcm.proofs.counter.xor_key_stream.Goals as goal
@@ -45,16 +45,16 @@ batches-preserved c =
     ap inc32 c.risen-counter.ensures ∙ inc32-risen counter 16 c.batches.invariant.0 in (
       omega arith,
       elim (cases_lt j 16) [
-            | inl fewer ↦
-                walk_over (gctr e (risen counter (j + 1))) (gctr e (inc32 c.risen-counter.result)) text _ (16 * b + j)
-                (16 * (b + 1)) refl refl (omega arith) (omega arith) c.each.invariant
-            | inr all ↦
-                let last : j ≡ 16 = omega arith in
-                let block : 16 * (b + 1) ≡ 16 * b + j = omega arith in
-                let next : inc32 c.risen-counter.result ≡ risen counter (j + 1) =
-                after ∙ ap (λ (k : ℕ). risen counter (k + 1)) (sym last) in
-                rw (block, next) c.each.invariant
-          ],
+        | inl fewer ↦
+            walk_over (gctr e (risen counter (j + 1))) (gctr e (inc32 c.risen-counter.result)) text _ (16 * b + j)
+            (16 * (b + 1)) refl refl (omega arith) (omega arith) c.each.invariant
+        | inr all ↦
+            let last : j ≡ 16 = omega arith in
+            let block : 16 * (b + 1) ≡ 16 * b + j = omega arith in
+            let next : inc32 c.risen-counter.result ≡ risen counter (j + 1) =
+            after ∙ ap (λ (k : ℕ). risen counter (k + 1)) (sym last) in
+            rw (block, next) c.each.invariant
+      ],
     )
 
 pub returns : goal.returns

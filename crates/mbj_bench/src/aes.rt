@@ -1,0 +1,152 @@
+use crate::ghash::fill;
+use crate::sha1_kernel;
+use mbj_aes::Schedule;
+use mbj_aes_lanes::{LaneKeys, decrypt16, encrypt16};
+use mbj_cbc::decrypt_in_place;
+use mbj_ctr::apply;
+use sha1::Sha1;
+use std::io;
+use std::io::Print;
+use std::time::{Clock, Instant};
+
+/// The keys are the first 16, 24 and 32 of these bytes.
+const KEY: [u8; 32] = [
+    0x00, 0x01, 0x02, 0x03, 0x04, 0x05, 0x06, 0x07, 0x08, 0x09, 0x0a, 0x0b, 0x0c, 0x0d, 0x0e, 0x0f,
+    0x10, 0x11, 0x12, 0x13, 0x14, 0x15, 0x16, 0x17, 0x18, 0x19, 0x1a, 0x1b, 0x1c, 0x1d, 0x1e, 0x1f,
+];
+
+/// The key of FIPS 197, appendix A.1.
+const EXPANDED_KEY: u128 = 0x2b7e_1516_28ae_d2a6_abf7_1588_09cf_4f3c;
+
+/// The IV of SP 800-38A, appendix F.5.
+const IV: u128 = 0xf0f1_f2f3_f4f5_f6f7_f8f9_fafb_fcfd_feff;
+
+/// The bytes of the longest text.
+const TEXT_BYTES: usize = 1500;
+
+/// The bytes of a schedule of 10 rounds.
+const SCHEDULE_BYTES: usize = 176;
+
+/// The bytes of one pass, and the passes of which the fastest counts.
+const PASS_BYTES: usize = 131_072;
+
+const PASSES: u32 = 50;
+
+/// A call, and how many rounds or bytes of text.
+#[derive(Clone, Copy)]
+enum Call {
+    /// Sixteen blocks under one key of so many rounds.
+    Encrypt16(u32),
+    Decrypt16(u32),
+    /// A schedule of 10 rounds put in one lane.
+    Put,
+    /// A schedule of 10 rounds made of its key.
+    Expand,
+    /// A text of so many bytes, its key of 10 rounds expanded once.
+    Ctr(usize),
+    CbcDecryption(usize),
+}
+
+impl Call {
+    const ALL: [Call; 14] = [
+        Call::Encrypt16(10),
+        Call::Encrypt16(12),
+        Call::Encrypt16(14),
+        Call::Decrypt16(10),
+        Call::Decrypt16(12),
+        Call::Decrypt16(14),
+        Call::Put,
+        Call::Expand,
+        Call::Ctr(64),
+        Call::Ctr(256),
+        Call::Ctr(TEXT_BYTES),
+        Call::CbcDecryption(64),
+        Call::CbcDecryption(256),
+        // The whole blocks of a text of 1,500 bytes.
+        Call::CbcDecryption(1488),
+    ];
+
+    fn print_name(self, rt: &impl Print) -> io::Result<()> {
+        match self {
+            Call::Encrypt16(rounds) => print!(rt; "aes encrypt16, {rounds} rounds"),
+            Call::Decrypt16(rounds) => print!(rt; "aes decrypt16, {rounds} rounds"),
+            Call::Put => print!(rt; "aes put"),
+            Call::Expand => print!(rt; "aes expand"),
+            Call::Ctr(len) => print!(rt; "aes ctr, {len} bytes"),
+            Call::CbcDecryption(len) => print!(rt; "aes cbc decryption, {len} bytes"),
+        }
+    }
+
+    /// The bytes of text, or of schedule, of one turn.
+    fn bytes(self) -> usize {
+        match self {
+            Call::Encrypt16(_) | Call::Decrypt16(_) => 256,
+            Call::Put | Call::Expand => SCHEDULE_BYTES,
+            Call::Ctr(len) | Call::CbcDecryption(len) => len,
+        }
+    }
+}
+
+/// The schedule of the key of 10, 12 or else 14 rounds.
+fn schedule(rounds: u32) -> Schedule {
+    match rounds {
+        10 => Schedule::expand(&KEY[..16]),
+        12 => Schedule::expand(&KEY[..24]),
+        _ => Schedule::expand(&KEY),
+    }
+}
+
+fn print_sha1(rt: &impl Print, text: &[u8]) -> io::Result<()> {
+    for byte in Sha1::digest(text) {
+        print!(rt; "{byte:02x}")?;
+    }
+    println!(rt)
+}
+
+fn filled_blocks() -> [[u8; 16]; 16] {
+    let mut blocks = [[0; 16]; 16];
+    fill(blocks.as_flattened_mut());
+    blocks
+}
+
+/// Prints SHA-1 of what the call makes of the text; of `Put` that of the text under sixteen keys, the key in lane i being
+/// the bytes of KEY from i on; and of `Expand` the last round key.
+fn print_digest(rt: &impl Print, call: Call) -> io::Result<()> {
+    call.print_name(rt)?;
+    print!(rt; ": ")?;
+    let mut blocks = filled_blocks();
+    let mut text = [0; TEXT_BYTES];
+    fill(&mut text);
+    match call {
+        Call::Encrypt16(rounds) => {
+            encrypt16(&LaneKeys::all(&schedule(rounds)), &mut blocks);
+            print_sha1(rt, blocks.as_flattened())
+        }
+        Call::Decrypt16(rounds) => {
+            decrypt16(&LaneKeys::all(&schedule(rounds)), &mut blocks);
+            print_sha1(rt, blocks.as_flattened())
+        }
+        Call::Put => print_sha1(rt, &text),
+        Call::Expand => {
+            let last = Schedule::expand(&EXPANDED_KEY.to_be_bytes()).round_key(10);
+            println!(rt; "{:032x}", u128::from_be_bytes(last))
+        }
+        Call::Ctr(len) => {
+            let text = &mut text[..len.min(TEXT_BYTES)];
+            apply(&schedule(10), &IV.to_be_bytes(), text);
+            print_sha1(rt, text)
+        }
+        Call::CbcDecryption(len) => {
+            let text = &mut text[..len.min(TEXT_BYTES) / 16 * 16];
+            decrypt_in_place(&schedule(10), &IV.to_be_bytes(), text);
+            print_sha1(rt, text)
+        }
+    }
+}
+
+pub fn print_digests(rt: &impl Print) -> io::Result<()> {
+    for call in Call::ALL {
+        print_digest(rt, call)?;
+    }
+    Ok(())
+}
