@@ -1,4 +1,5 @@
 mod Courses
+mod Unchanged
 mod Counting
 mod Rings
 mod CallLaws
