@@ -3,3 +3,15 @@ mod Unchanged
 mod Counting
 mod Rings
 mod CallLaws
+mod Lanes
+mod Changing
+mod Times
+mod Leaving
+mod StagesLeft
+mod Standing
+mod Running
+mod Stepping
+mod CourseEnds
+mod BetweenCalls
+mod GivingBack
+mod CallsKeep

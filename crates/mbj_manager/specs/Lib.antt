@@ -4,5 +4,6 @@ pub mod Course
 pub mod Counts
 pub mod State
 pub mod Calls
+pub mod Between
 pub mod Held
 pub mod Lending

@@ -2,11 +2,13 @@
 //! submission.
 #![tactic(auto)]
 
+mod between;
 mod calls;
 mod cell;
 mod counts;
 mod manager;
 
+pub use between::{calls_keep_the_machine, machines_stay_between_calls};
 pub use calls::results_come_back_in_order;
 // A crate can name a manager in a contract only if the types of its fields are exported.
 #[doc(hidden)]

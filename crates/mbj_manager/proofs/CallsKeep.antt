@@ -1,0 +1,153 @@
+-- Over each list of calls the machine is between two calls, with a job for each result owed.
+use Rattle.std.proofs.Common.{◌≡◌, ◌≢◌, ℕ, ◌+◌, ◌*◌, ◌%◌, ◌≤◌, ◌==◌, List, [], ◌∷◌, ◌++◌, length, Option, Some, None, slice_get, refl, ap, sym, ◌∙◌, subst, arith}
+use Rattle.std.specs.Prelude.{All, IsSome}
+use Rattle.std.proofs.lemmas.Bool.{cond_both}
+use Rattle.std.proofs.lemmas.List.{length_push, nil_from_length}
+use Rattle.std.proofs.lemmas.List.Elements.{All-cons, All-nil}
+use Rattle.mbj_types.specs.declared.job.Job.{Job}
+use Rattle.mbj_types.specs.declared.done.Done.{Done}
+use Rattle.mbj_types.specs.declared.kind.Kind.{Kind}
+use Rattle.mbj_types.specs.Result.{result_of}
+use Rattle.mbj_types.specs.Kinds.{lanes_of}
+use Rattle.mbj_ring.specs.declared.ring.TheConstants.{CELLS}
+use Rattle.mbj_stage.specs.Going.{begun}
+use Rattle.mbj_stage.specs.declared.stage.Step.{Step}
+use Rattle.mbj_stage.specs.declared.stage.Step.TheVariants as step
+use Rattle.mbj_manager.specs.Rounds.{Pending, at_once, pending, pending_at}
+use Rattle.mbj_manager.specs.Machine.{Machine, submit, lane_of, idle_lane, count_end}
+use Rattle.mbj_manager.specs.Course.{course, flushed}
+use Rattle.mbj_manager.specs.State.{ManagerState, entered, entered_at, given, given_at, lent, new_manager, with_job, with_open}
+use Rattle.mbj_manager.specs.Calls as calls
+use Rattle.mbj_manager.specs.Calls.{Call, after_calls, called, opened_next, submitted_at, written_at}
+use Rattle.mbj_manager.specs.Between.{AreKept, HasRounds, IsBetweenCalls, IsKept, times_in}
+use Rattle.mbj_manager.proofs.BetweenCalls.{course-length, flush-length, machines-kept}
+use Rattle.mbj_manager.proofs.Standing.{IsLane}
+use Rattle.mbj_manager.proofs.Lanes.{lane-by, some-lanes}
+use Rattle.mbj_manager.proofs.GivingBack.{back-between}
+
+-- the machine is between two calls, and has a job for each result owed
+record IsCounted (h : ManagerState) : Type 0 where
+  machine : IsBetweenCalls h.machine
+  jobs : length h.machine.left ≡ length h.owed
+
+-- ---- what a flush gives
+
+-- the earliest job is given back where it is finished
+earliest-given : (ds : List Done) (left : List (List Pending)) (h : ManagerState) → ds ≢ [] → slice_get left 0 ≡ Some []
+    → IsSome (given_at ds left h).0
+earliest-given [] left h owes done = absurd (owes refl)
+earliest-given (d ∷ ds) [] h owes done = cc
+earliest-given (d ∷ ds) ([] ∷ left) h owes done = refl
+earliest-given (d ∷ ds) ((p ∷ ps) ∷ left) h owes done = cc
+
+-- then a flush gives the earliest job back
+kept : (h : ManagerState) → IsCounted h → IsKept h
+kept h counted = record {
+  machine = counted.machine;
+  jobs = counted.jobs;
+  flush_gives = λ owes. earliest-given h.owed (flushed h.machine).left (record h { machine = flushed h.machine }) owes
+      ((machines-kept h.machine counted.machine).earliest
+      (λ none. owes (nil_from_length h.owed (sym counted.jobs ∙ ap length none))));
+}
+
+-- ---- what each call keeps
+
+-- giving back the earliest of these jobs takes one job and one result
+given-at-counted : (ds : List Done) (left : List (List Pending)) (h : ManagerState) → h.owed ≡ ds → h.machine.left ≡ left
+    → IsCounted h → IsCounted (given_at ds left h).1
+given-at-counted [] left h owes is counted = counted
+given-at-counted (d ∷ ds) [] h owes is counted = counted
+given-at-counted (d ∷ ds) ((p ∷ ps) ∷ left) h owes is counted = counted
+given-at-counted (d ∷ ds) ([] ∷ left) h owes is counted = record {
+  machine = back-between left h.machine is counted.machine;
+  jobs = (let same = counted.jobs in omega (arith, ap length owes, ap length is));
+}
+
+-- giving back keeps it
+given-counted : (h : ManagerState) → IsCounted h → IsCounted (given h).1
+given-counted h counted = given-at-counted h.owed h.machine.left h refl refl counted
+
+-- the stages of a job have rounds
+pending-rounds : (j : Job) (steps : List Step) → All HasRounds (pending_at j steps)
+pending-rounds j [] = All-nil HasRounds
+pending-rounds j (step.Cipher ∷ steps) = All-cons HasRounds at_once (pending_at j steps) tt (pending-rounds j steps)
+pending-rounds j (step.Auth ∷ steps) = All-cons HasRounds at_once (pending_at j steps) tt (pending-rounds j steps)
+pending-rounds j (step.Gcm ∷ steps) = All-cons HasRounds at_once (pending_at j steps) tt (pending-rounds j steps)
+
+-- a submission adds one job and one result
+with-job-counted : (j : Job) (h : ManagerState) → IsCounted h → IsCounted (with_job j h)
+with-job-counted j h counted =
+    let stages = pending (begun j) in
+    let entering : ℕ → Machine = λ n. record h.machine { left = h.machine.left ++ stages ∷ []; agenda = n ∷ [] } in
+    record {
+      machine = subst (λ n. IsBetweenCalls (course submit (entering n))) counted.jobs
+          ((machines-kept h.machine counted.machine).submits stages (pending-rounds (begun j).job (begun j).left));
+      jobs = course-length submit (entering (length h.owed)) ∙ length_push h.machine.left stages
+          ∙ ap (λ n. n + 1) counted.jobs ∙ sym (length_push h.owed (result_of j));
+    }
+
+-- a submission of the open job, if there is one, and what it gives back
+submit-counted : (o : Option Job) (h : ManagerState) → h.opened ≡ o → IsCounted h → IsCounted (submitted_at o h).1
+submit-counted None h is counted = counted
+submit-counted (Some j) h is counted =
+    given-counted (entered h) (subst (λ o. IsCounted (entered_at o h)) (sym is) (with-job-counted j h counted))
+
+-- a write changes the open job alone
+write-counted : (o : Option Job) (j : Job) (h : ManagerState) → IsCounted h → IsCounted (written_at o j h)
+write-counted None j h counted = counted
+write-counted (Some old) j h counted = record { machine = counted.machine; jobs = counted.jobs }
+
+-- likewise a job that is lent
+next-counted : (h : ManagerState) → IsCounted h → IsCounted (opened_next h)
+next-counted h counted = cond_both (length h.owed == CELLS) h (with_open h (lent h)) IsCounted (λ full. counted)
+    (λ room. record { machine = counted.machine; jobs = counted.jobs })
+
+-- a flush takes neither a job nor a result
+flush-counted : (h : ManagerState) → IsCounted h → IsCounted (record h { machine = flushed h.machine })
+flush-counted h counted =
+    record { machine = (machines-kept h.machine counted.machine).flushes; jobs = flush-length h.machine ∙ counted.jobs }
+
+-- each call keeps it
+call-counted : (c : Call) (h : ManagerState) → IsCounted h → IsCounted (called c h).1
+call-counted calls.get_next h counted = next-counted h counted
+call-counted (calls.write j) h counted = write-counted h.opened j h counted
+call-counted calls.submit h counted = submit-counted h.opened h refl counted
+call-counted calls.get_completed h counted = given-counted h counted
+call-counted calls.flush h counted = given-counted (record h { machine = flushed h.machine }) (flush-counted h counted)
+
+-- so do calls
+calls-counted : (cs : List Call) (h : ManagerState) → IsCounted h → IsCounted (after_calls cs h)
+unfolding after_calls
+calls-counted [] h counted = counted
+calls-counted (c ∷ cs) h counted = calls-counted cs (called c h).1 (call-counted c h counted)
+
+-- ---- from the first call on
+
+-- lanes in which no job waits
+idle-kept : (k : Kind) → IsLane k idle_lane
+idle-kept k = record {
+  few = some-lanes k;
+  rests = All-nil (λ w. 1 ≤ w.rest);
+  blocks = (let none : 0 ≡ lanes_of k * 0 = omega arith in ap (λ n. n % count_end) none);
+}
+
+-- a new manager has it
+new-counted : IsCounted new_manager
+new-counted =
+    let idle : (k : Kind) → lane_of k new_manager.machine ≡ idle_lane = lane-by (λ k. idle_lane) in
+    let lanes : (k : Kind) → IsLane k (lane_of k new_manager.machine) = λ k. subst (IsLane k) (sym (idle k)) (idle-kept k) in
+    record {
+      machine = record {
+        agenda = refl;
+        few = λ k. (lanes k).few;
+        rests = λ k. (lanes k).rests;
+        placed = λ n k. ap (λ l. times_in n l.waiting) (idle k);
+        stages = All-nil (All HasRounds);
+        blocks = λ k. (lanes k).blocks;
+      };
+      jobs = refl;
+    }
+
+-- so it holds after each list of calls
+pub calls-keep : (cs : List Call) → AreKept cs
+calls-keep cs = kept (after_calls cs new_manager) (calls-counted cs new_manager new-counted)

@@ -1,0 +1,56 @@
+-- The lanes by their kinds: what is given to one kind leaves the others as they are.
+use Rattle.std.proofs.Common.{◌≡◌, ◌≢◌, ◌<◌, ◌⊎◌, inl, inr, refl, arith}
+use Rattle.mbj_types.specs.declared.kind.Kind.{Kind}
+use Rattle.mbj_types.specs.declared.kind.Kind.TheVariants as kind
+use Rattle.mbj_types.specs.Kinds.{lanes_of}
+use Rattle.mbj_manager.specs.Machine.{Lane, Lanes, lane_in, with_lane, lanes_by}
+
+-- two kinds are one, or they are not
+pub same-kind : (j k : Kind) → (j ≡ k) ⊎ (j ≢ k)
+same-kind kind.Cbc128 kind.Cbc128 = inl refl
+same-kind kind.Cbc192 kind.Cbc192 = inl refl
+same-kind kind.Cbc256 kind.Cbc256 = inl refl
+same-kind kind.Cmac128 kind.Cmac128 = inl refl
+same-kind kind.Cmac256 kind.Cmac256 = inl refl
+same-kind kind.HmacSha1 kind.HmacSha1 = inl refl
+same-kind kind.HmacSha256 kind.HmacSha256 = inl refl
+same-kind kind.HmacSha512 kind.HmacSha512 = inl refl
+same-kind _ _ = inr (λ e. cc)
+
+-- what holds of the lanes that a kind is given, and of those of every other kind, holds of every kind's
+pub each-lane : (P : Kind → Lane → Type 0) (k : Kind) (l : Lane) (lanes : Lanes) → P k l
+    → ((j : Kind) → j ≢ k → P j (lane_in j lanes)) → (j : Kind) → P j (lane_in j (with_lane k l lanes))
+each-lane P kind.Cbc128 l lanes here there kind.Cbc128 = here
+each-lane P kind.Cbc192 l lanes here there kind.Cbc192 = here
+each-lane P kind.Cbc256 l lanes here there kind.Cbc256 = here
+each-lane P kind.Cmac128 l lanes here there kind.Cmac128 = here
+each-lane P kind.Cmac256 l lanes here there kind.Cmac256 = here
+each-lane P kind.HmacSha1 l lanes here there kind.HmacSha1 = here
+each-lane P kind.HmacSha256 l lanes here there kind.HmacSha256 = here
+each-lane P kind.HmacSha512 l lanes here there kind.HmacSha512 = here
+each-lane P _ l lanes here there j = there j (λ e. cc)
+
+-- a kind has the lanes that it is given
+pub given-lane : (k : Kind) (l : Lane) (lanes : Lanes) → lane_in k (with_lane k l lanes) ≡ l
+given-lane k l lanes = each-lane (λ j given. j ≡ k → given ≡ l) k l lanes (λ e. refl) (λ j ne e. absurd (ne e)) k refl
+
+-- another kind has the lanes that it had
+pub other-lane : (k j : Kind) (l : Lane) (lanes : Lanes) → j ≢ k → lane_in j (with_lane k l lanes) ≡ lane_in j lanes
+other-lane k j l lanes ne =
+    each-lane (λ i given. i ≢ k → given ≡ lane_in i lanes) k l lanes (λ ne. absurd (ne refl)) (λ i ne _. refl) j ne
+
+-- each kind has the lanes that a function gives for it
+pub lane-by : (f : Kind → Lane) (k : Kind) → lane_in k (lanes_by f) ≡ f k
+lane-by f kind.Cbc128 = refl
+lane-by f kind.Cbc192 = refl
+lane-by f kind.Cbc256 = refl
+lane-by f kind.Cmac128 = refl
+lane-by f kind.Cmac256 = refl
+lane-by f kind.HmacSha1 = refl
+lane-by f kind.HmacSha256 = refl
+lane-by f kind.HmacSha512 = refl
+
+-- a kind has a lane at least
+pub some-lanes : (k : Kind) → 0 < lanes_of k
+some-lanes kind.Cbc128 = omega arith
+some-lanes _ = omega arith

@@ -1,0 +1,49 @@
+-- Who leaves a list that runs, and who stays.
+use Rattle.std.proofs.Common.{◌≡◌, ◌≢◌, ℕ, ◌+◌, ◌<◌, ◌≤◌, min, List, [], ◌∷◌, map, length, not, true, ◌⊎◌, inl, inr, refl, ap, ◌∙◌, arith}
+use Rattle.std.specs.Prelude.{All, filter}
+use Rattle.std.proofs.lemmas.Bool.{cases_eq, eq-eqb, eqb-false, not-true, cases_Bool}
+use Rattle.std.proofs.lemmas.List.{length-map}
+use Rattle.std.proofs.lemmas.List.Filters.{length-filter_both}
+use Rattle.std.proofs.lemmas.List.Elements.{All-weaker, filter_passes}
+use Rattle.mbj_manager.specs.Machine.{Waiting, least, least_from, lowered, shortened, is_at_end, leavers, stayers}
+
+-- each of the list leaves or stays
+pub leave-or-stay : (ws : List Waiting) → length (leavers (shortened ws)) + length (stayers (shortened ws)) ≡ length ws
+leave-or-stay ws =
+    ap (λ n. n + length (stayers (shortened ws))) (length-map (filter is_at_end (shortened ws)) (λ w. w.number))
+    ∙ length-filter_both is_at_end (λ w. not (is_at_end w)) (λ w. refl) (shortened ws) ∙ length-map ws (lowered (least ws))
+
+-- who stays has rounds left
+pub stayers-rest : (ws : List Waiting) → All (λ w. 1 ≤ w.rest) (stayers ws)
+stayers-rest ws = All-weaker (λ w. not (is_at_end w) ≡ true) (λ w. 1 ≤ w.rest)
+    (λ w t. let ne : w.rest ≢ 0 = eqb-false w.rest 0 (not-true (is_at_end w) t) in omega arith) (stayers ws)
+    (filter_passes (λ w. not (is_at_end w)) ws)
+
+-- where one of a list leaves, one of a longer list leaves
+leaves-more : (w : Waiting) (ws : List Waiting) → 0 < length (leavers ws) → 0 < length (leavers (w ∷ ws))
+leaves-more w ws h = elim (cases_Bool (is_at_end w)) [ inl e ↦ rw e (omega arith) | inr e ↦ rw e h ]
+
+-- the first of a list leaves where no round is left of it
+leaves-first : (w : Waiting) (ws : List Waiting) → w.rest ≡ 0 → 0 < length (leavers (w ∷ ws))
+leaves-first w ws e = let t : is_at_end w ≡ true = eq-eqb w.rest 0 e in rw t (omega arith)
+
+-- the least is n itself or the rest of one of the list, who leaves
+least-leaves : (m n : ℕ) (ws : List Waiting) → m ≡ least_from n ws → (m ≡ n) ⊎ (0 < length (leavers (map (lowered m) ws)))
+least-leaves m n [] e = inl e
+least-leaves m n (w ∷ ws) e = elim (least-leaves m (min n w.rest) ws e) [
+  | inl i ↦ (elim (cases_eq m n) [
+    | inl h ↦ inl h
+    | inr h ↦ inr (leaves-first (lowered m w) (map (lowered m) ws) (omega arith))
+  ])
+  | inr l ↦ inr (leaves-more (lowered m w) (map (lowered m) ws) l)
+]
+
+-- of a list in which somebody waits somebody leaves
+pub some-leave : (ws : List Waiting) → 0 < length ws → 0 < length (leavers (shortened ws))
+some-leave [] h = absurd (omega arith)
+some-leave (w ∷ ws) h =
+    let m = least_from w.rest ws in
+    elim (least-leaves m w.rest ws refl) [
+      | inl e ↦ leaves-first (lowered m w) (map (lowered m) ws) (omega arith)
+      | inr l ↦ leaves-more (lowered m w) (map (lowered m) ws) l
+    ]

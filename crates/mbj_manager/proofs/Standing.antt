@@ -1,0 +1,126 @@
+-- Where each job stands within a course, and where it stands once a list ran.
+use Rattle.std.proofs.Common.{◌≡◌, ◌≢◌, ℕ, ◌+◌, ◌*◌, ◌%◌, ◌≤◌, ◌<◌, ◌==◌, List, [], ◌∷◌, ◌++◌, length, cond, ◌⊎◌, inl, inr, refl, ap, sym, ◌∙◌, subst, arith}
+use Rattle.std.specs.Prelude.{All}
+use Rattle.std.proofs.lemmas.Bool.{cases_lt}
+use Rattle.std.proofs.lemmas.List.Sums.{sum_by-append}
+use Rattle.mbj_types.specs.declared.kind.Kind.{Kind}
+use Rattle.mbj_types.specs.Kinds.{lanes_of}
+use Rattle.mbj_manager.specs.Rounds.{Pending, at_once, in_lanes}
+use Rattle.mbj_manager.specs.Machine.{Waiting, Lane, Machine, count_end, lane_of, leavers, ran, shortened, stayers}
+use Rattle.mbj_manager.specs.Between.{HasRounds, IsPlaced, times_in}
+use Rattle.mbj_manager.proofs.Lanes.{same-kind, each-lane}
+use Rattle.mbj_manager.proofs.Times.{times, times-leave, times-shortened}
+use Rattle.mbj_manager.proofs.StagesLeft.{left_at, stage-stays}
+
+-- the job n stands in the agenda and in no list, or it doesn't stand in the agenda and is placed by the stages left of it
+abbrev pub Stands : Machine → ℕ → Type 0
+Stands m n = ((times n m.agenda ≡ 1) × IsPlaced m n []) ⊎ ((times n m.agenda ≡ 0) × IsPlaced m n (left_at n m.left))
+
+-- what holds of the lanes of a kind after each step
+pub record IsLane (k : Kind) (l : Lane) : Type 0 where
+  pub few : length l.waiting < lanes_of k
+  pub rests : All (λ w. 1 ≤ w.rest) l.waiting
+  pub blocks : l.blocks ≡ (lanes_of k * l.rounds) % count_end
+
+-- what holds of the machine after each step of a course
+pub record IsWithin (m : Machine) : Type 0 where
+  pub lanes : (k : Kind) → IsLane k (lane_of k m)
+  pub stages : (n : ℕ) → All HasRounds (left_at n m.left)
+  pub stands : (n : ℕ) → Stands m n
+
+-- ---- a job whose places don't change
+
+-- the job n of the machine after stands where the job i of the machine m does
+pub same-placed : (m after : Machine) (i n : ℕ)
+    → ((j : Kind) → times_in n (lane_of j after).waiting ≡ times_in i (lane_of j m).waiting)
+    → (ps : List Pending) → IsPlaced m i ps → IsPlaced after n ps
+same-placed m after i n same [] placed = λ k. same k ∙ placed k
+same-placed m after i n same (at_once ∷ left) placed = placed
+same-placed m after i n same (in_lanes k rest ∷ left) placed = (same k ∙ placed.0, λ j ne. same j ∙ placed.1 j ne)
+
+-- a job stands as it did where its places and its stages are the same
+pub same-stands : (m after : Machine) (n : ℕ)
+    → ((j : Kind) → times_in n (lane_of j after).waiting ≡ times_in n (lane_of j m).waiting)
+    → left_at n after.left ≡ left_at n m.left → times n after.agenda ≡ times n m.agenda → Stands m n → Stands after n
+same-stands m after n same left agenda stands = elim stands [
+  | inl a ↦ inl (agenda ∙ a.0, same-placed m after n n same [] a.1)
+  | inr p ↦ inr (agenda ∙ p.0, subst (IsPlaced after n) (sym left) (same-placed m after n n same (left_at n m.left) p.1))
+]
+
+-- ---- a list runs
+
+-- the jobs that leave the list of the kind k when it runs
+abbrev pub gone : Kind → Machine → List ℕ
+gone k m = leavers (shortened (lane_of k m).waiting)
+
+-- and those that stay
+abbrev pub stayed : Kind → Machine → List Waiting
+stayed k m = stayers (shortened (lane_of k m).waiting)
+
+-- who stood in the list leaves it or stays
+gone-or-stayed : (k : Kind) (m : Machine) (n : ℕ)
+    → times n (gone k m) + times_in n (stayed k m) ≡ times_in n (lane_of k m).waiting
+gone-or-stayed k m n = times-leave n (shortened (lane_of k m).waiting) ∙ times-shortened n (lane_of k m).waiting
+
+-- a job that is placed stands in a list no more often than it has stages left
+placed-most : (k : Kind) (m : Machine) (n : ℕ) (ps : List Pending) → IsPlaced m n ps
+    → times_in n (lane_of k m).waiting ≤ length ps
+placed-most k m n [] placed = omega (arith, placed k)
+placed-most k m n (at_once ∷ left) placed = elim placed [ ]
+placed-most k m n (in_lanes j rest ∷ left) placed = elim (same-kind k j) [
+  | inl e ↦ subst (λ i. times_in n (lane_of i m).waiting ≤ length (in_lanes j rest ∷ left)) (sym e) (omega (arith, placed.0))
+  | inr ne ↦ omega (arith, placed.1 k ne)
+]
+
+-- no more leave than have stages left
+pub gone-most : (k : Kind) (m : Machine) (n : ℕ) → Stands m n → times n (gone k m) ≤ length (left_at n m.left)
+gone-most k m n stands = elim stands [
+  | inl a ↦ omega (arith, gone-or-stayed k m n, a.1 k)
+  | inr p ↦ omega (arith, gone-or-stayed k m n, placed-most k m n (left_at n m.left) p.1)
+]
+
+-- a job that is placed and stands in a list stands there once, and in no other list
+placed-once : (k : Kind) (m : Machine) (n : ℕ) (ps : List Pending) → IsPlaced m n ps → 0 < times_in n (lane_of k m).waiting
+    → (times_in n (lane_of k m).waiting ≡ 1) × ((j : Kind) → j ≢ k → times_in n (lane_of j m).waiting ≡ 0)
+placed-once k m n [] placed there = absurd (omega (arith, placed k))
+placed-once k m n (at_once ∷ left) placed there = elim placed [ ]
+placed-once k m n (in_lanes i rest ∷ left) placed there = elim (same-kind k i) [
+  | inl e ↦ subst (λ i. IsPlaced m n (in_lanes i rest ∷ left)) (sym e) placed
+  | inr ne ↦ absurd (omega (arith, placed.1 k ne))
+]
+
+-- a job that doesn't leave
+stays-standing : (k : Kind) (after : List Waiting → Lane) (m : Machine) (n : ℕ) → ((ws : List Waiting) → (after ws).waiting ≡ ws)
+    → times n (gone k m) ≡ 0 → Stands m n → Stands (ran k after m) n
+stays-standing k after m n waiting none stands =
+    let here : times_in n (after (stayed k m)).waiting ≡ times_in n (lane_of k m).waiting
+    = ap (times_in n) (waiting (stayed k m)) ∙ (let all = gone-or-stayed k m n in omega arith) in
+    let agenda : times n (m.agenda ++ gone k m) ≡ times n m.agenda
+    = (let more = sum_by-append (λ k. cond (k == n) 1 0) m.agenda (gone k m) in omega arith) in
+    same-stands m (ran k after m) n
+    (each-lane (λ j l. times_in n l.waiting ≡ times_in n (lane_of j m).waiting) k (after (stayed k m)) m.lanes here (λ j ne. refl))
+    (stage-stays n (gone k m) m.left none) agenda stands
+
+-- a job that leaves stands in the agenda then
+leaves-standing : (k : Kind) (after : List Waiting → Lane) (m : Machine) (n : ℕ) → ((ws : List Waiting) → (after ws).waiting ≡ ws)
+    → 0 < times n (gone k m) → Stands m n → Stands (ran k after m) n
+leaves-standing k after m n waiting some stands =
+    let all = gone-or-stayed k m n in
+    let more = sum_by-append (λ k. cond (k == n) 1 0) m.agenda (gone k m) in
+    elim stands [
+      | inl a ↦ absurd (omega (arith, a.1 k))
+      | inr p ↦
+          (let once = placed-once k m n (left_at n m.left) p.1 (omega arith) in
+          let off : times n m.agenda ≡ 0 = p.0 in
+          let one : times_in n (lane_of k m).waiting ≡ 1 = once.0 in
+          let here : times_in n (after (stayed k m)).waiting ≡ 0 = ap (times_in n) (waiting (stayed k m)) ∙ omega arith in
+          inl (omega arith, each-lane (λ j l. times_in n l.waiting ≡ 0) k (after (stayed k m)) m.lanes here once.1))
+    ]
+
+-- each job stands in one place once the list ran
+pub ran-standing : (k : Kind) (after : List Waiting → Lane) (m : Machine) (n : ℕ) → ((ws : List Waiting) → (after ws).waiting ≡ ws)
+    → Stands m n → Stands (ran k after m) n
+ran-standing k after m n waiting stands = elim (cases_lt 0 (times n (gone k m))) [
+  | inl some ↦ leaves-standing k after m n waiting some stands
+  | inr none ↦ stays-standing k after m n waiting (omega arith) stands
+]

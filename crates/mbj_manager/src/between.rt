@@ -1,0 +1,17 @@
+ghost use Rattle.std.specs.Prelude.{List};
+ghost use Rattle.mbj_manager.specs.Machine.{Machine};
+ghost use Rattle.mbj_manager.specs.Calls.{Call};
+ghost use Rattle.mbj_manager.specs.Between.{AreKept, IsBetweenCalls, KeepsMachines};
+
+/// A law: from every machine between two calls, the course of a submission and a flush lead to a machine between two calls,
+/// whatever stages the submitted job has, where each of them in lanes takes a round at least; so the course ends with nothing
+/// left to take up, no job stands in two lists, and a flush ends with the earliest job finished.
+pub fn machines_stay_between_calls()
+    ensures { (m : Machine) → IsBetweenCalls m → KeepsMachines m }
+{}
+
+/// A law: after every list of calls on a new manager its machine is one between two calls, and a flush gives the earliest job
+/// back where there is one.
+pub fn calls_keep_the_machine()
+    ensures { (calls : List Call) → AreKept calls }
+{}
