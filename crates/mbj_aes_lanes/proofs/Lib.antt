@@ -2,6 +2,7 @@ pub mod Blends
 pub mod ByteMatrices
 pub mod EachOfSixteen
 pub mod Exchanges
+pub mod FullLanes
 pub mod HeldKeys
 pub mod KeySchedules
 pub mod LaneWords

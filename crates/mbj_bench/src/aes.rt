@@ -1,3 +1,6 @@
+ghost use Rattle.std.specs.Prelude.{◌≡◌, ◌≤◌, ◌%◌, length};
+ghost use Rattle.mbj_aes_lanes.specs.KeyLanes.{IsFull};
+
 use crate::ghash::fill;
 use crate::sha1_kernel;
 use mbj_aes::Schedule;
@@ -25,10 +28,10 @@ const IV: u128 = 0xf0f1_f2f3_f4f5_f6f7_f8f9_fafb_fcfd_feff;
 const TEXT_BYTES: usize = 1500;
 
 /// The bytes of a schedule of 10 rounds.
-const SCHEDULE_BYTES: usize = 176;
+const SCHEDULE_BYTES: u32 = 176;
 
 /// The bytes of one pass, and the passes of which the fastest counts.
-const PASS_BYTES: usize = 131_072;
+const PASS_BYTES: u32 = 131_072;
 
 const PASSES: u32 = 50;
 
@@ -78,13 +81,21 @@ impl Call {
     }
 
     /// The bytes of text, or of schedule, of one turn.
-    fn bytes(self) -> usize {
+    fn bytes(self) -> u32 {
         match self {
             Call::Encrypt16(_) | Call::Decrypt16(_) => 256,
             Call::Put | Call::Expand => SCHEDULE_BYTES,
-            Call::Ctr(len) | Call::CbcDecryption(len) => len,
+            Call::Ctr(len) | Call::CbcDecryption(len) => len.min(TEXT_BYTES) as u32,
         }
     }
+}
+
+/// The schedule of the 16 bytes of KEY from `i` on.
+fn schedule_from(i: usize) -> Schedule
+    requires { i ≤ 16 }
+    ensures { length result ≡ 176 }
+{
+    Schedule::expand(&KEY[i..i + 16])
 }
 
 /// The schedule of the key of 10, 12 or else 14 rounds.
@@ -103,14 +114,46 @@ fn print_sha1(rt: &impl Print, text: &[u8]) -> io::Result<()> {
     println!(rt)
 }
 
+/// Puts a schedule in the lanes by turns, and answers a byte that depends on it.
+fn put(turns: u32) -> u8 {
+    let key = schedule_from(0);
+    let mut keys = LaneKeys::all(&key);
+    'turns: for turn in 0..turns {
+        keys.put(turn % 16, &key);
+    }
+    let mut blocks = [[0; 16]; 16];
+    encrypt16(&keys, &mut blocks);
+    blocks[0][0]
+}
+
+/// Makes the schedule of a key, that of its last round key, and so on.
+fn expand(turns: u32) -> u8 {
+    let mut key = EXPANDED_KEY.to_be_bytes();
+    for _ in 0..turns {
+        key = Schedule::expand(&key).round_key(10);
+    }
+    key[0]
+}
+
 fn filled_blocks() -> [[u8; 16]; 16] {
     let mut blocks = [[0; 16]; 16];
     fill(blocks.as_flattened_mut());
     blocks
 }
 
-/// Prints SHA-1 of what the call makes of the text; of `Put` that of the text under sixteen keys, the key in lane i being
-/// the bytes of KEY from i on; and of `Expand` the last round key.
+/// Sixteen keys of 10 rounds, that in lane i being the bytes of KEY from i on.
+fn sixteen_keys() -> LaneKeys
+    ensures { IsFull result }
+{
+    let mut keys = LaneKeys::all(&schedule_from(0));
+    'lanes: for lane in 0..16u32 {
+        keys.put(lane, &schedule_from(lane as usize));
+    }
+    keys
+}
+
+/// Prints SHA-1 of what the call makes of the text; of `Put` that of the blocks under sixteen keys, and of `Expand` the
+/// last round key.
 fn print_digest(rt: &impl Print, call: Call) -> io::Result<()> {
     call.print_name(rt)?;
     print!(rt; ": ")?;
@@ -126,7 +169,10 @@ fn print_digest(rt: &impl Print, call: Call) -> io::Result<()> {
             decrypt16(&LaneKeys::all(&schedule(rounds)), &mut blocks);
             print_sha1(rt, blocks.as_flattened())
         }
-        Call::Put => print_sha1(rt, &text),
+        Call::Put => {
+            encrypt16(&sixteen_keys(), &mut blocks);
+            print_sha1(rt, blocks.as_flattened())
+        }
         Call::Expand => {
             let last = Schedule::expand(&EXPANDED_KEY.to_be_bytes()).round_key(10);
             println!(rt; "{:032x}", u128::from_be_bytes(last))
@@ -149,4 +195,86 @@ pub fn print_digests(rt: &impl Print) -> io::Result<()> {
         print_digest(rt, call)?;
     }
     Ok(())
+}
+
+fn encrypt(rounds: u32, turns: u32) -> u8 {
+    let keys = LaneKeys::all(&schedule(rounds));
+    let mut blocks = filled_blocks();
+    for _ in 0..turns {
+        encrypt16(&keys, &mut blocks);
+    }
+    blocks[0][0]
+}
+
+fn decrypt(rounds: u32, turns: u32) -> u8 {
+    let keys = LaneKeys::all(&schedule(rounds));
+    let mut blocks = filled_blocks();
+    for _ in 0..turns {
+        decrypt16(&keys, &mut blocks);
+    }
+    blocks[0][0]
+}
+
+fn ctr(text: &mut [u8], turns: u32) {
+    for _ in 0..turns {
+        apply(&schedule(10), &IV.to_be_bytes(), text);
+    }
+}
+
+fn cbc_decryption(text: &mut [u8], turns: u32)
+    requires { length text.old % 16 ≡ 0 }
+{
+    for _ in 0..turns {
+        decrypt_in_place(&schedule(10), &IV.to_be_bytes(), text);
+    }
+}
+
+/// Runs the call for some turns, and answers a byte that its result depends on.
+fn run(call: Call, turns: u32) -> u8 {
+    let mut text = [7; TEXT_BYTES];
+    match call {
+        Call::Encrypt16(rounds) => encrypt(rounds, turns),
+        Call::Decrypt16(rounds) => decrypt(rounds, turns),
+        Call::Put => put(turns),
+        Call::Expand => expand(turns),
+        Call::Ctr(len) => {
+            ctr(&mut text[..len.min(TEXT_BYTES)], turns);
+            text[0]
+        }
+        Call::CbcDecryption(len) => {
+            cbc_decryption(&mut text[..len.min(TEXT_BYTES) / 16 * 16], turns);
+            text[0]
+        }
+    }
+}
+
+/// The fastest pass of the call and of the plain crate for SHA-1, in nanoseconds for as many bytes. They take turns, so
+/// that what else the machine does meets them alike. What is computed goes into `sum`, so that none of it is left out.
+fn fastest(rt: &impl Clock, call: Call, sum: &mut u64) -> io::Result<(u128, u128)> {
+    let turns = PASS_BYTES.checked_div(call.bytes()).unwrap_or(0);
+    let mut best = (u128::MAX, u128::MAX);
+    for _ in 0..PASSES {
+        let start = Instant::now(rt)?;
+        *sum ^= u64::from(run(call, turns));
+        best.0 = start.elapsed(rt)?.as_nanos().min(best.0);
+        let start = Instant::now(rt)?;
+        *sum ^= sha1_kernel::plain(PASS_BYTES / 512);
+        best.1 = start.elapsed(rt)?.as_nanos().min(best.1);
+    }
+    Ok(best)
+}
+
+/// Prints MB/s of each call, and in how many times less time than the plain crate for SHA-1 took for as many bytes.
+pub fn print_times(rt: &(impl Print + Clock)) -> io::Result<()> {
+    let mut sum = 0;
+    for call in Call::ALL {
+        let (nanos, plain) = fastest(rt, call, &mut sum)?;
+        let rate = (1000 * u128::from(PASS_BYTES))
+            .checked_div(nanos)
+            .unwrap_or(0);
+        let times = plain.saturating_mul(100).checked_div(nanos).unwrap_or(0);
+        call.print_name(rt)?;
+        println!(rt; ": {rate} MB/s, {}.{:02}", times / 100, times % 100)?;
+    }
+    println!(rt; "checksum {sum:016x}")
 }

@@ -44,7 +44,7 @@ impl Work {
 }
 
 /// Makes the text: byte `i` is 7 times `i`, modulo 251.
-fn fill(text: &mut [u8]) {
+pub fn fill(text: &mut [u8]) {
     for (i, byte) in text.iter_mut().enumerate() {
         *byte = (7 * (i % 251) % 251) as u8;
     }

@@ -1,8 +1,9 @@
-//! Prints digests that the lane kernels compute, as the standards' examples give them, and one of GHASH, as another
-//! program gives it. With the argument `--time` it also prints how fast each kernel, GHASH and GCM are, in MB/s and beside
-//! the plain crate on as many bytes in the same run. Other arguments are ignored.
+//! Prints digests that the lane kernels compute, as the standards' examples give them, and those of GHASH and of
+//! AES, as another program gives them. With the argument `--time` it also prints how fast each kernel, GHASH, GCM and AES are,
+//! in MB/s and beside the plain crate on as many bytes in the same run. Other arguments are ignored.
 #![tactic(auto)]
 
+mod aes;
 mod ghash;
 mod kernel;
 mod message;
@@ -18,9 +19,11 @@ fn main(rt: HostRuntime) -> io::Result<()> {
     sha256_kernel::print_digests(&rt)?;
     sha512_kernel::print_digests(&rt)?;
     ghash::print_digest(&rt)?;
+    aes::print_digests(&rt)?;
     if env::args(&rt)?.any(|word| word.as_str() == "--time") {
         timing::print(&rt)?;
         ghash::print_times(&rt)?;
+        aes::print_times(&rt)?;
     }
     Ok(())
 }

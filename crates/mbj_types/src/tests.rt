@@ -48,8 +48,14 @@ fn a_copied_job_is_equal_and_stands_alone(rt: HostRuntime) -> Result<(), Fail> {
     assert_eq!(rt; copy.packet.as_slice(), b"packet".as_slice());
     assert_eq!(rt; copy.tag_len, 12);
     let blank = Job::blank(rt.alloc()).copy(rt.alloc())?;
-    assert_eq!(rt; (blank.cipher, blank.auth, blank.tag_len), (Cipher::Null, Auth::Null, 0));
-    assert_eq!(rt; blank.key.as_slice().len() + blank.packet.as_slice().len(), 0);
+    assert_eq!(rt;
+        (blank.cipher, blank.auth, blank.tag_len),
+        (Cipher::Null, Auth::Null, 0)
+    );
+    assert_eq!(rt;
+        blank.key.as_slice().len() + blank.packet.as_slice().len(),
+        0
+    );
     Ok(())
 }
 

@@ -1,0 +1,7 @@
+-- Every lane has a schedule of 10 rounds.
+use Rattle.std.proofs.Common.{◌≡◌}
+use Rattle.mbj_aes_lanes.specs.KeyLanes.{IsFull}
+use Rattle.mbj_bench.proofs.aes.put.Given as goal
+
+abbrev pub invariant-turns : goal.invariant-turns
+invariant-turns l = (l.keys.rounds ≡ 10) × IsFull l.keys
