@@ -1,0 +1,35 @@
+-- Which entry is taken.
+use Rattle.std.proofs.Common.{◌≡◌, ℕ, ◌≤◌, ◌<◌, zero, suc, List, [], ◌∷◌, ◌++◌, length, take, drop, get_or, Option, Some, None, eqb, false, refl, sym, ap, ◌∙◌, arith}
+use Rattle.std.specs.Option.{option_map}
+use Rattle.std.specs.List.{remove}
+use Rattle.std.proofs.lemmas.List.{get_or_default}
+use Rattle.std.proofs.lemmas.Bool.{ne_eqb}
+use Rattle.mbj_lane.specs.Rounds.{taken}
+
+module _ {E : Type 0} (rest : E → ℕ) where
+  -- an entry with a round left is passed over
+  passed : (e : E) (es : List E) → 1 ≤ rest e → taken rest (e ∷ es) ≡ option_map (λ t. (t.0, e ∷ t.1)) (taken rest es)
+  passed e es h = let apart : eqb (rest e) 0 ≡ false = ne_eqb (rest e) 0 (λ z. omega (arith, z)) in rw apart refl
+
+  at_place : (es : List E) (i : ℕ) (e : E) → i < length es → ((k : ℕ) (d : E) → k < i → 1 ≤ rest (get_or es k d))
+      → e ≡ get_or es i e → rest e ≡ 0 → taken rest es ≡ Some (e, take i es ++ drop (suc i) es)
+  at_place [] i e lt before is z = absurd (omega arith)
+  at_place (x ∷ es) zero e lt before is z = rw (← is, z) refl
+  at_place (x ∷ es) (suc i) e lt before is z =
+      let lt' : i < length es = omega arith in
+      passed x es (before 0 e (omega arith))
+      ∙ ap (option_map (λ t. (t.0, x ∷ t.1))) (at_place es i e lt' (λ k d l. before (suc k) d (omega arith)) is z)
+
+  -- the entry at place i, where those before it have a round left; f is that entry too
+  pub taken-first : (es : List E) (i : ℕ) (e f : E) → i < length es → ((k : ℕ) (d : E) → k < i → 1 ≤ rest (get_or es k d))
+      → e ≡ get_or es i e → f ≡ get_or es i f → rest f ≡ 0 → taken rest es ≡ Some (e, remove es i)
+  taken-first es i e f lt before is is' z =
+      let same : e ≡ f = is ∙ get_or_default es i e f lt ∙ sym is' in
+      at_place es i e lt before is (ap rest same ∙ z)
+
+  -- no entry, where each has a round left
+  pub taken-none : (es : List E) → ((k : ℕ) (d : E) → k < length es → 1 ≤ rest (get_or es k d)) → taken rest es ≡ None
+  taken-none [] all = refl
+  taken-none (x ∷ es) all =
+      passed x es (all 0 x (omega arith))
+      ∙ ap (option_map (λ t. (t.0, x ∷ t.1))) (taken-none es (λ k d l. all (suc k) d (omega arith)))
