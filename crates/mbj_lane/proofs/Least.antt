@@ -1,5 +1,5 @@
 -- The least of the rests.
-use Rattle.std.proofs.Common.{◌≡◌, ℕ, ◌≤◌, ◌<◌, min, zero, suc, List, [], ◌∷◌, length, drop, get_or, refl, arith}
+use Rattle.std.proofs.Common.{◌≡◌, ℕ, ◌≤◌, ◌<◌, min, zero, suc, List, [], ◌∷◌, length, drop, get_or, arith}
 use Rattle.std.proofs.Math.ListN.{drop_of_length-le}
 use Rattle.mbj_lane.specs.Rounds.{least_from, least}
 

@@ -1,4 +1,3 @@
-use Rattle.std.proofs.Common.{◌≡◌, ℕ, List, length, arith}
 use Rattle.mbj_lane.proofs.Least.{least-at}
 use Rattle.mbj_lane.proofs.Led.{map-rests, map-ends}
 use Rattle.mbj_lane.proofs.lanes.Lanes.run_shortest.Goals as goal

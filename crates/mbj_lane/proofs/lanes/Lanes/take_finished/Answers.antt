@@ -1,5 +1,4 @@
-use Rattle.std.proofs.Common.{◌≡◌, ℕ, List, Some, length, ap, sym, ◌∙◌, arith}
-use Rattle.mbj_lane.specs.Rounds.{taken}
+use Rattle.std.proofs.Common.{sym, ◌∙◌, arith}
 use Rattle.mbj_lane.proofs.Taken.{taken-first, taken-none}
 use Rattle.mbj_lane.proofs.lanes.Lanes.take_finished.Goals as goal
 
