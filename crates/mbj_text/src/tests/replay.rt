@@ -114,3 +114,18 @@ fn the_first_fault_is_told(rt: HostRuntime) -> Result<(), Fail> {
     }
     Ok(())
 }
+
+#[test]
+fn a_script_may_have_many_commands(rt: HostRuntime) -> Result<(), Fail> {
+    let mut file = file_of(rt.alloc(), b"@\n%\n")?;
+    for _ in 0..150 {
+        file.extend_from_slice(b"post 2\nclaim 1 2\n")?;
+    }
+    let (jobs, commands) = read(&rt, rt.alloc(), &file)?;
+    assert_eq!(rt; (jobs, commands.len()), (1, 300));
+    assert_eq!(rt;
+        commands.as_slice().get(298..),
+        Some([Cmd::Post(2), Cmd::Claim(1, 2)].as_slice())
+    );
+    Ok(())
+}
