@@ -17,12 +17,7 @@ const PADDING_BYTE: u8 = 0x80;
 fn doubled_number(block: u128) -> u128
     ensures { result ≡ doubled_number block }
 {
-    let shifted = block << 1;
-    if block >> 127 == 1 {
-        shifted ^ REDUCTION
-    } else {
-        shifted
-    }
+    (block << 1) ^ (block >> 127) * REDUCTION
 }
 
 // A block doubled.
