@@ -1,8 +1,10 @@
 //! The program `mbjobs`: it reads a job file from standard input, does its jobs, and prints the result of each.
 #![tactic(auto)]
 
-ghost use Rattle.std.specs.Prelude.{◌≡◌};
+ghost use Rattle.std.specs.Prelude.{◌≡◌, ◌⊎◌};
 ghost use Rattle.std.specs.Process.{exit_status};
+ghost use Rattle.mbjobs.specs.Message.{status_of};
+ghost use Rattle.mbjobs.specs.declared.cause.Cause.{Cause};
 
 mod cause;
 mod generate;
@@ -15,13 +17,14 @@ mod tests;
 mod top;
 mod trace;
 
-use crate::top::{mbjobs, refuse};
+use crate::cause::Cause;
+use crate::top::{mbjobs, refuse, tell};
 use mbj_command::WordFault;
 pub use mbj_gen::Generator;
-use mbj_io::{StdSink, StdSource};
+use mbj_io::{Sink, StdSink, StdSource};
 use mbj_work::OpenGate;
 use std::env;
-use std::io::ErrorKind;
+use std::io::{BufWriter, ErrorKind, Write};
 use std::process::ExitCode;
 
 /// The command line, with the program's name first. Words that are no text are no command.
@@ -33,6 +36,17 @@ fn command_line(rt: &HostRuntime) -> Result<Vec<String>, WordFault> {
             ErrorKind::OutOfMemory => WordFault::Memory,
             _ => WordFault::from_str(alloc, "error: a word of the command line is no text\n"),
         }),
+    }
+}
+
+/// The status once what waits in the buffer of standard output is written: a good one becomes that of a failed write where
+/// it can't be, which is told.
+fn written<W: Write, E: Sink>(out: &mut W, err: &mut E, status: u8) -> u8
+    ensures { (result ≡ status) ⊎ ((status ≡ 0) × (result ≡ status_of Cause.Write)) }
+{
+    match out.flush() {
+        Err(_) if status == 0 => tell(err, Cause::Write),
+        _ => status,
     }
 }
 
@@ -49,8 +63,11 @@ fn main(rt: HostRuntime) -> ExitCode {
         Ok(words) => words,
         Err(fault) => return ended(refuse(&mut err, fault)),
     };
+    let Ok(mut buffer) = BufWriter::new(rt.alloc(), rt.stdout()) else {
+        return ended(tell(&mut err, Cause::Memory));
+    };
     let mut input = StdSource::new(rt.stdin());
-    let mut out = StdSink::new(rt.stdout());
+    let mut out = StdSink::new(&mut buffer);
     let status = mbjobs(
         &rt,
         rt.alloc(),
@@ -60,5 +77,5 @@ fn main(rt: HostRuntime) -> ExitCode {
         &mut err,
         &OpenGate,
     );
-    ended(status)
+    ended(written(&mut buffer, &mut err, status))
 }

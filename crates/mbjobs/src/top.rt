@@ -26,7 +26,7 @@ use std::thread::Threads;
 const BAD_WORDS: u8 = 2;
 
 /// Tells a cause, and answers its status.
-fn tell<E: Sink>(err: &mut E, cause: Cause) -> u8
+pub(crate) fn tell<E: Sink>(err: &mut E, cause: Cause) -> u8
     ensures status { result ≡ status_of cause }
     ensures told { Gains (stream E.held E.faults err.old err.new) (message_of cause) }
 {
