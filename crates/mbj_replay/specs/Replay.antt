@@ -1,5 +1,5 @@
 -- What a replay prints: what each command of a script comes to, over one front and a manager for each worker.
-use Rattle.std.specs.Prelude.{◌==◌, ◌+◌, ◌*◌, ℕ, List, [], ◌∷◌, ◌++◌, length, map, replicate, set, slice_get, slice_index, slice_index_or, Option, Some, None, option_map, option_to_list, if◌then◌else◌}
+use Rattle.std.specs.Prelude.{◌==◌, ◌+◌, ◌*◌, ◌<◌, ℕ, List, [], ◌∷◌, ◌++◌, length, map, replicate, set, slice_get, slice_index, slice_index_or, Option, Some, None, option_map, option_to_list, if◌then◌else◌}
 use Rattle.std.specs.List.{range_with_len}
 use Rattle.mbj_types.specs.declared.job.Job.{Job}
 use Rattle.mbj_types.specs.declared.done.Done.{Done}
@@ -153,6 +153,13 @@ abbrev pub collect_told : ℕ → Replaying → Told
 collect_told s r = collect_of s (earliest_out r.core s) r
 
 -- ---- the whole
+
+-- the submitter and the worker of a command are among so many
+abbrev pub IsFor : ℕ → ℕ → Cmd → Type 0
+IsFor submitters workers (command.Post s) = s < submitters
+IsFor submitters workers (command.Claim w s) = (w < workers) × (s < submitters)
+IsFor submitters workers (command.Flush w) = w < workers
+IsFor submitters workers (command.Collect s) = s < submitters
 
 abbrev pub told : List Job → Cmd → Replaying → Told
 told jobs (command.Post s) r = post_told jobs s r

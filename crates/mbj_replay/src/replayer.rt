@@ -3,8 +3,8 @@ ghost use Rattle.std.specs.List.{range_with_len};
 ghost use Rattle.mbj_types.specs.declared.job.Job.{Job};
 ghost use Rattle.mbj_core.specs.declared.cells.TheConstants.{MAX_SUBMITTERS, MAX_WORKERS};
 ghost use Rattle.mbj_text.specs.declared.limits.TheConstants.{JOB_LIMIT};
-ghost use Rattle.mbj_replay.specs.Replay.{Replaying, claim_told, collect_told, flush_told, lines_from, new_replay, number_in, post_told, replay_lines, told};
-ghost use Rattle.mbj_replay.specs.Inside.State.{HasPartiesOf, IsFor, IsPlaying, lines_of, state_of};
+ghost use Rattle.mbj_replay.specs.Replay.{IsFor, Replaying, claim_told, collect_told, flush_told, lines_from, new_replay, number_in, post_told, replay_lines, told};
+ghost use Rattle.mbj_replay.specs.Inside.State.{HasPartiesOf, IsPlaying, lines_of, state_of};
 
 use crate::claiming::{cell_behind, claim_earliest, finish_given, party_of};
 use crate::line::ReplayLine;

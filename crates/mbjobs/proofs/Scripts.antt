@@ -9,7 +9,7 @@ use Rattle.mbj_text.specs.Spelling.{SpellsFields}
 use Rattle.mbj_text.specs.declared.command.Cmd.{Cmd}
 use Rattle.mbj_text.specs.declared.command.Cmd.TheVariants as command
 use Rattle.mbj_text.proofs.ReplayLaws.{one_of_three}
-use Rattle.mbj_replay.specs.Inside.State.{IsFor}
+use Rattle.mbj_replay.specs.Replay.{IsFor}
 
 -- ---- one of the three
 

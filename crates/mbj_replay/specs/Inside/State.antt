@@ -6,8 +6,6 @@ use Rattle.mbj_core.specs.Cells.{Cell, ready}
 use Rattle.mbj_core.specs.Parties.{FrontState}
 use Rattle.mbj_core.specs.Stands.{StandsFor}
 use Rattle.mbj_core.specs.declared.cells.TheConstants.{CELLS}
-use Rattle.mbj_text.specs.declared.command.Cmd.{Cmd}
-use Rattle.mbj_text.specs.declared.command.Cmd.TheVariants as command
 use Rattle.mbj_replay.specs.Replay.{Replaying}
 use Rattle.mbj_replay.specs.declared.replayer.Posted.{Posted}
 use Rattle.mbj_replay.specs.declared.replayer.Replayer.{Replayer}
@@ -24,13 +22,6 @@ state_of r = record {
 
 abbrev pub lines_of : ReplayLine × Option ReplayLine → List ReplayLine
 lines_of told = told.0 ∷ option_to_list told.1
-
--- the submitter and the worker of a command are among so many
-abbrev pub IsFor : ℕ → ℕ → Cmd → Type 0
-IsFor submitters workers (command.Post s) = s < submitters
-IsFor submitters workers (command.Claim w s) = (w < workers) × (s < submitters)
-IsFor submitters workers (command.Flush w) = w < workers
-IsFor submitters workers (command.Collect s) = s < submitters
 
 -- the worker has the cells of these entries in its hand, and its manager owes their results, in the same order
 pub record Holds (x : Worker) (hand : List (ℕ × Done)) : Type 0 where

@@ -1,8 +1,8 @@
 use Rattle.std.proofs.Common.{◌≡◌, ◌≤◌, ap, sym, subst, All, List, length}
 use Rattle.mbj_types.specs.declared.job.Job.{Job}
 use Rattle.mbj_text.specs.declared.limits.TheConstants.{JOB_LIMIT}
-use Rattle.mbj_replay.specs.Replay.{Replaying, replay_lines}
-use Rattle.mbj_replay.specs.Inside.State.{IsFor, IsPlaying, state_of}
+use Rattle.mbj_replay.specs.Replay.{IsFor, Replaying, replay_lines}
+use Rattle.mbj_replay.specs.Inside.State.{IsPlaying, state_of}
 use Rattle.mbj_replay.proofs.CommandLines.{answered-by}
 use Rattle.mbj_replay.proofs.replayer.replay_lines.Goals as goal
 

@@ -1,6 +1,7 @@
 use Rattle.std.proofs.Common.{rules, All, subst, sym}
 use Rattle.std.specs.Vec.Iter.{into_iter_items}
-use Rattle.mbj_replay.specs.Inside.State.{IsFor, state_of}
+use Rattle.mbj_replay.specs.Replay.{IsFor}
+use Rattle.mbj_replay.specs.Inside.State.{state_of}
 use Rattle.mbj_replay.proofs.CommandLines.{all-first, all-rest, one-told}
 use Rattle.mbj_replay.proofs.replayer.Replayer.play.Goals as goal
 

@@ -1,8 +1,8 @@
 -- What was told and the lines of the commands that are left are those of all commands.
 use Rattle.std.proofs.Common.{◌≡◌, ◌++◌, All}
 use Rattle.std.specs.Vec.Iter.{into_iter_items}
-use Rattle.mbj_replay.specs.Replay.{lines_from}
-use Rattle.mbj_replay.specs.Inside.State.{IsFor, IsPlaying, state_of}
+use Rattle.mbj_replay.specs.Replay.{IsFor, lines_from}
+use Rattle.mbj_replay.specs.Inside.State.{IsPlaying, state_of}
 use Rattle.mbj_replay.proofs.replayer.Replayer.play.Given as goal
 
 abbrev pub ghost-perform : goal.ghost-perform
