@@ -1,5 +1,5 @@
 -- What a command prints, from what its calls did.
-use Rattle.std.proofs.Common.{◌≡◌, ◌≢◌, ◌∙◌, ◌+◌, ◌++◌, [], ◌∷◌, ap, sym, subst, ℕ, zero, suc, All, append_assoc, Result, Ok, Err, IfOk, Vec, Global, List, Bool, true, false, IsTrue, ◌↔◌, Option, None, Some, map, length, set, slice_index, slice_index_or, option_map, option_to_list, arith, if◌then◌else◌, ◌==◌}
+use Rattle.std.proofs.Common.{◌≡◌, ◌≢◌, cond, eq-eqb, ◌∙◌, ◌+◌, ◌++◌, [], ◌∷◌, ap, sym, subst, ℕ, zero, suc, All, append_assoc, Result, Ok, Err, IfOk, Vec, Global, List, Bool, true, false, IsTrue, ◌↔◌, Option, None, Some, map, length, set, slice_index, slice_index_or, option_map, option_to_list, arith, if◌then◌else◌, ◌==◌}
 use Rattle.std.specs.Prelude.{slice_get}
 use Rattle.std.proofs.lemmas.List.{map-set}
 use Rattle.std.proofs.lemmas.Option.{get_or_from_slice_get, none-some, same_Some, slice_get-map}
@@ -21,6 +21,9 @@ use Rattle.mbj_replay.proofs.Fronts.{Entry}
 
 pub if-apart : {T : Type 0} (n m : ℕ) (a b : T) → n ≢ m → (if n == m then a else b) ≡ b
 if-apart n m a b apart = grind arith
+
+pub if-same : {T : Type 0} (n m : ℕ) (a b : T) → n ≡ m → (if n == m then a else b) ≡ a
+if-same n m a b same = ap (λ t. cond t a b) (eq-eqb n m same)
 
 -- the manager of a worker
 pub manager-is : (workers : List Worker) (w : ℕ) (x : Worker) → slice_get workers w ≡ Some x

@@ -1,5 +1,5 @@
 -- What a command keeps of a replay: its front, its workers' hands and its stock of jobs.
-use Rattle.std.proofs.Common.{◌≡◌, ◌≢◌, ◌∙◌, ◌+◌, ◌*◌, ◌%◌, ◌<◌, ◌≤◌, ◌++◌, [], ◌∷◌, ap, sym, subst, refl, ℕ, zero, suc, List, Option, None, Some, map, length, set, slice_index, Vec, Global, option_map, option_to_list, IfSome, arith, length-set}
+use Rattle.std.proofs.Common.{◌≡◌, ◌≢◌, ◌∙◌, ◌+◌, ◌*◌, ◌%◌, ◌<◌, ◌≤◌, ◌++◌, [], ◌∷◌, ap, sym, subst, refl, ℕ, zero, suc, List, Option, None, Some, map, length, set, Vec, Global, option_map, option_to_list, IfSome, arith, length-set}
 use Rattle.std.specs.Prelude.{slice_get}
 use Rattle.std.proofs.lemmas.List.{map-append}
 use Rattle.std.proofs.lemmas.Option.{get_or_from_slice_get, none-some, same_Some}
@@ -23,7 +23,7 @@ use Rattle.mbj_replay.specs.Inside.State.{EachHolds, Follows, HasStock, Holds, I
 use Rattle.mbj_replay.specs.declared.replayer.Posted.{Posted}
 use Rattle.mbj_replay.specs.declared.replayer.Replayer.{Replayer}
 use Rattle.mbj_replay.specs.declared.worker.Worker.{Worker}
-use Rattle.mbj_replay.proofs.Fronts.{Entry, KeepsHands, KeepsJobs, first-finishes, first-held, first-taken}
+use Rattle.mbj_replay.proofs.Fronts.{Entry, KeepsHands, KeepsJobs, first-finishes, first-held, first-taken, jobs-kept, next-is}
 
 -- ---- places of a list
 
@@ -33,7 +33,7 @@ at-set (x ∷ xs) zero a b e = sym (same_Some a b e)
 at-set (x ∷ xs) (suc i) a b e = at-set xs i a b e
 
 -- what holds of a new item, and of the others, holds at each place
-at-places : {A : Type 0} (xs : List A) (i j : ℕ) (a b : A) (P : Type 0) → slice_get (set xs i a) j ≡ Some b
+pub at-places : {A : Type 0} (xs : List A) (i j : ℕ) (a b : A) (P : Type 0) → slice_get (set xs i a) j ≡ Some b
     → (j ≡ i → b ≡ a → P) → (j ≢ i → slice_get xs j ≡ Some b → P) → P
 at-places xs i j a b P at here other = dite (ℕ_discrete j i)
     (λ same. here same (at-set xs i a b (ap (slice_get (set xs i a)) (sym same) ∙ at)))
@@ -192,17 +192,12 @@ claim-taken jobs r core p cell given x y z f follows holds at claims cells owed 
           holds = record { cells = first.2; owed = first.3 };
           whole = whole;
           hands = λ q other. ap (λ v. v.hand) (changes.other_parties q other);
-          jobs = held-jobs f g p cell (result_of claims.job) changes.cell changes.other_cells;
+          jobs = jobs-kept f g cell (hand_of p (result_of claims.job)) changes.cell changes.other_cells (λ j e. cc);
         };
         copy = copy;
         gone = λ j there. let bad : hand_of p (result_of claims.job) ≡ ready j = sym changes.cell ∙ there in cc;
       },
     )
-  where
-    held-jobs : (f g : FrontState Job Done) (p cell : ℕ) (d : Done) → g.cells cell ≡ hand_of p d → ((i : ℕ) → i ≢ cell → g.cells i ≡ f.cells i) → KeepsJobs f g
-    held-jobs f g p cell d is others i job there = dite (ℕ_discrete i cell)
-        (λ same. let bad : hand_of p d ≡ ready job = sym is ∙ ap g.cells (sym same) ∙ there in cc)
-        (λ apart. sym (others i apart) ∙ there)
 
 -- ---- the whole
 
@@ -224,7 +219,7 @@ assembled jobs r new g workers nexts unposted copies posted submitters count fro
 )
 
 -- a finish leaves the parties
-parties : (p : ℕ) (given : Option Entry) (c : CoreState) → ((core_after p given c).submitters ≡ c.submitters) × ((core_after p given c).workers ≡ c.workers)
+pub parties : (p : ℕ) (given : Option Entry) (c : CoreState) → ((core_after p given c).submitters ≡ c.submitters) × ((core_after p given c).workers ≡ c.workers)
 parties p None c = (refl, refl)
 parties p (Some e) c = (refl, refl)
 
@@ -267,13 +262,6 @@ post-plays jobs r new s n cell job copy blank other x nexts unposted copies cell
     (subst (λ (js : List Job). HasStock jobs r.core.submitters (set r.nexts.items s (n + r.core.submitters)) js copies.items cells.items g.cells) (sym are_jobs)
     (subst (λ (cs : List Job). HasStock jobs r.core.submitters (set r.nexts.items s (n + r.core.submitters)) (set r.jobs.items n blank) cs cells.items g.cells) (sym are_copies)
     (subst (λ (zs : List Posted). HasStock jobs r.core.submitters (set r.nexts.items s (n + r.core.submitters)) (set r.jobs.items n blank) (set r.copies.items n other) zs g.cells) (sym are_cells) stock))))
-  where
-    next-is : (c : CoreState) (f : FrontState Job Done) (s : ℕ) → StandsFor c f → s < c.submitters → next_cell c s ≡ cell_of s (length (f.seats s).due)
-    next-is c f s stands below =
-        let a = stands.each_out s below in
-        let b = stands.each_first s below in
-        let n : ℕ = slice_index c.firsts s in
-        omega arith
 
 -- a result that is collected changes no hand, and leaves its cell free
 pub collect-plays : (jobs : List Job) (r : Replayer) (new : CoreState) (s : ℕ) (d : Done) → IsPlaying jobs r → s < r.core.submitters
@@ -288,12 +276,7 @@ collect-plays jobs r new s d playing below same leads =
     assembled jobs r new g r.workers r.nexts r.jobs r.copies r.posted (ap (λ (c : CoreState). c.submitters) same) (ap (λ (c : CoreState). c.workers) same)
     step.2 follows.worker_count
     (all-hold r.core.submitters r.workers.items f g follows.workers (λ w. ap (λ v. v.hand) (changes.other_parties (r.core.submitters + w) (λ e. omega (arith, e, below)))))
-    (stock-kept f g follows.stock (freed-jobs f g (cell_of s (f.seats s).handed) changes.cell changes.other_cells))
-  where
-    freed-jobs : (f g : FrontState Job Done) (cell : ℕ) → g.cells cell ≡ free → ((i : ℕ) → i ≢ cell → g.cells i ≡ f.cells i) → KeepsJobs f g
-    freed-jobs f g cell is others i job there = dite (ℕ_discrete i cell)
-        (λ same. let bad : free ≡ ready job = sym is ∙ ap g.cells (sym same) ∙ there in cc)
-        (λ apart. sym (others i apart) ∙ there)
+    (stock-kept f g follows.stock (jobs-kept f g (cell_of s (f.seats s).handed) free changes.cell changes.other_cells (λ job e. cc)))
 
 module _ (jobs : List Job) (r : Replayer) (w p : ℕ) (given : Option Entry) (x y : Worker)
     (playing : IsPlaying jobs r) (party : p ≡ r.core.submitters + w) (at : slice_get r.workers.items w ≡ Some x) where

@@ -3,4 +3,8 @@ mod Commands
 mod Fronts
 mod NewReplayers
 mod Places
+mod Playing
 mod ReadyCells
+mod Runs
+mod Submitters
+mod Workers

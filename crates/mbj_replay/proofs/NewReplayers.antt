@@ -36,7 +36,7 @@ in-range a zero s n at = absurd (none-some n at)
 in-range a (suc k) zero n at = let same : a ≡ n = same_Some a n at in (omega (arith, same), omega arith)
 in-range a (suc k) (suc s) n at = let later = in-range (a + 1) k s n at in (omega (arith, later.0), omega (arith, later.1))
 
-alike : {A : Type 0} (k : ℕ) (y z : A) (i : ℕ) → slice_get (replicate k y) i ≡ Some z → z ≡ y
+pub alike : {A : Type 0} (k : ℕ) (y z : A) (i : ℕ) → slice_get (replicate k y) i ≡ Some z → z ≡ y
 alike zero y z i at = absurd (none-some z at)
 alike (suc k) y z zero at = sym (same_Some y z at)
 alike (suc k) y z (suc i) at = alike k y z i at

@@ -1,3 +1,4 @@
 pub mod Lines
 pub mod Replay
+pub mod Events
 pub mod Inside

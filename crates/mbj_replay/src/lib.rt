@@ -2,9 +2,14 @@
 #![tactic(auto)]
 
 mod claiming;
+mod laws;
 mod line;
 mod replayer;
 mod worker;
 
+pub use laws::{a_submitter_has_as_many_cells_as_a_ring, replays_are_of_events};
 pub use line::ReplayLine;
 pub use replayer::replay_lines;
+
+#[cfg(test)]
+mod tests;
