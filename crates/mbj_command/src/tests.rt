@@ -160,6 +160,7 @@ fn texts_say_what_is_wrong_and_what_is_right(rt: HostRuntime) -> Result<(), Fail
                 "gen",
                 "replay",
                 "--version",
+                "1 to 65535 for gcm",
             ],
         ),
         (
