@@ -2,53 +2,76 @@
 //! Logic Minimization Technique with Applications to Cryptology, 2010). Its bits have the names of that paper, which
 //! numbers the bits of a byte from the highest on. It looks nothing up, and takes the same steps whatever the bytes are.
 ghost use Rattle.std.specs.Prelude.{◌≡◌, ℕ, ◌<◌};
-ghost use Rattle.mbj_types.specs.Aes.{sub_byte, inv_sub_byte};
+ghost use Rattle.mbj_types.specs.Aes.{sub_byte};
 ghost use Rattle.mbj_aes.specs.Planes.Bytes.{bits_at, byte_at};
-ghost use Rattle.mbj_aes.specs.Planes.Circuit.{top_at, middle_at, top_bits, middle_bits, bottom_bits, inv_affine_octet};
+ghost use Rattle.mbj_aes.specs.Planes.Circuit.{top_at, middle_at, products_at, top_bits, middle_bits, product_bits, bottom_bits};
 
 use crate::gates::{and, not, xor};
 use crate::octet::Octet;
 use mbj_types::Lane8;
 
-// Sums of the bits of the bytes.
+/// Sums of the bits of the bytes.
 #[derive(Clone, Copy)]
-struct TopLayer<V> {
-    y1: V,
-    y2: V,
-    y3: V,
-    y4: V,
-    y5: V,
-    y6: V,
-    y7: V,
-    y8: V,
-    y9: V,
-    y10: V,
-    y11: V,
-    y12: V,
-    y13: V,
-    y14: V,
-    y15: V,
-    y16: V,
-    y17: V,
-    y18: V,
-    y19: V,
-    y20: V,
-    y21: V,
-    x7: V,
+pub(crate) struct TopLayer<V> {
+    pub(crate) y1: V,
+    pub(crate) y2: V,
+    pub(crate) y3: V,
+    pub(crate) y4: V,
+    pub(crate) y5: V,
+    pub(crate) y6: V,
+    pub(crate) y7: V,
+    pub(crate) y8: V,
+    pub(crate) y9: V,
+    pub(crate) y10: V,
+    pub(crate) y11: V,
+    pub(crate) y12: V,
+    pub(crate) y13: V,
+    pub(crate) y14: V,
+    pub(crate) y15: V,
+    pub(crate) y16: V,
+    pub(crate) y17: V,
+    pub(crate) y18: V,
+    pub(crate) y19: V,
+    pub(crate) y20: V,
+    pub(crate) y21: V,
+    pub(crate) x7: V,
 }
 
-// The inverses in the field, as far as they are not linear.
+/// The inverses in the field, as far as they are not linear.
 #[derive(Clone, Copy)]
-struct MiddleLayer<V> {
-    t29: V,
-    t33: V,
-    t37: V,
-    t40: V,
-    t41: V,
-    t42: V,
-    t43: V,
-    t44: V,
-    t45: V,
+pub(crate) struct MiddleLayer<V> {
+    pub(crate) t29: V,
+    pub(crate) t33: V,
+    pub(crate) t37: V,
+    pub(crate) t40: V,
+    pub(crate) t41: V,
+    pub(crate) t42: V,
+    pub(crate) t43: V,
+    pub(crate) t44: V,
+    pub(crate) t45: V,
+}
+
+/// The products of the two layers.
+#[derive(Clone, Copy)]
+pub(crate) struct Products<V> {
+    pub(crate) z0: V,
+    pub(crate) z1: V,
+    pub(crate) z2: V,
+    pub(crate) z3: V,
+    pub(crate) z4: V,
+    pub(crate) z5: V,
+    pub(crate) z6: V,
+    pub(crate) z7: V,
+    pub(crate) z8: V,
+    pub(crate) z9: V,
+    pub(crate) z10: V,
+    pub(crate) z11: V,
+    pub(crate) z12: V,
+    pub(crate) z13: V,
+    pub(crate) z14: V,
+    pub(crate) z15: V,
+    pub(crate) z16: V,
+    pub(crate) z17: V,
 }
 
 #[tactic(auto, unfolding(crate::specs::Planes::Circuit::top_bits))]
@@ -115,7 +138,7 @@ fn top_layer<V: Lane8>(q: Octet<V>) -> TopLayer<V>
 
 #[tactic(auto, unfolding(crate::specs::Planes::Circuit::middle_bits))]
 #[inline(always)]
-fn middle_layer<V: Lane8>(y: TopLayer<V>) -> MiddleLayer<V>
+pub(crate) fn middle_layer<V: Lane8>(y: TopLayer<V>) -> MiddleLayer<V>
     ensures { (i t : ℕ) → i < V.LANES → middle_at V.lane result i t ≡ middle_bits (top_at V.lane y i t) }
 {
     let t2 = and(y.y12, y.y15);
@@ -175,52 +198,62 @@ fn middle_layer<V: Lane8>(y: TopLayer<V>) -> MiddleLayer<V>
     }
 }
 
-// The products of the two layers, and their sums.
+#[tactic(auto, unfolding(crate::specs::Planes::Circuit::product_bits))]
+#[inline(always)]
+pub(crate) fn products_of<V: Lane8>(w: MiddleLayer<V>, y: TopLayer<V>) -> Products<V>
+    ensures { (i t : ℕ) → i < V.LANES
+        → products_at V.lane result i t ≡ product_bits (middle_at V.lane w i t) (top_at V.lane y i t) }
+{
+    Products {
+        z0: and(w.t44, y.y15),
+        z1: and(w.t37, y.y6),
+        z2: and(w.t33, y.x7),
+        z3: and(w.t43, y.y16),
+        z4: and(w.t40, y.y1),
+        z5: and(w.t29, y.y7),
+        z6: and(w.t42, y.y11),
+        z7: and(w.t45, y.y17),
+        z8: and(w.t41, y.y10),
+        z9: and(w.t44, y.y12),
+        z10: and(w.t37, y.y3),
+        z11: and(w.t33, y.y4),
+        z12: and(w.t43, y.y13),
+        z13: and(w.t40, y.y5),
+        z14: and(w.t29, y.y2),
+        z15: and(w.t42, y.y9),
+        z16: and(w.t45, y.y14),
+        z17: and(w.t41, y.y8),
+    }
+}
+
+// Sums of the products: the bits of the S-box.
 #[tactic(auto, unfolding(crate::specs::Planes::Circuit::bottom_bits))]
 #[inline(always)]
-fn bottom_layer<V: Lane8>(w: MiddleLayer<V>, y: TopLayer<V>) -> Octet<V>
+fn bottom_layer<V: Lane8>(z: Products<V>) -> Octet<V>
     ensures { (i t : ℕ) → i < V.LANES → t < 8
-        → bits_at V.lane result i t ≡ bottom_bits (middle_at V.lane w i t) (top_at V.lane y i t) }
+        → bits_at V.lane result i t ≡ bottom_bits (products_at V.lane z i t) }
 {
-    let z0 = and(w.t44, y.y15);
-    let z1 = and(w.t37, y.y6);
-    let z2 = and(w.t33, y.x7);
-    let z3 = and(w.t43, y.y16);
-    let z4 = and(w.t40, y.y1);
-    let z5 = and(w.t29, y.y7);
-    let z6 = and(w.t42, y.y11);
-    let z7 = and(w.t45, y.y17);
-    let z8 = and(w.t41, y.y10);
-    let z9 = and(w.t44, y.y12);
-    let z10 = and(w.t37, y.y3);
-    let z11 = and(w.t33, y.y4);
-    let z12 = and(w.t43, y.y13);
-    let z13 = and(w.t40, y.y5);
-    let z14 = and(w.t29, y.y2);
-    let z15 = and(w.t42, y.y9);
-    let z16 = and(w.t45, y.y14);
-    let z17 = and(w.t41, y.y8);
-    let t46 = xor(z15, z16);
-    let t47 = xor(z10, z11);
-    let t48 = xor(z5, z13);
-    let t49 = xor(z9, z10);
-    let t50 = xor(z2, z12);
-    let t51 = xor(z2, z5);
-    let t52 = xor(z7, z8);
-    let t53 = xor(z0, z3);
-    let t54 = xor(z6, z7);
-    let t55 = xor(z16, z17);
-    let t56 = xor(z12, t48);
+    let t46 = xor(z.z15, z.z16);
+    let t47 = xor(z.z10, z.z11);
+    let t48 = xor(z.z5, z.z13);
+    let t49 = xor(z.z9, z.z10);
+    let t50 = xor(z.z2, z.z12);
+    let t51 = xor(z.z2, z.z5);
+    let t52 = xor(z.z7, z.z8);
+    let t53 = xor(z.z0, z.z3);
+    let t54 = xor(z.z6, z.z7);
+    let t55 = xor(z.z16, z.z17);
+    let t56 = xor(z.z12, t48);
     let t57 = xor(t50, t53);
-    let t58 = xor(z4, t46);
-    let t59 = xor(z3, t54);
+    let t58 = xor(z.z4, t46);
+    let t59 = xor(z.z3, t54);
     let t60 = xor(t46, t57);
-    let t61 = xor(z14, t57);
+    let t61 = xor(z.z14, t57);
     let t62 = xor(t52, t58);
     let t63 = xor(t49, t58);
-    let t64 = xor(z4, t59);
+    let t64 = xor(z.z4, t59);
     let t65 = xor(t61, t62);
-    let t66 = xor(z1, t63);
+    let t66 = xor(z.z1, t63);
     let s0 = xor(t59, t63);
     let s6i = xor(t56, t62);
     let s6 = not(s6i);
@@ -252,35 +285,5 @@ pub fn sub_planes<V: Lane8>(q: Octet<V>) -> Octet<V>
     ensures { (i t : ℕ) → i < V.LANES → t < 8 → byte_at V.lane result i t ≡ sub_byte (byte_at V.lane q i t) }
 {
     let y = top_layer(q);
-    bottom_layer(middle_layer(y), y)
-}
-
-// The inverse of the affine map (FIPS 197, 5.3.2).
-#[tactic(auto, unfolding(crate::specs::Planes::Circuit::inv_affine_octet))]
-#[inline(always)]
-fn inv_affine_layer<V: Lane8>(q: Octet<V>) -> Octet<V>
-    ensures { (i t : ℕ) → i < V.LANES → t < 8 → bits_at V.lane result i t ≡ inv_affine_octet (bits_at V.lane q i t) }
-{
-    let a = xor(q.p2, q.p5);
-    let b = xor(q.p0, q.p3);
-    let c = xor(q.p6, q.p1);
-    let d = xor(q.p4, q.p7);
-    Octet {
-        p0: not(xor(a, q.p7)),
-        p1: xor(b, q.p6),
-        p2: not(xor(d, q.p1)),
-        p3: xor(a, q.p0),
-        p4: xor(c, q.p3),
-        p5: xor(d, q.p2),
-        p6: xor(b, q.p5),
-        p7: xor(c, q.p4),
-    }
-}
-
-/// INVSBOX (FIPS 197, 5.3.2) of each byte of each lane: SBOX between two times the inverse of its affine map.
-#[inline(always)]
-pub fn inv_sub_planes<V: Lane8>(q: Octet<V>) -> Octet<V>
-    ensures { (i t : ℕ) → i < V.LANES → t < 8 → byte_at V.lane result i t ≡ inv_sub_byte (byte_at V.lane q i t) }
-{
-    inv_affine_layer(sub_planes(inv_affine_layer(q)))
+    bottom_layer(products_of(middle_layer(y), y))
 }

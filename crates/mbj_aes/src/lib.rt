@@ -5,6 +5,7 @@
 pub mod circuit;
 mod expansion;
 pub mod gates;
+pub mod inverse_circuit;
 mod laws;
 mod octet;
 mod schedule;

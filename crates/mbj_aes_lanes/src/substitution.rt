@@ -4,7 +4,8 @@ ghost use Rattle.mbj_types.specs.Aes.{sub_bytes, inv_sub_bytes};
 ghost use Rattle.mbj_aes_lanes.specs.Planes.State.{state_bytes};
 
 use crate::state::State;
-use mbj_aes::circuit::{inv_sub_planes, sub_planes};
+use mbj_aes::circuit::sub_planes;
+use mbj_aes::inverse_circuit::inv_sub_planes;
 use mbj_types::Lane8;
 
 /// SUBBYTES.

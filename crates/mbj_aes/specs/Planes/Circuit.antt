@@ -4,6 +4,7 @@ use Rattle.std.specs.Prelude.{ℕ}
 use Rattle.mbj_aes.specs.declared.octet.Octet.{Octet}
 use Rattle.mbj_aes.specs.declared.circuit.TopLayer.{TopLayer}
 use Rattle.mbj_aes.specs.declared.circuit.MiddleLayer.{MiddleLayer}
+use Rattle.mbj_aes.specs.declared.circuit.Products.{Products}
 use Rattle.mbj_aes.specs.Planes.Gates.{nth_bit, xor_bits, and_bits, not_bit}
 
 -- ---- the layers at position t of lane i
@@ -45,6 +46,28 @@ middle_at lane q i t = record {
   t43 = nth_bit (lane q.t43 i) t;
   t44 = nth_bit (lane q.t44 i) t;
   t45 = nth_bit (lane q.t45 i) t;
+}
+
+abbrev pub products_at : {V : Type 0} → (V → ℕ → ℕ) → Products V → ℕ → ℕ → Products ℕ
+products_at lane q i t = record {
+  z0 = nth_bit (lane q.z0 i) t;
+  z1 = nth_bit (lane q.z1 i) t;
+  z2 = nth_bit (lane q.z2 i) t;
+  z3 = nth_bit (lane q.z3 i) t;
+  z4 = nth_bit (lane q.z4 i) t;
+  z5 = nth_bit (lane q.z5 i) t;
+  z6 = nth_bit (lane q.z6 i) t;
+  z7 = nth_bit (lane q.z7 i) t;
+  z8 = nth_bit (lane q.z8 i) t;
+  z9 = nth_bit (lane q.z9 i) t;
+  z10 = nth_bit (lane q.z10 i) t;
+  z11 = nth_bit (lane q.z11 i) t;
+  z12 = nth_bit (lane q.z12 i) t;
+  z13 = nth_bit (lane q.z13 i) t;
+  z14 = nth_bit (lane q.z14 i) t;
+  z15 = nth_bit (lane q.z15 i) t;
+  z16 = nth_bit (lane q.z16 i) t;
+  z17 = nth_bit (lane q.z17 i) t;
 }
 
 -- ---- the layers on bits
@@ -159,48 +182,53 @@ middle_bits y =
       t45 = t45;
     }
 
--- the products of the two, and their sums: the bits of the S-box
-unfoldable pub bottom_bits : MiddleLayer ℕ → TopLayer ℕ → Octet ℕ
-bottom_bits w y =
-    let z0 : ℕ = and_bits w.t44 y.y15 in
-    let z1 : ℕ = and_bits w.t37 y.y6 in
-    let z2 : ℕ = and_bits w.t33 y.x7 in
-    let z3 : ℕ = and_bits w.t43 y.y16 in
-    let z4 : ℕ = and_bits w.t40 y.y1 in
-    let z5 : ℕ = and_bits w.t29 y.y7 in
-    let z6 : ℕ = and_bits w.t42 y.y11 in
-    let z7 : ℕ = and_bits w.t45 y.y17 in
-    let z8 : ℕ = and_bits w.t41 y.y10 in
-    let z9 : ℕ = and_bits w.t44 y.y12 in
-    let z10 : ℕ = and_bits w.t37 y.y3 in
-    let z11 : ℕ = and_bits w.t33 y.y4 in
-    let z12 : ℕ = and_bits w.t43 y.y13 in
-    let z13 : ℕ = and_bits w.t40 y.y5 in
-    let z14 : ℕ = and_bits w.t29 y.y2 in
-    let z15 : ℕ = and_bits w.t42 y.y9 in
-    let z16 : ℕ = and_bits w.t45 y.y14 in
-    let z17 : ℕ = and_bits w.t41 y.y8 in
-    let t46 : ℕ = xor_bits z15 z16 in
-    let t47 : ℕ = xor_bits z10 z11 in
-    let t48 : ℕ = xor_bits z5 z13 in
-    let t49 : ℕ = xor_bits z9 z10 in
-    let t50 : ℕ = xor_bits z2 z12 in
-    let t51 : ℕ = xor_bits z2 z5 in
-    let t52 : ℕ = xor_bits z7 z8 in
-    let t53 : ℕ = xor_bits z0 z3 in
-    let t54 : ℕ = xor_bits z6 z7 in
-    let t55 : ℕ = xor_bits z16 z17 in
-    let t56 : ℕ = xor_bits z12 t48 in
+-- the products of the two
+unfoldable pub product_bits : MiddleLayer ℕ → TopLayer ℕ → Products ℕ
+product_bits w y = record {
+  z0 = and_bits w.t44 y.y15;
+  z1 = and_bits w.t37 y.y6;
+  z2 = and_bits w.t33 y.x7;
+  z3 = and_bits w.t43 y.y16;
+  z4 = and_bits w.t40 y.y1;
+  z5 = and_bits w.t29 y.y7;
+  z6 = and_bits w.t42 y.y11;
+  z7 = and_bits w.t45 y.y17;
+  z8 = and_bits w.t41 y.y10;
+  z9 = and_bits w.t44 y.y12;
+  z10 = and_bits w.t37 y.y3;
+  z11 = and_bits w.t33 y.y4;
+  z12 = and_bits w.t43 y.y13;
+  z13 = and_bits w.t40 y.y5;
+  z14 = and_bits w.t29 y.y2;
+  z15 = and_bits w.t42 y.y9;
+  z16 = and_bits w.t45 y.y14;
+  z17 = and_bits w.t41 y.y8;
+}
+
+-- sums of the products: the bits of the S-box
+unfoldable pub bottom_bits : Products ℕ → Octet ℕ
+bottom_bits z =
+    let t46 : ℕ = xor_bits z.z15 z.z16 in
+    let t47 : ℕ = xor_bits z.z10 z.z11 in
+    let t48 : ℕ = xor_bits z.z5 z.z13 in
+    let t49 : ℕ = xor_bits z.z9 z.z10 in
+    let t50 : ℕ = xor_bits z.z2 z.z12 in
+    let t51 : ℕ = xor_bits z.z2 z.z5 in
+    let t52 : ℕ = xor_bits z.z7 z.z8 in
+    let t53 : ℕ = xor_bits z.z0 z.z3 in
+    let t54 : ℕ = xor_bits z.z6 z.z7 in
+    let t55 : ℕ = xor_bits z.z16 z.z17 in
+    let t56 : ℕ = xor_bits z.z12 t48 in
     let t57 : ℕ = xor_bits t50 t53 in
-    let t58 : ℕ = xor_bits z4 t46 in
-    let t59 : ℕ = xor_bits z3 t54 in
+    let t58 : ℕ = xor_bits z.z4 t46 in
+    let t59 : ℕ = xor_bits z.z3 t54 in
     let t60 : ℕ = xor_bits t46 t57 in
-    let t61 : ℕ = xor_bits z14 t57 in
+    let t61 : ℕ = xor_bits z.z14 t57 in
     let t62 : ℕ = xor_bits t52 t58 in
     let t63 : ℕ = xor_bits t49 t58 in
-    let t64 : ℕ = xor_bits z4 t59 in
+    let t64 : ℕ = xor_bits z.z4 t59 in
     let t65 : ℕ = xor_bits t61 t62 in
-    let t66 : ℕ = xor_bits z1 t63 in
+    let t66 : ℕ = xor_bits z.z1 t63 in
     let s0 : ℕ = xor_bits t59 t63 in
     let s6i : ℕ = xor_bits t56 t62 in
     let s6 : ℕ = not_bit s6i in
@@ -226,23 +254,120 @@ bottom_bits w y =
     }
 
 abbrev pub circuit_bits : Octet ℕ → Octet ℕ
-circuit_bits q = bottom_bits (middle_bits (top_bits q)) (top_bits q)
+circuit_bits q = bottom_bits (product_bits (middle_bits (top_bits q)) (top_bits q))
 
--- ---- the inverse of the affine map (FIPS 197, 5.3.2) on bits
+-- ---- the circuit of the inverse S-box, gate by gate: 126 gates and four inversions (J. Boyar and R. Peralta, A Depth-16
+-- Circuit for the AES S-box, 2011), which has the middle layer and the products in common
 
-unfoldable pub inv_affine_octet : Octet ℕ → Octet ℕ
-inv_affine_octet q =
-    let a : ℕ = xor_bits q.p2 q.p5 in
-    let b : ℕ = xor_bits q.p0 q.p3 in
-    let c : ℕ = xor_bits q.p6 q.p1 in
-    let d : ℕ = xor_bits q.p4 q.p7 in
+-- sums of the bits of a byte, four of them complemented
+unfoldable pub inv_top_bits : Octet ℕ → TopLayer ℕ
+inv_top_bits q =
+    let u1 : ℕ = not_bit q.p6 in
+    let u2 : ℕ = not_bit q.p5 in
+    let u6 : ℕ = not_bit q.p1 in
+    let u7 : ℕ = not_bit q.p0 in
+    let t23 : ℕ = xor_bits q.p7 q.p4 in
+    let t22 : ℕ = xor_bits u1 q.p4 in
+    let t2 : ℕ = xor_bits q.p7 u1 in
+    let t1 : ℕ = xor_bits q.p4 q.p3 in
+    let t24 : ℕ = xor_bits q.p3 u7 in
+    let r5 : ℕ = xor_bits u6 u7 in
+    let t8 : ℕ = xor_bits u1 t23 in
+    let t19 : ℕ = xor_bits t22 r5 in
+    let t9 : ℕ = xor_bits u7 t1 in
+    let t10 : ℕ = xor_bits t2 t24 in
+    let t13 : ℕ = xor_bits t2 r5 in
+    let t3 : ℕ = xor_bits t1 r5 in
+    let t25 : ℕ = xor_bits u2 t1 in
+    let r13 : ℕ = xor_bits u1 u6 in
+    let t17 : ℕ = xor_bits u2 t19 in
+    let t20 : ℕ = xor_bits t24 r13 in
+    let t4 : ℕ = xor_bits q.p3 t8 in
+    let r17 : ℕ = xor_bits u2 q.p2 in
+    let r18 : ℕ = xor_bits q.p2 u6 in
+    let r19 : ℕ = xor_bits u2 q.p3 in
+    let t0 : ℕ = xor_bits q.p7 r17 in
+    let t6 : ℕ = xor_bits t22 r17 in
+    let t16 : ℕ = xor_bits r13 r19 in
+    let t27 : ℕ = xor_bits t1 r18 in
+    let t15 : ℕ = xor_bits t10 t27 in
+    let t14 : ℕ = xor_bits t10 r18 in
+    let t26 : ℕ = xor_bits t3 t16 in
     record {
-      p0 = not_bit (xor_bits a q.p7);
-      p1 = xor_bits b q.p6;
-      p2 = not_bit (xor_bits d q.p1);
-      p3 = xor_bits a q.p0;
-      p4 = xor_bits c q.p3;
-      p5 = xor_bits d q.p2;
-      p6 = xor_bits b q.p5;
-      p7 = xor_bits c q.p4;
+      y1 = t9;
+      y2 = t20;
+      y3 = t23;
+      y4 = t19;
+      y5 = t22;
+      y6 = t8;
+      y7 = t17;
+      y8 = t2;
+      y9 = t1;
+      y10 = t10;
+      y11 = t15;
+      y12 = t13;
+      y13 = t3;
+      y14 = t4;
+      y15 = t6;
+      y16 = t16;
+      y17 = t27;
+      y18 = t25;
+      y19 = t24;
+      y20 = t14;
+      y21 = t26;
+      x7 = t0;
     }
+
+-- sums of the products: the bits of the inverse S-box
+unfoldable pub inv_bottom_bits : Products ℕ → Octet ℕ
+inv_bottom_bits z =
+    let p0 : ℕ = xor_bits z.z6 z.z15 in
+    let p1 : ℕ = xor_bits z.z12 z.z13 in
+    let p2 : ℕ = xor_bits z.z8 z.z16 in
+    let p3 : ℕ = xor_bits z.z1 z.z4 in
+    let p4 : ℕ = xor_bits z.z2 z.z10 in
+    let p5 : ℕ = xor_bits z.z0 z.z5 in
+    let p6 : ℕ = xor_bits z.z3 z.z14 in
+    let p7 : ℕ = xor_bits p0 p1 in
+    let p8 : ℕ = xor_bits z.z4 z.z7 in
+    let p9 : ℕ = xor_bits z.z9 z.z17 in
+    let p10 : ℕ = xor_bits z.z11 p4 in
+    let p11 : ℕ = xor_bits p0 p3 in
+    let p12 : ℕ = xor_bits z.z0 z.z2 in
+    let p13 : ℕ = xor_bits z.z3 z.z5 in
+    let p14 : ℕ = xor_bits z.z3 z.z16 in
+    let p15 : ℕ = xor_bits z.z8 z.z13 in
+    let p16 : ℕ = xor_bits z.z11 z.z15 in
+    let p17 : ℕ = xor_bits z.z12 p2 in
+    let p18 : ℕ = xor_bits z.z17 p5 in
+    let p19 : ℕ = xor_bits p2 p3 in
+    let p20 : ℕ = xor_bits p4 p6 in
+    let p22 : ℕ = xor_bits p2 p7 in
+    let p23 : ℕ = xor_bits p7 p8 in
+    let p24 : ℕ = xor_bits p5 p7 in
+    let p25 : ℕ = xor_bits p6 p10 in
+    let p26 : ℕ = xor_bits p9 p11 in
+    let p27 : ℕ = xor_bits p10 p18 in
+    let p28 : ℕ = xor_bits p11 p25 in
+    let p29 : ℕ = xor_bits p15 p20 in
+    let w0 : ℕ = xor_bits p13 p22 in
+    let w1 : ℕ = xor_bits p26 p29 in
+    let w2 : ℕ = xor_bits p17 p28 in
+    let w3 : ℕ = xor_bits p12 p22 in
+    let w4 : ℕ = xor_bits p23 p27 in
+    let w5 : ℕ = xor_bits p19 p24 in
+    let w6 : ℕ = xor_bits p14 p23 in
+    let w7 : ℕ = xor_bits p9 p16 in
+    record {
+      p0 = w7;
+      p1 = w6;
+      p2 = w5;
+      p3 = w4;
+      p4 = w3;
+      p5 = w2;
+      p6 = w1;
+      p7 = w0;
+    }
+
+abbrev pub inv_circuit_bits : Octet ℕ → Octet ℕ
+inv_circuit_bits q = inv_bottom_bits (product_bits (middle_bits (inv_top_bits q)) (inv_top_bits q))

@@ -1,7 +1,7 @@
 -- The three layers are the circuit.
 use Rattle.std.proofs.Common.{ap, ap₂, ◌∙◌}
 use Rattle.mbj_aes.specs.Planes.Bytes.{bits_at, byte_of, byte_at}
-use Rattle.mbj_aes.specs.Planes.Circuit.{middle_bits, bottom_bits}
+use Rattle.mbj_aes.specs.Planes.Circuit.{middle_bits, product_bits, bottom_bits}
 use Rattle.mbj_aes.proofs.Octets.{AreBits-across}
 use Rattle.mbj_aes.proofs.SBoxCircuit.{circuit_is}
 use Rattle.mbj_aes.proofs.circuit.sub_planes.Goals as goal
@@ -11,5 +11,6 @@ unfolding byte_at
 returns g c i t h k =
     let top = c.top_layer-y.ensures i t h in
     let middle = c.middle_layer.ensures i t h ∙ ap middle_bits top in
-    ap byte_of (c.bottom_layer.ensures i t h k ∙ ap₂ bottom_bits middle top)
+    let products = c.products_of.ensures i t h ∙ ap₂ product_bits middle top in
+    ap byte_of (c.bottom_layer.ensures i t h k ∙ ap bottom_bits products)
     ∙ circuit_is (bits_at g.V.Lane8.lane c.args.q i t) (AreBits-across _ t)
