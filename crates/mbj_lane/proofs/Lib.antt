@@ -1,3 +1,4 @@
+pub mod Halfway
 pub mod Least
-pub mod Taken
 pub mod Led
+pub mod Taken
