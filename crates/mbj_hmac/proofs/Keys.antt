@@ -1,8 +1,9 @@
 -- Keys that are filled with zero bytes.
-use Rattle.std.proofs.Common.{◌≡◌, ℕ, ◌+◌, ◌-◌, ◌≤◌, ◌<◌, List, ◌++◌, length, ap, sym, ◌∙◌, arith, append_assoc, refl, take, map, bit_xor, length-append}
+use Rattle.std.proofs.Common.{◌≡◌, ℕ, ◌+◌, ◌-◌, ◌≤◌, ◌<◌, List, ◌++◌, length, ap, sym, ◌∙◌, arith, append_assoc, refl, take, map, bit_xor, length-append, true, false, ◌⊎◌, inl, inr}
 use Rattle.std.proofs.lemmas.List.{replicate-append-replicate, length-replicate, length-map, map-append}
 use Rattle.std.proofs.Math.Seq.{take-append_seam}
-use Rattle.std.specs.Prelude.{replicate}
+use Rattle.std.specs.Prelude.{nat_le, replicate}
+use Rattle.std.proofs.lemmas.Bool.Decides.{leb_tells}
 use Rattle.std.proofs.lemmas.Bool.{le-leb, lt-leb}
 use Rattle.mbj_types.specs.Hmac.{Hash, filled_key, block_key, padded_key}
 
@@ -34,3 +35,12 @@ padded_key-front pad front rest n h =
     ap (λ (l : List ℕ). take n l) (map-append f front rest)
     ∙ ap (λ (k : ℕ). take k (map f front ++ map f rest)) (sym h ∙ sym (length-map front f))
     ∙ take-append_seam (map f front) (map f rest)
+
+-- the key of a block is as long as the block
+pub length-block_key : (h : Hash) (key : List ℕ) → ((m : List ℕ) → length (h.digest m) ≤ h.block_bytes) → length (block_key h key) ≡ h.block_bytes
+length-block_key h key short = go (leb_tells (length key) h.block_bytes)
+  where
+    go : ((nat_le (length key) h.block_bytes ≡ true) × (length key ≤ h.block_bytes)) ⊎ ((nat_le (length key) h.block_bytes ≡ false) × (h.block_bytes < length key))
+        → length (block_key h key) ≡ h.block_bytes
+    go (inl p) = ap length (block_key-short h key p.1) ∙ length-filled_key h.block_bytes key p.1
+    go (inr p) = ap length (block_key-long h key p.1) ∙ length-filled_key h.block_bytes (h.digest key) (short key)

@@ -1,10 +1,43 @@
-//! HMAC (RFC 2104) with the hashes of FIPS 180-4.
+//! HMAC (RFC 2104) with the hashes of FIPS 180-4: of one message, and of many messages side by side in the lanes of a kernel.
 #![tactic(auto)]
 
+mod ends;
+mod entry;
 mod hasher;
+mod kernel;
+mod lane_hash;
+mod load32;
+mod load64;
 mod plain;
+mod sha1_lanes;
+mod sha256_lanes;
+mod sha512_lanes;
 
+pub use entry::HmacEntry;
+pub use kernel::HmacKernel;
+pub use lane_hash::LaneHash;
 pub use plain::{MAX_BLOCK_BYTES, hmac_plain, pad_key};
+pub use sha1_lanes::Sha1Lanes;
+pub use sha256_lanes::Sha256Lanes;
+pub use sha512_lanes::Sha512Lanes;
+
+/// An HMAC with SHA-1 on its way.
+pub type Hmac1Entry = HmacEntry<Sha1Lanes>;
+
+/// An HMAC with SHA-224 or SHA-256 on its way.
+pub type Hmac256Entry = HmacEntry<Sha256Lanes>;
+
+/// An HMAC with SHA-384 or SHA-512 on its way.
+pub type Hmac512Entry = HmacEntry<Sha512Lanes>;
+
+/// HMACs with SHA-1 in eight lanes.
+pub type Hmac1Kernel = HmacKernel<Sha1Lanes>;
+
+/// HMACs with SHA-224 and SHA-256 in eight lanes.
+pub type Hmac256Kernel = HmacKernel<Sha256Lanes>;
+
+/// HMACs with SHA-384 and SHA-512 in four lanes.
+pub type Hmac512Kernel = HmacKernel<Sha512Lanes>;
 
 #[cfg(test)]
 mod tests;

@@ -11,10 +11,10 @@ use sha2::{Sha224, Sha256, Sha384, Sha512};
 pub const MAX_BLOCK_BYTES: usize = 128;
 
 /// The byte of the inner pad (RFC 2104, 2).
-const IPAD: u8 = 0x36;
+pub(crate) const IPAD: u8 = 0x36;
 
 /// The byte of the outer pad (RFC 2104, 2).
-const OPAD: u8 = 0x5c;
+pub(crate) const OPAD: u8 = 0x5c;
 
 /// The digest of two pieces, taken as one message.
 fn digest_of_both<H: Hasher>(first: &[u8], second: &[u8]) -> Tag
@@ -51,7 +51,7 @@ fn key_of_block<H: Hasher>(key: &[u8]) -> [u8; MAX_BLOCK_BYTES]
 }
 
 /// The bytes of a key, each xored with the byte of a pad.
-fn padded(key: &[u8; MAX_BLOCK_BYTES], pad: u8) -> [u8; MAX_BLOCK_BYTES]
+pub(crate) fn padded(key: &[u8; MAX_BLOCK_BYTES], pad: u8) -> [u8; MAX_BLOCK_BYTES]
     ensures { result ≡ padded_key pad key.now }
 {
     let mut block = *key;

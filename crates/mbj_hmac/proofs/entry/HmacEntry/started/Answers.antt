@@ -1,0 +1,53 @@
+use Rattle.std.proofs.Common.{ℕ, List, take, ap, ap₂, sym, ◌∙◌}
+use Rattle.mbj_types.specs.Hmac.{padded_key, ipad, opad}
+use Rattle.mbj_hmac.specs.Inside.Layout.{first_ends, seen}
+use Rattle.mbj_hmac.proofs.FirstEnds.{length-pad}
+use Rattle.mbj_hmac.proofs.NewEntries.{Facts, new_sound, new_seen}
+use Rattle.mbj_hmac.proofs.entry.HmacEntry.started.Goals as goal
+
+pub invariant_of-result : goal.invariant_of-result
+invariant_of-result g c =
+    let h = g.H.LaneHash.chaining in
+    let std = g.met.H.LaneHash.standard in
+    let a = c.args.auth in
+    let key = c.args.key.now in
+    let packet = c.args.packet.items in
+    let off = c.args.off in
+    let len = c.args.len in
+    let zeros : List ℕ = g.H.LaneHash.words c.zeros.result in
+    let front : List ℕ = take h.block_bytes (padded_key ipad key) in
+    let back : List ℕ = take h.block_bytes (padded_key opad key) in
+    let ends = c.first_ends-ends.ensures.value ∙ ap₂ (λ z p. first_ends h a front back z p off len) (sym c.zeros.ensures) c.deref.ensures.value in
+    let facts : Facts h std packet a c.first_ends-ends.result front back zeros off len = record {
+      front_is = length-pad h std key packet off len ipad c.first_ends-ends.ensures.pads;
+      back_is = length-pad h std key packet off len opad c.first_ends-ends.ensures.pads;
+      range = c.requires;
+      small = c.ranges.len.fits;
+      whole = c.first_ends-ends.ensures.length;
+      ends_are = ends;
+    } in
+    new_sound h std packet a c.first_ends-ends.result front back zeros off len facts (g.H.LaneHash.words c.initial.result) c.rounds.result c.rounds.ensures
+
+pub returns-clause-start : goal.returns-clause-start
+returns-clause-start g c =
+    let h = g.H.LaneHash.chaining in
+    let std = g.met.H.LaneHash.standard in
+    let a = c.args.auth in
+    let key = c.args.key.now in
+    let packet = c.args.packet.items in
+    let off = c.args.off in
+    let len = c.args.len in
+    let zeros : List ℕ = g.H.LaneHash.words c.zeros.result in
+    let front : List ℕ = take h.block_bytes (padded_key ipad key) in
+    let back : List ℕ = take h.block_bytes (padded_key opad key) in
+    let ends = c.first_ends-ends.ensures.value ∙ ap₂ (λ z p. first_ends h a front back z p off len) (sym c.zeros.ensures) c.deref.ensures.value in
+    let facts : Facts h std packet a c.first_ends-ends.result front back zeros off len = record {
+      front_is = length-pad h std key packet off len ipad c.first_ends-ends.ensures.pads;
+      back_is = length-pad h std key packet off len opad c.first_ends-ends.ensures.pads;
+      range = c.requires;
+      small = c.ranges.len.fits;
+      whole = c.first_ends-ends.ensures.length;
+      ends_are = ends;
+    } in
+    ap (λ s. seen h packet c.rounds.result s zeros a c.first_ends-ends.result off len) c.initial.ensures
+    ∙ new_seen h std packet a c.first_ends-ends.result front back zeros off len facts c.rounds.result c.rounds.ensures c.zeros.ensures

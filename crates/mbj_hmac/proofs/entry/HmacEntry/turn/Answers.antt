@@ -1,0 +1,46 @@
+use Rattle.std.proofs.Common.{ap, ◌∙◌, arith}
+use Rattle.mbj_hmac.specs.Rounds.{turned}
+use Rattle.mbj_hmac.specs.Inside.Layout.{tail_blocks, seen}
+use Rattle.mbj_hmac.proofs.Numbers.{size_range, tail_range, times_le}
+use Rattle.mbj_hmac.proofs.Turns.{turned_sound, turned_seen}
+use Rattle.mbj_hmac.proofs.entry.HmacEntry.turn.Goals as goal
+
+pub overflow_add-at : goal.overflow_add-at
+overflow_add-at g c =
+    let std = g.met.H.LaneHash.standard in
+    let b = g.H.LaneHash.chaining.block_bytes in
+    rw c.tail_blocks.ensures (omega (arith, (tail_range b std.size c.self.inside.len).1))
+
+pub overflow_mul-at : goal.overflow_mul-at
+overflow_mul-at g c =
+    let std = g.met.H.LaneHash.standard in
+    let b = g.H.LaneHash.chaining.block_bytes in
+    rw (c.tail_blocks.ensures, c.block_bytes.ensures)
+    (omega (arith, (size_range b std.size).1, times_le b std.size (tail_blocks b c.self.inside.len) 2 (tail_range b std.size c.self.inside.len).1))
+
+pub put_digest-requires : goal.put_digest-requires
+put_digest-requires g c =
+    let std = g.met.H.LaneHash.standard in
+    let b = g.H.LaneHash.chaining.block_bytes in
+    rw (c.tail_blocks.ensures, c.block_bytes.ensures)
+    (omega (arith, (size_range b std.size).1, times_le b std.size (tail_blocks b c.self.inside.len) 2 (tail_range b std.size c.self.inside.len).1))
+
+pub invariant_of-self : goal.invariant_of-self
+invariant_of-self g c =
+    let h = g.H.LaneHash.chaining in
+    let words = g.H.LaneHash.words in
+    let f = c.self.inside in
+    let written = rw (c.block_bytes.ensures, c.tail_blocks.ensures) at c.put_digest.ensures.written in
+    turned_sound h g.met.H.LaneHash.standard f.packet.items (words f.chain) (words f.inner) f.auth f.ends c.put_digest.new.ends f.rest f.off f.len
+    (words c.initial-self-inside.result) c.self.invariant written c.put_digest.ensures.len
+
+pub returns-then-self-eq2 : goal.returns-then-self-eq2
+returns-then-self-eq2 g c =
+    let h = g.H.LaneHash.chaining in
+    let words = g.H.LaneHash.words in
+    let f = c.self.inside in
+    let written = rw (c.block_bytes.ensures, c.tail_blocks.ensures) at c.put_digest.ensures.written in
+    ap (λ s. seen h f.packet.items f.rest s (words f.chain) f.auth c.put_digest.new.ends f.off f.len) c.initial-self-inside.ensures
+    ∙ turned_seen h g.met.H.LaneHash.standard f.packet.items (words f.chain) (words f.inner) f.auth f.ends c.put_digest.new.ends f.rest f.off f.len
+    c.self.invariant written (omega arith)
+    ∙ ap (turned h) c.self.view_is

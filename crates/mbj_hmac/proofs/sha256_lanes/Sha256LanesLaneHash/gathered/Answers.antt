@@ -1,0 +1,17 @@
+use Rattle.std.proofs.Common.{ℕ, List, [], ◌∷◌, slice_index_or}
+use Rattle.mbj_sha256_lanes.proofs.Windows.{eight_of}
+use Rattle.mbj_hmac.proofs.sha256_lanes.Sha256LanesLaneHash.gathered.Goals as goal
+
+pub returns : goal.returns
+returns c i lt =
+    let a = c.args in
+    let chain : List ℕ = slice_index_or (a.c0.now ∷ a.c1.now ∷ a.c2.now ∷ a.c3.now ∷ a.c4.now ∷ a.c5.now ∷ a.c6.now ∷ a.c7.now ∷ []) i [] in
+    eight_of chain _ _ _ _ _ _ _ _ (c.state_lanes.ensures.lengths i lt)
+    (c.state_lanes.ensures.words i lt)
+    (c.state_lanes-2.ensures.words i lt)
+    (c.state_lanes-3.ensures.words i lt)
+    (c.state_lanes-4.ensures.words i lt)
+    (c.state_lanes-5.ensures.words i lt)
+    (c.state_lanes-6.ensures.words i lt)
+    (c.state_lanes-7.ensures.words i lt)
+    (c.state_lanes-8.ensures.words i lt)

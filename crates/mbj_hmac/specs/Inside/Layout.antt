@@ -1,0 +1,62 @@
+-- How an entry lays out the blocks that don't stand whole in the packet: the inner pad, the end of the message with its padding,
+-- the outer pad, and the inner digest with its padding.
+use Rattle.std.specs.Prelude.{◌≡◌, ℕ, ◌+◌, ◌-◌, ◌*◌, ◌/◌, ◌%◌, ◌≤◌, ◌<◌, ◌^◌, List, ◌∷◌, ◌++◌, ◌⊎◌, length, take, drop, replicate}
+use Rattle.std.specs.Int.{w64, to_be_bytes}
+use Rattle.mbj_types.specs.declared.job.Auth.{Auth}
+use Rattle.mbj_types.specs.Rounds.{hmac_rounds}
+use Rattle.mbj_hmac.specs.Rounds.{Chaining, Going, inner_text, outer_text}
+
+module _ (b : ℕ) where
+  -- the whole blocks of b bytes in a message of n bytes
+  abbrev pub whole_blocks : ℕ → ℕ
+  whole_blocks n = n / b
+
+  -- the blocks behind them, which the message's end and its padding fill
+  unfoldable pub tail_blocks : ℕ → ℕ
+  tail_blocks n = (n + b / 8) / b + 1 - n / b
+
+  -- the zero bytes of the padding, up to the last 8 bytes of the block
+  unfoldable pub fill : ℕ → ℕ
+  fill n = b * tail_blocks n - n % b - 9
+
+  -- the padding of a message of n bytes
+  abbrev pub padding_of : ℕ → List ℕ
+  padding_of n = 0x80 ∷ replicate (fill n) 0 ++ to_be_bytes w64 (n * 8)
+
+-- what the layout takes for granted of a hash: its blocks have 64 or 128 bytes, its padding is that of FIPS 180-4, and behind its
+-- digest a block has room for padding
+pub record IsStandard (h : Chaining) : Type 0 where
+  pub size : (h.block_bytes ≡ 64) ⊎ (h.block_bytes ≡ 128)
+  pub pads : (n : ℕ) → n < 2 ^ 33 → h.padding n ≡ padding_of h.block_bytes n
+  pub room : (a : Auth) (s : List ℕ) → length (h.digest a s) + 1 + h.block_bytes / 8 ≤ h.block_bytes
+
+module _ (h : Chaining) where
+  -- an entry as it is seen
+  abbrev pub seen : List ℕ → ℕ → List ℕ → List ℕ → Auth → List ℕ → ℕ → ℕ → Going
+  seen packet rest chain inner auth ends off len = record {
+    packet = packet;
+    rest = rest;
+    chain = chain;
+    inner = inner;
+    auth = auth;
+    front = take h.block_bytes ends;
+    back = take h.block_bytes (drop (h.block_bytes * (tail_blocks h.block_bytes len + 1)) ends);
+    off = off;
+    len = len;
+  }
+
+  -- the ends of a new entry: the inner pad, the message's end and its padding, the outer pad, and a digest and its padding
+  abbrev pub first_ends : Auth → List ℕ → List ℕ → List ℕ → List ℕ → ℕ → ℕ → List ℕ
+  first_ends a front back zeros packet off len =
+      let whole = h.block_bytes * whole_blocks h.block_bytes len in
+      (((front ++ take (len - whole) (drop (off + whole) packet)) ++ h.padding (h.block_bytes + len)) ++ back)
+      ++ (h.digest a zeros ++ h.padding (h.block_bytes + length (h.digest a zeros)))
+
+  -- the blocks stand in the entry
+  abbrev pub IsLaid : List ℕ → Going → Type 0
+  IsLaid ends e = take (h.block_bytes * (tail_blocks h.block_bytes e.len + 2)) (drop h.block_bytes ends)
+      ≡ drop (h.block_bytes * (whole_blocks h.block_bytes e.len + 1)) (inner_text h e) ++ outer_text h e
+
+  abbrev pub IsSound : List ℕ → Going → Type 0
+  IsSound ends e = (e.off + e.len ≤ length e.packet) × (e.rest ≤ hmac_rounds h.block_bytes e.len) × (e.len < 2 ^ 32)
+      × IsLaid ends e × (length ends ≡ 640)

@@ -1,0 +1,146 @@
+// The ends of an entry: the blocks that don't stand whole in its packet. They are the inner pad, the message's end with the
+// padding, the outer pad, and the inner digest with its padding.
+ghost use Rattle.std.specs.Prelude.{◌≡◌, ℕ, ◌+◌, ◌-◌, ◌*◌, ◌/◌, ◌^◌, ◌<◌, ◌≤◌, ◌∷◌, ◌++◌, length, replicate, take, drop};
+ghost use Rattle.mbj_types.specs.Hmac.{padded_key, ipad, opad};
+ghost use Rattle.mbj_types.specs.Rounds.{hmac_rounds};
+ghost use Rattle.mbj_hmac.specs.Inside.Layout.{fill, first_ends, tail_blocks};
+
+use crate::lane_hash::LaneHash;
+use crate::plain::{IPAD, MAX_BLOCK_BYTES, OPAD, padded};
+use mbj_types::Auth;
+
+/// The most bytes that the ends take: five blocks.
+pub(crate) const ENDS_BYTES: usize = 5 * MAX_BLOCK_BYTES;
+
+/// The bytes of the length that ends the padding, as far as lengths of messages go.
+const LENGTH_BYTES: usize = 8;
+
+/// A bit 1 and zeros: the longest start of a padding.
+const PADDING: [u8; 144] = [
+    0x80, 0, 0, 0, 0, 0, 0, 0, 0, 0, 0, 0, 0, 0, 0, 0, 0, 0, 0, 0, 0, 0, 0, 0, 0, 0, 0, 0, 0, 0, 0,
+    0, 0, 0, 0, 0, 0, 0, 0, 0, 0, 0, 0, 0, 0, 0, 0, 0, 0, 0, 0, 0, 0, 0, 0, 0, 0, 0, 0, 0, 0, 0, 0,
+    0, 0, 0, 0, 0, 0, 0, 0, 0, 0, 0, 0, 0, 0, 0, 0, 0, 0, 0, 0, 0, 0, 0, 0, 0, 0, 0, 0, 0, 0, 0, 0,
+    0, 0, 0, 0, 0, 0, 0, 0, 0, 0, 0, 0, 0, 0, 0, 0, 0, 0, 0, 0, 0, 0, 0, 0, 0, 0, 0, 0, 0, 0, 0, 0,
+    0, 0, 0, 0, 0, 0, 0, 0, 0, 0, 0, 0, 0, 0, 0, 0, 0,
+];
+
+/// The blocks behind the whole blocks of a message, which its end and its padding fill.
+#[inline(always)]
+pub(crate) fn tail_blocks<H: LaneHash>(len: usize) -> usize
+    requires { len < 2 ^ 32 }
+    ensures { result ≡ tail_blocks H.chaining.block_bytes len }
+{
+    let block = H::block_bytes();
+    (len + block / 8) / block + 1 - len / block
+}
+
+/// The bytes of the whole blocks of a message.
+#[inline(always)]
+fn whole_bytes<H: LaneHash>(len: usize) -> usize
+    requires { len < 2 ^ 32 }
+    ensures value { result ≡ H.chaining.block_bytes * (len / H.chaining.block_bytes) }
+    ensures within { result ≤ len }
+{
+    let block = H::block_bytes();
+    block * (len / block)
+}
+
+/// The rounds of an HMAC over a message.
+pub(crate) fn rounds<H: LaneHash>(len: usize) -> u32
+    requires { len < 2 ^ 32 }
+    ensures { result ≡ hmac_rounds H.chaining.block_bytes len }
+{
+    let block = H::block_bytes();
+    ((len + block / 8) / block + 4) as u32
+}
+
+/// The zero bytes of a message's padding, up to its last 8 bytes.
+fn fill<H: LaneHash>(len: usize) -> usize
+    requires { len < 2 ^ 32 }
+    ensures value { result ≡ fill H.chaining.block_bytes len }
+    ensures within { result < 144 }
+{
+    let block = H::block_bytes();
+    block * tail_blocks::<H>(len) - len % block - 1 - LENGTH_BYTES
+}
+
+/// A bit 1 and so many zero bytes.
+fn padding_start(zeros: usize) -> &'static [u8]
+    requires { zeros < 144 }
+    ensures { result.now ≡ 0x80 ∷ replicate zeros 0 }
+{
+    &PADDING[..zeros + 1]
+}
+
+/// Writes bytes, and answers the place behind them. What stands behind is not looked at.
+fn put(ends: &mut [u8; ENDS_BYTES], at: usize, bytes: &[u8]) -> usize
+    requires { at + length bytes.now ≤ ENDS_BYTES }
+    ensures next { result ≡ at + length bytes.now }
+    ensures written { take (at + length bytes.now) ends.new ≡ take at ends.old ++ bytes.now }
+    ensures len { length ends.new ≡ ENDS_BYTES }
+{
+    ends[at..at + bytes.len()].copy_from_slice(bytes);
+    at + bytes.len()
+}
+
+/// Writes the padding behind a block and a message of `len` bytes.
+fn put_padding<H: LaneHash>(ends: &mut [u8; ENDS_BYTES], at: usize, len: usize) -> usize
+    requires small { len < 2 ^ 32 }
+    requires room { at + length (H.chaining.padding (H.chaining.block_bytes + len)) ≤ ENDS_BYTES }
+    ensures next { result ≡ at + length (H.chaining.padding (H.chaining.block_bytes + len)) }
+    ensures written { take (at + length (H.chaining.padding (H.chaining.block_bytes + len))) ends.new
+        ≡ take at ends.old ++ H.chaining.padding (H.chaining.block_bytes + len) }
+    ensures len { length ends.new ≡ ENDS_BYTES }
+{
+    let bits = (8 * (H::block_bytes() + len) as u64).to_be_bytes();
+    let at = put(ends, at, padding_start(fill::<H>(len)));
+    put(ends, at, &bits)
+}
+
+/// Writes the block that holds the digest of a hash value, with the padding behind the outer pad and the digest.
+pub(crate) fn put_digest<H: LaneHash>(
+    ends: &mut [u8; ENDS_BYTES],
+    at: usize,
+    auth: Auth,
+    chain: &H::Chain,
+)
+    requires { at + H.chaining.block_bytes ≤ ENDS_BYTES }
+    ensures written { take (at + H.chaining.block_bytes) ends.new ≡ take at ends.old ++ (H.chaining.digest auth (H.words chain.now)
+        ++ H.chaining.padding (H.chaining.block_bytes + length (H.chaining.digest auth (H.words chain.now)))) }
+    ensures len { length ends.new ≡ ENDS_BYTES }
+{
+    let digest = H::digest(auth, chain);
+    let bytes = digest.bytes();
+    let at = put(ends, at, bytes);
+    put_padding::<H>(ends, at, bytes.len());
+}
+
+/// The ends of a new entry.
+pub(crate) fn first_ends<H: LaneHash>(
+    auth: Auth,
+    key: &[u8; MAX_BLOCK_BYTES],
+    packet: &[u8],
+    off: usize,
+    len: usize,
+) -> [u8; ENDS_BYTES]
+    requires small { len < 2 ^ 32 }
+    requires range { off + len ≤ length packet.now }
+    ensures value { take (H.chaining.block_bytes * (tail_blocks H.chaining.block_bytes len + 3)) result
+        ≡ first_ends H.chaining auth (take H.chaining.block_bytes (padded_key ipad key.now)) (take H.chaining.block_bytes (padded_key opad key.now))
+        (replicate H.chaining.words 0) packet.now off len }
+    ensures length { length result ≡ ENDS_BYTES }
+    ensures pads { length key.now ≡ MAX_BLOCK_BYTES }
+{
+    let block = H::block_bytes();
+    let mut ends = [0; ENDS_BYTES];
+    let at = put(&mut ends, 0, &padded(key, IPAD)[..block]);
+    let at = put(
+        &mut ends,
+        at,
+        &packet[off + whole_bytes::<H>(len)..off + len],
+    );
+    let at = put_padding::<H>(&mut ends, at, len);
+    let at = put(&mut ends, at, &padded(key, OPAD)[..block]);
+    put_digest::<H>(&mut ends, at, auth, &H::zeros());
+    ends
+}

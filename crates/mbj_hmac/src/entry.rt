@@ -1,0 +1,144 @@
+ghost use Rattle.std.specs.Prelude.{◌≡◌, ◌+◌, ◌-◌, ◌<◌, ◌≤◌, length, replicate, take, drop, IfSome, IsTrue};
+ghost use Rattle.mbj_types.specs.Auths.{hash_of};
+ghost use Rattle.mbj_types.specs.Hmac.{block_key, padded_key, hmac, ipad, opad};
+ghost use Rattle.mbj_types.specs.Rounds.{hmac_rounds};
+ghost use Rattle.mbj_lane.specs.Rounds.{end_of};
+ghost use Rattle.mbj_hmac.specs.Rounds.{Going, block_before, rest_of, round, started, turned};
+
+use crate::ends::{ENDS_BYTES, first_ends, put_digest, rounds, tail_blocks};
+use crate::lane_hash::LaneHash;
+use crate::plain::{MAX_BLOCK_BYTES, pad_key};
+use mbj_types::{Auth, Tag};
+use std::marker::Model;
+
+/// An HMAC on its way, over a range of a packet. A round is one compression.
+///
+/// The rounds are, in order: the inner pad, the blocks of the padded message, the outer pad, and the block that holds
+/// the inner digest (RFC 2104, 2).
+#[derive(Drop)]
+pub struct HmacEntry<H: LaneHash> {
+    /// The packet, as it was given.
+    pub packet: Vec<u8>,
+    /// How many rounds are left.
+    pub rest: u32,
+    /// The hash value.
+    pub chain: H::Chain,
+    /// The hash value of the inner hash, once that is done; zeros before.
+    pub inner: H::Chain,
+    auth: Auth,
+    ends: [u8; ENDS_BYTES],
+    off: usize,
+    len: usize,
+}
+
+impl<H: LaneHash> Model for HmacEntry<H> {
+    ghost use Rattle.mbj_hmac.specs.Rounds.{Going};
+    ghost use Rattle.mbj_hmac.specs.Inside.Layout.{seen, IsSound};
+
+    ghost Value = { Going };
+
+    ghost view = { λ e. seen H.chaining e.packet.items e.rest (H.words e.chain) (H.words e.inner) e.auth e.ends e.off e.len };
+
+    ghost invariant = { λ e. IsSound H.chaining e.ends
+        (seen H.chaining e.packet.items e.rest (H.words e.chain) (H.words e.inner) e.auth e.ends e.off e.len) };
+}
+
+impl<H: LaneHash> HmacEntry<H> {
+    /// An HMAC of which nothing is done, over `len` bytes of the packet from `off` on. The authentication is one that
+    /// the kernel serves, and the range lies in the packet. It takes no memory, and the packet moves into the entry.
+    ///
+    /// At its end the entry has the packet as it was given, and the digest of its hash value is the whole HMAC.
+    pub fn new(auth: Auth, key: &[u8], packet: Vec<u8>, off: u32, len: u32) -> HmacEntry<H>
+        requires auth { IsTrue (H.serves auth) }
+        requires range { off + len ≤ length packet.items }
+        ensures start { IfSome (hash_of auth) (λ h. result ≡ started H.chaining auth (padded_key ipad (block_key h key.now))
+            (padded_key opad (block_key h key.now)) packet.items off len) }
+        ensures rest { result.rest ≡ hmac_rounds H.chaining.block_bytes len }
+        ensures packet { (end_of (round H.chaining) rest_of result).packet ≡ packet.items }
+        ensures tag { IfSome (hash_of auth) (λ h. H.chaining.digest auth (end_of (round H.chaining) rest_of result).chain
+            ≡ hmac h key.now (take len (drop off packet.items))) }
+    {
+        let key = pad_key(auth, key);
+        Self::started(auth, &key, packet, off, len)
+    }
+
+    /// An HMAC of which nothing is done, by the key of a block.
+    fn started(
+        auth: Auth,
+        key: &[u8; MAX_BLOCK_BYTES],
+        packet: Vec<u8>,
+        off: u32,
+        len: u32,
+    ) -> HmacEntry<H>
+        requires { off + len ≤ length packet.items }
+        ensures start { result ≡ started H.chaining auth (take H.chaining.block_bytes (padded_key ipad key.now))
+            (take H.chaining.block_bytes (padded_key opad key.now)) packet.items off len }
+        ensures pads { length key.now ≡ MAX_BLOCK_BYTES }
+    {
+        let (off, len) = (off as usize, len as usize);
+        let ends = first_ends::<H>(auth, key, &packet, off, len);
+        HmacEntry {
+            packet,
+            rest: rounds::<H>(len),
+            chain: H::initial(auth),
+            inner: H::zeros(),
+            auth,
+            ends,
+            off,
+            len,
+        }
+    }
+
+    /// The packet, and the HMAC in full. No round is left.
+    pub fn into_parts(self) -> (Vec<u8>, Tag)
+        requires { self.rest ≡ 0 }
+        ensures packet { result.0.items ≡ self.packet }
+        ensures tag { result.1 ≡ H.chaining.digest self.auth self.chain }
+    {
+        let tag = H::digest(self.auth, &self.chain);
+        (self.packet, tag)
+    }
+
+    /// The block of the round that comes after `done` others, of which the outer pad's is at most the first.
+    #[inline(always)]
+    pub(crate) fn block(&self, done: u32) -> &[u8]
+        requires { done < self.now.rest }
+        ensures block { result.now ≡ block_before H.chaining self.now (self.now.rest - done) }
+        ensures length { length result.now ≡ H.chaining.block_bytes }
+    {
+        let block = H::block_bytes();
+        let rest = (self.rest - done) as usize;
+        let whole = self.len / block;
+        let behind = tail_blocks::<H>(self.len) + 2;
+        if rest <= behind {
+            let at = block + block * (behind - rest);
+            &self.ends[at..at + block]
+        } else if rest <= behind + whole {
+            let at = self.off + block * (behind + whole - rest);
+            &self.packet[at..at + block]
+        } else {
+            &self.ends[..block]
+        }
+    }
+
+    /// The hash value is led to another, m rounds further.
+    pub(crate) fn lead(&mut self, chain: H::Chain, m: u32)
+        requires { m ≤ self.old.rest }
+        ensures { self.new ≡ record (self.old) { chain = H.words chain; rest = self.old.rest - m } }
+    {
+        self.chain = chain;
+        self.rest -= m;
+    }
+
+    /// Where the round of the outer pad is next, the hash value moves, and the outer hash starts.
+    pub(crate) fn turn(&mut self)
+        ensures { self.new ≡ turned H.chaining self.old }
+    {
+        if self.rest == 2 {
+            let at = H::block_bytes() * (tail_blocks::<H>(self.len) + 2);
+            put_digest::<H>(&mut self.ends, at, self.auth, &self.chain);
+            self.inner = self.chain;
+            self.chain = H::initial(self.auth);
+        }
+    }
+}

@@ -1,0 +1,194 @@
+ghost use Rattle.std.specs.Prelude.{◌≡◌, ℕ, ◌-◌, ◌<◌, ◌≤◌, All, length, map, min, slice_index_or as get_or};
+ghost use Rattle.mbj_lane.specs.Rounds.{after, least_from};
+ghost use Rattle.mbj_hmac.specs.Rounds.{Going, advanced, rest_of, round, turned};
+ghost use Rattle.mbj_hmac.specs.Inside.Going.{lane_going, reach_of};
+
+use crate::entry::HmacEntry;
+use crate::lane_hash::LaneHash;
+use mbj_lane::Kernel;
+use std::marker::PhantomData;
+
+/// HMAC in the lanes of a hash.
+pub struct HmacKernel<H: LaneHash> {
+    hash: PhantomData<H>,
+}
+
+impl<H: LaneHash> Kernel for HmacKernel<H> {
+    type Entry = HmacEntry<H>;
+
+    const LANES: u32 = H::LANES;
+
+    ghost LANES = { H.LANES };
+
+    ghost rest_of = { rest_of };
+
+    ghost round = { round H.chaining };
+
+    fn rest(entry: &HmacEntry<H>) -> u32 {
+        entry.rest
+    }
+
+    fn run(entries: &mut [HmacEntry<H>], m: u32) {
+        run(entries, m)
+    }
+
+    ghost use Rattle.mbj_hmac.specs.Laws.Falls.{falls, lanes_few};
+
+    ghost some = { H.some };
+
+    ghost few = { lanes_few H.LANES H.few };
+
+    ghost falls = { falls H.chaining };
+}
+
+/// The entry of a lane; idle lanes go with the last entry.
+#[inline(always)]
+fn lane_entry<H: LaneHash>(entries: &[HmacEntry<H>], i: usize) -> &HmacEntry<H>
+    requires { 0 < length entries.now }
+    ensures { result.now ≡ lane_going entries.now i }
+{
+    if i < entries.len() {
+        &entries[i]
+    } else {
+        &entries[entries.len() - 1]
+    }
+}
+
+/// The hash value of an entry.
+#[inline(always)]
+fn chain_of<H: LaneHash>(entry: &HmacEntry<H>) -> &H::Chain
+    ensures { H.words result.now ≡ entry.now.chain }
+{
+    &entry.chain
+}
+
+/// The hash values of all lanes.
+fn gathered<H: LaneHash>(entries: &[HmacEntry<H>]) -> H::States
+    requires { 0 < length entries.now }
+    ensures { (i : ℕ) → i < H.LANES → H.lane result i ≡ (lane_going entries.now i).chain }
+{
+    H::gathered(
+        chain_of(lane_entry(entries, 0)),
+        chain_of(lane_entry(entries, 1)),
+        chain_of(lane_entry(entries, 2)),
+        chain_of(lane_entry(entries, 3)),
+        chain_of(lane_entry(entries, 4)),
+        chain_of(lane_entry(entries, 5)),
+        chain_of(lane_entry(entries, 6)),
+        chain_of(lane_entry(entries, 7)),
+    )
+}
+
+/// The hash values are led through the next `m` blocks.
+fn compressed<H: LaneHash>(entries: &[HmacEntry<H>], m: u32, states: &mut H::States)
+    requires some { 0 < length entries.now }
+    requires rests { (i : ℕ) → i < 8 → m ≤ (lane_going entries.now i).rest }
+    requires start { (i : ℕ) → i < H.LANES → H.lane states.old i ≡ (lane_going entries.now i).chain }
+    ensures { (i : ℕ) → i < H.LANES → H.lane states.new i ≡ (after (advanced H.chaining) m (lane_going entries.now i)).chain }
+{
+    let e0 = lane_entry(entries, 0);
+    let e1 = lane_entry(entries, 1);
+    let e2 = lane_entry(entries, 2);
+    let e3 = lane_entry(entries, 3);
+    let e4 = lane_entry(entries, 4);
+    let e5 = lane_entry(entries, 5);
+    let e6 = lane_entry(entries, 6);
+    let e7 = lane_entry(entries, 7);
+    'passes: for done in 0..m {
+        H::compress(
+            states,
+            e0.block(done),
+            e1.block(done),
+            e2.block(done),
+            e3.block(done),
+            e4.block(done),
+            e5.block(done),
+            e6.block(done),
+            e7.block(done),
+        );
+    }
+}
+
+/// The hash values to which the lanes came go into their entries.
+fn scattered<H: LaneHash>(entries: &mut [HmacEntry<H>], m: u32, states: &H::States)
+    requires few { length entries.old ≤ H.LANES }
+    requires rests { All (λ e. m ≤ e.rest) entries.old }
+    requires states { (i : ℕ) (d : Going) → i < length entries.old
+        → H.lane states.now i ≡ (after (advanced H.chaining) m (get_or entries.old i d)).chain }
+    ensures { entries.new ≡ map (after (advanced H.chaining) m) entries.old }
+{
+    'stored: for i in 0..entries.len() {
+        let entry = &mut entries[i];
+        entry.lead(H::scattered(states, i), m);
+    }
+}
+
+/// All entries go on by the next `m` blocks, of which the outer pad's is at most the first.
+fn stretch<H: LaneHash>(entries: &mut [HmacEntry<H>], m: u32)
+    requires some { 0 < length entries.old }
+    requires few { length entries.old ≤ H.LANES }
+    requires rests { All (λ e. m ≤ e.rest) entries.old }
+    ensures { entries.new ≡ map (after (advanced H.chaining) m) entries.old }
+{
+    let mut states = gathered(entries);
+    compressed(entries, m, &mut states);
+    scattered(entries, m, &states);
+}
+
+/// The outer hash starts in each entry whose outer pad is next.
+fn turn_all<H: LaneHash>(entries: &mut [HmacEntry<H>])
+    ensures { entries.new ≡ map (turned H.chaining) entries.old }
+{
+    'turns: for i in 0..entries.len() {
+        let entry = &mut entries[i];
+        entry.turn();
+    }
+}
+
+#[inline(always)]
+fn least(a: u32, b: u32) -> u32
+    ensures { result ≡ min a b }
+{
+    if a < b { a } else { b }
+}
+
+/// How many rounds an entry has before its outer pad's, or has at all.
+#[inline(always)]
+fn reach<H: LaneHash>(entry: &HmacEntry<H>) -> u32
+    ensures { result ≡ reach_of entry.now }
+{
+    if entry.rest > 2 {
+        entry.rest - 2
+    } else {
+        entry.rest
+    }
+}
+
+/// How many of `m` rounds all entries can go.
+fn stretch_len<H: LaneHash>(entries: &[HmacEntry<H>], m: u32) -> u32
+    ensures { result ≡ least_from reach_of m entries.now }
+{
+    let mut len = m;
+    'reaches: for i in 0..entries.len() {
+        len = least(len, reach(&entries[i]));
+    }
+    len
+}
+
+/// Leads each entry by `m` rounds.
+fn run<H: LaneHash>(entries: &mut [HmacEntry<H>], m: u32)
+    requires few { length entries.old ≤ H.LANES }
+    requires rests { All (λ e. m ≤ e.rest) entries.old }
+    ensures { entries.new ≡ map (after (round H.chaining) m) entries.old }
+{
+    if entries.len() == 0 {
+        return;
+    }
+    let mut left = m;
+    while left > 0 {
+        turn_all(entries);
+        let len = stretch_len(entries, left);
+        stretch(entries, len);
+        left -= len;
+    }
+}
