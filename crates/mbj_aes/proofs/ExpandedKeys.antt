@@ -5,6 +5,7 @@ use Rattle.mbj_types.specs.Aes.{rounds_of, key_schedule, encipher, decipher, aes
 use Rattle.mbj_aes.specs.Bytes.{IsBytes, IsKey, IsKeySize, IsRoundCount}
 use Rattle.mbj_aes.specs.Padding.{IsPadded}
 use Rattle.mbj_aes.proofs.KeyLists.{IsSchedule, IsSchedule-key_schedule}
+use Rattle.mbj_aes.proofs.KeySizes.{key_sizes}
 use Rattle.mbj_aes.proofs.Padding.{take-padded, IsPadded-zeros}
 
 -- the schedule of the key and zeros, and the number of rounds
@@ -15,7 +16,7 @@ pub record IsExpansion (key bytes : List ℕ) (rounds : ℕ) : Type 0 where
 
 -- the number of rounds for a key of n bytes
 pub IsRoundCount-rounds_of : (n rounds : ℕ) → IsKeySize n → rounds ≡ n / 4 + 6 → IsRoundCount rounds
-IsRoundCount-rounds_of n rounds size e = elim size [
+IsRoundCount-rounds_of n rounds size e = elim (key_sizes n size) [
   | inl short ↦ inl (omega arith)
   | inr (inl middle) ↦ inr (inl (omega arith))
   | inr (inr long) ↦ inr (inr (omega arith))
@@ -24,6 +25,7 @@ IsRoundCount-rounds_of n rounds size e = elim size [
 -- 16 bytes for each round, and 16 more
 pub length-key_schedule : (key : List ℕ) → IsKey key → length (key_schedule key) ≡ 16 * (rounds_of key + 1)
 length-key_schedule key h =
+    let sizes = key_sizes (length key) h.size in
     let w : IsSchedule (4 * (rounds_of key + 1)) (key_schedule key) = IsSchedule-key_schedule key h in
     w.size ∙ omega arith
 
@@ -41,7 +43,7 @@ IsBytes-expansion key bytes rounds h =
 pub IsPadded-expansion : (key bytes : List ℕ) (rounds : ℕ) → IsExpansion key bytes rounds
     → IsPadded 240 (16 * (rounds + 1)) bytes
 IsPadded-expansion key bytes rounds h =
-    let size : IsKeySize (length key) = h.of_key.size in
+    let sizes = key_sizes (length key) h.of_key.size in
     let long : length (key_schedule key) ≡ 16 * (rounds_of key + 1) = length-key_schedule key h.of_key in
     rw h.count (IsPadded-zeros 240 (16 * (rounds_of key + 1)) (key_schedule key) bytes long (omega arith) h.array)
 

@@ -6,6 +6,7 @@ pub mod ByteMaps
 pub mod States
 pub mod Circulants
 pub mod Columns
+pub mod KeySizes
 pub mod KeyLists
 pub mod KeyWords
 pub mod Padding

@@ -1,6 +1,7 @@
 -- Keys, blocks and schedules as lists of bytes, a byte being a number below 256 (FIPS 197, 3 and 5).
-use Rattle.std.specs.Prelude.{◌≡◌, ℕ, ◌<◌, ◌⊎◌, List, length}
+use Rattle.std.specs.Prelude.{◌≡◌, ℕ, ◌<◌, ◌⊎◌, List, length, IsTrue}
 use Rattle.std.specs.List.{All}
+use Rattle.mbj_types.specs.Aes.{is_key_size}
 
 abbrev pub IsBytes : List ℕ → Type 0
 IsBytes xs = All (λ x. x < 256) xs
@@ -10,9 +11,8 @@ pub record IsBlock (b : List ℕ) : Type 0 where
   pub size : length b ≡ 16
   pub bytes : IsBytes b
 
--- how many bytes a key has
 abbrev pub IsKeySize : ℕ → Type 0
-IsKeySize n = (n ≡ 16) ⊎ ((n ≡ 24) ⊎ (n ≡ 32))
+IsKeySize n = IsTrue (is_key_size n)
 
 -- how many words of 4 bytes a key has
 abbrev pub IsKeyWords : ℕ → Type 0

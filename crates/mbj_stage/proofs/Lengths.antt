@@ -19,6 +19,7 @@ use Rattle.mbj_types.specs.declared.job.Dir.{Dir}
 use Rattle.mbj_types.specs.declared.job.Dir.TheVariants.{Enc, Dec}
 use Rattle.mbj_types.specs.declared.reason.Reason.{Reason}
 use Rattle.mbj_types.proofs.XorLists.{length-xor_lists}
+use Rattle.mbj_aes.specs.Bytes.{IsKeySize}
 use Rattle.mbj_aes.proofs.KeyLists.{length-round_key}
 use Rattle.mbj_aes.proofs.Rounds.{length-encipher, length-decipher}
 use Rattle.mbj_blocks.proofs.Blocks.{concat-blocks}
@@ -165,7 +166,7 @@ length-with_cipher_range j text p inside same =
     ∙ omega (arith, length-append (take j.cipher_off p) text, length-drop (j.cipher_off + j.cipher_len) p)
 
 -- a key that a cipher takes has a block at least
-key_size : (n : ℕ) → (n == 16 || (n == 24 || n == 32)) ≡ true → 16 ≤ n
+key_size : (n : ℕ) → IsKeySize n → 16 ≤ n
 key_size n h = grind (arith, eqb-true)
 
 -- a range that CBC takes has whole blocks

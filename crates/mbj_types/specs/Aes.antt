@@ -1,5 +1,5 @@
 -- AES (FIPS 197) on lists of bytes, a byte being a number below 256.
-use Rattle.std.specs.Prelude.{ℕ, zero, suc, ◌+◌, ◌-◌, ◌*◌, ◌/◌, ◌%◌, ◌^◌, nat_lt, nat_eq, List, [], ◌∷◌, ◌++◌, length, take, drop, map, slice_index, bit_xor, if◌then◌else◌}
+use Rattle.std.specs.Prelude.{ℕ, zero, suc, ◌+◌, ◌-◌, ◌*◌, ◌/◌, ◌%◌, ◌^◌, nat_lt, nat_eq, ◌==◌, ◌||◌, Bool, List, [], ◌∷◌, ◌++◌, length, take, drop, map, slice_index, bit_xor, if◌then◌else◌}
 use Rattle.mbj_types.specs.Blocks.{xor_lists}
 
 -- ---- 4.2: the field of 256 elements, polynomials over bits modulo x^8 + x^4 + x^3 + x + 1
@@ -94,6 +94,10 @@ schedule nk key zero = key
 schedule nk key (suc n) =
     let w = schedule nk key n in
     w ++ xor_lists (word w n) (schedule_term nk w (nk + n))
+
+-- how many bytes a key has
+abbrev pub is_key_size : ℕ → Bool
+is_key_size n = n == 16 || (n == 24 || n == 32)
 
 -- 10, 12 or 14 rounds for a key of 16, 24 or 32 bytes
 abbrev pub rounds_of : List ℕ → ℕ

@@ -1,5 +1,6 @@
 -- The argument table: the reason for which a job is refused, or none. Sums are whole numbers and never wrap.
 use Rattle.std.specs.Prelude.{ℕ, ◌+◌, ◌%◌, ◌==◌, ◌&&◌, ◌||◌, Bool, true, false, not, nat_lt, nat_le, List, [], ◌∷◌, length, Option, Some, None, if◌then◌else◌}
+use Rattle.mbj_types.specs.Aes.{is_key_size}
 use Rattle.mbj_types.specs.Auths.{AuthClass, no_auth, hmac_auth, cmac_auth, gcm_auth, class_of}
 use Rattle.mbj_types.specs.declared.job.Job.{Job}
 use Rattle.mbj_types.specs.declared.job.Cipher.{Cipher}
@@ -24,7 +25,7 @@ is_gcm_cipher cipher.Gcm = true
 
 -- keys of n bytes
 abbrev pub takes_key : Cipher → ℕ → Bool
-takes_key c n = is_null_cipher c || (n == 16 || (n == 24 || n == 32))
+takes_key c n = is_null_cipher c || is_key_size n
 
 -- initialization vectors of n bytes
 abbrev pub takes_iv : Cipher → ℕ → Bool
