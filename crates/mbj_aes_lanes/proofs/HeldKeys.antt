@@ -50,6 +50,13 @@ held_lanes-all rounds keys w each =
     ∙ ap Some (sym (each i h))
     ∙ sym (held_lane-put rounds keys (replicate 16 true) i (get_or-replicate 16 i true false h))))
 
+-- each lane was put
+pub held_lanes-each : (rounds : ℕ) (keys : List (State (List ℕ))) (i : ℕ) → i < 16
+    → get_or (held_lanes rounds keys (replicate 16 true)) i no_schedule ≡ Some (schedule_in (lane_at 8) (take (rounds + 1) keys) i)
+held_lanes-each rounds keys i h =
+    held_lanes-at rounds keys (replicate 16 true) i h
+    ∙ held_lane-put rounds keys (replicate 16 true) i (get_or-replicate 16 i true false h)
+
 -- one lane more was put
 pub held_lanes-put : (rounds : ℕ) (old now : List (State (List ℕ))) (put : List Bool) (lane : ℕ) (w : List ℕ) → length put ≡ 16
     → lane < 16 → schedule_in (lane_at 8) (take (rounds + 1) now) lane ≡ w

@@ -1,5 +1,6 @@
 pub mod Blends
 pub mod ByteMatrices
+pub mod Chains
 pub mod EachOfSixteen
 pub mod Exchanges
 pub mod FullLanes

@@ -63,3 +63,16 @@ unplaned_keys (suc m) planes w h each =
     (append-nil (unplaned (get_or planes m [])) ∙ each m (omega arith))
     ∙ sym (take-add (16 * m) 16 w)
     ∙ ap (λ (n : ℕ). take n w) (sym more)
+
+-- one round key of the schedule w more
+pub schedule_in-more : {V : Type 0} (lane : V → ℕ → ℕ) (keys : List (State V)) (i r : ℕ) (key : State V) (w : List ℕ)
+    → r < length keys → state_bytes lane key i ≡ round_key w r → schedule_in lane (take r keys) i ≡ take (16 * r) w
+    → schedule_in lane (take (r + 1) (set keys r key)) i ≡ take (16 * (r + 1)) w
+unfolding schedule_in
+schedule_in-more lane keys i r key w inside same h =
+    let more : 16 * r + 16 ≡ 16 * (r + 1) = omega arith in
+    ap (flat_map (λ k. state_bytes lane k i)) (take_more_set keys r key inside)
+    ∙ flat_map-append (λ k. state_bytes lane k i) (take r keys) (key ∷ [])
+    ∙ ap₂ (λ xs ys. xs ++ ys) h (append-nil (state_bytes lane key i) ∙ same)
+    ∙ sym (take-add (16 * r) 16 w)
+    ∙ ap (λ (n : ℕ). take n w) more

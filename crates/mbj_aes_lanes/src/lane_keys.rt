@@ -1,10 +1,12 @@
-ghost use Rattle.std.specs.Prelude.{◌≡◌, ℕ, ◌+◌, ◌*◌, ◌<◌, ◌≤◌, length, slice_index_or, None, IsSome};
+ghost use Rattle.std.specs.Prelude.{◌≡◌, ℕ, ◌+◌, ◌*◌, ◌<◌, ◌≤◌, length, map, slice_index_or, None, IsSome};
 ghost use Rattle.mbj_types.specs.Lanes.{lane_at};
 ghost use Rattle.mbj_aes.specs.Bytes.{IsRoundCount};
-ghost use Rattle.mbj_aes_lanes.specs.KeyLanes.{no_keys, same_keys, with_key, schedule_at};
+ghost use Rattle.mbj_aes_lanes.specs.Chaining.{in_lane};
+ghost use Rattle.mbj_aes_lanes.specs.KeyLanes.{no_keys, same_keys, with_key, schedule_at, IsFull};
 ghost use Rattle.mbj_aes_lanes.specs.Planes.Keys.{schedule_in};
 
-use crate::key_planes::{planes_of, write_all_lanes, write_lane};
+use crate::chaining::{Chaining, round_keys_at};
+use crate::key_planes::{planes_of, state_of_blocks, write_all_lanes, write_lane};
 use crate::state::State;
 use mbj_aes::{Octet, Schedule};
 use std::marker::Model;
@@ -101,6 +103,25 @@ impl LaneKeys {
         let rounds = self.rounds as usize;
         write_lane(&mut self.round_keys[..rounds + 1], lane as usize, &planes);
         self.put[lane as usize] = true;
+    }
+
+    /// The key of an entry in each lane; idle lanes have that of the last one. The keys of all lanes are transposed
+    /// at once, round key by round key.
+    pub(crate) fn each<E: Chaining>(entries: &[E]) -> LaneKeys
+        requires { 0 < length entries.now }
+        ensures full { IsFull result }
+        ensures schedules { (i : ℕ) → i < 16 → schedule_at result i ≡ in_lane (map E.key_of entries.now) i }
+    {
+        let rounds = entries[0].key().rounds();
+        let mut round_keys = zero_keys();
+        'keys: for r in 0..rounds + 1 {
+            round_keys[r as usize] = state_of_blocks(&round_keys_at(entries, r));
+        }
+        LaneKeys {
+            round_keys,
+            rounds,
+            put: [true; 16],
+        }
     }
 
     /// The round keys in planes, of each lane those of its schedule.

@@ -2,6 +2,7 @@
 #![tactic(auto)]
 
 mod blocks;
+mod chaining;
 mod columns;
 mod key_planes;
 mod lane_keys;
@@ -16,6 +17,7 @@ mod substitution;
 mod transposition;
 mod words;
 
+pub use chaining::{Chaining, lead_all};
 pub use lane_keys::LaneKeys;
 pub use lanes::{decrypt_lanes, encrypt_lanes};
 pub use same::{chained, encrypt_same};

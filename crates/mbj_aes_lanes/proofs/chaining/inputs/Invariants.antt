@@ -1,0 +1,10 @@
+-- The input blocks before the next one are there.
+use Rattle.std.proofs.Common.{◌≡◌, ℕ, ◌<◌, [], length, get_or, map}
+use Rattle.mbj_aes_lanes.specs.Chaining.{in_lane, input_of}
+use Rattle.mbj_aes_lanes.proofs.chaining.inputs.Given as goal
+
+abbrev pub invariant-blocks-2 : goal.invariant-blocks-2
+invariant-blocks-2 g l =
+    let e = g.E.Chaining in
+    (length l.blocks ≡ 16)
+    × ((k : ℕ) → k < l.i → get_or l.blocks k [] ≡ in_lane (map (input_of e.block_of e.chain_of) l.entries) k)

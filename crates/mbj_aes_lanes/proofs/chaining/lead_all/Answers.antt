@@ -1,0 +1,31 @@
+-- One block of each entry more is chained in each pass.
+use Rattle.std.proofs.Common.{map, sym, ap, ◌∙◌, arith}
+use Rattle.mbj_lane.proofs.Led.{map-after-none, rests-after}
+use Rattle.mbj_aes_lanes.specs.Chaining.{chained_once, in_lane}
+use Rattle.mbj_aes_lanes.proofs.Chains.{keys-after, map-after-more}
+use Rattle.mbj_aes_lanes.proofs.chaining.lead_all.Goals as goal
+
+pub passes-init : goal.passes-init
+passes-init g c =
+    let e = g.E.Chaining in
+    sym (map-after-none (chained_once e.key_of e.block_of e.chain_of e.led) c.args.entries.now)
+
+pub pass-requires-clause-rests : goal.pass-requires-clause-rests
+pass-requires-clause-rests g c =
+    let e = g.E.Chaining in
+    rw c.passes.invariant
+    (rests-after (chained_once e.key_of e.block_of e.chain_of e.led) e.rest_of (λ x. g.met.E.Chaining.falls x _) c.args.m c.passes.done
+    c.args.entries.now c.requires.rests (omega arith))
+
+pub pass-requires-clause-keys : goal.pass-requires-clause-keys
+pass-requires-clause-keys g c i h =
+    let e = g.E.Chaining in
+    c.each-keys.ensures.schedules i h
+    ∙ sym (ap (λ ks. in_lane ks i) (ap (map e.key_of) c.passes.invariant
+    ∙ keys-after e.key_of e.block_of e.chain_of e.led g.met.E.Chaining.keeps_key c.passes.done c.args.entries.now))
+
+pub passes-preserved : goal.passes-preserved
+passes-preserved g c =
+    let e = g.E.Chaining in
+    let f = chained_once e.key_of e.block_of e.chain_of e.led in
+    c.pass.ensures ∙ ap (map f) c.passes.invariant ∙ map-after-more f c.passes.done c.args.entries.now

@@ -1,0 +1,17 @@
+-- Blocks that are chained under a key of their own in each lane (SP 800-38A, 6.2).
+use Rattle.std.specs.Prelude.{ℕ, ◌-◌, min, List, [], length, slice_index_or}
+use Rattle.mbj_types.specs.Aes.{encipher}
+use Rattle.mbj_types.specs.Blocks.{xor_lists}
+
+-- what lane i takes of a list; idle lanes take the last
+abbrev pub in_lane : List (List ℕ) → ℕ → List ℕ
+in_lane xs i = slice_index_or xs (min i (length xs - 1)) []
+
+module _ {E : Type 0} where
+  -- the input block: the next block xored with the chaining value
+  abbrev pub input_of : (E → List ℕ) → (E → List ℕ) → E → List ℕ
+  input_of block chain e = xor_lists (block e) (chain e)
+
+  -- the next block is chained: `led` says what an entry is once its chaining value is another
+  abbrev pub chained_once : (E → List ℕ) → (E → List ℕ) → (E → List ℕ) → (E → List ℕ → E) → E → E
+  chained_once key block chain led e = led e (encipher (key e) (input_of block chain e))

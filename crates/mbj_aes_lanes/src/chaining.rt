@@ -1,0 +1,157 @@
+ghost use Rattle.std.specs.Prelude.{◌≡◌, ℕ, ◌+◌, ◌-◌, ◌*◌, ◌<◌, ◌≤◌, All, List, [], length, map, min, slice_index_or};
+ghost use Rattle.mbj_types.specs.Aes.{encipher, round_key};
+ghost use Rattle.mbj_lane.specs.Rounds.{after};
+ghost use Rattle.mbj_aes_lanes.specs.Chaining.{in_lane, input_of, chained_once};
+ghost use Rattle.mbj_aes_lanes.specs.KeyLanes.{IsFull, schedule_at};
+
+use crate::lane_keys::LaneKeys;
+use crate::sixteen::encrypt16;
+use mbj_aes::Schedule;
+use mbj_types::{BLOCK_BYTES, xor_in_place};
+
+// How many blocks are enciphered at once.
+const LANES: usize = 16;
+
+/// Blocks that are chained under a key (SP 800-38A, 6.2): the next block is xored with the chaining value and
+/// enciphered, which gives the next chaining value. The keys of all entries of a type have as many rounds.
+pub trait Chaining {
+    /// The rounds of the key.
+    ghost key_rounds: { ℕ };
+
+    /// The schedule of the key.
+    ghost key_of: { Self → List ℕ };
+
+    /// How many blocks are left.
+    ghost rest_of: { Self → ℕ };
+
+    /// The next block.
+    ghost block_of: { Self → List ℕ };
+
+    /// The chaining value.
+    ghost chain_of: { Self → List ℕ };
+
+    /// What an entry is once its next block gave the chaining value.
+    ghost led: { Self → List ℕ → Self };
+
+    /// The schedule of the key.
+    fn key(&self) -> &Schedule
+        ensures key { result.now ≡ key_of self.now }
+        ensures length { length result.now ≡ 16 * (key_rounds + 1) };
+
+    /// The next block.
+    fn block(&self) -> [u8; 16]
+        requires { 1 ≤ rest_of self.now }
+        ensures { result ≡ block_of self.now };
+
+    /// The chaining value.
+    fn chain(&self) -> &[u8; 16]
+        ensures { result.now ≡ chain_of self.now };
+
+    /// The next block gave the chaining value.
+    fn lead(&mut self, chain: &[u8; 16])
+        requires { 1 ≤ rest_of self.old }
+        ensures { self.new ≡ led self.old chain.now };
+
+    /// The key stays.
+    ghost keeps_key: { (e : Self) (chain : List ℕ) → key_of (led e chain) ≡ key_of e };
+
+    /// One block fewer is left.
+    ghost falls: { (e : Self) (chain : List ℕ) → rest_of (led e chain) ≡ rest_of e - 1 };
+}
+
+/// The place of the entry that a lane takes; idle lanes take the last one.
+#[inline(always)]
+fn place_of(lane: usize, many: usize) -> usize
+    requires { 0 < many }
+    ensures value { result ≡ min lane (many - 1) }
+    ensures within { result < many }
+{
+    if lane < many { lane } else { many - 1 }
+}
+
+/// Round key `r` of each lane's key.
+#[inline(always)]
+pub(crate) fn round_keys_at<E: Chaining>(entries: &[E], r: u32) -> [[u8; 16]; 16]
+    requires some { 0 < length entries.now }
+    requires round { r ≤ E.key_rounds }
+    ensures keys { (i : ℕ) → i < 16 → slice_index_or result i [] ≡ round_key (in_lane (map E.key_of entries.now) i) r }
+    ensures lengths { (i : ℕ) → i < 16 → length (in_lane (map E.key_of entries.now) i) ≡ 16 * (E.key_rounds + 1) }
+{
+    let mut keys = [[0; BLOCK_BYTES]; LANES];
+    'keys: for i in 0..LANES {
+        keys[i] = entries[place_of(i, entries.len())].key().round_key(r);
+    }
+    keys
+}
+
+/// The input block of an entry (SP 800-38A, 6.2).
+#[inline(always)]
+fn input<E: Chaining>(entry: &E) -> [u8; 16]
+    requires { 1 ≤ E.rest_of entry.now }
+    ensures { result ≡ input_of E.block_of E.chain_of entry.now }
+{
+    let mut block = entry.block();
+    xor_in_place(&mut block, entry.chain());
+    block
+}
+
+/// The input block of each lane.
+#[inline(always)]
+fn inputs<E: Chaining>(entries: &[E]) -> [[u8; 16]; 16]
+    requires some { 0 < length entries.now }
+    requires rests { All (λ e. 1 ≤ E.rest_of e) entries.now }
+    ensures { (i : ℕ) → i < 16
+        → slice_index_or result i [] ≡ in_lane (map (input_of E.block_of E.chain_of) entries.now) i }
+{
+    let mut blocks = [[0; BLOCK_BYTES]; LANES];
+    'blocks: for i in 0..LANES {
+        blocks[i] = input(&entries[place_of(i, entries.len())]);
+    }
+    blocks
+}
+
+/// Each entry takes its chaining value, of which there are 16.
+#[inline(always)]
+fn take_chains<E: Chaining>(entries: &mut [E], chains: &[[u8; 16]; 16])
+    requires few { length entries.old ≤ 16 }
+    requires rests { All (λ e. 1 ≤ E.rest_of e) entries.old }
+    requires chains { (i : ℕ) (e : E) → i < length entries.old → slice_index_or chains.now i []
+        ≡ encipher (E.key_of (slice_index_or entries.old i e)) (input_of E.block_of E.chain_of (slice_index_or entries.old i e)) }
+    ensures { entries.new ≡ map (chained_once E.key_of E.block_of E.chain_of E.led) entries.old }
+{
+    'entries: for i in 0..entries.len() {
+        let entry = &mut entries[i];
+        entry.lead(&chains[i]);
+    }
+}
+
+/// The next block of each entry is chained, all at once.
+#[inline(always)]
+fn pass<E: Chaining>(entries: &mut [E], keys: &LaneKeys)
+    requires some { 0 < length entries.old }
+    requires few { length entries.old ≤ 16 }
+    requires rests { All (λ e. 1 ≤ E.rest_of e) entries.old }
+    requires full { IsFull keys.now }
+    requires keys { (i : ℕ) → i < 16 → schedule_at keys.now i ≡ in_lane (map E.key_of entries.old) i }
+    ensures { entries.new ≡ map (chained_once E.key_of E.block_of E.chain_of E.led) entries.old }
+{
+    let mut blocks = inputs(entries);
+    encrypt16(keys, &mut blocks);
+    take_chains(entries, &blocks);
+}
+
+/// Leads each of at most 16 entries by `m` blocks, of which each has that many left. In each of `m` passes one block of
+/// every entry is enciphered, all at once. It takes no memory.
+pub fn lead_all<E: Chaining>(entries: &mut [E], m: u32)
+    requires few { length entries.old ≤ 16 }
+    requires rests { All (λ e. m ≤ E.rest_of e) entries.old }
+    ensures { entries.new ≡ map (after (chained_once E.key_of E.block_of E.chain_of E.led) m) entries.old }
+{
+    if entries.len() == 0 {
+        return;
+    }
+    let keys = LaneKeys::each(entries);
+    'passes: for done in 0..m {
+        pass(entries, &keys);
+    }
+}
