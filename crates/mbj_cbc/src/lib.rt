@@ -1,11 +1,15 @@
-//! CBC with AES (SP 800-38A, 6.2) on a text in place, and the law that decryption undoes encryption. No call takes
-//! memory.
+//! CBC with AES (SP 800-38A, 6.2): on a text in place, and encryption of ranges of many packets side by side in lanes; and
+//! the law that decryption undoes encryption. No call takes memory.
 #![tactic(auto)]
 
+mod entry;
 mod in_place;
+mod kernel;
 mod laws;
 
+pub use entry::CbcEntry;
 pub use in_place::{decrypt_in_place, encrypt_in_place};
+pub use kernel::CbcKernel;
 pub use laws::decryption_undoes_encryption;
 
 #[cfg(test)]

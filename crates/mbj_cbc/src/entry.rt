@@ -1,0 +1,134 @@
+ghost use Rattle.std.specs.Prelude.{◌≡◌, ℕ, ◌+◌, ◌*◌, ◌%◌, ◌<◌, ◌≤◌, ◌++◌, length, take, drop, refl};
+ghost use Rattle.mbj_types.specs.Aes.{encipher};
+ghost use Rattle.mbj_types.specs.Modes.{cbc_text};
+ghost use Rattle.mbj_types.specs.Result.{range};
+ghost use Rattle.mbj_types.specs.Rounds.{cbc_rounds};
+ghost use Rattle.mbj_lane.specs.Rounds.{end_of};
+ghost use Rattle.mbj_cbc.specs.Rounds.{Going, key_of, rest_of, block_of, chain_of, led, place_of, round, started};
+
+use mbj_aes::Schedule;
+use mbj_aes_lanes::Chaining;
+use mbj_types::BLOCK_BYTES;
+use std::marker::Model;
+
+/// A CBC encryption on its way (SP 800-38A, 6.2), over a range of a packet, under a key of `N` rounds. A round encrypts
+/// one block, in place.
+#[derive(Drop)]
+pub struct CbcEntry<const N: usize> {
+    /// The packet, in whose range the blocks before the next one are encrypted.
+    pub packet: Vec<u8>,
+    /// How many rounds are left.
+    pub rest: u32,
+    /// The chaining value: the last block of ciphertext, and the IV at the start.
+    pub chain: [u8; 16],
+    key: Schedule,
+    off: usize,
+    len: usize,
+}
+
+impl<const N: usize> Model for CbcEntry<N> {
+    ghost use Rattle.std.specs.Prelude.{◌≡◌, ◌+◌, ◌*◌, ◌^◌, ◌<◌, ◌≤◌, length};
+    ghost use Rattle.mbj_cbc.specs.Rounds.{Going};
+
+    ghost Value = { Going };
+
+    ghost view = { λ e. record {
+      packet = e.packet.items;
+      rest = e.rest;
+      chain = e.chain;
+      key = e.key;
+      off = e.off;
+      len = e.len;
+    } };
+
+    ghost invariant = { λ e. (length e.key ≡ 16 * (N + 1)) × (length e.chain ≡ 16)
+        × (e.off + e.len ≤ length e.packet.items) × (16 * e.rest ≤ e.len) × (e.len < 2 ^ 32) };
+}
+
+impl<const N: usize> CbcEntry<N> {
+    /// An encryption of which nothing is done, of `len` bytes of the packet from `off` on. The key has `N` rounds, the
+    /// range lies in the packet, and its length is a multiple of 16 bytes and not 0. It takes no memory, and the packet
+    /// moves into the entry.
+    ///
+    /// At its end the entry has the packet with the range encrypted.
+    pub fn new(key: Schedule, iv: [u8; 16], packet: Vec<u8>, off: u32, len: u32) -> CbcEntry<N>
+        requires rounds { length key ≡ 16 * (N + 1) }
+        requires range { off + len ≤ length packet.items }
+        requires some { 0 < len }
+        requires whole { len % 16 ≡ 0 }
+        ensures start { result ≡ started key iv packet.items off len }
+        ensures rest { result.rest ≡ cbc_rounds len }
+        ensures packet { (end_of round rest_of result).packet
+            ≡ take off packet.items ++ cbc_text (encipher key) iv (range off len packet.items) ++ drop (off + len) packet.items }
+    {
+        let rest = len / BLOCK_BYTES as u32;
+        CbcEntry {
+            packet,
+            rest,
+            chain: iv,
+            key,
+            off: off as usize,
+            len: len as usize,
+        }
+    }
+
+    /// The packet, whose range is encrypted. No round is left.
+    pub fn into_packet(self) -> Vec<u8>
+        requires { self.rest ≡ 0 }
+        ensures { result.items ≡ self.entry.packet }
+    {
+        self.packet
+    }
+
+    /// Where the next block stands in the packet.
+    #[inline(always)]
+    fn place(&self) -> usize
+        ensures { result ≡ place_of self.now }
+    {
+        self.off + self.len - BLOCK_BYTES * self.rest as usize
+    }
+}
+
+impl<const N: usize> Chaining for CbcEntry<N> {
+    ghost key_rounds = { N };
+
+    ghost key_of = { key_of };
+
+    ghost rest_of = { rest_of };
+
+    ghost block_of = { block_of };
+
+    ghost chain_of = { chain_of };
+
+    ghost led = { led };
+
+    #[inline(always)]
+    fn key(&self) -> &Schedule {
+        &self.key
+    }
+
+    #[inline(always)]
+    fn block(&self) -> [u8; 16] {
+        let at = self.place();
+        let mut block = [0; BLOCK_BYTES];
+        block.copy_from_slice(&self.packet[at..at + BLOCK_BYTES]);
+        block
+    }
+
+    #[inline(always)]
+    fn chain(&self) -> &[u8; 16] {
+        &self.chain
+    }
+
+    #[inline(always)]
+    fn lead(&mut self, chain: &[u8; 16]) {
+        let at = self.place();
+        self.packet[at..at + BLOCK_BYTES].copy_from_slice(chain);
+        self.chain = *chain;
+        self.rest -= 1;
+    }
+
+    ghost keeps_key = { λ e c. refl };
+
+    ghost falls = { λ e c. refl };
+}

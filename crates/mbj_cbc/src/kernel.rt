@@ -1,0 +1,37 @@
+ghost use Rattle.std.specs.Prelude.{refl};
+ghost use Rattle.mbj_cbc.specs.Rounds.{rest_of, round};
+
+use crate::entry::CbcEntry;
+use mbj_aes_lanes::lead_all;
+use mbj_lane::Kernel;
+
+/// CBC encryption in sixteen lanes, under keys of `N` rounds: 10, 12 or 14.
+pub struct CbcKernel<const N: usize>;
+
+impl<const N: usize> Kernel for CbcKernel<N> {
+    type Entry = CbcEntry<N>;
+
+    const LANES: u32 = 16;
+
+    ghost LANES = { 16 };
+
+    ghost rest_of = { rest_of };
+
+    ghost round = { round };
+
+    fn rest(entry: &CbcEntry<N>) -> u32 {
+        entry.rest
+    }
+
+    fn run(entries: &mut [CbcEntry<N>], m: u32) {
+        lead_all(entries, m);
+    }
+
+    ghost use Rattle.std.proofs.Common.{rules};
+
+    ghost some = { Prim.search rules };
+
+    ghost few = { Prim.search rules };
+
+    ghost falls = { λ e. refl };
+}
