@@ -1,9 +1,13 @@
-//! CMAC with AES (SP 800-38B). No call takes memory.
+//! CMAC with AES (SP 800-38B): of one message, and of many messages side by side in lanes. No call takes memory.
 #![tactic(auto)]
 
 mod closing;
+mod entry;
+mod kernel;
 mod plain;
 
+pub use entry::CmacEntry;
+pub use kernel::CmacKernel;
 pub use plain::cmac_plain;
 
 #[cfg(test)]

@@ -1,0 +1,153 @@
+ghost use Rattle.std.specs.Prelude.{◌≡◌, ℕ, ◌+◌, ◌-◌, ◌*◌, ◌^◌, ◌<◌, ◌≤◌, length, drop, refl};
+ghost use Rattle.mbj_types.specs.Aes.{encipher};
+ghost use Rattle.mbj_types.specs.Cmac.{cmac};
+ghost use Rattle.mbj_types.specs.Result.{range};
+ghost use Rattle.mbj_types.specs.Rounds.{cmac_rounds};
+ghost use Rattle.mbj_lane.specs.Rounds.{end_of};
+ghost use Rattle.mbj_cmac.specs.Rounds.{Going, key_of, rest_of, block_of, chain_of, led, round, started};
+
+use crate::closing::closed_block;
+use mbj_aes::Schedule;
+use mbj_aes_lanes::Chaining;
+use mbj_types::BLOCK_BYTES;
+use std::marker::Model;
+
+/// A CMAC on its way (SP 800-38B, 6.2), over a range of a packet, under a key of `N` rounds. A round chains one block of
+/// the message.
+#[derive(Drop)]
+pub struct CmacEntry<const N: usize> {
+    /// The packet, as it was given.
+    pub packet: Vec<u8>,
+    /// How many rounds are left.
+    pub rest: u32,
+    /// The chaining value, of zeros at the start.
+    pub chain: [u8; 16],
+    key: Schedule,
+    last: [u8; 16],
+    off: usize,
+    len: usize,
+}
+
+impl<const N: usize> Model for CmacEntry<N> {
+    ghost use Rattle.mbj_cmac.specs.Rounds.{Going};
+    ghost use Rattle.mbj_cmac.specs.Inside.Sound.{IsSound};
+
+    ghost Value = { Going };
+
+    ghost view = { λ e. record {
+      packet = e.packet.items;
+      rest = e.rest;
+      chain = e.chain;
+      key = e.key;
+      off = e.off;
+      len = e.len;
+    } };
+
+    ghost invariant = { λ e. IsSound N e.last (record {
+      packet = e.packet.items;
+      rest = e.rest;
+      chain = e.chain;
+      key = e.key;
+      off = e.off;
+      len = e.len;
+    }) };
+}
+
+/// The rounds of a CMAC over a message of `len` bytes.
+#[inline(always)]
+fn rounds(len: usize) -> u32
+    requires { len < 2 ^ 32 }
+    ensures { result ≡ cmac_rounds len }
+{
+    if len == 0 {
+        1
+    } else {
+        len.div_ceil(BLOCK_BYTES) as u32
+    }
+}
+
+impl<const N: usize> CmacEntry<N> {
+    /// A CMAC of which nothing is done, over `len` bytes of the packet from `off` on. The key has `N` rounds, and the
+    /// range lies in the packet. It takes no memory, and the packet moves into the entry.
+    ///
+    /// At its end the entry has the packet as it was given, and its chaining value is the CMAC.
+    pub fn new(key: Schedule, packet: Vec<u8>, off: u32, len: u32) -> CmacEntry<N>
+        requires rounds { length key ≡ 16 * (N + 1) }
+        requires range { off + len ≤ length packet.items }
+        ensures start { result ≡ started key packet.items off len }
+        ensures rest { result.rest ≡ cmac_rounds len }
+        ensures packet { (end_of round rest_of result).packet ≡ packet.items }
+        ensures mac { (end_of round rest_of result).chain ≡ cmac (encipher key) (range off len packet.items) }
+    {
+        let (off, len) = (off as usize, len as usize);
+        let rest = rounds(len);
+        let last = closed_block(
+            &key,
+            &packet[off + BLOCK_BYTES * (rest as usize - 1)..off + len],
+        );
+        CmacEntry {
+            packet,
+            rest,
+            chain: [0; BLOCK_BYTES],
+            key,
+            last,
+            off,
+            len,
+        }
+    }
+
+    /// The packet, and the CMAC: its 16 bytes, of which a shorter tag is the leftmost ones. No round is left.
+    pub fn into_parts(self) -> (Vec<u8>, [u8; 16])
+        requires { self.rest ≡ 0 }
+        ensures packet { result.0.items ≡ self.entry.packet }
+        ensures mac { result.1 ≡ self.entry.chain }
+    {
+        let chain = self.chain;
+        (self.packet, chain)
+    }
+}
+
+impl<const N: usize> Chaining for CmacEntry<N> {
+    ghost key_rounds = { N };
+
+    ghost key_of = { key_of };
+
+    ghost rest_of = { rest_of };
+
+    ghost block_of = { block_of };
+
+    ghost chain_of = { chain_of };
+
+    ghost led = { led };
+
+    #[inline(always)]
+    fn key(&self) -> &Schedule {
+        &self.key
+    }
+
+    #[inline(always)]
+    fn block(&self) -> [u8; 16] {
+        if self.rest == 1 {
+            return self.last;
+        }
+        let at = self.off + BLOCK_BYTES * (rounds(self.len) - self.rest) as usize;
+        let mut block = [0; BLOCK_BYTES];
+        block.copy_from_slice(&self.packet[at..at + BLOCK_BYTES]);
+        block
+    }
+
+    #[inline(always)]
+    fn chain(&self) -> &[u8; 16] {
+        &self.chain
+    }
+
+    #[inline(always)]
+    fn lead(&mut self, chain: &[u8; 16]) {
+        self.chain = *chain;
+        self.rest -= 1;
+    }
+
+    ghost keeps_key = { λ e c. refl };
+
+    ghost falls = { λ e c. refl };
+}
