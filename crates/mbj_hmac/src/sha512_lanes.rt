@@ -7,7 +7,7 @@ ghost use Rattle.mbj_hmac.specs.Chainings.{is_sha512, sha512_chaining};
 use crate::lane_hash::LaneHash;
 use crate::load64::{block_words, lane_word};
 use mbj_sha_lanes::load64::state_lanes;
-use mbj_sha512_lanes::compress_lanes;
+use mbj_sha512_lanes::compress_four;
 use mbj_types::{Auth, Tag};
 use std::simd::u64x4;
 
@@ -149,8 +149,8 @@ impl LaneHash for Sha512Lanes {
         _b6: &[u8],
         _b7: &[u8],
     ) {
-        let mut words = block_words(b0, b1, b2, b3);
-        compress_lanes(states, &mut words);
+        let words = block_words(b0, b1, b2, b3);
+        compress_four(states, &words);
     }
 
     ghost use Rattle.std.proofs.Common.{rules};

@@ -6,10 +6,9 @@ mod blocks;
 mod constants;
 mod functions;
 mod lanes;
-mod rounds;
 
 pub use blocks::compress;
-pub use lanes::compress_lanes;
+pub use lanes::{compress_four, compress_lanes};
 
 #[cfg(test)]
 mod tests;

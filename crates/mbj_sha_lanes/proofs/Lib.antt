@@ -1,1 +1,3 @@
 pub mod ShortForms
+pub mod EightWords
+pub mod Windows

@@ -1,8 +1,17 @@
 //! What the lane forms of the three SHA compressions share: the functions on words of FIPS 180-4
-//! over lane words, and the vectors that blocks and hash values are loaded into.
+//! over lane words, the vectors that blocks and hash values are loaded into, and the compressions of SHA-2.
 #![tactic(auto)]
 
 pub mod load32;
 pub mod load64;
+mod scheduled;
+mod standard;
+mod windowed;
 pub mod words32;
 pub mod words64;
+mod working;
+
+pub use scheduled::compress_scheduled;
+pub use standard::Sha2;
+pub use windowed::compress_windowed;
+pub use working::Working;

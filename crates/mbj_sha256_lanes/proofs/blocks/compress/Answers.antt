@@ -2,7 +2,8 @@ use Rattle.std.proofs.Common.{◌≡◌, ℕ, List, [], length, slice_index_or, 
 use Rattle.sha2.specs.Sha256.{compress}
 use Rattle.mbj_types.specs.Lanes.{lane_at, lane_of}
 use Rattle.mbj_types.proofs.LaneLists.{length-lane_of, slice_index-lane_of}
-use Rattle.mbj_sha256_lanes.proofs.Windows.{words_of, eight_of, eight_at}
+use Rattle.mbj_sha_lanes.proofs.EightWords.{eight_of, eight_at}
+use Rattle.mbj_sha256_lanes.proofs.BlockWords.{words_of}
 use Rattle.mbj_sha256_lanes.proofs.blocks.compress.Goals as goal
 
 pub returns : goal.returns

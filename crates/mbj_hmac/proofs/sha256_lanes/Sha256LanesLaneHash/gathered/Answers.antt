@@ -1,5 +1,5 @@
 use Rattle.std.proofs.Common.{ℕ, List, [], ◌∷◌, slice_index_or}
-use Rattle.mbj_sha256_lanes.proofs.Windows.{eight_of}
+use Rattle.mbj_sha_lanes.proofs.EightWords.{eight_of}
 use Rattle.mbj_hmac.proofs.sha256_lanes.Sha256LanesLaneHash.gathered.Goals as goal
 
 pub returns : goal.returns

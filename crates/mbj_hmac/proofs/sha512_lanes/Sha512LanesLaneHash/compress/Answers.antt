@@ -13,5 +13,5 @@ pub returns : goal.returns
 returns c i lt =
     let a = c.args in
     let b : List ℕ = slice_index_or (a.b0.now ∷ a.b1.now ∷ a.b2.now ∷ a.b3.now ∷ []) i [] in
-    c.compress_lanes.ensures i b lt (first_are b ∙ c.block_words-words.ensures.lanes i lt)
+    c.compress_four.ensures.each i b lt (first_are b ∙ c.block_words-words.ensures.lanes i lt)
     ∙ ap (compress (lane_of (lane_at 64) a.states.now i)) (first_four a.b0.now a.b1.now a.b2.now a.b3.now a._b4.now a._b5.now a._b6.now a._b7.now [] i lt)

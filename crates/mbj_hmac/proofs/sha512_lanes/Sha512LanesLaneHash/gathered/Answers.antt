@@ -1,5 +1,5 @@
 use Rattle.std.proofs.Common.{ℕ, List, [], ◌∷◌, slice_index_or, ◌∙◌}
-use Rattle.mbj_sha512_lanes.proofs.Windows.{eight_of}
+use Rattle.mbj_sha_lanes.proofs.EightWords.{eight_of}
 use Rattle.mbj_hmac.proofs.Loading64.{first_four}
 use Rattle.mbj_hmac.proofs.sha512_lanes.Sha512LanesLaneHash.gathered.Goals as goal
 

@@ -1,6 +1,6 @@
 use Rattle.std.proofs.Common.{sym}
 use Rattle.mbj_types.specs.Lanes.{lane_at}
-use Rattle.mbj_sha512_lanes.proofs.Windows.{eight_at}
+use Rattle.mbj_sha_lanes.proofs.EightWords.{eight_at}
 use Rattle.mbj_hmac.proofs.sha512_lanes.Sha512LanesLaneHash.scattered.Goals as goal
 
 pub returns : goal.returns

@@ -1,7 +1,0 @@
-use Rattle.std.proofs.Common.{◌≡◌, ◌+◌, arith}
-use Rattle.mbj_sha256_lanes.proofs.rounds.first_two_steps.Goals as goal
-
-pub returns : goal.returns
-returns g c i b h lt words at =
-    let t2 : c.args.t + 1 + 1 ≡ c.args.t + 2 = omega arith in
-    rw t2 at (c.first_step.ensures i b h lt words (c.first_step-v.ensures i b h lt words at))

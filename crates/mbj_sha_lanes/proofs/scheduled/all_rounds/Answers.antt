@@ -1,0 +1,25 @@
+use Rattle.std.proofs.Common.{◌≡◌, ℕ, ◌+◌, ◌*◌, sym, arith}
+use Rattle.mbj_sha_lanes.specs.Sha2.{working_lane}
+use Rattle.mbj_sha_lanes.proofs.scheduled.all_rounds.Goals as goal
+
+pub turns-init : goal.turns-init
+turns-init g c i b lt words = sym (g.met.H.Sha2.laws.rounds_none (working_lane g.H.Sha2.lane c.args.start i) (g.H.Sha2.functions.schedule b))
+
+pub turns-preserved : goal.turns-preserved
+turns-preserved g c i b lt words =
+    let h = working_lane g.H.Sha2.lane c.args.start i in
+    let t : ℕ = 8 * c.turns.turn in
+    let e4 : t + 2 + 2 ≡ t + 4 = omega arith in
+    let e6 : t + 4 + 2 ≡ t + 6 = omega arith in
+    let next : t + 6 + 2 ≡ 8 * (c.turns.turn + 1) = omega arith in
+    let r2 = c.two_steps-v.ensures i b h lt words (c.turns.invariant i b lt words) in
+    let r4 = rw e4 at (c.two_steps-v-in-turns.ensures i b h lt words r2) in
+    let r6 = rw e6 at (c.two_steps-v-in-turns-2.ensures i b h lt words r4) in
+    rw next at (c.two_steps-v-in-turns-3.ensures i b h lt words r6)
+
+pub returns : goal.returns
+returns g c i b lt words =
+    let count = g.met.H.Sha2.laws.count in
+    let rounds = g.met.H.Sha2.rounds in
+    let last : 8 * c.turns.turn ≡ g.H.Sha2.functions.count = omega arith in
+    rw last at (c.turns.invariant i b lt words)

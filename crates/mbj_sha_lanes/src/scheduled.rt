@@ -1,0 +1,82 @@
+//! The compression of SHA-2 with its whole schedule made first. Where a type of lanes fills more registers than there are,
+//! that is faster than a schedule that is made as its rounds come.
+ghost use Rattle.std.specs.Prelude.{◌≡◌, ℕ, ◌+◌, ◌<◌, ◌≤◌, List, length, take};
+ghost use Rattle.mbj_types.specs.Lanes.{lane_of};
+ghost use Rattle.mbj_sha_lanes.specs.Sha2.{compressed, working_lane};
+ghost use Rattle.mbj_sha_lanes.specs.Inside.{AreScheduled};
+
+use crate::standard::Sha2;
+use crate::working::{Working, add_working, round, schedule_word, working_of};
+
+// The words of the schedule behind the block's sixteen.
+fn fill<V: Copy, H: Sha2<V>>(words: &mut [V])
+    requires { length words.old ≡ H.functions.count }
+    ensures schedule { (i : ℕ) (b : List ℕ) → i < H.LANES → H.functions.first_words b ≡ take 16 (lane_of H.lane words.old i)
+        → AreScheduled (lane_of H.lane words.new i) (H.functions.schedule b) H.functions.count }
+    ensures count { length words.new ≡ H.functions.count }
+{
+    'words: for t in 16..H::ROUNDS {
+        words[t] = schedule_word::<V, H>(words[t - 2], words[t - 7], words[t - 15], words[t - 16]);
+    }
+}
+
+// Round t, with its word of the schedule.
+#[inline(always)]
+fn step<V: Copy, H: Sha2<V>>(words: &[V], v: Working<V>, t: usize) -> Working<V>
+    requires count { length words.now ≡ H.functions.count }
+    requires high { t < H.functions.count }
+    ensures { (i : ℕ) (b h : List ℕ) → i < H.LANES
+        → AreScheduled (lane_of H.lane words.now i) (H.functions.schedule b) H.functions.count
+        → working_lane H.lane v i ≡ H.functions.rounds h (H.functions.schedule b) t
+        → working_lane H.lane result i ≡ H.functions.rounds h (H.functions.schedule b) (t + 1) }
+{
+    round::<V, H>(v, H::constant(t), words[t])
+}
+
+// Two rounds from round t on.
+#[inline(always)]
+fn two_steps<V: Copy, H: Sha2<V>>(words: &[V], v: Working<V>, t: usize) -> Working<V>
+    requires count { length words.now ≡ H.functions.count }
+    requires high { t + 2 ≤ H.functions.count }
+    ensures { (i : ℕ) (b h : List ℕ) → i < H.LANES
+        → AreScheduled (lane_of H.lane words.now i) (H.functions.schedule b) H.functions.count
+        → working_lane H.lane v i ≡ H.functions.rounds h (H.functions.schedule b) t
+        → working_lane H.lane result i ≡ H.functions.rounds h (H.functions.schedule b) (t + 2) }
+{
+    let v = step::<V, H>(words, v, t);
+    step::<V, H>(words, v, t + 1)
+}
+
+// All rounds, eight a turn, so that the working variables are where they were after each turn.
+#[inline(always)]
+fn all_rounds<V: Copy, H: Sha2<V>>(words: &[V], start: Working<V>) -> Working<V>
+    requires { length words.now ≡ H.functions.count }
+    ensures { (i : ℕ) (b : List ℕ) → i < H.LANES
+        → AreScheduled (lane_of H.lane words.now i) (H.functions.schedule b) H.functions.count
+        → working_lane H.lane result i
+        ≡ H.functions.rounds (working_lane H.lane start i) (H.functions.schedule b) H.functions.count }
+{
+    let mut v = start;
+    'turns: for turn in 0..H::ROUNDS / 8 {
+        let t = 8 * turn;
+        v = two_steps::<V, H>(words, v, t);
+        v = two_steps::<V, H>(words, v, t + 2);
+        v = two_steps::<V, H>(words, v, t + 4);
+        v = two_steps::<V, H>(words, v, t + 6);
+    }
+    v
+}
+
+/// Compresses one block into one hash value in each lane. `states` has 8 lane words, the words of the hash values;
+/// `words` has one for each round, of which the first 16 are the words of the blocks. The others are made here.
+#[inline(always)]
+pub fn compress_scheduled<V: Copy, H: Sha2<V>>(states: &mut [V], words: &mut [V])
+    requires states { length states.old ≡ 8 }
+    requires words { length words.old ≡ H.functions.count }
+    ensures { (i : ℕ) (b : List ℕ) → i < H.LANES → H.functions.first_words b ≡ take 16 (lane_of H.lane words.old i)
+        → lane_of H.lane states.new i ≡ compressed H.functions (lane_of H.lane states.old i) b }
+{
+    fill::<V, H>(words);
+    let v = all_rounds::<V, H>(words, working_of::<V, H>(states));
+    add_working::<V, H>(states, v);
+}

@@ -1,0 +1,128 @@
+//! The compression of SHA-2 with its schedule made in a window of sixteen words, each word when its round comes
+//! (FIPS 180-4, 6.2.3, for the other hashes likewise).
+ghost use Rattle.std.specs.Prelude.{◌≡◌, ℕ, ◌+◌, ◌<◌, ◌≤◌, List, length, slice_index};
+ghost use Rattle.mbj_types.specs.Lanes.{lane_of};
+ghost use Rattle.mbj_sha_lanes.specs.Sha2.{IsWindow, compressed, working_lane};
+ghost use Rattle.mbj_sha_lanes.specs.Inside.{IsWindowed};
+
+use crate::standard::Sha2;
+use crate::working::{Working, add_working, round, schedule_word, working_of};
+
+// Word t of the schedule, put at the place of word t - 16.
+#[inline(always)]
+fn next_word<V: Copy, H: Sha2<V>>(words: &mut [V], t: usize) -> V
+    requires window { length words.old ≡ 16 }
+    requires low { 16 ≤ t }
+    requires high { t < H.functions.count }
+    ensures word { (i : ℕ) (b : List ℕ) → i < H.LANES
+        → IsWindow (lane_of H.lane words.old i) (H.functions.schedule b) t
+        → H.lane result i ≡ slice_index (H.functions.schedule b) t }
+    ensures window { (i : ℕ) (b : List ℕ) → i < H.LANES
+        → IsWindow (lane_of H.lane words.old i) (H.functions.schedule b) t
+        → IsWindow (lane_of H.lane words.new i) (H.functions.schedule b) (t + 1) }
+{
+    let word = schedule_word::<V, H>(
+        words[(t + 14) % 16],
+        words[(t + 9) % 16],
+        words[(t + 1) % 16],
+        words[t % 16],
+    );
+    words[t % 16] = word;
+    word
+}
+
+// One of the first 16 rounds, whose words are the block's.
+#[inline(always)]
+fn first_step<V: Copy, H: Sha2<V>>(words: &[V], v: Working<V>, t: usize) -> Working<V>
+    requires window { length words.now ≡ 16 }
+    requires high { t < 16 }
+    ensures { (i : ℕ) (b h : List ℕ) → i < H.LANES → IsWindow (lane_of H.lane words.now i) (H.functions.schedule b) 16
+        → working_lane H.lane v i ≡ H.functions.rounds h (H.functions.schedule b) t
+        → working_lane H.lane result i ≡ H.functions.rounds h (H.functions.schedule b) (t + 1) }
+{
+    round::<V, H>(v, H::constant(t), words[t])
+}
+
+// Two of the first 16 rounds, from round t on.
+#[inline(always)]
+fn first_two_steps<V: Copy, H: Sha2<V>>(words: &[V], v: Working<V>, t: usize) -> Working<V>
+    requires window { length words.now ≡ 16 }
+    requires high { t + 2 ≤ 16 }
+    ensures { (i : ℕ) (b h : List ℕ) → i < H.LANES → IsWindow (lane_of H.lane words.now i) (H.functions.schedule b) 16
+        → working_lane H.lane v i ≡ H.functions.rounds h (H.functions.schedule b) t
+        → working_lane H.lane result i ≡ H.functions.rounds h (H.functions.schedule b) (t + 2) }
+{
+    let v = first_step::<V, H>(words, v, t);
+    first_step::<V, H>(words, v, t + 1)
+}
+
+// Round t, for t from 16, with its schedule word.
+#[inline(always)]
+fn step<V: Copy, H: Sha2<V>>(words: &mut [V], v: Working<V>, t: usize) -> Working<V>
+    requires window { length words.old ≡ 16 }
+    requires low { 16 ≤ t }
+    requires high { t < H.functions.count }
+    ensures { (i : ℕ) (b h : List ℕ) → i < H.LANES → IsWindowed H.lane H.functions i b h words.old v t
+        → IsWindowed H.lane H.functions i b h words.new result (t + 1) }
+{
+    let word = next_word::<V, H>(words, t);
+    round::<V, H>(v, H::constant(t), word)
+}
+
+// Two rounds from round t on, for t from 16. A caller that gives t as a literal has the places of the words and the
+// constants fixed when the code is compiled.
+#[inline(always)]
+fn two_steps<V: Copy, H: Sha2<V>>(words: &mut [V], v: Working<V>, t: usize) -> Working<V>
+    requires window { length words.old ≡ 16 }
+    requires low { 16 ≤ t }
+    requires high { t + 2 ≤ H.functions.count }
+    ensures { (i : ℕ) (b h : List ℕ) → i < H.LANES → IsWindowed H.lane H.functions i b h words.old v t
+        → IsWindowed H.lane H.functions i b h words.new result (t + 2) }
+{
+    let v = step::<V, H>(words, v, t);
+    step::<V, H>(words, v, t + 1)
+}
+
+// All rounds of the block whose words are given: sixteen a turn, so that each word's place among the words is fixed when
+// the code is compiled.
+#[inline(always)]
+fn all_rounds<V: Copy, H: Sha2<V>>(words: &mut [V], start: Working<V>) -> Working<V>
+    requires { length words.old ≡ 16 }
+    ensures { (i : ℕ) (b : List ℕ) → i < H.LANES → H.functions.first_words b ≡ lane_of H.lane words.old i
+        → working_lane H.lane result i
+        ≡ H.functions.rounds (working_lane H.lane start i) (H.functions.schedule b) H.functions.count }
+{
+    let mut v = first_two_steps::<V, H>(words, start, 0);
+    v = first_two_steps::<V, H>(words, v, 2);
+    v = first_two_steps::<V, H>(words, v, 4);
+    v = first_two_steps::<V, H>(words, v, 6);
+    v = first_two_steps::<V, H>(words, v, 8);
+    v = first_two_steps::<V, H>(words, v, 10);
+    v = first_two_steps::<V, H>(words, v, 12);
+    v = first_two_steps::<V, H>(words, v, 14);
+    'turns: for turn in 1..H::ROUNDS / 16 {
+        let t = 16 * turn;
+        v = two_steps::<V, H>(words, v, t);
+        v = two_steps::<V, H>(words, v, t + 2);
+        v = two_steps::<V, H>(words, v, t + 4);
+        v = two_steps::<V, H>(words, v, t + 6);
+        v = two_steps::<V, H>(words, v, t + 8);
+        v = two_steps::<V, H>(words, v, t + 10);
+        v = two_steps::<V, H>(words, v, t + 12);
+        v = two_steps::<V, H>(words, v, t + 14);
+    }
+    v
+}
+
+/// Compresses one block into one hash value in each lane. `states` has 8 lane words, the words of the hash values;
+/// `words` has 16, the words of the blocks, and is used up: what it holds afterwards is not said.
+#[inline(always)]
+pub fn compress_windowed<V: Copy, H: Sha2<V>>(states: &mut [V], words: &mut [V])
+    requires states { length states.old ≡ 8 }
+    requires words { length words.old ≡ 16 }
+    ensures { (i : ℕ) (b : List ℕ) → i < H.LANES → H.functions.first_words b ≡ lane_of H.lane words.old i
+        → lane_of H.lane states.new i ≡ compressed H.functions (lane_of H.lane states.old i) b }
+{
+    let v = all_rounds::<V, H>(words, working_of::<V, H>(states));
+    add_working::<V, H>(states, v);
+}
