@@ -6,6 +6,7 @@
 mod aes;
 mod ghash;
 mod kernel;
+mod lists;
 mod message;
 mod sha1_kernel;
 mod sha256_kernel;
@@ -24,6 +25,7 @@ fn main(rt: HostRuntime) -> io::Result<()> {
         timing::print(&rt)?;
         ghash::print_times(&rt)?;
         aes::print_times(&rt)?;
+        lists::print_times(&rt, rt.alloc())?;
     }
     Ok(())
 }
