@@ -2,7 +2,7 @@
 //! its place, and xoring one with a mask. No call takes memory.
 #![tactic(auto)]
 
-ghost use Rattle.std.specs.Prelude.{◌≡◌, ◌+◌, ◌*◌, ◌<◌, ◌≤◌, length};
+ghost use Rattle.std.specs.Prelude.{◌≡◌, ◌+◌, ◌*◌, ◌<◌, ◌≤◌, length, take, drop};
 ghost use Rattle.mbj_types.specs.Blocks.{xor_lists, filled_block};
 ghost use Rattle.mbj_blocks.specs.Places.{block_of, with_block};
 
@@ -11,15 +11,23 @@ use mbj_types::{BLOCK_BYTES, xor_in_place};
 #[cfg(test)]
 mod tests;
 
+/// The 16 bytes of a text from `start` on, which it has.
+#[inline(always)]
+pub fn block_from(text: &[u8], start: usize) -> [u8; 16]
+    requires { start + 16 ≤ length text.now }
+    ensures { result ≡ take 16 (drop start text.now) }
+{
+    let mut block = [0; BLOCK_BYTES];
+    block.copy_from_slice(&text[start..start + BLOCK_BYTES]);
+    block
+}
+
 /// Block `i` of a text that has that block whole.
 pub fn block_at(text: &[u8], i: usize) -> [u8; 16]
     requires { 16 * (i + 1) ≤ length text.now }
     ensures { result ≡ block_of text.now i }
 {
-    let start = BLOCK_BYTES * i;
-    let mut block = [0; BLOCK_BYTES];
-    block.copy_from_slice(&text[start..start + BLOCK_BYTES]);
-    block
+    block_from(text, BLOCK_BYTES * i)
 }
 
 /// Puts `block` in the place of block `i` of a text that has that block whole.

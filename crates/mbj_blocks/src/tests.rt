@@ -13,6 +13,10 @@ fn a_text_of_20_bytes_has_a_whole_block_and_one_of_4_bytes(rt: HostRuntime) {
     assert_eq!(rt; &text[16..], [0xf0, 0x1e, 0x1e, 0x1e].as_slice());
 
     assert_eq!(rt;
+        &block_from(&text, 4)[11..],
+        [0xf0, 0xf0, 0x1e, 0x1e, 0x1e].as_slice()
+    );
+    assert_eq!(rt;
         filled_block(&text[15..18]),
         [0xf0, 0xf0, 0x1e, 0, 0, 0, 0, 0, 0, 0, 0, 0, 0, 0, 0, 0]
     );

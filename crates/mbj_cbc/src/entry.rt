@@ -8,6 +8,7 @@ ghost use Rattle.mbj_cbc.specs.Rounds.{Going, key_of, rest_of, block_of, chain_o
 
 use mbj_aes::Schedule;
 use mbj_aes_lanes::Chaining;
+use mbj_blocks::block_from;
 use mbj_types::BLOCK_BYTES;
 use std::marker::Model;
 
@@ -109,10 +110,7 @@ impl<const N: usize> Chaining for CbcEntry<N> {
 
     #[inline(always)]
     fn block(&self) -> [u8; 16] {
-        let at = self.place();
-        let mut block = [0; BLOCK_BYTES];
-        block.copy_from_slice(&self.packet[at..at + BLOCK_BYTES]);
-        block
+        block_from(&self.packet, self.place())
     }
 
     #[inline(always)]
