@@ -140,6 +140,16 @@ fn pass<E: Chaining>(entries: &mut [E], keys: &LaneKeys)
     take_chains(entries, &blocks);
 }
 
+/// Encrypts a block in each lane under the key of its entry; idle lanes go with the last entry. It takes no memory.
+pub fn encrypt_each<E: Chaining>(entries: &[E], blocks: &mut [[u8; 16]; 16])
+    requires { 0 < length entries.now }
+    ensures each { (i : ℕ) → i < 16 → slice_index_or blocks.new i []
+        ≡ encipher (in_lane (map E.key_of entries.now) i) (slice_index_or blocks.old i []) }
+    ensures lengths { (i : ℕ) → i < 16 → length (slice_index_or blocks.new i []) ≡ 16 }
+{
+    encrypt16(&LaneKeys::each(entries), blocks);
+}
+
 /// Leads each of at most 16 entries by `m` blocks, of which each has that many left. In each of `m` passes one block of
 /// every entry is enciphered, all at once. It takes no memory.
 pub fn lead_all<E: Chaining>(entries: &mut [E], m: u32)

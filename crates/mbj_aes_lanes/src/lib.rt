@@ -17,7 +17,7 @@ mod substitution;
 mod transposition;
 mod words;
 
-pub use chaining::{Chaining, lead_all};
+pub use chaining::{Chaining, encrypt_each, lead_all};
 pub use lane_keys::LaneKeys;
 pub use lanes::{decrypt_lanes, encrypt_lanes};
 pub use same::{chained, encrypt_same};

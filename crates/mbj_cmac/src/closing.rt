@@ -1,6 +1,7 @@
 ghost use Rattle.std.specs.Prelude.{◌≡◌, ◌≤◌, length};
 ghost use Rattle.mbj_types.specs.Aes.{encipher};
-ghost use Rattle.mbj_types.specs.Cmac.{doubled_number, doubled, first_subkey, second_subkey, closed_block};
+ghost use Rattle.mbj_types.specs.Cmac.{doubled_number, doubled, first_subkey, closed_block};
+ghost use Rattle.mbj_cmac.specs.Inside.Closing.{closed_by};
 
 use mbj_aes::Schedule;
 use mbj_aes_lanes::encrypt_same;
@@ -20,14 +21,14 @@ fn doubled_number(block: u128) -> u128
     (block << 1) ^ (block >> 127) * REDUCTION
 }
 
-// A block doubled.
-fn doubled(block: &[u8; 16]) -> [u8; 16]
+/// A block doubled, as a string of bits (SP 800-38B, 6.1).
+pub fn doubled(block: &[u8; 16]) -> [u8; 16]
     ensures { result ≡ doubled block.now }
 {
     doubled_number(u128::from_be_bytes(*block)).to_be_bytes()
 }
 
-// K1 (SP 800-38B, 6.1).
+// K1 (SP 800-38B, 6.1): the enciphered zero block, doubled.
 fn first_subkey(key: &Schedule) -> [u8; 16]
     ensures { result ≡ first_subkey (encipher key.now) }
 {
@@ -36,25 +37,27 @@ fn first_subkey(key: &Schedule) -> [u8; 16]
     doubled(&blocks[0])
 }
 
-// K2 (SP 800-38B, 6.1).
-fn second_subkey(key: &Schedule) -> [u8; 16]
-    ensures { result ≡ second_subkey (encipher key.now) }
+/// The last block of a message as it goes into CBC (SP 800-38B, 6.2, step 4), by the first subkey, K1: a whole one xored
+/// with K1, a shorter one followed by a bit 1 and zeros and xored with K2, which is K1 doubled. `last` has at most 16
+/// bytes, and none if the message is empty.
+pub fn closed_by(first_subkey: &[u8; 16], last: &[u8]) -> [u8; 16]
+    requires { length last.now ≤ 16 }
+    ensures { result ≡ closed_by first_subkey.now last.now }
 {
-    doubled(&first_subkey(key))
+    let mut block = filled_block(last);
+    if last.len() == BLOCK_BYTES {
+        xor_in_place(&mut block, first_subkey);
+    } else {
+        block[last.len()] = PADDING_BYTE;
+        xor_in_place(&mut block, &doubled(first_subkey));
+    }
+    block
 }
 
-/// The last block of a message as it goes into CBC (SP 800-38B, 6.2, step 4): a whole one xored with K1, a shorter one
-/// followed by a bit 1 and zeros and xored with K2. `last` has at most 16 bytes, and none if the message is empty.
+/// The last block of a message as it goes into CBC under a key.
 pub fn closed_block(key: &Schedule, last: &[u8]) -> [u8; 16]
     requires { length last.now ≤ 16 }
     ensures { result ≡ closed_block (encipher key.now) last.now }
 {
-    let mut block = filled_block(last);
-    if last.len() == BLOCK_BYTES {
-        xor_in_place(&mut block, &first_subkey(key));
-    } else {
-        block[last.len()] = PADDING_BYTE;
-        xor_in_place(&mut block, &second_subkey(key));
-    }
-    block
+    closed_by(&first_subkey(key), last)
 }

@@ -1,19 +1,23 @@
 ghost use Rattle.std.specs.Prelude.{◌≡◌, ℕ, ◌+◌, ◌-◌, ◌*◌, ◌^◌, ◌<◌, ◌≤◌, length, drop, refl};
 ghost use Rattle.mbj_types.specs.Aes.{encipher};
-ghost use Rattle.mbj_types.specs.Cmac.{cmac};
+ghost use Rattle.mbj_types.specs.Blocks.{zero_block};
+ghost use Rattle.mbj_types.specs.Cmac.{closed_block, cmac};
 ghost use Rattle.mbj_types.specs.Result.{range};
 ghost use Rattle.mbj_types.specs.Rounds.{cmac_rounds};
 ghost use Rattle.mbj_lane.specs.Rounds.{end_of};
+ghost use Rattle.mbj_cmac.specs.Inside.Sound.{last_part};
 ghost use Rattle.mbj_cmac.specs.Rounds.{Going, key_of, rest_of, block_of, chain_of, led, round, started};
 
-use crate::closing::closed_block;
+use crate::closing::{closed_block, closed_by, doubled};
 use mbj_aes::Schedule;
 use mbj_aes_lanes::Chaining;
+use mbj_blocks::block_from;
 use mbj_types::BLOCK_BYTES;
 use std::marker::Model;
 
 /// A CMAC on its way (SP 800-38B, 6.2), over a range of a packet, under a key of `N` rounds. A round chains one block of
-/// the message.
+/// the message. The last block waits to be closed until the first run, in which the subkeys of all entries are made at
+/// once.
 #[derive(Drop)]
 pub struct CmacEntry<const N: usize> {
     /// The packet, as it was given.
@@ -23,7 +27,9 @@ pub struct CmacEntry<const N: usize> {
     /// The chaining value, of zeros at the start.
     pub chain: [u8; 16],
     key: Schedule,
+    // the last block, once it is closed
     last: [u8; 16],
+    is_closed: bool,
     off: usize,
     len: usize,
 }
@@ -43,7 +49,7 @@ impl<const N: usize> Model for CmacEntry<N> {
       len = e.len;
     } };
 
-    ghost invariant = { λ e. IsSound N e.last (record {
+    ghost invariant = { λ e. IsSound N e.is_closed e.last (record {
       packet = e.packet.items;
       rest = e.rest;
       chain = e.chain;
@@ -80,17 +86,13 @@ impl<const N: usize> CmacEntry<N> {
         ensures mac { (end_of round rest_of result).chain ≡ cmac (encipher key) (range off len packet.items) }
     {
         let (off, len) = (off as usize, len as usize);
-        let rest = rounds(len);
-        let last = closed_block(
-            &key,
-            &packet[off + BLOCK_BYTES * (rest as usize - 1)..off + len],
-        );
         CmacEntry {
             packet,
-            rest,
+            rest: rounds(len),
             chain: [0; BLOCK_BYTES],
             key,
-            last,
+            last: [0; BLOCK_BYTES],
+            is_closed: false,
             off,
             len,
         }
@@ -104,6 +106,44 @@ impl<const N: usize> CmacEntry<N> {
     {
         let chain = self.chain;
         (self.packet, chain)
+    }
+
+    /// Whether the last block of the message was closed.
+    #[inline(always)]
+    pub(crate) fn is_closed(&self) -> bool {
+        self.is_closed
+    }
+
+    /// The last block of the message, as it is before it is closed.
+    #[inline(always)]
+    fn last_part(&self) -> &[u8]
+        ensures part { result.now ≡ last_part self.now }
+        ensures length { length result.now ≤ 16 }
+    {
+        let at = self.off + BLOCK_BYTES * (rounds(self.len) as usize - 1);
+        &self.packet[at..self.off + self.len]
+    }
+
+    /// The last block closed, anew where it wasn't yet.
+    #[inline(always)]
+    fn last_block(&self) -> [u8; 16]
+        ensures { result ≡ closed_block (encipher self.now.key) (last_part self.now) }
+    {
+        if self.is_closed {
+            self.last
+        } else {
+            closed_block(&self.key, self.last_part())
+        }
+    }
+
+    /// Closes the last block, by the enciphered zero block.
+    pub(crate) fn close(&mut self, zero: &[u8; 16])
+        requires { zero.now ≡ encipher self.old.key zero_block }
+        ensures { self.new ≡ self.old }
+    {
+        let last = closed_by(&doubled(zero), self.last_part());
+        self.last = last;
+        self.is_closed = true;
     }
 }
 
@@ -128,12 +168,10 @@ impl<const N: usize> Chaining for CmacEntry<N> {
     #[inline(always)]
     fn block(&self) -> [u8; 16] {
         if self.rest == 1 {
-            return self.last;
+            return self.last_block();
         }
         let at = self.off + BLOCK_BYTES * (rounds(self.len) - self.rest) as usize;
-        let mut block = [0; BLOCK_BYTES];
-        block.copy_from_slice(&self.packet[at..at + BLOCK_BYTES]);
-        block
+        block_from(&self.packet, at)
     }
 
     #[inline(always)]

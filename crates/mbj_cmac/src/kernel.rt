@@ -1,9 +1,10 @@
-ghost use Rattle.std.specs.Prelude.{refl};
+ghost use Rattle.std.specs.Prelude.{◌≡◌, ◌≤◌, length, refl};
 ghost use Rattle.mbj_cmac.specs.Rounds.{rest_of, round};
 
 use crate::entry::CmacEntry;
-use mbj_aes_lanes::lead_all;
+use mbj_aes_lanes::{encrypt_each, lead_all};
 use mbj_lane::Kernel;
+use mbj_types::BLOCK_BYTES;
 
 /// CMACs in sixteen lanes, under keys of `N` rounds: 10, 12 or 14.
 pub struct CmacKernel<const N: usize>;
@@ -24,6 +25,7 @@ impl<const N: usize> Kernel for CmacKernel<N> {
     }
 
     fn run(entries: &mut [CmacEntry<N>], m: u32) {
+        close_all(entries);
         lead_all(entries, m);
     }
 
@@ -34,4 +36,25 @@ impl<const N: usize> Kernel for CmacKernel<N> {
     ghost few = { Prim.search rules };
 
     ghost falls = { λ e. refl };
+}
+
+/// Whether the last block of each message was closed.
+fn are_closed<const N: usize>(entries: &[CmacEntry<N>]) -> bool {
+    entries.iter().all(|entry| entry.is_closed())
+}
+
+/// Closes the last blocks of all messages, if one isn't closed yet. The zero block is enciphered under all keys at once.
+fn close_all<const N: usize>(entries: &mut [CmacEntry<N>])
+    requires { length entries.old ≤ 16 }
+    ensures { entries.new ≡ entries.old }
+{
+    if entries.is_empty() || are_closed(entries) {
+        return;
+    }
+    let mut zeros = [[0; BLOCK_BYTES]; 16];
+    encrypt_each(entries, &mut zeros);
+    'closing: for i in 0..entries.len() {
+        let entry = &mut entries[i];
+        entry.close(&zeros[i]);
+    }
 }

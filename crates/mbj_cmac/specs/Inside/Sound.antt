@@ -1,5 +1,5 @@
 -- What holds inside an entry, between calls.
-use Rattle.std.specs.Prelude.{◌≡◌, ℕ, ◌+◌, ◌-◌, ◌*◌, ◌^◌, ◌<◌, ◌≤◌, List, length, drop}
+use Rattle.std.specs.Prelude.{◌≡◌, ℕ, ◌+◌, ◌-◌, ◌*◌, ◌^◌, ◌<◌, ◌≤◌, Bool, true, List, length, drop}
 use Rattle.mbj_types.specs.Aes.{encipher}
 use Rattle.mbj_types.specs.Cmac.{closed_block}
 use Rattle.mbj_types.specs.Result.{range}
@@ -10,11 +10,11 @@ use Rattle.mbj_cmac.specs.Rounds.{Going}
 abbrev pub last_part : Going → List ℕ
 last_part e = drop (16 * (cmac_rounds e.len - 1)) (range e.off e.len e.packet)
 
--- the key has n rounds, the range lies in the packet, and the last block is closed
-pub record IsSound (n : ℕ) (last : List ℕ) (e : Going) : Type 0 where
+-- the key has n rounds, the range lies in the packet, and where the last block was closed, it is `last`
+pub record IsSound (n : ℕ) (is_closed : Bool) (last : List ℕ) (e : Going) : Type 0 where
   pub key : length e.key ≡ 16 * (n + 1)
   pub chain : length e.chain ≡ 16
   pub range : e.off + e.len ≤ length e.packet
   pub small : e.len < 2 ^ 32
   pub rest : e.rest ≤ cmac_rounds e.len
-  pub closing : last ≡ closed_block (encipher e.key) (last_part e)
+  pub closing : is_closed ≡ true → last ≡ closed_block (encipher e.key) (last_part e)

@@ -1,5 +1,5 @@
 -- A block is the last one, or stands in the packet.
-use Rattle.std.proofs.Common.{◌≡◌, ℕ, ◌+◌, ◌-◌, ◌*◌, ◌≤◌, List, sym, ap, ◌∙◌, arith}
+use Rattle.std.proofs.Common.{◌≡◌, ℕ, ◌-◌, ◌≤◌, List, sym, ap, ◌∙◌, arith}
 use Rattle.mbj_types.specs.Aes.{encipher}
 use Rattle.mbj_types.specs.Rounds.{cmac_rounds}
 use Rattle.mbj_types.specs.Result.{range}
@@ -11,11 +11,10 @@ pub returns-then-self-eq1 : goal.returns-then-self-eq1
 returns-then-self-eq1 g c =
     let f = c.self.inside in
     let m : List ℕ = range f.off f.len f.packet.items in
-    let i : ℕ = cmac_rounds f.len - 1 in
     let size = length-range f.off f.len f.packet.items c.self.invariant.range in
     let rest : f.rest ≡ 1 = c.if-self-eq1.true in
-    rw (← c.self.view_is, rest)
-    (c.self.invariant.closing ∙ sym (block-last (encipher f.key) m i (rw size (omega arith))))
+    c.last_block.ensures
+    ∙ rw (← c.self.view_is, rest) (sym (block-last (encipher f.key) m (cmac_rounds f.len - 1) (rw size (omega arith))))
 
 pub returns : goal.returns
 returns g c =
@@ -25,9 +24,8 @@ returns g c =
     let size = length-range f.off f.len f.packet.items c.self.invariant.range in
     let rest : f.rest ≡ c.args.self.now.rest = ap (λ (e : Going). e.rest) c.self.view_is in
     let more : 2 ≤ f.rest = omega (arith, rest, c.requires, c.if-self-eq1.false) in
-    let width : f.off + 16 * i + 16 - (f.off + 16 * i) ≡ 16 = omega arith in
     rw (← c.self.view_is)
-    (c.copy_from_slice.ensures.after
-    ∙ rw (c.deref.ensures.value, c.rounds.ensures, width)
+    (c.block_from.ensures
+    ∙ rw (c.deref.ensures.value, c.rounds.ensures)
     (range-block f.off f.len i f.packet.items (omega (arith, more, c.self.invariant.rest)))
     ∙ sym (block-more (encipher f.key) m i (rw size (omega (arith, more, c.self.invariant.rest)))))
