@@ -1,2 +1,6 @@
 pub mod Deals
 mod Lists
+pub mod Hands
+pub mod Rounds
+pub mod Collecting
+pub mod Crews

@@ -1,3 +1,7 @@
 pub mod Dealing
 pub mod Feeding
 pub mod Tasks
+pub mod Parties
+pub mod Hunts
+pub mod Claims
+pub mod Inside

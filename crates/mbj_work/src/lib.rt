@@ -1,16 +1,33 @@
-//! Parties at work: what submitters do with their jobs, and the threads in which they do it.
+//! Parties at work: what submitters do with their jobs, what workers do for them, and the threads in which they do it.
 #![tactic(auto)]
 
+mod claimed;
+mod claiming;
+mod crew;
 mod dealing;
+mod draining;
 mod feeding;
 mod gate;
+mod hunting;
+mod laws;
+mod making;
+mod party;
+mod posting;
 mod private;
+mod serving;
+mod shared;
+mod submitter;
 mod task;
 
+pub use claimed::Claimed;
 pub use dealing::{do_jobs, result_at};
 pub use feeding::{Submitted, submit_job};
 pub use gate::{Gate, Moment, OpenGate};
+pub use party::{HAND_ROOM, Party};
 pub use private::run_private;
+pub use shared::run_shared;
 
+#[cfg(test)]
+mod party_tests;
 #[cfg(test)]
 mod tests;

@@ -1,10 +1,12 @@
+ghost use Rattle.std.specs.Prelude.{◌≡◌, IfOk, length};
+
 use super::*;
 use mbj_types::{Auth, Bytes, Done, Job, Reason, Status};
 use std::alloc::{AllocError, Global};
 use std::test::Fail;
 
 /// RFC 2202, section 3, test case 1: the tag of "Hi There" under a key of 20 bytes 0b.
-const HI_THERE: [u8; 20] = [
+pub(crate) const HI_THERE: [u8; 20] = [
     0xb6, 0x17, 0x31, 0x86, 0x55, 0x05, 0x72, 0x64, 0xe2, 0x8b, 0xc0, 0xb6, 0xfb, 0x37, 0x8c, 0x8e,
     0xf1, 0x46, 0xbe, 0x00,
 ];
@@ -16,7 +18,12 @@ const JEFE: [u8; 20] = [
 ];
 
 /// A job with HMAC-SHA-1 over a whole packet.
-fn hmac_sha1(alloc: Global, key: &[u8], packet: &[u8], tag_len: u8) -> Result<Job, AllocError> {
+pub(crate) fn hmac_sha1(
+    alloc: Global,
+    key: &[u8],
+    packet: &[u8],
+    tag_len: u8,
+) -> Result<Job, AllocError> {
     let mut job = Job::blank(alloc);
     job.auth = Auth::HmacSha1;
     job.auth_key = Bytes::from_vec(key.to_vec(alloc)?);
@@ -30,26 +37,42 @@ fn has_tag(results: &[Done], i: usize, tag: &[u8]) -> bool {
     results.get(i).is_some_and(|done| done.status == Status::Ok && done.tag.bytes() == tag)
 }
 
+/// A submitter with three jobs, the second of which is refused, and one with a single job.
+fn two_lists(alloc: Global) -> Result<Vec<Vec<Job>>, AllocError>
+    ensures { IfOk result (λ lists. length lists.items ≡ 2) }
+{
+    let jefe = hmac_sha1(alloc, b"Jefe", b"what do ya want for nothing?", 20)?;
+    let refused = hmac_sha1(alloc, b"Jefe", b"", 21)?;
+    let hi_there = hmac_sha1(alloc, &[0x0b; 20], b"Hi There", 20)?;
+    let other = hmac_sha1(alloc, &[0x0b; 20], b"Hi There", 20)?;
+    let mut lists = Vec::with_capacity(alloc, 2)?;
+    lists.push_reserved(vec![in alloc; jefe, refused, hi_there]?);
+    lists.push_reserved(vec![in alloc; other]?);
+    Ok(lists)
+}
+
+/// Whether these are the results of the two lists.
+fn are_results_of_two_lists(results: &[Vec<Done>]) -> bool {
+    let [three, one] = results else {
+        return false;
+    };
+    let refused = Status::InvalidArgs(Reason::TagLength);
+    three.len() == 3
+        && has_tag(three, 0, &JEFE)
+        && three[1].status == refused
+        && has_tag(three, 2, &HI_THERE)
+        && one.len() == 1
+        && has_tag(one, 0, &HI_THERE)
+}
+
 #[test]
 fn each_list_gets_its_results_in_order(rt: HostRuntime) -> Result<(), Fail> {
     let alloc = rt.alloc();
-    let hi_there = hmac_sha1(alloc, &[0x0b; 20], b"Hi There", 20)?;
-    let jefe = hmac_sha1(alloc, b"Jefe", b"what do ya want for nothing?", 20)?;
-    let refused = hmac_sha1(alloc, b"Jefe", b"", 21)?;
-    let mut lists = Vec::new(alloc);
-    lists.push(vec![in alloc; jefe, refused, hi_there]?)?;
-    lists.push(Vec::new(alloc))?;
-    let results = run_private(&rt, alloc, lists)?;
-    assert_eq!(rt; results.len(), 2);
-    for (i, list) in results.iter().enumerate() {
-        if i == 0 {
-            assert_eq!(rt; list.len(), 3);
-            assert!(rt; has_tag(list, 0, &JEFE));
-            assert!(rt; list[1].status == Status::InvalidArgs(Reason::TagLength));
-            assert!(rt; has_tag(list, 2, &HI_THERE));
-        } else {
-            assert!(rt; list.is_empty());
-        }
+    let results = run_private(&rt, alloc, two_lists(alloc)?)?;
+    assert!(rt; are_results_of_two_lists(&results));
+    for workers in [0, 2] {
+        let results = run_shared(&rt, alloc, two_lists(alloc)?, workers, &OpenGate)?;
+        assert!(rt; are_results_of_two_lists(&results));
     }
     Ok(())
 }

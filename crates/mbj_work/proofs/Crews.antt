@@ -1,0 +1,48 @@
+-- The seats of a new front, and the results of all submitters.
+use Rattle.std.proofs.Common.{◌≡◌, ℕ, ◌+◌, ◌<◌, List, [], ◌∷◌, length, map, suc, Some, None, Option, subst, IfSome, refl, ap, ◌∙◌, arith, Vec, Global}
+use Rattle.std.specs.Prelude.{slice_get}
+use Rattle.mbj_types.specs.declared.job.Job.{Job}
+use Rattle.mbj_types.specs.declared.done.Done.{Done}
+use Rattle.mbj_types.specs.Result.{result_of}
+use Rattle.mbj_core.specs.Parties.{new_party}
+use Rattle.mbj_front.specs.declared.seat.PartySeat.{PartySeat}
+use Rattle.mbj_front.specs.declared.front.SharedFront.{SharedFront}
+use Rattle.mbj_front.specs.declared.standard.Standard.{Standard}
+use Rattle.mbj_front.specs.Seats.{view_of, IsOf, IsIssued}
+use Rattle.mbj_work.specs.declared.submitter.Submitter.{Submitter}
+use Rattle.mbj_work.specs.Inside.Runs.{AreSeatsFrom, HasResultsAt}
+
+seats_after : (front : SharedFront Job Done Standard) (n : ℕ) (seats : List (PartySeat Job Done))
+    → ((p : ℕ) (seat : PartySeat Job Done) → slice_get seats p ≡ Some seat → IsOf front seat × (view_of seat ≡ new_party (n + p))) → AreSeatsFrom front n seats
+seats_after front n [] each = tt
+seats_after front n (seat ∷ seats) each = (
+  (let first = each 0 seat refl in (first.0, first.1 ∙ ap new_party (let e : n + 0 ≡ n = omega arith in e))),
+  seats_after front (n + 1) seats (λ p s here. let next = each (suc p) s here in (next.0, next.1 ∙ ap new_party (let e : n + suc p ≡ n + 1 + p = omega arith in e))),
+)
+
+-- the seats of a new front are those of its parties in the order of their numbers
+pub issued_seats : (front : SharedFront Job Done Standard) (seats : List (PartySeat Job Done)) → IsIssued front seats → AreSeatsFrom front 0 seats
+issued_seats front seats issued = seats_after front 0 seats
+    (λ p seat here. let is = issued p seat here in (is.0, is.1 ∙ ap new_party (let e : p ≡ 0 + p = omega arith in e)))
+
+abbrev head_of : {X : Type 0} → List (Option X) → Option X
+head_of [] = None
+head_of (x ∷ xs) = x
+
+abbrev tail_of : {X : Type 0} → List (Option X) → List (Option X)
+tail_of [] = []
+tail_of (x ∷ xs) = xs
+
+-- each submitter has the results of its list
+pub results_of_all : (olds news : List Submitter) (lists : List (Vec Job Global)) → map (λ s. s.jobs) olds ≡ map Some lists → length news ≡ length olds
+    → ((i : ℕ) → i < length olds → HasResultsAt olds news i) → map (λ s. s.results.items) news ≡ map (λ l. map result_of l.items) lists
+results_of_all [] [] [] same long each = refl
+results_of_all [] [] (l ∷ lists) same long each = absurd (let z = ap length same in omega (arith, z))
+results_of_all [] (x ∷ news) lists same long each = absurd (omega (arith, long))
+results_of_all (s ∷ olds) [] lists same long each = absurd (omega (arith, long))
+results_of_all (s ∷ olds) (x ∷ news) [] same long each = absurd (let z = ap length same in omega (arith, z))
+results_of_all (s ∷ olds) (x ∷ news) (l ∷ lists) same long each =
+    let first : x.results.items ≡ map result_of l.items
+    = subst (λ (o : Option (Vec Job Global)). IfSome o (λ jobs. x.results.items ≡ map result_of jobs.items)) (ap head_of same) (each 0 (omega arith)) in
+    let more = results_of_all olds news lists (ap tail_of same) (omega (arith, long)) (λ i h. each (suc i) (omega (arith, h))) in
+    (λ i. first i ∷ more i)

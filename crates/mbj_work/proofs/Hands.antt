@@ -1,0 +1,41 @@
+-- The hand of a party, its cells and what its manager owes.
+use Rattle.std.proofs.Common.{◌≡◌, ℕ, ◌-◌, ◌<◌, List, [], ◌∷◌, ◌++◌, length, drop, sym, ap, ◌∙◌, arith, length-append}
+use Rattle.std.proofs.lemmas.List.{map-append}
+use lib.ListN.{length-map}
+use Rattle.circular_buffer.specs.Buffer.{Buffer, buffer, keep_last}
+use Rattle.mbj_types.specs.declared.done.Done.{Done}
+use Rattle.mbj_front.specs.Seats.{IsFirst}
+use Rattle.mbj_work.specs.Inside.Holding.{cells_in, results_in}
+
+abbrev tail_of : List Done → List Done
+tail_of [] = []
+tail_of (x ∷ xs) = xs
+
+abbrev head_or : Done → List Done → Done
+head_or d [] = d
+head_or d (x ∷ xs) = x
+
+-- the first result that is owed is that of the first cell in the hand
+pub first_of : (hand : List (ℕ × Done)) (d : Done) (left : List Done) → d ∷ left ≡ results_in hand → (cell : ℕ) × IsFirst cell d hand
+first_of [] d left e = absurd (let z = ap length e in omega (arith, z))
+first_of (x ∷ hand) d left e = (x.0, (hand, ap (λ (y : Done). (x.0, y) ∷ hand) (sym (ap (head_or d) e))))
+
+-- and the others are those of the rest of the hand
+pub left_of : (hand more : List (ℕ × Done)) (cell : ℕ) (d : Done) (left : List Done) → d ∷ left ≡ results_in hand → hand ≡ (cell, d) ∷ more → left ≡ results_in more
+left_of hand more cell d left e is = ap tail_of (e ∙ ap results_in is)
+
+-- the results of a hand that got one more cell
+pub results_with : (hand : List (ℕ × Done)) (cell : ℕ) (d : Done) → results_in (hand ++ (cell, d) ∷ []) ≡ results_in hand ++ d ∷ []
+results_with hand cell d = map-append (λ x. x.1) hand ((cell, d) ∷ [])
+
+-- a push where there is room
+keeps_all : (room : ℕ) (xs : List ℕ) (c : ℕ) → length xs < room → keep_last room (xs ++ c ∷ []) ≡ xs ++ c ∷ []
+keeps_all room xs c short = ap (λ (k : ℕ). drop k (xs ++ c ∷ [])) (let e : length (xs ++ c ∷ []) - room ≡ 0 = omega (arith, length-append xs (c ∷ [])) in e)
+
+-- the cells after a push
+pub cells_with : (hand : List (ℕ × Done)) (cell : ℕ) (d : Done) (room : ℕ) (cells : Buffer ℕ) → cells ≡ buffer (cells_in hand) room → length hand < room
+    → buffer (keep_last cells.capacity (cells.items ++ cell ∷ [])) cells.capacity ≡ buffer (cells_in (hand ++ (cell, d) ∷ [])) room
+cells_with hand cell d room cells is short =
+    ap (λ (b : Buffer ℕ). buffer (keep_last b.capacity (b.items ++ cell ∷ [])) b.capacity) is
+    ∙ ap (λ (l : List ℕ). buffer l room)
+    (keeps_all room (cells_in hand) cell (let e = length-map hand (λ (x : ℕ × Done). x.0) in omega arith) ∙ sym (map-append (λ x. x.0) hand ((cell, d) ∷ [])))

@@ -1,0 +1,24 @@
+use Rattle.std.proofs.Common.{[], ◌∷◌, ◌++◌, sym, ap, ◌∙◌}
+use Rattle.mbj_types.specs.Result.{result_of}
+use Rattle.mbj_front.specs.Seats.{view_of}
+use Rattle.mbj_work.specs.Inside.Holding.{results_in}
+use Rattle.mbj_work.proofs.Hands.{first_of, left_of, results_with}
+use Rattle.mbj_work.proofs.party.Party.claim_at.Goals as goal
+
+pub finish_first-requires-clause-first : goal.finish_first-requires-clause-first
+finish_first-requires-clause-first g c = let v = view_of c.args.self.now.seat in let d = result_of c.in-Ok.job in
+    first_of (view_of c.try_claim.new.seat).hand c.in-Some.done c.submit.new.manager.owed
+    (c.in-Some.ensures.order ∙ ap (λ l. l ++ d ∷ []) c.args.self.now.holds.owed_is
+    ∙ sym (results_with v.hand c.args.cell d) ∙ ap (λ w. results_in w.hand) (sym c.in-Ok.ensures.view))
+
+pub invariant_of-self-in-Some : goal.invariant_of-self-in-Some
+invariant_of-self-in-Some g c = let v = view_of c.args.self.now.seat in let d = result_of c.in-Ok.job in let left = c.finish_first.ensures.part in record {
+  holds = record {
+    rest = ap (λ w. w.stage) left.part ∙ ap (λ w. w.stage) c.in-Ok.ensures.view ∙ c.args.self.now.holds.rest;
+    cells_are = c.finish_first.ensures.cells;
+    owed_is = left_of (view_of c.try_claim.new.seat).hand left.more left.cell c.in-Some.done c.submit.new.manager.owed
+        (c.in-Some.ensures.order ∙ ap (λ l. l ++ d ∷ []) c.args.self.now.holds.owed_is
+        ∙ sym (results_with v.hand c.args.cell d) ∙ ap (λ w. results_in w.hand) (sym c.in-Ok.ensures.view))
+        left.first ∙ ap (λ w. results_in w.hand) (sym left.part);
+  };
+}

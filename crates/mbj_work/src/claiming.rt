@@ -1,0 +1,136 @@
+// What every party does with the jobs of others: it claims them, and its manager works them.
+ghost use Rattle.std.specs.Prelude.{◌≡◌, ◌≢◌, ℕ, ◌<◌, [], ◌∷◌, ◌++◌, length, option_to_list, MatchBool};
+ghost use Rattle.circular_buffer.specs.Buffer.{buffer};
+ghost use Rattle.mbj_types.specs.Result.{result_of};
+ghost use Rattle.mbj_core.specs.declared.party.Stage.TheVariants.{Rest};
+ghost use Rattle.mbj_front.specs.declared.words.TheConstants.{READY};
+ghost use Rattle.mbj_front.specs.Seats.{view_of, cells_of, IsFirst, IsOf};
+ghost use Rattle.mbj_front.specs.Views.{after_look};
+ghost use Rattle.mbj_manager.specs.State.{submitted, with_open};
+ghost use Rattle.mbj_ring.specs.declared.ring.TheConstants.{CELLS};
+ghost use Rattle.mbj_work.specs.declared.party.TheConstants.{HAND_ROOM};
+ghost use Rattle.mbj_work.specs.Parties.{part_of, manager_of, IsPartyOf, KeepsDue};
+ghost use Rattle.mbj_work.specs.Claims.{MatchClaimed, IfNot, FinishesFirst, ClaimsJob, Settles};
+ghost use Rattle.mbj_work.specs.Inside.Holding.{cells_in};
+
+use crate::claimed::Claimed;
+use crate::gate::{Gate, Moment, OpenGate};
+use crate::party::Party;
+use circular_buffer::HeapCircularBuffer;
+use mbj_front::{Front, Seat};
+use mbj_manager::Manager;
+use mbj_types::{Done, Job};
+
+/// Gives a job to a manager that has a cell for it.
+fn submit(manager: &mut Manager, job: Job) -> Option<Done>
+    requires room { length manager.old.owed < CELLS }
+    ensures result { result ≡ (submitted (with_open manager.old job)).0 }
+    ensures state { manager.new ≡ (submitted (with_open manager.old job)).1 }
+    ensures order { option_to_list result ++ manager.new.owed ≡ manager.old.owed ++ result_of job ∷ [] }
+{
+    manager.put_next(job);
+    manager.submit()
+}
+
+/// Finishes the first cell in the hand with its result, after the gate is passed.
+fn finish_first<G: Gate>(
+    front: &Front,
+    seat: &mut Seat,
+    cells: &mut HeapCircularBuffer<u32>,
+    done: Done,
+    gate: &G,
+)
+    requires front { IsOf front.now seat.old }
+    requires rest { (view_of seat.old).stage ≡ Rest }
+    requires first { (cell : ℕ) × IsFirst cell done (view_of seat.old).hand }
+    requires cells { cells.old ≡ buffer (cells_in (view_of seat.old).hand) HAND_ROOM }
+    ensures front { IsOf front.now seat.new }
+    ensures part { FinishesFirst front.now done (view_of seat.old) (view_of seat.new) }
+    ensures cells { cells.new ≡ buffer (cells_in (view_of seat.new).hand) HAND_ROOM }
+{
+    gate.pass(seat.party(), Moment::Finishing);
+    let Some(cell) = cells.pop_front() else {
+        unreachable!()
+    };
+    front.finish(seat, cell, done);
+}
+
+impl Party {
+    /// Claims the job of a cell, where the hand has room: the cell goes to the end of the hand, and the job is submitted to
+    /// the manager. A result that this gives back is that of the first cell in the hand, which is finished with it.
+    /// Answers the cell's word exactly where this call's one look found another one than `READY`; then only the looks have
+    /// grown.
+    pub fn claim(&mut self, front: &Front, cell: u32) -> Claimed
+        requires front { IsPartyOf front.now self.old }
+        requires room { length (part_of self.old).hand < HAND_ROOM }
+        requires cell { cell < cells_of front.now }
+        ensures front { IsPartyOf front.now self.new }
+        ensures found { IfNot result (λ word. word ≢ READY) }
+        ensures part { MatchClaimed result
+            (ClaimsJob front.now cell (part_of self.old) (manager_of self.old) (part_of self.new) (manager_of self.new))
+            (λ word. (part_of self.new ≡ after_look (part_of self.old) cell word) × (manager_of self.new ≡ manager_of self.old)) }
+        ensures due { KeepsDue (part_of self.old) (part_of self.new) }
+    {
+        self.claim_at(front, cell, &OpenGate)
+    }
+
+    /// `claim`, which passes the gate after the cell is claimed and before its job is submitted, and before a cell is
+    /// finished.
+    pub fn claim_at<G: Gate>(&mut self, front: &Front, cell: u32, gate: &G) -> Claimed
+        requires front { IsPartyOf front.now self.old }
+        requires room { length (part_of self.old).hand < HAND_ROOM }
+        requires cell { cell < cells_of front.now }
+        ensures front { IsPartyOf front.now self.new }
+        ensures found { IfNot result (λ word. word ≢ READY) }
+        ensures part { MatchClaimed result
+            (ClaimsJob front.now cell (part_of self.old) (manager_of self.old) (part_of self.new) (manager_of self.new))
+            (λ word. (part_of self.new ≡ after_look (part_of self.old) cell word) × (manager_of self.new ≡ manager_of self.old)) }
+        ensures due { KeepsDue (part_of self.old) (part_of self.new) }
+    {
+        match front.try_claim(&mut self.seat, cell) {
+            Err(word) => Claimed::Not(word),
+            Ok(job) => {
+                self.cells.push_back(cell);
+                gate.pass(self.seat.party(), Moment::Claimed);
+                if let Some(done) = submit(&mut self.manager, job) {
+                    finish_first(front, &mut self.seat, &mut self.cells, done, gate);
+                }
+                Claimed::Yes
+            }
+        }
+    }
+
+    /// Flushes one result out of the manager, and finishes the first cell in the hand with it. Answers false exactly where
+    /// the hand is empty; nothing changes then.
+    pub fn settle(&mut self, front: &Front) -> bool
+        requires { IsPartyOf front.now self.old }
+        ensures front { IsPartyOf front.now self.new }
+        ensures part { MatchBool result
+            (Settles front.now (part_of self.old) (manager_of self.old) (part_of self.new) (manager_of self.new))
+            (((part_of self.old).hand ≡ []) × (self.new ≡ self.old)) }
+        ensures due { KeepsDue (part_of self.old) (part_of self.new) }
+        ensures looks { (part_of self.new).looks ≡ (part_of self.old).looks }
+    {
+        self.settle_at(front, &OpenGate)
+    }
+
+    /// `settle`, which passes the gate before the cell is finished.
+    pub fn settle_at<G: Gate>(&mut self, front: &Front, gate: &G) -> bool
+        requires { IsPartyOf front.now self.old }
+        ensures front { IsPartyOf front.now self.new }
+        ensures part { MatchBool result
+            (Settles front.now (part_of self.old) (manager_of self.old) (part_of self.new) (manager_of self.new))
+            (((part_of self.old).hand ≡ []) × (self.new ≡ self.old)) }
+        ensures due { KeepsDue (part_of self.old) (part_of self.new) }
+        ensures looks { (part_of self.new).looks ≡ (part_of self.old).looks }
+    {
+        if self.cells.is_empty() {
+            return false;
+        }
+        let Some(done) = self.manager.flush() else {
+            unreachable!()
+        };
+        finish_first(front, &mut self.seat, &mut self.cells, done, gate);
+        true
+    }
+}

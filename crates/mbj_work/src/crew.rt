@@ -1,0 +1,148 @@
+// The parties of a run, and the threads in which they work.
+ghost use Rattle.std.specs.Prelude.{◌≡◌, ℕ, ◌<◌, ◌≤◌, [], All, IfOk, OnOk, Some, length, map, vec_len};
+ghost use Rattle.mbj_core.specs.declared.party.Stage.TheVariants.{Rest};
+ghost use Rattle.mbj_front.specs.Seats.{view_of, submitters_of, IsOf};
+ghost use Rattle.mbj_work.specs.Inside.Runs.{AreSeatsFrom, HasJobs, HasResultsAt, MayServe};
+
+use crate::gate::Gate;
+use crate::party::Party;
+use crate::submitter::Submitter;
+use mbj_front::{Front, Seat};
+use mbj_types::Job;
+use std::alloc::{AllocError, Global};
+use std::collections::VecDeque;
+use std::sync::Wait;
+use std::sync::atomic::AtomicBool;
+use std::sync::atomic::Ordering::SeqCst;
+use std::thread;
+use std::thread::Threads;
+
+/// A submitter for each list of jobs, with the first of the seats that are left.
+///
+/// Answers `AllocError` for want of memory.
+pub(crate) fn make_submitters(
+    alloc: Global,
+    front: &Front,
+    lists: Vec<Vec<Job>>,
+    seats: &mut VecDeque<Seat>,
+) -> Result<Vec<Submitter>, AllocError>
+    requires seats { AreSeatsFrom front.now 0 seats.old.items }
+    requires submitters { vec_len lists ≤ submitters_of front.now }
+    requires enough { vec_len lists ≤ length seats.old.items }
+    ensures jobs { IfOk result (λ v. map (λ s. s.jobs) v.items ≡ map Some lists.items) }
+    ensures ready { IfOk result (λ v. All (HasJobs front.now) v.items) }
+    ensures rest { OnOk result (AreSeatsFrom front.now (vec_len lists) seats.new.items) }
+{
+    let mut submitters = Vec::with_capacity(alloc, lists.len())?;
+    for jobs in lists {
+        let Some(seat) = seats.pop_front() else {
+            unreachable!()
+        };
+        let submitter = Submitter::new(alloc, front, seat, jobs)?;
+        submitters.push(submitter)?;
+    }
+    Ok(submitters)
+}
+
+/// A party for a seat.
+///
+/// Answers `AllocError` for want of memory.
+#[tactic(auto, unfolding(crate::specs::Inside::Runs::MayServe))]
+fn worker(alloc: Global, _front: &Front, seat: Seat) -> Result<Party, AllocError>
+    requires front { IsOf _front.now seat }
+    requires rest { (view_of seat).stage ≡ Rest }
+    requires hand { (view_of seat).hand ≡ [] }
+    ensures { IfOk result (MayServe _front.now) }
+{
+    Party::new(alloc, seat)
+}
+
+/// A party for each seat that is left.
+///
+/// Answers `AllocError` for want of memory.
+pub(crate) fn make_workers(
+    alloc: Global,
+    front: &Front,
+    mut seats: VecDeque<Seat>,
+) -> Result<Vec<Party>, AllocError>
+    requires { (n : ℕ) × AreSeatsFrom front.now n seats.items }
+    ensures { IfOk result (λ v. All (MayServe front.now) v.items) }
+{
+    let mut workers = Vec::with_capacity(alloc, seats.len())?;
+    while let Some(seat) = seats.pop_front() {
+        let party = worker(alloc, front, seat)?;
+        workers.push(party)?;
+    }
+    Ok(workers)
+}
+
+/// A worker serves until the stop flag is set.
+#[tactic(auto, unfolding(crate::specs::Inside::Runs::MayServe))]
+fn serve<R: Wait, G: Gate>(rt: &R, front: &Front, gate: &G, mut party: Party, stop: &AtomicBool)
+    requires { MayServe front.now party }
+{
+    party.serve(rt, front, gate, stop);
+}
+
+/// Runs each submitter in a thread of its own where one can be started, and in this one otherwise.
+fn run_each<R: Threads + Wait + Sync, G: Gate + Sync>(
+    rt: &R,
+    front: &Front,
+    gate: &G,
+    mut submitters: Vec<Submitter>,
+) -> Vec<Submitter>
+    requires { All (HasJobs front.now) submitters.items }
+    ensures each { (i : ℕ) → i < length submitters.items → HasResultsAt submitters.items result.items i }
+    ensures count { vec_len result ≡ vec_len submitters }
+{
+    let count = submitters.len();
+    if count > 0 {
+        thread::for_each_mut(
+            rt,
+            submitters.as_mut_slice(),
+            count,
+            &|_, submitter| submitter.run(rt, front, gate),
+        );
+    }
+    submitters
+}
+
+/// Runs the submitters beside the workers, and sets the workers' stop flag once all submitters are done. A worker whose
+/// thread can't be started is left out.
+pub(crate) fn run_beside<R: Threads + Wait + Sync, G: Gate + Sync>(
+    rt: &R,
+    front: &Front,
+    gate: &G,
+    submitters: Vec<Submitter>,
+    workers: Vec<Party>,
+) -> Vec<Submitter>
+    requires submitters { All (HasJobs front.now) submitters.items }
+    requires workers { All (MayServe front.now) workers.items }
+    ensures each { (i : ℕ) → i < length submitters.items → HasResultsAt submitters.items result.items i }
+    ensures count { vec_len result ≡ vec_len submitters }
+{
+    let stop = AtomicBool::new(false);
+    let flag = &stop;
+    thread::scope(
+        thread::scope_env(),
+        rt,
+        |scope| -> Vec<Submitter>
+            requires { All (HasJobs front.now) submitters.items × All (MayServe front.now) workers.items }
+            ensures { ((i : ℕ) → i < length submitters.items → HasResultsAt submitters.items result.items i)
+                × (vec_len result ≡ vec_len submitters) }
+        {
+            for party in workers {
+                let _refused = scope
+                    .spawn(
+                        move ||
+                            requires { MayServe front.now party }
+                        { serve(rt, front, gate, party, flag) },
+                    )
+                    .is_err();
+            }
+            let done = run_each(rt, front, gate, submitters);
+            flag.store(true, SeqCst);
+            done
+        },
+    )
+}

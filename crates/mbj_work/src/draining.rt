@@ -1,0 +1,116 @@
+// How a submitter waits for its results, and helps with its own jobs meanwhile.
+ghost use Rattle.std.specs.Prelude.{◌≡◌, ◌+◌, ◌-◌, ◌<◌, ◌≤◌, [], ◌++◌, drop, length, vec_capacity, vec_len};
+ghost use Rattle.mbj_front.specs.Seats.{cells_of};
+ghost use Rattle.mbj_front.specs.Views.{after_finish};
+ghost use Rattle.mbj_work.specs.Parties.{part_of, IsPartyOf, Submits, KeepsDue};
+
+use crate::claimed::Claimed;
+use crate::gate::Gate;
+use crate::party::{HAND_ROOM, Party};
+use crossbeam_utils::Backoff;
+use mbj_core::cell_at;
+use mbj_front::{Front, READY};
+use mbj_types::Done;
+use std::sync::Wait;
+
+impl Party {
+    /// Collects until nothing of this submitter is out, and appends the results, for which there is room, in the order of
+    /// the posts. While the earliest job that is out has no result it waits for others, and where the gate lets it help it
+    /// claims those of its own jobs that are ready, and settles them. At return its hand is empty.
+    pub fn drain<R: Wait, G: Gate>(
+        &mut self,
+        rt: &R,
+        front: &Front,
+        gate: &G,
+        results: &mut Vec<Done>,
+    )
+        requires front { IsPartyOf front.now self.old }
+        requires room { vec_len results.old + (length (part_of self.old).due - (part_of self.old).handed) ≤ vec_capacity results.old }
+        ensures front { IsPartyOf front.now self.new }
+        ensures number { (part_of self.new).number ≡ (part_of self.old).number }
+        ensures due { (part_of self.new).due ≡ (part_of self.old).due }
+        ensures handed { (part_of self.new).handed ≡ length (part_of self.old).due }
+        ensures hand { (part_of self.new).hand ≡ [] }
+        ensures results { results.new.items ≡ results.old.items ++ drop (part_of self.old).handed (part_of self.old).due }
+        ensures room { vec_capacity results.new ≡ vec_capacity results.old }
+    {
+        let backoff = Backoff::new();
+        for _ in rt.forever() {
+            if self.out() == 0 {
+                break;
+            }
+            match self.collect_at(front, gate) {
+                Some(done) => results.push_reserved(done),
+                None => self.wait(front, gate, &backoff),
+            }
+        }
+        self.settle_all(front, gate);
+    }
+
+    /// What a submitter does while its earliest job that is out has no result.
+    fn wait<G: Gate>(&mut self, front: &Front, gate: &G, backoff: &Backoff)
+        requires front { IsPartyOf front.now self.old }
+        requires submitter { Submits front.now self.old }
+        ensures front { IsPartyOf front.now self.new }
+        ensures due { KeepsDue (part_of self.old) (part_of self.new) }
+    {
+        if gate.may_help(self.seat.party()) && self.help(front, gate) {
+            backoff.reset();
+        } else {
+            backoff.snooze();
+        }
+    }
+
+    /// Settles a cell in the hand, or claims its own jobs where the hand is empty. Answers whether there was one.
+    fn help<G: Gate>(&mut self, front: &Front, gate: &G) -> bool
+        requires front { IsPartyOf front.now self.old }
+        requires submitter { Submits front.now self.old }
+        ensures front { IsPartyOf front.now self.new }
+        ensures due { KeepsDue (part_of self.old) (part_of self.new) }
+    {
+        if self.settle_at(front, gate) {
+            return true;
+        }
+        self.claim_own(front, gate)
+    }
+
+    /// Claims those of its own jobs that are ready. Answers whether it claimed any.
+    fn claim_own<G: Gate>(&mut self, front: &Front, gate: &G) -> bool
+        requires front { IsPartyOf front.now self.old }
+        requires submitter { Submits front.now self.old }
+        ensures front { IsPartyOf front.now self.new }
+        ensures due { KeepsDue (part_of self.old) (part_of self.new) }
+    {
+        let party = self.seat.party();
+        let first = self.seat.first_cell();
+        let mut claimed = false;
+        for k in 0..self.seat.out() {
+            if self.claim_ready(front, cell_at(party, first + k), gate) {
+                claimed = true;
+            }
+        }
+        claimed
+    }
+
+    /// Claims a cell that is ready, where the hand has room. Answers whether it did.
+    pub(crate) fn claim_ready<G: Gate>(&mut self, front: &Front, cell: u32, gate: &G) -> bool
+        requires front { IsPartyOf front.now self.old }
+        requires cell { cell < cells_of front.now }
+        ensures front { IsPartyOf front.now self.new }
+        ensures due { KeepsDue (part_of self.old) (part_of self.new) }
+    {
+        if self.hand() == HAND_ROOM || front.scan(&mut self.seat, cell) != READY {
+            return false;
+        }
+        self.claim_at(front, cell, gate) == Claimed::Yes
+    }
+
+    /// Settles until the hand is empty.
+    pub(crate) fn settle_all<G: Gate>(&mut self, front: &Front, gate: &G)
+        requires { IsPartyOf front.now self.old }
+        ensures front { IsPartyOf front.now self.new }
+        ensures part { part_of self.new ≡ after_finish (part_of self.old) [] }
+    {
+        while self.settle_at(front, gate) {}
+    }
+}

@@ -1,0 +1,61 @@
+// How a party is made, and the numbers that it tells.
+ghost use Rattle.std.specs.Prelude.{◌≡◌, ◌⊎◌, ◌+◌, ◌≤◌, [], length, IfOk};
+ghost use Rattle.mbj_core.specs.Cells.{cell_of};
+ghost use Rattle.mbj_core.specs.declared.cells.TheConstants.{CELLS};
+ghost use Rattle.mbj_core.specs.declared.party.Stage.TheVariants.{Rest};
+ghost use Rattle.mbj_front.specs.Seats.{view_of, IsSubmitter};
+ghost use Rattle.mbj_manager.specs.State.{new_manager};
+ghost use Rattle.mbj_work.specs.declared.party.TheConstants.{HAND_ROOM};
+ghost use Rattle.mbj_work.specs.Parties.{seat_of, part_of, manager_of};
+
+use crate::party::{HAND_ROOM, Party};
+use circular_buffer::HeapCircularBuffer;
+use mbj_front::Seat;
+use mbj_manager::Manager;
+use std::alloc::{AllocError, Global};
+
+impl Party {
+    /// A party with this seat, which is at rest and has an empty hand, and with a new manager. Only this call takes
+    /// memory.
+    ///
+    /// Answers `AllocError` for want of memory; the seat is then dropped.
+    pub fn new(alloc: Global, seat: Seat) -> Result<Party, AllocError>
+        requires rest { (view_of seat).stage ≡ Rest }
+        requires hand { (view_of seat).hand ≡ [] }
+        ensures seat { IfOk result (λ party. seat_of party ≡ seat) }
+        ensures manager { IfOk result (λ party. manager_of party ≡ new_manager) }
+    {
+        let manager = Manager::new(alloc)?;
+        let cells = HeapCircularBuffer::with_capacity(alloc, HAND_ROOM as usize)?;
+        Ok(Party {
+            seat,
+            manager,
+            cells,
+        })
+    }
+
+    /// How many cells are in the hand.
+    pub fn hand(&self) -> u32
+        ensures hand { result ≡ length (part_of self.now).hand }
+        ensures within { result ≤ HAND_ROOM }
+    {
+        self.cells.len() as u32
+    }
+
+    /// How many of its own jobs are out: posted, and their results not collected. 0 for a worker.
+    pub fn out(&self) -> u32
+        ensures out { length (part_of self.now).due ≡ (part_of self.now).handed + result }
+        ensures within { result ≤ CELLS }
+        ensures worker { IsSubmitter (seat_of self.now) ⊎ (result ≡ 0) }
+    {
+        self.seat.out()
+    }
+
+    /// The cell of a submitter's earliest job that is out, or of its next job where none is out.
+    pub fn first_cell(&self) -> u32
+        requires { IsSubmitter (seat_of self.now) }
+        ensures { result ≡ cell_of (part_of self.now).number (part_of self.now).handed }
+    {
+        self.seat.first_cell()
+    }
+}

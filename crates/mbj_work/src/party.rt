@@ -1,0 +1,22 @@
+ghost use Rattle.mbj_front.specs.Seats.{view_of};
+ghost use Rattle.mbj_work.specs.Inside.Holding.{Holds};
+
+use circular_buffer::HeapCircularBuffer;
+use mbj_front::Seat;
+use mbj_manager::Manager;
+use mbj_ring::CELLS;
+
+/// How many cells a hand has room for: as many as a manager has for jobs.
+pub const HAND_ROOM: u32 = CELLS;
+
+/// One party of a front: its seat there, a manager of its own, and its hand, which is the cells whose jobs it has claimed
+/// and not finished, in the order of the claims.
+///
+/// Only `new` takes memory. A party waits for others in `drain` and `serve` alone.
+#[derive(Drop)]
+pub struct Party {
+    pub(crate) seat: Seat,
+    pub(crate) manager: Manager,
+    pub(crate) cells: HeapCircularBuffer<u32>,
+    pub(crate) ghost holds: { Holds (view_of seat) manager cells },
+}

@@ -1,0 +1,81 @@
+// How a worker serves all submitters.
+ghost use Rattle.std.specs.Prelude.{◌≡◌, ◌<◌, []};
+ghost use Rattle.mbj_front.specs.Seats.{cells_of};
+ghost use Rattle.mbj_work.specs.Parties.{part_of, IsPartyOf, KeepsDue};
+ghost use Rattle.mbj_work.specs.Hunts.{EndsUnfound};
+
+use crate::gate::Gate;
+use crate::party::{HAND_ROOM, Party};
+use crossbeam_utils::Backoff;
+use mbj_front::Front;
+use std::sync::Wait;
+use std::sync::atomic::AtomicBool;
+use std::sync::atomic::Ordering::SeqCst;
+
+impl Party {
+    /// Hunts for jobs, claims and settles them in turn, and waits where there are none. After it has seen the stop flag,
+    /// the first hunt that finds none is its last one. At return its hand is empty.
+    pub fn serve<R: Wait, G: Gate>(&mut self, rt: &R, front: &Front, gate: &G, stop: &AtomicBool)
+        requires { IsPartyOf front.now self.old }
+        ensures front { IsPartyOf front.now self.new }
+        ensures due { KeepsDue (part_of self.old) (part_of self.new) }
+        ensures hand { (part_of self.new).hand ≡ [] }
+        ensures looks { EndsUnfound (cells_of front.now) (part_of self.old) (part_of self.new) }
+    {
+        self.work_until(rt, front, gate, stop);
+        self.settle_all(front, gate);
+    }
+
+    /// Works until the stop flag was seen and then a hunt found no job.
+    fn work_until<R: Wait, G: Gate>(&mut self, rt: &R, front: &Front, gate: &G, stop: &AtomicBool)
+        requires { IsPartyOf front.now self.old }
+        ensures front { IsPartyOf front.now self.new }
+        ensures due { KeepsDue (part_of self.old) (part_of self.new) }
+        ensures looks { EndsUnfound (cells_of front.now) (part_of self.old) (part_of self.new) }
+    {
+        let backoff = Backoff::new();
+        let mut from = 0;
+        for _ in rt.forever() {
+            let stopped = stop.load(SeqCst);
+            match self.hunt(front, from) {
+                Some(cell) => {
+                    from = cell;
+                    self.work_on(front, cell, gate);
+                    backoff.reset();
+                }
+                None => {
+                    if stopped {
+                        break;
+                    }
+                    self.settle_or_pause(front, gate, &backoff);
+                }
+            }
+        }
+    }
+
+    /// Makes room in the hand, and claims the cell where it is still ready.
+    fn work_on<G: Gate>(&mut self, front: &Front, cell: u32, gate: &G)
+        requires front { IsPartyOf front.now self.old }
+        requires cell { cell < cells_of front.now }
+        ensures front { IsPartyOf front.now self.new }
+        ensures due { KeepsDue (part_of self.old) (part_of self.new) }
+    {
+        if self.hand() == HAND_ROOM {
+            self.settle_at(front, gate);
+        }
+        self.claim_ready(front, cell, gate);
+    }
+
+    /// Settles the first cell in the hand, and pauses where the hand is empty.
+    fn settle_or_pause<G: Gate>(&mut self, front: &Front, gate: &G, backoff: &Backoff)
+        requires { IsPartyOf front.now self.old }
+        ensures front { IsPartyOf front.now self.new }
+        ensures due { KeepsDue (part_of self.old) (part_of self.new) }
+    {
+        if self.settle_at(front, gate) {
+            backoff.reset();
+        } else {
+            backoff.snooze();
+        }
+    }
+}

@@ -1,0 +1,53 @@
+ghost use Rattle.std.specs.Prelude.{◌≡◌, ◌≤◌, [], IfOk, length, map, vec_capacity, vec_len};
+ghost use Rattle.mbj_types.specs.Result.{result_of};
+ghost use Rattle.mbj_core.specs.declared.cells.TheConstants.{MAX_SUBMITTERS, MAX_WORKERS};
+
+use crate::crew::{make_submitters, make_workers, run_beside};
+use crate::gate::Gate;
+use crate::submitter::Submitter;
+use mbj_front::Front;
+use mbj_types::{Done, Job};
+use std::alloc::{AllocError, Global};
+use std::collections::VecDeque;
+use std::sync::Wait;
+use std::thread::Threads;
+
+/// Puts the results of each submitter into a vector that has room for them.
+fn results_of(submitters: Vec<Submitter>, mut given: Vec<Vec<Done>>) -> Vec<Vec<Done>>
+    requires none { given.items ≡ [] }
+    requires room { vec_len submitters ≤ vec_capacity given }
+    ensures { result.items ≡ map (λ s. s.results) submitters.items }
+{
+    for submitter in submitters {
+        given.push_reserved(submitter.into_results());
+    }
+    given
+}
+
+/// Does lists of jobs by one front: each list is that of a submitter, in a thread of its own where one can be started, and
+/// so many workers serve beside them in threads of their own. Answers the results of each list, in order. All memory is
+/// taken before the first job is posted.
+///
+/// There are 1 to `MAX_SUBMITTERS` lists, and at most `MAX_WORKERS` workers. A worker whose thread can't be started is left
+/// out.
+///
+/// Answers `AllocError` for want of memory.
+pub fn run_shared<R: Threads + Wait + Sync, G: Gate + Sync>(
+    rt: &R,
+    alloc: Global,
+    lists: Vec<Vec<Job>>,
+    workers: u32,
+    gate: &G,
+) -> Result<Vec<Vec<Done>>, AllocError>
+    requires lists { (1 ≤ length lists.items) × (length lists.items ≤ MAX_SUBMITTERS) }
+    requires workers { workers ≤ MAX_WORKERS }
+    ensures { IfOk result (λ rs. map (λ r. r.items) rs.items ≡ map (λ l. map result_of l.items) lists.items) }
+{
+    let given = Vec::with_capacity(alloc, lists.len())?;
+    let (front, seats) = Front::new(alloc, lists.len() as u32, workers)?;
+    let mut seats = VecDeque::from(seats);
+    let submitters = make_submitters(alloc, &front, lists, &mut seats)?;
+    let workers = make_workers(alloc, &front, seats)?;
+    let done = run_beside(rt, &front, gate, submitters, workers);
+    Ok(results_of(done, given))
+}

@@ -1,0 +1,125 @@
+ghost use Rattle.std.specs.Prelude.{◌≡◌, ◌+◌, ◌-◌, ◌<◌, ◌≤◌, [], ◌∷◌, ◌++◌, IfOk, Some, length, map, vec_capacity, vec_len};
+ghost use Rattle.mbj_types.specs.Result.{result_of};
+ghost use Rattle.mbj_core.specs.declared.party.Stage.TheVariants.{Rest};
+ghost use Rattle.mbj_front.specs.Seats.{view_of, submitters_of, IsOf};
+ghost use Rattle.mbj_work.specs.Parties.{part_of, IsPartyOf, Submits};
+ghost use Rattle.mbj_work.specs.Inside.Runs.{with_due, HasJobs, HasResults};
+
+use crate::gate::Gate;
+use crate::party::Party;
+use mbj_front::{Front, Seat};
+use mbj_types::{Done, Job, PostFull};
+use std::alloc::{AllocError, Global};
+use std::sync::Wait;
+
+/// A submitter of a run: its party, the jobs that it still has, and room for their results.
+#[derive(Drop)]
+pub(crate) struct Submitter {
+    party: Party,
+    jobs: Option<Vec<Job>>,
+    results: Vec<Done>,
+}
+
+impl Party {
+    /// Posts a job, after a drain where all cells of the submitter are in use.
+    fn post_or_drain<R: Wait, G: Gate>(
+        &mut self,
+        rt: &R,
+        front: &Front,
+        gate: &G,
+        job: Job,
+        results: &mut Vec<Done>,
+    )
+        requires front { IsPartyOf front.now self.old }
+        requires submitter { Submits front.now self.old }
+        requires room { vec_len results.old + (length (part_of self.old).due - (part_of self.old).handed) ≤ vec_capacity results.old }
+        ensures front { IsPartyOf front.now self.new }
+        ensures number { (part_of self.new).number ≡ (part_of self.old).number }
+        ensures results { with_due results.new.items (part_of self.new) ≡ with_due results.old.items (part_of self.old) ++ result_of job ∷ [] }
+        ensures room { vec_capacity results.new ≡ vec_capacity results.old }
+    {
+        let Err(PostFull(job)) = self.post_at(front, job, gate) else {
+            return;
+        };
+        self.drain(rt, front, gate, results);
+        match self.post_at(front, job, gate) {
+            Ok(()) => {}
+            Err(_) => unreachable!(),
+        }
+    }
+
+    /// Posts jobs in order, and drains.
+    fn submit_all<R: Wait, G: Gate>(
+        &mut self,
+        rt: &R,
+        front: &Front,
+        gate: &G,
+        jobs: Vec<Job>,
+        results: &mut Vec<Done>,
+    )
+        requires front { IsPartyOf front.now self.old }
+        requires submitter { Submits front.now self.old }
+        requires room { length (with_due results.old.items (part_of self.old)) + vec_len jobs ≤ vec_capacity results.old }
+        ensures front { IsPartyOf front.now self.new }
+        ensures results { results.new.items ≡ with_due results.old.items (part_of self.old) ++ map result_of jobs.items }
+    {
+        for job in jobs {
+            self.post_or_drain(rt, front, gate, job, results);
+        }
+        self.drain(rt, front, gate, results);
+    }
+}
+
+impl Submitter {
+    /// A submitter with its jobs. It takes the memory for their results.
+    ///
+    /// Answers `AllocError` for want of memory.
+    #[tactic(auto, unfolding(crate::specs::Inside::Runs::HasJobs))]
+    pub(crate) fn new(
+        alloc: Global,
+        _front: &Front,
+        seat: Seat,
+        jobs: Vec<Job>,
+    ) -> Result<Submitter, AllocError>
+        requires front { IsOf _front.now seat }
+        requires submitter { (view_of seat).number < submitters_of _front.now }
+        requires rest { (view_of seat).stage ≡ Rest }
+        requires hand { (view_of seat).hand ≡ [] }
+        requires due { (view_of seat).due ≡ [] }
+        ensures ready { IfOk result (HasJobs _front.now) }
+        ensures jobs { IfOk result (λ s. s.jobs ≡ Some jobs) }
+    {
+        let results = Vec::with_capacity(alloc, jobs.len())?;
+        let party = Party::new(alloc, seat)?;
+        Ok(Submitter {
+            party,
+            jobs: Some(jobs),
+            results,
+        })
+    }
+
+    /// Has all its jobs done.
+    #[tactic(auto, unfolding(crate::specs::Inside::Runs::HasJobs))]
+    pub(crate) fn run<R: Wait, G: Gate>(&mut self, rt: &R, front: &Front, gate: &G)
+        requires { HasJobs front.now self.old }
+        ensures { HasResults self.old self.new }
+    {
+        let Some(jobs) = self.jobs.take() else {
+            unreachable!()
+        };
+        self.party
+            .submit_all(rt, front, gate, jobs, &mut self.results);
+    }
+
+    /// Its results.
+    pub(crate) fn into_results(self) -> Vec<Done>
+        ensures { result ≡ self.results }
+    {
+        let Submitter {
+            party: _,
+            jobs: _,
+            results,
+        } = self;
+        results
+    }
+}
