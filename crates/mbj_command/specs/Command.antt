@@ -29,10 +29,7 @@ abbrev pub submitters : RangedOption
 submitters = ranged (codes "submitters") 1 16
 
 abbrev pub workers : RangedOption
-workers = ranged (codes "workers") 0 0
-
-abbrev pub replay_workers : RangedOption
-replay_workers = ranged (codes "workers") 0 16
+workers = ranged (codes "workers") 0 16
 
 abbrev pub seed : RangedOption
 seed = ranged (codes "seed") 0 (2 ^ 64 - 1)
@@ -72,7 +69,7 @@ replay_of (s ∷ w ∷ []) = Some (Replay s w)
 replay_of _ = None
 
 abbrev pub replay : Entry
-replay = record { name = codes "replay"; options = submitters ∷ replay_workers ∷ []; meaning = replay_of }
+replay = record { name = codes "replay"; options = submitters ∷ workers ∷ []; meaning = replay_of }
 
 abbrev pub entries : List Entry
 entries = run ∷ trace ∷ gen ∷ replay ∷ []
@@ -137,15 +134,12 @@ IsWithin o n = (o.least ≤ n) × (n ≤ o.greatest)
 abbrev pub IsParties : ℕ → ℕ → Type 0
 IsParties s w = IsWithin submitters s × IsWithin workers w
 
-abbrev pub IsReplayParties : ℕ → ℕ → Type 0
-IsReplayParties s w = IsWithin submitters s × IsWithin replay_workers w
-
 -- each number is in its option's range
 abbrev pub IsInRange : Command → Type 0
 IsInRange (Run s w) = IsParties s w
 IsInRange Trace = Unit {0}
 IsInRange (Gen n m s w) = IsWithin seed n × IsWithin jobs m × IsParties s w
-IsInRange (Replay s w) = IsReplayParties s w
+IsInRange (Replay s w) = IsParties s w
 
 -- the fault is in the words
 abbrev pub IsText : WordFault → Type 0

@@ -3,7 +3,7 @@ ghost use Rattle.clap.specs.Words.{found_of, kind_of, rows_of, subcommand_rows_o
 ghost use Rattle.mbj_command.specs.Command.{IsInRange, IsParties, IsText, command, entry_command, found_command, gen, numbers_of, replay, run, submitters, workers};
 
 use crate::command_set::command_set;
-use crate::options::{JOBS, REPLAY_WORKERS, SEED, SUBMITTERS, WORKERS, number};
+use crate::options::{JOBS, SEED, SUBMITTERS, WORKERS, number};
 use clap::ArgMatches;
 use clap::error::ErrorKind;
 use std::alloc::Global;
@@ -91,11 +91,10 @@ fn replay_of(matches: &ArgMatches<'_>) -> Option<Command>
     ensures meaning { result ≡ entry_command (rows_of (found_of matches.now)) replay }
     ensures range { IfSome result IsInRange }
 {
-    let submitters = number(matches, &SUBMITTERS)?;
-    let workers = number(matches, &REPLAY_WORKERS)?;
+    let (submitters, workers) = parties(matches)?;
     Some(Command::Replay {
-        submitters: submitters as u32,
-        workers: workers as u32,
+        submitters,
+        workers,
     })
 }
 

@@ -4,7 +4,7 @@ ghost use Rattle.clap.specs.Simple.{new_shape};
 ghost use Rattle.clap.specs.declared.builder.command.Command.TheViews.{out-Command as fields_of};
 ghost use Rattle.mbj_command.specs.Command.{app, gen, replay, run, shape, trace};
 
-use crate::options::{JOBS, REPLAY_WORKERS, SEED, SUBMITTERS, WORKERS, argument};
+use crate::options::{JOBS, SEED, SUBMITTERS, WORKERS, argument};
 use clap::Command;
 use std::alloc::{AllocError, Global};
 
@@ -61,7 +61,7 @@ fn replay_command<'a>(alloc: Global) -> Result<Command<'a>, AllocError>
     let example = "Example: mbjobs replay --submitters 1 --workers 2 < replay.txt";
     bare_command(alloc, "replay", about, example)
         .arg(argument(alloc, &SUBMITTERS))?
-        .arg(argument(alloc, &REPLAY_WORKERS))
+        .arg(argument(alloc, &WORKERS))
 }
 
 /// The program's commands and their options, as clap is told them.

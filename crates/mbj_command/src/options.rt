@@ -18,13 +18,10 @@ pub(crate) struct NumberOption {
     greatest: u64,
 }
 
-// `run` and `gen` have no workers yet.
-const MOST_WORKERS: u64 = 0;
-
 pub(crate) const SUBMITTERS: NumberOption = NumberOption {
     name: "submitters",
     placeholder: "S",
-    help: "Threads that hand in jobs: 1 to 16, as in --submitters 1",
+    help: "Submitters, which hand in jobs: 1 to 16, as in --submitters 1",
     least: 1,
     greatest: MAX_SUBMITTERS as u64,
 };
@@ -32,15 +29,7 @@ pub(crate) const SUBMITTERS: NumberOption = NumberOption {
 pub(crate) const WORKERS: NumberOption = NumberOption {
     name: "workers",
     placeholder: "W",
-    help: "Threads that only do jobs: 0, as in --workers 0",
-    least: 0,
-    greatest: MOST_WORKERS,
-};
-
-pub(crate) const REPLAY_WORKERS: NumberOption = NumberOption {
-    name: "workers",
-    placeholder: "W",
-    help: "Parties that only do jobs: 0 to 16, as in --workers 2",
+    help: "Workers, which only do jobs: 0 to 16, as in --workers 2",
     least: 0,
     greatest: MAX_WORKERS as u64,
 };

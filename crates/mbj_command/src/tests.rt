@@ -4,14 +4,14 @@ use std::process::Abort;
 use std::test::Fail;
 
 /// Words that are no command.
-const FAULTY: [&str; 27] = [
+const FAULTY: [&str; 28] = [
     "mbjobs",
     "mbjobs run",
     "mbjobs run --submitters 1",
     "mbjobs run --workers 0",
     "mbjobs run --submitters 0 --workers 0",
     "mbjobs run --submitters 17 --workers 0",
-    "mbjobs run --submitters 1 --workers 1",
+    "mbjobs run --submitters 1 --workers 17",
     "mbjobs run --submitters -1 --workers 0",
     "mbjobs run --submitters one --workers 0",
     "mbjobs run --submitters 1 --submitters 1 --workers 0",
@@ -24,6 +24,7 @@ const FAULTY: [&str; 27] = [
     "mbjobs trace x",
     "mbjobs trace --workers 0",
     "mbjobs gen --seed 1 --submitters 1 --workers 0",
+    "mbjobs gen --seed 1 --jobs 1 --submitters 1 --workers 17",
     "mbjobs gen --seed 1 --jobs 65537 --submitters 1 --workers 0",
     "mbjobs gen --seed 18446744073709551616 --jobs 1 --submitters 1 --workers 0",
     "mbjobs help",
@@ -54,10 +55,10 @@ const GOOD: [(&str, Command); 13] = [
     ("mbjobs run --submitters 01 --workers 000", RUN),
     ("mbjobs run --submitters +1 --workers +0", RUN),
     (
-        "mbjobs run --submitters 16 --workers 0",
+        "mbjobs run --submitters 16 --workers 16",
         Command::Run {
             submitters: 16,
-            workers: 0,
+            workers: 16,
         },
     ),
     ("mbjobs trace", Command::Trace),
@@ -79,12 +80,12 @@ const GOOD: [(&str, Command); 13] = [
         },
     ),
     (
-        "/usr/bin/mbjobs gen --seed 4294967296 --jobs 1 --submitters 3 --workers 0",
+        "/usr/bin/mbjobs gen --seed 4294967296 --jobs 1 --submitters 3 --workers 2",
         Command::Gen {
             seed: 1 << 32,
             jobs: 1,
             submitters: 3,
-            workers: 0,
+            workers: 2,
         },
     ),
     (

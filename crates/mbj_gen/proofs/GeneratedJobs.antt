@@ -9,12 +9,9 @@ use Rattle.mbj_stage.proofs.Lengths.{length-result_of}
 use Rattle.mbj_gen.proofs.TagLengths.{length-tag}
 use Rattle.mbj_text.specs.Line.{done_line}
 use Rattle.mbj_gen.specs.Generator.{authenticated_by, bare, byte, bytes, ciphered_by, job}
-use Rattle.mbj_gen.specs.Summary.{generated, summary_lines}
-use Rattle.mbj_gen.specs.declared.line.SummaryLine.{SummaryLine}
+use Rattle.mbj_gen.specs.Summary.{generated}
 use Rattle.mbj_gen.specs.declared.line_sink.TheConstants.{LINE_ROOM}
 use Rattle.mbj_text.specs.declared.limits.TheConstants.{JOB_LIMIT}
-use Rattle.mbj_work.specs.Dealing.{AreDealt}
-use Rattle.mbj_work.proofs.Deals.{gathered, gathered_all}
 use Rattle.mbj_gen.proofs.ResultLines.{length-done_line}
 use Rattle.std.proofs.lemmas.Option.{slice_get_within}
 
@@ -81,40 +78,3 @@ pub lines-fit : (count x : ℕ) → count ≤ JOB_LIMIT → (n : ℕ) (done : Do
 lines-fit count x limit n done at =
     let inside = slice_get_within (map result_of (generated count x)) n done at in
     line-fits count x n done (omega (arith, length-results count x)) at
-
--- ---- from the lists to which the jobs were dealt
-
--- the results that are gathered from where they were dealt, and what is asked of them
-pub results-gathered : {X : Type 0} (results : List Done) (count n : ℕ) (list_of : X → List Done) (lists : List X)
-    → count ≡ length results → AreDealt results n (map list_of lists) → count ≤ JOB_LIMIT
-    → ((i : ℕ) (done : Done) → slice_get results i ≡ Some done → length (done_line i done) < LINE_ROOM)
-    → let gathered_results = gathered count 0 (length lists) (map list_of lists) in
-    AreDealt gathered_results (length lists) (map list_of lists)
-    × ((count ≡ length gathered_results) × ((count ≤ JOB_LIMIT)
-    × ((i : ℕ) (done : Done) → slice_get gathered_results i ≡ Some done → length (done_line i done) < LINE_ROOM)))
-results-gathered results count n list_of lists all dealt limit fits =
-    let same = gathered_all results count n list_of lists all dealt in
-    let lengths : n ≡ length lists = sym dealt.count ∙ length-map lists list_of in
-    let Dealt : ℕ → Type 0 = λ k. AreDealt results k (map list_of lists) in
-    let Asked : List Done → Type 0 = λ ds. AreDealt ds (length lists) (map list_of lists)
-    × ((count ≡ length ds) × ((count ≤ JOB_LIMIT)
-    × ((i : ℕ) (done : Done) → slice_get ds i ≡ Some done → length (done_line i done) < LINE_ROOM))) in
-    subst Asked (sym same) (subst Dealt lengths dealt, (all, (limit, fits)))
-
--- the results of the jobs that were made stand in the lists by turns
-pub results-dealt : {X : Type 0} (made : List Job) (jobs seed n : ℕ) (list_of : X → List Done) (lists now : List X)
-    → made ≡ generated jobs seed → now ≡ lists → AreDealt (map result_of made) n (map list_of lists)
-    → AreDealt (map result_of (generated jobs seed)) n (map list_of now)
-results-dealt {X} made jobs seed n list_of lists now made_is now_is dealt =
-    let Made : List Job → Type 0 = λ js. AreDealt (map result_of js) n (map list_of lists) in
-    let Now : List X → Type 0 = λ ls. AreDealt (map result_of (generated jobs seed)) n (map list_of ls) in
-    subst Now (sym now_is) (subst Made made_is dealt)
-
--- what is told of the results that are gathered is told of those of the jobs that were made
-pub told-of-made : {X : Type 0} (jobs seed n : ℕ) (list_of : X → List Done) (lists : List X) (told : List SummaryLine)
-    → AreDealt (map result_of (generated jobs seed)) n (map list_of lists)
-    → told ≡ summary_lines (gathered jobs 0 (length lists) (map list_of lists))
-    → told ≡ summary_lines (map result_of (generated jobs seed))
-told-of-made jobs seed n list_of lists told dealt is =
-    let results : List Done = map result_of (generated jobs seed) in
-    is ∙ ap (λ (ds : List Done). summary_lines ds) (gathered_all results jobs n list_of lists (length-results jobs seed) dealt)

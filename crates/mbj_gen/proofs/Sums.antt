@@ -8,6 +8,7 @@ use Rattle.sha2.specs.declared.Sha256.{Sha256}
 use Rattle.mbj_types.specs.declared.done.Done.{Done}
 use Rattle.mbj_text.specs.Line.{done_line, text}
 use Rattle.mbj_gen.specs.Summary.{accepted, is_ok, summary_lines}
+use Rattle.mbj_gen.specs.Sums.{IsSum}
 use Rattle.mbj_gen.specs.declared.line.SummaryLine.TheVariants as told
 use Rattle.mbj_gen.specs.declared.line_sink.TheConstants.{LINE_ROOM}
 use Rattle.mbj_gen.proofs.ResultLines.{accepted-next, text-next}
@@ -20,14 +21,6 @@ number-of-test false = refl
 one-or-none : (b : Bool) → cond b 1 0 ≤ 1
 one-or-none true = omega arith
 one-or-none false = omega arith
-
--- the first n results: how many are accepted, and the length and the hasher of their text
-pub record IsSum (results : List Done) (n good size : ℕ) (hasher : Sha256) : Type 0 where
-  pub good_is : good ≡ accepted (take n results)
-  pub within : good ≤ n
-  pub size_is : size ≡ length (text (take n results))
-  pub room : size ≤ LINE_ROOM * n
-  pub holds : Holds256 hasher (text (take n results))
 
 -- before the first result
 pub sum-none : (results : List Done) (hasher : Sha256) → Holds256 hasher [] → IsSum results 0 0 0 hasher

@@ -1,3 +1,4 @@
 pub mod Generator
 pub mod Lines
 pub mod Summary
+pub mod Sums

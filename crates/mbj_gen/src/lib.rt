@@ -5,11 +5,15 @@ mod draws;
 mod generator;
 mod line;
 mod line_sink;
+mod making;
 mod summary;
+mod summing;
 
 pub use generator::Generator;
 pub use line::SummaryLine;
-pub use summary::summary_of_seed;
+pub use line_sink::LINE_ROOM;
+pub use making::make_jobs;
+pub use summary::Summary;
 
 #[cfg(test)]
 mod tests;

@@ -17,7 +17,7 @@ const MOST_PACKET_BYTES: usize = 512;
 const MOST_OTHER_BYTES: usize = 32;
 
 /// The room of a [`LineSink`], in bytes: more than any line has whose packet has at most `MOST_PACKET_BYTES` bytes.
-pub(crate) const LINE_ROOM: usize = 2 * (MOST_PACKET_BYTES + MAX_TAG_BYTES) + MOST_OTHER_BYTES;
+pub const LINE_ROOM: usize = 2 * (MOST_PACKET_BYTES + MAX_TAG_BYTES) + MOST_OTHER_BYTES;
 
 /// A sink in memory with room for [`LINE_ROOM`] bytes. A write that finds no room left is a fault.
 #[derive(Drop)]

@@ -11,6 +11,7 @@ use Rattle.std.proofs.lemmas.Simd.{map-map}
 use Rattle.std.proofs.lemmas.Grind.{div_ceil_times}
 use Rattle.std.specs.Int.{div_ceil}
 use Rattle.mbj_work.specs.Dealing.{AreDealt}
+use Rattle.mbj_work.specs.Inside.Gathering.{gathered}
 
 -- ---- one list
 
@@ -315,11 +316,6 @@ item_is items i lists list x dealt inside is here =
     ∙ slice_get-get_or list.items (i / length lists) x (place_below items i lists list dealt inside is) ∙ ap Some (sym here)
 
 -- ---- the items, gathered from their lists
-
--- so many items, from number i on
-pub gathered : {X : Type 0} → ℕ → ℕ → ℕ → List (List X) → List X
-gathered zero i n lists = []
-gathered (suc k) i n lists = option_to_list (slice_get (get_or lists (i % n) []) (i / n)) ++ gathered k (i + 1) n lists
 
 -- those from number i on are gathered
 gathered_from : {X : Type 0} (items : List X) (k i n : ℕ) (lists : List (List X)) → AreDealt items n lists

@@ -1,3 +1,4 @@
 -- What only private functions cite.
+pub mod Gathering
 pub mod Holding
 pub mod Runs

@@ -1,23 +1,16 @@
 ghost use Rattle.std.specs.Prelude.{◌≡◌, ◌<◌, ◌≤◌, [], All, IfOk, List, length, map, slice_get, Some, vec_capacity};
 ghost use Rattle.mbj_types.specs.declared.done.Done.{Done};
 ghost use Rattle.mbj_types.specs.Result.{result_of};
+ghost use Rattle.mbj_core.specs.declared.cells.TheConstants.{MAX_SUBMITTERS, MAX_WORKERS};
 ghost use Rattle.mbj_work.specs.Dealing.{AreDealt};
 
-use crate::private::run_private;
+use crate::gate::Gate;
+use crate::results::Results;
+use crate::shared::run_shared;
 use mbj_types::{Done, Job};
 use std::alloc::{AllocError, Global};
+use std::sync::Wait;
 use std::thread::Threads;
-
-/// The result of job `number`, counted from 0 in the order of all jobs, where the jobs were dealt by turns.
-pub fn result_at(lists: &[Vec<Done>], number: u32) -> &Done
-    ghost results: { List Done }
-    requires dealt { AreDealt results (length lists.now) (map (λ list. list.items) lists.now) }
-    requires number { number < length results }
-    ensures { slice_get results number ≡ Some result.now }
-{
-    let submitters = lists.len();
-    &lists[number as usize % submitters][number as usize / submitters]
-}
 
 /// A list for each submitter, without jobs as yet and with room for `capacity` of them.
 ///
@@ -54,19 +47,26 @@ fn deal(alloc: Global, jobs: Vec<Job>, submitters: u32) -> Result<Vec<Vec<Job>>,
     Ok(lists)
 }
 
-/// Does jobs that are dealt to submitters by turns, and answers the results of each submitter.
+/// Does jobs by one front: they are dealt to submitters by turns, and so many workers serve beside those. Submitters and
+/// workers are in threads of their own, where these can be started. Answers the results in the order of the jobs.
+///
+/// There are 1 to `MAX_SUBMITTERS` submitters, and at most `MAX_WORKERS` workers.
 ///
 /// Answers `AllocError` for want of memory.
-pub fn do_jobs<R: Threads + Sync>(
+pub fn do_jobs<R: Threads + Wait + Sync, G: Gate + Sync>(
     rt: &R,
     alloc: Global,
     jobs: Vec<Job>,
     submitters: u32,
-) -> Result<Vec<Vec<Done>>, AllocError>
-    requires { 1 ≤ submitters }
-    ensures { IfOk result (λ lists. AreDealt (map result_of jobs.items) submitters
-        (map (λ list. list.items) lists.items)) }
+    workers: u32,
+    gate: &G,
+) -> Result<Results, AllocError>
+    requires submitters { (1 ≤ submitters) × (submitters ≤ MAX_SUBMITTERS) }
+    requires workers { workers ≤ MAX_WORKERS }
+    ensures { IfOk result (λ results. results ≡ map result_of jobs.items) }
 {
+    let count = jobs.len();
     let lists = deal(alloc, jobs, submitters)?;
-    run_private(rt, alloc, lists)
+    let lists = run_shared(rt, alloc, lists, workers, gate)?;
+    Ok(Results::of(lists, count))
 }

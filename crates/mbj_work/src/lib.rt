@@ -14,17 +14,19 @@ mod making;
 mod party;
 mod posting;
 mod private;
+mod results;
 mod serving;
 mod shared;
 mod submitter;
 mod task;
 
 pub use claimed::Claimed;
-pub use dealing::{do_jobs, result_at};
+pub use dealing::do_jobs;
 pub use feeding::{Submitted, submit_job};
 pub use gate::{Gate, Moment, OpenGate};
 pub use party::{HAND_ROOM, Party};
 pub use private::run_private;
+pub use results::Results;
 pub use shared::run_shared;
 
 #[cfg(test)]

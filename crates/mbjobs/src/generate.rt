@@ -1,29 +1,48 @@
-ghost use Rattle.std.specs.Prelude.{◌≡◌, ◌≢◌, ◌⊎◌, ◌≤◌, IfErr, OnOk};
+ghost use Rattle.std.specs.Prelude.{◌≡◌, ◌≢◌, ◌⊎◌, ◌<◌, ◌≤◌, ℕ, IfErr, OnOk, Some, length, slice_get};
 ghost use Rattle.mbj_io.specs.Streams.{Fails, IsUntouched, stream};
+ghost use Rattle.mbj_types.specs.declared.done.Done.{Done};
 ghost use Rattle.mbj_text.specs.Flow.{GainsPrefix, WritesAll};
+ghost use Rattle.mbj_text.specs.Line.{done_line};
 ghost use Rattle.mbj_text.specs.declared.limits.TheConstants.{JOB_LIMIT};
 ghost use Rattle.mbj_command.specs.Command.{IsParties};
-ghost use Rattle.mbj_gen.specs.Summary.{gen_text};
+ghost use Rattle.mbj_gen.specs.Summary.{gen_text, summary_lines};
+ghost use Rattle.mbj_gen.specs.declared.line_sink.TheConstants.{LINE_ROOM};
 
 use crate::cause::Cause;
-use mbj_gen::summary_of_seed;
+use mbj_gen::{Summary, SummaryLine, make_jobs};
 use mbj_io::Sink;
 use mbj_text::write_lines;
+use mbj_work::{Gate, Results, do_jobs};
 use std::alloc::Global;
+use std::sync::Wait;
 use std::thread::Threads;
 
-/// Makes jobs from a seed, does them, dealt to submitters, and writes what they come to.
-pub(crate) fn run_gen<R: Threads + Sync, O: Sink>(
+/// What results come to, whose lines are short.
+fn summarize(results: &Results) -> [SummaryLine; 5]
+    requires limit { length results.now ≤ JOB_LIMIT }
+    requires lines { (n : ℕ) (done : Done) → slice_get results.now n ≡ Some done → length (done_line n done) < LINE_ROOM }
+    ensures { result ≡ summary_lines results.now }
+{
+    let mut summary = Summary::new();
+    for number in 0..results.count() as u32 {
+        summary.add(results.at(number));
+    }
+    summary.lines()
+}
+
+/// Makes jobs from a seed, does them, dealt to submitters beside whom so many workers serve, and writes what they come to.
+pub(crate) fn run_gen<R: Threads + Wait + Sync, O: Sink, G: Gate + Sync>(
     rt: &R,
     alloc: Global,
     seed: u64,
     jobs: u32,
     submitters: u32,
-    _workers: u32,
+    workers: u32,
     out: &mut O,
+    gate: &G,
 ) -> Result<(), Cause>
     requires jobs { jobs ≤ JOB_LIMIT }
-    requires parties { IsParties submitters _workers }
+    requires parties { IsParties submitters workers }
     ensures ok { OnOk result (WritesAll (stream O.held O.faults out.old out.new) (gen_text seed jobs)) }
     ensures memory { IfErr result (λ cause. (cause ≡ Cause.Memory) ⊎ (cause ≡ Cause.Write)) }
     ensures write { IfErr result (λ cause. cause ≡ Cause.Write → Fails (stream O.held O.faults out.old out.new)
@@ -31,6 +50,8 @@ pub(crate) fn run_gen<R: Threads + Sync, O: Sink>(
     ensures untouched { IfErr result (λ cause. cause ≢ Cause.Write
         → IsUntouched (stream O.held O.faults out.old out.new)) }
 {
-    let lines = summary_of_seed(rt, alloc, seed, jobs, submitters)?;
+    let made = make_jobs(alloc, seed, jobs)?;
+    let results = do_jobs(rt, alloc, made, submitters, workers, gate)?;
+    let lines = summarize(&results);
     Ok(write_lines(out, &lines)?)
 }

@@ -11,6 +11,7 @@ mod generate;
 mod reading;
 mod replay;
 mod report;
+mod results;
 mod run;
 #[cfg(test)]
 mod tests;

@@ -1,5 +1,5 @@
 ghost use Rattle.std.specs.Prelude.{◌≡◌, ◌≢◌, Err, IfErr, OnOk};
-ghost use Rattle.mbj_command.specs.Command.{IsReplayParties};
+ghost use Rattle.mbj_command.specs.Command.{IsParties};
 ghost use Rattle.mbj_io.specs.Streams.{IsUntouched, stream};
 ghost use Rattle.mbjobs.specs.Outcome.{Completes, Stands};
 ghost use Rattle.mbj_command.specs.declared.command.Command.TheVariants as command;
@@ -19,7 +19,7 @@ pub(crate) fn run_replay<S: Source, O: Sink>(
     input: &mut S,
     out: &mut O,
 ) -> Result<(), Cause>
-    requires { IsReplayParties submitters workers }
+    requires { IsParties submitters workers }
     ensures ok { OnOk result (Completes (command.Replay submitters workers)
         (stream S.rest S.faults input.old input.new) (stream O.held O.faults out.old out.new)) }
     ensures err { IfErr result (λ cause. Stands (command.Replay submitters workers) cause

@@ -3,6 +3,7 @@ mod parties;
 mod replay;
 mod results;
 mod trace;
+mod workers;
 
 ghost use Rattle.std.specs.Prelude.{None};
 

@@ -51,12 +51,13 @@ pub(crate) fn refuse<E: Sink>(err: &mut E, fault: WordFault) -> u8
 }
 
 /// Does what a command says.
-fn perform<R: Threads + Sync, S: Source, O: Sink>(
+fn perform<R: Threads + Wait + Sync, S: Source, O: Sink, G: Gate + Sync>(
     rt: &R,
     alloc: Global,
     command: Command,
     input: &mut S,
     out: &mut O,
+    gate: &G,
 ) -> Result<(), Cause>
     requires { IsInRange command }
     ensures ok { OnOk result (Completes command (stream S.rest S.faults input.old input.new)
@@ -72,14 +73,14 @@ fn perform<R: Threads + Sync, S: Source, O: Sink>(
         Command::Run {
             submitters,
             workers,
-        } => run(rt, alloc, submitters, workers, input, out),
+        } => run(rt, alloc, submitters, workers, input, out, gate),
         Command::Trace => run_trace(alloc, input, out),
         Command::Gen {
             seed,
             jobs,
             submitters,
             workers,
-        } => { run_gen(rt, alloc, seed, jobs, submitters, workers, out) }
+        } => { run_gen(rt, alloc, seed, jobs, submitters, workers, out, gate) }
         Command::Replay {
             submitters,
             workers,
@@ -111,7 +112,7 @@ pub fn mbjobs<R: Threads + Wait + Sync, S: Source, O: Sink, E: Sink, G: Gate + S
     input: &mut S,
     out: &mut O,
     err: &mut E,
-    _gate: &G,
+    gate: &G,
 ) -> u8
     // Status 0: the command did all that it is to do, and out gained exactly its text.
     ensures done { result ≡ 0 → (c : Command) × (command (map string_bytes words.now) ≡ Some c)
@@ -172,7 +173,7 @@ pub fn mbjobs<R: Threads + Wait + Sync, S: Source, O: Sink, E: Sink, G: Gate + S
         Ok(command) => command,
         Err(fault) => return refuse(err, fault),
     };
-    match perform(rt, alloc, command, input, out) {
+    match perform(rt, alloc, command, input, out, gate) {
         Ok(()) => 0,
         Err(cause) => tell(err, cause),
     }

@@ -6,6 +6,8 @@ use std::test::Fail;
 
 const SUBMITTERS: [&str; 4] = ["1", "2", "3", "16"];
 
+const WORKERS: [&str; 3] = ["0", "1", "16"];
+
 /// Bytes as a field of a job file.
 fn field(alloc: Global, bytes: &Bytes) -> Result<String, AllocError> {
     if bytes.as_slice().is_empty() {
@@ -75,9 +77,9 @@ fn generated_file(alloc: Global, seed: u64, count: u32) -> Result<String, AllocE
     Ok(file)
 }
 
-// With one and with two submitters a submitter has more jobs than a manager has cells.
+// With one and with two submitters a submitter has more jobs than cells.
 #[test]
-fn the_text_does_not_depend_on_the_submitters(rt: HostRuntime) -> Result<(), Fail> {
+fn the_text_does_not_depend_on_submitters_and_workers(rt: HostRuntime) -> Result<(), Fail> {
     let alloc = rt.alloc();
     let file = generated_file(alloc, 7, 600)?;
     let one = run_words(
@@ -89,20 +91,22 @@ fn the_text_does_not_depend_on_the_submitters(rt: HostRuntime) -> Result<(), Fai
     assert_eq!(rt; one.status, 0);
     assert!(rt; one.out.held().ends_with(b"\n"));
     for submitters in SUBMITTERS {
-        let words = [
-            "mbjobs",
-            "run",
-            "--submitters",
-            submitters,
-            "--workers",
-            "0",
-        ];
-        let ending = run_words(&rt, alloc, &words, file.as_bytes())?;
-        assert_eq!(rt; ending.status, 0);
-        assert!(rt;
-            ending.out.held() == one.out.held(),
-            "{submitters} submitters"
-        );
+        for workers in WORKERS {
+            let words = [
+                "mbjobs",
+                "run",
+                "--submitters",
+                submitters,
+                "--workers",
+                workers,
+            ];
+            let ending = run_words(&rt, alloc, &words, file.as_bytes())?;
+            assert_eq!(rt; ending.status, 0);
+            assert!(rt;
+                ending.out.held() == one.out.held(),
+                "{submitters} submitters, {workers} workers"
+            );
+        }
     }
     Ok(())
 }
@@ -136,25 +140,27 @@ fn generated_jobs_come_to_their_summary(rt: HostRuntime) -> Result<(), Fail> {
     let alloc = rt.alloc();
     for (seed, jobs, summary) in SUMMARIES {
         for submitters in SUBMITTERS {
-            let words = [
-                "mbjobs",
-                "gen",
-                "--seed",
-                seed,
-                "--jobs",
-                jobs,
-                "--submitters",
-                submitters,
-                "--workers",
-                "0",
-            ];
-            let ending = run_words(&rt, alloc, &words, b"")?;
-            assert_eq!(rt; ending.status, 0);
-            assert_eq!(rt;
-                ending.out.held(),
-                summary.as_bytes(),
-                "{seed} {jobs} {submitters}"
-            );
+            for workers in WORKERS {
+                let words = [
+                    "mbjobs",
+                    "gen",
+                    "--seed",
+                    seed,
+                    "--jobs",
+                    jobs,
+                    "--submitters",
+                    submitters,
+                    "--workers",
+                    workers,
+                ];
+                let ending = run_words(&rt, alloc, &words, b"")?;
+                assert_eq!(rt; ending.status, 0);
+                assert_eq!(rt;
+                    ending.out.held(),
+                    summary.as_bytes(),
+                    "{seed} {jobs} {submitters} {workers}"
+                );
+            }
         }
     }
     Ok(())

@@ -2,7 +2,7 @@
 use Rattle.std.proofs.Common.{◌∙◌, ◌++◌, ◌∷◌, [], ap, arith}
 use Rattle.mbj_types.specs.declared.job.Job.{Job}
 use Rattle.mbj_gen.proofs.GeneratedJobs.{made-next}
-use Rattle.mbj_gen.proofs.summary.make_jobs.Goals as goal
+use Rattle.mbj_gen.proofs.making.make_jobs.Goals as goal
 
 pub loop-preserved : goal.loop-preserved
 loop-preserved c =

@@ -3,11 +3,8 @@ use Rattle.std.proofs.Common.{drop}
 use Rattle.mbj_io.specs.Streams.{stream}
 use Rattle.mbj_text.specs.Inside.Pieces.{FlowsOn}
 use Rattle.mbj_text.specs.Line.{text, text_from}
-use Rattle.mbjobs.proofs.run.write_results.Given as goal
+use Rattle.mbjobs.proofs.results.write_results.Given as goal
 
 abbrev pub invariant-loop-number : goal.invariant-loop-number
 invariant-loop-number g l = FlowsOn (stream g.O.Sink.held g.O.Sink.faults l.initial.out l.out)
-    (text g.results) (text_from l.number (drop l.number g.results))
-
-abbrev pub ghost-result_at : goal.ghost-result_at
-ghost-result_at g a = g.results
+    (text l.fn.results) (text_from l.number (drop l.number l.fn.results))

@@ -1,6 +1,6 @@
 use Rattle.std.proofs.Common.{◌≡◌, ◌≤◌, ◌-◌, ◌++◌, vec_len, vec_capacity}
 use Rattle.mbj_gen.specs.Summary.{generated}
-use Rattle.mbj_gen.proofs.summary.make_jobs.Given as goal
+use Rattle.mbj_gen.proofs.making.make_jobs.Given as goal
 
 abbrev pub invariant-loop : goal.invariant-loop
 invariant-loop l = record {
