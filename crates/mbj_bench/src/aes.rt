@@ -2,6 +2,7 @@ ghost use Rattle.std.specs.Prelude.{◌≡◌, ◌≤◌, ◌%◌, length};
 ghost use Rattle.mbj_aes_lanes.specs.KeyLanes.{IsFull};
 
 use crate::ghash::fill;
+use crate::kernel::TURN_BYTES;
 use crate::sha1_kernel;
 use mbj_aes::Schedule;
 use mbj_aes_lanes::{LaneKeys, decrypt16, encrypt16};
@@ -30,8 +31,11 @@ const TEXT_BYTES: usize = 1500;
 /// The bytes of a schedule of 10 rounds.
 const SCHEDULE_BYTES: u32 = 176;
 
-/// The bytes of one pass, and the passes of which the fastest counts.
+/// The most bytes of one pass, and the passes of which the fastest counts.
 const PASS_BYTES: u32 = 131_072;
+
+/// The turns of the plain crate in a pass.
+const PLAIN_TURNS: u32 = 256;
 
 const PASSES: u32 = 50;
 
@@ -248,33 +252,45 @@ fn run(call: Call, turns: u32) -> u8 {
     }
 }
 
-/// The fastest pass of the call and of the plain crate for SHA-1, in nanoseconds for as many bytes. They take turns, so
-/// that what else the machine does meets them alike. What is computed goes into `sum`, so that none of it is left out.
-fn fastest(rt: &impl Clock, call: Call, sum: &mut u64) -> io::Result<(u128, u128)> {
-    let turns = PASS_BYTES.checked_div(call.bytes()).unwrap_or(0);
+/// The fastest pass of the call and of the plain crate for SHA-1, in nanoseconds. They take turns, so that what else the
+/// machine does meets them alike. What is computed goes into `sum`, so that none of it is left out.
+fn fastest(rt: &impl Clock, call: Call, turns: u32, sum: &mut u64) -> io::Result<(u128, u128)> {
     let mut best = (u128::MAX, u128::MAX);
     for _ in 0..PASSES {
         let start = Instant::now(rt)?;
         *sum ^= u64::from(run(call, turns));
         best.0 = start.elapsed(rt)?.as_nanos().min(best.0);
         let start = Instant::now(rt)?;
-        *sum ^= sha1_kernel::plain(PASS_BYTES / 512);
+        *sum ^= sha1_kernel::plain(PLAIN_TURNS);
         best.1 = start.elapsed(rt)?.as_nanos().min(best.1);
     }
     Ok(best)
+}
+
+/// KB/s of so many bytes in so many nanoseconds.
+fn rate(bytes: u128, nanos: u128) -> u128 {
+    bytes
+        .saturating_mul(1_000_000)
+        .checked_div(nanos)
+        .unwrap_or(0)
 }
 
 /// Prints MB/s of each call, and in how many times less time than the plain crate for SHA-1 took for as many bytes.
 pub fn print_times(rt: &(impl Print + Clock)) -> io::Result<()> {
     let mut sum = 0;
     for call in Call::ALL {
-        let (nanos, plain) = fastest(rt, call, &mut sum)?;
-        let rate = (1000 * u128::from(PASS_BYTES))
-            .checked_div(nanos)
-            .unwrap_or(0);
-        let times = plain.saturating_mul(100).checked_div(nanos).unwrap_or(0);
+        let turns = PASS_BYTES.checked_div(call.bytes()).unwrap_or(0);
+        let (nanos, plain_nanos) = fastest(rt, call, turns, &mut sum)?;
+        let done = rate(turns as u128 * call.bytes() as u128, nanos);
+        let plain = rate(PLAIN_TURNS as u128 * TURN_BYTES as u128, plain_nanos);
+        let times = done.saturating_mul(100).checked_div(plain).unwrap_or(0);
         call.print_name(rt)?;
-        println!(rt; ": {rate} MB/s, {}.{:02}", times / 100, times % 100)?;
+        println!(rt;
+            ": {} MB/s, {}.{:02}",
+            done / 1000,
+            times / 100,
+            times % 100
+        )?;
     }
     println!(rt; "checksum {sum:016x}")
 }

@@ -1,5 +1,5 @@
 /// How many bytes a turn of each kernel hashes.
-pub const TURN_BYTES: u64 = 512;
+pub const TURN_BYTES: usize = 512;
 
 /// A hash whose compression is timed.
 #[derive(Clone, Copy)]

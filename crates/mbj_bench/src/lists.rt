@@ -12,10 +12,9 @@ use mbj_hmac::{
 use mbj_lane::{Kernel, Lanes};
 use mbj_types::{Auth, BLOCK_BYTES};
 use std::alloc::{AllocError, Global};
-use std::io;
 use std::io::Print;
-use std::mem;
 use std::time::{Clock, Instant};
+use std::{io, mem};
 
 /// The key of HMACs.
 const HMAC_KEY: [u8; 20] = [0x0b; 20];
@@ -271,7 +270,9 @@ impl Timed for Hmac256Kernel {
     }
 
     fn plain(_key: &(), packet: &mut [u8]) -> u8 {
-        hmac_plain(Auth::HmacSha256, &HMAC_KEY, packet).bytes().len() as u8
+        hmac_plain(Auth::HmacSha256, &HMAC_KEY, packet)
+            .bytes()
+            .len() as u8
     }
 }
 
@@ -301,7 +302,9 @@ impl Timed for Hmac512Kernel {
     }
 
     fn plain(_key: &(), packet: &mut [u8]) -> u8 {
-        hmac_plain(Auth::HmacSha512, &HMAC_KEY, packet).bytes().len() as u8
+        hmac_plain(Auth::HmacSha512, &HMAC_KEY, packet)
+            .bytes()
+            .len() as u8
     }
 }
 

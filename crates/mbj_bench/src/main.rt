@@ -4,6 +4,7 @@
 #![tactic(auto)]
 
 mod aes;
+mod front;
 mod ghash;
 mod kernel;
 mod lists;
@@ -26,6 +27,7 @@ fn main(rt: HostRuntime) -> io::Result<()> {
         ghash::print_times(&rt)?;
         aes::print_times(&rt)?;
         lists::print_times(&rt, rt.alloc())?;
+        front::print_times(&rt, rt.alloc())?;
     }
     Ok(())
 }

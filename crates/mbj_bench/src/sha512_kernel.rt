@@ -1,3 +1,4 @@
+use crate::kernel::TURN_BYTES;
 use crate::message::{MESSAGE_896, padded};
 use mbj_sha_lanes::load64::block_words;
 use mbj_sha512_lanes::{compress, compress_lanes};
@@ -66,11 +67,14 @@ pub fn print_digests(rt: &impl Print) -> io::Result<()> {
     print_digest(rt, "arrays, two blocks:", &states[3])
 }
 
+// A turn of each form hashes as many bytes: one block in each lane.
+const _: () = prove!(size_of::<[[u8; 128]; 4]>() == TURN_BYTES);
+
 /// The crate that hashes one message.
 pub fn plain(turns: u32) -> u64 {
     let mut hasher = Sha512::new();
     for _ in 0..turns {
-        hasher.update(&[7; 512]);
+        hasher.update(&[7; TURN_BYTES]);
     }
     hasher.finalize()[0] as u64
 }
