@@ -1,0 +1,19 @@
+-- What an answer's code says, where memory may want.
+use Rattle.std.proofs.Common.{◌≡◌, ◌≢◌, Ok, Err, Result, refl, ap}
+use Rattle.mbj_c.specs.declared.refusal.Refusal.{Refusal}
+use Rattle.mbj_c.specs.Codes.{code_of, refusal_code}
+use Rattle.mbj_c.specs.Inside.Answers.{IsDoneAs}
+
+-- where it isn't that of want of memory, it is the wanted one
+pub code-wanted : {A : Type 0} (want : Result Unit Refusal) (next before : A) (answer : Result Unit Refusal) (after : A)
+    → IsDoneAs want next before answer after → code_of answer ≢ 3 → code_of answer ≡ code_of want
+code-wanted (Ok u) next before (Ok v) after is other = refl
+code-wanted (Ok u) next before (Err r) after is other = absurd (other (ap refusal_code is.0))
+code-wanted (Err q) next before answer after is other = ap code_of is.0
+
+-- and so is the state
+pub state-wanted : {A : Type 0} (want : Result Unit Refusal) (next before : A) (answer : Result Unit Refusal) (after : A)
+    → IsDoneAs want next before answer after → code_of answer ≢ 3 → after ≡ next
+state-wanted (Ok u) next before (Ok v) after is other = is
+state-wanted (Ok u) next before (Err r) after is other = absurd (other (ap refusal_code is.0))
+state-wanted (Err q) next before answer after is other = is.1

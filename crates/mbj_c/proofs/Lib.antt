@@ -1,0 +1,4 @@
+mod RawBoxes
+mod Handles
+mod Lengths
+mod Answered

@@ -1,0 +1,31 @@
+-- The numbers that C is told.
+use Rattle.std.specs.Prelude.{ℕ, Result, Ok, Err}
+use Rattle.mbj_types.specs.Reasons.{number_of}
+use Rattle.mbj_types.specs.declared.done.Status.{Status}
+use Rattle.mbj_types.specs.declared.done.Status.TheVariants as status
+use Rattle.mbj_c.specs.declared.refusal.Refusal.{Refusal}
+use Rattle.mbj_c.specs.declared.refusal.Refusal.TheVariants.{Full, Word, Memory, NoManager, NoJob, NoRoom, HasManager}
+
+abbrev pub refusal_code : Refusal → ℕ
+refusal_code Full = 1
+refusal_code Word = 2
+refusal_code Memory = 3
+refusal_code NoManager = 4
+refusal_code NoJob = 5
+refusal_code NoRoom = 6
+refusal_code HasManager = 7
+
+-- 0, or the code of the refusal
+abbrev pub code_of : {A : Type 0} → Result A Refusal → ℕ
+code_of (Ok x) = 0
+code_of (Err r) = refusal_code r
+
+-- 0 for a job that was done, 1 for one that was refused
+abbrev pub status_code : Status → ℕ
+status_code status.Ok = 0
+status_code (status.InvalidArgs r) = 1
+
+-- 0, or the number of the reason for which the job was refused
+abbrev pub reason_code : Status → ℕ
+reason_code status.Ok = 0
+reason_code (status.InvalidArgs r) = number_of r

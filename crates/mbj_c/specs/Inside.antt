@@ -1,0 +1,4 @@
+pub mod Held
+pub mod Lengths
+pub mod Answers
+pub mod Room

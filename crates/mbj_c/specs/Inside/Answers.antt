@@ -1,0 +1,13 @@
+-- What making and filling answer, with memory or without.
+use Rattle.std.specs.Prelude.{◌≡◌, Result, Ok, Err}
+use Rattle.mbj_c.specs.declared.refusal.Refusal.{Refusal}
+use Rattle.mbj_c.specs.declared.refusal.Refusal.TheVariants as refusal
+
+-- a call answers and leaves the wanted things; where it would be done, memory may want, and then nothing changes
+abbrev pub IsDoneAs : {A : Type 0} → Result Unit Refusal → A → A → Result Unit Refusal → A → Type 0
+IsDoneAs (Ok u) next before (Ok v) after = after ≡ next
+IsDoneAs (Ok u) next before (Err r) after = (r ≡ refusal.Memory) × (after ≡ before)
+IsDoneAs (Err q) next before answer after = (answer ≡ Err q) × (after ≡ next)
+
+abbrev pub IsDone : {A : Type 0} → Result Unit Refusal × A → A → Result Unit Refusal → A → Type 0
+IsDone want before answer after = IsDoneAs want.0 want.1 before answer after

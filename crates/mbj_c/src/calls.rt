@@ -1,0 +1,98 @@
+//! The calls of a handle, which the exports make.
+
+ghost use Rattle.std.specs.Prelude.{◌≡◌, false};
+ghost use Rattle.mbj_c.specs.Filling.{filled, made};
+ghost use Rattle.mbj_c.specs.Giving.{IsDrained, IsTold, called};
+ghost use Rattle.mbj_c.specs.declared.giving.Call.TheVariants as calls;
+ghost use Rattle.mbj_c.specs.Counts.{IsCounted, queue_size};
+ghost use Rattle.mbj_c.specs.Inside.Answers.{IsDone};
+
+use crate::counts::Counts;
+use crate::giving::{Call, RawDone};
+use crate::handle::Handle;
+use crate::job::RawJob;
+use crate::measured::Measured;
+use crate::refusal::Refusal;
+use crate::words::kind_at;
+use std::alloc::Global;
+
+/// Makes a manager, where the handle has none.
+pub(crate) fn make(alloc: Global, handle: &mut Handle) -> Result<(), Refusal>
+    ensures { IsDone (made handle.old.manager) handle.old.manager result handle.new.manager }
+{
+    if let Some(manager) = handle.take(alloc) {
+        handle.put(manager);
+        return Err(Refusal::HasManager);
+    }
+    match Box::new(alloc, Measured::new(alloc)?) {
+        Ok(manager) => handle.put(manager),
+        Err(_) => return Err(Refusal::Memory),
+    }
+    Ok(())
+}
+
+/// Fills the next job.
+pub(crate) fn fill(alloc: Global, handle: &mut Handle, raw: &RawJob<'_>) -> Result<(), Refusal>
+    ensures { IsDone (filled raw.now handle.old.manager) handle.old.manager result handle.new.manager }
+{
+    let Some(mut manager) = handle.take(alloc) else {
+        return Err(Refusal::NoManager);
+    };
+    let answer = manager.fill(alloc, raw);
+    handle.put(manager);
+    answer
+}
+
+/// Makes a call that may give a result back, and tells C of it.
+pub(crate) fn give(
+    alloc: Global,
+    handle: &mut Handle,
+    call: Call,
+    out: &mut RawDone<'_>,
+    refusal: &mut u32,
+) -> bool
+    ensures state { handle.new.manager ≡ (called call handle.old.manager out.old).1 }
+    ensures told { IsTold (called call handle.old.manager out.old).0 result refusal.new out.old out.new }
+    ensures drained { call ≡ calls.Flush → result ≡ false → refusal.new ≡ 0 → IsDrained handle.old.manager }
+{
+    let answer = match handle.take(alloc) {
+        Some(mut manager) => {
+            let answer = manager.give(call, out);
+            handle.put(manager);
+            answer
+        }
+        None => Err(Refusal::NoManager),
+    };
+    out.tell(answer, refusal)
+}
+
+/// How many jobs are submitted and not given back: none, where there is no manager.
+pub(crate) fn queue_size(alloc: Global, handle: &mut Handle) -> u32
+    ensures size { result ≡ queue_size handle.old.manager }
+    ensures same { handle.new.manager ≡ handle.old.manager }
+{
+    match handle.take(alloc) {
+        Some(manager) => {
+            let size = manager.queue_size();
+            handle.put(manager);
+            size
+        }
+        None => 0,
+    }
+}
+
+/// Tells what is counted of the lanes of the kind with this code, where there is a manager and such a kind.
+pub(crate) fn count(alloc: Global, handle: &mut Handle, kind: u32, out: &mut Counts) -> bool
+    ensures counted { IsCounted handle.old.manager kind result out.old out.new }
+    ensures same { handle.new.manager ≡ handle.old.manager }
+{
+    let Some(kind) = kind_at(kind) else {
+        return false;
+    };
+    let Some(manager) = handle.take(alloc) else {
+        return false;
+    };
+    *out = manager.counts(kind);
+    handle.put(manager);
+    true
+}

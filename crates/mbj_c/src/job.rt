@@ -1,0 +1,83 @@
+ghost use Rattle.std.specs.Prelude.{◌≡◌, IfOk, IfErr, Some, option_map};
+ghost use Rattle.mbj_c.specs.Filling.{job_said, job_with, words_said};
+
+use crate::words::{Words, auth_at, cipher_at, dir_at, order_at};
+use mbj_types::{Bytes, Job};
+use std::alloc::{AllocError, Global};
+
+/// A job as C fills it. Bytes are a pointer, which isn't null, and a length.
+#[repr(C)]
+#[derive(Clone, Copy)]
+pub struct RawJob<'a> {
+    /// 0 none, 1 CBC, 2 CTR, 3 GCM.
+    pub cipher: u32,
+    /// 0 encryption, 1 decryption.
+    pub dir: u32,
+    /// 0 the cipher first, 1 the hash first.
+    pub order: u32,
+    /// 0 none; HMAC with 1 SHA-1, 2 SHA-224, 3 SHA-256, 4 SHA-384, 5 SHA-512; CMAC with a key of 6 128 bits, 7 256 bits;
+    /// 8 GCM.
+    pub auth: u32,
+    pub key: &'a [u8],
+    pub iv: &'a [u8],
+    pub auth_key: &'a [u8],
+    pub aad: &'a [u8],
+    pub packet: &'a [u8],
+    pub cipher_off: u32,
+    pub cipher_len: u32,
+    pub hash_off: u32,
+    pub hash_len: u32,
+    pub tag_len: u8,
+}
+
+fn bytes_of(alloc: Global, bytes: &[u8]) -> Result<Bytes, AllocError>
+    ensures { IfOk result (λ b. b ≡ bytes.now) }
+{
+    Ok(Bytes::from_vec(Vec::from_slice(alloc, bytes)?))
+}
+
+impl RawJob<'_> {
+    /// The words that the codes are. Answers `None` exactly where one of them is none.
+    pub(crate) fn words(&self) -> Option<Words>
+        ensures { result ≡ words_said self.now }
+    {
+        let (Some(cipher), Some(dir), Some(order), Some(auth)) = (
+            cipher_at(self.cipher),
+            dir_at(self.dir),
+            order_at(self.order),
+            auth_at(self.auth),
+        ) else {
+            return None;
+        };
+        Some(Words {
+            cipher,
+            dir,
+            order,
+            auth,
+        })
+    }
+
+    /// The job with these words, its bytes in memory of their own.
+    ///
+    /// Answers `AllocError` for want of memory.
+    pub(crate) fn copied(&self, alloc: Global, words: Words) -> Result<Job, AllocError>
+        ensures { IfOk result (λ j. j ≡ job_with self.now words) }
+    {
+        Ok(Job {
+            cipher: words.cipher,
+            dir: words.dir,
+            order: words.order,
+            key: bytes_of(alloc, self.key)?,
+            iv: bytes_of(alloc, self.iv)?,
+            cipher_off: self.cipher_off,
+            cipher_len: self.cipher_len,
+            auth: words.auth,
+            auth_key: bytes_of(alloc, self.auth_key)?,
+            aad: bytes_of(alloc, self.aad)?,
+            hash_off: self.hash_off,
+            hash_len: self.hash_len,
+            tag_len: self.tag_len,
+            packet: bytes_of(alloc, self.packet)?,
+        })
+    }
+}

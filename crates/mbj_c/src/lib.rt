@@ -1,0 +1,151 @@
+//! The manager for C programs, as a static library.
+//!
+//! A handle holds a manager, or none: C keeps it as one pointer, which is null at first. `mbj_c_new` makes a manager,
+//! `mbj_c_free` frees it. `mbj_c_fill` copies a job of C's into the next cell, and `mbj_c_submit` submits it.
+//! `mbj_c_submit`, `mbj_c_get_completed` and `mbj_c_flush` give results back in the order of submission. Only making a
+//! manager and filling a job take memory.
+//!
+//! A call that is refused says so and changes nothing. What a call can't look at is promised by C: that pointers point to
+//! what their types say, that no two of the things that are written overlap each other or anything that is read, and that
+//! the word in a handle is null or was written by these calls.
+#![tactic(auto)]
+
+ghost use Rattle.std.specs.Prelude.{◌≡◌, ◌≢◌, None, Ok, false, is_some};
+ghost use Rattle.mbj_c.specs.Codes.{code_of, refusal_code};
+ghost use Rattle.mbj_c.specs.Counts.{IsCounted, queue_size};
+ghost use Rattle.mbj_c.specs.Filling.{filled, made};
+ghost use Rattle.mbj_c.specs.Giving.{IsDrained, IsTold, called};
+ghost use Rattle.mbj_c.specs.declared.giving.Call.TheVariants as call;
+ghost use Rattle.mbj_c.specs.declared.refusal.Refusal.TheVariants.{Memory};
+
+mod calls;
+mod counts;
+mod giving;
+mod handle;
+mod job;
+mod measured;
+mod raw_box;
+mod refusal;
+#[cfg(test)]
+mod tests;
+mod words;
+
+use crate::giving::Call;
+use crate::refusal::code;
+pub use counts::Counts;
+pub use giving::RawDone;
+pub use handle::Handle;
+pub use job::RawJob;
+use std::alloc::Global;
+// C holds a handle to it; an exported type names it in its contract.
+#[doc(hidden)]
+pub use measured::Measured;
+
+/// Makes a manager. Answers 0, or the code of a refusal: `HasManager` exactly where the handle has one already, else
+/// `Memory` for want of memory.
+#[unsafe(no_mangle)]
+pub extern "C" fn mbj_c_new(alloc: Global, handle: &mut Handle) -> u32
+    ensures want_of_memory { result ≡ refusal_code Memory → (made handle.old.manager).0 ≡ Ok tt }
+    ensures unchanged { result ≡ refusal_code Memory → handle.new.manager ≡ handle.old.manager }
+    ensures answer { result ≢ refusal_code Memory → result ≡ code_of (made handle.old.manager).0 }
+    ensures state { result ≢ refusal_code Memory → handle.new.manager ≡ (made handle.old.manager).1 }
+{
+    code(calls::make(alloc, handle))
+}
+
+/// Frees the manager with all its jobs. Answers false exactly where there is none.
+#[unsafe(no_mangle)]
+pub extern "C" fn mbj_c_free(alloc: Global, handle: &mut Handle) -> bool
+    ensures freed { result ≡ is_some handle.old.manager }
+    ensures empty { handle.new.manager ≡ None }
+{
+    handle.take(alloc).is_some()
+}
+
+/// How many jobs are submitted and not given back, at most 256: 0 where there is no manager.
+#[unsafe(no_mangle)]
+pub extern "C" fn mbj_c_queue_size(alloc: Global, handle: &mut Handle) -> u32
+    ensures size { result ≡ queue_size handle.old.manager }
+    ensures same { handle.new.manager ≡ handle.old.manager }
+{
+    calls::queue_size(alloc, handle)
+}
+
+/// Tells what is counted of the lanes of a kind, whose code is its place in `Kind::ALL`, from 0 on. Answers false exactly
+/// where there is no manager or no such kind; `out` then stays as it was.
+#[unsafe(no_mangle)]
+pub extern "C" fn mbj_c_count(
+    alloc: Global,
+    handle: &mut Handle,
+    kind: u32,
+    out: &mut Counts,
+) -> bool
+    ensures counted { IsCounted handle.old.manager kind result out.old out.new }
+    ensures same { handle.new.manager ≡ handle.old.manager }
+{
+    calls::count(alloc, handle, kind, out)
+}
+
+/// Fills the next job with a copy of C's, in place of what was filled and not submitted. Answers 0, or the code of a
+/// refusal: `NoManager` exactly where there is no manager; else `Full` exactly where 256 jobs are submitted and not given
+/// back; else `Word` exactly where a code is no cipher, direction, order or authentication; else `Memory` for want of
+/// memory. A refused call changes nothing.
+#[unsafe(no_mangle)]
+pub extern "C" fn mbj_c_fill(alloc: Global, handle: &mut Handle, raw: &RawJob<'_>) -> u32
+    ensures want_of_memory { result ≡ refusal_code Memory → (filled raw.now handle.old.manager).0 ≡ Ok tt }
+    ensures unchanged { result ≡ refusal_code Memory → handle.new.manager ≡ handle.old.manager }
+    ensures answer { result ≢ refusal_code Memory → result ≡ code_of (filled raw.now handle.old.manager).0 }
+    ensures state { result ≢ refusal_code Memory → handle.new.manager ≡ (filled raw.now handle.old.manager).1 }
+{
+    code(calls::fill(alloc, handle, raw))
+}
+
+/// Submits the job that was filled, and gives the earliest job's result where that is finished.
+///
+/// Answers true exactly where it gives one, which is then written whole; else `out` stays as it was. `refusal` is 0, or the
+/// code of a refusal: `NoManager` exactly where there is no manager; else `NoJob` exactly where no job is filled; else
+/// `NoRoom` exactly where the packet of the result that is given back next, whether it is finished or not, is longer than
+/// its room, or the room for the tag is under 64 bytes.
+#[unsafe(no_mangle)]
+pub extern "C" fn mbj_c_submit(
+    alloc: Global,
+    handle: &mut Handle,
+    out: &mut RawDone<'_>,
+    refusal: &mut u32,
+) -> bool
+    ensures state { handle.new.manager ≡ (called call.Submit handle.old.manager out.old).1 }
+    ensures told { IsTold (called call.Submit handle.old.manager out.old).0 result refusal.new out.old out.new }
+{
+    calls::give(alloc, handle, Call::Submit, out, refusal)
+}
+
+/// Gives the earliest job's result where that is finished, and runs nothing. It answers as `mbj_c_submit` does, but never
+/// `NoJob`.
+#[unsafe(no_mangle)]
+pub extern "C" fn mbj_c_get_completed(
+    alloc: Global,
+    handle: &mut Handle,
+    out: &mut RawDone<'_>,
+    refusal: &mut u32,
+) -> bool
+    ensures state { handle.new.manager ≡ (called call.Completed handle.old.manager out.old).1 }
+    ensures told { IsTold (called call.Completed handle.old.manager out.old).0 result refusal.new out.old out.new }
+{
+    calls::give(alloc, handle, Call::Completed, out, refusal)
+}
+
+/// Finishes the earliest job, and gives its result. It answers as `mbj_c_get_completed` does; where it isn't refused, it
+/// answers false exactly where no job is submitted and not given back.
+#[unsafe(no_mangle)]
+pub extern "C" fn mbj_c_flush(
+    alloc: Global,
+    handle: &mut Handle,
+    out: &mut RawDone<'_>,
+    refusal: &mut u32,
+) -> bool
+    ensures state { handle.new.manager ≡ (called call.Flush handle.old.manager out.old).1 }
+    ensures told { IsTold (called call.Flush handle.old.manager out.old).0 result refusal.new out.old out.new }
+    ensures drained { result ≡ false → refusal.new ≡ 0 → IsDrained handle.old.manager }
+{
+    calls::give(alloc, handle, Call::Flush, out, refusal)
+}

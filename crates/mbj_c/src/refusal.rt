@@ -1,0 +1,59 @@
+ghost use Rattle.std.specs.Prelude.{◌≡◌};
+ghost use Rattle.mbj_c.specs.Codes.{code_of, refusal_code};
+ghost use Rattle.mbj_c.specs.declared.refusal.Refusal.TheVariants.{Memory};
+
+use std::alloc::AllocError;
+
+/// Why a call is refused. It then changes nothing.
+#[derive(Clone, Copy, Debug, PartialEq, Eq)]
+pub(crate) enum Refusal {
+    /// 256 jobs are submitted and not given back.
+    Full,
+    /// A code is no cipher, direction, order or authentication.
+    Word,
+    /// There wasn't memory enough.
+    Memory,
+    /// The handle has no manager.
+    NoManager,
+    /// No job is filled that could be submitted.
+    NoJob,
+    /// There is too little room for the result.
+    NoRoom,
+    /// The handle has a manager already.
+    HasManager,
+}
+
+impl Refusal {
+    /// What C is told, which is not 0.
+    pub(crate) fn code(self) -> u32
+        ensures { result ≡ refusal_code self }
+    {
+        match self {
+            Refusal::Full => 1,
+            Refusal::Word => 2,
+            Refusal::Memory => 3,
+            Refusal::NoManager => 4,
+            Refusal::NoJob => 5,
+            Refusal::NoRoom => 6,
+            Refusal::HasManager => 7,
+        }
+    }
+}
+
+impl From<AllocError> for Refusal {
+    ghost from_gives = { λ e r. r ≡ Memory };
+
+    fn from(_error: AllocError) -> Refusal {
+        Refusal::Memory
+    }
+}
+
+/// What C is told of an answer: 0, or the code of the refusal.
+pub(crate) fn code(answer: Result<(), Refusal>) -> u32
+    ensures { result ≡ code_of answer }
+{
+    match answer {
+        Ok(()) => 0,
+        Err(refusal) => refusal.code(),
+    }
+}
