@@ -1,5 +1,5 @@
 -- Blocks that are chained under a key of their own in each lane (SP 800-38A, 6.2).
-use Rattle.std.specs.Prelude.{ℕ, ◌-◌, min, List, [], length, slice_index_or}
+use Rattle.std.specs.Prelude.{ℕ, ◌-◌, min, List, [], length, map, slice_index_or}
 use Rattle.mbj_types.specs.Aes.{encipher}
 use Rattle.mbj_types.specs.Blocks.{xor_lists}
 
@@ -11,6 +11,11 @@ module _ {E : Type 0} where
   -- the input block: the next block xored with the chaining value
   abbrev pub input_of : (E → List ℕ) → (E → List ℕ) → E → List ℕ
   input_of block chain e = xor_lists (block e) (chain e)
+
+  -- the next chaining value in lane i
+  abbrev pub next_in_lane : (E → List ℕ) → (E → List ℕ) → (E → List ℕ) → List E → ℕ → List ℕ
+  next_in_lane key block chain es i =
+      encipher (in_lane (map key es) i) (xor_lists (in_lane (map block es) i) (in_lane (map chain es) i))
 
   -- the next block is chained: `led` says what an entry is once its chaining value is another
   abbrev pub chained_once : (E → List ℕ) → (E → List ℕ) → (E → List ℕ) → (E → List ℕ → E) → E → E

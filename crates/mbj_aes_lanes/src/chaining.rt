@@ -1,13 +1,20 @@
 ghost use Rattle.std.specs.Prelude.{◌≡◌, ℕ, ◌+◌, ◌-◌, ◌*◌, ◌<◌, ◌≤◌, All, List, [], length, map, min, slice_index_or};
 ghost use Rattle.mbj_types.specs.Aes.{encipher, round_key};
+ghost use Rattle.mbj_types.specs.Lanes.{lane_at};
 ghost use Rattle.mbj_lane.specs.Rounds.{after};
-ghost use Rattle.mbj_aes_lanes.specs.Chaining.{in_lane, input_of, chained_once};
+ghost use Rattle.mbj_aes_lanes.specs.Chaining.{in_lane, input_of, next_in_lane, chained_once};
 ghost use Rattle.mbj_aes_lanes.specs.KeyLanes.{IsFull, schedule_at};
+ghost use Rattle.mbj_aes_lanes.specs.Planes.State.{state_bytes};
 
+use crate::block_states::{blocks_of_state, state_of_blocks};
+use crate::columns::add_round_key;
 use crate::lane_keys::LaneKeys;
+use crate::rounds::encrypt;
 use crate::sixteen::encrypt16;
+use crate::state::State;
 use mbj_aes::Schedule;
-use mbj_types::{BLOCK_BYTES, xor_in_place};
+use mbj_types::BLOCK_BYTES;
+use std::simd::u8x16;
 
 // How many blocks are enciphered at once.
 const LANES: usize = 16;
@@ -52,6 +59,9 @@ pub trait Chaining {
         requires { 1 ≤ rest_of self.old }
         ensures { self.new ≡ led self.old chain.now };
 
+    /// The chaining value is the one that the block gave.
+    ghost takes: { (e : Self) (chain : List ℕ) → chain_of (led e chain) ≡ chain };
+
     /// The key stays.
     ghost keeps_key: { (e : Self) (chain : List ℕ) → key_of (led e chain) ≡ key_of e };
 
@@ -84,30 +94,30 @@ pub(crate) fn round_keys_at<E: Chaining>(entries: &[E], r: u32) -> [[u8; 16]; 16
     keys
 }
 
-/// The input block of an entry (SP 800-38A, 6.2).
+/// The next block of each lane.
 #[inline(always)]
-fn input<E: Chaining>(entry: &E) -> [u8; 16]
-    requires { 1 ≤ E.rest_of entry.now }
-    ensures { result ≡ input_of E.block_of E.chain_of entry.now }
-{
-    let mut block = entry.block();
-    xor_in_place(&mut block, entry.chain());
-    block
-}
-
-/// The input block of each lane.
-#[inline(always)]
-fn inputs<E: Chaining>(entries: &[E]) -> [[u8; 16]; 16]
+fn next_blocks<E: Chaining>(entries: &[E]) -> [[u8; 16]; 16]
     requires some { 0 < length entries.now }
     requires rests { All (λ e. 1 ≤ E.rest_of e) entries.now }
-    ensures { (i : ℕ) → i < 16
-        → slice_index_or result i [] ≡ in_lane (map (input_of E.block_of E.chain_of) entries.now) i }
+    ensures { (i : ℕ) → i < 16 → slice_index_or result i [] ≡ in_lane (map E.block_of entries.now) i }
 {
     let mut blocks = [[0; BLOCK_BYTES]; LANES];
     'blocks: for i in 0..LANES {
-        blocks[i] = input(&entries[place_of(i, entries.len())]);
+        blocks[i] = entries[place_of(i, entries.len())].block();
     }
     blocks
+}
+
+/// The chaining value of each lane.
+fn chains_of<E: Chaining>(entries: &[E]) -> [[u8; 16]; 16]
+    requires { 0 < length entries.now }
+    ensures { (i : ℕ) → i < 16 → slice_index_or result i [] ≡ in_lane (map E.chain_of entries.now) i }
+{
+    let mut chains = [[0; BLOCK_BYTES]; LANES];
+    'chains: for i in 0..LANES {
+        chains[i] = *entries[place_of(i, entries.len())].chain();
+    }
+    chains
 }
 
 /// Each entry takes its chaining value, of which there are 16.
@@ -125,19 +135,37 @@ fn take_chains<E: Chaining>(entries: &mut [E], chains: &[[u8; 16]; 16])
     }
 }
 
-/// The next block of each entry is chained, all at once.
+/// The next chaining value of each lane, whose present one is in `chains`.
 #[inline(always)]
-fn pass<E: Chaining>(entries: &mut [E], keys: &LaneKeys)
+fn next_chains<E: Chaining>(entries: &[E], keys: &LaneKeys, chains: State<u8x16>) -> State<u8x16>
+    requires some { 0 < length entries.now }
+    requires rests { All (λ e. 1 ≤ E.rest_of e) entries.now }
+    requires full { IsFull keys.now }
+    requires keys { (i : ℕ) → i < 16 → schedule_at keys.now i ≡ in_lane (map E.key_of entries.now) i }
+    requires chains { (i : ℕ) → i < 16 → state_bytes (lane_at 8) chains i ≡ in_lane (map E.chain_of entries.now) i }
+    ensures { (i : ℕ) → i < 16 → state_bytes (lane_at 8) result i
+        ≡ next_in_lane E.key_of E.block_of E.chain_of entries.now i }
+{
+    let blocks = state_of_blocks(&next_blocks(entries));
+    encrypt(keys.round_keys(), add_round_key(blocks, chains))
+}
+
+/// The next block of each entry is chained, all at once. `chains` has the chaining value of each lane, and the result
+/// the next one.
+#[inline(always)]
+fn pass<E: Chaining>(entries: &mut [E], keys: &LaneKeys, chains: State<u8x16>) -> State<u8x16>
     requires some { 0 < length entries.old }
     requires few { length entries.old ≤ 16 }
     requires rests { All (λ e. 1 ≤ E.rest_of e) entries.old }
     requires full { IsFull keys.now }
     requires keys { (i : ℕ) → i < 16 → schedule_at keys.now i ≡ in_lane (map E.key_of entries.old) i }
-    ensures { entries.new ≡ map (chained_once E.key_of E.block_of E.chain_of E.led) entries.old }
+    requires chains { (i : ℕ) → i < 16 → state_bytes (lane_at 8) chains i ≡ in_lane (map E.chain_of entries.old) i }
+    ensures entries { entries.new ≡ map (chained_once E.key_of E.block_of E.chain_of E.led) entries.old }
+    ensures chains { (i : ℕ) → i < 16 → state_bytes (lane_at 8) result i ≡ in_lane (map E.chain_of entries.new) i }
 {
-    let mut blocks = inputs(entries);
-    encrypt16(keys, &mut blocks);
-    take_chains(entries, &blocks);
+    let next = next_chains(entries, keys, chains);
+    take_chains(entries, &blocks_of_state(next));
+    next
 }
 
 /// Encrypts a block in each lane under the key of its entry; idle lanes go with the last entry. It takes no memory.
@@ -161,7 +189,8 @@ pub fn lead_all<E: Chaining>(entries: &mut [E], m: u32)
         return;
     }
     let keys = LaneKeys::each(entries);
+    let mut chains = state_of_blocks(&chains_of(entries));
     'passes: for done in 0..m {
-        pass(entries, &keys);
+        chains = pass(entries, &keys, chains);
     }
 }

@@ -24,14 +24,6 @@ fn put_in_planes<V: Lane8>(words: &mut [V])
     put_planes(words, state);
 }
 
-/// The state of the block in each lane, of sixteen blocks.
-#[inline(always)]
-pub fn state_of_blocks(blocks: &[[u8; 16]; 16]) -> State<u8x16>
-    ensures { (i : ℕ) → i < 16 → state_bytes (lane_at 8) result i ≡ slice_index_or blocks.now i [] }
-{
-    state_at(&words_of(blocks), 0)
-}
-
 /// The plane bytes of each round key. All round keys are transposed at once, one in each lane.
 pub fn planes_of(key: &Schedule) -> [[u8; 16]; 16]
     ensures length { length result ≡ 16 }

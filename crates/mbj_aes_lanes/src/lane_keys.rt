@@ -5,8 +5,9 @@ ghost use Rattle.mbj_aes_lanes.specs.Chaining.{in_lane};
 ghost use Rattle.mbj_aes_lanes.specs.KeyLanes.{no_keys, same_keys, with_key, schedule_at, IsFull};
 ghost use Rattle.mbj_aes_lanes.specs.Planes.Keys.{schedule_in};
 
+use crate::block_states::state_of_blocks;
 use crate::chaining::{Chaining, round_keys_at};
-use crate::key_planes::{planes_of, state_of_blocks, write_all_lanes, write_lane};
+use crate::key_planes::{planes_of, write_all_lanes, write_lane};
 use crate::state::State;
 use mbj_aes::{Octet, Schedule};
 use std::marker::Model;

@@ -1,6 +1,7 @@
 //! AES (FIPS 197) on many blocks at once: one block and one key in each lane.
 #![tactic(auto)]
 
+mod block_states;
 mod blocks;
 mod chaining;
 mod columns;

@@ -1,7 +1,6 @@
 //! The rounds of CIPHER and INVCIPHER (FIPS 197, 5.1 and 5.3) in all lanes, in bit planes.
 ghost use Rattle.std.specs.Prelude.{◌≡◌, ℕ, ◌<◌, ◌≤◌, length};
 ghost use Rattle.mbj_types.specs.Aes.{encipher, decipher};
-ghost use Rattle.mbj_types.specs.Lanes.{lane_of};
 ghost use Rattle.mbj_aes_lanes.specs.Planes.State.{state_bytes};
 ghost use Rattle.mbj_aes_lanes.specs.Planes.Rounds.{round_of, undone_round_of};
 ghost use Rattle.mbj_aes_lanes.specs.Planes.Keys.{schedule_in};
@@ -10,7 +9,6 @@ use crate::columns::{add_round_key, inv_mix_columns, mix_columns};
 use crate::rows::{inv_shift_rows, shift_rows};
 use crate::state::State;
 use crate::substitution::{inv_sub_bytes, sub_bytes};
-use crate::words::{put_state, state_at};
 use mbj_types::Lane8;
 
 /// One round: SUBBYTES, SHIFTROWS, MIXCOLUMNS but in the last round, and ADDROUNDKEY.
@@ -43,32 +41,30 @@ pub fn undone_round<V: Lane8>(s: State<V>, key: State<V>, is_last: bool) -> Stat
     inv_sub_bytes(inv_shift_rows(unmixed))
 }
 
-/// Encrypts the block in each lane under the round keys in that lane.
-pub fn encrypt<V: Lane8>(keys: &[State<V>], state: &mut [V])
-    requires keys { 3 ≤ length keys.now }
-    requires state { length state.old ≡ 16 }
+/// Encrypts the state in each lane under the round keys in that lane.
+pub fn encrypt<V: Lane8>(keys: &[State<V>], state: State<V>) -> State<V>
+    requires { 3 ≤ length keys.now }
     ensures { (i : ℕ) → i < V.LANES
-        → lane_of V.lane state.new i ≡ encipher (schedule_in V.lane keys.now i) (lane_of V.lane state.old i) }
+        → state_bytes V.lane result i ≡ encipher (schedule_in V.lane keys.now i) (state_bytes V.lane state i) }
 {
     let rounds = keys.len() - 1;
-    let mut s = add_round_key(state_at(state, 0), keys[0]);
+    let mut s = add_round_key(state, keys[0]);
     'rounds: for r in 1..rounds + 1 {
         s = round(s, keys[r], r == rounds);
     }
-    put_state(state, s);
+    s
 }
 
-/// Decrypts the block in each lane by the round keys in that lane.
-pub fn decrypt<V: Lane8>(keys: &[State<V>], state: &mut [V])
-    requires keys { 3 ≤ length keys.now }
-    requires state { length state.old ≡ 16 }
+/// Decrypts the state in each lane by the round keys in that lane.
+pub fn decrypt<V: Lane8>(keys: &[State<V>], state: State<V>) -> State<V>
+    requires { 3 ≤ length keys.now }
     ensures { (i : ℕ) → i < V.LANES
-        → lane_of V.lane state.new i ≡ decipher (schedule_in V.lane keys.now i) (lane_of V.lane state.old i) }
+        → state_bytes V.lane result i ≡ decipher (schedule_in V.lane keys.now i) (state_bytes V.lane state i) }
 {
     let rounds = keys.len() - 1;
-    let mut s = state_at(state, 0);
+    let mut s = state;
     'rounds: for r in (1..rounds + 1).rev() {
         s = undone_round(s, keys[r], r == rounds);
     }
-    put_state(state, add_round_key(s, keys[0]));
+    add_round_key(s, keys[0])
 }

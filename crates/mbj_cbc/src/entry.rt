@@ -126,6 +126,8 @@ impl<const N: usize> Chaining for CbcEntry<N> {
         self.rest -= 1;
     }
 
+    ghost takes = { λ e c. refl };
+
     ghost keeps_key = { λ e c. refl };
 
     ghost falls = { λ e c. refl };

@@ -185,6 +185,8 @@ impl<const N: usize> Chaining for CmacEntry<N> {
         self.rest -= 1;
     }
 
+    ghost takes = { λ e c. refl };
+
     ghost keeps_key = { λ e c. refl };
 
     ghost falls = { λ e c. refl };

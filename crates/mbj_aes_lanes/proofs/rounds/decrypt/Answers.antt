@@ -1,11 +1,8 @@
 -- INVCIPHER, round by round, in each lane.
 use Rattle.std.proofs.Common.{◌≡◌, ℕ, ◌+◌, ◌-◌, ◌*◌, ◌/◌, List, length, arith, sym, ap, ◌∙◌}
 use Rattle.std.specs.Prelude.{nat_eq}
-use Rattle.std.proofs.lemmas.List.{take_all}
 use Rattle.mbj_types.specs.Blocks.{xor_lists}
 use Rattle.mbj_types.specs.Aes.{inv_cipher, decipher}
-use Rattle.mbj_types.specs.Lanes.{lane_of}
-use Rattle.mbj_types.proofs.LaneLists.{length-lane_of}
 use Rattle.mbj_aes_lanes.specs.Planes.Keys.{schedule_in}
 use Rattle.mbj_aes_lanes.proofs.RoundKeys.{round_key-schedule_in, length-schedule_in}
 use Rattle.mbj_aes_lanes.specs.Planes.State.{state_bytes}
@@ -18,17 +15,15 @@ rounds-init g c i h =
     let lane = g.V.Lane8.lane in
     let w : List ℕ = schedule_in lane c.args.keys.now i in
     let n : ℕ = length c.args.keys.now - 1 in
-    let block : List ℕ = lane_of lane c.args.state.now i in
-    let whole : length block ≡ length c.args.state.now = length-lane_of lane c.args.state.now i in
-    undone_from-first w n (state_bytes lane c.state_at-s.result i) (n + 1) (omega arith)
-    ∙ ap (inv_cipher w n) (c.state_at-s.ensures i h ∙ take_all 16 block (omega arith))
+    let block : List ℕ = state_bytes lane c.args.state i in
+    undone_from-first w n block (n + 1) (omega arith)
 
 pub rounds-preserved : goal.rounds-preserved
 rounds-preserved g c i h =
     let lane = g.V.Lane8.lane in
     let w : List ℕ = schedule_in lane c.args.keys.now i in
     let n : ℕ = length c.args.keys.now - 1 in
-    let block : List ℕ = lane_of lane c.args.state.now i in
+    let block : List ℕ = state_bytes lane c.args.state i in
     let r : ℕ = c.rounds.r - 1 in
     let s : List ℕ = state_bytes lane c.rounds.s i in
     let now : r + 1 ≡ c.rounds.r = omega arith in
@@ -44,12 +39,11 @@ returns g c i h =
     let lane = g.V.Lane8.lane in
     let w : List ℕ = schedule_in lane c.args.keys.now i in
     let n : ℕ = length c.args.keys.now - 1 in
-    let block : List ℕ = lane_of lane c.args.state.now i in
+    let block : List ℕ = state_bytes lane c.args.state i in
     let size : length w ≡ 16 * length c.args.keys.now = length-schedule_in lane c.args.keys.now i in
     let count : length w / 16 - 1 ≡ n = omega arith in
     let s : List ℕ = state_bytes lane c.rounds.s i in
-    c.put_state.ensures i h
-    ∙ c.add_round_key.ensures i h
+    c.add_round_key.ensures i h
     ∙ ap (xor_lists s) (sym (round_key-schedule_in lane c.args.keys.now i 0 c.index-keys-0.result (omega arith) c.index-keys-0.is))
     ∙ undone_from-last w n s c.rounds.r (omega arith) (omega arith)
     ∙ c.rounds.invariant i h

@@ -1,7 +1,6 @@
 -- In each lane, undoing the rounds that are left gives the deciphered block.
 use Rattle.std.proofs.Common.{◌≡◌, ℕ, ◌<◌, ◌-◌, length}
 use Rattle.mbj_types.specs.Aes.{inv_cipher}
-use Rattle.mbj_types.specs.Lanes.{lane_of}
 use Rattle.mbj_aes_lanes.specs.Planes.State.{state_bytes}
 use Rattle.mbj_aes_lanes.specs.Planes.Keys.{schedule_in}
 use Rattle.mbj_aes_lanes.proofs.RoundByRound.{undone_from}
@@ -11,4 +10,4 @@ abbrev pub invariant-rounds : goal.invariant-rounds
 invariant-rounds g l =
     let lane = g.V.Lane8.lane in
     (i : ℕ) → i < g.V.Lane8.LANES → undone_from (schedule_in lane l.keys i) (length l.keys - 1) (state_bytes lane l.s i) l.r
-    ≡ inv_cipher (schedule_in lane l.keys i) (length l.keys - 1) (lane_of lane l.state i)
+    ≡ inv_cipher (schedule_in lane l.keys i) (length l.keys - 1) (state_bytes lane l.fn.state i)

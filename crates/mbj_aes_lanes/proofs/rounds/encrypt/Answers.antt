@@ -1,13 +1,11 @@
 -- CIPHER, round by round, in each lane.
 use Rattle.std.proofs.Common.{◌≡◌, ℕ, ◌-◌, ◌*◌, ◌/◌, List, length, arith, sym, ap, ap₂, ◌∙◌}
 use Rattle.std.specs.Prelude.{nat_eq}
-use Rattle.std.proofs.lemmas.List.{take_all}
 use Rattle.mbj_types.specs.Blocks.{xor_lists}
 use Rattle.mbj_types.specs.Aes.{cipher, encipher}
-use Rattle.mbj_types.specs.Lanes.{lane_of}
-use Rattle.mbj_types.proofs.LaneLists.{length-lane_of}
 use Rattle.mbj_aes_lanes.specs.Planes.Keys.{schedule_in}
 use Rattle.mbj_aes_lanes.proofs.RoundKeys.{round_key-schedule_in, length-schedule_in}
+use Rattle.mbj_aes_lanes.specs.Planes.State.{state_bytes}
 use Rattle.mbj_aes_lanes.specs.Planes.Rounds.{round_of}
 use Rattle.mbj_aes_lanes.proofs.RoundByRound.{before_round-first, before_round-next, before_round-last}
 use Rattle.mbj_aes_lanes.proofs.rounds.encrypt.Goals as goal
@@ -17,10 +15,9 @@ rounds-init g c i h =
     let lane = g.V.Lane8.lane in
     let w : List ℕ = schedule_in lane c.args.keys.now i in
     let n : ℕ = length c.args.keys.now - 1 in
-    let block : List ℕ = lane_of lane c.args.state.now i in
-    let whole : length block ≡ length c.args.state.now = length-lane_of lane c.args.state.now i in
+    let block : List ℕ = state_bytes lane c.args.state i in
     c.add_round_key-s.ensures i h
-    ∙ ap₂ xor_lists (c.state_at.ensures i h ∙ take_all 16 block (omega arith))
+    ∙ ap (xor_lists block)
     (sym (round_key-schedule_in lane c.args.keys.now i 0 c.index-keys-0.result (omega arith) c.index-keys-0.is))
     ∙ sym (before_round-first w n block (omega arith))
 
@@ -29,7 +26,7 @@ rounds-preserved g c i h =
     let lane = g.V.Lane8.lane in
     let w : List ℕ = schedule_in lane c.args.keys.now i in
     let n : ℕ = length c.args.keys.now - 1 in
-    let block : List ℕ = lane_of lane c.args.state.now i in
+    let block : List ℕ = state_bytes lane c.args.state i in
     c.round-s.ensures i h
     ∙ ap₂ (round_of (nat_eq c.rounds.r n)) (c.rounds.invariant i h)
     (sym (round_key-schedule_in lane c.args.keys.now i c.rounds.r c.index-keys-r.result (omega arith) c.index-keys-r.is))
@@ -41,10 +38,9 @@ returns g c i h =
     let lane = g.V.Lane8.lane in
     let w : List ℕ = schedule_in lane c.args.keys.now i in
     let n : ℕ = length c.args.keys.now - 1 in
-    let block : List ℕ = lane_of lane c.args.state.now i in
+    let block : List ℕ = state_bytes lane c.args.state i in
     let size : length w ≡ 16 * length c.args.keys.now = length-schedule_in lane c.args.keys.now i in
     let count : length w / 16 - 1 ≡ n = omega arith in
-    c.put_state.ensures i h
-    ∙ c.rounds.invariant i h
+    c.rounds.invariant i h
     ∙ before_round-last w n block c.rounds.r (omega arith)
     ∙ ap (λ (k : ℕ). cipher w k block) (sym count)
