@@ -10,13 +10,14 @@ use Rattle.mbj_manager.specs.Rounds.{Pending, at_once, in_lanes}
 use Rattle.mbj_manager.specs.Machine.{Machine, Within, submit, flush, lane_of, run_idle, run_within}
 use Rattle.mbj_manager.specs.Course.{after_flush_steps, course, flush_step_at, flushed, in_lanes_next, stages_left}
 use Rattle.mbj_manager.specs.Between.{HasRounds, IsBetweenCalls, IsPlaced, KeepsMachines, times_in, with_stages}
+use Rattle.mbj_manager.specs.Inside.Standing.{IsWithin, Stands, left_at, times}
 use Rattle.mbj_manager.proofs.Changing.{length-changed, other-added}
 use Rattle.mbj_manager.proofs.CourseEnds.{course-ends, lanes-between, stages-at}
-use Rattle.mbj_manager.proofs.Courses.{flush-rests}
-use Rattle.mbj_manager.proofs.Times.{times, times-here, times-there}
+use Rattle.mbj_manager.proofs.Resting.{flush-rests}
+use Rattle.mbj_manager.proofs.Times.{times-here, times-there}
 use Rattle.mbj_manager.proofs.Running.{IsReady, idle-keeps}
-use Rattle.mbj_manager.proofs.StagesLeft.{left_at, length-stage_done}
-use Rattle.mbj_manager.proofs.Standing.{IsWithin, Stands, gone}
+use Rattle.mbj_manager.proofs.StagesLeft.{length-stage_done}
+use Rattle.mbj_manager.proofs.Standing.{gone}
 use Rattle.mbj_manager.proofs.Unchanged.{IsUnchanged, unchanged-course, unchanged-flush}
 
 -- ---- a submission
@@ -36,7 +37,7 @@ submitted-stands stages m between n = elim (cases_eq (length m.left) n) [
 ]
 
 -- the machine to which a job is submitted is as it is after each step
-submitted-within : (stages : List Pending) (m : Machine) → All HasRounds stages → IsBetweenCalls m → IsWithin (with_stages stages m)
+pub submitted-within : (stages : List Pending) (m : Machine) → All HasRounds stages → IsBetweenCalls m → IsWithin (with_stages stages m)
 submitted-within stages m rounds between = record {
   lanes = lanes-between m between;
   stages = stages-at (m.left ++ stages ∷ []) (All-push (All HasRounds) m.left stages between.stages rounds);
@@ -46,7 +47,7 @@ submitted-within stages m rounds between = record {
 -- ---- a flush
 
 -- somebody waits in the list of the earliest job
-earliest-ready : (k : Kind) (rest : ℕ) (left : List Pending) (m : Machine) → left_at 0 m.left ≡ in_lanes k rest ∷ left
+pub earliest-ready : (k : Kind) (rest : ℕ) (left : List Pending) (m : Machine) → left_at 0 m.left ≡ in_lanes k rest ∷ left
     → IsBetweenCalls m → IsReady k m
 earliest-ready k rest left m earliest between =
     let placed = subst (IsPlaced m 0) earliest (between.placed 0) in
@@ -61,7 +62,7 @@ earliest-ready k rest left m earliest between =
     }
 
 -- the list of the earliest job runs
-earliest-runs : (left : List (List Pending)) (k : Kind) (rest : ℕ) (ps : List Pending) (m : Machine)
+pub earliest-runs : (left : List (List Pending)) (k : Kind) (rest : ℕ) (ps : List Pending) (m : Machine)
     → left_at 0 left ≡ in_lanes k rest ∷ ps → flush_step_at (slice_get left 0) m ≡ course flush (run_idle k m)
 earliest-runs [] k rest ps m earliest = cc
 earliest-runs (first ∷ left) k rest ps m earliest = ap (λ ps. flush_step_at (Some ps) m) earliest

@@ -1,9 +1,9 @@
 -- Over each list of calls the machine is between two calls, with a job for each result owed.
-use Rattle.std.proofs.Common.{◌≡◌, ◌≢◌, ℕ, ◌+◌, ◌*◌, ◌%◌, ◌≤◌, ◌==◌, List, [], ◌∷◌, ◌++◌, length, Option, Some, None, slice_get, refl, ap, sym, ◌∙◌, subst, arith}
+use Rattle.std.proofs.Common.{◌≡◌, ◌≢◌, ℕ, ◌+◌, ◌*◌, ◌%◌, ◌≤◌, ◌==◌, zero, suc, List, [], ◌∷◌, ◌++◌, length, Option, Some, None, slice_get, refl, ap, sym, ◌∙◌, subst, arith}
 use Rattle.std.specs.Prelude.{All, IsSome}
 use Rattle.std.proofs.lemmas.Bool.{cond_both}
 use Rattle.std.proofs.lemmas.List.{length_push, nil_from_length}
-use Rattle.std.proofs.lemmas.List.Elements.{All-cons, All-nil}
+use Rattle.std.proofs.lemmas.List.Elements.{All-nil}
 use Rattle.mbj_types.specs.declared.job.Job.{Job}
 use Rattle.mbj_types.specs.declared.done.Done.{Done}
 use Rattle.mbj_types.specs.declared.kind.Kind.{Kind}
@@ -11,17 +11,20 @@ use Rattle.mbj_types.specs.Result.{result_of}
 use Rattle.mbj_types.specs.Kinds.{lanes_of}
 use Rattle.mbj_ring.specs.declared.ring.TheConstants.{CELLS}
 use Rattle.mbj_stage.specs.Going.{begun}
-use Rattle.mbj_stage.specs.declared.stage.Step.{Step}
-use Rattle.mbj_stage.specs.declared.stage.Step.TheVariants as step
-use Rattle.mbj_manager.specs.Rounds.{Pending, at_once, pending, pending_at}
+use Rattle.mbj_manager.specs.Rounds.{Pending, pending}
 use Rattle.mbj_manager.specs.Machine.{Machine, submit, lane_of, idle_lane, count_end}
 use Rattle.mbj_manager.specs.Course.{course, flushed}
-use Rattle.mbj_manager.specs.State.{ManagerState, entered, entered_at, given, given_at, lent, new_manager, with_job, with_open}
+use Rattle.mbj_manager.specs.State.{ManagerState, entered, entered_at, flushing, given, given_at, lent, new_manager, with_job, with_open}
 use Rattle.mbj_manager.specs.Calls as calls
 use Rattle.mbj_manager.specs.Calls.{Call, after_calls, called, opened_next, submitted_at, written_at}
+use Rattle.mbj_manager.specs.Counts.{RisesUpTo}
 use Rattle.mbj_manager.specs.Between.{AreKept, HasRounds, IsBetweenCalls, IsKept, times_in}
+use Rattle.mbj_manager.specs.Inside.Standing.{IsLane, left_at}
 use Rattle.mbj_manager.proofs.BetweenCalls.{course-length, flush-length, machines-kept}
-use Rattle.mbj_manager.proofs.Standing.{IsLane}
+use Rattle.mbj_manager.proofs.FlushRuns.{flush-runs}
+use Rattle.mbj_manager.proofs.JobRounds.{pending-rounds}
+use Rattle.mbj_manager.proofs.JobStages.{twice, two-next, two-stages, two-then}
+use Rattle.mbj_manager.proofs.Shrinking.{each-course, each-flush}
 use Rattle.mbj_manager.proofs.Lanes.{lane-by, some-lanes}
 use Rattle.mbj_manager.proofs.GivingBack.{back-between}
 
@@ -29,16 +32,38 @@ use Rattle.mbj_manager.proofs.GivingBack.{back-between}
 record IsCounted (h : ManagerState) : Type 0 where
   machine : IsBetweenCalls h.machine
   jobs : length h.machine.left ≡ length h.owed
+  -- no job has more than two stages left
+  two : (n : ℕ) → length (left_at n h.machine.left) ≤ 2
 
 -- ---- what a flush gives
 
 -- the earliest job is given back where it is finished
-earliest-given : (ds : List Done) (left : List (List Pending)) (h : ManagerState) → ds ≢ [] → slice_get left 0 ≡ Some []
+pub earliest-given : (ds : List Done) (left : List (List Pending)) (h : ManagerState) → ds ≢ [] → slice_get left 0 ≡ Some []
     → IsSome (given_at ds left h).0
 earliest-given [] left h owes done = absurd (owes refl)
 earliest-given (d ∷ ds) [] h owes done = cc
 earliest-given (d ∷ ds) ([] ∷ left) h owes done = refl
 earliest-given (d ∷ ds) ((p ∷ ps) ∷ left) h owes done = cc
+
+-- giving back runs nothing
+given-runs-at : (ds : List Done) (left : List (List Pending)) (h : ManagerState) → (given_at ds left h).1.machine.flush_runs ≡ h.machine.flush_runs
+given-runs-at [] left h = refl
+given-runs-at (d ∷ ds) [] h = refl
+given-runs-at (d ∷ ds) ([] ∷ left) h = refl
+given-runs-at (d ∷ ds) ((p ∷ ps) ∷ left) h = refl
+
+-- how often a flush runs lists
+few-runs : (h : ManagerState) → IsCounted h → RisesUpTo (2 * length h.owed) h.machine.flush_runs (flushing h).1.machine.flush_runs
+few-runs h counted =
+    let runs = flush-runs h.machine counted.machine in
+    let few = runs.few in
+    let jobs = counted.jobs in
+    let then = record h { machine = flushed h.machine } in
+    record {
+      by = runs.count;
+      few = omega (arith, twice h.machine.left counted.two);
+      is = ap (λ n. n % count_end) (given-runs-at h.owed (flushed h.machine).left then) ∙ runs.is;
+    }
 
 -- then a flush gives the earliest job back
 kept : (h : ManagerState) → IsCounted h → IsKept h
@@ -48,6 +73,7 @@ kept h counted = record {
   flush_gives = λ owes. earliest-given h.owed (flushed h.machine).left (record h { machine = flushed h.machine }) owes
       ((machines-kept h.machine counted.machine).earliest
       (λ none. owes (nil_from_length h.owed (sym counted.jobs ∙ ap length none))));
+  flush_runs = few-runs h counted;
 }
 
 -- ---- what each call keeps
@@ -61,18 +87,19 @@ given-at-counted (d ∷ ds) ((p ∷ ps) ∷ left) h owes is counted = counted
 given-at-counted (d ∷ ds) ([] ∷ left) h owes is counted = record {
   machine = back-between left h.machine is counted.machine;
   jobs = (let same = counted.jobs in omega (arith, ap length owes, ap length is));
+  two = λ n. subst (λ (l : List (List Pending)). length (left_at (suc n) l) ≤ 2) is (counted.two (suc n));
 }
 
 -- giving back keeps it
 given-counted : (h : ManagerState) → IsCounted h → IsCounted (given h).1
 given-counted h counted = given-at-counted h.owed h.machine.left h refl refl counted
 
--- the stages of a job have rounds
-pending-rounds : (j : Job) (steps : List Step) → All HasRounds (pending_at j steps)
-pending-rounds j [] = All-nil HasRounds
-pending-rounds j (step.Cipher ∷ steps) = All-cons HasRounds at_once (pending_at j steps) tt (pending-rounds j steps)
-pending-rounds j (step.Auth ∷ steps) = All-cons HasRounds at_once (pending_at j steps) tt (pending-rounds j steps)
-pending-rounds j (step.Gcm ∷ steps) = All-cons HasRounds at_once (pending_at j steps) tt (pending-rounds j steps)
+two-added : (left : List (List Pending)) (ps : List Pending) → ((n : ℕ) → length (left_at n left) ≤ 2) → length ps ≤ 2
+    → (n : ℕ) → length (left_at n (left ++ ps ∷ [])) ≤ 2
+two-added [] ps two few zero = few
+two-added [] ps two few (suc n) = two n
+two-added (x ∷ left) ps two few zero = two zero
+two-added (x ∷ left) ps two few (suc n) = two-added left ps (λ i. two (suc i)) few n
 
 -- a submission adds one job and one result
 with-job-counted : (j : Job) (h : ManagerState) → IsCounted h → IsCounted (with_job j h)
@@ -81,9 +108,10 @@ with-job-counted j h counted =
     let entering : ℕ → Machine = λ n. record h.machine { left = h.machine.left ++ stages ∷ []; agenda = n ∷ [] } in
     record {
       machine = subst (λ n. IsBetweenCalls (course submit (entering n))) counted.jobs
-          ((machines-kept h.machine counted.machine).submits stages (pending-rounds (begun j).job (begun j).left));
+          ((machines-kept h.machine counted.machine).submits stages (pending-rounds j));
       jobs = course-length submit (entering (length h.owed)) ∙ length_push h.machine.left stages
           ∙ ap (λ n. n + 1) counted.jobs ∙ sym (length_push h.owed (result_of j));
+      two = each-course (λ ps. length ps ≤ 2) two-then two-next submit (entering (length h.owed)) (two-added h.machine.left stages counted.two (two-stages j));
     }
 
 -- a submission of the open job, if there is one, and what it gives back
@@ -95,17 +123,21 @@ submit-counted (Some j) h is counted =
 -- a write changes the open job alone
 write-counted : (o : Option Job) (j : Job) (h : ManagerState) → IsCounted h → IsCounted (written_at o j h)
 write-counted None j h counted = counted
-write-counted (Some old) j h counted = record { machine = counted.machine; jobs = counted.jobs }
+write-counted (Some old) j h counted = record { machine = counted.machine; jobs = counted.jobs; two = counted.two }
 
 -- likewise a job that is lent
 next-counted : (h : ManagerState) → IsCounted h → IsCounted (opened_next h)
 next-counted h counted = cond_both (length h.owed == CELLS) h (with_open h (lent h)) IsCounted (λ full. counted)
-    (λ room. record { machine = counted.machine; jobs = counted.jobs })
+    (λ room. record { machine = counted.machine; jobs = counted.jobs; two = counted.two })
 
 -- a flush takes neither a job nor a result
 flush-counted : (h : ManagerState) → IsCounted h → IsCounted (record h { machine = flushed h.machine })
 flush-counted h counted =
-    record { machine = (machines-kept h.machine counted.machine).flushes; jobs = flush-length h.machine ∙ counted.jobs }
+    record {
+      machine = (machines-kept h.machine counted.machine).flushes;
+      jobs = flush-length h.machine ∙ counted.jobs;
+      two = each-flush (λ ps. length ps ≤ 2) two-then two-next h.machine counted.two;
+    }
 
 -- each call keeps it
 call-counted : (c : Call) (h : ManagerState) → IsCounted h → IsCounted (called c h).1
@@ -131,6 +163,10 @@ idle-kept k = record {
   blocks = (let none : 0 ≡ lanes_of k * 0 = omega arith in ap (λ n. n % count_end) none);
 }
 
+two-none : (n : ℕ) → length (left_at n []) ≤ 2
+two-none zero = omega arith
+two-none (suc n) = omega arith
+
 -- a new manager has it
 new-counted : IsCounted new_manager
 new-counted =
@@ -146,6 +182,7 @@ new-counted =
         blocks = λ k. (lanes k).blocks;
       };
       jobs = refl;
+      two = two-none;
     }
 
 -- so it holds after each list of calls

@@ -9,10 +9,8 @@ use Rattle.mbj_manager.specs.Rounds.{Pending}
 use Rattle.mbj_manager.specs.Machine.{Machine, Within, lane_of}
 use Rattle.mbj_manager.specs.Course.{after_steps, course, stages_left, stepped, stepped_at, steps_ahead}
 use Rattle.mbj_manager.specs.Between.{HasRounds, IsBetweenCalls}
-use Rattle.mbj_manager.proofs.Courses.{rests}
-use Rattle.mbj_manager.proofs.Times.{times}
-use Rattle.mbj_manager.proofs.StagesLeft.{left_at}
-use Rattle.mbj_manager.proofs.Standing.{IsLane, IsWithin}
+use Rattle.mbj_manager.specs.Inside.Standing.{IsLane, IsWithin, left_at, times}
+use Rattle.mbj_manager.proofs.Resting.{rests}
 use Rattle.mbj_manager.proofs.Stepping.{IsStep, steps}
 
 -- the stages of each job, also past the last one, have rounds
@@ -23,7 +21,7 @@ stages-at left rounds n = elim (cases_lt n (length left)) [
 ]
 
 -- where the agenda is empty, what holds after each step holds between two calls
-between-calls : (m : Machine) → IsWithin m → m.agenda ≡ [] → IsBetweenCalls m
+pub between-calls : (m : Machine) → IsWithin m → m.agenda ≡ [] → IsBetweenCalls m
 between-calls m within none = record {
   agenda = none;
   few = λ k. (within.lanes k).few;

@@ -10,9 +10,9 @@ use Rattle.mbj_manager.specs.Rounds.{Pending}
 use Rattle.mbj_manager.specs.Machine.{Waiting, Lane, Machine, lane_of}
 use Rattle.mbj_manager.specs.State.{earlier, renumbered, without_earliest}
 use Rattle.mbj_manager.specs.Between.{HasRounds, IsBetweenCalls, IsPlaced, times_in}
+use Rattle.mbj_manager.specs.Inside.Standing.{IsLane, left_at}
 use Rattle.mbj_manager.proofs.Lanes.{lane-by}
-use Rattle.mbj_manager.proofs.StagesLeft.{left_at}
-use Rattle.mbj_manager.proofs.Standing.{IsLane, same-placed}
+use Rattle.mbj_manager.proofs.Standing.{same-placed}
 use Rattle.mbj_manager.proofs.CourseEnds.{lanes-between}
 
 -- a number above 0, less one, is n where it is n's successor

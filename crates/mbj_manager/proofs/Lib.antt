@@ -1,7 +1,23 @@
-mod Courses
+mod Resting
+mod JobRounds
+mod Pairing
+pub mod RingCourses
+mod Finishing
+mod SeenAhead
+mod Joining
+mod Listing
+mod Numbering
+mod Seeing
+mod KindLines
+mod Owing
+mod Tying
+mod Moving
+mod Advancing
+mod Reaching
+mod Flushing
+pub mod PendingStages
 mod Unchanged
 mod Counting
-mod Rings
 mod CallLaws
 mod Lanes
 mod Changing
@@ -14,4 +30,9 @@ mod Stepping
 mod CourseEnds
 mod BetweenCalls
 mod GivingBack
+mod Adding
+mod Popping
+mod Shrinking
+mod JobStages
+mod FlushRuns
 mod CallsKeep

@@ -9,10 +9,11 @@ use Rattle.mbj_types.specs.Kinds.{lanes_of}
 use Rattle.mbj_manager.specs.Machine.{Waiting, Lane, Machine, Within, submit, flush, count_end, lane_of, least, ran, run_full, run_idle, run_within, shortened, with_run, with_waiting}
 use Rattle.mbj_manager.specs.Course.{stages_left, steps_ahead}
 use Rattle.mbj_manager.specs.Between.{HasRounds}
+use Rattle.mbj_manager.specs.Inside.Standing.{IsLane, IsWithin, Stands, left_at}
 use Rattle.mbj_manager.proofs.Lanes.{each-lane}
 use Rattle.mbj_manager.proofs.Leaving.{leave-or-stay, some-leave, stayers-rest}
-use Rattle.mbj_manager.proofs.StagesLeft.{left_at, fewer-stages, rounds-done}
-use Rattle.mbj_manager.proofs.Standing.{IsLane, IsWithin, Stands, gone, gone-most, ran-standing, stayed}
+use Rattle.mbj_manager.proofs.StagesLeft.{fewer-stages, rounds-done}
+use Rattle.mbj_manager.proofs.Standing.{gone, gone-most, ran-standing, stayed}
 
 -- somebody waits in the list of the kind k, which may be full
 pub record IsFilled (k : Kind) (l : Lane) : Type 0 where

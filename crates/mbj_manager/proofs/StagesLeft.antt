@@ -1,5 +1,5 @@
 -- The stages that are left once the first of some jobs is done.
-use Rattle.std.proofs.Common.{◌≡◌, ◌≢◌, ℕ, ◌+◌, ◌≤◌, List, [], ◌∷◌, length, slice_index_or, inl, inr, refl, ap, sym, ◌∙◌, subst, arith}
+use Rattle.std.proofs.Common.{◌≡◌, ◌≢◌, ℕ, ◌+◌, ◌≤◌, List, [], ◌∷◌, length, inl, inr, refl, ap, sym, ◌∙◌, subst, arith}
 use Rattle.std.specs.Prelude.{All}
 use Rattle.std.proofs.lemmas.Bool.{cases_eq}
 use Rattle.std.proofs.lemmas.List.Elements.{All-tail}
@@ -7,12 +7,9 @@ use Rattle.mbj_manager.specs.Rounds.{Pending, at_once, in_lanes}
 use Rattle.mbj_manager.specs.Machine.{changed, without_first, stage_done}
 use Rattle.mbj_manager.specs.Course.{in_lanes_next, stages_left}
 use Rattle.mbj_manager.specs.Between.{HasRounds}
+use Rattle.mbj_manager.specs.Inside.Standing.{left_at, times}
 use Rattle.mbj_manager.proofs.Changing.{at-changed, other-changed, each-changed, length-changed, sum-changed}
-use Rattle.mbj_manager.proofs.Times.{times, times-here, times-there}
-
--- the stages that are left of the job n
-abbrev pub left_at : ℕ → List (List Pending) → List Pending
-left_at n left = slice_index_or left n []
+use Rattle.mbj_manager.proofs.Times.{times-here, times-there}
 
 -- ---- a stage is done
 

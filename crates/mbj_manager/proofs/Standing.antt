@@ -1,32 +1,15 @@
 -- Where each job stands within a course, and where it stands once a list ran.
-use Rattle.std.proofs.Common.{◌≡◌, ◌≢◌, ℕ, ◌+◌, ◌*◌, ◌%◌, ◌≤◌, ◌<◌, ◌==◌, List, [], ◌∷◌, ◌++◌, length, cond, ◌⊎◌, inl, inr, refl, ap, sym, ◌∙◌, subst, arith}
-use Rattle.std.specs.Prelude.{All}
+use Rattle.std.proofs.Common.{◌≡◌, ◌≢◌, ℕ, ◌+◌, ◌≤◌, ◌<◌, ◌==◌, List, [], ◌∷◌, ◌++◌, length, cond, inl, inr, refl, ap, sym, ◌∙◌, subst, arith}
 use Rattle.std.proofs.lemmas.Bool.{cases_lt}
 use Rattle.std.proofs.lemmas.List.Sums.{sum_by-append}
 use Rattle.mbj_types.specs.declared.kind.Kind.{Kind}
-use Rattle.mbj_types.specs.Kinds.{lanes_of}
 use Rattle.mbj_manager.specs.Rounds.{Pending, at_once, in_lanes}
-use Rattle.mbj_manager.specs.Machine.{Waiting, Lane, Machine, count_end, lane_of, leavers, ran, shortened, stayers}
-use Rattle.mbj_manager.specs.Between.{HasRounds, IsPlaced, times_in}
+use Rattle.mbj_manager.specs.Machine.{Waiting, Lane, Machine, lane_of, leavers, ran, shortened, stayers}
+use Rattle.mbj_manager.specs.Between.{IsPlaced, times_in}
+use Rattle.mbj_manager.specs.Inside.Standing.{Stands, left_at, times}
 use Rattle.mbj_manager.proofs.Lanes.{same-kind, each-lane}
-use Rattle.mbj_manager.proofs.Times.{times, times-leave, times-shortened}
-use Rattle.mbj_manager.proofs.StagesLeft.{left_at, stage-stays}
-
--- the job n stands in the agenda and in no list, or it doesn't stand in the agenda and is placed by the stages left of it
-abbrev pub Stands : Machine → ℕ → Type 0
-Stands m n = ((times n m.agenda ≡ 1) × IsPlaced m n []) ⊎ ((times n m.agenda ≡ 0) × IsPlaced m n (left_at n m.left))
-
--- what holds of the lanes of a kind after each step
-pub record IsLane (k : Kind) (l : Lane) : Type 0 where
-  pub few : length l.waiting < lanes_of k
-  pub rests : All (λ w. 1 ≤ w.rest) l.waiting
-  pub blocks : l.blocks ≡ (lanes_of k * l.rounds) % count_end
-
--- what holds of the machine after each step of a course
-pub record IsWithin (m : Machine) : Type 0 where
-  pub lanes : (k : Kind) → IsLane k (lane_of k m)
-  pub stages : (n : ℕ) → All HasRounds (left_at n m.left)
-  pub stands : (n : ℕ) → Stands m n
+use Rattle.mbj_manager.proofs.Times.{times-leave, times-shortened}
+use Rattle.mbj_manager.proofs.StagesLeft.{stage-stays}
 
 -- ---- a job whose places don't change
 

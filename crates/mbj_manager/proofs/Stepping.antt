@@ -10,11 +10,12 @@ use Rattle.mbj_manager.specs.Rounds.{Pending, at_once, in_lanes}
 use Rattle.mbj_manager.specs.Machine.{Lane, Machine, Within, changed, lane_of, run_within, with_lane, with_waiting}
 use Rattle.mbj_manager.specs.Course.{in_lanes_next, joined, goes_on, stepped_at, stages_left, steps_ahead, waits}
 use Rattle.mbj_manager.specs.Between.{HasRounds, IsPlaced, times_in}
+use Rattle.mbj_manager.specs.Inside.Standing.{IsLane, IsWithin, Stands, left_at, times}
 use Rattle.mbj_manager.proofs.Changing.{at-changed, other-changed, each-changed}
 use Rattle.mbj_manager.proofs.Lanes.{each-lane, given-lane, other-lane}
-use Rattle.mbj_manager.proofs.Times.{times, times-here, times-there, times-joined, times-joined-other}
-use Rattle.mbj_manager.proofs.StagesLeft.{left_at, next-in-lanes, next-rounds, no-more-stages}
-use Rattle.mbj_manager.proofs.Standing.{IsLane, IsWithin, Stands, same-stands}
+use Rattle.mbj_manager.proofs.Times.{times-here, times-there, times-joined, times-joined-other}
+use Rattle.mbj_manager.proofs.StagesLeft.{next-in-lanes, next-rounds, no-more-stages}
+use Rattle.mbj_manager.proofs.Standing.{same-stands}
 use Rattle.mbj_manager.proofs.Running.{IsFilled, IsReady, run-keeps}
 
 -- after comes of the machine m, and no more is ahead of it
@@ -24,7 +25,7 @@ record Follows (after m : Machine) : Type 0 where
   ahead : steps_ahead after ≤ steps_ahead m
 
 -- the job n is out of the agenda and goes on; else the machine is as it is after each step
-record IsTaken (n : ℕ) (m : Machine) : Type 0 where
+pub record IsTaken (n : ℕ) (m : Machine) : Type 0 where
   lanes : (k : Kind) → IsLane k (lane_of k m)
   stages : (i : ℕ) → All HasRounds (left_at i m.left)
   off : times n m.agenda ≡ 0
@@ -38,7 +39,7 @@ abbrev longer : Kind → ℕ → ℕ → Machine → Lane
 longer k n rest m = with_waiting (lane_of k m) ((lane_of k m).waiting ++ waits n rest ∷ [])
 
 -- the machine with them
-abbrev grown : Kind → ℕ → ℕ → Machine → Machine
+abbrev pub grown : Kind → ℕ → ℕ → Machine → Machine
 grown k n rest m = record m { lanes = with_lane k (longer k n rest m) m.lanes }
 
 -- the longer list may be full
@@ -77,7 +78,7 @@ joined-other k n rest i m ne stands =
     refl refl stands
 
 -- the machine whose list the job joined may run that list
-grown-ready : (k : Kind) (n rest : ℕ) (left : List Pending) (m : Machine) → IsTaken n m → left_at n m.left ≡ in_lanes k rest ∷ left
+pub grown-ready : (k : Kind) (n rest : ℕ) (left : List Pending) (m : Machine) → IsTaken n m → left_at n m.left ≡ in_lanes k rest ∷ left
     → IsReady k (grown k n rest m)
 grown-ready k n rest left m taken next =
     let l = longer k n rest m in
@@ -120,18 +121,18 @@ joins at k n rest left m taken next =
 -- ---- a job is taken
 
 -- the machine whose agenda had the job n in front of these
-abbrev take_first : ℕ → List ℕ → Machine → Machine
+abbrev pub take_first : ℕ → List ℕ → Machine → Machine
 take_first n agenda m = record m { left = changed in_lanes_next n m.left; agenda = agenda }
 
 -- the agenda's first stands there once and in no list
-first-off : (n : ℕ) (agenda : List ℕ) (m : Machine) → m.agenda ≡ n ∷ agenda → Stands m n
+pub first-off : (n : ℕ) (agenda : List ℕ) (m : Machine) → m.agenda ≡ n ∷ agenda → Stands m n
     → (times n agenda ≡ 0) × IsPlaced m n []
 first-off n agenda m first stands =
     let here : times n m.agenda ≡ 1 + times n agenda = ap (times n) first ∙ times-here n agenda in
     elim stands [ inl a ↦ ((let one = a.0 in omega arith), a.1) | inr p ↦ absurd (let none = p.0 in omega arith) ]
 
 -- once it is taken it goes on
-takes : (n : ℕ) (agenda : List ℕ) (m : Machine) → m.agenda ≡ n ∷ agenda → IsWithin m → IsTaken n (take_first n agenda m)
+pub takes : (n : ℕ) (agenda : List ℕ) (m : Machine) → m.agenda ≡ n ∷ agenda → IsWithin m → IsTaken n (take_first n agenda m)
 takes n agenda m first within =
     let off = first-off n agenda m first (within.stands n) in
     record {

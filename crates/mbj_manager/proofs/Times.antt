@@ -1,16 +1,13 @@
 -- How often a job stands in a list.
 use Rattle.std.proofs.Common.{◌≡◌, ◌≢◌, ℕ, ◌+◌, ◌==◌, List, [], ◌∷◌, ◌++◌, map, cond, not, refl, ap, sym, ◌∙◌, arith}
-use Rattle.std.specs.Prelude.{sum_by, count_by, filter}
+use Rattle.std.specs.Prelude.{sum_by, filter}
 use Rattle.std.proofs.lemmas.Bool.{eq-eqb, ne_eqb, cond-true, cond-false}
 use Rattle.std.proofs.lemmas.List.Sums.{sum_by-cons, sum_by_push}
 use Rattle.std.proofs.lemmas.List.Filters.{sum_by-filter_both}
 use Rattle.mbj_manager.specs.Machine.{Waiting, least, lowered, shortened, is_at_end, leavers, stayers}
 use Rattle.mbj_manager.specs.Course.{waits}
 use Rattle.mbj_manager.specs.Between.{times_in}
-
--- how often n stands in a list of numbers
-abbrev pub times : ℕ → List ℕ → ℕ
-times n ns = count_by (λ k. k == n) ns
+use Rattle.mbj_manager.specs.Inside.Standing.{times}
 
 -- one more of n in front
 pub times-here : (n : ℕ) (ns : List ℕ) → times n (n ∷ ns) ≡ 1 + times n ns

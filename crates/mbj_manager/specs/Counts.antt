@@ -1,8 +1,8 @@
 -- Which counts a run of a list goes into.
-use Rattle.std.specs.Prelude.{◌≡◌, ℕ}
+use Rattle.std.specs.Prelude.{◌≡◌, ℕ, ◌+◌, ◌%◌, ◌≤◌}
 use Rattle.mbj_types.specs.declared.kind.Kind.{Kind}
-use Rattle.mbj_manager.specs.Machine.{Machine, lane_of, submit}
-use Rattle.mbj_manager.specs.Course.{course, flushed}
+use Rattle.mbj_manager.specs.Machine.{Machine, count_end, lane_of, submit}
+use Rattle.mbj_manager.specs.Course.{course, flushed, stages_left}
 
 -- the rounds of a kind's full runs, and their blocks
 abbrev pub full_runs : Kind → Machine → ℕ × ℕ
@@ -14,3 +14,15 @@ pub record CountsApart (m : Machine) : Type 0 where
   pub submitting : (course submit m).flush_runs ≡ m.flush_runs
   -- a list that fills as jobs go on within a flush is no full run
   pub flushing : (k : Kind) → full_runs k (flushed m) ≡ full_runs k m
+
+-- after is the machine m after so many runs within a flush, each of which ended a stage
+pub record RunsFew (after m : Machine) : Type 0 where
+  pub count : ℕ
+  pub few : count + stages_left after.left ≤ stages_left m.left
+  pub is : after.flush_runs % count_end ≡ (m.flush_runs + count) % count_end
+
+-- a count, which is kept modulo its end, rises by so many at most
+pub record RisesUpTo (most old new : ℕ) : Type 0 where
+  pub by : ℕ
+  pub few : by ≤ most
+  pub is : new % count_end ≡ (old + by) % count_end

@@ -8,11 +8,16 @@ use Rattle.mbj_manager.specs.State.{ManagerState, with_open}
 use Rattle.mbj_manager.specs.declared.cell.Cell.{Cell}
 use Rattle.mbj_manager.specs.declared.cell.Cell.TheVariants as cell
 use Rattle.mbj_manager.specs.contracts.cell.Cell.{the_row as cell_row}
+use Rattle.mbj_manager.specs.contracts.works.Works.{the_row as works_row}
 use Rattle.mbj_manager.specs.contracts.manager.Manager.{the_row}
 
 -- the cell holds the job that was last written through r
 abbrev pub LendsJobIn : MutBor Cell → MutBor Job → Fml
 LendsJobIn c r = Lends cell_row job_row c r (λ j. cell.Open j)
+
+-- the open job of the works is what was last written through r
+abbrev pub LendsOpenJob : MutBor ManagerState → MutBor Job → Fml
+LendsOpenJob w r = Lends works_row job_row w r (with_open w.now)
 
 -- the open job is what was last written through r
 abbrev pub LendsOpen : MutBor ManagerState → MutBor Job → Fml

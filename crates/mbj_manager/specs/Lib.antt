@@ -5,5 +5,5 @@ pub mod Counts
 pub mod State
 pub mod Calls
 pub mod Between
-pub mod Held
+pub mod Inside
 pub mod Lending

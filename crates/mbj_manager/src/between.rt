@@ -11,7 +11,8 @@ pub fn machines_stay_between_calls()
 {}
 
 /// A law: after every list of calls on a new manager its machine is one between two calls, and a flush gives the earliest job
-/// back where there is one.
+/// back where there is one. The flush adds to the count of its runs at most twice as many as there are jobs that are submitted
+/// and not given back.
 pub fn calls_keep_the_machine()
     ensures { (calls : List Call) → AreKept calls }
 {}

@@ -1,11 +1,16 @@
-ghost use Rattle.std.specs.Prelude.{◌≡◌};
+ghost use Rattle.std.specs.Prelude.{◌≡◌, ◌≢◌, ◌≤◌, None, Some, length};
 ghost use Rattle.std.specs.Borrow.{sem};
-ghost use Rattle.mbj_types.specs.Result.{result_of};
-ghost use Rattle.mbj_stage.specs.Going.{owed, stage_of};
+ghost use Rattle.mbj_lane.specs.Rounds.{end_of};
+ghost use Rattle.mbj_stage.specs.Going.{begun, owed, stage_of};
+ghost use Rattle.mbj_stage.specs.Handing.{handed_out, taken_back};
 ghost use Rattle.mbj_stage.specs.declared.stage.Stage.TheVariants as stage;
-ghost use Rattle.mbj_manager.specs.Held.{IsOpen, IsFinished, job_in, owed_in};
+ghost use Rattle.mbj_manager.specs.Rounds.{pending};
+ghost use Rattle.mbj_manager.specs.Course.{in_lanes_next};
 ghost use Rattle.mbj_manager.specs.Lending.{LendsJobIn};
+ghost use Rattle.mbj_manager.specs.Inside.Courses.{Follows, IsGoing, IsOpen, course_in, job_in};
+ghost use Rattle.mbj_manager.specs.Inside.Leaving.{Gives, IsNext, IsOut};
 
+use crate::feed::Feed;
 use mbj_stage::{Course, Stage};
 use mbj_types::{Done, Job};
 use std::alloc::Global;
@@ -20,16 +25,16 @@ pub enum Cell {
     Going(Course),
 }
 
-/// Does the stages that finish at once, until none of them is next.
-fn run_stages(course: &mut Course)
-    ensures owed { owed course.new ≡ owed course.old }
-    ensures finished { stage_of course.new ≡ stage.Finished }
+/// Does the stages that finish at once. Answers what is next then.
+fn run_nows(course: &mut Course) -> Stage
+    requires { course.old.out ≡ None }
+    ensures follows { Follows course.new course.old }
+    ensures stage { result ≡ stage_of course.new }
 {
     'stages: loop {
         match course.next_stage() {
             Stage::Now => course.run_now(),
-            Stage::Lane(_) => unreachable!(),
-            Stage::Finished => return,
+            stage => return stage,
         }
     }
 }
@@ -47,27 +52,76 @@ impl Cell {
         }
     }
 
-    /// Begins the course of the job that was filled, and does what finishes at once. It takes no memory: the allocator
-    /// is that of a blank job.
-    pub(crate) fn submit(&mut self, alloc: Global)
+    /// Begins the course of the job that was filled. It takes no memory: the allocator is that of a blank job.
+    pub(crate) fn begin(&mut self, alloc: Global)
         requires { IsOpen self.old }
-        ensures owed { owed_in self.new ≡ result_of (job_in self.old) }
-        ensures finished { IsFinished self.new }
+        ensures { self.new ≡ Cell.Going (begun (job_in self.old)) }
     {
         match mem::replace(self, Cell::Open(Job::blank(alloc))) {
-            Cell::Open(job) => {
-                let mut course = Course::begin(job);
-                run_stages(&mut course);
-                *self = Cell::Going(course);
-            }
+            Cell::Open(job) => *self = Cell::Going(Course::begin(job)),
             Cell::Going(_) => unreachable!(),
+        }
+    }
+
+    /// What is next in the course.
+    pub(crate) fn next_stage(&self) -> Stage
+        requires { IsGoing self.now }
+        ensures { result ≡ stage_of (course_in self.now) }
+    {
+        match self {
+            Cell::Going(course) => course.next_stage(),
+            Cell::Open(_) => unreachable!(),
+        }
+    }
+
+    /// Does what finishes at once. Answers what is next then.
+    pub(crate) fn run_nows(&mut self) -> Stage
+        requires going { IsGoing self.old }
+        requires here { (course_in self.old).out ≡ None }
+        ensures going { IsGoing self.new }
+        ensures follows { Follows (course_in self.new) (course_in self.old) }
+        ensures stage { result ≡ stage_of (course_in self.new) }
+    {
+        match self {
+            Cell::Going(course) => run_nows(course),
+            Cell::Open(_) => unreachable!(),
+        }
+    }
+
+    /// Hands the packet of the course out.
+    pub(crate) fn hand_out<K: Feed>(&mut self) -> K::Entry
+        requires going { IsGoing self.old }
+        requires next { IsNext K.kind (course_in self.old) }
+        ensures going { IsGoing self.new }
+        ensures out { course_in self.new ≡ handed_out (course_in self.old) }
+        ensures gives { Gives K.kind (K.rest_of result) (K.brings (end_of K.round K.rest_of result)) (course_in self.old) }
+        ensures some { 1 ≤ K.rest_of result }
+    {
+        match self {
+            Cell::Going(course) => K::hand_out(course),
+            Cell::Open(_) => unreachable!(),
+        }
+    }
+
+    /// Takes an entry back that has no round left.
+    pub(crate) fn take_back<K: Feed>(&mut self, entry: K::Entry)
+        requires going { IsGoing self.old }
+        requires out { IsOut K.kind (K.brings entry) (course_in self.old) }
+        requires done { K.rest_of entry ≡ 0 }
+        ensures going { IsGoing self.new }
+        ensures back { course_in self.new ≡ taken_back (K.brings entry) (course_in self.old) }
+    {
+        match self {
+            Cell::Going(course) => K::take_back(course, entry),
+            Cell::Open(_) => unreachable!(),
         }
     }
 
     /// The result of a job that is finished.
     pub(crate) fn into_done(self) -> Done
-        requires { IsFinished self }
-        ensures { result ≡ owed_in self }
+        requires going { IsGoing self }
+        requires finished { stage_of (course_in self) ≡ stage.Finished }
+        ensures { result ≡ owed (course_in self) }
     {
         match self {
             Cell::Going(course) => course.into_done(),

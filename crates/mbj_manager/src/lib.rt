@@ -2,19 +2,41 @@
 //! submission.
 #![tactic(auto)]
 
+mod agenda;
 mod between;
 mod calls;
 mod cell;
 mod counts;
+mod feed;
+mod kernels;
+mod lane;
+mod lists;
 mod manager;
+mod queue;
+mod works;
 
 pub use between::{calls_keep_the_machine, machines_stay_between_calls};
 pub use calls::results_come_back_in_order;
 // A crate can name a manager in a contract only if the types of its fields are exported.
 #[doc(hidden)]
+pub use agenda::Agenda;
+#[doc(hidden)]
 pub use cell::Cell;
 pub use counts::counts_are_kept_apart;
+pub use feed::Feed;
+pub use kernels::{
+    Cbc128Kernel, Cbc192Kernel, Cbc256Kernel, Cmac128Kernel, Cmac256Kernel, HmacSha1Kernel,
+    HmacSha256Kernel, HmacSha512Kernel,
+};
+#[doc(hidden)]
+pub use lane::Cause;
+#[doc(hidden)]
+pub use lists::Lists;
 pub use manager::Manager;
+#[doc(hidden)]
+pub use queue::{Place, Queue};
+#[doc(hidden)]
+pub use works::Works;
 
 #[cfg(test)]
 mod tests;

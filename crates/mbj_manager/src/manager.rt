@@ -1,14 +1,16 @@
-ghost use Rattle.std.specs.Prelude.{◌≡◌, ◌↔◌, ◌<◌, ◌≤◌, ◌++◌, [], None, IfOk, OnOk, OnErr, IsSome, IsTrue, length, map, option_to_list};
+ghost use Rattle.std.specs.Prelude.{◌≡◌, ◌↔◌, ◌*◌, ◌%◌, ◌<◌, ◌≤◌, ◌++◌, [], None, IfOk, OnOk, OnErr, IsSome, IsTrue, length, map, option_to_list};
 ghost use Rattle.std.specs.Bool.{OnFalse};
 ghost use Rattle.std.specs.Borrow.{sem};
 ghost use Rattle.mbj_types.specs.Result.{result_of};
 ghost use Rattle.mbj_ring.specs.declared.ring.TheConstants.{CELLS};
-ghost use Rattle.mbj_manager.specs.Machine.{idle_lanes, lane_of};
+ghost use Rattle.mbj_types.specs.Kinds.{lanes_of};
+ghost use Rattle.mbj_manager.specs.Machine.{count_end, lane_of};
 ghost use Rattle.mbj_manager.specs.State.{IsEarliestFinished, entered, flushing, given, lent, new_manager, room_made, submitted, with_open};
 ghost use Rattle.mbj_manager.specs.Lending.{LendsNext, LendsOpen};
 
-use crate::cell::Cell;
-use mbj_ring::{CELLS, Ring};
+use crate::lane::Cause;
+use crate::works::Works;
+use mbj_ring::CELLS;
 use mbj_types::{Done, Job, Kind, RingFull};
 use std::alloc::{AllocError, Global};
 use std::marker::Model;
@@ -22,19 +24,20 @@ use std::marker::Model;
 /// `new` takes all the memory of the cells; no other call takes any. At most 256 jobs are submitted and not given back.
 #[derive(Drop)]
 pub struct Manager {
-    ring: Ring<Cell>,
+    works: Works,
     alloc: Global,
 }
 
 impl Model for Manager {
+    ghost use Rattle.std.specs.Prelude.{◌≡◌, []};
     ghost use Rattle.mbj_manager.specs.State.{ManagerState};
-    ghost use Rattle.mbj_manager.specs.Held.{held, IsHeld};
 
     ghost Value = { ManagerState };
 
-    ghost view = { λ m. held m.ring };
+    ghost view = { λ m. m.works };
 
-    ghost invariant = { λ m. IsHeld m.ring };
+    // Between calls nobody stands between two stages.
+    ghost invariant = { λ m. m.works.machine.agenda ≡ [] };
 }
 
 impl Manager {
@@ -44,8 +47,8 @@ impl Manager {
     pub fn new(alloc: Global) -> Result<Manager, AllocError>
         ensures { IfOk result (λ m. m ≡ new_manager) }
     {
-        let ring = Ring::new(alloc)?;
-        Ok(Manager { ring, alloc })
+        let works = Works::new(alloc)?;
+        Ok(Manager { works, alloc })
     }
 
     /// Lends the open job, to be filled: a blank one where none was open, else that one as it was written. What is
@@ -61,7 +64,7 @@ impl Manager {
         if self.is_full() {
             return Err(RingFull);
         }
-        self.open_cell();
+        self.works.open_cell(self.alloc);
         Ok(self.open_job())
     }
 
@@ -70,7 +73,7 @@ impl Manager {
         ensures full { IsTrue result ↔ (length self.now.owed ≡ CELLS) }
         ensures room { OnFalse result (length self.now.owed < CELLS) }
     {
-        self.ring.len() == CELLS
+        self.works.len() == CELLS
     }
 
     /// Where no cell is left, flushes the earliest job and gives it back.
@@ -97,25 +100,12 @@ impl Manager {
         }
     }
 
-    /// Opens a cell with a blank job, where none is open.
-    fn open_cell(&mut self)
-        requires { length self.old.owed < CELLS }
-        ensures { self.new ≡ with_open self.old (lent self.old) }
-    {
-        if !self.ring.has_open() {
-            self.ring.open_cell(Cell::Open(Job::blank(self.alloc)));
-        }
-    }
-
     fn open_job(&mut self) -> &mut Job
         requires { IsSome self.old.opened }
         ensures* lends { sem 𝓛 (LendsOpen self.entry result) }
         ensures value { result.now ≡ lent self.old }
     {
-        match self.ring.open_mut() {
-            Some(cell) => cell.job_mut(),
-            None => unreachable!(),
-        }
+        self.works.open_job()
     }
 
     /// Submits the open job as it is: the results that are owed get its result, its stages are done, and then the earliest
@@ -135,16 +125,13 @@ impl Manager {
         self.get_completed()
     }
 
-    /// The open job goes last among those that are submitted, and its stages are done.
+    /// The open job goes last among those that are submitted, and the course is followed from it.
     fn enter(&mut self)
         requires { IsSome self.old.opened }
         ensures { self.new ≡ entered self.old }
     {
-        match self.ring.open_mut() {
-            Some(cell) => cell.submit(self.alloc),
-            None => unreachable!(),
-        }
-        self.ring.commit();
+        self.works.add(self.alloc);
+        self.works.settle(Cause::Submit);
     }
 
     /// Gives the earliest job back where it is finished, and runs nothing.
@@ -158,10 +145,7 @@ impl Manager {
         ensures some { IsEarliestFinished self.old → IsSome result }
         ensures order { option_to_list result ++ self.new.owed ≡ self.old.owed }
     {
-        match self.ring.pop() {
-            Some(cell) => Some(cell.into_done()),
-            None => None,
-        }
+        self.works.give()
     }
 
     /// Finishes the earliest job, and gives it back. An open cell stays as it is.
@@ -174,9 +158,8 @@ impl Manager {
         ensures open_stays { self.new.opened ≡ self.old.opened }
         ensures order { option_to_list result ++ self.new.owed ≡ self.old.owed }
     {
-        // By the invariant each submitted job is finished.
-        let _cells = &self.ring;
-        self.get_completed()
+        self.works.flush_first();
+        self.works.give()
     }
 
     /// How many jobs are submitted and not given back, at most 256.
@@ -184,45 +167,35 @@ impl Manager {
         ensures size { result ≡ length self.now.owed }
         ensures within { result ≤ CELLS }
     {
-        self.ring.len()
+        self.works.len()
     }
 
     /// How many jobs of a kind wait for lanes.
-    pub fn waiting(&self, _kind: Kind) -> u32
-        ensures { result ≡ length (lane_of _kind self.now.machine).waiting }
+    pub fn waiting(&self, kind: Kind) -> u32
+        ensures { result ≡ length (lane_of kind self.now.machine).waiting }
     {
-        self.idle_count()
+        self.works.waiting(kind)
     }
 
     /// How many rounds the full runs of a kind took, modulo 2^64.
-    pub fn rounds(&self, _kind: Kind) -> u64
-        ensures { result ≡ (lane_of _kind self.now.machine).rounds }
+    pub fn rounds(&self, kind: Kind) -> u64
+        ensures { result ≡ (lane_of kind self.now.machine).rounds }
     {
-        self.idle_count() as u64
+        self.works.rounds(kind)
     }
 
-    /// How many blocks went through the full runs of a kind, modulo 2^64.
-    pub fn blocks(&self, _kind: Kind) -> u64
-        ensures { result ≡ (lane_of _kind self.now.machine).blocks }
+    /// How many blocks went through the full runs of a kind, modulo 2^64: as many as its lanes in each round.
+    pub fn blocks(&self, kind: Kind) -> u64
+        ensures blocks { result ≡ (lane_of kind self.now.machine).blocks }
+        ensures full { result ≡ (lanes_of kind * (lane_of kind self.now.machine).rounds) % count_end }
     {
-        self.idle_count() as u64
+        self.works.blocks(kind)
     }
 
     /// How many runs there were within `flush`, modulo 2^64.
     pub fn flush_runs(&self) -> u64
         ensures { result ≡ self.now.machine.flush_runs }
     {
-        self.idle_count() as u64
-    }
-
-    /// What is counted of the lanes: nothing, since every stage finishes at once.
-    fn idle_count(&self) -> u32
-        ensures zero { result ≡ 0 }
-        ensures lanes { self.now.machine.lanes ≡ idle_lanes }
-        ensures flush_runs { self.now.machine.flush_runs ≡ 0 }
-    {
-        // By the invariant no lanes are used.
-        let _ = &self.ring;
-        0
+        self.works.flush_runs()
     }
 }

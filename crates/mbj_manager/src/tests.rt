@@ -2,7 +2,7 @@ ghost use Rattle.std.specs.Prelude.{◌≡◌, ◌≤◌, IfOk, OnOk, length, So
 ghost use Rattle.mbj_types.specs.declared.job.Job.{Job};
 
 use super::*;
-use mbj_types::{Auth, Bytes, Done, Job, Kind, Reason, RingFull, Status};
+use mbj_types::{Auth, Bytes, Cipher, Done, Job, Kind, Order, Reason, RingFull, Status};
 use std::alloc::{AllocError, Global};
 use std::test::Fail;
 
@@ -89,6 +89,115 @@ fn a_refused_job_comes_back_in_its_place(rt: HostRuntime) -> Result<(), Fail> {
         None => assert!(rt; false),
     }
     assert!(rt; manager.get_completed().is_none());
+    Ok(())
+}
+
+/// Submits an HMAC-SHA-512 under a key of 20 bytes 0b over zero bytes, with a tag of 64 bytes less `number`. Answers the
+/// number of the job that comes back.
+fn submit_hmac(
+    manager: &mut Manager,
+    alloc: Global,
+    number: u8,
+    zeros: u32,
+) -> Result<Option<usize>, AllocError> {
+    let job = match manager.get_next() {
+        Ok(job) => job,
+        Err(RingFull) => return Ok(None),
+    };
+    job.auth = Auth::HmacSha512;
+    job.auth_key = Bytes::from_vec([0x0b; 20].to_vec(alloc)?);
+    job.packet = Bytes::from_vec(Vec::from_elem(alloc, 0, zeros as usize)?);
+    job.hash_len = zeros;
+    job.tag_len = 64u8.saturating_sub(number);
+    Ok(number_of(manager.submit()))
+}
+
+fn number_of(done: Option<Done>) -> Option<usize> {
+    match done {
+        Some(done) => Some(64usize.saturating_sub(done.tag.bytes().len())),
+        None => None,
+    }
+}
+
+// The rests are 4, 5, 4 and 6. The full run by 4 ends the first and the third job, and the flush runs by 1, twice.
+#[test]
+fn jobs_wait_until_all_lanes_are_in_use(rt: HostRuntime) -> Result<(), Fail> {
+    let mut manager = Manager::new(rt.alloc())?;
+    assert_eq!(rt; submit_hmac(&mut manager, rt.alloc(), 0, 0)?, None);
+    assert_eq!(rt; submit_hmac(&mut manager, rt.alloc(), 1, 112)?, None);
+    assert_eq!(rt; submit_hmac(&mut manager, rt.alloc(), 2, 0)?, None);
+    assert_eq!(rt; manager.waiting(Kind::HmacSha512), 3);
+    assert_eq!(rt; submit_hmac(&mut manager, rt.alloc(), 3, 300)?, Some(0));
+    assert_eq!(rt; manager.waiting(Kind::HmacSha512), 2);
+    assert_eq!(rt; number_of(manager.get_completed()), None);
+    assert_eq!(rt; number_of(manager.flush()), Some(1));
+    assert_eq!(rt; number_of(manager.flush()), Some(2));
+    assert_eq!(rt; number_of(manager.flush()), Some(3));
+    assert_eq!(rt; number_of(manager.flush()), None);
+    assert_eq!(rt; manager.rounds(Kind::HmacSha512), 4);
+    assert_eq!(rt; manager.blocks(Kind::HmacSha512), 16);
+    assert_eq!(rt; manager.flush_runs(), 2);
+    Ok(())
+}
+
+/// SP 800-38A, F.2.1: the key, the IV, the first block of the plaintext, and that of the ciphertext.
+const CBC: [u128; 4] = [
+    0x2b7e151628aed2a6abf7158809cf4f3c,
+    0x000102030405060708090a0b0c0d0e0f,
+    0x6bc1bee22e409f96e93d7e117393172a,
+    0x7649abac8119b246cee98e9b12e9197d,
+];
+
+fn bytes(alloc: Global, block: u128) -> Result<Bytes, AllocError> {
+    Ok(Bytes::from_vec(block.to_be_bytes().to_vec(alloc)?))
+}
+
+/// A job whose packet is "Hi There", which is authenticated, and a block, which is encrypted.
+fn encrypt_and_authenticate(alloc: Global, order: Order) -> Result<Job, AllocError> {
+    let mut job = Job::blank(alloc);
+    job.cipher = Cipher::Cbc;
+    job.order = order;
+    job.key = bytes(alloc, CBC[0])?;
+    job.iv = bytes(alloc, CBC[1])?;
+    job.cipher_off = 8;
+    job.cipher_len = 16;
+    job.auth = Auth::HmacSha1;
+    job.auth_key = Bytes::from_vec([0x0b; 20].to_vec(alloc)?);
+    job.hash_len = 8;
+    job.tag_len = 20;
+    let mut packet = b"Hi There".to_vec(alloc)?;
+    packet.extend_from_slice(&CBC[2].to_be_bytes())?;
+    job.packet = Bytes::from_vec(packet);
+    Ok(job)
+}
+
+fn is_done(done: &Done) -> bool {
+    let packet = done.packet.as_slice();
+    done.status == Status::Ok
+        && packet.strip_prefix(b"Hi There".as_slice()) == Some(CBC[3].to_be_bytes().as_slice())
+        && done.tag.bytes() == TAG.as_slice()
+}
+
+// The first job waits for CBC and the second one for HMAC. A flush runs CBC by one job, and HMAC by both; the next one runs
+// CBC by the second job.
+#[test]
+fn two_stages_go_through_lanes_in_either_order(rt: HostRuntime) -> Result<(), Fail> {
+    let mut manager = Manager::new(rt.alloc())?;
+    for order in [Order::CipherHash, Order::HashCipher] {
+        let job = encrypt_and_authenticate(rt.alloc(), order)?;
+        if !manager.is_full() {
+            manager.put_next(job);
+            assert!(rt; manager.submit().is_none());
+        }
+    }
+    for _ in 0..2 {
+        match manager.flush() {
+            Some(done) => assert!(rt; is_done(&done)),
+            None => assert!(rt; false),
+        }
+    }
+    assert!(rt; manager.flush().is_none());
+    assert_eq!(rt; manager.flush_runs(), 3);
     Ok(())
 }
 

@@ -220,6 +220,11 @@ unfolding ciphered
 length-by_verdict None j none = length-ciphered_by j.cipher j.dir j (is_ciphered j none)
 length-by_verdict (Some reason) j e = refl
 
+-- the cipher of an accepted job keeps the packet's length
+pub length-ciphered : (j : Job) → verdict j ≡ None → length (ciphered j j.packet) ≡ length j.packet
+unfolding ciphered
+length-ciphered j none = length-ciphered_by j.cipher j.dir j (is_ciphered j none)
+
 -- a result's packet is as long as its job's
 pub length-result_of : (j : Job) → length (result_of j).packet ≡ length j.packet
 unfolding result_of

@@ -1,7 +1,10 @@
 pub mod Gcms
 pub mod Packets
 pub mod Tags
+pub mod StagesOf
 pub mod Soundness
 pub mod Owing
 pub mod Lengths
-mod Handings
+pub mod EntryEnds
+pub mod HandingOut
+pub mod Handings

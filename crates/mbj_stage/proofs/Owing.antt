@@ -20,6 +20,7 @@ use Rattle.mbj_stage.specs.declared.stage.Step.TheVariants as step
 use Rattle.mbj_stage.specs.Steps.{cipher_steps, auth_steps, ordered, steps_of, steps_by, stage_at}
 use Rattle.mbj_stage.specs.Going.{Going, stage_of, begun, packet_after, tag_after, ran, ran_at, status_of, led_to, owed}
 use Rattle.mbj_stage.proofs.Gcms.{gcm_pair}
+use Rattle.mbj_stage.proofs.StagesOf.{finished-left}
 use Rattle.mbj_stage.proofs.Packets.{packet_after-packet, tag_after-packet, tag_over-packet}
 
 -- ---- at the start
@@ -112,23 +113,20 @@ unfolding owed
 owed-ran c h = led_to-ran c c.left h
 
 -- a course by its fields, when the first step has changed packet and tag
-pub ran-step : (j : Job) (p q tag t : List ℕ) (reason : Option Reason) (s : Step) (left all : List Step) → all ≡ s ∷ left
+pub ran-step : (j : Job) (p q tag t : List ℕ) (reason : Option Reason) (s : Step) (left all : List Step) (out : Option ℕ) → all ≡ s ∷ left
     → q ≡ packet_after s j p → t ≡ tag_after s j p tag
-    → record { job = record j { packet = q }; tag = t; reason = reason; left = left; out = None }
-    ≡ ran (record { job = record j { packet = p }; tag = tag; reason = reason; left = all; out = None })
-ran-step j p q tag t reason s left all is packet_is tag_is =
-    let next : List ℕ → List ℕ → Going = λ x y. record { job = record j { packet = x }; tag = y; reason = reason; left = left; out = None } in
+    → record { job = record j { packet = q }; tag = t; reason = reason; left = left; out = out }
+    ≡ ran (record { job = record j { packet = p }; tag = tag; reason = reason; left = all; out = out })
+ran-step j p q tag t reason s left all out is packet_is tag_is =
+    let next : List ℕ → List ℕ → Going = λ x y. record { job = record j { packet = x }; tag = y; reason = reason; left = left; out = out } in
     ap₂ next (packet_is ∙ sym (packet_after-packet s j p p)) (tag_is ∙ sym (tag_after-packet s j p p tag))
-    ∙ ap (λ (steps : List Step). ran (record { job = record j { packet = p }; tag = tag; reason = reason; left = steps; out = None })) (sym is)
+    ∙ ap (λ (steps : List Step). ran (record { job = record j { packet = p }; tag = tag; reason = reason; left = steps; out = out })) (sym is)
 
 -- ---- at the end
 
 led_to-finished : (reason : Option Reason) (j : Job) (tag : List ℕ) (left : List Step) → stage_at j left ≡ stage.Finished
     → record { status = status_of reason; packet = j.packet; tag = tag } ≡ led_to reason left j tag
-led_to-finished reason j tag [] h = refl
-led_to-finished reason j tag (step.Cipher ∷ left) h = absurd (cc)
-led_to-finished reason j tag (step.Auth ∷ left) h = absurd (cc)
-led_to-finished reason j tag (step.Gcm ∷ left) h = absurd (cc)
+led_to-finished reason j tag left h = ap (λ (steps : List Step). led_to reason steps j tag) (sym (finished-left j left h))
 
 -- where no step is left, what is owed is there
 pub owed-finished : (c : Going) → stage_of c ≡ stage.Finished

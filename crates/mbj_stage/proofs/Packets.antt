@@ -56,7 +56,7 @@ pub ciphered-packet : (j : Job) (p q : List ℕ) → ciphered (record j { packet
 unfolding ciphered
 ciphered-packet j p q = ciphered_by-packet j.cipher j.dir j p q
 
-mac_by-packet : (a : AuthClass) (j : Job) (p q : List ℕ) → mac_by a (record j { packet = q }) p ≡ mac_by a j p
+pub mac_by-packet : (a : AuthClass) (j : Job) (p q : List ℕ) → mac_by a (record j { packet = q }) p ≡ mac_by a j p
 unfolding gcm_of
 mac_by-packet no_auth j p q = refl
 mac_by-packet (hmac_auth h) j p q = refl

@@ -1,5 +1,5 @@
 -- That the fields of a course fit: at its start, and when a step is done.
-use Rattle.std.proofs.Common.{◌≡◌, ℕ, List, [], ◌∷◌, length, Option, Some, None, refl, sym, ap, ◌∙◌, subst}
+use Rattle.std.proofs.Common.{◌≡◌, ◌≢◌, ℕ, List, [], ◌∷◌, length, Option, Some, None, refl, sym, ap, ◌∙◌, subst}
 use Rattle.std.specs.List.{All}
 use Rattle.std.proofs.lemmas.List.Elements.{All-nil, All-cons, All-tail, All-append}
 use Rattle.mbj_types.specs.declared.job.Job.{Job}
@@ -12,8 +12,9 @@ use Rattle.mbj_types.specs.Auths.{AuthClass, no_auth, hmac_auth, cmac_auth, gcm_
 use Rattle.mbj_types.specs.Verdict.{verdict_at}
 use Rattle.mbj_stage.specs.declared.stage.Step.{Step}
 use Rattle.mbj_stage.specs.declared.stage.Step.TheVariants as step
-use Rattle.mbj_stage.specs.Steps.{cipher_steps, auth_steps, ordered, steps_of, steps_by, IsStepOf}
-use Rattle.mbj_stage.specs.Going.{IsSound}
+use Rattle.mbj_stage.specs.Steps.{cipher_steps, auth_steps, ordered, steps_of, steps_by, stage_at, IsStepOf}
+use Rattle.mbj_stage.specs.declared.stage.Stage.TheVariants as stage
+use Rattle.mbj_stage.specs.Going.{packet_length, IsSound}
 
 -- the one step of a list is a job's where it is so
 own_one : (j : Job) (s : Step) → IsStepOf j s → All (IsStepOf j) (s ∷ [])
@@ -44,20 +45,32 @@ own j =
 -- at the start, when another packet stands in the job
 pub sound_begun : (reason : Option Reason) (j : Job) (p q : List ℕ) (left : List Step)
     → verdict_at j (length j.packet) ≡ reason → p ≡ j.packet → left ≡ steps_by reason j
-    → IsSound (record j { packet = q }) p left
+    → IsSound (record j { packet = q }) p left None
 sound_begun None j p q left e is steps = record {
   accepted = λ _. ap (λ (x : List ℕ). verdict_at j (length x)) is ∙ e;
   own = subst (All (IsStepOf (record j { packet = q }))) (sym steps) (own (record j { packet = q }));
+  here = λ _. refl;
 }
 sound_begun (Some r) j p q left e is steps = record {
   accepted = λ some. absurd (some steps);
   own = subst (All (IsStepOf (record j { packet = q }))) (sym steps) (All-nil (IsStepOf (record j { packet = q })));
+  here = λ _. refl;
 }
 
 -- when a step is done, which keeps the packet's length
-pub sound_next : (j : Job) (p q : List ℕ) (s : Step) (left : List Step) → IsSound j p (s ∷ left) → length q ≡ length p
-    → IsSound j q left
-sound_next j p q s left h len = record {
+pub sound_next : (j : Job) (p q : List ℕ) (s : Step) (left : List Step) (out : Option ℕ) → IsSound j p (s ∷ left) out
+    → length q ≡ packet_length out p → IsSound j q left None
+sound_next j p q s left out h len = record {
   accepted = λ _. ap (verdict_at j) len ∙ h.accepted (λ none. cc);
   own = All-tail (IsStepOf j) s left h.own;
+  here = λ _. refl;
+}
+
+-- while the packet is out
+pub sound_out : (j : Job) (p : List ℕ) (left : List Step) → IsSound j p left None → stage_at j left ≢ stage.Now
+    → IsSound j [] left (Some (length p))
+sound_out j p left h lane = record {
+  accepted = h.accepted;
+  own = h.own;
+  here = λ now. absurd (lane now);
 }

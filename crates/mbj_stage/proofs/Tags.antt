@@ -1,14 +1,16 @@
 -- The tags of HMAC, CMAC and GCM jobs.
-use Rattle.std.proofs.Common.{◌≡◌, ℕ, ◌+◌, ◌-◌, ◌≤◌, ◌⊎◌, inl, inr, true, List, length, take, drop, refl, sym, ap, ◌∙◌, IfSome, IsSome, arith}
+use Rattle.std.proofs.Common.{◌≡◌, ℕ, ◌+◌, ◌-◌, ◌⊎◌, inl, inr, true, List, take, drop, refl, sym, ap, ◌∙◌, IfSome, IsSome, arith}
 use Rattle.mbj_types.specs.declared.job.Job.{Job}
 use Rattle.mbj_types.specs.declared.job.Auth.{Auth}
 use Rattle.mbj_types.specs.declared.job.Auth.TheVariants.{Cmac128, Cmac256}
-use Rattle.mbj_types.specs.Aes.{aes}
+use Rattle.mbj_types.specs.Aes.{aes, is_key_size}
 use Rattle.mbj_types.specs.Hmac.{hmac}
 use Rattle.mbj_types.specs.Auths.{AuthClass, no_auth, hmac_auth, cmac_auth, gcm_auth, class_of, hash_in}
 use Rattle.mbj_types.specs.Cmac.{cmac}
-use Rattle.mbj_types.specs.Verdict.{has_hash_range, most_tag_bytes}
+use Rattle.mbj_types.specs.Verdict.{has_hash_range, takes_auth_key}
 use Rattle.mbj_types.specs.Result.{hash_range, gcm_of, mac_by, tag_over}
+use Rattle.std.proofs.lemmas.Bool.{eqb-true}
+use Rattle.mbj_aes.specs.Bytes.{IsKeySize}
 use Rattle.mbj_stage.specs.Texts.{gcm_by}
 
 -- ---- HMAC
@@ -28,20 +30,17 @@ hmac_is_mac (hmac_auth hash) j p tag h is = is
 hmac_is_mac (cmac_auth key_bytes) j p tag h is = absurd (cc)
 hmac_is_mac gcm_auth j p tag h is = absurd (cc)
 
--- a tag that the argument table takes is no longer than the digest
-pub tag_within_digest : (a : AuthClass) (tag : List ℕ) (n : ℕ) → IsSome (hash_in a)
-    → IfSome (hash_in a) (λ h. length tag ≡ h.digest_bytes) → n ≤ most_tag_bytes a → n ≤ length tag
-tag_within_digest no_auth tag n h is le = absurd (cc)
-tag_within_digest (hmac_auth hash) tag n h is le = omega arith
-tag_within_digest (cmac_auth key_bytes) tag n h is le = absurd (cc)
-tag_within_digest gcm_auth tag n h is le = absurd (cc)
-
 -- ---- CMAC
 
--- a CMAC has 16 bytes of tag
-pub cmac_most : (a : Auth) → (a ≡ Cmac128) ⊎ (a ≡ Cmac256) → most_tag_bytes (class_of a) ≡ 16
-cmac_most a (inl h) = ap (λ (x : Auth). most_tag_bytes (class_of x)) h
-cmac_most a (inr h) = ap (λ (x : Auth). most_tag_bytes (class_of x)) h
+-- a CMAC is over the hash range
+pub cmac_has_range : (a : Auth) → (a ≡ Cmac128) ⊎ (a ≡ Cmac256) → has_hash_range (class_of a) ≡ true
+cmac_has_range a (inl h) = ap (λ (x : Auth). has_hash_range (class_of x)) h
+cmac_has_range a (inr h) = ap (λ (x : Auth). has_hash_range (class_of x)) h
+
+-- its key is one of AES
+pub cmac_key : (a : Auth) (n : ℕ) → (a ≡ Cmac128) ⊎ (a ≡ Cmac256) → takes_auth_key (class_of a) n ≡ true → IsKeySize n
+cmac_key a n (inl h) k = ap is_key_size (eqb-true n 16 (ap (λ (x : Auth). takes_auth_key (class_of x) n) (sym h) ∙ k))
+cmac_key a n (inr h) k = ap is_key_size (eqb-true n 32 (ap (λ (x : Auth). takes_auth_key (class_of x) n) (sym h) ∙ k))
 
 -- the value of a CMAC
 pub cmac_is_mac : (a : Auth) (j : Job) (p : List ℕ) → (a ≡ Cmac128) ⊎ (a ≡ Cmac256)

@@ -9,6 +9,7 @@ use Rattle.mbj_types.specs.declared.done.Status.{Status}
 use Rattle.mbj_types.specs.declared.done.Status.TheVariants as status
 use Rattle.mbj_types.specs.declared.reason.Reason.{Reason}
 use Rattle.mbj_stage.specs.declared.stage.Stage.{Stage}
+use Rattle.mbj_stage.specs.declared.stage.Stage.TheVariants as stage
 use Rattle.mbj_stage.specs.declared.stage.Step.{Step}
 use Rattle.mbj_stage.specs.declared.stage.Step.TheVariants as step
 use Rattle.mbj_stage.specs.Steps.{steps_by, stage_at, IsStepOf}
@@ -79,7 +80,14 @@ owed c = led_to c.reason c.left c.job c.tag
 
 -- ---- what the fields of a course keep
 
--- where a step is left no row of the argument table applies, and each step left is one of the job's
-pub record IsSound (j : Job) (p : List ℕ) (left : List Step) : Type 0 where
-  pub accepted : left ≢ [] → verdict_at j (length p) ≡ None
+-- the length of the packet p, or of the one that is out
+abbrev pub packet_length : Option ℕ → List ℕ → ℕ
+packet_length None p = length p
+packet_length (Some n) p = n
+
+-- where a step is left no row of the argument table applies, each step left is one of the job's, and a packet is out only while
+-- the first of them is done in lanes
+pub record IsSound (j : Job) (p : List ℕ) (left : List Step) (out : Option ℕ) : Type 0 where
+  pub accepted : left ≢ [] → verdict_at j (packet_length out p) ≡ None
   pub own : All (IsStepOf j) left
+  pub here : stage_at j left ≡ stage.Now → out ≡ None

@@ -43,8 +43,8 @@ abbrev pub owed_with : End → Going → Done
 owed_with e c = owed (taken_back e c)
 
 -- the end of an entry that does this step
-abbrev pub end_of : Step → Job → End
-end_of s j = record { packet = packet_after s j j.packet; mac = mac_by (class_of j.auth) j j.packet }
+abbrev pub stage_end : Step → Job → End
+stage_end s j = record { packet = packet_after s j j.packet; mac = mac_by (class_of j.auth) j j.packet }
 
 -- a step that is done in a lane: a cipher or an authentication alone
 abbrev pub IsForLanes : Step → Type 0
@@ -54,4 +54,4 @@ IsForLanes step.Gcm = ⊥
 
 -- a course owes the same while its packet is out in an entry that does its first step
 abbrev pub OwesTheSame : Going → Type 0
-OwesTheSame c = (s : Step) (left : List Step) → c.left ≡ s ∷ left → IsForLanes s → owed_with (end_of s c.job) (handed_out c) ≡ owed c
+OwesTheSame c = (s : Step) (left : List Step) → c.left ≡ s ∷ left → IsForLanes s → owed_with (stage_end s c.job) (handed_out c) ≡ owed c

@@ -1,4 +1,6 @@
 pub mod Steps
 pub mod Going
 pub mod Handing
+pub mod Ends
 pub mod Texts
+pub mod Inside

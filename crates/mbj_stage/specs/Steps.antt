@@ -1,9 +1,15 @@
 -- The steps of a job, and when each is done.
-use Rattle.std.specs.Prelude.{◌≡◌, List, [], ◌∷◌, ◌++◌, Option, Some, None}
+use Rattle.std.specs.Prelude.{◌≡◌, ◌==◌, ℕ, List, [], ◌∷◌, ◌++◌, length, Option, Some, None, if◌then◌else◌}
 use Rattle.mbj_types.specs.Auths.{AuthClass, no_auth, hmac_auth, cmac_auth, gcm_auth, class_of}
 use Rattle.mbj_types.specs.declared.job.Job.{Job}
 use Rattle.mbj_types.specs.declared.job.Cipher.{Cipher}
 use Rattle.mbj_types.specs.declared.job.Cipher.TheVariants as cipher
+use Rattle.mbj_types.specs.declared.job.Dir.{Dir}
+use Rattle.mbj_types.specs.declared.job.Dir.TheVariants.{Enc, Dec}
+use Rattle.mbj_types.specs.declared.job.Auth.{Auth}
+use Rattle.mbj_types.specs.declared.job.Auth.TheVariants as auth
+use Rattle.mbj_types.specs.declared.kind.Kind.{Kind}
+use Rattle.mbj_types.specs.declared.kind.Kind.TheVariants as kind
 use Rattle.mbj_types.specs.declared.job.Order.{Order}
 use Rattle.mbj_types.specs.declared.job.Order.TheVariants.{CipherHash, HashCipher}
 use Rattle.mbj_types.specs.declared.reason.Reason.{Reason}
@@ -53,13 +59,38 @@ steps_in steps.Done = []
 steps_in (steps.One first) = first ∷ []
 steps_in (steps.Two first second) = first ∷ second ∷ []
 
+-- the lanes in which CBC encrypts under a key of n bytes
+abbrev pub cbc_kind : ℕ → Kind
+cbc_kind n = if n == 16 then kind.Cbc128 else if n == 24 then kind.Cbc192 else kind.Cbc256
+
+-- when a cipher is done under a key of n bytes: CBC encryption in lanes, and all else at once, since it has blocks of one
+-- packet for every lane
+abbrev pub cipher_stage_by : Cipher → Dir → ℕ → Stage
+cipher_stage_by cipher.Null d n = stage.Now
+cipher_stage_by cipher.Cbc Enc n = stage.Lane (cbc_kind n)
+cipher_stage_by cipher.Cbc Dec n = stage.Now
+cipher_stage_by cipher.Ctr d n = stage.Now
+cipher_stage_by cipher.Gcm d n = stage.Now
+
+-- when an authentication is done: HMAC in the lanes of its hash, and CMAC in those of its key
+abbrev pub auth_stage_by : Auth → Stage
+auth_stage_by auth.Null = stage.Now
+auth_stage_by auth.HmacSha1 = stage.Lane kind.HmacSha1
+auth_stage_by auth.HmacSha224 = stage.Lane kind.HmacSha256
+auth_stage_by auth.HmacSha256 = stage.Lane kind.HmacSha256
+auth_stage_by auth.HmacSha384 = stage.Lane kind.HmacSha512
+auth_stage_by auth.HmacSha512 = stage.Lane kind.HmacSha512
+auth_stage_by auth.Cmac128 = stage.Lane kind.Cmac128
+auth_stage_by auth.Cmac256 = stage.Lane kind.Cmac256
+auth_stage_by auth.Gcm = stage.Now
+
 -- when a job's cipher is done
 abbrev pub cipher_stage : Job → Stage
-cipher_stage j = stage.Now
+cipher_stage j = cipher_stage_by j.cipher j.dir (length j.key)
 
 -- when a job's authentication is done
 abbrev pub auth_stage : Job → Stage
-auth_stage j = stage.Now
+auth_stage j = auth_stage_by j.auth
 
 -- when the first of the steps that are left is done
 abbrev pub stage_at : Job → List Step → Stage
@@ -67,3 +98,8 @@ stage_at j [] = stage.Finished
 stage_at j (step.Cipher ∷ left) = cipher_stage j
 stage_at j (step.Auth ∷ left) = auth_stage j
 stage_at j (step.Gcm ∷ left) = stage.Now
+
+-- the step is the first of those that are left
+abbrev pub IsFirst : Step → List Step → Type 0
+IsFirst s [] = ⊥
+IsFirst s (t ∷ left) = t ≡ s

@@ -1,19 +1,21 @@
-//! CBC and CTR on the cipher range of a packet.
+//! CBC decryption and CTR on the cipher range of a packet.
 
 ghost use Rattle.std.specs.Prelude.{◌≡◌, ◌%◌, ◌⊎◌, [], ◌∷◌, None, length};
 ghost use Rattle.mbj_types.specs.Verdict.{verdict_at};
 ghost use Rattle.mbj_types.specs.Result.{ciphered};
 ghost use Rattle.mbj_types.specs.declared.job.Cipher.TheVariants as cipher;
+ghost use Rattle.mbj_types.specs.declared.job.Dir.TheVariants as dir;
 ghost use Rattle.mbj_aes.specs.Bytes.{IsKeySize};
+ghost use Rattle.mbj_stage.specs.declared.stage.Stage.TheVariants as stage;
 ghost use Rattle.mbj_stage.specs.declared.stage.Step.TheVariants as step;
-ghost use Rattle.mbj_stage.specs.Steps.{cipher_steps};
+ghost use Rattle.mbj_stage.specs.Steps.{cipher_stage, cipher_steps};
 ghost use Rattle.mbj_stage.specs.Texts.{other_text};
 
 use mbj_aes::Schedule;
-use mbj_types::{Cipher, Dir, Job};
+use mbj_types::{Cipher, Job};
 
 /// The IV of a CBC job, a block.
-fn iv_block(iv: &[u8]) -> [u8; 16]
+pub(crate) fn iv_block(iv: &[u8]) -> [u8; 16]
     requires { length iv.now ≡ 16 }
     ensures { result ≡ iv.now }
 {
@@ -22,8 +24,9 @@ fn iv_block(iv: &[u8]) -> [u8; 16]
     block
 }
 
-/// CBC on a text, by a job's key, IV and direction.
-fn cbc(job: &Job, text: &mut [u8])
+/// Decrypts a text in CBC, by a job's key and IV.
+fn decrypt(job: &Job, text: &mut [u8])
+    requires dec { job.now.dir ≡ dir.Dec }
     requires key { IsKeySize (length job.now.key) }
     requires iv { length job.now.iv ≡ 16 }
     requires whole { length text.old % 16 ≡ 0 }
@@ -31,10 +34,7 @@ fn cbc(job: &Job, text: &mut [u8])
 {
     let key = Schedule::expand(job.key.as_slice());
     let iv = iv_block(job.iv.as_slice());
-    match job.dir {
-        Dir::Enc => mbj_cbc::encrypt_in_place(&key, &iv, text),
-        Dir::Dec => mbj_cbc::decrypt_in_place(&key, &iv, text),
-    }
+    mbj_cbc::decrypt_in_place(&key, &iv, text);
 }
 
 /// CTR on a text, by a job's key and IV.
@@ -47,16 +47,17 @@ fn ctr(job: &Job, text: &mut [u8])
     mbj_ctr::apply(&key, job.iv.as_slice(), text);
 }
 
-/// Does the cipher of an accepted job on its packet: the cipher range changes, and nothing else.
+/// Does the cipher of an accepted job on its packet, where it is done at once: the cipher range changes, and nothing else.
 pub(crate) fn run(job: &Job, packet: &mut [u8])
     requires step { cipher_steps job.now.cipher ≡ step.Cipher ∷ [] }
+    requires now { cipher_stage job.now ≡ stage.Now }
     requires accepted { verdict_at job.now (length packet.old) ≡ None }
     ensures { packet.new ≡ ciphered job.now packet.old }
 {
     let start = job.cipher_off as usize;
     let end = start + job.cipher_len as usize;
     match job.cipher {
-        Cipher::Cbc => cbc(job, &mut packet[start..end]),
+        Cipher::Cbc => decrypt(job, &mut packet[start..end]),
         Cipher::Ctr => ctr(job, &mut packet[start..end]),
         Cipher::Null | Cipher::Gcm => unreachable!(),
     }

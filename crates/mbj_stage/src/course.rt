@@ -1,20 +1,40 @@
-ghost use Rattle.std.specs.Prelude.{◌≡◌, None, length};
+ghost use Rattle.std.specs.Prelude.{◌≡◌, ◌≤◌, ◌⊎◌, [], ◌∷◌, Some, None, drop, length, IsTrue};
+ghost use Rattle.mbj_types.specs.declared.limits.TheConstants.{MAX_TAG_BYTES};
 ghost use Rattle.mbj_types.specs.Verdict.{verdict_at};
 ghost use Rattle.mbj_types.specs.Result.{result_of};
+ghost use Rattle.mbj_lane.specs.Rounds.{end_of};
+ghost use Rattle.mbj_types.specs.Rounds.{cbc_rounds, cmac_rounds, hmac_rounds};
+ghost use Rattle.mbj_aes.specs.Bytes.{IsRoundCount};
+ghost use Rattle.mbj_cbc.specs.Rounds.{round as cbc_round, rest_of as cbc_rest};
+ghost use Rattle.mbj_cmac.specs.Rounds.{round as cmac_round, rest_of as cmac_rest};
+ghost use Rattle.mbj_hmac.specs.Rounds.{round as hmac_round, rest_of as hmac_rest};
 ghost use Rattle.mbj_stage.specs.declared.stage.Stage.TheVariants as stage;
-ghost use Rattle.mbj_stage.specs.Steps.{IsStepOf};
+ghost use Rattle.mbj_stage.specs.declared.stage.Step.TheVariants as step;
+ghost use Rattle.mbj_stage.specs.Steps.{IsFirst, IsStepOf, stage_at, steps_in};
 ghost use Rattle.mbj_stage.specs.Going.{stage_of, begun, packet_after, tag_after, ran, status_of, owed};
+ghost use Rattle.mbj_stage.specs.Handing.{handed_out, taken_back, owed_with};
+ghost use Rattle.mbj_stage.specs.Ends.{cbc_end, cmac_end, hmac_end};
+ghost use Rattle.mbj_stage.specs.Inside.Families.{cbc_stage, cmac_stage};
 
-use crate::stage::{Stage, Step, Steps, steps_by};
-use crate::{auth, cipher, gcm};
+use crate::entries::{cbc_entry, cmac_entry, hmac_entry};
+use crate::stage::{Stage, Step, Steps, stage_of_step, steps_by};
+use crate::tag::cut;
+use crate::{cipher, gcm};
 use mbj_args::check;
+use mbj_cbc::CbcEntry;
+use mbj_cmac::CmacEntry;
+use mbj_hmac::{HmacEntry, LaneHash};
 use mbj_types::{Bytes, Done, Job, Reason, Status, Tag};
 use std::marker::Model;
+use std::mem;
 
 /// The course of one job: its stages one after another, each of which is done once.
 ///
 /// The stages of a job that is accepted are its cipher's and its authentication's, in the job's order. A null cipher
 /// or authentication has none, and GCM has one for both. A job that is refused has none.
+///
+/// CBC encryption, CMAC and HMAC are done in lanes: a call hands the packet out in an entry, and another one takes it back
+/// once the entry's rounds are done. All else `run_now` does.
 ///
 /// No call takes memory, and each stage expands its key once.
 #[derive(Drop)]
@@ -25,10 +45,11 @@ pub struct Course {
     tag: Tag,
     reason: Option<Reason>,
     left: Steps,
+    // The length of the packet while it is out.
+    out: Option<usize>,
 }
 
 impl Model for Course {
-    ghost use Rattle.std.specs.Prelude.{None};
     ghost use Rattle.mbj_stage.specs.Steps.{steps_in};
     ghost use Rattle.mbj_stage.specs.Going.{Going, IsSound};
 
@@ -39,15 +60,16 @@ impl Model for Course {
       tag = c.tag;
       reason = c.reason;
       left = steps_in c.left;
-      out = None;
+      out = c.out;
     } };
 
-    ghost invariant = { λ c. IsSound c.job c.packet.items (steps_in c.left) };
+    ghost invariant = { λ c. IsSound c.job c.packet.items (steps_in c.left) c.out };
 }
 
-/// Does a step of an accepted job.
+/// Does a step of an accepted job that is done at once.
 fn run_step(step: Step, job: &Job, packet: &mut Vec<u8>, tag: &mut Tag)
     requires own { IsStepOf job.now step }
+    requires now { stage_at job.now (step ∷ []) ≡ stage.Now }
     requires accepted { verdict_at job.now (length packet.old.items) ≡ None }
     ensures packet { packet.new.items ≡ packet_after step job.now packet.old.items }
     ensures len { length packet.new.items ≡ length packet.old.items }
@@ -55,7 +77,7 @@ fn run_step(step: Step, job: &Job, packet: &mut Vec<u8>, tag: &mut Tag)
 {
     match step {
         Step::Cipher => cipher::run(job, packet.as_mut_slice()),
-        Step::Auth => *tag = auth::run(job, packet.as_slice()),
+        Step::Auth => unreachable!(),
         Step::Gcm => *tag = gcm::run(job, packet.as_mut_slice()),
     }
 }
@@ -67,6 +89,25 @@ fn status(reason: Option<Reason>) -> Status
     match reason {
         None => Status::Ok,
         Some(reason) => Status::InvalidArgs(reason),
+    }
+}
+
+/// Takes a packet out of its place, in which none is left. It takes no memory.
+fn taken(packet: &mut Vec<u8>) -> Vec<u8>
+    ensures taken { result.items ≡ packet.old.items }
+    ensures none { packet.new.items ≡ [] }
+{
+    let alloc = *packet.allocator();
+    mem::replace(packet, Vec::new(alloc))
+}
+
+/// The steps after the first of those that are left.
+fn later(left: Steps) -> Steps
+    ensures { steps_in result ≡ drop 1 (steps_in left) }
+{
+    match left {
+        Steps::Done | Steps::One(_) => Steps::Done,
+        Steps::Two(_, step) => Steps::One(step),
     }
 }
 
@@ -93,6 +134,7 @@ impl Course {
             tag: Tag::from_slice(&[]),
             reason,
             left,
+            out: None,
         }
     }
 
@@ -102,7 +144,7 @@ impl Course {
     {
         match self.left {
             Steps::Done => Stage::Finished,
-            Steps::One(_) | Steps::Two(_, _) => Stage::Now,
+            Steps::One(step) | Steps::Two(step, _) => stage_of_step(step, &self.job),
         }
     }
 
@@ -130,6 +172,76 @@ impl Course {
                 self.left = Steps::One(later);
             }
         }
+    }
+
+    /// Hands the packet out in an entry of CBC encryption with `N` rounds.
+    pub(crate) fn hand_out_cbc<const N: usize>(&mut self) -> CbcEntry<N>
+        requires rounds { IsRoundCount N }
+        requires next { stage_of self.old ≡ cbc_stage N }
+        requires here { self.old.out ≡ None }
+        ensures out { self.new ≡ handed_out self.old }
+        ensures rest { result.rest ≡ cbc_rounds self.old.job.cipher_len }
+        ensures some { 1 ≤ result.rest }
+        ensures owed { owed_with (cbc_end (end_of cbc_round cbc_rest result)) self.new ≡ owed self.old }
+        ensures length { self.new.out ≡ Some (length (cbc_end (end_of cbc_round cbc_rest result)).packet) }
+    {
+        let packet = taken(&mut self.packet);
+        self.out = Some(packet.len());
+        cbc_entry(&self.job, packet)
+    }
+
+    /// Takes back a packet that was ciphered.
+    pub(crate) fn take_text(&mut self, packet: Vec<u8>)
+        requires next { IsFirst step.Cipher self.old.left }
+        requires length { self.old.out ≡ Some (length packet.items) }
+        ensures { self.new ≡ taken_back (record { packet = packet.items; mac = [] }) self.old }
+    {
+        self.packet = packet;
+        self.out = None;
+        self.left = later(self.left);
+    }
+
+    /// Takes back a packet that was authenticated, with its whole tag.
+    pub(crate) fn take_mac(&mut self, packet: Vec<u8>, mac: &[u8])
+        requires next { IsFirst step.Auth self.old.left }
+        requires length { self.old.out ≡ Some (length packet.items) }
+        requires fits { length mac.now ≤ MAX_TAG_BYTES }
+        ensures { self.new ≡ taken_back (record { packet = packet.items; mac = mac.now }) self.old }
+    {
+        self.packet = packet;
+        self.tag = cut(mac, self.job.tag_len);
+        self.out = None;
+        self.left = later(self.left);
+    }
+
+    /// Hands the packet out in an entry of CMAC with `N` rounds.
+    pub(crate) fn hand_out_cmac<const N: usize>(&mut self) -> CmacEntry<N>
+        requires rounds { (N ≡ 10) ⊎ (N ≡ 14) }
+        requires next { stage_of self.old ≡ cmac_stage N }
+        requires here { self.old.out ≡ None }
+        ensures out { self.new ≡ handed_out self.old }
+        ensures rest { result.rest ≡ cmac_rounds self.old.job.hash_len }
+        ensures owed { owed_with (cmac_end (end_of cmac_round cmac_rest result)) self.new ≡ owed self.old }
+        ensures length { self.new.out ≡ Some (length (cmac_end (end_of cmac_round cmac_rest result)).packet) }
+    {
+        let packet = taken(&mut self.packet);
+        self.out = Some(packet.len());
+        cmac_entry(&self.job, packet)
+    }
+
+    /// Hands the packet out in an entry of HMAC over a hash of `H`.
+    pub(crate) fn hand_out_hmac<H: LaneHash>(&mut self) -> HmacEntry<H>
+        requires next { IsFirst step.Auth self.old.left }
+        requires serves { IsTrue (H.serves self.old.job.auth) }
+        requires here { self.old.out ≡ None }
+        ensures out { self.new ≡ handed_out self.old }
+        ensures rest { result.rest ≡ hmac_rounds H.chaining.block_bytes self.old.job.hash_len }
+        ensures owed { owed_with (hmac_end H.chaining (end_of (hmac_round H.chaining) hmac_rest result)) self.new ≡ owed self.old }
+        ensures length { self.new.out ≡ Some (length (hmac_end H.chaining (end_of (hmac_round H.chaining) hmac_rest result)).packet) }
+    {
+        let packet = taken(&mut self.packet);
+        self.out = Some(packet.len());
+        hmac_entry(&self.job, packet)
     }
 
     /// The result of a job whose stages are all done.

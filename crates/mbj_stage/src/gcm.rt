@@ -9,7 +9,7 @@ ghost use Rattle.mbj_stage.specs.declared.stage.Step.TheVariants as step;
 ghost use Rattle.mbj_stage.specs.Steps.{cipher_steps};
 ghost use Rattle.mbj_stage.specs.Texts.{gcm_by};
 
-use crate::auth::cut;
+use crate::tag::cut;
 use mbj_aes::Schedule;
 use mbj_gcm::{seal, unseal};
 use mbj_types::{Dir, Job, Tag};

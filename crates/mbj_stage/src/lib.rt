@@ -1,12 +1,14 @@
 //! The course of one job: its cipher and its authentication, one after another, in the job's order.
 #![tactic(auto)]
 
-mod auth;
 mod cipher;
 mod course;
+mod entries;
 mod gcm;
+mod lanes;
 mod laws;
 mod stage;
+mod tag;
 
 pub use course::Course;
 pub use laws::{a_course_owes_the_same_while_it_is_out, results_keep_length};

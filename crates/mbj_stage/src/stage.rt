@@ -1,9 +1,9 @@
-ghost use Rattle.std.specs.Prelude.{◌≡◌, Option};
+ghost use Rattle.std.specs.Prelude.{◌≡◌, [], ◌∷◌, Option};
 ghost use Rattle.std.specs.Option.{option_to_list};
 ghost use Rattle.mbj_types.specs.Auths.{class_of};
-ghost use Rattle.mbj_stage.specs.Steps.{cipher_steps, auth_steps, steps_of, steps_by, steps_in};
+ghost use Rattle.mbj_stage.specs.Steps.{cbc_kind, cipher_stage, auth_stage, cipher_steps, auth_steps, stage_at, steps_of, steps_by, steps_in};
 
-use mbj_types::{Auth, Cipher, Job, Kind, Order, Reason};
+use mbj_types::{Auth, Cipher, Dir, Job, Kind, Order, Reason};
 
 /// What comes next in the course of a job.
 #[derive(Clone, Copy, Debug, PartialEq, Eq)]
@@ -80,5 +80,54 @@ pub(crate) fn steps_by(reason: Option<Reason>, job: &Job) -> Steps
     match reason {
         None => all_steps(job),
         Some(_) => Steps::Done,
+    }
+}
+
+/// The lanes in which CBC encrypts under a key of so many bytes: 16, 24 or 32.
+fn cbc_kind(key_bytes: usize) -> Kind
+    ensures { result ≡ cbc_kind key_bytes }
+{
+    if key_bytes == 16 {
+        Kind::Cbc128
+    } else if key_bytes == 24 {
+        Kind::Cbc192
+    } else {
+        Kind::Cbc256
+    }
+}
+
+fn cipher_stage(job: &Job) -> Stage
+    ensures { result ≡ cipher_stage job.now }
+{
+    match job.cipher {
+        Cipher::Cbc => match job.dir {
+            Dir::Enc => Stage::Lane(cbc_kind(job.key.as_slice().len())),
+            Dir::Dec => Stage::Now,
+        },
+        Cipher::Null | Cipher::Ctr | Cipher::Gcm => Stage::Now,
+    }
+}
+
+fn auth_stage(job: &Job) -> Stage
+    ensures { result ≡ auth_stage job.now }
+{
+    match job.auth {
+        Auth::HmacSha1 => Stage::Lane(Kind::HmacSha1),
+        Auth::HmacSha224 | Auth::HmacSha256 => Stage::Lane(Kind::HmacSha256),
+        Auth::HmacSha384 | Auth::HmacSha512 => Stage::Lane(Kind::HmacSha512),
+        Auth::Cmac128 => Stage::Lane(Kind::Cmac128),
+        Auth::Cmac256 => Stage::Lane(Kind::Cmac256),
+        Auth::Null | Auth::Gcm => Stage::Now,
+    }
+}
+
+/// When a step of a job is done.
+pub(crate) fn stage_of_step(step: Step, job: &Job) -> Stage
+    ensures { result ≡ stage_at job.now (step ∷ []) }
+{
+    match step {
+        Step::Cipher => cipher_stage(job),
+        Step::Auth => auth_stage(job),
+        Step::Gcm => Stage::Now,
     }
 }

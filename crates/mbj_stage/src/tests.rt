@@ -1,9 +1,18 @@
-ghost use Rattle.std.specs.Prelude.{◌≡◌};
+ghost use Rattle.std.specs.Mem.{FitsInMemory};
+ghost use Rattle.std.specs.Prelude.{◌≡◌, ◌<◌, None, length};
 ghost use Rattle.mbj_types.specs.Result.{result_of};
+ghost use Rattle.mbj_lane.specs.Rounds.{end_of};
+ghost use Rattle.mbj_stage.specs.declared.stage.Stage.TheVariants as stage;
+ghost use Rattle.mbj_stage.specs.Going.{owed, stage_of};
 
 use super::*;
-use mbj_types::{Auth, Bytes, Cipher, Dir, Done, Job, Order, Reason, Status};
+use mbj_cbc::CbcKernel;
+use mbj_cmac::CmacKernel;
+use mbj_hmac::{Hmac1Kernel, Hmac256Kernel, Hmac512Kernel};
+use mbj_lane::Kernel;
+use mbj_types::{Auth, Bytes, Cipher, Dir, Done, Job, Kind, Order, Reason, Status};
 use std::alloc::{AllocError, Global};
+use std::slice;
 use std::test::Fail;
 
 /// The key of SP 800-38A, appendix F, and SP 800-38B, appendix D.1.
@@ -41,6 +50,62 @@ fn cbc_cmac(alloc: Global, dir: Dir, order: Order, packet: u128) -> Result<Job, 
     Ok(job)
 }
 
+/// Leads an entry to its end, alone in its lanes.
+fn led<K: Kernel>(entry: K::Entry) -> K::Entry
+    requires { FitsInMemory K.Entry.row }
+    ensures end { result ≡ end_of K.round K.rest_of entry }
+    ensures done { K.rest_of result ≡ 0 }
+{
+    let mut entry = entry;
+    let rest = K::rest(&entry);
+    K::run(slice::from_mut(&mut entry), rest);
+    entry
+}
+
+/// Does the next stage, which is in lanes.
+fn do_lane(course: &mut Course, kind: Kind)
+    requires next { stage_of course.old ≡ stage.Lane kind }
+    requires here { course.old.out ≡ None }
+    ensures owed { owed course.new ≡ owed course.old }
+    ensures here { course.new.out ≡ None }
+    ensures fewer { length course.new.left < length course.old.left }
+{
+    match kind {
+        Kind::Cbc128 => {
+            let entry = course.hand_out_cbc128();
+            course.take_back_cbc128(led::<CbcKernel<10>>(entry));
+        }
+        Kind::Cbc192 => {
+            let entry = course.hand_out_cbc192();
+            course.take_back_cbc192(led::<CbcKernel<12>>(entry));
+        }
+        Kind::Cbc256 => {
+            let entry = course.hand_out_cbc256();
+            course.take_back_cbc256(led::<CbcKernel<14>>(entry));
+        }
+        Kind::Cmac128 => {
+            let entry = course.hand_out_cmac128();
+            course.take_back_cmac128(led::<CmacKernel<10>>(entry));
+        }
+        Kind::Cmac256 => {
+            let entry = course.hand_out_cmac256();
+            course.take_back_cmac256(led::<CmacKernel<14>>(entry));
+        }
+        Kind::HmacSha1 => {
+            let entry = course.hand_out_hmac_sha1();
+            course.take_back_hmac_sha1(led::<Hmac1Kernel>(entry));
+        }
+        Kind::HmacSha256 => {
+            let entry = course.hand_out_hmac_sha256();
+            course.take_back_hmac_sha256(led::<Hmac256Kernel>(entry));
+        }
+        Kind::HmacSha512 => {
+            let entry = course.hand_out_hmac_sha512();
+            course.take_back_hmac_sha512(led::<Hmac512Kernel>(entry));
+        }
+    }
+}
+
 /// Does a job, stage after stage, and answers its result.
 fn do_job(job: Job) -> Done
     ensures { result ≡ result_of job }
@@ -49,7 +114,7 @@ fn do_job(job: Job) -> Done
     'stages: loop {
         match course.next_stage() {
             Stage::Now => course.run_now(),
-            Stage::Lane(_) => unreachable!(),
+            Stage::Lane(kind) => do_lane(&mut course, kind),
             Stage::Finished => return course.into_done(),
         }
     }

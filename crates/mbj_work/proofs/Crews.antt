@@ -1,5 +1,6 @@
 -- The seats of a new front, and the results of all submitters.
-use Rattle.std.proofs.Common.{◌≡◌, ℕ, ◌+◌, ◌<◌, List, [], ◌∷◌, length, map, suc, Some, None, Option, subst, IfSome, refl, ap, ◌∙◌, arith, Vec, Global}
+use Rattle.std.proofs.Common.{◌≡◌, ℕ, ◌+◌, ◌<◌, List, [], ◌∷◌, ◌++◌, length, length-append, map, suc, sym, Some, None, Option, subst, IfSome, refl, ap, ◌∙◌, arith, Vec, Global}
+use Rattle.std.proofs.lemmas.List.{map-append}
 use Rattle.std.specs.Prelude.{slice_get}
 use Rattle.mbj_types.specs.declared.job.Job.{Job}
 use Rattle.mbj_types.specs.declared.done.Done.{Done}
@@ -46,3 +47,20 @@ results_of_all (s ∷ olds) (x ∷ news) (l ∷ lists) same long each =
     = subst (λ (o : Option (Vec Job Global)). IfSome o (λ jobs. x.results.items ≡ map result_of jobs.items)) (ap head_of same) (each 0 (omega arith)) in
     let more = results_of_all olds news lists (ap tail_of same) (omega (arith, long)) (λ i h. each (suc i) (omega (arith, h))) in
     (λ i. first i ∷ more i)
+
+-- the seats behind the first, where one more list has its submitter
+pub seats_behind : (front : SharedFront Job Done Standard) (lists : List (Vec Job Global)) (l : Vec Job Global) (seat : PartySeat Job Done)
+    (old rest : List (PartySeat Job Done)) → AreSeatsFrom front (length lists) old → old ≡ seat ∷ rest → AreSeatsFrom front (length (lists ++ l ∷ [])) rest
+seats_behind front lists l seat old rest seats is =
+    subst (λ n. AreSeatsFrom front n rest) (sym (length-append lists (l ∷ []))) (subst (AreSeatsFrom front (length lists)) is seats).1
+
+pub count_behind : (lists : List (Vec Job Global)) (l : Vec Job Global) (seat : PartySeat Job Done) (old rest : List (PartySeat Job Done)) (n : ℕ)
+    → length lists + length old ≡ n → old ≡ seat ∷ rest → length (lists ++ l ∷ []) + length rest ≡ n
+count_behind lists l seat old rest n count is = omega (arith, length-append lists (l ∷ []), ap length is, count)
+
+-- one more submitter, with its list of jobs
+pub jobs_with : (old new : List Submitter) (s : Submitter) (lists : List (Vec Job Global)) (l : Vec Job Global) → map (λ s. s.jobs) old ≡ map Some lists
+    → new ≡ old ++ s ∷ [] → s.jobs ≡ Some l → map (λ s. s.jobs) new ≡ map Some (lists ++ l ∷ [])
+jobs_with old new s lists l jobs is one =
+    ap (map (λ s. s.jobs)) is ∙ map-append (λ s. s.jobs) old (s ∷ []) ∙ ap (λ os. os ++ s.jobs ∷ []) jobs
+    ∙ ap (λ o. map Some lists ++ o ∷ []) one ∙ sym (map-append Some lists (l ∷ []))

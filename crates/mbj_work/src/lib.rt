@@ -32,4 +32,6 @@ pub use shared::run_shared;
 #[cfg(test)]
 mod party_tests;
 #[cfg(test)]
+mod script_tests;
+#[cfg(test)]
 mod tests;

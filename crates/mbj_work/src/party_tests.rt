@@ -5,7 +5,7 @@ ghost use Rattle.mbj_front.specs.Seats.{view_of, IsIssued, IsOf};
 ghost use Rattle.mbj_work.specs.Parties.{part_of, IsPartyOf, Submits};
 
 use super::*;
-use crate::tests::hmac_sha1;
+use crate::tests::{HI_THERE, hmac_sha1};
 use mbj_front::{Front, Seat};
 use mbj_types::{Done, Job, Reason, Status};
 use std::alloc::{AllocError, Global};
@@ -98,6 +98,33 @@ fn way_through_a_new_front(
     let mut submitter = Party::new(alloc, first)?;
     let mut worker = Party::new(alloc, second)?;
     Ok(Some(way_of(&front, &mut submitter, &mut worker, job)))
+}
+
+fn is_hi_there(done: &Done) -> bool {
+    done.status == Status::Ok && done.tag.bytes() == HI_THERE.as_slice()
+}
+
+// The job waits in the worker's lanes until the worker settles.
+#[test]
+fn a_job_goes_from_hand_to_hand(rt: HostRuntime) -> Result<(), Fail> {
+    let alloc = rt.alloc();
+    let job = hmac_sha1(alloc, &[0x0b; 20], b"Hi There", 20)?;
+    let not = |word| Some(Claimed::Not(word));
+    let expected = Seen {
+        at_first: (false, None, not(0)),
+        posted: (Some(0), Some(Claimed::Yes)),
+        claimed: not(7),
+        settled: (true, not(2)),
+        collected: not(0),
+        results: [false, false, true],
+    };
+    let Some((seen, done)) = way_through_a_new_front(alloc, job)? else {
+        assert!(rt; false);
+        return Ok(());
+    };
+    assert_eq!(rt; seen, expected);
+    assert!(rt; done.is_some_and(|done| is_hi_there(&done)));
+    Ok(())
 }
 
 // A refused job needs no lanes: the worker's claim gives its result back.

@@ -13,19 +13,19 @@ const STEPS: [(&str, &str); 12] = [
     ("post 0\n", "post 0 0\n"),
     ("post 0\n", "post 0 1\n"),
     ("post 0\n", "post 0 end\n"),
-    ("claim 0 0\n", "claim 0 0\nfinish 0 0\n"),
-    ("claim 1 0\n", "claim 1 1\nfinish 1 1\n"),
-    ("flush 1\n", "finish 1 none\n"),
+    ("claim 0 0\n", "claim 0 0\n"),
+    ("claim 1 0\n", "claim 1 1\n"),
+    ("flush 1\n", "finish 1 1\n"),
+    ("collect 0\n", "collect 0 none\n"),
+    ("flush 0\n", "finish 0 0\n"),
     (
         "collect 0\n",
         "collect 0 0 ok 4869205468657265 b617318655057264e28bc0b6fb378c8ef146be00\n",
     ),
-    ("flush 0\n", "finish 0 none\n"),
     (
         "collect 0\n",
         "collect 0 1 ok 7768617420646f2079612077616e7420666f72206e6f7468696e673f effcdf6ae5eb2fa2d27416d5f184df9c259a7c79\n",
     ),
-    ("collect 0\n", "collect 0 none\n"),
     ("collect 0\n", "collect 0 none\n"),
     ("flush 0\n", "finish 0 none\n"),
 ];
@@ -44,7 +44,7 @@ fn steps_text(alloc: Global) -> Result<(String, String), AllocError> {
     Ok((file, text))
 }
 
-// Every stage finishes at once, so that each job is finished when it is claimed.
+// Each of two workers has one job, which waits for lanes until it is flushed.
 #[test]
 fn a_replay_tells_what_each_command_comes_to(rt: HostRuntime) -> Result<(), Fail> {
     let (file, text) = steps_text(rt.alloc())?;

@@ -1,18 +1,26 @@
--- Each job is finished, so that a flush runs nothing.
-use Rattle.std.proofs.Common.{◌≡◌, ◌↔◌, [], None, ap, sym, ◌∙◌, subst}
-use Rattle.mbj_manager.specs.State.{given, flushing}
-use Rattle.mbj_manager.proofs.Rings.{flush-gives, none-held}
+-- Where there is a job the earliest is finished then.
+use Rattle.std.proofs.Common.{◌≡◌, ◌≢◌, ◌∙◌, List, [], ◌∷◌, Option, None, Some, IsSome, slice_get, refl, ap, sym}
+use Rattle.mbj_types.specs.declared.done.Done.{Done}
+use Rattle.mbj_manager.specs.State.{ManagerState, given, given_at}
+use Rattle.mbj_manager.proofs.CallsKeep.{earliest-given}
 use Rattle.mbj_manager.proofs.manager.Manager.flush.Goals as goal
 
-pub returns-clause-result : goal.returns-clause-result
-returns-clause-result c = c.get_completed.ensures.result
-    ∙ ap (λ p. p.0) (subst (λ h. given h ≡ flushing h) c.self.view_is (sym (flush-gives c.self.inside.ring c.self.invariant.finished)))
+not-some : (o : Option Done) → o ≡ None → IsSome o → ⊥
+not-some None none some = cc
+not-some (Some d) none some = cc
 
-pub returns-clause-state : goal.returns-clause-state
-returns-clause-state c = c.get_completed.ensures.state
-    ∙ ap (λ p. p.1) (subst (λ h. given h ≡ flushing h) c.self.view_is (sym (flush-gives c.self.inside.ring c.self.invariant.finished)))
+none-owed : (ds : List Done) (h : ManagerState) → h.owed ≡ ds → (ds ≢ [] → slice_get h.machine.left 0 ≡ Some []) → (given h).0 ≡ None → ds ≡ []
+none-owed [] h is done none = refl
+none-owed (d ∷ ds) h is done none =
+    let given-one : IsSome (given_at (d ∷ ds) h.machine.left h).0 = earliest-given (d ∷ ds) h.machine.left h (λ e. cc) (done (λ e. cc)) in
+    let given-none : (given_at (d ∷ ds) h.machine.left h).0 ≡ None = sym (ap (λ (l : List Done). (given_at l h.machine.left h).0) is) ∙ none in
+    absurd (not-some (given_at (d ∷ ds) h.machine.left h).0 given-none given-one)
 
 pub returns-clause-none : goal.returns-clause-none
 returns-clause-none c =
-    let none = subst (λ h. ((given h).0 ≡ None) ↔ (h.owed ≡ [])) c.self.view_is (none-held c.self.inside.ring c.self.invariant.finished) in
-    (λ e. none.0 (sym c.get_completed.ensures.result ∙ e), λ e. c.get_completed.ensures.result ∙ none.1 e)
+    let h = c.flush_first.new.self in
+    let same : h.owed ≡ c.args.self.now.owed = ap (λ (h : ManagerState). h.owed) c.flush_first.ensures.flushed ∙ ap (λ (h : ManagerState). h.owed) c.self.view_is in
+    let was : c.self.inside.works.owed ≡ c.args.self.now.owed = ap (λ (h : ManagerState). h.owed) c.self.view_is in (
+      (λ none. none-owed c.args.self.now.owed h same (λ some. c.flush_first.ensures.done (λ e. some (sym was ∙ e))) (sym c.give.ensures.result ∙ none)),
+      (λ empty. c.give.ensures.result ∙ ap (λ (l : List Done). (given_at l h.machine.left h).0) (same ∙ empty)),
+    )

@@ -1,11 +1,13 @@
 -- Each arm does the first step, and leaves what follows it.
-use Rattle.std.proofs.Common.{◌≡◌, [], ◌∷◌, None, List, ℕ, ap, subst}
+use Rattle.std.proofs.Common.{◌≡◌, ◌∙◌, [], ◌∷◌, Option, List, ℕ, length, ap, sym, subst}
 use Rattle.std.specs.List.{All}
 use Rattle.std.proofs.lemmas.List.Elements.{All-head}
 use Rattle.mbj_types.specs.declared.job.Job.{Job}
 use Rattle.mbj_stage.specs.declared.stage.Steps.{Steps}
-use Rattle.mbj_stage.specs.Steps.{IsStepOf, steps_in}
-use Rattle.mbj_stage.specs.Going.{Going, ran, IsSound}
+use Rattle.mbj_stage.specs.Steps.{IsStepOf, stage_at, steps_in}
+use Rattle.mbj_stage.specs.declared.stage.Stage.TheVariants as stage
+use Rattle.mbj_stage.specs.Going.{Going, ran, stage_of, packet_length, IsSound}
+use Rattle.mbj_stage.proofs.StagesOf.{stage-first, stage-packet}
 use Rattle.mbj_stage.proofs.Soundness.{sound_next}
 use Rattle.mbj_stage.proofs.Owing.{ran-step}
 use Rattle.mbj_stage.proofs.course.Course.run.Goals as goal
@@ -22,13 +24,37 @@ run_step-requires-in-Two-clause-own c =
     let Own : Steps → Type 0 = λ l. All (IsStepOf j) (steps_in l) in
     All-head (IsStepOf j) c.in-Two.step (c.in-Two.later ∷ []) (subst Own c.in-Two.is c.self.invariant.own)
 
+pub run_step-requires-clause-now : goal.run_step-requires-clause-now
+run_step-requires-clause-now c =
+    let j : Job = c.self.inside.job in
+    let Now : Going → Type 0 = λ v. stage_of v ≡ stage.Now in
+    let left = steps_in c.self.inside.left in
+    ap (λ (l : Steps). stage_at j (steps_in l)) (sym c.in-One.is)
+    ∙ sym (stage-packet j c.self.inside.packet.items left) ∙ subst Now (sym c.self.view_is) c.requires
+
+pub run_step-requires-in-Two-clause-now : goal.run_step-requires-in-Two-clause-now
+run_step-requires-in-Two-clause-now c =
+    let j : Job = c.self.inside.job in
+    let Now : Going → Type 0 = λ v. stage_of v ≡ stage.Now in
+    let left = steps_in c.self.inside.left in
+    sym (stage-first j c.in-Two.step (c.in-Two.later ∷ []))
+    ∙ ap (λ (l : Steps). stage_at j (steps_in l)) (sym c.in-Two.is)
+    ∙ sym (stage-packet j c.self.inside.packet.items left) ∙ subst Now (sym c.self.view_is) c.requires
+
 pub invariant_of-self-in-Two : goal.invariant_of-self-in-Two
 invariant_of-self-in-Two c =
     let j : Job = c.self.inside.job in
     let p : List ℕ = c.self.inside.packet.items in
-    let Sound : Steps → Type 0 = λ l. IsSound j p (steps_in l) in
-    sound_next j p c.run_step-in-Two.new.packet.items c.in-Two.step (c.in-Two.later ∷ [])
-    (subst Sound c.in-Two.is c.self.invariant) c.run_step-in-Two.ensures.len
+    let out = c.self.inside.out in
+    let Now : Going → Type 0 = λ v. stage_of v ≡ stage.Now in
+    let now : stage_at j (steps_in c.self.inside.left) ≡ stage.Now =
+    sym (stage-packet j p (steps_in c.self.inside.left)) ∙ subst Now (sym c.self.view_is) c.requires in
+    let Sound : Steps → Type 0 = λ l. IsSound j p (steps_in l) out in
+    let Long : Option ℕ → Type 0 = λ o. length c.run_step-in-Two.new.packet.items ≡ packet_length o p in
+    let Out : Option ℕ → Type 0 = λ o. IsSound j c.run_step-in-Two.new.packet.items (c.in-Two.later ∷ []) o in
+    subst Out (sym (c.self.invariant.here now))
+    (sound_next j p c.run_step-in-Two.new.packet.items c.in-Two.step (c.in-Two.later ∷ []) out
+    (subst Sound c.in-Two.is c.self.invariant) (subst Long (sym (c.self.invariant.here now)) c.run_step-in-Two.ensures.len))
 
 pub returns-in-One : goal.returns-in-One
 returns-in-One c =
@@ -38,11 +64,11 @@ returns-in-One c =
       tag = c.run_step.new.tag;
       reason = f.reason;
       left = [];
-      out = None;
+      out = f.out;
     } in
     let Ran : Going → Type 0 = λ v. after ≡ ran v in
     subst Ran c.self.view_is
-    (ran-step f.job f.packet.items c.run_step.new.packet.items f.tag c.run_step.new.tag f.reason c.in-One.step [] (steps_in f.left)
+    (ran-step f.job f.packet.items c.run_step.new.packet.items f.tag c.run_step.new.tag f.reason c.in-One.step [] (steps_in f.left) f.out
     (ap steps_in c.in-One.is) c.run_step.ensures.packet c.run_step.ensures.tag)
 
 pub returns-in-Two : goal.returns-in-Two
@@ -53,10 +79,10 @@ returns-in-Two c =
       tag = c.run_step-in-Two.new.tag;
       reason = f.reason;
       left = c.in-Two.later ∷ [];
-      out = None;
+      out = f.out;
     } in
     let Ran : Going → Type 0 = λ v. after ≡ ran v in
     subst Ran c.self.view_is
     (ran-step f.job f.packet.items c.run_step-in-Two.new.packet.items f.tag c.run_step-in-Two.new.tag f.reason c.in-Two.step
-    (c.in-Two.later ∷ []) (steps_in f.left) (ap steps_in c.in-Two.is) c.run_step-in-Two.ensures.packet
+    (c.in-Two.later ∷ []) (steps_in f.left) f.out (ap steps_in c.in-Two.is) c.run_step-in-Two.ensures.packet
     c.run_step-in-Two.ensures.tag)

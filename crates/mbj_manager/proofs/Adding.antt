@@ -1,0 +1,178 @@
+-- The job that was open goes last, and stands in the agenda.
+use Rattle.std.proofs.Common.{◌≡◌, ℕ, zero, suc, ◌+◌, ◌%◌, ◌≤◌, ◌<◌, List, [], ◌∷◌, ◌++◌, length, map, Option, Some, None, inl, inr, refl, ap, ap₂, sym, ◌∙◌, subst, arith}
+use Rattle.std.specs.Prelude.{option_map}
+use Rattle.std.proofs.lemmas.Bool.{cases_eq}
+use Rattle.std.proofs.lemmas.List.{length-map, length_push, map_push}
+use Rattle.std.proofs.lemmas.List.Elements.{All-cons, All-nil, All-push}
+use Rattle.mbj_types.specs.Kinds.{lanes_of}
+use Rattle.mbj_types.specs.Result.{result_of}
+use Rattle.mbj_types.specs.declared.done.Done.{Done}
+use Rattle.mbj_types.specs.declared.job.Job.{Job}
+use Rattle.mbj_types.specs.declared.kind.Kind.{Kind}
+use Rattle.mbj_types.specs.declared.kind.Kind.TheVariants as kind
+use Rattle.mbj_ring.specs.declared.ring.TheConstants.{CELLS}
+use Rattle.mbj_ring.specs.Ring.{RingState, ring}
+use Rattle.mbj_stage.specs.Going.{Going, begun, owed}
+use Rattle.mbj_stage.specs.Handing.{End}
+use Rattle.mbj_stage.proofs.Owing.{owed-begun}
+use Rattle.mbj_manager.specs.Rounds.{Pending, pending}
+use Rattle.mbj_manager.specs.Machine.{Lane, Machine, lane_of}
+use Rattle.mbj_manager.specs.Between.{with_stages}
+use Rattle.mbj_manager.specs.declared.cell.Cell.{Cell}
+use Rattle.mbj_manager.specs.declared.cell.Cell.TheVariants as cell
+use Rattle.mbj_manager.specs.Inside.Added.{added}
+use Rattle.mbj_manager.specs.Inside.Courses.{IsGoing, course_in, courses, job_in, number, number_in}
+use Rattle.mbj_manager.specs.Inside.Leaving.{At}
+use Rattle.mbj_manager.specs.Inside.Desk.{Waiter, Listed}
+use Rattle.mbj_manager.specs.Inside.Lines.{Line, Lines, line_in, total}
+use Rattle.mbj_manager.specs.Inside.Standing.{IsWithin}
+use Rattle.mbj_manager.specs.Inside.Held.{IsHeld, IsHere, IsTied, agenda_room, find_in, held, lane_seen, lines_in, machine_in, owed_from, owed_of, waiting}
+use Rattle.mbj_manager.proofs.BetweenCalls.{submitted-within}
+use Rattle.mbj_manager.proofs.CourseEnds.{between-calls}
+use Rattle.mbj_manager.proofs.JobRounds.{pending-rounds}
+use Rattle.mbj_manager.proofs.Lanes.{lane-by}
+use Rattle.mbj_manager.proofs.Moving.{same-state}
+use Rattle.mbj_manager.proofs.Owing.{owed-length}
+
+-- ---- one course more
+
+at-front : {A : Type 0} (P : A → Type 0) (n : ℕ) (xs : List A) (x : A) → At P n xs → At P n (xs ++ x ∷ [])
+at-front P n [] x a = absurd a
+at-front P zero (y ∷ xs) x a = a
+at-front P (suc n) (y ∷ xs) x a = at-front P n xs x a
+
+at-last : {A : Type 0} (P : A → Type 0) (xs : List A) (x : A) → P x → At P (length xs) (xs ++ x ∷ [])
+at-last P [] x p = p
+at-last P (y ∷ xs) x p = at-last P xs x p
+
+listed-front : (k : Kind) (cs : List Going) (c : Going) (ws : List Waiter) → Listed k cs ws → Listed k (cs ++ c ∷ []) ws
+listed-front k cs c [] r = tt
+listed-front k cs c (w ∷ ws) r = (at-front _ w.0 cs c r.0, r.1, listed-front k cs c ws r.2)
+
+tied-add : (cs : List Going) (c : Going) (lines : Kind → Line) → c.out ≡ None → IsTied cs [] lines → IsTied (cs ++ c ∷ []) (length cs ∷ []) lines
+tied-add cs c lines here y =
+    let more = length_push cs c in
+    record {
+      listed = λ k. listed-front k cs c (lines k).waiters (y.listed k);
+      here = λ n lt a. elim (cases_eq n (length cs)) [
+        | inl e ↦ subst (λ (m : ℕ). At IsHere m (cs ++ c ∷ [])) (sym e) (at-last IsHere cs c here)
+        | inr ne ↦ at-front IsHere n cs c (y.here n (omega arith) a)
+      ];
+      below = All-cons (λ n. n < length (cs ++ c ∷ [])) (length cs) [] (omega arith) (All-nil (λ n. n < length (cs ++ c ∷ [])));
+    }
+
+owed-end : (n : ℕ) (find : Kind → ℕ → Option End) (cs : List Going) (c : Going) → c.out ≡ None
+    → owed_from n find (cs ++ c ∷ []) ≡ owed_from n find cs ++ owed c ∷ []
+owed-end n find [] c here = rw here refl
+owed-end n find (x ∷ cs) c here = ap (λ (ds : List Done). owed_of n find x ∷ ds) (owed-end (suc n) find cs c here)
+
+-- ---- how many wait
+
+few-in : (k : Kind) (r : RingState Cell) (ag : List ℕ) (ls : Lines) (capacity : ℕ) → IsHeld r ag ls capacity → length (line_in k ls).waiters < lanes_of k
+few-in k r ag ls capacity y =
+    let own : lane_of k (machine_in r ag ls) ≡ lane_seen (lines_in r ls k) = lane-by (λ j. lane_seen (lines_in r ls j)) k in
+    let few : length (map waiting (lines_in r ls k).waiters) < lanes_of k
+    = subst (λ (l : Lane). length l.waiting < lanes_of k) own (y.within.lanes k).few in
+    let g : Waiter → Waiter = λ x. (number_in r x.0, x.1) in
+    let l : length (lines_in r ls k).waiters ≡ length (line_in k ls).waiters = length-map (line_in k ls).waiters g in
+    omega (arith, length-map (lines_in r ls k).waiters waiting)
+
+-- between two calls there is room for one that goes on
+few-wait : (r : RingState Cell) (ag : List ℕ) (ls : Lines) (capacity : ℕ) → IsHeld r ag ls capacity → 1 + total ls ≤ agenda_room
+few-wait r ag ls capacity y =
+    let a : length ls.cbc128.waiters < 16 = few-in kind.Cbc128 r ag ls capacity y in
+    let b : length ls.cbc192.waiters < 16 = few-in kind.Cbc192 r ag ls capacity y in
+    let c : length ls.cbc256.waiters < 16 = few-in kind.Cbc256 r ag ls capacity y in
+    let d : length ls.cmac128.waiters < 16 = few-in kind.Cmac128 r ag ls capacity y in
+    let e : length ls.cmac256.waiters < 16 = few-in kind.Cmac256 r ag ls capacity y in
+    let f : length ls.hmac_sha1.waiters < 8 = few-in kind.HmacSha1 r ag ls capacity y in
+    let g : length ls.hmac_sha256.waiters < 8 = few-in kind.HmacSha256 r ag ls capacity y in
+    let h : length ls.hmac_sha512.waiters < 4 = few-in kind.HmacSha512 r ag ls capacity y in
+    omega arith
+
+-- ---- the job that was open
+
+pub map-nil : (f : ℕ → ℕ) (ns : List ℕ) → map f ns ≡ [] → ns ≡ []
+map-nil f [] e = refl
+map-nil f (n ∷ ns) e = cc
+
+-- the place behind the last job has its number
+pub number-last : (first len place : ℕ) → first < CELLS → len < CELLS → place ≡ (first + len) % CELLS → number first place ≡ len
+number-last first len place f l e = omega arith
+
+-- the fields then hold the state h, and keep what they keep
+pub record IsAdded (r r' : RingState Cell) (ag ag' : List ℕ) (ls : Lines) (capacity : ℕ) : Type 0 where
+  pub is : held r' ag' ls ≡ added (held r ag ls).opened (held r ag ls)
+  pub kept : IsHeld r' ag' ls capacity
+
+abbrev pub one_more : RingState Cell → Cell → RingState Cell
+one_more r w = ring (r.values ++ w ∷ []) None r.first
+
+module _ (r : RingState Cell) (v w : Cell) (place : ℕ) (ls : Lines) (capacity : ℕ) (y : IsHeld r [] ls capacity)
+    (began : w ≡ cell.Going (begun (job_in v))) (room : length r.values < CELLS) (last : place ≡ (r.first + length r.values) % CELLS) where
+  abbrev job : Job
+  job = job_in v
+
+  abbrev r' : RingState Cell
+  r' = one_more r w
+
+  more-courses : courses r' ≡ courses r ++ begun job ∷ []
+  more-courses = map_push course_in r.values w ∙ ap (λ (x : Cell). courses r ++ course_in x ∷ []) began
+
+  last-number : number_in r' place ≡ length (courses r)
+  last-number = number-last r.first (length r.values) place y.ring.first room last ∙ sym (length-map r.values course_in)
+
+  numbers : map (number_in r') (place ∷ []) ≡ length (courses r) ∷ []
+  numbers = ap (λ (n : ℕ). n ∷ []) last-number
+
+  more-left : map pending (courses r') ≡ map pending (courses r) ++ pending (begun job) ∷ []
+  more-left = ap (map pending) more-courses ∙ map_push pending (courses r) (begun job)
+
+  abbrev machine_with : List (List Pending) → List ℕ → Machine
+  machine_with left agenda = record (machine_in r [] ls) { left = left; agenda = agenda }
+
+  machine-then : machine_in r' (place ∷ []) ls ≡ with_stages (pending (begun job)) (machine_in r [] ls)
+  machine-then = ap₂ machine_with more-left (numbers ∙ ap (λ (n : ℕ). n ∷ []) (sym (length-map (courses r) pending)))
+
+  going : IsGoing w
+  going = subst IsGoing (sym began) tt
+
+  added-kept : IsHeld r' (place ∷ []) ls capacity
+  added-kept = record {
+    ring = record {
+      going = All-push IsGoing r.values w y.ring.going going;
+      few = omega (arith, length_push r.values w);
+      first = y.ring.first;
+    };
+    is_open = tt;
+    within = subst IsWithin (sym machine-then)
+        (submitted-within (pending (begun job)) (machine_in r [] ls) (pending-rounds job) (between-calls (machine_in r [] ls) y.within refl));
+    tied = subst (λ (cs : List Going). IsTied cs (map (number_in r') (place ∷ [])) (lines_in r ls)) (sym more-courses)
+        (subst (λ (ns : List ℕ). IsTied (courses r ++ begun job ∷ []) ns (lines_in r ls)) (sym numbers) (tied-add (courses r) (begun job) (lines_in r ls) refl y.tied));
+    fits = few-wait r [] ls capacity y;
+    room = y.room;
+  }
+
+  owed-then : owed_from 0 (find_in (lines_in r ls)) (courses r') ≡ owed_from 0 (find_in (lines_in r ls)) (courses r) ++ result_of job ∷ []
+  owed-then =
+      ap (owed_from 0 (find_in (lines_in r ls))) more-courses ∙ owed-end 0 (find_in (lines_in r ls)) (courses r) (begun job) refl
+      ∙ ap (λ (d : Done). owed_from 0 (find_in (lines_in r ls)) (courses r) ++ d ∷ []) (owed-begun job)
+
+  same-number : length (map pending (courses r)) ≡ length (owed_from 0 (find_in (lines_in r ls)) (courses r))
+  same-number = length-map (courses r) pending ∙ sym (owed-length 0 (find_in (lines_in r ls)) (courses r))
+
+  added-is : held r' (place ∷ []) ls ≡ added (Some job) (held r [] ls)
+  added-is =
+      same-state _ _ _ _ _ _ owed-then refl
+      (machine-then ∙ ap (λ (n : ℕ). machine_with (map pending (courses r) ++ pending (begun job) ∷ []) (n ∷ [])) same-number)
+
+pub adds : (r : RingState Cell) (v w : Cell) (place : ℕ) (ag : List ℕ) (ls : Lines) (capacity : ℕ) → IsHeld r ag ls capacity → map (number_in r) ag ≡ []
+    → r.opened ≡ Some v → w ≡ cell.Going (begun (job_in v)) → length r.values < CELLS → place ≡ (r.first + length r.values) % CELLS
+    → IsAdded r (one_more r w) ag (ag ++ place ∷ []) ls capacity
+adds r v w place ag ls capacity y idle opened began room last =
+    subst (λ (a : List ℕ). IsHeld r a ls capacity → IsAdded r (one_more r w) a (a ++ place ∷ []) ls capacity) (sym (map-nil (number_in r) ag idle))
+    (λ z. record {
+      is = subst (λ (o : Option Cell). held (one_more r w) (place ∷ []) ls ≡ added (option_map job_in o) (held r [] ls)) (sym opened)
+          (added-is r v w place ls capacity z began room last);
+      kept = added-kept r v w place ls capacity z began room last;
+    }) y

@@ -1,0 +1,69 @@
+-- Each stage in lanes of a job takes a round at least.
+use Rattle.std.proofs.Common.{◌≡◌, ℕ, ◌≤◌, ◌==◌, List, [], ◌∷◌, length, Option, Some, None, refl, arith}
+use Rattle.std.specs.Prelude.{All, if◌then◌else◌}
+use Rattle.std.proofs.lemmas.Bool.{cond_both}
+use Rattle.std.proofs.lemmas.List.Elements.{All-append, All-cons, All-nil}
+use Rattle.mbj_types.specs.declared.job.Job.{Job}
+use Rattle.mbj_types.specs.declared.job.Auth.{Auth}
+use Rattle.mbj_types.specs.declared.job.Auth.TheVariants as auth
+use Rattle.mbj_types.specs.declared.job.Cipher.{Cipher}
+use Rattle.mbj_types.specs.declared.job.Cipher.TheVariants as cipher
+use Rattle.mbj_types.specs.declared.job.Dir.{Dir}
+use Rattle.mbj_types.specs.declared.job.Dir.TheVariants.{Enc, Dec}
+use Rattle.mbj_types.specs.declared.kind.Kind.TheVariants as kind
+use Rattle.mbj_types.specs.declared.reason.Reason.{Reason}
+use Rattle.mbj_types.specs.Rounds.{cbc_rounds, rounds_of}
+use Rattle.mbj_types.specs.Verdict.{verdict}
+use Rattle.mbj_stage.specs.declared.stage.Step.{Step}
+use Rattle.mbj_stage.specs.declared.stage.Step.TheVariants as step
+use Rattle.mbj_stage.specs.Steps.{auth_stage_by, cbc_kind, cipher_stage_by, steps_by}
+use Rattle.mbj_stage.specs.Going.{begun}
+use Rattle.mbj_stage.proofs.EntryEnds.{cbc-accepted}
+use Rattle.mbj_manager.specs.Rounds.{Pending, in_lanes, pending, pending_at, pending_by}
+use Rattle.mbj_manager.specs.Between.{HasRounds}
+
+one : (p : Pending) → HasRounds p → All HasRounds (p ∷ [])
+one p h = All-cons HasRounds p [] h (All-nil HasRounds)
+
+-- CBC takes a round for each block
+cbc-one : (n : ℕ) (j : Job) → 1 ≤ cbc_rounds j.cipher_len → 1 ≤ rounds_of (cbc_kind n) j
+cbc-one n j h =
+    cond_both (n == 16) kind.Cbc128 (if n == 24 then kind.Cbc192 else kind.Cbc256) (λ k. 1 ≤ rounds_of k j)
+    (λ _. h) (λ _. cond_both (n == 24) kind.Cbc192 kind.Cbc256 (λ k. 1 ≤ rounds_of k j) (λ _. h) (λ _. h))
+
+cipher-rounds : (c : Cipher) (d : Dir) (n : ℕ) (j : Job) → (c ≡ cipher.Cbc → 1 ≤ cbc_rounds j.cipher_len)
+    → All HasRounds (pending_by (cipher_stage_by c d n) j)
+cipher-rounds cipher.Null d n j h = one _ tt
+cipher-rounds cipher.Cbc Enc n j h = one (in_lanes (cbc_kind n) (rounds_of (cbc_kind n) j)) (cbc-one n j (h refl))
+cipher-rounds cipher.Cbc Dec n j h = one _ tt
+cipher-rounds cipher.Ctr d n j h = one _ tt
+cipher-rounds cipher.Gcm d n j h = one _ tt
+
+auth-rounds : (a : Auth) (j : Job) → All HasRounds (pending_by (auth_stage_by a) j)
+auth-rounds auth.Null j = one _ tt
+auth-rounds auth.HmacSha1 j = one (in_lanes kind.HmacSha1 (rounds_of kind.HmacSha1 j)) (omega arith)
+auth-rounds auth.HmacSha224 j = one (in_lanes kind.HmacSha256 (rounds_of kind.HmacSha256 j)) (omega arith)
+auth-rounds auth.HmacSha256 j = one (in_lanes kind.HmacSha256 (rounds_of kind.HmacSha256 j)) (omega arith)
+auth-rounds auth.HmacSha384 j = one (in_lanes kind.HmacSha512 (rounds_of kind.HmacSha512 j)) (omega arith)
+auth-rounds auth.HmacSha512 j = one (in_lanes kind.HmacSha512 (rounds_of kind.HmacSha512 j)) (omega arith)
+auth-rounds auth.Cmac128 j = one (in_lanes kind.Cmac128 (rounds_of kind.Cmac128 j)) (omega arith)
+auth-rounds auth.Cmac256 j = one (in_lanes kind.Cmac256 (rounds_of kind.Cmac256 j)) (omega arith)
+auth-rounds auth.Gcm j = one _ tt
+
+steps-rounds : (j : Job) (steps : List Step) → (j.cipher ≡ cipher.Cbc → 1 ≤ cbc_rounds j.cipher_len) → All HasRounds (pending_at j steps)
+steps-rounds j [] h = All-nil HasRounds
+steps-rounds j (step.Cipher ∷ steps) h =
+    All-append HasRounds (pending_by (cipher_stage_by j.cipher j.dir (length j.key)) j) (pending_at j steps)
+    (cipher-rounds j.cipher j.dir (length j.key) j h) (steps-rounds j steps h)
+steps-rounds j (step.Auth ∷ steps) h =
+    All-append HasRounds (pending_by (auth_stage_by j.auth) j) (pending_at j steps) (auth-rounds j.auth j) (steps-rounds j steps h)
+steps-rounds j (step.Gcm ∷ steps) h = All-append HasRounds (_ ∷ []) (pending_at j steps) (one _ tt) (steps-rounds j steps h)
+
+by-verdict : (reason : Option Reason) (j : Job) → verdict j ≡ reason → All HasRounds (pending_at j (steps_by reason j))
+by-verdict (Some r) j e = All-nil HasRounds
+by-verdict None j e =
+    steps-rounds j (steps_by None j) (λ cbc. let is = cbc-accepted j (length j.packet) e cbc in let some = is.some in let whole = is.whole in omega arith)
+
+-- the stages of a job that is submitted
+pub pending-rounds : (j : Job) → All HasRounds (pending (begun j))
+pending-rounds j = by-verdict (verdict j) j refl

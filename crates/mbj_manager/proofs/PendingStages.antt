@@ -1,0 +1,139 @@
+-- The stages that are left of a course, as its steps are done.
+use Rattle.std.proofs.Common.{◌≡◌, ◌≢◌, ℕ, List, [], ◌∷◌, ◌++◌, refl, sym, ap, ap₂, ◌∙◌}
+use Rattle.mbj_types.specs.declared.job.Job.{Job}
+use Rattle.mbj_types.specs.declared.kind.Kind.{Kind}
+use Rattle.mbj_types.specs.declared.kind.Kind.TheVariants as kind
+use Rattle.mbj_types.specs.Rounds.{rounds_of}
+use Rattle.mbj_stage.specs.declared.stage.Stage.{Stage}
+use Rattle.mbj_stage.specs.declared.stage.Stage.TheVariants as stage
+use Rattle.mbj_stage.specs.declared.stage.Step.{Step}
+use Rattle.mbj_stage.specs.Steps.{stage_at}
+use Rattle.mbj_stage.specs.Going.{Going, ran, ran_at, stage_of}
+use Rattle.mbj_stage.specs.Handing.{End, handed_out, taken_back, taken_back_at}
+use Rattle.mbj_stage.proofs.StagesOf.{finished-left, stage-first, stage-packet}
+use Rattle.mbj_manager.specs.Rounds.{Pending, in_lanes, pending, pending_at, pending_by}
+use Rattle.mbj_manager.specs.Machine.{without_first}
+use Rattle.mbj_manager.specs.Course.{in_lanes_next}
+
+-- ---- the packet has no part in it
+
+rounds-packet : (k : Kind) (j : Job) (p : List ℕ) → rounds_of k (record j { packet = p }) ≡ rounds_of k j
+rounds-packet kind.Cbc128 j p = refl
+rounds-packet kind.Cbc192 j p = refl
+rounds-packet kind.Cbc256 j p = refl
+rounds-packet kind.Cmac128 j p = refl
+rounds-packet kind.Cmac256 j p = refl
+rounds-packet kind.HmacSha1 j p = refl
+rounds-packet kind.HmacSha256 j p = refl
+rounds-packet kind.HmacSha512 j p = refl
+
+by-packet : (s : Stage) (j : Job) (p : List ℕ) → pending_by s (record j { packet = p }) ≡ pending_by s j
+by-packet stage.Now j p = refl
+by-packet (stage.Lane k) j p = ap (λ (n : ℕ). in_lanes k n ∷ []) (rounds-packet k j p)
+by-packet stage.Finished j p = refl
+
+pub pending-packet : (j : Job) (p : List ℕ) (left : List Step) → pending_at (record j { packet = p }) left ≡ pending_at j left
+pending-packet j p [] = refl
+pending-packet j p (s ∷ left) =
+    ap₂ (λ (x y : List Pending). x ++ y)
+    (ap (λ (t : Stage). pending_by t (record j { packet = p })) (stage-packet j p (s ∷ [])) ∙ by-packet (stage_at j (s ∷ [])) j p)
+    (pending-packet j p left)
+
+-- the stages of a course whose packet goes out
+pub pending-out : (c : Going) → pending (handed_out c) ≡ pending c
+pending-out c = pending-packet c.job [] c.left
+
+-- ---- a stage at once
+
+-- where the first stage finishes at once, those in lanes are the later ones'
+now-next : (s : Stage) (j : Job) (ps : List Pending) → s ≡ stage.Now → in_lanes_next (pending_by s j ++ ps) ≡ in_lanes_next ps
+now-next stage.Now j ps e = refl
+now-next (stage.Lane k) j ps e = cc
+now-next stage.Finished j ps e = cc
+
+ran-next-at : (c : Going) (left : List Step) → stage_at c.job left ≡ stage.Now
+    → in_lanes_next (pending_at (ran_at c left).job (ran_at c left).left) ≡ in_lanes_next (pending_at c.job left)
+ran-next-at c [] h = cc
+ran-next-at c (s ∷ left) h =
+    ap in_lanes_next (pending-packet c.job _ left)
+    ∙ sym (now-next (stage_at c.job (s ∷ [])) c.job (pending_at c.job left) (sym (stage-first c.job s left) ∙ h))
+
+pub ran-next : (c : Going) → stage_of c ≡ stage.Now → in_lanes_next (pending (ran c)) ≡ in_lanes_next (pending c)
+ran-next c h = ran-next-at c c.left h
+
+ran-out-at : (c : Going) (left : List Step) → (ran_at c left).out ≡ c.out
+ran-out-at c [] = refl
+ran-out-at c (s ∷ left) = refl
+
+pub ran-out : (c : Going) → (ran c).out ≡ c.out
+ran-out c = ran-out-at c c.left
+
+-- ---- a stage in lanes, or none
+
+not-now-by : (s : Stage) (j : Job) (ps : List Pending) → s ≢ stage.Now → s ≢ stage.Finished → in_lanes_next (pending_by s j ++ ps) ≡ pending_by s j ++ ps
+not-now-by stage.Now j ps n f = absurd (n refl)
+not-now-by (stage.Lane k) j ps n f = refl
+not-now-by stage.Finished j ps n f = absurd (f refl)
+
+never-finished : (j : Job) (s : Step) (left : List Step) → stage_at j (s ∷ left) ≢ stage.Finished
+never-finished j s left h = let e = finished-left j (s ∷ left) h in cc
+
+not-now-at : (j : Job) (left : List Step) → stage_at j left ≢ stage.Now → in_lanes_next (pending_at j left) ≡ pending_at j left
+not-now-at j [] h = refl
+not-now-at j (s ∷ left) h =
+    not-now-by (stage_at j (s ∷ [])) j (pending_at j left) (λ e. h (stage-first j s left ∙ e)) (never-finished j s [])
+
+-- where no stage finishes at once, the stages are those in lanes and later ones
+pub not-now-next : (c : Going) → stage_of c ≢ stage.Now → in_lanes_next (pending c) ≡ pending c
+not-now-next c h = not-now-at c.job c.left h
+
+-- the first stage is in lanes
+lane-by : (s : Stage) (j : Job) (ps : List Pending) (k : Kind) → s ≡ stage.Lane k → pending_by s j ++ ps ≡ in_lanes k (rounds_of k j) ∷ ps
+lane-by stage.Now j ps k e = cc
+lane-by (stage.Lane i) j ps k e = let is : i ≡ k = cc in ap (λ (x : Kind). in_lanes x (rounds_of x j) ∷ ps) is
+lane-by stage.Finished j ps k e = cc
+
+-- the stages behind the first
+abbrev pub later_at : Job → List Step → List Pending
+later_at j [] = []
+later_at j (s ∷ left) = pending_at j left
+
+lane-at : (j : Job) (left : List Step) (k : Kind) → stage_at j left ≡ stage.Lane k
+    → pending_at j left ≡ in_lanes k (rounds_of k j) ∷ later_at j left
+lane-at j [] k h = cc
+lane-at j (s ∷ left) k h = lane-by (stage_at j (s ∷ [])) j (pending_at j left) k (sym (stage-first j s left) ∙ h)
+
+pub pending-lane : (c : Going) (k : Kind) → stage_of c ≡ stage.Lane k → pending c ≡ in_lanes k (rounds_of k c.job) ∷ later_at c.job c.left
+pending-lane c k h = lane-at c.job c.left k h
+
+pub pending-finished : (c : Going) → stage_of c ≡ stage.Finished → pending c ≡ []
+pending-finished c h = ap (pending_at c.job) (finished-left c.job c.left h)
+
+some-by : (s : Stage) (j : Job) (ps : List Pending) → s ≢ stage.Finished → pending_by s j ++ ps ≢ []
+some-by stage.Now j ps f = λ e. cc
+some-by (stage.Lane k) j ps f = λ e. cc
+some-by stage.Finished j ps f = absurd (f refl)
+
+none-left-at : (j : Job) (left : List Step) → pending_at j left ≡ [] → stage_at j left ≡ stage.Finished
+none-left-at j [] h = refl
+none-left-at j (s ∷ left) h = absurd (some-by (stage_at j (s ∷ [])) j (pending_at j left) (never-finished j s []) h)
+
+-- a course with no stage left is finished
+pub finished-pending : (c : Going) → pending c ≡ [] → stage_of c ≡ stage.Finished
+finished-pending c h = none-left-at c.job c.left h
+
+-- ---- a packet that comes back
+
+first-by : (s : Stage) (j : Job) (ps : List Pending) → s ≢ stage.Finished → without_first (pending_by s j ++ ps) ≡ ps
+first-by stage.Now j ps f = refl
+first-by (stage.Lane k) j ps f = refl
+first-by stage.Finished j ps f = absurd (f refl)
+
+back-at : (left : List Step) (c : Going) (e : End) → c.left ≡ left → pending (taken_back_at left e c) ≡ without_first (pending_at c.job left)
+back-at [] c e is = ap (pending_at c.job) is
+back-at (s ∷ left) c e is =
+    pending-packet c.job e.packet left ∙ sym (first-by (stage_at c.job (s ∷ [])) c.job (pending_at c.job left) (never-finished c.job s []))
+
+-- the first stage is done
+pub pending-back : (c : Going) (e : End) → pending (taken_back e c) ≡ without_first (pending c)
+pending-back c e = back-at c.left c e refl

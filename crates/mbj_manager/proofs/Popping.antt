@@ -1,0 +1,247 @@
+-- The earliest job, which is finished, is given back: the numbers of the others are one lower.
+use Rattle.std.proofs.Common.{◌≡◌, ◌≢◌, ℕ, zero, suc, ◌+◌, ◌-◌, ◌%◌, ◌≤◌, ◌<◌, List, [], ◌∷◌, length, map, cond, eqb, slice_get, Option, Some, None, inr, refl, ap, ap₂, sym, ◌∙◌, subst, arith}
+use Rattle.std.proofs.Math.Dec.{eqb-suc-suc}
+use Rattle.std.proofs.lemmas.List.Elements.{All-nil, All-tail}
+use mathlib.Core.Path.{fun_ext}
+use Rattle.mbj_types.specs.declared.done.Done.{Done}
+use Rattle.mbj_types.specs.declared.kind.Kind.{Kind}
+use Rattle.mbj_ring.specs.declared.ring.TheConstants.{CELLS}
+use Rattle.mbj_ring.specs.Ring.{RingState, ring, without_first}
+use Rattle.mbj_stage.specs.Going.{Going, owed, stage_of}
+use Rattle.mbj_stage.specs.Handing.{End}
+use Rattle.mbj_stage.specs.declared.stage.Stage.{Stage}
+use Rattle.mbj_stage.specs.declared.stage.Stage.TheVariants as stage
+use Rattle.mbj_manager.specs.Rounds.{Pending, pending}
+use Rattle.mbj_manager.specs.Machine.{Lane, Machine, Waiting, lane_of, lanes_by}
+use Rattle.mbj_manager.specs.Between.{IsBetweenCalls}
+use Rattle.mbj_manager.specs.State.{ManagerState, earlier, given, given_at, renumbered, without_earliest}
+use Rattle.mbj_manager.specs.declared.cell.Cell.{Cell}
+use Rattle.mbj_manager.specs.Inside.Courses.{IsGoing, course_in, courses, number, number_in}
+use Rattle.mbj_manager.specs.Inside.Leaving.{At, IsAbsent, IsOut}
+use Rattle.mbj_manager.specs.Inside.Desk.{Waiter, Listed}
+use Rattle.mbj_manager.specs.Inside.Lines.{Line, Lines, line, line_in, numbered}
+use Rattle.mbj_manager.specs.Inside.Standing.{IsWithin, times}
+use Rattle.mbj_manager.specs.Inside.Held.{IsHeld, IsHere, IsTied, find_in, found, held, lane_seen, lines_in, machine_in, owed_by, owed_from, owed_here, owed_of, waiting}
+use Rattle.mbj_manager.proofs.Adding.{map-nil}
+use Rattle.mbj_manager.proofs.CourseEnds.{between-calls, lanes-between, stages-at}
+use Rattle.mbj_manager.proofs.GivingBack.{back-between}
+use Rattle.mbj_manager.proofs.Lanes.{lane-by}
+use Rattle.mbj_manager.proofs.Moving.{same-state}
+use Rattle.mbj_manager.proofs.PendingStages.{finished-pending}
+
+-- ---- lists with numbers one lower
+
+abbrev lower : Waiter → Waiter
+lower w = (w.0 - 1, w.1)
+
+abbrev low : Line → Line
+low l = line (map lower l.waiters) l.rounds l.blocks
+
+-- the course of the job is behind the first one, which is finished
+behind : (k : Kind) (e : End) (n : ℕ) (c : Going) (cs : List Going) → stage_of c ≡ stage.Finished → At (IsOut k e) n (c ∷ cs)
+    → (m : ℕ) × ((n ≡ suc m) × At (IsOut k e) m cs)
+behind k e zero c cs done a = let is = a.stage in cc
+behind k e (suc m) c cs done a = (m, (refl, a))
+
+-- no job of the list is the first one
+abbrev AreLater : List Waiter → Type 0
+AreLater [] = Unit {0}
+AreLater (w ∷ ws) = (1 ≤ w.0) × AreLater ws
+
+later : (k : Kind) (c : Going) (cs : List Going) (ws : List Waiter) → stage_of c ≡ stage.Finished → Listed k (c ∷ cs) ws → AreLater ws
+later k c cs [] done r = tt
+later k c cs (w ∷ ws) done r = let b = behind k w.1.brings w.0 c cs done r.0 in (omega (arith, b.1.0), later k c cs ws done r.2)
+
+absent-low : (n : ℕ) (ws : List Waiter) → 1 ≤ n → AreLater ws → IsAbsent n ws → IsAbsent (n - 1) (map lower ws)
+absent-low n [] some l a = tt
+absent-low n (w ∷ ws) some l a = let first = l.0 in ((λ e. a.0 (omega (arith, e, first))), absent-low n ws some l.1 a.1)
+
+low-absent : (n : ℕ) (ws : List Waiter) → IsAbsent n (map lower ws) → IsAbsent (suc n) ws
+low-absent n [] a = tt
+low-absent n (w ∷ ws) a = ((λ e. a.0 (omega (arith, e))), low-absent n ws a.1)
+
+listed-low : (k : Kind) (c : Going) (cs : List Going) (ws : List Waiter) → stage_of c ≡ stage.Finished → Listed k (c ∷ cs) ws → Listed k cs (map lower ws)
+listed-low k c cs [] done r = tt
+listed-low k c cs (w ∷ ws) done r =
+    let b = behind k w.1.brings w.0 c cs done r.0 in
+    let is : w.0 - 1 ≡ b.0 = omega (arith, b.1.0) in
+    (subst (λ (m : ℕ). At (IsOut k w.1.brings) m cs) (sym is) b.1.1, absent-low w.0 ws (omega (arith, b.1.0)) (later k c cs ws done r.2) r.1, listed-low k c cs ws done r.2)
+
+same-test : (n m : ℕ) → 1 ≤ m → eqb (suc n) m ≡ eqb n (m - 1)
+same-test n zero some = absurd (omega arith)
+same-test n (suc m) some = let e : suc m - 1 ≡ m = omega arith in rw (e, eqb-suc-suc) refl
+
+found-low : (n : ℕ) (ws : List Waiter) → AreLater ws → found (suc n) ws ≡ found n (map lower ws)
+found-low n [] l = refl
+found-low n (w ∷ ws) l =
+    ap₂ (λ b (r : Option End). cond b (Some w.1.brings) r) (same-test n w.0 l.0) (found-low n ws l.1)
+
+-- ---- what holds without the first course
+
+tied-low : (c : Going) (cs : List Going) (lines : Kind → Line) → stage_of c ≡ stage.Finished → IsTied (c ∷ cs) [] lines → IsTied cs [] (λ k. low (lines k))
+tied-low c cs lines done y = record {
+  listed = λ k. listed-low k c cs (lines k).waiters done (y.listed k);
+  here = λ n lt a. y.here (suc n) (omega arith) (λ k. low-absent n (lines k).waiters (a k));
+  below = All-nil (λ n. n < length cs);
+}
+
+owed_by-low : (n : ℕ) (find find' : Kind → ℕ → Option End) (s : Stage) (c : Going) → ((k : Kind) → find k (suc n) ≡ find' k n)
+    → owed_by s (suc n) find c ≡ owed_by s n find' c
+owed_by-low n find find' stage.Now c h = refl
+owed_by-low n find find' stage.Finished c h = refl
+owed_by-low n find find' (stage.Lane k) c h = ap (Rattle.mbj_manager.specs.Inside.Held.owed_found c) (h k)
+
+owed-low : (n : ℕ) (find find' : Kind → ℕ → Option End) (cs : List Going) → ((k : Kind) (m : ℕ) → find k (suc m) ≡ find' k m)
+    → owed_from (suc n) find cs ≡ owed_from n find' cs
+owed-low n find find' [] h = refl
+owed-low n find find' (c ∷ cs) h =
+    let first : owed_of (suc n) find c ≡ owed_of n find' c
+    = ap (owed_here c.out (owed c)) (owed_by-low n find find' (stage_of c) c (λ k. h k n)) in
+    ap₂ (λ (d : Done) (ds : List Done). d ∷ ds) first (owed-low (suc n) find find' cs h)
+
+owed-finished : (n : ℕ) (find : Kind → ℕ → Option End) (out : Option ℕ) (s : Stage) (c : Going) → s ≡ stage.Finished
+    → owed_here out (owed c) (owed_by s n find c) ≡ owed c
+owed-finished n find None s c done = refl
+owed-finished n find (Some m) s c done = ap (λ (s : Stage). owed_by s n find c) done
+
+-- ---- places and numbers
+
+number-low : (first place : ℕ) → first < CELLS → 1 ≤ number first place → number ((first + 1) % CELLS) place ≡ number first place - 1
+number-low first place f some = omega arith
+
+numbered-low : (first : ℕ) (ws : List Waiter) → first < CELLS → AreLater (numbered (number first) ws)
+    → numbered (number ((first + 1) % CELLS)) ws ≡ map lower (numbered (number first) ws)
+numbered-low first [] f l = refl
+numbered-low first (w ∷ ws) f l =
+    ap₂ (λ (n : ℕ) (r : List Waiter). (n, w.1) ∷ r) (number-low first w.0 f l.0) (numbered-low first ws f l.1)
+
+waiting-low : (ws : List Waiter) → map waiting (map lower ws) ≡ map earlier (map waiting ws)
+waiting-low [] = refl
+waiting-low (w ∷ ws) = ap (λ (r : List Waiting). earlier (waiting w) ∷ r) (waiting-low ws)
+
+-- what holds between two calls holds after each step
+between-within : (m : Machine) → IsBetweenCalls m → IsWithin m
+between-within m between = record {
+  lanes = lanes-between m between;
+  stages = stages-at m.left between.stages;
+  stands = λ n. inr (ap (times n) between.agenda, between.placed n);
+}
+
+-- ---- the ring without its first course
+
+-- the course in the cell v is finished, its result is given back, and the fields then hold the state that is left
+pub record IsGiven (r : RingState Cell) (v : Cell) (ag : List ℕ) (ls : Lines) (capacity : ℕ) : Type 0 where
+  pub finished : stage_of (course_in v) ≡ stage.Finished
+  pub result : Some (owed (course_in v)) ≡ (given (held r ag ls)).0
+  pub is : held (without_first r) ag ls ≡ (given (held r ag ls)).1
+  pub kept : IsHeld (without_first r) ag ls capacity
+
+module _ (v : Cell) (vs : List Cell) (o : Option Cell) (first : ℕ) (ls : Lines) (capacity : ℕ) (y : IsHeld (ring (v ∷ vs) o first) [] ls capacity)
+    (none : pending (course_in v) ≡ []) where
+  abbrev r : RingState Cell
+  r = ring (v ∷ vs) o first
+
+  abbrev r' : RingState Cell
+  r' = ring vs o ((first + 1) % CELLS)
+
+  abbrev lines : Kind → Line
+  lines = lines_in r ls
+
+  done : stage_of (course_in v) ≡ stage.Finished
+  done = finished-pending (course_in v) none
+
+  are-later : (k : Kind) → AreLater (lines k).waiters
+  are-later k = later k (course_in v) (map course_in vs) (lines k).waiters done (y.tied.listed k)
+
+  lines-low : (k : Kind) → lines_in r' ls k ≡ low (lines k)
+  lines-low k =
+      ap (λ (ws : List Waiter). line ws (line_in k ls).rounds (line_in k ls).blocks) (numbered-low first (line_in k ls).waiters y.ring.first (are-later k))
+
+  lane-low : (k : Kind) → lane_seen (lines_in r' ls k) ≡ renumbered (lane_of k (machine_in r [] ls))
+  lane-low k =
+      ap lane_seen (lines-low k)
+      ∙ ap (λ (ws : List Waiting). record { waiting = ws; rounds = (line_in k ls).rounds; blocks = (line_in k ls).blocks }) (waiting-low (lines k).waiters)
+      ∙ ap renumbered (sym (lane-by (λ j. lane_seen (lines j)) k))
+
+  abbrev left_then : List (List Pending)
+  left_then = map pending (map course_in vs)
+
+  machine-then : machine_in r' [] ls ≡ without_earliest left_then (machine_in r [] ls)
+  machine-then =
+      ap (λ (f : Kind → Lane). record { left = left_then; lanes = lanes_by f; agenda = []; flush_runs = ls.flush_runs }) (fun_ext lane-low)
+
+  left-is : (machine_in r [] ls).left ≡ [] ∷ left_then
+  left-is = ap (λ (ps : List Pending). ps ∷ left_then) none
+
+  kept-then : IsHeld r' [] ls capacity
+  kept-then = record {
+    ring = record {
+      going = All-tail IsGoing v vs y.ring.going;
+      few = (let few = y.ring.few in omega arith);
+      first = omega arith;
+    };
+    is_open = y.is_open;
+    within = subst IsWithin (sym machine-then) (between-within (without_earliest left_then (machine_in r [] ls))
+        (back-between left_then (machine_in r [] ls) left-is (between-calls (machine_in r [] ls) y.within refl)));
+    tied = subst (λ (f : Kind → Line). IsTied (map course_in vs) [] f) (sym (fun_ext lines-low)) (tied-low (course_in v) (map course_in vs) lines done y.tied);
+    fits = y.fits;
+    room = y.room;
+  }
+
+  owed-then : owed_from 1 (find_in lines) (map course_in vs) ≡ owed_from 0 (find_in (lines_in r' ls)) (map course_in vs)
+  owed-then =
+      owed-low 0 (find_in lines) (find_in (lines_in r' ls)) (map course_in vs)
+      (λ k n. found-low n (lines k).waiters (are-later k) ∙ sym (ap (λ (l : Line). found n l.waiters) (lines-low k)))
+
+  abbrev answer : Option Done × ManagerState
+  answer = (
+    Some (owed_of 0 (find_in lines) (course_in v)),
+    record { owed = owed_from 1 (find_in lines) (map course_in vs); opened = (held r [] ls).opened; machine = without_earliest left_then (machine_in r [] ls) },
+  )
+
+  given-is : given (held r [] ls) ≡ answer
+  given-is = ap (λ (ps : List Pending). given_at (held r [] ls).owed (ps ∷ left_then) (held r [] ls)) none
+
+  given-then : IsGiven r v [] ls capacity
+  given-then = record {
+    finished = done;
+    result = ap Some (sym (owed-finished 0 (find_in lines) (course_in v).out (stage_of (course_in v)) (course_in v) done))
+        ∙ sym (ap (λ (a : Option Done × ManagerState). a.0) given-is);
+    is = same-state _ _ _ _ _ _ (sym owed-then) refl machine-then ∙ sym (ap (λ (a : Option Done × ManagerState). a.1) given-is);
+    kept = kept-then;
+  }
+
+first-none : (vs : List Cell) (v : Cell) → slice_get vs 0 ≡ Some v → slice_get (map pending (map course_in vs)) 0 ≡ Some [] → pending (course_in v) ≡ []
+first-none [] v e done = cc
+first-none (x ∷ vs) v e done = let is : x ≡ v = cc in let none : pending (course_in x) ≡ [] = cc in subst (λ (c : Cell). pending (course_in c) ≡ []) is none
+
+pops-at : (vs : List Cell) (v : Cell) (o : Option Cell) (first : ℕ) (ls : Lines) (capacity : ℕ) → IsHeld (ring vs o first) [] ls capacity
+    → slice_get vs 0 ≡ Some v → pending (course_in v) ≡ [] → IsGiven (ring vs o first) v [] ls capacity
+pops-at [] v o first ls capacity y e none = cc
+pops-at (x ∷ vs) v o first ls capacity y e none =
+    let is : x ≡ v = cc in
+    subst (λ (c : Cell). pending (course_in c) ≡ [] → IsGiven (ring (x ∷ vs) o first) c [] ls capacity) is (given-then x vs o first ls capacity y) none
+
+pub pops : (r : RingState Cell) (v : Cell) (ag : List ℕ) (ls : Lines) (capacity : ℕ) → IsHeld r ag ls capacity → map (number_in r) ag ≡ []
+    → slice_get (map pending (courses r)) 0 ≡ Some [] → slice_get r.values 0 ≡ Some v → IsGiven r v ag ls capacity
+pops r v ag ls capacity y idle done e =
+    subst (λ (a : List ℕ). IsHeld r a ls capacity → IsGiven r v a ls capacity) (sym (map-nil (number_in r) ag idle))
+    (λ z. pops-at r.values v r.opened r.first ls capacity z e (first-none r.values v e done)) y
+
+-- likewise by the state that the fields hold
+pub pops-of : (h : ManagerState) (r : RingState Cell) (v : Cell) (o : Option Cell) (ag : List ℕ) (ls : Lines) (capacity : ℕ) → held r ag ls ≡ h
+    → IsHeld r ag ls capacity → h.machine.agenda ≡ [] → slice_get h.machine.left 0 ≡ Some [] → o ≡ slice_get r.values 0 → o ≡ Some v
+    → IsGiven r v ag ls capacity
+pops-of h r v o ag ls capacity is y idle done value e =
+    pops r v ag ls capacity y (subst (λ (h : ManagerState). h.machine.agenda ≡ []) (sym is) idle)
+    (subst (λ (h : ManagerState). slice_get h.machine.left 0 ≡ Some []) (sym is) done) (sym value ∙ e)
+
+not-given-at : (ds : List Done) (left : List (List Pending)) (h : ManagerState) → slice_get left 0 ≢ Some [] → given_at ds left h ≡ (None, h)
+not-given-at [] left h n = refl
+not-given-at (d ∷ ds) [] h n = refl
+not-given-at (d ∷ ds) ([] ∷ left) h n = absurd (n refl)
+not-given-at (d ∷ ds) ((p ∷ ps) ∷ left) h n = refl
+
+-- where the earliest job isn't finished nothing is given back
+pub not-given : (h : ManagerState) → slice_get h.machine.left 0 ≢ Some [] → given h ≡ (None, h)
+not-given h n = not-given-at h.owed h.machine.left h n

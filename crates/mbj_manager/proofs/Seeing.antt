@@ -1,0 +1,191 @@
+-- What the lane machine sees of a list with the courses and the agenda.
+use Rattle.std.proofs.Common.{◌≡◌, ◌≢◌, ℕ, ◌+◌, ◌%◌, ◌==◌, min, zero, suc, List, [], ◌∷◌, ◌++◌, length, map, Bool, true, false, cond, refl, ap, ap₂, sym, ◌∙◌, subst, inl, inr}
+use Rattle.std.proofs.lemmas.List.{length-map, map-append}
+use Rattle.mbj_lane.specs.Rounds.{least as least_of, least_from as least_of_from}
+use Rattle.mbj_types.specs.Kinds.{lanes_of}
+use Rattle.mbj_types.specs.declared.kind.Kind.{Kind}
+use Rattle.mbj_types.specs.declared.kind.Kind.TheVariants as kind
+use Rattle.mbj_stage.specs.Going.{Going}
+use Rattle.mbj_stage.specs.Handing.{handed_out, taken_back}
+use Rattle.mbj_manager.specs.Rounds.{Pending, pending}
+use Rattle.mbj_manager.specs.Machine.{Lane, Lanes, Machine, Waiting, Within, submit, flush, changed, count_end, lane_in, lane_of, lanes_by, least, least_from, leavers, lowered, ran, run_within, shortened, stage_done, stayers, with_lane, with_run, with_waiting, without_first}
+use Rattle.mbj_manager.specs.Course.{joined, run_if_full, waits}
+use Rattle.mbj_manager.specs.Inside.Pairs.{pair_rest}
+use Rattle.mbj_manager.specs.Inside.Leaving.{finishers, numbers, others, returned}
+use Rattle.mbj_manager.specs.Inside.Desk.{Ahead, Desk, Waiter, brings_in, joined_by, led_all, led_waiter, ran_at, ran_if_full, rounds_in}
+use Rattle.mbj_manager.specs.Inside.Lines.{Line, line}
+use Rattle.mbj_manager.specs.Inside.Held.{lane_seen, machine_by, waiting}
+use Rattle.mbj_manager.proofs.Lanes.{given-lane, lane-by, other-lane, same-kind}
+use Rattle.mbj_manager.proofs.PendingStages.{pending-back, pending-out}
+use Rattle.mbj_manager.proofs.SeenAhead.{zero-or}
+
+-- ---- lists
+
+least_from-seen : (n : ℕ) (ws : List Waiter) → least_from n (map waiting ws) ≡ least_of_from (pair_rest rounds_in) n ws
+least_from-seen n [] = refl
+least_from-seen n (w ∷ ws) = least_from-seen (min n w.1.rounds) ws
+
+pub least-seen : (ws : List Waiter) → least (map waiting ws) ≡ least_of (pair_rest rounds_in) ws
+least-seen [] = refl
+least-seen (w ∷ ws) = least_from-seen w.1.rounds ws
+
+led-seen : (m : ℕ) (ws : List Waiter) → map (lowered m) (map waiting ws) ≡ map waiting (map (led_waiter m) ws)
+led-seen m [] = refl
+led-seen m (w ∷ ws) = ap (λ (r : List Waiting). lowered m (waiting w) ∷ r) (led-seen m ws)
+
+shortened-seen : (ws : List Waiter) → shortened (map waiting ws) ≡ map waiting (led_all ws)
+shortened-seen ws =
+    ap (λ (m : ℕ). map (lowered m) (map waiting ws)) (least-seen ws) ∙ led-seen (least_of (pair_rest rounds_in) ws) ws
+
+others-seen : (ws : List Waiter) → stayers (map waiting ws) ≡ map waiting (others rounds_in ws)
+others-seen [] = refl
+others-seen (w ∷ ws) = elim (zero-or w.1.rounds) [
+  | inl z ↦ rw z.1 (others-seen ws)
+  | inr z ↦ rw z (ap (λ (r : List Waiting). waiting w ∷ r) (others-seen ws))
+]
+
+leavers-seen : (ws : List Waiter) → leavers (map waiting ws) ≡ numbers (finishers rounds_in ws)
+leavers-seen [] = refl
+leavers-seen (w ∷ ws) = elim (zero-or w.1.rounds) [
+  | inl z ↦ rw z.1 (ap (λ (r : List ℕ). w.0 ∷ r) (leavers-seen ws))
+  | inr z ↦ rw z (leavers-seen ws)
+]
+
+pub gone-seen : (ws : List Waiter) → leavers (shortened (map waiting ws)) ≡ numbers (finishers rounds_in (led_all ws))
+gone-seen ws = ap leavers (shortened-seen ws) ∙ leavers-seen (led_all ws)
+
+pub stay-seen : (ws : List Waiter) → stayers (shortened (map waiting ws)) ≡ map waiting (others rounds_in (led_all ws))
+stay-seen ws = ap stayers (shortened-seen ws) ∙ others-seen (led_all ws)
+
+-- ---- the stages that are left
+
+pub map-changed : (f : Going → Going) (h : List Pending → List Pending) (n : ℕ) (cs : List Going) → ((c : Going) → pending (f c) ≡ h (pending c))
+    → map pending (changed f n cs) ≡ changed h n (map pending cs)
+map-changed f h n [] same = refl
+map-changed f h zero (c ∷ cs) same = ap (λ (x : List Pending). x ∷ map pending cs) (same c)
+map-changed f h (suc n) (c ∷ cs) same = ap (λ (x : List (List Pending)). pending c ∷ x) (map-changed f h n cs same)
+
+pub returned-seen : (cs : List Going) (ws : List Waiter) → map pending (returned brings_in cs ws) ≡ stage_done (numbers ws) (map pending cs)
+returned-seen cs [] = refl
+returned-seen cs (w ∷ ws) =
+    returned-seen (changed (taken_back w.1.brings) w.0 cs) ws
+    ∙ ap (stage_done (numbers ws)) (map-changed (taken_back w.1.brings) without_first w.0 cs (λ c. pending-back c w.1.brings))
+
+out-same : (n : ℕ) (cs : List Going) → map pending (changed handed_out n cs) ≡ map pending cs
+out-same n [] = refl
+out-same zero (c ∷ cs) = ap (λ (x : List Pending). x ∷ map pending cs) (pending-out c)
+out-same (suc n) (c ∷ cs) = ap (λ (x : List (List Pending)). pending c ∷ x) (out-same n cs)
+
+-- ---- the machine
+
+-- lanes that are the same for each kind
+pub same-lanes : (a b : Lanes) → ((j : Kind) → lane_in j a ≡ lane_in j b) → a ≡ b
+same-lanes a b h =
+    let x1 : a.cbc128 ≡ b.cbc128 = h kind.Cbc128 in
+    let x2 : a.cbc192 ≡ b.cbc192 = h kind.Cbc192 in
+    let x3 : a.cbc256 ≡ b.cbc256 = h kind.Cbc256 in
+    let x4 : a.cmac128 ≡ b.cmac128 = h kind.Cmac128 in
+    let x5 : a.cmac256 ≡ b.cmac256 = h kind.Cmac256 in
+    let x6 : a.hmac_sha1 ≡ b.hmac_sha1 = h kind.HmacSha1 in
+    let x7 : a.hmac_sha256 ≡ b.hmac_sha256 = h kind.HmacSha256 in
+    let x8 : a.hmac_sha512 ≡ b.hmac_sha512 = h kind.HmacSha512 in
+    rw (x1, x2, x3, x4, x5, x6, x7, x8) refl
+
+again : (k : Kind) (l m : Lane) (lanes : Lanes) → with_lane k l (with_lane k m lanes) ≡ with_lane k l lanes
+again kind.Cbc128 l m lanes = refl
+again kind.Cbc192 l m lanes = refl
+again kind.Cbc256 l m lanes = refl
+again kind.Cmac128 l m lanes = refl
+again kind.Cmac256 l m lanes = refl
+again kind.HmacSha1 l m lanes = refl
+again kind.HmacSha256 l m lanes = refl
+again kind.HmacSha512 l m lanes = refl
+
+abbrev pub lane_at : Desk → Lane
+lane_at d = lane_seen (line d.waiters d.rounds d.blocks)
+
+-- the machine with the desk of the kind k, and these lanes of the other kinds
+abbrev pub machine_at : Kind → Lanes → Desk → Machine
+machine_at k lanes d = record { left = map pending d.courses; lanes = with_lane k (lane_at d) lanes; agenda = d.agenda; flush_runs = d.flush_runs }
+
+own-lane : (k : Kind) (lanes : Lanes) (d : Desk) → lane_of k (machine_at k lanes d) ≡ lane_at d
+own-lane k lanes d = given-lane k (lane_at d) lanes
+
+abbrev machine : List (List Pending) → Lanes → List ℕ → ℕ → Machine
+machine left lanes agenda runs = record { left = left; lanes = lanes; agenda = agenda; flush_runs = runs }
+
+same-machine : (a b : List (List Pending)) (c d : Lanes) (e f : List ℕ) (n : ℕ) → a ≡ b → c ≡ d → e ≡ f → machine a c e n ≡ machine b d f n
+same-machine a b c d e f n x y z = rw (x, y, z) refl
+
+-- a run, whatever it counts
+ran-seen-by : (k : Kind) (lanes : Lanes) (d e : Desk) (after : List Waiting → Lane) (m : Machine) → m.left ≡ map pending d.courses → m.agenda ≡ d.agenda
+    → m.lanes ≡ with_lane k (lane_at d) lanes → e.courses ≡ returned brings_in d.courses (finishers rounds_in (led_all d.waiters))
+    → e.agenda ≡ d.agenda ++ numbers (finishers rounds_in (led_all d.waiters))
+    → lane_at e ≡ after (map waiting (others rounds_in (led_all d.waiters))) → e.flush_runs ≡ m.flush_runs
+    → machine_at k lanes e ≡ ran k after m
+ran-seen-by k lanes d e after m left agenda lanes-are cs ag lane runs =
+    let ws : (lane_of k m).waiting ≡ map waiting d.waiters = ap (λ (x : Lanes). (lane_in k x).waiting) lanes-are ∙ ap (λ (l : Lane). l.waiting) (given-lane k (lane_at d) lanes) in
+    let gone : leavers (shortened (lane_of k m).waiting) ≡ numbers (finishers rounds_in (led_all d.waiters)) = ap (λ x. leavers (shortened x)) ws ∙ gone-seen d.waiters in
+    let stay : stayers (shortened (lane_of k m).waiting) ≡ map waiting (others rounds_in (led_all d.waiters)) = ap (λ x. stayers (shortened x)) ws ∙ stay-seen d.waiters in
+    let l : map pending e.courses ≡ stage_done (leavers (shortened (lane_of k m).waiting)) m.left
+    = ap (map pending) cs ∙ returned-seen d.courses (finishers rounds_in (led_all d.waiters)) ∙ ap₂ (λ x y. stage_done x y) (sym gone) (sym left) in
+    let n : with_lane k (lane_at e) lanes ≡ with_lane k (after (stayers (shortened (lane_of k m).waiting))) m.lanes
+    = ap (λ x. with_lane k x lanes) (lane ∙ ap after (sym stay)) ∙ sym (again k (after (stayers (shortened (lane_of k m).waiting))) (lane_at d) lanes)
+    ∙ ap (with_lane k (after (stayers (shortened (lane_of k m).waiting)))) (sym lanes-are) in
+    let a : e.agenda ≡ m.agenda ++ leavers (shortened (lane_of k m).waiting) = ag ∙ ap₂ (λ x y. x ++ y) (sym agenda) (sym gone) in
+    same-machine _ _ _ _ _ _ e.flush_runs l n a ∙ ap (λ r. record (ran k after m) { flush_runs = r }) runs
+
+pub run-seen : (at : Within) (k : Kind) (lanes : Lanes) (d : Desk) → machine_at k lanes (ran_at at d) ≡ run_within at k (machine_at k lanes d)
+run-seen submit k lanes d =
+    let m = machine_at k lanes d in
+    let own = own-lane k lanes d in
+    let lane : lane_at (ran_at submit d) ≡ with_run (lane_of k m) (map waiting (others rounds_in (led_all d.waiters)))
+    = rw own (let a = least-seen d.waiters in let b = length-map d.waiters waiting in rw (a, b) refl) in
+    ran-seen-by k lanes d (ran_at submit d) (with_run (lane_of k m)) m refl refl refl refl refl lane refl
+run-seen flush k lanes d =
+    let m = machine_at k lanes d in
+    let own = own-lane k lanes d in
+    let counted : Machine = record m { flush_runs = (m.flush_runs + 1) % count_end } in
+    ran-seen-by k lanes d (ran_at flush d) (with_waiting (lane_of k m)) counted refl refl refl refl refl (rw own refl) refl
+
+-- a job that joins
+joined-seen : (k : Kind) (lanes : Lanes) (n : ℕ) (a : Ahead) (d : Desk)
+    → machine_at k lanes (joined_by n a d)
+    ≡ record (machine_at k lanes d) {
+      lanes = with_lane k (with_waiting (lane_of k (machine_at k lanes d)) ((lane_of k (machine_at k lanes d)).waiting ++ waits n a.rounds ∷ [])) (with_lane k (lane_at d) lanes);
+    }
+joined-seen k lanes n a d =
+    let m = machine_at k lanes d in
+    let own = own-lane k lanes d in
+    let lane : lane_at (joined_by n a d) ≡ with_waiting (lane_of k m) ((lane_of k m).waiting ++ waits n a.rounds ∷ [])
+    = rw own (ap (λ (r : List Waiting). record { waiting = r; rounds = d.rounds; blocks = d.blocks }) (map-append waiting d.waiters ((n, a) ∷ []))) in
+    same-machine _ _ _ _ _ _ d.flush_runs (out-same n d.courses)
+    (ap (λ x. with_lane k x lanes) lane ∙ sym (again k (with_waiting (lane_of k m) ((lane_of k m).waiting ++ waits n a.rounds ∷ [])) (lane_at d) lanes)) refl
+
+either : (at : Within) (k : Kind) (lanes : Lanes) (b : Bool) (d : Desk)
+    → machine_at k lanes (cond b (ran_at at d) d) ≡ cond b (run_within at k (machine_at k lanes d)) (machine_at k lanes d)
+either at k lanes true d = run-seen at k lanes d
+either at k lanes false d = refl
+
+-- a job that joins, and the run of the list where it is full then
+pub enters-seen : (at : Within) (k : Kind) (lanes : Lanes) (n : ℕ) (a : Ahead) (d : Desk)
+    → machine_at k lanes (ran_if_full at (lanes_of k) (joined_by n a d)) ≡ joined at k n a.rounds (machine_at k lanes d)
+enters-seen at k lanes n a d =
+    let j = joined_by n a d in
+    let size : length j.waiters ≡ length (lane_of k (machine_at k lanes j)).waiting
+    = sym (length-map j.waiters waiting) ∙ ap (λ (l : Lane). length l.waiting) (sym (own-lane k lanes j)) in
+    either at k lanes (length j.waiters == lanes_of k) j
+    ∙ ap (λ (x : ℕ). cond (x == lanes_of k) (run_within at k (machine_at k lanes j)) (machine_at k lanes j)) size
+    ∙ ap (run_if_full at k) (joined-seen k lanes n a d)
+
+-- the machine of all kinds, by one of them
+pub by-desk : (k : Kind) (lines after : Kind → Line) (d : Desk) → after k ≡ line d.waiters d.rounds d.blocks → ((j : Kind) → j ≢ k → after j ≡ lines j)
+    → machine_by d.courses d.agenda after d.flush_runs ≡ machine_at k (lanes_by (λ j. lane_seen (lines j))) d
+by-desk k lines after d own others =
+    same-machine _ _ _ _ _ _ d.flush_runs refl
+    (same-lanes (lanes_by (λ j. lane_seen (after j))) (with_lane k (lane_at d) (lanes_by (λ j. lane_seen (lines j)))) (λ j.
+    lane-by (λ i. lane_seen (after i)) j ∙ elim (same-kind j k) [
+      | inl e ↦ subst (λ i. lane_seen (after i) ≡ lane_in i (with_lane k (lane_at d) (lanes_by (λ j. lane_seen (lines j))))) (sym e)
+          (ap lane_seen own ∙ sym (given-lane k (lane_at d) (lanes_by (λ j. lane_seen (lines j)))))
+      | inr ne ↦ ap lane_seen (others j ne) ∙ sym (lane-by (λ i. lane_seen (lines i)) j) ∙ sym (other-lane k j (lane_at d) (lanes_by (λ j. lane_seen (lines j))) ne)
+    ])) refl

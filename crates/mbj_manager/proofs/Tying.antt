@@ -1,0 +1,331 @@
+-- Lists, agenda and courses fit still: when an entry goes out, when a list runs, and when what finishes at once is done.
+use Rattle.std.proofs.Common.{◌≡◌, ◌≢◌, ℕ, ◌<◌, zero, suc, List, [], ◌∷◌, ◌++◌, length, map, cond, eqb, true, false, Option, Some, inl, inr, refl, ap, sym, ◌∙◌, subst, arith, append_assoc}
+use Rattle.std.proofs.lemmas.Bool.{cases_eq, eq-eqb, ne_eqb}
+use Rattle.std.proofs.lemmas.List.{append-nil}
+use Rattle.std.proofs.lemmas.List.Elements.{All-push, All-weaker}
+use Rattle.mbj_lane.specs.Rounds.{least}
+use Rattle.mbj_types.specs.declared.kind.Kind.{Kind}
+use Rattle.mbj_stage.specs.declared.stage.Stage.TheVariants as stage
+use Rattle.mbj_stage.specs.Going.{Going}
+use Rattle.mbj_stage.specs.Handing.{End, handed_out, taken_back}
+use Rattle.mbj_manager.specs.Machine.{changed}
+use Rattle.mbj_manager.specs.Inside.Courses.{Follows}
+use Rattle.mbj_manager.specs.Inside.Pairs.{pair_rest}
+use Rattle.mbj_manager.specs.Inside.Leaving.{At, Gives, IsAbsent, IsNext, IsOut, finishers, numbers, others, returned}
+use Rattle.mbj_manager.specs.Inside.Desk.{Waiter, Listed, brings_in, led_all, led_waiter, rounds_in}
+use Rattle.mbj_manager.specs.Inside.Lines.{Line, line}
+use Rattle.mbj_manager.specs.Inside.Held.{IsHere, IsTied, find_in, found, owed_from}
+use Rattle.mbj_manager.proofs.Changing.{length-changed}
+use Rattle.mbj_manager.proofs.Finishing.{at-changed}
+use Rattle.mbj_manager.proofs.Joining.{at-here}
+use Rattle.mbj_manager.proofs.KindLines.{put, put-case, put-self}
+use Rattle.mbj_manager.proofs.Listing.{absent-listed, joined-listed, listed-changed}
+use Rattle.mbj_manager.proofs.Owing.{back-out, owed-back, owed-enter, owed_from-same}
+use Rattle.mbj_manager.proofs.RingCourses.{at-below}
+use Rattle.mbj_manager.proofs.SeenAhead.{zero-or}
+
+-- ---- items
+
+pub at-new : {A : Type 0} (P Q : A → Type 0) (f : A → A) (n : ℕ) (xs : List A) → ((x : A) → P x → Q (f x)) → At P n xs → At Q n (changed f n xs)
+at-new P Q f n [] h a = a
+at-new P Q f zero (x ∷ xs) h a = h x a
+at-new P Q f (suc n) (x ∷ xs) h a = at-new P Q f n xs h a
+
+at-both : {A : Type 0} (P Q : A → Type 0) (n : ℕ) (xs : List A) → At P n xs → At Q n xs → At (λ x. P x × Q x) n xs
+at-both P Q n [] a b = a
+at-both P Q zero (x ∷ xs) a b = (a, b)
+at-both P Q (suc n) (x ∷ xs) a b = at-both P Q n xs a b
+
+at-none : {A : Type 0} (P : A → Type 0) (n : ℕ) (xs : List A) → ((x : A) → P x → ⊥) → At P n xs → ⊥
+at-none P n [] f a = a
+at-none P zero (x ∷ xs) f a = f x a
+at-none P (suc n) (x ∷ xs) f a = at-none P n xs f a
+
+same-lane : (k j : Kind) → stage.Lane k ≡ stage.Lane j → j ≡ k
+same-lane k j h = cc
+
+other-kinds : (k j : Kind) (e d : End) (n : ℕ) (cs : List Going) → j ≢ k → At (IsOut k e) n cs → At (IsOut j d) n cs → ⊥
+other-kinds k j e d n cs h a b =
+    at-none (λ c. IsOut k e c × IsOut j d c) n cs (λ c p. h (same-lane k j (sym p.0.stage ∙ p.1.stage))) (at-both (IsOut k e) (IsOut j d) n cs a b)
+
+absent-other : (k j : Kind) (e : End) (m : ℕ) (cs : List Going) (ws : List Waiter) → j ≢ k → At (IsOut k e) m cs → Listed j cs ws → IsAbsent m ws
+absent-other k j e m cs [] h o r = tt
+absent-other k j e m cs (w ∷ ws) h o r =
+    ((λ z. other-kinds k j e w.1.brings m cs h o (subst (λ (n : ℕ). At (IsOut j w.1.brings) n cs) z r.0)), absent-other k j e m cs ws h o r.2)
+
+-- ---- one of the middle of a list
+
+absent-middle : (m : ℕ) (front : List Waiter) (w : Waiter) (ws : List Waiter) → IsAbsent m (front ++ w ∷ ws) → (w.0 ≢ m) × IsAbsent m (front ++ ws)
+absent-middle m [] w ws a = (a.0, a.1)
+absent-middle m (v ∷ front) w ws a = let i = absent-middle m front w ws a.1 in (i.0, (a.0, i.1))
+
+absent-with : (m : ℕ) (front : List Waiter) (w : Waiter) (ws : List Waiter) → w.0 ≢ m → IsAbsent m (front ++ ws) → IsAbsent m (front ++ w ∷ ws)
+absent-with m [] w ws h a = (h, a)
+absent-with m (v ∷ front) w ws h a = (a.0, absent-with m front w ws h a.1)
+
+absent-front : (m : ℕ) (ws : List Waiter) (w : Waiter) → IsAbsent m (ws ++ w ∷ []) → (w.0 ≢ m) × IsAbsent m ws
+absent-front m [] w a = (a.0, tt)
+absent-front m (v ∷ ws) w a = let i = absent-front m ws w a.1 in (i.0, (a.0, i.1))
+
+pub record Middle (k : Kind) (cs : List Going) (front : List Waiter) (w : Waiter) (ws : List Waiter) : Type 0 where
+  pub out : At (IsOut k w.1.brings) w.0 cs
+  pub absent : IsAbsent w.0 (front ++ ws)
+  pub rest : Listed k cs (front ++ ws)
+
+pub middle : (k : Kind) (cs : List Going) (front : List Waiter) (w : Waiter) (ws : List Waiter) → Listed k cs (front ++ w ∷ ws) → Middle k cs front w ws
+middle k cs [] w ws r = record { out = r.0; absent = r.1; rest = r.2 }
+middle k cs (v ∷ front) w ws r =
+    let i = middle k cs front w ws r.2 in
+    let a = absent-middle v.0 front w ws r.1 in
+    record { out = i.out; absent = (λ z. a.0 (sym z), i.absent); rest = (r.0, a.1, i.rest) }
+
+-- ---- what is found
+
+found-here : (front : List Waiter) (w : Waiter) (ws : List Waiter) → IsAbsent w.0 (front ++ ws) → found w.0 (front ++ w ∷ ws) ≡ Some w.1.brings
+found-here [] w ws a = rw (eq-eqb w.0 w.0 refl) refl
+found-here (v ∷ front) w ws a = rw (ne_eqb w.0 v.0 (λ z. a.0 (sym z))) (found-here front w ws a.1)
+
+found-other : (front : List Waiter) (w : Waiter) (ws : List Waiter) (m : ℕ) → m ≢ w.0 → found m (front ++ w ∷ ws) ≡ found m (front ++ ws)
+found-other [] w ws m h = rw (ne_eqb m w.0 h) refl
+found-other (v ∷ front) w ws m h = ap (λ (r : Option End). cond (eqb m v.0) (Some v.1.brings) r) (found-other front w ws m h)
+
+find-put-self : (k : Kind) (m : ℕ) (l : Line) (lines : Kind → Line) → find_in (put k l lines) k m ≡ found m l.waiters
+find-put-self k m l lines = ap (λ (x : Line). found m x.waiters) (put-self k l lines)
+
+find-put-other : (k j : Kind) (m : ℕ) (l : Line) (lines : Kind → Line) → found m (lines k).waiters ≡ found m l.waiters
+    → find_in lines j m ≡ find_in (put k l lines) j m
+find-put-other k j m l lines h = elim (put-case k j l lines) [
+  | inl e ↦ subst (λ i. found m (lines i).waiters ≡ found m l.waiters) (sym e.0) h ∙ sym (ap (λ (x : Line). found m x.waiters) e.1)
+  | inr e ↦ sym (ap (λ (x : Line). found m x.waiters) e.1)
+]
+
+-- ---- steps
+
+-- lists with the same jobs in them
+pub tied-same : (cs : List Going) (agenda : List ℕ) (lines lines' : Kind → Line) → ((j : Kind) → (lines j).waiters ≡ (lines' j).waiters)
+    → IsTied cs agenda lines → IsTied cs agenda lines'
+tied-same cs agenda lines lines' h y = record {
+  listed = λ j. subst (Listed j cs) (h j) (y.listed j);
+  here = λ n lt a. y.here n lt (λ j. subst (IsAbsent n) (sym (h j)) (a j));
+  below = y.below;
+}
+
+-- what finishes at once is done
+pub tied-follow : (c : Going) (p : ℕ) (cs : List Going) (agenda : List ℕ) (lines : Kind → Line) → At (Follows c) p cs → At IsHere p cs → IsTied cs agenda lines
+    → IsTied (changed (λ _. c) p cs) agenda lines
+tied-follow c p cs agenda lines f was y =
+    let len = length-changed (λ (_ : Going). c) p cs in
+    record {
+      listed = λ j. listed-changed j (λ _. c) p cs (lines j).waiters (absent-listed j p cs (lines j).waiters was (y.listed j)) (y.listed j);
+      here = λ n lt a. elim (cases_eq n p) [
+        | inl e ↦ subst (λ (m : ℕ). At IsHere m (changed (λ _. c) p cs)) (sym e) (at-new (Follows c) IsHere (λ _. c) p cs (λ x h. h.here) f)
+        | inr ne ↦ at-changed IsHere (λ _. c) n p cs ne (y.here n (omega arith) a)
+      ];
+      below = All-weaker (λ n. n < length cs) (λ n. n < length (changed (λ (_ : Going). c) p cs)) (λ n h. omega arith) agenda y.below;
+    }
+
+-- an entry goes out and joins the list of its kind
+pub tied-join : (k : Kind) (w : Waiter) (r b : ℕ) (cs : List Going) (agenda : List ℕ) (lines : Kind → Line) → At (IsNext k) w.0 cs
+    → At (Gives k w.1.rounds w.1.brings) w.0 cs → IsTied cs agenda lines
+    → IsTied (changed handed_out w.0 cs) agenda (put k (line ((lines k).waiters ++ w ∷ []) r b) lines)
+tied-join k w r b cs agenda lines next gives y =
+    let p = w.0 in
+    let cs' = changed handed_out p cs in
+    let l = line ((lines k).waiters ++ w ∷ []) r b in
+    let len = length-changed handed_out p cs in
+    let was = at-here k p cs next in
+    record {
+      listed = λ j. elim (put-case k j l lines) [
+        | inl e ↦ rw (e.1, e.0) (joined-listed k w cs (lines k).waiters next gives (y.listed k))
+        | inr e ↦ rw e.1 (listed-changed j handed_out p cs (lines j).waiters (absent-listed j p cs (lines j).waiters was (y.listed j)) (y.listed j))
+      ];
+      here = λ n lt a.
+          (let own = absent-front n (lines k).waiters w (subst (λ (x : Line). IsAbsent n x.waiters) (put-self k l lines) (a k)) in
+          at-changed IsHere handed_out n p cs (λ e. own.0 (sym e)) (y.here n (omega arith) (λ j. elim (put-case k j l lines) [
+            | inl e ↦ subst (λ i. IsAbsent n (lines i).waiters) (sym e.0) own.1
+            | inr e ↦ subst (λ (x : Line). IsAbsent n x.waiters) e.1 (a j)
+          ])));
+      below = All-weaker (λ n. n < length cs) (λ n. n < length cs') (λ n h. omega arith) agenda y.below;
+    }
+
+-- an entry comes back, and its course joins the agenda
+pub tied-give : (k : Kind) (front : List Waiter) (w : Waiter) (ws : List Waiter) (cs : List Going) (agenda : List ℕ) (lines : Kind → Line)
+    → (lines k).waiters ≡ front ++ w ∷ ws → IsTied cs agenda lines
+    → IsTied (changed (taken_back w.1.brings) w.0 cs) (agenda ++ w.0 ∷ []) (put k (line (front ++ ws) 0 0) lines)
+tied-give k front w ws cs agenda lines l y =
+    let p = w.0 in
+    let f : Going → Going = taken_back w.1.brings in
+    let cs' = changed f p cs in
+    let new = line (front ++ ws) 0 0 in
+    let len = length-changed f p cs in
+    let o = middle k cs front w ws (subst (Listed k cs) l (y.listed k)) in
+    let lt = at-below (IsOut k w.1.brings) p cs o.out in
+    record {
+      listed = λ j. elim (put-case k j new lines) [
+        | inl e ↦ rw (e.1, e.0) (listed-changed k f p cs (front ++ ws) o.absent o.rest)
+        | inr e ↦ rw e.1 (listed-changed j f p cs (lines j).waiters (absent-other k j w.1.brings p cs (lines j).waiters e.0 o.out (y.listed j)) (y.listed j))
+      ];
+      here = λ n lt a. elim (cases_eq n p) [
+        | inl e ↦ subst (λ (m : ℕ). At IsHere m cs') (sym e) (at-new (IsOut k w.1.brings) IsHere f p cs (λ c h. back-out k w.1.brings c h) o.out)
+        | inr ne ↦ at-changed IsHere f n p cs ne (y.here n (omega arith) (λ j. elim (put-case k j new lines) [
+          | inl e ↦ subst (λ i. IsAbsent n (lines i).waiters) (sym e.0) (subst (IsAbsent n) (sym l)
+              (absent-with n front w ws (λ e. ne (sym e)) (subst (λ (x : Line). IsAbsent n x.waiters) (put-self k new lines) (a k))))
+          | inr e ↦ subst (λ (x : Line). IsAbsent n x.waiters) e.1 (a j)
+        ]))
+      ];
+      below = All-push (λ n. n < length cs') agenda p (All-weaker (λ n. n < length cs) (λ n. n < length cs') (λ n h. omega arith) agenda y.below) (omega arith);
+    }
+
+-- what is owed then
+owed-give : (k : Kind) (front : List Waiter) (w : Waiter) (ws : List Waiter) (cs : List Going) (agenda : List ℕ) (lines : Kind → Line)
+    → (lines k).waiters ≡ front ++ w ∷ ws → IsTied cs agenda lines
+    → owed_from 0 (find_in lines) cs ≡ owed_from 0 (find_in (put k (line (front ++ ws) 0 0) lines)) (changed (taken_back w.1.brings) w.0 cs)
+owed-give k front w ws cs agenda lines l y =
+    let o = middle k cs front w ws (subst (Listed k cs) l (y.listed k)) in
+    let new = line (front ++ ws) 0 0 in
+    owed-back 0 w.0 w.0 (find_in lines) (find_in (put k new lines)) k w.1.brings cs (omega arith)
+    (λ j m h. find-put-other k j m new lines (ap (found m) l ∙ found-other front w ws m h))
+    (ap (found w.0) l ∙ found-here front w ws o.absent) o.out
+
+pub owed-join : (k : Kind) (w : Waiter) (r b : ℕ) (cs : List Going) (lines : Kind → Line) → IsAbsent w.0 (lines k).waiters → At (IsNext k) w.0 cs
+    → At (Gives k w.1.rounds w.1.brings) w.0 cs
+    → owed_from 0 (find_in lines) cs ≡ owed_from 0 (find_in (put k (line ((lines k).waiters ++ w ∷ []) r b) lines)) (changed handed_out w.0 cs)
+owed-join k w r b cs lines a next gives =
+    let ws = (lines k).waiters in
+    let new = line (ws ++ w ∷ []) r b in
+    let n : ws ++ [] ≡ ws = append-nil ws in
+    owed-enter 0 w.0 w.0 (find_in lines) (find_in (put k new lines)) k w.1.rounds w.1.brings cs (omega arith)
+    (λ j m h. find-put-other k j m new lines (ap (found m) (sym n) ∙ sym (found-other ws w [] m h)))
+    (find-put-self k w.0 new lines ∙ found-here ws w [] (subst (IsAbsent w.0) (sym n) a)) next gives
+
+-- ---- all whose rounds are done leave
+
+pub record Leaves (k : Kind) (cs : List Going) (agenda : List ℕ) (lines : Kind → Line) (front ws : List Waiter) : Type 0 where
+  pub tied : IsTied (returned brings_in cs (finishers rounds_in ws)) (agenda ++ numbers (finishers rounds_in ws))
+      (put k (line (front ++ others rounds_in ws) 0 0) lines)
+  pub owed : owed_from 0 (find_in lines) cs
+      ≡ owed_from 0 (find_in (put k (line (front ++ others rounds_in ws) 0 0) lines)) (returned brings_in cs (finishers rounds_in ws))
+
+-- the lists of which the kind's has these jobs
+put-waits : (k : Kind) (l : Line) (lines : Kind → Line) → (lines k).waiters ≡ l.waiters → (j : Kind) → (lines j).waiters ≡ (put k l lines j).waiters
+put-waits k l lines h j = elim (put-case k j l lines) [
+  | inl e ↦ subst (λ i. (lines i).waiters ≡ l.waiters) (sym e.0) h ∙ sym (ap (λ (x : Line). x.waiters) e.1)
+  | inr e ↦ sym (ap (λ (x : Line). x.waiters) e.1)
+]
+
+pub put-twice : (k : Kind) (l m : Line) (lines : Kind → Line) (j : Kind) → (put k l (put k m lines) j).waiters ≡ (put k l lines j).waiters
+put-twice k l m lines j = elim (put-case k j l lines) [
+  | inl e ↦ ap (λ (x : Line). x.waiters) (subst (λ i. put k l (put k m lines) i ≡ l) (sym e.0) (put-self k l (put k m lines))) ∙ sym (ap (λ (x : Line). x.waiters) e.1)
+  | inr e ↦ elim (put-case k j l (put k m lines)) [
+    | inl d ↦ absurd (e.0 d.0)
+    | inr d ↦ elim (put-case k j m lines) [
+      | inl b ↦ absurd (e.0 b.0)
+      | inr b ↦ ap (λ (x : Line). x.waiters) (d.1 ∙ b.1 ∙ sym e.1)
+    ]
+  ]
+]
+
+leaves-none : (k : Kind) (cs : List Going) (agenda : List ℕ) (lines : Kind → Line) (front : List Waiter) → (lines k).waiters ≡ front ++ []
+    → IsTied cs agenda lines → Leaves k cs agenda lines front []
+leaves-none k cs agenda lines front l y =
+    let same = put-waits k (line (front ++ []) 0 0) lines l in
+    record {
+      tied = subst (λ (a : List ℕ). IsTied cs a (put k (line (front ++ []) 0 0) lines)) (sym (append-nil agenda))
+          (tied-same cs agenda lines (put k (line (front ++ []) 0 0) lines) same y);
+      owed = owed_from-same 0 (find_in lines) (find_in (put k (line (front ++ []) 0 0) lines)) cs (λ j m h. ap (found m) (same j));
+    }
+
+leaves-first : (k : Kind) (cs : List Going) (agenda : List ℕ) (lines : Kind → Line) (front : List Waiter) (w : Waiter) (ws : List Waiter)
+    → (lines k).waiters ≡ front ++ w ∷ ws → IsTied cs agenda lines → eqb w.1.rounds 0 ≡ true
+    → Leaves k (changed (taken_back w.1.brings) w.0 cs) (agenda ++ w.0 ∷ []) (put k (line (front ++ ws) 0 0) lines) front ws
+    → Leaves k cs agenda lines front (w ∷ ws)
+leaves-first k cs agenda lines front w ws l y z i =
+    let f : Going → Going = taken_back w.1.brings in
+    let cs' = changed f w.0 cs in
+    let mid = line (front ++ ws) 0 0 in
+    let end = line (front ++ others rounds_in ws) 0 0 in
+    let cs2 = returned brings_in cs' (finishers rounds_in ws) in
+    let same = put-twice k end mid lines in
+    let tied = tied-same cs2 _ (put k end (put k mid lines)) (put k end lines) same i.tied in
+    let tied' = subst (λ (a : List ℕ). IsTied cs2 a (put k end lines)) (append_assoc agenda (w.0 ∷ []) (numbers (finishers rounds_in ws))) tied in
+    let ow = owed-give k front w ws cs agenda lines l y ∙ i.owed
+    ∙ owed_from-same 0 (find_in (put k end (put k mid lines))) (find_in (put k end lines)) cs2 (λ j m h. ap (found m) (same j)) in
+    record { tied = rw z tied'; owed = rw z ow }
+
+leaves-later : (k : Kind) (cs : List Going) (agenda : List ℕ) (lines : Kind → Line) (front : List Waiter) (w : Waiter) (ws : List Waiter) → eqb w.1.rounds 0 ≡ false
+    → Leaves k cs agenda lines (front ++ w ∷ []) ws → Leaves k cs agenda lines front (w ∷ ws)
+leaves-later k cs agenda lines front w ws z i =
+    let a = append_assoc front (w ∷ []) (others rounds_in ws) in
+    let t = i.tied in
+    let o = i.owed in
+    record { tied = rw z (rw a at t); owed = rw z (rw a at o) }
+
+pub leaves : (k : Kind) (cs : List Going) (agenda : List ℕ) (lines : Kind → Line) (front ws : List Waiter) → (lines k).waiters ≡ front ++ ws → IsTied cs agenda lines
+    → Leaves k cs agenda lines front ws
+leaves k cs agenda lines front [] l y = leaves-none k cs agenda lines front l y
+leaves k cs agenda lines front (w ∷ ws) l y = elim (zero-or w.1.rounds) [
+  | inl z ↦ leaves-first k cs agenda lines front w ws l y z.1
+      (leaves k (changed (taken_back w.1.brings) w.0 cs) (agenda ++ w.0 ∷ []) (put k (line (front ++ ws) 0 0) lines) front ws
+      (ap (λ (x : Line). x.waiters) (put-self k (line (front ++ ws) 0 0) lines)) (tied-give k front w ws cs agenda lines l y))
+  | inr z ↦ leaves-later k cs agenda lines front w ws z
+      (leaves k cs agenda lines (front ++ w ∷ []) ws (l ∙ sym (append_assoc front (w ∷ []) ws)) y)
+]
+
+-- ---- a run lowers the rests alone
+
+led-absent : (m n : ℕ) (ws : List Waiter) → IsAbsent n ws → IsAbsent n (map (led_waiter m) ws)
+led-absent m n [] a = tt
+led-absent m n (w ∷ ws) a = (a.0, led-absent m n ws a.1)
+
+absent-led : (m n : ℕ) (ws : List Waiter) → IsAbsent n (map (led_waiter m) ws) → IsAbsent n ws
+absent-led m n [] a = tt
+absent-led m n (w ∷ ws) a = (a.0, absent-led m n ws a.1)
+
+led-listed : (k : Kind) (cs : List Going) (m : ℕ) (ws : List Waiter) → Listed k cs ws → Listed k cs (map (led_waiter m) ws)
+led-listed k cs m [] r = tt
+led-listed k cs m (w ∷ ws) r = (r.0, led-absent m w.0 ws r.1, led-listed k cs m ws r.2)
+
+led-found : (n m : ℕ) (ws : List Waiter) → found n ws ≡ found n (map (led_waiter m) ws)
+led-found n m [] = refl
+led-found n m (w ∷ ws) = ap (λ (r : Option End). cond (eqb n w.0) (Some w.1.brings) r) (led-found n m ws)
+
+tied-led : (k : Kind) (m : ℕ) (cs : List Going) (agenda : List ℕ) (lines : Kind → Line) → IsTied cs agenda lines
+    → IsTied cs agenda (put k (line (map (led_waiter m) (lines k).waiters) 0 0) lines)
+tied-led k m cs agenda lines y =
+    let l = line (map (led_waiter m) (lines k).waiters) 0 0 in
+    record {
+      listed = λ j. elim (put-case k j l lines) [
+        | inl e ↦ rw (e.1, e.0) (led-listed k cs m (lines k).waiters (y.listed k))
+        | inr e ↦ rw e.1 (y.listed j)
+      ];
+      here = λ n lt a. y.here n lt (λ j. elim (put-case k j l lines) [
+        | inl e ↦ subst (λ i. IsAbsent n (lines i).waiters) (sym e.0)
+            (absent-led m n (lines k).waiters (subst (λ (x : Line). IsAbsent n x.waiters) (put-self k l lines) (a k)))
+        | inr e ↦ subst (λ (x : Line). IsAbsent n x.waiters) e.1 (a j)
+      ]);
+      below = y.below;
+    }
+
+-- the list of a kind runs
+pub record Ran (k : Kind) (cs : List Going) (agenda : List ℕ) (lines : Kind → Line) : Type 0 where
+  pub tied : IsTied (returned brings_in cs (finishers rounds_in (led_all (lines k).waiters))) (agenda ++ numbers (finishers rounds_in (led_all (lines k).waiters)))
+      (put k (line (others rounds_in (led_all (lines k).waiters)) 0 0) lines)
+  pub owed : owed_from 0 (find_in lines) cs
+      ≡ owed_from 0 (find_in (put k (line (others rounds_in (led_all (lines k).waiters)) 0 0) lines))
+      (returned brings_in cs (finishers rounds_in (led_all (lines k).waiters)))
+
+pub ran-list : (k : Kind) (cs : List Going) (agenda : List ℕ) (lines : Kind → Line) → IsTied cs agenda lines → Ran k cs agenda lines
+ran-list k cs agenda lines y =
+    let m = least (pair_rest rounds_in) (lines k).waiters in
+    let ws = led_all (lines k).waiters in
+    let l = line ws 0 0 in
+    let end = line (others rounds_in ws) 0 0 in
+    let lines' = put k l lines in
+    let i = leaves k cs agenda lines' [] ws (ap (λ (x : Line). x.waiters) (put-self k l lines)) (tied-led k m cs agenda lines y) in
+    let same = put-twice k end l lines in
+    let cs2 = returned brings_in cs (finishers rounds_in ws) in
+    record {
+      tied = tied-same cs2 _ (put k end lines') (put k end lines) same i.tied;
+      owed = owed_from-same 0 (find_in lines) (find_in lines') cs (λ j n h. find-put-other k j n l lines (led-found n m (lines k).waiters))
+          ∙ i.owed ∙ owed_from-same 0 (find_in (put k end lines')) (find_in (put k end lines)) cs2 (λ j n h. ap (found n) (same j));
+    }

@@ -1,0 +1,16 @@
+-- What is owed and what is in lanes stays, and a stage less is left after each turn.
+use Rattle.std.proofs.Common.{◌≡◌, None, length}
+use Rattle.mbj_stage.specs.Going.{owed}
+use Rattle.mbj_manager.specs.Rounds.{pending}
+use Rattle.mbj_manager.specs.Course.{in_lanes_next}
+use Rattle.mbj_manager.proofs.cell.run_nows.Given as goal
+
+abbrev pub invariant-stages : goal.invariant-stages
+invariant-stages l = record {
+  owed_is : owed l.course ≡ owed l.initial.course;
+  pending_is : in_lanes_next (pending l.course) ≡ in_lanes_next (pending l.initial.course);
+  here : l.course.out ≡ None;
+}
+
+abbrev pub decreases-stages : goal.decreases-stages
+decreases-stages l = length l.course.left

@@ -1,0 +1,9 @@
+pub mod Pairs
+pub mod Leaving
+pub mod Courses
+pub mod Cause
+pub mod Desk
+pub mod Lines
+pub mod Standing
+pub mod Held
+pub mod Added

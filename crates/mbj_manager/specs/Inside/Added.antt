@@ -1,0 +1,24 @@
+-- Steps of a manager's state that no call makes by itself.
+use Rattle.std.specs.Prelude.{List, [], ◌∷◌, ◌++◌, length, Option, Some, None}
+use Rattle.mbj_types.specs.declared.job.Job.{Job}
+use Rattle.mbj_types.specs.declared.kind.Kind.{Kind}
+use Rattle.mbj_types.specs.Result.{result_of}
+use Rattle.mbj_stage.specs.Going.{begun}
+use Rattle.mbj_manager.specs.Rounds.{Pending, at_once, in_lanes, pending}
+use Rattle.mbj_manager.specs.State.{ManagerState}
+
+-- the job that was open goes last, and stands in the agenda
+abbrev pub added : Option Job → ManagerState → ManagerState
+added None h = h
+added (Some j) h = record {
+  owed = h.owed ++ result_of j ∷ [];
+  opened = None;
+  machine = record h.machine { left = h.machine.left ++ pending (begun j) ∷ []; agenda = length h.owed ∷ [] };
+}
+
+-- the kind in whose lanes the earliest job waits
+abbrev pub first_lane : List (List Pending) → Option Kind
+first_lane [] = None
+first_lane ([] ∷ left) = None
+first_lane ((at_once ∷ ps) ∷ left) = None
+first_lane ((in_lanes k rest ∷ ps) ∷ left) = Some k

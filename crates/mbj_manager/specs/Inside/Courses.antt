@@ -1,0 +1,65 @@
+-- The courses in a manager's ring.
+use Rattle.std.specs.Prelude.{◌≡◌, ◌≢◌, ℕ, ◌+◌, ◌-◌, ◌%◌, ◌<◌, ◌≤◌, List, [], ◌∷◌, length, map, All, Option, Some, None}
+use Rattle.mbj_types.specs.declared.job.Job.{Job}
+use Rattle.mbj_stage.specs.Going.{Going, begun, stage_of, owed}
+use Rattle.mbj_stage.specs.declared.stage.Stage.{Stage}
+use Rattle.mbj_stage.specs.declared.stage.Stage.TheVariants as stage
+use Rattle.mbj_ring.specs.declared.ring.TheConstants.{CELLS}
+use Rattle.mbj_ring.specs.Ring.{RingState}
+use Rattle.mbj_manager.specs.Rounds.{pending}
+use Rattle.mbj_manager.specs.Course.{in_lanes_next}
+use Rattle.mbj_manager.specs.declared.cell.Cell.{Cell}
+use Rattle.mbj_manager.specs.declared.cell.Cell.TheVariants as cell
+
+-- the job in a cell
+abbrev pub job_in : Cell → Job
+job_in (cell.Open j) = j
+job_in (cell.Going c) = c.job
+
+-- the course in a cell; a job that is being filled has nothing done
+abbrev pub course_in : Cell → Going
+course_in (cell.Open j) = begun j
+course_in (cell.Going c) = c
+
+abbrev pub IsOpen : Cell → Type 0
+IsOpen (cell.Open j) = Unit {0}
+IsOpen (cell.Going c) = ⊥
+
+abbrev pub IsGoing : Cell → Type 0
+IsGoing (cell.Open j) = ⊥
+IsGoing (cell.Going c) = Unit {0}
+
+abbrev pub courses : RingState Cell → List Going
+courses r = map course_in r.values
+
+-- the number of the job at a place: how many are before it
+abbrev pub number : ℕ → ℕ → ℕ
+number first place = (CELLS + place - first) % CELLS
+
+abbrev pub number_in : RingState Cell → ℕ → ℕ
+number_in r = number r.first
+
+-- the committed cells hold courses, at places of the ring
+pub record AreCourses (r : RingState Cell) : Type 0 where
+  pub going : All IsGoing r.values
+  pub few : length r.values ≤ CELLS
+  pub first : r.first < CELLS
+
+-- the ring changed in its courses alone
+pub record IsSameRing (new old : RingState Cell) : Type 0 where
+  pub first : new.first ≡ old.first
+  pub opened : new.opened ≡ old.opened
+  pub courses : AreCourses new
+
+-- the stage of the earliest course
+abbrev pub first_stage : List Going → Option Stage
+first_stage [] = None
+first_stage (c ∷ cs) = Some (stage_of c)
+
+-- c is the course once what finishes at once is done
+pub record Follows (c : Going) (old : Going) : Type 0 where
+  pub owed_is : owed c ≡ owed old
+  pub pending_is : pending c ≡ in_lanes_next (pending old)
+  pub was_here : old.out ≡ None
+  pub here : c.out ≡ None
+  pub not_now : stage_of c ≢ stage.Now

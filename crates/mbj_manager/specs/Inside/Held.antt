@@ -1,0 +1,121 @@
+-- How ring, agenda and lists hold a manager's state.
+use Rattle.std.specs.Prelude.{◌≡◌, ℕ, ◌+◌, ◌*◌, ◌<◌, ◌≤◌, ◌==◌, suc, List, [], ◌∷◌, length, map, All, Option, Some, None, option_map, if◌then◌else◌}
+use Rattle.mbj_types.specs.declared.kind.Kind.{Kind}
+use Rattle.mbj_types.specs.declared.done.Done.{Done}
+use Rattle.mbj_ring.specs.Ring.{RingState}
+use Rattle.mbj_stage.specs.Going.{Going, owed, stage_of}
+use Rattle.mbj_stage.specs.Handing.{End, owed_with}
+use Rattle.mbj_stage.specs.declared.stage.Stage.{Stage}
+use Rattle.mbj_stage.specs.declared.stage.Stage.TheVariants as stage
+use Rattle.mbj_manager.specs.Rounds.{pending}
+use Rattle.mbj_manager.specs.Machine.{Waiting, Lane, Machine, lanes_by}
+use Rattle.mbj_manager.specs.State.{ManagerState}
+use Rattle.mbj_manager.specs.declared.cell.Cell.{Cell}
+use Rattle.mbj_manager.specs.Inside.Courses.{AreCourses, IsOpen, courses, job_in, number_in}
+use Rattle.mbj_manager.specs.Inside.Leaving.{At, IsAbsent}
+use Rattle.mbj_manager.specs.Inside.Desk.{Waiter, Listed}
+use Rattle.mbj_manager.specs.Inside.Lines.{Line, Lines, line, line_in, numbered_line, total}
+use Rattle.mbj_manager.specs.Inside.Standing.{IsWithin}
+
+abbrev pub no_line : Line
+no_line = line [] 0 0
+
+-- lists with nobody in them, and counts of 0
+abbrev pub no_lines : Lines
+no_lines = record {
+  cbc128 = no_line;
+  cbc192 = no_line;
+  cbc256 = no_line;
+  cmac128 = no_line;
+  cmac256 = no_line;
+  hmac_sha1 = no_line;
+  hmac_sha256 = no_line;
+  hmac_sha512 = no_line;
+  flush_runs = 0;
+}
+
+-- ---- the machine
+
+abbrev pub waiting : Waiter → Waiting
+waiting w = record { number = w.0; rest = w.1.rounds }
+
+abbrev pub lane_seen : Line → Lane
+lane_seen l = record { waiting = map waiting l.waiters; rounds = l.rounds; blocks = l.blocks }
+
+abbrev pub machine_by : List Going → List ℕ → (Kind → Line) → ℕ → Machine
+machine_by cs agenda lines flush_runs =
+    record { left = map pending cs; lanes = lanes_by (λ k. lane_seen (lines k)); agenda = agenda; flush_runs = flush_runs }
+
+-- ---- what is owed
+
+-- the end of the entry of the job n in a list
+abbrev pub found : ℕ → List Waiter → Option End
+found n [] = None
+found n (w ∷ ws) = if n == w.0 then Some w.1.brings else found n ws
+
+abbrev pub owed_found : Going → Option End → Done
+owed_found c None = owed c
+owed_found c (Some e) = owed_with e c
+
+abbrev pub owed_by : Stage → ℕ → (Kind → ℕ → Option End) → Going → Done
+owed_by stage.Now n find c = owed c
+owed_by stage.Finished n find c = owed c
+owed_by (stage.Lane k) n find c = owed_found c (find k n)
+
+abbrev pub owed_here : Option ℕ → Done → Done → Done
+owed_here None d out = d
+owed_here (Some n) d out = out
+
+-- what the course of the job n owes: while its packet is out, that is by the end of its entry
+abbrev pub owed_of : ℕ → (Kind → ℕ → Option End) → Going → Done
+owed_of n find c = owed_here c.out (owed c) (owed_by (stage_of c) n find c)
+
+-- what courses owe, the first of which is of the job n
+abbrev pub owed_from : ℕ → (Kind → ℕ → Option End) → List Going → List Done
+owed_from n find [] = []
+owed_from n find (c ∷ cs) = owed_of n find c ∷ owed_from (suc n) find cs
+
+abbrev pub find_in : (Kind → Line) → Kind → ℕ → Option End
+find_in lines k n = found n (lines k).waiters
+
+-- ---- the state
+
+abbrev pub lines_in : RingState Cell → Lines → Kind → Line
+lines_in r ls k = numbered_line (number_in r) (line_in k ls)
+
+abbrev pub machine_in : RingState Cell → List ℕ → Lines → Machine
+machine_in r agenda ls = machine_by (courses r) (map (number_in r) agenda) (lines_in r ls) ls.flush_runs
+
+abbrev pub held : RingState Cell → List ℕ → Lines → ManagerState
+held r agenda ls = record {
+  owed = owed_from 0 (find_in (lines_in r ls)) (courses r);
+  opened = option_map job_in r.opened;
+  machine = machine_in r agenda ls;
+}
+
+abbrev pub IsOpenAt : Option Cell → Type 0
+IsOpenAt None = Unit {0}
+IsOpenAt (Some c) = IsOpen c
+
+abbrev pub IsHere : Going → Type 0
+IsHere c = c.out ≡ None
+
+-- lists, agenda and courses fit: who waits has its entry out, each other course has its packet, and who stands in the agenda
+-- has a course
+pub record IsTied (cs : List Going) (agenda : List ℕ) (lines : Kind → Line) : Type 0 where
+  pub listed : (k : Kind) → Listed k cs (lines k).waiters
+  pub here : (n : ℕ) → n < length cs → ((k : Kind) → IsAbsent n (lines k).waiters) → At IsHere n cs
+  pub below : All (λ n. n < length cs) agenda
+
+-- how many jobs there are at most in agenda and lists: in each list one fewer than it has lanes, and one that goes on
+abbrev pub agenda_room : ℕ
+agenda_room = 5 * 15 + 2 * 7 + 3 + 1
+
+-- what the fields keep
+pub record IsHeld (r : RingState Cell) (agenda : List ℕ) (ls : Lines) (capacity : ℕ) : Type 0 where
+  pub ring : AreCourses r
+  pub is_open : IsOpenAt r.opened
+  pub within : IsWithin (machine_in r agenda ls)
+  pub tied : IsTied (courses r) (map (number_in r) agenda) (lines_in r ls)
+  pub fits : length agenda + total ls ≤ agenda_room
+  pub room : agenda_room ≤ capacity

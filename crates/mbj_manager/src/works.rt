@@ -1,0 +1,254 @@
+ghost use Rattle.mbj_types.specs.Kinds.{lanes_of};
+ghost use Rattle.std.specs.Prelude.{◌≡◌, ◌≢◌, ◌↔◌, ◌*◌, ◌%◌, ◌<◌, ◌≤◌, [], ◌∷◌, ◌++◌, length, map, Option, Some, None, IfOk, IsSome, IsTrue, slice_get, option_map};
+ghost use Rattle.std.specs.Borrow.{sem};
+ghost use Rattle.mbj_types.specs.Result.{result_of};
+ghost use Rattle.mbj_ring.specs.declared.ring.TheConstants.{CELLS};
+ghost use Rattle.mbj_stage.specs.Going.{begun, stage_of};
+ghost use Rattle.mbj_stage.specs.declared.stage.Stage.TheVariants as stage;
+ghost use Rattle.mbj_manager.specs.Rounds.{pending};
+ghost use Rattle.mbj_manager.specs.Machine.{count_end, lane_of, run_idle};
+ghost use Rattle.mbj_manager.specs.Course.{course, flushed, stages_left, stepped, steps_ahead};
+ghost use Rattle.mbj_manager.specs.State.{given, lent, new_manager, with_open};
+ghost use Rattle.mbj_manager.specs.Lending.{LendsOpenJob};
+ghost use Rattle.mbj_manager.specs.Inside.Added.{added, first_lane};
+ghost use Rattle.mbj_manager.specs.Inside.Cause.{within};
+ghost use Rattle.mbj_manager.specs.Inside.Courses.{AreCourses, courses, first_stage};
+
+use crate::agenda::Agenda;
+use crate::cell::Cell;
+use crate::lane::{Cause, run_nows};
+use crate::lists::Lists;
+use mbj_ring::{CELLS, Ring};
+use mbj_stage::Stage;
+use mbj_types::{Done, Job, Kind};
+use std::alloc::{AllocError, Global};
+use std::marker::Model;
+
+/// How many jobs stand in agenda and lists at most: in each list one fewer than it has lanes, and one that goes on.
+const AGENDA_ROOM: usize = 5 * 15 + 2 * 7 + 3 + 1;
+
+/// The courses of the jobs, those that stand between two stages, and those that wait for lanes.
+#[derive(Drop)]
+pub struct Works {
+    ring: Ring<Cell>,
+    agenda: Agenda,
+    lists: Lists,
+}
+
+impl Model for Works {
+    ghost use Rattle.std.specs.Prelude.{vec_capacity};
+    ghost use Rattle.mbj_manager.specs.State.{ManagerState};
+    ghost use Rattle.mbj_manager.specs.Inside.Held.{held, IsHeld};
+
+    ghost Value = { ManagerState };
+
+    ghost view = { λ w. held w.ring w.agenda.places.items w.lists };
+
+    ghost invariant = { λ w. IsHeld w.ring w.agenda.places.items w.lists (vec_capacity w.agenda.places) };
+}
+
+/// What is next in the earliest course.
+fn next_of_first(ring: &mut Ring<Cell>) -> Option<Stage>
+    requires { AreCourses ring.old }
+    ensures same { ring.new ≡ ring.old }
+    ensures stage { result ≡ first_stage (courses ring.old) }
+{
+    match ring.front_mut() {
+        Some(cell) => Some(cell.next_stage()),
+        None => None,
+    }
+}
+
+impl Works {
+    pub(crate) fn new(alloc: Global) -> Result<Works, AllocError>
+        ensures { IfOk result (λ w. w ≡ new_manager) }
+    {
+        Ok(Works {
+            ring: Ring::new(alloc)?,
+            agenda: Agenda::new(alloc, AGENDA_ROOM)?,
+            lists: Lists::new(alloc)?,
+        })
+    }
+
+    /// How many jobs there are, and not the one that is being filled.
+    pub(crate) fn len(&self) -> u32
+        ensures size { result ≡ length self.now.owed }
+        ensures within { result ≤ CELLS }
+    {
+        self.ring.len()
+    }
+
+    /// Opens a cell with a blank job, where none is open.
+    pub(crate) fn open_cell(&mut self, alloc: Global)
+        requires { length self.old.owed < CELLS }
+        ensures { self.new ≡ with_open self.old (lent self.old) }
+    {
+        if !self.ring.has_open() {
+            self.ring.open_cell(Cell::Open(Job::blank(alloc)));
+        }
+    }
+
+    /// Lends the job that is being filled.
+    pub(crate) fn open_job(&mut self) -> &mut Job
+        requires { IsSome self.old.opened }
+        ensures* lends { sem 𝓛 (LendsOpenJob self.entry result) }
+        ensures value { result.now ≡ lent self.old }
+    {
+        match self.ring.open_mut() {
+            Some(cell) => cell.job_mut(),
+            None => unreachable!(),
+        }
+    }
+
+    /// The job that was filled goes last among those that are submitted, and stands in the agenda.
+    pub(crate) fn add(&mut self, alloc: Global)
+        requires some { IsSome self.old.opened }
+        requires idle { self.old.machine.agenda ≡ [] }
+        ensures { self.new ≡ added self.old.opened self.old }
+    {
+        match self.ring.open_mut() {
+            Some(cell) => cell.begin(alloc),
+            None => unreachable!(),
+        }
+        prove!(self.ring.len() < CELLS);
+        let place = self.ring.commit();
+        self.agenda.push(place);
+    }
+
+    fn is_idle(&self) -> bool
+        ensures { IsTrue result ↔ (self.now.machine.agenda ≡ []) }
+    {
+        self.agenda.is_empty()
+    }
+
+    /// Takes the agenda's first job: what finishes at once is done, and it goes on.
+    fn advance(&mut self, cause: Cause)
+        requires { self.old.machine.agenda ≢ [] }
+        ensures step { self.new ≡ record (self.old) { machine = stepped (within cause) self.old.machine } }
+        ensures fewer { steps_ahead self.new.machine < steps_ahead self.old.machine }
+        ensures stages { stages_left self.new.machine.left ≤ stages_left self.old.machine.left }
+    {
+        let place = self.agenda.take_first();
+        match run_nows(&mut self.ring, place) {
+            Stage::Lane(kind) => {
+                self.lists
+                    .enter(kind, cause, &mut self.ring, &mut self.agenda, place)
+            }
+            Stage::Now | Stage::Finished => {}
+        }
+    }
+
+    /// Follows the course until nobody stands between two stages.
+    pub(crate) fn settle(&mut self, cause: Cause)
+        ensures course { self.new ≡ record (self.old) { machine = course (within cause) self.old.machine } }
+        ensures idle { self.new.machine.agenda ≡ [] }
+        ensures stages { stages_left self.new.machine.left ≤ stages_left self.old.machine.left }
+    {
+        'settling: while !self.is_idle() {
+            self.advance(cause);
+        }
+    }
+
+    /// The kind in whose lanes the earliest job waits.
+    fn first_kind(&mut self) -> Option<Kind>
+        requires { self.old.machine.agenda ≡ [] }
+        ensures same { self.new ≡ self.old }
+        ensures kind { result ≡ first_lane self.old.machine.left }
+        ensures done { result ≡ None → self.old.owed ≢ [] → slice_get self.old.machine.left 0 ≡ Some [] }
+    {
+        match next_of_first(&mut self.ring) {
+            Some(Stage::Lane(kind)) => Some(kind),
+            Some(Stage::Now) | Some(Stage::Finished) | None => None,
+        }
+    }
+
+    /// Runs the list of the earliest job.
+    fn run_first(&mut self, kind: Kind)
+        requires idle { self.old.machine.agenda ≡ [] }
+        requires first { first_lane self.old.machine.left ≡ Some kind }
+        ensures ran { self.new ≡ record (self.old) { machine = run_idle kind self.old.machine } }
+        ensures stages { stages_left self.new.machine.left < stages_left self.old.machine.left }
+    {
+        self.lists.run(kind, &mut self.ring, &mut self.agenda);
+    }
+
+    /// Follows flush steps until the earliest job is finished.
+    pub(crate) fn flush_first(&mut self)
+        requires { self.old.machine.agenda ≡ [] }
+        ensures flushed { self.new ≡ record (self.old) { machine = flushed self.old.machine } }
+        ensures idle { self.new.machine.agenda ≡ [] }
+        ensures done { self.old.owed ≢ [] → slice_get self.new.machine.left 0 ≡ Some [] }
+    {
+        'flushing: loop {
+            match self.first_kind() {
+                None => return,
+                Some(kind) => {
+                    self.run_first(kind);
+                    self.settle(Cause::Flush);
+                }
+            }
+        }
+    }
+
+    /// Whether there is an earliest job, and it is finished.
+    fn has_finished(&mut self) -> bool
+        ensures same { self.new ≡ self.old }
+        ensures done { IsTrue result ↔ (slice_get self.old.machine.left 0 ≡ Some []) }
+    {
+        match next_of_first(&mut self.ring) {
+            Some(Stage::Finished) => true,
+            Some(Stage::Now) | Some(Stage::Lane(_)) | None => false,
+        }
+    }
+
+    /// Gives the earliest job back where it is finished.
+    pub(crate) fn give(&mut self) -> Option<Done>
+        requires { self.old.machine.agenda ≡ [] }
+        ensures result { result ≡ (given self.old).0 }
+        ensures state { self.new ≡ (given self.old).1 }
+    {
+        if self.has_finished() {
+            Some(self.pop())
+        } else {
+            None
+        }
+    }
+
+    /// Gives the earliest job back, which is finished.
+    fn pop(&mut self) -> Done
+        requires idle { self.old.machine.agenda ≡ [] }
+        requires done { slice_get self.old.machine.left 0 ≡ Some [] }
+        ensures result { Some result ≡ (given self.old).0 }
+        ensures state { self.new ≡ (given self.old).1 }
+    {
+        match self.ring.pop() {
+            Some(cell) => cell.into_done(),
+            None => unreachable!(),
+        }
+    }
+
+    pub(crate) fn waiting(&self, kind: Kind) -> u32
+        ensures { result ≡ length (lane_of kind self.now.machine).waiting }
+    {
+        self.lists.len(kind)
+    }
+
+    pub(crate) fn rounds(&self, kind: Kind) -> u64
+        ensures { result ≡ (lane_of kind self.now.machine).rounds }
+    {
+        self.lists.rounds(kind)
+    }
+
+    pub(crate) fn blocks(&self, kind: Kind) -> u64
+        ensures blocks { result ≡ (lane_of kind self.now.machine).blocks }
+        ensures full { result ≡ (lanes_of kind * (lane_of kind self.now.machine).rounds) % count_end }
+    {
+        self.lists.blocks(kind)
+    }
+
+    pub(crate) fn flush_runs(&self) -> u64
+        ensures { result ≡ self.now.machine.flush_runs }
+    {
+        self.lists.flush_runs()
+    }
+}

@@ -1,0 +1,43 @@
+-- The packet goes out into an entry that ends with the job's HMAC.
+use Rattle.std.proofs.Common.{◌≡◌, ◌≢◌, ◌∙◌, List, ℕ, [], length, IsTrue, Some, None, sym, ap, subst, arith}
+use Rattle.mbj_types.specs.Auths.{class_of}
+use Rattle.mbj_types.specs.Result.{mac_by}
+use Rattle.mbj_lane.specs.Rounds.{end_of}
+use Rattle.mbj_hmac.specs.Rounds.{rest_of, round}
+use Rattle.mbj_stage.specs.declared.stage.Stage.TheVariants as stage
+use Rattle.mbj_stage.specs.declared.stage.Step.TheVariants as step
+use Rattle.mbj_stage.specs.Steps.{IsFirst, stage_at, steps_in}
+use Rattle.mbj_stage.specs.Going.{Going, IsSound, owed}
+use Rattle.mbj_stage.specs.Handing.{owed_with}
+use Rattle.mbj_stage.specs.Ends.{hmac_end}
+use Rattle.mbj_stage.proofs.Handings.{going}
+use Rattle.mbj_stage.proofs.HandingOut.{mac-out}
+use Rattle.mbj_stage.proofs.Soundness.{sound_out}
+use Rattle.mbj_stage.proofs.StagesOf.{auth-first, hmac-in-lanes}
+use Rattle.mbj_stage.proofs.course.Course.hand_out_hmac.Goals as goal
+
+pub invariant_of-self : goal.invariant_of-self
+invariant_of-self g c =
+    let f = c.self.inside in
+    let len : c.len.result ≡ length c.taken-packet.result.items = omega (arith, c.len.ensures, c.taken-packet.result.ok) in
+    let left = steps_in f.left in
+    let here : f.out ≡ None = subst (λ (v : Going). v.out ≡ None) (sym c.self.view_is) c.requires.here in
+    let first : IsFirst step.Auth left = subst (λ (v : Going). IsFirst step.Auth v.left) (sym c.self.view_is) c.requires.next in
+    let serves = subst (λ (v : Going). IsTrue (g.H.LaneHash.serves v.job.auth)) (sym c.self.view_is) c.requires.serves in
+    let lane : stage_at f.job left ≢ stage.Now =
+    λ now. hmac-in-lanes f.job.auth (g.met.H.LaneHash.hmacs f.job.auth serves) (sym (auth-first f.job left first) ∙ now) in
+    let sound = sound_out f.job f.packet.items left (subst (IsSound f.job f.packet.items left) here c.self.invariant) lane in
+    subst (λ (q : List ℕ). IsSound f.job q left (Some c.len.result)) (sym c.taken-packet.ensures.none)
+    (subst (λ (n : ℕ). IsSound f.job [] left (Some n)) (sym (len ∙ ap length c.taken-packet.ensures.taken)) sound)
+
+pub returns-clause-owed : goal.returns-clause-owed
+returns-clause-owed g c =
+    let f = c.self.inside in
+    let len : c.len.result ≡ length c.taken-packet.result.items = omega (arith, c.len.ensures, c.taken-packet.result.ok) in
+    let first : IsFirst step.Auth (steps_in f.left) = subst (λ (v : Going). IsFirst step.Auth v.left) (sym c.self.view_is) c.requires.next in
+    let e = hmac_end g.H.LaneHash.chaining (end_of (round g.H.LaneHash.chaining) rest_of c.hmac_entry.result) in
+    let out : Going = going f.job c.taken-packet.new.packet.items f.tag f.reason (steps_in f.left) (Some c.len.result) in
+    subst (λ (v : Going). owed_with e out ≡ owed v) c.self.view_is
+    (mac-out f.job f.packet.items c.taken-packet.new.packet.items f.tag f.reason (steps_in f.left) f.out c.len.result e c.taken-packet.ensures.none
+    (len ∙ ap length c.taken-packet.ensures.taken) first (c.hmac_entry.ensures.packet ∙ c.taken-packet.ensures.taken)
+    (c.hmac_entry.ensures.mac ∙ ap (λ (q : List ℕ). mac_by (class_of f.job.auth) f.job q) c.taken-packet.ensures.taken))

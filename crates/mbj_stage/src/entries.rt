@@ -1,0 +1,69 @@
+//! The entries in which the stages of an accepted job are done in lanes, over the job's packet.
+
+ghost use Rattle.std.specs.Prelude.{◌≡◌, ◌≤◌, ◌⊎◌, None, length, IsTrue};
+ghost use Rattle.mbj_types.specs.Aes.{rounds_of as aes_rounds};
+ghost use Rattle.mbj_types.specs.Auths.{class_of};
+ghost use Rattle.mbj_types.specs.Rounds.{cbc_rounds, cmac_rounds, hmac_rounds};
+ghost use Rattle.mbj_types.specs.Result.{ciphered, mac_by};
+ghost use Rattle.mbj_types.specs.Verdict.{verdict_at};
+ghost use Rattle.mbj_types.specs.declared.job.Auth.TheVariants as auth;
+ghost use Rattle.mbj_types.specs.declared.job.Cipher.TheVariants as cipher;
+ghost use Rattle.mbj_types.specs.declared.job.Dir.TheVariants as dir;
+ghost use Rattle.mbj_lane.specs.Rounds.{end_of};
+ghost use Rattle.mbj_cbc.specs.Rounds.{round as cbc_round, rest_of as cbc_rest};
+ghost use Rattle.mbj_cmac.specs.Rounds.{round as cmac_round, rest_of as cmac_rest};
+ghost use Rattle.mbj_hmac.specs.Rounds.{round as hmac_round, rest_of as hmac_rest};
+ghost use Rattle.mbj_stage.specs.Ends.{cmac_end, hmac_end};
+
+use crate::cipher::iv_block;
+use mbj_aes::Schedule;
+use mbj_cbc::CbcEntry;
+use mbj_cmac::CmacEntry;
+use mbj_hmac::{HmacEntry, LaneHash};
+use mbj_types::Job;
+
+/// The CBC encryption of a job whose key has `N` rounds.
+pub(crate) fn cbc_entry<const N: usize>(job: &Job, packet: Vec<u8>) -> CbcEntry<N>
+    requires cbc { job.now.cipher ≡ cipher.Cbc }
+    requires enc { job.now.dir ≡ dir.Enc }
+    requires rounds { aes_rounds job.now.key ≡ N }
+    requires accepted { verdict_at job.now (length packet.items) ≡ None }
+    ensures rest { result.rest ≡ cbc_rounds job.now.cipher_len }
+    ensures some { 1 ≤ result.rest }
+    ensures packet { (end_of cbc_round cbc_rest result).packet ≡ ciphered job.now packet.items }
+{
+    let key = Schedule::expand(job.key.as_slice());
+    let iv = iv_block(job.iv.as_slice());
+    CbcEntry::new(key, iv, packet, job.cipher_off, job.cipher_len)
+}
+
+/// The CMAC of a job whose key has `N` rounds.
+pub(crate) fn cmac_entry<const N: usize>(job: &Job, packet: Vec<u8>) -> CmacEntry<N>
+    requires cmac { (job.now.auth ≡ auth.Cmac128) ⊎ (job.now.auth ≡ auth.Cmac256) }
+    requires rounds { aes_rounds job.now.auth_key ≡ N }
+    requires accepted { verdict_at job.now (length packet.items) ≡ None }
+    ensures rest { result.rest ≡ cmac_rounds job.now.hash_len }
+    ensures packet { (cmac_end (end_of cmac_round cmac_rest result)).packet ≡ packet.items }
+    ensures mac { (cmac_end (end_of cmac_round cmac_rest result)).mac ≡ mac_by (class_of job.now.auth) job.now packet.items }
+{
+    let key = Schedule::expand(job.auth_key.as_slice());
+    CmacEntry::new(key, packet, job.hash_off, job.hash_len)
+}
+
+/// The HMAC of a job whose hash is one of `H`. A key longer than a block is hashed as the entry is made.
+pub(crate) fn hmac_entry<H: LaneHash>(job: &Job, packet: Vec<u8>) -> HmacEntry<H>
+    requires serves { IsTrue (H.serves job.now.auth) }
+    requires accepted { verdict_at job.now (length packet.items) ≡ None }
+    ensures rest { result.rest ≡ hmac_rounds H.chaining.block_bytes job.now.hash_len }
+    ensures packet { (hmac_end H.chaining (end_of (hmac_round H.chaining) hmac_rest result)).packet ≡ packet.items }
+    ensures mac { (hmac_end H.chaining (end_of (hmac_round H.chaining) hmac_rest result)).mac
+        ≡ mac_by (class_of job.now.auth) job.now packet.items }
+{
+    HmacEntry::new(
+        job.auth,
+        job.auth_key.as_slice(),
+        packet,
+        job.hash_off,
+        job.hash_len,
+    )
+}
