@@ -19,7 +19,9 @@ use Rattle.mbj_manager.specs.Calls as calls
 use Rattle.mbj_manager.specs.Calls.{Call, after_calls, called, opened_next, submitted_at, written_at}
 use Rattle.mbj_manager.specs.Counts.{RisesUpTo}
 use Rattle.mbj_manager.specs.Between.{AreKept, HasRounds, IsBetweenCalls, IsKept, times_in}
+use Rattle.mbj_manager.specs.Inside.Added.{added}
 use Rattle.mbj_manager.specs.Inside.Standing.{IsLane, left_at}
+use Rattle.mbj_manager.specs.Inside.Settled.{IsSettled}
 use Rattle.mbj_manager.proofs.BetweenCalls.{course-length, flush-length, machines-kept}
 use Rattle.mbj_manager.proofs.FlushRuns.{flush-runs}
 use Rattle.mbj_manager.proofs.JobRounds.{pending-rounds}
@@ -27,13 +29,6 @@ use Rattle.mbj_manager.proofs.JobStages.{twice, two-next, two-stages, two-then}
 use Rattle.mbj_manager.proofs.Shrinking.{each-course, each-flush}
 use Rattle.mbj_manager.proofs.Lanes.{lane-by, some-lanes}
 use Rattle.mbj_manager.proofs.GivingBack.{back-between}
-
--- the machine is between two calls, and has a job for each result owed
-record IsCounted (h : ManagerState) : Type 0 where
-  machine : IsBetweenCalls h.machine
-  jobs : length h.machine.left ≡ length h.owed
-  -- no job has more than two stages left
-  two : (n : ℕ) → length (left_at n h.machine.left) ≤ 2
 
 -- ---- what a flush gives
 
@@ -53,46 +48,46 @@ given-runs-at (d ∷ ds) ([] ∷ left) h = refl
 given-runs-at (d ∷ ds) ((p ∷ ps) ∷ left) h = refl
 
 -- how often a flush runs lists
-few-runs : (h : ManagerState) → IsCounted h → RisesUpTo (2 * length h.owed) h.machine.flush_runs (flushing h).1.machine.flush_runs
-few-runs h counted =
-    let runs = flush-runs h.machine counted.machine in
+pub few-runs : (h : ManagerState) → IsSettled h → RisesUpTo (2 * length h.owed) h.machine.flush_runs (flushing h).1.machine.flush_runs
+few-runs h settled =
+    let runs = flush-runs h.machine settled.machine in
     let few = runs.few in
-    let jobs = counted.jobs in
+    let jobs = settled.jobs in
     let then = record h { machine = flushed h.machine } in
     record {
       by = runs.count;
-      few = omega (arith, twice h.machine.left counted.two);
+      few = omega (arith, twice h.machine.left settled.two);
       is = ap (λ n. n % count_end) (given-runs-at h.owed (flushed h.machine).left then) ∙ runs.is;
     }
 
 -- then a flush gives the earliest job back
-kept : (h : ManagerState) → IsCounted h → IsKept h
-kept h counted = record {
-  machine = counted.machine;
-  jobs = counted.jobs;
+kept : (h : ManagerState) → IsSettled h → IsKept h
+kept h settled = record {
+  machine = settled.machine;
+  jobs = settled.jobs;
   flush_gives = λ owes. earliest-given h.owed (flushed h.machine).left (record h { machine = flushed h.machine }) owes
-      ((machines-kept h.machine counted.machine).earliest
-      (λ none. owes (nil_from_length h.owed (sym counted.jobs ∙ ap length none))));
-  flush_runs = few-runs h counted;
+      ((machines-kept h.machine settled.machine).earliest
+      (λ none. owes (nil_from_length h.owed (sym settled.jobs ∙ ap length none))));
+  flush_runs = few-runs h settled;
 }
 
 -- ---- what each call keeps
 
 -- giving back the earliest of these jobs takes one job and one result
-given-at-counted : (ds : List Done) (left : List (List Pending)) (h : ManagerState) → h.owed ≡ ds → h.machine.left ≡ left
-    → IsCounted h → IsCounted (given_at ds left h).1
-given-at-counted [] left h owes is counted = counted
-given-at-counted (d ∷ ds) [] h owes is counted = counted
-given-at-counted (d ∷ ds) ((p ∷ ps) ∷ left) h owes is counted = counted
-given-at-counted (d ∷ ds) ([] ∷ left) h owes is counted = record {
-  machine = back-between left h.machine is counted.machine;
-  jobs = (let same = counted.jobs in omega (arith, ap length owes, ap length is));
-  two = λ n. subst (λ (l : List (List Pending)). length (left_at (suc n) l) ≤ 2) is (counted.two (suc n));
+given-at-settled : (ds : List Done) (left : List (List Pending)) (h : ManagerState) → h.owed ≡ ds → h.machine.left ≡ left
+    → IsSettled h → IsSettled (given_at ds left h).1
+given-at-settled [] left h owes is settled = settled
+given-at-settled (d ∷ ds) [] h owes is settled = settled
+given-at-settled (d ∷ ds) ((p ∷ ps) ∷ left) h owes is settled = settled
+given-at-settled (d ∷ ds) ([] ∷ left) h owes is settled = record {
+  machine = back-between left h.machine is settled.machine;
+  jobs = (let same = settled.jobs in omega (arith, ap length owes, ap length is));
+  two = λ n. subst (λ (l : List (List Pending)). length (left_at (suc n) l) ≤ 2) is (settled.two (suc n));
 }
 
 -- giving back keeps it
-given-counted : (h : ManagerState) → IsCounted h → IsCounted (given h).1
-given-counted h counted = given-at-counted h.owed h.machine.left h refl refl counted
+pub given-settled : (h : ManagerState) → IsSettled h → IsSettled (given h).1
+given-settled h settled = given-at-settled h.owed h.machine.left h refl refl settled
 
 two-added : (left : List (List Pending)) (ps : List Pending) → ((n : ℕ) → length (left_at n left) ≤ 2) → length ps ≤ 2
     → (n : ℕ) → length (left_at n (left ++ ps ∷ [])) ≤ 2
@@ -102,56 +97,66 @@ two-added (x ∷ left) ps two few zero = two zero
 two-added (x ∷ left) ps two few (suc n) = two-added left ps (λ i. two (suc i)) few n
 
 -- a submission adds one job and one result
-with-job-counted : (j : Job) (h : ManagerState) → IsCounted h → IsCounted (with_job j h)
-with-job-counted j h counted =
+with-job-settled : (j : Job) (h : ManagerState) → IsSettled h → IsSettled (with_job j h)
+with-job-settled j h settled =
     let stages = pending (begun j) in
     let entering : ℕ → Machine = λ n. record h.machine { left = h.machine.left ++ stages ∷ []; agenda = n ∷ [] } in
     record {
-      machine = subst (λ n. IsBetweenCalls (course submit (entering n))) counted.jobs
-          ((machines-kept h.machine counted.machine).submits stages (pending-rounds j));
+      machine = subst (λ n. IsBetweenCalls (course submit (entering n))) settled.jobs
+          ((machines-kept h.machine settled.machine).submits stages (pending-rounds j));
       jobs = course-length submit (entering (length h.owed)) ∙ length_push h.machine.left stages
-          ∙ ap (λ n. n + 1) counted.jobs ∙ sym (length_push h.owed (result_of j));
-      two = each-course (λ ps. length ps ≤ 2) two-then two-next submit (entering (length h.owed)) (two-added h.machine.left stages counted.two (two-stages j));
+          ∙ ap (λ n. n + 1) settled.jobs ∙ sym (length_push h.owed (result_of j));
+      two = each-course (λ ps. length ps ≤ 2) two-then two-next submit (entering (length h.owed)) (two-added h.machine.left stages settled.two (two-stages j));
     }
 
+-- the course of the job that was open
+pub added-settled : (o : Option Job) (h : ManagerState) → IsSome o → IsSettled h
+    → IsSettled (record (added o h) { machine = course submit (added o h).machine })
+added-settled None h some settled = cc
+added-settled (Some j) h some settled = with-job-settled j h settled
+
 -- a submission of the open job, if there is one, and what it gives back
-submit-counted : (o : Option Job) (h : ManagerState) → h.opened ≡ o → IsCounted h → IsCounted (submitted_at o h).1
-submit-counted None h is counted = counted
-submit-counted (Some j) h is counted =
-    given-counted (entered h) (subst (λ o. IsCounted (entered_at o h)) (sym is) (with-job-counted j h counted))
+submit-settled : (o : Option Job) (h : ManagerState) → h.opened ≡ o → IsSettled h → IsSettled (submitted_at o h).1
+submit-settled None h is settled = settled
+submit-settled (Some j) h is settled =
+    given-settled (entered h) (subst (λ o. IsSettled (entered_at o h)) (sym is) (with-job-settled j h settled))
+
+-- an open job changes neither
+pub open-settled : (j : Job) (h : ManagerState) → IsSettled h → IsSettled (with_open h j)
+open-settled j h settled = record { machine = settled.machine; jobs = settled.jobs; two = settled.two }
 
 -- a write changes the open job alone
-write-counted : (o : Option Job) (j : Job) (h : ManagerState) → IsCounted h → IsCounted (written_at o j h)
-write-counted None j h counted = counted
-write-counted (Some old) j h counted = record { machine = counted.machine; jobs = counted.jobs; two = counted.two }
+write-settled : (o : Option Job) (j : Job) (h : ManagerState) → IsSettled h → IsSettled (written_at o j h)
+write-settled None j h settled = settled
+write-settled (Some old) j h settled = open-settled j h settled
 
 -- likewise a job that is lent
-next-counted : (h : ManagerState) → IsCounted h → IsCounted (opened_next h)
-next-counted h counted = cond_both (length h.owed == CELLS) h (with_open h (lent h)) IsCounted (λ full. counted)
-    (λ room. record { machine = counted.machine; jobs = counted.jobs; two = counted.two })
+next-settled : (h : ManagerState) → IsSettled h → IsSettled (opened_next h)
+next-settled h settled = cond_both (length h.owed == CELLS) h (with_open h (lent h)) IsSettled (λ full. settled)
+    (λ room. open-settled (lent h) h settled)
 
 -- a flush takes neither a job nor a result
-flush-counted : (h : ManagerState) → IsCounted h → IsCounted (record h { machine = flushed h.machine })
-flush-counted h counted =
+pub flush-settled : (h : ManagerState) → IsSettled h → IsSettled (record h { machine = flushed h.machine })
+flush-settled h settled =
     record {
-      machine = (machines-kept h.machine counted.machine).flushes;
-      jobs = flush-length h.machine ∙ counted.jobs;
-      two = each-flush (λ ps. length ps ≤ 2) two-then two-next h.machine counted.two;
+      machine = (machines-kept h.machine settled.machine).flushes;
+      jobs = flush-length h.machine ∙ settled.jobs;
+      two = each-flush (λ ps. length ps ≤ 2) two-then two-next h.machine settled.two;
     }
 
 -- each call keeps it
-call-counted : (c : Call) (h : ManagerState) → IsCounted h → IsCounted (called c h).1
-call-counted calls.get_next h counted = next-counted h counted
-call-counted (calls.write j) h counted = write-counted h.opened j h counted
-call-counted calls.submit h counted = submit-counted h.opened h refl counted
-call-counted calls.get_completed h counted = given-counted h counted
-call-counted calls.flush h counted = given-counted (record h { machine = flushed h.machine }) (flush-counted h counted)
+call-settled : (c : Call) (h : ManagerState) → IsSettled h → IsSettled (called c h).1
+call-settled calls.get_next h settled = next-settled h settled
+call-settled (calls.write j) h settled = write-settled h.opened j h settled
+call-settled calls.submit h settled = submit-settled h.opened h refl settled
+call-settled calls.get_completed h settled = given-settled h settled
+call-settled calls.flush h settled = given-settled (record h { machine = flushed h.machine }) (flush-settled h settled)
 
 -- so do calls
-calls-counted : (cs : List Call) (h : ManagerState) → IsCounted h → IsCounted (after_calls cs h)
+calls-settled : (cs : List Call) (h : ManagerState) → IsSettled h → IsSettled (after_calls cs h)
 unfolding after_calls
-calls-counted [] h counted = counted
-calls-counted (c ∷ cs) h counted = calls-counted cs (called c h).1 (call-counted c h counted)
+calls-settled [] h settled = settled
+calls-settled (c ∷ cs) h settled = calls-settled cs (called c h).1 (call-settled c h settled)
 
 -- ---- from the first call on
 
@@ -168,8 +173,8 @@ two-none zero = omega arith
 two-none (suc n) = omega arith
 
 -- a new manager has it
-new-counted : IsCounted new_manager
-new-counted =
+pub new-settled : IsSettled new_manager
+new-settled =
     let idle : (k : Kind) → lane_of k new_manager.machine ≡ idle_lane = lane-by (λ k. idle_lane) in
     let lanes : (k : Kind) → IsLane k (lane_of k new_manager.machine) = λ k. subst (IsLane k) (sym (idle k)) (idle-kept k) in
     record {
@@ -187,4 +192,4 @@ new-counted =
 
 -- so it holds after each list of calls
 pub calls-keep : (cs : List Call) → AreKept cs
-calls-keep cs = kept (after_calls cs new_manager) (calls-counted cs new_manager new-counted)
+calls-keep cs = kept (after_calls cs new_manager) (calls-settled cs new_manager new-settled)

@@ -7,3 +7,4 @@ pub mod Lines
 pub mod Standing
 pub mod Held
 pub mod Added
+pub mod Settled

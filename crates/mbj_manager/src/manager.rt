@@ -5,6 +5,7 @@ ghost use Rattle.mbj_types.specs.Result.{result_of};
 ghost use Rattle.mbj_ring.specs.declared.ring.TheConstants.{CELLS};
 ghost use Rattle.mbj_types.specs.Kinds.{lanes_of};
 ghost use Rattle.mbj_manager.specs.Machine.{count_end, lane_of};
+ghost use Rattle.mbj_manager.specs.Counts.{RisesUpTo};
 ghost use Rattle.mbj_manager.specs.State.{IsEarliestFinished, entered, flushing, given, lent, new_manager, room_made, submitted, with_open};
 ghost use Rattle.mbj_manager.specs.Lending.{LendsNext, LendsOpen};
 
@@ -29,15 +30,15 @@ pub struct Manager {
 }
 
 impl Model for Manager {
-    ghost use Rattle.std.specs.Prelude.{◌≡◌, []};
     ghost use Rattle.mbj_manager.specs.State.{ManagerState};
+    ghost use Rattle.mbj_manager.specs.Inside.Settled.{IsSettled};
 
     ghost Value = { ManagerState };
 
     ghost view = { λ m. m.works };
 
-    // Between calls nobody stands between two stages.
-    ghost invariant = { λ m. m.works.machine.agenda ≡ [] };
+    // Between calls nobody stands between two stages, and no job has more than two left.
+    ghost invariant = { λ m. IsSettled m.works };
 }
 
 impl Manager {
@@ -148,7 +149,8 @@ impl Manager {
         self.works.give()
     }
 
-    /// Finishes the earliest job, and gives it back. An open cell stays as it is.
+    /// Finishes the earliest job, and gives it back. An open cell stays as it is. Lists run twice at most for each job that
+    /// is submitted and not given back.
     ///
     /// Answers `None` exactly where no job is submitted and not given back.
     pub fn flush(&mut self) -> Option<Done>
@@ -156,6 +158,7 @@ impl Manager {
         ensures state { self.new ≡ (flushing self.old).1 }
         ensures none { (result ≡ None) ↔ (self.old.owed ≡ []) }
         ensures open_stays { self.new.opened ≡ self.old.opened }
+        ensures runs { RisesUpTo (2 * length self.old.owed) self.old.machine.flush_runs self.new.machine.flush_runs }
         ensures order { option_to_list result ++ self.new.owed ≡ self.old.owed }
     {
         self.works.flush_first();

@@ -1,8 +1,10 @@
--- Where there is a job the earliest is finished then.
-use Rattle.std.proofs.Common.{◌≡◌, ◌≢◌, ◌∙◌, List, [], ◌∷◌, Option, None, Some, IsSome, slice_get, refl, ap, sym}
+-- Where there is a job the earliest is finished then, after two runs at most for each job.
+use Rattle.std.proofs.Common.{◌≡◌, ◌≢◌, ◌*◌, ◌∙◌, List, [], ◌∷◌, length, Option, None, Some, IsSome, slice_get, refl, ap, sym, subst}
 use Rattle.mbj_types.specs.declared.done.Done.{Done}
 use Rattle.mbj_manager.specs.State.{ManagerState, given, given_at}
-use Rattle.mbj_manager.proofs.CallsKeep.{earliest-given}
+use Rattle.mbj_manager.specs.Counts.{RisesUpTo}
+use Rattle.mbj_manager.specs.Inside.Settled.{IsSettled}
+use Rattle.mbj_manager.proofs.CallsKeep.{earliest-given, few-runs, flush-settled, given-settled}
 use Rattle.mbj_manager.proofs.manager.Manager.flush.Goals as goal
 
 not-some : (o : Option Done) → o ≡ None → IsSome o → ⊥
@@ -24,3 +26,15 @@ returns-clause-none c =
       (λ none. none-owed c.args.self.now.owed h same (λ some. c.flush_first.ensures.done (λ e. some (sym was ∙ e))) (sym c.give.ensures.result ∙ none)),
       (λ empty. c.give.ensures.result ∙ ap (λ (l : List Done). (given_at l h.machine.left h).0) (same ∙ empty)),
     )
+
+pub invariant_of-self : goal.invariant_of-self
+invariant_of-self c =
+    subst IsSettled (sym c.give.ensures.state) (given-settled c.flush_first.new.self
+    (subst IsSettled (sym c.flush_first.ensures.flushed) (flush-settled c.self.inside.works c.self.invariant)))
+
+pub returns-clause-runs : goal.returns-clause-runs
+returns-clause-runs c =
+    let w = c.self.inside.works in
+    let is = c.give.ensures.state ∙ ap (λ (h : ManagerState). (given h).1) c.flush_first.ensures.flushed in
+    subst (λ (h : ManagerState). RisesUpTo (2 * length h.owed) h.machine.flush_runs c.give.new.self.machine.flush_runs) c.self.view_is
+    (subst (λ (h : ManagerState). RisesUpTo (2 * length w.owed) w.machine.flush_runs h.machine.flush_runs) (sym is) (few-runs w c.self.invariant))

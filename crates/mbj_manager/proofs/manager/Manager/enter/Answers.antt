@@ -1,0 +1,15 @@
+-- The course of a submission ends between two calls.
+use Rattle.std.proofs.Common.{◌∙◌, IsSome, ap, sym, subst}
+use Rattle.mbj_manager.specs.Machine.{submit}
+use Rattle.mbj_manager.specs.Course.{course}
+use Rattle.mbj_manager.specs.State.{ManagerState}
+use Rattle.mbj_manager.specs.Inside.Settled.{IsSettled}
+use Rattle.mbj_manager.proofs.CallsKeep.{added-settled}
+use Rattle.mbj_manager.proofs.manager.Manager.enter.Goals as goal
+
+pub invariant_of-self : goal.invariant_of-self
+invariant_of-self c =
+    let w = c.self.inside.works in
+    let some = subst (λ (h : ManagerState). IsSome h.opened) (sym c.self.view_is) c.requires in
+    let is = c.settle.ensures.course ∙ ap (λ (h : ManagerState). record h { machine = course submit h.machine }) c.add.ensures in
+    subst IsSettled (sym is) (added-settled w.opened w some c.self.invariant)
