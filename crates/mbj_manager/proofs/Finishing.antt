@@ -7,7 +7,8 @@ use Rattle.mbj_types.specs.declared.kind.Kind.{Kind}
 use Rattle.mbj_stage.specs.Going.{Going}
 use Rattle.mbj_stage.specs.Handing.{End}
 use Rattle.mbj_manager.specs.Inside.Pairs.{pair_rest}
-use Rattle.mbj_manager.specs.Inside.Leaving.{At, finishers, others, IsOut, IsAbsent, AreOut}
+use Rattle.mbj_manager.specs.Leads.{IsOut}
+use Rattle.mbj_manager.specs.Inside.Leaving.{At, finishers, others, IsAbsent, AreOut}
 use Rattle.mbj_manager.specs.Machine.{changed}
 
 pub at-changed : {A : Type 0} (P : A → Type 0) (f : A → A) (n m : ℕ) (xs : List A) → n ≢ m → At P n xs → At P n (changed f m xs)

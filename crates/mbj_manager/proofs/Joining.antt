@@ -7,7 +7,8 @@ use Rattle.mbj_stage.specs.Going.{Going}
 use Rattle.mbj_stage.specs.Handing.{End, handed_out}
 use Rattle.mbj_manager.specs.Machine.{changed}
 use Rattle.mbj_manager.specs.Inside.Pairs.{led_pair}
-use Rattle.mbj_manager.specs.Inside.Leaving.{At, IsOut, IsNext, Gives, IsAbsent, AreOut}
+use Rattle.mbj_manager.specs.Leads.{IsOut}
+use Rattle.mbj_manager.specs.Inside.Leaving.{At, IsNext, Gives, IsAbsent, AreOut}
 use Rattle.mbj_manager.specs.Inside.Held.{IsHere}
 use Rattle.mbj_manager.proofs.Finishing.{out-changed}
 

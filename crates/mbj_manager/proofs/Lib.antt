@@ -36,3 +36,4 @@ mod Shrinking
 mod JobStages
 mod FlushRuns
 mod CallsKeep
+mod Leading

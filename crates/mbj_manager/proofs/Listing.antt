@@ -7,7 +7,8 @@ use Rattle.mbj_types.specs.declared.kind.Kind.{Kind}
 use Rattle.mbj_stage.specs.Going.{Going}
 use Rattle.mbj_stage.specs.Handing.{handed_out}
 use Rattle.mbj_manager.specs.Machine.{Within, changed}
-use Rattle.mbj_manager.specs.Inside.Leaving.{At, Gives, IsAbsent, IsNext, IsOut}
+use Rattle.mbj_manager.specs.Leads.{IsOut}
+use Rattle.mbj_manager.specs.Inside.Leaving.{At, Gives, IsAbsent, IsNext}
 use Rattle.mbj_manager.specs.Inside.Desk.{Ahead, Waiter, Desk, HasRest, IsReady, Listed, MayEnter, joined_by, ran_at, ran_if_full}
 use Rattle.mbj_manager.specs.Inside.Held.{IsHere}
 use Rattle.mbj_manager.proofs.Finishing.{at-changed}

@@ -7,11 +7,12 @@ use Rattle.mbj_stage.specs.declared.stage.Stage.TheVariants as stage
 use Rattle.mbj_stage.specs.declared.stage.Step.{Step}
 use Rattle.mbj_stage.specs.Steps.{stage_at}
 use Rattle.mbj_stage.specs.Going.{Going, owed, stage_of}
-use Rattle.mbj_stage.specs.Handing.{End, handed_out, taken_back, taken_back_at}
+use Rattle.mbj_stage.specs.Handing.{End, handed_out, owed_with, taken_back, taken_back_at}
 use Rattle.mbj_stage.proofs.StagesOf.{stage-packet}
 use Rattle.mbj_manager.specs.Machine.{changed}
 use Rattle.mbj_manager.specs.Inside.Courses.{Follows}
-use Rattle.mbj_manager.specs.Inside.Leaving.{At, Gives, IsNext, IsOut}
+use Rattle.mbj_manager.specs.Leads.{IsOut}
+use Rattle.mbj_manager.specs.Inside.Leaving.{At, Gives, IsNext}
 use Rattle.mbj_manager.specs.Inside.Held.{owed_by, owed_found, owed_from, owed_here, owed_of}
 
 -- the owed results stay
@@ -43,9 +44,14 @@ back-out-at (s ∷ left) c e some = refl
 pub back-out : (k : Kind) (e : End) (c : Going) → IsOut k e c → (taken_back e c).out ≡ None
 back-out k e c o = back-out-at c.left c e (some-left c.job c.left k o.stage)
 
+-- a course whose entry is out owes by the end of this entry
+pub owed-out : (n : ℕ) (find : Kind → ℕ → Option End) (k : Kind) (e : End) (c : Going) → IsOut k e c → find k n ≡ Some e → owed_of n find c ≡ owed_with e c
+owed-out n find k e c o h =
+    ap (λ x. owed_here x (owed c) (owed_by (stage_of c) n find c)) o.packet ∙ ap (λ x. owed_by x n find c) o.stage ∙ ap (owed_found c) h
+
 back-head : (n : ℕ) (find find' : Kind → ℕ → Option End) (k : Kind) (e : End) (c : Going) → IsOut k e c → find k n ≡ Some e → owed_of n find c ≡ owed_of n find' (taken_back e c)
 back-head n find find' k e c o h =
-    ap (λ x. owed_here x (owed c) (owed_by (stage_of c) n find c)) o.packet ∙ ap (λ x. owed_by x n find c) o.stage ∙ ap (owed_found c) h
+    owed-out n find k e c o h
     ∙ sym (ap (λ x. owed_here x (owed (taken_back e c)) (owed_by (stage_of (taken_back e c)) n find' (taken_back e c))) (back-out k e c o))
 
 -- an entry that ended is taken back

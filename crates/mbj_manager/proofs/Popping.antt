@@ -17,7 +17,8 @@ use Rattle.mbj_manager.specs.Between.{IsBetweenCalls}
 use Rattle.mbj_manager.specs.State.{ManagerState, earlier, given, given_at, renumbered, without_earliest}
 use Rattle.mbj_manager.specs.declared.cell.Cell.{Cell}
 use Rattle.mbj_manager.specs.Inside.Courses.{IsGoing, course_in, courses, number, number_in}
-use Rattle.mbj_manager.specs.Inside.Leaving.{At, IsAbsent, IsOut}
+use Rattle.mbj_manager.specs.Leads.{IsOut}
+use Rattle.mbj_manager.specs.Inside.Leaving.{At, IsAbsent}
 use Rattle.mbj_manager.specs.Inside.Desk.{Waiter, Listed}
 use Rattle.mbj_manager.specs.Inside.Lines.{Line, Lines, line, line_in, numbered}
 use Rattle.mbj_manager.specs.Inside.Standing.{IsWithin, times}

@@ -11,7 +11,8 @@ use Rattle.mbj_stage.specs.Handing.{End, handed_out, taken_back}
 use Rattle.mbj_manager.specs.Machine.{changed}
 use Rattle.mbj_manager.specs.Inside.Courses.{Follows}
 use Rattle.mbj_manager.specs.Inside.Pairs.{pair_rest}
-use Rattle.mbj_manager.specs.Inside.Leaving.{At, Gives, IsAbsent, IsNext, IsOut, finishers, numbers, others, returned}
+use Rattle.mbj_manager.specs.Leads.{IsOut}
+use Rattle.mbj_manager.specs.Inside.Leaving.{At, Gives, IsAbsent, IsNext, finishers, numbers, others, returned}
 use Rattle.mbj_manager.specs.Inside.Desk.{Waiter, Listed, brings_in, led_all, led_waiter, rounds_in}
 use Rattle.mbj_manager.specs.Inside.Lines.{Line, line}
 use Rattle.mbj_manager.specs.Inside.Held.{IsHere, IsTied, find_in, found, owed_from}
@@ -81,7 +82,7 @@ middle k cs (v ∷ front) w ws r =
 
 -- ---- what is found
 
-found-here : (front : List Waiter) (w : Waiter) (ws : List Waiter) → IsAbsent w.0 (front ++ ws) → found w.0 (front ++ w ∷ ws) ≡ Some w.1.brings
+pub found-here : (front : List Waiter) (w : Waiter) (ws : List Waiter) → IsAbsent w.0 (front ++ ws) → found w.0 (front ++ w ∷ ws) ≡ Some w.1.brings
 found-here [] w ws a = rw (eq-eqb w.0 w.0 refl) refl
 found-here (v ∷ front) w ws a = rw (ne_eqb w.0 v.0 (λ z. a.0 (sym z))) (found-here front w ws a.1)
 

@@ -5,5 +5,6 @@ pub mod Counts
 pub mod State
 pub mod Calls
 pub mod Between
+pub mod Leads
 pub mod Inside
 pub mod Lending

@@ -8,7 +8,8 @@ ghost use Rattle.mbj_manager.specs.Rounds.{pending};
 ghost use Rattle.mbj_manager.specs.Course.{in_lanes_next};
 ghost use Rattle.mbj_manager.specs.Lending.{LendsJobIn};
 ghost use Rattle.mbj_manager.specs.Inside.Courses.{Follows, IsGoing, IsOpen, course_in, job_in};
-ghost use Rattle.mbj_manager.specs.Inside.Leaving.{Gives, IsNext, IsOut};
+ghost use Rattle.mbj_manager.specs.Leads.{IsOut};
+ghost use Rattle.mbj_manager.specs.Inside.Leaving.{Gives, IsNext};
 
 use crate::feed::Feed;
 use mbj_stage::{Course, Stage};

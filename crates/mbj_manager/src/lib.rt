@@ -13,6 +13,7 @@ mod lane;
 mod lists;
 mod manager;
 mod queue;
+mod queued;
 mod works;
 
 pub use between::{calls_keep_the_machine, machines_stay_between_calls};
@@ -35,6 +36,7 @@ pub use lists::Lists;
 pub use manager::Manager;
 #[doc(hidden)]
 pub use queue::{Place, Queue};
+pub use queued::Queued;
 #[doc(hidden)]
 pub use works::Works;
 

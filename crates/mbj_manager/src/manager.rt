@@ -4,13 +4,17 @@ ghost use Rattle.std.specs.Borrow.{sem};
 ghost use Rattle.mbj_types.specs.Result.{result_of};
 ghost use Rattle.mbj_ring.specs.declared.ring.TheConstants.{CELLS};
 ghost use Rattle.mbj_types.specs.Kinds.{lanes_of};
-ghost use Rattle.mbj_manager.specs.Machine.{count_end, lane_of};
+ghost use Rattle.mbj_lane.specs.Rounds.{end_of};
+ghost use Rattle.mbj_manager.specs.Machine.{count_end, lane_of, rest_of};
+ghost use Rattle.mbj_manager.specs.Leads.{AreLed};
 ghost use Rattle.mbj_manager.specs.Counts.{RisesUpTo};
 ghost use Rattle.mbj_manager.specs.State.{IsEarliestFinished, entered, flushing, given, lent, new_manager, room_made, submitted, with_open};
 ghost use Rattle.mbj_manager.specs.Lending.{LendsNext, LendsOpen};
 
 use crate::lane::Cause;
+use crate::queued::Queued;
 use crate::works::Works;
+use mbj_lane::Lanes;
 use mbj_ring::CELLS;
 use mbj_types::{Done, Job, Kind, RingFull};
 use std::alloc::{AllocError, Global};
@@ -178,6 +182,17 @@ impl Manager {
         ensures { result ≡ length (lane_of kind self.now.machine).waiting }
     {
         self.works.waiting(kind)
+    }
+
+    /// The entries of the jobs of K's kind that wait for lanes: as many entries as jobs, and in their order. An entry has as
+    /// many rounds left as its job, whose course has it out; and once they are done, the course owes the result that the job
+    /// is owed.
+    pub fn lanes<K: Queued>(&self) -> &Lanes<K>
+        ensures rests { map K.rest_of result.now.entries.items ≡ map rest_of (lane_of K.kind self.now.machine).waiting }
+        ensures led { AreLed K.kind self.now (map (λ e. K.brings (end_of K.round K.rest_of e)) result.now.entries.items)
+            (lane_of K.kind self.now.machine).waiting }
+    {
+        self.works.lanes::<K>()
     }
 
     /// How many rounds the full runs of a kind took, modulo 2^64.

@@ -127,8 +127,10 @@ fn jobs_wait_until_all_lanes_are_in_use(rt: HostRuntime) -> Result<(), Fail> {
     assert_eq!(rt; submit_hmac(&mut manager, rt.alloc(), 1, 112)?, None);
     assert_eq!(rt; submit_hmac(&mut manager, rt.alloc(), 2, 0)?, None);
     assert_eq!(rt; manager.waiting(Kind::HmacSha512), 3);
+    assert_eq!(rt; manager.lanes::<HmacSha512Kernel>().len(), 3);
     assert_eq!(rt; submit_hmac(&mut manager, rt.alloc(), 3, 300)?, Some(0));
     assert_eq!(rt; manager.waiting(Kind::HmacSha512), 2);
+    assert_eq!(rt; manager.lanes::<HmacSha512Kernel>().len(), 2);
     assert_eq!(rt; number_of(manager.get_completed()), None);
     assert_eq!(rt; number_of(manager.flush()), Some(1));
     assert_eq!(rt; number_of(manager.flush()), Some(2));

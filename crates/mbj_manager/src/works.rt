@@ -6,7 +6,9 @@ ghost use Rattle.mbj_ring.specs.declared.ring.TheConstants.{CELLS};
 ghost use Rattle.mbj_stage.specs.Going.{begun, stage_of};
 ghost use Rattle.mbj_stage.specs.declared.stage.Stage.TheVariants as stage;
 ghost use Rattle.mbj_manager.specs.Rounds.{pending};
-ghost use Rattle.mbj_manager.specs.Machine.{count_end, lane_of, run_idle};
+ghost use Rattle.mbj_lane.specs.Rounds.{end_of};
+ghost use Rattle.mbj_manager.specs.Machine.{count_end, lane_of, rest_of, run_idle};
+ghost use Rattle.mbj_manager.specs.Leads.{AreLed};
 ghost use Rattle.mbj_manager.specs.Course.{course, flushed, stages_left, stepped, steps_ahead};
 ghost use Rattle.mbj_manager.specs.State.{given, lent, new_manager, with_open};
 ghost use Rattle.mbj_manager.specs.Lending.{LendsOpenJob};
@@ -18,6 +20,8 @@ use crate::agenda::Agenda;
 use crate::cell::Cell;
 use crate::lane::{Cause, run_nows};
 use crate::lists::Lists;
+use crate::queued::Queued;
+use mbj_lane::Lanes;
 use mbj_ring::{CELLS, Ring};
 use mbj_stage::Stage;
 use mbj_types::{Done, Job, Kind};
@@ -225,6 +229,14 @@ impl Works {
             Some(cell) => cell.into_done(),
             None => unreachable!(),
         }
+    }
+
+    pub(crate) fn lanes<K: Queued>(&self) -> &Lanes<K>
+        ensures rests { map K.rest_of result.now.entries.items ≡ map rest_of (lane_of K.kind self.now.machine).waiting }
+        ensures led { AreLed K.kind self.now (map (λ e. K.brings (end_of K.round K.rest_of e)) result.now.entries.items)
+            (lane_of K.kind self.now.machine).waiting }
+    {
+        &K::queue(&self.lists).lanes
     }
 
     pub(crate) fn waiting(&self, kind: Kind) -> u32

@@ -6,7 +6,8 @@ use Rattle.mbj_lane.specs.Rounds.{end_of, least}
 use Rattle.mbj_stage.specs.Going.{Going}
 use Rattle.mbj_stage.specs.Handing.{End, handed_out}
 use Rattle.mbj_manager.specs.Machine.{Within, submit, flush, changed, count_end}
-use Rattle.mbj_manager.specs.Inside.Leaving.{At, Gives, IsAbsent, IsNext, IsOut, finishers, numbers, others, returned}
+use Rattle.mbj_manager.specs.Leads.{IsOut}
+use Rattle.mbj_manager.specs.Inside.Leaving.{At, Gives, IsAbsent, IsNext, finishers, numbers, others, returned}
 use Rattle.mbj_manager.specs.Inside.Pairs.{pair_rest}
 
 -- an entry seen without its kind: how many rounds are left, and what it brings back at its end

@@ -7,6 +7,7 @@ use Rattle.mbj_stage.specs.Going.{Going, owed, stage_of}
 use Rattle.mbj_stage.specs.Handing.{End, handed_out, owed_with, taken_back}
 use Rattle.mbj_stage.specs.declared.stage.Stage.TheVariants as stage
 use Rattle.mbj_manager.specs.Machine.{changed}
+use Rattle.mbj_manager.specs.Leads.{IsOut}
 
 -- there is an item at n, and it has P
 abbrev pub At : {A : Type 0} → (A → Type 0) → ℕ → List A → Type 0
@@ -31,11 +32,6 @@ numbers (p ∷ ps) = p.0 ∷ numbers ps
 abbrev pub returned : {E : Type 0} → (E → End) → List Going → List (ℕ × E) → List Going
 returned brings cs [] = cs
 returned brings cs (p ∷ ps) = returned brings (changed (taken_back (brings p.1)) p.0 cs) ps
-
--- the course has an entry of the kind out, which brings back the end e
-pub record IsOut (k : Kind) (e : End) (c : Going) : Type 0 where
-  pub stage : stage_of c ≡ stage.Lane k
-  pub packet : c.out ≡ Some (length e.packet)
 
 abbrev pub IsAbsent : {E : Type 0} → ℕ → List (ℕ × E) → Type 0
 IsAbsent n [] = Unit {0}

@@ -6,7 +6,8 @@ use Rattle.mbj_stage.specs.Handing.{taken_back}
 use Rattle.mbj_manager.specs.Machine.{changed}
 use Rattle.mbj_manager.specs.Inside.Courses.{courses, number, number_in}
 use Rattle.mbj_manager.specs.Inside.Pairs.{paired}
-use Rattle.mbj_manager.specs.Inside.Leaving.{At, AreOut, IsOut, finishers, numbers, returned}
+use Rattle.mbj_manager.specs.Leads.{IsOut}
+use Rattle.mbj_manager.specs.Inside.Leaving.{At, AreOut, finishers, numbers, returned}
 use Rattle.mbj_manager.proofs.Finishing.{none-left, out-changed, out-ended, took}
 use Rattle.mbj_manager.proofs.lane.leave.Goals as goal
 

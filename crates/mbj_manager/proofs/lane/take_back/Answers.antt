@@ -1,7 +1,7 @@
 -- The course at the place changes, and no other.
 use Rattle.mbj_stage.specs.Handing.{taken_back}
 use Rattle.mbj_manager.specs.Inside.Courses.{number_in}
-use Rattle.mbj_manager.specs.Inside.Leaving.{IsOut}
+use Rattle.mbj_manager.specs.Leads.{IsOut}
 use Rattle.mbj_manager.proofs.RingCourses.{at-cell, courses-set, going-at, live}
 use Rattle.mbj_manager.proofs.lane.take_back.Goals as goal
 

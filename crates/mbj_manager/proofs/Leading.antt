@@ -1,0 +1,93 @@
+-- Who waits in a list has an entry there, which is out of its course and leads to what the job is owed.
+use Rattle.std.proofs.Common.{◌≡◌, ℕ, ◌+◌, zero, suc, List, [], ◌∷◌, ◌++◌, length, map, Option, Some, slice_get, refl, ap, ap₂, sym, ◌∙◌, subst, arith, append_assoc}
+use Rattle.std.proofs.lemmas.Option.{slice_get-map}
+use Rattle.std.specs.Option.{option_map}
+use Rattle.mbj_lane.specs.Rounds.{end_of}
+use Rattle.mbj_types.specs.declared.done.Done.{Done}
+use Rattle.mbj_types.specs.declared.job.Job.{Job}
+use Rattle.mbj_types.specs.declared.kind.Kind.{Kind}
+use Rattle.mbj_stage.specs.Going.{Going}
+use Rattle.mbj_stage.specs.Handing.{End}
+use Rattle.mbj_manager.specs.Rounds.{pending}
+use Rattle.mbj_manager.specs.Machine.{rest_of}
+use Rattle.mbj_manager.specs.State.{ManagerState}
+use Rattle.mbj_manager.specs.Leads.{AreLed, IsOut, Leads}
+use Rattle.mbj_manager.specs.declared.queue.Place.{Place}
+use Rattle.mbj_manager.specs.Inside.Leaving.{At}
+use Rattle.mbj_manager.specs.Inside.Pairs.{paired}
+use Rattle.mbj_manager.specs.Inside.Desk.{Waiter, Listed, ahead_all}
+use Rattle.mbj_manager.specs.Inside.Lines.{Line, numbered}
+use Rattle.mbj_manager.specs.Inside.Held.{find_in, found, machine_by, owed_from, owed_of, waiting}
+use Rattle.mbj_manager.proofs.Owing.{owed-out}
+use Rattle.mbj_manager.proofs.Tying.{Middle, found-here, middle}
+
+-- ---- the course of a job
+
+record There {A : Type 0} (P : A → Type 0) (n : ℕ) (xs : List A) : Type 0 where
+  item : A
+  is : slice_get xs n ≡ Some item
+  has : P item
+
+there : {A : Type 0} (P : A → Type 0) (n : ℕ) (xs : List A) → At P n xs → There P n xs
+there P n [] a = absurd a
+there P zero (x ∷ xs) a = record { item = x; is = refl; has = a }
+there P (suc n) (x ∷ xs) a = let t = there P n xs a in record { item = t.item; is = t.is; has = t.has }
+
+-- what is owed for the course there
+owed-there : (first p n : ℕ) (find : Kind → ℕ → Option End) (cs : List Going) (c : Going) → p ≡ first + n → slice_get cs n ≡ Some c
+    → slice_get (owed_from first find cs) n ≡ Some (owed_of p find c)
+owed-there first p n find [] c e is = cc
+owed-there first p zero find (x ∷ cs) c e is =
+    let here : first ≡ p = omega arith in
+    let same : x ≡ c = cc in
+    ap₂ (λ (i : ℕ) (y : Going). Some (owed_of i find y)) here same
+owed-there first p (suc n) find (x ∷ cs) c e is = owed-there (suc first) p n find cs c (omega arith) is
+
+-- ---- the jobs of a list
+
+module _ (k : Kind) (cs : List Going) (agenda : List ℕ) (lines : Kind → Line) (runs : ℕ) (opened : Option Job) where
+  abbrev state : ManagerState
+  state = record { owed = owed_from 0 (find_in lines) cs; opened = opened; machine = machine_by cs agenda lines runs }
+
+  leads : (front : List Waiter) (w : Waiter) (ws : List Waiter) → (lines k).waiters ≡ front ++ w ∷ ws → Middle k cs front w ws
+      → Leads k state w.1.brings (waiting w)
+  leads front w ws l o =
+      let t = there (IsOut k w.1.brings) w.0 cs o.out in
+      let here : found w.0 (lines k).waiters ≡ Some w.1.brings = ap (found w.0) l ∙ found-here front w ws o.absent in
+      record {
+        course = t.item;
+        out = t.has;
+        left = slice_get-map pending cs w.0 ∙ ap (option_map pending) t.is;
+        owed = owed-there 0 w.0 w.0 (find_in lines) cs t.item (omega arith) t.is
+            ∙ ap (λ (d : Done). Some d) (owed-out w.0 (find_in lines) k w.1.brings t.item t.has here);
+      }
+
+  led-behind : (front ws : List Waiter) → (lines k).waiters ≡ front ++ ws → Listed k cs (lines k).waiters
+      → AreLed k state (map (λ w. w.1.brings) ws) (map waiting ws)
+  led-behind front [] l listed = tt
+  led-behind front (w ∷ ws) l listed = (
+    leads front w ws l (middle k cs front w ws (subst (Listed k cs) l listed)),
+    led-behind (front ++ w ∷ []) ws (l ∙ sym (append_assoc front (w ∷ []) ws)) listed,
+  )
+
+  pub all-led : Listed k cs (lines k).waiters → AreLed k state (map (λ w. w.1.brings) (lines k).waiters) (map waiting (lines k).waiters)
+  all-led listed = led-behind [] (lines k).waiters refl listed
+
+-- ---- the entries of a list
+
+module _ {E : Type 0} (f : ℕ → ℕ) (round : E → E) (rest : E → ℕ) (brings : E → End) where
+  abbrev waiters : List Place → List E → List Waiter
+  waiters ws es = numbered f (ahead_all round rest brings (paired (λ p. p) ws es))
+
+  pub rests-seen : (ws : List Place) (es : List E) → length es ≡ length ws → map rest es ≡ map rest_of (map waiting (waiters ws es))
+  rests-seen [] [] same = refl
+  rests-seen [] (e ∷ es) same = absurd (omega arith)
+  rests-seen (w ∷ ws) [] same = refl
+  rests-seen (w ∷ ws) (e ∷ es) same = ap (λ (ns : List ℕ). rest e ∷ ns) (rests-seen ws es (omega arith))
+
+  pub ends-seen : (ws : List Place) (es : List E) → length es ≡ length ws
+      → map (λ (w : Waiter). w.1.brings) (waiters ws es) ≡ map (λ e. brings (end_of round rest e)) es
+  ends-seen [] [] same = refl
+  ends-seen [] (e ∷ es) same = absurd (omega arith)
+  ends-seen (w ∷ ws) [] same = refl
+  ends-seen (w ∷ ws) (e ∷ es) same = ap (λ (ends : List End). brings (end_of round rest e) ∷ ends) (ends-seen ws es (omega arith))
