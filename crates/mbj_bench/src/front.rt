@@ -1,6 +1,8 @@
 //! Jobs over one front, by submitters and workers in threads, with nothing read or written.
 use crate::ghash::fill;
-use mbj_types::{Auth, Bytes, Cipher, Done, Job};
+use crate::kinds::MOST_BYTES;
+use crate::making::{null_job, with_auth, with_cipher};
+use mbj_types::{Auth, Cipher, Done, Job};
 use mbj_work::{OpenGate, run_shared};
 use std::alloc::{AllocError, Global};
 use std::io;
@@ -12,13 +14,8 @@ use std::time::{Clock, Instant};
 /// The numbers of submitters and workers that are timed.
 const PARTIES: [(u32, u32); 6] = [(1, 0), (1, 1), (1, 3), (2, 2), (4, 0), (4, 4)];
 
-/// How many jobs there are, and the bytes of each packet.
+/// How many jobs there are.
 const JOBS: u32 = 4_000;
-
-const PACKET_BYTES: usize = 1_500;
-
-/// The whole blocks of a packet.
-const BLOCKS_BYTES: u32 = 1_488;
 
 /// The runs of which the fastest counts.
 const RUNS: u32 = 5;
@@ -49,61 +46,35 @@ impl Work {
     }
 }
 
-/// So many bytes of a key or an IV.
-fn bytes(alloc: Global, count: usize) -> Result<Bytes, AllocError> {
-    Ok(Bytes::from_vec(vec![in alloc; 0x0b; count]?))
-}
+/// The keys of AES and of HMACs, and the IV of CBC and CTR, of which GCM takes the first 12 bytes.
+const AES_KEY: [u8; 16] = [0x2b; 16];
 
-/// A job over a whole packet, with neither cipher nor authentication.
-fn null_job(alloc: Global) -> Result<Job, AllocError> {
-    let mut packet = vec![in alloc; 0; PACKET_BYTES]?;
-    fill(&mut packet);
-    let mut job = Job::blank(alloc);
-    job.packet = Bytes::from_vec(packet);
-    Ok(job)
-}
+const HMAC_KEY: [u8; 20] = [0x0b; 20];
 
-fn with_hmac(alloc: Global, mut job: Job, auth: Auth, tag_len: u8) -> Result<Job, AllocError> {
-    job.auth = auth;
-    job.auth_key = bytes(alloc, 20)?;
-    job.hash_len = PACKET_BYTES as u32;
-    job.tag_len = tag_len;
-    Ok(job)
-}
-
-fn with_cipher(
-    alloc: Global,
-    mut job: Job,
-    cipher: Cipher,
-    iv_bytes: usize,
-) -> Result<Job, AllocError> {
-    job.cipher = cipher;
-    job.key = bytes(alloc, 16)?;
-    job.iv = bytes(alloc, iv_bytes)?;
-    job.cipher_len = BLOCKS_BYTES;
-    Ok(job)
-}
+const IV: [u8; 16] = [0x0f; 16];
 
 /// Job `number` of the work.
 fn job(alloc: Global, work: Work, number: u32) -> Result<Job, AllocError> {
-    let job = null_job(alloc)?;
+    let mut packet = vec![in alloc; 0; MOST_BYTES]?;
+    fill(&mut packet);
+    let job = null_job(alloc, packet);
     let turn = match work {
         Work::HmacSha1 => 0,
         Work::CbcHmacSha256 => 1,
         Work::Mix => number % 4,
     };
     match turn {
-        0 => with_hmac(alloc, job, Auth::HmacSha1, 12),
+        0 => with_auth(alloc, job, Auth::HmacSha1, &HMAC_KEY, 12),
         1 => {
-            let job = with_cipher(alloc, job, Cipher::Cbc, 16)?;
-            with_hmac(alloc, job, Auth::HmacSha256, 16)
+            let job = with_cipher(alloc, job, Cipher::Cbc, &AES_KEY, &IV)?;
+            with_auth(alloc, job, Auth::HmacSha256, &HMAC_KEY, 16)
         }
         2 => {
-            let job = with_cipher(alloc, job, Cipher::Ctr, 16)?;
-            with_hmac(alloc, job, Auth::HmacSha512, 32)
+            let job = with_cipher(alloc, job, Cipher::Ctr, &AES_KEY, &IV)?;
+            with_auth(alloc, job, Auth::HmacSha512, &HMAC_KEY, 32)
         }
         _ => {
-            let mut job = with_cipher(alloc, job, Cipher::Gcm, 12)?;
+            let mut job = with_cipher(alloc, job, Cipher::Gcm, &AES_KEY, &IV[..12])?;
             job.auth = Auth::Gcm;
             job.tag_len = 16;
             Ok(job)

@@ -6,8 +6,11 @@
 mod aes;
 mod front;
 mod ghash;
+mod jobs;
 mod kernel;
+mod kinds;
 mod lists;
+mod making;
 mod message;
 mod sha1_kernel;
 mod sha256_kernel;
@@ -27,6 +30,7 @@ fn main(rt: HostRuntime) -> io::Result<()> {
         ghash::print_times(&rt)?;
         aes::print_times(&rt)?;
         lists::print_times(&rt, rt.alloc())?;
+        jobs::print_times(&rt, rt.alloc())?;
         front::print_times(&rt, rt.alloc())?;
     }
     Ok(())

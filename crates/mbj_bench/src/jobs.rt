@@ -1,0 +1,246 @@
+//! Jobs through one manager, from its next cell to their results, beside full lists of the same entries and the plain
+//! functions on the same packets.
+use crate::ghash::fill;
+use crate::kinds::Timed;
+use crate::lists::{LENGTHS, run_list, run_plain};
+use crate::making::null_job;
+use mbj_cbc::CbcKernel;
+use mbj_cmac::CmacKernel;
+use mbj_hmac::{Hmac1Kernel, Hmac256Kernel, Hmac512Kernel};
+use mbj_manager::Manager;
+use mbj_types::{Done, Job, Kind};
+use std::alloc::{AllocError, Global};
+use std::io;
+use std::io::Print;
+use std::time::{Clock, Instant};
+
+/// The jobs of a pass, and those of each kind where there are jobs of all.
+const JOBS: u32 = SHARE as u32 * 8;
+
+const SHARE: usize = 64;
+
+/// The passes of which the fastest counts.
+const PASSES: u32 = 40;
+
+/// What the jobs are.
+#[derive(Clone, Copy)]
+enum Work {
+    /// Neither cipher nor authentication.
+    Null,
+    /// Those of one kind.
+    One(Kind),
+    /// Those of all kinds by turns.
+    Mix,
+}
+
+impl Work {
+    fn name(self) -> &'static str {
+        match self {
+            Work::Null => "null",
+            Work::One(kind) => kind.name(),
+            Work::Mix => "a mix",
+        }
+    }
+}
+
+/// A packet of `len` bytes.
+fn packet(alloc: Global, len: usize) -> Result<Vec<u8>, AllocError> {
+    let mut packet = vec![in alloc; 0; len]?;
+    fill(&mut packet);
+    Ok(packet)
+}
+
+/// A job that waits for the lanes of a kind.
+fn job_of(alloc: Global, kind: Kind, packet: Vec<u8>) -> Result<Job, AllocError> {
+    match kind {
+        Kind::Cbc128 => CbcKernel::<10>::job(alloc, packet),
+        Kind::Cbc192 => CbcKernel::<12>::job(alloc, packet),
+        Kind::Cbc256 => CbcKernel::<14>::job(alloc, packet),
+        Kind::Cmac128 => CmacKernel::<10>::job(alloc, packet),
+        Kind::Cmac256 => CmacKernel::<14>::job(alloc, packet),
+        Kind::HmacSha1 => Hmac1Kernel::job(alloc, packet),
+        Kind::HmacSha256 => Hmac256Kernel::job(alloc, packet),
+        Kind::HmacSha512 => Hmac512Kernel::job(alloc, packet),
+    }
+}
+
+/// The jobs of a pass.
+fn jobs(alloc: Global, work: Work, len: usize) -> Result<Vec<Job>, AllocError> {
+    let mut jobs = Vec::with_capacity(alloc, JOBS as usize)?;
+    for number in 0..JOBS as usize {
+        let packet = packet(alloc, len)?;
+        let job = match work {
+            Work::Null => null_job(alloc, packet),
+            Work::One(kind) => job_of(alloc, kind, packet)?,
+            Work::Mix => job_of(alloc, Kind::ALL[number % Kind::ALL.len()], packet)?,
+        };
+        jobs.push(job)?;
+    }
+    Ok(jobs)
+}
+
+/// Puts jobs through a manager, and keeps their results.
+fn run_jobs(
+    manager: &mut Manager,
+    jobs: Vec<Job>,
+    results: &mut Vec<Done>,
+) -> Result<(), AllocError> {
+    for job in jobs {
+        if let Some(done) = manager.make_room() {
+            results.push(done)?;
+        }
+        manager.put_next(job);
+        if let Some(done) = manager.submit() {
+            results.push(done)?;
+        }
+    }
+    for _ in 0..manager.queue_size() {
+        if let Some(done) = manager.flush() {
+            results.push(done)?;
+        }
+    }
+    Ok(())
+}
+
+/// The packets as entries in full lists, or one after another by the plain function.
+fn run_other<K: Timed>(
+    alloc: Global,
+    in_lists: bool,
+    packets: &mut [Vec<u8>],
+) -> Result<u8, AllocError> {
+    let key = K::key();
+    if !in_lists {
+        return Ok(run_plain::<K>(&key, packets));
+    }
+    let mut sum = 0;
+    for lanes in packets.chunks_mut(K::LANES as usize) {
+        sum ^= run_list::<K>(alloc, &key, lanes)?;
+    }
+    Ok(sum)
+}
+
+fn run_kind(
+    alloc: Global,
+    in_lists: bool,
+    kind: Kind,
+    packets: &mut [Vec<u8>],
+) -> Result<u8, AllocError> {
+    match kind {
+        Kind::Cbc128 => run_other::<CbcKernel<10>>(alloc, in_lists, packets),
+        Kind::Cbc192 => run_other::<CbcKernel<12>>(alloc, in_lists, packets),
+        Kind::Cbc256 => run_other::<CbcKernel<14>>(alloc, in_lists, packets),
+        Kind::Cmac128 => run_other::<CmacKernel<10>>(alloc, in_lists, packets),
+        Kind::Cmac256 => run_other::<CmacKernel<14>>(alloc, in_lists, packets),
+        Kind::HmacSha1 => run_other::<Hmac1Kernel>(alloc, in_lists, packets),
+        Kind::HmacSha256 => run_other::<Hmac256Kernel>(alloc, in_lists, packets),
+        Kind::HmacSha512 => run_other::<Hmac512Kernel>(alloc, in_lists, packets),
+    }
+}
+
+/// The work on packets of no jobs.
+fn run_work(
+    alloc: Global,
+    in_lists: bool,
+    work: Work,
+    packets: &mut [Vec<u8>],
+) -> Result<u8, AllocError> {
+    match work {
+        Work::Null => Ok(0),
+        Work::One(kind) => run_kind(alloc, in_lists, kind, packets),
+        Work::Mix => {
+            let mut sum = 0;
+            for (kind, share) in Kind::ALL.iter().zip(packets.chunks_mut(SHARE)) {
+                sum ^= run_kind(alloc, in_lists, *kind, share)?;
+            }
+            Ok(sum)
+        }
+    }
+}
+
+/// Nanoseconds of the fastest passes.
+#[derive(Clone, Copy)]
+struct Times {
+    jobs: u128,
+    lists: u128,
+    plain: u128,
+}
+
+/// The fastest passes of jobs, of lists and of the plain functions. They take turns, so that what else the machine does meets
+/// them alike. What is computed goes into `sum`, so that none of it is left out.
+fn fastest(
+    rt: &impl Clock,
+    alloc: Global,
+    work: Work,
+    len: usize,
+    sum: &mut u8,
+) -> io::Result<Times> {
+    let mut manager = Manager::new(alloc)?;
+    let mut packets = Vec::new(alloc);
+    for _ in 0..JOBS {
+        packets.push(packet(alloc, len)?)?;
+    }
+    let mut best = Times {
+        jobs: u128::MAX,
+        lists: u128::MAX,
+        plain: u128::MAX,
+    };
+    for _ in 0..PASSES {
+        let jobs = jobs(alloc, work, len)?;
+        let mut results = Vec::with_capacity(alloc, JOBS as usize)?;
+        let start = Instant::now(rt)?;
+        run_jobs(&mut manager, jobs, &mut results)?;
+        best.jobs = start.elapsed(rt)?.as_nanos().min(best.jobs);
+        let start = Instant::now(rt)?;
+        *sum ^= run_work(alloc, true, work, &mut packets)?;
+        best.lists = start.elapsed(rt)?.as_nanos().min(best.lists);
+        let start = Instant::now(rt)?;
+        *sum ^= run_work(alloc, false, work, &mut packets)?;
+        best.plain = start.elapsed(rt)?.as_nanos().min(best.plain);
+    }
+    Ok(best)
+}
+
+/// Prints nanoseconds a job and MB/s, and in how many times less time than full lists and than the plain functions.
+fn print_work(
+    rt: &(impl Print + Clock),
+    alloc: Global,
+    work: Work,
+    sum: &mut u8,
+) -> io::Result<()> {
+    for len in LENGTHS {
+        let best = fastest(rt, alloc, work, len, sum)?;
+        let nanos = best.jobs / JOBS as u128;
+        let bytes = 1000 * JOBS as u128 * len as u128;
+        let rate = bytes.checked_div(best.jobs).unwrap_or(0);
+        let of_lists = best
+            .lists
+            .saturating_mul(100)
+            .checked_div(best.jobs)
+            .unwrap_or(0);
+        let of_plain = best
+            .plain
+            .saturating_mul(100)
+            .checked_div(best.jobs)
+            .unwrap_or(0);
+        println!(rt;
+            "jobs, {:<12}{len:>5} bytes {nanos:>7} ns {rate:>6} MB/s, of lists {:>2}.{:02}, of plain {:>3}.{:02}",
+            work.name(),
+            of_lists / 100,
+            of_lists % 100,
+            of_plain / 100,
+            of_plain % 100
+        )?;
+    }
+    Ok(())
+}
+
+/// Prints how fast jobs go through a manager.
+pub fn print_times(rt: &(impl Print + Clock), alloc: Global) -> io::Result<()> {
+    let mut sum = 0;
+    print_work(rt, alloc, Work::Null, &mut sum)?;
+    for kind in Kind::ALL {
+        print_work(rt, alloc, Work::One(kind), &mut sum)?;
+    }
+    print_work(rt, alloc, Work::Mix, &mut sum)?;
+    println!(rt; "checksum {sum:02x}")
+}

@@ -1,0 +1,41 @@
+//! Jobs over whole packets.
+use crate::kinds::{MOST_BYTES, whole};
+use mbj_types::{Auth, Bytes, Cipher, Job};
+use std::alloc::{AllocError, Global};
+
+/// A job that does nothing with a packet.
+pub fn null_job(alloc: Global, packet: Vec<u8>) -> Job {
+    let mut job = Job::blank(alloc);
+    job.packet = Bytes::from_vec(packet);
+    job
+}
+
+/// The job with a tag of `tag_len` bytes over its packet.
+pub fn with_auth(
+    alloc: Global,
+    mut job: Job,
+    auth: Auth,
+    key: &[u8],
+    tag_len: u8,
+) -> Result<Job, AllocError> {
+    job.auth = auth;
+    job.auth_key = Bytes::from_vec(key.to_vec(alloc)?);
+    job.hash_len = job.packet.as_slice().len().min(MOST_BYTES) as u32;
+    job.tag_len = tag_len;
+    Ok(job)
+}
+
+/// The job with a cipher over the whole blocks of its packet.
+pub fn with_cipher(
+    alloc: Global,
+    mut job: Job,
+    cipher: Cipher,
+    key: &[u8],
+    iv: &[u8],
+) -> Result<Job, AllocError> {
+    job.cipher = cipher;
+    job.key = Bytes::from_vec(key.to_vec(alloc)?);
+    job.iv = Bytes::from_vec(iv.to_vec(alloc)?);
+    job.cipher_len = whole(job.packet.as_slice()) as u32;
+    Ok(job)
+}
