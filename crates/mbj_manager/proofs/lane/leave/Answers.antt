@@ -1,5 +1,5 @@
 -- The first whose rounds are done leaves, and its course joins the agenda.
-use Rattle.std.proofs.Common.{◌≡◌, ◌++◌, ◌∷◌, [], ◌∙◌, ℕ, List, length, map, ap, sym, subst, arith, append_assoc, length-append}
+use Rattle.std.proofs.Common.{◌≡◌, ◌++◌, ◌∷◌, [], ◌∙◌, ℕ, List, length, map, ap, sym, subst, arith, rules, append_assoc, length-append}
 use Rattle.std.proofs.lemmas.List.{append-nil, map-append}
 use Rattle.mbj_stage.specs.Going.{Going}
 use Rattle.mbj_stage.specs.Handing.{taken_back}
@@ -58,7 +58,7 @@ leaving-preserved g c =
           ∙ append_assoc (map f old) (f c.in-Some.place ∷ []) (numbers (finishers g.K.Kernel.rest_of qs))
           ∙ ap (λ x. map f old ++ numbers x) (sym t.leave) ∙ i.agenda;
       rounds = c.take.ensures.rounds ∙ i.rounds;
-      blocks = c.take.ensures.blocks ∙ i.blocks;
+      blocks = search rules;
     }
 
 pub returns-in-None-clause-waits : goal.returns-in-None-clause-waits
