@@ -1,0 +1,147 @@
+"""Jobs, their results, and the job file of docs/FORMAT.md."""
+import hashlib
+import hmac
+
+from ciphers import cbc, cmac, ctr, gcm, schedule
+
+HASHES = {"hmac-sha1": "sha1", "hmac-sha224": "sha224", "hmac-sha256": "sha256", "hmac-sha384": "sha384", "hmac-sha512": "sha512"}
+CMACS = {"cmac128": 16, "cmac256": 32}
+FIELDS = "cipher dir order key iv coff clen auth akey aad hoff hlen taglen packet".split()
+
+
+def longest_tag(job):
+    """The longest tag of the job's authentication."""
+    return hashlib.new(HASHES[job["auth"]]).digest_size if job["auth"] in HASHES else 0 if job["auth"] == "null" else 16
+
+
+def reason(job):
+    """The number of the first row of the argument table that refuses the job, else 0."""
+    cipher, auth, length = job["cipher"], job["auth"], len(job["packet"])
+    text, iv, key, tag = job["clen"], len(job["iv"]), len(job["akey"]), job["taglen"]
+    hashes = auth in HASHES or auth in CMACS
+    rows = [
+        length > 65535,
+        (cipher == "gcm") != (auth == "gcm"),
+        cipher != "null" and len(job["key"]) not in (16, 24, 32),
+        cipher == "cbc" and iv != 16 or cipher == "ctr" and iv not in (12, 16) or cipher == "gcm" and not 1 <= iv <= 65535,
+        cipher != "null" and job["coff"] + text > length,
+        cipher == "cbc" and (text == 0 or text % 16 != 0) or cipher == "ctr" and text == 0,
+        auth in CMACS and key != CMACS[auth] or auth in HASHES and key > 1024,
+        hashes and job["hoff"] + job["hlen"] > length,
+        cipher == "gcm" and len(job["aad"]) > 65535,
+        tag != 0 if auth == "null" else not 1 <= tag <= longest_tag(job),
+    ]
+    return rows.index(True) + 1 if True in rows else 0
+
+
+def ciphered(job, packet):
+    start, end = job["coff"], job["coff"] + job["clen"]
+    text, encrypts = packet[start:end], job["dir"] == "enc"
+    if job["cipher"] != "null":
+        keys = schedule(job["key"])
+        text = cbc(keys, job["iv"], text, encrypts) if job["cipher"] == "cbc" else ctr(keys, job["iv"], text)
+    return packet[:start] + text + packet[end:]
+
+
+def authenticated(job, packet):
+    message = packet[job["hoff"]:job["hoff"] + job["hlen"]]
+    if job["auth"] in HASHES:
+        return hmac.new(job["akey"], message, HASHES[job["auth"]]).digest()
+    return cmac(schedule(job["akey"]), message) if job["auth"] in CMACS else b""
+
+
+def result_line(number, job):
+    if reason(job):
+        return "%d invalid-args %d\n" % (number, reason(job))
+    packet = job["packet"]
+    if job["cipher"] == "gcm":
+        end = job["coff"] + job["clen"]
+        text, tag = gcm(schedule(job["key"]), job["iv"], job["aad"], packet[job["coff"]:end], job["dir"] == "enc")
+        packet = packet[:job["coff"]] + text + packet[end:]
+    elif job["order"] == "ch":
+        packet = ciphered(job, packet)
+        tag = authenticated(job, packet)
+    else:
+        tag = authenticated(job, packet)
+        packet = ciphered(job, packet)
+    return "%d ok %s %s\n" % (number, packet.hex() or "-", tag[:job["taglen"]].hex() or "-")
+
+
+def run_text(jobs):
+    return "".join(result_line(number, job) for number, job in enumerate(jobs))
+
+
+# The job file.
+
+WORDS = {
+    "cipher": ["null", "cbc", "ctr", "gcm"],
+    "dir": ["enc", "dec"],
+    "order": ["ch", "hc"],
+    "auth": ["null", *HASHES, *CMACS, "gcm"],
+}
+
+
+class BadLine(Exception):
+    """The line, and the field."""
+
+
+def number_of(field, limit=99999):
+    good = field.isdigit() and field.isascii() and len(field) <= 5 and (field == b"0" or field[:1] != b"0")
+    return int(field) if good and int(field) <= limit else None
+
+
+def bytes_of(field):
+    if field == b"-":
+        return b""
+    good = field and len(field) % 2 == 0 and all(b in b"0123456789abcdefABCDEF" for b in field)
+    return bytes.fromhex(field.decode()) if good else None
+
+
+def value_of(name, field):
+    if name in WORDS:
+        return field.decode("latin-1") if field.decode("latin-1") in WORDS[name] else None
+    if name in ("coff", "clen", "hoff", "hlen", "taglen"):
+        return number_of(field, 255 if name == "taglen" else 99999)
+    return bytes_of(field)
+
+
+def job_of(line, content):
+    fields = content.split(b" ")
+    if len(fields) != 14:
+        raise BadLine(line, 0)
+    values = [value_of(name, field) for name, field in zip(FIELDS, fields)]
+    if None in values:
+        raise BadLine(line, values.index(None) + 1)
+    return dict(zip(FIELDS, values))
+
+
+def command_of(line, content, submitters, workers):
+    fields = content.split(b" ")
+    bounds = {b"post": [submitters], b"claim": [workers, submitters], b"flush": [workers], b"collect": [submitters]}.get(fields[0])
+    if bounds is None:
+        raise BadLine(line, 1)
+    if len(fields) != 1 + len(bounds):
+        raise BadLine(line, 0)
+    numbers = [number_of(field) for field in fields[1:]]
+    for place, (number, bound) in enumerate(zip(numbers, bounds)):
+        if number is None or number >= bound:
+            raise BadLine(line, 2 + place)
+    return (fields[0].decode(), *numbers)
+
+
+def read(text, parties=None):
+    """The jobs of a file, and the commands of its script, where it may have one."""
+    pieces = text.split(b"\n")
+    pieces = pieces if pieces[-1] else pieces[:-1]
+    jobs, commands, in_script = [], [], False
+    for line, content in enumerate(pieces, 1):
+        content = content[:-1] if content.endswith(b"\r") else content
+        if not content or content.startswith(b"#"):
+            continue
+        if in_script:
+            commands.append(command_of(line, content, *parties))
+        elif parties and content == b"%":
+            in_script = True
+        else:
+            jobs.append(job_of(line, content))
+    return jobs, commands
