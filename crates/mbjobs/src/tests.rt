@@ -1,14 +1,27 @@
+mod draws;
+mod failing_err;
+mod failing_reads;
+mod failing_writes;
+mod full_hand;
+mod holding_gates;
 mod limits;
+mod longest_file;
 mod parties;
+mod prefixes;
+mod random_inputs;
 mod replay;
 mod results;
+mod seeded_replays;
 mod trace;
 mod workers;
+mod yielding_gates;
 
 ghost use Rattle.std.specs.Prelude.{None};
 
 use super::*;
 use mbj_io::{Failed, MemSink, MemSource, Source};
+use mbj_work::Gate;
+use sha2::{Digest, Sha256};
 use std::alloc::{AllocError, Global};
 use std::process::Abort;
 use std::sync::Wait;
@@ -20,6 +33,8 @@ const RUN: [&str; 6] = ["mbjobs", "run", "--submitters", "1", "--workers", "0"];
 /// RFC 2202, test case 1 of HMAC-SHA-1.
 const FIRST_JOB: &str =
     "null enc ch - - 0 0 hmac-sha1 0b0b0b0b0b0b0b0b0b0b0b0b0b0b0b0b0b0b0b0b - 0 8 20 4869205468657265\n";
+
+const FIRST_RESULT: &str = "0 ok 4869205468657265 b617318655057264e28bc0b6fb378c8ef146be00\n";
 
 /// Room for what a test writes.
 const ROOM: usize = 1 << 20;
@@ -64,6 +79,27 @@ fn run_words<R: Threads + Wait + Sync>(
     let out = MemSink::new(alloc, ROOM, 1_024, &[])?;
     let err = MemSink::new(alloc, ROOM, 1_024, &[])?;
     run_over(rt, alloc, words, &mut input, out, err)
+}
+
+/// Runs the program on an input, under a gate.
+fn run_gated<R: Threads + Wait + Sync, G: Gate + Sync>(
+    rt: &R,
+    alloc: Global,
+    words: &[&str],
+    file: &[u8],
+    gate: &G,
+) -> Result<Ending, AllocError> {
+    let words = words_of(alloc, words)?;
+    let mut input = MemSource::new(alloc, file, 4_096, &[])?;
+    let mut out = MemSink::new(alloc, ROOM, 1_024, &[])?;
+    let mut err = MemSink::new(alloc, ROOM, 1_024, &[])?;
+    let status = mbjobs(rt, alloc, &words, &mut input, &mut out, &mut err, gate);
+    Ok(Ending { status, out, err })
+}
+
+/// The SHA-256 digest of a text, in hexadecimal digits.
+fn digest_of(alloc: Global, text: &[u8]) -> Result<String, AllocError> {
+    hex::encode(alloc, Sha256::digest(text))
 }
 
 /// Runs a job file with one submitter.

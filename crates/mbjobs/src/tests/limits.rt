@@ -2,10 +2,10 @@ use super::run_file;
 use std::alloc::{AllocError, Global};
 use std::test::Fail;
 
-const NULL_JOB: &str = "null enc ch - - 0 0 null - - 0 0 0 -\n";
+pub(super) const NULL_JOB: &str = "null enc ch - - 0 0 null - - 0 0 0 -\n";
 
 /// A file of `before` lines of one text, a line between, and `after` lines of the text.
-fn lines_around(
+pub(super) fn lines_around(
     alloc: Global,
     text: &str,
     before: usize,

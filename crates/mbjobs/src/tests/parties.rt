@@ -66,7 +66,7 @@ fn job_line(alloc: Global, job: &Job) -> Result<String, AllocError> {
 }
 
 /// A file of generated jobs.
-fn generated_file(alloc: Global, seed: u64, count: u32) -> Result<String, AllocError> {
+pub(super) fn generated_file(alloc: Global, seed: u64, count: u32) -> Result<String, AllocError> {
     let mut generator = Generator::new(seed);
     let mut file = String::new(alloc);
     for _ in 0..count {

@@ -1,7 +1,5 @@
-use super::{FIRST_JOB, compare, run_file};
+use super::{FIRST_JOB, FIRST_RESULT, compare, run_file};
 use std::test::Fail;
-
-const FIRST_RESULT: &str = "0 ok 4869205468657265 b617318655057264e28bc0b6fb378c8ef146be00\n";
 
 /// RFC 2202, test case 1, whole and with a tag of 12 bytes as IPsec has it, and RFC 4231, test case 2.
 #[test]

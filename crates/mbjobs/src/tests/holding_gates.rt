@@ -1,0 +1,93 @@
+use super::parties::generated_file;
+use super::{RUN, run_gated, run_words};
+use mbj_work::{Gate, Moment};
+use std::sync::atomic::Ordering::SeqCst;
+use std::sync::atomic::{AtomicBool, AtomicU32};
+use std::test::Fail;
+use std::thread::yield_now;
+
+/// How many turns a party is held at most; an ask for leave to help is a turn too.
+const MOST_TURNS: u32 = 10_000_000;
+
+/// How many moments of other parties end a hold.
+const OTHER_MOMENTS: u32 = 64;
+
+/// Two submitters and three workers: party 0 is a submitter, party 2 a worker.
+const WORDS: [&str; 6] = ["mbjobs", "run", "--submitters", "2", "--workers", "3"];
+
+/// The party that is held, and the moment.
+const HOLDS: [(u32, Moment); 4] = [
+    (2, Moment::Claimed),
+    (2, Moment::Finishing),
+    (0, Moment::Posted),
+    (0, Moment::Collected),
+];
+
+/// Holds one party at its first moment of a kind, until others have passed so many moments, and lets nobody help before.
+#[derive(Drop)]
+struct Holding {
+    party: u32,
+    moment: Moment,
+    begun: AtomicBool,
+    others: AtomicU32,
+    turns: AtomicU32,
+}
+
+impl Holding {
+    fn new(party: u32, moment: Moment) -> Holding {
+        Holding {
+            party,
+            moment,
+            begun: AtomicBool::new(false),
+            others: AtomicU32::new(0),
+            turns: AtomicU32::new(0),
+        }
+    }
+
+    /// Takes a turn, and answers whether the hold is over.
+    fn is_over(&self) -> bool {
+        self.others.load(SeqCst) >= OTHER_MOMENTS || self.turns.fetch_add(1, SeqCst) >= MOST_TURNS
+    }
+
+    fn hold(&self) {
+        self.begun.store(true, SeqCst);
+        for _ in 0..MOST_TURNS {
+            if self.is_over() {
+                return;
+            }
+            yield_now();
+        }
+    }
+}
+
+impl Gate for Holding {
+    fn pass(&self, party: u32, moment: Moment) {
+        if party == self.party {
+            if moment == self.moment {
+                self.hold();
+            }
+        } else if self.begun.load(SeqCst) {
+            self.others.fetch_add(1, SeqCst);
+        }
+    }
+
+    fn may_help(&self, _party: u32) -> bool {
+        yield_now();
+        self.is_over()
+    }
+}
+
+#[test]
+fn a_held_party_changes_no_text(rt: HostRuntime) -> Result<(), Fail> {
+    let alloc = rt.alloc();
+    let file = generated_file(alloc, 7, 600)?;
+    let one = run_words(&rt, alloc, &RUN, file.as_bytes())?;
+    assert_eq!(rt; one.status, 0);
+    for (party, moment) in HOLDS {
+        let gate = Holding::new(party, moment);
+        let ending = run_gated(&rt, alloc, &WORDS, file.as_bytes(), &gate)?;
+        assert_eq!(rt; ending.status, 0, "{moment:?}");
+        assert!(rt; ending.out.held() == one.out.held(), "{moment:?}");
+    }
+    Ok(())
+}

@@ -1,0 +1,157 @@
+use super::draws::{Draws, REPLAY};
+use super::parties::generated_file;
+use super::{ROOM, digest_of, run_over, run_words};
+use mbj_io::{MemSink, MemSource};
+use std::alloc::{AllocError, Global};
+use std::process::Abort;
+use std::sync::Wait;
+use std::test::Fail;
+use std::thread::Threads;
+
+/// How many inputs of a kind there are.
+const SEEDS: u64 = 64;
+
+/// Edits draw from another seed than the jobs.
+const EDITS: u64 = 1_000;
+
+/// What a byte of a file is replaced by.
+const HOSTILE: [u8; 16] = *b" \n\r#%-0fgZ\t\xff\x00,5@";
+
+/// Kinds of inputs.
+#[derive(Clone, Copy)]
+enum Kind {
+    /// Up to 255 random bytes.
+    Bytes,
+    /// Three jobs, in which up to three bytes are replaced.
+    Jobs,
+    /// Three jobs and twelve commands, in which up to three bytes are replaced.
+    Script,
+}
+
+const RUN: [&str; 6] = ["mbjobs", "run", "--submitters", "2", "--workers", "2"];
+
+/// Commands and kinds of inputs, and the digests of how 64 of them end, by `tests/faults/reference.py random`.
+const CASES: [(&[&str], Kind, &str); 6] = [
+    (
+        &RUN,
+        Kind::Bytes,
+        "6f81ab6aed41b53d9403fe96701258a75477e6b510c5abb443a02bcf75b77eb9",
+    ),
+    (
+        &RUN,
+        Kind::Jobs,
+        "9bec36b8d8937f99c885f03dfac96d22f103f2e19a983c28da38ee2604ff625b",
+    ),
+    (
+        &["mbjobs", "trace"],
+        Kind::Bytes,
+        "6f81ab6aed41b53d9403fe96701258a75477e6b510c5abb443a02bcf75b77eb9",
+    ),
+    (
+        &["mbjobs", "trace"],
+        Kind::Jobs,
+        "52989b950802c3706075e0141c76f7d9cb70162cb83a82b6a0d1c45c0ff5ab25",
+    ),
+    (
+        &REPLAY,
+        Kind::Bytes,
+        "6f81ab6aed41b53d9403fe96701258a75477e6b510c5abb443a02bcf75b77eb9",
+    ),
+    (
+        &REPLAY,
+        Kind::Script,
+        "870cb4d9d75cc2269a35cdee193bc1fd072a172a51b9cd871122321680cc8a56",
+    ),
+];
+
+fn random_bytes(alloc: Global, draws: &mut Draws) -> Result<Vec<u8>, AllocError> {
+    let mut bytes = Vec::new(alloc);
+    for _ in 0..draws.byte() {
+        bytes.push(draws.byte())?;
+    }
+    Ok(bytes)
+}
+
+/// Replaces up to three bytes of a file.
+fn edit(file: &mut Vec<u8>, draws: &mut Draws) {
+    for _ in 0..draws.below(4) {
+        let high = draws.byte() as usize;
+        let place = 256 * high + draws.byte() as usize;
+        let count = file.len().max(1);
+        let edited = HOSTILE[draws.below(16) as usize];
+        if let Some(byte) = file.get_mut(place % count) {
+            *byte = edited;
+        }
+    }
+}
+
+/// The input of a kind and a seed.
+fn input_of(alloc: Global, kind: Kind, seed: u64) -> Result<Vec<u8>, AllocError> {
+    if let Kind::Bytes = kind {
+        return random_bytes(alloc, &mut Draws::new(seed));
+    }
+    let mut draws = Draws::new(seed + EDITS);
+    let mut file = generated_file(alloc, seed, 3)?;
+    if let Kind::Script = kind {
+        let script = draws.script(alloc, 12)?;
+        file.push_str(&script)?;
+    }
+    let mut file = file.as_bytes().to_vec(alloc)?;
+    edit(&mut file, &mut draws);
+    Ok(file)
+}
+
+/// How a command ends on inputs of a kind: each time a line of its status, and then what it writes.
+fn endings<R: Threads + Wait + Sync + Abort>(
+    rt: &R,
+    alloc: Global,
+    words: &[&str],
+    kind: Kind,
+) -> Result<Vec<u8>, AllocError> {
+    let mut endings = Vec::new(alloc);
+    for seed in 0..SEEDS {
+        let input = input_of(alloc, kind, seed)?;
+        let ending = run_words(rt, alloc, words, &input)?;
+        let status = format!(in alloc; "{}\n", ending.status)?;
+        endings.extend_from_slice(status.as_bytes())?;
+        endings.extend_from_slice(ending.out.held())?;
+        endings.extend_from_slice(ending.err.held())?;
+    }
+    Ok(endings)
+}
+
+#[test]
+fn commands_end_on_random_inputs_as_they_are_to(rt: HostRuntime) -> Result<(), Fail> {
+    let alloc = rt.alloc();
+    for (words, kind, digest) in CASES {
+        let endings = endings(&rt, alloc, words, kind)?;
+        assert_eq!(rt; digest_of(alloc, &endings)?.as_str(), digest, "{words:?}");
+    }
+    Ok(())
+}
+
+#[test]
+fn gen_reads_no_input(rt: HostRuntime) -> Result<(), Fail> {
+    let alloc = rt.alloc();
+    let words = [
+        "mbjobs",
+        "gen",
+        "--seed",
+        "1",
+        "--jobs",
+        "0",
+        "--submitters",
+        "1",
+        "--workers",
+        "1",
+    ];
+    let bytes = random_bytes(alloc, &mut Draws::new(1))?;
+    let mut input = MemSource::new(alloc, &bytes, 64, &[0])?;
+    let out = MemSink::new(alloc, ROOM, 64, &[])?;
+    let err = MemSink::new(alloc, ROOM, 64, &[])?;
+    let ending = run_over(&rt, alloc, &words, &mut input, out, err)?;
+    assert_eq!(rt; ending.status, 0);
+    assert!(rt; ending.out.held().starts_with(b"jobs 0\nok 0\n"));
+    assert_eq!(rt; input.rest(), bytes.as_slice());
+    Ok(())
+}
