@@ -32,6 +32,7 @@ impl Draws {
     /// Draws a number below the bound.
     pub(super) fn below(&mut self, bound: u8) -> u8
         requires { 0 < bound }
+        ensures { result < bound }
     {
         self.byte() % bound
     }

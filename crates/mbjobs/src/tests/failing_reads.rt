@@ -23,7 +23,7 @@ const COMMANDS: [(&[&str], &str); 3] = [
 
 /// How many bytes a read gives at most, and how many reads the 97 bytes of the first job's line take, with the one that
 /// finds their end.
-const READS: [(u32, u64); 3] = [(5, 21), (1, 98), (96, 3)];
+const READS: [(u32, u32); 3] = [(5, 21), (1, 98), (96, 3)];
 
 /// Runs a command on the first job, with the read of one number failing, and compares how it ends and what it has read.
 fn compare<R: Threads + Wait + Sync + Abort>(
@@ -69,6 +69,7 @@ fn each_read_that_fails_ends_the_run(rt: HostRuntime) -> Result<(), Fail> {
     for (words, text) in COMMANDS {
         for (piece, reads) in READS {
             assert!(rt; 1 <= piece);
+            let reads = u64::from(reads);
             for number in 0..reads + 2 {
                 compare(&rt, rt.alloc(), words, text, piece, number, number < reads)?;
             }

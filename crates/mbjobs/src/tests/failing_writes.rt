@@ -50,7 +50,7 @@ const CASES: [Case; 4] = [
 ];
 
 /// How many bytes a write takes at most, and how many writes the 63 bytes of the first result take.
-const WRITES: [(u32, u64); 4] = [(7, 9), (1, 63), (62, 2), (63, 1)];
+const WRITES: [(u32, u32); 4] = [(7, 9), (1, 63), (62, 2), (63, 1)];
 
 /// Runs a command, and answers how it ended and what it wrote to the sink.
 fn run_into<R: Threads + Wait + Sync>(
@@ -88,7 +88,7 @@ fn each_write_that_fails_leaves_what_was_written_before(rt: HostRuntime) -> Resu
     let alloc = rt.alloc();
     for (piece, writes) in WRITES {
         assert!(rt; 1 <= piece);
-        for number in 0..writes + 2 {
+        for number in 0..u64::from(writes) + 2 {
             let out = MemSink::new(alloc, ROOM, piece, &[number])?;
             let taken = (piece as usize).saturating_mul(number as usize);
             compare(&rt, alloc, &CASES[0], out, taken)?;
@@ -130,4 +130,9 @@ fn each_write_of_each_command_that_fails_ends_it(rt: HostRuntime) -> Result<(), 
         assert_eq!(rt; before, case.text.len());
     }
     Ok(())
+}
+
+#[test]
+fn a_room_that_no_memory_has_is_refused(rt: HostRuntime) {
+    assert!(rt; MemSink::new(rt.alloc(), usize::MAX, 1, &[]).is_err());
 }

@@ -18,15 +18,16 @@ const PREFIXES: [(usize, usize, usize, u8, &str, &str); 6] = [
 #[test]
 fn every_prefix_of_a_line_is_read_as_it_stands(rt: HostRuntime) -> Result<(), Fail> {
     let line = FIRST_JOB.as_bytes();
-    let mut count = 0;
+    let mut count: usize = 0;
     for (first, last, step, status, out, err) in PREFIXES {
+        assert!(rt; 1 <= step);
         for length in (first..=last).step_by(step) {
             let prefix = line.get(..length).ok_or("the line is shorter")?;
             let ending = run_file(&rt, rt.alloc(), prefix)?;
             assert_eq!(rt; ending.status, status, "{length}");
             assert_eq!(rt; ending.out.held(), out.as_bytes(), "{length}");
             assert_eq!(rt; ending.err.held(), err.as_bytes(), "{length}");
-            count += 1;
+            count = count.saturating_add(1);
         }
     }
     assert_eq!(rt; count, line.len() + 1);

@@ -90,7 +90,7 @@ fn input_of(alloc: Global, kind: Kind, seed: u64) -> Result<Vec<u8>, AllocError>
     if let Kind::Bytes = kind {
         return random_bytes(alloc, &mut Draws::new(seed));
     }
-    let mut draws = Draws::new(seed + EDITS);
+    let mut draws = Draws::new(seed.wrapping_add(EDITS));
     let mut file = generated_file(alloc, seed, 3)?;
     if let Kind::Script = kind {
         let script = draws.script(alloc, 12)?;

@@ -97,7 +97,7 @@ const REPLAYS: [(u64, u64, &str); 16] = [
 /// Compares the results that a replay collects, submitter by submitter, with those of a run: submitter s collects those of
 /// the jobs s, s + 3, s + 6 and so on, as far as it comes.
 fn collects_results_in_order<R: Abort>(rt: &R, replay: &str, run: &str) -> Result<(), Fail> {
-    let mut collected = [0; SUBMITTERS as usize];
+    let mut collected = [0usize; SUBMITTERS as usize];
     for line in replay.lines() {
         let Some(told) = line.strip_prefix("collect ") else {
             continue;
@@ -114,7 +114,7 @@ fn collects_results_in_order<R: Abort>(rt: &R, replay: &str, run: &str) -> Resul
             .step_by(SUBMITTERS as usize)
             .nth(*count);
         assert_eq!(rt; Some(result), expected);
-        *count += 1;
+        *count = count.saturating_add(1);
     }
     Ok(())
 }
