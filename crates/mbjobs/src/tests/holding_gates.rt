@@ -1,10 +1,13 @@
 use super::parties::generated_file;
 use super::{RUN, run_gated, run_words};
 use mbj_work::{Gate, Moment};
+use std::alloc::{AllocError, Global};
+use std::process::Abort;
+use std::sync::Wait;
 use std::sync::atomic::Ordering::SeqCst;
 use std::sync::atomic::{AtomicBool, AtomicU32};
 use std::test::Fail;
-use std::thread::yield_now;
+use std::thread::{Threads, yield_now};
 
 /// How many turns a party is held at most; an ask for leave to help is a turn too.
 const MOST_TURNS: u32 = 10_000_000;
@@ -12,16 +15,12 @@ const MOST_TURNS: u32 = 10_000_000;
 /// How many moments of other parties end a hold.
 const OTHER_MOMENTS: u32 = 64;
 
-/// Two submitters and three workers: party 0 is a submitter, party 2 a worker.
+/// Two submitters, which are parties 0 and 1, and three workers.
 const WORDS: [&str; 6] = ["mbjobs", "run", "--submitters", "2", "--workers", "3"];
 
-/// The party that is held, and the moment.
-const HOLDS: [(u32, Moment); 4] = [
-    (2, Moment::Claimed),
-    (2, Moment::Finishing),
-    (0, Moment::Posted),
-    (0, Moment::Collected),
-];
+const WORKER: u32 = 2;
+
+const SUBMITTER: u32 = 0;
 
 /// Holds one party at its first moment of a kind, until others have passed so many moments, and lets nobody help before.
 #[derive(Drop)]
@@ -77,17 +76,44 @@ impl Gate for Holding {
     }
 }
 
-#[test]
-fn a_held_party_changes_no_text(rt: HostRuntime) -> Result<(), Fail> {
-    let alloc = rt.alloc();
+/// Runs a file with the party held at each moment, and compares the text with that of a run with one party.
+fn compare<R: Threads + Wait + Sync + Abort>(
+    rt: &R,
+    alloc: Global,
+    party: u32,
+    moments: &[Moment],
+) -> Result<(), AllocError> {
     let file = generated_file(alloc, 7, 600)?;
-    let one = run_words(&rt, alloc, &RUN, file.as_bytes())?;
+    let one = run_words(rt, alloc, &RUN, file.as_bytes())?;
     assert_eq!(rt; one.status, 0);
-    for (party, moment) in HOLDS {
-        let gate = Holding::new(party, moment);
-        let ending = run_gated(&rt, alloc, &WORDS, file.as_bytes(), &gate)?;
+    for moment in moments {
+        let gate = Holding::new(party, *moment);
+        let ending = run_gated(rt, alloc, &WORDS, file.as_bytes(), &gate)?;
         assert_eq!(rt; ending.status, 0, "{moment:?}");
         assert!(rt; ending.out.held() == one.out.held(), "{moment:?}");
     }
+    Ok(())
+}
+
+// Each hold may last for all its turns, which take seconds: so these are two tests.
+#[test]
+fn a_held_worker_changes_no_text(rt: HostRuntime) -> Result<(), Fail> {
+    compare(
+        &rt,
+        rt.alloc(),
+        WORKER,
+        &[Moment::Claimed, Moment::Finishing],
+    )?;
+    Ok(())
+}
+
+#[test]
+fn a_held_submitter_changes_no_text(rt: HostRuntime) -> Result<(), Fail> {
+    compare(
+        &rt,
+        rt.alloc(),
+        SUBMITTER,
+        &[Moment::Posted, Moment::Collected],
+    )?;
     Ok(())
 }
