@@ -1,9 +1,9 @@
 /* Refuses one allocation of the program that it is preloaded to: that with the number in MBJ_REFUSE, from 1 on, of all that are asked
-   for in any thread. At the end it writes how many there were to the file that MBJ_COUNT names. It wants glibc. */
-#define _GNU_SOURCE
+   for in any thread. When it does, it makes the file that MBJ_TOLD names, since a program may end without a call of its own. It wants
+   glibc. */
+#include <errno.h>
 #include <fcntl.h>
 #include <stdatomic.h>
-#include <stdio.h>
 #include <stdlib.h>
 #include <unistd.h>
 
@@ -20,17 +20,14 @@ __attribute__((constructor)) static void begin(void) {
     atomic_store(&allocations, 0);
 }
 
-__attribute__((destructor)) static void end(void) {
-    const char *name = getenv("MBJ_COUNT");
-    int file = name == NULL ? -1 : open(name, O_WRONLY | O_CREAT | O_TRUNC, 0600);
-    if (file >= 0) {
-        dprintf(file, "%ld\n", atomic_load(&allocations));
-        close(file);
-    }
-}
-
 static int is_refused(void) {
-    return atomic_fetch_add(&allocations, 1) + 1 == refused;
+    if (atomic_fetch_add(&allocations, 1) + 1 != refused)
+        return 0;
+    const char *name = getenv("MBJ_TOLD");
+    if (name != NULL)
+        close(open(name, O_WRONLY | O_CREAT, 0600));
+    errno = ENOMEM;
+    return 1;
 }
 
 void *malloc(size_t len) {
