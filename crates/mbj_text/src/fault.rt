@@ -4,6 +4,8 @@ ghost use Rattle.mbj_text.specs.declared.fault.TextFault.TheVariants as text_fau
 ghost use Rattle.mbj_text.specs.Reading.{fault_at};
 
 use std::alloc::{AllocError, AllocFailed};
+use std::error::Error;
+use std::fmt;
 
 /// Why a file isn't read. Lines are counted from 1.
 #[derive(Clone, Copy, Debug, PartialEq, Eq)]
@@ -17,6 +19,25 @@ pub enum TextFault {
     /// There wasn't memory enough.
     Memory,
 }
+
+impl fmt::Display for TextFault {
+    fn fmt<W: fmt::Write>(&self, f: &mut fmt::Formatter<W>) -> fmt::Result {
+        match self {
+            TextFault::Line { line, field: 0 } => {
+                write!(f, "line {line} has a wrong number of fields")
+            }
+            TextFault::Line { line, field } => {
+                write!(f, "field {field} of line {line} isn't of its form")
+            }
+            TextFault::Limit { line } => {
+                write!(f, "line {line} is one job line more than a file may have")
+            }
+            TextFault::Memory => f.write_str("there wasn't memory enough"),
+        }
+    }
+}
+
+impl Error for TextFault {}
 
 /// Why a line isn't read.
 #[derive(Clone, Copy, Debug, PartialEq, Eq)]

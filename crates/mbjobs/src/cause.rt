@@ -3,7 +3,10 @@ ghost use Rattle.mbjobs.specs.Message.{status_of};
 ghost use Rattle.mbjobs.specs.declared.cause.Cause.TheVariants as variant;
 
 use mbj_io::Failed;
+use mbj_text::{INPUT_LIMIT, TextFault};
 use std::alloc::AllocError;
+use std::error::Error;
+use std::fmt;
 
 /// Why a command didn't complete. Lines are counted from 1.
 #[derive(Clone, Copy, Debug, PartialEq, Eq)]
@@ -37,6 +40,25 @@ impl Cause {
         }
     }
 }
+
+impl fmt::Display for Cause {
+    fn fmt<W: fmt::Write>(&self, f: &mut fmt::Formatter<W>) -> fmt::Result {
+        match self {
+            Cause::Read => f.write_str("a read of the input failed"),
+            Cause::Write => f.write_str("a write to standard output failed"),
+            Cause::Line { line, field } => TextFault::Line {
+                line: *line,
+                field: *field,
+            }
+            .fmt(f),
+            Cause::Bytes => write!(f, "the input is longer than {INPUT_LIMIT} bytes"),
+            Cause::Jobs { line } => TextFault::Limit { line: *line }.fmt(f),
+            Cause::Memory => TextFault::Memory.fmt(f),
+        }
+    }
+}
+
+impl Error for Cause {}
 
 impl From<Failed> for Cause {
     ghost from_gives = { λ _ given. given ≡ variant.Write };

@@ -190,3 +190,27 @@ fn lines_are_cut_and_counted(rt: HostRuntime) -> Result<(), Fail> {
     }
     Ok(())
 }
+
+#[test]
+fn faults_say_where_they_are(rt: HostRuntime) -> Result<(), Fail> {
+    let faults = [
+        (
+            TextFault::Line { line: 3, field: 0 },
+            "line 3 has a wrong number of fields",
+        ),
+        (
+            TextFault::Line { line: 1, field: 14 },
+            "field 14 of line 1 isn't of its form",
+        ),
+        (
+            TextFault::Limit { line: 65_537 },
+            "line 65537 is one job line more than a file may have",
+        ),
+        (TextFault::Memory, "there wasn't memory enough"),
+    ];
+    for (fault, text) in faults {
+        let told = format!(in rt.alloc(); "{fault}")?;
+        assert_eq!(rt; told.as_str(), text);
+    }
+    Ok(())
+}
