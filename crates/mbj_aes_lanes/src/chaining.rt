@@ -6,7 +6,7 @@ ghost use Rattle.mbj_aes_lanes.specs.Chaining.{in_lane, input_of, next_in_lane, 
 ghost use Rattle.mbj_aes_lanes.specs.KeyLanes.{IsFull, schedule_at};
 ghost use Rattle.mbj_aes_lanes.specs.Planes.State.{state_bytes};
 
-use crate::block_states::{blocks_of_state, state_of_blocks};
+use crate::block_states::{put_state_blocks, state_of_blocks};
 use crate::columns::add_round_key;
 use crate::lane_keys::LaneKeys;
 use crate::rounds::encrypt;
@@ -135,37 +135,38 @@ fn take_chains<E: Chaining>(entries: &mut [E], chains: &[[u8; 16]; 16])
     }
 }
 
-/// The next chaining value of each lane, whose present one is in `chains`.
+/// The chaining value of each lane, which is in `chains`, becomes the next one.
 #[inline(always)]
-fn next_chains<E: Chaining>(entries: &[E], keys: &LaneKeys, chains: State<u8x16>) -> State<u8x16>
+fn next_chains<E: Chaining>(entries: &[E], keys: &LaneKeys, chains: &mut State<u8x16>)
     requires some { 0 < length entries.now }
     requires rests { All (λ e. 1 ≤ E.rest_of e) entries.now }
     requires full { IsFull keys.now }
     requires keys { (i : ℕ) → i < 16 → schedule_at keys.now i ≡ in_lane (map E.key_of entries.now) i }
-    requires chains { (i : ℕ) → i < 16 → state_bytes (lane_at 8) chains i ≡ in_lane (map E.chain_of entries.now) i }
-    ensures { (i : ℕ) → i < 16 → state_bytes (lane_at 8) result i
+    requires chains { (i : ℕ) → i < 16 → state_bytes (lane_at 8) chains.old i ≡ in_lane (map E.chain_of entries.now) i }
+    ensures { (i : ℕ) → i < 16 → state_bytes (lane_at 8) chains.new i
         ≡ next_in_lane E.key_of E.block_of E.chain_of entries.now i }
 {
     let blocks = state_of_blocks(&next_blocks(entries));
-    encrypt(keys.round_keys(), add_round_key(blocks, chains))
+    *chains = add_round_key(blocks, *chains);
+    encrypt(keys.round_keys(), chains);
 }
 
-/// The next block of each entry is chained, all at once. `chains` has the chaining value of each lane, and the result
-/// the next one.
+/// The next block of each entry is chained, all at once. `chains` has the chaining value of each lane.
 #[inline(always)]
-fn pass<E: Chaining>(entries: &mut [E], keys: &LaneKeys, chains: State<u8x16>) -> State<u8x16>
+fn pass<E: Chaining>(entries: &mut [E], keys: &LaneKeys, chains: &mut State<u8x16>)
     requires some { 0 < length entries.old }
     requires few { length entries.old ≤ 16 }
     requires rests { All (λ e. 1 ≤ E.rest_of e) entries.old }
     requires full { IsFull keys.now }
     requires keys { (i : ℕ) → i < 16 → schedule_at keys.now i ≡ in_lane (map E.key_of entries.old) i }
-    requires chains { (i : ℕ) → i < 16 → state_bytes (lane_at 8) chains i ≡ in_lane (map E.chain_of entries.old) i }
+    requires chains { (i : ℕ) → i < 16 → state_bytes (lane_at 8) chains.old i ≡ in_lane (map E.chain_of entries.old) i }
     ensures entries { entries.new ≡ map (chained_once E.key_of E.block_of E.chain_of E.led) entries.old }
-    ensures chains { (i : ℕ) → i < 16 → state_bytes (lane_at 8) result i ≡ in_lane (map E.chain_of entries.new) i }
+    ensures chains { (i : ℕ) → i < 16 → state_bytes (lane_at 8) chains.new i ≡ in_lane (map E.chain_of entries.new) i }
 {
-    let next = next_chains(entries, keys, chains);
-    take_chains(entries, &blocks_of_state(next));
-    next
+    next_chains(entries, keys, chains);
+    let mut blocks = [[0; BLOCK_BYTES]; LANES];
+    put_state_blocks(&mut blocks, chains);
+    take_chains(entries, &blocks);
 }
 
 /// Encrypts a block in each lane under the key of its entry; idle lanes go with the last entry. It takes no memory.
@@ -191,6 +192,6 @@ pub fn lead_all<E: Chaining>(entries: &mut [E], m: u32)
     let keys = LaneKeys::each(entries);
     let mut chains = state_of_blocks(&chains_of(entries));
     'passes: for done in 0..m {
-        chains = pass(entries, &keys, chains);
+        pass(entries, &keys, &mut chains);
     }
 }

@@ -79,18 +79,24 @@ impl LaneKeys {
     }
 
     /// The same schedule in every lane, at the cost of little more than one `put`. It takes no memory.
+    #[inline(never)]
     pub fn all(key: &Schedule) -> LaneKeys
         ensures { result ≡ same_keys key.now }
     {
+        let mut keys = LaneKeys::new(key.rounds());
+        keys.put_all(key);
+        keys
+    }
+
+    /// Puts a schedule in every lane.
+    fn put_all(&mut self, key: &Schedule)
+        requires { length key.now ≡ 16 * (self.old.rounds + 1) }
+        ensures { self.new ≡ same_keys key.now }
+    {
         let planes = planes_of(key);
-        let rounds = key.rounds();
-        let mut round_keys = zero_keys();
-        write_all_lanes(&mut round_keys[..rounds as usize + 1], &planes);
-        LaneKeys {
-            round_keys,
-            rounds,
-            put: [true; 16],
-        }
+        let rounds = self.rounds as usize;
+        write_all_lanes(&mut self.round_keys[..rounds + 1], &planes);
+        self.put = [true; 16];
     }
 
     /// Puts a schedule in a lane below 16, in place of the one that was there. It has as many rounds as the others. It

@@ -20,7 +20,7 @@ pub fn encrypt_lanes<V: Lane8>(keys: &[V], state: &mut [V])
     let rounds = keys.len() / BLOCK_BYTES - 1;
     let mut s = add_round_key(state_at(state, 0), state_at(keys, 0));
     'rounds: for r in 1..rounds + 1 {
-        s = round(s, state_at(keys, BLOCK_BYTES * r), r == rounds);
+        round(&mut s, &state_at(keys, BLOCK_BYTES * r), r == rounds);
     }
     put_state(state, s);
 }
@@ -36,7 +36,7 @@ pub fn decrypt_lanes<V: Lane8>(keys: &[V], state: &mut [V])
     let rounds = keys.len() / BLOCK_BYTES - 1;
     let mut s = state_at(state, 0);
     'rounds: for r in (1..rounds + 1).rev() {
-        s = undone_round(s, state_at(keys, BLOCK_BYTES * r), r == rounds);
+        undone_round(&mut s, &state_at(keys, BLOCK_BYTES * r), r == rounds);
     }
     put_state(state, add_round_key(s, state_at(keys, 0)));
 }

@@ -2,7 +2,7 @@ ghost use Rattle.std.specs.Prelude.{◌≡◌, ℕ, ◌<◌, [], length, slice_i
 ghost use Rattle.mbj_types.specs.Aes.{encipher, decipher};
 ghost use Rattle.mbj_aes_lanes.specs.KeyLanes.{IsFull, schedule_at};
 
-use crate::block_states::{blocks_of_state, state_of_blocks};
+use crate::block_states::{put_state_blocks, state_of_blocks};
 use crate::lane_keys::LaneKeys;
 use crate::rounds::{decrypt, encrypt};
 
@@ -14,8 +14,9 @@ pub fn encrypt16(keys: &LaneKeys, blocks: &mut [[u8; 16]; 16])
         ≡ encipher (schedule_at keys.now i) (slice_index_or blocks.old i []) }
     ensures lengths { (i : ℕ) → i < 16 → length (slice_index_or blocks.new i []) ≡ 16 }
 {
-    let state = encrypt(keys.round_keys(), state_of_blocks(blocks));
-    *blocks = blocks_of_state(state);
+    let mut state = state_of_blocks(blocks);
+    encrypt(keys.round_keys(), &mut state);
+    put_state_blocks(blocks, &state);
 }
 
 /// Decrypts each of sixteen blocks by the schedule that was put in its lane: INVCIPHER (FIPS 197, 5.3). It takes no
@@ -26,6 +27,7 @@ pub fn decrypt16(keys: &LaneKeys, blocks: &mut [[u8; 16]; 16])
         ≡ decipher (schedule_at keys.now i) (slice_index_or blocks.old i []) }
     ensures lengths { (i : ℕ) → i < 16 → length (slice_index_or blocks.new i []) ≡ 16 }
 {
-    let state = decrypt(keys.round_keys(), state_of_blocks(blocks));
-    *blocks = blocks_of_state(state);
+    let mut state = state_of_blocks(blocks);
+    decrypt(keys.round_keys(), &mut state);
+    put_state_blocks(blocks, &state);
 }

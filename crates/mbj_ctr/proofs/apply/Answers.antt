@@ -33,7 +33,7 @@ each-preserved c =
     let made : mask ≡ e (to_be_bytes w128 now) =
     c.encrypt16.ensures.each j inside
     ∙ ap₂ encipher (schedule_at-same c.all-keys.result c.args.key.now j inside c.all-keys.ensures)
-    (c.counter_blocks-masks.ensures j inside) in
+    (c.put_counters.ensures j inside) in
     let block : 16 * c.batches.b + (j + 1) ≡ 16 * c.batches.b + j + 1 = omega arith in
     rw block
     (walk_xor (ctr_blocks e now) (ctr_blocks e next) c.each.text mask _ _ (16 * c.batches.b + j) (omega arith)

@@ -13,15 +13,15 @@ passes-init g c =
       chains = λ i h. c.state_of_blocks-chains.ensures i h ∙ c.chains_of.ensures i h;
     }
 
-pub pass-chains-requires-clause-rests : goal.pass-chains-requires-clause-rests
-pass-chains-requires-clause-rests g c =
+pub pass-requires-clause-rests : goal.pass-requires-clause-rests
+pass-requires-clause-rests g c =
     let e = g.E.Chaining in
     rw c.passes.invariant.entries
     (rests-after (chained_once e.key_of e.block_of e.chain_of e.led) e.rest_of (λ x. g.met.E.Chaining.falls x _) c.args.m c.passes.done
     c.args.entries.now c.requires.rests (omega arith))
 
-pub pass-chains-requires-clause-keys : goal.pass-chains-requires-clause-keys
-pass-chains-requires-clause-keys g c i h =
+pub pass-requires-clause-keys : goal.pass-requires-clause-keys
+pass-requires-clause-keys g c i h =
     let e = g.E.Chaining in
     c.each-keys.ensures.schedules i h
     ∙ sym (ap (λ ks. in_lane ks i) (ap (map e.key_of) c.passes.invariant.entries
@@ -32,6 +32,6 @@ passes-preserved g c =
     let e = g.E.Chaining in
     let f = chained_once e.key_of e.block_of e.chain_of e.led in
     record {
-      entries = c.pass-chains.ensures.entries ∙ ap (map f) c.passes.invariant.entries ∙ map-after-more f c.passes.done c.args.entries.now;
-      chains = c.pass-chains.ensures.chains;
+      entries = c.pass.ensures.entries ∙ ap (map f) c.passes.invariant.entries ∙ map-after-more f c.passes.done c.args.entries.now;
+      chains = c.pass.ensures.chains;
     }

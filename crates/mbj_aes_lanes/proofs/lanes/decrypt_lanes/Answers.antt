@@ -31,7 +31,7 @@ rounds-preserved g c i h =
     let s : List ℕ = state_bytes lane c.rounds.s i in
     let now : r + 1 ≡ c.rounds.r = omega arith in
     ap (λ s. undone_from w n s r)
-    (c.undone_round-s.ensures i h ∙ ap (undone_round_of (nat_eq r n) s) (c.state_at.ensures i h))
+    (c.undone_round.ensures i h ∙ ap (undone_round_of (nat_eq r n) s) (c.state_at.ensures i h))
     ∙ undone_from-next w n s r (omega arith) (omega arith)
     ∙ ap (undone_from w n s) now
     ∙ c.rounds.invariant i h

@@ -28,7 +28,7 @@ rounds-preserved g c i h =
     let w : List ℕ = lane_of lane c.args.keys.now i in
     let n : ℕ = length c.args.keys.now / 16 - 1 in
     let block : List ℕ = lane_of lane c.args.state.now i in
-    c.round-s.ensures i h
+    c.round.ensures i h
     ∙ ap₂ (round_of (nat_eq c.rounds.r n)) (c.rounds.invariant i h)
     (c.state_at-in-rounds.ensures i h)
     ∙ before_round-next w n block c.rounds.r (omega arith) (omega arith)

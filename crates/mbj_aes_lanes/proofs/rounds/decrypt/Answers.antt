@@ -15,7 +15,7 @@ rounds-init g c i h =
     let lane = g.V.Lane8.lane in
     let w : List ℕ = schedule_in lane c.args.keys.now i in
     let n : ℕ = length c.args.keys.now - 1 in
-    let block : List ℕ = state_bytes lane c.args.state i in
+    let block : List ℕ = state_bytes lane c.args.s.now i in
     undone_from-first w n block (n + 1) (omega arith)
 
 pub rounds-preserved : goal.rounds-preserved
@@ -23,12 +23,12 @@ rounds-preserved g c i h =
     let lane = g.V.Lane8.lane in
     let w : List ℕ = schedule_in lane c.args.keys.now i in
     let n : ℕ = length c.args.keys.now - 1 in
-    let block : List ℕ = state_bytes lane c.args.state i in
+    let block : List ℕ = state_bytes lane c.args.s.now i in
     let r : ℕ = c.rounds.r - 1 in
     let s : List ℕ = state_bytes lane c.rounds.s i in
     let now : r + 1 ≡ c.rounds.r = omega arith in
     ap (λ s. undone_from w n s r)
-    (c.undone_round-s.ensures i h ∙ ap (undone_round_of (nat_eq r n) s) (sym (round_key-schedule_in lane c.args.keys.now i (c.rounds.r - 1) c.index-keys-r.result (omega arith) c.index-keys-r.is)))
+    (c.undone_round.ensures i h ∙ ap (undone_round_of (nat_eq r n) s) (sym (round_key-schedule_in lane c.args.keys.now i (c.rounds.r - 1) c.index-keys-r.result (omega arith) c.index-keys-r.is)))
     ∙ undone_from-next w n s r (omega arith) (omega arith)
     ∙ ap (undone_from w n s) now
     ∙ c.rounds.invariant i h
@@ -39,7 +39,7 @@ returns g c i h =
     let lane = g.V.Lane8.lane in
     let w : List ℕ = schedule_in lane c.args.keys.now i in
     let n : ℕ = length c.args.keys.now - 1 in
-    let block : List ℕ = state_bytes lane c.args.state i in
+    let block : List ℕ = state_bytes lane c.args.s.now i in
     let size : length w ≡ 16 * length c.args.keys.now = length-schedule_in lane c.args.keys.now i in
     let count : length w / 16 - 1 ≡ n = omega arith in
     let s : List ℕ = state_bytes lane c.rounds.s i in

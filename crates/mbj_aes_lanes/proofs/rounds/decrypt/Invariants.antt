@@ -10,4 +10,4 @@ abbrev pub invariant-rounds : goal.invariant-rounds
 invariant-rounds g l =
     let lane = g.V.Lane8.lane in
     (i : ℕ) → i < g.V.Lane8.LANES → undone_from (schedule_in lane l.keys i) (length l.keys - 1) (state_bytes lane l.s i) l.r
-    ≡ inv_cipher (schedule_in lane l.keys i) (length l.keys - 1) (state_bytes lane l.fn.state i)
+    ≡ inv_cipher (schedule_in lane l.keys i) (length l.keys - 1) (state_bytes lane l.fn.s i)

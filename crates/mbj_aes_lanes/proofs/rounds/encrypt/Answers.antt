@@ -15,8 +15,8 @@ rounds-init g c i h =
     let lane = g.V.Lane8.lane in
     let w : List ℕ = schedule_in lane c.args.keys.now i in
     let n : ℕ = length c.args.keys.now - 1 in
-    let block : List ℕ = state_bytes lane c.args.state i in
-    c.add_round_key-s.ensures i h
+    let block : List ℕ = state_bytes lane c.args.s.now i in
+    c.add_round_key.ensures i h
     ∙ ap (xor_lists block)
     (sym (round_key-schedule_in lane c.args.keys.now i 0 c.index-keys-0.result (omega arith) c.index-keys-0.is))
     ∙ sym (before_round-first w n block (omega arith))
@@ -26,8 +26,8 @@ rounds-preserved g c i h =
     let lane = g.V.Lane8.lane in
     let w : List ℕ = schedule_in lane c.args.keys.now i in
     let n : ℕ = length c.args.keys.now - 1 in
-    let block : List ℕ = state_bytes lane c.args.state i in
-    c.round-s.ensures i h
+    let block : List ℕ = state_bytes lane c.args.s.now i in
+    c.round.ensures i h
     ∙ ap₂ (round_of (nat_eq c.rounds.r n)) (c.rounds.invariant i h)
     (sym (round_key-schedule_in lane c.args.keys.now i c.rounds.r c.index-keys-r.result (omega arith) c.index-keys-r.is))
     ∙ before_round-next w n block c.rounds.r (omega arith) (omega arith)
@@ -38,7 +38,7 @@ returns g c i h =
     let lane = g.V.Lane8.lane in
     let w : List ℕ = schedule_in lane c.args.keys.now i in
     let n : ℕ = length c.args.keys.now - 1 in
-    let block : List ℕ = state_bytes lane c.args.state i in
+    let block : List ℕ = state_bytes lane c.args.s.now i in
     let size : length w ≡ 16 * length c.args.keys.now = length-schedule_in lane c.args.keys.now i in
     let count : length w / 16 - 1 ≡ n = omega arith in
     c.rounds.invariant i h

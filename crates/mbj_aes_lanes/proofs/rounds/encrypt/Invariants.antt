@@ -8,4 +8,4 @@ use Rattle.mbj_aes_lanes.proofs.rounds.encrypt.Given as goal
 abbrev pub invariant-rounds : goal.invariant-rounds
 invariant-rounds g l =
     let lane = g.V.Lane8.lane in
-    (i : ℕ) → i < g.V.Lane8.LANES → state_bytes lane l.s i ≡ before_round (schedule_in lane l.keys i) (length l.keys - 1) (state_bytes lane l.fn.state i) l.r
+    (i : ℕ) → i < g.V.Lane8.LANES → state_bytes lane l.s i ≡ before_round (schedule_in lane l.keys i) (length l.keys - 1) (state_bytes lane l.fn.s i) l.r

@@ -5,6 +5,6 @@ use Rattle.mbj_aes_lanes.proofs.sixteen.encrypt16.Goals as goal
 
 pub returns-clause-each : goal.returns-clause-each
 returns-clause-each c i h =
-    c.blocks_of_state.ensures.each i h
-    ∙ c.encrypt-state.ensures i h
-    ∙ ap₂ encipher (c.round_keys.ensures.schedules i h (c.requires i h)) (c.state_of_blocks.ensures i h)
+    c.put_state_blocks.ensures.each i h
+    ∙ c.encrypt.ensures i h
+    ∙ ap₂ encipher (c.round_keys.ensures.schedules i h (c.requires i h)) (c.state_of_blocks-state.ensures i h)

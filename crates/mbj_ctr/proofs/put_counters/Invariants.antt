@@ -1,9 +1,9 @@
 -- The counter blocks before the next one are made.
 use Rattle.std.proofs.Common.{◌≡◌, ℕ, ◌+◌, ◌%◌, ◌^◌, ◌<◌, [], length, get_or}
 use Rattle.std.specs.Int.{w128, to_be_bytes}
-use Rattle.mbj_ctr.proofs.counter_blocks.Given as goal
+use Rattle.mbj_ctr.proofs.put_counters.Given as goal
 
 abbrev pub invariant-each : goal.invariant-each
 invariant-each l =
-    (length l.counters ≡ 16)
-    × ((k : ℕ) → k < l.j → get_or l.counters k [] ≡ to_be_bytes w128 ((l.counter + k) % 2 ^ 128))
+    (length l.blocks ≡ 16)
+    × ((k : ℕ) → k < l.j → get_or l.blocks k [] ≡ to_be_bytes w128 ((l.counter + k) % 2 ^ 128))
