@@ -1,6 +1,7 @@
 //! The S-box on bit planes, as a circuit of 115 gates and four inversions (J. Boyar and R. Peralta, A New Combinational
 //! Logic Minimization Technique with Applications to Cryptology, 2010). Its bits have the names of that paper, which
-//! numbers the bits of a byte from the highest on. It looks nothing up, and takes the same steps whatever the bytes are.
+//! numbers the bits of a byte from the highest on. It looks nothing up, and takes the same steps whatever the bytes are. The
+//! gates stand in an order in which few of their bits are wanted at a time, so that the registers hold most of them.
 ghost use Rattle.std.specs.Prelude.{◌≡◌, ℕ, ◌<◌};
 ghost use Rattle.mbj_types.specs.Aes.{sub_byte};
 ghost use Rattle.mbj_aes.specs.Planes.Bytes.{bits_at, byte_at};
@@ -87,29 +88,29 @@ fn top_layer<V: Lane8>(q: Octet<V>) -> TopLayer<V>
     let x2 = q.p5;
     let x1 = q.p6;
     let x0 = q.p7;
-    let y14 = xor(x3, x5);
-    let y13 = xor(x0, x6);
-    let y9 = xor(x0, x3);
-    let y8 = xor(x0, x5);
     let t0 = xor(x1, x2);
     let y1 = xor(t0, x7);
-    let y4 = xor(y1, x3);
-    let y12 = xor(y13, y14);
     let y2 = xor(y1, x0);
+    let y13 = xor(x0, x6);
+    let y14 = xor(x3, x5);
     let y5 = xor(y1, x6);
+    let y8 = xor(x0, x5);
+    let y12 = xor(y13, y14);
     let y3 = xor(y5, y8);
     let t1 = xor(x4, y12);
     let y15 = xor(t1, x5);
     let y20 = xor(t1, x1);
+    let y9 = xor(x0, x3);
     let y6 = xor(y15, x7);
-    let y10 = xor(y15, t0);
     let y11 = xor(y20, y9);
-    let y7 = xor(x7, y11);
-    let y17 = xor(y10, y11);
-    let y19 = xor(y10, y8);
+    let y10 = xor(y15, t0);
     let y16 = xor(t0, y11);
-    let y21 = xor(y13, y16);
+    let y17 = xor(y10, y11);
+    let y7 = xor(x7, y11);
     let y18 = xor(x0, y16);
+    let y19 = xor(y10, y8);
+    let y21 = xor(y13, y16);
+    let y4 = xor(y1, x3);
     TopLayer {
         y1,
         y2,
@@ -141,49 +142,49 @@ fn top_layer<V: Lane8>(q: Octet<V>) -> TopLayer<V>
 pub(crate) fn middle_layer<V: Lane8>(y: TopLayer<V>) -> MiddleLayer<V>
     ensures { (i t : ℕ) → i < V.LANES → middle_at V.lane result i t ≡ middle_bits (top_at V.lane y i t) }
 {
-    let t2 = and(y.y12, y.y15);
+    let t8 = and(y.y5, y.y1);
+    let t7 = and(y.y13, y.y16);
+    let t13 = and(y.y14, y.y17);
     let t3 = and(y.y3, y.y6);
+    let t2 = and(y.y12, y.y15);
     let t4 = xor(t3, t2);
+    let t12 = and(y.y9, y.y11);
     let t5 = and(y.y4, y.x7);
     let t6 = xor(t5, t2);
-    let t7 = and(y.y13, y.y16);
-    let t8 = and(y.y5, y.y1);
+    let t14 = xor(t13, t12);
+    let t17 = xor(t4, t14);
+    let t21 = xor(t17, y.y20);
+    let t15 = and(y.y8, y.y10);
     let t9 = xor(t8, t7);
+    let t16 = xor(t15, t12);
     let t10 = and(y.y2, y.y7);
     let t11 = xor(t10, t7);
-    let t12 = and(y.y9, y.y11);
-    let t13 = and(y.y14, y.y17);
-    let t14 = xor(t13, t12);
-    let t15 = and(y.y8, y.y10);
-    let t16 = xor(t15, t12);
-    let t17 = xor(t4, t14);
-    let t18 = xor(t6, t16);
-    let t19 = xor(t9, t14);
     let t20 = xor(t11, t16);
-    let t21 = xor(t17, y.y20);
+    let t18 = xor(t6, t16);
     let t22 = xor(t18, y.y19);
+    let t19 = xor(t9, t14);
     let t23 = xor(t19, y.y21);
-    let t24 = xor(t20, y.y18);
     let t25 = xor(t21, t22);
+    let t24 = xor(t20, y.y18);
+    let t30 = xor(t23, t24);
     let t26 = and(t21, t23);
     let t27 = xor(t24, t26);
-    let t28 = and(t25, t27);
-    let t29 = xor(t28, t22);
-    let t30 = xor(t23, t24);
     let t31 = xor(t22, t26);
     let t32 = and(t31, t30);
     let t33 = xor(t32, t24);
     let t34 = xor(t23, t33);
+    let t28 = and(t25, t27);
+    let t29 = xor(t28, t22);
+    let t42 = xor(t29, t33);
     let t35 = xor(t27, t33);
     let t36 = and(t24, t35);
     let t37 = xor(t36, t34);
     let t38 = xor(t27, t36);
+    let t44 = xor(t33, t37);
     let t39 = and(t29, t38);
     let t40 = xor(t25, t39);
     let t41 = xor(t40, t37);
-    let t42 = xor(t29, t33);
     let t43 = xor(t29, t40);
-    let t44 = xor(t33, t37);
     let t45 = xor(t42, t41);
     MiddleLayer {
         t29,
@@ -205,21 +206,21 @@ pub(crate) fn products_of<V: Lane8>(w: MiddleLayer<V>, y: TopLayer<V>) -> Produc
         → products_at V.lane result i t ≡ product_bits (middle_at V.lane w i t) (top_at V.lane y i t) }
 {
     Products {
-        z0: and(w.t44, y.y15),
-        z1: and(w.t37, y.y6),
-        z2: and(w.t33, y.x7),
-        z3: and(w.t43, y.y16),
-        z4: and(w.t40, y.y1),
-        z5: and(w.t29, y.y7),
-        z6: and(w.t42, y.y11),
-        z7: and(w.t45, y.y17),
         z8: and(w.t41, y.y10),
-        z9: and(w.t44, y.y12),
-        z10: and(w.t37, y.y3),
+        z2: and(w.t33, y.x7),
+        z6: and(w.t42, y.y11),
+        z3: and(w.t43, y.y16),
+        z14: and(w.t29, y.y2),
         z11: and(w.t33, y.y4),
         z12: and(w.t43, y.y13),
+        z1: and(w.t37, y.y6),
+        z9: and(w.t44, y.y12),
+        z10: and(w.t37, y.y3),
+        z0: and(w.t44, y.y15),
+        z4: and(w.t40, y.y1),
+        z7: and(w.t45, y.y17),
         z13: and(w.t40, y.y5),
-        z14: and(w.t29, y.y2),
+        z5: and(w.t29, y.y7),
         z15: and(w.t42, y.y9),
         z16: and(w.t45, y.y14),
         z17: and(w.t41, y.y8),
@@ -234,39 +235,39 @@ fn bottom_layer<V: Lane8>(z: Products<V>) -> Octet<V>
         → bits_at V.lane result i t ≡ bottom_bits (products_at V.lane z i t) }
 {
     let t46 = xor(z.z15, z.z16);
-    let t47 = xor(z.z10, z.z11);
     let t48 = xor(z.z5, z.z13);
+    let t51 = xor(z.z2, z.z5);
+    let t53 = xor(z.z0, z.z3);
     let t49 = xor(z.z9, z.z10);
     let t50 = xor(z.z2, z.z12);
-    let t51 = xor(z.z2, z.z5);
-    let t52 = xor(z.z7, z.z8);
-    let t53 = xor(z.z0, z.z3);
-    let t54 = xor(z.z6, z.z7);
-    let t55 = xor(z.z16, z.z17);
-    let t56 = xor(z.z12, t48);
     let t57 = xor(t50, t53);
+    let t54 = xor(z.z6, z.z7);
     let t58 = xor(z.z4, t46);
-    let t59 = xor(z.z3, t54);
-    let t60 = xor(t46, t57);
-    let t61 = xor(z.z14, t57);
-    let t62 = xor(t52, t58);
+    let t52 = xor(z.z7, z.z8);
     let t63 = xor(t49, t58);
-    let t64 = xor(z.z4, t59);
-    let t65 = xor(t61, t62);
-    let t66 = xor(z.z1, t63);
-    let s0 = xor(t59, t63);
+    let t59 = xor(z.z3, t54);
+    let t56 = xor(z.z12, t48);
+    let t62 = xor(t52, t58);
+    let t61 = xor(z.z14, t57);
     let s6i = xor(t56, t62);
+    let t55 = xor(z.z16, z.z17);
+    let t60 = xor(t46, t57);
+    let t65 = xor(t61, t62);
     let s6 = not(s6i);
+    let t64 = xor(z.z4, t59);
+    let s0 = xor(t59, t63);
+    let t66 = xor(z.z1, t63);
+    let s3 = xor(t53, t66);
     let s7i = xor(t48, t60);
+    let t47 = xor(z.z10, z.z11);
+    let s5 = xor(t47, t65);
     let s7 = not(s7i);
     let t67 = xor(t64, t65);
-    let s3 = xor(t53, t66);
-    let s4 = xor(t51, t66);
-    let s5 = xor(t47, t65);
-    let s1i = xor(t64, s3);
-    let s1 = not(s1i);
     let s2i = xor(t55, t67);
+    let s1i = xor(t64, s3);
     let s2 = not(s2i);
+    let s4 = xor(t51, t66);
+    let s1 = not(s1i);
     Octet {
         p0: s7,
         p1: s6,

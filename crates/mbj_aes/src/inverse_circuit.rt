@@ -18,40 +18,40 @@ fn inv_top_layer<V: Lane8>(q: Octet<V>) -> TopLayer<V>
     ensures { (i t : ℕ) → i < V.LANES → t < 8 → top_at V.lane result i t ≡ inv_top_bits (bits_at V.lane q i t) }
 {
     let u0 = q.p7;
-    let u1 = not(q.p6);
-    let u2 = not(q.p5);
     let u3 = q.p4;
     let u4 = q.p3;
     let u5 = q.p2;
-    let u6 = not(q.p1);
-    let u7 = not(q.p0);
+    let u2 = not(q.p5);
+    let u1 = not(q.p6);
     let t23 = xor(u0, u3);
-    let t22 = xor(u1, u3);
-    let t2 = xor(u0, u1);
-    let t1 = xor(u3, u4);
-    let t24 = xor(u4, u7);
+    let u7 = not(q.p0);
+    let u6 = not(q.p1);
     let r5 = xor(u6, u7);
-    let t8 = xor(u1, t23);
-    let t19 = xor(t22, r5);
-    let t9 = xor(u7, t1);
-    let t10 = xor(t2, t24);
-    let t13 = xor(t2, r5);
-    let t3 = xor(t1, r5);
+    let r18 = xor(u5, u6);
+    let t1 = xor(u3, u4);
     let t25 = xor(u2, t1);
     let r13 = xor(u1, u6);
-    let t17 = xor(u2, t19);
-    let t20 = xor(t24, r13);
-    let t4 = xor(u4, t8);
+    let t2 = xor(u0, u1);
+    let t24 = xor(u4, u7);
     let r17 = xor(u2, u5);
-    let r18 = xor(u5, u6);
-    let r19 = xor(u2, u4);
+    let t10 = xor(t2, t24);
+    let t20 = xor(t24, r13);
+    let t13 = xor(t2, r5);
+    let t8 = xor(u1, t23);
+    let t22 = xor(u1, u3);
+    let t4 = xor(u4, t8);
     let t0 = xor(u0, r17);
+    let r19 = xor(u2, u4);
     let t6 = xor(t22, r17);
     let t16 = xor(r13, r19);
     let t27 = xor(t1, r18);
-    let t15 = xor(t10, t27);
-    let t14 = xor(t10, r18);
+    let t19 = xor(t22, r5);
+    let t3 = xor(t1, r5);
     let t26 = xor(t3, t16);
+    let t17 = xor(u2, t19);
+    let t14 = xor(t10, r18);
+    let t15 = xor(t10, t27);
+    let t9 = xor(u7, t1);
     TopLayer {
         y1: t9,
         y2: t20,
@@ -84,43 +84,43 @@ fn inv_top_layer<V: Lane8>(q: Octet<V>) -> TopLayer<V>
 fn inv_bottom_layer<V: Lane8>(z: Products<V>) -> Octet<V>
     ensures { (i t : ℕ) → i < V.LANES → bits_at V.lane result i t ≡ inv_bottom_bits (products_at V.lane z i t) }
 {
-    let p0 = xor(z.z6, z.z15);
-    let p1 = xor(z.z12, z.z13);
-    let p2 = xor(z.z8, z.z16);
-    let p3 = xor(z.z1, z.z4);
     let p4 = xor(z.z2, z.z10);
-    let p5 = xor(z.z0, z.z5);
     let p6 = xor(z.z3, z.z14);
-    let p7 = xor(p0, p1);
-    let p8 = xor(z.z4, z.z7);
-    let p9 = xor(z.z9, z.z17);
-    let p10 = xor(z.z11, p4);
-    let p11 = xor(p0, p3);
+    let p1 = xor(z.z12, z.z13);
+    let p0 = xor(z.z6, z.z15);
     let p12 = xor(z.z0, z.z2);
-    let p13 = xor(z.z3, z.z5);
-    let p14 = xor(z.z3, z.z16);
-    let p15 = xor(z.z8, z.z13);
-    let p16 = xor(z.z11, z.z15);
-    let p17 = xor(z.z12, p2);
-    let p18 = xor(z.z17, p5);
-    let p19 = xor(p2, p3);
+    let p2 = xor(z.z8, z.z16);
+    let p9 = xor(z.z9, z.z17);
+    let p7 = xor(p0, p1);
+    let p10 = xor(z.z11, p4);
+    let p8 = xor(z.z4, z.z7);
     let p20 = xor(p4, p6);
-    let p22 = xor(p2, p7);
     let p23 = xor(p7, p8);
+    let p5 = xor(z.z0, z.z5);
+    let p22 = xor(p2, p7);
+    let p13 = xor(z.z3, z.z5);
+    let p3 = xor(z.z1, z.z4);
+    let p19 = xor(p2, p3);
+    let p16 = xor(z.z11, z.z15);
     let p24 = xor(p5, p7);
+    let p11 = xor(p0, p3);
     let p25 = xor(p6, p10);
-    let p26 = xor(p9, p11);
-    let p27 = xor(p10, p18);
+    let p18 = xor(z.z17, p5);
     let p28 = xor(p11, p25);
-    let p29 = xor(p15, p20);
+    let p17 = xor(z.z12, p2);
     let w0 = xor(p13, p22);
-    let w1 = xor(p26, p29);
-    let w2 = xor(p17, p28);
+    let p15 = xor(z.z8, z.z13);
+    let p29 = xor(p15, p20);
+    let p26 = xor(p9, p11);
     let w3 = xor(p12, p22);
-    let w4 = xor(p23, p27);
-    let w5 = xor(p19, p24);
-    let w6 = xor(p14, p23);
+    let p14 = xor(z.z3, z.z16);
+    let p27 = xor(p10, p18);
+    let w2 = xor(p17, p28);
     let w7 = xor(p9, p16);
+    let w5 = xor(p19, p24);
+    let w1 = xor(p26, p29);
+    let w4 = xor(p23, p27);
+    let w6 = xor(p14, p23);
     Octet {
         p0: w7,
         p1: w6,
