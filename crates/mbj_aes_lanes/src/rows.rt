@@ -12,7 +12,7 @@ use mbj_types::Lane8;
 
 // Rows 0 and 1 of a plane: row 0 stays, and row 1 goes left by 1.
 #[inline(always)]
-fn upper_left<V: Lane8>(x: V) -> V
+pub fn upper_left<V: Lane8>(x: V) -> V
     ensures { (i t : ℕ) → i < V.LANES → t < 8
         → nth_bit (V.lane result i) t ≡ nth_bit (V.lane x i) (turned_from 0 1 t) }
 {
@@ -24,7 +24,7 @@ fn upper_left<V: Lane8>(x: V) -> V
 
 // Rows 2 and 3 of a plane: row 2 goes left by 2, and row 3 by 3.
 #[inline(always)]
-fn lower_left<V: Lane8>(x: V) -> V
+pub fn lower_left<V: Lane8>(x: V) -> V
     ensures { (i t : ℕ) → i < V.LANES → t < 8
         → nth_bit (V.lane result i) t ≡ nth_bit (V.lane x i) (turned_from 2 3 t) }
 {

@@ -1,6 +1,7 @@
 -- The state of AES (FIPS 197, 3.4) in bit planes.
 use Rattle.std.specs.Prelude.{ℕ, ◌+◌, ◌-◌, ◌%◌, nat_lt, List, [], ◌∷◌, ◌++◌, slice_index, if◌then◌else◌}
 use Rattle.mbj_aes.specs.declared.octet.Octet.{Octet}
+use Rattle.mbj_aes.specs.Planes.Gates.{xor_bits}
 use Rattle.mbj_aes.specs.Planes.Bytes.{byte_at}
 use Rattle.mbj_aes_lanes.specs.declared.state.State.{State}
 
@@ -34,3 +35,15 @@ turned_from a b t = if nat_lt t 4 then (t + a) % 4 else 4 + (t + b) % 4
 -- two rows, of which the first one is the second one of p, and the second one is the first one of q
 abbrev pub rows_between : (ℕ → ℕ) → (ℕ → ℕ) → ℕ → ℕ
 rows_between p q t = if nat_lt t 4 then p (t + 4) else q (t - 4)
+
+-- each of two rows, of which those of q come next, with the one below it
+abbrev pub with_below : (ℕ → ℕ) → (ℕ → ℕ) → ℕ → ℕ
+with_below p q t = xor_bits (p t) (rows_between p q t)
+
+-- the three rows below each of the two
+abbrev pub three_below : (ℕ → ℕ) → (ℕ → ℕ) → ℕ → ℕ
+three_below p q t = xor_bits (rows_between p q t) (with_below q p t)
+
+-- two rows turned left by a and by b places
+abbrev pub turned : ℕ → ℕ → (ℕ → ℕ) → ℕ → ℕ
+turned a b p t = p (turned_from a b t)
