@@ -79,7 +79,6 @@ impl LaneKeys {
     }
 
     /// The same schedule in every lane, at the cost of little more than one `put`. It takes no memory.
-    #[inline(never)]
     pub fn all(key: &Schedule) -> LaneKeys
         ensures { result ≡ same_keys key.now }
     {
@@ -88,8 +87,10 @@ impl LaneKeys {
         keys
     }
 
-    /// Puts a schedule in every lane.
-    fn put_all(&mut self, key: &Schedule)
+    /// Puts a schedule in every lane, in place of those that were there, at the cost of little more than one `put`. It has
+    /// as many rounds as they have. It takes no memory.
+    #[inline(never)]
+    pub fn put_all(&mut self, key: &Schedule)
         requires { length key.now ≡ 16 * (self.old.rounds + 1) }
         ensures { self.new ≡ same_keys key.now }
     {
