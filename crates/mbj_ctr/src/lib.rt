@@ -1,16 +1,18 @@
 //! CTR with AES (SP 800-38A, 6.5) on a text in place, with counters of 128 bits. No call takes memory.
 #![tactic(auto)]
 
-ghost use Rattle.std.specs.Prelude.{◌≡◌, ◌⊎◌, ℕ, ◌+◌, ◌%◌, ◌^◌, ◌<◌, [], length, slice_index_or};
+ghost use Rattle.std.specs.Prelude.{◌≡◌, ◌⊎◌, ℕ, ◌+◌, ◌*◌, ◌%◌, ◌^◌, ◌<◌, ◌≤◌, [], length, slice_index_or};
 ghost use Rattle.std.specs.Int.{w128, to_be_bytes};
 ghost use Rattle.mbj_types.specs.Aes.{encipher};
+ghost use Rattle.mbj_types.specs.Blocks.{xor_lists};
+ghost use Rattle.mbj_blocks.specs.Places.{block_of, with_block};
 ghost use Rattle.mbj_types.specs.Modes.{first_counter, ctr_text};
 
 use mbj_aes::Schedule;
 use mbj_aes_lanes::{LaneKeys, encrypt16};
 use mbj_blocks::xor_block;
 use mbj_types::BLOCK_BYTES;
-use std::simd::u64x2;
+use std::simd::{u8x16, u64x2};
 
 #[cfg(test)]
 mod tests;
@@ -32,26 +34,95 @@ fn first_counter(iv: &[u8]) -> u128
     u128::from_be_bytes(first)
 }
 
-// The bytes of a counter, the highest first, by way of a vector: byte by byte they take a dozen times as long.
+// The bytes of a counter in two halves, the highest first, by way of a vector: byte by byte they take a dozen times as
+// long.
 #[inline(always)]
-fn counter_block(counter: u128) -> [u8; 16]
-    ensures { result ≡ to_be_bytes w128 counter }
+fn halves_block(high: u64, low: u64) -> [u8; 16]
+    ensures { result ≡ to_be_bytes w128 (low + 2 ^ 64 * high) }
 {
-    let low = (counter % (1 << 64)) as u64;
-    let high = (counter >> 64) as u64;
     u64x2::from_array([low, high])
         .to_le_bytes()
         .reverse()
         .to_array()
 }
 
-// Writes the counter blocks from `counter` on.
+// The bytes of a counter, the highest first.
 #[inline(always)]
-fn put_counters(blocks: &mut [[u8; 16]; 16], counter: u128)
+fn counter_block(counter: u128) -> [u8; 16]
+    ensures { result ≡ to_be_bytes w128 counter }
+{
+    let low = (counter % (1 << 64)) as u64;
+    let high = (counter >> 64) as u64;
+    halves_block(high, low)
+}
+
+// Writes the counter blocks from these halves on, where the low one does not wrap.
+#[inline(always)]
+fn put_near_counters(blocks: &mut [[u8; 16]; 16], high: u64, low: u64)
+    requires { low + 15 < 2 ^ 64 }
+    ensures { (j : ℕ) → j < 16 → slice_index_or blocks.new j [] ≡ to_be_bytes w128 (low + j + 2 ^ 64 * high) }
+{
+    'each: for j in 0..LANES {
+        blocks[j] = halves_block(high, low + j as u64);
+    }
+}
+
+// Writes the counter blocks from `counter` on, wherever the counters wrap.
+#[inline(never)]
+fn put_any_counters(blocks: &mut [[u8; 16]; 16], counter: u128)
     ensures { (j : ℕ) → j < 16 → slice_index_or blocks.new j [] ≡ to_be_bytes w128 ((counter + j) % 2 ^ 128) }
 {
     'each: for j in 0..LANES {
         blocks[j] = counter_block(counter.wrapping_add(j as u128));
+    }
+}
+
+// Writes the counter blocks from `counter` on, which is no secret.
+#[inline(always)]
+fn put_counters(blocks: &mut [[u8; 16]; 16], counter: u128)
+    ensures { (j : ℕ) → j < 16 → slice_index_or blocks.new j [] ≡ to_be_bytes w128 ((counter + j) % 2 ^ 128) }
+{
+    let low = (counter % (1 << 64)) as u64;
+    let high = (counter >> 64) as u64;
+    if low < u64::MAX - 15 {
+        put_near_counters(blocks, high, low);
+    } else {
+        put_any_counters(blocks, counter);
+    }
+}
+
+// Xors block `i` of a text, which has it whole, with `mask`, as one vector.
+#[inline(always)]
+fn xor_whole(text: &mut [u8], i: usize, mask: &[u8; 16])
+    requires { 16 * (i + 1) ≤ length text.old }
+    ensures { text.new ≡ with_block text.old i (xor_lists (block_of text.old i) mask.now) }
+{
+    let start = BLOCK_BYTES * i;
+    let whole = &mut text[start..start + BLOCK_BYTES];
+    let block = u8x16::from_slice(whole) ^ u8x16::from_array(*mask);
+    block.copy_to_slice(whole);
+}
+
+// Xors block `i` of a text, of which the last one may be shorter, with `mask`. A call for that one keeps it out of the
+// loop over the others.
+#[inline(never)]
+fn xor_last(text: &mut [u8], i: usize, mask: &[u8; 16])
+    requires { 16 * i < length text.old }
+    ensures { text.new ≡ with_block text.old i (xor_lists (block_of text.old i) mask.now) }
+{
+    xor_block(text, i, mask);
+}
+
+// Xors block `i` of a text with `mask`.
+#[inline(always)]
+fn xor_mask(text: &mut [u8], i: usize, mask: &[u8; 16])
+    requires { 16 * i < length text.old }
+    ensures { text.new ≡ with_block text.old i (xor_lists (block_of text.old i) mask.now) }
+{
+    if i < text.len() / BLOCK_BYTES {
+        xor_whole(text, i, mask);
+    } else {
+        xor_last(text, i, mask);
     }
 }
 
@@ -64,7 +135,8 @@ pub fn apply(key: &Schedule, iv: &[u8], text: &mut [u8])
     requires { (length iv.now ≡ 12) ⊎ (length iv.now ≡ 16) }
     ensures { text.new ≡ ctr_text (encipher key.now) iv.now text.old }
 {
-    let keys = LaneKeys::all(key);
+    let mut keys = LaneKeys::new(key.rounds());
+    keys.put_all(key);
     let many = text.len().div_ceil(BLOCK_BYTES);
     let mut counter = first_counter(iv);
     'batches: for b in 0..many.div_ceil(LANES) {
@@ -73,7 +145,7 @@ pub fn apply(key: &Schedule, iv: &[u8], text: &mut [u8])
         encrypt16(&keys, &mut masks);
         let first = LANES * b;
         'each: for j in 0..(many - first).min(LANES) {
-            xor_block(text, first + j, &masks[j]);
+            xor_mask(text, first + j, &masks[j]);
         }
         counter = counter.wrapping_add(LANES as u128);
     }

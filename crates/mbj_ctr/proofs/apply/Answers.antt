@@ -32,12 +32,12 @@ each-preserved c =
     let mask : List ℕ = get_or c.encrypt16.new.blocks j [] in
     let made : mask ≡ e (to_be_bytes w128 now) =
     c.encrypt16.ensures.each j inside
-    ∙ ap₂ encipher (schedule_at-same c.all-keys.result c.args.key.now j inside c.all-keys.ensures)
+    ∙ ap₂ encipher (schedule_at-same c.put_all.new.self c.args.key.now j inside c.put_all.ensures)
     (c.put_counters.ensures j inside) in
     let block : 16 * c.batches.b + (j + 1) ≡ 16 * c.batches.b + j + 1 = omega arith in
     rw block
     (walk_xor (ctr_blocks e now) (ctr_blocks e next) c.each.text mask _ _ (16 * c.batches.b + j) (omega arith)
-    (c.encrypt16.ensures.lengths j inside) (λ b bs. ap₂ (λ m (t : ℕ). xor_lists b m ∷ ctr_blocks e t bs) (sym made) more) c.xor_block.ensures c.each.invariant)
+    (c.encrypt16.ensures.lengths j inside) (λ b bs. ap₂ (λ m (t : ℕ). xor_lists b m ∷ ctr_blocks e t bs) (sym made) more) c.xor_mask.ensures c.each.invariant)
 
 pub batches-preserved : goal.batches-preserved
 batches-preserved c =

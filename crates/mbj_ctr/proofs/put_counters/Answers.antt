@@ -1,13 +1,12 @@
--- One counter block more is made in each turn.
-use Rattle.std.proofs.Common.{◌≢◌, ◌<◌, length, arith, get_or-set_other, get_or-set_same, below_more, ◌∙◌}
-use Rattle.std.proofs.lemmas.List.{length-set}
+-- Where the low half does not wrap, neither does the counter.
+use Rattle.std.proofs.Common.{◌≡◌, ℕ, ◌+◌, ◌*◌, ◌/◌, ◌%◌, ◌^◌, ◌<◌, ap, ◌∙◌, arith}
+use Rattle.std.specs.Int.{w128, to_be_bytes}
 use Rattle.mbj_ctr.proofs.put_counters.Goals as goal
 
-pub each-preserved : goal.each-preserved
-each-preserved c =
-    let inside : c.each.j < length c.each.blocks = omega (arith, c.each.invariant.0) in (
-      length-set c.each.blocks c.each.j c.counter_block.result ∙ c.each.invariant.0,
-      below_more _ c.each.j
-          (λ k h. let ne : k ≢ c.each.j = omega arith in rw get_or-set_other (c.each.invariant.1 k h))
-          (rw get_or-set_same c.counter_block.ensures),
-    )
+pub returns-then-low : goal.returns-then-low
+returns-then-low c j h =
+    let n : ℕ = c.args.counter in
+    let size : n < 2 ^ 128 = c.ranges.counter.fits in
+    let near : n % 18446744073709551616 + j + 2 ^ 64 * (n / 18446744073709551616) ≡ (n + j) % 2 ^ 128 =
+    omega (arith, size, c.if-low.true) in
+    c.put_near_counters.ensures j h ∙ ap (to_be_bytes w128) near
