@@ -44,7 +44,8 @@ pub fn decrypt_in_place(key: &Schedule, iv: &[u8; 16], text: &mut [u8])
     requires { length text.old % 16 ≡ 0 }
     ensures { text.new ≡ uncbc_text (decipher key.now) iv.now text.old }
 {
-    let keys = LaneKeys::all(key);
+    let mut keys = LaneKeys::new(key.rounds());
+    keys.put_all(key);
     let many = text.len() / BLOCK_BYTES;
     let mut chain = *iv;
     'batches: for b in 0..many.div_ceil(LANES) {

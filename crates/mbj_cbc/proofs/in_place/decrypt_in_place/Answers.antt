@@ -28,7 +28,7 @@ each-preserved c =
     let same : block_of text i ≡ block_of c.batches.text i = ap (take 16) c.each.invariant.left in
     let found : get_or c.decrypt16.new.blocks j [] ≡ d c.block_at-ciphertext.result =
     c.decrypt16.ensures.each j inside
-    ∙ ap₂ decipher (schedule_at-same c.all-keys.result c.args.key.now j inside c.all-keys.ensures)
+    ∙ ap₂ decipher (schedule_at-same c.put_all.new.self c.args.key.now j inside c.put_all.ensures)
     (c.blocks_from-opened.ensures j inside (omega arith) ∙ sym same ∙ block) in
     let opened : xor_lists (d c.block_at-ciphertext.result) c.each.chain ≡ c.xor_in_place.new.text =
     sym (c.xor_in_place.ensures ∙ ap (λ b. xor_lists b c.each.chain) found) in
