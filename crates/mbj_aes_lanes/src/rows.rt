@@ -10,7 +10,7 @@ use crate::state::State;
 use mbj_aes::Octet;
 use mbj_types::Lane8;
 
-// Rows 0 and 1 of a plane: row 0 stays, and row 1 goes left by 1.
+/// Rows 0 and 1 of a plane: row 0 stays, and row 1 goes left by 1.
 #[inline(always)]
 pub fn upper_left<V: Lane8>(x: V) -> V
     ensures { (i t : ℕ) → i < V.LANES → t < 8
@@ -22,7 +22,7 @@ pub fn upper_left<V: Lane8>(x: V) -> V
     stays.xored(down).xored(up)
 }
 
-// Rows 2 and 3 of a plane: row 2 goes left by 2, and row 3 by 3.
+/// Rows 2 and 3 of a plane: row 2 goes left by 2, and row 3 by 3.
 #[inline(always)]
 pub fn lower_left<V: Lane8>(x: V) -> V
     ensures { (i t : ℕ) → i < V.LANES → t < 8
