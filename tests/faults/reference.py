@@ -1,6 +1,6 @@
 #!/usr/bin/env -S python3 -B
 """What mbjobs must print, by a program of its own: plain Python over the standards and docs/FORMAT.md, which shares no code with
-the crates. It made the digests with which tests of mbjobs compare what they get; the gate runs no Python.
+the crates. It made the digests with which tests of mbjobs and mbj_work compare what they get; the gate runs no Python.
 
     tests/faults/reference.py summary SEED JOBS    what gen prints, with the digest of what run prints
     tests/faults/reference.py replays              the table of the seeded replays

@@ -1,4 +1,5 @@
 // Scripts of commands that the parties of a front follow on one thread, and the lines that tell what each comes to.
+mod seeded;
 mod squad;
 
 ghost use Rattle.std.specs.Prelude.{◌≤◌};
