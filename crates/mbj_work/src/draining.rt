@@ -3,6 +3,7 @@ ghost use Rattle.std.specs.Prelude.{◌≡◌, ◌+◌, ◌-◌, ◌<◌, ◌≤
 ghost use Rattle.mbj_front.specs.Seats.{cells_of};
 ghost use Rattle.mbj_front.specs.Views.{after_finish};
 ghost use Rattle.mbj_work.specs.Parties.{part_of, IsPartyOf, Submits, KeepsDue};
+ghost use Rattle.mbj_work.specs.Inside.Runs.{with_due};
 
 use crate::claimed::Claimed;
 use crate::gate::Gate;
@@ -12,6 +13,10 @@ use mbj_core::cell_at;
 use mbj_front::{Front, READY};
 use mbj_types::Done;
 use std::sync::Wait;
+
+/// How many of its own jobs a submitter claims at once where it helps: as many as the longest list has lanes, so that
+/// the lists fill up, and the workers find the other jobs.
+const CLAIMS: u32 = 16;
 
 impl Party {
     /// Collects until nothing of this submitter is out, and appends the results, for which there is room, in the order of
@@ -34,9 +39,32 @@ impl Party {
         ensures results { results.new.items ≡ results.old.items ++ drop (part_of self.old).handed (part_of self.old).due }
         ensures room { vec_capacity results.new ≡ vec_capacity results.old }
     {
+        self.collect_down_to(rt, front, gate, results, 0);
+        self.settle_all(front, gate);
+    }
+
+    /// Collects until at most so many of this submitter are out, and appends the results, for which there is room. While
+    /// the earliest job that is out has no result it waits for others, and helps where the gate lets it.
+    pub(crate) fn collect_down_to<R: Wait, G: Gate>(
+        &mut self,
+        rt: &R,
+        front: &Front,
+        gate: &G,
+        results: &mut Vec<Done>,
+        left: u32,
+    )
+        requires front { IsPartyOf front.now self.old }
+        requires room { vec_len results.old + (length (part_of self.old).due - (part_of self.old).handed) ≤ vec_capacity results.old }
+        ensures front { IsPartyOf front.now self.new }
+        ensures number { (part_of self.new).number ≡ (part_of self.old).number }
+        ensures due { (part_of self.new).due ≡ (part_of self.old).due }
+        ensures left { length (part_of self.new).due ≤ (part_of self.new).handed + left }
+        ensures results { with_due results.new.items (part_of self.new) ≡ with_due results.old.items (part_of self.old) }
+        ensures room { vec_capacity results.new ≡ vec_capacity results.old }
+    {
         let backoff = Backoff::new();
         for _ in rt.forever() {
-            if self.out() == 0 {
+            if self.out() <= left {
                 break;
             }
             match self.collect_at(front, gate) {
@@ -44,7 +72,6 @@ impl Party {
                 None => self.wait(front, gate, &backoff),
             }
         }
-        self.settle_all(front, gate);
     }
 
     /// What a submitter does while its earliest job that is out has no result.
@@ -61,20 +88,20 @@ impl Party {
         }
     }
 
-    /// Settles a cell in the hand, or claims its own jobs where the hand is empty. Answers whether there was one.
+    /// Claims some of its own jobs, or settles a cell in the hand where none of them is ready. Answers whether there was one.
     fn help<G: Gate>(&mut self, front: &Front, gate: &G) -> bool
         requires front { IsPartyOf front.now self.old }
         requires submitter { Submits front.now self.old }
         ensures front { IsPartyOf front.now self.new }
         ensures due { KeepsDue (part_of self.old) (part_of self.new) }
     {
-        if self.settle_at(front, gate) {
+        if self.claim_own(front, gate) {
             return true;
         }
-        self.claim_own(front, gate)
+        self.settle_at(front, gate)
     }
 
-    /// Claims those of its own jobs that are ready. Answers whether it claimed any.
+    /// Claims the first of its own jobs that are ready, `CLAIMS` at most. Answers whether it claimed any.
     fn claim_own<G: Gate>(&mut self, front: &Front, gate: &G) -> bool
         requires front { IsPartyOf front.now self.old }
         requires submitter { Submits front.now self.old }
@@ -83,13 +110,16 @@ impl Party {
     {
         let party = self.seat.party();
         let first = self.seat.first_cell();
-        let mut claimed = false;
+        let mut claimed = 0;
         for k in 0..self.seat.out() {
+            if claimed >= CLAIMS {
+                break;
+            }
             if self.claim_ready(front, cell_at(party, first + k), gate) {
-                claimed = true;
+                claimed += 1;
             }
         }
-        claimed
+        claimed > 0
     }
 
     /// Claims a cell that is ready, where the hand has room. Answers whether it did.

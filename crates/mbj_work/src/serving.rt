@@ -66,15 +66,14 @@ impl Party {
         self.claim_ready(front, cell, gate);
     }
 
-    /// Settles the first cell in the hand, and pauses where the hand is empty.
+    /// Pauses, and settles the first cell in the hand once it has paused for a while: a list with few jobs takes as long
+    /// as a full one, and it may still fill up.
     fn settle_or_pause<G: Gate>(&mut self, front: &Front, gate: &G, backoff: &Backoff)
         requires { IsPartyOf front.now self.old }
         ensures front { IsPartyOf front.now self.new }
         ensures due { KeepsDue (part_of self.old) (part_of self.new) }
     {
-        if self.settle_at(front, gate) {
-            backoff.reset();
-        } else {
+        if !backoff.is_completed() || !self.settle_at(front, gate) {
             backoff.snooze();
         }
     }

@@ -7,8 +7,9 @@ ghost use Rattle.mbj_work.specs.Inside.Runs.{with_due, HasJobs, HasResults};
 
 use crate::gate::Gate;
 use crate::party::Party;
+use mbj_core::CELLS;
 use mbj_front::{Front, Seat};
-use mbj_types::{Done, Job, PostFull};
+use mbj_types::{Done, Job};
 use std::alloc::{AllocError, Global};
 use std::sync::Wait;
 
@@ -21,8 +22,9 @@ pub(crate) struct Submitter {
 }
 
 impl Party {
-    /// Posts a job, after a drain where all cells of the submitter are in use.
-    fn post_or_drain<R: Wait, G: Gate>(
+    /// Posts a job. Where all cells of the submitter are in use it collects a result first, and leaves the other jobs out, so
+    /// that the workers have some while it posts. So none of its posts finds the cells full.
+    fn post_with_room<R: Wait, G: Gate>(
         &mut self,
         rt: &R,
         front: &Front,
@@ -38,10 +40,7 @@ impl Party {
         ensures results { with_due results.new.items (part_of self.new) ≡ with_due results.old.items (part_of self.old) ++ result_of job ∷ [] }
         ensures room { vec_capacity results.new ≡ vec_capacity results.old }
     {
-        let Err(PostFull(job)) = self.post_at(front, job, gate) else {
-            return;
-        };
-        self.drain(rt, front, gate, results);
+        self.collect_down_to(rt, front, gate, results, CELLS - 1);
         match self.post_at(front, job, gate) {
             Ok(()) => {}
             Err(_) => unreachable!(),
@@ -64,7 +63,7 @@ impl Party {
         ensures results { results.new.items ≡ with_due results.old.items (part_of self.old) ++ map result_of jobs.items }
     {
         for job in jobs {
-            self.post_or_drain(rt, front, gate, job, results);
+            self.post_with_room(rt, front, gate, job, results);
         }
         self.drain(rt, front, gate, results);
     }

@@ -12,8 +12,8 @@ use Rattle.mbj_work.proofs.party.Party.submit_all.Goals as goal
 counted : (given : List Done) (v : View Done) → length (with_due given v) ≡ length given + (length v.due - v.handed)
 counted given v = length-append given (drop v.handed v.due) ∙ ap (λ (n : ℕ). length given + n) (length-drop v.handed v.due)
 
-pub post_or_drain-requires-clause-room : goal.post_or_drain-requires-clause-room
-post_or_drain-requires-clause-room g c = let inv = c.loop-job.invariant in
+pub post_with_room-requires-clause-room : goal.post_with_room-requires-clause-room
+post_with_room-requires-clause-room g c = let inv = c.loop-job.invariant in
     let t = YieldsList-turn (YieldsList-from_vec {s = c.into_iter-job-iterator.result} c.args.jobs.items c.into_iter-job-iterator.ensures.into_iter_gives.0 (c.into_iter-job-iterator.ensures.into_iter_gives.1 ∙ c.args.jobs.ok.0)) c.loop-job.yielded c.loop-job.job-iterator c.loop-job.yielded_by c.next.result c.next.new.self c.in-Some.job c.in-Some.is c.next.ensures.steps in
     omega (arith, c.requires.room, inv.capacity, counted c.loop-job.results.items (view_of c.loop-job.self.seat), ap length inv.results, length-append (with_due c.args.results.now.items (view_of c.args.self.now.seat)) (map result_of c.loop-job.yielded), length-map c.loop-job.yielded result_of, t.0)
 

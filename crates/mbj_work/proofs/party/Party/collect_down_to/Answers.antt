@@ -1,7 +1,7 @@
 use Rattle.std.proofs.Common.{◌≡◌, ◌+◌, length, ap, ◌∙◌, arith}
 use Rattle.mbj_front.specs.Seats.{view_of}
 use Rattle.mbj_work.proofs.Collecting.{given_on}
-use Rattle.mbj_work.proofs.party.Party.drain.Goals as goal
+use Rattle.mbj_work.proofs.party.Party.collect_down_to.Goals as goal
 
 pub loop-preserved-in-Some-collect_at : goal.loop-preserved-in-Some-collect_at
 loop-preserved-in-Some-collect_at g c =

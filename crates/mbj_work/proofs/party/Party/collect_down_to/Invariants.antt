@@ -1,7 +1,7 @@
 -- What was collected and what is still due are together what was due, and there is room for all that is out.
 use Rattle.std.proofs.Common.{◌≡◌, ◌+◌, ◌≤◌, ◌++◌, drop, vec_len, vec_capacity}
 use Rattle.mbj_front.specs.Seats.{view_of, IsOf}
-use Rattle.mbj_work.proofs.party.Party.drain.Given as goal
+use Rattle.mbj_work.proofs.party.Party.collect_down_to.Given as goal
 
 abbrev pub invariant-loop : goal.invariant-loop
 invariant-loop g l = record {
