@@ -53,7 +53,8 @@ const HMAC_KEY: [u8; 20] = [0x0b; 20];
 
 const IV: [u8; 16] = [0x0f; 16];
 
-/// Job `number` of the work.
+/// Job `number` of the work. In a mix each of four jobs that follow one another is of another kind, and so is each of four that
+/// are four apart, so that two or four submitters who get the jobs by turns have all kinds.
 fn job(alloc: Global, work: Work, number: u32) -> Result<Job, AllocError> {
     let mut packet = vec![in alloc; 0; MOST_BYTES]?;
     fill(&mut packet);
@@ -61,7 +62,7 @@ fn job(alloc: Global, work: Work, number: u32) -> Result<Job, AllocError> {
     let turn = match work {
         Work::HmacSha1 => 0,
         Work::CbcHmacSha256 => 1,
-        Work::Mix => number % 4,
+        Work::Mix => number.wrapping_add(number / 4) % 4,
     };
     match turn {
         0 => with_auth(alloc, job, Auth::HmacSha1, &HMAC_KEY, 12),
