@@ -195,6 +195,33 @@ fn words_that_are_no_command_read_nothing(rt: HostRuntime) -> Result<(), Fail> {
     Ok(())
 }
 
+/// Words that are no command, and what clap 4 says of a number out of its range.
+const TOLD_WORDS: [(&[&str], &str); 3] = [
+    (
+        &["mbjobs", "run", "--submitters", "0", "--workers", "0"],
+        "error: invalid value '0' for '--submitters <S>': 0 is not in 1..=16\n\nFor more information, try '--help'.\n",
+    ),
+    (
+        &["mbjobs", "run", "--submitters", "17", "--workers", "0"],
+        "error: invalid value '17' for '--submitters <S>': 17 is not in 1..=16\n\nFor more information, try '--help'.\n",
+    ),
+    (
+        &["mbjobs", "run", "--submitters", "1", "--workers", "17"],
+        "error: invalid value '17' for '--workers <W>': 17 is not in 0..=16\n\nFor more information, try '--help'.\n",
+    ),
+];
+
+#[test]
+fn words_that_are_no_command_are_told(rt: HostRuntime) -> Result<(), Fail> {
+    for (words, text) in TOLD_WORDS {
+        let ending = run_words(&rt, rt.alloc(), words, b"")?;
+        assert_eq!(rt; ending.status, 2);
+        assert_eq!(rt; ending.out.held().len(), 0);
+        assert_eq!(rt; ending.err.held(), text.as_bytes());
+    }
+    Ok(())
+}
+
 #[test]
 fn a_failed_read_or_write_ends_the_run(rt: HostRuntime) -> Result<(), Fail> {
     let alloc = rt.alloc();
