@@ -1,6 +1,7 @@
 -- The seats of a new front, and the results of all submitters.
 use Rattle.std.proofs.Common.{◌≡◌, ℕ, ◌+◌, ◌<◌, List, [], ◌∷◌, ◌++◌, length, length-append, map, suc, sym, Some, None, Option, subst, IfSome, refl, ap, ◌∙◌, arith, Vec, Global}
 use Rattle.std.proofs.lemmas.List.{map-append}
+use Rattle.std.specs.List.{AllZip}
 use Rattle.std.specs.Prelude.{slice_get}
 use Rattle.mbj_types.specs.declared.job.Job.{Job}
 use Rattle.mbj_types.specs.declared.done.Done.{Done}
@@ -11,7 +12,7 @@ use Rattle.mbj_front.specs.declared.front.SharedFront.{SharedFront}
 use Rattle.mbj_front.specs.declared.standard.Standard.{Standard}
 use Rattle.mbj_front.specs.Seats.{view_of, IsOf, IsIssued}
 use Rattle.mbj_work.specs.declared.submitter.Submitter.{Submitter}
-use Rattle.mbj_work.specs.Inside.Runs.{AreSeatsFrom, HasResultsAt}
+use Rattle.mbj_work.specs.Inside.Runs.{AreSeatsFrom, HasResults}
 
 seats_after : (front : SharedFront Job Done Standard) (n : ℕ) (seats : List (PartySeat Job Done))
     → ((p : ℕ) (seat : PartySeat Job Done) → slice_get seats p ≡ Some seat → IsOf front seat × (view_of seat ≡ new_party (n + p))) → AreSeatsFrom front n seats
@@ -35,17 +36,17 @@ tail_of [] = []
 tail_of (x ∷ xs) = xs
 
 -- each submitter has the results of its list
-pub results_of_all : (olds news : List Submitter) (lists : List (Vec Job Global)) → map (λ s. s.jobs) olds ≡ map Some lists → length news ≡ length olds
-    → ((i : ℕ) → i < length olds → HasResultsAt olds news i) → map (λ s. s.results.items) news ≡ map (λ l. map result_of l.items) lists
-results_of_all [] [] [] same long each = refl
-results_of_all [] [] (l ∷ lists) same long each = absurd (let z = ap length same in omega (arith, z))
-results_of_all [] (x ∷ news) lists same long each = absurd (omega (arith, long))
-results_of_all (s ∷ olds) [] lists same long each = absurd (omega (arith, long))
-results_of_all (s ∷ olds) (x ∷ news) [] same long each = absurd (let z = ap length same in omega (arith, z))
-results_of_all (s ∷ olds) (x ∷ news) (l ∷ lists) same long each =
+pub results_of_all : (olds news : List Submitter) (lists : List (Vec Job Global)) → map (λ s. s.jobs) olds ≡ map Some lists → AllZip HasResults olds news
+    → map (λ s. s.results.items) news ≡ map (λ l. map result_of l.items) lists
+results_of_all [] [] [] same each = refl
+results_of_all [] [] (l ∷ lists) same each = absurd (let z = ap length same in omega (arith, z))
+results_of_all [] (x ∷ news) lists same each = absurd each
+results_of_all (s ∷ olds) [] lists same each = absurd each
+results_of_all (s ∷ olds) (x ∷ news) [] same each = absurd (let z = ap length same in omega (arith, z))
+results_of_all (s ∷ olds) (x ∷ news) (l ∷ lists) same each =
     let first : x.results.items ≡ map result_of l.items
-    = subst (λ (o : Option (Vec Job Global)). IfSome o (λ jobs. x.results.items ≡ map result_of jobs.items)) (ap head_of same) (each 0 (omega arith)) in
-    let more = results_of_all olds news lists (ap tail_of same) (omega (arith, long)) (λ i h. each (suc i) (omega (arith, h))) in
+    = subst (λ (o : Option (Vec Job Global)). IfSome o (λ jobs. x.results.items ≡ map result_of jobs.items)) (ap head_of same) each.0 in
+    let more = results_of_all olds news lists (ap tail_of same) each.1 in
     (λ i. first i ∷ more i)
 
 -- the seats behind the first, where one more list has its submitter

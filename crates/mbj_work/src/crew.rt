@@ -1,8 +1,10 @@
 // The parties of a run, and the threads in which they work.
-ghost use Rattle.std.specs.Prelude.{◌≡◌, ℕ, ◌<◌, ◌≤◌, [], All, IfOk, OnOk, Some, length, map, vec_len};
+ghost use Rattle.std.specs.Prelude.{◌≡◌, ℕ, ◌≤◌, [], All, IfOk, OnOk, Some, length, map, vec_len};
+ghost use Rattle.std.specs.List.{AllZip};
+ghost use Rattle.std.specs.Thread.{IsSync};
 ghost use Rattle.mbj_core.specs.declared.party.Stage.TheVariants.{Rest};
 ghost use Rattle.mbj_front.specs.Seats.{view_of, submitters_of, IsOf};
-ghost use Rattle.mbj_work.specs.Inside.Runs.{AreSeatsFrom, HasJobs, HasResultsAt, MayServe};
+ghost use Rattle.mbj_work.specs.Inside.Runs.{AreSeatsFrom, HasJobs, HasResults, MayServe};
 
 use crate::gate::Gate;
 use crate::party::Party;
@@ -15,7 +17,7 @@ use std::sync::Wait;
 use std::sync::atomic::AtomicBool;
 use std::sync::atomic::Ordering::SeqCst;
 use std::thread;
-use std::thread::Threads;
+use std::thread::{Threads, join_mut};
 
 /// A submitter for each list of jobs, with the first of the seats that are left.
 ///
@@ -84,27 +86,32 @@ fn serve<R: Wait, G: Gate>(rt: &R, front: &Front, gate: &G, mut party: Party, st
     party.serve(rt, front, gate, stop);
 }
 
-/// Runs each submitter in a thread of its own where one can be started, and in this one otherwise.
+/// Runs each submitter in a thread of its own where one can be started, and in this one otherwise. This thread starts them
+/// all, and works in none: a system may leave what a thread starts on that thread's core for a while.
+#[cycle(calls)]
 fn run_each<R: Threads + Wait + Sync, G: Gate + Sync>(
     rt: &R,
     front: &Front,
     gate: &G,
-    mut submitters: Vec<Submitter>,
-) -> Vec<Submitter>
-    requires { All (HasJobs front.now) submitters.items }
-    ensures each { (i : ℕ) → i < length submitters.items → HasResultsAt submitters.items result.items i }
-    ensures count { vec_len result ≡ vec_len submitters }
+    submitters: &mut [Submitter],
+)
+    requires { All (HasJobs front.now) submitters.old }
+    ensures { AllZip HasResults submitters.old submitters.new }
 {
-    let count = submitters.len();
-    if count > 0 {
-        thread::for_each_mut(
-            rt,
-            submitters.as_mut_slice(),
-            count,
-            &|_, submitter| submitter.run(rt, front, gate),
-        );
-    }
-    submitters
+    let Some((first, rest)) = submitters.split_first_mut() else {
+        return;
+    };
+    join_mut(
+        rt,
+        &mut ||
+            requires { IsSync R.row × IsSync G.row × HasJobs front.now first.now }
+            ensures { HasResults first.entry.now first.exit.now }
+        { first.run(rt, front, gate) },
+        &mut ||
+            requires { IsSync R.row × IsSync G.row × All (HasJobs front.now) rest.now }
+            ensures { AllZip HasResults rest.entry.now rest.exit.now }
+        { run_each(rt, front, gate, rest) },
+    );
 }
 
 /// Runs the submitters beside the workers, and sets the workers' stop flag once all submitters are done. A worker whose
@@ -113,13 +120,12 @@ pub(crate) fn run_beside<R: Threads + Wait + Sync, G: Gate + Sync>(
     rt: &R,
     front: &Front,
     gate: &G,
-    submitters: Vec<Submitter>,
+    mut submitters: Vec<Submitter>,
     workers: Vec<Party>,
 ) -> Vec<Submitter>
     requires submitters { All (HasJobs front.now) submitters.items }
     requires workers { All (MayServe front.now) workers.items }
-    ensures each { (i : ℕ) → i < length submitters.items → HasResultsAt submitters.items result.items i }
-    ensures count { vec_len result ≡ vec_len submitters }
+    ensures { AllZip HasResults submitters.items result.items }
 {
     let stop = AtomicBool::new(false);
     let flag = &stop;
@@ -128,8 +134,7 @@ pub(crate) fn run_beside<R: Threads + Wait + Sync, G: Gate + Sync>(
         rt,
         |scope| -> Vec<Submitter>
             requires { All (HasJobs front.now) submitters.items × All (MayServe front.now) workers.items }
-            ensures { ((i : ℕ) → i < length submitters.items → HasResultsAt submitters.items result.items i)
-                × (vec_len result ≡ vec_len submitters) }
+            ensures { AllZip HasResults submitters.items result.items }
         {
             for party in workers {
                 let _refused = scope
@@ -140,9 +145,9 @@ pub(crate) fn run_beside<R: Threads + Wait + Sync, G: Gate + Sync>(
                     )
                     .is_err();
             }
-            let done = run_each(rt, front, gate, submitters);
+            run_each(rt, front, gate, submitters.as_mut_slice());
             flag.store(true, SeqCst);
-            done
+            submitters
         },
     )
 }

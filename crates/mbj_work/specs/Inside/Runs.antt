@@ -1,5 +1,5 @@
 -- What the submitters and workers of a run begin and end with.
-use Rattle.std.specs.Prelude.{◌≡◌, ℕ, ◌+◌, ◌≤◌, List, [], ◌∷◌, ◌++◌, map, drop, Some, IfSome, slice_get, vec_len, vec_capacity}
+use Rattle.std.specs.Prelude.{◌≡◌, ℕ, ◌+◌, ◌≤◌, List, [], ◌∷◌, ◌++◌, map, drop, Some, IfSome, vec_len, vec_capacity}
 use Rattle.std.specs.declared.vec.Vec.{Vec}
 use Rattle.std.specs.declared.alloc.Global.{Global}
 use Rattle.mbj_types.specs.declared.job.Job.{Job}
@@ -38,7 +38,3 @@ module _ (front : SharedFront Job Done Standard) where
 -- the results are those of the submitter's jobs, in order
 abbrev pub HasResults : Submitter → Submitter → Type 0
 HasResults old new = IfSome old.jobs (λ jobs. new.results.items ≡ map result_of jobs.items)
-
--- at a place in lists of submitters
-abbrev pub HasResultsAt : List Submitter → List Submitter → ℕ → Type 0
-HasResultsAt olds news i = IfSome (slice_get olds i) (λ old. IfSome (slice_get news i) (λ new. HasResults old new))

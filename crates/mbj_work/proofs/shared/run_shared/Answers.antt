@@ -17,4 +17,4 @@ pub returns : goal.returns
 returns g c =
     ap (λ l. map (λ r. r.items) l) c.results_of.ensures ∙ map-map (λ r. r.items) (λ s. s.results) c.run_beside-done.result.items
     ∙ results_of_all c.in_ok-submitters.submitters.items c.run_beside-done.result.items c.args.lists.items c.in_ok-submitters.ensures.jobs
-    (sym c.run_beside-done.result.ok.0 ∙ c.run_beside-done.ensures.count ∙ c.in_ok-submitters.submitters.ok.0) c.run_beside-done.ensures.each
+    c.run_beside-done.ensures
