@@ -48,6 +48,8 @@ impl<H: LaneHash> HmacEntry<H> {
     /// the kernel serves, and the range lies in the packet. It takes no memory, and the packet moves into the entry.
     ///
     /// At its end the entry has the packet as it was given, and the digest of its hash value is the whole HMAC.
+    // Called and not inlined, it writes the entry in its place, which saves copies of it.
+    #[inline(never)]
     pub fn new(auth: Auth, key: &[u8], packet: Vec<u8>, off: u32, len: u32) -> HmacEntry<H>
         requires auth { IsTrue (H.serves auth) }
         requires range { off + len ≤ length packet.items }
