@@ -4,6 +4,7 @@ pub mod Chains
 pub mod EachOfSixteen
 pub mod Exchanges
 pub mod FullLanes
+pub mod HalfRounds
 pub mod HeldKeys
 pub mod KeySchedules
 pub mod LaneWords

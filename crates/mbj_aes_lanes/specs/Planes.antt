@@ -4,3 +4,4 @@ pub mod State
 pub mod Rounds
 pub mod Keys
 pub mod Matrix
+pub mod Lending

@@ -136,6 +136,7 @@ impl LaneKeys {
     #[inline(always)]
     pub(crate) fn round_keys(&self) -> &[State<u8x16>]
         ensures least { 11 ≤ length result.now }
+        ensures most { length result.now ≤ 15 }
         ensures schedules { (i : ℕ) → i < 16 → IsSome (slice_index_or self.now.lanes i None)
             → schedule_in (lane_at 8) result.now i ≡ schedule_at self.now i }
     {

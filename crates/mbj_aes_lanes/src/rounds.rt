@@ -1,16 +1,18 @@
-//! The rounds of CIPHER and INVCIPHER (FIPS 197, 5.1 and 5.3) in all lanes, in bit planes.
+//! The rounds of CIPHER and INVCIPHER (FIPS 197, 5.1 and 5.3) in all lanes, in bit planes. The loops go by half rounds, with
+//! one S-box for two rows. Where a whole round stands in the code, the compiler mixes its two S-boxes, which together need
+//! more registers than there are. The loop is also short enough so for the processor to keep it decoded.
 ghost use Rattle.std.specs.Prelude.{◌≡◌, ℕ, ◌<◌, ◌≤◌, length};
 ghost use Rattle.mbj_types.specs.Blocks.{xor_lists};
 ghost use Rattle.mbj_types.specs.Aes.{shift_rows, mix_columns, inv_shift_rows, inv_mix_columns, encipher, decipher};
 ghost use Rattle.mbj_aes.specs.Planes.Gates.{nth_bit};
 ghost use Rattle.mbj_aes_lanes.specs.Planes.State.{state_bytes, turned, with_below, three_below};
-ghost use Rattle.mbj_aes_lanes.specs.Planes.Rounds.{round_of, undone_round_of};
+ghost use Rattle.mbj_aes_lanes.specs.Planes.Rounds.{round_of, undone_round_of, half_round_of, undone_half_round_of};
 ghost use Rattle.mbj_aes_lanes.specs.Planes.Keys.{schedule_in};
 
 use crate::columns::{Mixture, add_round_key, inv_mix_columns, mixed, mixed_reduced, mixture_of};
 use crate::rows::{inv_shift_rows, lower_left, shift_rows, upper_left};
 use crate::state::State;
-use crate::substitution::{inv_sub_bytes, sub_bytes};
+use crate::substitution::{inv_sub_half, sub_half};
 use mbj_aes::gates::xor;
 use mbj_types::Lane8;
 
@@ -35,7 +37,7 @@ fn left_mixture<V: Lane8>(x: V, y: V) -> Mixture<V>
 
 // SHIFTROWS, MIXCOLUMNS and ADDROUNDKEY. Each plane is written as soon as it is known, so that few of them are at work at a
 // time. The highest one comes first, since it is reduced into others.
-#[inline(never)]
+#[inline(always)]
 fn linear_layer<V: Lane8>(s: &mut State<V>, key: &State<V>)
     ensures { (i : ℕ) → i < V.LANES → state_bytes V.lane s.new i
         ≡ xor_lists (mix_columns (shift_rows (state_bytes V.lane s.old i))) (state_bytes V.lane key.now i) }
@@ -75,7 +77,7 @@ fn linear_layer<V: Lane8>(s: &mut State<V>, key: &State<V>)
 }
 
 // What a round does in the place of that where it is the last one: SHIFTROWS and ADDROUNDKEY.
-#[inline(never)]
+#[inline(always)]
 fn last_linear_layer<V: Lane8>(s: &mut State<V>, key: &State<V>)
     ensures { (i : ℕ) → i < V.LANES → state_bytes V.lane s.new i
         ≡ xor_lists (shift_rows (state_bytes V.lane s.old i)) (state_bytes V.lane key.now i) }
@@ -84,7 +86,7 @@ fn last_linear_layer<V: Lane8>(s: &mut State<V>, key: &State<V>)
 }
 
 // ADDROUNDKEY, INVMIXCOLUMNS and INVSHIFTROWS.
-#[inline(never)]
+#[inline(always)]
 fn undo_linear_layer<V: Lane8>(s: &mut State<V>, key: &State<V>)
     ensures { (i : ℕ) → i < V.LANES → state_bytes V.lane s.new i
         ≡ inv_shift_rows (inv_mix_columns (xor_lists (state_bytes V.lane s.old i) (state_bytes V.lane key.now i))) }
@@ -93,12 +95,44 @@ fn undo_linear_layer<V: Lane8>(s: &mut State<V>, key: &State<V>)
 }
 
 // The same of the last round: ADDROUNDKEY and INVSHIFTROWS.
-#[inline(never)]
+#[inline(always)]
 fn undo_last_linear_layer<V: Lane8>(s: &mut State<V>, key: &State<V>)
     ensures { (i : ℕ) → i < V.LANES → state_bytes V.lane s.new i
         ≡ inv_shift_rows (xor_lists (state_bytes V.lane s.old i) (state_bytes V.lane key.now i)) }
 {
     *s = inv_shift_rows(add_round_key(*s, *key));
+}
+
+// Half a round: SUBBYTES in the upper rows; or in the lower ones, and then the steps of the round that follow it.
+#[inline(always)]
+fn half_round<V: Lane8>(s: &mut State<V>, key: &State<V>, is_lower: bool, is_last: bool)
+    ensures { (i : ℕ) → i < V.LANES → state_bytes V.lane s.new i
+        ≡ half_round_of is_lower is_last (state_bytes V.lane s.old i) (state_bytes V.lane key.now i) }
+{
+    sub_half(s, is_lower);
+    if is_lower {
+        if is_last {
+            last_linear_layer(s, key);
+        } else {
+            linear_layer(s, key);
+        }
+    }
+}
+
+// Half a round undone.
+#[inline(always)]
+fn undone_half_round<V: Lane8>(s: &mut State<V>, key: &State<V>, is_lower: bool, is_last: bool)
+    ensures { (i : ℕ) → i < V.LANES → state_bytes V.lane s.new i
+        ≡ undone_half_round_of is_lower is_last (state_bytes V.lane s.old i) (state_bytes V.lane key.now i) }
+{
+    if is_lower {
+        if is_last {
+            undo_last_linear_layer(s, key);
+        } else {
+            undo_linear_layer(s, key);
+        }
+    }
+    inv_sub_half(s, is_lower);
 }
 
 /// One round: SUBBYTES, SHIFTROWS, MIXCOLUMNS but in the last round, and ADDROUNDKEY.
@@ -107,12 +141,8 @@ pub fn round<V: Lane8>(s: &mut State<V>, key: &State<V>, is_last: bool)
     ensures { (i : ℕ) → i < V.LANES → state_bytes V.lane s.new i
         ≡ round_of is_last (state_bytes V.lane s.old i) (state_bytes V.lane key.now i) }
 {
-    sub_bytes(s);
-    if is_last {
-        last_linear_layer(s, key);
-    } else {
-        linear_layer(s, key);
-    }
+    half_round(s, key, false, is_last);
+    half_round(s, key, true, is_last);
 }
 
 /// One round undone.
@@ -121,36 +151,36 @@ pub fn undone_round<V: Lane8>(s: &mut State<V>, key: &State<V>, is_last: bool)
     ensures { (i : ℕ) → i < V.LANES → state_bytes V.lane s.new i
         ≡ undone_round_of is_last (state_bytes V.lane s.old i) (state_bytes V.lane key.now i) }
 {
-    if is_last {
-        undo_last_linear_layer(s, key);
-    } else {
-        undo_linear_layer(s, key);
-    }
-    inv_sub_bytes(s);
+    undone_half_round(s, key, true, is_last);
+    undone_half_round(s, key, false, is_last);
 }
 
 /// Encrypts the state in each lane under the round keys in that lane.
 pub fn encrypt<V: Lane8>(keys: &[State<V>], s: &mut State<V>)
-    requires { 3 ≤ length keys.now }
+    requires least { 3 ≤ length keys.now }
+    requires most { length keys.now ≤ 15 }
     ensures { (i : ℕ) → i < V.LANES
         → state_bytes V.lane s.new i ≡ encipher (schedule_in V.lane keys.now i) (state_bytes V.lane s.old i) }
 {
     let rounds = keys.len() - 1;
     *s = add_round_key(*s, keys[0]);
-    'rounds: for r in 1..rounds + 1 {
-        round(s, &keys[r], r == rounds);
+    'halves: for half in 0..2 * rounds {
+        let r = half / 2 + 1;
+        half_round(s, &keys[r], half % 2 == 1, r == rounds);
     }
 }
 
 /// Decrypts the state in each lane by the round keys in that lane.
 pub fn decrypt<V: Lane8>(keys: &[State<V>], s: &mut State<V>)
-    requires { 3 ≤ length keys.now }
+    requires least { 3 ≤ length keys.now }
+    requires most { length keys.now ≤ 15 }
     ensures { (i : ℕ) → i < V.LANES
         → state_bytes V.lane s.new i ≡ decipher (schedule_in V.lane keys.now i) (state_bytes V.lane s.old i) }
 {
     let rounds = keys.len() - 1;
-    'rounds: for r in (1..rounds + 1).rev() {
-        undone_round(s, &keys[r], r == rounds);
+    'halves: for half in (0..2 * rounds).rev() {
+        let r = half / 2 + 1;
+        undone_half_round(s, &keys[r], half % 2 == 1, r == rounds);
     }
     *s = add_round_key(*s, keys[0]);
 }

@@ -1,8 +1,10 @@
 //! SUBBYTES and its inverse (FIPS 197, 5.1.1 and 5.3.2) on bit planes.
 ghost use Rattle.std.specs.Prelude.{◌≡◌, ℕ, ◌<◌};
-ghost use Rattle.mbj_types.specs.Aes.{sub_byte, inv_sub_byte, sub_bytes, inv_sub_bytes};
-ghost use Rattle.mbj_aes.specs.Planes.Bytes.{byte_at};
-ghost use Rattle.mbj_aes_lanes.specs.Planes.State.{state_bytes};
+ghost use Rattle.std.specs.Borrow.{sem};
+ghost use Rattle.mbj_types.specs.Aes.{sub_byte, inv_sub_byte};
+ghost use Rattle.mbj_aes_lanes.specs.Planes.State.{state_bytes, half};
+ghost use Rattle.mbj_aes_lanes.specs.Planes.Lending.{LendsHalf};
+ghost use Rattle.mbj_aes_lanes.specs.Planes.Rounds.{in_half};
 
 use crate::state::State;
 use mbj_aes::Octet;
@@ -10,39 +12,31 @@ use mbj_aes::circuit::sub_planes;
 use mbj_aes::inverse_circuit::inv_sub_planes;
 use mbj_types::Lane8;
 
-// SUBBYTES of two rows. A call for each two rows, one after the other, needs fewer registers than both at once, and leaves
-// the rounds short enough for the processor to keep them decoded.
-#[inline(never)]
-fn sub_rows<V: Lane8>(rows: &mut Octet<V>)
-    ensures { (i t : ℕ) → i < V.LANES → t < 8
-        → byte_at V.lane rows.new i t ≡ sub_byte (byte_at V.lane rows.old i t) }
+// The lower two rows, or the upper two. They are lent, and not copied, so that one S-box in the code serves both.
+#[inline(always)]
+fn half_mut<V: Lane8>(s: &mut State<V>, is_lower: bool) -> &mut Octet<V>
+    ensures* lends { sem 𝓛 (LendsHalf V.row s.entry is_lower result) }
+    ensures value { result.now ≡ half s.old is_lower }
 {
+    if is_lower { &mut s.lower } else { &mut s.upper }
+}
+
+/// SUBBYTES in the lower two rows, or in the upper two. All at once would need more registers than there are.
+#[inline(always)]
+pub fn sub_half<V: Lane8>(s: &mut State<V>, is_lower: bool)
+    ensures { (i : ℕ) → i < V.LANES
+        → state_bytes V.lane s.new i ≡ in_half sub_byte is_lower 0 (state_bytes V.lane s.old i) }
+{
+    let rows = half_mut(s, is_lower);
     *rows = sub_planes(*rows);
 }
 
-// INVSUBBYTES of two rows.
-#[inline(never)]
-fn inv_sub_rows<V: Lane8>(rows: &mut Octet<V>)
-    ensures { (i t : ℕ) → i < V.LANES → t < 8
-        → byte_at V.lane rows.new i t ≡ inv_sub_byte (byte_at V.lane rows.old i t) }
+/// INVSUBBYTES in the lower two rows, or in the upper two.
+#[inline(always)]
+pub fn inv_sub_half<V: Lane8>(s: &mut State<V>, is_lower: bool)
+    ensures { (i : ℕ) → i < V.LANES
+        → state_bytes V.lane s.new i ≡ in_half inv_sub_byte is_lower 0 (state_bytes V.lane s.old i) }
 {
+    let rows = half_mut(s, is_lower);
     *rows = inv_sub_planes(*rows);
-}
-
-/// SUBBYTES.
-#[inline(always)]
-pub fn sub_bytes<V: Lane8>(s: &mut State<V>)
-    ensures { (i : ℕ) → i < V.LANES → state_bytes V.lane s.new i ≡ sub_bytes (state_bytes V.lane s.old i) }
-{
-    sub_rows(&mut s.upper);
-    sub_rows(&mut s.lower);
-}
-
-/// INVSUBBYTES.
-#[inline(always)]
-pub fn inv_sub_bytes<V: Lane8>(s: &mut State<V>)
-    ensures { (i : ℕ) → i < V.LANES → state_bytes V.lane s.new i ≡ inv_sub_bytes (state_bytes V.lane s.old i) }
-{
-    inv_sub_rows(&mut s.upper);
-    inv_sub_rows(&mut s.lower);
 }

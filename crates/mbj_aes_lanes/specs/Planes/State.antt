@@ -1,5 +1,5 @@
 -- The state of AES (FIPS 197, 3.4) in bit planes.
-use Rattle.std.specs.Prelude.{ℕ, ◌+◌, ◌-◌, ◌%◌, nat_lt, List, [], ◌∷◌, ◌++◌, slice_index, if◌then◌else◌}
+use Rattle.std.specs.Prelude.{ℕ, ◌+◌, ◌-◌, ◌%◌, nat_lt, Bool, List, [], ◌∷◌, ◌++◌, slice_index, if◌then◌else◌}
 use Rattle.mbj_aes.specs.declared.octet.Octet.{Octet}
 use Rattle.mbj_aes.specs.Planes.Gates.{xor_bits}
 use Rattle.mbj_aes.specs.Planes.Bytes.{byte_at}
@@ -14,6 +14,13 @@ column_bytes lane s i c =
 abbrev pub state_bytes : {V : Type 0} → (V → ℕ → ℕ) → State V → ℕ → List ℕ
 state_bytes lane s i =
     column_bytes lane s i 0 ++ column_bytes lane s i 1 ++ column_bytes lane s i 2 ++ column_bytes lane s i 3
+
+-- the planes of the lower two rows, or of the upper two
+abbrev pub half : {V : Type 0} → State V → Bool → Octet V
+half s is_lower = if is_lower then s.lower else s.upper
+
+abbrev pub with_half : {V : Type 0} → State V → Bool → Octet V → State V
+with_half s is_lower rows = if is_lower then record s { lower = rows } else record s { upper = rows }
 
 -- the bytes of two rows, of a list of bytes column by column whose byte k is the first of the first row
 abbrev pub rows_from : List ℕ → ℕ → Octet ℕ

@@ -1,16 +1,15 @@
--- The steps, one after another.
-use Rattle.std.proofs.Common.{ap, ◌∙◌}
-use Rattle.mbj_types.specs.Blocks.{xor_lists}
-use Rattle.mbj_types.specs.Aes.{shift_rows, mix_columns}
+-- Both halves are substituted, and the rest of the round follows.
+use Rattle.std.proofs.Common.{List, ℕ, true, ap, ◌∙◌}
+use Rattle.mbj_types.specs.Aes.{sub_byte}
 use Rattle.mbj_aes_lanes.specs.Planes.State.{state_bytes}
+use Rattle.mbj_aes_lanes.specs.Planes.Rounds.{in_half, linear_layer_of}
+use Rattle.mbj_aes_lanes.proofs.HalfRounds.{in_half-lower-upper}
 use Rattle.mbj_aes_lanes.proofs.rounds.round.Goals as goal
 
-pub returns-then-is_last : goal.returns-then-is_last
-returns-then-is_last g c i h =
-    let key = state_bytes g.V.Lane8.lane c.args.key.now i in
-    rw c.if-is_last.true (c.last_linear_layer.ensures i h ∙ ap (λ s. xor_lists (shift_rows s) key) (c.sub_bytes.ensures i h))
-
-pub returns-else-is_last : goal.returns-else-is_last
-returns-else-is_last g c i h =
-    let key = state_bytes g.V.Lane8.lane c.args.key.now i in
-    rw c.if-is_last.false (c.linear_layer.ensures i h ∙ ap (λ s. xor_lists (mix_columns (shift_rows s)) key) (c.sub_bytes.ensures i h))
+pub returns : goal.returns
+returns g c i h =
+    let s : List ℕ = state_bytes g.V.Lane8.lane c.args.s.now i in
+    let key : List ℕ = state_bytes g.V.Lane8.lane c.args.key.now i in
+    c.half_round-2.ensures i h
+    ∙ ap (λ (t : List ℕ). linear_layer_of c.args.is_last (in_half sub_byte true 0 t) key) (c.half_round.ensures i h)
+    ∙ ap (λ (t : List ℕ). linear_layer_of c.args.is_last t key) (in_half-lower-upper sub_byte 0 s)
