@@ -1,10 +1,12 @@
 -- The hand of a party, its cells and what its manager owes.
-use Rattle.std.proofs.Common.{◌≡◌, ℕ, ◌-◌, ◌<◌, List, [], ◌∷◌, ◌++◌, length, drop, sym, ap, ◌∙◌, arith, length-append}
+use Rattle.std.proofs.Common.{◌≡◌, ℕ, ◌-◌, ◌<◌, List, [], ◌∷◌, ◌++◌, Some, None, length, drop, refl, sym, ap, ◌∙◌, arith, length-append}
 use Rattle.std.proofs.lemmas.List.{map-append}
 use lib.ListN.{length-map}
 use Rattle.circular_buffer.specs.Buffer.{Buffer, buffer, keep_last}
 use Rattle.mbj_types.specs.declared.done.Done.{Done}
 use Rattle.mbj_front.specs.Seats.{IsFirst}
+use Rattle.mbj_manager.specs.Rounds.{Pending}
+use Rattle.mbj_manager.specs.State.{ManagerState, given, given_at}
 use Rattle.mbj_work.specs.Inside.Holding.{cells_in, results_in}
 
 abbrev tail_of : List Done → List Done
@@ -39,3 +41,14 @@ cells_with hand cell d room cells is short =
     ap (λ (b : Buffer ℕ). buffer (keep_last b.capacity (b.items ++ cell ∷ [])) b.capacity) is
     ∙ ap (λ (l : List ℕ). buffer l room)
     (keeps_all room (cells_in hand) cell (let e = length-map hand (λ (x : ℕ × Done). x.0) in omega arith) ∙ sym (map-append (λ x. x.0) hand ((cell, d) ∷ [])))
+
+-- where no result is given back the manager stays as it was
+none_at : (owed : List Done) (left : List (List Pending)) (h : ManagerState) → (given_at owed left h).0 ≡ None → (given_at owed left h).1 ≡ h
+none_at [] left h none = refl
+none_at (d ∷ owed) [] h none = refl
+none_at (d ∷ owed) ([] ∷ left) h none = absurd (let e : Some d ≡ None = none in grind (arith, e))
+none_at (d ∷ owed) ((p ∷ ps) ∷ left) h none = refl
+
+-- so that nothing is given back of it then
+pub none_left : (old new : ManagerState) → (given old).0 ≡ None → new ≡ (given old).1 → (given new).0 ≡ None
+none_left old new none is = ap (λ h. (given h).0) (is ∙ none_at old.owed old.machine.left old none) ∙ none

@@ -1,12 +1,13 @@
 // What every party does with the jobs of others: it claims them, and its manager works them.
-ghost use Rattle.std.specs.Prelude.{◌≡◌, ◌≢◌, ℕ, ◌<◌, [], ◌∷◌, ◌++◌, length, option_to_list, MatchBool};
+ghost use Rattle.std.specs.Prelude.{◌≡◌, ◌≢◌, ℕ, ◌<◌, [], ◌∷◌, ◌++◌, None, Some, length, option_to_list, MatchBool};
 ghost use Rattle.circular_buffer.specs.Buffer.{buffer};
+ghost use Rattle.mbj_types.specs.declared.done.Done.{Done};
 ghost use Rattle.mbj_types.specs.Result.{result_of};
 ghost use Rattle.mbj_core.specs.declared.party.Stage.TheVariants.{Rest};
 ghost use Rattle.mbj_front.specs.declared.words.TheConstants.{READY};
 ghost use Rattle.mbj_front.specs.Seats.{view_of, cells_of, IsFirst, IsOf};
-ghost use Rattle.mbj_front.specs.Views.{after_look};
-ghost use Rattle.mbj_manager.specs.State.{submitted, with_open};
+ghost use Rattle.mbj_front.specs.Views.{after_finish, after_look};
+ghost use Rattle.mbj_manager.specs.State.{given, submitted, with_open};
 ghost use Rattle.mbj_ring.specs.declared.ring.TheConstants.{CELLS};
 ghost use Rattle.mbj_work.specs.declared.party.TheConstants.{HAND_ROOM};
 ghost use Rattle.mbj_work.specs.Parties.{part_of, manager_of, IsPartyOf, KeepsDue};
@@ -132,5 +133,33 @@ impl Party {
         };
         finish_first(front, &mut self.seat, &mut self.cells, done, gate);
         true
+    }
+
+    /// Finishes the first cell in the hand where its job is finished already. Answers whether it was. No list runs for it.
+    fn give_back<G: Gate>(&mut self, front: &Front, gate: &G) -> bool
+        requires { IsPartyOf front.now self.old }
+        ensures front { IsPartyOf front.now self.new }
+        ensures part { MatchBool result
+            ((done : Done) × ((given (manager_of self.old)).0 ≡ Some done)
+            × FinishesFirst front.now done (part_of self.old) (part_of self.new))
+            (((given (manager_of self.old)).0 ≡ None) × (part_of self.new ≡ part_of self.old)) }
+        ensures manager { manager_of self.new ≡ (given (manager_of self.old)).1 }
+    {
+        let Some(done) = self.manager.get_completed() else {
+            return false;
+        };
+        finish_first(front, &mut self.seat, &mut self.cells, done, gate);
+        true
+    }
+
+    /// Finishes cells in the hand, from the first on, as long as their jobs are finished already. No list runs for it. A
+    /// full list finishes many jobs at once, and nobody is to wait for their results until this party claims more.
+    pub(crate) fn give_all_back<G: Gate>(&mut self, front: &Front, gate: &G)
+        requires { IsPartyOf front.now self.old }
+        ensures front { IsPartyOf front.now self.new }
+        ensures part { part_of self.new ≡ after_finish (part_of self.old) (part_of self.new).hand }
+        ensures none { (given (manager_of self.new)).0 ≡ None }
+    {
+        while self.give_back(front, gate) {}
     }
 }

@@ -89,16 +89,16 @@ impl Party {
     }
 
     /// Claims some of its own jobs, or settles a cell in the hand where none of them is ready. Answers whether there was one.
+    /// All results that are finished then are handed back.
     fn help<G: Gate>(&mut self, front: &Front, gate: &G) -> bool
         requires front { IsPartyOf front.now self.old }
         requires submitter { Submits front.now self.old }
         ensures front { IsPartyOf front.now self.new }
         ensures due { KeepsDue (part_of self.old) (part_of self.new) }
     {
-        if self.claim_own(front, gate) {
-            return true;
-        }
-        self.settle_at(front, gate)
+        let helped = self.claim_own(front, gate) || self.settle_at(front, gate);
+        self.give_all_back(front, gate);
+        helped
     }
 
     /// Claims the first of its own jobs that are ready, `CLAIMS` at most. Answers whether it claimed any.

@@ -26,7 +26,8 @@ impl Party {
         self.settle_all(front, gate);
     }
 
-    /// Works until the stop flag was seen and then a hunt found no job.
+    /// Works until the stop flag was seen and then a hunt found no job. Each turn ends with all results handed back that are
+    /// finished.
     fn work_until<R: Wait, G: Gate>(&mut self, rt: &R, front: &Front, gate: &G, stop: &AtomicBool)
         requires { IsPartyOf front.now self.old }
         ensures front { IsPartyOf front.now self.new }
@@ -50,6 +51,7 @@ impl Party {
                     self.settle_or_pause(front, gate, &backoff);
                 }
             }
+            self.give_all_back(front, gate);
         }
     }
 
