@@ -86,8 +86,8 @@ fn serve<R: Wait, G: Gate>(rt: &R, front: &Front, gate: &G, mut party: Party, st
     party.serve(rt, front, gate, stop);
 }
 
-/// Runs each submitter in a thread of its own where one can be started, and in this one otherwise. This thread starts them
-/// all, and works in none: a system may leave what a thread starts on that thread's core for a while.
+/// Runs the last submitter in this thread, and each other in a thread of its own where one can be started. This thread
+/// starts them all: a system may leave what a thread starts on that thread's core for a while.
 #[cycle(calls)]
 fn run_each<R: Threads + Wait + Sync, G: Gate + Sync>(
     rt: &R,
@@ -101,6 +101,10 @@ fn run_each<R: Threads + Wait + Sync, G: Gate + Sync>(
     let Some((first, rest)) = submitters.split_first_mut() else {
         return;
     };
+    if rest.is_empty() {
+        first.run(rt, front, gate);
+        return;
+    }
     join_mut(
         rt,
         &mut ||
