@@ -11,17 +11,17 @@ mod prefixes;
 mod random_inputs;
 mod replay;
 mod results;
+mod runs;
 mod seeded_replays;
 mod trace;
 mod workers;
 mod yielding_gates;
 
-ghost use Rattle.std.specs.Prelude.{None};
+ghost use Rattle.std.specs.Prelude.{◌≤◌, None};
 
 use super::*;
-use mbj_io::{Failed, MemSink, MemSource, Source};
-use mbj_work::Gate;
-use sha2::{Digest, Sha256};
+use mbj_io::{Failed, Source};
+use runs::{Ending, Told, check_run, run_file, run_from, run_on, run_over, sink, source};
 use std::alloc::{AllocError, Global};
 use std::process::Abort;
 use std::sync::Wait;
@@ -39,158 +39,113 @@ const FIRST_RESULT: &str = "0 ok 4869205468657265 b617318655057264e28bc0b6fb378c
 /// Room for what a test writes.
 const ROOM: usize = 1 << 20;
 
-/// How the program ended, and what it wrote.
-#[derive(Drop)]
-struct Ending {
-    status: u8,
-    out: MemSink,
-    err: MemSink,
-}
-
-fn words_of(alloc: Global, words: &[&str]) -> Result<Vec<String>, AllocError> {
-    words
-        .iter()
-        .map(|word| String::from_str(alloc, *word))
-        .try_collect(alloc)
-}
-
-/// Runs the program over a source and two sinks in memory.
-fn run_over<R: Threads + Wait + Sync>(
-    rt: &R,
-    alloc: Global,
-    words: &[&str],
-    input: &mut MemSource,
-    mut out: MemSink,
-    mut err: MemSink,
-) -> Result<Ending, AllocError> {
-    let words = words_of(alloc, words)?;
-    let status = mbjobs(rt, alloc, &words, input, &mut out, &mut err, &OpenGate);
-    Ok(Ending { status, out, err })
-}
-
-/// Runs the program on an input.
-fn run_words<R: Threads + Wait + Sync>(
-    rt: &R,
-    alloc: Global,
-    words: &[&str],
-    file: &[u8],
-) -> Result<Ending, AllocError> {
-    let mut input = MemSource::new(alloc, file, 4_096, &[])?;
-    let out = MemSink::new(alloc, ROOM, 1_024, &[])?;
-    let err = MemSink::new(alloc, ROOM, 1_024, &[])?;
-    run_over(rt, alloc, words, &mut input, out, err)
-}
-
-/// Runs the program on an input, under a gate.
-fn run_gated<R: Threads + Wait + Sync, G: Gate + Sync>(
-    rt: &R,
-    alloc: Global,
-    words: &[&str],
-    file: &[u8],
-    gate: &G,
-) -> Result<Ending, AllocError> {
-    let words = words_of(alloc, words)?;
-    let mut input = MemSource::new(alloc, file, 4_096, &[])?;
-    let mut out = MemSink::new(alloc, ROOM, 1_024, &[])?;
-    let mut err = MemSink::new(alloc, ROOM, 1_024, &[])?;
-    let status = mbjobs(rt, alloc, &words, &mut input, &mut out, &mut err, gate);
-    Ok(Ending { status, out, err })
-}
-
-/// The SHA-256 digest of a text, in hexadecimal digits.
-fn digest_of(alloc: Global, text: &[u8]) -> Result<String, AllocError> {
-    hex::encode(alloc, Sha256::digest(text))
-}
-
-/// Runs a job file with one submitter.
-fn run_file<R: Threads + Wait + Sync>(
-    rt: &R,
-    alloc: Global,
-    file: &[u8],
-) -> Result<Ending, AllocError> {
-    run_words(rt, alloc, &RUN, file)
-}
+/// A job file, the status of its run with one submitter, and what that writes on standard output and standard error.
+type FileCase = (&'static str, u8, &'static str, &'static str);
 
 /// Runs the program on each file, and compares its status and what it writes.
 fn compare<R: Threads + Wait + Sync + Abort>(
     rt: &R,
     alloc: Global,
-    cases: &[(&str, u8, &str, &str)],
+    cases: &[FileCase],
 ) -> Result<(), AllocError> {
     for (file, status, out, err) in cases {
-        let ending = run_file(rt, alloc, file.as_bytes())?;
-        assert_eq!(rt; ending.status, *status, "{file}");
-        assert_eq!(rt; ending.out.held(), out.as_bytes(), "{file}");
-        assert_eq!(rt; ending.err.held(), err.as_bytes(), "{file}");
+        compare_file(rt, alloc, file, Told::new(*status, out, err))?;
     }
     Ok(())
 }
 
+/// Runs the program on a file, and compares its status and what it writes.
+fn compare_file<R: Threads + Wait + Sync + Abort>(
+    rt: &R,
+    alloc: Global,
+    file: &str,
+    told: Told<'_>,
+) -> Result<(), AllocError> {
+    let ending = run_file(rt, alloc, file.as_bytes())?;
+    ending.check(rt, told, &file);
+    Ok(())
+}
+
+const BAD_FILES: [FileCase; 7] = [
+    (
+        "null enc ch abc - 0 0 null - - 0 0 0 -\n",
+        5,
+        "",
+        "mbjobs: line 1: field 4\n",
+    ),
+    (
+        "null enc ch - - 0 0 null - - 0 0 0 -\nnull  enc ch - - 0 0 null - - 0 0 0 -\n",
+        5,
+        "",
+        "mbjobs: line 2: field 0\n",
+    ),
+    (
+        "null enc ch - - 0 0 hmac-sha1 0b0b0b0b0b0b0b0b0b0b0b0b0b0b0b0b0b0b0b0b - 0 8 20 4869205468657265\ncbc enc ch abc - 0 0 null - - 0 0 0 -\n",
+        5,
+        "",
+        "mbjobs: line 2: field 4\n",
+    ),
+    (
+        "cbc  enc ch 2b7e151628aed2a6abf7158809cf4f3c 000102030405060708090a0b0c0d0e0f 0 16 null - - 0 0 0 6bc1bee22e409f96e93d7e117393172a\n",
+        5,
+        "",
+        "mbjobs: line 1: field 0\n",
+    ),
+    (
+        "null enc ch - - 0 0 null - - 0 0 0 -\ncbc enc ch abc - 0 0 null - - 0 0 0 -\n",
+        5,
+        "",
+        "mbjobs: line 2: field 4\n",
+    ),
+    (
+        "null enc ch - - 0 0 hmac-md5 - - 0 0 0 -\n",
+        5,
+        "",
+        "mbjobs: line 1: field 8\n",
+    ),
+    ("%\n", 5, "", "mbjobs: line 1: field 0\n"),
+];
+
 #[test]
 fn bad_files_are_told_by_line_and_field(rt: HostRuntime) -> Result<(), Fail> {
-    let cases = [
-        (
-            "null enc ch abc - 0 0 null - - 0 0 0 -\n",
-            5,
-            "",
-            "mbjobs: line 1: field 4\n",
-        ),
-        (
-            "null enc ch - - 0 0 null - - 0 0 0 -\nnull  enc ch - - 0 0 null - - 0 0 0 -\n",
-            5,
-            "",
-            "mbjobs: line 2: field 0\n",
-        ),
-        (
-            "null enc ch - - 0 0 hmac-sha1 0b0b0b0b0b0b0b0b0b0b0b0b0b0b0b0b0b0b0b0b - 0 8 20 4869205468657265\ncbc enc ch abc - 0 0 null - - 0 0 0 -\n",
-            5,
-            "",
-            "mbjobs: line 2: field 4\n",
-        ),
-        (
-            "cbc  enc ch 2b7e151628aed2a6abf7158809cf4f3c 000102030405060708090a0b0c0d0e0f 0 16 null - - 0 0 0 6bc1bee22e409f96e93d7e117393172a\n",
-            5,
-            "",
-            "mbjobs: line 1: field 0\n",
-        ),
-        (
-            "null enc ch - - 0 0 null - - 0 0 0 -\ncbc enc ch abc - 0 0 null - - 0 0 0 -\n",
-            5,
-            "",
-            "mbjobs: line 2: field 4\n",
-        ),
-        (
-            "null enc ch - - 0 0 hmac-md5 - - 0 0 0 -\n",
-            5,
-            "",
-            "mbjobs: line 1: field 8\n",
-        ),
-        ("%\n", 5, "", "mbjobs: line 1: field 0\n"),
-    ];
-    compare(&rt, rt.alloc(), &cases)?;
+    Ok(compare(&rt, rt.alloc(), &BAD_FILES)?)
+}
+
+const NO_COMMANDS: [&[&str]; 6] = [
+    &["mbjobs"],
+    &["mbjobs", "run", "--submitters", "0", "--workers", "0"],
+    &["mbjobs", "run", "--submitters", "17", "--workers", "0"],
+    &["mbjobs", "run", "--submitters", "1"],
+    &["mbjobs", "--help"],
+    &[],
+];
+
+/// Sees that no byte was read and none written, and that a line was told.
+fn check_unread<R: Abort>(rt: &R, ending: &Ending, words: &[&str]) {
+    let Told { status, out, err } = ending.told();
+    assert_eq!(rt;
+        (status, ending.input.rest(), out.len(), err.ends_with(b"\n")),
+        (2, FIRST_JOB.as_bytes(), 0, true),
+        "{words:?}"
+    );
+}
+
+/// Runs the program on words that are no command: it reads nothing, and tells a line.
+fn reads_nothing<R: Threads + Wait + Sync + Abort>(
+    rt: &R,
+    alloc: Global,
+    words: &[&str],
+) -> Result<(), AllocError> {
+    let input = source(alloc, FIRST_JOB.as_bytes(), 64, &[])?;
+    let ending = run_from(rt, alloc, words, input, 64, &OpenGate)?;
+    check_unread(rt, &ending, words);
     Ok(())
 }
 
 #[test]
 fn words_that_are_no_command_read_nothing(rt: HostRuntime) -> Result<(), Fail> {
-    let alloc = rt.alloc();
-    let lines: [&[&str]; 6] = [
-        &["mbjobs"],
-        &["mbjobs", "run", "--submitters", "0", "--workers", "0"],
-        &["mbjobs", "run", "--submitters", "17", "--workers", "0"],
-        &["mbjobs", "run", "--submitters", "1"],
-        &["mbjobs", "--help"],
-        &[],
-    ];
-    for words in lines {
-        let mut input = MemSource::new(alloc, FIRST_JOB.as_bytes(), 64, &[])?;
-        let out = MemSink::new(alloc, ROOM, 64, &[])?;
-        let err = MemSink::new(alloc, ROOM, 64, &[])?;
-        let ending = run_over(&rt, alloc, words, &mut input, out, err)?;
-        assert_eq!(rt; ending.status, 2);
-        assert_eq!(rt; input.rest(), FIRST_JOB.as_bytes());
-        assert_eq!(rt; ending.out.held().len(), 0);
-        assert!(rt; ending.err.held().ends_with(b"\n"));
+    for words in &NO_COMMANDS {
+        reads_nothing(&rt, rt.alloc(), words)?;
     }
     Ok(())
 }
@@ -213,35 +168,52 @@ const TOLD_WORDS: [(&[&str], &str); 3] = [
 
 #[test]
 fn words_that_are_no_command_are_told(rt: HostRuntime) -> Result<(), Fail> {
-    for (words, text) in TOLD_WORDS {
-        let ending = run_words(&rt, rt.alloc(), words, b"")?;
-        assert_eq!(rt; ending.status, 2);
-        assert_eq!(rt; ending.out.held().len(), 0);
-        assert_eq!(rt; ending.err.held(), text.as_bytes());
+    for (words, text) in &TOLD_WORDS {
+        check_run(&rt, rt.alloc(), words, b"", Told::new(2, "", text))?;
     }
+    Ok(())
+}
+
+/// Runs the first job with reads and writes that fail, the reads by pieces.
+fn run_failing<R: Threads + Wait + Sync>(
+    rt: &R,
+    alloc: Global,
+    piece: u32,
+    reads: &[u64],
+    writes: &[u64],
+) -> Result<Ending, AllocError>
+    requires { 1 ≤ piece }
+{
+    let input = source(alloc, FIRST_JOB.as_bytes(), piece, reads)?;
+    let out = sink(alloc, ROOM, 7, writes)?;
+    let err = sink(alloc, ROOM, 7, &[])?;
+    run_over(rt, alloc, &RUN, input, out, err, &OpenGate)
+}
+
+/// Runs the first job with reads and writes that fail, and compares how that ends.
+fn fails_as<R: Threads + Wait + Sync + Abort>(
+    rt: &R,
+    alloc: Global,
+    piece: u32,
+    reads: &[u64],
+    writes: &[u64],
+    told: Told<'_>,
+) -> Result<(), AllocError>
+    requires { 1 ≤ piece }
+{
+    let ending = run_failing(rt, alloc, piece, reads, writes)?;
+    ending.check(rt, told, &(reads, writes));
     Ok(())
 }
 
 #[test]
 fn a_failed_read_or_write_ends_the_run(rt: HostRuntime) -> Result<(), Fail> {
-    let alloc = rt.alloc();
-    let mut input = MemSource::new(alloc, FIRST_JOB.as_bytes(), 5, &[1])?;
-    let out = MemSink::new(alloc, ROOM, 7, &[])?;
-    let err = MemSink::new(alloc, ROOM, 7, &[])?;
-    let ending = run_over(&rt, alloc, &RUN, &mut input, out, err)?;
-    assert_eq!(rt; ending.status, 3);
-    assert_eq!(rt; ending.out.held().len(), 0);
-    assert_eq!(rt; ending.err.held(), b"mbjobs: read failed\n".as_slice());
+    let told = Told::new(3, "", "mbjobs: read failed\n");
+    fails_as(&rt, rt.alloc(), 5, &[1], &[], told)?;
 
     // A sink that takes 7 bytes a call and fails at its call 2 holds the first 14.
-    let mut input = MemSource::new(alloc, FIRST_JOB.as_bytes(), 64, &[])?;
-    let out = MemSink::new(alloc, ROOM, 7, &[2])?;
-    let err = MemSink::new(alloc, ROOM, 7, &[])?;
-    let ending = run_over(&rt, alloc, &RUN, &mut input, out, err)?;
-    assert_eq!(rt; ending.status, 4);
-    assert_eq!(rt; ending.out.held(), b"0 ok 486920546".as_slice());
-    assert_eq!(rt; ending.err.held(), b"mbjobs: write failed\n".as_slice());
-    Ok(())
+    let told = Told::new(4, "0 ok 486920546", "mbjobs: write failed\n");
+    Ok(fails_as(&rt, rt.alloc(), 64, &[], &[2], told)?)
 }
 
 /// A source that is at its end once, and would then give more.
@@ -262,30 +234,41 @@ impl Source for Reopened {
     }
 }
 
+/// Runs the program over a source, and answers its status and how much it writes.
+fn run_reopened<R: Threads + Wait + Sync>(
+    rt: &R,
+    alloc: Global,
+    input: &mut Reopened,
+) -> Result<(u8, usize), AllocError> {
+    let mut out = sink(alloc, ROOM, 64, &[])?;
+    let mut err = sink(alloc, ROOM, 64, &[])?;
+    let status = run_on(rt, alloc, &RUN, input, &mut out, &mut err, &OpenGate)?;
+    Ok((status, out.held().len()))
+}
+
 #[test]
 fn nothing_is_read_after_the_end(rt: HostRuntime) -> Result<(), Fail> {
-    let alloc = rt.alloc();
     let mut input = Reopened { reads: 0 };
-    let words = words_of(alloc, &RUN)?;
-    let mut out = MemSink::new(alloc, ROOM, 64, &[])?;
-    let mut err = MemSink::new(alloc, ROOM, 64, &[])?;
-    let status = mbjobs(
-        &rt, alloc, &words, &mut input, &mut out, &mut err, &OpenGate,
-    );
-    assert_eq!(rt; status, 0);
-    assert_eq!(rt; input.reads, 1);
-    assert_eq!(rt; out.held().len(), 0);
+    let ended = run_reopened(&rt, rt.alloc(), &mut input)?;
+    assert_eq!(rt; (ended, input.reads), ((0, 0), 1));
     Ok(())
+}
+
+/// Runs the program on a bad line, with a standard error of so much room.
+fn run_with_room<R: Threads + Wait + Sync>(
+    rt: &R,
+    alloc: Global,
+    room: usize,
+) -> Result<Ending, AllocError> {
+    let input = source(alloc, b"null\n", 64, &[])?;
+    let out = sink(alloc, ROOM, 64, &[])?;
+    let err = sink(alloc, room, 64, &[])?;
+    run_over(rt, alloc, &RUN, input, out, err, &OpenGate)
 }
 
 #[test]
 fn a_fault_of_err_changes_no_status(rt: HostRuntime) -> Result<(), Fail> {
-    let alloc = rt.alloc();
-    let mut input = MemSource::new(alloc, b"null\n", 64, &[])?;
-    let out = MemSink::new(alloc, ROOM, 64, &[])?;
-    let err = MemSink::new(alloc, 8, 64, &[])?;
-    let ending = run_over(&rt, alloc, &RUN, &mut input, out, err)?;
-    assert_eq!(rt; ending.status, 5);
-    assert_eq!(rt; ending.err.held(), b"mbjobs: ".as_slice());
+    let ending = run_with_room(&rt, rt.alloc(), 8)?;
+    ending.check(&rt, Told::new(5, "", "mbjobs: "), &RUN);
     Ok(())
 }

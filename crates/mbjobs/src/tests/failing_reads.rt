@@ -1,15 +1,19 @@
 ghost use Rattle.std.specs.Prelude.{◌≤◌};
 
-use super::{FIRST_JOB, FIRST_RESULT, ROOM, RUN, run_over};
-use mbj_io::{MemSink, MemSource};
+use super::runs::{Ending, Told, run_from, source};
+use super::{FIRST_JOB, FIRST_RESULT, RUN};
+use mbj_io::MemSource;
+use mbj_work::OpenGate;
 use std::alloc::{AllocError, Global};
 use std::process::Abort;
 use std::sync::Wait;
 use std::test::Fail;
 use std::thread::Threads;
 
-/// The commands that read, and what each writes for the first job.
-const COMMANDS: [(&[&str], &str); 3] = [
+/// A command that reads, and what it writes for the first job.
+type Command = (&'static [&'static str], &'static str);
+
+const COMMANDS: [Command; 3] = [
     (&RUN, FIRST_RESULT),
     (
         &["mbjobs", "trace"],
@@ -25,55 +29,88 @@ const COMMANDS: [(&[&str], &str); 3] = [
 /// finds their end.
 const READS: [(u32, u32); 3] = [(5, 21), (1, 98), (96, 3)];
 
+/// How a command ends whose read fails, and how it ends where all reads are made.
+fn told_of(text: &str, fails: bool) -> Told<'_> {
+    if fails {
+        Told::new(3, "", "mbjobs: read failed\n")
+    } else {
+        Told::new(0, text, "")
+    }
+}
+
+/// Compares what is left of the input, and how often a read failed. Nothing is read after a failed read.
+fn check_left<R: Abort>(rt: &R, input: &MemSource, piece: u32, number: u64, fails: bool) {
+    let read = (piece as usize).saturating_mul(number as usize);
+    assert_eq!(rt;
+        (input.rest().len(), input.faults()),
+        (FIRST_JOB.len().saturating_sub(read), u64::from(fails)),
+        "read {number} by {piece}"
+    );
+}
+
+/// Runs a command on the first job, with the read of one number failing.
+fn run_failing<R: Threads + Wait + Sync>(
+    rt: &R,
+    alloc: Global,
+    words: &[&str],
+    piece: u32,
+    number: u64,
+) -> Result<Ending, AllocError>
+    requires { 1 ≤ piece }
+{
+    let input = source(alloc, FIRST_JOB.as_bytes(), piece, &[number])?;
+    run_from(rt, alloc, words, input, 64, &OpenGate)
+}
+
 /// Runs a command on the first job, with the read of one number failing, and compares how it ends and what it has read.
 fn compare<R: Threads + Wait + Sync + Abort>(
     rt: &R,
     alloc: Global,
-    words: &[&str],
-    text: &str,
+    command: &Command,
     piece: u32,
     number: u64,
-    is_made: bool,
+    fails: bool,
 ) -> Result<(), AllocError>
     requires { 1 ≤ piece }
 {
-    let mut input = MemSource::new(alloc, FIRST_JOB.as_bytes(), piece, &[number])?;
-    let out = MemSink::new(alloc, ROOM, 64, &[])?;
-    let err = MemSink::new(alloc, ROOM, 64, &[])?;
-    let ending = run_over(rt, alloc, words, &mut input, out, err)?;
-    let (status, out, err) = if is_made {
-        (3, "", "mbjobs: read failed\n")
-    } else {
-        (0, text, "")
-    };
-    assert_eq!(rt; ending.status, status, "read {number} by {piece}");
-    assert_eq!(rt;
-        ending.out.held(),
-        out.as_bytes(),
-        "read {number} by {piece}"
-    );
-    assert_eq!(rt;
-        ending.err.held(),
-        err.as_bytes(),
-        "read {number} by {piece}"
-    );
-    // Nothing is read after a failed read.
-    let read = (piece as usize).saturating_mul(number as usize);
-    assert_eq!(rt; input.rest().len(), FIRST_JOB.len().saturating_sub(read));
-    assert_eq!(rt; input.faults(), u64::from(is_made));
+    let (words, text) = command;
+    let ending = run_failing(rt, alloc, words, piece, number)?;
+    ending.check(rt, told_of(text, fails), &(number, piece));
+    check_left(rt, &ending.input, piece, number, fails);
+    Ok(())
+}
+
+/// Runs a command with each of so many reads failing, and with two that it doesn't come to.
+fn compare_reads<R: Threads + Wait + Sync + Abort>(
+    rt: &R,
+    alloc: Global,
+    command: &Command,
+    piece: u32,
+    reads: u64,
+) -> Result<(), AllocError> {
+    assert!(rt; 1 <= piece);
+    for number in 0..reads.saturating_add(2) {
+        compare(rt, alloc, command, piece, number, number < reads)?;
+    }
+    Ok(())
+}
+
+/// Runs a command with each of its reads failing, by pieces of each length.
+fn compare_command<R: Threads + Wait + Sync + Abort>(
+    rt: &R,
+    alloc: Global,
+    command: &Command,
+) -> Result<(), AllocError> {
+    for (piece, reads) in READS {
+        compare_reads(rt, alloc, command, piece, u64::from(reads))?;
+    }
     Ok(())
 }
 
 #[test]
 fn each_read_that_fails_ends_the_run(rt: HostRuntime) -> Result<(), Fail> {
-    for (words, text) in COMMANDS {
-        for (piece, reads) in READS {
-            assert!(rt; 1 <= piece);
-            let reads = u64::from(reads);
-            for number in 0..reads + 2 {
-                compare(&rt, rt.alloc(), words, text, piece, number, number < reads)?;
-            }
-        }
+    for command in &COMMANDS {
+        compare_command(&rt, rt.alloc(), command)?;
     }
     Ok(())
 }

@@ -1,9 +1,11 @@
-use super::run_words;
+use super::runs::{Told, check_run};
 use std::alloc::{AllocError, Global};
 use std::test::Fail;
 
 /// How many jobs a submitter may have out, and a worker in its hand.
-const FULL: u32 = 256;
+const FULL: usize = 256;
+
+const WORDS: [&str; 6] = ["mbjobs", "replay", "--submitters", "1", "--workers", "1"];
 
 /// HMAC-SHA-512 over no byte, which waits for lanes.
 const WAITING_JOB: &str =
@@ -27,48 +29,59 @@ const STEPS: [(&str, &str); 6] = [
     ("claim 0 0\n", "claim 0 256\nfinish 0 1\n"),
 ];
 
-/// The file of one job more than a submitter may have out.
-fn jobs(alloc: Global) -> Result<String, AllocError> {
-    let mut file = String::from_str(alloc, WAITING_JOB)?;
-    for _ in 0..FULL {
-        file.push_str(DONE_JOB)?;
-    }
-    file.push_str("%\n")?;
-    Ok(file)
+/// A file with a script, and what that prints.
+#[derive(Drop)]
+struct Script {
+    file: String,
+    text: String,
 }
 
-/// Adds commands that are alike to the file, and what they print for each job from 0 to the text.
-fn repeat(
-    alloc: Global,
-    file: &mut String,
-    text: &mut String,
-    command: &str,
-    line: &str,
-) -> Result<(), AllocError> {
-    for number in 0..FULL {
-        file.push_str(command)?;
-        let line = format!(in alloc; "{line}{number}\n")?;
-        text.push_str(&line)?;
+impl Script {
+    /// The file of one job more than a submitter may have out, with no command.
+    fn new(alloc: Global) -> Result<Script, AllocError> {
+        let jobs = DONE_JOB.repeat(alloc, FULL)?;
+        Ok(Script {
+            file: format!(in alloc; "{WAITING_JOB}{jobs}%\n")?,
+            text: String::new(alloc),
+        })
     }
-    Ok(())
+
+    /// Adds a command and the lines that it prints.
+    fn add(&mut self, command: &str, lines: &str) -> Result<(), AllocError> {
+        self.file.push_str(command)?;
+        self.text.push_str(lines)
+    }
+
+    /// Adds commands that are alike, and what they print for each job from 0.
+    fn repeat(&mut self, alloc: Global, command: &str, line: &str) -> Result<(), AllocError> {
+        for number in 0..FULL {
+            let line = format!(in alloc; "{line}{number}\n")?;
+            self.add(command, &line)?;
+        }
+        Ok(())
+    }
+
+    /// Fills the hand of the worker.
+    fn fill(&mut self, alloc: Global) -> Result<(), AllocError> {
+        self.repeat(alloc, "post 0\n", "post 0 ")?;
+        self.add("post 0\n", "post 0 full\n")?;
+        self.repeat(alloc, "claim 0 0\n", "claim 0 ")
+    }
+
+    fn add_steps(&mut self) -> Result<(), AllocError> {
+        for (command, lines) in &STEPS {
+            self.add(command, lines)?;
+        }
+        Ok(())
+    }
 }
 
 #[test]
 fn a_full_hand_claims_nothing_until_it_is_flushed(rt: HostRuntime) -> Result<(), Fail> {
     let alloc = rt.alloc();
-    let mut file = jobs(alloc)?;
-    let mut text = String::new(alloc);
-    repeat(alloc, &mut file, &mut text, "post 0\n", "post 0 ")?;
-    file.push_str("post 0\n")?;
-    text.push_str("post 0 full\n")?;
-    repeat(alloc, &mut file, &mut text, "claim 0 0\n", "claim 0 ")?;
-    for (command, lines) in STEPS {
-        file.push_str(command)?;
-        text.push_str(lines)?;
-    }
-    let words = ["mbjobs", "replay", "--submitters", "1", "--workers", "1"];
-    let ending = run_words(&rt, alloc, &words, file.as_bytes())?;
-    assert_eq!(rt; ending.status, 0);
-    assert_eq!(rt; ending.out.held(), text.as_bytes());
-    Ok(())
+    let mut script = Script::new(alloc)?;
+    script.fill(alloc)?;
+    script.add_steps()?;
+    let told = Told::new(0, &script.text, "");
+    Ok(check_run(&rt, alloc, &WORDS, script.file.as_bytes(), told)?)
 }

@@ -1,5 +1,5 @@
 use super::parties::generated_file;
-use super::{RUN, run_gated, run_words};
+use super::runs::{run_file, run_gated};
 use mbj_work::{Gate, Moment};
 use std::alloc::{AllocError, Global};
 use std::process::Abort;
@@ -76,6 +76,35 @@ impl Gate for Holding {
     }
 }
 
+/// Runs a file with the party held at a moment, and compares the text.
+fn compare_held<R: Threads + Wait + Sync + Abort>(
+    rt: &R,
+    alloc: Global,
+    gate: &Holding,
+    file: &[u8],
+    text: &[u8],
+) -> Result<(), AllocError> {
+    let ending = run_gated(rt, alloc, &WORDS, file, gate)?;
+    ending.check_long(rt, text, &gate.moment);
+    Ok(())
+}
+
+/// Runs a file with the party held at each moment, and compares the text.
+fn compare_moments<R: Threads + Wait + Sync + Abort>(
+    rt: &R,
+    alloc: Global,
+    party: u32,
+    moments: &[Moment],
+    file: &[u8],
+    text: &[u8],
+) -> Result<(), AllocError> {
+    for moment in moments {
+        let gate = Holding::new(party, *moment);
+        compare_held(rt, alloc, &gate, file, text)?;
+    }
+    Ok(())
+}
+
 /// Runs a file with the party held at each moment, and compares the text with that of a run with one party.
 fn compare<R: Threads + Wait + Sync + Abort>(
     rt: &R,
@@ -84,15 +113,9 @@ fn compare<R: Threads + Wait + Sync + Abort>(
     moments: &[Moment],
 ) -> Result<(), AllocError> {
     let file = generated_file(alloc, 7, 600)?;
-    let one = run_words(rt, alloc, &RUN, file.as_bytes())?;
-    assert_eq!(rt; one.status, 0);
-    for moment in moments {
-        let gate = Holding::new(party, *moment);
-        let ending = run_gated(rt, alloc, &WORDS, file.as_bytes(), &gate)?;
-        assert_eq!(rt; ending.status, 0, "{moment:?}");
-        assert!(rt; ending.out.held() == one.out.held(), "{moment:?}");
-    }
-    Ok(())
+    let one = run_file(rt, alloc, file.as_bytes())?;
+    one.check_end(rt, b"\n");
+    compare_moments(rt, alloc, party, moments, file.as_bytes(), one.out.held())
 }
 
 // Each hold may last for all its turns, which take seconds: so these are two tests.

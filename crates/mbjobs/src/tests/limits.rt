@@ -1,4 +1,5 @@
-use super::run_file;
+use super::RUN;
+use super::runs::{Told, check_run};
 use std::alloc::{AllocError, Global};
 use std::test::Fail;
 
@@ -23,43 +24,33 @@ pub(super) fn lines_around(
     Ok(file)
 }
 
+/// How many jobs come before a line and behind it, and how the run ends.
+const CASES: [(usize, &str, usize, u8, &str); 3] = [
+    (65_537, "", 0, 6, "mbjobs: line 65537: over 65536 jobs\n"),
+    (2, "null\n", 65_534, 5, "mbjobs: line 3: field 0\n"),
+    (
+        65_536,
+        "null\n",
+        0,
+        6,
+        "mbjobs: line 65537: over 65536 jobs\n",
+    ),
+];
+
 #[test]
 fn a_file_has_at_most_65536_jobs(rt: HostRuntime) -> Result<(), Fail> {
-    let alloc = rt.alloc();
-    let cases: [(usize, &str, usize, u8, &str); 3] = [
-        (65_537, "", 0, 6, "mbjobs: line 65537: over 65536 jobs\n"),
-        (2, "null\n", 65_534, 5, "mbjobs: line 3: field 0\n"),
-        (
-            65_536,
-            "null\n",
-            0,
-            6,
-            "mbjobs: line 65537: over 65536 jobs\n",
-        ),
-    ];
-    for (before, between, after, status, err) in cases {
-        let file = lines_around(alloc, NULL_JOB, before, between, after)?;
-        let ending = run_file(&rt, rt.alloc(), file.as_bytes())?;
-        assert_eq!(rt; ending.status, status);
-        assert_eq!(rt; ending.out.held().len(), 0);
-        assert_eq!(rt; ending.err.held(), err.as_bytes());
+    for (before, between, after, status, err) in &CASES {
+        let file = lines_around(rt.alloc(), NULL_JOB, *before, between, *after)?;
+        let told = Told::new(*status, "", err);
+        check_run(&rt, rt.alloc(), &RUN, file.as_bytes(), told)?;
     }
     Ok(())
 }
 
 #[test]
 fn an_input_has_at_most_16_mib(rt: HostRuntime) -> Result<(), Fail> {
-    let alloc = rt.alloc();
-    let over = vec![in alloc; b'\n'; 16_777_217]?;
-    let ending = run_file(&rt, rt.alloc(), &over)?;
-    assert_eq!(rt; ending.status, 6);
-    assert_eq!(rt; ending.out.held().len(), 0);
-    assert_eq!(rt;
-        ending.err.held(),
-        b"mbjobs: input over 16777216 bytes\n".as_slice()
-    );
-    let ending = run_file(&rt, rt.alloc(), &over[1..])?;
-    assert_eq!(rt; ending.status, 0);
-    assert_eq!(rt; ending.out.held().len(), 0);
-    Ok(())
+    let over = vec![in rt.alloc(); b'\n'; 16_777_217]?;
+    let told = Told::new(6, "", "mbjobs: input over 16777216 bytes\n");
+    check_run(&rt, rt.alloc(), &RUN, &over, told)?;
+    Ok(check_run(&rt, rt.alloc(), &RUN, &over[1..], Told::new(0, "", ""))?)
 }

@@ -1,8 +1,12 @@
-use super::{mbjobs, words_of};
-use mbj_io::{MemSink, MemSource};
+use super::runs::{Ending, run_over, sink, source};
 use mbj_work::OpenGate;
 use std::alloc::{AllocError, Global};
+use std::process::Abort;
+use std::sync::Wait;
 use std::test::Fail;
+use std::thread::Threads;
+
+const WORDS: [&str; 6] = ["mbjobs", "run", "--submitters", "4", "--workers", "2"];
 
 const JOBS: u32 = 65_536;
 
@@ -29,23 +33,31 @@ fn results(alloc: Global) -> Result<String, AllocError> {
     Ok(text)
 }
 
+/// Runs a file that is as long as the input may be.
+fn run_long<R: Threads + Wait + Sync + Abort>(
+    rt: &R,
+    alloc: Global,
+    file: &[u8],
+) -> Result<Ending, AllocError> {
+    assert_eq!(rt; file.len(), INPUT_BYTES);
+    let input = source(alloc, file, 65_536, &[])?;
+    let out = sink(alloc, INPUT_BYTES, 65_536, &[])?;
+    let err = sink(alloc, 64, 64, &[])?;
+    run_over(rt, alloc, &WORDS, input, out, err, &OpenGate)
+}
+
+fn run_longest<R: Threads + Wait + Sync + Abort>(
+    rt: &R,
+    alloc: Global,
+) -> Result<Ending, AllocError> {
+    let file = longest_file(alloc)?;
+    run_long(rt, alloc, file.as_bytes())
+}
+
 #[test]
 fn the_longest_file_of_the_most_jobs_is_done(rt: HostRuntime) -> Result<(), Fail> {
-    let alloc = rt.alloc();
-    let file = longest_file(alloc)?;
-    assert_eq!(rt; file.len(), INPUT_BYTES);
-    let words = words_of(
-        alloc,
-        &["mbjobs", "run", "--submitters", "4", "--workers", "2"],
-    )?;
-    let mut input = MemSource::new(alloc, file.as_bytes(), 65_536, &[])?;
-    let mut out = MemSink::new(alloc, INPUT_BYTES, 65_536, &[])?;
-    let mut err = MemSink::new(alloc, 64, 64, &[])?;
-    let status = mbjobs(
-        &rt, alloc, &words, &mut input, &mut out, &mut err, &OpenGate,
-    );
-    assert_eq!(rt; status, 0);
-    let text = results(alloc)?;
-    assert!(rt; out.held() == text.as_bytes());
+    let ending = run_longest(&rt, rt.alloc())?;
+    let text = results(rt.alloc())?;
+    ending.check_long(&rt, text.as_bytes(), &WORDS);
     Ok(())
 }

@@ -1,8 +1,11 @@
-use super::run_words;
+use super::runs::{Told, check_long_run, check_run, run_file};
 use mbj_gen::Generator;
 use mbj_types::{Auth, Bytes, Cipher, Dir, Job, Order};
 use std::alloc::{AllocError, Global};
+use std::process::Abort;
+use std::sync::Wait;
 use std::test::Fail;
+use std::thread::Threads;
 
 const SUBMITTERS: [&str; 4] = ["1", "2", "3", "16"];
 
@@ -39,30 +42,68 @@ fn auth_word(auth: Auth) -> &'static str {
     }
 }
 
-/// A job as a line of a job file.
-fn job_line(alloc: Global, job: &Job) -> Result<String, AllocError> {
-    let cipher = cipher_word(job.cipher);
-    let dir = if job.dir == Dir::Enc { "enc" } else { "dec" };
-    let order = if job.order == Order::CipherHash {
-        "ch"
-    } else {
-        "hc"
-    };
-    let key = field(alloc, &job.key)?;
-    let iv = field(alloc, &job.iv)?;
-    let auth = auth_word(job.auth);
-    let auth_key = field(alloc, &job.auth_key)?;
-    let aad = field(alloc, &job.aad)?;
-    let packet = field(alloc, &job.packet)?;
-    let front = format!(in alloc;
-        "{cipher} {dir} {order} {key} {iv} {} {}",
-        job.cipher_off, job.cipher_len
-    )?;
-    let back = format!(in alloc;
-        "{auth} {auth_key} {aad} {} {} {}",
-        job.hash_off, job.hash_len, job.tag_len
-    )?;
-    format!(in alloc; "{front} {back} {packet}\n")
+fn dir_word(dir: Dir) -> &'static str {
+    match dir {
+        Dir::Enc => "enc",
+        Dir::Dec => "dec",
+    }
+}
+
+fn order_word(order: Order) -> &'static str {
+    match order {
+        Order::CipherHash => "ch",
+        Order::HashCipher => "hc",
+    }
+}
+
+/// Adds bytes as a field, and a text behind it.
+fn add_field(
+    line: &mut String,
+    alloc: Global,
+    bytes: &Bytes,
+    behind: &str,
+) -> Result<(), AllocError> {
+    let field = field(alloc, bytes)?;
+    line.push_str(&field)?;
+    line.push_str(behind)
+}
+
+/// Adds the fields of what is ciphered.
+fn add_cipher(line: &mut String, alloc: Global, job: &Job) -> Result<(), AllocError> {
+    let (cipher, dir, order) = (
+        cipher_word(job.cipher),
+        dir_word(job.dir),
+        order_word(job.order),
+    );
+    let words = format!(in alloc; "{cipher} {dir} {order} ")?;
+    line.push_str(&words)?;
+    add_field(line, alloc, &job.key, " ")?;
+    add_field(line, alloc, &job.iv, " ")?;
+    let range = format!(in alloc; "{} {} ", job.cipher_off, job.cipher_len)?;
+    line.push_str(&range)
+}
+
+/// Adds the fields of what is hashed.
+fn add_auth(line: &mut String, alloc: Global, job: &Job) -> Result<(), AllocError> {
+    line.push_str(auth_word(job.auth))?;
+    line.push_str(" ")?;
+    add_field(line, alloc, &job.auth_key, " ")?;
+    add_field(line, alloc, &job.aad, " ")?;
+    let range = format!(in alloc; "{} {} {} ", job.hash_off, job.hash_len, job.tag_len)?;
+    line.push_str(&range)
+}
+
+/// Adds a job as a line of a job file.
+fn add_job(file: &mut String, alloc: Global, job: &Job) -> Result<(), AllocError> {
+    add_cipher(file, alloc, job)?;
+    add_auth(file, alloc, job)?;
+    add_field(file, alloc, &job.packet, "\n")
+}
+
+/// Adds the next job that is generated.
+fn add_next(file: &mut String, alloc: Global, generator: &mut Generator) -> Result<(), AllocError> {
+    let job = generator.job(alloc)?;
+    add_job(file, alloc, &job)
 }
 
 /// A file of generated jobs.
@@ -70,44 +111,57 @@ pub(super) fn generated_file(alloc: Global, seed: u64, count: u32) -> Result<Str
     let mut generator = Generator::new(seed);
     let mut file = String::new(alloc);
     for _ in 0..count {
-        let job = generator.job(alloc)?;
-        let line = job_line(alloc, &job)?;
-        file.push_str(&line)?;
+        add_next(&mut file, alloc, &mut generator)?;
     }
     Ok(file)
+}
+
+/// The words of a run with so many submitters and workers.
+pub(super) fn words_with<'a>(submitters: &'a str, workers: &'a str) -> [&'a str; 6] {
+    [
+        "mbjobs",
+        "run",
+        "--submitters",
+        submitters,
+        "--workers",
+        workers,
+    ]
+}
+
+/// Runs a file with so many submitters and each number of workers, and compares what it writes.
+fn compare_workers<R: Threads + Wait + Sync + Abort>(
+    rt: &R,
+    alloc: Global,
+    submitters: &str,
+    file: &[u8],
+    text: &[u8],
+) -> Result<(), AllocError> {
+    for workers in WORKERS {
+        check_long_run(rt, alloc, &words_with(submitters, workers), file, text)?;
+    }
+    Ok(())
+}
+
+/// Runs a file with each number of submitters and of workers, and compares what it writes.
+fn compare_parties<R: Threads + Wait + Sync + Abort>(
+    rt: &R,
+    alloc: Global,
+    file: &[u8],
+    text: &[u8],
+) -> Result<(), AllocError> {
+    for submitters in SUBMITTERS {
+        compare_workers(rt, alloc, submitters, file, text)?;
+    }
+    Ok(())
 }
 
 // With one and with two submitters a submitter has more jobs than cells.
 #[test]
 fn the_text_does_not_depend_on_submitters_and_workers(rt: HostRuntime) -> Result<(), Fail> {
-    let alloc = rt.alloc();
-    let file = generated_file(alloc, 7, 600)?;
-    let one = run_words(
-        &rt,
-        alloc,
-        &["mbjobs", "run", "--submitters", "1", "--workers", "0"],
-        file.as_bytes(),
-    )?;
-    assert_eq!(rt; one.status, 0);
-    assert!(rt; one.out.held().ends_with(b"\n"));
-    for submitters in SUBMITTERS {
-        for workers in WORKERS {
-            let words = [
-                "mbjobs",
-                "run",
-                "--submitters",
-                submitters,
-                "--workers",
-                workers,
-            ];
-            let ending = run_words(&rt, alloc, &words, file.as_bytes())?;
-            assert_eq!(rt; ending.status, 0);
-            assert!(rt;
-                ending.out.held() == one.out.held(),
-                "{submitters} submitters, {workers} workers"
-            );
-        }
-    }
+    let file = generated_file(rt.alloc(), 7, 600)?;
+    let one = run_file(&rt, rt.alloc(), file.as_bytes())?;
+    one.check_end(&rt, b"\n");
+    compare_parties(&rt, rt.alloc(), file.as_bytes(), one.out.held())?;
     Ok(())
 }
 
@@ -135,33 +189,51 @@ const SUMMARIES: [(&str, &str, &str); 4] = [
     ),
 ];
 
+/// Generates jobs with so many submitters and each number of workers, and compares what they come to.
+fn generate<'a, R: Threads + Wait + Sync + Abort>(
+    rt: &R,
+    alloc: Global,
+    seed: &'a str,
+    jobs: &'a str,
+    submitters: &'a str,
+    summary: &str,
+) -> Result<(), AllocError> {
+    for workers in WORKERS {
+        let words = [
+            "mbjobs",
+            "gen",
+            "--seed",
+            seed,
+            "--jobs",
+            jobs,
+            "--submitters",
+            submitters,
+            "--workers",
+            workers,
+        ];
+        check_run(rt, alloc, &words, b"", Told::new(0, summary, ""))?;
+    }
+    Ok(())
+}
+
+/// Generates jobs with each number of submitters and of workers.
+fn generate_all<R: Threads + Wait + Sync + Abort>(
+    rt: &R,
+    alloc: Global,
+    seed: &str,
+    jobs: &str,
+    summary: &str,
+) -> Result<(), AllocError> {
+    for submitters in SUBMITTERS {
+        generate(rt, alloc, seed, jobs, submitters, summary)?;
+    }
+    Ok(())
+}
+
 #[test]
 fn generated_jobs_come_to_their_summary(rt: HostRuntime) -> Result<(), Fail> {
-    let alloc = rt.alloc();
-    for (seed, jobs, summary) in SUMMARIES {
-        for submitters in SUBMITTERS {
-            for workers in WORKERS {
-                let words = [
-                    "mbjobs",
-                    "gen",
-                    "--seed",
-                    seed,
-                    "--jobs",
-                    jobs,
-                    "--submitters",
-                    submitters,
-                    "--workers",
-                    workers,
-                ];
-                let ending = run_words(&rt, alloc, &words, b"")?;
-                assert_eq!(rt; ending.status, 0);
-                assert_eq!(rt;
-                    ending.out.held(),
-                    summary.as_bytes(),
-                    "{seed} {jobs} {submitters} {workers}"
-                );
-            }
-        }
+    for (seed, jobs, summary) in &SUMMARIES {
+        generate_all(&rt, rt.alloc(), seed, jobs, summary)?;
     }
     Ok(())
 }

@@ -1,7 +1,7 @@
 use super::draws::{Draws, REPLAY};
 use super::parties::generated_file;
-use super::{ROOM, digest_of, run_over, run_words};
-use mbj_io::{MemSink, MemSource};
+use super::runs::{Ending, check_digest, run_from, run_words, source};
+use mbj_work::OpenGate;
 use std::alloc::{AllocError, Global};
 use std::process::Abort;
 use std::sync::Wait;
@@ -101,8 +101,28 @@ fn input_of(alloc: Global, kind: Kind, seed: u64) -> Result<Vec<u8>, AllocError>
     Ok(file)
 }
 
+/// Runs a command on the input of a kind and a seed.
+fn run_random<R: Threads + Wait + Sync>(
+    rt: &R,
+    alloc: Global,
+    words: &[&str],
+    kind: Kind,
+    seed: u64,
+) -> Result<Ending, AllocError> {
+    let input = input_of(alloc, kind, seed)?;
+    run_words(rt, alloc, words, &input)
+}
+
+/// Adds a line of the status, and then what was written.
+fn add_ending(endings: &mut Vec<u8>, alloc: Global, ending: &Ending) -> Result<(), AllocError> {
+    let status = format!(in alloc; "{}\n", ending.status)?;
+    endings.extend_from_slice(status.as_bytes())?;
+    endings.extend_from_slice(ending.out.held())?;
+    endings.extend_from_slice(ending.err.held())
+}
+
 /// How a command ends on inputs of a kind: each time a line of its status, and then what it writes.
-fn endings<R: Threads + Wait + Sync + Abort>(
+fn endings<R: Threads + Wait + Sync>(
     rt: &R,
     alloc: Global,
     words: &[&str],
@@ -110,48 +130,59 @@ fn endings<R: Threads + Wait + Sync + Abort>(
 ) -> Result<Vec<u8>, AllocError> {
     let mut endings = Vec::new(alloc);
     for seed in 0..SEEDS {
-        let input = input_of(alloc, kind, seed)?;
-        let ending = run_words(rt, alloc, words, &input)?;
-        let status = format!(in alloc; "{}\n", ending.status)?;
-        endings.extend_from_slice(status.as_bytes())?;
-        endings.extend_from_slice(ending.out.held())?;
-        endings.extend_from_slice(ending.err.held())?;
+        let ending = run_random(rt, alloc, words, kind, seed)?;
+        add_ending(&mut endings, alloc, &ending)?;
     }
     Ok(endings)
 }
 
+/// Compares the digest of how a command ends on inputs of a kind.
+fn compare<R: Threads + Wait + Sync + Abort>(
+    rt: &R,
+    alloc: Global,
+    words: &[&str],
+    kind: Kind,
+    digest: &str,
+) -> Result<(), AllocError> {
+    let endings = endings(rt, alloc, words, kind)?;
+    check_digest(rt, alloc, &endings, digest, &words)
+}
+
 #[test]
 fn commands_end_on_random_inputs_as_they_are_to(rt: HostRuntime) -> Result<(), Fail> {
-    let alloc = rt.alloc();
-    for (words, kind, digest) in CASES {
-        let endings = endings(&rt, alloc, words, kind)?;
-        assert_eq!(rt; digest_of(alloc, &endings)?.as_str(), digest, "{words:?}");
+    for (words, kind, digest) in &CASES {
+        compare(&rt, rt.alloc(), words, *kind, digest)?;
     }
     Ok(())
 }
 
+const GEN: [&str; 10] = [
+    "mbjobs",
+    "gen",
+    "--seed",
+    "1",
+    "--jobs",
+    "0",
+    "--submitters",
+    "1",
+    "--workers",
+    "1",
+];
+
+/// Sees that no byte of the input was read, and that a summary was written.
+fn check_unread<R: Abort>(rt: &R, ending: &Ending, bytes: &[u8]) {
+    let is_told = ending.out.held().starts_with(b"jobs 0\nok 0\n");
+    assert_eq!(rt;
+        (ending.status, is_told, ending.input.rest()),
+        (0, true, bytes)
+    );
+}
+
 #[test]
 fn gen_reads_no_input(rt: HostRuntime) -> Result<(), Fail> {
-    let alloc = rt.alloc();
-    let words = [
-        "mbjobs",
-        "gen",
-        "--seed",
-        "1",
-        "--jobs",
-        "0",
-        "--submitters",
-        "1",
-        "--workers",
-        "1",
-    ];
-    let bytes = random_bytes(alloc, &mut Draws::new(1))?;
-    let mut input = MemSource::new(alloc, &bytes, 64, &[0])?;
-    let out = MemSink::new(alloc, ROOM, 64, &[])?;
-    let err = MemSink::new(alloc, ROOM, 64, &[])?;
-    let ending = run_over(&rt, alloc, &words, &mut input, out, err)?;
-    assert_eq!(rt; ending.status, 0);
-    assert!(rt; ending.out.held().starts_with(b"jobs 0\nok 0\n"));
-    assert_eq!(rt; input.rest(), bytes.as_slice());
+    let bytes = random_bytes(rt.alloc(), &mut Draws::new(1))?;
+    let input = source(rt.alloc(), &bytes, 64, &[0])?;
+    let ending = run_from(&rt, rt.alloc(), &GEN, input, 64, &OpenGate)?;
+    check_unread(&rt, &ending, &bytes);
     Ok(())
 }

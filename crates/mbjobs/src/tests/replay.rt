@@ -1,4 +1,5 @@
-use super::{FIRST_JOB, run_words};
+use super::FIRST_JOB;
+use super::runs::{Told, check_run, run_words};
 use std::alloc::{AllocError, Global};
 use std::test::Fail;
 
@@ -30,61 +31,51 @@ const STEPS: [(&str, &str); 12] = [
     ("flush 0\n", "finish 0 none\n"),
 ];
 
-/// The file of the jobs and the script, and the text that it prints.
-fn steps_text(alloc: Global) -> Result<(String, String), AllocError> {
-    let mut file = String::new(alloc);
-    let mut text = String::new(alloc);
-    file.push_str(FIRST_JOB)?;
-    file.push_str(SECOND_JOB)?;
-    file.push_str("%\n")?;
-    for (command, lines) in STEPS {
+/// The file of the jobs and the script.
+fn steps_file(alloc: Global) -> Result<String, AllocError> {
+    let mut file = format!(in alloc; "{FIRST_JOB}{SECOND_JOB}%\n")?;
+    for (command, _) in &STEPS {
         file.push_str(command)?;
+    }
+    Ok(file)
+}
+
+/// The text that the script prints.
+fn steps_text(alloc: Global) -> Result<String, AllocError> {
+    let mut text = String::new(alloc);
+    for (_, lines) in &STEPS {
         text.push_str(lines)?;
     }
-    Ok((file, text))
+    Ok(text)
 }
 
 // Each of two workers has one job, which waits for lanes until it is flushed.
 #[test]
 fn a_replay_tells_what_each_command_comes_to(rt: HostRuntime) -> Result<(), Fail> {
-    let (file, text) = steps_text(rt.alloc())?;
-    let ending = run_words(&rt, rt.alloc(), &WORDS, file.as_bytes())?;
-    assert_eq!(rt; ending.status, 0);
-    assert_eq!(rt; ending.out.held(), text.as_bytes());
-    assert_eq!(rt; ending.err.held().len(), 0);
-    Ok(())
+    let file = steps_file(rt.alloc())?;
+    let text = steps_text(rt.alloc())?;
+    let told = Told::new(0, &text, "");
+    Ok(check_run(&rt, rt.alloc(), &WORDS, file.as_bytes(), told)?)
 }
 
-/// The text so many times.
-fn repeated(alloc: Global, text: &str, count: usize) -> Result<String, AllocError> {
-    let mut all = String::new(alloc);
-    for _ in 0..count {
-        all.push_str(text)?;
-    }
-    Ok(all)
+/// The file of 257 jobs and as many posts.
+fn posts(alloc: Global) -> Result<String, AllocError> {
+    let jobs = FIRST_JOB.repeat(alloc, 257)?;
+    let posts = "post 0\n".repeat(alloc, 257)?;
+    format!(in alloc; "{jobs}%\n{posts}")
 }
 
 #[test]
 fn the_257th_post_is_full(rt: HostRuntime) -> Result<(), Fail> {
-    let alloc = rt.alloc();
-    let mut file = repeated(alloc, FIRST_JOB, 257)?;
-    file.push_str("%\n")?;
-    let posts = repeated(alloc, "post 0\n", 257)?;
-    file.push_str(posts.as_str())?;
-    let ending = run_words(&rt, alloc, &WORDS, file.as_bytes())?;
-    assert_eq!(rt; ending.status, 0);
-    assert!(rt; ending.out.held().ends_with(b"post 0 255\npost 0 full\n"));
+    let file = posts(rt.alloc())?;
+    let ending = run_words(&rt, rt.alloc(), &WORDS, file.as_bytes())?;
+    ending.check_end(&rt, b"post 0 255\npost 0 full\n");
     Ok(())
 }
 
 #[test]
 fn a_worker_that_there_is_not_is_a_bad_line(rt: HostRuntime) -> Result<(), Fail> {
-    let alloc = rt.alloc();
-    let mut file = String::from_str(alloc, FIRST_JOB)?;
-    file.push_str("%\nclaim 2 0\n")?;
-    let ending = run_words(&rt, alloc, &WORDS, file.as_bytes())?;
-    assert_eq!(rt; ending.status, 5);
-    assert_eq!(rt; ending.out.held().len(), 0);
-    assert_eq!(rt; ending.err.held(), b"mbjobs: line 3: field 2\n".as_slice());
-    Ok(())
+    let file = format!(in rt.alloc(); "{FIRST_JOB}%\nclaim 2 0\n")?;
+    let told = Told::new(5, "", "mbjobs: line 3: field 2\n");
+    Ok(check_run(&rt, rt.alloc(), &WORDS, file.as_bytes(), told)?)
 }

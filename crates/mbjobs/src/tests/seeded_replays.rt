@@ -1,8 +1,11 @@
 use super::draws::{Draws, REPLAY, SUBMITTERS};
 use super::parties::generated_file;
-use super::{RUN, digest_of, run_words};
+use super::runs::{Ending, run_file, run_words};
+use std::alloc::{AllocError, Global};
 use std::process::Abort;
+use std::sync::Wait;
 use std::test::Fail;
+use std::thread::Threads;
 
 /// How many jobs and how many commands a replay has.
 const JOBS: u32 = 100;
@@ -94,50 +97,95 @@ const REPLAYS: [(u64, u64, &str); 16] = [
     ),
 ];
 
-/// Compares the results that a replay collects, submitter by submitter, with those of a run: submitter s collects those of
-/// the jobs s, s + 3, s + 6 and so on, as far as it comes.
+/// A submitter, and the result that it collects by a line of a replay, if it does.
+fn collected(line: &str) -> Result<Option<(usize, &str)>, Fail> {
+    let Some(told) = line.strip_prefix("collect ") else {
+        return Ok(None);
+    };
+    let (submitter, result) = told.split_once(' ').ok_or("no submitter")?;
+    if result == "none" {
+        return Ok(None);
+    }
+    let submitter = submitter.parse().map_err(|_| "no number")?;
+    Ok(Some((submitter, result)))
+}
+
+/// The result of a number, from 0, of the jobs of a submitter s, which are s, s + 3, s + 6 and so on.
+fn result_of(run: &str, submitter: usize, number: usize) -> Option<&str> {
+    run.lines()
+        .skip(submitter)
+        .step_by(SUBMITTERS as usize)
+        .nth(number)
+}
+
+/// Compares a collected result with that of a run, and counts it.
+fn compare_result<R: Abort>(rt: &R, found: &str, run: &str, submitter: usize, count: &mut usize) {
+    assert_eq!(rt; Some(found), result_of(run, submitter, *count));
+    *count = count.saturating_add(1);
+}
+
+/// Compares the results that a replay collects, submitter by submitter, with those of a run, as far as it comes.
 fn collects_results_in_order<R: Abort>(rt: &R, replay: &str, run: &str) -> Result<(), Fail> {
-    let mut collected = [0usize; SUBMITTERS as usize];
+    let mut counts = [0usize; SUBMITTERS as usize];
     for line in replay.lines() {
-        let Some(told) = line.strip_prefix("collect ") else {
-            continue;
-        };
-        let (submitter, result) = told.split_once(' ').ok_or("no submitter")?;
-        if result == "none" {
-            continue;
+        if let Some((submitter, result)) = collected(line)? {
+            let count = counts.get_mut(submitter).ok_or("no such submitter")?;
+            compare_result(rt, result, run, submitter, count);
         }
-        let submitter: usize = submitter.parse().map_err(|_| "no number")?;
-        let count = collected.get_mut(submitter).ok_or("no such submitter")?;
-        let expected = run
-            .lines()
-            .skip(submitter)
-            .step_by(SUBMITTERS as usize)
-            .nth(*count);
-        assert_eq!(rt; Some(result), expected);
-        *count = count.saturating_add(1);
     }
     Ok(())
 }
 
+/// Compares the digest of what a replay prints, and the results that it collects with those of a run.
+fn compare_endings<R: Abort>(
+    rt: &R,
+    alloc: Global,
+    replay: &Ending,
+    run: &Ending,
+    digest: &str,
+) -> Result<(), Fail> {
+    replay.check_digest(rt, alloc, digest, &REPLAY)?;
+    assert_eq!(rt; run.status, 0);
+    let told = str::from_utf8(replay.out.held()).map_err(|_| "no text")?;
+    let results = str::from_utf8(run.out.held()).map_err(|_| "no text")?;
+    collects_results_in_order(rt, told, results)
+}
+
+/// A file of jobs and a script.
+fn replayed(alloc: Global, jobs: &String, state: u64) -> Result<String, AllocError> {
+    let script = Draws::new(state).script(alloc, COMMANDS)?;
+    format!(in alloc; "{jobs}{script}")
+}
+
+/// Replays jobs by the commands that are drawn from a state.
+fn run_replay<R: Threads + Wait + Sync>(
+    rt: &R,
+    alloc: Global,
+    jobs: &String,
+    state: u64,
+) -> Result<Ending, AllocError> {
+    let file = replayed(alloc, jobs, state)?;
+    run_words(rt, alloc, &REPLAY, file.as_bytes())
+}
+
+/// Runs jobs and replays them, and compares what they come to.
+fn compare<R: Threads + Wait + Sync + Abort>(
+    rt: &R,
+    alloc: Global,
+    jobs: &String,
+    state: u64,
+    digest: &str,
+) -> Result<(), Fail> {
+    let run = run_file(rt, alloc, jobs.as_bytes())?;
+    let replay = run_replay(rt, alloc, jobs, state)?;
+    compare_endings(rt, alloc, &replay, &run, digest)
+}
+
 #[test]
 fn replays_of_drawn_commands_tell_what_they_come_to(rt: HostRuntime) -> Result<(), Fail> {
-    let alloc = rt.alloc();
-    for (seed, state, digest) in REPLAYS {
-        let mut file = generated_file(alloc, seed, JOBS)?;
-        let run = run_words(&rt, alloc, &RUN, file.as_bytes())?;
-        let script = Draws::new(state).script(alloc, COMMANDS)?;
-        file.push_str(&script)?;
-        let replay = run_words(&rt, alloc, &REPLAY, file.as_bytes())?;
-        assert_eq!(rt; run.status, 0);
-        assert_eq!(rt; replay.status, 0);
-        assert_eq!(rt;
-            digest_of(alloc, replay.out.held())?.as_str(),
-            digest,
-            "{seed}"
-        );
-        let told = str::from_utf8(replay.out.held()).map_err(|_| "no text")?;
-        let results = str::from_utf8(run.out.held()).map_err(|_| "no text")?;
-        collects_results_in_order(&rt, told, results)?;
+    for (seed, state, digest) in &REPLAYS {
+        let jobs = generated_file(rt.alloc(), *seed, JOBS)?;
+        compare(&rt, rt.alloc(), &jobs, *state, digest)?;
     }
     Ok(())
 }

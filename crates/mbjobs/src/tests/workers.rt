@@ -1,9 +1,14 @@
-use super::{FIRST_JOB, ROOM, mbjobs, words_of};
-use mbj_io::{MemSink, MemSource};
+use super::FIRST_JOB;
+use super::runs::{run_from, source};
 use mbj_work::{Gate, Moment};
+use std::alloc::{AllocError, Global};
+use std::sync::Wait;
 use std::sync::atomic::Ordering::SeqCst;
 use std::sync::atomic::{AtomicBool, AtomicU32};
 use std::test::Fail;
+use std::thread::Threads;
+
+const WORDS: [&str; 6] = ["mbjobs", "run", "--submitters", "1", "--workers", "2"];
 
 /// How many turns a party waits for another at most; an ask for leave to help is a turn too.
 const MOST_TURNS: u32 = 10_000_000;
@@ -49,25 +54,26 @@ impl Gate for BothAtWork {
     }
 }
 
+/// Runs the first job twice under the gate, and answers the status.
+fn run_both<R: Threads + Wait + Sync>(
+    rt: &R,
+    alloc: Global,
+    gate: &BothAtWork,
+) -> Result<u8, AllocError> {
+    let file = FIRST_JOB.repeat(alloc, 2)?;
+    let input = source(alloc, file.as_bytes(), 4_096, &[])?;
+    let ending = run_from(rt, alloc, &WORDS, input, 64, gate)?;
+    Ok(ending.status)
+}
+
 #[test]
 fn two_workers_are_at_work_at_once(rt: HostRuntime) -> Result<(), Fail> {
-    let alloc = rt.alloc();
-    let words = words_of(
-        alloc,
-        &["mbjobs", "run", "--submitters", "1", "--workers", "2"],
-    )?;
-    let mut file = String::from_str(alloc, FIRST_JOB)?;
-    file.push_str(FIRST_JOB)?;
-    let mut input = MemSource::new(alloc, file.as_bytes(), 4_096, &[])?;
-    let mut out = MemSink::new(alloc, ROOM, 64, &[])?;
-    let mut err = MemSink::new(alloc, ROOM, 64, &[])?;
     let gate = BothAtWork {
         first: AtomicBool::new(false),
         second: AtomicBool::new(false),
         turns: AtomicU32::new(0),
     };
-    let status = mbjobs(&rt, alloc, &words, &mut input, &mut out, &mut err, &gate);
-    assert_eq!(rt; status, 0);
-    assert!(rt; gate.were_seen());
+    let status = run_both(&rt, rt.alloc(), &gate)?;
+    assert_eq!(rt; (status, gate.were_seen()), (0, true));
     Ok(())
 }

@@ -1,7 +1,7 @@
-use super::parties::generated_file;
-use super::{digest_of, run_gated};
+use super::parties::{generated_file, words_with};
+use super::runs::run_gated;
 use mbj_work::{Gate, Moment};
-use std::alloc::Global;
+use std::alloc::{AllocError, Global};
 use std::process::Abort;
 use std::sync::Wait;
 use std::sync::atomic::AtomicU64;
@@ -49,31 +49,44 @@ impl Gate for Yielding {
     }
 }
 
-/// Runs a file from so many seeds of the gate, and compares the digest of the text.
+/// Runs a file from a seed of the gate, and compares the digest of the text.
+fn compare_seed<R: Threads + Wait + Sync + Abort>(
+    rt: &R,
+    alloc: Global,
+    words: &[&str],
+    file: &[u8],
+    seed: u64,
+) -> Result<(), AllocError> {
+    let gate = Yielding {
+        seed: seed << 32,
+        draws: AtomicU64::new(0),
+    };
+    let ending = run_gated(rt, alloc, words, file, &gate)?;
+    ending.check_digest(rt, alloc, DIGEST, &(words, seed))
+}
+
+/// Runs a file from so many seeds of the gate.
 fn compare<R: Threads + Wait + Sync + Abort>(
     rt: &R,
     alloc: Global,
-    file: &String,
-    submitters: &str,
-    workers: &str,
-) -> Result<(), Fail> {
-    let words = [
-        "mbjobs",
-        "run",
-        "--submitters",
-        submitters,
-        "--workers",
-        workers,
-    ];
+    words: &[&str],
+    file: &[u8],
+) -> Result<(), AllocError> {
     for seed in 0..SEEDS {
-        let gate = Yielding {
-            seed: seed << 32,
-            draws: AtomicU64::new(0),
-        };
-        let ending = run_gated(rt, alloc, &words, file.as_bytes(), &gate)?;
-        assert_eq!(rt; ending.status, 0);
-        let digest = digest_of(alloc, ending.out.held())?;
-        assert_eq!(rt; digest.as_str(), DIGEST, "{submitters} {workers} {seed}");
+        compare_seed(rt, alloc, words, file, seed)?;
+    }
+    Ok(())
+}
+
+/// Runs a file with so many submitters and each number of workers.
+fn compare_workers<R: Threads + Wait + Sync + Abort>(
+    rt: &R,
+    alloc: Global,
+    submitters: &str,
+    file: &[u8],
+) -> Result<(), AllocError> {
+    for workers in WORKERS {
+        compare(rt, alloc, &words_with(submitters, workers), file)?;
     }
     Ok(())
 }
@@ -82,9 +95,7 @@ fn compare<R: Threads + Wait + Sync + Abort>(
 fn two_hundred_schedules_give_one_text(rt: HostRuntime) -> Result<(), Fail> {
     let file = generated_file(rt.alloc(), 11, 64)?;
     for submitters in SUBMITTERS {
-        for workers in WORKERS {
-            compare(&rt, rt.alloc(), &file, submitters, workers)?;
-        }
+        compare_workers(&rt, rt.alloc(), submitters, file.as_bytes())?;
     }
     Ok(())
 }
