@@ -1,9 +1,10 @@
-//! Jobs over one front, by submitters and workers in threads, with nothing read or written.
+//! Jobs over one front, by submitters and workers in threads, with nothing read or written, beside as many jobs in threads that
+//! share nothing.
 use crate::ghash::fill;
 use crate::kinds::MOST_BYTES;
 use crate::making::{null_job, with_auth, with_cipher};
 use mbj_types::{Auth, Cipher, Done, Job};
-use mbj_work::{OpenGate, run_shared};
+use mbj_work::{OpenGate, run_private, run_shared};
 use std::alloc::{AllocError, Global};
 use std::io;
 use std::io::Print;
@@ -11,21 +12,55 @@ use std::sync::Wait;
 use std::thread::Threads;
 use std::time::{Clock, Instant};
 
-/// The numbers of submitters and workers that are timed.
-const PARTIES: [(u32, u32); 6] = [(1, 0), (1, 1), (1, 3), (2, 2), (4, 0), (4, 4)];
+/// Who does the jobs.
+#[derive(Clone, Copy)]
+enum Crew {
+    /// So many submitters and workers over one front.
+    Front(u32, u32),
+    /// So many threads that share nothing, each with jobs and a manager of its own.
+    Apart(u32),
+}
+
+impl Crew {
+    const ALL: [Crew; 8] = [
+        Crew::Front(1, 0),
+        Crew::Front(1, 1),
+        Crew::Front(1, 3),
+        Crew::Front(2, 2),
+        Crew::Front(4, 0),
+        Crew::Front(4, 4),
+        Crew::Apart(2),
+        Crew::Apart(4),
+    ];
+
+    /// How many lists the jobs are dealt to.
+    fn lists(self) -> u32 {
+        match self {
+            Crew::Front(submitters, _) => submitters,
+            Crew::Apart(threads) => threads,
+        }
+    }
+
+    fn name(self, alloc: Global) -> Result<String, AllocError> {
+        match self {
+            Crew::Front(submitters, workers) => format!(in alloc; "front {submitters}/{workers}"),
+            Crew::Apart(threads) => format!(in alloc; "apart {threads}"),
+        }
+    }
+}
 
 /// How many jobs there are.
-const JOBS: u32 = 4_000;
+const JOBS: u32 = 16_000;
 
-/// The runs of which the fastest counts.
-const RUNS: u32 = 5;
+/// The turns of which the fastest counts.
+pub const TURNS: u32 = 8;
 
 /// The most parties of each kind.
 const MOST_PARTIES: u32 = 16;
 
 /// What the jobs are.
 #[derive(Clone, Copy)]
-enum Work {
+pub enum Work {
     /// HMAC-SHA-1.
     HmacSha1,
     /// CBC encryption, and then HMAC-SHA-256.
@@ -83,17 +118,27 @@ fn job(alloc: Global, work: Work, number: u32) -> Result<Job, AllocError> {
     }
 }
 
+/// The jobs of the work that are dealt to one of so many submitters.
+pub fn list(
+    alloc: Global,
+    work: Work,
+    submitters: u32,
+    submitter: u32,
+) -> Result<Vec<Job>, AllocError> {
+    let mut list = Vec::new(alloc);
+    for number in 0..JOBS {
+        if number % submitters.max(1) == submitter {
+            list.push(job(alloc, work, number)?)?;
+        }
+    }
+    Ok(list)
+}
+
 /// The jobs of the work, dealt to submitters.
 fn lists(alloc: Global, work: Work, submitters: u32) -> Result<Vec<Vec<Job>>, AllocError> {
     let mut lists = Vec::new(alloc);
-    for s in 0..submitters {
-        let mut list = Vec::new(alloc);
-        for number in 0..JOBS {
-            if number % submitters.max(1) == s {
-                list.push(job(alloc, work, number)?)?;
-            }
-        }
-        lists.push(list)?;
+    for submitter in 0..submitters {
+        lists.push(list(alloc, work, submitters, submitter)?)?;
     }
     Ok(lists)
 }
@@ -107,45 +152,63 @@ fn count(lists: &[Vec<Done>]) -> usize {
     results
 }
 
-/// The time of the fastest run, in microseconds, and how many results there were.
+/// The time that the jobs take a crew, in microseconds, and how many results there are.
+fn micros<R: Threads + Wait + Sync + Clock>(
+    rt: &R,
+    alloc: Global,
+    work: Work,
+    crew: Crew,
+) -> io::Result<(u128, usize)> {
+    let lists = lists(alloc, work, crew.lists())?;
+    if lists.is_empty() || lists.len() > MOST_PARTIES as usize {
+        return Ok((u128::MAX, 0));
+    }
+    let start = Instant::now(rt)?;
+    let done = match crew {
+        Crew::Front(_, workers) => {
+            run_shared(rt, alloc, lists, workers.min(MOST_PARTIES), &OpenGate)?
+        }
+        Crew::Apart(_) => run_private(rt, alloc, lists)?,
+    };
+    Ok((start.elapsed(rt)?.as_micros(), count(&done)))
+}
+
+/// The least time that the jobs take each crew, in microseconds, and how many results there were. The crews take turns, so
+/// that what else the machine does meets them alike.
 fn fastest<R: Threads + Wait + Sync + Clock>(
     rt: &R,
     alloc: Global,
     work: Work,
-    submitters: u32,
-    workers: u32,
-) -> io::Result<(u128, usize)> {
-    let mut best = u128::MAX;
-    let mut results = 0;
-    for _ in 0..RUNS {
-        let lists = lists(alloc, work, submitters)?;
-        if lists.is_empty() || lists.len() > MOST_PARTIES as usize || workers > MOST_PARTIES {
-            return Ok((best, results));
+) -> io::Result<[(u128, usize); 8]> {
+    let mut best = [(u128::MAX, 0); 8];
+    for _ in 0..TURNS {
+        for (crew, best) in Crew::ALL.iter().zip(best.iter_mut()) {
+            let run = micros(rt, alloc, work, *crew)?;
+            if run.0 < best.0 {
+                *best = run;
+            }
         }
-        let start = Instant::now(rt)?;
-        let done = run_shared(rt, alloc, lists, workers, &OpenGate)?;
-        best = start.elapsed(rt)?.as_micros().min(best);
-        results = count(&done);
     }
-    Ok((best, results))
+    Ok(best)
 }
 
-/// Prints how long the jobs of each work take by submitters and workers, and in how many times less time than one submitter
-/// took alone.
+/// How many hundredths of a time another one goes into it.
+pub fn hundredths(time: u128, other: u128) -> u128 {
+    time.saturating_mul(100).checked_div(other).unwrap_or(0)
+}
+
+/// Prints how long the jobs of each work take each crew, and in how many times less time than one submitter took alone.
 pub fn print_times<R: Threads + Wait + Sync + Clock + Print>(
     rt: &R,
     alloc: Global,
 ) -> io::Result<()> {
     for work in Work::ALL {
-        let mut alone = 0;
-        for (submitters, workers) in PARTIES {
-            let (micros, results) = fastest(rt, alloc, work, submitters, workers)?;
-            if workers == 0 && submitters == 1 {
-                alone = micros;
-            }
-            let times = alone.saturating_mul(100).checked_div(micros).unwrap_or(0);
+        let best = fastest(rt, alloc, work)?;
+        for (crew, (micros, results)) in Crew::ALL.iter().zip(best) {
+            let times = hundredths(best[0].0, micros);
             println!(rt;
-                "front, {:<18}{submitters:>2}/{workers:<2} {results} jobs {micros:>8} us {:>3}.{:02}",
+                "{:<10}{:<18}{results} jobs {micros:>8} us {:>3}.{:02}",
+                crew.name(alloc)?.as_str(),
                 work.name(),
                 times / 100,
                 times % 100

@@ -6,6 +6,7 @@
 mod aes;
 mod front;
 mod ghash;
+mod idle;
 mod jobs;
 mod kernel;
 mod kinds;
@@ -32,6 +33,7 @@ fn main(rt: HostRuntime) -> io::Result<()> {
         lists::print_times(&rt, rt.alloc())?;
         jobs::print_times(&rt, rt.alloc())?;
         front::print_times(&rt, rt.alloc())?;
+        idle::print_times(&rt, rt.alloc())?;
     }
     Ok(())
 }

@@ -1,0 +1,179 @@
+//! What a worker that finds no job costs a submitter that is busy.
+ghost use Rattle.std.specs.Prelude.{◌≡◌, IfSome, vec_len};
+ghost use Rattle.std.specs.Thread.{IsSync};
+ghost use Rattle.mbj_core.specs.Parties.{new_party};
+ghost use Rattle.mbj_front.specs.Seats.{view_of, IsIssued, IsOf};
+ghost use Rattle.mbj_work.specs.Parties.{IsPartyOf, Submits};
+
+use crate::front::{TURNS, Work, hundredths, list};
+use mbj_core::CELLS;
+use mbj_front::{Front, Seat};
+use mbj_types::Job;
+use mbj_work::{HAND_ROOM, OpenGate, Party};
+use std::alloc::{AllocError, Global};
+use std::io;
+use std::io::Print;
+use std::sync::Wait;
+use std::sync::atomic::AtomicBool;
+use std::sync::atomic::Ordering::SeqCst;
+use std::thread::{Threads, join};
+use std::time::{Clock, Instant};
+
+/// The seats of a submitter and a worker.
+fn two(front: &Front, mut seats: Vec<Seat>) -> Option<(Seat, Seat)>
+    requires two { vec_len seats ≡ 2 }
+    requires seats { IsIssued front.now seats.items }
+    ensures first { IfSome result (λ t. IsOf front.now t.0 × (view_of t.0 ≡ new_party 0)) }
+    ensures second { IfSome result (λ t. IsOf front.now t.1 × (view_of t.1 ≡ new_party 1)) }
+{
+    let second = seats.pop()?;
+    let first = seats.pop()?;
+    Some((first, second))
+}
+
+/// Posts a job into the cell and claims it at once, so that others hardly ever find one.
+fn post_and_claim(front: &Front, party: &mut Party, job: Job, cell: u32)
+    requires { IsPartyOf front.now party.old × Submits front.now party.old }
+    ensures { IsPartyOf front.now party.new × Submits front.now party.new }
+{
+    match party.post(front, job) {
+        Ok(()) => {
+            if cell < front.cells() && party.hand() < HAND_ROOM {
+                party.claim(front, cell);
+            }
+        }
+        Err(_full) => {}
+    }
+}
+
+/// Collects all results of a submitter, and answers how many there are.
+fn collect_all<R: Wait>(
+    rt: &R,
+    alloc: Global,
+    front: &Front,
+    party: &mut Party,
+) -> Result<usize, AllocError>
+    requires { IsPartyOf front.now party.old × Submits front.now party.old }
+    ensures { IsPartyOf front.now party.new × Submits front.now party.new }
+{
+    let mut results = Vec::with_capacity(alloc, party.out() as usize)?;
+    party.drain(rt, front, &OpenGate, &mut results);
+    Ok(results.len())
+}
+
+/// Posts a job into the cell and claims it, and before that collects all results where no cell is left. Answers how many
+/// these are.
+fn work_one<R: Wait>(
+    rt: &R,
+    alloc: Global,
+    front: &Front,
+    party: &mut Party,
+    job: Job,
+    cell: u32,
+) -> Result<usize, AllocError>
+    requires { IsPartyOf front.now party.old × Submits front.now party.old }
+    ensures { IsPartyOf front.now party.new × Submits front.now party.new }
+{
+    let mut results = 0;
+    if party.out() == CELLS {
+        results = collect_all(rt, alloc, front, party)?;
+    }
+    post_and_claim(front, party, job, cell);
+    Ok(results)
+}
+
+/// Has jobs done by one submitter who claims each job that it posts. Answers how many results there are.
+fn work<R: Wait>(
+    rt: &R,
+    alloc: Global,
+    front: &Front,
+    party: &mut Party,
+    jobs: Vec<Job>,
+) -> Result<usize, AllocError>
+    requires { IsPartyOf front.now party.old × Submits front.now party.old }
+{
+    let mut results = 0usize;
+    let mut cell = 0;
+    for job in jobs {
+        results = results.wrapping_add(work_one(rt, alloc, front, party, job, cell)?);
+        cell = (cell + 1) % CELLS;
+    }
+    Ok(results.wrapping_add(collect_all(rt, alloc, front, party)?))
+}
+
+/// The same beside a worker who serves the front.
+fn work_beside<R: Threads + Wait + Sync>(
+    rt: &R,
+    alloc: Global,
+    front: &Front,
+    submitter: &mut Party,
+    worker: &mut Party,
+    jobs: Vec<Job>,
+) -> Result<usize, AllocError>
+    requires submitter { IsPartyOf front.now submitter.old × Submits front.now submitter.old }
+    requires worker { IsPartyOf front.now worker.old }
+{
+    let stop = AtomicBool::new(false);
+    let flag = &stop;
+    let (_, results) = join(
+        rt,
+        ||
+            requires { IsSync R.row × IsPartyOf front.now worker.now }
+        { worker.serve(rt, front, &OpenGate, flag) },
+        || -> Result<usize, AllocError>
+            requires { IsPartyOf front.now submitter.now × Submits front.now submitter.now }
+        {
+            let results = work(rt, alloc, front, submitter, jobs);
+            flag.store(true, SeqCst);
+            results
+        },
+    );
+    results
+}
+
+/// The time that the jobs take a submitter, in microseconds, and how many results there are.
+fn micros<R: Threads + Wait + Sync + Clock>(
+    rt: &R,
+    alloc: Global,
+    is_beside: bool,
+) -> io::Result<(u128, usize)> {
+    let jobs = list(alloc, Work::HmacSha1, 1, 0)?;
+    let (front, seats) = Front::new(alloc, 1, 1)?;
+    let Some((first, second)) = two(&front, seats) else {
+        return Ok((u128::MAX, 0));
+    };
+    let mut submitter = Party::new(alloc, first)?;
+    let mut worker = Party::new(alloc, second)?;
+    let start = Instant::now(rt)?;
+    let results = if is_beside {
+        work_beside(rt, alloc, &front, &mut submitter, &mut worker, jobs)?
+    } else {
+        work(rt, alloc, &front, &mut submitter, jobs)?
+    };
+    Ok((start.elapsed(rt)?.as_micros(), results))
+}
+
+/// Prints how long a submitter takes who works its own jobs, alone and beside a worker who looks at the same cells and finds
+/// hardly any job, and in how many times as much time.
+pub fn print_times<R: Threads + Wait + Sync + Clock + Print>(
+    rt: &R,
+    alloc: Global,
+) -> io::Result<()> {
+    let mut alone = u128::MAX;
+    let mut beside = u128::MAX;
+    let mut results = 0;
+    for _ in 0..TURNS {
+        let (time, _) = micros(rt, alloc, false)?;
+        alone = alone.min(time);
+        let (time, count) = micros(rt, alloc, true)?;
+        beside = beside.min(time);
+        results = count;
+    }
+    let times = hundredths(beside, alone);
+    println!(rt;
+        "front, a busy submitter {results} jobs {alone} us, beside an idle worker {beside} us {}.{:02}",
+        times / 100,
+        times % 100
+    )?;
+    Ok(())
+}
