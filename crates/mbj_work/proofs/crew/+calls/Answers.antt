@@ -1,5 +1,5 @@
 -- The first of the submitters has its jobs, and so have the others, of whom there is one less.
-use Rattle.std.proofs.Common.{rules, arith, ◌+◌, ◌<◌, ℕ, suc, length, slice_index_or}
+use Rattle.std.proofs.Common.{rules, arith, ◌<◌, ℕ, suc, length, slice_index_or}
 use Rattle.mbj_work.specs.Inside.Runs.{HasJobs}
 use Rattle.mbj_work.specs.declared.submitter.Submitter.{Submitter}
 use Rattle.mbj_work.proofs.crew.+calls.Goals as goal

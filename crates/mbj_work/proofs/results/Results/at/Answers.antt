@@ -1,7 +1,5 @@
-use Rattle.std.proofs.Common.{◌≡◌, ◌/◌, ◌%◌, ◌<◌, List, Vec, Global, length, map, subst, sym, ◌∙◌, arith}
+use Rattle.std.proofs.Common.{length, ◌∙◌, arith}
 use Rattle.std.proofs.lemmas.Nat.{mod_below}
-use Rattle.mbj_types.specs.declared.done.Done.{Done}
-use Rattle.mbj_work.specs.Dealing.{AreDealt}
 use Rattle.mbj_work.proofs.Deals.{some_list, place_below, item_is}
 use Rattle.mbj_work.proofs.results.Results.at.Goals as goal
 
