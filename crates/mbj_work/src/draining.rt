@@ -90,19 +90,34 @@ impl Party {
 
     /// Claims some of its own jobs, or settles a cell in the hand where none of them is ready. Answers whether there was one.
     /// All results that are finished then are handed back.
+    ///
+    /// Where another party has the earliest job, that party goes on with those that come next, and this one takes the last.
     fn help<G: Gate>(&mut self, front: &Front, gate: &G) -> bool
         requires front { IsPartyOf front.now self.old }
         requires submitter { Submits front.now self.old }
         ensures front { IsPartyOf front.now self.new }
         ensures due { KeepsDue (part_of self.old) (part_of self.new) }
     {
-        let helped = self.claim_own(front, gate) || self.settle_at(front, gate);
+        let from_first = self.has_first(front);
+        let helped = self.claim_own(front, gate, from_first) || self.settle_at(front, gate);
         self.give_all_back(front, gate);
         helped
     }
 
-    /// Claims the first of its own jobs that are ready, `CLAIMS` at most. Answers whether it claimed any.
-    fn claim_own<G: Gate>(&mut self, front: &Front, gate: &G) -> bool
+    /// Whether nobody else works on the earliest job that is out: it is ready, or first in this hand.
+    fn has_first(&mut self, front: &Front) -> bool
+        requires front { IsPartyOf front.now self.old }
+        requires submitter { Submits front.now self.old }
+        ensures front { IsPartyOf front.now self.new }
+        ensures due { KeepsDue (part_of self.old) (part_of self.new) }
+    {
+        let first = self.seat.first_cell();
+        self.cells.front().copied() == Some(first) || front.scan(&mut self.seat, first) == READY
+    }
+
+    /// Claims some of its own jobs that are ready, `CLAIMS` at most, from the first one that is out on or from the last one
+    /// back. Answers whether it claimed any.
+    fn claim_own<G: Gate>(&mut self, front: &Front, gate: &G, from_first: bool) -> bool
         requires front { IsPartyOf front.now self.old }
         requires submitter { Submits front.now self.old }
         ensures front { IsPartyOf front.now self.new }
@@ -110,11 +125,13 @@ impl Party {
     {
         let party = self.seat.party();
         let first = self.seat.first_cell();
+        let out = self.seat.out();
         let mut claimed = 0;
-        for k in 0..self.seat.out() {
+        for nth in 0..out {
             if claimed >= CLAIMS {
                 break;
             }
+            let k = if from_first { nth } else { out - 1 - nth };
             if self.claim_ready(front, cell_at(party, first + k), gate) {
                 claimed += 1;
             }
