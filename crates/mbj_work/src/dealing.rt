@@ -47,8 +47,8 @@ fn deal(alloc: Global, jobs: Vec<Job>, submitters: u32) -> Result<Vec<Vec<Job>>,
     Ok(lists)
 }
 
-/// Does jobs by one front: they are dealt to submitters by turns, and so many workers serve beside those. Submitters and
-/// workers are in threads of their own, where these can be started. Answers the results in the order of the jobs.
+/// Does jobs by one front: they are dealt to submitters by turns, and so many workers serve beside those. All parties but
+/// one submitter are in threads of their own, where these can be started. Answers the results in the order of the jobs.
 ///
 /// There are 1 to `MAX_SUBMITTERS` submitters, and at most `MAX_WORKERS` workers.
 ///

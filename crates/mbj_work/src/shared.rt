@@ -24,9 +24,9 @@ fn results_of(submitters: Vec<Submitter>, mut given: Vec<Vec<Done>>) -> Vec<Vec<
     given
 }
 
-/// Does lists of jobs by one front: each list is that of a submitter, in a thread of its own where one can be started, and
-/// so many workers serve beside them in threads of their own. Answers the results of each list, in order. All memory is
-/// taken before the first job is posted.
+/// Does lists of jobs by one front: each list is that of a submitter, and so many workers serve beside them. The last
+/// submitter works in this thread, and each other party in a thread of its own where one can be started. Answers the results
+/// of each list, in order. All memory is taken before the first job is posted.
 ///
 /// There are 1 to `MAX_SUBMITTERS` lists, and at most `MAX_WORKERS` workers. A worker whose thread can't be started is left
 /// out.
