@@ -55,7 +55,7 @@ module _ (h : Chaining) (std : IsStandard h) (key packet : List ℕ) (off len : 
   behind_back at next x l e e' is = omega (arith, e, e', ap length is, length-pad opad l)
 
   -- all of it fits
-  pub ends_fit : b + b * t + b + b ≤ 640
+  pub ends_fit : b + b * t + b + b ≤ 5 * b
   ends_fit = omega (arith, (size_range b std.size).1, times_le b std.size t 2 (tail_range b std.size len).1)
 
   pub ends_whole : b + b * t + b + b ≡ b * (t + 3)

@@ -42,7 +42,7 @@ module _ (h : Chaining) (std : IsStandard h) (packet : List ℕ) (a : Auth) (end
     pub back_is : length back ≡ b
     pub range : off + len ≤ length packet
     pub small : len < 2 ^ 32
-    pub whole : length ends ≡ 640
+    pub whole : length ends ≡ 5 * b
     pub ends_are : take (b * (t + 3)) ends ≡ written
 
   module _ (f : Facts) where

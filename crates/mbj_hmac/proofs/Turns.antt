@@ -29,7 +29,7 @@ module _ (h : Chaining) (std : IsStandard h) (packet chain inner : List ℕ) (a 
   abbrev pub last : List ℕ
   last = h.digest a chain ++ h.padding (b + length (h.digest a chain))
 
-  at_fits : at + b ≤ 640
+  at_fits : at + b ≤ 5 * b
   at_fits = let r = size_range b std.size in omega (arith, r.0, r.1, times_le b std.size t 2 (tail_range b std.size len).1)
 
   length-at : IsSound h ends e → length (take at ends) ≡ at
@@ -61,7 +61,7 @@ module _ (h : Chaining) (std : IsStandard h) (packet chain inner : List ℕ) (a 
       ∙ ap (take (b * (t + 1))) (s.3 ∙ ap (λ x. tail ++ x) (append_assoc e.back (h.digest a inner) (h.padding (length (e.back ++ h.digest a inner)))) ∙ sym (append_assoc tail e.back out))
       ∙ take_at (tail ++ e.back) out (b * (t + 1)) l
 
-  pub turned_sound : (start : List ℕ) → IsSound h ends e → take (at + b) after ≡ take at ends ++ last → length after ≡ 640
+  pub turned_sound : (start : List ℕ) → IsSound h ends e → take (at + b) after ≡ take at ends ++ last → length after ≡ 5 * b
       → IsSound h after (seen h packet rest start chain a after off len)
   turned_sound start s w l =
       let d : List ℕ = h.digest a chain in

@@ -9,9 +9,6 @@ use crate::lane_hash::LaneHash;
 use crate::plain::{IPAD, MAX_BLOCK_BYTES, OPAD, padded};
 use mbj_types::Auth;
 
-/// The most bytes that the ends take: five blocks.
-pub(crate) const ENDS_BYTES: usize = 5 * MAX_BLOCK_BYTES;
-
 /// The bytes of the length that ends the padding, as far as lengths of messages go.
 const LENGTH_BYTES: usize = 8;
 
@@ -73,45 +70,41 @@ fn padding_start(zeros: usize) -> &'static [u8]
 }
 
 /// Writes bytes, and answers the place behind them. What stands behind is not looked at.
-fn put(ends: &mut [u8; ENDS_BYTES], at: usize, bytes: &[u8]) -> usize
-    requires { at + length bytes.now ≤ ENDS_BYTES }
+pub(crate) fn put(ends: &mut [u8], at: usize, bytes: &[u8]) -> usize
+    requires { at + length bytes.now ≤ length ends.old }
     ensures next { result ≡ at + length bytes.now }
     ensures written { take (at + length bytes.now) ends.new ≡ take at ends.old ++ bytes.now }
-    ensures len { length ends.new ≡ ENDS_BYTES }
+    ensures len { length ends.new ≡ length ends.old }
 {
     ends[at..at + bytes.len()].copy_from_slice(bytes);
     at + bytes.len()
 }
 
 /// Writes the padding behind a block and a message of `len` bytes.
-fn put_padding<H: LaneHash>(ends: &mut [u8; ENDS_BYTES], at: usize, len: usize) -> usize
+fn put_padding<H: LaneHash>(ends: &mut H::Ends, at: usize, len: usize) -> usize
     requires small { len < 2 ^ 32 }
-    requires room { at + length (H.chaining.padding (H.chaining.block_bytes + len)) ≤ ENDS_BYTES }
+    requires room { at + length (H.chaining.padding (H.chaining.block_bytes + len)) ≤ 5 * H.chaining.block_bytes }
     ensures next { result ≡ at + length (H.chaining.padding (H.chaining.block_bytes + len)) }
-    ensures written { take (at + length (H.chaining.padding (H.chaining.block_bytes + len))) ends.new
-        ≡ take at ends.old ++ H.chaining.padding (H.chaining.block_bytes + len) }
-    ensures len { length ends.new ≡ ENDS_BYTES }
+    ensures written { take (at + length (H.chaining.padding (H.chaining.block_bytes + len))) (H.ends_bytes ends.new)
+        ≡ take at (H.ends_bytes ends.old) ++ H.chaining.padding (H.chaining.block_bytes + len) }
+    ensures len { length (H.ends_bytes ends.new) ≡ 5 * H.chaining.block_bytes }
 {
     let bits = (8 * (H::block_bytes() + len) as u64).to_be_bytes();
-    let at = put(ends, at, padding_start(fill::<H>(len)));
-    put(ends, at, &bits)
+    let at = H::put(ends, at, padding_start(fill::<H>(len)));
+    H::put(ends, at, &bits)
 }
 
 /// Writes the block that holds the digest of a hash value, with the padding behind the outer pad and the digest.
-pub(crate) fn put_digest<H: LaneHash>(
-    ends: &mut [u8; ENDS_BYTES],
-    at: usize,
-    auth: Auth,
-    chain: &H::Chain,
-)
-    requires { at + H.chaining.block_bytes ≤ ENDS_BYTES }
-    ensures written { take (at + H.chaining.block_bytes) ends.new ≡ take at ends.old ++ (H.chaining.digest auth (H.words chain.now)
+pub(crate) fn put_digest<H: LaneHash>(ends: &mut H::Ends, at: usize, auth: Auth, chain: &H::Chain)
+    requires { at + H.chaining.block_bytes ≤ 5 * H.chaining.block_bytes }
+    ensures written { take (at + H.chaining.block_bytes) (H.ends_bytes ends.new) ≡ take at (H.ends_bytes ends.old)
+        ++ (H.chaining.digest auth (H.words chain.now)
         ++ H.chaining.padding (H.chaining.block_bytes + length (H.chaining.digest auth (H.words chain.now)))) }
-    ensures len { length ends.new ≡ ENDS_BYTES }
+    ensures len { length (H.ends_bytes ends.new) ≡ 5 * H.chaining.block_bytes }
 {
     let digest = H::digest(auth, chain);
     let bytes = digest.bytes();
-    let at = put(ends, at, bytes);
+    let at = H::put(ends, at, bytes);
     put_padding::<H>(ends, at, bytes.len());
 }
 
@@ -122,25 +115,25 @@ pub(crate) fn first_ends<H: LaneHash>(
     packet: &[u8],
     off: usize,
     len: usize,
-) -> [u8; ENDS_BYTES]
+) -> H::Ends
     requires small { len < 2 ^ 32 }
     requires range { off + len ≤ length packet.now }
-    ensures value { take (H.chaining.block_bytes * (tail_blocks H.chaining.block_bytes len + 3)) result
+    ensures value { take (H.chaining.block_bytes * (tail_blocks H.chaining.block_bytes len + 3)) (H.ends_bytes result)
         ≡ first_ends H.chaining auth (take H.chaining.block_bytes (padded_key ipad key.now)) (take H.chaining.block_bytes (padded_key opad key.now))
         (replicate H.chaining.words 0) packet.now off len }
-    ensures length { length result ≡ ENDS_BYTES }
+    ensures length { length (H.ends_bytes result) ≡ 5 * H.chaining.block_bytes }
     ensures pads { length key.now ≡ MAX_BLOCK_BYTES }
 {
     let block = H::block_bytes();
-    let mut ends = [0; ENDS_BYTES];
-    let at = put(&mut ends, 0, &padded(key, IPAD)[..block]);
-    let at = put(
+    let mut ends = H::blank_ends();
+    let at = H::put(&mut ends, 0, &padded(key, IPAD)[..block]);
+    let at = H::put(
         &mut ends,
         at,
         &packet[off + whole_bytes::<H>(len)..off + len],
     );
     let at = put_padding::<H>(&mut ends, at, len);
-    let at = put(&mut ends, at, &padded(key, OPAD)[..block]);
+    let at = H::put(&mut ends, at, &padded(key, OPAD)[..block]);
     put_digest::<H>(&mut ends, at, auth, &H::zeros());
     ends
 }

@@ -5,7 +5,7 @@ ghost use Rattle.mbj_types.specs.Rounds.{hmac_rounds};
 ghost use Rattle.mbj_lane.specs.Rounds.{end_of};
 ghost use Rattle.mbj_hmac.specs.Rounds.{Going, block_before, rest_of, round, started, turned};
 
-use crate::ends::{ENDS_BYTES, first_ends, put_digest, rounds, tail_blocks};
+use crate::ends::{first_ends, put_digest, rounds, tail_blocks};
 use crate::lane_hash::LaneHash;
 use crate::plain::{MAX_BLOCK_BYTES, pad_key};
 use mbj_types::{Auth, Tag};
@@ -26,7 +26,7 @@ pub struct HmacEntry<H: LaneHash> {
     /// The hash value of the inner hash, once that is done; zeros before.
     pub inner: H::Chain,
     auth: Auth,
-    ends: [u8; ENDS_BYTES],
+    ends: H::Ends,
     off: usize,
     len: usize,
 }
@@ -37,10 +37,10 @@ impl<H: LaneHash> Model for HmacEntry<H> {
 
     ghost Value = { Going };
 
-    ghost view = { λ e. seen H.chaining e.packet.items e.rest (H.words e.chain) (H.words e.inner) e.auth e.ends e.off e.len };
+    ghost view = { λ e. seen H.chaining e.packet.items e.rest (H.words e.chain) (H.words e.inner) e.auth (H.ends_bytes e.ends) e.off e.len };
 
-    ghost invariant = { λ e. IsSound H.chaining e.ends
-        (seen H.chaining e.packet.items e.rest (H.words e.chain) (H.words e.inner) e.auth e.ends e.off e.len) };
+    ghost invariant = { λ e. IsSound H.chaining (H.ends_bytes e.ends)
+        (seen H.chaining e.packet.items e.rest (H.words e.chain) (H.words e.inner) e.auth (H.ends_bytes e.ends) e.off e.len) };
 }
 
 impl<H: LaneHash> HmacEntry<H> {
@@ -114,12 +114,12 @@ impl<H: LaneHash> HmacEntry<H> {
         let behind = tail_blocks::<H>(self.len) + 2;
         if rest <= behind {
             let at = block + block * (behind - rest);
-            &self.ends[at..at + block]
+            &H::ends(&self.ends)[at..at + block]
         } else if rest <= behind + whole {
             let at = self.off + block * (behind + whole - rest);
             &self.packet[at..at + block]
         } else {
-            &self.ends[..block]
+            &H::ends(&self.ends)[..block]
         }
     }
 

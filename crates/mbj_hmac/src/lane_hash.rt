@@ -1,4 +1,4 @@
-ghost use Rattle.std.specs.Prelude.{◌≡◌, ℕ, ◌<◌, ◌≤◌, Bool, List, [], ◌∷◌, length, replicate, slice_index_or, IsTrue, Some};
+ghost use Rattle.std.specs.Prelude.{◌≡◌, ℕ, ◌+◌, ◌*◌, ◌<◌, ◌≤◌, Bool, List, [], ◌∷◌, ◌++◌, length, take, replicate, slice_index_or, IsTrue, Some};
 ghost use Rattle.mbj_types.specs.Auths.{IsHmac, hash_of};
 ghost use Rattle.mbj_types.specs.Hmac.{Hash};
 ghost use Rattle.mbj_types.specs.declared.job.Auth.{Auth};
@@ -14,6 +14,9 @@ pub trait LaneHash {
 
     /// The hash values of all lanes, as vectors.
     type States: Drop;
+
+    /// Five blocks, which an entry holds beside its packet.
+    type Ends: Drop;
 
     /// How many hash values are compressed at once.
     const LANES: u32;
@@ -32,6 +35,9 @@ pub trait LaneHash {
     /// The words of the hash value in a lane.
     ghost lane: { Self.States → ℕ → List ℕ };
 
+    /// The bytes of an entry's blocks.
+    ghost ends_bytes: { Self.Ends → List ℕ };
+
     /// The length of a block, in bytes.
     fn block_bytes() -> usize
         ensures { result ≡ chaining.block_bytes };
@@ -43,6 +49,21 @@ pub trait LaneHash {
     /// A hash value of zeros.
     fn zeros() -> Self::Chain
         ensures { words result ≡ replicate chaining.words 0 };
+
+    /// Five blocks, whose bytes are not looked at.
+    fn blank_ends() -> Self::Ends
+        ensures { length (ends_bytes result) ≡ 5 * chaining.block_bytes };
+
+    /// Lends the bytes of an entry's blocks.
+    fn ends(ends: &Self::Ends) -> &[u8]
+        ensures { result.now ≡ ends_bytes ends.now };
+
+    /// Writes bytes, and answers the place behind them. What stands behind is not looked at.
+    fn put(ends: &mut Self::Ends, at: usize, bytes: &[u8]) -> usize
+        requires { at + length bytes.now ≤ 5 * chaining.block_bytes }
+        ensures next { result ≡ at + length bytes.now }
+        ensures written { take (at + length bytes.now) (ends_bytes ends.new) ≡ take at (ends_bytes ends.old) ++ bytes.now }
+        ensures len { length (ends_bytes ends.new) ≡ 5 * chaining.block_bytes };
 
     /// The digest that a hash value gives.
     fn digest(auth: Auth, chain: &Self::Chain) -> Tag

@@ -3,6 +3,7 @@ ghost use Rattle.sha1.specs.Sha1.{compress, digest_bytes};
 ghost use Rattle.mbj_types.specs.Lanes.{lane_at, lane_of};
 ghost use Rattle.mbj_hmac.specs.Chainings.{is_sha1, sha1_chaining};
 
+use crate::ends::put;
 use crate::lane_hash::LaneHash;
 use crate::load32::{block_words, lane_word};
 use mbj_sha_lanes::load32::state_lanes;
@@ -12,6 +13,9 @@ use std::simd::u32x8;
 
 /// SHA-1 in eight lanes.
 pub struct Sha1Lanes;
+
+/// The bytes of five blocks.
+const ENDS_BYTES: usize = 5 * 64;
 
 /// The initial hash value (FIPS 180-4, 5.3.1).
 const INITIAL: [u32; 5] = [
@@ -41,6 +45,8 @@ impl LaneHash for Sha1Lanes {
 
     type States = [u32x8; 5];
 
+    type Ends = [u8; ENDS_BYTES];
+
     const LANES: u32 = 8;
 
     ghost LANES = { 8 };
@@ -53,6 +59,8 @@ impl LaneHash for Sha1Lanes {
 
     ghost lane = { λ states i. lane_of (lane_at 32) states i };
 
+    ghost ends_bytes = { λ e. e };
+
     fn block_bytes() -> usize {
         64
     }
@@ -63,6 +71,19 @@ impl LaneHash for Sha1Lanes {
 
     fn zeros() -> [u32; 5] {
         [0; 5]
+    }
+
+    fn blank_ends() -> [u8; ENDS_BYTES] {
+        [0; ENDS_BYTES]
+    }
+
+    #[inline(always)]
+    fn ends(ends: &[u8; ENDS_BYTES]) -> &[u8] {
+        ends
+    }
+
+    fn put(ends: &mut [u8; ENDS_BYTES], at: usize, bytes: &[u8]) -> usize {
+        put(ends, at, bytes)
     }
 
     fn digest(_auth: Auth, chain: &[u32; 5]) -> Tag {

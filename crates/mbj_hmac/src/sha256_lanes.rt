@@ -3,6 +3,7 @@ ghost use Rattle.sha2.specs.Sha256.{compress, digest_bytes};
 ghost use Rattle.mbj_types.specs.Lanes.{lane_at, lane_of};
 ghost use Rattle.mbj_hmac.specs.Chainings.{is_sha256, sha256_chaining};
 
+use crate::ends::put;
 use crate::lane_hash::LaneHash;
 use crate::load32::{block_words, lane_word};
 use mbj_sha_lanes::load32::state_lanes;
@@ -12,6 +13,9 @@ use std::simd::u32x8;
 
 /// SHA-224 and SHA-256 in eight lanes.
 pub struct Sha256Lanes;
+
+/// The bytes of five blocks.
+const ENDS_BYTES: usize = 5 * 64;
 
 /// The initial hash value of SHA-224 (FIPS 180-4, 5.3.2).
 const INITIAL_224: [u32; 8] = [
@@ -61,6 +65,8 @@ impl LaneHash for Sha256Lanes {
 
     type States = [u32x8; 8];
 
+    type Ends = [u8; ENDS_BYTES];
+
     const LANES: u32 = 8;
 
     ghost LANES = { 8 };
@@ -72,6 +78,8 @@ impl LaneHash for Sha256Lanes {
     ghost words = { λ c. c };
 
     ghost lane = { λ states i. lane_of (lane_at 32) states i };
+
+    ghost ends_bytes = { λ e. e };
 
     fn block_bytes() -> usize {
         64
@@ -86,6 +94,19 @@ impl LaneHash for Sha256Lanes {
 
     fn zeros() -> [u32; 8] {
         [0; 8]
+    }
+
+    fn blank_ends() -> [u8; ENDS_BYTES] {
+        [0; ENDS_BYTES]
+    }
+
+    #[inline(always)]
+    fn ends(ends: &[u8; ENDS_BYTES]) -> &[u8] {
+        ends
+    }
+
+    fn put(ends: &mut [u8; ENDS_BYTES], at: usize, bytes: &[u8]) -> usize {
+        put(ends, at, bytes)
     }
 
     fn digest(auth: Auth, chain: &[u32; 8]) -> Tag {

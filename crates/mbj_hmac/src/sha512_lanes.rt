@@ -4,6 +4,7 @@ ghost use Rattle.sha2.specs.Sha512.{compress, digest_bytes};
 ghost use Rattle.mbj_types.specs.Lanes.{lane_at, lane_of};
 ghost use Rattle.mbj_hmac.specs.Chainings.{is_sha512, sha512_chaining};
 
+use crate::ends::put;
 use crate::lane_hash::LaneHash;
 use crate::load64::{block_words, lane_word};
 use mbj_sha_lanes::load64::state_lanes;
@@ -13,6 +14,9 @@ use std::simd::u64x4;
 
 /// SHA-384 and SHA-512 in four lanes.
 pub struct Sha512Lanes;
+
+/// The bytes of five blocks.
+const ENDS_BYTES: usize = 5 * 128;
 
 /// The initial hash value of SHA-384 (FIPS 180-4, 5.3.4).
 const INITIAL_384: [u64; 8] = [
@@ -64,6 +68,8 @@ impl LaneHash for Sha512Lanes {
 
     type States = [u64x4; 8];
 
+    type Ends = [u8; ENDS_BYTES];
+
     const LANES: u32 = 4;
 
     ghost LANES = { 4 };
@@ -75,6 +81,8 @@ impl LaneHash for Sha512Lanes {
     ghost words = { λ c. c };
 
     ghost lane = { λ states i. lane_of (lane_at 64) states i };
+
+    ghost ends_bytes = { λ e. e };
 
     fn block_bytes() -> usize {
         128
@@ -89,6 +97,19 @@ impl LaneHash for Sha512Lanes {
 
     fn zeros() -> [u64; 8] {
         [0; 8]
+    }
+
+    fn blank_ends() -> [u8; ENDS_BYTES] {
+        [0; ENDS_BYTES]
+    }
+
+    #[inline(always)]
+    fn ends(ends: &[u8; ENDS_BYTES]) -> &[u8] {
+        ends
+    }
+
+    fn put(ends: &mut [u8; ENDS_BYTES], at: usize, bytes: &[u8]) -> usize {
+        put(ends, at, bytes)
     }
 
     fn digest(auth: Auth, chain: &[u64; 8]) -> Tag {

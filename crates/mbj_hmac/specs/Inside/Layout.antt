@@ -59,4 +59,4 @@ module _ (h : Chaining) where
 
   abbrev pub IsSound : List ℕ → Going → Type 0
   IsSound ends e = (e.off + e.len ≤ length e.packet) × (e.rest ≤ hmac_rounds h.block_bytes e.len) × (e.len < 2 ^ 32)
-      × IsLaid ends e × (length ends ≡ 640)
+      × IsLaid ends e × (length ends ≡ 5 * h.block_bytes)

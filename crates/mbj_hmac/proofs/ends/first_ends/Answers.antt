@@ -57,6 +57,7 @@ put_digest-requires g c =
 pub returns-clause-value : goal.returns-clause-value
 returns-clause-value g c =
     let h = g.H.LaneHash.chaining in
+    let bytes = g.H.LaneHash.ends_bytes in
     let std = g.met.H.LaneHash.standard in
     let key = c.args.key.now in
     let packet = c.args.packet.now in
@@ -71,12 +72,12 @@ returns-clause-value g c =
     let at4 = behind_back h std key packet off len c.put_padding-at.result c.put-at-3.result _ c.told-key at3 c.put-at-3.ensures.next back in
     let place : h.block_bytes * (tail_blocks h.block_bytes len + 3) ≡ c.put-at-3.result + h.block_bytes =
     sym (ends_whole h std key packet off len) ∙ ap (λ n. n + h.block_bytes) (sym at4) in
-    let g1 : take c.put-at.result c.put-at.new.ends ≡ take c.block_bytes-block.result c.padded.result =
-    ap (λ n. take n c.put-at.new.ends) c.put-at.ensures.next ∙ c.put-at.ensures.written in
-    let g2 = grown c.put-at.new.ends c.put-at-2.new.ends _ _ c.put-at.result c.put-at-2.result g1 c.put-at-2.ensures.next c.put-at-2.ensures.written in
-    let g3 = grown c.put-at-2.new.ends c.put_padding-at.new.ends _ _ c.put-at-2.result c.put_padding-at.result g2 c.put_padding-at.ensures.next c.put_padding-at.ensures.written in
-    let g4 = grown c.put_padding-at.new.ends c.put-at-3.new.ends _ _ c.put_padding-at.result c.put-at-3.result g3 c.put-at-3.ensures.next c.put-at-3.ensures.written in
+    let g1 : take c.put-at.result (bytes c.put-at.new.ends) ≡ take c.block_bytes-block.result c.padded.result =
+    ap (λ n. take n (bytes c.put-at.new.ends)) c.put-at.ensures.next ∙ c.put-at.ensures.written in
+    let g2 = grown (bytes c.put-at.new.ends) (bytes c.put-at-2.new.ends) _ _ c.put-at.result c.put-at-2.result g1 c.put-at-2.ensures.next c.put-at-2.ensures.written in
+    let g3 = grown (bytes c.put-at-2.new.ends) (bytes c.put_padding-at.new.ends) _ _ c.put-at-2.result c.put_padding-at.result g2 c.put_padding-at.ensures.next c.put_padding-at.ensures.written in
+    let g4 = grown (bytes c.put_padding-at.new.ends) (bytes c.put-at-3.new.ends) _ _ c.put_padding-at.result c.put-at-3.result g3 c.put-at-3.ensures.next c.put-at-3.ensures.written in
     let digest : List ℕ = h.digest c.args.auth (g.H.LaneHash.words c.zeros.result) in
     let last : List ℕ = digest ++ h.padding (h.block_bytes + length digest) in
-    ap (λ n. take n c.put_digest.new.ends) place ∙ c.put_digest.ensures.written ∙ ap (λ (l : List ℕ). l ++ last) g4
+    ap (λ n. take n (bytes c.put_digest.new.ends)) place ∙ c.put_digest.ensures.written ∙ ap (λ (l : List ℕ). l ++ last) g4
     ∙ ends_made h std key packet off len c.args.auth _ _ _ _ _ c.zeros.ensures front text back

@@ -13,6 +13,8 @@ put_padding-requires-clause-room g c =
 pub returns-clause-written : goal.returns-clause-written
 returns-clause-written g c =
     let h = g.H.LaneHash.chaining in
+    let bytes = g.H.LaneHash.ends_bytes in
     let is = c.bytes-bytes.ensures.value ∙ c.digest-digest.ensures in
-    digest_block h g.met.H.LaneHash.standard c.args.auth (g.H.LaneHash.words c.args.chain.now) c.args.ends.now c.put-at.new.ends c.put_padding.new.ends
+    digest_block h g.met.H.LaneHash.standard c.args.auth (g.H.LaneHash.words c.args.chain.now)
+    (bytes c.args.ends.now) (bytes c.put-at.new.ends) (bytes c.put_padding.new.ends)
     c.bytes-bytes.result.now c.args.at c.put-at.result is c.put-at.ensures.next c.put-at.ensures.written c.put_padding.ensures.written

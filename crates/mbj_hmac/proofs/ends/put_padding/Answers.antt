@@ -32,5 +32,6 @@ returns-clause-written g c =
     let y = c.to_be_bytes-bits.result in
     let is = padding_made g.H.LaneHash.chaining g.met.H.LaneHash.standard c.args.len c.fill.result c.block_bytes.result x y
     c.requires.small c.fill.ensures.value c.block_bytes.ensures c.padding_start.ensures c.to_be_bytes-bits.ensures in
-    rw is (behind c.args.ends.now c.put-at.new.ends c.put.new.ends x y c.args.at c.put-at.result
+    let bytes = g.H.LaneHash.ends_bytes in
+    rw is (behind (bytes c.args.ends.now) (bytes c.put-at.new.ends) (bytes c.put.new.ends) x y c.args.at c.put-at.result
     c.put-at.ensures.next c.put-at.ensures.written c.put.ensures.written)

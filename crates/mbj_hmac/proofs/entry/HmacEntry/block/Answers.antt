@@ -1,4 +1,4 @@
-use Rattle.std.proofs.Common.{◌≡◌, ℕ, ◌+◌, ◌-◌, ◌*◌, ◌/◌, ◌≤◌, ◌<◌, ◌⊎◌, ap, ◌∙◌, arith}
+use Rattle.std.proofs.Common.{◌≡◌, ℕ, ◌+◌, ◌-◌, ◌*◌, ◌/◌, ◌≤◌, ◌<◌, ◌⊎◌, length, ap, ◌∙◌, arith}
 use Rattle.mbj_hmac.specs.Rounds.{Going, block_before}
 use Rattle.mbj_hmac.specs.Inside.Layout.{tail_blocks}
 use Rattle.mbj_hmac.proofs.Numbers.{size_range, tail_range, times_le}
@@ -41,12 +41,13 @@ slice_bounds-result-end g c =
     let rest_is : c.self.inside.rest ≡ c.args.self.now.rest = ap (λ (e : Going). e.rest) c.self.view_is in
     let q : ℕ = c.tail_blocks-behind.result + 2 - (c.self.inside.rest - c.args.done) in
     let few : q ≤ 3 = omega (arith, rest_is, c.requires, c.tail_blocks-behind.ensures, (tail_range g.H.LaneHash.chaining.block_bytes g.met.H.LaneHash.standard.size c.self.inside.len).1) in
-    omega (arith, (size_range b size).1, times_le b size q 3 few)
+    omega (arith, ap length c.ends.ensures, c.self.invariant.4, c.block_bytes-block.ensures, times_le b size q 3 few)
 
 pub returns-then-rest-behind-clause-block : goal.returns-then-rest-behind-clause-block
 returns-then-rest-behind-clause-block g c =
     let h = g.H.LaneHash.chaining in
     let words = g.H.LaneHash.words in
+    let bytes = g.H.LaneHash.ends_bytes in
     let b = h.block_bytes in
     let f = c.self.inside in
     let r : ℕ = f.rest - c.args.done in
@@ -56,14 +57,15 @@ returns-then-rest-behind-clause-block g c =
     let n : k + b - k ≡ b = omega arith in
     let some : 0 < r = omega (arith, rest_is, c.requires) in
     let at : r + q ≡ tail_blocks b f.len + 2 = omega (arith, c.if-rest-behind.true, c.tail_blocks-behind.ensures) in
-    rw (c.block_bytes-block.ensures, c.tail_blocks-behind.ensures, n)
-    (end_laid h g.met.H.LaneHash.standard f.packet.items (words f.chain) (words f.inner) f.auth f.ends f.rest f.off f.len r q k c.self.invariant some at (omega arith)
+    rw (c.block_bytes-block.ensures, c.tail_blocks-behind.ensures, n, c.ends.ensures)
+    (end_laid h g.met.H.LaneHash.standard f.packet.items (words f.chain) (words f.inner) f.auth (bytes f.ends) f.rest f.off f.len r q k c.self.invariant some at (omega arith)
     ∙ ap (λ e. block_before h e (e.rest - c.args.done)) c.self.view_is)
 
 pub returns-then-rest-behind-2-clause-block : goal.returns-then-rest-behind-2-clause-block
 returns-then-rest-behind-2-clause-block g c =
     let h = g.H.LaneHash.chaining in
     let words = g.H.LaneHash.words in
+    let bytes = g.H.LaneHash.ends_bytes in
     let b = h.block_bytes in
     let f = c.self.inside in
     let r : ℕ = f.rest - c.args.done in
@@ -75,18 +77,19 @@ returns-then-rest-behind-2-clause-block g c =
     let le' = rw (c.block_bytes-block.ensures, c.tail_blocks-behind.ensures) at le in
     let at : r + q ≡ tail_blocks b f.len + 2 + f.len / b = omega (arith, le') in
     rw (c.block_bytes-block.ensures, c.tail_blocks-behind.ensures, n, c.deref.ensures.value)
-    (packet_laid h g.met.H.LaneHash.standard f.packet.items (words f.chain) (words f.inner) f.auth f.ends f.rest f.off f.len r q k c.self.invariant lt at (omega arith)
+    (packet_laid h g.met.H.LaneHash.standard f.packet.items (words f.chain) (words f.inner) f.auth (bytes f.ends) f.rest f.off f.len r q k c.self.invariant lt at (omega arith)
     ∙ ap (λ e. block_before h e (e.rest - c.args.done)) c.self.view_is)
 
 pub returns-else-rest-behind-2-clause-block : goal.returns-else-rest-behind-2-clause-block
 returns-else-rest-behind-2-clause-block g c =
     let h = g.H.LaneHash.chaining in
     let words = g.H.LaneHash.words in
+    let bytes = g.H.LaneHash.ends_bytes in
     let b = h.block_bytes in
     let f = c.self.inside in
     let r : ℕ = f.rest - c.args.done in
     let lt : c.tail_blocks-behind.result + 2 + f.len / c.block_bytes-block.result < r = omega (arith, c.if-rest-behind-2.false) in
     let lt' = rw (c.block_bytes-block.ensures, c.tail_blocks-behind.ensures) at lt in
-    rw c.block_bytes-block.ensures
-    (first_laid h g.met.H.LaneHash.standard f.packet.items (words f.chain) (words f.inner) f.auth f.ends f.rest f.off f.len r c.self.invariant (omega arith) lt'
+    rw (c.block_bytes-block.ensures, c.ends-else-rest-behind-2.ensures)
+    (first_laid h g.met.H.LaneHash.standard f.packet.items (words f.chain) (words f.inner) f.auth (bytes f.ends) f.rest f.off f.len r c.self.invariant (omega arith) lt'
     ∙ ap (λ e. block_before h e (e.rest - c.args.done)) c.self.view_is)

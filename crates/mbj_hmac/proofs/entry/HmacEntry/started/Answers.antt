@@ -14,11 +14,12 @@ invariant_of-result g c =
     let packet = c.args.packet.items in
     let off = c.args.off in
     let len = c.args.len in
+    let made : List ℕ = g.H.LaneHash.ends_bytes c.first_ends-ends.result in
     let zeros : List ℕ = g.H.LaneHash.words c.zeros.result in
     let front : List ℕ = take h.block_bytes (padded_key ipad key) in
     let back : List ℕ = take h.block_bytes (padded_key opad key) in
     let ends = c.first_ends-ends.ensures.value ∙ ap₂ (λ z p. first_ends h a front back z p off len) (sym c.zeros.ensures) c.deref.ensures.value in
-    let facts : Facts h std packet a c.first_ends-ends.result front back zeros off len = record {
+    let facts : Facts h std packet a made front back zeros off len = record {
       front_is = length-pad h std key packet off len ipad c.first_ends-ends.ensures.pads;
       back_is = length-pad h std key packet off len opad c.first_ends-ends.ensures.pads;
       range = c.requires;
@@ -26,7 +27,7 @@ invariant_of-result g c =
       whole = c.first_ends-ends.ensures.length;
       ends_are = ends;
     } in
-    new_sound h std packet a c.first_ends-ends.result front back zeros off len facts (g.H.LaneHash.words c.initial.result) c.rounds.result c.rounds.ensures
+    new_sound h std packet a made front back zeros off len facts (g.H.LaneHash.words c.initial.result) c.rounds.result c.rounds.ensures
 
 pub returns-clause-start : goal.returns-clause-start
 returns-clause-start g c =
@@ -37,11 +38,12 @@ returns-clause-start g c =
     let packet = c.args.packet.items in
     let off = c.args.off in
     let len = c.args.len in
+    let made : List ℕ = g.H.LaneHash.ends_bytes c.first_ends-ends.result in
     let zeros : List ℕ = g.H.LaneHash.words c.zeros.result in
     let front : List ℕ = take h.block_bytes (padded_key ipad key) in
     let back : List ℕ = take h.block_bytes (padded_key opad key) in
     let ends = c.first_ends-ends.ensures.value ∙ ap₂ (λ z p. first_ends h a front back z p off len) (sym c.zeros.ensures) c.deref.ensures.value in
-    let facts : Facts h std packet a c.first_ends-ends.result front back zeros off len = record {
+    let facts : Facts h std packet a made front back zeros off len = record {
       front_is = length-pad h std key packet off len ipad c.first_ends-ends.ensures.pads;
       back_is = length-pad h std key packet off len opad c.first_ends-ends.ensures.pads;
       range = c.requires;
@@ -49,5 +51,5 @@ returns-clause-start g c =
       whole = c.first_ends-ends.ensures.length;
       ends_are = ends;
     } in
-    ap (λ s. seen h packet c.rounds.result s zeros a c.first_ends-ends.result off len) c.initial.ensures
-    ∙ new_seen h std packet a c.first_ends-ends.result front back zeros off len facts c.rounds.result c.rounds.ensures c.zeros.ensures
+    ap (λ s. seen h packet c.rounds.result s zeros a made off len) c.initial.ensures
+    ∙ new_seen h std packet a made front back zeros off len facts c.rounds.result c.rounds.ensures c.zeros.ensures

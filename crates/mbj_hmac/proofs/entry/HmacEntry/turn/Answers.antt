@@ -29,18 +29,20 @@ pub invariant_of-self : goal.invariant_of-self
 invariant_of-self g c =
     let h = g.H.LaneHash.chaining in
     let words = g.H.LaneHash.words in
+    let bytes = g.H.LaneHash.ends_bytes in
     let f = c.self.inside in
     let written = rw (c.block_bytes.ensures, c.tail_blocks.ensures) at c.put_digest.ensures.written in
-    turned_sound h g.met.H.LaneHash.standard f.packet.items (words f.chain) (words f.inner) f.auth f.ends c.put_digest.new.ends f.rest f.off f.len
+    turned_sound h g.met.H.LaneHash.standard f.packet.items (words f.chain) (words f.inner) f.auth (bytes f.ends) (bytes c.put_digest.new.ends) f.rest f.off f.len
     (words c.initial-self-inside.result) c.self.invariant written c.put_digest.ensures.len
 
 pub returns-then-self-eq2 : goal.returns-then-self-eq2
 returns-then-self-eq2 g c =
     let h = g.H.LaneHash.chaining in
     let words = g.H.LaneHash.words in
+    let bytes = g.H.LaneHash.ends_bytes in
     let f = c.self.inside in
     let written = rw (c.block_bytes.ensures, c.tail_blocks.ensures) at c.put_digest.ensures.written in
-    ap (λ s. seen h f.packet.items f.rest s (words f.chain) f.auth c.put_digest.new.ends f.off f.len) c.initial-self-inside.ensures
-    ∙ turned_seen h g.met.H.LaneHash.standard f.packet.items (words f.chain) (words f.inner) f.auth f.ends c.put_digest.new.ends f.rest f.off f.len
+    ap (λ s. seen h f.packet.items f.rest s (words f.chain) f.auth (bytes c.put_digest.new.ends) f.off f.len) c.initial-self-inside.ensures
+    ∙ turned_seen h g.met.H.LaneHash.standard f.packet.items (words f.chain) (words f.inner) f.auth (bytes f.ends) (bytes c.put_digest.new.ends) f.rest f.off f.len
     c.self.invariant written (omega arith)
     ∙ ap (turned h) c.self.view_is
