@@ -76,7 +76,7 @@ pub(crate) fn read_all<S: Source>(alloc: Global, input: &mut S) -> Result<Vec<u8
 }
 
 /// Reads a job file to its end.
-pub(crate) fn read_jobs<S: Source>(alloc: Global, input: &mut S) -> Result<Vec<Job>, Cause>
+pub(crate) fn read_job_file<S: Source>(alloc: Global, input: &mut S) -> Result<Vec<Job>, Cause>
     ensures read { IfOk result (λ jobs. ReadsJobs (stream S.rest S.faults input.old input.new) jobs.items) }
     ensures count { IfOk result (λ jobs. length jobs.items ≤ JOB_LIMIT) }
     ensures stops { IfErr result (λ cause. StopsReading Bad Over cause (stream S.rest S.faults input.old input.new)) }
@@ -87,7 +87,7 @@ pub(crate) fn read_jobs<S: Source>(alloc: Global, input: &mut S) -> Result<Vec<J
 }
 
 /// Reads the file of a replay to its end: its jobs, and the commands of its script.
-pub(crate) fn read_script<S: Source>(
+pub(crate) fn read_replay_file<S: Source>(
     alloc: Global,
     input: &mut S,
     submitters: u32,

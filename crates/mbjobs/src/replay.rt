@@ -5,7 +5,7 @@ ghost use Rattle.mbjobs.specs.Outcome.{Completes, Stands};
 ghost use Rattle.mbj_command.specs.declared.command.Command.TheVariants as command;
 
 use crate::cause::Cause;
-use crate::reading::read_script;
+use crate::reading::read_replay_file;
 use mbj_io::{Sink, Source};
 use mbj_replay::replay_lines;
 use mbj_text::write_lines;
@@ -28,7 +28,7 @@ pub(crate) fn run_replay<S: Source, O: Sink>(
     ensures untouched { IfErr result (λ cause. cause ≢ Cause.Write
         → IsUntouched (stream O.held O.faults out.old out.new)) }
 {
-    let (jobs, commands) = read_script(alloc, input, submitters, workers)?;
+    let (jobs, commands) = read_replay_file(alloc, input, submitters, workers)?;
     let lines = replay_lines(alloc, jobs, commands, submitters, workers)?;
     Ok(write_lines(out, &lines)?)
 }

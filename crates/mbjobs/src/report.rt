@@ -9,7 +9,7 @@ use mbj_io::Sink;
 use mbj_text::{Part, write_all, write_line};
 
 /// Writes a line. A fault of the sink is passed over.
-fn tell<E: Sink>(err: &mut E, parts: &[Part])
+fn tell_line<E: Sink>(err: &mut E, parts: &[Part])
     ensures { Gains (stream E.held E.faults err.old err.new) (line_of parts.now) }
 {
     let _ = write_line(err, parts);
@@ -20,9 +20,9 @@ pub(crate) fn report<E: Sink>(err: &mut E, cause: Cause)
     ensures { Gains (stream E.held E.faults err.old err.new) (message_of cause) }
 {
     match cause {
-        Cause::Read => tell(err, &[Part::Words("mbjobs: read failed")]),
-        Cause::Write => tell(err, &[Part::Words("mbjobs: write failed")]),
-        Cause::Line { line, field } => tell(
+        Cause::Read => tell_line(err, &[Part::Words("mbjobs: read failed")]),
+        Cause::Write => tell_line(err, &[Part::Words("mbjobs: write failed")]),
+        Cause::Line { line, field } => tell_line(
             err,
             &[
                 Part::Words("mbjobs: line "),
@@ -31,8 +31,8 @@ pub(crate) fn report<E: Sink>(err: &mut E, cause: Cause)
                 Part::Number(field as u64),
             ],
         ),
-        Cause::Bytes => tell(err, &[Part::Words("mbjobs: input over 16777216 bytes")]),
-        Cause::Jobs { line } => tell(
+        Cause::Bytes => tell_line(err, &[Part::Words("mbjobs: input over 16777216 bytes")]),
+        Cause::Jobs { line } => tell_line(
             err,
             &[
                 Part::Words("mbjobs: line "),
@@ -40,7 +40,7 @@ pub(crate) fn report<E: Sink>(err: &mut E, cause: Cause)
                 Part::Words(": over 65536 jobs"),
             ],
         ),
-        Cause::Memory => tell(err, &[Part::Words("mbjobs: out of memory")]),
+        Cause::Memory => tell_line(err, &[Part::Words("mbjobs: out of memory")]),
     }
 }
 
@@ -50,7 +50,7 @@ pub(crate) fn report_words<E: Sink>(err: &mut E, text: &String)
     ensures { (told : List ℕ) × (told ≢ []) × Gains (stream E.held E.faults err.old err.new) told }
 {
     if text.is_empty() {
-        tell(err, &[Part::Words("mbjobs: no command")]);
+        tell_line(err, &[Part::Words("mbjobs: no command")]);
     } else {
         let _ = write_all(err, text.as_bytes());
     }

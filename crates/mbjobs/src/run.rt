@@ -5,7 +5,7 @@ ghost use Rattle.mbj_command.specs.declared.command.Command.TheVariants.{Run};
 ghost use Rattle.mbjobs.specs.Outcome.{Completes, Stands};
 
 use crate::cause::Cause;
-use crate::reading::read_jobs;
+use crate::reading::read_job_file;
 use crate::results::write_results;
 use mbj_io::{Sink, Source};
 use mbj_work::{Gate, do_jobs};
@@ -32,7 +32,7 @@ pub(crate) fn run<R: Threads + Wait + Sync, S: Source, O: Sink, G: Gate + Sync>(
     ensures untouched { IfErr result (λ cause. cause ≢ Cause.Write
         → IsUntouched (stream O.held O.faults out.old out.new)) }
 {
-    let jobs = read_jobs(alloc, input)?;
+    let jobs = read_job_file(alloc, input)?;
     let results = do_jobs(rt, alloc, jobs, submitters, workers, gate)?;
     Ok(write_results(out, &results)?)
 }

@@ -51,7 +51,7 @@ pub(crate) fn refuse<E: Sink>(err: &mut E, fault: WordFault) -> u8
 }
 
 /// Does what a command says.
-fn perform<R: Threads + Wait + Sync, S: Source, O: Sink, G: Gate + Sync>(
+fn carry_out<R: Threads + Wait + Sync, S: Source, O: Sink, G: Gate + Sync>(
     rt: &R,
     alloc: Global,
     command: Command,
@@ -173,7 +173,7 @@ pub fn mbjobs<R: Threads + Wait + Sync, S: Source, O: Sink, E: Sink, G: Gate + S
         Ok(command) => command,
         Err(fault) => return refuse(err, fault),
     };
-    match perform(rt, alloc, command, input, out, gate) {
+    match carry_out(rt, alloc, command, input, out, gate) {
         Ok(()) => 0,
         Err(cause) => tell(err, cause),
     }

@@ -4,7 +4,7 @@ ghost use Rattle.mbjobs.specs.Outcome.{Completes, Stands};
 ghost use Rattle.mbj_command.specs.declared.command.Command.TheVariants as command;
 
 use crate::cause::Cause;
-use crate::reading::read_jobs;
+use crate::reading::read_job_file;
 use mbj_io::{Sink, Source};
 use mbj_text::write_lines;
 use mbj_trace::trace_lines;
@@ -24,7 +24,7 @@ pub(crate) fn run_trace<S: Source, O: Sink>(
     ensures untouched { IfErr result (λ cause. cause ≢ Cause.Write
         → IsUntouched (stream O.held O.faults out.old out.new)) }
 {
-    let jobs = read_jobs(alloc, input)?;
+    let jobs = read_job_file(alloc, input)?;
     let lines = trace_lines(alloc, jobs)?;
     Ok(write_lines(out, &lines)?)
 }

@@ -5,44 +5,44 @@ use Rattle.mbj_io.specs.Streams.{Stream, stream}
 use Rattle.mbjobs.proofs.Endings.{along, bad_ends, bad_not_whole, good_ends, over_ends, over_not_whole, same-command, status_6}
 use Rattle.mbjobs.proofs.top.mbjobs.Goals as goal
 
-pub returns-in-Ok-perform-clause-only_bad : goal.returns-in-Ok-perform-clause-only_bad
-returns-in-Ok-perform-clause-only_bad g c = λ d bytes line field found tells short bad calm.
-    let input : Stream = stream g.S.Source.rest g.S.Source.faults c.args.input.now c.perform.new.input in
-    let out : Stream = stream g.O.Sink.held g.O.Sink.faults c.args.out.now c.perform.new.out in
+pub returns-in-Ok-carry_out-clause-only_bad : goal.returns-in-Ok-carry_out-clause-only_bad
+returns-in-Ok-carry_out-clause-only_bad g c = λ d bytes line field found tells short bad calm.
+    let input : Stream = stream g.S.Source.rest g.S.Source.faults c.args.input.now c.carry_out.new.input in
+    let out : Stream = stream g.O.Sink.held g.O.Sink.faults c.args.out.now c.carry_out.new.out in
     let same = same-command _ c.in-Ok.command d c.in-Ok.ensures.found found in
-    absurd (bad_not_whole c.in-Ok.command input out _ bytes line field c.in-Ok-perform.ensures.ok tells (subst (λ k. IsBadFor k bytes line field) same bad))
+    absurd (bad_not_whole c.in-Ok.command input out _ bytes line field c.in-Ok-carry_out.ensures.ok tells (subst (λ k. IsBadFor k bytes line field) same bad))
 
-pub returns-in-Ok-perform-clause-only_over : goal.returns-in-Ok-perform-clause-only_over
-returns-in-Ok-perform-clause-only_over g c = λ d bytes line found tells short over calm.
-    let input : Stream = stream g.S.Source.rest g.S.Source.faults c.args.input.now c.perform.new.input in
-    let out : Stream = stream g.O.Sink.held g.O.Sink.faults c.args.out.now c.perform.new.out in
+pub returns-in-Ok-carry_out-clause-only_over : goal.returns-in-Ok-carry_out-clause-only_over
+returns-in-Ok-carry_out-clause-only_over g c = λ d bytes line found tells short over calm.
+    let input : Stream = stream g.S.Source.rest g.S.Source.faults c.args.input.now c.carry_out.new.input in
+    let out : Stream = stream g.O.Sink.held g.O.Sink.faults c.args.out.now c.carry_out.new.out in
     let same = same-command _ c.in-Ok.command d c.in-Ok.ensures.found found in
-    absurd (over_not_whole c.in-Ok.command input out _ bytes line c.in-Ok-perform.ensures.ok tells (subst (λ k. IsOverFor k bytes line) same over))
+    absurd (over_not_whole c.in-Ok.command input out _ bytes line c.in-Ok-carry_out.ensures.ok tells (subst (λ k. IsOverFor k bytes line) same over))
 
-pub returns-in-Err-perform-clause-complete : goal.returns-in-Err-perform-clause-complete
-returns-in-Err-perform-clause-complete g c = λ d bytes text found tells short good calm calm_out.
-    let input : Stream = stream g.S.Source.rest g.S.Source.faults c.args.input.now c.perform.new.input in
-    let out : Stream = stream g.O.Sink.held g.O.Sink.faults c.args.out.now c.perform.new.out in
+pub returns-in-Err-carry_out-clause-complete : goal.returns-in-Err-carry_out-clause-complete
+returns-in-Err-carry_out-clause-complete g c = λ d bytes text found tells short good calm calm_out.
+    let input : Stream = stream g.S.Source.rest g.S.Source.faults c.args.input.now c.carry_out.new.input in
+    let out : Stream = stream g.O.Sink.held g.O.Sink.faults c.args.out.now c.carry_out.new.out in
     let same = same-command _ c.in-Ok.command d c.in-Ok.ensures.found found in
-    inr (c.tell.ensures.status ∙ good_ends c.in-Ok.command c.in-Err-perform.cause input out bytes text c.in-Err-perform.ensures.err tells short (subst (λ k. AsksFor k bytes text) same good) calm calm_out)
+    inr (c.tell.ensures.status ∙ good_ends c.in-Ok.command c.in-Err-carry_out.cause input out bytes text c.in-Err-carry_out.ensures.err tells short (subst (λ k. AsksFor k bytes text) same good) calm calm_out)
 
-pub returns-in-Err-perform-clause-only_bad : goal.returns-in-Err-perform-clause-only_bad
-returns-in-Err-perform-clause-only_bad g c = λ d bytes line field found tells short bad calm.
-    let input : Stream = stream g.S.Source.rest g.S.Source.faults c.args.input.now c.perform.new.input in
-    let out : Stream = stream g.O.Sink.held g.O.Sink.faults c.args.out.now c.perform.new.out in
+pub returns-in-Err-carry_out-clause-only_bad : goal.returns-in-Err-carry_out-clause-only_bad
+returns-in-Err-carry_out-clause-only_bad g c = λ d bytes line field found tells short bad calm.
+    let input : Stream = stream g.S.Source.rest g.S.Source.faults c.args.input.now c.carry_out.new.input in
+    let out : Stream = stream g.O.Sink.held g.O.Sink.faults c.args.out.now c.carry_out.new.out in
     let same = same-command _ c.in-Ok.command d c.in-Ok.ensures.found found in
-    along c.tell.ensures.status (bad_ends c.in-Ok.command c.in-Err-perform.cause input out bytes line field c.in-Err-perform.ensures.err tells short (subst (λ k. IsBadFor k bytes line field) same bad) calm)
+    along c.tell.ensures.status (bad_ends c.in-Ok.command c.in-Err-carry_out.cause input out bytes line field c.in-Err-carry_out.ensures.err tells short (subst (λ k. IsBadFor k bytes line field) same bad) calm)
 
-pub returns-in-Err-perform-clause-only_over : goal.returns-in-Err-perform-clause-only_over
-returns-in-Err-perform-clause-only_over g c = λ d bytes line found tells short over calm.
-    let input : Stream = stream g.S.Source.rest g.S.Source.faults c.args.input.now c.perform.new.input in
-    let out : Stream = stream g.O.Sink.held g.O.Sink.faults c.args.out.now c.perform.new.out in
+pub returns-in-Err-carry_out-clause-only_over : goal.returns-in-Err-carry_out-clause-only_over
+returns-in-Err-carry_out-clause-only_over g c = λ d bytes line found tells short over calm.
+    let input : Stream = stream g.S.Source.rest g.S.Source.faults c.args.input.now c.carry_out.new.input in
+    let out : Stream = stream g.O.Sink.held g.O.Sink.faults c.args.out.now c.carry_out.new.out in
     let same = same-command _ c.in-Ok.command d c.in-Ok.ensures.found found in
-    along c.tell.ensures.status (over_ends c.in-Ok.command c.in-Err-perform.cause input out bytes line c.in-Err-perform.ensures.err tells short (subst (λ k. IsOverFor k bytes line) same over) calm)
+    along c.tell.ensures.status (over_ends c.in-Ok.command c.in-Err-carry_out.cause input out bytes line c.in-Err-carry_out.ensures.err tells short (subst (λ k. IsOverFor k bytes line) same over) calm)
 
-pub returns-in-Err-perform-clause-over : goal.returns-in-Err-perform-clause-over
-returns-in-Err-perform-clause-over g c = λ six.
-    let input : Stream = stream g.S.Source.rest g.S.Source.faults c.args.input.now c.perform.new.input in
-    let out : Stream = stream g.O.Sink.held g.O.Sink.faults c.args.out.now c.perform.new.out in
-    let over = status_6 c.in-Ok.command c.in-Err-perform.cause input out c.tell.result c.in-Err-perform.ensures.err c.tell.ensures.status six in
+pub returns-in-Err-carry_out-clause-over : goal.returns-in-Err-carry_out-clause-over
+returns-in-Err-carry_out-clause-over g c = λ six.
+    let input : Stream = stream g.S.Source.rest g.S.Source.faults c.args.input.now c.carry_out.new.input in
+    let out : Stream = stream g.O.Sink.held g.O.Sink.faults c.args.out.now c.carry_out.new.out in
+    let over = status_6 c.in-Ok.command c.in-Err-carry_out.cause input out c.tell.result c.in-Err-carry_out.ensures.err c.tell.ensures.status six in
     (c.in-Ok.command, c.in-Ok.ensures.found, over.0, over.1)
