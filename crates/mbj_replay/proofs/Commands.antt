@@ -2,7 +2,7 @@
 use Rattle.std.proofs.Common.{◌≡◌, ◌≢◌, ◌∙◌, ◌+◌, ◌*◌, ◌%◌, ◌<◌, ◌≤◌, ◌++◌, [], ◌∷◌, ap, sym, subst, refl, ℕ, zero, suc, List, Option, None, Some, map, length, set, Vec, Global, option_map, option_to_list, IfSome, arith, length-set}
 use Rattle.std.specs.Prelude.{slice_get}
 use Rattle.std.proofs.lemmas.List.{map-append}
-use Rattle.std.proofs.lemmas.Option.{get_or_from_slice_get, none-some, same_Some}
+use Rattle.std.proofs.lemmas.Option.{get_or_from_slice_get, none-some, same_Some, slice_get_within}
 use Rattle.std.proofs.Math.Nat.{add-mod_right}
 use mathlib.Core.Logic.{dite}
 use native.Mathlib.Decide.{ℕ_discrete}
@@ -19,9 +19,10 @@ use Rattle.mbj_core.specs.declared.cells.TheConstants.{CELLS}
 use Rattle.mbj_core.proofs.Entries.{set_else}
 use Rattle.mbj_replay.specs.Inside.Claiming.{ClaimsAt}
 use Rattle.mbj_replay.specs.Replay.{core_after}
-use Rattle.mbj_replay.specs.Inside.State.{EachHolds, Follows, HasStock, Holds, IsPlaying}
+use Rattle.mbj_replay.specs.Inside.State.{EachHolds, Follows, HasStock, Holds, IsPlaying, with_copy}
 use Rattle.mbj_replay.specs.declared.replayer.Posted.{Posted}
 use Rattle.mbj_replay.specs.declared.replayer.Replayer.{Replayer}
+use Rattle.mbj_replay.specs.declared.replayer.Unposted.{Unposted}
 use Rattle.mbj_replay.specs.declared.worker.Worker.{Worker}
 use Rattle.mbj_replay.proofs.Fronts.{Entry, KeepsHands, KeepsJobs, first-finishes, first-held, first-taken, jobs-kept, next-is}
 
@@ -57,15 +58,14 @@ all-hold submitters workers f h each kept = λ w x at. subst (Holds x) (sym (kep
 
 -- ---- the stock
 
-module _ {jobs : List Job} {submitters : ℕ} {nexts : List ℕ} {unposted copies : List Job} {posted : List Posted} where
+module _ {jobs : List Job} {submitters : ℕ} {nexts : List ℕ} {unposted : List (Option Unposted)} {posted : List Posted} where
   -- where no jobs are new in the cells
-  stock-kept : (f h : FrontState Job Done) → HasStock jobs submitters nexts unposted copies posted f.cells → KeepsJobs f h
-      → HasStock jobs submitters nexts unposted copies posted h.cells
+  stock-kept : (f h : FrontState Job Done) → HasStock jobs submitters nexts unposted posted f.cells → KeepsJobs f h
+      → HasStock jobs submitters nexts unposted posted h.cells
   stock-kept f h stock kept = record {
     next_count = stock.next_count;
     each_next = stock.each_next;
     job_count = stock.job_count;
-    copy_count = stock.copy_count;
     each_left = stock.each_left;
     cell_count = stock.cell_count;
     each_ready = λ c job x at there. stock.each_ready c job x at (kept c job there);
@@ -73,50 +73,45 @@ module _ {jobs : List Job} {submitters : ℕ} {nexts : List ℕ} {unposted copie
 
   -- where a cell's job is claimed, and its copy is taken
   stock-claimed : (f h : FrontState Job Done) (cell : ℕ) (taken : Posted)
-      → HasStock jobs submitters nexts unposted copies posted f.cells → KeepsJobs f h → ((job : Job) → h.cells cell ≢ ready job)
-      → HasStock jobs submitters nexts unposted copies (set posted cell taken) h.cells
+      → HasStock jobs submitters nexts unposted posted f.cells → KeepsJobs f h → ((job : Job) → h.cells cell ≢ ready job)
+      → HasStock jobs submitters nexts unposted (set posted cell taken) h.cells
   stock-claimed f h cell taken stock kept gone = record {
     next_count = stock.next_count;
     each_next = stock.each_next;
     job_count = stock.job_count;
-    copy_count = stock.copy_count;
     each_left = stock.each_left;
     cell_count = length-set posted cell taken ∙ stock.cell_count;
-    each_ready = λ c job x at there. at-places posted cell c taken x (x.copy ≡ job) at
+    each_ready = λ c job x at there. at-places posted cell c taken x (x.copy ≡ Some job) at
         (λ same is. absurd (gone job (ap h.cells (sym same) ∙ there)))
         (λ apart before. stock.each_ready c job x before (kept c job there));
   }
 
   -- where a submitter's next job is posted, and its copy goes to the cell
-  stock-posted : (f h : FrontState Job Done) (s n cell : ℕ) (job copy blank other : Job) (x : Posted)
-      → HasStock jobs submitters nexts unposted copies posted f.cells → s < submitters → slice_get nexts s ≡ Some n → n < length jobs
-      → slice_get unposted n ≡ Some job → slice_get copies n ≡ Some copy → x.copy ≡ copy
+  stock-posted : (f h : FrontState Job Done) (s n cell : ℕ) (job : Job) (left : Option Unposted) (x : Posted)
+      → HasStock jobs submitters nexts unposted posted f.cells → s < submitters → slice_get nexts s ≡ Some n → n < length jobs → x.copy ≡ Some job
       → h.cells cell ≡ ready job → ((i : ℕ) → i ≢ cell → h.cells i ≡ f.cells i)
-      → HasStock jobs submitters (set nexts s (n + submitters)) (set unposted n blank) (set copies n other) (set posted cell x) h.cells
-  stock-posted f h s n cell job copy blank other x stock some next within is_job is_copy has there others =
+      → HasStock jobs submitters (set nexts s (n + submitters)) (set unposted n left) (set posted cell x) h.cells
+  stock-posted f h s n cell job left x stock some next within has there others =
       let own = stock.each_next s n next in
-      let left = stock.each_left s n n next (omega arith) own.0 in
       record {
         next_count = length-set nexts s (n + submitters) ∙ stock.next_count;
         each_next = λ t m at. at-places nexts s t (n + submitters) m ((m % submitters ≡ t) × (m < length jobs + submitters)) at
             (λ same is. (ap (λ (k : ℕ). k % submitters) is ∙ add-mod_right n submitters ∙ own.0 ∙ sym same, omega (arith, is, within)))
             (λ apart before. stock.each_next t m before);
-        job_count = length-set unposted n blank ∙ stock.job_count;
-        copy_count = length-set copies n other ∙ stock.copy_count;
-        each_left = λ t m k at above of. let all = later t m k at above of in
-            (set_else unposted n k blank all.0 ∙ all.1.0, set_else copies n k other all.0 ∙ all.1.1);
+        job_count = length-set unposted n left ∙ stock.job_count;
+        each_left = λ t m k at above of. let all = later t m k at above of in set_else unposted n k left all.0 ∙ all.1;
         cell_count = length-set posted cell x ∙ stock.cell_count;
-        each_ready = λ c j y at is. at-places posted cell c x y (y.copy ≡ j) at
+        each_ready = λ c j y at is. at-places posted cell c x y (y.copy ≡ Some j) at
             (λ same is_x. let ready_there : ready job ≡ ready j = sym there ∙ ap h.cells (sym same) ∙ is in
             let same_job : job ≡ j = cc in
-            ap (λ (z : Posted). z.copy) is_x ∙ has ∙ same_Some copy job (sym is_copy ∙ left.1 ∙ sym left.0 ∙ is_job) ∙ same_job)
+            ap (λ (z : Posted). z.copy) is_x ∙ has ∙ ap Some same_job)
             (λ apart before. stock.each_ready c j y before (sym (others c apart) ∙ is));
       }
     where
       -- a later job of a submitter isn't the one that was posted
       later : (t m k : ℕ) → slice_get (set nexts s (n + submitters)) t ≡ Some m → m ≤ k → k % submitters ≡ t
-          → (k ≢ n) × ((slice_get unposted k ≡ slice_get jobs k) × (slice_get copies k ≡ slice_get jobs k))
-      later t m k at above of = at-places nexts s t (n + submitters) m ((k ≢ n) × ((slice_get unposted k ≡ slice_get jobs k) × (slice_get copies k ≡ slice_get jobs k))) at
+          → (k ≢ n) × (slice_get unposted k ≡ option_map with_copy (slice_get jobs k))
+      later t m k at above of = at-places nexts s t (n + submitters) m ((k ≢ n) × (slice_get unposted k ≡ option_map with_copy (slice_get jobs k))) at
           (λ same is. (λ e. omega (arith, is, e), stock.each_left s n k next (omega (arith, is)) (of ∙ same)))
           (λ apart before. (λ e. apart (sym of ∙ ap (λ (i : ℕ). i % submitters) e ∙ (stock.each_next s n next).0), stock.each_left t m k before above of))
 
@@ -157,31 +152,34 @@ flush-taken core p given x y f front holds cells owed =
       jobs = λ i job there. there;
     }
 
+-- the copy of the job that is claimed
+pub claim-copy : (jobs : List Job) (r : Replayer) (mid : CoreState) (p cell : ℕ) (z : Posted) → IsPlaying jobs r → slice_get r.posted.items cell ≡ Some z
+    → (claims : ClaimsAt r.core p cell mid) → z.copy ≡ Some claims.job
+claim-copy jobs r mid p cell z playing at claims =
+    let step = claims.leads playing.0 playing.1.front in
+    playing.1.stock.each_ready cell claims.job z at step.1.2
+
 -- a claim
-pub record Claimed (core : CoreState) (p cell : ℕ) (given : Option Entry) (x y : Worker) (z : Posted) (job : Job) (f g : FrontState Job Done) : Type 0 where
+pub record Claimed (core : CoreState) (p cell : ℕ) (given : Option Entry) (x y : Worker) (f g : FrontState Job Done) : Type 0 where
   pub taken : Taken core p (x.hand.items ++ cell ∷ []) given y f g
-  pub copy : z.copy ≡ job
   pub gone : (j : Job) → g.cells cell ≢ ready j
 
-claim-taken : (jobs : List Job) (r : Replayer) (core : CoreState) (p cell : ℕ) (given : Option Entry) (x y : Worker) (z : Posted) (f : FrontState Job Done)
-    → Follows jobs r f → Holds x (f.seats p).hand → slice_get r.posted.items cell ≡ Some z
-    → (claims : ClaimsAt r.core p cell core)
+claim-taken : (jobs : List Job) (r : Replayer) (core : CoreState) (p cell : ℕ) (given : Option Entry) (x y : Worker) (f : FrontState Job Done)
+    → Follows jobs r f → Holds x (f.seats p).hand → (claims : ClaimsAt r.core p cell core)
     → option_to_list (option_map (λ t. t.0) given) ++ y.hand.items ≡ x.hand.items ++ cell ∷ []
-    → option_to_list (option_map (λ t. t.1) given) ++ y.manager.owed ≡ x.manager.owed ++ result_of z.copy ∷ []
-    → (g : FrontState Job Done) × Claimed core p cell given x y z claims.job f g
-claim-taken jobs r core p cell given x y z f follows holds at claims cells owed =
+    → option_to_list (option_map (λ t. t.1) given) ++ y.manager.owed ≡ x.manager.owed ++ result_of claims.job ∷ []
+    → (g : FrontState Job Done) × Claimed core p cell given x y f g
+claim-taken jobs r core p cell given x y f follows holds claims cells owed =
     let step = claims.leads f follows.front in
     let g : FrontState Job Done = step.0 in
     let changes = step.1.3 in
-    let copy : z.copy ≡ claims.job = follows.stock.each_ready cell claims.job z at step.1.2 in
     let entry : Entry = (cell, result_of claims.job) in
     let old : List Entry = (f.seats p).hand in
     let now : (g.seats p).hand ≡ old ++ entry ∷ [] = ap (λ v. v.hand) changes.party in
     let whole : map (λ e. e.0) (g.seats p).hand ≡ x.hand.items ++ cell ∷ []
     = ap (map (λ e. e.0)) now ∙ map-append (λ (e : Entry). e.0) old (entry ∷ []) ∙ ap (λ (l : List ℕ). l ++ cell ∷ []) (sym holds.cells) in
-    let results : map (λ e. e.1) (g.seats p).hand ≡ x.manager.owed ++ result_of z.copy ∷ []
-    = ap (map (λ e. e.1)) now ∙ map-append (λ (e : Entry). e.1) old (entry ∷ []) ∙ ap (λ (l : List Done). l ++ result_of claims.job ∷ []) (sym holds.owed)
-    ∙ ap (λ (j : Job). x.manager.owed ++ result_of j ∷ []) (sym copy) in
+    let results : map (λ e. e.1) (g.seats p).hand ≡ x.manager.owed ++ result_of claims.job ∷ []
+    = ap (map (λ e. e.1)) now ∙ map-append (λ (e : Entry). e.1) old (entry ∷ []) ∙ ap (λ (l : List Done). l ++ result_of claims.job ∷ []) (sym holds.owed) in
     let first = first-taken given y.hand.items y.manager.owed (g.seats p).hand (cells ∙ sym whole) (owed ∙ sym results) in (
       g,
       record {
@@ -194,7 +192,6 @@ claim-taken jobs r core p cell given x y z f follows holds at claims cells owed 
           hands = λ q other. ap (λ v. v.hand) (changes.other_parties q other);
           jobs = jobs-kept f g cell (hand_of p (result_of claims.job)) changes.cell changes.other_cells (λ j e. cc);
         };
-        copy = copy;
         gone = λ j there. let bad : hand_of p (result_of claims.job) ≡ ready j = sym changes.cell ∙ there in cc;
       },
     )
@@ -203,18 +200,18 @@ claim-taken jobs r core p cell given x y z f follows holds at claims cells owed 
 
 -- the parts of a replay after a command
 assembled : (jobs : List Job) (r : Replayer) (new : CoreState) (g : FrontState Job Done) (workers : Vec Worker Global)
-    (nexts : Vec ℕ Global) (unposted copies : Vec Job Global) (posted : Vec Posted Global)
+    (nexts : Vec ℕ Global) (unposted : Vec (Option Unposted) Global) (posted : Vec Posted Global)
     → new.submitters ≡ r.core.submitters → new.workers ≡ r.core.workers → StandsFor new g
     → length workers.items ≡ r.core.workers → EachHolds r.core.submitters workers.items g
-    → HasStock jobs r.core.submitters nexts.items unposted.items copies.items posted.items g.cells
-    → IsPlaying jobs (record { alloc = r.alloc; core = new; workers = workers; jobs = unposted; copies = copies; nexts = nexts; posted = posted })
-assembled jobs r new g workers nexts unposted copies posted submitters count front length_is hold stock = (
+    → HasStock jobs r.core.submitters nexts.items unposted.items posted.items g.cells
+    → IsPlaying jobs (record { core = new; workers = workers; unposted = unposted; nexts = nexts; posted = posted })
+assembled jobs r new g workers nexts unposted posted submitters count front length_is hold stock = (
   g,
   record {
     front = front;
     worker_count = length_is ∙ sym count;
     workers = subst (λ (n : ℕ). EachHolds n workers.items g) (sym submitters) hold;
-    stock = subst (λ (n : ℕ). HasStock jobs n nexts.items unposted.items copies.items posted.items g.cells) (sym submitters) stock;
+    stock = subst (λ (n : ℕ). HasStock jobs n nexts.items unposted.items posted.items g.cells) (sym submitters) stock;
   },
 )
 
@@ -223,57 +220,64 @@ pub parties : (p : ℕ) (given : Option Entry) (c : CoreState) → ((core_after 
 parties p None c = (refl, refl)
 parties p (Some e) c = (refl, refl)
 
--- a replay in which nothing is changed but that a posted job came back
-pub same-plays : (jobs : List Job) (r : Replayer) (new : CoreState) (unposted : Vec Job Global) → IsPlaying jobs r → new ≡ r.core
-    → unposted.items ≡ r.jobs.items
-    → IsPlaying jobs (record { alloc = r.alloc; core = new; workers = r.workers; jobs = unposted; copies = r.copies; nexts = r.nexts; posted = r.posted })
+-- a replay in which nothing is changed but that a refused job came back
+pub same-plays : (jobs : List Job) (r : Replayer) (new : CoreState) (unposted : Vec (Option Unposted) Global) → IsPlaying jobs r → new ≡ r.core
+    → unposted.items ≡ r.unposted.items
+    → IsPlaying jobs (record { core = new; workers = r.workers; unposted = unposted; nexts = r.nexts; posted = r.posted })
 same-plays jobs r new unposted playing same back =
     let f = playing.0 in
     let follows = playing.1 in
-    assembled jobs r new f r.workers r.nexts unposted r.copies r.posted (ap (λ (c : CoreState). c.submitters) same) (ap (λ (c : CoreState). c.workers) same)
+    assembled jobs r new f r.workers r.nexts unposted r.posted (ap (λ (c : CoreState). c.submitters) same) (ap (λ (c : CoreState). c.workers) same)
     (subst (λ (c : CoreState). StandsFor c f) (sym same) follows.front) follows.worker_count follows.workers
-    (subst (λ (js : List Job). HasStock jobs r.core.submitters r.nexts.items js r.copies.items r.posted.items f.cells) (sym back) follows.stock)
+    (subst (λ (us : List (Option Unposted)). HasStock jobs r.core.submitters r.nexts.items us r.posted.items f.cells) (sym back) follows.stock)
+
+-- an entry of the jobs that are not posted is the file's job of that number, and its copy
+entry-is : (o : Option Job) (x : Option Unposted) → Some x ≡ option_map with_copy o → (job : Job) × (o ≡ Some job) × (x ≡ with_copy job)
+entry-is None x is = absurd (none-some x (sym is))
+entry-is (Some job) x is = (job, refl, same_Some x (with_copy job) is)
+
+-- the next job of a submitter isn't posted
+pub next-left : (jobs : List Job) (r : Replayer) (s n : ℕ) (x : Option Unposted) → IsPlaying jobs r → slice_get r.nexts.items s ≡ Some n
+    → slice_get r.unposted.items n ≡ Some x → (job : Job) × (slice_get jobs n ≡ Some job) × (x ≡ with_copy job)
+next-left jobs r s n x playing next at =
+    let stock = playing.1.stock in
+    entry-is (slice_get jobs n) x (sym at ∙ stock.each_left s n n next (omega arith) (stock.each_next s n next).0)
 
 -- the next job of a submitter is posted
-pub post-plays : (jobs : List Job) (r : Replayer) (new : CoreState) (s n cell : ℕ) (job copy blank other : Job) (x : Posted)
-    (nexts : Vec ℕ Global) (unposted copies : Vec Job Global) (cells : Vec Posted Global)
-    → IsPlaying jobs r → s < r.core.submitters → slice_get r.nexts.items s ≡ Some n → n < length r.jobs.items
-    → slice_get r.jobs.items n ≡ Some job → slice_get r.copies.items n ≡ Some copy → x.copy ≡ copy
+pub post-plays : (jobs : List Job) (r : Replayer) (new : CoreState) (s n cell : ℕ) (job : Job) (left : Option Unposted) (x : Posted)
+    (nexts : Vec ℕ Global) (unposted : Vec (Option Unposted) Global) (cells : Vec Posted Global)
+    → IsPlaying jobs r → s < r.core.submitters → slice_get r.nexts.items s ≡ Some n → slice_get jobs n ≡ Some job → x.copy ≡ Some job
     → cell ≡ next_cell r.core s → new ≡ posted r.core s job → Leads r.core (post s job) accepted new
-    → nexts.items ≡ set r.nexts.items s (n + r.core.submitters) → unposted.items ≡ set r.jobs.items n blank
-    → copies.items ≡ set r.copies.items n other → cells.items ≡ set r.posted.items cell x
-    → IsPlaying jobs (record { alloc = r.alloc; core = new; workers = r.workers; jobs = unposted; copies = copies; nexts = nexts; posted = cells })
-post-plays jobs r new s n cell job copy blank other x nexts unposted copies cells playing below next within is_job is_copy has at same leads are_nexts are_jobs are_copies are_cells =
+    → nexts.items ≡ set r.nexts.items s (n + r.core.submitters) → unposted.items ≡ set r.unposted.items n left
+    → cells.items ≡ set r.posted.items cell x
+    → IsPlaying jobs (record { core = new; workers = r.workers; unposted = unposted; nexts = nexts; posted = cells })
+post-plays jobs r new s n cell job left x nexts unposted cells playing below next is_job has at same leads are_nexts are_left are_cells =
     let f = playing.0 in
     let follows = playing.1 in
     let step = leads f follows.front in
     let g : FrontState Job Done = step.0 in
     let changes = step.1.2 in
-    let out = follows.front.each_out s below in
-    let first = follows.front.each_first s below in
     let here : cell ≡ cell_of s (length (f.seats s).due) = at ∙ next-is r.core f s follows.front below in
-    let count = follows.stock.job_count in
-    let stock = stock-posted f g s n cell job copy blank other x follows.stock below next (omega (arith, within, count)) is_job is_copy has
+    let stock = stock-posted f g s n cell job left x follows.stock below next (slice_get_within jobs n job is_job) has
     (ap g.cells here ∙ changes.cell) (λ i apart. changes.other_cells i (λ e. apart (e ∙ sym here))) in
-    assembled jobs r new g r.workers nexts unposted copies cells (ap (λ (c : CoreState). c.submitters) same) (ap (λ (c : CoreState). c.workers) same)
+    assembled jobs r new g r.workers nexts unposted cells (ap (λ (c : CoreState). c.submitters) same) (ap (λ (c : CoreState). c.workers) same)
     step.2 follows.worker_count
     (all-hold r.core.submitters r.workers.items f g follows.workers (λ w. ap (λ v. v.hand) (changes.other_parties (r.core.submitters + w) (λ e. omega (arith, e, below)))))
-    (subst (λ (ns : List ℕ). HasStock jobs r.core.submitters ns unposted.items copies.items cells.items g.cells) (sym are_nexts)
-    (subst (λ (js : List Job). HasStock jobs r.core.submitters (set r.nexts.items s (n + r.core.submitters)) js copies.items cells.items g.cells) (sym are_jobs)
-    (subst (λ (cs : List Job). HasStock jobs r.core.submitters (set r.nexts.items s (n + r.core.submitters)) (set r.jobs.items n blank) cs cells.items g.cells) (sym are_copies)
-    (subst (λ (zs : List Posted). HasStock jobs r.core.submitters (set r.nexts.items s (n + r.core.submitters)) (set r.jobs.items n blank) (set r.copies.items n other) zs g.cells) (sym are_cells) stock))))
+    (subst (λ (ns : List ℕ). HasStock jobs r.core.submitters ns unposted.items cells.items g.cells) (sym are_nexts)
+    (subst (λ (us : List (Option Unposted)). HasStock jobs r.core.submitters (set r.nexts.items s (n + r.core.submitters)) us cells.items g.cells) (sym are_left)
+    (subst (λ (zs : List Posted). HasStock jobs r.core.submitters (set r.nexts.items s (n + r.core.submitters)) (set r.unposted.items n left) zs g.cells) (sym are_cells) stock)))
 
 -- a result that is collected changes no hand, and leaves its cell free
 pub collect-plays : (jobs : List Job) (r : Replayer) (new : CoreState) (s : ℕ) (d : Done) → IsPlaying jobs r → s < r.core.submitters
     → new ≡ handed_out r.core s → Leads r.core (collect s) (collected d) new
-    → IsPlaying jobs (record { alloc = r.alloc; core = new; workers = r.workers; jobs = r.jobs; copies = r.copies; nexts = r.nexts; posted = r.posted })
+    → IsPlaying jobs (record { core = new; workers = r.workers; unposted = r.unposted; nexts = r.nexts; posted = r.posted })
 collect-plays jobs r new s d playing below same leads =
     let f = playing.0 in
     let follows = playing.1 in
     let step = leads f follows.front in
     let g : FrontState Job Done = step.0 in
     let changes = step.1.2 in
-    assembled jobs r new g r.workers r.nexts r.jobs r.copies r.posted (ap (λ (c : CoreState). c.submitters) same) (ap (λ (c : CoreState). c.workers) same)
+    assembled jobs r new g r.workers r.nexts r.unposted r.posted (ap (λ (c : CoreState). c.submitters) same) (ap (λ (c : CoreState). c.workers) same)
     step.2 follows.worker_count
     (all-hold r.core.submitters r.workers.items f g follows.workers (λ w. ap (λ v. v.hand) (changes.other_parties (r.core.submitters + w) (λ e. omega (arith, e, below)))))
     (stock-kept f g follows.stock (jobs-kept f g (cell_of s (f.seats s).handed) free changes.cell changes.other_cells (λ job e. cc)))
@@ -302,7 +306,7 @@ module _ (jobs : List Job) (r : Replayer) (w p : ℕ) (given : Option Entry) (x 
 
     pub flush-plays : (new : CoreState) (workers : Vec Worker Global) → new ≡ core_after p given r.core
         → IfSome given (λ e. Leads r.core (finish p e.0 e.1) accepted new) → workers.items ≡ set r.workers.items w y
-        → IsPlaying jobs (record { alloc = r.alloc; core = new; workers = workers; jobs = r.jobs; copies = r.copies; nexts = r.nexts; posted = r.posted })
+        → IsPlaying jobs (record { core = new; workers = workers; unposted = r.unposted; nexts = r.nexts; posted = r.posted })
     flush-plays new workers same leads are =
         let f = playing.0 in
         let follows = playing.1 in
@@ -310,22 +314,19 @@ module _ (jobs : List Job) (r : Replayer) (w p : ℕ) (given : Option Entry) (x 
         let h : FrontState Job Done = last.0 in
         let hold : EachHolds r.core.submitters (set r.workers.items w y) h
         = others-hold r.core.submitters w p r.workers.items y f h party follows.workers last.1.hands (subst (Holds y) (sym last.1.hand) flushed.holds) in
-        assembled jobs r new h workers r.nexts r.jobs r.copies r.posted
+        assembled jobs r new h workers r.nexts r.unposted r.posted
         (ap (λ (c : CoreState). c.submitters) same ∙ (parties p given r.core).0) (ap (λ (c : CoreState). c.workers) same ∙ (parties p given r.core).1)
         last.1.front (ap length are ∙ length-set r.workers.items w y ∙ follows.worker_count)
         (subst (λ (ws : List Worker). EachHolds r.core.submitters ws h) (sym are) hold)
         (stock-kept f h follows.stock last.1.jobs)
 
   -- a worker's claim, and the finish that it leads to
-  module _ (mid : CoreState) (cell : ℕ) (z : Posted) (there : slice_get r.posted.items cell ≡ Some z) (claims : ClaimsAt r.core p cell mid)
+  module _ (mid : CoreState) (cell : ℕ) (claims : ClaimsAt r.core p cell mid)
       (hand : option_to_list (option_map (λ t. t.0) given) ++ y.hand.items ≡ x.hand.items ++ cell ∷ [])
-      (owed : option_to_list (option_map (λ t. t.1) given) ++ y.manager.owed ≡ x.manager.owed ++ result_of z.copy ∷ [])
+      (owed : option_to_list (option_map (λ t. t.1) given) ++ y.manager.owed ≡ x.manager.owed ++ result_of claims.job ∷ [])
       (law : (f : FrontState Job Done) → StandsFor mid f → Lawful result_of mid.submitters mid.workers f) where
-    claimed-by : (g : FrontState Job Done) × Claimed mid p cell given x y z claims.job playing.0 g
-    claimed-by = claim-taken jobs r mid p cell given x y z playing.0 playing.1 holds there claims hand owed
-
-    pub claim-copy : z.copy ≡ claims.job
-    claim-copy = claimed-by.1.copy
+    claimed-by : (g : FrontState Job Done) × Claimed mid p cell given x y playing.0 g
+    claimed-by = claim-taken jobs r mid p cell given x y playing.0 playing.1 holds claims hand owed
 
     pub claim-held : IfSome given (λ e. (e.0 < CELLS * mid.submitters) × HasHand mid e.0 p e.1)
     claim-held = let part = claimed-by.1.taken in first-held mid claimed-by.0 p given part.rest part.front (law claimed-by.0 part.front) part.hand
@@ -342,7 +343,7 @@ module _ (jobs : List Job) (r : Replayer) (w p : ℕ) (given : Option Entry) (x 
     pub claim-plays : (new : CoreState) (taken : Posted) (workers : Vec Worker Global) (cells : Vec Posted Global) → new ≡ core_after p given mid
         → IfSome given (λ e. Leads mid (finish p e.0 e.1) accepted new)
         → workers.items ≡ set r.workers.items w y → cells.items ≡ set r.posted.items cell taken
-        → IsPlaying jobs (record { alloc = r.alloc; core = new; workers = workers; jobs = r.jobs; copies = r.copies; nexts = r.nexts; posted = cells })
+        → IsPlaying jobs (record { core = new; workers = workers; unposted = r.unposted; nexts = r.nexts; posted = cells })
     claim-plays new taken workers cells same leads are_workers are_cells =
         let f = playing.0 in
         let follows = playing.1 in
@@ -353,11 +354,11 @@ module _ (jobs : List Job) (r : Replayer) (w p : ℕ) (given : Option Entry) (x 
         let hold : EachHolds r.core.submitters (set r.workers.items w y) h
         = others-hold r.core.submitters w p r.workers.items y f h party follows.workers (λ q other. last.1.hands q other ∙ part.hands q other)
         (subst (Holds y) (sym last.1.hand) part.holds) in
-        let stock : HasStock jobs r.core.submitters r.nexts.items r.jobs.items r.copies.items (set r.posted.items cell taken) h.cells
+        let stock : HasStock jobs r.core.submitters r.nexts.items r.unposted.items (set r.posted.items cell taken) h.cells
         = stock-kept g h (stock-claimed f g cell taken follows.stock part.jobs claimed-by.1.gone) last.1.jobs in
-        assembled jobs r new h workers r.nexts r.jobs r.copies cells
+        assembled jobs r new h workers r.nexts r.unposted cells
         (ap (λ (c : CoreState). c.submitters) same ∙ (parties p given mid).0 ∙ ap (λ (c : CoreState). c.submitters) claims.state)
         (ap (λ (c : CoreState). c.workers) same ∙ (parties p given mid).1 ∙ ap (λ (c : CoreState). c.workers) claims.state)
         last.1.front (ap length are_workers ∙ length-set r.workers.items w y ∙ follows.worker_count)
         (subst (λ (ws : List Worker). EachHolds r.core.submitters ws h) (sym are_workers) hold)
-        (subst (λ (zs : List Posted). HasStock jobs r.core.submitters r.nexts.items r.jobs.items r.copies.items zs h.cells) (sym are_cells) stock)
+        (subst (λ (zs : List Posted). HasStock jobs r.core.submitters r.nexts.items r.unposted.items zs h.cells) (sym are_cells) stock)

@@ -1,7 +1,7 @@
 -- The state that a replay begins with.
-use Rattle.std.proofs.Common.{◌≡◌, ◌∙◌, ◌+◌, ◌*◌, ◌%◌, ◌<◌, ◌++◌, [], ◌∷◌, ap, sym, subst, refl, ℕ, zero, suc, List, Some, map, replicate, length, option_map, arith}
+use Rattle.std.proofs.Common.{◌≡◌, ◌∙◌, ◌+◌, ◌*◌, ◌%◌, ◌<◌, ◌++◌, [], ◌∷◌, ap, sym, refl, ℕ, zero, suc, List, Option, Some, map, replicate, length, option_map, option_to_list, arith}
 use Rattle.std.specs.Prelude.{slice_get}
-use Rattle.std.specs.List.{range_with_len}
+use Rattle.std.specs.List.{flat_map, range_with_len}
 use Rattle.std.proofs.lemmas.List.{length-map, length-replicate}
 use Rattle.std.proofs.lemmas.List.FromFn.{length-range_with_len}
 use Rattle.std.proofs.lemmas.Option.{none-some, same_Some, slice_get-map}
@@ -15,9 +15,10 @@ use Rattle.mbj_core.specs.Stands.{StandsFor}
 use Rattle.mbj_core.specs.declared.cells.TheConstants.{CELLS}
 use Rattle.mbj_manager.specs.State.{ManagerState, new_manager}
 use Rattle.mbj_replay.specs.Replay.{Replaying, new_replay}
-use Rattle.mbj_replay.specs.Inside.State.{IsPlaying}
+use Rattle.mbj_replay.specs.Inside.State.{IsPlaying, with_copy}
 use Rattle.mbj_replay.specs.declared.replayer.Posted.{Posted}
 use Rattle.mbj_replay.specs.declared.replayer.Replayer.{Replayer}
+use Rattle.mbj_replay.specs.declared.replayer.Unposted.{Unposted}
 use Rattle.mbj_replay.specs.declared.worker.Worker.{Worker}
 
 range-more-from : (a n : ℕ) → range_with_len a (n + 1) ≡ range_with_len a n ++ (a + n) ∷ []
@@ -45,18 +46,29 @@ alike (suc k) y z (suc i) at = alike k y z i at
 all-alike : {A B : Type 0} (f : A → B) (xs : List A) (k : ℕ) (y : B) (i : ℕ) (x : A) → map f xs ≡ replicate k y → slice_get xs i ≡ Some x → f x ≡ y
 all-alike f xs k y i x are at = alike k y (f x) i (ap (λ l. slice_get l i) (sym are) ∙ slice_get-map f xs i ∙ ap (option_map f) at)
 
-pub begun : (r : Replayer) (core : CoreState) (submitters workers : ℕ) → r.core ≡ core → core ≡ new_core submitters workers → StandsFor core new_front
+-- the jobs that are not posted
+abbrev pub jobs_left : List (Option Unposted) → List Job
+jobs_left unposted = flat_map (λ x. option_to_list (option_map (λ u. u.job) x)) unposted
+
+left-of : (jobs : List Job) → jobs_left (map with_copy jobs) ≡ jobs
+left-of [] = refl
+left-of (job ∷ jobs) = ap (λ (l : List Job). job ∷ l) (left-of jobs)
+
+-- where none is posted, all are left
+pub all-left : (jobs : List Job) (unposted : List (Option Unposted)) → unposted ≡ map with_copy jobs → jobs_left unposted ≡ jobs
+all-left jobs unposted left = ap jobs_left left ∙ left-of jobs
+
+pub begun : (jobs : List Job) (r : Replayer) (submitters workers : ℕ) → r.core ≡ new_core submitters workers → StandsFor r.core new_front
     → map (λ x. x.manager) r.workers.items ≡ replicate workers new_manager → map (λ x. x.hand.items) r.workers.items ≡ replicate workers []
-    → r.copies.items ≡ r.jobs.items → r.nexts.items ≡ range_with_len 0 submitters
+    → r.unposted.items ≡ map with_copy jobs → r.nexts.items ≡ range_with_len 0 submitters
     → map (λ x. x.number) r.posted.items ≡ replicate (CELLS * submitters) 0
-    → IsPlaying r.jobs.items r
-begun r core submitters workers viewed new front managers hands copies nexts numbers =
+    → IsPlaying jobs r
+begun jobs r submitters workers is_core front managers hands left nexts numbers =
     let f : FrontState Job Done = new_front in
-    let is_core : r.core ≡ new_core submitters workers = viewed ∙ new in
     let count : r.core.submitters ≡ submitters = ap (λ (c : CoreState). c.submitters) is_core in (
       f,
       record {
-        front = subst (λ (c : CoreState). StandsFor c f) (sym viewed) front;
+        front = front;
         worker_count = sym (length-map r.workers.items (λ (x : Worker). x.manager)) ∙ ap length managers ∙ length-replicate workers new_manager
             ∙ sym (ap (λ (c : CoreState). c.workers) is_core);
         workers = λ w x at. record {
@@ -67,9 +79,8 @@ begun r core submitters workers viewed new front managers hands copies nexts num
           next_count = ap length nexts ∙ length-range_with_len 0 submitters ∙ sym count;
           each_next = λ s n at. let own = in-range 0 submitters s n (ap (λ l. slice_get l s) (sym nexts) ∙ at) in
               (ap (λ (k : ℕ). n % k) count ∙ mod-eq_of_lt {n = n} {m = submitters} (omega (arith, own.0, own.1)) ∙ own.0 ∙ omega arith, omega (arith, own.0, own.1, count));
-          job_count = refl;
-          copy_count = ap length copies;
-          each_left = λ s n m at above of. (refl, ap (λ l. slice_get l m) copies);
+          job_count = ap length left ∙ length-map jobs with_copy;
+          each_left = λ s n m at above of. ap (λ l. slice_get l m) left ∙ slice_get-map with_copy jobs m;
           cell_count = sym (length-map r.posted.items (λ (x : Posted). x.number)) ∙ ap length numbers ∙ length-replicate (CELLS * submitters) 0
               ∙ ap (λ (n : ℕ). CELLS * n) (sym count);
           each_ready = λ c job x at is. let bad : ◌≡◌ {A = Cell Job Done} free (ready job) = is in cc;

@@ -4,7 +4,7 @@ ghost use Rattle.mbj_types.specs.declared.job.Job.{Job};
 ghost use Rattle.mbj_core.specs.declared.cells.TheConstants.{MAX_SUBMITTERS, MAX_WORKERS};
 ghost use Rattle.mbj_text.specs.declared.limits.TheConstants.{JOB_LIMIT};
 ghost use Rattle.mbj_replay.specs.Replay.{IsFor, Replaying, claim_told, collect_told, flush_told, lines_from, new_replay, number_in, post_told, replay_lines, told};
-ghost use Rattle.mbj_replay.specs.Inside.State.{HasPartiesOf, IsPlaying, lines_of, state_of};
+ghost use Rattle.mbj_replay.specs.Inside.State.{HasPartiesOf, IsPlaying, lines_of, state_of, with_copy};
 
 use crate::claiming::{cell_behind, claim_earliest, finish_given, party_of};
 use crate::line::ReplayLine;
@@ -13,53 +13,48 @@ use mbj_core::{CELLS, Core};
 use mbj_text::Cmd;
 use mbj_types::{Job, PostFull};
 use std::alloc::{AllocError, Global};
-use std::mem;
+
+/// A job that is not posted, and its copy, which a worker gets once it claims the job.
+#[derive(Drop)]
+pub(crate) struct Unposted {
+    job: Job,
+    copy: Job,
+}
 
 /// What a replay keeps of a cell: the number of the job that was last posted there, and a copy of that job until a
 /// worker claims it.
 #[derive(Drop)]
 pub(crate) struct Posted {
     number: u32,
-    copy: Job,
+    copy: Option<Job>,
 }
 
 /// What a command prints: a line, and, where a claim led to a finish, the line of that.
 type Told = (ReplayLine, Option<ReplayLine>);
 
-impl Posted {
-    /// Takes the copy, and leaves a blank job.
-    fn take_copy(&mut self, alloc: Global) -> Job
-        ensures copy { result ≡ self.old.copy }
-        ensures number { self.new.number ≡ self.old.number }
-    {
-        mem::replace(&mut self.copy, Job::blank(alloc))
-    }
-}
-
 /// A front, a worker for each manager, and the jobs of a file, which the commands of a script drive.
 #[derive(Drop)]
 pub(crate) struct Replayer {
-    alloc: Global,
     core: Core,
     workers: Vec<Worker>,
-    // By their numbers, the jobs that are not posted, and a copy of each.
-    jobs: Vec<Job>,
-    copies: Vec<Job>,
+    // By their numbers, the jobs that are not posted.
+    unposted: Vec<Option<Unposted>>,
     // For each submitter, the number of its next job.
     nexts: Vec<u32>,
     // For each cell of the core.
     posted: Vec<Posted>,
 }
 
-/// A copy of each job.
-fn copies_of(alloc: Global, jobs: &[Job]) -> Result<Vec<Job>, AllocError>
-    ensures { IfOk result (λ copies. copies.items ≡ jobs.now) }
+/// Each job with a copy, where none is posted.
+fn with_copies(alloc: Global, jobs: Vec<Job>) -> Result<Vec<Option<Unposted>>, AllocError>
+    ensures { IfOk result (λ unposted. unposted.items ≡ map with_copy jobs.items) }
 {
-    let mut copies = Vec::new(alloc);
+    let mut unposted = Vec::new(alloc);
     for job in jobs {
-        copies.push(job.copy(alloc)?)?;
+        let copy = job.copy(alloc)?;
+        unposted.push(Some(Unposted { job, copy }))?;
     }
-    Ok(copies)
+    Ok(unposted)
 }
 
 /// The numbers below this one.
@@ -81,7 +76,7 @@ fn unused_cells(alloc: Global, count: u32) -> Result<Vec<Posted>, AllocError>
     for _ in 0..count {
         cells.push(Posted {
             number: 0,
-            copy: Job::blank(alloc),
+            copy: None,
         })?;
     }
     Ok(cells)
@@ -123,17 +118,14 @@ impl Replayer {
         requires submitters { (1 ≤ submitters) × (submitters ≤ MAX_SUBMITTERS) }
         requires workers { workers ≤ MAX_WORKERS }
         ensures state { IfOk result (λ r. state_of r ≡ new_replay submitters workers) }
-        ensures jobs { IfOk result (λ r. r.jobs ≡ jobs) }
+        ensures jobs { IfOk result (λ r. r.unposted.items ≡ map with_copy jobs.items) }
         ensures playing { IfOk result (IsPlaying jobs.items) }
     {
         let core = Core::new(alloc, submitters, workers)?;
-        let copies = copies_of(alloc, &jobs)?;
         Ok(Replayer {
-            alloc,
             core,
             workers: idle_workers(alloc, workers)?,
-            jobs,
-            copies,
+            unposted: with_copies(alloc, jobs)?,
             nexts: numbers_below(alloc, submitters)?,
             posted: unused_cells(alloc, CELLS * submitters)?,
         })
@@ -160,17 +152,21 @@ impl Replayer {
     {
         let number = self.nexts[s as usize];
         let at = number as usize;
-        if at >= self.jobs.len() {
+        if at >= self.unposted.len() {
             return ReplayLine::PostEnd(s);
         }
         let cell = cell_behind(&self.core, s, self.core.out(s)) as usize;
-        let job = mem::replace(&mut self.jobs[at], Job::blank(self.alloc));
+        let Some(Unposted { job, copy }) = self.unposted[at].take() else {
+            unreachable!()
+        };
         if let Err(PostFull(job)) = self.core.post(s, job) {
-            self.jobs[at] = job;
+            self.unposted[at] = Some(Unposted { job, copy });
             return ReplayLine::PostFull(s);
         }
-        let copy = mem::replace(&mut self.copies[at], Job::blank(self.alloc));
-        self.posted[cell] = Posted { number, copy };
+        self.posted[cell] = Posted {
+            number,
+            copy: Some(copy),
+        };
         self.nexts[s as usize] = number + self.core.submitters();
         ReplayLine::Post {
             submitter: s,
@@ -204,7 +200,9 @@ impl Replayer {
             );
         };
         let job = self.number_at(Some(cell));
-        let copy = self.posted[cell as usize].take_copy(self.alloc);
+        let Some(copy) = self.posted[cell as usize].copy.take() else {
+            unreachable!()
+        };
         let given = self.workers[worker].submit(cell, copy);
         // By the law of the front each cell of the hand is there once.
         self.core.stands_for_lawful_states();
@@ -270,14 +268,14 @@ impl Replayer {
     }
 
     /// Does what the commands say, and answers what they print.
-    fn play(&mut self, commands: Vec<Cmd>) -> Result<Vec<ReplayLine>, AllocError>
+    fn play(&mut self, alloc: Global, commands: Vec<Cmd>) -> Result<Vec<ReplayLine>, AllocError>
         ghost jobs: { List Job }
         requires playing { IsPlaying jobs self.old }
         requires limit { length jobs ≤ JOB_LIMIT }
         requires parties { All (IsFor self.old.core.submitters self.old.core.workers) commands.items }
         ensures { IfOk result (λ lines. lines.items ≡ lines_from jobs commands.items (state_of self.old)) }
     {
-        let mut lines = Vec::new(self.alloc);
+        let mut lines = Vec::new(alloc);
         for command in commands {
             let told = self.perform(command);
             push_told(&mut lines, told)?;
@@ -303,5 +301,5 @@ pub fn replay_lines(
     ensures { IfOk result (λ lines. lines.items ≡ replay_lines jobs.items commands.items submitters workers) }
 {
     let mut replayer = Replayer::new(alloc, jobs, submitters, workers)?;
-    replayer.play(commands)
+    replayer.play(alloc, commands)
 }
