@@ -17,16 +17,12 @@ mod trace;
 mod workers;
 mod yielding_gates;
 
-ghost use Rattle.std.specs.Prelude.{◌≤◌, None};
+ghost use Rattle.std.specs.Prelude.{None};
 
 use super::*;
 use mbj_io::{Failed, Source};
-use runs::{Ending, Told, check_run, run_file, run_from, run_on, run_over, sink, source};
-use std::alloc::{AllocError, Global};
-use std::process::Abort;
-use std::sync::Wait;
-use std::test::Fail;
-use std::thread::Threads;
+use runs::{Host, Run, Told, run_on};
+use std::alloc::Global;
 
 const RUN: [&str; 6] = ["mbjobs", "run", "--submitters", "1", "--workers", "0"];
 
@@ -36,34 +32,15 @@ const FIRST_JOB: &str =
 
 const FIRST_RESULT: &str = "0 ok 4869205468657265 b617318655057264e28bc0b6fb378c8ef146be00\n";
 
-/// Room for what a test writes.
-const ROOM: usize = 1 << 20;
-
 /// A job file, the status of its run with one submitter, and what that writes on standard output and standard error.
 type FileCase = (&'static str, u8, &'static str, &'static str);
 
 /// Runs the program on each file, and compares its status and what it writes.
-fn compare<R: Threads + Wait + Sync + Abort>(
-    rt: &R,
-    alloc: Global,
-    cases: &[FileCase],
-) -> Result<(), AllocError> {
+fn compare<R: Host>(rt: &R, alloc: Global, cases: &[FileCase]) {
     for (file, status, out, err) in cases {
-        compare_file(rt, alloc, file, Told::new(*status, out, err))?;
+        let told = Told::new(*status, out, err);
+        Run::new(&RUN, file.as_bytes()).check(rt, alloc, told);
     }
-    Ok(())
-}
-
-/// Runs the program on a file, and compares its status and what it writes.
-fn compare_file<R: Threads + Wait + Sync + Abort>(
-    rt: &R,
-    alloc: Global,
-    file: &str,
-    told: Told<'_>,
-) -> Result<(), AllocError> {
-    let ending = run_file(rt, alloc, file.as_bytes())?;
-    ending.check(rt, told, &file);
-    Ok(())
 }
 
 const BAD_FILES: [FileCase; 7] = [
@@ -107,8 +84,8 @@ const BAD_FILES: [FileCase; 7] = [
 ];
 
 #[test]
-fn bad_files_are_told_by_line_and_field(rt: HostRuntime) -> Result<(), Fail> {
-    Ok(compare(&rt, rt.alloc(), &BAD_FILES)?)
+fn bad_files_are_told_by_line_and_field(rt: HostRuntime) {
+    compare(&rt, rt.alloc(), &BAD_FILES);
 }
 
 const NO_COMMANDS: [&[&str]; 6] = [
@@ -120,34 +97,27 @@ const NO_COMMANDS: [&[&str]; 6] = [
     &[],
 ];
 
-/// Sees that no byte was read and none written, and that a line was told.
-fn check_unread<R: Abort>(rt: &R, ending: &Ending, words: &[&str]) {
+/// Runs the program on words that are no command: it reads no byte and writes none, and tells a line.
+fn reads_nothing<R: Host>(rt: &R, alloc: Global, words: &'static [&'static str]) {
+    let run = Run {
+        read_piece: 64,
+        write_piece: 64,
+        ..Run::new(words, FIRST_JOB.as_bytes())
+    };
+    let ending = run.end(rt, alloc);
     let Told { status, out, err } = ending.told();
     assert_eq!(rt;
         (status, ending.input.rest(), out.len(), err.ends_with(b"\n")),
-        (2, FIRST_JOB.as_bytes(), 0, true),
+        (2, run.input, 0, true),
         "{words:?}"
     );
 }
 
-/// Runs the program on words that are no command: it reads nothing, and tells a line.
-fn reads_nothing<R: Threads + Wait + Sync + Abort>(
-    rt: &R,
-    alloc: Global,
-    words: &[&str],
-) -> Result<(), AllocError> {
-    let input = source(alloc, FIRST_JOB.as_bytes(), 64, &[])?;
-    let ending = run_from(rt, alloc, words, input, 64, &OpenGate)?;
-    check_unread(rt, &ending, words);
-    Ok(())
-}
-
 #[test]
-fn words_that_are_no_command_read_nothing(rt: HostRuntime) -> Result<(), Fail> {
+fn words_that_are_no_command_read_nothing(rt: HostRuntime) {
     for words in &NO_COMMANDS {
-        reads_nothing(&rt, rt.alloc(), words)?;
+        reads_nothing(&rt, rt.alloc(), words);
     }
-    Ok(())
 }
 
 /// Words that are no command, and what clap 4 says of a number out of its range.
@@ -167,53 +137,33 @@ const TOLD_WORDS: [(&[&str], &str); 3] = [
 ];
 
 #[test]
-fn words_that_are_no_command_are_told(rt: HostRuntime) -> Result<(), Fail> {
+fn words_that_are_no_command_are_told(rt: HostRuntime) {
     for (words, text) in &TOLD_WORDS {
-        check_run(&rt, rt.alloc(), words, b"", Told::new(2, "", text))?;
+        Run::new(words, b"").check(&rt, rt.alloc(), Told::new(2, "", text));
     }
-    Ok(())
-}
-
-/// Runs the first job with reads and writes that fail, the reads by pieces.
-fn run_failing<R: Threads + Wait + Sync>(
-    rt: &R,
-    alloc: Global,
-    piece: u32,
-    reads: &[u64],
-    writes: &[u64],
-) -> Result<Ending, AllocError>
-    requires { 1 ≤ piece }
-{
-    let input = source(alloc, FIRST_JOB.as_bytes(), piece, reads)?;
-    let out = sink(alloc, ROOM, 7, writes)?;
-    let err = sink(alloc, ROOM, 7, &[])?;
-    run_over(rt, alloc, &RUN, input, out, err, &OpenGate)
-}
-
-/// Runs the first job with reads and writes that fail, and compares how that ends.
-fn fails_as<R: Threads + Wait + Sync + Abort>(
-    rt: &R,
-    alloc: Global,
-    piece: u32,
-    reads: &[u64],
-    writes: &[u64],
-    told: Told<'_>,
-) -> Result<(), AllocError>
-    requires { 1 ≤ piece }
-{
-    let ending = run_failing(rt, alloc, piece, reads, writes)?;
-    ending.check(rt, told, &(reads, writes));
-    Ok(())
 }
 
 #[test]
-fn a_failed_read_or_write_ends_the_run(rt: HostRuntime) -> Result<(), Fail> {
-    let told = Told::new(3, "", "mbjobs: read failed\n");
-    fails_as(&rt, rt.alloc(), 5, &[1], &[], told)?;
+fn a_failed_read_or_write_ends_the_run(rt: HostRuntime) {
+    let run = Run {
+        write_piece: 7,
+        ..Run::new(&RUN, FIRST_JOB.as_bytes())
+    };
+    let read = Run {
+        read_piece: 5,
+        failing_reads: &[1],
+        ..run
+    };
+    read.check(&rt, rt.alloc(), Told::new(3, "", "mbjobs: read failed\n"));
 
     // A sink that takes 7 bytes a call and fails at its call 2 holds the first 14.
+    let write = Run {
+        read_piece: 64,
+        failing_writes: &[2],
+        ..run
+    };
     let told = Told::new(4, "0 ok 486920546", "mbjobs: write failed\n");
-    Ok(fails_as(&rt, rt.alloc(), 64, &[], &[2], told)?)
+    write.check(&rt, rt.alloc(), told);
 }
 
 /// A source that is at its end once, and would then give more.
@@ -235,40 +185,38 @@ impl Source for Reopened {
 }
 
 /// Runs the program over a source, and answers its status and how much it writes.
-fn run_reopened<R: Threads + Wait + Sync>(
-    rt: &R,
-    alloc: Global,
-    input: &mut Reopened,
-) -> Result<(u8, usize), AllocError> {
-    let mut out = sink(alloc, ROOM, 64, &[])?;
-    let mut err = sink(alloc, ROOM, 64, &[])?;
-    let status = run_on(rt, alloc, &RUN, input, &mut out, &mut err, &OpenGate)?;
-    Ok((status, out.held().len()))
+fn run_reopened<R: Host>(rt: &R, alloc: Global, input: &mut Reopened) -> (u8, usize) {
+    let run = Run {
+        write_piece: 64,
+        ..Run::new(&RUN, b"")
+    };
+    let mut ending = run.begin(rt, alloc);
+    let status = run_on(
+        rt,
+        alloc,
+        &RUN,
+        input,
+        &mut ending.out,
+        &mut ending.err,
+        &OpenGate,
+    );
+    (status, ending.out.held().len())
 }
 
 #[test]
-fn nothing_is_read_after_the_end(rt: HostRuntime) -> Result<(), Fail> {
+fn nothing_is_read_after_the_end(rt: HostRuntime) {
     let mut input = Reopened { reads: 0 };
-    let ended = run_reopened(&rt, rt.alloc(), &mut input)?;
+    let ended = run_reopened(&rt, rt.alloc(), &mut input);
     assert_eq!(rt; (ended, input.reads), ((0, 0), 1));
-    Ok(())
-}
-
-/// Runs the program on a bad line, with a standard error of so much room.
-fn run_with_room<R: Threads + Wait + Sync>(
-    rt: &R,
-    alloc: Global,
-    room: usize,
-) -> Result<Ending, AllocError> {
-    let input = source(alloc, b"null\n", 64, &[])?;
-    let out = sink(alloc, ROOM, 64, &[])?;
-    let err = sink(alloc, room, 64, &[])?;
-    run_over(rt, alloc, &RUN, input, out, err, &OpenGate)
 }
 
 #[test]
-fn a_fault_of_err_changes_no_status(rt: HostRuntime) -> Result<(), Fail> {
-    let ending = run_with_room(&rt, rt.alloc(), 8)?;
-    ending.check(&rt, Told::new(5, "", "mbjobs: "), &RUN);
-    Ok(())
+fn a_fault_of_err_changes_no_status(rt: HostRuntime) {
+    let run = Run {
+        read_piece: 64,
+        write_piece: 64,
+        err_room: 8,
+        ..Run::new(&RUN, b"null\n")
+    };
+    run.check(&rt, rt.alloc(), Told::new(5, "", "mbjobs: "));
 }

@@ -1,14 +1,6 @@
-ghost use Rattle.std.specs.Prelude.{◌≤◌};
-
-use super::runs::{Ending, Told, run_from, source};
+use super::runs::{Host, Run, Told};
 use super::{FIRST_JOB, FIRST_RESULT, RUN};
-use mbj_io::MemSource;
-use mbj_work::OpenGate;
-use std::alloc::{AllocError, Global};
-use std::process::Abort;
-use std::sync::Wait;
-use std::test::Fail;
-use std::thread::Threads;
+use std::alloc::Global;
 
 /// A command that reads, and what it writes for the first job.
 type Command = (&'static [&'static str], &'static str);
@@ -38,79 +30,50 @@ fn told_of(text: &str, fails: bool) -> Told<'_> {
     }
 }
 
-/// Compares what is left of the input, and how often a read failed. Nothing is read after a failed read.
-fn check_left<R: Abort>(rt: &R, input: &MemSource, piece: u32, number: u64, fails: bool) {
-    let read = (piece as usize).saturating_mul(number as usize);
+/// Runs a command on the first job with the read of a number failing, and compares how it ends, what is left of the input,
+/// and how often a read failed. Nothing is read after a failed read.
+fn compare<R: Host>(
+    rt: &R,
+    alloc: Global,
+    command: &Command,
+    piece: u32,
+    number: u32,
+    fails: bool,
+) {
+    let (words, text) = command;
+    let run = Run {
+        read_piece: piece,
+        failing_reads: &[u64::from(number)],
+        write_piece: 64,
+        ..Run::new(words, FIRST_JOB.as_bytes())
+    };
+    let ending = run.end(rt, alloc);
+    let left = FIRST_JOB
+        .len()
+        .saturating_sub((piece as usize).saturating_mul(number as usize));
     assert_eq!(rt;
-        (input.rest().len(), input.faults()),
-        (FIRST_JOB.len().saturating_sub(read), u64::from(fails)),
+        (
+            ending.told(),
+            ending.input.rest().len(),
+            ending.input.faults()
+        ),
+        (told_of(text, fails), left, u64::from(fails)),
         "read {number} by {piece}"
     );
 }
 
-/// Runs a command on the first job, with the read of one number failing.
-fn run_failing<R: Threads + Wait + Sync>(
-    rt: &R,
-    alloc: Global,
-    words: &[&str],
-    piece: u32,
-    number: u64,
-) -> Result<Ending, AllocError>
-    requires { 1 ≤ piece }
-{
-    let input = source(alloc, FIRST_JOB.as_bytes(), piece, &[number])?;
-    run_from(rt, alloc, words, input, 64, &OpenGate)
-}
-
-/// Runs a command on the first job, with the read of one number failing, and compares how it ends and what it has read.
-fn compare<R: Threads + Wait + Sync + Abort>(
-    rt: &R,
-    alloc: Global,
-    command: &Command,
-    piece: u32,
-    number: u64,
-    fails: bool,
-) -> Result<(), AllocError>
-    requires { 1 ≤ piece }
-{
-    let (words, text) = command;
-    let ending = run_failing(rt, alloc, words, piece, number)?;
-    ending.check(rt, told_of(text, fails), &(number, piece));
-    check_left(rt, &ending.input, piece, number, fails);
-    Ok(())
-}
-
-/// Runs a command with each of so many reads failing, and with two that it doesn't come to.
-fn compare_reads<R: Threads + Wait + Sync + Abort>(
-    rt: &R,
-    alloc: Global,
-    command: &Command,
-    piece: u32,
-    reads: u64,
-) -> Result<(), AllocError> {
-    assert!(rt; 1 <= piece);
-    for number in 0..reads.saturating_add(2) {
-        compare(rt, alloc, command, piece, number, number < reads)?;
-    }
-    Ok(())
-}
-
-/// Runs a command with each of its reads failing, by pieces of each length.
-fn compare_command<R: Threads + Wait + Sync + Abort>(
-    rt: &R,
-    alloc: Global,
-    command: &Command,
-) -> Result<(), AllocError> {
+/// Runs a command with each of its reads failing, and with two that it doesn't come to, by pieces of each length.
+fn compare_command<R: Host>(rt: &R, alloc: Global, command: &Command) {
     for (piece, reads) in READS {
-        compare_reads(rt, alloc, command, piece, u64::from(reads))?;
+        for number in 0..reads + 2 {
+            compare(rt, alloc, command, piece, number, number < reads);
+        }
     }
-    Ok(())
 }
 
 #[test]
-fn each_read_that_fails_ends_the_run(rt: HostRuntime) -> Result<(), Fail> {
+fn each_read_that_fails_ends_the_run(rt: HostRuntime) {
     for command in &COMMANDS {
-        compare_command(&rt, rt.alloc(), command)?;
+        compare_command(&rt, rt.alloc(), command);
     }
-    Ok(())
 }

@@ -1,9 +1,13 @@
-use super::runs::{Told, check_run};
+use super::replay::add_steps;
+use super::runs::{Run, Told};
+use super::trace::add_lines;
 use std::alloc::{AllocError, Global};
-use std::test::Fail;
 
 /// How many jobs a submitter may have out, and a worker in its hand.
 const FULL: usize = 256;
+
+/// The number of the last of these jobs.
+const LAST: u32 = 255;
 
 const WORDS: [&str; 6] = ["mbjobs", "replay", "--submitters", "1", "--workers", "1"];
 
@@ -29,59 +33,28 @@ const STEPS: [(&str, &str); 6] = [
     ("claim 0 0\n", "claim 0 256\nfinish 0 1\n"),
 ];
 
-/// A file with a script, and what that prints.
-#[derive(Drop)]
-struct Script {
-    file: String,
-    text: String,
+/// The file of one job more than a submitter may have out, and the commands that fill the hand of the worker.
+fn filling_file(alloc: Global) -> Result<String, AllocError> {
+    let jobs = DONE_JOB.repeat(alloc, FULL)?;
+    let posts = "post 0\n".repeat(alloc, FULL + 1)?;
+    let claims = "claim 0 0\n".repeat(alloc, FULL)?;
+    format!(in alloc; "{WAITING_JOB}{jobs}%\n{posts}{claims}")
 }
 
-impl Script {
-    /// The file of one job more than a submitter may have out, with no command.
-    fn new(alloc: Global) -> Result<Script, AllocError> {
-        let jobs = DONE_JOB.repeat(alloc, FULL)?;
-        Ok(Script {
-            file: format!(in alloc; "{WAITING_JOB}{jobs}%\n")?,
-            text: String::new(alloc),
-        })
-    }
-
-    /// Adds a command and the lines that it prints.
-    fn add(&mut self, command: &str, lines: &str) -> Result<(), AllocError> {
-        self.file.push_str(command)?;
-        self.text.push_str(lines)
-    }
-
-    /// Adds commands that are alike, and what they print for each job from 0.
-    fn repeat(&mut self, alloc: Global, command: &str, line: &str) -> Result<(), AllocError> {
-        for number in 0..FULL {
-            let line = format!(in alloc; "{line}{number}\n")?;
-            self.add(command, &line)?;
-        }
-        Ok(())
-    }
-
-    /// Fills the hand of the worker.
-    fn fill(&mut self, alloc: Global) -> Result<(), AllocError> {
-        self.repeat(alloc, "post 0\n", "post 0 ")?;
-        self.add("post 0\n", "post 0 full\n")?;
-        self.repeat(alloc, "claim 0 0\n", "claim 0 ")
-    }
-
-    fn add_steps(&mut self) -> Result<(), AllocError> {
-        for (command, lines) in &STEPS {
-            self.add(command, lines)?;
-        }
-        Ok(())
-    }
+/// The text that these commands print.
+fn filling_text(alloc: Global) -> Result<String, AllocError> {
+    let mut text = String::new(alloc);
+    add_lines(&mut text, alloc, ("post 0 ", ""), 0, LAST)?;
+    text.push_str("post 0 full\n")?;
+    add_lines(&mut text, alloc, ("claim 0 ", ""), 0, LAST)?;
+    Ok(text)
 }
 
 #[test]
-fn a_full_hand_claims_nothing_until_it_is_flushed(rt: HostRuntime) -> Result<(), Fail> {
+fn a_full_hand_claims_nothing_until_it_is_flushed(rt: HostRuntime) {
     let alloc = rt.alloc();
-    let mut script = Script::new(alloc)?;
-    script.fill(alloc)?;
-    script.add_steps()?;
-    let told = Told::new(0, &script.text, "");
-    Ok(check_run(&rt, alloc, &WORDS, script.file.as_bytes(), told)?)
+    let mut file = filling_file(alloc).expect(&rt, "memory");
+    let mut text = filling_text(alloc).expect(&rt, "memory");
+    add_steps(&mut file, &mut text, &STEPS).expect(&rt, "memory");
+    Run::new(&WORDS, file.as_bytes()).check(&rt, alloc, Told::new(0, &text, ""));
 }

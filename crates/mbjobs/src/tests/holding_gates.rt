@@ -1,13 +1,11 @@
+use super::RUN;
 use super::parties::generated_file;
-use super::runs::{run_file, run_gated};
+use super::runs::{Host, Run};
 use mbj_work::{Gate, Moment};
-use std::alloc::{AllocError, Global};
-use std::process::Abort;
-use std::sync::Wait;
+use std::alloc::Global;
 use std::sync::atomic::Ordering::SeqCst;
 use std::sync::atomic::{AtomicBool, AtomicU32};
-use std::test::Fail;
-use std::thread::{Threads, yield_now};
+use std::thread::yield_now;
 
 /// How many turns a party is held at most; an ask for leave to help is a turn too.
 const MOST_TURNS: u32 = 10_000_000;
@@ -76,67 +74,35 @@ impl Gate for Holding {
     }
 }
 
-/// Runs a file with the party held at a moment, and compares the text.
-fn compare_held<R: Threads + Wait + Sync + Abort>(
-    rt: &R,
-    alloc: Global,
-    gate: &Holding,
-    file: &[u8],
-    text: &[u8],
-) -> Result<(), AllocError> {
-    let ending = run_gated(rt, alloc, &WORDS, file, gate)?;
-    ending.check_long(rt, text, &gate.moment);
-    Ok(())
-}
-
-/// Runs a file with the party held at each moment, and compares the text.
-fn compare_moments<R: Threads + Wait + Sync + Abort>(
-    rt: &R,
-    alloc: Global,
-    party: u32,
-    moments: &[Moment],
-    file: &[u8],
-    text: &[u8],
-) -> Result<(), AllocError> {
+/// Runs a file with the party held at each moment, and compares the text with that of a run with one party.
+fn compare<R: Host>(rt: &R, alloc: Global, party: u32, moments: &[Moment]) {
+    let file = generated_file(alloc, 7, 600).expect(rt, "memory");
+    let one = Run::new(&RUN, file.as_bytes()).end(rt, alloc);
+    one.check_end(rt, b"\n");
     for moment in moments {
         let gate = Holding::new(party, *moment);
-        compare_held(rt, alloc, &gate, file, text)?;
+        let ending = Run::new(&WORDS, file.as_bytes()).under(rt, alloc, &gate);
+        ending.check_long(rt, one.out.held(), moment);
     }
-    Ok(())
-}
-
-/// Runs a file with the party held at each moment, and compares the text with that of a run with one party.
-fn compare<R: Threads + Wait + Sync + Abort>(
-    rt: &R,
-    alloc: Global,
-    party: u32,
-    moments: &[Moment],
-) -> Result<(), AllocError> {
-    let file = generated_file(alloc, 7, 600)?;
-    let one = run_file(rt, alloc, file.as_bytes())?;
-    one.check_end(rt, b"\n");
-    compare_moments(rt, alloc, party, moments, file.as_bytes(), one.out.held())
 }
 
 // Each hold may last for all its turns, which take seconds: so these are two tests.
 #[test]
-fn a_held_worker_changes_no_text(rt: HostRuntime) -> Result<(), Fail> {
+fn a_held_worker_changes_no_text(rt: HostRuntime) {
     compare(
         &rt,
         rt.alloc(),
         WORKER,
         &[Moment::Claimed, Moment::Finishing],
-    )?;
-    Ok(())
+    );
 }
 
 #[test]
-fn a_held_submitter_changes_no_text(rt: HostRuntime) -> Result<(), Fail> {
+fn a_held_submitter_changes_no_text(rt: HostRuntime) {
     compare(
         &rt,
         rt.alloc(),
         SUBMITTER,
         &[Moment::Posted, Moment::Collected],
-    )?;
-    Ok(())
+    );
 }

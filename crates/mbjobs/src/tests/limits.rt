@@ -1,7 +1,6 @@
 use super::RUN;
-use super::runs::{Told, check_run};
+use super::runs::{Run, Told};
 use std::alloc::{AllocError, Global};
-use std::test::Fail;
 
 pub(super) const NULL_JOB: &str = "null enc ch - - 0 0 null - - 0 0 0 -\n";
 
@@ -13,15 +12,9 @@ pub(super) fn lines_around(
     between: &str,
     after: usize,
 ) -> Result<String, AllocError> {
-    let mut file = String::new(alloc);
-    for _ in 0..before {
-        file.push_str(text)?;
-    }
-    file.push_str(between)?;
-    for _ in 0..after {
-        file.push_str(text)?;
-    }
-    Ok(file)
+    let front = text.repeat(alloc, before)?;
+    let back = text.repeat(alloc, after)?;
+    format!(in alloc; "{front}{between}{back}")
 }
 
 /// How many jobs come before a line and behind it, and how the run ends.
@@ -38,19 +31,24 @@ const CASES: [(usize, &str, usize, u8, &str); 3] = [
 ];
 
 #[test]
-fn a_file_has_at_most_65536_jobs(rt: HostRuntime) -> Result<(), Fail> {
+fn a_file_has_at_most_65536_jobs(rt: HostRuntime) {
     for (before, between, after, status, err) in &CASES {
-        let file = lines_around(rt.alloc(), NULL_JOB, *before, between, *after)?;
+        let file = lines_around(rt.alloc(), NULL_JOB, *before, between, *after).expect(
+            &rt, "memory",
+        );
         let told = Told::new(*status, "", err);
-        check_run(&rt, rt.alloc(), &RUN, file.as_bytes(), told)?;
+        Run::new(&RUN, file.as_bytes()).check(&rt, rt.alloc(), told);
     }
-    Ok(())
 }
 
+/// One byte more than an input may have.
+const OVER_BYTES: usize = 16_777_217;
+
 #[test]
-fn an_input_has_at_most_16_mib(rt: HostRuntime) -> Result<(), Fail> {
-    let over = vec![in rt.alloc(); b'\n'; 16_777_217]?;
+fn an_input_has_at_most_16_mib(rt: HostRuntime) {
+    let over = vec![in rt.alloc(); b'\n'; OVER_BYTES].expect(&rt, "memory");
     let told = Told::new(6, "", "mbjobs: input over 16777216 bytes\n");
-    check_run(&rt, rt.alloc(), &RUN, &over, told)?;
-    Ok(check_run(&rt, rt.alloc(), &RUN, &over[1..], Told::new(0, "", ""))?)
+    Run::new(&RUN, &over).check(&rt, rt.alloc(), told);
+    assert_eq!(rt; over.len(), OVER_BYTES);
+    Run::new(&RUN, &over[1..]).check(&rt, rt.alloc(), Told::new(0, "", ""));
 }

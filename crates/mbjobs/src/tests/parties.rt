@@ -1,11 +1,8 @@
-use super::runs::{Told, check_long_run, check_run, run_file};
+use super::RUN;
+use super::runs::{Host, Run, Told};
 use mbj_gen::Generator;
 use mbj_types::{Auth, Bytes, Cipher, Dir, Job, Order};
 use std::alloc::{AllocError, Global};
-use std::process::Abort;
-use std::sync::Wait;
-use std::test::Fail;
-use std::thread::Threads;
 
 const SUBMITTERS: [&str; 4] = ["1", "2", "3", "16"];
 
@@ -128,41 +125,24 @@ pub(super) fn words_with<'a>(submitters: &'a str, workers: &'a str) -> [&'a str;
     ]
 }
 
-/// Runs a file with so many submitters and each number of workers, and compares what it writes.
-fn compare_workers<R: Threads + Wait + Sync + Abort>(
-    rt: &R,
-    alloc: Global,
-    submitters: &str,
-    file: &[u8],
-    text: &[u8],
-) -> Result<(), AllocError> {
-    for workers in WORKERS {
-        check_long_run(rt, alloc, &words_with(submitters, workers), file, text)?;
-    }
-    Ok(())
-}
-
 /// Runs a file with each number of submitters and of workers, and compares what it writes.
-fn compare_parties<R: Threads + Wait + Sync + Abort>(
-    rt: &R,
-    alloc: Global,
-    file: &[u8],
-    text: &[u8],
-) -> Result<(), AllocError> {
+fn compare_parties<R: Host>(rt: &R, alloc: Global, file: &[u8], text: &[u8]) {
     for submitters in SUBMITTERS {
-        compare_workers(rt, alloc, submitters, file, text)?;
+        for workers in WORKERS {
+            let words = words_with(submitters, workers);
+            let ending = Run::new(&words, file).end(rt, alloc);
+            ending.check_long(rt, text, &words);
+        }
     }
-    Ok(())
 }
 
 // With one and with two submitters a submitter has more jobs than cells.
 #[test]
-fn the_text_does_not_depend_on_submitters_and_workers(rt: HostRuntime) -> Result<(), Fail> {
-    let file = generated_file(rt.alloc(), 7, 600)?;
-    let one = run_file(&rt, rt.alloc(), file.as_bytes())?;
+fn the_text_does_not_depend_on_submitters_and_workers(rt: HostRuntime) {
+    let file = generated_file(rt.alloc(), 7, 600).expect(&rt, "memory");
+    let one = Run::new(&RUN, file.as_bytes()).end(&rt, rt.alloc());
     one.check_end(&rt, b"\n");
-    compare_parties(&rt, rt.alloc(), file.as_bytes(), one.out.held())?;
-    Ok(())
+    compare_parties(&rt, rt.alloc(), file.as_bytes(), one.out.held());
 }
 
 /// Seed and number of jobs, and what they come to by a program of their own.
@@ -189,51 +169,40 @@ const SUMMARIES: [(&str, &str, &str); 4] = [
     ),
 ];
 
-/// Generates jobs with so many submitters and each number of workers, and compares what they come to.
-fn generate<'a, R: Threads + Wait + Sync + Abort>(
-    rt: &R,
-    alloc: Global,
+/// The words of a generator with so many submitters and workers.
+fn generating<'a>(
     seed: &'a str,
     jobs: &'a str,
     submitters: &'a str,
-    summary: &str,
-) -> Result<(), AllocError> {
-    for workers in WORKERS {
-        let words = [
-            "mbjobs",
-            "gen",
-            "--seed",
-            seed,
-            "--jobs",
-            jobs,
-            "--submitters",
-            submitters,
-            "--workers",
-            workers,
-        ];
-        check_run(rt, alloc, &words, b"", Told::new(0, summary, ""))?;
-    }
-    Ok(())
+    workers: &'a str,
+) -> [&'a str; 10] {
+    [
+        "mbjobs",
+        "gen",
+        "--seed",
+        seed,
+        "--jobs",
+        jobs,
+        "--submitters",
+        submitters,
+        "--workers",
+        workers,
+    ]
 }
 
-/// Generates jobs with each number of submitters and of workers.
-fn generate_all<R: Threads + Wait + Sync + Abort>(
-    rt: &R,
-    alloc: Global,
-    seed: &str,
-    jobs: &str,
-    summary: &str,
-) -> Result<(), AllocError> {
+/// Generates jobs with each number of submitters and of workers, and compares what they come to.
+fn generate<'a, R: Host>(rt: &R, alloc: Global, seed: &'a str, jobs: &'a str, summary: &str) {
     for submitters in SUBMITTERS {
-        generate(rt, alloc, seed, jobs, submitters, summary)?;
+        for workers in WORKERS {
+            let words = generating(seed, jobs, submitters, workers);
+            Run::new(&words, b"").check(rt, alloc, Told::new(0, summary, ""));
+        }
     }
-    Ok(())
 }
 
 #[test]
-fn generated_jobs_come_to_their_summary(rt: HostRuntime) -> Result<(), Fail> {
+fn generated_jobs_come_to_their_summary(rt: HostRuntime) {
     for (seed, jobs, summary) in &SUMMARIES {
-        generate_all(&rt, rt.alloc(), seed, jobs, summary)?;
+        generate(&rt, rt.alloc(), seed, jobs, summary);
     }
-    Ok(())
 }

@@ -1,12 +1,7 @@
 use super::draws::{Draws, REPLAY};
 use super::parties::generated_file;
-use super::runs::{Ending, check_digest, run_from, run_words, source};
-use mbj_work::OpenGate;
+use super::runs::{Ending, Host, Run, check_digest};
 use std::alloc::{AllocError, Global};
-use std::process::Abort;
-use std::sync::Wait;
-use std::test::Fail;
-use std::thread::Threads;
 
 /// How many inputs of a kind there are.
 const SEEDS: u64 = 64;
@@ -101,18 +96,6 @@ fn input_of(alloc: Global, kind: Kind, seed: u64) -> Result<Vec<u8>, AllocError>
     Ok(file)
 }
 
-/// Runs a command on the input of a kind and a seed.
-fn run_random<R: Threads + Wait + Sync>(
-    rt: &R,
-    alloc: Global,
-    words: &[&str],
-    kind: Kind,
-    seed: u64,
-) -> Result<Ending, AllocError> {
-    let input = input_of(alloc, kind, seed)?;
-    run_words(rt, alloc, words, &input)
-}
-
 /// Adds a line of the status, and then what was written.
 fn add_ending(endings: &mut Vec<u8>, alloc: Global, ending: &Ending) -> Result<(), AllocError> {
     let status = format!(in alloc; "{}\n", ending.status)?;
@@ -122,38 +105,30 @@ fn add_ending(endings: &mut Vec<u8>, alloc: Global, ending: &Ending) -> Result<(
 }
 
 /// How a command ends on inputs of a kind: each time a line of its status, and then what it writes.
-fn endings<R: Threads + Wait + Sync>(
+fn endings<R: Host>(
     rt: &R,
     alloc: Global,
-    words: &[&str],
+    words: &'static [&'static str],
     kind: Kind,
 ) -> Result<Vec<u8>, AllocError> {
     let mut endings = Vec::new(alloc);
     for seed in 0..SEEDS {
-        let ending = run_random(rt, alloc, words, kind, seed)?;
-        add_ending(&mut endings, alloc, &ending)?;
+        let input = input_of(alloc, kind, seed)?;
+        let run = Run {
+            input: &input,
+            ..Run::new(words, b"")
+        };
+        add_ending(&mut endings, alloc, &run.end(rt, alloc))?;
     }
     Ok(endings)
 }
 
-/// Compares the digest of how a command ends on inputs of a kind.
-fn compare<R: Threads + Wait + Sync + Abort>(
-    rt: &R,
-    alloc: Global,
-    words: &[&str],
-    kind: Kind,
-    digest: &str,
-) -> Result<(), AllocError> {
-    let endings = endings(rt, alloc, words, kind)?;
-    check_digest(rt, alloc, &endings, digest, &words)
-}
-
 #[test]
-fn commands_end_on_random_inputs_as_they_are_to(rt: HostRuntime) -> Result<(), Fail> {
+fn commands_end_on_random_inputs_as_they_are_to(rt: HostRuntime) {
     for (words, kind, digest) in &CASES {
-        compare(&rt, rt.alloc(), words, *kind, digest)?;
+        let endings = endings(&rt, rt.alloc(), words, *kind).expect(&rt, "memory");
+        check_digest(&rt, rt.alloc(), &endings, digest, words);
     }
-    Ok(())
 }
 
 const GEN: [&str; 10] = [
@@ -169,20 +144,20 @@ const GEN: [&str; 10] = [
     "1",
 ];
 
-/// Sees that no byte of the input was read, and that a summary was written.
-fn check_unread<R: Abort>(rt: &R, ending: &Ending, bytes: &[u8]) {
+// No byte of the input is read, and a summary is written.
+#[test]
+fn gen_reads_no_input(rt: HostRuntime) {
+    let bytes = random_bytes(rt.alloc(), &mut Draws::new(1)).expect(&rt, "memory");
+    let run = Run {
+        read_piece: 64,
+        failing_reads: &[0],
+        write_piece: 64,
+        ..Run::new(&GEN, &bytes)
+    };
+    let ending = run.end(&rt, rt.alloc());
     let is_told = ending.out.held().starts_with(b"jobs 0\nok 0\n");
     assert_eq!(rt;
         (ending.status, is_told, ending.input.rest()),
-        (0, true, bytes)
+        (0, true, run.input)
     );
-}
-
-#[test]
-fn gen_reads_no_input(rt: HostRuntime) -> Result<(), Fail> {
-    let bytes = random_bytes(rt.alloc(), &mut Draws::new(1))?;
-    let input = source(rt.alloc(), &bytes, 64, &[0])?;
-    let ending = run_from(&rt, rt.alloc(), &GEN, input, 64, &OpenGate)?;
-    check_unread(&rt, &ending, &bytes);
-    Ok(())
 }

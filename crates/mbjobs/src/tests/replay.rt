@@ -1,7 +1,6 @@
 use super::FIRST_JOB;
-use super::runs::{Told, check_run, run_words};
+use super::runs::{Run, Told};
 use std::alloc::{AllocError, Global};
-use std::test::Fail;
 
 /// RFC 2202, test case 2 of HMAC-SHA-1.
 const SECOND_JOB: &str =
@@ -31,31 +30,26 @@ const STEPS: [(&str, &str); 12] = [
     ("flush 0\n", "finish 0 none\n"),
 ];
 
-/// The file of the jobs and the script.
-fn steps_file(alloc: Global) -> Result<String, AllocError> {
-    let mut file = format!(in alloc; "{FIRST_JOB}{SECOND_JOB}%\n")?;
-    for (command, _) in &STEPS {
+/// Adds commands to a file, and the lines that they print to a text.
+pub(super) fn add_steps(
+    file: &mut String,
+    text: &mut String,
+    steps: &[(&str, &str)],
+) -> Result<(), AllocError> {
+    for (command, lines) in steps {
         file.push_str(command)?;
-    }
-    Ok(file)
-}
-
-/// The text that the script prints.
-fn steps_text(alloc: Global) -> Result<String, AllocError> {
-    let mut text = String::new(alloc);
-    for (_, lines) in &STEPS {
         text.push_str(lines)?;
     }
-    Ok(text)
+    Ok(())
 }
 
 // Each of two workers has one job, which waits for lanes until it is flushed.
 #[test]
-fn a_replay_tells_what_each_command_comes_to(rt: HostRuntime) -> Result<(), Fail> {
-    let file = steps_file(rt.alloc())?;
-    let text = steps_text(rt.alloc())?;
-    let told = Told::new(0, &text, "");
-    Ok(check_run(&rt, rt.alloc(), &WORDS, file.as_bytes(), told)?)
+fn a_replay_tells_what_each_command_comes_to(rt: HostRuntime) {
+    let mut file = format!(in rt.alloc(); "{FIRST_JOB}{SECOND_JOB}%\n").expect(&rt, "memory");
+    let mut text = String::new(rt.alloc());
+    add_steps(&mut file, &mut text, &STEPS).expect(&rt, "memory");
+    Run::new(&WORDS, file.as_bytes()).check(&rt, rt.alloc(), Told::new(0, &text, ""));
 }
 
 /// The file of 257 jobs and as many posts.
@@ -66,16 +60,15 @@ fn posts(alloc: Global) -> Result<String, AllocError> {
 }
 
 #[test]
-fn the_257th_post_is_full(rt: HostRuntime) -> Result<(), Fail> {
-    let file = posts(rt.alloc())?;
-    let ending = run_words(&rt, rt.alloc(), &WORDS, file.as_bytes())?;
+fn the_257th_post_is_full(rt: HostRuntime) {
+    let file = posts(rt.alloc()).expect(&rt, "memory");
+    let ending = Run::new(&WORDS, file.as_bytes()).end(&rt, rt.alloc());
     ending.check_end(&rt, b"post 0 255\npost 0 full\n");
-    Ok(())
 }
 
 #[test]
-fn a_worker_that_there_is_not_is_a_bad_line(rt: HostRuntime) -> Result<(), Fail> {
-    let file = format!(in rt.alloc(); "{FIRST_JOB}%\nclaim 2 0\n")?;
+fn a_worker_that_there_is_not_is_a_bad_line(rt: HostRuntime) {
+    let file = format!(in rt.alloc(); "{FIRST_JOB}%\nclaim 2 0\n").expect(&rt, "memory");
     let told = Told::new(5, "", "mbjobs: line 3: field 2\n");
-    Ok(check_run(&rt, rt.alloc(), &WORDS, file.as_bytes(), told)?)
+    Run::new(&WORDS, file.as_bytes()).check(&rt, rt.alloc(), told);
 }

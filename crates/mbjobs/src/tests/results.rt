@@ -1,7 +1,6 @@
-use super::runs::run_file;
-use super::{FIRST_JOB, FIRST_RESULT, FileCase, compare};
+use super::runs::Run;
+use super::{FIRST_JOB, FIRST_RESULT, FileCase, RUN, compare};
 use std::alloc::{AllocError, Global};
-use std::test::Fail;
 
 /// RFC 2202, test case 1, whole and with a tag of 12 bytes as IPsec has it, and RFC 4231, test case 2.
 const HMAC_JOBS: [FileCase; 6] = [
@@ -34,8 +33,8 @@ const HMAC_JOBS: [FileCase; 6] = [
 ];
 
 #[test]
-fn hmac_jobs_are_done(rt: HostRuntime) -> Result<(), Fail> {
-    Ok(compare(&rt, rt.alloc(), &HMAC_JOBS)?)
+fn hmac_jobs_are_done(rt: HostRuntime) {
+    compare(&rt, rt.alloc(), &HMAC_JOBS);
 }
 
 const REFUSED_JOBS: [FileCase; 7] = [
@@ -84,8 +83,8 @@ const REFUSED_JOBS: [FileCase; 7] = [
 ];
 
 #[test]
-fn refused_jobs_keep_their_place(rt: HostRuntime) -> Result<(), Fail> {
-    Ok(compare(&rt, rt.alloc(), &REFUSED_JOBS)?)
+fn refused_jobs_keep_their_place(rt: HostRuntime) {
+    compare(&rt, rt.alloc(), &REFUSED_JOBS);
 }
 
 /// SP 800-38A, F.2.1 and F.5.1; the last job's text is cut.
@@ -117,8 +116,8 @@ const CIPHERED_TEXTS: [FileCase; 4] = [
 ];
 
 #[test]
-fn texts_are_ciphered(rt: HostRuntime) -> Result<(), Fail> {
-    Ok(compare(&rt, rt.alloc(), &CIPHERED_TEXTS)?)
+fn texts_are_ciphered(rt: HostRuntime) {
+    compare(&rt, rt.alloc(), &CIPHERED_TEXTS);
 }
 
 /// SP 800-38B in both orders, and the GCM specification's test cases 1 and 2.
@@ -168,8 +167,8 @@ const TAGGED_TEXTS: [FileCase; 7] = [
 ];
 
 #[test]
-fn cmac_and_gcm_jobs_are_done(rt: HostRuntime) -> Result<(), Fail> {
-    Ok(compare(&rt, rt.alloc(), &TAGGED_TEXTS)?)
+fn cmac_and_gcm_jobs_are_done(rt: HostRuntime) {
+    compare(&rt, rt.alloc(), &TAGGED_TEXTS);
 }
 
 /// RFC 2202, test case 6: the packet is `Test Using Larger Than Block-Size Key - Hash Key First`.
@@ -181,8 +180,8 @@ const LONG_KEYS: [FileCase; 1] = [(
 )];
 
 #[test]
-fn a_key_longer_than_a_block_is_hashed(rt: HostRuntime) -> Result<(), Fail> {
-    Ok(compare(&rt, rt.alloc(), &LONG_KEYS)?)
+fn a_key_longer_than_a_block_is_hashed(rt: HostRuntime) {
+    compare(&rt, rt.alloc(), &LONG_KEYS);
 }
 
 /// CTR over two zero blocks under the zero key, with a counter of 16 bytes ff.
@@ -191,10 +190,9 @@ const WRAPPED_JOB: &str =
 
 /// A counter of 16 bytes ff is followed by 0, whose block under the zero key is that of the zero block.
 #[test]
-fn a_counter_wraps_at_128_bits(rt: HostRuntime) -> Result<(), Fail> {
-    let ending = run_file(&rt, rt.alloc(), WRAPPED_JOB.as_bytes())?;
+fn a_counter_wraps_at_128_bits(rt: HostRuntime) {
+    let ending = Run::new(&RUN, WRAPPED_JOB.as_bytes()).end(&rt, rt.alloc());
     ending.check_end(&rt, b"66e94bd4ef8a2c3b884cfa59ca342b2e -\n");
-    Ok(())
 }
 
 /// A job over 65,535 zero bytes.
@@ -204,9 +202,8 @@ fn longest_job(alloc: Global) -> Result<String, AllocError> {
 }
 
 #[test]
-fn the_longest_packet_is_done(rt: HostRuntime) -> Result<(), Fail> {
-    let file = longest_job(rt.alloc())?;
-    let ending = run_file(&rt, rt.alloc(), file.as_bytes())?;
+fn the_longest_packet_is_done(rt: HostRuntime) {
+    let file = longest_job(rt.alloc()).expect(&rt, "memory");
+    let ending = Run::new(&RUN, file.as_bytes()).end(&rt, rt.alloc());
     ending.check_len(&rt, 5 + 2 * 65_535 + 1 + 2 * 20 + 1);
-    Ok(())
 }

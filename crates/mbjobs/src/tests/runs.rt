@@ -1,7 +1,5 @@
 // Runs of the program in memory, and how they end.
-ghost use Rattle.std.specs.Prelude.{◌≤◌};
-
-use super::{ROOM, RUN, mbjobs};
+use super::mbjobs;
 use mbj_io::{MemSink, MemSource, Source};
 use mbj_work::{Gate, OpenGate};
 use sha2::{Digest, Sha256};
@@ -10,6 +8,14 @@ use std::fmt::Debug;
 use std::process::Abort;
 use std::sync::Wait;
 use std::thread::Threads;
+
+/// Room for what a test writes.
+pub(super) const ROOM: usize = 1 << 20;
+
+/// A runtime that runs the program, and ends a test that fails.
+pub(super) trait Host: Threads + Wait + Sync + Abort {}
+
+impl<R: Threads + Wait + Sync + Abort> Host for R {}
 
 /// A status that the program ends with, and what it writes.
 #[derive(Clone, Copy, Debug, PartialEq, Eq)]
@@ -47,11 +53,6 @@ impl Ending {
         }
     }
 
-    /// Compares the status and what was written with what is expected of a case.
-    pub(super) fn check<R: Abort, W: Debug>(&self, rt: &R, told: Told<'_>, case: &W) {
-        assert_eq!(rt; self.told(), told, "{case:?}");
-    }
-
     /// Compares what was written with a text that is too long to be shown.
     pub(super) fn check_long<R: Abort, W: Debug>(&self, rt: &R, text: &[u8], case: &W) {
         assert_eq!(rt;
@@ -78,9 +79,9 @@ impl Ending {
         alloc: Global,
         digest: &str,
         case: &W,
-    ) -> Result<(), AllocError> {
+    ) {
         assert_eq!(rt; self.status, 0, "{case:?}");
-        check_digest(rt, alloc, self.out.held(), digest, case)
+        check_digest(rt, alloc, self.out.held(), digest, case);
     }
 }
 
@@ -91,45 +92,102 @@ pub(super) fn check_digest<R: Abort, W: Debug>(
     text: &[u8],
     digest: &str,
     case: &W,
-) -> Result<(), AllocError> {
-    let found: String = hex::encode(alloc, Sha256::digest(text))?;
+) {
+    let found: String = hex::encode(alloc, Sha256::digest(text)).expect(rt, "memory");
     assert_eq!(rt; found.as_str(), digest, "{case:?}");
-    Ok(())
 }
 
-/// A source of a text by pieces, some of whose reads fail.
-pub(super) fn source(
-    alloc: Global,
-    text: &[u8],
-    piece: u32,
-    fails: &[u64],
-) -> Result<MemSource, AllocError>
-    requires { 1 ≤ piece }
-{
-    MemSource::new(alloc, text, piece, fails)
+/// A run of the program over a source and two sinks in memory.
+#[derive(Clone, Copy)]
+pub(super) struct Run<'a> {
+    pub(super) words: &'a [&'a str],
+    pub(super) input: &'a [u8],
+
+    /// How many bytes a read gives at most, and the numbers of the reads that fail.
+    pub(super) read_piece: u32,
+    pub(super) failing_reads: &'a [u64],
+
+    /// How many bytes a write takes at most, and the numbers of the writes to standard output that fail.
+    pub(super) write_piece: u32,
+    pub(super) failing_writes: &'a [u64],
+
+    pub(super) out_room: usize,
+    pub(super) err_room: usize,
 }
 
-/// A sink of so much room that takes pieces, some of whose writes fail.
-pub(super) fn sink(
-    alloc: Global,
-    room: usize,
-    piece: u32,
-    fails: &[u64],
-) -> Result<MemSink, AllocError>
-    requires { 1 ≤ piece }
-{
-    MemSink::new(alloc, room, piece, fails)
+impl<'a> Run<'a> {
+    /// A run whose reads and writes all succeed.
+    pub(super) fn new(words: &'a [&'a str], input: &'a [u8]) -> Run<'a> {
+        Run {
+            words,
+            input,
+            read_piece: 4_096,
+            failing_reads: &[],
+            write_piece: 1_024,
+            failing_writes: &[],
+            out_room: ROOM,
+            err_room: ROOM,
+        }
+    }
+
+    /// The source and the sinks as a run finds them, under status 0.
+    pub(super) fn begin<R: Abort>(&self, rt: &R, alloc: Global) -> Ending {
+        assert!(rt; 1 <= self.read_piece && 1 <= self.write_piece);
+        Ending {
+            status: 0,
+            input: MemSource::new(alloc, self.input, self.read_piece, self.failing_reads).expect(
+                rt, "memory",
+            ),
+            out: MemSink::new(alloc, self.out_room, self.write_piece, self.failing_writes).expect(
+                rt, "memory",
+            ),
+            err: MemSink::new(alloc, self.err_room, self.write_piece, &[]).expect(rt, "memory"),
+        }
+    }
+
+    /// Runs the program under a gate.
+    pub(super) fn under<R: Host, G: Gate + Sync>(&self, rt: &R, alloc: Global, gate: &G) -> Ending {
+        let mut ending = self.begin(rt, alloc);
+        ending.status = run_on(
+            rt,
+            alloc,
+            self.words,
+            &mut ending.input,
+            &mut ending.out,
+            &mut ending.err,
+            gate,
+        );
+        ending
+    }
+
+    /// Runs the program.
+    pub(super) fn end<R: Host>(&self, rt: &R, alloc: Global) -> Ending {
+        self.under(rt, alloc, &OpenGate)
+    }
+
+    /// Runs the program, and compares its status and what it writes.
+    pub(super) fn check<R: Host>(&self, rt: &R, alloc: Global, told: Told<'_>) {
+        let ending = self.end(rt, alloc);
+        assert_eq!(rt;
+            ending.told(),
+            told,
+            "{:?} on {} bytes",
+            self.words,
+            self.input.len()
+        );
+    }
 }
 
 fn words_of(alloc: Global, words: &[&str]) -> Result<Vec<String>, AllocError> {
-    words
-        .iter()
-        .map(|word| String::from_str(alloc, *word))
-        .try_collect(alloc)
+    let mut owned = Vec::new(alloc);
+    for word in words {
+        owned.push(String::from_str(alloc, word)?)?;
+    }
+    Ok(owned)
 }
 
 /// Runs the program, and answers its status.
-pub(super) fn run_on<R: Threads + Wait + Sync, S: Source, G: Gate + Sync>(
+pub(super) fn run_on<R: Host, S: Source, G: Gate + Sync>(
     rt: &R,
     alloc: Global,
     words: &[&str],
@@ -137,99 +195,7 @@ pub(super) fn run_on<R: Threads + Wait + Sync, S: Source, G: Gate + Sync>(
     out: &mut MemSink,
     err: &mut MemSink,
     gate: &G,
-) -> Result<u8, AllocError> {
-    let words = words_of(alloc, words)?;
-    Ok(mbjobs(rt, alloc, &words, input, out, err, gate))
-}
-
-/// Runs the program over a source and two sinks in memory.
-pub(super) fn run_over<R: Threads + Wait + Sync, G: Gate + Sync>(
-    rt: &R,
-    alloc: Global,
-    words: &[&str],
-    mut input: MemSource,
-    mut out: MemSink,
-    mut err: MemSink,
-    gate: &G,
-) -> Result<Ending, AllocError> {
-    let status = run_on(rt, alloc, words, &mut input, &mut out, &mut err, gate)?;
-    Ok(Ending {
-        status,
-        input,
-        out,
-        err,
-    })
-}
-
-/// Runs the program over a source, and into two sinks that take pieces.
-pub(super) fn run_from<R: Threads + Wait + Sync, G: Gate + Sync>(
-    rt: &R,
-    alloc: Global,
-    words: &[&str],
-    input: MemSource,
-    piece: u32,
-    gate: &G,
-) -> Result<Ending, AllocError>
-    requires { 1 ≤ piece }
-{
-    let out = sink(alloc, ROOM, piece, &[])?;
-    let err = sink(alloc, ROOM, piece, &[])?;
-    run_over(rt, alloc, words, input, out, err, gate)
-}
-
-/// Runs the program on an input, under a gate.
-pub(super) fn run_gated<R: Threads + Wait + Sync, G: Gate + Sync>(
-    rt: &R,
-    alloc: Global,
-    words: &[&str],
-    file: &[u8],
-    gate: &G,
-) -> Result<Ending, AllocError> {
-    let input = source(alloc, file, 4_096, &[])?;
-    run_from(rt, alloc, words, input, 1_024, gate)
-}
-
-/// Runs the program on an input.
-pub(super) fn run_words<R: Threads + Wait + Sync>(
-    rt: &R,
-    alloc: Global,
-    words: &[&str],
-    file: &[u8],
-) -> Result<Ending, AllocError> {
-    run_gated(rt, alloc, words, file, &OpenGate)
-}
-
-/// Runs a job file with one submitter.
-pub(super) fn run_file<R: Threads + Wait + Sync>(
-    rt: &R,
-    alloc: Global,
-    file: &[u8],
-) -> Result<Ending, AllocError> {
-    run_words(rt, alloc, &RUN, file)
-}
-
-/// Runs the program on an input, and compares its status and what it writes.
-pub(super) fn check_run<R: Threads + Wait + Sync + Abort>(
-    rt: &R,
-    alloc: Global,
-    words: &[&str],
-    file: &[u8],
-    told: Told<'_>,
-) -> Result<(), AllocError> {
-    let ending = run_words(rt, alloc, words, file)?;
-    ending.check(rt, told, &words);
-    Ok(())
-}
-
-/// Runs the program on an input, and compares what it writes with a text that is too long to be shown.
-pub(super) fn check_long_run<R: Threads + Wait + Sync + Abort>(
-    rt: &R,
-    alloc: Global,
-    words: &[&str],
-    file: &[u8],
-    text: &[u8],
-) -> Result<(), AllocError> {
-    let ending = run_words(rt, alloc, words, file)?;
-    ending.check_long(rt, text, &words);
-    Ok(())
+) -> u8 {
+    let words = words_of(alloc, words).expect(rt, "memory");
+    mbjobs(rt, alloc, &words, input, out, err, gate)
 }

@@ -1,11 +1,10 @@
+use super::RUN;
 use super::draws::{Draws, REPLAY, SUBMITTERS};
 use super::parties::generated_file;
-use super::runs::{Ending, run_file, run_words};
+use super::runs::{Ending, Host, Run};
 use std::alloc::{AllocError, Global};
 use std::process::Abort;
-use std::sync::Wait;
 use std::test::Fail;
-use std::thread::Threads;
 
 /// How many jobs and how many commands a replay has.
 const JOBS: u32 = 100;
@@ -106,8 +105,7 @@ fn collected(line: &str) -> Result<Option<(usize, &str)>, Fail> {
     if result == "none" {
         return Ok(None);
     }
-    let submitter = submitter.parse().map_err(|_| "no number")?;
-    Ok(Some((submitter, result)))
+    Ok(Some((submitter.parse()?, result)))
 }
 
 /// The result of a number, from 0, of the jobs of a submitter s, which are s, s + 3, s + 6 and so on.
@@ -144,40 +142,30 @@ fn compare_endings<R: Abort>(
     run: &Ending,
     digest: &str,
 ) -> Result<(), Fail> {
-    replay.check_digest(rt, alloc, digest, &REPLAY)?;
+    replay.check_digest(rt, alloc, digest, &REPLAY);
     assert_eq!(rt; run.status, 0);
-    let told = str::from_utf8(replay.out.held()).map_err(|_| "no text")?;
-    let results = str::from_utf8(run.out.held()).map_err(|_| "no text")?;
+    let told = str::from_utf8(replay.out.held())?;
+    let results = str::from_utf8(run.out.held())?;
     collects_results_in_order(rt, told, results)
 }
 
-/// A file of jobs and a script.
+/// A file of jobs and a script of the commands that are drawn from a state.
 fn replayed(alloc: Global, jobs: &String, state: u64) -> Result<String, AllocError> {
     let script = Draws::new(state).script(alloc, COMMANDS)?;
     format!(in alloc; "{jobs}{script}")
 }
 
-/// Replays jobs by the commands that are drawn from a state.
-fn run_replay<R: Threads + Wait + Sync>(
-    rt: &R,
-    alloc: Global,
-    jobs: &String,
-    state: u64,
-) -> Result<Ending, AllocError> {
-    let file = replayed(alloc, jobs, state)?;
-    run_words(rt, alloc, &REPLAY, file.as_bytes())
-}
-
 /// Runs jobs and replays them, and compares what they come to.
-fn compare<R: Threads + Wait + Sync + Abort>(
+fn compare<R: Host>(
     rt: &R,
     alloc: Global,
     jobs: &String,
     state: u64,
     digest: &str,
 ) -> Result<(), Fail> {
-    let run = run_file(rt, alloc, jobs.as_bytes())?;
-    let replay = run_replay(rt, alloc, jobs, state)?;
+    let file = replayed(alloc, jobs, state)?;
+    let run = Run::new(&RUN, jobs.as_bytes()).end(rt, alloc);
+    let replay = Run::new(&REPLAY, file.as_bytes()).end(rt, alloc);
     compare_endings(rt, alloc, &replay, &run, digest)
 }
 

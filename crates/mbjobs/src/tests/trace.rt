@@ -1,10 +1,6 @@
 use super::FIRST_JOB;
-use super::runs::{Told, check_run};
+use super::runs::{Host, Run, Told};
 use std::alloc::{AllocError, Global};
-use std::process::Abort;
-use std::sync::Wait;
-use std::test::Fail;
-use std::thread::Threads;
 
 const TRACE: [&str; 2] = ["mbjobs", "trace"];
 
@@ -218,7 +214,7 @@ fn file_of(alloc: Global, groups: &[Jobs]) -> Result<String, AllocError> {
 }
 
 /// Adds lines that are alike but for a number, from the first to the last.
-fn add_lines(
+pub(super) fn add_lines(
     text: &mut String,
     alloc: Global,
     (front, back): (&str, &str),
@@ -253,28 +249,21 @@ fn text_of(alloc: Global, told: &[Printed]) -> Result<String, AllocError> {
 }
 
 /// Traces jobs, and compares what that prints.
-fn compare<R: Threads + Wait + Sync + Abort>(
-    rt: &R,
-    alloc: Global,
-    jobs: &[Jobs],
-    told: &[Printed],
-) -> Result<(), AllocError> {
-    let file = file_of(alloc, jobs)?;
-    let text = text_of(alloc, told)?;
-    let told = Told::new(0, &text, "");
-    check_run(rt, alloc, &TRACE, file.as_bytes(), told)
+fn compare<R: Host>(rt: &R, alloc: Global, jobs: &[Jobs], told: &[Printed]) {
+    let file = file_of(alloc, jobs).expect(rt, "memory");
+    let text = text_of(alloc, told).expect(rt, "memory");
+    Run::new(&TRACE, file.as_bytes()).check(rt, alloc, Told::new(0, &text, ""));
 }
 
 #[test]
-fn a_trace_tells_what_each_call_gives_back(rt: HostRuntime) -> Result<(), Fail> {
+fn a_trace_tells_what_each_call_gives_back(rt: HostRuntime) {
     for (jobs, told) in &CASES {
-        compare(&rt, rt.alloc(), jobs, told)?;
+        compare(&rt, rt.alloc(), jobs, told);
     }
-    Ok(())
 }
 
 #[test]
-fn a_trace_tells_the_first_bad_line(rt: HostRuntime) -> Result<(), Fail> {
+fn a_trace_tells_the_first_bad_line(rt: HostRuntime) {
     let told = Told::new(5, "", "mbjobs: line 1: field 0\n");
-    Ok(check_run(&rt, rt.alloc(), &TRACE, b"null\n", told)?)
+    Run::new(&TRACE, b"null\n").check(&rt, rt.alloc(), told);
 }

@@ -1,12 +1,8 @@
 use super::FIRST_JOB;
-use super::runs::{run_from, source};
+use super::runs::Run;
 use mbj_work::{Gate, Moment};
-use std::alloc::{AllocError, Global};
-use std::sync::Wait;
 use std::sync::atomic::Ordering::SeqCst;
 use std::sync::atomic::{AtomicBool, AtomicU32};
-use std::test::Fail;
-use std::thread::Threads;
 
 const WORDS: [&str; 6] = ["mbjobs", "run", "--submitters", "1", "--workers", "2"];
 
@@ -54,26 +50,18 @@ impl Gate for BothAtWork {
     }
 }
 
-/// Runs the first job twice under the gate, and answers the status.
-fn run_both<R: Threads + Wait + Sync>(
-    rt: &R,
-    alloc: Global,
-    gate: &BothAtWork,
-) -> Result<u8, AllocError> {
-    let file = FIRST_JOB.repeat(alloc, 2)?;
-    let input = source(alloc, file.as_bytes(), 4_096, &[])?;
-    let ending = run_from(rt, alloc, &WORDS, input, 64, gate)?;
-    Ok(ending.status)
-}
-
 #[test]
-fn two_workers_are_at_work_at_once(rt: HostRuntime) -> Result<(), Fail> {
+fn two_workers_are_at_work_at_once(rt: HostRuntime) {
     let gate = BothAtWork {
         first: AtomicBool::new(false),
         second: AtomicBool::new(false),
         turns: AtomicU32::new(0),
     };
-    let status = run_both(&rt, rt.alloc(), &gate)?;
-    assert_eq!(rt; (status, gate.were_seen()), (0, true));
-    Ok(())
+    let file = FIRST_JOB.repeat(rt.alloc(), 2).expect(&rt, "memory");
+    let run = Run {
+        write_piece: 64,
+        ..Run::new(&WORDS, file.as_bytes())
+    };
+    let ending = run.under(&rt, rt.alloc(), &gate);
+    assert_eq!(rt; (ending.status, gate.were_seen()), (0, true));
 }

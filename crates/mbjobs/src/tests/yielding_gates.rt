@@ -1,13 +1,10 @@
 use super::parties::{generated_file, words_with};
-use super::runs::run_gated;
+use super::runs::{Host, Run};
 use mbj_work::{Gate, Moment};
-use std::alloc::{AllocError, Global};
-use std::process::Abort;
-use std::sync::Wait;
+use std::alloc::Global;
 use std::sync::atomic::AtomicU64;
 use std::sync::atomic::Ordering::SeqCst;
-use std::test::Fail;
-use std::thread::{Threads, yield_now};
+use std::thread::yield_now;
 
 const SUBMITTERS: [&str; 4] = ["1", "2", "3", "4"];
 
@@ -49,53 +46,25 @@ impl Gate for Yielding {
     }
 }
 
-/// Runs a file from a seed of the gate, and compares the digest of the text.
-fn compare_seed<R: Threads + Wait + Sync + Abort>(
-    rt: &R,
-    alloc: Global,
-    words: &[&str],
-    file: &[u8],
-    seed: u64,
-) -> Result<(), AllocError> {
-    let gate = Yielding {
-        seed: seed << 32,
-        draws: AtomicU64::new(0),
-    };
-    let ending = run_gated(rt, alloc, words, file, &gate)?;
-    ending.check_digest(rt, alloc, DIGEST, &(words, seed))
-}
-
-/// Runs a file from so many seeds of the gate.
-fn compare<R: Threads + Wait + Sync + Abort>(
-    rt: &R,
-    alloc: Global,
-    words: &[&str],
-    file: &[u8],
-) -> Result<(), AllocError> {
+/// Runs a file from so many seeds of the gate, and compares the digest of each text.
+fn compare<'a, R: Host>(rt: &R, alloc: Global, words: &'a [&'a str], file: &'a [u8]) {
     for seed in 0..SEEDS {
-        compare_seed(rt, alloc, words, file, seed)?;
+        let gate = Yielding {
+            seed: seed << 32,
+            draws: AtomicU64::new(0),
+        };
+        let ending = Run::new(words, file).under(rt, alloc, &gate);
+        ending.check_digest(rt, alloc, DIGEST, &(words, seed));
     }
-    Ok(())
-}
-
-/// Runs a file with so many submitters and each number of workers.
-fn compare_workers<R: Threads + Wait + Sync + Abort>(
-    rt: &R,
-    alloc: Global,
-    submitters: &str,
-    file: &[u8],
-) -> Result<(), AllocError> {
-    for workers in WORKERS {
-        compare(rt, alloc, &words_with(submitters, workers), file)?;
-    }
-    Ok(())
 }
 
 #[test]
-fn two_hundred_schedules_give_one_text(rt: HostRuntime) -> Result<(), Fail> {
-    let file = generated_file(rt.alloc(), 11, 64)?;
+fn two_hundred_schedules_give_one_text(rt: HostRuntime) {
+    let file = generated_file(rt.alloc(), 11, 64).expect(&rt, "memory");
     for submitters in SUBMITTERS {
-        compare_workers(&rt, rt.alloc(), submitters, file.as_bytes())?;
+        for workers in WORKERS {
+            let words = words_with(submitters, workers);
+            compare(&rt, rt.alloc(), &words, file.as_bytes());
+        }
     }
-    Ok(())
 }
