@@ -3,7 +3,7 @@ use Rattle.std.proofs.Common.{◌≡◌, ℕ, ◌+◌, ◌-◌, ◌*◌, ◌/◌
 use Rattle.std.proofs.lemmas.List.Elements.{All-append, All-replicate, All-same}
 use Rattle.mbj_types.specs.Aes.{rounds_of, key_schedule, encipher, decipher, aes, aes_inverse}
 use Rattle.mbj_aes.specs.Bytes.{IsBytes, IsKey, IsKeySize, IsRoundCount}
-use Rattle.mbj_aes.specs.Padding.{IsPadded}
+use Rattle.mbj_aes.specs.Inside.Padding.{IsPadded}
 use Rattle.mbj_aes.proofs.KeyLists.{IsSchedule, IsSchedule-key_schedule}
 use Rattle.mbj_aes.proofs.KeySizes.{key_sizes}
 use Rattle.mbj_aes.proofs.Padding.{take-padded, IsPadded-zeros}

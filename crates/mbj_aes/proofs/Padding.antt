@@ -1,7 +1,7 @@
 -- Arrays whose first bytes alone count, and zeros after them.
 use Rattle.std.proofs.Common.{◌≡◌, ℕ, ◌-◌, ◌≤◌, List, ◌++◌, length, take, replicate, ap, ◌∙◌, sym, arith, length-append}
 use Rattle.std.proofs.lemmas.List.{take-append-le, take_all, length-replicate}
-use Rattle.mbj_aes.specs.Padding.{IsPadded}
+use Rattle.mbj_aes.specs.Inside.Padding.{IsPadded}
 
 -- the first n bytes of n bytes and zeros
 pub take-padded : (n zeros : ℕ) (w xs : List ℕ) → length w ≡ n → xs ≡ w ++ replicate zeros 0 → take n xs ≡ w

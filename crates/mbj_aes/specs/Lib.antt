@@ -1,5 +1,5 @@
 pub mod Bytes
-pub mod Padding
 pub mod Laws
 pub mod Examples
 pub mod Planes
+pub mod Inside

@@ -20,7 +20,7 @@ const _: () = prove!(size_of::<Schedule>() == 244);
 impl Model for Schedule {
     ghost use Rattle.std.specs.Prelude.{ℕ, ◌+◌, ◌-◌, ◌*◌, ◌/◌, List, length, take, ◌++◌, replicate};
     ghost use Rattle.mbj_aes.specs.Bytes.{IsBytes, IsRoundCount};
-    ghost use Rattle.mbj_aes.specs.Padding.{IsPadded};
+    ghost use Rattle.mbj_aes.specs.Inside.Padding.{IsPadded};
     ghost use Rattle.mbj_aes.specs.declared.expansion.TheConstants.{MAX_SCHEDULE_BYTES};
 
     ghost Value = { List ℕ };

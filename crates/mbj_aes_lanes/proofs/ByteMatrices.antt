@@ -5,7 +5,7 @@ use Rattle.std.proofs.lemmas.Grind.{same_number_lists}
 use Rattle.std.proofs.lemmas.List.{get_or_append_left, get_or-append_right}
 use Rattle.mbj_types.specs.Lanes.{lane_at, lane_of}
 use Rattle.mbj_types.proofs.LaneLists.{length-lane_of, slice_index-lane_of}
-use Rattle.mbj_aes_lanes.specs.Planes.Matrix.{row_at, interleaved_at}
+use Rattle.mbj_aes_lanes.specs.Inside.Matrix.{row_at, interleaved_at}
 
 -- ---- two rows side by side
 

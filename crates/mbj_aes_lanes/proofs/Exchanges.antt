@@ -3,7 +3,7 @@ use Rattle.std.proofs.Common.{◌≡◌, ℕ, ◌+◌, ◌-◌, ◌<◌, ◌==�
 use Rattle.std.proofs.lemmas.Bool.{eqb-true, cases_lt, lt-ltb, le-ltb}
 use Rattle.mbj_aes.proofs.ByteCases.{at_each, each_below}
 use Rattle.mbj_aes.specs.Planes.Gates.{xor_bits, and_bits, from_place}
-use Rattle.mbj_aes_lanes.specs.Planes.Exchange.{chosen}
+use Rattle.mbj_aes_lanes.specs.Inside.Exchange.{chosen}
 
 -- a fact of three bits, computed at each
 at_bits : (p : ℕ → ℕ → ℕ → Bool) (m x y : ℕ) → each_below (λ m. each_below (λ x. each_below (λ y. p m x y) 2) 2) 2 ≡ true

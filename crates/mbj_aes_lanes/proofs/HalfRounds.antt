@@ -3,7 +3,7 @@ use Rattle.std.proofs.Common.{◌≡◌, ◌≢◌, ℕ, ◌+◌, ◌*◌, ◌/�
 use Rattle.std.specs.Prelude.{nat_eq, if◌then◌else◌}
 use Rattle.std.proofs.lemmas.Bool.{cases_eq, cases_lt, lt-ltb, le-ltb, ne_eqb}
 use Rattle.mbj_types.specs.Aes.{sub_byte, inv_sub_byte, round_key}
-use Rattle.mbj_aes_lanes.specs.Planes.Rounds.{in_half, linear_layer_of, undone_linear_layer_of, half_round_of, undone_half_round_of}
+use Rattle.mbj_aes_lanes.specs.Inside.Rounds.{in_half, linear_layer_of, undone_linear_layer_of, half_round_of, undone_half_round_of}
 use Rattle.mbj_aes_lanes.proofs.RoundByRound.{before_round, before_round-next, undone_from, undone_from-next}
 
 -- f of the upper rows, and then of the lower ones, is f of all

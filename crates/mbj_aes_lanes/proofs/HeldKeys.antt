@@ -8,7 +8,7 @@ use Rattle.std.proofs.lemmas.List.FromFn.{fill_by_all, get_or-map-range_with_len
 use Rattle.std.proofs.lemmas.Simd.{get_or-replicate}
 use Rattle.mbj_types.specs.Lanes.{lane_at}
 use Rattle.mbj_aes_lanes.specs.declared.state.State.{State}
-use Rattle.mbj_aes_lanes.specs.Planes.Keys.{schedule_in, held_lane, held_lanes}
+use Rattle.mbj_aes_lanes.specs.Inside.Keys.{schedule_in, held_lane, held_lanes}
 
 abbrev no_schedule : Option (List ℕ)
 no_schedule = None

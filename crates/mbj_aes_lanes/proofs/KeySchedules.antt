@@ -5,7 +5,7 @@ use Rattle.std.proofs.lemmas.List.{take_all, take_at}
 use Rattle.mbj_types.specs.Aes.{round_key}
 use Rattle.mbj_types.specs.Lanes.{lane_at}
 use Rattle.mbj_aes_lanes.specs.declared.state.State.{State}
-use Rattle.mbj_aes_lanes.specs.Planes.Keys.{unplaned, schedule_in}
+use Rattle.mbj_aes_lanes.specs.Inside.Keys.{unplaned, schedule_in}
 use Rattle.mbj_aes_lanes.proofs.WrittenKeys.{unplaned_keys}
 
 -- the first m of some round keys, of whose plane bytes they were made, have the schedule w in lane i

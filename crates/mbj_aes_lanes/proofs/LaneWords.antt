@@ -2,7 +2,7 @@
 use Rattle.std.proofs.Common.{◌≡◌, ℕ, ◌+◌, ◌<◌, ◌≤◌, List, [], ◌∷◌, length, take, drop, slice_index, slice_set, refl, sym, ap, ◌∙◌, arith, length-drop}
 use Rattle.std.proofs.lemmas.List.{get_or-drop, get_or-take, length-take-le}
 use Rattle.mbj_types.specs.Lanes.{lane_of}
-use Rattle.mbj_aes_lanes.specs.Planes.State.{rows_from}
+use Rattle.mbj_aes_lanes.specs.Inside.State.{rows_from}
 
 -- byte k of the 16 from `start` on
 slice_index-part : (ys : List ℕ) (start k at : ℕ) → at ≡ start + k → k < 16

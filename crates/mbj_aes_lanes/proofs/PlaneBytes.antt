@@ -16,7 +16,7 @@ use Rattle.mbj_aes.proofs.ByteCases.{same_at_each}
 use Rattle.mbj_aes.proofs.FieldProducts.{times_2, times_3, times-xor}
 use Rattle.mbj_aes.proofs.Octets.{AreBits, AreBits-across, byte_of-lt, byte_at-lt, bits_of-byte_of, byte_of-bits_of, by_bytes}
 use Rattle.mbj_aes_lanes.specs.declared.state.State.{State}
-use Rattle.mbj_aes_lanes.specs.Planes.State.{column_bytes, state_bytes, rows_between, with_below, three_below}
+use Rattle.mbj_aes_lanes.specs.Inside.State.{column_bytes, state_bytes, rows_between, with_below, three_below}
 
 -- ---- sums
 

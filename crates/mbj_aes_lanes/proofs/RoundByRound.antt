@@ -4,7 +4,7 @@ use Rattle.std.specs.Prelude.{nat_eq, if◌then◌else◌}
 use Rattle.std.proofs.lemmas.Bool.{cases_eq, lt-ltb, le-ltb, ne_eqb}
 use Rattle.mbj_types.specs.Blocks.{xor_lists}
 use Rattle.mbj_types.specs.Aes.{round_key, full_round, after_rounds, undone_rounds, cipher, inv_cipher, sub_bytes, shift_rows, inv_sub_bytes, inv_shift_rows, undone_round}
-use Rattle.mbj_aes_lanes.specs.Planes.Rounds.{round_of, undone_round_of}
+use Rattle.mbj_aes_lanes.specs.Inside.Rounds.{round_of, undone_round_of}
 
 -- ---- encryption in n rounds
 

@@ -4,8 +4,8 @@ use Rattle.std.specs.List.{flat_map}
 use Rattle.std.proofs.Math.Seq.{drop-append-add}
 use Rattle.mbj_types.specs.Aes.{round_key}
 use Rattle.mbj_aes_lanes.specs.declared.state.State.{State}
-use Rattle.mbj_aes_lanes.specs.Planes.State.{state_bytes}
-use Rattle.mbj_aes_lanes.specs.Planes.Keys.{schedule_in}
+use Rattle.mbj_aes_lanes.specs.Inside.State.{state_bytes}
+use Rattle.mbj_aes_lanes.specs.Inside.Keys.{schedule_in}
 
 -- round key r of a schedule is that of state r
 pub round_key-schedule_in : {V : Type 0} (lane : V → ℕ → ℕ) (keys : List (State V)) (i r : ℕ) (key : State V)

@@ -2,8 +2,8 @@
 use Rattle.std.proofs.Common.{◌≡◌, ℕ, List, refl}
 use Rattle.mbj_aes.specs.Planes.Bytes.{octet_lane, byte_at}
 use Rattle.mbj_aes_lanes.specs.declared.state.State.{State}
-use Rattle.mbj_aes_lanes.specs.Planes.State.{state_bytes}
-use Rattle.mbj_aes_lanes.specs.Planes.Keys.{block_of_planes, octet_from, unplaned}
+use Rattle.mbj_aes_lanes.specs.Inside.State.{state_bytes}
+use Rattle.mbj_aes_lanes.specs.Inside.Keys.{block_of_planes, octet_from, unplaned}
 
 -- the bytes of a state in a lane come from what its planes have there
 pub state_bytes-planes : {V : Type 0} (lane : V → ℕ → ℕ) (s : State V) (i : ℕ)

@@ -4,7 +4,7 @@ use Rattle.std.specs.Int.{bit_at}
 use Rattle.std.proofs.lemmas.Bool.{eqb-true}
 use Rattle.mbj_aes.proofs.ByteCases.{at_each, each_below}
 use Rattle.mbj_aes.specs.Planes.Gates.{nth_bit}
-use Rattle.mbj_aes_lanes.specs.Planes.State.{turned_from}
+use Rattle.mbj_aes_lanes.specs.Inside.State.{turned_from}
 
 -- f turns the first row left by a, and the second one by b, in each byte
 abbrev turns : (ℕ → ℕ) → ℕ → ℕ → Bool

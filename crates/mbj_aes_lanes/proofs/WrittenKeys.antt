@@ -6,8 +6,8 @@ use Rattle.std.proofs.lemmas.List.Concat.{flat_map-append}
 use Rattle.std.proofs.Math.Seq.{take-add}
 use Rattle.mbj_types.specs.Aes.{round_key}
 use Rattle.mbj_aes_lanes.specs.declared.state.State.{State}
-use Rattle.mbj_aes_lanes.specs.Planes.State.{state_bytes}
-use Rattle.mbj_aes_lanes.specs.Planes.Keys.{unplaned, schedule_in}
+use Rattle.mbj_aes_lanes.specs.Inside.State.{state_bytes}
+use Rattle.mbj_aes_lanes.specs.Inside.Keys.{unplaned, schedule_in}
 
 -- the first r round keys in lane i are those of the plane bytes
 pub record IsWritten {V : Type 0} (lane : V → ℕ → ℕ) (planes : List (List ℕ)) (keys : List (State V)) (i r : ℕ) : Type 0 where

@@ -1,7 +1,7 @@
 //! Sixteen blocks as the state in planes, and back.
 ghost use Rattle.std.specs.Prelude.{◌≡◌, ℕ, ◌<◌, [], length, slice_index_or};
 ghost use Rattle.mbj_types.specs.Lanes.{lane_at};
-ghost use Rattle.mbj_aes_lanes.specs.Planes.State.{state_bytes};
+ghost use Rattle.mbj_aes_lanes.specs.Inside.State.{state_bytes};
 
 use crate::blocks::{put_blocks, words_of};
 use crate::state::State;

@@ -1,7 +1,7 @@
 //! Sixteen blocks as lane words of 16 lanes, and back: a matrix of 16 times 16 bytes, which is transposed.
 ghost use Rattle.std.specs.Prelude.{◌≡◌, ℕ, ◌+◌, ◌*◌, ◌/◌, ◌%◌, ◌<◌, [], length, slice_index, slice_index_or};
 ghost use Rattle.mbj_types.specs.Lanes.{lane_at, lane_of, lane_list};
-ghost use Rattle.mbj_aes_lanes.specs.Planes.Matrix.{row_at, interleaved_at};
+ghost use Rattle.mbj_aes_lanes.specs.Inside.Matrix.{row_at, interleaved_at};
 
 use std::simd::u8x16;
 

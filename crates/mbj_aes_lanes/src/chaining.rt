@@ -4,7 +4,7 @@ ghost use Rattle.mbj_types.specs.Lanes.{lane_at};
 ghost use Rattle.mbj_lane.specs.Rounds.{after};
 ghost use Rattle.mbj_aes_lanes.specs.Chaining.{in_lane, input_of, next_in_lane, chained_once};
 ghost use Rattle.mbj_aes_lanes.specs.KeyLanes.{IsFull, schedule_at};
-ghost use Rattle.mbj_aes_lanes.specs.Planes.State.{state_bytes};
+ghost use Rattle.mbj_aes_lanes.specs.Inside.State.{state_bytes};
 
 use crate::block_states::{put_state_blocks, state_of_blocks};
 use crate::columns::add_round_key;

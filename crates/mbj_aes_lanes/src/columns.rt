@@ -4,7 +4,7 @@ ghost use Rattle.mbj_types.specs.Blocks.{xor_lists};
 ghost use Rattle.mbj_types.specs.Aes.{xtime, mix_columns, inv_mix_columns};
 ghost use Rattle.mbj_aes.specs.Planes.Gates.{nth_bit, xor_bits};
 ghost use Rattle.mbj_aes.specs.Planes.Bytes.{byte_at};
-ghost use Rattle.mbj_aes_lanes.specs.Planes.State.{state_bytes, rows_between, with_below, three_below};
+ghost use Rattle.mbj_aes_lanes.specs.Inside.State.{state_bytes, rows_between, with_below, three_below};
 
 use crate::octets::{each_of, each_plane};
 use crate::state::State;

@@ -4,8 +4,8 @@ ghost use Rattle.std.specs.List.{flat_map};
 ghost use Rattle.mbj_types.specs.Aes.{round_key};
 ghost use Rattle.mbj_types.specs.Lanes.{lane_at, lane_of};
 ghost use Rattle.mbj_aes.specs.Planes.Bytes.{octet_lane};
-ghost use Rattle.mbj_aes_lanes.specs.Planes.State.{state_bytes};
-ghost use Rattle.mbj_aes_lanes.specs.Planes.Keys.{octet_from, unplaned, schedule_in};
+ghost use Rattle.mbj_aes_lanes.specs.Inside.State.{state_bytes};
+ghost use Rattle.mbj_aes_lanes.specs.Inside.Keys.{octet_from, unplaned, schedule_in};
 
 use crate::blocks::{put_blocks, words_of};
 use crate::state::State;

@@ -3,7 +3,7 @@ ghost use Rattle.mbj_types.specs.Lanes.{lane_at};
 ghost use Rattle.mbj_aes.specs.Bytes.{IsRoundCount};
 ghost use Rattle.mbj_aes_lanes.specs.Chaining.{in_lane};
 ghost use Rattle.mbj_aes_lanes.specs.KeyLanes.{no_keys, same_keys, with_key, schedule_at, IsFull};
-ghost use Rattle.mbj_aes_lanes.specs.Planes.Keys.{schedule_in};
+ghost use Rattle.mbj_aes_lanes.specs.Inside.Keys.{schedule_in};
 
 use crate::block_states::state_of_blocks;
 use crate::chaining::{Chaining, round_keys_at};
@@ -34,7 +34,7 @@ impl Model for LaneKeys {
     ghost use Rattle.std.specs.Prelude.{◌≡◌, length};
     ghost use Rattle.mbj_aes.specs.Bytes.{IsRoundCount};
     ghost use Rattle.mbj_aes_lanes.specs.KeyLanes.{KeyLanes};
-    ghost use Rattle.mbj_aes_lanes.specs.Planes.Keys.{held_lanes};
+    ghost use Rattle.mbj_aes_lanes.specs.Inside.Keys.{held_lanes};
 
     ghost Value = { KeyLanes };
 

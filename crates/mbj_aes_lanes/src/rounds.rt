@@ -5,9 +5,9 @@ ghost use Rattle.std.specs.Prelude.{◌≡◌, ℕ, ◌<◌, ◌≤◌, length};
 ghost use Rattle.mbj_types.specs.Blocks.{xor_lists};
 ghost use Rattle.mbj_types.specs.Aes.{shift_rows, mix_columns, inv_shift_rows, inv_mix_columns, encipher, decipher};
 ghost use Rattle.mbj_aes.specs.Planes.Gates.{nth_bit};
-ghost use Rattle.mbj_aes_lanes.specs.Planes.State.{state_bytes, turned, with_below, three_below};
-ghost use Rattle.mbj_aes_lanes.specs.Planes.Rounds.{round_of, undone_round_of, half_round_of, undone_half_round_of};
-ghost use Rattle.mbj_aes_lanes.specs.Planes.Keys.{schedule_in};
+ghost use Rattle.mbj_aes_lanes.specs.Inside.State.{state_bytes, turned, with_below, three_below};
+ghost use Rattle.mbj_aes_lanes.specs.Inside.Rounds.{round_of, undone_round_of, half_round_of, undone_half_round_of};
+ghost use Rattle.mbj_aes_lanes.specs.Inside.Keys.{schedule_in};
 
 use crate::columns::{Mixture, add_round_key, inv_mix_columns, mixed, mixed_reduced, mixture_of};
 use crate::rows::{inv_shift_rows, lower_left, shift_rows, upper_left};

@@ -3,7 +3,7 @@ ghost use Rattle.std.specs.Prelude.{◌≡◌, ℕ, ◌<◌};
 ghost use Rattle.mbj_types.specs.Aes.{shift_rows, inv_shift_rows};
 ghost use Rattle.mbj_aes.specs.Planes.Gates.{nth_bit};
 ghost use Rattle.mbj_aes.specs.Planes.Bytes.{byte_at};
-ghost use Rattle.mbj_aes_lanes.specs.Planes.State.{state_bytes, turned_from};
+ghost use Rattle.mbj_aes_lanes.specs.Inside.State.{state_bytes, turned_from};
 
 use crate::octets::each_plane;
 use crate::state::State;

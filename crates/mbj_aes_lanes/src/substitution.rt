@@ -2,9 +2,9 @@
 ghost use Rattle.std.specs.Prelude.{◌≡◌, ℕ, ◌<◌};
 ghost use Rattle.std.specs.Borrow.{sem};
 ghost use Rattle.mbj_types.specs.Aes.{sub_byte, inv_sub_byte};
-ghost use Rattle.mbj_aes_lanes.specs.Planes.State.{state_bytes, half};
-ghost use Rattle.mbj_aes_lanes.specs.Planes.Lending.{LendsHalf};
-ghost use Rattle.mbj_aes_lanes.specs.Planes.Rounds.{in_half};
+ghost use Rattle.mbj_aes_lanes.specs.Inside.State.{state_bytes, half};
+ghost use Rattle.mbj_aes_lanes.specs.Inside.Lending.{LendsHalf};
+ghost use Rattle.mbj_aes_lanes.specs.Inside.Rounds.{in_half};
 
 use crate::state::State;
 use mbj_aes::Octet;

@@ -4,7 +4,7 @@ ghost use Rattle.std.specs.Prelude.{◌≡◌, ℕ, ◌+◌, ◌-◌, ◌<◌};
 ghost use Rattle.std.specs.Int.{bit_at};
 ghost use Rattle.mbj_aes.specs.Planes.Gates.{nth_bit, from_place};
 ghost use Rattle.mbj_aes.specs.Planes.Bytes.{octet_lane, nth_of, byte_at};
-ghost use Rattle.mbj_aes_lanes.specs.Planes.Exchange.{chosen};
+ghost use Rattle.mbj_aes_lanes.specs.Inside.Exchange.{chosen};
 
 use mbj_aes::Octet;
 use mbj_aes::gates::{and, moved_down, moved_up, xor};

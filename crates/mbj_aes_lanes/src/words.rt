@@ -2,8 +2,8 @@
 ghost use Rattle.std.specs.Prelude.{◌≡◌, ℕ, ◌+◌, ◌<◌, ◌≤◌, length, take, drop};
 ghost use Rattle.mbj_types.specs.Lanes.{lane_of};
 ghost use Rattle.mbj_aes.specs.Planes.Bytes.{octet_lane};
-ghost use Rattle.mbj_aes_lanes.specs.Planes.State.{state_bytes, rows_from};
-ghost use Rattle.mbj_aes_lanes.specs.Planes.Keys.{unplaned};
+ghost use Rattle.mbj_aes_lanes.specs.Inside.State.{state_bytes, rows_from};
+ghost use Rattle.mbj_aes_lanes.specs.Inside.Keys.{unplaned};
 
 use crate::state::State;
 use crate::transposition::transposed;

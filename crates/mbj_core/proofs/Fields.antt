@@ -11,7 +11,7 @@ use Rattle.mbj_types.specs.declared.job.Job.{Job}
 use Rattle.mbj_types.specs.declared.done.Done.{Done}
 use Rattle.mbj_core.specs.Cells.{Cell, free, ready, done, hand_of, cell_of}
 use Rattle.mbj_core.specs.CoreStates.{CoreState, HasHand, cell_in, hand_in, out_of, first_cell, next_cell, posted, claimed_by, finished, handed_out}
-use Rattle.mbj_core.specs.Inside.{cell_shown, state_of, IsCore}
+use Rattle.mbj_core.specs.Inside.Fields.{cell_shown, state_of, IsCore}
 use Rattle.mbj_core.specs.declared.cells.Slot.{Slot}
 use Rattle.mbj_core.specs.declared.cells.Slot.TheVariants as slot
 use Rattle.mbj_core.specs.declared.cells.TheConstants.{CELLS, MAX_SUBMITTERS}

@@ -10,7 +10,7 @@ use Rattle.mbj_core.specs.declared.cells.TheConstants.{CELLS, MAX_SUBMITTERS, MA
 use Rattle.mbj_core.specs.declared.cells.Slot.{Slot}
 use Rattle.mbj_core.specs.declared.cells.Slot.TheVariants as slot
 use Rattle.mbj_core.specs.declared.machine.Core.TheInside.{Inside}
-use Rattle.mbj_core.specs.Inside.{cell_shown, state_of, IsCore}
+use Rattle.mbj_core.specs.Inside.Fields.{cell_shown, state_of, IsCore}
 use Rattle.mbj_core.specs.Cells.{free}
 use Rattle.mbj_core.specs.Parties.{new_front}
 use Rattle.mbj_core.specs.CoreStates.{new_core}

@@ -37,7 +37,7 @@ impl Model for Core {
 
     ghost Value = { CoreState };
 
-    ghost use Rattle.mbj_core.specs.Inside.{state_of, IsCore};
+    ghost use Rattle.mbj_core.specs.Inside.Fields.{state_of, IsCore};
 
     ghost view = { state_of };
 

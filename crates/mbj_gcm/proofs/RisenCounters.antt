@@ -4,7 +4,7 @@ use Rattle.std.specs.Int.{w32, to_be_bytes, from_be_bytes}
 use Rattle.std.proofs.lemmas.List.{length-take-le, take_at, drop_at}
 use Rattle.std.proofs.lemmas.Nat.{from_be_bytes-to_be_bytes_4}
 use Rattle.mbj_types.specs.Gcm.{inc32}
-use Rattle.mbj_gcm.specs.Counting.Risen.{risen}
+use Rattle.mbj_gcm.specs.Inside.Risen.{risen}
 
 -- one step
 pub risen-1 : (b : List ℕ) → risen b 1 ≡ inc32 b

@@ -4,7 +4,7 @@ ghost use Rattle.mbj_types.specs.Aes.{encipher};
 ghost use Rattle.mbj_types.specs.Blocks.{blocks};
 ghost use Rattle.mbj_types.specs.Ghash.{ghash, filled_blocks};
 ghost use Rattle.mbj_types.specs.Gcm.{bit_length, gctr, inc32, pre_counter_block};
-ghost use Rattle.mbj_gcm.specs.Counting.Risen.{risen};
+ghost use Rattle.mbj_gcm.specs.Inside.Risen.{risen};
 
 use crate::hash::hash_of_parts;
 use mbj_aes::Schedule;

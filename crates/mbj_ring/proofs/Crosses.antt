@@ -11,7 +11,7 @@ use denote.Struct.Owning.{shape, fields, to}
 use denote.Exit.{Exit, unchanged, leaves, hidden, under}
 use denote.Param.Send.{IsSend, AllSend, part_keyless, owning_send, struct_send, sendable, Quiet}
 use Rattle.std.proofs.Crossing as heap
-use Rattle.mbj_ring.specs.Ownership.{cells, cells_own}
+use Rattle.mbj_ring.specs.Inside.Ownership.{cells, cells_own}
 use Rattle.mbj_ring.specs.contracts.cells.Cells as C
 
 module _ (R : RattleType) (s : IsSend R) where

@@ -29,7 +29,7 @@ use Rattle.std.specs.contracts.alloc.Global as global
 use Rattle.std.specs.contracts.impls.GlobalAllocator.allocate as takes
 use Rattle.std.specs.contracts.impls.GlobalAllocator.deallocate as gives
 use Rattle.std.proofs.alloc.Calls.{Answer, answer_val}
-use Rattle.mbj_ring.specs.Ownership.{may_free}
+use Rattle.mbj_ring.specs.Inside.Ownership.{may_free}
 
 module _ {M : Type 1} {𝓤 : Ura M} (𝓛 : Logic 𝓤) (at_mem : Memory → SProp 𝓤) (run : Routine → Fun 𝓤) where
   open 𝓛 use {H, A}

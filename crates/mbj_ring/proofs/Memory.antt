@@ -35,8 +35,8 @@ use Rattle.std.specs.Mem.{type_size}
 use Rattle.std.proofs.ptr.Rows.{times_below, one_below}
 use Rattle.std.proofs.mem.Param.{El, R, el_x, elτ}
 use Rattle.std.specs.Allocator.{array_of}
-use Rattle.mbj_ring.specs.Cells.{IsFilled}
-use Rattle.mbj_ring.specs.Ownership.{cell, cells, cells_own, may_free}
+use Rattle.mbj_ring.specs.Inside.Cells.{IsFilled}
+use Rattle.mbj_ring.specs.Inside.Ownership.{cell, cells, cells_own, may_free}
 use Rattle.mbj_ring.proofs.cells.Cells.TheLaws.{lowered, lowers}
 use Rattle.mbj_ring.specs.contracts.cells.Cells as C
 

@@ -3,7 +3,7 @@ use Rattle.std.proofs.Common.{◌≡◌, ℕ, zero, suc, ◌+◌, ◌-◌, ◌%�
 use Rattle.std.proofs.lemmas.List.{drop-set-add, take-set-le, set-append_left, set-append_right, get_or_append_left, get_or-append_right, drop_more, take_more, drop_all, map-append, map-set, length-map, length-replicate, replicate-append-replicate}
 use Rattle.std.proofs.Math.Seq.{take-set-lt, set-append_seam}
 use Rattle.std.proofs.Math.Nat.{add-mod_left}
-use Rattle.mbj_ring.specs.Laid.{from_on, present, filled}
+use Rattle.mbj_ring.specs.Inside.Laid.{from_on, present, filled}
 
 pub below_or_not : (i n : ℕ) → (i < n) ⊎ (n ≤ i)
 below_or_not i zero = inr (omega arith)

@@ -11,9 +11,9 @@ use Rattle.std.specs.Option.{IsSome}
 use Rattle.mbj_ring.specs.declared.ring.TheConstants.{CELLS}
 use Rattle.mbj_ring.specs.declared.ring.Ring.TheInside.{Inside}
 use Rattle.mbj_ring.specs.Ring.{RingState, ring, all_values, with_open, with_value_at, without_first}
-use Rattle.mbj_ring.specs.Laid.{from_on, in_order, found, present, filled, state_of, IsRing}
-use Rattle.mbj_ring.specs.Cells.{IsFilled}
-use Rattle.mbj_ring.specs.CellLends.{with_value}
+use Rattle.mbj_ring.specs.Inside.Laid.{from_on, in_order, found, present, filled, state_of, IsRing}
+use Rattle.mbj_ring.specs.Inside.Cells.{IsFilled}
+use Rattle.mbj_ring.specs.Inside.CellLends.{with_value}
 use Rattle.mbj_ring.proofs.Elements.{take_next, seam, get_set_same, get_set_later, get_take, get_some, none_past, some_within, no_length}
 use Rattle.mbj_ring.proofs.Places.{wraps, from_on-get, from_on-set, from_on-step, present-filled, get-filled, filled-more, filled-set, filled-less, all_empty, from_start_empty}
 

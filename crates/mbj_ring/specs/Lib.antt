@@ -1,6 +1,3 @@
-pub mod CellLends
-pub mod Cells
-pub mod Laid
-pub mod Ownership
 pub mod Ring
 pub mod RingLends
+pub mod Inside

@@ -2,8 +2,8 @@
 //! pointer, and each has a proof by hand.
 ghost use Rattle.std.specs.Prelude.{◌≡◌, ◌<◌, List, Option, Some, None, replicate, get_or, set, IfOk};
 ghost use Rattle.std.specs.Borrow.{sem};
-ghost use Rattle.mbj_ring.specs.Ownership.{cells_own};
-ghost use Rattle.mbj_ring.specs.Cells.{IsEmpty, IsFilled};
+ghost use Rattle.mbj_ring.specs.Inside.Ownership.{cells_own};
+ghost use Rattle.mbj_ring.specs.Inside.Cells.{IsEmpty, IsFilled};
 
 use std::alloc::{AllocError, Allocator, Global};
 use std::marker::{Model, Send};
@@ -26,7 +26,7 @@ impl<T> Model for Cells<T> {
 unsafe impl<T: Send> Send for Cells<T> {}
 
 impl<T> Cells<T> {
-    ghost use Rattle.mbj_ring.specs.CellLends.{LendsCell};
+    ghost use Rattle.mbj_ring.specs.Inside.CellLends.{LendsCell};
 
     /// Takes memory for `count` cells, each of them empty.
     ///

@@ -35,7 +35,7 @@ impl<T> Model for Ring<T> {
 
     ghost Value = { RingState T };
 
-    ghost use Rattle.mbj_ring.specs.Laid.{state_of, IsRing};
+    ghost use Rattle.mbj_ring.specs.Inside.Laid.{state_of, IsRing};
 
     ghost view = { state_of };
 

@@ -1,7 +1,7 @@
 ghost use Rattle.std.specs.Prelude.{◌≡◌, ℕ, ◌<◌, List, length};
 ghost use Rattle.sha1.specs.Sha1.{compress, first_words, rounds, schedule};
 ghost use Rattle.mbj_types.specs.Lanes.{lane_of};
-ghost use Rattle.mbj_sha1_lanes.specs.Lanes.{working_lane};
+ghost use Rattle.mbj_sha1_lanes.specs.Inside.Lanes.{working_lane};
 
 use crate::rounds::{Working, first_four_steps, four_steps};
 use mbj_types::Lane32;

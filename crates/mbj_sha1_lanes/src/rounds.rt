@@ -2,7 +2,7 @@
 ghost use Rattle.std.specs.Prelude.{◌≡◌, ℕ, ◌+◌, ◌%◌, ◌<◌, ◌≤◌, List, length, slice_set};
 ghost use Rattle.sha1.specs.Sha1.{first_words, parity, round, round_constant, round_fn, rounds, schedule, window_word};
 ghost use Rattle.mbj_types.specs.Lanes.{lane_of};
-ghost use Rattle.mbj_sha1_lanes.specs.Lanes.{IsLaneAt, working_lane};
+ghost use Rattle.mbj_sha1_lanes.specs.Inside.Lanes.{IsLaneAt, working_lane};
 
 use mbj_sha_lanes::words32::{choice, majority, rotated_left};
 use mbj_types::Lane32;

@@ -1,5 +1,5 @@
 ghost use Rattle.std.specs.Prelude.{◌≡◌, ℕ, ◌<◌};
-ghost use Rattle.mbj_sha512_lanes.specs.Functions.{sha512_functions};
+ghost use Rattle.mbj_sha512_lanes.specs.Inside.Functions.{sha512_functions};
 
 use crate::constants::constant_at;
 use mbj_sha_lanes::Sha2;
@@ -10,7 +10,7 @@ use mbj_types::Lane64;
 pub(crate) struct Sha512;
 
 impl<V: Lane64> Sha2<V> for Sha512 {
-    ghost use Rattle.mbj_sha512_lanes.specs.Functions.{sha512_laws};
+    ghost use Rattle.mbj_sha512_lanes.specs.Inside.Functions.{sha512_laws};
     ghost use Rattle.std.proofs.Common.{refl};
 
     ghost LANES = { V.LANES };

@@ -3,7 +3,7 @@
 ghost use Rattle.std.specs.Prelude.{◌≡◌, ℕ, ◌+◌, ◌<◌, ◌≤◌, List, length, take};
 ghost use Rattle.mbj_types.specs.Lanes.{lane_of};
 ghost use Rattle.mbj_sha_lanes.specs.Sha2.{compressed, working_lane};
-ghost use Rattle.mbj_sha_lanes.specs.Inside.{AreScheduled};
+ghost use Rattle.mbj_sha_lanes.specs.Inside.Windows.{AreScheduled};
 
 use crate::standard::Sha2;
 use crate::working::{Working, add_working, round, schedule_word, working_of};

@@ -11,7 +11,7 @@ use Rattle.mbj_types.specs.Verdict.{has_hash_range, takes_auth_key}
 use Rattle.mbj_types.specs.Result.{hash_range, gcm_of, mac_by, tag_over}
 use Rattle.std.proofs.lemmas.Bool.{eqb-true}
 use Rattle.mbj_aes.specs.Bytes.{IsKeySize}
-use Rattle.mbj_stage.specs.Texts.{gcm_by}
+use Rattle.mbj_stage.specs.Inside.Texts.{gcm_by}
 
 -- ---- HMAC
 

@@ -2,5 +2,4 @@ pub mod Steps
 pub mod Going
 pub mod Handing
 pub mod Ends
-pub mod Texts
 pub mod Inside

@@ -9,7 +9,7 @@ ghost use Rattle.mbj_aes.specs.Bytes.{IsKeySize};
 ghost use Rattle.mbj_stage.specs.declared.stage.Stage.TheVariants as stage;
 ghost use Rattle.mbj_stage.specs.declared.stage.Step.TheVariants as step;
 ghost use Rattle.mbj_stage.specs.Steps.{cipher_stage, cipher_steps};
-ghost use Rattle.mbj_stage.specs.Texts.{other_text};
+ghost use Rattle.mbj_stage.specs.Inside.Texts.{other_text};
 
 use mbj_aes::Schedule;
 use mbj_types::{Cipher, Job};

@@ -7,7 +7,7 @@ ghost use Rattle.mbj_types.specs.Result.{ciphered, tag_over};
 ghost use Rattle.mbj_aes.specs.Bytes.{IsKeySize};
 ghost use Rattle.mbj_stage.specs.declared.stage.Step.TheVariants as step;
 ghost use Rattle.mbj_stage.specs.Steps.{cipher_steps};
-ghost use Rattle.mbj_stage.specs.Texts.{gcm_by};
+ghost use Rattle.mbj_stage.specs.Inside.Texts.{gcm_by};
 
 use crate::tag::cut;
 use mbj_aes::Schedule;

@@ -10,7 +10,7 @@ use Rattle.mbj_text.specs.Cut.{cut}
 use Rattle.mbj_text.specs.Words.{verb_word}
 use Rattle.mbj_text.specs.Spelling.{Values, SpellsFields, fields_of}
 use Rattle.mbj_text.specs.Script.{number_forms, numbers, verb_of_command, SpellsCommand, HasVerb, IsBadCommand}
-use Rattle.mbj_text.specs.Reading.{◌>>=◌, Cursor, all_from, next_from, verb_of, command_with, command_of}
+use Rattle.mbj_text.specs.Inside.Reading.{◌>>=◌, Cursor, all_from, next_from, verb_of, command_with, command_of}
 use Rattle.mbj_text.proofs.WordLaws.{verb_read, verb_back}
 use Rattle.mbj_text.proofs.LineLaws.{all_back, all_fault_back, all_total}
 

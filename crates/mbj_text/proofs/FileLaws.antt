@@ -15,7 +15,7 @@ use Rattle.mbj_text.specs.Cut.{Numbered, kept_lines}
 use Rattle.mbj_text.specs.Spelling.{Spells, IsBadLine}
 use Rattle.mbj_text.specs.Answer.{Answers}
 use Rattle.mbj_text.specs.File.{SpellAll, ReadsLines, BadLines, OverLines, Reads, Bad, Over, EachFileIsOne, ReadsIsUnique, BadIsUnique, OverIsUnique}
-use Rattle.mbj_text.specs.Reading.{job_of, Fails, fault_at}
+use Rattle.mbj_text.specs.Inside.Reading.{job_of, Fails, fault_at}
 use Rattle.mbj_text.proofs.LineLaws.{job_back, fault_back, fault_read, line_total}
 use Rattle.mbj_text.proofs.AnswerLaws.{Tells, Fate, exactly_one, good_not_bad, good_not_over, bad_not_over as bad_not_over_by, good_once, bad_once as bad_once_by, over_once as over_once_by}
 

@@ -5,7 +5,7 @@ use Rattle.std.proofs.lemmas.Bool.{ne_eqb}
 use Rattle.std.proofs.lemmas.Bool.Decides.{eqb_tells}
 use Rattle.mbj_types.specs.declared.job.Job.{Job}
 use Rattle.mbj_text.specs.Spelling.{Spells, Spelled, SpellsFields, Value, Values, values, HasForm, Form, CipherWord, DirWord, OrderWord, AuthWord, Hex, Number, Below, forms, fields_of, IsFirstBad, HasFault, IsBadLine}
-use Rattle.mbj_text.specs.Reading.{◌>>=◌, Cursor, value_of, fields_from, all_from, job_with, job_of}
+use Rattle.mbj_text.specs.Inside.Reading.{◌>>=◌, Cursor, value_of, fields_from, all_from, job_with, job_of}
 use Rattle.mbj_text.proofs.WordLaws.{cipher_read, cipher_back, dir_read, dir_back, order_read, order_back, auth_read, auth_back}
 use Rattle.mbj_text.proofs.ValueLaws.{bytes_read, bytes_back, number_read, number_back, below_read, below_back}
 

@@ -4,7 +4,7 @@ use Rattle.std.specs.List.{position_or_len, before_first, after_first}
 use Rattle.std.specs.Str.Lines.{strip_carriage_return}
 use Rattle.mbj_text.specs.declared.kept_lines.JobsEnd.{JobsEnd}
 use Rattle.mbj_text.specs.declared.kept_lines.JobsEnd.TheVariants as jobs_end
-use Rattle.mbj_text.specs.Reading.{ends_jobs, part_before, part_behind}
+use Rattle.mbj_text.specs.Inside.Reading.{ends_jobs, part_before, part_behind}
 use Rattle.mbj_text.specs.Cut.{is_skipped, is_mark, Numbered, kept_lines_from, without_empty_end}
 
 -- no line is left

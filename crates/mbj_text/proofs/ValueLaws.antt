@@ -13,7 +13,7 @@ use Rattle.std.proofs.lemmas.Fmt.{decimal-digits_value, digits_value-decimal, di
 use Rattle.hex.specs.Hex.{decode_of}
 use Rattle.hex.specs.declared.error.FromHexError.{FromHexError}
 use Rattle.mbj_text.specs.Spelling.{SpellsBytes, SpellsNumber}
-use Rattle.mbj_text.specs.Reading.{bytes_of, number_of, below_of, digits_after, is_number_sized}
+use Rattle.mbj_text.specs.Inside.Reading.{bytes_of, number_of, below_of, digits_after, is_number_sized}
 
 -- ---- bytes
 

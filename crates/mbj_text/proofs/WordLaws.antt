@@ -15,7 +15,7 @@ use Rattle.mbj_types.specs.declared.job.Auth.TheVariants as auth
 use Rattle.mbj_text.specs.declared.command.Verb.{Verb}
 use Rattle.mbj_text.specs.declared.command.Verb.TheVariants.{Post, Claim, Flush, Collect}
 use Rattle.mbj_text.specs.Words.{cipher_word, dir_word, order_word, auth_word, verb_word, file_ciphers, file_auths, verbs}
-use Rattle.mbj_text.specs.Reading.{lookup, rows_of, cipher_of, dir_of, order_of, auth_of, verb_of}
+use Rattle.mbj_text.specs.Inside.Reading.{lookup, rows_of, cipher_of, dir_of, order_of, auth_of, verb_of}
 
 -- an element is the first one, or one of the others
 Contains-cons : {A : Type 0} (y : A) (ys : List A) (x : A) → Contains (y ∷ ys) x → (y ≡ x) ⊎ Contains ys x

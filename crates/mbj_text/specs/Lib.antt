@@ -5,7 +5,6 @@ pub mod Script
 pub mod Answer
 pub mod File
 pub mod Replay
-pub mod Reading
 pub mod Flow
 pub mod Inside
 pub mod Line

@@ -1,7 +1,7 @@
 ghost use Rattle.std.specs.Prelude.{◌≡◌};
 ghost use Rattle.mbj_text.specs.declared.fault.LineFault.TheVariants as line_fault;
 ghost use Rattle.mbj_text.specs.declared.fault.TextFault.TheVariants as text_fault;
-ghost use Rattle.mbj_text.specs.Reading.{fault_at};
+ghost use Rattle.mbj_text.specs.Inside.Reading.{fault_at};
 
 use std::alloc::{AllocError, AllocFailed};
 use std::error::Error;

@@ -1,5 +1,5 @@
 ghost use Rattle.std.specs.Prelude.{◌≡◌, ◌≤◌, List, ℕ, Option, IfOk, length};
-ghost use Rattle.mbj_text.specs.Reading.{bytes_of, number_of, below_of, digits_after};
+ghost use Rattle.mbj_text.specs.Inside.Reading.{bytes_of, number_of, below_of, digits_after};
 ghost use Rattle.mbj_text.specs.declared.field.TheConstants.{MAX_DIGITS};
 
 use mbj_types::Bytes;

@@ -1,5 +1,5 @@
 ghost use Rattle.std.specs.Prelude.{◌≡◌, ◌+◌, ◌<◌, [], ◌∷◌, OnOk, MatchResult};
-ghost use Rattle.mbj_text.specs.Reading.{ReadsNext, at_start, below_of};
+ghost use Rattle.mbj_text.specs.Inside.Reading.{ReadsNext, at_start, below_of};
 ghost use Rattle.mbj_text.specs.declared.fields.TheConstants.{MAX_FIELDS};
 
 use crate::fault::LineFault;
@@ -20,7 +20,7 @@ pub(crate) struct Fields<'a> {
 }
 
 impl<'a> Model for Fields<'a> {
-    ghost use Rattle.mbj_text.specs.Reading.{Cursor};
+    ghost use Rattle.mbj_text.specs.Inside.Reading.{Cursor};
 
     ghost Value = { Cursor };
 

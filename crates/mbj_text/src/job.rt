@@ -1,4 +1,4 @@
-ghost use Rattle.mbj_text.specs.Reading.{Gives, job_of};
+ghost use Rattle.mbj_text.specs.Inside.Reading.{Gives, job_of};
 
 use crate::fault::LineFault;
 use crate::fields::Fields;
@@ -10,7 +10,7 @@ use std::alloc::Global;
 const FIELDS: usize = 14;
 
 /// The job that a line spells, or the field that is the line's fault.
-#[tactic(auto, using(crate::proofs::Cutting::cut_bound), unfolding(crate::specs::Reading::job_of))]
+#[tactic(auto, using(crate::proofs::Cutting::cut_bound), unfolding(crate::specs::Inside::Reading::job_of))]
 pub(crate) fn read_job(alloc: Global, line: &[u8]) -> Result<Job, LineFault>
     ensures { Gives result (job_of line.now) }
 {

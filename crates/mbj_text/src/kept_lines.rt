@@ -2,7 +2,7 @@ ghost use Rattle.std.specs.Prelude.{◌≡◌, ◌≤◌, ◌<◌, length, optio
 ghost use Rattle.std.specs.Str.Lines.{strip_carriage_return};
 ghost use Rattle.std.specs.Iterator.{YieldsFirstBy, item_count};
 ghost use Rattle.mbj_text.specs.Cut.{is_skipped, kept_lines};
-ghost use Rattle.mbj_text.specs.Reading.{ends_jobs, TakesJobLine};
+ghost use Rattle.mbj_text.specs.Inside.Reading.{ends_jobs, TakesJobLine};
 ghost use Rattle.mbj_text.specs.declared.limits.TheConstants.{INPUT_LIMIT};
 
 use crate::limits::INPUT_LIMIT;

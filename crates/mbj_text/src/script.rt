@@ -1,7 +1,7 @@
 ghost use Rattle.std.specs.Prelude.{◌≡◌, ◌+◌, ℕ, Ok, length};
 ghost use Rattle.mbj_text.specs.Answer.{Answers};
 ghost use Rattle.mbj_text.specs.Script.{SpellScript, BadScript, number_forms};
-ghost use Rattle.mbj_text.specs.Reading.{Gives, command_of, command_with, fields_from};
+ghost use Rattle.mbj_text.specs.Inside.Reading.{Gives, command_of, command_with, fields_from};
 
 use crate::command::{Cmd, Verb};
 use crate::fault::{LineFault, TextFault};
@@ -31,7 +31,7 @@ pub(crate) fn read_script(
 }
 
 /// The command that a line spells, or the field that is the line's fault.
-#[tactic(auto, using(crate::proofs::Cutting::cut_bound), unfolding(crate::specs::Reading::command_of))]
+#[tactic(auto, using(crate::proofs::Cutting::cut_bound), unfolding(crate::specs::Inside::Reading::command_of))]
 fn read_command(alloc: Global, line: &[u8], submitters: u32, workers: u32) -> Result<Cmd, LineFault>
     ensures { Gives result (command_of submitters workers line.now) }
 {

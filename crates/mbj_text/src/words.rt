@@ -1,6 +1,6 @@
 ghost use Rattle.std.specs.Prelude.{◌≡◌, map, find, option_map};
 ghost use Rattle.std.specs.Str.{bytes_eq};
-ghost use Rattle.mbj_text.specs.Reading.{lookup, cipher_of, dir_of, order_of, auth_of, verb_of};
+ghost use Rattle.mbj_text.specs.Inside.Reading.{lookup, cipher_of, dir_of, order_of, auth_of, verb_of};
 
 use crate::command::Verb;
 use crate::field::Field;

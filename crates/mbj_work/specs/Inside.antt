@@ -2,3 +2,4 @@
 pub mod Gathering
 pub mod Holding
 pub mod Runs
+pub mod Tasks

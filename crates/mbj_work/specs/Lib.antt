@@ -1,6 +1,5 @@
 pub mod Dealing
 pub mod Feeding
-pub mod Tasks
 pub mod Parties
 pub mod Hunts
 pub mod Claims

@@ -1,6 +1,6 @@
 ghost use Rattle.std.specs.Prelude.{◌≡◌, ◌+◌, ◌≤◌, [], ◌∷◌, ◌++◌, IfOk, length, map, option_to_list, vec_capacity};
 ghost use Rattle.mbj_types.specs.Result.{result_of};
-ghost use Rattle.mbj_work.specs.Tasks.{IsReady};
+ghost use Rattle.mbj_work.specs.Inside.Tasks.{IsReady};
 
 use crate::feeding::submit_job;
 use mbj_manager::Manager;

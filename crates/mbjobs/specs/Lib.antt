@@ -1,4 +1,4 @@
-pub mod Causes
 pub mod Message
 pub mod Outcome
 pub mod Reading
+pub mod Inside

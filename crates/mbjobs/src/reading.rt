@@ -2,7 +2,7 @@ ghost use Rattle.std.specs.Prelude.{◌≡◌, ◌≢◌, ◌≤◌, Err, IfErr,
 ghost use Rattle.mbj_text.specs.File.{Bad, Over};
 ghost use Rattle.mbj_text.specs.Replay.{BadReplay, OverReplay};
 ghost use Rattle.mbj_text.specs.declared.limits.TheConstants.{JOB_LIMIT};
-ghost use Rattle.mbjobs.specs.Causes.{cause_of_read, cause_of_text};
+ghost use Rattle.mbjobs.specs.Inside.Causes.{cause_of_read, cause_of_text};
 ghost use Rattle.mbj_io.specs.Streams.{FailsOnce, stream};
 ghost use Rattle.mbjobs.specs.Reading.{ReadsAll, ReadsJobs, ReadsScript, ReadsTooMuch, StopsReading};
 

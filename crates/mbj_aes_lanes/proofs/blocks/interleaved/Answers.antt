@@ -1,7 +1,7 @@
 -- Each byte is that of its row.
 use Rattle.std.proofs.Common.{◌≡◌, ℕ, ◌+◌, List, [], ◌∷◌, ◌++◌, map, slice_index, refl, arith}
 use Rattle.mbj_types.specs.Lanes.{lane_at}
-use Rattle.mbj_aes_lanes.specs.Planes.Matrix.{interleaved_at}
+use Rattle.mbj_aes_lanes.specs.Inside.Matrix.{interleaved_at}
 use Rattle.mbj_aes_lanes.proofs.EachOfSixteen.{at_sixteen}
 use Rattle.mbj_aes_lanes.proofs.ByteMatrices.{in_first, in_second}
 use Rattle.mbj_aes_lanes.proofs.blocks.interleaved.Goals as goal

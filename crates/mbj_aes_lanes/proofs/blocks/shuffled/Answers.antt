@@ -1,6 +1,6 @@
 -- Each row is half of two rows in turn.
 use Rattle.std.proofs.Common.{◌≡◌, ℕ, ◌+◌, ◌*◌, ◌/◌, ◌%◌, List, [], ◌∷◌, ◌∙◌, arith}
-use Rattle.mbj_aes_lanes.specs.Planes.Matrix.{row_at}
+use Rattle.mbj_aes_lanes.specs.Inside.Matrix.{row_at}
 use Rattle.mbj_aes_lanes.proofs.EachOfSixteen.{at_sixteen}
 use Rattle.mbj_aes_lanes.proofs.ByteMatrices.{interleaved_rows}
 use Rattle.mbj_aes_lanes.proofs.blocks.shuffled.Goals as goal

@@ -1,6 +1,6 @@
 -- Lane by lane the columns of the transposed matrix are the blocks.
 use Rattle.std.proofs.Common.{◌≡◌, ℕ, ◌<◌, List, [], ◌∷◌, length, slice_index, slice_index_or}
-use Rattle.mbj_aes_lanes.specs.Planes.Matrix.{row_at}
+use Rattle.mbj_aes_lanes.specs.Inside.Matrix.{row_at}
 use Rattle.mbj_aes_lanes.proofs.EachOfSixteen.{at_sixteen}
 use Rattle.mbj_aes_lanes.proofs.ByteMatrices.{column_is}
 use Rattle.mbj_aes_lanes.proofs.blocks.words_of.Goals as goal

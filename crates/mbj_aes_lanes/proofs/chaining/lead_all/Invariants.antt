@@ -3,7 +3,7 @@ use Rattle.std.proofs.Common.{◌≡◌, ℕ, ◌<◌, map}
 use Rattle.mbj_types.specs.Lanes.{lane_at}
 use Rattle.mbj_lane.specs.Rounds.{after}
 use Rattle.mbj_aes_lanes.specs.Chaining.{in_lane, chained_once}
-use Rattle.mbj_aes_lanes.specs.Planes.State.{state_bytes}
+use Rattle.mbj_aes_lanes.specs.Inside.State.{state_bytes}
 use Rattle.mbj_aes_lanes.proofs.chaining.lead_all.Given as goal
 
 abbrev pub invariant-passes : goal.invariant-passes

@@ -7,7 +7,7 @@ use Rattle.mbj_aes.proofs.Circulants.{spread_byte}
 use Rattle.mbj_aes.proofs.FieldProducts.{spread_is}
 use Rattle.mbj_aes.proofs.Octets.{byte_at-lt}
 use Rattle.mbj_aes.specs.Planes.Bytes.{byte_at}
-use Rattle.mbj_aes_lanes.specs.Planes.State.{state_bytes}
+use Rattle.mbj_aes_lanes.specs.Inside.State.{state_bytes}
 use Rattle.mbj_aes_lanes.proofs.PlaneBytes.{IsBlock-state_bytes}
 use Rattle.mbj_aes_lanes.proofs.columns.spread_columns.Goals as goal
 

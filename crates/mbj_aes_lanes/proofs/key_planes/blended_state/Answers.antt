@@ -1,7 +1,7 @@
 -- Each plane has its byte under the mask.
 use Rattle.std.proofs.Common.{ap₂, sym, ◌∙◌}
 use Rattle.mbj_types.specs.Lanes.{lane_at}
-use Rattle.mbj_aes_lanes.specs.Planes.Keys.{block_of_planes}
+use Rattle.mbj_aes_lanes.specs.Inside.Keys.{block_of_planes}
 use Rattle.mbj_aes_lanes.proofs.StatePlanes.{state_bytes-planes, unplaned_is}
 use Rattle.mbj_aes_lanes.proofs.key_planes.blended_state.Goals as goal
 

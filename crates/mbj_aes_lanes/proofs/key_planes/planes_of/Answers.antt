@@ -1,7 +1,7 @@
 -- One round key more is copied in each turn, and each stands in planes in its lane.
 use Rattle.std.proofs.Common.{◌≢◌, ◌<◌, length, refl, ap, ◌∙◌, arith, below_more, get_or-set_same, get_or-set_other}
 use Rattle.std.proofs.lemmas.List.{length-set}
-use Rattle.mbj_aes_lanes.specs.Planes.Keys.{unplaned}
+use Rattle.mbj_aes_lanes.specs.Inside.Keys.{unplaned}
 use Rattle.mbj_aes_lanes.proofs.key_planes.planes_of.Goals as goal
 
 pub keys-init : goal.keys-init

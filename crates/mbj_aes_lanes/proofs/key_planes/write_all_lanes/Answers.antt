@@ -2,7 +2,7 @@
 use Rattle.std.proofs.Common.{◌≡◌, ℕ, length, ap, ◌∙◌, arith, take}
 use Rattle.std.specs.List.{flat_map}
 use Rattle.mbj_types.specs.Lanes.{lane_at}
-use Rattle.mbj_aes_lanes.specs.Planes.Keys.{unplaned}
+use Rattle.mbj_aes_lanes.specs.Inside.Keys.{unplaned}
 use Rattle.mbj_aes_lanes.proofs.WrittenKeys.{IsWritten-none, IsWritten-next, IsWritten-all}
 use Rattle.mbj_aes_lanes.proofs.key_planes.write_all_lanes.Goals as goal
 

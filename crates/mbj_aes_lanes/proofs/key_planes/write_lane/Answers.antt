@@ -3,7 +3,7 @@ use Rattle.std.proofs.Common.{◌≡◌, ℕ, length, refl, ap, ◌∙◌, arith
 use Rattle.std.specs.List.{flat_map}
 use Rattle.std.proofs.lemmas.List.{get_or_default}
 use Rattle.mbj_types.specs.Lanes.{lane_at}
-use Rattle.mbj_aes_lanes.specs.Planes.Keys.{unplaned}
+use Rattle.mbj_aes_lanes.specs.Inside.Keys.{unplaned}
 use Rattle.mbj_aes_lanes.proofs.WrittenKeys.{IsWritten-none, IsWritten-next, IsWritten-all, schedule_in-set}
 use Rattle.mbj_aes_lanes.proofs.key_planes.write_lane.Goals as goal
 

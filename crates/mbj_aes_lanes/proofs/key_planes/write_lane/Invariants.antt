@@ -1,7 +1,7 @@
 -- The round keys before the next one are written in the lane, and the other lanes are as they were.
 use Rattle.std.proofs.Common.{◌≡◌, ◌≢◌, ℕ, ◌<◌}
 use Rattle.mbj_types.specs.Lanes.{lane_at}
-use Rattle.mbj_aes_lanes.specs.Planes.Keys.{schedule_in}
+use Rattle.mbj_aes_lanes.specs.Inside.Keys.{schedule_in}
 use Rattle.mbj_aes_lanes.proofs.WrittenKeys.{IsWritten}
 use Rattle.mbj_aes_lanes.proofs.key_planes.write_lane.Given as goal
 

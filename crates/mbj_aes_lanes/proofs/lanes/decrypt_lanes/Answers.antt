@@ -6,8 +6,8 @@ use Rattle.mbj_types.specs.Blocks.{xor_lists}
 use Rattle.mbj_types.specs.Aes.{inv_cipher, decipher}
 use Rattle.mbj_types.specs.Lanes.{lane_of}
 use Rattle.mbj_types.proofs.LaneLists.{length-lane_of}
-use Rattle.mbj_aes_lanes.specs.Planes.State.{state_bytes}
-use Rattle.mbj_aes_lanes.specs.Planes.Rounds.{undone_round_of}
+use Rattle.mbj_aes_lanes.specs.Inside.State.{state_bytes}
+use Rattle.mbj_aes_lanes.specs.Inside.Rounds.{undone_round_of}
 use Rattle.mbj_aes_lanes.proofs.RoundByRound.{undone_from, undone_from-first, undone_from-next, undone_from-last}
 use Rattle.mbj_aes_lanes.proofs.lanes.decrypt_lanes.Goals as goal
 

@@ -2,7 +2,7 @@
 use Rattle.std.proofs.Common.{◌≡◌, ℕ, ◌<◌, ◌-◌, ◌/◌, length}
 use Rattle.mbj_types.specs.Aes.{inv_cipher}
 use Rattle.mbj_types.specs.Lanes.{lane_of}
-use Rattle.mbj_aes_lanes.specs.Planes.State.{state_bytes}
+use Rattle.mbj_aes_lanes.specs.Inside.State.{state_bytes}
 use Rattle.mbj_aes_lanes.proofs.RoundByRound.{undone_from}
 use Rattle.mbj_aes_lanes.proofs.lanes.decrypt_lanes.Given as goal
 

@@ -6,7 +6,7 @@ use Rattle.mbj_types.specs.Blocks.{xor_lists}
 use Rattle.mbj_types.specs.Aes.{cipher, encipher}
 use Rattle.mbj_types.specs.Lanes.{lane_of}
 use Rattle.mbj_types.proofs.LaneLists.{length-lane_of}
-use Rattle.mbj_aes_lanes.specs.Planes.Rounds.{round_of}
+use Rattle.mbj_aes_lanes.specs.Inside.Rounds.{round_of}
 use Rattle.mbj_aes_lanes.proofs.RoundByRound.{before_round-first, before_round-next, before_round-last}
 use Rattle.mbj_aes_lanes.proofs.lanes.encrypt_lanes.Goals as goal
 

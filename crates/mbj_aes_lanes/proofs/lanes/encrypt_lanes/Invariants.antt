@@ -1,7 +1,7 @@
 -- In each lane the rounds before the next one are done.
 use Rattle.std.proofs.Common.{◌≡◌, ℕ, ◌<◌, ◌-◌, ◌/◌, length}
 use Rattle.mbj_types.specs.Lanes.{lane_of}
-use Rattle.mbj_aes_lanes.specs.Planes.State.{state_bytes}
+use Rattle.mbj_aes_lanes.specs.Inside.State.{state_bytes}
 use Rattle.mbj_aes_lanes.proofs.RoundByRound.{before_round}
 use Rattle.mbj_aes_lanes.proofs.lanes.encrypt_lanes.Given as goal
 

@@ -4,10 +4,10 @@ use Rattle.std.specs.Prelude.{nat_eq}
 use Rattle.std.proofs.lemmas.Bool.{ne_eqb}
 use Rattle.mbj_types.specs.Blocks.{xor_lists}
 use Rattle.mbj_types.specs.Aes.{inv_cipher, decipher}
-use Rattle.mbj_aes_lanes.specs.Planes.Keys.{schedule_in}
+use Rattle.mbj_aes_lanes.specs.Inside.Keys.{schedule_in}
 use Rattle.mbj_aes_lanes.proofs.RoundKeys.{round_key-schedule_in, length-schedule_in}
-use Rattle.mbj_aes_lanes.specs.Planes.State.{state_bytes}
-use Rattle.mbj_aes_lanes.specs.Planes.Rounds.{undone_half_round_of}
+use Rattle.mbj_aes_lanes.specs.Inside.State.{state_bytes}
+use Rattle.mbj_aes_lanes.specs.Inside.Rounds.{undone_half_round_of}
 use Rattle.mbj_aes_lanes.proofs.RoundByRound.{undone_from-first, undone_from-last}
 use Rattle.mbj_aes_lanes.proofs.HalfRounds.{undone_from_half, undone_from_half-next}
 use Rattle.mbj_aes_lanes.proofs.rounds.decrypt.Goals as goal

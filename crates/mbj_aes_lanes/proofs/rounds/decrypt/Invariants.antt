@@ -1,8 +1,8 @@
 -- In each lane, undoing the half rounds that are left gives the deciphered block.
 use Rattle.std.proofs.Common.{◌≡◌, ℕ, ◌<◌, ◌-◌, length}
 use Rattle.mbj_types.specs.Aes.{inv_cipher}
-use Rattle.mbj_aes_lanes.specs.Planes.State.{state_bytes}
-use Rattle.mbj_aes_lanes.specs.Planes.Keys.{schedule_in}
+use Rattle.mbj_aes_lanes.specs.Inside.State.{state_bytes}
+use Rattle.mbj_aes_lanes.specs.Inside.Keys.{schedule_in}
 use Rattle.mbj_aes_lanes.proofs.HalfRounds.{undone_from_half}
 use Rattle.mbj_aes_lanes.proofs.rounds.decrypt.Given as goal
 

@@ -4,10 +4,10 @@ use Rattle.std.specs.Prelude.{nat_eq}
 use Rattle.std.proofs.lemmas.Bool.{ne_eqb}
 use Rattle.mbj_types.specs.Blocks.{xor_lists}
 use Rattle.mbj_types.specs.Aes.{cipher, encipher}
-use Rattle.mbj_aes_lanes.specs.Planes.Keys.{schedule_in}
+use Rattle.mbj_aes_lanes.specs.Inside.Keys.{schedule_in}
 use Rattle.mbj_aes_lanes.proofs.RoundKeys.{round_key-schedule_in, length-schedule_in}
-use Rattle.mbj_aes_lanes.specs.Planes.State.{state_bytes}
-use Rattle.mbj_aes_lanes.specs.Planes.Rounds.{half_round_of}
+use Rattle.mbj_aes_lanes.specs.Inside.State.{state_bytes}
+use Rattle.mbj_aes_lanes.specs.Inside.Rounds.{half_round_of}
 use Rattle.mbj_aes_lanes.proofs.RoundByRound.{before_round-first, before_round-last}
 use Rattle.mbj_aes_lanes.proofs.HalfRounds.{before_half-next}
 use Rattle.mbj_aes_lanes.proofs.rounds.encrypt.Goals as goal

@@ -1,7 +1,7 @@
 -- In each lane the half rounds before the next one are done.
 use Rattle.std.proofs.Common.{◌≡◌, ℕ, ◌<◌, ◌-◌, length}
-use Rattle.mbj_aes_lanes.specs.Planes.State.{state_bytes}
-use Rattle.mbj_aes_lanes.specs.Planes.Keys.{schedule_in}
+use Rattle.mbj_aes_lanes.specs.Inside.State.{state_bytes}
+use Rattle.mbj_aes_lanes.specs.Inside.Keys.{schedule_in}
 use Rattle.mbj_aes_lanes.proofs.HalfRounds.{before_half}
 use Rattle.mbj_aes_lanes.proofs.rounds.encrypt.Given as goal
 

@@ -1,8 +1,8 @@
 -- The lower rows are substituted, and then the rest of the round follows.
 use Rattle.std.proofs.Common.{List, ℕ, true, false, ap, ◌∙◌}
 use Rattle.mbj_types.specs.Aes.{sub_byte}
-use Rattle.mbj_aes_lanes.specs.Planes.State.{state_bytes}
-use Rattle.mbj_aes_lanes.specs.Planes.Rounds.{in_half, linear_layer_of}
+use Rattle.mbj_aes_lanes.specs.Inside.State.{state_bytes}
+use Rattle.mbj_aes_lanes.specs.Inside.Rounds.{in_half, linear_layer_of}
 use Rattle.mbj_aes_lanes.proofs.rounds.half_round.Goals as goal
 
 pub returns-then-is_last : goal.returns-then-is_last

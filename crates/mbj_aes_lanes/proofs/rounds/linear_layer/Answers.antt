@@ -1,7 +1,7 @@
 -- The sixteen bytes: each comes from its place in its row, is mixed with the three below it, and has that of the key added.
 use Rattle.std.proofs.Common.{◌≡◌, ℕ, ◌<◌, bit_xor, refl, arith}
 use Rattle.mbj_aes.specs.Planes.Bytes.{byte_at}
-use Rattle.mbj_aes_lanes.specs.Planes.State.{turned_from}
+use Rattle.mbj_aes_lanes.specs.Inside.State.{turned_from}
 use Rattle.mbj_aes_lanes.proofs.PlaneBytes.{mixed_at, mixed_planes_with_key}
 use Rattle.mbj_aes_lanes.proofs.rounds.linear_layer.Goals as goal
 

@@ -1,8 +1,8 @@
 -- Both halves are substituted, and the rest of the round follows.
 use Rattle.std.proofs.Common.{List, ℕ, true, ap, ◌∙◌}
 use Rattle.mbj_types.specs.Aes.{sub_byte}
-use Rattle.mbj_aes_lanes.specs.Planes.State.{state_bytes}
-use Rattle.mbj_aes_lanes.specs.Planes.Rounds.{in_half, linear_layer_of}
+use Rattle.mbj_aes_lanes.specs.Inside.State.{state_bytes}
+use Rattle.mbj_aes_lanes.specs.Inside.Rounds.{in_half, linear_layer_of}
 use Rattle.mbj_aes_lanes.proofs.HalfRounds.{in_half-lower-upper}
 use Rattle.mbj_aes_lanes.proofs.rounds.round.Goals as goal
 

@@ -4,7 +4,7 @@ use Rattle.mbj_types.specs.Lanes.{lane_of}
 use Rattle.mbj_types.proofs.LaneLists.{length-lane_of}
 use Rattle.mbj_aes.specs.Planes.Bytes.{byte_at, nth_of}
 use Rattle.mbj_aes.proofs.States.{picked-all}
-use Rattle.mbj_aes_lanes.specs.Planes.State.{rows_from}
+use Rattle.mbj_aes_lanes.specs.Inside.State.{rows_from}
 use Rattle.mbj_aes_lanes.proofs.LaneWords.{length-part, rows_from-part}
 use Rattle.mbj_aes_lanes.proofs.words.state_at.Goals as goal
 

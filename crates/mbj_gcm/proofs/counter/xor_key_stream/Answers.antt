@@ -6,7 +6,7 @@ use Rattle.mbj_types.specs.Blocks.{xor_lists}
 use Rattle.mbj_types.specs.Gcm.{inc32, gctr}
 use Rattle.mbj_aes_lanes.proofs.SameKeys.{schedule_at-same}
 use Rattle.mbj_blocks.proofs.Walk.{walk_xor, walk_end, walk_over}
-use Rattle.mbj_gcm.specs.Counting.Risen.{risen}
+use Rattle.mbj_gcm.specs.Inside.Risen.{risen}
 use Rattle.mbj_gcm.proofs.RisenCounters.{risen-1, inc32-risen}
 use Rattle.mbj_gcm.proofs.counter.xor_key_stream.Goals as goal
 

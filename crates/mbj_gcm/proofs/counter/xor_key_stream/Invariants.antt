@@ -5,7 +5,7 @@ use Rattle.mbj_types.specs.Aes.{encipher}
 use Rattle.mbj_types.specs.Blocks.{blocks}
 use Rattle.mbj_types.specs.Gcm.{inc32, gctr}
 use Rattle.mbj_blocks.proofs.Walk.{Walked}
-use Rattle.mbj_gcm.specs.Counting.Risen.{risen}
+use Rattle.mbj_gcm.specs.Inside.Risen.{risen}
 use Rattle.mbj_gcm.proofs.counter.xor_key_stream.Given as goal
 
 abbrev pub invariant-batches : goal.invariant-batches

@@ -1,7 +1,7 @@
 use Rattle.std.proofs.Common.{refl}
 use Rattle.sha1.specs.Sha1.{rounds}
 use Rattle.mbj_sha1_lanes.proofs.Windows.{window_of}
-use Rattle.mbj_sha1_lanes.specs.Lanes.{working_lane}
+use Rattle.mbj_sha1_lanes.specs.Inside.Lanes.{working_lane}
 use Rattle.mbj_sha1_lanes.proofs.lanes.all_rounds.Goals as goal
 
 pub returns : goal.returns

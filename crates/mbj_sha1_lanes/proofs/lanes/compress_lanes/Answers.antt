@@ -1,7 +1,7 @@
 use Rattle.std.proofs.Common.{◌≡◌, ◌∙◌, ap₂}
 use Rattle.sha1.specs.Sha1.{rounds, compress, add_state, schedule}
 use Rattle.mbj_types.specs.Lanes.{lane_of}
-use Rattle.mbj_sha1_lanes.specs.Lanes.{working_lane}
+use Rattle.mbj_sha1_lanes.specs.Inside.Lanes.{working_lane}
 use Rattle.mbj_sha1_lanes.proofs.Windows.{five_read, five_written}
 use Rattle.mbj_sha1_lanes.proofs.lanes.compress_lanes.Goals as goal
 

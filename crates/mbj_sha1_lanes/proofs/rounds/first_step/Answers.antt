@@ -1,7 +1,7 @@
 use Rattle.sha1.proofs.Schedule.{rounds_first}
 use Rattle.mbj_types.specs.Lanes.{lane_of}
 use Rattle.mbj_types.proofs.LaneLists.{lane_read}
-use Rattle.mbj_sha1_lanes.specs.Lanes.{working_lane}
+use Rattle.mbj_sha1_lanes.specs.Inside.Lanes.{working_lane}
 use Rattle.mbj_sha1_lanes.proofs.Windows.{window_of}
 use Rattle.std.proofs.Common.{arith}
 use Rattle.mbj_sha1_lanes.proofs.rounds.first_step.Goals as goal

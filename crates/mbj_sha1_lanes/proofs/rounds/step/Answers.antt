@@ -2,7 +2,7 @@ use Rattle.std.proofs.Common.{ap, ◌∙◌}
 use Rattle.sha1.proofs.Schedule.{rounds_window}
 use Rattle.mbj_types.specs.Lanes.{lane_of}
 use Rattle.mbj_types.proofs.LaneLists.{lane_of-set}
-use Rattle.mbj_sha1_lanes.specs.Lanes.{working_lane}
+use Rattle.mbj_sha1_lanes.specs.Inside.Lanes.{working_lane}
 use Rattle.mbj_sha1_lanes.proofs.rounds.step.Goals as goal
 
 pub returns : goal.returns

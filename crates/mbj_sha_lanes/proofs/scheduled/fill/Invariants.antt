@@ -1,7 +1,7 @@
 -- The words before word t are those of the schedule.
 use Rattle.std.proofs.Common.{◌≡◌, ℕ, ◌<◌, List, length, take}
 use Rattle.mbj_types.specs.Lanes.{lane_of}
-use Rattle.mbj_sha_lanes.specs.Inside.{AreScheduled}
+use Rattle.mbj_sha_lanes.specs.Inside.Windows.{AreScheduled}
 use Rattle.mbj_sha_lanes.proofs.scheduled.fill.Given as goal
 
 abbrev pub invariant-words : goal.invariant-words

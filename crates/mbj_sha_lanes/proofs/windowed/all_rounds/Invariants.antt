@@ -1,7 +1,7 @@
 use Rattle.std.proofs.Common.{◌≡◌, ℕ, ◌*◌, ◌<◌, List}
 use Rattle.mbj_types.specs.Lanes.{lane_of}
 use Rattle.mbj_sha_lanes.specs.Sha2.{working_lane}
-use Rattle.mbj_sha_lanes.specs.Inside.{IsWindowed}
+use Rattle.mbj_sha_lanes.specs.Inside.Windows.{IsWindowed}
 use Rattle.mbj_sha_lanes.proofs.windowed.all_rounds.Given as goal
 
 abbrev pub invariant-turns : goal.invariant-turns

@@ -1,6 +1,6 @@
 -- The digits so far write the number, and the others go on behind it.
 use Rattle.std.proofs.Common.{◌≡◌, ◌<◌, ◌^◌, drop}
-use Rattle.mbj_text.specs.Reading.{digits_after}
+use Rattle.mbj_text.specs.Inside.Reading.{digits_after}
 use Rattle.mbj_text.proofs.field.digits.Given as goal
 
 abbrev pub invariant-loop-digit : goal.invariant-loop-digit

@@ -1,6 +1,6 @@
 -- The job lines before those that are left spell the jobs, and what is behind them stays.
 use Rattle.std.proofs.Common.{◌≡◌, length}
-use Rattle.mbj_text.specs.Reading.{part_before, part_behind}
+use Rattle.mbj_text.specs.Inside.Reading.{part_before, part_behind}
 use Rattle.mbj_text.proofs.FileLaws.{SoFar}
 use Rattle.mbj_text.proofs.jobs.read_jobs.Given as goal
 

@@ -4,7 +4,7 @@ use Rattle.std.specs.Prelude.{IsSome, unwrap_or}
 use Rattle.std.proofs.lemmas.List.{length-set, take_all}
 use Rattle.mbj_types.specs.Lanes.{lane_at}
 use Rattle.mbj_aes_lanes.specs.Chaining.{in_lane}
-use Rattle.mbj_aes_lanes.specs.Planes.Keys.{schedule_in}
+use Rattle.mbj_aes_lanes.specs.Inside.Keys.{schedule_in}
 use Rattle.mbj_aes_lanes.proofs.HeldKeys.{held_lanes-each}
 use Rattle.mbj_aes_lanes.proofs.WrittenKeys.{schedule_in-more}
 use Rattle.mbj_aes_lanes.proofs.lane_keys.LaneKeys.each.Goals as goal

@@ -2,7 +2,7 @@
 use Rattle.std.proofs.Common.{◌≡◌, ℕ, ◌+◌, List, ◌++◌, length, drop, take, ap, ◌∙◌, arith}
 use Rattle.std.proofs.lemmas.List.{length-take-le, take_at}
 use Rattle.mbj_types.specs.Lanes.{lane_at}
-use Rattle.mbj_aes_lanes.specs.Planes.Keys.{schedule_in}
+use Rattle.mbj_aes_lanes.specs.Inside.Keys.{schedule_in}
 use Rattle.mbj_aes_lanes.proofs.HeldKeys.{held_lanes-put}
 use Rattle.mbj_aes_lanes.proofs.KeySchedules.{schedule_in-written}
 use Rattle.mbj_aes_lanes.proofs.lane_keys.LaneKeys.put.Goals as goal

@@ -1,5 +1,5 @@
 use Rattle.std.proofs.Common.{◌≡◌, ◌∙◌, sym, subst, ap, refl}
-use Rattle.mbj_core.specs.Inside.{state_of}
+use Rattle.mbj_core.specs.Inside.Fields.{state_of}
 use Rattle.mbj_core.specs.Stands.{IsBacked}
 use Rattle.mbj_core.specs.declared.cells.Slot.TheVariants as slot
 use Rattle.mbj_core.proofs.Calls.{vain_claims_lead}

@@ -1,7 +1,7 @@
 use Rattle.std.proofs.Common.{◌+◌, ◌-◌, ◌%◌, ◌<◌, ◌≤◌, ◌∙◌, sym, subst, arith, inl, inr}
 use Rattle.std.proofs.lemmas.List.Elements.{All-set}
 use Rattle.mbj_core.specs.declared.cells.TheConstants.{CELLS}
-use Rattle.mbj_core.specs.Inside.{state_of}
+use Rattle.mbj_core.specs.Inside.Fields.{state_of}
 use Rattle.mbj_core.specs.Stands.{IsBacked}
 use Rattle.mbj_core.proofs.Calls.{vain_collects_lead}
 use Rattle.mbj_core.proofs.Fields.{after_collect, unchanged, undone, done_read, out_read, out_within, sizes_of}

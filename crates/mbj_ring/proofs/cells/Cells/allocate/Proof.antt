@@ -50,7 +50,7 @@ use Rattle.std.proofs.ResultValues.{ok_of, err_of}
 use Rattle.std.proofs.alloc.Shapes.{after, head, arm_body}
 use Rattle.std.proofs.mem.Param.{El, R, args, elτ}
 use Rattle.std.proofs.raw_atomic.Walks.{proved_at, leaves}
-use Rattle.mbj_ring.specs.Ownership.{may_free}
+use Rattle.mbj_ring.specs.Inside.Ownership.{may_free}
 use Rattle.mbj_ring.proofs.Memory.{Owner, bytes, times_capped, in_a_block_of, stored, block_size, block_align, fresh_cells}
 use Rattle.mbj_ring.proofs.Steps.{then_runs, big_lit}
 use Rattle.mbj_ring.proofs.Heap.{Takes, asked, takes_goes, takes_gives, answers}

@@ -40,7 +40,7 @@ use Rattle.std.proofs.RcSteps.{Good}
 use Rattle.std.proofs.alloc.Shapes.{after}
 use Rattle.std.proofs.mem.Param.{El, R, args, elτ}
 use Rattle.std.proofs.raw_atomic.Walks.{proved_at, leaves}
-use Rattle.mbj_ring.specs.Ownership.{cells_own, may_free}
+use Rattle.mbj_ring.specs.Inside.Ownership.{cells_own, may_free}
 use Rattle.mbj_ring.proofs.Memory.{Owner, Held, bytes, times_capped, stored, block_size, block_align, bare_block}
 use Rattle.mbj_ring.proofs.cells.Cells.TheLaws.{lowered, lowers}
 use Rattle.mbj_ring.proofs.Heap.{Gives, handed, gives_goes, gives_back}

@@ -32,9 +32,9 @@ use Rattle.std.specs.Prelude.{Some, None}
 use Rattle.std.proofs.alloc.Shapes.{after}
 use Rattle.std.proofs.mem.Param.{El, R, args}
 use Rattle.std.proofs.raw_atomic.Walks.{proved_at, leaves}
-use Rattle.mbj_ring.specs.Cells.{IsFilled}
-use Rattle.mbj_ring.specs.CellLends.{with_value}
-use Rattle.mbj_ring.specs.Ownership.{cell}
+use Rattle.mbj_ring.specs.Inside.Cells.{IsFilled}
+use Rattle.mbj_ring.specs.Inside.CellLends.{with_value}
+use Rattle.mbj_ring.specs.Inside.Ownership.{cell}
 use Rattle.mbj_ring.proofs.Memory.{offset_fits, Owner, Held, bytes, filled_within, stored, Beside, lent_back, opens_cell}
 use Rattle.mbj_ring.specs.contracts.cells.Cells.get_mut as stated
 use Rattle.mbj_ring.specs.contracts.cells.Cells.get_mut.Key.{name as key}

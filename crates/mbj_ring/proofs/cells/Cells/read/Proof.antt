@@ -29,8 +29,8 @@ use Rattle.std.specs.Prelude.{Some, None}
 use Rattle.std.proofs.alloc.Shapes.{after}
 use Rattle.std.proofs.mem.Param.{El, R, args, elτ, Good}
 use Rattle.std.proofs.raw_atomic.Walks.{proved_at, leaves}
-use Rattle.mbj_ring.specs.Cells.{IsFilled}
-use Rattle.mbj_ring.specs.Ownership.{cell}
+use Rattle.mbj_ring.specs.Inside.Cells.{IsFilled}
+use Rattle.mbj_ring.specs.Inside.Ownership.{cell}
 use Rattle.mbj_ring.proofs.Memory.{offset_fits, Owner, Held, bytes, with_held, as_empty, filled_within, opens_cell, closes_cell}
 use Rattle.mbj_ring.specs.contracts.cells.Cells.read as stated
 use Rattle.mbj_ring.specs.contracts.cells.Cells.read.Key.{name as key}

@@ -2,7 +2,7 @@
 use Rattle.std.proofs.Common.{◌<◌, refl, sym, subst, ◌∙◌, arith}
 use Rattle.mbj_ring.specs.declared.ring.TheConstants.{CELLS}
 use Rattle.mbj_ring.specs.Ring.{IsLive, index_at}
-use Rattle.mbj_ring.specs.Laid.{state_of}
+use Rattle.mbj_ring.specs.Inside.Laid.{state_of}
 use Rattle.mbj_ring.proofs.Places.{index_place}
 use Rattle.mbj_ring.proofs.Rings.{value_count, live_read, live_filled, live_written}
 use Rattle.mbj_ring.proofs.ring.Ring.at_mut.Goals as goal

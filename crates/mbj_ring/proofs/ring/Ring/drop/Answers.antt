@@ -1,7 +1,7 @@
 -- No cell is open in the loop, and after it no value is left.
 use Rattle.std.proofs.Common.{◌<◌, length, sym, ap, ◌∙◌, arith, length-drop}
 use Rattle.std.proofs.lemmas.Option.{slice_get_past, slice_get_within}
-use Rattle.mbj_ring.specs.Laid.{found}
+use Rattle.mbj_ring.specs.Inside.Laid.{found}
 use Rattle.mbj_ring.proofs.Elements.{none_past}
 use Rattle.mbj_ring.proofs.Rings.{closed_flag, value_count, no_open, emptied}
 use Rattle.mbj_ring.proofs.ring.Ring.drop.Goals.{then-self, else-self}

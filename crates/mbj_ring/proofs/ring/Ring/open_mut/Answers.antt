@@ -1,7 +1,7 @@
 -- The open cell's value is lent, and what is written there is the open value.
 use Rattle.std.proofs.Common.{set, get_or, Some, None, refl, sym, ap, ◌∙◌, inl, arith}
-use Rattle.mbj_ring.specs.CellLends.{with_value}
-use Rattle.mbj_ring.specs.Laid.{found}
+use Rattle.mbj_ring.specs.Inside.CellLends.{with_value}
+use Rattle.mbj_ring.specs.Inside.Laid.{found}
 use Rattle.mbj_ring.proofs.Elements.{get_some}
 use Rattle.mbj_ring.proofs.Rings.{reads, room, open_flag, written_open}
 use Rattle.mbj_ring.proofs.ring.Ring.open_mut.Goals as goal

@@ -2,7 +2,7 @@
 use Rattle.std.proofs.Common.{◌-◌, ◌<◌, refl, sym, ap, ◌∙◌, arith}
 use Rattle.mbj_ring.specs.declared.ring.TheConstants.{CELLS}
 use Rattle.mbj_ring.specs.Ring.{without_first}
-use Rattle.mbj_ring.specs.Laid.{found}
+use Rattle.mbj_ring.specs.Inside.Laid.{found}
 use Rattle.mbj_ring.proofs.Elements.{uncons}
 use Rattle.mbj_ring.proofs.Places.{same_place}
 use Rattle.mbj_ring.proofs.Rings.{least, live_read, live_filled, popped}

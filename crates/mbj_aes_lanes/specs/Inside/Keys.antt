@@ -4,7 +4,7 @@ use Rattle.std.specs.List.{flat_map, range_with_len}
 use Rattle.mbj_types.specs.Lanes.{lane_at}
 use Rattle.mbj_aes.specs.declared.octet.Octet.{Octet}
 use Rattle.mbj_aes_lanes.specs.declared.state.State.{State}
-use Rattle.mbj_aes_lanes.specs.Planes.State.{state_bytes}
+use Rattle.mbj_aes_lanes.specs.Inside.State.{state_bytes}
 
 -- the schedule in lane i of a list of round keys
 unfoldable pub schedule_in : {V : Type 0} → (V → ℕ → ℕ) → List (State V) → ℕ → List ℕ

@@ -1,0 +1,4 @@
+pub mod CellLends
+pub mod Cells
+pub mod Laid
+pub mod Ownership
