@@ -3,7 +3,7 @@ use Rattle.std.specs.Prelude.{◌≡◌, ℕ, Bool, true, false, ◌&&◌, nat_l
 use Rattle.mbj_types.specs.declared.done.Done.{Done}
 use Rattle.mbj_types.specs.declared.limits.TheConstants.{MAX_TAG_BYTES}
 use Rattle.mbj_types.specs.Result.{result_of}
-use Rattle.mbj_manager.specs.State.{ManagerState, submitted, given, flushing}
+use Rattle.mbj_manager.specs.State.{ManagerState, after_submit, after_get_completed, after_flush}
 use Rattle.mbj_c.specs.declared.giving.Call.{Call}
 use Rattle.mbj_c.specs.declared.giving.Call.TheVariants as call
 use Rattle.mbj_c.specs.declared.giving.RawDone.{RawDone}
@@ -13,9 +13,9 @@ use Rattle.mbj_c.specs.Codes.{code_of, reason_code, status_code}
 
 -- what the call gives back, and what it makes of the manager
 abbrev pub step : Call → ManagerState → Option Done × ManagerState
-step call.Submit m = submitted m
-step call.Completed m = given m
-step call.Flush m = flushing m
+step call.Submit m = after_submit m
+step call.Completed m = after_get_completed m
+step call.Flush m = after_flush m
 
 -- the results that are owed once the call's job, where it has one, is submitted: the first one is the one that may be given back
 abbrev pub owed_in : Call → ManagerState → List Done

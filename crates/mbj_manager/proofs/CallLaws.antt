@@ -5,7 +5,7 @@ use Rattle.mbj_types.specs.declared.job.Job.{Job}
 use Rattle.mbj_types.specs.declared.done.Done.{Done}
 use Rattle.mbj_types.specs.Result.{result_of}
 use Rattle.mbj_manager.specs.Rounds.{Pending}
-use Rattle.mbj_manager.specs.State.{ManagerState, IsEarliestFinished, given, given_at, entered, entered_at, submitted}
+use Rattle.mbj_manager.specs.State.{ManagerState, IsEarliestFinished, after_get_completed, given_at, entered, entered_at, after_submit}
 use Rattle.mbj_manager.specs.Calls.{Call, get_next, write, submit, get_completed, flush, called, jobs_in, opened_next, submitted_at, written_at, given_back, jobs_submitted, after_calls}
 
 given-order-at : (ds : List Done) (left : List (List Pending)) (h : ManagerState) → h.owed ≡ ds
@@ -16,7 +16,7 @@ given-order-at (d ∷ ds) ([] ∷ left) h e = refl
 given-order-at (d ∷ ds) ((p ∷ ps) ∷ left) h e = e
 
 -- the first of what is owed is given back, and the rest is still owed
-pub given-order : (h : ManagerState) → option_to_list (given h).0 ++ (given h).1.owed ≡ h.owed
+pub given-order : (h : ManagerState) → option_to_list (after_get_completed h).0 ++ (after_get_completed h).1.owed ≡ h.owed
 given-order h = given-order-at h.owed h.machine.left h refl
 
 none-then : (ds : List Done) (left : List (List Pending)) (h : ManagerState) → h.owed ≡ ds → h.machine.left ≡ left
@@ -34,7 +34,7 @@ none-if (d ∷ ds) ([] ∷ left) h e f n = elim (n (record { some = λ x. let g 
 none-if (d ∷ ds) ((p ∷ ps) ∷ left) h e f n = refl
 
 -- nothing is given back exactly where the earliest job isn't finished
-pub none-where : (h : ManagerState) → ((given h).0 ≡ None) ↔ ¬ IsEarliestFinished h
+pub none-where : (h : ManagerState) → ((after_get_completed h).0 ≡ None) ↔ ¬ IsEarliestFinished h
 none-where h = (none-then h.owed h.machine.left h refl refl, none-if h.owed h.machine.left h refl refl)
 
 entered-owed : (o : Option Job) (h : ManagerState) → (entered_at o h).owed ≡ h.owed ++ map result_of (option_to_list o)
@@ -42,7 +42,7 @@ entered-owed None h = sym (append-nil h.owed)
 entered-owed (Some j) h = refl
 
 pub submitted-order : (h : ManagerState)
-    → option_to_list (submitted h).0 ++ (submitted h).1.owed ≡ h.owed ++ map result_of (option_to_list h.opened)
+    → option_to_list (after_submit h).0 ++ (after_submit h).1.owed ≡ h.owed ++ map result_of (option_to_list h.opened)
 submitted-order h = given-order (entered h) ∙ entered-owed h.opened h
 
 -- what a call gives back, and then what is owed, are what was owed and the results of what the call submits

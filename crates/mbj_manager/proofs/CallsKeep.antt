@@ -14,7 +14,7 @@ use Rattle.mbj_stage.specs.Going.{begun}
 use Rattle.mbj_manager.specs.Rounds.{Pending, pending}
 use Rattle.mbj_manager.specs.Machine.{Machine, submit, lane_of, idle_lane, count_end}
 use Rattle.mbj_manager.specs.Course.{course, flushed}
-use Rattle.mbj_manager.specs.State.{ManagerState, entered, entered_at, flushing, given, given_at, lent, new_manager, with_job, with_open}
+use Rattle.mbj_manager.specs.State.{ManagerState, entered, entered_at, after_flush, after_get_completed, given_at, lent, new_manager, with_job, with_open}
 use Rattle.mbj_manager.specs.Calls as calls
 use Rattle.mbj_manager.specs.Calls.{Call, after_calls, called, opened_next, submitted_at, written_at}
 use Rattle.mbj_manager.specs.Counts.{RisesUpTo}
@@ -48,7 +48,7 @@ given-runs-at (d ∷ ds) ([] ∷ left) h = refl
 given-runs-at (d ∷ ds) ((p ∷ ps) ∷ left) h = refl
 
 -- how often a flush runs lists
-pub few-runs : (h : ManagerState) → IsSettled h → RisesUpTo (2 * length h.owed) h.machine.flush_runs (flushing h).1.machine.flush_runs
+pub few-runs : (h : ManagerState) → IsSettled h → RisesUpTo (2 * length h.owed) h.machine.flush_runs (after_flush h).1.machine.flush_runs
 few-runs h settled =
     let runs = flush-runs h.machine settled.machine in
     let few = runs.few in
@@ -86,7 +86,7 @@ given-at-settled (d ∷ ds) ([] ∷ left) h owes is settled = record {
 }
 
 -- giving back keeps it
-pub given-settled : (h : ManagerState) → IsSettled h → IsSettled (given h).1
+pub given-settled : (h : ManagerState) → IsSettled h → IsSettled (after_get_completed h).1
 given-settled h settled = given-at-settled h.owed h.machine.left h refl refl settled
 
 two-added : (left : List (List Pending)) (ps : List Pending) → ((n : ℕ) → length (left_at n left) ≤ 2) → length ps ≤ 2

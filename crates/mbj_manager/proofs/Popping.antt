@@ -14,7 +14,7 @@ use Rattle.mbj_stage.specs.declared.stage.Stage.TheVariants as stage
 use Rattle.mbj_manager.specs.Rounds.{Pending, pending}
 use Rattle.mbj_manager.specs.Machine.{Lane, Machine, Waiting, lane_of, lanes_by}
 use Rattle.mbj_manager.specs.Between.{IsBetweenCalls}
-use Rattle.mbj_manager.specs.State.{ManagerState, earlier, given, given_at, renumbered, without_earliest}
+use Rattle.mbj_manager.specs.State.{ManagerState, earlier, after_get_completed, given_at, renumbered, without_earliest}
 use Rattle.mbj_manager.specs.declared.cell.Cell.{Cell}
 use Rattle.mbj_manager.specs.Inside.Courses.{IsGoing, course_in, courses, number, number_in}
 use Rattle.mbj_manager.specs.Leads.{IsOut}
@@ -133,8 +133,8 @@ between-within m between = record {
 -- the course in the cell v is finished, its result is given back, and the fields then hold the state that is left
 pub record IsGiven (r : RingState Cell) (v : Cell) (ag : List ℕ) (ls : Lines) (capacity : ℕ) : Type 0 where
   pub finished : stage_of (course_in v) ≡ stage.Finished
-  pub result : Some (owed (course_in v)) ≡ (given (held r ag ls)).0
-  pub is : held (without_first r) ag ls ≡ (given (held r ag ls)).1
+  pub result : Some (owed (course_in v)) ≡ (after_get_completed (held r ag ls)).0
+  pub is : held (without_first r) ag ls ≡ (after_get_completed (held r ag ls)).1
   pub kept : IsHeld (without_first r) ag ls capacity
 
 module _ (v : Cell) (vs : List Cell) (o : Option Cell) (first : ℕ) (ls : Lines) (capacity : ℕ) (y : IsHeld (ring (v ∷ vs) o first) [] ls capacity)
@@ -200,7 +200,7 @@ module _ (v : Cell) (vs : List Cell) (o : Option Cell) (first : ℕ) (ls : Lines
     record { owed = owed_from 1 (find_in lines) (map course_in vs); opened = (held r [] ls).opened; machine = without_earliest left_then (machine_in r [] ls) },
   )
 
-  given-is : given (held r [] ls) ≡ answer
+  given-is : after_get_completed (held r [] ls) ≡ answer
   given-is = ap (λ (ps : List Pending). given_at (held r [] ls).owed (ps ∷ left_then) (held r [] ls)) none
 
   given-then : IsGiven r v [] ls capacity
@@ -244,5 +244,5 @@ not-given-at (d ∷ ds) ([] ∷ left) h n = absurd (n refl)
 not-given-at (d ∷ ds) ((p ∷ ps) ∷ left) h n = refl
 
 -- where the earliest job isn't finished nothing is given back
-pub not-given : (h : ManagerState) → slice_get h.machine.left 0 ≢ Some [] → given h ≡ (None, h)
+pub not-given : (h : ManagerState) → slice_get h.machine.left 0 ≢ Some [] → after_get_completed h ≡ (None, h)
 not-given h n = not-given-at h.owed h.machine.left h n

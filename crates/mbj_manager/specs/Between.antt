@@ -6,7 +6,7 @@ use Rattle.mbj_manager.specs.Rounds.{Pending, at_once, in_lanes}
 use Rattle.mbj_manager.specs.Machine.{Machine, Waiting, count_end, lane_of, submit}
 use Rattle.mbj_manager.specs.Course.{course, flushed}
 use Rattle.mbj_manager.specs.Counts.{RisesUpTo}
-use Rattle.mbj_manager.specs.State.{ManagerState, flushing, new_manager}
+use Rattle.mbj_manager.specs.State.{ManagerState, after_flush, new_manager}
 use Rattle.mbj_manager.specs.Calls.{Call, after_calls}
 
 -- how often the job n stands in a list
@@ -56,9 +56,9 @@ pub record IsKept (h : ManagerState) : Type 0 where
   -- there is a result owed for each job of the machine
   pub jobs : length h.machine.left ≡ length h.owed
   -- a flush gives the earliest job back
-  pub flush_gives : h.owed ≢ [] → IsSome (flushing h).0
+  pub flush_gives : h.owed ≢ [] → IsSome (after_flush h).0
   -- and runs lists twice for each job at most
-  pub flush_runs : RisesUpTo (2 * length h.owed) h.machine.flush_runs (flushing h).1.machine.flush_runs
+  pub flush_runs : RisesUpTo (2 * length h.owed) h.machine.flush_runs (after_flush h).1.machine.flush_runs
 
 abbrev pub AreKept : List Call → Type 0
 AreKept calls = IsKept (after_calls calls new_manager)

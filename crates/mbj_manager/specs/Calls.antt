@@ -4,7 +4,7 @@ use Rattle.mbj_types.specs.declared.job.Job.{Job}
 use Rattle.mbj_types.specs.declared.done.Done.{Done}
 use Rattle.mbj_types.specs.Result.{result_of}
 use Rattle.mbj_ring.specs.declared.ring.TheConstants.{CELLS}
-use Rattle.mbj_manager.specs.State.{ManagerState, new_manager, lent, with_open, given, submitted, flushing}
+use Rattle.mbj_manager.specs.State.{ManagerState, new_manager, lent, with_open, after_get_completed, after_submit, after_flush}
 
 -- a call, or a write of the job that is lent
 pub data Call : Type 0 where
@@ -25,15 +25,15 @@ written_at (Some old) j h = with_open h j
 -- only an open job is submitted
 abbrev pub submitted_at : Option Job → ManagerState → Option Done × ManagerState
 submitted_at None h = (None, h)
-submitted_at (Some j) h = submitted h
+submitted_at (Some j) h = after_submit h
 
 -- what a call gives back, and the state after it
 abbrev pub called : Call → ManagerState → Option Done × ManagerState
 called get_next h = (None, opened_next h)
 called (write j) h = (None, written_at h.opened j h)
 called submit h = submitted_at h.opened h
-called get_completed h = given h
-called flush h = flushing h
+called get_completed h = after_get_completed h
+called flush h = after_flush h
 
 -- the jobs that a call submits
 abbrev pub jobs_in : Call → ManagerState → List Job

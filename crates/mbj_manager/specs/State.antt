@@ -53,8 +53,8 @@ given_at (d ∷ ds) ([] ∷ left) h =
     (Some d, record { owed = ds; opened = h.opened; machine = without_earliest left h.machine })
 given_at ds left h = (None, h)
 
-abbrev pub given : ManagerState → Option Done × ManagerState
-given h = given_at h.owed h.machine.left h
+abbrev pub after_get_completed : ManagerState → Option Done × ManagerState
+after_get_completed h = given_at h.owed h.machine.left h
 
 -- there is an earliest job, and no stage of it is left
 pub record IsEarliestFinished (h : ManagerState) : Type 0 where
@@ -82,16 +82,16 @@ entered_at (Some j) h = with_job j h
 abbrev pub entered : ManagerState → ManagerState
 entered h = entered_at h.opened h
 
-abbrev pub submitted : ManagerState → Option Done × ManagerState
-submitted h = given (entered h)
+abbrev pub after_submit : ManagerState → Option Done × ManagerState
+after_submit h = after_get_completed (entered h)
 
 -- ---- flush
 
-abbrev pub flushing : ManagerState → Option Done × ManagerState
-flushing h = given (record h { machine = flushed h.machine })
+abbrev pub after_flush : ManagerState → Option Done × ManagerState
+after_flush h = after_get_completed (record h { machine = flushed h.machine })
 
 -- ---- room for a job
 
 -- where no cell is left, the earliest job is flushed
-abbrev pub room_made : ManagerState → Option Done × ManagerState
-room_made h = if length h.owed == CELLS then flushing h else (None, h)
+abbrev pub after_making_room : ManagerState → Option Done × ManagerState
+after_making_room h = if length h.owed == CELLS then after_flush h else (None, h)

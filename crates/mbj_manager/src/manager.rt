@@ -8,7 +8,7 @@ ghost use Rattle.mbj_lane.specs.Rounds.{end_of};
 ghost use Rattle.mbj_manager.specs.Machine.{count_end, lane_of, rest_of};
 ghost use Rattle.mbj_manager.specs.Leads.{AreLed};
 ghost use Rattle.mbj_manager.specs.Counts.{RisesUpTo};
-ghost use Rattle.mbj_manager.specs.State.{IsEarliestFinished, entered, flushing, given, lent, new_manager, room_made, submitted, with_open};
+ghost use Rattle.mbj_manager.specs.State.{IsEarliestFinished, entered, after_flush, after_get_completed, lent, new_manager, after_making_room, after_submit, with_open};
 ghost use Rattle.mbj_manager.specs.Lending.{LendsNext, LendsOpen};
 
 use crate::lane::Cause;
@@ -85,8 +85,8 @@ impl Manager {
     ///
     /// Answers `None` exactly where there is a cell; nothing changes then.
     pub fn make_room(&mut self) -> Option<Done>
-        ensures result { result ≡ (room_made self.old).0 }
-        ensures state { self.new ≡ (room_made self.old).1 }
+        ensures result { result ≡ (after_making_room self.old).0 }
+        ensures state { self.new ≡ (after_making_room self.old).1 }
         ensures room { length self.new.owed < CELLS }
         ensures none { (result ≡ None) ↔ ¬ (length self.old.owed ≡ CELLS) }
         ensures order { option_to_list result ++ self.new.owed ≡ self.old.owed }
@@ -119,8 +119,8 @@ impl Manager {
     /// Answers `None` exactly where, after that, the earliest job isn't finished.
     pub fn submit(&mut self) -> Option<Done>
         requires is_open { IsSome self.old.opened }
-        ensures result { result ≡ (submitted self.old).0 }
-        ensures state { self.new ≡ (submitted self.old).1 }
+        ensures result { result ≡ (after_submit self.old).0 }
+        ensures state { self.new ≡ (after_submit self.old).1 }
         ensures none { (result ≡ None) ↔ ¬ IsEarliestFinished (entered self.old) }
         ensures some { IsEarliestFinished (entered self.old) → IsSome result }
         ensures order { option_to_list result ++ self.new.owed
@@ -144,8 +144,8 @@ impl Manager {
     /// Answers `None` exactly where no job is submitted and not given back, or the earliest isn't finished; nothing
     /// changes then.
     pub fn get_completed(&mut self) -> Option<Done>
-        ensures result { result ≡ (given self.old).0 }
-        ensures state { self.new ≡ (given self.old).1 }
+        ensures result { result ≡ (after_get_completed self.old).0 }
+        ensures state { self.new ≡ (after_get_completed self.old).1 }
         ensures none { (result ≡ None) ↔ ¬ IsEarliestFinished self.old }
         ensures some { IsEarliestFinished self.old → IsSome result }
         ensures order { option_to_list result ++ self.new.owed ≡ self.old.owed }
@@ -158,8 +158,8 @@ impl Manager {
     ///
     /// Answers `None` exactly where no job is submitted and not given back.
     pub fn flush(&mut self) -> Option<Done>
-        ensures result { result ≡ (flushing self.old).0 }
-        ensures state { self.new ≡ (flushing self.old).1 }
+        ensures result { result ≡ (after_flush self.old).0 }
+        ensures state { self.new ≡ (after_flush self.old).1 }
         ensures none { (result ≡ None) ↔ (self.old.owed ≡ []) }
         ensures open_stays { self.new.opened ≡ self.old.opened }
         ensures runs { RisesUpTo (2 * length self.old.owed) self.old.machine.flush_runs self.new.machine.flush_runs }

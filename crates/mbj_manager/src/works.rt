@@ -10,7 +10,7 @@ ghost use Rattle.mbj_lane.specs.Rounds.{end_of};
 ghost use Rattle.mbj_manager.specs.Machine.{count_end, lane_of, rest_of, run_idle};
 ghost use Rattle.mbj_manager.specs.Leads.{AreLed};
 ghost use Rattle.mbj_manager.specs.Course.{course, flushed, stages_left, stepped, steps_ahead};
-ghost use Rattle.mbj_manager.specs.State.{given, lent, new_manager, with_open};
+ghost use Rattle.mbj_manager.specs.State.{after_get_completed, lent, new_manager, with_open};
 ghost use Rattle.mbj_manager.specs.Lending.{LendsOpenJob};
 ghost use Rattle.mbj_manager.specs.Inside.Added.{added, first_lane};
 ghost use Rattle.mbj_manager.specs.Inside.Cause.{within};
@@ -208,8 +208,8 @@ impl Works {
     /// Gives the earliest job back where it is finished.
     pub(crate) fn give(&mut self) -> Option<Done>
         requires { self.old.machine.agenda ≡ [] }
-        ensures result { result ≡ (given self.old).0 }
-        ensures state { self.new ≡ (given self.old).1 }
+        ensures result { result ≡ (after_get_completed self.old).0 }
+        ensures state { self.new ≡ (after_get_completed self.old).1 }
     {
         if self.has_finished() {
             Some(self.pop())
@@ -222,8 +222,8 @@ impl Works {
     fn pop(&mut self) -> Done
         requires idle { self.old.machine.agenda ≡ [] }
         requires done { slice_get self.old.machine.left 0 ≡ Some [] }
-        ensures result { Some result ≡ (given self.old).0 }
-        ensures state { self.new ≡ (given self.old).1 }
+        ensures result { Some result ≡ (after_get_completed self.old).0 }
+        ensures state { self.new ≡ (after_get_completed self.old).1 }
     {
         match self.ring.pop() {
             Some(cell) => cell.into_done(),

@@ -9,7 +9,7 @@ use Rattle.mbj_core.specs.CoreStates.{CoreState, claimed_by, next_cell, out_of, 
 use Rattle.mbj_core.specs.declared.cells.TheConstants.{CELLS}
 use Rattle.mbj_text.specs.declared.command.Cmd.{Cmd}
 use Rattle.std.specs.declared.alloc.AllocError.{AllocError}
-use Rattle.mbj_manager.specs.State.{ManagerState, flushing, new_manager, submitted, with_open}
+use Rattle.mbj_manager.specs.State.{ManagerState, after_flush, new_manager, after_submit, with_open}
 use Rattle.mbj_replay.specs.Replay.{Replaying, Told, after_finish, cells_out, claim_of, claim_told, core_after, finish_of, first_ready, first_with, flush_told, hand, lines_from, manager, number_in, party, post_of, post_told, told, with_claim, with_manager, with_post}
 use Rattle.mbj_replay.specs.Inside.State.{state_of}
 use Rattle.mbj_replay.specs.declared.replayer.Posted.{Posted}
@@ -37,32 +37,32 @@ told-is a b q r lines state = ap (λ (l : List ReplayLine). (l, q)) lines ∙ ap
 
 -- a flush, and the finish that it leads to
 pub flush-is : (w : ℕ) (r q : Replaying) (x : ManagerState) (cells : List ℕ) (given : Option Entry) (job : Option ℕ)
-    → manager w r ≡ x → hand w r ≡ cells → given ≡ first_with cells (flushing x).0
-    → q ≡ after_finish w given (with_manager w (flushing x).1 r) → job ≡ finish_of r given
+    → manager w r ≡ x → hand w r ≡ cells → given ≡ first_with cells (after_flush x).0
+    → q ≡ after_finish w given (with_manager w (after_flush x).1 r) → job ≡ finish_of r given
     → ◌≡◌ {A = Told} (line.Finish w job ∷ [], q) (flush_told w r)
 flush-is w r q x cells given job is_manager is_hand is_given is_state is_job =
-    let found : given ≡ first_with (hand w r) (flushing (manager w r)).0
-    = is_given ∙ ap (λ (cs : List ℕ). first_with cs (flushing x).0) (sym is_hand) ∙ ap (λ (m : ManagerState). first_with (hand w r) (flushing m).0) (sym is_manager) in
-    let state : q ≡ after_finish w (first_with (hand w r) (flushing (manager w r)).0) (with_manager w (flushing (manager w r)).1 r)
-    = is_state ∙ ap (λ (m : ManagerState). after_finish w given (with_manager w (flushing m).1 r)) (sym is_manager)
-    ∙ ap (λ (g : Option Entry). after_finish w g (with_manager w (flushing (manager w r)).1 r)) found in
-    let number : job ≡ finish_of r (first_with (hand w r) (flushing (manager w r)).0) = is_job ∙ ap (finish_of r) found in
-    told-is (line.Finish w job ∷ []) (line.Finish w (finish_of r (first_with (hand w r) (flushing (manager w r)).0)) ∷ []) q _
+    let found : given ≡ first_with (hand w r) (after_flush (manager w r)).0
+    = is_given ∙ ap (λ (cs : List ℕ). first_with cs (after_flush x).0) (sym is_hand) ∙ ap (λ (m : ManagerState). first_with (hand w r) (after_flush m).0) (sym is_manager) in
+    let state : q ≡ after_finish w (first_with (hand w r) (after_flush (manager w r)).0) (with_manager w (after_flush (manager w r)).1 r)
+    = is_state ∙ ap (λ (m : ManagerState). after_finish w given (with_manager w (after_flush m).1 r)) (sym is_manager)
+    ∙ ap (λ (g : Option Entry). after_finish w g (with_manager w (after_flush (manager w r)).1 r)) found in
+    let number : job ≡ finish_of r (first_with (hand w r) (after_flush (manager w r)).0) = is_job ∙ ap (finish_of r) found in
+    told-is (line.Finish w job ∷ []) (line.Finish w (finish_of r (first_with (hand w r) (after_flush (manager w r)).0)) ∷ []) q _
     (ap (λ (n : Option ℕ). line.Finish w n ∷ []) number) state
 
 -- a claim, and the finish that it leads to
 pub claim-is : (w s cell : ℕ) (job : Job) (r q : Replaying) (x : ManagerState) (full cells : List ℕ) (given : Option Entry) (number : Option ℕ) (finishes : List ReplayLine)
     → hand w r ≡ full → length full ≢ CELLS → first_ready r.core (cells_out r.core s) ≡ Some (cell, job)
-    → manager w r ≡ x → hand w (with_claim w cell job (submitted (with_open x job)).1 r) ≡ cells
-    → given ≡ first_with cells (submitted (with_open x job)).0
-    → q ≡ after_finish w given (with_claim w cell job (submitted (with_open x job)).1 r)
+    → manager w r ≡ x → hand w (with_claim w cell job (after_submit (with_open x job)).1 r) ≡ cells
+    → given ≡ first_with cells (after_submit (with_open x job)).0
+    → q ≡ after_finish w given (with_claim w cell job (after_submit (with_open x job)).1 r)
     → number ≡ Some (number_in r cell) → finishes ≡ map (λ n. line.Finish w (Some n)) (option_to_list (finish_of r given))
     → ◌≡◌ {A = Told} (line.Claim w number ∷ finishes, q) (claim_told w s r)
 claim-is w s cell job r q x full cells given number finishes is_full is_room is_ready is_manager is_hand is_given is_state is_number are =
-    let after : ManagerState → Replaying = λ m. with_claim w cell job (submitted (with_open m job)).1 r in
-    let back : ManagerState → Option Entry = λ m. first_with (hand w (after m)) (submitted (with_open m job)).0 in
+    let after : ManagerState → Replaying = λ m. with_claim w cell job (after_submit (with_open m job)).1 r in
+    let back : ManagerState → Option Entry = λ m. first_with (hand w (after m)) (after_submit (with_open m job)).0 in
     let found : given ≡ back (manager w r)
-    = is_given ∙ ap (λ (cs : List ℕ). first_with cs (submitted (with_open x job)).0) (sym is_hand) ∙ ap back (sym is_manager) in
+    = is_given ∙ ap (λ (cs : List ℕ). first_with cs (after_submit (with_open x job)).0) (sym is_hand) ∙ ap back (sym is_manager) in
     let state : q ≡ after_finish w (back (manager w r)) (after (manager w r))
     = is_state ∙ ap (λ (m : ManagerState). after_finish w given (after m)) (sym is_manager)
     ∙ ap (λ (g : Option Entry). after_finish w g (after (manager w r))) found in

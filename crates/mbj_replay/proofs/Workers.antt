@@ -21,7 +21,7 @@ use Rattle.mbj_core.proofs.Calls.{Sizes, claims_lead, finishes_lead}
 use Rattle.mbj_core.proofs.Steps.{step_sound}
 use Rattle.mbj_ring.specs.declared.ring.TheConstants as ring
 use Rattle.mbj_manager.specs.Rounds.{Pending}
-use Rattle.mbj_manager.specs.State.{ManagerState, flushing, given_at, new_manager, submitted, with_open}
+use Rattle.mbj_manager.specs.State.{ManagerState, after_flush, given_at, new_manager, after_submit, with_open}
 use Rattle.mbj_text.specs.declared.command.Cmd.TheVariants as command
 use Rattle.mbj_replay.specs.Events.{Answered, ResultIs, Tells}
 use Rattle.mbj_replay.specs.Replay.{Replaying, Told, after_finish, cells_out, claim_of, core_after, finish_of, first_ready, first_with, hand, job_or, manager, number_in, party, told, with_claim, with_manager}
@@ -105,10 +105,10 @@ given-at (d ∷ ds) [] h e = e
 given-at (d ∷ ds) ([] ∷ left) h e = refl
 given-at (d ∷ ds) ((p ∷ ps) ∷ left) h e = e
 
-flushed-owed : (m : ManagerState) → option_to_list (flushing m).0 ++ (flushing m).1.owed ≡ m.owed
+flushed-owed : (m : ManagerState) → option_to_list (after_flush m).0 ++ (after_flush m).1.owed ≡ m.owed
 flushed-owed m = given-at m.owed _ _ refl
 
-submitted-owed : (m : ManagerState) (job : Job) → option_to_list (submitted (with_open m job)).0 ++ (submitted (with_open m job)).1.owed ≡ m.owed ++ result_of job ∷ []
+submitted-owed : (m : ManagerState) (job : Job) → option_to_list (after_submit (with_open m job)).0 ++ (after_submit (with_open m job)).1.owed ≡ m.owed ++ result_of job ∷ []
 submitted-owed m job = given-at (m.owed ++ result_of job ∷ []) _ _ refl
 
 -- it goes with the first cell of the hand
@@ -192,9 +192,9 @@ pub flush-goes : (jobs : List Job) (w : ℕ) (r : Replaying) (f : FrontState Job
 flush-goes jobs w r f plays near =
     let st = plays.stands in
     let m : ManagerState = manager w r in
-    let after : ManagerState = (flushing m).1 in
-    flush-ends jobs r f w (first_with (hand w r) (flushing m).0) after
-    (gives jobs (with_manager w after r) f w (flushing m).0 after (with-manager jobs r f w after st) near (manager-set jobs r f w after st near)
+    let after : ManagerState = (after_flush m).1 in
+    flush-ends jobs r f w (first_with (hand w r) (after_flush m).0) after
+    (gives jobs (with_manager w after r) f w (after_flush m).0 after (with-manager jobs r f w after st) near (manager-set jobs r f w after st near)
     (flushed-owed m ∙ plays.owes w m (manager-at jobs r f w st near))
     (others-owe r f w after plays.owes))
 
@@ -261,8 +261,8 @@ claim-found jobs w cell job r f plays near is =
     let g : FrontState Job Done = step.0 in
     let changes = step.1.3 in
     let m : ManagerState = manager w r in
-    let o : Option Done = (submitted (with_open m job)).0 in
-    let after : ManagerState = (submitted (with_open m job)).1 in
+    let o : Option Done = (after_submit (with_open m job)).0 in
+    let after : ManagerState = (after_submit (with_open m job)).1 in
     let q : Replaying = with_claim w cell job after r in
     let kept : KeepsResults f g = results-kept f g cell (hand_of p (result_of job)) changes.cell changes.other_cells
     (λ d has. ap (result_in result_of) here.1 ∙ has) in

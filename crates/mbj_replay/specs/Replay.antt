@@ -7,7 +7,7 @@ use Rattle.mbj_core.specs.Cells.{Cell, ready, done, cell_of}
 use Rattle.mbj_core.specs.CoreStates.{CoreState, new_core, cell_in, claimed_by, finished, first_cell, hand_in, handed_out, next_cell, out_of, posted}
 use Rattle.mbj_core.specs.declared.cells.TheConstants.{CELLS}
 use Rattle.mbj_ring.specs.declared.ring.TheConstants as ring
-use Rattle.mbj_manager.specs.State.{ManagerState, flushing, new_manager, submitted, with_open}
+use Rattle.mbj_manager.specs.State.{ManagerState, after_flush, new_manager, after_submit, with_open}
 use Rattle.mbj_text.specs.declared.command.Cmd.{Cmd}
 use Rattle.mbj_text.specs.declared.command.Cmd.TheVariants as command
 use Rattle.mbj_replay.specs.Lines.{replay_lines_text}
@@ -119,8 +119,8 @@ submit_told w claim given r = finish_told w claim (first_with (hand w r) given) 
 abbrev pub claim_of : ℕ → Option (ℕ × Job) → Replaying → Told
 claim_of w None r = (line.Claim w None ∷ [], r)
 claim_of w (Some found) r =
-    submit_told w (line.Claim w (Some (number_in r found.0))) (submitted (with_open (manager w r) found.1)).0
-    (with_claim w found.0 found.1 (submitted (with_open (manager w r) found.1)).1 r)
+    submit_told w (line.Claim w (Some (number_in r found.0))) (after_submit (with_open (manager w r) found.1)).0
+    (with_claim w found.0 found.1 (after_submit (with_open (manager w r) found.1)).1 r)
 
 -- a worker whose hand has as many cells as its manager's ring tries nothing
 abbrev pub claim_told : ℕ → ℕ → Replaying → Told
@@ -136,7 +136,7 @@ abbrev pub flush_of : ℕ → Option (ℕ × Done) → Replaying → Told
 flush_of w given r = (line.Finish w (finish_of r given) ∷ [], after_finish w given r)
 
 abbrev pub flush_told : ℕ → Replaying → Told
-flush_told w r = flush_of w (first_with (hand w r) (flushing (manager w r)).0) (with_manager w (flushing (manager w r)).1 r)
+flush_told w r = flush_of w (first_with (hand w r) (after_flush (manager w r)).0) (with_manager w (after_flush (manager w r)).1 r)
 
 -- ---- collect
 

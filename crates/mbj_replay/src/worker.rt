@@ -1,7 +1,7 @@
 ghost use Rattle.std.specs.Prelude.{◌≡◌, ◌+◌, ◌<◌, ◌≤◌, ◌↔◌, [], ◌∷◌, ◌++◌, IfOk, IfSome, IsTrue, length, map, option_map, option_to_list, replicate, vec_capacity};
 ghost use Rattle.mbj_types.specs.Result.{result_of};
 ghost use Rattle.mbj_ring.specs.declared.ring.TheConstants.{CELLS};
-ghost use Rattle.mbj_manager.specs.State.{flushing, new_manager, submitted, with_open};
+ghost use Rattle.mbj_manager.specs.State.{after_flush, new_manager, after_submit, with_open};
 ghost use Rattle.mbj_replay.specs.Replay.{first_with};
 
 use mbj_manager::Manager;
@@ -57,8 +57,8 @@ impl Worker {
     pub(crate) fn submit(&mut self, cell: u32, job: Job) -> Option<(u32, Done)>
         requires { length self.old.hand.items < CELLS }
         ensures finished { result ≡ first_with (self.old.hand.items ++ cell ∷ [])
-            (submitted (with_open self.old.manager job)).0 }
-        ensures manager { self.new.manager ≡ (submitted (with_open self.old.manager job)).1 }
+            (after_submit (with_open self.old.manager job)).0 }
+        ensures manager { self.new.manager ≡ (after_submit (with_open self.old.manager job)).1 }
         ensures hand { option_to_list (option_map (λ t. t.0) result) ++ self.new.hand.items
             ≡ self.old.hand.items ++ cell ∷ [] }
         ensures owed { option_to_list (option_map (λ t. t.1) result) ++ self.new.manager.owed
@@ -72,8 +72,8 @@ impl Worker {
 
     /// Flushes the manager. What it gives back is answered with the first cell of the hand, which leaves it.
     pub(crate) fn flush(&mut self) -> Option<(u32, Done)>
-        ensures finished { result ≡ first_with self.old.hand.items (flushing self.old.manager).0 }
-        ensures manager { self.new.manager ≡ (flushing self.old.manager).1 }
+        ensures finished { result ≡ first_with self.old.hand.items (after_flush self.old.manager).0 }
+        ensures manager { self.new.manager ≡ (after_flush self.old.manager).1 }
         ensures hand { option_to_list (option_map (λ t. t.0) result) ++ self.new.hand.items ≡ self.old.hand.items }
         ensures owed { option_to_list (option_map (λ t. t.1) result) ++ self.new.manager.owed
             ≡ self.old.manager.owed }

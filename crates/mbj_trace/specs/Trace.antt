@@ -6,7 +6,7 @@ use Rattle.mbj_types.specs.declared.kind.Kind.{Kind}
 use Rattle.mbj_types.specs.Kinds.{all_kinds}
 use Rattle.mbj_ring.specs.declared.ring.TheConstants.{CELLS}
 use Rattle.mbj_manager.specs.Machine.{Machine, lane_of}
-use Rattle.mbj_manager.specs.State.{ManagerState, new_manager, with_open, submitted, given, flushing, room_made}
+use Rattle.mbj_manager.specs.State.{ManagerState, new_manager, with_open, after_submit, after_get_completed, after_flush, after_making_room}
 use Rattle.mbj_trace.specs.Lines.{lines_text}
 use Rattle.mbj_trace.specs.declared.line.TraceLine.{TraceLine}
 use Rattle.mbj_trace.specs.declared.line.TraceLine.TheVariants as line
@@ -43,37 +43,37 @@ after_answer a next = record { manager = a.1; given = count_after a.0 next }
 abbrev pub room_lines : Tracing → List TraceLine
 room_lines t =
     if length t.manager.owed == CELLS
-    then line.Full ∷ line.Flush (number_at (room_made t.manager).0 t.given) ∷ []
+    then line.Full ∷ line.Flush (number_at (after_making_room t.manager).0 t.given) ∷ []
     else []
 
 abbrev pub with_room : Tracing → Tracing
-with_room t = after_answer (room_made t.manager) t.given
+with_room t = after_answer (after_making_room t.manager) t.given
 
 -- the job is written into the next cell and submitted
 abbrev pub submitting : Job → Tracing → Answer
-submitting j t = submitted (with_open t.manager j)
+submitting j t = after_submit (with_open t.manager j)
 
 abbrev pub submit_line : ℕ → Job → Tracing → TraceLine
 submit_line n j t = line.Submit n (number_at (submitting j t).0 t.given)
 
-abbrev pub after_submit : Job → Tracing → Tracing
-after_submit j t = after_answer (submitting j t) t.given
+abbrev pub after_job : Job → Tracing → Tracing
+after_job j t = after_answer (submitting j t) t.given
 
 -- the jobs from number n on
 abbrev pub job_lines : ℕ → List Job → Tracing → List TraceLine
 job_lines n [] t = []
 job_lines n (j ∷ jobs) t =
-    room_lines t ++ submit_line n j (with_room t) ∷ job_lines (n + 1) jobs (after_submit j (with_room t))
+    room_lines t ++ submit_line n j (with_room t) ∷ job_lines (n + 1) jobs (after_job j (with_room t))
 
 abbrev pub after_jobs : List Job → Tracing → Tracing
 after_jobs [] t = t
-after_jobs (j ∷ jobs) t = after_jobs jobs (after_submit j (with_room t))
+after_jobs (j ∷ jobs) t = after_jobs jobs (after_job j (with_room t))
 
 -- ---- taking back
 
 abbrev pub taken_by : Taking → ManagerState → Answer
-taken_by taking.Completed h = given h
-taken_by taking.Flushed h = flushing h
+taken_by taking.Completed h = after_get_completed h
+taken_by taking.Flushed h = after_flush h
 
 abbrev pub taking_line : Taking → Option ℕ → TraceLine
 taking_line taking.Completed n = line.Completed n

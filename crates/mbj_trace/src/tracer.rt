@@ -3,7 +3,7 @@ ghost use Rattle.mbj_types.specs.Kinds.{all_kinds};
 ghost use Rattle.mbj_ring.specs.declared.ring.TheConstants.{CELLS};
 ghost use Rattle.mbj_manager.specs.State.{new_manager};
 ghost use Rattle.mbj_text.specs.declared.limits.TheConstants.{JOB_LIMIT};
-ghost use Rattle.mbj_trace.specs.Trace.{after_all_taken, after_jobs, after_submit, after_take, all_taken, count_after, count_lines, job_lines, jobs_in, number_at, room_lines, submit_line, take_line, taken_by, trace_lines, tracing, with_room};
+ghost use Rattle.mbj_trace.specs.Trace.{after_all_taken, after_job, after_jobs, after_take, all_taken, count_after, count_lines, job_lines, jobs_in, number_at, room_lines, submit_line, take_line, taken_by, trace_lines, tracing, with_room};
 ghost use Rattle.mbj_trace.specs.Inside.State.{MAX_GIVEN, state_of};
 
 use crate::line::TraceLine;
@@ -79,7 +79,7 @@ impl Tracer {
         requires { jobs_in (state_of self.old) < JOB_LIMIT }
         ensures lines { OnOk result (self.new.lines.items ≡ self.old.lines.items
             ++ (room_lines (state_of self.old) ++ submit_line number job (with_room (state_of self.old)) ∷ [])) }
-        ensures state { OnOk result (state_of self.new ≡ after_submit job (with_room (state_of self.old))) }
+        ensures state { OnOk result (state_of self.new ≡ after_job job (with_room (state_of self.old))) }
         ensures count { OnOk result (jobs_in (state_of self.new) ≡ jobs_in (state_of self.old) + 1) }
     {
         self.make_room()?;

@@ -6,7 +6,7 @@ use Rattle.circular_buffer.specs.Buffer.{Buffer, buffer, keep_last}
 use Rattle.mbj_types.specs.declared.done.Done.{Done}
 use Rattle.mbj_front.specs.Seats.{IsFirst}
 use Rattle.mbj_manager.specs.Rounds.{Pending}
-use Rattle.mbj_manager.specs.State.{ManagerState, given, given_at}
+use Rattle.mbj_manager.specs.State.{ManagerState, after_get_completed, given_at}
 use Rattle.mbj_work.specs.Inside.Holding.{cells_in, results_in}
 
 abbrev tail_of : List Done → List Done
@@ -50,5 +50,5 @@ none_at (d ∷ owed) ([] ∷ left) h none = absurd (let e : Some d ≡ None = no
 none_at (d ∷ owed) ((p ∷ ps) ∷ left) h none = refl
 
 -- so that nothing is given back of it then
-pub none_left : (old new : ManagerState) → (given old).0 ≡ None → new ≡ (given old).1 → (given new).0 ≡ None
-none_left old new none is = ap (λ h. (given h).0) (is ∙ none_at old.owed old.machine.left old none) ∙ none
+pub none_left : (old new : ManagerState) → (after_get_completed old).0 ≡ None → new ≡ (after_get_completed old).1 → (after_get_completed new).0 ≡ None
+none_left old new none is = ap (λ h. (after_get_completed h).0) (is ∙ none_at old.owed old.machine.left old none) ∙ none

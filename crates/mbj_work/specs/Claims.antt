@@ -9,7 +9,7 @@ use Rattle.mbj_front.specs.declared.standard.Standard.{Standard}
 use Rattle.mbj_front.specs.Moves.{Move, claiming, finishing, Led}
 use Rattle.mbj_front.specs.Seats.{submitters_of, workers_of}
 use Rattle.mbj_front.specs.Views.{after_claim, after_finish}
-use Rattle.mbj_manager.specs.State.{ManagerState, submitted, with_open, flushing}
+use Rattle.mbj_manager.specs.State.{ManagerState, after_submit, with_open, after_flush}
 use Rattle.mbj_work.specs.declared.claimed.Claimed.{Claimed}
 use Rattle.mbj_work.specs.declared.claimed.Claimed.TheVariants.{Yes, Not}
 
@@ -45,12 +45,12 @@ module _ (front : SharedFront Job Done Standard) where
   pub record ClaimsJob (cell : ℕ) (v : View Done) (manager : ManagerState) (w : View Done) (manager' : ManagerState) : Type 0 where
     pub job : Job
     pub claim : StepLed v (claiming cell job) (after_claim v cell (result_of job))
-    pub manager_is : manager' ≡ (submitted (with_open manager job)).1
-    pub part : FinishesGiven (submitted (with_open manager job)).0 (after_claim v cell (result_of job)) w
+    pub manager_is : manager' ≡ (after_submit (with_open manager job)).1
+    pub part : FinishesGiven (after_submit (with_open manager job)).0 (after_claim v cell (result_of job)) w
 
   -- one result was flushed, and it is the first pair's, which left the hand
   pub record Settles (v : View Done) (manager : ManagerState) (w : View Done) (manager' : ManagerState) : Type 0 where
     pub done : Done
-    pub given : (flushing manager).0 ≡ Some done
-    pub manager_is : manager' ≡ (flushing manager).1
+    pub given : (after_flush manager).0 ≡ Some done
+    pub manager_is : manager' ≡ (after_flush manager).1
     pub part : FinishesFirst done v w

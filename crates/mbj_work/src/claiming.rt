@@ -7,7 +7,7 @@ ghost use Rattle.mbj_core.specs.declared.party.Stage.TheVariants.{Rest};
 ghost use Rattle.mbj_front.specs.declared.words.TheConstants.{READY};
 ghost use Rattle.mbj_front.specs.Seats.{view_of, cells_of, IsFirst, IsOf};
 ghost use Rattle.mbj_front.specs.Views.{after_finish, after_look};
-ghost use Rattle.mbj_manager.specs.State.{given, submitted, with_open};
+ghost use Rattle.mbj_manager.specs.State.{after_get_completed, after_submit, with_open};
 ghost use Rattle.mbj_ring.specs.declared.ring.TheConstants.{CELLS};
 ghost use Rattle.mbj_work.specs.declared.party.TheConstants.{HAND_ROOM};
 ghost use Rattle.mbj_work.specs.Parties.{part_of, manager_of, IsPartyOf, KeepsDue};
@@ -25,8 +25,8 @@ use mbj_types::{Done, Job};
 /// Gives a job to a manager that has a cell for it.
 fn submit(manager: &mut Manager, job: Job) -> Option<Done>
     requires room { length manager.old.owed < CELLS }
-    ensures result { result ≡ (submitted (with_open manager.old job)).0 }
-    ensures state { manager.new ≡ (submitted (with_open manager.old job)).1 }
+    ensures result { result ≡ (after_submit (with_open manager.old job)).0 }
+    ensures state { manager.new ≡ (after_submit (with_open manager.old job)).1 }
     ensures order { option_to_list result ++ manager.new.owed ≡ manager.old.owed ++ result_of job ∷ [] }
 {
     manager.put_next(job);
@@ -140,10 +140,10 @@ impl Party {
         requires { IsPartyOf front.now self.old }
         ensures front { IsPartyOf front.now self.new }
         ensures part { MatchBool result
-            ((done : Done) × ((given (manager_of self.old)).0 ≡ Some done)
+            ((done : Done) × ((after_get_completed (manager_of self.old)).0 ≡ Some done)
             × FinishesFirst front.now done (part_of self.old) (part_of self.new))
-            (((given (manager_of self.old)).0 ≡ None) × (part_of self.new ≡ part_of self.old)) }
-        ensures manager { manager_of self.new ≡ (given (manager_of self.old)).1 }
+            (((after_get_completed (manager_of self.old)).0 ≡ None) × (part_of self.new ≡ part_of self.old)) }
+        ensures manager { manager_of self.new ≡ (after_get_completed (manager_of self.old)).1 }
     {
         let Some(done) = self.manager.get_completed() else {
             return false;
@@ -158,7 +158,7 @@ impl Party {
         requires { IsPartyOf front.now self.old }
         ensures front { IsPartyOf front.now self.new }
         ensures part { part_of self.new ≡ after_finish (part_of self.old) (part_of self.new).hand }
-        ensures none { (given (manager_of self.new)).0 ≡ None }
+        ensures none { (after_get_completed (manager_of self.new)).0 ≡ None }
     {
         while self.give_back(front, gate) {}
     }

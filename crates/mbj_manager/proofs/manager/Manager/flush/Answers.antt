@@ -1,7 +1,7 @@
 -- Where there is a job the earliest is finished then, after two runs at most for each job.
 use Rattle.std.proofs.Common.{◌≡◌, ◌≢◌, ◌*◌, ◌∙◌, List, [], ◌∷◌, length, Option, None, Some, IsSome, slice_get, refl, ap, sym, subst}
 use Rattle.mbj_types.specs.declared.done.Done.{Done}
-use Rattle.mbj_manager.specs.State.{ManagerState, given, given_at}
+use Rattle.mbj_manager.specs.State.{ManagerState, after_get_completed, given_at}
 use Rattle.mbj_manager.specs.Counts.{RisesUpTo}
 use Rattle.mbj_manager.specs.Inside.Settled.{IsSettled}
 use Rattle.mbj_manager.proofs.CallsKeep.{earliest-given, few-runs, flush-settled, given-settled}
@@ -11,7 +11,7 @@ not-some : (o : Option Done) → o ≡ None → IsSome o → ⊥
 not-some None none some = cc
 not-some (Some d) none some = cc
 
-none-owed : (ds : List Done) (h : ManagerState) → h.owed ≡ ds → (ds ≢ [] → slice_get h.machine.left 0 ≡ Some []) → (given h).0 ≡ None → ds ≡ []
+none-owed : (ds : List Done) (h : ManagerState) → h.owed ≡ ds → (ds ≢ [] → slice_get h.machine.left 0 ≡ Some []) → (after_get_completed h).0 ≡ None → ds ≡ []
 none-owed [] h is done none = refl
 none-owed (d ∷ ds) h is done none =
     let given-one : IsSome (given_at (d ∷ ds) h.machine.left h).0 = earliest-given (d ∷ ds) h.machine.left h (λ e. cc) (done (λ e. cc)) in
@@ -35,6 +35,6 @@ invariant_of-self c =
 pub returns-clause-runs : goal.returns-clause-runs
 returns-clause-runs c =
     let w = c.self.inside.works in
-    let is = c.give.ensures.state ∙ ap (λ (h : ManagerState). (given h).1) c.flush_first.ensures.flushed in
+    let is = c.give.ensures.state ∙ ap (λ (h : ManagerState). (after_get_completed h).1) c.flush_first.ensures.flushed in
     subst (λ (h : ManagerState). RisesUpTo (2 * length h.owed) h.machine.flush_runs c.give.new.self.machine.flush_runs) c.self.view_is
     (subst (λ (h : ManagerState). RisesUpTo (2 * length w.owed) w.machine.flush_runs h.machine.flush_runs) (sym is) (few-runs w c.self.invariant))

@@ -3,7 +3,7 @@ use Rattle.std.proofs.Common.{◌≡◌, ◌∙◌, ◌*◌, ap, sym, refl, ℕ,
 use Rattle.std.proofs.lemmas.Option.{none-some, same_Some}
 use Rattle.mbj_core.specs.CoreStates.{CoreState}
 use Rattle.mbj_core.specs.declared.cells.TheConstants.{CELLS}
-use Rattle.mbj_manager.specs.State.{submitted, with_open}
+use Rattle.mbj_manager.specs.State.{after_submit, with_open}
 use Rattle.mbj_types.specs.Result.{result_of}
 use Rattle.mbj_types.specs.declared.job.Job.{Job}
 use Rattle.mbj_replay.specs.Replay.{first_with}
@@ -98,10 +98,10 @@ returns-clause-told g c =
     (manager-is r.workers.items c.args.w x at)
     (claim-hand g.jobs r c.args.w p c.submit-given.result x y c.requires.0 c.party_of-party.ensures at
     mid c.in-Some.cell claims c.submit-given.ensures.hand owed c.stands_for_lawful_states.ensures c.requires.1.0)
-    (c.submit-given.ensures.finished ∙ ap (λ (j : Job). first_with (x.hand.items ++ c.in-Some.cell ∷ []) (submitted (with_open x.manager j)).0) copy)
+    (c.submit-given.ensures.finished ∙ ap (λ (j : Job). first_with (x.hand.items ++ c.in-Some.cell ∷ []) (after_submit (with_open x.manager j)).0) copy)
     (claim-state r mid c.finish_given-finished.new.core c.args.w p c.in-Some.cell claims.job c.submit-given.result y z taken _
     c.party_of-party.ensures claims.state c.finish_given-finished.ensures.core
-    (c.submit-given.ensures.manager ∙ ap (λ (j : Job). (submitted (with_open x.manager j)).1) copy) there refl)
+    (c.submit-given.ensures.manager ∙ ap (λ (j : Job). (after_submit (with_open x.manager j)).1) copy) there refl)
     c.number_at-job.ensures
     (c.finish_line-finish.ensures ∙ ap (λ o. map (λ n. line.Finish c.args.w (Some n)) (option_to_list o))
     (c.number_at.ensures ∙ ap (λ (ns : List ℕ). option_map (λ i. slice_index ns i) c.finish_given-finished.result) numbers
