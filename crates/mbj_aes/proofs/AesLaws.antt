@@ -1,6 +1,6 @@
 -- The laws of encryption and decryption under each key.
 use Rattle.std.proofs.Common.{◌+◌, ◌*◌, length, arith}
-use Rattle.mbj_types.specs.Aes.{key_schedule, rounds_of, aes, aes_inverse}
+use Rattle.mbj_types.specs.Aes.{key_schedule, round_count, aes, aes_inverse}
 use Rattle.mbj_aes.specs.Laws.{Undoes, KeepsBlocks}
 use Rattle.mbj_aes.proofs.KeySizes.{key_sizes}
 use Rattle.mbj_aes.proofs.KeyLists.{IsSchedule, IsSchedule-key_schedule}
@@ -10,7 +10,7 @@ use Rattle.mbj_aes.proofs.Rounds.{IsBlock-encipher, IsBlock-decipher, decipher-e
 pub decryption_undoes : Undoes aes_inverse aes
 unfolding aes aes_inverse
 decryption_undoes key b k h =
-    let w : IsSchedule (4 * (rounds_of key + 1)) (key_schedule key) = IsSchedule-key_schedule key k in
+    let w : IsSchedule (4 * (round_count key + 1)) (key_schedule key) = IsSchedule-key_schedule key k in
     let sizes = key_sizes (length key) k.size in
     decipher-encipher (key_schedule key) b w.bytes h (omega arith)
 
@@ -18,7 +18,7 @@ decryption_undoes key b k h =
 pub encryption_undoes : Undoes aes aes_inverse
 unfolding aes aes_inverse
 encryption_undoes key b k h =
-    let w : IsSchedule (4 * (rounds_of key + 1)) (key_schedule key) = IsSchedule-key_schedule key k in
+    let w : IsSchedule (4 * (round_count key + 1)) (key_schedule key) = IsSchedule-key_schedule key k in
     let sizes = key_sizes (length key) k.size in
     encipher-decipher (key_schedule key) b w.bytes h (omega arith)
 
@@ -26,7 +26,7 @@ encryption_undoes key b k h =
 pub encryption_keeps : KeepsBlocks aes
 unfolding aes
 encryption_keeps key b k h =
-    let w : IsSchedule (4 * (rounds_of key + 1)) (key_schedule key) = IsSchedule-key_schedule key k in
+    let w : IsSchedule (4 * (round_count key + 1)) (key_schedule key) = IsSchedule-key_schedule key k in
     let sizes = key_sizes (length key) k.size in
     IsBlock-encipher (key_schedule key) b w.bytes h (omega arith)
 
@@ -34,6 +34,6 @@ encryption_keeps key b k h =
 pub decryption_keeps : KeepsBlocks aes_inverse
 unfolding aes_inverse
 decryption_keeps key b k h =
-    let w : IsSchedule (4 * (rounds_of key + 1)) (key_schedule key) = IsSchedule-key_schedule key k in
+    let w : IsSchedule (4 * (round_count key + 1)) (key_schedule key) = IsSchedule-key_schedule key k in
     let sizes = key_sizes (length key) k.size in
     IsBlock-decipher (key_schedule key) b w.bytes h (omega arith)

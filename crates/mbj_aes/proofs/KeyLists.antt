@@ -3,7 +3,7 @@ use Rattle.std.proofs.Common.{◌≡◌, ℕ, zero, suc, ◌+◌, ◌-◌, ◌*�
 use Rattle.std.proofs.lemmas.List.{length-map, length-take-le}
 use Rattle.std.proofs.lemmas.List.Elements.{All-cons, All-replicate, All-take, All-drop, All-append}
 use Rattle.mbj_types.specs.Blocks.{xor_lists}
-use Rattle.mbj_types.specs.Aes.{power, sub_byte, sub_bytes, word, rcon, rot_word, schedule_term, schedule, round_key, rounds_of, key_schedule}
+use Rattle.mbj_types.specs.Aes.{power, sub_byte, sub_bytes, word, rcon, rot_word, schedule_term, schedule, round_key, round_count, key_schedule}
 use Rattle.mbj_aes.specs.Bytes.{IsBytes, IsBlock, IsKey}
 use Rattle.mbj_types.proofs.XorLists.{length-xor_lists}
 use Rattle.mbj_aes.proofs.XorLists.{IsBytes-xor_lists}
@@ -91,10 +91,10 @@ IsSchedule-schedule nk key (suc n) h size bytes =
 
 -- the whole schedule of a key
 pub IsSchedule-key_schedule : (key : List ℕ) → IsKey key
-    → IsSchedule (4 * (rounds_of key + 1)) (key_schedule key)
+    → IsSchedule (4 * (round_count key + 1)) (key_schedule key)
 IsSchedule-key_schedule key h =
     let sizes = key_sizes (length key) h.size in
-    let n : ℕ = 4 * (rounds_of key + 1) - length key / 4 in
+    let n : ℕ = 4 * (round_count key + 1) - length key / 4 in
     let whole = IsSchedule-schedule (length key / 4) key n (omega arith) (omega arith) h.bytes in
     record { size = whole.size ∙ omega arith; bytes = whole.bytes }
 

@@ -1,6 +1,6 @@
 ghost use Rattle.std.specs.Prelude.{◌≡◌, ◌+◌, ◌*◌, ◌-◌, ◌<◌, ◌≤◌, ◌++◌, length, take, drop, replicate, ◌/◌};
 ghost use Rattle.mbj_types.specs.Blocks.{xor_lists};
-ghost use Rattle.mbj_types.specs.Aes.{word, sub_bytes, rot_word, rcon, schedule_term, rounds_of, key_schedule};
+ghost use Rattle.mbj_types.specs.Aes.{word, sub_bytes, rot_word, rcon, schedule_term, round_count, key_schedule};
 ghost use Rattle.mbj_aes.specs.Bytes.{IsKeySize, IsKeyWords};
 ghost use Rattle.mbj_aes.specs.declared.expansion.TheConstants.{MAX_SCHEDULE_BYTES};
 
@@ -110,7 +110,7 @@ fn key_and_zeros(key: &[u8]) -> [u8; MAX_SCHEDULE_BYTES]
 /// KEYEXPANSION (FIPS 197, 5.2): the schedule of the key, and zeros.
 pub fn expanded_key(key: &[u8]) -> [u8; MAX_SCHEDULE_BYTES]
     requires { IsKeySize (length key.now) }
-    ensures { let zeros = MAX_SCHEDULE_BYTES - 16 * (rounds_of key.now + 1) in
+    ensures { let zeros = MAX_SCHEDULE_BYTES - 16 * (round_count key.now + 1) in
         result ≡ key_schedule key.now ++ replicate zeros 0 }
 {
     let key_words = key.len() / WORD_BYTES;

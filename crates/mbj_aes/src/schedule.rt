@@ -1,5 +1,5 @@
 ghost use Rattle.std.specs.Prelude.{◌≡◌, ℕ, ◌+◌, ◌-◌, ◌*◌, ◌/◌, ◌≤◌, List, length};
-ghost use Rattle.mbj_types.specs.Aes.{key_schedule, rounds_of, round_key, encipher, decipher, aes, aes_inverse};
+ghost use Rattle.mbj_types.specs.Aes.{key_schedule, round_count, round_key, encipher, decipher, aes, aes_inverse};
 ghost use Rattle.mbj_aes.specs.Bytes.{IsBytes, IsKeySize, IsRoundCount};
 
 use crate::expansion::{MAX_SCHEDULE_BYTES, expanded_key, round_count};
@@ -41,7 +41,7 @@ impl Schedule {
     pub fn expand(key: &[u8]) -> Schedule
         requires { IsKeySize (length key.now) }
         ensures schedule { result ≡ key_schedule key.now }
-        ensures length { length result ≡ 16 * (rounds_of key.now + 1) }
+        ensures length { length result ≡ 16 * (round_count key.now + 1) }
         ensures encipher { (b : List ℕ) → encipher result b ≡ aes key.now b }
         ensures decipher { (b : List ℕ) → decipher result b ≡ aes_inverse key.now b }
     {

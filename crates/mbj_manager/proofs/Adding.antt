@@ -16,7 +16,7 @@ use Rattle.mbj_stage.specs.Going.{Going, begun, owed}
 use Rattle.mbj_stage.specs.Handing.{End}
 use Rattle.mbj_stage.proofs.Owing.{owed-begun}
 use Rattle.mbj_manager.specs.Rounds.{Pending, pending}
-use Rattle.mbj_manager.specs.Machine.{Lane, Machine, lane_of}
+use Rattle.mbj_manager.specs.Machine.{Lane, Machine, lane_for}
 use Rattle.mbj_manager.specs.Between.{with_stages}
 use Rattle.mbj_manager.specs.declared.cell.Cell.{Cell}
 use Rattle.mbj_manager.specs.declared.cell.Cell.TheVariants as cell
@@ -70,7 +70,7 @@ owed-end n find (x ∷ cs) c here = ap (λ (ds : List Done). owed_of n find x �
 
 few-in : (k : Kind) (r : RingState Cell) (ag : List ℕ) (ls : Lines) (capacity : ℕ) → IsHeld r ag ls capacity → length (line_in k ls).waiters < lanes_of k
 few-in k r ag ls capacity y =
-    let own : lane_of k (machine_in r ag ls) ≡ lane_seen (lines_in r ls k) = lane-by (λ j. lane_seen (lines_in r ls j)) k in
+    let own : lane_for k (machine_in r ag ls) ≡ lane_seen (lines_in r ls k) = lane-by (λ j. lane_seen (lines_in r ls j)) k in
     let few : length (map waiting (lines_in r ls k).waiters) < lanes_of k
     = subst (λ (l : Lane). length l.waiting < lanes_of k) own (y.within.lanes k).few in
     let g : Waiter → Waiter = λ x. (number_in r x.0, x.1) in

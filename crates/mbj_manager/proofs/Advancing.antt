@@ -12,7 +12,7 @@ use Rattle.mbj_stage.specs.Going.{Going, stage_of}
 use Rattle.mbj_stage.specs.declared.stage.Stage.{Stage}
 use Rattle.mbj_stage.specs.declared.stage.Stage.TheVariants as stage
 use Rattle.mbj_manager.specs.Rounds.{Pending, pending}
-use Rattle.mbj_manager.specs.Machine.{Lane, Waiting, Within, submit, flush, changed, lane_of, lanes_by}
+use Rattle.mbj_manager.specs.Machine.{Lane, Waiting, Within, submit, flush, changed, lane_for, lanes_by}
 use Rattle.mbj_manager.specs.Course.{goes_on, in_lanes_next, joined, stages_left, stepped, stepped_at, steps_ahead}
 use Rattle.mbj_manager.specs.Between.{times_in}
 use Rattle.mbj_manager.specs.declared.cell.Cell.{Cell}
@@ -233,7 +233,7 @@ module _ (r r1 : RingState Cell) (p : ℕ) (ag ag1 : List ℕ) (ls : Lines) (cap
       → MayEnter (lanes_of k) k (number_in r1 p) (desk_of k (number_in r1) (courses r1) ag1 ls) capacity
   may-enter k st =
       let lane = y.within.lanes k in
-      let own : lane_of k (machine_in r ag ls) ≡ lane_seen (lines_in r ls k) = lane-by (λ j. lane_seen (lines_in r ls j)) k in
+      let own : lane_for k (machine_in r ag ls) ≡ lane_seen (lines_in r ls k) = lane-by (λ j. lane_seen (lines_in r ls j)) k in
       let few : length (map waiting (lines_in r ls k).waiters) < lanes_of k = subst (λ (l : Lane). length l.waiting < lanes_of k) own lane.few in
       let rests = have-rests (lines_in r ls k).waiters (subst (λ (l : Lane). All (λ w. 1 ≤ w.rest) l.waiting) own lane.rests) in
       let fits = y.fits in

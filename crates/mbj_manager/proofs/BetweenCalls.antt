@@ -7,7 +7,7 @@ use Rattle.std.proofs.lemmas.List.Elements.{All-push}
 use Rattle.std.proofs.lemmas.List.Sums.{count_by-le-length}
 use Rattle.mbj_types.specs.declared.kind.Kind.{Kind}
 use Rattle.mbj_manager.specs.Rounds.{Pending, at_once, in_lanes}
-use Rattle.mbj_manager.specs.Machine.{Machine, Within, submit, flush, lane_of, run_idle, run_within}
+use Rattle.mbj_manager.specs.Machine.{Machine, Within, submit, flush, lane_for, run_idle, run_within}
 use Rattle.mbj_manager.specs.Course.{after_flush_steps, course, flush_step_at, flushed, in_lanes_next, stages_left}
 use Rattle.mbj_manager.specs.Between.{HasRounds, IsBetweenCalls, IsPlaced, KeepsMachines, times_in, with_stages}
 use Rattle.mbj_manager.specs.Inside.Standing.{IsWithin, Stands, left_at, times}
@@ -51,9 +51,9 @@ pub earliest-ready : (k : Kind) (rest : ℕ) (left : List Pending) (m : Machine)
     → IsBetweenCalls m → IsReady k m
 earliest-ready k rest left m earliest between =
     let placed = subst (IsPlaced m 0) earliest (between.placed 0) in
-    let there : times_in 0 (lane_of k m).waiting ≡ 1 = placed.0 in
+    let there : times_in 0 (lane_for k m).waiting ≡ 1 = placed.0 in
     let few = between.few k in
-    let some : 0 < length (lane_of k m).waiting = omega (arith, count_by-le-length (λ w. w.number == 0) (lane_of k m).waiting) in
+    let some : 0 < length (lane_for k m).waiting = omega (arith, count_by-le-length (λ w. w.number == 0) (lane_for k m).waiting) in
     record {
       others = λ j ne. lanes-between m between j;
       lane = record { some = some; room = omega arith; rests = between.rests k; blocks = between.blocks k };

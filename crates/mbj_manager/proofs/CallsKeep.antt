@@ -12,7 +12,7 @@ use Rattle.mbj_types.specs.Kinds.{lanes_of}
 use Rattle.mbj_ring.specs.declared.ring.TheConstants.{CELLS}
 use Rattle.mbj_stage.specs.Going.{begun}
 use Rattle.mbj_manager.specs.Rounds.{Pending, pending}
-use Rattle.mbj_manager.specs.Machine.{Machine, submit, lane_of, idle_lane, count_end}
+use Rattle.mbj_manager.specs.Machine.{Machine, submit, lane_for, idle_lane, count_end}
 use Rattle.mbj_manager.specs.Course.{course, flushed}
 use Rattle.mbj_manager.specs.State.{ManagerState, entered, entered_at, after_flush, after_get_completed, given_at, lent, new_manager, with_job, with_open}
 use Rattle.mbj_manager.specs.Calls as calls
@@ -175,8 +175,8 @@ two-none (suc n) = omega arith
 -- a new manager has it
 pub new-settled : IsSettled new_manager
 new-settled =
-    let idle : (k : Kind) → lane_of k new_manager.machine ≡ idle_lane = lane-by (λ k. idle_lane) in
-    let lanes : (k : Kind) → IsLane k (lane_of k new_manager.machine) = λ k. subst (IsLane k) (sym (idle k)) (idle-kept k) in
+    let idle : (k : Kind) → lane_for k new_manager.machine ≡ idle_lane = lane-by (λ k. idle_lane) in
+    let lanes : (k : Kind) → IsLane k (lane_for k new_manager.machine) = λ k. subst (IsLane k) (sym (idle k)) (idle-kept k) in
     record {
       machine = record {
         agenda = refl;

@@ -2,7 +2,7 @@
 use Rattle.std.proofs.Common.{◌≡◌, List, refl}
 use Rattle.mbj_types.specs.declared.kind.Kind.{Kind}
 use Rattle.mbj_types.specs.declared.kind.Kind.TheVariants as kind
-use Rattle.mbj_manager.specs.Machine.{Machine, Waiting, submit, flush, lane_of, with_lane, with_waiting}
+use Rattle.mbj_manager.specs.Machine.{Machine, Waiting, submit, flush, lane_for, with_lane, with_waiting}
 use Rattle.mbj_manager.specs.Counts.{CountsApart, full_runs}
 use Rattle.mbj_manager.proofs.Unchanged.{IsUnchanged, unchanged-course, unchanged-flush}
 
@@ -19,7 +19,7 @@ flush-runs-left = record {
 
 -- a list that changes keeps its kind's counts, and those of the other kinds
 same-counts : (k j : Kind) (ws : List Waiting) (m : Machine)
-    → full_runs k (record m { lanes = with_lane j (with_waiting (lane_of j m) ws) m.lanes }) ≡ full_runs k m
+    → full_runs k (record m { lanes = with_lane j (with_waiting (lane_for j m) ws) m.lanes }) ≡ full_runs k m
 same-counts kind.Cbc128 kind.Cbc128 ws m = refl
 same-counts kind.Cbc192 kind.Cbc192 ws m = refl
 same-counts kind.Cbc256 kind.Cbc256 ws m = refl

@@ -6,7 +6,7 @@ use Rattle.std.proofs.lemmas.List.{get_or_past}
 use Rattle.std.proofs.lemmas.List.Elements.{All-from_get_or, All-get_or, All-nil}
 use Rattle.mbj_types.specs.declared.kind.Kind.{Kind}
 use Rattle.mbj_manager.specs.Rounds.{Pending}
-use Rattle.mbj_manager.specs.Machine.{Machine, Within, lane_of}
+use Rattle.mbj_manager.specs.Machine.{Machine, Within, lane_for}
 use Rattle.mbj_manager.specs.Course.{after_steps, course, stages_left, stepped, stepped_at, steps_ahead}
 use Rattle.mbj_manager.specs.Between.{HasRounds, IsBetweenCalls}
 use Rattle.mbj_manager.specs.Inside.Standing.{IsLane, IsWithin, left_at, times}
@@ -35,7 +35,7 @@ between-calls m within none = record {
 }
 
 -- the lanes between two calls are as they are after each step
-pub lanes-between : (m : Machine) → IsBetweenCalls m → (k : Kind) → IsLane k (lane_of k m)
+pub lanes-between : (m : Machine) → IsBetweenCalls m → (k : Kind) → IsLane k (lane_for k m)
 lanes-between m between k = record { few = between.few k; rests = between.rests k; blocks = between.blocks k }
 
 -- after is the machine m after a whole course

@@ -5,7 +5,7 @@ use Rattle.std.proofs.lemmas.Bool.{cond_both}
 use Rattle.mbj_types.specs.declared.kind.Kind.{Kind}
 use Rattle.mbj_types.specs.Kinds.{lanes_of}
 use Rattle.mbj_manager.specs.Rounds.{Pending, at_once, in_lanes}
-use Rattle.mbj_manager.specs.Machine.{Machine, count_end, flush, lane_of, run_idle}
+use Rattle.mbj_manager.specs.Machine.{Machine, count_end, flush, lane_for, run_idle}
 use Rattle.mbj_manager.specs.Course.{after_flush_steps, after_steps, course, flushed, goes_on, in_lanes_next, joined, stages_left, stepped, stepped_at, steps_ahead}
 use Rattle.mbj_manager.specs.Between.{IsBetweenCalls, IsPlaced}
 use Rattle.mbj_manager.specs.Counts.{RunsFew}
@@ -51,7 +51,7 @@ join-runs : (k : Kind) (n rest : ℕ) (left : List Pending) (m : Machine) → Is
 join-runs k n rest left m taken next =
     let g = grown k n rest m in
     let grew : RunsFew g m = record { count = 0; few = omega arith; is = no-more m.flush_runs } in
-    cond_both (length (lane_of k g).waiting == lanes_of k) (run_idle k g) g (λ after. RunsFew after m)
+    cond_both (length (lane_for k g).waiting == lanes_of k) (run_idle k g) g (λ after. RunsFew after m)
     (λ full. and-then m g (run_idle k g) grew (one-run k g (grown-ready k n rest left m taken next)))
     (λ room. grew)
 

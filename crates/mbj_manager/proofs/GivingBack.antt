@@ -7,7 +7,7 @@ use Rattle.std.proofs.lemmas.List.Elements.{All-map, All-tail}
 use Rattle.std.proofs.lemmas.List.Sums.{sum_by-cons}
 use Rattle.mbj_types.specs.declared.kind.Kind.{Kind}
 use Rattle.mbj_manager.specs.Rounds.{Pending}
-use Rattle.mbj_manager.specs.Machine.{Waiting, Lane, Machine, lane_of}
+use Rattle.mbj_manager.specs.Machine.{Waiting, Lane, Machine, lane_for}
 use Rattle.mbj_manager.specs.State.{earlier, renumbered, without_earliest}
 use Rattle.mbj_manager.specs.Between.{HasRounds, IsBetweenCalls, IsPlaced, times_in}
 use Rattle.mbj_manager.specs.Inside.Standing.{IsLane, left_at}
@@ -42,16 +42,16 @@ pub back-between : (left : List (List Pending)) (m : Machine) → m.left ≡ [] 
     → IsBetweenCalls (without_earliest left m)
 back-between left m is between =
     let after = without_earliest left m in
-    let lane : (k : Kind) → lane_of k after ≡ renumbered (lane_of k m) = lane-by (λ k. renumbered (lane_of k m)) in
-    let lanes : (k : Kind) → IsLane k (lane_of k after)
-    = λ k. subst (IsLane k) (sym (lane k)) (lane-back k (lane_of k m) (lanes-between m between k)) in
+    let lane : (k : Kind) → lane_for k after ≡ renumbered (lane_for k m) = lane-by (λ k. renumbered (lane_for k m)) in
+    let lanes : (k : Kind) → IsLane k (lane_for k after)
+    = λ k. subst (IsLane k) (sym (lane k)) (lane-back k (lane_for k m) (lanes-between m between k)) in
     let finished : IsPlaced m 0 [] = subst (λ left. IsPlaced m 0 (left_at 0 left)) is (between.placed 0) in
     record {
       agenda = between.agenda;
       few = λ k. (lanes k).few;
       rests = λ k. (lanes k).rests;
       placed = λ n. same-placed m after (suc n) n
-          (λ k. ap (λ l. times_in n l.waiting) (lane k) ∙ times-earlier n (lane_of k m).waiting (finished k)) (left_at n left)
+          (λ k. ap (λ l. times_in n l.waiting) (lane k) ∙ times-earlier n (lane_for k m).waiting (finished k)) (left_at n left)
           (subst (λ left. IsPlaced m (suc n) (left_at (suc n) left)) is (between.placed (suc n)));
       stages = All-tail (All HasRounds) [] left (subst (All (All HasRounds)) is between.stages);
       blocks = λ k. (lanes k).blocks;

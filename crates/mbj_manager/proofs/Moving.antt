@@ -9,7 +9,7 @@ use Rattle.mbj_types.specs.declared.kind.Kind.TheVariants as kind
 use Rattle.mbj_ring.specs.Ring.{RingState}
 use Rattle.mbj_stage.specs.Going.{Going}
 use Rattle.mbj_manager.specs.Rounds.{Pending, at_once, in_lanes, pending}
-use Rattle.mbj_manager.specs.Machine.{Lane, Machine, Within, submit, flush, lane_of, lanes_by, run_idle}
+use Rattle.mbj_manager.specs.Machine.{Lane, Machine, Within, submit, flush, lane_for, lanes_by, run_idle}
 use Rattle.mbj_manager.specs.State.{ManagerState}
 use Rattle.mbj_manager.specs.declared.cell.Cell.{Cell}
 use Rattle.mbj_manager.specs.Inside.Added.{first_lane}
@@ -137,7 +137,7 @@ pub first-ready : (k : Kind) (cs : List Going) (agenda : List ℕ) (lines : Kind
     → IsReady k (desk cs agenda (lines k).waiters (lines k).rounds (lines k).blocks runs) room
 first-ready k cs agenda lines runs room idle first within tied fits =
     let m = machine_by cs agenda lines runs in
-    let own : lane_of k m ≡ lane_seen (lines k) = lane-by (λ j. lane_seen (lines j)) k in
+    let own : lane_for k m ≡ lane_seen (lines k) = lane-by (λ j. lane_seen (lines j)) k in
     let ready = first-machine k m idle first within in
     let some : 0 < length (map waiting (lines k).waiters) = subst (λ (l : Lane). 0 < length l.waiting) own ready.lane.some in
     record {

@@ -12,7 +12,7 @@ use Rattle.mbj_stage.specs.Handing.{End}
 use Rattle.mbj_stage.specs.declared.stage.Stage.{Stage}
 use Rattle.mbj_stage.specs.declared.stage.Stage.TheVariants as stage
 use Rattle.mbj_manager.specs.Rounds.{Pending, pending}
-use Rattle.mbj_manager.specs.Machine.{Lane, Machine, Waiting, lane_of, lanes_by}
+use Rattle.mbj_manager.specs.Machine.{Lane, Machine, Waiting, lane_for, lanes_by}
 use Rattle.mbj_manager.specs.Between.{IsBetweenCalls}
 use Rattle.mbj_manager.specs.State.{ManagerState, earlier, after_get_completed, given_at, renumbered, without_earliest}
 use Rattle.mbj_manager.specs.declared.cell.Cell.{Cell}
@@ -158,7 +158,7 @@ module _ (v : Cell) (vs : List Cell) (o : Option Cell) (first : ℕ) (ls : Lines
   lines-low k =
       ap (λ (ws : List Waiter). line ws (line_in k ls).rounds (line_in k ls).blocks) (numbered-low first (line_in k ls).waiters y.ring.first (are-later k))
 
-  lane-low : (k : Kind) → lane_seen (lines_in r' ls k) ≡ renumbered (lane_of k (machine_in r [] ls))
+  lane-low : (k : Kind) → lane_seen (lines_in r' ls k) ≡ renumbered (lane_for k (machine_in r [] ls))
   lane-low k =
       ap lane_seen (lines-low k)
       ∙ ap (λ (ws : List Waiting). record { waiting = ws; rounds = (line_in k ls).rounds; blocks = (line_in k ls).blocks }) (waiting-low (lines k).waiters)

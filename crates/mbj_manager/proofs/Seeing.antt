@@ -8,7 +8,7 @@ use Rattle.mbj_types.specs.declared.kind.Kind.TheVariants as kind
 use Rattle.mbj_stage.specs.Going.{Going}
 use Rattle.mbj_stage.specs.Handing.{handed_out, taken_back}
 use Rattle.mbj_manager.specs.Rounds.{Pending, pending}
-use Rattle.mbj_manager.specs.Machine.{Lane, Lanes, Machine, Waiting, Within, submit, flush, changed, count_end, lane_in, lane_of, lanes_by, least, least_from, leavers, lowered, ran, run_within, shortened, stage_done, stayers, with_lane, with_run, with_waiting, without_first}
+use Rattle.mbj_manager.specs.Machine.{Lane, Lanes, Machine, Waiting, Within, submit, flush, changed, count_end, lane_in, lane_for, lanes_by, least, least_from, leavers, lowered, ran, run_within, shortened, stage_done, stayers, with_lane, with_run, with_waiting, without_first}
 use Rattle.mbj_manager.specs.Course.{joined, run_if_full, waits}
 use Rattle.mbj_manager.specs.Inside.Pairs.{pair_rest}
 use Rattle.mbj_manager.specs.Inside.Leaving.{finishers, numbers, others, returned}
@@ -108,7 +108,7 @@ lane_at d = lane_seen (line d.waiters d.rounds d.blocks)
 abbrev pub machine_at : Kind → Lanes → Desk → Machine
 machine_at k lanes d = record { left = map pending d.courses; lanes = with_lane k (lane_at d) lanes; agenda = d.agenda; flush_runs = d.flush_runs }
 
-own-lane : (k : Kind) (lanes : Lanes) (d : Desk) → lane_of k (machine_at k lanes d) ≡ lane_at d
+own-lane : (k : Kind) (lanes : Lanes) (d : Desk) → lane_for k (machine_at k lanes d) ≡ lane_at d
 own-lane k lanes d = given-lane k (lane_at d) lanes
 
 abbrev machine : List (List Pending) → Lanes → List ℕ → ℕ → Machine
@@ -124,43 +124,43 @@ ran-seen-by : (k : Kind) (lanes : Lanes) (d e : Desk) (after : List Waiting → 
     → lane_at e ≡ after (map waiting (others rounds_in (led_all d.waiters))) → e.flush_runs ≡ m.flush_runs
     → machine_at k lanes e ≡ ran k after m
 ran-seen-by k lanes d e after m left agenda lanes-are cs ag lane runs =
-    let ws : (lane_of k m).waiting ≡ map waiting d.waiters = ap (λ (x : Lanes). (lane_in k x).waiting) lanes-are ∙ ap (λ (l : Lane). l.waiting) (given-lane k (lane_at d) lanes) in
-    let gone : leavers (shortened (lane_of k m).waiting) ≡ numbers (finishers rounds_in (led_all d.waiters)) = ap (λ x. leavers (shortened x)) ws ∙ gone-seen d.waiters in
-    let stay : stayers (shortened (lane_of k m).waiting) ≡ map waiting (others rounds_in (led_all d.waiters)) = ap (λ x. stayers (shortened x)) ws ∙ stay-seen d.waiters in
-    let l : map pending e.courses ≡ stage_done (leavers (shortened (lane_of k m).waiting)) m.left
+    let ws : (lane_for k m).waiting ≡ map waiting d.waiters = ap (λ (x : Lanes). (lane_in k x).waiting) lanes-are ∙ ap (λ (l : Lane). l.waiting) (given-lane k (lane_at d) lanes) in
+    let gone : leavers (shortened (lane_for k m).waiting) ≡ numbers (finishers rounds_in (led_all d.waiters)) = ap (λ x. leavers (shortened x)) ws ∙ gone-seen d.waiters in
+    let stay : stayers (shortened (lane_for k m).waiting) ≡ map waiting (others rounds_in (led_all d.waiters)) = ap (λ x. stayers (shortened x)) ws ∙ stay-seen d.waiters in
+    let l : map pending e.courses ≡ stage_done (leavers (shortened (lane_for k m).waiting)) m.left
     = ap (map pending) cs ∙ returned-seen d.courses (finishers rounds_in (led_all d.waiters)) ∙ ap₂ (λ x y. stage_done x y) (sym gone) (sym left) in
-    let n : with_lane k (lane_at e) lanes ≡ with_lane k (after (stayers (shortened (lane_of k m).waiting))) m.lanes
-    = ap (λ x. with_lane k x lanes) (lane ∙ ap after (sym stay)) ∙ sym (again k (after (stayers (shortened (lane_of k m).waiting))) (lane_at d) lanes)
-    ∙ ap (with_lane k (after (stayers (shortened (lane_of k m).waiting)))) (sym lanes-are) in
-    let a : e.agenda ≡ m.agenda ++ leavers (shortened (lane_of k m).waiting) = ag ∙ ap₂ (λ x y. x ++ y) (sym agenda) (sym gone) in
+    let n : with_lane k (lane_at e) lanes ≡ with_lane k (after (stayers (shortened (lane_for k m).waiting))) m.lanes
+    = ap (λ x. with_lane k x lanes) (lane ∙ ap after (sym stay)) ∙ sym (again k (after (stayers (shortened (lane_for k m).waiting))) (lane_at d) lanes)
+    ∙ ap (with_lane k (after (stayers (shortened (lane_for k m).waiting)))) (sym lanes-are) in
+    let a : e.agenda ≡ m.agenda ++ leavers (shortened (lane_for k m).waiting) = ag ∙ ap₂ (λ x y. x ++ y) (sym agenda) (sym gone) in
     same-machine _ _ _ _ _ _ e.flush_runs l n a ∙ ap (λ r. record (ran k after m) { flush_runs = r }) runs
 
 pub run-seen : (at : Within) (k : Kind) (lanes : Lanes) (d : Desk) → machine_at k lanes (ran_at at d) ≡ run_within at k (machine_at k lanes d)
 run-seen submit k lanes d =
     let m = machine_at k lanes d in
     let own = own-lane k lanes d in
-    let lane : lane_at (ran_at submit d) ≡ with_run (lane_of k m) (map waiting (others rounds_in (led_all d.waiters)))
+    let lane : lane_at (ran_at submit d) ≡ with_run (lane_for k m) (map waiting (others rounds_in (led_all d.waiters)))
     = rw own (let a = least-seen d.waiters in let b = length-map d.waiters waiting in rw (a, b) refl) in
-    ran-seen-by k lanes d (ran_at submit d) (with_run (lane_of k m)) m refl refl refl refl refl lane refl
+    ran-seen-by k lanes d (ran_at submit d) (with_run (lane_for k m)) m refl refl refl refl refl lane refl
 run-seen flush k lanes d =
     let m = machine_at k lanes d in
     let own = own-lane k lanes d in
     let counted : Machine = record m { flush_runs = (m.flush_runs + 1) % count_end } in
-    ran-seen-by k lanes d (ran_at flush d) (with_waiting (lane_of k m)) counted refl refl refl refl refl (rw own refl) refl
+    ran-seen-by k lanes d (ran_at flush d) (with_waiting (lane_for k m)) counted refl refl refl refl refl (rw own refl) refl
 
 -- a job that joins
 joined-seen : (k : Kind) (lanes : Lanes) (n : ℕ) (a : Ahead) (d : Desk)
     → machine_at k lanes (joined_by n a d)
     ≡ record (machine_at k lanes d) {
-      lanes = with_lane k (with_waiting (lane_of k (machine_at k lanes d)) ((lane_of k (machine_at k lanes d)).waiting ++ waits n a.rounds ∷ [])) (with_lane k (lane_at d) lanes);
+      lanes = with_lane k (with_waiting (lane_for k (machine_at k lanes d)) ((lane_for k (machine_at k lanes d)).waiting ++ waits n a.rounds ∷ [])) (with_lane k (lane_at d) lanes);
     }
 joined-seen k lanes n a d =
     let m = machine_at k lanes d in
     let own = own-lane k lanes d in
-    let lane : lane_at (joined_by n a d) ≡ with_waiting (lane_of k m) ((lane_of k m).waiting ++ waits n a.rounds ∷ [])
+    let lane : lane_at (joined_by n a d) ≡ with_waiting (lane_for k m) ((lane_for k m).waiting ++ waits n a.rounds ∷ [])
     = rw own (ap (λ (r : List Waiting). record { waiting = r; rounds = d.rounds; blocks = d.blocks }) (map-append waiting d.waiters ((n, a) ∷ []))) in
     same-machine _ _ _ _ _ _ d.flush_runs (out-same n d.courses)
-    (ap (λ x. with_lane k x lanes) lane ∙ sym (again k (with_waiting (lane_of k m) ((lane_of k m).waiting ++ waits n a.rounds ∷ [])) (lane_at d) lanes)) refl
+    (ap (λ x. with_lane k x lanes) lane ∙ sym (again k (with_waiting (lane_for k m) ((lane_for k m).waiting ++ waits n a.rounds ∷ [])) (lane_at d) lanes)) refl
 
 either : (at : Within) (k : Kind) (lanes : Lanes) (b : Bool) (d : Desk)
     → machine_at k lanes (cond b (ran_at at d) d) ≡ cond b (run_within at k (machine_at k lanes d)) (machine_at k lanes d)
@@ -172,7 +172,7 @@ pub enters-seen : (at : Within) (k : Kind) (lanes : Lanes) (n : ℕ) (a : Ahead)
     → machine_at k lanes (ran_if_full at (lanes_of k) (joined_by n a d)) ≡ joined at k n a.rounds (machine_at k lanes d)
 enters-seen at k lanes n a d =
     let j = joined_by n a d in
-    let size : length j.waiters ≡ length (lane_of k (machine_at k lanes j)).waiting
+    let size : length j.waiters ≡ length (lane_for k (machine_at k lanes j)).waiting
     = sym (length-map j.waiters waiting) ∙ ap (λ (l : Lane). length l.waiting) (sym (own-lane k lanes j)) in
     either at k lanes (length j.waiters == lanes_of k) j
     ∙ ap (λ (x : ℕ). cond (x == lanes_of k) (run_within at k (machine_at k lanes j)) (machine_at k lanes j)) size

@@ -4,7 +4,7 @@ use Rattle.std.proofs.lemmas.Bool.{cond_both}
 use Rattle.mbj_types.specs.declared.kind.Kind.{Kind}
 use Rattle.mbj_types.specs.Kinds.{lanes_of}
 use Rattle.mbj_manager.specs.Rounds.{Pending, at_once, in_lanes}
-use Rattle.mbj_manager.specs.Machine.{Machine, Within, submit, flush, changed, lane_of, run_idle, run_within, stage_done, with_lane, with_waiting, without_first}
+use Rattle.mbj_manager.specs.Machine.{Machine, Within, submit, flush, changed, lane_for, run_idle, run_within, stage_done, with_lane, with_waiting, without_first}
 use Rattle.mbj_manager.specs.Course.{after_flush_steps, after_steps, course, flush_step, flush_step_at, flushed, goes_on, in_lanes_next, joined, stages_left, stepped, stepped_at, steps_ahead, waits}
 use Rattle.mbj_manager.specs.Inside.Standing.{left_at}
 use Rattle.mbj_manager.proofs.Changing.{each-changed}
@@ -24,8 +24,8 @@ module _ (P : List Pending → Type 0) (one_done : (ps : List Pending) → P ps 
 
   each-joined : (at : Within) (k : Kind) (n rest : ℕ) (m : Machine) → Each m.left → Each (joined at k n rest m).left
   each-joined at k n rest m each =
-      let g = record m { lanes = with_lane k (with_waiting (lane_of k m) ((lane_of k m).waiting ++ waits n rest ∷ [])) m.lanes } in
-      cond_both (length (lane_of k g).waiting == lanes_of k) (run_within at k g) g (λ (after : Machine). Each after.left) (λ full. each-run at k g each) (λ room. each)
+      let g = record m { lanes = with_lane k (with_waiting (lane_for k m) ((lane_for k m).waiting ++ waits n rest ∷ [])) m.lanes } in
+      cond_both (length (lane_for k g).waiting == lanes_of k) (run_within at k g) g (λ (after : Machine). Each after.left) (λ full. each-run at k g each) (λ room. each)
 
   each-going : (at : Within) (n : ℕ) (left : List Pending) (m : Machine) → Each m.left → Each (goes_on at n left m).left
   each-going at n [] m each = each

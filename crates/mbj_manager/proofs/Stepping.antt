@@ -7,7 +7,7 @@ use Rattle.std.proofs.lemmas.List.Elements.{All-head, All-push}
 use Rattle.mbj_types.specs.declared.kind.Kind.{Kind}
 use Rattle.mbj_types.specs.Kinds.{lanes_of}
 use Rattle.mbj_manager.specs.Rounds.{Pending, at_once, in_lanes}
-use Rattle.mbj_manager.specs.Machine.{Lane, Machine, Within, changed, lane_of, run_within, with_lane, with_waiting}
+use Rattle.mbj_manager.specs.Machine.{Lane, Machine, Within, changed, lane_for, run_within, with_lane, with_waiting}
 use Rattle.mbj_manager.specs.Course.{in_lanes_next, joined, goes_on, stepped_at, stages_left, steps_ahead, waits}
 use Rattle.mbj_manager.specs.Between.{HasRounds, IsPlaced, times_in}
 use Rattle.mbj_manager.specs.Inside.Standing.{IsLane, IsWithin, Stands, left_at, times}
@@ -26,7 +26,7 @@ record Follows (after m : Machine) : Type 0 where
 
 -- the job n is out of the agenda and goes on; else the machine is as it is after each step
 pub record IsTaken (n : ℕ) (m : Machine) : Type 0 where
-  lanes : (k : Kind) → IsLane k (lane_of k m)
+  lanes : (k : Kind) → IsLane k (lane_for k m)
   stages : (i : ℕ) → All HasRounds (left_at i m.left)
   off : times n m.agenda ≡ 0
   absent : IsPlaced m n []
@@ -36,16 +36,16 @@ pub record IsTaken (n : ℕ) (m : Machine) : Type 0 where
 
 -- the lanes of the kind k with the job n at the end of the list
 abbrev longer : Kind → ℕ → ℕ → Machine → Lane
-longer k n rest m = with_waiting (lane_of k m) ((lane_of k m).waiting ++ waits n rest ∷ [])
+longer k n rest m = with_waiting (lane_for k m) ((lane_for k m).waiting ++ waits n rest ∷ [])
 
 -- the machine with them
 abbrev pub grown : Kind → ℕ → ℕ → Machine → Machine
 grown k n rest m = record m { lanes = with_lane k (longer k n rest m) m.lanes }
 
 -- the longer list may be full
-longer-filled : (k : Kind) (n rest : ℕ) (m : Machine) → IsLane k (lane_of k m) → 1 ≤ rest → IsFilled k (longer k n rest m)
+longer-filled : (k : Kind) (n rest : ℕ) (m : Machine) → IsLane k (lane_for k m) → 1 ≤ rest → IsFilled k (longer k n rest m)
 longer-filled k n rest m lane some =
-    let ws = (lane_of k m).waiting in
+    let ws = (lane_for k m).waiting in
     let few = lane.few in
     let more = length-append ws (waits n rest ∷ []) in
     record {
@@ -64,7 +64,7 @@ joined-placed : (k : Kind) (n rest : ℕ) (m : Machine) (left : List Pending) �
     → IsPlaced (grown k n rest m) n (in_lanes k rest ∷ left)
 joined-placed k n rest m left absent =
     let l = longer k n rest m in
-    let one : times_in n l.waiting ≡ 1 = (let more = times-joined n rest (lane_of k m).waiting in let none = absent k in omega arith) in (
+    let one : times_in n l.waiting ≡ 1 = (let more = times-joined n rest (lane_for k m).waiting in let none = absent k in omega arith) in (
       ap (λ l. times_in n l.waiting) (given-lane k l m.lanes) ∙ one,
       λ j ne. ap (λ l. times_in n l.waiting) (other-lane k j l m.lanes ne) ∙ absent j,
     )
@@ -73,8 +73,8 @@ joined-placed k n rest m left absent =
 joined-other : (k : Kind) (n rest i : ℕ) (m : Machine) → i ≢ n → Stands m i → Stands (grown k n rest m) i
 joined-other k n rest i m ne stands =
     same-stands m (grown k n rest m) i
-    (each-lane (λ j l. times_in i l.waiting ≡ times_in i (lane_of j m).waiting) k (longer k n rest m) m.lanes
-    (times-joined-other i n rest (lane_of k m).waiting (λ e. ne (sym e))) (λ j ne. refl))
+    (each-lane (λ j l. times_in i l.waiting ≡ times_in i (lane_for j m).waiting) k (longer k n rest m) m.lanes
+    (times-joined-other i n rest (lane_for k m).waiting (λ e. ne (sym e))) (λ j ne. refl))
     refl refl stands
 
 -- the machine whose list the job joined may run that list
@@ -102,14 +102,14 @@ joins at k n rest left m taken next =
     let g = grown k n rest m in
     let ready = grown-ready k n rest left m taken next in
     let given = given-lane k l m.lanes in
-    cond_both (length (lane_of k g).waiting == lanes_of k) (run_within at k g) g (λ after. Follows after m)
-    (λ full. (let run = run-keeps at k g ready (eqb-true (length (lane_of k g).waiting) (lanes_of k) full) in
+    cond_both (length (lane_for k g).waiting == lanes_of k) (run_within at k g) g (λ after. Follows after m)
+    (λ full. (let run = run-keeps at k g ready (eqb-true (length (lane_for k g).waiting) (lanes_of k) full) in
     let fewer = run.fewer in
     record { within = run.within; fewer = omega arith; ahead = run.ahead }))
     (λ room. record {
       within = record {
         lanes = each-lane IsLane k l m.lanes
-            (subst (IsLane k) given (not-full k (lane_of k g) ready.lane (eqb-false (length (lane_of k g).waiting) (lanes_of k) room)))
+            (subst (IsLane k) given (not-full k (lane_for k g) ready.lane (eqb-false (length (lane_for k g).waiting) (lanes_of k) room)))
             (λ j ne. taken.lanes j);
         stages = ready.stages;
         stands = ready.stands;

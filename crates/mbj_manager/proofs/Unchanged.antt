@@ -3,14 +3,14 @@ use Rattle.std.proofs.Common.{◌≡◌, ℕ, ◌==◌, zero, suc, Bool, true, f
 use Rattle.mbj_types.specs.declared.kind.Kind.{Kind}
 use Rattle.mbj_types.specs.Kinds.{lanes_of}
 use Rattle.mbj_manager.specs.Rounds.{Pending, at_once, in_lanes}
-use Rattle.mbj_manager.specs.Machine.{Machine, Waiting, Within, flush, changed, lane_of, run_idle, run_within, with_lane, with_waiting}
+use Rattle.mbj_manager.specs.Machine.{Machine, Waiting, Within, flush, changed, lane_for, run_idle, run_within, with_lane, with_waiting}
 use Rattle.mbj_manager.specs.Course.{after_flush_steps, after_steps, course, flush_step, flush_step_at, flushed, goes_on, in_lanes_next, joined, stages_left, stepped, stepped_at, steps_ahead, waits}
 
 -- what f reads of a machine stays as it is when a list runs, a job joins one, or the agenda's first is taken
 pub record IsUnchanged {A : Type 0} (f : Machine → A) (at : Within) : Type 0 where
   pub runs : (k : Kind) (m : Machine) → f (run_within at k m) ≡ f m
   pub joins : (k : Kind) (ws : List Waiting) (m : Machine)
-      → f (record m { lanes = with_lane k (with_waiting (lane_of k m) ws) m.lanes }) ≡ f m
+      → f (record m { lanes = with_lane k (with_waiting (lane_for k m) ws) m.lanes }) ≡ f m
   pub takes : (n : ℕ) (agenda : List ℕ) (m : Machine)
       → f (record m { left = changed in_lanes_next n m.left; agenda = agenda }) ≡ f m
 
@@ -23,9 +23,9 @@ either-way f false x y e = refl
 unchanged-joined : {A : Type 0} (f : Machine → A) (at : Within) → IsUnchanged f at → (k : Kind) (n rest : ℕ) (m : Machine)
     → f (joined at k n rest m) ≡ f m
 unchanged-joined f at stays k n rest m =
-    let ws = (lane_of k m).waiting ++ waits n rest ∷ [] in
-    let m' = record m { lanes = with_lane k (with_waiting (lane_of k m) ws) m.lanes } in
-    either-way f (length (lane_of k m').waiting == lanes_of k) (run_within at k m') m' (stays.runs k m') ∙ stays.joins k ws m
+    let ws = (lane_for k m).waiting ++ waits n rest ∷ [] in
+    let m' = record m { lanes = with_lane k (with_waiting (lane_for k m) ws) m.lanes } in
+    either-way f (length (lane_for k m').waiting == lanes_of k) (run_within at k m') m' (stays.runs k m') ∙ stays.joins k ws m
 
 -- through a job that goes on
 unchanged-going : {A : Type 0} (f : Machine → A) (at : Within) → IsUnchanged f at → (n : ℕ) (left : List Pending) (m : Machine)

@@ -3,7 +3,7 @@ use Rattle.std.specs.Prelude.{◌≡◌, ◌≢◌, ◌<◌, ◌≤◌, ◌*◌,
 use Rattle.mbj_types.specs.declared.kind.Kind.{Kind}
 use Rattle.mbj_types.specs.Kinds.{lanes_of}
 use Rattle.mbj_manager.specs.Rounds.{Pending, at_once, in_lanes}
-use Rattle.mbj_manager.specs.Machine.{Machine, Waiting, count_end, lane_of, submit}
+use Rattle.mbj_manager.specs.Machine.{Machine, Waiting, count_end, lane_for, submit}
 use Rattle.mbj_manager.specs.Course.{course, flushed}
 use Rattle.mbj_manager.specs.Counts.{RisesUpTo}
 use Rattle.mbj_manager.specs.State.{ManagerState, after_flush, new_manager}
@@ -16,10 +16,10 @@ times_in n ws = count_by (λ w. w.number == n) ws
 -- where the job n stands, by the stages that are left of it: a finished one in no list, another one once in the list of the
 -- kind of its first stage left, and in no other list
 abbrev pub IsPlaced : Machine → ℕ → List Pending → Type 0
-IsPlaced m n [] = (k : Kind) → times_in n (lane_of k m).waiting ≡ 0
+IsPlaced m n [] = (k : Kind) → times_in n (lane_for k m).waiting ≡ 0
 IsPlaced m n (at_once ∷ left) = ⊥
 IsPlaced m n (in_lanes k rest ∷ left) =
-    (times_in n (lane_of k m).waiting ≡ 1) × ((j : Kind) → j ≢ k → times_in n (lane_of j m).waiting ≡ 0)
+    (times_in n (lane_for k m).waiting ≡ 1) × ((j : Kind) → j ≢ k → times_in n (lane_for j m).waiting ≡ 0)
 
 -- a stage in lanes takes a round at least
 abbrev pub HasRounds : Pending → Type 0
@@ -30,14 +30,14 @@ pub record IsBetweenCalls (m : Machine) : Type 0 where
   -- no job stands between two stages
   pub agenda : m.agenda ≡ []
   -- no list is full
-  pub few : (k : Kind) → length (lane_of k m).waiting < lanes_of k
+  pub few : (k : Kind) → length (lane_for k m).waiting < lanes_of k
   -- each job that waits has rounds left
-  pub rests : (k : Kind) → All (λ w. 1 ≤ w.rest) (lane_of k m).waiting
+  pub rests : (k : Kind) → All (λ w. 1 ≤ w.rest) (lane_for k m).waiting
   -- each job is finished, or stands in exactly one list
   pub placed : (n : ℕ) → IsPlaced m n (slice_index_or m.left n [])
   pub stages : All (All HasRounds) m.left
   -- each run that counts was on a full list
-  pub blocks : (k : Kind) → (lane_of k m).blocks ≡ (lanes_of k * (lane_of k m).rounds) % count_end
+  pub blocks : (k : Kind) → (lane_for k m).blocks ≡ (lanes_of k * (lane_for k m).rounds) % count_end
 
 -- the machine to which a job with these stages is submitted
 abbrev pub with_stages : List Pending → Machine → Machine

@@ -1,12 +1,12 @@
 -- Which counts a run of a list goes into.
 use Rattle.std.specs.Prelude.{◌≡◌, ℕ, ◌+◌, ◌%◌, ◌≤◌}
 use Rattle.mbj_types.specs.declared.kind.Kind.{Kind}
-use Rattle.mbj_manager.specs.Machine.{Machine, count_end, lane_of, submit}
+use Rattle.mbj_manager.specs.Machine.{Machine, count_end, lane_for, submit}
 use Rattle.mbj_manager.specs.Course.{course, flushed, stages_left}
 
 -- the rounds of a kind's full runs, and their blocks
 abbrev pub full_runs : Kind → Machine → ℕ × ℕ
-full_runs k m = ((lane_of k m).rounds, (lane_of k m).blocks)
+full_runs k m = ((lane_for k m).rounds, (lane_for k m).blocks)
 
 -- a run goes into the count of the call that it is within, and into no other
 pub record CountsApart (m : Machine) : Type 0 where

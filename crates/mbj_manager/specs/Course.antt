@@ -3,7 +3,7 @@ use Rattle.std.specs.Prelude.{ℕ, ◌+◌, ◌*◌, ◌==◌, zero, suc, List, 
 use Rattle.mbj_types.specs.declared.kind.Kind.{Kind}
 use Rattle.mbj_types.specs.Kinds.{lanes_of}
 use Rattle.mbj_manager.specs.Rounds.{Pending, at_once, in_lanes}
-use Rattle.mbj_manager.specs.Machine.{Waiting, Machine, changed, lane_of, with_lane, with_waiting, run_idle, run_within, Within, flush}
+use Rattle.mbj_manager.specs.Machine.{Waiting, Machine, changed, lane_for, with_lane, with_waiting, run_idle, run_within, Within, flush}
 
 -- the stages left once those are done that finish at once
 abbrev pub in_lanes_next : List Pending → List Pending
@@ -12,7 +12,7 @@ in_lanes_next (at_once ∷ left) = in_lanes_next left
 in_lanes_next (in_lanes k rest ∷ left) = in_lanes k rest ∷ left
 
 abbrev pub run_if_full : Within → Kind → Machine → Machine
-run_if_full at k m = if length (lane_of k m).waiting == lanes_of k then run_within at k m else m
+run_if_full at k m = if length (lane_for k m).waiting == lanes_of k then run_within at k m else m
 
 abbrev pub waits : ℕ → ℕ → Waiting
 waits n rest = record { number = n; rest = rest }
@@ -20,7 +20,7 @@ waits n rest = record { number = n; rest = rest }
 -- the job n joins the end of the kind's list, which runs where it is full then
 abbrev pub joined : Within → Kind → ℕ → ℕ → Machine → Machine
 joined at k n rest m = run_if_full at k (record m {
-  lanes = with_lane k (with_waiting (lane_of k m) ((lane_of k m).waiting ++ waits n rest ∷ [])) m.lanes;
+  lanes = with_lane k (with_waiting (lane_for k m) ((lane_for k m).waiting ++ waits n rest ∷ [])) m.lanes;
 })
 
 -- the job n goes on to its next stage, which is in lanes, or is finished

@@ -92,8 +92,8 @@ idle_lane = record { waiting = []; rounds = 0; blocks = 0 }
 abbrev pub idle_lanes : Lanes
 idle_lanes = lanes_by (λ k. idle_lane)
 
-abbrev pub lane_of : Kind → Machine → Lane
-lane_of k m = lane_in k m.lanes
+abbrev pub lane_for : Kind → Machine → Lane
+lane_for k m = lane_in k m.lanes
 
 -- ---- a run
 
@@ -138,9 +138,9 @@ stage_done (n ∷ ns) left = stage_done ns (changed without_first n left)
 -- the list of the kind k runs by its least rest: those whose rounds are done leave in list order, and join the agenda's end
 abbrev pub ran : Kind → (List Waiting → Lane) → Machine → Machine
 ran k after m = record {
-  left = stage_done (leavers (shortened (lane_of k m).waiting)) m.left;
-  lanes = with_lane k (after (stayers (shortened (lane_of k m).waiting))) m.lanes;
-  agenda = m.agenda ++ leavers (shortened (lane_of k m).waiting);
+  left = stage_done (leavers (shortened (lane_for k m).waiting)) m.left;
+  lanes = with_lane k (after (stayers (shortened (lane_for k m).waiting))) m.lanes;
+  agenda = m.agenda ++ leavers (shortened (lane_for k m).waiting);
   flush_runs = m.flush_runs;
 }
 
@@ -162,11 +162,11 @@ pub data Within : Type 0 where
 
 -- a run of a full list, within a submit
 abbrev pub run_full : Kind → Machine → Machine
-run_full k m = ran k (with_run (lane_of k m)) m
+run_full k m = ran k (with_run (lane_for k m)) m
 
 -- a run within a flush, of the list of the earliest job or of one that fills then
 abbrev pub run_idle : Kind → Machine → Machine
-run_idle k m = ran k (with_waiting (lane_of k m)) (record m { flush_runs = (m.flush_runs + 1) % count_end })
+run_idle k m = ran k (with_waiting (lane_for k m)) (record m { flush_runs = (m.flush_runs + 1) % count_end })
 
 abbrev pub run_within : Within → Kind → Machine → Machine
 run_within submit k m = run_full k m

@@ -7,7 +7,7 @@ use Rattle.mbj_types.specs.Result.{result_of}
 use Rattle.mbj_ring.specs.declared.ring.TheConstants.{CELLS}
 use Rattle.mbj_stage.specs.Going.{begun}
 use Rattle.mbj_manager.specs.Rounds.{Pending, pending}
-use Rattle.mbj_manager.specs.Machine.{submit, Waiting, Lane, Machine, idle_lanes, lane_of, lanes_by}
+use Rattle.mbj_manager.specs.Machine.{submit, Waiting, Lane, Machine, idle_lanes, lane_for, lanes_by}
 use Rattle.mbj_manager.specs.Course.{course, flushed}
 
 pub record ManagerState : Type 0 where
@@ -45,7 +45,7 @@ renumbered l = record { waiting = map earlier l.waiting; rounds = l.rounds; bloc
 
 -- the machine once the first job left: each number is one lower
 abbrev pub without_earliest : List (List Pending) → Machine → Machine
-without_earliest left m = record m { left = left; lanes = lanes_by (λ k. renumbered (lane_of k m)) }
+without_earliest left m = record m { left = left; lanes = lanes_by (λ k. renumbered (lane_for k m)) }
 
 -- the earliest job's result is given back where that job is finished
 abbrev pub given_at : List Done → List (List Pending) → ManagerState → Option Done × ManagerState

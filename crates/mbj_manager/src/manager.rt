@@ -5,7 +5,7 @@ ghost use Rattle.mbj_types.specs.Result.{result_of};
 ghost use Rattle.mbj_ring.specs.declared.ring.TheConstants.{CELLS};
 ghost use Rattle.mbj_types.specs.Kinds.{lanes_of};
 ghost use Rattle.mbj_lane.specs.Rounds.{end_of};
-ghost use Rattle.mbj_manager.specs.Machine.{count_end, lane_of, rest_of};
+ghost use Rattle.mbj_manager.specs.Machine.{count_end, lane_for, rest_of};
 ghost use Rattle.mbj_manager.specs.Leads.{AreLed};
 ghost use Rattle.mbj_manager.specs.Counts.{RisesUpTo};
 ghost use Rattle.mbj_manager.specs.State.{IsEarliestFinished, entered, after_flush, after_get_completed, lent, new_manager, after_making_room, after_submit, with_open};
@@ -179,7 +179,7 @@ impl Manager {
 
     /// How many jobs of a kind wait for lanes.
     pub fn waiting(&self, kind: Kind) -> u32
-        ensures { result ≡ length (lane_of kind self.now.machine).waiting }
+        ensures { result ≡ length (lane_for kind self.now.machine).waiting }
     {
         self.works.waiting(kind)
     }
@@ -188,24 +188,24 @@ impl Manager {
     /// many rounds left as its job, whose course has it out; and once they are done, the course owes the result that the job
     /// is owed.
     pub fn lanes<K: Queued>(&self) -> &Lanes<K>
-        ensures rests { map K.rest_of result.now.entries.items ≡ map rest_of (lane_of K.kind self.now.machine).waiting }
+        ensures rests { map K.rest_of result.now.entries.items ≡ map rest_of (lane_for K.kind self.now.machine).waiting }
         ensures led { AreLed K.kind self.now (map (λ e. K.brings (end_of K.round K.rest_of e)) result.now.entries.items)
-            (lane_of K.kind self.now.machine).waiting }
+            (lane_for K.kind self.now.machine).waiting }
     {
         self.works.lanes::<K>()
     }
 
     /// How many rounds the full runs of a kind took, modulo 2^64.
     pub fn rounds(&self, kind: Kind) -> u64
-        ensures { result ≡ (lane_of kind self.now.machine).rounds }
+        ensures { result ≡ (lane_for kind self.now.machine).rounds }
     {
         self.works.rounds(kind)
     }
 
     /// How many blocks went through the full runs of a kind, modulo 2^64: as many as its lanes in each round.
     pub fn blocks(&self, kind: Kind) -> u64
-        ensures blocks { result ≡ (lane_of kind self.now.machine).blocks }
-        ensures full { result ≡ (lanes_of kind * (lane_of kind self.now.machine).rounds) % count_end }
+        ensures blocks { result ≡ (lane_for kind self.now.machine).blocks }
+        ensures full { result ≡ (lanes_of kind * (lane_for kind self.now.machine).rounds) % count_end }
     {
         self.works.blocks(kind)
     }

@@ -7,7 +7,7 @@ ghost use Rattle.mbj_stage.specs.Going.{begun, stage_of};
 ghost use Rattle.mbj_stage.specs.declared.stage.Stage.TheVariants as stage;
 ghost use Rattle.mbj_manager.specs.Rounds.{pending};
 ghost use Rattle.mbj_lane.specs.Rounds.{end_of};
-ghost use Rattle.mbj_manager.specs.Machine.{count_end, lane_of, rest_of, run_idle};
+ghost use Rattle.mbj_manager.specs.Machine.{count_end, lane_for, rest_of, run_idle};
 ghost use Rattle.mbj_manager.specs.Leads.{AreLed};
 ghost use Rattle.mbj_manager.specs.Course.{course, flushed, stages_left, stepped, steps_ahead};
 ghost use Rattle.mbj_manager.specs.State.{after_get_completed, lent, new_manager, with_open};
@@ -232,28 +232,28 @@ impl Works {
     }
 
     pub(crate) fn lanes<K: Queued>(&self) -> &Lanes<K>
-        ensures rests { map K.rest_of result.now.entries.items ≡ map rest_of (lane_of K.kind self.now.machine).waiting }
+        ensures rests { map K.rest_of result.now.entries.items ≡ map rest_of (lane_for K.kind self.now.machine).waiting }
         ensures led { AreLed K.kind self.now (map (λ e. K.brings (end_of K.round K.rest_of e)) result.now.entries.items)
-            (lane_of K.kind self.now.machine).waiting }
+            (lane_for K.kind self.now.machine).waiting }
     {
         &K::queue(&self.lists).lanes
     }
 
     pub(crate) fn waiting(&self, kind: Kind) -> u32
-        ensures { result ≡ length (lane_of kind self.now.machine).waiting }
+        ensures { result ≡ length (lane_for kind self.now.machine).waiting }
     {
         self.lists.len(kind)
     }
 
     pub(crate) fn rounds(&self, kind: Kind) -> u64
-        ensures { result ≡ (lane_of kind self.now.machine).rounds }
+        ensures { result ≡ (lane_for kind self.now.machine).rounds }
     {
         self.lists.rounds(kind)
     }
 
     pub(crate) fn blocks(&self, kind: Kind) -> u64
-        ensures blocks { result ≡ (lane_of kind self.now.machine).blocks }
-        ensures full { result ≡ (lanes_of kind * (lane_of kind self.now.machine).rounds) % count_end }
+        ensures blocks { result ≡ (lane_for kind self.now.machine).blocks }
+        ensures full { result ≡ (lanes_of kind * (lane_for kind self.now.machine).rounds) % count_end }
     {
         self.lists.blocks(kind)
     }

@@ -10,7 +10,7 @@ use Rattle.mbj_types.specs.declared.job.Cipher.TheVariants as cipher
 use Rattle.mbj_types.specs.declared.job.Dir.TheVariants.{Enc}
 use Rattle.mbj_types.specs.declared.kind.Kind.TheVariants as kind
 use Rattle.mbj_types.specs.declared.reason.Reason.{Reason}
-use Rattle.mbj_types.specs.Aes.{rounds_of}
+use Rattle.mbj_types.specs.Aes.{round_count}
 use Rattle.mbj_types.specs.Auths.{class_of}
 use Rattle.mbj_types.specs.Result.{ciphered, mac_by}
 use Rattle.mbj_types.specs.Verdict.{takes_auth_key, takes_key, verdict_at}
@@ -77,7 +77,7 @@ pub record IsCbcNext (j : Job) (p : List ℕ) (left : List Step) (n : ℕ) : Typ
   pub first : IsFirst step.Cipher left
   pub cbc : j.cipher ≡ cipher.Cbc
   pub enc : j.dir ≡ Enc
-  pub rounds : rounds_of j.key ≡ n
+  pub rounds : round_count j.key ≡ n
   pub accepted : verdict_at j (length p) ≡ None
 
 cbc-kinds : (n : ℕ) → step_of (if n == 10 then kind.Cbc128 else if n == 12 then kind.Cbc192 else kind.Cbc256) ≡ step.Cipher
@@ -118,7 +118,7 @@ hmac-accepted j p left out sound here first = here-accepted j p left out sound h
 pub record IsCmacNext (j : Job) (p : List ℕ) (left : List Step) (n : ℕ) : Type 0 where
   pub first : IsFirst step.Auth left
   pub cmac : (j.auth ≡ auth.Cmac128) ⊎ (j.auth ≡ auth.Cmac256)
-  pub rounds : rounds_of j.auth_key ≡ n
+  pub rounds : round_count j.auth_key ≡ n
   pub accepted : verdict_at j (length p) ≡ None
 
 cmac-kinds : (n : ℕ) → step_of (if n == 10 then kind.Cmac128 else kind.Cmac256) ≡ step.Auth

@@ -6,7 +6,7 @@ use Rattle.std.specs.Int.{w128, to_be_bytes}
 use Rattle.std.proofs.lemmas.Bool.{cases_lt, eqb-true}
 use Rattle.std.proofs.lemmas.List.{length-take, length-take-le}
 use Rattle.std.proofs.lemmas.List.Elements.{All-cons, All-head, All-nil, All-tail}
-use Rattle.mbj_types.specs.Aes.{key_schedule, schedule, schedule_term, word, round_key, rounds_of, decipher, undone_rounds, inv_sub_bytes, inv_shift_rows, aes, aes_inverse}
+use Rattle.mbj_types.specs.Aes.{key_schedule, schedule, schedule_term, word, round_key, round_count, decipher, undone_rounds, inv_sub_bytes, inv_shift_rows, aes, aes_inverse}
 use Rattle.mbj_types.specs.Blocks.{zero_block, xor_lists, first_blocks, blocks}
 use Rattle.mbj_types.specs.Modes.{cbc, uncbc, ctr_blocks, first_counter, cbc_text, uncbc_text, ctr_text}
 use Rattle.mbj_types.specs.Gcm.{inc32, pre_counter_block, gctr, gcm_text}
@@ -43,7 +43,7 @@ length-schedule nk key (suc n) =
 length-aes : (key : List ℕ) → 16 ≤ length key → GivesBlocks (aes key)
 unfolding aes
 length-aes key h b =
-    let long = length-schedule (length key / 4) key (4 * (rounds_of key + 1) - length key / 4) in
+    let long = length-schedule (length key / 4) key (4 * (round_count key + 1) - length key / 4) in
     length-encipher (key_schedule key) b (omega arith)
 
 -- decryption with one round key
@@ -60,7 +60,7 @@ length-aes_inverse : (key : List ℕ) → 16 ≤ length key → GivesBlocks (aes
 unfolding aes_inverse
 length-aes_inverse key h b =
     let w : List ℕ = key_schedule key in
-    let long = length-schedule (length key / 4) key (4 * (rounds_of key + 1) - length key / 4) in
+    let long = length-schedule (length key / 4) key (4 * (round_count key + 1) - length key / 4) in
     elim (cases_lt (length w) 32) [
       | inl short ↦ length-decipher_short w b (omega arith) short
       | inr whole ↦ length-decipher w b whole

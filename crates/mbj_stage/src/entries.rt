@@ -1,7 +1,7 @@
 //! The entries in which the stages of an accepted job are done in lanes, over the job's packet.
 
 ghost use Rattle.std.specs.Prelude.{◌≡◌, ◌≤◌, ◌⊎◌, None, length, IsTrue};
-ghost use Rattle.mbj_types.specs.Aes.{rounds_of as aes_rounds};
+ghost use Rattle.mbj_types.specs.Aes.{round_count};
 ghost use Rattle.mbj_types.specs.Auths.{class_of};
 ghost use Rattle.mbj_types.specs.Rounds.{cbc_rounds, cmac_rounds, hmac_rounds};
 ghost use Rattle.mbj_types.specs.Result.{ciphered, mac_by};
@@ -26,7 +26,7 @@ use mbj_types::Job;
 pub(crate) fn cbc_entry<const N: usize>(job: &Job, packet: Vec<u8>) -> CbcEntry<N>
     requires cbc { job.now.cipher ≡ cipher.Cbc }
     requires enc { job.now.dir ≡ dir.Enc }
-    requires rounds { aes_rounds job.now.key ≡ N }
+    requires rounds { round_count job.now.key ≡ N }
     requires accepted { verdict_at job.now (length packet.items) ≡ None }
     ensures rest { result.rest ≡ cbc_rounds job.now.cipher_len }
     ensures some { 1 ≤ result.rest }
@@ -40,7 +40,7 @@ pub(crate) fn cbc_entry<const N: usize>(job: &Job, packet: Vec<u8>) -> CbcEntry<
 /// The CMAC of a job whose key has `N` rounds.
 pub(crate) fn cmac_entry<const N: usize>(job: &Job, packet: Vec<u8>) -> CmacEntry<N>
     requires cmac { (job.now.auth ≡ auth.Cmac128) ⊎ (job.now.auth ≡ auth.Cmac256) }
-    requires rounds { aes_rounds job.now.auth_key ≡ N }
+    requires rounds { round_count job.now.auth_key ≡ N }
     requires accepted { verdict_at job.now (length packet.items) ≡ None }
     ensures rest { result.rest ≡ cmac_rounds job.now.hash_len }
     ensures packet { (cmac_end (end_of cmac_round cmac_rest result)).packet ≡ packet.items }

@@ -5,7 +5,7 @@ use Rattle.mbj_types.specs.declared.done.Done.{Done}
 use Rattle.mbj_types.specs.declared.kind.Kind.{Kind}
 use Rattle.mbj_types.specs.Kinds.{all_kinds}
 use Rattle.mbj_ring.specs.declared.ring.TheConstants.{CELLS}
-use Rattle.mbj_manager.specs.Machine.{Machine, lane_of}
+use Rattle.mbj_manager.specs.Machine.{Machine, lane_for}
 use Rattle.mbj_manager.specs.State.{ManagerState, new_manager, with_open, after_submit, after_get_completed, after_flush, after_making_room}
 use Rattle.mbj_trace.specs.Lines.{lines_text}
 use Rattle.mbj_trace.specs.declared.line.TraceLine.{TraceLine}
@@ -107,7 +107,7 @@ after_all_taken how t = after_takes how (length t.manager.owed) t
 -- the rounds and blocks of a kind whose lists ran
 abbrev pub count_lines : Machine → Kind → List TraceLine
 count_lines m k =
-    if (lane_of k m).rounds == 0 then [] else line.Rounds k (lane_of k m).rounds (lane_of k m).blocks ∷ []
+    if (lane_for k m).rounds == 0 then [] else line.Rounds k (lane_for k m).rounds (lane_for k m).blocks ∷ []
 
 -- ---- the whole
 

@@ -100,12 +100,12 @@ abbrev pub is_key_size : ℕ → Bool
 is_key_size n = n == 16 || (n == 24 || n == 32)
 
 -- 10, 12 or 14 rounds for a key of 16, 24 or 32 bytes
-abbrev pub rounds_of : List ℕ → ℕ
-rounds_of key = length key / 4 + 6
+abbrev pub round_count : List ℕ → ℕ
+round_count key = length key / 4 + 6
 
 -- the schedule of a key: 4 words for each round, and 4 more
 abbrev pub key_schedule : List ℕ → List ℕ
-key_schedule key = schedule (length key / 4) key (4 * (rounds_of key + 1) - length key / 4)
+key_schedule key = schedule (length key / 4) key (4 * (round_count key + 1) - length key / 4)
 
 -- the 4 words of round r
 abbrev pub round_key : List ℕ → ℕ → List ℕ

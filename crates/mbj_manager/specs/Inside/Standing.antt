@@ -3,7 +3,7 @@ use Rattle.std.specs.Prelude.{◌≡◌, ℕ, ◌*◌, ◌%◌, ◌<◌, ◌≤�
 use Rattle.mbj_types.specs.declared.kind.Kind.{Kind}
 use Rattle.mbj_types.specs.Kinds.{lanes_of}
 use Rattle.mbj_manager.specs.Rounds.{Pending}
-use Rattle.mbj_manager.specs.Machine.{Lane, Machine, count_end, lane_of}
+use Rattle.mbj_manager.specs.Machine.{Lane, Machine, count_end, lane_for}
 use Rattle.mbj_manager.specs.Between.{HasRounds, IsPlaced}
 
 -- how often n stands in a list of numbers
@@ -26,6 +26,6 @@ pub record IsLane (k : Kind) (l : Lane) : Type 0 where
 
 -- what holds of the machine after each step of a course
 pub record IsWithin (m : Machine) : Type 0 where
-  pub lanes : (k : Kind) → IsLane k (lane_of k m)
+  pub lanes : (k : Kind) → IsLane k (lane_for k m)
   pub stages : (n : ℕ) → All HasRounds (left_at n m.left)
   pub stands : (n : ℕ) → Stands m n

@@ -2,7 +2,7 @@
 use Rattle.std.proofs.Common.{◌≡◌, ◌∙◌, ◌+◌, ◌*◌, ℕ, List, ◌++◌, length, take, drop, ap, ap₂, arith}
 use Rattle.std.proofs.Math.Path.{fun_ext}
 use Rattle.mbj_types.specs.declared.job.Job.{Job}
-use Rattle.mbj_types.specs.Aes.{aes, encipher, rounds_of}
+use Rattle.mbj_types.specs.Aes.{aes, encipher, round_count}
 use Rattle.mbj_types.specs.Modes.{cbc_text}
 use Rattle.mbj_types.specs.Result.{range}
 use Rattle.mbj_stage.proofs.EntryEnds.{cbc-accepted, ciphered-cbc}
@@ -12,7 +12,7 @@ pub new-requires : goal.new-requires
 new-requires g c =
     let j : Job = c.args.job.now in
     let a = cbc-accepted j (length c.args.packet.items) c.requires.accepted c.requires.cbc in
-    let rounds = c.expand-key.ensures.length ∙ ap (λ (k : List ℕ). 16 * (rounds_of k + 1)) c.as_slice.ensures
+    let rounds = c.expand-key.ensures.length ∙ ap (λ (k : List ℕ). 16 * (round_count k + 1)) c.as_slice.ensures
     ∙ ap (λ (n : ℕ). 16 * (n + 1)) c.requires.rounds in
     (omega arith, (rounds, (a.range, (a.some, a.whole))))
 

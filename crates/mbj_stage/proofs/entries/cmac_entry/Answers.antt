@@ -4,7 +4,7 @@ use Rattle.std.proofs.Math.Path.{fun_ext}
 use Rattle.mbj_aes.specs.Bytes.{IsKeySize}
 use Rattle.mbj_args.proofs.Accepted.{accepted}
 use Rattle.mbj_types.specs.declared.job.Job.{Job}
-use Rattle.mbj_types.specs.Aes.{aes, encipher, rounds_of}
+use Rattle.mbj_types.specs.Aes.{aes, encipher, round_count}
 use Rattle.mbj_types.specs.Cmac.{cmac}
 use Rattle.mbj_types.specs.Result.{hash_range}
 use Rattle.mbj_stage.proofs.Tags.{cmac_has_range, cmac_is_mac, cmac_key}
@@ -19,7 +19,7 @@ expand-key-requires g c =
 pub new-requires : goal.new-requires
 new-requires g c =
     let j : Job = c.args.job.now in
-    let rounds = c.expand-key.ensures.length ∙ ap (λ (k : List ℕ). 16 * (rounds_of k + 1)) c.as_slice.ensures
+    let rounds = c.expand-key.ensures.length ∙ ap (λ (k : List ℕ). 16 * (round_count k + 1)) c.as_slice.ensures
     ∙ ap (λ (n : ℕ). 16 * (n + 1)) c.requires.rounds in
     (omega arith, (rounds, (accepted j (length c.args.packet.items) c.requires.accepted).hash_range (cmac_has_range j.auth c.requires.cmac)))
 

@@ -1,7 +1,7 @@
 -- The array is the schedule of the key and zeros, and the view is the schedule.
 use Rattle.std.proofs.Common.{◌≡◌, ◌+◌, ◌*◌, take, ap, length, ◌∙◌, arith}
 use Rattle.mbj_types.specs.Aes.{key_schedule, encipher, decipher}
-use Rattle.mbj_aes.proofs.ExpandedKeys.{IsExpansion, IsRoundCount-rounds_of, IsBytes-expansion, IsPadded-expansion, take-expansion, length-key_schedule, encipher-key_schedule, decipher-key_schedule}
+use Rattle.mbj_aes.proofs.ExpandedKeys.{IsExpansion, IsRoundCount-round_count, IsBytes-expansion, IsPadded-expansion, take-expansion, length-key_schedule, encipher-key_schedule, decipher-key_schedule}
 use Rattle.mbj_aes.proofs.States.{IsBytes-told}
 use Rattle.mbj_aes.proofs.schedule.Schedule.expand.Goals as goal
 
@@ -18,7 +18,7 @@ view_is c = take-expansion c.args.key.now c.expanded_key.result c.round_count.re
 
 pub invariant_of-result : goal.invariant_of-result
 invariant_of-result c = (
-  IsRoundCount-rounds_of (length c.args.key.now) c.round_count.result c.requires c.round_count.ensures,
+  IsRoundCount-round_count (length c.args.key.now) c.round_count.result c.requires c.round_count.ensures,
   IsBytes-expansion c.args.key.now c.expanded_key.result c.round_count.result (expansion c),
   IsPadded-expansion c.args.key.now c.expanded_key.result c.round_count.result (expansion c),
 )
