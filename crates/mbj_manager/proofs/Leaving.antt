@@ -5,7 +5,8 @@ use Rattle.std.proofs.lemmas.Bool.{cases_eq, eq-eqb, eqb-false, not-true, cases_
 use Rattle.std.proofs.lemmas.List.{length-map}
 use Rattle.std.proofs.lemmas.List.Filters.{length-filter_both}
 use Rattle.std.proofs.lemmas.List.Elements.{All-weaker, filter_passes}
-use Rattle.mbj_manager.specs.Machine.{Waiting, least, least_from, lowered, shortened, is_at_end, leavers, stayers}
+use Rattle.mbj_lane.specs.Rounds.{least_from}
+use Rattle.mbj_manager.specs.Machine.{Waiting, least, lowered, rest_of, shortened, is_at_end, leavers, stayers}
 
 -- each of the list leaves or stays
 pub leave-or-stay : (ws : List Waiting) → length (leavers (shortened ws)) + length (stayers (shortened ws)) ≡ length ws
@@ -28,7 +29,7 @@ leaves-first : (w : Waiting) (ws : List Waiting) → w.rest ≡ 0 → 0 < length
 leaves-first w ws e = let t : is_at_end w ≡ true = eq-eqb w.rest 0 e in rw t (omega arith)
 
 -- the least is n itself or the rest of one of the list, who leaves
-least-leaves : (m n : ℕ) (ws : List Waiting) → m ≡ least_from n ws → (m ≡ n) ⊎ (0 < length (leavers (map (lowered m) ws)))
+least-leaves : (m n : ℕ) (ws : List Waiting) → m ≡ least_from rest_of n ws → (m ≡ n) ⊎ (0 < length (leavers (map (lowered m) ws)))
 least-leaves m n [] e = inl e
 least-leaves m n (w ∷ ws) e = elim (least-leaves m (min n w.rest) ws e) [
   | inl i ↦ (elim (cases_eq m n) [
@@ -42,7 +43,7 @@ least-leaves m n (w ∷ ws) e = elim (least-leaves m (min n w.rest) ws e) [
 pub some-leave : (ws : List Waiting) → 0 < length ws → 0 < length (leavers (shortened ws))
 some-leave [] h = absurd (omega arith)
 some-leave (w ∷ ws) h =
-    let m = least_from w.rest ws in
+    let m = least_from rest_of w.rest ws in
     elim (least-leaves m w.rest ws refl) [
       | inl e ↦ leaves-first (lowered m w) (map (lowered m) ws) (omega arith)
       | inr l ↦ leaves-more (lowered m w) (map (lowered m) ws) l

@@ -8,7 +8,7 @@ use Rattle.mbj_types.specs.declared.kind.Kind.TheVariants as kind
 use Rattle.mbj_stage.specs.Going.{Going}
 use Rattle.mbj_stage.specs.Handing.{handed_out, taken_back}
 use Rattle.mbj_manager.specs.Rounds.{Pending, pending}
-use Rattle.mbj_manager.specs.Machine.{Lane, Lanes, Machine, Waiting, Within, submit, flush, changed, count_end, lane_in, lane_for, lanes_by, least, least_from, leavers, lowered, ran, run_within, shortened, stage_done, stayers, with_lane, with_run, with_waiting, without_first}
+use Rattle.mbj_manager.specs.Machine.{Lane, Lanes, Machine, Waiting, Within, submit, flush, changed, count_end, lane_in, lane_for, lanes_by, least, leavers, lowered, ran, rest_of, run_within, shortened, stage_done, stayers, with_lane, with_run, with_waiting, without_first}
 use Rattle.mbj_manager.specs.Course.{joined, run_if_full, waits}
 use Rattle.mbj_manager.specs.Inside.Pairs.{pair_rest}
 use Rattle.mbj_manager.specs.Inside.Leaving.{finishers, numbers, others, returned}
@@ -21,7 +21,7 @@ use Rattle.mbj_manager.proofs.SeenAhead.{zero-or}
 
 -- ---- lists
 
-least_from-seen : (n : ℕ) (ws : List Waiter) → least_from n (map waiting ws) ≡ least_of_from (pair_rest rounds_in) n ws
+least_from-seen : (n : ℕ) (ws : List Waiter) → least_of_from rest_of n (map waiting ws) ≡ least_of_from (pair_rest rounds_in) n ws
 least_from-seen n [] = refl
 least_from-seen n (w ∷ ws) = least_from-seen (min n w.1.rounds) ws
 

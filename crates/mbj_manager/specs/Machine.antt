@@ -1,5 +1,6 @@
 -- The lane machine: which jobs wait for lanes, in which order, and what one run takes off them. It moves numbers alone.
-use Rattle.std.specs.Prelude.{ℕ, ◌+◌, ◌*◌, ◌-◌, ◌%◌, ◌^◌, ◌==◌, min, zero, suc, Bool, List, [], ◌∷◌, ◌++◌, map, filter, length, not}
+use Rattle.std.specs.Prelude.{ℕ, ◌+◌, ◌*◌, ◌-◌, ◌%◌, ◌^◌, ◌==◌, zero, suc, Bool, List, [], ◌∷◌, ◌++◌, map, filter, length, not}
+use Rattle.mbj_lane.specs.Rounds.{least as least_of}
 use Rattle.mbj_types.specs.declared.kind.Kind.{Kind}
 use Rattle.mbj_types.specs.declared.kind.Kind.TheVariants as kind
 use Rattle.mbj_manager.specs.Rounds.{Pending}
@@ -100,14 +101,9 @@ lane_for k m = lane_in k m.lanes
 abbrev pub rest_of : Waiting → ℕ
 rest_of w = w.rest
 
-abbrev pub least_from : ℕ → List Waiting → ℕ
-least_from n [] = n
-least_from n (w ∷ ws) = least_from (min n w.rest) ws
-
 -- the least rest in a list
 abbrev pub least : List Waiting → ℕ
-least [] = 0
-least (w ∷ ws) = least_from w.rest ws
+least ws = least_of rest_of ws
 
 abbrev pub lowered : ℕ → Waiting → Waiting
 lowered m w = record { number = w.number; rest = w.rest - m }
