@@ -12,7 +12,7 @@ use Rattle.mbj_types.specs.Result.{result_of}
 use Rattle.mbj_types.specs.declared.job.Job.{Job}
 use Rattle.mbj_types.specs.declared.done.Done.{Done}
 use Rattle.mbj_core.specs.declared.party.View.{View}
-use Rattle.mbj_core.specs.declared.party.Stage.TheVariants.{Rest}
+use Rattle.mbj_core.specs.declared.party.Phase.TheVariants.{Rest}
 use Rattle.mbj_core.specs.declared.cells.TheConstants.{CELLS}
 use Rattle.mbj_core.specs.Cells.{Cell, free, ready, done, hand_of, word_of, result_in, cell_of}
 use Rattle.mbj_core.specs.Parties.{view, front, FrontState, new_party, with_due, with_handed, with_hand}
@@ -46,7 +46,7 @@ module _ (c : CoreState) (size : Sizes c) (f : FrontState Job Done) (sf : Stands
   stands_hand i p x hand same lp results = let w : View Done = with_hand (f.seats p) hand in
       let kept : (j : ℕ) → result_in result_of (put f.cells i x j) ≡ result_in result_of (f.cells j) = λ j. at_put f.cells i x (λ k y. result_in result_of y ≡ result_in result_of (f.cells k)) j same (λ _. refl) in record {
         each_cell = cell_after i x;
-        at_rest = λ q. at_put f.seats p w (λ r y. (y.number ≡ r) × (y.stage ≡ Rest)) q (sf.at_rest p) (λ _. sf.at_rest q);
+        at_rest = λ q. at_put f.seats p w (λ r y. (y.number ≡ r) × (y.phase ≡ Rest)) q (sf.at_rest p) (λ _. sf.at_rest q);
         each_hand = λ q l. at_put f.seats p w (λ r y. r < c.submitters + c.workers → slice_get (set c.hands p (cells_of hand)) r ≡ Some (cells_of y.hand)) q
             (λ _. set_here c.hands p (cells_of hand) (omega (arith, size.hands))) (λ ne l. set_else c.hands p q (cells_of hand) ne ∙ sf.each_hand q l) l;
         hand_results = λ q k j d. at_put f.seats p w (λ r y. slice_get y.hand k ≡ Some (j, d) → result_in result_of (put f.cells i x j) ≡ Some d) q
@@ -65,12 +65,12 @@ module _ (c : CoreState) (size : Sizes c) (f : FrontState Job Done) (sf : Stands
       → handed % CELLS ≡ first → length due ≡ handed + out
       → ((n : ℕ) → handed ≤ n → n < length due → result_in result_of (put f.cells (cell_of s m) x (cell_of s n)) ≡ slice_get due n)
       → let v : View Done = f.seats s in
-      StandsFor (record c { cells = set c.cells (cell_of s m) x; firsts = set c.firsts s first; outs = set c.outs s out }) (front (put f.cells (cell_of s m) x) (put f.seats s (view v.number v.stage due handed v.hand v.looks)))
-  stands_part s m first out x due handed ls lacks is_first is_out results = let v : View Done = f.seats s in let w : View Done = view v.number v.stage due handed v.hand v.looks in let i : ℕ = cell_of s m in
+      StandsFor (record c { cells = set c.cells (cell_of s m) x; firsts = set c.firsts s first; outs = set c.outs s out }) (front (put f.cells (cell_of s m) x) (put f.seats s (view v.number v.phase due handed v.hand v.looks)))
+  stands_part s m first out x due handed ls lacks is_first is_out results = let v : View Done = f.seats s in let w : View Done = view v.number v.phase due handed v.hand v.looks in let i : ℕ = cell_of s m in
       let kept : (p k j : ℕ) (d : Done) → slice_get (f.seats p).hand k ≡ Some (j, d) → result_in result_of (put f.cells i x j) ≡ Some d = λ p k j d at.
       at_put f.cells i x (λ r y. slice_get (f.seats p).hand k ≡ Some (r, d) → result_in result_of y ≡ Some d) j (λ here. absurd (lacks p k d here)) (λ _ at. sf.hand_results p k j d at) at in record {
         each_cell = cell_after i x;
-        at_rest = λ q. at_put f.seats s w (λ r y. (y.number ≡ r) × (y.stage ≡ Rest)) q (sf.at_rest s) (λ _. sf.at_rest q);
+        at_rest = λ q. at_put f.seats s w (λ r y. (y.number ≡ r) × (y.phase ≡ Rest)) q (sf.at_rest s) (λ _. sf.at_rest q);
         each_hand = λ q. at_put f.seats s w (λ r y. r < c.submitters + c.workers → slice_get c.hands r ≡ Some (cells_of y.hand)) q (sf.each_hand s) (λ _. sf.each_hand q);
         hand_results = λ q k j d. at_put f.seats s w (λ r y. slice_get y.hand k ≡ Some (j, d) → result_in result_of (put f.cells i x j) ≡ Some d) q (kept s k j d) (λ _. kept q k j d);
         each_first = λ t l. at_put f.seats s w (λ r y. r < c.submitters → y.handed % CELLS ≡ slice_index (set c.firsts s first) r) t

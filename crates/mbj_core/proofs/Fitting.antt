@@ -5,8 +5,8 @@ use Rattle.std.proofs.lemmas.Option.{none-some, slice_get_within}
 use mathlib.Core.Logic.{dite}
 use native.Mathlib.Decide.{ℕ_discrete, dec_le}
 use Rattle.mbj_core.specs.declared.party.View.{View}
-use Rattle.mbj_core.specs.declared.party.Stage.{Stage}
-use Rattle.mbj_core.specs.declared.party.Stage.TheVariants.{Rest, Opening, Emptying}
+use Rattle.mbj_core.specs.declared.party.Phase.{Phase}
+use Rattle.mbj_core.specs.declared.party.Phase.TheVariants.{Rest, Opening, Emptying}
 use Rattle.mbj_core.specs.declared.cells.TheConstants.{CELLS}
 use Rattle.mbj_core.specs.Cells.{Cell, free, ready, done, open_by, hand_of, take_by, result_in, cell_of}
 use Rattle.mbj_core.specs.Parties.{FrontState, new_party}
@@ -33,15 +33,15 @@ module _ {J D : Type 0} (owed : J → D) where
   -- handed out last, is that of the last of them, v.handed + CELLS - 1.
   abbrev pub Fits : View D → ℕ → ℕ → Cell J D → Type 0
   -- n isn't out, and its cell is neither being filled nor being emptied
-  Fits v s n free = (length v.due ≤ n) × (v.stage ≡ Opening → n ≢ length v.due) × (v.stage ≡ Emptying → n + 1 ≢ v.handed + CELLS)
+  Fits v s n free = (length v.due ≤ n) × (v.phase ≡ Opening → n ≢ length v.due) × (v.phase ≡ Emptying → n + 1 ≢ v.handed + CELLS)
   -- n is out, and this is its result
   Fits v s n (ready j) = slice_get v.due n ≡ Some (owed j)
   Fits v s n (done d) = slice_get v.due n ≡ Some d
   Fits v s n (hand_of p d) = slice_get v.due n ≡ Some d
   -- n is the number of the next job, and the submitter fills its cell
-  Fits v s n (open_by p) = (n ≡ length v.due) × (p ≡ s) × (v.stage ≡ Opening)
+  Fits v s n (open_by p) = (n ≡ length v.due) × (p ≡ s) × (v.phase ≡ Opening)
   -- the submitter empties the cell of the number v.handed - 1
-  Fits v s n (take_by p) = (n + 1 ≡ v.handed + CELLS) × (p ≡ s) × (v.stage ≡ Emptying)
+  Fits v s n (take_by p) = (n + 1 ≡ v.handed + CELLS) × (p ≡ s) × (v.phase ≡ Emptying)
 
   -- the cell of a number that is out fits it, if it has the result that is due
   pub fits_due : (v : View D) (s n : ℕ) (y : Cell J D) → n < length v.due → result_in owed y ≡ slice_get v.due n → Fits v s n y
@@ -52,7 +52,7 @@ module _ {J D : Type 0} (owed : J → D) where
   fits_due v s n (hand_of p d) l e = sym e
   fits_due v s n (take_by p) l e = let h = at_index v.due n l in absurd (none-some h.0 (e ∙ h.1))
 
-  due_there : (v : View D) (s n : ℕ) (y : Cell J D) → Fits v s n y → n < length v.due → (v.stage ≡ Emptying → length v.due < v.handed + CELLS) → result_in owed y ≡ slice_get v.due n
+  due_there : (v : View D) (s n : ℕ) (y : Cell J D) → Fits v s n y → n < length v.due → (v.phase ≡ Emptying → length v.due < v.handed + CELLS) → result_in owed y ≡ slice_get v.due n
   due_there v s n free h l room = absurd (omega (arith, h.0))
   due_there v s n (ready j) h l room = sym h
   due_there v s n (done d) h l room = sym h
@@ -60,7 +60,7 @@ module _ {J D : Type 0} (owed : J → D) where
   due_there v s n (hand_of p d) h l room = sym h
   due_there v s n (take_by p) h l room = let few = room h.2 in absurd (omega (arith, h.0))
 
-  pub open_there : (v : View D) (s n : ℕ) (y : Cell J D) → Fits v s n y → v.stage ≡ Opening → n ≡ length v.due → Is (open_by s) y
+  pub open_there : (v : View D) (s n : ℕ) (y : Cell J D) → Fits v s n y → v.phase ≡ Opening → n ≡ length v.due → Is (open_by s) y
   open_there v s n free h r e = absurd (h.1 r e)
   open_there v s n (ready j) h r e = let l = slice_get_within v.due n (owed j) h in absurd (omega arith)
   open_there v s n (done d) h r e = let l = slice_get_within v.due n d h in absurd (omega arith)
@@ -68,7 +68,7 @@ module _ {J D : Type 0} (owed : J → D) where
   open_there v s n (hand_of p d) h r e = let l = slice_get_within v.due n d h in absurd (omega arith)
   open_there v s n (take_by p) h r e = absurd (open_take (sym r ∙ h.2))
 
-  pub take_there : (v : View D) (s n : ℕ) (y : Cell J D) → Fits v s n y → v.stage ≡ Emptying → n + 1 ≡ v.handed + CELLS → length v.due < v.handed + CELLS → Is (take_by s) y
+  pub take_there : (v : View D) (s n : ℕ) (y : Cell J D) → Fits v s n y → v.phase ≡ Emptying → n + 1 ≡ v.handed + CELLS → length v.due < v.handed + CELLS → Is (take_by s) y
   take_there v s n free h r e le = absurd (h.2 r e)
   take_there v s n (ready j) h r e le = let l = slice_get_within v.due n (owed j) h in absurd (omega arith)
   take_there v s n (done d) h r e le = let l = slice_get_within v.due n d h in absurd (omega arith)
@@ -76,7 +76,7 @@ module _ {J D : Type 0} (owed : J → D) where
   take_there v s n (hand_of p d) h r e le = let l = slice_get_within v.due n d h in absurd (omega arith)
   take_there v s n (take_by p) h r e le = ap take_by h.1
 
-  idle_there : (v : View D) (s n : ℕ) (y : Cell J D) → Fits v s n y → length v.due ≤ n → (v.stage ≡ Opening → n ≢ length v.due) → (v.stage ≡ Emptying → n + 1 ≢ v.handed + CELLS) → Is free y
+  idle_there : (v : View D) (s n : ℕ) (y : Cell J D) → Fits v s n y → length v.due ≤ n → (v.phase ≡ Opening → n ≢ length v.due) → (v.phase ≡ Emptying → n + 1 ≢ v.handed + CELLS) → Is free y
   idle_there v s n free h e o t = refl
   idle_there v s n (ready j) h e o t = let l = slice_get_within v.due n (owed j) h in absurd (omega arith)
   idle_there v s n (done d) h e o t = let l = slice_get_within v.due n d h in absurd (omega arith)
@@ -85,20 +85,20 @@ module _ {J D : Type 0} (owed : J → D) where
   idle_there v s n (take_by p) h e o t = absurd (t h.2 h.0)
 
   -- at rest, the cell of a number that isn't out is free
-  pub free_there : (v : View D) (s n : ℕ) (y : Cell J D) → Fits v s n y → v.stage ≡ Rest → length v.due ≤ n → Is free y
+  pub free_there : (v : View D) (s n : ℕ) (y : Cell J D) → Fits v s n y → v.phase ≡ Rest → length v.due ≤ n → Is free y
   free_there v s n y h r e = idle_there v s n y h e (λ o. absurd (rest_open (sym r ∙ o))) (λ t. absurd (rest_take (sym r ∙ t)))
 
   -- the law, with one sentence on the cell of each number
   pub record Fitted (submitters workers : ℕ) (f : FrontState J D) : Type 0 where
     pub behind : (s : ℕ) → (f.seats s).handed ≤ length (f.seats s).due
     pub within : (s : ℕ) → length (f.seats s).due ≤ (f.seats s).handed + CELLS
-    pub spare : (s : ℕ) → (f.seats s).stage ≢ Rest → length (f.seats s).due < (f.seats s).handed + CELLS
-    pub emptied : (s : ℕ) → (f.seats s).stage ≡ Emptying → 1 ≤ (f.seats s).handed
+    pub spare : (s : ℕ) → (f.seats s).phase ≢ Rest → length (f.seats s).due < (f.seats s).handed + CELLS
+    pub emptied : (s : ℕ) → (f.seats s).phase ≡ Emptying → 1 ≤ (f.seats s).handed
     pub each_number : (s n : ℕ) → s < submitters → (f.seats s).handed ≤ n → n < (f.seats s).handed + CELLS → Fits (f.seats s) s n (f.cells (cell_of s n))
     pub in_hand : (p k c : ℕ) (d : D) → slice_get (f.seats p).hand k ≡ Some (c, d) → (c < CELLS * submitters) × (f.cells c ≡ hand_of p d)
     pub held : (p c : ℕ) (d : D) → c < CELLS * submitters → f.cells c ≡ hand_of p d → (k : ℕ) × (slice_get (f.seats p).hand k ≡ Some (c, d))
     pub once : (p k l c : ℕ) (d e : D) → slice_get (f.seats p).hand k ≡ Some (c, d) → slice_get (f.seats p).hand l ≡ Some (c, e) → k ≡ l
-    pub posters : (p : ℕ) → submitters ≤ p → ((f.seats p).due ≡ []) × ((f.seats p).stage ≡ Rest)
+    pub posters : (p : ℕ) → submitters ≤ p → ((f.seats p).due ≡ []) × ((f.seats p).phase ≡ Rest)
     pub nobody : (p : ℕ) → submitters + workers ≤ p → f.seats p ≡ new_party p
 
   module _ (submitters workers : ℕ) (f : FrontState J D) where
@@ -126,7 +126,7 @@ module _ {J D : Type 0} (owed : J → D) where
     }
 
     pub each_number : Lawful owed submitters workers f → (s n : ℕ) → s < submitters → (f.seats s).handed ≤ n → n < (f.seats s).handed + CELLS → Fits (f.seats s) s n (f.cells (cell_of s n))
-    each_number law s n l lo hi = dite (dec_le (length v.due) n) (λ past. not_out past v.stage refl) (λ out. let near : n < length v.due = omega arith in fits_due v s n y near (law.each_out s n l lo near))
+    each_number law s n l lo hi = dite (dec_le (length v.due) n) (λ past. not_out past v.phase refl) (λ out. let near : n < length v.due = omega arith in fits_due v s n y near (law.each_out s n l lo near))
       where
         v : View D
         v = f.seats s
@@ -134,7 +134,7 @@ module _ {J D : Type 0} (owed : J → D) where
         y : Cell J D
         y = f.cells (cell_of s n)
 
-        not_out : length v.due ≤ n → (stage : Stage) → v.stage ≡ stage → Fits v s n y
+        not_out : length v.due ≤ n → (phase : Phase) → v.phase ≡ phase → Fits v s n y
         not_out past Rest r = subst (Fits v s n) (sym (law.idle s n l past hi (λ o. absurd (rest_open (sym r ∙ o))) (λ t. absurd (rest_take (sym r ∙ t)))))
             (past, (λ o. absurd (rest_open (sym r ∙ o))), λ t. absurd (rest_take (sym r ∙ t)))
         not_out past Opening o = dite (ℕ_discrete n (length v.due))

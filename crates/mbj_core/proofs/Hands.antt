@@ -2,7 +2,7 @@
 use Rattle.std.proofs.Common.{◌≡◌, ◌≢◌, ℕ, ◌+◌, ◌-◌, ◌*◌, ◌<◌, ◌≤◌, List, [], ◌∷◌, ◌++◌, length, sym, refl, ap, ◌∙◌, subst, ⊎_elim, arith}
 use Rattle.std.specs.Prelude.{Some, slice_get}
 use Rattle.mbj_core.specs.declared.party.View.{View}
-use Rattle.mbj_core.specs.declared.party.Stage.TheVariants.{Rest, Opening, Emptying}
+use Rattle.mbj_core.specs.declared.party.Phase.TheVariants.{Rest, Opening, Emptying}
 use Rattle.mbj_core.specs.declared.cells.TheConstants.{CELLS}
 use Rattle.mbj_core.specs.Cells.{Cell, free, ready, done, open_by, hand_of, take_by, result_in, cell_of}
 use Rattle.mbj_core.specs.Parties.{view, front, FrontState, new_party}
@@ -26,7 +26,7 @@ module _ {J D : Type 0} where
 
 module _ {J D : Type 0} (owed : J → D) where
   -- what fits does not ask for hand and looks
-  pub same_fits : (v : View D) (hand : List (ℕ × D)) (looks : List (ℕ × ℕ)) (s n : ℕ) (y : Cell J D) → Fits owed v s n y → Fits owed (view v.number v.stage v.due v.handed hand looks) s n y
+  pub same_fits : (v : View D) (hand : List (ℕ × D)) (looks : List (ℕ × ℕ)) (s n : ℕ) (y : Cell J D) → Fits owed v s n y → Fits owed (view v.number v.phase v.due v.handed hand looks) s n y
   same_fits v hand looks s n free h = h
   same_fits v hand looks s n (ready j) h = h
   same_fits v hand looks s n (done d) h = h
@@ -35,7 +35,7 @@ module _ {J D : Type 0} (owed : J → D) where
   same_fits v hand looks s n (take_by p) h = h
 
   abbrev pub rehanded : View D → List (ℕ × D) → List (ℕ × ℕ) → View D
-  rehanded v hand looks = view v.number v.stage v.due v.handed hand looks
+  rehanded v hand looks = view v.number v.phase v.due v.handed hand looks
 
   -- the hand of p and its looks change, and one cell, for one that fits wherever the old one does
   pub rehands : (S W : ℕ) (f : FrontState J D) (c p : ℕ) (x : Cell J D) (hand : List (ℕ × D)) (looks : List (ℕ × ℕ)) → Lawful owed S W f → p < S + W
@@ -47,8 +47,8 @@ module _ {J D : Type 0} (owed : J → D) where
   rehands S W f c p x hand looks law lp fits in_hand held once = let w : View D = rehanded (f.seats p) hand looks in lawful owed S W _ (record {
     behind = λ s. at_put f.seats p w (λ q y. y.handed ≤ length y.due) s (law.behind p) (λ _. law.behind s);
     within = λ s. at_put f.seats p w (λ q y. length y.due ≤ y.handed + CELLS) s (law.within p) (λ _. law.within s);
-    spare = λ s. at_put f.seats p w (λ q y. y.stage ≢ Rest → length y.due < y.handed + CELLS) s (law.spare p) (λ _. law.spare s);
-    emptied = λ s. at_put f.seats p w (λ q y. y.stage ≡ Emptying → 1 ≤ y.handed) s (law.emptied p) (λ _. law.emptied s);
+    spare = λ s. at_put f.seats p w (λ q y. y.phase ≢ Rest → length y.due < y.handed + CELLS) s (law.spare p) (λ _. law.spare s);
+    emptied = λ s. at_put f.seats p w (λ q y. y.phase ≡ Emptying → 1 ≤ y.handed) s (law.emptied p) (λ _. law.emptied s);
     each_number = λ s n less. let all : (v : View D) → Fits owed v s n (f.cells (cell_of s n)) → Fits owed v s n (put f.cells c x (cell_of s n)) = λ v old.
         at_put f.cells c x (λ i y. i ≡ cell_of s n → Fits owed v s n y) (cell_of s n) (λ e. fits v s n (subst (λ (i : ℕ). Fits owed v s n (f.cells i)) (sym e) old)) (λ _ _. old) refl in
         at_put f.seats p w (λ q y. q ≡ s → y.handed ≤ n → n < y.handed + CELLS → Fits owed y s n (put f.cells c x (cell_of s n))) s
@@ -57,7 +57,7 @@ module _ {J D : Type 0} (owed : J → D) where
     in_hand = in_hand;
     held = held;
     once = λ q k l i d e. at_put f.seats p w (λ q y. slice_get y.hand k ≡ Some (i, d) → slice_get y.hand l ≡ Some (i, e) → k ≡ l) q (once k l i d e) (λ _. law.once q k l i d e);
-    posters = λ q far. at_put f.seats p w (λ q y. S ≤ q → (y.due ≡ []) × (y.stage ≡ Rest)) q (law.posters p) (λ _. law.posters q) far;
+    posters = λ q far. at_put f.seats p w (λ q y. S ≤ q → (y.due ≡ []) × (y.phase ≡ Rest)) q (law.posters p) (λ _. law.posters q) far;
     nobody = λ q far. at_put f.seats p w (λ q y. S + W ≤ q → y ≡ new_party q) q (λ far. absurd (omega arith)) (λ _. law.nobody q) far;
   })
 
@@ -122,17 +122,17 @@ module _ {J D : Type 0} (owed : J → D) where
   relooks S W f p looks law lp = let v : View D = f.seats p in let w : View D = rehanded v v.hand looks in record {
     behind = λ s. at_put f.seats p w (λ q y. y.handed ≤ length y.due) s (law.behind p) (λ _. law.behind s);
     within = λ s. at_put f.seats p w (λ q y. length y.due ≤ y.handed + CELLS) s (law.within p) (λ _. law.within s);
-    spare = λ s. at_put f.seats p w (λ q y. y.stage ≢ Rest → length y.due < y.handed + CELLS) s (law.spare p) (λ _. law.spare s);
-    emptied = λ s. at_put f.seats p w (λ q y. y.stage ≡ Emptying → 1 ≤ y.handed) s (law.emptied p) (λ _. law.emptied s);
+    spare = λ s. at_put f.seats p w (λ q y. y.phase ≢ Rest → length y.due < y.handed + CELLS) s (law.spare p) (λ _. law.spare s);
+    emptied = λ s. at_put f.seats p w (λ q y. y.phase ≡ Emptying → 1 ≤ y.handed) s (law.emptied p) (λ _. law.emptied s);
     each_out = λ s n. at_put f.seats p w (λ q y. q < S → y.handed ≤ n → n < length y.due → result_in owed (f.cells (cell_of q n)) ≡ slice_get y.due n) s (law.each_out p n) (λ _. law.each_out s n);
-    filling = λ s. at_put f.seats p w (λ q y. q < S → y.stage ≡ Opening → f.cells (cell_of q (length y.due)) ≡ open_by q) s (law.filling p) (λ _. law.filling s);
-    emptying = λ s. at_put f.seats p w (λ q y. q < S → y.stage ≡ Emptying → f.cells (cell_of q (y.handed - 1)) ≡ take_by q) s (law.emptying p) (λ _. law.emptying s);
+    filling = λ s. at_put f.seats p w (λ q y. q < S → y.phase ≡ Opening → f.cells (cell_of q (length y.due)) ≡ open_by q) s (law.filling p) (λ _. law.filling s);
+    emptying = λ s. at_put f.seats p w (λ q y. q < S → y.phase ≡ Emptying → f.cells (cell_of q (y.handed - 1)) ≡ take_by q) s (law.emptying p) (λ _. law.emptying s);
     idle = λ s n. at_put f.seats p w
-        (λ q y. q < S → length y.due ≤ n → n < y.handed + CELLS → (y.stage ≡ Opening → cell_of q n ≢ cell_of q (length y.due)) → (y.stage ≡ Emptying → cell_of q n ≢ cell_of q (y.handed - 1)) → f.cells (cell_of q n) ≡ free) s
+        (λ q y. q < S → length y.due ≤ n → n < y.handed + CELLS → (y.phase ≡ Opening → cell_of q n ≢ cell_of q (length y.due)) → (y.phase ≡ Emptying → cell_of q n ≢ cell_of q (y.handed - 1)) → f.cells (cell_of q n) ≡ free) s
         (law.idle p n) (λ _. law.idle s n);
     in_hand = λ q k i d. at_put f.seats p w (λ q y. slice_get y.hand k ≡ Some (i, d) → (i < CELLS * S) × (f.cells i ≡ hand_of q d)) q (law.in_hand p k i d) (λ _. law.in_hand q k i d);
     held = λ q i d. at_put f.seats p w (λ q y. i < CELLS * S → f.cells i ≡ hand_of q d → (k : ℕ) × (slice_get y.hand k ≡ Some (i, d))) q (law.held p i d) (λ _. law.held q i d);
     once = λ q k l i d e. at_put f.seats p w (λ q y. slice_get y.hand k ≡ Some (i, d) → slice_get y.hand l ≡ Some (i, e) → k ≡ l) q (law.once p k l i d e) (λ _. law.once q k l i d e);
-    posters = λ q. at_put f.seats p w (λ q y. S ≤ q → (y.due ≡ []) × (y.stage ≡ Rest)) q (law.posters p) (λ _. law.posters q);
+    posters = λ q. at_put f.seats p w (λ q y. S ≤ q → (y.due ≡ []) × (y.phase ≡ Rest)) q (law.posters p) (λ _. law.posters q);
     nobody = λ q far. at_put f.seats p w (λ q y. S + W ≤ q → y ≡ new_party q) q (λ far. absurd (omega arith)) (λ _. law.nobody q) far;
   }

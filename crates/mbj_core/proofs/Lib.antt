@@ -3,7 +3,7 @@ pub mod Entries
 pub mod Fitting
 pub mod Hands
 pub mod Posts
-pub mod Stages
+pub mod Phases
 pub mod Steps
 pub mod RunLaws
 pub mod Words

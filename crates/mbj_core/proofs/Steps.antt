@@ -2,7 +2,7 @@
 use Rattle.std.proofs.Common.{◌≡◌, ℕ, ◌+◌, [], ◌∷◌, ◌++◌, length, sym, refl, ap, subst}
 use mathlib.Core.Path.{fun_ext}
 use Rattle.mbj_core.specs.declared.party.View.{View}
-use Rattle.mbj_core.specs.declared.party.Stage.TheVariants.{Rest}
+use Rattle.mbj_core.specs.declared.party.Phase.TheVariants.{Rest}
 use Rattle.mbj_core.specs.Cells.{Cell, free, ready, done, hand_of, cell_of}
 use Rattle.mbj_core.specs.Parties.{view, front, FrontState, with_due, with_handed, with_hand}
 use Rattle.mbj_core.specs.Lawful.{Lawful}
@@ -14,7 +14,7 @@ use Rattle.mbj_core.proofs.Posts.{posts, collects}
 module _ {J D : Type 0} where
   -- every party is at rest
   abbrev pub AtRest : FrontState J D → Type 0
-  AtRest f = (p : ℕ) → (f.seats p).stage ≡ Rest
+  AtRest f = (p : ℕ) → (f.seats p).phase ≡ Rest
 
   -- two states with the same cells and seats are one
   pub same_front : (f g : FrontState J D) → ((i : ℕ) → g.cells i ≡ f.cells i) → ((q : ℕ) → g.seats q ≡ f.seats q) → g ≡ f
@@ -33,14 +33,14 @@ module _ {J D : Type 0} where
     other_parties = λ q ne. put_else f.seats p q v ne;
   }
 
-  rests : (f g : FrontState J D) (c : ℕ) (x : Cell J D) (p : ℕ) (v : View D) → Changes f g c x p v → v.stage ≡ Rest → AtRest f → AtRest g
-  rests f g c x p v ch r all q = subst (λ (h : FrontState J D). (h.seats q).stage ≡ Rest) (sym (changes_are f g c x p v ch)) (at_put f.seats p v (λ r y. y.stage ≡ Rest) q r (λ _. all q))
+  rests : (f g : FrontState J D) (c : ℕ) (x : Cell J D) (p : ℕ) (v : View D) → Changes f g c x p v → v.phase ≡ Rest → AtRest f → AtRest g
+  rests f g c x p v ch r all q = subst (λ (h : FrontState J D). (h.seats q).phase ≡ Rest) (sym (changes_are f g c x p v ch)) (at_put f.seats p v (λ r y. y.phase ≡ Rest) q r (λ _. all q))
 
 module _ {J D : Type 0} (owed : J → D) (submitters workers : ℕ) where
   abbrev pub Sound : FrontState J D → Type 0
   Sound f = AtRest f × Lawful owed submitters workers f
 
-  changed : (f g : FrontState J D) (c : ℕ) (x : Cell J D) (p : ℕ) (v w : View D) → Changes f g c x p v → w ≡ v → v.stage ≡ Rest → AtRest f → Lawful owed submitters workers (front (put f.cells c x) (put f.seats p w)) → Sound g
+  changed : (f g : FrontState J D) (c : ℕ) (x : Cell J D) (p : ℕ) (v w : View D) → Changes f g c x p v → w ≡ v → v.phase ≡ Rest → AtRest f → Lawful owed submitters workers (front (put f.cells c x) (put f.seats p w)) → Sound g
   changed f g c x p v w ch same r all law = (
     rests f g c x p v ch r all,
     subst (Lawful owed submitters workers) (sym (changes_are f g c x p v ch)) (subst (λ (u : View D). Lawful owed submitters workers (front (put f.cells c x) (put f.seats p u))) same law),

@@ -2,8 +2,8 @@
 use Rattle.std.specs.Prelude.{ℕ, List, []}
 use Rattle.mbj_core.specs.Cells.{Cell, free}
 use Rattle.mbj_core.specs.declared.party.View.{View}
-use Rattle.mbj_core.specs.declared.party.Stage.{Stage}
-use Rattle.mbj_core.specs.declared.party.Stage.TheVariants.{Rest}
+use Rattle.mbj_core.specs.declared.party.Phase.{Phase}
+use Rattle.mbj_core.specs.declared.party.Phase.TheVariants.{Rest}
 
 -- Party p is the submitter p where p is below the number of submitters, and else a worker.
 pub record FrontState (J D : Type 0) : Type 0 where
@@ -11,8 +11,8 @@ pub record FrontState (J D : Type 0) : Type 0 where
   pub seats : ℕ → View D
 
 module _ {D : Type 0} where
-  abbrev pub view : ℕ → Stage → List D → ℕ → List (ℕ × D) → List (ℕ × ℕ) → View D
-  view p stage due handed hand looks = record { number = p; stage = stage; due = due; handed = handed; hand = hand; looks = looks }
+  abbrev pub view : ℕ → Phase → List D → ℕ → List (ℕ × D) → List (ℕ × ℕ) → View D
+  view p phase due handed hand looks = record { number = p; phase = phase; due = due; handed = handed; hand = hand; looks = looks }
 
   -- a party that has done nothing
   abbrev pub new_party : ℕ → View D
@@ -20,13 +20,13 @@ module _ {D : Type 0} where
 
   -- the same party with another list of results, with n results handed out, and with another hand
   abbrev pub with_due : View D → List D → View D
-  with_due v due = view v.number v.stage due v.handed v.hand v.looks
+  with_due v due = view v.number v.phase due v.handed v.hand v.looks
 
   abbrev pub with_handed : View D → ℕ → View D
-  with_handed v n = view v.number v.stage v.due n v.hand v.looks
+  with_handed v n = view v.number v.phase v.due n v.hand v.looks
 
   abbrev pub with_hand : View D → List (ℕ × D) → View D
-  with_hand v hand = view v.number v.stage v.due v.handed hand v.looks
+  with_hand v hand = view v.number v.phase v.due v.handed hand v.looks
 
 module _ {J D : Type 0} where
   abbrev pub front : (ℕ → Cell J D) → (ℕ → View D) → FrontState J D

@@ -15,7 +15,7 @@ pub use laws::{
     results_come_in_the_order_of_posts,
 };
 pub use machine::Core;
-pub use party::{Stage, View};
+pub use party::{Phase, View};
 
 #[cfg(test)]
 mod tests;

@@ -1,7 +1,7 @@
 use std::collections::LinkedList;
 
 /// What a submitter is in the midst of. A worker is always at rest.
-pub enum Stage {
+pub enum Phase {
     /// Nothing.
     Rest,
     /// It fills the cell of its next job.
@@ -15,7 +15,7 @@ pub struct View<D> {
     /// The party's number.
     pub number: u64,
     /// What it is in the midst of.
-    pub stage: Stage,
+    pub phase: Phase,
     /// The results of the jobs that it has posted, from the first one on, in the order of its posts.
     pub due: LinkedList<D>,
     /// How many of them it has been handed.

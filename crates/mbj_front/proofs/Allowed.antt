@@ -9,20 +9,20 @@ use Rattle.atomic_table.specs.Table.{State, Act, keeps, takes, gives, Valid, ste
 use Rattle.atomic_table.proofs.Lists.{exchanged}
 use Rattle.mbj_core.specs.declared.cells.TheConstants.{CELLS}
 use Rattle.mbj_core.specs.declared.party.View.{View}
-use Rattle.mbj_core.specs.declared.party.Stage.TheVariants.{Rest, Opening, Emptying}
+use Rattle.mbj_core.specs.declared.party.Phase.TheVariants.{Rest, Opening, Emptying}
 use Rattle.mbj_core.specs.Cells.{Cell, free, ready, done, open_by, hand_of, take_by, word_of, cell_of}
 use Rattle.mbj_core.specs.Parties.{FrontState, front}
 use Rattle.mbj_core.specs.Lawful.{Lawful}
 use Rattle.mbj_core.proofs.Puts.{put, put_here, put_else}
 use Rattle.mbj_core.proofs.Fitting.{Is, each_number}
 use Rattle.mbj_core.proofs.Posts.{near}
-use Rattle.mbj_core.proofs.Stages.{done_there}
+use Rattle.mbj_core.proofs.Phases.{done_there}
 use Rattle.mbj_core.proofs.Steps.{put_changes}
 use Rattle.mbj_front.specs.declared.slot.Slot.{Slot}
 use Rattle.mbj_front.specs.declared.slot.Slot.TheVariants.{Blank, Task, Made}
 use Rattle.mbj_front.specs.declared.place.Place.{Place}
 use Rattle.mbj_front.specs.Rule.{home_of, place, Shows, Rule}
-use Rattle.mbj_front.specs.Views.{after_look, after_claim, after_finish, after_publish, after_take, at_stage}
+use Rattle.mbj_front.specs.Views.{after_look, after_claim, after_finish, after_publish, after_take, at_phase}
 use Rattle.mbj_front.specs.Moves.{opening, publishing, claiming, finishing, taking, freeing, looking, Move, Moves, Led}
 use Rattle.mbj_front.specs.Inside.Plays.{Mine, LookTells, ClaimTells, FinishTells, OpenTells, PublishTells, TakeTells, FreeTells}
 use Rattle.mbj_front.proofs.Shown.{table, seated, shows_view, shows_cell}
@@ -144,14 +144,14 @@ module _ {J D : Type 0} (owed : J → D) (S W : ℕ) where
       ))
       (λ miss. absurd (miss hit)))
 
-  pub opens_next : (slots id c new : ℕ) (m : Mine J D) → m.0.root ≡ false → m.0.view.number < m.0.submitters → c ≡ cell_of m.0.view.number (length m.0.view.due) → new ≡ 3 + 3 * m.0.view.number → m.0.view.stage ≡ Rest → length m.0.view.due < m.0.view.handed + CELLS
+  pub opens_next : (slots id c new : ℕ) (m : Mine J D) → m.0.root ≡ false → m.0.view.number < m.0.submitters → c ≡ cell_of m.0.view.number (length m.0.view.due) → new ≡ 3 + 3 * m.0.view.number → m.0.view.phase ≡ Rest → length m.0.view.due < m.0.view.handed + CELLS
       → Allows (Rule owed S W) slots id m c (λ n. either (eqb n 0) new n) (OpenTells owed (step slots c 0 new none) m)
   opens_next slots id c new m live less c_is is at_rest room s rule wide at _ = let f = rule.0 in let h = rule.1 in let law = rule.2 in let r : ℕ = get_or s.words c 0 in
       let then : Mine J D → Mine J D → Type 0 = λ m n. OpenTells owed (step slots c 0 new none) m r n in
       at_place s f id m c (either (eqb r 0) new r) then
-      (λ x. (x.view.number < x.submitters) × (c ≡ cell_of x.view.number (length x.view.due)) × (new ≡ 3 + 3 * x.view.number) × (x.view.stage ≡ Rest) × (length x.view.due < x.view.handed + CELLS)) h at live (less, c_is, is, at_rest, room)
+      (λ x. (x.view.number < x.submitters) × (c ≡ cell_of x.view.number (length x.view.due)) × (new ≡ 3 + 3 * x.view.number) × (x.view.phase ≡ Rest) × (length x.view.due < x.view.handed + CELLS)) h at live (less, c_is, is, at_rest, room)
       (λ p cut pre.
-      let num = h.each_number p in let v : View D = f.seats p in let x : Cell J D = open_by p in let w : View D = at_stage v Opening in
+      let num = h.each_number p in let v : View D = f.seats p in let x : Cell J D = open_by p in let w : View D = at_phase v Opening in
       let ls : p < S = subst (λ (q : ℕ). q < S) num pre.0 in
       let here : cell_of p (length v.due) ≡ c = sym (pre.1 ∙ ap (λ (q : ℕ). cell_of q (length v.due)) num) in
       let g : FrontState J D = after f c x p w in
@@ -167,12 +167,12 @@ module _ {J D : Type 0} (owed : J → D) (S W : ℕ) where
       ))
       (λ miss. absurd (miss (h.each_word c inner ∙ ap word_of empty))))
 
-  pub publishes_job : (slots id c old : ℕ) (m : Mine J D) (j : J) (more : List (ℕ × Slot J D)) → m.0.root ≡ false → m.0.view.number < m.0.submitters → c ≡ cell_of m.0.view.number (length m.0.view.due) → old ≡ 3 + 3 * m.0.view.number → m.0.view.stage ≡ Opening → m.1 ≡ (c, Task j) ∷ more
+  pub publishes_job : (slots id c old : ℕ) (m : Mine J D) (j : J) (more : List (ℕ × Slot J D)) → m.0.root ≡ false → m.0.view.number < m.0.submitters → c ≡ cell_of m.0.view.number (length m.0.view.due) → old ≡ 3 + 3 * m.0.view.number → m.0.view.phase ≡ Opening → m.1 ≡ (c, Task j) ∷ more
       → Allows (Rule owed S W) slots id m c (λ n. either (eqb n old) 1 n) (PublishTells owed (step slots c old 1 none) m)
   publishes_job slots id c old m j more live less c_is is filling had s rule wide at _ = let f = rule.0 in let h = rule.1 in let law = rule.2 in let r : ℕ = get_or s.words c 0 in
       let then : Mine J D → Mine J D → Type 0 = λ m n. PublishTells owed (step slots c old 1 none) m r n in
       at_place s f id m c (either (eqb r old) 1 r) then
-      (λ x. (x.view.number < x.submitters) × (c ≡ cell_of x.view.number (length x.view.due)) × (old ≡ 3 + 3 * x.view.number) × (x.view.stage ≡ Opening)) h at live (less, c_is, is, filling)
+      (λ x. (x.view.number < x.submitters) × (c ≡ cell_of x.view.number (length x.view.due)) × (old ≡ 3 + 3 * x.view.number) × (x.view.phase ≡ Opening)) h at live (less, c_is, is, filling)
       (λ p cut pre.
       let num = h.each_number p in let v : View D = f.seats p in let x : Cell J D = ready j in let w : View D = after_publish v (owed j) in
       let ls : p < S = subst (λ (q : ℕ). q < S) num pre.0 in
@@ -192,12 +192,12 @@ module _ {J D : Type 0} (owed : J → D) (S W : ℕ) where
       ))
       (λ miss. absurd (miss (h.each_word c inner ∙ ap word_of stands ∙ ap (λ (q : ℕ). 3 + 3 * q) (sym num) ∙ sym pre.2))))
 
-  pub tries_take : (slots id c new : ℕ) (m : Mine J D) → m.0.root ≡ false → m.0.view.number < m.0.submitters → c ≡ cell_of m.0.view.number m.0.view.handed → new ≡ 5 + 3 * m.0.view.number → m.0.view.stage ≡ Rest → m.0.view.handed < length m.0.view.due
+  pub tries_take : (slots id c new : ℕ) (m : Mine J D) → m.0.root ≡ false → m.0.view.number < m.0.submitters → c ≡ cell_of m.0.view.number m.0.view.handed → new ≡ 5 + 3 * m.0.view.number → m.0.view.phase ≡ Rest → m.0.view.handed < length m.0.view.due
       → Allows (Rule owed S W) slots id m c (λ n. either (eqb n 2) new n) (TakeTells owed (step slots c 2 new none) m)
   tries_take slots id c new m live less c_is is at_rest some_out s rule wide at _ = let f = rule.0 in let h = rule.1 in let law = rule.2 in let r : ℕ = get_or s.words c 0 in
       let then : Mine J D → Mine J D → Type 0 = λ m n. TakeTells owed (step slots c 2 new none) m r n in
       at_place s f id m c (either (eqb r 2) new r) then
-      (λ x. (x.view.number < x.submitters) × (c ≡ cell_of x.view.number x.view.handed) × (new ≡ 5 + 3 * x.view.number) × (x.view.stage ≡ Rest) × (x.view.handed < length x.view.due)) h at live (less, c_is, is, at_rest, some_out)
+      (λ x. (x.view.number < x.submitters) × (c ≡ cell_of x.view.number x.view.handed) × (new ≡ 5 + 3 * x.view.number) × (x.view.phase ≡ Rest) × (x.view.handed < length x.view.due)) h at live (less, c_is, is, at_rest, some_out)
       (λ p cut pre.
       let num = h.each_number p in let v : View D = f.seats p in let x : Cell J D = take_by p in let w : View D = after_take v c in
       let ls : p < S = subst (λ (q : ℕ). q < S) num pre.0 in
@@ -218,14 +218,14 @@ module _ {J D : Type 0} (owed : J → D) (S W : ℕ) where
       ))
       (λ miss. let look = looks_on s f p c slots 2 new m.1 h law cut inner in (look.0, look.1, look.2, look.3, ((λ e. absurd (miss e)), λ _. look.4))))
 
-  pub frees_cell : (slots id c old : ℕ) (m : Mine J D) (more : List (ℕ × Slot J D)) → m.0.root ≡ false → m.0.view.number < m.0.submitters → c ≡ cell_of m.0.view.number (m.0.view.handed + (CELLS - 1)) → old ≡ 5 + 3 * m.0.view.number → m.0.view.stage ≡ Emptying → m.1 ≡ (c, Blank) ∷ more
+  pub frees_cell : (slots id c old : ℕ) (m : Mine J D) (more : List (ℕ × Slot J D)) → m.0.root ≡ false → m.0.view.number < m.0.submitters → c ≡ cell_of m.0.view.number (m.0.view.handed + (CELLS - 1)) → old ≡ 5 + 3 * m.0.view.number → m.0.view.phase ≡ Emptying → m.1 ≡ (c, Blank) ∷ more
       → Allows (Rule owed S W) slots id m c (λ n. either (eqb n old) 0 n) (FreeTells owed (step slots c old 0 none) m)
   frees_cell slots id c old m more live less c_is is emptying had s rule wide at _ = let f = rule.0 in let h = rule.1 in let law = rule.2 in let r : ℕ = get_or s.words c 0 in
       let then : Mine J D → Mine J D → Type 0 = λ m n. FreeTells owed (step slots c old 0 none) m r n in
       at_place s f id m c (either (eqb r old) 0 r) then
-      (λ x. (x.view.number < x.submitters) × (c ≡ cell_of x.view.number (x.view.handed + (CELLS - 1))) × (old ≡ 5 + 3 * x.view.number) × (x.view.stage ≡ Emptying)) h at live (less, c_is, is, emptying)
+      (λ x. (x.view.number < x.submitters) × (c ≡ cell_of x.view.number (x.view.handed + (CELLS - 1))) × (old ≡ 5 + 3 * x.view.number) × (x.view.phase ≡ Emptying)) h at live (less, c_is, is, emptying)
       (λ p cut pre.
-      let num = h.each_number p in let v : View D = f.seats p in let x : Cell J D = free in let w : View D = at_stage v Rest in
+      let num = h.each_number p in let v : View D = f.seats p in let x : Cell J D = free in let w : View D = at_phase v Rest in
       let ls : p < S = subst (λ (q : ℕ). q < S) num pre.0 in
       let here : cell_of p (v.handed - 1) ≡ c = last_cell p v.handed (law.emptied p pre.3) ∙ sym (pre.1 ∙ ap (λ (q : ℕ). cell_of q (v.handed + (CELLS - 1))) num) in
       let g : FrontState J D = after f c x p w in

@@ -4,7 +4,7 @@ use Rattle.std.specs.Prelude.{Some, slice_get}
 use Rattle.atomic_table.specs.Table.{rest}
 use Rattle.mbj_core.specs.declared.cells.TheConstants.{CELLS}
 use Rattle.mbj_core.specs.declared.party.View.{View}
-use Rattle.mbj_core.specs.declared.party.Stage.TheVariants.{Rest, Opening}
+use Rattle.mbj_core.specs.declared.party.Phase.TheVariants.{Rest, Opening}
 use Rattle.mbj_core.proofs.Entries.{at_end}
 use Rattle.mbj_core.proofs.Fitting.{rest_open}
 use Rattle.mbj_front.specs.declared.slot.Slot.{Slot}
@@ -17,7 +17,7 @@ use Rattle.mbj_front.specs.Inside.Keeps.{of_hand, slots_at, slots_of, Keeps}
 module _ {J D : Type 0} where
   -- the party's part is w now
   pub kept : (words words' party first first' out out' : ℕ) (me n : Mine J D) (w : View D) → Keeps words me party first out → words' ≡ words → n.0 ≡ place me.0.submitters me.0.workers w
-      → w.number ≡ me.0.view.number → first' ≡ w.handed % CELLS → length w.due ≡ w.handed + out' → out' ≤ CELLS → (me.0.submitters ≤ party → out' ≡ 0) → (w.stage ≢ Rest → (out' < CELLS) × (party < me.0.submitters)) → n.1 ≡ slots_of w
+      → w.number ≡ me.0.view.number → first' ≡ w.handed % CELLS → length w.due ≡ w.handed + out' → out' ≤ CELLS → (me.0.submitters ≤ party → out' ≡ 0) → (w.phase ≢ Rest → (out' < CELLS) × (party < me.0.submitters)) → n.1 ≡ slots_of w
       → ((k c : ℕ) (d : D) → slice_get w.hand k ≡ Some (c, d) → c < words) → Keeps words' n party first' out'
   kept words words' party first first' out out' me n w k wide is num first_is out_is few posters spare slots near =
       subst (λ (z : ℕ × Mine J D). Keeps z.0 z.1 party first' out') (λ t. (sym wide t, (sym is t, n.1))) (record {
@@ -41,25 +41,25 @@ module _ {J D : Type 0} where
   of_hand_more (e ∷ hand) c d = ap (λ (l : List (ℕ × Slot J D)). (e.0, Blank) ∷ l) (of_hand_more hand c d)
 
   -- at rest the slots are those of the hand
-  pub at_rest : (v : View D) (l : List (ℕ × Slot J D)) → l ≡ slots_of v → v.stage ≡ Rest → l ≡ of_hand v.hand
+  pub at_rest : (v : View D) (l : List (ℕ × Slot J D)) → l ≡ slots_of v → v.phase ≡ Rest → l ≡ of_hand v.hand
   at_rest v l e r = e ∙ ap (λ st. slots_at st v) r
 
   pub kept_claimed : (words words' party first out c : ℕ) (me n : Mine J D) (d : D) → Keeps words me party first out → words' ≡ words → n ≡ (place me.0.submitters me.0.workers (after_claim me.0.view c d), me.1 ++ (c, Blank) ∷ [])
-      → me.0.view.stage ≡ Rest → c < words → Keeps words' n party first out
+      → me.0.view.phase ≡ Rest → c < words → Keeps words' n party first out
   kept_claimed words words' party first out c me n d k wide is r less = let v : View D = me.0.view in let w : View D = after_claim v c d in
       kept words words' party first first out out me n w k wide (ap (λ (m : Mine J D). m.0) is) refl k.first_is k.out_is k.few k.posters k.spare
       (ap (λ (m : Mine J D). m.1) is ∙ ap (λ (l : List (ℕ × Slot J D)). l ++ (c, Blank) ∷ []) (at_rest v me.1 k.slots r) ∙ sym (of_hand_more v.hand c d) ∙ sym (ap (λ st. slots_at st w) r))
       (λ i b e at. ⊎_elim (λ old. k.near i b e old) (λ new. subst (λ (q : ℕ). q < words) (ap (λ (z : ℕ × D). z.0) new.1) less) (at_end v.hand (c, d) (b, e) i at))
 
   pub kept_finished : (words words' party first out c : ℕ) (me n : Mine J D) (d : D) (hand : List (ℕ × D)) → Keeps words me party first out → words' ≡ words → n ≡ (place me.0.submitters me.0.workers (after_finish me.0.view hand), rest me.1)
-      → me.0.view.stage ≡ Rest → me.0.view.hand ≡ (c, d) ∷ hand → Keeps words' n party first out
+      → me.0.view.phase ≡ Rest → me.0.view.hand ≡ (c, d) ∷ hand → Keeps words' n party first out
   kept_finished words words' party first out c me n d hand k wide is r has = let v : View D = me.0.view in let w : View D = after_finish v hand in
       kept words words' party first first out out me n w k wide (ap (λ (m : Mine J D). m.0) is) refl k.first_is k.out_is k.few k.posters k.spare
       (ap (λ (m : Mine J D). m.1) is ∙ ap rest (at_rest v me.1 k.slots r ∙ ap of_hand has) ∙ sym (ap (λ st. slots_at st w) r))
       (λ i b e at. k.near (i + 1) b e (ap (λ (l : List (ℕ × D)). slice_get l (i + 1)) has ∙ subst (λ (j : ℕ). slice_get ((c, d) ∷ hand) j ≡ Some (b, e)) (sym (add-one i)) at))
 
   pub kept_published : (words words' party first out : ℕ) (me n : Mine J D) (d : D) → Keeps words me party first out → words' ≡ words → n ≡ (place me.0.submitters me.0.workers (after_publish me.0.view d), rest me.1)
-      → me.0.view.stage ≡ Opening → Keeps words' n party first (out + 1)
+      → me.0.view.phase ≡ Opening → Keeps words' n party first (out + 1)
   kept_published words words' party first out me n d k wide is r = let v : View D = me.0.view in let w : View D = after_publish v d in
       let own = k.spare (λ e. rest_open (sym e ∙ r)) in let room = own.0 in let o = k.out_is in let more = length-append v.due (d ∷ []) in
       kept words words' party first first out (out + 1) me n w k wide (ap (λ (m : Mine J D). m.0) is) refl k.first_is (omega arith) (omega arith) (λ far. absurd (omega (arith, own.1))) (λ e. absurd (e refl))

@@ -6,7 +6,7 @@ use mathlib.Core.Logic.{dite}
 use native.Mathlib.Decide.{ℕ_discrete}
 use Rattle.mbj_core.specs.declared.cells.TheConstants.{CELLS}
 use Rattle.mbj_core.specs.declared.party.View.{View}
-use Rattle.mbj_core.specs.declared.party.Stage.TheVariants.{Rest, Opening}
+use Rattle.mbj_core.specs.declared.party.Phase.TheVariants.{Rest, Opening}
 use Rattle.mbj_core.specs.Cells.{Cell, free, ready, done, open_by, hand_of, take_by, result_in, cell_of}
 use Rattle.mbj_core.specs.Parties.{FrontState, front}
 use Rattle.mbj_core.specs.Lawful.{Lawful}
@@ -15,9 +15,9 @@ use Rattle.mbj_core.proofs.Puts.{put, at_put}
 use Rattle.mbj_core.proofs.Entries.{at_middle}
 use Rattle.mbj_core.proofs.Fitting.{rest_open}
 use Rattle.mbj_core.proofs.Hands.{claims, finishes, relooks}
-use Rattle.mbj_core.proofs.Stages.{opens, publishes, takes_done, frees}
+use Rattle.mbj_core.proofs.Phases.{opens, publishes, takes_done, frees}
 use Rattle.mbj_core.proofs.Steps.{same_front, changes_are}
-use Rattle.mbj_front.specs.Views.{after_look, after_claim, after_finish, after_publish, after_take, at_stage}
+use Rattle.mbj_front.specs.Views.{after_look, after_claim, after_finish, after_publish, after_take, at_phase}
 use Rattle.mbj_front.specs.AsCore.{settled, rested, as_core}
 use Rattle.mbj_front.specs.Moves.{Move, opening, publishing, claiming, finishing, taking, freeing, looking, Moves, Finds, CoreSees, Led}
 
@@ -54,7 +54,7 @@ module _ {J D : Type 0} (owed : J → D) (S W : ℕ) where
 
   pub keeps_law : (p : ℕ) (move : Move J D) (f g : FrontState J D) → Lawful owed S W f → Moves owed S W f p move g → Lawful owed S W g
   keeps_law p opening f g law mv = let v : View D = f.seats p in
-      changed f g (cell_of p (length v.due)) (open_by p) p (at_stage v Opening) mv.3 (opens owed S W f p v.looks law mv.0 mv.1 mv.2).1
+      changed f g (cell_of p (length v.due)) (open_by p) p (at_phase v Opening) mv.3 (opens owed S W f p v.looks law mv.0 mv.1 mv.2).1
   keeps_law p (publishing j) f g law mv = let v : View D = f.seats p in
       changed f g (cell_of p (length v.due)) (ready j) p (after_publish v (owed j)) mv.2 (publishes owed S W f p j v.looks law mv.0 mv.1).1
   keeps_law p (claiming c j) f g law mv = let v : View D = f.seats p in
@@ -64,8 +64,8 @@ module _ {J D : Type 0} (owed : J → D) (S W : ℕ) where
   keeps_law p (taking d) f g law mv = let v : View D = f.seats p in let c : ℕ = cell_of p v.handed in
       changed f g c (take_by p) p (after_take v c) mv.4 (takes_done owed S W f p d (v.looks ++ (c, 2) ∷ []) law mv.0 mv.1 mv.2 mv.3)
   keeps_law p freeing f g law mv = let v : View D = f.seats p in
-      changed f g (cell_of p (v.handed - 1)) free p (at_stage v Rest) mv.2
-      (subst (λ (c : ℕ). Lawful owed S W (after f c free p (at_stage v Rest))) (sym (last_cell p v.handed (law.emptied p mv.1))) (frees owed S W f p v.looks law mv.0 mv.1).1)
+      changed f g (cell_of p (v.handed - 1)) free p (at_phase v Rest) mv.2
+      (subst (λ (c : ℕ). Lawful owed S W (after f c free p (at_phase v Rest))) (sym (last_cell p v.handed (law.emptied p mv.1))) (frees owed S W f p v.looks law mv.0 mv.1).1)
   keeps_law p (looking c word) f g law mv = let v : View D = f.seats p in let w : View D = after_look v c word in
       changed f g c (f.cells c) p w mv.3 (subst (λ (cells : ℕ → Cell J D). Lawful owed S W (front cells (put f.seats p w))) (sym (put_same f.cells c)) (relooks owed S W f p w.looks law mv.0))
 
@@ -81,7 +81,7 @@ module _ {J D : Type 0} (owed : J → D) (S W : ℕ) where
 
   pub core_sees : (p : ℕ) (move : Move J D) (f g : FrontState J D) → Lawful owed S W f → Moves owed S W f p move g → CoreSees owed S W (as_core f) p move (as_core g)
   core_sees p opening f g law mv = let v : View D = f.seats p in
-      core_same f g (cell_of p (length v.due)) (open_by p) p (at_stage v Opening) mv.3 (ap settled (sym (finds_cell p opening f g law mv))) refl
+      core_same f g (cell_of p (length v.due)) (open_by p) p (at_phase v Opening) mv.3 (ap settled (sym (finds_cell p opening f g law mv))) refl
   core_sees p (publishing j) f g law mv = let v : View D = f.seats p in
       (mv.0, law.spare p (λ e. rest_open (sym e ∙ mv.1)), core_changes f g (cell_of p (length v.due)) (ready j) p (after_publish v (owed j)) mv.2)
   core_sees p (claiming c j) f g law mv = (mv.0, mv.1, ap settled mv.2, core_changes f g c (hand_of p (owed j)) p (after_claim (f.seats p) c (owed j)) mv.3)
@@ -89,7 +89,7 @@ module _ {J D : Type 0} (owed : J → D) (S W : ℕ) where
   core_sees p (taking d) f g law mv = let v : View D = f.seats p in let c : ℕ = cell_of p v.handed in
       (mv.0, ap settled mv.3, core_changes f g c (take_by p) p (after_take v c) mv.4)
   core_sees p freeing f g law mv = let v : View D = f.seats p in
-      core_same f g (cell_of p (v.handed - 1)) free p (at_stage v Rest) mv.2 (ap settled (sym (finds_cell p freeing f g law mv))) refl
+      core_same f g (cell_of p (v.handed - 1)) free p (at_phase v Rest) mv.2 (ap settled (sym (finds_cell p freeing f g law mv))) refl
   core_sees p (looking c word) f g law mv = core_same f g c (f.cells c) p (after_look (f.seats p) c word) mv.3 refl refl
 
   -- what a seat is told of a step of its party, which is the party p of the state

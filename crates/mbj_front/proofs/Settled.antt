@@ -2,7 +2,7 @@
 use Rattle.std.proofs.Common.{◌≡◌, ℕ, ◌+◌, ◌/◌, ◌%◌, ◌<◌, ◌≤◌, length, subst, refl, ap, ◌∙◌, sym, arith}
 use Rattle.mbj_core.specs.declared.cells.TheConstants.{CELLS}
 use Rattle.mbj_core.specs.declared.party.View.{View}
-use Rattle.mbj_core.specs.declared.party.Stage.TheVariants.{Emptying}
+use Rattle.mbj_core.specs.declared.party.Phase.TheVariants.{Emptying}
 use Rattle.mbj_core.specs.Cells.{Cell, free, ready, done, open_by, hand_of, take_by, cell_of}
 use Rattle.mbj_core.proofs.Hands.{not_in_hand}
 use Rattle.mbj_core.proofs.Fitting.{rest_open, rest_take, Fits, lawful, each_number}
@@ -19,7 +19,7 @@ module _ {J D : Type 0} where
   still_held (take_by q) p d e = absurd (not_in_hand free p d refl e)
 
 module _ {J D : Type 0} (owed : J → D) where
-  settled_fits : (v : View D) (s n : ℕ) (y : Cell J D) → Fits owed v s n y → (v.stage ≡ Emptying → length v.due < v.handed + CELLS) → Fits owed (rested v) s n (settled y)
+  settled_fits : (v : View D) (s n : ℕ) (y : Cell J D) → Fits owed v s n y → (v.phase ≡ Emptying → length v.due < v.handed + CELLS) → Fits owed (rested v) s n (settled y)
   settled_fits v s n free h room = (h.0, (λ e. absurd (rest_open e)), λ e. absurd (rest_take e))
   settled_fits v s n (ready j) h room = h
   settled_fits v s n (done d) h room = h
@@ -48,4 +48,4 @@ module _ {J D : Type 0} (owed : J → D) where
       let here : cell_of s n ≡ c = omega arith in
       ap f.cells (sym here)
       ∙ law.idle s n (omega arith) (subst (λ (w : View D). length w.due ≤ n) (sym is) (omega arith)) (subst (λ (w : View D). n < w.handed + CELLS) (sym is) (omega arith))
-      (λ e. absurd (rest_open (sym (ap (λ (w : View D). w.stage) is) ∙ e))) (λ e. absurd (rest_take (sym (ap (λ (w : View D). w.stage) is) ∙ e)))
+      (λ e. absurd (rest_open (sym (ap (λ (w : View D). w.phase) is) ∙ e))) (λ e. absurd (rest_take (sym (ap (λ (w : View D). w.phase) is) ∙ e)))

@@ -1,7 +1,7 @@
 -- A state of the running front, as the core sees it.
 use Rattle.std.specs.Prelude.{[]}
 use Rattle.mbj_core.specs.declared.party.View.{View}
-use Rattle.mbj_core.specs.declared.party.Stage.TheVariants.{Rest}
+use Rattle.mbj_core.specs.declared.party.Phase.TheVariants.{Rest}
 use Rattle.mbj_core.specs.Cells.{Cell, free, ready, done, open_by, hand_of, take_by}
 use Rattle.mbj_core.specs.Parties.{FrontState, front, view}
 
@@ -14,7 +14,7 @@ settled (open_by p) = free
 settled (hand_of p d) = hand_of p d
 settled (take_by p) = free
 
--- stages and looks are forgotten
+-- phases and looks are forgotten
 abbrev pub rested : {D : Type 0} → View D → View D
 rested v = view v.number Rest v.due v.handed v.hand []
 

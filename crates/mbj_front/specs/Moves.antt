@@ -3,12 +3,12 @@
 use Rattle.std.specs.Prelude.{◌≡◌, ℕ, ◌+◌, ◌-◌, ◌*◌, ◌<◌, List, length, slice_get, Some}
 use Rattle.mbj_core.specs.declared.cells.TheConstants.{CELLS}
 use Rattle.mbj_core.specs.declared.party.View.{View}
-use Rattle.mbj_core.specs.declared.party.Stage.TheVariants.{Rest, Opening, Emptying}
+use Rattle.mbj_core.specs.declared.party.Phase.TheVariants.{Rest, Opening, Emptying}
 use Rattle.mbj_core.specs.Cells.{free, ready, done, open_by, hand_of, take_by, word_of, cell_of}
 use Rattle.mbj_core.specs.Parties.{FrontState}
 use Rattle.mbj_core.specs.Lawful.{Lawful}
 use Rattle.mbj_core.specs.Events.{post, claim, finish, collect, accepted, claimed, collected, Leaves, Changes, Step}
-use Rattle.mbj_front.specs.Views.{after_look, after_claim, after_finish, after_publish, after_take, at_stage}
+use Rattle.mbj_front.specs.Views.{after_look, after_claim, after_finish, after_publish, after_take, at_phase}
 
 pub data Move (J D : Type 0) : Type 0 where
   -- a submitter begins to fill the cell of its next job
@@ -44,11 +44,11 @@ module _ {J D : Type 0} (owed : J → D) (submitters workers : ℕ) where
   abbrev pub Moves : FrontState J D → ℕ → Move J D → FrontState J D → Type 0
   Moves f p opening g =
       let v = f.seats p in
-      (p < submitters) × (v.stage ≡ Rest) × (length v.due < v.handed + CELLS)
-      × Changes f g (cell_of p (length v.due)) (open_by p) p (at_stage v Opening)
+      (p < submitters) × (v.phase ≡ Rest) × (length v.due < v.handed + CELLS)
+      × Changes f g (cell_of p (length v.due)) (open_by p) p (at_phase v Opening)
   Moves f p (publishing j) g =
       let v = f.seats p in
-      (p < submitters) × (v.stage ≡ Opening)
+      (p < submitters) × (v.phase ≡ Opening)
       × Changes f g (cell_of p (length v.due)) (ready j) p (after_publish v (owed j))
   Moves f p (claiming c j) g =
       (p < submitters + workers) × (c < CELLS * submitters) × (f.cells c ≡ ready j)
@@ -59,12 +59,12 @@ module _ {J D : Type 0} (owed : J → D) (submitters workers : ℕ) where
       × ((hand : List (ℕ × D)) × Leaves v.hand c d hand × Changes f g c (done d) p (after_finish v hand))
   Moves f p (taking d) g =
       let v = f.seats p in let c = cell_of p v.handed in
-      (p < submitters) × (v.stage ≡ Rest) × (v.handed < length v.due) × (f.cells c ≡ done d)
+      (p < submitters) × (v.phase ≡ Rest) × (v.handed < length v.due) × (f.cells c ≡ done d)
       × Changes f g c (take_by p) p (after_take v c)
   Moves f p freeing g =
       let v = f.seats p in
-      (p < submitters) × (v.stage ≡ Emptying)
-      × Changes f g (cell_of p (v.handed - 1)) free p (at_stage v Rest)
+      (p < submitters) × (v.phase ≡ Emptying)
+      × Changes f g (cell_of p (v.handed - 1)) free p (at_phase v Rest)
   Moves f p (looking c word) g =
       (p < submitters + workers) × (c < CELLS * submitters) × (word_of (f.cells c) ≡ word)
       × Changes f g c (f.cells c) p (after_look (f.seats p) c word)

@@ -1,9 +1,9 @@
 // A submitter's steps on its own cells: a post is an open and a publish, a collect is a take and a free.
 ghost use Rattle.std.specs.Prelude.{◌≡◌, ◌≢◌, ◌+◌, ◌-◌, ◌<◌, length, slice_get, Some, IfOk, IfErr, MatchResult};
 ghost use Rattle.mbj_core.specs.declared.cells.TheConstants.{CELLS};
-ghost use Rattle.mbj_core.specs.declared.party.Stage.TheVariants.{Rest, Opening, Emptying};
+ghost use Rattle.mbj_core.specs.declared.party.Phase.TheVariants.{Rest, Opening, Emptying};
 ghost use Rattle.mbj_core.specs.Cells.{cell_of};
-ghost use Rattle.mbj_front.specs.Views.{after_look, at_stage, after_publish, after_take};
+ghost use Rattle.mbj_front.specs.Views.{after_look, at_phase, after_publish, after_take};
 ghost use Rattle.mbj_front.specs.Moves.{opening, publishing, taking, freeing, looking};
 ghost use Rattle.mbj_front.specs.Seats.{view_of, submitters_of, IsOf, Did};
 
@@ -20,10 +20,10 @@ impl<J, D, R: Results<J, D>> SharedFront<J, D, R> {
     pub fn open_cell(&self, seat: &mut PartySeat<J, D>)
         requires front { IsOf self.now seat.old }
         requires submitter { (view_of seat.old).number < submitters_of self.now }
-        requires rest { (view_of seat.old).stage ≡ Rest }
+        requires rest { (view_of seat.old).phase ≡ Rest }
         requires room { length (view_of seat.old).due < (view_of seat.old).handed + CELLS }
         ensures front { IsOf self.now seat.new }
-        ensures view { view_of seat.new ≡ at_stage (view_of seat.old) Opening }
+        ensures view { view_of seat.new ≡ at_phase (view_of seat.old) Opening }
         ensures step { Did R.owed seat.old opening seat.new }
     {
         let at = cell_at(seat.party, seat.first + seat.out) as usize;
@@ -35,7 +35,7 @@ impl<J, D, R: Results<J, D>> SharedFront<J, D, R> {
     /// The cell that the submitter fills gets the job, which is then out.
     pub fn publish(&self, seat: &mut PartySeat<J, D>, job: J)
         requires front { IsOf self.now seat.old }
-        requires opening { (view_of seat.old).stage ≡ Opening }
+        requires opening { (view_of seat.old).phase ≡ Opening }
         ensures front { IsOf self.now seat.new }
         ensures view { view_of seat.new ≡ after_publish (view_of seat.old) (R.owed job) }
         ensures step { Did R.owed seat.old (publishing job) seat.new }
@@ -56,7 +56,7 @@ impl<J, D, R: Results<J, D>> SharedFront<J, D, R> {
     /// that cell. Answers the word that it found exactly where that isn't `DONE`; then only the looks grow.
     pub fn try_take(&self, seat: &mut PartySeat<J, D>) -> Result<D, u64>
         requires front { IsOf self.now seat.old }
-        requires rest { (view_of seat.old).stage ≡ Rest }
+        requires rest { (view_of seat.old).phase ≡ Rest }
         requires out { (view_of seat.old).handed < length (view_of seat.old).due }
         ensures front { IsOf self.now seat.new }
         ensures result { IfOk result (λ d. slice_get (view_of seat.old).due (view_of seat.old).handed ≡ Some d) }
@@ -85,9 +85,9 @@ impl<J, D, R: Results<J, D>> SharedFront<J, D, R> {
     /// The cell that the submitter empties is free again.
     pub fn free(&self, seat: &mut PartySeat<J, D>)
         requires front { IsOf self.now seat.old }
-        requires emptying { (view_of seat.old).stage ≡ Emptying }
+        requires emptying { (view_of seat.old).phase ≡ Emptying }
         ensures front { IsOf self.now seat.new }
-        ensures view { view_of seat.new ≡ at_stage (view_of seat.old) Rest }
+        ensures view { view_of seat.new ≡ at_phase (view_of seat.old) Rest }
         ensures step { Did R.owed seat.old freeing seat.new }
     {
         let at = cell_at(seat.party, seat.first + (CELLS - 1)) as usize;

@@ -1,5 +1,5 @@
 ghost use Rattle.std.specs.Prelude.{◌≡◌, ◌+◌, ◌%◌, ◌^◌, ◌<◌, [], length, vec_len, IfSome};
-ghost use Rattle.mbj_core.specs.declared.party.Stage.TheVariants.{Rest};
+ghost use Rattle.mbj_core.specs.declared.party.Phase.TheVariants.{Rest};
 ghost use Rattle.mbj_core.specs.Parties.{new_party};
 ghost use Rattle.mbj_front.specs.Seats.{view_of, IsSubmitter, IsOf, IsIssued, submitters_of};
 
@@ -38,12 +38,12 @@ fn goes_round(
     job: u32,
 ) -> Option<Seen>
     requires fronts { IsOf front.now owner.old × IsOf front.now helper.old × IsOf front.now third.old }
-    requires rests { ((view_of owner.old).stage ≡ Rest) × ((view_of helper.old).stage ≡ Rest) × ((view_of third.old).stage ≡ Rest) }
+    requires rests { ((view_of owner.old).phase ≡ Rest) × ((view_of helper.old).phase ≡ Rest) × ((view_of third.old).phase ≡ Rest) }
     requires submitter { IsSubmitter owner.old × ((view_of owner.old).number < submitters_of front.now) }
     requires none_out { length (view_of owner.old).due ≡ (view_of owner.old).handed }
     requires hand { (view_of helper.old).hand ≡ [] }
     ensures fronts { IsOf front.now owner.new × IsOf front.now helper.new × IsOf front.now third.new }
-    ensures rests { IfSome result (λ _. ((view_of owner.new).stage ≡ Rest) × ((view_of helper.new).stage ≡ Rest) × ((view_of third.new).stage ≡ Rest)) }
+    ensures rests { IfSome result (λ _. ((view_of owner.new).phase ≡ Rest) × ((view_of helper.new).phase ≡ Rest) × ((view_of third.new).phase ≡ Rest)) }
     ensures owner { IfSome result (λ _. (view_of owner.new).hand ≡ (view_of owner.old).hand) }
     ensures third { IfSome result (λ _. ((view_of third.new).number ≡ (view_of third.old).number)
         × ((view_of third.new).due ≡ (view_of third.old).due) × ((view_of third.new).handed ≡ (view_of third.old).handed)) }

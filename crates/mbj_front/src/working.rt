@@ -1,7 +1,7 @@
 // What every party may do with every cell: look at it, claim its job, and finish it.
 ghost use Rattle.std.specs.Prelude.{◌≡◌, ◌≢◌, ◌*◌, ◌<◌, ◌≤◌, ◌∷◌, IfErr, MatchResult};
 ghost use Rattle.mbj_core.specs.declared.cells.TheConstants.{CELLS, MAX_SUBMITTERS};
-ghost use Rattle.mbj_core.specs.declared.party.Stage.TheVariants.{Rest};
+ghost use Rattle.mbj_core.specs.declared.party.Phase.TheVariants.{Rest};
 ghost use Rattle.mbj_front.specs.Views.{after_look, after_claim, after_finish};
 ghost use Rattle.mbj_front.specs.Moves.{claiming, finishing, looking};
 ghost use Rattle.mbj_front.specs.Seats.{view_of, submitters_of, workers_of, cells_of, IsOf, IsFirst, Did};
@@ -41,7 +41,7 @@ impl<J, D, R: Results<J, D>> SharedFront<J, D, R> {
     /// cell. Answers the word that it found exactly where that isn't `READY`; then only the looks grow.
     pub fn try_claim(&self, seat: &mut PartySeat<J, D>, cell: u32) -> Result<J, u64>
         requires front { IsOf self.now seat.old }
-        requires rest { (view_of seat.old).stage ≡ Rest }
+        requires rest { (view_of seat.old).phase ≡ Rest }
         requires cell { cell < cells_of self.now }
         ensures front { IsOf self.now seat.new }
         ensures found { IfErr result (λ word. word ≢ READY) }
@@ -89,7 +89,7 @@ impl<J, D, R: Results<J, D>> SharedFront<J, D, R> {
     /// is owed.
     pub fn finish(&self, seat: &mut PartySeat<J, D>, cell: u32, done: D)
         requires front { IsOf self.now seat.old }
-        requires rest { (view_of seat.old).stage ≡ Rest }
+        requires rest { (view_of seat.old).phase ≡ Rest }
         requires first { IsFirst cell done (view_of seat.old).hand }
         ensures front { IsOf self.now seat.new }
         ensures hand { (view_of seat.old).hand ≡ (cell, done) ∷ (view_of seat.new).hand }

@@ -22,7 +22,7 @@ Passed cells at i v w = (words : List ℕ) × (length words ≡ i) × All (λ wo
 looks_on : {D : Type 0} (cells at i c word : ℕ) (v w u : View D) (p : Passed cells at i v w) → u ≡ after_look w c word → u ≡ after_looks v (looks_round cells at p.0 ++ (c, word) ∷ [])
 looks_on cells at i c word v w u p is =
     is ∙ ap (λ x. after_look x c word) p.3
-    ∙ ap (λ (l : List (ℕ × ℕ)). view v.number v.stage v.due v.handed v.hand l) (append_assoc v.looks (looks_round cells at p.0) ((c, word) ∷ []))
+    ∙ ap (λ (l : List (ℕ × ℕ)). view v.number v.phase v.due v.handed v.hand l) (append_assoc v.looks (looks_round cells at p.0) ((c, word) ∷ []))
 
 pub passes_on : {D : Type 0} (cells at i c word : ℕ) (v w u : View D) → Passed cells at i v w → c ≡ (at + i) % cells → u ≡ after_look w c word → word ≢ READY → Passed cells at (i + 1) v u
 passes_on cells at i c word v w u p here is other = (

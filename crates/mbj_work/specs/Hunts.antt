@@ -12,7 +12,7 @@ looks_round cells at (word ∷ words) = (at % cells, word) ∷ looks_round cells
 module _ {D : Type 0} where
   -- it made these looks
   abbrev pub after_looks : View D → List (ℕ × ℕ) → View D
-  after_looks v looks = view v.number v.stage v.due v.handed v.hand (v.looks ++ looks)
+  after_looks v looks = view v.number v.phase v.due v.handed v.hand (v.looks ++ looks)
 
   -- it looked once at each of so many cells, from `at` round, and none was ready
   abbrev pub FindsNone : ℕ → ℕ → View D → View D → Type 0

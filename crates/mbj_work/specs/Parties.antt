@@ -3,14 +3,14 @@ use Rattle.std.specs.Prelude.{◌≡◌, ◌≢◌, ◌⊎◌, ℕ, ◌<◌, Lis
 use Rattle.mbj_types.specs.declared.job.Job.{Job}
 use Rattle.mbj_types.specs.declared.done.Done.{Done}
 use Rattle.mbj_core.specs.declared.party.View.{View}
-use Rattle.mbj_core.specs.declared.party.Stage.TheVariants.{Rest}
+use Rattle.mbj_core.specs.declared.party.Phase.TheVariants.{Rest}
 use Rattle.mbj_core.specs.Cells.{cell_of}
 use Rattle.mbj_front.specs.declared.seat.PartySeat.{PartySeat}
 use Rattle.mbj_front.specs.declared.front.SharedFront.{SharedFront}
 use Rattle.mbj_front.specs.declared.standard.Standard.{Standard}
 use Rattle.mbj_front.specs.declared.words.TheConstants.{DONE}
 use Rattle.mbj_front.specs.Seats.{view_of, submitters_of, IsOf}
-use Rattle.mbj_front.specs.Views.{after_look, after_take, at_stage}
+use Rattle.mbj_front.specs.Views.{after_look, after_take, at_phase}
 use Rattle.mbj_manager.specs.State.{ManagerState}
 use Rattle.mbj_work.specs.declared.party.Party.{Party}
 
@@ -35,7 +35,7 @@ Submits front party = (view_of party.seat).number < submitters_of front
 module _ {D : Type 0} where
   -- it collected its earliest result, whose cell is free again
   abbrev pub after_collect : View D → View D
-  after_collect v = at_stage (after_take v (cell_of v.number v.handed)) Rest
+  after_collect v = at_phase (after_take v (cell_of v.number v.handed)) Rest
 
   -- it collected nothing: none is out and it made no look, or its one look, at the cell of its earliest job that is out,
   -- found another word than that of a result
@@ -47,5 +47,5 @@ module _ {D : Type 0} where
   -- what is due and what is handed out stay as they are, the party is at rest, and looks only grow
   abbrev pub KeepsDue : View D → View D → Type 0
   KeepsDue v w =
-      (w.number ≡ v.number) × (w.stage ≡ Rest) × (w.due ≡ v.due) × (w.handed ≡ v.handed)
+      (w.number ≡ v.number) × (w.phase ≡ Rest) × (w.due ≡ v.due) × (w.handed ≡ v.handed)
       × ((more : List (ℕ × ℕ)) × (w.looks ≡ v.looks ++ more))

@@ -3,7 +3,7 @@ ghost use Rattle.std.specs.Prelude.{◌≡◌, ◌≢◌, ℕ, ◌<◌, [], ◌�
 ghost use Rattle.circular_buffer.specs.Buffer.{buffer};
 ghost use Rattle.mbj_types.specs.declared.done.Done.{Done};
 ghost use Rattle.mbj_types.specs.Result.{result_of};
-ghost use Rattle.mbj_core.specs.declared.party.Stage.TheVariants.{Rest};
+ghost use Rattle.mbj_core.specs.declared.party.Phase.TheVariants.{Rest};
 ghost use Rattle.mbj_front.specs.declared.words.TheConstants.{READY};
 ghost use Rattle.mbj_front.specs.Seats.{view_of, cells_of, IsFirst, IsOf};
 ghost use Rattle.mbj_front.specs.Views.{after_finish, after_look};
@@ -42,7 +42,7 @@ fn finish_first<G: Gate>(
     gate: &G,
 )
     requires front { IsOf front.now seat.old }
-    requires rest { (view_of seat.old).stage ≡ Rest }
+    requires rest { (view_of seat.old).phase ≡ Rest }
     requires first { (cell : ℕ) × IsFirst cell done (view_of seat.old).hand }
     requires cells { cells.old ≡ buffer (cells_in (view_of seat.old).hand) HAND_ROOM }
     ensures front { IsOf front.now seat.new }

@@ -2,7 +2,7 @@
 ghost use Rattle.std.specs.Prelude.{◌≡◌, ℕ, ◌≤◌, [], All, IfOk, OnOk, Some, length, map, vec_len};
 ghost use Rattle.std.specs.List.{AllZip};
 ghost use Rattle.std.specs.Thread.{IsSync};
-ghost use Rattle.mbj_core.specs.declared.party.Stage.TheVariants.{Rest};
+ghost use Rattle.mbj_core.specs.declared.party.Phase.TheVariants.{Rest};
 ghost use Rattle.mbj_front.specs.Seats.{view_of, submitters_of, IsOf};
 ghost use Rattle.mbj_work.specs.Inside.Runs.{AreSeatsFrom, HasJobs, HasResults, MayServe};
 
@@ -52,7 +52,7 @@ pub(crate) fn make_submitters(
 #[tactic(auto, unfolding(crate::specs::Inside::Runs::MayServe))]
 fn worker(alloc: Global, _front: &Front, seat: Seat) -> Result<Party, AllocError>
     requires front { IsOf _front.now seat }
-    requires rest { (view_of seat).stage ≡ Rest }
+    requires rest { (view_of seat).phase ≡ Rest }
     requires hand { (view_of seat).hand ≡ [] }
     ensures { IfOk result (MayServe _front.now) }
 {

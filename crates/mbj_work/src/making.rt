@@ -2,7 +2,7 @@
 ghost use Rattle.std.specs.Prelude.{◌≡◌, ◌⊎◌, ◌+◌, ◌≤◌, [], length, IfOk};
 ghost use Rattle.mbj_core.specs.Cells.{cell_of};
 ghost use Rattle.mbj_core.specs.declared.cells.TheConstants.{CELLS};
-ghost use Rattle.mbj_core.specs.declared.party.Stage.TheVariants.{Rest};
+ghost use Rattle.mbj_core.specs.declared.party.Phase.TheVariants.{Rest};
 ghost use Rattle.mbj_front.specs.Seats.{view_of, IsSubmitter};
 ghost use Rattle.mbj_manager.specs.State.{new_manager};
 ghost use Rattle.mbj_work.specs.declared.party.TheConstants.{HAND_ROOM};
@@ -20,7 +20,7 @@ impl Party {
     ///
     /// Answers `AllocError` for want of memory; the seat is then dropped.
     pub fn new(alloc: Global, seat: Seat) -> Result<Party, AllocError>
-        requires rest { (view_of seat).stage ≡ Rest }
+        requires rest { (view_of seat).phase ≡ Rest }
         requires hand { (view_of seat).hand ≡ [] }
         ensures seat { IfOk result (λ party. seat_of party ≡ seat) }
         ensures manager { IfOk result (λ party. manager_of party ≡ new_manager) }

@@ -1,6 +1,6 @@
 ghost use Rattle.std.specs.Prelude.{◌≡◌, ◌+◌, ◌-◌, ◌<◌, ◌≤◌, [], ◌∷◌, ◌++◌, IfOk, Some, length, map, vec_capacity, vec_len};
 ghost use Rattle.mbj_types.specs.Result.{result_of};
-ghost use Rattle.mbj_core.specs.declared.party.Stage.TheVariants.{Rest};
+ghost use Rattle.mbj_core.specs.declared.party.Phase.TheVariants.{Rest};
 ghost use Rattle.mbj_front.specs.Seats.{view_of, submitters_of, IsOf};
 ghost use Rattle.mbj_work.specs.Parties.{part_of, IsPartyOf, Submits};
 ghost use Rattle.mbj_work.specs.Inside.Runs.{with_due, HasJobs, HasResults};
@@ -82,7 +82,7 @@ impl Submitter {
     ) -> Result<Submitter, AllocError>
         requires front { IsOf _front.now seat }
         requires submitter { (view_of seat).number < submitters_of _front.now }
-        requires rest { (view_of seat).stage ≡ Rest }
+        requires rest { (view_of seat).phase ≡ Rest }
         requires hand { (view_of seat).hand ≡ [] }
         requires due { (view_of seat).due ≡ [] }
         ensures ready { IfOk result (HasJobs _front.now) }

@@ -2,8 +2,8 @@
 use Rattle.std.specs.Prelude.{◌≡◌, ◌≢◌, ℕ, ◌+◌, ◌-◌, ◌*◌, ◌%◌, ◌<◌, ◌≤◌, false, List, [], ◌∷◌, length, slice_get, Some}
 use Rattle.mbj_core.specs.declared.cells.TheConstants.{CELLS, MAX_SUBMITTERS, MAX_WORKERS}
 use Rattle.mbj_core.specs.declared.party.View.{View}
-use Rattle.mbj_core.specs.declared.party.Stage.{Stage}
-use Rattle.mbj_core.specs.declared.party.Stage.TheVariants.{Rest, Opening, Emptying}
+use Rattle.mbj_core.specs.declared.party.Phase.{Phase}
+use Rattle.mbj_core.specs.declared.party.Phase.TheVariants.{Rest, Opening, Emptying}
 use Rattle.mbj_core.specs.Cells.{cell_of}
 use Rattle.mbj_front.specs.declared.slot.Slot.{Slot}
 use Rattle.mbj_front.specs.declared.slot.Slot.TheVariants.{Blank}
@@ -15,13 +15,13 @@ module _ {J D : Type 0} where
   of_hand [] = []
   of_hand (e ∷ hand) = (e.0, Blank) ∷ of_hand hand
 
-  abbrev pub slots_at : Stage → View D → List (ℕ × Slot J D)
+  abbrev pub slots_at : Phase → View D → List (ℕ × Slot J D)
   slots_at Rest v = of_hand v.hand
   slots_at Opening v = (cell_of v.number (length v.due), Blank) ∷ of_hand v.hand
   slots_at Emptying v = (cell_of v.number (v.handed + (CELLS - 1)), Blank) ∷ of_hand v.hand
 
   abbrev pub slots_of : View D → List (ℕ × Slot J D)
-  slots_of v = slots_at v.stage v
+  slots_of v = slots_at v.phase v
 
   -- a seat of a table with so many words, and the numbers that it keeps
   pub record Keeps (words : ℕ) (me : Mine J D) (party first out : ℕ) : Type 0 where
@@ -37,6 +37,6 @@ module _ {J D : Type 0} where
     -- a worker has none out
     pub posters : me.0.submitters ≤ party → out ≡ 0
     -- a party that fills or empties a cell is a submitter, and has room
-    pub spare : me.0.view.stage ≢ Rest → (out < CELLS) × (party < me.0.submitters)
+    pub spare : me.0.view.phase ≢ Rest → (out < CELLS) × (party < me.0.submitters)
     pub slots : me.1 ≡ slots_of me.0.view
     pub near : (k c : ℕ) (d : D) → slice_get me.0.view.hand k ≡ Some (c, d) → c < words

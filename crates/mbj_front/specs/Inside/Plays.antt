@@ -3,13 +3,13 @@ use Rattle.std.specs.Prelude.{◌≡◌, ◌≢◌, ℕ, ◌==◌, List, ◌∷�
 use mathlib.Core.Option.{none}
 use prog.Atomic.{either}
 use Rattle.atomic_table.specs.Table.{Me, Step, step, rest, Allows}
-use Rattle.mbj_core.specs.declared.party.Stage.TheVariants.{Rest, Opening}
+use Rattle.mbj_core.specs.declared.party.Phase.TheVariants.{Rest, Opening}
 use Rattle.mbj_front.specs.declared.slot.Slot.{Slot}
 use Rattle.mbj_front.specs.declared.slot.Slot.TheVariants.{Blank, Task, Made}
 use Rattle.mbj_front.specs.declared.place.Place.{Place}
 use Rattle.mbj_front.specs.declared.words.TheConstants.{READY}
 use Rattle.mbj_front.specs.Rule.{place, Rule}
-use Rattle.mbj_front.specs.Views.{after_look, after_claim, after_finish, after_publish, after_take, at_stage}
+use Rattle.mbj_front.specs.Views.{after_look, after_claim, after_finish, after_publish, after_take, at_phase}
 use Rattle.mbj_front.specs.Moves.{opening, publishing, claiming, finishing, taking, freeing, looking, Led}
 
 -- what a seat of the table knows and holds
@@ -35,7 +35,7 @@ module _ {J D : Type 0} (owed : J → D) (play : Step (Slot J D)) (m : Mine J D)
       (n ≡ (place m.0.submitters m.0.workers w, rest m.1)) × Led owed m.0.submitters m.0.workers v (finishing play.word d) w
 
   abbrev pub OpenTells : Type 0
-  OpenTells = let v = m.0.view in let w = at_stage v Opening in
+  OpenTells = let v = m.0.view in let w = at_phase v Opening in
       (n ≡ (place m.0.submitters m.0.workers w, (play.word, Blank) ∷ m.1)) × Led owed m.0.submitters m.0.workers v opening w
 
   -- for the job in the slot that the seat brings home
@@ -51,7 +51,7 @@ module _ {J D : Type 0} (owed : J → D) (play : Step (Slot J D)) (m : Mine J D)
       × (r ≢ play.first → LookTells)
 
   abbrev pub FreeTells : Type 0
-  FreeTells = let v = m.0.view in let w = at_stage v Rest in
+  FreeTells = let v = m.0.view in let w = at_phase v Rest in
       (n ≡ (place m.0.submitters m.0.workers w, rest m.1)) × Led owed m.0.submitters m.0.workers v freeing w
 
 module _ {J D : Type 0} (owed : J → D) (slots : ℕ) where

@@ -3,7 +3,7 @@ use Rattle.std.specs.Prelude.{◌≡◌, ℕ, List, map}
 use Rattle.circular_buffer.specs.Buffer.{Buffer, buffer}
 use Rattle.mbj_types.specs.declared.done.Done.{Done}
 use Rattle.mbj_core.specs.declared.party.View.{View}
-use Rattle.mbj_core.specs.declared.party.Stage.TheVariants.{Rest}
+use Rattle.mbj_core.specs.declared.party.Phase.TheVariants.{Rest}
 use Rattle.mbj_manager.specs.State.{ManagerState}
 use Rattle.mbj_work.specs.declared.party.TheConstants.{HAND_ROOM}
 
@@ -16,7 +16,7 @@ results_in hand = map (λ e. e.1) hand
 
 -- a party with this part of the front, this manager and these cells
 pub record Holds (v : View Done) (manager : ManagerState) (cells : Buffer ℕ) : Type 0 where
-  pub rest : v.stage ≡ Rest
+  pub rest : v.phase ≡ Rest
   pub cells_are : cells ≡ buffer (cells_in v.hand) HAND_ROOM
   -- the manager owes the results of the hand
   pub owed_is : manager.owed ≡ results_in v.hand

@@ -1,7 +1,7 @@
 // The parties of a front on one thread, and what each command of a script makes them do and tell.
 ghost use Rattle.std.specs.Prelude.{◌≡◌, ◌<◌, []};
 ghost use Rattle.mbj_core.specs.declared.cells.TheConstants.{CELLS};
-ghost use Rattle.mbj_core.specs.declared.party.Stage.TheVariants.{Rest};
+ghost use Rattle.mbj_core.specs.declared.party.Phase.TheVariants.{Rest};
 ghost use Rattle.mbj_front.specs.Seats.{view_of, IsIssued, IsOf};
 ghost use Rattle.mbj_work.specs.Parties.{IsPartyOf, Submits};
 
@@ -182,7 +182,7 @@ impl<'a> Squad<'a> {
     /// Takes in the party of a seat, which is a submitter where it has cells.
     fn join(&mut self, alloc: Global, front: &'a Front, seat: Seat) -> Result<(), AllocError>
         requires front { IsOf front.now seat }
-        requires rest { (view_of seat).stage ≡ Rest }
+        requires rest { (view_of seat).phase ≡ Rest }
         requires hand { (view_of seat).hand ≡ [] }
     {
         let is_submitter = seat.party() < front.cells() / CELLS;

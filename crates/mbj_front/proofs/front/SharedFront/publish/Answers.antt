@@ -20,7 +20,7 @@ compare_exchange-requires g c = let t = c.args.self.now.table.shared in let seat
       publishes_job g.R.Results.owed t.key.submitters t.key.workers _ _ _ _ _ c.args.job _ (ap (λ m. m.0.root) told.3 ∙ k.cut)
           (subst (λ m. m.0.view.number < m.0.submitters) (sym told.3) (subst (λ (n : ℕ). n < seat.inner.me.0.submitters) k.party_is room.1))
           (c.cell_at-at.ensures ∙ here ∙ ap (λ m. cell_of m.0.view.number (length m.0.view.due)) (sym told.3)) (c.open_word-open.ensures ∙ ap (λ (n : ℕ). 3 + 3 * n) (k.party_is ∙ ap (λ m. m.0.view.number) (sym told.3)))
-          (ap (λ m. m.0.view.stage) told.3 ∙ c.requires.opening) (ap (λ m. m.1) told.3),
+          (ap (λ m. m.0.view.phase) told.3 ∙ c.requires.opening) (ap (λ m. m.1) told.3),
     )
 
 pub invariant_of-seat : goal.invariant_of-seat

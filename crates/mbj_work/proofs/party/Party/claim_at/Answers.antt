@@ -14,7 +14,7 @@ finish_first-requires-clause-first g c = let v = view_of c.args.self.now.seat in
 pub invariant_of-self-in-Some : goal.invariant_of-self-in-Some
 invariant_of-self-in-Some g c = let v = view_of c.args.self.now.seat in let d = result_of c.in-Ok.job in let left = c.finish_first.ensures.part in record {
   holds = record {
-    rest = ap (λ w. w.stage) left.part ∙ ap (λ w. w.stage) c.in-Ok.ensures.view ∙ c.args.self.now.holds.rest;
+    rest = ap (λ w. w.phase) left.part ∙ ap (λ w. w.phase) c.in-Ok.ensures.view ∙ c.args.self.now.holds.rest;
     cells_are = c.finish_first.ensures.cells;
     owed_is = left_of (view_of c.try_claim.new.seat).hand left.more left.cell c.in-Some.done c.submit.new.manager.owed
         (c.in-Some.ensures.order ∙ ap (λ l. l ++ d ∷ []) c.args.self.now.holds.owed_is

@@ -5,7 +5,7 @@ use Rattle.std.specs.Prelude.{Some, slice_get}
 use mathlib.Core.Logic.{dite}
 use native.Mathlib.Decide.{ℕ_discrete}
 use Rattle.mbj_core.specs.declared.party.View.{View}
-use Rattle.mbj_core.specs.declared.party.Stage.TheVariants.{Rest, Opening, Emptying}
+use Rattle.mbj_core.specs.declared.party.Phase.TheVariants.{Rest, Opening, Emptying}
 use Rattle.mbj_core.specs.declared.cells.TheConstants.{CELLS}
 use Rattle.mbj_core.specs.Cells.{Cell, free, ready, done, open_by, hand_of, take_by, word_of, cell_of}
 use Rattle.mbj_core.specs.Parties.{view, front, FrontState}
@@ -16,7 +16,7 @@ use Rattle.mbj_core.proofs.Hands.{is_hand}
 use Rattle.mbj_core.proofs.Posts.{one_number, reposts, fills}
 
 module _ {J D : Type 0} (owed : J → D) where
-  opened_fits : (v : View D) (looks : List (ℕ × ℕ)) (s n : ℕ) (y : Cell J D) → Fits owed v s n y → v.stage ≡ Rest → n ≢ length v.due → Fits owed (view v.number Opening v.due v.handed v.hand looks) s n y
+  opened_fits : (v : View D) (looks : List (ℕ × ℕ)) (s n : ℕ) (y : Cell J D) → Fits owed v s n y → v.phase ≡ Rest → n ≢ length v.due → Fits owed (view v.number Opening v.due v.handed v.hand looks) s n y
   opened_fits v looks s n free h r ne = (h.0, (λ _. ne), λ e. absurd (open_take e))
   opened_fits v looks s n (ready j) h r ne = h
   opened_fits v looks s n (done d) h r ne = h
@@ -25,7 +25,7 @@ module _ {J D : Type 0} (owed : J → D) where
   opened_fits v looks s n (take_by p) h r ne = absurd (rest_take (sym r ∙ h.2))
 
   -- the submitter at rest opens the cell of its next number
-  pub opens : (S W : ℕ) (f : FrontState J D) (p : ℕ) (looks : List (ℕ × ℕ)) → Lawful owed S W f → p < S → (f.seats p).stage ≡ Rest → length (f.seats p).due < (f.seats p).handed + CELLS
+  pub opens : (S W : ℕ) (f : FrontState J D) (p : ℕ) (looks : List (ℕ × ℕ)) → Lawful owed S W f → p < S → (f.seats p).phase ≡ Rest → length (f.seats p).due < (f.seats p).handed + CELLS
       → let v : View D = f.seats p in let i : ℕ = cell_of p (length v.due) in
       (f.cells i ≡ free) × Lawful owed S W (front (put f.cells i (open_by p)) (put f.seats p (view v.number Opening v.due v.handed v.hand looks)))
   opens S W f p looks law less at_rest room =
@@ -41,7 +41,7 @@ module _ {J D : Type 0} (owed : J → D) where
       )
 
   -- the cell that the submitter fills gets a job
-  pub publishes : (S W : ℕ) (f : FrontState J D) (p : ℕ) (j : J) (looks : List (ℕ × ℕ)) → Lawful owed S W f → p < S → (f.seats p).stage ≡ Opening
+  pub publishes : (S W : ℕ) (f : FrontState J D) (p : ℕ) (j : J) (looks : List (ℕ × ℕ)) → Lawful owed S W f → p < S → (f.seats p).phase ≡ Opening
       → let v : View D = f.seats p in let i : ℕ = cell_of p (length v.due) in
       (f.cells i ≡ open_by p) × Lawful owed S W (front (put f.cells i (ready j)) (put f.seats p (view v.number Rest (v.due ++ owed j ∷ []) v.handed v.hand looks)))
   publishes S W f p j looks law less at =
@@ -59,7 +59,7 @@ module _ {J D : Type 0} (owed : J → D) where
   done_there v s (hand_of p d) h two = absurd (omega arith)
   done_there v s (take_by p) h two = absurd (omega arith)
 
-  taken_fits : (v : View D) (looks : List (ℕ × ℕ)) (s n : ℕ) (y : Cell J D) → Fits owed v s n y → v.stage ≡ Rest → n < v.handed + CELLS → Fits owed (view v.number Emptying v.due (v.handed + 1) v.hand looks) s n y
+  taken_fits : (v : View D) (looks : List (ℕ × ℕ)) (s n : ℕ) (y : Cell J D) → Fits owed v s n y → v.phase ≡ Rest → n < v.handed + CELLS → Fits owed (view v.number Emptying v.due (v.handed + 1) v.hand looks) s n y
   taken_fits v looks s n free h r l = (h.0, (λ e. absurd (open_take (sym e))), λ _ e. omega arith)
   taken_fits v looks s n (ready j) h r l = h
   taken_fits v looks s n (done d) h r l = h
@@ -68,7 +68,7 @@ module _ {J D : Type 0} (owed : J → D) where
   taken_fits v looks s n (take_by p) h r l = absurd (rest_take (sym r ∙ h.2))
 
   -- the submitter at rest takes the result of its earliest job that is out
-  pub takes_done : (S W : ℕ) (f : FrontState J D) (p : ℕ) (d : D) (looks : List (ℕ × ℕ)) → Lawful owed S W f → p < S → (f.seats p).stage ≡ Rest → (f.seats p).handed < length (f.seats p).due
+  pub takes_done : (S W : ℕ) (f : FrontState J D) (p : ℕ) (d : D) (looks : List (ℕ × ℕ)) → Lawful owed S W f → p < S → (f.seats p).phase ≡ Rest → (f.seats p).handed < length (f.seats p).due
       → f.cells (cell_of p (f.seats p).handed) ≡ done d
       → let v : View D = f.seats p in let i : ℕ = cell_of p v.handed in
       Lawful owed S W (front (put f.cells i (take_by p)) (put f.seats p (view v.number Emptying v.due (v.handed + 1) v.hand looks)))
@@ -81,7 +81,7 @@ module _ {J D : Type 0} (owed : J → D) where
       (λ ne. subst (Fits owed w p n) (sym (put_else f.cells i (cell_of p n) x (λ e. let same = one_number p h n h (omega arith) (omega arith) (omega arith) (omega arith) e in absurd (omega arith))))
       (taken_fits v looks p n (f.cells (cell_of p n)) (each_number owed S W f law p n less (omega arith) (omega arith)) at_rest (omega arith))))
 
-  freed_fits : (v : View D) (looks : List (ℕ × ℕ)) (s n : ℕ) (y : Cell J D) → Fits owed v s n y → v.stage ≡ Emptying → n + 1 ≢ v.handed + CELLS → Fits owed (view v.number Rest v.due v.handed v.hand looks) s n y
+  freed_fits : (v : View D) (looks : List (ℕ × ℕ)) (s n : ℕ) (y : Cell J D) → Fits owed v s n y → v.phase ≡ Emptying → n + 1 ≢ v.handed + CELLS → Fits owed (view v.number Rest v.due v.handed v.hand looks) s n y
   freed_fits v looks s n free h r ne = (h.0, (λ e. absurd (rest_open e)), λ e. absurd (rest_take e))
   freed_fits v looks s n (ready j) h r ne = h
   freed_fits v looks s n (done d) h r ne = h
@@ -90,7 +90,7 @@ module _ {J D : Type 0} (owed : J → D) where
   freed_fits v looks s n (take_by p) h r ne = absurd (ne h.0)
 
   -- the cell that the submitter empties is free again
-  pub frees : (S W : ℕ) (f : FrontState J D) (p : ℕ) (looks : List (ℕ × ℕ)) → Lawful owed S W f → p < S → (f.seats p).stage ≡ Emptying
+  pub frees : (S W : ℕ) (f : FrontState J D) (p : ℕ) (looks : List (ℕ × ℕ)) → Lawful owed S W f → p < S → (f.seats p).phase ≡ Emptying
       → let v : View D = f.seats p in let i : ℕ = cell_of p (v.handed + (CELLS - 1)) in
       (f.cells i ≡ take_by p) × Lawful owed S W (front (put f.cells i free) (put f.seats p (view v.number Rest v.due v.handed v.hand looks)))
   frees S W f p looks law less at =
