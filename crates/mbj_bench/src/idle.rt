@@ -6,7 +6,7 @@ ghost use Rattle.mbj_front.specs.Seats.{view_of, IsIssued, IsOf};
 ghost use Rattle.mbj_work.specs.Parties.{IsPartyOf, Submits};
 
 use crate::front::{TURNS, Work, hundredths, list};
-use mbj_core::CELLS;
+use mbj_core::SUBMITTER_CELLS;
 use mbj_front::{Front, Seat};
 use mbj_types::Job;
 use mbj_work::{HAND_ROOM, OpenGate, Party};
@@ -75,7 +75,7 @@ fn work_one<R: Wait>(
     ensures { IsPartyOf front.now party.new × Submits front.now party.new }
 {
     let mut results = 0;
-    if party.out() == CELLS {
+    if party.out() == SUBMITTER_CELLS {
         results = collect_all(rt, alloc, front, party)?;
     }
     post_and_claim(front, party, job, cell);
@@ -96,7 +96,7 @@ fn work<R: Wait>(
     let mut cell = 0;
     for job in jobs {
         results = results.wrapping_add(work_one(rt, alloc, front, party, job, cell)?);
-        cell = (cell + 1) % CELLS;
+        cell = (cell + 1) % SUBMITTER_CELLS;
     }
     Ok(results.wrapping_add(collect_all(rt, alloc, front, party)?))
 }

@@ -13,7 +13,7 @@ use Rattle.mbj_types.specs.declared.job.Job.{Job}
 use Rattle.mbj_types.specs.declared.done.Done.{Done}
 use Rattle.mbj_core.specs.declared.party.View.{View}
 use Rattle.mbj_core.specs.declared.party.Phase.TheVariants.{Rest}
-use Rattle.mbj_core.specs.declared.cells.TheConstants.{CELLS}
+use Rattle.mbj_core.specs.declared.cells.TheConstants.{SUBMITTER_CELLS}
 use Rattle.mbj_core.specs.Cells.{Cell, free, ready, done, hand_of, word_of, result_in, cell_of}
 use Rattle.mbj_core.specs.Parties.{view, front, FrontState, new_party, with_due, with_handed, with_hand}
 use Rattle.mbj_core.specs.Events.{post, claim, finish, collect, accepted, returned, claimed, collected, nothing, Leaves, Step}
@@ -28,15 +28,15 @@ use Rattle.mbj_core.proofs.Steps.{put_changes}
 use Rattle.mbj_core.proofs.Facts.{Facts, facts_of}
 
 pub record Sizes (c : CoreState) : Type 0 where
-  pub cells : length c.cells ≡ CELLS * c.submitters
+  pub cells : length c.cells ≡ SUBMITTER_CELLS * c.submitters
   pub hands : length c.hands ≡ c.submitters + c.workers
   pub firsts : length c.firsts ≡ c.submitters
   pub outs : length c.outs ≡ c.submitters
 
 module _ (c : CoreState) (size : Sizes c) (f : FrontState Job Done) (sf : StandsFor c f) where
   -- one cell changes
-  cell_after : (i : ℕ) (x : Cell Job Done) (j : ℕ) → j < CELLS * c.submitters → slice_get (set c.cells i x) j ≡ Some (put f.cells i x j)
-  cell_after i x j l = at_put f.cells i x (λ k y. k < CELLS * c.submitters → slice_get (set c.cells i x) k ≡ Some y) j
+  cell_after : (i : ℕ) (x : Cell Job Done) (j : ℕ) → j < SUBMITTER_CELLS * c.submitters → slice_get (set c.cells i x) j ≡ Some (put f.cells i x j)
+  cell_after i x j l = at_put f.cells i x (λ k y. k < SUBMITTER_CELLS * c.submitters → slice_get (set c.cells i x) k ≡ Some y) j
       (λ near. set_here c.cells i x (omega (arith, size.cells))) (λ ne l. set_else c.cells i j x ne ∙ sf.each_cell j l) l
 
   -- one cell changes for one with the same result, and one hand for one whose cells have its results
@@ -51,7 +51,7 @@ module _ (c : CoreState) (size : Sizes c) (f : FrontState Job Done) (sf : Stands
             (λ _. set_here c.hands p (cells_of hand) (omega (arith, size.hands))) (λ ne l. set_else c.hands p q (cells_of hand) ne ∙ sf.each_hand q l) l;
         hand_results = λ q k j d. at_put f.seats p w (λ r y. slice_get y.hand k ≡ Some (j, d) → result_in result_of (put f.cells i x j) ≡ Some d) q
             (λ at. kept j ∙ results k j d at) (λ _ at. kept j ∙ sf.hand_results q k j d at);
-        each_first = λ s l. at_put f.seats p w (λ r y. r < c.submitters → y.handed % CELLS ≡ slice_index c.firsts r) s (sf.each_first p) (λ _. sf.each_first s) l;
+        each_first = λ s l. at_put f.seats p w (λ r y. r < c.submitters → y.handed % SUBMITTER_CELLS ≡ slice_index c.firsts r) s (sf.each_first p) (λ _. sf.each_first s) l;
         each_out = λ s l. at_put f.seats p w (λ r y. r < c.submitters → length y.due ≡ y.handed + out_of c r) s (sf.each_out p) (λ _. sf.each_out s) l;
         due_results = λ s n l. at_put f.seats p w (λ r y. r < c.submitters → y.handed ≤ n → n < length y.due → result_in result_of (put f.cells i x (cell_of r n)) ≡ slice_get y.due n) s
             (λ l lo hi. kept (cell_of p n) ∙ sf.due_results p n l lo hi) (λ _ l lo hi. kept (cell_of s n) ∙ sf.due_results s n l lo hi) l;
@@ -62,7 +62,7 @@ module _ (c : CoreState) (size : Sizes c) (f : FrontState Job Done) (sf : Stands
   -- the cell of the number m of the submitter s changes, which is in no hand, and what is due and handed out
   pub stands_part : (s m first out : ℕ) (x : Cell Job Done) (due : List Done) (handed : ℕ) → s < c.submitters
       → ((p k : ℕ) (d : Done) → slice_get (f.seats p).hand k ≢ Some (cell_of s m, d))
-      → handed % CELLS ≡ first → length due ≡ handed + out
+      → handed % SUBMITTER_CELLS ≡ first → length due ≡ handed + out
       → ((n : ℕ) → handed ≤ n → n < length due → result_in result_of (put f.cells (cell_of s m) x (cell_of s n)) ≡ slice_get due n)
       → let v : View Done = f.seats s in
       StandsFor (record c { cells = set c.cells (cell_of s m) x; firsts = set c.firsts s first; outs = set c.outs s out }) (front (put f.cells (cell_of s m) x) (put f.seats s (view v.number v.phase due handed v.hand v.looks)))
@@ -73,7 +73,7 @@ module _ (c : CoreState) (size : Sizes c) (f : FrontState Job Done) (sf : Stands
         at_rest = λ q. at_put f.seats s w (λ r y. (y.number ≡ r) × (y.phase ≡ Rest)) q (sf.at_rest s) (λ _. sf.at_rest q);
         each_hand = λ q. at_put f.seats s w (λ r y. r < c.submitters + c.workers → slice_get c.hands r ≡ Some (cells_of y.hand)) q (sf.each_hand s) (λ _. sf.each_hand q);
         hand_results = λ q k j d. at_put f.seats s w (λ r y. slice_get y.hand k ≡ Some (j, d) → result_in result_of (put f.cells i x j) ≡ Some d) q (kept s k j d) (λ _. kept q k j d);
-        each_first = λ t l. at_put f.seats s w (λ r y. r < c.submitters → y.handed % CELLS ≡ slice_index (set c.firsts s first) r) t
+        each_first = λ t l. at_put f.seats s w (λ r y. r < c.submitters → y.handed % SUBMITTER_CELLS ≡ slice_index (set c.firsts s first) r) t
             (λ _. is_first ∙ sym (get_or-set_same c.firsts s first 0 (omega (arith, size.firsts)))) (λ ne l. sf.each_first t l ∙ sym (get_or-set_other c.firsts s t first 0 ne)) l;
         each_out = λ t l. at_put f.seats s w (λ r y. r < c.submitters → length y.due ≡ y.handed + slice_index (set c.outs s out) r) t
             (λ _. is_out ∙ ap (λ (n : ℕ). handed + n) (sym (get_or-set_same c.outs s out 0 (omega (arith, size.outs))))) (λ ne l. sf.each_out t l ∙ ap (λ (n : ℕ). (f.seats t).handed + n) (sym (get_or-set_other c.outs s t out 0 ne))) l;
@@ -90,13 +90,13 @@ module _ (c : CoreState) (size : Sizes c) (f : FrontState Job Done) (sf : Stands
   first_is : (s : ℕ) → s < c.submitters → first_cell c s ≡ cell_of s (f.seats s).handed
   first_is s l = let b = sf.each_first s l in let n : ℕ = slice_index c.firsts s in omega arith
 
-  cell_is : (i : ℕ) (x : Cell Job Done) → i < CELLS * c.submitters → cell_in c i ≡ Some x → f.cells i ≡ x
+  cell_is : (i : ℕ) (x : Cell Job Done) → i < SUBMITTER_CELLS * c.submitters → cell_in c i ≡ Some x → f.cells i ≡ x
   cell_is i x l e = same_Some (f.cells i) x (sym (sf.each_cell i l) ∙ e)
 
   hand_is : (p : ℕ) → p < c.submitters + c.workers → hand_in c p ≡ cells_of (f.seats p).hand
   hand_is p l = get_or_from_slice_get c.hands p (cells_of (f.seats p).hand) [] (sf.each_hand p l)
 
-  post_leads : (s : ℕ) (j : Job) → Facts c f → s < c.submitters → out_of c s < CELLS
+  post_leads : (s : ℕ) (j : Job) → Facts c f → s < c.submitters → out_of c s < SUBMITTER_CELLS
       → (g : FrontState Job Done) × Step result_of c.submitters c.workers f (post s j) accepted g × StandsFor (posted c s j) g
   post_leads s j all l below =
       let v : View Done = f.seats s in let m : ℕ = length v.due in let i : ℕ = cell_of s m in let d : Done = result_of j in let due : List Done = v.due ++ d ∷ [] in let w : View Done = with_due v due in
@@ -115,7 +115,7 @@ module _ (c : CoreState) (size : Sizes c) (f : FrontState Job Done) (sf : Stands
             (subst (λ (t : List ℕ). StandsFor (record c { cells = set c.cells i (ready j); firsts = t; outs = set c.outs s (o + 1) }) (front (put f.cells i (ready j)) (put f.seats s w))) (set-get_or c.firsts s 0) stands),
       )
 
-  claim_leads : (p i : ℕ) (j : Job) → p < c.submitters + c.workers → i < CELLS * c.submitters → cell_in c i ≡ Some (ready j)
+  claim_leads : (p i : ℕ) (j : Job) → p < c.submitters + c.workers → i < SUBMITTER_CELLS * c.submitters → cell_in c i ≡ Some (ready j)
       → (g : FrontState Job Done) × Step result_of c.submitters c.workers f (claim p i) (claimed j) g × StandsFor (claimed_by c p i j) g
   claim_leads p i j lp li is =
       let v : View Done = f.seats p in let d : Done = result_of j in let hand : List (ℕ × Done) = v.hand ++ (i, d) ∷ [] in let w : View Done = with_hand v hand in
@@ -136,7 +136,7 @@ module _ (c : CoreState) (size : Sizes c) (f : FrontState Job Done) (sf : Stands
       cells_more [] i d = refl
       cells_more (x ∷ l) i d = ap (λ (t : List ℕ). x.0 ∷ t) (cells_more l i d)
 
-  finish_leads : (p i : ℕ) (d : Done) → Facts c f → p < c.submitters + c.workers → i < CELLS * c.submitters → cell_in c i ≡ Some (hand_of p d)
+  finish_leads : (p i : ℕ) (d : Done) → Facts c f → p < c.submitters + c.workers → i < SUBMITTER_CELLS * c.submitters → cell_in c i ≡ Some (hand_of p d)
       → (g : FrontState Job Done) × Step result_of c.submitters c.workers f (finish p i d) accepted g × StandsFor (finished c p i d) g
   finish_leads p i d all lp li is =
       let v : View Done = f.seats p in let here = cell_is i (hand_of p d) li is in
@@ -157,30 +157,30 @@ module _ (c : CoreState) (size : Sizes c) (f : FrontState Job Done) (sf : Stands
       let v : View Done = f.seats s in let h : ℕ = v.handed in let i : ℕ = cell_of s h in let w : View Done = with_handed v (h + 1) in let n : ℕ = slice_index c.firsts s in let o : ℕ = out_of c s in
       let out = sf.each_out s l in let at_first = sf.each_first s l in let few = all.few s l in
       let here : f.cells i ≡ done d = cell_is i (done d) (near c.submitters s h l) (ap (cell_in c) (sym (first_is s l)) ∙ is) in
-      let stands = stands_part s h ((n + 1) % CELLS) (o - 1) free v.due (h + 1) l
+      let stands = stands_part s h ((n + 1) % SUBMITTER_CELLS) (o - 1) free v.due (h + 1) l
       (λ p k e at. let word = sym (ap word_of here) ∙ all.holder p k i e at in absurd (omega arith))
       (omega arith) (omega arith)
       (λ m lo hi. ap (result_in result_of) (put_else f.cells i (cell_of s m) free (λ e. let same = one_number s h m h (omega arith) (omega arith) (omega arith) (omega arith) e in omega arith))
       ∙ sf.due_results s m l (omega arith) hi) in (
         front (put f.cells i free) (put f.seats s w),
         (l, here, put_changes f i free s w),
-        subst (λ (k : ℕ). StandsFor (record c { cells = set c.cells k free; firsts = set c.firsts s ((n + 1) % CELLS); outs = set c.outs s (o - 1) }) (front (put f.cells i free) (put f.seats s w))) (sym (first_is s l)) stands,
+        subst (λ (k : ℕ). StandsFor (record c { cells = set c.cells k free; firsts = set c.firsts s ((n + 1) % SUBMITTER_CELLS); outs = set c.outs s (o - 1) }) (front (put f.cells i free) (put f.seats s w))) (sym (first_is s l)) stands,
       )
 
 module _ (c : CoreState) (size : Sizes c) (backed : IsBacked c) where
-  pub posts_lead : (s : ℕ) (j : Job) → s < c.submitters → out_of c s < CELLS → Leads c (post s j) accepted (posted c s j)
+  pub posts_lead : (s : ℕ) (j : Job) → s < c.submitters → out_of c s < SUBMITTER_CELLS → Leads c (post s j) accepted (posted c s j)
   posts_lead s j l below f sf = post_leads c size f sf s j (facts_of c f sf backed) l below
 
-  pub refused_posts_lead : (s : ℕ) (j : Job) → s < c.submitters → out_of c s ≡ CELLS → Leads c (post s j) (returned j) c
+  pub refused_posts_lead : (s : ℕ) (j : Job) → s < c.submitters → out_of c s ≡ SUBMITTER_CELLS → Leads c (post s j) (returned j) c
   refused_posts_lead s j l full f sf = let out = sf.each_out s l in (f, (l, omega arith, refl, refl), sf)
 
-  pub claims_lead : (p i : ℕ) (j : Job) → p < c.submitters + c.workers → i < CELLS * c.submitters → cell_in c i ≡ Some (ready j) → Leads c (claim p i) (claimed j) (claimed_by c p i j)
+  pub claims_lead : (p i : ℕ) (j : Job) → p < c.submitters + c.workers → i < SUBMITTER_CELLS * c.submitters → cell_in c i ≡ Some (ready j) → Leads c (claim p i) (claimed j) (claimed_by c p i j)
   claims_lead p i j lp li is f sf = claim_leads c size f sf p i j lp li is
 
-  pub vain_claims_lead : (p i : ℕ) → p < c.submitters + c.workers → i < CELLS * c.submitters → ((j : Job) → cell_in c i ≢ Some (ready j)) → Leads c (claim p i) nothing c
+  pub vain_claims_lead : (p i : ℕ) → p < c.submitters + c.workers → i < SUBMITTER_CELLS * c.submitters → ((j : Job) → cell_in c i ≢ Some (ready j)) → Leads c (claim p i) nothing c
   vain_claims_lead p i lp li unready f sf = (f, (lp, li, (λ j e. unready j (sf.each_cell i li ∙ ap Some e)), refl), sf)
 
-  pub finishes_lead : (p i : ℕ) (d : Done) → p < c.submitters + c.workers → i < CELLS * c.submitters → cell_in c i ≡ Some (hand_of p d) → Leads c (finish p i d) accepted (finished c p i d)
+  pub finishes_lead : (p i : ℕ) (d : Done) → p < c.submitters + c.workers → i < SUBMITTER_CELLS * c.submitters → cell_in c i ≡ Some (hand_of p d) → Leads c (finish p i d) accepted (finished c p i d)
   finishes_lead p i d lp li is f sf = finish_leads c size f sf p i d (facts_of c f sf backed) lp li is
 
   pub collects_lead : (s : ℕ) (d : Done) → s < c.submitters → 0 < out_of c s → cell_in c (first_cell c s) ≡ Some (done d) → Leads c (collect s) (collected d) (handed_out c s)
@@ -201,7 +201,7 @@ module _ (c : CoreState) (size : Sizes c) (backed : IsBacked c) where
   )
 
   -- the hand of p has room for a cell that is ready
-  pub has_room : (p i : ℕ) (j : Job) → p < c.submitters + c.workers → i < CELLS * c.submitters → cell_in c i ≡ Some (ready j) → length (hand_in c p) < CELLS * c.submitters
+  pub has_room : (p i : ℕ) (j : Job) → p < c.submitters + c.workers → i < SUBMITTER_CELLS * c.submitters → cell_in c i ≡ Some (ready j) → length (hand_in c p) < SUBMITTER_CELLS * c.submitters
   has_room p i j lp li is = ∥∥₁_elim backed le_prop (λ h. let f = h.0 in let sf = h.1 in let all = facts_of c f sf backed in let here = cell_is c size f sf i (ready j) li is in
-      subst (λ (t : List ℕ). length t < CELLS * c.submitters) (sym (hand_is c size f sf p lp))
-      (room (f.seats p).hand i (CELLS * c.submitters) (all.once p) (λ k m d at. all.close p k m d at) (λ k d at. let word = sym (ap word_of here) ∙ all.holder p k i d at in omega arith) li))
+      subst (λ (t : List ℕ). length t < SUBMITTER_CELLS * c.submitters) (sym (hand_is c size f sf p lp))
+      (room (f.seats p).hand i (SUBMITTER_CELLS * c.submitters) (all.once p) (λ k m d at. all.close p k m d at) (λ k d at. let word = sym (ap word_of here) ∙ all.holder p k i d at in omega arith) li))

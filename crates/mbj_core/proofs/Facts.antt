@@ -13,7 +13,7 @@ use Rattle.mbj_types.specs.Result.{result_of}
 use Rattle.mbj_types.specs.declared.job.Job.{Job}
 use Rattle.mbj_types.specs.declared.done.Done.{Done}
 use Rattle.mbj_core.specs.declared.party.View.{View}
-use Rattle.mbj_core.specs.declared.cells.TheConstants.{CELLS}
+use Rattle.mbj_core.specs.declared.cells.TheConstants.{SUBMITTER_CELLS}
 use Rattle.mbj_core.specs.Cells.{hand_of, word_of, cell_of}
 use Rattle.mbj_core.specs.Parties.{FrontState}
 use Rattle.mbj_core.specs.Lawful.{Lawful}
@@ -27,16 +27,16 @@ use Rattle.mbj_core.proofs.Posts.{near}
 use Rattle.mbj_core.proofs.Steps.{step_sound}
 
 pub record Facts (c : CoreState) (f : FrontState Job Done) : Type 0 where
-  pub few : (s : ℕ) → s < c.submitters → length (f.seats s).due ≤ (f.seats s).handed + CELLS
-  pub idle : (s n : ℕ) → s < c.submitters → length (f.seats s).due ≤ n → n < (f.seats s).handed + CELLS → word_of (f.cells (cell_of s n)) ≡ 0
-  pub close : (p k i : ℕ) (d : Done) → slice_get (f.seats p).hand k ≡ Some (i, d) → i < CELLS * c.submitters
+  pub few : (s : ℕ) → s < c.submitters → length (f.seats s).due ≤ (f.seats s).handed + SUBMITTER_CELLS
+  pub idle : (s n : ℕ) → s < c.submitters → length (f.seats s).due ≤ n → n < (f.seats s).handed + SUBMITTER_CELLS → word_of (f.cells (cell_of s n)) ≡ 0
+  pub close : (p k i : ℕ) (d : Done) → slice_get (f.seats p).hand k ≡ Some (i, d) → i < SUBMITTER_CELLS * c.submitters
   pub holder : (p k i : ℕ) (d : Done) → slice_get (f.seats p).hand k ≡ Some (i, d) → word_of (f.cells i) ≡ 4 + 3 * p
-  pub held : (p i : ℕ) → i < CELLS * c.submitters → word_of (f.cells i) ≡ 4 + 3 * p → list_any (eqb i) (cells_of (f.seats p).hand) ≡ true
+  pub held : (p i : ℕ) → i < SUBMITTER_CELLS * c.submitters → word_of (f.cells i) ≡ 4 + 3 * p → list_any (eqb i) (cells_of (f.seats p).hand) ≡ true
   pub once : (p : ℕ) → Once (f.seats p).hand
 
 module _ (c : CoreState) (f g : FrontState Job Done) (sf : StandsFor c f) (sg : StandsFor c g) where
   -- two states that a core stands for have the same cells, and the same cells in each hand
-  same_cell : (i : ℕ) → i < CELLS * c.submitters → f.cells i ≡ g.cells i
+  same_cell : (i : ℕ) → i < SUBMITTER_CELLS * c.submitters → f.cells i ≡ g.cells i
   same_cell i l = same_Some (f.cells i) (g.cells i) (sym (sf.each_cell i l) ∙ sg.each_cell i l)
 
   same_hand : (p : ℕ) → cells_of (f.seats p).hand ≡ cells_of (g.seats p).hand
@@ -47,11 +47,11 @@ module _ (c : CoreState) (f g : FrontState Job Done) (sf : StandsFor c f) (sg : 
   entry_in : (p k i : ℕ) (d : Done) → slice_get (f.seats p).hand k ≡ Some (i, d) → (e : Done) × (slice_get (g.seats p).hand k ≡ Some (i, e))
   entry_in p k i d at = entry_at (g.seats p).hand k i (ap (λ (l : List ℕ). slice_get l k) (sym (same_hand p)) ∙ cell_at (f.seats p).hand k i d at)
 
-  idle_in : Lawful result_of c.submitters c.workers g → (s n : ℕ) → s < c.submitters → length (f.seats s).due ≤ n → n < (f.seats s).handed + CELLS → word_of (f.cells (cell_of s n)) ≡ 0
+  idle_in : Lawful result_of c.submitters c.workers g → (s n : ℕ) → s < c.submitters → length (f.seats s).due ≤ n → n < (f.seats s).handed + SUBMITTER_CELLS → word_of (f.cells (cell_of s n)) ≡ 0
   idle_in law s n l lo hi =
       let h : ℕ = (f.seats s).handed in let h' : ℕ = (g.seats s).handed in let m : ℕ = h' + (n - h) in
       let a = sf.each_out s l in let b = sg.each_out s l in let x = sf.each_first s l in let y = sg.each_first s l in
-      let turn : h % CELLS ≡ h' % CELLS = x ∙ sym y in
+      let turn : h % SUBMITTER_CELLS ≡ h' % SUBMITTER_CELLS = x ∙ sym y in
       let same : cell_of s n ≡ cell_of s m = omega arith in
       let there = free_there result_of (g.seats s) s m (g.cells (cell_of s m)) (each_number result_of c.submitters c.workers g law s m l (omega arith) (omega arith)) (sg.at_rest s).1 (omega arith) in
       ap (λ (i : ℕ). word_of (f.cells i)) same ∙ ap word_of (same_cell (cell_of s m) (near c.submitters s m l) ∙ there)
@@ -79,7 +79,7 @@ module _ (c : CoreState) (f : FrontState Job Done) (sf : StandsFor c f) where
     once = λ p k m i d e a b. ∥∥₁_elim backed (ℕ_set _ _) (λ h. (facts c f h.0 sf h.1 h.2).once p k m i d e a b);
   }
 
-  number_fits : Facts c f → (s n : ℕ) → s < c.submitters → (f.seats s).handed ≤ n → n < (f.seats s).handed + CELLS → Fits result_of (f.seats s) s n (f.cells (cell_of s n))
+  number_fits : Facts c f → (s n : ℕ) → s < c.submitters → (f.seats s).handed ≤ n → n < (f.seats s).handed + SUBMITTER_CELLS → Fits result_of (f.seats s) s n (f.cells (cell_of s n))
   number_fits all s n l lo hi = let rest = (sf.at_rest s).1 in let v : View Done = f.seats s in dite (dec_le (length v.due) n)
       (λ past. subst (Fits result_of v s n) (sym (free_word (f.cells (cell_of s n)) (all.idle s n l past hi))) (past, (λ e. absurd (rest_open (sym rest ∙ e))), λ e. absurd (rest_take (sym rest ∙ e))))
       (λ out. fits_due result_of v s n (f.cells (cell_of s n)) (omega arith) (sf.due_results s n l lo (omega arith)))

@@ -14,7 +14,7 @@ use Rattle.mbj_core.specs.CoreStates.{CoreState, HasHand, cell_in, hand_in, out_
 use Rattle.mbj_core.specs.Inside.Fields.{cell_shown, state_of, IsCore}
 use Rattle.mbj_core.specs.declared.cells.Slot.{Slot}
 use Rattle.mbj_core.specs.declared.cells.Slot.TheVariants as slot
-use Rattle.mbj_core.specs.declared.cells.TheConstants.{CELLS, MAX_SUBMITTERS}
+use Rattle.mbj_core.specs.declared.cells.TheConstants.{MAX_SUBMITTERS, SUBMITTER_CELLS}
 use Rattle.mbj_core.specs.declared.machine.Core.TheInside.{Inside}
 use Rattle.mbj_core.specs.Events.{Event, Answer, post, claim, finish, collect, accepted, claimed, collected}
 use Rattle.mbj_core.specs.Stands.{Leads, IsBacked}
@@ -78,14 +78,14 @@ module _ (a : Inside) (is : IsCore a) where
   pub first_read : (s n : ℕ) → s < a.submitters → n ≡ get_or a.firsts.items s n → n ≡ slice_index a.firsts.items s
   first_read s n l e = read a.firsts.items s n e (omega (arith, (sizes_of a is).firsts))
 
-  pub out_within : (s : ℕ) → s < a.submitters → out_of (state_of a) s ≤ CELLS
+  pub out_within : (s : ℕ) → s < a.submitters → out_of (state_of a) s ≤ SUBMITTER_CELLS
   out_within s l = is.each_out s 0 (omega (arith, (sizes_of a is).outs))
 
   -- a call that leaves these fields made what it should of the core, and led by its event
   led : (new what : CoreState) (e : Event Job Done) (r : Answer Job Done) → new ≡ what → what.submitters ≡ a.submitters → what.workers ≡ a.workers → Leads (state_of a) e r what → (new ≡ what) × IsBacked new × Leads (state_of a) e r new
   led new what e r same wide deep leads = (same, subst IsBacked (sym same) (backed_after (state_of a) what e r wide deep leads is.backed), subst (Leads (state_of a) e r) (sym same) leads)
 
-  pub after_post : (s next first out : ℕ) (job : Job) → s < a.submitters → next ≡ cell_of s (first + out) → first ≡ get_or a.firsts.items s first → out ≡ get_or a.outs.items s out → out ≢ CELLS
+  pub after_post : (s next first out : ℕ) (job : Job) → s < a.submitters → next ≡ cell_of s (first + out) → first ≡ get_or a.firsts.items s first → out ≡ get_or a.outs.items s out → out ≢ SUBMITTER_CELLS
       → let new : CoreState = state_with a (set a.cells.items next (slot.Ready job)) a.hands.items a.firsts.items (set a.outs.items s (out + 1)) in
       (new ≡ posted (state_of a) s job) × IsBacked new × Leads (state_of a) (post s job) accepted new
   after_post s next first out job l at f o room =
@@ -97,8 +97,8 @@ module _ (a : Inside) (is : IsCore a) where
       ∙ ap (λ (n : ℕ). record c { cells = set c.cells (next_cell c s) (ready job); outs = set c.outs s (n + 1) }) out_is)
       refl refl (posts_lead c (sizes_of a is) is.backed s job l (omega arith))
 
-  cell_read : (i : ℕ) (x : Slot) → i < CELLS * a.submitters → x ≡ get_or a.cells.items i x → cell_in (state_of a) i ≡ Some (cell_shown x)
-  cell_read i x l e = slice_get-map cell_shown a.cells.items i ∙ ap (option_map cell_shown) (slice_get_read a.cells.items (CELLS * a.submitters) i x (sym is.cells ∙ a.cells.ok.0) l e)
+  cell_read : (i : ℕ) (x : Slot) → i < SUBMITTER_CELLS * a.submitters → x ≡ get_or a.cells.items i x → cell_in (state_of a) i ≡ Some (cell_shown x)
+  cell_read i x l e = slice_get-map cell_shown a.cells.items i ∙ ap (option_map cell_shown) (slice_get_read a.cells.items (SUBMITTER_CELLS * a.submitters) i x (sym is.cells ∙ a.cells.ok.0) l e)
 
   hand_read : (p : ℕ) (hand : List ℕ) → p < a.submitters + a.workers → hand ≡ get_or a.hands.items p hand → hand ≡ hand_in (state_of a) p
   hand_read p hand l e = e ∙ get_or_default a.hands.items p hand [] (omega (arith, (sizes_of a is).hands))
@@ -107,10 +107,10 @@ module _ (a : Inside) (is : IsCore a) where
   pub unchanged : (i : ℕ) (x y : Slot) → x ≡ get_or a.cells.items i x → y ≡ x → state_with a (set a.cells.items i y) a.hands.items a.firsts.items a.outs.items ≡ state_of a
   unchanged i x y e same = ap (λ (t : List Slot). state_with a t a.hands.items a.firsts.items a.outs.items) (ap (set a.cells.items i) (same ∙ e) ∙ set-get_or a.cells.items i x)
 
-  pub ready_read : (i : ℕ) (job : Job) (x : Slot) → i < CELLS * a.submitters → x ≡ get_or a.cells.items i x → x ≡ slot.Ready job → cell_in (state_of a) i ≡ Some (ready job)
+  pub ready_read : (i : ℕ) (job : Job) (x : Slot) → i < SUBMITTER_CELLS * a.submitters → x ≡ get_or a.cells.items i x → x ≡ slot.Ready job → cell_in (state_of a) i ≡ Some (ready job)
   ready_read i job x li e is_ready = cell_read i x li e ∙ ap (λ (t : Slot). Some (cell_shown t)) is_ready
 
-  pub after_claim : (p i : ℕ) (job : Job) (x y : Slot) (hand more : List ℕ) → p < a.submitters + a.workers → i < CELLS * a.submitters → x ≡ get_or a.cells.items i x → x ≡ slot.Ready job → y ≡ slot.Held p job
+  pub after_claim : (p i : ℕ) (job : Job) (x y : Slot) (hand more : List ℕ) → p < a.submitters + a.workers → i < SUBMITTER_CELLS * a.submitters → x ≡ get_or a.cells.items i x → x ≡ slot.Ready job → y ≡ slot.Held p job
       → hand ≡ get_or a.hands.items p hand → more ≡ hand ++ i ∷ []
       → let new : CoreState = state_with a (set a.cells.items i y) (set a.hands.items p more) a.firsts.items a.outs.items in
       (new ≡ claimed_by (state_of a) p i job) × IsBacked new × Leads (state_of a) (claim p i) (claimed job) new
@@ -122,18 +122,18 @@ module _ (a : Inside) (is : IsCore a) where
       refl refl (claims_lead c (sizes_of a is) is.backed p i job lp li (ready_read i job x li e is_ready))
 
   -- what is read at a place that has just been written
-  pub read_back : (i : ℕ) (y z : Slot) → i < CELLS * a.submitters → z ≡ get_or (set a.cells.items i y) i z → z ≡ y
+  pub read_back : (i : ℕ) (y z : Slot) → i < SUBMITTER_CELLS * a.submitters → z ≡ get_or (set a.cells.items i y) i z → z ≡ y
   read_back i y z li e = e ∙ get_or-set_same a.cells.items i y z (omega (arith, is.cells, a.cells.ok.0))
 
   -- the hand has room for the cell of a job that no party has claimed
-  pub hand_room : (p i : ℕ) (job : Job) (x : Slot) (hand : List ℕ) → p < a.submitters + a.workers → i < CELLS * a.submitters → x ≡ get_or a.cells.items i x → x ≡ slot.Ready job
-      → hand ≡ get_or a.hands.items p hand → length hand < CELLS * MAX_SUBMITTERS
+  pub hand_room : (p i : ℕ) (job : Job) (x : Slot) (hand : List ℕ) → p < a.submitters + a.workers → i < SUBMITTER_CELLS * a.submitters → x ≡ get_or a.cells.items i x → x ≡ slot.Ready job
+      → hand ≡ get_or a.hands.items p hand → length hand < SUBMITTER_CELLS * MAX_SUBMITTERS
   hand_room p i job x hand lp li e is_ready h =
       let less = has_room (state_of a) (sizes_of a is) is.backed p i job lp li (ready_read i job x li e is_ready) in
       let same = ap (λ (t : List ℕ). length t) (hand_read p hand lp h) in let few = is.submitters in omega arith
 
   -- a slot with no job that can be claimed
-  pub unready : (i : ℕ) (x : Slot) → i < CELLS * a.submitters → x ≡ get_or a.cells.items i x → ((job : Job) → x ≢ slot.Ready job) → (job : Job) → cell_in (state_of a) i ≢ Some (ready job)
+  pub unready : (i : ℕ) (x : Slot) → i < SUBMITTER_CELLS * a.submitters → x ≡ get_or a.cells.items i x → ((job : Job) → x ≢ slot.Ready job) → (job : Job) → cell_in (state_of a) i ≢ Some (ready job)
   unready i x li e others job h = others job (shown_ready x job (same_Some (cell_shown x) (ready job) (sym (cell_read i x li e) ∙ h)))
 
   pub after_finish : (p i : ℕ) (d : Done) (hand left : List ℕ) → p < a.submitters + a.workers → cell_in (state_of a) i ≡ Some (hand_of p d) → hand ≡ get_or a.hands.items p hand
@@ -142,7 +142,7 @@ module _ (a : Inside) (is : IsCore a) where
       (new ≡ finished (state_of a) p i d) × IsBacked new × Leads (state_of a) (finish p i d) accepted new
   after_finish p i d hand left lp is_held h shorter =
       let c : CoreState = state_of a in
-      let li : i < CELLS * a.submitters = omega (arith, slice_get_within c.cells i (hand_of p d) is_held, (sizes_of a is).cells) in
+      let li : i < SUBMITTER_CELLS * a.submitters = omega (arith, slice_get_within c.cells i (hand_of p d) is_held, (sizes_of a is).cells) in
       led (state_with a (set a.cells.items i (slot.Done d)) (set a.hands.items p left) a.firsts.items a.outs.items) (finished c p i d) (finish p i d) accepted
       (cell_set a i (slot.Done d) (done d) (set a.hands.items p left) a.firsts.items a.outs.items refl
       ∙ ap (λ (t : List ℕ). record c { cells = set c.cells i (done d); hands = set c.hands p t }) (shorter ∙ ap (filter (λ k. not (k == i))) (hand_read p hand lp h)))
@@ -154,30 +154,31 @@ module _ (a : Inside) (is : IsCore a) where
   pub done_read : (s at first : ℕ) (d : Done) (x : Slot) → s < a.submitters → at ≡ cell_of s first → first ≡ get_or a.firsts.items s first → x ≡ get_or a.cells.items at x → x ≡ slot.Done d
       → cell_in (state_of a) (first_cell (state_of a) s) ≡ Some (done d)
   done_read s at first d x l here f e is_done = let same = first_at s at first l here f in
-      ap (cell_in (state_of a)) (sym same) ∙ cell_read at x (subst (λ (k : ℕ). k < CELLS * a.submitters) (sym same) (near a.submitters s (slice_index a.firsts.items s) l)) e ∙ ap (λ (t : Slot). Some (cell_shown t)) is_done
+      ap (cell_in (state_of a)) (sym same) ∙ cell_read at x (subst (λ (k : ℕ). k < SUBMITTER_CELLS * a.submitters) (sym same) (near a.submitters s (slice_index a.firsts.items s) l)) e ∙ ap (λ (t : Slot). Some (cell_shown t)) is_done
 
   -- a slot with no result
   pub undone : (s at first : ℕ) (x : Slot) → s < a.submitters → at ≡ cell_of s first → first ≡ get_or a.firsts.items s first → x ≡ get_or a.cells.items at x → ((d : Done) → x ≢ slot.Done d)
       → (d : Done) → cell_in (state_of a) (first_cell (state_of a) s) ≢ Some (done d)
   undone s at first x l here f e others d h = let same = first_at s at first l here f in
       others d (shown_done x d (same_Some (cell_shown x) (done d)
-      (sym (cell_read at x (subst (λ (k : ℕ). k < CELLS * a.submitters) (sym same) (near a.submitters s (slice_index a.firsts.items s) l)) e) ∙ ap (cell_in (state_of a)) same ∙ h)))
+      (sym (cell_read at x (subst (λ (k : ℕ). k < SUBMITTER_CELLS * a.submitters) (sym same) (near a.submitters s (slice_index a.firsts.items s) l)) e) ∙ ap (cell_in (state_of a)) same ∙ h)))
 
   pub after_collect : (s at first out : ℕ) (d : Done) (x y : Slot) → s < a.submitters → at ≡ cell_of s first → first ≡ get_or a.firsts.items s first → out ≡ get_or a.outs.items s out → out ≢ 0
       → x ≡ get_or a.cells.items at x → x ≡ slot.Done d → y ≡ slot.Free
-      → let new : CoreState = state_with a (set a.cells.items at y) a.hands.items (set a.firsts.items s ((first + 1) % CELLS)) (set a.outs.items s (out - 1)) in
+      → let new : CoreState = state_with a (set a.cells.items at y) a.hands.items
+      (set a.firsts.items s ((first + 1) % SUBMITTER_CELLS)) (set a.outs.items s (out - 1)) in
       (new ≡ handed_out (state_of a) s) × IsBacked new × Leads (state_of a) (collect s) (collected d) new
   after_collect s at first out d x y l here f o some_out e is_done is_free =
       let c : CoreState = state_of a in let out_is = out_read s out l o in let first_is = first_read s first l f in let same = first_at s at first l here f in
-      led (state_with a (set a.cells.items at y) a.hands.items (set a.firsts.items s ((first + 1) % CELLS)) (set a.outs.items s (out - 1))) (handed_out c s) (collect s) (collected d)
-      (cell_set a at y free a.hands.items (set a.firsts.items s ((first + 1) % CELLS)) (set a.outs.items s (out - 1)) (ap cell_shown is_free)
-      ∙ ap (λ (i : ℕ). record c { cells = set c.cells i free; firsts = set c.firsts s ((first + 1) % CELLS); outs = set c.outs s (out - 1) }) same
-      ∙ ap (λ (n : ℕ). record c { cells = set c.cells (first_cell c s) free; firsts = set c.firsts s ((n + 1) % CELLS); outs = set c.outs s (out - 1) }) first_is
-      ∙ ap (λ (n : ℕ). record c { cells = set c.cells (first_cell c s) free; firsts = set c.firsts s ((slice_index c.firsts s + 1) % CELLS); outs = set c.outs s (n - 1) }) out_is)
+      led (state_with a (set a.cells.items at y) a.hands.items (set a.firsts.items s ((first + 1) % SUBMITTER_CELLS)) (set a.outs.items s (out - 1))) (handed_out c s) (collect s) (collected d)
+      (cell_set a at y free a.hands.items (set a.firsts.items s ((first + 1) % SUBMITTER_CELLS)) (set a.outs.items s (out - 1)) (ap cell_shown is_free)
+      ∙ ap (λ (i : ℕ). record c { cells = set c.cells i free; firsts = set c.firsts s ((first + 1) % SUBMITTER_CELLS); outs = set c.outs s (out - 1) }) same
+      ∙ ap (λ (n : ℕ). record c { cells = set c.cells (first_cell c s) free; firsts = set c.firsts s ((n + 1) % SUBMITTER_CELLS); outs = set c.outs s (out - 1) }) first_is
+      ∙ ap (λ (n : ℕ). record c { cells = set c.cells (first_cell c s) free; firsts = set c.firsts s ((slice_index c.firsts s + 1) % SUBMITTER_CELLS); outs = set c.outs s (n - 1) }) out_is)
       refl refl (collects_lead c (sizes_of a is) is.backed s d l (omega arith) (done_read s at first d x l here f e is_done))
 
   -- the job that a party has claimed, as it is read out of its cell
-  pub held_read : (r : Option (Bor Job)) (p i : ℕ) (x : Slot) → i < CELLS * a.submitters → x ≡ get_or a.cells.items i x → MatchOption r ((j : Job) → x ≢ slot.Held p j) (λ j. x ≡ slot.Held p j.now)
+  pub held_read : (r : Option (Bor Job)) (p i : ℕ) (x : Slot) → i < SUBMITTER_CELLS * a.submitters → x ≡ get_or a.cells.items i x → MatchOption r ((j : Job) → x ≢ slot.Held p j) (λ j. x ≡ slot.Held p j.now)
       → IfSome r (λ j. HasHand (state_of a) i p (result_of j.now)) × IfNone r ((d : Done) → ¬ HasHand (state_of a) i p d)
   held_read None p i x li e none = (tt, λ d h. let was = shown_held x p d (same_Some (cell_shown x) (hand_of p d) (sym (cell_read i x li e) ∙ h)) in none was.0 was.1)
   held_read (Some b) p i x li e is_held = (cell_read i x li e ∙ ap (λ (t : Slot). Some (cell_shown t)) is_held, tt)

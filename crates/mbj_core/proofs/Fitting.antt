@@ -7,7 +7,7 @@ use native.Mathlib.Decide.{ℕ_discrete, dec_le}
 use Rattle.mbj_core.specs.declared.party.View.{View}
 use Rattle.mbj_core.specs.declared.party.Phase.{Phase}
 use Rattle.mbj_core.specs.declared.party.Phase.TheVariants.{Rest, Opening, Emptying}
-use Rattle.mbj_core.specs.declared.cells.TheConstants.{CELLS}
+use Rattle.mbj_core.specs.declared.cells.TheConstants.{SUBMITTER_CELLS}
 use Rattle.mbj_core.specs.Cells.{Cell, free, ready, done, open_by, hand_of, take_by, result_in, cell_of}
 use Rattle.mbj_core.specs.Parties.{FrontState, new_party}
 use Rattle.mbj_core.specs.Lawful.{Lawful}
@@ -28,12 +28,12 @@ module _ {J D : Type 0} where
   Is x y = y ≡ x
 
 module _ {J D : Type 0} (owed : J → D) where
-  -- What the cell of the number n may hold, for a submitter s whose part is v. The number is one of the CELLS numbers
-  -- from v.handed on, so each cell of s is that of exactly one of them. The cell of the number v.handed - 1, which was
-  -- handed out last, is that of the last of them, v.handed + CELLS - 1.
+  -- What the cell of the number n may hold, for a submitter s whose part is v. The number is one of the
+  -- SUBMITTER_CELLS numbers from v.handed on, so each cell of s is that of exactly one of them. The cell of the number
+  -- v.handed - 1, which was handed out last, is that of the last of them, v.handed + SUBMITTER_CELLS - 1.
   abbrev pub Fits : View D → ℕ → ℕ → Cell J D → Type 0
   -- n isn't out, and its cell is neither being filled nor being emptied
-  Fits v s n free = (length v.due ≤ n) × (v.phase ≡ Opening → n ≢ length v.due) × (v.phase ≡ Emptying → n + 1 ≢ v.handed + CELLS)
+  Fits v s n free = (length v.due ≤ n) × (v.phase ≡ Opening → n ≢ length v.due) × (v.phase ≡ Emptying → n + 1 ≢ v.handed + SUBMITTER_CELLS)
   -- n is out, and this is its result
   Fits v s n (ready j) = slice_get v.due n ≡ Some (owed j)
   Fits v s n (done d) = slice_get v.due n ≡ Some d
@@ -41,7 +41,7 @@ module _ {J D : Type 0} (owed : J → D) where
   -- n is the number of the next job, and the submitter fills its cell
   Fits v s n (open_by p) = (n ≡ length v.due) × (p ≡ s) × (v.phase ≡ Opening)
   -- the submitter empties the cell of the number v.handed - 1
-  Fits v s n (take_by p) = (n + 1 ≡ v.handed + CELLS) × (p ≡ s) × (v.phase ≡ Emptying)
+  Fits v s n (take_by p) = (n + 1 ≡ v.handed + SUBMITTER_CELLS) × (p ≡ s) × (v.phase ≡ Emptying)
 
   -- the cell of a number that is out fits it, if it has the result that is due
   pub fits_due : (v : View D) (s n : ℕ) (y : Cell J D) → n < length v.due → result_in owed y ≡ slice_get v.due n → Fits v s n y
@@ -52,7 +52,7 @@ module _ {J D : Type 0} (owed : J → D) where
   fits_due v s n (hand_of p d) l e = sym e
   fits_due v s n (take_by p) l e = let h = at_index v.due n l in absurd (none-some h.0 (e ∙ h.1))
 
-  due_there : (v : View D) (s n : ℕ) (y : Cell J D) → Fits v s n y → n < length v.due → (v.phase ≡ Emptying → length v.due < v.handed + CELLS) → result_in owed y ≡ slice_get v.due n
+  due_there : (v : View D) (s n : ℕ) (y : Cell J D) → Fits v s n y → n < length v.due → (v.phase ≡ Emptying → length v.due < v.handed + SUBMITTER_CELLS) → result_in owed y ≡ slice_get v.due n
   due_there v s n free h l room = absurd (omega (arith, h.0))
   due_there v s n (ready j) h l room = sym h
   due_there v s n (done d) h l room = sym h
@@ -68,7 +68,7 @@ module _ {J D : Type 0} (owed : J → D) where
   open_there v s n (hand_of p d) h r e = let l = slice_get_within v.due n d h in absurd (omega arith)
   open_there v s n (take_by p) h r e = absurd (open_take (sym r ∙ h.2))
 
-  pub take_there : (v : View D) (s n : ℕ) (y : Cell J D) → Fits v s n y → v.phase ≡ Emptying → n + 1 ≡ v.handed + CELLS → length v.due < v.handed + CELLS → Is (take_by s) y
+  pub take_there : (v : View D) (s n : ℕ) (y : Cell J D) → Fits v s n y → v.phase ≡ Emptying → n + 1 ≡ v.handed + SUBMITTER_CELLS → length v.due < v.handed + SUBMITTER_CELLS → Is (take_by s) y
   take_there v s n free h r e le = absurd (h.2 r e)
   take_there v s n (ready j) h r e le = let l = slice_get_within v.due n (owed j) h in absurd (omega arith)
   take_there v s n (done d) h r e le = let l = slice_get_within v.due n d h in absurd (omega arith)
@@ -76,7 +76,7 @@ module _ {J D : Type 0} (owed : J → D) where
   take_there v s n (hand_of p d) h r e le = let l = slice_get_within v.due n d h in absurd (omega arith)
   take_there v s n (take_by p) h r e le = ap take_by h.1
 
-  idle_there : (v : View D) (s n : ℕ) (y : Cell J D) → Fits v s n y → length v.due ≤ n → (v.phase ≡ Opening → n ≢ length v.due) → (v.phase ≡ Emptying → n + 1 ≢ v.handed + CELLS) → Is free y
+  idle_there : (v : View D) (s n : ℕ) (y : Cell J D) → Fits v s n y → length v.due ≤ n → (v.phase ≡ Opening → n ≢ length v.due) → (v.phase ≡ Emptying → n + 1 ≢ v.handed + SUBMITTER_CELLS) → Is free y
   idle_there v s n free h e o t = refl
   idle_there v s n (ready j) h e o t = let l = slice_get_within v.due n (owed j) h in absurd (omega arith)
   idle_there v s n (done d) h e o t = let l = slice_get_within v.due n d h in absurd (omega arith)
@@ -91,12 +91,13 @@ module _ {J D : Type 0} (owed : J → D) where
   -- the law, with one sentence on the cell of each number
   pub record Fitted (submitters workers : ℕ) (f : FrontState J D) : Type 0 where
     pub behind : (s : ℕ) → (f.seats s).handed ≤ length (f.seats s).due
-    pub within : (s : ℕ) → length (f.seats s).due ≤ (f.seats s).handed + CELLS
-    pub spare : (s : ℕ) → (f.seats s).phase ≢ Rest → length (f.seats s).due < (f.seats s).handed + CELLS
+    pub within : (s : ℕ) → length (f.seats s).due ≤ (f.seats s).handed + SUBMITTER_CELLS
+    pub spare : (s : ℕ) → (f.seats s).phase ≢ Rest → length (f.seats s).due < (f.seats s).handed + SUBMITTER_CELLS
     pub emptied : (s : ℕ) → (f.seats s).phase ≡ Emptying → 1 ≤ (f.seats s).handed
-    pub each_number : (s n : ℕ) → s < submitters → (f.seats s).handed ≤ n → n < (f.seats s).handed + CELLS → Fits (f.seats s) s n (f.cells (cell_of s n))
-    pub in_hand : (p k c : ℕ) (d : D) → slice_get (f.seats p).hand k ≡ Some (c, d) → (c < CELLS * submitters) × (f.cells c ≡ hand_of p d)
-    pub held : (p c : ℕ) (d : D) → c < CELLS * submitters → f.cells c ≡ hand_of p d → (k : ℕ) × (slice_get (f.seats p).hand k ≡ Some (c, d))
+    pub each_number : (s n : ℕ) → s < submitters → (f.seats s).handed ≤ n → n < (f.seats s).handed + SUBMITTER_CELLS
+        → Fits (f.seats s) s n (f.cells (cell_of s n))
+    pub in_hand : (p k c : ℕ) (d : D) → slice_get (f.seats p).hand k ≡ Some (c, d) → (c < SUBMITTER_CELLS * submitters) × (f.cells c ≡ hand_of p d)
+    pub held : (p c : ℕ) (d : D) → c < SUBMITTER_CELLS * submitters → f.cells c ≡ hand_of p d → (k : ℕ) × (slice_get (f.seats p).hand k ≡ Some (c, d))
     pub once : (p k l c : ℕ) (d e : D) → slice_get (f.seats p).hand k ≡ Some (c, d) → slice_get (f.seats p).hand l ≡ Some (c, e) → k ≡ l
     pub posters : (p : ℕ) → submitters ≤ p → ((f.seats p).due ≡ []) × ((f.seats p).phase ≡ Rest)
     pub nobody : (p : ℕ) → submitters + workers ≤ p → f.seats p ≡ new_party p
@@ -112,7 +113,7 @@ module _ {J D : Type 0} (owed : J → D) where
           due_there (f.seats s) s n (f.cells (cell_of s n)) (law.each_number s n l lo (omega arith)) hi (λ e. law.spare s (λ r. rest_take (sym r ∙ e)));
       filling = λ s l e. let room = law.spare s (λ r. rest_open (sym r ∙ e)) in let n : ℕ = length (f.seats s).due in
           open_there (f.seats s) s n (f.cells (cell_of s n)) (law.each_number s n l (law.behind s) room) e refl;
-      emptying = λ s l e. let room = law.spare s (λ r. rest_take (sym r ∙ e)) in let some = law.emptied s e in let h : ℕ = (f.seats s).handed in let n : ℕ = h + (CELLS - 1) in
+      emptying = λ s l e. let room = law.spare s (λ r. rest_take (sym r ∙ e)) in let some = law.emptied s e in let h : ℕ = (f.seats s).handed in let n : ℕ = h + (SUBMITTER_CELLS - 1) in
           let same : cell_of s (h - 1) ≡ cell_of s n = omega arith in
           ap f.cells same ∙ take_there (f.seats s) s n (f.cells (cell_of s n)) (law.each_number s n l (omega arith) (omega arith)) e (omega arith) room;
       idle = λ s n l past hi o t. let b = law.behind s in let h : ℕ = (f.seats s).handed in
@@ -125,7 +126,7 @@ module _ {J D : Type 0} (owed : J → D) where
       nobody = law.nobody;
     }
 
-    pub each_number : Lawful owed submitters workers f → (s n : ℕ) → s < submitters → (f.seats s).handed ≤ n → n < (f.seats s).handed + CELLS → Fits (f.seats s) s n (f.cells (cell_of s n))
+    pub each_number : Lawful owed submitters workers f → (s n : ℕ) → s < submitters → (f.seats s).handed ≤ n → n < (f.seats s).handed + SUBMITTER_CELLS → Fits (f.seats s) s n (f.cells (cell_of s n))
     each_number law s n l lo hi = dite (dec_le (length v.due) n) (λ past. not_out past v.phase refl) (λ out. let near : n < length v.due = omega arith in fits_due v s n y near (law.each_out s n l lo near))
       where
         v : View D
@@ -142,7 +143,7 @@ module _ {J D : Type 0} (owed : J → D) where
             (λ ne. let room = law.spare s (λ r. rest_open (sym r ∙ o)) in let b = law.behind s in
             subst (Fits v s n) (sym (law.idle s n l past hi (λ _ same. ne (let e : n ≡ length v.due = omega arith in e)) (λ t. absurd (open_take (sym o ∙ t)))))
             (past, (λ _. ne), λ t. absurd (open_take (sym o ∙ t))))
-        not_out past Emptying t = let some = law.emptied s t in dite (ℕ_discrete (n + 1) (v.handed + CELLS))
+        not_out past Emptying t = let some = law.emptied s t in dite (ℕ_discrete (n + 1) (v.handed + SUBMITTER_CELLS))
             (λ e. let same : cell_of s n ≡ cell_of s (v.handed - 1) = omega arith in subst (Fits v s n) (sym (ap f.cells same ∙ law.emptying s l t)) (e, refl, t))
-            (λ ne. subst (Fits v s n) (sym (law.idle s n l past hi (λ o. absurd (open_take (sym o ∙ t))) (λ _ same. ne (let e : n + 1 ≡ v.handed + CELLS = omega arith in e))))
+            (λ ne. subst (Fits v s n) (sym (law.idle s n l past hi (λ o. absurd (open_take (sym o ∙ t))) (λ _ same. ne (let e : n + 1 ≡ v.handed + SUBMITTER_CELLS = omega arith in e))))
             (past, (λ o. absurd (open_take (sym o ∙ t))), λ _. ne))

@@ -6,7 +6,7 @@ use Rattle.std.proofs.lemmas.List.Elements.{All-replicate}
 use Rattle.std.proofs.lemmas.List.{get_or-replicate, length-replicate}
 use Rattle.std.proofs.lemmas.Option.{none-some, slice_get-get_or}
 use Rattle.mbj_types.specs.Result.{result_of}
-use Rattle.mbj_core.specs.declared.cells.TheConstants.{CELLS, MAX_SUBMITTERS, MAX_WORKERS}
+use Rattle.mbj_core.specs.declared.cells.TheConstants.{MAX_SUBMITTERS, MAX_WORKERS, SUBMITTER_CELLS}
 use Rattle.mbj_core.specs.declared.cells.Slot.{Slot}
 use Rattle.mbj_core.specs.declared.cells.Slot.TheVariants as slot
 use Rattle.mbj_core.specs.declared.machine.Core.TheInside.{Inside}
@@ -30,7 +30,7 @@ none_out n s l = let none : slice_index (replicate n 0) s ≡ 0 = get_or-replica
 
 pub new_stands : (submitters workers : ℕ) → StandsFor (new_core submitters workers) new_front
 new_stands submitters workers = record {
-  each_cell = λ c l. at_replicate (CELLS * submitters) c free l;
+  each_cell = λ c l. at_replicate (SUBMITTER_CELLS * submitters) c free l;
   at_rest = λ p. (refl, refl);
   each_hand = λ p l. at_replicate (submitters + workers) p [] l;
   hand_results = λ p k c d at. absurd (none-some (c, d) at);
@@ -45,13 +45,13 @@ pub new_backed : (submitters workers : ℕ) → IsBacked (new_core submitters wo
 new_backed submitters workers = ∣ (new_front, new_stands submitters workers, (new_front_sound result_of submitters workers).1) ∣₁
 
 -- the fields of a core that was just made
-module _ (a : Inside) (free_cells : a.cells.items ≡ replicate (CELLS * a.submitters) slot.Free) (empty_hands : a.hands.items ≡ replicate (a.submitters + a.workers) [])
+module _ (a : Inside) (free_cells : a.cells.items ≡ replicate (SUBMITTER_CELLS * a.submitters) slot.Free) (empty_hands : a.hands.items ≡ replicate (a.submitters + a.workers) [])
     (firsts : a.firsts.items ≡ replicate a.submitters 0) (outs : a.outs.items ≡ replicate a.submitters 0) where
   pub new_is : state_of a ≡ new_core a.submitters a.workers
   new_is = λ t. record {
     submitters = a.submitters;
     workers = a.workers;
-    cells = (ap (map cell_shown) free_cells ∙ map_replicate cell_shown (CELLS * a.submitters) slot.Free) t;
+    cells = (ap (map cell_shown) free_cells ∙ map_replicate cell_shown (SUBMITTER_CELLS * a.submitters) slot.Free) t;
     hands = empty_hands t;
     firsts = firsts t;
     outs = outs t;
@@ -62,11 +62,11 @@ module _ (a : Inside) (free_cells : a.cells.items ≡ replicate (CELLS * a.submi
     some_submitter = some;
     submitters = few_submitters;
     workers = few_workers;
-    cells = a.cells.ok.0 ∙ ap (λ (l : List Slot). length l) free_cells ∙ length-replicate (CELLS * a.submitters) slot.Free;
+    cells = a.cells.ok.0 ∙ ap (λ (l : List Slot). length l) free_cells ∙ length-replicate (SUBMITTER_CELLS * a.submitters) slot.Free;
     hands = a.hands.ok.0 ∙ ap (λ (l : List (List ℕ)). length l) empty_hands ∙ length-replicate (a.submitters + a.workers) [];
     firsts = a.firsts.ok.0 ∙ ap (λ (l : List ℕ). length l) firsts ∙ length-replicate a.submitters 0;
     outs = a.outs.ok.0 ∙ ap (λ (l : List ℕ). length l) outs ∙ length-replicate a.submitters 0;
-    each_first = subst (All (λ n. n < CELLS)) (sym firsts) (All-replicate (λ n. n < CELLS) a.submitters 0 (omega arith));
-    each_out = subst (All (λ n. n ≤ CELLS)) (sym outs) (All-replicate (λ n. n ≤ CELLS) a.submitters 0 (omega arith));
+    each_first = subst (All (λ n. n < SUBMITTER_CELLS)) (sym firsts) (All-replicate (λ n. n < SUBMITTER_CELLS) a.submitters 0 (omega arith));
+    each_out = subst (All (λ n. n ≤ SUBMITTER_CELLS)) (sym outs) (All-replicate (λ n. n ≤ SUBMITTER_CELLS) a.submitters 0 (omega arith));
     backed = subst IsBacked (sym new_is) (new_backed a.submitters a.workers);
   }

@@ -7,7 +7,7 @@ use native.Mathlib.Decide.{ℕ_discrete}
 use Rattle.mbj_core.specs.declared.party.View.{View}
 use Rattle.mbj_core.specs.declared.party.Phase.{Phase}
 use Rattle.mbj_core.specs.declared.party.Phase.TheVariants.{Rest, Emptying}
-use Rattle.mbj_core.specs.declared.cells.TheConstants.{CELLS}
+use Rattle.mbj_core.specs.declared.cells.TheConstants.{SUBMITTER_CELLS}
 use Rattle.mbj_core.specs.Cells.{Cell, free, ready, done, open_by, hand_of, take_by, cell_of}
 use Rattle.mbj_core.specs.Parties.{view, front, FrontState, new_party}
 use Rattle.mbj_core.specs.Lawful.{Lawful}
@@ -20,28 +20,28 @@ use Rattle.mbj_core.proofs.Hands.{is_hand, not_in_hand}
 pub one_owner : (s t n m : ℕ) → cell_of s n ≡ cell_of t m → s ≡ t
 one_owner s t n m e = omega arith
 
-pub one_number : (s h n m : ℕ) → h ≤ n → n < h + CELLS → h ≤ m → m < h + CELLS → cell_of s n ≡ cell_of s m → n ≡ m
+pub one_number : (s h n m : ℕ) → h ≤ n → n < h + SUBMITTER_CELLS → h ≤ m → m < h + SUBMITTER_CELLS → cell_of s n ≡ cell_of s m → n ≡ m
 one_number s h n m a b c d e = omega arith
 
-pub near : (S s n : ℕ) → s < S → cell_of s n < CELLS * S
+pub near : (S s n : ℕ) → s < S → cell_of s n < SUBMITTER_CELLS * S
 near S s n l = omega arith
 
 module _ {J D : Type 0} (owed : J → D) where
   -- the part of the submitter p changes, but not its hand, and one of its cells
   pub reposts : (S W : ℕ) (f : FrontState J D) (p m : ℕ) (x : Cell J D) (phase : Phase) (due : List D) (handed : ℕ) (looks : List (ℕ × ℕ)) → Lawful owed S W f → p < S
-      → handed ≤ length due → length due ≤ handed + CELLS → (phase ≢ Rest → length due < handed + CELLS) → (phase ≡ Emptying → 1 ≤ handed) → is_hand (f.cells (cell_of p m)) ≡ 0 → is_hand x ≡ 0
+      → handed ≤ length due → length due ≤ handed + SUBMITTER_CELLS → (phase ≢ Rest → length due < handed + SUBMITTER_CELLS) → (phase ≡ Emptying → 1 ≤ handed) → is_hand (f.cells (cell_of p m)) ≡ 0 → is_hand x ≡ 0
       → let w : View D = view (f.seats p).number phase due handed (f.seats p).hand looks in
-      ((n : ℕ) → handed ≤ n → n < handed + CELLS → Fits owed w p n (put f.cells (cell_of p m) x (cell_of p n)))
+      ((n : ℕ) → handed ≤ n → n < handed + SUBMITTER_CELLS → Fits owed w p n (put f.cells (cell_of p m) x (cell_of p n)))
       → Lawful owed S W (front (put f.cells (cell_of p m) x) (put f.seats p w))
   reposts S W f p m x phase due handed looks law less a b c some quiet quiet' numbers = let w : View D = view (f.seats p).number phase due handed (f.seats p).hand looks in let i : ℕ = cell_of p m in lawful owed S W _ (record {
     behind = λ s. at_put f.seats p w (λ q y. y.handed ≤ length y.due) s a (λ _. law.behind s);
-    within = λ s. at_put f.seats p w (λ q y. length y.due ≤ y.handed + CELLS) s b (λ _. law.within s);
-    spare = λ s. at_put f.seats p w (λ q y. y.phase ≢ Rest → length y.due < y.handed + CELLS) s c (λ _. law.spare s);
+    within = λ s. at_put f.seats p w (λ q y. length y.due ≤ y.handed + SUBMITTER_CELLS) s b (λ _. law.within s);
+    spare = λ s. at_put f.seats p w (λ q y. y.phase ≢ Rest → length y.due < y.handed + SUBMITTER_CELLS) s c (λ _. law.spare s);
     emptied = λ s. at_put f.seats p w (λ q y. y.phase ≡ Emptying → 1 ≤ y.handed) s some (λ _. law.emptied s);
-    each_number = λ s n l. at_put f.seats p w (λ q y. y.handed ≤ n → n < y.handed + CELLS → Fits owed y q n (put f.cells i x (cell_of q n))) s (λ lo hi. numbers n lo hi)
+    each_number = λ s n l. at_put f.seats p w (λ q y. y.handed ≤ n → n < y.handed + SUBMITTER_CELLS → Fits owed y q n (put f.cells i x (cell_of q n))) s (λ lo hi. numbers n lo hi)
         (λ other lo hi. subst (Fits owed (f.seats s) s n) (sym (put_else f.cells i (cell_of s n) x (λ e. other (one_owner s p n m e)))) (each_number owed S W f law s n l lo hi));
-    in_hand = λ q k j d. at_put f.seats p w (λ q y. slice_get y.hand k ≡ Some (j, d) → (j < CELLS * S) × (put f.cells i x j ≡ hand_of q d)) q (mine p k j d) (λ _. mine q k j d);
-    held = λ q j d l. at_put f.cells i x (λ j y. j < CELLS * S → y ≡ hand_of q d → (k : ℕ) × (slice_get (put f.seats p w q).hand k ≡ Some (j, d))) j
+    in_hand = λ q k j d. at_put f.seats p w (λ q y. slice_get y.hand k ≡ Some (j, d) → (j < SUBMITTER_CELLS * S) × (put f.cells i x j ≡ hand_of q d)) q (mine p k j d) (λ _. mine q k j d);
+    held = λ q j d l. at_put f.cells i x (λ j y. j < SUBMITTER_CELLS * S → y ≡ hand_of q d → (k : ℕ) × (slice_get (put f.seats p w q).hand k ≡ Some (j, d))) j
         (λ _ h. absurd (not_in_hand x q d quiet' h))
         (λ _ l h. at_put f.seats p w (λ r y. r ≡ q → (k : ℕ) × (slice_get y.hand k ≡ Some (j, d))) q (λ e. law.held p j d l (subst (λ (r : ℕ). f.cells j ≡ hand_of r d) (sym e) h)) (λ _ _. law.held q j d l h) refl) l;
     once = λ q k l j d e. at_put f.seats p w (λ q y. slice_get y.hand k ≡ Some (j, d) → slice_get y.hand l ≡ Some (j, e) → k ≡ l) q (law.once p k l j d e) (λ _. law.once q k l j d e);
@@ -49,7 +49,7 @@ module _ {J D : Type 0} (owed : J → D) where
     nobody = λ q far. at_put f.seats p w (λ q y. S + W ≤ q → y ≡ new_party q) q (λ far. absurd (omega arith)) (λ _. law.nobody q) far;
   })
     where
-      mine : (q k j : ℕ) (d : D) → slice_get (f.seats q).hand k ≡ Some (j, d) → (j < CELLS * S) × (put f.cells (cell_of p m) x j ≡ hand_of q d)
+      mine : (q k j : ℕ) (d : D) → slice_get (f.seats q).hand k ≡ Some (j, d) → (j < SUBMITTER_CELLS * S) × (put f.cells (cell_of p m) x j ≡ hand_of q d)
       mine q k j d at = let was = law.in_hand q k j d at in (was.0, put_else f.cells (cell_of p m) j x (λ e. not_in_hand (f.cells j) q d (ap (λ (t : ℕ). is_hand (f.cells t)) e ∙ quiet) was.1) ∙ was.1)
 
   posted_fits : (v : View D) (d : D) (looks : List (ℕ × ℕ)) (s n : ℕ) (y : Cell J D) → Fits owed v s n y → v.phase ≢ Emptying → n ≢ length v.due → Fits owed (view v.number Rest (v.due ++ d ∷ []) v.handed v.hand looks) s n y
@@ -61,7 +61,7 @@ module _ {J D : Type 0} (owed : J → D) where
   posted_fits v d looks s n (take_by p) h r ne = absurd (r h.2)
 
   -- the cell of the next number gets a job, and the submitter is at rest
-  pub fills : (S W : ℕ) (f : FrontState J D) (p : ℕ) (j : J) (looks : List (ℕ × ℕ)) → Lawful owed S W f → p < S → (f.seats p).phase ≢ Emptying → length (f.seats p).due < (f.seats p).handed + CELLS
+  pub fills : (S W : ℕ) (f : FrontState J D) (p : ℕ) (j : J) (looks : List (ℕ × ℕ)) → Lawful owed S W f → p < S → (f.seats p).phase ≢ Emptying → length (f.seats p).due < (f.seats p).handed + SUBMITTER_CELLS
       → let v : View D = f.seats p in let i : ℕ = cell_of p (length v.due) in
       is_hand (f.cells i) ≡ 0 → Lawful owed S W (front (put f.cells i (ready j)) (put f.seats p (view v.number Rest (v.due ++ owed j ∷ []) v.handed v.hand looks)))
   fills S W f p j looks law less at room quiet =
@@ -75,7 +75,7 @@ module _ {J D : Type 0} (owed : J → D) where
       (posted_fits v d looks p n (f.cells (cell_of p n)) (each_number owed S W f law p n less lo hi) at ne)))
 
   -- the submitter at rest posts a job
-  pub posts : (S W : ℕ) (f : FrontState J D) (p : ℕ) (j : J) (looks : List (ℕ × ℕ)) → Lawful owed S W f → p < S → (f.seats p).phase ≡ Rest → length (f.seats p).due < (f.seats p).handed + CELLS
+  pub posts : (S W : ℕ) (f : FrontState J D) (p : ℕ) (j : J) (looks : List (ℕ × ℕ)) → Lawful owed S W f → p < S → (f.seats p).phase ≡ Rest → length (f.seats p).due < (f.seats p).handed + SUBMITTER_CELLS
       → let v : View D = f.seats p in let i : ℕ = cell_of p (length v.due) in
       (f.cells i ≡ free) × Lawful owed S W (front (put f.cells i (ready j)) (put f.seats p (view v.number Rest (v.due ++ owed j ∷ []) v.handed v.hand looks)))
   posts S W f p j looks law less at_rest room =
@@ -102,7 +102,7 @@ module _ {J D : Type 0} (owed : J → D) where
       let some_out = slice_get_within v.due h d due in (
         due,
         reposts S W f p h x Rest v.due (h + 1) looks law less (omega arith) (omega arith) (λ e. absurd (e refl)) (λ e. absurd (rest_take e)) (ap is_hand is) refl
-            (λ n lo hi. dite (ℕ_discrete n (h + CELLS))
+            (λ n lo hi. dite (ℕ_discrete n (h + SUBMITTER_CELLS))
             (λ e. subst (λ (k : Cell J D). Fits owed w p n k) (sym (put_here f.cells i x) ∙ ap (put f.cells i x) (let same : i ≡ cell_of p n = omega arith in same)) (omega arith, (λ e. absurd (rest_open e)), λ e. absurd (rest_take e)))
             (λ ne. subst (Fits owed w p n) (sym (put_else f.cells i (cell_of p n) x (λ e. let same = one_number p h n h (omega arith) (omega arith) (omega arith) (omega arith) e in absurd (omega arith))))
             (collected_fits v looks p n (f.cells (cell_of p n)) (each_number owed S W f law p n less (omega arith) (omega arith)) at_rest))),

@@ -1,10 +1,10 @@
 -- The cells of the front: which one a job has, and what a cell holds.
 use Rattle.std.specs.Prelude.{ℕ, ◌+◌, ◌*◌, ◌%◌, Option, None, Some}
-use Rattle.mbj_core.specs.declared.cells.TheConstants.{CELLS}
+use Rattle.mbj_core.specs.declared.cells.TheConstants.{SUBMITTER_CELLS}
 
 -- the cell of the job n of the submitter s; its jobs are counted from 0
 abbrev pub cell_of : ℕ → ℕ → ℕ
-cell_of s n = CELLS * s + n % CELLS
+cell_of s n = SUBMITTER_CELLS * s + n % SUBMITTER_CELLS
 
 -- What a cell holds: J are the jobs and D the results.
 pub data Cell (J D : Type 0) : Type 0 where

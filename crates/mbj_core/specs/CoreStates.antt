@@ -5,10 +5,10 @@ use Rattle.mbj_types.specs.Result.{result_of}
 use Rattle.mbj_types.specs.declared.job.Job.{Job}
 use Rattle.mbj_types.specs.declared.done.Done.{Done}
 use Rattle.mbj_core.specs.Cells.{Cell, free, ready, done, hand_of, cell_of}
-use Rattle.mbj_core.specs.declared.cells.TheConstants.{CELLS}
+use Rattle.mbj_core.specs.declared.cells.TheConstants.{SUBMITTER_CELLS}
 
 -- The cells of the submitters; for each party, the cells in its hand, the earliest claim first; for each submitter, the
--- number of its earliest job that is out, modulo CELLS, and how many are out.
+-- number of its earliest job that is out, modulo SUBMITTER_CELLS, and how many are out.
 pub record CoreState : Type 0 where
   pub submitters : ℕ
   pub workers : ℕ
@@ -22,7 +22,7 @@ abbrev pub new_core : ℕ → ℕ → CoreState
 new_core submitters workers = record {
   submitters = submitters;
   workers = workers;
-  cells = replicate (CELLS * submitters) free;
+  cells = replicate (SUBMITTER_CELLS * submitters) free;
   hands = replicate (submitters + workers) [];
   firsts = replicate submitters 0;
   outs = replicate submitters 0;
@@ -83,6 +83,6 @@ finished c p i d = record c {
 abbrev pub handed_out : CoreState → ℕ → CoreState
 handed_out c s = record c {
   cells = set c.cells (first_cell c s) free;
-  firsts = set c.firsts s ((slice_index c.firsts s + 1) % CELLS);
+  firsts = set c.firsts s ((slice_index c.firsts s + 1) % SUBMITTER_CELLS);
   outs = set c.outs s (out_of c s - 1);
 }

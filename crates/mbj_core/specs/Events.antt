@@ -2,7 +2,7 @@
 use Rattle.std.specs.Prelude.{◌≡◌, ◌≢◌, ℕ, ◌+◌, ◌*◌, ◌<◌, ◌≤◌, List, [], ◌∷◌, ◌++◌, length}
 use Rattle.mbj_core.specs.Cells.{Cell, free, ready, done, hand_of, cell_of}
 use Rattle.mbj_core.specs.Parties.{FrontState, with_due, with_handed, with_hand}
-use Rattle.mbj_core.specs.declared.cells.TheConstants.{CELLS}
+use Rattle.mbj_core.specs.declared.cells.TheConstants.{SUBMITTER_CELLS}
 use Rattle.mbj_core.specs.declared.party.View.{View}
 
 pub data Event (J D : Type 0) : Type 0 where
@@ -43,22 +43,22 @@ module _ {J D : Type 0} where
 module _ {J D : Type 0} (owed : J → D) (submitters workers : ℕ) where
   -- The event leads from f to g with this answer, where `owed` gives the result of a job.
   abbrev pub Step : FrontState J D → Event J D → Answer J D → FrontState J D → Type 0
-  -- fewer than CELLS of s are out: its next number's cell gets the job
+  -- fewer than SUBMITTER_CELLS of s are out: its next number's cell gets the job
   Step f (post s j) accepted g =
       let v = f.seats s in
-      (s < submitters) × (length v.due < v.handed + CELLS)
+      (s < submitters) × (length v.due < v.handed + SUBMITTER_CELLS)
       × Changes f g (cell_of s (length v.due)) (ready j) s (with_due v (v.due ++ owed j ∷ []))
-  -- CELLS of s are out
+  -- SUBMITTER_CELLS of s are out
   Step f (post s j) (returned i) g =
-      (s < submitters) × ((f.seats s).handed + CELLS ≤ length (f.seats s).due) × (i ≡ j) × (g ≡ f)
+      (s < submitters) × ((f.seats s).handed + SUBMITTER_CELLS ≤ length (f.seats s).due) × (i ≡ j) × (g ≡ f)
   -- c has a job: it goes to the end of the hand of p
   Step f (claim p c) (claimed j) g =
       let v = f.seats p in
-      (p < submitters + workers) × (c < CELLS * submitters) × (f.cells c ≡ ready j)
+      (p < submitters + workers) × (c < SUBMITTER_CELLS * submitters) × (f.cells c ≡ ready j)
       × Changes f g c (hand_of p (owed j)) p (with_hand v (v.hand ++ (c, owed j) ∷ []))
   -- c has no job
   Step f (claim p c) nothing g =
-      (p < submitters + workers) × (c < CELLS * submitters) × ((j : J) → f.cells c ≢ ready j) × (g ≡ f)
+      (p < submitters + workers) × (c < SUBMITTER_CELLS * submitters) × ((j : J) → f.cells c ≢ ready j) × (g ≡ f)
   -- c is in the hand of p with this result: it leaves the hand
   Step f (finish p c d) accepted g =
       let v = f.seats p in

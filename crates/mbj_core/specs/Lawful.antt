@@ -2,7 +2,7 @@
 use Rattle.std.specs.Prelude.{◌≡◌, ◌≢◌, ℕ, ◌+◌, ◌-◌, ◌*◌, ◌<◌, ◌≤◌, [], length, slice_get, Some}
 use Rattle.mbj_core.specs.Cells.{free, open_by, hand_of, take_by, result_in, cell_of}
 use Rattle.mbj_core.specs.Parties.{FrontState, new_party}
-use Rattle.mbj_core.specs.declared.cells.TheConstants.{CELLS}
+use Rattle.mbj_core.specs.declared.cells.TheConstants.{SUBMITTER_CELLS}
 use Rattle.mbj_core.specs.declared.party.Phase.TheVariants.{Rest, Opening, Emptying}
 
 module _ {J D : Type 0} (owed : J → D) where
@@ -10,9 +10,9 @@ module _ {J D : Type 0} (owed : J → D) where
     -- no more results are handed out than are due
     pub behind : (s : ℕ) → (f.seats s).handed ≤ length (f.seats s).due
     -- no more are out than there are cells
-    pub within : (s : ℕ) → length (f.seats s).due ≤ (f.seats s).handed + CELLS
+    pub within : (s : ℕ) → length (f.seats s).due ≤ (f.seats s).handed + SUBMITTER_CELLS
     -- a cell that is being filled or emptied isn't one of those that are out
-    pub spare : (s : ℕ) → (f.seats s).phase ≢ Rest → length (f.seats s).due < (f.seats s).handed + CELLS
+    pub spare : (s : ℕ) → (f.seats s).phase ≢ Rest → length (f.seats s).due < (f.seats s).handed + SUBMITTER_CELLS
     -- a submitter that empties a cell has been handed a result
     pub emptied : (s : ℕ) → (f.seats s).phase ≡ Emptying → 1 ≤ (f.seats s).handed
     -- the cell of a number that is out has that number's result: it holds its job or the result, or is in a hand with it
@@ -21,14 +21,14 @@ module _ {J D : Type 0} (owed : J → D) where
     pub filling : (s : ℕ) → s < submitters → (f.seats s).phase ≡ Opening → f.cells (cell_of s (length (f.seats s).due)) ≡ open_by s
     -- a submitter that empties a cell empties that of the number that was handed out last
     pub emptying : (s : ℕ) → s < submitters → (f.seats s).phase ≡ Emptying → f.cells (cell_of s ((f.seats s).handed - 1)) ≡ take_by s
-    -- each other cell of a submitter is free: the CELLS numbers from the first that is out on have all its cells
-    pub idle : (s n : ℕ) → s < submitters → length (f.seats s).due ≤ n → n < (f.seats s).handed + CELLS
+    -- each other cell of a submitter is free: the SUBMITTER_CELLS numbers from the first that is out on have all cells
+    pub idle : (s n : ℕ) → s < submitters → length (f.seats s).due ≤ n → n < (f.seats s).handed + SUBMITTER_CELLS
         → ((f.seats s).phase ≡ Opening → cell_of s n ≢ cell_of s (length (f.seats s).due)) → ((f.seats s).phase ≡ Emptying → cell_of s n ≢ cell_of s ((f.seats s).handed - 1))
         → f.cells (cell_of s n) ≡ free
     -- a cell in a hand says whose hand it is, and the same result
-    pub in_hand : (p k c : ℕ) (d : D) → slice_get (f.seats p).hand k ≡ Some (c, d) → (c < CELLS * submitters) × (f.cells c ≡ hand_of p d)
+    pub in_hand : (p k c : ℕ) (d : D) → slice_get (f.seats p).hand k ≡ Some (c, d) → (c < SUBMITTER_CELLS * submitters) × (f.cells c ≡ hand_of p d)
     -- a cell that is said to be in a hand is there
-    pub held : (p c : ℕ) (d : D) → c < CELLS * submitters → f.cells c ≡ hand_of p d → (k : ℕ) × (slice_get (f.seats p).hand k ≡ Some (c, d))
+    pub held : (p c : ℕ) (d : D) → c < SUBMITTER_CELLS * submitters → f.cells c ≡ hand_of p d → (k : ℕ) × (slice_get (f.seats p).hand k ≡ Some (c, d))
     -- no hand has a cell twice; by in_hand no two hands have the same cell
     pub once : (p k l c : ℕ) (d e : D) → slice_get (f.seats p).hand k ≡ Some (c, d) → slice_get (f.seats p).hand l ≡ Some (c, e) → k ≡ l
     -- workers post nothing

@@ -10,7 +10,7 @@ use std::alloc::{AllocError, Global};
 use std::mem;
 
 /// How many cells a submitter has.
-pub const CELLS: u32 = 256;
+pub const SUBMITTER_CELLS: u32 = 256;
 
 /// The most submitters that a front has.
 pub const MAX_SUBMITTERS: u32 = 16;
@@ -20,7 +20,7 @@ pub const MAX_WORKERS: u32 = 16;
 
 /// A law: a submitter has 256 cells, and a front at most 16 submitters and 16 workers.
 pub fn the_front_has_these_limits()
-    ensures cells { CELLS ≡ 256 }
+    ensures cells { SUBMITTER_CELLS ≡ 256 }
     ensures submitters { MAX_SUBMITTERS ≡ 16 }
     ensures workers { MAX_WORKERS ≡ 16 }
 {}
@@ -98,10 +98,10 @@ pub(crate) fn free_cells(alloc: Global, count: usize) -> Result<Vec<Slot>, Alloc
     Ok(cells)
 }
 
-/// The cell of a submitter's job `number`. Numbers that differ by a multiple of `CELLS` have one cell.
+/// The cell of a submitter's job `number`. Numbers that differ by a multiple of `SUBMITTER_CELLS` have one cell.
 pub fn cell_at(submitter: u32, number: u32) -> u32
     requires submitter { submitter < MAX_SUBMITTERS }
     ensures { result ≡ cell_of submitter number }
 {
-    CELLS * submitter + number % CELLS
+    SUBMITTER_CELLS * submitter + number % SUBMITTER_CELLS
 }

@@ -2,12 +2,12 @@ ghost use Rattle.std.specs.Prelude.{◌≡◌, ◌<◌, [], ◌∷◌, ◌++◌,
 ghost use Rattle.std.specs.List.{filter};
 ghost use Rattle.mbj_core.specs.declared.hand.TheConstants.{ROOM};
 
-use crate::cells::{CELLS, MAX_SUBMITTERS};
+use crate::cells::{MAX_SUBMITTERS, SUBMITTER_CELLS};
 use std::alloc::{AllocError, Global};
 use std::marker::Model;
 
 /// How many cells a hand has room for: as many as a front can have.
-const ROOM: u32 = CELLS * MAX_SUBMITTERS;
+const ROOM: u32 = SUBMITTER_CELLS * MAX_SUBMITTERS;
 
 /// The cells whose jobs a party has claimed and not finished, the earliest claim first. Contracts see their list.
 #[derive(Drop)]

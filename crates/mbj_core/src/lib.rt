@@ -9,7 +9,9 @@ mod laws;
 mod machine;
 mod party;
 
-pub use cells::{CELLS, MAX_SUBMITTERS, MAX_WORKERS, cell_at, the_front_has_these_limits};
+pub use cells::{
+    MAX_SUBMITTERS, MAX_WORKERS, SUBMITTER_CELLS, cell_at, the_front_has_these_limits,
+};
 pub use laws::{
     a_cell_is_emptied_after_a_result, events_keep_the_front_lawful, other_parties_have_nothing,
     results_come_in_the_order_of_posts,

@@ -3,7 +3,7 @@ ghost use Rattle.std.specs.Borrow.{sem};
 ghost use Rattle.mbj_types.specs.Result.{result_of};
 ghost use Rattle.mbj_types.specs.declared.job.Job.{Job};
 ghost use Rattle.mbj_types.specs.declared.done.Done.{Done};
-ghost use Rattle.mbj_core.specs.declared.cells.TheConstants.{CELLS, MAX_SUBMITTERS, MAX_WORKERS};
+ghost use Rattle.mbj_core.specs.declared.cells.TheConstants.{MAX_SUBMITTERS, MAX_WORKERS, SUBMITTER_CELLS};
 ghost use Rattle.mbj_core.specs.Parties.{FrontState, new_front};
 ghost use Rattle.mbj_core.specs.Lawful.{Lawful};
 ghost use Rattle.mbj_core.specs.Events.{post, finish, collect, accepted};
@@ -11,15 +11,15 @@ ghost use Rattle.mbj_core.specs.Answers.{post_answer, collect_answer};
 ghost use Rattle.mbj_core.specs.CoreStates.{new_core, out_of, first_cell, HasJob, HasHand, HasResult, posted, finished, handed_out};
 ghost use Rattle.mbj_core.specs.Stands.{StandsFor, Leads, IsBacked};
 
-use crate::cells::{CELLS, Slot, cell_at, free_cells};
+use crate::cells::{SUBMITTER_CELLS, Slot, cell_at, free_cells};
 use crate::hand::{Hand, empty_hands};
 use mbj_types::{Done, Job, PostFull};
 use std::alloc::{AllocError, Global};
 use std::marker::Model;
 
-/// Submitters, each with `CELLS` cells, and workers. A submitter's jobs are counted from 0, and job
-/// `n` of submitter `s` has cell `CELLS * s + n % CELLS`. Party `p` is submitter `p`, and from the number of
-/// submitters on a worker; every party may claim jobs and finish them.
+/// Submitters, each with `SUBMITTER_CELLS` cells, and workers. A submitter's jobs are counted from 0, and job
+/// `n` of submitter `s` has cell `SUBMITTER_CELLS * s + n % SUBMITTER_CELLS`. Party `p` is submitter `p`, and from the
+/// number of submitters on a worker; every party may claim jobs and finish them.
 ///
 /// Only `new` takes memory.
 #[derive(Drop)]
@@ -56,7 +56,7 @@ impl Core {
         ensures empty { IfOk result (λ core. core ≡ new_core submitters workers) }
         ensures stands { IfOk result (λ core. StandsFor core new_front) }
     {
-        let cells = free_cells(alloc, (CELLS * submitters) as usize)?;
+        let cells = free_cells(alloc, (SUBMITTER_CELLS * submitters) as usize)?;
         let hands = empty_hands(alloc, (submitters + workers) as usize)?;
         Ok(Core {
             submitters,
@@ -86,7 +86,7 @@ impl Core {
     pub fn out(&self, s: u32) -> u32
         requires submitter { s < self.now.submitters }
         ensures out { result ≡ out_of self.now s }
-        ensures within { result ≤ CELLS }
+        ensures within { result ≤ SUBMITTER_CELLS }
     {
         self.outs[s as usize]
     }
@@ -95,23 +95,23 @@ impl Core {
     pub fn first_cell(&self, s: u32) -> u32
         requires submitter { s < self.now.submitters }
         ensures cell { result ≡ first_cell self.now s }
-        ensures within { result < CELLS * self.now.submitters }
+        ensures within { result < SUBMITTER_CELLS * self.now.submitters }
     {
         cell_at(s, self.firsts[s as usize])
     }
 
-    /// Posts a job of a submitter. Answers the job itself exactly where `CELLS` of this submitter are out; then
-    /// nothing changes.
+    /// Posts a job of a submitter. Answers the job itself exactly where `SUBMITTER_CELLS` of this submitter are
+    /// out; then nothing changes.
     pub fn post(&mut self, s: u32, job: Job) -> Result<(), PostFull>
         requires submitter { s < self.old.submitters }
-        ensures full { IsErr result ↔ (out_of self.old s ≡ CELLS) }
+        ensures full { IsErr result ↔ (out_of self.old s ≡ SUBMITTER_CELLS) }
         ensures posted { OnOk result (self.new ≡ posted self.old s job) }
         ensures back { IfErr result (λ e. (e.0 ≡ job) × (self.new ≡ self.old)) }
         ensures leads { Leads self.old (post s job) (post_answer result) self.new }
     {
         let submitter = s as usize;
         let out = self.outs[submitter];
-        if out == CELLS {
+        if out == SUBMITTER_CELLS {
             return Err(PostFull(job));
         }
         let next = cell_at(s, self.firsts[submitter] + out);
@@ -124,7 +124,7 @@ impl Core {
     /// where the cell isn't ready; then nothing changes.
     pub fn claim(&mut self, p: u32, cell: u32) -> Option<&Job>
         requires party { p < self.old.submitters + self.old.workers }
-        requires cell { cell < CELLS * self.old.submitters }
+        requires cell { cell < SUBMITTER_CELLS * self.old.submitters }
         ensures* claims { sem 𝓛 (ClaimEnds self.entry p cell result) }
         ensures ready { IfSome result (λ job. HasJob self.old cell job.now) }
         ensures unready { IfNone result ((job : Job) → ¬ HasJob self.old cell job) }
@@ -139,7 +139,7 @@ impl Core {
 
     /// The job of a cell in a party's hand. `None` exactly where that hand doesn't have the cell.
     pub fn held_job(&self, p: u32, cell: u32) -> Option<&Job>
-        requires cell { cell < CELLS * self.now.submitters }
+        requires cell { cell < SUBMITTER_CELLS * self.now.submitters }
         ensures held { IfSome result (λ job. HasHand self.now cell p (result_of job.now)) }
         ensures none { IfNone result ((d : Done) → ¬ HasHand self.now cell p d) }
     {
@@ -177,7 +177,7 @@ impl Core {
         let first = self.firsts[submitter];
         let at = cell_at(s, first) as usize;
         let done = self.cells[at].take_done()?;
-        self.firsts[submitter] = (first + 1) % CELLS;
+        self.firsts[submitter] = (first + 1) % SUBMITTER_CELLS;
         self.outs[submitter] = out - 1;
         Some(done)
     }

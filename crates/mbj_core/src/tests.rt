@@ -2,7 +2,7 @@ ghost use Rattle.std.specs.Prelude.{◌≡◌, ◌+◌, ◌*◌, ◌<◌, IfOk, 
 ghost use Rattle.std.specs.Bool.{OnTrue, OnFalse};
 ghost use Rattle.mbj_types.specs.declared.job.Job.{Job};
 ghost use Rattle.mbj_core.specs.CoreStates.{claimed_by};
-ghost use Rattle.mbj_core.specs.declared.cells.TheConstants.{CELLS};
+ghost use Rattle.mbj_core.specs.declared.cells.TheConstants.{SUBMITTER_CELLS};
 ghost use Rattle.mbj_types.specs.Result.{result_of};
 
 use super::*;
@@ -65,7 +65,7 @@ fn post(core: &mut Core, alloc: Global, s: u32, byte: u8) -> Result<Got, AllocEr
 }
 
 fn claim(core: &mut Core, p: u32, cell: u32) -> Got {
-    if p >= core.submitters() + core.workers() || cell >= CELLS * core.submitters() {
+    if p >= core.submitters() + core.workers() || cell >= SUBMITTER_CELLS * core.submitters() {
         return None;
     }
     byte_of(&core.claim(p, cell)?.packet)
@@ -74,7 +74,7 @@ fn claim(core: &mut Core, p: u32, cell: u32) -> Got {
 /// Whether a party got the job of the cell. A caller learns what the core is once the job is given back.
 fn claims(core: &mut Core, p: u32, cell: u32) -> bool
     requires party { p < core.old.submitters + core.old.workers }
-    requires cell { cell < CELLS * core.old.submitters }
+    requires cell { cell < SUBMITTER_CELLS * core.old.submitters }
     ensures yes { OnTrue result ((job : Job) × (core.new ≡ claimed_by core.old p cell job)) }
     ensures not { OnFalse result (core.new ≡ core.old) }
 {
@@ -85,7 +85,7 @@ fn claims(core: &mut Core, p: u32, cell: u32) -> bool
 }
 
 fn finish(core: &mut Core, alloc: Global, p: u32, cell: u32) -> Result<Got, AllocError> {
-    if p >= core.submitters() + core.workers() || cell >= CELLS * core.submitters() {
+    if p >= core.submitters() + core.workers() || cell >= SUBMITTER_CELLS * core.submitters() {
         return Ok(None);
     }
     let made = match core.held_job(p, cell) {

@@ -7,7 +7,7 @@ use lib.Seq.{set-get_or}
 use prog.Atomic.{either}
 use Rattle.atomic_table.specs.Table.{State, Act, keeps, takes, gives, Valid, stepped, carried_after, step, Allows}
 use Rattle.atomic_table.proofs.Lists.{exchanged}
-use Rattle.mbj_core.specs.declared.cells.TheConstants.{CELLS}
+use Rattle.mbj_core.specs.declared.cells.TheConstants.{SUBMITTER_CELLS}
 use Rattle.mbj_core.specs.declared.party.View.{View}
 use Rattle.mbj_core.specs.declared.party.Phase.TheVariants.{Rest, Opening, Emptying}
 use Rattle.mbj_core.specs.Cells.{Cell, free, ready, done, open_by, hand_of, take_by, word_of, cell_of}
@@ -76,13 +76,13 @@ module _ {J D : Type 0} (owed : J → D) (S W : ℕ) where
       subst (λ (x : ℕ × Place D). Goes s x.0 (x.1, m.1) i new then) (λ k. (t.1 k, t.2 k)) (go t.0 t.3 (subst Pre (sym t.2) pre))
 
   -- one cell and one part change
-  shows_both : (s : St) (f : FrontState J D) (p c new : ℕ) (x : Cell J D) (w : View D) (h : Shows S W s f) → p < h.cut → c < CELLS * S → new ≡ word_of x → w.number ≡ p
+  shows_both : (s : St) (f : FrontState J D) (p c new : ℕ) (x : Cell J D) (w : View D) (h : Shows S W s f) → p < h.cut → c < SUBMITTER_CELLS * S → new ≡ word_of x → w.number ≡ p
       → Lawful owed S W (after f c x p w) → Rule owed S W (table (set s.words c new) (set s.homes c (home_of x)) (set s.views (p + 1) (place S W w)))
   shows_both s f p c new x w h cut less is num law = subst (λ (n : ℕ). Rule owed S W (table (set s.words c n) (set s.homes c (home_of x)) (set s.views (p + 1) (place S W w)))) (sym is)
       (after f c x p w, shows_cell S W (table s.words s.homes (set s.views (p + 1) (place S W w))) (front f.cells (put f.seats p w)) c x (shows_view S W s f p w h cut num) less, law)
 
   -- a load, or a compare-exchange that failed
-  looks_on : (s : St) (f : FrontState J D) (p c slots a b : ℕ) (carried : List (ℕ × Slot J D)) (h : Shows S W s f) → Lawful owed S W f → p < h.cut → c < CELLS * S
+  looks_on : (s : St) (f : FrontState J D) (p c slots a b : ℕ) (carried : List (ℕ × Slot J D)) (h : Shows S W s f) → Lawful owed S W f → p < h.cut → c < SUBMITTER_CELLS * S
       → Goes s (p + 1) (place S W (f.seats p), carried) c (get_or s.words c 0) (λ m n. LookTells owed (step slots c a b none) m (get_or s.words c 0) n)
   looks_on s f p c slots a b carried h law cut less = let r : ℕ = get_or s.words c 0 in let v : View D = f.seats p in let w : View D = after_look v c r in let lp : p < S + W = omega (arith, h.few) in
       let g : FrontState J D = front f.cells (put f.seats p w) in
@@ -96,16 +96,16 @@ module _ {J D : Type 0} (owed : J → D) (S W : ℕ) where
         (refl, led owed S W f g p w (looking c r) law (h.each_number p) (put_here f.seats p w) mv),
       )
 
-  pub scans : (slots id c : ℕ) (m : Mine J D) → m.0.root ≡ false → c < CELLS * m.0.submitters → Allows (Rule owed S W) slots id m c (λ n. n) (LookTells owed (step slots c 0 0 none) m)
+  pub scans : (slots id c : ℕ) (m : Mine J D) → m.0.root ≡ false → c < SUBMITTER_CELLS * m.0.submitters → Allows (Rule owed S W) slots id m c (λ n. n) (LookTells owed (step slots c 0 0 none) m)
   scans slots id c m live less s rule wide at _ = let f = rule.0 in let h = rule.1 in let r : ℕ = get_or s.words c 0 in
-      at_place s f id m c r (λ m n. LookTells owed (step slots c 0 0 none) m r n) (λ x. c < CELLS * x.submitters) h at live less
+      at_place s f id m c r (λ m n. LookTells owed (step slots c 0 0 none) m r n) (λ x. c < SUBMITTER_CELLS * x.submitters) h at live less
       (λ p cut less. looks_on s f p c slots 0 0 m.1 h rule.2 cut less)
 
-  pub tries_claim : (slots id c new : ℕ) (m : Mine J D) → m.0.root ≡ false → c < CELLS * m.0.submitters → new ≡ 4 + 3 * m.0.view.number
+  pub tries_claim : (slots id c new : ℕ) (m : Mine J D) → m.0.root ≡ false → c < SUBMITTER_CELLS * m.0.submitters → new ≡ 4 + 3 * m.0.view.number
       → Allows (Rule owed S W) slots id m c (λ n. either (eqb n 1) new n) (ClaimTells owed (step slots c 1 new none) m)
   tries_claim slots id c new m live less is s rule wide at _ = let f = rule.0 in let h = rule.1 in let law = rule.2 in let r : ℕ = get_or s.words c 0 in
       let then : Mine J D → Mine J D → Type 0 = λ m n. ClaimTells owed (step slots c 1 new none) m r n in
-      at_place s f id m c (either (eqb r 1) new r) then (λ x. (c < CELLS * x.submitters) × (new ≡ 4 + 3 * x.view.number)) h at live (less, is)
+      at_place s f id m c (either (eqb r 1) new r) then (λ x. (c < SUBMITTER_CELLS * x.submitters) × (new ≡ 4 + 3 * x.view.number)) h at live (less, is)
       (λ p cut pre. exchanged r 1 new (λ z. Goes s (p + 1) (place S W (f.seats p), m.1) c z then)
       (λ hit.
       let num = h.each_number p in let v : View D = f.seats p in let lp : p < S + W = omega (arith, h.few) in
@@ -144,19 +144,19 @@ module _ {J D : Type 0} (owed : J → D) (S W : ℕ) where
       ))
       (λ miss. absurd (miss hit)))
 
-  pub opens_next : (slots id c new : ℕ) (m : Mine J D) → m.0.root ≡ false → m.0.view.number < m.0.submitters → c ≡ cell_of m.0.view.number (length m.0.view.due) → new ≡ 3 + 3 * m.0.view.number → m.0.view.phase ≡ Rest → length m.0.view.due < m.0.view.handed + CELLS
+  pub opens_next : (slots id c new : ℕ) (m : Mine J D) → m.0.root ≡ false → m.0.view.number < m.0.submitters → c ≡ cell_of m.0.view.number (length m.0.view.due) → new ≡ 3 + 3 * m.0.view.number → m.0.view.phase ≡ Rest → length m.0.view.due < m.0.view.handed + SUBMITTER_CELLS
       → Allows (Rule owed S W) slots id m c (λ n. either (eqb n 0) new n) (OpenTells owed (step slots c 0 new none) m)
   opens_next slots id c new m live less c_is is at_rest room s rule wide at _ = let f = rule.0 in let h = rule.1 in let law = rule.2 in let r : ℕ = get_or s.words c 0 in
       let then : Mine J D → Mine J D → Type 0 = λ m n. OpenTells owed (step slots c 0 new none) m r n in
       at_place s f id m c (either (eqb r 0) new r) then
-      (λ x. (x.view.number < x.submitters) × (c ≡ cell_of x.view.number (length x.view.due)) × (new ≡ 3 + 3 * x.view.number) × (x.view.phase ≡ Rest) × (length x.view.due < x.view.handed + CELLS)) h at live (less, c_is, is, at_rest, room)
+      (λ x. (x.view.number < x.submitters) × (c ≡ cell_of x.view.number (length x.view.due)) × (new ≡ 3 + 3 * x.view.number) × (x.view.phase ≡ Rest) × (length x.view.due < x.view.handed + SUBMITTER_CELLS)) h at live (less, c_is, is, at_rest, room)
       (λ p cut pre.
       let num = h.each_number p in let v : View D = f.seats p in let x : Cell J D = open_by p in let w : View D = at_phase v Opening in
       let ls : p < S = subst (λ (q : ℕ). q < S) num pre.0 in
       let here : cell_of p (length v.due) ≡ c = sym (pre.1 ∙ ap (λ (q : ℕ). cell_of q (length v.due)) num) in
       let g : FrontState J D = after f c x p w in
       let mv : Moves owed S W f p opening g = subst (λ (k : ℕ). Moves owed S W f p opening (after f k x p w)) here (ls, pre.3, pre.4, put_changes f (cell_of p (length v.due)) x p w) in
-      let empty : f.cells c ≡ free = ap f.cells (sym here) ∙ finds_cell owed S W p opening f g law mv in let inner : c < CELLS * S = subst (λ (k : ℕ). k < CELLS * S) here (near S p (length v.due) ls) in
+      let empty : f.cells c ≡ free = ap f.cells (sym here) ∙ finds_cell owed S W p opening f g law mv in let inner : c < SUBMITTER_CELLS * S = subst (λ (k : ℕ). k < SUBMITTER_CELLS * S) here (near S p (length v.due) ls) in
       exchanged r 0 new (λ z. Goes s (p + 1) (place S W (f.seats p), m.1) c z then)
       (λ _. (
         place S W w,
@@ -179,7 +179,7 @@ module _ {J D : Type 0} (owed : J → D) (S W : ℕ) where
       let here : cell_of p (length v.due) ≡ c = sym (pre.1 ∙ ap (λ (q : ℕ). cell_of q (length v.due)) num) in
       let g : FrontState J D = after f c x p w in let move : Move J D = publishing j in
       let mv : Moves owed S W f p move g = subst (λ (k : ℕ). Moves owed S W f p move (after f k x p w)) here (ls, pre.3, put_changes f (cell_of p (length v.due)) x p w) in
-      let stands : f.cells c ≡ open_by p = ap f.cells (sym here) ∙ finds_cell owed S W p move f g law mv in let inner : c < CELLS * S = subst (λ (k : ℕ). k < CELLS * S) here (near S p (length v.due) ls) in
+      let stands : f.cells c ≡ open_by p = ap f.cells (sym here) ∙ finds_cell owed S W p move f g law mv in let inner : c < SUBMITTER_CELLS * S = subst (λ (k : ℕ). k < SUBMITTER_CELLS * S) here (near S p (length v.due) ls) in
       exchanged r old 1 (λ z. Goes s (p + 1) (place S W (f.seats p), m.1) c z then)
       (λ _. (
         place S W w,
@@ -202,7 +202,7 @@ module _ {J D : Type 0} (owed : J → D) (S W : ℕ) where
       let num = h.each_number p in let v : View D = f.seats p in let x : Cell J D = take_by p in let w : View D = after_take v c in
       let ls : p < S = subst (λ (q : ℕ). q < S) num pre.0 in
       let here : cell_of p v.handed ≡ c = sym (pre.1 ∙ ap (λ (q : ℕ). cell_of q v.handed) num) in
-      let inner : c < CELLS * S = subst (λ (k : ℕ). k < CELLS * S) here (near S p v.handed ls) in
+      let inner : c < SUBMITTER_CELLS * S = subst (λ (k : ℕ). k < SUBMITTER_CELLS * S) here (near S p v.handed ls) in
       exchanged r 2 new (λ z. Goes s (p + 1) (place S W (f.seats p), m.1) c z then)
       (λ hit.
       let fits = each_number owed S W f law p v.handed ls (omega arith) (omega arith) in
@@ -218,19 +218,19 @@ module _ {J D : Type 0} (owed : J → D) (S W : ℕ) where
       ))
       (λ miss. let look = looks_on s f p c slots 2 new m.1 h law cut inner in (look.0, look.1, look.2, look.3, ((λ e. absurd (miss e)), λ _. look.4))))
 
-  pub frees_cell : (slots id c old : ℕ) (m : Mine J D) (more : List (ℕ × Slot J D)) → m.0.root ≡ false → m.0.view.number < m.0.submitters → c ≡ cell_of m.0.view.number (m.0.view.handed + (CELLS - 1)) → old ≡ 5 + 3 * m.0.view.number → m.0.view.phase ≡ Emptying → m.1 ≡ (c, Blank) ∷ more
+  pub frees_cell : (slots id c old : ℕ) (m : Mine J D) (more : List (ℕ × Slot J D)) → m.0.root ≡ false → m.0.view.number < m.0.submitters → c ≡ cell_of m.0.view.number (m.0.view.handed + (SUBMITTER_CELLS - 1)) → old ≡ 5 + 3 * m.0.view.number → m.0.view.phase ≡ Emptying → m.1 ≡ (c, Blank) ∷ more
       → Allows (Rule owed S W) slots id m c (λ n. either (eqb n old) 0 n) (FreeTells owed (step slots c old 0 none) m)
   frees_cell slots id c old m more live less c_is is emptying had s rule wide at _ = let f = rule.0 in let h = rule.1 in let law = rule.2 in let r : ℕ = get_or s.words c 0 in
       let then : Mine J D → Mine J D → Type 0 = λ m n. FreeTells owed (step slots c old 0 none) m r n in
       at_place s f id m c (either (eqb r old) 0 r) then
-      (λ x. (x.view.number < x.submitters) × (c ≡ cell_of x.view.number (x.view.handed + (CELLS - 1))) × (old ≡ 5 + 3 * x.view.number) × (x.view.phase ≡ Emptying)) h at live (less, c_is, is, emptying)
+      (λ x. (x.view.number < x.submitters) × (c ≡ cell_of x.view.number (x.view.handed + (SUBMITTER_CELLS - 1))) × (old ≡ 5 + 3 * x.view.number) × (x.view.phase ≡ Emptying)) h at live (less, c_is, is, emptying)
       (λ p cut pre.
       let num = h.each_number p in let v : View D = f.seats p in let x : Cell J D = free in let w : View D = at_phase v Rest in
       let ls : p < S = subst (λ (q : ℕ). q < S) num pre.0 in
-      let here : cell_of p (v.handed - 1) ≡ c = last_cell p v.handed (law.emptied p pre.3) ∙ sym (pre.1 ∙ ap (λ (q : ℕ). cell_of q (v.handed + (CELLS - 1))) num) in
+      let here : cell_of p (v.handed - 1) ≡ c = last_cell p v.handed (law.emptied p pre.3) ∙ sym (pre.1 ∙ ap (λ (q : ℕ). cell_of q (v.handed + (SUBMITTER_CELLS - 1))) num) in
       let g : FrontState J D = after f c x p w in
       let mv : Moves owed S W f p freeing g = subst (λ (k : ℕ). Moves owed S W f p freeing (after f k x p w)) here (ls, pre.3, put_changes f (cell_of p (v.handed - 1)) x p w) in
-      let stands : f.cells c ≡ take_by p = ap f.cells (sym here) ∙ finds_cell owed S W p freeing f g law mv in let inner : c < CELLS * S = subst (λ (k : ℕ). k < CELLS * S) here (near S p (v.handed - 1) ls) in
+      let stands : f.cells c ≡ take_by p = ap f.cells (sym here) ∙ finds_cell owed S W p freeing f g law mv in let inner : c < SUBMITTER_CELLS * S = subst (λ (k : ℕ). k < SUBMITTER_CELLS * S) here (near S p (v.handed - 1) ls) in
       exchanged r old 0 (λ z. Goes s (p + 1) (place S W (f.seats p), m.1) c z then)
       (λ _. (
         place S W w,

@@ -6,7 +6,7 @@ use mathlib.Core.Logic.{dite}
 use native.Mathlib.Decide.{ℕ_discrete}
 use Rattle.atomic_table.specs.Table.{Splits, opening}
 use Rattle.atomic_table.proofs.Lists.{at_longer, at_last, set_here, set_else}
-use Rattle.mbj_core.specs.declared.cells.TheConstants.{CELLS}
+use Rattle.mbj_core.specs.declared.cells.TheConstants.{SUBMITTER_CELLS}
 use Rattle.mbj_core.specs.declared.party.View.{View}
 use Rattle.mbj_core.specs.Parties.{new_party, new_front}
 use Rattle.mbj_core.proofs.RunLaws.{new_front_sound}
@@ -59,16 +59,16 @@ module _ {J D : Type 0} (owed : J → D) (S W : ℕ) where
   all_blank (suc n) (suc i) l = all_blank n i (omega arith)
 
   -- every cell is free, and no party is cut
-  pub starts : Rule owed S W (opening (replicate (CELLS * S) 0) (replicate (CELLS * S) Blank) (root S W 0))
+  pub starts : Rule owed S W (opening (replicate (SUBMITTER_CELLS * S) 0) (replicate (SUBMITTER_CELLS * S) Blank) (root S W 0))
   starts = (
     new_front,
     record {
       cut = 0;
       few = omega arith;
-      word_count = length-replicate (CELLS * S) 0;
-      home_count = length-map (replicate (CELLS * S) (blank {J = J} {D = D})) some ∙ length-replicate (CELLS * S) (blank {J = J} {D = D});
-      each_word = λ c l. get_or-replicate (CELLS * S) c 0 0 l;
-      each_home = λ c l. all_blank (CELLS * S) c l;
+      word_count = length-replicate (SUBMITTER_CELLS * S) 0;
+      home_count = length-map (replicate (SUBMITTER_CELLS * S) (blank {J = J} {D = D})) some ∙ length-replicate (SUBMITTER_CELLS * S) (blank {J = J} {D = D});
+      each_word = λ c l. get_or-replicate (SUBMITTER_CELLS * S) c 0 0 l;
+      each_home = λ c l. all_blank (SUBMITTER_CELLS * S) c l;
       place_count = omega arith;
       the_root = refl;
       each_place = λ q l. absurd (omega arith);

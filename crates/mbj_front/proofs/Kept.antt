@@ -2,7 +2,7 @@
 use Rattle.std.proofs.Common.{◌≡◌, ◌≢◌, ℕ, ◌+◌, ◌%◌, ◌<◌, ◌≤◌, List, [], ◌∷◌, ◌++◌, length, sym, refl, ap, ◌∙◌, subst, ⊎_elim, add-one, length-append, arith}
 use Rattle.std.specs.Prelude.{Some, slice_get}
 use Rattle.atomic_table.specs.Table.{rest}
-use Rattle.mbj_core.specs.declared.cells.TheConstants.{CELLS}
+use Rattle.mbj_core.specs.declared.cells.TheConstants.{SUBMITTER_CELLS}
 use Rattle.mbj_core.specs.declared.party.View.{View}
 use Rattle.mbj_core.specs.declared.party.Phase.TheVariants.{Rest, Opening}
 use Rattle.mbj_core.proofs.Entries.{at_end}
@@ -17,7 +17,7 @@ use Rattle.mbj_front.specs.Inside.Keeps.{of_hand, slots_at, slots_of, Keeps}
 module _ {J D : Type 0} where
   -- the party's part is w now
   pub kept : (words words' party first first' out out' : ℕ) (me n : Mine J D) (w : View D) → Keeps words me party first out → words' ≡ words → n.0 ≡ place me.0.submitters me.0.workers w
-      → w.number ≡ me.0.view.number → first' ≡ w.handed % CELLS → length w.due ≡ w.handed + out' → out' ≤ CELLS → (me.0.submitters ≤ party → out' ≡ 0) → (w.phase ≢ Rest → (out' < CELLS) × (party < me.0.submitters)) → n.1 ≡ slots_of w
+      → w.number ≡ me.0.view.number → first' ≡ w.handed % SUBMITTER_CELLS → length w.due ≡ w.handed + out' → out' ≤ SUBMITTER_CELLS → (me.0.submitters ≤ party → out' ≡ 0) → (w.phase ≢ Rest → (out' < SUBMITTER_CELLS) × (party < me.0.submitters)) → n.1 ≡ slots_of w
       → ((k c : ℕ) (d : D) → slice_get w.hand k ≡ Some (c, d) → c < words) → Keeps words' n party first' out'
   kept words words' party first first' out out' me n w k wide is num first_is out_is few posters spare slots near =
       subst (λ (z : ℕ × Mine J D). Keeps z.0 z.1 party first' out') (λ t. (sym wide t, (sym is t, n.1))) (record {

@@ -4,7 +4,7 @@ use Rattle.std.specs.Prelude.{slice_get}
 use mathlib.Core.Path.{fun_ext}
 use mathlib.Core.Logic.{dite}
 use native.Mathlib.Decide.{ℕ_discrete}
-use Rattle.mbj_core.specs.declared.cells.TheConstants.{CELLS}
+use Rattle.mbj_core.specs.declared.cells.TheConstants.{SUBMITTER_CELLS}
 use Rattle.mbj_core.specs.declared.party.View.{View}
 use Rattle.mbj_core.specs.declared.party.Phase.TheVariants.{Rest, Opening}
 use Rattle.mbj_core.specs.Cells.{Cell, free, ready, done, open_by, hand_of, take_by, result_in, cell_of}
@@ -21,8 +21,8 @@ use Rattle.mbj_front.specs.Views.{after_look, after_claim, after_finish, after_p
 use Rattle.mbj_front.specs.AsCore.{settled, rested, as_core}
 use Rattle.mbj_front.specs.Moves.{Move, opening, publishing, claiming, finishing, taking, freeing, looking, Moves, Finds, CoreSees, Led}
 
--- the cell of the number before h is that of the last of the CELLS numbers from h on
-pub last_cell : (s h : ℕ) → 1 ≤ h → cell_of s (h - 1) ≡ cell_of s (h + (CELLS - 1))
+-- the cell of the number before h is that of the last of the SUBMITTER_CELLS numbers from h on
+pub last_cell : (s h : ℕ) → 1 ≤ h → cell_of s (h - 1) ≡ cell_of s (h + (SUBMITTER_CELLS - 1))
 last_cell s h some = omega arith
 
 module _ {J D : Type 0} where

@@ -1,6 +1,6 @@
 -- A lawful state is lawful as the core sees it, and empty where no party has done anything.
 use Rattle.std.proofs.Common.{◌≡◌, ℕ, ◌+◌, ◌/◌, ◌%◌, ◌<◌, ◌≤◌, length, subst, refl, ap, ◌∙◌, sym, arith}
-use Rattle.mbj_core.specs.declared.cells.TheConstants.{CELLS}
+use Rattle.mbj_core.specs.declared.cells.TheConstants.{SUBMITTER_CELLS}
 use Rattle.mbj_core.specs.declared.party.View.{View}
 use Rattle.mbj_core.specs.declared.party.Phase.TheVariants.{Emptying}
 use Rattle.mbj_core.specs.Cells.{Cell, free, ready, done, open_by, hand_of, take_by, cell_of}
@@ -19,7 +19,7 @@ module _ {J D : Type 0} where
   still_held (take_by q) p d e = absurd (not_in_hand free p d refl e)
 
 module _ {J D : Type 0} (owed : J → D) where
-  settled_fits : (v : View D) (s n : ℕ) (y : Cell J D) → Fits owed v s n y → (v.phase ≡ Emptying → length v.due < v.handed + CELLS) → Fits owed (rested v) s n (settled y)
+  settled_fits : (v : View D) (s n : ℕ) (y : Cell J D) → Fits owed v s n y → (v.phase ≡ Emptying → length v.due < v.handed + SUBMITTER_CELLS) → Fits owed (rested v) s n (settled y)
   settled_fits v s n free h room = (h.0, (λ e. absurd (rest_open e)), λ e. absurd (rest_take e))
   settled_fits v s n (ready j) h room = h
   settled_fits v s n (done d) h room = h
@@ -44,8 +44,8 @@ module _ {J D : Type 0} (owed : J → D) where
   -- where no party has done anything each cell is free
   pub all_free : NewFrontsAreEmpty owed
   all_free S W f law new c less =
-      let s : ℕ = c / CELLS in let n : ℕ = c % CELLS in let v : View D = f.seats s in let is = new s in
+      let s : ℕ = c / SUBMITTER_CELLS in let n : ℕ = c % SUBMITTER_CELLS in let v : View D = f.seats s in let is = new s in
       let here : cell_of s n ≡ c = omega arith in
       ap f.cells (sym here)
-      ∙ law.idle s n (omega arith) (subst (λ (w : View D). length w.due ≤ n) (sym is) (omega arith)) (subst (λ (w : View D). n < w.handed + CELLS) (sym is) (omega arith))
+      ∙ law.idle s n (omega arith) (subst (λ (w : View D). length w.due ≤ n) (sym is) (omega arith)) (subst (λ (w : View D). n < w.handed + SUBMITTER_CELLS) (sym is) (omega arith))
       (λ e. absurd (rest_open (sym (ap (λ (w : View D). w.phase) is) ∙ e))) (λ e. absurd (rest_take (sym (ap (λ (w : View D). w.phase) is) ∙ e)))

@@ -4,7 +4,7 @@ use mathlib.Core.Option.{Option, some, some-injective, some-ne-none}
 use lib.ListN.{get_elem?}
 use Rattle.atomic_table.specs.Table.{State}
 use Rattle.atomic_table.proofs.Lists.{set_here, set_else}
-use Rattle.mbj_core.specs.declared.cells.TheConstants.{CELLS}
+use Rattle.mbj_core.specs.declared.cells.TheConstants.{SUBMITTER_CELLS}
 use Rattle.mbj_core.specs.declared.party.View.{View}
 use Rattle.mbj_core.specs.Cells.{Cell, word_of}
 use Rattle.mbj_core.specs.Parties.{FrontState, front, new_party}
@@ -55,16 +55,16 @@ module _ {J D : Type 0} where
   }
 
   -- one cell changes
-  pub shows_cell : (S W : ℕ) (s : State (Slot J D) (Place D)) (f : FrontState J D) (c : ℕ) (x : Cell J D) (h : Shows S W s f) → c < CELLS * S
+  pub shows_cell : (S W : ℕ) (s : State (Slot J D) (Place D)) (f : FrontState J D) (c : ℕ) (x : Cell J D) (h : Shows S W s f) → c < SUBMITTER_CELLS * S
       → Shows S W (table (set s.words c (word_of x)) (set s.homes c (home_of x)) s.views) (front (put f.cells c x) f.seats)
   shows_cell S W s f c x h near = record {
     cut = h.cut;
     few = h.few;
     word_count = length-set s.words c (word_of x) ∙ h.word_count;
     home_count = length-set s.homes c (home_of x) ∙ h.home_count;
-    each_word = λ i l. at_put f.cells c x (λ q y. q < CELLS * S → get_or (set s.words c (word_of x)) q 0 ≡ word_of y) i
+    each_word = λ i l. at_put f.cells c x (λ q y. q < SUBMITTER_CELLS * S → get_or (set s.words c (word_of x)) q 0 ≡ word_of y) i
         (λ _. get_or-set_same s.words c (word_of x) 0 (omega (arith, h.word_count))) (λ ne l. get_or-set_other s.words c i (word_of x) 0 ne ∙ h.each_word i l) l;
-    each_home = λ i l. at_put f.cells c x (λ q y. q < CELLS * S → get_elem? (set s.homes c (home_of x)) q ≡ some (home_of y)) i
+    each_home = λ i l. at_put f.cells c x (λ q y. q < SUBMITTER_CELLS * S → get_elem? (set s.homes c (home_of x)) q ≡ some (home_of y)) i
         (λ _. set_here s.homes c (home_of x) (omega (arith, h.home_count))) (λ ne l. set_else s.homes c i (home_of x) ne ∙ h.each_home i l) l;
     place_count = h.place_count;
     the_root = h.the_root;

@@ -1,7 +1,7 @@
 -- What holds of each kind of step, and of the states of a running front as the core sees them.
 use Rattle.std.specs.Prelude.{◌≡◌, ℕ, ◌+◌, ◌*◌, ◌<◌}
 use Rattle.atomic_table.specs.Table.{Splits}
-use Rattle.mbj_core.specs.declared.cells.TheConstants.{CELLS}
+use Rattle.mbj_core.specs.declared.cells.TheConstants.{SUBMITTER_CELLS}
 use Rattle.mbj_core.specs.Cells.{free}
 use Rattle.mbj_core.specs.Parties.{FrontState, new_party}
 use Rattle.mbj_core.specs.Lawful.{Lawful}
@@ -38,7 +38,7 @@ module _ {J D : Type 0} (owed : J → D) where
   abbrev pub NewFrontsAreEmpty : Type 0
   NewFrontsAreEmpty =
       (submitters workers : ℕ) (f : FrontState J D)
-      → Lawful owed submitters workers f → ((p : ℕ) → f.seats p ≡ new_party p) → (c : ℕ) → c < CELLS * submitters → f.cells c ≡ free
+      → Lawful owed submitters workers f → ((p : ℕ) → f.seats p ≡ new_party p) → (c : ℕ) → c < SUBMITTER_CELLS * submitters → f.cells c ≡ free
 
   -- the next party is cut from the root, where the rule holds before and after: the party has done nothing
   abbrev pub CutsKeepTheRule : Type 0

@@ -1,7 +1,7 @@
 -- The kinds of step on the word of a cell: where a party may make each one, what it makes of the front, and what the
 -- core sees of it.
 use Rattle.std.specs.Prelude.{◌≡◌, ℕ, ◌+◌, ◌-◌, ◌*◌, ◌<◌, List, length, slice_get, Some}
-use Rattle.mbj_core.specs.declared.cells.TheConstants.{CELLS}
+use Rattle.mbj_core.specs.declared.cells.TheConstants.{SUBMITTER_CELLS}
 use Rattle.mbj_core.specs.declared.party.View.{View}
 use Rattle.mbj_core.specs.declared.party.Phase.TheVariants.{Rest, Opening, Emptying}
 use Rattle.mbj_core.specs.Cells.{free, ready, done, open_by, hand_of, take_by, word_of, cell_of}
@@ -44,14 +44,14 @@ module _ {J D : Type 0} (owed : J → D) (submitters workers : ℕ) where
   abbrev pub Moves : FrontState J D → ℕ → Move J D → FrontState J D → Type 0
   Moves f p opening g =
       let v = f.seats p in
-      (p < submitters) × (v.phase ≡ Rest) × (length v.due < v.handed + CELLS)
+      (p < submitters) × (v.phase ≡ Rest) × (length v.due < v.handed + SUBMITTER_CELLS)
       × Changes f g (cell_of p (length v.due)) (open_by p) p (at_phase v Opening)
   Moves f p (publishing j) g =
       let v = f.seats p in
       (p < submitters) × (v.phase ≡ Opening)
       × Changes f g (cell_of p (length v.due)) (ready j) p (after_publish v (owed j))
   Moves f p (claiming c j) g =
-      (p < submitters + workers) × (c < CELLS * submitters) × (f.cells c ≡ ready j)
+      (p < submitters + workers) × (c < SUBMITTER_CELLS * submitters) × (f.cells c ≡ ready j)
       × Changes f g c (hand_of p (owed j)) p (after_claim (f.seats p) c (owed j))
   Moves f p (finishing c d) g =
       let v = f.seats p in
@@ -66,7 +66,7 @@ module _ {J D : Type 0} (owed : J → D) (submitters workers : ℕ) where
       (p < submitters) × (v.phase ≡ Emptying)
       × Changes f g (cell_of p (v.handed - 1)) free p (at_phase v Rest)
   Moves f p (looking c word) g =
-      (p < submitters + workers) × (c < CELLS * submitters) × (word_of (f.cells c) ≡ word)
+      (p < submitters + workers) × (c < SUBMITTER_CELLS * submitters) × (word_of (f.cells c) ≡ word)
       × Changes f g c (f.cells c) p (after_look (f.seats p) c word)
 
   -- what the step is to the core, where the state f leads to g

@@ -4,7 +4,7 @@ use Rattle.std.specs.Prelude.{◌≡◌, ℕ, ◌+◌, ◌*◌, ◌<◌, ◌≤�
 use mathlib.Core.Option.{Option, none, some}
 use lib.ListN.{get_elem?}
 use Rattle.atomic_table.specs.Table.{State}
-use Rattle.mbj_core.specs.declared.cells.TheConstants.{CELLS}
+use Rattle.mbj_core.specs.declared.cells.TheConstants.{SUBMITTER_CELLS}
 use Rattle.mbj_core.specs.declared.party.View.{View}
 use Rattle.mbj_core.specs.Cells.{Cell, free, ready, done, open_by, hand_of, take_by, word_of}
 use Rattle.mbj_core.specs.Parties.{FrontState, new_party}
@@ -37,10 +37,10 @@ pub record Shows {J D : Type 0} (submitters workers : ℕ) (table : State (Slot 
   pub cut : ℕ
   pub few : cut ≤ submitters + workers
   -- a word and a slot for each cell
-  pub word_count : length table.words ≡ CELLS * submitters
-  pub home_count : length table.homes ≡ CELLS * submitters
-  pub each_word : (c : ℕ) → c < CELLS * submitters → slice_index table.words c ≡ word_of (f.cells c)
-  pub each_home : (c : ℕ) → c < CELLS * submitters → get_elem? table.homes c ≡ some (home_of (f.cells c))
+  pub word_count : length table.words ≡ SUBMITTER_CELLS * submitters
+  pub home_count : length table.homes ≡ SUBMITTER_CELLS * submitters
+  pub each_word : (c : ℕ) → c < SUBMITTER_CELLS * submitters → slice_index table.words c ≡ word_of (f.cells c)
+  pub each_home : (c : ℕ) → c < SUBMITTER_CELLS * submitters → get_elem? table.homes c ≡ some (home_of (f.cells c))
   -- the root's place, and one for each party that is cut
   pub place_count : length table.views ≡ cut + 1
   pub the_root : get_elem? table.views 0 ≡ some (root submitters workers cut)

@@ -1,6 +1,6 @@
 -- What contracts see of a front and of a seat.
 use Rattle.std.specs.Prelude.{◌≡◌, ℕ, ◌*◌, ◌<◌, List, ◌∷◌, slice_get, Some}
-use Rattle.mbj_core.specs.declared.cells.TheConstants.{CELLS}
+use Rattle.mbj_core.specs.declared.cells.TheConstants.{SUBMITTER_CELLS}
 use Rattle.mbj_core.specs.declared.party.View.{View}
 use Rattle.mbj_core.specs.Parties.{new_party}
 use Rattle.mbj_front.specs.declared.seat.PartySeat.{PartySeat}
@@ -32,7 +32,7 @@ module _ {J D R : Type 0} where
   workers_of front = front.table.shared.key.workers
 
   abbrev pub cells_of : SharedFront J D R → ℕ
-  cells_of front = CELLS * submitters_of front
+  cells_of front = SUBMITTER_CELLS * submitters_of front
 
   -- the seat belongs to the front
   abbrev pub IsOf : SharedFront J D R → PartySeat J D → Type 0

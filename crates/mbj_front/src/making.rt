@@ -13,7 +13,7 @@ use crate::seat::PartySeat;
 use crate::slot::Slot;
 use crate::words::FREE;
 use atomic_table::{Refused, Table};
-use mbj_core::CELLS;
+use mbj_core::SUBMITTER_CELLS;
 use std::alloc::{AllocError, Global};
 
 /// So many slots that hold nothing.
@@ -45,7 +45,7 @@ impl<J: Drop, D: Drop, R: Results<J, D>> SharedFront<J, D, R> {
         ensures parties { IfOk result (λ made. vec_len made.1 ≡ submitters + workers) }
         ensures seats { IfOk result (λ made. IsIssued made.0 made.1.items) }
     {
-        let count = (CELLS * submitters) as usize;
+        let count = (SUBMITTER_CELLS * submitters) as usize;
         let words = Vec::from_elem(alloc, FREE, count)?;
         let slots = blank_slots(alloc, count)?;
         let size = Size {

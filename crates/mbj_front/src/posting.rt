@@ -1,6 +1,6 @@
 // A submitter's steps on its own cells: a post is an open and a publish, a collect is a take and a free.
 ghost use Rattle.std.specs.Prelude.{◌≡◌, ◌≢◌, ◌+◌, ◌-◌, ◌<◌, length, slice_get, Some, IfOk, IfErr, MatchResult};
-ghost use Rattle.mbj_core.specs.declared.cells.TheConstants.{CELLS};
+ghost use Rattle.mbj_core.specs.declared.cells.TheConstants.{SUBMITTER_CELLS};
 ghost use Rattle.mbj_core.specs.declared.party.Phase.TheVariants.{Rest, Opening, Emptying};
 ghost use Rattle.mbj_core.specs.Cells.{cell_of};
 ghost use Rattle.mbj_front.specs.Views.{after_look, at_phase, after_publish, after_take};
@@ -13,15 +13,15 @@ use crate::results::Results;
 use crate::seat::PartySeat;
 use crate::slot::Slot;
 use crate::words::{DONE, FREE, READY, open_word, take_word};
-use mbj_core::{CELLS, cell_at};
+use mbj_core::{SUBMITTER_CELLS, cell_at};
 
 impl<J, D, R: Results<J, D>> SharedFront<J, D, R> {
-    /// A submitter at rest, with fewer than `CELLS` out, begins to fill the cell of its next job.
+    /// A submitter at rest, with fewer than `SUBMITTER_CELLS` out, begins to fill the cell of its next job.
     pub fn open_cell(&self, seat: &mut PartySeat<J, D>)
         requires front { IsOf self.now seat.old }
         requires submitter { (view_of seat.old).number < submitters_of self.now }
         requires rest { (view_of seat.old).phase ≡ Rest }
-        requires room { length (view_of seat.old).due < (view_of seat.old).handed + CELLS }
+        requires room { length (view_of seat.old).due < (view_of seat.old).handed + SUBMITTER_CELLS }
         ensures front { IsOf self.now seat.new }
         ensures view { view_of seat.new ≡ at_phase (view_of seat.old) Opening }
         ensures step { Did R.owed seat.old opening seat.new }
@@ -74,7 +74,7 @@ impl<J, D, R: Results<J, D>> SharedFront<J, D, R> {
             return Err(word);
         }
         let slot = table.exchange(&mut seat.inner, at, Slot::Blank);
-        seat.first = (seat.first + 1) % CELLS;
+        seat.first = (seat.first + 1) % SUBMITTER_CELLS;
         seat.out -= 1;
         match slot {
             Slot::Made(done) => Ok(done),
@@ -90,7 +90,7 @@ impl<J, D, R: Results<J, D>> SharedFront<J, D, R> {
         ensures view { view_of seat.new ≡ at_phase (view_of seat.old) Rest }
         ensures step { Did R.owed seat.old freeing seat.new }
     {
-        let at = cell_at(seat.party, seat.first + (CELLS - 1)) as usize;
+        let at = cell_at(seat.party, seat.first + (SUBMITTER_CELLS - 1)) as usize;
         let take = take_word(seat.party);
         let table = &self.table.shared;
         table.compare_exchange::<Free<R>>(&mut seat.inner, at, take, FREE);

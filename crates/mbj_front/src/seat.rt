@@ -9,7 +9,7 @@ use crate::slot::Slot;
 pub struct PartySeat<J, D> {
     pub(crate) inner: atomic_table::Seat<Slot<J, D>, Place<D>>,
     pub(crate) party: u32,
-    /// The number of the earliest that is out, modulo `CELLS`.
+    /// The number of the earliest that is out, modulo `SUBMITTER_CELLS`.
     pub(crate) first: u32,
     pub(crate) out: u32,
     pub(crate) ghost keeps: { Keeps inner.table_id.words inner.me party first out },

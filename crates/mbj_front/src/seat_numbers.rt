@@ -1,6 +1,6 @@
 ghost use Rattle.std.specs.Prelude.{◌≡◌, ◌⊎◌, ◌+◌, ◌≤◌, length};
 ghost use Rattle.mbj_core.specs.Cells.{cell_of};
-ghost use Rattle.mbj_core.specs.declared.cells.TheConstants.{CELLS};
+ghost use Rattle.mbj_core.specs.declared.cells.TheConstants.{SUBMITTER_CELLS};
 ghost use Rattle.mbj_front.specs.Seats.{view_of, IsSubmitter};
 
 use crate::seat::PartySeat;
@@ -17,7 +17,7 @@ impl<J, D> PartySeat<J, D> {
     /// How many of its own jobs are out: published, and their results not taken. 0 for a worker.
     pub fn out(&self) -> u32
         ensures out { length (view_of self.now).due ≡ (view_of self.now).handed + result }
-        ensures within { result ≤ CELLS }
+        ensures within { result ≤ SUBMITTER_CELLS }
         ensures worker { IsSubmitter self.now ⊎ (result ≡ 0) }
     {
         self.out

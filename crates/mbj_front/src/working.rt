@@ -1,6 +1,6 @@
 // What every party may do with every cell: look at it, claim its job, and finish it.
 ghost use Rattle.std.specs.Prelude.{◌≡◌, ◌≢◌, ◌*◌, ◌<◌, ◌≤◌, ◌∷◌, IfErr, MatchResult};
-ghost use Rattle.mbj_core.specs.declared.cells.TheConstants.{CELLS, MAX_SUBMITTERS};
+ghost use Rattle.mbj_core.specs.declared.cells.TheConstants.{MAX_SUBMITTERS, SUBMITTER_CELLS};
 ghost use Rattle.mbj_core.specs.declared.party.Phase.TheVariants.{Rest};
 ghost use Rattle.mbj_front.specs.Views.{after_look, after_claim, after_finish};
 ghost use Rattle.mbj_front.specs.Moves.{claiming, finishing, looking};
@@ -14,15 +14,15 @@ use crate::results::Results;
 use crate::seat::PartySeat;
 use crate::slot::Slot;
 use crate::words::{DONE, READY, hand_word};
-use mbj_core::CELLS;
+use mbj_core::SUBMITTER_CELLS;
 
 impl<J, D, R: Results<J, D>> SharedFront<J, D, R> {
-    /// How many cells there are: `CELLS` for each submitter.
+    /// How many cells there are: `SUBMITTER_CELLS` for each submitter.
     pub fn cells(&self) -> u32
         ensures cells { result ≡ cells_of self.now }
-        ensures within { result ≤ CELLS * MAX_SUBMITTERS }
+        ensures within { result ≤ SUBMITTER_CELLS * MAX_SUBMITTERS }
     {
-        CELLS * self.submitters
+        SUBMITTER_CELLS * self.submitters
     }
 
     /// Looks at a cell, and answers its word.

@@ -6,7 +6,8 @@ use Rattle.std.proofs.lemmas.Option.{get_or_from_slice_get, none-some, same_Some
 use Rattle.std.proofs.Math.Seq.{map-set_same}
 use Rattle.mbj_types.specs.declared.job.Job.{Job}
 use Rattle.mbj_core.specs.CoreStates.{CoreState, claimed_by, next_cell, out_of, posted}
-use Rattle.mbj_core.specs.declared.cells.TheConstants.{CELLS}
+use Rattle.mbj_core.specs.declared.cells.TheConstants.{SUBMITTER_CELLS}
+use Rattle.mbj_ring.specs.declared.ring.TheConstants as ring
 use Rattle.mbj_text.specs.declared.command.Cmd.{Cmd}
 use Rattle.std.specs.declared.alloc.AllocError.{AllocError}
 use Rattle.mbj_manager.specs.State.{ManagerState, after_flush, new_manager, after_submit, with_open}
@@ -52,7 +53,7 @@ flush-is w r q x cells given job is_manager is_hand is_given is_state is_job =
 
 -- a claim, and the finish that it leads to
 pub claim-is : (w s cell : ℕ) (job : Job) (r q : Replaying) (x : ManagerState) (full cells : List ℕ) (given : Option Entry) (number : Option ℕ) (finishes : List ReplayLine)
-    → hand w r ≡ full → length full ≢ CELLS → first_ready r.core (cells_out r.core s) ≡ Some (cell, job)
+    → hand w r ≡ full → length full ≢ ring.CELLS → first_ready r.core (cells_out r.core s) ≡ Some (cell, job)
     → manager w r ≡ x → hand w (with_claim w cell job (after_submit (with_open x job)).1 r) ≡ cells
     → given ≡ first_with cells (after_submit (with_open x job)).0
     → q ≡ after_finish w given (with_claim w cell job (after_submit (with_open x job)).1 r)
@@ -73,25 +74,25 @@ claim-is w s cell job r q x full cells given number finishes is_full is_room is_
     (are ∙ ap (λ (g : Option Entry). map (λ n. line.Finish w (Some n)) (option_to_list (finish_of r g))) found) in
     told-is (line.Claim w number ∷ finishes) _ q _ lines state
     ∙ ap (λ f. claim_of w f r) (sym is_ready)
-    ∙ sym (if-apart (length (hand w r)) CELLS (line.ClaimFull w ∷ [], r) (claim_of w (first_ready r.core (cells_out r.core s)) r)
+    ∙ sym (if-apart (length (hand w r)) ring.CELLS (line.ClaimFull w ∷ [], r) (claim_of w (first_ready r.core (cells_out r.core s)) r)
     (λ e. is_room (ap length (sym is_full) ∙ e)))
 
 -- where the submitter has no job that is ready
-pub no-claim-is : (w s : ℕ) (r q : Replaying) (full : List ℕ) → hand w r ≡ full → length full ≢ CELLS → first_ready r.core (cells_out r.core s) ≡ None
+pub no-claim-is : (w s : ℕ) (r q : Replaying) (full : List ℕ) → hand w r ≡ full → length full ≢ ring.CELLS → first_ready r.core (cells_out r.core s) ≡ None
     → q ≡ r → ◌≡◌ {A = Told} (line.Claim w None ∷ [], q) (claim_told w s r)
 no-claim-is w s r q full is_full is_room is_none same =
     ap (λ (u : Replaying). (line.Claim w None ∷ [], u)) same
     ∙ ap (λ f. claim_of w f r) (sym is_none)
-    ∙ sym (if-apart (length (hand w r)) CELLS (line.ClaimFull w ∷ [], r) (claim_of w (first_ready r.core (cells_out r.core s)) r)
+    ∙ sym (if-apart (length (hand w r)) ring.CELLS (line.ClaimFull w ∷ [], r) (claim_of w (first_ready r.core (cells_out r.core s)) r)
     (λ e. is_room (ap length (sym is_full) ∙ e)))
 
 -- a post
 pub post-is : (jobs : List Job) (s n : ℕ) (job : Job) (r q : Replaying) → n ≡ slice_index r.nexts s → slice_get jobs n ≡ Some job
-    → out_of r.core s ≢ CELLS → q ≡ with_post s n job r
+    → out_of r.core s ≢ SUBMITTER_CELLS → q ≡ with_post s n job r
     → ◌≡◌ {A = Told} (line.Post s n ∷ [], q) (post_told jobs s r)
 post-is jobs s n job r q next is_job room state =
     ap (λ (u : Replaying). (line.Post s n ∷ [], u)) state
-    ∙ sym (if-apart (out_of r.core s) CELLS (line.PostFull s ∷ [], r) (line.Post s n ∷ [], with_post s n job r) room)
+    ∙ sym (if-apart (out_of r.core s) SUBMITTER_CELLS (line.PostFull s ∷ [], r) (line.Post s n ∷ [], with_post s n job r) room)
     ∙ ap (λ o. post_of s n o r) (sym is_job)
     ∙ ap (λ (m : ℕ). post_of s m (slice_get jobs m) r) next
 

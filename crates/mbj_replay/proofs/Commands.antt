@@ -15,7 +15,7 @@ use Rattle.mbj_core.specs.Lawful.{Lawful}
 use Rattle.mbj_core.specs.Events.{accepted, collect, collected, finish, post}
 use Rattle.mbj_core.specs.CoreStates.{CoreState, HasHand, claimed_by, hand_in, handed_out, next_cell, posted}
 use Rattle.mbj_core.specs.Stands.{StandsFor, Leads}
-use Rattle.mbj_core.specs.declared.cells.TheConstants.{CELLS}
+use Rattle.mbj_core.specs.declared.cells.TheConstants.{SUBMITTER_CELLS}
 use Rattle.mbj_core.proofs.Entries.{set_else}
 use Rattle.mbj_replay.specs.Inside.Claiming.{ClaimsAt}
 use Rattle.mbj_replay.specs.Replay.{core_after}
@@ -301,7 +301,7 @@ module _ (jobs : List Job) (r : Replayer) (w p : ℕ) (given : Option Entry) (x 
     flushed : Taken r.core p x.hand.items given y playing.0 playing.0
     flushed = flush-taken r.core p given x y playing.0 playing.1.front holds hand owed
 
-    pub flush-held : IfSome given (λ e. (e.0 < CELLS * r.core.submitters) × HasHand r.core e.0 p e.1)
+    pub flush-held : IfSome given (λ e. (e.0 < SUBMITTER_CELLS * r.core.submitters) × HasHand r.core e.0 p e.1)
     flush-held = first-held r.core playing.0 p given flushed.rest flushed.front (law playing.0 flushed.front) flushed.hand
 
     pub flush-plays : (new : CoreState) (workers : Vec Worker Global) → new ≡ core_after p given r.core
@@ -328,7 +328,7 @@ module _ (jobs : List Job) (r : Replayer) (w p : ℕ) (given : Option Entry) (x 
     claimed-by : (g : FrontState Job Done) × Claimed mid p cell given x y playing.0 g
     claimed-by = claim-taken jobs r mid p cell given x y playing.0 playing.1 holds claims hand owed
 
-    pub claim-held : IfSome given (λ e. (e.0 < CELLS * mid.submitters) × HasHand mid e.0 p e.1)
+    pub claim-held : IfSome given (λ e. (e.0 < SUBMITTER_CELLS * mid.submitters) × HasHand mid e.0 p e.1)
     claim-held = let part = claimed-by.1.taken in first-held mid claimed-by.0 p given part.rest part.front (law claimed-by.0 part.front) part.hand
 
     pub claim-hand : w < r.core.workers → hand_in (claimed_by r.core (r.core.submitters + w) cell claims.job) (r.core.submitters + w) ≡ x.hand.items ++ cell ∷ []

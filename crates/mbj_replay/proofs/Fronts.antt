@@ -11,7 +11,7 @@ use Rattle.mbj_core.specs.Events.{accepted, finish}
 use Rattle.mbj_core.specs.Runs.{Run}
 use Rattle.mbj_core.specs.CoreStates.{CoreState, HasHand, next_cell}
 use Rattle.mbj_core.specs.Stands.{StandsFor, Leads}
-use Rattle.mbj_core.specs.declared.cells.TheConstants.{CELLS}
+use Rattle.mbj_core.specs.declared.cells.TheConstants.{SUBMITTER_CELLS}
 use Rattle.mbj_core.proofs.Entries.{at_middle}
 use mathlib.Core.Logic.{dite}
 use native.Mathlib.Decide.{ℕ_discrete}
@@ -78,7 +78,7 @@ pub record Finishes (core new : CoreState) (p : ℕ) (given : Option Entry) (res
 -- the first entry of a hand is in its cell
 pub first-held : (core : CoreState) (g : FrontState Job Done) (p : ℕ) (given : Option Entry) (rest : List Entry)
     → StandsFor core g → Lawful result_of core.submitters core.workers g → (g.seats p).hand ≡ option_to_list given ++ rest
-    → IfSome given (λ e. (e.0 < CELLS * core.submitters) × HasHand core e.0 p e.1)
+    → IfSome given (λ e. (e.0 < SUBMITTER_CELLS * core.submitters) × HasHand core e.0 p e.1)
 first-held core g p None rest stands law is = tt
 first-held core g p (Some e) rest stands law is =
     let at : slice_get (g.seats p).hand 0 ≡ Some e = ap (λ (l : List Entry). slice_get l 0) is in
@@ -128,7 +128,7 @@ first-finishes core new g p (Some e) rest stands law is same leads =
       },
     )
 
-pub held-at : (core : CoreState) (p : ℕ) (given : Option Entry) → IfSome given (λ e. (e.0 < CELLS * core.submitters) × HasHand core e.0 p e.1)
+pub held-at : (core : CoreState) (p : ℕ) (given : Option Entry) → IfSome given (λ e. (e.0 < SUBMITTER_CELLS * core.submitters) × HasHand core e.0 p e.1)
     → IfSome given (λ e. HasHand core e.0 p e.1)
 held-at core p None held = tt
 held-at core p (Some e) held = held.1
@@ -142,8 +142,8 @@ next-is c f s stands below =
     omega arith
 
 -- its cell is one of the replay's
-pub within-cells : (core : CoreState) (p : ℕ) (given : Option Entry) (count : ℕ) (cell : Option ℕ) → count ≡ CELLS * core.submitters
-    → cell ≡ option_map (λ e. e.0) given → IfSome given (λ e. (e.0 < CELLS * core.submitters) × HasHand core e.0 p e.1)
+pub within-cells : (core : CoreState) (p : ℕ) (given : Option Entry) (count : ℕ) (cell : Option ℕ) → count ≡ SUBMITTER_CELLS * core.submitters
+    → cell ≡ option_map (λ e. e.0) given → IfSome given (λ e. (e.0 < SUBMITTER_CELLS * core.submitters) × HasHand core e.0 p e.1)
     → IfSome cell (λ n. n < count)
 within-cells core p None count cell is from held = subst (λ (o : Option ℕ). IfSome o (λ n. n < count)) (sym from) tt
 within-cells core p (Some e) count cell is from held =

@@ -12,7 +12,7 @@ use Rattle.mbj_core.specs.Cells.{Cell, free, ready}
 use Rattle.mbj_core.specs.Parties.{FrontState, new_front}
 use Rattle.mbj_core.specs.CoreStates.{CoreState, new_core}
 use Rattle.mbj_core.specs.Stands.{StandsFor}
-use Rattle.mbj_core.specs.declared.cells.TheConstants.{CELLS}
+use Rattle.mbj_core.specs.declared.cells.TheConstants.{SUBMITTER_CELLS}
 use Rattle.mbj_manager.specs.State.{ManagerState, new_manager}
 use Rattle.mbj_replay.specs.Replay.{Replaying, new_replay}
 use Rattle.mbj_replay.specs.Inside.State.{IsPlaying, with_copy}
@@ -61,7 +61,7 @@ all-left jobs unposted left = ap jobs_left left ∙ left-of jobs
 pub begun : (jobs : List Job) (r : Replayer) (submitters workers : ℕ) → r.core ≡ new_core submitters workers → StandsFor r.core new_front
     → map (λ x. x.manager) r.workers.items ≡ replicate workers new_manager → map (λ x. x.hand.items) r.workers.items ≡ replicate workers []
     → r.unposted.items ≡ map with_copy jobs → r.nexts.items ≡ range_with_len 0 submitters
-    → map (λ x. x.number) r.posted.items ≡ replicate (CELLS * submitters) 0
+    → map (λ x. x.number) r.posted.items ≡ replicate (SUBMITTER_CELLS * submitters) 0
     → IsPlaying jobs r
 begun jobs r submitters workers is_core front managers hands left nexts numbers =
     let f : FrontState Job Done = new_front in
@@ -81,8 +81,8 @@ begun jobs r submitters workers is_core front managers hands left nexts numbers 
               (ap (λ (k : ℕ). n % k) count ∙ mod-eq_of_lt {n = n} {m = submitters} (omega (arith, own.0, own.1)) ∙ own.0 ∙ omega arith, omega (arith, own.0, own.1, count));
           job_count = ap length left ∙ length-map jobs with_copy;
           each_left = λ s n m at above of. ap (λ l. slice_get l m) left ∙ slice_get-map with_copy jobs m;
-          cell_count = sym (length-map r.posted.items (λ (x : Posted). x.number)) ∙ ap length numbers ∙ length-replicate (CELLS * submitters) 0
-              ∙ ap (λ (n : ℕ). CELLS * n) (sym count);
+          cell_count = sym (length-map r.posted.items (λ (x : Posted). x.number)) ∙ ap length numbers ∙ length-replicate (SUBMITTER_CELLS * submitters) 0
+              ∙ ap (λ (n : ℕ). SUBMITTER_CELLS * n) (sym count);
           each_ready = λ c job x at is. let bad : ◌≡◌ {A = Cell Job Done} free (ready job) = is in cc;
         };
       },
@@ -92,7 +92,7 @@ replaying : CoreState → List ManagerState → List ℕ → List ℕ → Replay
 replaying core managers nexts numbers = record { core = core; managers = managers; nexts = nexts; numbers = numbers }
 
 pub begun-state : (core : CoreState) (managers : List ManagerState) (nexts numbers : List ℕ) (submitters workers : ℕ) → core ≡ new_core submitters workers
-    → managers ≡ replicate workers new_manager → nexts ≡ range_with_len 0 submitters → numbers ≡ replicate (CELLS * submitters) 0
+    → managers ≡ replicate workers new_manager → nexts ≡ range_with_len 0 submitters → numbers ≡ replicate (SUBMITTER_CELLS * submitters) 0
     → record { core = core; managers = managers; nexts = nexts; numbers = numbers } ≡ new_replay submitters workers
 unfolding replaying
 begun-state core managers nexts numbers submitters workers is_core are_managers are_nexts are_numbers =

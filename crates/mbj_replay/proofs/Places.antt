@@ -3,7 +3,7 @@ use Rattle.std.proofs.Common.{◌≡◌, ◌*◌, ◌<◌, refl, ℕ, List, Some
 use Rattle.std.specs.Prelude.{slice_get}
 use Rattle.std.proofs.lemmas.Option.{slice_get_read}
 use Rattle.mbj_types.specs.declared.job.Job.{Job}
-use Rattle.mbj_core.specs.declared.cells.TheConstants.{CELLS}
+use Rattle.mbj_core.specs.declared.cells.TheConstants.{SUBMITTER_CELLS}
 use Rattle.mbj_replay.specs.Inside.State.{IsPlaying}
 use Rattle.mbj_replay.specs.declared.replayer.Posted.{Posted}
 use Rattle.mbj_replay.specs.declared.replayer.Replayer.{Replayer}
@@ -15,7 +15,7 @@ worker-at jobs r w x plays within is =
     let workers = plays.1.worker_count in
     slice_get_read r.workers.items (length r.workers.items) w x refl (omega (arith, workers, within)) is
 
-pub posted-at : (jobs : List Job) (r : Replayer) (cell : ℕ) (x : Posted) → IsPlaying jobs r → cell < CELLS * r.core.submitters
+pub posted-at : (jobs : List Job) (r : Replayer) (cell : ℕ) (x : Posted) → IsPlaying jobs r → cell < SUBMITTER_CELLS * r.core.submitters
     → x ≡ get_or r.posted.items cell x → slice_get r.posted.items cell ≡ Some x
 posted-at jobs r cell x plays within is =
     let cells = plays.1.stock.cell_count in

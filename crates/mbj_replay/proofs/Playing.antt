@@ -12,7 +12,7 @@ use Rattle.mbj_core.specs.Lawful.{Lawful}
 use Rattle.mbj_core.specs.Runs.{Run}
 use Rattle.mbj_core.specs.CoreStates.{CoreState, cell_in, out_of}
 use Rattle.mbj_core.specs.Stands.{StandsFor, IsBacked}
-use Rattle.mbj_core.specs.declared.cells.TheConstants.{CELLS}
+use Rattle.mbj_core.specs.declared.cells.TheConstants.{SUBMITTER_CELLS}
 use Rattle.mbj_core.proofs.Calls.{Sizes}
 use Rattle.mbj_core.proofs.Steps.{Sound, step_sound}
 use Rattle.mbj_manager.specs.State.{ManagerState}
@@ -26,9 +26,9 @@ pub record Stands (jobs : List Job) (r : Replaying) (f : FrontState Job Done) : 
   pub front : StandsFor r.core f
   pub law : Lawful result_of r.core.submitters r.core.workers f
   pub manager_count : length r.managers ≡ r.core.workers
-  pub number_count : length r.numbers ≡ CELLS * r.core.submitters
-  pub jobs_are : (cell : ℕ) (job : Job) → cell < CELLS * r.core.submitters → f.cells cell ≡ ready job → slice_get jobs (number_in r cell) ≡ Some job
-  pub results : (cell : ℕ) (d : Done) → cell < CELLS * r.core.submitters → result_in result_of (f.cells cell) ≡ Some d
+  pub number_count : length r.numbers ≡ SUBMITTER_CELLS * r.core.submitters
+  pub jobs_are : (cell : ℕ) (job : Job) → cell < SUBMITTER_CELLS * r.core.submitters → f.cells cell ≡ ready job → slice_get jobs (number_in r cell) ≡ Some job
+  pub results : (cell : ℕ) (d : Done) → cell < SUBMITTER_CELLS * r.core.submitters → result_in result_of (f.cells cell) ≡ Some d
       → ResultIs jobs (number_in r cell) d
 
 -- a worker's manager owes the results of the worker's hand, in the same order
@@ -69,7 +69,8 @@ pub backed : (jobs : List Job) (r : Replaying) (f : FrontState Job Done) → Sta
 backed jobs r f s = ∣ (f, s.front, s.law) ∣₁
 
 -- how many are out of a submitter
-pub out-within : (jobs : List Job) (r : Replaying) (f : FrontState Job Done) (s : ℕ) → Stands jobs r f → s < r.core.submitters → out_of r.core s ≤ CELLS
+pub out-within : (jobs : List Job) (r : Replaying) (f : FrontState Job Done) (s : ℕ) → Stands jobs r f → s < r.core.submitters
+    → out_of r.core s ≤ SUBMITTER_CELLS
 out-within jobs r f s stands below =
     let out = stands.front.each_out s below in
     let most = stands.law.within s in
@@ -77,11 +78,11 @@ out-within jobs r f s stands below =
 
 -- what a cell of the core holds is in f
 pub cell-is : (jobs : List Job) (r : Replaying) (f : FrontState Job Done) (cell : ℕ) (x : Cell Job Done) → Stands jobs r f → cell_in r.core cell ≡ Some x
-    → (cell < CELLS * r.core.submitters) × (f.cells cell ≡ x)
+    → (cell < SUBMITTER_CELLS * r.core.submitters) × (f.cells cell ≡ x)
 cell-is jobs r f cell x stands is =
     let within = slice_get_within r.core.cells cell x is in
     let count = stands.sizes.cells in
-    let below : cell < CELLS * r.core.submitters = omega (arith, within, count) in
+    let below : cell < SUBMITTER_CELLS * r.core.submitters = omega (arith, within, count) in
     (below, same_Some (f.cells cell) x (sym (stands.front.each_cell cell below) ∙ is))
 
 -- a line that tells of nothing

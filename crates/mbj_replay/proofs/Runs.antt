@@ -12,7 +12,7 @@ use Rattle.mbj_core.specs.Cells.{Cell, free, ready}
 use Rattle.mbj_core.specs.Parties.{FrontState, new_front}
 use Rattle.mbj_core.specs.Runs.{Run}
 use Rattle.mbj_core.specs.Stands.{StandsFor}
-use Rattle.mbj_core.specs.declared.cells.TheConstants.{CELLS}
+use Rattle.mbj_core.specs.declared.cells.TheConstants.{SUBMITTER_CELLS}
 use Rattle.mbj_core.proofs.New.{new_stands}
 use Rattle.mbj_core.proofs.RunLaws.{new_front_sound}
 use Rattle.mbj_manager.specs.State.{ManagerState, new_manager}
@@ -78,7 +78,7 @@ begins : (jobs : List Job) (submitters workers : ℕ) → Plays jobs (new_replay
 begins jobs submitters workers = record {
   stands = record {
     sizes = record {
-      cells = length-replicate (CELLS * submitters) free;
+      cells = length-replicate (SUBMITTER_CELLS * submitters) free;
       hands = length-replicate (submitters + workers) [];
       firsts = length-replicate submitters 0;
       outs = length-replicate submitters 0;
@@ -86,7 +86,7 @@ begins jobs submitters workers = record {
     front = new_stands submitters workers;
     law = (new_front_sound result_of submitters workers).1;
     manager_count = length-replicate workers new_manager;
-    number_count = length-replicate (CELLS * submitters) 0;
+    number_count = length-replicate (SUBMITTER_CELLS * submitters) 0;
     jobs_are = λ cell job below there. let bad : ◌≡◌ {A = Cell Job Done} free (ready job) = there in cc;
     results = λ cell d below there. absurd (none-some d there);
   };

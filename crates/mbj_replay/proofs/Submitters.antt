@@ -11,7 +11,7 @@ use Rattle.mbj_core.specs.Cells.{Cell, free, ready, done, result_in, cell_of}
 use Rattle.mbj_core.specs.Parties.{FrontState}
 use Rattle.mbj_core.specs.Events.{post, collect, accepted, returned, collected, nothing}
 use Rattle.mbj_core.specs.CoreStates.{CoreState, cell_in, first_cell, handed_out, next_cell, out_of, posted}
-use Rattle.mbj_core.specs.declared.cells.TheConstants.{CELLS}
+use Rattle.mbj_core.specs.declared.cells.TheConstants.{SUBMITTER_CELLS}
 use Rattle.mbj_core.proofs.Calls.{Sizes, posts_lead, collects_lead, vain_collects_lead}
 use Rattle.mbj_core.proofs.Steps.{step_sound}
 use Rattle.mbj_replay.specs.Events.{ResultIs}
@@ -39,7 +39,7 @@ set-number numbers cell n count size i within P here other = dite (ℕ_discrete 
     (λ apart. subst P (sym (get_or-set_other numbers cell i n 0 apart)) (other apart))
 
 post-room : (jobs : List Job) (s n : ℕ) (job : Job) (r : Replaying) (f : FrontState Job Done) → Plays jobs r f → s < r.core.submitters
-    → slice_get jobs n ≡ Some job → out_of r.core s < CELLS → Goes jobs r f (line.Post s n ∷ [], with_post s n job r)
+    → slice_get jobs n ≡ Some job → out_of r.core s < SUBMITTER_CELLS → Goes jobs r f (line.Post s n ∷ [], with_post s n job r)
 post-room jobs s n job r f plays below is room =
     let st = plays.stands in
     let step = posts_lead r.core st.sizes (backed jobs r f st) s job below room f st.front in
@@ -49,8 +49,8 @@ post-room jobs s n job r f plays below is room =
     let at : cell ≡ cell_of s (length (f.seats s).due) = next-is r.core f s st.front below in
     let has : g.cells cell ≡ ready job = ap g.cells at ∙ changes.cell in
     let elsewhere : (i : ℕ) → i ≢ cell → g.cells i ≡ f.cells i = λ i apart. changes.other_cells i (λ e. apart (e ∙ sym at)) in
-    let numbered : (i : ℕ) → i < CELLS * r.core.submitters → (P : ℕ → Type 0) → (i ≡ cell → P n) → (i ≢ cell → P (number_in r i)) → P (slice_index (set r.numbers cell n) i)
-    = set-number r.numbers cell n (CELLS * r.core.submitters) st.number_count in
+    let numbered : (i : ℕ) → i < SUBMITTER_CELLS * r.core.submitters → (P : ℕ → Type 0) → (i ≡ cell → P n) → (i ≢ cell → P (number_in r i)) → P (slice_index (set r.numbers cell n) i)
+    = set-number r.numbers cell n (SUBMITTER_CELLS * r.core.submitters) st.number_count in
     record {
       events = Some (post s job, accepted) ∷ [];
       to = g;
@@ -78,7 +78,7 @@ post-room jobs s n job r f plays below is room =
     }
 
 post-full : (jobs : List Job) (s : ℕ) (job : Job) (r : Replaying) (f : FrontState Job Done) → Plays jobs r f → s < r.core.submitters
-    → out_of r.core s ≡ CELLS → Goes jobs r f (line.PostFull s ∷ [], r)
+    → out_of r.core s ≡ SUBMITTER_CELLS → Goes jobs r f (line.PostFull s ∷ [], r)
 post-full jobs s job r f plays below full =
     let out = plays.stands.front.each_out s below in
     record {
@@ -94,11 +94,11 @@ post-full jobs s job r f plays below full =
 pub post-goes : (jobs : List Job) (s n : ℕ) (o : Option Job) (r : Replaying) (f : FrontState Job Done) → Plays jobs r f → s < r.core.submitters
     → slice_get jobs n ≡ o → Goes jobs r f (post_of s n o r)
 post-goes jobs s n None r f plays below is = goes-nowhere jobs r f (line.PostEnd s) plays tt
-post-goes jobs s n (Some job) r f plays below is = dite (ℕ_discrete (out_of r.core s) CELLS)
-    (λ full. subst (Goes jobs r f) (sym (if-same (out_of r.core s) CELLS (line.PostFull s ∷ [], r) (line.Post s n ∷ [], with_post s n job r) full))
+post-goes jobs s n (Some job) r f plays below is = dite (ℕ_discrete (out_of r.core s) SUBMITTER_CELLS)
+    (λ full. subst (Goes jobs r f) (sym (if-same (out_of r.core s) SUBMITTER_CELLS (line.PostFull s ∷ [], r) (line.Post s n ∷ [], with_post s n job r) full))
     (post-full jobs s job r f plays below full))
     (λ apart. let most = out-within jobs r f s plays.stands below in
-    subst (Goes jobs r f) (sym (if-apart (out_of r.core s) CELLS (line.PostFull s ∷ [], r) (line.Post s n ∷ [], with_post s n job r) apart))
+    subst (Goes jobs r f) (sym (if-apart (out_of r.core s) SUBMITTER_CELLS (line.PostFull s ∷ [], r) (line.Post s n ∷ [], with_post s n job r) apart))
     (post-room jobs s n job r f plays below is (omega (arith, most, apart))))
 
 -- ---- collect

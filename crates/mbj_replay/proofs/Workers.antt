@@ -16,7 +16,7 @@ use Rattle.mbj_core.specs.Events.{Step, claim, finish, accepted, claimed}
 use Rattle.mbj_core.specs.Runs.{Run}
 use Rattle.mbj_core.specs.CoreStates.{CoreState, HasHand, cell_in, claimed_by}
 use Rattle.mbj_core.specs.Stands.{Leads, IsBacked}
-use Rattle.mbj_core.specs.declared.cells.TheConstants.{CELLS}
+use Rattle.mbj_core.specs.declared.cells.TheConstants.{SUBMITTER_CELLS}
 use Rattle.mbj_core.proofs.Calls.{Sizes, claims_lead, finishes_lead}
 use Rattle.mbj_core.proofs.Steps.{step_sound}
 use Rattle.mbj_ring.specs.declared.ring.TheConstants as ring
@@ -43,7 +43,7 @@ finish-sizes p (Some e) c sizes = record {
 }
 
 finish-leads : (core : CoreState) (p : ℕ) (given : Option Entry) → Sizes core → IsBacked core → p < core.submitters + core.workers
-    → IfSome given (λ e. (e.0 < CELLS * core.submitters) × HasHand core e.0 p e.1)
+    → IfSome given (λ e. (e.0 < SUBMITTER_CELLS * core.submitters) × HasHand core e.0 p e.1)
     → IfSome given (λ e. Leads core (finish p e.0 e.1) accepted (core_after p given core))
 finish-leads core p None sizes behind near held = tt
 finish-leads core p (Some e) sizes behind near held = finishes_lead core sizes behind p e.0 e.1 near held.0 held.1
@@ -56,7 +56,7 @@ pub record Ends (jobs : List Job) (r : Replaying) (f : FrontState Job Done) (w :
   pub plays : Plays jobs (after_finish w given r) to
 
 given-result : (jobs : List Job) (r : Replaying) (f : FrontState Job Done) (p : ℕ) (given : Option Entry) → Stands jobs r f
-    → IfSome given (λ e. (e.0 < CELLS * r.core.submitters) × HasHand r.core e.0 p e.1) → IfSome given (λ e. ResultIs jobs (number_in r e.0) e.1)
+    → IfSome given (λ e. (e.0 < SUBMITTER_CELLS * r.core.submitters) × HasHand r.core e.0 p e.1) → IfSome given (λ e. ResultIs jobs (number_in r e.0) e.1)
 given-result jobs r f p None st held = tt
 given-result jobs r f p (Some e) st held =
     st.results e.0 e.1 held.0 (ap (result_in result_of) (cell-is jobs r f e.0 (hand_of p e.1) st held.1).1)
@@ -83,9 +83,9 @@ ends jobs r f w given rest m st near is at owed others =
           front = last.1.front;
           law = subst (λ (n : ℕ × ℕ). Lawful result_of n.0 n.1 h) (λ t. (sym same.0 t, sym same.1 t)) law;
           manager_count = st.manager_count ∙ sym same.1;
-          number_count = st.number_count ∙ ap (λ (n : ℕ). CELLS * n) (sym same.0);
-          jobs_are = λ cell job below there. st.jobs_are cell job (subst (λ (n : ℕ). cell < CELLS * n) same.0 below) (last.1.jobs cell job there);
-          results = λ cell d below there. st.results cell d (subst (λ (n : ℕ). cell < CELLS * n) same.0 below) (last.1.results cell d there);
+          number_count = st.number_count ∙ ap (λ (n : ℕ). SUBMITTER_CELLS * n) (sym same.0);
+          jobs_are = λ cell job below there. st.jobs_are cell job (subst (λ (n : ℕ). cell < SUBMITTER_CELLS * n) same.0 below) (last.1.jobs cell job there);
+          results = λ cell d below there. st.results cell d (subst (λ (n : ℕ). cell < SUBMITTER_CELLS * n) same.0 below) (last.1.results cell d there);
         };
         owes = subst (λ (n : ℕ). (v : ℕ) (x : ManagerState) → slice_get r.managers v ≡ Some x → Owes n h v x) (sym same.0)
             (λ v x there. dite (ℕ_discrete v w)

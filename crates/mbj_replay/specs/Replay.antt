@@ -5,7 +5,7 @@ use Rattle.mbj_types.specs.declared.job.Job.{Job}
 use Rattle.mbj_types.specs.declared.done.Done.{Done}
 use Rattle.mbj_core.specs.Cells.{Cell, ready, done, cell_of}
 use Rattle.mbj_core.specs.CoreStates.{CoreState, new_core, cell_in, claimed_by, finished, first_cell, hand_in, handed_out, next_cell, out_of, posted}
-use Rattle.mbj_core.specs.declared.cells.TheConstants.{CELLS}
+use Rattle.mbj_core.specs.declared.cells.TheConstants.{SUBMITTER_CELLS}
 use Rattle.mbj_ring.specs.declared.ring.TheConstants as ring
 use Rattle.mbj_manager.specs.State.{ManagerState, after_flush, new_manager, after_submit, with_open}
 use Rattle.mbj_text.specs.declared.command.Cmd.{Cmd}
@@ -30,7 +30,7 @@ new_replay submitters workers = record {
   core = new_core submitters workers;
   managers = replicate workers new_manager;
   nexts = range_with_len 0 submitters;
-  numbers = replicate (CELLS * submitters) 0;
+  numbers = replicate (SUBMITTER_CELLS * submitters) 0;
 }
 
 -- the party of a worker, its manager, and the cells in its hand
@@ -65,7 +65,7 @@ with_post s n job r = record r {
 abbrev pub post_of : ℕ → ℕ → Option Job → Replaying → Told
 post_of s n None r = (line.PostEnd s ∷ [], r)
 post_of s n (Some job) r =
-    if out_of r.core s == CELLS then (line.PostFull s ∷ [], r) else (line.Post s n ∷ [], with_post s n job r)
+    if out_of r.core s == SUBMITTER_CELLS then (line.PostFull s ∷ [], r) else (line.Post s n ∷ [], with_post s n job r)
 
 abbrev pub post_told : List Job → ℕ → Replaying → Told
 post_told jobs s r = post_of s (slice_index r.nexts s) (slice_get jobs (slice_index r.nexts s)) r

@@ -5,11 +5,11 @@ ghost use Rattle.mbj_core.specs.Cells.{cell_of};
 ghost use Rattle.mbj_core.specs.CoreStates.{HasHand, HasJob};
 ghost use Rattle.mbj_core.specs.Events.{accepted, finish};
 ghost use Rattle.mbj_core.specs.Stands.{Leads};
-ghost use Rattle.mbj_core.specs.declared.cells.TheConstants.{CELLS};
+ghost use Rattle.mbj_core.specs.declared.cells.TheConstants.{SUBMITTER_CELLS};
 ghost use Rattle.mbj_replay.specs.Inside.Claiming.{ClaimsAt};
 ghost use Rattle.mbj_replay.specs.Replay.{cells_out, core_after, first_ready};
 
-use mbj_core::{CELLS, Core};
+use mbj_core::{Core, SUBMITTER_CELLS};
 use mbj_types::Done;
 
 /// The party of a worker.
@@ -25,19 +25,19 @@ pub(crate) fn party_of(core: &Core, w: u32) -> u32
 /// The cell of a submitter's job that is so many behind its earliest one that is out.
 pub(crate) fn cell_behind(core: &Core, s: u32, count: u32) -> u32
     requires submitter { s < core.now.submitters }
-    requires count { count ≤ CELLS }
+    requires count { count ≤ SUBMITTER_CELLS }
     ensures cell { result ≡ cell_of s (slice_index core.now.firsts s + count) }
-    ensures within { result < CELLS * core.now.submitters }
+    ensures within { result < SUBMITTER_CELLS * core.now.submitters }
 {
     let submitters = core.submitters();
     prove!(s < submitters);
-    CELLS * s + (core.first_cell(s) + count) % CELLS
+    SUBMITTER_CELLS * s + (core.first_cell(s) + count) % SUBMITTER_CELLS
 }
 
 /// Claims the job of a cell for a party. `false` exactly where the cell isn't ready; then nothing changes.
 fn try_claim(core: &mut Core, p: u32, cell: u32) -> bool
     requires party { p < core.old.submitters + core.old.workers }
-    requires cell { cell < CELLS * core.old.submitters }
+    requires cell { cell < SUBMITTER_CELLS * core.old.submitters }
     ensures claimed { OnTrue result (ClaimsAt core.old p cell core.new) }
     ensures unready { OnFalse result ((job : Job) → ¬ HasJob core.old cell job) }
     ensures same { OnFalse result (core.new ≡ core.old) }
@@ -55,7 +55,7 @@ pub(crate) fn claim_earliest(core: &mut Core, p: u32, s: u32) -> Option<u32>
     requires submitter { s < core.old.submitters }
     ensures claimed { IfSome result (λ cell. (c : ClaimsAt core.old p cell core.new)
         × (first_ready core.old (cells_out core.old s) ≡ Some (cell, c.job))) }
-    ensures within { IfSome result (λ cell. cell < CELLS * core.old.submitters) }
+    ensures within { IfSome result (λ cell. cell < SUBMITTER_CELLS * core.old.submitters) }
     ensures none { IfNone result (first_ready core.old (cells_out core.old s) ≡ None) }
     ensures same { IfNone result (core.new ≡ core.old) }
 {

@@ -11,5 +11,5 @@ pub fn replays_are_of_events()
 
 /// A law: a submitter has as many cells as a ring.
 pub fn a_submitter_has_as_many_cells_as_a_ring()
-    ensures { core.CELLS ≡ ring.CELLS }
+    ensures { core.SUBMITTER_CELLS ≡ ring.CELLS }
 {}

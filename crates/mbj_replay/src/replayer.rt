@@ -9,7 +9,7 @@ ghost use Rattle.mbj_replay.specs.Inside.State.{HasPartiesOf, IsPlaying, lines_o
 use crate::claiming::{cell_behind, claim_earliest, finish_given, party_of};
 use crate::line::ReplayLine;
 use crate::worker::{Worker, idle_workers};
-use mbj_core::{CELLS, Core};
+use mbj_core::{Core, SUBMITTER_CELLS};
 use mbj_text::Cmd;
 use mbj_types::{Job, PostFull};
 use std::alloc::{AllocError, Global};
@@ -127,7 +127,7 @@ impl Replayer {
             workers: idle_workers(alloc, workers)?,
             unposted: with_copies(alloc, jobs)?,
             nexts: numbers_below(alloc, submitters)?,
-            posted: unused_cells(alloc, CELLS * submitters)?,
+            posted: unused_cells(alloc, SUBMITTER_CELLS * submitters)?,
         })
     }
 

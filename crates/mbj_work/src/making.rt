@@ -1,7 +1,7 @@
 // How a party is made, and the numbers that it tells.
 ghost use Rattle.std.specs.Prelude.{◌≡◌, ◌⊎◌, ◌+◌, ◌≤◌, [], length, IfOk};
 ghost use Rattle.mbj_core.specs.Cells.{cell_of};
-ghost use Rattle.mbj_core.specs.declared.cells.TheConstants.{CELLS};
+ghost use Rattle.mbj_core.specs.declared.cells.TheConstants.{SUBMITTER_CELLS};
 ghost use Rattle.mbj_core.specs.declared.party.Phase.TheVariants.{Rest};
 ghost use Rattle.mbj_front.specs.Seats.{view_of, IsSubmitter};
 ghost use Rattle.mbj_manager.specs.State.{new_manager};
@@ -45,7 +45,7 @@ impl Party {
     /// How many of its own jobs are out: posted, and their results not collected. 0 for a worker.
     pub fn out(&self) -> u32
         ensures out { length (part_of self.now).due ≡ (part_of self.now).handed + result }
-        ensures within { result ≤ CELLS }
+        ensures within { result ≤ SUBMITTER_CELLS }
         ensures worker { IsSubmitter (seat_of self.now) ⊎ (result ≡ 0) }
     {
         self.seat.out()

@@ -1,19 +1,19 @@
 // What a submitter does with its own jobs: it posts them, and collects their results in the order of its posts.
 ghost use Rattle.std.specs.Prelude.{◌≡◌, ◌+◌, ◌<◌, length, slice_get, Some, IfErr, IfSome, OnErr, OnOk, MatchOption};
 ghost use Rattle.mbj_types.specs.Result.{result_of};
-ghost use Rattle.mbj_core.specs.declared.cells.TheConstants.{CELLS};
+ghost use Rattle.mbj_core.specs.declared.cells.TheConstants.{SUBMITTER_CELLS};
 ghost use Rattle.mbj_front.specs.Views.{after_publish};
 ghost use Rattle.mbj_work.specs.Parties.{part_of, manager_of, IsPartyOf, Submits, after_collect, CollectsNothing};
 
 use crate::gate::{Gate, Moment, OpenGate};
 use crate::party::Party;
-use mbj_core::CELLS;
+use mbj_core::SUBMITTER_CELLS;
 use mbj_front::Front;
 use mbj_types::{Done, Job, PostFull};
 
 impl Party {
-    /// Posts a job of a submitter, whose result is then due. Answers the job itself exactly where `CELLS` of this
-    /// submitter are out; nothing changes then.
+    /// Posts a job of a submitter, whose result is then due. Answers the job itself exactly where `SUBMITTER_CELLS` of
+    /// this submitter are out; nothing changes then.
     pub fn post(&mut self, front: &Front, job: Job) -> Result<(), PostFull>
         requires front { IsPartyOf front.now self.old }
         requires submitter { Submits front.now self.old }
@@ -21,8 +21,8 @@ impl Party {
         ensures part { OnOk result (part_of self.new ≡ after_publish (part_of self.old) (result_of job)) }
         ensures manager { manager_of self.new ≡ manager_of self.old }
         ensures back { IfErr result (λ full. (full.0 ≡ job) × (self.new ≡ self.old)) }
-        ensures room { OnOk result (length (part_of self.old).due < (part_of self.old).handed + CELLS) }
-        ensures full { OnErr result (length (part_of self.old).due ≡ (part_of self.old).handed + CELLS) }
+        ensures room { OnOk result (length (part_of self.old).due < (part_of self.old).handed + SUBMITTER_CELLS) }
+        ensures full { OnErr result (length (part_of self.old).due ≡ (part_of self.old).handed + SUBMITTER_CELLS) }
     {
         self.post_at(front, job, &OpenGate)
     }
@@ -35,10 +35,10 @@ impl Party {
         ensures part { OnOk result (part_of self.new ≡ after_publish (part_of self.old) (result_of job)) }
         ensures manager { manager_of self.new ≡ manager_of self.old }
         ensures back { IfErr result (λ full. (full.0 ≡ job) × (self.new ≡ self.old)) }
-        ensures room { OnOk result (length (part_of self.old).due < (part_of self.old).handed + CELLS) }
-        ensures full { OnErr result (length (part_of self.old).due ≡ (part_of self.old).handed + CELLS) }
+        ensures room { OnOk result (length (part_of self.old).due < (part_of self.old).handed + SUBMITTER_CELLS) }
+        ensures full { OnErr result (length (part_of self.old).due ≡ (part_of self.old).handed + SUBMITTER_CELLS) }
     {
-        if self.seat.out() == CELLS {
+        if self.seat.out() == SUBMITTER_CELLS {
             return Err(PostFull(job));
         }
         front.open_cell(&mut self.seat);

@@ -7,7 +7,7 @@ ghost use Rattle.mbj_work.specs.Inside.Runs.{with_due, HasJobs, HasResults};
 
 use crate::gate::Gate;
 use crate::party::Party;
-use mbj_core::CELLS;
+use mbj_core::SUBMITTER_CELLS;
 use mbj_front::{Front, Seat};
 use mbj_types::{Done, Job};
 use std::alloc::{AllocError, Global};
@@ -40,7 +40,7 @@ impl Party {
         ensures results { with_due results.new.items (part_of self.new) ≡ with_due results.old.items (part_of self.old) ++ result_of job ∷ [] }
         ensures room { vec_capacity results.new ≡ vec_capacity results.old }
     {
-        self.collect_down_to(rt, front, gate, results, CELLS - 1);
+        self.collect_down_to(rt, front, gate, results, SUBMITTER_CELLS - 1);
         match self.post_at(front, job, gate) {
             Ok(()) => {}
             Err(_) => unreachable!(),

@@ -8,7 +8,7 @@ use Rattle.mbj_core.specs.CoreStates.{CoreState}
 use Rattle.mbj_core.specs.Stands.{IsBacked}
 use Rattle.mbj_core.specs.declared.cells.Slot.{Slot}
 use Rattle.mbj_core.specs.declared.cells.Slot.TheVariants as slot
-use Rattle.mbj_core.specs.declared.cells.TheConstants.{CELLS, MAX_SUBMITTERS, MAX_WORKERS}
+use Rattle.mbj_core.specs.declared.cells.TheConstants.{MAX_SUBMITTERS, MAX_WORKERS, SUBMITTER_CELLS}
 use Rattle.mbj_core.specs.declared.machine.Core.TheInside.{Inside}
 
 -- what the cell holds; the job of a claimed cell has a result, whether it is computed or not
@@ -32,10 +32,10 @@ pub record IsCore (a : Inside) : Type 0 where
   pub some_submitter : 1 ≤ a.submitters
   pub submitters : a.submitters ≤ MAX_SUBMITTERS
   pub workers : a.workers ≤ MAX_WORKERS
-  pub cells : vec_len a.cells ≡ CELLS * a.submitters
+  pub cells : vec_len a.cells ≡ SUBMITTER_CELLS * a.submitters
   pub hands : vec_len a.hands ≡ a.submitters + a.workers
   pub firsts : vec_len a.firsts ≡ a.submitters
   pub outs : vec_len a.outs ≡ a.submitters
-  pub each_first : All (λ n. n < CELLS) a.firsts.items
-  pub each_out : All (λ n. n ≤ CELLS) a.outs.items
+  pub each_first : All (λ n. n < SUBMITTER_CELLS) a.firsts.items
+  pub each_out : All (λ n. n ≤ SUBMITTER_CELLS) a.outs.items
   pub backed : IsBacked (state_of a)

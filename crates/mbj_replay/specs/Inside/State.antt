@@ -5,7 +5,7 @@ use Rattle.mbj_types.specs.declared.done.Done.{Done}
 use Rattle.mbj_core.specs.Cells.{Cell, ready}
 use Rattle.mbj_core.specs.Parties.{FrontState}
 use Rattle.mbj_core.specs.Stands.{StandsFor}
-use Rattle.mbj_core.specs.declared.cells.TheConstants.{CELLS}
+use Rattle.mbj_core.specs.declared.cells.TheConstants.{SUBMITTER_CELLS}
 use Rattle.mbj_replay.specs.Replay.{Replaying}
 use Rattle.mbj_replay.specs.declared.replayer.Posted.{Posted}
 use Rattle.mbj_replay.specs.declared.replayer.Replayer.{Replayer}
@@ -49,7 +49,7 @@ pub record HasStock (jobs : List Job) (submitters : ℕ) (nexts : List ℕ) (unp
   pub each_left : (s n m : ℕ) → slice_get nexts s ≡ Some n → n ≤ m → m % submitters ≡ s
       → slice_get unposted m ≡ option_map with_copy (slice_get jobs m)
   -- there is a copy of each job that is posted and that no party has claimed
-  pub cell_count : length posted ≡ CELLS * submitters
+  pub cell_count : length posted ≡ SUBMITTER_CELLS * submitters
   pub each_ready : (c : ℕ) (job : Job) (x : Posted) → slice_get posted c ≡ Some x → cells c ≡ ready job → x.copy ≡ Some job
 
 -- the replay's core stands for f, in which each worker holds its hand

@@ -1,13 +1,13 @@
 // The parties of a front on one thread, and what each command of a script makes them do and tell.
 ghost use Rattle.std.specs.Prelude.{◌≡◌, ◌<◌, []};
-ghost use Rattle.mbj_core.specs.declared.cells.TheConstants.{CELLS};
+ghost use Rattle.mbj_core.specs.declared.cells.TheConstants.{SUBMITTER_CELLS};
 ghost use Rattle.mbj_core.specs.declared.party.Phase.TheVariants.{Rest};
 ghost use Rattle.mbj_front.specs.Seats.{view_of, IsIssued, IsOf};
 ghost use Rattle.mbj_work.specs.Parties.{IsPartyOf, Submits};
 
 use crate::claimed::Claimed;
 use crate::party::{HAND_ROOM, Party};
-use mbj_core::{CELLS, cell_at};
+use mbj_core::{SUBMITTER_CELLS, cell_at};
 use mbj_front::{Front, Seat};
 use mbj_io::{Failed, MemSink};
 use mbj_text::{Cmd, JOB_LIMIT, Part, write_done, write_line, write_parts};
@@ -104,7 +104,7 @@ impl PostingParty<'_> {
 
     /// The cell of its job that is so many behind its earliest one that is out.
     fn cell_behind(&self, count: u32) -> u32
-        requires { count < CELLS }
+        requires { count < SUBMITTER_CELLS }
     {
         cell_at(self.party.seat.party(), self.party.first_cell() + count)
     }
@@ -185,7 +185,7 @@ impl<'a> Squad<'a> {
         requires rest { (view_of seat).phase ≡ Rest }
         requires hand { (view_of seat).hand ≡ [] }
     {
-        let is_submitter = seat.party() < front.cells() / CELLS;
+        let is_submitter = seat.party() < front.cells() / SUBMITTER_CELLS;
         let party = Party::new(alloc, seat)?;
         if is_submitter {
             self.submitters.push(PostingParty {

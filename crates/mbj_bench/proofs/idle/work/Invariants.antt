@@ -1,6 +1,6 @@
 -- Between two jobs the submitter is a party of the front, and the cell is one of its own.
 use Rattle.std.proofs.Common.{◌<◌}
-use Rattle.mbj_core.specs.declared.cells.TheConstants.{CELLS}
+use Rattle.mbj_core.specs.declared.cells.TheConstants.{SUBMITTER_CELLS}
 use Rattle.mbj_work.specs.Parties.{IsPartyOf, Submits}
 use Rattle.mbj_bench.proofs.idle.work.Given as goal
 
@@ -10,5 +10,5 @@ invariant-loop-job g l = record {
   finite : (goal.iterator-loop-job g).is_finite l.job-iterator;
   party : IsPartyOf l.front l.party;
   submits : Submits l.front l.party;
-  cell : l.cell < CELLS;
+  cell : l.cell < SUBMITTER_CELLS;
 }

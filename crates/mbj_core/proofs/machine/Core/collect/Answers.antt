@@ -1,6 +1,6 @@
 use Rattle.std.proofs.Common.{◌+◌, ◌-◌, ◌%◌, ◌<◌, ◌≤◌, ◌∙◌, sym, subst, arith, inl, inr}
 use Rattle.std.proofs.lemmas.List.Elements.{All-set}
-use Rattle.mbj_core.specs.declared.cells.TheConstants.{CELLS}
+use Rattle.mbj_core.specs.declared.cells.TheConstants.{SUBMITTER_CELLS}
 use Rattle.mbj_core.specs.Inside.Fields.{state_of}
 use Rattle.mbj_core.specs.Stands.{IsBacked}
 use Rattle.mbj_core.proofs.Calls.{vain_collects_lead}
@@ -53,8 +53,8 @@ invariant_of-self-2 c =
       hands = is.hands;
       firsts = is.firsts;
       outs = is.outs;
-      each_first = All-set (λ n. n < CELLS) a.firsts.items s ((c.index-first.result.now + 1) % CELLS) (omega arith) is.each_first;
-      each_out = All-set (λ n. n ≤ CELLS) a.outs.items s (out - 1) (omega arith) is.each_out;
+      each_first = All-set (λ n. n < SUBMITTER_CELLS) a.firsts.items s ((c.index-first.result.now + 1) % SUBMITTER_CELLS) (omega arith) is.each_first;
+      each_out = All-set (λ n. n ≤ SUBMITTER_CELLS) a.outs.items s (out - 1) (omega arith) is.each_out;
       backed = (after_collect a is s c.cell_at-at.result c.index-first.result.now out c.in_ok-done.done c.index_mut.result.now c.take_done.new.self near
           c.cell_at-at.ensures c.index-first.ensures c.index-out.ensures c.if-out-eq0.false c.index_mut.ensures.value c.in_ok-done.ensures.0 c.in_ok-done.ensures.1).1;
     }

@@ -1,6 +1,6 @@
 use Rattle.std.proofs.Common.{◌+◌, ◌≤◌, arith}
 use Rattle.std.proofs.lemmas.List.Elements.{All-set}
-use Rattle.mbj_core.specs.declared.cells.TheConstants.{CELLS}
+use Rattle.mbj_core.specs.declared.cells.TheConstants.{SUBMITTER_CELLS}
 use Rattle.mbj_core.proofs.Fields.{after_post, out_read, out_within}
 use Rattle.mbj_core.proofs.machine.Core.post.Goals as goal
 
@@ -8,7 +8,8 @@ pub invariant_of-self : goal.invariant_of-self
 invariant_of-self c =
     let a = c.self.inside in let is = c.self.invariant in let s = c.args.s in let out = c.index-out.result.now in
     let near = rw (← c.self.view_is) at c.requires.submitter in
-    let all_but = c.if-out-eq-CELLS.false in let out_is = out_read a is s out near c.index-out.ensures in let most = out_within a is s near in record {
+    let all_but = c.if-out-eq-SUBMITTER_CELLS.false in
+    let out_is = out_read a is s out near c.index-out.ensures in let most = out_within a is s near in record {
       some_submitter = is.some_submitter;
       submitters = is.submitters;
       workers = is.workers;
@@ -17,16 +18,16 @@ invariant_of-self c =
       firsts = is.firsts;
       outs = is.outs;
       each_first = is.each_first;
-      each_out = All-set (λ n. n ≤ CELLS) a.outs.items s (out + 1) (omega arith) is.each_out;
-      backed = (after_post a is s c.cell_at-next.result c.index.result.now out c.args.job near c.cell_at-next.ensures c.index.ensures c.index-out.ensures c.if-out-eq-CELLS.false).1;
+      each_out = All-set (λ n. n ≤ SUBMITTER_CELLS) a.outs.items s (out + 1) (omega arith) is.each_out;
+      backed = (after_post a is s c.cell_at-next.result c.index.result.now out c.args.job near c.cell_at-next.ensures c.index.ensures c.index-out.ensures c.if-out-eq-SUBMITTER_CELLS.false).1;
     }
 
 pub returns-clause-posted : goal.returns-clause-posted
 returns-clause-posted c =
     let near = rw (← c.self.view_is) at c.requires.submitter in
-    rw (← c.self.view_is) (after_post c.self.inside c.self.invariant c.args.s c.cell_at-next.result c.index.result.now c.index-out.result.now c.args.job near c.cell_at-next.ensures c.index.ensures c.index-out.ensures c.if-out-eq-CELLS.false).0
+    rw (← c.self.view_is) (after_post c.self.inside c.self.invariant c.args.s c.cell_at-next.result c.index.result.now c.index-out.result.now c.args.job near c.cell_at-next.ensures c.index.ensures c.index-out.ensures c.if-out-eq-SUBMITTER_CELLS.false).0
 
 pub returns-clause-leads : goal.returns-clause-leads
 returns-clause-leads c =
     let near = rw (← c.self.view_is) at c.requires.submitter in
-    rw (← c.self.view_is) (after_post c.self.inside c.self.invariant c.args.s c.cell_at-next.result c.index.result.now c.index-out.result.now c.args.job near c.cell_at-next.ensures c.index.ensures c.index-out.ensures c.if-out-eq-CELLS.false).2
+    rw (← c.self.view_is) (after_post c.self.inside c.self.invariant c.args.s c.cell_at-next.result c.index.result.now c.index-out.result.now c.args.job near c.cell_at-next.ensures c.index.ensures c.index-out.ensures c.if-out-eq-SUBMITTER_CELLS.false).2

@@ -1,5 +1,5 @@
 use Rattle.std.proofs.Common.{sym, subst, ap, ◌∙◌, ◌≡◌, ◌<◌, ◌*◌, ◌+◌, ◌-◌, ◌∷◌, ℕ, arith}
-use Rattle.mbj_core.specs.declared.cells.TheConstants.{CELLS}
+use Rattle.mbj_core.specs.declared.cells.TheConstants.{SUBMITTER_CELLS}
 use Rattle.mbj_core.specs.Cells.{cell_of}
 use Rattle.mbj_core.proofs.Fitting.{rest_take}
 use Rattle.mbj_front.specs.declared.slot.Slot.TheVariants.{Blank}
@@ -13,7 +13,7 @@ cell_at-at-requires g c = let k = c.args.seat.now.keeps in omega (arith, k.few_s
 pub compare_exchange-requires : goal.compare_exchange-requires
 compare_exchange-requires g c = let t = c.args.self.now.table.shared in let seat = c.args.seat.now in let k = seat.keeps in let v = seat.inner.me.0.view in
     let room = k.spare (λ e. rest_take (sym e ∙ c.requires.emptying)) in
-    let here : c.cell_at-at.result ≡ cell_of v.number (v.handed + (CELLS - 1)) = omega (arith, c.cell_at-at.ensures, k.party_is, k.first_is) in (
+    let here : c.cell_at-at.result ≡ cell_of v.number (v.handed + (SUBMITTER_CELLS - 1)) = omega (arith, c.cell_at-at.ensures, k.party_is, k.first_is) in (
       c.requires.front.0,
       omega (arith, k.word_count, c.cell_at-at.ensures, room.1, ap (λ i. i.words) c.requires.front.0),
       frees_cell g.R.Results.owed t.key.submitters t.key.workers _ _ _ _ _ (of_hand v.hand) k.cut (subst (λ (n : ℕ). n < seat.inner.me.0.submitters) k.party_is room.1) here (c.take_word-take.ensures ∙ ap (λ (n : ℕ). 5 + 3 * n) k.party_is) c.requires.emptying

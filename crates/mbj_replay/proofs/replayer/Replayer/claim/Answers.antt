@@ -2,7 +2,8 @@
 use Rattle.std.proofs.Common.{◌≡◌, ◌∙◌, ◌*◌, ap, sym, refl, ℕ, List, Some, None, option_map, option_to_list, slice_index, length, set, map, ◌++◌, [], ◌∷◌, length-set}
 use Rattle.std.proofs.lemmas.Option.{none-some, same_Some}
 use Rattle.mbj_core.specs.CoreStates.{CoreState}
-use Rattle.mbj_core.specs.declared.cells.TheConstants.{CELLS}
+use Rattle.mbj_core.specs.declared.cells.TheConstants.{SUBMITTER_CELLS}
+use Rattle.mbj_ring.specs.declared.ring.TheConstants as ring
 use Rattle.mbj_manager.specs.State.{after_submit, with_open}
 use Rattle.mbj_types.specs.Result.{result_of}
 use Rattle.mbj_types.specs.declared.job.Job.{Job}
@@ -56,8 +57,8 @@ number_at-requires g c =
     let copy = same_Some _ _ (c.in-Some-take.ensures.value ∙ copied g (goal.at.number_at-requires g c).After-take) in
     let owed = c.submit-given.ensures.owed ∙ ap (λ (j : Job). x.manager.owed ++ result_of j ∷ []) copy in
     let submitters : mid.submitters ≡ r.core.submitters = ap (λ (d : CoreState). d.submitters) c.in-Some.ensures.claimed.0.state in
-    let count : length (set r.posted.items c.in-Some.cell taken) ≡ CELLS * mid.submitters
-    = length-set r.posted.items c.in-Some.cell taken ∙ cells ∙ ap (λ n. CELLS * n) (sym submitters) in
+    let count : length (set r.posted.items c.in-Some.cell taken) ≡ SUBMITTER_CELLS * mid.submitters
+    = length-set r.posted.items c.in-Some.cell taken ∙ cells ∙ ap (λ n. SUBMITTER_CELLS * n) (sym submitters) in
     within-cells mid p c.submit-given.result _ c.finish_given-finished.result count c.finish_given-finished.ensures.cell
     (claim-held g.jobs r c.args.w p c.submit-given.result x c.submit-given.new.self c.requires.0 c.party_of-party.ensures at
     mid c.in-Some.cell c.in-Some.ensures.claimed.0 c.submit-given.ensures.hand owed c.stands_for_lawful_states.ensures)
@@ -69,7 +70,7 @@ returns-in_default-clause-told g c =
     let at = worker-at g.jobs r c.args.w x c.requires.0 c.requires.1.0 c.index.ensures in
     no-claim-is c.args.w c.args.s (state_of r) _ x.hand.items
     (worker-hand g.jobs r c.args.w c.party_of-party.result None x x c.requires.0 c.party_of-party.ensures at c.requires.1.0)
-    (refuted c.is_full.result (length x.hand.items ≡ CELLS) c.is_full.ensures.full c.if-is_full.false)
+    (refuted c.is_full.result (length x.hand.items ≡ ring.CELLS) c.is_full.ensures.full c.if-is_full.false)
     c.in_default.ensures.none
     (ap (λ (d : CoreState). record (state_of r) { core = d }) c.in_default.ensures.same)
 
@@ -93,7 +94,7 @@ returns-clause-told g c =
     claim-is c.args.w c.args.s c.in-Some.cell claims.job (state_of r) _ x.manager first.hand.items (x.hand.items ++ c.in-Some.cell ∷ []) c.submit-given.result
     c.number_at-job.result _
     (worker-hand g.jobs r c.args.w p c.submit-given.result first y c.requires.0 c.party_of-party.ensures at_first c.requires.1.0)
-    (refuted c.is_full.result (length first.hand.items ≡ CELLS) c.is_full.ensures.full c.if-is_full.false)
+    (refuted c.is_full.result (length first.hand.items ≡ ring.CELLS) c.is_full.ensures.full c.if-is_full.false)
     c.in-Some.ensures.claimed.1
     (manager-is r.workers.items c.args.w x at)
     (claim-hand g.jobs r c.args.w p c.submit-given.result x y c.requires.0 c.party_of-party.ensures at

@@ -5,7 +5,7 @@ use Rattle.std.proofs.lemmas.Option.{get_or_from_slice_get, none-some, same_Some
 use Rattle.mbj_types.specs.declared.job.Job.{Job}
 use Rattle.mbj_core.specs.Cells.{cell_of}
 use Rattle.mbj_core.specs.CoreStates.{CoreState, next_cell, out_of}
-use Rattle.mbj_core.specs.declared.cells.TheConstants.{CELLS}
+use Rattle.mbj_core.specs.declared.cells.TheConstants.{SUBMITTER_CELLS}
 use Rattle.mbj_replay.specs.Inside.State.{state_of, with_copy}
 use Rattle.mbj_replay.specs.declared.replayer.Unposted.{Unposted}
 use Rattle.mbj_replay.proofs.Places.{next-at}
@@ -59,7 +59,7 @@ returns-clause-told g c =
     let cell : c.cell_behind-cell.result ≡ next_cell r.core c.args.s
     = c.cell_behind-cell.ensures.cell ∙ ap (λ (k : ℕ). cell_of c.args.s (slice_index r.core.firsts c.args.s + k)) c.out.ensures.out in
     let submitters : c.submitters.result ≡ r.core.submitters = c.submitters.ensures.0 ∙ ap (λ (d : CoreState). d.submitters) c.in_default-post.ensures.posted in
-    let room : out_of r.core c.args.s ≢ CELLS = λ e. let bad : false ≡ true = c.in_default-post.ensures.full.1 e in cc in
+    let room : out_of r.core c.args.s ≢ SUBMITTER_CELLS = λ e. let bad : false ≡ true = c.in_default-post.ensures.full.1 e in cc in
     post-is g.jobs c.args.s n taken.job (state_of r) _ (sym (get_or_from_slice_get r.nexts.items c.args.s n 0 next)) own.0 room
     (post-state r c.post.new.self c.args.s n c.submitters.result c.cell_behind-cell.result taken.job
     (record { number = n; copy = Some taken.copy }) c.in_default-post.ensures.posted submitters cell refl)
