@@ -1,7 +1,6 @@
 -- What a call makes of a core leads each state that it stands for by the call's event.
-use Rattle.std.proofs.Common.{◌≡◌, ◌≢◌, ℕ, ◌+◌, ◌-◌, ◌*◌, ◌%◌, ◌<◌, ◌≤◌, not, eqb, List, [], ◌∷◌, ◌++◌, length, set, sym, refl, ap, ◌∙◌, subst, arith, length-append, get_or-set_same, get_or-set_other, ◌⊎◌, ⊎_elim}
-use Rattle.std.proofs.lemmas.List.{set-get_or}
-use Rattle.std.specs.Prelude.{Some, slice_get, slice_index}
+use Rattle.std.proofs.Common.{◌≡◌, ◌≢◌, ℕ, ◌+◌, ◌-◌, ◌*◌, ◌%◌, ◌<◌, ◌≤◌, not, eqb, List, [], ◌∷◌, ◌++◌, length, set, sym, refl, ap, ◌∙◌, subst, arith, length-append, get_or, get_or-set_same, get_or-set_other, ◌⊎◌, ⊎_elim}
+use Rattle.std.specs.Prelude.{Some, slice_get}
 use Rattle.std.specs.List.{filter}
 use Rattle.std.proofs.lemmas.Option.{same_Some, get_or_from_slice_get}
 use Rattle.std.proofs.Math.Logic.{∥∥₁_elim}
@@ -14,10 +13,11 @@ use Rattle.mbj_types.specs.declared.done.Done.{Done}
 use Rattle.mbj_core.specs.declared.party.View.{View}
 use Rattle.mbj_core.specs.declared.party.Phase.TheVariants.{Rest}
 use Rattle.mbj_core.specs.declared.cells.TheConstants.{SUBMITTER_CELLS}
+use Rattle.mbj_core.specs.declared.machine.JobsOut.{JobsOut}
 use Rattle.mbj_core.specs.Cells.{Cell, free, ready, done, hand_of, word_of, result_in, cell_of}
 use Rattle.mbj_core.specs.Parties.{view, front, FrontState, new_party, with_due, with_handed, with_hand}
 use Rattle.mbj_core.specs.Events.{post, claim, finish, collect, accepted, returned, claimed, collected, nothing, Leaves, Step}
-use Rattle.mbj_core.specs.CoreStates.{CoreState, cell_in, hand_in, out_of, first_cell, next_cell, posted, claimed_by, finished, handed_out}
+use Rattle.mbj_core.specs.CoreStates.{CoreState, cell_in, hand_in, jobs_out, out_of, first_cell, next_cell, posted, claimed_by, finished, handed_out}
 use Rattle.mbj_core.specs.Stands.{StandsFor, Leads, IsBacked}
 use Rattle.mbj_core.proofs.Puts.{put, at_put, put_here, put_else}
 use Rattle.mbj_core.proofs.Entries.{at_left, at_end, at_middle, skip, in_whole, set_here, set_else}
@@ -27,10 +27,13 @@ use Rattle.mbj_core.proofs.Posts.{one_owner, one_number, near}
 use Rattle.mbj_core.proofs.Steps.{put_changes}
 use Rattle.mbj_core.proofs.Facts.{Facts, facts_of}
 
+-- jobs that are out, by the number of the earliest and their count
+abbrev pub outs_from : ℕ → ℕ → JobsOut
+outs_from first count = record { first = first; count = count }
+
 pub record Sizes (c : CoreState) : Type 0 where
   pub cells : length c.cells ≡ SUBMITTER_CELLS * c.submitters
   pub hands : length c.hands ≡ c.submitters + c.workers
-  pub firsts : length c.firsts ≡ c.submitters
   pub outs : length c.outs ≡ c.submitters
 
 module _ (c : CoreState) (size : Sizes c) (f : FrontState Job Done) (sf : StandsFor c f) where
@@ -51,7 +54,8 @@ module _ (c : CoreState) (size : Sizes c) (f : FrontState Job Done) (sf : Stands
             (λ _. set_here c.hands p (cells_of hand) (omega (arith, size.hands))) (λ ne l. set_else c.hands p q (cells_of hand) ne ∙ sf.each_hand q l) l;
         hand_results = λ q k j d. at_put f.seats p w (λ r y. slice_get y.hand k ≡ Some (j, d) → result_in result_of (put f.cells i x j) ≡ Some d) q
             (λ at. kept j ∙ results k j d at) (λ _ at. kept j ∙ sf.hand_results q k j d at);
-        each_first = λ s l. at_put f.seats p w (λ r y. r < c.submitters → y.handed % SUBMITTER_CELLS ≡ slice_index c.firsts r) s (sf.each_first p) (λ _. sf.each_first s) l;
+        each_first = λ s l. at_put f.seats p w (λ r y. r < c.submitters → y.handed % SUBMITTER_CELLS ≡ (jobs_out c r).first) s
+            (sf.each_first p) (λ _. sf.each_first s) l;
         each_out = λ s l. at_put f.seats p w (λ r y. r < c.submitters → length y.due ≡ y.handed + out_of c r) s (sf.each_out p) (λ _. sf.each_out s) l;
         due_results = λ s n l. at_put f.seats p w (λ r y. r < c.submitters → y.handed ≤ n → n < length y.due → result_in result_of (put f.cells i x (cell_of r n)) ≡ slice_get y.due n) s
             (λ l lo hi. kept (cell_of p n) ∙ sf.due_results p n l lo hi) (λ _ l lo hi. kept (cell_of s n) ∙ sf.due_results s n l lo hi) l;
@@ -65,18 +69,22 @@ module _ (c : CoreState) (size : Sizes c) (f : FrontState Job Done) (sf : Stands
       → handed % SUBMITTER_CELLS ≡ first → length due ≡ handed + out
       → ((n : ℕ) → handed ≤ n → n < length due → result_in result_of (put f.cells (cell_of s m) x (cell_of s n)) ≡ slice_get due n)
       → let v : View Done = f.seats s in
-      StandsFor (record c { cells = set c.cells (cell_of s m) x; firsts = set c.firsts s first; outs = set c.outs s out }) (front (put f.cells (cell_of s m) x) (put f.seats s (view v.number v.phase due handed v.hand v.looks)))
-  stands_part s m first out x due handed ls lacks is_first is_out results = let v : View Done = f.seats s in let w : View Done = view v.number v.phase due handed v.hand v.looks in let i : ℕ = cell_of s m in
+      StandsFor (record c { cells = set c.cells (cell_of s m) x; outs = set c.outs s (outs_from first out) })
+      (front (put f.cells (cell_of s m) x) (put f.seats s (view v.number v.phase due handed v.hand v.looks)))
+  stands_part s m first out x due handed ls lacks is_first is_out results = let o : JobsOut = outs_from first out in let none : JobsOut = outs_from 0 0 in
+      let v : View Done = f.seats s in let w : View Done = view v.number v.phase due handed v.hand v.looks in let i : ℕ = cell_of s m in
       let kept : (p k j : ℕ) (d : Done) → slice_get (f.seats p).hand k ≡ Some (j, d) → result_in result_of (put f.cells i x j) ≡ Some d = λ p k j d at.
       at_put f.cells i x (λ r y. slice_get (f.seats p).hand k ≡ Some (r, d) → result_in result_of y ≡ Some d) j (λ here. absurd (lacks p k d here)) (λ _ at. sf.hand_results p k j d at) at in record {
         each_cell = cell_after i x;
         at_rest = λ q. at_put f.seats s w (λ r y. (y.number ≡ r) × (y.phase ≡ Rest)) q (sf.at_rest s) (λ _. sf.at_rest q);
         each_hand = λ q. at_put f.seats s w (λ r y. r < c.submitters + c.workers → slice_get c.hands r ≡ Some (cells_of y.hand)) q (sf.each_hand s) (λ _. sf.each_hand q);
         hand_results = λ q k j d. at_put f.seats s w (λ r y. slice_get y.hand k ≡ Some (j, d) → result_in result_of (put f.cells i x j) ≡ Some d) q (kept s k j d) (λ _. kept q k j d);
-        each_first = λ t l. at_put f.seats s w (λ r y. r < c.submitters → y.handed % SUBMITTER_CELLS ≡ slice_index (set c.firsts s first) r) t
-            (λ _. is_first ∙ sym (get_or-set_same c.firsts s first 0 (omega (arith, size.firsts)))) (λ ne l. sf.each_first t l ∙ sym (get_or-set_other c.firsts s t first 0 ne)) l;
-        each_out = λ t l. at_put f.seats s w (λ r y. r < c.submitters → length y.due ≡ y.handed + slice_index (set c.outs s out) r) t
-            (λ _. is_out ∙ ap (λ (n : ℕ). handed + n) (sym (get_or-set_same c.outs s out 0 (omega (arith, size.outs))))) (λ ne l. sf.each_out t l ∙ ap (λ (n : ℕ). (f.seats t).handed + n) (sym (get_or-set_other c.outs s t out 0 ne))) l;
+        each_first = λ t l. at_put f.seats s w (λ r y. r < c.submitters → y.handed % SUBMITTER_CELLS ≡ (get_or (set c.outs s o) r none).first) t
+            (λ _. is_first ∙ ap (λ (z : JobsOut). z.first) (sym (get_or-set_same c.outs s o none (omega (arith, size.outs)))))
+            (λ ne l. sf.each_first t l ∙ ap (λ (z : JobsOut). z.first) (sym (get_or-set_other c.outs s t o none ne))) l;
+        each_out = λ t l. at_put f.seats s w (λ r y. r < c.submitters → length y.due ≡ y.handed + (get_or (set c.outs s o) r none).count) t
+            (λ _. is_out ∙ ap (λ (z : JobsOut). handed + z.count) (sym (get_or-set_same c.outs s o none (omega (arith, size.outs)))))
+            (λ ne l. sf.each_out t l ∙ ap (λ (z : JobsOut). (f.seats t).handed + z.count) (sym (get_or-set_other c.outs s t o none ne))) l;
         due_results = λ t n l. at_put f.seats s w (λ r y. r < c.submitters → y.handed ≤ n → n < length y.due → result_in result_of (put f.cells i x (cell_of r n)) ≡ slice_get y.due n) t
             (λ _. results n) (λ ne l lo hi. ap (result_in result_of) (put_else f.cells i (cell_of t n) x (λ e. ne (one_owner t s n m e))) ∙ sf.due_results t n l lo hi) l;
         posters = λ q. at_put f.seats s w (λ r y. c.submitters ≤ r → (y.due ≡ []) × (y.handed ≡ 0)) q (λ far. absurd (omega arith)) (λ _. sf.posters q);
@@ -85,10 +93,10 @@ module _ (c : CoreState) (size : Sizes c) (f : FrontState Job Done) (sf : Stands
 
   -- the cells of the next number and of the earliest that is out
   next_is : (s : ℕ) → s < c.submitters → next_cell c s ≡ cell_of s (length (f.seats s).due)
-  next_is s l = let a = sf.each_out s l in let b = sf.each_first s l in let n : ℕ = slice_index c.firsts s in omega arith
+  next_is s l = let a = sf.each_out s l in let b = sf.each_first s l in let n : ℕ = (jobs_out c s).first in omega arith
 
   first_is : (s : ℕ) → s < c.submitters → first_cell c s ≡ cell_of s (f.seats s).handed
-  first_is s l = let b = sf.each_first s l in let n : ℕ = slice_index c.firsts s in omega arith
+  first_is s l = let b = sf.each_first s l in let n : ℕ = (jobs_out c s).first in omega arith
 
   cell_is : (i : ℕ) (x : Cell Job Done) → i < SUBMITTER_CELLS * c.submitters → cell_in c i ≡ Some x → f.cells i ≡ x
   cell_is i x l e = same_Some (f.cells i) x (sym (sf.each_cell i l) ∙ e)
@@ -102,7 +110,7 @@ module _ (c : CoreState) (size : Sizes c) (f : FrontState Job Done) (sf : Stands
       let v : View Done = f.seats s in let m : ℕ = length v.due in let i : ℕ = cell_of s m in let d : Done = result_of j in let due : List Done = v.due ++ d ∷ [] in let w : View Done = with_due v due in
       let out = sf.each_out s l in let longer = length-append v.due (d ∷ []) in let o : ℕ = out_of c s in
       let empty = all.idle s m l (omega arith) (omega arith) in
-      let stands = stands_part s m (slice_index c.firsts s) (o + 1) (ready j) due v.handed l
+      let stands = stands_part s m (jobs_out c s).first (o + 1) (ready j) due v.handed l
       (λ p k e at. let word = all.holder p k i e at in absurd (omega arith))
       (sf.each_first s l) (omega arith)
       (λ n lo hi. dite (ℕ_discrete n m)
@@ -111,8 +119,9 @@ module _ (c : CoreState) (size : Sizes c) (f : FrontState Job Done) (sf : Stands
       ∙ sf.due_results s n l lo (omega arith) ∙ sym (at_left v.due (d ∷ []) n (omega arith)))) in (
         front (put f.cells i (ready j)) (put f.seats s w),
         (l, omega arith, put_changes f i (ready j) s w),
-        subst (λ (k : ℕ). StandsFor (record c { cells = set c.cells k (ready j); outs = set c.outs s (o + 1) }) (front (put f.cells i (ready j)) (put f.seats s w))) (sym (next_is s l))
-            (subst (λ (t : List ℕ). StandsFor (record c { cells = set c.cells i (ready j); firsts = t; outs = set c.outs s (o + 1) }) (front (put f.cells i (ready j)) (put f.seats s w))) (set-get_or c.firsts s 0) stands),
+        subst (λ (k : ℕ). StandsFor (record c { cells = set c.cells k (ready j); outs = set c.outs s (outs_from (jobs_out c s).first (o + 1)) })
+            (front (put f.cells i (ready j)) (put f.seats s w)))
+            (sym (next_is s l)) stands,
       )
 
   claim_leads : (p i : ℕ) (j : Job) → p < c.submitters + c.workers → i < SUBMITTER_CELLS * c.submitters → cell_in c i ≡ Some (ready j)
@@ -154,7 +163,8 @@ module _ (c : CoreState) (size : Sizes c) (f : FrontState Job Done) (sf : Stands
   collect_leads : (s : ℕ) (d : Done) → Facts c f → s < c.submitters → 0 < out_of c s → cell_in c (first_cell c s) ≡ Some (done d)
       → (g : FrontState Job Done) × Step result_of c.submitters c.workers f (collect s) (collected d) g × StandsFor (handed_out c s) g
   collect_leads s d all l some_out is =
-      let v : View Done = f.seats s in let h : ℕ = v.handed in let i : ℕ = cell_of s h in let w : View Done = with_handed v (h + 1) in let n : ℕ = slice_index c.firsts s in let o : ℕ = out_of c s in
+      let v : View Done = f.seats s in let h : ℕ = v.handed in let i : ℕ = cell_of s h in let w : View Done = with_handed v (h + 1) in
+      let n : ℕ = (jobs_out c s).first in let o : ℕ = out_of c s in
       let out = sf.each_out s l in let at_first = sf.each_first s l in let few = all.few s l in
       let here : f.cells i ≡ done d = cell_is i (done d) (near c.submitters s h l) (ap (cell_in c) (sym (first_is s l)) ∙ is) in
       let stands = stands_part s h ((n + 1) % SUBMITTER_CELLS) (o - 1) free v.due (h + 1) l
@@ -164,7 +174,8 @@ module _ (c : CoreState) (size : Sizes c) (f : FrontState Job Done) (sf : Stands
       ∙ sf.due_results s m l (omega arith) hi) in (
         front (put f.cells i free) (put f.seats s w),
         (l, here, put_changes f i free s w),
-        subst (λ (k : ℕ). StandsFor (record c { cells = set c.cells k free; firsts = set c.firsts s ((n + 1) % SUBMITTER_CELLS); outs = set c.outs s (o - 1) }) (front (put f.cells i free) (put f.seats s w))) (sym (first_is s l)) stands,
+        subst (λ (k : ℕ). StandsFor (record c { cells = set c.cells k free; outs = set c.outs s (outs_from ((n + 1) % SUBMITTER_CELLS) (o - 1)) })
+            (front (put f.cells i free) (put f.seats s w))) (sym (first_is s l)) stands,
       )
 
 module _ (c : CoreState) (size : Sizes c) (backed : IsBacked c) where

@@ -1,6 +1,6 @@
 -- The new core stands for the new front.
 use Rattle.std.proofs.Common.{◌≡◌, ℕ, zero, suc, ◌+◌, ◌*◌, ◌<◌, ◌≤◌, List, [], ◌∷◌, map, length, replicate, sym, refl, ap, ◌∙◌, subst, arith}
-use Rattle.std.specs.Prelude.{Some, slice_get, slice_index}
+use Rattle.std.specs.Prelude.{Some, slice_get}
 use Rattle.std.specs.List.{All}
 use Rattle.std.proofs.lemmas.List.Elements.{All-replicate}
 use Rattle.std.proofs.lemmas.List.{get_or-replicate, length-replicate}
@@ -10,11 +10,13 @@ use Rattle.mbj_core.specs.declared.cells.TheConstants.{MAX_SUBMITTERS, MAX_WORKE
 use Rattle.mbj_core.specs.declared.cells.Slot.{Slot}
 use Rattle.mbj_core.specs.declared.cells.Slot.TheVariants as slot
 use Rattle.mbj_core.specs.declared.machine.Core.TheInside.{Inside}
+use Rattle.mbj_core.specs.declared.machine.JobsOut.{JobsOut}
 use Rattle.mbj_core.specs.Inside.Fields.{cell_shown, state_of, IsCore}
 use Rattle.mbj_core.specs.Cells.{free}
 use Rattle.mbj_core.specs.Parties.{new_front}
-use Rattle.mbj_core.specs.CoreStates.{new_core}
+use Rattle.mbj_core.specs.CoreStates.{jobs_out, new_core}
 use Rattle.mbj_core.specs.Stands.{StandsFor, IsBacked}
+use Rattle.mbj_core.proofs.Calls.{outs_from}
 use Rattle.mbj_core.proofs.RunLaws.{new_front_sound}
 
 module _ {A : Type 0} where
@@ -25,8 +27,8 @@ module _ {A : Type 0} where
   map_replicate f zero a = refl
   map_replicate f (suc n) a = ap (λ t. f a ∷ t) (map_replicate f n a)
 
-none_out : (n s : ℕ) → s < n → 0 ≡ 0 + slice_index (replicate n 0) s
-none_out n s l = let none : slice_index (replicate n 0) s ≡ 0 = get_or-replicate n s 0 0 l in omega arith
+none_out : (submitters workers s : ℕ) → s < submitters → jobs_out (new_core submitters workers) s ≡ outs_from 0 0
+none_out submitters workers s l = get_or-replicate submitters s (outs_from 0 0) (outs_from 0 0) l
 
 pub new_stands : (submitters workers : ℕ) → StandsFor (new_core submitters workers) new_front
 new_stands submitters workers = record {
@@ -34,8 +36,8 @@ new_stands submitters workers = record {
   at_rest = λ p. (refl, refl);
   each_hand = λ p l. at_replicate (submitters + workers) p [] l;
   hand_results = λ p k c d at. absurd (none-some (c, d) at);
-  each_first = λ s l. sym (get_or-replicate submitters s 0 0 l);
-  each_out = λ s l. none_out submitters s l;
+  each_first = λ s l. ap (λ (o : JobsOut). o.first) (sym (none_out submitters workers s l));
+  each_out = λ s l. let none = ap (λ (o : JobsOut). o.count) (none_out submitters workers s l) in omega arith;
   due_results = λ s n l lo hi. absurd (omega arith);
   posters = λ p l. (refl, refl);
   nobody = λ p l. refl;
@@ -46,14 +48,13 @@ new_backed submitters workers = ∣ (new_front, new_stands submitters workers, (
 
 -- the fields of a core that was just made
 module _ (a : Inside) (free_cells : a.cells.items ≡ replicate (SUBMITTER_CELLS * a.submitters) slot.Free) (empty_hands : a.hands.items ≡ replicate (a.submitters + a.workers) [])
-    (firsts : a.firsts.items ≡ replicate a.submitters 0) (outs : a.outs.items ≡ replicate a.submitters 0) where
+    (outs : a.outs.items ≡ replicate a.submitters (outs_from 0 0)) where
   pub new_is : state_of a ≡ new_core a.submitters a.workers
   new_is = λ t. record {
     submitters = a.submitters;
     workers = a.workers;
     cells = (ap (map cell_shown) free_cells ∙ map_replicate cell_shown (SUBMITTER_CELLS * a.submitters) slot.Free) t;
     hands = empty_hands t;
-    firsts = firsts t;
     outs = outs t;
   }
 
@@ -64,9 +65,10 @@ module _ (a : Inside) (free_cells : a.cells.items ≡ replicate (SUBMITTER_CELLS
     workers = few_workers;
     cells = a.cells.ok.0 ∙ ap (λ (l : List Slot). length l) free_cells ∙ length-replicate (SUBMITTER_CELLS * a.submitters) slot.Free;
     hands = a.hands.ok.0 ∙ ap (λ (l : List (List ℕ)). length l) empty_hands ∙ length-replicate (a.submitters + a.workers) [];
-    firsts = a.firsts.ok.0 ∙ ap (λ (l : List ℕ). length l) firsts ∙ length-replicate a.submitters 0;
-    outs = a.outs.ok.0 ∙ ap (λ (l : List ℕ). length l) outs ∙ length-replicate a.submitters 0;
-    each_first = subst (All (λ n. n < SUBMITTER_CELLS)) (sym firsts) (All-replicate (λ n. n < SUBMITTER_CELLS) a.submitters 0 (omega arith));
-    each_out = subst (All (λ n. n ≤ SUBMITTER_CELLS)) (sym outs) (All-replicate (λ n. n ≤ SUBMITTER_CELLS) a.submitters 0 (omega arith));
+    outs = a.outs.ok.0 ∙ ap (λ (l : List JobsOut). length l) outs ∙ length-replicate a.submitters (outs_from 0 0);
+    each_first = subst (All (λ (o : JobsOut). o.first < SUBMITTER_CELLS)) (sym outs)
+        (All-replicate (λ (o : JobsOut). o.first < SUBMITTER_CELLS) a.submitters (outs_from 0 0) (omega arith));
+    each_out = subst (All (λ (o : JobsOut). o.count ≤ SUBMITTER_CELLS)) (sym outs)
+        (All-replicate (λ (o : JobsOut). o.count ≤ SUBMITTER_CELLS) a.submitters (outs_from 0 0) (omega arith));
     backed = subst IsBacked (sym new_is) (new_backed a.submitters a.workers);
   }

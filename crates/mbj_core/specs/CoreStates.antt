@@ -1,21 +1,20 @@
 -- What a contract sees of a core, and what each call makes of it.
-use Rattle.std.specs.Prelude.{◌≡◌, ℕ, ◌+◌, ◌-◌, ◌*◌, ◌%◌, not, ◌==◌, List, [], ◌∷◌, ◌++◌, replicate, set, slice_index, slice_index_or, slice_get, Option, Some}
+use Rattle.std.specs.Prelude.{◌≡◌, ℕ, ◌+◌, ◌-◌, ◌*◌, ◌%◌, not, ◌==◌, List, [], ◌∷◌, ◌++◌, replicate, set, slice_index_or, slice_get, Option, Some}
 use Rattle.std.specs.List.{filter}
 use Rattle.mbj_types.specs.Result.{result_of}
 use Rattle.mbj_types.specs.declared.job.Job.{Job}
 use Rattle.mbj_types.specs.declared.done.Done.{Done}
 use Rattle.mbj_core.specs.Cells.{Cell, free, ready, done, hand_of, cell_of}
 use Rattle.mbj_core.specs.declared.cells.TheConstants.{SUBMITTER_CELLS}
+use Rattle.mbj_core.specs.declared.machine.JobsOut.{JobsOut}
 
--- The cells of the submitters; for each party, the cells in its hand, the earliest claim first; for each submitter, the
--- number of its earliest job that is out, modulo SUBMITTER_CELLS, and how many are out.
+-- The submitters' cells; the cells in each party's hand, the earliest claim first; each submitter's jobs that are out.
 pub record CoreState : Type 0 where
   pub submitters : ℕ
   pub workers : ℕ
   pub cells : List (Cell Job Done)
   pub hands : List (List ℕ)
-  pub firsts : List ℕ
-  pub outs : List ℕ
+  pub outs : List JobsOut
 
 -- nothing is posted
 abbrev pub new_core : ℕ → ℕ → CoreState
@@ -24,20 +23,22 @@ new_core submitters workers = record {
   workers = workers;
   cells = replicate (SUBMITTER_CELLS * submitters) free;
   hands = replicate (submitters + workers) [];
-  firsts = replicate submitters 0;
-  outs = replicate submitters 0;
+  outs = replicate submitters (record { first = 0; count = 0 });
 }
 
--- how many jobs of the submitter s are out
+-- the jobs of the submitter s that are out, and how many they are
+abbrev pub jobs_out : CoreState → ℕ → JobsOut
+jobs_out c s = slice_index_or c.outs s (record { first = 0; count = 0 })
+
 abbrev pub out_of : CoreState → ℕ → ℕ
-out_of c s = slice_index c.outs s
+out_of c s = (jobs_out c s).count
 
 -- the cell of its earliest job that is out, and that of its next job
 abbrev pub first_cell : CoreState → ℕ → ℕ
-first_cell c s = cell_of s (slice_index c.firsts s)
+first_cell c s = cell_of s (jobs_out c s).first
 
 abbrev pub next_cell : CoreState → ℕ → ℕ
-next_cell c s = cell_of s (slice_index c.firsts s + slice_index c.outs s)
+next_cell c s = cell_of s ((jobs_out c s).first + out_of c s)
 
 -- what a cell holds
 abbrev pub cell_in : CoreState → ℕ → Option (Cell Job Done)
@@ -62,7 +63,7 @@ hand_in c p = slice_index_or c.hands p []
 abbrev pub posted : CoreState → ℕ → Job → CoreState
 posted c s job = record c {
   cells = set c.cells (next_cell c s) (ready job);
-  outs = set c.outs s (out_of c s + 1);
+  outs = set c.outs s (record (jobs_out c s) { count = out_of c s + 1 });
 }
 
 -- the party p has claimed the job of the cell i
@@ -83,6 +84,5 @@ finished c p i d = record c {
 abbrev pub handed_out : CoreState → ℕ → CoreState
 handed_out c s = record c {
   cells = set c.cells (first_cell c s) free;
-  firsts = set c.firsts s ((slice_index c.firsts s + 1) % SUBMITTER_CELLS);
-  outs = set c.outs s (out_of c s - 1);
+  outs = set c.outs s (record { first = ((jobs_out c s).first + 1) % SUBMITTER_CELLS; count = out_of c s - 1 });
 }

@@ -1,5 +1,5 @@
 -- Which states of the front a core stands for.
-use Rattle.std.specs.Prelude.{◌≡◌, ℕ, ◌+◌, ◌*◌, ◌%◌, ◌<◌, ◌≤◌, [], length, map, slice_get, slice_index, Some}
+use Rattle.std.specs.Prelude.{◌≡◌, ℕ, ◌+◌, ◌*◌, ◌%◌, ◌<◌, ◌≤◌, [], length, map, slice_get, Some}
 use Rattle.mbj_types.specs.Result.{result_of}
 use Rattle.mbj_types.specs.declared.job.Job.{Job}
 use Rattle.mbj_types.specs.declared.done.Done.{Done}
@@ -7,7 +7,7 @@ use Rattle.mbj_core.specs.Cells.{result_in, cell_of}
 use Rattle.mbj_core.specs.Parties.{FrontState, new_party}
 use Rattle.mbj_core.specs.Lawful.{Lawful}
 use Rattle.mbj_core.specs.Events.{Event, Answer, Step}
-use Rattle.mbj_core.specs.CoreStates.{CoreState, cell_in, out_of}
+use Rattle.mbj_core.specs.CoreStates.{CoreState, cell_in, jobs_out, out_of}
 use Rattle.mbj_core.specs.declared.cells.TheConstants.{SUBMITTER_CELLS}
 use Rattle.mbj_core.specs.declared.party.Phase.TheVariants.{Rest}
 
@@ -20,7 +20,7 @@ pub record StandsFor (core : CoreState) (f : FrontState Job Done) : Type 0 where
   pub each_hand : (p : ℕ) → p < core.submitters + core.workers → slice_get core.hands p ≡ Some (map (λ e. e.0) (f.seats p).hand)
   pub hand_results : (p k c : ℕ) (d : Done) → slice_get (f.seats p).hand k ≡ Some (c, d) → result_in result_of (f.cells c) ≡ Some d
   -- for each submitter as many are out, from a number with the same cell on, each with the result of its cell
-  pub each_first : (s : ℕ) → s < core.submitters → (f.seats s).handed % SUBMITTER_CELLS ≡ slice_index core.firsts s
+  pub each_first : (s : ℕ) → s < core.submitters → (f.seats s).handed % SUBMITTER_CELLS ≡ (jobs_out core s).first
   pub each_out : (s : ℕ) → s < core.submitters → length (f.seats s).due ≡ (f.seats s).handed + out_of core s
   pub due_results : (s n : ℕ) → s < core.submitters → (f.seats s).handed ≤ n → n < length (f.seats s).due → result_in result_of (f.cells (cell_of s n)) ≡ slice_get (f.seats s).due n
   -- workers post nothing, and there are no other parties

@@ -17,6 +17,15 @@ use mbj_types::{Done, Job, PostFull};
 use std::alloc::{AllocError, Global};
 use std::marker::Model;
 
+/// A submitter's jobs that are out: posted, and their results not collected.
+#[derive(Clone, Copy)]
+pub(crate) struct JobsOut {
+    /// The number of the earliest one, or of the next job where none is out, modulo `SUBMITTER_CELLS`.
+    pub first: u32,
+    /// How many there are.
+    pub count: u32,
+}
+
 /// Submitters, each with `SUBMITTER_CELLS` cells, and workers. A submitter's jobs are counted from 0, and job
 /// `n` of submitter `s` has cell `SUBMITTER_CELLS * s + n % SUBMITTER_CELLS`. Party `p` is submitter `p`, and from the
 /// number of submitters on a worker; every party may claim jobs and finish them.
@@ -28,8 +37,7 @@ pub struct Core {
     workers: u32,
     cells: Vec<Slot>,
     hands: Vec<Hand>,
-    firsts: Vec<u32>,
-    outs: Vec<u32>,
+    outs: Vec<JobsOut>,
 }
 
 impl Model for Core {
@@ -63,8 +71,7 @@ impl Core {
             workers,
             cells,
             hands,
-            firsts: vec![in alloc; 0; submitters as usize]?,
-            outs: vec![in alloc; 0; submitters as usize]?,
+            outs: vec![in alloc; JobsOut { first: 0, count: 0 }; submitters as usize]?,
         })
     }
 
@@ -88,7 +95,7 @@ impl Core {
         ensures out { result ≡ out_of self.now s }
         ensures within { result ≤ SUBMITTER_CELLS }
     {
-        self.outs[s as usize]
+        self.outs[s as usize].count
     }
 
     /// The cell of a submitter's earliest job that is out, or of its next job where none is out.
@@ -97,7 +104,7 @@ impl Core {
         ensures cell { result ≡ first_cell self.now s }
         ensures within { result < SUBMITTER_CELLS * self.now.submitters }
     {
-        cell_at(s, self.firsts[s as usize])
+        cell_at(s, self.outs[s as usize].first)
     }
 
     /// Posts a job of a submitter. Answers the job itself exactly where `SUBMITTER_CELLS` of this submitter are
@@ -111,12 +118,15 @@ impl Core {
     {
         let submitter = s as usize;
         let out = self.outs[submitter];
-        if out == SUBMITTER_CELLS {
+        if out.count == SUBMITTER_CELLS {
             return Err(PostFull(job));
         }
-        let next = cell_at(s, self.firsts[submitter] + out);
+        let next = cell_at(s, out.first + out.count);
         self.cells[next as usize] = Slot::Ready(job);
-        self.outs[submitter] = out + 1;
+        self.outs[submitter] = JobsOut {
+            count: out.count + 1,
+            ..out
+        };
         Ok(())
     }
 
@@ -171,14 +181,15 @@ impl Core {
     {
         let submitter = s as usize;
         let out = self.outs[submitter];
-        if out == 0 {
+        if out.count == 0 {
             return None;
         }
-        let first = self.firsts[submitter];
-        let at = cell_at(s, first) as usize;
+        let at = cell_at(s, out.first) as usize;
         let done = self.cells[at].take_done()?;
-        self.firsts[submitter] = (first + 1) % SUBMITTER_CELLS;
-        self.outs[submitter] = out - 1;
+        self.outs[submitter] = JobsOut {
+            first: (out.first + 1) % SUBMITTER_CELLS,
+            count: out.count - 1,
+        };
         Some(done)
     }
 

@@ -1,5 +1,5 @@
 -- What the steps of a front do to one hand.
-use Rattle.std.proofs.Common.{◌≡◌, ◌≢◌, ◌∙◌, ◌*◌, ◌<◌, ◌++◌, [], ◌∷◌, ap, sym, subst, refl, ℕ, List, Option, None, Some, map, length, option_map, option_to_list, IfSome, arith, slice_index}
+use Rattle.std.proofs.Common.{◌≡◌, ◌≢◌, ◌∙◌, ◌*◌, ◌<◌, ◌++◌, [], ◌∷◌, ap, sym, subst, refl, ℕ, List, Option, None, Some, map, length, option_map, option_to_list, IfSome, arith}
 use Rattle.std.specs.Prelude.{slice_get}
 use Rattle.mbj_types.specs.Result.{result_of}
 use Rattle.mbj_types.specs.declared.job.Job.{Job}
@@ -9,7 +9,7 @@ use Rattle.mbj_core.specs.Parties.{FrontState}
 use Rattle.mbj_core.specs.Lawful.{Lawful}
 use Rattle.mbj_core.specs.Events.{accepted, finish}
 use Rattle.mbj_core.specs.Runs.{Run}
-use Rattle.mbj_core.specs.CoreStates.{CoreState, HasHand, next_cell}
+use Rattle.mbj_core.specs.CoreStates.{CoreState, HasHand, jobs_out, next_cell}
 use Rattle.mbj_core.specs.Stands.{StandsFor, Leads}
 use Rattle.mbj_core.specs.declared.cells.TheConstants.{SUBMITTER_CELLS}
 use Rattle.mbj_core.proofs.Entries.{at_middle}
@@ -138,7 +138,7 @@ pub next-is : (c : CoreState) (f : FrontState Job Done) (s : ℕ) → StandsFor 
 next-is c f s stands below =
     let a = stands.each_out s below in
     let b = stands.each_first s below in
-    let n : ℕ = slice_index c.firsts s in
+    let n : ℕ = (jobs_out c s).first in
     omega arith
 
 -- its cell is one of the replay's

@@ -13,6 +13,7 @@ use Rattle.mbj_core.specs.Parties.{FrontState, new_front}
 use Rattle.mbj_core.specs.Runs.{Run}
 use Rattle.mbj_core.specs.Stands.{StandsFor}
 use Rattle.mbj_core.specs.declared.cells.TheConstants.{SUBMITTER_CELLS}
+use Rattle.mbj_core.proofs.Calls.{outs_from}
 use Rattle.mbj_core.proofs.New.{new_stands}
 use Rattle.mbj_core.proofs.RunLaws.{new_front_sound}
 use Rattle.mbj_manager.specs.State.{ManagerState, new_manager}
@@ -80,8 +81,7 @@ begins jobs submitters workers = record {
     sizes = record {
       cells = length-replicate (SUBMITTER_CELLS * submitters) free;
       hands = length-replicate (submitters + workers) [];
-      firsts = length-replicate submitters 0;
-      outs = length-replicate submitters 0;
+      outs = length-replicate submitters (outs_from 0 0);
     };
     front = new_stands submitters workers;
     law = (new_front_sound result_of submitters workers).1;

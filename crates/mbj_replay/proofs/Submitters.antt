@@ -27,8 +27,7 @@ post-sizes : (c : CoreState) (s : ℕ) (job : Job) → Sizes c → Sizes (posted
 post-sizes c s job sizes = record {
   cells = length-set c.cells (next_cell c s) (ready job) ∙ sizes.cells;
   hands = sizes.hands;
-  firsts = sizes.firsts;
-  outs = length-set c.outs s (out_of c s + 1) ∙ sizes.outs;
+  outs = length-set c.outs s _ ∙ sizes.outs;
 }
 
 -- what holds of the new number of a cell, and of the others, holds of each
@@ -107,7 +106,6 @@ collect-sizes : (c : CoreState) (s : ℕ) → Sizes c → Sizes (handed_out c s)
 collect-sizes c s sizes = record {
   cells = length-set c.cells (first_cell c s) free ∙ sizes.cells;
   hands = sizes.hands;
-  firsts = length-set c.firsts s _ ∙ sizes.firsts;
   outs = length-set c.outs s _ ∙ sizes.outs;
 }
 

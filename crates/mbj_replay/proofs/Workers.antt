@@ -38,7 +38,6 @@ finish-sizes p None c sizes = sizes
 finish-sizes p (Some e) c sizes = record {
   cells = length-set c.cells e.0 (done e.1) ∙ sizes.cells;
   hands = length-set c.hands p _ ∙ sizes.hands;
-  firsts = sizes.firsts;
   outs = sizes.outs;
 }
 
@@ -222,7 +221,6 @@ claim-sizes : (c : CoreState) (p cell : ℕ) (job : Job) → Sizes c → Sizes (
 claim-sizes c p cell job sizes = record {
   cells = length-set c.cells cell _ ∙ sizes.cells;
   hands = length-set c.hands p _ ∙ sizes.hands;
-  firsts = sizes.firsts;
   outs = sizes.outs;
 }
 

@@ -4,7 +4,7 @@ use Rattle.std.specs.List.{range_with_len}
 use Rattle.mbj_types.specs.declared.job.Job.{Job}
 use Rattle.mbj_types.specs.declared.done.Done.{Done}
 use Rattle.mbj_core.specs.Cells.{Cell, ready, done, cell_of}
-use Rattle.mbj_core.specs.CoreStates.{CoreState, new_core, cell_in, claimed_by, finished, first_cell, hand_in, handed_out, next_cell, out_of, posted}
+use Rattle.mbj_core.specs.CoreStates.{CoreState, new_core, cell_in, claimed_by, finished, first_cell, hand_in, handed_out, jobs_out, next_cell, out_of, posted}
 use Rattle.mbj_core.specs.declared.cells.TheConstants.{SUBMITTER_CELLS}
 use Rattle.mbj_ring.specs.declared.ring.TheConstants as ring
 use Rattle.mbj_manager.specs.State.{ManagerState, after_flush, new_manager, after_submit, with_open}
@@ -91,7 +91,7 @@ after_finish w given r = record r { core = core_after (party w r) given r.core }
 
 -- the cells of a submitter's jobs that are out, the earliest first
 abbrev pub cells_out : CoreState → ℕ → List ℕ
-cells_out c s = map (cell_of s) (range_with_len (slice_index c.firsts s) (out_of c s))
+cells_out c s = map (cell_of s) (range_with_len (jobs_out c s).first (out_of c s))
 
 abbrev pub job_or : Option (Cell Job Done) → ℕ → Option (ℕ × Job) → Option (ℕ × Job)
 job_or (Some (ready job)) cell later = Some (cell, job)

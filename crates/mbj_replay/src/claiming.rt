@@ -1,8 +1,8 @@
-ghost use Rattle.std.specs.Prelude.{◌≡◌, ◌+◌, ◌*◌, ◌<◌, ◌≤◌, IfNone, IfSome, None, Some, option_map, slice_index};
+ghost use Rattle.std.specs.Prelude.{◌≡◌, ◌+◌, ◌*◌, ◌<◌, ◌≤◌, IfNone, IfSome, None, Some, option_map};
 ghost use Rattle.std.specs.Bool.{OnFalse, OnTrue};
 ghost use Rattle.mbj_types.specs.declared.job.Job.{Job};
 ghost use Rattle.mbj_core.specs.Cells.{cell_of};
-ghost use Rattle.mbj_core.specs.CoreStates.{HasHand, HasJob};
+ghost use Rattle.mbj_core.specs.CoreStates.{HasHand, HasJob, jobs_out};
 ghost use Rattle.mbj_core.specs.Events.{accepted, finish};
 ghost use Rattle.mbj_core.specs.Stands.{Leads};
 ghost use Rattle.mbj_core.specs.declared.cells.TheConstants.{SUBMITTER_CELLS};
@@ -26,7 +26,7 @@ pub(crate) fn party_of(core: &Core, w: u32) -> u32
 pub(crate) fn cell_behind(core: &Core, s: u32, count: u32) -> u32
     requires submitter { s < core.now.submitters }
     requires count { count ≤ SUBMITTER_CELLS }
-    ensures cell { result ≡ cell_of s (slice_index core.now.firsts s + count) }
+    ensures cell { result ≡ cell_of s ((jobs_out core.now s).first + count) }
     ensures within { result < SUBMITTER_CELLS * core.now.submitters }
 {
     let submitters = core.submitters();

@@ -24,7 +24,6 @@ state_of a = record {
   workers = a.workers;
   cells = map cell_shown a.cells.items;
   hands = a.hands.items;
-  firsts = a.firsts.items;
   outs = a.outs.items;
 }
 
@@ -34,8 +33,7 @@ pub record IsCore (a : Inside) : Type 0 where
   pub workers : a.workers ≤ MAX_WORKERS
   pub cells : vec_len a.cells ≡ SUBMITTER_CELLS * a.submitters
   pub hands : vec_len a.hands ≡ a.submitters + a.workers
-  pub firsts : vec_len a.firsts ≡ a.submitters
   pub outs : vec_len a.outs ≡ a.submitters
-  pub each_first : All (λ n. n < SUBMITTER_CELLS) a.firsts.items
-  pub each_out : All (λ n. n ≤ SUBMITTER_CELLS) a.outs.items
+  pub each_first : All (λ o. o.first < SUBMITTER_CELLS) a.outs.items
+  pub each_out : All (λ o. o.count ≤ SUBMITTER_CELLS) a.outs.items
   pub backed : IsBacked (state_of a)

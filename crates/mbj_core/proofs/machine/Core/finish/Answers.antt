@@ -10,7 +10,6 @@ invariant_of-self c =
       workers = is.workers;
       cells = is.cells;
       hands = is.hands;
-      firsts = is.firsts;
       outs = is.outs;
       each_first = is.each_first;
       each_out = is.each_out;

@@ -1,10 +1,10 @@
 -- The job that is posted is the file's job of that number, and so is its copy.
-use Rattle.std.proofs.Common.{◌≡◌, ◌≢◌, ◌∙◌, ◌+◌, ap, sym, refl, ℕ, Some, true, false, length, set, slice_index, arith}
+use Rattle.std.proofs.Common.{◌≡◌, ◌≢◌, ◌∙◌, ◌+◌, ap, sym, refl, ℕ, Some, true, false, length, set, arith}
 use Rattle.std.specs.Prelude.{slice_get}
 use Rattle.std.proofs.lemmas.Option.{get_or_from_slice_get, none-some, same_Some, slice_get_read}
 use Rattle.mbj_types.specs.declared.job.Job.{Job}
 use Rattle.mbj_core.specs.Cells.{cell_of}
-use Rattle.mbj_core.specs.CoreStates.{CoreState, next_cell, out_of}
+use Rattle.mbj_core.specs.CoreStates.{CoreState, jobs_out, next_cell, out_of}
 use Rattle.mbj_core.specs.declared.cells.TheConstants.{SUBMITTER_CELLS}
 use Rattle.mbj_replay.specs.Inside.State.{state_of, with_copy}
 use Rattle.mbj_replay.specs.declared.replayer.Unposted.{Unposted}
@@ -57,7 +57,7 @@ returns-clause-told g c =
     let own = taken-is g (goal.at.returns-clause-told g c).After-take taken c.in-Some.ensures.value in
     let next = next-at g.jobs r c.args.s n c.requires.0 c.requires.1.1 c.index-number.ensures in
     let cell : c.cell_behind-cell.result ≡ next_cell r.core c.args.s
-    = c.cell_behind-cell.ensures.cell ∙ ap (λ (k : ℕ). cell_of c.args.s (slice_index r.core.firsts c.args.s + k)) c.out.ensures.out in
+    = c.cell_behind-cell.ensures.cell ∙ ap (λ (k : ℕ). cell_of c.args.s ((jobs_out r.core c.args.s).first + k)) c.out.ensures.out in
     let submitters : c.submitters.result ≡ r.core.submitters = c.submitters.ensures.0 ∙ ap (λ (d : CoreState). d.submitters) c.in_default-post.ensures.posted in
     let room : out_of r.core c.args.s ≢ SUBMITTER_CELLS = λ e. let bad : false ≡ true = c.in_default-post.ensures.full.1 e in cc in
     post-is g.jobs c.args.s n taken.job (state_of r) _ (sym (get_or_from_slice_get r.nexts.items c.args.s n 0 next)) own.0 room
@@ -72,7 +72,7 @@ returns-clause-playing g c =
     let own = taken-is g (goal.at.returns-clause-playing g c).After-take taken c.in-Some.ensures.value in
     let next = next-at g.jobs r c.args.s n c.requires.0 c.requires.1.1 c.index-number.ensures in
     let cell : c.cell_behind-cell.result ≡ next_cell r.core c.args.s
-    = c.cell_behind-cell.ensures.cell ∙ ap (λ (k : ℕ). cell_of c.args.s (slice_index r.core.firsts c.args.s + k)) c.out.ensures.out in
+    = c.cell_behind-cell.ensures.cell ∙ ap (λ (k : ℕ). cell_of c.args.s ((jobs_out r.core c.args.s).first + k)) c.out.ensures.out in
     let submitters : c.submitters.result ≡ r.core.submitters = c.submitters.ensures.0 ∙ ap (λ (d : CoreState). d.submitters) c.in_default-post.ensures.posted in
     post-plays g.jobs r c.post.new.self c.args.s n c.cell_behind-cell.result taken.job c.take.new.self
     (record { number = n; copy = Some taken.copy }) _ _ _ c.requires.0 c.requires.1.1 next own.0 (ap Some own.1) cell
