@@ -13,8 +13,9 @@ use Rattle.std.specs.declared.vec.Vec.{Vec}
 use Rattle.std.specs.declared.alloc.Global.{Global}
 use Rattle.mbj_text.specs.Cut.{Numbered, kept_lines}
 use Rattle.mbj_text.specs.Spelling.{Spells, IsBadLine}
+use Rattle.mbj_text.specs.Stops.{SpellEach}
 use Rattle.mbj_text.specs.Answer.{Answers}
-use Rattle.mbj_text.specs.File.{SpellAll, ReadsLines, BadLines, OverLines, Reads, Bad, Over, EachFileIsOne, ReadsIsUnique, BadIsUnique, OverIsUnique}
+use Rattle.mbj_text.specs.File.{ReadsLines, BadLines, OverLines, Reads, Bad, Over, EachFileIsOne, ReadsIsUnique, BadIsUnique, OverIsUnique}
 use Rattle.mbj_text.specs.Inside.Reading.{job_of, Fails, fault_at}
 use Rattle.mbj_text.proofs.LineLaws.{job_back, fault_back, fault_read, line_total}
 use Rattle.mbj_text.proofs.AnswerLaws.{Tells, Fate, exactly_one, good_not_bad, good_not_over, bad_not_over as bad_not_over_by, good_once, bad_once as bad_once_by, over_once as over_once_by}
@@ -25,7 +26,7 @@ use Rattle.mbj_text.proofs.AnswerLaws.{Tells, Fate, exactly_one, good_not_bad, g
 pub record SoFar (all : List Numbered) (left : List Numbered) (jobs : List Job) : Type 0 where
   pub before : List Numbered
   pub cut_so : all ≡ before ++ left
-  pub good : SpellAll before jobs
+  pub good : SpellEach Spells before jobs
   pub count : length jobs ≤ JOB_LIMIT
 
 -- the answer is right for these lines
@@ -50,7 +51,7 @@ one_more all left rest jobs n text job s next room spelled = record {
 pub all_read : (all : List Numbered) (left : List Numbered) (jobs : List Job) → SoFar all left jobs → left ≡ [] → ReadsLines all jobs
 all_read all left jobs s none =
     let whole : s.before ≡ all = sym (s.cut_so ∙ ap (λ (l : List Numbered). s.before ++ l) none ∙ append-nil s.before) in
-    let P : List Numbered → Type 0 = λ l. SpellAll l jobs in
+    let P : List Numbered → Type 0 = λ l. SpellEach Spells l jobs in
     record { count = s.count; each = subst P whole s.good }
 
 -- the next line is bad
@@ -60,11 +61,10 @@ next_is_bad all left rest jobs n text f s next room bad = record {
   before = s.before;
   text = text;
   after = rest;
-  jobs = jobs;
+  values = jobs;
   cut_so = s.cut_so ∙ ap (λ (l : List Numbered). s.before ++ l) next;
   good = s.good;
-  count = omega (arith, s.count, room);
-  bad = bad;
+  why = (omega (arith, s.count, room), bad);
 }
 
 -- the next line's fault is that of the file
@@ -80,10 +80,10 @@ next_is_over all left rest jobs n text s next full = record {
   before = s.before;
   text = text;
   after = rest;
-  jobs = jobs;
+  values = jobs;
   cut_so = s.cut_so ∙ ap (λ (l : List Numbered). s.before ++ l) next;
   good = s.good;
-  count = full;
+  why = full;
 }
 
 -- ---- the three relations exclude one another: each is told by what this function gives
@@ -113,7 +113,7 @@ unfolding outcome
 one before p rest = refl
 
 -- good lines come one after the other
-good_front : (before : List Job) (front : List Numbered) (jobs : List Job) (rest : List Numbered) → SpellAll front jobs → length before + length jobs ≤ JOB_LIMIT
+good_front : (before : List Job) (front : List Numbered) (jobs : List Job) (rest : List Numbered) → SpellEach Spells front jobs → length before + length jobs ≤ JOB_LIMIT
     → outcome before (front ++ rest) ≡ outcome (before ++ jobs) rest
 good_front before [] [] rest s le = ap (λ (l : List Job). outcome l rest) (sym (append-nil before))
 good_front before [] (j ∷ js) rest s le = absurd s
@@ -135,18 +135,18 @@ reads_gives lines jobs r =
 bad_gives : (lines : List Numbered) (line f : ℕ) → BadLines lines line f → outcome [] lines ≡ Err (text_fault.Line line f)
 bad_gives lines line f b =
     ap (outcome []) b.cut_so
-    ∙ good_front [] b.before b.jobs ((line, b.text) ∷ b.after) b.good (omega (arith, b.count))
-    ∙ one b.jobs (line, b.text) b.after
-    ∙ ap (λ c. step b.jobs c (job_of b.text) line b.after) (ne_eqb (length b.jobs) JOB_LIMIT (λ full. omega (arith, full, b.count)))
-    ∙ ap (λ r. step b.jobs false r line b.after) (fault_back b.text f b.bad)
+    ∙ good_front [] b.before b.values ((line, b.text) ∷ b.after) b.good (omega (arith, b.why.0))
+    ∙ one b.values (line, b.text) b.after
+    ∙ ap (λ c. step b.values c (job_of b.text) line b.after) (ne_eqb (length b.values) JOB_LIMIT (λ full. omega (arith, full, b.why.0)))
+    ∙ ap (λ r. step b.values false r line b.after) (fault_back b.text f b.why.1)
 
 -- a line too many gives the limit
 over_gives : (lines : List Numbered) (line : ℕ) → OverLines lines line → outcome [] lines ≡ Err (text_fault.Limit line)
 over_gives lines line o =
     ap (outcome []) o.cut_so
-    ∙ good_front [] o.before o.jobs ((line, o.text) ∷ o.after) o.good (omega (arith, o.count))
-    ∙ one o.jobs (line, o.text) o.after
-    ∙ ap (λ c. step o.jobs c (job_of o.text) line o.after) (eq-eqb (length o.jobs) JOB_LIMIT o.count)
+    ∙ good_front [] o.before o.values ((line, o.text) ∷ o.after) o.good (omega (arith, o.why))
+    ∙ one o.values (line, o.text) o.after
+    ∙ ap (λ c. step o.values c (job_of o.text) line o.after) (eq-eqb (length o.values) JOB_LIMIT o.why)
 
 -- the outcome of job lines
 pub jobs_outcome : List Numbered → Result (List Job) TextFault

@@ -53,10 +53,10 @@ script_next_is_bad s w all left rest commands n text f so next bad = record {
   before = so.before;
   text = text;
   after = rest;
-  commands = commands;
+  values = commands;
   cut_so = so.cut_so ∙ ap (λ (l : List Numbered). so.before ++ l) next;
   good = so.good;
-  bad = bad;
+  why = bad;
 }
 
 -- the next line's fault is that of the script
@@ -108,8 +108,8 @@ pub bad_script_gives : (s w : ℕ) (lines : List Numbered) (line f : ℕ) → Ba
 unfolding script_outcome script_from
 bad_script_gives s w lines line f b =
     ap (script_from s w []) b.cut_so
-    ∙ good_front s w [] b.before b.commands ((line, b.text) ∷ b.after) b.good
-    ∙ ap (λ r. step s w b.commands r line b.after) (command_fault_back s w b.text f b.bad)
+    ∙ good_front s w [] b.before b.values ((line, b.text) ∷ b.after) b.good
+    ∙ ap (λ r. step s w b.values r line b.after) (command_fault_back s w b.text f b.why)
 
 -- ---- one of the two holds
 

@@ -1,44 +1,27 @@
 -- What a job file spells, where it is bad or too long, and that each file is exactly one of the three.
-use Rattle.std.specs.Prelude.{◌≡◌, ◌<◌, ◌≤◌, ◌↔◌, ◌++◌, ℕ, List, ◌∷◌, length}
-use Rattle.std.specs.List.{AllZip}
+use Rattle.std.specs.Prelude.{◌≡◌, ◌<◌, ◌≤◌, ◌↔◌, ℕ, List, length}
 use Rattle.mbj_types.specs.declared.job.Job.{Job}
 use Rattle.mbj_text.specs.declared.limits.TheConstants.{JOB_LIMIT}
 use Rattle.mbj_text.specs.Cut.{Numbered, kept_lines}
 use Rattle.mbj_text.specs.Spelling.{Spells, SpellsByName, IsBadLine}
+use Rattle.mbj_text.specs.Stops.{SpellEach, StopsAt}
 use Rattle.mbj_text.specs.Answer.{ExactlyOne}
 
 -- ---- job lines
 
--- there are as many jobs as lines, and each line spells its job
-abbrev pub SpellAll : List Numbered → List Job → Type 0
-SpellAll lines jobs = AllZip (λ line job. Spells line.1 job) lines jobs
-
 -- there are at most JOB_LIMIT lines, and they spell the jobs
 pub record ReadsLines (lines : List Numbered) (jobs : List Job) : Type 0 where
   pub count : length jobs ≤ JOB_LIMIT
-  pub each : SpellAll lines jobs
+  pub each : SpellEach Spells lines jobs
 
 -- the line with this number is the first line that spells no job, and stands among the first JOB_LIMIT;
 -- the field is its fault
-pub record BadLines (lines : List Numbered) (line field : ℕ) : Type 0 where
-  pub before : List Numbered
-  pub text : List ℕ
-  pub after : List Numbered
-  pub jobs : List Job
-  pub cut_so : lines ≡ before ++ (line, text) ∷ after
-  pub good : SpellAll before jobs
-  pub count : length jobs < JOB_LIMIT
-  pub bad : IsBadLine text field
+abbrev pub BadLines : List Numbered → ℕ → ℕ → Type 0
+BadLines lines line field = StopsAt Spells (λ jobs text. (length jobs < JOB_LIMIT) × IsBadLine text field) lines line
 
 -- the first JOB_LIMIT lines spell jobs, and the line with this number is one more, whatever it says
-pub record OverLines (lines : List Numbered) (line : ℕ) : Type 0 where
-  pub before : List Numbered
-  pub text : List ℕ
-  pub after : List Numbered
-  pub jobs : List Job
-  pub cut_so : lines ≡ before ++ (line, text) ∷ after
-  pub good : SpellAll before jobs
-  pub count : length jobs ≡ JOB_LIMIT
+abbrev pub OverLines : List Numbered → ℕ → Type 0
+OverLines lines line = StopsAt Spells (λ jobs text. length jobs ≡ JOB_LIMIT) lines line
 
 -- ---- the three relations: each line of a job file that isn't skipped is a job line
 

@@ -1,6 +1,5 @@
 -- What a script line spells, and which field of a bad one is its fault.
-use Rattle.std.specs.Prelude.{◌≡◌, ◌⊎◌, ◌++◌, ℕ, List, [], ◌∷◌}
-use Rattle.std.specs.List.{AllZip}
+use Rattle.std.specs.Prelude.{◌≡◌, ◌⊎◌, ℕ, List, [], ◌∷◌}
 use Rattle.mbj_text.specs.declared.command.Cmd.{Cmd}
 use Rattle.mbj_text.specs.declared.command.Cmd.TheVariants as command
 use Rattle.mbj_text.specs.declared.command.Verb.{Verb}
@@ -8,6 +7,7 @@ use Rattle.mbj_text.specs.declared.command.Verb.TheVariants as verb
 use Rattle.mbj_text.specs.Cut.{Numbered}
 use Rattle.mbj_text.specs.Words.{verb_word}
 use Rattle.mbj_text.specs.Spelling.{Form, Below, Values, SpellsFields, HasFault, fields_of}
+use Rattle.mbj_text.specs.Stops.{SpellEach, StopsAt}
 
 -- ---- lines
 
@@ -58,14 +58,9 @@ IsBadCommand submitters workers line f = ((f ≡ 1) × ¬ (HasVerb line)) ⊎ Ha
 
 -- there are as many commands as lines, and each line spells its command
 abbrev pub SpellScript : ℕ → ℕ → List Numbered → List Cmd → Type 0
-SpellScript submitters workers lines commands = AllZip (λ line c. SpellsCommand submitters workers line.1 c) lines commands
+SpellScript submitters workers lines commands = SpellEach (SpellsCommand submitters workers) lines commands
 
 -- the line with this number is the first one that spells no command; the field is its fault
-pub record BadScript (submitters workers : ℕ) (lines : List Numbered) (line field : ℕ) : Type 0 where
-  pub before : List Numbered
-  pub text : List ℕ
-  pub after : List Numbered
-  pub commands : List Cmd
-  pub cut_so : lines ≡ before ++ (line, text) ∷ after
-  pub good : SpellScript submitters workers before commands
-  pub bad : IsBadCommand submitters workers text field
+abbrev pub BadScript : ℕ → ℕ → List Numbered → ℕ → ℕ → Type 0
+BadScript submitters workers lines line field =
+    StopsAt (SpellsCommand submitters workers) (λ commands text. IsBadCommand submitters workers text field) lines line

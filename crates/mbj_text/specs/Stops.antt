@@ -1,0 +1,18 @@
+-- What lines spell, one after the other, and the line at which reading them stops.
+use Rattle.std.specs.Prelude.{◌≡◌, ◌++◌, ℕ, List, ◌∷◌}
+use Rattle.std.specs.List.{AllZip}
+use Rattle.mbj_text.specs.Cut.{Numbered}
+
+-- there are as many values as lines, and each line spells its value
+abbrev pub SpellEach : {X : Type 0} → (List ℕ → X → Type 0) → List Numbered → List X → Type 0
+SpellEach Spells lines values = AllZip (λ line value. Spells line.1 value) lines values
+
+-- the lines before the one with this number spell values, and of these values and of its own text holds why reading stops
+pub record StopsAt {X : Type 0} (Spells : List ℕ → X → Type 0) (Why : List X → List ℕ → Type 0) (lines : List Numbered) (line : ℕ) : Type 0 where
+  pub before : List Numbered
+  pub text : List ℕ
+  pub after : List Numbered
+  pub values : List X
+  pub cut_so : lines ≡ before ++ (line, text) ∷ after
+  pub good : SpellEach Spells before values
+  pub why : Why values text
