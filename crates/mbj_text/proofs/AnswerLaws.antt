@@ -1,15 +1,19 @@
 -- Three relations that one outcome tells apart, and answers that are right by them.
-use Rattle.std.proofs.Common.{◌≡◌, ◌⊎◌, ◌∙◌, inl, inr, sym, subst, refl, ℕ, Result, Ok, Err}
+use Rattle.std.proofs.Common.{◌≡◌, ◌⊎◌, ◌∙◌, inl, inr, ap, sym, subst, refl, ℕ, Result, Ok, Err}
 use Rattle.std.specs.Prelude.{IfOk}
 use Rattle.mbj_text.specs.declared.fault.TextFault.{TextFault}
 use Rattle.mbj_text.specs.declared.fault.TextFault.TheVariants as text_fault
-use Rattle.mbj_text.specs.Answer.{Answers, IsOkOnly, IsErrOnly, ExactlyOne}
+use Rattle.mbj_text.specs.Answer.{Answers, IsOkOnly, IsErrOnly, ExactlyOne, AtMostOne, IsOneOf}
 
 -- each relation says what the outcome is
 pub record Tells {V : Type 0} (Good : V → Type 0) (Bad : ℕ → ℕ → Type 0) (Over : ℕ → Type 0) (outcome : Result V TextFault) : Type 0 where
   pub good : (v : V) → Good v → outcome ≡ Ok v
   pub bad : (line field : ℕ) → Bad line field → outcome ≡ Err (text_fault.Line line field)
   pub over : (line : ℕ) → Over line → outcome ≡ Err (text_fault.Limit line)
+
+-- one of the three holds
+abbrev pub Fate : {V : Type 0} → (V → Type 0) → (ℕ → ℕ → Type 0) → (ℕ → Type 0) → Type 0
+Fate {V} Good Bad Over = ((v : V) × Good v) ⊎ (((line : ℕ) × (field : ℕ) × Bad line field) ⊎ ((line : ℕ) × Over line))
 
 module _ {V : Type 0} (Good : V → Type 0) (Bad : ℕ → ℕ → Type 0) (Over : ℕ → Type 0) (outcome : Result V TextFault) (tells : Tells Good Bad Over outcome) where
   -- ---- the relations exclude one another
@@ -27,21 +31,33 @@ module _ {V : Type 0} (Good : V → Type 0) (Bad : ℕ → ℕ → Type 0) (Over
   bad_not_over line field at a b = let both = sym (tells.bad line field a) ∙ tells.over at b in cc
 
   -- it is good in one way
-  pub good_once : (v w : V) → Good v → Good w → v ≡ w
+  pub good_once : AtMostOne Good
   good_once v w a b = let both = sym (tells.good v a) ∙ tells.good w b in cc
 
   -- it has one first fault
-  pub bad_once : (line field line' field' : ℕ) → Bad line field → Bad line' field' → (line ≡ line') × (field ≡ field')
-  bad_once line field line' field' a b =
+  pub bad_once : AtMostOne (λ (at : ℕ × ℕ). Bad at.0 at.1)
+  bad_once (line, field) (line', field') a b =
       let both = sym (tells.bad line field a) ∙ tells.bad line' field' b in
       let faults : text_fault.Line line field ≡ text_fault.Line line' field' = cc in
       let lines : line ≡ line' = cc in
       let fields : field ≡ field' = cc in
-      (lines, fields)
+      cc (lines, fields)
 
   -- it has one line that is one too many
-  pub over_once : (line line' : ℕ) → Over line → Over line' → line ≡ line'
+  pub over_once : AtMostOne Over
   over_once line line' a b = let both = sym (tells.over line a) ∙ tells.over line' b in cc
+
+  -- ---- exactly one holds
+
+  -- where one of them holds, the other two don't
+  one_only : Fate Good Bad Over → ExactlyOne ((v : V) × Good v) ((line : ℕ) × (field : ℕ) × Bad line field) ((line : ℕ) × Over line)
+  one_only (inl g) = inl (g, λ b. good_not_bad g.0 b.0 b.1 g.1 b.2, λ o. good_not_over g.0 o.0 g.1 o.1)
+  one_only (inr (inl b)) = inr (inl (λ g. good_not_bad g.0 b.0 b.1 g.1 b.2, b, λ o. bad_not_over b.0 b.1 o.0 b.2 o.1))
+  one_only (inr (inr o)) = inr (inr (λ g. good_not_over g.0 o.0 g.1 o.1, λ b. bad_not_over b.0 b.1 o.0 b.2 o.1, o))
+
+  -- and it does in one way
+  pub is_one : Fate Good Bad Over → IsOneOf Good Bad Over
+  is_one fate = record { one = one_only fate; good_once = good_once; bad_once = bad_once; over_once = over_once }
 
 -- ---- each answer has its relation
 
@@ -72,7 +88,8 @@ module _ {A V : Type 0} (view : A → V) (Good : V → Type 0) (Bad : ℕ → �
   -- the answer where it is bad
   pub bad_only : (r : Result A TextFault) → Answers (λ x. Good (view x)) Bad Over r → (line field : ℕ) → Bad line field → IsErrOnly r (text_fault.Line line field)
   bad_only (Ok x) a line field b = absurd (good_not_bad Good Bad Over outcome tells (view x) line field a b)
-  bad_only (Err (text_fault.Line line' field')) a line field b = let same = bad_once Good Bad Over outcome tells line' field' line field a b in inl (cc (same.0, same.1))
+  bad_only (Err (text_fault.Line line' field')) a line field b =
+      inl (ap (λ (at : ℕ × ℕ). Err (text_fault.Line at.0 at.1)) (bad_once Good Bad Over outcome tells (line', field') (line, field) a b))
   bad_only (Err (text_fault.Limit line')) a line field b = absurd (bad_not_over Good Bad Over outcome tells line field line' b a)
   bad_only (Err text_fault.Memory) a line field b = inr refl
 
@@ -82,20 +99,3 @@ module _ {A V : Type 0} (view : A → V) (Good : V → Type 0) (Bad : ℕ → �
   over_only (Err (text_fault.Line line' field')) a line o = absurd (bad_not_over Good Bad Over outcome tells line' field' line a o)
   over_only (Err (text_fault.Limit line')) a line o = let same = over_once Good Bad Over outcome tells line' line a o in inl (cc same)
   over_only (Err text_fault.Memory) a line o = inr refl
-
--- ---- exactly one holds
-
-module _ {V : Type 0} (Good : V → Type 0) (Bad : ℕ → ℕ → Type 0) (Over : ℕ → Type 0) where
-  -- one of the three holds
-  abbrev pub Fate : Type 0
-  Fate = ((v : V) × Good v) ⊎ (((line : ℕ) × (field : ℕ) × Bad line field) ⊎ ((line : ℕ) × Over line))
-
-  -- and the other two don't
-  pub exactly_one : (outcome : Result V TextFault) → Tells Good Bad Over outcome → Fate
-      → ExactlyOne ((v : V) × Good v) ((line : ℕ) × (field : ℕ) × Bad line field) ((line : ℕ) × Over line)
-  exactly_one outcome tells (inl g) =
-      inl (g, λ b. good_not_bad Good Bad Over outcome tells g.0 b.0 b.1 g.1 b.2, λ o. good_not_over Good Bad Over outcome tells g.0 o.0 g.1 o.1)
-  exactly_one outcome tells (inr (inl b)) =
-      inr (inl (λ g. good_not_bad Good Bad Over outcome tells g.0 b.0 b.1 g.1 b.2, b, λ o. bad_not_over Good Bad Over outcome tells b.0 b.1 o.0 b.2 o.1))
-  exactly_one outcome tells (inr (inr o)) =
-      inr (inr (λ g. good_not_over Good Bad Over outcome tells g.0 o.0 g.1 o.1, λ b. bad_not_over Good Bad Over outcome tells b.0 b.1 o.0 b.2 o.1, o))

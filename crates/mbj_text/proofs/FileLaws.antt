@@ -15,10 +15,10 @@ use Rattle.mbj_text.specs.Cut.{Numbered, kept_lines}
 use Rattle.mbj_text.specs.Spelling.{Spells, IsBadLine}
 use Rattle.mbj_text.specs.Stops.{SpellEach}
 use Rattle.mbj_text.specs.Answer.{Answers}
-use Rattle.mbj_text.specs.File.{ReadsLines, BadLines, OverLines, Reads, Bad, Over, EachFileIsOne, ReadsIsUnique, BadIsUnique, OverIsUnique}
+use Rattle.mbj_text.specs.File.{ReadsLines, BadLines, OverLines, Reads, Bad, Over, EachFileIsOne}
 use Rattle.mbj_text.specs.Inside.Reading.{job_of, Fails, fault_at}
 use Rattle.mbj_text.proofs.LineLaws.{job_back, fault_back, fault_read, line_total}
-use Rattle.mbj_text.proofs.AnswerLaws.{Tells, Fate, exactly_one, good_not_bad, good_not_over, bad_not_over as bad_not_over_by, good_once, bad_once as bad_once_by, over_once as over_once_by}
+use Rattle.mbj_text.proofs.AnswerLaws.{Tells, Fate, is_one, good_not_bad, good_not_over, bad_not_over as bad_not_over_by}
 
 -- ---- line after line
 
@@ -176,9 +176,11 @@ fate_of_lines lines = fate_from lines lines [] (at_start lines)
 
 -- ---- files
 
--- exactly one of the three holds
+-- exactly one of the three holds, and in one way
 pub one_of_three : EachFileIsOne
-one_of_three bytes = exactly_one (Reads bytes) (Bad bytes) (Over bytes) (jobs_outcome (kept_lines bytes)) (lines_tell (kept_lines bytes)) (fate_of_lines (kept_lines bytes))
+one_of_three bytes =
+    let lines = kept_lines bytes in
+    is_one (Reads bytes) (Bad bytes) (Over bytes) (jobs_outcome lines) (lines_tell lines) (fate_of_lines lines)
 
 -- a good file isn't bad
 pub reads_not_bad : (bytes : List ℕ) (jobs : List Job) (line f : ℕ) → Reads bytes jobs → Bad bytes line f → ⊥
@@ -191,15 +193,3 @@ reads_not_over bytes = good_not_over (Reads bytes) (Bad bytes) (Over bytes) (job
 -- a bad file isn't too long
 pub bad_not_over : (bytes : List ℕ) (line f at : ℕ) → Bad bytes line f → Over bytes at → ⊥
 bad_not_over bytes = bad_not_over_by (Reads bytes) (Bad bytes) (Over bytes) (jobs_outcome (kept_lines bytes)) (lines_tell (kept_lines bytes))
-
--- it spells one list of jobs
-pub reads_once : ReadsIsUnique
-reads_once bytes = good_once (Reads bytes) (Bad bytes) (Over bytes) (jobs_outcome (kept_lines bytes)) (lines_tell (kept_lines bytes))
-
--- it has one first fault
-pub bad_once : BadIsUnique
-bad_once bytes = bad_once_by (Reads bytes) (Bad bytes) (Over bytes) (jobs_outcome (kept_lines bytes)) (lines_tell (kept_lines bytes))
-
--- it has one line that is one too many
-pub over_once : OverIsUnique
-over_once bytes = over_once_by (Reads bytes) (Bad bytes) (Over bytes) (jobs_outcome (kept_lines bytes)) (lines_tell (kept_lines bytes))

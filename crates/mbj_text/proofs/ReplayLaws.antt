@@ -7,9 +7,9 @@ use Rattle.mbj_text.specs.declared.command.Cmd.{Cmd}
 use Rattle.mbj_text.specs.declared.fault.TextFault.{TextFault}
 use Rattle.mbj_text.specs.declared.fault.TextFault.TheVariants as text_fault
 use Rattle.mbj_text.specs.Cut.{kept_lines, job_part, script_part}
-use Rattle.mbj_text.specs.Answer.{Answers, IsOkOnly, ExactlyOne}
-use Rattle.mbj_text.specs.Replay.{ReadsReplay, BadReplay, OverReplay, EachReplayIsOne, ReplayIsUnique, BadReplayIsUnique, OverReplayIsUnique}
-use Rattle.mbj_text.proofs.AnswerLaws.{Tells, Fate, exactly_one, good_once, bad_once, over_once, good_only}
+use Rattle.mbj_text.specs.Answer.{Answers, IsOkOnly}
+use Rattle.mbj_text.specs.Replay.{ReadsReplay, BadReplay, OverReplay, EachReplayIsOne}
+use Rattle.mbj_text.proofs.AnswerLaws.{Tells, Fate, is_one, good_not_bad, good_not_over, bad_not_over, good_only}
 use Rattle.mbj_text.proofs.FileLaws.{jobs_outcome, lines_tell, fate_of_lines}
 use Rattle.mbj_text.proofs.ScriptLaws.{script_outcome, script_gives, bad_script_gives, script_fate}
 
@@ -71,29 +71,26 @@ replay_fate s w bytes = elim (fate_of_lines (job_part (kept_lines bytes))) [
   ]
 ]
 
--- the first of the three may be said in other words
-first_as : {A A' B C : Type 0} → (A → A') → (A' → A) → ExactlyOne A B C → ExactlyOne A' B C
-first_as there back (inl (a, b, c)) = inl (there a, b, c)
-first_as there back (inr (inl (a, b, c))) = inr (inl (λ x. a (back x), b, c))
-first_as there back (inr (inr (a, b, c))) = inr (inr (λ x. a (back x), b, c))
-
--- exactly one of the three holds
+-- exactly one of the three holds, and in one way
 pub one_of_three : EachReplayIsOne
-one_of_three s w bytes = first_as (λ g. (g.0.0, g.0.1, g.1)) (λ g. ((g.0, g.1), g.2)) (exactly_one (Spelled s w bytes) (BadReplay s w bytes) (OverReplay bytes) (replay_outcome s w bytes) (replay_tells s w bytes) (replay_fate s w bytes))
+one_of_three s w bytes =
+    is_one (Spelled s w bytes) (BadReplay s w bytes) (OverReplay bytes) (replay_outcome s w bytes) (replay_tells s w bytes) (replay_fate s w bytes)
 
--- it spells one list of jobs and one of commands
-pub replay_once : ReplayIsUnique
-replay_once s w bytes jobs jobs' commands commands' a b =
-    let same = good_once (Spelled s w bytes) (BadReplay s w bytes) (OverReplay bytes) (replay_outcome s w bytes) (replay_tells s w bytes) (jobs, commands) (jobs', commands') a b in
-    (ap (λ (r : Replay). r.0) same, ap (λ (r : Replay). r.1) same)
+-- a good file isn't bad
+pub replay_not_bad : (s w : ℕ) (bytes : List ℕ) (jobs : List Job) (commands : List Cmd) (line field : ℕ)
+    → ReadsReplay s w bytes jobs commands → BadReplay s w bytes line field → ⊥
+replay_not_bad s w bytes jobs commands =
+    good_not_bad (Spelled s w bytes) (BadReplay s w bytes) (OverReplay bytes) (replay_outcome s w bytes) (replay_tells s w bytes) (jobs, commands)
 
--- it has one first fault
-pub bad_replay_once : BadReplayIsUnique
-bad_replay_once s w bytes = bad_once (Spelled s w bytes) (BadReplay s w bytes) (OverReplay bytes) (replay_outcome s w bytes) (replay_tells s w bytes)
+-- a good file isn't too long
+pub replay_not_over : (s w : ℕ) (bytes : List ℕ) (jobs : List Job) (commands : List Cmd) (line : ℕ)
+    → ReadsReplay s w bytes jobs commands → OverReplay bytes line → ⊥
+replay_not_over s w bytes jobs commands =
+    good_not_over (Spelled s w bytes) (BadReplay s w bytes) (OverReplay bytes) (replay_outcome s w bytes) (replay_tells s w bytes) (jobs, commands)
 
--- it has one line that is one too many; how many parties there are makes no difference
-pub over_replay_once : OverReplayIsUnique
-over_replay_once bytes = over_once (Spelled 0 0 bytes) (BadReplay 0 0 bytes) (OverReplay bytes) (replay_outcome 0 0 bytes) (replay_tells 0 0 bytes)
+-- a bad file isn't too long
+pub bad_replay_not_over : (s w : ℕ) (bytes : List ℕ) (line field at : ℕ) → BadReplay s w bytes line field → OverReplay bytes at → ⊥
+bad_replay_not_over s w bytes = bad_not_over (Spelled s w bytes) (BadReplay s w bytes) (OverReplay bytes) (replay_outcome s w bytes) (replay_tells s w bytes)
 
 -- ---- answers
 

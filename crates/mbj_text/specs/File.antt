@@ -5,7 +5,7 @@ use Rattle.mbj_text.specs.declared.limits.TheConstants.{JOB_LIMIT}
 use Rattle.mbj_text.specs.Cut.{Numbered, kept_lines}
 use Rattle.mbj_text.specs.Spelling.{Spells, SpellsByName, IsBadLine}
 use Rattle.mbj_text.specs.Stops.{SpellEach, StopsAt}
-use Rattle.mbj_text.specs.Answer.{ExactlyOne}
+use Rattle.mbj_text.specs.Answer.{IsOneOf}
 
 -- ---- job lines
 
@@ -39,23 +39,9 @@ Over bytes line = OverLines (kept_lines bytes) line
 
 -- ---- laws
 
--- each file spells jobs, or has a first bad line, or has too many job lines
+-- each file spells jobs, or has a first bad line, or has too many job lines: exactly one of these, and in one way
 abbrev pub EachFileIsOne : Type 0
-EachFileIsOne = (bytes : List ℕ) → ExactlyOne
-    ((jobs : List Job) × Reads bytes jobs)
-    ((line : ℕ) × (field : ℕ) × Bad bytes line field)
-    ((line : ℕ) × Over bytes line)
-
--- a file is read, bad or too long in one way only
-abbrev pub ReadsIsUnique : Type 0
-ReadsIsUnique = (bytes : List ℕ) (jobs others : List Job) → Reads bytes jobs → Reads bytes others → jobs ≡ others
-
-abbrev pub BadIsUnique : Type 0
-BadIsUnique = (bytes : List ℕ) (line field line' field' : ℕ) → Bad bytes line field → Bad bytes line' field'
-    → (line ≡ line') × (field ≡ field')
-
-abbrev pub OverIsUnique : Type 0
-OverIsUnique = (bytes : List ℕ) (line line' : ℕ) → Over bytes line → Over bytes line' → line ≡ line'
+EachFileIsOne = (bytes : List ℕ) → IsOneOf (Reads bytes) (Bad bytes) (Over bytes)
 
 -- a line spells a job by the table of the forms exactly where it does so field by field
 abbrev pub TableAndNamesAgree : Type 0

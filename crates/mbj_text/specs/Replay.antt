@@ -1,9 +1,9 @@
 -- What the file of a replay spells, where it is bad or too long, and that each file is exactly one of the three.
-use Rattle.std.specs.Prelude.{◌≡◌, ◌⊎◌, ℕ, List}
+use Rattle.std.specs.Prelude.{◌⊎◌, ℕ, List}
 use Rattle.mbj_types.specs.declared.job.Job.{Job}
 use Rattle.mbj_text.specs.declared.command.Cmd.{Cmd}
 use Rattle.mbj_text.specs.Cut.{kept_lines, job_part, script_part}
-use Rattle.mbj_text.specs.Answer.{ExactlyOne}
+use Rattle.mbj_text.specs.Answer.{IsOneOf}
 use Rattle.mbj_text.specs.File.{ReadsLines, BadLines, OverLines}
 use Rattle.mbj_text.specs.Script.{SpellScript, BadScript}
 
@@ -33,23 +33,9 @@ OverReplay bytes line = OverLines (job_part (kept_lines bytes)) line
 
 -- ---- laws
 
--- each file spells a replay, or has a first bad line, or has too many job lines
+-- each file spells a replay, or has a first bad line, or has too many job lines: exactly one of these, and in one way
 abbrev pub EachReplayIsOne : Type 0
-EachReplayIsOne = (submitters workers : ℕ) (bytes : List ℕ) → ExactlyOne
-    ((jobs : List Job) × (commands : List Cmd) × ReadsReplay submitters workers bytes jobs commands)
-    ((line : ℕ) × (field : ℕ) × BadReplay submitters workers bytes line field)
-    ((line : ℕ) × OverReplay bytes line)
-
--- a file is read, bad or too long in one way only
-abbrev pub ReplayIsUnique : Type 0
-ReplayIsUnique = (submitters workers : ℕ) (bytes : List ℕ) (jobs jobs' : List Job) (commands commands' : List Cmd)
-    → ReadsReplay submitters workers bytes jobs commands → ReadsReplay submitters workers bytes jobs' commands'
-    → (jobs ≡ jobs') × (commands ≡ commands')
-
-abbrev pub BadReplayIsUnique : Type 0
-BadReplayIsUnique = (submitters workers : ℕ) (bytes : List ℕ) (line field line' field' : ℕ)
-    → BadReplay submitters workers bytes line field → BadReplay submitters workers bytes line' field'
-    → (line ≡ line') × (field ≡ field')
-
-abbrev pub OverReplayIsUnique : Type 0
-OverReplayIsUnique = (bytes : List ℕ) (line line' : ℕ) → OverReplay bytes line → OverReplay bytes line' → line ≡ line'
+EachReplayIsOne = (submitters workers : ℕ) (bytes : List ℕ) → IsOneOf
+    (λ (r : List Job × List Cmd). ReadsReplay submitters workers bytes r.0 r.1)
+    (BadReplay submitters workers bytes)
+    (OverReplay bytes)

