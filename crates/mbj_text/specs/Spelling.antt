@@ -1,5 +1,5 @@
 -- What a field and a job line spell, and which field of a bad line is its fault.
-use Rattle.std.specs.Prelude.{◌≡◌, ◌≢◌, ◌⊎◌, ◌<◌, ◌+◌, ◌^◌, ℕ, List, [], ◌∷◌, length, codes, decimal, Ok, Contains}
+use Rattle.std.specs.Prelude.{◌≡◌, ◌≢◌, ◌⊎◌, ◌<◌, ◌+◌, ◌^◌, ℕ, List, [], ◌∷◌, length, codes, decimal, Ok}
 use Rattle.hex.specs.Hex.{decode_of}
 use Rattle.mbj_types.specs.declared.job.Job.{Job}
 use Rattle.mbj_types.specs.declared.job.Cipher.{Cipher}
@@ -7,7 +7,7 @@ use Rattle.mbj_types.specs.declared.job.Dir.{Dir}
 use Rattle.mbj_types.specs.declared.job.Order.{Order}
 use Rattle.mbj_types.specs.declared.job.Auth.{Auth}
 use Rattle.mbj_text.specs.Cut.{cut, space}
-use Rattle.mbj_text.specs.Words.{cipher_word, dir_word, order_word, auth_word, file_ciphers, file_auths}
+use Rattle.mbj_text.specs.Words.{cipher_word, dir_word, order_word, auth_word}
 
 -- ---- fields
 
@@ -39,13 +39,12 @@ Value Hex = List ℕ
 Value Number = ℕ
 Value (Below limit) = ℕ
 
--- the text spells the value in the form: of ciphers and authentications only those that a file may name,
--- and a number below a limit is a number that is less
+-- the text spells the value in the form; a number below a limit is a number that is less
 abbrev pub Spelled : (form : Form) → List ℕ → Value form → Type 0
-Spelled CipherWord text c = (text ≡ cipher_word c) × Contains file_ciphers c
+Spelled CipherWord text c = text ≡ cipher_word c
 Spelled DirWord text d = text ≡ dir_word d
 Spelled OrderWord text o = text ≡ order_word o
-Spelled AuthWord text a = (text ≡ auth_word a) × Contains file_auths a
+Spelled AuthWord text a = text ≡ auth_word a
 Spelled Hex text bytes = SpellsBytes text bytes
 Spelled Number text n = SpellsNumber text n
 Spelled (Below limit) text n = SpellsNumber text n × (n < limit)
@@ -126,14 +125,14 @@ pub record SpellsByName (line : List ℕ) (j : Job) : Type 0 where
   pub packet : List ℕ
   pub fields : fields_of line ≡ cipher ∷ dir ∷ order ∷ key ∷ iv ∷ cipher_off ∷ cipher_len
       ∷ auth ∷ auth_key ∷ aad ∷ hash_off ∷ hash_len ∷ tag_len ∷ packet ∷ []
-  pub cipher_is : (cipher ≡ cipher_word j.cipher) × Contains file_ciphers j.cipher
+  pub cipher_is : cipher ≡ cipher_word j.cipher
   pub dir_is : dir ≡ dir_word j.dir
   pub order_is : order ≡ order_word j.order
   pub key_is : SpellsBytes key j.key
   pub iv_is : SpellsBytes iv j.iv
   pub cipher_off_is : SpellsNumber cipher_off j.cipher_off
   pub cipher_len_is : SpellsNumber cipher_len j.cipher_len
-  pub auth_is : (auth ≡ auth_word j.auth) × Contains file_auths j.auth
+  pub auth_is : auth ≡ auth_word j.auth
   pub auth_key_is : SpellsBytes auth_key j.auth_key
   pub aad_is : SpellsBytes aad j.aad
   pub hash_off_is : SpellsNumber hash_off j.hash_off

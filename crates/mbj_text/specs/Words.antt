@@ -1,5 +1,5 @@
 -- The words of job lines and script lines.
-use Rattle.std.specs.Prelude.{ℕ, List, [], ◌∷◌, codes}
+use Rattle.std.specs.Prelude.{ℕ, List, codes}
 use Rattle.mbj_types.specs.declared.job.Cipher.{Cipher}
 use Rattle.mbj_types.specs.declared.job.Cipher.TheVariants as cipher
 use Rattle.mbj_types.specs.declared.job.Dir.{Dir}
@@ -36,20 +36,8 @@ auth_word auth.Cmac128 = codes "cmac128"
 auth_word auth.Cmac256 = codes "cmac256"
 auth_word auth.Gcm = codes "gcm"
 
--- the ciphers that a file may name
-abbrev pub file_ciphers : List Cipher
-file_ciphers = cipher.Null ∷ cipher.Cbc ∷ cipher.Ctr ∷ cipher.Gcm ∷ []
-
--- the authentications that a file may name
-abbrev pub file_auths : List Auth
-file_auths =
-    auth.Null ∷ auth.HmacSha1 ∷ auth.HmacSha224 ∷ auth.HmacSha256 ∷ auth.HmacSha384 ∷ auth.HmacSha512 ∷ auth.Cmac128 ∷ auth.Cmac256 ∷ auth.Gcm ∷ []
-
 abbrev pub verb_word : Verb → List ℕ
 verb_word Post = codes "post"
 verb_word Claim = codes "claim"
 verb_word Flush = codes "flush"
 verb_word Collect = codes "collect"
-
-abbrev pub verbs : List Verb
-verbs = Post ∷ Claim ∷ Flush ∷ Collect ∷ []

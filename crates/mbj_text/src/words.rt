@@ -7,7 +7,7 @@ use crate::field::Field;
 use mbj_types::{Auth, Cipher, Dir, Order};
 use std::alloc::{AllocError, Global};
 
-/// The ciphers that a file may name.
+/// The ciphers, each with its word.
 const CIPHERS: [(&[u8], Cipher); 4] = [
     (b"null", Cipher::Null),
     (b"cbc", Cipher::Cbc),
@@ -19,7 +19,7 @@ const DIRS: [(&[u8], Dir); 2] = [(b"enc", Dir::Enc), (b"dec", Dir::Dec)];
 
 const ORDERS: [(&[u8], Order); 2] = [(b"ch", Order::CipherHash), (b"hc", Order::HashCipher)];
 
-/// The authentications that a file may name.
+/// The authentications, each with its word.
 const AUTHS: [(&[u8], Auth); 9] = [
     (b"null", Auth::Null),
     (b"hmac-sha1", Auth::HmacSha1),

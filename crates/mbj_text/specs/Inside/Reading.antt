@@ -8,11 +8,13 @@ use Rattle.std.specs.Result.{result_ok}
 use Rattle.hex.specs.Hex.{decode_of}
 use Rattle.mbj_types.specs.declared.job.Job.{Job}
 use Rattle.mbj_types.specs.declared.job.Cipher.{Cipher}
+use Rattle.mbj_types.specs.declared.job.Cipher.TheVariants as cipher
 use Rattle.mbj_types.specs.declared.job.Dir.{Dir}
 use Rattle.mbj_types.specs.declared.job.Dir.TheVariants.{Enc, Dec}
 use Rattle.mbj_types.specs.declared.job.Order.{Order}
 use Rattle.mbj_types.specs.declared.job.Order.TheVariants.{CipherHash, HashCipher}
 use Rattle.mbj_types.specs.declared.job.Auth.{Auth}
+use Rattle.mbj_types.specs.declared.job.Auth.TheVariants as auth
 use Rattle.mbj_text.specs.declared.command.Cmd.{Cmd}
 use Rattle.mbj_text.specs.declared.command.Cmd.TheVariants as command
 use Rattle.mbj_text.specs.declared.command.Verb.{Verb}
@@ -23,7 +25,7 @@ use Rattle.mbj_text.specs.declared.fault.LineFault.{LineFault}
 use Rattle.mbj_text.specs.declared.fault.LineFault.TheVariants as line_fault
 use Rattle.mbj_text.specs.declared.fault.TextFault.{TextFault}
 use Rattle.mbj_text.specs.declared.fault.TextFault.TheVariants as text_fault
-use Rattle.mbj_text.specs.Words.{cipher_word, dir_word, order_word, auth_word, verb_word, file_ciphers, file_auths, verbs}
+use Rattle.mbj_text.specs.Words.{cipher_word, dir_word, order_word, auth_word, verb_word}
 use Rattle.mbj_text.specs.Cut.{Numbered, is_mark, job_part, script_part}
 use Rattle.mbj_text.specs.Script.{number_forms}
 use Rattle.mbj_text.specs.Spelling.{Form, CipherWord, DirWord, OrderWord, AuthWord, Hex, Number, Below, Value, Values, forms, fields_of}
@@ -39,8 +41,19 @@ lookup (row ∷ rows) text = if bytes_eq row.0 text then Some row.1 else lookup 
 abbrev pub rows_of : {A : Type 0} → (A → List ℕ) → List A → List (List ℕ × A)
 rows_of word values = map (λ v. (word v, v)) values
 
+-- all ciphers, all authentications and all verbs
+abbrev pub ciphers : List Cipher
+ciphers = cipher.Null ∷ cipher.Cbc ∷ cipher.Ctr ∷ cipher.Gcm ∷ []
+
+abbrev pub auths : List Auth
+auths =
+    auth.Null ∷ auth.HmacSha1 ∷ auth.HmacSha224 ∷ auth.HmacSha256 ∷ auth.HmacSha384 ∷ auth.HmacSha512 ∷ auth.Cmac128 ∷ auth.Cmac256 ∷ auth.Gcm ∷ []
+
+abbrev pub verbs : List Verb
+verbs = verb.Post ∷ verb.Claim ∷ verb.Flush ∷ verb.Collect ∷ []
+
 abbrev pub cipher_of : List ℕ → Option Cipher
-cipher_of text = lookup (rows_of cipher_word file_ciphers) text
+cipher_of text = lookup (rows_of cipher_word ciphers) text
 
 abbrev pub dir_of : List ℕ → Option Dir
 dir_of text = lookup (rows_of dir_word (Enc ∷ Dec ∷ [])) text
@@ -49,7 +62,7 @@ abbrev pub order_of : List ℕ → Option Order
 order_of text = lookup (rows_of order_word (CipherHash ∷ HashCipher ∷ [])) text
 
 abbrev pub auth_of : List ℕ → Option Auth
-auth_of text = lookup (rows_of auth_word file_auths) text
+auth_of text = lookup (rows_of auth_word auths) text
 
 abbrev pub verb_of : List ℕ → Option Verb
 verb_of text = lookup (rows_of verb_word verbs) text
