@@ -1,7 +1,9 @@
 -- The table of the forms and the record of the fields' names say the same.
-use Rattle.std.proofs.Common.{◌≡◌, ◌∙◌, ap, sym, subst, refl, drop, ℕ, List, [], ◌∷◌}
+use Rattle.std.proofs.Common.{◌≡◌, ◌∙◌, ap, sym, subst, refl, drop, arith, ℕ, List, [], ◌∷◌}
 use Rattle.mbj_types.specs.declared.job.Job.{Job}
-use Rattle.mbj_text.specs.Spelling.{Spells, SpellsFields, SpellsByName, Spelled, Value, Values, values, Form, CipherWord, DirWord, OrderWord, AuthWord, Hex, Number, Below, forms, fields_of}
+use Rattle.std.specs.Prelude.{decimal}
+use Rattle.mbj_text.specs.Words.{auth_word}
+use Rattle.mbj_text.specs.Spelling.{Spells, SpellsFields, SpellsNumber, SpellsByName, Spelled, Value, Values, values, Form, CipherWord, DirWord, OrderWord, AuthWord, Hex, Number, Below, forms, fields_of}
 use Rattle.mbj_text.specs.File.{TableAndNamesAgree}
 
 -- the first field, and the others
@@ -16,6 +18,11 @@ record Next (form : Form) (rest : List Form) (texts : List (List ℕ)) (v : Valu
 next : (form : Form) (rest : List Form) (texts : List (List ℕ)) (v : Value form) (vs : Values rest) → SpellsFields (form ∷ rest) texts (v, vs) → Next form rest texts v vs
 next form rest [] v vs s = absurd s
 next form rest (t ∷ ts) v vs s = record { text = t; left = ts; cut_so = refl; is = s.0; more = s.1 }
+
+-- it is known what its text is, and what the others are
+known : {form : Form} {rest : List Form} {texts : List (List ℕ)} {v : Value form} {vs : Values rest} (n : Next form rest texts v vs)
+    {text : List ℕ} {more : List (List ℕ)} → n.text ≡ text → n.left ≡ more → texts ≡ text ∷ more
+known n {text} is others = n.cut_so ∙ ap (λ (t : List ℕ). t ∷ n.left) is ∙ ap (◌∷◌ text) others
 
 -- there is no field more
 ended : (texts : List (List ℕ)) → SpellsFields [] texts tt → texts ≡ []
@@ -40,42 +47,39 @@ by_name line j s =
     let f13 = next (Below 256) (drop 13 forms) f12.left j.tag_len (values j).1.1.1.1.1.1.1.1.1.1.1.1.1 f12.more in
     let f14 = next Hex (drop 14 forms) f13.left j.packet (values j).1.1.1.1.1.1.1.1.1.1.1.1.1.1 f13.more in
     record {
-      cipher = f1.text;
-      dir = f2.text;
-      order = f3.text;
       key = f4.text;
       iv = f5.text;
-      cipher_off = f6.text;
-      cipher_len = f7.text;
-      auth = f8.text;
       auth_key = f9.text;
       aad = f10.text;
-      hash_off = f11.text;
-      hash_len = f12.text;
-      tag_len = f13.text;
       packet = f14.text;
-      fields = f1.cut_so ∙ ap (◌∷◌ f1.text) (f2.cut_so ∙ ap (◌∷◌ f2.text) (f3.cut_so ∙ ap (◌∷◌ f3.text) (f4.cut_so ∙ ap (◌∷◌ f4.text) (f5.cut_so ∙ ap (◌∷◌ f5.text) (f6.cut_so ∙ ap (◌∷◌ f6.text) (f7.cut_so ∙ ap (◌∷◌ f7.text) (f8.cut_so ∙ ap (◌∷◌ f8.text) (f9.cut_so ∙ ap (◌∷◌ f9.text) (f10.cut_so ∙ ap (◌∷◌ f10.text) (f11.cut_so ∙ ap (◌∷◌ f11.text) (f12.cut_so ∙ ap (◌∷◌ f12.text) (f13.cut_so ∙ ap (◌∷◌ f13.text) (f14.cut_so ∙ ap (◌∷◌ f14.text) (ended f14.left f14.more))))))))))))));
-      cipher_is = f1.is;
-      dir_is = f2.is;
-      order_is = f3.is;
+      fields =
+          known f1 f1.is (known f2 f2.is (known f3 f3.is (known f4 refl (known f5 refl (known f6 f6.is.0 (known f7 f7.is.0
+          (known f8 f8.is (known f9 refl (known f10 refl (known f11 f11.is.0 (known f12 f12.is.0 (known f13 f13.is.0.0
+          (known f14 refl (ended f14.left f14.more))))))))))))));
       key_is = f4.is;
       iv_is = f5.is;
-      cipher_off_is = f6.is;
-      cipher_len_is = f7.is;
-      auth_is = f8.is;
       auth_key_is = f9.is;
       aad_is = f10.is;
-      hash_off_is = f11.is;
-      hash_len_is = f12.is;
-      tag_len_is = f13.is;
       packet_is = f14.is;
+      cipher_off_fits = f6.is.1;
+      cipher_len_fits = f7.is.1;
+      hash_off_fits = f11.is.1;
+      hash_len_fits = f12.is.1;
+      tag_len_fits = f13.is.1;
     }
 
 -- from the names to the table
 by_table : (line : List ℕ) (j : Job) → SpellsByName line j → Spells line j
 by_table line j n =
     let P : List (List ℕ) → Type 0 = λ texts. SpellsFields forms texts (values j) in
-    subst P (sym n.fields) (n.cipher_is, (n.dir_is, (n.order_is, (n.key_is, (n.iv_is, (n.cipher_off_is, (n.cipher_len_is, (n.auth_is, (n.auth_key_is, (n.aad_is, (n.hash_off_is, (n.hash_len_is, (n.tag_len_is, (n.packet_is, tt))))))))))))))
+    let tag : SpellsNumber (decimal j.tag_len) j.tag_len = (refl, omega (arith, n.tag_len_fits)) in
+    let hash_texts : List (List ℕ) = decimal j.hash_off ∷ decimal j.hash_len ∷ decimal j.tag_len ∷ n.packet ∷ [] in
+    let hash_values : Values (drop 10 forms) = (j.hash_off, (j.hash_len, (j.tag_len, (j.packet, tt)))) in
+    let hash : SpellsFields (drop 10 forms) hash_texts hash_values =
+    ((refl, n.hash_off_fits), ((refl, n.hash_len_fits), ((tag, n.tag_len_fits), (n.packet_is, tt)))) in
+    let auth : SpellsFields (drop 7 forms) (auth_word j.auth ∷ n.auth_key ∷ n.aad ∷ hash_texts) (j.auth, (j.auth_key, (j.aad, hash_values))) =
+    (refl, (n.auth_key_is, (n.aad_is, hash))) in
+    subst P (sym n.fields) (refl, (refl, (refl, (n.key_is, (n.iv_is, ((refl, n.cipher_off_fits), ((refl, n.cipher_len_fits), auth)))))))
 
 -- both ways
 pub same : TableAndNamesAgree

@@ -107,35 +107,23 @@ IsBadLine line f = HasFault 1 forms (fields_of line) f
 
 -- ---- the same with the fields by their names
 
--- the line has these fourteen fields, and each spells that of the job
+-- the line has these fourteen fields: words, texts of bytes, and numbers in decimal
 pub record SpellsByName (line : List ℕ) (j : Job) : Type 0 where
-  pub cipher : List ℕ
-  pub dir : List ℕ
-  pub order : List ℕ
   pub key : List ℕ
   pub iv : List ℕ
-  pub cipher_off : List ℕ
-  pub cipher_len : List ℕ
-  pub auth : List ℕ
   pub auth_key : List ℕ
   pub aad : List ℕ
-  pub hash_off : List ℕ
-  pub hash_len : List ℕ
-  pub tag_len : List ℕ
   pub packet : List ℕ
-  pub fields : fields_of line ≡ cipher ∷ dir ∷ order ∷ key ∷ iv ∷ cipher_off ∷ cipher_len
-      ∷ auth ∷ auth_key ∷ aad ∷ hash_off ∷ hash_len ∷ tag_len ∷ packet ∷ []
-  pub cipher_is : cipher ≡ cipher_word j.cipher
-  pub dir_is : dir ≡ dir_word j.dir
-  pub order_is : order ≡ order_word j.order
+  pub fields : fields_of line
+      ≡ cipher_word j.cipher ∷ dir_word j.dir ∷ order_word j.order ∷ key ∷ iv ∷ decimal j.cipher_off ∷ decimal j.cipher_len
+      ∷ auth_word j.auth ∷ auth_key ∷ aad ∷ decimal j.hash_off ∷ decimal j.hash_len ∷ decimal j.tag_len ∷ packet ∷ []
   pub key_is : SpellsBytes key j.key
   pub iv_is : SpellsBytes iv j.iv
-  pub cipher_off_is : SpellsNumber cipher_off j.cipher_off
-  pub cipher_len_is : SpellsNumber cipher_len j.cipher_len
-  pub auth_is : auth ≡ auth_word j.auth
   pub auth_key_is : SpellsBytes auth_key j.auth_key
   pub aad_is : SpellsBytes aad j.aad
-  pub hash_off_is : SpellsNumber hash_off j.hash_off
-  pub hash_len_is : SpellsNumber hash_len j.hash_len
-  pub tag_len_is : SpellsNumber tag_len j.tag_len × (j.tag_len < 256)
   pub packet_is : SpellsBytes packet j.packet
+  pub cipher_off_fits : j.cipher_off < 10 ^ 5
+  pub cipher_len_fits : j.cipher_len < 10 ^ 5
+  pub hash_off_fits : j.hash_off < 10 ^ 5
+  pub hash_len_fits : j.hash_len < 10 ^ 5
+  pub tag_len_fits : j.tag_len < 256
