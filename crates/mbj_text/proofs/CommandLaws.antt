@@ -75,15 +75,15 @@ first_refused : (s w : ℕ) (line : List ℕ) (texts : List (List ℕ)) → fiel
 unfolding command_of
 first_refused s w line [] is not = absurd (cut_some _ line is)
 first_refused s w line (t ∷ ts) is not =
-    let none : verb_of t ≡ None = no_verb t (λ v same. not (v, ts, is ∙ ap (λ (t : List ℕ). t ∷ ts) same)) in
+    let none : verb_of t ≡ None = no_verb t (λ v same. not (record { word = v; texts = ts; fields = is ∙ ap (λ (t : List ℕ). t ∷ ts) same })) in
     ap (read_fields s w) is ∙ ap (read_behind s w ts) none
 
 -- a fault is found
 pub command_fault_back : (s w : ℕ) (line : List ℕ) (f : ℕ) → IsBadCommand s w line f → command_of s w line ≡ Err f
 command_fault_back s w line f (inl (first, not)) = first_refused s w line (fields_of line) refl not ∙ ap (λ (k : ℕ). Err k) (sym first)
-command_fault_back s w line f (inr b) =
-    behind_verb s w line b.word b.texts b.fields
-    ∙ all_fault_back 1 (number_forms s w b.word) b.texts f (command_with s w b.word) b.fault
+command_fault_back s w line f (inr (begins, fault)) =
+    behind_verb s w line begins.word begins.texts begins.fields
+    ∙ all_fault_back 1 (number_forms s w begins.word) begins.texts f (command_with s w begins.word) fault
 
 -- what a line is
 abbrev CommandFate : ℕ → ℕ → List ℕ → Type 0
@@ -99,16 +99,16 @@ command_total s w line = by_fields (fields_of line) refl
       inl (
         refl,
         λ has.
-            let heads : t ∷ ts ≡ verb_word has.0 ∷ has.1 = sym is ∙ has.2 in
-            let same : t ≡ verb_word has.0 = cc in
-            let found = sym e ∙ verb_back t has.0 same in cc,
+            let heads : t ∷ ts ≡ verb_word has.word ∷ has.texts = sym is ∙ has.fields in
+            let same : t ≡ verb_word has.word = cc in
+            let found = sym e ∙ verb_back t has.word same in cc,
       ),
     )
     by_verb t ts is (Some v) e =
         let begins : fields_of line ≡ verb_word v ∷ ts = is ∙ ap (λ (t : List ℕ). t ∷ ts) (verb_read t v e) in
         elim (all_total 2 (number_forms s w v) ts) [
           | inl good ↦ inl (command_with s w v good.0, spelled s w line v ts good.0 begins good.1)
-          | inr bad ↦ inr (bad.0, inr (record { word = v; texts = ts; fields = begins; fault = bad.1 }))
+          | inr bad ↦ inr (bad.0, inr (record { word = v; texts = ts; fields = begins }, bad.1))
         ]
 
     by_fields : (texts : List (List ℕ)) → fields_of line ≡ texts → CommandFate s w line

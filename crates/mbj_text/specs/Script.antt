@@ -38,21 +38,18 @@ pub record SpellsCommand (submitters workers : ℕ) (line : List ℕ) (c : Cmd) 
   pub fields : fields_of line ≡ verb_word (verb_of_command c) ∷ texts
   pub numbers_are : SpellsFields (number_forms submitters workers (verb_of_command c)) texts (numbers submitters workers c)
 
--- the line begins with the word of a verb, and then its fields don't spell the verb's numbers; its fault is field f:
--- 0 where it hasn't as many fields as the verb asks, else the number of the first one that isn't a number below its limit
-pub record HasBadNumbers (submitters workers : ℕ) (line : List ℕ) (f : ℕ) : Type 0 where
+-- the line begins with the word of a verb, and these fields are behind it
+pub record HasVerb (line : List ℕ) : Type 0 where
   pub word : Verb
   pub texts : List (List ℕ)
   pub fields : fields_of line ≡ verb_word word ∷ texts
-  pub fault : HasFault 2 (number_forms submitters workers word) texts f
 
--- the line begins with the word of a verb
-abbrev pub HasVerb : List ℕ → Type 0
-HasVerb line = (v : Verb) × (texts : List (List ℕ)) × (fields_of line ≡ verb_word v ∷ texts)
-
--- the line spells no command, and its fault is field f: 1 where its first field is no verb's word
+-- the line spells no command, and its fault is field f: 1 where its first field is no verb's word, else 0 where it hasn't
+-- as many fields as the verb asks, else the number of the first one that isn't a number below its limit
 abbrev pub IsBadCommand : ℕ → ℕ → List ℕ → ℕ → Type 0
-IsBadCommand submitters workers line f = ((f ≡ 1) × ¬ (HasVerb line)) ⊎ HasBadNumbers submitters workers line f
+IsBadCommand submitters workers line f =
+    ((f ≡ 1) × ¬ (HasVerb line))
+    ⊎ ((begins : HasVerb line) × HasFault 2 (number_forms submitters workers begins.word) begins.texts f)
 
 -- ---- scripts
 
