@@ -49,9 +49,9 @@ replay_tells s w bytes = record { good = good; bad = bad; over = over }
 
     bad : (line field : ℕ) → BadReplay s w bytes line field → replay_outcome s w bytes ≡ Err (text_fault.Line line field)
     bad line field (inl b) = ap (first_jobs (script_outcome s w (script_part (kept_lines bytes)))) ((lines_tell (job_part (kept_lines bytes))).bad line field b)
-    bad line field (inr b) =
-        ap (first_jobs (script_outcome s w (script_part (kept_lines bytes)))) ((lines_tell (job_part (kept_lines bytes))).good b.jobs b.jobs_are)
-        ∙ ap (λ o. with_jobs o b.jobs) (bad_script_gives s w (script_part (kept_lines bytes)) line field b.bad)
+    bad line field (inr (jobs, jobs_are, b)) =
+        ap (first_jobs (script_outcome s w (script_part (kept_lines bytes)))) ((lines_tell (job_part (kept_lines bytes))).good jobs jobs_are)
+        ∙ ap (λ o. with_jobs o jobs) (bad_script_gives s w (script_part (kept_lines bytes)) line field b)
 
     over : (line : ℕ) → OverReplay bytes line → replay_outcome s w bytes ≡ Err (text_fault.Limit line)
     over line o = ap (first_jobs (script_outcome s w (script_part (kept_lines bytes)))) ((lines_tell (job_part (kept_lines bytes))).over line o)
@@ -63,7 +63,7 @@ replay_fate : (s w : ℕ) (bytes : List ℕ) → Fate (Spelled s w bytes) (BadRe
 replay_fate s w bytes = elim (fate_of_lines (job_part (kept_lines bytes))) [
   | inl good ↦ elim (script_fate s w (script_part (kept_lines bytes))) [
     | inl commands ↦ inl ((good.0, commands.0), record { jobs_are = good.1; commands_are = commands.1 })
-    | inr bad ↦ inr (inl (bad.0, bad.1, inr (record { jobs = good.0; jobs_are = good.1; bad = bad.2 })))
+    | inr bad ↦ inr (inl (bad.0, bad.1, inr (good.0, good.1, bad.2)))
   ]
   | inr other ↦ elim other [
     | inl bad ↦ inr (inl (bad.0, bad.1, inl bad.2))

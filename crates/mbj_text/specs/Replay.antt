@@ -15,17 +15,13 @@ pub record ReadsReplay (submitters workers : ℕ) (bytes : List ℕ) (jobs : Lis
   pub jobs_are : ReadsLines (job_part (kept_lines bytes)) jobs
   pub commands_are : SpellScript submitters workers (script_part (kept_lines bytes)) commands
 
--- the job lines spell jobs, and then a script line is bad
-pub record BadBehindJobs (submitters workers : ℕ) (bytes : List ℕ) (line field : ℕ) : Type 0 where
-  pub jobs : List Job
-  pub jobs_are : ReadsLines (job_part (kept_lines bytes)) jobs
-  pub bad : BadScript submitters workers (script_part (kept_lines bytes)) line field
-
--- the line with this number is the first bad one: a job line among the first JOB_LIMIT, or else a script line;
--- the field is its fault
+-- the line with this number is the first bad one: a job line among the first JOB_LIMIT, or else, where the job lines
+-- spell jobs, a script line; the field is its fault
 abbrev pub BadReplay : ℕ → ℕ → List ℕ → ℕ → ℕ → Type 0
 BadReplay submitters workers bytes line field =
-    BadLines (job_part (kept_lines bytes)) line field ⊎ BadBehindJobs submitters workers bytes line field
+    let lines = kept_lines bytes in
+    BadLines (job_part lines) line field
+    ⊎ ((jobs : List Job) × ReadsLines (job_part lines) jobs × BadScript submitters workers (script_part lines) line field)
 
 -- the first JOB_LIMIT job lines spell jobs, and the line with this number is one more
 abbrev pub OverReplay : List ℕ → ℕ → Type 0
