@@ -3,7 +3,8 @@ use Rattle.std.proofs.Common.{◌≡◌, ◌⊎◌, ◌∙◌, inl, inr, ap, sym
 use Rattle.std.specs.Prelude.{IfOk}
 use Rattle.mbj_text.specs.declared.fault.TextFault.{TextFault}
 use Rattle.mbj_text.specs.declared.fault.TextFault.TheVariants as text_fault
-use Rattle.mbj_text.specs.Answer.{Answers, IsOkOnly, IsErrOnly, ExactlyOne, AtMostOne, IsOneOf}
+use Rattle.mbj_text.specs.Answer.{IsOkOnly, IsErrOnly, ExactlyOne, AtMostOne, IsOneOf}
+use Rattle.mbj_text.specs.Inside.Reading.{Answers}
 
 -- each relation says what the outcome is
 pub record Tells {V : Type 0} (Good : V → Type 0) (Bad : ℕ → ℕ → Type 0) (Over : ℕ → Type 0) (outcome : Result V TextFault) : Type 0 where

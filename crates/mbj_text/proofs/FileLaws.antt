@@ -14,9 +14,8 @@ use Rattle.std.specs.declared.alloc.Global.{Global}
 use Rattle.mbj_text.specs.Cut.{Numbered, kept_lines}
 use Rattle.mbj_text.specs.Spelling.{Spells, IsBadLine}
 use Rattle.mbj_text.specs.Stops.{SpellEach}
-use Rattle.mbj_text.specs.Answer.{Answers}
 use Rattle.mbj_text.specs.File.{ReadsLines, BadLines, OverLines, Reads, Bad, Over, EachFileIsOne}
-use Rattle.mbj_text.specs.Inside.Reading.{job_of, Fails, fault_at}
+use Rattle.mbj_text.specs.Inside.Reading.{Answers, job_of, Fails, fault_at}
 use Rattle.mbj_text.proofs.LineLaws.{job_back, fault_back, fault_read, line_total}
 use Rattle.mbj_text.proofs.AnswerLaws.{Tells, Fate, is_one, good_not_bad, good_not_over, bad_not_over as bad_not_over_by}
 

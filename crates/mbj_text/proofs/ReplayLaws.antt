@@ -7,8 +7,9 @@ use Rattle.mbj_text.specs.declared.command.Cmd.{Cmd}
 use Rattle.mbj_text.specs.declared.fault.TextFault.{TextFault}
 use Rattle.mbj_text.specs.declared.fault.TextFault.TheVariants as text_fault
 use Rattle.mbj_text.specs.Cut.{kept_lines, job_part, script_part}
-use Rattle.mbj_text.specs.Answer.{Answers, IsOkOnly}
+use Rattle.mbj_text.specs.Answer.{IsOkOnly}
 use Rattle.mbj_text.specs.Replay.{ReadsReplay, BadReplay, OverReplay, EachReplayIsOne}
+use Rattle.mbj_text.specs.Inside.Reading.{Answers}
 use Rattle.mbj_text.proofs.AnswerLaws.{Tells, Fate, is_one, good_not_bad, good_not_over, bad_not_over, good_only}
 use Rattle.mbj_text.proofs.FileLaws.{jobs_outcome, lines_tell, fate_of_lines}
 use Rattle.mbj_text.proofs.ScriptLaws.{script_outcome, script_gives, bad_script_gives, script_fate}

@@ -9,9 +9,8 @@ use Rattle.mbj_text.specs.declared.fault.LineFault.TheVariants as line_fault
 use Rattle.mbj_text.specs.declared.fault.TextFault.{TextFault}
 use Rattle.mbj_text.specs.declared.fault.TextFault.TheVariants as text_fault
 use Rattle.mbj_text.specs.Cut.{Numbered}
-use Rattle.mbj_text.specs.Answer.{Answers}
 use Rattle.mbj_text.specs.Script.{SpellsCommand, SpellScript, BadScript, IsBadCommand}
-use Rattle.mbj_text.specs.Inside.Reading.{command_of, Fails, fault_at}
+use Rattle.mbj_text.specs.Inside.Reading.{Answers, command_of, Fails, fault_at}
 use Rattle.mbj_text.proofs.CommandLaws.{command_back, command_fault_back, command_fault_read, command_total}
 
 -- ---- line after line, for so many submitters and workers

@@ -1,14 +1,7 @@
 -- What a reader of files may answer, and that of three relations exactly one holds, in one way.
-use Rattle.std.specs.Prelude.{◌≡◌, ◌⊎◌, ℕ, Ok, Err, Result, MatchResult}
+use Rattle.std.specs.Prelude.{◌≡◌, ◌⊎◌, ℕ, Err, Result, MatchResult}
 use Rattle.mbj_text.specs.declared.fault.TextFault.{TextFault}
 use Rattle.mbj_text.specs.declared.fault.TextFault.TheVariants as text_fault
-
--- the answer is right: what the file spells, or where it is bad or too long, or memory ran out
-abbrev pub Answers : {A : Type 0} → (A → Type 0) → (ℕ → ℕ → Type 0) → (ℕ → Type 0) → Result A TextFault → Type 0
-Answers Good Bad Over (Ok x) = Good x
-Answers Good Bad Over (Err (text_fault.Line line field)) = Bad line field
-Answers Good Bad Over (Err (text_fault.Limit line)) = Over line
-Answers Good Bad Over (Err text_fault.Memory) = Unit {0}
 
 -- the answer is Ok with such a value, unless memory ran out
 abbrev pub IsOkOnly : {X : Type 0} → Result X TextFault → (X → Type 0) → Type 0

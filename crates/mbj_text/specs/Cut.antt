@@ -1,5 +1,5 @@
 -- A file as lines, and a line as fields.
-use Rattle.std.specs.Prelude.{ℕ, ◌+◌, ◌==◌, Bool, true, List, [], ◌∷◌, Option, Some, None, if◌then◌else◌, codes}
+use Rattle.std.specs.Prelude.{ℕ, ◌+◌, ◌==◌, Bool, true, List, [], ◌∷◌, if◌then◌else◌, codes}
 use Rattle.std.specs.List.{slice_split, before_first, after_first}
 use Rattle.std.specs.Str.{bytes_eq}
 use Rattle.std.specs.Str.Lines.{strip_carriage_return}
@@ -17,11 +17,6 @@ number_sign = 35
 -- the parts between the bytes that are mark: one more than there are such bytes
 unfoldable pub cut : ℕ → List ℕ → List (List ℕ)
 cut mark text = slice_split (λ b. b == mark) text
-
--- the parts of what is left of a text, where anything is
-abbrev pub parts_left : ℕ → Option (List ℕ) → List (List ℕ)
-parts_left mark None = []
-parts_left mark (Some text) = cut mark text
 
 -- the parts without an empty last one
 abbrev pub without_empty_end : List (List ℕ) → List (List ℕ)

@@ -1,8 +1,9 @@
 ghost use Rattle.std.specs.Prelude.{◌≡◌, ◌≤◌, ℕ, List, Err, IfOk, length};
 ghost use Rattle.mbj_types.specs.declared.job.Job.{Job};
 ghost use Rattle.mbj_text.specs.declared.limits.TheConstants.{INPUT_LIMIT};
-ghost use Rattle.mbj_text.specs.Answer.{Answers, IsOkOnly, IsErrOnly};
+ghost use Rattle.mbj_text.specs.Answer.{IsOkOnly, IsErrOnly};
 ghost use Rattle.mbj_text.specs.File.{Reads, Bad, Over, EachFileIsOne, TableAndNamesAgree};
+ghost use Rattle.mbj_text.specs.Inside.Reading.{Answers};
 
 use crate::fault::TextFault;
 use crate::jobs::read_jobs;

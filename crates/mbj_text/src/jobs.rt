@@ -1,7 +1,6 @@
 ghost use Rattle.std.specs.Prelude.{◌≡◌, OnOk};
-ghost use Rattle.mbj_text.specs.Answer.{Answers};
 ghost use Rattle.mbj_text.specs.File.{ReadsLines, BadLines, OverLines};
-ghost use Rattle.mbj_text.specs.Inside.Reading.{part_before, part_behind};
+ghost use Rattle.mbj_text.specs.Inside.Reading.{Answers, part_before, part_behind};
 
 use crate::fault::TextFault;
 use crate::job::read_job;

@@ -2,8 +2,9 @@ ghost use Rattle.std.specs.Prelude.{◌≡◌, ◌≤◌, ℕ, List, Err, IfOk, 
 ghost use Rattle.mbj_types.specs.declared.job.Job.{Job};
 ghost use Rattle.mbj_text.specs.declared.command.Cmd.{Cmd};
 ghost use Rattle.mbj_text.specs.declared.limits.TheConstants.{INPUT_LIMIT};
-ghost use Rattle.mbj_text.specs.Answer.{Answers, IsOkOnly, IsErrOnly};
+ghost use Rattle.mbj_text.specs.Answer.{IsOkOnly, IsErrOnly};
 ghost use Rattle.mbj_text.specs.Replay.{ReadsReplay, BadReplay, OverReplay, EachReplayIsOne};
+ghost use Rattle.mbj_text.specs.Inside.Reading.{Answers};
 
 use crate::command::Cmd;
 use crate::fault::TextFault;

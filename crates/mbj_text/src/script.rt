@@ -1,7 +1,6 @@
 ghost use Rattle.std.specs.Prelude.{◌≡◌, ◌+◌, ℕ, Ok, length};
-ghost use Rattle.mbj_text.specs.Answer.{Answers};
 ghost use Rattle.mbj_text.specs.Script.{SpellScript, BadScript, number_forms};
-ghost use Rattle.mbj_text.specs.Inside.Reading.{Gives, command_of, command_with, fields_from};
+ghost use Rattle.mbj_text.specs.Inside.Reading.{Answers, Gives, command_of, command_with, fields_from};
 
 use crate::command::{Cmd, Verb};
 use crate::fault::{LineFault, TextFault};

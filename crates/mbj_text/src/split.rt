@@ -1,6 +1,7 @@
 ghost use Rattle.std.specs.Prelude.{◌≡◌, ◌==◌, ◌<◌, ◌∷◌, length, position, option_copied, IfSome};
 ghost use Rattle.std.specs.Iterator.{YieldsFirstRef, item_count};
-ghost use Rattle.mbj_text.specs.Cut.{cut, parts_left};
+ghost use Rattle.mbj_text.specs.Cut.{cut};
+ghost use Rattle.mbj_text.specs.Inside.Reading.{parts_left};
 
 use std::marker::Model;
 
@@ -13,7 +14,7 @@ pub(crate) struct Split<'a> {
 
 impl<'a> Model for Split<'a> {
     ghost use Rattle.std.specs.Prelude.{List, ℕ, option_copied};
-    ghost use Rattle.mbj_text.specs.Cut.{parts_left};
+    ghost use Rattle.mbj_text.specs.Inside.Reading.{parts_left};
 
     ghost Value = { List (List ℕ) };
 

@@ -1,4 +1,4 @@
--- The reader of a line as a function, from left to right. Private functions alone promise it.
+-- The reader of a line as a function, from left to right, and what answers are right. Private functions alone promise it.
 use Rattle.std.specs.Prelude.{◌≡◌, ◌==◌, ◌&&◌, ◌||◌, ◌+◌, ◌-◌, ◌*◌, ℕ, Bool, false, not, List, [], ◌∷◌, length, map, Ok, Err, Result, Option, Some, None, nat_le, nat_lt, if◌then◌else◌, codes, slice_index, MatchOption}
 use denote.Ref.{Bor}
 use Rattle.std.specs.Char.{is_ascii_digit}
@@ -26,7 +26,7 @@ use Rattle.mbj_text.specs.declared.fault.LineFault.TheVariants as line_fault
 use Rattle.mbj_text.specs.declared.fault.TextFault.{TextFault}
 use Rattle.mbj_text.specs.declared.fault.TextFault.TheVariants as text_fault
 use Rattle.mbj_text.specs.Words.{cipher_word, dir_word, order_word, auth_word, verb_word}
-use Rattle.mbj_text.specs.Cut.{Numbered, is_mark, job_part, script_part}
+use Rattle.mbj_text.specs.Cut.{Numbered, cut, is_mark, job_part, script_part}
 use Rattle.mbj_text.specs.Script.{number_forms}
 use Rattle.mbj_text.specs.Spelling.{Form, CipherWord, DirWord, OrderWord, AuthWord, Hex, Number, Below, Value, Values, forms, fields_of}
 
@@ -99,6 +99,11 @@ value_of Number = number_of
 value_of (Below limit) = below_of limit
 
 -- ---- lines
+
+-- the parts of what is left of a text, where anything is
+abbrev pub parts_left : ℕ → Option (List ℕ) → List (List ℕ)
+parts_left mark None = []
+parts_left mark (Some text) = cut mark text
 
 -- the ? of the logic; an error is the number of a field
 infixl 10 ◌>>=◌
@@ -190,6 +195,15 @@ ReadsNext read old (Err e) new = Fails e (next_of read old)
 abbrev pub fault_at : ℕ → LineFault → TextFault
 fault_at n (line_fault.Field f) = text_fault.Line n f
 fault_at n line_fault.Memory = text_fault.Memory
+
+-- ---- answers
+
+-- the answer is right: what the file spells, or where it is bad or too long, or memory ran out
+abbrev pub Answers : {A : Type 0} → (A → Type 0) → (ℕ → ℕ → Type 0) → (ℕ → Type 0) → Result A TextFault → Type 0
+Answers Good Bad Over (Ok x) = Good x
+Answers Good Bad Over (Err (text_fault.Line line field)) = Bad line field
+Answers Good Bad Over (Err (text_fault.Limit line)) = Over line
+Answers Good Bad Over (Err text_fault.Memory) = Unit {0}
 
 -- ---- the parts of a file
 
