@@ -1,8 +1,7 @@
 -- Reading job lines one after the other, and that each file is exactly one of good, bad and too long.
-use Rattle.std.proofs.Common.{◌≡◌, ◌≢◌, ◌∙◌, ◌==◌, ◌≤◌, ◌+◌, ◌++◌, inl, inr, ap, sym, subst, refl, ℕ, Bool, false, cond, List, [], ◌∷◌, Result, Ok, Err, length, arith, append_assoc, append-nil, length-append, eq-eqb}
+use Rattle.std.proofs.Common.{◌≡◌, ◌≢◌, ◌∙◌, ◌==◌, ◌≤◌, ◌+◌, ◌++◌, inl, inr, ap, refl, ℕ, Bool, false, List, [], ◌∷◌, Result, Ok, Err, length, arith, length-append, eq-eqb}
 use Rattle.std.proofs.lemmas.Bool.{ne_eqb}
 use Rattle.std.proofs.lemmas.Bool.Decides.{eqb_tells}
-use Rattle.std.proofs.lemmas.Slice.Zip.{all_zipped_more}
 use Rattle.mbj_types.specs.declared.job.Job.{Job}
 use Rattle.mbj_text.specs.declared.limits.TheConstants.{JOB_LIMIT}
 use Rattle.mbj_text.specs.declared.fault.LineFault.{LineFault}
@@ -13,19 +12,17 @@ use Rattle.std.specs.declared.vec.Vec.{Vec}
 use Rattle.std.specs.declared.alloc.Global.{Global}
 use Rattle.mbj_text.specs.Cut.{Numbered, kept_lines}
 use Rattle.mbj_text.specs.Spelling.{Spells, IsBadLine}
-use Rattle.mbj_text.specs.Stops.{SpellEach}
 use Rattle.mbj_text.specs.File.{ReadsLines, BadLines, OverLines, Reads, Bad, Over, EachFileIsOne}
 use Rattle.mbj_text.specs.Inside.Reading.{Answers, job_of, Fails, fault_at}
+use Rattle.mbj_text.proofs.EachLine.{ReadSoFar, none_read, each_read, more_read, stops_next, outcome, step, Fit, good_give, stop_gives}
 use Rattle.mbj_text.proofs.LineLaws.{job_back, fault_back, fault_read, line_total}
 use Rattle.mbj_text.proofs.AnswerLaws.{Tells, Fate, is_one, good_not_bad, good_not_over, bad_not_over as bad_not_over_by}
 
 -- ---- line after line
 
--- the job lines before those that are left spell the jobs
-pub record SoFar (all : List Numbered) (left : List Numbered) (jobs : List Job) : Type 0 where
-  pub before : List Numbered
-  pub cut_so : all ≡ before ++ left
-  pub good : SpellEach Spells before jobs
+-- the job lines before those that are left spell the jobs, and these are no more than there may be
+pub record SoFar (all left : List Numbered) (jobs : List Job) : Type 0 where
+  pub read : ReadSoFar Spells all left jobs
   pub count : length jobs ≤ JOB_LIMIT
 
 -- the answer is right for these lines
@@ -33,128 +30,68 @@ abbrev pub AnswersLines : List Numbered → Result (Vec Job Global) TextFault �
 AnswersLines all r = Answers (λ v. ReadsLines all v.items) (BadLines all) (OverLines all) r
 
 -- no line is read yet
-pub at_start : (all : List Numbered) → SoFar all (all) []
-at_start all = record { before = []; cut_so = refl; good = tt; count = omega arith }
-
--- one more line is good
-pub one_more : (all : List Numbered) (left rest : List Numbered) (jobs : List Job) (n : ℕ) (text : List ℕ) (job : Job) → SoFar all left jobs
-    → left ≡ (n, text) ∷ rest → length jobs ≢ JOB_LIMIT → Spells text job → SoFar all rest (jobs ++ job ∷ [])
-one_more all left rest jobs n text job s next room spelled = record {
-  before = s.before ++ (n, text) ∷ [];
-  cut_so = s.cut_so ∙ ap (λ (l : List Numbered). s.before ++ l) next ∙ sym (append_assoc s.before ((n, text) ∷ []) rest);
-  good = all_zipped_more (λ line job. Spells line.1 job) s.before jobs (n, text) job s.good spelled;
-  count = omega (arith, s.count, room, length-append jobs (job ∷ []));
-}
+pub at_start : (all : List Numbered) → SoFar all all []
+at_start all = record { read = none_read Spells all; count = omega arith }
 
 -- no line is left
-pub all_read : (all : List Numbered) (left : List Numbered) (jobs : List Job) → SoFar all left jobs → left ≡ [] → ReadsLines all jobs
-all_read all left jobs s none =
-    let whole : s.before ≡ all = sym (s.cut_so ∙ ap (λ (l : List Numbered). s.before ++ l) none ∙ append-nil s.before) in
-    let P : List Numbered → Type 0 = λ l. SpellEach Spells l jobs in
-    record { count = s.count; each = subst P whole s.good }
+pub all_read : (all left : List Numbered) (jobs : List Job) → SoFar all left jobs → left ≡ [] → ReadsLines all jobs
+all_read all left jobs s none = record { count = s.count; each = each_read Spells all left jobs s.read none }
 
--- the next line is bad
-pub next_is_bad : (all : List Numbered) (left rest : List Numbered) (jobs : List Job) (n : ℕ) (text : List ℕ) (f : ℕ) → SoFar all left jobs
-    → left ≡ (n, text) ∷ rest → length jobs ≢ JOB_LIMIT → IsBadLine text f → BadLines all n f
-next_is_bad all left rest jobs n text f s next room bad = record {
-  before = s.before;
-  text = text;
-  after = rest;
-  values = jobs;
-  cut_so = s.cut_so ∙ ap (λ (l : List Numbered). s.before ++ l) next;
-  good = s.good;
-  why = (omega (arith, s.count, room), bad);
-}
+module _ (all left rest : List Numbered) (jobs : List Job) (n : ℕ) (text : List ℕ) (s : SoFar all left jobs) (next : left ≡ (n, text) ∷ rest) where
+  -- one more line is good
+  pub one_more : length jobs ≢ JOB_LIMIT → (job : Job) → Spells text job → SoFar all rest (jobs ++ job ∷ [])
+  one_more room job spelled = record {
+    read = more_read Spells all left jobs s.read rest n text next job spelled;
+    count = omega (arith, s.count, room, length-append jobs (job ∷ []));
+  }
 
--- the next line's fault is that of the file
-pub stops : (all : List Numbered) (left rest : List Numbered) (jobs : List Job) (n : ℕ) (text : List ℕ) (fault : LineFault) → SoFar all left jobs
-    → left ≡ (n, text) ∷ rest → length jobs ≢ JOB_LIMIT → Fails fault (job_of text) → AnswersLines all (Err (fault_at n fault))
-stops all left rest jobs n text (line_fault.Field f) s next room fails = next_is_bad all left rest jobs n text f s next room (fault_read text f fails)
-stops all left rest jobs n text line_fault.Memory s next room fails = tt
+  -- the next line is bad
+  next_is_bad : length jobs ≢ JOB_LIMIT → (f : ℕ) → IsBadLine text f → BadLines all n f
+  next_is_bad room f bad = stops_next Spells all left jobs s.read rest n text next _ (omega (arith, s.count, room), bad)
 
--- the next line is one too many
-pub next_is_over : (all : List Numbered) (left rest : List Numbered) (jobs : List Job) (n : ℕ) (text : List ℕ) → SoFar all left jobs
-    → left ≡ (n, text) ∷ rest → length jobs ≡ JOB_LIMIT → OverLines all n
-next_is_over all left rest jobs n text s next full = record {
-  before = s.before;
-  text = text;
-  after = rest;
-  values = jobs;
-  cut_so = s.cut_so ∙ ap (λ (l : List Numbered). s.before ++ l) next;
-  good = s.good;
-  why = full;
-}
+  -- the next line's fault is that of the file
+  pub stops : length jobs ≢ JOB_LIMIT → (fault : LineFault) → Fails fault (job_of text) → AnswersLines all (Err (fault_at n fault))
+  stops room (line_fault.Field f) fails = next_is_bad room f (fault_read text f fails)
+  stops room line_fault.Memory fails = tt
 
--- ---- the three relations exclude one another: each is told by what this function gives
+  -- the next line is one too many
+  pub next_is_over : length jobs ≡ JOB_LIMIT → OverLines all n
+  next_is_over full = stops_next Spells all left jobs s.read rest n text next _ full
 
--- jobs, or a fault
-abbrev Outcome : Type 0
-Outcome = Result (List Job) TextFault
+-- ---- the three relations exclude one another: each is told by what the lines give
 
--- a line's job comes to those before, and a line's fault ends it
-abbrev after_line : List Job → Result Job ℕ → ℕ → (List Job → Outcome) → Outcome
-after_line before (Ok job) n next = next (before ++ job ∷ [])
-after_line before (Err f) n next = Err (text_fault.Line n f)
+-- no job fits behind as many as there may be
+abbrev is_full : List Job → Bool
+is_full jobs = length jobs == JOB_LIMIT
 
--- what the lines give behind the jobs before
-outcome : List Job → List Numbered → Outcome
-outcome before [] = Ok before
-outcome before (first ∷ rest) =
-    cond (length before == JOB_LIMIT) (Err (text_fault.Limit first.0)) (after_line before (job_of first.1) first.0 (λ jobs. outcome jobs rest))
-
--- the first line, given the test of the limit and what the line is read as
-abbrev step : List Job → Bool → Result Job ℕ → ℕ → List Numbered → Outcome
-step before full read n rest = cond full (Err (text_fault.Limit n)) (after_line before read n (λ jobs. outcome jobs rest))
-
--- a step is what the outcome does first
-one : (before : List Job) (p : Numbered) (rest : List Numbered) → outcome before (p ∷ rest) ≡ step before (length before == JOB_LIMIT) (job_of p.1) p.0 rest
-unfolding outcome
-one before p rest = refl
-
--- good lines come one after the other
-good_front : (before : List Job) (front : List Numbered) (jobs : List Job) (rest : List Numbered) → SpellEach Spells front jobs → length before + length jobs ≤ JOB_LIMIT
-    → outcome before (front ++ rest) ≡ outcome (before ++ jobs) rest
-good_front before [] [] rest s le = ap (λ (l : List Job). outcome l rest) (sym (append-nil before))
-good_front before [] (j ∷ js) rest s le = absurd s
-good_front before (p ∷ ps) [] rest s le = absurd s
-good_front before (p ∷ ps) (j ∷ js) rest (s, more) le =
-    one before p (ps ++ rest)
-    ∙ ap (λ b. step before b (job_of p.1) p.0 (ps ++ rest)) (ne_eqb (length before) JOB_LIMIT (λ full. omega (arith, full, le)))
-    ∙ ap (λ r. step before false r p.0 (ps ++ rest)) (job_back p.1 j s)
-    ∙ good_front (before ++ j ∷ []) ps js rest more (omega (arith, le, length-append before (j ∷ [])))
-    ∙ ap (λ (l : List Job). outcome l rest) (append_assoc before (j ∷ []) js)
-
--- good lines give their jobs
-reads_gives : (lines : List Numbered) (jobs : List Job) → ReadsLines lines jobs → outcome [] lines ≡ Ok jobs
-unfolding outcome
-reads_gives lines jobs r =
-    ap (outcome []) (sym (append-nil lines)) ∙ good_front [] lines jobs [] r.each (omega (arith, r.count))
-
--- a bad line gives its fault
-bad_gives : (lines : List Numbered) (line f : ℕ) → BadLines lines line f → outcome [] lines ≡ Err (text_fault.Line line f)
-bad_gives lines line f b =
-    ap (outcome []) b.cut_so
-    ∙ good_front [] b.before b.values ((line, b.text) ∷ b.after) b.good (omega (arith, b.why.0))
-    ∙ one b.values (line, b.text) b.after
-    ∙ ap (λ c. step b.values c (job_of b.text) line b.after) (ne_eqb (length b.values) JOB_LIMIT (λ full. omega (arith, full, b.why.0)))
-    ∙ ap (λ r. step b.values false r line b.after) (fault_back b.text f b.why.1)
-
--- a line too many gives the limit
-over_gives : (lines : List Numbered) (line : ℕ) → OverLines lines line → outcome [] lines ≡ Err (text_fault.Limit line)
-over_gives lines line o =
-    ap (outcome []) o.cut_so
-    ∙ good_front [] o.before o.values ((line, o.text) ∷ o.after) o.good (omega (arith, o.why))
-    ∙ one o.values (line, o.text) o.after
-    ∙ ap (λ c. step o.values c (job_of o.text) line o.after) (eq-eqb (length o.values) JOB_LIMIT o.why)
+-- jobs fit that are no more
+fit : (before jobs : List Job) → length before + length jobs ≤ JOB_LIMIT → Fit is_full job_of before jobs
+fit before [] le = tt
+fit before (j ∷ js) le =
+    (ne_eqb (length before) JOB_LIMIT (λ full. omega (arith, full, le)), fit (before ++ j ∷ []) js (omega (arith, le, length-append before (j ∷ []))))
 
 -- the outcome of job lines
 pub jobs_outcome : List Numbered → Result (List Job) TextFault
-jobs_outcome lines = outcome [] lines
+jobs_outcome lines = outcome is_full job_of [] lines
 
--- and it tells the three relations apart
+-- it tells the three relations apart
 pub lines_tell : (lines : List Numbered) → Tells (ReadsLines lines) (BadLines lines) (OverLines lines) (jobs_outcome lines)
 unfolding jobs_outcome
-lines_tell lines = record { good = reads_gives lines; bad = bad_gives lines; over = over_gives lines }
+lines_tell lines = record { good = good; bad = bad; over = over }
+  where
+    good : (jobs : List Job) → ReadsLines lines jobs → jobs_outcome lines ≡ Ok jobs
+    good jobs r = good_give is_full job_of Spells job_back lines jobs r.each (fit [] jobs (omega (arith, r.count)))
+
+    bad : (line f : ℕ) → BadLines lines line f → jobs_outcome lines ≡ Err (text_fault.Line line f)
+    bad line f b =
+        stop_gives is_full job_of Spells job_back _ lines line b (fit [] b.values (omega (arith, b.why.0)))
+        ∙ ap (λ c. step is_full job_of b.values c (job_of b.text) line b.after) (ne_eqb (length b.values) JOB_LIMIT (λ full. omega (arith, full, b.why.0)))
+        ∙ ap (λ r. step is_full job_of b.values false r line b.after) (fault_back b.text f b.why.1)
+
+    over : (line : ℕ) → OverLines lines line → jobs_outcome lines ≡ Err (text_fault.Limit line)
+    over line o =
+        stop_gives is_full job_of Spells job_back _ lines line o (fit [] o.values (omega (arith, o.why)))
+        ∙ ap (λ c. step is_full job_of o.values c (job_of o.text) line o.after) (eq-eqb (length o.values) JOB_LIMIT o.why)
 
 -- ---- one of the three holds
 
@@ -164,8 +101,8 @@ fate_from all [] jobs s = inl (jobs, all_read all [] jobs s refl)
 fate_from all ((n, text) ∷ rest) jobs s = elim (eqb_tells (length jobs) JOB_LIMIT) [
   | inl full ↦ inr (inr (n, next_is_over all ((n, text) ∷ rest) rest jobs n text s refl full.1))
   | inr room ↦ elim (line_total text) [
-    | inl good ↦ fate_from all rest (jobs ++ good.0 ∷ []) (one_more all ((n, text) ∷ rest) rest jobs n text good.0 s refl room.1 good.1)
-    | inr bad ↦ inr (inl (n, bad.0, next_is_bad all ((n, text) ∷ rest) rest jobs n text bad.0 s refl room.1 bad.1))
+    | inl good ↦ fate_from all rest (jobs ++ good.0 ∷ []) (one_more all ((n, text) ∷ rest) rest jobs n text s refl room.1 good.0 good.1)
+    | inr bad ↦ inr (inl (n, bad.0, next_is_bad all ((n, text) ∷ rest) rest jobs n text s refl room.1 bad.0 bad.1))
   ]
 ]
 

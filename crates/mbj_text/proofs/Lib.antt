@@ -5,6 +5,7 @@ pub mod ValueLaws
 pub mod LineLaws
 pub mod CommandLaws
 pub mod AnswerLaws
+pub mod EachLine
 pub mod FileLaws
 pub mod Names
 pub mod ScriptLaws
