@@ -18,17 +18,6 @@ number_sign = 35
 unfoldable pub cut : ℕ → List ℕ → List (List ℕ)
 cut mark text = slice_split (λ b. b == mark) text
 
--- the parts without an empty last one
-abbrev pub without_empty_end : List (List ℕ) → List (List ℕ)
-without_empty_end [] = []
-without_empty_end ([] ∷ []) = []
-without_empty_end (part ∷ []) = part ∷ []
-without_empty_end (part ∷ next ∷ parts) = part ∷ without_empty_end (next ∷ parts)
-
--- the lines of a file: it is cut at each LF, and a last part that isn't empty is a line too
-abbrev pub lines_of : List ℕ → List (List ℕ)
-lines_of bytes = without_empty_end (cut line_feed bytes)
-
 -- a line is skipped where it is empty or begins with `#`
 abbrev pub is_skipped : List ℕ → Bool
 is_skipped [] = true
@@ -45,9 +34,10 @@ kept_lines_from n (line ∷ lines) =
     let text = strip_carriage_return line in
     if is_skipped text then kept_lines_from (n + 1) lines else (n, text) ∷ kept_lines_from (n + 1) lines
 
--- the lines of a file that aren't skipped; lines are counted from 1
+-- the lines of a file that aren't skipped: it is cut at each LF, and lines are counted from 1;
+-- what is behind the last LF is a line too, which is skipped where it is empty
 abbrev pub kept_lines : List ℕ → List Numbered
-kept_lines bytes = kept_lines_from 1 (lines_of bytes)
+kept_lines bytes = kept_lines_from 1 (cut line_feed bytes)
 
 -- a line that is exactly `%` ends the job lines of a replay
 abbrev pub is_mark : List ℕ → Bool

@@ -51,7 +51,7 @@ impl<'a> Model for KeptLines<'a> {
 
 impl<'a> KeptLines<'a> {
     /// All lines of the file.
-    #[tactic(auto, using(crate::proofs::LineLemmas::skip_empty_end, crate::proofs::Cutting::cut_bound))]
+    #[tactic(auto, using(crate::proofs::Cutting::cut_bound))]
     pub(crate) fn of(bytes: &'a [u8]) -> KeptLines<'a>
         requires { length bytes.now ≤ INPUT_LIMIT }
         ensures { result ≡ kept_lines bytes.now }
