@@ -53,7 +53,7 @@ impl Crew {
 const JOBS: u32 = 16_000;
 
 /// The turns of which the fastest counts.
-pub const TURNS: u32 = 8;
+pub const TURNS: u32 = 24;
 
 /// The most parties of each kind.
 const MOST_PARTIES: u32 = 16;
