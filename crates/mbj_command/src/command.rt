@@ -1,6 +1,7 @@
-ghost use Rattle.std.specs.Prelude.{◌≡◌, ◌≢◌, ◌∷◌, [], IfErr, IfOk, IfSome, Some, None, map, option_and_then, option_map, string_bytes};
+ghost use Rattle.std.specs.Prelude.{◌≡◌, ◌≢◌, ℕ, IfErr, IfOk, IfSome, Some, None, map, option_and_then, option_map, string_bytes};
 ghost use Rattle.clap.specs.Words.{found_of, kind_of, rows_of, subcommand_rows_of};
-ghost use Rattle.mbj_command.specs.Command.{IsInRange, IsParties, IsText, command, entry_command, found_command, gen, numbers_of, replay, run, submitters, workers};
+ghost use Rattle.mbj_command.specs.Command.{IsInRange, IsParties, IsText, command, found_command, gen_of, with_parties};
+ghost use Rattle.mbj_command.specs.declared.command.Command.TheVariants.{Run, Replay};
 
 use crate::command_set::command_set;
 use crate::options::{JOBS, SEED, SUBMITTERS, WORKERS, number};
@@ -52,8 +53,8 @@ impl WordFault {
 
 /// How many submitters and workers were asked for.
 fn parties(matches: &ArgMatches<'_>) -> Option<(u32, u32)>
-    ensures value { option_map (λ p. p.0 ∷ p.1 ∷ []) result
-        ≡ numbers_of (rows_of (found_of matches.now)) (submitters ∷ workers ∷ []) }
+    ensures value { (c : ℕ → ℕ → Command) → option_map (λ p. c p.0 p.1) result
+        ≡ with_parties c (rows_of (found_of matches.now)) }
     ensures range { IfSome result (λ p. IsParties p.0 p.1) }
 {
     let submitters = number(matches, &SUBMITTERS)?;
@@ -62,7 +63,7 @@ fn parties(matches: &ArgMatches<'_>) -> Option<(u32, u32)>
 }
 
 fn run_of(matches: &ArgMatches<'_>) -> Option<Command>
-    ensures meaning { result ≡ entry_command (rows_of (found_of matches.now)) run }
+    ensures meaning { result ≡ with_parties Run (rows_of (found_of matches.now)) }
     ensures range { IfSome result IsInRange }
 {
     let (submitters, workers) = parties(matches)?;
@@ -73,7 +74,7 @@ fn run_of(matches: &ArgMatches<'_>) -> Option<Command>
 }
 
 fn gen_of(matches: &ArgMatches<'_>) -> Option<Command>
-    ensures meaning { result ≡ entry_command (rows_of (found_of matches.now)) gen }
+    ensures meaning { result ≡ gen_of (rows_of (found_of matches.now)) }
     ensures range { IfSome result IsInRange }
 {
     let seed = number(matches, &SEED)?;
@@ -88,7 +89,7 @@ fn gen_of(matches: &ArgMatches<'_>) -> Option<Command>
 }
 
 fn replay_of(matches: &ArgMatches<'_>) -> Option<Command>
-    ensures meaning { result ≡ entry_command (rows_of (found_of matches.now)) replay }
+    ensures meaning { result ≡ with_parties Replay (rows_of (found_of matches.now)) }
     ensures range { IfSome result IsInRange }
 {
     let (submitters, workers) = parties(matches)?;

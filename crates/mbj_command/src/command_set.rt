@@ -1,8 +1,8 @@
-ghost use Rattle.std.specs.Prelude.{◌≡◌, IfOk, Some, false};
+ghost use Rattle.std.specs.Prelude.{◌≡◌, ◌∷◌, [], IfOk, Some, codes, false};
 ghost use Rattle.clap.specs.Words.{app_of, shape_of};
 ghost use Rattle.clap.specs.Simple.{new_shape};
 ghost use Rattle.clap.specs.declared.builder.command.Command.TheViews.{out-Command as fields_of};
-ghost use Rattle.mbj_command.specs.Command.{app, gen, replay, run, shape, trace};
+ghost use Rattle.mbj_command.specs.Command.{app, jobs, seed, shape, submitters, workers};
 
 use crate::options::{JOBS, SEED, SUBMITTERS, WORKERS, argument};
 use clap::Command;
@@ -21,7 +21,7 @@ fn bare_command<'a>(alloc: Global, name: &'a str, about: &'a str, example: &'a s
 }
 
 fn run_command<'a>(alloc: Global) -> Result<Command<'a>, AllocError>
-    ensures shape { IfOk result (λ c. shape_of c ≡ shape run) }
+    ensures shape { IfOk result (λ c. shape_of c ≡ shape (codes "run") (submitters ∷ workers ∷ [])) }
     ensures local { IfOk result (λ c. (fields_of c).has_globals ≡ false) }
 {
     let about = "Reads a job file, does its jobs, and writes a result line for each, in file order";
@@ -32,7 +32,7 @@ fn run_command<'a>(alloc: Global) -> Result<Command<'a>, AllocError>
 }
 
 fn trace_command<'a>(alloc: Global) -> Command<'a>
-    ensures shape { shape_of result ≡ shape trace }
+    ensures shape { shape_of result ≡ shape (codes "trace") [] }
     ensures local { (fields_of result).has_globals ≡ false }
 {
     let about = "Reads a job file, drives one manager, and prints what each call gives back";
@@ -40,7 +40,7 @@ fn trace_command<'a>(alloc: Global) -> Command<'a>
 }
 
 fn gen_command<'a>(alloc: Global) -> Result<Command<'a>, AllocError>
-    ensures shape { IfOk result (λ c. shape_of c ≡ shape gen) }
+    ensures shape { IfOk result (λ c. shape_of c ≡ shape (codes "gen") (seed ∷ jobs ∷ submitters ∷ workers ∷ [])) }
     ensures local { IfOk result (λ c. (fields_of c).has_globals ≡ false) }
 {
     let about = "Reads nothing, makes jobs from a seed, does them, and prints a summary";
@@ -53,7 +53,7 @@ fn gen_command<'a>(alloc: Global) -> Result<Command<'a>, AllocError>
 }
 
 fn replay_command<'a>(alloc: Global) -> Result<Command<'a>, AllocError>
-    ensures shape { IfOk result (λ c. shape_of c ≡ shape replay) }
+    ensures shape { IfOk result (λ c. shape_of c ≡ shape (codes "replay") (submitters ∷ workers ∷ [])) }
     ensures local { IfOk result (λ c. (fields_of c).has_globals ≡ false) }
 {
     let about =

@@ -1,6 +1,6 @@
 ghost use Rattle.std.specs.Prelude.{◌≡◌, ◌≤◌, IfSome, false};
 ghost use Rattle.clap.specs.Words.{found_of, rows_of, rule_of};
-ghost use Rattle.mbj_command.specs.Command.{number_in, number_of, ranged, rule};
+ghost use Rattle.mbj_command.specs.Command.{number_in, number_of, rule};
 
 use clap::builder::ValueParser;
 use clap::{Arg, ArgAction, ArgMatches};
@@ -52,7 +52,7 @@ pub(crate) const JOBS: NumberOption = NumberOption {
 
 /// The option as clap is told it.
 pub(crate) fn argument<'a>(alloc: Global, option: &NumberOption) -> Arg<'a>
-    ensures rule { rule_of result ≡ rule (ranged option.now.name.now option.now.least option.now.greatest) }
+    ensures rule { rule_of result ≡ rule record { name = option.now.name.now; least = option.now.least; greatest = option.now.greatest } }
     ensures local { result.global ≡ false }
 {
     Arg::new(alloc, option.name)
@@ -84,7 +84,7 @@ fn parse_number(text: &str, least: u64, greatest: u64) -> Option<u64>
 /// The number that was given to the option.
 pub(crate) fn number(matches: &ArgMatches<'_>, option: &NumberOption) -> Option<u64>
     ensures value { result ≡ number_of (rows_of (found_of matches.now))
-        (ranged option.now.name.now option.now.least option.now.greatest) }
+        record { name = option.now.name.now; least = option.now.least; greatest = option.now.greatest } }
     ensures range { IfSome result (λ n. (option.now.least ≤ n) × (n ≤ option.now.greatest)) }
 {
     match matches.get_str(option.name) {
