@@ -1,5 +1,5 @@
 -- The lines of a summary. Numbers are in decimal, and each line ends with LF.
-use Rattle.std.specs.Prelude.{ℕ, List, ◌++◌, codes, decimal, flat_map}
+use Rattle.std.specs.Prelude.{ℕ, List, ◌++◌, codes, decimal}
 use Rattle.mbj_text.specs.Line.{shown}
 use Rattle.mbj_gen.specs.declared.line.SummaryLine.{SummaryLine}
 use Rattle.mbj_gen.specs.declared.line.SummaryLine.TheVariants as line
@@ -10,7 +10,3 @@ line_text (line.Accepted count) = codes "ok " ++ (decimal count ++ codes "\n")
 line_text (line.Invalid count) = codes "invalid " ++ (decimal count ++ codes "\n")
 line_text (line.Bytes count) = codes "bytes " ++ (decimal count ++ codes "\n")
 line_text (line.Sha256 digest) = codes "sha256 " ++ (shown digest ++ codes "\n")
-
--- the lines one after another
-abbrev pub lines_text : List SummaryLine → List ℕ
-lines_text lines = flat_map line_text lines

@@ -1,5 +1,5 @@
 -- What is told of generated jobs: how many there are, how they ended, and length and digest of their result text.
-use Rattle.std.specs.Prelude.{◌-◌, ℕ, zero, suc, List, [], ◌∷◌, length, map, count_by, Bool, true, false}
+use Rattle.std.specs.Prelude.{◌-◌, ℕ, zero, suc, List, [], ◌∷◌, length, map, flat_map, count_by, Bool, true, false}
 use Rattle.sha2.specs.Sha256.{sha256}
 use Rattle.mbj_types.specs.declared.job.Job.{Job}
 use Rattle.mbj_types.specs.declared.done.Done.{Done}
@@ -8,7 +8,7 @@ use Rattle.mbj_types.specs.declared.done.Status.TheVariants as status
 use Rattle.mbj_types.specs.Result.{result_of}
 use Rattle.mbj_text.specs.Line.{text}
 use Rattle.mbj_gen.specs.Generator.{job}
-use Rattle.mbj_gen.specs.Lines.{lines_text}
+use Rattle.mbj_gen.specs.Lines.{line_text}
 use Rattle.mbj_gen.specs.declared.line.SummaryLine.{SummaryLine}
 use Rattle.mbj_gen.specs.declared.line.SummaryLine.TheVariants as line
 
@@ -33,5 +33,6 @@ summary_lines results =
     ∷ line.Sha256 (sha256 (text results))
     ∷ []
 
+-- the lines of a summary of generated jobs, one after another
 abbrev pub gen_text : ℕ → ℕ → List ℕ
-gen_text seed count = lines_text (summary_lines (map result_of (generated count seed)))
+gen_text seed count = flat_map line_text (summary_lines (map result_of (generated count seed)))
