@@ -99,20 +99,13 @@ hashed k n j x =
     let len = shortened n key.1 in
     (record j { auth_key = key.0; hash_len = len.0 }, len.1)
 
--- a key of up to 255 bytes and a range
-unfoldable pub hmac : ℕ → Job → ℕ → Job × ℕ
-hmac n j x = let b = byte x in hashed b.0 n j b.1
-
--- up to 63 bytes of additional authenticated data
-unfoldable pub with_aad : Job → ℕ → Job × ℕ
-with_aad j x = let b = byte x in let aad = bytes (b.0 % 64) b.1 in (record j { aad = aad.0 }, aad.1)
-
+-- a job with an HMAC has a key of up to 255 bytes, one with GCM up to 63 bytes of additional authenticated data
 abbrev pub authenticated_by : Auth → ℕ → Job → ℕ → Job × ℕ
 authenticated_by auth.Null n j x = (j, x)
 authenticated_by auth.Cmac128 n j x = hashed 16 n j x
 authenticated_by auth.Cmac256 n j x = hashed 32 n j x
-authenticated_by auth.Gcm n j x = with_aad j x
-authenticated_by _ n j x = hmac n j x
+authenticated_by auth.Gcm n j x = let b = byte x in let aad = bytes (b.0 % 64) b.1 in (record j { aad = aad.0 }, aad.1)
+authenticated_by _ n j x = let b = byte x in hashed b.0 n j b.1
 
 -- ---- the job
 

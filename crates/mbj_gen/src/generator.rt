@@ -1,5 +1,5 @@
-ghost use Rattle.std.specs.Prelude.{◌≡◌, ◌≤◌, IfOk, OnErr, OnOk};
-ghost use Rattle.mbj_gen.specs.Generator.{authenticated_by, bare, cipher_length, ciphered_by, dir_of, hashed, hmac, iv_length, job, keyed, order_of, recipe_of, with_aad};
+ghost use Rattle.std.specs.Prelude.{◌≡◌, ◌≤◌, ℕ, IfOk, OnErr, OnOk};
+ghost use Rattle.mbj_gen.specs.Generator.{authenticated_by, bare, cipher_length, ciphered_by, dir_of, hashed, iv_length, job, keyed, order_of, recipe_of};
 
 use crate::draws::Draws;
 use mbj_types::{Auth, Cipher, Dir, Job, Order};
@@ -160,10 +160,9 @@ fn draw_hash(
 }
 
 /// Draws the additional authenticated data of a job with GCM.
-#[tactic(auto, unfolding(crate::specs::Generator::with_aad))]
 fn draw_aad(draws: &mut Draws, alloc: Global, job: &mut Job) -> Result<(), AllocError>
-    ensures { OnOk result ((job.new ≡ (with_aad job.old draws.old.state).0)
-        × (draws.new.state ≡ (with_aad job.old draws.old.state).1)) }
+    ensures { (n : ℕ) → OnOk result ((job.new ≡ (authenticated_by Auth.Gcm n job.old draws.old.state).0)
+        × (draws.new.state ≡ (authenticated_by Auth.Gcm n job.old draws.old.state).1)) }
 {
     let aad_bytes = (draws.byte() % AAD_BYTES) as usize;
     job.aad = draws.bytes(alloc, aad_bytes)?;
@@ -171,11 +170,10 @@ fn draw_aad(draws: &mut Draws, alloc: Global, job: &mut Job) -> Result<(), Alloc
 }
 
 /// Draws the key's length, the key and the range of a job with an HMAC.
-#[tactic(auto, unfolding(crate::specs::Generator::hmac))]
 fn draw_hmac(draws: &mut Draws, alloc: Global, length: u32, job: &mut Job) -> Result<(), AllocError>
     requires { 16 ≤ length }
-    ensures { OnOk result ((job.new ≡ (hmac length job.old draws.old.state).0)
-        × (draws.new.state ≡ (hmac length job.old draws.old.state).1)) }
+    ensures { OnOk result ((job.new ≡ (authenticated_by Auth.HmacSha1 length job.old draws.old.state).0)
+        × (draws.new.state ≡ (authenticated_by Auth.HmacSha1 length job.old draws.old.state).1)) }
 {
     let key_bytes = draws.byte() as usize;
     draw_hash(draws, alloc, key_bytes, length, job)
