@@ -1,12 +1,10 @@
 -- Jobs that are drawn from a state, a number of 64 bits. What draws answers what it drew, and the state after it.
-use Rattle.std.specs.Prelude.{◌+◌, ◌-◌, ◌*◌, ◌/◌, ◌%◌, ◌^◌, ◌==◌, ℕ, zero, suc, List, [], ◌∷◌, if◌then◌else◌, slice_get, unwrap_or}
+use Rattle.std.specs.Prelude.{◌+◌, ◌-◌, ◌*◌, ◌/◌, ◌%◌, ◌^◌, ◌==◌, ℕ, zero, suc, List, [], ◌∷◌, if◌then◌else◌, get_or}
 use Rattle.mbj_types.specs.Blank.{blank}
 use Rattle.mbj_types.specs.declared.job.Job.{Job}
 use Rattle.mbj_types.specs.declared.job.Cipher.{Cipher}
 use Rattle.mbj_types.specs.declared.job.Cipher.TheVariants as cipher
-use Rattle.mbj_types.specs.declared.job.Dir.{Dir}
 use Rattle.mbj_types.specs.declared.job.Dir.TheVariants.{Enc, Dec}
-use Rattle.mbj_types.specs.declared.job.Order.{Order}
 use Rattle.mbj_types.specs.declared.job.Order.TheVariants.{CipherHash, HashCipher}
 use Rattle.mbj_types.specs.declared.job.Auth.{Auth}
 use Rattle.mbj_types.specs.declared.job.Auth.TheVariants as auth
@@ -28,14 +26,8 @@ shortened n x = let b = byte x in (n - b.0 % 16, b.1)
 
 -- ---- the kinds of jobs
 
--- a cipher, an authentication, and the length of the tag; the last job's tag is longer than it may be
-abbrev pub Recipe : Type 0
-Recipe = Cipher × Auth × ℕ
-
-abbrev pub refused : Recipe
-refused = (cipher.Null, auth.Null, 1)
-
-abbrev pub recipes : List Recipe
+-- a cipher, an authentication, and the length of the tag
+abbrev pub recipes : List (Cipher × Auth × ℕ)
 recipes =
     (cipher.Null, auth.HmacSha1, 20)
     ∷ (cipher.Null, auth.HmacSha224, 28)
@@ -52,17 +44,11 @@ recipes =
     ∷ (cipher.Cbc, auth.Cmac128, 16)
     ∷ (cipher.Ctr, auth.HmacSha512, 64)
     ∷ (cipher.Ctr, auth.HmacSha384, 48)
-    ∷ refused
     ∷ []
 
-abbrev pub recipe_of : ℕ → Recipe
-recipe_of b = unwrap_or (slice_get recipes (b % 16)) refused
-
-abbrev pub dir_of : ℕ → Dir
-dir_of b = if b % 2 == 0 then Enc else Dec
-
-abbrev pub order_of : ℕ → Order
-order_of b = if b % 2 == 0 then CipherHash else HashCipher
+-- what a draw stands for: one in 16 stands for none of these, and asks for a tag that is longer than it may be
+abbrev pub recipe_of : ℕ → Cipher × Auth × ℕ
+recipe_of b = get_or recipes (b % 16) (cipher.Null, auth.Null, 1)
 
 -- ---- the parts of a job whose packet has n bytes
 
@@ -75,8 +61,7 @@ iv_length cipher.Gcm x = (12, x)
 abbrev pub cipher_length : Cipher → ℕ → ℕ → ℕ × ℕ
 cipher_length cipher.Null n x = (0, x)
 cipher_length cipher.Cbc n x = (n, x)
-cipher_length cipher.Ctr n x = shortened n x
-cipher_length cipher.Gcm n x = shortened n x
+cipher_length _ n x = shortened n x
 
 -- a key of 16, 24 or 32 bytes, an IV and a range
 unfoldable pub keyed : ℕ → Job → ℕ → Job × ℕ
@@ -118,8 +103,8 @@ bare x =
     let recipe = recipe_of kind.0 in (
       record blank {
         cipher = recipe.0;
-        dir = dir_of dir.0;
-        order = order_of order.0;
+        dir = if dir.0 % 2 == 0 then Enc else Dec;
+        order = if order.0 % 2 == 0 then CipherHash else HashCipher;
         auth = recipe.1;
         tag_len = recipe.2;
       },

@@ -1,5 +1,5 @@
-ghost use Rattle.std.specs.Prelude.{◌≡◌, ◌≤◌, ℕ, IfOk, OnErr, OnOk};
-ghost use Rattle.mbj_gen.specs.Generator.{authenticated_by, bare, cipher_length, ciphered_by, dir_of, hashed, iv_length, job, keyed, order_of, recipe_of};
+ghost use Rattle.std.specs.Prelude.{◌≡◌, ◌≤◌, ◌==◌, ◌%◌, ℕ, IfOk, OnErr, OnOk, if◌then◌else◌};
+ghost use Rattle.mbj_gen.specs.Generator.{authenticated_by, bare, cipher_length, ciphered_by, hashed, iv_length, job, keyed, recipe_of};
 
 use crate::draws::Draws;
 use mbj_types::{Auth, Cipher, Dir, Job, Order};
@@ -62,13 +62,13 @@ fn recipe_of(draw: u8) -> (Cipher, Auth, u8)
 }
 
 fn dir_of(draw: u8) -> Dir
-    ensures { result ≡ dir_of draw }
+    ensures { result ≡ (if draw % 2 == 0 then Dir.Enc else Dir.Dec) }
 {
     if draw % 2 == 0 { Dir::Enc } else { Dir::Dec }
 }
 
 fn order_of(draw: u8) -> Order
-    ensures { result ≡ order_of draw }
+    ensures { result ≡ (if draw % 2 == 0 then Order.CipherHash else Order.HashCipher) }
 {
     if draw % 2 == 0 {
         Order::CipherHash
