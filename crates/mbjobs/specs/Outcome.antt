@@ -46,24 +46,20 @@ AsksFor (Replay s w) bytes text = AsksReplay s w bytes text
 
 -- the line is the first bad one of the command's input, at this field
 abbrev pub IsBadFor : Command → List ℕ → ℕ → ℕ → Type 0
-IsBadFor (Run s w) bytes line field = Bad bytes line field
-IsBadFor Trace bytes line field = Bad bytes line field
 IsBadFor (Gen n m s w) bytes line field = ⊥
 IsBadFor (Replay s w) bytes line field = BadReplay s w bytes line field
+IsBadFor _ bytes line field = Bad bytes line field
 
 -- the line is one job line more than the command's input may have
 abbrev pub IsOverFor : Command → List ℕ → ℕ → Type 0
-IsOverFor (Run s w) bytes line = Over bytes line
-IsOverFor Trace bytes line = Over bytes line
 IsOverFor (Gen n m s w) bytes line = ⊥
 IsOverFor (Replay s w) bytes line = OverReplay bytes line
+IsOverFor _ bytes line = Over bytes line
 
 -- whether the command reads an input
 abbrev pub ReadsInput : Command → Type 0
-ReadsInput (Run s w) = Unit {0}
-ReadsInput Trace = Unit {0}
 ReadsInput (Gen n m s w) = ⊥
-ReadsInput (Replay s w) = Unit {0}
+ReadsInput _ = Unit {0}
 
 -- the input was read to its end and asks for a text, and that text was written so
 pub record Answers (c : Command) (input : Stream) (IsWritten : List ℕ → Type 0) : Type 0 where
@@ -75,10 +71,8 @@ pub record Answers (c : Command) (input : Stream) (IsWritten : List ℕ → Type
 
 -- a command that reads no input leaves it untouched
 abbrev pub Does : Command → Stream → (List ℕ → Type 0) → Type 0
-Does (Run s w) input IsWritten = Answers (Run s w) input IsWritten
-Does Trace input IsWritten = Answers Trace input IsWritten
 Does (Gen n m s w) input IsWritten = IsUntouched input × IsWritten (gen_text n m)
-Does (Replay s w) input IsWritten = Answers (Replay s w) input IsWritten
+Does c input IsWritten = Answers c input IsWritten
 
 -- the command did all that it is to do, and out gained exactly its text, without a fault
 abbrev pub Completes : Command → Stream → Stream → Type 0
