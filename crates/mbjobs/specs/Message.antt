@@ -16,6 +16,5 @@ abbrev pub status_of : Cause → ℕ
 status_of cause.Read = 3
 status_of cause.Write = 4
 status_of (cause.Line line field) = 5
-status_of cause.Bytes = 6
-status_of (cause.Jobs line) = 6
 status_of cause.Memory = 7
+status_of _ = 6
