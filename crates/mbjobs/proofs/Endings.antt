@@ -39,16 +39,16 @@ holds_of_told input told Holds tells r = subst Holds (read_is_told input told r.
 -- ---- an input is good, or has a bad line, or too many jobs
 
 asks_not_bad : (c : Command) (told text : List ℕ) (line field : ℕ) → AsksFor c told text → IsBadFor c told line field → ⊥
-asks_not_bad (Run s w) told text line field a b = reads_not_bad told a.jobs line field a.spelled b
-asks_not_bad Trace told text line field a b = reads_not_bad told a.jobs line field a.spelled b
+asks_not_bad (Run s w) told text line field a b = reads_not_bad told a.0 line field a.1 b
+asks_not_bad Trace told text line field a b = reads_not_bad told a.0 line field a.1 b
 asks_not_bad (Gen n m s w) told text line field a b = b
-asks_not_bad (Replay s w) told text line field a b = replay_not_bad s w told a.jobs a.commands line field a.spelled b
+asks_not_bad (Replay s w) told text line field a b = replay_not_bad s w told a.0 a.1 line field a.2 b
 
 asks_not_over : (c : Command) (told text : List ℕ) (line : ℕ) → AsksFor c told text → IsOverFor c told line → ⊥
-asks_not_over (Run s w) told text line a o = reads_not_over told a.jobs line a.spelled o
-asks_not_over Trace told text line a o = reads_not_over told a.jobs line a.spelled o
+asks_not_over (Run s w) told text line a o = reads_not_over told a.0 line a.1 o
+asks_not_over Trace told text line a o = reads_not_over told a.0 line a.1 o
 asks_not_over (Gen n m s w) told text line a o = o
-asks_not_over (Replay s w) told text line a o = replay_not_over s w told a.jobs a.commands line a.spelled o
+asks_not_over (Replay s w) told text line a o = replay_not_over s w told a.0 a.1 line a.2 o
 
 bad_not_over_for : (c : Command) (told : List ℕ) (line field at : ℕ) → IsBadFor c told line field → IsOverFor c told at → ⊥
 bad_not_over_for (Run s w) told line field at b o = bad_not_over told line field at b o
@@ -60,29 +60,26 @@ bad_not_over_for (Replay s w) told line field at b o = bad_replay_not_over s w t
 abbrev pub Asked : Command → List ℕ → Type 0
 Asked c told = (text : List ℕ) × AsksFor c told text
 
+asks_told : (c : Command) (input : Stream) (IsWritten : List ℕ → Type 0) (told : List ℕ)
+    → ReadsBytes input (λ bytes. (text : List ℕ) × AsksFor c bytes text × IsWritten text) → input.before ≡ Some told → Asked c told
+asks_told c input IsWritten told d tells =
+    (d.holds.0, subst (λ bytes. AsksFor c bytes d.holds.0) (read_is_told input told d.bytes tells d.read) d.holds.1)
+
 does_asked : (c : Command) (input : Stream) (IsWritten : List ℕ → Type 0) (told : List ℕ) → ReadsInput c → Does c input IsWritten → input.before ≡ Some told → Asked c told
-does_asked (Run s w) input IsWritten told reads d tells = (d.text, subst (λ bytes. AsksFor (Run s w) bytes d.text) (read_is_told input told d.bytes tells d.read) d.asked)
-does_asked Trace input IsWritten told reads d tells = (d.text, subst (λ bytes. AsksFor Trace bytes d.text) (read_is_told input told d.bytes tells d.read) d.asked)
 does_asked (Gen n m s w) input IsWritten told reads d tells = absurd reads
-does_asked (Replay s w) input IsWritten told reads d tells = (d.text, subst (λ bytes. AsksFor (Replay s w) bytes d.text) (read_is_told input told d.bytes tells d.read) d.asked)
+does_asked c input IsWritten told reads d tells = asks_told c input IsWritten told d tells
 
 does_short : (c : Command) (input : Stream) (IsWritten : List ℕ → Type 0) (told : List ℕ) → ReadsInput c → Does c input IsWritten → input.before ≡ Some told → INPUT_LIMIT < length told → ⊥
-does_short (Run s w) input IsWritten told reads d tells long = read_is_short input told d.bytes tells d.read long
-does_short Trace input IsWritten told reads d tells long = read_is_short input told d.bytes tells d.read long
 does_short (Gen n m s w) input IsWritten told reads d tells long = reads
-does_short (Replay s w) input IsWritten told reads d tells long = read_is_short input told d.bytes tells d.read long
+does_short c input IsWritten told reads d tells long = read_is_short input told d.bytes tells d.read long
 
 bad_reads : (c : Command) (told : List ℕ) (line field : ℕ) → IsBadFor c told line field → ReadsInput c
-bad_reads (Run s w) told line field b = tt
-bad_reads Trace told line field b = tt
 bad_reads (Gen n m s w) told line field b = b
-bad_reads (Replay s w) told line field b = tt
+bad_reads c told line field b = tt
 
 over_reads : (c : Command) (told : List ℕ) (line : ℕ) → IsOverFor c told line → ReadsInput c
-over_reads (Run s w) told line o = tt
-over_reads Trace told line o = tt
 over_reads (Gen n m s w) told line o = o
-over_reads (Replay s w) told line o = tt
+over_reads c told line o = tt
 
 -- ---- a good input
 

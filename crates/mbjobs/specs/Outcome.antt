@@ -9,7 +9,7 @@ use Rattle.mbj_text.specs.File.{Reads, Bad, Over}
 use Rattle.mbj_text.specs.Replay.{ReadsReplay, BadReplay, OverReplay}
 use Rattle.mbj_text.specs.declared.command.Cmd.{Cmd}
 use Rattle.mbj_io.specs.Streams.{Fails, FailsOnce, IsUntouched, Stream}
-use Rattle.mbjobs.specs.Reading.{ReadsAll, ReadsBytes, ReadsTooMuch}
+use Rattle.mbjobs.specs.Reading.{ReadsBytes, ReadsTooMuch}
 use Rattle.mbj_replay.specs.Replay.{replay_text}
 use Rattle.mbj_trace.specs.Trace.{trace_text}
 use Rattle.mbj_gen.specs.Summary.{gen_text}
@@ -24,25 +24,13 @@ use Rattle.mbj_command.specs.declared.command.Command.TheVariants.{Run, Trace, G
 abbrev pub result_text : List Job → List ℕ
 result_text jobs = text (map result_of jobs)
 
--- the input spells jobs, and this is the text that the command is to write of them
-pub record Asks (text_of : List Job → List ℕ) (bytes text : List ℕ) : Type 0 where
-  pub jobs : List Job
-  pub spelled : Reads bytes jobs
-  pub text_is : text ≡ text_of jobs
-
--- the input spells jobs and a script, and this is the text that the script's commands print
-pub record AsksReplay (submitters workers : ℕ) (bytes text : List ℕ) : Type 0 where
-  pub jobs : List Job
-  pub commands : List Cmd
-  pub spelled : ReadsReplay submitters workers bytes jobs commands
-  pub text_is : text ≡ replay_text jobs commands submitters workers
-
--- what the input of a command that reads one asks for
+-- what the input of a command that reads one asks for: it spells jobs, or jobs and a script, and this text is made of them
 abbrev pub AsksFor : Command → List ℕ → List ℕ → Type 0
-AsksFor (Run s w) bytes text = Asks result_text bytes text
-AsksFor Trace bytes text = Asks trace_text bytes text
+AsksFor (Run s w) bytes text = (jobs : List Job) × Reads bytes jobs × (text ≡ result_text jobs)
+AsksFor Trace bytes text = (jobs : List Job) × Reads bytes jobs × (text ≡ trace_text jobs)
 AsksFor (Gen n m s w) bytes text = ⊥
-AsksFor (Replay s w) bytes text = AsksReplay s w bytes text
+AsksFor (Replay s w) bytes text =
+    (jobs : List Job) × (commands : List Cmd) × ReadsReplay s w bytes jobs commands × (text ≡ replay_text jobs commands s w)
 
 -- the line is the first bad one of the command's input, at this field
 abbrev pub IsBadFor : Command → List ℕ → ℕ → ℕ → Type 0
@@ -61,18 +49,11 @@ abbrev pub ReadsInput : Command → Type 0
 ReadsInput (Gen n m s w) = ⊥
 ReadsInput _ = Unit {0}
 
--- the input was read to its end and asks for a text, and that text was written so
-pub record Answers (c : Command) (input : Stream) (IsWritten : List ℕ → Type 0) : Type 0 where
-  pub bytes : List ℕ
-  pub text : List ℕ
-  pub read : ReadsAll input.before input.after bytes
-  pub asked : AsksFor c bytes text
-  pub written : IsWritten text
-
--- a command that reads no input leaves it untouched
+-- the input was read to its end and asks for a text, and that text was written so; a command that reads no input leaves
+-- it untouched
 abbrev pub Does : Command → Stream → (List ℕ → Type 0) → Type 0
 Does (Gen n m s w) input IsWritten = IsUntouched input × IsWritten (gen_text n m)
-Does c input IsWritten = Answers c input IsWritten
+Does c input IsWritten = ReadsBytes input (λ bytes. (text : List ℕ) × AsksFor c bytes text × IsWritten text)
 
 -- the command did all that it is to do, and out gained exactly its text, without a fault
 abbrev pub Completes : Command → Stream → Stream → Type 0

@@ -1,10 +1,11 @@
 ghost use Rattle.std.specs.Prelude.{◌≡◌, ◌≢◌, ◌≤◌, Err, IfErr, IfOk, IsErrOf, length};
-ghost use Rattle.mbj_text.specs.File.{Bad, Over};
-ghost use Rattle.mbj_text.specs.Replay.{BadReplay, OverReplay};
+ghost use Rattle.mbj_text.specs.File.{Bad, Over, Reads};
+ghost use Rattle.mbj_text.specs.Replay.{BadReplay, OverReplay, ReadsReplay};
 ghost use Rattle.mbj_text.specs.declared.limits.TheConstants.{JOB_LIMIT};
 ghost use Rattle.mbjobs.specs.Inside.Causes.{cause_of_read, cause_of_text};
 ghost use Rattle.mbj_io.specs.Streams.{FailsOnce, stream};
-ghost use Rattle.mbjobs.specs.Reading.{ReadsAll, ReadsJobs, ReadsScript, ReadsTooMuch, StopsReading};
+ghost use Rattle.mbjobs.specs.Reading.{ReadsAll, ReadsBytes, ReadsTooMuch};
+ghost use Rattle.mbjobs.specs.Inside.Stops.{StopsReading};
 
 use crate::cause::Cause;
 use mbj_io::Source;
@@ -77,7 +78,8 @@ pub(crate) fn read_all<S: Source>(alloc: Global, input: &mut S) -> Result<Vec<u8
 
 /// Reads a job file to its end.
 pub(crate) fn read_job_file<S: Source>(alloc: Global, input: &mut S) -> Result<Vec<Job>, Cause>
-    ensures read { IfOk result (λ jobs. ReadsJobs (stream S.rest S.faults input.old input.new) jobs.items) }
+    ensures read { IfOk result (λ jobs. ReadsBytes (stream S.rest S.faults input.old input.new)
+        (λ bytes. Reads bytes jobs.items)) }
     ensures count { IfOk result (λ jobs. length jobs.items ≤ JOB_LIMIT) }
     ensures stops { IfErr result (λ cause. StopsReading Bad Over cause (stream S.rest S.faults input.old input.new)) }
     ensures calm { result ≢ Err Cause.Read → S.faults input.new ≡ S.faults input.old }
@@ -93,8 +95,8 @@ pub(crate) fn read_replay_file<S: Source>(
     submitters: u32,
     workers: u32,
 ) -> Result<(Vec<Job>, Vec<Cmd>), Cause>
-    ensures read { IfOk result (λ r. ReadsScript submitters workers
-        (stream S.rest S.faults input.old input.new) r.0.items r.1.items) }
+    ensures read { IfOk result (λ r. ReadsBytes (stream S.rest S.faults input.old input.new)
+        (λ bytes. ReadsReplay submitters workers bytes r.0.items r.1.items)) }
     ensures stops { IfErr result (λ cause. StopsReading (BadReplay submitters workers) OverReplay cause
         (stream S.rest S.faults input.old input.new)) }
     ensures calm { result ≢ Err Cause.Read → S.faults input.new ≡ S.faults input.old }

@@ -2,25 +2,25 @@ use Rattle.std.proofs.Common.{◌≡◌, ◌≤◌, ◌∙◌, ℕ, List, length
 use Rattle.std.proofs.lemmas.List.{length-map}
 use Rattle.std.proofs.lemmas.Result.{err_from_is_err_and}
 use Rattle.mbj_text.specs.Flow.{GainsPrefix, WritesAll}
+use Rattle.mbj_text.specs.File.{Reads}
 use Rattle.mbj_text.specs.Line.{text}
 use Rattle.mbj_types.specs.declared.done.Done.{Done}
 use Rattle.mbj_types.specs.declared.job.Job.{Job}
 use Rattle.mbj_types.specs.Result.{result_of}
-use Rattle.mbjobs.specs.Outcome.{Answers, result_text}
+use Rattle.mbjobs.specs.Outcome.{Does, result_text}
 use Rattle.mbj_io.specs.Streams.{Stream, stream}
-use Rattle.mbjobs.specs.Reading.{ReadsJobs}
+use Rattle.mbjobs.specs.Reading.{ReadsBytes}
 use Rattle.mbj_command.specs.declared.command.Command.TheVariants.{Run}
 use Rattle.mbjobs.proofs.run.run.Goals as goal
 
 -- the jobs of the input are answered by the text of their results
 answered : (s w : ℕ) (input : Stream) (jobs : List Job) (results : List Done) (IsWritten : List ℕ → Type 0)
-    → ReadsJobs input jobs → results ≡ map result_of jobs → IsWritten (text results) → Answers (Run s w) input IsWritten
+    → ReadsBytes input (λ bytes. Reads bytes jobs) → results ≡ map result_of jobs → IsWritten (text results)
+    → Does (Run s w) input IsWritten
 answered s w input jobs results IsWritten reads are written = record {
   bytes = reads.bytes;
-  text = result_text jobs;
   read = reads.read;
-  asked = record { jobs = jobs; spelled = reads.spelled; text_is = refl };
-  written = subst IsWritten (ap (λ (ds : List Done). text ds) are) written;
+  holds = (result_text jobs, (jobs, reads.holds, refl), subst IsWritten (ap (λ (ds : List Done). text ds) are) written);
 }
 
 pub write_results-requires : goal.write_results-requires
