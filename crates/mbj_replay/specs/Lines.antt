@@ -1,5 +1,5 @@
 -- The lines of a replay. Numbers are in decimal, and each line ends with LF.
-use Rattle.std.specs.Prelude.{ℕ, List, ◌++◌, codes, decimal, flat_map}
+use Rattle.std.specs.Prelude.{ℕ, List, ◌++◌, codes, decimal}
 use Rattle.mbj_types.specs.declared.done.Done.{Done}
 use Rattle.mbj_text.specs.Line.{done_line, number_or_none}
 use Rattle.mbj_replay.specs.declared.line.ReplayLine.{ReplayLine}
@@ -22,7 +22,3 @@ replay_line_text (line.ClaimFull worker) = words_text (codes "claim") worker (co
 replay_line_text (line.Finish worker job) = words_text (codes "finish") worker (number_or_none job)
 replay_line_text (line.Collect submitter job done) = collect_text submitter job done
 replay_line_text (line.CollectNone submitter) = words_text (codes "collect") submitter (codes "none")
-
--- the lines one after another
-abbrev pub replay_lines_text : List ReplayLine → List ℕ
-replay_lines_text lines = flat_map replay_line_text lines

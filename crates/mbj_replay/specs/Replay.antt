@@ -1,5 +1,5 @@
 -- What a replay prints: what each command of a script comes to, over one front and a manager for each worker.
-use Rattle.std.specs.Prelude.{◌==◌, ◌+◌, ◌*◌, ◌<◌, ℕ, List, [], ◌∷◌, ◌++◌, length, map, replicate, set, slice_get, slice_index, slice_index_or, Option, Some, None, option_map, option_to_list, if◌then◌else◌}
+use Rattle.std.specs.Prelude.{◌==◌, ◌+◌, ◌*◌, ◌<◌, ℕ, List, [], ◌∷◌, ◌++◌, flat_map, length, map, replicate, set, slice_get, slice_index, slice_index_or, Option, Some, None, option_map, option_to_list, if◌then◌else◌}
 use Rattle.std.specs.List.{range_with_len}
 use Rattle.mbj_types.specs.declared.job.Job.{Job}
 use Rattle.mbj_types.specs.declared.done.Done.{Done}
@@ -10,7 +10,7 @@ use Rattle.mbj_ring.specs.declared.ring.TheConstants as ring
 use Rattle.mbj_manager.specs.State.{ManagerState, after_flush, new_manager, after_submit, with_open}
 use Rattle.mbj_text.specs.declared.command.Cmd.{Cmd}
 use Rattle.mbj_text.specs.declared.command.Cmd.TheVariants as command
-use Rattle.mbj_replay.specs.Lines.{replay_lines_text}
+use Rattle.mbj_replay.specs.Lines.{replay_line_text}
 use Rattle.mbj_replay.specs.declared.line.ReplayLine.{ReplayLine}
 use Rattle.mbj_replay.specs.declared.line.ReplayLine.TheVariants as line
 
@@ -176,4 +176,4 @@ unfoldable pub replay_lines : List Job → List Cmd → ℕ → ℕ → List Rep
 replay_lines jobs commands submitters workers = lines_from jobs commands (new_replay submitters workers)
 
 abbrev pub replay_text : List Job → List Cmd → ℕ → ℕ → List ℕ
-replay_text jobs commands submitters workers = replay_lines_text (replay_lines jobs commands submitters workers)
+replay_text jobs commands submitters workers = flat_map replay_line_text (replay_lines jobs commands submitters workers)

@@ -1,5 +1,5 @@
 -- The lines of a trace. Numbers are in decimal, and each line ends with LF.
-use Rattle.std.specs.Prelude.{ℕ, List, ◌++◌, codes, decimal, flat_map}
+use Rattle.std.specs.Prelude.{ℕ, List, ◌++◌, codes, decimal}
 use Rattle.mbj_types.specs.Kinds.{name_of}
 use Rattle.mbj_text.specs.Line.{number_or_none}
 use Rattle.mbj_trace.specs.declared.line.TraceLine.{TraceLine}
@@ -12,7 +12,3 @@ line_text (line.Completed given) = codes "completed " ++ (number_or_none given +
 line_text (line.Flush given) = codes "flush " ++ (number_or_none given ++ codes "\n")
 line_text (line.Rounds kind rounds blocks) =
     codes "rounds " ++ (name_of kind ++ (codes " " ++ (decimal rounds ++ (codes " " ++ (decimal blocks ++ codes "\n")))))
-
--- the lines one after another
-abbrev pub lines_text : List TraceLine → List ℕ
-lines_text lines = flat_map line_text lines

@@ -7,7 +7,7 @@ use Rattle.mbj_types.specs.Kinds.{all_kinds}
 use Rattle.mbj_ring.specs.declared.ring.TheConstants.{CELLS}
 use Rattle.mbj_manager.specs.Machine.{Machine, lane_for}
 use Rattle.mbj_manager.specs.State.{ManagerState, new_manager, with_open, after_submit, after_get_completed, after_flush, after_making_room}
-use Rattle.mbj_trace.specs.Lines.{lines_text}
+use Rattle.mbj_trace.specs.Lines.{line_text}
 use Rattle.mbj_trace.specs.declared.line.TraceLine.{TraceLine}
 use Rattle.mbj_trace.specs.declared.line.TraceLine.TheVariants as line
 use Rattle.mbj_trace.specs.declared.tracer.Taking.{Taking}
@@ -125,4 +125,4 @@ unfoldable pub trace_lines : List Job → List TraceLine
 trace_lines jobs = job_lines 0 jobs (tracing new_manager) ++ end_lines (after_jobs jobs (tracing new_manager))
 
 abbrev pub trace_text : List Job → List ℕ
-trace_text jobs = lines_text (trace_lines jobs)
+trace_text jobs = flat_map line_text (trace_lines jobs)
