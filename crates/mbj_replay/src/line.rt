@@ -1,7 +1,7 @@
 ghost use Rattle.mbj_io.specs.Streams.{stream};
 ghost use Rattle.mbj_text.specs.Flow.{Writes};
 ghost use Rattle.mbj_text.specs.Line.{text_of};
-ghost use Rattle.mbj_replay.specs.Lines.{collect_text, replay_line_text, words_text};
+ghost use Rattle.mbj_replay.specs.Lines.{replay_line_text, words_text};
 
 use mbj_io::{Failed, Sink};
 use mbj_text::{Part, TextLine, write_done, write_line, write_parts};
@@ -62,7 +62,8 @@ fn write_words<O: Sink>(
 
 /// Writes that a submitter collected the result of a job: the submitter, and the job's result line.
 fn write_collect<O: Sink>(sink: &mut O, submitter: u32, job: u32, done: &Done) -> Result<(), Failed>
-    ensures { Writes result (stream O.held O.faults sink.old sink.new) (collect_text submitter job done.now) }
+    ensures { Writes result (stream O.held O.faults sink.old sink.new)
+        (replay_line_text (ReplayLine.Collect submitter job done.now)) }
 {
     let head = [
         Part::Words("collect "),
