@@ -16,7 +16,7 @@ use Rattle.mbj_core.specs.declared.cells.TheConstants.{SUBMITTER_CELLS}
 use Rattle.mbj_core.proofs.Calls.{Sizes}
 use Rattle.mbj_core.proofs.Steps.{Sound, step_sound}
 use Rattle.mbj_manager.specs.State.{ManagerState}
-use Rattle.mbj_replay.specs.Events.{Answered, ResultIs, Tells, TellsNothing}
+use Rattle.mbj_replay.specs.Events.{Answered, ResultIs, Tells}
 use Rattle.mbj_replay.specs.Replay.{Replaying, Told, number_in}
 use Rattle.mbj_replay.specs.declared.line.ReplayLine.{ReplayLine}
 
@@ -86,7 +86,7 @@ cell-is jobs r f cell x stands is =
     (below, same_Some (f.cells cell) x (sym (stands.front.each_cell cell below) ∙ is))
 
 -- a line that tells of nothing
-pub goes-nowhere : (jobs : List Job) (r : Replaying) (f : FrontState Job Done) (l : ReplayLine) → Plays jobs r f → TellsNothing l → Goes jobs r f (l ∷ [], r)
+pub goes-nowhere : (jobs : List Job) (r : Replaying) (f : FrontState Job Done) (l : ReplayLine) → Plays jobs r f → Tells jobs r.core.submitters l None → Goes jobs r f (l ∷ [], r)
 goes-nowhere jobs r f l plays none = record {
   events = None ∷ [];
   to = f;
