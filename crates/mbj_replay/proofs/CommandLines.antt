@@ -11,7 +11,7 @@ use Rattle.mbj_ring.specs.declared.ring.TheConstants as ring
 use Rattle.mbj_text.specs.declared.command.Cmd.{Cmd}
 use Rattle.std.specs.declared.alloc.AllocError.{AllocError}
 use Rattle.mbj_manager.specs.State.{ManagerState, after_flush, new_manager, after_submit, with_open}
-use Rattle.mbj_replay.specs.Replay.{Replaying, Told, after_finish, cells_out, claim_of, claim_told, core_after, finish_of, first_ready, first_with, flush_told, hand, lines_from, manager, number_in, party, post_of, post_told, told, with_claim, with_manager, with_post}
+use Rattle.mbj_replay.specs.Replay.{Replaying, Told, after_finish, all_told, cells_out, claim_of, claim_told, core_after, finish_of, first_ready, first_with, flush_told, hand, manager, number_in, party, post_of, post_told, told, with_claim, with_manager, with_post}
 use Rattle.mbj_replay.specs.Inside.State.{state_of}
 use Rattle.mbj_replay.specs.declared.replayer.Posted.{Posted}
 use Rattle.mbj_replay.specs.declared.replayer.Replayer.{Replayer}
@@ -167,23 +167,23 @@ put-back (z ∷ xs) (suc i) x y at = ap (λ l. z ∷ l) (put-back xs i x y at)
 
 -- the lines of commands over the jobs and the state that a replay begins with
 pub answered-by : (result : Result (Vec ReplayLine Global) AllocError) (own jobs : List Job) (commands : List Cmd) (r q : Replaying) → own ≡ jobs → r ≡ q
-    → IfOk result (λ lines. lines.items ≡ lines_from own commands r) → IfOk result (λ lines. lines.items ≡ lines_from jobs commands q)
+    → IfOk result (λ lines. lines.items ≡ (all_told own commands r).0) → IfOk result (λ lines. lines.items ≡ (all_told jobs commands q).0)
 answered-by (Err e) own jobs commands r q same begun told = told
 answered-by (Ok lines) own jobs commands r q same begun told =
-    told ∙ ap (λ (js : List Job). lines_from js commands r) same ∙ ap (lines_from jobs commands) begun
+    told ∙ ap (λ (js : List Job). (all_told js commands r).0) same ∙ ap (λ (u : Replaying). (all_told jobs commands u).0) begun
 
 -- one command more is told
 pub one-told : (jobs : List Job) (commands rest : List Cmd) (command : Cmd) (before after lines all : List ReplayLine) (r q : Replaying)
     → commands ≡ command ∷ rest → ◌≡◌ {A = Told} (lines, q) (told jobs command r) → after ≡ before ++ lines
-    → before ++ lines_from jobs commands r ≡ all → after ++ lines_from jobs rest q ≡ all
+    → before ++ (all_told jobs commands r).0 ≡ all → after ++ (all_told jobs rest q).0 ≡ all
 one-told jobs commands rest command before after lines all r q is does more told_all =
     let first : lines ≡ (told jobs command r).0 = ap (λ (t : Told). t.0) does in
     let state : q ≡ (told jobs command r).1 = ap (λ (t : Told). t.1) does in
-    ap (λ (l : List ReplayLine). l ++ lines_from jobs rest q) more
-    ∙ append_assoc before lines (lines_from jobs rest q)
-    ∙ ap (λ (u : Replaying). before ++ (lines ++ lines_from jobs rest u)) state
-    ∙ ap (λ (l : List ReplayLine). before ++ (l ++ lines_from jobs rest (told jobs command r).1)) first
-    ∙ ap (λ (cs : List Cmd). before ++ lines_from jobs cs r) (sym is)
+    ap (λ (l : List ReplayLine). l ++ (all_told jobs rest q).0) more
+    ∙ append_assoc before lines (all_told jobs rest q).0
+    ∙ ap (λ (u : Replaying). before ++ (lines ++ (all_told jobs rest u).0)) state
+    ∙ ap (λ (l : List ReplayLine). before ++ (l ++ (all_told jobs rest (told jobs command r).1).0)) first
+    ∙ ap (λ (cs : List Cmd). before ++ (all_told jobs cs r).0) (sym is)
     ∙ told_all
 
 -- of all commands, the first and those behind it

@@ -1,5 +1,5 @@
 -- The events of the front that a replay tells of.
-use Rattle.std.specs.Prelude.{◌≡◌, ◌+◌, ⊤, ℕ, List, [], ◌∷◌, All, flat_map, slice_get, Option, None, Some, option_map, option_to_list}
+use Rattle.std.specs.Prelude.{◌≡◌, ◌+◌, ⊤, ℕ, List, All, flat_map, slice_get, Option, None, Some, option_map, option_to_list}
 use Rattle.std.specs.List.{AllZip}
 use Rattle.mbj_types.specs.Result.{result_of}
 use Rattle.mbj_types.specs.declared.job.Job.{Job}
@@ -9,7 +9,7 @@ use Rattle.mbj_core.specs.Parties.{FrontState, new_front}
 use Rattle.mbj_core.specs.Runs.{Run}
 use Rattle.mbj_core.specs.Stands.{StandsFor}
 use Rattle.mbj_text.specs.declared.command.Cmd.{Cmd}
-use Rattle.mbj_replay.specs.Replay.{IsFor, Replaying, new_replay, replay_lines, told}
+use Rattle.mbj_replay.specs.Replay.{IsFor, all_told, new_replay, replay_lines}
 use Rattle.mbj_replay.specs.declared.line.ReplayLine.{ReplayLine}
 use Rattle.mbj_replay.specs.declared.line.ReplayLine.TheVariants as line
 
@@ -37,11 +37,6 @@ Tells jobs submitters (line.Collect s n d) (Some (collect t, collected e)) = (t 
 Tells jobs submitters (line.CollectNone s) (Some (collect t, nothing)) = t ≡ s
 Tells jobs submitters l e = ⊥
 
--- the state after commands
-abbrev pub after_commands : List Job → List Cmd → Replaying → Replaying
-after_commands jobs [] r = r
-after_commands jobs (c ∷ commands) r = after_commands jobs commands (told jobs c r).1
-
 -- The events that the lines of each replay of commands for so many submitters and workers tell of, one after another, lead
 -- from the new front to one that the replay's core stands for after the commands.
 abbrev pub ReplaysAreOfEvents : Type 0
@@ -50,4 +45,4 @@ ReplaysAreOfEvents =
     → (events : List (Option Answered)) × (f : FrontState Job Done)
     × AllZip (Tells jobs submitters) (replay_lines jobs commands submitters workers) events
     × Run result_of submitters workers new_front (flat_map option_to_list events) f
-    × StandsFor (after_commands jobs commands (new_replay submitters workers)).core f
+    × StandsFor (all_told jobs commands (new_replay submitters workers)).1.core f

@@ -167,13 +167,14 @@ told jobs (command.Claim w s) r = claim_told w s r
 told jobs (command.Flush w) r = flush_told w r
 told jobs (command.Collect s) r = collect_told s r
 
--- the lines of commands, one after another
-abbrev pub lines_from : List Job → List Cmd → Replaying → List ReplayLine
-lines_from jobs [] r = []
-lines_from jobs (c ∷ commands) r = (told jobs c r).0 ++ lines_from jobs commands (told jobs c r).1
+-- the lines of commands, one after another, and the state after the last
+abbrev pub all_told : List Job → List Cmd → Replaying → Told
+all_told jobs [] r = ([], r)
+all_told jobs (c ∷ commands) r =
+    let rest = all_told jobs commands (told jobs c r).1 in ((told jobs c r).0 ++ rest.0, rest.1)
 
 unfoldable pub replay_lines : List Job → List Cmd → ℕ → ℕ → List ReplayLine
-replay_lines jobs commands submitters workers = lines_from jobs commands (new_replay submitters workers)
+replay_lines jobs commands submitters workers = (all_told jobs commands (new_replay submitters workers)).0
 
 abbrev pub replay_text : List Job → List Cmd → ℕ → ℕ → List ℕ
 replay_text jobs commands submitters workers = flat_map replay_line_text (replay_lines jobs commands submitters workers)

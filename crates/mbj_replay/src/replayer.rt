@@ -3,7 +3,7 @@ ghost use Rattle.std.specs.List.{range_with_len};
 ghost use Rattle.mbj_types.specs.declared.job.Job.{Job};
 ghost use Rattle.mbj_core.specs.declared.cells.TheConstants.{MAX_SUBMITTERS, MAX_WORKERS};
 ghost use Rattle.mbj_text.specs.declared.limits.TheConstants.{JOB_LIMIT};
-ghost use Rattle.mbj_replay.specs.Replay.{IsFor, Replaying, claim_told, collect_told, flush_told, lines_from, new_replay, number_in, post_told, replay_lines, told};
+ghost use Rattle.mbj_replay.specs.Replay.{IsFor, Replaying, all_told, claim_told, collect_told, flush_told, new_replay, number_in, post_told, replay_lines, told};
 ghost use Rattle.mbj_replay.specs.Inside.State.{HasPartiesOf, IsPlaying, lines_of, state_of, with_copy};
 
 use crate::claiming::{cell_behind, claim_earliest, finish_given, party_of};
@@ -273,7 +273,7 @@ impl Replayer {
         requires playing { IsPlaying jobs self.old }
         requires limit { length jobs ≤ JOB_LIMIT }
         requires parties { All (IsFor self.old.core.submitters self.old.core.workers) commands.items }
-        ensures { IfOk result (λ lines. lines.items ≡ lines_from jobs commands.items (state_of self.old)) }
+        ensures { IfOk result (λ lines. lines.items ≡ (all_told jobs commands.items (state_of self.old)).0) }
     {
         let mut lines = Vec::new(alloc);
         for command in commands {
