@@ -1,5 +1,5 @@
 -- What a command prints, from what its calls did.
-use Rattle.std.proofs.Common.{◌≡◌, ◌≢◌, cond, eq-eqb, ◌∙◌, ◌+◌, ◌++◌, [], ◌∷◌, ap, sym, subst, ℕ, zero, suc, All, append_assoc, Result, Ok, Err, IfOk, Vec, Global, List, Bool, true, false, IsTrue, ◌↔◌, Option, None, Some, map, length, set, slice_index, slice_index_or, option_map, option_to_list, arith, if◌then◌else◌, ◌==◌}
+use Rattle.std.proofs.Common.{◌≡◌, ◌≢◌, cond, eq-eqb, ◌∙◌, ◌+◌, ◌++◌, [], ◌∷◌, ap, sym, refl, subst, ℕ, zero, suc, All, append_assoc, Result, Ok, Err, IfOk, Vec, Global, List, Bool, true, false, IsTrue, ◌↔◌, Option, None, Some, map, length, set, slice_index, slice_index_or, option_map, option_to_list, arith, if◌then◌else◌, ◌==◌}
 use Rattle.std.specs.Prelude.{slice_get}
 use Rattle.std.proofs.lemmas.List.{map-set}
 use Rattle.std.proofs.lemmas.Option.{get_or_from_slice_get, none-some, same_Some, slice_get-map}
@@ -9,9 +9,12 @@ use Rattle.mbj_core.specs.CoreStates.{CoreState, claimed_by, next_cell, out_of, 
 use Rattle.mbj_core.specs.declared.cells.TheConstants.{SUBMITTER_CELLS}
 use Rattle.mbj_ring.specs.declared.ring.TheConstants as ring
 use Rattle.mbj_text.specs.declared.command.Cmd.{Cmd}
+use Rattle.mbj_text.specs.declared.command.Cmd.TheVariants as command
+use Rattle.mbj_types.specs.declared.done.Done.{Done}
 use Rattle.std.specs.declared.alloc.AllocError.{AllocError}
 use Rattle.mbj_manager.specs.State.{ManagerState, after_flush, new_manager, after_submit, with_open}
-use Rattle.mbj_replay.specs.Replay.{Replaying, Told, after_finish, all_told, cells_out, claim_of, claim_told, core_after, finish_of, first_ready, first_with, flush_told, hand, manager, number_in, party, post_of, post_told, told, with_claim, with_manager, with_post}
+use Rattle.mbj_replay.specs.Replay.{Replaying, Told, all_told, cells_out, claim_of, finish_told, first_ready, hand, manager, number_in, party, post_of, told, with_post}
+use Rattle.mbj_replay.specs.Inside.Giving.{core_after, first_with}
 use Rattle.mbj_replay.specs.Inside.State.{state_of}
 use Rattle.mbj_replay.specs.declared.replayer.Posted.{Posted}
 use Rattle.mbj_replay.specs.declared.replayer.Replayer.{Replayer}
@@ -26,6 +29,29 @@ if-apart n m a b apart = grind arith
 pub if-same : {T : Type 0} (n m : ℕ) (a b : T) → n ≡ m → (if n == m then a else b) ≡ a
 if-same n m a b same = ap (λ t. cond t a b) (eq-eqb n m same)
 
+-- ---- the states that a worker's command goes through
+
+abbrev pub with_manager : ℕ → ManagerState → Replaying → Replaying
+with_manager w after r = record r { managers = set r.managers w after }
+
+abbrev pub with_claim : ℕ → ℕ → Job → ManagerState → Replaying → Replaying
+with_claim w cell job after r = record r { core = claimed_by r.core (party w r) cell job; managers = set r.managers w after }
+
+abbrev pub after_finish : ℕ → Option Entry → Replaying → Replaying
+after_finish w given r = record r { core = core_after (party w r) given r.core }
+
+-- the number of the job that is finished
+abbrev pub finish_of : Replaying → Option Entry → Option ℕ
+finish_of r given = option_map (λ g. number_in r g.0) given
+
+-- what a manager gave back is finished in the first cell of the hand
+pub finish-is : (lines : Option ℕ → List ReplayLine) (w : ℕ) (cells : List ℕ) (o : Option Done) (r : Replaying)
+    → ◌≡◌ {A = Told} (lines (finish_of r (first_with cells o)), after_finish w (first_with cells o) r) (finish_told lines w cells o r)
+finish-is lines w [] None r = refl
+finish-is lines w [] (Some d) r = refl
+finish-is lines w (cell ∷ cells) None r = refl
+finish-is lines w (cell ∷ cells) (Some d) r = refl
+
 -- the manager of a worker
 pub manager-is : (workers : List Worker) (w : ℕ) (x : Worker) → slice_get workers w ≡ Some x
     → slice_index_or (map (λ y. y.manager) workers) w new_manager ≡ x.manager
@@ -37,11 +63,11 @@ told-is : (a b : List ReplayLine) (q r : Replaying) → a ≡ b → q ≡ r → 
 told-is a b q r lines state = ap (λ (l : List ReplayLine). (l, q)) lines ∙ ap (λ (u : Replaying). (b, u)) state
 
 -- a flush, and the finish that it leads to
-pub flush-is : (w : ℕ) (r q : Replaying) (x : ManagerState) (cells : List ℕ) (given : Option Entry) (job : Option ℕ)
+pub flush-is : (jobs : List Job) (w : ℕ) (r q : Replaying) (x : ManagerState) (cells : List ℕ) (given : Option Entry) (job : Option ℕ)
     → manager w r ≡ x → hand w r ≡ cells → given ≡ first_with cells (after_flush x).0
     → q ≡ after_finish w given (with_manager w (after_flush x).1 r) → job ≡ finish_of r given
-    → ◌≡◌ {A = Told} (line.Finish w job ∷ [], q) (flush_told w r)
-flush-is w r q x cells given job is_manager is_hand is_given is_state is_job =
+    → ◌≡◌ {A = Told} (line.Finish w job ∷ [], q) (told jobs (command.Flush w) r)
+flush-is jobs w r q x cells given job is_manager is_hand is_given is_state is_job =
     let found : given ≡ first_with (hand w r) (after_flush (manager w r)).0
     = is_given ∙ ap (λ (cs : List ℕ). first_with cs (after_flush x).0) (sym is_hand) ∙ ap (λ (m : ManagerState). first_with (hand w r) (after_flush m).0) (sym is_manager) in
     let state : q ≡ after_finish w (first_with (hand w r) (after_flush (manager w r)).0) (with_manager w (after_flush (manager w r)).1 r)
@@ -50,16 +76,17 @@ flush-is w r q x cells given job is_manager is_hand is_given is_state is_job =
     let number : job ≡ finish_of r (first_with (hand w r) (after_flush (manager w r)).0) = is_job ∙ ap (finish_of r) found in
     told-is (line.Finish w job ∷ []) (line.Finish w (finish_of r (first_with (hand w r) (after_flush (manager w r)).0)) ∷ []) q _
     (ap (λ (n : Option ℕ). line.Finish w n ∷ []) number) state
+    ∙ finish-is (λ n. line.Finish w n ∷ []) w (hand w r) (after_flush (manager w r)).0 (with_manager w (after_flush (manager w r)).1 r)
 
 -- a claim, and the finish that it leads to
-pub claim-is : (w s cell : ℕ) (job : Job) (r q : Replaying) (x : ManagerState) (full cells : List ℕ) (given : Option Entry) (number : Option ℕ) (finishes : List ReplayLine)
+pub claim-is : (jobs : List Job) (w s cell : ℕ) (job : Job) (r q : Replaying) (x : ManagerState) (full cells : List ℕ) (given : Option Entry) (number : Option ℕ) (finishes : List ReplayLine)
     → hand w r ≡ full → length full ≢ ring.CELLS → first_ready r.core (cells_out r.core s) ≡ Some (cell, job)
     → manager w r ≡ x → hand w (with_claim w cell job (after_submit (with_open x job)).1 r) ≡ cells
     → given ≡ first_with cells (after_submit (with_open x job)).0
     → q ≡ after_finish w given (with_claim w cell job (after_submit (with_open x job)).1 r)
     → number ≡ Some (number_in r cell) → finishes ≡ map (λ n. line.Finish w (Some n)) (option_to_list (finish_of r given))
-    → ◌≡◌ {A = Told} (line.Claim w number ∷ finishes, q) (claim_told w s r)
-claim-is w s cell job r q x full cells given number finishes is_full is_room is_ready is_manager is_hand is_given is_state is_number are =
+    → ◌≡◌ {A = Told} (line.Claim w number ∷ finishes, q) (told jobs (command.Claim w s) r)
+claim-is jobs w s cell job r q x full cells given number finishes is_full is_room is_ready is_manager is_hand is_given is_state is_number are =
     let after : ManagerState → Replaying = λ m. with_claim w cell job (after_submit (with_open m job)).1 r in
     let back : ManagerState → Option Entry = λ m. first_with (hand w (after m)) (after_submit (with_open m job)).0 in
     let found : given ≡ back (manager w r)
@@ -73,14 +100,16 @@ claim-is w s cell job r q x full cells given number finishes is_full is_room is_
     ∙ ap (λ (ls : List ReplayLine). line.Claim w (Some (number_in r cell)) ∷ ls)
     (are ∙ ap (λ (g : Option Entry). map (λ n. line.Finish w (Some n)) (option_to_list (finish_of r g))) found) in
     told-is (line.Claim w number ∷ finishes) _ q _ lines state
+    ∙ finish-is (λ n. line.Claim w (Some (number_in r cell)) ∷ map (λ m. line.Finish w (Some m)) (option_to_list n)) w
+    (hand w (after (manager w r))) (after_submit (with_open (manager w r) job)).0 (after (manager w r))
     ∙ ap (λ f. claim_of w f r) (sym is_ready)
     ∙ sym (if-apart (length (hand w r)) ring.CELLS (line.ClaimFull w ∷ [], r) (claim_of w (first_ready r.core (cells_out r.core s)) r)
     (λ e. is_room (ap length (sym is_full) ∙ e)))
 
 -- where the submitter has no job that is ready
-pub no-claim-is : (w s : ℕ) (r q : Replaying) (full : List ℕ) → hand w r ≡ full → length full ≢ ring.CELLS → first_ready r.core (cells_out r.core s) ≡ None
-    → q ≡ r → ◌≡◌ {A = Told} (line.Claim w None ∷ [], q) (claim_told w s r)
-no-claim-is w s r q full is_full is_room is_none same =
+pub no-claim-is : (jobs : List Job) (w s : ℕ) (r q : Replaying) (full : List ℕ) → hand w r ≡ full → length full ≢ ring.CELLS → first_ready r.core (cells_out r.core s) ≡ None
+    → q ≡ r → ◌≡◌ {A = Told} (line.Claim w None ∷ [], q) (told jobs (command.Claim w s) r)
+no-claim-is jobs w s r q full is_full is_room is_none same =
     ap (λ (u : Replaying). (line.Claim w None ∷ [], u)) same
     ∙ ap (λ f. claim_of w f r) (sym is_none)
     ∙ sym (if-apart (length (hand w r)) ring.CELLS (line.ClaimFull w ∷ [], r) (claim_of w (first_ready r.core (cells_out r.core s)) r)
@@ -89,7 +118,7 @@ no-claim-is w s r q full is_full is_room is_none same =
 -- a post
 pub post-is : (jobs : List Job) (s n : ℕ) (job : Job) (r q : Replaying) → n ≡ slice_index r.nexts s → slice_get jobs n ≡ Some job
     → out_of r.core s ≢ SUBMITTER_CELLS → q ≡ with_post s n job r
-    → ◌≡◌ {A = Told} (line.Post s n ∷ [], q) (post_told jobs s r)
+    → ◌≡◌ {A = Told} (line.Post s n ∷ [], q) (told jobs (command.Post s) r)
 post-is jobs s n job r q next is_job room state =
     ap (λ (u : Replaying). (line.Post s n ∷ [], u)) state
     ∙ sym (if-apart (out_of r.core s) SUBMITTER_CELLS (line.PostFull s ∷ [], r) (line.Post s n ∷ [], with_post s n job r) room)

@@ -18,7 +18,7 @@ use Rattle.mbj_core.specs.Stands.{StandsFor, Leads}
 use Rattle.mbj_core.specs.declared.cells.TheConstants.{SUBMITTER_CELLS}
 use Rattle.mbj_core.proofs.Entries.{set_else}
 use Rattle.mbj_replay.specs.Inside.Claiming.{ClaimsAt}
-use Rattle.mbj_replay.specs.Replay.{core_after}
+use Rattle.mbj_replay.specs.Inside.Giving.{core_after}
 use Rattle.mbj_replay.specs.Inside.State.{EachHolds, Follows, HasStock, Holds, IsPlaying, with_copy}
 use Rattle.mbj_replay.specs.declared.replayer.Posted.{Posted}
 use Rattle.mbj_replay.specs.declared.replayer.Replayer.{Replayer}

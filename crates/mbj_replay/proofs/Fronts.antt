@@ -16,7 +16,7 @@ use Rattle.mbj_core.proofs.Entries.{at_middle}
 use mathlib.Core.Logic.{dite}
 use native.Mathlib.Decide.{ℕ_discrete}
 use Rattle.mbj_replay.specs.Events.{Answered}
-use Rattle.mbj_replay.specs.Replay.{core_after}
+use Rattle.mbj_replay.specs.Inside.Giving.{core_after}
 
 abbrev pub Entry : Type 0
 Entry = ℕ × Done

@@ -24,10 +24,11 @@ use Rattle.mbj_manager.specs.Rounds.{Pending}
 use Rattle.mbj_manager.specs.State.{ManagerState, after_flush, given_at, new_manager, after_submit, with_open}
 use Rattle.mbj_text.specs.declared.command.Cmd.TheVariants as command
 use Rattle.mbj_replay.specs.Events.{Answered, ResultIs, Tells}
-use Rattle.mbj_replay.specs.Replay.{Replaying, Told, after_finish, cells_out, claim_of, core_after, finish_of, first_ready, first_with, hand, job_or, manager, number_in, party, told, with_claim, with_manager}
+use Rattle.mbj_replay.specs.Replay.{Replaying, Told, cells_out, claim_of, first_ready, hand, job_or, manager, number_in, party, told}
+use Rattle.mbj_replay.specs.Inside.Giving.{core_after, first_with}
 use Rattle.mbj_replay.specs.declared.line.ReplayLine.TheVariants as line
 use Rattle.mbj_replay.proofs.Commands.{at-places, parties}
-use Rattle.mbj_replay.proofs.CommandLines.{if-apart, if-same}
+use Rattle.mbj_replay.proofs.CommandLines.{after_finish, finish-is, finish_of, if-apart, if-same, with_claim, with_manager}
 use Rattle.mbj_replay.proofs.Fronts.{Entry, KeepsResults, KeepsJobs, finish-event, first-finishes, first-held, jobs-kept, results-kept}
 use Rattle.mbj_replay.proofs.Playing.{EachOwes, Goes, OthersOwe, Owes, Plays, Stands, backed, cell-is, goes-nowhere, run-sound, sound}
 
@@ -192,10 +193,11 @@ flush-goes jobs w r f plays near =
     let st = plays.stands in
     let m : ManagerState = manager w r in
     let after : ManagerState = (after_flush m).1 in
-    flush-ends jobs r f w (first_with (hand w r) (after_flush m).0) after
+    subst (Goes jobs r f) (finish-is (λ n. line.Finish w n ∷ []) w (hand w r) (after_flush m).0 (with_manager w after r))
+    (flush-ends jobs r f w (first_with (hand w r) (after_flush m).0) after
     (gives jobs (with_manager w after r) f w (after_flush m).0 after (with-manager jobs r f w after st) near (manager-set jobs r f w after st near)
     (flushed-owed m ∙ plays.owes w m (manager-at jobs r f w st near))
-    (others-owe r f w after plays.owes))
+    (others-owe r f w after plays.owes)))
 
 -- ---- claim
 
@@ -278,11 +280,12 @@ claim-found jobs w cell job r f plays near is =
     let order : option_to_list o ++ after.owed ≡ map (λ e. e.1) (g.seats p).hand
     = submitted-owed m job ∙ ap (λ (ds : List Done). ds ++ result_of job ∷ []) (plays.owes w m (manager-at jobs r f w st near))
     ∙ sym (ap (map (λ e. e.1)) hand_now ∙ map-append (λ (e : Entry). e.1) (f.seats p).hand ((cell, result_of job) ∷ [])) in
-    claim-ends jobs r q f g w cell job (first_with (hand w q) o) refl refl step.1
+    subst (Goes jobs r f) (finish-is (λ n. line.Claim w (Some (number_in r cell)) ∷ map (λ k. line.Finish w (Some k)) (option_to_list n)) w (hand w q) o q)
+    (claim-ends jobs r q f g w cell job (first_with (hand w q) o) refl refl step.1
     (st.jobs_are cell job here.0 here.1)
     (gives jobs q g w o after mid near (manager-set jobs r f w after st near) order
     (λ v x apart at. others-owe r f w after plays.owes v x apart at
-    ∙ ap (λ y. map (λ e. e.1) y.hand) (sym (changes.other_parties (r.core.submitters + v) (λ e. apart (omega (arith, e)))))))
+    ∙ ap (λ y. map (λ e. e.1) y.hand) (sym (changes.other_parties (r.core.submitters + v) (λ e. apart (omega (arith, e))))))))
 
 claim-tries : (jobs : List Job) (w : ℕ) (cells : List ℕ) (o : Option (ℕ × Job)) (r : Replaying) (f : FrontState Job Done) → Plays jobs r f → w < r.core.workers
     → first_ready r.core cells ≡ o → Goes jobs r f (claim_of w o r)

@@ -1,5 +1,5 @@
 -- What a replay prints: what each command of a script comes to, over one front and a manager for each worker.
-use Rattle.std.specs.Prelude.{◌==◌, ◌+◌, ◌*◌, ◌<◌, ℕ, List, [], ◌∷◌, ◌++◌, flat_map, length, map, replicate, set, slice_get, slice_index, slice_index_or, Option, Some, None, option_map, option_to_list, if◌then◌else◌}
+use Rattle.std.specs.Prelude.{◌==◌, ◌+◌, ◌*◌, ◌<◌, ℕ, List, [], ◌∷◌, ◌++◌, flat_map, length, map, replicate, set, slice_get, slice_index, slice_index_or, Option, Some, None, option_to_list, if◌then◌else◌}
 use Rattle.std.specs.List.{range_with_len}
 use Rattle.mbj_types.specs.declared.job.Job.{Job}
 use Rattle.mbj_types.specs.declared.done.Done.{Done}
@@ -67,25 +67,17 @@ post_of s n None r = (line.PostEnd s ∷ [], r)
 post_of s n (Some job) r =
     if out_of r.core s == SUBMITTER_CELLS then (line.PostFull s ∷ [], r) else (line.Post s n ∷ [], with_post s n job r)
 
-abbrev pub post_told : List Job → ℕ → Replaying → Told
-post_told jobs s r = post_of s (slice_index r.nexts s) (slice_get jobs (slice_index r.nexts s)) r
+-- ---- what a worker's manager gives back
 
--- ---- finish
+-- it goes into the first cell of the worker's hand, whose job is finished so; its number, where there is one, is told
+abbrev pub finish_told : (Option ℕ → List ReplayLine) → ℕ → List ℕ → Option Done → Replaying → Told
+finish_told lines w (cell ∷ cells) (Some d) r =
+    (lines (Some (number_in r cell)), record r { core = finished r.core (party w r) cell d })
+finish_told lines w _ _ r = (lines None, r)
 
--- what a manager gave back goes into the first cell of the worker's hand
-abbrev pub first_with : List ℕ → Option Done → Option (ℕ × Done)
-first_with (cell ∷ cells) (Some d) = Some (cell, d)
-first_with _ _ = None
-
-abbrev pub finish_of : Replaying → Option (ℕ × Done) → Option ℕ
-finish_of r given = option_map (λ g. number_in r g.0) given
-
-abbrev pub core_after : ℕ → Option (ℕ × Done) → CoreState → CoreState
-core_after p None c = c
-core_after p (Some given) c = finished c p given.0 given.1
-
-abbrev pub after_finish : ℕ → Option (ℕ × Done) → Replaying → Replaying
-after_finish w given r = record r { core = core_after (party w r) given r.core }
+-- the worker's manager answered so when it was called
+abbrev pub answer_told : (Option ℕ → List ReplayLine) → ℕ → Option Done × ManagerState → Replaying → Told
+answer_told lines w answer r = finish_told lines w (hand w r) answer.0 (record r { managers = set r.managers w answer.1 })
 
 -- ---- claim
 
@@ -102,41 +94,12 @@ abbrev pub first_ready : CoreState → List ℕ → Option (ℕ × Job)
 first_ready c [] = None
 first_ready c (cell ∷ cells) = job_or (cell_in c cell) cell (first_ready c cells)
 
-abbrev pub with_claim : ℕ → ℕ → Job → ManagerState → Replaying → Replaying
-with_claim w cell job after r = record r {
-  core = claimed_by r.core (party w r) cell job;
-  managers = set r.managers w after;
-}
-
-abbrev pub finish_told : ℕ → ReplayLine → Option (ℕ × Done) → Replaying → Told
-finish_told w claim given r =
-    (claim ∷ map (λ n. line.Finish w (Some n)) (option_to_list (finish_of r given)), after_finish w given r)
-
--- the claimed job is submitted to the worker's manager, and what that gives back is finished
-abbrev pub submit_told : ℕ → ReplayLine → Option Done → Replaying → Told
-submit_told w claim given r = finish_told w claim (first_with (hand w r) given) r
-
+-- the claimed job is submitted to the worker's manager
 abbrev pub claim_of : ℕ → Option (ℕ × Job) → Replaying → Told
 claim_of w None r = (line.Claim w None ∷ [], r)
 claim_of w (Some found) r =
-    submit_told w (line.Claim w (Some (number_in r found.0))) (after_submit (with_open (manager w r) found.1)).0
-    (with_claim w found.0 found.1 (after_submit (with_open (manager w r) found.1)).1 r)
-
--- a worker whose hand has as many cells as its manager's ring tries nothing
-abbrev pub claim_told : ℕ → ℕ → Replaying → Told
-claim_told w s r =
-    if length (hand w r) == ring.CELLS then (line.ClaimFull w ∷ [], r) else claim_of w (first_ready r.core (cells_out r.core s)) r
-
--- ---- flush
-
-abbrev pub with_manager : ℕ → ManagerState → Replaying → Replaying
-with_manager w after r = record r { managers = set r.managers w after }
-
-abbrev pub flush_of : ℕ → Option (ℕ × Done) → Replaying → Told
-flush_of w given r = (line.Finish w (finish_of r given) ∷ [], after_finish w given r)
-
-abbrev pub flush_told : ℕ → Replaying → Told
-flush_told w r = flush_of w (first_with (hand w r) (after_flush (manager w r)).0) (with_manager w (after_flush (manager w r)).1 r)
+    answer_told (λ n. line.Claim w (Some (number_in r found.0)) ∷ map (λ m. line.Finish w (Some m)) (option_to_list n)) w
+    (after_submit (with_open (manager w r) found.1)) (record r { core = claimed_by r.core (party w r) found.0 found.1 })
 
 -- ---- collect
 
@@ -149,9 +112,6 @@ collect_of s _ r = (line.CollectNone s ∷ [], r)
 abbrev pub earliest_out : CoreState → ℕ → Option (Cell Job Done)
 earliest_out c s = if out_of c s == 0 then None else cell_in c (first_cell c s)
 
-abbrev pub collect_told : ℕ → Replaying → Told
-collect_told s r = collect_of s (earliest_out r.core s) r
-
 -- ---- the whole
 
 -- the submitter and the worker of a command are among so many
@@ -162,10 +122,12 @@ IsFor submitters workers (command.Flush w) = w < workers
 IsFor submitters workers (command.Collect s) = s < submitters
 
 abbrev pub told : List Job → Cmd → Replaying → Told
-told jobs (command.Post s) r = post_told jobs s r
-told jobs (command.Claim w s) r = claim_told w s r
-told jobs (command.Flush w) r = flush_told w r
-told jobs (command.Collect s) r = collect_told s r
+told jobs (command.Post s) r = post_of s (slice_index r.nexts s) (slice_get jobs (slice_index r.nexts s)) r
+-- a worker whose hand has as many cells as its manager's ring tries nothing
+told jobs (command.Claim w s) r =
+    if length (hand w r) == ring.CELLS then (line.ClaimFull w ∷ [], r) else claim_of w (first_ready r.core (cells_out r.core s)) r
+told jobs (command.Flush w) r = answer_told (λ n. line.Finish w n ∷ []) w (after_flush (manager w r)) r
+told jobs (command.Collect s) r = collect_of s (earliest_out r.core s) r
 
 -- the lines of commands, one after another, and the state after the last
 abbrev pub all_told : List Job → List Cmd → Replaying → Told

@@ -7,7 +7,8 @@ ghost use Rattle.mbj_core.specs.Events.{accepted, finish};
 ghost use Rattle.mbj_core.specs.Stands.{Leads};
 ghost use Rattle.mbj_core.specs.declared.cells.TheConstants.{SUBMITTER_CELLS};
 ghost use Rattle.mbj_replay.specs.Inside.Claiming.{ClaimsAt};
-ghost use Rattle.mbj_replay.specs.Replay.{cells_out, core_after, first_ready};
+ghost use Rattle.mbj_replay.specs.Inside.Giving.{core_after};
+ghost use Rattle.mbj_replay.specs.Replay.{cells_out, first_ready};
 
 use mbj_core::{Core, SUBMITTER_CELLS};
 use mbj_types::Done;

@@ -3,7 +3,7 @@ ghost use Rattle.std.specs.List.{range_with_len};
 ghost use Rattle.mbj_types.specs.declared.job.Job.{Job};
 ghost use Rattle.mbj_core.specs.declared.cells.TheConstants.{MAX_SUBMITTERS, MAX_WORKERS};
 ghost use Rattle.mbj_text.specs.declared.limits.TheConstants.{JOB_LIMIT};
-ghost use Rattle.mbj_replay.specs.Replay.{IsFor, Replaying, all_told, claim_told, collect_told, flush_told, new_replay, number_in, post_told, replay_lines, told};
+ghost use Rattle.mbj_replay.specs.Replay.{IsFor, Replaying, all_told, new_replay, number_in, replay_lines, told};
 ghost use Rattle.mbj_replay.specs.Inside.State.{HasPartiesOf, IsPlaying, lines_of, state_of, with_copy};
 
 use crate::claiming::{cell_behind, claim_earliest, finish_given, party_of};
@@ -146,7 +146,7 @@ impl Replayer {
         requires playing { IsPlaying jobs self.old }
         requires limit { length jobs ≤ JOB_LIMIT }
         requires submitter { s < self.old.core.submitters }
-        ensures told { (result ∷ [], state_of self.new) ≡ post_told jobs s (state_of self.old) }
+        ensures told { (result ∷ [], state_of self.new) ≡ told jobs (Cmd.Post s) (state_of self.old) }
         ensures playing { IsPlaying jobs self.new }
         ensures parties { HasPartiesOf self.old self.new }
     {
@@ -181,7 +181,7 @@ impl Replayer {
         requires playing { IsPlaying jobs self.old }
         requires worker { w < self.old.core.workers }
         requires submitter { s < self.old.core.submitters }
-        ensures told { (lines_of result, state_of self.new) ≡ claim_told w s (state_of self.old) }
+        ensures told { (lines_of result, state_of self.new) ≡ told jobs (Cmd.Claim w s) (state_of self.old) }
         ensures playing { IsPlaying jobs self.new }
         ensures parties { HasPartiesOf self.old self.new }
     {
@@ -216,7 +216,7 @@ impl Replayer {
         ghost jobs: { List Job }
         requires playing { IsPlaying jobs self.old }
         requires worker { w < self.old.core.workers }
-        ensures told { (result ∷ [], state_of self.new) ≡ flush_told w (state_of self.old) }
+        ensures told { (result ∷ [], state_of self.new) ≡ told jobs (Cmd.Flush w) (state_of self.old) }
         ensures playing { IsPlaying jobs self.new }
         ensures parties { HasPartiesOf self.old self.new }
     {
@@ -234,7 +234,7 @@ impl Replayer {
         ghost jobs: { List Job }
         requires playing { IsPlaying jobs self.old }
         requires submitter { s < self.old.core.submitters }
-        ensures told { (result ∷ [], state_of self.new) ≡ collect_told s (state_of self.old) }
+        ensures told { (result ∷ [], state_of self.new) ≡ told jobs (Cmd.Collect s) (state_of self.old) }
         ensures playing { IsPlaying jobs self.new }
         ensures parties { HasPartiesOf self.old self.new }
     {

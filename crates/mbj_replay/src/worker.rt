@@ -2,7 +2,7 @@ ghost use Rattle.std.specs.Prelude.{◌≡◌, ◌+◌, ◌<◌, ◌≤◌, ◌�
 ghost use Rattle.mbj_types.specs.Result.{result_of};
 ghost use Rattle.mbj_ring.specs.declared.ring.TheConstants.{CELLS};
 ghost use Rattle.mbj_manager.specs.State.{after_flush, new_manager, after_submit, with_open};
-ghost use Rattle.mbj_replay.specs.Replay.{first_with};
+ghost use Rattle.mbj_replay.specs.Inside.Giving.{first_with};
 
 use mbj_manager::Manager;
 use mbj_ring::CELLS;

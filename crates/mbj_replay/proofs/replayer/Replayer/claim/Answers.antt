@@ -7,7 +7,7 @@ use Rattle.mbj_ring.specs.declared.ring.TheConstants as ring
 use Rattle.mbj_manager.specs.State.{after_submit, with_open}
 use Rattle.mbj_types.specs.Result.{result_of}
 use Rattle.mbj_types.specs.declared.job.Job.{Job}
-use Rattle.mbj_replay.specs.Replay.{first_with}
+use Rattle.mbj_replay.specs.Inside.Giving.{first_with}
 use Rattle.mbj_replay.specs.Inside.State.{state_of}
 use Rattle.mbj_replay.specs.declared.replayer.Posted.{Posted}
 use Rattle.mbj_replay.specs.declared.line.ReplayLine.TheVariants as line
@@ -68,7 +68,7 @@ returns-in_default-clause-told g c =
     let r = c.args.self.now in
     let x = c.index.result.now in
     let at = worker-at g.jobs r c.args.w x c.requires.0 c.requires.1.0 c.index.ensures in
-    no-claim-is c.args.w c.args.s (state_of r) _ x.hand.items
+    no-claim-is g.jobs c.args.w c.args.s (state_of r) _ x.hand.items
     (worker-hand g.jobs r c.args.w c.party_of-party.result None x x c.requires.0 c.party_of-party.ensures at c.requires.1.0)
     (refuted c.is_full.result (length x.hand.items ≡ ring.CELLS) c.is_full.ensures.full c.if-is_full.false)
     c.in_default.ensures.none
@@ -91,7 +91,7 @@ returns-clause-told g c =
     let copy = same_Some _ _ (c.in-Some-take.ensures.value ∙ copied g (goal.at.returns-clause-told g c).After-take) in
     let owed = c.submit-given.ensures.owed ∙ ap (λ (j : Job). x.manager.owed ++ result_of j ∷ []) copy in
     let numbers = numbers-stay r.posted.items c.in-Some.cell z taken there refl in
-    claim-is c.args.w c.args.s c.in-Some.cell claims.job (state_of r) _ x.manager first.hand.items (x.hand.items ++ c.in-Some.cell ∷ []) c.submit-given.result
+    claim-is g.jobs c.args.w c.args.s c.in-Some.cell claims.job (state_of r) _ x.manager first.hand.items (x.hand.items ++ c.in-Some.cell ∷ []) c.submit-given.result
     c.number_at-job.result _
     (worker-hand g.jobs r c.args.w p c.submit-given.result first y c.requires.0 c.party_of-party.ensures at_first c.requires.1.0)
     (refuted c.is_full.result (length first.hand.items ≡ ring.CELLS) c.is_full.ensures.full c.if-is_full.false)

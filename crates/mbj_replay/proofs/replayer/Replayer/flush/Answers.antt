@@ -31,7 +31,7 @@ returns-clause-told g c =
     let r = c.args.self.now in
     let x = c.index_mut.result.now in
     let at = worker-at g.jobs r c.args.w x c.requires.0 c.requires.1 c.index_mut.ensures.value in
-    flush-is c.args.w (state_of r) _ x.manager x.hand.items c.flush-given.result c.number_at-job.result
+    flush-is g.jobs c.args.w (state_of r) _ x.manager x.hand.items c.flush-given.result c.number_at-job.result
     (manager-is r.workers.items c.args.w x at)
     (worker-hand g.jobs r c.args.w c.party_of-party.result c.flush-given.result x c.flush-given.new.self c.requires.0 c.party_of-party.ensures at c.requires.1)
     c.flush-given.ensures.finished
