@@ -1,12 +1,12 @@
 -- What a trace prints: what each call of one manager gives back.
-use Rattle.std.specs.Prelude.{◌==◌, ◌+◌, ℕ, zero, suc, List, [], ◌∷◌, ◌++◌, length, flat_map, is_some, Option, Some, None, if◌then◌else◌}
+use Rattle.std.specs.Prelude.{◌==◌, ◌+◌, ℕ, zero, suc, List, [], ◌∷◌, ◌++◌, length, flat_map, is_some, option_map, Option, if◌then◌else◌}
 use Rattle.mbj_types.specs.declared.job.Job.{Job}
 use Rattle.mbj_types.specs.declared.done.Done.{Done}
 use Rattle.mbj_types.specs.declared.kind.Kind.{Kind}
 use Rattle.mbj_types.specs.Kinds.{all_kinds}
 use Rattle.mbj_ring.specs.declared.ring.TheConstants.{CELLS}
 use Rattle.mbj_manager.specs.Machine.{Machine, lane_for}
-use Rattle.mbj_manager.specs.State.{ManagerState, new_manager, with_open, after_submit, after_get_completed, after_flush, after_making_room}
+use Rattle.mbj_manager.specs.State.{ManagerState, new_manager, with_open, after_submit, after_get_completed, after_flush}
 use Rattle.mbj_trace.specs.Lines.{line_text}
 use Rattle.mbj_trace.specs.declared.line.TraceLine.{TraceLine}
 use Rattle.mbj_trace.specs.declared.line.TraceLine.TheVariants as line
@@ -18,89 +18,54 @@ pub record Tracing : Type 0 where
   pub manager : ManagerState
   pub given : ℕ
 
--- how many jobs were given to the manager
-abbrev pub jobs_in : Tracing → ℕ
-jobs_in t = t.given + length t.manager.owed
+abbrev pub new_tracing : Tracing
+new_tracing = record { manager = new_manager; given = 0 }
 
-abbrev pub Answer : Type 0
-Answer = Option Done × ManagerState
+-- lines, and the state after what they tell
+abbrev pub Told : Type 0
+Told = List TraceLine × Tracing
 
--- the number of the job that was given back, where one was
-abbrev pub number_at : Option Done → ℕ → Option ℕ
-number_at None next = None
-number_at (Some done) next = Some next
+-- what is told first, and what is told next from the state after that
+abbrev pub then_told : Told → (Tracing → Told) → Told
+then_told first next = (first.0 ++ (next first.1).0, (next first.1).1)
 
-abbrev pub count_after : Option Done → ℕ → ℕ
-count_after None next = next
-count_after (Some done) next = next + 1
-
-abbrev pub after_answer : Answer → ℕ → Tracing
-after_answer a next = record { manager = a.1; given = count_after a.0 next }
+-- a call of the manager is told in one line; the job that it gives back, where it gives one, is told by its number
+abbrev pub call_told : (Option ℕ → TraceLine) → (ManagerState → Option Done × ManagerState) → Tracing → Told
+call_told line call t = (
+  line (option_map (λ _. t.given) (call t.manager).0) ∷ [],
+  record { manager = (call t.manager).1; given = if is_some (call t.manager).0 then t.given + 1 else t.given },
+)
 
 -- ---- submitting
 
 -- where no cell is left, that is told, and the earliest job is flushed
-abbrev pub room_lines : Tracing → List TraceLine
-room_lines t =
-    if length t.manager.owed == CELLS
-    then line.Full ∷ line.Flush (number_at (after_making_room t.manager).0 t.given) ∷ []
-    else []
+abbrev pub room_told : Tracing → Told
+room_told t =
+    if length t.manager.owed == CELLS then then_told (line.Full ∷ [], t) (call_told line.Flush after_flush) else ([], t)
 
-abbrev pub with_room : Tracing → Tracing
-with_room t = after_answer (after_making_room t.manager) t.given
-
--- the job is written into the next cell and submitted
-abbrev pub submitting : Job → Tracing → Answer
-submitting j t = after_submit (with_open t.manager j)
-
-abbrev pub submit_line : ℕ → Job → Tracing → TraceLine
-submit_line n j t = line.Submit n (number_at (submitting j t).0 t.given)
-
-abbrev pub after_job : Job → Tracing → Tracing
-after_job j t = after_answer (submitting j t) t.given
+-- once there is room, job n is written into the next cell and submitted
+abbrev pub job_told : ℕ → Job → Tracing → Told
+job_told n j t = then_told (room_told t) (call_told (line.Submit n) (λ h. after_submit (with_open h j)))
 
 -- the jobs from number n on
-abbrev pub job_lines : ℕ → List Job → Tracing → List TraceLine
-job_lines n [] t = []
-job_lines n (j ∷ jobs) t =
-    room_lines t ++ submit_line n j (with_room t) ∷ job_lines (n + 1) jobs (after_job j (with_room t))
-
-abbrev pub after_jobs : List Job → Tracing → Tracing
-after_jobs [] t = t
-after_jobs (j ∷ jobs) t = after_jobs jobs (after_job j (with_room t))
+abbrev pub jobs_told : ℕ → List Job → Tracing → Told
+jobs_told n [] t = ([], t)
+jobs_told n (j ∷ jobs) t = then_told (job_told n j t) (jobs_told (n + 1) jobs)
 
 -- ---- taking back
 
-abbrev pub taken_by : Taking → ManagerState → Answer
-taken_by taking.Completed h = after_get_completed h
-taken_by taking.Flushed h = after_flush h
-
-abbrev pub taking_line : Taking → Option ℕ → TraceLine
-taking_line taking.Completed n = line.Completed n
-taking_line taking.Flushed n = line.Flush n
-
-abbrev pub take_line : Taking → Tracing → TraceLine
-take_line how t = taking_line how (number_at (taken_by how t.manager).0 t.given)
-
-abbrev pub after_take : Taking → Tracing → Tracing
-after_take how t = after_answer (taken_by how t.manager) t.given
+abbrev pub take_told : Taking → Tracing → Told
+take_told taking.Completed t = call_told line.Completed after_get_completed t
+take_told taking.Flushed t = call_told line.Flush after_flush t
 
 -- one call after another until one gives nothing back; where so many jobs are owed, so many calls give one back at most
-abbrev pub take_lines : Taking → ℕ → Tracing → List TraceLine
-take_lines how zero t = take_line how t ∷ []
-take_lines how (suc jobs) t =
-    take_line how t ∷ (if is_some (taken_by how t.manager).0 then take_lines how jobs (after_take how t) else [])
+abbrev pub takes_told : Taking → ℕ → Tracing → Told
+takes_told how zero t = take_told how t
+takes_told how (suc jobs) t =
+    if (take_told how t).1.given == t.given then take_told how t else then_told (take_told how t) (takes_told how jobs)
 
-abbrev pub after_takes : Taking → ℕ → Tracing → Tracing
-after_takes how zero t = after_take how t
-after_takes how (suc jobs) t =
-    if is_some (taken_by how t.manager).0 then after_takes how jobs (after_take how t) else after_take how t
-
-abbrev pub all_taken : Taking → Tracing → List TraceLine
-all_taken how t = take_lines how (length t.manager.owed) t
-
-abbrev pub after_all_taken : Taking → Tracing → Tracing
-after_all_taken how t = after_takes how (length t.manager.owed) t
+abbrev pub all_told : Taking → Tracing → Told
+all_told how t = takes_told how (length t.manager.owed) t
 
 -- ---- the counts
 
@@ -111,18 +76,13 @@ count_lines m k =
 
 -- ---- the whole
 
-abbrev pub tracing : ManagerState → Tracing
-tracing h = record { manager = h; given = 0 }
+-- after the last job: what is finished, then what a flush finishes
+abbrev pub calls_told : List Job → Told
+calls_told jobs = then_told (then_told (jobs_told 0 jobs new_tracing) (all_told taking.Completed)) (all_told taking.Flushed)
 
--- after the last job: what is finished, then what a flush finishes, then the counts
-abbrev pub end_lines : Tracing → List TraceLine
-end_lines t =
-    all_taken taking.Completed t
-    ++ (all_taken taking.Flushed (after_all_taken taking.Completed t)
-    ++ flat_map (count_lines (after_all_taken taking.Flushed (after_all_taken taking.Completed t)).manager.machine) all_kinds)
-
+-- the counts come last
 unfoldable pub trace_lines : List Job → List TraceLine
-trace_lines jobs = job_lines 0 jobs (tracing new_manager) ++ end_lines (after_jobs jobs (tracing new_manager))
+trace_lines jobs = (calls_told jobs).0 ++ flat_map (count_lines (calls_told jobs).1.manager.machine) all_kinds
 
 abbrev pub trace_text : List Job → List ℕ
 trace_text jobs = flat_map line_text (trace_lines jobs)

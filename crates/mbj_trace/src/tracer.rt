@@ -1,10 +1,9 @@
-ghost use Rattle.std.specs.Prelude.{◌≡◌, ◌+◌, ◌<◌, ◌≤◌, ◌++◌, ◌∷◌, [], IfOk, OnOk, flat_map, is_some, length};
+ghost use Rattle.std.specs.Prelude.{◌≡◌, ◌+◌, ◌<◌, ◌≤◌, ◌++◌, [], if◌then◌else◌, IfOk, OnOk, flat_map, is_some, length, option_map};
 ghost use Rattle.mbj_types.specs.Kinds.{all_kinds};
 ghost use Rattle.mbj_ring.specs.declared.ring.TheConstants.{CELLS};
-ghost use Rattle.mbj_manager.specs.State.{new_manager};
 ghost use Rattle.mbj_text.specs.declared.limits.TheConstants.{JOB_LIMIT};
-ghost use Rattle.mbj_trace.specs.Trace.{after_all_taken, after_job, after_jobs, after_take, all_taken, count_after, count_lines, job_lines, jobs_in, number_at, room_lines, submit_line, take_line, taken_by, trace_lines, tracing, with_room};
-ghost use Rattle.mbj_trace.specs.Inside.State.{MAX_GIVEN, state_of};
+ghost use Rattle.mbj_trace.specs.Trace.{all_told, count_lines, job_told, jobs_told, new_tracing, room_told, take_told, trace_lines};
+ghost use Rattle.mbj_trace.specs.Inside.State.{MAX_GIVEN, jobs_in, state_of};
 
 use crate::line::TraceLine;
 use mbj_manager::Manager;
@@ -32,7 +31,7 @@ struct Tracer {
 impl Tracer {
     /// A new manager, and no lines.
     fn new(alloc: Global) -> Result<Tracer, AllocError>
-        ensures { IfOk result (λ t. (state_of t ≡ tracing new_manager) × (t.lines.items ≡ [])) }
+        ensures { IfOk result (λ t. (state_of t ≡ new_tracing) × (t.lines.items ≡ [])) }
     {
         let manager = Manager::new(alloc)?;
         Ok(Tracer {
@@ -45,8 +44,8 @@ impl Tracer {
     /// Counts a job that was given back, and answers its number.
     fn number(&mut self, done: Option<Done>) -> Option<u32>
         requires { self.old.given < MAX_GIVEN }
-        ensures number { result ≡ number_at done self.old.given }
-        ensures given { self.new.given ≡ count_after done self.old.given }
+        ensures number { result ≡ option_map (λ _. self.old.given) done }
+        ensures given { self.new.given ≡ (if is_some done then self.old.given + 1 else self.old.given) }
         ensures manager { self.new.manager ≡ self.old.manager }
         ensures lines { self.new.lines ≡ self.old.lines }
     {
@@ -59,8 +58,8 @@ impl Tracer {
     /// Where no cell is left, tells that and flushes the earliest job.
     fn make_room(&mut self) -> Result<(), AllocError>
         requires { jobs_in (state_of self.old) ≤ JOB_LIMIT }
-        ensures lines { OnOk result (self.new.lines.items ≡ self.old.lines.items ++ room_lines (state_of self.old)) }
-        ensures state { OnOk result (state_of self.new ≡ with_room (state_of self.old)) }
+        ensures lines { OnOk result (self.new.lines.items ≡ self.old.lines.items ++ (room_told (state_of self.old)).0) }
+        ensures state { OnOk result (state_of self.new ≡ (room_told (state_of self.old)).1) }
         ensures room { OnOk result (length self.new.manager.owed < CELLS) }
         ensures count { OnOk result (jobs_in (state_of self.new) ≡ jobs_in (state_of self.old)) }
     {
@@ -77,9 +76,9 @@ impl Tracer {
     /// Submits job `number` of the file.
     fn submit(&mut self, number: u32, job: Job) -> Result<(), AllocError>
         requires { jobs_in (state_of self.old) < JOB_LIMIT }
-        ensures lines { OnOk result (self.new.lines.items ≡ self.old.lines.items
-            ++ (room_lines (state_of self.old) ++ submit_line number job (with_room (state_of self.old)) ∷ [])) }
-        ensures state { OnOk result (state_of self.new ≡ after_job job (with_room (state_of self.old))) }
+        ensures lines { OnOk result (self.new.lines.items
+            ≡ self.old.lines.items ++ (job_told number job (state_of self.old)).0) }
+        ensures state { OnOk result (state_of self.new ≡ (job_told number job (state_of self.old)).1) }
         ensures count { OnOk result (jobs_in (state_of self.new) ≡ jobs_in (state_of self.old) + 1) }
     {
         self.make_room()?;
@@ -95,8 +94,8 @@ impl Tracer {
         requires jobs { length jobs.items ≤ JOB_LIMIT }
         requires none { jobs_in (state_of self.old) ≡ 0 }
         ensures lines { OnOk result (self.new.lines.items
-            ≡ self.old.lines.items ++ job_lines 0 jobs.items (state_of self.old)) }
-        ensures state { OnOk result (state_of self.new ≡ after_jobs jobs.items (state_of self.old)) }
+            ≡ self.old.lines.items ++ (jobs_told 0 jobs.items (state_of self.old)).0) }
+        ensures state { OnOk result (state_of self.new ≡ (jobs_told 0 jobs.items (state_of self.old)).1) }
         ensures count { OnOk result (jobs_in (state_of self.new) ≤ JOB_LIMIT) }
     {
         let mut number = 0;
@@ -110,10 +109,10 @@ impl Tracer {
     /// Takes a job back, and answers whether there was one.
     fn take(&mut self, how: Taking) -> Result<bool, AllocError>
         requires { jobs_in (state_of self.old) ≤ JOB_LIMIT }
-        ensures taken { IfOk result (λ taken. taken ≡ is_some (taken_by how self.old.manager).0) }
+        ensures taken { IfOk result (λ taken. self.new.given ≡ (if taken then self.old.given + 1 else self.old.given)) }
         ensures lines { OnOk result (self.new.lines.items
-            ≡ self.old.lines.items ++ take_line how (state_of self.old) ∷ []) }
-        ensures state { OnOk result (state_of self.new ≡ after_take how (state_of self.old)) }
+            ≡ self.old.lines.items ++ (take_told how (state_of self.old)).0) }
+        ensures state { OnOk result (state_of self.new ≡ (take_told how (state_of self.old)).1) }
         ensures count { OnOk result (jobs_in (state_of self.new) ≡ jobs_in (state_of self.old)) }
     {
         let done = match how {
@@ -131,8 +130,8 @@ impl Tracer {
     /// Takes jobs back until there is none.
     fn take_all(&mut self, how: Taking) -> Result<(), AllocError>
         requires { jobs_in (state_of self.old) ≤ JOB_LIMIT }
-        ensures lines { OnOk result (self.new.lines.items ≡ self.old.lines.items ++ all_taken how (state_of self.old)) }
-        ensures state { OnOk result (state_of self.new ≡ after_all_taken how (state_of self.old)) }
+        ensures lines { OnOk result (self.new.lines.items ≡ self.old.lines.items ++ (all_told how (state_of self.old)).0) }
+        ensures state { OnOk result (state_of self.new ≡ (all_told how (state_of self.old)).1) }
         ensures count { OnOk result (jobs_in (state_of self.new) ≡ jobs_in (state_of self.old)) }
     {
         'taking: while self.take(how)? {}

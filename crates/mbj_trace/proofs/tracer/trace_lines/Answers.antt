@@ -1,5 +1,5 @@
 use Rattle.mbj_trace.specs.Inside.State.{state_of}
-use Rattle.mbj_trace.proofs.TraceLines.{ends, whole}
+use Rattle.mbj_trace.proofs.TraceLines.{whole}
 use Rattle.mbj_trace.proofs.tracer.trace_lines.Goals as goal
 
 pub returns : goal.returns
@@ -8,7 +8,7 @@ returns c =
     let first = c.submit_all.new.self in
     let second = c.take_all.new.self in
     let third = c.take_all-2.new.self in
-    whole c.args.jobs.items (state_of tracer) (state_of first) tracer.lines.items first.lines.items c.count.new.self.lines.items
+    whole c.args.jobs.items (state_of tracer) (state_of first) (state_of second) (state_of third)
+    tracer.lines.items first.lines.items second.lines.items third.lines.items c.count.new.self.lines.items
     c.in_ok-tracer.ensures.0 c.in_ok-tracer.ensures.1 c.in_ok-submit_all.ensures.lines c.in_ok-submit_all.ensures.state
-    (ends (state_of first) (state_of second) (state_of third) first.lines.items second.lines.items third.lines.items c.count.new.self.lines.items
-    c.in_ok-take_all.ensures.lines c.in_ok-take_all.ensures.state c.in_ok-take_all-2.ensures.lines c.in_ok-take_all-2.ensures.state c.in_ok-count.ensures)
+    c.in_ok-take_all.ensures.lines c.in_ok-take_all.ensures.state c.in_ok-take_all-2.ensures.lines c.in_ok-take_all-2.ensures.state c.in_ok-count.ensures
