@@ -31,10 +31,9 @@ then_told first next = (first.0 ++ (next first.1).0, (next first.1).1)
 
 -- a call of the manager is told in one line; the job that it gives back, where it gives one, is told by its number
 abbrev pub call_told : (Option ℕ → TraceLine) → (ManagerState → Option Done × ManagerState) → Tracing → Told
-call_told line call t = (
-  line (option_map (λ _. t.given) (call t.manager).0) ∷ [],
-  record { manager = (call t.manager).1; given = if is_some (call t.manager).0 then t.given + 1 else t.given },
-)
+call_told line call t =
+    let a = call t.manager in
+    (line (option_map (λ _. t.given) a.0) ∷ [], record { manager = a.1; given = if is_some a.0 then t.given + 1 else t.given })
 
 -- ---- submitting
 
