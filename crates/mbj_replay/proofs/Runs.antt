@@ -20,11 +20,11 @@ use Rattle.mbj_manager.specs.State.{ManagerState, new_manager}
 use Rattle.mbj_text.specs.declared.command.Cmd.{Cmd}
 use Rattle.mbj_text.specs.declared.command.Cmd.TheVariants as command
 use Rattle.mbj_replay.specs.Events.{Answered, ReplaysAreOfEvents, Tells}
-use Rattle.mbj_replay.specs.Replay.{IsFor, Replaying, all_told, earliest_out, new_replay, replay_lines, told}
+use Rattle.mbj_replay.specs.Replay.{IsFor, Replaying, all_told, new_replay, replay_lines, told}
 use Rattle.mbj_replay.proofs.CommandLines.{all-first, all-rest}
 use Rattle.mbj_replay.proofs.NewReplayers.{alike}
 use Rattle.mbj_replay.proofs.Playing.{Goes, Plays}
-use Rattle.mbj_replay.proofs.Submitters.{collect-goes, post-goes}
+use Rattle.mbj_replay.proofs.Submitters.{collect-goes, earliest_out, post-goes}
 use Rattle.mbj_replay.proofs.Workers.{claim-goes, flush-goes}
 
 -- each command

@@ -1,5 +1,5 @@
 -- A submitter's command leads from a front that the core stands for to another by the event that its line tells of.
-use Rattle.std.proofs.Common.{◌≡◌, ◌≢◌, ◌∙◌, ◌+◌, ◌*◌, ◌<◌, [], ◌∷◌, ap, sym, subst, refl, ℕ, List, Option, None, Some, map, length, set, slice_index, option_map, ◌⊎◌, inl, inr, arith, length-set, get_or-set_same, get_or-set_other}
+use Rattle.std.proofs.Common.{◌≡◌, ◌≢◌, ◌∙◌, ◌+◌, ◌*◌, ◌<◌, [], ◌∷◌, ap, sym, subst, refl, ℕ, List, Option, None, Some, map, length, set, slice_index, option_map, ◌⊎◌, inl, inr, arith, ◌==◌, if◌then◌else◌, length-set, get_or-set_same, get_or-set_other}
 use Rattle.std.specs.Prelude.{slice_get}
 use Rattle.std.proofs.lemmas.Option.{none-some}
 use mathlib.Core.Logic.{dite}
@@ -15,7 +15,7 @@ use Rattle.mbj_core.specs.declared.cells.TheConstants.{SUBMITTER_CELLS}
 use Rattle.mbj_core.proofs.Calls.{Sizes, posts_lead, collects_lead, vain_collects_lead}
 use Rattle.mbj_core.proofs.Steps.{step_sound}
 use Rattle.mbj_replay.specs.Events.{ResultIs}
-use Rattle.mbj_replay.specs.Replay.{Replaying, collect_of, earliest_out, number_in, post_of, with_post}
+use Rattle.mbj_replay.specs.Replay.{Replaying, collect_of, number_in, post_of, with_post}
 use Rattle.mbj_replay.specs.declared.line.ReplayLine.TheVariants as line
 use Rattle.mbj_replay.proofs.CommandLines.{if-apart, if-same}
 use Rattle.mbj_replay.proofs.Fronts.{KeepsResults, KeepsJobs, jobs-kept, next-is, results-kept}
@@ -108,6 +108,10 @@ collect-sizes c s sizes = record {
   hands = sizes.hands;
   outs = length-set c.outs s _ ∙ sizes.outs;
 }
+
+-- what the cell of the submitter's earliest job that is out holds, where one is out
+abbrev pub earliest_out : CoreState → ℕ → Option (Cell Job Done)
+earliest_out c s = if out_of c s == 0 then None else cell_in c (first_cell c s)
 
 -- where none is out there is no earliest one
 earliest-none : (c : CoreState) (s : ℕ) → out_of c s ≡ 0 → earliest_out c s ≡ None

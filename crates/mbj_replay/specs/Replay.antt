@@ -103,14 +103,11 @@ claim_of w (Some found) r =
 
 -- ---- collect
 
+-- the submitter's earliest job that is out is handed out where its cell holds a result
 abbrev pub collect_of : ℕ → Option (Cell Job Done) → Replaying → Told
 collect_of s (Some (done d)) r =
     (line.Collect s (number_in r (first_cell r.core s)) d ∷ [], record r { core = handed_out r.core s })
 collect_of s _ r = (line.CollectNone s ∷ [], r)
-
--- what the cell of the submitter's earliest job that is out holds, where one is out
-abbrev pub earliest_out : CoreState → ℕ → Option (Cell Job Done)
-earliest_out c s = if out_of c s == 0 then None else cell_in c (first_cell c s)
 
 -- ---- the whole
 
@@ -127,7 +124,7 @@ told jobs (command.Post s) r = post_of s (slice_index r.nexts s) (slice_get jobs
 told jobs (command.Claim w s) r =
     if length (hand w r) == ring.CELLS then (line.ClaimFull w ∷ [], r) else claim_of w (first_ready r.core (cells_out r.core s)) r
 told jobs (command.Flush w) r = answer_told (λ n. line.Finish w n ∷ []) w (after_flush (manager w r)) r
-told jobs (command.Collect s) r = collect_of s (earliest_out r.core s) r
+told jobs (command.Collect s) r = collect_of s (if out_of r.core s == 0 then None else cell_in r.core (first_cell r.core s)) r
 
 -- the lines of commands, one after another, and the state after the last
 abbrev pub all_told : List Job → List Cmd → Replaying → Told
