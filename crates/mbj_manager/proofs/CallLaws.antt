@@ -1,12 +1,14 @@
 -- What is given back over a list of calls.
 use Rattle.std.proofs.Common.{◌≡◌, ◌↔◌, List, [], ◌∷◌, ◌++◌, map, Option, Some, None, option_to_list, slice_get, refl, ap, sym, ◌∙◌, append_assoc, append-nil, arith}
+use Rattle.std.specs.Prelude.{◌==◌, length, option_map, unwrap_or, if◌then◌else◌}
 use Rattle.std.proofs.lemmas.List.{map-append}
 use Rattle.mbj_types.specs.declared.job.Job.{Job}
 use Rattle.mbj_types.specs.declared.done.Done.{Done}
 use Rattle.mbj_types.specs.Result.{result_of}
+use Rattle.mbj_ring.specs.declared.ring.TheConstants.{CELLS}
 use Rattle.mbj_manager.specs.Rounds.{Pending}
-use Rattle.mbj_manager.specs.State.{ManagerState, IsEarliestFinished, after_get_completed, given_at, entered, entered_at, after_submit}
-use Rattle.mbj_manager.specs.Calls.{Call, get_next, write, submit, get_completed, flush, called, jobs_in, opened_next, submitted_at, written_at, given_back, jobs_submitted, after_calls}
+use Rattle.mbj_manager.specs.State.{ManagerState, IsEarliestFinished, after_get_completed, given_at, entered, entered_at, lent, after_submit, with_open}
+use Rattle.mbj_manager.specs.Calls.{Call, get_next, write, submit, get_completed, flush, called, jobs_in, given_back, jobs_submitted, after_calls}
 
 given-order-at : (ds : List Done) (left : List (List Pending)) (h : ManagerState) → h.owed ≡ ds
     → option_to_list (given_at ds left h).0 ++ (given_at ds left h).1.owed ≡ ds
@@ -48,6 +50,18 @@ submitted-order h = given-order (entered h) ∙ entered-owed h.opened h
 -- what a call gives back, and then what is owed, are what was owed and the results of what the call submits
 abbrev pub Keeps : Call → ManagerState → Type 0
 Keeps c h = option_to_list (called c h).0 ++ (called c h).1.owed ≡ h.owed ++ map result_of (jobs_in c h)
+
+-- what a submission gives back where o is the open job
+abbrev pub submitted_at : Option Job → ManagerState → Option Done × ManagerState
+submitted_at o h = unwrap_or (option_map (λ _. after_submit h) o) (None, h)
+
+-- the job j written over the open job o
+abbrev pub written_at : Option Job → Job → ManagerState → ManagerState
+written_at o j h = unwrap_or (option_map (λ _. with_open h j) o) h
+
+-- the next cell lent where there is one
+abbrev pub opened_next : ManagerState → ManagerState
+opened_next h = if length h.owed == CELLS then h else with_open h (lent h)
 
 submit-keeps : (o : Option Job) (h : ManagerState) → h.opened ≡ o
     → option_to_list (submitted_at o h).0 ++ (submitted_at o h).1.owed ≡ h.owed ++ map result_of (option_to_list o)

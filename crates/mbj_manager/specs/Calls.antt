@@ -1,5 +1,5 @@
 -- The calls of a manager one after another, and the law of what they give back.
-use Rattle.std.specs.Prelude.{◌≡◌, ◌==◌, List, [], ◌∷◌, ◌++◌, length, map, Option, Some, None, option_to_list, if◌then◌else◌}
+use Rattle.std.specs.Prelude.{◌≡◌, ◌==◌, List, [], ◌∷◌, ◌++◌, length, map, Option, None, option_map, option_to_list, unwrap_or, if◌then◌else◌}
 use Rattle.mbj_types.specs.declared.job.Job.{Job}
 use Rattle.mbj_types.specs.declared.done.Done.{Done}
 use Rattle.mbj_types.specs.Result.{result_of}
@@ -14,34 +14,18 @@ pub data Call : Type 0 where
   get_completed : Call
   flush : Call
 
-abbrev pub opened_next : ManagerState → ManagerState
-opened_next h = if length h.owed == CELLS then h else with_open h (lent h)
-
--- only a job that is lent is written
-abbrev pub written_at : Option Job → Job → ManagerState → ManagerState
-written_at None j h = h
-written_at (Some old) j h = with_open h j
-
--- only an open job is submitted
-abbrev pub submitted_at : Option Job → ManagerState → Option Done × ManagerState
-submitted_at None h = (None, h)
-submitted_at (Some j) h = after_submit h
-
--- what a call gives back, and the state after it
+-- what a call gives back, and the state after it: only a job that is lent is written, and only an open one is submitted
 abbrev pub called : Call → ManagerState → Option Done × ManagerState
-called get_next h = (None, opened_next h)
-called (write j) h = (None, written_at h.opened j h)
-called submit h = submitted_at h.opened h
+called get_next h = (None, if length h.owed == CELLS then h else with_open h (lent h))
+called (write j) h = (None, unwrap_or (option_map (λ _. with_open h j) h.opened) h)
+called submit h = unwrap_or (option_map (λ _. after_submit h) h.opened) (None, h)
 called get_completed h = after_get_completed h
 called flush h = after_flush h
 
 -- the jobs that a call submits
 abbrev pub jobs_in : Call → ManagerState → List Job
-jobs_in get_next h = []
-jobs_in (write j) h = []
 jobs_in submit h = option_to_list h.opened
-jobs_in get_completed h = []
-jobs_in flush h = []
+jobs_in _ h = []
 
 -- what the calls give back, in order
 unfoldable pub given_back : List Call → ManagerState → List Done
