@@ -10,6 +10,7 @@ mod counts;
 mod feed;
 mod kernels;
 mod lane;
+mod listed;
 mod lists;
 mod manager;
 mod queue;
@@ -31,6 +32,8 @@ pub use kernels::{
 };
 #[doc(hidden)]
 pub use lane::Cause;
+#[doc(hidden)]
+pub use listed::Listed;
 #[doc(hidden)]
 pub use lists::Lists;
 pub use manager::Manager;

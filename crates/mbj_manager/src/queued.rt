@@ -1,71 +1,8 @@
-//! The list of each kind, by the kernel of the kind.
+//! The kinds whose list a manager shows.
 
-ghost use Rattle.std.specs.Prelude.{◌≡◌};
-ghost use Rattle.mbj_manager.specs.Inside.Desk.{ahead_all};
-ghost use Rattle.mbj_manager.specs.Inside.Lines.{line, line_in};
-ghost use Rattle.mbj_manager.specs.Inside.Pairs.{paired};
-
-use crate::feed::Feed;
-use crate::kernels::{
-    Cbc128Kernel, Cbc192Kernel, Cbc256Kernel, Cmac128Kernel, Cmac256Kernel, HmacSha1Kernel,
-    HmacSha256Kernel, HmacSha512Kernel,
-};
-use crate::lists::Lists;
-use crate::queue::Queue;
+use crate::listed::Listed;
 
 /// The kernel of a kind, whose list is one of a manager's.
-pub trait Queued: Feed {
-    /// The list of the kind.
-    fn queue(lists: &Lists) -> &Queue<Self>
-        ensures { line_in Self.kind lists.now
-            ≡ line (ahead_all Self.round Self.rest_of Self.brings (paired (λ p. p) result.now.places.items result.now.lanes.entries.items))
-            result.now.rounds result.now.blocks };
-}
+pub trait Queued: Listed {}
 
-impl Queued for Cbc128Kernel {
-    fn queue(lists: &Lists) -> &Queue<Cbc128Kernel> {
-        &lists.cbc128
-    }
-}
-
-impl Queued for Cbc192Kernel {
-    fn queue(lists: &Lists) -> &Queue<Cbc192Kernel> {
-        &lists.cbc192
-    }
-}
-
-impl Queued for Cbc256Kernel {
-    fn queue(lists: &Lists) -> &Queue<Cbc256Kernel> {
-        &lists.cbc256
-    }
-}
-
-impl Queued for Cmac128Kernel {
-    fn queue(lists: &Lists) -> &Queue<Cmac128Kernel> {
-        &lists.cmac128
-    }
-}
-
-impl Queued for Cmac256Kernel {
-    fn queue(lists: &Lists) -> &Queue<Cmac256Kernel> {
-        &lists.cmac256
-    }
-}
-
-impl Queued for HmacSha1Kernel {
-    fn queue(lists: &Lists) -> &Queue<HmacSha1Kernel> {
-        &lists.hmac_sha1
-    }
-}
-
-impl Queued for HmacSha256Kernel {
-    fn queue(lists: &Lists) -> &Queue<HmacSha256Kernel> {
-        &lists.hmac_sha256
-    }
-}
-
-impl Queued for HmacSha512Kernel {
-    fn queue(lists: &Lists) -> &Queue<HmacSha512Kernel> {
-        &lists.hmac_sha512
-    }
-}
+impl<K: Listed> Queued for K {}
