@@ -19,8 +19,9 @@ use Rattle.mbj_stage.specs.declared.stage.Step.TheVariants as step
 use Rattle.mbj_stage.specs.Steps.{auth_stage_by, cbc_kind, cipher_stage_by, steps_by}
 use Rattle.mbj_stage.specs.Going.{begun}
 use Rattle.mbj_stage.proofs.EntryEnds.{cbc-accepted}
-use Rattle.mbj_manager.specs.Rounds.{Pending, in_lanes, pending, pending_at, pending_by}
+use Rattle.mbj_manager.specs.Rounds.{Pending, in_lanes, pending, pending_by}
 use Rattle.mbj_manager.specs.Between.{HasRounds}
+use Rattle.mbj_manager.proofs.PendingStages.{pending_at}
 
 one : (p : Pending) → HasRounds p → All HasRounds (p ∷ [])
 one p h = All-cons HasRounds p [] h (All-nil HasRounds)

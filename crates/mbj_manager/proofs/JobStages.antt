@@ -15,10 +15,11 @@ use Rattle.mbj_stage.specs.declared.stage.Stage.TheVariants as stage
 use Rattle.mbj_stage.specs.declared.stage.Step.{Step}
 use Rattle.mbj_stage.specs.Steps.{auth_steps, cipher_steps, ordered, stage_at, steps_by}
 use Rattle.mbj_stage.specs.Going.{begun}
-use Rattle.mbj_manager.specs.Rounds.{Pending, at_once, in_lanes, pending, pending_at, pending_by}
+use Rattle.mbj_manager.specs.Rounds.{Pending, at_once, in_lanes, pending, pending_by}
 use Rattle.mbj_manager.specs.Course.{in_lanes_next, stages_left}
 use Rattle.mbj_manager.specs.Machine.{without_first}
 use Rattle.mbj_manager.specs.Inside.Standing.{left_at}
+use Rattle.mbj_manager.proofs.PendingStages.{pending_at}
 
 few-by : (s : Stage) (j : Job) → length (pending_by s j) ≤ 1
 few-by stage.Now j = omega arith

@@ -11,11 +11,16 @@ use Rattle.mbj_stage.specs.Steps.{stage_at}
 use Rattle.mbj_stage.specs.Going.{Going, ran, ran_at, stage_of}
 use Rattle.mbj_stage.specs.Handing.{End, handed_out, taken_back, taken_back_at}
 use Rattle.mbj_stage.proofs.StagesOf.{finished-left, stage-first, stage-packet}
-use Rattle.mbj_manager.specs.Rounds.{Pending, in_lanes, pending, pending_at, pending_by}
+use Rattle.mbj_manager.specs.Rounds.{Pending, in_lanes, pending, pending_by}
 use Rattle.mbj_manager.specs.Machine.{without_first}
 use Rattle.mbj_manager.specs.Course.{in_lanes_next}
+use Rattle.std.specs.Prelude.{flat_map}
 
 -- ---- the packet has no part in it
+
+-- the stages of a job for the steps that are left
+abbrev pub pending_at : Job → List Step → List Pending
+pending_at j left = flat_map (λ s. pending_by (stage_at j (s ∷ [])) j) left
 
 rounds-packet : (k : Kind) (j : Job) (p : List ℕ) → rounds_of k (record j { packet = p }) ≡ rounds_of k j
 rounds-packet kind.Cbc128 j p = refl

@@ -1,11 +1,10 @@
 -- The stages of a job as the lane machine sees them: those that are done at once, and those in lanes with their rounds.
-use Rattle.std.specs.Prelude.{ℕ, List, [], ◌∷◌, ◌++◌}
+use Rattle.std.specs.Prelude.{ℕ, List, [], ◌∷◌, flat_map}
 use Rattle.mbj_types.specs.Rounds.{rounds_of}
 use Rattle.mbj_types.specs.declared.job.Job.{Job}
 use Rattle.mbj_types.specs.declared.kind.Kind.{Kind}
 use Rattle.mbj_stage.specs.declared.stage.Stage.{Stage}
 use Rattle.mbj_stage.specs.declared.stage.Stage.TheVariants as stage
-use Rattle.mbj_stage.specs.declared.stage.Step.{Step}
 use Rattle.mbj_stage.specs.Steps.{stage_at}
 use Rattle.mbj_stage.specs.Going.{Going}
 
@@ -19,11 +18,6 @@ pending_by stage.Now j = at_once ∷ []
 pending_by (stage.Lane k) j = in_lanes k (rounds_of k j) ∷ []
 pending_by stage.Finished j = []
 
--- the stages of a job for the steps that are left
-abbrev pub pending_at : Job → List Step → List Pending
-pending_at j [] = []
-pending_at j (s ∷ left) = pending_by (stage_at j (s ∷ [])) j ++ pending_at j left
-
--- the stages that are left of a course
+-- the stages that are left of a course, by its steps
 abbrev pub pending : Going → List Pending
-pending c = pending_at c.job c.left
+pending c = flat_map (λ s. pending_by (stage_at c.job (s ∷ [])) c.job) c.left
