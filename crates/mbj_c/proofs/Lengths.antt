@@ -1,7 +1,7 @@
 -- The lengths of a manager's packets once it made a call.
 use Rattle.std.proofs.Common.{◌≡◌, ◌<◌, ◌++◌, ℕ, List, [], ◌∷◌, length, drop, map, Option, None, Some, refl, sym, ap, ◌∙◌, subst, arith, length-append}
 use mathlib.Core.Bool.{true≢false}
-use Rattle.std.specs.Prelude.{IsSome, option_map, option_to_list}
+use Rattle.std.specs.Prelude.{IsSome, option_map, option_to_list, unwrap_or}
 use Rattle.std.proofs.lemmas.List.{append-nil, map-append}
 use Rattle.mbj_types.specs.declared.job.Job.{Job}
 use Rattle.mbj_types.specs.declared.done.Done.{Done}
@@ -10,7 +10,7 @@ use Rattle.mbj_ring.specs.declared.ring.TheConstants.{CELLS}
 use Rattle.mbj_ring.specs.Ring.{RingState}
 use Rattle.mbj_stage.proofs.Lengths.{length-result_of}
 use Rattle.mbj_manager.specs.Rounds.{Pending}
-use Rattle.mbj_manager.specs.State.{ManagerState, entered, entered_at, given_at}
+use Rattle.mbj_manager.specs.State.{ManagerState, entered, given_at, with_job}
 use Rattle.mbj_manager.specs.Course.{flushed}
 use Rattle.mbj_c.specs.declared.giving.Call.{Call}
 use Rattle.mbj_c.specs.declared.giving.Call.TheVariants as call
@@ -25,7 +25,7 @@ given-opened (d ∷ owed) ([] ∷ left) m = refl
 given-opened (d ∷ owed) ((p ∷ ps) ∷ left) m = refl
 
 -- no job is open once it is submitted
-entered-opened : (opened : Option Job) (m : ManagerState) → m.opened ≡ opened → (entered_at opened m).opened ≡ None
+entered-opened : (opened : Option Job) (m : ManagerState) → m.opened ≡ opened → (unwrap_or (option_map (λ j. with_job j m) opened) m).opened ≡ None
 entered-opened None m is = is
 entered-opened (Some j) m is = refl
 

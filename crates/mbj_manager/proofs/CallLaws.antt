@@ -7,7 +7,7 @@ use Rattle.mbj_types.specs.declared.done.Done.{Done}
 use Rattle.mbj_types.specs.Result.{result_of}
 use Rattle.mbj_ring.specs.declared.ring.TheConstants.{CELLS}
 use Rattle.mbj_manager.specs.Rounds.{Pending}
-use Rattle.mbj_manager.specs.State.{ManagerState, IsEarliestFinished, after_get_completed, given_at, entered, entered_at, lent, after_submit, with_open}
+use Rattle.mbj_manager.specs.State.{ManagerState, IsEarliestFinished, after_get_completed, given_at, entered, lent, after_submit, with_open, with_job}
 use Rattle.mbj_manager.specs.Calls.{Call, get_next, write, submit, get_completed, flush, called, jobs_in, given_back, jobs_submitted, after_calls}
 
 given-order-at : (ds : List Done) (left : List (List Pending)) (h : ManagerState) → h.owed ≡ ds
@@ -38,6 +38,10 @@ none-if (d ∷ ds) ((p ∷ ps) ∷ left) h e f n = refl
 -- nothing is given back exactly where the earliest job isn't finished
 pub none-where : (h : ManagerState) → ((after_get_completed h).0 ≡ None) ↔ ¬ IsEarliestFinished h
 none-where h = (none-then h.owed h.machine.left h refl refl, none-if h.owed h.machine.left h refl refl)
+
+-- the state where the job o is submitted, if there is one
+abbrev pub entered_at : Option Job → ManagerState → ManagerState
+entered_at o h = unwrap_or (option_map (λ j. with_job j h) o) h
 
 entered-owed : (o : Option Job) (h : ManagerState) → (entered_at o h).owed ≡ h.owed ++ map result_of (option_to_list o)
 entered-owed None h = sym (append-nil h.owed)

@@ -14,7 +14,7 @@ use Rattle.mbj_stage.specs.Going.{begun}
 use Rattle.mbj_manager.specs.Rounds.{Pending, pending}
 use Rattle.mbj_manager.specs.Machine.{Machine, submit, lane_for, idle_lane, count_end}
 use Rattle.mbj_manager.specs.Course.{course, flushed}
-use Rattle.mbj_manager.specs.State.{ManagerState, entered, entered_at, after_flush, after_get_completed, given_at, lent, new_manager, with_job, with_open}
+use Rattle.mbj_manager.specs.State.{ManagerState, entered, after_flush, after_get_completed, given_at, lent, new_manager, with_job, with_open}
 use Rattle.mbj_manager.specs.Calls as calls
 use Rattle.mbj_manager.specs.Calls.{Call, after_calls, called}
 use Rattle.mbj_manager.specs.Counts.{RisesUpTo}
@@ -22,7 +22,7 @@ use Rattle.mbj_manager.specs.Between.{AreKept, HasRounds, IsBetweenCalls, IsKept
 use Rattle.mbj_manager.specs.Inside.Added.{added}
 use Rattle.mbj_manager.specs.Inside.Standing.{IsLane, left_at}
 use Rattle.mbj_manager.specs.Inside.Settled.{IsSettled}
-use Rattle.mbj_manager.proofs.CallLaws.{opened_next, submitted_at, written_at}
+use Rattle.mbj_manager.proofs.CallLaws.{opened_next, submitted_at, written_at, entered_at}
 use Rattle.mbj_manager.proofs.BetweenCalls.{course-length, flush-length, machines-kept}
 use Rattle.mbj_manager.proofs.FlushRuns.{flush-runs}
 use Rattle.mbj_manager.proofs.JobRounds.{pending-rounds}

@@ -7,8 +7,8 @@ use Rattle.std.proofs.lemmas.List.Elements.{All-map, All-tail}
 use Rattle.std.proofs.lemmas.List.Sums.{sum_by-cons}
 use Rattle.mbj_types.specs.declared.kind.Kind.{Kind}
 use Rattle.mbj_manager.specs.Rounds.{Pending}
-use Rattle.mbj_manager.specs.Machine.{Waiting, Lane, Machine, lane_for}
-use Rattle.mbj_manager.specs.State.{earlier, renumbered, without_earliest}
+use Rattle.mbj_manager.specs.Machine.{Waiting, Lane, Machine, lane_for, lanes_by}
+use Rattle.mbj_manager.specs.State.{renumbered}
 use Rattle.mbj_manager.specs.Between.{HasRounds, IsBetweenCalls, IsPlaced, times_in}
 use Rattle.mbj_manager.specs.Inside.Standing.{IsLane, left_at}
 use Rattle.mbj_manager.proofs.Lanes.{lane-by}
@@ -19,6 +19,14 @@ use Rattle.mbj_manager.proofs.CourseEnds.{lanes-between}
 earlier-number : (i n : ℕ) → cond {A = ℕ} (i == 0) 1 0 ≡ 0 → cond {A = ℕ} (i - 1 == n) 1 0 ≡ cond {A = ℕ} (i == suc n) 1 0
 earlier-number zero n later = cc
 earlier-number (suc i) n later = let e : suc i - 1 ≡ i = omega arith in rw (e, eqb-suc-suc) refl
+
+-- a waiting job once the first job left
+abbrev pub earlier : Waiting → Waiting
+earlier w = record { number = w.number - 1; rest = w.rest }
+
+-- the machine once the first job left
+abbrev pub without_earliest : List (List Pending) → Machine → Machine
+without_earliest left m = record m { left = left; lanes = lanes_by (λ k. renumbered (lane_for k m)) }
 
 -- where the job 0 isn't in a list, its jobs have the numbers that they had, less one
 times-earlier : (n : ℕ) (ws : List Waiting) → times_in 0 ws ≡ 0 → times_in n (map earlier ws) ≡ times_in (suc n) ws

@@ -14,7 +14,7 @@ use Rattle.mbj_stage.specs.declared.stage.Stage.TheVariants as stage
 use Rattle.mbj_manager.specs.Rounds.{Pending, pending}
 use Rattle.mbj_manager.specs.Machine.{Lane, Machine, Waiting, lane_for, lanes_by}
 use Rattle.mbj_manager.specs.Between.{IsBetweenCalls}
-use Rattle.mbj_manager.specs.State.{ManagerState, earlier, after_get_completed, given_at, renumbered, without_earliest}
+use Rattle.mbj_manager.specs.State.{ManagerState, after_get_completed, given_at, renumbered}
 use Rattle.mbj_manager.specs.declared.cell.Cell.{Cell}
 use Rattle.mbj_manager.specs.Inside.Courses.{IsGoing, course_in, courses, number, number_in}
 use Rattle.mbj_manager.specs.Leads.{IsOut}
@@ -25,7 +25,7 @@ use Rattle.mbj_manager.specs.Inside.Standing.{IsWithin, times}
 use Rattle.mbj_manager.specs.Inside.Held.{IsHeld, IsHere, IsTied, find_in, found, held, lane_seen, lines_in, machine_in, owed_by, owed_from, owed_here, owed_of, waiting}
 use Rattle.mbj_manager.proofs.Adding.{map-nil}
 use Rattle.mbj_manager.proofs.CourseEnds.{between-calls, lanes-between, stages-at}
-use Rattle.mbj_manager.proofs.GivingBack.{back-between}
+use Rattle.mbj_manager.proofs.GivingBack.{back-between, earlier, without_earliest}
 use Rattle.mbj_manager.proofs.Lanes.{lane-by}
 use Rattle.mbj_manager.proofs.Moving.{same-state}
 use Rattle.mbj_manager.proofs.PendingStages.{finished-pending}

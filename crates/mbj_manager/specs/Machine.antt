@@ -86,12 +86,9 @@ lanes_by f = record {
   hmac_sha512 = f kind.HmacSha512;
 }
 
--- lanes in which no job waits, and in which nothing ran
+-- the lanes of a kind in which no job waits, and in which nothing ran
 abbrev pub idle_lane : Lane
 idle_lane = record { waiting = []; rounds = 0; blocks = 0 }
-
-abbrev pub idle_lanes : Lanes
-idle_lanes = lanes_by (λ k. idle_lane)
 
 abbrev pub lane_for : Kind → Machine → Lane
 lane_for k m = lane_in k m.lanes

@@ -1,5 +1,5 @@
 -- What a contract sees of a manager, and what each call makes of it.
-use Rattle.std.specs.Prelude.{◌≡◌, ◌≢◌, ◌==◌, ◌-◌, List, [], ◌∷◌, ◌++◌, length, map, Option, Some, None, slice_get, unwrap_or, if◌then◌else◌}
+use Rattle.std.specs.Prelude.{◌≡◌, ◌≢◌, ◌==◌, ◌-◌, List, [], ◌∷◌, ◌++◌, length, map, Option, Some, None, option_map, slice_get, unwrap_or, if◌then◌else◌}
 use Rattle.mbj_types.specs.declared.job.Job.{Job}
 use Rattle.mbj_types.specs.declared.done.Done.{Done}
 use Rattle.mbj_types.specs.Blank.{blank}
@@ -7,7 +7,7 @@ use Rattle.mbj_types.specs.Result.{result_of}
 use Rattle.mbj_ring.specs.declared.ring.TheConstants.{CELLS}
 use Rattle.mbj_stage.specs.Going.{begun}
 use Rattle.mbj_manager.specs.Rounds.{Pending, pending}
-use Rattle.mbj_manager.specs.Machine.{submit, Waiting, Lane, Machine, idle_lanes, lane_for, lanes_by}
+use Rattle.mbj_manager.specs.Machine.{submit, Waiting, Lane, Machine, idle_lane, lane_for, lanes_by}
 use Rattle.mbj_manager.specs.Course.{course, flushed}
 
 pub record ManagerState : Type 0 where
@@ -18,12 +18,9 @@ pub record ManagerState : Type 0 where
   -- where the submitted jobs stand
   pub machine : Machine
 
--- a machine with the jobs whose stages left these are, and whose lanes are idle
-abbrev pub idle_machine : List (List Pending) → Machine
-idle_machine left = record { left = left; lanes = idle_lanes; agenda = []; flush_runs = 0 }
-
+-- a manager with no job and no open one, and with lanes in which no job waits and nothing ran
 abbrev pub new_manager : ManagerState
-new_manager = record { owed = []; opened = None; machine = idle_machine [] }
+new_manager = record { owed = []; opened = None; machine = record { left = []; lanes = lanes_by (λ k. idle_lane); agenda = []; flush_runs = 0 } }
 
 -- ---- get_next
 
@@ -37,20 +34,14 @@ with_open h j = record h { opened = Some j }
 
 -- ---- giving back
 
-abbrev pub earlier : Waiting → Waiting
-earlier w = record { number = w.number - 1; rest = w.rest }
-
+-- the lanes of a kind once the first job left: each number is one lower
 abbrev pub renumbered : Lane → Lane
-renumbered l = record { waiting = map earlier l.waiting; rounds = l.rounds; blocks = l.blocks }
-
--- the machine once the first job left: each number is one lower
-abbrev pub without_earliest : List (List Pending) → Machine → Machine
-without_earliest left m = record m { left = left; lanes = lanes_by (λ k. renumbered (lane_for k m)) }
+renumbered l = record l { waiting = map (λ (w : Waiting). record w { number = w.number - 1 }) l.waiting }
 
 -- the earliest job's result is given back where that job is finished
 abbrev pub given_at : List Done → List (List Pending) → ManagerState → Option Done × ManagerState
 given_at (d ∷ ds) ([] ∷ left) h =
-    (Some d, record { owed = ds; opened = h.opened; machine = without_earliest left h.machine })
+    (Some d, record h { owed = ds; machine = record h.machine { left = left; lanes = lanes_by (λ k. renumbered (lane_for k h.machine)) } })
 given_at ds left h = (None, h)
 
 abbrev pub after_get_completed : ManagerState → Option Done × ManagerState
@@ -74,13 +65,9 @@ with_job j h = record {
   });
 }
 
-abbrev pub entered_at : Option Job → ManagerState → ManagerState
-entered_at None h = h
-entered_at (Some j) h = with_job j h
-
 -- the open job is submitted as it is
 abbrev pub entered : ManagerState → ManagerState
-entered h = entered_at h.opened h
+entered h = unwrap_or (option_map (λ j. with_job j h) h.opened) h
 
 abbrev pub after_submit : ManagerState → Option Done × ManagerState
 after_submit h = after_get_completed (entered h)
