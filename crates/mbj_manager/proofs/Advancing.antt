@@ -13,7 +13,7 @@ use Rattle.mbj_stage.specs.declared.stage.Stage.{Stage}
 use Rattle.mbj_stage.specs.declared.stage.Stage.TheVariants as stage
 use Rattle.mbj_manager.specs.Rounds.{Pending, pending}
 use Rattle.mbj_manager.specs.Machine.{Lane, Waiting, Within, submit, flush, changed, lane_for, lanes_by}
-use Rattle.mbj_manager.specs.Course.{goes_on, in_lanes_next, joined, stages_left, stepped, stepped_at, steps_ahead}
+use Rattle.mbj_manager.specs.Course.{goes_on, in_lanes_next, joined, stages_left, stepped, stepped_at}
 use Rattle.mbj_manager.specs.Between.{times_in}
 use Rattle.mbj_manager.specs.declared.cell.Cell.{Cell}
 use Rattle.mbj_manager.specs.Inside.Courses.{Follows, IsSameRing, courses, job_in, number, number_in}
@@ -32,6 +32,7 @@ use Rattle.mbj_manager.proofs.PendingStages.{pending-finished, pending-lane}
 use Rattle.mbj_manager.proofs.Seeing.{by-desk, enters-seen}
 use Rattle.mbj_manager.proofs.Stepping.{first-off, steps}
 use Rattle.mbj_manager.proofs.Tying.{at-new, owed-join, put-twice, ran-list, tied-follow, tied-join, tied-same}
+use Rattle.mbj_manager.specs.Inside.Steps.{steps_ahead}
 
 -- ---- the agenda's first job has its packet
 

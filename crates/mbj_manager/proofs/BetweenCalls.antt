@@ -7,7 +7,7 @@ use Rattle.std.proofs.lemmas.List.Elements.{All-push}
 use Rattle.std.proofs.lemmas.List.Sums.{count_by-le-length}
 use Rattle.mbj_types.specs.declared.kind.Kind.{Kind}
 use Rattle.mbj_manager.specs.Rounds.{Pending, at_once, in_lanes}
-use Rattle.mbj_manager.specs.Machine.{Machine, Within, submit, flush, lane_for, run_idle, run_within}
+use Rattle.mbj_manager.specs.Machine.{Machine, Within, submit, flush, lane_for, run_within}
 use Rattle.mbj_manager.specs.Course.{after_flush_steps, course, flush_step_at, flushed, in_lanes_next, stages_left}
 use Rattle.mbj_manager.specs.Between.{HasRounds, IsBetweenCalls, IsPlaced, KeepsMachines, times_in, with_stages}
 use Rattle.mbj_manager.specs.Inside.Standing.{IsWithin, Stands, left_at, times}
@@ -63,7 +63,7 @@ earliest-ready k rest left m earliest between =
 
 -- the list of the earliest job runs
 pub earliest-runs : (left : List (List Pending)) (k : Kind) (rest : ℕ) (ps : List Pending) (m : Machine)
-    → left_at 0 left ≡ in_lanes k rest ∷ ps → flush_step_at (slice_get left 0) m ≡ course flush (run_idle k m)
+    → left_at 0 left ≡ in_lanes k rest ∷ ps → flush_step_at (slice_get left 0) m ≡ course flush (run_within flush k m)
 earliest-runs [] k rest ps m earliest = cc
 earliest-runs (first ∷ left) k rest ps m earliest = ap (λ ps. flush_step_at (Some ps) m) earliest
 
@@ -83,10 +83,10 @@ enough-flush-steps zero (in_lanes k rest ∷ ps) m is between enough =
     let fewer = (idle-keeps k m (earliest-ready k rest ps m is between)).fewer in absurd (omega arith)
 enough-flush-steps (suc count) (in_lanes k rest ∷ ps) m is between enough =
     let run = idle-keeps k m (earliest-ready k rest ps m is between) in
-    let end = course-ends flush (run_idle k m) run.within in
+    let end = course-ends flush (run_within flush k m) run.within in
     let fewer = run.fewer in
     let fewer-then = end.fewer in
-    let after = course flush (run_idle k m) in
+    let after = course flush (run_within flush k m) in
     let flushed-then = enough-flush-steps count (left_at 0 after.left) after refl end.between (omega arith) in
     subst (λ m. IsFlushed (after_flush_steps count m)) (sym (earliest-runs m.left k rest ps m is)) flushed-then
 

@@ -2,9 +2,10 @@
 use Rattle.std.proofs.Common.{◌≡◌, List, refl}
 use Rattle.mbj_types.specs.declared.kind.Kind.{Kind}
 use Rattle.mbj_types.specs.declared.kind.Kind.TheVariants as kind
-use Rattle.mbj_manager.specs.Machine.{Machine, Waiting, submit, flush, lane_for, with_lane, with_waiting}
+use Rattle.mbj_manager.specs.Machine.{Machine, Waiting, submit, flush, lane_for, with_lane}
 use Rattle.mbj_manager.specs.Counts.{CountsApart, full_runs}
 use Rattle.mbj_manager.proofs.Unchanged.{IsUnchanged, unchanged-course, unchanged-flush}
+use Rattle.mbj_manager.proofs.Lanes.{with_waiting}
 
 -- ---- within a submit
 

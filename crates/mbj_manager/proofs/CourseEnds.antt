@@ -7,11 +7,12 @@ use Rattle.std.proofs.lemmas.List.Elements.{All-from_get_or, All-get_or, All-nil
 use Rattle.mbj_types.specs.declared.kind.Kind.{Kind}
 use Rattle.mbj_manager.specs.Rounds.{Pending}
 use Rattle.mbj_manager.specs.Machine.{Machine, Within, lane_for}
-use Rattle.mbj_manager.specs.Course.{after_steps, course, stages_left, stepped, stepped_at, steps_ahead}
+use Rattle.mbj_manager.specs.Course.{after_steps, course, stages_left, stepped, stepped_at}
 use Rattle.mbj_manager.specs.Between.{HasRounds, IsBetweenCalls}
 use Rattle.mbj_manager.specs.Inside.Standing.{IsLane, IsWithin, left_at, times}
 use Rattle.mbj_manager.proofs.Resting.{rests}
 use Rattle.mbj_manager.proofs.Stepping.{IsStep, steps}
+use Rattle.mbj_manager.specs.Inside.Steps.{steps_ahead}
 
 -- the stages of each job, also past the last one, have rounds
 pub stages-at : (left : List (List Pending)) → All (All HasRounds) left → (n : ℕ) → All HasRounds (left_at n left)

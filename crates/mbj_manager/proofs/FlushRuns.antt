@@ -5,8 +5,8 @@ use Rattle.std.proofs.lemmas.Bool.{cond_both}
 use Rattle.mbj_types.specs.declared.kind.Kind.{Kind}
 use Rattle.mbj_types.specs.Kinds.{lanes_of}
 use Rattle.mbj_manager.specs.Rounds.{Pending, at_once, in_lanes}
-use Rattle.mbj_manager.specs.Machine.{Machine, count_end, flush, lane_for, run_idle}
-use Rattle.mbj_manager.specs.Course.{after_flush_steps, after_steps, course, flushed, goes_on, in_lanes_next, joined, stages_left, stepped, stepped_at, steps_ahead}
+use Rattle.mbj_manager.specs.Machine.{Machine, count_end, flush, lane_for, run_within}
+use Rattle.mbj_manager.specs.Course.{after_flush_steps, after_steps, course, flushed, goes_on, in_lanes_next, joined, stages_left, stepped, stepped_at}
 use Rattle.mbj_manager.specs.Between.{IsBetweenCalls, IsPlaced}
 use Rattle.mbj_manager.specs.Counts.{RunsFew}
 use Rattle.mbj_manager.specs.Inside.Standing.{IsWithin, left_at}
@@ -17,6 +17,7 @@ use Rattle.mbj_manager.proofs.Resting.{flush-rests, rests}
 use Rattle.mbj_manager.proofs.Running.{IsReady, idle-keeps}
 use Rattle.mbj_manager.proofs.StagesLeft.{no-more-stages}
 use Rattle.mbj_manager.proofs.Stepping.{IsTaken, grown, grown-ready, steps, take_first, takes}
+use Rattle.mbj_manager.specs.Inside.Steps.{steps_ahead}
 
 no-more : (runs : ℕ) → runs % count_end ≡ (runs + 0) % count_end
 no-more runs = let same : runs ≡ runs + 0 = omega arith in ap (λ n. n % count_end) same
@@ -38,7 +39,7 @@ and-then first next last a b =
     }
 
 -- a run ends a stage
-one-run : (k : Kind) (m : Machine) → IsReady k m → RunsFew (run_idle k m) m
+one-run : (k : Kind) (m : Machine) → IsReady k m → RunsFew (run_within flush k m) m
 one-run k m ready =
     let fewer = (idle-keeps k m ready).fewer in
     let none : ((m.flush_runs + 1) % count_end + 0) % count_end ≡ (m.flush_runs + 1 + 0) % count_end = mod-add-mod (m.flush_runs + 1) count_end 0 in
@@ -51,8 +52,8 @@ join-runs : (k : Kind) (n rest : ℕ) (left : List Pending) (m : Machine) → Is
 join-runs k n rest left m taken next =
     let g = grown k n rest m in
     let grew : RunsFew g m = record { count = 0; few = omega arith; is = no-more m.flush_runs } in
-    cond_both (length (lane_for k g).waiting == lanes_of k) (run_idle k g) g (λ after. RunsFew after m)
-    (λ full. and-then m g (run_idle k g) grew (one-run k g (grown-ready k n rest left m taken next)))
+    cond_both (length (lane_for k g).waiting == lanes_of k) (run_within flush k g) g (λ after. RunsFew after m)
+    (λ full. and-then m g (run_within flush k g) grew (one-run k g (grown-ready k n rest left m taken next)))
     (λ room. grew)
 
 goes-runs : (n : ℕ) (ps : List Pending) (m : Machine) → IsTaken n m → left_at n m.left ≡ ps → RunsFew (goes_on flush n ps m) m
@@ -90,9 +91,9 @@ flush-steps-run zero (in_lanes k rest ∷ ps) m is between = none-run m
 flush-steps-run (suc count) (in_lanes k rest ∷ ps) m is between =
     let ready = earliest-ready k rest ps m is between in
     let run = idle-keeps k m ready in
-    let after = course flush (run_idle k m) in
-    let end = course-ends flush (run_idle k m) run.within in
-    let runs = and-then m (run_idle k m) after (one-run k m ready) (course-runs (run_idle k m) run.within) in
+    let after = course flush (run_within flush k m) in
+    let end = course-ends flush (run_within flush k m) run.within in
+    let runs = and-then m (run_within flush k m) after (one-run k m ready) (course-runs (run_within flush k m) run.within) in
     subst (λ (x : Machine). RunsFew (after_flush_steps count x) m) (sym (earliest-runs m.left k rest ps m is))
     (and-then m after (after_flush_steps count after) runs (flush-steps-run count (left_at 0 after.left) after refl end.between))
 

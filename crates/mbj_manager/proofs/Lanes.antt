@@ -1,9 +1,17 @@
 -- The lanes by their kinds: what is given to one kind leaves the others as they are.
-use Rattle.std.proofs.Common.{◌≡◌, ◌≢◌, ◌<◌, ◌⊎◌, inl, inr, refl, arith}
+use Rattle.std.proofs.Common.{◌≡◌, ◌≢◌, ℕ, ◌<◌, List, ◌⊎◌, inl, inr, refl, arith}
 use Rattle.mbj_types.specs.declared.kind.Kind.{Kind}
 use Rattle.mbj_types.specs.declared.kind.Kind.TheVariants as kind
 use Rattle.mbj_types.specs.Kinds.{lanes_of}
-use Rattle.mbj_manager.specs.Machine.{Lane, Lanes, lane_in, with_lane, lanes_by}
+use Rattle.mbj_manager.specs.Machine.{Lane, Lanes, Waiting, lane_in, with_lane, lanes_by}
+
+-- the lanes of a kind with another list
+abbrev pub with_waiting : Lane → List Waiting → Lane
+with_waiting l ws = record l { waiting = ws }
+
+-- the job n as it waits
+abbrev pub waits : ℕ → ℕ → Waiting
+waits n rest = record { number = n; rest = rest }
 
 -- two kinds are one, or they are not
 pub same-kind : (j k : Kind) → (j ≡ k) ⊎ (j ≢ k)

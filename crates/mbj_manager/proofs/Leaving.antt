@@ -1,12 +1,18 @@
 -- Who leaves a list that runs, and who stays.
-use Rattle.std.proofs.Common.{◌≡◌, ◌≢◌, ℕ, ◌+◌, ◌<◌, ◌≤◌, min, List, [], ◌∷◌, map, length, not, true, ◌⊎◌, inl, inr, refl, ap, ◌∙◌, arith}
+use Rattle.std.proofs.Common.{◌≡◌, ◌≢◌, ℕ, ◌+◌, ◌-◌, ◌==◌, ◌<◌, ◌≤◌, min, List, [], ◌∷◌, map, length, not, Bool, true, ◌⊎◌, inl, inr, refl, ap, ◌∙◌, arith}
 use Rattle.std.specs.Prelude.{All, filter}
 use Rattle.std.proofs.lemmas.Bool.{cases_eq, eq-eqb, eqb-false, not-true, cases_Bool}
 use Rattle.std.proofs.lemmas.List.{length-map}
 use Rattle.std.proofs.lemmas.List.Filters.{length-filter_both}
 use Rattle.std.proofs.lemmas.List.Elements.{All-weaker, filter_passes}
 use Rattle.mbj_lane.specs.Rounds.{least_from}
-use Rattle.mbj_manager.specs.Machine.{Waiting, least, lowered, rest_of, shortened, is_at_end, leavers, stayers}
+use Rattle.mbj_manager.specs.Machine.{Waiting, least, rest_of, shortened, leavers, stayers}
+
+abbrev pub lowered : ℕ → Waiting → Waiting
+lowered m w = record w { rest = w.rest - m }
+
+abbrev pub is_at_end : Waiting → Bool
+is_at_end w = w.rest == 0
 
 -- each of the list leaves or stays
 pub leave-or-stay : (ws : List Waiting) → length (leavers (shortened ws)) + length (stayers (shortened ws)) ≡ length ws

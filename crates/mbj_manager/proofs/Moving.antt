@@ -9,7 +9,7 @@ use Rattle.mbj_types.specs.declared.kind.Kind.TheVariants as kind
 use Rattle.mbj_ring.specs.Ring.{RingState}
 use Rattle.mbj_stage.specs.Going.{Going}
 use Rattle.mbj_manager.specs.Rounds.{Pending, at_once, in_lanes, pending}
-use Rattle.mbj_manager.specs.Machine.{Lane, Machine, Within, submit, flush, lane_for, lanes_by, run_idle}
+use Rattle.mbj_manager.specs.Machine.{Lane, Machine, Within, submit, flush, lane_for, lanes_by, run_within}
 use Rattle.mbj_manager.specs.State.{ManagerState}
 use Rattle.mbj_manager.specs.declared.cell.Cell.{Cell}
 use Rattle.mbj_manager.specs.Inside.Added.{first_lane}
@@ -186,16 +186,16 @@ pub runs-first : (k : Kind) (r r' : RingState Cell) (ag ag' : List ℕ) (ls ls' 
     → map (number_in r) ag ≡ [] → first_lane (map pending (courses r)) ≡ Some k → IsSameRing r' r
     → ls' ≡ with_line k (line_in k ls') ls'.flush_runs ls
     → desk_of k (number_in r) (courses r') ag' ls' ≡ ran_at flush (desk_of k (number_in r) (courses r) ag ls)
-    → IsStep r r' ag ag' ls ls' (run_idle k (machine_in r ag ls)) capacity
+    → IsStep r r' ag ag' ls ls' (run_within flush k (machine_in r ag ls)) capacity
 runs-first k r r' ag ag' ls ls' capacity y idle first same others-are is =
     let d0 = desk_of k (number_in r) (courses r) ag ls in
     let d = ran_at flush d0 in
     let m = machine_in r ag ls in
     let lanes = lanes_by (λ j. lane_seen (lines_in r ls j)) in
     let ran = ran-list k (courses r) (map (number_in r) ag) (lines_in r ls) y.tied in
-    let machine : machine_in r' ag' ls' ≡ run_idle k m
+    let machine : machine_in r' ag' ls' ≡ run_within flush k m
     = moved-machine k r r' ag ag' ls ls' d same others-are is ∙ run-seen flush k lanes d0
-    ∙ ap (run_idle k) (sym (by-desk k (lines_in r ls) (lines_in r ls) d0 refl (λ j ne. refl))) in
+    ∙ ap (run_within flush k) (sym (by-desk k (lines_in r ls) (lines_in r ls) d0 refl (λ j ne. refl))) in
     let size = moved-length k r r' ag ag' ls ls' d same others-are is in
     let g : Waiter → Waiter = λ x. (number_in r x.0, x.1) in
     let l : length d0.waiters ≡ length (line_in k ls).waiters = length-map (line_in k ls).waiters g in

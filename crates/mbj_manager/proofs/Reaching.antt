@@ -1,8 +1,9 @@
 -- A loop of steps comes to where the whole course comes.
 use Rattle.std.proofs.Common.{◌≡◌, ℕ, zero, suc, ◌≤◌, ◌<◌, [], refl, sym, ◌∙◌, arith}
 use Rattle.mbj_manager.specs.Machine.{Machine, Within}
-use Rattle.mbj_manager.specs.Course.{after_steps, course, stepped, steps_ahead}
+use Rattle.mbj_manager.specs.Course.{after_steps, course, stepped}
 use Rattle.mbj_manager.proofs.Resting.{rests}
+use Rattle.mbj_manager.specs.Inside.Steps.{steps_ahead}
 
 -- enough steps of the machine m come to the machine end
 pub record Reaches (at : Within) (m end : Machine) : Type 0 where

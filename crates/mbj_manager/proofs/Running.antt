@@ -6,14 +6,15 @@ use Rattle.std.proofs.lemmas.Nat.{mul-mod_second}
 use Rattle.std.proofs.lemmas.List.{length-append}
 use Rattle.mbj_types.specs.declared.kind.Kind.{Kind}
 use Rattle.mbj_types.specs.Kinds.{lanes_of}
-use Rattle.mbj_manager.specs.Machine.{Waiting, Lane, Machine, Within, submit, flush, count_end, lane_for, least, ran, run_full, run_idle, run_within, shortened, with_run, with_waiting}
-use Rattle.mbj_manager.specs.Course.{stages_left, steps_ahead}
+use Rattle.mbj_manager.specs.Machine.{Waiting, Lane, Machine, Within, submit, flush, count_end, lane_for, least, ran, run_within, shortened, with_run}
+use Rattle.mbj_manager.specs.Course.{stages_left}
 use Rattle.mbj_manager.specs.Between.{HasRounds}
 use Rattle.mbj_manager.specs.Inside.Standing.{IsLane, IsWithin, Stands, left_at}
-use Rattle.mbj_manager.proofs.Lanes.{each-lane}
+use Rattle.mbj_manager.proofs.Lanes.{each-lane, with_waiting}
 use Rattle.mbj_manager.proofs.Leaving.{leave-or-stay, some-leave, stayers-rest}
 use Rattle.mbj_manager.proofs.StagesLeft.{fewer-stages, rounds-done}
 use Rattle.mbj_manager.proofs.Standing.{gone, gone-most, ran-standing, stayed}
+use Rattle.mbj_manager.specs.Inside.Steps.{steps_ahead}
 
 -- somebody waits in the list of the kind k, which may be full
 pub record IsFilled (k : Kind) (l : Lane) : Type 0 where
@@ -56,7 +57,7 @@ ran-keeps k after m waiting ready lane =
     }
 
 -- a run within a flush
-pub idle-keeps : (k : Kind) (m : Machine) → IsReady k m → IsRun (run_idle k m) m
+pub idle-keeps : (k : Kind) (m : Machine) → IsReady k m → IsRun (run_within flush k m) m
 idle-keeps k m ready =
     let counted : Machine = record m { flush_runs = (m.flush_runs + 1) % count_end } in
     let again : IsReady k counted
@@ -72,7 +73,7 @@ counted-blocks lanes rounds more end =
     mod-add-mod (lanes * rounds) end (more * lanes) ∙ ap (λ n. n % end) sum ∙ sym (mul-mod_second lanes (rounds + more) end)
 
 -- a run of a full list within a submit
-full-keeps : (k : Kind) (m : Machine) → IsReady k m → length (lane_for k m).waiting ≡ lanes_of k → IsRun (run_full k m) m
+full-keeps : (k : Kind) (m : Machine) → IsReady k m → length (lane_for k m).waiting ≡ lanes_of k → IsRun (run_within submit k m) m
 full-keeps k m ready full =
     let l = lane_for k m in
     ran-keeps k (with_run l) m (λ ws. refl) ready (record {

@@ -8,16 +8,17 @@ use Rattle.mbj_types.specs.declared.kind.Kind.TheVariants as kind
 use Rattle.mbj_stage.specs.Going.{Going}
 use Rattle.mbj_stage.specs.Handing.{handed_out, taken_back}
 use Rattle.mbj_manager.specs.Rounds.{Pending, pending}
-use Rattle.mbj_manager.specs.Machine.{Lane, Lanes, Machine, Waiting, Within, submit, flush, changed, count_end, lane_in, lane_for, lanes_by, least, leavers, lowered, ran, rest_of, run_within, shortened, stage_done, stayers, with_lane, with_run, with_waiting, without_first}
-use Rattle.mbj_manager.specs.Course.{joined, run_if_full, waits}
+use Rattle.mbj_manager.specs.Machine.{Lane, Lanes, Machine, Waiting, Within, submit, flush, changed, count_end, lane_in, lane_for, lanes_by, least, leavers, ran, rest_of, run_within, shortened, stage_done, stayers, with_lane, with_run, without_first}
+use Rattle.mbj_manager.specs.Course.{joined, run_if_full}
 use Rattle.mbj_manager.specs.Inside.Pairs.{pair_rest}
 use Rattle.mbj_manager.specs.Inside.Leaving.{finishers, numbers, others, returned}
 use Rattle.mbj_manager.specs.Inside.Desk.{Ahead, Desk, Waiter, brings_in, joined_by, led_all, led_waiter, ran_at, ran_if_full, rounds_in}
 use Rattle.mbj_manager.specs.Inside.Lines.{Line, line}
 use Rattle.mbj_manager.specs.Inside.Held.{lane_seen, machine_by, waiting}
-use Rattle.mbj_manager.proofs.Lanes.{given-lane, lane-by, other-lane, same-kind}
+use Rattle.mbj_manager.proofs.Lanes.{given-lane, lane-by, other-lane, same-kind, with_waiting, waits}
 use Rattle.mbj_manager.proofs.PendingStages.{pending-back, pending-out}
 use Rattle.mbj_manager.proofs.SeenAhead.{zero-or}
+use Rattle.mbj_manager.proofs.Leaving.{lowered}
 
 -- ---- lists
 

@@ -4,11 +4,13 @@ use Rattle.std.proofs.lemmas.Bool.{cond_both}
 use Rattle.mbj_types.specs.declared.kind.Kind.{Kind}
 use Rattle.mbj_types.specs.Kinds.{lanes_of}
 use Rattle.mbj_manager.specs.Rounds.{Pending, at_once, in_lanes}
-use Rattle.mbj_manager.specs.Machine.{Machine, Within, submit, flush, changed, lane_for, run_idle, run_within, stage_done, with_lane, with_waiting, without_first}
-use Rattle.mbj_manager.specs.Course.{after_flush_steps, after_steps, course, flush_step, flush_step_at, flushed, goes_on, in_lanes_next, joined, stages_left, stepped, stepped_at, steps_ahead, waits}
+use Rattle.mbj_manager.specs.Machine.{Machine, Within, submit, flush, changed, lane_for, run_within, stage_done, with_lane, without_first}
+use Rattle.mbj_manager.specs.Course.{after_flush_steps, after_steps, course, flush_step, flush_step_at, flushed, goes_on, in_lanes_next, joined, stages_left, stepped, stepped_at}
 use Rattle.mbj_manager.specs.Inside.Standing.{left_at}
 use Rattle.mbj_manager.proofs.Changing.{each-changed}
 use Rattle.mbj_manager.proofs.Standing.{gone}
+use Rattle.mbj_manager.specs.Inside.Steps.{steps_ahead}
+use Rattle.mbj_manager.proofs.Lanes.{with_waiting, waits}
 
 module _ (P : List Pending → Type 0) (one_done : (ps : List Pending) → P ps → P (without_first ps)) (next : (ps : List Pending) → P ps → P (in_lanes_next ps)) where
   abbrev pub Each : List (List Pending) → Type 0
@@ -51,7 +53,7 @@ module _ (P : List Pending → Type 0) (one_done : (ps : List Pending) → P ps 
   each-flush-step None m each = each
   each-flush-step (Some []) m each = each
   each-flush-step (Some (at_once ∷ left)) m each = each
-  each-flush-step (Some (in_lanes k rest ∷ left)) m each = each-course flush (run_idle k m) (each-run flush k m each)
+  each-flush-step (Some (in_lanes k rest ∷ left)) m each = each-course flush (run_within flush k m) (each-run flush k m each)
 
   each-flush-steps : (steps : ℕ) (m : Machine) → Each m.left → Each (after_flush_steps steps m).left
   unfolding after_flush_steps

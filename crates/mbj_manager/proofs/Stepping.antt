@@ -7,16 +7,17 @@ use Rattle.std.proofs.lemmas.List.Elements.{All-head, All-push}
 use Rattle.mbj_types.specs.declared.kind.Kind.{Kind}
 use Rattle.mbj_types.specs.Kinds.{lanes_of}
 use Rattle.mbj_manager.specs.Rounds.{Pending, at_once, in_lanes}
-use Rattle.mbj_manager.specs.Machine.{Lane, Machine, Within, changed, lane_for, run_within, with_lane, with_waiting}
-use Rattle.mbj_manager.specs.Course.{in_lanes_next, joined, goes_on, stepped_at, stages_left, steps_ahead, waits}
+use Rattle.mbj_manager.specs.Machine.{Lane, Machine, Within, changed, lane_for, run_within, with_lane}
+use Rattle.mbj_manager.specs.Course.{in_lanes_next, joined, goes_on, stepped_at, stages_left}
 use Rattle.mbj_manager.specs.Between.{HasRounds, IsPlaced, times_in}
 use Rattle.mbj_manager.specs.Inside.Standing.{IsLane, IsWithin, Stands, left_at, times}
 use Rattle.mbj_manager.proofs.Changing.{at-changed, other-changed, each-changed}
-use Rattle.mbj_manager.proofs.Lanes.{each-lane, given-lane, other-lane}
+use Rattle.mbj_manager.proofs.Lanes.{each-lane, given-lane, other-lane, with_waiting, waits}
 use Rattle.mbj_manager.proofs.Times.{times-here, times-there, times-joined, times-joined-other}
 use Rattle.mbj_manager.proofs.StagesLeft.{next-in-lanes, next-rounds, no-more-stages}
 use Rattle.mbj_manager.proofs.Standing.{same-stands}
 use Rattle.mbj_manager.proofs.Running.{IsFilled, IsReady, run-keeps}
+use Rattle.mbj_manager.specs.Inside.Steps.{steps_ahead}
 
 -- after comes of the machine m, and no more is ahead of it
 record Follows (after m : Machine) : Type 0 where

@@ -3,8 +3,10 @@ use Rattle.std.proofs.Common.{◌≡◌, ℕ, ◌==◌, zero, suc, Bool, true, f
 use Rattle.mbj_types.specs.declared.kind.Kind.{Kind}
 use Rattle.mbj_types.specs.Kinds.{lanes_of}
 use Rattle.mbj_manager.specs.Rounds.{Pending, at_once, in_lanes}
-use Rattle.mbj_manager.specs.Machine.{Machine, Waiting, Within, flush, changed, lane_for, run_idle, run_within, with_lane, with_waiting}
-use Rattle.mbj_manager.specs.Course.{after_flush_steps, after_steps, course, flush_step, flush_step_at, flushed, goes_on, in_lanes_next, joined, stages_left, stepped, stepped_at, steps_ahead, waits}
+use Rattle.mbj_manager.specs.Machine.{Machine, Waiting, Within, flush, changed, lane_for, run_within, with_lane}
+use Rattle.mbj_manager.specs.Course.{after_flush_steps, after_steps, course, flush_step, flush_step_at, flushed, goes_on, in_lanes_next, joined, stages_left, stepped, stepped_at}
+use Rattle.mbj_manager.specs.Inside.Steps.{steps_ahead}
+use Rattle.mbj_manager.proofs.Lanes.{with_waiting, waits}
 
 -- what f reads of a machine stays as it is when a list runs, a job joins one, or the agenda's first is taken
 pub record IsUnchanged {A : Type 0} (f : Machine → A) (at : Within) : Type 0 where
@@ -60,7 +62,7 @@ unchanged-flush-step : {A : Type 0} (f : Machine → A) → IsUnchanged f flush 
 unchanged-flush-step f stays None m = refl
 unchanged-flush-step f stays (Some []) m = refl
 unchanged-flush-step f stays (Some (at_once ∷ left)) m = refl
-unchanged-flush-step f stays (Some (in_lanes k rest ∷ left)) m = unchanged-course f flush stays (run_idle k m) ∙ stays.runs k m
+unchanged-flush-step f stays (Some (in_lanes k rest ∷ left)) m = unchanged-course f flush stays (run_within flush k m) ∙ stays.runs k m
 
 -- through flush steps
 unchanged-flush-steps : {A : Type 0} (f : Machine → A) → IsUnchanged f flush → (steps : ℕ) (m : Machine)

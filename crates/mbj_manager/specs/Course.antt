@@ -3,31 +3,26 @@ use Rattle.std.specs.Prelude.{ℕ, ◌+◌, ◌*◌, ◌==◌, zero, suc, List, 
 use Rattle.mbj_types.specs.declared.kind.Kind.{Kind}
 use Rattle.mbj_types.specs.Kinds.{lanes_of}
 use Rattle.mbj_manager.specs.Rounds.{Pending, at_once, in_lanes}
-use Rattle.mbj_manager.specs.Machine.{Waiting, Machine, changed, lane_for, with_lane, with_waiting, run_idle, run_within, Within, flush}
+use Rattle.mbj_manager.specs.Machine.{Machine, changed, lane_for, with_lane, run_within, Within, flush}
 
 -- the stages left once those are done that finish at once
 abbrev pub in_lanes_next : List Pending → List Pending
-in_lanes_next [] = []
 in_lanes_next (at_once ∷ left) = in_lanes_next left
-in_lanes_next (in_lanes k rest ∷ left) = in_lanes k rest ∷ left
+in_lanes_next left = left
 
 abbrev pub run_if_full : Within → Kind → Machine → Machine
 run_if_full at k m = if length (lane_for k m).waiting == lanes_of k then run_within at k m else m
 
-abbrev pub waits : ℕ → ℕ → Waiting
-waits n rest = record { number = n; rest = rest }
-
 -- the job n joins the end of the kind's list, which runs where it is full then
 abbrev pub joined : Within → Kind → ℕ → ℕ → Machine → Machine
 joined at k n rest m = run_if_full at k (record m {
-  lanes = with_lane k (with_waiting (lane_for k m) ((lane_for k m).waiting ++ waits n rest ∷ [])) m.lanes;
+  lanes = with_lane k (record (lane_for k m) { waiting = (lane_for k m).waiting ++ record { number = n; rest = rest } ∷ [] }) m.lanes;
 })
 
 -- the job n goes on to its next stage, which is in lanes, or is finished
 abbrev pub goes_on : Within → ℕ → List Pending → Machine → Machine
-goes_on at n [] m = m
-goes_on at n (at_once ∷ left) m = m
 goes_on at n (in_lanes k rest ∷ left) m = joined at k n rest m
+goes_on at n _ m = m
 
 -- the agenda's first job is taken: what finishes at once is done, and it goes on
 abbrev pub stepped_at : Within → List ℕ → Machine → Machine
@@ -41,26 +36,20 @@ stepped at m = stepped_at at m.agenda m
 abbrev pub stages_left : List (List Pending) → ℕ
 stages_left left = sum_by length left
 
--- each step takes from this number, so that so many steps empty the agenda
-abbrev pub steps_ahead : Machine → ℕ
-steps_ahead m = 2 * stages_left m.left + length m.agenda
-
 unfoldable pub after_steps : Within → ℕ → Machine → Machine
 after_steps at zero m = m
 after_steps at (suc steps) m = after_steps at steps (stepped at m)
 
--- the course: the agenda's first is taken until the agenda is empty
+-- the course: the agenda's first is taken until the agenda is empty, as it is after so many steps, since each takes from this number
 unfoldable pub course : Within → Machine → Machine
-course at m = after_steps at (steps_ahead m) m
+course at m = after_steps at (2 * stages_left m.left + length m.agenda) m
 
 -- ---- flush
 
 -- while the earliest job stands in a list, that list runs, and the course is followed for those that leave
 abbrev pub flush_step_at : Option (List Pending) → Machine → Machine
-flush_step_at None m = m
-flush_step_at (Some []) m = m
-flush_step_at (Some (at_once ∷ left)) m = m
-flush_step_at (Some (in_lanes k rest ∷ left)) m = course flush (run_idle k m)
+flush_step_at (Some (in_lanes k rest ∷ left)) m = course flush (run_within flush k m)
+flush_step_at _ m = m
 
 abbrev pub flush_step : Machine → Machine
 flush_step m = flush_step_at (slice_get m.left 0) m

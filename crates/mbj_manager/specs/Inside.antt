@@ -4,6 +4,7 @@ pub mod Courses
 pub mod Cause
 pub mod Desk
 pub mod Lines
+pub mod Steps
 pub mod Standing
 pub mod Held
 pub mod Added

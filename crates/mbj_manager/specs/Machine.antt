@@ -1,5 +1,5 @@
 -- The lane machine: which jobs wait for lanes, in which order, and what one run takes off them. It moves numbers alone.
-use Rattle.std.specs.Prelude.{ℕ, ◌+◌, ◌*◌, ◌-◌, ◌%◌, ◌^◌, ◌==◌, zero, suc, Bool, List, [], ◌∷◌, ◌++◌, map, filter, length, not}
+use Rattle.std.specs.Prelude.{ℕ, ◌+◌, ◌*◌, ◌-◌, ◌%◌, ◌^◌, ◌==◌, zero, suc, List, [], ◌∷◌, ◌++◌, map, filter, length, not}
 use Rattle.mbj_lane.specs.Rounds.{least as least_of}
 use Rattle.mbj_types.specs.declared.kind.Kind.{Kind}
 use Rattle.mbj_types.specs.declared.kind.Kind.TheVariants as kind
@@ -102,22 +102,16 @@ rest_of w = w.rest
 abbrev pub least : List Waiting → ℕ
 least ws = least_of rest_of ws
 
-abbrev pub lowered : ℕ → Waiting → Waiting
-lowered m w = record { number = w.number; rest = w.rest - m }
-
 -- a list once it ran by its least rest, those at rest 0 still in it
 abbrev pub shortened : List Waiting → List Waiting
-shortened ws = map (lowered (least ws)) ws
-
-abbrev pub is_at_end : Waiting → Bool
-is_at_end w = w.rest == 0
+shortened ws = map (λ (w : Waiting). record w { rest = w.rest - least ws }) ws
 
 -- the numbers of those whose rounds are done, in list order; and the others, in theirs
 abbrev pub leavers : List Waiting → List ℕ
-leavers ws = map (λ w. w.number) (filter is_at_end ws)
+leavers ws = map (λ w. w.number) (filter (λ w. w.rest == 0) ws)
 
 abbrev pub stayers : List Waiting → List Waiting
-stayers ws = filter (λ w. not (is_at_end w)) ws
+stayers ws = filter (λ w. not (w.rest == 0)) ws
 
 abbrev pub without_first : List Pending → List Pending
 without_first [] = []
@@ -137,10 +131,7 @@ ran k after m = record {
   flush_runs = m.flush_runs;
 }
 
-abbrev pub with_waiting : Lane → List Waiting → Lane
-with_waiting l ws = record { waiting = ws; rounds = l.rounds; blocks = l.blocks }
-
--- that run in the counts of its kind: all lanes are in use
+-- a run in the counts of its kind: all lanes are in use
 abbrev pub with_run : Lane → List Waiting → Lane
 with_run l ws = record {
   waiting = ws;
@@ -153,14 +144,8 @@ pub data Within : Type 0 where
   submit : Within
   flush : Within
 
--- a run of a full list, within a submit
-abbrev pub run_full : Kind → Machine → Machine
-run_full k m = ran k (with_run (lane_for k m)) m
-
--- a run within a flush, of the list of the earliest job or of one that fills then
-abbrev pub run_idle : Kind → Machine → Machine
-run_idle k m = ran k (with_waiting (lane_for k m)) (record m { flush_runs = (m.flush_runs + 1) % count_end })
-
+-- a run within a submit, which is of a full list and counts for its kind; and one within a flush, of the list of the earliest
+-- job or of one that fills then
 abbrev pub run_within : Within → Kind → Machine → Machine
-run_within submit k m = run_full k m
-run_within flush k m = run_idle k m
+run_within submit k m = ran k (with_run (lane_for k m)) m
+run_within flush k m = ran k (λ ws. record (lane_for k m) { waiting = ws }) (record m { flush_runs = (m.flush_runs + 1) % count_end })

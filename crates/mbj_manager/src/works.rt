@@ -7,14 +7,15 @@ ghost use Rattle.mbj_stage.specs.Going.{begun, stage_of};
 ghost use Rattle.mbj_stage.specs.declared.stage.Stage.TheVariants as stage;
 ghost use Rattle.mbj_manager.specs.Rounds.{pending};
 ghost use Rattle.mbj_lane.specs.Rounds.{end_of};
-ghost use Rattle.mbj_manager.specs.Machine.{count_end, lane_for, rest_of, run_idle};
+ghost use Rattle.mbj_manager.specs.Machine.{count_end, flush, lane_for, rest_of, run_within};
 ghost use Rattle.mbj_manager.specs.Leads.{AreLed};
-ghost use Rattle.mbj_manager.specs.Course.{course, flushed, stages_left, stepped, steps_ahead};
+ghost use Rattle.mbj_manager.specs.Course.{course, flushed, stages_left, stepped};
 ghost use Rattle.mbj_manager.specs.State.{after_get_completed, lent, new_manager, with_open};
 ghost use Rattle.mbj_manager.specs.Lending.{LendsOpenJob};
 ghost use Rattle.mbj_manager.specs.Inside.Added.{added, first_lane};
 ghost use Rattle.mbj_manager.specs.Inside.Cause.{within};
 ghost use Rattle.mbj_manager.specs.Inside.Courses.{AreCourses, courses, first_stage};
+ghost use Rattle.mbj_manager.specs.Inside.Steps.{steps_ahead};
 
 use crate::agenda::Agenda;
 use crate::cell::Cell;
@@ -170,7 +171,7 @@ impl Works {
     fn run_first(&mut self, kind: Kind)
         requires idle { self.old.machine.agenda ≡ [] }
         requires first { first_lane self.old.machine.left ≡ Some kind }
-        ensures ran { self.new ≡ record (self.old) { machine = run_idle kind self.old.machine } }
+        ensures ran { self.new ≡ record (self.old) { machine = run_within flush kind self.old.machine } }
         ensures stages { stages_left self.new.machine.left < stages_left self.old.machine.left }
     {
         self.lists.run(kind, &mut self.ring, &mut self.agenda);

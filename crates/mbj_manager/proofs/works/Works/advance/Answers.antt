@@ -4,9 +4,10 @@ use Rattle.mbj_manager.specs.Inside.Courses.{courses, number_in}
 use Rattle.mbj_manager.specs.Inside.Held.{held, lines_in}
 use Rattle.mbj_manager.specs.Inside.Cause.{within}
 use Rattle.mbj_manager.specs.State.{ManagerState}
-use Rattle.mbj_manager.specs.Course.{stages_left, stepped, steps_ahead}
+use Rattle.mbj_manager.specs.Course.{stages_left, stepped}
 use Rattle.mbj_manager.specs.Machine.{Machine}
 use Rattle.mbj_manager.proofs.Advancing.{enters, fewer-then, finishes, first-here, may-enter, no-more-then, none-pending}
+use Rattle.mbj_manager.specs.Inside.Steps.{steps_ahead}
 use Rattle.mbj_manager.proofs.works.Works.advance.Goals as goal
 
 pub run_nows-requires-clause-here : goal.run_nows-requires-clause-here

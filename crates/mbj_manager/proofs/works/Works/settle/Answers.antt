@@ -1,11 +1,12 @@
 -- A step takes one of those that are ahead.
 use Rattle.std.proofs.Common.{◌≡◌, ◌<◌, [], ◌∙◌, refl, ap, sym, subst, arith, rules}
 use Rattle.mbj_manager.specs.Machine.{Machine}
-use Rattle.mbj_manager.specs.Course.{course, steps_ahead}
+use Rattle.mbj_manager.specs.Course.{course}
 use Rattle.mbj_manager.specs.State.{ManagerState}
 use Rattle.mbj_manager.specs.Inside.Cause.{within}
 use Rattle.mbj_manager.proofs.Moving.{same-state}
 use Rattle.mbj_manager.proofs.Reaching.{Reaches, reaches-end, reaches-start, reaches-step}
+use Rattle.mbj_manager.specs.Inside.Steps.{steps_ahead}
 use Rattle.mbj_manager.proofs.works.Works.settle.Goals as goal
 
 pub settling-init : goal.settling-init

@@ -1,9 +1,10 @@
 -- The steps still ahead come to where the whole course comes, and nothing else changes.
 use Rattle.std.proofs.Common.{◌≡◌, ◌≤◌}
-use Rattle.mbj_manager.specs.Course.{course, stages_left, steps_ahead}
+use Rattle.mbj_manager.specs.Course.{course, stages_left}
 use Rattle.mbj_manager.specs.Inside.Cause.{within}
 use Rattle.mbj_manager.proofs.Reaching.{Reaches}
 use Rattle.mbj_manager.proofs.works.Works.settle.Given as goal
+use Rattle.mbj_manager.specs.Inside.Steps.{steps_ahead}
 
 abbrev pub invariant-settling : goal.invariant-settling
 invariant-settling l = record {

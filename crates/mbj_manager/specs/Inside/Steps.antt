@@ -1,0 +1,8 @@
+-- How many steps a course has ahead.
+use Rattle.std.specs.Prelude.{ℕ, ◌+◌, ◌*◌, length}
+use Rattle.mbj_manager.specs.Machine.{Machine}
+use Rattle.mbj_manager.specs.Course.{stages_left}
+
+-- each step takes from this number, so that so many steps empty the agenda
+abbrev pub steps_ahead : Machine → ℕ
+steps_ahead m = 2 * stages_left m.left + length m.agenda
