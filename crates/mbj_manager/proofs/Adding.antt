@@ -30,7 +30,6 @@ use Rattle.mbj_manager.specs.Inside.Held.{IsHeld, IsHere, IsTied, agenda_room, f
 use Rattle.mbj_manager.proofs.BetweenCalls.{submitted-within}
 use Rattle.mbj_manager.proofs.CourseEnds.{between-calls}
 use Rattle.mbj_manager.proofs.JobRounds.{pending-rounds}
-use Rattle.mbj_manager.proofs.Lanes.{lane-by}
 use Rattle.mbj_manager.proofs.Moving.{same-state}
 use Rattle.mbj_manager.proofs.Owing.{owed-length}
 
@@ -70,9 +69,7 @@ owed-end n find (x ∷ cs) c here = ap (λ (ds : List Done). owed_of n find x �
 
 few-in : (k : Kind) (r : RingState Cell) (ag : List ℕ) (ls : Lines) (capacity : ℕ) → IsHeld r ag ls capacity → length (line_in k ls).waiters < lanes_of k
 few-in k r ag ls capacity y =
-    let own : lane_for k (machine_in r ag ls) ≡ lane_seen (lines_in r ls k) = lane-by (λ j. lane_seen (lines_in r ls j)) k in
-    let few : length (map waiting (lines_in r ls k).waiters) < lanes_of k
-    = subst (λ (l : Lane). length l.waiting < lanes_of k) own (y.within.lanes k).few in
+    let few : length (map waiting (lines_in r ls k).waiters) < lanes_of k = (y.within.lanes k).few in
     let g : Waiter → Waiter = λ x. (number_in r x.0, x.1) in
     let l : length (lines_in r ls k).waiters ≡ length (line_in k ls).waiters = length-map (line_in k ls).waiters g in
     omega (arith, length-map (lines_in r ls k).waiters waiting)

@@ -12,7 +12,7 @@ use Rattle.mbj_stage.specs.Going.{Going, stage_of}
 use Rattle.mbj_stage.specs.declared.stage.Stage.{Stage}
 use Rattle.mbj_stage.specs.declared.stage.Stage.TheVariants as stage
 use Rattle.mbj_manager.specs.Rounds.{Pending, pending}
-use Rattle.mbj_manager.specs.Machine.{Lane, Waiting, Within, submit, flush, changed, lane_for, lanes_by}
+use Rattle.mbj_manager.specs.Machine.{Lane, Waiting, Within, submit, flush, changed, lane_for}
 use Rattle.mbj_manager.specs.Course.{goes_on, in_lanes_next, joined, stages_left, stepped, stepped_at}
 use Rattle.mbj_manager.specs.Between.{times_in}
 use Rattle.mbj_manager.specs.declared.cell.Cell.{Cell}
@@ -23,7 +23,6 @@ use Rattle.mbj_manager.specs.Inside.Lines.{Line, Lines, desk_of, line, line_in, 
 use Rattle.mbj_manager.specs.Inside.Standing.{IsWithin}
 use Rattle.mbj_manager.specs.Inside.Held.{IsHeld, IsHere, IsOpenAt, IsTied, find_in, found, lane_seen, lines_in, machine_by, machine_in, owed_from, waiting}
 use Rattle.mbj_manager.proofs.KindLines.{put, put-self}
-use Rattle.mbj_manager.proofs.Lanes.{lane-by}
 use Rattle.mbj_manager.proofs.Listing.{absent-listed}
 use Rattle.mbj_manager.proofs.Joining.{at-here}
 use Rattle.mbj_manager.proofs.Moving.{IsStep, have-rests, in-total, moved-length, moved-machine, moved-owed, moved-tied, ran-length, same-state}
@@ -50,7 +49,7 @@ first-here n rest cs agenda lines runs first within tied =
     let m = machine_by cs agenda lines runs in
     let off = first-off n rest m first (within.stands n) in
     tied.here n (All-head (λ i. i < length cs) n rest (subst (All (λ i. i < length cs)) first tied.below))
-    (λ k. absent-times n (lines k).waiters (ap (λ (l : Lane). times_in n l.waiting) (sym (lane-by (λ j. lane_seen (lines j)) k)) ∙ off.1 k))
+    (λ k. absent-times n (lines k).waiters (off.1 k))
 
 -- ---- what finishes at once is done
 
@@ -234,9 +233,8 @@ module _ (r r1 : RingState Cell) (p : ℕ) (ag ag1 : List ℕ) (ls : Lines) (cap
       → MayEnter (lanes_of k) k (number_in r1 p) (desk_of k (number_in r1) (courses r1) ag1 ls) capacity
   may-enter k st =
       let lane = y.within.lanes k in
-      let own : lane_for k (machine_in r ag ls) ≡ lane_seen (lines_in r ls k) = lane-by (λ j. lane_seen (lines_in r ls j)) k in
-      let few : length (map waiting (lines_in r ls k).waiters) < lanes_of k = subst (λ (l : Lane). length l.waiting < lanes_of k) own lane.few in
-      let rests = have-rests (lines_in r ls k).waiters (subst (λ (l : Lane). All (λ w. 1 ≤ w.rest) l.waiting) own lane.rests) in
+      let few : length (map waiting (lines_in r ls k).waiters) < lanes_of k = lane.few in
+      let rests = have-rests (lines_in r ls k).waiters lane.rests in
       let fits = y.fits in
       let room = y.room in
       record {
@@ -258,7 +256,7 @@ module _ (r r1 : RingState Cell) (p : ℕ) (ag ag1 : List ℕ) (ls : Lines) (cap
       let d1 = desk_of k (number_in r1) (courses r1) ag1 ls in
       let d = ran_if_full at (lanes_of k) (joined_by n a d1) in
       let m1 = machine_in r1 ag1 ls in
-      let lanes = lanes_by (λ j. lane_seen (lines_in r1 ls j)) in
+      let lanes : Kind → Lane = λ j. lane_seen (lines_in r1 ls j) in
       let gives : Gives k a.rounds a.brings x
       = at-from (Gives k a.rounds a.brings) x (number_in r p) (courses r)
       (subst (λ (m : ℕ). At (Gives k a.rounds a.brings) (number m p) (changed (λ _. x) (number_in r p) (courses r))) same.first

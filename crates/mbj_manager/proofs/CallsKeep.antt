@@ -28,7 +28,7 @@ use Rattle.mbj_manager.proofs.FlushRuns.{flush-runs}
 use Rattle.mbj_manager.proofs.JobRounds.{pending-rounds}
 use Rattle.mbj_manager.proofs.JobStages.{twice, two-next, two-stages, two-then}
 use Rattle.mbj_manager.proofs.Shrinking.{each-course, each-flush}
-use Rattle.mbj_manager.proofs.Lanes.{lane-by, some-lanes}
+use Rattle.mbj_manager.proofs.Lanes.{some-lanes}
 use Rattle.mbj_manager.proofs.GivingBack.{back-between}
 
 -- ---- what a flush gives
@@ -176,14 +176,13 @@ two-none (suc n) = omega arith
 -- a new manager has it
 pub new-settled : IsSettled new_manager
 new-settled =
-    let idle : (k : Kind) → lane_for k new_manager.machine ≡ idle_lane = lane-by (λ k. idle_lane) in
-    let lanes : (k : Kind) → IsLane k (lane_for k new_manager.machine) = λ k. subst (IsLane k) (sym (idle k)) (idle-kept k) in
+    let lanes : (k : Kind) → IsLane k (lane_for k new_manager.machine) = idle-kept in
     record {
       machine = record {
         agenda = refl;
         few = λ k. (lanes k).few;
         rests = λ k. (lanes k).rests;
-        placed = λ n k. ap (λ l. times_in n l.waiting) (idle k);
+        placed = λ n k. refl;
         stages = All-nil (All HasRounds);
         blocks = λ k. (lanes k).blocks;
       };

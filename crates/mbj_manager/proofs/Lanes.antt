@@ -1,9 +1,10 @@
 -- The lanes by their kinds: what is given to one kind leaves the others as they are.
-use Rattle.std.proofs.Common.{◌≡◌, ◌≢◌, ℕ, ◌<◌, List, ◌⊎◌, inl, inr, refl, arith}
+use Rattle.std.proofs.Common.{◌≡◌, ◌≢◌, ℕ, ◌<◌, List, ◌⊎◌, inl, inr, refl, sym, ◌∙◌, arith}
+use mathlib.Core.Path.{fun_ext}
 use Rattle.mbj_types.specs.declared.kind.Kind.{Kind}
 use Rattle.mbj_types.specs.declared.kind.Kind.TheVariants as kind
 use Rattle.mbj_types.specs.Kinds.{lanes_of}
-use Rattle.mbj_manager.specs.Machine.{Lane, Lanes, Waiting, lane_in, with_lane, lanes_by}
+use Rattle.mbj_manager.specs.Machine.{Lane, Waiting, with_lane}
 
 -- the lanes of a kind with another list
 abbrev pub with_waiting : Lane → List Waiting → Lane
@@ -26,8 +27,8 @@ same-kind kind.HmacSha512 kind.HmacSha512 = inl refl
 same-kind _ _ = inr (λ e. cc)
 
 -- what holds of the lanes that a kind is given, and of those of every other kind, holds of every kind's
-pub each-lane : (P : Kind → Lane → Type 0) (k : Kind) (l : Lane) (lanes : Lanes) → P k l
-    → ((j : Kind) → j ≢ k → P j (lane_in j lanes)) → (j : Kind) → P j (lane_in j (with_lane k l lanes))
+pub each-lane : (P : Kind → Lane → Type 0) (k : Kind) (l : Lane) (lanes : Kind → Lane) → P k l
+    → ((j : Kind) → j ≢ k → P j (lanes j)) → (j : Kind) → P j (with_lane k l lanes j)
 each-lane P kind.Cbc128 l lanes here there kind.Cbc128 = here
 each-lane P kind.Cbc192 l lanes here there kind.Cbc192 = here
 each-lane P kind.Cbc256 l lanes here there kind.Cbc256 = here
@@ -39,24 +40,18 @@ each-lane P kind.HmacSha512 l lanes here there kind.HmacSha512 = here
 each-lane P _ l lanes here there j = there j (λ e. cc)
 
 -- a kind has the lanes that it is given
-pub given-lane : (k : Kind) (l : Lane) (lanes : Lanes) → lane_in k (with_lane k l lanes) ≡ l
+pub given-lane : (k : Kind) (l : Lane) (lanes : Kind → Lane) → with_lane k l lanes k ≡ l
 given-lane k l lanes = each-lane (λ j given. j ≡ k → given ≡ l) k l lanes (λ e. refl) (λ j ne e. absurd (ne e)) k refl
 
 -- another kind has the lanes that it had
-pub other-lane : (k j : Kind) (l : Lane) (lanes : Lanes) → j ≢ k → lane_in j (with_lane k l lanes) ≡ lane_in j lanes
+pub other-lane : (k j : Kind) (l : Lane) (lanes : Kind → Lane) → j ≢ k → with_lane k l lanes j ≡ lanes j
 other-lane k j l lanes ne =
-    each-lane (λ i given. i ≢ k → given ≡ lane_in i lanes) k l lanes (λ ne. absurd (ne refl)) (λ i ne _. refl) j ne
+    each-lane (λ i given. i ≢ k → given ≡ lanes i) k l lanes (λ ne. absurd (ne refl)) (λ i ne _. refl) j ne
 
--- each kind has the lanes that a function gives for it
-pub lane-by : (f : Kind → Lane) (k : Kind) → lane_in k (lanes_by f) ≡ f k
-lane-by f kind.Cbc128 = refl
-lane-by f kind.Cbc192 = refl
-lane-by f kind.Cbc256 = refl
-lane-by f kind.Cmac128 = refl
-lane-by f kind.Cmac256 = refl
-lane-by f kind.HmacSha1 = refl
-lane-by f kind.HmacSha256 = refl
-lane-by f kind.HmacSha512 = refl
+-- of lanes that a kind is given twice the later ones stay
+pub again : (k : Kind) (l m : Lane) (lanes : Kind → Lane) → with_lane k l (with_lane k m lanes) ≡ with_lane k l lanes
+again k l m lanes = fun_ext (each-lane (λ j given. given ≡ with_lane k l lanes j) k l (with_lane k m lanes) (sym (given-lane k l lanes))
+    (λ j ne. other-lane k j m lanes ne ∙ sym (other-lane k j l lanes ne)))
 
 -- a kind has a lane at least
 pub some-lanes : (k : Kind) → 0 < lanes_of k

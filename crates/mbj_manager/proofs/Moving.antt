@@ -9,7 +9,7 @@ use Rattle.mbj_types.specs.declared.kind.Kind.TheVariants as kind
 use Rattle.mbj_ring.specs.Ring.{RingState}
 use Rattle.mbj_stage.specs.Going.{Going}
 use Rattle.mbj_manager.specs.Rounds.{Pending, at_once, in_lanes, pending}
-use Rattle.mbj_manager.specs.Machine.{Lane, Machine, Within, submit, flush, lane_for, lanes_by, run_within}
+use Rattle.mbj_manager.specs.Machine.{Lane, Machine, Within, submit, flush, lane_for, run_within}
 use Rattle.mbj_manager.specs.State.{ManagerState}
 use Rattle.mbj_manager.specs.declared.cell.Cell.{Cell}
 use Rattle.mbj_manager.specs.Inside.Added.{first_lane}
@@ -24,7 +24,6 @@ use Rattle.mbj_manager.specs.Inside.Pairs.{pair_rest}
 use Rattle.mbj_manager.proofs.BetweenCalls.{earliest-ready}
 use Rattle.mbj_manager.proofs.CourseEnds.{between-calls}
 use Rattle.mbj_manager.proofs.KindLines.{put, put-case}
-use Rattle.mbj_manager.proofs.Lanes.{lane-by}
 use Rattle.mbj_manager.proofs.Owing.{owed_from-same}
 use Rattle.mbj_manager.proofs.Running as Running
 use Rattle.mbj_manager.proofs.SeenAhead.{zero-or}
@@ -66,11 +65,11 @@ module _ (k : Kind) (r r' : RingState Cell) (ag ag' : List ℕ) (ls ls' : Lines)
   other-lines : (j : Kind) → j ≢ k → after j ≡ lines_in r ls j
   other-lines j ne = ap (numbered_line (number_in r)) (ap (line_in j) others-same ∙ line-other k j (line_in k ls') ls'.flush_runs ls ne)
 
-  pub moved-machine : machine_in r' ag' ls' ≡ machine_at k (lanes_by (λ j. lane_seen (lines_in r ls j))) d
+  pub moved-machine : machine_in r' ag' ls' ≡ machine_at k (λ j. lane_seen (lines_in r ls j)) d
   moved-machine =
       ap (λ (n : ℕ). machine_by (courses r') (map (number n) ag') (λ j. numbered_line (number n) (line_in j ls')) ls'.flush_runs) same.first
       ∙ by-desk k (lines_in r ls) after (desk_of k (number_in r) (courses r') ag' ls') refl other-lines
-      ∙ ap (machine_at k (lanes_by (λ j. lane_seen (lines_in r ls j)))) is
+      ∙ ap (machine_at k (λ j. lane_seen (lines_in r ls j))) is
 
   abbrev expected : Kind → Line
   expected = put k (line d.waiters 0 0) (lines_in r ls)
@@ -137,12 +136,11 @@ pub first-ready : (k : Kind) (cs : List Going) (agenda : List ℕ) (lines : Kind
     → IsReady k (desk cs agenda (lines k).waiters (lines k).rounds (lines k).blocks runs) room
 first-ready k cs agenda lines runs room idle first within tied fits =
     let m = machine_by cs agenda lines runs in
-    let own : lane_for k m ≡ lane_seen (lines k) = lane-by (λ j. lane_seen (lines j)) k in
     let ready = first-machine k m idle first within in
-    let some : 0 < length (map waiting (lines k).waiters) = subst (λ (l : Lane). 0 < length l.waiting) own ready.lane.some in
+    let some : 0 < length (map waiting (lines k).waiters) = ready.lane.some in
     record {
       some = omega (arith, length-map (lines k).waiters waiting);
-      rests = have-rests (lines k).waiters (subst (λ (l : Lane). All (λ w. 1 ≤ w.rest) l.waiting) own ready.lane.rests);
+      rests = have-rests (lines k).waiters ready.lane.rests;
       listed = tied.listed k;
       room_left = fits;
     }
@@ -191,7 +189,7 @@ runs-first k r r' ag ag' ls ls' capacity y idle first same others-are is =
     let d0 = desk_of k (number_in r) (courses r) ag ls in
     let d = ran_at flush d0 in
     let m = machine_in r ag ls in
-    let lanes = lanes_by (λ j. lane_seen (lines_in r ls j)) in
+    let lanes : Kind → Lane = λ j. lane_seen (lines_in r ls j) in
     let ran = ran-list k (courses r) (map (number_in r) ag) (lines_in r ls) y.tied in
     let machine : machine_in r' ag' ls' ≡ run_within flush k m
     = moved-machine k r r' ag ag' ls ls' d same others-are is ∙ run-seen flush k lanes d0

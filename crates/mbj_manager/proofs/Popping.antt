@@ -12,7 +12,7 @@ use Rattle.mbj_stage.specs.Handing.{End}
 use Rattle.mbj_stage.specs.declared.stage.Stage.{Stage}
 use Rattle.mbj_stage.specs.declared.stage.Stage.TheVariants as stage
 use Rattle.mbj_manager.specs.Rounds.{Pending, pending}
-use Rattle.mbj_manager.specs.Machine.{Lane, Machine, Waiting, lane_for, lanes_by}
+use Rattle.mbj_manager.specs.Machine.{Lane, Machine, Waiting, lane_for}
 use Rattle.mbj_manager.specs.Between.{IsBetweenCalls}
 use Rattle.mbj_manager.specs.State.{ManagerState, after_get_completed, given_at, renumbered}
 use Rattle.mbj_manager.specs.declared.cell.Cell.{Cell}
@@ -26,7 +26,6 @@ use Rattle.mbj_manager.specs.Inside.Held.{IsHeld, IsHere, IsTied, find_in, found
 use Rattle.mbj_manager.proofs.Adding.{map-nil}
 use Rattle.mbj_manager.proofs.CourseEnds.{between-calls, lanes-between, stages-at}
 use Rattle.mbj_manager.proofs.GivingBack.{back-between, earlier, without_earliest}
-use Rattle.mbj_manager.proofs.Lanes.{lane-by}
 use Rattle.mbj_manager.proofs.Moving.{same-state}
 use Rattle.mbj_manager.proofs.PendingStages.{finished-pending}
 
@@ -162,14 +161,13 @@ module _ (v : Cell) (vs : List Cell) (o : Option Cell) (first : ℕ) (ls : Lines
   lane-low k =
       ap lane_seen (lines-low k)
       ∙ ap (λ (ws : List Waiting). record { waiting = ws; rounds = (line_in k ls).rounds; blocks = (line_in k ls).blocks }) (waiting-low (lines k).waiters)
-      ∙ ap renumbered (sym (lane-by (λ j. lane_seen (lines j)) k))
 
   abbrev left_then : List (List Pending)
   left_then = map pending (map course_in vs)
 
   machine-then : machine_in r' [] ls ≡ without_earliest left_then (machine_in r [] ls)
   machine-then =
-      ap (λ (f : Kind → Lane). record { left = left_then; lanes = lanes_by f; agenda = []; flush_runs = ls.flush_runs }) (fun_ext lane-low)
+      ap (λ (f : Kind → Lane). record { left = left_then; lanes = f; agenda = []; flush_runs = ls.flush_runs }) (fun_ext lane-low)
 
   left-is : (machine_in r [] ls).left ≡ [] ∷ left_then
   left-is = ap (λ (ps : List Pending). ps ∷ left_then) none

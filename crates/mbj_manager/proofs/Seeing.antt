@@ -1,21 +1,21 @@
 -- What the lane machine sees of a list with the courses and the agenda.
 use Rattle.std.proofs.Common.{◌≡◌, ◌≢◌, ℕ, ◌+◌, ◌%◌, ◌==◌, min, zero, suc, List, [], ◌∷◌, ◌++◌, length, map, Bool, true, false, cond, refl, ap, ap₂, sym, ◌∙◌, subst, inl, inr}
+use mathlib.Core.Path.{fun_ext}
 use Rattle.std.proofs.lemmas.List.{length-map, map-append}
 use Rattle.mbj_lane.specs.Rounds.{least as least_of, least_from as least_of_from}
 use Rattle.mbj_types.specs.Kinds.{lanes_of}
 use Rattle.mbj_types.specs.declared.kind.Kind.{Kind}
-use Rattle.mbj_types.specs.declared.kind.Kind.TheVariants as kind
 use Rattle.mbj_stage.specs.Going.{Going}
 use Rattle.mbj_stage.specs.Handing.{handed_out, taken_back}
 use Rattle.mbj_manager.specs.Rounds.{Pending, pending}
-use Rattle.mbj_manager.specs.Machine.{Lane, Lanes, Machine, Waiting, Within, submit, flush, changed, count_end, lane_in, lane_for, lanes_by, least, leavers, ran, rest_of, run_within, shortened, stage_done, stayers, with_lane, with_run, without_first}
+use Rattle.mbj_manager.specs.Machine.{Lane, Machine, Waiting, Within, submit, flush, changed, count_end, lane_for, least, leavers, ran, rest_of, run_within, shortened, stage_done, stayers, with_lane, with_run, without_first}
 use Rattle.mbj_manager.specs.Course.{joined, run_if_full}
 use Rattle.mbj_manager.specs.Inside.Pairs.{pair_rest}
 use Rattle.mbj_manager.specs.Inside.Leaving.{finishers, numbers, others, returned}
 use Rattle.mbj_manager.specs.Inside.Desk.{Ahead, Desk, Waiter, brings_in, joined_by, led_all, led_waiter, ran_at, ran_if_full, rounds_in}
 use Rattle.mbj_manager.specs.Inside.Lines.{Line, line}
 use Rattle.mbj_manager.specs.Inside.Held.{lane_seen, machine_by, waiting}
-use Rattle.mbj_manager.proofs.Lanes.{given-lane, lane-by, other-lane, same-kind, with_waiting, waits}
+use Rattle.mbj_manager.proofs.Lanes.{given-lane, other-lane, same-kind, with_waiting, waits, again}
 use Rattle.mbj_manager.proofs.PendingStages.{pending-back, pending-out}
 use Rattle.mbj_manager.proofs.SeenAhead.{zero-or}
 use Rattle.mbj_manager.proofs.Leaving.{lowered}
@@ -79,53 +79,30 @@ out-same (suc n) (c ∷ cs) = ap (λ (x : List (List Pending)). pending c ∷ x)
 
 -- ---- the machine
 
--- lanes that are the same for each kind
-pub same-lanes : (a b : Lanes) → ((j : Kind) → lane_in j a ≡ lane_in j b) → a ≡ b
-same-lanes a b h =
-    let x1 : a.cbc128 ≡ b.cbc128 = h kind.Cbc128 in
-    let x2 : a.cbc192 ≡ b.cbc192 = h kind.Cbc192 in
-    let x3 : a.cbc256 ≡ b.cbc256 = h kind.Cbc256 in
-    let x4 : a.cmac128 ≡ b.cmac128 = h kind.Cmac128 in
-    let x5 : a.cmac256 ≡ b.cmac256 = h kind.Cmac256 in
-    let x6 : a.hmac_sha1 ≡ b.hmac_sha1 = h kind.HmacSha1 in
-    let x7 : a.hmac_sha256 ≡ b.hmac_sha256 = h kind.HmacSha256 in
-    let x8 : a.hmac_sha512 ≡ b.hmac_sha512 = h kind.HmacSha512 in
-    rw (x1, x2, x3, x4, x5, x6, x7, x8) refl
-
-again : (k : Kind) (l m : Lane) (lanes : Lanes) → with_lane k l (with_lane k m lanes) ≡ with_lane k l lanes
-again kind.Cbc128 l m lanes = refl
-again kind.Cbc192 l m lanes = refl
-again kind.Cbc256 l m lanes = refl
-again kind.Cmac128 l m lanes = refl
-again kind.Cmac256 l m lanes = refl
-again kind.HmacSha1 l m lanes = refl
-again kind.HmacSha256 l m lanes = refl
-again kind.HmacSha512 l m lanes = refl
-
 abbrev pub lane_at : Desk → Lane
 lane_at d = lane_seen (line d.waiters d.rounds d.blocks)
 
 -- the machine with the desk of the kind k, and these lanes of the other kinds
-abbrev pub machine_at : Kind → Lanes → Desk → Machine
+abbrev pub machine_at : Kind → (Kind → Lane) → Desk → Machine
 machine_at k lanes d = record { left = map pending d.courses; lanes = with_lane k (lane_at d) lanes; agenda = d.agenda; flush_runs = d.flush_runs }
 
-own-lane : (k : Kind) (lanes : Lanes) (d : Desk) → lane_for k (machine_at k lanes d) ≡ lane_at d
+own-lane : (k : Kind) (lanes : Kind → Lane) (d : Desk) → lane_for k (machine_at k lanes d) ≡ lane_at d
 own-lane k lanes d = given-lane k (lane_at d) lanes
 
-abbrev machine : List (List Pending) → Lanes → List ℕ → ℕ → Machine
+abbrev machine : List (List Pending) → (Kind → Lane) → List ℕ → ℕ → Machine
 machine left lanes agenda runs = record { left = left; lanes = lanes; agenda = agenda; flush_runs = runs }
 
-same-machine : (a b : List (List Pending)) (c d : Lanes) (e f : List ℕ) (n : ℕ) → a ≡ b → c ≡ d → e ≡ f → machine a c e n ≡ machine b d f n
+same-machine : (a b : List (List Pending)) (c d : Kind → Lane) (e f : List ℕ) (n : ℕ) → a ≡ b → c ≡ d → e ≡ f → machine a c e n ≡ machine b d f n
 same-machine a b c d e f n x y z = rw (x, y, z) refl
 
 -- a run, whatever it counts
-ran-seen-by : (k : Kind) (lanes : Lanes) (d e : Desk) (after : List Waiting → Lane) (m : Machine) → m.left ≡ map pending d.courses → m.agenda ≡ d.agenda
+ran-seen-by : (k : Kind) (lanes : Kind → Lane) (d e : Desk) (after : List Waiting → Lane) (m : Machine) → m.left ≡ map pending d.courses → m.agenda ≡ d.agenda
     → m.lanes ≡ with_lane k (lane_at d) lanes → e.courses ≡ returned brings_in d.courses (finishers rounds_in (led_all d.waiters))
     → e.agenda ≡ d.agenda ++ numbers (finishers rounds_in (led_all d.waiters))
     → lane_at e ≡ after (map waiting (others rounds_in (led_all d.waiters))) → e.flush_runs ≡ m.flush_runs
     → machine_at k lanes e ≡ ran k after m
 ran-seen-by k lanes d e after m left agenda lanes-are cs ag lane runs =
-    let ws : (lane_for k m).waiting ≡ map waiting d.waiters = ap (λ (x : Lanes). (lane_in k x).waiting) lanes-are ∙ ap (λ (l : Lane). l.waiting) (given-lane k (lane_at d) lanes) in
+    let ws : (lane_for k m).waiting ≡ map waiting d.waiters = ap (λ (x : Kind → Lane). (x k).waiting) lanes-are ∙ ap (λ (l : Lane). l.waiting) (given-lane k (lane_at d) lanes) in
     let gone : leavers (shortened (lane_for k m).waiting) ≡ numbers (finishers rounds_in (led_all d.waiters)) = ap (λ x. leavers (shortened x)) ws ∙ gone-seen d.waiters in
     let stay : stayers (shortened (lane_for k m).waiting) ≡ map waiting (others rounds_in (led_all d.waiters)) = ap (λ x. stayers (shortened x)) ws ∙ stay-seen d.waiters in
     let l : map pending e.courses ≡ stage_done (leavers (shortened (lane_for k m).waiting)) m.left
@@ -136,7 +113,7 @@ ran-seen-by k lanes d e after m left agenda lanes-are cs ag lane runs =
     let a : e.agenda ≡ m.agenda ++ leavers (shortened (lane_for k m).waiting) = ag ∙ ap₂ (λ x y. x ++ y) (sym agenda) (sym gone) in
     same-machine _ _ _ _ _ _ e.flush_runs l n a ∙ ap (λ r. record (ran k after m) { flush_runs = r }) runs
 
-pub run-seen : (at : Within) (k : Kind) (lanes : Lanes) (d : Desk) → machine_at k lanes (ran_at at d) ≡ run_within at k (machine_at k lanes d)
+pub run-seen : (at : Within) (k : Kind) (lanes : Kind → Lane) (d : Desk) → machine_at k lanes (ran_at at d) ≡ run_within at k (machine_at k lanes d)
 run-seen submit k lanes d =
     let m = machine_at k lanes d in
     let own = own-lane k lanes d in
@@ -150,7 +127,7 @@ run-seen flush k lanes d =
     ran-seen-by k lanes d (ran_at flush d) (with_waiting (lane_for k m)) counted refl refl refl refl refl (rw own refl) refl
 
 -- a job that joins
-joined-seen : (k : Kind) (lanes : Lanes) (n : ℕ) (a : Ahead) (d : Desk)
+joined-seen : (k : Kind) (lanes : Kind → Lane) (n : ℕ) (a : Ahead) (d : Desk)
     → machine_at k lanes (joined_by n a d)
     ≡ record (machine_at k lanes d) {
       lanes = with_lane k (with_waiting (lane_for k (machine_at k lanes d)) ((lane_for k (machine_at k lanes d)).waiting ++ waits n a.rounds ∷ [])) (with_lane k (lane_at d) lanes);
@@ -163,13 +140,13 @@ joined-seen k lanes n a d =
     same-machine _ _ _ _ _ _ d.flush_runs (out-same n d.courses)
     (ap (λ x. with_lane k x lanes) lane ∙ sym (again k (with_waiting (lane_for k m) ((lane_for k m).waiting ++ waits n a.rounds ∷ [])) (lane_at d) lanes)) refl
 
-either : (at : Within) (k : Kind) (lanes : Lanes) (b : Bool) (d : Desk)
+either : (at : Within) (k : Kind) (lanes : Kind → Lane) (b : Bool) (d : Desk)
     → machine_at k lanes (cond b (ran_at at d) d) ≡ cond b (run_within at k (machine_at k lanes d)) (machine_at k lanes d)
 either at k lanes true d = run-seen at k lanes d
 either at k lanes false d = refl
 
 -- a job that joins, and the run of the list where it is full then
-pub enters-seen : (at : Within) (k : Kind) (lanes : Lanes) (n : ℕ) (a : Ahead) (d : Desk)
+pub enters-seen : (at : Within) (k : Kind) (lanes : Kind → Lane) (n : ℕ) (a : Ahead) (d : Desk)
     → machine_at k lanes (ran_if_full at (lanes_of k) (joined_by n a d)) ≡ joined at k n a.rounds (machine_at k lanes d)
 enters-seen at k lanes n a d =
     let j = joined_by n a d in
@@ -181,12 +158,10 @@ enters-seen at k lanes n a d =
 
 -- the machine of all kinds, by one of them
 pub by-desk : (k : Kind) (lines after : Kind → Line) (d : Desk) → after k ≡ line d.waiters d.rounds d.blocks → ((j : Kind) → j ≢ k → after j ≡ lines j)
-    → machine_by d.courses d.agenda after d.flush_runs ≡ machine_at k (lanes_by (λ j. lane_seen (lines j))) d
+    → machine_by d.courses d.agenda after d.flush_runs ≡ machine_at k (λ j. lane_seen (lines j)) d
 by-desk k lines after d own others =
-    same-machine _ _ _ _ _ _ d.flush_runs refl
-    (same-lanes (lanes_by (λ j. lane_seen (after j))) (with_lane k (lane_at d) (lanes_by (λ j. lane_seen (lines j)))) (λ j.
-    lane-by (λ i. lane_seen (after i)) j ∙ elim (same-kind j k) [
-      | inl e ↦ subst (λ i. lane_seen (after i) ≡ lane_in i (with_lane k (lane_at d) (lanes_by (λ j. lane_seen (lines j))))) (sym e)
-          (ap lane_seen own ∙ sym (given-lane k (lane_at d) (lanes_by (λ j. lane_seen (lines j)))))
-      | inr ne ↦ ap lane_seen (others j ne) ∙ sym (lane-by (λ i. lane_seen (lines i)) j) ∙ sym (other-lane k j (lane_at d) (lanes_by (λ j. lane_seen (lines j))) ne)
+    same-machine _ _ _ _ _ _ d.flush_runs refl (fun_ext (λ j. elim (same-kind j k) [
+      | inl e ↦ subst (λ i. lane_seen (after i) ≡ with_lane k (lane_at d) (λ j. lane_seen (lines j)) i) (sym e)
+          (ap lane_seen own ∙ sym (given-lane k (lane_at d) (λ j. lane_seen (lines j))))
+      | inr ne ↦ ap lane_seen (others j ne) ∙ sym (other-lane k j (lane_at d) (λ j. lane_seen (lines j)) ne)
     ])) refl

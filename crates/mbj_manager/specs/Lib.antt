@@ -3,6 +3,7 @@ pub mod Machine
 pub mod Course
 pub mod Counts
 pub mod State
+pub mod Code
 pub mod Calls
 pub mod Between
 pub mod Leads

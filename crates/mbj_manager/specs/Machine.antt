@@ -16,23 +16,13 @@ pub record Lane : Type 0 where
   pub rounds : ℕ
   pub blocks : ℕ
 
--- the lanes of each kind
-pub record Lanes : Type 0 where
-  pub cbc128 : Lane
-  pub cbc192 : Lane
-  pub cbc256 : Lane
-  pub cmac128 : Lane
-  pub cmac256 : Lane
-  pub hmac_sha1 : Lane
-  pub hmac_sha256 : Lane
-  pub hmac_sha512 : Lane
-
 -- The jobs that are submitted and not given back have the numbers from 0 on, in the order of submission.
 pub record Machine : Type 0 where
   -- job by job the stages that are left. That of a waiting job stays until its rounds are done. A job with none left is
   -- finished
   pub left : List (List Pending)
-  pub lanes : Lanes
+  -- the lanes of each kind
+  pub lanes : Kind → Lane
   -- the jobs that stand between two stages
   pub agenda : List ℕ
   -- how many runs there were within a flush
@@ -52,46 +42,24 @@ changed f (suc n) (x ∷ xs) = x ∷ changed f n xs
 
 -- ---- the lanes by their kinds
 
-abbrev pub lane_in : Kind → Lanes → Lane
-lane_in kind.Cbc128 lanes = lanes.cbc128
-lane_in kind.Cbc192 lanes = lanes.cbc192
-lane_in kind.Cbc256 lanes = lanes.cbc256
-lane_in kind.Cmac128 lanes = lanes.cmac128
-lane_in kind.Cmac256 lanes = lanes.cmac256
-lane_in kind.HmacSha1 lanes = lanes.hmac_sha1
-lane_in kind.HmacSha256 lanes = lanes.hmac_sha256
-lane_in kind.HmacSha512 lanes = lanes.hmac_sha512
-
 -- the lanes with l for those of a kind
-abbrev pub with_lane : Kind → Lane → Lanes → Lanes
-with_lane kind.Cbc128 l lanes = record lanes { cbc128 = l }
-with_lane kind.Cbc192 l lanes = record lanes { cbc192 = l }
-with_lane kind.Cbc256 l lanes = record lanes { cbc256 = l }
-with_lane kind.Cmac128 l lanes = record lanes { cmac128 = l }
-with_lane kind.Cmac256 l lanes = record lanes { cmac256 = l }
-with_lane kind.HmacSha1 l lanes = record lanes { hmac_sha1 = l }
-with_lane kind.HmacSha256 l lanes = record lanes { hmac_sha256 = l }
-with_lane kind.HmacSha512 l lanes = record lanes { hmac_sha512 = l }
-
--- the lanes that f gives for each kind
-abbrev pub lanes_by : (Kind → Lane) → Lanes
-lanes_by f = record {
-  cbc128 = f kind.Cbc128;
-  cbc192 = f kind.Cbc192;
-  cbc256 = f kind.Cbc256;
-  cmac128 = f kind.Cmac128;
-  cmac256 = f kind.Cmac256;
-  hmac_sha1 = f kind.HmacSha1;
-  hmac_sha256 = f kind.HmacSha256;
-  hmac_sha512 = f kind.HmacSha512;
-}
+abbrev pub with_lane : Kind → Lane → (Kind → Lane) → Kind → Lane
+with_lane kind.Cbc128 l lanes kind.Cbc128 = l
+with_lane kind.Cbc192 l lanes kind.Cbc192 = l
+with_lane kind.Cbc256 l lanes kind.Cbc256 = l
+with_lane kind.Cmac128 l lanes kind.Cmac128 = l
+with_lane kind.Cmac256 l lanes kind.Cmac256 = l
+with_lane kind.HmacSha1 l lanes kind.HmacSha1 = l
+with_lane kind.HmacSha256 l lanes kind.HmacSha256 = l
+with_lane kind.HmacSha512 l lanes kind.HmacSha512 = l
+with_lane _ l lanes j = lanes j
 
 -- the lanes of a kind in which no job waits, and in which nothing ran
 abbrev pub idle_lane : Lane
 idle_lane = record { waiting = []; rounds = 0; blocks = 0 }
 
 abbrev pub lane_for : Kind → Machine → Lane
-lane_for k m = lane_in k m.lanes
+lane_for k m = m.lanes k
 
 -- ---- a run
 

@@ -7,7 +7,7 @@ use Rattle.mbj_types.specs.Result.{result_of}
 use Rattle.mbj_ring.specs.declared.ring.TheConstants.{CELLS}
 use Rattle.mbj_stage.specs.Going.{begun}
 use Rattle.mbj_manager.specs.Rounds.{Pending, pending}
-use Rattle.mbj_manager.specs.Machine.{submit, Waiting, Lane, Machine, idle_lane, lane_for, lanes_by}
+use Rattle.mbj_manager.specs.Machine.{submit, Waiting, Lane, Machine, idle_lane, lane_for}
 use Rattle.mbj_manager.specs.Course.{course, flushed}
 
 pub record ManagerState : Type 0 where
@@ -20,7 +20,7 @@ pub record ManagerState : Type 0 where
 
 -- a manager with no job and no open one, and with lanes in which no job waits and nothing ran
 abbrev pub new_manager : ManagerState
-new_manager = record { owed = []; opened = None; machine = record { left = []; lanes = lanes_by (λ k. idle_lane); agenda = []; flush_runs = 0 } }
+new_manager = record { owed = []; opened = None; machine = record { left = []; lanes = λ k. idle_lane; agenda = []; flush_runs = 0 } }
 
 -- ---- get_next
 
@@ -41,7 +41,7 @@ renumbered l = record l { waiting = map (λ (w : Waiting). record w { number = w
 -- the earliest job's result is given back where that job is finished
 abbrev pub given_at : List Done → List (List Pending) → ManagerState → Option Done × ManagerState
 given_at (d ∷ ds) ([] ∷ left) h =
-    (Some d, record h { owed = ds; machine = record h.machine { left = left; lanes = lanes_by (λ k. renumbered (lane_for k h.machine)) } })
+    (Some d, record h { owed = ds; machine = record h.machine { left = left; lanes = λ k. renumbered (lane_for k h.machine) } })
 given_at ds left h = (None, h)
 
 abbrev pub after_get_completed : ManagerState → Option Done × ManagerState

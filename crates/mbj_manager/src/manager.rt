@@ -35,9 +35,13 @@ pub struct Manager {
 
 impl Model for Manager {
     ghost use Rattle.mbj_manager.specs.State.{ManagerState};
+    ghost use Rattle.std.specs.Coded.{codes};
+    ghost use Rattle.mbj_manager.specs.Code.{state_code};
     ghost use Rattle.mbj_manager.specs.Inside.Settled.{IsSettled};
 
     ghost Value = { ManagerState };
+
+    ghost coded = { state_code (Prim.hlevel codes) };
 
     ghost view = { λ m. m.works };
 

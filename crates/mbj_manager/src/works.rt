@@ -43,9 +43,13 @@ pub struct Works {
 impl Model for Works {
     ghost use Rattle.std.specs.Prelude.{vec_capacity};
     ghost use Rattle.mbj_manager.specs.State.{ManagerState};
+    ghost use Rattle.std.specs.Coded.{codes};
+    ghost use Rattle.mbj_manager.specs.Code.{state_code};
     ghost use Rattle.mbj_manager.specs.Inside.Held.{held, IsHeld};
 
     ghost Value = { ManagerState };
+
+    ghost coded = { state_code (Prim.hlevel codes) };
 
     ghost view = { λ w. held w.ring w.agenda.places.items w.lists };
 

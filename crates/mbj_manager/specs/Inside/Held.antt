@@ -8,7 +8,7 @@ use Rattle.mbj_stage.specs.Handing.{End, owed_with}
 use Rattle.mbj_stage.specs.declared.stage.Stage.{Stage}
 use Rattle.mbj_stage.specs.declared.stage.Stage.TheVariants as stage
 use Rattle.mbj_manager.specs.Rounds.{pending}
-use Rattle.mbj_manager.specs.Machine.{Waiting, Lane, Machine, lanes_by}
+use Rattle.mbj_manager.specs.Machine.{Waiting, Lane, Machine}
 use Rattle.mbj_manager.specs.State.{ManagerState}
 use Rattle.mbj_manager.specs.declared.cell.Cell.{Cell}
 use Rattle.mbj_manager.specs.Inside.Courses.{AreCourses, IsOpen, courses, job_in, number_in}
@@ -44,7 +44,7 @@ lane_seen l = record { waiting = map waiting l.waiters; rounds = l.rounds; block
 
 abbrev pub machine_by : List Going → List ℕ → (Kind → Line) → ℕ → Machine
 machine_by cs agenda lines flush_runs =
-    record { left = map pending cs; lanes = lanes_by (λ k. lane_seen (lines k)); agenda = agenda; flush_runs = flush_runs }
+    record { left = map pending cs; lanes = λ k. lane_seen (lines k); agenda = agenda; flush_runs = flush_runs }
 
 -- ---- what is owed
 

@@ -1,16 +1,12 @@
 -- Each run that counts was on a full list.
-use Rattle.std.proofs.Common.{◌∙◌, ◌*◌, ◌%◌, ap, sym}
+use Rattle.std.proofs.Common.{◌∙◌, ◌*◌, ◌%◌, ap}
 use Rattle.mbj_types.specs.Kinds.{lanes_of}
-use Rattle.mbj_manager.specs.Machine.{Lane, count_end, lane_for}
+use Rattle.mbj_manager.specs.Machine.{count_end, lane_for}
 use Rattle.mbj_manager.specs.State.{ManagerState}
-use Rattle.mbj_manager.specs.Inside.Held.{lane_seen, lines_in}
-use Rattle.mbj_manager.proofs.Lanes.{lane-by}
 use Rattle.mbj_manager.proofs.works.Works.blocks.Goals as goal
 
 pub returns-clause-full : goal.returns-clause-full
 returns-clause-full c =
     let k = c.args.kind in
-    let w = c.self.inside in
-    let own = lane-by (λ j. lane_seen (lines_in w.ring w.lists j)) k in
-    c.blocks-2.ensures ∙ sym (ap (λ (l : Lane). l.blocks) own) ∙ (c.self.invariant.within.lanes k).blocks
+    c.blocks-2.ensures ∙ (c.self.invariant.within.lanes k).blocks
     ∙ ap (λ (h : ManagerState). (lanes_of k * (lane_for k h.machine).rounds) % count_end) c.self.view_is
