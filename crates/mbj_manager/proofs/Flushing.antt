@@ -3,7 +3,7 @@ use Rattle.std.proofs.Common.{◌≡◌, ℕ, zero, suc, ◌≤◌, ◌<◌, Lis
 use Rattle.mbj_types.specs.declared.kind.Kind.{Kind}
 use Rattle.mbj_manager.specs.Rounds.{Pending, at_once, in_lanes}
 use Rattle.mbj_manager.specs.Machine.{Machine, flush, run_within}
-use Rattle.mbj_manager.specs.Course.{after_flush_steps, course, flush_step, flush_step_at, flushed, stages_left}
+use Rattle.mbj_manager.specs.Course.{after_flush_steps, course, flush_step_at, flushed, stages_left}
 use Rattle.mbj_manager.specs.Inside.Added.{first_lane}
 
 -- enough flush steps of the machine m come to the machine end
@@ -16,8 +16,8 @@ pub flush-start : (m : Machine) → FlushReaches m (flushed m)
 unfolding flushed
 flush-start m = record { count = stages_left m.left; enough = omega arith; is = refl }
 
-by-count : (m end : Machine) (count : ℕ) → stages_left (flush_step m).left < stages_left m.left → stages_left m.left ≤ count → after_flush_steps count m ≡ end
-    → FlushReaches (flush_step m) end
+by-count : (m end : Machine) (count : ℕ) → stages_left (flush_step_at (slice_get m.left 0) m).left < stages_left m.left → stages_left m.left ≤ count → after_flush_steps count m ≡ end
+    → FlushReaches (flush_step_at (slice_get m.left 0) m) end
 unfolding after_flush_steps
 by-count m end zero fewer enough is = absurd (omega arith)
 by-count m end (suc count) fewer enough is = record { count = count; enough = omega arith; is = is }
@@ -32,7 +32,7 @@ step-runs ((in_lanes j rest ∷ ps) ∷ left) k m e = let is : j ≡ k = cc in a
 pub flush-next : (m m' end : Machine) (k : Kind) → first_lane m.left ≡ Some k → m' ≡ course flush (run_within flush k m) → stages_left m'.left < stages_left m.left
     → FlushReaches m end → FlushReaches m' end
 flush-next m m' end k e is fewer r =
-    let step : m' ≡ flush_step m = is ∙ sym (step-runs m.left k m e) in
+    let step : m' ≡ flush_step_at (slice_get m.left 0) m = is ∙ sym (step-runs m.left k m e) in
     subst (λ (x : Machine). FlushReaches x end) (sym step)
     (by-count m end r.count (subst (λ (x : Machine). stages_left x.left < stages_left m.left) step fewer) r.enough r.is)
 

@@ -17,9 +17,9 @@ use Rattle.mbj_stage.specs.Steps.{auth_steps, cipher_steps, ordered, stage_at, s
 use Rattle.mbj_stage.specs.Going.{begun}
 use Rattle.mbj_manager.specs.Rounds.{Pending, at_once, in_lanes, pending, pending_by}
 use Rattle.mbj_manager.specs.Course.{in_lanes_next, stages_left}
-use Rattle.mbj_manager.specs.Machine.{without_first}
 use Rattle.mbj_manager.specs.Inside.Standing.{left_at}
 use Rattle.mbj_manager.proofs.PendingStages.{pending_at}
+use Rattle.std.specs.Prelude.{drop}
 
 few-by : (s : Stage) (j : Job) → length (pending_by s j) ≤ 1
 few-by stage.Now j = omega arith
@@ -56,7 +56,7 @@ pub two-stages : (j : Job) → length (pending (begun j)) ≤ 2
 two-stages j = omega (arith, few-at j (steps_by (verdict j) j), two-steps (verdict j) j)
 
 -- a stage that is done leaves no more
-pub two-then : (ps : List Pending) → length ps ≤ 2 → length (without_first ps) ≤ 2
+pub two-then : (ps : List Pending) → length ps ≤ 2 → length (drop 1 ps) ≤ 2
 two-then [] two = two
 two-then (p ∷ ps) two = omega arith
 

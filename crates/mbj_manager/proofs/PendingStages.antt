@@ -12,9 +12,8 @@ use Rattle.mbj_stage.specs.Going.{Going, ran, ran_at, stage_of}
 use Rattle.mbj_stage.specs.Handing.{End, handed_out, taken_back, taken_back_at}
 use Rattle.mbj_stage.proofs.StagesOf.{finished-left, stage-first, stage-packet}
 use Rattle.mbj_manager.specs.Rounds.{Pending, in_lanes, pending, pending_by}
-use Rattle.mbj_manager.specs.Machine.{without_first}
 use Rattle.mbj_manager.specs.Course.{in_lanes_next}
-use Rattle.std.specs.Prelude.{flat_map}
+use Rattle.std.specs.Prelude.{flat_map, drop}
 
 -- ---- the packet has no part in it
 
@@ -129,16 +128,16 @@ finished-pending c h = none-left-at c.job c.left h
 
 -- ---- a packet that comes back
 
-first-by : (s : Stage) (j : Job) (ps : List Pending) → s ≢ stage.Finished → without_first (pending_by s j ++ ps) ≡ ps
+first-by : (s : Stage) (j : Job) (ps : List Pending) → s ≢ stage.Finished → drop 1 (pending_by s j ++ ps) ≡ ps
 first-by stage.Now j ps f = refl
 first-by (stage.Lane k) j ps f = refl
 first-by stage.Finished j ps f = absurd (f refl)
 
-back-at : (left : List Step) (c : Going) (e : End) → c.left ≡ left → pending (taken_back_at left e c) ≡ without_first (pending_at c.job left)
+back-at : (left : List Step) (c : Going) (e : End) → c.left ≡ left → pending (taken_back_at left e c) ≡ drop 1 (pending_at c.job left)
 back-at [] c e is = ap (pending_at c.job) is
 back-at (s ∷ left) c e is =
     pending-packet c.job e.packet left ∙ sym (first-by (stage_at c.job (s ∷ [])) c.job (pending_at c.job left) (never-finished c.job s []))
 
 -- the first stage is done
-pub pending-back : (c : Going) (e : End) → pending (taken_back e c) ≡ without_first (pending c)
+pub pending-back : (c : Going) (e : End) → pending (taken_back e c) ≡ drop 1 (pending c)
 pending-back c e = back-at c.left c e refl

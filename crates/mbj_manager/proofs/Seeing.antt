@@ -8,7 +8,7 @@ use Rattle.mbj_types.specs.declared.kind.Kind.{Kind}
 use Rattle.mbj_stage.specs.Going.{Going}
 use Rattle.mbj_stage.specs.Handing.{handed_out, taken_back}
 use Rattle.mbj_manager.specs.Rounds.{Pending, pending}
-use Rattle.mbj_manager.specs.Machine.{Lane, Machine, Waiting, Within, submit, flush, changed, count_end, lane_for, least, leavers, ran, rest_of, run_within, shortened, stage_done, stayers, with_lane, with_run, without_first}
+use Rattle.mbj_manager.specs.Machine.{Lane, Machine, Waiting, Within, submit, flush, changed, count_end, lane_for, least, leavers, ran, rest_of, run_within, shortened, stage_done, stayers, with_lane, with_run}
 use Rattle.mbj_manager.specs.Course.{joined, run_if_full}
 use Rattle.mbj_manager.specs.Inside.Pairs.{pair_rest}
 use Rattle.mbj_manager.specs.Inside.Leaving.{finishers, numbers, others, returned}
@@ -19,6 +19,7 @@ use Rattle.mbj_manager.proofs.Lanes.{given-lane, other-lane, same-kind, with_wai
 use Rattle.mbj_manager.proofs.PendingStages.{pending-back, pending-out}
 use Rattle.mbj_manager.proofs.SeenAhead.{zero-or}
 use Rattle.mbj_manager.proofs.Leaving.{lowered}
+use Rattle.std.specs.Prelude.{drop}
 
 -- ---- lists
 
@@ -70,7 +71,7 @@ pub returned-seen : (cs : List Going) (ws : List Waiter) → map pending (return
 returned-seen cs [] = refl
 returned-seen cs (w ∷ ws) =
     returned-seen (changed (taken_back w.1.brings) w.0 cs) ws
-    ∙ ap (stage_done (numbers ws)) (map-changed (taken_back w.1.brings) without_first w.0 cs (λ c. pending-back c w.1.brings))
+    ∙ ap (stage_done (numbers ws)) (map-changed (taken_back w.1.brings) (drop 1) w.0 cs (λ c. pending-back c w.1.brings))
 
 out-same : (n : ℕ) (cs : List Going) → map pending (changed handed_out n cs) ≡ map pending cs
 out-same n [] = refl

@@ -4,21 +4,22 @@ use Rattle.std.proofs.lemmas.Bool.{cond_both}
 use Rattle.mbj_types.specs.declared.kind.Kind.{Kind}
 use Rattle.mbj_types.specs.Kinds.{lanes_of}
 use Rattle.mbj_manager.specs.Rounds.{Pending, at_once, in_lanes}
-use Rattle.mbj_manager.specs.Machine.{Machine, Within, submit, flush, changed, lane_for, run_within, stage_done, with_lane, without_first}
-use Rattle.mbj_manager.specs.Course.{after_flush_steps, after_steps, course, flush_step, flush_step_at, flushed, goes_on, in_lanes_next, joined, stages_left, stepped, stepped_at}
+use Rattle.mbj_manager.specs.Machine.{Machine, Within, submit, flush, changed, lane_for, run_within, stage_done, with_lane}
+use Rattle.mbj_manager.specs.Course.{after_flush_steps, after_steps, course, flush_step_at, flushed, goes_on, in_lanes_next, joined, stages_left, stepped, stepped_at}
 use Rattle.mbj_manager.specs.Inside.Standing.{left_at}
 use Rattle.mbj_manager.proofs.Changing.{each-changed}
 use Rattle.mbj_manager.proofs.Standing.{gone}
 use Rattle.mbj_manager.specs.Inside.Steps.{steps_ahead}
 use Rattle.mbj_manager.proofs.Lanes.{with_waiting, waits}
+use Rattle.std.specs.Prelude.{drop}
 
-module _ (P : List Pending → Type 0) (one_done : (ps : List Pending) → P ps → P (without_first ps)) (next : (ps : List Pending) → P ps → P (in_lanes_next ps)) where
+module _ (P : List Pending → Type 0) (one_done : (ps : List Pending) → P ps → P (drop 1 ps)) (next : (ps : List Pending) → P ps → P (in_lanes_next ps)) where
   abbrev pub Each : List (List Pending) → Type 0
   Each left = (n : ℕ) → P (left_at n left)
 
   each-done : (ns : List ℕ) (left : List (List Pending)) → Each left → Each (stage_done ns left)
   each-done [] left each = each
-  each-done (m ∷ ns) left each = each-done ns (changed without_first m left) (each-changed P without_first [] one_done m left each)
+  each-done (m ∷ ns) left each = each-done ns (changed (drop 1) m left) (each-changed P (drop 1) [] one_done m left each)
 
   each-run : (at : Within) (k : Kind) (m : Machine) → Each m.left → Each (run_within at k m).left
   each-run submit k m each = each-done (gone k m) m.left each
@@ -58,7 +59,7 @@ module _ (P : List Pending → Type 0) (one_done : (ps : List Pending) → P ps 
   each-flush-steps : (steps : ℕ) (m : Machine) → Each m.left → Each (after_flush_steps steps m).left
   unfolding after_flush_steps
   each-flush-steps zero m each = each
-  each-flush-steps (suc steps) m each = each-flush-steps steps (flush_step m) (each-flush-step (slice_get m.left 0) m each)
+  each-flush-steps (suc steps) m each = each-flush-steps steps (flush_step_at (slice_get m.left 0) m) (each-flush-step (slice_get m.left 0) m each)
 
   pub each-flush : (m : Machine) → Each m.left → Each (flushed m).left
   unfolding flushed

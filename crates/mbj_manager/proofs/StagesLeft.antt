@@ -1,10 +1,10 @@
 -- The stages that are left once the first of some jobs is done.
 use Rattle.std.proofs.Common.{◌≡◌, ◌≢◌, ℕ, ◌+◌, ◌≤◌, List, [], ◌∷◌, length, inl, inr, refl, ap, sym, ◌∙◌, subst, arith}
-use Rattle.std.specs.Prelude.{All}
+use Rattle.std.specs.Prelude.{All, drop}
 use Rattle.std.proofs.lemmas.Bool.{cases_eq}
 use Rattle.std.proofs.lemmas.List.Elements.{All-tail}
 use Rattle.mbj_manager.specs.Rounds.{Pending, at_once, in_lanes}
-use Rattle.mbj_manager.specs.Machine.{changed, without_first, stage_done}
+use Rattle.mbj_manager.specs.Machine.{changed, stage_done}
 use Rattle.mbj_manager.specs.Course.{in_lanes_next, stages_left}
 use Rattle.mbj_manager.specs.Between.{HasRounds}
 use Rattle.mbj_manager.specs.Inside.Standing.{left_at, times}
@@ -21,11 +21,11 @@ stage-stays n (m ∷ ns) left none = elim (cases_eq m n) [
   | inl e ↦ (let t : times n (m ∷ ns) ≡ 1 + times n ns
       = subst (λ k. times n (k ∷ ns) ≡ 1 + times n ns) (sym e) (times-here n ns) in absurd (omega arith))
   | inr ne ↦ (let t : times n (m ∷ ns) ≡ times n ns = times-there n m ns ne in
-      stage-stays n ns (changed without_first m left) (sym t ∙ none) ∙ other-changed without_first [] m n left (λ e. ne (sym e)))
+      stage-stays n ns (changed (drop 1) m left) (sym t ∙ none) ∙ other-changed (drop 1) [] m n left (λ e. ne (sym e)))
 ]
 
 -- a stage that is done is one less
-length-without_first : (ps : List Pending) → 1 ≤ length ps → length (without_first ps) + 1 ≡ length ps
+length-without_first : (ps : List Pending) → 1 ≤ length ps → length (drop 1 ps) + 1 ≡ length ps
 length-without_first [] some = absurd (omega arith)
 length-without_first (p ∷ ps) some = omega arith
 
@@ -34,17 +34,17 @@ pub fewer-stages : (ns : List ℕ) (left : List (List Pending)) → ((n : ℕ) �
     → stages_left (stage_done ns left) + length ns ≡ stages_left left
 fewer-stages [] left some = omega arith
 fewer-stages (m ∷ ns) left some =
-    let next = changed without_first m left in
+    let next = changed (drop 1) m left in
     let one : 1 ≤ length (left_at m left) = omega (arith, times-here m ns, some m) in
-    let taken = sum-changed length without_first [] refl m left in
+    let taken = sum-changed length (drop 1) [] refl m left in
     let shorter = length-without_first (left_at m left) one in
     let rest = fewer-stages ns next (λ n. elim (cases_eq m n) [
       | inl e ↦ subst (λ n. times n ns ≤ length (left_at n next)) e
-          (let there : length (left_at m next) ≡ length (without_first (left_at m left))
-          = ap length (at-changed without_first [] refl m left) in
+          (let there : length (left_at m next) ≡ length (drop 1 (left_at m left))
+          = ap length (at-changed (drop 1) [] refl m left) in
           omega (arith, times-here m ns, some m, shorter))
       | inr ne ↦ (let there : length (left_at n next) ≡ length (left_at n left)
-          = ap length (other-changed without_first [] m n left (λ e. ne (sym e))) in
+          = ap length (other-changed (drop 1) [] m n left (λ e. ne (sym e))) in
           omega (arith, times-there n m ns ne, some n))
     ]) in
     omega (arith, taken, shorter, rest)
@@ -52,10 +52,10 @@ fewer-stages (m ∷ ns) left some =
 -- there are as many jobs as before
 pub length-stage_done : (ns : List ℕ) (left : List (List Pending)) → length (stage_done ns left) ≡ length left
 length-stage_done [] left = refl
-length-stage_done (n ∷ ns) left = length-stage_done ns (changed without_first n left) ∙ length-changed without_first n left
+length-stage_done (n ∷ ns) left = length-stage_done ns (changed (drop 1) n left) ∙ length-changed (drop 1) n left
 
 -- the stages behind the first have rounds
-without_first-rounds : (ps : List Pending) → All HasRounds ps → All HasRounds (without_first ps)
+without_first-rounds : (ps : List Pending) → All HasRounds ps → All HasRounds (drop 1 ps)
 without_first-rounds [] rounds = rounds
 without_first-rounds (p ∷ ps) rounds = All-tail HasRounds p ps rounds
 
@@ -64,7 +64,7 @@ pub rounds-done : (ns : List ℕ) (left : List (List Pending)) → ((n : ℕ) �
     → (n : ℕ) → All HasRounds (left_at n (stage_done ns left))
 rounds-done [] left rounds = rounds
 rounds-done (m ∷ ns) left rounds =
-    rounds-done ns (changed without_first m left) (each-changed (All HasRounds) without_first [] without_first-rounds m left rounds)
+    rounds-done ns (changed (drop 1) m left) (each-changed (All HasRounds) (drop 1) [] without_first-rounds m left rounds)
 
 -- ---- what finishes at once is done
 

@@ -4,7 +4,7 @@ use Rattle.mbj_types.specs.declared.kind.Kind.{Kind}
 use Rattle.mbj_types.specs.Kinds.{lanes_of}
 use Rattle.mbj_manager.specs.Rounds.{Pending, at_once, in_lanes}
 use Rattle.mbj_manager.specs.Machine.{Machine, Waiting, Within, flush, changed, lane_for, run_within, with_lane}
-use Rattle.mbj_manager.specs.Course.{after_flush_steps, after_steps, course, flush_step, flush_step_at, flushed, goes_on, in_lanes_next, joined, stages_left, stepped, stepped_at}
+use Rattle.mbj_manager.specs.Course.{after_flush_steps, after_steps, course, flush_step_at, flushed, goes_on, in_lanes_next, joined, stages_left, stepped, stepped_at}
 use Rattle.mbj_manager.specs.Inside.Steps.{steps_ahead}
 use Rattle.mbj_manager.proofs.Lanes.{with_waiting, waits}
 
@@ -70,7 +70,7 @@ unchanged-flush-steps : {A : Type 0} (f : Machine → A) → IsUnchanged f flush
 unfolding after_flush_steps
 unchanged-flush-steps f stays zero m = refl
 unchanged-flush-steps f stays (suc steps) m =
-    unchanged-flush-steps f stays steps (flush_step m) ∙ unchanged-flush-step f stays (slice_get m.left 0) m
+    unchanged-flush-steps f stays steps (flush_step_at (slice_get m.left 0) m) ∙ unchanged-flush-step f stays (slice_get m.left 0) m
 
 -- through a flush
 pub unchanged-flush : {A : Type 0} (f : Machine → A) → IsUnchanged f flush → (m : Machine) → f (flushed m) ≡ f m

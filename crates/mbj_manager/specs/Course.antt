@@ -51,12 +51,9 @@ abbrev pub flush_step_at : Option (List Pending) → Machine → Machine
 flush_step_at (Some (in_lanes k rest ∷ left)) m = course flush (run_within flush k m)
 flush_step_at _ m = m
 
-abbrev pub flush_step : Machine → Machine
-flush_step m = flush_step_at (slice_get m.left 0) m
-
 unfoldable pub after_flush_steps : ℕ → Machine → Machine
 after_flush_steps zero m = m
-after_flush_steps (suc steps) m = after_flush_steps steps (flush_step m)
+after_flush_steps (suc steps) m = after_flush_steps steps (flush_step_at (slice_get m.left 0) m)
 
 -- flush steps until the earliest job is finished: each ends a stage, so that there are no more of them than stages
 unfoldable pub flushed : Machine → Machine

@@ -1,5 +1,5 @@
 -- The lane machine: which jobs wait for lanes, in which order, and what one run takes off them. It moves numbers alone.
-use Rattle.std.specs.Prelude.{ℕ, ◌+◌, ◌*◌, ◌-◌, ◌%◌, ◌^◌, ◌==◌, zero, suc, List, [], ◌∷◌, ◌++◌, map, filter, length, not}
+use Rattle.std.specs.Prelude.{ℕ, ◌+◌, ◌*◌, ◌-◌, ◌%◌, ◌^◌, ◌==◌, zero, suc, List, [], ◌∷◌, ◌++◌, map, drop, filter, length, not}
 use Rattle.mbj_lane.specs.Rounds.{least as least_of}
 use Rattle.mbj_types.specs.declared.kind.Kind.{Kind}
 use Rattle.mbj_types.specs.declared.kind.Kind.TheVariants as kind
@@ -81,14 +81,10 @@ leavers ws = map (λ w. w.number) (filter (λ w. w.rest == 0) ws)
 abbrev pub stayers : List Waiting → List Waiting
 stayers ws = filter (λ w. not (w.rest == 0)) ws
 
-abbrev pub without_first : List Pending → List Pending
-without_first [] = []
-without_first (p ∷ ps) = ps
-
 -- the stages left once the first of each of these jobs is done
 abbrev pub stage_done : List ℕ → List (List Pending) → List (List Pending)
 stage_done [] left = left
-stage_done (n ∷ ns) left = stage_done ns (changed without_first n left)
+stage_done (n ∷ ns) left = stage_done ns (changed (drop 1) n left)
 
 -- the list of the kind k runs by its least rest: those whose rounds are done leave in list order, and join the agenda's end
 abbrev pub ran : Kind → (List Waiting → Lane) → Machine → Machine
