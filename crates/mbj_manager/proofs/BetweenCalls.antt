@@ -8,7 +8,7 @@ use Rattle.std.proofs.lemmas.List.Sums.{count_by-le-length}
 use Rattle.mbj_types.specs.declared.kind.Kind.{Kind}
 use Rattle.mbj_manager.specs.Rounds.{Pending, at_once, in_lanes}
 use Rattle.mbj_manager.specs.Machine.{Machine, Within, submit, flush, lane_for, run_within}
-use Rattle.mbj_manager.specs.Course.{after_flush_steps, course, flush_step_at, flushed, in_lanes_next, stages_left}
+use Rattle.mbj_manager.specs.Course.{course, flush_step_at, flushed, in_lanes_next, stages_left}
 use Rattle.mbj_manager.specs.Between.{HasRounds, IsBetweenCalls, IsPlaced, KeepsMachines, times_in, with_stages}
 use Rattle.mbj_manager.specs.Inside.Standing.{IsWithin, Stands, left_at, times}
 use Rattle.mbj_manager.proofs.Changing.{length-changed, other-added}
@@ -19,6 +19,7 @@ use Rattle.mbj_manager.proofs.Running.{IsReady, idle-keeps}
 use Rattle.mbj_manager.proofs.StagesLeft.{length-stage_done}
 use Rattle.mbj_manager.proofs.Standing.{gone}
 use Rattle.mbj_manager.proofs.Unchanged.{IsUnchanged, unchanged-course, unchanged-flush}
+use Rattle.mbj_manager.proofs.Steps.{after_flush_steps}
 
 -- ---- a submission
 
@@ -75,7 +76,6 @@ record IsFlushed (after : Machine) : Type 0 where
 -- as many flush steps as there are stages finish the earliest job
 enough-flush-steps : (count : ℕ) (earliest : List Pending) (m : Machine) → left_at 0 m.left ≡ earliest → IsBetweenCalls m
     → stages_left m.left ≤ count → IsFlushed (after_flush_steps count m)
-unfolding after_flush_steps
 enough-flush-steps count [] m is between enough =
     subst IsFlushed (sym (flush-rests count m is)) (record { between = between; done = is })
 enough-flush-steps count (at_once ∷ ps) m is between enough = elim (subst (IsPlaced m 0) is (between.placed 0)) [ ]

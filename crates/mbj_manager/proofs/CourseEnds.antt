@@ -7,12 +7,13 @@ use Rattle.std.proofs.lemmas.List.Elements.{All-from_get_or, All-get_or, All-nil
 use Rattle.mbj_types.specs.declared.kind.Kind.{Kind}
 use Rattle.mbj_manager.specs.Rounds.{Pending}
 use Rattle.mbj_manager.specs.Machine.{Machine, Within, lane_for}
-use Rattle.mbj_manager.specs.Course.{after_steps, course, stages_left, stepped, stepped_at}
+use Rattle.mbj_manager.specs.Course.{course, stages_left, stepped, stepped_at}
 use Rattle.mbj_manager.specs.Between.{HasRounds, IsBetweenCalls}
 use Rattle.mbj_manager.specs.Inside.Standing.{IsLane, IsWithin, left_at, times}
 use Rattle.mbj_manager.proofs.Resting.{rests}
 use Rattle.mbj_manager.proofs.Stepping.{IsStep, steps}
 use Rattle.mbj_manager.specs.Inside.Steps.{steps_ahead}
+use Rattle.mbj_manager.proofs.Steps.{after_steps}
 
 -- the stages of each job, also past the last one, have rounds
 pub stages-at : (left : List (List Pending)) → All (All HasRounds) left → (n : ℕ) → All HasRounds (left_at n left)
@@ -47,7 +48,6 @@ pub record Ends (after m : Machine) : Type 0 where
 -- as many steps as are ahead end the course
 enough-steps : (at : Within) (count : ℕ) (agenda : List ℕ) (m : Machine) → m.agenda ≡ agenda → IsWithin m → steps_ahead m ≤ count
     → Ends (after_steps at count m) m
-unfolding after_steps
 enough-steps at count [] m is within enough =
     subst (λ after. Ends after m) (sym (rests at count m is)) (record { between = between-calls m within is; fewer = omega arith })
 enough-steps at zero (n ∷ agenda) m is within enough =

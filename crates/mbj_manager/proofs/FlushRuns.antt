@@ -6,7 +6,7 @@ use Rattle.mbj_types.specs.declared.kind.Kind.{Kind}
 use Rattle.mbj_types.specs.Kinds.{lanes_of}
 use Rattle.mbj_manager.specs.Rounds.{Pending, at_once, in_lanes}
 use Rattle.mbj_manager.specs.Machine.{Machine, count_end, flush, lane_for, run_within}
-use Rattle.mbj_manager.specs.Course.{after_flush_steps, after_steps, course, flushed, goes_on, in_lanes_next, joined, stages_left, stepped, stepped_at}
+use Rattle.mbj_manager.specs.Course.{course, flushed, goes_on, in_lanes_next, joined, stages_left, stepped, stepped_at}
 use Rattle.mbj_manager.specs.Between.{IsBetweenCalls, IsPlaced}
 use Rattle.mbj_manager.specs.Counts.{RunsFew}
 use Rattle.mbj_manager.specs.Inside.Standing.{IsWithin, left_at}
@@ -18,6 +18,7 @@ use Rattle.mbj_manager.proofs.Running.{IsReady, idle-keeps}
 use Rattle.mbj_manager.proofs.StagesLeft.{no-more-stages}
 use Rattle.mbj_manager.proofs.Stepping.{IsTaken, grown, grown-ready, steps, take_first, takes}
 use Rattle.mbj_manager.specs.Inside.Steps.{steps_ahead}
+use Rattle.mbj_manager.proofs.Steps.{after_steps, after_flush_steps}
 
 no-more : (runs : ℕ) → runs % count_end ≡ (runs + 0) % count_end
 no-more runs = let same : runs ≡ runs + 0 = omega arith in ap (λ n. n % count_end) same
@@ -69,7 +70,6 @@ step-runs n agenda m first within =
     (goes-runs n (in_lanes_next (left_at n m.left)) t (takes n agenda m first within) (at-changed in_lanes_next [] refl n m.left))
 
 steps-run : (count : ℕ) (agenda : List ℕ) (m : Machine) → m.agenda ≡ agenda → IsWithin m → RunsFew (after_steps flush count m) m
-unfolding after_steps
 steps-run count [] m is within = subst (λ (x : Machine). RunsFew x m) (sym (rests flush count m is)) (none-run m)
 steps-run zero (n ∷ agenda) m is within = none-run m
 steps-run (suc count) (n ∷ agenda) m is within =
@@ -84,7 +84,6 @@ course-runs m within = steps-run (steps_ahead m) m.agenda m refl within
 
 flush-steps-run : (count : ℕ) (earliest : List Pending) (m : Machine) → left_at 0 m.left ≡ earliest → IsBetweenCalls m
     → RunsFew (after_flush_steps count m) m
-unfolding after_flush_steps
 flush-steps-run count [] m is between = subst (λ (x : Machine). RunsFew x m) (sym (flush-rests count m is)) (none-run m)
 flush-steps-run count (at_once ∷ ps) m is between = elim (subst (IsPlaced m 0) is (between.placed 0)) [ ]
 flush-steps-run zero (in_lanes k rest ∷ ps) m is between = none-run m

@@ -3,8 +3,9 @@ use Rattle.std.proofs.Common.{◌≡◌, ℕ, zero, suc, ◌≤◌, ◌<◌, Lis
 use Rattle.mbj_types.specs.declared.kind.Kind.{Kind}
 use Rattle.mbj_manager.specs.Rounds.{Pending, at_once, in_lanes}
 use Rattle.mbj_manager.specs.Machine.{Machine, flush, run_within}
-use Rattle.mbj_manager.specs.Course.{after_flush_steps, course, flush_step_at, flushed, stages_left}
+use Rattle.mbj_manager.specs.Course.{course, flush_step_at, flushed, stages_left}
 use Rattle.mbj_manager.specs.Inside.Added.{first_lane}
+use Rattle.mbj_manager.proofs.Steps.{after_flush_steps}
 
 -- enough flush steps of the machine m come to the machine end
 pub record FlushReaches (m end : Machine) : Type 0 where
@@ -18,7 +19,6 @@ flush-start m = record { count = stages_left m.left; enough = omega arith; is = 
 
 by-count : (m end : Machine) (count : ℕ) → stages_left (flush_step_at (slice_get m.left 0) m).left < stages_left m.left → stages_left m.left ≤ count → after_flush_steps count m ≡ end
     → FlushReaches (flush_step_at (slice_get m.left 0) m) end
-unfolding after_flush_steps
 by-count m end zero fewer enough is = absurd (omega arith)
 by-count m end (suc count) fewer enough is = record { count = count; enough = omega arith; is = is }
 
@@ -43,7 +43,6 @@ step-rests ((at_once ∷ ps) ∷ left) m e = refl
 step-rests ((in_lanes j rest ∷ ps) ∷ left) m e = cc
 
 rests : (count : ℕ) (m : Machine) → first_lane m.left ≡ None → after_flush_steps count m ≡ m
-unfolding after_flush_steps
 rests zero m e = refl
 rests (suc count) m e = ap (after_flush_steps count) (step-rests m.left m e) ∙ rests count m e
 

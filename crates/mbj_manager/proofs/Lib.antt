@@ -20,6 +20,7 @@ mod Unchanged
 mod Counting
 mod CallLaws
 mod Lanes
+mod Steps
 mod Changing
 mod Times
 mod Leaving

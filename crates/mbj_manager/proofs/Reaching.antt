@@ -1,9 +1,10 @@
 -- A loop of steps comes to where the whole course comes.
 use Rattle.std.proofs.Common.{◌≡◌, ℕ, zero, suc, ◌≤◌, ◌<◌, [], refl, sym, ◌∙◌, arith}
 use Rattle.mbj_manager.specs.Machine.{Machine, Within}
-use Rattle.mbj_manager.specs.Course.{after_steps, course, stepped}
+use Rattle.mbj_manager.specs.Course.{course, stepped}
 use Rattle.mbj_manager.proofs.Resting.{rests}
 use Rattle.mbj_manager.specs.Inside.Steps.{steps_ahead}
+use Rattle.mbj_manager.proofs.Steps.{after_steps}
 
 -- enough steps of the machine m come to the machine end
 pub record Reaches (at : Within) (m end : Machine) : Type 0 where
@@ -17,7 +18,6 @@ reaches-start at m = record { count = steps_ahead m; enough = omega arith; is = 
 
 by-count : (at : Within) (m end : Machine) (count : ℕ) → steps_ahead (stepped at m) < steps_ahead m → steps_ahead m ≤ count → after_steps at count m ≡ end
     → Reaches at (stepped at m) end
-unfolding after_steps
 by-count at m end zero fewer enough is = absurd (omega arith)
 by-count at m end (suc count) fewer enough is = record { count = count; enough = omega arith; is = is }
 

@@ -2,11 +2,11 @@
 use Rattle.std.proofs.Common.{◌≡◌, ℕ, zero, suc, List, [], ◌∷◌, Some, slice_get, slice_index_or, refl, ap, ◌∙◌}
 use Rattle.mbj_manager.specs.Rounds.{Pending}
 use Rattle.mbj_manager.specs.Machine.{Machine, Within}
-use Rattle.mbj_manager.specs.Course.{stepped, stepped_at, after_steps, after_flush_steps, flush_step_at}
+use Rattle.mbj_manager.specs.Course.{stepped, stepped_at, flush_step_at}
+use Rattle.mbj_manager.proofs.Steps.{after_steps, after_flush_steps}
 
 -- with nothing in the agenda a course changes nothing
 pub rests : (at : Within) (steps : ℕ) (m : Machine) → m.agenda ≡ [] → after_steps at steps m ≡ m
-unfolding after_steps
 rests at zero m e = refl
 rests at (suc steps) m e =
     let stays : stepped at m ≡ m = ap (λ a. stepped_at at a m) e in
@@ -18,6 +18,5 @@ flush-step-rests [] m done = refl
 flush-step-rests (ps ∷ left) m done = ap (λ ps. flush_step_at (Some ps) m) done
 
 pub flush-rests : (steps : ℕ) (m : Machine) → slice_index_or m.left 0 [] ≡ [] → after_flush_steps steps m ≡ m
-unfolding after_flush_steps
 flush-rests zero m done = refl
 flush-rests (suc steps) m done = ap (after_flush_steps steps) (flush-step-rests m.left m done) ∙ flush-rests steps m done

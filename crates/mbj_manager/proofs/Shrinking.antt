@@ -5,13 +5,14 @@ use Rattle.mbj_types.specs.declared.kind.Kind.{Kind}
 use Rattle.mbj_types.specs.Kinds.{lanes_of}
 use Rattle.mbj_manager.specs.Rounds.{Pending, at_once, in_lanes}
 use Rattle.mbj_manager.specs.Machine.{Machine, Within, submit, flush, changed, lane_for, run_within, stage_done, with_lane}
-use Rattle.mbj_manager.specs.Course.{after_flush_steps, after_steps, course, flush_step_at, flushed, goes_on, in_lanes_next, joined, stages_left, stepped, stepped_at}
+use Rattle.mbj_manager.specs.Course.{course, flush_step_at, flushed, goes_on, in_lanes_next, joined, stages_left, stepped, stepped_at}
 use Rattle.mbj_manager.specs.Inside.Standing.{left_at}
 use Rattle.mbj_manager.proofs.Changing.{each-changed}
 use Rattle.mbj_manager.proofs.Standing.{gone}
 use Rattle.mbj_manager.specs.Inside.Steps.{steps_ahead}
 use Rattle.mbj_manager.proofs.Lanes.{with_waiting, waits}
 use Rattle.std.specs.Prelude.{drop}
+use Rattle.mbj_manager.proofs.Steps.{after_steps, after_flush_steps}
 
 module _ (P : List Pending → Type 0) (one_done : (ps : List Pending) → P ps → P (drop 1 ps)) (next : (ps : List Pending) → P ps → P (in_lanes_next ps)) where
   abbrev pub Each : List (List Pending) → Type 0
@@ -42,7 +43,6 @@ module _ (P : List Pending → Type 0) (one_done : (ps : List Pending) → P ps 
       (each-changed P in_lanes_next [] next n m.left each)
 
   each-steps : (at : Within) (steps : ℕ) (m : Machine) → Each m.left → Each (after_steps at steps m).left
-  unfolding after_steps
   each-steps at zero m each = each
   each-steps at (suc steps) m each = each-steps at steps (stepped at m) (each-step at m.agenda m each)
 
@@ -57,7 +57,6 @@ module _ (P : List Pending → Type 0) (one_done : (ps : List Pending) → P ps 
   each-flush-step (Some (in_lanes k rest ∷ left)) m each = each-course flush (run_within flush k m) (each-run flush k m each)
 
   each-flush-steps : (steps : ℕ) (m : Machine) → Each m.left → Each (after_flush_steps steps m).left
-  unfolding after_flush_steps
   each-flush-steps zero m each = each
   each-flush-steps (suc steps) m each = each-flush-steps steps (flush_step_at (slice_get m.left 0) m) (each-flush-step (slice_get m.left 0) m each)
 

@@ -4,9 +4,10 @@ use Rattle.mbj_types.specs.declared.kind.Kind.{Kind}
 use Rattle.mbj_types.specs.Kinds.{lanes_of}
 use Rattle.mbj_manager.specs.Rounds.{Pending, at_once, in_lanes}
 use Rattle.mbj_manager.specs.Machine.{Machine, Waiting, Within, flush, changed, lane_for, run_within, with_lane}
-use Rattle.mbj_manager.specs.Course.{after_flush_steps, after_steps, course, flush_step_at, flushed, goes_on, in_lanes_next, joined, stages_left, stepped, stepped_at}
+use Rattle.mbj_manager.specs.Course.{course, flush_step_at, flushed, goes_on, in_lanes_next, joined, stages_left, stepped, stepped_at}
 use Rattle.mbj_manager.specs.Inside.Steps.{steps_ahead}
 use Rattle.mbj_manager.proofs.Lanes.{with_waiting, waits}
+use Rattle.mbj_manager.proofs.Steps.{after_steps, after_flush_steps}
 
 -- what f reads of a machine stays as it is when a list runs, a job joins one, or the agenda's first is taken
 pub record IsUnchanged {A : Type 0} (f : Machine → A) (at : Within) : Type 0 where
@@ -47,7 +48,6 @@ unchanged-step f at stays (n ∷ agenda) m =
 -- through steps
 unchanged-steps : {A : Type 0} (f : Machine → A) (at : Within) → IsUnchanged f at → (steps : ℕ) (m : Machine)
     → f (after_steps at steps m) ≡ f m
-unfolding after_steps
 unchanged-steps f at stays zero m = refl
 unchanged-steps f at stays (suc steps) m = unchanged-steps f at stays steps (stepped at m) ∙ unchanged-step f at stays m.agenda m
 
@@ -67,7 +67,6 @@ unchanged-flush-step f stays (Some (in_lanes k rest ∷ left)) m = unchanged-cou
 -- through flush steps
 unchanged-flush-steps : {A : Type 0} (f : Machine → A) → IsUnchanged f flush → (steps : ℕ) (m : Machine)
     → f (after_flush_steps steps m) ≡ f m
-unfolding after_flush_steps
 unchanged-flush-steps f stays zero m = refl
 unchanged-flush-steps f stays (suc steps) m =
     unchanged-flush-steps f stays steps (flush_step_at (slice_get m.left 0) m) ∙ unchanged-flush-step f stays (slice_get m.left 0) m

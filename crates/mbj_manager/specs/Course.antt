@@ -1,5 +1,6 @@
 -- The course of the jobs through the lane machine: after a submission, and in a flush.
-use Rattle.std.specs.Prelude.{ℕ, ◌+◌, ◌*◌, ◌==◌, zero, suc, List, [], ◌∷◌, ◌++◌, length, sum_by, slice_index_or, Option, Some, None, slice_get, if◌then◌else◌}
+use Rattle.std.specs.Prelude.{ℕ, ◌+◌, ◌*◌, ◌==◌, List, [], ◌∷◌, ◌++◌, length, sum_by, slice_index_or, Option, Some, slice_get, if◌then◌else◌}
+use Rattle.std.specs.Fn.{iterate}
 use Rattle.mbj_types.specs.declared.kind.Kind.{Kind}
 use Rattle.mbj_types.specs.Kinds.{lanes_of}
 use Rattle.mbj_manager.specs.Rounds.{Pending, at_once, in_lanes}
@@ -36,13 +37,9 @@ stepped at m = stepped_at at m.agenda m
 abbrev pub stages_left : List (List Pending) → ℕ
 stages_left left = sum_by length left
 
-unfoldable pub after_steps : Within → ℕ → Machine → Machine
-after_steps at zero m = m
-after_steps at (suc steps) m = after_steps at steps (stepped at m)
-
 -- the course: the agenda's first is taken until the agenda is empty, as it is after so many steps, since each takes from this number
 unfoldable pub course : Within → Machine → Machine
-course at m = after_steps at (2 * stages_left m.left + length m.agenda) m
+course at m = iterate (stepped at) (2 * stages_left m.left + length m.agenda) m
 
 -- ---- flush
 
@@ -51,10 +48,6 @@ abbrev pub flush_step_at : Option (List Pending) → Machine → Machine
 flush_step_at (Some (in_lanes k rest ∷ left)) m = course flush (run_within flush k m)
 flush_step_at _ m = m
 
-unfoldable pub after_flush_steps : ℕ → Machine → Machine
-after_flush_steps zero m = m
-after_flush_steps (suc steps) m = after_flush_steps steps (flush_step_at (slice_get m.left 0) m)
-
 -- flush steps until the earliest job is finished: each ends a stage, so that there are no more of them than stages
 unfoldable pub flushed : Machine → Machine
-flushed m = after_flush_steps (stages_left m.left) m
+flushed m = iterate (λ m. flush_step_at (slice_get m.left 0) m) (stages_left m.left) m
