@@ -61,7 +61,7 @@ take_told taking.Flushed t = call_told line.Flush after_flush t
 abbrev pub takes_told : Taking → ℕ → Tracing → Told
 takes_told how zero t = take_told how t
 takes_told how (suc jobs) t =
-    if (take_told how t).1.given == t.given then take_told how t else then_told (take_told how t) (takes_told how jobs)
+    let one = take_told how t in if one.1.given == t.given then one else then_told one (takes_told how jobs)
 
 abbrev pub all_told : Taking → Tracing → Told
 all_told how t = takes_told how (length t.manager.owed) t
@@ -70,8 +70,7 @@ all_told how t = takes_told how (length t.manager.owed) t
 
 -- the rounds and blocks of a kind whose lists ran
 abbrev pub count_lines : Machine → Kind → List TraceLine
-count_lines m k =
-    if (lane_for k m).rounds == 0 then [] else line.Rounds k (lane_for k m).rounds (lane_for k m).blocks ∷ []
+count_lines m k = let l = lane_for k m in if l.rounds == 0 then [] else line.Rounds k l.rounds l.blocks ∷ []
 
 -- ---- the whole
 
