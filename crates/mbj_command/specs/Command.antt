@@ -11,8 +11,6 @@ use Rattle.clap.specs.declared.builder.action.ArgAction.TheVariants.{Set}
 use Rattle.clap.specs.declared.builder.value_parser.ValueParser.TheVariants as vp
 use Rattle.mbj_command.specs.declared.command.Command.{Command}
 use Rattle.mbj_command.specs.declared.command.Command.TheVariants.{Run, Trace, Gen, Replay}
-use Rattle.mbj_command.specs.declared.command.WordFault.{WordFault}
-use Rattle.mbj_command.specs.declared.command.WordFault.TheVariants as fault
 
 -- ---- the options
 
@@ -92,7 +90,7 @@ found_command used = option_and_then (λ c. c.1 used.1) (find (λ c. bytes_eq us
 unfoldable pub command : List Text → Option Command
 command words = if is_empty (fault_of app words) then option_and_then found_command (subcommand_of app words) else None
 
--- ---- what is known of a command and of a fault
+-- ---- what is known of a command
 
 abbrev pub IsWithin : RangedOption → ℕ → Type 0
 IsWithin o n = (o.least ≤ n) × (n ≤ o.greatest)
@@ -106,8 +104,3 @@ IsInRange (Run s w) = IsParties s w
 IsInRange Trace = Unit {0}
 IsInRange (Gen n m s w) = IsWithin seed n × IsWithin jobs m × IsParties s w
 IsInRange (Replay s w) = IsParties s w
-
--- the fault is in the words
-abbrev pub IsText : WordFault → Type 0
-IsText (fault.Text text) = Unit {0}
-IsText fault.Memory = ⊥

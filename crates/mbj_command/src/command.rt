@@ -1,6 +1,6 @@
 ghost use Rattle.std.specs.Prelude.{◌≡◌, ◌≢◌, ℕ, IfErr, IfOk, IfSome, Some, None, map, option_and_then, option_map, string_bytes};
 ghost use Rattle.clap.specs.Words.{found_of, kind_of, rows_of, subcommand_rows_of};
-ghost use Rattle.mbj_command.specs.Command.{IsInRange, IsParties, IsText, command, found_command, gen_of, with_parties};
+ghost use Rattle.mbj_command.specs.Command.{IsInRange, IsParties, command, found_command, gen_of, with_parties};
 ghost use Rattle.mbj_command.specs.declared.command.Command.TheVariants.{Run, Replay};
 
 use crate::command_set::command_set;
@@ -122,7 +122,7 @@ fn found_command(matches: &ArgMatches<'_>) -> Option<Command>
 
 /// The fault whose text is clap's.
 fn fault_of(alloc: Global, error: &clap::Error) -> WordFault
-    ensures { IsText result → kind_of error.now ≢ ErrorKind.OutOfMemory }
+    ensures { result ≢ WordFault.Memory → kind_of error.now ≢ ErrorKind.OutOfMemory }
 {
     match error.kind() {
         ErrorKind::OutOfMemory => WordFault::Memory,
@@ -141,7 +141,7 @@ fn fault_of(alloc: Global, error: &clap::Error) -> WordFault
 pub fn read_command<'a>(alloc: Global, words: &'a [String]) -> Result<Command, WordFault>
     ensures found { IfOk result (λ c. command (map string_bytes words.now) ≡ Some c) }
     ensures range { IfOk result IsInRange }
-    ensures none { IfErr result (λ fault. IsText fault → command (map string_bytes words.now) ≡ None) }
+    ensures none { IfErr result (λ fault. fault ≢ WordFault.Memory → command (map string_bytes words.now) ≡ None) }
 {
     let Ok(set) = command_set(alloc) else {
         return Err(WordFault::Memory);

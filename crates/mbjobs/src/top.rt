@@ -1,6 +1,6 @@
 ghost use Rattle.std.specs.Prelude.{◌≡◌, ◌≢◌, ◌⊎◌, ◌≤◌, ◌<◌, List, [], ℕ, Err, IfErr, OnOk, Some, None, map, string_bytes, length};
 ghost use Rattle.mbj_text.specs.declared.limits.TheConstants.{INPUT_LIMIT};
-ghost use Rattle.mbj_command.specs.Command.{IsInRange, IsText, command};
+ghost use Rattle.mbj_command.specs.Command.{IsInRange, command};
 ghost use Rattle.mbjobs.specs.Message.{message_of, status_of};
 ghost use Rattle.mbj_io.specs.Streams.{Fails, FailsOnce, IsUntouched, stream};
 ghost use Rattle.mbjobs.specs.Reading.{ReadsBytes, ReadsTooMuch};
@@ -36,9 +36,9 @@ pub(crate) fn tell<E: Sink>(err: &mut E, cause: Cause) -> u8
 
 /// Tells why words gave no command, and answers the status.
 pub(crate) fn refuse<E: Sink>(err: &mut E, fault: WordFault) -> u8
-    ensures text { IsText fault → (result ≡ 2)
+    ensures text { fault ≢ WordFault.Memory → (result ≡ 2)
         × ((text : List ℕ) × (text ≢ []) × Gains (stream E.held E.faults err.old err.new) text) }
-    ensures memory { ¬ IsText fault → (result ≡ 7)
+    ensures memory { fault ≡ WordFault.Memory → (result ≡ 7)
         × Gains (stream E.held E.faults err.old err.new) (message_of Cause.Memory) }
 {
     match fault {
