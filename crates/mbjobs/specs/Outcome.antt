@@ -20,17 +20,14 @@ use Rattle.mbj_command.specs.declared.command.Command.TheVariants.{Run, Trace, G
 
 -- ---- what a command reads and writes
 
--- the result text of jobs: a line for the standards' result of each, in order
-abbrev pub result_text : List Job → List ℕ
-result_text jobs = text (map result_of jobs)
-
--- what the input of a command that reads one asks for: it spells jobs, or jobs and a script, and this text is made of them
+-- what the input of a command that reads one asks for: it spells jobs, or jobs and a script, and the output is made of them;
+-- that of run is the text of the standards' results, a line for each job in order
 abbrev pub AsksFor : Command → List ℕ → List ℕ → Type 0
-AsksFor (Run s w) bytes text = (jobs : List Job) × Reads bytes jobs × (text ≡ result_text jobs)
-AsksFor Trace bytes text = (jobs : List Job) × Reads bytes jobs × (text ≡ trace_text jobs)
-AsksFor (Gen n m s w) bytes text = ⊥
-AsksFor (Replay s w) bytes text =
-    (jobs : List Job) × (commands : List Cmd) × ReadsReplay s w bytes jobs commands × (text ≡ replay_text jobs commands s w)
+AsksFor (Run s w) bytes output = (jobs : List Job) × Reads bytes jobs × (output ≡ text (map result_of jobs))
+AsksFor Trace bytes output = (jobs : List Job) × Reads bytes jobs × (output ≡ trace_text jobs)
+AsksFor (Gen n m s w) bytes output = ⊥
+AsksFor (Replay s w) bytes output =
+    (jobs : List Job) × (commands : List Cmd) × ReadsReplay s w bytes jobs commands × (output ≡ replay_text jobs commands s w)
 
 -- the line is the first bad one of the command's input, at this field
 abbrev pub IsBadFor : Command → List ℕ → ℕ → ℕ → Type 0
@@ -49,11 +46,11 @@ abbrev pub ReadsInput : Command → Type 0
 ReadsInput (Gen n m s w) = ⊥
 ReadsInput _ = Unit {0}
 
--- the input was read to its end and asks for a text, and that text was written so; a command that reads no input leaves
--- it untouched
+-- the input was read to its end and asks for an output, and that was written so; a command that reads no input leaves it
+-- untouched
 abbrev pub Does : Command → Stream → (List ℕ → Type 0) → Type 0
 Does (Gen n m s w) input IsWritten = IsUntouched input × IsWritten (gen_text n m)
-Does c input IsWritten = ReadsBytes input (λ bytes. (text : List ℕ) × AsksFor c bytes text × IsWritten text)
+Does c input IsWritten = ReadsBytes input (λ bytes. (output : List ℕ) × AsksFor c bytes output × IsWritten output)
 
 -- the command did all that it is to do, and out gained exactly its text, without a fault
 abbrev pub Completes : Command → Stream → Stream → Type 0

@@ -7,7 +7,7 @@ use Rattle.mbj_text.specs.Line.{text}
 use Rattle.mbj_types.specs.declared.done.Done.{Done}
 use Rattle.mbj_types.specs.declared.job.Job.{Job}
 use Rattle.mbj_types.specs.Result.{result_of}
-use Rattle.mbjobs.specs.Outcome.{Does, result_text}
+use Rattle.mbjobs.specs.Outcome.{Does}
 use Rattle.mbj_io.specs.Streams.{Stream, stream}
 use Rattle.mbjobs.specs.Reading.{ReadsBytes}
 use Rattle.mbj_command.specs.declared.command.Command.TheVariants.{Run}
@@ -20,7 +20,7 @@ answered : (s w : ℕ) (input : Stream) (jobs : List Job) (results : List Done) 
 answered s w input jobs results IsWritten reads are written = record {
   bytes = reads.bytes;
   read = reads.read;
-  holds = (result_text jobs, (jobs, reads.holds, refl), subst IsWritten (ap (λ (ds : List Done). text ds) are) written);
+  holds = (text (map result_of jobs), (jobs, reads.holds, refl), subst IsWritten (ap (λ (ds : List Done). text ds) are) written);
 }
 
 pub write_results-requires : goal.write_results-requires
