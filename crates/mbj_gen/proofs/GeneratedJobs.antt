@@ -8,8 +8,7 @@ use Rattle.mbj_types.specs.declared.done.Done.{Done}
 use Rattle.mbj_stage.proofs.Lengths.{length-result_of}
 use Rattle.mbj_gen.proofs.TagLengths.{length-tag}
 use Rattle.mbj_text.specs.Line.{done_line}
-use Rattle.mbj_gen.specs.Generator.{authenticated_by, bare, byte, bytes, ciphered_by, job}
-use Rattle.mbj_gen.specs.Summary.{generated}
+use Rattle.mbj_gen.specs.Generator.{authenticated_by, bare, byte, ciphered_by, draws, job}
 use Rattle.mbj_gen.specs.declared.line_sink.TheConstants.{LINE_ROOM}
 use Rattle.mbj_text.specs.declared.limits.TheConstants.{JOB_LIMIT}
 use Rattle.mbj_gen.proofs.ResultLines.{length-done_line}
@@ -17,10 +16,10 @@ use Rattle.std.proofs.lemmas.Option.{slice_get_within}
 
 -- ---- packets
 
-length-bytes : (n x : ℕ) → length (bytes n x).0 ≡ n
-unfolding bytes
-length-bytes zero x = refl
-length-bytes (suc n) x = ap suc (length-bytes n (byte x).1)
+length-draws : {A : Type 0} (draw : ℕ → A × ℕ) (n x : ℕ) → length (draws draw n x).0 ≡ n
+unfolding draws
+length-draws draw zero x = refl
+length-draws draw (suc n) x = ap suc (length-draws draw n (draw x).1)
 
 packet-small : (x : ℕ) → length (job x).0.packet ≤ 512
 unfolding job
@@ -30,25 +29,23 @@ packet-small x =
     let below : b % 32 < 32 = mod_below b 32 (omega arith) in
     let ciphered = ciphered_by (bare x).0.cipher n (bare x).0 (byte (bare x).1).1 in
     let y : ℕ = (authenticated_by ciphered.0.auth n ciphered.0 ciphered.1).1 in
-    omega (arith, length-bytes n y)
-
-pub length-generated : (n x : ℕ) → length (generated n x) ≡ n
-length-generated zero x = refl
-length-generated (suc n) x = ap suc (length-generated n (job x).1)
+    omega (arith, length-draws byte n y)
 
 -- one more job is made
-pub made-next : (made more : List Job) (count i x y : ℕ) (all : List Job) → i < count → made ++ generated (count - i) x ≡ all
-    → more ≡ made ++ (job x).0 ∷ [] → y ≡ (job x).1 → more ++ generated (count - (i + 1)) y ≡ all
+pub made-next : (made more : List Job) (count i x y : ℕ) (all : List Job) → i < count → made ++ (draws job (count - i) x).0 ≡ all
+    → more ≡ made ++ (job x).0 ∷ [] → y ≡ (job x).1 → more ++ (draws job (count - (i + 1)) y).0 ≡ all
+unfolding draws
 made-next made more count i x y all below is pushed state =
     let left : count - i ≡ suc (count - (i + 1)) = omega arith in
-    let first : generated (count - i) x ≡ (job x).0 ∷ generated (count - (i + 1)) (job x).1 = ap (λ (n : ℕ). generated n x) left in
-    let moved = append_assoc made ((job x).0 ∷ []) (generated (count - (i + 1)) y) in
+    let first : (draws job (count - i) x).0 ≡ (job x).0 ∷ (draws job (count - (i + 1)) (job x).1).0 = ap (λ (n : ℕ). (draws job n x).0) left in
+    let moved = append_assoc made ((job x).0 ∷ []) (draws job (count - (i + 1)) y).0 in
     cc (first, moved)
 
 -- ---- lines
 
-result-small : (count x n : ℕ) (done : Done) → slice_get (map result_of (generated count x)) n ≡ Some done
+result-small : (count x n : ℕ) (done : Done) → slice_get (map result_of (draws job count x).0) n ≡ Some done
     → (length done.packet ≤ 512) × (length done.tag ≤ 64)
+unfolding draws
 result-small zero x n done h = absurd (cc)
 result-small (suc count) x zero done h =
     let j : Job = (job x).0 in
@@ -60,7 +57,7 @@ result-small (suc count) x zero done h =
 result-small (suc count) x (suc n) done h = result-small count (job x).1 n done h
 
 -- the line of each result leaves room in a sink for one line
-pub line-fits : (count x n : ℕ) (done : Done) → n < 65536 → slice_get (map result_of (generated count x)) n ≡ Some done
+pub line-fits : (count x n : ℕ) (done : Done) → n < 65536 → slice_get (map result_of (draws job count x).0) n ≡ Some done
     → length (done_line n done) < LINE_ROOM
 line-fits count x n done h at =
     let small = result-small count x n done at in
@@ -69,12 +66,12 @@ line-fits count x n done h at =
     omega (arith, length-done_line n done (omega arith))
 
 -- there are as many results as jobs
-pub length-results : (count x : ℕ) → count ≡ length (map result_of (generated count x))
-length-results count x = sym (length-map (generated count x) result_of ∙ length-generated count x)
+pub length-results : (count x : ℕ) → count ≡ length (map result_of (draws job count x).0)
+length-results count x = sym (length-map (draws job count x).0 result_of ∙ length-draws job count x)
 
 -- each line of a result of jobs that were made leaves room
 pub lines-fit : (count x : ℕ) → count ≤ JOB_LIMIT → (n : ℕ) (done : Done)
-    → slice_get (map result_of (generated count x)) n ≡ Some done → length (done_line n done) < LINE_ROOM
+    → slice_get (map result_of (draws job count x).0) n ≡ Some done → length (done_line n done) < LINE_ROOM
 lines-fit count x limit n done at =
-    let inside = slice_get_within (map result_of (generated count x)) n done at in
+    let inside = slice_get_within (map result_of (draws job count x).0) n done at in
     line-fits count x n done (omega (arith, length-results count x)) at

@@ -15,10 +15,10 @@ use Rattle.mbj_types.specs.declared.job.Auth.TheVariants as auth
 unfoldable pub byte : ℕ → ℕ × ℕ
 byte x = let next = (x * 6364136223846793005 + 1442695040888963407) % 2 ^ 64 in (next / 2 ^ 56, next)
 
--- n bytes
-unfoldable pub bytes : ℕ → ℕ → List ℕ × ℕ
-bytes zero x = ([], x)
-bytes (suc n) x = let first = byte x in let rest = bytes n first.1 in (first.0 ∷ rest.0, rest.1)
+-- n draws, one after another
+unfoldable pub draws : {A : Type 0} → (ℕ → A × ℕ) → ℕ → ℕ → List A × ℕ
+draws draw zero x = ([], x)
+draws draw (suc n) x = let first = draw x in let rest = draws draw n first.1 in (first.0 ∷ rest.0, rest.1)
 
 -- the length n, or up to 15 less
 unfoldable pub shortened : ℕ → ℕ → ℕ × ℕ
@@ -67,9 +67,9 @@ cipher_length _ n x = shortened n x
 unfoldable pub keyed : ℕ → Job → ℕ → Job × ℕ
 keyed n j x =
     let b = byte x in
-    let key = bytes (16 + 8 * (b.0 % 3)) b.1 in
+    let key = draws byte (16 + 8 * (b.0 % 3)) b.1 in
     let size = iv_length j.cipher key.1 in
-    let iv = bytes size.0 size.1 in
+    let iv = draws byte size.0 size.1 in
     let len = cipher_length j.cipher n iv.1 in
     (record j { key = key.0; iv = iv.0; cipher_len = len.0 }, len.1)
 
@@ -80,7 +80,7 @@ ciphered_by _ n j x = keyed n j x
 -- a key of k bytes and a range
 unfoldable pub hashed : ℕ → ℕ → Job → ℕ → Job × ℕ
 hashed k n j x =
-    let key = bytes k x in
+    let key = draws byte k x in
     let len = shortened n key.1 in
     (record j { auth_key = key.0; hash_len = len.0 }, len.1)
 
@@ -89,7 +89,7 @@ abbrev pub authenticated_by : Auth → ℕ → Job → ℕ → Job × ℕ
 authenticated_by auth.Null n j x = (j, x)
 authenticated_by auth.Cmac128 n j x = hashed 16 n j x
 authenticated_by auth.Cmac256 n j x = hashed 32 n j x
-authenticated_by auth.Gcm n j x = let b = byte x in let aad = bytes (b.0 % 64) b.1 in (record j { aad = aad.0 }, aad.1)
+authenticated_by auth.Gcm n j x = let b = byte x in let aad = draws byte (b.0 % 64) b.1 in (record j { aad = aad.0 }, aad.1)
 authenticated_by _ n j x = let b = byte x in hashed b.0 n j b.1
 
 -- ---- the job
@@ -119,5 +119,5 @@ job x =
     let n = 16 * (1 + b.0 % 32) in
     let ciphered = ciphered_by j.0.cipher n j.0 b.1 in
     let authenticated = authenticated_by ciphered.0.auth n ciphered.0 ciphered.1 in
-    let packet = bytes n authenticated.1 in
+    let packet = draws byte n authenticated.1 in
     (record authenticated.0 { packet = packet.0 }, packet.1)

@@ -1,21 +1,15 @@
 -- What is told of generated jobs: how many there are, how they ended, and length and digest of their result text.
-use Rattle.std.specs.Prelude.{◌-◌, ℕ, zero, suc, List, [], ◌∷◌, length, map, flat_map, count_by, Bool, true, false}
+use Rattle.std.specs.Prelude.{◌-◌, ℕ, List, [], ◌∷◌, length, map, flat_map, count_by, Bool, true, false}
 use Rattle.sha2.specs.Sha256.{sha256}
-use Rattle.mbj_types.specs.declared.job.Job.{Job}
 use Rattle.mbj_types.specs.declared.done.Done.{Done}
 use Rattle.mbj_types.specs.declared.done.Status.{Status}
 use Rattle.mbj_types.specs.declared.done.Status.TheVariants as status
 use Rattle.mbj_types.specs.Result.{result_of}
 use Rattle.mbj_text.specs.Line.{text}
-use Rattle.mbj_gen.specs.Generator.{job}
+use Rattle.mbj_gen.specs.Generator.{draws, job}
 use Rattle.mbj_gen.specs.Lines.{line_text}
 use Rattle.mbj_gen.specs.declared.line.SummaryLine.{SummaryLine}
 use Rattle.mbj_gen.specs.declared.line.SummaryLine.TheVariants as line
-
--- so many jobs, made one after another from the state x
-abbrev pub generated : ℕ → ℕ → List Job
-generated zero x = []
-generated (suc count) x = (job x).0 ∷ generated count (job x).1
 
 abbrev pub is_ok : Status → Bool
 is_ok status.Ok = true
@@ -35,4 +29,4 @@ summary_lines results =
 
 -- the lines of a summary of generated jobs, one after another
 abbrev pub gen_text : ℕ → ℕ → List ℕ
-gen_text seed count = flat_map line_text (summary_lines (map result_of (generated count seed)))
+gen_text seed count = flat_map line_text (summary_lines (map result_of (draws job count seed).0))

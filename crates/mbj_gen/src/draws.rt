@@ -1,5 +1,5 @@
 ghost use Rattle.std.specs.Prelude.{◌≡◌, ◌≤◌, IfOk};
-ghost use Rattle.mbj_gen.specs.Generator.{byte, bytes, shortened};
+ghost use Rattle.mbj_gen.specs.Generator.{byte, draws, shortened};
 
 use mbj_types::Bytes;
 use std::alloc::{AllocError, Global};
@@ -31,8 +31,8 @@ impl Draws {
     ///
     /// Answers `AllocError` for want of memory; the state is then any.
     pub(crate) fn bytes(&mut self, alloc: Global, count: usize) -> Result<Bytes, AllocError>
-        ensures { IfOk result (λ drawn. (drawn ≡ (bytes count self.old.state).0)
-            × (self.new.state ≡ (bytes count self.old.state).1)) }
+        ensures { IfOk result (λ drawn. (drawn ≡ (draws byte count self.old.state).0)
+            × (self.new.state ≡ (draws byte count self.old.state).1)) }
     {
         let mut drawn = Vec::with_capacity(alloc, count)?;
         for _ in 0..count {

@@ -1,5 +1,5 @@
 ghost use Rattle.std.specs.Prelude.{◌≡◌, IfOk};
-ghost use Rattle.mbj_gen.specs.Summary.{generated};
+ghost use Rattle.mbj_gen.specs.Generator.{draws, job};
 
 use crate::generator::Generator;
 use mbj_types::Job;
@@ -8,8 +8,9 @@ use std::alloc::{AllocError, Global};
 /// Makes so many jobs from a seed.
 ///
 /// Answers `AllocError` for want of memory.
+#[tactic(auto, unfolding(crate::specs::Generator::draws))]
 pub fn make_jobs(alloc: Global, seed: u64, count: u32) -> Result<Vec<Job>, AllocError>
-    ensures { IfOk result (λ jobs. jobs.items ≡ generated count seed) }
+    ensures { IfOk result (λ jobs. jobs.items ≡ (draws job count seed).0) }
 {
     let mut generator = Generator::new(seed);
     let mut jobs = Vec::with_capacity(alloc, count as usize)?;

@@ -3,12 +3,12 @@ use Rattle.std.proofs.Common.{◌≡◌, ◌∙◌, ℕ, List, ap, length, map, 
 use Rattle.mbj_types.specs.declared.done.Done.{Done}
 use Rattle.mbj_types.specs.declared.job.Job.{Job}
 use Rattle.mbj_types.specs.Result.{result_of}
-use Rattle.mbj_gen.specs.Summary.{generated}
+use Rattle.mbj_gen.specs.Generator.{draws, job}
 use Rattle.mbj_gen.proofs.GeneratedJobs.{length-results, lines-fit}
 use Rattle.mbjobs.proofs.generate.run_gen.Goals as goal
 
-results_are : (jobs seed : ℕ) (made : List Job) (results : List Done) → results ≡ map result_of made → made ≡ generated jobs seed
-    → results ≡ map result_of (generated jobs seed)
+results_are : (jobs seed : ℕ) (made : List Job) (results : List Done) → results ≡ map result_of made → made ≡ (draws job jobs seed).0
+    → results ≡ map result_of (draws job jobs seed).0
 results_are jobs seed made results of_made made_is = of_made ∙ ap (λ (js : List Job). map result_of js) made_is
 
 pub summarize-lines-requires-clause-limit : goal.summarize-lines-requires-clause-limit
