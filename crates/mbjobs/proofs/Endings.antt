@@ -13,12 +13,12 @@ use Rattle.mbj_command.specs.declared.command.Command.{Command}
 use Rattle.mbj_command.specs.declared.command.Command.TheVariants.{Run, Trace, Gen, Replay}
 
 all_of_told : (told bytes : List ℕ) (after : Option (List ℕ)) → ReadsAll (Some told) after bytes → bytes ≡ told
-all_of_told told bytes None r = absurd r.taken
-all_of_told told bytes (Some left) r = sym (r.taken ∙ ap (λ (l : List ℕ). bytes ++ l) r.ended ∙ append-nil bytes)
+all_of_told told bytes None r = absurd r.1
+all_of_told told bytes (Some left) r = sym (r.1 ∙ ap (λ (l : List ℕ). bytes ++ l) r.2 ∙ append-nil bytes)
 
 more_than_told : (told : List ℕ) (after : Option (List ℕ)) → ReadsTooMuch (Some told) after → INPUT_LIMIT < length told
-more_than_told told None r = absurd r.taken
-more_than_told told (Some left) r = omega (arith, r.count, ap length r.taken, length-append r.bytes left)
+more_than_told told None r = absurd r.2
+more_than_told told (Some left) r = omega (arith, r.1, ap length r.2, length-append r.0 left)
 
 -- the bytes that were read are the ones that were told
 pub read_is_told : (input : Stream) (told bytes : List ℕ) → input.before ≡ Some told → ReadsAll input.before input.after bytes → bytes ≡ told
@@ -30,11 +30,11 @@ too_much_is_told input told tells r = more_than_told told input.after (subst (λ
 
 -- what was read to its end isn't too long
 read_is_short : (input : Stream) (told bytes : List ℕ) → input.before ≡ Some told → ReadsAll input.before input.after bytes → INPUT_LIMIT < length told → ⊥
-read_is_short input told bytes tells r long = omega (arith, r.count, ap length (read_is_told input told bytes tells r))
+read_is_short input told bytes tells r long = omega (arith, r.0, ap length (read_is_told input told bytes tells r))
 
 -- what holds of the bytes that were read holds of those that were told
 holds_of_told : (input : Stream) (told : List ℕ) (Holds : List ℕ → Type 0) → input.before ≡ Some told → ReadsBytes input Holds → Holds told
-holds_of_told input told Holds tells r = subst Holds (read_is_told input told r.bytes tells r.read) r.holds
+holds_of_told input told Holds tells r = subst Holds (read_is_told input told r.0 tells r.1) r.2
 
 -- ---- an input is good, or has a bad line, or too many jobs
 
@@ -63,7 +63,7 @@ Asked c told = (text : List ℕ) × AsksFor c told text
 asks_told : (c : Command) (input : Stream) (IsWritten : List ℕ → Type 0) (told : List ℕ)
     → ReadsBytes input (λ bytes. (text : List ℕ) × AsksFor c bytes text × IsWritten text) → input.before ≡ Some told → Asked c told
 asks_told c input IsWritten told d tells =
-    (d.holds.0, subst (λ bytes. AsksFor c bytes d.holds.0) (read_is_told input told d.bytes tells d.read) d.holds.1)
+    (d.2.0, subst (λ bytes. AsksFor c bytes d.2.0) (read_is_told input told d.0 tells d.1) d.2.1)
 
 does_asked : (c : Command) (input : Stream) (IsWritten : List ℕ → Type 0) (told : List ℕ) → ReadsInput c → Does c input IsWritten → input.before ≡ Some told → Asked c told
 does_asked (Gen n m s w) input IsWritten told reads d tells = absurd reads
@@ -71,7 +71,7 @@ does_asked c input IsWritten told reads d tells = asks_told c input IsWritten to
 
 does_short : (c : Command) (input : Stream) (IsWritten : List ℕ → Type 0) (told : List ℕ) → ReadsInput c → Does c input IsWritten → input.before ≡ Some told → INPUT_LIMIT < length told → ⊥
 does_short (Gen n m s w) input IsWritten told reads d tells long = reads
-does_short c input IsWritten told reads d tells long = read_is_short input told d.bytes tells d.read long
+does_short c input IsWritten told reads d tells long = read_is_short input told d.0 tells d.1 long
 
 bad_reads : (c : Command) (told : List ℕ) (line field : ℕ) → IsBadFor c told line field → ReadsInput c
 bad_reads (Gen n m s w) told line field b = b
@@ -101,9 +101,9 @@ good_ends c Memory input out told text s tells short good calm calm_out = refl
 pub gen_ends : (n m s w : ℕ) (cause : Cause) (input out : Stream) → Stands (Gen n m s w) cause input out → ¬ Fails out → status_of cause ≡ 7
 gen_ends n m s w Read input out stands calm = absurd stands.0
 gen_ends n m s w Write input out stands calm = absurd (calm stands.0)
-gen_ends n m s w (Line line field) input out stands calm = absurd stands.holds
+gen_ends n m s w (Line line field) input out stands calm = absurd stands.2
 gen_ends n m s w Bytes input out stands calm = absurd stands.0
-gen_ends n m s w (Jobs line) input out stands calm = absurd stands.holds
+gen_ends n m s w (Jobs line) input out stands calm = absurd stands.2
 gen_ends n m s w Memory input out stands calm = refl
 
 -- ---- an input with a bad line
@@ -154,7 +154,7 @@ pub long_ends : (c : Command) (cause : Cause) (input out : Stream) (told : List 
     → ¬ Fails input → (status_of cause ≡ 6) ⊎ (status_of cause ≡ 7)
 long_ends c Read input out told reads s tells long calm = absurd (calm s.1.rose)
 long_ends c Write input out told reads s tells long calm = absurd (does_short c input _ told reads s.1 tells long)
-long_ends c (Line at f) input out told reads s tells long calm = absurd (read_is_short input told s.bytes tells s.read long)
+long_ends c (Line at f) input out told reads s tells long calm = absurd (read_is_short input told s.0 tells s.1 long)
 long_ends c Bytes input out told reads s tells long calm = inl refl
 long_ends c (Jobs at) input out told reads s tells long calm = inl refl
 long_ends c Memory input out told reads s tells long calm = inr refl
@@ -175,5 +175,5 @@ status_6 c Read input out status s is six = let bad : 3 ≡ 6 = sym is ∙ six i
 status_6 c Write input out status s is six = let bad : 4 ≡ 6 = sym is ∙ six in absurd (omega (arith, bad))
 status_6 c (Line line field) input out status s is six = let bad : 5 ≡ 6 = sym is ∙ six in absurd (omega (arith, bad))
 status_6 c Bytes input out status s is six = (s.0, inl s.1)
-status_6 c (Jobs line) input out status s is six = (over_reads c s.bytes line s.holds, inr (line, s))
+status_6 c (Jobs line) input out status s is six = (over_reads c s.0 line s.2, inr (line, s))
 status_6 c Memory input out status s is six = let bad : 7 ≡ 6 = sym is ∙ six in absurd (omega (arith, bad))

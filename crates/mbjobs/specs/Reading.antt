@@ -5,19 +5,13 @@ use Rattle.mbj_io.specs.Streams.{Stream}
 use Rattle.mbj_text.specs.declared.limits.TheConstants.{INPUT_LIMIT}
 
 -- these bytes, no more than an input may have, were read, and the source then was at its end
-pub record ReadsAll (before after : Option (List ℕ)) (bytes : List ℕ) : Type 0 where
-  pub count : length bytes ≤ INPUT_LIMIT
-  pub taken : Consumes before after bytes
-  pub ended : IsAtEnd after
+abbrev pub ReadsAll : Option (List ℕ) → Option (List ℕ) → List ℕ → Type 0
+ReadsAll before after bytes = (length bytes ≤ INPUT_LIMIT) × Consumes before after bytes × IsAtEnd after
 
 -- one byte more was read than an input may have
-pub record ReadsTooMuch (before after : Option (List ℕ)) : Type 0 where
-  pub bytes : List ℕ
-  pub count : length bytes ≡ INPUT_LIMIT + 1
-  pub taken : Consumes before after bytes
+abbrev pub ReadsTooMuch : Option (List ℕ) → Option (List ℕ) → Type 0
+ReadsTooMuch before after = (bytes : List ℕ) × (length bytes ≡ INPUT_LIMIT + 1) × Consumes before after bytes
 
 -- the input was read to its end, and a relation holds of its bytes
-pub record ReadsBytes (input : Stream) (Holds : List ℕ → Type 0) : Type 0 where
-  pub bytes : List ℕ
-  pub read : ReadsAll input.before input.after bytes
-  pub holds : Holds bytes
+abbrev pub ReadsBytes : Stream → (List ℕ → Type 0) → Type 0
+ReadsBytes input Holds = (bytes : List ℕ) × ReadsAll input.before input.after bytes × Holds bytes

@@ -17,11 +17,9 @@ use Rattle.mbjobs.proofs.run.run.Goals as goal
 answered : (s w : ℕ) (input : Stream) (jobs : List Job) (results : List Done) (IsWritten : List ℕ → Type 0)
     → ReadsBytes input (λ bytes. Reads bytes jobs) → results ≡ map result_of jobs → IsWritten (text results)
     → Does (Run s w) input IsWritten
-answered s w input jobs results IsWritten reads are written = record {
-  bytes = reads.bytes;
-  read = reads.read;
-  holds = (text (map result_of jobs), (jobs, reads.holds, refl), subst IsWritten (ap (λ (ds : List Done). text ds) are) written);
-}
+answered s w input jobs results IsWritten reads are written =
+    let is_written = subst IsWritten (ap (λ (ds : List Done). text ds) are) written in
+    (reads.0, reads.1, (text (map result_of jobs), (jobs, reads.2, refl), is_written))
 
 pub write_results-requires : goal.write_results-requires
 write_results-requires g c =
@@ -29,7 +27,8 @@ write_results-requires g c =
 
 pub returns-clause-ok : goal.returns-clause-ok
 returns-clause-ok g c =
-    answered c.args.submitters c.args.workers _ c.in_ok-jobs.jobs.items _
+    answered c.args.submitters c.args.workers
+    (stream g.S.Source.rest g.S.Source.faults c.args.input.now c.read_job_file.new.input) c.in_ok-jobs.jobs.items _
     (WritesAll (stream g.O.Sink.held g.O.Sink.faults c.args.out.now c.write_results.new.out)) c.in_ok-jobs.ensures.read
     c.in_ok-results.ensures c.in_ok-write_results.ensures
 
@@ -39,7 +38,8 @@ returns-in_err-write_results-clause-err g c =
     let exit = err_from_is_err_and left.result left.ensures.1 in
     rw (exit.1, exit.2) (
       c.in_err-write_results.ensures.failed,
-      answered c.args.submitters c.args.workers _ c.in_ok-jobs.jobs.items _
+      answered c.args.submitters c.args.workers
+          (stream g.S.Source.rest g.S.Source.faults c.args.input.now c.read_job_file.new.input) c.in_ok-jobs.jobs.items _
           (λ t. GainsPrefix (g.O.Sink.held c.args.out.now) (g.O.Sink.held c.write_results.new.out) t) c.in_ok-jobs.ensures.read
           c.in_ok-results.ensures c.in_err-write_results.ensures.front,
     )
