@@ -16,7 +16,7 @@ use Rattle.mbj_stage.specs.Going.{Going, begun, owed}
 use Rattle.mbj_stage.specs.Handing.{End}
 use Rattle.mbj_stage.proofs.Owing.{owed-begun}
 use Rattle.mbj_manager.specs.Rounds.{Pending, pending}
-use Rattle.mbj_manager.specs.Machine.{Lane, Machine, lane_for}
+use Rattle.mbj_manager.specs.Machine.{Machine}
 use Rattle.mbj_manager.specs.Between.{with_stages}
 use Rattle.mbj_manager.specs.declared.cell.Cell.{Cell}
 use Rattle.mbj_manager.specs.declared.cell.Cell.TheVariants as cell
@@ -26,7 +26,7 @@ use Rattle.mbj_manager.specs.Inside.Leaving.{At}
 use Rattle.mbj_manager.specs.Inside.Desk.{Waiter, Listed}
 use Rattle.mbj_manager.specs.Inside.Lines.{Line, Lines, line_in, total}
 use Rattle.mbj_manager.specs.Inside.Standing.{IsWithin}
-use Rattle.mbj_manager.specs.Inside.Held.{IsHeld, IsHere, IsTied, agenda_room, find_in, held, lane_seen, lines_in, machine_in, owed_from, owed_of, waiting}
+use Rattle.mbj_manager.specs.Inside.Held.{IsHeld, IsHere, IsTied, agenda_room, find_in, held, lines_in, machine_in, owed_from, owed_of, waiting}
 use Rattle.mbj_manager.proofs.BetweenCalls.{submitted-within}
 use Rattle.mbj_manager.proofs.CourseEnds.{between-calls}
 use Rattle.mbj_manager.proofs.JobRounds.{pending-rounds}

@@ -12,7 +12,7 @@ use Rattle.mbj_stage.specs.Going.{Going, stage_of}
 use Rattle.mbj_stage.specs.declared.stage.Stage.{Stage}
 use Rattle.mbj_stage.specs.declared.stage.Stage.TheVariants as stage
 use Rattle.mbj_manager.specs.Rounds.{Pending, pending}
-use Rattle.mbj_manager.specs.Machine.{Lane, Waiting, Within, submit, flush, changed, lane_for}
+use Rattle.mbj_manager.specs.Machine.{Lane, Waiting, Within, submit, flush, changed}
 use Rattle.mbj_manager.specs.Course.{goes_on, in_lanes_next, joined, stages_left, stepped, stepped_at}
 use Rattle.mbj_manager.specs.Between.{times_in}
 use Rattle.mbj_manager.specs.declared.cell.Cell.{Cell}

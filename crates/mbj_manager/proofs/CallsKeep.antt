@@ -18,7 +18,7 @@ use Rattle.mbj_manager.specs.State.{ManagerState, entered, after_flush, after_ge
 use Rattle.mbj_manager.specs.Calls as calls
 use Rattle.mbj_manager.specs.Calls.{Call, after_calls, called}
 use Rattle.mbj_manager.specs.Counts.{RisesUpTo}
-use Rattle.mbj_manager.specs.Between.{AreKept, HasRounds, IsBetweenCalls, IsKept, times_in}
+use Rattle.mbj_manager.specs.Between.{AreKept, HasRounds, IsBetweenCalls, IsKept}
 use Rattle.mbj_manager.specs.Inside.Added.{added}
 use Rattle.mbj_manager.specs.Inside.Standing.{IsLane, left_at}
 use Rattle.mbj_manager.specs.Inside.Settled.{IsSettled}

@@ -9,7 +9,7 @@ use Rattle.mbj_types.specs.declared.kind.Kind.TheVariants as kind
 use Rattle.mbj_ring.specs.Ring.{RingState}
 use Rattle.mbj_stage.specs.Going.{Going}
 use Rattle.mbj_manager.specs.Rounds.{Pending, at_once, in_lanes, pending}
-use Rattle.mbj_manager.specs.Machine.{Lane, Machine, Within, submit, flush, lane_for, run_within}
+use Rattle.mbj_manager.specs.Machine.{Lane, Machine, Within, submit, flush, run_within}
 use Rattle.mbj_manager.specs.State.{ManagerState}
 use Rattle.mbj_manager.specs.declared.cell.Cell.{Cell}
 use Rattle.mbj_manager.specs.Inside.Added.{first_lane}

@@ -22,7 +22,7 @@ use Rattle.mbj_manager.specs.Inside.Leaving.{At, IsAbsent}
 use Rattle.mbj_manager.specs.Inside.Desk.{Waiter, Listed}
 use Rattle.mbj_manager.specs.Inside.Lines.{Line, Lines, line, line_in, numbered}
 use Rattle.mbj_manager.specs.Inside.Standing.{IsWithin, times}
-use Rattle.mbj_manager.specs.Inside.Held.{IsHeld, IsHere, IsTied, find_in, found, held, lane_seen, lines_in, machine_in, owed_by, owed_from, owed_here, owed_of, waiting}
+use Rattle.mbj_manager.specs.Inside.Held.{IsHeld, IsTied, find_in, found, held, lane_seen, lines_in, machine_in, owed_by, owed_from, owed_here, owed_of, waiting}
 use Rattle.mbj_manager.proofs.Adding.{map-nil}
 use Rattle.mbj_manager.proofs.CourseEnds.{between-calls, lanes-between, stages-at}
 use Rattle.mbj_manager.proofs.GivingBack.{back-between, earlier, without_earliest}

@@ -8,7 +8,7 @@ use Rattle.mbj_manager.specs.State.{ManagerState}
 use Rattle.mbj_manager.specs.Leads.{AreLed}
 use Rattle.mbj_manager.specs.Inside.Courses.{courses, job_in, number_in}
 use Rattle.mbj_manager.specs.Inside.Desk.{Waiter}
-use Rattle.mbj_manager.specs.Inside.Held.{held, lane_seen, lines_in, waiting}
+use Rattle.mbj_manager.specs.Inside.Held.{held, lines_in, waiting}
 use Rattle.mbj_manager.specs.Inside.Lines.{Line, numbered_line}
 use Rattle.mbj_manager.proofs.Leading.{all-led, ends-seen, rests-seen}
 use Rattle.mbj_manager.proofs.Pairing.{same-length}
