@@ -1,8 +1,7 @@
 //! Jobs over one front, by submitters and workers in threads, with nothing read or written, beside as many jobs in threads that
 //! share nothing.
-use crate::ghash::fill;
 use crate::kinds::MOST_BYTES;
-use crate::making::{null_job, with_auth, with_cipher};
+use crate::making::{null_job, packet, with_auth, with_cipher};
 use mbj_types::{Auth, Cipher, Done, Job};
 use mbj_work::{OpenGate, run_private, run_shared};
 use std::alloc::{AllocError, Global};
@@ -91,9 +90,7 @@ const IV: [u8; 16] = [0x0f; 16];
 /// Job `number` of the work. In a mix each of four jobs that follow one another is of another kind, and so is each of four that
 /// are four apart, so that two or four submitters who get the jobs by turns have all kinds.
 fn job(alloc: Global, work: Work, number: u32) -> Result<Job, AllocError> {
-    let mut packet = vec![in alloc; 0; MOST_BYTES]?;
-    fill(&mut packet);
-    let job = null_job(alloc, packet);
+    let job = null_job(alloc, packet(alloc, MOST_BYTES)?);
     let turn = match work {
         Work::HmacSha1 => 0,
         Work::CbcHmacSha256 => 1,

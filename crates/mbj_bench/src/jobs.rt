@@ -1,9 +1,8 @@
 //! Jobs through one manager, from its next cell to their results, beside full lists of the same entries and the plain
 //! functions on the same packets.
-use crate::ghash::fill;
 use crate::kinds::Timed;
 use crate::lists::{LENGTHS, run_list, run_plain};
-use crate::making::null_job;
+use crate::making::{null_job, packet};
 use mbj_cbc::CbcKernel;
 use mbj_cmac::CmacKernel;
 use mbj_hmac::{Hmac1Kernel, Hmac256Kernel, Hmac512Kernel};
@@ -41,13 +40,6 @@ impl Work {
             Work::Mix => "a mix",
         }
     }
-}
-
-/// A packet of `len` bytes.
-fn packet(alloc: Global, len: usize) -> Result<Vec<u8>, AllocError> {
-    let mut packet = vec![in alloc; 0; len]?;
-    fill(&mut packet);
-    Ok(packet)
 }
 
 /// A job that waits for the lanes of a kind.

@@ -1,5 +1,6 @@
 //! The kinds of entries that wait for lanes, each with its plain function and its jobs.
 ghost use Rattle.std.specs.Prelude.{◌≡◌, ◌%◌, ◌≤◌, IfSome, length};
+ghost use Rattle.mbj_aes.specs.Bytes.{IsKeySize};
 ghost use Rattle.mbj_bench.specs.declared.kinds.TheConstants.{MOST_BYTES};
 
 use crate::making::{null_job, with_auth, with_cipher};
@@ -17,7 +18,7 @@ use std::alloc::{AllocError, Global};
 const HMAC_KEY: [u8; 20] = [0x0b; 20];
 
 /// The key of AES, of which shorter keys are the first bytes.
-const AES_KEY: [u8; 32] = [0x2b; 32];
+const AES_KEY: &[u8; 32] = &[0x2b; 32];
 
 const IV: [u8; 16] = [0x0f; 16];
 
@@ -51,184 +52,84 @@ pub fn whole(packet: &[u8]) -> usize
     packet.len().min(MOST_BYTES) / BLOCK_BYTES * BLOCK_BYTES
 }
 
-impl Timed for CbcKernel<10> {
+/// A key of AES for so many rounds, or else for 14.
+fn aes_key(rounds: usize) -> &'static [u8]
+    ensures { IsKeySize (length result.now) }
+{
+    match rounds {
+        10 => &AES_KEY[..16],
+        12 => &AES_KEY[..24],
+        _ => &AES_KEY[..],
+    }
+}
+
+impl<const N: usize> Timed for CbcKernel<N> {
     fn name() -> &'static str {
-        "cbc128"
+        match N {
+            10 => "cbc128",
+            12 => "cbc192",
+            _ => "cbc256",
+        }
     }
 
-    fn entry(packet: Vec<u8>) -> Option<CbcEntry<10>> {
-        let key = Schedule::expand(&AES_KEY[..16]);
+    fn entry(packet: Vec<u8>) -> Option<CbcEntry<N>> {
+        let key = Schedule::expand(aes_key(N));
         let len = whole(&packet) as u32;
-        if len == 0 || key.rounds() != 10 {
+        if len == 0 || key.rounds() as usize != N {
             return None;
         }
         Some(CbcEntry::new(key, IV, packet, 0, len))
     }
 
-    fn ended(entry: CbcEntry<10>) -> (Vec<u8>, u8) {
+    fn ended(entry: CbcEntry<N>) -> (Vec<u8>, u8) {
         let byte = entry.chain[0];
         (entry.packet, byte)
     }
 
     fn plain(packet: &mut [u8]) -> u8 {
-        let key = Schedule::expand(&AES_KEY[..16]);
         let len = whole(packet);
-        encrypt_in_place(&key, &IV, &mut packet[..len]);
+        encrypt_in_place(&Schedule::expand(aes_key(N)), &IV, &mut packet[..len]);
         0
     }
 
     fn job(alloc: Global, packet: Vec<u8>) -> Result<Job, AllocError> {
-        with_cipher(
-            alloc,
-            null_job(alloc, packet),
-            Cipher::Cbc,
-            &AES_KEY[..16],
-            &IV,
-        )
+        let job = null_job(alloc, packet);
+        with_cipher(alloc, job, Cipher::Cbc, aes_key(N), &IV)
     }
 }
 
-impl Timed for CbcKernel<12> {
+impl<const N: usize> Timed for CmacKernel<N> {
     fn name() -> &'static str {
-        "cbc192"
-    }
-
-    fn entry(packet: Vec<u8>) -> Option<CbcEntry<12>> {
-        let key = Schedule::expand(&AES_KEY[..24]);
-        let len = whole(&packet) as u32;
-        if len == 0 || key.rounds() != 12 {
-            return None;
+        match N {
+            10 => "cmac128",
+            _ => "cmac256",
         }
-        Some(CbcEntry::new(key, IV, packet, 0, len))
     }
 
-    fn ended(entry: CbcEntry<12>) -> (Vec<u8>, u8) {
-        let byte = entry.chain[0];
-        (entry.packet, byte)
-    }
-
-    fn plain(packet: &mut [u8]) -> u8 {
-        let key = Schedule::expand(&AES_KEY[..24]);
-        let len = whole(packet);
-        encrypt_in_place(&key, &IV, &mut packet[..len]);
-        0
-    }
-
-    fn job(alloc: Global, packet: Vec<u8>) -> Result<Job, AllocError> {
-        with_cipher(
-            alloc,
-            null_job(alloc, packet),
-            Cipher::Cbc,
-            &AES_KEY[..24],
-            &IV,
-        )
-    }
-}
-
-impl Timed for CbcKernel<14> {
-    fn name() -> &'static str {
-        "cbc256"
-    }
-
-    fn entry(packet: Vec<u8>) -> Option<CbcEntry<14>> {
-        let key = Schedule::expand(&AES_KEY[..32]);
-        let len = whole(&packet) as u32;
-        if len == 0 || key.rounds() != 14 {
-            return None;
-        }
-        Some(CbcEntry::new(key, IV, packet, 0, len))
-    }
-
-    fn ended(entry: CbcEntry<14>) -> (Vec<u8>, u8) {
-        let byte = entry.chain[0];
-        (entry.packet, byte)
-    }
-
-    fn plain(packet: &mut [u8]) -> u8 {
-        let key = Schedule::expand(&AES_KEY[..32]);
-        let len = whole(packet);
-        encrypt_in_place(&key, &IV, &mut packet[..len]);
-        0
-    }
-
-    fn job(alloc: Global, packet: Vec<u8>) -> Result<Job, AllocError> {
-        with_cipher(
-            alloc,
-            null_job(alloc, packet),
-            Cipher::Cbc,
-            &AES_KEY[..32],
-            &IV,
-        )
-    }
-}
-
-impl Timed for CmacKernel<10> {
-    fn name() -> &'static str {
-        "cmac128"
-    }
-
-    fn entry(packet: Vec<u8>) -> Option<CmacEntry<10>> {
-        let key = Schedule::expand(&AES_KEY[..16]);
-        if packet.len() > MOST_BYTES || key.rounds() != 10 {
+    fn entry(packet: Vec<u8>) -> Option<CmacEntry<N>> {
+        let key = Schedule::expand(aes_key(N));
+        if packet.len() > MOST_BYTES || key.rounds() as usize != N {
             return None;
         }
         let len = packet.len() as u32;
         Some(CmacEntry::new(key, packet, 0, len))
     }
 
-    fn ended(entry: CmacEntry<10>) -> (Vec<u8>, u8) {
+    fn ended(entry: CmacEntry<N>) -> (Vec<u8>, u8) {
         let byte = entry.chain[0];
         (entry.packet, byte)
     }
 
     fn plain(packet: &mut [u8]) -> u8 {
-        let key = Schedule::expand(&AES_KEY[..16]);
-        cmac_plain(&key, packet)[0]
+        cmac_plain(&Schedule::expand(aes_key(N)), packet)[0]
     }
 
     fn job(alloc: Global, packet: Vec<u8>) -> Result<Job, AllocError> {
-        with_auth(
-            alloc,
-            null_job(alloc, packet),
-            Auth::Cmac128,
-            &AES_KEY[..16],
-            16,
-        )
-    }
-}
-
-impl Timed for CmacKernel<14> {
-    fn name() -> &'static str {
-        "cmac256"
-    }
-
-    fn entry(packet: Vec<u8>) -> Option<CmacEntry<14>> {
-        let key = Schedule::expand(&AES_KEY[..32]);
-        if packet.len() > MOST_BYTES || key.rounds() != 14 {
-            return None;
-        }
-        let len = packet.len() as u32;
-        Some(CmacEntry::new(key, packet, 0, len))
-    }
-
-    fn ended(entry: CmacEntry<14>) -> (Vec<u8>, u8) {
-        let byte = entry.chain[0];
-        (entry.packet, byte)
-    }
-
-    fn plain(packet: &mut [u8]) -> u8 {
-        let key = Schedule::expand(&AES_KEY[..32]);
-        cmac_plain(&key, packet)[0]
-    }
-
-    fn job(alloc: Global, packet: Vec<u8>) -> Result<Job, AllocError> {
-        with_auth(
-            alloc,
-            null_job(alloc, packet),
-            Auth::Cmac256,
-            &AES_KEY[..32],
-            16,
-        )
+        let auth = match N {
+            10 => Auth::Cmac128,
+            _ => Auth::Cmac256,
+        };
+        with_auth(alloc, null_job(alloc, packet), auth, aes_key(N), 16)
     }
 }
 

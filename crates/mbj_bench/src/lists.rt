@@ -1,8 +1,8 @@
 //! Full lists of entries, from their making to their packets' return, beside the plain functions on the same packets.
 ghost use Rattle.std.specs.Prelude.{◌≤◌, All};
 
-use crate::ghash::fill;
 use crate::kinds::{MOST_BYTES, Timed};
+use crate::making::packet;
 use mbj_cbc::CbcKernel;
 use mbj_cmac::CmacKernel;
 use mbj_hmac::{Hmac1Kernel, Hmac256Kernel, Hmac512Kernel};
@@ -24,9 +24,7 @@ const PASSES: u32 = 40;
 fn packets<K: Kernel>(alloc: Global, len: usize) -> Result<Vec<Vec<u8>>, AllocError> {
     let mut packets = Vec::new(alloc);
     for _ in 0..K::LANES {
-        let mut packet = vec![in alloc; 0; len]?;
-        fill(&mut packet);
-        packets.push(packet)?;
+        packets.push(packet(alloc, len)?)?;
     }
     Ok(packets)
 }

@@ -1,7 +1,16 @@
 //! Jobs over whole packets.
+use crate::ghash::fill;
 use crate::kinds::{MOST_BYTES, whole};
 use mbj_types::{Auth, Bytes, Cipher, Job};
 use std::alloc::{AllocError, Global};
+
+/// A packet of `len` bytes.
+pub fn packet(alloc: Global, len: usize) -> Result<Vec<u8>, AllocError> {
+    let mut packet = Vec::new(alloc);
+    packet.resize(len, 0)?;
+    fill(&mut packet);
+    Ok(packet)
+}
 
 /// A job that does nothing with a packet.
 pub fn null_job(alloc: Global, packet: Vec<u8>) -> Job {
