@@ -14,6 +14,3 @@ mod substitution;
 pub use laws::{blocks_stay_blocks, each_undoes_the_other, examples_of_the_standard};
 pub use octet::Octet;
 pub use schedule::Schedule;
-
-#[cfg(test)]
-mod tests;

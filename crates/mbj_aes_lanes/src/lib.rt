@@ -23,6 +23,3 @@ pub use lane_keys::LaneKeys;
 pub use lanes::{decrypt_lanes, encrypt_lanes};
 pub use same::{chained, encrypt_same};
 pub use sixteen::{decrypt16, encrypt16};
-
-#[cfg(test)]
-mod tests;

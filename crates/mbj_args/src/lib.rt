@@ -6,6 +6,3 @@ mod cipher;
 mod table;
 
 pub use table::check;
-
-#[cfg(test)]
-mod tests;

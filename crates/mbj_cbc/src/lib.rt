@@ -11,6 +11,3 @@ pub use entry::CbcEntry;
 pub use in_place::{decrypt_in_place, encrypt_in_place};
 pub use kernel::CbcKernel;
 pub use laws::decryption_undoes_encryption;
-
-#[cfg(test)]
-mod tests;

@@ -9,6 +9,3 @@ mod plain;
 pub use entry::CmacEntry;
 pub use kernel::CmacKernel;
 pub use plain::cmac_plain;
-
-#[cfg(test)]
-mod tests;

@@ -6,6 +6,3 @@ mod command_set;
 mod options;
 
 pub use command::{Command, WordFault, read_command};
-
-#[cfg(test)]
-mod tests;

@@ -12,4 +12,3 @@ pub mod Facts
 pub mod Calls
 pub mod Fields
 pub mod New
-pub mod NullJobs

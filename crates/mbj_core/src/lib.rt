@@ -18,6 +18,3 @@ pub use laws::{
 };
 pub use machine::Core;
 pub use party::{Phase, View};
-
-#[cfg(test)]
-mod tests;

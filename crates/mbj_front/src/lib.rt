@@ -38,6 +38,3 @@ pub use place::{Place, Size};
 pub use rule::FrontRule;
 #[doc(hidden)]
 pub use slot::Slot;
-
-#[cfg(test)]
-mod tests;

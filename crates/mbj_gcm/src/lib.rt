@@ -9,6 +9,3 @@ mod laws;
 
 pub use in_place::{seal, unseal};
 pub use laws::unsealing_undoes_sealing;
-
-#[cfg(test)]
-mod tests;

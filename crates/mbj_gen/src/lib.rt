@@ -14,6 +14,3 @@ pub use line::SummaryLine;
 pub use line_sink::LINE_ROOM;
 pub use making::make_jobs;
 pub use summary::Summary;
-
-#[cfg(test)]
-mod tests;

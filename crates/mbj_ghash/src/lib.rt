@@ -13,6 +13,3 @@ mod words;
 
 pub use ghash::Ghash;
 pub use laws::examples_of_the_gcm_specification;
-
-#[cfg(test)]
-mod tests;

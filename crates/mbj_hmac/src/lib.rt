@@ -38,6 +38,3 @@ pub type Hmac256Kernel = HmacKernel<Sha256Lanes>;
 
 /// HMACs with SHA-384 and SHA-512 in four lanes.
 pub type Hmac512Kernel = HmacKernel<Sha512Lanes>;
-
-#[cfg(test)]
-mod tests;

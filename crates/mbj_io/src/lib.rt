@@ -14,6 +14,3 @@ mod traits;
 pub use memory::{MemSink, MemSource};
 pub use standard::{StdSink, StdSource};
 pub use traits::{Failed, Sink, Source};
-
-#[cfg(test)]
-mod tests;

@@ -28,6 +28,13 @@ impl<T> StdSource<T> {
     {
         StdSource { reader, faults: 0 }
     }
+
+    /// How often the reader has failed.
+    pub fn faults(&self) -> u64
+        ensures { result ≡ self.now }
+    {
+        self.faults
+    }
 }
 
 impl<T: Read> Source for StdSource<T> {
@@ -72,6 +79,13 @@ impl<T> StdSink<T> {
     {
         StdSink { writer, faults: 0 }
     }
+
+    /// How often the writer has failed.
+    pub fn faults(&self) -> u64
+        ensures { result ≡ self.now }
+    {
+        self.faults
+    }
 }
 
 impl<T: Write> Sink for StdSink<T> {
@@ -87,82 +101,5 @@ impl<T: Write> Sink for StdSink<T> {
                 Err(Failed)
             }
         }
-    }
-}
-
-#[cfg(test)]
-mod tests {
-    use super::*;
-    use crate::tests::{read, write};
-    use std::io;
-    use std::io::ErrorKind;
-
-    // A reader and a writer that always fail.
-    #[derive(Drop)]
-    struct Broken;
-
-    impl Read for Broken {
-        fn read(&mut self, _buf: &mut [u8]) -> io::Result<usize> {
-            Err(ErrorKind::BrokenPipe.into())
-        }
-    }
-
-    impl Write for Broken {
-        fn write(&mut self, _buf: &[u8]) -> io::Result<usize> {
-            Err(ErrorKind::BrokenPipe.into())
-        }
-
-        fn flush(&mut self) -> io::Result<()> {
-            Ok(())
-        }
-    }
-
-    #[test]
-    fn a_source_gives_what_its_reader_gives(rt: HostRuntime) {
-        let mut source = StdSource::new(b"abc".as_slice());
-        let mut buf = [0; 2];
-        assert_eq!(rt; read(&mut source, &mut buf), Ok(2));
-        assert_eq!(rt; buf, *b"ab");
-        assert_eq!(rt; read(&mut source, &mut buf), Ok(1));
-        assert_eq!(rt; read(&mut source, &mut buf), Ok(0));
-        assert_eq!(rt; source.faults, 0);
-    }
-
-    #[test]
-    fn each_error_is_counted(rt: HostRuntime) {
-        let mut source = StdSource::new(Broken);
-        let mut sink = StdSink::new(Broken);
-        for count in 1..3 {
-            assert_eq!(rt; read(&mut source, &mut [0; 2]), Err(Failed));
-            assert_eq!(rt; write(&mut sink, b"a"), Err(Failed));
-            assert_eq!(rt; (source.faults, sink.faults), (count, count));
-        }
-    }
-
-    #[test]
-    fn a_writer_that_takes_nothing_of_a_piece_fails(rt: HostRuntime) {
-        let mut room = [0; 2];
-        let mut sink = StdSink::new(&mut room[..]);
-        assert_eq!(rt; write(&mut sink, b"abc"), Ok(2));
-        assert_eq!(rt; write(&mut sink, b""), Ok(0));
-        assert_eq!(rt; sink.faults, 0);
-        assert_eq!(rt; write(&mut sink, b"c"), Err(Failed));
-        assert_eq!(rt; sink.faults, 1);
-    }
-
-    #[test]
-    fn the_standard_input_is_a_source(rt: HostRuntime) {
-        let mut source = StdSource::new(rt.stdin());
-        let mut buf = [0; 16];
-        let failed = read(&mut source, &mut buf).is_err();
-        assert_eq!(rt; source.faults, u64::from(failed));
-    }
-
-    #[test]
-    fn the_standard_output_is_a_sink(rt: HostRuntime) {
-        let mut sink = StdSink::new(rt.stdout());
-        assert_eq!(rt; write(&mut sink, b"\n"), Ok(1));
-        assert_eq!(rt; write(&mut sink, b""), Ok(0));
-        assert_eq!(rt; sink.faults, 0);
     }
 }

@@ -3,8 +3,6 @@
 
 mod kernel;
 mod lanes;
-#[cfg(test)]
-mod tests;
 
 pub use kernel::Kernel;
 pub use lanes::Lanes;

@@ -42,6 +42,3 @@ pub use queue::{Place, Queue};
 pub use queued::Queued;
 #[doc(hidden)]
 pub use works::Works;
-
-#[cfg(test)]
-mod tests;

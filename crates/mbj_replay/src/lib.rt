@@ -10,6 +10,3 @@ mod worker;
 pub use laws::{a_submitter_has_as_many_cells_as_a_ring, replays_are_of_events};
 pub use line::ReplayLine;
 pub use replayer::replay_lines;
-
-#[cfg(test)]
-mod tests;

@@ -3,8 +3,6 @@
 
 mod cells;
 mod ring;
-#[cfg(test)]
-mod tests;
 
 // A crate can name a ring in a contract only if the types of its fields are exported.
 #[doc(hidden)]

@@ -8,6 +8,3 @@ mod rounds;
 
 pub use blocks::compress;
 pub use lanes::compress_lanes;
-
-#[cfg(test)]
-mod tests;

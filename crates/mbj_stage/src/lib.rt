@@ -13,6 +13,3 @@ mod tag;
 pub use course::Course;
 pub use laws::{a_course_owes_the_same_while_it_is_out, results_keep_length};
 pub use stage::Stage;
-
-#[cfg(test)]
-mod tests;

@@ -30,6 +30,3 @@ pub use line::{Part, write_line, write_parts};
 pub use replay::{each_replay_is_one, read_replay};
 pub use text_line::{TextLine, write_lines};
 pub use writing::write_all;
-
-#[cfg(test)]
-mod tests;

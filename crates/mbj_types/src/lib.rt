@@ -30,6 +30,3 @@ pub use limits::{
 pub use reason::Reason;
 pub use refusal::{PostFull, RingFull};
 pub use tag::Tag;
-
-#[cfg(test)]
-mod tests;

@@ -28,10 +28,3 @@ pub use party::{HAND_ROOM, Party};
 pub use private::run_private;
 pub use results::Results;
 pub use shared::run_shared;
-
-#[cfg(test)]
-mod party_tests;
-#[cfg(test)]
-mod script_tests;
-#[cfg(test)]
-mod tests;

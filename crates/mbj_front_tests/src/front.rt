@@ -1,0 +1,148 @@
+ghost use Rattle.std.specs.Prelude.{◌≡◌, ◌+◌, ◌%◌, ◌^◌, ◌<◌, [], length, vec_len, IfSome};
+ghost use Rattle.mbj_core.specs.declared.party.Phase.TheVariants.{Rest};
+ghost use Rattle.mbj_core.specs.Parties.{new_party};
+ghost use Rattle.mbj_front.specs.Seats.{view_of, IsSubmitter, IsOf, IsIssued, submitters_of};
+
+use mbj_core::{MAX_SUBMITTERS, MAX_WORKERS};
+use mbj_front::{Front, PartySeat, Results, Seat, SharedFront};
+use std::alloc::{AllocError, Global};
+use std::test::Fail;
+
+/// A job is a number, and it is owed the next one.
+struct Next;
+
+impl Results<u32, u32> for Next {
+    ghost owed = { λ n. (n + 1) % 2 ^ 32 };
+}
+
+type Numbers = SharedFront<u32, u32, Next>;
+
+type NumberSeat = PartySeat<u32, u32>;
+
+/// What a job's way through a cell shows.
+#[derive(Debug, PartialEq, Drop)]
+struct Seen {
+    /// The words of the cell at first and after open, publish, claim, finish, take and free.
+    words: [u64; 7],
+    /// The words that a second claim and an early take find.
+    missed: [u64; 2],
+    done: u32,
+}
+
+/// A submitter's job goes through its next cell, and a helper makes its result. A third party looks on.
+fn goes_round(
+    front: &Numbers,
+    owner: &mut NumberSeat,
+    helper: &mut NumberSeat,
+    third: &mut NumberSeat,
+    job: u32,
+) -> Option<Seen>
+    requires fronts { IsOf front.now owner.old × IsOf front.now helper.old × IsOf front.now third.old }
+    requires rests { ((view_of owner.old).phase ≡ Rest) × ((view_of helper.old).phase ≡ Rest) × ((view_of third.old).phase ≡ Rest) }
+    requires submitter { IsSubmitter owner.old × ((view_of owner.old).number < submitters_of front.now) }
+    requires none_out { length (view_of owner.old).due ≡ (view_of owner.old).handed }
+    requires hand { (view_of helper.old).hand ≡ [] }
+    ensures fronts { IsOf front.now owner.new × IsOf front.now helper.new × IsOf front.now third.new }
+    ensures rests { IfSome result (λ _. ((view_of owner.new).phase ≡ Rest) × ((view_of helper.new).phase ≡ Rest) × ((view_of third.new).phase ≡ Rest)) }
+    ensures owner { IfSome result (λ _. (view_of owner.new).hand ≡ (view_of owner.old).hand) }
+    ensures third { IfSome result (λ _. ((view_of third.new).number ≡ (view_of third.old).number)
+        × ((view_of third.new).due ≡ (view_of third.old).due) × ((view_of third.new).handed ≡ (view_of third.old).handed)) }
+{
+    let cell = owner.first_cell();
+    let at_first = front.scan(third, cell);
+    front.open_cell(owner);
+    let opened = front.scan(third, cell);
+    front.publish(owner, job);
+    let published = front.scan(third, cell);
+    let claimed = front.try_claim(helper, cell).ok()?;
+    let in_hand = front.scan(third, cell);
+    let missed_claim = front.try_claim(third, cell).err()?;
+    let missed_take = front.try_take(owner).err()?;
+    front.finish(helper, cell, claimed.wrapping_add(1));
+    let finished = front.scan(third, cell);
+    let done = front.try_take(owner).ok()?;
+    let taken = front.scan(third, cell);
+    front.free(owner);
+    let freed = front.scan(third, cell);
+    Some(Seen {
+        words: [at_first, opened, published, in_hand, finished, taken, freed],
+        missed: [missed_claim, missed_take],
+        done,
+    })
+}
+
+/// The three seats of a new front of three parties, in their order.
+fn three(
+    front: &Numbers,
+    mut seats: Vec<NumberSeat>,
+) -> Option<(NumberSeat, NumberSeat, NumberSeat)>
+    requires three { vec_len seats ≡ 3 }
+    requires seats { IsIssued front.now seats.items }
+    ensures first { IfSome result (λ t. IsOf front.now t.0 × (view_of t.0 ≡ new_party 0)) }
+    ensures second { IfSome result (λ t. IsOf front.now t.1 × (view_of t.1 ≡ new_party 1)) }
+    ensures third { IfSome result (λ t. IsOf front.now t.2 × (view_of t.2 ≡ new_party 2)) }
+{
+    let third = seats.pop()?;
+    let second = seats.pop()?;
+    let first = seats.pop()?;
+    Some((first, second, third))
+}
+
+/// What two jobs show in turn: the first submitter's, which the worker does, and the second's, which the first does.
+fn two_rounds(alloc: Global) -> Result<Option<(Seen, Seen)>, AllocError> {
+    let (front, seats) = Numbers::new(alloc, 2, 1)?;
+    let Some((mut first, mut second, mut worker)) = three(&front, seats) else {
+        return Ok(None);
+    };
+    let Some(one) = goes_round(&front, &mut first, &mut worker, &mut second, 7) else {
+        return Ok(None);
+    };
+    let Some(two) = goes_round(&front, &mut second, &mut first, &mut worker, 8) else {
+        return Ok(None);
+    };
+    Ok(Some((one, two)))
+}
+
+#[test]
+fn each_step_leaves_its_word(rt: HostRuntime) -> Result<(), Fail> {
+    let one = Seen {
+        words: [0, 3, 1, 10, 2, 5, 0],
+        missed: [10, 10],
+        done: 8,
+    };
+    let two = Seen {
+        words: [0, 6, 1, 4, 2, 8, 0],
+        missed: [4, 4],
+        done: 9,
+    };
+    assert_eq!(rt; two_rounds(rt.alloc())?, Some((one, two)));
+    Ok(())
+}
+
+// The most parties: each seat is that of the party of its number.
+#[test]
+fn seats_come_in_the_order_of_the_parties(rt: HostRuntime) -> Result<(), Fail> {
+    let (front, seats) = Numbers::new(rt.alloc(), MAX_SUBMITTERS, MAX_WORKERS)?;
+    assert_eq!(rt; front.cells(), 4096);
+    assert_eq!(rt; seats.len(), 32);
+    for (party, seat) in seats.iter().enumerate() {
+        assert_eq!(rt; seat.party() as usize, party);
+        assert_eq!(rt; seat.out(), 0);
+    }
+    Ok(())
+}
+
+/// Takes a value that may cross to another thread.
+fn cross<T: Send + Drop>(_value: T) {}
+
+/// Takes a value that threads may share.
+fn share<T: Sync>(_value: &T) {}
+
+#[test]
+fn a_front_is_shared_and_seats_cross_to_other_threads(rt: HostRuntime) -> Result<(), Fail> {
+    let (front, seats) = Front::new(rt.alloc(), 1, 1)?;
+    share(&front);
+    cross(front);
+    cross::<Vec<Seat>>(seats);
+    Ok(())
+}

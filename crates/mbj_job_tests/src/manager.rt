@@ -1,0 +1,217 @@
+ghost use Rattle.std.specs.Prelude.{◌≡◌, ◌≤◌, IfOk, OnOk, length, Some};
+ghost use Rattle.mbj_types.specs.declared.job.Job.{Job};
+
+use mbj_manager::{HmacSha512Kernel, Manager, results_come_back_in_order};
+use mbj_types::{Auth, Bytes, Cipher, Done, Job, Kind, Order, Reason, RingFull, Status};
+use std::alloc::{AllocError, Global};
+use std::test::Fail;
+
+/// RFC 2202, section 3, test case 1: the tag of "Hi There" under a key of 20 bytes 0b.
+const TAG: [u8; 20] = [
+    0xb6, 0x17, 0x31, 0x86, 0x55, 0x05, 0x72, 0x64, 0xe2, 0x8b, 0xc0, 0xb6, 0xfb, 0x37, 0x8c, 0x8e,
+    0xf1, 0x46, 0xbe, 0x00,
+];
+
+// The README quotes this function.
+fn authenticate(alloc: Global) -> Result<Option<Done>, AllocError> {
+    let mut manager = Manager::new(alloc)?;
+    let job = match manager.get_next() {
+        Ok(job) => job,
+        Err(RingFull) => return Ok(None),
+    };
+    job.auth = Auth::HmacSha1;
+    job.auth_key = Bytes::from_vec([0x0b; 20].to_vec(alloc)?);
+    job.packet = Bytes::from_vec(b"Hi There".to_vec(alloc)?);
+    job.hash_len = 8;
+    job.tag_len = 20;
+    match manager.submit() {
+        Some(done) => Ok(Some(done)),
+        None => Ok(manager.flush()),
+    }
+}
+
+#[test]
+fn a_job_is_filled_submitted_and_taken_back(rt: HostRuntime) -> Result<(), Fail> {
+    match authenticate(rt.alloc())? {
+        Some(done) => {
+            assert_eq!(rt; done.status, Status::Ok);
+            assert_eq!(rt; done.packet.as_slice(), b"Hi There".as_slice());
+            assert_eq!(rt; done.tag.bytes(), TAG.as_slice());
+        }
+        None => assert!(rt; false),
+    }
+    Ok(())
+}
+
+/// Writes the tag's length into the open job, and answers what it was. A full ring is 255.
+fn write_tag_len(manager: &mut Manager, tag_len: u8) -> u8
+    ensures { length manager.new.owed ≡ length manager.old.owed }
+{
+    match manager.get_next() {
+        Ok(job) => {
+            let old = job.tag_len;
+            job.tag_len = tag_len;
+            old
+        }
+        Err(RingFull) => 255,
+    }
+}
+
+// A null job with a tag length other than 0 is refused for that length.
+#[test]
+fn the_same_cell_is_lent_until_it_is_submitted(rt: HostRuntime) -> Result<(), Fail> {
+    let mut manager = Manager::new(rt.alloc())?;
+    assert_eq!(rt; write_tag_len(&mut manager, 7), 0);
+    assert_eq!(rt; write_tag_len(&mut manager, 9), 7);
+    assert!(rt; manager.get_completed().is_none());
+    assert!(rt; manager.flush().is_none());
+    assert_eq!(rt; write_tag_len(&mut manager, 1), 9);
+    Ok(())
+}
+
+fn cross<T: Send + Drop>(_value: T) {}
+
+#[test]
+fn a_refused_job_comes_back_in_its_place(rt: HostRuntime) -> Result<(), Fail> {
+    let mut manager = Manager::new(rt.alloc())?;
+    let job = match manager.get_next() {
+        Ok(job) => job,
+        Err(RingFull) => return Ok(()),
+    };
+    job.packet = Bytes::from_vec(b"packet".to_vec(rt.alloc())?);
+    job.tag_len = 1;
+    match manager.submit() {
+        Some(done) => {
+            assert_eq!(rt; done.status, Status::InvalidArgs(Reason::TagLength));
+            assert_eq!(rt; done.packet.as_slice(), b"packet".as_slice());
+            assert_eq!(rt; done.tag.bytes().len(), 0);
+        }
+        None => assert!(rt; false),
+    }
+    assert!(rt; manager.get_completed().is_none());
+    Ok(())
+}
+
+/// Submits an HMAC-SHA-512 under a key of 20 bytes 0b over zero bytes, with a tag of 64 bytes less `number`. Answers the
+/// number of the job that comes back.
+fn submit_hmac(
+    manager: &mut Manager,
+    alloc: Global,
+    number: u8,
+    zeros: u32,
+) -> Result<Option<usize>, AllocError> {
+    let job = match manager.get_next() {
+        Ok(job) => job,
+        Err(RingFull) => return Ok(None),
+    };
+    job.auth = Auth::HmacSha512;
+    job.auth_key = Bytes::from_vec([0x0b; 20].to_vec(alloc)?);
+    job.packet = Bytes::from_vec(Vec::from_elem(alloc, 0, zeros as usize)?);
+    job.hash_len = zeros;
+    job.tag_len = 64u8.saturating_sub(number);
+    Ok(number_of(manager.submit()))
+}
+
+fn number_of(done: Option<Done>) -> Option<usize> {
+    match done {
+        Some(done) => Some(64usize.saturating_sub(done.tag.bytes().len())),
+        None => None,
+    }
+}
+
+// The rests are 4, 5, 4 and 6. The full run by 4 ends the first and the third job, and the flush runs by 1, twice.
+#[test]
+fn jobs_wait_until_all_lanes_are_in_use(rt: HostRuntime) -> Result<(), Fail> {
+    let mut manager = Manager::new(rt.alloc())?;
+    assert_eq!(rt; submit_hmac(&mut manager, rt.alloc(), 0, 0)?, None);
+    assert_eq!(rt; submit_hmac(&mut manager, rt.alloc(), 1, 112)?, None);
+    assert_eq!(rt; submit_hmac(&mut manager, rt.alloc(), 2, 0)?, None);
+    assert_eq!(rt; manager.waiting(Kind::HmacSha512), 3);
+    assert_eq!(rt; manager.lanes::<HmacSha512Kernel>().len(), 3);
+    assert_eq!(rt; submit_hmac(&mut manager, rt.alloc(), 3, 300)?, Some(0));
+    assert_eq!(rt; manager.waiting(Kind::HmacSha512), 2);
+    assert_eq!(rt; manager.lanes::<HmacSha512Kernel>().len(), 2);
+    assert_eq!(rt; number_of(manager.get_completed()), None);
+    assert_eq!(rt; number_of(manager.flush()), Some(1));
+    assert_eq!(rt; number_of(manager.flush()), Some(2));
+    assert_eq!(rt; number_of(manager.flush()), Some(3));
+    assert_eq!(rt; number_of(manager.flush()), None);
+    assert_eq!(rt; manager.rounds(Kind::HmacSha512), 4);
+    assert_eq!(rt; manager.blocks(Kind::HmacSha512), 16);
+    assert_eq!(rt; manager.flush_runs(), 2);
+    Ok(())
+}
+
+/// SP 800-38A, F.2.1: the key, the IV, the first block of the plaintext, and that of the ciphertext.
+const CBC: [u128; 4] = [
+    0x2b7e151628aed2a6abf7158809cf4f3c,
+    0x000102030405060708090a0b0c0d0e0f,
+    0x6bc1bee22e409f96e93d7e117393172a,
+    0x7649abac8119b246cee98e9b12e9197d,
+];
+
+fn bytes(alloc: Global, block: u128) -> Result<Bytes, AllocError> {
+    Ok(Bytes::from_vec(block.to_be_bytes().to_vec(alloc)?))
+}
+
+/// A job whose packet is "Hi There", which is authenticated, and a block, which is encrypted.
+fn encrypt_and_authenticate(alloc: Global, order: Order) -> Result<Job, AllocError> {
+    let mut job = Job::blank(alloc);
+    job.cipher = Cipher::Cbc;
+    job.order = order;
+    job.key = bytes(alloc, CBC[0])?;
+    job.iv = bytes(alloc, CBC[1])?;
+    job.cipher_off = 8;
+    job.cipher_len = 16;
+    job.auth = Auth::HmacSha1;
+    job.auth_key = Bytes::from_vec([0x0b; 20].to_vec(alloc)?);
+    job.hash_len = 8;
+    job.tag_len = 20;
+    let mut packet = b"Hi There".to_vec(alloc)?;
+    packet.extend_from_slice(&CBC[2].to_be_bytes())?;
+    job.packet = Bytes::from_vec(packet);
+    Ok(job)
+}
+
+fn is_done(done: &Done) -> bool {
+    let packet = done.packet.as_slice();
+    done.status == Status::Ok
+        && packet.strip_prefix(b"Hi There".as_slice()) == Some(CBC[3].to_be_bytes().as_slice())
+        && done.tag.bytes() == TAG.as_slice()
+}
+
+// The first job waits for CBC and the second one for HMAC. A flush runs CBC by one job, and HMAC by both; the next one runs
+// CBC by the second job.
+#[test]
+fn two_stages_go_through_lanes_in_either_order(rt: HostRuntime) -> Result<(), Fail> {
+    let mut manager = Manager::new(rt.alloc())?;
+    for order in [Order::CipherHash, Order::HashCipher] {
+        let job = encrypt_and_authenticate(rt.alloc(), order)?;
+        if !manager.is_full() {
+            manager.put_next(job);
+            assert!(rt; manager.submit().is_none());
+        }
+    }
+    for _ in 0..2 {
+        match manager.flush() {
+            Some(done) => assert!(rt; is_done(&done)),
+            None => assert!(rt; false),
+        }
+    }
+    assert!(rt; manager.flush().is_none());
+    assert_eq!(rt; manager.flush_runs(), 3);
+    Ok(())
+}
+
+#[test]
+fn nothing_waits_and_nothing_is_counted(rt: HostRuntime) -> Result<(), Fail> {
+    let manager = Manager::new(rt.alloc())?;
+    assert_eq!(rt; manager.queue_size(), 0);
+    assert_eq!(rt; manager.waiting(Kind::Cbc128), 0);
+    assert_eq!(rt; manager.rounds(Kind::Cmac256), 0);
+    assert_eq!(rt; manager.blocks(Kind::HmacSha512), 0);
+    assert_eq!(rt; manager.flush_runs(), 0);
+    results_come_back_in_order();
+    cross(manager);
+    Ok(())
+}

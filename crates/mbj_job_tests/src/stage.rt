@@ -1,0 +1,190 @@
+ghost use Rattle.std.specs.Mem.{FitsInMemory};
+ghost use Rattle.std.specs.Prelude.{◌≡◌, ◌<◌, None, length};
+ghost use Rattle.mbj_types.specs.Result.{result_of};
+ghost use Rattle.mbj_lane.specs.Rounds.{end_of};
+ghost use Rattle.mbj_stage.specs.declared.stage.Stage.TheVariants as stage;
+ghost use Rattle.mbj_stage.specs.Going.{owed, stage_of};
+
+use mbj_cbc::CbcKernel;
+use mbj_cmac::CmacKernel;
+use mbj_hmac::{Hmac1Kernel, Hmac256Kernel, Hmac512Kernel};
+use mbj_lane::Kernel;
+use mbj_stage::{Course, Stage};
+use mbj_types::{Auth, Bytes, Cipher, Dir, Done, Job, Kind, Order, Reason, Status};
+use std::alloc::{AllocError, Global};
+use std::slice;
+use std::test::Fail;
+
+/// The key of SP 800-38A, appendix F, and SP 800-38B, appendix D.1.
+const KEY: u128 = 0x2b7e151628aed2a6abf7158809cf4f3c;
+
+const IV: u128 = 0x000102030405060708090a0b0c0d0e0f;
+
+/// The first block of the plaintext of SP 800-38A, appendix F.
+const PLAINTEXT: u128 = 0x6bc1bee22e409f96e93d7e117393172a;
+
+/// That block encrypted by CBC-AES128 (F.2.1).
+const CIPHERTEXT: u128 = 0x7649abac8119b246cee98e9b12e9197d;
+
+/// Its CMAC (SP 800-38B, D.1, example 2).
+const CMAC: u128 = 0x070a16b46b4d4144f79bdd9dd04a287c;
+
+fn bytes(alloc: Global, block: u128) -> Result<Bytes, AllocError> {
+    Ok(Bytes::from_vec(Vec::from_slice(alloc, &block.to_be_bytes())?))
+}
+
+/// A job with CBC and CMAC over a packet of one block.
+fn cbc_cmac(alloc: Global, dir: Dir, order: Order, packet: u128) -> Result<Job, AllocError> {
+    let mut job = Job::blank(alloc);
+    job.cipher = Cipher::Cbc;
+    job.dir = dir;
+    job.order = order;
+    job.key = bytes(alloc, KEY)?;
+    job.iv = bytes(alloc, IV)?;
+    job.cipher_len = 16;
+    job.auth = Auth::Cmac128;
+    job.auth_key = bytes(alloc, KEY)?;
+    job.hash_len = 16;
+    job.tag_len = 16;
+    job.packet = bytes(alloc, packet)?;
+    Ok(job)
+}
+
+/// Leads an entry to its end, alone in its lanes.
+fn led<K: Kernel>(entry: K::Entry) -> K::Entry
+    requires { FitsInMemory K.Entry.row }
+    ensures end { result ≡ end_of K.round K.rest_of entry }
+    ensures done { K.rest_of result ≡ 0 }
+{
+    let mut entry = entry;
+    let rest = K::rest(&entry);
+    K::run(slice::from_mut(&mut entry), rest);
+    entry
+}
+
+/// Does the next stage, which is in lanes.
+fn do_lane(course: &mut Course, kind: Kind)
+    requires next { stage_of course.old ≡ stage.Lane kind }
+    requires here { course.old.out ≡ None }
+    ensures owed { owed course.new ≡ owed course.old }
+    ensures here { course.new.out ≡ None }
+    ensures fewer { length course.new.left < length course.old.left }
+{
+    match kind {
+        Kind::Cbc128 => {
+            let entry = course.hand_out_cbc128();
+            course.take_back_cbc128(led::<CbcKernel<10>>(entry));
+        }
+        Kind::Cbc192 => {
+            let entry = course.hand_out_cbc192();
+            course.take_back_cbc192(led::<CbcKernel<12>>(entry));
+        }
+        Kind::Cbc256 => {
+            let entry = course.hand_out_cbc256();
+            course.take_back_cbc256(led::<CbcKernel<14>>(entry));
+        }
+        Kind::Cmac128 => {
+            let entry = course.hand_out_cmac128();
+            course.take_back_cmac128(led::<CmacKernel<10>>(entry));
+        }
+        Kind::Cmac256 => {
+            let entry = course.hand_out_cmac256();
+            course.take_back_cmac256(led::<CmacKernel<14>>(entry));
+        }
+        Kind::HmacSha1 => {
+            let entry = course.hand_out_hmac_sha1();
+            course.take_back_hmac_sha1(led::<Hmac1Kernel>(entry));
+        }
+        Kind::HmacSha256 => {
+            let entry = course.hand_out_hmac_sha256();
+            course.take_back_hmac_sha256(led::<Hmac256Kernel>(entry));
+        }
+        Kind::HmacSha512 => {
+            let entry = course.hand_out_hmac_sha512();
+            course.take_back_hmac_sha512(led::<Hmac512Kernel>(entry));
+        }
+    }
+}
+
+/// Does a job, stage after stage, and answers its result.
+fn do_job(job: Job) -> Done
+    ensures { result ≡ result_of job }
+{
+    let mut course = Course::begin(job);
+    'stages: loop {
+        match course.next_stage() {
+            Stage::Now => course.run_now(),
+            Stage::Lane(kind) => do_lane(&mut course, kind),
+            Stage::Finished => return course.into_done(),
+        }
+    }
+}
+
+fn is(done: &Done, status: Status, packet: u128, tag: &[u8]) -> bool {
+    done.status == status
+        && done.packet.as_slice() == packet.to_be_bytes().as_slice()
+        && done.tag.bytes() == tag
+}
+
+// The tag is over the plaintext, whether it is authenticated before encryption or after decryption.
+#[test]
+fn cipher_and_hash_go_in_the_order_of_the_job(rt: HostRuntime) -> Result<(), Fail> {
+    let tag = CMAC.to_be_bytes();
+    let sent = do_job(cbc_cmac(rt.alloc(), Dir::Enc, Order::HashCipher, PLAINTEXT)?);
+    assert!(rt; is(&sent, Status::Ok, CIPHERTEXT, &tag));
+    let received = do_job(cbc_cmac(rt.alloc(), Dir::Dec, Order::CipherHash, CIPHERTEXT)?);
+    assert!(rt; is(&received, Status::Ok, PLAINTEXT, &tag));
+    Ok(())
+}
+
+// With the order the other way, the tag is that of CMAC alone over the ciphertext.
+#[test]
+fn hash_after_cipher_is_over_the_ciphertext(rt: HostRuntime) -> Result<(), Fail> {
+    let both = do_job(cbc_cmac(rt.alloc(), Dir::Enc, Order::CipherHash, PLAINTEXT)?);
+    let mut job = cbc_cmac(rt.alloc(), Dir::Enc, Order::HashCipher, CIPHERTEXT)?;
+    job.cipher = Cipher::Null;
+    let alone = do_job(job);
+    assert!(rt; is(&both, Status::Ok, CIPHERTEXT, alone.tag.bytes()));
+    Ok(())
+}
+
+// The GCM specification, test case 2.
+#[test]
+fn gcm_makes_text_and_tag(rt: HostRuntime) -> Result<(), Fail> {
+    let mut job = Job::blank(rt.alloc());
+    job.cipher = Cipher::Gcm;
+    job.key = bytes(rt.alloc(), 0)?;
+    job.iv = Bytes::from_vec(Vec::from_slice(rt.alloc(), &[0; 12])?);
+    job.cipher_len = 16;
+    job.auth = Auth::Gcm;
+    job.tag_len = 16;
+    job.packet = bytes(rt.alloc(), 0)?;
+    let tag = 0xab6e47d42cec13bdf53a67b21257bddfu128.to_be_bytes();
+    assert!(rt;
+        is(
+            &do_job(job),
+            Status::Ok,
+            0x0388dace60b6a392f328c2b971b2fe78,
+            &tag
+        )
+    );
+    Ok(())
+}
+
+#[test]
+fn a_refused_job_keeps_its_packet(rt: HostRuntime) -> Result<(), Fail> {
+    let mut job = cbc_cmac(rt.alloc(), Dir::Enc, Order::CipherHash, PLAINTEXT)?;
+    job.cipher_len = 15;
+    let course = Course::begin(job);
+    assert_eq!(rt; course.next_stage(), Stage::Finished);
+    let done = course.into_done();
+    assert!(rt;
+        is(
+            &done,
+            Status::InvalidArgs(Reason::CipherLength),
+            PLAINTEXT,
+            &[]
+        )
+    );
+    Ok(())
+}

@@ -1,0 +1,181 @@
+//! Every vector as a lane word: all seven calls, through the bound, on lanes that differ.
+use mbj_types::{Lane8, Lane32, Lane64};
+use std::simd::{u8x16, u8x32, u32x4, u32x8, u32x16, u64x2, u64x4, u64x8};
+
+const LEFT8: [u8; 32] = [
+    0x52, 0xf2, 0x26, 0x65, 0xa6, 0x0c, 0x12, 0xd2, 0x89, 0x18, 0x5d, 0x95, 0x0e, 0xe8, 0x81, 0x36,
+    0x09, 0x16, 0x6f, 0x6b, 0x11, 0x3d, 0x17, 0x8d, 0x6c, 0x0f, 0xd3, 0x90, 0x1f, 0xf2, 0x39, 0xa1,
+];
+
+const RIGHT8: [u8; 32] = [
+    0xa0, 0x95, 0xf2, 0x0f, 0x93, 0x95, 0x65, 0x0c, 0xf9, 0x38, 0x0b, 0x8e, 0xdb, 0x22, 0x4a, 0x6b,
+    0x24, 0x8a, 0x1e, 0x92, 0x4e, 0x8f, 0xd0, 0xae, 0x2e, 0x1a, 0x94, 0x92, 0xa3, 0x30, 0x5f, 0x18,
+];
+
+// (left + (right & 0x8c)) ^ (!left << 3) ^ (right >> 2), word by word
+const MIXED8: [u8; 32] = [
+    0x92, 0x3b, 0x52, 0xa2, 0xca, 0x2d, 0x67, 0xb5, 0x9f, 0x16, 0x77, 0x52, 0x28, 0x58, 0x6b, 0x6c,
+    0xb4, 0xf4, 0xfc, 0x6f, 0x7e, 0xfa, 0xe3, 0xa2, 0xeb, 0x91, 0x12, 0x4c, 0xb7, 0x96, 0x62, 0x5f,
+];
+
+fn mixed8<V: Lane8>(left: V, right: V) -> V {
+    left.plus(right.anded(V::splat(0x8c)))
+        .xored(left.inverted().shl(3))
+        .xored(right.shr(2))
+}
+
+#[test]
+fn every_call_of_a_lane8_works_lane_by_lane(rt: HostRuntime) {
+    let mixed = mixed8(
+        u8x16::from_slice(&LEFT8[..16]),
+        u8x16::from_slice(&RIGHT8[..16]),
+    );
+    assert_eq!(rt; mixed.to_array().as_slice(), &MIXED8[..16]);
+    let mixed = mixed8(
+        u8x32::from_slice(&LEFT8[..32]),
+        u8x32::from_slice(&RIGHT8[..32]),
+    );
+    assert_eq!(rt; mixed.to_array().as_slice(), &MIXED8[..32]);
+}
+
+const LEFT32: [u32; 16] = [
+    0xb64c_e422,
+    0x1012_f037,
+    0x907a_70c3,
+    0x0f42_05b4,
+    0x9e77_69b1,
+    0x34b9_b5df,
+    0x7f15_0524,
+    0xae2e_b154,
+    0x881e_d162,
+    0x6d76_b07e,
+    0xc6f8_7718,
+    0x506b_f2ef,
+    0x7731_af10,
+    0x95e7_61d1,
+    0xec66_a787,
+    0x7403_e430,
+];
+
+const RIGHT32: [u32; 16] = [
+    0x5c90_a958,
+    0x4cbd_87ad,
+    0x3f98_e277,
+    0xcb5c_7427,
+    0x2e05_319a,
+    0xb2f1_4c94,
+    0xc7a2_ea20,
+    0x3e7d_1bfb,
+    0x14f4_733f,
+    0x930d_6eaf,
+    0x4cdd_2055,
+    0x8673_4721,
+    0x7ebf_f206,
+    0xe009_02c7,
+    0x57ee_05cd,
+    0xbabc_ed20,
+];
+
+// (left + (right & 0xf2e6_cc3a)) ^ (!left << 7) ^ (right >> 5), word by word
+const MIXED32: [u32; 16] = [
+    0xdda4_07f0,
+    0xa455_7c62,
+    0x01c0_69e6,
+    0x8921_8ff7,
+    0x0540_6747,
+    0x4128_9b8b,
+    0x32f7_b795,
+    0x09c6_04d1,
+    0x6933_fc85,
+    0xbf45_575d,
+    0x861e_edaa,
+    0x1cfb_2536,
+    0x8d05_e702,
+    0x7ea8_3ec5,
+    0xf15f_e7a1,
+    0xdd70_b0b9,
+];
+
+fn mixed32<V: Lane32>(left: V, right: V) -> V {
+    left.plus(right.anded(V::splat(0xf2e6_cc3a)))
+        .xored(left.inverted().shl(7))
+        .xored(right.shr(5))
+}
+
+#[test]
+fn every_call_of_a_lane32_works_lane_by_lane(rt: HostRuntime) {
+    let mixed = mixed32(
+        u32x4::from_slice(&LEFT32[..4]),
+        u32x4::from_slice(&RIGHT32[..4]),
+    );
+    assert_eq!(rt; mixed.to_array().as_slice(), &MIXED32[..4]);
+    let mixed = mixed32(
+        u32x8::from_slice(&LEFT32[..8]),
+        u32x8::from_slice(&RIGHT32[..8]),
+    );
+    assert_eq!(rt; mixed.to_array().as_slice(), &MIXED32[..8]);
+    let mixed = mixed32(
+        u32x16::from_slice(&LEFT32[..16]),
+        u32x16::from_slice(&RIGHT32[..16]),
+    );
+    assert_eq!(rt; mixed.to_array().as_slice(), &MIXED32[..16]);
+}
+
+const LEFT64: [u64; 8] = [
+    0x9be4_bcfc_49b6_4a08,
+    0x12bd_4ace_faec_bd38,
+    0x830e_07bc_1e39_8f10,
+    0x2a3a_f4d4_6b0a_18e8,
+    0x5790_f82e_c1d3_fcff,
+    0xeeea_cbe2_26e8_7555,
+    0x6bf4_6c69_7d2c_af82,
+    0xf646_e1f4_0a09_7c97,
+];
+
+const RIGHT64: [u64; 8] = [
+    0x13de_ef86_ab10_31d0,
+    0x8ede_0d7a_c3ba_ea9e,
+    0xca02_135e_92b1_d3f2,
+    0xd17f_9aca_e01f_5057,
+    0x5712_4242_5051_c1cc,
+    0x59a5_4a7b_b1fe_e08f,
+    0x7f26_144b_9828_9fcd,
+    0xcc01_1cdd_9474_031b,
+];
+
+// (left + (right & 0x919a_72d1_74c9_df6a)) ^ (!left << 37) ^ (right >> 11), word by word
+const MIXED64: [u64; 8] = [
+    0x644b_da41_9963_394e,
+    0x312e_c83e_942d_f01f,
+    0x3bc7_47ae_4569_3448,
+    0x25f3_ca87_924f_6ac0,
+    0xad29_b827_5a5f_b47f,
+    0x2291_6fda_18c7_0a83,
+    0x2693_97c8_0446_4bd9,
+    0xc88f_1fe6_85fb_f121,
+];
+
+fn mixed64<V: Lane64>(left: V, right: V) -> V {
+    left.plus(right.anded(V::splat(0x919a_72d1_74c9_df6a)))
+        .xored(left.inverted().shl(37))
+        .xored(right.shr(11))
+}
+
+#[test]
+fn every_call_of_a_lane64_works_lane_by_lane(rt: HostRuntime) {
+    let mixed = mixed64(
+        u64x2::from_slice(&LEFT64[..2]),
+        u64x2::from_slice(&RIGHT64[..2]),
+    );
+    assert_eq!(rt; mixed.to_array().as_slice(), &MIXED64[..2]);
+    let mixed = mixed64(
+        u64x4::from_slice(&LEFT64[..4]),
+        u64x4::from_slice(&RIGHT64[..4]),
+    );
+    assert_eq!(rt; mixed.to_array().as_slice(), &MIXED64[..4]);
+    let mixed = mixed64(
+        u64x8::from_slice(&LEFT64[..8]),
+        u64x8::from_slice(&RIGHT64[..8]),
+    );
+    assert_eq!(rt; mixed.to_array().as_slice(), &MIXED64[..8]);
+}

@@ -1,0 +1,166 @@
+use mbj_aes::Schedule;
+use mbj_cmac::{CmacEntry, CmacKernel, cmac_plain};
+use mbj_lane::{Kernel, Lanes};
+use std::alloc::{AllocError, Global};
+use std::process::Abort;
+use std::test::Fail;
+
+// SP 800-38B, appendix D.1: the empty message, one whole block, and two whole blocks and a half.
+#[test]
+fn tags_are_those_of_the_standard(rt: HostRuntime) {
+    let key = Schedule::expand(&0x2b7e151628aed2a6abf7158809cf4f3cu128.to_be_bytes());
+    let message: [u8; 40] = [
+        0x6b, 0xc1, 0xbe, 0xe2, 0x2e, 0x40, 0x9f, 0x96, 0xe9, 0x3d, 0x7e, 0x11, 0x73, 0x93, 0x17,
+        0x2a, 0xae, 0x2d, 0x8a, 0x57, 0x1e, 0x03, 0xac, 0x9c, 0x9e, 0xb7, 0x6f, 0xac, 0x45, 0xaf,
+        0x8e, 0x51, 0x30, 0xc8, 0x1c, 0x46, 0xa3, 0x5c, 0xe4, 0x11,
+    ];
+    let vectors: [(&[u8], u128); 3] = [
+        (&message[..0], 0xbb1d6929e95937287fa37d129b756746),
+        (&message[..16], 0x070a16b46b4d4144f79bdd9dd04a287c),
+        (&message, 0xdfa66747de9ae63030ca32611497c827),
+    ];
+    for (message, tag) in vectors {
+        let len = message.len();
+        let found = u128::from_be_bytes(cmac_plain(&key, message));
+        assert_eq!(rt; found, tag, "a message of {len} bytes");
+    }
+}
+
+/// The message of SP 800-38B, appendix D, of which its examples take the first bytes.
+const MESSAGE: [u8; 64] = [
+    0x6b, 0xc1, 0xbe, 0xe2, 0x2e, 0x40, 0x9f, 0x96, 0xe9, 0x3d, 0x7e, 0x11, 0x73, 0x93, 0x17, 0x2a,
+    0xae, 0x2d, 0x8a, 0x57, 0x1e, 0x03, 0xac, 0x9c, 0x9e, 0xb7, 0x6f, 0xac, 0x45, 0xaf, 0x8e, 0x51,
+    0x30, 0xc8, 0x1c, 0x46, 0xa3, 0x5c, 0xe4, 0x11, 0xe5, 0xfb, 0xc1, 0x19, 0x1a, 0x0a, 0x52, 0xef,
+    0xf6, 0x9f, 0x24, 0x45, 0xdf, 0x4f, 0x9b, 0x17, 0xad, 0x2b, 0x41, 0x7b, 0xe6, 0x6c, 0x37, 0x10,
+];
+
+/// The first bytes of the message, and their CMAC.
+#[derive(Drop)]
+struct Case {
+    key: &'static [u8],
+    message: &'static [u8],
+    mac: u128,
+}
+
+/// A packet whose bytes around the message tell the case.
+fn packet_of(alloc: Global, number: u8, message: &[u8]) -> Result<Vec<u8>, AllocError> {
+    let mut packet = Vec::new(alloc);
+    packet.push(number)?;
+    packet.extend_from_slice(message)?;
+    packet.push(number)?;
+    Ok(packet)
+}
+
+/// Runs the cases in one list, and looks at what leaves it.
+fn run_in_one_list<const N: usize>(
+    rt: &impl Abort,
+    alloc: Global,
+    cases: &[Case],
+) -> Result<(), Fail> {
+    let mut lanes = Lanes::<CmacKernel<N>>::new(alloc)?;
+    for (number, case) in (0..16u8).zip(cases) {
+        assert!(rt; matches!(case.key.len(), 16 | 24 | 32));
+        let key = Schedule::expand(case.key);
+        assert!(rt; key.rounds() as usize == N);
+        let packet = packet_of(alloc, number, case.message)?;
+        let len = case.message.len();
+        assert!(rt; len < 1000);
+        assert!(rt; 1 + len <= packet.len());
+        assert!(rt; lanes.len() < CmacKernel::<N>::LANES);
+        lanes.enter(CmacEntry::new(key, packet, 1, len as u32));
+    }
+    assert_eq!(rt; lanes.len() as usize, cases.len());
+    for _ in 0..40u32 {
+        match lanes.take_finished() {
+            Some(entry) => {
+                assert_eq!(rt; entry.rest, 0);
+                let (packet, mac) = entry.into_parts();
+                check_case(rt, alloc, cases, &packet, &mac)?;
+            }
+            None => {
+                if lanes.len() > 0 {
+                    lanes.run_shortest();
+                }
+            }
+        }
+    }
+    assert_eq!(rt; lanes.len(), 0);
+    Ok(())
+}
+
+/// The packet is the case's, and the CMAC is what the case, and CMAC without lanes, have.
+fn check_case(
+    rt: &impl Abort,
+    alloc: Global,
+    cases: &[Case],
+    packet: &[u8],
+    mac: &[u8; 16],
+) -> Result<(), Fail> {
+    let number = *packet.first().ok_or("no packet")?;
+    let case = cases.get(number as usize).ok_or("no case")?;
+    assert_eq!(rt; packet, packet_of(alloc, number, case.message)?.as_slice());
+    assert_eq!(rt; *mac, case.mac.to_be_bytes());
+    assert!(rt; matches!(case.key.len(), 16 | 24 | 32));
+    assert_eq!(rt; cmac_plain(&Schedule::expand(case.key), case.message), *mac);
+    Ok(())
+}
+
+// SP 800-38B, appendix D.1.
+#[test]
+fn one_list_serves_messages_of_every_length(rt: HostRuntime) -> Result<(), Fail> {
+    let key: &[u8] = &[
+        0x2b, 0x7e, 0x15, 0x16, 0x28, 0xae, 0xd2, 0xa6, 0xab, 0xf7, 0x15, 0x88, 0x09, 0xcf, 0x4f,
+        0x3c,
+    ];
+    let cases = [
+        Case {
+            key,
+            message: &MESSAGE[..0],
+            mac: 0xbb1d6929e95937287fa37d129b756746,
+        },
+        Case {
+            key,
+            message: &MESSAGE[..16],
+            mac: 0x070a16b46b4d4144f79bdd9dd04a287c,
+        },
+        Case {
+            key,
+            message: &MESSAGE[..40],
+            mac: 0xdfa66747de9ae63030ca32611497c827,
+        },
+        Case {
+            key,
+            message: &MESSAGE,
+            mac: 0x51f0bebf7e3b9d92fc49741779363cfe,
+        },
+    ];
+    run_in_one_list::<10>(&rt, rt.alloc(), &cases)
+}
+
+// SP 800-38B, appendix D.3.
+#[test]
+fn one_list_serves_keys_of_256_bits(rt: HostRuntime) -> Result<(), Fail> {
+    let key: &[u8] = &[
+        0x60, 0x3d, 0xeb, 0x10, 0x15, 0xca, 0x71, 0xbe, 0x2b, 0x73, 0xae, 0xf0, 0x85, 0x7d, 0x77,
+        0x81, 0x1f, 0x35, 0x2c, 0x07, 0x3b, 0x61, 0x08, 0xd7, 0x2d, 0x98, 0x10, 0xa3, 0x09, 0x14,
+        0xdf, 0xf4,
+    ];
+    let cases = [
+        Case {
+            key,
+            message: &MESSAGE,
+            mac: 0xe1992190549f6ed5696a2c056c315410,
+        },
+        Case {
+            key,
+            message: &MESSAGE[..0],
+            mac: 0x028962f61b7bf89efc6b551f4667d983,
+        },
+        Case {
+            key,
+            message: &MESSAGE[..40],
+            mac: 0xaaf3d8f1de5640c232f5b169b9c911e6,
+        },
+    ];
+    run_in_one_list::<14>(&rt, rt.alloc(), &cases)
+}

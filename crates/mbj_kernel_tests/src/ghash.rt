@@ -1,0 +1,81 @@
+use mbj_ghash::Ghash;
+
+// The enciphered zero block under the zero key, as in test cases 1 and 2 of the GCM specification.
+const SUBKEY: u128 = 0x66e94bd4ef8a2c3b884cfa59ca342b2e;
+
+// GHASH under that subkey of so many first blocks of the text, by another program.
+const AFTER_BLOCKS: [(usize, u128); 8] = [
+    (0, 0x00000000000000000000000000000000),
+    (1, 0xcd9a157e625ae9d70b5a799c41371df3),
+    (4, 0xe38c1d4b6bb66ab501ac296381e609bb),
+    (11, 0xf3ef6522bd46e0a5c5b97a6b209fbede),
+    (12, 0x5823ba041c7667894b9403254dfcaf8e),
+    (13, 0x3f65633846b90dc1e718a40ed17086a4),
+    (16, 0x0b55e2fc3312a6fb411b6c12bd7c542a),
+    (19, 0xee2cf673cb2f5b116e2351ca55eae247),
+];
+
+// GHASH of the first block of the text and a part of so many bytes behind it, by another program.
+const AFTER_PARTS: [(usize, u128); 6] = [
+    (0, 0xcd9a157e625ae9d70b5a799c41371df3),
+    (1, 0x8dd86d1a83d4255754be4b7b1b54c3b6),
+    (15, 0x90acbf78d9e4a59761c3209597a30e1f),
+    (16, 0x803a3f8e6f88ded5b5177f2042a1c66d),
+    (17, 0x51da862001e2ae1c82c2ee0c9521799c),
+    (200, 0x02ec2342dcf81ff66cade12512f4a4bf),
+];
+
+// Byte `i` is 7 times `i`, modulo 251.
+fn text() -> [u8; 320] {
+    let mut bytes = [0; 320];
+    for (i, byte) in bytes.iter_mut().enumerate() {
+        *byte = (7 * i % 251) as u8;
+    }
+    bytes
+}
+
+// Test case 2 of the GCM specification: a block of ciphertext, and the block of the two bit lengths.
+#[test]
+fn values_are_those_of_the_gcm_specification(rt: HostRuntime) {
+    let mut hash = Ghash::new(SUBKEY.to_be_bytes());
+    assert_eq!(rt; u128::from_be_bytes(hash.value()), 0);
+    hash.update_block(&0x0388dace60b6a392f328c2b971b2fe78u128.to_be_bytes());
+    assert_eq!(rt;
+        u128::from_be_bytes(hash.value()),
+        0x5e2ec746917062882c85b0685353deb7
+    );
+    hash.update_block(&0x80u128.to_be_bytes());
+    assert_eq!(rt;
+        u128::from_be_bytes(hash.value()),
+        0xf38cbb1ad69223dcc3457ae5b6b0f885
+    );
+}
+
+#[test]
+fn blocks_are_hashed_together_as_one_by_one(rt: HostRuntime) {
+    let bytes = text();
+    let blocks = bytes.as_chunks::<16>().0;
+    for (count, value) in AFTER_BLOCKS {
+        let taken = &blocks[..count.min(blocks.len())];
+        let mut together = Ghash::new(SUBKEY.to_be_bytes());
+        together.update_blocks(taken);
+        let mut one_by_one = Ghash::new(SUBKEY.to_be_bytes());
+        for block in taken {
+            one_by_one.update_block(block);
+        }
+        assert_eq!(rt; u128::from_be_bytes(together.value()), value);
+        assert_eq!(rt; one_by_one.value(), together.value());
+    }
+}
+
+#[test]
+fn a_part_is_filled_with_zeros_and_one_of_no_bytes_has_no_block(rt: HostRuntime) {
+    let bytes = text();
+    for (len, value) in AFTER_PARTS {
+        let (front, behind) = bytes.split_at(16);
+        let mut hash = Ghash::new(SUBKEY.to_be_bytes());
+        hash.update_padded(front);
+        hash.update_padded(&behind[..len.min(behind.len())]);
+        assert_eq!(rt; u128::from_be_bytes(hash.value()), value);
+    }
+}

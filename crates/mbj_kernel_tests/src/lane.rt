@@ -1,0 +1,64 @@
+ghost use Rattle.std.specs.Prelude.{◌≡◌, ℕ, ◌-◌, ◌≤◌, All, map};
+
+use mbj_lane::{Kernel, Lanes};
+use std::test::*;
+
+/// Someone who waits for a number of turns.
+#[derive(Drop)]
+struct Waiter {
+    name: u8,
+    turns: u32,
+}
+
+/// Waiting, for up to three at once.
+struct Waiting;
+
+impl Kernel for Waiting {
+    type Entry = Waiter;
+
+    const LANES: u32 = 3;
+
+    ghost LANES = { 3 };
+
+    ghost rest_of = { λ w. w.turns };
+
+    ghost round = { λ w. record w { turns = w.turns - 1 } };
+
+    fn rest(entry: &Waiter) -> u32 {
+        entry.turns
+    }
+
+    fn run(entries: &mut [Waiter], m: u32) {
+        'waiters: for entry in entries.iter_mut() {
+            entry.turns -= m;
+        }
+    }
+
+    ghost use Rattle.std.proofs.Common.{refl, rules};
+
+    ghost some = { Prim.search rules };
+
+    ghost few = { Prim.search rules };
+
+    ghost falls = { λ w. refl };
+}
+
+fn name_of(taken: Option<Waiter>) -> Option<u8> {
+    taken.map(|waiter| waiter.name)
+}
+
+#[test]
+fn the_first_at_rest_0_leaves_and_the_others_keep_their_order(rt: HostRuntime) -> Result<(), Fail> {
+    let mut lanes = Lanes::<Waiting>::new(rt.alloc())?;
+    assert_eq!(rt; lanes.len(), 0);
+    lanes.enter(Waiter { name: 1, turns: 5 });
+    lanes.enter(Waiter { name: 2, turns: 3 });
+    lanes.enter(Waiter { name: 3, turns: 3 });
+    assert_eq!(rt; name_of(lanes.take_finished()), None);
+    assert_eq!(rt; lanes.run_shortest(), 3);
+    assert_eq!(rt; name_of(lanes.take_finished()), Some(2));
+    assert_eq!(rt; name_of(lanes.take_finished()), Some(3));
+    assert_eq!(rt; name_of(lanes.take_finished()), None);
+    assert_eq!(rt; lanes.len(), 1);
+    Ok(())
+}
