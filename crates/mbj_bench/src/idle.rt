@@ -2,7 +2,7 @@
 ghost use Rattle.std.specs.Prelude.{◌≡◌, IfSome, vec_len};
 ghost use Rattle.std.specs.Thread.{IsSync};
 ghost use Rattle.mbj_core.specs.Parties.{new_party};
-ghost use Rattle.mbj_front.specs.Seats.{view_of, IsIssued, IsOf};
+ghost use Rattle.mbj_front.specs.Seats.{view_of, submitters_of, IsIssued, IsOf};
 ghost use Rattle.mbj_work.specs.Parties.{IsPartyOf, Submits};
 
 use crate::front::{TURNS, Work, hundredths, list};
@@ -132,25 +132,56 @@ fn work_beside<R: Threads + Wait + Sync>(
 }
 
 /// The time that the jobs take a submitter, in microseconds, and how many results there are.
+fn time_of<R: Threads + Wait + Sync + Clock>(
+    rt: &R,
+    alloc: Global,
+    front: &Front,
+    submitter: &mut Party,
+    worker: &mut Party,
+    is_beside: bool,
+) -> io::Result<(u128, usize)>
+    requires submitter { IsPartyOf front.now submitter.old × Submits front.now submitter.old }
+    requires worker { IsPartyOf front.now worker.old }
+{
+    let jobs = list(alloc, Work::HmacSha1, 1, 0)?;
+    let start = Instant::now(rt)?;
+    let results = if is_beside {
+        work_beside(rt, alloc, front, submitter, worker, jobs)?
+    } else {
+        work(rt, alloc, front, submitter, jobs)?
+    };
+    Ok((start.elapsed(rt)?.as_micros(), results))
+}
+
+/// The same by parties of the two seats.
+fn time_of_seats<R: Threads + Wait + Sync + Clock>(
+    rt: &R,
+    alloc: Global,
+    front: &Front,
+    seats: (Seat, Seat),
+    is_beside: bool,
+) -> io::Result<(u128, usize)>
+    requires first { IsOf front.now seats.0 × (view_of seats.0 ≡ new_party 0) }
+    requires second { IsOf front.now seats.1 × (view_of seats.1 ≡ new_party 1) }
+    requires few { submitters_of front.now ≡ 1 }
+{
+    let (first, second) = seats;
+    let mut submitter = Party::new(alloc, first)?;
+    let mut worker = Party::new(alloc, second)?;
+    time_of(rt, alloc, front, &mut submitter, &mut worker, is_beside)
+}
+
+/// The same over a new front.
 fn micros<R: Threads + Wait + Sync + Clock>(
     rt: &R,
     alloc: Global,
     is_beside: bool,
 ) -> io::Result<(u128, usize)> {
-    let jobs = list(alloc, Work::HmacSha1, 1, 0)?;
     let (front, seats) = Front::new(alloc, 1, 1)?;
-    let Some((first, second)) = two(&front, seats) else {
-        return Ok((u128::MAX, 0));
-    };
-    let mut submitter = Party::new(alloc, first)?;
-    let mut worker = Party::new(alloc, second)?;
-    let start = Instant::now(rt)?;
-    let results = if is_beside {
-        work_beside(rt, alloc, &front, &mut submitter, &mut worker, jobs)?
-    } else {
-        work(rt, alloc, &front, &mut submitter, jobs)?
-    };
-    Ok((start.elapsed(rt)?.as_micros(), results))
+    match two(&front, seats) {
+        Some(seats) => time_of_seats(rt, alloc, &front, seats, is_beside),
+        None => Ok((u128::MAX, 0)),
+    }
 }
 
 /// Prints how long a submitter takes who works its own jobs, alone and beside a worker who looks at the same cells and finds

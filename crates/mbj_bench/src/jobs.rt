@@ -2,7 +2,7 @@
 //! functions on the same packets.
 use crate::kinds::Timed;
 use crate::lists::{LENGTHS, run_list, run_plain};
-use crate::making::{null_job, packet};
+use crate::making::{null_job, packet, packets};
 use mbj_cbc::CbcKernel;
 use mbj_cmac::CmacKernel;
 use mbj_hmac::{Hmac1Kernel, Hmac256Kernel, Hmac512Kernel};
@@ -148,7 +148,7 @@ fn run_work(
     }
 }
 
-/// Nanoseconds of the fastest passes.
+/// Nanoseconds of a pass, or of the fastest ones.
 #[derive(Clone, Copy)]
 struct Times {
     jobs: u128,
@@ -156,8 +156,83 @@ struct Times {
     plain: u128,
 }
 
+impl Times {
+    /// The less of each.
+    fn least(self, other: Times) -> Times {
+        Times {
+            jobs: self.jobs.min(other.jobs),
+            lists: self.lists.min(other.lists),
+            plain: self.plain.min(other.plain),
+        }
+    }
+}
+
+/// How long jobs take that are made before.
+fn time_of_jobs(
+    rt: &impl Clock,
+    manager: &mut Manager,
+    jobs: &mut Vec<Job>,
+    results: &mut Vec<Done>,
+) -> io::Result<u128> {
+    let start = Instant::now(rt)?;
+    run_jobs(manager, jobs, results)?;
+    Ok(start.elapsed(rt)?.as_nanos())
+}
+
+/// How long the work's jobs take in a manager.
+fn time_of_manager(
+    rt: &impl Clock,
+    alloc: Global,
+    manager: &mut Manager,
+    work: Work,
+    len: usize,
+) -> io::Result<u128> {
+    let mut jobs = jobs(alloc, work, len)?;
+    let mut results = Vec::with_capacity(alloc, JOBS as usize)?;
+    time_of_jobs(rt, manager, &mut jobs, &mut results)
+}
+
+/// How long the work takes on packets of no jobs.
+fn time_of_packets(
+    rt: &impl Clock,
+    alloc: Global,
+    in_lists: bool,
+    work: Work,
+    packets: &mut [Vec<u8>],
+    sum: &mut u8,
+) -> io::Result<u128> {
+    let start = Instant::now(rt)?;
+    *sum ^= run_work(alloc, in_lists, work, packets)?;
+    Ok(start.elapsed(rt)?.as_nanos())
+}
+
 /// The fastest passes of jobs, of lists and of the plain functions. They take turns, so that what else the machine does meets
 /// them alike. What is computed goes into `sum`, so that none of it is left out.
+fn fastest_over(
+    rt: &impl Clock,
+    alloc: Global,
+    manager: &mut Manager,
+    work: Work,
+    packets: &mut [Vec<u8>],
+    len: usize,
+    sum: &mut u8,
+) -> io::Result<Times> {
+    let mut best = Times {
+        jobs: u128::MAX,
+        lists: u128::MAX,
+        plain: u128::MAX,
+    };
+    for _ in 0..PASSES {
+        best = best.least(Times {
+            jobs: time_of_manager(rt, alloc, manager, work, len)?,
+            lists: time_of_packets(rt, alloc, true, work, packets, sum)?,
+            plain: time_of_packets(rt, alloc, false, work, packets, sum)?,
+        });
+    }
+    Ok(best)
+}
+
+/// The fastest passes over a new manager.
 fn fastest(
     rt: &impl Clock,
     alloc: Global,
@@ -165,30 +240,9 @@ fn fastest(
     len: usize,
     sum: &mut u8,
 ) -> io::Result<Times> {
+    let mut packets = packets(alloc, JOBS, len)?;
     let mut manager = Manager::new(alloc)?;
-    let mut packets = Vec::new(alloc);
-    for _ in 0..JOBS {
-        packets.push(packet(alloc, len)?)?;
-    }
-    let mut best = Times {
-        jobs: u128::MAX,
-        lists: u128::MAX,
-        plain: u128::MAX,
-    };
-    for _ in 0..PASSES {
-        let mut jobs = jobs(alloc, work, len)?;
-        let mut results = Vec::with_capacity(alloc, JOBS as usize)?;
-        let start = Instant::now(rt)?;
-        run_jobs(&mut manager, &mut jobs, &mut results)?;
-        best.jobs = start.elapsed(rt)?.as_nanos().min(best.jobs);
-        let start = Instant::now(rt)?;
-        *sum ^= run_work(alloc, true, work, &mut packets)?;
-        best.lists = start.elapsed(rt)?.as_nanos().min(best.lists);
-        let start = Instant::now(rt)?;
-        *sum ^= run_work(alloc, false, work, &mut packets)?;
-        best.plain = start.elapsed(rt)?.as_nanos().min(best.plain);
-    }
-    Ok(best)
+    fastest_over(rt, alloc, &mut manager, work, &mut packets, len, sum)
 }
 
 /// Prints nanoseconds a job and MB/s, and in how many times less time than full lists and than the plain functions.

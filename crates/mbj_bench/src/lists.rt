@@ -2,7 +2,7 @@
 ghost use Rattle.std.specs.Prelude.{◌≤◌, All};
 
 use crate::kinds::{MOST_BYTES, Timed};
-use crate::making::packet;
+use crate::making::packets;
 use mbj_cbc::CbcKernel;
 use mbj_cmac::CmacKernel;
 use mbj_hmac::{Hmac1Kernel, Hmac256Kernel, Hmac512Kernel};
@@ -19,15 +19,6 @@ pub const LENGTHS: [usize; 3] = [64, 256, MOST_BYTES];
 const PASS_BYTES: u64 = 262_144;
 
 const PASSES: u32 = 40;
-
-/// A packet for each lane.
-fn packets<K: Kernel>(alloc: Global, len: usize) -> Result<Vec<Vec<u8>>, AllocError> {
-    let mut packets = Vec::new(alloc);
-    for _ in 0..K::LANES {
-        packets.push(packet(alloc, len)?)?;
-    }
-    Ok(packets)
-}
 
 /// Entries in a list, each of which has a round left.
 struct Filled<K: Timed> {
@@ -101,7 +92,7 @@ fn fastest<K: Timed>(
     len: usize,
     sum: &mut u8,
 ) -> io::Result<(u128, u128, u64)> {
-    let mut packets = packets::<K>(alloc, len)?;
+    let mut packets = packets(alloc, K::LANES, len)?;
     let turn_bytes = bytes_of(&packets);
     let turns = PASS_BYTES.checked_div(turn_bytes).unwrap_or(0);
     let mut best = (u128::MAX, u128::MAX);

@@ -12,6 +12,15 @@ pub fn packet(alloc: Global, len: usize) -> Result<Vec<u8>, AllocError> {
     Ok(packet)
 }
 
+/// So many packets of `len` bytes.
+pub fn packets(alloc: Global, count: u32, len: usize) -> Result<Vec<Vec<u8>>, AllocError> {
+    let mut packets = Vec::new(alloc);
+    for _ in 0..count {
+        packets.push(packet(alloc, len)?)?;
+    }
+    Ok(packets)
+}
+
 /// A job that does nothing with a packet.
 pub fn null_job(alloc: Global, packet: Vec<u8>) -> Job {
     let mut job = Job::blank(alloc);
