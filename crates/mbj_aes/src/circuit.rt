@@ -12,7 +12,7 @@ use crate::octet::Octet;
 use mbj_types::Lane8;
 
 /// Sums of the bits of the bytes.
-#[derive(Clone, Copy)]
+#[derive(Drop)]
 pub(crate) struct TopLayer<V> {
     pub(crate) y1: V,
     pub(crate) y2: V,
@@ -39,7 +39,7 @@ pub(crate) struct TopLayer<V> {
 }
 
 /// The inverses in the field, as far as they are not linear.
-#[derive(Clone, Copy)]
+#[derive(Drop)]
 pub(crate) struct MiddleLayer<V> {
     pub(crate) t29: V,
     pub(crate) t33: V,
@@ -53,7 +53,7 @@ pub(crate) struct MiddleLayer<V> {
 }
 
 /// The products of the two layers.
-#[derive(Clone, Copy)]
+#[derive(Drop)]
 pub(crate) struct Products<V> {
     pub(crate) z0: V,
     pub(crate) z1: V,
@@ -139,8 +139,8 @@ fn top_layer<V: Lane8>(q: Octet<V>) -> TopLayer<V>
 
 #[tactic(auto, unfolding(crate::specs::Planes::Circuit::middle_bits))]
 #[inline(always)]
-pub(crate) fn middle_layer<V: Lane8>(y: TopLayer<V>) -> MiddleLayer<V>
-    ensures { (i t : ℕ) → i < V.LANES → middle_at V.lane result i t ≡ middle_bits (top_at V.lane y i t) }
+pub(crate) fn middle_layer<V: Lane8>(y: &TopLayer<V>) -> MiddleLayer<V>
+    ensures { (i t : ℕ) → i < V.LANES → middle_at V.lane result i t ≡ middle_bits (top_at V.lane y.now i t) }
 {
     let t8 = and(y.y5, y.y1);
     let t7 = and(y.y13, y.y16);
@@ -201,9 +201,9 @@ pub(crate) fn middle_layer<V: Lane8>(y: TopLayer<V>) -> MiddleLayer<V>
 
 #[tactic(auto, unfolding(crate::specs::Planes::Circuit::product_bits))]
 #[inline(always)]
-pub(crate) fn products_of<V: Lane8>(w: MiddleLayer<V>, y: TopLayer<V>) -> Products<V>
+pub(crate) fn products_of<V: Lane8>(w: MiddleLayer<V>, y: &TopLayer<V>) -> Products<V>
     ensures { (i t : ℕ) → i < V.LANES
-        → products_at V.lane result i t ≡ product_bits (middle_at V.lane w i t) (top_at V.lane y i t) }
+        → products_at V.lane result i t ≡ product_bits (middle_at V.lane w i t) (top_at V.lane y.now i t) }
 {
     Products {
         z8: and(w.t41, y.y10),
@@ -286,5 +286,5 @@ pub fn sub_planes<V: Lane8>(q: Octet<V>) -> Octet<V>
     ensures { (i t : ℕ) → i < V.LANES → t < 8 → byte_at V.lane result i t ≡ sub_byte (byte_at V.lane q i t) }
 {
     let y = top_layer(q);
-    bottom_layer(products_of(middle_layer(y), y))
+    bottom_layer(products_of(middle_layer(&y), &y))
 }

@@ -139,5 +139,5 @@ pub fn inv_sub_planes<V: Lane8>(q: Octet<V>) -> Octet<V>
     ensures { (i t : ℕ) → i < V.LANES → t < 8 → byte_at V.lane result i t ≡ inv_sub_byte (byte_at V.lane q i t) }
 {
     let y = inv_top_layer(q);
-    inv_bottom_layer(products_of(middle_layer(y), y))
+    inv_bottom_layer(products_of(middle_layer(&y), &y))
 }
