@@ -7,9 +7,11 @@ pub mod FullLanes
 pub mod HalfRounds
 pub mod HeldKeys
 pub mod KeySchedules
+pub mod LaneLoops
 pub mod LaneWords
 pub mod Matrices
 pub mod PlaneBytes
+pub mod MixedPlanes
 pub mod RoundByRound
 pub mod RoundKeys
 pub mod SameKeys

@@ -55,7 +55,7 @@ byte_of-xor p q bp bq =
 
 -- ---- the product by x
 
-abbrev xtime_octet : Octet ℕ → Octet ℕ
+abbrev pub xtime_octet : Octet ℕ → Octet ℕ
 xtime_octet q = record {
   p0 = q.p7;
   p1 = xor_bits q.p0 q.p7;
@@ -195,6 +195,19 @@ mixed_bits lane p q i f g t =
     (either_octet (nat_lt t 4) (octet_lane lane p i) (octet_lane lane q i) (f (t + 4)) (g (t - 4)))
     (across (octet_lane lane q i) (g t))
     (either_octet (nat_lt t 4) (octet_lane lane q i) (octet_lane lane p i) (g (t + 4)) (f (t - 4)))
+
+-- the sums of each of them and the one below it
+abbrev pub sums_octet : {V : Type 0} → (V → ℕ → ℕ) → Octet V → Octet V → ℕ → (ℕ → ℕ) → (ℕ → ℕ) → ℕ → Octet ℕ
+sums_octet lane p q i f g t =
+    xor_octets (across (octet_lane lane p i) (f t))
+    (either_octet (nat_lt t 4) (octet_lane lane p i) (octet_lane lane q i) (f (t + 4)) (g (t - 4)))
+
+-- the sums of the three below
+abbrev pub below_octet : {V : Type 0} → (V → ℕ → ℕ) → Octet V → Octet V → ℕ → (ℕ → ℕ) → (ℕ → ℕ) → ℕ → Octet ℕ
+below_octet lane p q i f g t =
+    xor_octets (either_octet (nat_lt t 4) (octet_lane lane p i) (octet_lane lane q i) (f (t + 4)) (g (t - 4)))
+    (xor_octets (across (octet_lane lane q i) (g t))
+    (either_octet (nat_lt t 4) (octet_lane lane q i) (octet_lane lane p i) (g (t + 4)) (f (t - 4))))
 
 abbrev pub mixed_at : {V : Type 0} → (V → ℕ → ℕ) → Octet V → Octet V → ℕ → (ℕ → ℕ) → (ℕ → ℕ) → ℕ → ℕ
 mixed_at lane p q i f g t =

@@ -1,9 +1,15 @@
 -- One schedule in all lanes.
-use Rattle.std.proofs.Common.{◌≡◌, ℕ, ◌<◌, ◌≤◌, List, [], ◌++◌, length, take, map, get_or, Option, Some, None, ap, sym, ◌∙◌, arith}
-use Rattle.std.specs.Prelude.{unwrap_or}
+use Rattle.std.proofs.Common.{◌≡◌, ℕ, ◌<◌, ◌≤◌, List, [], ◌++◌, length, take, map, get_or, All, Option, Some, None, refl, subst, ap, sym, ◌∙◌, arith}
+use Rattle.std.specs.Prelude.{IsSome, unwrap_or}
 use Rattle.std.proofs.lemmas.List.{get_or_default, get_or-map, get_or-take, get_or_append_left, length-map, length-take-le, same_lists}
 use Rattle.std.proofs.lemmas.Simd.{get_or-replicate}
-use Rattle.mbj_aes_lanes.specs.KeyLanes.{KeyLanes, same_keys, schedule_at}
+use Rattle.mbj_aes_lanes.specs.KeyLanes.{KeyLanes, IsFull, same_keys, schedule_at}
+
+-- every lane has one
+pub full-same : (keys : KeyLanes) (w : List ℕ) → keys ≡ same_keys w → IsFull keys
+full-same keys w e i h =
+    let none : Option (List ℕ) = None in
+    subst IsSome (sym (ap (λ k. get_or k.lanes i none) e ∙ get_or-replicate 16 i (Some w) none h)) refl
 
 abbrev no_block : List ℕ
 no_block = []
@@ -29,3 +35,12 @@ first-changed f blocks rest changed few size each =
     ∙ each i (omega arith)
     ∙ ap f (get_or_append_left blocks rest no_block i inside)
     ∙ sym (get_or-map f blocks i no_block d inside))
+
+-- the first n blocks of sixteen are as long as all
+pub first-lengths : (n : ℕ) (changed first : List (List ℕ)) → first ≡ take n changed → n ≤ 16 → length changed ≡ 16
+    → ((i : ℕ) → i < 16 → length (get_or changed i no_block) ≡ 16) → All (λ b. length b ≡ 16) first
+first-lengths n changed first is few size each k d lt =
+    let inside : k < n = omega (arith, ap length is, length-take-le n changed (omega arith)) in
+    ap (λ xs. length (get_or xs k d)) is
+    ∙ ap length (get_or-take n changed k d inside ∙ get_or_default changed k d no_block (omega arith))
+    ∙ each k (omega arith)
