@@ -1,49 +1,67 @@
-use Rattle.std.proofs.Common.{◌≡◌, ℕ, ◌-◌, List, [], ◌∷◌, slice_index_or, ap, ap₂, sym, ◌∙◌, arith}
+-- Each pass leads the lanes by a block of their entries.
+use Rattle.std.proofs.Common.{◌≡◌, ℕ, List, refl, ap, ◌∙◌, arith}
 use Rattle.mbj_lane.specs.Rounds.{after}
-use Rattle.mbj_hmac.specs.Rounds.{Going, advanced, block_before}
+use Rattle.mbj_hmac.specs.Rounds.{Going, advanced}
 use Rattle.mbj_hmac.specs.Inside.Going.{lane_going}
-use Rattle.mbj_hmac.proofs.Passes.{chain_next, eight}
+use Rattle.mbj_hmac.proofs.LaneEntries.{block_left, block_in_lane, pass_led}
 use Rattle.mbj_hmac.proofs.kernel.compressed.Goals as goal
+
+pub block-requires : goal.block-requires
+block-requires g c =
+    block_left c.args.entries.now c.args.m c.passes.done 0 c.lane_entry-e0.result.now c.lane_entry-e0.ensures c.requires.rests refl c.passes-test.true
+
+pub block-requires-in-passes : goal.block-requires-in-passes
+block-requires-in-passes g c =
+    block_left c.args.entries.now c.args.m c.passes.done 1 c.lane_entry-e1.result.now c.lane_entry-e1.ensures c.requires.rests refl c.passes-test.true
+
+pub block-requires-in-passes-2 : goal.block-requires-in-passes-2
+block-requires-in-passes-2 g c =
+    block_left c.args.entries.now c.args.m c.passes.done 2 c.lane_entry-e2.result.now c.lane_entry-e2.ensures c.requires.rests refl c.passes-test.true
+
+pub block-requires-in-passes-3 : goal.block-requires-in-passes-3
+block-requires-in-passes-3 g c =
+    block_left c.args.entries.now c.args.m c.passes.done 3 c.lane_entry-e3.result.now c.lane_entry-e3.ensures c.requires.rests refl c.passes-test.true
+
+pub block-requires-in-passes-4 : goal.block-requires-in-passes-4
+block-requires-in-passes-4 g c =
+    block_left c.args.entries.now c.args.m c.passes.done 4 c.lane_entry-e4.result.now c.lane_entry-e4.ensures c.requires.rests refl c.passes-test.true
+
+pub block-requires-in-passes-5 : goal.block-requires-in-passes-5
+block-requires-in-passes-5 g c =
+    block_left c.args.entries.now c.args.m c.passes.done 5 c.lane_entry-e5.result.now c.lane_entry-e5.ensures c.requires.rests refl c.passes-test.true
+
+pub block-requires-in-passes-6 : goal.block-requires-in-passes-6
+block-requires-in-passes-6 g c =
+    block_left c.args.entries.now c.args.m c.passes.done 6 c.lane_entry-e6.result.now c.lane_entry-e6.ensures c.requires.rests refl c.passes-test.true
+
+pub block-requires-in-passes-7 : goal.block-requires-in-passes-7
+block-requires-in-passes-7 g c =
+    block_left c.args.entries.now c.args.m c.passes.done 7 c.lane_entry-e7.result.now c.lane_entry-e7.ensures c.requires.rests refl c.passes-test.true
 
 pub passes-preserved : goal.passes-preserved
 passes-preserved g c i lt =
     let h = g.H.LaneHash.chaining in
     let es : List Going = c.args.entries.now in
     let d : ℕ = c.passes.done in
-    let at : Going → List ℕ = λ e. block_before h e (e.rest - d) in
-    let bs : List (List ℕ) = c.block.result.now ∷ c.block-in-passes.result.now ∷ c.block-in-passes-2.result.now ∷ c.block-in-passes-3.result.now
-    ∷ c.block-in-passes-4.result.now ∷ c.block-in-passes-5.result.now ∷ c.block-in-passes-6.result.now ∷ c.block-in-passes-7.result.now ∷ [] in
-    let b : List ℕ = slice_index_or bs i [] in
-    let is : b ≡ at (lane_going es i) = eight (λ j. slice_index_or bs j [] ≡ at (lane_going es j))
-    (c.block.ensures.block ∙ ap at c.lane_entry-e0.ensures)
-    (c.block-in-passes.ensures.block ∙ ap at c.lane_entry-e1.ensures)
-    (c.block-in-passes-2.ensures.block ∙ ap at c.lane_entry-e2.ensures)
-    (c.block-in-passes-3.ensures.block ∙ ap at c.lane_entry-e3.ensures)
-    (c.block-in-passes-4.ensures.block ∙ ap at c.lane_entry-e4.ensures)
-    (c.block-in-passes-5.ensures.block ∙ ap at c.lane_entry-e5.ensures)
-    (c.block-in-passes-6.ensures.block ∙ ap at c.lane_entry-e6.ensures)
-    (c.block-in-passes-7.ensures.block ∙ ap at c.lane_entry-e7.ensures) i (omega (arith, g.met.H.LaneHash.few)) in
-    c.compress.ensures i lt
-    ∙ ap₂ (λ s x. h.compress s x) (c.passes.invariant i lt) is
-    ∙ sym (chain_next h d (lane_going es i))
-
-pub block-requires-in-passes-2 : goal.block-requires-in-passes-2
-block-requires-in-passes-2 g c = rw c.lane_entry-e2.ensures (omega (arith, c.requires.rests 2 (omega arith)))
-
-pub block-requires-in-passes-3 : goal.block-requires-in-passes-3
-block-requires-in-passes-3 g c = rw c.lane_entry-e3.ensures (omega (arith, c.requires.rests 3 (omega arith)))
-
-pub block-requires-in-passes-4 : goal.block-requires-in-passes-4
-block-requires-in-passes-4 g c = rw c.lane_entry-e4.ensures (omega (arith, c.requires.rests 4 (omega arith)))
-
-pub block-requires-in-passes-5 : goal.block-requires-in-passes-5
-block-requires-in-passes-5 g c = rw c.lane_entry-e5.ensures (omega (arith, c.requires.rests 5 (omega arith)))
-
-pub block-requires-in-passes-6 : goal.block-requires-in-passes-6
-block-requires-in-passes-6 g c = rw c.lane_entry-e6.ensures (omega (arith, c.requires.rests 6 (omega arith)))
-
-pub block-requires-in-passes-7 : goal.block-requires-in-passes-7
-block-requires-in-passes-7 g c = rw c.lane_entry-e7.ensures (omega (arith, c.requires.rests 7 (omega arith)))
+    pass_led h es d
+    c.block.result.now
+    c.block-in-passes.result.now
+    c.block-in-passes-2.result.now
+    c.block-in-passes-3.result.now
+    c.block-in-passes-4.result.now
+    c.block-in-passes-5.result.now
+    c.block-in-passes-6.result.now
+    c.block-in-passes-7.result.now
+    (g.H.LaneHash.lane c.passes.states i) (g.H.LaneHash.lane c.compress.new.states i) i g.H.LaneHash.LANES lt g.met.H.LaneHash.few
+    (block_in_lane h es d 0 c.block.result.now c.lane_entry-e0.result.now c.block.ensures.block c.lane_entry-e0.ensures)
+    (block_in_lane h es d 1 c.block-in-passes.result.now c.lane_entry-e1.result.now c.block-in-passes.ensures.block c.lane_entry-e1.ensures)
+    (block_in_lane h es d 2 c.block-in-passes-2.result.now c.lane_entry-e2.result.now c.block-in-passes-2.ensures.block c.lane_entry-e2.ensures)
+    (block_in_lane h es d 3 c.block-in-passes-3.result.now c.lane_entry-e3.result.now c.block-in-passes-3.ensures.block c.lane_entry-e3.ensures)
+    (block_in_lane h es d 4 c.block-in-passes-4.result.now c.lane_entry-e4.result.now c.block-in-passes-4.ensures.block c.lane_entry-e4.ensures)
+    (block_in_lane h es d 5 c.block-in-passes-5.result.now c.lane_entry-e5.result.now c.block-in-passes-5.ensures.block c.lane_entry-e5.ensures)
+    (block_in_lane h es d 6 c.block-in-passes-6.result.now c.lane_entry-e6.result.now c.block-in-passes-6.ensures.block c.lane_entry-e6.ensures)
+    (block_in_lane h es d 7 c.block-in-passes-7.result.now c.lane_entry-e7.result.now c.block-in-passes-7.ensures.block c.lane_entry-e7.ensures)
+    (c.passes.invariant i lt) (c.compress.ensures i lt)
 
 pub returns : goal.returns
 returns g c i lt =

@@ -1,7 +1,17 @@
-use Rattle.std.proofs.Common.{◌∙◌, add-one, arith}
+use Rattle.std.proofs.Common.{refl, ◌∙◌, add-one, arith}
+use borrow.Author.Count.{falls}
 use Rattle.mbj_lane.proofs.Halfway.{get_or-halfway, set-halfway, halfway-all}
 use Rattle.mbj_hmac.specs.Rounds.{turned}
 use Rattle.mbj_hmac.proofs.kernel.turn_all.Goals as goal
+
+pub turns-init : goal.turns-init
+turns-init g c = refl
+
+pub bounds-entries-i : goal.bounds-entries-i
+bounds-entries-i g c = rw c.turns.auto.entries c.turns-test.true
+
+pub turns-smaller : goal.turns-smaller
+turns-smaller g c = falls _ c.turns.i c.turns-test.true
 
 pub turns-preserved : goal.turns-preserved
 turns-preserved g c =

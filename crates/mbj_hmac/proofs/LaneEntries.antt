@@ -1,0 +1,86 @@
+-- The entries that the lanes read, and the blocks of a pass over them.
+use Rattle.std.proofs.Common.{◌≡◌, ℕ, ◌+◌, ◌-◌, ◌≤◌, ◌<◌, nat_lt, List, [], ◌∷◌, All, length, get_or, set, Bool, true, false, refl, sym, ap, ap₂, ◌∙◌, add-one, arith}
+use Rattle.std.specs.Prelude.{if◌then◌else◌}
+use Rattle.std.proofs.lemmas.Bool.{ltb-true, lt-ltb}
+use Rattle.std.proofs.lemmas.List.{get_or_default}
+use Rattle.mbj_lane.specs.Rounds.{after}
+use Rattle.mbj_lane.proofs.Halfway.{halfway, get_or-halfway, set-halfway}
+use Rattle.mbj_hmac.specs.Rounds.{Chaining, Going, advanced, block_before}
+use Rattle.mbj_hmac.specs.Inside.Going.{blank, lane_going}
+use Rattle.mbj_hmac.proofs.Passes.{after_moved, chain_next, eight}
+
+-- what every entry has left, the entry of each lane has
+pub rests_in_lanes : (es : List Going) (m i : ℕ) → 0 < length es → All (λ e. m ≤ e.rest) es → m ≤ (lane_going es i).rest
+rests_in_lanes es m i some rests = go (nat_lt i (length es)) refl
+  where
+    go : (b : Bool) → nat_lt i (length es) ≡ b
+        → m ≤ (if b then get_or es i blank else get_or es (length es - 1) blank).rest
+    go true q = rests i blank (ltb-true i (length es) q)
+    go false q = rests (length es - 1) blank (omega arith)
+
+-- an entry is in a lane
+pub in_lane : (i many lanes : ℕ) → i < many → many ≤ lanes → i < lanes
+in_lane i many lanes lt few = omega arith
+
+-- a lane of an entry reads that one
+pub lane_going-inside : (es : List Going) (i : ℕ) (d : Going) → i < length es → lane_going es i ≡ get_or es i d
+lane_going-inside es i d lt = rw (lt-ltb i (length es) lt) (get_or_default es i blank d lt)
+
+-- the states of the lanes are those of the entries, of which there are at most as many
+pub states_of_entries : (h : Chaining) (lane : ℕ → List ℕ) (es : List Going) (m n : ℕ) → length es ≤ n
+    → ((i : ℕ) → i < n → lane i ≡ (after (advanced h) m (lane_going es i)).chain)
+    → (i : ℕ) (d : Going) → i < length es → lane i ≡ (after (advanced h) m (get_or es i d)).chain
+states_of_entries h lane es m n few led i d lt =
+    led i (omega arith) ∙ ap (λ (e : Going). (after (advanced h) m e).chain) (lane_going-inside es i d lt)
+
+-- the entry of one of eight lanes isn't done before round m
+pub block_left : (es : List Going) (m d i : ℕ) (e : Going) → e ≡ lane_going es i
+    → ((k : ℕ) → k < 8 → m ≤ (lane_going es k).rest) → nat_lt i 8 ≡ true → d < m → d < e.rest
+block_left es m d i e is rests few lt =
+    let left : m ≤ (lane_going es i).rest = rests i (ltb-true i 8 few) in rw is (omega arith)
+
+module _ (h : Chaining) (es : List Going) (d : ℕ) where
+  -- the block of lane i that comes after d others
+  abbrev pub IsBlock : ℕ → List ℕ → Type 0
+  IsBlock i b = b ≡ block_before h (lane_going es i) ((lane_going es i).rest - d)
+
+  -- that of the lane's entry
+  pub block_in_lane : (i : ℕ) (b : List ℕ) (e : Going) → b ≡ block_before h e (e.rest - d) → e ≡ lane_going es i → IsBlock i b
+  block_in_lane i b e block is = block ∙ ap (λ (x : Going). block_before h x (x.rest - d)) is
+
+  -- a pass leads the state of a lane by one block
+  pub pass_led : (b0 b1 b2 b3 b4 b5 b6 b7 now led : List ℕ) (i n : ℕ) → i < n → n ≤ 8
+      → IsBlock 0 b0 → IsBlock 1 b1 → IsBlock 2 b2 → IsBlock 3 b3 → IsBlock 4 b4 → IsBlock 5 b5 → IsBlock 6 b6 → IsBlock 7 b7
+      → now ≡ (after (advanced h) d (lane_going es i)).chain
+      → led ≡ h.compress now (get_or (b0 ∷ b1 ∷ b2 ∷ b3 ∷ b4 ∷ b5 ∷ b6 ∷ b7 ∷ []) i [])
+      → led ≡ (after (advanced h) (d + 1) (lane_going es i)).chain
+  pass_led b0 b1 b2 b3 b4 b5 b6 b7 now led i n lt few h0 h1 h2 h3 h4 h5 h6 h7 state next =
+      let bs : List (List ℕ) = b0 ∷ b1 ∷ b2 ∷ b3 ∷ b4 ∷ b5 ∷ b6 ∷ b7 ∷ [] in
+      let block : IsBlock i (get_or bs i []) =
+      eight (λ j. IsBlock j (get_or bs j [])) h0 h1 h2 h3 h4 h5 h6 h7 i (omega arith) in
+      next ∙ ap₂ (λ s x. h.compress s x) state block ∙ sym (chain_next h d (lane_going es i))
+
+-- the first i of the entries es are led by m rounds, and entry i is next
+module _ (h : Chaining) (m i : ℕ) (es now : List Going) (d : Going) where
+  abbrev pub Halfway : Type 0
+  Halfway = now ≡ halfway (after (advanced h) m) i es
+
+  same : Halfway → get_or now i d ≡ get_or es i d
+  same is = ap (λ (xs : List Going). get_or xs i d) is ∙ get_or-halfway (after (advanced h) m) i i es d (omega arith)
+
+  -- it has m rounds left
+  pub next_left : Halfway → i < length es → All (λ e. m ≤ e.rest) es → m ≤ (get_or now i d).rest
+  next_left is lt rests = rw (same is) (rests i d lt)
+
+  -- once it is led too, one entry more is
+  pub next_stored : (chain : List ℕ) (led : Going) → Halfway → i < length es → chain ≡ (after (advanced h) m (get_or es i d)).chain
+      → led ≡ record (get_or now i d) { chain = chain; rest = (get_or now i d).rest - m }
+      → set now i led ≡ halfway (after (advanced h) m) (i + 1) es
+  next_stored chain led is lt chain_is led_is =
+      let e : Going = get_or es i d in
+      let next : led ≡ after (advanced h) m e =
+      led_is
+      ∙ ap (λ (x : Going). record x { chain = chain; rest = x.rest - m }) (same is)
+      ∙ ap (λ c. record e { chain = c; rest = e.rest - m }) chain_is
+      ∙ sym (after_moved h m e) in
+      rw (next, is, add-one i) (set-halfway (after (advanced h) m) i es d lt)
