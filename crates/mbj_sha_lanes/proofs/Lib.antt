@@ -1,3 +1,4 @@
 pub mod ShortForms
 pub mod EightWords
+pub mod RoundNumbers
 pub mod Windows

@@ -1,5 +1,6 @@
 use Rattle.std.proofs.Common.{◌≡◌, ℕ, ◌+◌, ◌*◌, sym, arith}
 use Rattle.mbj_sha_lanes.specs.Sha2.{working_lane}
+use Rattle.mbj_sha_lanes.proofs.RoundNumbers.{two_on, next_eight}
 use Rattle.mbj_sha_lanes.proofs.scheduled.all_rounds.Goals as goal
 
 pub turns-init : goal.turns-init
@@ -9,9 +10,9 @@ pub turns-preserved : goal.turns-preserved
 turns-preserved g c i b lt words =
     let h = working_lane g.H.Sha2.lane c.args.start i in
     let t : ℕ = 8 * c.turns.turn in
-    let e4 : t + 2 + 2 ≡ t + 4 = omega arith in
-    let e6 : t + 4 + 2 ≡ t + 6 = omega arith in
-    let next : t + 6 + 2 ≡ 8 * (c.turns.turn + 1) = omega arith in
+    let e4 : t + 2 + 2 ≡ t + 4 = two_on t 2 in
+    let e6 : t + 4 + 2 ≡ t + 6 = two_on t 4 in
+    let next : t + 6 + 2 ≡ 8 * (c.turns.turn + 1) = next_eight c.turns.turn in
     let r2 = c.two_steps-v.ensures i b h lt words (c.turns.invariant i b lt words) in
     let r4 = rw e4 at (c.two_steps-v-in-turns.ensures i b h lt words r2) in
     let r6 = rw e6 at (c.two_steps-v-in-turns-2.ensures i b h lt words r4) in

@@ -1,5 +1,6 @@
 use Rattle.std.proofs.Common.{◌≡◌, ℕ, ◌+◌, ◌*◌, sym, arith}
 use Rattle.mbj_sha_lanes.specs.Sha2.{working_lane}
+use Rattle.mbj_sha_lanes.proofs.RoundNumbers.{two_on, next_sixteen}
 use Rattle.mbj_sha_lanes.proofs.Windows.{window_of}
 use Rattle.mbj_sha_lanes.proofs.windowed.all_rounds.Goals as goal
 
@@ -24,13 +25,13 @@ pub turns-preserved : goal.turns-preserved
 turns-preserved g c i b lt words =
     let h = working_lane g.H.Sha2.lane c.args.start i in
     let t : ℕ = 16 * c.turns.turn in
-    let e4 : t + 2 + 2 ≡ t + 4 = omega arith in
-    let e6 : t + 4 + 2 ≡ t + 6 = omega arith in
-    let e8 : t + 6 + 2 ≡ t + 8 = omega arith in
-    let e10 : t + 8 + 2 ≡ t + 10 = omega arith in
-    let e12 : t + 10 + 2 ≡ t + 12 = omega arith in
-    let e14 : t + 12 + 2 ≡ t + 14 = omega arith in
-    let next : t + 14 + 2 ≡ 16 * (c.turns.turn + 1) = omega arith in
+    let e4 : t + 2 + 2 ≡ t + 4 = two_on t 2 in
+    let e6 : t + 4 + 2 ≡ t + 6 = two_on t 4 in
+    let e8 : t + 6 + 2 ≡ t + 8 = two_on t 6 in
+    let e10 : t + 8 + 2 ≡ t + 10 = two_on t 8 in
+    let e12 : t + 10 + 2 ≡ t + 12 = two_on t 10 in
+    let e14 : t + 12 + 2 ≡ t + 14 = two_on t 12 in
+    let next : t + 14 + 2 ≡ 16 * (c.turns.turn + 1) = next_sixteen c.turns.turn in
     let r2 = c.two_steps-v.ensures i b h lt (c.turns.invariant i b lt words) in
     let r4 = rw e4 at (c.two_steps-v-in-turns.ensures i b h lt r2) in
     let r6 = rw e6 at (c.two_steps-v-in-turns-2.ensures i b h lt r4) in
