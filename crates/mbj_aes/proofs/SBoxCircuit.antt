@@ -1,7 +1,8 @@
 -- The circuits are the S-box and the inverse S-box: computed at each byte.
-use Rattle.std.proofs.Common.{◌≡◌, ℕ, ◌<◌, refl}
-use Rattle.mbj_types.specs.Aes.{times, power, sub_byte, inv_sub_byte}
+use Rattle.std.proofs.Common.{◌≡◌, ℕ, ◌<◌, refl, sym, ◌∙◌}
+use Rattle.mbj_types.specs.Aes.{times, affine_bits, inv_affine_bits, sub_byte, inv_sub_byte}
 use Rattle.mbj_aes.proofs.ByteCases.{same_at_each}
+use Rattle.mbj_aes.proofs.ByteMaps.{inverse, sub_byte_is, inv_sub_byte_is}
 use Rattle.mbj_aes.proofs.Octets.{AreBits, by_bytes}
 use Rattle.mbj_aes.specs.declared.octet.Octet.{Octet}
 use Rattle.mbj_aes.specs.Planes.Gates.{nth_bit}
@@ -9,15 +10,19 @@ use Rattle.mbj_aes.specs.Planes.Bytes.{byte_of, bits_of}
 use Rattle.mbj_aes.specs.Planes.Circuit.{top_bits, middle_bits, product_bits, bottom_bits, circuit_bits, inv_top_bits, inv_bottom_bits, inv_circuit_bits}
 
 circuit_of_byte : (x : ℕ) → x < 256 → byte_of (circuit_bits (bits_of x)) ≡ sub_byte x
-unfolding nth_bit top_bits middle_bits product_bits bottom_bits times power sub_byte
-circuit_of_byte x h = same_at_each (λ x. byte_of (circuit_bits (bits_of x))) sub_byte 256 x refl h
+unfolding nth_bit top_bits middle_bits product_bits bottom_bits times
+circuit_of_byte x h =
+    same_at_each (λ x. byte_of (circuit_bits (bits_of x))) (λ x. affine_bits (inverse x) 8) 256 x refl h
+    ∙ sym (sub_byte_is x h)
 
 pub circuit_is : (q : Octet ℕ) → AreBits q → byte_of (circuit_bits q) ≡ sub_byte (byte_of q)
 circuit_is q b = by_bytes (λ q. byte_of (circuit_bits q)) sub_byte q circuit_of_byte b
 
 inv_circuit_of_byte : (x : ℕ) → x < 256 → byte_of (inv_circuit_bits (bits_of x)) ≡ inv_sub_byte x
-unfolding nth_bit inv_top_bits middle_bits product_bits inv_bottom_bits times power inv_sub_byte
-inv_circuit_of_byte x h = same_at_each (λ x. byte_of (inv_circuit_bits (bits_of x))) inv_sub_byte 256 x refl h
+unfolding nth_bit inv_top_bits middle_bits product_bits inv_bottom_bits times
+inv_circuit_of_byte x h =
+    same_at_each (λ x. byte_of (inv_circuit_bits (bits_of x))) (λ x. inverse (inv_affine_bits x 8)) 256 x refl h
+    ∙ sym (inv_sub_byte_is x)
 
 pub inv_circuit_is : (q : Octet ℕ) → AreBits q → byte_of (inv_circuit_bits q) ≡ inv_sub_byte (byte_of q)
 inv_circuit_is q b = by_bytes (λ q. byte_of (inv_circuit_bits q)) inv_sub_byte q inv_circuit_of_byte b
