@@ -1,18 +1,18 @@
-use Rattle.std.proofs.Common.{◌∙◌, ap, ap₂, true}
+use Rattle.std.proofs.Common.{◌∙◌, ap, ap₂, [], ◌∷◌}
+use Rattle.std.specs.Prelude.{codes}
 use Rattle.std.proofs.lemmas.Result.{IfOk-weaker}
-use Rattle.clap.specs.Words.{App, with_subcommand}
-use Rattle.clap.specs.Simple.{app_of_fields}
+use Rattle.clap.specs.Words.{App, Shape}
+use Rattle.clap.specs.Simple.{with_subcommand}
+use Rattle.mbj_command.specs.Command.{jobs, seed, shape, submitters, workers}
 use Rattle.mbj_command.proofs.command_set.command_set.Goals as goal
 
 pub returns : goal.returns
 returns c =
-    let versioned : App → App = λ a. record a { top = record a.top { has_version = true } } in
-    let wanting : App → App = λ a. record a { top = record a.top { subcommand_required = true } } in
-    let top = ap app_of_fields c.subcommand_required.ensures
-    ∙ ap wanting (ap app_of_fields c.version.ensures ∙ ap versioned (ap app_of_fields c.after_help.ensures ∙ ap app_of_fields c.about.ensures ∙ c.new.ensures.app)) in
-    let one = c.in_ok-subcommand.ensures.shape c.in_ok-run_command.ensures.local
-    ∙ ap₂ with_subcommand top c.in_ok-run_command.ensures.shape in
-    let two = c.in_ok-subcommand-2.ensures.shape c.trace_command.ensures.local ∙ ap₂ with_subcommand one c.trace_command.ensures.shape in
-    let three = c.in_ok-subcommand-3.ensures.shape c.in_ok-gen_command.ensures.local ∙ ap₂ with_subcommand two c.in_ok-gen_command.ensures.shape in
-    IfOk-weaker c.subcommand-4.result _ _ (λ r adds. adds.shape c.in_ok-replay_command.ensures.local
-    ∙ ap₂ with_subcommand three c.in_ok-replay_command.ensures.shape) c.subcommand-4.ensures
+    let run : Shape = shape (codes "run") (submitters ∷ workers ∷ []) in
+    let gen : Shape = shape (codes "gen") (seed ∷ jobs ∷ submitters ∷ workers ∷ []) in
+    let replay : Shape = shape (codes "replay") (submitters ∷ workers ∷ []) in
+    let one = c.in_ok-set.ensures run c.run_command.ensures.shape ∙ ap (λ (a : App). with_subcommand a run) c.program.ensures in
+    let two = c.in_ok-set-2.ensures.shape c.trace_command.ensures.local ∙ ap₂ with_subcommand one c.trace_command.ensures.shape in
+    let three = c.in_ok-set-3.ensures gen c.gen_command.ensures.shape ∙ ap (λ (a : App). with_subcommand a gen) two in
+    IfOk-weaker c.with_command-3.result _ _ (λ r is. is ∙ ap (λ (a : App). with_subcommand a replay) three)
+    (c.with_command-3.ensures replay c.replay_command.ensures.shape)
