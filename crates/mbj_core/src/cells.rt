@@ -39,6 +39,13 @@ pub(crate) enum Slot {
 }
 
 impl Slot {
+    /// Puts this into the cell, in the place of what it holds.
+    pub(crate) fn put(&mut self, slot: Slot)
+        ensures { self.new ≡ slot }
+    {
+        *self = slot;
+    }
+
     /// Gives a job that no party has claimed to a party. `false` exactly where there is none; then nothing changes.
     pub(crate) fn hold(&mut self, party: u32) -> bool
         ensures { MatchBool result
@@ -47,11 +54,11 @@ impl Slot {
     {
         match mem::replace(self, Slot::Free) {
             Slot::Ready(job) => {
-                *self = Slot::Held { party, job };
+                self.put(Slot::Held { party, job });
                 true
             }
             other => {
-                *self = other;
+                self.put(other);
                 false
             }
         }
@@ -78,7 +85,7 @@ impl Slot {
         match mem::replace(self, Slot::Free) {
             Slot::Done(done) => Some(done),
             other => {
-                *self = other;
+                self.put(other);
                 None
             }
         }

@@ -122,7 +122,7 @@ impl Core {
             return Err(PostFull(job));
         }
         let next = cell_at(s, out.first + out.count);
-        self.cells[next as usize] = Slot::Ready(job);
+        self.cells[next as usize].put(Slot::Ready(job));
         self.outs[submitter] = JobsOut {
             count: out.count + 1,
             ..out
@@ -165,7 +165,7 @@ impl Core {
         ensures leads { Leads self.old (finish p cell done) accepted self.new }
     {
         self.hands[p as usize].take_out(cell);
-        self.cells[cell as usize] = Slot::Done(done);
+        self.cells[cell as usize].put(Slot::Done(done));
     }
 
     /// Takes the result of a submitter's earliest job that is out. `None` exactly where none is out or the earliest

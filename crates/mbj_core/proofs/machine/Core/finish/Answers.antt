@@ -13,15 +13,15 @@ invariant_of-self c =
       outs = is.outs;
       each_first = is.each_first;
       each_out = is.each_out;
-      backed = (after_finish c.self.inside is c.args.p c.args.cell c.args.done c.index_mut.result.now c.take_out.new.self near held c.index_mut.ensures.value c.take_out.ensures).1;
+      backed = rw c.put.ensures (after_finish c.self.inside is c.args.p c.args.cell c.args.done c.index_mut.result.now c.take_out.new.self near held c.index_mut.ensures.value c.take_out.ensures).1;
     }
 
 pub returns-clause-finished : goal.returns-clause-finished
 returns-clause-finished c =
     let near = rw (← c.self.view_is) at c.requires.party in let held = rw (← c.self.view_is) at c.requires.held in
-    rw (← c.self.view_is) (after_finish c.self.inside c.self.invariant c.args.p c.args.cell c.args.done c.index_mut.result.now c.take_out.new.self near held c.index_mut.ensures.value c.take_out.ensures).0
+    rw (← c.self.view_is, c.put.ensures) (after_finish c.self.inside c.self.invariant c.args.p c.args.cell c.args.done c.index_mut.result.now c.take_out.new.self near held c.index_mut.ensures.value c.take_out.ensures).0
 
 pub returns-clause-leads : goal.returns-clause-leads
 returns-clause-leads c =
     let near = rw (← c.self.view_is) at c.requires.party in let held = rw (← c.self.view_is) at c.requires.held in
-    rw (← c.self.view_is) (after_finish c.self.inside c.self.invariant c.args.p c.args.cell c.args.done c.index_mut.result.now c.take_out.new.self near held c.index_mut.ensures.value c.take_out.ensures).2
+    rw (← c.self.view_is, c.put.ensures) (after_finish c.self.inside c.self.invariant c.args.p c.args.cell c.args.done c.index_mut.result.now c.take_out.new.self near held c.index_mut.ensures.value c.take_out.ensures).2

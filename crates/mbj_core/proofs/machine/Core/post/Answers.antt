@@ -20,17 +20,17 @@ invariant_of-self c =
       each_first = All-set (λ (o : JobsOut). o.first < SUBMITTER_CELLS) a.outs.items s (one_more out)
           (first_within a is s out near c.index-out.ensures) is.each_first;
       each_out = All-set (λ (o : JobsOut). o.count ≤ SUBMITTER_CELLS) a.outs.items s (one_more out) (omega arith) is.each_out;
-      backed = (after_post a is s c.cell_at-next.result out c.args.job near c.cell_at-next.ensures c.index-out.ensures c.if-out-eq-SUBMITTER_CELLS.false).1;
+      backed = rw c.put.ensures (after_post a is s c.cell_at-next.result out c.args.job near c.cell_at-next.ensures c.index-out.ensures c.if-out-eq-SUBMITTER_CELLS.false).1;
     }
 
 pub returns-clause-posted : goal.returns-clause-posted
 returns-clause-posted c =
     let near = rw (← c.self.view_is) at c.requires.submitter in
-    rw (← c.self.view_is) (after_post c.self.inside c.self.invariant c.args.s c.cell_at-next.result c.index-out.result.now c.args.job near
+    rw (← c.self.view_is, c.put.ensures) (after_post c.self.inside c.self.invariant c.args.s c.cell_at-next.result c.index-out.result.now c.args.job near
     c.cell_at-next.ensures c.index-out.ensures c.if-out-eq-SUBMITTER_CELLS.false).0
 
 pub returns-clause-leads : goal.returns-clause-leads
 returns-clause-leads c =
     let near = rw (← c.self.view_is) at c.requires.submitter in
-    rw (← c.self.view_is) (after_post c.self.inside c.self.invariant c.args.s c.cell_at-next.result c.index-out.result.now c.args.job near
+    rw (← c.self.view_is, c.put.ensures) (after_post c.self.inside c.self.invariant c.args.s c.cell_at-next.result c.index-out.result.now c.args.job near
     c.cell_at-next.ensures c.index-out.ensures c.if-out-eq-SUBMITTER_CELLS.false).2
