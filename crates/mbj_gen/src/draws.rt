@@ -5,7 +5,7 @@ use mbj_types::Bytes;
 use std::alloc::{AllocError, Global};
 
 /// Draws bytes: a linear congruential generator of 64 bits, of whose states each shows its highest byte.
-#[derive(Clone, Copy, Debug, PartialEq, Eq)]
+#[derive(Drop)]
 pub(crate) struct Draws {
     pub(crate) state: u64,
 }
