@@ -1,5 +1,5 @@
 ghost use Rattle.std.specs.Prelude.{◌≡◌, ◌≤◌, ◌==◌, ◌%◌, ℕ, IfOk, OnErr, OnOk, if◌then◌else◌};
-ghost use Rattle.mbj_gen.specs.Generator.{authenticated_by, bare, cipher_length, ciphered_by, hashed, iv_length, job, keyed, recipe_of};
+ghost use Rattle.mbj_gen.specs.Generator.{authenticated_by, bare, byte, cipher_length, ciphered_by, draws as drawn, hashed, iv_length, job, keyed, recipe_of};
 
 use crate::draws::Draws;
 use mbj_types::{Auth, Cipher, Dir, Job, Order};
@@ -217,6 +217,26 @@ fn draw_bare(draws: &mut Draws, alloc: Global) -> Job
     }
 }
 
+/// Draws the parts of a job whose packet has `length` bytes: what its cipher and its authentication need, and the packet.
+fn draw_parts(
+    draws: &mut Draws,
+    alloc: Global,
+    length: u32,
+    job: &mut Job,
+) -> Result<(), AllocError>
+    requires { 16 ≤ length }
+    ensures { OnOk result (
+        let ciphered = ciphered_by job.old.cipher length job.old draws.old.state in
+        let authenticated = authenticated_by ciphered.0.auth length ciphered.0 ciphered.1 in
+        let packet = drawn byte length authenticated.1 in
+        (job.new ≡ record authenticated.0 { packet = packet.0 }) × (draws.new.state ≡ packet.1)) }
+{
+    draw_cipher(draws, alloc, length, job)?;
+    draw_auth(draws, alloc, length, job)?;
+    job.packet = draws.bytes(alloc, length as usize)?;
+    Ok(())
+}
+
 /// Draws a job. After `AllocError` the state is any.
 #[tactic(auto, unfolding(crate::specs::Generator::job))]
 fn draw_job(draws: &mut Draws, alloc: Global) -> Result<Job, AllocError>
@@ -225,9 +245,7 @@ fn draw_job(draws: &mut Draws, alloc: Global) -> Result<Job, AllocError>
     let mut job = draw_bare(draws, alloc);
     let blocks = 1 + (draws.byte() % MOST_BLOCKS) as u32;
     let length = BLOCK_BYTES as u32 * blocks;
-    draw_cipher(draws, alloc, length, &mut job)?;
-    draw_auth(draws, alloc, length, &mut job)?;
-    job.packet = draws.bytes(alloc, length as usize)?;
+    draw_parts(draws, alloc, length, &mut job)?;
     Ok(job)
 }
 
