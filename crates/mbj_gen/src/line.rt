@@ -1,3 +1,5 @@
+ghost use Rattle.std.specs.Prelude.{◌≡◌};
+ghost use Rattle.mbj_text.specs.Line.{line_of};
 ghost use Rattle.mbj_gen.specs.Lines.{line_text};
 
 use mbj_io::{Failed, Sink};
@@ -18,29 +20,25 @@ pub enum SummaryLine {
     Sha256([u8; 32]),
 }
 
+impl SummaryLine {
+    /// The word that the line begins with, and what stands behind it.
+    fn parts(&self) -> [Part<'_>; 2]
+        ensures { line_of result ≡ line_text self.now }
+    {
+        match self {
+            SummaryLine::Jobs(count) => [Part::Words("jobs "), Part::Number(*count as u64)],
+            SummaryLine::Accepted(count) => [Part::Words("ok "), Part::Number(*count as u64)],
+            SummaryLine::Invalid(count) => [Part::Words("invalid "), Part::Number(*count as u64)],
+            SummaryLine::Bytes(count) => [Part::Words("bytes "), Part::Number(*count)],
+            SummaryLine::Sha256(digest) => [Part::Words("sha256 "), Part::Hex(digest)],
+        }
+    }
+}
+
 impl TextLine for SummaryLine {
     ghost text = { line_text };
 
     fn write<O: Sink>(&self, sink: &mut O) -> Result<(), Failed> {
-        match self {
-            SummaryLine::Jobs(count) => write_line(
-                sink,
-                &[Part::Words("jobs "), Part::Number(*count as u64)],
-            ),
-            SummaryLine::Accepted(count) => write_line(
-                sink,
-                &[Part::Words("ok "), Part::Number(*count as u64)],
-            ),
-            SummaryLine::Invalid(count) => write_line(
-                sink,
-                &[Part::Words("invalid "), Part::Number(*count as u64)],
-            ),
-            SummaryLine::Bytes(count) => {
-                write_line(sink, &[Part::Words("bytes "), Part::Number(*count)])
-            }
-            SummaryLine::Sha256(digest) => {
-                write_line(sink, &[Part::Words("sha256 "), Part::Hex(digest)])
-            }
-        }
+        write_line(sink, &self.parts())
     }
 }
