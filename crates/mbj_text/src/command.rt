@@ -12,7 +12,7 @@ pub enum Cmd {
 }
 
 /// The word that a script line begins with.
-#[derive(Clone, Copy, Debug)]
+#[derive(Clone, Copy)]
 pub(crate) enum Verb {
     Post,
     Claim,

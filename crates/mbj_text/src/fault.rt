@@ -40,7 +40,7 @@ impl fmt::Display for TextFault {
 impl Error for TextFault {}
 
 /// Why a line isn't read.
-#[derive(Clone, Copy, Debug, PartialEq, Eq)]
+#[derive(Clone, Copy)]
 pub(crate) enum LineFault {
     /// The field with this number, as in `TextFault`.
     Field(u32),

@@ -10,7 +10,7 @@ use crate::split::Split;
 use std::marker::Model;
 
 /// Where the job lines of a file end.
-#[derive(Clone, Copy, Debug)]
+#[derive(Clone, Copy)]
 pub(crate) enum JobsEnd {
     /// At the end of the file.
     File,

@@ -12,7 +12,7 @@ pub(crate) const PIECE_LEN: usize = 64;
 
 /// Text on its way to a sink, in pieces of [`PIECE_LEN`] bytes, the last one shorter. What a write
 /// leaves of a piece is offered again before the next piece. Contracts see the text that waits.
-#[derive(Debug, Drop)]
+#[derive(Drop)]
 pub(crate) struct Piece {
     bytes: [u8; PIECE_LEN],
     len: usize,
