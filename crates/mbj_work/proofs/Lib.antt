@@ -1,6 +1,7 @@
 pub mod Deals
 mod Lists
 pub mod Hands
+pub mod Keeping
 pub mod Rounds
 pub mod Collecting
 pub mod Crews

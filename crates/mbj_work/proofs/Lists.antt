@@ -1,5 +1,5 @@
 -- Results beside the jobs that are left, and lists of lists.
-use Rattle.std.proofs.Common.{◌≡◌, ℕ, ◌+◌, ◌≤◌, ◌<◌, suc, List, [], ◌∷◌, ◌++◌, length, map, get_or, slice_index_or, Vec, Global, Result, Ok, Err, IfOk, refl, ap, sym, ◌∙◌, arith, length-append}
+use Rattle.std.proofs.Common.{◌≡◌, ℕ, ◌+◌, ◌≤◌, ◌<◌, suc, List, [], ◌∷◌, ◌++◌, length, map, get_or, slice_index_or, Vec, Global, Result, Ok, Err, IfOk, refl, ap, sym, ◌∙◌, arith, length-append, append_assoc}
 use Rattle.std.proofs.lemmas.List.{length-map}
 use Rattle.std.proofs.lemmas.Simd.{map-map}
 use Rattle.mbj_types.specs.declared.job.Job.{Job}
@@ -48,3 +48,9 @@ results-of-tasks tasks lists (Err e) have len each = len
 results-of-tasks tasks lists (Ok rs) have len each =
     results-of-lists (λ t. t.jobs.items) (λ l. l.items) (λ r. r.items) tasks.items lists.items rs.items have
     (maps-alike (λ r. r.items) (λ t. map result_of t.jobs.items) rs.items tasks.items len each)
+
+-- one item more is done of those that are left
+pub moves-on : {A C : Type 0} (f : A → C) (done done' : List C) (left left' : List A) (a : A) (all : List C)
+    → done ++ map f left ≡ all → left ≡ a ∷ left' → done' ≡ done ++ f a ∷ [] → done' ++ map f left' ≡ all
+moves-on f done done' left left' a all was steps more =
+    ap (λ l. l ++ map f left') more ∙ append_assoc done (f a ∷ []) (map f left') ∙ ap (λ l. done ++ map f l) (sym steps) ∙ was

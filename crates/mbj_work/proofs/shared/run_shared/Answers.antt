@@ -18,3 +18,6 @@ returns g c =
     ap (λ l. map (λ r. r.items) l) c.results_of.ensures ∙ map-map (λ r. r.items) (λ s. s.results) c.run_beside-done.result.items
     ∙ results_of_all c.in_ok-submitters.submitters.items c.run_beside-done.result.items c.args.lists.items c.in_ok-submitters.ensures.jobs
     c.run_beside-done.ensures
+
+pub make_workers-requires : goal.make_workers-requires
+make_workers-requires g c = (_, c.in_ok-submitters.ensures.rest)

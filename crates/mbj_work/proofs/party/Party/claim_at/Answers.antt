@@ -1,8 +1,9 @@
-use Rattle.std.proofs.Common.{[], ◌∷◌, ◌++◌, sym, ap, ◌∙◌}
+use Rattle.std.proofs.Common.{[], ◌∷◌, ◌++◌, refl, sym, ap, ◌∙◌}
 use Rattle.mbj_types.specs.Result.{result_of}
 use Rattle.mbj_front.specs.Seats.{view_of}
 use Rattle.mbj_work.specs.Inside.Holding.{results_in}
 use Rattle.mbj_work.proofs.Hands.{first_of, left_of, results_with}
+use Rattle.mbj_work.proofs.Keeping.{keeps_on, keeps_looking, keeps_claiming, keeps_finishing}
 use Rattle.mbj_work.proofs.party.Party.claim_at.Goals as goal
 
 pub finish_first-requires-clause-first : goal.finish_first-requires-clause-first
@@ -22,3 +23,20 @@ invariant_of-self-in-Some g c = let v = view_of c.args.self.now.seat in let d = 
         left.first ∙ ap (λ w. results_in w.hand) (sym left.part);
   };
 }
+
+pub returns-in-Err-clause-part : goal.returns-in-Err-clause-part
+returns-in-Err-clause-part g c = (c.in-Err.ensures.view, refl)
+
+pub returns-in-Err-clause-due : goal.returns-in-Err-clause-due
+returns-in-Err-clause-due g c =
+    keeps_looking (view_of c.args.self.now.seat) (view_of c.try_claim.new.seat) ((c.args.cell, c.in-Err.word) ∷ []) c.args.self.now.holds.rest c.in-Err.ensures.view
+
+pub returns-in-Some-clause-due : goal.returns-in-Some-clause-due
+returns-in-Some-clause-due g c =
+    let v = view_of c.args.self.now.seat in let w = view_of c.try_claim.new.seat in let left = c.finish_first.ensures.part in
+    let claimed = keeps_claiming v w c.args.cell (result_of c.in-Ok.job) c.args.self.now.holds.rest c.in-Ok.ensures.view in
+    keeps_on v w (view_of c.finish_first.new.seat) claimed (keeps_finishing w (view_of c.finish_first.new.seat) left.more claimed.1 left.part)
+
+pub returns-in_default-clause-due : goal.returns-in_default-clause-due
+returns-in_default-clause-due g c =
+    keeps_claiming (view_of c.args.self.now.seat) (view_of c.try_claim.new.seat) c.args.cell (result_of c.in-Ok.job) c.args.self.now.holds.rest c.in-Ok.ensures.view

@@ -1,5 +1,6 @@
-use Rattle.std.proofs.Common.{refl}
+use Rattle.std.proofs.Common.{[], ◌∷◌, refl}
 use Rattle.mbj_front.specs.Seats.{view_of}
+use Rattle.mbj_work.proofs.Keeping.{keeps_on, keeps_looking}
 use Rattle.mbj_work.proofs.Rounds.{passes_on}
 use Rattle.mbj_work.proofs.party.Party.hunt.Goals as goal
 
@@ -9,3 +10,12 @@ loop-i-preserved c = let was = c.loop-i.invariant in record {
   manager = was.manager;
   passed = passes_on c.cells-cells.result c.args.from c.loop-i.i _ c.scan.result (view_of c.args.self.now.seat) (view_of c.loop-i.self.seat) _ was.passed refl c.scan.ensures.view c.if-scan-eq-READY.false;
 }
+
+pub returns-then-scan-eq-READY-clause-due : goal.returns-then-scan-eq-READY-clause-due
+returns-then-scan-eq-READY-clause-due c =
+    let v = view_of c.args.self.now.seat in let w = view_of c.loop-i.self.seat in let u = view_of c.scan.new.seat in
+    keeps_on v w u (keeps_looking v w _ c.args.self.now.holds.rest c.loop-i.invariant.passed.3) (keeps_looking w u ((_, _) ∷ []) c.loop-i.self.holds.rest c.scan.ensures.view)
+
+pub returns-clause-due : goal.returns-clause-due
+returns-clause-due c =
+    keeps_looking (view_of c.args.self.now.seat) (view_of c.loop-i.self.seat) _ c.args.self.now.holds.rest c.loop-i.invariant.passed.3

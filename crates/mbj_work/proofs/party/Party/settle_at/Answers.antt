@@ -1,8 +1,13 @@
 use Rattle.std.proofs.Common.{◌∙◌}
 use Rattle.mbj_front.specs.Seats.{view_of}
 use Rattle.mbj_work.proofs.Hands.{first_of}
+use Rattle.mbj_work.proofs.Keeping.{keeps_finishing}
 use Rattle.mbj_work.proofs.party.Party.settle_at.Goals as goal
 
 pub finish_first-requires-clause-first : goal.finish_first-requires-clause-first
 finish_first-requires-clause-first g c = first_of (view_of c.args.self.now.seat).hand c.in-Some.done c.flush.new.self.owed
     (c.in-Some.ensures.order ∙ c.args.self.now.holds.owed_is)
+
+pub returns-clause-due : goal.returns-clause-due
+returns-clause-due g c = let left = c.finish_first.ensures.part in
+    keeps_finishing (view_of c.args.self.now.seat) (view_of c.finish_first.new.seat) left.more c.args.self.now.holds.rest left.part

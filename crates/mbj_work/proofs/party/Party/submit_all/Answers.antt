@@ -1,4 +1,5 @@
-use Rattle.std.proofs.Common.{◌≡◌, ℕ, ◌+◌, ◌-◌, List, length, map, drop, length-append, length-drop, ap, ◌∙◌, arith}
+use Rattle.std.proofs.Common.{◌≡◌, ℕ, ◌+◌, ◌-◌, List, [], ◌∷◌, ◌++◌, length, map, drop, length-append, length-drop, append_assoc, sym, ap, ◌∙◌, arith}
+use Rattle.std.proofs.lemmas.List.{map-append}
 use Rattle.std.proofs.lemmas.Iterator.Consumers.{YieldsList-turn, YieldsList-end}
 use Rattle.std.proofs.lemmas.Iterator.Adapters.{YieldsList-from_vec}
 use lib.ListN.{length-map}
@@ -21,3 +22,16 @@ pub drain-requires-clause-room : goal.drain-requires-clause-room
 drain-requires-clause-room g c = let inv = c.loop-job.invariant in
     let t = YieldsList-end (YieldsList-from_vec {s = c.into_iter-job-iterator.result} c.args.jobs.items c.into_iter-job-iterator.ensures.into_iter_gives.0 (c.into_iter-job-iterator.ensures.into_iter_gives.1 ∙ c.args.jobs.ok.0)) c.loop-job.yielded c.loop-job.job-iterator c.loop-job.yielded_by c.next.result c.next.new.self c.in-None.is c.next.ensures.steps in
     omega (arith, c.requires.room, inv.capacity, counted c.loop-job.results.items (view_of c.loop-job.self.seat), ap length inv.results, length-append (with_due c.args.results.now.items (view_of c.args.self.now.seat)) (map result_of c.loop-job.yielded), length-map c.loop-job.yielded result_of, t.1)
+
+pub loop-job-preserved : goal.loop-job-preserved
+loop-job-preserved g c =
+    let was = c.loop-job.invariant in let told = c.post_with_room.ensures in
+    let due = with_due c.args.results.now.items (view_of c.args.self.now.seat) in let given = result_of c.in-Some.job ∷ [] in record {
+      next = tt;
+      finite = tt;
+      front = told.front;
+      number = told.number ∙ was.number;
+      capacity = told.room ∙ was.capacity;
+      results = told.results ∙ ap (λ l. l ++ given) was.results ∙ append_assoc due (map result_of c.loop-job.yielded) given
+          ∙ ap (λ l. due ++ l) (sym (map-append result_of c.loop-job.yielded (c.in-Some.job ∷ [])));
+    }

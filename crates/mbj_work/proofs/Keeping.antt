@@ -1,0 +1,29 @@
+-- What is due stays as it is from one step of a party to another.
+use Rattle.std.proofs.Common.{◌≡◌, ℕ, List, [], ◌++◌, sym, ap, ◌∙◌, append-nil, append_assoc}
+use Rattle.mbj_core.specs.declared.party.View.{View}
+use Rattle.mbj_core.specs.declared.party.Phase.TheVariants.{Rest}
+use Rattle.mbj_front.specs.Views.{after_claim, after_finish}
+use Rattle.mbj_work.specs.Hunts.{after_looks}
+use Rattle.mbj_work.specs.Parties.{KeepsDue}
+
+-- one stretch after another
+pub keeps_on : {D : Type 0} (u v w : View D) → KeepsDue u v → KeepsDue v w → KeepsDue u w
+keeps_on u v w p q = (
+  q.0 ∙ p.0,
+  q.1,
+  q.2 ∙ p.2,
+  q.3 ∙ p.3,
+  (p.4.0 ++ q.4.0, q.4.1 ∙ ap (λ l. l ++ q.4.0) p.4.1 ∙ append_assoc u.looks p.4.0 q.4.0),
+)
+
+pub keeps_looking : {D : Type 0} (v w : View D) (looks : List (ℕ × ℕ)) → v.phase ≡ Rest → w ≡ after_looks v looks → KeepsDue v w
+keeps_looking v w looks rest is =
+    (ap (λ u. u.number) is, ap (λ u. u.phase) is ∙ rest, ap (λ u. u.due) is, ap (λ u. u.handed) is, (looks, ap (λ u. u.looks) is))
+
+pub keeps_claiming : {D : Type 0} (v w : View D) (cell : ℕ) (d : D) → v.phase ≡ Rest → w ≡ after_claim v cell d → KeepsDue v w
+keeps_claiming v w cell d rest is =
+    (ap (λ u. u.number) is, ap (λ u. u.phase) is ∙ rest, ap (λ u. u.due) is, ap (λ u. u.handed) is, (_, ap (λ u. u.looks) is))
+
+pub keeps_finishing : {D : Type 0} (v w : View D) (hand : List (ℕ × D)) → v.phase ≡ Rest → w ≡ after_finish v hand → KeepsDue v w
+keeps_finishing v w hand rest is =
+    (ap (λ u. u.number) is, ap (λ u. u.phase) is ∙ rest, ap (λ u. u.due) is, ap (λ u. u.handed) is, ([], ap (λ u. u.looks) is ∙ sym (append-nil v.looks)))
