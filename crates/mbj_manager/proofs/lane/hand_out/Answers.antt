@@ -3,7 +3,7 @@ use Rattle.mbj_lane.specs.Rounds.{end_of}
 use Rattle.mbj_stage.specs.Handing.{handed_out}
 use Rattle.mbj_manager.specs.Inside.Courses.{number_in}
 use Rattle.mbj_manager.specs.Inside.Leaving.{Gives, IsNext}
-use Rattle.mbj_manager.proofs.RingCourses.{at-cell, cell-at, courses-set, going-at, live}
+use Rattle.mbj_manager.proofs.RingCourses.{at-cell, cell-at, courses-set, going-at, live, same-ring}
 use Rattle.mbj_manager.proofs.lane.hand_out.Goals as goal
 
 pub at_mut-cell-requires : goal.at_mut-cell-requires
@@ -18,6 +18,11 @@ pub hand_out-requires-clause-next : goal.hand_out-requires-clause-next
 hand_out-requires-clause-next g c =
     let r = c.args.ring.now in
     at-cell (IsNext g.K.Feed.kind) (number_in r c.args.place) r.values c.at_mut-cell.result.now c.at_mut-cell.ensures.value c.requires.next
+
+pub returns-clause-ring : goal.returns-clause-ring
+returns-clause-ring g c =
+    let r = c.args.ring.now in
+    same-ring r (number_in r c.args.place) c.hand_out.new.self c.requires.ring c.hand_out.ensures.going
 
 pub returns-clause-out : goal.returns-clause-out
 returns-clause-out g c =

@@ -2,7 +2,7 @@
 use Rattle.std.proofs.Common.{◌≡◌, None, refl}
 use Rattle.mbj_stage.specs.Going.{Going}
 use Rattle.mbj_manager.specs.Inside.Courses.{Follows, course_in, number_in}
-use Rattle.mbj_manager.proofs.RingCourses.{at-cell, cell-at, courses-set, going-at, live}
+use Rattle.mbj_manager.proofs.RingCourses.{at-cell, cell-at, courses-set, going-at, live, same-ring}
 use Rattle.mbj_manager.proofs.lane.run_nows.Goals as goal
 
 pub at_mut-cell-requires : goal.at_mut-cell-requires
@@ -17,6 +17,11 @@ pub run_nows-requires-clause-here : goal.run_nows-requires-clause-here
 run_nows-requires-clause-here c =
     let r = c.args.ring.now in
     at-cell (λ (x : Going). x.out ≡ None) (number_in r c.args.place) r.values c.at_mut-cell.result.now c.at_mut-cell.ensures.value c.requires.here
+
+pub returns-clause-ring : goal.returns-clause-ring
+returns-clause-ring c =
+    let r = c.args.ring.now in
+    same-ring r (number_in r c.args.place) c.run_nows.new.self c.requires.ring c.run_nows.ensures.going
 
 pub returns-clause-follows : goal.returns-clause-follows
 returns-clause-follows c =

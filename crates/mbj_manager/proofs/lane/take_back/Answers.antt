@@ -2,7 +2,7 @@
 use Rattle.mbj_stage.specs.Handing.{taken_back}
 use Rattle.mbj_manager.specs.Inside.Courses.{number_in}
 use Rattle.mbj_manager.specs.Leads.{IsOut}
-use Rattle.mbj_manager.proofs.RingCourses.{at-cell, courses-set, going-at, live}
+use Rattle.mbj_manager.proofs.RingCourses.{at-cell, courses-set, going-at, live, same-ring}
 use Rattle.mbj_manager.proofs.lane.take_back.Goals as goal
 
 pub at_mut-cell-requires : goal.at_mut-cell-requires
@@ -17,6 +17,11 @@ pub take_back-requires-clause-out : goal.take_back-requires-clause-out
 take_back-requires-clause-out g c =
     let r = c.args.ring.now in
     at-cell (IsOut g.K.Feed.kind (g.K.Feed.brings c.args.entry)) (number_in r c.args.place) r.values c.at_mut-cell.result.now c.at_mut-cell.ensures.value c.requires.out
+
+pub returns-clause-ring : goal.returns-clause-ring
+returns-clause-ring g c =
+    let r = c.args.ring.now in
+    same-ring r (number_in r c.args.place) c.take_back.new.self c.requires.ring c.take_back.ensures.going
 
 pub returns-clause-back : goal.returns-clause-back
 returns-clause-back g c =
