@@ -17,7 +17,7 @@ use crate::kernels::{
     HmacSha256Kernel, HmacSha512Kernel,
 };
 use crate::lane::{Cause, enter, run_within};
-use crate::queue::Queue;
+use crate::queue::{Queue, new_pair};
 use mbj_ring::Ring;
 use mbj_types::Kind;
 use std::alloc::{AllocError, Global};
@@ -68,15 +68,19 @@ impl Lists {
     pub(crate) fn new(alloc: Global) -> Result<Lists, AllocError>
         ensures { IfOk result (λ l. l ≡ no_lines) }
     {
+        let (cbc128, cbc192) = new_pair(alloc)?;
+        let (cbc256, cmac128) = new_pair(alloc)?;
+        let (cmac256, hmac_sha1) = new_pair(alloc)?;
+        let (hmac_sha256, hmac_sha512) = new_pair(alloc)?;
         Ok(Lists {
-            cbc128: Queue::new(alloc)?,
-            cbc192: Queue::new(alloc)?,
-            cbc256: Queue::new(alloc)?,
-            cmac128: Queue::new(alloc)?,
-            cmac256: Queue::new(alloc)?,
-            hmac_sha1: Queue::new(alloc)?,
-            hmac_sha256: Queue::new(alloc)?,
-            hmac_sha512: Queue::new(alloc)?,
+            cbc128,
+            cbc192,
+            cbc256,
+            cmac128,
+            cmac256,
+            hmac_sha1,
+            hmac_sha256,
+            hmac_sha512,
             flush_runs: 0,
         })
     }

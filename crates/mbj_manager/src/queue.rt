@@ -111,6 +111,16 @@ impl<K: Feed> Queue<K> {
     }
 }
 
+/// The lists of two kinds with nobody in them.
+pub(crate) fn new_pair<K: Feed, L: Feed>(alloc: Global) -> Result<(Queue<K>, Queue<L>), AllocError>
+    ensures waits { IfOk result (λ qs. ((f : ℕ → ℕ) → paired f qs.0.places.items qs.0.lanes.entries.items ≡ [])
+        × ((f : ℕ → ℕ) → paired f qs.1.places.items qs.1.lanes.entries.items ≡ [])) }
+    ensures counts { IfOk result (λ qs. ((qs.0.rounds ≡ 0) × (qs.0.blocks ≡ 0)) × ((qs.1.rounds ≡ 0) × (qs.1.blocks ≡ 0))) }
+{
+    let first = Queue::new(alloc)?;
+    Ok((first, Queue::new(alloc)?))
+}
+
 /// Each rest falls by m.
 fn lead(places: &mut Vec<Place>, m: u32)
     requires { All (λ w. m ≤ rest_at w) places.old.items }
