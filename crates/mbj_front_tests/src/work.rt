@@ -17,6 +17,21 @@ const JEFE: [u8; 20] = [
     0x25, 0x9a, 0x7c, 0x79,
 ];
 
+fn fill(
+    alloc: Global,
+    job: &mut Job,
+    key: &[u8],
+    packet: &[u8],
+    tag_len: u8,
+) -> Result<(), AllocError> {
+    job.auth = Auth::HmacSha1;
+    job.auth_key = Bytes::from_vec(key.to_vec(alloc)?);
+    job.packet = Bytes::from_vec(packet.to_vec(alloc)?);
+    job.hash_len = packet.len().min(100) as u32;
+    job.tag_len = tag_len;
+    Ok(())
+}
+
 /// A job with HMAC-SHA-1 over a whole packet.
 pub(crate) fn hmac_sha1(
     alloc: Global,
@@ -25,11 +40,7 @@ pub(crate) fn hmac_sha1(
     tag_len: u8,
 ) -> Result<Job, AllocError> {
     let mut job = Job::blank(alloc);
-    job.auth = Auth::HmacSha1;
-    job.auth_key = Bytes::from_vec(key.to_vec(alloc)?);
-    job.packet = Bytes::from_vec(packet.to_vec(alloc)?);
-    job.hash_len = packet.len().min(100) as u32;
-    job.tag_len = tag_len;
+    fill(alloc, &mut job, key, packet, tag_len)?;
     Ok(job)
 }
 
@@ -37,17 +48,31 @@ fn has_tag(results: &[Done], i: usize, tag: &[u8]) -> bool {
     results.get(i).is_some_and(|done| done.status == Status::Ok && done.tag.bytes() == tag)
 }
 
+/// Adds three jobs, the second of which is refused.
+fn add_three(alloc: Global, jobs: &mut Vec<Job>) -> Result<(), AllocError> {
+    jobs.push(hmac_sha1(alloc, b"Jefe", b"what do ya want for nothing?", 20)?)?;
+    jobs.push(hmac_sha1(alloc, b"Jefe", b"", 21)?)?;
+    jobs.push(hmac_sha1(alloc, &[0x0b; 20], b"Hi There", 20)?)?;
+    Ok(())
+}
+
+fn three_jobs(alloc: Global) -> Result<Vec<Job>, AllocError> {
+    let mut jobs = Vec::new(alloc);
+    add_three(alloc, &mut jobs)?;
+    Ok(jobs)
+}
+
+fn one_job(alloc: Global) -> Result<Vec<Job>, AllocError> {
+    Ok(vec![in alloc; hmac_sha1(alloc, &[0x0b; 20], b"Hi There", 20)?]?)
+}
+
 /// A submitter with three jobs, the second of which is refused, and one with a single job.
 fn two_lists(alloc: Global) -> Result<Vec<Vec<Job>>, AllocError>
     ensures { IfOk result (λ lists. length lists.items ≡ 2) }
 {
-    let jefe = hmac_sha1(alloc, b"Jefe", b"what do ya want for nothing?", 20)?;
-    let refused = hmac_sha1(alloc, b"Jefe", b"", 21)?;
-    let hi_there = hmac_sha1(alloc, &[0x0b; 20], b"Hi There", 20)?;
-    let other = hmac_sha1(alloc, &[0x0b; 20], b"Hi There", 20)?;
     let mut lists = Vec::with_capacity(alloc, 2)?;
-    lists.push_reserved(vec![in alloc; jefe, refused, hi_there]?);
-    lists.push_reserved(vec![in alloc; other]?);
+    lists.push_reserved(three_jobs(alloc)?);
+    lists.push_reserved(one_job(alloc)?);
     Ok(lists)
 }
 
