@@ -1,8 +1,8 @@
 -- What a command prints, from what its calls did.
-use Rattle.std.proofs.Common.{◌≡◌, ◌≢◌, cond, eq-eqb, ◌∙◌, ◌+◌, ◌++◌, [], ◌∷◌, ap, sym, refl, subst, ℕ, zero, suc, All, append_assoc, Result, Ok, Err, IfOk, Vec, Global, List, Bool, true, false, IsTrue, ◌↔◌, Option, None, Some, map, length, set, slice_index, slice_index_or, option_map, option_to_list, arith, if◌then◌else◌, ◌==◌}
+use Rattle.std.proofs.Common.{◌≡◌, ◌≢◌, cond, eq-eqb, ◌∙◌, ◌+◌, ◌++◌, [], ◌∷◌, ap, sym, refl, subst, ℕ, suc, All, append_assoc, Result, Ok, Err, IfOk, Vec, Global, List, Bool, true, false, IsTrue, ◌↔◌, Option, None, Some, map, length, set, slice_index, slice_index_or, option_map, option_to_list, arith, if◌then◌else◌, ◌==◌}
 use Rattle.std.specs.Prelude.{slice_get}
 use Rattle.std.proofs.lemmas.List.{map-set}
-use Rattle.std.proofs.lemmas.Option.{get_or_from_slice_get, none-some, same_Some, slice_get-map}
+use Rattle.std.proofs.lemmas.Option.{get_or_from_slice_get, slice_get-map}
 use Rattle.std.proofs.Math.Seq.{map-set_same}
 use Rattle.mbj_types.specs.declared.job.Job.{Job}
 use Rattle.mbj_core.specs.CoreStates.{CoreState, claimed_by, next_cell, out_of, posted}
@@ -187,12 +187,6 @@ post-state r new s n step cell job x same far at is =
 pub refuted : (b : Bool) (P : Type 0) → (IsTrue b ↔ P) → b ≡ false → ¬ P
 refuted true P decides is p = let bad : true ≡ false = is in cc
 refuted false P decides is p = let bad : false ≡ true = decides.1 p in cc
-
--- an item that is taken and put back
-pub put-back : {X : Type 0} (xs : List X) (i : ℕ) (x y : X) → slice_get xs i ≡ Some x → set (set xs i y) i x ≡ xs
-put-back [] i x y at = absurd (none-some x at)
-put-back (z ∷ xs) zero x y at = ap (λ a. a ∷ xs) (sym (same_Some z x at))
-put-back (z ∷ xs) (suc i) x y at = ap (λ l. z ∷ l) (put-back xs i x y at)
 
 -- the lines of commands over the jobs and the state that a replay begins with
 pub answered-by : (result : Result (Vec ReplayLine Global) AllocError) (own jobs : List Job) (commands : List Cmd) (r q : Replaying) → own ≡ jobs → r ≡ q

@@ -220,17 +220,6 @@ pub parties : (p : ℕ) (given : Option Entry) (c : CoreState) → ((core_after 
 parties p None c = (refl, refl)
 parties p (Some e) c = (refl, refl)
 
--- a replay in which nothing is changed but that a refused job came back
-pub same-plays : (jobs : List Job) (r : Replayer) (new : CoreState) (unposted : Vec (Option Unposted) Global) → IsPlaying jobs r → new ≡ r.core
-    → unposted.items ≡ r.unposted.items
-    → IsPlaying jobs (record { core = new; workers = r.workers; unposted = unposted; nexts = r.nexts; posted = r.posted })
-same-plays jobs r new unposted playing same back =
-    let f = playing.0 in
-    let follows = playing.1 in
-    assembled jobs r new f r.workers r.nexts unposted r.posted (ap (λ (c : CoreState). c.submitters) same) (ap (λ (c : CoreState). c.workers) same)
-    (subst (λ (c : CoreState). StandsFor c f) (sym same) follows.front) follows.worker_count follows.workers
-    (subst (λ (us : List (Option Unposted)). HasStock jobs r.core.submitters r.nexts.items us r.posted.items f.cells) (sym back) follows.stock)
-
 -- an entry of the jobs that are not posted is the file's job of that number, and its copy
 entry-is : (o : Option Job) (x : Option Unposted) → Some x ≡ option_map with_copy o → (job : Job) × (o ≡ Some job) × (x ≡ with_copy job)
 entry-is None x is = absurd (none-some x (sym is))

@@ -1,7 +1,10 @@
-ghost use Rattle.std.specs.Prelude.{◌≡◌, ◌<◌, ◌≤◌, [], ◌∷◌, ◌++◌, All, IfOk, IfSome, List, OnOk, Some, length, map, option_map, option_to_list, replicate};
+ghost use Rattle.std.specs.Prelude.{◌≡◌, ◌≢◌, ◌<◌, ◌≤◌, [], ◌∷◌, ◌++◌, All, IfOk, IfSome, List, OnOk, Some, length, map, option_map, option_to_list, replicate};
 ghost use Rattle.std.specs.List.{range_with_len};
 ghost use Rattle.mbj_types.specs.declared.job.Job.{Job};
-ghost use Rattle.mbj_core.specs.declared.cells.TheConstants.{MAX_SUBMITTERS, MAX_WORKERS};
+ghost use Rattle.mbj_core.specs.CoreStates.{out_of, posted};
+ghost use Rattle.mbj_core.specs.Events.{accepted, post};
+ghost use Rattle.mbj_core.specs.Stands.{Leads};
+ghost use Rattle.mbj_core.specs.declared.cells.TheConstants.{MAX_SUBMITTERS, MAX_WORKERS, SUBMITTER_CELLS};
 ghost use Rattle.mbj_text.specs.declared.limits.TheConstants.{JOB_LIMIT};
 ghost use Rattle.mbj_replay.specs.Replay.{IsFor, Replaying, all_told, new_replay, number_in, replay_lines, told};
 ghost use Rattle.mbj_replay.specs.Inside.State.{HasPartiesOf, IsPlaying, lines_of, state_of, with_copy};
@@ -11,7 +14,7 @@ use crate::line::ReplayLine;
 use crate::worker::{Worker, idle_workers};
 use mbj_core::{Core, SUBMITTER_CELLS};
 use mbj_text::Cmd;
-use mbj_types::{Job, PostFull};
+use mbj_types::Job;
 use std::alloc::{AllocError, Global};
 
 /// A job that is not posted, and its copy, which a worker gets once it claims the job.
@@ -27,6 +30,18 @@ pub(crate) struct Unposted {
 pub(crate) struct Posted {
     number: u32,
     copy: Option<Job>,
+}
+
+impl Posted {
+    /// The job of this number was posted, and this is a copy of it.
+    fn put(&mut self, number: u32, copy: Job)
+        ensures { self.new ≡ record { number = number; copy = Some copy } }
+    {
+        *self = Posted {
+            number,
+            copy: Some(copy),
+        };
+    }
 }
 
 /// What a command prints: a line, and, where a claim led to a finish, the line of that.
@@ -80,6 +95,24 @@ fn unused_cells(alloc: Global, count: u32) -> Result<Vec<Posted>, AllocError>
         })?;
     }
     Ok(cells)
+}
+
+/// Posts a job of a submitter, which has a cell free, and answers its copy.
+fn post_entry(core: &mut Core, s: u32, entry: &mut Option<Unposted>) -> Job
+    requires entry { (job : Job) × (entry.old ≡ with_copy job) }
+    requires submitter { s < core.old.submitters }
+    requires room { out_of core.old s ≢ SUBMITTER_CELLS }
+    ensures copy { entry.old ≡ with_copy result }
+    ensures posted { core.new ≡ posted core.old s result }
+    ensures leads { Leads core.old (post s result) accepted core.new }
+{
+    let Some(Unposted { job, copy }) = entry.take() else {
+        unreachable!()
+    };
+    match core.post(s, job) {
+        Ok(()) => copy,
+        Err(_) => unreachable!(),
+    }
 }
 
 /// The line of a finish that a claim led to, where it led to one.
@@ -155,18 +188,13 @@ impl Replayer {
         if at >= self.unposted.len() {
             return ReplayLine::PostEnd(s);
         }
-        let cell = cell_behind(&self.core, s, self.core.out(s)) as usize;
-        let Some(Unposted { job, copy }) = self.unposted[at].take() else {
-            unreachable!()
-        };
-        if let Err(PostFull(job)) = self.core.post(s, job) {
-            self.unposted[at] = Some(Unposted { job, copy });
+        let out = self.core.out(s);
+        if out == SUBMITTER_CELLS {
             return ReplayLine::PostFull(s);
         }
-        self.posted[cell] = Posted {
-            number,
-            copy: Some(copy),
-        };
+        let cell = cell_behind(&self.core, s, out) as usize;
+        let copy = post_entry(&mut self.core, s, &mut self.unposted[at]);
+        self.posted[cell].put(number, copy);
         self.nexts[s as usize] = number + self.core.submitters();
         ReplayLine::Post {
             submitter: s,

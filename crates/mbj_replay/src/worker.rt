@@ -39,8 +39,8 @@ impl Worker {
     pub(crate) fn new(alloc: Global) -> Result<Worker, AllocError>
         ensures { IfOk result (λ w. (w.manager ≡ new_manager) × (w.hand.items ≡ [])) }
     {
-        let manager = Manager::new(alloc)?;
         let hand = Vec::with_capacity(alloc, CELLS as usize)?;
+        let manager = Manager::new(alloc)?;
         Ok(Worker { manager, hand })
     }
 
