@@ -1,4 +1,4 @@
-ghost use Rattle.std.specs.Prelude.{◌≡◌, ◌≢◌, ◌≤◌, Err, IfErr, IfOk, IsErrOf, length};
+ghost use Rattle.std.specs.Prelude.{◌≡◌, ◌≢◌, ◌≤◌, [], Err, IfErr, IfOk, IsErrOf, OnOk, length};
 ghost use Rattle.mbj_text.specs.File.{Bad, Over, Reads};
 ghost use Rattle.mbj_text.specs.Replay.{BadReplay, OverReplay, ReadsReplay};
 ghost use Rattle.mbj_text.specs.declared.limits.TheConstants.{JOB_LIMIT};
@@ -51,14 +51,14 @@ impl From<TextFault> for Cause {
     }
 }
 
-/// Reads an input to its end.
-pub(crate) fn read_all<S: Source>(alloc: Global, input: &mut S) -> Result<Vec<u8>, ReadFault>
-    ensures read { IfOk result (λ v. ReadsAll (S.rest input.old) (S.rest input.new) v.items) }
+/// Puts what an input still gives into an empty vector.
+fn read_into<S: Source>(input: &mut S, bytes: &mut Vec<u8>) -> Result<(), ReadFault>
+    requires { bytes.old.items ≡ [] }
+    ensures read { OnOk result (ReadsAll (S.rest input.old) (S.rest input.new) bytes.new.items) }
     ensures over { IsErrOf result ReadFault.Over → ReadsTooMuch (S.rest input.old) (S.rest input.new) }
     ensures failed { IsErrOf result ReadFault.Failed → FailsOnce (stream S.rest S.faults input.old input.new) }
     ensures calm { result ≢ Err ReadFault.Failed → S.faults input.new ≡ S.faults input.old }
 {
-    let mut bytes = Vec::new(alloc);
     let mut piece = [0; PIECE_BYTES];
     while bytes.len() <= INPUT_LIMIT {
         let room = (INPUT_LIMIT + 1 - bytes.len()).min(PIECE_BYTES);
@@ -67,13 +67,25 @@ pub(crate) fn read_all<S: Source>(alloc: Global, input: &mut S) -> Result<Vec<u8
             Err(_) => return Err(ReadFault::Failed),
         };
         if count == 0 {
-            return Ok(bytes);
+            return Ok(());
         }
         if bytes.extend_from_slice(&piece[..count]).is_err() {
             return Err(ReadFault::Memory);
         }
     }
     Err(ReadFault::Over)
+}
+
+/// Reads an input to its end.
+pub(crate) fn read_all<S: Source>(alloc: Global, input: &mut S) -> Result<Vec<u8>, ReadFault>
+    ensures read { IfOk result (λ v. ReadsAll (S.rest input.old) (S.rest input.new) v.items) }
+    ensures over { IsErrOf result ReadFault.Over → ReadsTooMuch (S.rest input.old) (S.rest input.new) }
+    ensures failed { IsErrOf result ReadFault.Failed → FailsOnce (stream S.rest S.faults input.old input.new) }
+    ensures calm { result ≢ Err ReadFault.Failed → S.faults input.new ≡ S.faults input.old }
+{
+    let mut bytes = Vec::new(alloc);
+    read_into(input, &mut bytes)?;
+    Ok(bytes)
 }
 
 /// Reads a job file to its end.
