@@ -1,3 +1,4 @@
 mod Endings
 mod ResultTexts
 mod Scripts
+mod Tellings
