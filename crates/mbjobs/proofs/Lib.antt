@@ -1,4 +1,5 @@
 mod Endings
 mod ResultTexts
 mod Scripts
+mod Statuses
 mod Tellings
