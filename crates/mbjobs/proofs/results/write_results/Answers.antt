@@ -17,7 +17,7 @@ loop-number-preserved g c = flows_line c.loop-number.invariant
 pub returns-in_err-write_done : goal.returns-in_err-write_done
 returns-in_err-write_done g c =
     let exit = err_from_is_err_and c.from_residual.result c.from_residual.ensures.1 in
-    rw exit.1 (front_line _ c.loop-number.invariant
+    rw exit.1 (front_line {c = g.O.Sink.held c.write_done.new.sink} {k = g.O.Sink.faults c.write_done.new.sink} _ c.loop-number.invariant
     (text_first c.loop-number.number c.args.results.now c.at.result.now c.at.ensures) c.in_err-write_done.ensures)
 
 pub returns : goal.returns
