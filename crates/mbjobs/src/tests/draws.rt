@@ -19,6 +19,15 @@ pub(super) struct Draws {
     state: u64,
 }
 
+/// A command of one number as a line.
+fn numbered(alloc: Global, word: &str, number: u8) -> Result<String, AllocError> {
+    format!(in alloc; "{word} {number}\n")
+}
+
+fn claim(alloc: Global, worker: u8, submitter: u8) -> Result<String, AllocError> {
+    format!(in alloc; "claim {worker} {submitter}\n")
+}
+
 impl Draws {
     pub(super) fn new(state: u64) -> Draws {
         Draws { state }
@@ -40,14 +49,13 @@ impl Draws {
     /// Draws a command of a script as a line.
     fn command(&mut self, alloc: Global) -> Result<String, AllocError> {
         match self.below(4) {
-            0 => format!(in alloc; "post {}\n", self.below(SUBMITTERS)),
+            0 => numbered(alloc, "post", self.below(SUBMITTERS)),
             1 => {
                 let worker = self.below(WORKERS);
-                let submitter = self.below(SUBMITTERS);
-                format!(in alloc; "claim {worker} {submitter}\n")
+                claim(alloc, worker, self.below(SUBMITTERS))
             }
-            2 => format!(in alloc; "flush {}\n", self.below(WORKERS)),
-            _ => format!(in alloc; "collect {}\n", self.below(SUBMITTERS)),
+            2 => numbered(alloc, "flush", self.below(WORKERS)),
+            _ => numbered(alloc, "collect", self.below(SUBMITTERS)),
         }
     }
 
