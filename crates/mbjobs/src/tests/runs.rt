@@ -178,11 +178,17 @@ impl<'a> Run<'a> {
     }
 }
 
+fn add_words(owned: &mut Vec<String>, alloc: Global, words: &[&str]) -> Result<(), AllocError> {
+    for word in words {
+        let word = String::from_str(alloc, word)?;
+        owned.push(word)?;
+    }
+    Ok(())
+}
+
 fn words_of(alloc: Global, words: &[&str]) -> Result<Vec<String>, AllocError> {
     let mut owned = Vec::new(alloc);
-    for word in words {
-        owned.push(String::from_str(alloc, word)?)?;
-    }
+    add_words(&mut owned, alloc, words)?;
     Ok(owned)
 }
 
