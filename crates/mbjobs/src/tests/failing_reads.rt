@@ -1,6 +1,7 @@
-use super::runs::{Host, Run, Told};
+use super::runs::{Ending, Host, Run, Told, check_same};
 use super::{FIRST_JOB, FIRST_RESULT, RUN};
 use std::alloc::Global;
+use std::process::Abort;
 
 /// A command that reads, and what it writes for the first job.
 type Command = (&'static [&'static str], &'static str);
@@ -30,6 +31,22 @@ fn told_of(text: &str, fails: bool) -> Told<'_> {
     }
 }
 
+/// Compares how a run ended, how much is left of its input, and how often a read failed.
+fn check_ending<'a, R: Abort>(
+    rt: &R,
+    ending: &'a Ending,
+    right: &(Told<'a>, usize, u64),
+    read: &(u32, u32),
+) {
+    let input = &ending.input;
+    check_same(
+        rt,
+        &(ending.told(), input.rest().len(), input.faults()),
+        right,
+        read,
+    );
+}
+
 /// Runs a command on the first job with the read of a number failing, and compares how it ends, what is left of the input,
 /// and how often a read failed. Nothing is read after a failed read.
 fn compare<R: Host>(
@@ -47,19 +64,11 @@ fn compare<R: Host>(
         write_piece: 64,
         ..Run::new(words, FIRST_JOB.as_bytes())
     };
-    let ending = run.end(rt, alloc);
     let left = FIRST_JOB
         .len()
         .saturating_sub((piece as usize).saturating_mul(number as usize));
-    assert_eq!(rt;
-        (
-            ending.told(),
-            ending.input.rest().len(),
-            ending.input.faults()
-        ),
-        (told_of(text, fails), left, u64::from(fails)),
-        "read {number} by {piece}"
-    );
+    let right = (told_of(text, fails), left, u64::from(fails));
+    check_ending(rt, &run.end(rt, alloc), &right, &(number, piece));
 }
 
 /// Runs a command with each of its reads failing, and with two that it doesn't come to, by pieces of each length.

@@ -1,4 +1,4 @@
-use super::runs::{Ending, Host, ROOM, Run};
+use super::runs::{Ending, Host, ROOM, Run, check_same};
 use super::{FIRST_JOB, FIRST_RESULT, RUN};
 use mbj_io::MemSink;
 use std::alloc::Global;
@@ -77,14 +77,12 @@ impl Case {
     fn check_front<R: Abort>(&self, rt: &R, ending: &Ending, taken: usize) {
         let text = self.text.as_bytes();
         let is_whole = text.len() <= taken;
-        assert_eq!(rt;
-            (ending.status, ending.out.held(), ending.out.faults()),
-            (
-                status_of(is_whole),
-                text.get(..taken).unwrap_or(text),
-                u64::from(!is_whole)
-            ),
-            "{taken}"
+        let front = text.get(..taken).unwrap_or(text);
+        check_same(
+            rt,
+            &(ending.status, ending.out.held(), ending.out.faults()),
+            &(status_of(is_whole), front, u64::from(!is_whole)),
+            &taken,
         );
     }
 }
@@ -123,10 +121,11 @@ fn written_before<R: Host>(rt: &R, alloc: Global, case: &Case, number: u64) -> u
     let ending = case.run(rt, alloc, ROOM, 7, &[number]);
     let held = ending.out.held();
     let text = case.text.as_bytes();
-    assert_eq!(rt;
-        (ending.status, text.starts_with(held)),
-        (status_of(held == text), true),
-        "{number}"
+    check_same(
+        rt,
+        &(ending.status, text.starts_with(held)),
+        &(status_of(held == text), true),
+        &number,
     );
     held.len()
 }

@@ -55,10 +55,11 @@ impl Ending {
 
     /// Compares what was written with a text that is too long to be shown.
     pub(super) fn check_long<R: Abort, W: Debug>(&self, rt: &R, text: &[u8], case: &W) {
-        assert_eq!(rt;
-            (self.status, self.out.held() == text),
-            (0, true),
-            "{case:?}"
+        check_same(
+            rt,
+            &(self.status, self.out.held() == text),
+            &(0, true),
+            case,
         );
     }
 
@@ -80,9 +81,19 @@ impl Ending {
         digest: &str,
         case: &W,
     ) {
-        assert_eq!(rt; self.status, 0, "{case:?}");
+        check_same(rt, &self.status, &0, case);
         check_digest(rt, alloc, self.out.held(), digest, case);
     }
+}
+
+/// Compares what is found in a case with what is right.
+pub(super) fn check_same<R: Abort, T: Debug + PartialEq, W: Debug>(
+    rt: &R,
+    found: &T,
+    right: &T,
+    case: &W,
+) {
+    assert_eq!(rt; *found, *right, "{case:?}");
 }
 
 /// Compares the SHA-256 digest of a text, in hexadecimal digits.
@@ -94,7 +105,7 @@ pub(super) fn check_digest<R: Abort, W: Debug>(
     case: &W,
 ) {
     let found: String = hex::encode(alloc, Sha256::digest(text)).expect(rt, "memory");
-    assert_eq!(rt; found.as_str(), digest, "{case:?}");
+    check_same(rt, &found.as_str(), &digest, case);
 }
 
 /// A run of the program over a source and two sinks in memory.

@@ -1,7 +1,7 @@
 use super::RUN;
 use super::draws::{Draws, REPLAY, SUBMITTERS};
 use super::parties::generated_file;
-use super::runs::{Ending, Host, Run};
+use super::runs::{Ending, Host, Run, check_same};
 use std::alloc::{AllocError, Global};
 use std::process::Abort;
 use std::test::Fail;
@@ -96,12 +96,17 @@ const REPLAYS: [(u64, u64, &str); 16] = [
     ),
 ];
 
+/// A submitter, and what it is told.
+fn words_of(told: &str) -> Result<(&str, &str), Fail> {
+    Ok(told.split_once(' ').ok_or("no submitter")?)
+}
+
 /// A submitter, and the result that it collects by a line of a replay, if it does.
 fn collected(line: &str) -> Result<Option<(usize, &str)>, Fail> {
     let Some(told) = line.strip_prefix("collect ") else {
         return Ok(None);
     };
-    let (submitter, result) = told.split_once(' ').ok_or("no submitter")?;
+    let (submitter, result) = words_of(told)?;
     if result == "none" {
         return Ok(None);
     }
@@ -118,7 +123,7 @@ fn result_of(run: &str, submitter: usize, number: usize) -> Option<&str> {
 
 /// Compares a collected result with that of a run, and counts it.
 fn compare_result<R: Abort>(rt: &R, found: &str, run: &str, submitter: usize, count: &mut usize) {
-    assert_eq!(rt; Some(found), result_of(run, submitter, *count));
+    check_same(rt, &Some(found), &result_of(run, submitter, *count), count);
     *count = count.saturating_add(1);
 }
 
