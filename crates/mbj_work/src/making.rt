@@ -25,8 +25,8 @@ impl Party {
         ensures seat { IfOk result (λ party. seat_of party ≡ seat) }
         ensures manager { IfOk result (λ party. manager_of party ≡ new_manager) }
     {
-        let manager = Manager::new(alloc)?;
         let cells = HeapCircularBuffer::with_capacity(alloc, HAND_ROOM as usize)?;
+        let manager = Manager::new(alloc)?;
         Ok(Party {
             seat,
             manager,

@@ -1,12 +1,15 @@
 -- The seats that are left are the next ones, and each party so far may serve.
-use Rattle.std.proofs.Common.{rules, sym, subst, All}
+use Rattle.std.proofs.Common.{◌+◌, sym, subst, All}
 use Rattle.std.proofs.lemmas.List.Elements.{All-push}
-use Rattle.mbj_work.specs.Inside.Runs.{MayServe}
+use Rattle.mbj_work.specs.Inside.Runs.{AreSeatsFrom, MayServe}
 use Rattle.mbj_work.proofs.crew.make_workers.Goals as goal
 
 pub loop-seat-preserved : goal.loop-seat-preserved
 loop-seat-preserved c = record {
-  seats = search rules;
+  seats = (
+    c.loop-seat.invariant.seats.0 + 1,
+    (subst (AreSeatsFrom c.args.front.now c.loop-seat.invariant.seats.0) c.in-Some.ensures.items c.loop-seat.invariant.seats.1).1,
+  );
   ready = subst (All (MayServe c.args.front.now)) (sym c.in_ok-push.ensures.items)
       (All-push (MayServe c.args.front.now) _ _ c.loop-seat.invariant.ready c.in_ok-party.ensures);
 }
