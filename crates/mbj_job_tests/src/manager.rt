@@ -4,6 +4,7 @@ ghost use Rattle.mbj_types.specs.declared.job.Job.{Job};
 use mbj_manager::{HmacSha512Kernel, Manager, results_come_back_in_order};
 use mbj_types::{Auth, Bytes, Cipher, Done, Job, Kind, Order, Reason, RingFull, Status};
 use std::alloc::{AllocError, Global};
+use std::process::Abort;
 use std::test::Fail;
 
 /// RFC 2202, section 3, test case 1: the tag of "Hi There" under a key of 20 bytes 0b.
@@ -30,14 +31,17 @@ fn authenticate(alloc: Global) -> Result<Option<Done>, AllocError> {
     }
 }
 
+/// The job's result.
+fn check_authenticated(rt: &impl Abort, done: &Done) {
+    assert_eq!(rt; done.status, Status::Ok);
+    assert_eq!(rt; done.packet.as_slice(), b"Hi There".as_slice());
+    assert_eq!(rt; done.tag.bytes(), TAG.as_slice());
+}
+
 #[test]
 fn a_job_is_filled_submitted_and_taken_back(rt: HostRuntime) -> Result<(), Fail> {
     match authenticate(rt.alloc())? {
-        Some(done) => {
-            assert_eq!(rt; done.status, Status::Ok);
-            assert_eq!(rt; done.packet.as_slice(), b"Hi There".as_slice());
-            assert_eq!(rt; done.tag.bytes(), TAG.as_slice());
-        }
+        Some(done) => check_authenticated(&rt, &done),
         None => assert!(rt; false),
     }
     Ok(())
@@ -58,38 +62,52 @@ fn write_tag_len(manager: &mut Manager, tag_len: u8) -> u8
 }
 
 // A null job with a tag length other than 0 is refused for that length.
-#[test]
-fn the_same_cell_is_lent_until_it_is_submitted(rt: HostRuntime) -> Result<(), Fail> {
-    let mut manager = Manager::new(rt.alloc())?;
-    assert_eq!(rt; write_tag_len(&mut manager, 7), 0);
-    assert_eq!(rt; write_tag_len(&mut manager, 9), 7);
+fn write_tag_lens(rt: &impl Abort, manager: &mut Manager) {
+    assert_eq!(rt; write_tag_len(manager, 7), 0);
+    assert_eq!(rt; write_tag_len(manager, 9), 7);
     assert!(rt; manager.get_completed().is_none());
     assert!(rt; manager.flush().is_none());
-    assert_eq!(rt; write_tag_len(&mut manager, 1), 9);
+    assert_eq!(rt; write_tag_len(manager, 1), 9);
+}
+
+#[test]
+fn the_same_cell_is_lent_until_it_is_submitted(rt: HostRuntime) -> Result<(), Fail> {
+    write_tag_lens(&rt, &mut Manager::new(rt.alloc())?);
     Ok(())
 }
 
 fn cross<T: Send + Drop>(_value: T) {}
 
-#[test]
-fn a_refused_job_comes_back_in_its_place(rt: HostRuntime) -> Result<(), Fail> {
-    let mut manager = Manager::new(rt.alloc())?;
+/// Submits a job that is refused for its tag length.
+fn submit_refused(alloc: Global, manager: &mut Manager) -> Result<Option<Done>, AllocError> {
     let job = match manager.get_next() {
         Ok(job) => job,
-        Err(RingFull) => return Ok(()),
+        Err(RingFull) => return Ok(None),
     };
-    job.packet = Bytes::from_vec(b"packet".to_vec(rt.alloc())?);
+    job.packet = Bytes::from_vec(b"packet".to_vec(alloc)?);
     job.tag_len = 1;
-    match manager.submit() {
-        Some(done) => {
-            assert_eq!(rt; done.status, Status::InvalidArgs(Reason::TagLength));
-            assert_eq!(rt; done.packet.as_slice(), b"packet".as_slice());
-            assert_eq!(rt; done.tag.bytes().len(), 0);
-        }
+    Ok(manager.submit())
+}
+
+/// The refused job's result.
+fn check_refused(rt: &impl Abort, done: &Done) {
+    assert_eq!(rt; done.status, Status::InvalidArgs(Reason::TagLength));
+    assert_eq!(rt; done.packet.as_slice(), b"packet".as_slice());
+    assert_eq!(rt; done.tag.bytes().len(), 0);
+}
+
+fn refuse(rt: &impl Abort, alloc: Global, manager: &mut Manager) -> Result<(), Fail> {
+    match submit_refused(alloc, manager)? {
+        Some(done) => check_refused(rt, &done),
         None => assert!(rt; false),
     }
     assert!(rt; manager.get_completed().is_none());
     Ok(())
+}
+
+#[test]
+fn a_refused_job_comes_back_in_its_place(rt: HostRuntime) -> Result<(), Fail> {
+    refuse(&rt, rt.alloc(), &mut Manager::new(rt.alloc())?)
 }
 
 /// Submits an HMAC-SHA-512 under a key of 20 bytes 0b over zero bytes, with a tag of 64 bytes less `number`. Answers the
@@ -119,27 +137,51 @@ fn number_of(done: Option<Done>) -> Option<usize> {
     }
 }
 
-// The rests are 4, 5, 4 and 6. The full run by 4 ends the first and the third job, and the flush runs by 1, twice.
-#[test]
-fn jobs_wait_until_all_lanes_are_in_use(rt: HostRuntime) -> Result<(), Fail> {
-    let mut manager = Manager::new(rt.alloc())?;
-    assert_eq!(rt; submit_hmac(&mut manager, rt.alloc(), 0, 0)?, None);
-    assert_eq!(rt; submit_hmac(&mut manager, rt.alloc(), 1, 112)?, None);
-    assert_eq!(rt; submit_hmac(&mut manager, rt.alloc(), 2, 0)?, None);
-    assert_eq!(rt; manager.waiting(Kind::HmacSha512), 3);
-    assert_eq!(rt; manager.lanes::<HmacSha512Kernel>().len(), 3);
-    assert_eq!(rt; submit_hmac(&mut manager, rt.alloc(), 3, 300)?, Some(0));
-    assert_eq!(rt; manager.waiting(Kind::HmacSha512), 2);
-    assert_eq!(rt; manager.lanes::<HmacSha512Kernel>().len(), 2);
+/// A job's zero bytes, the number of the job that comes back, and how many wait then.
+type Step = (u32, Option<usize>, u32);
+
+/// The rests are 4, 5, 4 and 6. The full run by 4 ends the first and the third job.
+const STEPS: [Step; 4] = [
+    (0, None, 1),
+    (112, None, 2),
+    (0, None, 3),
+    (300, Some(0), 2),
+];
+
+fn submit_each(rt: &impl Abort, alloc: Global, manager: &mut Manager) -> Result<(), Fail> {
+    for (number, step) in (0..4u8).zip(&STEPS) {
+        let (zeros, back, waiting) = *step;
+        assert_eq!(rt; submit_hmac(manager, alloc, number, zeros)?, back);
+        assert_eq!(rt; manager.waiting(Kind::HmacSha512), waiting);
+        assert_eq!(rt; manager.lanes::<HmacSha512Kernel>().len(), waiting);
+    }
+    Ok(())
+}
+
+/// The flush runs by 1, twice.
+fn flush_each(rt: &impl Abort, manager: &mut Manager) {
     assert_eq!(rt; number_of(manager.get_completed()), None);
-    assert_eq!(rt; number_of(manager.flush()), Some(1));
-    assert_eq!(rt; number_of(manager.flush()), Some(2));
-    assert_eq!(rt; number_of(manager.flush()), Some(3));
-    assert_eq!(rt; number_of(manager.flush()), None);
+    for back in [Some(1), Some(2), Some(3), None] {
+        assert_eq!(rt; number_of(manager.flush()), back);
+    }
+}
+
+fn check_counts(rt: &impl Abort, manager: &Manager) {
     assert_eq!(rt; manager.rounds(Kind::HmacSha512), 4);
     assert_eq!(rt; manager.blocks(Kind::HmacSha512), 16);
     assert_eq!(rt; manager.flush_runs(), 2);
+}
+
+fn fill_lanes(rt: &impl Abort, alloc: Global, manager: &mut Manager) -> Result<(), Fail> {
+    submit_each(rt, alloc, manager)?;
+    flush_each(rt, manager);
+    check_counts(rt, manager);
     Ok(())
+}
+
+#[test]
+fn jobs_wait_until_all_lanes_are_in_use(rt: HostRuntime) -> Result<(), Fail> {
+    fill_lanes(&rt, rt.alloc(), &mut Manager::new(rt.alloc())?)
 }
 
 /// SP 800-38A, F.2.1: the key, the IV, the first block of the plaintext, and that of the ciphertext.
@@ -154,11 +196,16 @@ fn bytes(alloc: Global, block: u128) -> Result<Bytes, AllocError> {
     Ok(Bytes::from_vec(block.to_be_bytes().to_vec(alloc)?))
 }
 
-/// A job whose packet is "Hi There", which is authenticated, and a block, which is encrypted.
-fn encrypt_and_authenticate(alloc: Global, order: Order) -> Result<Job, AllocError> {
-    let mut job = Job::blank(alloc);
+/// "Hi There" and a block.
+fn two_parts(alloc: Global) -> Result<Bytes, AllocError> {
+    let mut packet = b"Hi There".to_vec(alloc)?;
+    packet.extend_from_slice(&CBC[2].to_be_bytes())?;
+    Ok(Bytes::from_vec(packet))
+}
+
+/// Makes a job encrypt the block of its packet, and authenticate "Hi There".
+fn encrypt_and_authenticate(alloc: Global, job: &mut Job) -> Result<(), AllocError> {
     job.cipher = Cipher::Cbc;
-    job.order = order;
     job.key = bytes(alloc, CBC[0])?;
     job.iv = bytes(alloc, CBC[1])?;
     job.cipher_off = 8;
@@ -167,9 +214,15 @@ fn encrypt_and_authenticate(alloc: Global, order: Order) -> Result<Job, AllocErr
     job.auth_key = Bytes::from_vec([0x0b; 20].to_vec(alloc)?);
     job.hash_len = 8;
     job.tag_len = 20;
-    let mut packet = b"Hi There".to_vec(alloc)?;
-    packet.extend_from_slice(&CBC[2].to_be_bytes())?;
-    job.packet = Bytes::from_vec(packet);
+    job.packet = two_parts(alloc)?;
+    Ok(())
+}
+
+/// That job, in an order.
+fn job_of(alloc: Global, order: Order) -> Result<Job, AllocError> {
+    let mut job = Job::blank(alloc);
+    job.order = order;
+    encrypt_and_authenticate(alloc, &mut job)?;
     Ok(job)
 }
 
@@ -180,18 +233,17 @@ fn is_done(done: &Done) -> bool {
         && done.tag.bytes() == TAG.as_slice()
 }
 
-// The first job waits for CBC and the second one for HMAC. A flush runs CBC by one job, and HMAC by both; the next one runs
-// CBC by the second job.
-#[test]
-fn two_stages_go_through_lanes_in_either_order(rt: HostRuntime) -> Result<(), Fail> {
-    let mut manager = Manager::new(rt.alloc())?;
+fn submit_both(rt: &impl Abort, alloc: Global, manager: &mut Manager) -> Result<(), Fail> {
     for order in [Order::CipherHash, Order::HashCipher] {
-        let job = encrypt_and_authenticate(rt.alloc(), order)?;
-        if !manager.is_full() {
-            manager.put_next(job);
-            assert!(rt; manager.submit().is_none());
-        }
+        assert!(rt; manager.make_room().is_none());
+        let job = job_of(alloc, order)?;
+        manager.put_next(job);
+        assert!(rt; manager.submit().is_none());
     }
+    Ok(())
+}
+
+fn flush_both(rt: &impl Abort, manager: &mut Manager) {
     for _ in 0..2 {
         match manager.flush() {
             Some(done) => assert!(rt; is_done(&done)),
@@ -200,7 +252,19 @@ fn two_stages_go_through_lanes_in_either_order(rt: HostRuntime) -> Result<(), Fa
     }
     assert!(rt; manager.flush().is_none());
     assert_eq!(rt; manager.flush_runs(), 3);
+}
+
+// The first job waits for CBC and the second one for HMAC. A flush runs CBC by one job, and HMAC by both; the next one runs
+// CBC by the second job.
+fn go_through_lanes(rt: &impl Abort, alloc: Global, manager: &mut Manager) -> Result<(), Fail> {
+    submit_both(rt, alloc, manager)?;
+    flush_both(rt, manager);
     Ok(())
+}
+
+#[test]
+fn two_stages_go_through_lanes_in_either_order(rt: HostRuntime) -> Result<(), Fail> {
+    go_through_lanes(&rt, rt.alloc(), &mut Manager::new(rt.alloc())?)
 }
 
 #[test]
