@@ -2,6 +2,8 @@ ghost use Rattle.std.specs.Prelude.{◌≡◌, ◌<◌, [], ◌∷◌, ◌++◌,
 ghost use Rattle.mbj_ring.specs.Ring.{ring as state, place_of};
 
 use mbj_ring::{CELLS, Ring};
+use std::alloc::Global;
+use std::process::Abort;
 use std::rc::Rc;
 use std::test::*;
 
@@ -22,28 +24,69 @@ fn ring_crosses<T: Send>(ring: &Ring<T>) {
     crosses(ring);
 }
 
-#[test]
-fn a_fresh_ring_has_nothing(rt: HostRuntime) -> Result<(), Fail> {
-    let mut ring = Ring::<u32>::new(rt.alloc())?;
+fn check_fresh(rt: &impl Abort, ring: &mut Ring<u32>) {
     assert!(rt; ring.open_mut().is_none());
     assert!(rt; ring.front_mut().is_none());
     assert!(rt; ring.pop().is_none());
     assert_eq!(rt; ring.len(), 0);
-    ring_crosses(&ring);
-    Ok(())
+    ring_crosses(ring);
 }
 
 #[test]
-fn a_full_ring_pops_in_order(rt: HostRuntime) -> Result<(), Fail> {
-    let mut ring = Ring::new(rt.alloc())?;
+fn a_fresh_ring_has_nothing(rt: HostRuntime) -> Result<(), Fail> {
+    check_fresh(&rt, &mut Ring::new(rt.alloc())?);
+    Ok(())
+}
+
+/// Pushes the number of each cell.
+fn fill(ring: &mut Ring<u32>)
+    requires { ring.old ≡ state [] None 0 }
+{
     for value in 0..CELLS {
-        push(&mut ring, value);
+        push(ring, value);
     }
+}
+
+fn check_full(rt: &impl Abort, ring: &mut Ring<u32>) {
     assert_eq!(rt; ring.len(), 256);
     for value in 0..CELLS {
         assert_eq!(rt; ring.pop(), Some(value));
     }
     assert_eq!(rt; ring.pop(), None);
+}
+
+#[test]
+fn a_full_ring_pops_in_order(rt: HostRuntime) -> Result<(), Fail> {
+    let mut ring = Ring::new(rt.alloc())?;
+    fill(&mut ring);
+    check_full(&rt, &mut ring);
+    Ok(())
+}
+
+/// Commits three of the values, and opens a cell with the last one.
+fn share(ring: &mut Ring<Rc<u32>>, values: &[Rc<u32>; 4]) -> Result<(), Fail>
+    requires { ring.old ≡ state [] None 0 }
+{
+    push(ring, values[0].clone()?);
+    push(ring, values[1].clone()?);
+    push(ring, values[2].clone()?);
+    ring.open_cell(values[3].clone()?);
+    Ok(())
+}
+
+fn ring_of(alloc: Global, values: &[Rc<u32>; 4]) -> Result<Ring<Rc<u32>>, Fail> {
+    let mut ring = Ring::new(alloc)?;
+    share(&mut ring, values)?;
+    Ok(ring)
+}
+
+fn check_drops(rt: &impl Abort, alloc: Global, values: &[Rc<u32>; 4]) -> Result<(), Fail> {
+    let ring = ring_of(alloc, values)?;
+    assert_eq!(rt; Rc::strong_count(&values[3]), 2);
+    drop(ring);
+    for value in values {
+        assert_eq!(rt; Rc::strong_count(value), 1);
+    }
     Ok(())
 }
 
@@ -53,17 +96,27 @@ fn a_dropped_ring_drops_each_value_once(rt: HostRuntime) -> Result<(), Fail> {
     let two = Rc::new(rt.alloc(), 2)?;
     let three = Rc::new(rt.alloc(), 3)?;
     let four = Rc::new(rt.alloc(), 4)?;
-    let mut ring = Ring::new(rt.alloc())?;
-    push(&mut ring, one.clone()?);
-    push(&mut ring, two.clone()?);
-    push(&mut ring, three.clone()?);
-    ring.open_cell(four.clone()?);
-    assert_eq!(rt; Rc::strong_count(&four), 2);
-    drop(ring);
-    for value in [&one, &two, &three, &four] {
-        assert_eq!(rt; Rc::strong_count(value), 1);
+    check_drops(&rt, rt.alloc(), &[one, two, three, four])
+}
+
+/// Pushes a value behind the one that waits, and pops that one.
+fn replace(rt: &impl Abort, ring: &mut Ring<u32>, value: u32)
+    requires closed { ring.old.opened ≡ None }
+    requires one { length ring.old.values ≡ 1 }
+    requires first { ring.old.first < CELLS }
+    requires value { value < 300 }
+    ensures closed { ring.new.opened ≡ None }
+    ensures one { length ring.new.values ≡ 1 }
+    ensures first { ring.new.first < CELLS }
+{
+    let place = push(ring, value);
+    assert_eq!(rt; place, value % 256);
+    *ring.at_mut(place) += 1000;
+    if let Some(first) = ring.front_mut() {
+        *first = first.wrapping_add(1);
     }
-    Ok(())
+    let want = if value == 1 { 1 } else { value + 1000 };
+    assert_eq!(rt; ring.pop(), Some(want));
 }
 
 #[test]
@@ -71,28 +124,26 @@ fn places_wrap_round_the_end(rt: HostRuntime) -> Result<(), Fail> {
     let mut ring = Ring::new(rt.alloc())?;
     push(&mut ring, 0u32);
     for value in 1..300u32 {
-        let place = push(&mut ring, value);
-        assert_eq!(rt; place, value % 256);
-        *ring.at_mut(place) += 1000;
-        if let Some(first) = ring.front_mut() {
-            *first = first.wrapping_add(1);
-        }
-        let want = if value == 1 { 1 } else { value + 1000 };
-        assert_eq!(rt; ring.pop(), Some(want));
+        replace(&rt, &mut ring, value);
     }
     assert_eq!(rt; ring.len(), 1);
     Ok(())
 }
 
-#[test]
-fn the_open_value_is_committed_as_written(rt: HostRuntime) -> Result<(), Fail> {
-    let mut ring = Ring::new(rt.alloc())?;
-    ring.open_cell(7u32);
+fn commit_as_written(rt: &impl Abort, ring: &mut Ring<u32>)
+    requires { ring.old ≡ state [] None 0 }
+{
+    ring.open_cell(7);
     if let Some(open) = ring.open_mut() {
         *open = 8;
     }
     assert_eq!(rt; ring.commit(), 0);
     assert!(rt; ring.open_mut().is_none());
     assert_eq!(rt; ring.pop(), Some(8));
+}
+
+#[test]
+fn the_open_value_is_committed_as_written(rt: HostRuntime) -> Result<(), Fail> {
+    commit_as_written(&rt, &mut Ring::new(rt.alloc())?);
     Ok(())
 }
