@@ -33,12 +33,9 @@ fn bytes(alloc: Global, block: u128) -> Result<Bytes, AllocError> {
     Ok(Bytes::from_vec(Vec::from_slice(alloc, &block.to_be_bytes())?))
 }
 
-/// A job with CBC and CMAC over a packet of one block.
-fn cbc_cmac(alloc: Global, dir: Dir, order: Order, packet: u128) -> Result<Job, AllocError> {
-    let mut job = Job::blank(alloc);
+/// Gives a job CBC and CMAC over a packet of one block.
+fn fill_cbc_cmac(alloc: Global, job: &mut Job, packet: u128) -> Result<(), AllocError> {
     job.cipher = Cipher::Cbc;
-    job.dir = dir;
-    job.order = order;
     job.key = bytes(alloc, KEY)?;
     job.iv = bytes(alloc, IV)?;
     job.cipher_len = 16;
@@ -47,6 +44,15 @@ fn cbc_cmac(alloc: Global, dir: Dir, order: Order, packet: u128) -> Result<Job, 
     job.hash_len = 16;
     job.tag_len = 16;
     job.packet = bytes(alloc, packet)?;
+    Ok(())
+}
+
+/// A job with CBC and CMAC over a packet of one block.
+fn cbc_cmac(alloc: Global, dir: Dir, order: Order, packet: u128) -> Result<Job, AllocError> {
+    let mut job = Job::blank(alloc);
+    job.dir = dir;
+    job.order = order;
+    fill_cbc_cmac(alloc, &mut job, packet)?;
     Ok(job)
 }
 
@@ -148,17 +154,22 @@ fn hash_after_cipher_is_over_the_ciphertext(rt: HostRuntime) -> Result<(), Fail>
     Ok(())
 }
 
+fn fill_gcm(alloc: Global, job: &mut Job) -> Result<(), AllocError> {
+    job.cipher = Cipher::Gcm;
+    job.key = bytes(alloc, 0)?;
+    job.iv = Bytes::from_vec(Vec::from_slice(alloc, &[0; 12])?);
+    job.cipher_len = 16;
+    job.auth = Auth::Gcm;
+    job.tag_len = 16;
+    job.packet = bytes(alloc, 0)?;
+    Ok(())
+}
+
 // The GCM specification, test case 2.
 #[test]
 fn gcm_makes_text_and_tag(rt: HostRuntime) -> Result<(), Fail> {
     let mut job = Job::blank(rt.alloc());
-    job.cipher = Cipher::Gcm;
-    job.key = bytes(rt.alloc(), 0)?;
-    job.iv = Bytes::from_vec(Vec::from_slice(rt.alloc(), &[0; 12])?);
-    job.cipher_len = 16;
-    job.auth = Auth::Gcm;
-    job.tag_len = 16;
-    job.packet = bytes(rt.alloc(), 0)?;
+    fill_gcm(rt.alloc(), &mut job)?;
     let tag = 0xab6e47d42cec13bdf53a67b21257bddfu128.to_be_bytes();
     assert!(rt;
         is(

@@ -4,6 +4,9 @@ use mbj_types::{
     Auth, Bytes, Cipher, Done, Job, Kind, PostFull, Reason, RingFull, Status, Tag,
     kinds_are_told_in_order, limits_are_these_numbers, xor_in_place,
 };
+use std::alloc::{AllocError, Global};
+use std::fmt::Display;
+use std::process::Abort;
 use std::test::Fail;
 
 /// Takes a value that may cross to another thread.
@@ -37,20 +40,35 @@ fn jobs_and_results_may_cross_to_another_thread(rt: HostRuntime) {
     });
 }
 
-#[test]
-fn a_copied_job_is_equal_and_stands_alone(rt: HostRuntime) -> Result<(), Fail> {
-    let mut job = Job::blank(rt.alloc());
+fn fill(alloc: Global, job: &mut Job) -> Result<(), AllocError> {
     job.auth = Auth::HmacSha1;
-    job.aad = Bytes::from_vec(b"header".to_vec(rt.alloc())?);
-    job.packet = Bytes::from_vec(b"packet".to_vec(rt.alloc())?);
+    job.aad = Bytes::from_vec(b"header".to_vec(alloc)?);
+    job.packet = Bytes::from_vec(b"packet".to_vec(alloc)?);
     job.tag_len = 12;
-    let copy = job.copy(rt.alloc())?;
-    drop(job);
+    Ok(())
+}
+
+/// A copy of a job that is dropped.
+fn copied(alloc: Global) -> Result<Job, AllocError> {
+    let mut job = Job::blank(alloc);
+    fill(alloc, &mut job)?;
+    job.copy(alloc)
+}
+
+fn check_copied(rt: &impl Abort, copy: &Job) {
     assert_eq!(rt; copy.auth, Auth::HmacSha1);
     assert_eq!(rt; copy.aad.as_slice(), b"header".as_slice());
     assert_eq!(rt; copy.packet.as_slice(), b"packet".as_slice());
     assert_eq!(rt; copy.tag_len, 12);
-    let blank = Job::blank(rt.alloc()).copy(rt.alloc())?;
+}
+
+/// A copy of a blank job that is dropped.
+fn blank_copied(alloc: Global) -> Result<Job, AllocError> {
+    let job = Job::blank(alloc);
+    job.copy(alloc)
+}
+
+fn check_blank(rt: &impl Abort, blank: &Job) {
     assert_eq!(rt;
         (blank.cipher, blank.auth, blank.tag_len),
         (Cipher::Null, Auth::Null, 0)
@@ -59,6 +77,12 @@ fn a_copied_job_is_equal_and_stands_alone(rt: HostRuntime) -> Result<(), Fail> {
         blank.key.as_slice().len() + blank.packet.as_slice().len(),
         0
     );
+}
+
+#[test]
+fn a_copied_job_is_equal_and_stands_alone(rt: HostRuntime) -> Result<(), Fail> {
+    check_copied(&rt, &copied(rt.alloc())?);
+    check_blank(&rt, &blank_copied(rt.alloc())?);
     Ok(())
 }
 
@@ -73,25 +97,38 @@ fn reasons_and_lanes_have_their_numbers(rt: HostRuntime) {
     kinds_are_told_in_order();
 }
 
+fn check_shown(
+    rt: &impl Abort,
+    alloc: Global,
+    value: &impl Display,
+    want: &str,
+) -> Result<(), Fail> {
+    let shown = format!(in alloc; "{value}")?;
+    assert_eq!(rt; shown.as_str(), want);
+    Ok(())
+}
+
 #[test]
 fn refusals_say_what_is_wrong(rt: HostRuntime) -> Result<(), Fail> {
     let alloc = rt.alloc();
-    let reason = format!(in alloc; "{}", Reason::GcmPair)?;
-    assert_eq!(rt;
-        reason.as_str(),
-        "exactly one of cipher and authentication is GCM"
-    );
-    let ring = format!(in alloc; "{RingFull}")?;
-    assert_eq!(rt;
-        ring.as_str(),
-        "every cell of the manager's ring has a job that was not given back"
-    );
-    let post = format!(in alloc; "{}", PostFull(Job::blank(alloc)))?;
-    assert_eq!(rt;
-        post.as_str(),
-        "every cell of the submitter has a job that was not collected"
-    );
-    Ok(())
+    check_shown(
+        &rt,
+        alloc,
+        &Reason::GcmPair,
+        "exactly one of cipher and authentication is GCM",
+    )?;
+    check_shown(
+        &rt,
+        alloc,
+        &RingFull,
+        "every cell of the manager's ring has a job that was not given back",
+    )?;
+    check_shown(
+        &rt,
+        alloc,
+        &PostFull(Job::blank(alloc)),
+        "every cell of the submitter has a job that was not collected",
+    )
 }
 
 #[test]
