@@ -8,7 +8,6 @@ ghost use Rattle.mbj_blocks.specs.Places.{block_of, with_block};
 
 use mbj_types::{BLOCK_BYTES, xor_in_place};
 
-
 /// The 16 bytes of a text from `start` on, which it has.
 #[inline(always)]
 pub fn block_from(text: &[u8], start: usize) -> [u8; 16]

@@ -14,7 +14,6 @@ use mbj_blocks::xor_block;
 use mbj_types::BLOCK_BYTES;
 use std::simd::{u8x16, u64x2};
 
-
 // The blocks that are enciphered at once.
 const LANES: usize = 16;
 

@@ -12,7 +12,7 @@ returns-clause-due g c =
     let w = view_of c.if-claim_own.self.seat in let u = view_of c.give_all_back.new.self.seat in
     let claimed = keeps_on v (view_of c.has_first-from_first.new.self.seat) own c.has_first-from_first.ensures.due c.claim_own.ensures.due in
     let helped : KeepsDue v w = elim c.if-claim_own.branch [
-      then-claim_own b ↦ subst (λ (p : Party). KeepsDue v (view_of p.seat)) (sym b.self-is) claimed
-    | else-claim_own b ↦ subst (λ (p : Party). KeepsDue v (view_of p.seat)) (sym b.self-is)
+      | then-claim_own b ↦ subst (λ (p : Party). KeepsDue v (view_of p.seat)) (sym b.self-is) claimed
+      | else-claim_own b ↦ subst (λ (p : Party). KeepsDue v (view_of p.seat)) (sym b.self-is)
           (keeps_on v own (view_of b.settle_at-helped.new.self.seat) claimed b.settle_at-helped.ensures.due)
     ] in keeps_on v w u helped (keeps_finishing w u u.hand helped.1 c.give_all_back.ensures.part)

@@ -12,12 +12,12 @@ loop-preserved g c =
     let was = c.loop.invariant in let back = c.give_all_back.ensures in
     let hunted = keeps_on v (view_of c.loop.self.seat) h was.due c.hunt.ensures.due in
     let kept : KeepsDue v w = elim c.match-hunt.branch [
-      in-Some-hunt b ↦ subst (λ (p : Party). KeepsDue v (view_of p.seat)) (sym b.self-is) (keeps_on v h (view_of b.work_on.new.self.seat) hunted b.work_on.ensures.due)
-    | in-None-hunt+else-stopped b ↦ subst (λ (p : Party). KeepsDue v (view_of p.seat)) (sym b.self-is) (keeps_on v h (view_of b.settle_or_pause.new.self.seat) hunted b.settle_or_pause.ensures.due)
+      | in-Some-hunt b ↦ subst (λ (p : Party). KeepsDue v (view_of p.seat)) (sym b.self-is) (keeps_on v h (view_of b.work_on.new.self.seat) hunted b.work_on.ensures.due)
+      | in-None-hunt+else-stopped b ↦ subst (λ (p : Party). KeepsDue v (view_of p.seat)) (sym b.self-is) (keeps_on v h (view_of b.settle_or_pause.new.self.seat) hunted b.settle_or_pause.ensures.due)
     ] in
     let from : c.match-hunt.from < cells_of c.args.front.now = elim c.match-hunt.branch [
-      in-Some-hunt b ↦ subst (λ (n : ℕ). n < cells_of c.args.front.now) (sym b.from-is) b.in-Some-hunt.ensures.cell
-    | in-None-hunt+else-stopped b ↦ subst (λ (n : ℕ). n < cells_of c.args.front.now) (sym b.from-is) was.from
+      | in-Some-hunt b ↦ subst (λ (n : ℕ). n < cells_of c.args.front.now) (sym b.from-is) b.in-Some-hunt.ensures.cell
+      | in-None-hunt+else-stopped b ↦ subst (λ (n : ℕ). n < cells_of c.args.front.now) (sym b.from-is) was.from
     ] in record {
       next = tt;
       finite = tt;
