@@ -2,7 +2,7 @@
 #![tactic(auto)]
 
 #[cfg(test)]
-mod core;
+mod events;
 #[cfg(test)]
 mod front;
 #[cfg(test)]

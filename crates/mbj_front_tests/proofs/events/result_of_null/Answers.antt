@@ -3,7 +3,7 @@ use Rattle.mbj_types.specs.declared.limits.TheConstants.{MAX_PACKET_BYTES}
 use Rattle.mbj_types.specs.declared.job.Cipher.TheVariants as cipher
 use Rattle.mbj_types.specs.declared.job.Auth.TheVariants as auth
 use Rattle.mbj_front_tests.proofs.NullJobs.{null_result}
-use Rattle.mbj_front_tests.proofs.core.result_of_null.Goals as goal
+use Rattle.mbj_front_tests.proofs.events.result_of_null.Goals as goal
 
 pub returns : goal.returns
 returns c =
