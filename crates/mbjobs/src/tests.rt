@@ -143,27 +143,33 @@ fn words_that_are_no_command_are_told(rt: HostRuntime) {
     }
 }
 
-#[test]
-fn a_failed_read_or_write_ends_the_run(rt: HostRuntime) {
+/// Runs the first job with these reads and writes failing, and compares how it ends.
+fn check_failing<R: Host>(
+    rt: &R,
+    alloc: Global,
+    read_piece: u32,
+    failing_reads: &[u64],
+    failing_writes: &[u64],
+    told: Told<'_>,
+) {
     let run = Run {
+        read_piece,
+        failing_reads,
         write_piece: 7,
+        failing_writes,
         ..Run::new(&RUN, FIRST_JOB.as_bytes())
     };
-    let read = Run {
-        read_piece: 5,
-        failing_reads: &[1],
-        ..run
-    };
-    read.check(&rt, rt.alloc(), Told::new(3, "", "mbjobs: read failed\n"));
+    run.check(rt, alloc, told);
+}
+
+#[test]
+fn a_failed_read_or_write_ends_the_run(rt: HostRuntime) {
+    let unread = Told::new(3, "", "mbjobs: read failed\n");
+    check_failing(&rt, rt.alloc(), 5, &[1], &[], unread);
 
     // A sink that takes 7 bytes a call and fails at its call 2 holds the first 14.
-    let write = Run {
-        read_piece: 64,
-        failing_writes: &[2],
-        ..run
-    };
-    let told = Told::new(4, "0 ok 486920546", "mbjobs: write failed\n");
-    write.check(&rt, rt.alloc(), told);
+    let unwritten = Told::new(4, "0 ok 486920546", "mbjobs: write failed\n");
+    check_failing(&rt, rt.alloc(), 64, &[], &[2], unwritten);
 }
 
 /// A source that is at its end once, and would then give more.

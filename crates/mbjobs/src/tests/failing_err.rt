@@ -1,7 +1,8 @@
 use super::limits::{NULL_JOB, lines_around};
-use super::runs::{Host, Run};
+use super::runs::{Ending, Host, Run, check_same};
 use super::{FIRST_JOB, RUN};
 use std::alloc::Global;
+use std::process::Abort;
 
 const BAD_SECOND: &str =
     "null enc ch - - 0 0 hmac-sha1 0b0b0b0b0b0b0b0b0b0b0b0b0b0b0b0b0b0b0b0b - 0 8 20 4869205468657265\ncbc enc ch abc - 0 0 null - - 0 0 0 -\n";
@@ -45,17 +46,21 @@ const CASES: [Case; 9] = [
     (&["mbjobs", "--help"], FIRST_JOB, &[], &[], 2),
 ];
 
-/// Runs the program with a standard error whose every write fails, and compares the status. Standard error failed where
-/// anything was to be told.
+/// Compares the status. Standard error, which takes nothing, failed where anything was to be told.
+fn check_ending<R: Abort>(rt: &R, ending: &Ending, status: u8, words: &[&str]) {
+    let (held, faults) = (ending.err.held(), ending.err.faults());
+    check_same(
+        rt,
+        &(ending.status, held.len(), faults > 0),
+        &(status, 0, status != 0),
+        &words,
+    );
+}
+
+/// Runs the program with a standard error whose every write fails, and compares the status.
 fn check_untold<R: Host>(rt: &R, alloc: Global, run: Run<'_>, status: u8) {
     let ending = Run { err_room: 0, ..run }.end(rt, alloc);
-    let (held, faults) = (ending.err.held(), ending.err.faults());
-    assert_eq!(rt;
-        (ending.status, held.len(), faults > 0),
-        (status, 0, status != 0),
-        "{:?}",
-        run.words
-    );
+    check_ending(rt, &ending, status, run.words);
 }
 
 #[test]
@@ -79,14 +84,19 @@ const LIMITS: [(&str, usize, &str, usize, u8); 3] = [
     ("\n", 16_777_216, "\n", 0, 6),
 ];
 
+/// Runs a file with a standard error whose every write fails, and compares the status.
+fn check_file<R: Host>(rt: &R, alloc: Global, file: &[u8], status: u8) {
+    let run = Run {
+        write_piece: 64,
+        ..Run::new(&RUN, file)
+    };
+    check_untold(rt, alloc, run, status);
+}
+
 #[test]
 fn an_err_that_always_fails_changes_no_limit(rt: HostRuntime) {
     for (text, before, between, after, status) in &LIMITS {
         let file = lines_around(rt.alloc(), text, *before, between, *after).expect(&rt, "memory");
-        let run = Run {
-            write_piece: 64,
-            ..Run::new(&RUN, file.as_bytes())
-        };
-        check_untold(&rt, rt.alloc(), run, *status);
+        check_file(&rt, rt.alloc(), file.as_bytes(), *status);
     }
 }

@@ -74,16 +74,33 @@ impl Gate for Holding {
     }
 }
 
+/// Runs a file with the party held at a moment, and compares the text.
+fn compare_held<R: Host>(
+    rt: &R,
+    alloc: Global,
+    party: u32,
+    moment: Moment,
+    file: &[u8],
+    text: &[u8],
+) {
+    let gate = Holding::new(party, moment);
+    let ending = Run::new(&WORDS, file).under(rt, alloc, &gate);
+    ending.check_long(rt, text, &moment);
+}
+
 /// Runs a file with the party held at each moment, and compares the text with that of a run with one party.
-fn compare<R: Host>(rt: &R, alloc: Global, party: u32, moments: &[Moment]) {
-    let file = generated_file(alloc, 7, 600).expect(rt, "memory");
-    let one = Run::new(&RUN, file.as_bytes()).end(rt, alloc);
+fn compare_file<R: Host>(rt: &R, alloc: Global, party: u32, moments: &[Moment], file: &[u8]) {
+    let one = Run::new(&RUN, file).end(rt, alloc);
     one.check_end(rt, b"\n");
     for moment in moments {
-        let gate = Holding::new(party, *moment);
-        let ending = Run::new(&WORDS, file.as_bytes()).under(rt, alloc, &gate);
-        ending.check_long(rt, one.out.held(), moment);
+        compare_held(rt, alloc, party, *moment, file, one.out.held());
     }
+}
+
+/// Runs generated jobs with the party held at each moment, and compares the text with that of a run with one party.
+fn compare<R: Host>(rt: &R, alloc: Global, party: u32, moments: &[Moment]) {
+    let file = generated_file(alloc, 7, 600).expect(rt, "memory");
+    compare_file(rt, alloc, party, moments, file.as_bytes());
 }
 
 // Each hold may last for all its turns, which take seconds: so these are two tests.

@@ -125,24 +125,39 @@ pub(super) fn words_with<'a>(submitters: &'a str, workers: &'a str) -> [&'a str;
     ]
 }
 
+/// Runs a file by these words, and compares what it writes.
+fn compare_run<'a, R: Host>(
+    rt: &R,
+    alloc: Global,
+    words: &'a [&'a str],
+    file: &'a [u8],
+    text: &[u8],
+) {
+    let ending = Run::new(words, file).end(rt, alloc);
+    ending.check_long(rt, text, &words);
+}
+
 /// Runs a file with each number of submitters and of workers, and compares what it writes.
 fn compare_parties<R: Host>(rt: &R, alloc: Global, file: &[u8], text: &[u8]) {
     for submitters in SUBMITTERS {
         for workers in WORKERS {
-            let words = words_with(submitters, workers);
-            let ending = Run::new(&words, file).end(rt, alloc);
-            ending.check_long(rt, text, &words);
+            compare_run(rt, alloc, &words_with(submitters, workers), file, text);
         }
     }
+}
+
+/// Compares what a file writes with each number of submitters and of workers with what it writes with one submitter.
+fn compare_file<R: Host>(rt: &R, alloc: Global, file: &[u8]) {
+    let one = Run::new(&RUN, file).end(rt, alloc);
+    one.check_end(rt, b"\n");
+    compare_parties(rt, alloc, file, one.out.held());
 }
 
 // With one and with two submitters a submitter has more jobs than cells.
 #[test]
 fn the_text_does_not_depend_on_submitters_and_workers(rt: HostRuntime) {
     let file = generated_file(rt.alloc(), 7, 600).expect(&rt, "memory");
-    let one = Run::new(&RUN, file.as_bytes()).end(&rt, rt.alloc());
-    one.check_end(&rt, b"\n");
-    compare_parties(&rt, rt.alloc(), file.as_bytes(), one.out.held());
+    compare_file(&rt, rt.alloc(), file.as_bytes());
 }
 
 /// Seed and number of jobs, and what they come to by a program of their own.

@@ -104,6 +104,34 @@ fn add_ending(endings: &mut Vec<u8>, alloc: Global, ending: &Ending) -> Result<(
     endings.extend_from_slice(ending.err.held())
 }
 
+/// Adds how a run ends.
+fn add_end<R: Host>(
+    endings: &mut Vec<u8>,
+    rt: &R,
+    alloc: Global,
+    run: &Run<'_>,
+) -> Result<(), AllocError> {
+    let ending = run.end(rt, alloc);
+    add_ending(endings, alloc, &ending)
+}
+
+/// Adds how a command ends on the input of a kind and a seed.
+fn add_end_of<R: Host>(
+    endings: &mut Vec<u8>,
+    rt: &R,
+    alloc: Global,
+    words: &'static [&'static str],
+    kind: Kind,
+    seed: u64,
+) -> Result<(), AllocError> {
+    let input = input_of(alloc, kind, seed)?;
+    let run = Run {
+        input: &input,
+        ..Run::new(words, b"")
+    };
+    add_end(endings, rt, alloc, &run)
+}
+
 /// How a command ends on inputs of a kind: each time a line of its status, and then what it writes.
 fn endings<R: Host>(
     rt: &R,
@@ -113,12 +141,7 @@ fn endings<R: Host>(
 ) -> Result<Vec<u8>, AllocError> {
     let mut endings = Vec::new(alloc);
     for seed in 0..SEEDS {
-        let input = input_of(alloc, kind, seed)?;
-        let run = Run {
-            input: &input,
-            ..Run::new(words, b"")
-        };
-        add_ending(&mut endings, alloc, &run.end(rt, alloc))?;
+        add_end_of(&mut endings, rt, alloc, words, kind, seed)?;
     }
     Ok(endings)
 }

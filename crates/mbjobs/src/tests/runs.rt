@@ -179,13 +179,12 @@ impl<'a> Run<'a> {
     /// Runs the program, and compares its status and what it writes.
     pub(super) fn check<R: Host>(&self, rt: &R, alloc: Global, told: Told<'_>) {
         let ending = self.end(rt, alloc);
-        assert_eq!(rt;
-            ending.told(),
-            told,
-            "{:?} on {} bytes",
-            self.words,
-            self.input.len()
-        );
+        self.compare(rt, ending.told(), told);
+    }
+
+    /// Compares how the run ended with what is right.
+    fn compare<R: Abort>(&self, rt: &R, found: Told<'_>, right: Told<'_>) {
+        check_same(rt, &found, &right, &(self.words, self.input.len()));
     }
 }
 

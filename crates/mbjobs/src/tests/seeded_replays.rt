@@ -160,7 +160,31 @@ fn replayed(alloc: Global, jobs: &String, state: u64) -> Result<String, AllocErr
     format!(in alloc; "{jobs}{script}")
 }
 
-/// Runs jobs and replays them, and compares what they come to.
+/// Replays a file, and compares what it comes to with a run of its jobs.
+fn compare_replay<R: Host>(
+    rt: &R,
+    alloc: Global,
+    file: &[u8],
+    run: &Ending,
+    digest: &str,
+) -> Result<(), Fail> {
+    let replay = Run::new(&REPLAY, file).end(rt, alloc);
+    compare_endings(rt, alloc, &replay, run, digest)
+}
+
+/// Runs jobs and replays them in a file with a script, and compares what they come to.
+fn compare_runs<R: Host>(
+    rt: &R,
+    alloc: Global,
+    jobs: &[u8],
+    file: &[u8],
+    digest: &str,
+) -> Result<(), Fail> {
+    let run = Run::new(&RUN, jobs).end(rt, alloc);
+    compare_replay(rt, alloc, file, &run, digest)
+}
+
+/// Runs jobs and replays them by the commands that are drawn from a state, and compares what they come to.
 fn compare<R: Host>(
     rt: &R,
     alloc: Global,
@@ -169,9 +193,7 @@ fn compare<R: Host>(
     digest: &str,
 ) -> Result<(), Fail> {
     let file = replayed(alloc, jobs, state)?;
-    let run = Run::new(&RUN, jobs.as_bytes()).end(rt, alloc);
-    let replay = Run::new(&REPLAY, file.as_bytes()).end(rt, alloc);
-    compare_endings(rt, alloc, &replay, &run, digest)
+    compare_runs(rt, alloc, jobs.as_bytes(), file.as_bytes(), digest)
 }
 
 #[test]

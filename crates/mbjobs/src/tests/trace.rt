@@ -20,73 +20,88 @@ enum Traced {
     BadKey,
 }
 
-/// The key of HMACs, and key and IV of AES.
-const HMAC_KEY: &str = "0b0b0b0b0b0b0b0b0b0b0b0b0b0b0b0b0b0b0b0b";
+// The fields of a job before its packet, cut where the packet's length stands.
+const HMAC_SHA224: [&str; 2] = [
+    "null enc ch - - 0 0 hmac-sha224 0b0b0b0b0b0b0b0b0b0b0b0b0b0b0b0b0b0b0b0b - 0 ",
+    " 28 ",
+];
 
-const KEY: &str = "2b7e151628aed2a6abf7158809cf4f3c";
+const HMAC_SHA256: [&str; 2] = [
+    "null enc ch - - 0 0 hmac-sha256 0b0b0b0b0b0b0b0b0b0b0b0b0b0b0b0b0b0b0b0b - 0 ",
+    " 32 ",
+];
 
-const IV: &str = "000102030405060708090a0b0c0d0e0f";
+const HMAC_SHA512: [&str; 2] = [
+    "null enc ch - - 0 0 hmac-sha512 0b0b0b0b0b0b0b0b0b0b0b0b0b0b0b0b0b0b0b0b - 0 ",
+    " 64 ",
+];
+
+const CMAC128: [&str; 2] = [
+    "null enc ch - - 0 0 cmac128 2b7e151628aed2a6abf7158809cf4f3c - 0 ",
+    " 16 ",
+];
+
+const CTR: [&str; 2] = [
+    "ctr enc ch 2b7e151628aed2a6abf7158809cf4f3c 000102030405060708090a0b0c0d0e0f 0 ",
+    " null - - 0 0 0 ",
+];
+
+const CBC_HMAC_SHA512: [&str; 3] = [
+    "cbc enc ch 2b7e151628aed2a6abf7158809cf4f3c 000102030405060708090a0b0c0d0e0f 0 ",
+    " hmac-sha512 0b0b0b0b0b0b0b0b0b0b0b0b0b0b0b0b0b0b0b0b - 0 ",
+    " 64 ",
+];
+
+const BAD_KEY: &str =
+    "cbc enc ch 2b7e151628aed2a6abf7158809cf4f 000102030405060708090a0b0c0d0e0f 0 16 null - - 0 0 0 -\n";
 
 impl Traced {
-    /// How many zero bytes the packet has.
-    fn count(self) -> usize {
+    /// Adds the line of the job.
+    fn add_line(self, file: &mut String, alloc: Global) -> Result<(), AllocError> {
         match self {
-            Traced::First | Traced::BadKey => 0,
-            Traced::HmacSha224(count)
-            | Traced::HmacSha256(count)
-            | Traced::HmacSha512(count)
-            | Traced::Cmac128(count)
-            | Traced::Ctr(count)
-            | Traced::CbcHmacSha512(count) => count,
+            Traced::First => file.push_str(FIRST_JOB),
+            Traced::HmacSha224(count) => add_zeros(file, alloc, &HMAC_SHA224, count),
+            Traced::HmacSha256(count) => add_zeros(file, alloc, &HMAC_SHA256, count),
+            Traced::HmacSha512(count) => add_zeros(file, alloc, &HMAC_SHA512, count),
+            Traced::Cmac128(count) => add_zeros(file, alloc, &CMAC128, count),
+            Traced::Ctr(count) => add_zeros(file, alloc, &CTR, count),
+            Traced::CbcHmacSha512(count) => add_zeros(file, alloc, &CBC_HMAC_SHA512, count),
+            Traced::BadKey => file.push_str(BAD_KEY),
         }
-    }
-
-    /// The line of the job in a job file, whose packet is so many zero bytes.
-    fn line_with(self, alloc: Global, count: usize, packet: &str) -> Result<String, AllocError> {
-        match self {
-            Traced::First => String::from_str(alloc, FIRST_JOB),
-            Traced::HmacSha224(_) => hmac_line(alloc, "sha224", 28, count, packet),
-            Traced::HmacSha256(_) => hmac_line(alloc, "sha256", 32, count, packet),
-            Traced::HmacSha512(_) => hmac_line(alloc, "sha512", 64, count, packet),
-            Traced::Cmac128(_) => format!(in alloc;
-                "null enc ch - - 0 0 cmac128 {KEY} - 0 {count} 16 {packet}\n"
-            ),
-            Traced::Ctr(_) => format!(in alloc;
-                "ctr enc ch {KEY} {IV} 0 {count} null - - 0 0 0 {packet}\n"
-            ),
-            Traced::CbcHmacSha512(_) => format!(in alloc;
-                "cbc enc ch {KEY} {IV} 0 {count} hmac-sha512 {HMAC_KEY} - 0 {count} 64 {packet}\n"
-            ),
-            Traced::BadKey => format!(in alloc;
-                "cbc enc ch 2b7e151628aed2a6abf7158809cf4f {IV} 0 16 null - - 0 0 0 -\n"
-            ),
-        }
-    }
-
-    /// The line of the job in a job file.
-    fn line(self, alloc: Global) -> Result<String, AllocError> {
-        let packet = zeros(alloc, self.count())?;
-        self.line_with(alloc, self.count(), &packet)
     }
 }
 
-/// So many zero bytes as a field.
-fn zeros(alloc: Global, count: usize) -> Result<String, AllocError> {
-    if count == 0 {
-        String::from_str(alloc, "-")
-    } else {
-        "00".repeat(alloc, count)
-    }
-}
-
-fn hmac_line(
+/// Adds the line of a job over so many zero bytes.
+fn add_zeros(
+    file: &mut String,
     alloc: Global,
-    hash: &str,
-    tag_len: usize,
+    fields: &[&str],
     count: usize,
-    packet: &str,
-) -> Result<String, AllocError> {
-    format!(in alloc; "null enc ch - - 0 0 hmac-{hash} {HMAC_KEY} - 0 {count} {tag_len} {packet}\n")
+) -> Result<(), AllocError> {
+    add_fields(file, alloc, fields, count)?;
+    add_packet(file, alloc, count)?;
+    file.push_str("\n")
+}
+
+/// Adds the fields of a job before its packet, which has so many bytes.
+fn add_fields(
+    file: &mut String,
+    alloc: Global,
+    fields: &[&str],
+    count: usize,
+) -> Result<(), AllocError> {
+    let length = format!(in alloc; "{count}")?;
+    let text = fields.join(alloc, &length)?;
+    file.push_str(&text)
+}
+
+/// Adds so many zero bytes as a field.
+fn add_packet(file: &mut String, alloc: Global, count: usize) -> Result<(), AllocError> {
+    if count == 0 {
+        return file.push_str("-");
+    }
+    let packet = "00".repeat(alloc, count)?;
+    file.push_str(&packet)
 }
 
 /// Jobs, and how often they come one after another.
@@ -196,8 +211,7 @@ const CASES: [(&[Jobs], &[Printed]); 8] = [
 /// Adds the lines of jobs.
 fn add_jobs(file: &mut String, alloc: Global, jobs: &[Traced]) -> Result<(), AllocError> {
     for job in jobs {
-        let line = job.line(alloc)?;
-        file.push_str(&line)?;
+        job.add_line(file, alloc)?;
     }
     Ok(())
 }
