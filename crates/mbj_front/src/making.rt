@@ -1,6 +1,6 @@
 // How a front and its seats are made.
-ghost use Rattle.std.specs.Prelude.{◌≡◌, ◌+◌, ◌≤◌, [], vec_len, replicate, IfOk};
-ghost use Rattle.mbj_core.specs.declared.cells.TheConstants.{MAX_SUBMITTERS, MAX_WORKERS};
+ghost use Rattle.std.specs.Prelude.{◌≡◌, ◌+◌, ◌*◌, ◌≤◌, [], vec_len, replicate, IfOk};
+ghost use Rattle.mbj_core.specs.declared.cells.TheConstants.{MAX_SUBMITTERS, MAX_WORKERS, SUBMITTER_CELLS};
 ghost use Rattle.mbj_front.specs.declared.slot.Slot.TheVariants.{Blank};
 ghost use Rattle.mbj_front.specs.Rule.{root};
 ghost use Rattle.mbj_front.specs.Seats.{submitters_of, workers_of, IsIssued};
@@ -9,12 +9,16 @@ use crate::front::SharedFront;
 use crate::place::{Place, Size};
 use crate::plays::Cut;
 use crate::results::Results;
+use crate::rule::FrontRule;
 use crate::seat::PartySeat;
 use crate::slot::Slot;
 use crate::words::FREE;
 use atomic_table::{Refused, Table};
 use mbj_core::SUBMITTER_CELLS;
 use std::alloc::{AllocError, Global};
+
+/// The words and slots of a front's cells, and what its seats know of it.
+type FrontTable<J, D, R> = Table<Slot<J, D>, Place<D>, Size, FrontRule<R>, Global>;
 
 /// So many slots that hold nothing.
 ///
@@ -45,6 +49,30 @@ impl<J: Drop, D: Drop, R: Results<J, D>> SharedFront<J, D, R> {
         ensures parties { IfOk result (λ made. vec_len made.1 ≡ submitters + workers) }
         ensures seats { IfOk result (λ made. IsIssued made.0 made.1.items) }
     {
+        let (table, whole) = SharedFront::lay_table(alloc, submitters, workers)?;
+        let front = SharedFront { table, submitters };
+        let seats = front.cut_seats(alloc, whole, submitters + workers)?;
+        Ok((front, seats))
+    }
+
+    /// The table of a front in which nothing is posted, and the seat from which those of its parties are cut.
+    fn lay_table(
+        alloc: Global,
+        submitters: u32,
+        workers: u32,
+    ) -> Result<
+        (
+            FrontTable<J, D, R>,
+            atomic_table::Seat<Slot<J, D>, Place<D>>,
+        ),
+        AllocError,
+    >
+        requires { submitters ≤ MAX_SUBMITTERS }
+        ensures words { IfOk result (λ laid. laid.0.shared.table_id.words ≡ SUBMITTER_CELLS * submitters) }
+        ensures size { IfOk result (λ laid. (laid.0.shared.key.submitters ≡ submitters) × (laid.0.shared.key.workers ≡ workers)) }
+        ensures seat { IfOk result (λ laid. (laid.1.table_id ≡ laid.0.shared.table_id)
+            × (laid.1.me ≡ (root submitters workers 0, []))) }
+    {
         let count = (SUBMITTER_CELLS * submitters) as usize;
         let words = Vec::from_elem(alloc, FREE, count)?;
         let slots = blank_slots(alloc, count)?;
@@ -52,13 +80,10 @@ impl<J: Drop, D: Drop, R: Results<J, D>> SharedFront<J, D, R> {
             submitters,
             workers,
         };
-        let (table, whole) = match Table::new(alloc, &words, slots, &size) {
-            Ok(made) => made,
-            Err(Refused { slots: _ }) => return Err(AllocError),
-        };
-        let front = SharedFront { table, submitters };
-        let seats = front.cut_seats(alloc, whole, submitters + workers)?;
-        Ok((front, seats))
+        match Table::new(alloc, &words, slots, &size) {
+            Ok(laid) => Ok(laid),
+            Err(Refused { slots: _ }) => Err(AllocError),
+        }
     }
 
     /// The seats of so many parties, cut from the root's, in the order of their numbers.
