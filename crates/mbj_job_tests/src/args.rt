@@ -1,4 +1,3 @@
-use mbj_args::check;
 use mbj_types::{Auth, Reason};
 use std::alloc::Global;
 use std::process::Abort;
@@ -90,7 +89,7 @@ const BOTH: [(Shape, Option<Reason>); 9] = [
 /// Judges each job.
 fn judge(rt: &impl Abort, alloc: Global, table: &[(Shape, Option<Reason>)]) -> Result<(), Fail> {
     for (shape, reason) in table {
-        assert_eq!(rt; check(&shape.job(alloc)?), *reason);
+        assert_eq!(rt; shape.judged(alloc)?, *reason);
     }
     Ok(())
 }

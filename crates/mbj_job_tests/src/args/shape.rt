@@ -1,6 +1,7 @@
 //! Jobs by their choices and lengths: every byte of theirs is 0.
 
-use mbj_types::{Auth, Bytes, Cipher, Job};
+use mbj_args::check;
+use mbj_types::{Auth, Bytes, Cipher, Job, Reason};
 use std::alloc::{AllocError, Global};
 
 /// What the argument table looks at. `key`, `iv`, `auth_key`, `aad` and `packet` are lengths in bytes.
@@ -86,25 +87,42 @@ pub(crate) const CBC_HMAC: Shape = Shape {
     ..CBC
 };
 
-fn zeros(alloc: Global, len: usize) -> Result<Bytes, AllocError> {
-    Ok(Bytes::from_vec(vec![in alloc; 0; len]?))
+/// Gives a part of a job as many zero bytes.
+fn put_zeros(alloc: Global, part: &mut Bytes, len: usize) -> Result<(), AllocError> {
+    *part = Bytes::from_vec(vec![in alloc; 0; len]?);
+    Ok(())
 }
 
 impl Shape {
-    pub(crate) fn job(&self, alloc: Global) -> Result<Job, AllocError> {
-        let mut job = Job::blank(alloc);
+    /// Gives a job the choices and the numbers.
+    fn choose(&self, job: &mut Job) {
         job.cipher = self.cipher;
-        job.key = zeros(alloc, self.key)?;
-        job.iv = zeros(alloc, self.iv)?;
         job.cipher_off = self.cipher_off;
         job.cipher_len = self.cipher_len;
         job.auth = self.auth;
-        job.auth_key = zeros(alloc, self.auth_key)?;
-        job.aad = zeros(alloc, self.aad)?;
         job.hash_off = self.hash_off;
         job.hash_len = self.hash_len;
         job.tag_len = self.tag_len;
-        job.packet = zeros(alloc, self.packet)?;
-        Ok(job)
+    }
+
+    /// Gives a job the parts of bytes.
+    fn fill(&self, alloc: Global, job: &mut Job) -> Result<(), AllocError> {
+        put_zeros(alloc, &mut job.key, self.key)?;
+        put_zeros(alloc, &mut job.iv, self.iv)?;
+        put_zeros(alloc, &mut job.auth_key, self.auth_key)?;
+        put_zeros(alloc, &mut job.aad, self.aad)?;
+        put_zeros(alloc, &mut job.packet, self.packet)
+    }
+
+    /// What the argument table says of a blank job that is given this shape.
+    fn judged_in(&self, alloc: Global, job: &mut Job) -> Result<Option<Reason>, AllocError> {
+        self.choose(job);
+        self.fill(alloc, job)?;
+        Ok(check(job))
+    }
+
+    /// What the argument table says of a job of this shape.
+    pub(crate) fn judged(&self, alloc: Global) -> Result<Option<Reason>, AllocError> {
+        self.judged_in(alloc, &mut Job::blank(alloc))
     }
 }
