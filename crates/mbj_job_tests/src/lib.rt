@@ -4,6 +4,10 @@
 #[cfg(test)]
 mod args;
 #[cfg(test)]
+mod compare;
+#[cfg(test)]
+mod fill;
+#[cfg(test)]
 mod manager;
 #[cfg(test)]
 mod ring;

@@ -1,6 +1,8 @@
 ghost use Rattle.std.specs.Prelude.{◌≡◌, ◌≤◌, IfOk, OnOk, length, Some};
 ghost use Rattle.mbj_types.specs.declared.job.Job.{Job};
 
+use crate::compare::expect;
+use crate::fill::{put, put_block};
 use mbj_manager::{HmacSha512Kernel, Manager, results_come_back_in_order};
 use mbj_types::{Auth, Bytes, Cipher, Done, Job, Kind, Order, Reason, RingFull, Status};
 use std::alloc::{AllocError, Global};
@@ -33,9 +35,9 @@ fn authenticate(alloc: Global) -> Result<Option<Done>, AllocError> {
 
 /// The job's result.
 fn check_authenticated(rt: &impl Abort, done: &Done) {
-    assert_eq!(rt; done.status, Status::Ok);
-    assert_eq!(rt; done.packet.as_slice(), b"Hi There".as_slice());
-    assert_eq!(rt; done.tag.bytes(), TAG.as_slice());
+    expect(rt, "status", done.status, Status::Ok);
+    expect(rt, "packet", done.packet.as_slice(), b"Hi There");
+    expect(rt, "tag", done.tag.bytes(), &TAG);
 }
 
 #[test]
@@ -61,13 +63,18 @@ fn write_tag_len(manager: &mut Manager, tag_len: u8) -> u8
     }
 }
 
+/// No job comes back.
+fn expect_none(rt: &impl Abort, back: Option<Done>) {
+    assert!(rt; back.is_none());
+}
+
 // A null job with a tag length other than 0 is refused for that length.
 fn write_tag_lens(rt: &impl Abort, manager: &mut Manager) {
-    assert_eq!(rt; write_tag_len(manager, 7), 0);
-    assert_eq!(rt; write_tag_len(manager, 9), 7);
-    assert!(rt; manager.get_completed().is_none());
-    assert!(rt; manager.flush().is_none());
-    assert_eq!(rt; write_tag_len(manager, 1), 9);
+    expect(rt, "fresh", write_tag_len(manager, 7), 0);
+    expect(rt, "lent again", write_tag_len(manager, 9), 7);
+    expect_none(rt, manager.get_completed());
+    expect_none(rt, manager.flush());
+    expect(rt, "not submitted", write_tag_len(manager, 1), 9);
 }
 
 #[test]
@@ -84,16 +91,17 @@ fn submit_refused(alloc: Global, manager: &mut Manager) -> Result<Option<Done>, 
         Ok(job) => job,
         Err(RingFull) => return Ok(None),
     };
-    job.packet = Bytes::from_vec(b"packet".to_vec(alloc)?);
+    put(alloc, &mut job.packet, b"packet")?;
     job.tag_len = 1;
     Ok(manager.submit())
 }
 
 /// The refused job's result.
 fn check_refused(rt: &impl Abort, done: &Done) {
-    assert_eq!(rt; done.status, Status::InvalidArgs(Reason::TagLength));
-    assert_eq!(rt; done.packet.as_slice(), b"packet".as_slice());
-    assert_eq!(rt; done.tag.bytes().len(), 0);
+    let refused = Status::InvalidArgs(Reason::TagLength);
+    expect(rt, "status", done.status, refused);
+    expect(rt, "packet", done.packet.as_slice(), b"packet");
+    expect(rt, "tag", done.tag.bytes(), &[]);
 }
 
 fn refuse(rt: &impl Abort, alloc: Global, manager: &mut Manager) -> Result<(), Fail> {
@@ -101,7 +109,7 @@ fn refuse(rt: &impl Abort, alloc: Global, manager: &mut Manager) -> Result<(), F
         Some(done) => check_refused(rt, &done),
         None => assert!(rt; false),
     }
-    assert!(rt; manager.get_completed().is_none());
+    expect_none(rt, manager.get_completed());
     Ok(())
 }
 
@@ -123,7 +131,7 @@ fn submit_hmac(
         Err(RingFull) => return Ok(None),
     };
     job.auth = Auth::HmacSha512;
-    job.auth_key = Bytes::from_vec([0x0b; 20].to_vec(alloc)?);
+    put(alloc, &mut job.auth_key, &[0x0b; 20])?;
     job.packet = Bytes::from_vec(Vec::from_elem(alloc, 0, zeros as usize)?);
     job.hash_len = zeros;
     job.tag_len = 64u8.saturating_sub(number);
@@ -148,28 +156,35 @@ const STEPS: [Step; 4] = [
     (300, Some(0), 2),
 ];
 
+fn check_waiting(rt: &impl Abort, manager: &Manager, wanted: u32) {
+    let waiting = manager.waiting(Kind::HmacSha512);
+    expect(rt, "waiting", waiting, wanted);
+    let entries = manager.lanes::<HmacSha512Kernel>().len();
+    expect(rt, "in lanes", entries, wanted);
+}
+
 fn submit_each(rt: &impl Abort, alloc: Global, manager: &mut Manager) -> Result<(), Fail> {
     for (number, step) in (0..4u8).zip(&STEPS) {
         let (zeros, back, waiting) = *step;
-        assert_eq!(rt; submit_hmac(manager, alloc, number, zeros)?, back);
-        assert_eq!(rt; manager.waiting(Kind::HmacSha512), waiting);
-        assert_eq!(rt; manager.lanes::<HmacSha512Kernel>().len(), waiting);
+        let found = submit_hmac(manager, alloc, number, zeros)?;
+        expect(rt, "back", found, back);
+        check_waiting(rt, manager, waiting);
     }
     Ok(())
 }
 
 /// The flush runs by 1, twice.
 fn flush_each(rt: &impl Abort, manager: &mut Manager) {
-    assert_eq!(rt; number_of(manager.get_completed()), None);
+    expect(rt, "none", number_of(manager.get_completed()), None);
     for back in [Some(1), Some(2), Some(3), None] {
-        assert_eq!(rt; number_of(manager.flush()), back);
+        expect(rt, "back", number_of(manager.flush()), back);
     }
 }
 
 fn check_counts(rt: &impl Abort, manager: &Manager) {
-    assert_eq!(rt; manager.rounds(Kind::HmacSha512), 4);
-    assert_eq!(rt; manager.blocks(Kind::HmacSha512), 16);
-    assert_eq!(rt; manager.flush_runs(), 2);
+    expect(rt, "rounds", manager.rounds(Kind::HmacSha512), 4);
+    expect(rt, "blocks", manager.blocks(Kind::HmacSha512), 16);
+    expect(rt, "flush runs", manager.flush_runs(), 2);
 }
 
 fn fill_lanes(rt: &impl Abort, alloc: Global, manager: &mut Manager) -> Result<(), Fail> {
@@ -192,30 +207,26 @@ const CBC: [u128; 4] = [
     0x7649abac8119b246cee98e9b12e9197d,
 ];
 
-fn bytes(alloc: Global, block: u128) -> Result<Bytes, AllocError> {
-    Ok(Bytes::from_vec(block.to_be_bytes().to_vec(alloc)?))
-}
-
 /// "Hi There" and a block.
-fn two_parts(alloc: Global) -> Result<Bytes, AllocError> {
-    let mut packet = b"Hi There".to_vec(alloc)?;
-    packet.extend_from_slice(&CBC[2].to_be_bytes())?;
-    Ok(Bytes::from_vec(packet))
+fn two_parts() -> [u8; 24] {
+    let mut packet = [0; 24];
+    packet[..8].copy_from_slice(b"Hi There");
+    packet[8..].copy_from_slice(&CBC[2].to_be_bytes());
+    packet
 }
 
 /// Makes a job encrypt the block of its packet, and authenticate "Hi There".
 fn encrypt_and_authenticate(alloc: Global, job: &mut Job) -> Result<(), AllocError> {
     job.cipher = Cipher::Cbc;
-    job.key = bytes(alloc, CBC[0])?;
-    job.iv = bytes(alloc, CBC[1])?;
     job.cipher_off = 8;
     job.cipher_len = 16;
     job.auth = Auth::HmacSha1;
-    job.auth_key = Bytes::from_vec([0x0b; 20].to_vec(alloc)?);
     job.hash_len = 8;
     job.tag_len = 20;
-    job.packet = two_parts(alloc)?;
-    Ok(())
+    put_block(alloc, &mut job.key, CBC[0])?;
+    put_block(alloc, &mut job.iv, CBC[1])?;
+    put(alloc, &mut job.auth_key, &[0x0b; 20])?;
+    put(alloc, &mut job.packet, &two_parts())
 }
 
 /// That job, in an order.
@@ -233,25 +244,27 @@ fn is_done(done: &Done) -> bool {
         && done.tag.bytes() == TAG.as_slice()
 }
 
+fn expect_done(rt: &impl Abort, back: Option<Done>) {
+    match back {
+        Some(done) => assert!(rt; is_done(&done)),
+        None => assert!(rt; false),
+    }
+}
+
 fn submit_both(rt: &impl Abort, alloc: Global, manager: &mut Manager) -> Result<(), Fail> {
     for order in [Order::CipherHash, Order::HashCipher] {
-        assert!(rt; manager.make_room().is_none());
-        let job = job_of(alloc, order)?;
-        manager.put_next(job);
-        assert!(rt; manager.submit().is_none());
+        expect_none(rt, manager.make_room());
+        manager.put_next(job_of(alloc, order)?);
+        expect_none(rt, manager.submit());
     }
     Ok(())
 }
 
 fn flush_both(rt: &impl Abort, manager: &mut Manager) {
-    for _ in 0..2 {
-        match manager.flush() {
-            Some(done) => assert!(rt; is_done(&done)),
-            None => assert!(rt; false),
-        }
-    }
-    assert!(rt; manager.flush().is_none());
-    assert_eq!(rt; manager.flush_runs(), 3);
+    expect_done(rt, manager.flush());
+    expect_done(rt, manager.flush());
+    expect_none(rt, manager.flush());
+    expect(rt, "flush runs", manager.flush_runs(), 3);
 }
 
 // The first job waits for CBC and the second one for HMAC. A flush runs CBC by one job, and HMAC by both; the next one runs
@@ -267,14 +280,18 @@ fn two_stages_go_through_lanes_in_either_order(rt: HostRuntime) -> Result<(), Fa
     go_through_lanes(&rt, rt.alloc(), &mut Manager::new(rt.alloc())?)
 }
 
+fn check_zeros(rt: &impl Abort, manager: &Manager) {
+    expect(rt, "queue", manager.queue_size(), 0);
+    expect(rt, "waiting", manager.waiting(Kind::Cbc128), 0);
+    expect(rt, "rounds", manager.rounds(Kind::Cmac256), 0);
+    expect(rt, "blocks", manager.blocks(Kind::HmacSha512), 0);
+    expect(rt, "flush runs", manager.flush_runs(), 0);
+}
+
 #[test]
 fn nothing_waits_and_nothing_is_counted(rt: HostRuntime) -> Result<(), Fail> {
     let manager = Manager::new(rt.alloc())?;
-    assert_eq!(rt; manager.queue_size(), 0);
-    assert_eq!(rt; manager.waiting(Kind::Cbc128), 0);
-    assert_eq!(rt; manager.rounds(Kind::Cmac256), 0);
-    assert_eq!(rt; manager.blocks(Kind::HmacSha512), 0);
-    assert_eq!(rt; manager.flush_runs(), 0);
+    check_zeros(&rt, &manager);
     results_come_back_in_order();
     cross(manager);
     Ok(())

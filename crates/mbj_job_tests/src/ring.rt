@@ -1,6 +1,7 @@
-ghost use Rattle.std.specs.Prelude.{◌≡◌, ◌<◌, [], ◌∷◌, ◌++◌, length, None};
+ghost use Rattle.std.specs.Prelude.{◌≡◌, ◌<◌, ◌≤◌, ◌+◌, [], ◌∷◌, ◌++◌, length, None};
 ghost use Rattle.mbj_ring.specs.Ring.{ring as state, place_of};
 
+use crate::compare::expect;
 use mbj_ring::{CELLS, Ring};
 use std::alloc::Global;
 use std::process::Abort;
@@ -28,7 +29,7 @@ fn check_fresh(rt: &impl Abort, ring: &mut Ring<u32>) {
     assert!(rt; ring.open_mut().is_none());
     assert!(rt; ring.front_mut().is_none());
     assert!(rt; ring.pop().is_none());
-    assert_eq!(rt; ring.len(), 0);
+    expect(rt, "values", ring.len(), 0);
     ring_crosses(ring);
 }
 
@@ -48,11 +49,11 @@ fn fill(ring: &mut Ring<u32>)
 }
 
 fn check_full(rt: &impl Abort, ring: &mut Ring<u32>) {
-    assert_eq!(rt; ring.len(), 256);
+    expect(rt, "values", ring.len(), 256);
     for value in 0..CELLS {
-        assert_eq!(rt; ring.pop(), Some(value));
+        expect(rt, "in order", ring.pop(), Some(value));
     }
-    assert_eq!(rt; ring.pop(), None);
+    expect(rt, "behind the last", ring.pop(), None);
 }
 
 #[test]
@@ -63,13 +64,24 @@ fn a_full_ring_pops_in_order(rt: HostRuntime) -> Result<(), Fail> {
     Ok(())
 }
 
+/// Pushes one more owner of the value.
+fn push_shared(ring: &mut Ring<Rc<u32>>, value: &Rc<u32>) -> Result<(), Fail>
+    requires closed { ring.old.opened ≡ None }
+    requires room { length ring.old.values < CELLS }
+    ensures closed { ring.new.opened ≡ None }
+    ensures one_more { length ring.new.values ≤ length ring.old.values + 1 }
+{
+    push(ring, value.clone()?);
+    Ok(())
+}
+
 /// Commits three of the values, and opens a cell with the last one.
 fn share(ring: &mut Ring<Rc<u32>>, values: &[Rc<u32>; 4]) -> Result<(), Fail>
     requires { ring.old ≡ state [] None 0 }
 {
-    push(ring, values[0].clone()?);
-    push(ring, values[1].clone()?);
-    push(ring, values[2].clone()?);
+    push_shared(ring, &values[0])?;
+    push_shared(ring, &values[1])?;
+    push_shared(ring, &values[2])?;
     ring.open_cell(values[3].clone()?);
     Ok(())
 }
@@ -82,10 +94,10 @@ fn ring_of(alloc: Global, values: &[Rc<u32>; 4]) -> Result<Ring<Rc<u32>>, Fail> 
 
 fn check_drops(rt: &impl Abort, alloc: Global, values: &[Rc<u32>; 4]) -> Result<(), Fail> {
     let ring = ring_of(alloc, values)?;
-    assert_eq!(rt; Rc::strong_count(&values[3]), 2);
+    expect(rt, "in the ring", Rc::strong_count(&values[3]), 2);
     drop(ring);
     for value in values {
-        assert_eq!(rt; Rc::strong_count(value), 1);
+        expect(rt, "dropped", Rc::strong_count(value), 1);
     }
     Ok(())
 }
@@ -110,13 +122,13 @@ fn replace(rt: &impl Abort, ring: &mut Ring<u32>, value: u32)
     ensures first { ring.new.first < CELLS }
 {
     let place = push(ring, value);
-    assert_eq!(rt; place, value % 256);
+    expect(rt, "place", place, value % 256);
     *ring.at_mut(place) += 1000;
     if let Some(first) = ring.front_mut() {
         *first = first.wrapping_add(1);
     }
     let want = if value == 1 { 1 } else { value + 1000 };
-    assert_eq!(rt; ring.pop(), Some(want));
+    expect(rt, "value", ring.pop(), Some(want));
 }
 
 #[test]
@@ -126,7 +138,7 @@ fn places_wrap_round_the_end(rt: HostRuntime) -> Result<(), Fail> {
     for value in 1..300u32 {
         replace(&rt, &mut ring, value);
     }
-    assert_eq!(rt; ring.len(), 1);
+    expect(&rt, "values", ring.len(), 1);
     Ok(())
 }
 
@@ -137,9 +149,9 @@ fn commit_as_written(rt: &impl Abort, ring: &mut Ring<u32>)
     if let Some(open) = ring.open_mut() {
         *open = 8;
     }
-    assert_eq!(rt; ring.commit(), 0);
+    expect(rt, "place", ring.commit(), 0);
     assert!(rt; ring.open_mut().is_none());
-    assert_eq!(rt; ring.pop(), Some(8));
+    expect(rt, "value", ring.pop(), Some(8));
 }
 
 #[test]

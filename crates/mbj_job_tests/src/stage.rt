@@ -5,13 +5,15 @@ ghost use Rattle.mbj_lane.specs.Rounds.{end_of};
 ghost use Rattle.mbj_stage.specs.declared.stage.Stage.TheVariants as stage;
 ghost use Rattle.mbj_stage.specs.Going.{owed, stage_of};
 
+use crate::fill::{put, put_block};
 use mbj_cbc::CbcKernel;
 use mbj_cmac::CmacKernel;
 use mbj_hmac::{Hmac1Kernel, Hmac256Kernel, Hmac512Kernel};
 use mbj_lane::Kernel;
 use mbj_stage::{Course, Stage};
-use mbj_types::{Auth, Bytes, Cipher, Dir, Done, Job, Kind, Order, Reason, Status};
+use mbj_types::{Auth, Cipher, Dir, Done, Job, Kind, Order, Reason, Status, Tag};
 use std::alloc::{AllocError, Global};
+use std::process::Abort;
 use std::slice;
 use std::test::Fail;
 
@@ -29,22 +31,17 @@ const CIPHERTEXT: u128 = 0x7649abac8119b246cee98e9b12e9197d;
 /// Its CMAC (SP 800-38B, D.1, example 2).
 const CMAC: u128 = 0x070a16b46b4d4144f79bdd9dd04a287c;
 
-fn bytes(alloc: Global, block: u128) -> Result<Bytes, AllocError> {
-    Ok(Bytes::from_vec(Vec::from_slice(alloc, &block.to_be_bytes())?))
-}
-
 /// Gives a job CBC and CMAC over a packet of one block.
 fn fill_cbc_cmac(alloc: Global, job: &mut Job, packet: u128) -> Result<(), AllocError> {
     job.cipher = Cipher::Cbc;
-    job.key = bytes(alloc, KEY)?;
-    job.iv = bytes(alloc, IV)?;
     job.cipher_len = 16;
     job.auth = Auth::Cmac128;
-    job.auth_key = bytes(alloc, KEY)?;
     job.hash_len = 16;
     job.tag_len = 16;
-    job.packet = bytes(alloc, packet)?;
-    Ok(())
+    put_block(alloc, &mut job.key, KEY)?;
+    put_block(alloc, &mut job.iv, IV)?;
+    put_block(alloc, &mut job.auth_key, KEY)?;
+    put_block(alloc, &mut job.packet, packet)
 }
 
 /// A job with CBC and CMAC over a packet of one block.
@@ -132,37 +129,48 @@ fn is(done: &Done, status: Status, packet: u128, tag: &[u8]) -> bool {
         && done.tag.bytes() == tag
 }
 
+/// A job that succeeds makes this packet and this tag.
+fn check_job(rt: &impl Abort, job: Job, packet: u128, tag: &[u8]) {
+    let done = do_job(job);
+    assert!(rt; is(&done, Status::Ok, packet, tag));
+}
+
 // The tag is over the plaintext, whether it is authenticated before encryption or after decryption.
 #[test]
 fn cipher_and_hash_go_in_the_order_of_the_job(rt: HostRuntime) -> Result<(), Fail> {
     let tag = CMAC.to_be_bytes();
-    let sent = do_job(cbc_cmac(rt.alloc(), Dir::Enc, Order::HashCipher, PLAINTEXT)?);
-    assert!(rt; is(&sent, Status::Ok, CIPHERTEXT, &tag));
-    let received = do_job(cbc_cmac(rt.alloc(), Dir::Dec, Order::CipherHash, CIPHERTEXT)?);
-    assert!(rt; is(&received, Status::Ok, PLAINTEXT, &tag));
+    let sent = cbc_cmac(rt.alloc(), Dir::Enc, Order::HashCipher, PLAINTEXT)?;
+    check_job(&rt, sent, CIPHERTEXT, &tag);
+    let received = cbc_cmac(rt.alloc(), Dir::Dec, Order::CipherHash, CIPHERTEXT)?;
+    check_job(&rt, received, PLAINTEXT, &tag);
     Ok(())
+}
+
+/// The tag of CMAC alone over the ciphertext.
+fn tag_of_ciphertext(alloc: Global) -> Result<Tag, AllocError> {
+    let mut job = cbc_cmac(alloc, Dir::Enc, Order::HashCipher, CIPHERTEXT)?;
+    job.cipher = Cipher::Null;
+    let alone = do_job(job);
+    Ok(alone.tag)
 }
 
 // With the order the other way, the tag is that of CMAC alone over the ciphertext.
 #[test]
 fn hash_after_cipher_is_over_the_ciphertext(rt: HostRuntime) -> Result<(), Fail> {
-    let both = do_job(cbc_cmac(rt.alloc(), Dir::Enc, Order::CipherHash, PLAINTEXT)?);
-    let mut job = cbc_cmac(rt.alloc(), Dir::Enc, Order::HashCipher, CIPHERTEXT)?;
-    job.cipher = Cipher::Null;
-    let alone = do_job(job);
-    assert!(rt; is(&both, Status::Ok, CIPHERTEXT, alone.tag.bytes()));
+    let alone = tag_of_ciphertext(rt.alloc())?;
+    let both = cbc_cmac(rt.alloc(), Dir::Enc, Order::CipherHash, PLAINTEXT)?;
+    check_job(&rt, both, CIPHERTEXT, alone.bytes());
     Ok(())
 }
 
 fn fill_gcm(alloc: Global, job: &mut Job) -> Result<(), AllocError> {
     job.cipher = Cipher::Gcm;
-    job.key = bytes(alloc, 0)?;
-    job.iv = Bytes::from_vec(Vec::from_slice(alloc, &[0; 12])?);
     job.cipher_len = 16;
     job.auth = Auth::Gcm;
     job.tag_len = 16;
-    job.packet = bytes(alloc, 0)?;
-    Ok(())
+    put_block(alloc, &mut job.key, 0)?;
+    put(alloc, &mut job.iv, &[0; 12])?;
+    put_block(alloc, &mut job.packet, 0)
 }
 
 // The GCM specification, test case 2.
@@ -171,31 +179,23 @@ fn gcm_makes_text_and_tag(rt: HostRuntime) -> Result<(), Fail> {
     let mut job = Job::blank(rt.alloc());
     fill_gcm(rt.alloc(), &mut job)?;
     let tag = 0xab6e47d42cec13bdf53a67b21257bddfu128.to_be_bytes();
-    assert!(rt;
-        is(
-            &do_job(job),
-            Status::Ok,
-            0x0388dace60b6a392f328c2b971b2fe78,
-            &tag
-        )
-    );
+    check_job(&rt, job, 0x0388dace60b6a392f328c2b971b2fe78, &tag);
     Ok(())
+}
+
+/// The result of a course that is finished from the beginning.
+fn result_at_once(rt: &impl Abort, job: Job) -> Done {
+    let course = Course::begin(job);
+    assert_eq!(rt; course.next_stage(), Stage::Finished);
+    course.into_done()
 }
 
 #[test]
 fn a_refused_job_keeps_its_packet(rt: HostRuntime) -> Result<(), Fail> {
     let mut job = cbc_cmac(rt.alloc(), Dir::Enc, Order::CipherHash, PLAINTEXT)?;
     job.cipher_len = 15;
-    let course = Course::begin(job);
-    assert_eq!(rt; course.next_stage(), Stage::Finished);
-    let done = course.into_done();
-    assert!(rt;
-        is(
-            &done,
-            Status::InvalidArgs(Reason::CipherLength),
-            PLAINTEXT,
-            &[]
-        )
-    );
+    let done = result_at_once(&rt, job);
+    let refused = Status::InvalidArgs(Reason::CipherLength);
+    assert!(rt; is(&done, refused, PLAINTEXT, &[]));
     Ok(())
 }

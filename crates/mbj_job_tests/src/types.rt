@@ -1,5 +1,7 @@
 mod lanes;
 
+use crate::compare::expect;
+use crate::fill::put;
 use mbj_types::{
     Auth, Bytes, Cipher, Done, Job, Kind, PostFull, Reason, RingFull, Status, Tag,
     kinds_are_told_in_order, limits_are_these_numbers, xor_in_place,
@@ -15,23 +17,24 @@ fn cross<T: Send + Drop>(_value: T) {}
 #[test]
 fn bytes_go_in_and_out(rt: HostRuntime) -> Result<(), Fail> {
     let bytes = Bytes::from_vec(b"packet".to_vec(rt.alloc())?);
-    assert_eq!(rt; bytes.as_slice(), b"packet".as_slice());
-    assert_eq!(rt; bytes.into_vec().as_slice(), b"packet".as_slice());
+    expect(&rt, "lent", bytes.as_slice(), b"packet");
+    let vec = bytes.into_vec();
+    expect(&rt, "taken out", vec.as_slice(), b"packet");
     Ok(())
 }
 
 #[test]
 fn a_tag_holds_up_to_64_bytes(rt: HostRuntime) {
-    assert_eq!(rt; Tag::from_slice(b"tag").bytes(), b"tag".as_slice());
-    assert_eq!(rt; Tag::from_slice(&[]).bytes().len(), 0);
-    assert_eq!(rt; Tag::from_slice(&[7; 64]).bytes(), [7u8; 64].as_slice());
+    expect(&rt, "3 bytes", Tag::from_slice(b"tag").bytes(), b"tag");
+    expect(&rt, "no byte", Tag::from_slice(&[]).bytes(), &[]);
+    expect(&rt, "64 bytes", Tag::from_slice(&[7; 64]).bytes(), &[7; 64]);
 }
 
 #[test]
 fn jobs_and_results_may_cross_to_another_thread(rt: HostRuntime) {
     let job = Job::blank(rt.alloc());
-    assert_eq!(rt; job.auth, Auth::Null);
-    assert_eq!(rt; job.packet.as_slice().len(), 0);
+    expect(&rt, "auth", job.auth, Auth::Null);
+    expect(&rt, "packet", job.packet.as_slice(), &[]);
     cross(PostFull(job));
     cross(Done {
         status: Status::InvalidArgs(Reason::GcmPair),
@@ -42,57 +45,61 @@ fn jobs_and_results_may_cross_to_another_thread(rt: HostRuntime) {
 
 fn fill(alloc: Global, job: &mut Job) -> Result<(), AllocError> {
     job.auth = Auth::HmacSha1;
-    job.aad = Bytes::from_vec(b"header".to_vec(alloc)?);
-    job.packet = Bytes::from_vec(b"packet".to_vec(alloc)?);
     job.tag_len = 12;
-    Ok(())
-}
-
-/// A copy of a job that is dropped.
-fn copied(alloc: Global) -> Result<Job, AllocError> {
-    let mut job = Job::blank(alloc);
-    fill(alloc, &mut job)?;
-    job.copy(alloc)
+    put(alloc, &mut job.aad, b"header")?;
+    put(alloc, &mut job.packet, b"packet")
 }
 
 fn check_copied(rt: &impl Abort, copy: &Job) {
-    assert_eq!(rt; copy.auth, Auth::HmacSha1);
-    assert_eq!(rt; copy.aad.as_slice(), b"header".as_slice());
-    assert_eq!(rt; copy.packet.as_slice(), b"packet".as_slice());
-    assert_eq!(rt; copy.tag_len, 12);
-}
-
-/// A copy of a blank job that is dropped.
-fn blank_copied(alloc: Global) -> Result<Job, AllocError> {
-    let job = Job::blank(alloc);
-    job.copy(alloc)
+    expect(rt, "auth", copy.auth, Auth::HmacSha1);
+    expect(rt, "aad", copy.aad.as_slice(), b"header");
+    expect(rt, "packet", copy.packet.as_slice(), b"packet");
+    expect(rt, "tag_len", copy.tag_len, 12);
 }
 
 fn check_blank(rt: &impl Abort, blank: &Job) {
-    assert_eq!(rt;
-        (blank.cipher, blank.auth, blank.tag_len),
-        (Cipher::Null, Auth::Null, 0)
-    );
-    assert_eq!(rt;
-        blank.key.as_slice().len() + blank.packet.as_slice().len(),
-        0
-    );
+    expect(rt, "cipher", blank.cipher, Cipher::Null);
+    expect(rt, "auth", blank.auth, Auth::Null);
+    expect(rt, "tag_len", blank.tag_len, 0);
+    expect(rt, "key", blank.key.as_slice(), &[]);
+    expect(rt, "packet", blank.packet.as_slice(), &[]);
+}
+
+/// Fills the job, and puts a copy of it in its place.
+fn fill_and_copy(alloc: Global, job: &mut Job) -> Result<(), AllocError> {
+    fill(alloc, job)?;
+    *job = job.copy(alloc)?;
+    Ok(())
+}
+
+/// The job that was copied is dropped before the copy is looked at.
+fn check_filled_copy(rt: &impl Abort, alloc: Global) -> Result<(), AllocError> {
+    let mut job = Job::blank(alloc);
+    fill_and_copy(alloc, &mut job)?;
+    check_copied(rt, &job);
+    Ok(())
+}
+
+fn check_blank_copy(rt: &impl Abort, alloc: Global) -> Result<(), AllocError> {
+    let blank = Job::blank(alloc).copy(alloc)?;
+    check_blank(rt, &blank);
+    Ok(())
 }
 
 #[test]
 fn a_copied_job_is_equal_and_stands_alone(rt: HostRuntime) -> Result<(), Fail> {
-    check_copied(&rt, &copied(rt.alloc())?);
-    check_blank(&rt, &blank_copied(rt.alloc())?);
+    check_filled_copy(&rt, rt.alloc())?;
+    check_blank_copy(&rt, rt.alloc())?;
     Ok(())
 }
 
 #[test]
 fn reasons_and_lanes_have_their_numbers(rt: HostRuntime) {
-    assert_eq!(rt; Reason::PacketLong.number(), 1);
-    assert_eq!(rt; Reason::TagLength.number(), 10);
-    assert_eq!(rt; Kind::Cmac256.lanes(), 16);
-    assert_eq!(rt; Kind::HmacSha512.lanes(), 4);
-    assert_eq!(rt; Kind::ALL[5].name(), "hmac-sha1");
+    expect(&rt, "first row", Reason::PacketLong.number(), 1);
+    expect(&rt, "last row", Reason::TagLength.number(), 10);
+    expect(&rt, "CMAC", Kind::Cmac256.lanes(), 16);
+    expect(&rt, "SHA-512", Kind::HmacSha512.lanes(), 4);
+    expect(&rt, "name", Kind::ALL[5].name(), "hmac-sha1");
     limits_are_these_numbers();
     kinds_are_told_in_order();
 }
@@ -104,8 +111,17 @@ fn check_shown(
     want: &str,
 ) -> Result<(), Fail> {
     let shown = format!(in alloc; "{value}")?;
-    assert_eq!(rt; shown.as_str(), want);
+    expect(rt, "shown", shown.as_str(), want);
     Ok(())
+}
+
+fn check_post_full(rt: &impl Abort, alloc: Global) -> Result<(), Fail> {
+    check_shown(
+        rt,
+        alloc,
+        &PostFull(Job::blank(alloc)),
+        "every cell of the submitter has a job that was not collected",
+    )
 }
 
 #[test]
@@ -123,17 +139,12 @@ fn refusals_say_what_is_wrong(rt: HostRuntime) -> Result<(), Fail> {
         &RingFull,
         "every cell of the manager's ring has a job that was not given back",
     )?;
-    check_shown(
-        &rt,
-        alloc,
-        &PostFull(Job::blank(alloc)),
-        "every cell of the submitter has a job that was not collected",
-    )
+    check_post_full(&rt, alloc)
 }
 
 #[test]
 fn bytes_are_xored_as_far_as_the_text_goes(rt: HostRuntime) {
     let mut text = [0x00, 0x0f, 0xff];
     xor_in_place(&mut text, &[0xf0, 0xff, 0xff, 0x55]);
-    assert_eq!(rt; text, [0xf0, 0xf0, 0x00]);
+    expect(&rt, "text", text.as_slice(), &[0xf0, 0xf0, 0x00]);
 }

@@ -1,4 +1,5 @@
 //! Every vector as a lane word: all seven calls, through the bound, on lanes that differ.
+use crate::compare::expect;
 use mbj_types::{Lane8, Lane32, Lane64};
 use std::simd::{u8x16, u8x32, u32x4, u32x8, u32x16, u64x2, u64x4, u64x8};
 
@@ -30,12 +31,12 @@ fn every_call_of_a_lane8_works_lane_by_lane(rt: HostRuntime) {
         u8x16::from_slice(&LEFT8[..16]),
         u8x16::from_slice(&RIGHT8[..16]),
     );
-    assert_eq!(rt; mixed.to_array().as_slice(), &MIXED8[..16]);
+    expect(&rt, "u8x16", mixed.to_array().as_slice(), &MIXED8[..16]);
     let mixed = mixed8(
         u8x32::from_slice(&LEFT8[..32]),
         u8x32::from_slice(&RIGHT8[..32]),
     );
-    assert_eq!(rt; mixed.to_array().as_slice(), &MIXED8[..32]);
+    expect(&rt, "u8x32", mixed.to_array().as_slice(), &MIXED8[..32]);
 }
 
 const LEFT32: [u32; 16] = [
@@ -108,17 +109,17 @@ fn every_call_of_a_lane32_works_lane_by_lane(rt: HostRuntime) {
         u32x4::from_slice(&LEFT32[..4]),
         u32x4::from_slice(&RIGHT32[..4]),
     );
-    assert_eq!(rt; mixed.to_array().as_slice(), &MIXED32[..4]);
+    expect(&rt, "u32x4", mixed.to_array().as_slice(), &MIXED32[..4]);
     let mixed = mixed32(
         u32x8::from_slice(&LEFT32[..8]),
         u32x8::from_slice(&RIGHT32[..8]),
     );
-    assert_eq!(rt; mixed.to_array().as_slice(), &MIXED32[..8]);
+    expect(&rt, "u32x8", mixed.to_array().as_slice(), &MIXED32[..8]);
     let mixed = mixed32(
         u32x16::from_slice(&LEFT32[..16]),
         u32x16::from_slice(&RIGHT32[..16]),
     );
-    assert_eq!(rt; mixed.to_array().as_slice(), &MIXED32[..16]);
+    expect(&rt, "u32x16", mixed.to_array().as_slice(), &MIXED32[..16]);
 }
 
 const LEFT64: [u64; 8] = [
@@ -167,15 +168,15 @@ fn every_call_of_a_lane64_works_lane_by_lane(rt: HostRuntime) {
         u64x2::from_slice(&LEFT64[..2]),
         u64x2::from_slice(&RIGHT64[..2]),
     );
-    assert_eq!(rt; mixed.to_array().as_slice(), &MIXED64[..2]);
+    expect(&rt, "u64x2", mixed.to_array().as_slice(), &MIXED64[..2]);
     let mixed = mixed64(
         u64x4::from_slice(&LEFT64[..4]),
         u64x4::from_slice(&RIGHT64[..4]),
     );
-    assert_eq!(rt; mixed.to_array().as_slice(), &MIXED64[..4]);
+    expect(&rt, "u64x4", mixed.to_array().as_slice(), &MIXED64[..4]);
     let mixed = mixed64(
         u64x8::from_slice(&LEFT64[..8]),
         u64x8::from_slice(&RIGHT64[..8]),
     );
-    assert_eq!(rt; mixed.to_array().as_slice(), &MIXED64[..8]);
+    expect(&rt, "u64x8", mixed.to_array().as_slice(), &MIXED64[..8]);
 }
