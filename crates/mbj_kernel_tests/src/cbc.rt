@@ -1,8 +1,9 @@
+use crate::compare::expect;
+use crate::lists::{Tried, case_of, run_in_one_list, schedule_of};
 use mbj_aes::Schedule;
 use mbj_cbc::{
     CbcEntry, CbcKernel, decrypt_in_place, decryption_undoes_encryption, encrypt_in_place,
 };
-use mbj_lane::{Kernel, Lanes};
 use std::alloc::{AllocError, Global};
 use std::process::Abort;
 use std::test::Fail;
@@ -24,9 +25,9 @@ fn texts_are_those_of_the_standard(rt: HostRuntime) {
     ];
     let mut text = plaintext;
     encrypt_in_place(&key, &iv, &mut text);
-    assert_eq!(rt; text, ciphertext);
+    expect(&rt, "encrypted", text, ciphertext);
     decrypt_in_place(&key, &iv, &mut text);
-    assert_eq!(rt; text, plaintext);
+    expect(&rt, "decrypted", text, plaintext);
     decryption_undoes_encryption();
 }
 
@@ -61,51 +62,39 @@ fn packet_of(alloc: Global, number: u8, text: &[u128]) -> Result<Vec<u8>, AllocE
     Ok(packet)
 }
 
-/// Runs the cases in one list, and looks at what leaves it.
-fn run_in_one_list<const N: usize>(
-    rt: &impl Abort,
-    alloc: Global,
-    cases: &[Case],
-) -> Result<(), Fail> {
-    let mut lanes = Lanes::<CbcKernel<N>>::new(alloc)?;
-    for (number, case) in (0..16u8).zip(cases) {
-        assert!(rt; matches!(case.key.len(), 16 | 24 | 32));
-        let key = Schedule::expand(case.key);
+impl<'a, const N: usize> Tried<Case<'a>> for CbcKernel<N> {
+    fn entry(
+        rt: &impl Abort,
+        alloc: Global,
+        number: u8,
+        case: &Case<'a>,
+    ) -> Result<CbcEntry<N>, AllocError> {
+        let key = schedule_of(rt, case.key);
         assert!(rt; key.rounds() as usize == N);
-        let packet = packet_of(alloc, number, case.plaintext)?;
         let blocks = case.plaintext.len();
         assert!(rt; 0 < blocks && blocks < 100);
         let len = 16 * blocks as u32;
+        let packet = packet_of(alloc, number, case.plaintext)?;
         assert!(rt; 1 + len as usize <= packet.len());
-        assert!(rt; lanes.len() < CbcKernel::<N>::LANES);
-        lanes.enter(CbcEntry::new(key, case.iv.to_be_bytes(), packet, 1, len));
+        Ok(CbcEntry::new(key, case.iv.to_be_bytes(), packet, 1, len))
     }
-    assert_eq!(rt; lanes.len() as usize, cases.len());
-    for _ in 0..40u32 {
-        match lanes.take_finished() {
-            Some(entry) => {
-                assert_eq!(rt; entry.rest, 0);
-                check_case(rt, alloc, cases, &entry.into_packet())?;
-            }
-            None => {
-                if lanes.len() > 0 {
-                    lanes.run_shortest();
-                }
-            }
-        }
+
+    fn check(
+        rt: &impl Abort,
+        alloc: Global,
+        cases: &[Case<'a>],
+        entry: CbcEntry<N>,
+    ) -> Result<(), Fail> {
+        assert_eq!(rt; entry.rest, 0);
+        check_case(rt, alloc, cases, &entry.into_packet())
     }
-    assert_eq!(rt; lanes.len(), 0);
-    Ok(())
 }
 
 /// The packet is the case's, with the text encrypted.
 fn check_case(rt: &impl Abort, alloc: Global, cases: &[Case], packet: &[u8]) -> Result<(), Fail> {
-    let number = *packet.first().ok_or("no packet")?;
-    let case = cases.get(number as usize).ok_or("no case")?;
-    assert_eq!(rt;
-        packet,
-        packet_of(alloc, number, case.ciphertext)?.as_slice()
-    );
+    let (number, case) = case_of(cases, packet)?;
+    let wanted = packet_of(alloc, number, case.ciphertext)?;
+    expect(rt, "packet", packet, wanted.as_slice());
     Ok(())
 }
 
@@ -146,7 +135,7 @@ fn one_list_serves_keys_and_lengths_of_128_bits(rt: HostRuntime) -> Result<(), F
             ],
         },
     ];
-    run_in_one_list::<10>(&rt, rt.alloc(), &cases)
+    run_in_one_list::<Case, CbcKernel<10>>(&rt, rt.alloc(), &cases)
 }
 
 // SP 800-38A, appendix F.2.3: the whole text, and its first block.
@@ -176,7 +165,7 @@ fn one_list_serves_lengths_under_a_key_of_192_bits(rt: HostRuntime) -> Result<()
             ciphertext: &ciphertext[..1],
         },
     ];
-    run_in_one_list::<12>(&rt, rt.alloc(), &cases)
+    run_in_one_list::<Case, CbcKernel<12>>(&rt, rt.alloc(), &cases)
 }
 
 // SP 800-38A, appendix F.2.5: the first three blocks of the text, and the whole of it.
@@ -207,5 +196,5 @@ fn one_list_serves_lengths_under_a_key_of_256_bits(rt: HostRuntime) -> Result<()
             ciphertext,
         },
     ];
-    run_in_one_list::<14>(&rt, rt.alloc(), &cases)
+    run_in_one_list::<Case, CbcKernel<14>>(&rt, rt.alloc(), &cases)
 }

@@ -1,6 +1,7 @@
+use crate::compare::expect;
+use crate::lists::{Tried, case_of, check_packet, packet_of, run_in_one_list, schedule_of};
 use mbj_aes::Schedule;
 use mbj_cmac::{CmacEntry, CmacKernel, cmac_plain};
-use mbj_lane::{Kernel, Lanes};
 use std::alloc::{AllocError, Global};
 use std::process::Abort;
 use std::test::Fail;
@@ -14,16 +15,19 @@ fn tags_are_those_of_the_standard(rt: HostRuntime) {
         0x2a, 0xae, 0x2d, 0x8a, 0x57, 0x1e, 0x03, 0xac, 0x9c, 0x9e, 0xb7, 0x6f, 0xac, 0x45, 0xaf,
         0x8e, 0x51, 0x30, 0xc8, 0x1c, 0x46, 0xa3, 0x5c, 0xe4, 0x11,
     ];
-    let vectors: [(&[u8], u128); 3] = [
-        (&message[..0], 0xbb1d6929e95937287fa37d129b756746),
-        (&message[..16], 0x070a16b46b4d4144f79bdd9dd04a287c),
-        (&message, 0xdfa66747de9ae63030ca32611497c827),
-    ];
-    for (message, tag) in vectors {
-        let len = message.len();
-        let found = u128::from_be_bytes(cmac_plain(&key, message));
-        assert_eq!(rt; found, tag, "a message of {len} bytes");
-    }
+    check_mac(&rt, &key, &message[..0], 0xbb1d6929e95937287fa37d129b756746);
+    check_mac(
+        &rt,
+        &key,
+        &message[..16],
+        0x070a16b46b4d4144f79bdd9dd04a287c,
+    );
+    check_mac(&rt, &key, &message, 0xdfa66747de9ae63030ca32611497c827);
+}
+
+fn check_mac(rt: &impl Abort, key: &Schedule, message: &[u8], wanted: u128) {
+    let found = u128::from_be_bytes(cmac_plain(key, message));
+    expect(rt, "mac", found, wanted);
 }
 
 /// The message of SP 800-38B, appendix D, of which its examples take the first bytes.
@@ -42,50 +46,32 @@ struct Case {
     mac: u128,
 }
 
-/// A packet whose bytes around the message tell the case.
-fn packet_of(alloc: Global, number: u8, message: &[u8]) -> Result<Vec<u8>, AllocError> {
-    let mut packet = Vec::new(alloc);
-    packet.push(number)?;
-    packet.extend_from_slice(message)?;
-    packet.push(number)?;
-    Ok(packet)
-}
-
-/// Runs the cases in one list, and looks at what leaves it.
-fn run_in_one_list<const N: usize>(
-    rt: &impl Abort,
-    alloc: Global,
-    cases: &[Case],
-) -> Result<(), Fail> {
-    let mut lanes = Lanes::<CmacKernel<N>>::new(alloc)?;
-    for (number, case) in (0..16u8).zip(cases) {
-        assert!(rt; matches!(case.key.len(), 16 | 24 | 32));
-        let key = Schedule::expand(case.key);
+impl<const N: usize> Tried<Case> for CmacKernel<N> {
+    fn entry(
+        rt: &impl Abort,
+        alloc: Global,
+        number: u8,
+        case: &Case,
+    ) -> Result<CmacEntry<N>, AllocError> {
+        let key = schedule_of(rt, case.key);
         assert!(rt; key.rounds() as usize == N);
-        let packet = packet_of(alloc, number, case.message)?;
         let len = case.message.len();
         assert!(rt; len < 1000);
+        let packet = packet_of(alloc, number, case.message)?;
         assert!(rt; 1 + len <= packet.len());
-        assert!(rt; lanes.len() < CmacKernel::<N>::LANES);
-        lanes.enter(CmacEntry::new(key, packet, 1, len as u32));
+        Ok(CmacEntry::new(key, packet, 1, len as u32))
     }
-    assert_eq!(rt; lanes.len() as usize, cases.len());
-    for _ in 0..40u32 {
-        match lanes.take_finished() {
-            Some(entry) => {
-                assert_eq!(rt; entry.rest, 0);
-                let (packet, mac) = entry.into_parts();
-                check_case(rt, alloc, cases, &packet, &mac)?;
-            }
-            None => {
-                if lanes.len() > 0 {
-                    lanes.run_shortest();
-                }
-            }
-        }
+
+    fn check(
+        rt: &impl Abort,
+        alloc: Global,
+        cases: &[Case],
+        entry: CmacEntry<N>,
+    ) -> Result<(), Fail> {
+        assert_eq!(rt; entry.rest, 0);
+        let (packet, mac) = entry.into_parts();
+        check_case(rt, alloc, cases, &packet, &mac)
     }
-    assert_eq!(rt; lanes.len(), 0);
-    Ok(())
 }
 
 /// The packet is the case's, and the CMAC is what the case, and CMAC without lanes, have.
@@ -96,12 +82,11 @@ fn check_case(
     packet: &[u8],
     mac: &[u8; 16],
 ) -> Result<(), Fail> {
-    let number = *packet.first().ok_or("no packet")?;
-    let case = cases.get(number as usize).ok_or("no case")?;
-    assert_eq!(rt; packet, packet_of(alloc, number, case.message)?.as_slice());
-    assert_eq!(rt; *mac, case.mac.to_be_bytes());
-    assert!(rt; matches!(case.key.len(), 16 | 24 | 32));
-    assert_eq!(rt; cmac_plain(&Schedule::expand(case.key), case.message), *mac);
+    let (number, case) = case_of(cases, packet)?;
+    check_packet(rt, alloc, number, case.message, packet)?;
+    expect(rt, "mac", *mac, case.mac.to_be_bytes());
+    let plain = cmac_plain(&schedule_of(rt, case.key), case.message);
+    expect(rt, "mac without lanes", plain, *mac);
     Ok(())
 }
 
@@ -134,7 +119,7 @@ fn one_list_serves_messages_of_every_length(rt: HostRuntime) -> Result<(), Fail>
             mac: 0x51f0bebf7e3b9d92fc49741779363cfe,
         },
     ];
-    run_in_one_list::<10>(&rt, rt.alloc(), &cases)
+    run_in_one_list::<Case, CmacKernel<10>>(&rt, rt.alloc(), &cases)
 }
 
 // SP 800-38B, appendix D.3.
@@ -162,5 +147,5 @@ fn one_list_serves_keys_of_256_bits(rt: HostRuntime) -> Result<(), Fail> {
             mac: 0xaaf3d8f1de5640c232f5b169b9c911e6,
         },
     ];
-    run_in_one_list::<14>(&rt, rt.alloc(), &cases)
+    run_in_one_list::<Case, CmacKernel<14>>(&rt, rt.alloc(), &cases)
 }

@@ -1,8 +1,10 @@
+ghost use Rattle.std.specs.Prelude.{◌≡◌};
+
+use crate::compare::expect;
+use crate::lists::{Tried, case_of, check_packet, packet_of, run_in_one_list};
 use mbj_hmac::{
-    Hmac1Entry, Hmac1Kernel, Hmac256Entry, Hmac256Kernel, Hmac512Entry, Hmac512Kernel, hmac_plain,
-    pad_key,
+    HmacEntry, HmacKernel, LaneHash, Sha1Lanes, Sha256Lanes, Sha512Lanes, hmac_plain, pad_key,
 };
-use mbj_lane::{Kernel, Lanes};
 use mbj_types::{Auth, Tag};
 use std::alloc::{AllocError, Global};
 use std::process::Abort;
@@ -18,62 +20,82 @@ const LARGER: &[u8] =
 
 const QUESTION: &[u8] = b"what do ya want for nothing?";
 
+/// A key and a message, and the tag that they have, in hex.
+type Case = (Auth, &'static [u8], &'static [u8], &'static str);
+
+const PLAIN_CASES: [Case; 8] = [
+    (
+        Auth::HmacSha1,
+        &[0x0b; 20],
+        HI_THERE,
+        "b617318655057264e28bc0b6fb378c8ef146be00",
+    ),
+    (
+        Auth::HmacSha224,
+        &[0x0b; 20],
+        HI_THERE,
+        "896fb1128abbdf196832107cd49df33f47b4b1169912ba4f53684b22",
+    ),
+    (
+        Auth::HmacSha256,
+        &[0x0b; 20],
+        HI_THERE,
+        "b0344c61d8db38535ca8afceaf0bf12b881dc200c9833da726e9376c2e32cff7",
+    ),
+    (
+        Auth::HmacSha384,
+        &[0x0b; 20],
+        HI_THERE,
+        "afd03944d84895626b0825f4ab46907f15f9dadbe4101ec682aa034c7cebc59cfaea9ea9076ede7f4af152e8b2fa9cb6",
+    ),
+    (
+        Auth::HmacSha512,
+        &[0x0b; 20],
+        HI_THERE,
+        "87aa7cdea5ef619d4ff0b4241a1d6cb02379f4e2ce4ec2787ad0b30545e17cdedaa833b7d6b8a702038b274eaea3f4e4be9d914eeb61f1702e696c203a126854",
+    ),
+    (
+        Auth::HmacSha1,
+        b"Jefe",
+        QUESTION,
+        "effcdf6ae5eb2fa2d27416d5f184df9c259a7c79",
+    ),
+    (
+        Auth::HmacSha256,
+        b"Jefe",
+        QUESTION,
+        "5bdcc146bf60754e6a042426089575c75a003f089d2739839dec58b964ec3843",
+    ),
+    (
+        Auth::HmacSha1,
+        &[0xaa; 80],
+        LARGE,
+        "aa4ae5e15272d00e95705637ce8a3b55ed402112",
+    ),
+];
+
+/// The case's tag by HMAC without lanes.
+fn plain_tag(rt: &impl Abort, case: &Case) -> Tag {
+    let (auth, key, message, _) = *case;
+    assert!(rt; !matches!(auth, Auth::Null | Auth::Cmac128 | Auth::Cmac256 | Auth::Gcm));
+    hmac_plain(auth, key, message)
+}
+
+/// The tag is what the case has.
+fn check_tag(rt: &impl Abort, case: &Case, tag: &[u8]) -> Result<(), Fail> {
+    let expected = case.3;
+    let mut wanted = [0; 64];
+    assert!(rt; tag.len() <= wanted.len());
+    let wanted = &mut wanted[..tag.len()];
+    hex::decode_to_slice(expected, wanted)?;
+    expect(rt, expected, tag, &*wanted);
+    Ok(())
+}
+
 #[test]
 fn the_tags_of_the_standards_come_out(rt: HostRuntime) -> Result<(), Fail> {
-    let vectors: [(Auth, &[u8], &[u8], &str); 8] = [
-        (
-            Auth::HmacSha1,
-            &[0x0b; 20],
-            HI_THERE,
-            "b617318655057264e28bc0b6fb378c8ef146be00",
-        ),
-        (
-            Auth::HmacSha224,
-            &[0x0b; 20],
-            HI_THERE,
-            "896fb1128abbdf196832107cd49df33f47b4b1169912ba4f53684b22",
-        ),
-        (
-            Auth::HmacSha256,
-            &[0x0b; 20],
-            HI_THERE,
-            "b0344c61d8db38535ca8afceaf0bf12b881dc200c9833da726e9376c2e32cff7",
-        ),
-        (
-            Auth::HmacSha384,
-            &[0x0b; 20],
-            HI_THERE,
-            "afd03944d84895626b0825f4ab46907f15f9dadbe4101ec682aa034c7cebc59cfaea9ea9076ede7f4af152e8b2fa9cb6",
-        ),
-        (
-            Auth::HmacSha512,
-            &[0x0b; 20],
-            HI_THERE,
-            "87aa7cdea5ef619d4ff0b4241a1d6cb02379f4e2ce4ec2787ad0b30545e17cdedaa833b7d6b8a702038b274eaea3f4e4be9d914eeb61f1702e696c203a126854",
-        ),
-        (
-            Auth::HmacSha1,
-            b"Jefe",
-            QUESTION,
-            "effcdf6ae5eb2fa2d27416d5f184df9c259a7c79",
-        ),
-        (
-            Auth::HmacSha256,
-            b"Jefe",
-            QUESTION,
-            "5bdcc146bf60754e6a042426089575c75a003f089d2739839dec58b964ec3843",
-        ),
-        (
-            Auth::HmacSha1,
-            &[0xaa; 80],
-            LARGE,
-            "aa4ae5e15272d00e95705637ce8a3b55ed402112",
-        ),
-    ];
-    for (auth, key, message, tag) in vectors {
-        assert!(rt; !matches!(auth, Auth::Null | Auth::Cmac128 | Auth::Cmac256 | Auth::Gcm));
-        let found = hex::encode(rt.alloc(), hmac_plain(auth, key, message).bytes())?;
-        assert_eq!(rt; found.as_str(), tag, "{auth:?}");
+    for case in &PLAIN_CASES {
+        check_tag(&rt, case, plain_tag(&rt, case).bytes())?;
     }
     Ok(())
 }
@@ -81,55 +103,61 @@ fn the_tags_of_the_standards_come_out(rt: HostRuntime) -> Result<(), Fail> {
 #[test]
 fn a_key_is_padded_to_its_block(rt: HostRuntime) {
     let block = pad_key(Auth::HmacSha256, b"Jefe");
-    assert_eq!(rt; &block[..4], b"Jefe".as_slice());
-    assert_eq!(rt; &block[4..], [0u8; 124].as_slice());
+    expect(&rt, "key", &block[..4], b"Jefe");
+    expect(&rt, "zeros", &block[4..], &[0; 124]);
     let whole = pad_key(Auth::HmacSha512, &[7; 128]);
-    assert_eq!(rt; whole, [7u8; 128]);
+    expect(&rt, "whole", whole, [7; 128]);
 }
 
-/// A key and a message, and the tag that they have.
-type Case = (Auth, &'static [u8], &'static [u8], &'static str);
-
-/// A packet whose bytes around the message tell the case.
-fn packet_of(alloc: Global, number: u8, message: &[u8]) -> Result<Vec<u8>, AllocError> {
-    let mut packet = Vec::new(alloc);
-    packet.push(number)?;
-    packet.extend_from_slice(message)?;
-    packet.push(number)?;
-    Ok(packet)
+/// Hashes whose lanes tell which authentications they serve.
+trait Serving: LaneHash {
+    fn takes(auth: Auth) -> bool
+        ensures { result ≡ Self.serves auth };
 }
 
-/// Runs the cases in one list, and looks at what leaves it.
-macro_rules! run_in_one_list {
-    ($rt:ident, $cases:ident, $entry:ident, $kernel:ident, $auths:pat) => {{
-        let mut lanes = Lanes::<$kernel>::new($rt.alloc())?;
-        for (number, (auth, key, message, _)) in $cases.iter().enumerate() {
-            let packet = packet_of($rt.alloc(), number as u8, message)?;
-            assert!($rt; matches!(*auth, $auths));
-            assert!($rt; message.len() < 1000);
-            assert!($rt; 1 + message.len() <= packet.len());
-            let entry = $entry::new(*auth, key, packet, 1, message.len() as u32);
-            assert!($rt; lanes.len() < $kernel::LANES);
-            lanes.enter(entry);
-        }
-        assert_eq!($rt; lanes.len(), $cases.len() as u32);
-        for _ in 0..40u32 {
-            match lanes.take_finished() {
-                Some(entry) => {
-                    assert_eq!($rt; entry.rest, 0);
-                    let (packet, tag) = entry.into_parts();
-                    check_case(&$rt, $rt.alloc(), &$cases, &packet, &tag)?;
-                }
-                None => {
-                    if lanes.len() > 0 {
-                        lanes.run_shortest();
-                    }
-                }
-            }
-        }
-        assert_eq!($rt; lanes.len(), 0);
-        Ok(())
-    }};
+impl Serving for Sha1Lanes {
+    fn takes(auth: Auth) -> bool {
+        matches!(auth, Auth::HmacSha1)
+    }
+}
+
+impl Serving for Sha256Lanes {
+    fn takes(auth: Auth) -> bool {
+        matches!(auth, Auth::HmacSha224 | Auth::HmacSha256)
+    }
+}
+
+impl Serving for Sha512Lanes {
+    fn takes(auth: Auth) -> bool {
+        matches!(auth, Auth::HmacSha384 | Auth::HmacSha512)
+    }
+}
+
+impl<H: Serving> Tried<Case> for HmacKernel<H> {
+    fn entry(
+        rt: &impl Abort,
+        alloc: Global,
+        number: u8,
+        case: &Case,
+    ) -> Result<HmacEntry<H>, AllocError> {
+        let (auth, key, message, _) = *case;
+        assert!(rt; H::takes(auth));
+        assert!(rt; message.len() < 1000);
+        let packet = packet_of(alloc, number, message)?;
+        assert!(rt; 1 + message.len() <= packet.len());
+        Ok(HmacEntry::new(auth, key, packet, 1, message.len() as u32))
+    }
+
+    fn check(
+        rt: &impl Abort,
+        alloc: Global,
+        cases: &[Case],
+        entry: HmacEntry<H>,
+    ) -> Result<(), Fail> {
+        assert_eq!(rt; entry.rest, 0);
+        let (packet, tag) = entry.into_parts();
+        check_case(rt, alloc, cases, &packet, tag.bytes())
+    }
 }
 
 /// The packet is the case's, and the tag is what the case, and HMAC without lanes, have.
@@ -138,147 +166,131 @@ fn check_case(
     alloc: Global,
     cases: &[Case],
     packet: &[u8],
-    tag: &Tag,
+    tag: &[u8],
 ) -> Result<(), Fail> {
-    let number = *packet.first().ok_or("no packet")?;
-    let (auth, key, message, expected) = cases.get(number as usize).ok_or("no case")?;
-    assert_eq!(rt; packet, packet_of(alloc, number, message)?.as_slice());
-    assert_eq!(rt; hex::encode(alloc, tag.bytes())?.as_str(), *expected);
-    assert!(rt;
-        !matches!(
-            *auth,
-            Auth::Null | Auth::Cmac128 | Auth::Cmac256 | Auth::Gcm
-        )
-    );
-    assert_eq!(rt; hmac_plain(*auth, key, message).bytes(), tag.bytes());
+    let (number, case) = case_of(cases, packet)?;
+    check_packet(rt, alloc, number, case.2, packet)?;
+    check_tag(rt, case, tag)?;
+    expect(rt, "tag without lanes", plain_tag(rt, case).bytes(), tag);
     Ok(())
 }
 
+const SHA1_CASES: [Case; 6] = [
+    (
+        Auth::HmacSha1,
+        &[0x0b; 20],
+        HI_THERE,
+        "b617318655057264e28bc0b6fb378c8ef146be00",
+    ),
+    (
+        Auth::HmacSha1,
+        b"Jefe",
+        QUESTION,
+        "effcdf6ae5eb2fa2d27416d5f184df9c259a7c79",
+    ),
+    (
+        Auth::HmacSha1,
+        &[0xaa; 20],
+        &[0xdd; 50],
+        "125d7342b9ac11cd91a39af48aa17b4f63f175d3",
+    ),
+    (
+        Auth::HmacSha1,
+        &[0xaa; 80],
+        LARGE,
+        "aa4ae5e15272d00e95705637ce8a3b55ed402112",
+    ),
+    (
+        Auth::HmacSha1,
+        b"Jefe",
+        &[],
+        "09d9e59d72239e62a8155c583d52743de9b7231a",
+    ),
+    (
+        Auth::HmacSha1,
+        b"Jefe",
+        &[0x61; 200],
+        "ac12229e04dd20bda1f8c09a52058abea80f53ce",
+    ),
+];
+
 #[test]
 fn one_list_of_sha1_serves_all_lengths(rt: HostRuntime) -> Result<(), Fail> {
-    let cases: [Case; 6] = [
-        (
-            Auth::HmacSha1,
-            &[0x0b; 20],
-            HI_THERE,
-            "b617318655057264e28bc0b6fb378c8ef146be00",
-        ),
-        (
-            Auth::HmacSha1,
-            b"Jefe",
-            QUESTION,
-            "effcdf6ae5eb2fa2d27416d5f184df9c259a7c79",
-        ),
-        (
-            Auth::HmacSha1,
-            &[0xaa; 20],
-            &[0xdd; 50],
-            "125d7342b9ac11cd91a39af48aa17b4f63f175d3",
-        ),
-        (
-            Auth::HmacSha1,
-            &[0xaa; 80],
-            LARGE,
-            "aa4ae5e15272d00e95705637ce8a3b55ed402112",
-        ),
-        (
-            Auth::HmacSha1,
-            b"Jefe",
-            &[],
-            "09d9e59d72239e62a8155c583d52743de9b7231a",
-        ),
-        (
-            Auth::HmacSha1,
-            b"Jefe",
-            &[0x61; 200],
-            "ac12229e04dd20bda1f8c09a52058abea80f53ce",
-        ),
-    ];
-    run_in_one_list!(rt, cases, Hmac1Entry, Hmac1Kernel, Auth::HmacSha1)
+    run_in_one_list::<Case, HmacKernel<Sha1Lanes>>(&rt, rt.alloc(), &SHA1_CASES)
 }
+
+const SHA256_CASES: [Case; 6] = [
+    (
+        Auth::HmacSha256,
+        &[0x0b; 20],
+        HI_THERE,
+        "b0344c61d8db38535ca8afceaf0bf12b881dc200c9833da726e9376c2e32cff7",
+    ),
+    (
+        Auth::HmacSha224,
+        b"Jefe",
+        QUESTION,
+        "a30e01098bc6dbbf45690f3a7e9e6d0f8bbea2a39e6148008fd05e44",
+    ),
+    (
+        Auth::HmacSha256,
+        &[0xaa; 131],
+        LARGE,
+        "60e431591ee0b67f0d8a26aacbf5b77f8e0bc6213728c5140546040f0ee37f54",
+    ),
+    (
+        Auth::HmacSha224,
+        &[0xaa; 131],
+        LARGER,
+        "3a854166ac5d9f023f54d517d0b39dbd946770db9c2b95c9f6f565d1",
+    ),
+    (
+        Auth::HmacSha256,
+        b"Jefe",
+        &[],
+        "923598ca6d64af2a5dba79dcd021a8a0fe5c5f557519adaaf0ad532d4506dd30",
+    ),
+    (
+        Auth::HmacSha224,
+        b"Jefe",
+        &[0x61; 200],
+        "f013fe31bfe45fe7ad88ae8884727e3c4750ee96b6397ded346592b6",
+    ),
+];
 
 #[test]
 fn one_list_serves_sha224_and_sha256(rt: HostRuntime) -> Result<(), Fail> {
-    let cases: [Case; 6] = [
-        (
-            Auth::HmacSha256,
-            &[0x0b; 20],
-            HI_THERE,
-            "b0344c61d8db38535ca8afceaf0bf12b881dc200c9833da726e9376c2e32cff7",
-        ),
-        (
-            Auth::HmacSha224,
-            b"Jefe",
-            QUESTION,
-            "a30e01098bc6dbbf45690f3a7e9e6d0f8bbea2a39e6148008fd05e44",
-        ),
-        (
-            Auth::HmacSha256,
-            &[0xaa; 131],
-            LARGE,
-            "60e431591ee0b67f0d8a26aacbf5b77f8e0bc6213728c5140546040f0ee37f54",
-        ),
-        (
-            Auth::HmacSha224,
-            &[0xaa; 131],
-            LARGER,
-            "3a854166ac5d9f023f54d517d0b39dbd946770db9c2b95c9f6f565d1",
-        ),
-        (
-            Auth::HmacSha256,
-            b"Jefe",
-            &[],
-            "923598ca6d64af2a5dba79dcd021a8a0fe5c5f557519adaaf0ad532d4506dd30",
-        ),
-        (
-            Auth::HmacSha224,
-            b"Jefe",
-            &[0x61; 200],
-            "f013fe31bfe45fe7ad88ae8884727e3c4750ee96b6397ded346592b6",
-        ),
-    ];
-    run_in_one_list!(
-        rt,
-        cases,
-        Hmac256Entry,
-        Hmac256Kernel,
-        Auth::HmacSha224 | Auth::HmacSha256
-    )
+    run_in_one_list::<Case, HmacKernel<Sha256Lanes>>(&rt, rt.alloc(), &SHA256_CASES)
 }
+
+const SHA512_CASES: [Case; 4] = [
+    (
+        Auth::HmacSha512,
+        &[0x0b; 20],
+        HI_THERE,
+        "87aa7cdea5ef619d4ff0b4241a1d6cb02379f4e2ce4ec2787ad0b30545e17cdedaa833b7d6b8a702038b274eaea3f4e4be9d914eeb61f1702e696c203a126854",
+    ),
+    (
+        Auth::HmacSha384,
+        b"Jefe",
+        QUESTION,
+        "af45d2e376484031617f78d2b58a6b1b9c7ef464f5a01b47e42ec3736322445e8e2240ca5e69e2c78b3239ecfab21649",
+    ),
+    (
+        Auth::HmacSha384,
+        &[0xaa; 131],
+        LARGER,
+        "6617178e941f020d351e2f254e8fd32c602420feb0b8fb9adccebb82461e99c5a678cc31e799176d3860e6110c46523e",
+    ),
+    (
+        Auth::HmacSha512,
+        b"Jefe",
+        &[0x61; 300],
+        "08d8d44bfa31d244942372428106c09456f2ea22c8323b114327155aa202c581582dc8967c12efe17307a0969614ce8b2838f8832a6de3cf9298f3250555e55a",
+    ),
+];
 
 #[test]
 fn one_list_serves_sha384_and_sha512(rt: HostRuntime) -> Result<(), Fail> {
-    let cases: [Case; 4] = [
-        (
-            Auth::HmacSha512,
-            &[0x0b; 20],
-            HI_THERE,
-            "87aa7cdea5ef619d4ff0b4241a1d6cb02379f4e2ce4ec2787ad0b30545e17cdedaa833b7d6b8a702038b274eaea3f4e4be9d914eeb61f1702e696c203a126854",
-        ),
-        (
-            Auth::HmacSha384,
-            b"Jefe",
-            QUESTION,
-            "af45d2e376484031617f78d2b58a6b1b9c7ef464f5a01b47e42ec3736322445e8e2240ca5e69e2c78b3239ecfab21649",
-        ),
-        (
-            Auth::HmacSha384,
-            &[0xaa; 131],
-            LARGER,
-            "6617178e941f020d351e2f254e8fd32c602420feb0b8fb9adccebb82461e99c5a678cc31e799176d3860e6110c46523e",
-        ),
-        (
-            Auth::HmacSha512,
-            b"Jefe",
-            &[0x61; 300],
-            "08d8d44bfa31d244942372428106c09456f2ea22c8323b114327155aa202c581582dc8967c12efe17307a0969614ce8b2838f8832a6de3cf9298f3250555e55a",
-        ),
-    ];
-    run_in_one_list!(
-        rt,
-        cases,
-        Hmac512Entry,
-        Hmac512Kernel,
-        Auth::HmacSha384 | Auth::HmacSha512
-    )
+    run_in_one_list::<Case, HmacKernel<Sha512Lanes>>(&rt, rt.alloc(), &SHA512_CASES)
 }

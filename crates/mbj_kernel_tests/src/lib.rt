@@ -12,6 +12,8 @@ mod cbc;
 #[cfg(test)]
 mod cmac;
 #[cfg(test)]
+mod compare;
+#[cfg(test)]
 mod ctr;
 #[cfg(test)]
 mod gcm;
@@ -21,6 +23,8 @@ mod ghash;
 mod hmac;
 #[cfg(test)]
 mod lane;
+#[cfg(test)]
+mod lists;
 #[cfg(test)]
 mod sha1_lanes;
 #[cfg(test)]
