@@ -1,11 +1,14 @@
 ghost use Rattle.std.specs.Prelude.{◌≡◌, length};
 ghost use Rattle.mbj_aes_lanes.specs.KeyLanes.{IsFull};
 
+use crate::compare::expect;
 use mbj_aes::Schedule;
 use mbj_aes_lanes::{
     LaneKeys, chained, decrypt_lanes, decrypt16, encrypt_lanes, encrypt_same, encrypt16,
 };
 use mbj_types::Lane8;
+use std::fmt::Debug;
+use std::process::Abort;
 use std::simd::{u8x16, u8x32};
 
 /// The keys of FIPS 197, appendix C, are the first 16, 24 and 32 of these bytes.
@@ -23,34 +26,37 @@ const CIPHERTEXT: u128 = 0x69c4e0d86a7b0430d8cdb78070b4c55a;
 /// The zero block under the zero key.
 const ZEROS: u128 = 0x66e94bd4ef8a2c3b884cfa59ca342b2e;
 
+/// A block under the key in five places and in sixteen lanes, there and back. The place behind the five stays.
+fn check_key(rt: &impl Abort, key: &[u8], plaintext: u128, ciphertext: u128) {
+    assert!(rt; matches!(key.len(), 16 | 24 | 32));
+    let schedule = Schedule::expand(key);
+    let (plaintext, ciphertext) = (plaintext.to_be_bytes(), ciphertext.to_be_bytes());
+    let mut blocks = [plaintext; 16];
+    encrypt_same(&schedule, &mut blocks[..5]);
+    expect(rt, "encrypted", blocks[4], ciphertext);
+    expect(rt, "behind", blocks[5], plaintext);
+    let mut blocks = [ciphertext; 16];
+    decrypt16(&LaneKeys::all(&schedule), &mut blocks);
+    expect(rt, "decrypted", blocks[15], plaintext);
+    encrypt_same(&schedule, &mut []);
+}
+
 #[test]
 fn blocks_under_one_key_are_those_of_the_standard(rt: HostRuntime) {
-    let vectors: [(&[u8], u128, u128); 4] = [
-        (&COUNTING[..16], PLAINTEXT, CIPHERTEXT),
-        (
-            &COUNTING[..24],
-            PLAINTEXT,
-            0xdda97ca4864cdfe06eaf70a0ec0d7191,
-        ),
-        (
-            &COUNTING[..32],
-            PLAINTEXT,
-            0x8ea2b7ca516745bfeafc49904b496089,
-        ),
-        (&[0; 16], 0, ZEROS),
-    ];
-    for (key, plaintext, ciphertext) in vectors {
-        assert!(rt; matches!(key.len(), 16 | 24 | 32));
-        let schedule = Schedule::expand(key);
-        let mut blocks = [plaintext.to_be_bytes(); 16];
-        encrypt_same(&schedule, &mut blocks[..5]);
-        assert_eq!(rt; blocks[4], ciphertext.to_be_bytes());
-        assert_eq!(rt; blocks[5], plaintext.to_be_bytes());
-        let mut blocks = [ciphertext.to_be_bytes(); 16];
-        decrypt16(&LaneKeys::all(&schedule), &mut blocks);
-        assert_eq!(rt; blocks[15], plaintext.to_be_bytes());
-        encrypt_same(&schedule, &mut []);
-    }
+    check_key(&rt, &COUNTING[..16], PLAINTEXT, CIPHERTEXT);
+    check_key(
+        &rt,
+        &COUNTING[..24],
+        PLAINTEXT,
+        0xdda97ca4864cdfe06eaf70a0ec0d7191,
+    );
+    check_key(
+        &rt,
+        &COUNTING,
+        PLAINTEXT,
+        0x8ea2b7ca516745bfeafc49904b496089,
+    );
+    check_key(&rt, &[0; 16], 0, ZEROS);
 }
 
 /// Sixteen lanes, of which the even ones have one key and the odd ones the other.
@@ -66,6 +72,14 @@ fn alternating(even: &Schedule, odd: &Schedule) -> LaneKeys
     keys
 }
 
+/// Each two neighbouring blocks are these two.
+fn check_pairs(rt: &impl Abort, blocks: &[[u8; 16]; 16], wanted: [u128; 2]) {
+    let wanted = wanted.map(|block| block.to_be_bytes());
+    for pair in blocks.as_chunks::<2>().0 {
+        expect(rt, "pair", *pair, wanted);
+    }
+}
+
 #[test]
 fn lanes_under_two_keys_go_side_by_side(rt: HostRuntime) {
     let counting = Schedule::expand(&COUNTING[..16]);
@@ -75,48 +89,37 @@ fn lanes_under_two_keys_go_side_by_side(rt: HostRuntime) {
         blocks[2 * pair] = PLAINTEXT.to_be_bytes();
     }
     encrypt16(&keys, &mut blocks);
-    for pair in blocks.as_chunks::<2>().0 {
-        assert_eq!(rt; *pair, [CIPHERTEXT.to_be_bytes(), ZEROS.to_be_bytes()]);
-    }
+    check_pairs(&rt, &blocks, [CIPHERTEXT, ZEROS]);
     decrypt16(&keys, &mut blocks);
-    for pair in blocks.as_chunks::<2>().0 {
-        assert_eq!(rt; *pair, [PLAINTEXT.to_be_bytes(), [0; 16]]);
+    check_pairs(&rt, &blocks, [PLAINTEXT, 0]);
+}
+
+/// Sixteen new lanes, put one by one.
+fn put_one_by_one(key: &Schedule) -> LaneKeys
+    requires { length key.now ≡ 240 }
+    ensures { IsFull result }
+{
+    let mut keys = LaneKeys::new(14);
+    'lanes: for lane in 0..16u32 {
+        keys.put(lane, key);
     }
+    keys
 }
 
 #[test]
 fn a_new_lane_is_put_before_it_is_used(rt: HostRuntime) {
-    let key = Schedule::expand(&COUNTING);
-    let mut keys = LaneKeys::new(14);
-    keys.put(0, &key);
-    keys.put(1, &key);
-    keys.put(2, &key);
-    keys.put(3, &key);
-    keys.put(4, &key);
-    keys.put(5, &key);
-    keys.put(6, &key);
-    keys.put(7, &key);
-    keys.put(8, &key);
-    keys.put(9, &key);
-    keys.put(10, &key);
-    keys.put(11, &key);
-    keys.put(12, &key);
-    keys.put(13, &key);
-    keys.put(14, &key);
-    keys.put(15, &key);
+    let keys = put_one_by_one(&Schedule::expand(&COUNTING));
     let mut blocks = [PLAINTEXT.to_be_bytes(); 16];
     encrypt16(&keys, &mut blocks);
-    assert_eq!(rt;
-        blocks[7],
-        0x8ea2b7ca516745bfeafc49904b496089u128.to_be_bytes()
-    );
+    let wanted = 0x8ea2b7ca516745bfeafc49904b496089u128;
+    expect(&rt, "block", blocks[7], wanted.to_be_bytes());
 }
 
 #[test]
 fn a_block_is_xored_with_the_chain_and_enciphered(rt: HostRuntime) {
     let key = Schedule::expand(&[0; 16]);
     let block = chained(&key, &[0x3c; 16], &[0x3c; 16]);
-    assert_eq!(rt; block, ZEROS.to_be_bytes());
+    expect(&rt, "block", block, ZEROS.to_be_bytes());
 }
 
 /// Puts each byte in every lane of its vector.
@@ -139,35 +142,38 @@ fn round_keys(key: &Schedule) -> [[u8; 16]; 11]
     keys
 }
 
+/// Each byte of the block is in every lane of its vector.
+fn expect_in_every_lane<V: Lane8 + PartialEq + Debug + Drop>(
+    rt: &impl Abort,
+    vectors: &[V],
+    block: &[u8; 16],
+) {
+    for (vector, byte) in vectors.iter().zip(block) {
+        expect(rt, "lanes", *vector, V::splat(*byte));
+    }
+}
+
+/// The plaintext in every lane is encrypted, and decrypted.
+fn check_lanes<V: Lane8 + PartialEq + Debug + Drop>(rt: &impl Abort, keys: &[V], state: &mut [V])
+    requires keys { length keys.now ≡ 176 }
+    requires state { length state.old ≡ 16 }
+{
+    let (plaintext, ciphertext) = (PLAINTEXT.to_be_bytes(), CIPHERTEXT.to_be_bytes());
+    spread(state, &plaintext);
+    encrypt_lanes(keys, state);
+    expect_in_every_lane(rt, state, &ciphertext);
+    decrypt_lanes(keys, state);
+    expect_in_every_lane(rt, state, &plaintext);
+}
+
 // The same key and the same block in every lane of 16, and of 32.
 #[test]
 fn lanes_of_every_width_are_served(rt: HostRuntime) {
     let keys = round_keys(&Schedule::expand(&COUNTING[..16]));
-    let (plaintext, ciphertext) = (PLAINTEXT.to_be_bytes(), CIPHERTEXT.to_be_bytes());
-    let (mut narrow_keys, mut narrow) = ([u8x16::splat(0); 176], [u8x16::splat(0); 16]);
-    spread(&mut narrow_keys, keys.as_flattened());
-    spread(&mut narrow, &plaintext);
-    encrypt_lanes(&narrow_keys, &mut narrow);
-    assert_eq!(rt;
-        narrow.map(|lanes| lanes.to_array()),
-        ciphertext.map(|byte| [byte; 16])
-    );
-    decrypt_lanes(&narrow_keys, &mut narrow);
-    assert_eq!(rt;
-        narrow.map(|lanes| lanes.to_array()),
-        plaintext.map(|byte| [byte; 16])
-    );
-    let (mut wide_keys, mut wide) = ([u8x32::splat(0); 176], [u8x32::splat(0); 16]);
-    spread(&mut wide_keys, keys.as_flattened());
-    spread(&mut wide, &plaintext);
-    encrypt_lanes(&wide_keys, &mut wide);
-    assert_eq!(rt;
-        wide.map(|lanes| lanes.to_array()),
-        ciphertext.map(|byte| [byte; 32])
-    );
-    decrypt_lanes(&wide_keys, &mut wide);
-    assert_eq!(rt;
-        wide.map(|lanes| lanes.to_array()),
-        plaintext.map(|byte| [byte; 32])
-    );
+    let mut narrow = [u8x16::splat(0); 176];
+    spread(&mut narrow, keys.as_flattened());
+    check_lanes(&rt, &narrow, &mut [u8x16::splat(0); 16]);
+    let mut wide = [u8x32::splat(0); 176];
+    spread(&mut wide, keys.as_flattened());
+    check_lanes(&rt, &wide, &mut [u8x32::splat(0); 16]);
 }
