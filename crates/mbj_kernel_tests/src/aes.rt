@@ -1,3 +1,4 @@
+use crate::compare::expect;
 use mbj_aes::{Schedule, blocks_stay_blocks, each_undoes_the_other, examples_of_the_standard};
 
 /// Takes a value that may cross to another thread.
@@ -14,28 +15,22 @@ const COUNTING: [u8; 32] = [
 fn round_keys_are_those_of_the_standard(rt: HostRuntime) {
     let key = 0x2b7e151628aed2a6abf7158809cf4f3cu128.to_be_bytes();
     let schedule = Schedule::expand(&key);
-    assert_eq!(rt; schedule.round_key(0), key);
-    assert_eq!(rt;
-        u128::from_be_bytes(schedule.round_key(1)),
-        0xa0fafe1788542cb123a339392a6c7605
-    );
-    assert_eq!(rt;
-        u128::from_be_bytes(schedule.round_key(10)),
-        0xd014f9a8c9ee2589e13f0cc8b6630ca6
-    );
+    expect(&rt, "first", schedule.round_key(0), key);
+    let second = 0xa0fafe1788542cb123a339392a6c7605u128;
+    expect(&rt, "second", schedule.round_key(1), second.to_be_bytes());
+    let last = 0xd014f9a8c9ee2589e13f0cc8b6630ca6u128;
+    expect(&rt, "last", schedule.round_key(10), last.to_be_bytes());
 }
 
 #[test]
 fn a_schedule_is_copied_and_may_cross_to_another_thread(rt: HostRuntime) {
     let schedule = Schedule::expand(&COUNTING);
     cross(schedule);
-    assert_eq!(rt;
-        schedule.round_key(1),
-        [
-            0x10, 0x11, 0x12, 0x13, 0x14, 0x15, 0x16, 0x17, 0x18, 0x19, 0x1a, 0x1b, 0x1c, 0x1d,
-            0x1e, 0x1f,
-        ]
-    );
+    let second = [
+        0x10, 0x11, 0x12, 0x13, 0x14, 0x15, 0x16, 0x17, 0x18, 0x19, 0x1a, 0x1b, 0x1c, 0x1d, 0x1e,
+        0x1f,
+    ];
+    expect(&rt, "second", schedule.round_key(1), second);
     each_undoes_the_other();
     blocks_stay_blocks();
     examples_of_the_standard();

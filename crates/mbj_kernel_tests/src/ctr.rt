@@ -1,5 +1,7 @@
+use crate::compare::expect;
 use mbj_aes::Schedule;
 use mbj_ctr::apply;
+use std::process::Abort;
 
 /// The first two blocks of the plaintext of SP 800-38A, appendix F.
 const PLAINTEXT: [u8; 32] = [
@@ -13,19 +15,39 @@ const CIPHERTEXT: [u8; 32] = [
     0x98, 0x06, 0xf6, 0x6b, 0x79, 0x70, 0xfd, 0xff, 0x86, 0x17, 0x18, 0x7b, 0xb9, 0xff, 0xfd, 0xff,
 ];
 
+/// What CTR turns into what, under a key and from an IV.
+#[derive(Drop)]
+struct Texts {
+    key: Schedule,
+    iv: [u8; 16],
+    plaintext: [u8; 32],
+    ciphertext: [u8; 32],
+}
+
+/// The first bytes of the plaintext, there and back.
+fn check_cut(rt: &impl Abort, texts: &Texts, len: usize, cut: &str) {
+    assert!(rt; len <= 32);
+    let mut text = texts.plaintext;
+    apply(&texts.key, &texts.iv, &mut text[..len]);
+    expect(rt, cut, &text[..len], &texts.ciphertext[..len]);
+    expect(rt, cut, &text[len..], &texts.plaintext[len..]);
+    apply(&texts.key, &texts.iv, &mut text[..len]);
+    expect(rt, cut, text, texts.plaintext);
+}
+
 #[test]
 fn texts_are_those_of_the_standard_cut_at_each_length(rt: HostRuntime) {
-    let key = Schedule::expand(&0x2b7e151628aed2a6abf7158809cf4f3cu128.to_be_bytes());
-    let iv = 0xf0f1f2f3f4f5f6f7f8f9fafbfcfdfeffu128.to_be_bytes();
-    for len in [0, 3, 16, 19, 32] {
-        assert!(rt; len <= PLAINTEXT.len());
-        let mut text = PLAINTEXT;
-        apply(&key, &iv, &mut text[..len]);
-        assert_eq!(rt; &text[..len], &CIPHERTEXT[..len], "the first {len} bytes");
-        assert_eq!(rt; &text[len..], &PLAINTEXT[len..], "what follows them");
-        apply(&key, &iv, &mut text[..len]);
-        assert_eq!(rt; text, PLAINTEXT, "back from {len} bytes");
-    }
+    let texts = Texts {
+        key: Schedule::expand(&0x2b7e151628aed2a6abf7158809cf4f3cu128.to_be_bytes()),
+        iv: 0xf0f1f2f3f4f5f6f7f8f9fafbfcfdfeffu128.to_be_bytes(),
+        plaintext: PLAINTEXT,
+        ciphertext: CIPHERTEXT,
+    };
+    check_cut(&rt, &texts, 0, "no byte");
+    check_cut(&rt, &texts, 3, "3 bytes");
+    check_cut(&rt, &texts, 16, "16 bytes");
+    check_cut(&rt, &texts, 19, "19 bytes");
+    check_cut(&rt, &texts, 32, "32 bytes");
 }
 
 // The counter after the IV is 0, so the second block of zeros becomes the enciphered zero block.
@@ -34,12 +56,8 @@ fn counters_wrap_at_128_bits(rt: HostRuntime) {
     let key = Schedule::expand(&[0; 16]);
     let mut text = [0; 32];
     apply(&key, &[0xff; 16], &mut text);
-    assert_eq!(rt;
-        &text[16..],
-        0x66e94bd4ef8a2c3b884cfa59ca342b2eu128
-            .to_be_bytes()
-            .as_slice()
-    );
+    let second = 0x66e94bd4ef8a2c3b884cfa59ca342b2eu128.to_be_bytes();
+    expect(&rt, "second block", &text[16..], &second);
 }
 
 // An IV of 12 bytes is one of 16 bytes that ends in the block number 1.
@@ -50,5 +68,5 @@ fn an_iv_of_12_bytes_begins_at_block_number_1(rt: HostRuntime) {
     let mut text = [0; 20];
     apply(&key, &iv[..12], &mut text);
     apply(&key, &iv, &mut text);
-    assert_eq!(rt; text, [0; 20]);
+    expect(&rt, "text", text, [0; 20]);
 }

@@ -1,5 +1,6 @@
 ghost use Rattle.std.specs.Prelude.{◌≤◌, length};
 
+use crate::compare::expect;
 use mbj_aes::Schedule;
 use mbj_aes_lanes::encrypt_same;
 use mbj_gcm::{seal, unseal, unsealing_undoes_sealing};
@@ -11,20 +12,26 @@ use std::process::Abort;
 fn zeros_are_sealed_as_in_the_gcm_specification(rt: HostRuntime) {
     let key = Schedule::expand(&[0; 16]);
     let tag = seal(&key, &[0; 12], &[], &mut []);
-    assert_eq!(rt;
+    expect(
+        &rt,
+        "tag of nothing",
         u128::from_be_bytes(tag),
-        0x58e2fccefa7e3061367f1d57a4e7455a
+        0x58e2fccefa7e3061367f1d57a4e7455a,
     );
 
     let mut text = [0; 16];
     let tag = seal(&key, &[0; 12], &[], &mut text);
-    assert_eq!(rt;
+    expect(
+        &rt,
+        "text",
         u128::from_be_bytes(text),
-        0x0388dace60b6a392f328c2b971b2fe78
+        0x0388dace60b6a392f328c2b971b2fe78,
     );
-    assert_eq!(rt;
+    expect(
+        &rt,
+        "tag",
         u128::from_be_bytes(tag),
-        0xab6e47d42cec13bdf53a67b21257bddf
+        0xab6e47d42cec13bdf53a67b21257bddf,
     );
 }
 
@@ -71,12 +78,12 @@ fn expect_sealed(
 {
     let mut text = PLAINTEXT;
     let tag = seal(key, iv, &AAD, &mut text);
-    assert_eq!(rt; text, *ciphertext);
-    assert_eq!(rt; u128::from_be_bytes(tag), expected_tag);
+    expect(rt, "sealed", text, *ciphertext);
+    expect(rt, "tag", u128::from_be_bytes(tag), expected_tag);
 
     let tag = unseal(key, iv, &AAD, &mut text);
-    assert_eq!(rt; text, PLAINTEXT);
-    assert_eq!(rt; u128::from_be_bytes(tag), expected_tag);
+    expect(rt, "unsealed", text, PLAINTEXT);
+    expect(rt, "tag again", u128::from_be_bytes(tag), expected_tag);
 }
 
 #[test]
@@ -193,9 +200,11 @@ fn an_iv_of_8_bytes_is_hashed(rt: HostRuntime) {
     let mut enciphered = [hash.value()];
     encrypt_same(&key, &mut enciphered);
     let tag = seal(&key, &IV[..8], &[], &mut []);
-    assert_eq!(rt; tag, enciphered[0]);
-    assert_eq!(rt;
+    expect(&rt, "enciphered", tag, enciphered[0]);
+    expect(
+        &rt,
+        "tag",
         u128::from_be_bytes(tag),
-        0x88c4736bea448d08d767f46374e9fe05
+        0x88c4736bea448d08d767f46374e9fe05,
     );
 }

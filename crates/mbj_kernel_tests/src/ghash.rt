@@ -1,4 +1,6 @@
+use crate::compare::expect;
 use mbj_ghash::Ghash;
+use std::process::Abort;
 
 // The enciphered zero block under the zero key, as in test cases 1 and 2 of the GCM specification.
 const SUBKEY: u128 = 0x66e94bd4ef8a2c3b884cfa59ca342b2e;
@@ -38,17 +40,33 @@ fn text() -> [u8; 320] {
 #[test]
 fn values_are_those_of_the_gcm_specification(rt: HostRuntime) {
     let mut hash = Ghash::new(SUBKEY.to_be_bytes());
-    assert_eq!(rt; u128::from_be_bytes(hash.value()), 0);
+    expect(&rt, "fresh", u128::from_be_bytes(hash.value()), 0);
     hash.update_block(&0x0388dace60b6a392f328c2b971b2fe78u128.to_be_bytes());
-    assert_eq!(rt;
+    expect(
+        &rt,
+        "ciphertext",
         u128::from_be_bytes(hash.value()),
-        0x5e2ec746917062882c85b0685353deb7
+        0x5e2ec746917062882c85b0685353deb7,
     );
     hash.update_block(&0x80u128.to_be_bytes());
-    assert_eq!(rt;
+    expect(
+        &rt,
+        "lengths",
         u128::from_be_bytes(hash.value()),
-        0xf38cbb1ad69223dcc3457ae5b6b0f885
+        0xf38cbb1ad69223dcc3457ae5b6b0f885,
     );
+}
+
+/// The blocks have this value, hashed together and one by one.
+fn check_blocks(rt: &impl Abort, blocks: &[[u8; 16]], value: u128) {
+    let mut together = Ghash::new(SUBKEY.to_be_bytes());
+    together.update_blocks(blocks);
+    let mut one_by_one = Ghash::new(SUBKEY.to_be_bytes());
+    for block in blocks {
+        one_by_one.update_block(block);
+    }
+    expect(rt, "together", u128::from_be_bytes(together.value()), value);
+    expect(rt, "one by one", one_by_one.value(), together.value());
 }
 
 #[test]
@@ -56,26 +74,23 @@ fn blocks_are_hashed_together_as_one_by_one(rt: HostRuntime) {
     let bytes = text();
     let blocks = bytes.as_chunks::<16>().0;
     for (count, value) in AFTER_BLOCKS {
-        let taken = &blocks[..count.min(blocks.len())];
-        let mut together = Ghash::new(SUBKEY.to_be_bytes());
-        together.update_blocks(taken);
-        let mut one_by_one = Ghash::new(SUBKEY.to_be_bytes());
-        for block in taken {
-            one_by_one.update_block(block);
-        }
-        assert_eq!(rt; u128::from_be_bytes(together.value()), value);
-        assert_eq!(rt; one_by_one.value(), together.value());
+        check_blocks(&rt, &blocks[..count.min(blocks.len())], value);
     }
+}
+
+/// A block and the part behind it have this value.
+fn check_part(rt: &impl Abort, block: &[u8], part: &[u8], value: u128) {
+    let mut hash = Ghash::new(SUBKEY.to_be_bytes());
+    hash.update_padded(block);
+    hash.update_padded(part);
+    expect(rt, "value", u128::from_be_bytes(hash.value()), value);
 }
 
 #[test]
 fn a_part_is_filled_with_zeros_and_one_of_no_bytes_has_no_block(rt: HostRuntime) {
     let bytes = text();
+    let (front, behind) = bytes.split_at(16);
     for (len, value) in AFTER_PARTS {
-        let (front, behind) = bytes.split_at(16);
-        let mut hash = Ghash::new(SUBKEY.to_be_bytes());
-        hash.update_padded(front);
-        hash.update_padded(&behind[..len.min(behind.len())]);
-        assert_eq!(rt; u128::from_be_bytes(hash.value()), value);
+        check_part(&rt, front, &behind[..len.min(behind.len())], value);
     }
 }

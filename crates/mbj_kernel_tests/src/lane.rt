@@ -1,6 +1,8 @@
-ghost use Rattle.std.specs.Prelude.{◌≡◌, ℕ, ◌-◌, ◌≤◌, All, map};
+ghost use Rattle.std.specs.Prelude.{◌≡◌, ℕ, ◌-◌, ◌≤◌, [], All, map};
 
+use crate::compare::expect;
 use mbj_lane::{Kernel, Lanes};
+use std::process::Abort;
 use std::test::*;
 
 /// Someone who waits for a number of turns.
@@ -47,18 +49,28 @@ fn name_of(taken: Option<Waiter>) -> Option<u8> {
     taken.map(|waiter| waiter.name)
 }
 
-#[test]
-fn the_first_at_rest_0_leaves_and_the_others_keep_their_order(rt: HostRuntime) -> Result<(), Fail> {
-    let mut lanes = Lanes::<Waiting>::new(rt.alloc())?;
-    assert_eq!(rt; lanes.len(), 0);
+/// The first entry leaves for its rest, and the others for theirs. The list is empty at first.
+fn check_order(rt: &impl Abort, lanes: &mut Lanes<Waiting>)
+    requires { lanes.old.entries.items ≡ [] }
+{
     lanes.enter(Waiter { name: 1, turns: 5 });
     lanes.enter(Waiter { name: 2, turns: 3 });
     lanes.enter(Waiter { name: 3, turns: 3 });
-    assert_eq!(rt; name_of(lanes.take_finished()), None);
-    assert_eq!(rt; lanes.run_shortest(), 3);
-    assert_eq!(rt; name_of(lanes.take_finished()), Some(2));
-    assert_eq!(rt; name_of(lanes.take_finished()), Some(3));
-    assert_eq!(rt; name_of(lanes.take_finished()), None);
-    assert_eq!(rt; lanes.len(), 1);
+    expect(rt, "none finished", name_of(lanes.take_finished()), None);
+    expect(rt, "rounds", lanes.run_shortest(), 3);
+    let names = [
+        name_of(lanes.take_finished()),
+        name_of(lanes.take_finished()),
+        name_of(lanes.take_finished()),
+    ];
+    expect(rt, "names", names, [Some(2), Some(3), None]);
+    expect(rt, "entries left", lanes.len(), 1);
+}
+
+#[test]
+fn the_first_at_rest_0_leaves_and_the_others_keep_their_order(rt: HostRuntime) -> Result<(), Fail> {
+    let mut lanes = Lanes::<Waiting>::new(rt.alloc())?;
+    expect(&rt, "entries", lanes.len(), 0);
+    check_order(&rt, &mut lanes);
     Ok(())
 }

@@ -1,5 +1,6 @@
 ghost use Rattle.std.specs.Prelude.{◌<◌, length};
 
+use crate::compare::expect;
 use mbj_sha1_lanes::{compress, compress_lanes};
 use std::simd::u32x4;
 
@@ -51,8 +52,8 @@ fn each_block_goes_into_the_state_of_its_number(rt: HostRuntime) {
         &[abc, nothing, abc, nothing, abc, nothing, abc, nothing],
     );
     for i in 0..4usize {
-        assert_eq!(rt; states[2 * i], OF_ABC);
-        assert_eq!(rt; states[2 * i + 1], OF_NOTHING);
+        expect(&rt, "even", states[2 * i], OF_ABC);
+        expect(&rt, "odd", states[2 * i + 1], OF_NOTHING);
     }
 }
 
@@ -65,6 +66,7 @@ fn lanes_of_another_width_do_the_same(rt: HostRuntime) {
     compress_lanes(&mut states, &mut words);
     for j in 0..5usize {
         let (abc, nothing) = (OF_ABC[j], OF_NOTHING[j]);
-        assert_eq!(rt; states[j].to_array(), [abc, nothing, abc, nothing]);
+        let wanted = [abc, nothing, abc, nothing];
+        expect(&rt, "lanes", states[j].to_array(), wanted);
     }
 }

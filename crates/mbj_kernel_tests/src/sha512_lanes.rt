@@ -1,5 +1,6 @@
 ghost use Rattle.std.specs.Prelude.{◌<◌, length};
 
+use crate::compare::expect;
 use mbj_sha512_lanes::{compress, compress_lanes};
 use sha2::{Digest, Sha512};
 use std::simd::u64x2;
@@ -73,10 +74,11 @@ fn four_messages_have_the_digests_of_the_crate_for_one(rt: HostRuntime) {
             padded(b"0123456789abcdef0123456789abcde"),
         ],
     );
-    assert_eq!(rt; states[0], by_sha2(b"abc"));
-    assert_eq!(rt; states[1], by_sha2(&[]));
-    assert_eq!(rt; states[2], by_sha2(b"message digest"));
-    assert_eq!(rt; states[3], by_sha2(b"0123456789abcdef0123456789abcde"));
+    expect(&rt, "first", states[0], by_sha2(b"abc"));
+    expect(&rt, "second", states[1], by_sha2(&[]));
+    expect(&rt, "third", states[2], by_sha2(b"message digest"));
+    let fourth = by_sha2(b"0123456789abcdef0123456789abcde");
+    expect(&rt, "fourth", states[3], fourth);
 }
 
 #[test]
@@ -87,6 +89,7 @@ fn lanes_of_another_width_have_the_digests_of_the_standard(rt: HostRuntime) {
     words[15] = u64x2::from_array([24, 0]);
     compress_lanes(&mut states, &mut words);
     for j in 0..8usize {
-        assert_eq!(rt; states[j].to_array(), [OF_ABC[j], OF_NOTHING[j]]);
+        let wanted = [OF_ABC[j], OF_NOTHING[j]];
+        expect(&rt, "lanes", states[j].to_array(), wanted);
     }
 }
