@@ -1,5 +1,5 @@
 use crate::compare::expect;
-use crate::lists::{Tried, case_of, run_in_one_list, schedule_of};
+use crate::lists::{Tried, case_of, expect_no_rest, run_in_one_list, schedule_of};
 use mbj_aes::Schedule;
 use mbj_cbc::{
     CbcEntry, CbcKernel, decrypt_in_place, decryption_undoes_encryption, encrypt_in_place,
@@ -85,7 +85,7 @@ impl<'a, const N: usize> Tried<Case<'a>> for CbcKernel<N> {
         cases: &[Case<'a>],
         entry: CbcEntry<N>,
     ) -> Result<(), Fail> {
-        assert_eq!(rt; entry.rest, 0);
+        expect_no_rest(rt, entry.rest);
         check_case(rt, alloc, cases, &entry.into_packet())
     }
 }

@@ -1,5 +1,7 @@
 use crate::compare::expect;
-use crate::lists::{Tried, case_of, check_packet, packet_of, run_in_one_list, schedule_of};
+use crate::lists::{
+    Tried, case_of, check_packet, expect_no_rest, packet_of, run_in_one_list, schedule_of,
+};
 use mbj_aes::Schedule;
 use mbj_cmac::{CmacEntry, CmacKernel, cmac_plain};
 use std::alloc::{AllocError, Global};
@@ -68,7 +70,7 @@ impl<const N: usize> Tried<Case> for CmacKernel<N> {
         cases: &[Case],
         entry: CmacEntry<N>,
     ) -> Result<(), Fail> {
-        assert_eq!(rt; entry.rest, 0);
+        expect_no_rest(rt, entry.rest);
         let (packet, mac) = entry.into_parts();
         check_case(rt, alloc, cases, &packet, &mac)
     }

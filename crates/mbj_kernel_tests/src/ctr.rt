@@ -28,10 +28,11 @@ struct Texts {
 fn check_cut(rt: &impl Abort, texts: &Texts, len: usize, cut: &str) {
     assert!(rt; len <= 32);
     let mut text = texts.plaintext;
-    apply(&texts.key, &texts.iv, &mut text[..len]);
-    expect(rt, cut, &text[..len], &texts.ciphertext[..len]);
-    expect(rt, cut, &text[len..], &texts.plaintext[len..]);
-    apply(&texts.key, &texts.iv, &mut text[..len]);
+    let (front, behind) = text.split_at_mut(len);
+    apply(&texts.key, &texts.iv, front);
+    expect(rt, cut, &*front, &texts.ciphertext[..len]);
+    expect(rt, cut, &*behind, &texts.plaintext[len..]);
+    apply(&texts.key, &texts.iv, front);
     expect(rt, cut, text, texts.plaintext);
 }
 

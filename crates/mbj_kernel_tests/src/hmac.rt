@@ -1,7 +1,7 @@
 ghost use Rattle.std.specs.Prelude.{◌≡◌};
 
 use crate::compare::expect;
-use crate::lists::{Tried, case_of, check_packet, packet_of, run_in_one_list};
+use crate::lists::{Tried, case_of, check_packet, expect_no_rest, packet_of, run_in_one_list};
 use mbj_hmac::{
     HmacEntry, HmacKernel, LaneHash, Sha1Lanes, Sha256Lanes, Sha512Lanes, hmac_plain, pad_key,
 };
@@ -154,7 +154,7 @@ impl<H: Serving> Tried<Case> for HmacKernel<H> {
         cases: &[Case],
         entry: HmacEntry<H>,
     ) -> Result<(), Fail> {
-        assert_eq!(rt; entry.rest, 0);
+        expect_no_rest(rt, entry.rest);
         let (packet, tag) = entry.into_parts();
         check_case(rt, alloc, cases, &packet, tag.bytes())
     }

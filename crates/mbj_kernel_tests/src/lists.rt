@@ -1,5 +1,5 @@
 //! Cases that go through one list of lanes.
-ghost use Rattle.std.specs.Prelude.{◌≤◌, IfOk};
+ghost use Rattle.std.specs.Prelude.{◌≡◌, ◌≤◌, IfOk};
 
 use crate::compare::expect;
 use mbj_aes::Schedule;
@@ -56,6 +56,13 @@ pub(crate) fn check_packet(
     let wanted = packet_of(alloc, number, message)?;
     expect(rt, "packet", packet, wanted.as_slice());
     Ok(())
+}
+
+/// An entry that has left the list has no round left.
+pub(crate) fn expect_no_rest(rt: &impl Abort, rest: u32)
+    ensures { rest ≡ 0 }
+{
+    assert_eq!(rt; rest, 0);
 }
 
 /// Puts a case in a lane.
