@@ -65,32 +65,25 @@ fn check_blank(rt: &impl Abort, blank: &Job) {
     expect(rt, "packet", blank.packet.as_slice(), &[]);
 }
 
-/// Fills the job, and puts a copy of it in its place.
-fn fill_and_copy(alloc: Global, job: &mut Job) -> Result<(), AllocError> {
-    fill(alloc, job)?;
+/// Puts a copy of the job in its place, where the job that was copied is dropped.
+fn replace_by_copy(alloc: Global, job: &mut Job) -> Result<(), AllocError> {
     *job = job.copy(alloc)?;
     Ok(())
 }
 
-/// The job that was copied is dropped before the copy is looked at.
-fn check_filled_copy(rt: &impl Abort, alloc: Global) -> Result<(), AllocError> {
-    let mut job = Job::blank(alloc);
-    fill_and_copy(alloc, &mut job)?;
-    check_copied(rt, &job);
-    Ok(())
-}
-
-fn check_blank_copy(rt: &impl Abort, alloc: Global) -> Result<(), AllocError> {
-    let blank = Job::blank(alloc).copy(alloc)?;
-    check_blank(rt, &blank);
+/// Copies a blank job, and fills and copies it.
+fn check_copies(rt: &impl Abort, alloc: Global, job: &mut Job) -> Result<(), Fail> {
+    replace_by_copy(alloc, job)?;
+    check_blank(rt, job);
+    fill(alloc, job)?;
+    replace_by_copy(alloc, job)?;
+    check_copied(rt, job);
     Ok(())
 }
 
 #[test]
 fn a_copied_job_is_equal_and_stands_alone(rt: HostRuntime) -> Result<(), Fail> {
-    check_filled_copy(&rt, rt.alloc())?;
-    check_blank_copy(&rt, rt.alloc())?;
-    Ok(())
+    check_copies(&rt, rt.alloc(), &mut Job::blank(rt.alloc()))
 }
 
 #[test]
