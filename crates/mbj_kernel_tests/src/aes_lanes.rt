@@ -126,8 +126,8 @@ fn a_block_is_xored_with_the_chain_and_enciphered(rt: HostRuntime) {
 fn spread<V: Lane8>(vectors: &mut [V], bytes: &[u8])
     ensures { length vectors.new ≡ length vectors.old }
 {
-    for (vector, byte) in vectors.iter_mut().zip(bytes) {
-        *vector = V::splat(*byte);
+    for i in 0..vectors.len().min(bytes.len()) {
+        vectors[i] = V::splat(bytes[i]);
     }
 }
 
@@ -147,9 +147,11 @@ fn expect_in_every_lane<V: Lane8 + PartialEq + Debug + Drop>(
     rt: &impl Abort,
     vectors: &[V],
     block: &[u8; 16],
-) {
-    for (vector, byte) in vectors.iter().zip(block) {
-        expect(rt, "lanes", *vector, V::splat(*byte));
+)
+    requires { length vectors.now ≡ 16 }
+{
+    for i in 0..16usize {
+        expect(rt, "lanes", vectors[i], V::splat(block[i]));
     }
 }
 

@@ -1,5 +1,5 @@
 use crate::compare::expect;
-use crate::lists::{Tried, case_of, expect_no_rest, run_in_one_list, schedule_of};
+use crate::lists::{Tried, case_of, expect_no_rest, packet_of, run_in_one_list, schedule_of};
 use mbj_aes::Schedule;
 use mbj_cbc::{
     CbcEntry, CbcKernel, decrypt_in_place, decryption_undoes_encryption, encrypt_in_place,
@@ -51,15 +51,14 @@ struct Case<'a> {
     ciphertext: &'a [u128],
 }
 
-/// A packet whose bytes around the text tell the case.
-fn packet_of(alloc: Global, number: u8, text: &[u128]) -> Result<Vec<u8>, AllocError> {
-    let mut packet = Vec::new(alloc);
-    packet.push(number)?;
-    for block in text {
-        packet.extend_from_slice(&block.to_be_bytes())?;
+/// The bytes of up to four blocks, and zeros.
+fn bytes_of(blocks: &[u128]) -> [u8; 64] {
+    let mut bytes = [0; 64];
+    let places = bytes.as_chunks_mut::<16>().0;
+    for i in 0..blocks.len().min(places.len()) {
+        places[i] = blocks[i].to_be_bytes();
     }
-    packet.push(number)?;
-    Ok(packet)
+    bytes
 }
 
 impl<'a, const N: usize> Tried<Case<'a>> for CbcKernel<N> {
@@ -72,30 +71,25 @@ impl<'a, const N: usize> Tried<Case<'a>> for CbcKernel<N> {
         let key = schedule_of(rt, case.key);
         assert!(rt; key.rounds() as usize == N);
         let blocks = case.plaintext.len();
-        assert!(rt; 0 < blocks && blocks < 100);
-        let len = 16 * blocks as u32;
-        let packet = packet_of(alloc, number, case.plaintext)?;
-        assert!(rt; 1 + len as usize <= packet.len());
-        Ok(CbcEntry::new(key, case.iv.to_be_bytes(), packet, 1, len))
+        assert!(rt; 0 < blocks && blocks <= 4);
+        let len = 16 * blocks;
+        let packet = packet_of(alloc, number, &bytes_of(case.plaintext)[..len])?;
+        assert!(rt; 1 + len <= packet.len());
+        Ok(CbcEntry::new(key, case.iv.to_be_bytes(), packet, 1, len as u32))
     }
 
-    fn check(
-        rt: &impl Abort,
-        alloc: Global,
-        cases: &[Case<'a>],
-        entry: CbcEntry<N>,
-    ) -> Result<(), Fail> {
+    fn check(rt: &impl Abort, cases: &[Case<'a>], entry: CbcEntry<N>) {
         expect_no_rest(rt, entry.rest);
-        check_case(rt, alloc, cases, &entry.into_packet())
+        check_case(rt, cases, &entry.into_packet());
     }
 }
 
 /// The packet is the case's, with the text encrypted.
-fn check_case(rt: &impl Abort, alloc: Global, cases: &[Case], packet: &[u8]) -> Result<(), Fail> {
-    let (number, case) = case_of(cases, packet)?;
-    let wanted = packet_of(alloc, number, case.ciphertext)?;
-    expect(rt, "packet", packet, wanted.as_slice());
-    Ok(())
+fn check_case(rt: &impl Abort, cases: &[Case], packet: &[u8]) {
+    let (case, text) = case_of(rt, cases, packet);
+    let blocks = case.ciphertext.len();
+    assert!(rt; blocks <= 4);
+    expect(rt, "text", text, &bytes_of(case.ciphertext)[..16 * blocks]);
 }
 
 // SP 800-38A, appendix F.2.1, and cases 1 and 2 of RFC 3602, 4.

@@ -1,7 +1,7 @@
 ghost use Rattle.std.specs.Prelude.{◌≡◌};
 
 use crate::compare::expect;
-use crate::lists::{Tried, case_of, check_packet, expect_no_rest, packet_of, run_in_one_list};
+use crate::lists::{Tried, case_of, expect_no_rest, packet_of, run_in_one_list};
 use mbj_hmac::{
     HmacEntry, HmacKernel, LaneHash, Sha1Lanes, Sha256Lanes, Sha512Lanes, hmac_plain, pad_key,
 };
@@ -82,22 +82,20 @@ fn plain_tag(rt: &impl Abort, case: &Case) -> Tag {
 }
 
 /// The tag is what the case has.
-fn check_tag(rt: &impl Abort, case: &Case, tag: &[u8]) -> Result<(), Fail> {
+fn check_tag(rt: &impl Abort, case: &Case, tag: &[u8]) {
     let expected = case.3;
     let mut wanted = [0; 64];
     assert!(rt; tag.len() <= wanted.len());
     let wanted = &mut wanted[..tag.len()];
-    hex::decode_to_slice(expected, wanted)?;
+    assert!(rt; hex::decode_to_slice(expected, wanted).is_ok());
     expect(rt, expected, tag, &*wanted);
-    Ok(())
 }
 
 #[test]
-fn the_tags_of_the_standards_come_out(rt: HostRuntime) -> Result<(), Fail> {
+fn the_tags_of_the_standards_come_out(rt: HostRuntime) {
     for case in &PLAIN_CASES {
-        check_tag(&rt, case, plain_tag(&rt, case).bytes())?;
+        check_tag(&rt, case, plain_tag(&rt, case).bytes());
     }
-    Ok(())
 }
 
 #[test]
@@ -148,31 +146,19 @@ impl<H: Serving> Tried<Case> for HmacKernel<H> {
         Ok(HmacEntry::new(auth, key, packet, 1, message.len() as u32))
     }
 
-    fn check(
-        rt: &impl Abort,
-        alloc: Global,
-        cases: &[Case],
-        entry: HmacEntry<H>,
-    ) -> Result<(), Fail> {
+    fn check(rt: &impl Abort, cases: &[Case], entry: HmacEntry<H>) {
         expect_no_rest(rt, entry.rest);
         let (packet, tag) = entry.into_parts();
-        check_case(rt, alloc, cases, &packet, tag.bytes())
+        check_case(rt, cases, &packet, tag.bytes());
     }
 }
 
 /// The packet is the case's, and the tag is what the case, and HMAC without lanes, have.
-fn check_case(
-    rt: &impl Abort,
-    alloc: Global,
-    cases: &[Case],
-    packet: &[u8],
-    tag: &[u8],
-) -> Result<(), Fail> {
-    let (number, case) = case_of(cases, packet)?;
-    check_packet(rt, alloc, number, case.2, packet)?;
-    check_tag(rt, case, tag)?;
+fn check_case(rt: &impl Abort, cases: &[Case], packet: &[u8], tag: &[u8]) {
+    let (case, message) = case_of(rt, cases, packet);
+    expect(rt, "message", message, case.2);
+    check_tag(rt, case, tag);
     expect(rt, "tag without lanes", plain_tag(rt, case).bytes(), tag);
-    Ok(())
 }
 
 const SHA1_CASES: [Case; 6] = [

@@ -8,6 +8,9 @@ use std::alloc::{AllocError, Global};
 use std::process::Abort;
 use std::test::Fail;
 
+/// No list is tried with more cases.
+const MOST_CASES: usize = 16;
+
 /// A kernel with cases, each of which tells what goes into a lane and what has to leave it.
 pub(crate) trait Tried<C>: Kernel {
     /// The case's entry. The bytes around the text in its packet are the case's number.
@@ -20,7 +23,7 @@ pub(crate) trait Tried<C>: Kernel {
         ensures { IfOk result (λ e. 1 ≤ Self.rest_of e) };
 
     /// Compares an entry that has left the list with its case.
-    fn check(rt: &impl Abort, alloc: Global, cases: &[C], entry: Self::Entry) -> Result<(), Fail>;
+    fn check(rt: &impl Abort, cases: &[C], entry: Self::Entry);
 }
 
 /// The schedule of an AES key.
@@ -38,24 +41,17 @@ pub(crate) fn packet_of(alloc: Global, number: u8, message: &[u8]) -> Result<Vec
     Ok(packet)
 }
 
-/// The case that a packet tells, and its number.
-pub(crate) fn case_of<'a, C>(cases: &'a [C], packet: &[u8]) -> Result<(u8, &'a C), Fail> {
-    let number = *packet.first().ok_or("no packet")?;
-    let case = cases.get(number as usize).ok_or("no case")?;
-    Ok((number, case))
-}
-
-/// The packet is that of a message.
-pub(crate) fn check_packet(
+/// The case that the bytes around a packet's text tell, and the text.
+pub(crate) fn case_of<'a, C>(
     rt: &impl Abort,
-    alloc: Global,
-    number: u8,
-    message: &[u8],
-    packet: &[u8],
-) -> Result<(), AllocError> {
-    let wanted = packet_of(alloc, number, message)?;
-    expect(rt, "packet", packet, wanted.as_slice());
-    Ok(())
+    cases: &'a [C],
+    packet: &'a [u8],
+) -> (&'a C, &'a [u8]) {
+    assert!(rt; packet.len() >= 2);
+    let (number, last) = (packet[0], packet.len() - 1);
+    expect(rt, "last byte", packet[last], number);
+    assert!(rt; (number as usize) < cases.len());
+    (&cases[number as usize], &packet[1..last])
 }
 
 /// An entry that has left the list has no round left.
@@ -85,41 +81,23 @@ fn enter_all<C, K: Tried<C>>(
     cases: &[C],
     lanes: &mut Lanes<K>,
 ) -> Result<(), AllocError> {
-    for (number, case) in (0..16u8).zip(cases) {
-        enter(rt, alloc, number, case, lanes)?;
+    assert!(rt; cases.len() <= MOST_CASES);
+    for number in 0..cases.len() {
+        enter(rt, alloc, number as u8, &cases[number], lanes)?;
     }
     Ok(())
 }
 
 /// Compares an entry that is finished, or leads the entries on.
-fn step<C, K: Tried<C>>(
-    rt: &impl Abort,
-    alloc: Global,
-    cases: &[C],
-    lanes: &mut Lanes<K>,
-) -> Result<(), Fail> {
+fn step<C, K: Tried<C>>(rt: &impl Abort, cases: &[C], lanes: &mut Lanes<K>) {
     match lanes.take_finished() {
-        Some(entry) => K::check(rt, alloc, cases, entry),
+        Some(entry) => K::check(rt, cases, entry),
         None => {
             if lanes.len() > 0 {
                 lanes.run_shortest();
             }
-            Ok(())
         }
     }
-}
-
-/// Takes as many steps as any list of cases needs.
-fn step_on<C, K: Tried<C>>(
-    rt: &impl Abort,
-    alloc: Global,
-    cases: &[C],
-    lanes: &mut Lanes<K>,
-) -> Result<(), Fail> {
-    for _ in 0..40u32 {
-        step(rt, alloc, cases, lanes)?;
-    }
-    Ok(())
 }
 
 /// Runs the cases in an empty list, and looks at what leaves it.
@@ -131,7 +109,9 @@ fn run_in<C, K: Tried<C>>(
 ) -> Result<(), Fail> {
     enter_all(rt, alloc, cases, lanes)?;
     expect(rt, "entries", lanes.len() as usize, cases.len());
-    step_on(rt, alloc, cases, lanes)?;
+    for _ in 0..40u32 {
+        step(rt, cases, lanes);
+    }
     expect(rt, "entries left", lanes.len(), 0);
     Ok(())
 }
