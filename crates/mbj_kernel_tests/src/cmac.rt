@@ -15,19 +15,33 @@ fn tags_are_those_of_the_standard(rt: HostRuntime) {
         0x2a, 0xae, 0x2d, 0x8a, 0x57, 0x1e, 0x03, 0xac, 0x9c, 0x9e, 0xb7, 0x6f, 0xac, 0x45, 0xaf,
         0x8e, 0x51, 0x30, 0xc8, 0x1c, 0x46, 0xa3, 0x5c, 0xe4, 0x11,
     ];
-    check_mac(&rt, &key, &message[..0], 0xbb1d6929e95937287fa37d129b756746);
-    check_mac(
+    let (empty, whole) = (&message[..0], &message[..16]);
+    expect_mac(
         &rt,
+        "0 bytes",
         &key,
-        &message[..16],
+        empty,
+        0xbb1d6929e95937287fa37d129b756746,
+    );
+    expect_mac(
+        &rt,
+        "16 bytes",
+        &key,
+        whole,
         0x070a16b46b4d4144f79bdd9dd04a287c,
     );
-    check_mac(&rt, &key, &message, 0xdfa66747de9ae63030ca32611497c827);
+    expect_mac(
+        &rt,
+        "40 bytes",
+        &key,
+        &message,
+        0xdfa66747de9ae63030ca32611497c827,
+    );
 }
 
-fn check_mac(rt: &impl Abort, key: &Schedule, message: &[u8], wanted: u128) {
+fn expect_mac(rt: &impl Abort, what: &str, key: &Schedule, message: &[u8], wanted: u128) {
     let found = u128::from_be_bytes(cmac_plain(key, message));
-    expect(rt, "mac", found, wanted);
+    expect(rt, what, found, wanted);
 }
 
 /// The message of SP 800-38B, appendix D, of which its examples take the first bytes.

@@ -15,7 +15,7 @@ const CIPHERTEXT: [u8; 32] = [
     0x98, 0x06, 0xf6, 0x6b, 0x79, 0x70, 0xfd, 0xff, 0x86, 0x17, 0x18, 0x7b, 0xb9, 0xff, 0xfd, 0xff,
 ];
 
-/// What CTR turns into what, under a key and from an IV.
+/// A plaintext and its ciphertext by CTR, under a key and from an IV.
 #[derive(Drop)]
 struct Texts {
     key: Schedule,
@@ -24,7 +24,7 @@ struct Texts {
     ciphertext: [u8; 32],
 }
 
-/// The first bytes of the plaintext, there and back.
+/// The first bytes of the plaintext, there and back. What follows them stays.
 fn check_cut(rt: &impl Abort, texts: &Texts, len: usize, cut: &str) {
     assert!(rt; len <= 32);
     let mut text = texts.plaintext;
@@ -44,7 +44,7 @@ fn texts_are_those_of_the_standard_cut_at_each_length(rt: HostRuntime) {
         plaintext: PLAINTEXT,
         ciphertext: CIPHERTEXT,
     };
-    check_cut(&rt, &texts, 0, "no byte");
+    check_cut(&rt, &texts, 0, "0 bytes");
     check_cut(&rt, &texts, 3, "3 bytes");
     check_cut(&rt, &texts, 16, "16 bytes");
     check_cut(&rt, &texts, 19, "19 bytes");
