@@ -1,5 +1,5 @@
-use super::{read, write};
-use mbj_io::{Failed, StdSink, StdSource};
+use super::{gives, takes};
+use mbj_io::{Failed, Source, StdSink, StdSource};
 use std::io::{self, ErrorKind, Read, Write};
 
 // A reader and a writer that always fail.
@@ -25,12 +25,9 @@ impl Write for Broken {
 #[test]
 fn a_source_gives_what_its_reader_gives(rt: HostRuntime) {
     let mut source = StdSource::new(b"abc".as_slice());
-    let mut buf = [0; 2];
-    assert_eq!(rt; read(&mut source, &mut buf), Ok(2));
-    assert_eq!(rt; buf, *b"ab");
-    assert_eq!(rt; read(&mut source, &mut buf), Ok(1));
-    assert_eq!(rt; read(&mut source, &mut buf), Ok(0));
-    assert_eq!(rt; source.faults(), 0);
+    assert!(rt; gives(&mut source, 2, Ok(b"ab")) && gives(&mut source, 2, Ok(b"c")));
+    assert!(rt; gives(&mut source, 2, Ok(b"")));
+    assert!(rt; source.faults() == 0);
 }
 
 #[test]
@@ -38,9 +35,8 @@ fn each_error_is_counted(rt: HostRuntime) {
     let mut source = StdSource::new(Broken);
     let mut sink = StdSink::new(Broken);
     for count in 1..3 {
-        assert_eq!(rt; read(&mut source, &mut [0; 2]), Err(Failed));
-        assert_eq!(rt; write(&mut sink, b"a"), Err(Failed));
-        assert_eq!(rt; (source.faults(), sink.faults()), (count, count));
+        assert!(rt; gives(&mut source, 2, Err(Failed)) && source.faults() == count);
+        assert!(rt; takes(&mut sink, b"a", Err(Failed)) && sink.faults() == count);
     }
 }
 
@@ -48,25 +44,21 @@ fn each_error_is_counted(rt: HostRuntime) {
 fn a_writer_that_takes_nothing_of_a_piece_fails(rt: HostRuntime) {
     let mut room = [0; 2];
     let mut sink = StdSink::new(&mut room[..]);
-    assert_eq!(rt; write(&mut sink, b"abc"), Ok(2));
-    assert_eq!(rt; write(&mut sink, b""), Ok(0));
-    assert_eq!(rt; sink.faults(), 0);
-    assert_eq!(rt; write(&mut sink, b"c"), Err(Failed));
-    assert_eq!(rt; sink.faults(), 1);
+    assert!(rt; takes(&mut sink, b"abc", Ok(2)) && takes(&mut sink, b"", Ok(0)));
+    assert!(rt; sink.faults() == 0);
+    assert!(rt; takes(&mut sink, b"c", Err(Failed)) && sink.faults() == 1);
 }
 
 #[test]
 fn the_standard_input_is_a_source(rt: HostRuntime) {
     let mut source = StdSource::new(rt.stdin());
-    let mut buf = [0; 16];
-    let failed = read(&mut source, &mut buf).is_err();
-    assert_eq!(rt; source.faults(), u64::from(failed));
+    let failed = source.read(&mut [0; 16]).is_err();
+    assert!(rt; source.faults() == u64::from(failed));
 }
 
 #[test]
 fn the_standard_output_is_a_sink(rt: HostRuntime) {
     let mut sink = StdSink::new(rt.stdout());
-    assert_eq!(rt; write(&mut sink, b"\n"), Ok(1));
-    assert_eq!(rt; write(&mut sink, b""), Ok(0));
-    assert_eq!(rt; sink.faults(), 0);
+    assert!(rt; takes(&mut sink, b"\n", Ok(1)) && takes(&mut sink, b"", Ok(0)));
+    assert!(rt; sink.faults() == 0);
 }
