@@ -1,5 +1,6 @@
+use super::file_of;
 use mbj_text::{INPUT_LIMIT, TextFault, read_file};
-use mbj_types::{Auth, Cipher, Dir, Order};
+use mbj_types::{Auth, Cipher, Dir, Job, Order};
 use std::alloc::{AllocError, Global};
 use std::process::Abort;
 use std::test::Fail;
@@ -127,23 +128,36 @@ fn line_with(alloc: Global, number: u32, text: &[u8]) -> Result<Vec<u8>, AllocEr
     Ok(line)
 }
 
-/// The text with the good line for each `@`.
-fn file_of(alloc: Global, text: &[u8]) -> Result<Vec<u8>, AllocError> {
-    let mut file = Vec::new(alloc);
-    for byte in text {
-        if *byte == b'@' {
-            file.extend_from_slice(&line_with(alloc, 0, b"")?)?;
-        } else {
-            file.push(*byte)?;
-        }
-    }
-    Ok(file)
-}
-
 /// How many jobs the file has, or its fault.
-fn count_jobs(rt: &impl Abort, alloc: Global, file: &[u8]) -> Result<usize, TextFault> {
+fn count_jobs<R: Abort>(rt: &R, alloc: Global, file: &[u8]) -> Result<usize, TextFault> {
     assert!(rt; file.len() <= INPUT_LIMIT);
     Ok(read_file(alloc, file)?.len())
+}
+
+/// How many jobs the good line has with this text in the field with this number, or its fault.
+fn count_of_line<R: Abort>(
+    rt: &R,
+    alloc: Global,
+    number: u32,
+    text: &[u8],
+) -> Result<usize, TextFault> {
+    let Ok(line) = line_with(alloc, number, text) else {
+        return Err(TextFault::Memory);
+    };
+    count_jobs(rt, alloc, &line)
+}
+
+/// How many jobs the file has with the good line for each `@` of the text, or its fault.
+fn count_of_file<R: Abort>(
+    rt: &R,
+    alloc: Global,
+    line: &[u8],
+    text: &[u8],
+) -> Result<usize, TextFault> {
+    let Ok(file) = file_of(alloc, line, text) else {
+        return Err(TextFault::Memory);
+    };
+    count_jobs(rt, alloc, &file)
 }
 
 #[test]
@@ -151,66 +165,76 @@ fn a_line_is_read_field_by_field(rt: HostRuntime) -> Result<(), Fail> {
     let line = line_with(rt.alloc(), 0, b"")?;
     assert!(rt; line.len() <= INPUT_LIMIT);
     let jobs = read_file(rt.alloc(), &line)?;
-    assert_eq!(rt; jobs.len(), 1);
-    let job = &jobs[0];
-    assert_eq!(rt; job.cipher, Cipher::Null);
-    assert_eq!(rt; job.dir, Dir::Dec);
-    assert_eq!(rt; job.order, Order::HashCipher);
-    assert_eq!(rt; job.key.as_slice(), [].as_slice());
-    assert_eq!(rt; job.iv.as_slice(), [0x0a, 0xf9].as_slice());
-    assert_eq!(rt; (job.cipher_off, job.cipher_len), (0, 99_999));
-    assert_eq!(rt; job.auth, Auth::HmacSha1);
-    assert_eq!(rt; job.auth_key.as_slice(), [0x0b].as_slice());
-    assert_eq!(rt; job.aad.as_slice(), [].as_slice());
-    assert_eq!(rt; (job.hash_off, job.hash_len), (10, 7));
-    assert_eq!(rt; job.tag_len, 255);
-    assert_eq!(rt; job.packet.as_slice(), b"Hi".as_slice());
+    check_jobs(&rt, &jobs);
     Ok(())
 }
 
+/// The jobs are that of the good line.
+fn check_jobs<R: Abort>(rt: &R, jobs: &[Job]) {
+    assert!(rt; jobs.len() == 1);
+    check_cipher(rt, &jobs[0]);
+    check_auth(rt, &jobs[0]);
+}
+
+fn check_cipher<R: Abort>(rt: &R, job: &Job) {
+    assert!(rt;
+        job.cipher == Cipher::Null && job.dir == Dir::Dec && job.order == Order::HashCipher
+    );
+    assert!(rt; job.key.as_slice().is_empty() && job.iv.as_slice() == [0x0a, 0xf9].as_slice());
+    assert!(rt; job.cipher_off == 0 && job.cipher_len == 99_999);
+}
+
+fn check_auth<R: Abort>(rt: &R, job: &Job) {
+    assert!(rt; job.auth == Auth::HmacSha1 && job.auth_key.as_slice() == [0x0b].as_slice());
+    assert!(rt; job.aad.as_slice().is_empty() && job.packet.as_slice() == b"Hi".as_slice());
+    assert!(rt; job.hash_off == 10 && job.hash_len == 7 && job.tag_len == 255);
+}
+
 #[test]
-fn each_field_has_its_form(rt: HostRuntime) -> Result<(), Fail> {
-    for (field, text) in BAD {
-        let line = line_with(rt.alloc(), field, text)?;
-        let fault = TextFault::Line { line: 1, field };
-        assert_eq!(rt; count_jobs(&rt, rt.alloc(), &line), Err(fault));
+fn each_field_has_its_form(rt: HostRuntime) {
+    for (field, text) in &BAD {
+        let fault = TextFault::Line {
+            line: 1,
+            field: *field,
+        };
+        assert_eq!(rt; count_of_line(&rt, rt.alloc(), *field, *text), Err(fault));
     }
-    for (field, text) in GOOD {
-        let line = line_with(rt.alloc(), field, text)?;
-        assert_eq!(rt; count_jobs(&rt, rt.alloc(), &line), Ok(1));
+    for (field, text) in &GOOD {
+        assert_eq!(rt; count_of_line(&rt, rt.alloc(), *field, *text), Ok(1));
     }
-    Ok(())
 }
 
 #[test]
 fn lines_are_cut_and_counted(rt: HostRuntime) -> Result<(), Fail> {
-    for (text, expected) in FILES {
-        let file = file_of(rt.alloc(), text)?;
-        assert_eq!(rt; count_jobs(&rt, rt.alloc(), &file), expected);
+    let line = line_with(rt.alloc(), 0, b"")?;
+    for (text, expected) in &FILES {
+        assert_eq!(rt; count_of_file(&rt, rt.alloc(), &line, *text), *expected);
     }
     Ok(())
 }
 
+/// Faults and what they tell.
+const TOLD: [(TextFault, &str); 4] = [
+    (
+        TextFault::Line { line: 3, field: 0 },
+        "line 3 has a wrong number of fields",
+    ),
+    (
+        TextFault::Line { line: 1, field: 14 },
+        "field 14 of line 1 isn't of its form",
+    ),
+    (
+        TextFault::Limit { line: 65_537 },
+        "line 65537 is one job line more than a file may have",
+    ),
+    (TextFault::Memory, "there wasn't memory enough"),
+];
+
 #[test]
 fn faults_say_where_they_are(rt: HostRuntime) -> Result<(), Fail> {
-    let faults = [
-        (
-            TextFault::Line { line: 3, field: 0 },
-            "line 3 has a wrong number of fields",
-        ),
-        (
-            TextFault::Line { line: 1, field: 14 },
-            "field 14 of line 1 isn't of its form",
-        ),
-        (
-            TextFault::Limit { line: 65_537 },
-            "line 65537 is one job line more than a file may have",
-        ),
-        (TextFault::Memory, "there wasn't memory enough"),
-    ];
-    for (fault, text) in faults {
+    for (fault, text) in &TOLD {
         let told = format!(in rt.alloc(); "{fault}")?;
-        assert_eq!(rt; told.as_str(), text);
+        assert_eq!(rt; told.as_str(), *text);
     }
     Ok(())
 }

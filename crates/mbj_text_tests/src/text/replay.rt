@@ -1,3 +1,4 @@
+use super::file_of;
 use mbj_text::{Cmd, INPUT_LIMIT, TextFault, read_replay};
 use std::alloc::{AllocError, Global};
 use std::process::Abort;
@@ -74,58 +75,73 @@ const BAD: [(&[u8], u32, u32); 32] = [
     (b"post 0\n", 1, 0),
 ];
 
-/// The text with the good job line for each `@`.
-fn file_of(alloc: Global, text: &[u8]) -> Result<Vec<u8>, AllocError> {
-    let mut file = Vec::new(alloc);
-    for byte in text {
-        if *byte == b'@' {
-            file.extend_from_slice(JOB)?;
-        } else {
-            file.push(*byte)?;
-        }
-    }
-    Ok(file)
-}
-
-/// How many jobs the file has, and its commands, or its fault.
-fn read(rt: &impl Abort, alloc: Global, file: &[u8]) -> Result<(usize, Vec<Cmd>), TextFault> {
+/// Whether the file has so many jobs and these commands, or its fault.
+fn has<R: Abort>(
+    rt: &R,
+    alloc: Global,
+    file: &[u8],
+    jobs: usize,
+    commands: &[Cmd],
+) -> Result<bool, TextFault> {
     assert!(rt; file.len() <= INPUT_LIMIT);
-    let (jobs, commands) = read_replay(alloc, file, SUBMITTERS, WORKERS)?;
-    Ok((jobs.len(), commands))
+    let (read, script) = read_replay(alloc, file, SUBMITTERS, WORKERS)?;
+    Ok(read.len() == jobs && script.as_slice() == commands)
+}
+
+/// The same of the file with the good job line for each `@` of the text.
+fn text_has<R: Abort>(
+    rt: &R,
+    alloc: Global,
+    text: &[u8],
+    jobs: usize,
+    commands: &[Cmd],
+) -> Result<bool, TextFault> {
+    let Ok(file) = file_of(alloc, JOB, text) else {
+        return Err(TextFault::Memory);
+    };
+    has(rt, alloc, &file, jobs, commands)
 }
 
 #[test]
-fn jobs_and_commands_are_read(rt: HostRuntime) -> Result<(), Fail> {
-    for (text, jobs, commands) in GOOD {
-        let file = file_of(rt.alloc(), text)?;
-        let (count, read) = read(&rt, rt.alloc(), &file)?;
-        assert_eq!(rt; count, jobs);
-        assert_eq!(rt; read.as_slice(), commands);
+fn jobs_and_commands_are_read(rt: HostRuntime) {
+    for (text, jobs, commands) in &GOOD {
+        assert_eq!(rt;
+            text_has(&rt, rt.alloc(), *text, *jobs, *commands),
+            Ok(true)
+        );
     }
-    Ok(())
 }
 
 #[test]
-fn the_first_fault_is_told(rt: HostRuntime) -> Result<(), Fail> {
-    for (text, line, field) in BAD {
-        let file = file_of(rt.alloc(), text)?;
-        let fault = read(&rt, rt.alloc(), &file).err();
-        assert_eq!(rt; fault, Some(TextFault::Line { line, field }));
+fn the_first_fault_is_told(rt: HostRuntime) {
+    for (text, line, field) in &BAD {
+        let fault = TextFault::Line {
+            line: *line,
+            field: *field,
+        };
+        assert_eq!(rt; text_has(&rt, rt.alloc(), *text, 0, &[]), Err(fault));
     }
-    Ok(())
 }
+
+/// Two commands that a long script repeats.
+const PAIR: [Cmd; 2] = [Cmd::Post(2), Cmd::Claim(1, 2)];
 
 #[test]
 fn a_script_may_have_many_commands(rt: HostRuntime) -> Result<(), Fail> {
-    let mut file = file_of(rt.alloc(), b"@\n%\n")?;
+    let file = long_file(rt.alloc())?;
+    let commands = [PAIR; 150];
+    assert_eq!(rt;
+        has(&rt, rt.alloc(), &file, 1, commands.as_flattened()),
+        Ok(true)
+    );
+    Ok(())
+}
+
+/// A file of one job and 300 commands.
+fn long_file(alloc: Global) -> Result<Vec<u8>, AllocError> {
+    let mut file = file_of(alloc, JOB, b"@\n%\n")?;
     for _ in 0..150 {
         file.extend_from_slice(b"post 2\nclaim 1 2\n")?;
     }
-    let (jobs, commands) = read(&rt, rt.alloc(), &file)?;
-    assert_eq!(rt; (jobs, commands.len()), (1, 300));
-    assert_eq!(rt;
-        commands.as_slice().get(298..),
-        Some([Cmd::Post(2), Cmd::Claim(1, 2)].as_slice())
-    );
-    Ok(())
+    Ok(file)
 }
