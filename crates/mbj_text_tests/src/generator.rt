@@ -4,85 +4,105 @@ ghost use Rattle.mbj_gen.specs.Generator.{byte};
 use mbj_gen::Generator;
 use mbj_types::{Bytes, Job};
 use std::alloc::{AllocError, Global};
+use std::process::Abort;
 use std::test::Fail;
 
-/// The length and the first four bytes in hex.
-fn shown_bytes(alloc: Global, bytes: &Bytes) -> Result<String, AllocError> {
+/// Adds the length and the first four bytes in hex.
+fn show_bytes(alloc: Global, text: &mut String, bytes: &Bytes) -> Result<(), AllocError> {
     let bytes = bytes.as_slice();
     if bytes.is_empty() {
-        return String::from_str(alloc, "-");
+        return text.push_str(" -");
     }
     let first = hex::encode(alloc, &bytes[..bytes.len().min(4)])?;
-    format!(in alloc; "{}:{first}", bytes.len())
+    write!(text, " {}:{first}", bytes.len())
 }
 
-/// The fields of a job, in the order of a job file.
+/// Adds the fields of the cipher, in the order of a job file.
+fn show_cipher(alloc: Global, text: &mut String, job: &Job) -> Result<(), AllocError> {
+    write!(text, "{:?} {:?} {:?}", job.cipher, job.dir, job.order)?;
+    show_bytes(alloc, text, &job.key)?;
+    show_bytes(alloc, text, &job.iv)?;
+    write!(text, " {} {}", job.cipher_off, job.cipher_len)
+}
+
+/// Adds the other fields.
+fn show_auth(alloc: Global, text: &mut String, job: &Job) -> Result<(), AllocError> {
+    write!(text, " {:?}", job.auth)?;
+    show_bytes(alloc, text, &job.auth_key)?;
+    show_bytes(alloc, text, &job.aad)?;
+    write!(text, " {} {} {}", job.hash_off, job.hash_len, job.tag_len)?;
+    show_bytes(alloc, text, &job.packet)
+}
+
+/// The fields of a job.
 fn shown(alloc: Global, job: &Job) -> Result<String, AllocError> {
-    let key = shown_bytes(alloc, &job.key)?;
-    let iv = shown_bytes(alloc, &job.iv)?;
-    let auth_key = shown_bytes(alloc, &job.auth_key)?;
-    let aad = shown_bytes(alloc, &job.aad)?;
-    let packet = shown_bytes(alloc, &job.packet)?;
-    let cipher = format!(in alloc;
-        "{:?} {:?} {:?} {key} {iv} {} {}",
-        job.cipher, job.dir, job.order, job.cipher_off, job.cipher_len
-    )?;
-    let auth = format!(in alloc;
-        "{:?} {auth_key} {aad} {} {} {}",
-        job.auth, job.hash_off, job.hash_len, job.tag_len
-    )?;
-    format!(in alloc; "{cipher} {auth} {packet}")
+    let mut text = String::new(alloc);
+    show_cipher(alloc, &mut text, job)?;
+    show_auth(alloc, &mut text, job)?;
+    Ok(text)
 }
 
-/// A seed, and what its first jobs are.
-type SeedJobs = (u64, &'static [&'static str]);
+/// The fields of the next job.
+fn shown_next(alloc: Global, generator: &mut Generator) -> Result<String, AllocError> {
+    let job = generator.job(alloc)?;
+    shown(alloc, &job)
+}
 
-/// The jobs were computed by a program of their own, from the description of the draws.
+/// Seeds, and what the first jobs of each are, computed by a program of their own from the description of the draws.
+const SEEDS: [(u64, &[&str]); 3] = [
+    (
+        0,
+        &[
+            "Null Enc CipherHash - - 0 0 HmacSha512 98:8f145b7b - 0 105 64 112:2ff3cb1f",
+            "Cbc Dec HashCipher 16:9b1ed450 16:c59d5e34 0 224 HmacSha1 59:4a4162ac - 0 224 20 224:6e7e84a5",
+            "Null Enc HashCipher - - 0 0 Cmac128 16:8291af3f - 0 216 16 224:3de8e640",
+        ],
+    ),
+    (
+        1,
+        &[
+            "Cbc Enc HashCipher 32:808d10d6 16:2f044e39 0 48 Cmac128 16:0098f95b - 0 33 16 48:803558fa",
+            "Null Enc CipherHash - - 0 0 Null - - 0 0 1 80:b268ab92",
+            "Null Enc HashCipher - - 0 0 Null - - 0 0 1 512:0af92d8b",
+            "Cbc Dec HashCipher 16:90314434 16:a5dcfcf6 0 464 Null - - 0 0 0 464:cdf721c2",
+            "Cbc Enc CipherHash 32:8680b2ad 16:bf0f01ae 0 480 Null - - 0 0 0 480:d6d0a0f2",
+            "Gcm Dec HashCipher 24:8bf8067c 12:6af38049 0 362 Gcm - 30:89105431 0 0 16 368:a3b19929",
+            "Null Dec CipherHash - - 0 0 HmacSha256 218:74c71ca6 - 0 146 32 160:f8a0b998",
+            "Null Dec CipherHash - - 0 0 HmacSha224 248:fda6ceae - 0 52 28 64:3e50a4e9",
+            "Ctr Dec HashCipher 32:18b7e7eb 12:0cec078e 0 128 HmacSha384 247:99733955 - 0 121 48 128:21549853",
+        ],
+    ),
+    (
+        7,
+        &[
+            "Ctr Enc CipherHash 32:236752fb 12:14611732 0 86 HmacSha384 17:a9397010 - 0 96 48 96:3c4e529f",
+            "Cbc Dec HashCipher 24:8ab61b58 16:21e33170 0 224 HmacSha1 103:35b3d543 - 0 218 20 224:d52d1b75",
+            "Gcm Dec HashCipher 32:07042b05 12:540d9c38 0 254 Gcm - 43:9c54f009 0 0 16 256:45504c90",
+        ],
+    ),
+];
+
 #[test]
 fn seeds_make_their_jobs(rt: HostRuntime) -> Result<(), Fail> {
-    let alloc = rt.alloc();
-    let cases: [SeedJobs; 3] = [
-        (
-            0,
-            &[
-                "Null Enc CipherHash - - 0 0 HmacSha512 98:8f145b7b - 0 105 64 112:2ff3cb1f",
-                "Cbc Dec HashCipher 16:9b1ed450 16:c59d5e34 0 224 HmacSha1 59:4a4162ac - 0 224 20 224:6e7e84a5",
-                "Null Enc HashCipher - - 0 0 Cmac128 16:8291af3f - 0 216 16 224:3de8e640",
-            ],
-        ),
-        (
-            1,
-            &[
-                "Cbc Enc HashCipher 32:808d10d6 16:2f044e39 0 48 Cmac128 16:0098f95b - 0 33 16 48:803558fa",
-                "Null Enc CipherHash - - 0 0 Null - - 0 0 1 80:b268ab92",
-                "Null Enc HashCipher - - 0 0 Null - - 0 0 1 512:0af92d8b",
-                "Cbc Dec HashCipher 16:90314434 16:a5dcfcf6 0 464 Null - - 0 0 0 464:cdf721c2",
-                "Cbc Enc CipherHash 32:8680b2ad 16:bf0f01ae 0 480 Null - - 0 0 0 480:d6d0a0f2",
-                "Gcm Dec HashCipher 24:8bf8067c 12:6af38049 0 362 Gcm - 30:89105431 0 0 16 368:a3b19929",
-                "Null Dec CipherHash - - 0 0 HmacSha256 218:74c71ca6 - 0 146 32 160:f8a0b998",
-                "Null Dec CipherHash - - 0 0 HmacSha224 248:fda6ceae - 0 52 28 64:3e50a4e9",
-                "Ctr Dec HashCipher 32:18b7e7eb 12:0cec078e 0 128 HmacSha384 247:99733955 - 0 121 48 128:21549853",
-            ],
-        ),
-        (
-            7,
-            &[
-                "Ctr Enc CipherHash 32:236752fb 12:14611732 0 86 HmacSha384 17:a9397010 - 0 96 48 96:3c4e529f",
-                "Cbc Dec HashCipher 24:8ab61b58 16:21e33170 0 224 HmacSha1 103:35b3d543 - 0 218 20 224:d52d1b75",
-                "Gcm Dec HashCipher 32:07042b05 12:540d9c38 0 254 Gcm - 43:9c54f009 0 0 16 256:45504c90",
-            ],
-        ),
-    ];
     the_first_draw_from_zero_is_20();
-    for (seed, jobs) in cases {
-        let mut generator = Generator::new(seed);
-        for expected in jobs {
-            let job = generator.job(alloc)?;
-            let line = shown(alloc, &job)?;
-            assert_eq!(&rt; line.as_str(), *expected, "seed {seed}");
-        }
+    for (seed, jobs) in &SEEDS {
+        check_jobs(&rt, rt.alloc(), *seed, *jobs)?;
     }
     Ok(())
+}
+
+/// The first jobs of the seed are these.
+fn check_jobs<R: Abort>(rt: &R, alloc: Global, seed: u64, jobs: &[&str]) -> Result<(), AllocError> {
+    let mut generator = Generator::new(seed);
+    for expected in jobs {
+        let line = shown_next(alloc, &mut generator)?;
+        check_line(rt, seed, line.as_str(), *expected);
+    }
+    Ok(())
+}
+
+fn check_line<R: Abort>(rt: &R, seed: u64, line: &str, expected: &str) {
+    assert_eq!(rt; line, expected, "seed {seed}");
 }
 
 /// The first draw from 0 is 20, and leaves this state.
