@@ -1,7 +1,10 @@
 use mbj_io::MemSink;
-use mbj_replay::{a_submitter_has_as_many_cells_as_a_ring, replay_lines, replays_are_of_events};
+use mbj_replay::{
+    ReplayLine, a_submitter_has_as_many_cells_as_a_ring, replay_lines, replays_are_of_events,
+};
 use mbj_text::{Cmd, write_lines};
 use mbj_types::Job;
+use std::alloc::{AllocError, Global};
 use std::test::Fail;
 
 /// The commands of a script over two jobs with no cipher and no authentication, each of which is finished as soon as it
@@ -22,17 +25,19 @@ const LINES: &str =
 /// Room for the lines.
 const ROOM: usize = 256;
 
+/// The lines of the script, of one submitter and one worker.
+fn lines(alloc: Global) -> Result<Vec<ReplayLine>, AllocError> {
+    let jobs = vec![in alloc; Job::blank(alloc), Job::blank(alloc)]?;
+    let commands = Vec::from_slice(alloc, &COMMANDS)?;
+    replay_lines(alloc, jobs, commands, 1, 1)
+}
+
 #[test]
 fn a_script_is_told_in_its_lines(rt: HostRuntime) -> Result<(), Fail> {
     replays_are_of_events();
     a_submitter_has_as_many_cells_as_a_ring();
-    let alloc = rt.alloc();
-    let jobs = vec![in alloc; Job::blank(alloc), Job::blank(alloc)]?;
-    let commands = Vec::from_slice(alloc, &COMMANDS)?;
-    let lines = replay_lines(alloc, jobs, commands, 1, 1)?;
-    let mut sink = MemSink::new(alloc, ROOM, 1, &[])?;
-    let written = write_lines(&mut sink, &lines);
-    assert!(rt; written.is_ok());
-    assert_eq!(rt; sink.held(), LINES.as_bytes());
+    let lines = lines(rt.alloc())?;
+    let mut sink = MemSink::new(rt.alloc(), ROOM, 1, &[])?;
+    assert!(rt; write_lines(&mut sink, &lines).is_ok() && sink.held() == LINES.as_bytes());
     Ok(())
 }
