@@ -8,6 +8,7 @@ ghost use Rattle.mbj_types.specs.Result.{result_of};
 use mbj_core::{Core, MAX_SUBMITTERS, MAX_WORKERS, SUBMITTER_CELLS};
 use mbj_types::{Auth, Bytes, Cipher, Done, Job, MAX_PACKET_BYTES, PostFull, Status, Tag};
 use std::alloc::{AllocError, Global};
+use std::process::Abort;
 use std::test::Fail;
 
 /// What a party does with a core. A job is known by the one byte of its packet.
@@ -24,8 +25,9 @@ type Got = Option<u8>;
 
 /// A job with no cipher and no authentication.
 fn job(alloc: Global, byte: u8) -> Result<Job, AllocError> {
+    let packet = Vec::from_slice(alloc, &[byte])?;
     let mut job = Job::blank(alloc);
-    job.packet = Bytes::from_vec(Vec::from_slice(alloc, &[byte])?);
+    job.packet = Bytes::from_vec(packet);
     Ok(job)
 }
 
@@ -114,79 +116,97 @@ fn play(core: &mut Core, alloc: Global, step: &Move) -> Result<Got, AllocError> 
     }
 }
 
+/// A step, and what it gets.
+type Step = (Move, Got);
+
+/// The steps get what they are to get.
+fn check_steps<R: Abort>(
+    rt: &R,
+    alloc: Global,
+    core: &mut Core,
+    steps: &[Step],
+) -> Result<(), AllocError> {
+    for (step, got) in steps {
+        assert_eq!(rt; play(core, alloc, step)?, *got);
+    }
+    Ok(())
+}
+
 // Two submitters and a worker, which is party 2. The results come in the order of the posts, whatever the order in
 // which the jobs are finished.
+const IN_ORDER: [Step; 16] = [
+    (Move::Post(0, 10), None),
+    (Move::Post(0, 11), None),
+    (Move::Post(1, 20), None),
+    (Move::Claim(2, 1), Some(11)),
+    (Move::Claim(2, 256), Some(20)),
+    (Move::Claim(2, 0), Some(10)),
+    (Move::Claim(1, 0), None),
+    (Move::Finish(2, 256), None),
+    (Move::Finish(2, 1), None),
+    (Move::Collect(0), None),
+    (Move::Collect(1), Some(20)),
+    (Move::Finish(2, 0), None),
+    (Move::Collect(0), Some(10)),
+    (Move::Collect(0), Some(11)),
+    (Move::Collect(0), None),
+    (Move::Collect(1), None),
+];
+
 #[test]
 fn results_come_in_order(rt: HostRuntime) -> Result<(), Fail> {
     let mut core = Core::new(rt.alloc(), 2, 1)?;
     assert!(rt; !claims(&mut core, 2, 511));
-    let steps = [
-        (Move::Post(0, 10), None),
-        (Move::Post(0, 11), None),
-        (Move::Post(1, 20), None),
-        (Move::Claim(2, 1), Some(11)),
-        (Move::Claim(2, 256), Some(20)),
-        (Move::Claim(2, 0), Some(10)),
-        (Move::Claim(1, 0), None),
-        (Move::Finish(2, 256), None),
-        (Move::Finish(2, 1), None),
-        (Move::Collect(0), None),
-        (Move::Collect(1), Some(20)),
-        (Move::Finish(2, 0), None),
-        (Move::Collect(0), Some(10)),
-        (Move::Collect(0), Some(11)),
-        (Move::Collect(0), None),
-        (Move::Collect(1), None),
-    ];
-    for (step, got) in &steps {
-        assert_eq!(rt; play(&mut core, rt.alloc(), step)?, *got);
-    }
+    check_steps(&rt, rt.alloc(), &mut core, &IN_ORDER)?;
     Ok(())
 }
 
 // With 256 of a submitter out its next job comes back, and another submitter's doesn't. Once a result is collected,
 // its cell is that of the next job.
+const WHEN_FULL: [Step; 12] = [
+    (Move::Post(0, 2), Some(2)),
+    (Move::Post(1, 3), None),
+    (Move::Claim(0, 0), Some(1)),
+    (Move::Post(0, 4), Some(4)),
+    (Move::Finish(0, 0), None),
+    (Move::Post(0, 5), Some(5)),
+    (Move::Collect(0), Some(1)),
+    (Move::Claim(1, 0), None),
+    (Move::Post(0, 6), None),
+    (Move::Post(0, 7), Some(7)),
+    (Move::Claim(1, 0), Some(6)),
+    (Move::Claim(0, 256), Some(3)),
+];
+
+/// The first submitter posts as many jobs as it may have out.
+fn post_all<R: Abort>(rt: &R, alloc: Global, core: &mut Core) -> Result<(), AllocError> {
+    for _ in 0..256u32 {
+        assert!(rt; post(core, alloc, 0, 1)?.is_none());
+    }
+    Ok(())
+}
+
 #[test]
 fn a_submitter_has_256_cells(rt: HostRuntime) -> Result<(), Fail> {
     let mut core = Core::new(rt.alloc(), 2, 0)?;
-    for _ in 0..256u32 {
-        assert_eq!(rt; post(&mut core, rt.alloc(), 0, 1)?, None);
-    }
-    let steps = [
-        (Move::Post(0, 2), Some(2)),
-        (Move::Post(1, 3), None),
-        (Move::Claim(0, 0), Some(1)),
-        (Move::Post(0, 4), Some(4)),
-        (Move::Finish(0, 0), None),
-        (Move::Post(0, 5), Some(5)),
-        (Move::Collect(0), Some(1)),
-        (Move::Claim(1, 0), None),
-        (Move::Post(0, 6), None),
-        (Move::Post(0, 7), Some(7)),
-        (Move::Claim(1, 0), Some(6)),
-        (Move::Claim(0, 256), Some(3)),
-    ];
-    for (step, got) in &steps {
-        assert_eq!(rt; play(&mut core, rt.alloc(), step)?, *got);
-    }
-    assert_eq!(rt; core.out(0), 256);
-    assert_eq!(rt; core.first_cell(0), 1);
+    post_all(&rt, rt.alloc(), &mut core)?;
+    check_steps(&rt, rt.alloc(), &mut core, &WHEN_FULL)?;
+    assert!(rt; core.out(0) == 256 && core.first_cell(0) == 1);
     Ok(())
 }
 
 // Sixteen submitters and sixteen workers, the last of which claims the last submitter's job.
+const OF_THE_LAST: [Step; 4] = [
+    (Move::Post(15, 1), None),
+    (Move::Claim(31, 3840), Some(1)),
+    (Move::Finish(31, 3840), None),
+    (Move::Collect(15), Some(1)),
+];
+
 #[test]
 fn the_most_parties(rt: HostRuntime) -> Result<(), Fail> {
     let mut core = Core::new(rt.alloc(), MAX_SUBMITTERS, MAX_WORKERS)?;
-    assert_eq!(rt; core.workers(), 16);
-    let steps = [
-        (Move::Post(15, 1), None),
-        (Move::Claim(31, 3840), Some(1)),
-        (Move::Finish(31, 3840), None),
-        (Move::Collect(15), Some(1)),
-    ];
-    for (step, got) in &steps {
-        assert_eq!(rt; play(&mut core, rt.alloc(), step)?, *got);
-    }
+    assert!(rt; core.workers() == 16);
+    check_steps(&rt, rt.alloc(), &mut core, &OF_THE_LAST)?;
     Ok(())
 }
