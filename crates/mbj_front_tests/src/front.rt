@@ -6,6 +6,7 @@ ghost use Rattle.mbj_front.specs.Seats.{view_of, IsSubmitter, IsOf, IsIssued, su
 use mbj_core::{MAX_SUBMITTERS, MAX_WORKERS};
 use mbj_front::{Front, PartySeat, Results, Seat, SharedFront};
 use std::alloc::{AllocError, Global};
+use std::process::Abort;
 use std::test::Fail;
 
 /// A job is a number, and it is owed the next one.
@@ -20,7 +21,7 @@ type Numbers = SharedFront<u32, u32, Next>;
 type NumberSeat = PartySeat<u32, u32>;
 
 /// What a job's way through a cell shows.
-#[derive(Debug, PartialEq, Drop)]
+#[derive(Clone, Copy, Debug, PartialEq)]
 struct Seen {
     /// The words of the cell at first and after open, publish, claim, finish, take and free.
     words: [u64; 7],
@@ -89,18 +90,31 @@ fn three(
 }
 
 /// What two jobs show in turn: the first submitter's, which the worker does, and the second's, which the first does.
-fn two_rounds(alloc: Global) -> Result<Option<(Seen, Seen)>, AllocError> {
+fn go_round(
+    front: &Numbers,
+    first: &mut NumberSeat,
+    second: &mut NumberSeat,
+    worker: &mut NumberSeat,
+) -> Option<[Seen; 2]>
+    requires submitters { submitters_of front.now ≡ 2 }
+    requires first { IsOf front.now first.old × (view_of first.old ≡ new_party 0) }
+    requires second { IsOf front.now second.old × (view_of second.old ≡ new_party 1) }
+    requires worker { IsOf front.now worker.old × (view_of worker.old ≡ new_party 2) }
+{
+    let one = goes_round(front, first, worker, second, 7)?;
+    let two = goes_round(front, second, first, worker, 8)?;
+    Some([one, two])
+}
+
+/// The same of the seats of a new front.
+fn two_rounds(alloc: Global) -> Result<Option<[Seen; 2]>, AllocError> {
     let (front, seats) = Numbers::new(alloc, 2, 1)?;
-    let Some((mut first, mut second, mut worker)) = three(&front, seats) else {
-        return Ok(None);
-    };
-    let Some(one) = goes_round(&front, &mut first, &mut worker, &mut second, 7) else {
-        return Ok(None);
-    };
-    let Some(two) = goes_round(&front, &mut second, &mut first, &mut worker, 8) else {
-        return Ok(None);
-    };
-    Ok(Some((one, two)))
+    match three(&front, seats) {
+        Some((mut first, mut second, mut worker)) => {
+            Ok(go_round(&front, &mut first, &mut second, &mut worker))
+        }
+        None => Ok(None),
+    }
 }
 
 #[test]
@@ -115,7 +129,7 @@ fn each_step_leaves_its_word(rt: HostRuntime) -> Result<(), Fail> {
         missed: [4, 4],
         done: 9,
     };
-    assert_eq!(rt; two_rounds(rt.alloc())?, Some((one, two)));
+    assert!(rt; two_rounds(rt.alloc())? == Some([one, two]));
     Ok(())
 }
 
@@ -123,13 +137,16 @@ fn each_step_leaves_its_word(rt: HostRuntime) -> Result<(), Fail> {
 #[test]
 fn seats_come_in_the_order_of_the_parties(rt: HostRuntime) -> Result<(), Fail> {
     let (front, seats) = Numbers::new(rt.alloc(), MAX_SUBMITTERS, MAX_WORKERS)?;
-    assert_eq!(rt; front.cells(), 4096);
-    assert_eq!(rt; seats.len(), 32);
-    for (party, seat) in seats.iter().enumerate() {
-        assert_eq!(rt; seat.party() as usize, party);
-        assert_eq!(rt; seat.out(), 0);
-    }
+    assert!(rt; front.cells() == 4096 && seats.len() == 32);
+    check_seats(&rt, &seats);
     Ok(())
+}
+
+/// Each seat is that of the party of its number, and none of its jobs is out.
+fn check_seats<R: Abort>(rt: &R, seats: &[NumberSeat]) {
+    for (party, seat) in seats.iter().enumerate() {
+        assert!(rt; seat.party() as usize == party && seat.out() == 0);
+    }
 }
 
 /// Takes a value that may cross to another thread.

@@ -1,18 +1,18 @@
 // A job on its way between two parties.
 ghost use Rattle.std.specs.Prelude.{◌≡◌, IfSome, vec_len};
 ghost use Rattle.mbj_core.specs.Parties.{new_party};
-ghost use Rattle.mbj_front.specs.Seats.{view_of, IsIssued, IsOf};
+ghost use Rattle.mbj_front.specs.Seats.{view_of, IsIssued, IsOf, submitters_of};
 ghost use Rattle.mbj_work.specs.Parties.{part_of, IsPartyOf, Submits};
 
 use crate::work::{HI_THERE, hmac_sha1};
 use mbj_front::{Front, Seat};
-use mbj_types::{Done, Job, Reason, Status};
+use mbj_types::{Job, Reason, Status};
 use mbj_work::{Claimed, HAND_ROOM, Party};
 use std::alloc::{AllocError, Global};
 use std::test::Fail;
 
 /// What a submitter and a worker see of a job on its way through cell 0.
-#[derive(Debug, PartialEq, Drop)]
+#[derive(Clone, Copy, Debug, PartialEq)]
 struct Seen {
     /// Before the job is posted: whether the worker settles, what its hunt finds, its claim.
     at_first: (bool, Option<u32>, Option<Claimed>),
@@ -24,8 +24,20 @@ struct Seen {
     settled: (bool, Option<Claimed>),
     /// The claim after the result is collected.
     collected: Option<Claimed>,
-    /// Which of three collects give a result: before the post, after the worker's claim, and after it settled.
-    results: [bool; 3],
+    /// What three collects give: before the post, after the worker's claim, and after it settled.
+    results: [Collected; 3],
+}
+
+/// The status of a result that was collected, and whether its tag is that of "Hi There".
+type Collected = Option<(Status, bool)>;
+
+fn collect(front: &Front, submitter: &mut Party) -> Collected
+    requires { IsPartyOf front.now submitter.old }
+    ensures front { IsPartyOf front.now submitter.new }
+    ensures number { (part_of submitter.new).number ≡ (part_of submitter.old).number }
+{
+    let done = submitter.collect(front)?;
+    Some((done.status, done.tag.bytes() == HI_THERE.as_slice()))
 }
 
 /// Claims cell 0, where the hand has room.
@@ -40,13 +52,8 @@ fn claim_first(front: &Front, party: &mut Party) -> Option<Claimed>
     Some(party.claim(front, 0))
 }
 
-/// A job of the submitter is posted, claimed, settled and collected. Answers its result too.
-fn way_of(
-    front: &Front,
-    submitter: &mut Party,
-    worker: &mut Party,
-    job: Job,
-) -> (Seen, Option<Done>)
+/// A job of the submitter is posted, claimed, settled and collected.
+fn way_of(front: &Front, submitter: &mut Party, worker: &mut Party, job: Job) -> Seen
     requires submitter { IsPartyOf front.now submitter.old × Submits front.now submitter.old }
     requires worker { IsPartyOf front.now worker.old }
 {
@@ -55,23 +62,22 @@ fn way_of(
         worker.hunt(front, 0),
         claim_first(front, worker),
     );
-    let none = submitter.collect(front);
+    let none = collect(front, submitter);
     let _full = submitter.post(front, job);
     let posted = (worker.hunt(front, 0), claim_first(front, worker));
     let claimed = claim_first(front, submitter);
-    let early = submitter.collect(front);
+    let early = collect(front, submitter);
     let settled = (worker.settle(front), claim_first(front, worker));
-    let done = submitter.collect(front);
+    let done = collect(front, submitter);
     let collected = claim_first(front, worker);
-    let seen = Seen {
+    Seen {
         at_first,
         posted,
         claimed,
         settled,
         collected,
-        results: [none.is_some(), early.is_some(), done.is_some()],
-    };
-    (seen, done.or(early))
+        results: [none, early, done],
+    }
 }
 
 /// The two seats of a new front of two parties, in their order.
@@ -86,66 +92,78 @@ fn two(front: &Front, mut seats: Vec<Seat>) -> Option<(Seat, Seat)>
     Some((first, second))
 }
 
-/// What a submitter and a worker of a new front see of a job, and its result.
-fn way_through_a_new_front(
+/// What the submitter and a worker with this seat see of a job with this length of its tag.
+fn way_beside(
     alloc: Global,
-    job: Job,
-) -> Result<Option<(Seen, Option<Done>)>, AllocError> {
+    front: &Front,
+    submitter: &mut Party,
+    seat: Seat,
+    tag_len: u8,
+) -> Result<Seen, AllocError>
+    requires submitter { IsPartyOf front.now submitter.old × Submits front.now submitter.old }
+    requires worker { IsOf front.now seat × (view_of seat ≡ new_party 1) }
+{
+    let mut worker = Party::new(alloc, seat)?;
+    let job = hmac_sha1(alloc, &[0x0b; 20], b"Hi There", tag_len)?;
+    Ok(way_of(front, submitter, &mut worker, job))
+}
+
+/// What the parties of the two seats of a front see of it.
+fn way_of_seats(
+    alloc: Global,
+    front: &Front,
+    first: Seat,
+    second: Seat,
+    tag_len: u8,
+) -> Result<Seen, AllocError>
+    requires submitters { submitters_of front.now ≡ 1 }
+    requires first { IsOf front.now first × (view_of first ≡ new_party 0) }
+    requires second { IsOf front.now second × (view_of second ≡ new_party 1) }
+{
+    let mut submitter = Party::new(alloc, first)?;
+    way_beside(alloc, front, &mut submitter, second, tag_len)
+}
+
+/// What the parties of a new front see of it.
+fn way_through_a_new_front(alloc: Global, tag_len: u8) -> Result<Option<Seen>, AllocError> {
     let (front, seats) = Front::new(alloc, 1, 1)?;
     let Some((first, second)) = two(&front, seats) else {
         return Ok(None);
     };
-    let mut submitter = Party::new(alloc, first)?;
-    let mut worker = Party::new(alloc, second)?;
-    Ok(Some(way_of(&front, &mut submitter, &mut worker, job)))
+    Ok(Some(way_of_seats(alloc, &front, first, second, tag_len)?))
 }
 
-fn is_hi_there(done: &Done) -> bool {
-    done.status == Status::Ok && done.tag.bytes() == HI_THERE.as_slice()
+fn not(word: u64) -> Option<Claimed> {
+    Some(Claimed::Not(word))
 }
 
 // The job waits in the worker's lanes until the worker settles.
 #[test]
 fn a_job_goes_from_hand_to_hand(rt: HostRuntime) -> Result<(), Fail> {
-    let alloc = rt.alloc();
-    let job = hmac_sha1(alloc, &[0x0b; 20], b"Hi There", 20)?;
-    let not = |word| Some(Claimed::Not(word));
     let expected = Seen {
         at_first: (false, None, not(0)),
         posted: (Some(0), Some(Claimed::Yes)),
         claimed: not(7),
         settled: (true, not(2)),
         collected: not(0),
-        results: [false, false, true],
+        results: [None, None, Some((Status::Ok, true))],
     };
-    let Some((seen, done)) = way_through_a_new_front(alloc, job)? else {
-        assert!(rt; false);
-        return Ok(());
-    };
-    assert_eq!(rt; seen, expected);
-    assert!(rt; done.is_some_and(|done| is_hi_there(&done)));
+    assert!(rt; way_through_a_new_front(rt.alloc(), 20)? == Some(expected));
     Ok(())
 }
 
 // A refused job needs no lanes: the worker's claim gives its result back.
 #[test]
 fn a_refused_job_is_finished_by_its_claim(rt: HostRuntime) -> Result<(), Fail> {
-    let alloc = rt.alloc();
-    let job = hmac_sha1(alloc, &[0x0b; 20], b"Hi There", 21)?;
-    let not = |word| Some(Claimed::Not(word));
+    let refused = Status::InvalidArgs(Reason::TagLength);
     let expected = Seen {
         at_first: (false, None, not(0)),
         posted: (Some(0), Some(Claimed::Yes)),
         claimed: not(2),
         settled: (false, not(0)),
         collected: not(0),
-        results: [false, true, false],
+        results: [None, Some((refused, false)), None],
     };
-    let Some((seen, done)) = way_through_a_new_front(alloc, job)? else {
-        assert!(rt; false);
-        return Ok(());
-    };
-    assert_eq!(rt; seen, expected);
-    assert!(rt; done.is_some_and(|done| done.status == Status::InvalidArgs(Reason::TagLength)));
+    assert!(rt; way_through_a_new_front(rt.alloc(), 21)? == Some(expected));
     Ok(())
 }
