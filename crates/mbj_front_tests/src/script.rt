@@ -11,6 +11,7 @@ use mbj_text::{Cmd, INPUT_LIMIT, read_replay};
 use mbj_types::Job;
 use squad::Squad;
 use std::alloc::{AllocError, Global};
+use std::process::Abort;
 use std::test::Fail;
 
 /// Room for what a script tells.
@@ -120,14 +121,20 @@ const EIGHT_JOBS_STEPS: [(&str, &str); 40] = [
     ),
 ];
 
-/// What the parties of a new front tell of a script over these jobs, which they follow on this thread.
-fn told(
+/// A sink with room for what a script tells.
+fn sink(alloc: Global) -> Result<MemSink, AllocError> {
+    MemSink::new(alloc, ROOM, ROOM as u32, &[])
+}
+
+/// The parties of a new front follow a script over these jobs on this thread, and tell what each command comes to.
+fn tell(
     alloc: Global,
     jobs: Vec<Job>,
-    commands: Vec<Cmd>,
+    commands: &[Cmd],
     submitters: u32,
     workers: u32,
-) -> Result<MemSink, Fail>
+    sink: &mut MemSink,
+) -> Result<(), Fail>
     requires some_submitter { 1 ≤ submitters }
     requires submitters { submitters ≤ MAX_SUBMITTERS }
     requires workers { workers ≤ MAX_WORKERS }
@@ -135,15 +142,17 @@ fn told(
     let (front, seats) = Front::new(alloc, submitters, workers)?;
     let mut squad = Squad::new(alloc, &front, seats)?;
     squad.deal(jobs)?;
-    let mut sink = MemSink::new(alloc, ROOM, ROOM as u32, &[])?;
-    for command in commands {
-        squad.perform(command, &mut sink)?;
-    }
-    Ok(sink)
+    squad.follow(commands, sink)
 }
 
-/// What the parties of a new front tell of the jobs and the script of a file.
-fn told_of_file(alloc: Global, file: &[u8], submitters: u32, workers: u32) -> Result<MemSink, Fail>
+/// The same of the jobs and the script of a file.
+fn tell_of_file(
+    alloc: Global,
+    file: &[u8],
+    submitters: u32,
+    workers: u32,
+    sink: &mut MemSink,
+) -> Result<(), Fail>
     requires some_submitter { 1 ≤ submitters }
     requires submitters { submitters ≤ MAX_SUBMITTERS }
     requires workers { workers ≤ MAX_WORKERS }
@@ -152,17 +161,39 @@ fn told_of_file(alloc: Global, file: &[u8], submitters: u32, workers: u32) -> Re
         return Err(Fail::from("the file is too long"));
     }
     let (jobs, commands) = read_replay(alloc, file, submitters, workers)?;
-    told(alloc, jobs, commands, submitters, workers)
+    tell(alloc, jobs, &commands, submitters, workers, sink)
 }
 
-/// The file of jobs and a script, and the text that the script prints.
-fn steps_text(
+/// The parties tell this text of the file.
+fn check_file<R: Abort>(
+    rt: &R,
     alloc: Global,
+    file: &String,
+    text: &String,
+    submitters: u32,
+    workers: u32,
+) -> Result<(), Fail>
+    requires some_submitter { 1 ≤ submitters }
+    requires submitters { submitters ≤ MAX_SUBMITTERS }
+    requires workers { workers ≤ MAX_WORKERS }
+{
+    let mut sink = sink(alloc)?;
+    tell_of_file(alloc, file.as_bytes(), submitters, workers, &mut sink)?;
+    check_told(rt, sink.held(), text.as_bytes());
+    Ok(())
+}
+
+fn check_told<R: Abort>(rt: &R, told: &[u8], expected: &[u8]) {
+    assert_eq!(rt; told, expected);
+}
+
+/// Writes the file of jobs and a script, and the text that the script prints.
+fn write_steps(
+    file: &mut String,
+    text: &mut String,
     jobs: &[&str],
     steps: &[(&str, &str)],
-) -> Result<(String, String), AllocError> {
-    let mut file = String::new(alloc);
-    let mut text = String::new(alloc);
+) -> Result<(), AllocError> {
     for job in jobs {
         file.push_str(*job)?;
     }
@@ -171,51 +202,58 @@ fn steps_text(
         file.push_str(*command)?;
         text.push_str(*lines)?;
     }
-    Ok((file, text))
+    Ok(())
+}
+
+/// The parties print the lines of each step of a script over these jobs.
+fn check_steps<R: Abort>(
+    rt: &R,
+    alloc: Global,
+    jobs: &[&str],
+    steps: &[(&str, &str)],
+    submitters: u32,
+) -> Result<(), Fail>
+    requires some_submitter { 1 ≤ submitters }
+    requires submitters { submitters ≤ MAX_SUBMITTERS }
+{
+    let mut file = String::new(alloc);
+    let mut text = String::new(alloc);
+    write_steps(&mut file, &mut text, jobs, steps)?;
+    check_file(rt, alloc, &file, &text, submitters, 2)
 }
 
 // Jobs with an HMAC, a CMAC or CBC encryption wait for lanes until they are flushed.
 #[test]
 fn parties_tell_what_each_command_comes_to(rt: HostRuntime) -> Result<(), Fail> {
-    let alloc = rt.alloc();
-    let (file, text) = steps_text(alloc, &TWO_JOBS, &TWO_JOBS_STEPS)?;
-    assert_eq!(rt;
-        told_of_file(alloc, file.as_bytes(), 1, 2)?.held(),
-        text.as_bytes()
-    );
-    let (file, text) = steps_text(alloc, &EIGHT_JOBS, &EIGHT_JOBS_STEPS)?;
-    assert_eq!(rt;
-        told_of_file(alloc, file.as_bytes(), 3, 2)?.held(),
-        text.as_bytes()
-    );
-    Ok(())
+    check_steps(&rt, rt.alloc(), &TWO_JOBS, &TWO_JOBS_STEPS, 1)?;
+    check_steps(&rt, rt.alloc(), &EIGHT_JOBS, &EIGHT_JOBS_STEPS, 3)
 }
 
-/// A file with one job more than a submitter may have out and as many posts, and the text that they print.
-fn posts_text(alloc: Global) -> Result<(String, String), AllocError> {
-    let mut file = String::new(alloc);
-    let mut text = String::new(alloc);
+/// Writes a file with one job more than a submitter may have out and as many posts.
+fn write_posts(file: &mut String) -> Result<(), AllocError> {
     for _ in 0..=OUT_LIMIT {
         file.push_str(NULL_JOB)?;
     }
     file.push_str("%\n")?;
-    for number in 0..OUT_LIMIT {
+    for _ in 0..=OUT_LIMIT {
         file.push_str("post 0\n")?;
-        let line = format!(in alloc; "post 0 {number}\n")?;
-        text.push_str(line.as_str())?;
     }
-    file.push_str("post 0\n")?;
-    text.push_str("post 0 full\n")?;
-    Ok((file, text))
+    Ok(())
+}
+
+/// Writes the text that they print.
+fn write_answers(text: &mut String) -> Result<(), AllocError> {
+    for number in 0..OUT_LIMIT {
+        write!(text, "post 0 {number}\n")?;
+    }
+    text.push_str("post 0 full\n")
 }
 
 #[test]
 fn the_257th_post_is_full(rt: HostRuntime) -> Result<(), Fail> {
-    let alloc = rt.alloc();
-    let (file, text) = posts_text(alloc)?;
-    assert_eq!(rt;
-        told_of_file(alloc, file.as_bytes(), 1, 2)?.held(),
-        text.as_bytes()
-    );
-    Ok(())
+    let mut file = String::new(rt.alloc());
+    let mut text = String::new(rt.alloc());
+    write_posts(&mut file)?;
+    write_answers(&mut text)?;
+    check_file(&rt, rt.alloc(), &file, &text, 1, 2)
 }

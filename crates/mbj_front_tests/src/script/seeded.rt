@@ -1,11 +1,13 @@
 // Replays whose jobs and commands are drawn, and what the parties of a front tell of them.
 ghost use Rattle.std.specs.Prelude.{◌<◌};
 
-use super::told;
+use super::{sink, tell};
 use mbj_gen::make_jobs;
+use mbj_io::MemSink;
 use mbj_text::Cmd;
 use sha2::{Digest, Sha256};
 use std::alloc::{AllocError, Global};
+use std::process::Abort;
 use std::test::Fail;
 
 const SUBMITTERS: u32 = 3;
@@ -140,16 +142,44 @@ impl Draws {
     }
 }
 
+/// The parties of a new front tell what drawn commands come to, of drawn jobs.
+fn tell_of_seed(alloc: Global, seed: u64, state: u64, sink: &mut MemSink) -> Result<(), Fail> {
+    let jobs = make_jobs(alloc, seed, JOBS)?;
+    let commands = Draws(state).commands(alloc)?;
+    tell(alloc, jobs, &commands, SUBMITTERS, WORKERS, sink)
+}
+
+/// What they tell has this digest.
+fn check_digest<R: Abort>(
+    rt: &R,
+    alloc: Global,
+    seed: u64,
+    told: &[u8],
+    digest: &str,
+) -> Result<(), AllocError> {
+    let shown = hex::encode(alloc, Sha256::digest(told))?;
+    assert_eq!(rt; shown.as_str(), digest, "{seed}");
+    Ok(())
+}
+
+fn check_replay<R: Abort>(
+    rt: &R,
+    alloc: Global,
+    seed: u64,
+    state: u64,
+    digest: &str,
+) -> Result<(), Fail> {
+    let mut sink = sink(alloc)?;
+    tell_of_seed(alloc, seed, state, &mut sink)?;
+    check_digest(rt, alloc, seed, sink.held(), digest)?;
+    Ok(())
+}
+
 // The core tells the same of the same jobs and commands: `replay` is compared with these digests too.
 #[test]
 fn parties_tell_what_drawn_commands_come_to(rt: HostRuntime) -> Result<(), Fail> {
-    let alloc = rt.alloc();
-    for (seed, state, digest) in REPLAYS {
-        let jobs = make_jobs(alloc, seed, JOBS)?;
-        let commands = Draws(state).commands(alloc)?;
-        let told = told(alloc, jobs, commands, SUBMITTERS, WORKERS)?;
-        let told = hex::encode(alloc, Sha256::digest(told.held()))?;
-        assert_eq!(rt; told.as_str(), digest, "{seed}");
+    for (seed, state, digest) in &REPLAYS {
+        check_replay(&rt, rt.alloc(), *seed, *state, *digest)?;
     }
     Ok(())
 }

@@ -87,6 +87,19 @@ impl PostingParty<'_> {
         }
     }
 
+    /// Takes in a job that it is to post.
+    fn take_in(&mut self, job: Numbered) -> Result<(), Fail> {
+        self.jobs.push_back(job)?;
+        Ok(())
+    }
+
+    /// Posts its next job, and tells it.
+    fn tell_post(&mut self, s: u32, sink: &mut MemSink) -> Result<(), Fail> {
+        let answer = self.post()?;
+        write_words(sink, "post", s, answer)?;
+        Ok(())
+    }
+
     /// Collects the result of its earliest job that is out, and tells it.
     fn collect(&mut self, s: u32, sink: &mut MemSink) -> Result<(), Fail> {
         let Some(done) = self.party.collect(self.front) else {
@@ -151,13 +164,14 @@ impl ClaimingParty<'_> {
     }
 
     /// Settles the first job in the hand, and tells it.
-    fn flush(&mut self, w: u32, sink: &mut MemSink) -> Result<(), Failed> {
+    fn flush(&mut self, w: u32, sink: &mut MemSink) -> Result<(), Fail> {
         let finished = if self.party.settle(self.front) {
             self.hand.pop_front()
         } else {
             None
         };
-        write_words(sink, "finish", w, Part::or_none(finished))
+        write_words(sink, "finish", w, Part::or_none(finished))?;
+        Ok(())
     }
 }
 
@@ -210,61 +224,69 @@ impl<'a> Squad<'a> {
 
     /// Deals the jobs of a file to the submitters by turns.
     pub(crate) fn deal(&mut self, jobs: Vec<Job>) -> Result<(), Fail> {
+        for (number, job) in (0..JOB_LIMIT as u32).zip(jobs) {
+            self.give(number, job)?;
+        }
+        Ok(())
+    }
+
+    /// Gives a job of a file to the submitter whose turn it is.
+    fn give(&mut self, number: u32, job: Job) -> Result<(), Fail> {
+        match self.at_turn(number) {
+            Some(submitter) => submitter.take_in(Numbered { number, job }),
+            None => Err(Fail::from("there is no submitter")),
+        }
+    }
+
+    /// The submitter that gets the job of this number.
+    fn at_turn(&mut self, number: u32) -> Option<&mut PostingParty<'a>> {
         let count = self.submitters.len();
         if count == 0 {
-            return Err(Fail::from("there is no submitter"));
+            return None;
         }
-        for (number, job) in (0..JOB_LIMIT as u32).zip(jobs) {
-            let submitter = self
-                .submitters
-                .get_mut(number as usize % count)
-                .ok_or("no such submitter")?;
-            submitter.jobs.push_back(Numbered { number, job })?;
+        self.submitters.get_mut(number as usize % count)
+    }
+
+    fn submitter(&mut self, s: u32) -> Result<&mut PostingParty<'a>, Fail> {
+        match self.submitters.get_mut(s as usize) {
+            Some(submitter) => Ok(submitter),
+            None => Err(Fail::from("no such submitter")),
+        }
+    }
+
+    fn worker(&mut self, w: u32) -> Result<&mut ClaimingParty<'a>, Fail> {
+        match self.workers.get_mut(w as usize) {
+            Some(worker) => Ok(worker),
+            None => Err(Fail::from("no such worker")),
+        }
+    }
+
+    /// Does what each command says, and tells what it comes to.
+    pub(crate) fn follow(&mut self, commands: &[Cmd], sink: &mut MemSink) -> Result<(), Fail> {
+        for command in commands {
+            self.perform(*command, sink)?;
         }
         Ok(())
     }
 
     /// Does what a command says, and tells what it comes to.
-    pub(crate) fn perform(&mut self, command: Cmd, sink: &mut MemSink) -> Result<(), Fail> {
+    fn perform(&mut self, command: Cmd, sink: &mut MemSink) -> Result<(), Fail> {
         match command {
-            Cmd::Post(s) => self.post(s, sink),
+            Cmd::Post(s) => self.submitter(s)?.tell_post(s, sink),
             Cmd::Claim(w, s) => self.claim(w, s, sink),
-            Cmd::Flush(w) => self.flush(w, sink),
-            Cmd::Collect(s) => self.collect(s, sink),
+            Cmd::Flush(w) => self.worker(w)?.flush(w, sink),
+            Cmd::Collect(s) => self.submitter(s)?.collect(s, sink),
         }
-    }
-
-    /// A submitter posts.
-    fn post(&mut self, s: u32, sink: &mut MemSink) -> Result<(), Fail> {
-        let submitter = self
-            .submitters
-            .get_mut(s as usize)
-            .ok_or("no such submitter")?;
-        let answer = submitter.post()?;
-        write_words(sink, "post", s, answer)?;
-        Ok(())
     }
 
     /// A worker claims a job of a submitter.
     fn claim(&mut self, w: u32, s: u32, sink: &mut MemSink) -> Result<(), Fail> {
-        let submitter = self.submitters.get(s as usize).ok_or("no such submitter")?;
-        let worker = self.workers.get_mut(w as usize).ok_or("no such worker")?;
-        worker.claim(w, submitter, sink)
-    }
-
-    /// A worker flushes.
-    fn flush(&mut self, w: u32, sink: &mut MemSink) -> Result<(), Fail> {
-        let worker = self.workers.get_mut(w as usize).ok_or("no such worker")?;
-        worker.flush(w, sink)?;
-        Ok(())
-    }
-
-    /// A submitter collects.
-    fn collect(&mut self, s: u32, sink: &mut MemSink) -> Result<(), Fail> {
-        let submitter = self
-            .submitters
-            .get_mut(s as usize)
-            .ok_or("no such submitter")?;
-        submitter.collect(s, sink)
+        let Some(submitter) = self.submitters.get(s as usize) else {
+            return Err(Fail::from("no such submitter"));
+        };
+        match self.workers.get_mut(w as usize) {
+            Some(worker) => worker.claim(w, submitter, sink),
+            None => Err(Fail::from("no such worker")),
+        }
     }
 }
