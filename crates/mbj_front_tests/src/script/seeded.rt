@@ -7,7 +7,6 @@ use mbj_io::MemSink;
 use mbj_text::Cmd;
 use sha2::{Digest, Sha256};
 use std::alloc::{AllocError, Global};
-use std::process::Abort;
 use std::test::Fail;
 
 const SUBMITTERS: u32 = 3;
@@ -149,37 +148,24 @@ fn tell_of_seed(alloc: Global, seed: u64, state: u64, sink: &mut MemSink) -> Res
     tell(alloc, jobs, &commands, SUBMITTERS, WORKERS, sink)
 }
 
-/// What they tell has this digest.
-fn check_digest<R: Abort>(
-    rt: &R,
-    alloc: Global,
-    seed: u64,
-    told: &[u8],
-    digest: &str,
-) -> Result<(), AllocError> {
+/// Whether a text has this digest.
+fn has_digest(alloc: Global, told: &[u8], digest: &str) -> Result<bool, AllocError> {
     let shown = hex::encode(alloc, Sha256::digest(told))?;
-    assert_eq!(rt; shown.as_str(), digest, "{seed}");
-    Ok(())
+    Ok(shown.as_str() == digest)
 }
 
-fn check_replay<R: Abort>(
-    rt: &R,
-    alloc: Global,
-    seed: u64,
-    state: u64,
-    digest: &str,
-) -> Result<(), Fail> {
+/// Whether what they tell of drawn commands has this digest.
+fn is_told(alloc: Global, seed: u64, state: u64, digest: &str) -> Result<bool, Fail> {
     let mut sink = sink(alloc)?;
     tell_of_seed(alloc, seed, state, &mut sink)?;
-    check_digest(rt, alloc, seed, sink.held(), digest)?;
-    Ok(())
+    Ok(has_digest(alloc, sink.held(), digest)?)
 }
 
 // The core tells the same of the same jobs and commands: `replay` is compared with these digests too.
 #[test]
 fn parties_tell_what_drawn_commands_come_to(rt: HostRuntime) -> Result<(), Fail> {
     for (seed, state, digest) in &REPLAYS {
-        check_replay(&rt, rt.alloc(), *seed, *state, *digest)?;
+        assert!(rt; is_told(rt.alloc(), *seed, *state, *digest)?, "{seed}");
     }
     Ok(())
 }
