@@ -6,13 +6,13 @@ ghost use Rattle.mbj_work.specs.Parties.{part_of, IsPartyOf, Submits};
 
 use crate::work::{HI_THERE, hmac_sha1};
 use mbj_front::{Front, Seat};
-use mbj_types::{Job, Reason, Status};
+use mbj_types::{Reason, Status};
 use mbj_work::{Claimed, HAND_ROOM, Party};
 use std::alloc::{AllocError, Global};
 use std::test::Fail;
 
 /// What a submitter and a worker see of a job on its way through cell 0.
-#[derive(Clone, Copy, Debug, PartialEq)]
+#[derive(Clone, Copy, PartialEq)]
 struct Seen {
     /// Before the job is posted: whether the worker settles, what its hunt finds, its claim.
     at_first: (bool, Option<u32>, Option<Claimed>),
@@ -52,11 +52,18 @@ fn claim_first(front: &Front, party: &mut Party) -> Option<Claimed>
     Some(party.claim(front, 0))
 }
 
-/// A job of the submitter is posted, claimed, settled and collected.
-fn way_of(front: &Front, submitter: &mut Party, worker: &mut Party, job: Job) -> Seen
+/// A job of the submitter with this length of its tag is posted, claimed, settled and collected.
+fn way_of(
+    alloc: Global,
+    front: &Front,
+    submitter: &mut Party,
+    worker: &mut Party,
+    tag_len: u8,
+) -> Result<Seen, AllocError>
     requires submitter { IsPartyOf front.now submitter.old × Submits front.now submitter.old }
     requires worker { IsPartyOf front.now worker.old }
 {
+    let job = hmac_sha1(alloc, &[0x0b; 20], b"Hi There", tag_len)?;
     let at_first = (
         worker.settle(front),
         worker.hunt(front, 0),
@@ -70,14 +77,14 @@ fn way_of(front: &Front, submitter: &mut Party, worker: &mut Party, job: Job) ->
     let settled = (worker.settle(front), claim_first(front, worker));
     let done = collect(front, submitter);
     let collected = claim_first(front, worker);
-    Seen {
+    Ok(Seen {
         at_first,
         posted,
         claimed,
         settled,
         collected,
         results: [none, early, done],
-    }
+    })
 }
 
 /// The two seats of a new front of two parties, in their order.
@@ -92,7 +99,7 @@ fn two(front: &Front, mut seats: Vec<Seat>) -> Option<(Seat, Seat)>
     Some((first, second))
 }
 
-/// What the submitter and a worker with this seat see of a job with this length of its tag.
+/// What the submitter and a worker with this seat see of it.
 fn way_beside(
     alloc: Global,
     front: &Front,
@@ -104,8 +111,7 @@ fn way_beside(
     requires worker { IsOf front.now seat × (view_of seat ≡ new_party 1) }
 {
     let mut worker = Party::new(alloc, seat)?;
-    let job = hmac_sha1(alloc, &[0x0b; 20], b"Hi There", tag_len)?;
-    Ok(way_of(front, submitter, &mut worker, job))
+    way_of(alloc, front, submitter, &mut worker, tag_len)
 }
 
 /// What the parties of the two seats of a front see of it.
