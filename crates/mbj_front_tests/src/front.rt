@@ -1,7 +1,8 @@
 ghost use Rattle.std.specs.Prelude.{◌≡◌, ◌+◌, ◌%◌, ◌^◌, ◌<◌, [], length, vec_len, IfSome};
 ghost use Rattle.mbj_core.specs.declared.party.Phase.TheVariants.{Rest};
 ghost use Rattle.mbj_core.specs.Parties.{new_party};
-ghost use Rattle.mbj_front.specs.Seats.{view_of, IsSubmitter, IsOf, IsIssued, submitters_of};
+ghost use Rattle.mbj_front.specs.Seats.{view_of, IsSubmitter, IsOf, IsIssued, submitters_of, cells_of};
+ghost use Rattle.mbj_front.specs.Views.{after_publish};
 
 use mbj_core::{MAX_SUBMITTERS, MAX_WORKERS};
 use mbj_front::{Front, PartySeat, Results, Seat, SharedFront};
@@ -21,13 +22,41 @@ type Numbers = SharedFront<u32, u32, Next>;
 type NumberSeat = PartySeat<u32, u32>;
 
 /// What a job's way through a cell shows.
-#[derive(Clone, Copy, Debug, PartialEq)]
+#[derive(Clone, Copy, PartialEq)]
 struct Seen {
     /// The words of the cell at first and after open, publish, claim, finish, take and free.
     words: [u64; 7],
     /// The words that a second claim and an early take find.
     missed: [u64; 2],
     done: u32,
+}
+
+/// A submitter posts a job in its next cell. Answers the words of the cell at first and after open and publish, as a third
+/// party finds them.
+fn post(
+    front: &Numbers,
+    owner: &mut NumberSeat,
+    third: &mut NumberSeat,
+    cell: u32,
+    job: u32,
+) -> [u64; 3]
+    requires fronts { IsOf front.now owner.old × IsOf front.now third.old }
+    requires rest { (view_of owner.old).phase ≡ Rest }
+    requires submitter { (view_of owner.old).number < submitters_of front.now }
+    requires none_out { length (view_of owner.old).due ≡ (view_of owner.old).handed }
+    requires cell { cell < cells_of front.now }
+    ensures fronts { IsOf front.now owner.new × IsOf front.now third.new }
+    ensures owner { view_of owner.new ≡ after_publish (view_of owner.old) ((job + 1) % 2 ^ 32) }
+    ensures third { ((view_of third.new).phase ≡ (view_of third.old).phase)
+        × ((view_of third.new).number ≡ (view_of third.old).number)
+        × ((view_of third.new).due ≡ (view_of third.old).due) × ((view_of third.new).handed ≡ (view_of third.old).handed) }
+{
+    let at_first = front.scan(third, cell);
+    front.open_cell(owner);
+    let opened = front.scan(third, cell);
+    front.publish(owner, job);
+    let published = front.scan(third, cell);
+    [at_first, opened, published]
 }
 
 /// A submitter's job goes through its next cell, and a helper makes its result. A third party looks on.
@@ -50,11 +79,7 @@ fn goes_round(
         × ((view_of third.new).due ≡ (view_of third.old).due) × ((view_of third.new).handed ≡ (view_of third.old).handed)) }
 {
     let cell = owner.first_cell();
-    let at_first = front.scan(third, cell);
-    front.open_cell(owner);
-    let opened = front.scan(third, cell);
-    front.publish(owner, job);
-    let published = front.scan(third, cell);
+    let [at_first, opened, published] = post(front, owner, third, cell, job);
     let claimed = front.try_claim(helper, cell).ok()?;
     let in_hand = front.scan(third, cell);
     let missed_claim = front.try_claim(third, cell).err()?;
