@@ -3,6 +3,7 @@ ghost use Rattle.mbj_aes_lanes.specs.KeyLanes.{IsFull};
 
 use crate::ghash::fill;
 use crate::kernel::TURN_BYTES;
+use crate::line::{hundredths, print_bytes, print_ratio};
 use crate::sha1_kernel;
 use mbj_aes::Schedule;
 use mbj_aes_lanes::{LaneKeys, decrypt16, encrypt16};
@@ -75,12 +76,12 @@ impl Call {
 
     fn print_name(self, rt: &impl Print) -> io::Result<()> {
         match self {
-            Call::Encrypt16(rounds) => print!(rt; "aes encrypt16, {rounds} rounds"),
-            Call::Decrypt16(rounds) => print!(rt; "aes decrypt16, {rounds} rounds"),
+            Call::Encrypt16(rounds) => print_numbered(rt, "encrypt16", rounds as usize, "rounds"),
+            Call::Decrypt16(rounds) => print_numbered(rt, "decrypt16", rounds as usize, "rounds"),
             Call::Put => print!(rt; "aes put"),
             Call::Expand => print!(rt; "aes expand"),
-            Call::Ctr(len) => print!(rt; "aes ctr, {len} bytes"),
-            Call::CbcDecryption(len) => print!(rt; "aes cbc decryption, {len} bytes"),
+            Call::Ctr(len) => print_numbered(rt, "ctr", len, "bytes"),
+            Call::CbcDecryption(len) => print_numbered(rt, "cbc decryption", len, "bytes"),
         }
     }
 
@@ -92,6 +93,11 @@ impl Call {
             Call::Ctr(len) | Call::CbcDecryption(len) => len.min(TEXT_BYTES) as u32,
         }
     }
+}
+
+/// Prints the name of a call and how many rounds or bytes.
+fn print_numbered(rt: &impl Print, name: &str, number: usize, unit: &str) -> io::Result<()> {
+    print!(rt; "aes {name}, {number} {unit}")
 }
 
 /// The schedule of the 16 bytes of KEY from `i` on.
@@ -109,13 +115,6 @@ fn schedule(rounds: u32) -> Schedule {
         12 => Schedule::expand(&KEY[..24]),
         _ => Schedule::expand(&KEY),
     }
-}
-
-fn print_sha1(rt: &impl Print, text: &[u8]) -> io::Result<()> {
-    for byte in Sha1::digest(text) {
-        print!(rt; "{byte:02x}")?;
-    }
-    println!(rt)
 }
 
 /// Puts a schedule in the lanes by turns, and answers a byte that depends on it.
@@ -156,47 +155,68 @@ fn sixteen_keys() -> LaneKeys
     keys
 }
 
+/// SHA-1 of the blocks that are enciphered under sixteen keys.
+fn put_digest() -> [u8; 20] {
+    let mut blocks = filled_blocks();
+    encrypt16(&sixteen_keys(), &mut blocks);
+    Sha1::digest(blocks.as_flattened())
+}
+
+/// SHA-1 of the blocks that are enciphered under one key.
+fn encrypted_digest(rounds: u32) -> [u8; 20] {
+    let mut blocks = filled_blocks();
+    encrypt16(&LaneKeys::all(&schedule(rounds)), &mut blocks);
+    Sha1::digest(blocks.as_flattened())
+}
+
+/// SHA-1 of the blocks that are deciphered under one key.
+fn decrypted_digest(rounds: u32) -> [u8; 20] {
+    let mut blocks = filled_blocks();
+    decrypt16(&LaneKeys::all(&schedule(rounds)), &mut blocks);
+    Sha1::digest(blocks.as_flattened())
+}
+
+/// SHA-1 of what CTR makes of a text of so many bytes.
+fn ctr_digest(len: usize) -> [u8; 20] {
+    let mut text = [0; TEXT_BYTES];
+    fill(&mut text);
+    let text = &mut text[..len.min(TEXT_BYTES)];
+    apply(&schedule(10), &IV.to_be_bytes(), text);
+    Sha1::digest(text)
+}
+
+/// SHA-1 of what CBC decryption makes of a text of so many bytes.
+fn cbc_digest(len: usize) -> [u8; 20] {
+    let mut text = [0; TEXT_BYTES];
+    fill(&mut text);
+    let text = &mut text[..len.min(TEXT_BYTES) / 16 * 16];
+    decrypt_in_place(&schedule(10), &IV.to_be_bytes(), text);
+    Sha1::digest(text)
+}
+
+/// The last round key of the expanded key.
+fn last_round_key() -> [u8; 16] {
+    Schedule::expand(&EXPANDED_KEY.to_be_bytes()).round_key(10)
+}
+
 /// Prints SHA-1 of what the call makes of the text; of `Put` that of the blocks under sixteen keys, and of `Expand` the
 /// last round key.
 fn print_digest(rt: &impl Print, call: Call) -> io::Result<()> {
     call.print_name(rt)?;
-    print!(rt; ": ")?;
-    let mut blocks = filled_blocks();
-    let mut text = [0; TEXT_BYTES];
-    fill(&mut text);
-    match call {
-        Call::Encrypt16(rounds) => {
-            encrypt16(&LaneKeys::all(&schedule(rounds)), &mut blocks);
-            print_sha1(rt, blocks.as_flattened())
-        }
-        Call::Decrypt16(rounds) => {
-            decrypt16(&LaneKeys::all(&schedule(rounds)), &mut blocks);
-            print_sha1(rt, blocks.as_flattened())
-        }
-        Call::Put => {
-            encrypt16(&sixteen_keys(), &mut blocks);
-            print_sha1(rt, blocks.as_flattened())
-        }
-        Call::Expand => {
-            let last = Schedule::expand(&EXPANDED_KEY.to_be_bytes()).round_key(10);
-            println!(rt; "{:032x}", u128::from_be_bytes(last))
-        }
-        Call::Ctr(len) => {
-            let text = &mut text[..len.min(TEXT_BYTES)];
-            apply(&schedule(10), &IV.to_be_bytes(), text);
-            print_sha1(rt, text)
-        }
-        Call::CbcDecryption(len) => {
-            let text = &mut text[..len.min(TEXT_BYTES) / 16 * 16];
-            decrypt_in_place(&schedule(10), &IV.to_be_bytes(), text);
-            print_sha1(rt, text)
-        }
-    }
+    let digest = match call {
+        Call::Encrypt16(rounds) => encrypted_digest(rounds),
+        Call::Decrypt16(rounds) => decrypted_digest(rounds),
+        Call::Put => put_digest(),
+        Call::Expand => return print_bytes(rt, ": ", &last_round_key()),
+        Call::Ctr(len) => ctr_digest(len),
+        Call::CbcDecryption(len) => cbc_digest(len),
+    };
+    print_bytes(rt, ": ", &digest)
 }
 
 pub fn print_digests(rt: &impl Print) -> io::Result<()> {
-    for call in Call::ALL {
-        print_digest(rt, call)?;
+    for i in 0..Call::ALL.len() {
+        print_digest(rt, Call::ALL[i])?;
     }
     Ok(())
 }
@@ -252,19 +272,30 @@ fn run(call: Call, turns: u32) -> u8 {
     }
 }
 
+/// The time of one pass of the call, in nanoseconds. What is computed goes into `sum`, so that none of it is left out.
+fn call_nanos(rt: &impl Clock, call: Call, turns: u32, sum: &mut u64) -> io::Result<u128> {
+    let start = Instant::now(rt)?;
+    *sum ^= u64::from(run(call, turns));
+    Ok(start.elapsed(rt)?.as_nanos())
+}
+
+/// The same of the plain crate for SHA-1.
+fn plain_nanos(rt: &impl Clock, sum: &mut u64) -> io::Result<u128> {
+    let start = Instant::now(rt)?;
+    *sum ^= sha1_kernel::plain(PLAIN_TURNS);
+    Ok(start.elapsed(rt)?.as_nanos())
+}
+
 /// The fastest pass of the call and of the plain crate for SHA-1, in nanoseconds. They take turns, so that what else the
-/// machine does meets them alike. What is computed goes into `sum`, so that none of it is left out.
+/// machine does meets them alike.
 fn fastest(rt: &impl Clock, call: Call, turns: u32, sum: &mut u64) -> io::Result<(u128, u128)> {
-    let mut best = (u128::MAX, u128::MAX);
+    let mut nanos = u128::MAX;
+    let mut plain = u128::MAX;
     for _ in 0..PASSES {
-        let start = Instant::now(rt)?;
-        *sum ^= u64::from(run(call, turns));
-        best.0 = start.elapsed(rt)?.as_nanos().min(best.0);
-        let start = Instant::now(rt)?;
-        *sum ^= sha1_kernel::plain(PLAIN_TURNS);
-        best.1 = start.elapsed(rt)?.as_nanos().min(best.1);
+        nanos = call_nanos(rt, call, turns, sum)?.min(nanos);
+        plain = plain_nanos(rt, sum)?.min(plain);
     }
-    Ok(best)
+    Ok((nanos, plain))
 }
 
 /// KB/s of so many bytes in so many nanoseconds.
@@ -275,22 +306,23 @@ fn rate(bytes: u128, nanos: u128) -> u128 {
         .unwrap_or(0)
 }
 
-/// Prints MB/s of each call, and in how many times less time than the plain crate for SHA-1 took for as many bytes.
+/// Prints MB/s of a call, and in how many times less time than the plain crate for SHA-1 took for as many bytes.
+fn print_call(rt: &(impl Print + Clock), call: Call, sum: &mut u64) -> io::Result<()> {
+    let turns = PASS_BYTES.checked_div(call.bytes()).unwrap_or(0);
+    let (nanos, plain_nanos) = fastest(rt, call, turns, sum)?;
+    let done = rate(turns as u128 * call.bytes() as u128, nanos);
+    let plain = rate(PLAIN_TURNS as u128 * TURN_BYTES as u128, plain_nanos);
+    call.print_name(rt)?;
+    print!(rt; ": {} MB/s, ", done / 1000)?;
+    print_ratio(rt, hundredths(done, plain), 0)?;
+    println!(rt)
+}
+
+/// Prints how fast each call is.
 pub fn print_times(rt: &(impl Print + Clock)) -> io::Result<()> {
     let mut sum = 0;
-    for call in Call::ALL {
-        let turns = PASS_BYTES.checked_div(call.bytes()).unwrap_or(0);
-        let (nanos, plain_nanos) = fastest(rt, call, turns, &mut sum)?;
-        let done = rate(turns as u128 * call.bytes() as u128, nanos);
-        let plain = rate(PLAIN_TURNS as u128 * TURN_BYTES as u128, plain_nanos);
-        let times = done.saturating_mul(100).checked_div(plain).unwrap_or(0);
-        call.print_name(rt)?;
-        println!(rt;
-            ": {} MB/s, {}.{:02}",
-            done / 1000,
-            times / 100,
-            times % 100
-        )?;
+    for i in 0..Call::ALL.len() {
+        print_call(rt, Call::ALL[i], &mut sum)?;
     }
-    println!(rt; "checksum {sum:016x}")
+    print_bytes(rt, "checksum ", &sum.to_be_bytes())
 }

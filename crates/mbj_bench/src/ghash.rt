@@ -1,3 +1,4 @@
+use crate::line::{print_bytes, print_name, print_rate};
 use mbj_aes::Schedule;
 use mbj_gcm::seal;
 use mbj_ghash::Ghash;
@@ -56,7 +57,7 @@ pub fn print_digest(rt: &impl Print) -> io::Result<()> {
     fill(&mut text);
     let mut hash = Ghash::new(SUBKEY.to_be_bytes());
     hash.update_padded(&text);
-    println!(rt; "ghash: {:032x}", u128::from_be_bytes(hash.value()))
+    print_bytes(rt, "ghash: ", &hash.value())
 }
 
 /// Does the work once, and answers a word that its result depends on. The subkey depends on `seed`.
@@ -88,32 +89,33 @@ fn pass_nanos(rt: &impl Clock, work: Work, text: &mut [u8], sum: &mut u64) -> io
 fn fastest(rt: &impl Clock, text: &mut [u8], sum: &mut u64) -> io::Result<[u128; 3]> {
     let mut best = [u128::MAX; 3];
     for _ in 0..PASSES {
-        for (work, nanos) in Work::ALL.iter().zip(&mut best) {
-            *nanos = pass_nanos(rt, *work, text, sum)?.min(*nanos);
+        for i in 0..3 {
+            best[i] = pass_nanos(rt, Work::ALL[i], text, sum)?.min(best[i]);
         }
     }
     Ok(best)
 }
 
-/// Prints MB/s of GHASH and of `seal` by the length of the text, and in how many times less time than the plain crate for
-/// SHA-1 took for the same texts.
+/// Prints MB/s of GHASH and of `seal` over a text, and in how many times less time than the plain crate for SHA-1 they ran.
+fn print_text(rt: &(impl Print + Clock), text: &mut [u8], sum: &mut u64) -> io::Result<()> {
+    let len = text.len();
+    let best = fastest(rt, text, sum)?;
+    let pass_bytes = (PASS_BYTES - PASS_BYTES % len.max(1)) as u128;
+    for i in 0..3 {
+        print_name(rt, Work::ALL[i].name(), 10)?;
+        print!(rt; "{len:>6} bytes")?;
+        print_rate(rt, pass_bytes, best[i], best[0])?;
+    }
+    Ok(())
+}
+
+/// Prints how fast GHASH and `seal` are by the length of the text.
 pub fn print_times(rt: &(impl Print + Clock)) -> io::Result<()> {
     let mut text = [0; TEXT_BYTES];
     fill(&mut text);
     let mut sum = 0;
     for len in LENGTHS {
-        let best = fastest(rt, &mut text[..len], &mut sum)?;
-        let pass_bytes = (PASS_BYTES - PASS_BYTES % len.max(1)) as u128;
-        for (work, &nanos) in Work::ALL.iter().zip(&best) {
-            let rate = (1000 * pass_bytes).checked_div(nanos).unwrap_or(0);
-            let times = best[0].saturating_mul(100).checked_div(nanos).unwrap_or(0);
-            println!(rt;
-                "{:<10}{len:>6} bytes {rate:>6} MB/s {:>4}.{:02}",
-                work.name(),
-                times / 100,
-                times % 100
-            )?;
-        }
+        print_text(rt, &mut text[..len], &mut sum)?;
     }
-    println!(rt; "checksum {sum:016x}")
+    print_bytes(rt, "checksum ", &sum.to_be_bytes())
 }

@@ -2,6 +2,7 @@
 ghost use Rattle.std.specs.Prelude.{◌≤◌, All};
 
 use crate::kinds::{MOST_BYTES, Timed};
+use crate::line::{print_bytes, print_length, print_rate};
 use crate::making::packets;
 use mbj_cbc::CbcKernel;
 use mbj_cmac::CmacKernel;
@@ -69,8 +70,8 @@ pub fn run_list<K: Timed>(alloc: Global, packets: &mut [Vec<u8>]) -> Result<u8, 
 /// The plain function on each packet.
 pub fn run_plain<K: Timed>(packets: &mut [Vec<u8>]) -> u8 {
     let mut sum = 0;
-    for packet in packets.iter_mut() {
-        sum ^= K::plain(packet);
+    for i in 0..packets.len() {
+        sum ^= K::plain(&mut packets[i]);
     }
     sum
 }
@@ -84,49 +85,78 @@ fn bytes_of(packets: &[Vec<u8>]) -> u64 {
     bytes
 }
 
-/// The fastest pass of full lists and of the plain function, in nanoseconds a pass, and the bytes of a pass. They take turns,
-/// so that what else the machine does meets them alike. What is computed goes into `sum`, so that none of it is left out.
+/// The time of one pass of full lists, in nanoseconds. What is computed goes into `sum`, so that none of it is left out.
+fn list_nanos<K: Timed>(
+    rt: &impl Clock,
+    alloc: Global,
+    packets: &mut [Vec<u8>],
+    turns: u64,
+    sum: &mut u8,
+) -> io::Result<u128> {
+    let start = Instant::now(rt)?;
+    for _ in 0..turns {
+        *sum ^= run_list::<K>(alloc, packets)?;
+    }
+    Ok(start.elapsed(rt)?.as_nanos())
+}
+
+/// The same of the plain function.
+fn plain_nanos<K: Timed>(
+    rt: &impl Clock,
+    packets: &mut [Vec<u8>],
+    turns: u64,
+    sum: &mut u8,
+) -> io::Result<u128> {
+    let start = Instant::now(rt)?;
+    for _ in 0..turns {
+        *sum ^= run_plain::<K>(packets);
+    }
+    Ok(start.elapsed(rt)?.as_nanos())
+}
+
+/// The fastest pass of full lists and of the plain function, in nanoseconds. They take turns, so that what else the machine
+/// does meets them alike.
 fn fastest<K: Timed>(
     rt: &impl Clock,
     alloc: Global,
-    len: usize,
+    packets: &mut [Vec<u8>],
+    turns: u64,
     sum: &mut u8,
-) -> io::Result<(u128, u128, u64)> {
-    let mut packets = packets(alloc, K::LANES, len)?;
-    let turn_bytes = bytes_of(&packets);
-    let turns = PASS_BYTES.checked_div(turn_bytes).unwrap_or(0);
-    let mut best = (u128::MAX, u128::MAX);
+) -> io::Result<(u128, u128)> {
+    let mut lists = u128::MAX;
+    let mut plain = u128::MAX;
     for _ in 0..PASSES {
-        let start = Instant::now(rt)?;
-        for _ in 0..turns {
-            *sum ^= run_list::<K>(alloc, &mut packets)?;
-        }
-        best.0 = start.elapsed(rt)?.as_nanos().min(best.0);
-        let start = Instant::now(rt)?;
-        for _ in 0..turns {
-            *sum ^= run_plain::<K>(&mut packets);
-        }
-        best.1 = start.elapsed(rt)?.as_nanos().min(best.1);
+        lists = list_nanos::<K>(rt, alloc, packets, turns, sum)?.min(lists);
+        plain = plain_nanos::<K>(rt, packets, turns, sum)?.min(plain);
     }
-    Ok((best.0, best.1, turns.wrapping_mul(turn_bytes)))
+    Ok((lists, plain))
 }
 
-/// Prints MB/s of full lists by the length of the packets, and in how many times less time than the plain function they ran.
+/// Prints MB/s of full lists over these packets, and in how many times less time than the plain function they ran.
+fn print_packets<K: Timed>(
+    rt: &(impl Print + Clock),
+    alloc: Global,
+    packets: &mut [Vec<u8>],
+    len: usize,
+    sum: &mut u8,
+) -> io::Result<()> {
+    let turn_bytes = bytes_of(packets);
+    let turns = PASS_BYTES.checked_div(turn_bytes).unwrap_or(0);
+    let (lists, plain) = fastest::<K>(rt, alloc, packets, turns, sum)?;
+    print!(rt; "lists of ")?;
+    print_length(rt, K::name(), len)?;
+    print_rate(rt, turns.wrapping_mul(turn_bytes) as u128, lists, plain)
+}
+
+/// Prints how fast full lists of a kind are by the length of the packets.
 fn print_kernel<K: Timed>(
     rt: &(impl Print + Clock),
     alloc: Global,
     sum: &mut u8,
 ) -> io::Result<()> {
-    for len in LENGTHS {
-        let (lists, plain, bytes) = fastest::<K>(rt, alloc, len, sum)?;
-        let rate = (1000 * bytes as u128).checked_div(lists).unwrap_or(0);
-        let times = plain.saturating_mul(100).checked_div(lists).unwrap_or(0);
-        println!(rt;
-            "lists of {:<12}{len:>5} bytes {rate:>6} MB/s {:>4}.{:02}",
-            K::name(),
-            times / 100,
-            times % 100
-        )?;
+    for i in 0..3 {
+        let mut packets = packets(alloc, K::LANES, LENGTHS[i])?;
+        print_packets::<K>(rt, alloc, &mut packets, LENGTHS[i], sum)?;
     }
     Ok(())
 }
@@ -142,5 +172,5 @@ pub fn print_times(rt: &(impl Print + Clock), alloc: Global) -> io::Result<()> {
     print_kernel::<Hmac1Kernel>(rt, alloc, &mut sum)?;
     print_kernel::<Hmac256Kernel>(rt, alloc, &mut sum)?;
     print_kernel::<Hmac512Kernel>(rt, alloc, &mut sum)?;
-    println!(rt; "checksum {sum:02x}")
+    print_bytes(rt, "checksum ", &[sum])
 }

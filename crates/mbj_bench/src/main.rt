@@ -10,6 +10,7 @@ mod idle;
 mod jobs;
 mod kernel;
 mod kinds;
+mod line;
 mod lists;
 mod making;
 mod message;
@@ -18,22 +19,35 @@ mod sha256_kernel;
 mod sha512_kernel;
 mod timing;
 
+use std::alloc::Global;
+use std::io::Print;
+use std::sync::Wait;
+use std::thread::Threads;
+use std::time::Clock;
 use std::{env, io};
 
+fn print_digests(rt: &impl Print) -> io::Result<()> {
+    sha1_kernel::print_digests(rt)?;
+    sha256_kernel::print_digests(rt)?;
+    sha512_kernel::print_digests(rt)?;
+    ghash::print_digest(rt)?;
+    aes::print_digests(rt)
+}
+
+fn print_times<R: Threads + Wait + Sync + Clock + Print>(rt: &R, alloc: Global) -> io::Result<()> {
+    timing::print(rt)?;
+    ghash::print_times(rt)?;
+    aes::print_times(rt)?;
+    lists::print_times(rt, alloc)?;
+    jobs::print_times(rt, alloc)?;
+    front::print_times(rt, alloc)?;
+    idle::print_times(rt, alloc)
+}
+
 fn main(rt: HostRuntime) -> io::Result<()> {
-    sha1_kernel::print_digests(&rt)?;
-    sha256_kernel::print_digests(&rt)?;
-    sha512_kernel::print_digests(&rt)?;
-    ghash::print_digest(&rt)?;
-    aes::print_digests(&rt)?;
+    print_digests(&rt)?;
     if env::args(&rt)?.any(|word| word.as_str() == "--time") {
-        timing::print(&rt)?;
-        ghash::print_times(&rt)?;
-        aes::print_times(&rt)?;
-        lists::print_times(&rt, rt.alloc())?;
-        jobs::print_times(&rt, rt.alloc())?;
-        front::print_times(&rt, rt.alloc())?;
-        idle::print_times(&rt, rt.alloc())?;
+        print_times(&rt, rt.alloc())?;
     }
     Ok(())
 }

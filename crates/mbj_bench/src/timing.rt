@@ -1,4 +1,5 @@
 use crate::kernel::{Form, Hash, TURN_BYTES};
+use crate::line::{print_bytes, print_name, print_rate};
 use crate::{sha1_kernel, sha256_kernel, sha512_kernel};
 use std::io;
 use std::io::Print;
@@ -6,6 +7,8 @@ use std::time::{Clock, Instant};
 
 /// The turns of one pass, and the passes of which the fastest counts.
 const TURNS: u32 = 1000;
+
+const PASS_BYTES: u128 = TURN_BYTES as u128 * TURNS as u128;
 
 const PASSES: u32 = 100;
 
@@ -27,36 +30,41 @@ fn run(hash: Hash, form: Form, turns: u32) -> u64 {
     }
 }
 
+/// The time of one pass, in nanoseconds. What is computed goes into `sum`, so that none of it is left out.
+fn pass_nanos(rt: &impl Clock, hash: Hash, form: Form, sum: &mut u64) -> io::Result<u128> {
+    let start = Instant::now(rt)?;
+    *sum = sum.wrapping_add(run(hash, form, TURNS));
+    Ok(start.elapsed(rt)?.as_nanos())
+}
+
 /// The fastest pass of each form, in nanoseconds. The forms take turns, so that what else the machine
-/// does meets them alike. What they compute goes into `sum`, so that none of it is left out.
+/// does meets them alike.
 fn fastest(rt: &impl Clock, hash: Hash, sum: &mut u64) -> io::Result<[u128; 4]> {
     let mut best = [u128::MAX; 4];
     for _ in 0..PASSES {
-        for (form, nanos) in Form::ALL.iter().zip(&mut best) {
-            let start = Instant::now(rt)?;
-            *sum = sum.wrapping_add(run(hash, *form, TURNS));
-            *nanos = start.elapsed(rt)?.as_nanos().min(*nanos);
+        for i in 0..4 {
+            best[i] = pass_nanos(rt, hash, Form::ALL[i], sum)?.min(best[i]);
         }
     }
     Ok(best)
 }
 
-/// Prints MB/s of each form of each hash, and in how many times less time than the plain crate it ran.
-pub fn print(rt: &(impl Print + Clock)) -> io::Result<()> {
-    let bytes = TURN_BYTES as u128 * TURNS as u128;
-    let mut sum = 0;
-    for hash in Hash::ALL {
-        let best = fastest(rt, hash, &mut sum)?;
-        for (form, &nanos) in Form::ALL.iter().zip(&best) {
-            let rate = (1000 * bytes).checked_div(nanos).unwrap_or(0);
-            let times = best[0].saturating_mul(100).checked_div(nanos).unwrap_or(0);
-            let (hash, form) = (hash.name(), form.name());
-            println!(rt;
-                "{hash:<8}{form:<20}{rate:>6} MB/s {:>4}.{:02}",
-                times / 100,
-                times % 100
-            )?;
-        }
+/// Prints MB/s of each form of a hash, and in how many times less time than the plain crate it ran.
+fn print_hash(rt: &(impl Print + Clock), hash: Hash, sum: &mut u64) -> io::Result<()> {
+    let best = fastest(rt, hash, sum)?;
+    for i in 0..4 {
+        print_name(rt, hash.name(), 8)?;
+        print_name(rt, Form::ALL[i].name(), 20)?;
+        print_rate(rt, PASS_BYTES, best[i], best[0])?;
     }
-    println!(rt; "checksum {sum:016x}")
+    Ok(())
+}
+
+/// Prints how fast each form of each hash is.
+pub fn print(rt: &(impl Print + Clock)) -> io::Result<()> {
+    let mut sum = 0;
+    print_hash(rt, Hash::Sha1, &mut sum)?;
+    print_hash(rt, Hash::Sha256, &mut sum)?;
+    print_hash(rt, Hash::Sha512, &mut sum)?;
+    print_bytes(rt, "checksum ", &sum.to_be_bytes())
 }
