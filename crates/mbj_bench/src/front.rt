@@ -1,7 +1,11 @@
 //! Jobs over one front, by submitters and workers in threads, with nothing read or written, beside as many jobs in threads that
 //! share nothing.
+ghost use Rattle.std.specs.Prelude.{◌≤◌, length};
+ghost use Rattle.mbj_bench.specs.declared.front.TheConstants.{MOST_PARTIES};
+
 use crate::kinds::MOST_BYTES;
-use crate::making::{null_job, packet, with_auth, with_cipher};
+use crate::line::{hundredths, print_name, print_ratio};
+use crate::making::{null_job, packet, put_auth, put_cipher};
 use mbj_types::{Auth, Cipher, Done, Job};
 use mbj_work::{OpenGate, run_private, run_shared};
 use std::alloc::{AllocError, Global};
@@ -40,10 +44,10 @@ impl Crew {
         }
     }
 
-    fn name(self, alloc: Global) -> Result<String, AllocError> {
+    fn print_name(self, rt: &impl Print) -> io::Result<()> {
         match self {
-            Crew::Front(submitters, workers) => format!(in alloc; "front {submitters}/{workers}"),
-            Crew::Apart(threads) => format!(in alloc; "apart {threads}"),
+            Crew::Front(submitters, workers) => print!(rt; "front {submitters}/{workers:<2}"),
+            Crew::Apart(threads) => print!(rt; "apart {threads:<4}"),
         }
     }
 }
@@ -69,8 +73,6 @@ pub enum Work {
 }
 
 impl Work {
-    const ALL: [Work; 3] = [Work::HmacSha1, Work::CbcHmacSha256, Work::Mix];
-
     fn name(self) -> &'static str {
         match self {
             Work::HmacSha1 => "hmac-sha1",
@@ -87,32 +89,37 @@ const HMAC_KEY: [u8; 20] = [0x0b; 20];
 
 const IV: [u8; 16] = [0x0f; 16];
 
+/// Gives a job what the job of this turn does, of those that a mix has by turns.
+fn prepare(alloc: Global, job: &mut Job, turn: u32) -> Result<(), AllocError> {
+    match turn {
+        0 => put_auth(alloc, job, Auth::HmacSha1, &HMAC_KEY, 12),
+        1 => {
+            put_cipher(alloc, job, Cipher::Cbc, &AES_KEY, &IV)?;
+            put_auth(alloc, job, Auth::HmacSha256, &HMAC_KEY, 16)
+        }
+        2 => {
+            put_cipher(alloc, job, Cipher::Ctr, &AES_KEY, &IV)?;
+            put_auth(alloc, job, Auth::HmacSha512, &HMAC_KEY, 32)
+        }
+        _ => {
+            job.auth = Auth::Gcm;
+            job.tag_len = 16;
+            put_cipher(alloc, job, Cipher::Gcm, &AES_KEY, &IV[..12])
+        }
+    }
+}
+
 /// Job `number` of the work. In a mix each of four jobs that follow one another is of another kind, and so is each of four that
 /// are four apart, so that two or four submitters who get the jobs by turns have all kinds.
 fn job(alloc: Global, work: Work, number: u32) -> Result<Job, AllocError> {
-    let job = null_job(alloc, packet(alloc, MOST_BYTES)?);
     let turn = match work {
         Work::HmacSha1 => 0,
         Work::CbcHmacSha256 => 1,
         Work::Mix => number.wrapping_add(number / 4) % 4,
     };
-    match turn {
-        0 => with_auth(alloc, job, Auth::HmacSha1, &HMAC_KEY, 12),
-        1 => {
-            let job = with_cipher(alloc, job, Cipher::Cbc, &AES_KEY, &IV)?;
-            with_auth(alloc, job, Auth::HmacSha256, &HMAC_KEY, 16)
-        }
-        2 => {
-            let job = with_cipher(alloc, job, Cipher::Ctr, &AES_KEY, &IV)?;
-            with_auth(alloc, job, Auth::HmacSha512, &HMAC_KEY, 32)
-        }
-        _ => {
-            let mut job = with_cipher(alloc, job, Cipher::Gcm, &AES_KEY, &IV[..12])?;
-            job.auth = Auth::Gcm;
-            job.tag_len = 16;
-            Ok(job)
-        }
-    }
+    let mut job = null_job(alloc, packet(alloc, MOST_BYTES)?);
+    prepare(alloc, &mut job, turn)?;
+    Ok(job)
 }
 
 /// The jobs of the work that are dealt to one of so many submitters.
@@ -149,7 +156,40 @@ fn count(lists: &[Vec<Done>]) -> usize {
     results
 }
 
+/// Has the jobs done by a crew.
+fn run<R: Threads + Wait + Sync>(
+    rt: &R,
+    alloc: Global,
+    crew: Crew,
+    lists: Vec<Vec<Job>>,
+) -> Result<Vec<Vec<Done>>, AllocError>
+    requires some { 1 ≤ length lists.items }
+    requires few { length lists.items ≤ MOST_PARTIES }
+{
+    match crew {
+        Crew::Front(_, workers) => {
+            run_shared(rt, alloc, lists, workers.min(MOST_PARTIES), &OpenGate)
+        }
+        Crew::Apart(_) => run_private(rt, alloc, lists),
+    }
+}
+
 /// The time that the jobs take a crew, in microseconds, and how many results there are.
+fn micros_of<R: Threads + Wait + Sync + Clock>(
+    rt: &R,
+    alloc: Global,
+    crew: Crew,
+    lists: Vec<Vec<Job>>,
+) -> io::Result<(u128, usize)>
+    requires some { 1 ≤ length lists.items }
+    requires few { length lists.items ≤ MOST_PARTIES }
+{
+    let start = Instant::now(rt)?;
+    let done = run(rt, alloc, crew, lists)?;
+    Ok((start.elapsed(rt)?.as_micros(), count(&done)))
+}
+
+/// The same for jobs of the work that are dealt to the crew.
 fn micros<R: Threads + Wait + Sync + Clock>(
     rt: &R,
     alloc: Global,
@@ -160,14 +200,7 @@ fn micros<R: Threads + Wait + Sync + Clock>(
     if lists.is_empty() || lists.len() > MOST_PARTIES as usize {
         return Ok((u128::MAX, 0));
     }
-    let start = Instant::now(rt)?;
-    let done = match crew {
-        Crew::Front(_, workers) => {
-            run_shared(rt, alloc, lists, workers.min(MOST_PARTIES), &OpenGate)?
-        }
-        Crew::Apart(_) => run_private(rt, alloc, lists)?,
-    };
-    Ok((start.elapsed(rt)?.as_micros(), count(&done)))
+    micros_of(rt, alloc, crew, lists)
 }
 
 /// The least time that the jobs take each crew, in microseconds, and how many results there were. The crews take turns, so
@@ -179,38 +212,45 @@ fn fastest<R: Threads + Wait + Sync + Clock>(
 ) -> io::Result<[(u128, usize); 8]> {
     let mut best = [(u128::MAX, 0); 8];
     for _ in 0..TURNS {
-        for (crew, best) in Crew::ALL.iter().zip(best.iter_mut()) {
-            let run = micros(rt, alloc, work, *crew)?;
-            if run.0 < best.0 {
-                *best = run;
+        for i in 0..8 {
+            let run = micros(rt, alloc, work, Crew::ALL[i])?;
+            if run.0 < best[i].0 {
+                best[i] = run;
             }
         }
     }
     Ok(best)
 }
 
-/// How many hundredths of a time another one goes into it.
-pub fn hundredths(time: u128, other: u128) -> u128 {
-    time.saturating_mul(100).checked_div(other).unwrap_or(0)
+/// Ends a line with how many results there were, after how many microseconds, and in how many times less time than one
+/// submitter took alone.
+fn print_run(rt: &impl Print, results: usize, micros: u128, alone: u128) -> io::Result<()> {
+    print!(rt; "{results} jobs {micros:>8} us ")?;
+    print_ratio(rt, hundredths(alone, micros), 3)?;
+    println!(rt)
 }
 
-/// Prints how long the jobs of each work take each crew, and in how many times less time than one submitter took alone.
+/// Prints how long the jobs of a work take each crew.
+fn print_work<R: Threads + Wait + Sync + Clock + Print>(
+    rt: &R,
+    alloc: Global,
+    work: Work,
+) -> io::Result<()> {
+    let best = fastest(rt, alloc, work)?;
+    for i in 0..8 {
+        Crew::ALL[i].print_name(rt)?;
+        print_name(rt, work.name(), 18)?;
+        print_run(rt, best[i].1, best[i].0, best[0].0)?;
+    }
+    Ok(())
+}
+
+/// Prints how long the jobs of each work take each crew.
 pub fn print_times<R: Threads + Wait + Sync + Clock + Print>(
     rt: &R,
     alloc: Global,
 ) -> io::Result<()> {
-    for work in Work::ALL {
-        let best = fastest(rt, alloc, work)?;
-        for (crew, (micros, results)) in Crew::ALL.iter().zip(best) {
-            let times = hundredths(best[0].0, micros);
-            println!(rt;
-                "{:<10}{:<18}{results} jobs {micros:>8} us {:>3}.{:02}",
-                crew.name(alloc)?.as_str(),
-                work.name(),
-                times / 100,
-                times % 100
-            )?;
-        }
-    }
-    Ok(())
+    print_work(rt, alloc, Work::HmacSha1)?;
+    print_work(rt, alloc, Work::CbcHmacSha256)?;
+    print_work(rt, alloc, Work::Mix)
 }

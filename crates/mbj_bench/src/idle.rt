@@ -5,7 +5,8 @@ ghost use Rattle.mbj_core.specs.Parties.{new_party};
 ghost use Rattle.mbj_front.specs.Seats.{view_of, submitters_of, IsIssued, IsOf};
 ghost use Rattle.mbj_work.specs.Parties.{IsPartyOf, Submits};
 
-use crate::front::{TURNS, Work, hundredths, list};
+use crate::front::{TURNS, Work, list};
+use crate::line::{hundredths, print_ratio};
 use mbj_core::SUBMITTER_CELLS;
 use mbj_front::{Front, Seat};
 use mbj_types::Job;
@@ -184,27 +185,33 @@ fn micros<R: Threads + Wait + Sync + Clock>(
     }
 }
 
+/// The least time that the jobs take a submitter alone and beside a worker, in microseconds, and how many results there are.
+fn fastest<R: Threads + Wait + Sync + Clock>(
+    rt: &R,
+    alloc: Global,
+) -> io::Result<(u128, u128, usize)> {
+    let mut alone = u128::MAX;
+    let mut beside = u128::MAX;
+    let mut results = 0;
+    for _ in 0..TURNS {
+        alone = micros(rt, alloc, false)?.0.min(alone);
+        let (time, count) = micros(rt, alloc, true)?;
+        beside = time.min(beside);
+        results = count;
+    }
+    Ok((alone, beside, results))
+}
+
 /// Prints how long a submitter takes who works its own jobs, alone and beside a worker who looks at the same cells and finds
 /// hardly any job, and in how many times as much time.
 pub fn print_times<R: Threads + Wait + Sync + Clock + Print>(
     rt: &R,
     alloc: Global,
 ) -> io::Result<()> {
-    let mut alone = u128::MAX;
-    let mut beside = u128::MAX;
-    let mut results = 0;
-    for _ in 0..TURNS {
-        let (time, _) = micros(rt, alloc, false)?;
-        alone = alone.min(time);
-        let (time, count) = micros(rt, alloc, true)?;
-        beside = beside.min(time);
-        results = count;
-    }
-    let times = hundredths(beside, alone);
-    println!(rt;
-        "front, a busy submitter {results} jobs {alone} us, beside an idle worker {beside} us {}.{:02}",
-        times / 100,
-        times % 100
+    let (alone, beside, results) = fastest(rt, alloc)?;
+    print!(rt;
+        "front, a busy submitter {results} jobs {alone} us, beside an idle worker {beside} us "
     )?;
-    Ok(())
+    print_ratio(rt, hundredths(beside, alone), 0)?;
+    println!(rt)
 }

@@ -1,6 +1,7 @@
 //! Jobs through one manager, from its next cell to their results, beside full lists of the same entries and the plain
 //! functions on the same packets.
 use crate::kinds::Timed;
+use crate::line::{hundredths, megabytes, print_bytes, print_length, print_ratio};
 use crate::lists::{LENGTHS, run_list, run_plain};
 use crate::making::{null_job, packet, packets};
 use mbj_cbc::CbcKernel;
@@ -71,6 +72,22 @@ fn jobs(alloc: Global, work: Work, len: usize) -> Result<Vec<Job>, AllocError> {
     Ok(jobs)
 }
 
+/// Keeps a result where one is given.
+fn keep(results: &mut Vec<Done>, given: Option<Done>) -> Result<(), AllocError> {
+    if let Some(done) = given {
+        results.push(done)?;
+    }
+    Ok(())
+}
+
+/// Puts a job through a manager.
+fn run_job(manager: &mut Manager, job: Job, results: &mut Vec<Done>) -> Result<(), AllocError> {
+    let earliest = manager.make_room();
+    manager.put_next(job);
+    keep(results, earliest)?;
+    keep(results, manager.submit())
+}
+
 /// Puts jobs through a manager, and keeps their results. The memory of the list stays, so that its return isn't timed.
 fn run_jobs(
     manager: &mut Manager,
@@ -78,18 +95,10 @@ fn run_jobs(
     results: &mut Vec<Done>,
 ) -> Result<(), AllocError> {
     for job in jobs.drain(..) {
-        if let Some(done) = manager.make_room() {
-            results.push(done)?;
-        }
-        manager.put_next(job);
-        if let Some(done) = manager.submit() {
-            results.push(done)?;
-        }
+        run_job(manager, job, results)?;
     }
     for _ in 0..manager.queue_size() {
-        if let Some(done) = manager.flush() {
-            results.push(done)?;
-        }
+        keep(results, manager.flush())?;
     }
     Ok(())
 }
@@ -140,8 +149,11 @@ fn run_work(
         Work::One(kind) => run_kind(alloc, in_lists, kind, packets),
         Work::Mix => {
             let mut sum = 0;
-            for (kind, share) in Kind::ALL.iter().zip(packets.chunks_mut(SHARE)) {
-                sum ^= run_kind(alloc, in_lists, *kind, share)?;
+            let mut shares = packets.chunks_mut(SHARE);
+            for i in 0..Kind::ALL.len() {
+                if let Some(share) = shares.next() {
+                    sum ^= run_kind(alloc, in_lists, Kind::ALL[i], share)?;
+                }
             }
             Ok(sum)
         }
@@ -233,6 +245,19 @@ fn fastest_over(
 }
 
 /// The fastest passes over a new manager.
+fn fastest_of_new(
+    rt: &impl Clock,
+    alloc: Global,
+    work: Work,
+    packets: &mut [Vec<u8>],
+    len: usize,
+    sum: &mut u8,
+) -> io::Result<Times> {
+    let mut manager = Manager::new(alloc)?;
+    fastest_over(rt, alloc, &mut manager, work, packets, len, sum)
+}
+
+/// The fastest passes over packets of so many bytes.
 fn fastest(
     rt: &impl Clock,
     alloc: Global,
@@ -241,40 +266,32 @@ fn fastest(
     sum: &mut u8,
 ) -> io::Result<Times> {
     let mut packets = packets(alloc, JOBS, len)?;
-    let mut manager = Manager::new(alloc)?;
-    fastest_over(rt, alloc, &mut manager, work, &mut packets, len, sum)
+    fastest_of_new(rt, alloc, work, &mut packets, len, sum)
 }
 
 /// Prints nanoseconds a job and MB/s, and in how many times less time than full lists and than the plain functions.
+fn print_speed(rt: &impl Print, best: Times, len: usize) -> io::Result<()> {
+    let nanos = best.jobs / JOBS as u128;
+    let rate = megabytes(JOBS as u128 * len as u128, best.jobs);
+    print!(rt; " {nanos:>7} ns {rate:>6} MB/s, of lists ")?;
+    print_ratio(rt, hundredths(best.lists, best.jobs), 2)?;
+    print!(rt; ", of plain ")?;
+    print_ratio(rt, hundredths(best.plain, best.jobs), 3)?;
+    println!(rt)
+}
+
+/// Prints how fast the jobs of a work are by the length of their packets.
 fn print_work(
     rt: &(impl Print + Clock),
     alloc: Global,
     work: Work,
     sum: &mut u8,
 ) -> io::Result<()> {
-    for len in LENGTHS {
-        let best = fastest(rt, alloc, work, len, sum)?;
-        let nanos = best.jobs / JOBS as u128;
-        let bytes = 1000 * JOBS as u128 * len as u128;
-        let rate = bytes.checked_div(best.jobs).unwrap_or(0);
-        let of_lists = best
-            .lists
-            .saturating_mul(100)
-            .checked_div(best.jobs)
-            .unwrap_or(0);
-        let of_plain = best
-            .plain
-            .saturating_mul(100)
-            .checked_div(best.jobs)
-            .unwrap_or(0);
-        println!(rt;
-            "jobs, {:<12}{len:>5} bytes {nanos:>7} ns {rate:>6} MB/s, of lists {:>2}.{:02}, of plain {:>3}.{:02}",
-            work.name(),
-            of_lists / 100,
-            of_lists % 100,
-            of_plain / 100,
-            of_plain % 100
-        )?;
+    for i in 0..LENGTHS.len() {
+        let best = fastest(rt, alloc, work, LENGTHS[i], sum)?;
+        print!(rt; "jobs, ")?;
+        print_length(rt, work.name(), LENGTHS[i])?;
+        print_speed(rt, best, LENGTHS[i])?;
     }
     Ok(())
 }
@@ -283,9 +300,9 @@ fn print_work(
 pub fn print_times(rt: &(impl Print + Clock), alloc: Global) -> io::Result<()> {
     let mut sum = 0;
     print_work(rt, alloc, Work::Null, &mut sum)?;
-    for kind in Kind::ALL {
-        print_work(rt, alloc, Work::One(kind), &mut sum)?;
+    for i in 0..Kind::ALL.len() {
+        print_work(rt, alloc, Work::One(Kind::ALL[i]), &mut sum)?;
     }
     print_work(rt, alloc, Work::Mix, &mut sum)?;
-    println!(rt; "checksum {sum:02x}")
+    print_bytes(rt, "checksum ", &[sum])
 }

@@ -3,7 +3,7 @@ ghost use Rattle.std.specs.Prelude.{◌≡◌, ◌%◌, ◌≤◌, IfSome, lengt
 ghost use Rattle.mbj_aes.specs.Bytes.{IsKeySize};
 ghost use Rattle.mbj_bench.specs.declared.kinds.TheConstants.{MOST_BYTES};
 
-use crate::making::{null_job, with_auth, with_cipher};
+use crate::making::{auth_job, cipher_job};
 use mbj_aes::Schedule;
 use mbj_cbc::{CbcEntry, CbcKernel, encrypt_in_place};
 use mbj_cmac::{CmacEntry, CmacKernel, cmac_plain};
@@ -93,8 +93,7 @@ impl<const N: usize> Timed for CbcKernel<N> {
     }
 
     fn job(alloc: Global, packet: Vec<u8>) -> Result<Job, AllocError> {
-        let job = null_job(alloc, packet);
-        with_cipher(alloc, job, Cipher::Cbc, aes_key(N), &IV)
+        cipher_job(alloc, packet, Cipher::Cbc, aes_key(N), &IV)
     }
 }
 
@@ -129,7 +128,7 @@ impl<const N: usize> Timed for CmacKernel<N> {
             10 => Auth::Cmac128,
             _ => Auth::Cmac256,
         };
-        with_auth(alloc, null_job(alloc, packet), auth, aes_key(N), 16)
+        auth_job(alloc, packet, auth, aes_key(N), 16)
     }
 }
 
@@ -159,13 +158,7 @@ impl Timed for Hmac1Kernel {
     }
 
     fn job(alloc: Global, packet: Vec<u8>) -> Result<Job, AllocError> {
-        with_auth(
-            alloc,
-            null_job(alloc, packet),
-            Auth::HmacSha1,
-            &HMAC_KEY,
-            20,
-        )
+        auth_job(alloc, packet, Auth::HmacSha1, &HMAC_KEY, 20)
     }
 }
 
@@ -197,13 +190,7 @@ impl Timed for Hmac256Kernel {
     }
 
     fn job(alloc: Global, packet: Vec<u8>) -> Result<Job, AllocError> {
-        with_auth(
-            alloc,
-            null_job(alloc, packet),
-            Auth::HmacSha256,
-            &HMAC_KEY,
-            32,
-        )
+        auth_job(alloc, packet, Auth::HmacSha256, &HMAC_KEY, 32)
     }
 }
 
@@ -235,12 +222,6 @@ impl Timed for Hmac512Kernel {
     }
 
     fn job(alloc: Global, packet: Vec<u8>) -> Result<Job, AllocError> {
-        with_auth(
-            alloc,
-            null_job(alloc, packet),
-            Auth::HmacSha512,
-            &HMAC_KEY,
-            64,
-        )
+        auth_job(alloc, packet, Auth::HmacSha512, &HMAC_KEY, 64)
     }
 }

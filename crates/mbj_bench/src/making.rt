@@ -28,32 +28,58 @@ pub fn null_job(alloc: Global, packet: Vec<u8>) -> Job {
     job
 }
 
-/// The job with a tag of `tag_len` bytes over its packet.
-pub fn with_auth(
+/// Gives a job a tag of `tag_len` bytes over its packet.
+pub fn put_auth(
     alloc: Global,
-    mut job: Job,
+    job: &mut Job,
     auth: Auth,
     key: &[u8],
     tag_len: u8,
-) -> Result<Job, AllocError> {
+) -> Result<(), AllocError> {
     job.auth = auth;
     job.auth_key = Bytes::from_vec(key.to_vec(alloc)?);
     job.hash_len = job.packet.as_slice().len().min(MOST_BYTES) as u32;
     job.tag_len = tag_len;
-    Ok(job)
+    Ok(())
 }
 
-/// The job with a cipher over the whole blocks of its packet.
-pub fn with_cipher(
+/// Gives a job a cipher over the whole blocks of its packet.
+pub fn put_cipher(
     alloc: Global,
-    mut job: Job,
+    job: &mut Job,
     cipher: Cipher,
     key: &[u8],
     iv: &[u8],
-) -> Result<Job, AllocError> {
+) -> Result<(), AllocError> {
     job.cipher = cipher;
     job.key = Bytes::from_vec(key.to_vec(alloc)?);
     job.iv = Bytes::from_vec(iv.to_vec(alloc)?);
     job.cipher_len = whole(job.packet.as_slice()) as u32;
+    Ok(())
+}
+
+/// A job with a tag over a packet.
+pub fn auth_job(
+    alloc: Global,
+    packet: Vec<u8>,
+    auth: Auth,
+    key: &[u8],
+    tag_len: u8,
+) -> Result<Job, AllocError> {
+    let mut job = null_job(alloc, packet);
+    put_auth(alloc, &mut job, auth, key, tag_len)?;
+    Ok(job)
+}
+
+/// A job with a cipher over the whole blocks of a packet.
+pub fn cipher_job(
+    alloc: Global,
+    packet: Vec<u8>,
+    cipher: Cipher,
+    key: &[u8],
+    iv: &[u8],
+) -> Result<Job, AllocError> {
+    let mut job = null_job(alloc, packet);
+    put_cipher(alloc, &mut job, cipher, key, iv)?;
     Ok(job)
 }
