@@ -1,6 +1,7 @@
 ghost use Rattle.std.specs.Prelude.{◌≡◌, ◌≤◌, ◌%◌, length};
 ghost use Rattle.mbj_aes_lanes.specs.KeyLanes.{IsFull};
 
+use crate::clock::nanos_since;
 use crate::ghash::fill;
 use crate::kernel::TURN_BYTES;
 use crate::line::{hundredths, print_bytes, print_ratio};
@@ -276,14 +277,14 @@ fn run(call: Call, turns: u32) -> u8 {
 fn call_nanos(rt: &impl Clock, call: Call, turns: u32, sum: &mut u64) -> io::Result<u128> {
     let start = Instant::now(rt)?;
     *sum ^= u64::from(run(call, turns));
-    Ok(start.elapsed(rt)?.as_nanos())
+    nanos_since(rt, start)
 }
 
 /// The same of the plain crate for SHA-1.
 fn plain_nanos(rt: &impl Clock, sum: &mut u64) -> io::Result<u128> {
     let start = Instant::now(rt)?;
     *sum ^= sha1_kernel::plain(PLAIN_TURNS);
-    Ok(start.elapsed(rt)?.as_nanos())
+    nanos_since(rt, start)
 }
 
 /// The fastest pass of the call and of the plain crate for SHA-1, in nanoseconds. They take turns, so that what else the

@@ -3,6 +3,7 @@
 ghost use Rattle.std.specs.Prelude.{◌≤◌, length};
 ghost use Rattle.mbj_bench.specs.declared.front.TheConstants.{MOST_PARTIES};
 
+use crate::clock::nanos_since;
 use crate::kinds::MOST_BYTES;
 use crate::line::{hundredths, print_name, print_ratio};
 use crate::making::{null_job, packet, put_auth, put_cipher};
@@ -186,7 +187,7 @@ fn micros_of<R: Threads + Wait + Sync + Clock>(
 {
     let start = Instant::now(rt)?;
     let done = run(rt, alloc, crew, lists)?;
-    Ok((start.elapsed(rt)?.as_micros(), count(&done)))
+    Ok((nanos_since(rt, start)? / 1000, count(&done)))
 }
 
 /// The same for jobs of the work that are dealt to the crew.

@@ -1,3 +1,4 @@
+use crate::clock::nanos_since;
 use crate::line::{print_bytes, print_name, print_rate};
 use mbj_aes::Schedule;
 use mbj_gcm::seal;
@@ -81,7 +82,7 @@ fn pass_nanos(rt: &impl Clock, work: Work, text: &mut [u8], sum: &mut u64) -> io
     for _ in 0..turns {
         *sum ^= run(work, &key, *sum, text);
     }
-    Ok(start.elapsed(rt)?.as_nanos())
+    nanos_since(rt, start)
 }
 
 /// The fastest pass of each work over a text, in nanoseconds. They take turns, so that what else the machine does meets

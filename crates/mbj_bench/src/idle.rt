@@ -5,6 +5,7 @@ ghost use Rattle.mbj_core.specs.Parties.{new_party};
 ghost use Rattle.mbj_front.specs.Seats.{view_of, submitters_of, IsIssued, IsOf};
 ghost use Rattle.mbj_work.specs.Parties.{IsPartyOf, Submits};
 
+use crate::clock::nanos_since;
 use crate::front::{TURNS, Work, list};
 use crate::line::{hundredths, print_ratio};
 use mbj_core::SUBMITTER_CELLS;
@@ -151,7 +152,23 @@ fn time_of<R: Threads + Wait + Sync + Clock>(
     } else {
         work(rt, alloc, front, submitter, jobs)?
     };
-    Ok((start.elapsed(rt)?.as_micros(), results))
+    Ok((nanos_since(rt, start)? / 1000, results))
+}
+
+/// The same beside a party of the second seat.
+fn time_beside<R: Threads + Wait + Sync + Clock>(
+    rt: &R,
+    alloc: Global,
+    front: &Front,
+    submitter: &mut Party,
+    second: Seat,
+    is_beside: bool,
+) -> io::Result<(u128, usize)>
+    requires submitter { IsPartyOf front.now submitter.old × Submits front.now submitter.old }
+    requires second { IsOf front.now second × (view_of second ≡ new_party 1) }
+{
+    let mut worker = Party::new(alloc, second)?;
+    time_of(rt, alloc, front, submitter, &mut worker, is_beside)
 }
 
 /// The same by parties of the two seats.
@@ -159,17 +176,16 @@ fn time_of_seats<R: Threads + Wait + Sync + Clock>(
     rt: &R,
     alloc: Global,
     front: &Front,
-    seats: (Seat, Seat),
+    first: Seat,
+    second: Seat,
     is_beside: bool,
 ) -> io::Result<(u128, usize)>
-    requires first { IsOf front.now seats.0 × (view_of seats.0 ≡ new_party 0) }
-    requires second { IsOf front.now seats.1 × (view_of seats.1 ≡ new_party 1) }
+    requires first { IsOf front.now first × (view_of first ≡ new_party 0) }
+    requires second { IsOf front.now second × (view_of second ≡ new_party 1) }
     requires few { submitters_of front.now ≡ 1 }
 {
-    let (first, second) = seats;
     let mut submitter = Party::new(alloc, first)?;
-    let mut worker = Party::new(alloc, second)?;
-    time_of(rt, alloc, front, &mut submitter, &mut worker, is_beside)
+    time_beside(rt, alloc, front, &mut submitter, second, is_beside)
 }
 
 /// The same over a new front.
@@ -180,7 +196,7 @@ fn micros<R: Threads + Wait + Sync + Clock>(
 ) -> io::Result<(u128, usize)> {
     let (front, seats) = Front::new(alloc, 1, 1)?;
     match two(&front, seats) {
-        Some(seats) => time_of_seats(rt, alloc, &front, seats, is_beside),
+        Some((first, second)) => time_of_seats(rt, alloc, &front, first, second, is_beside),
         None => Ok((u128::MAX, 0)),
     }
 }

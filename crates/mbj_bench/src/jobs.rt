@@ -1,5 +1,6 @@
 //! Jobs through one manager, from its next cell to their results, beside full lists of the same entries and the plain
 //! functions on the same packets.
+use crate::clock::nanos_since;
 use crate::kinds::Timed;
 use crate::line::{hundredths, megabytes, print_bytes, print_length, print_ratio};
 use crate::lists::{LENGTHS, run_list, run_plain};
@@ -57,17 +58,21 @@ fn job_of(alloc: Global, kind: Kind, packet: Vec<u8>) -> Result<Job, AllocError>
     }
 }
 
+/// Job `number` of a pass.
+fn job(alloc: Global, work: Work, number: usize, len: usize) -> Result<Job, AllocError> {
+    let packet = packet(alloc, len)?;
+    match work {
+        Work::Null => Ok(null_job(alloc, packet)),
+        Work::One(kind) => job_of(alloc, kind, packet),
+        Work::Mix => job_of(alloc, Kind::ALL[number % Kind::ALL.len()], packet),
+    }
+}
+
 /// The jobs of a pass.
 fn jobs(alloc: Global, work: Work, len: usize) -> Result<Vec<Job>, AllocError> {
     let mut jobs = Vec::with_capacity(alloc, JOBS as usize)?;
     for number in 0..JOBS as usize {
-        let packet = packet(alloc, len)?;
-        let job = match work {
-            Work::Null => null_job(alloc, packet),
-            Work::One(kind) => job_of(alloc, kind, packet)?,
-            Work::Mix => job_of(alloc, Kind::ALL[number % Kind::ALL.len()], packet)?,
-        };
-        jobs.push(job)?;
+        jobs.push(job(alloc, work, number, len)?)?;
     }
     Ok(jobs)
 }
@@ -160,23 +165,12 @@ fn run_work(
     }
 }
 
-/// Nanoseconds of a pass, or of the fastest ones.
+/// Nanoseconds of the fastest passes.
 #[derive(Clone, Copy)]
 struct Times {
     jobs: u128,
     lists: u128,
     plain: u128,
-}
-
-impl Times {
-    /// The less of each.
-    fn least(self, other: Times) -> Times {
-        Times {
-            jobs: self.jobs.min(other.jobs),
-            lists: self.lists.min(other.lists),
-            plain: self.plain.min(other.plain),
-        }
-    }
 }
 
 /// How long jobs take that are made before.
@@ -188,7 +182,7 @@ fn time_of_jobs(
 ) -> io::Result<u128> {
     let start = Instant::now(rt)?;
     run_jobs(manager, jobs, results)?;
-    Ok(start.elapsed(rt)?.as_nanos())
+    nanos_since(rt, start)
 }
 
 /// How long the work's jobs take in a manager.
@@ -215,7 +209,7 @@ fn time_of_packets(
 ) -> io::Result<u128> {
     let start = Instant::now(rt)?;
     *sum ^= run_work(alloc, in_lists, work, packets)?;
-    Ok(start.elapsed(rt)?.as_nanos())
+    nanos_since(rt, start)
 }
 
 /// The fastest passes of jobs, of lists and of the plain functions. They take turns, so that what else the machine does meets
@@ -229,19 +223,15 @@ fn fastest_over(
     len: usize,
     sum: &mut u8,
 ) -> io::Result<Times> {
-    let mut best = Times {
-        jobs: u128::MAX,
-        lists: u128::MAX,
-        plain: u128::MAX,
-    };
+    let mut jobs = u128::MAX;
+    let mut lists = u128::MAX;
+    let mut plain = u128::MAX;
     for _ in 0..PASSES {
-        best = best.least(Times {
-            jobs: time_of_manager(rt, alloc, manager, work, len)?,
-            lists: time_of_packets(rt, alloc, true, work, packets, sum)?,
-            plain: time_of_packets(rt, alloc, false, work, packets, sum)?,
-        });
+        jobs = time_of_manager(rt, alloc, manager, work, len)?.min(jobs);
+        lists = time_of_packets(rt, alloc, true, work, packets, sum)?.min(lists);
+        plain = time_of_packets(rt, alloc, false, work, packets, sum)?.min(plain);
     }
-    Ok(best)
+    Ok(Times { jobs, lists, plain })
 }
 
 /// The fastest passes over a new manager.

@@ -1,6 +1,7 @@
 //! Full lists of entries, from their making to their packets' return, beside the plain functions on the same packets.
 ghost use Rattle.std.specs.Prelude.{◌≤◌, All};
 
+use crate::clock::nanos_since;
 use crate::kinds::{MOST_BYTES, Timed};
 use crate::line::{print_bytes, print_length, print_rate};
 use crate::making::packets;
@@ -97,7 +98,7 @@ fn list_nanos<K: Timed>(
     for _ in 0..turns {
         *sum ^= run_list::<K>(alloc, packets)?;
     }
-    Ok(start.elapsed(rt)?.as_nanos())
+    nanos_since(rt, start)
 }
 
 /// The same of the plain function.
@@ -111,7 +112,7 @@ fn plain_nanos<K: Timed>(
     for _ in 0..turns {
         *sum ^= run_plain::<K>(packets);
     }
-    Ok(start.elapsed(rt)?.as_nanos())
+    nanos_since(rt, start)
 }
 
 /// The fastest pass of full lists and of the plain function, in nanoseconds. They take turns, so that what else the machine

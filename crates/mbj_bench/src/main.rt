@@ -4,6 +4,7 @@
 #![tactic(auto)]
 
 mod aes;
+mod clock;
 mod front;
 mod ghash;
 mod idle;

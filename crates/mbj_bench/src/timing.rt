@@ -1,3 +1,4 @@
+use crate::clock::nanos_since;
 use crate::kernel::{Form, Hash, TURN_BYTES};
 use crate::line::{print_bytes, print_name, print_rate};
 use crate::{sha1_kernel, sha256_kernel, sha512_kernel};
@@ -34,7 +35,7 @@ fn run(hash: Hash, form: Form, turns: u32) -> u64 {
 fn pass_nanos(rt: &impl Clock, hash: Hash, form: Form, sum: &mut u64) -> io::Result<u128> {
     let start = Instant::now(rt)?;
     *sum = sum.wrapping_add(run(hash, form, TURNS));
-    Ok(start.elapsed(rt)?.as_nanos())
+    nanos_since(rt, start)
 }
 
 /// The fastest pass of each form, in nanoseconds. The forms take turns, so that what else the machine
