@@ -1,6 +1,7 @@
 //! The calls of a handle, which the exports make.
 
-ghost use Rattle.std.specs.Prelude.{◌≡◌, false};
+ghost use Rattle.std.specs.Prelude.{◌≡◌, IfOk, false};
+ghost use Rattle.mbj_manager.specs.State.{new_manager};
 ghost use Rattle.mbj_c.specs.Filling.{filled, made};
 ghost use Rattle.mbj_c.specs.Giving.{IsDrained, IsTold, called};
 ghost use Rattle.mbj_c.specs.declared.giving.Call.TheVariants as calls;
@@ -14,7 +15,15 @@ use crate::job::RawJob;
 use crate::measured::Measured;
 use crate::refusal::Refusal;
 use crate::words::kind_at;
-use std::alloc::Global;
+use std::alloc::{AllocError, Global};
+
+/// A new manager on the heap.
+fn boxed(alloc: Global) -> Result<Box<Measured>, AllocError>
+    ensures { IfOk result (λ b. b.value ≡ new_manager) }
+{
+    let manager = Measured::new(alloc)?;
+    Ok(Box::new(alloc, manager)?)
+}
 
 /// Makes a manager, where the handle has none.
 pub(crate) fn make(alloc: Global, handle: &mut Handle) -> Result<(), Refusal>
@@ -24,10 +33,7 @@ pub(crate) fn make(alloc: Global, handle: &mut Handle) -> Result<(), Refusal>
         handle.put(manager);
         return Err(Refusal::HasManager);
     }
-    match Box::new(alloc, Measured::new(alloc)?) {
-        Ok(manager) => handle.put(manager),
-        Err(_) => return Err(Refusal::Memory),
-    }
+    handle.put(boxed(alloc)?);
     Ok(())
 }
 

@@ -78,8 +78,8 @@ impl Measured {
     pub(crate) fn new(alloc: Global) -> Result<Measured, AllocError>
         ensures { IfOk result (λ m. m ≡ new_manager) }
     {
-        let manager = Manager::new(alloc)?;
         let lengths = Ring::new(alloc)?;
+        let manager = Manager::new(alloc)?;
         Ok(Measured {
             manager,
             lengths,
