@@ -175,6 +175,16 @@ fn run<R: Threads + Wait + Sync>(
     }
 }
 
+/// The microseconds since `start`, and how many results there are.
+fn micros_and_count(
+    rt: &impl Clock,
+    start: Instant,
+    lists: &[Vec<Done>],
+) -> io::Result<(u128, usize)> {
+    let micros = nanos_since(rt, start)? / 1000;
+    Ok((micros, count(lists)))
+}
+
 /// The time that the jobs take a crew, in microseconds, and how many results there are.
 fn micros_of<R: Threads + Wait + Sync + Clock>(
     rt: &R,
@@ -187,7 +197,7 @@ fn micros_of<R: Threads + Wait + Sync + Clock>(
 {
     let start = Instant::now(rt)?;
     let done = run(rt, alloc, crew, lists)?;
-    Ok((nanos_since(rt, start)? / 1000, count(&done)))
+    micros_and_count(rt, start, &done)
 }
 
 /// The same for jobs of the work that are dealt to the crew.
@@ -223,6 +233,12 @@ fn fastest<R: Threads + Wait + Sync + Clock>(
     Ok(best)
 }
 
+/// Begins a line with a crew and what its jobs are.
+fn print_crew(rt: &impl Print, crew: Crew, work: Work) -> io::Result<()> {
+    crew.print_name(rt)?;
+    print_name(rt, work.name(), 18)
+}
+
 /// Ends a line with how many results there were, after how many microseconds, and in how many times less time than one
 /// submitter took alone.
 fn print_run(rt: &impl Print, results: usize, micros: u128, alone: u128) -> io::Result<()> {
@@ -239,8 +255,7 @@ fn print_work<R: Threads + Wait + Sync + Clock + Print>(
 ) -> io::Result<()> {
     let best = fastest(rt, alloc, work)?;
     for i in 0..8 {
-        Crew::ALL[i].print_name(rt)?;
-        print_name(rt, work.name(), 18)?;
+        print_crew(rt, Crew::ALL[i], work)?;
         print_run(rt, best[i].1, best[i].0, best[0].0)?;
     }
     Ok(())

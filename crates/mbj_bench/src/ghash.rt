@@ -1,5 +1,5 @@
 use crate::clock::nanos_since;
-use crate::line::{print_bytes, print_name, print_rate};
+use crate::line::{print_bytes, print_rate};
 use mbj_aes::Schedule;
 use mbj_gcm::seal;
 use mbj_ghash::Ghash;
@@ -97,14 +97,18 @@ fn fastest(rt: &impl Clock, text: &mut [u8], sum: &mut u64) -> io::Result<[u128;
     Ok(best)
 }
 
+/// Begins a line with a work and the length of its text.
+fn print_work(rt: &impl Print, work: Work, len: usize) -> io::Result<()> {
+    print!(rt; "{:<10}{len:>6} bytes", work.name())
+}
+
 /// Prints MB/s of GHASH and of `seal` over a text, and in how many times less time than the plain crate for SHA-1 they ran.
 fn print_text(rt: &(impl Print + Clock), text: &mut [u8], sum: &mut u64) -> io::Result<()> {
     let len = text.len();
     let best = fastest(rt, text, sum)?;
     let pass_bytes = (PASS_BYTES - PASS_BYTES % len.max(1)) as u128;
     for i in 0..3 {
-        print_name(rt, Work::ALL[i].name(), 10)?;
-        print!(rt; "{len:>6} bytes")?;
+        print_work(rt, Work::ALL[i], len)?;
         print_rate(rt, pass_bytes, best[i], best[0])?;
     }
     Ok(())

@@ -50,12 +50,17 @@ fn fastest(rt: &impl Clock, hash: Hash, sum: &mut u64) -> io::Result<[u128; 4]> 
     Ok(best)
 }
 
+/// Begins a line with a hash and a form.
+fn print_names(rt: &impl Print, hash: Hash, form: Form) -> io::Result<()> {
+    print_name(rt, hash.name(), 8)?;
+    print_name(rt, form.name(), 19)
+}
+
 /// Prints MB/s of each form of a hash, and in how many times less time than the plain crate it ran.
 fn print_hash(rt: &(impl Print + Clock), hash: Hash, sum: &mut u64) -> io::Result<()> {
     let best = fastest(rt, hash, sum)?;
     for i in 0..4 {
-        print_name(rt, hash.name(), 8)?;
-        print_name(rt, Form::ALL[i].name(), 20)?;
+        print_names(rt, hash, Form::ALL[i])?;
         print_rate(rt, PASS_BYTES, best[i], best[0])?;
     }
     Ok(())
