@@ -90,7 +90,7 @@ const HMAC_KEY: [u8; 20] = [0x0b; 20];
 
 const IV: [u8; 16] = [0x0f; 16];
 
-/// Gives a job what the job of this turn does, of those that a mix has by turns.
+/// Makes a job over a packet the one that a mix has at this turn.
 fn prepare(alloc: Global, job: &mut Job, turn: u32) -> Result<(), AllocError> {
     match turn {
         0 => put_auth(alloc, job, Auth::HmacSha1, &HMAC_KEY, 12),

@@ -38,7 +38,7 @@ pub fn hundredths(time: u128, other: u128) -> u128 {
     time.saturating_mul(100).checked_div(other).unwrap_or(0)
 }
 
-/// How many of a thousandth of so many bytes go into so many nanoseconds: MB/s.
+/// MB/s of so many bytes in so many nanoseconds.
 pub fn megabytes(bytes: u128, nanos: u128) -> u128 {
     bytes.saturating_mul(1000).checked_div(nanos).unwrap_or(0)
 }

@@ -6,7 +6,7 @@ use std::io;
 use std::io::Print;
 use std::time::{Clock, Instant};
 
-/// The turns of one pass, and the passes of which the fastest counts.
+/// The turns of one pass, its bytes, and the passes of which the fastest counts.
 const TURNS: u32 = 1000;
 
 const PASS_BYTES: u128 = TURN_BYTES as u128 * TURNS as u128;
