@@ -1,6 +1,11 @@
-use Rattle.std.proofs.Common.{[], ◌∷◌, ◌++◌, refl, sym, ap, ◌∙◌}
+use Rattle.std.proofs.Common.{[], ◌∷◌, ◌++◌, ℕ, Option, refl, sym, ap, subst, ◌∙◌}
+use Rattle.mbj_types.specs.declared.done.Done.{Done}
 use Rattle.mbj_types.specs.Result.{result_of}
+use Rattle.mbj_core.specs.declared.party.View.{View}
+use Rattle.mbj_front.specs.Moves.{Led, claiming}
 use Rattle.mbj_front.specs.Seats.{view_of}
+use Rattle.mbj_front.specs.Views.{after_claim}
+use Rattle.mbj_work.specs.Claims.{FinishesFirst, FinishesGiven}
 use Rattle.mbj_work.specs.Inside.Holding.{results_in}
 use Rattle.mbj_work.proofs.Hands.{first_of, left_of, results_with}
 use Rattle.mbj_work.proofs.Keeping.{keeps_on, keeps_looking, keeps_claiming, keeps_finishing}
@@ -40,3 +45,26 @@ returns-in-Some-clause-due g c =
 pub returns-in_default-clause-due : goal.returns-in_default-clause-due
 returns-in_default-clause-due g c =
     keeps_claiming (view_of c.args.self.now.seat) (view_of c.try_claim.new.seat) c.args.cell (result_of c.in-Ok.job) c.args.self.now.holds.rest c.in-Ok.ensures.view
+
+pub returns-in_default-clause-part : goal.returns-in_default-clause-part
+returns-in_default-clause-part g c =
+    let front = c.args.front.now in let v = view_of c.args.self.now.seat in let w = view_of c.try_claim.new.seat in record {
+      job = c.in-Ok.job;
+      claim = subst (λ (x : ℕ × ℕ × View Done). Led result_of x.0 x.1 v (claiming c.args.cell c.in-Ok.job) x.2)
+          (λ i. (c.requires.front.1 i, c.requires.front.2 i, c.in-Ok.ensures.view i)) c.in-Ok.ensures.step;
+      manager_is = c.submit.ensures.state;
+      part = subst (λ (o : Option Done). FinishesGiven front o (after_claim v c.args.cell (result_of c.in-Ok.job)) w)
+          (sym c.in_default.is ∙ c.submit.ensures.result) c.in-Ok.ensures.view;
+    }
+
+pub returns-in-Some-clause-part : goal.returns-in-Some-clause-part
+returns-in-Some-clause-part g c =
+    let front = c.args.front.now in let v = view_of c.args.self.now.seat in let w = view_of c.finish_first.new.seat in record {
+      job = c.in-Ok.job;
+      claim = subst (λ (x : ℕ × ℕ × View Done). Led result_of x.0 x.1 v (claiming c.args.cell c.in-Ok.job) x.2)
+          (λ i. (c.requires.front.1 i, c.requires.front.2 i, c.in-Ok.ensures.view i)) c.in-Ok.ensures.step;
+      manager_is = c.submit.ensures.state;
+      part = subst (λ (o : Option Done). FinishesGiven front o (after_claim v c.args.cell (result_of c.in-Ok.job)) w)
+          (sym c.in-Some.is ∙ c.submit.ensures.result)
+          (subst (λ (x : View Done). FinishesFirst front c.in-Some.done x w) c.in-Ok.ensures.view c.finish_first.ensures.part);
+    }
