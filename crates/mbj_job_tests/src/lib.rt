@@ -1,16 +1,45 @@
-//! Tests of jobs: their types, the argument table, courses through stages, the ring, and the manager.
+//! Tests of kernels, each against the vectors of its standard, and of jobs: their types, the argument table, courses through
+//! stages, the ring, and the manager.
 #![tactic(auto)]
 
 #[cfg(test)]
+mod aes;
+#[cfg(test)]
+mod aes_lanes;
+#[cfg(test)]
 mod args;
+#[cfg(test)]
+mod blocks;
+#[cfg(test)]
+mod cbc;
+#[cfg(test)]
+mod cmac;
 #[cfg(test)]
 mod compare;
 #[cfg(test)]
+mod ctr;
+#[cfg(test)]
 mod fill;
+#[cfg(test)]
+mod gcm;
+#[cfg(test)]
+mod ghash;
+#[cfg(test)]
+mod hmac;
+#[cfg(test)]
+mod lane;
+#[cfg(test)]
+mod lists;
 #[cfg(test)]
 mod manager;
 #[cfg(test)]
 mod ring;
+#[cfg(test)]
+mod sha1_lanes;
+#[cfg(test)]
+mod sha256_lanes;
+#[cfg(test)]
+mod sha512_lanes;
 #[cfg(test)]
 mod stage;
 #[cfg(test)]

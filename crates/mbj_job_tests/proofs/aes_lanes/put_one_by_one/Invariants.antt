@@ -1,7 +1,7 @@
 -- There are sixteen lanes for schedules of 14 rounds, and each lane before the next one has its schedule.
 use Rattle.std.proofs.Common.{◌≡◌, ◌<◌, ℕ, List, Option, None, length, get_or}
 use Rattle.std.specs.Prelude.{IsSome}
-use Rattle.mbj_kernel_tests.proofs.aes_lanes.put_one_by_one.Given as goal
+use Rattle.mbj_job_tests.proofs.aes_lanes.put_one_by_one.Given as goal
 
 abbrev no_schedule : Option (List ℕ)
 no_schedule = None

@@ -1,8 +1,8 @@
 use Rattle.std.proofs.Common.{◌≡◌, ℕ, ◌-◌, ◌++◌, zero, suc, List, [], ◌∷◌, map, ap, ap₂, refl, ◌∙◌, arith}
 use Rattle.std.proofs.lemmas.List.{take_all, drop_all, append-nil}
 use Rattle.mbj_lane.specs.Rounds.{after}
-use Rattle.mbj_kernel_tests.specs.declared.lane.Waiter.{Waiter}
-use Rattle.mbj_kernel_tests.proofs.lane.WaitingKernel.run.Goals as goal
+use Rattle.mbj_job_tests.specs.declared.lane.Waiter.{Waiter}
+use Rattle.mbj_job_tests.proofs.lane.WaitingKernel.run.Goals as goal
 
 abbrev waited : ℕ → Waiter → Waiter
 waited m w = record w { turns = w.turns - m }

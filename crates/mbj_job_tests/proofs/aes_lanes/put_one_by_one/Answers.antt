@@ -3,7 +3,7 @@ use Rattle.std.proofs.Common.{◌≡◌, ◌<◌, ◌+◌, ℕ, List, Option, So
 use Rattle.std.specs.Prelude.{IsSome}
 use Rattle.std.proofs.Math.ListN.{length-set}
 use Rattle.std.proofs.lemmas.Bool.{cases_eq}
-use Rattle.mbj_kernel_tests.proofs.aes_lanes.put_one_by_one.Goals as goal
+use Rattle.mbj_job_tests.proofs.aes_lanes.put_one_by_one.Goals as goal
 
 abbrev no_schedule : Option (List ℕ)
 no_schedule = None
