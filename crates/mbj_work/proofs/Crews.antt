@@ -1,6 +1,6 @@
 -- The seats of a new front, and the results of all submitters.
 use Rattle.std.proofs.Common.{◌≡◌, ℕ, ◌+◌, List, [], ◌∷◌, ◌++◌, length, length-append, map, suc, sym, Some, None, Option, subst, IfSome, refl, ap, ◌∙◌, arith, Vec, Global}
-use Rattle.std.proofs.lemmas.List.{map-append}
+use Rattle.std.proofs.lemmas.List.{length-map, map-append}
 use Rattle.std.specs.List.{AllZip}
 use Rattle.std.specs.Prelude.{slice_get}
 use Rattle.mbj_types.specs.declared.job.Job.{Job}
@@ -27,6 +27,10 @@ pub issued_seats : (front : SharedFront Job Done Standard) (seats : List (PartyS
 issued_seats front seats issued = seats_after front 0 seats
     (λ p seat here. let is = issued p seat here in (is.0, is.1 ∙ ap new_party (let e : p ≡ 0 + p = omega arith in e)))
 
+pub map_same : {X : Type 0} (xs : List X) → map (λ x. x) xs ≡ xs
+map_same [] = refl
+map_same (x ∷ xs) = ap (λ ys. x ∷ ys) (map_same xs)
+
 abbrev head_of : {X : Type 0} → List (Option X) → Option X
 head_of [] = None
 head_of (x ∷ xs) = x
@@ -48,6 +52,23 @@ results_of_all (s ∷ olds) (x ∷ news) (l ∷ lists) same each =
     = subst (λ (o : Option (Vec Job Global)). IfSome o (λ jobs. x.results.items ≡ map result_of jobs.items)) (ap head_of same) each.0 in
     let more = results_of_all olds news lists (ap tail_of same) each.1 in
     (λ i. first i ∷ more i)
+
+-- and there are as many of them
+pub as_many_results : (olds news : List Submitter) (lists : List (Vec Job Global)) → map (λ s. s.jobs) olds ≡ map Some lists → AllZip HasResults olds news
+    → length news ≡ length lists
+as_many_results olds news lists same each =
+    sym (same_length olds news each) ∙ sym (length-map olds (λ s. s.jobs)) ∙ ap length same ∙ length-map lists Some
+  where
+    same_length : (xs ys : List Submitter) → AllZip HasResults xs ys → length xs ≡ length ys
+    same_length [] [] both = refl
+    same_length [] (y ∷ ys) both = absurd both
+    same_length (x ∷ xs) [] both = absurd both
+    same_length (x ∷ xs) (y ∷ ys) both = ap suc (same_length xs ys both.1)
+
+-- the first of the seats
+pub seat_first : (front : SharedFront Job Done Standard) (n : ℕ) (seat : PartySeat Job Done) (old rest : List (PartySeat Job Done))
+    → AreSeatsFrom front n old → old ≡ seat ∷ rest → IsOf front seat × (view_of seat ≡ new_party n)
+seat_first front n seat old rest seats is = (subst (AreSeatsFrom front n) is seats).0
 
 -- the seats behind the first, where one more list has its submitter
 pub seats_behind : (front : SharedFront Job Done Standard) (lists : List (Vec Job Global)) (l : Vec Job Global) (seat : PartySeat Job Done)

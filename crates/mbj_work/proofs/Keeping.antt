@@ -1,10 +1,14 @@
 -- What is due stays as it is from one step of a party to another.
-use Rattle.std.proofs.Common.{◌≡◌, ℕ, List, [], ◌++◌, sym, ap, ◌∙◌, append-nil, append_assoc}
+use Rattle.std.proofs.Common.{◌≡◌, ℕ, List, [], ◌++◌, refl, sym, ap, ◌∙◌, append-nil, append_assoc}
 use Rattle.mbj_core.specs.declared.party.View.{View}
 use Rattle.mbj_core.specs.declared.party.Phase.TheVariants.{Rest}
 use Rattle.mbj_front.specs.Views.{after_claim, after_finish}
-use Rattle.mbj_work.specs.Hunts.{after_looks}
+use Rattle.mbj_work.specs.Hunts.{after_looks, looks_round, FindsNone, EndsUnfound}
 use Rattle.mbj_work.specs.Parties.{KeepsDue}
+
+-- where nothing is done
+pub keeps_all : {D : Type 0} (v : View D) → v.phase ≡ Rest → KeepsDue v v
+keeps_all v rest = (refl, rest, refl, refl, ([], sym (append-nil v.looks)))
 
 -- one stretch after another
 pub keeps_on : {D : Type 0} (u v w : View D) → KeepsDue u v → KeepsDue v w → KeepsDue u w
@@ -27,3 +31,8 @@ keeps_claiming v w cell d rest is =
 pub keeps_finishing : {D : Type 0} (v w : View D) (hand : List (ℕ × D)) → v.phase ≡ Rest → w ≡ after_finish v hand → KeepsDue v w
 keeps_finishing v w hand rest is =
     (ap (λ u. u.number) is, ap (λ u. u.phase) is ∙ rest, ap (λ u. u.due) is, ap (λ u. u.handed) is, ([], ap (λ u. u.looks) is ∙ sym (append-nil v.looks)))
+
+-- a hunt that found none comes last
+pub ends_unfound : {D : Type 0} (cells at : ℕ) (u v w : View D) → KeepsDue u v → FindsNone cells at v w → EndsUnfound cells u w
+ends_unfound cells at u v w kept none =
+    (kept.4.0, at, none.0, none.1, none.2, ap (λ x. x.looks) none.3 ∙ ap (λ l. l ++ looks_round cells at none.0) kept.4.1)

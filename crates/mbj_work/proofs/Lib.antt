@@ -1,4 +1,5 @@
 pub mod Deals
+pub mod Endless
 mod Lists
 pub mod Hands
 pub mod Keeping

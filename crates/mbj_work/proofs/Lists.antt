@@ -1,5 +1,5 @@
 -- Results beside the jobs that are left, and lists of lists.
-use Rattle.std.proofs.Common.{◌≡◌, ℕ, ◌+◌, ◌≤◌, ◌<◌, suc, List, [], ◌∷◌, ◌++◌, length, map, get_or, slice_index_or, Vec, Global, Result, Ok, Err, IfOk, refl, ap, sym, ◌∙◌, arith, length-append, append_assoc}
+use Rattle.std.proofs.Common.{◌≡◌, ℕ, ◌+◌, ◌≤◌, ◌<◌, suc, List, [], ◌∷◌, ◌++◌, length, map, get_or, slice_index_or, Vec, Global, Result, Ok, Err, IfOk, refl, ap, sym, ◌∙◌, arith, length-append, append-nil, append_assoc}
 use Rattle.std.proofs.lemmas.List.{length-map}
 use Rattle.std.proofs.lemmas.Simd.{map-map}
 use Rattle.mbj_types.specs.declared.job.Job.{Job}
@@ -17,6 +17,16 @@ room-for-one back owed left rest all job room order is fits =
     ∙ sym (length-append (back ++ owed) (map result_of left)) ∙ ap length order ∙ length-map all result_of in
     let some : length left ≡ suc (length rest) = ap length is in
     omega (arith, lengths, some, fits)
+
+-- and for all that came back and is owed
+pub room-for-all : (done : List Done) (left all : List Job) (room : ℕ) → done ++ map result_of left ≡ map result_of all → length all ≤ room → length done ≤ room
+room-for-all done left all room order fits =
+    omega (arith, fits, sym (length-append done (map result_of left)) ∙ ap length order ∙ length-map all result_of)
+
+-- all is done where nothing is left
+pub all-done : {A C : Type 0} (f : A → C) (done all : List C) (left : List A) (count : ℕ) → done ++ map f left ≡ all → count ≡ 0 → count ≡ length left → done ≡ all
+all-done f done all [] count was none is = sym (append-nil done) ∙ was
+all-done f done all (a ∷ left) count was none is = absurd (omega (arith, none, is))
 
 -- two lists are alike where f of each element of the one is g of that of the other
 pub maps-alike : {A B C : Type 0} (f : A → C) (g : B → C) (xs : List A) (ys : List B) → length xs ≡ length ys

@@ -1,11 +1,11 @@
 -- The looks of a hunt, one after another.
-use Rattle.std.proofs.Common.{◌≡◌, ◌≢◌, ℕ, ◌+◌, ◌%◌, List, [], ◌∷◌, ◌++◌, length, sym, ap, ◌∙◌, arith, All, length-append, append_assoc, subst, slice_index_or}
+use Rattle.std.proofs.Common.{◌≡◌, ◌≢◌, ℕ, ◌+◌, ◌%◌, ◌<◌, ◌≤◌, List, [], ◌∷◌, ◌++◌, length, refl, sym, ap, ◌∙◌, arith, All, append-nil, length-append, append_assoc, subst, slice_index_or}
 use Rattle.std.proofs.lemmas.List.Elements.{All-append}
 use Rattle.mbj_core.specs.declared.party.View.{View}
 use Rattle.mbj_core.specs.Parties.{view}
 use Rattle.mbj_front.specs.Views.{after_look}
 use Rattle.mbj_front.specs.declared.words.TheConstants.{READY}
-use Rattle.mbj_work.specs.Hunts.{looks_round, after_looks}
+use Rattle.mbj_work.specs.Hunts.{looks_round, after_looks, Finds, FindsNone}
 
 all_with : {A : Type 0} (P : A → Type 0) (xs : List A) (x : A) → All P xs → P x → All P (xs ++ x ∷ [])
 all_with P xs x all one = All-append P xs (x ∷ []) all (λ k d b. subst (λ (i : ℕ). P (slice_index_or (x ∷ []) i d)) (let e : 0 ≡ k = omega arith in e) one)
@@ -31,4 +31,30 @@ passes_on cells at i c word v w u p here is other = (
   all_with (λ word. word ≢ READY) p.0 word p.2 other,
   looks_on cells at i c word v w u p is ∙ ap (λ (l : List (ℕ × ℕ)). after_looks v l)
       (ap (λ (n : ℕ). looks_round cells at p.0 ++ (n, word) ∷ []) (here ∙ ap (λ (k : ℕ). (at + k) % cells) (sym p.1)) ∙ sym (round_with cells at p.0 word)),
+)
+
+-- no cell was looked at yet
+pub passes_none : {D : Type 0} (cells at : ℕ) (v : View D) → Passed cells at 0 v v
+passes_none cells at v = (
+  [],
+  refl,
+  λ k d below. absurd (omega (arith, below)),
+  ap (λ (l : List (ℕ × ℕ)). view v.number v.phase v.due v.handed v.hand l) (sym (append-nil v.looks)),
+)
+
+-- all cells were looked at
+pub finds_none : {D : Type 0} (cells all at i : ℕ) (v w : View D) → Passed cells at i v w → cells ≡ all → i ≤ cells → cells ≤ i → FindsNone all at v w
+finds_none cells all at i v w p is most least =
+    (p.0, (let e : length p.0 ≡ all = omega (arith, p.1, is) in e), p.2, p.3 ∙ ap (λ (n : ℕ). after_looks v (looks_round n at p.0)) is)
+
+-- the next cell is ready
+pub finds_one : {D : Type 0} (cells all at i c word : ℕ) (v w u : View D) → Passed cells at i v w → cells ≡ all → i < cells → c ≡ (at + i) % cells
+    → u ≡ after_look w c word → word ≡ READY → Finds all at c v u
+finds_one cells all at i c word v w u p is inside here looked ready = (
+  p.0,
+  (let e : length p.0 < all = omega (arith, p.1, is, inside) in e),
+  p.2,
+  here ∙ ap (λ (k : ℕ). (at + k) % cells) (sym p.1) ∙ ap (λ (n : ℕ). (at + length p.0) % n) is,
+  looks_on cells at i c word v w u p looked ∙ ap (λ (n : ℕ). after_looks v (looks_round n at p.0 ++ (c, word) ∷ [])) is
+      ∙ ap (λ (r : ℕ). after_looks v (looks_round all at p.0 ++ (c, r) ∷ [])) ready,
 )

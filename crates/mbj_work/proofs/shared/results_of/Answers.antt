@@ -1,5 +1,8 @@
-use Rattle.std.proofs.Common.{[], ◌∷◌, ◌++◌, map, sym, ap, ◌∙◌}
-use Rattle.std.proofs.lemmas.List.{map-append}
+use Rattle.std.proofs.Common.{[], ◌∷◌, ◌++◌, length, map, sym, ap, ◌∙◌, arith}
+use Rattle.std.proofs.lemmas.List.{length-map, map-append}
+use Rattle.std.proofs.lemmas.Iterator.Consumers.{YieldsList-turn, YieldsList-end}
+use Rattle.std.proofs.lemmas.Iterator.Adapters.{YieldsList-from_vec}
+use Rattle.mbj_work.proofs.Crews.{map_same}
 use Rattle.mbj_work.proofs.shared.results_of.Goals as goal
 
 pub loop-submitter-preserved : goal.loop-submitter-preserved
@@ -12,3 +15,13 @@ loop-submitter-preserved c =
           ∙ sym (map-append (λ s. s.results) c.loop-submitter.yielded (c.in-Some.submitter ∷ []));
       room = pushed.capacity ∙ was.room;
     }
+
+pub push_reserved-requires : goal.push_reserved-requires
+push_reserved-requires c = let was = c.loop-submitter.invariant in let made = c.into_iter-submitter-iterator in
+    let t = YieldsList-turn (YieldsList-from_vec {s = made.result} c.args.submitters.items made.ensures.into_iter_gives.0 (made.ensures.into_iter_gives.1 ∙ c.args.submitters.ok.0)) c.loop-submitter.yielded c.loop-submitter.submitter-iterator c.loop-submitter.yielded_by c.next.result c.next.new.self c.in-Some.submitter c.in-Some.is c.next.ensures.steps in
+    omega (arith, c.requires.room, was.room, c.args.submitters.ok.0, c.loop-submitter.given.ok.0, ap length was.given, length-map c.loop-submitter.yielded (λ s. s.results), t.0)
+
+pub returns : goal.returns
+returns c = let made = c.into_iter-submitter-iterator in
+    let t = YieldsList-end (YieldsList-from_vec {s = made.result} c.args.submitters.items made.ensures.into_iter_gives.0 (made.ensures.into_iter_gives.1 ∙ c.args.submitters.ok.0)) c.loop-submitter.yielded c.loop-submitter.submitter-iterator c.loop-submitter.yielded_by c.next.result c.next.new.self c.in-None.is c.next.ensures.steps in
+    c.loop-submitter.invariant.given ∙ ap (map (λ s. s.results)) (sym (map_same c.loop-submitter.yielded) ∙ t.0)
