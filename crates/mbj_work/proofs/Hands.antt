@@ -30,6 +30,10 @@ left_of hand more cell d left e is = ap tail_of (e ∙ ap results_in is)
 pub results_with : (hand : List (ℕ × Done)) (cell : ℕ) (d : Done) → results_in (hand ++ (cell, d) ∷ []) ≡ results_in hand ++ d ∷ []
 results_with hand cell d = map-append (λ x. x.1) hand ((cell, d) ∷ [])
 
+-- a manager owes as many results as the hand has cells
+pub owed_below : (hand : List (ℕ × Done)) (owed : List Done) (room : ℕ) → owed ≡ results_in hand → length hand < room → length owed < room
+owed_below hand owed room is short = omega (arith, short, ap length is ∙ length-map hand (λ (x : ℕ × Done). x.1))
+
 -- a push where there is room
 keeps_all : (room : ℕ) (xs : List ℕ) (c : ℕ) → length xs < room → keep_last room (xs ++ c ∷ []) ≡ xs ++ c ∷ []
 keeps_all room xs c short = ap (λ (k : ℕ). drop k (xs ++ c ∷ [])) (let e : length (xs ++ c ∷ []) - room ≡ 0 = omega (arith, length-append xs (c ∷ [])) in e)

@@ -6,6 +6,7 @@ use Rattle.mbj_work.specs.Inside.Runs.{HasJobs, HasResults}
 use Rattle.mbj_work.specs.declared.submitter.Submitter.{Submitter}
 use Rattle.mbj_work.proofs.crew.+calls.Goals as goal
 
+-- a length that was found to be none
 is_none : (n : ℕ) → (n == 0) ≡ true → n ≡ 0
 is_none n is = search rules
 
@@ -33,8 +34,7 @@ returns-then-is_empty g t c =
     all_have c.args.submitters.now c.in-Some.first.now _ c.in-Some.rest.now _ c.in-Some.ensures.cases.0 c.run.ensures (none_changed c.in-Some.rest.now none)
 
 pub returns : goal.returns
-returns g t c =
-    rw c.in-Some.ensures.cases.0 (search rules, search rules)
+returns g t c = rw c.in-Some.ensures.cases.0 (search rules, search rules)
 
 pub join_mut-requires-after_bounds : goal.join_mut-requires-after_bounds
 join_mut-requires-after_bounds g t c κs within =

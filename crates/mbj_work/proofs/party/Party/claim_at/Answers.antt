@@ -1,4 +1,5 @@
 use Rattle.std.proofs.Common.{[], ◌∷◌, ◌++◌, ℕ, Option, refl, sym, ap, subst, ◌∙◌}
+use Rattle.circular_buffer.specs.Buffer.{buffer}
 use Rattle.mbj_types.specs.declared.done.Done.{Done}
 use Rattle.mbj_types.specs.Result.{result_of}
 use Rattle.mbj_core.specs.declared.party.View.{View}
@@ -6,8 +7,9 @@ use Rattle.mbj_front.specs.Moves.{Led, claiming}
 use Rattle.mbj_front.specs.Seats.{view_of}
 use Rattle.mbj_front.specs.Views.{after_claim}
 use Rattle.mbj_work.specs.Claims.{FinishesFirst, FinishesGiven}
-use Rattle.mbj_work.specs.Inside.Holding.{results_in}
-use Rattle.mbj_work.proofs.Hands.{first_of, left_of, results_with}
+use Rattle.mbj_work.specs.Inside.Holding.{cells_in, results_in}
+use Rattle.mbj_work.specs.declared.party.TheConstants.{HAND_ROOM}
+use Rattle.mbj_work.proofs.Hands.{cells_with, first_of, left_of, owed_below, results_with}
 use Rattle.mbj_work.proofs.Keeping.{keeps_on, keeps_looking, keeps_claiming, keeps_finishing}
 use Rattle.mbj_work.proofs.party.Party.claim_at.Goals as goal
 
@@ -68,3 +70,26 @@ returns-in-Some-clause-part g c =
           (sym c.in-Some.is ∙ c.submit.ensures.result)
           (subst (λ (x : View Done). FinishesFirst front c.in-Some.done x w) c.in-Ok.ensures.view c.finish_first.ensures.part);
     }
+
+pub finish_first-requires-clause-cells : goal.finish_first-requires-clause-cells
+finish_first-requires-clause-cells g c = let v = view_of c.args.self.now.seat in
+    c.push_back.ensures.items
+    ∙ cells_with v.hand c.args.cell (result_of c.in-Ok.job) HAND_ROOM c.args.self.now.cells c.args.self.now.holds.cells_are c.requires.room
+    ∙ ap (λ w. buffer (cells_in w.hand) HAND_ROOM) (sym c.in-Ok.ensures.view)
+
+pub invariant_of-self-in_default : goal.invariant_of-self-in_default
+invariant_of-self-in_default g c = let v = view_of c.args.self.now.seat in let d = result_of c.in-Ok.job in record {
+  holds = record {
+    rest = ap (λ w. w.phase) c.in-Ok.ensures.view ∙ c.args.self.now.holds.rest;
+    cells_are = c.push_back.ensures.items
+        ∙ cells_with v.hand c.args.cell d HAND_ROOM c.args.self.now.cells c.args.self.now.holds.cells_are c.requires.room
+        ∙ ap (λ w. buffer (cells_in w.hand) HAND_ROOM) (sym c.in-Ok.ensures.view);
+    owed_is = c.in_default.ensures.order ∙ ap (λ l. l ++ d ∷ []) c.args.self.now.holds.owed_is
+        ∙ sym (results_with v.hand c.args.cell d) ∙ ap (λ w. results_in w.hand) (sym c.in-Ok.ensures.view);
+  };
+}
+
+pub submit-requires : goal.submit-requires
+submit-requires g c = record {
+  room = owed_below (view_of c.args.self.now.seat).hand c.args.self.now.manager.owed _ c.args.self.now.holds.owed_is c.requires.room;
+}
