@@ -1,7 +1,7 @@
 use Rattle.std.proofs.Common.{[], ◌∷◌, ◌++◌, length, length-append, map, ap, ◌∙◌, arith}
 use Rattle.std.proofs.lemmas.List.{map-append}
 use Rattle.std.specs.Vec.Iter.{into_iter_items}
-use Rattle.mbj_work.proofs.Lists.{moves-on}
+use Rattle.mbj_work.proofs.Lists.{all-done, moves-on}
 use Rattle.mbj_work.proofs.private.tasks_of.Goals as goal
 
 pub loop-jobs-preserved : goal.loop-jobs-preserved
@@ -16,3 +16,8 @@ loop-jobs-preserved c =
           ∙ ap (λ jobs. map (λ t. t.jobs.items) tasks ++ jobs ∷ []) c.in_ok-task.ensures);
       room = omega (arith, ap length pushed.items, length-append tasks (task ∷ []), ap length steps, pushed.capacity, was.room);
     }
+
+pub returns : goal.returns
+returns c =
+    all-done (λ v. v.items) (map (λ t. t.jobs.items) c.loop-jobs.tasks.items) (map (λ v. v.items) c.args.lists.items) (into_iter_items c.loop-jobs.jobs-iterator) _
+    c.loop-jobs.invariant.order c.in-None.ensures.steps.0 c.loop-jobs.jobs-iterator.rest.ok.0
