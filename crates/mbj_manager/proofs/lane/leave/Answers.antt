@@ -1,5 +1,5 @@
 -- The first whose rounds are done leaves, and its course joins the agenda.
-use Rattle.std.proofs.Common.{◌≡◌, ◌++◌, ◌∷◌, [], ◌∙◌, ℕ, List, length, map, ap, sym, subst, arith, rules, append_assoc, length-append}
+use Rattle.std.proofs.Common.{◌≡◌, ◌++◌, ◌∷◌, [], ◌∙◌, ℕ, List, length, map, refl, ap, sym, subst, arith, rules, append_assoc, length-append}
 use Rattle.std.proofs.lemmas.List.{append-nil, map-append}
 use Rattle.mbj_stage.specs.Going.{Going}
 use Rattle.mbj_stage.specs.Handing.{taken_back}
@@ -10,6 +10,25 @@ use Rattle.mbj_manager.specs.Leads.{IsOut}
 use Rattle.mbj_manager.specs.Inside.Leaving.{At, AreOut, finishers, numbers, returned}
 use Rattle.mbj_manager.proofs.Finishing.{none-left, out-changed, out-ended, took}
 use Rattle.mbj_manager.proofs.lane.leave.Goals as goal
+
+pub leaving-init : goal.leaving-init
+leaving-init g c = record {
+  ring = record { first = refl; opened = refl; courses = c.requires.ring };
+  ready = c.requires.ready;
+  room = c.requires.room;
+  capacity = refl;
+  stay = refl;
+  back = refl;
+  agenda = refl;
+  rounds = refl;
+  blocks = refl;
+}
+
+pub take_back-requires-clause-ring : goal.take_back-requires-clause-ring
+take_back-requires-clause-ring g c = c.leaving.invariant.ring.courses
+
+pub take_back-requires-clause-place : goal.take_back-requires-clause-place
+take_back-requires-clause-place g c = c.in-Some.ensures.place
 
 pub take_back-requires-clause-out : goal.take_back-requires-clause-out
 take_back-requires-clause-out g c =
@@ -25,6 +44,13 @@ take_back-requires-clause-done g c =
     let f = number_in c.args.ring.now in
     (took g.K.Kernel.round g.K.Kernel.rest_of g.K.Feed.brings g.K.Feed.kind (courses c.leaving.ring) (paired f c.leaving.queue.places.items c.leaving.queue.lanes.entries.items)
     (f c.in-Some.place, c.in-Some.entry) (paired f c.take.new.self.places.items c.take.new.self.lanes.entries.items) (c.in-Some.ensures.waits f) c.leaving.invariant.ready).ended
+
+pub push-requires : goal.push-requires
+push-requires g c =
+    let f = number_in c.args.ring.now in
+    let t = took g.K.Kernel.round g.K.Kernel.rest_of g.K.Feed.brings g.K.Feed.kind (courses c.leaving.ring) (paired f c.leaving.queue.places.items c.leaving.queue.lanes.entries.items)
+    (f c.in-Some.place, c.in-Some.entry) (paired f c.take.new.self.places.items c.take.new.self.lanes.entries.items) (c.in-Some.ensures.waits f) c.leaving.invariant.ready in
+    record { place = c.in-Some.ensures.place; room = omega (arith, t.shorter, c.leaving.invariant.room) }
 
 pub leaving-smaller : goal.leaving-smaller
 leaving-smaller g c =
@@ -61,6 +87,9 @@ leaving-preserved g c =
       blocks = search rules;
     }
 
+pub returns-in-None-clause-ring : goal.returns-in-None-clause-ring
+returns-in-None-clause-ring g c = c.leaving.invariant.ring
+
 pub returns-in-None-clause-waits : goal.returns-in-None-clause-waits
 returns-in-None-clause-waits g c =
     let f = number_in c.args.ring.now in
@@ -80,3 +109,9 @@ returns-in-None-clause-agenda g c =
     let ps = paired f c.leaving.queue.places.items c.leaving.queue.lanes.entries.items in
     let none = (none-left g.K.Kernel.rest_of ps (c.in-None.ensures.waits f).0).0 in
     sym (ap (λ x. map f c.leaving.agenda.places.items ++ numbers x) none ∙ append-nil (map f c.leaving.agenda.places.items)) ∙ c.leaving.invariant.agenda
+
+pub returns-in-None-clause-room : goal.returns-in-None-clause-room
+returns-in-None-clause-room g c = c.leaving.invariant.capacity
+
+pub returns-in-None-clause-rounds : goal.returns-in-None-clause-rounds
+returns-in-None-clause-rounds g c = c.take.ensures.rounds ∙ c.leaving.invariant.rounds

@@ -26,6 +26,18 @@ enter-requires-clause-may c =
     (subst (λ (v : Lines). MayEnter 16 kind.Cbc128 (f c.args.place) (desk_of kind.Cbc128 f cs ag v) (vec_capacity c.args.agenda.now.places)) (sym c.self.view_is)
     (subst (λ (k : Kind). MayEnter (lanes_of k) k (f c.args.place) (desk_of k f cs ag c.args.self.now) (vec_capacity c.args.agenda.now.places)) c.in-Cbc128.is c.requires.may))
 
+pub enter-requires-clause-ring : goal.enter-requires-clause-ring
+enter-requires-clause-ring c = c.requires.ring
+
+pub enter-requires-clause-place : goal.enter-requires-clause-place
+enter-requires-clause-place c = c.requires.place
+
+pub returns-in-Cbc128-clause-ring : goal.returns-in-Cbc128-clause-ring
+returns-in-Cbc128-clause-ring c = c.enter.ensures.ring
+
+pub returns-in-Cbc128-clause-room : goal.returns-in-Cbc128-clause-room
+returns-in-Cbc128-clause-room c = c.enter.ensures.room
+
 pub returns-in-Cbc128-clause-entered : goal.returns-in-Cbc128-clause-entered
 returns-in-Cbc128-clause-entered c =
     let f = number_in c.args.ring.now in
@@ -57,6 +69,18 @@ enter-requires-in-Cbc192-clause-may c =
     subst (λ (d : Desk). MayEnter 16 kind.Cbc192 (f c.args.place) d (vec_capacity c.args.agenda.now.places)) (numbered-desk f cbc_round cbc_rest cbc_end c.self.inside.cbc192.places.items c.self.inside.cbc192.lanes.entries.items cs (map f ag) c.self.inside.cbc192.rounds c.self.inside.cbc192.blocks c.self.inside.flush_runs)
     (subst (λ (v : Lines). MayEnter 16 kind.Cbc192 (f c.args.place) (desk_of kind.Cbc192 f cs ag v) (vec_capacity c.args.agenda.now.places)) (sym c.self.view_is)
     (subst (λ (k : Kind). MayEnter (lanes_of k) k (f c.args.place) (desk_of k f cs ag c.args.self.now) (vec_capacity c.args.agenda.now.places)) c.in-Cbc192.is c.requires.may))
+
+pub enter-requires-in-Cbc192-clause-ring : goal.enter-requires-in-Cbc192-clause-ring
+enter-requires-in-Cbc192-clause-ring c = c.requires.ring
+
+pub enter-requires-in-Cbc192-clause-place : goal.enter-requires-in-Cbc192-clause-place
+enter-requires-in-Cbc192-clause-place c = c.requires.place
+
+pub returns-in-Cbc192-clause-ring : goal.returns-in-Cbc192-clause-ring
+returns-in-Cbc192-clause-ring c = c.enter-in-Cbc192.ensures.ring
+
+pub returns-in-Cbc192-clause-room : goal.returns-in-Cbc192-clause-room
+returns-in-Cbc192-clause-room c = c.enter-in-Cbc192.ensures.room
 
 pub returns-in-Cbc192-clause-entered : goal.returns-in-Cbc192-clause-entered
 returns-in-Cbc192-clause-entered c =
@@ -90,6 +114,18 @@ enter-requires-in-Cbc256-clause-may c =
     (subst (λ (v : Lines). MayEnter 16 kind.Cbc256 (f c.args.place) (desk_of kind.Cbc256 f cs ag v) (vec_capacity c.args.agenda.now.places)) (sym c.self.view_is)
     (subst (λ (k : Kind). MayEnter (lanes_of k) k (f c.args.place) (desk_of k f cs ag c.args.self.now) (vec_capacity c.args.agenda.now.places)) c.in-Cbc256.is c.requires.may))
 
+pub enter-requires-in-Cbc256-clause-ring : goal.enter-requires-in-Cbc256-clause-ring
+enter-requires-in-Cbc256-clause-ring c = c.requires.ring
+
+pub enter-requires-in-Cbc256-clause-place : goal.enter-requires-in-Cbc256-clause-place
+enter-requires-in-Cbc256-clause-place c = c.requires.place
+
+pub returns-in-Cbc256-clause-ring : goal.returns-in-Cbc256-clause-ring
+returns-in-Cbc256-clause-ring c = c.enter-in-Cbc256.ensures.ring
+
+pub returns-in-Cbc256-clause-room : goal.returns-in-Cbc256-clause-room
+returns-in-Cbc256-clause-room c = c.enter-in-Cbc256.ensures.room
+
 pub returns-in-Cbc256-clause-entered : goal.returns-in-Cbc256-clause-entered
 returns-in-Cbc256-clause-entered c =
     let f = number_in c.args.ring.now in
@@ -121,6 +157,18 @@ enter-requires-in-Cmac128-clause-may c =
     subst (λ (d : Desk). MayEnter 16 kind.Cmac128 (f c.args.place) d (vec_capacity c.args.agenda.now.places)) (numbered-desk f cmac_round cmac_rest cmac_end c.self.inside.cmac128.places.items c.self.inside.cmac128.lanes.entries.items cs (map f ag) c.self.inside.cmac128.rounds c.self.inside.cmac128.blocks c.self.inside.flush_runs)
     (subst (λ (v : Lines). MayEnter 16 kind.Cmac128 (f c.args.place) (desk_of kind.Cmac128 f cs ag v) (vec_capacity c.args.agenda.now.places)) (sym c.self.view_is)
     (subst (λ (k : Kind). MayEnter (lanes_of k) k (f c.args.place) (desk_of k f cs ag c.args.self.now) (vec_capacity c.args.agenda.now.places)) c.in-Cmac128.is c.requires.may))
+
+pub enter-requires-in-Cmac128-clause-ring : goal.enter-requires-in-Cmac128-clause-ring
+enter-requires-in-Cmac128-clause-ring c = c.requires.ring
+
+pub enter-requires-in-Cmac128-clause-place : goal.enter-requires-in-Cmac128-clause-place
+enter-requires-in-Cmac128-clause-place c = c.requires.place
+
+pub returns-in-Cmac128-clause-ring : goal.returns-in-Cmac128-clause-ring
+returns-in-Cmac128-clause-ring c = c.enter-in-Cmac128.ensures.ring
+
+pub returns-in-Cmac128-clause-room : goal.returns-in-Cmac128-clause-room
+returns-in-Cmac128-clause-room c = c.enter-in-Cmac128.ensures.room
 
 pub returns-in-Cmac128-clause-entered : goal.returns-in-Cmac128-clause-entered
 returns-in-Cmac128-clause-entered c =
@@ -154,6 +202,18 @@ enter-requires-in-Cmac256-clause-may c =
     (subst (λ (v : Lines). MayEnter 16 kind.Cmac256 (f c.args.place) (desk_of kind.Cmac256 f cs ag v) (vec_capacity c.args.agenda.now.places)) (sym c.self.view_is)
     (subst (λ (k : Kind). MayEnter (lanes_of k) k (f c.args.place) (desk_of k f cs ag c.args.self.now) (vec_capacity c.args.agenda.now.places)) c.in-Cmac256.is c.requires.may))
 
+pub enter-requires-in-Cmac256-clause-ring : goal.enter-requires-in-Cmac256-clause-ring
+enter-requires-in-Cmac256-clause-ring c = c.requires.ring
+
+pub enter-requires-in-Cmac256-clause-place : goal.enter-requires-in-Cmac256-clause-place
+enter-requires-in-Cmac256-clause-place c = c.requires.place
+
+pub returns-in-Cmac256-clause-ring : goal.returns-in-Cmac256-clause-ring
+returns-in-Cmac256-clause-ring c = c.enter-in-Cmac256.ensures.ring
+
+pub returns-in-Cmac256-clause-room : goal.returns-in-Cmac256-clause-room
+returns-in-Cmac256-clause-room c = c.enter-in-Cmac256.ensures.room
+
 pub returns-in-Cmac256-clause-entered : goal.returns-in-Cmac256-clause-entered
 returns-in-Cmac256-clause-entered c =
     let f = number_in c.args.ring.now in
@@ -185,6 +245,18 @@ enter-requires-in-HmacSha1-clause-may c =
     subst (λ (d : Desk). MayEnter 8 kind.HmacSha1 (f c.args.place) d (vec_capacity c.args.agenda.now.places)) (numbered-desk f (hmac_round sha1_chaining) hmac_rest (hmac_end sha1_chaining) c.self.inside.hmac_sha1.places.items c.self.inside.hmac_sha1.lanes.entries.items cs (map f ag) c.self.inside.hmac_sha1.rounds c.self.inside.hmac_sha1.blocks c.self.inside.flush_runs)
     (subst (λ (v : Lines). MayEnter 8 kind.HmacSha1 (f c.args.place) (desk_of kind.HmacSha1 f cs ag v) (vec_capacity c.args.agenda.now.places)) (sym c.self.view_is)
     (subst (λ (k : Kind). MayEnter (lanes_of k) k (f c.args.place) (desk_of k f cs ag c.args.self.now) (vec_capacity c.args.agenda.now.places)) c.in-HmacSha1.is c.requires.may))
+
+pub enter-requires-in-HmacSha1-clause-ring : goal.enter-requires-in-HmacSha1-clause-ring
+enter-requires-in-HmacSha1-clause-ring c = c.requires.ring
+
+pub enter-requires-in-HmacSha1-clause-place : goal.enter-requires-in-HmacSha1-clause-place
+enter-requires-in-HmacSha1-clause-place c = c.requires.place
+
+pub returns-in-HmacSha1-clause-ring : goal.returns-in-HmacSha1-clause-ring
+returns-in-HmacSha1-clause-ring c = c.enter-in-HmacSha1.ensures.ring
+
+pub returns-in-HmacSha1-clause-room : goal.returns-in-HmacSha1-clause-room
+returns-in-HmacSha1-clause-room c = c.enter-in-HmacSha1.ensures.room
 
 pub returns-in-HmacSha1-clause-entered : goal.returns-in-HmacSha1-clause-entered
 returns-in-HmacSha1-clause-entered c =
@@ -218,6 +290,18 @@ enter-requires-in-HmacSha256-clause-may c =
     (subst (λ (v : Lines). MayEnter 8 kind.HmacSha256 (f c.args.place) (desk_of kind.HmacSha256 f cs ag v) (vec_capacity c.args.agenda.now.places)) (sym c.self.view_is)
     (subst (λ (k : Kind). MayEnter (lanes_of k) k (f c.args.place) (desk_of k f cs ag c.args.self.now) (vec_capacity c.args.agenda.now.places)) c.in-HmacSha256.is c.requires.may))
 
+pub enter-requires-in-HmacSha256-clause-ring : goal.enter-requires-in-HmacSha256-clause-ring
+enter-requires-in-HmacSha256-clause-ring c = c.requires.ring
+
+pub enter-requires-in-HmacSha256-clause-place : goal.enter-requires-in-HmacSha256-clause-place
+enter-requires-in-HmacSha256-clause-place c = c.requires.place
+
+pub returns-in-HmacSha256-clause-ring : goal.returns-in-HmacSha256-clause-ring
+returns-in-HmacSha256-clause-ring c = c.enter-in-HmacSha256.ensures.ring
+
+pub returns-in-HmacSha256-clause-room : goal.returns-in-HmacSha256-clause-room
+returns-in-HmacSha256-clause-room c = c.enter-in-HmacSha256.ensures.room
+
 pub returns-in-HmacSha256-clause-entered : goal.returns-in-HmacSha256-clause-entered
 returns-in-HmacSha256-clause-entered c =
     let f = number_in c.args.ring.now in
@@ -249,6 +333,18 @@ enter-requires-in-HmacSha512-clause-may c =
     subst (λ (d : Desk). MayEnter 4 kind.HmacSha512 (f c.args.place) d (vec_capacity c.args.agenda.now.places)) (numbered-desk f (hmac_round sha512_chaining) hmac_rest (hmac_end sha512_chaining) c.self.inside.hmac_sha512.places.items c.self.inside.hmac_sha512.lanes.entries.items cs (map f ag) c.self.inside.hmac_sha512.rounds c.self.inside.hmac_sha512.blocks c.self.inside.flush_runs)
     (subst (λ (v : Lines). MayEnter 4 kind.HmacSha512 (f c.args.place) (desk_of kind.HmacSha512 f cs ag v) (vec_capacity c.args.agenda.now.places)) (sym c.self.view_is)
     (subst (λ (k : Kind). MayEnter (lanes_of k) k (f c.args.place) (desk_of k f cs ag c.args.self.now) (vec_capacity c.args.agenda.now.places)) c.in-HmacSha512.is c.requires.may))
+
+pub enter-requires-in-HmacSha512-clause-ring : goal.enter-requires-in-HmacSha512-clause-ring
+enter-requires-in-HmacSha512-clause-ring c = c.requires.ring
+
+pub enter-requires-in-HmacSha512-clause-place : goal.enter-requires-in-HmacSha512-clause-place
+enter-requires-in-HmacSha512-clause-place c = c.requires.place
+
+pub returns-in-HmacSha512-clause-ring : goal.returns-in-HmacSha512-clause-ring
+returns-in-HmacSha512-clause-ring c = c.enter-in-HmacSha512.ensures.ring
+
+pub returns-in-HmacSha512-clause-room : goal.returns-in-HmacSha512-clause-room
+returns-in-HmacSha512-clause-room c = c.enter-in-HmacSha512.ensures.room
 
 pub returns-in-HmacSha512-clause-entered : goal.returns-in-HmacSha512-clause-entered
 returns-in-HmacSha512-clause-entered c =

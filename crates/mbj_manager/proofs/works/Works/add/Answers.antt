@@ -1,12 +1,14 @@
 -- The job that was open goes last, and stands in the agenda.
-use Rattle.std.proofs.Common.{◌≡◌, ◌<◌, ◌∙◌, ℕ, List, [], length, vec_capacity, ap, sym, subst, arith}
+use Rattle.std.proofs.Common.{◌≡◌, ◌<◌, ◌∙◌, ℕ, List, [], ◌∷◌, length, length-append, Option, IsSome, option_map, false, true, map, vec_capacity, refl, ap, sym, subst, arith}
 use Rattle.std.specs.Option.{option_copied_mut}
+use Rattle.std.proofs.lemmas.List.{length-map}
 use Rattle.mbj_ring.specs.declared.ring.TheConstants.{CELLS}
 use Rattle.mbj_ring.specs.Ring.{RingState}
 use Rattle.mbj_manager.specs.State.{ManagerState}
 use Rattle.mbj_manager.specs.declared.cell.Cell.{Cell}
+use Rattle.mbj_manager.specs.Inside.Courses.{job_in, number_in}
 use Rattle.mbj_manager.specs.Inside.Added.{added}
-use Rattle.mbj_manager.specs.Inside.Held.{held}
+use Rattle.mbj_manager.specs.Inside.Held.{IsOpenAt, held}
 use Rattle.mbj_manager.proofs.Adding.{IsAdded, adds, one_more}
 use Rattle.mbj_manager.proofs.works.Works.add.Goals as goal
 
@@ -23,6 +25,30 @@ is-added c =
     (subst (λ (ag : List ℕ). IsAdded r (one_more r c.begin.new.self) w.agenda.places.items ag w.lists capacity) (sym c.push.ensures.places)
     (adds r c.in-Some.cell.now c.begin.new.self c.commit-place.result w.agenda.places.items w.lists capacity c.self.invariant idle
     (sym c.open_mut.ensures.value ∙ ap option_copied_mut c.in-Some.is) c.begin.ensures room c.commit-place.ensures.place))
+
+pub begin-requires : goal.begin-requires
+begin-requires c = subst IsOpenAt (sym c.open_mut.follows ∙ ap option_copied_mut c.in-Some.is) c.self.invariant.is_open
+
+pub unreachable-requires : goal.unreachable-requires
+unreachable-requires c =
+    let none : false ≡ true = subst (λ (o : Option Cell). IsSome (option_map job_in o)) (sym c.open_mut.follows ∙ ap option_copied_mut c.in-None.is)
+    (subst (λ (h : ManagerState). IsSome h.opened) (sym c.self.view_is) c.requires.some) in
+    cc
+
+pub prove-unreachable-requires : goal.prove-unreachable-requires
+prove-unreachable-requires c = omega (arith, length-append c.self.inside.ring.values (c.begin.new.self ∷ []), c.len.ensures.len, c.len.ensures.within)
+
+pub commit-place-requires : goal.commit-place-requires
+commit-place-requires c = record { is_open = refl }
+
+pub push-requires : goal.push-requires
+push-requires c =
+    let w = c.self.inside in
+    let idle : map (number_in w.ring) w.agenda.places.items ≡ [] = subst (λ (h : ManagerState). h.machine.agenda ≡ []) (sym c.self.view_is) c.requires.idle in
+    record {
+      place = omega (arith, c.commit-place.ensures.place);
+      room = omega (arith, length-map w.agenda.places.items (number_in w.ring), ap length idle, c.self.invariant.room);
+    }
 
 pub invariant_of-self : goal.invariant_of-self
 invariant_of-self c = rw c.push.ensures.room (is-added c).kept
