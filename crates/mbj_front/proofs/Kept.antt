@@ -1,16 +1,18 @@
 -- What a seat keeps after a step.
-use Rattle.std.proofs.Common.{◌≡◌, ◌≢◌, ℕ, ◌+◌, ◌%◌, ◌<◌, ◌≤◌, List, [], ◌∷◌, ◌++◌, length, sym, refl, ap, ◌∙◌, subst, ⊎_elim, add-one, length-append, arith}
+use Rattle.std.proofs.Common.{◌≡◌, ◌≢◌, ℕ, ◌+◌, ◌-◌, ◌%◌, ◌<◌, ◌≤◌, List, [], ◌∷◌, ◌++◌, length, sym, refl, ap, ◌∙◌, subst, ⊎_elim, add-one, length-append, arith}
 use Rattle.std.specs.Prelude.{Some, slice_get}
 use Rattle.atomic_table.specs.Table.{rest}
 use Rattle.mbj_core.specs.declared.cells.TheConstants.{SUBMITTER_CELLS}
 use Rattle.mbj_core.specs.declared.party.View.{View}
-use Rattle.mbj_core.specs.declared.party.Phase.TheVariants.{Rest, Opening}
+use Rattle.mbj_core.specs.declared.party.Phase.{Phase}
+use Rattle.mbj_core.specs.declared.party.Phase.TheVariants.{Rest, Opening, Emptying}
+use Rattle.mbj_core.specs.Cells.{cell_of}
 use Rattle.mbj_core.proofs.Entries.{at_end}
 use Rattle.mbj_core.proofs.Fitting.{rest_open}
 use Rattle.mbj_front.specs.declared.slot.Slot.{Slot}
 use Rattle.mbj_front.specs.declared.slot.Slot.TheVariants.{Blank}
 use Rattle.mbj_front.specs.Rule.{place}
-use Rattle.mbj_front.specs.Views.{after_claim, after_finish, after_publish}
+use Rattle.mbj_front.specs.Views.{after_look, after_claim, after_finish, after_publish, after_take, at_phase}
 use Rattle.mbj_front.specs.Inside.Plays.{Mine}
 use Rattle.mbj_front.specs.Inside.Keeps.{of_hand, slots_at, slots_of, Keeps}
 
@@ -63,4 +65,35 @@ module _ {J D : Type 0} where
   kept_published words words' party first out me n d k wide is r = let v : View D = me.0.view in let w : View D = after_publish v d in
       let own = k.spare (λ e. rest_open (sym e ∙ r)) in let room = own.0 in let o = k.out_is in let more = length-append v.due (d ∷ []) in
       kept words words' party first first out (out + 1) me n w k wide (ap (λ (m : Mine J D). m.0) is) refl k.first_is (omega arith) (omega arith) (λ far. absurd (omega (arith, own.1))) (λ e. absurd (e refl))
+      (ap (λ (m : Mine J D). m.1) is ∙ ap rest (k.slots ∙ ap (λ st. slots_at st v) r)) k.near
+
+  -- a look changes no slot
+  look_slots : (phase : Phase) (v : View D) (c word : ℕ) → slots_at {J = J} phase v ≡ slots_at phase (after_look v c word)
+  look_slots Rest v c word = refl
+  look_slots Opening v c word = refl
+  look_slots Emptying v c word = refl
+
+  pub kept_looked : (words words' party first out c word : ℕ) (me n : Mine J D) → Keeps words me party first out → words' ≡ words → n ≡ (place me.0.submitters me.0.workers (after_look me.0.view c word), me.1)
+      → Keeps words' n party first out
+  kept_looked words words' party first out c word me n k wide is = let v : View D = me.0.view in
+      kept words words' party first first out out me n (after_look v c word) k wide (ap (λ (m : Mine J D). m.0) is) refl k.first_is k.out_is k.few k.posters k.spare (ap (λ (m : Mine J D). m.1) is ∙ k.slots ∙ look_slots v.phase v c word) k.near
+
+  pub kept_opened : (words words' party first out c : ℕ) (me n : Mine J D) → Keeps words me party first out → words' ≡ words → n ≡ (place me.0.submitters me.0.workers (at_phase me.0.view Opening), (c, Blank) ∷ me.1)
+      → me.0.view.phase ≡ Rest → c ≡ cell_of me.0.view.number (length me.0.view.due) → out < SUBMITTER_CELLS → party < me.0.submitters → Keeps words' n party first out
+  kept_opened words words' party first out c me n k wide is r here room own = let v : View D = me.0.view in
+      kept words words' party first first out out me n (at_phase v Opening) k wide (ap (λ (m : Mine J D). m.0) is) refl k.first_is k.out_is k.few k.posters (λ _. (room, own))
+      (ap (λ (m : Mine J D). m.1) is ∙ (λ i. (here i, Blank) ∷ at_rest v me.1 k.slots r i)) k.near
+
+  pub kept_taken : (words words' party first out c : ℕ) (me n : Mine J D) → Keeps words me party first out → words' ≡ words → n ≡ (place me.0.submitters me.0.workers (after_take me.0.view c), (c, Blank) ∷ me.1)
+      → me.0.view.phase ≡ Rest → c ≡ cell_of me.0.view.number me.0.view.handed → me.0.view.handed < length me.0.view.due → party < me.0.submitters → Keeps words' n party ((first + 1) % SUBMITTER_CELLS) (out - 1)
+  kept_taken words words' party first out c me n k wide is r here some_out own = let v : View D = me.0.view in
+      let o = k.out_is in let f = k.first_is in let few = k.few in
+      let round : c ≡ cell_of v.number (v.handed + 1 + (SUBMITTER_CELLS - 1)) = omega arith in
+      kept words words' party first ((first + 1) % SUBMITTER_CELLS) out (out - 1) me n (after_take v c) k wide (ap (λ (m : Mine J D). m.0) is) refl (omega arith) (omega arith) (omega arith) (λ far. absurd (omega arith)) (λ _. (omega arith, own))
+      (ap (λ (m : Mine J D). m.1) is ∙ (λ i. (round i, Blank) ∷ at_rest v me.1 k.slots r i)) k.near
+
+  pub kept_freed : (words words' party first out : ℕ) (me n : Mine J D) → Keeps words me party first out → words' ≡ words → n ≡ (place me.0.submitters me.0.workers (at_phase me.0.view Rest), rest me.1)
+      → me.0.view.phase ≡ Emptying → Keeps words' n party first out
+  kept_freed words words' party first out me n k wide is r = let v : View D = me.0.view in
+      kept words words' party first first out out me n (at_phase v Rest) k wide (ap (λ (m : Mine J D). m.0) is) refl k.first_is k.out_is k.few k.posters (λ e. absurd (e refl))
       (ap (λ (m : Mine J D). m.1) is ∙ ap rest (k.slots ∙ ap (λ st. slots_at st v) r)) k.near

@@ -1,4 +1,5 @@
 pub mod Shown
+pub mod Slots
 pub mod MoveLaws
 pub mod Allowed
 pub mod Cutting

@@ -1,10 +1,13 @@
 use Rattle.std.proofs.Common.{sym, subst, ap, ◌∙◌, ◌*◌, ◌+◌, ◌∷◌, ℕ, arith}
 use Rattle.std.specs.Prelude.{slice_get}
 use Rattle.mbj_core.specs.declared.party.View.{View}
+use Rattle.mbj_front.specs.declared.slot.Slot.TheVariants.{Blank}
 use Rattle.mbj_front.specs.Views.{after_finish}
 use Rattle.mbj_front.specs.Moves.{finishing, Led}
+use Rattle.mbj_front.specs.Inside.Keeps.{of_hand}
 use Rattle.mbj_front.proofs.Allowed.{finishes_first}
-use Rattle.mbj_front.proofs.Kept.{kept_finished}
+use Rattle.mbj_front.proofs.Kept.{at_rest, kept_finished}
+use Rattle.mbj_front.proofs.Slots.{same_slot, stands_first}
 use Rattle.mbj_front.proofs.Told.{told_finished}
 use Rattle.mbj_front.proofs.front.SharedFront.finish.Goals as goal
 
@@ -41,3 +44,11 @@ pub returns-clause-step : goal.returns-clause-step
 returns-clause-step g c = let me = c.args.seat.now.inner.me.0 in let first = c.requires.first in
     let did = told_finished g.R.Results.owed c.args.cell c.args.seat.now.inner.me _ _ c.args.done first.0 c.exchange-old.ensures.3 first.1 c.compare_exchange.ensures.2 in
     subst (λ (w : View g.row.D.Denot). Led g.R.Results.owed me.submitters me.workers me.view (finishing c.args.cell c.args.done) w) (sym (ap (λ m. m.0.view) did.0)) did.1
+
+pub exchange-old-requires : goal.exchange-old-requires
+exchange-old-requires g c = let me = c.args.seat.now.inner.me in
+    (c.requires.front.0, (Blank, stands_first c.args.cell Blank me.1 _ (at_rest me.0.view me.1 c.args.seat.now.keeps.slots c.requires.rest ∙ ap of_hand c.requires.first.1)))
+
+pub unreachable-requires : goal.unreachable-requires
+unreachable-requires g c = let me = c.args.seat.now.inner.me in
+    c.in_default.not-Blank (same_slot _ _ _ _ me.1 _ _ c.exchange-old.ensures.2 (at_rest me.0.view me.1 c.args.seat.now.keeps.slots c.requires.rest ∙ ap of_hand c.requires.first.1))

@@ -1,10 +1,13 @@
-use Rattle.std.proofs.Common.{sym, subst, ap, ◌∙◌, ◌≡◌, ◌<◌, ◌*◌, ◌+◌, ℕ, length, arith}
+use Rattle.std.proofs.Common.{sym, subst, ap, ◌∙◌, ◌≡◌, ◌<◌, ◌*◌, ◌+◌, ◌∷◌, ℕ, length, arith}
 use Rattle.mbj_core.specs.declared.party.View.{View}
 use Rattle.mbj_core.specs.Cells.{cell_of}
 use Rattle.mbj_core.proofs.Fitting.{rest_open}
+use Rattle.mbj_front.specs.declared.slot.Slot.TheVariants.{Blank}
 use Rattle.mbj_front.specs.Moves.{publishing, Led}
+use Rattle.mbj_front.specs.Inside.Keeps.{of_hand, slots_at}
 use Rattle.mbj_front.proofs.Allowed.{publishes_job}
 use Rattle.mbj_front.proofs.Kept.{kept_published}
+use Rattle.mbj_front.proofs.Slots.{same_slot, stands_first}
 use Rattle.mbj_front.proofs.Told.{told_published}
 use Rattle.mbj_front.proofs.front.SharedFront.publish.Goals as goal
 
@@ -37,3 +40,16 @@ pub returns-clause-step : goal.returns-clause-step
 returns-clause-step g c = let me = c.args.seat.now.inner.me.0 in
     let did = told_published g.R.Results.owed _ c.args.seat.now.inner.me _ _ c.args.job c.exchange-old.ensures.3 c.compare_exchange.ensures.2 in
     subst (λ (w : View g.row.D.Denot). Led g.R.Results.owed me.submitters me.workers me.view (publishing c.args.job) w) (sym (ap (λ m. m.0.view) did.0)) did.1
+
+pub exchange-old-requires : goal.exchange-old-requires
+exchange-old-requires g c = let seat = c.args.seat.now in let k = seat.keeps in let v = seat.inner.me.0.view in let at : ℕ = c.cell_at-at.result in
+    let here : at ≡ cell_of v.number (length v.due) = omega (arith, c.cell_at-at.ensures, k.party_is, k.first_is, k.out_is) in
+    (c.requires.front.0, (Blank, stands_first at Blank seat.inner.me.1 _ (k.slots ∙ ap (λ st. slots_at st v) c.requires.opening ∙ (λ i. (sym here i, Blank) ∷ of_hand v.hand))))
+
+pub unreachable-requires : goal.unreachable-requires
+unreachable-requires g c = let seat = c.args.seat.now in let v = seat.inner.me.0.view in
+    c.in_default.not-Blank (same_slot _ _ _ _ seat.inner.me.1 _ _ c.exchange-old.ensures.2 (seat.keeps.slots ∙ ap (λ st. slots_at st v) c.requires.opening))
+
+pub returns-clause-view : goal.returns-clause-view
+returns-clause-view g c =
+    ap (λ m. m.0.view) (told_published g.R.Results.owed _ c.args.seat.now.inner.me _ _ c.args.job c.exchange-old.ensures.3 c.compare_exchange.ensures.2).0
