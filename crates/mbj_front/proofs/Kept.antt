@@ -1,12 +1,13 @@
 -- What a seat keeps after a step.
-use Rattle.std.proofs.Common.{◌≡◌, ◌≢◌, ℕ, ◌+◌, ◌-◌, ◌%◌, ◌<◌, ◌≤◌, List, [], ◌∷◌, ◌++◌, length, sym, refl, ap, ◌∙◌, subst, ⊎_elim, add-one, length-append, arith}
+use Rattle.std.proofs.Common.{◌≡◌, ◌≢◌, ℕ, zero, suc, ◌+◌, ◌-◌, ◌*◌, ◌%◌, ◌<◌, ◌≤◌, List, [], ◌∷◌, ◌++◌, length, sym, refl, ap, ◌∙◌, subst, ⊎_elim, add-one, length-append, arith}
 use Rattle.std.specs.Prelude.{Some, slice_get}
 use Rattle.atomic_table.specs.Table.{rest}
-use Rattle.mbj_core.specs.declared.cells.TheConstants.{SUBMITTER_CELLS}
+use Rattle.mbj_core.specs.declared.cells.TheConstants.{MAX_SUBMITTERS, MAX_WORKERS, SUBMITTER_CELLS}
 use Rattle.mbj_core.specs.declared.party.View.{View}
 use Rattle.mbj_core.specs.declared.party.Phase.{Phase}
 use Rattle.mbj_core.specs.declared.party.Phase.TheVariants.{Rest, Opening, Emptying}
 use Rattle.mbj_core.specs.Cells.{cell_of}
+use Rattle.mbj_core.specs.Parties.{new_party}
 use Rattle.mbj_core.proofs.Entries.{at_end}
 use Rattle.mbj_core.proofs.Fitting.{rest_open}
 use Rattle.mbj_front.specs.declared.slot.Slot.{Slot}
@@ -15,6 +16,11 @@ use Rattle.mbj_front.specs.Rule.{place}
 use Rattle.mbj_front.specs.Views.{after_look, after_claim, after_finish, after_publish, after_take, at_phase}
 use Rattle.mbj_front.specs.Inside.Plays.{Mine}
 use Rattle.mbj_front.specs.Inside.Keeps.{of_hand, slots_at, slots_of, Keeps}
+
+-- nothing stands in an empty list
+pub nothing_at : {X : Type 0} (k : ℕ) (x : X) → slice_get [] k ≡ Some x → ⊥
+nothing_at zero x e = cc
+nothing_at (suc k) x e = cc
 
 module _ {J D : Type 0} where
   -- the party's part is w now
@@ -97,3 +103,22 @@ module _ {J D : Type 0} where
   kept_freed words words' party first out me n k wide is r = let v : View D = me.0.view in
       kept words words' party first first out out me n (at_phase v Rest) k wide (ap (λ (m : Mine J D). m.0) is) refl k.first_is k.out_is k.few k.posters (λ e. absurd (e refl))
       (ap (λ (m : Mine J D). m.1) is ∙ ap rest (k.slots ∙ ap (λ st. slots_at st v) r)) k.near
+
+  -- a seat that was cut has done nothing
+  pub kept_cut : (words submitters workers party : ℕ) (me : Mine J D) → words ≡ SUBMITTER_CELLS * submitters → me ≡ (place submitters workers (new_party party), [])
+      → submitters ≤ MAX_SUBMITTERS → workers ≤ MAX_WORKERS → party < submitters + workers → Keeps words me party 0 0
+  kept_cut words submitters workers party me wide is few few_workers near = subst (λ (m : Mine J D). Keeps words m party 0 0) (sym is) (record {
+    cut = refl;
+    few_submitters = few;
+    few_workers = few_workers;
+    word_count = wide;
+    party_is = refl;
+    party_near = near;
+    first_is = refl;
+    out_is = refl;
+    few = omega arith;
+    posters = λ _. refl;
+    spare = λ e. absurd (e refl);
+    slots = refl;
+    near = λ k c d e. absurd (nothing_at k (c, d) e);
+  })
