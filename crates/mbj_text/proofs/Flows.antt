@@ -1,9 +1,9 @@
 -- How text flows on.
 use Rattle.std.proofs.Common.{◌≡◌, ◌∙◌, ◌++◌, ◌≤◌, [], ap, sym, subst, refl, ℕ, List, Option, Result, Ok, Err}
-use Rattle.std.proofs.Common.{append_assoc, append-nil, take, drop}
+use Rattle.std.proofs.Common.{append_assoc, append-nil, length, take, drop}
 use Rattle.std.specs.Io.KnownBytes.{Appends, Keeps}
 use Rattle.std.proofs.KnownBytes.{Appends-kept, Appends-nil, Appends-trans}
-use Rattle.std.proofs.lemmas.List.{take-append-drop}
+use Rattle.std.proofs.lemmas.List.{take-append-drop, take_all}
 use Rattle.mbj_io.specs.Faults.{Rose}
 use Rattle.mbj_io.specs.Streams.{Stream}
 use Rattle.mbj_io.specs.declared.traits.Failed.{Failed}
@@ -59,6 +59,15 @@ flows_more {s} {text} {left} more f = record {
   };
   calm = f.calm;
 }
+
+-- bytes that are written whole leave nothing of the text that they are
+pub flows_whole : {s : Stream} {text : List ℕ} (n : ℕ) (bytes : List ℕ)
+    → length bytes ≤ n → take n bytes ≡ text → WritesAll s bytes → FlowsOn s text []
+flows_whole {s} {text} n bytes fits is w =
+    let whole : bytes ≡ text = sym (take_all n bytes fits) ∙ is in record {
+      flows = record { front = bytes; text_is = sym whole ∙ sym (append-nil bytes); written = w.written };
+      calm = w.calm;
+    }
 
 -- what waits flows on together with the next part of what is left
 pub flows_part : {a b c : Option (List ℕ)} {i j k : ℕ} {text last : List ℕ} (waits part more : List ℕ)
@@ -129,6 +138,11 @@ front_then {a} {b} {c} {i} {j} {k} f g = record {
   failed = rose_from i j k f.calm g.failed;
   never_falls = subst (λ n. n ≤ k) f.calm g.never_falls;
 }
+
+-- a front of bytes is a front of the text that they are
+pub front_whole : {s : Stream} {text : List ℕ} (n : ℕ) (bytes : List ℕ)
+    → length bytes ≤ n → take n bytes ≡ text → WritesFront s bytes → WritesFront s text
+front_whole {s} n bytes fits is w = subst (WritesFront s) (sym (take_all n bytes fits) ∙ is) w
 
 -- a front of a text is a front of it with more behind
 pub front_with : {s : Stream} {text : List ℕ} (more : List ℕ) → WritesFront s text → WritesFront s (text ++ more)
