@@ -1,4 +1,4 @@
-ghost use Rattle.std.specs.Prelude.{◌≡◌, ◌+◌, ◌%◌, ◌^◌, ◌<◌, [], length, vec_len, IfSome};
+ghost use Rattle.std.specs.Prelude.{◌≡◌, ◌+◌, ◌%◌, ◌^◌, ◌<◌, ◌∷◌, [], length, vec_len, IfSome};
 ghost use Rattle.mbj_core.specs.declared.party.Phase.TheVariants.{Rest};
 ghost use Rattle.mbj_core.specs.Parties.{new_party};
 ghost use Rattle.mbj_front.specs.Seats.{view_of, IsSubmitter, IsOf, IsIssued, submitters_of, cells_of};
@@ -47,9 +47,7 @@ fn post(
     requires cell { cell < cells_of front.now }
     ensures fronts { IsOf front.now owner.new × IsOf front.now third.new }
     ensures owner { view_of owner.new ≡ after_publish (view_of owner.old) ((job + 1) % 2 ^ 32) }
-    ensures third { ((view_of third.new).phase ≡ (view_of third.old).phase)
-        × ((view_of third.new).number ≡ (view_of third.old).number)
-        × ((view_of third.new).due ≡ (view_of third.old).due) × ((view_of third.new).handed ≡ (view_of third.old).handed) }
+    ensures third { view_of third.new ≡ record (view_of third.old) { looks = (view_of third.new).looks } }
 {
     let at_first = front.scan(third, cell);
     front.open_cell(owner);
@@ -57,6 +55,61 @@ fn post(
     front.publish(owner, job);
     let published = front.scan(third, cell);
     [at_first, opened, published]
+}
+
+/// A helper claims the job of a cell. Then a third party tries to claim it and the owner to take its result, in vain. Answers
+/// the job, the word that the third party finds in between, and those that the two find.
+fn claim(
+    front: &Numbers,
+    owner: &mut NumberSeat,
+    helper: &mut NumberSeat,
+    third: &mut NumberSeat,
+    cell: u32,
+) -> Option<(u32, u64, [u64; 2])>
+    requires fronts { IsOf front.now owner.old × IsOf front.now helper.old × IsOf front.now third.old }
+    requires rests { ((view_of owner.old).phase ≡ Rest) × ((view_of helper.old).phase ≡ Rest) × ((view_of third.old).phase ≡ Rest) }
+    requires out { (view_of owner.old).handed < length (view_of owner.old).due }
+    requires hand { (view_of helper.old).hand ≡ [] }
+    requires cell { cell < cells_of front.now }
+    ensures fronts { IsOf front.now owner.new × IsOf front.now helper.new × IsOf front.now third.new }
+    ensures owner { IfSome result (λ _. view_of owner.new ≡ record (view_of owner.old) { looks = (view_of owner.new).looks }) }
+    ensures helper { IfSome result (λ r. ((view_of helper.new).phase ≡ Rest)
+        × ((view_of helper.new).hand ≡ (cell, (r.0 + 1) % 2 ^ 32) ∷ [])) }
+    ensures third { IfSome result (λ _. view_of third.new ≡ record (view_of third.old) { looks = (view_of third.new).looks }) }
+{
+    let job = front.try_claim(helper, cell).ok()?;
+    let in_hand = front.scan(third, cell);
+    let missed_claim = front.try_claim(third, cell).err()?;
+    let missed_take = front.try_take(owner).err()?;
+    Some((job, in_hand, [missed_claim, missed_take]))
+}
+
+/// The helper finishes the cell, and the owner takes the result and frees the cell. Answers the result, and the word that a
+/// third party finds after each.
+fn finish(
+    front: &Numbers,
+    owner: &mut NumberSeat,
+    helper: &mut NumberSeat,
+    third: &mut NumberSeat,
+    cell: u32,
+    done: u32,
+) -> Option<(u32, [u64; 3])>
+    requires fronts { IsOf front.now owner.old × IsOf front.now helper.old × IsOf front.now third.old }
+    requires rests { ((view_of owner.old).phase ≡ Rest) × ((view_of helper.old).phase ≡ Rest) }
+    requires out { (view_of owner.old).handed < length (view_of owner.old).due }
+    requires hand { (view_of helper.old).hand ≡ (cell, done) ∷ [] }
+    requires cell { cell < cells_of front.now }
+    ensures fronts { IsOf front.now owner.new × IsOf front.now helper.new × IsOf front.now third.new }
+    ensures rests { ((view_of helper.new).phase ≡ Rest) × IfSome result (λ _. (view_of owner.new).phase ≡ Rest) }
+    ensures hand { (view_of owner.new).hand ≡ (view_of owner.old).hand }
+    ensures third { view_of third.new ≡ record (view_of third.old) { looks = (view_of third.new).looks } }
+{
+    front.finish(helper, cell, done);
+    let finished = front.scan(third, cell);
+    let taken = front.try_take(owner).ok()?;
+    let in_taking = front.scan(third, cell);
+    front.free(owner);
+    Some((taken, [finished, in_taking, front.scan(third, cell)]))
 }
 
 /// A submitter's job goes through its next cell, and a helper makes its result. A third party looks on.
@@ -73,26 +126,24 @@ fn goes_round(
     requires none_out { length (view_of owner.old).due ≡ (view_of owner.old).handed }
     requires hand { (view_of helper.old).hand ≡ [] }
     ensures fronts { IsOf front.now owner.new × IsOf front.now helper.new × IsOf front.now third.new }
-    ensures rests { IfSome result (λ _. ((view_of owner.new).phase ≡ Rest) × ((view_of helper.new).phase ≡ Rest) × ((view_of third.new).phase ≡ Rest)) }
+    ensures rests { IfSome result (λ _. ((view_of owner.new).phase ≡ Rest) × ((view_of helper.new).phase ≡ Rest)) }
     ensures owner { IfSome result (λ _. (view_of owner.new).hand ≡ (view_of owner.old).hand) }
-    ensures third { IfSome result (λ _. ((view_of third.new).number ≡ (view_of third.old).number)
-        × ((view_of third.new).due ≡ (view_of third.old).due) × ((view_of third.new).handed ≡ (view_of third.old).handed)) }
+    ensures third { IfSome result (λ _. view_of third.new ≡ record (view_of third.old) { looks = (view_of third.new).looks }) }
 {
     let cell = owner.first_cell();
     let [at_first, opened, published] = post(front, owner, third, cell, job);
-    let claimed = front.try_claim(helper, cell).ok()?;
-    let in_hand = front.scan(third, cell);
-    let missed_claim = front.try_claim(third, cell).err()?;
-    let missed_take = front.try_take(owner).err()?;
-    front.finish(helper, cell, claimed.wrapping_add(1));
-    let finished = front.scan(third, cell);
-    let done = front.try_take(owner).ok()?;
-    let taken = front.scan(third, cell);
-    front.free(owner);
-    let freed = front.scan(third, cell);
+    let (claimed, in_hand, missed) = claim(front, owner, helper, third, cell)?;
+    let (done, [finished, taken, freed]) = finish(
+        front,
+        owner,
+        helper,
+        third,
+        cell,
+        claimed.wrapping_add(1),
+    )?;
     Some(Seen {
         words: [at_first, opened, published, in_hand, finished, taken, freed],
-        missed: [missed_claim, missed_take],
+        missed,
         done,
     })
 }

@@ -126,6 +126,17 @@ fn sink(alloc: Global) -> Result<MemSink, AllocError> {
     MemSink::new(alloc, ROOM, ROOM as u32, &[])
 }
 
+/// The parties follow a script over these jobs, and tell what each command comes to.
+fn tell_of_squad(
+    squad: &mut Squad<'_>,
+    jobs: Vec<Job>,
+    commands: &[Cmd],
+    sink: &mut MemSink,
+) -> Result<(), Fail> {
+    squad.deal(jobs)?;
+    squad.follow(commands, sink)
+}
+
 /// The parties of a new front follow a script over these jobs on this thread, and tell what each command comes to.
 fn tell(
     alloc: Global,
@@ -141,8 +152,7 @@ fn tell(
 {
     let (front, seats) = Front::new(alloc, submitters, workers)?;
     let mut squad = Squad::new(alloc, &front, seats)?;
-    squad.deal(jobs)?;
-    squad.follow(commands, sink)
+    tell_of_squad(&mut squad, jobs, commands, sink)
 }
 
 /// The same of the jobs and the script of a file.

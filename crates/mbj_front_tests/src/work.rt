@@ -1,9 +1,12 @@
-ghost use Rattle.std.specs.Prelude.{◌≡◌, IfOk, length};
+ghost use Rattle.std.specs.Prelude.{◌≡◌, ◌≤◌, IfOk, length};
+ghost use Rattle.mbj_core.specs.declared.cells.TheConstants.{MAX_WORKERS};
 
 use mbj_types::{Auth, Bytes, Done, Job, Reason, Status};
 use mbj_work::{Gate, Moment, OpenGate, run_private, run_shared};
 use std::alloc::{AllocError, Global};
+use std::sync::Wait;
 use std::test::Fail;
+use std::thread::Threads;
 
 /// RFC 2202, section 3, test case 1: the tag of "Hi There" under a key of 20 bytes 0b.
 pub(crate) const HI_THERE: [u8; 20] = [
@@ -90,15 +93,29 @@ fn are_results_of_two_lists(results: &[Vec<Done>]) -> bool {
         && has_tag(one, 0, &HI_THERE)
 }
 
+/// Whether the two lists get their results where each has a manager of its own.
+fn are_done_apart<R: Threads + Sync>(rt: &R, alloc: Global) -> Result<bool, AllocError> {
+    let results = run_private(rt, alloc, two_lists(alloc)?)?;
+    Ok(are_results_of_two_lists(&results))
+}
+
+/// Whether they get them over a front with so many workers.
+fn are_done_over_a_front<R: Threads + Wait + Sync>(
+    rt: &R,
+    alloc: Global,
+    workers: u32,
+) -> Result<bool, AllocError>
+    requires { workers ≤ MAX_WORKERS }
+{
+    let results = run_shared(rt, alloc, two_lists(alloc)?, workers, &OpenGate)?;
+    Ok(are_results_of_two_lists(&results))
+}
+
 #[test]
 fn each_list_gets_its_results_in_order(rt: HostRuntime) -> Result<(), Fail> {
-    let alloc = rt.alloc();
-    let results = run_private(&rt, alloc, two_lists(alloc)?)?;
-    assert!(rt; are_results_of_two_lists(&results));
-    for workers in [0, 2] {
-        let results = run_shared(&rt, alloc, two_lists(alloc)?, workers, &OpenGate)?;
-        assert!(rt; are_results_of_two_lists(&results));
-    }
+    assert!(rt; are_done_apart(&rt, rt.alloc())?);
+    assert!(rt; are_done_over_a_front(&rt, rt.alloc(), 0)?);
+    assert!(rt; are_done_over_a_front(&rt, rt.alloc(), 2)?);
     Ok(())
 }
 

@@ -9,7 +9,7 @@ use mbj_core::{MAX_SUBMITTERS, SUBMITTER_CELLS, cell_at};
 use mbj_front::{Front, Seat};
 use mbj_io::{Failed, MemSink};
 use mbj_text::{Cmd, JOB_LIMIT, Part, write_done, write_line, write_parts};
-use mbj_types::{Job, PostFull};
+use mbj_types::{Done, Job, PostFull};
 use mbj_work::{Claimed, HAND_ROOM, Party};
 use std::alloc::{AllocError, Global};
 use std::collections::VecDeque;
@@ -69,6 +69,24 @@ fn write_words(
     write_line(sink, &parts)
 }
 
+/// Writes the result of a submitter's job, whose number is known.
+fn write_collected(
+    sink: &mut MemSink,
+    s: u32,
+    number: Option<u32>,
+    done: &Done,
+) -> Result<(), Fail> {
+    let number = number.ok_or("no job is out")?;
+    let head = [
+        Part::Words("collect "),
+        Part::Number(u64::from(s)),
+        Part::Words(" "),
+    ];
+    write_parts(sink, &head)?;
+    write_done(sink, number, done)?;
+    Ok(())
+}
+
 impl PostingParty<'_> {
     /// Posts its next job, which stays the next one where all cells are in use.
     fn post(&mut self) -> Result<Part<'static>, AllocError> {
@@ -102,19 +120,10 @@ impl PostingParty<'_> {
 
     /// Collects the result of its earliest job that is out, and tells it.
     fn collect(&mut self, s: u32, sink: &mut MemSink) -> Result<(), Fail> {
-        let Some(done) = self.party.collect(self.front) else {
-            write_words(sink, "collect", s, Part::Words("none"))?;
-            return Ok(());
-        };
-        let number = self.out.pop_front().ok_or("no job is out")?;
-        let head = [
-            Part::Words("collect "),
-            Part::Number(u64::from(s)),
-            Part::Words(" "),
-        ];
-        write_parts(sink, &head)?;
-        write_done(sink, number, &done)?;
-        Ok(())
+        match self.party.collect(self.front) {
+            Some(done) => write_collected(sink, s, self.out.pop_front(), &done),
+            None => Ok(write_words(sink, "collect", s, Part::Words("none"))?),
+        }
     }
 
     /// The cell of its job that is so many behind its earliest one that is out.
