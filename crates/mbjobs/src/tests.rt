@@ -21,7 +21,7 @@ ghost use Rattle.std.specs.Prelude.{None};
 
 use super::*;
 use mbj_io::{Failed, Source};
-use runs::{Host, Run, Told, run_on};
+use runs::{Ending, Host, Run, Told, run_on};
 use std::alloc::Global;
 
 const RUN: [&str; 6] = ["mbjobs", "run", "--submitters", "1", "--workers", "0"];
@@ -97,26 +97,29 @@ const NO_COMMANDS: [&[&str]; 6] = [
     &[],
 ];
 
-/// Runs the program on words that are no command: it reads no byte and writes none, and tells a line.
-fn reads_nothing<R: Host>(rt: &R, alloc: Global, words: &'static [&'static str]) {
+/// Whether a run of words that are no command read no byte and wrote none, and told a line.
+fn has_read_nothing(ending: &Ending) -> bool {
+    let Told { status, out, err } = ending.told();
+    status == 2
+        && ending.input.rest() == FIRST_JOB.as_bytes()
+        && out.is_empty()
+        && err.ends_with(b"\n")
+}
+
+/// Whether the program reads nothing where the words are no command.
+fn reads_nothing<R: Host>(rt: &R, alloc: Global, words: &[&str]) -> bool {
     let run = Run {
         read_piece: 64,
         write_piece: 64,
         ..Run::new(words, FIRST_JOB.as_bytes())
     };
-    let ending = run.end(rt, alloc);
-    let Told { status, out, err } = ending.told();
-    assert_eq!(rt;
-        (status, ending.input.rest(), out.len(), err.ends_with(b"\n")),
-        (2, run.input, 0, true),
-        "{words:?}"
-    );
+    has_read_nothing(&run.end(rt, alloc))
 }
 
 #[test]
 fn words_that_are_no_command_read_nothing(rt: HostRuntime) {
     for words in &NO_COMMANDS {
-        reads_nothing(&rt, rt.alloc(), words);
+        assert!(rt; reads_nothing(&rt, rt.alloc(), words), "{words:?}");
     }
 }
 
@@ -143,33 +146,40 @@ fn words_that_are_no_command_are_told(rt: HostRuntime) {
     }
 }
 
+/// How many bytes a read gives at most, the reads and the writes that fail, and the status and what is written.
+type Failing = (
+    u32,
+    &'static [u64],
+    &'static [u64],
+    u8,
+    &'static str,
+    &'static str,
+);
+
+const FAILING: [Failing; 2] = [
+    (5, &[1], &[], 3, "", "mbjobs: read failed\n"),
+    // A sink that takes 7 bytes a call and fails at its call 2 holds the first 14.
+    (64, &[], &[2], 4, "0 ok 486920546", "mbjobs: write failed\n"),
+];
+
 /// Runs the first job with these reads and writes failing, and compares how it ends.
-fn check_failing<R: Host>(
-    rt: &R,
-    alloc: Global,
-    read_piece: u32,
-    failing_reads: &[u64],
-    failing_writes: &[u64],
-    told: Told<'_>,
-) {
+fn check_failing<R: Host>(rt: &R, alloc: Global, case: &Failing) {
+    let (read_piece, failing_reads, failing_writes, status, out, err) = case;
     let run = Run {
-        read_piece,
+        read_piece: *read_piece,
         failing_reads,
         write_piece: 7,
         failing_writes,
         ..Run::new(&RUN, FIRST_JOB.as_bytes())
     };
-    run.check(rt, alloc, told);
+    run.check(rt, alloc, Told::new(*status, out, err));
 }
 
 #[test]
 fn a_failed_read_or_write_ends_the_run(rt: HostRuntime) {
-    let unread = Told::new(3, "", "mbjobs: read failed\n");
-    check_failing(&rt, rt.alloc(), 5, &[1], &[], unread);
-
-    // A sink that takes 7 bytes a call and fails at its call 2 holds the first 14.
-    let unwritten = Told::new(4, "0 ok 486920546", "mbjobs: write failed\n");
-    check_failing(&rt, rt.alloc(), 64, &[], &[2], unwritten);
+    for case in &FAILING {
+        check_failing(&rt, rt.alloc(), case);
+    }
 }
 
 /// A source that is at its end once, and would then give more.
@@ -213,7 +223,7 @@ fn run_reopened<R: Host>(rt: &R, alloc: Global, input: &mut Reopened) -> (u8, us
 fn nothing_is_read_after_the_end(rt: HostRuntime) {
     let mut input = Reopened { reads: 0 };
     let ended = run_reopened(&rt, rt.alloc(), &mut input);
-    assert_eq!(rt; (ended, input.reads), ((0, 0), 1));
+    assert!(rt; ended == (0, 0) && input.reads == 1);
 }
 
 #[test]

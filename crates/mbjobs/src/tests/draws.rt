@@ -19,15 +19,6 @@ pub(super) struct Draws {
     state: u64,
 }
 
-/// A command of one number as a line.
-fn numbered(alloc: Global, word: &str, number: u8) -> Result<String, AllocError> {
-    format!(in alloc; "{word} {number}\n")
-}
-
-fn claim(alloc: Global, worker: u8, submitter: u8) -> Result<String, AllocError> {
-    format!(in alloc; "claim {worker} {submitter}\n")
-}
-
 impl Draws {
     pub(super) fn new(state: u64) -> Draws {
         Draws { state }
@@ -46,16 +37,28 @@ impl Draws {
         self.byte() % bound
     }
 
+    /// Draws the number of a command, and answers its line.
+    fn numbered(&mut self, alloc: Global, word: &str, bound: u8) -> Result<String, AllocError>
+        requires { 0 < bound }
+    {
+        let number = self.below(bound);
+        format!(in alloc; "{word} {number}\n")
+    }
+
+    /// Draws the worker and the submitter of a claim, and answers its line.
+    fn claim(&mut self, alloc: Global) -> Result<String, AllocError> {
+        let worker = self.below(WORKERS);
+        let submitter = self.below(SUBMITTERS);
+        format!(in alloc; "claim {worker} {submitter}\n")
+    }
+
     /// Draws a command of a script as a line.
     fn command(&mut self, alloc: Global) -> Result<String, AllocError> {
         match self.below(4) {
-            0 => numbered(alloc, "post", self.below(SUBMITTERS)),
-            1 => {
-                let worker = self.below(WORKERS);
-                claim(alloc, worker, self.below(SUBMITTERS))
-            }
-            2 => numbered(alloc, "flush", self.below(WORKERS)),
-            _ => numbered(alloc, "collect", self.below(SUBMITTERS)),
+            0 => self.numbered(alloc, "post", SUBMITTERS),
+            1 => self.claim(alloc),
+            2 => self.numbered(alloc, "flush", WORKERS),
+            _ => self.numbered(alloc, "collect", SUBMITTERS),
         }
     }
 

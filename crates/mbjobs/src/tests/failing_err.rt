@@ -63,17 +63,23 @@ fn check_untold<R: Host>(rt: &R, alloc: Global, run: Run<'_>, status: u8) {
     check_ending(rt, &ending, status, run.words);
 }
 
+/// Runs a command with some reads and writes failing, and compares the status.
+fn check_case<R: Host>(rt: &R, alloc: Global, case: &Case) {
+    let (words, input, reads, writes, status) = case;
+    let run = Run {
+        read_piece: 5,
+        failing_reads: reads,
+        write_piece: 7,
+        failing_writes: writes,
+        ..Run::new(words, input.as_bytes())
+    };
+    check_untold(rt, alloc, run, *status);
+}
+
 #[test]
 fn an_err_that_always_fails_changes_no_status(rt: HostRuntime) {
-    for (words, input, reads, writes, status) in &CASES {
-        let run = Run {
-            read_piece: 5,
-            failing_reads: reads,
-            write_piece: 7,
-            failing_writes: writes,
-            ..Run::new(words, input.as_bytes())
-        };
-        check_untold(&rt, rt.alloc(), run, *status);
+    for case in &CASES {
+        check_case(&rt, rt.alloc(), case);
     }
 }
 

@@ -1,7 +1,6 @@
-use super::runs::{Ending, Host, Run, Told, check_same};
+use super::runs::{Ending, Host, Run, Told};
 use super::{FIRST_JOB, FIRST_RESULT, RUN};
 use std::alloc::Global;
-use std::process::Abort;
 
 /// A command that reads, and what it writes for the first job.
 type Command = (&'static [&'static str], &'static str);
@@ -31,51 +30,48 @@ fn told_of(text: &str, fails: bool) -> Told<'_> {
     }
 }
 
-/// Compares how a run ended, how much is left of its input, and how often a read failed.
-fn check_ending<'a, R: Abort>(
-    rt: &R,
-    ending: &'a Ending,
-    right: &(Told<'a>, usize, u64),
-    read: &(u32, u32),
-) {
-    let input = &ending.input;
-    check_same(
-        rt,
-        &(ending.told(), input.rest().len(), input.faults()),
-        right,
-        read,
-    );
+/// Whether a run ended so, and as it was to after the read of this number: one failed or none, and nothing was read after
+/// that.
+fn has_ended(ending: &Ending, told: Told<'_>, piece: u32, number: u32) -> bool {
+    let left = FIRST_JOB
+        .len()
+        .saturating_sub((piece as usize).saturating_mul(number as usize));
+    ending.told() == told
+        && ending.input.rest().len() == left
+        && ending.input.faults() == u64::from(told.status != 0)
 }
 
-/// Runs a command on the first job with the read of a number failing, and compares how it ends, what is left of the input,
-/// and how often a read failed. Nothing is read after a failed read.
-fn compare<R: Host>(
-    rt: &R,
-    alloc: Global,
-    command: &Command,
-    piece: u32,
-    number: u32,
-    fails: bool,
-) {
-    let (words, text) = command;
+/// Runs a command on the first job with the read of a number failing.
+fn end_of<R: Host>(rt: &R, alloc: Global, words: &[&str], piece: u32, number: u32) -> Ending {
     let run = Run {
         read_piece: piece,
         failing_reads: &[u64::from(number)],
         write_piece: 64,
         ..Run::new(words, FIRST_JOB.as_bytes())
     };
-    let left = FIRST_JOB
-        .len()
-        .saturating_sub((piece as usize).saturating_mul(number as usize));
-    let right = (told_of(text, fails), left, u64::from(fails));
-    check_ending(rt, &run.end(rt, alloc), &right, &(number, piece));
+    run.end(rt, alloc)
+}
+
+/// Whether a command ends as it is to, with the read of a number failing if it comes to that.
+fn ends<R: Host>(
+    rt: &R,
+    alloc: Global,
+    command: &Command,
+    piece: u32,
+    number: u32,
+    fails: bool,
+) -> bool {
+    let (words, text) = command;
+    let ending = end_of(rt, alloc, words, piece, number);
+    has_ended(&ending, told_of(text, fails), piece, number)
 }
 
 /// Runs a command with each of its reads failing, and with two that it doesn't come to, by pieces of each length.
 fn compare_command<R: Host>(rt: &R, alloc: Global, command: &Command) {
-    for (piece, reads) in READS {
-        for number in 0..reads + 2 {
-            compare(rt, alloc, command, piece, number, number < reads);
+    for (piece, reads) in &READS {
+        for number in 0..reads.saturating_add(2) {
+            let ends = ends(rt, alloc, command, *piece, number, number < *reads);
+            assert!(rt; ends, "read {number} of {piece} bytes");
         }
     }
 }

@@ -1,8 +1,7 @@
-use super::runs::{Ending, Host, ROOM, Run, check_same};
+use super::runs::{Ending, Host, ROOM, Run};
 use super::{FIRST_JOB, FIRST_RESULT, RUN};
 use mbj_io::MemSink;
 use std::alloc::Global;
-use std::process::Abort;
 
 /// A command with its input, and what it writes.
 struct Case {
@@ -73,36 +72,49 @@ impl Case {
         run.end(rt, alloc)
     }
 
-    /// Compares what the sink holds with so many bytes of the text: the sink failed where it isn't the whole text.
-    fn check_front<R: Abort>(&self, rt: &R, ending: &Ending, taken: usize) {
+    /// Whether the sink holds so many bytes of the text, and failed where that isn't the whole text.
+    fn has_front(&self, ending: &Ending, taken: usize) -> bool {
         let text = self.text.as_bytes();
         let is_whole = text.len() <= taken;
-        let front = text.get(..taken).unwrap_or(text);
-        check_same(
-            rt,
-            &(ending.status, ending.out.held(), ending.out.faults()),
-            &(status_of(is_whole), front, u64::from(!is_whole)),
-            &taken,
-        );
+        ending.status == status_of(is_whole)
+            && ending.out.held() == text.get(..taken).unwrap_or(text)
+            && ending.out.faults() == u64::from(!is_whole)
+    }
+
+    /// Whether a run leaves so many bytes of the text in its sink.
+    fn leaves<R: Host>(
+        &self,
+        rt: &R,
+        alloc: Global,
+        room: usize,
+        piece: u32,
+        fails: &[u64],
+        taken: usize,
+    ) -> bool {
+        let ending = self.run(rt, alloc, room, piece, fails);
+        self.has_front(&ending, taken)
+    }
+
+    /// Whether the sink holds a front of the text, and the status tells whether it is the whole text.
+    fn has_some_front(&self, ending: &Ending) -> bool {
+        let (held, text) = (ending.out.held(), self.text.as_bytes());
+        ending.status == status_of(held == text) && text.starts_with(held)
     }
 }
 
 /// Fails each of so many writes of the first case by pieces of a length, and two that it doesn't come to.
 fn compare_writes<R: Host>(rt: &R, alloc: Global, piece: u32, writes: u64) {
     for number in 0..writes.saturating_add(2) {
-        let ending = CASES[0].run(rt, alloc, ROOM, piece, &[number]);
-        CASES[0].check_front(
-            rt,
-            &ending,
-            (piece as usize).saturating_mul(number as usize),
-        );
+        let taken = (piece as usize).saturating_mul(number as usize);
+        let is_left = CASES[0].leaves(rt, alloc, ROOM, piece, &[number], taken);
+        assert!(rt; is_left, "write {number} of {piece} bytes");
     }
 }
 
 #[test]
 fn each_write_that_fails_leaves_what_was_written_before(rt: HostRuntime) {
-    for (piece, writes) in WRITES {
-        compare_writes(&rt, rt.alloc(), piece, u64::from(writes));
+    for (piece, writes) in &WRITES {
+        compare_writes(&rt, rt.alloc(), *piece, u64::from(*writes));
     }
 }
 
@@ -110,8 +122,10 @@ fn each_write_that_fails_leaves_what_was_written_before(rt: HostRuntime) {
 fn each_room_is_filled_up_by_a_front_of_the_text(rt: HostRuntime) {
     for case in &CASES {
         for room in 0..=case.text.len() {
-            let ending = case.run(&rt, rt.alloc(), room, 7, &[]);
-            case.check_front(&rt, &ending, room);
+            assert!(rt;
+                case.leaves(&rt, rt.alloc(), room, 7, &[], room),
+                "room {room}"
+            );
         }
     }
 }
@@ -119,15 +133,9 @@ fn each_room_is_filled_up_by_a_front_of_the_text(rt: HostRuntime) {
 /// Runs a command whose write of this number fails, sees that it wrote a front of its text, and answers how much that is.
 fn written_before<R: Host>(rt: &R, alloc: Global, case: &Case, number: u64) -> usize {
     let ending = case.run(rt, alloc, ROOM, 7, &[number]);
-    let held = ending.out.held();
-    let text = case.text.as_bytes();
-    check_same(
-        rt,
-        &(ending.status, text.starts_with(held)),
-        &(status_of(held == text), true),
-        &number,
-    );
-    held.len()
+    let written = ending.out.held().len();
+    assert!(rt; case.has_some_front(&ending), "{number}");
+    written
 }
 
 /// Each write of a command that fails leaves more than the one before, up to the whole text.
@@ -142,7 +150,7 @@ fn compare_command<R: Host>(rt: &R, alloc: Global, case: &Case) {
         );
         before = written;
     }
-    assert_eq!(rt; before, whole);
+    assert!(rt; before == whole, "{before}");
 }
 
 // Each write takes a byte at least, so that no text takes more writes than it has bytes.

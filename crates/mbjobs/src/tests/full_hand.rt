@@ -44,9 +44,9 @@ fn filling_file(alloc: Global) -> Result<String, AllocError> {
 /// The text that these commands print.
 fn filling_text(alloc: Global) -> Result<String, AllocError> {
     let mut text = String::new(alloc);
-    add_lines(&mut text, alloc, ("post 0 ", ""), 0, LAST)?;
+    add_lines(&mut text, ("post 0 ", ""), 0, LAST)?;
     text.push_str("post 0 full\n")?;
-    add_lines(&mut text, alloc, ("claim 0 ", ""), 0, LAST)?;
+    add_lines(&mut text, ("claim 0 ", ""), 0, LAST)?;
     Ok(text)
 }
 

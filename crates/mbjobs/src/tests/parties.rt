@@ -72,12 +72,10 @@ fn add_cipher(line: &mut String, alloc: Global, job: &Job) -> Result<(), AllocEr
         dir_word(job.dir),
         order_word(job.order),
     );
-    let words = format!(in alloc; "{cipher} {dir} {order} ")?;
-    line.push_str(&words)?;
+    write!(line, "{cipher} {dir} {order} ")?;
     add_field(line, alloc, &job.key, " ")?;
     add_field(line, alloc, &job.iv, " ")?;
-    let range = format!(in alloc; "{} {} ", job.cipher_off, job.cipher_len)?;
-    line.push_str(&range)
+    write!(line, "{} {} ", job.cipher_off, job.cipher_len)
 }
 
 /// Adds the fields of what is hashed.
@@ -86,8 +84,7 @@ fn add_auth(line: &mut String, alloc: Global, job: &Job) -> Result<(), AllocErro
     line.push_str(" ")?;
     add_field(line, alloc, &job.auth_key, " ")?;
     add_field(line, alloc, &job.aad, " ")?;
-    let range = format!(in alloc; "{} {} {} ", job.hash_off, job.hash_len, job.tag_len)?;
-    line.push_str(&range)
+    write!(line, "{} {} {} ", job.hash_off, job.hash_len, job.tag_len)
 }
 
 /// Adds a job as a line of a job file.
@@ -139,8 +136,8 @@ fn compare_run<'a, R: Host>(
 
 /// Runs a file with each number of submitters and of workers, and compares what it writes.
 fn compare_parties<R: Host>(rt: &R, alloc: Global, file: &[u8], text: &[u8]) {
-    for submitters in SUBMITTERS {
-        for workers in WORKERS {
+    for submitters in &SUBMITTERS {
+        for workers in &WORKERS {
             compare_run(rt, alloc, &words_with(submitters, workers), file, text);
         }
     }
@@ -207,8 +204,8 @@ fn generating<'a>(
 
 /// Generates jobs with each number of submitters and of workers, and compares what they come to.
 fn generate<'a, R: Host>(rt: &R, alloc: Global, seed: &'a str, jobs: &'a str, summary: &str) {
-    for submitters in SUBMITTERS {
-        for workers in WORKERS {
+    for submitters in &SUBMITTERS {
+        for workers in &WORKERS {
             let words = generating(seed, jobs, submitters, workers);
             Run::new(&words, b"").check(rt, alloc, Told::new(0, summary, ""));
         }

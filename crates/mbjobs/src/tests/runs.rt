@@ -55,22 +55,17 @@ impl Ending {
 
     /// Compares what was written with a text that is too long to be shown.
     pub(super) fn check_long<R: Abort, W: Debug>(&self, rt: &R, text: &[u8], case: &W) {
-        check_same(
-            rt,
-            &(self.status, self.out.held() == text),
-            &(0, true),
-            case,
-        );
+        assert!(rt; self.status == 0 && self.out.held() == text, "{case:?}");
     }
 
     /// Compares the end of what was written.
     pub(super) fn check_end<R: Abort>(&self, rt: &R, end: &[u8]) {
-        assert_eq!(rt; (self.status, self.out.held().ends_with(end)), (0, true));
+        assert!(rt; self.status == 0 && self.out.held().ends_with(end));
     }
 
     /// Compares how much was written.
     pub(super) fn check_len<R: Abort>(&self, rt: &R, length: usize) {
-        assert_eq!(rt; (self.status, self.out.held().len()), (0, length));
+        assert!(rt; self.status == 0 && self.out.held().len() == length);
     }
 
     /// Compares the SHA-256 digest of what was written, in hexadecimal digits.

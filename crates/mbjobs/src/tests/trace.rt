@@ -230,26 +230,24 @@ fn file_of(alloc: Global, groups: &[Jobs]) -> Result<String, AllocError> {
 /// Adds lines that are alike but for a number, from the first to the last.
 pub(super) fn add_lines(
     text: &mut String,
-    alloc: Global,
     (front, back): (&str, &str),
     from: u32,
     to: u32,
 ) -> Result<(), AllocError> {
     for number in from..=to {
-        let line = format!(in alloc; "{front}{number}{back}\n")?;
-        text.push_str(&line)?;
+        write!(text, "{front}{number}{back}\n")?;
     }
     Ok(())
 }
 
 /// Adds what a trace prints.
-fn add_told(text: &mut String, alloc: Global, told: &Printed) -> Result<(), AllocError> {
+fn add_told(text: &mut String, told: &Printed) -> Result<(), AllocError> {
     match told {
         Printed::Line(line) => {
             text.push_str(line)?;
             text.push_str("\n")
         }
-        Printed::Lines(front, from, to, back) => add_lines(text, alloc, (front, back), *from, *to),
+        Printed::Lines(front, from, to, back) => add_lines(text, (front, back), *from, *to),
     }
 }
 
@@ -257,7 +255,7 @@ fn add_told(text: &mut String, alloc: Global, told: &Printed) -> Result<(), Allo
 fn text_of(alloc: Global, told: &[Printed]) -> Result<String, AllocError> {
     let mut text = String::new(alloc);
     for told in told {
-        add_told(&mut text, alloc, told)?;
+        add_told(&mut text, told)?;
     }
     Ok(text)
 }

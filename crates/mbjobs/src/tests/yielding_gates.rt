@@ -61,8 +61,8 @@ fn compare<'a, R: Host>(rt: &R, alloc: Global, words: &'a [&'a str], file: &'a [
 #[test]
 fn two_hundred_schedules_give_one_text(rt: HostRuntime) {
     let file = generated_file(rt.alloc(), 11, 64).expect(&rt, "memory");
-    for submitters in SUBMITTERS {
-        for workers in WORKERS {
+    for submitters in &SUBMITTERS {
+        for workers in &WORKERS {
             let words = words_with(submitters, workers);
             compare(&rt, rt.alloc(), &words, file.as_bytes());
         }
