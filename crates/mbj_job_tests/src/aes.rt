@@ -10,16 +10,24 @@ const COUNTING: [u8; 32] = [
     0x10, 0x11, 0x12, 0x13, 0x14, 0x15, 0x16, 0x17, 0x18, 0x19, 0x1a, 0x1b, 0x1c, 0x1d, 0x1e, 0x1f,
 ];
 
-// FIPS 197, appendix A.1.
+/// FIPS 197, appendix A.1: the key, which is round key 0, and two of the others with their numbers.
+const ROUND_KEYS: [(u32, u128); 3] = [
+    (0, 0x2b7e151628aed2a6abf7158809cf4f3c),
+    (1, 0xa0fafe1788542cb123a339392a6c7605),
+    (10, 0xd014f9a8c9ee2589e13f0cc8b6630ca6),
+];
+
+/// Whether the round key of this number is these bytes.
+fn has_round_key(schedule: &Schedule, round: u32, key: u128) -> bool {
+    round <= schedule.rounds() && schedule.round_key(round) == key.to_be_bytes()
+}
+
 #[test]
 fn round_keys_are_those_of_the_standard(rt: HostRuntime) {
-    let key = 0x2b7e151628aed2a6abf7158809cf4f3cu128.to_be_bytes();
-    let schedule = Schedule::expand(&key);
-    expect(&rt, "first", schedule.round_key(0), key);
-    let second = 0xa0fafe1788542cb123a339392a6c7605u128;
-    expect(&rt, "second", schedule.round_key(1), second.to_be_bytes());
-    let last = 0xd014f9a8c9ee2589e13f0cc8b6630ca6u128;
-    expect(&rt, "last", schedule.round_key(10), last.to_be_bytes());
+    let schedule = Schedule::expand(&ROUND_KEYS[0].1.to_be_bytes());
+    for (round, key) in &ROUND_KEYS {
+        assert!(rt; has_round_key(&schedule, *round, *key), "{round}");
+    }
 }
 
 #[test]

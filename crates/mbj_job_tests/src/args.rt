@@ -89,7 +89,7 @@ const BOTH: [(Shape, Option<Reason>); 9] = [
 /// Judges each job.
 fn judge(rt: &impl Abort, alloc: Global, table: &[(Shape, Option<Reason>)]) -> Result<(), Fail> {
     for (shape, reason) in table {
-        assert_eq!(rt; shape.judged(alloc)?, *reason);
+        assert!(rt; shape.judged(alloc)? == *reason, "{reason:?}");
     }
     Ok(())
 }

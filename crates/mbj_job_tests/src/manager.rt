@@ -15,18 +15,21 @@ const TAG: [u8; 20] = [
     0xf1, 0x46, 0xbe, 0x00,
 ];
 
-// The README quotes this function.
-fn authenticate(alloc: Global) -> Result<Option<Done>, AllocError> {
-    let mut manager = Manager::new(alloc)?;
-    let job = match manager.get_next() {
-        Ok(job) => job,
-        Err(RingFull) => return Ok(None),
-    };
+// The README quotes these two functions.
+fn fill(alloc: Global, job: &mut Job) -> Result<(), AllocError> {
     job.auth = Auth::HmacSha1;
     job.auth_key = Bytes::from_vec([0x0b; 20].to_vec(alloc)?);
     job.packet = Bytes::from_vec(b"Hi There".to_vec(alloc)?);
     job.hash_len = 8;
     job.tag_len = 20;
+    Ok(())
+}
+
+fn authenticate(alloc: Global, manager: &mut Manager) -> Result<Option<Done>, AllocError> {
+    match manager.get_next() {
+        Ok(job) => fill(alloc, job)?,
+        Err(RingFull) => return Ok(None),
+    }
     match manager.submit() {
         Some(done) => Ok(Some(done)),
         None => Ok(manager.flush()),
@@ -40,13 +43,17 @@ fn check_authenticated(rt: &impl Abort, done: &Done) {
     expect(rt, "tag", done.tag.bytes(), &TAG);
 }
 
-#[test]
-fn a_job_is_filled_submitted_and_taken_back(rt: HostRuntime) -> Result<(), Fail> {
-    match authenticate(rt.alloc())? {
-        Some(done) => check_authenticated(&rt, &done),
+fn check_taken_back(rt: &impl Abort, alloc: Global, manager: &mut Manager) -> Result<(), Fail> {
+    match authenticate(alloc, manager)? {
+        Some(done) => check_authenticated(rt, &done),
         None => assert!(rt; false),
     }
     Ok(())
+}
+
+#[test]
+fn a_job_is_filled_submitted_and_taken_back(rt: HostRuntime) -> Result<(), Fail> {
+    check_taken_back(&rt, rt.alloc(), &mut Manager::new(rt.alloc())?)
 }
 
 /// Writes the tag's length into the open job, and answers what it was. A full ring is 255.
@@ -145,15 +152,15 @@ fn number_of(done: Option<Done>) -> Option<usize> {
     }
 }
 
-/// A job's zero bytes, the number of the job that comes back, and how many wait then.
-type Step = (u32, Option<usize>, u32);
+/// A job's number and zero bytes, the number of the job that comes back, and how many wait then.
+type Step = (u8, u32, Option<usize>, u32);
 
 /// The rests are 4, 5, 4 and 6. The full run by 4 ends the first and the third job.
 const STEPS: [Step; 4] = [
-    (0, None, 1),
-    (112, None, 2),
-    (0, None, 3),
-    (300, Some(0), 2),
+    (0, 0, None, 1),
+    (1, 112, None, 2),
+    (2, 0, None, 3),
+    (3, 300, Some(0), 2),
 ];
 
 fn check_waiting(rt: &impl Abort, manager: &Manager, wanted: u32) {
@@ -164,8 +171,8 @@ fn check_waiting(rt: &impl Abort, manager: &Manager, wanted: u32) {
 }
 
 fn submit_each(rt: &impl Abort, alloc: Global, manager: &mut Manager) -> Result<(), Fail> {
-    for (number, step) in (0..4u8).zip(&STEPS) {
-        let (zeros, back, waiting) = *step;
+    for step in &STEPS {
+        let (number, zeros, back, waiting) = *step;
         let found = submit_hmac(manager, alloc, number, zeros)?;
         expect(rt, "back", found, back);
         check_waiting(rt, manager, waiting);
