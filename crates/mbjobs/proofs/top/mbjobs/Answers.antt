@@ -1,24 +1,66 @@
 -- Where the input tells its bytes, what they are decides the status.
-use Rattle.std.proofs.Common.{◌∙◌, arith, inr, refl, subst, sym}
+use Rattle.std.proofs.Common.{◌≡◌, ◌⊎◌, ◌∙◌, arith, inl, inr, refl, subst, sym}
 use Rattle.mbjobs.specs.Outcome.{AsksFor, IsBadFor, IsOverFor}
 use Rattle.mbj_io.specs.Streams.{Stream, stream}
 use Rattle.mbjobs.proofs.Endings.{along, bad_ends, bad_not_whole, good_ends, over_ends, over_not_whole, same-command, status_6}
 use Rattle.mbjobs.proofs.Statuses.{known, never, read_is_3, status_3, status_4, status_5, write_is_4}
 use Rattle.mbjobs.proofs.top.mbjobs.Goals as goal
 
+pub returns-in-Err-clause-unread : goal.returns-in-Err-clause-unread
+returns-in-Err-clause-unread g c = λ here. record { bytes = refl; faults = refl }
+
+pub returns-in-Err-clause-gen_unread : goal.returns-in-Err-clause-gen_unread
+returns-in-Err-clause-gen_unread g c = λ n m s w found. record { bytes = refl; faults = refl }
+
+pub returns-in-Err-clause-calm : goal.returns-in-Err-clause-calm
+returns-in-Err-clause-calm g c = λ other. refl
+
 pub returns-in-Ok-carry_out-clause-only_bad : goal.returns-in-Ok-carry_out-clause-only_bad
 returns-in-Ok-carry_out-clause-only_bad g c = λ d bytes line field found tells short bad calm.
     let input : Stream = stream g.S.Source.rest g.S.Source.faults c.args.input.now c.carry_out.new.input in
     let out : Stream = stream g.O.Sink.held g.O.Sink.faults c.args.out.now c.carry_out.new.out in
     let same = same-command _ c.in-Ok.command d c.in-Ok.ensures.found found in
-    absurd (bad_not_whole c.in-Ok.command input out _ bytes line field c.in-Ok-carry_out.ensures.ok tells (subst (λ k. IsBadFor k bytes line field) same bad))
+    absurd {A = (0 ≡ 5) ⊎ (0 ≡ 7)} (bad_not_whole c.in-Ok.command input out _ bytes line field c.in-Ok-carry_out.ensures.ok tells (subst (λ k. IsBadFor k bytes line field) same bad))
 
 pub returns-in-Ok-carry_out-clause-only_over : goal.returns-in-Ok-carry_out-clause-only_over
 returns-in-Ok-carry_out-clause-only_over g c = λ d bytes line found tells short over calm.
     let input : Stream = stream g.S.Source.rest g.S.Source.faults c.args.input.now c.carry_out.new.input in
     let out : Stream = stream g.O.Sink.held g.O.Sink.faults c.args.out.now c.carry_out.new.out in
     let same = same-command _ c.in-Ok.command d c.in-Ok.ensures.found found in
-    absurd (over_not_whole c.in-Ok.command input out _ bytes line c.in-Ok-carry_out.ensures.ok tells (subst (λ k. IsOverFor k bytes line) same over))
+    absurd {A = (0 ≡ 6) ⊎ (0 ≡ 7)} (over_not_whole c.in-Ok.command input out _ bytes line c.in-Ok-carry_out.ensures.ok tells (subst (λ k. IsOverFor k bytes line) same over))
+
+pub returns-in-Ok-carry_out-clause-words : goal.returns-in-Ok-carry_out-clause-words
+returns-in-Ok-carry_out-clause-words g c = λ here. absurd (omega (arith, here))
+
+pub returns-in-Ok-carry_out-clause-unread : goal.returns-in-Ok-carry_out-clause-unread
+returns-in-Ok-carry_out-clause-unread g c = λ here. absurd (omega (arith, here))
+
+pub returns-in-Ok-carry_out-clause-read_failed : goal.returns-in-Ok-carry_out-clause-read_failed
+returns-in-Ok-carry_out-clause-read_failed g c = λ here. absurd (omega (arith, here))
+
+pub returns-in-Ok-carry_out-clause-write_failed : goal.returns-in-Ok-carry_out-clause-write_failed
+returns-in-Ok-carry_out-clause-write_failed g c = λ here. absurd (omega (arith, here))
+
+pub returns-in-Ok-carry_out-clause-bad : goal.returns-in-Ok-carry_out-clause-bad
+returns-in-Ok-carry_out-clause-bad g c = λ here. absurd (omega (arith, here))
+
+pub returns-in-Ok-carry_out-clause-over : goal.returns-in-Ok-carry_out-clause-over
+returns-in-Ok-carry_out-clause-over g c = λ here. absurd (omega (arith, here))
+
+pub returns-in-Ok-carry_out-clause-told_words : goal.returns-in-Ok-carry_out-clause-told_words
+returns-in-Ok-carry_out-clause-told_words g c = λ here. absurd (omega (arith, here))
+
+pub returns-in-Ok-carry_out-clause-untouched : goal.returns-in-Ok-carry_out-clause-untouched
+returns-in-Ok-carry_out-clause-untouched g c = λ some other. absurd (some refl)
+
+pub returns-in-Ok-carry_out-clause-told : goal.returns-in-Ok-carry_out-clause-told
+returns-in-Ok-carry_out-clause-told g c = λ some other. absurd (some refl)
+
+pub returns-in-Ok-carry_out-clause-complete : goal.returns-in-Ok-carry_out-clause-complete
+returns-in-Ok-carry_out-clause-complete g c = λ d bytes text found tells short good calm calm_out. inl refl
+
+pub returns-in-Ok-carry_out-clause-complete_gen : goal.returns-in-Ok-carry_out-clause-complete_gen
+returns-in-Ok-carry_out-clause-complete_gen g c = λ n m s w found calm. inl refl
 
 pub returns-in-Err-carry_out-clause-complete : goal.returns-in-Err-carry_out-clause-complete
 returns-in-Err-carry_out-clause-complete g c = λ d bytes text found tells short good calm calm_out.
