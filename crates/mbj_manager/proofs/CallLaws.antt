@@ -1,12 +1,15 @@
 -- What is given back over a list of calls.
 use Rattle.std.proofs.Common.{◌≡◌, ◌↔◌, List, [], ◌∷◌, ◌++◌, map, Option, Some, None, option_to_list, slice_get, refl, ap, sym, ◌∙◌, append_assoc, append-nil, arith}
-use Rattle.std.specs.Prelude.{◌==◌, length, option_map, unwrap_or, if◌then◌else◌}
+use Rattle.std.specs.Prelude.{◌==◌, IsSome, length, option_map, unwrap_or, if◌then◌else◌}
 use Rattle.std.proofs.lemmas.List.{map-append}
 use Rattle.mbj_types.specs.declared.job.Job.{Job}
 use Rattle.mbj_types.specs.declared.done.Done.{Done}
 use Rattle.mbj_types.specs.Result.{result_of}
 use Rattle.mbj_ring.specs.declared.ring.TheConstants.{CELLS}
 use Rattle.mbj_manager.specs.Rounds.{Pending}
+use Rattle.mbj_manager.specs.Course.{course}
+use Rattle.mbj_manager.specs.Machine as machine
+use Rattle.mbj_manager.specs.Inside.Added.{added}
 use Rattle.mbj_manager.specs.State.{ManagerState, IsEarliestFinished, after_get_completed, given_at, entered, lent, after_submit, with_open, with_job}
 use Rattle.mbj_manager.specs.Calls.{Call, get_next, write, submit, get_completed, flush, called, jobs_in, given_back, jobs_submitted, after_calls}
 
@@ -42,6 +45,11 @@ none-where h = (none-then h.owed h.machine.left h refl refl, none-if h.owed h.ma
 -- the state where the job o is submitted, if there is one
 abbrev pub entered_at : Option Job → ManagerState → ManagerState
 entered_at o h = unwrap_or (option_map (λ j. with_job j h) o) h
+
+-- the open job o goes last, and then the course is followed
+pub entered-added : (o : Option Job) (h : ManagerState) → IsSome o → record (added o h) { machine = course machine.submit (added o h).machine } ≡ entered_at o h
+entered-added None h some = cc
+entered-added (Some j) h some = refl
 
 entered-owed : (o : Option Job) (h : ManagerState) → (entered_at o h).owed ≡ h.owed ++ map result_of (option_to_list o)
 entered-owed None h = sym (append-nil h.owed)

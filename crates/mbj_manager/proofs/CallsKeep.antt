@@ -41,6 +41,13 @@ earliest-given (d ∷ ds) [] h owes done = cc
 earliest-given (d ∷ ds) ([] ∷ left) h owes done = refl
 earliest-given (d ∷ ds) ((p ∷ ps) ∷ left) h owes done = cc
 
+-- giving back leaves the open job as it is
+pub given-opened : (ds : List Done) (left : List (List Pending)) (h : ManagerState) → (given_at ds left h).1.opened ≡ h.opened
+given-opened [] left h = refl
+given-opened (d ∷ ds) [] h = refl
+given-opened (d ∷ ds) ([] ∷ left) h = refl
+given-opened (d ∷ ds) ((p ∷ ps) ∷ left) h = refl
+
 -- giving back runs nothing
 given-runs-at : (ds : List Done) (left : List (List Pending)) (h : ManagerState) → (given_at ds left h).1.machine.flush_runs ≡ h.machine.flush_runs
 given-runs-at [] left h = refl

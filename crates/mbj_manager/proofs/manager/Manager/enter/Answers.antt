@@ -2,8 +2,9 @@
 use Rattle.std.proofs.Common.{◌∙◌, IsSome, ap, sym, subst}
 use Rattle.mbj_manager.specs.Machine.{submit}
 use Rattle.mbj_manager.specs.Course.{course}
-use Rattle.mbj_manager.specs.State.{ManagerState}
+use Rattle.mbj_manager.specs.State.{ManagerState, entered}
 use Rattle.mbj_manager.specs.Inside.Settled.{IsSettled}
+use Rattle.mbj_manager.proofs.CallLaws.{entered-added}
 use Rattle.mbj_manager.proofs.CallsKeep.{added-settled}
 use Rattle.mbj_manager.proofs.manager.Manager.enter.Goals as goal
 
@@ -13,3 +14,10 @@ invariant_of-self c =
     let some = subst (λ (h : ManagerState). IsSome h.opened) (sym c.self.view_is) c.requires in
     let is = c.settle.ensures.course ∙ ap (λ (h : ManagerState). record h { machine = course submit h.machine }) c.add.ensures in
     subst IsSettled (sym is) (added-settled w.opened w some c.self.invariant)
+
+pub returns : goal.returns
+returns c =
+    let w = c.self.inside.works in
+    let some = subst (λ (h : ManagerState). IsSome h.opened) (sym c.self.view_is) c.requires in
+    c.settle.ensures.course ∙ ap (λ (h : ManagerState). record h { machine = course submit h.machine }) c.add.ensures
+    ∙ entered-added w.opened w some ∙ ap entered c.self.view_is

@@ -1,10 +1,13 @@
 -- Where there is a job the earliest is finished then, after two runs at most for each job.
-use Rattle.std.proofs.Common.{◌≡◌, ◌≢◌, ◌*◌, ◌∙◌, List, [], ◌∷◌, length, Option, None, Some, IsSome, slice_get, refl, ap, sym, subst}
+use Rattle.std.proofs.Common.{◌≡◌, ◌≢◌, ◌*◌, ◌++◌, ◌∙◌, List, [], ◌∷◌, length, Option, None, Some, IsSome, slice_get, refl, ap, ap₂, sym, subst}
+use Rattle.std.specs.Prelude.{option_to_list}
 use Rattle.mbj_types.specs.declared.done.Done.{Done}
+use Rattle.mbj_manager.specs.Course.{flushed}
 use Rattle.mbj_manager.specs.State.{ManagerState, after_get_completed, given_at}
 use Rattle.mbj_manager.specs.Counts.{RisesUpTo}
 use Rattle.mbj_manager.specs.Inside.Settled.{IsSettled}
-use Rattle.mbj_manager.proofs.CallsKeep.{earliest-given, few-runs, flush-settled, given-settled}
+use Rattle.mbj_manager.proofs.CallLaws.{given-order}
+use Rattle.mbj_manager.proofs.CallsKeep.{earliest-given, few-runs, flush-settled, given-opened, given-settled}
 use Rattle.mbj_manager.proofs.manager.Manager.flush.Goals as goal
 
 not-some : (o : Option Done) → o ≡ None → IsSome o → ⊥
@@ -17,6 +20,27 @@ none-owed (d ∷ ds) h is done none =
     let given-one : IsSome (given_at (d ∷ ds) h.machine.left h).0 = earliest-given (d ∷ ds) h.machine.left h (λ e. cc) (done (λ e. cc)) in
     let given-none : (given_at (d ∷ ds) h.machine.left h).0 ≡ None = sym (ap (λ (l : List Done). (given_at l h.machine.left h).0) is) ∙ none in
     absurd (not-some (given_at (d ∷ ds) h.machine.left h).0 given-none given-one)
+
+-- the state from which the earliest job is given back
+at-flushed : (c : goal.After-give) → c.flush_first.new.self ≡ record (c.args.self.now) { machine = flushed c.args.self.now.machine }
+at-flushed c = c.flush_first.ensures.flushed ∙ ap (λ (h : ManagerState). record h { machine = flushed h.machine }) c.self.view_is
+
+pub returns-clause-result : goal.returns-clause-result
+returns-clause-result c = c.give.ensures.result ∙ ap (λ (h : ManagerState). (after_get_completed h).0) (at-flushed c)
+
+pub returns-clause-state : goal.returns-clause-state
+returns-clause-state c = c.give.ensures.state ∙ ap (λ (h : ManagerState). (after_get_completed h).1) (at-flushed c)
+
+pub returns-clause-open_stays : goal.returns-clause-open_stays
+returns-clause-open_stays c =
+    let h = c.flush_first.new.self in
+    ap (λ (h : ManagerState). h.opened) c.give.ensures.state ∙ given-opened h.owed h.machine.left h ∙ ap (λ (h : ManagerState). h.opened) (at-flushed c)
+
+pub returns-clause-order : goal.returns-clause-order
+returns-clause-order c =
+    let h = c.flush_first.new.self in
+    ap₂ (λ (o : Option Done) (h : ManagerState). option_to_list o ++ h.owed) c.give.ensures.result c.give.ensures.state ∙ given-order h
+    ∙ ap (λ (h : ManagerState). h.owed) (at-flushed c)
 
 pub returns-clause-none : goal.returns-clause-none
 returns-clause-none c =

@@ -1,0 +1,26 @@
+-- What is given back is what is completed after the job went in.
+use Rattle.std.proofs.Common.{◌≡◌, ◌↔◌, ◌++◌, ◌∙◌, Option, None, ap, ap₂, subst}
+use Rattle.std.specs.Prelude.{IsSome, option_to_list}
+use Rattle.mbj_types.specs.declared.done.Done.{Done}
+use Rattle.mbj_manager.specs.State.{ManagerState, IsEarliestFinished, after_get_completed}
+use Rattle.mbj_manager.proofs.CallLaws.{submitted-order}
+use Rattle.mbj_manager.proofs.manager.Manager.submit.Goals as goal
+
+pub returns-clause-result : goal.returns-clause-result
+returns-clause-result c = c.get_completed.ensures.result ∙ ap (λ (h : ManagerState). (after_get_completed h).0) c.enter.ensures
+
+pub returns-clause-state : goal.returns-clause-state
+returns-clause-state c = c.get_completed.ensures.state ∙ ap (λ (h : ManagerState). (after_get_completed h).1) c.enter.ensures
+
+pub returns-clause-none : goal.returns-clause-none
+returns-clause-none c =
+    subst (λ (h : ManagerState). (c.get_completed.result ≡ None) ↔ ¬ IsEarliestFinished h) c.enter.ensures c.get_completed.ensures.none
+
+pub returns-clause-some : goal.returns-clause-some
+returns-clause-some c =
+    subst (λ (h : ManagerState). IsEarliestFinished h → IsSome c.get_completed.result) c.enter.ensures c.get_completed.ensures.some
+
+pub returns-clause-order : goal.returns-clause-order
+returns-clause-order c =
+    ap₂ (λ (o : Option Done) (h : ManagerState). option_to_list o ++ h.owed) (returns-clause-result c) (returns-clause-state c)
+    ∙ submitted-order c.args.self.now
