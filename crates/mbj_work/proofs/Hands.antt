@@ -1,5 +1,5 @@
 -- The hand of a party, its cells and what its manager owes.
-use Rattle.std.proofs.Common.{◌≡◌, ℕ, ◌-◌, ◌<◌, List, [], ◌∷◌, ◌++◌, Some, None, length, drop, refl, sym, ap, ◌∙◌, arith, length-append}
+use Rattle.std.proofs.Common.{◌≡◌, ℕ, ◌-◌, ◌<◌, List, [], ◌∷◌, ◌++◌, Option, Some, None, slice_get, length, drop, refl, sym, ap, subst, ◌∙◌, arith, length-append}
 use Rattle.std.proofs.lemmas.List.{map-append}
 use lib.ListN.{length-map}
 use Rattle.circular_buffer.specs.Buffer.{Buffer, buffer, keep_last}
@@ -33,6 +33,29 @@ results_with hand cell d = map-append (λ x. x.1) hand ((cell, d) ∷ [])
 -- a manager owes as many results as the hand has cells
 pub owed_below : (hand : List (ℕ × Done)) (owed : List Done) (room : ℕ) → owed ≡ results_in hand → length hand < room → length owed < room
 owed_below hand owed room is short = omega (arith, short, ap length is ∙ length-map hand (λ (x : ℕ × Done). x.1))
+
+abbrev or_zero : Option ℕ → ℕ
+or_zero None = 0
+or_zero (Some n) = n
+
+-- the first cell is that of the first pair of the hand
+pub popped_first : (hand : List (ℕ × Done)) (d : Done) (room : ℕ) (cells : Buffer ℕ) (cell : ℕ) → (k : ℕ) × IsFirst k d hand → cells ≡ buffer (cells_in hand) room
+    → Some cell ≡ slice_get cells.items 0 → IsFirst cell d hand
+popped_first hand d room cells cell (k, (more, is)) are got =
+    let same : cell ≡ k = ap or_zero (got ∙ ap (λ (b : Buffer ℕ). slice_get b.items 0) are ∙ ap (λ h. slice_get (cells_in h) 0) is) in
+    subst (λ n. IsFirst n d hand) (sym same) (more, is)
+
+-- which there is
+pub popped_some : (hand : List (ℕ × Done)) (d : Done) (room : ℕ) (cells : Buffer ℕ) → (k : ℕ) × IsFirst k d hand → cells ≡ buffer (cells_in hand) room
+    → None ≡ slice_get cells.items 0 → ⊥
+popped_some hand d room cells (k, (more, is)) are got =
+    let none : None ≡ Some k = got ∙ ap (λ (b : Buffer ℕ). slice_get b.items 0) are ∙ ap (λ h. slice_get (cells_in h) 0) is in cc
+
+-- the cells without the first
+pub popped_rest : (hand more : List (ℕ × Done)) (cell : ℕ) (d : Done) (room : ℕ) (cells : Buffer ℕ) → cells ≡ buffer (cells_in hand) room → hand ≡ (cell, d) ∷ more
+    → buffer (drop 1 cells.items) cells.capacity ≡ buffer (cells_in more) room
+popped_rest hand more cell d room cells are is =
+    ap (λ (b : Buffer ℕ). buffer (drop 1 b.items) b.capacity) are ∙ ap (λ h. buffer (drop 1 (cells_in h)) room) is
 
 -- a push where there is room
 keeps_all : (room : ℕ) (xs : List ℕ) (c : ℕ) → length xs < room → keep_last room (xs ++ c ∷ []) ≡ xs ++ c ∷ []
