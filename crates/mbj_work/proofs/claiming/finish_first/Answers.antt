@@ -1,5 +1,5 @@
 -- The first cell is that of the first pair of the hand.
-use Rattle.std.proofs.Common.{◌∙◌, sym}
+use Rattle.std.proofs.Common.{◌∙◌}
 use Rattle.mbj_front.specs.Seats.{view_of}
 use Rattle.mbj_work.specs.declared.party.TheConstants.{HAND_ROOM}
 use Rattle.mbj_work.proofs.Hands.{popped_first, popped_some, popped_rest}
