@@ -1,6 +1,7 @@
 -- The least of the rests.
-use Rattle.std.proofs.Common.{◌≡◌, ℕ, ◌≤◌, ◌<◌, min, zero, suc, List, [], ◌∷◌, length, drop, get_or, arith}
+use Rattle.std.proofs.Common.{◌≡◌, ◌∙◌, ℕ, ◌+◌, ◌≤◌, ◌<◌, min, zero, suc, List, [], ◌∷◌, length, drop, get_or, sym, ap, arith}
 use Rattle.std.proofs.Math.ListN.{drop_of_length-le}
+use Rattle.std.proofs.lemmas.List.{drop_more}
 use Rattle.mbj_lane.specs.Rounds.{least_from, least}
 
 module _ {E : Type 0} (rest : E → ℕ) where
@@ -22,3 +23,9 @@ module _ {E : Type 0} (rest : E → ℕ) where
   -- once all entries were looked at
   pub least-end : (m i : ℕ) (es : List E) → length es ≤ i → least_from rest m (drop i es) ≡ least rest es → m ≡ least rest es
   least-end m i es h e = let z : drop i es ≡ [] = drop_of_length-le es h in rw z at e
+
+  -- once the entry at place i was looked at, too
+  pub least-next : (n m i : ℕ) (es : List E) (e : E) → i < length es → e ≡ get_or es i e → m ≡ min n (rest e)
+      → least_from rest n (drop i es) ≡ least rest es → least_from rest m (drop (i + 1) es) ≡ least rest es
+  least-next n m i es e h is less before =
+      ap (λ (k : ℕ). least_from rest k (drop (i + 1) es)) (less ∙ ap (λ x. min n (rest x)) is) ∙ sym (ap (least_from rest n) (drop_more es i e h)) ∙ before

@@ -1,5 +1,5 @@
 -- What rounds do to each entry of a list.
-use Rattle.std.proofs.Common.{◌≡◌, ℕ, ◌+◌, ◌-◌, ◌≤◌, ◌<◌, zero, suc, List, [], ◌∷◌, length, map, get_or, refl, ap, ap₂, arith}
+use Rattle.std.proofs.Common.{◌≡◌, ℕ, ◌+◌, ◌-◌, ◌≤◌, ◌<◌, zero, suc, List, [], ◌∷◌, ◌++◌, length, map, take, drop, get_or, refl, ap, ap₂, arith}
 use Rattle.std.proofs.lemmas.List.{length-map}
 use Rattle.mbj_lane.specs.Rounds.{after, end_of}
 use Rattle.mbj_lane.specs.Laws.{after-after, rest-after, end-after}
@@ -8,6 +8,15 @@ pub get_or-map : {A : Type 0} (f : A → A) (xs : List A) (k : ℕ) (d : A) → 
 get_or-map f [] k d h = absurd (omega arith)
 get_or-map f (x ∷ xs) zero d h = refl
 get_or-map f (x ∷ xs) (suc k) d h = let h' : k < length xs = omega arith in get_or-map f xs k d h'
+
+-- a list that was led on in its place
+pub written-back : {A : Type 0} (f : A → A) (n : ℕ) (xs ys zs : List A) → n ≡ length xs → zs ≡ xs → ys ≡ map f zs
+    → take n (ys ++ drop (length ys) xs) ≡ map f xs
+written-back f n xs ys zs all same is = rw (all, is, same) (whole f xs)
+  where
+    whole : {A : Type 0} (f : A → A) (xs : List A) → take (length xs) (map f xs ++ drop (length (map f xs)) xs) ≡ map f xs
+    whole f [] = refl
+    whole f (x ∷ xs) = ap (λ zs. f x ∷ zs) (whole f xs)
 
 module _ {E : Type 0} (round : E → E) where
   -- a round behind m rounds

@@ -1,5 +1,5 @@
 -- Which entry is taken.
-use Rattle.std.proofs.Common.{◌≡◌, ℕ, ◌≤◌, ◌<◌, zero, suc, List, [], ◌∷◌, ◌++◌, length, take, drop, get_or, Some, None, eqb, false, refl, sym, ap, ◌∙◌, arith}
+use Rattle.std.proofs.Common.{◌≡◌, ℕ, ◌≤◌, ◌<◌, zero, suc, List, [], ◌∷◌, ◌++◌, length, take, drop, get_or, Some, None, eqb, false, refl, sym, ap, ◌∙◌, ◌+◌, below_more, arith}
 use Rattle.std.specs.Option.{option_map}
 use Rattle.std.specs.List.{remove}
 use Rattle.std.proofs.lemmas.List.{get_or_default}
@@ -33,3 +33,10 @@ module _ {E : Type 0} (rest : E → ℕ) where
   taken-none (x ∷ es) all =
       passed x es (all 0 x (omega arith))
       ∙ ap (option_map (λ t. (t.0, x ∷ t.1))) (taken-none es (λ k d l. all (suc k) d (omega arith)))
+
+  -- each entry up to place i has a round left, where those before it have one, and e, the entry there
+  pub passed-too : (es : List E) (i : ℕ) (e : E) → i < length es → ((k : ℕ) (d : E) → k < i → 1 ≤ rest (get_or es k d))
+      → e ≡ get_or es i e → (rest e ≡ 0 → ⊥) → (k : ℕ) (d : E) → k < i + 1 → 1 ≤ rest (get_or es k d)
+  passed-too es i e lt before is some k d l =
+      let left : 1 ≤ rest (get_or es i d) = rw (get_or_default es i d e lt, ← is) (omega (arith, some)) in
+      below_more (λ n. 1 ≤ rest (get_or es n d)) i (λ n below. before n d below) left k l

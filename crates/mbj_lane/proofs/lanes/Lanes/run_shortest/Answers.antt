@@ -13,3 +13,9 @@ returns-clause-ends g c =
     let rest = g.K.Kernel.rest_of in
     let es = c.args.self.now.entries.items in
     rw c.run.ensures (map-ends g.K.Kernel.round rest g.met.K.Kernel.falls c.shortest-m.result es (rw c.shortest-m.ensures (least-at rest es)))
+
+pub returns-clause-least : goal.returns-clause-least
+returns-clause-least g c = c.shortest-m.ensures
+
+pub returns-clause-led : goal.returns-clause-led
+returns-clause-led g c = c.run.ensures
