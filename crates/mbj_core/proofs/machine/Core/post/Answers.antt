@@ -1,5 +1,6 @@
-use Rattle.std.proofs.Common.{◌<◌, ◌≤◌, arith}
+use Rattle.std.proofs.Common.{◌≡◌, ◌<◌, ◌≤◌, arith}
 use Rattle.std.proofs.lemmas.List.Elements.{All-set}
+use Rattle.mbj_core.specs.CoreStates.{out_of}
 use Rattle.mbj_core.specs.declared.cells.TheConstants.{SUBMITTER_CELLS}
 use Rattle.mbj_core.specs.declared.machine.JobsOut.{JobsOut}
 use Rattle.mbj_core.proofs.Fields.{after_post, count_read, first_within, one_more, out_within}
@@ -34,3 +35,9 @@ returns-clause-leads c =
     let near = rw (← c.self.view_is) at c.requires.submitter in
     rw (← c.self.view_is, c.put.ensures) (after_post c.self.inside c.self.invariant c.args.s c.cell_at-next.result c.index-out.result.now c.args.job near
     c.cell_at-next.ensures c.index-out.ensures c.if-out-eq-SUBMITTER_CELLS.false).2
+
+pub returns-clause-full : goal.returns-clause-full
+returns-clause-full c =
+    let near = rw (← c.self.view_is) at c.requires.submitter in let out = c.index-out.result.now in
+    let count_is : out.count ≡ out_of c.args.self.now c.args.s = rw (← c.self.view_is) (count_read c.self.inside c.self.invariant c.args.s out near c.index-out.ensures) in
+    (λ no. cc, λ full. absurd (omega arith))
