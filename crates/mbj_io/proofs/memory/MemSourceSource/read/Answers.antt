@@ -17,3 +17,9 @@ returns-clause-bytes c =
       old ∙ piece_and_rest content given _ at n piece (omega arith),
       λ none room. drop_of_length-le content (omega arith),
     )
+
+pub returns-in_err-count-clause-listed : goal.returns-in_err-count-clause-listed
+returns-in_err-count-clause-listed c = grind arith
+
+pub invariant_of-self : goal.invariant_of-self
+invariant_of-self c = grind arith
