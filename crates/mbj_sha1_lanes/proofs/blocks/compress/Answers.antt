@@ -1,4 +1,5 @@
 use Rattle.std.proofs.Common.{◌≡◌, ℕ, List, [], length, slice_index_or, sym, ap, ◌∙◌, arith}
+use Rattle.std.proofs.lemmas.Grind.{common_steps}
 use Rattle.sha1.specs.Sha1.{compress}
 use Rattle.mbj_types.specs.Lanes.{lane_at, lane_of}
 use Rattle.mbj_types.proofs.LaneLists.{length-lane_of, slice_index-lane_of}
@@ -19,3 +20,6 @@ returns c i h =
     (c.state_lanes-4.ensures.words i h) (c.state_lanes-5.ensures.words i h) in
     c.states.invariant.1 i (omega arith) ∙ sym (five_at lane c.compress_lanes.new.states i c.compress_lanes.auto.states)
     ∙ c.compress_lanes.ensures i block h words ∙ ap (λ s. compress s block) start
+
+pub states-preserved : goal.states-preserved
+states-preserved c = grind (arith, common_steps)
