@@ -1,5 +1,6 @@
 -- One block of each entry more is chained in each pass.
-use Rattle.std.proofs.Common.{map, sym, ap, ◌∙◌, arith}
+use Rattle.std.proofs.Common.{◌≡◌, ℕ, map, sym, ap, ◌∙◌, arith}
+use Rattle.mbj_lane.specs.Rounds.{after}
 use Rattle.mbj_lane.proofs.Led.{map-after-none, rests-after}
 use Rattle.mbj_aes_lanes.specs.Chaining.{chained_once, in_lane}
 use Rattle.mbj_aes_lanes.proofs.Chains.{keys-after, map-after-more}
@@ -35,3 +36,8 @@ passes-preserved g c =
       entries = c.pass.ensures.entries ∙ ap (map f) c.passes.invariant.entries ∙ map-after-more f c.passes.done c.args.entries.now;
       chains = c.pass.ensures.chains;
     }
+
+pub returns : goal.returns
+returns g c =
+    let e = g.E.Chaining in let all : c.passes.done ≡ c.args.m = omega arith in
+    c.passes.invariant.entries ∙ ap (λ (n : ℕ). map (after (chained_once e.key_of e.block_of e.chain_of e.led) n) c.args.entries.now) all
