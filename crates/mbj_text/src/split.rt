@@ -48,7 +48,7 @@ impl<'a> Iterator for Split<'a> {
 }
 
 /// The first part of the text, and what is behind the byte that ends it.
-#[tactic(auto, using(crate::proofs::Cutting::cut_at, crate::proofs::Cutting::cut_nowhere))]
+#[tactic(auto, using(crate::proofs::Cutting::cut_nowhere))]
 fn cut_once(text: &[u8], mark: u8) -> (&[u8], Option<&[u8]>)
     ensures { cut mark text.now ≡ result.0.now ∷ parts_left mark (option_copied result.1) }
 {
