@@ -75,14 +75,24 @@ impl Call {
         Call::CbcDecryption(1488),
     ];
 
-    fn print_name(self, rt: &impl Print) -> io::Result<()> {
+    /// The name, and how many rounds or bytes.
+    fn name(self) -> (&'static str, Option<(usize, &'static str)>) {
         match self {
-            Call::Encrypt16(rounds) => print_numbered(rt, "encrypt16", rounds as usize, "rounds"),
-            Call::Decrypt16(rounds) => print_numbered(rt, "decrypt16", rounds as usize, "rounds"),
-            Call::Put => print!(rt; "aes put"),
-            Call::Expand => print!(rt; "aes expand"),
-            Call::Ctr(len) => print_numbered(rt, "ctr", len, "bytes"),
-            Call::CbcDecryption(len) => print_numbered(rt, "cbc decryption", len, "bytes"),
+            Call::Encrypt16(rounds) => ("encrypt16", Some((rounds as usize, "rounds"))),
+            Call::Decrypt16(rounds) => ("decrypt16", Some((rounds as usize, "rounds"))),
+            Call::Put => ("put", None),
+            Call::Expand => ("expand", None),
+            Call::Ctr(len) => ("ctr", Some((len, "bytes"))),
+            Call::CbcDecryption(len) => ("cbc decryption", Some((len, "bytes"))),
+        }
+    }
+
+    fn print_name(self, rt: &impl Print) -> io::Result<()> {
+        let (name, number) = self.name();
+        print!(rt; "aes {name}")?;
+        match number {
+            Some((number, unit)) => print!(rt; ", {number} {unit}"),
+            None => Ok(()),
         }
     }
 
@@ -94,11 +104,6 @@ impl Call {
             Call::Ctr(len) | Call::CbcDecryption(len) => len.min(TEXT_BYTES) as u32,
         }
     }
-}
-
-/// Prints the name of a call and how many rounds or bytes.
-fn print_numbered(rt: &impl Print, name: &str, number: usize, unit: &str) -> io::Result<()> {
-    print!(rt; "aes {name}, {number} {unit}")
 }
 
 /// The schedule of the 16 bytes of KEY from `i` on.
@@ -307,12 +312,18 @@ fn rate(bytes: u128, nanos: u128) -> u128 {
         .unwrap_or(0)
 }
 
-/// Prints MB/s of a call, and in how many times less time than the plain crate for SHA-1 took for as many bytes.
-fn print_call(rt: &(impl Print + Clock), call: Call, sum: &mut u64) -> io::Result<()> {
+/// KB/s of a call, and of the plain crate for SHA-1.
+fn rates(rt: &impl Clock, call: Call, sum: &mut u64) -> io::Result<(u128, u128)> {
     let turns = PASS_BYTES.checked_div(call.bytes()).unwrap_or(0);
     let (nanos, plain_nanos) = fastest(rt, call, turns, sum)?;
     let done = rate(turns as u128 * call.bytes() as u128, nanos);
     let plain = rate(PLAIN_TURNS as u128 * TURN_BYTES as u128, plain_nanos);
+    Ok((done, plain))
+}
+
+/// Prints MB/s of a call, and in how many times less time than the plain crate for SHA-1 took for as many bytes.
+fn print_call(rt: &(impl Print + Clock), call: Call, sum: &mut u64) -> io::Result<()> {
+    let (done, plain) = rates(rt, call, sum)?;
     call.print_name(rt)?;
     print!(rt; ": {} MB/s, ", done / 1000)?;
     print_ratio(rt, hundredths(done, plain), 0)?;

@@ -225,9 +225,16 @@ pub fn print_times<R: Threads + Wait + Sync + Clock + Print>(
     alloc: Global,
 ) -> io::Result<()> {
     let (alone, beside, results) = fastest(rt, alloc)?;
-    print!(rt;
-        "front, a busy submitter {results} jobs {alone} us, beside an idle worker {beside} us "
-    )?;
+    print_alone(rt, alone, results)?;
+    print_beside(rt, beside)?;
     print_ratio(rt, hundredths(beside, alone), 0)?;
     println!(rt)
+}
+
+fn print_alone(rt: &impl Print, micros: u128, results: usize) -> io::Result<()> {
+    print!(rt; "front, a busy submitter {results} jobs {micros} us, ")
+}
+
+fn print_beside(rt: &impl Print, micros: u128) -> io::Result<()> {
+    print!(rt; "beside an idle worker {micros} us ")
 }
