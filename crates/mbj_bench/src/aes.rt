@@ -3,7 +3,7 @@ ghost use Rattle.mbj_aes_lanes.specs.KeyLanes.{IsFull};
 
 use crate::clock::nanos_since;
 use crate::ghash::fill;
-use crate::kernel::TURN_BYTES;
+use crate::hash::{Hash, TURN_BYTES};
 use crate::line::{hundredths, print_bytes, print_ratio};
 use crate::sha1_kernel;
 use mbj_aes::Schedule;
@@ -288,7 +288,7 @@ fn call_nanos(rt: &impl Clock, call: Call, turns: u32, sum: &mut u64) -> io::Res
 /// The same of the plain crate for SHA-1.
 fn plain_nanos(rt: &impl Clock, sum: &mut u64) -> io::Result<u128> {
     let start = Instant::now(rt)?;
-    *sum ^= sha1_kernel::plain(PLAIN_TURNS);
+    *sum ^= sha1_kernel::Sha1::plain(PLAIN_TURNS);
     nanos_since(rt, start)
 }
 

@@ -11,18 +11,6 @@ pub fn print_bytes(rt: &impl Print, label: &str, bytes: &[u8]) -> io::Result<()>
     println!(rt)
 }
 
-/// Prints a line of each digest.
-pub fn print_digests<const W: usize, const N: usize>(
-    rt: &impl Print,
-    labels: &[&str; 7],
-    digests: &[[[u8; W]; N]; 7],
-) -> io::Result<()> {
-    for i in 0..7 {
-        print_bytes(rt, labels[i], digests[i].as_flattened())?;
-    }
-    Ok(())
-}
-
 /// Prints a name in a column of so many characters.
 pub fn print_name(rt: &impl Print, name: &str, width: usize) -> io::Result<()> {
     print!(rt; "{name:<width$}")

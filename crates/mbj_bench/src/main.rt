@@ -7,9 +7,9 @@ mod aes;
 mod clock;
 mod front;
 mod ghash;
+mod hash;
 mod idle;
 mod jobs;
-mod kernel;
 mod kinds;
 mod line;
 mod lists;
@@ -20,6 +20,9 @@ mod sha256_kernel;
 mod sha512_kernel;
 mod timing;
 
+use crate::sha1_kernel::Sha1;
+use crate::sha256_kernel::Sha256;
+use crate::sha512_kernel::Sha512;
 use std::alloc::Global;
 use std::io::Print;
 use std::sync::Wait;
@@ -28,9 +31,9 @@ use std::time::Clock;
 use std::{env, io};
 
 fn print_digests(rt: &impl Print) -> io::Result<()> {
-    sha1_kernel::print_digests(rt)?;
-    sha256_kernel::print_digests(rt)?;
-    sha512_kernel::print_digests(rt)?;
+    hash::print_digests::<Sha1>(rt)?;
+    hash::print_digests::<Sha256>(rt)?;
+    hash::print_digests::<Sha512>(rt)?;
     ghash::print_digest(rt)?;
     aes::print_digests(rt)
 }

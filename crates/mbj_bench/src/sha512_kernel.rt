@@ -1,11 +1,8 @@
-use crate::kernel::TURN_BYTES;
-use crate::line;
+use crate::hash::{Hash, TURN_BYTES};
 use crate::message::{MESSAGE_896, padded};
 use mbj_sha_lanes::load64::block_words;
 use mbj_sha512_lanes::{compress, compress_lanes};
-use sha2::{Digest as _, Sha512};
-use std::io;
-use std::io::Print;
+use sha2::Digest;
 use std::simd::{u64x2, u64x4};
 
 /// The initial hash value (FIPS 180-4, 5.3.5).
@@ -20,153 +17,69 @@ const INITIAL: [u64; 8] = [
     0x5be0_cd19_137e_2179,
 ];
 
-/// A digest, by the bytes of its words.
-type Digest = [[u8; 8]; 8];
-
-/// The labels of the digests.
-const LABELS: [&str; 7] = [
-    "sha512 arrays, abc: ",
-    "sha512 arrays, empty: ",
-    "sha512 2 lanes, abc: ",
-    "sha512 2 lanes, empty: ",
-    "sha512 4 lanes, abc: ",
-    "sha512 4 lanes, empty: ",
-    "sha512 arrays, two blocks: ",
-];
-
-/// The digest in a state.
-fn digest_of(state: &[u64; 8]) -> Digest {
-    let mut digest = [[0; 8]; 8];
-    for i in 0..8 {
-        digest[i] = state[i].to_be_bytes();
-    }
-    digest
-}
-
-/// The initial hash value in each of 2 lanes.
-fn narrow_states() -> [u64x2; 8] {
-    let mut states = [u64x2::splat(0); 8];
-    for i in 0..8 {
-        states[i] = u64x2::splat(INITIAL[i]);
-    }
-    states
-}
-
-/// The initial hash value in each of 4 lanes.
-fn wide_states() -> [u64x4; 8] {
-    let mut states = [u64x4::splat(0); 8];
-    for i in 0..8 {
-        states[i] = u64x4::splat(INITIAL[i]);
-    }
-    states
-}
-
-/// The digests of the first two blocks by `compress` of arrays.
-fn array_digests(blocks: &[[u8; 128]; 4]) -> [Digest; 2] {
-    let mut states = [INITIAL; 4];
-    compress(&mut states, blocks);
-    [digest_of(&states[0]), digest_of(&states[1])]
-}
-
-/// The same by 2 lanes.
-fn narrow_digests(blocks: &[[u8; 128]; 4]) -> [Digest; 2] {
-    let mut states = narrow_states();
-    let mut words = block_words(blocks).map(|lanes| lanes.extract::<0, 2>());
-    compress_lanes(&mut states, &mut words);
-    let mut digests = [[[0; 8]; 8]; 2];
-    for i in 0..8 {
-        let lanes = states[i].to_array();
-        digests[0][i] = lanes[0].to_be_bytes();
-        digests[1][i] = lanes[1].to_be_bytes();
-    }
-    digests
-}
-
-/// The same by 4 lanes.
-fn wide_digests(blocks: &[[u8; 128]; 4]) -> [Digest; 2] {
-    let mut states = wide_states();
-    compress_lanes(&mut states, &mut block_words(blocks));
-    let mut digests = [[[0; 8]; 8]; 2];
-    for i in 0..8 {
-        let lanes = states[i].to_array();
-        digests[0][i] = lanes[0].to_be_bytes();
-        digests[1][i] = lanes[1].to_be_bytes();
-    }
-    digests
-}
-
-/// The digest of the example of two blocks.
-fn long_digest() -> Digest {
-    let mut states = [INITIAL; 4];
-    for block in padded::<256>(MESSAGE_896).as_chunks::<128>().0 {
-        compress(&mut states, &[*block; 4]);
-    }
-    digest_of(&states[3])
-}
-
-/// The digests of "abc" and of the empty message, in lanes side by side, by each form, and that
-/// of the example of two blocks.
-fn digests() -> [Digest; 7] {
-    let (abc, empty) = (padded(b"abc"), padded(b""));
-    let blocks = [abc, empty, abc, empty];
-    let arrays = array_digests(&blocks);
-    let narrow = narrow_digests(&blocks);
-    let wide = wide_digests(&blocks);
-    [
-        arrays[0],
-        arrays[1],
-        narrow[0],
-        narrow[1],
-        wide[0],
-        wide[1],
-        long_digest(),
-    ]
-}
-
-/// Prints the digests.
-pub fn print_digests(rt: &impl Print) -> io::Result<()> {
-    line::print_digests(rt, &LABELS, &digests())
-}
-
 // A turn of each form hashes as many bytes: one block in each lane.
 const _: () = prove!(size_of::<[[u8; 128]; 4]>() == TURN_BYTES);
 
-/// The crate that hashes one message.
-pub fn plain(turns: u32) -> u64 {
-    let mut hasher = Sha512::new();
-    for _ in 0..turns {
-        hasher.update(&[7; TURN_BYTES]);
-    }
-    hasher.finalize()[0] as u64
-}
+/// SHA-512.
+pub struct Sha512;
 
-/// Two calls a turn, at 2 lanes.
-pub fn narrow(turns: u32) -> u64 {
-    let mut states = narrow_states();
-    let mut words = [u64x2::splat(7); 16];
-    for _ in 0..turns {
-        compress_lanes(&mut states, &mut words);
-        compress_lanes(&mut states, &mut words);
-    }
-    states[0].to_array()[0]
-}
+impl Hash for Sha512 {
+    type Blocks = [[u8; 128]; 4];
 
-/// One call a turn, at 4 lanes.
-pub fn wide(turns: u32) -> u64 {
-    let mut states = wide_states();
-    let mut words = [u64x4::splat(7); 16];
-    for _ in 0..turns {
-        compress_lanes(&mut states, &mut words);
-    }
-    states[0].to_array()[0]
-}
+    const NAME: &'static str = "sha512";
 
-/// One call a turn, on 4 states and 4 blocks.
-pub fn arrays(turns: u32) -> u64 {
-    let mut states = [INITIAL; 4];
-    let blocks = [[7; 128]; 4];
-    for _ in 0..turns {
-        compress(&mut states, &blocks);
+    const LANES: [&'static str; 2] = ["2 lanes", "4 lanes"];
+
+    const WORDS: usize = 8;
+
+    const DIGITS: usize = 16;
+
+    const SEVENS: [[u8; 128]; 4] = [[7; 128]; 4];
+
+    fn short_blocks() -> [[u8; 128]; 4] {
+        let (abc, empty) = (padded(b"abc"), padded(b""));
+        [abc, empty, abc, empty]
     }
-    states[0][0]
+
+    fn narrow(blocks: &[[u8; 128]; 4], calls: u32, lane: usize) -> [u64; 8] {
+        let mut states = INITIAL.map(|word| u64x2::splat(word));
+        let mut words = block_words(blocks).map(|lanes| lanes.extract::<0, 2>());
+        for _ in 0..calls {
+            compress_lanes(&mut states, &mut words);
+        }
+        states.map(|lanes| lanes.to_array()[lane])
+    }
+
+    fn wide(blocks: &[[u8; 128]; 4], calls: u32, lane: usize) -> [u64; 8] {
+        let mut states = INITIAL.map(|word| u64x4::splat(word));
+        let mut words = block_words(blocks);
+        for _ in 0..calls {
+            compress_lanes(&mut states, &mut words);
+        }
+        states.map(|lanes| lanes.to_array()[lane])
+    }
+
+    fn arrays(blocks: &[[u8; 128]; 4], calls: u32, lane: usize) -> [u64; 8] {
+        let mut states = [INITIAL; 4];
+        for _ in 0..calls {
+            compress(&mut states, blocks);
+        }
+        states[lane]
+    }
+
+    fn long_digest() -> [u64; 8] {
+        let mut states = [INITIAL; 4];
+        for block in padded::<256>(MESSAGE_896).as_chunks::<128>().0 {
+            compress(&mut states, &[*block; 4]);
+        }
+        states[3]
+    }
+
+    fn plain(turns: u32) -> u64 {
+        let mut hasher = sha2::Sha512::new();
+        for _ in 0..turns {
+            hasher.update(&[7; TURN_BYTES]);
+        }
+        hasher.finalize()[0] as u64
+    }
 }

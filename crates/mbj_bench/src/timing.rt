@@ -1,7 +1,9 @@
-use crate::clock::nanos_since;
-use crate::kernel::{Form, Hash, TURN_BYTES};
+use crate::clock::{fastest, nanos_since};
+use crate::hash::{Form, Hash, TURN_BYTES, run};
 use crate::line::{print_bytes, print_name, print_rate};
-use crate::{sha1_kernel, sha256_kernel, sha512_kernel};
+use crate::sha1_kernel::Sha1;
+use crate::sha256_kernel::Sha256;
+use crate::sha512_kernel::Sha512;
 use std::io;
 use std::io::Print;
 use std::time::{Clock, Instant};
@@ -13,54 +15,19 @@ const PASS_BYTES: u128 = TURN_BYTES as u128 * TURNS as u128;
 
 const PASSES: u32 = 100;
 
-/// Runs a form of a hash for some turns, and answers a word that its result depends on.
-fn run(hash: Hash, form: Form, turns: u32) -> u64 {
-    match (hash, form) {
-        (Hash::Sha1, Form::Plain) => sha1_kernel::plain(turns),
-        (Hash::Sha1, Form::Narrow) => sha1_kernel::narrow(turns),
-        (Hash::Sha1, Form::Wide) => sha1_kernel::wide(turns),
-        (Hash::Sha1, Form::Arrays) => sha1_kernel::arrays(turns),
-        (Hash::Sha256, Form::Plain) => sha256_kernel::plain(turns),
-        (Hash::Sha256, Form::Narrow) => sha256_kernel::narrow(turns),
-        (Hash::Sha256, Form::Wide) => sha256_kernel::wide(turns),
-        (Hash::Sha256, Form::Arrays) => sha256_kernel::arrays(turns),
-        (Hash::Sha512, Form::Plain) => sha512_kernel::plain(turns),
-        (Hash::Sha512, Form::Narrow) => sha512_kernel::narrow(turns),
-        (Hash::Sha512, Form::Wide) => sha512_kernel::wide(turns),
-        (Hash::Sha512, Form::Arrays) => sha512_kernel::arrays(turns),
-    }
-}
-
 /// The time of one pass, in nanoseconds. What is computed goes into `sum`, so that none of it is left out.
-fn pass_nanos(rt: &impl Clock, hash: Hash, form: Form, sum: &mut u64) -> io::Result<u128> {
+fn pass_nanos<H: Hash>(rt: &impl Clock, form: Form, sum: &mut u64) -> io::Result<u128> {
     let start = Instant::now(rt)?;
-    *sum = sum.wrapping_add(run(hash, form, TURNS));
+    *sum = sum.wrapping_add(run::<H>(form, TURNS));
     nanos_since(rt, start)
 }
 
-/// The fastest pass of each form, in nanoseconds. The forms take turns, so that what else the machine
-/// does meets them alike.
-fn fastest(rt: &impl Clock, hash: Hash, sum: &mut u64) -> io::Result<[u128; 4]> {
-    let mut best = [u128::MAX; 4];
-    for _ in 0..PASSES {
-        for i in 0..4 {
-            best[i] = pass_nanos(rt, hash, Form::ALL[i], sum)?.min(best[i]);
-        }
-    }
-    Ok(best)
-}
-
-/// Begins a line with a hash and a form.
-fn print_names(rt: &impl Print, hash: Hash, form: Form) -> io::Result<()> {
-    print_name(rt, hash.name(), 8)?;
-    print_name(rt, form.name(), 19)
-}
-
 /// Prints MB/s of each form of a hash, and in how many times less time than the plain crate it ran.
-fn print_hash(rt: &(impl Print + Clock), hash: Hash, sum: &mut u64) -> io::Result<()> {
-    let best = fastest(rt, hash, sum)?;
+fn print_hash<H: Hash>(rt: &(impl Print + Clock), sum: &mut u64) -> io::Result<()> {
+    let best = fastest(PASSES, &Form::ALL, |form| pass_nanos::<H>(rt, form, sum))?;
     for i in 0..4 {
-        print_names(rt, hash, Form::ALL[i])?;
+        print_name(rt, H::NAME, 8)?;
+        print_name(rt, Form::ALL[i].name(), 19)?;
         print_rate(rt, PASS_BYTES, best[i], best[0])?;
     }
     Ok(())
@@ -69,8 +36,8 @@ fn print_hash(rt: &(impl Print + Clock), hash: Hash, sum: &mut u64) -> io::Resul
 /// Prints how fast each form of each hash is.
 pub fn print(rt: &(impl Print + Clock)) -> io::Result<()> {
     let mut sum = 0;
-    print_hash(rt, Hash::Sha1, &mut sum)?;
-    print_hash(rt, Hash::Sha256, &mut sum)?;
-    print_hash(rt, Hash::Sha512, &mut sum)?;
+    print_hash::<Sha1>(rt, &mut sum)?;
+    print_hash::<Sha256>(rt, &mut sum)?;
+    print_hash::<Sha512>(rt, &mut sum)?;
     print_bytes(rt, "checksum ", &sum.to_be_bytes())
 }
