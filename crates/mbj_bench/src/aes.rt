@@ -1,7 +1,7 @@
 ghost use Rattle.std.specs.Prelude.{◌≡◌, ◌≤◌, ◌%◌, length};
 ghost use Rattle.mbj_aes_lanes.specs.KeyLanes.{IsFull};
 
-use crate::clock::nanos_since;
+use crate::clock::{fastest, nanos_since};
 use crate::ghash::fill;
 use crate::hash::{Hash, TURN_BYTES};
 use crate::line::{hundredths, print_bytes, print_ratio};
@@ -36,9 +36,6 @@ const SCHEDULE_BYTES: u32 = 176;
 /// The most bytes of one pass, and the passes of which the fastest counts.
 const PASS_BYTES: u32 = 131_072;
 
-/// The turns of the plain crate in a pass.
-const PLAIN_TURNS: u32 = 256;
-
 const PASSES: u32 = 50;
 
 /// A call, and how many rounds or bytes of text.
@@ -54,56 +51,64 @@ enum Call {
     /// A text of so many bytes, its key of 10 rounds expanded once.
     Ctr(usize),
     CbcDecryption(usize),
+    /// The plain crate for SHA-1.
+    PlainSha1,
 }
 
+/// The calls that are timed, by their names.
+const CALLS: [(&str, Call); 14] = [
+    ("encrypt16, 10 rounds", Call::Encrypt16(10)),
+    ("encrypt16, 12 rounds", Call::Encrypt16(12)),
+    ("encrypt16, 14 rounds", Call::Encrypt16(14)),
+    ("decrypt16, 10 rounds", Call::Decrypt16(10)),
+    ("decrypt16, 12 rounds", Call::Decrypt16(12)),
+    ("decrypt16, 14 rounds", Call::Decrypt16(14)),
+    ("put", Call::Put),
+    ("expand", Call::Expand),
+    ("ctr, 64 bytes", Call::Ctr(64)),
+    ("ctr, 256 bytes", Call::Ctr(256)),
+    ("ctr, 1500 bytes", Call::Ctr(TEXT_BYTES)),
+    ("cbc decryption, 64 bytes", Call::CbcDecryption(64)),
+    ("cbc decryption, 256 bytes", Call::CbcDecryption(256)),
+    // The whole blocks of a text of 1,500 bytes.
+    ("cbc decryption, 1488 bytes", Call::CbcDecryption(1488)),
+];
+
 impl Call {
-    const ALL: [Call; 14] = [
-        Call::Encrypt16(10),
-        Call::Encrypt16(12),
-        Call::Encrypt16(14),
-        Call::Decrypt16(10),
-        Call::Decrypt16(12),
-        Call::Decrypt16(14),
-        Call::Put,
-        Call::Expand,
-        Call::Ctr(64),
-        Call::Ctr(256),
-        Call::Ctr(TEXT_BYTES),
-        Call::CbcDecryption(64),
-        Call::CbcDecryption(256),
-        // The whole blocks of a text of 1,500 bytes.
-        Call::CbcDecryption(1488),
-    ];
-
-    /// The name, and how many rounds or bytes.
-    fn name(self) -> (&'static str, Option<(usize, &'static str)>) {
-        match self {
-            Call::Encrypt16(rounds) => ("encrypt16", Some((rounds as usize, "rounds"))),
-            Call::Decrypt16(rounds) => ("decrypt16", Some((rounds as usize, "rounds"))),
-            Call::Put => ("put", None),
-            Call::Expand => ("expand", None),
-            Call::Ctr(len) => ("ctr", Some((len, "bytes"))),
-            Call::CbcDecryption(len) => ("cbc decryption", Some((len, "bytes"))),
-        }
-    }
-
-    fn print_name(self, rt: &impl Print) -> io::Result<()> {
-        let (name, number) = self.name();
-        print!(rt; "aes {name}")?;
-        match number {
-            Some((number, unit)) => print!(rt; ", {number} {unit}"),
-            None => Ok(()),
-        }
-    }
-
     /// The bytes of text, or of schedule, of one turn.
-    fn bytes(self) -> u32 {
+    fn bytes(self) -> u32
+        ensures { 1 ≤ result }
+    {
         match self {
             Call::Encrypt16(_) | Call::Decrypt16(_) => 256,
             Call::Put | Call::Expand => SCHEDULE_BYTES,
-            Call::Ctr(len) | Call::CbcDecryption(len) => len.min(TEXT_BYTES) as u32,
+            Call::Ctr(len) | Call::CbcDecryption(len) => len.clamp(1, TEXT_BYTES) as u32,
+            Call::PlainSha1 => TURN_BYTES as u32,
         }
     }
+
+    /// The turns of one pass.
+    fn turns(self) -> u32 {
+        PASS_BYTES / self.bytes()
+    }
+}
+
+/// What the calls work on.
+#[derive(Drop)]
+struct Texts {
+    blocks: [[u8; 16]; 16],
+    text: [u8; TEXT_BYTES],
+}
+
+/// New texts.
+fn filled_texts() -> Texts {
+    let mut texts = Texts {
+        blocks: [[0; 16]; 16],
+        text: [0; TEXT_BYTES],
+    };
+    fill(texts.blocks.as_flattened_mut());
+    fill(&mut texts.text);
+    texts
 }
 
 /// The schedule of the 16 bytes of KEY from `i` on.
@@ -123,31 +128,30 @@ fn schedule(rounds: u32) -> Schedule {
     }
 }
 
-/// Puts a schedule in the lanes by turns, and answers a byte that depends on it.
-fn put(turns: u32) -> u8 {
+/// Enciphers the blocks by turns, under one key of so many rounds.
+fn encrypt(rounds: u32, blocks: &mut [[u8; 16]; 16], turns: u32) {
+    let keys = LaneKeys::all(&schedule(rounds));
+    for _ in 0..turns {
+        encrypt16(&keys, blocks);
+    }
+}
+
+/// Deciphers them.
+fn decrypt(rounds: u32, blocks: &mut [[u8; 16]; 16], turns: u32) {
+    let keys = LaneKeys::all(&schedule(rounds));
+    for _ in 0..turns {
+        decrypt16(&keys, blocks);
+    }
+}
+
+/// Puts a schedule in the lanes by turns, and enciphers the blocks under what is there then.
+fn put(blocks: &mut [[u8; 16]; 16], turns: u32) {
     let key = schedule_from(0);
     let mut keys = LaneKeys::all(&key);
     'turns: for turn in 0..turns {
         keys.put(turn % 16, &key);
     }
-    let mut blocks = [[0; 16]; 16];
-    encrypt16(&keys, &mut blocks);
-    blocks[0][0]
-}
-
-/// Makes the schedule of a key, that of its last round key, and so on.
-fn expand(turns: u32) -> u8 {
-    let mut key = EXPANDED_KEY.to_be_bytes();
-    for _ in 0..turns {
-        key = Schedule::expand(&key).round_key(10);
-    }
-    key[0]
-}
-
-fn filled_blocks() -> [[u8; 16]; 16] {
-    let mut blocks = [[0; 16]; 16];
-    fill(blocks.as_flattened_mut());
-    blocks
+    encrypt16(&keys, blocks);
 }
 
 /// Sixteen keys of 10 rounds, that in lane i being the bytes of KEY from i on.
@@ -161,88 +165,13 @@ fn sixteen_keys() -> LaneKeys
     keys
 }
 
-/// SHA-1 of the blocks that are enciphered under sixteen keys.
-fn put_digest() -> [u8; 20] {
-    let mut blocks = filled_blocks();
-    encrypt16(&sixteen_keys(), &mut blocks);
-    Sha1::digest(blocks.as_flattened())
-}
-
-/// SHA-1 of the blocks that are enciphered under one key.
-fn encrypted_digest(rounds: u32) -> [u8; 20] {
-    let mut blocks = filled_blocks();
-    encrypt16(&LaneKeys::all(&schedule(rounds)), &mut blocks);
-    Sha1::digest(blocks.as_flattened())
-}
-
-/// SHA-1 of the blocks that are deciphered under one key.
-fn decrypted_digest(rounds: u32) -> [u8; 20] {
-    let mut blocks = filled_blocks();
-    decrypt16(&LaneKeys::all(&schedule(rounds)), &mut blocks);
-    Sha1::digest(blocks.as_flattened())
-}
-
-/// SHA-1 of what CTR makes of a text of so many bytes.
-fn ctr_digest(len: usize) -> [u8; 20] {
-    let mut text = [0; TEXT_BYTES];
-    fill(&mut text);
-    let text = &mut text[..len.min(TEXT_BYTES)];
-    apply(&schedule(10), &IV.to_be_bytes(), text);
-    Sha1::digest(text)
-}
-
-/// SHA-1 of what CBC decryption makes of a text of so many bytes.
-fn cbc_digest(len: usize) -> [u8; 20] {
-    let mut text = [0; TEXT_BYTES];
-    fill(&mut text);
-    let text = &mut text[..len.min(TEXT_BYTES) / 16 * 16];
-    decrypt_in_place(&schedule(10), &IV.to_be_bytes(), text);
-    Sha1::digest(text)
-}
-
-/// The last round key of the expanded key.
-fn last_round_key() -> [u8; 16] {
-    Schedule::expand(&EXPANDED_KEY.to_be_bytes()).round_key(10)
-}
-
-/// Prints SHA-1 of what the call makes of the text; of `Put` that of the blocks under sixteen keys, and of `Expand` the
-/// last round key.
-fn print_digest(rt: &impl Print, call: Call) -> io::Result<()> {
-    call.print_name(rt)?;
-    let digest = match call {
-        Call::Encrypt16(rounds) => encrypted_digest(rounds),
-        Call::Decrypt16(rounds) => decrypted_digest(rounds),
-        Call::Put => put_digest(),
-        Call::Expand => return print_bytes(rt, ": ", &last_round_key()),
-        Call::Ctr(len) => ctr_digest(len),
-        Call::CbcDecryption(len) => cbc_digest(len),
-    };
-    print_bytes(rt, ": ", &digest)
-}
-
-pub fn print_digests(rt: &impl Print) -> io::Result<()> {
-    for i in 0..Call::ALL.len() {
-        print_digest(rt, Call::ALL[i])?;
-    }
-    Ok(())
-}
-
-fn encrypt(rounds: u32, turns: u32) -> u8 {
-    let keys = LaneKeys::all(&schedule(rounds));
-    let mut blocks = filled_blocks();
+/// Makes the schedule of a key, that of its last round key, and so on. The last one's last round key goes into the block.
+fn expand(block: &mut [u8; 16], turns: u32) {
+    let mut key = EXPANDED_KEY.to_be_bytes();
     for _ in 0..turns {
-        encrypt16(&keys, &mut blocks);
+        key = Schedule::expand(&key).round_key(10);
     }
-    blocks[0][0]
-}
-
-fn decrypt(rounds: u32, turns: u32) -> u8 {
-    let keys = LaneKeys::all(&schedule(rounds));
-    let mut blocks = filled_blocks();
-    for _ in 0..turns {
-        decrypt16(&keys, &mut blocks);
-    }
-    blocks[0][0]
+    *block = key;
 }
 
 fn ctr(text: &mut [u8], turns: u32) {
@@ -259,82 +188,93 @@ fn cbc_decryption(text: &mut [u8], turns: u32)
     }
 }
 
-/// Runs the call for some turns, and answers a byte that its result depends on.
-fn run(call: Call, turns: u32) -> u8 {
-    let mut text = [7; TEXT_BYTES];
+/// Runs the call for some turns, and answers a word that its result depends on.
+fn run(call: Call, texts: &mut Texts, turns: u32) -> u64 {
     match call {
-        Call::Encrypt16(rounds) => encrypt(rounds, turns),
-        Call::Decrypt16(rounds) => decrypt(rounds, turns),
-        Call::Put => put(turns),
-        Call::Expand => expand(turns),
-        Call::Ctr(len) => {
-            ctr(&mut text[..len.min(TEXT_BYTES)], turns);
-            text[0]
-        }
+        Call::Encrypt16(rounds) => encrypt(rounds, &mut texts.blocks, turns),
+        Call::Decrypt16(rounds) => decrypt(rounds, &mut texts.blocks, turns),
+        Call::Put => put(&mut texts.blocks, turns),
+        Call::Expand => expand(&mut texts.blocks[0], turns),
+        Call::Ctr(len) => ctr(&mut texts.text[..len.min(TEXT_BYTES)], turns),
         Call::CbcDecryption(len) => {
-            cbc_decryption(&mut text[..len.min(TEXT_BYTES) / 16 * 16], turns);
-            text[0]
+            cbc_decryption(&mut texts.text[..len.min(TEXT_BYTES) / 16 * 16], turns)
+        }
+        Call::PlainSha1 => return sha1_kernel::Sha1::plain(turns),
+    }
+    (texts.blocks[0][0] ^ texts.text[0]) as u64
+}
+
+/// SHA-1 of what a call makes of new texts in one turn; of `Put` that of the blocks under sixteen keys.
+fn digest(call: Call) -> [u8; 20] {
+    let mut texts = filled_texts();
+    match call {
+        Call::Put => encrypt16(&sixteen_keys(), &mut texts.blocks),
+        _ => {
+            run(call, &mut texts, 1);
         }
     }
+    match call {
+        Call::Ctr(len) | Call::CbcDecryption(len) => Sha1::digest(
+            &texts.text[..len.min(TEXT_BYTES)],
+        ),
+        _ => Sha1::digest(texts.blocks.as_flattened()),
+    }
+}
+
+/// Prints the digest of each call; of `Expand` the last round key.
+pub fn print_digests(rt: &impl Print) -> io::Result<()> {
+    for (name, call) in &CALLS {
+        print!(rt; "aes {name}: ")?;
+        match call {
+            Call::Expand => {
+                let mut key = [0; 16];
+                expand(&mut key, 1);
+                print_bytes(rt, "", &key)?;
+            }
+            _ => print_bytes(rt, "", &digest(*call))?,
+        }
+    }
+    Ok(())
 }
 
 /// The time of one pass of the call, in nanoseconds. What is computed goes into `sum`, so that none of it is left out.
-fn call_nanos(rt: &impl Clock, call: Call, turns: u32, sum: &mut u64) -> io::Result<u128> {
+fn pass_nanos(rt: &impl Clock, call: Call, texts: &mut Texts, sum: &mut u64) -> io::Result<u128> {
     let start = Instant::now(rt)?;
-    *sum ^= u64::from(run(call, turns));
+    *sum ^= run(call, texts, call.turns());
     nanos_since(rt, start)
 }
 
-/// The same of the plain crate for SHA-1.
-fn plain_nanos(rt: &impl Clock, sum: &mut u64) -> io::Result<u128> {
-    let start = Instant::now(rt)?;
-    *sum ^= sha1_kernel::Sha1::plain(PLAIN_TURNS);
-    nanos_since(rt, start)
-}
-
-/// The fastest pass of the call and of the plain crate for SHA-1, in nanoseconds. They take turns, so that what else the
-/// machine does meets them alike.
-fn fastest(rt: &impl Clock, call: Call, turns: u32, sum: &mut u64) -> io::Result<(u128, u128)> {
-    let mut nanos = u128::MAX;
-    let mut plain = u128::MAX;
-    for _ in 0..PASSES {
-        nanos = call_nanos(rt, call, turns, sum)?.min(nanos);
-        plain = plain_nanos(rt, sum)?.min(plain);
-    }
-    Ok((nanos, plain))
-}
-
-/// KB/s of so many bytes in so many nanoseconds.
-fn rate(bytes: u128, nanos: u128) -> u128 {
-    bytes
+/// KB/s of a pass of the call in so many nanoseconds.
+fn rate(call: Call, nanos: u128) -> u128 {
+    (call.turns() as u128)
+        .saturating_mul(call.bytes() as u128)
         .saturating_mul(1_000_000)
         .checked_div(nanos)
         .unwrap_or(0)
 }
 
-/// KB/s of a call, and of the plain crate for SHA-1.
-fn rates(rt: &impl Clock, call: Call, sum: &mut u64) -> io::Result<(u128, u128)> {
-    let turns = PASS_BYTES.checked_div(call.bytes()).unwrap_or(0);
-    let (nanos, plain_nanos) = fastest(rt, call, turns, sum)?;
-    let done = rate(turns as u128 * call.bytes() as u128, nanos);
-    let plain = rate(PLAIN_TURNS as u128 * TURN_BYTES as u128, plain_nanos);
-    Ok((done, plain))
-}
-
 /// Prints MB/s of a call, and in how many times less time than the plain crate for SHA-1 took for as many bytes.
-fn print_call(rt: &(impl Print + Clock), call: Call, sum: &mut u64) -> io::Result<()> {
-    let (done, plain) = rates(rt, call, sum)?;
-    call.print_name(rt)?;
-    print!(rt; ": {} MB/s, ", done / 1000)?;
-    print_ratio(rt, hundredths(done, plain), 0)?;
+fn print_call(
+    rt: &(impl Print + Clock),
+    name: &str,
+    call: Call,
+    texts: &mut Texts,
+    sum: &mut u64,
+) -> io::Result<()> {
+    let rivals = [call, Call::PlainSha1];
+    let [nanos, plain] = fastest(PASSES, &rivals, |call| pass_nanos(rt, call, texts, sum))?;
+    let done = rate(call, nanos);
+    print!(rt; "aes {name}: {} MB/s, ", done / 1000)?;
+    print_ratio(rt, hundredths(done, rate(Call::PlainSha1, plain)), 0)?;
     println!(rt)
 }
 
 /// Prints how fast each call is.
 pub fn print_times(rt: &(impl Print + Clock)) -> io::Result<()> {
+    let mut texts = filled_texts();
     let mut sum = 0;
-    for i in 0..Call::ALL.len() {
-        print_call(rt, Call::ALL[i], &mut sum)?;
+    for (name, call) in &CALLS {
+        print_call(rt, name, *call, &mut texts, &mut sum)?;
     }
     print_bytes(rt, "checksum ", &sum.to_be_bytes())
 }

@@ -17,8 +17,8 @@ pub fn fastest<T: Copy, F: FnMut(T) -> io::Result<u128>, const N: usize>(
 {
     let mut best = [u128::MAX; N];
     for _ in 0..passes {
-        for (best, rival) in best.iter_mut().zip(rivals) {
-            *best = nanos(*rival)?.min(*best);
+        for i in 0..N {
+            best[i] = nanos(rivals[i])?.min(best[i]);
         }
     }
     Ok(best)

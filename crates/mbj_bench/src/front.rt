@@ -4,9 +4,9 @@ ghost use Rattle.std.specs.Prelude.{◌≤◌, length};
 ghost use Rattle.mbj_bench.specs.declared.front.TheConstants.{MOST_PARTIES};
 
 use crate::clock::nanos_since;
-use crate::kinds::MOST_BYTES;
+use crate::kinds::{HMAC_KEY, IV, MOST_BYTES, aes_key};
 use crate::line::{hundredths, print_name, print_ratio};
-use crate::making::{null_job, packet, put_auth, put_cipher};
+use crate::making::{null_job, put_auth, put_cipher};
 use mbj_types::{Auth, Cipher, Done, Job};
 use mbj_work::{OpenGate, run_private, run_shared};
 use std::alloc::{AllocError, Global};
@@ -83,29 +83,22 @@ impl Work {
     }
 }
 
-/// The keys of AES and of HMACs, and the IV of CBC and CTR, of which GCM takes the first 12 bytes.
-const AES_KEY: [u8; 16] = [0x2b; 16];
-
-const HMAC_KEY: [u8; 20] = [0x0b; 20];
-
-const IV: [u8; 16] = [0x0f; 16];
-
 /// Makes a job over a packet the one that a mix has at this turn.
 fn prepare(alloc: Global, job: &mut Job, turn: u32) -> Result<(), AllocError> {
     match turn {
         0 => put_auth(alloc, job, Auth::HmacSha1, &HMAC_KEY, 12),
         1 => {
-            put_cipher(alloc, job, Cipher::Cbc, &AES_KEY, &IV)?;
+            put_cipher(alloc, job, Cipher::Cbc, aes_key(10), &IV)?;
             put_auth(alloc, job, Auth::HmacSha256, &HMAC_KEY, 16)
         }
         2 => {
-            put_cipher(alloc, job, Cipher::Ctr, &AES_KEY, &IV)?;
+            put_cipher(alloc, job, Cipher::Ctr, aes_key(10), &IV)?;
             put_auth(alloc, job, Auth::HmacSha512, &HMAC_KEY, 32)
         }
         _ => {
             job.auth = Auth::Gcm;
             job.tag_len = 16;
-            put_cipher(alloc, job, Cipher::Gcm, &AES_KEY, &IV[..12])
+            put_cipher(alloc, job, Cipher::Gcm, aes_key(10), &IV[..12])
         }
     }
 }
@@ -118,7 +111,7 @@ fn job(alloc: Global, work: Work, number: u32) -> Result<Job, AllocError> {
         Work::CbcHmacSha256 => 1,
         Work::Mix => number.wrapping_add(number / 4) % 4,
     };
-    let mut job = null_job(alloc, packet(alloc, MOST_BYTES)?);
+    let mut job = null_job(alloc, MOST_BYTES)?;
     prepare(alloc, &mut job, turn)?;
     Ok(job)
 }

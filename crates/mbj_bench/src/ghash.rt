@@ -1,5 +1,5 @@
-use crate::clock::nanos_since;
-use crate::line::{print_bytes, print_rate};
+use crate::clock::{fastest, nanos_since};
+use crate::line::{print_bytes, print_length, print_rate};
 use mbj_aes::Schedule;
 use mbj_gcm::seal;
 use mbj_ghash::Ghash;
@@ -85,30 +85,13 @@ fn pass_nanos(rt: &impl Clock, work: Work, text: &mut [u8], sum: &mut u64) -> io
     nanos_since(rt, start)
 }
 
-/// The fastest pass of each work over a text, in nanoseconds. They take turns, so that what else the machine does meets
-/// them alike.
-fn fastest(rt: &impl Clock, text: &mut [u8], sum: &mut u64) -> io::Result<[u128; 3]> {
-    let mut best = [u128::MAX; 3];
-    for _ in 0..PASSES {
-        for i in 0..3 {
-            best[i] = pass_nanos(rt, Work::ALL[i], text, sum)?.min(best[i]);
-        }
-    }
-    Ok(best)
-}
-
-/// Begins a line with a work and the length of its text.
-fn print_work(rt: &impl Print, work: Work, len: usize) -> io::Result<()> {
-    print!(rt; "{:<10}{len:>6} bytes", work.name())
-}
-
 /// Prints MB/s of GHASH and of `seal` over a text, and in how many times less time than the plain crate for SHA-1 they ran.
 fn print_text(rt: &(impl Print + Clock), text: &mut [u8], sum: &mut u64) -> io::Result<()> {
     let len = text.len();
-    let best = fastest(rt, text, sum)?;
+    let best = fastest(PASSES, &Work::ALL, |work| pass_nanos(rt, work, text, sum))?;
     let pass_bytes = (PASS_BYTES - PASS_BYTES % len.max(1)) as u128;
     for i in 0..3 {
-        print_work(rt, Work::ALL[i], len)?;
+        print_length(rt, Work::ALL[i].name(), 10, len)?;
         print_rate(rt, pass_bytes, best[i], best[0])?;
     }
     Ok(())

@@ -16,9 +16,9 @@ pub fn print_name(rt: &impl Print, name: &str, width: usize) -> io::Result<()> {
     print!(rt; "{name:<width$}")
 }
 
-/// Prints a name and a length.
-pub fn print_length(rt: &impl Print, name: &str, len: usize) -> io::Result<()> {
-    print!(rt; "{name:<12}{len:>5} bytes")
+/// Prints a name in a column of so many characters, and a length.
+pub fn print_length(rt: &impl Print, name: &str, width: usize, len: usize) -> io::Result<()> {
+    print!(rt; "{name:<width$}{len:>6} bytes")
 }
 
 /// How many hundredths of a time another one goes into it.

@@ -1,7 +1,8 @@
 //! Full lists of entries, from their making to their packets' return, beside the plain functions on the same packets.
 ghost use Rattle.std.specs.Prelude.{◌≤◌, All};
 
-use crate::clock::nanos_since;
+use crate::clock::{fastest, nanos_since};
+use crate::jobs::{SHARE, Work};
 use crate::kinds::{MOST_BYTES, Timed};
 use crate::line::{print_bytes, print_length, print_rate};
 use crate::making::packets;
@@ -9,6 +10,7 @@ use mbj_cbc::CbcKernel;
 use mbj_cmac::CmacKernel;
 use mbj_hmac::{Hmac1Kernel, Hmac256Kernel, Hmac512Kernel};
 use mbj_lane::{Kernel, Lanes};
+use mbj_types::Kind;
 use std::alloc::{AllocError, Global};
 use std::io::Print;
 use std::time::{Clock, Instant};
@@ -18,7 +20,7 @@ use std::{io, mem};
 pub const LENGTHS: [usize; 3] = [64, 256, MOST_BYTES];
 
 /// The bytes of one pass, and the passes of which the fastest counts.
-const PASS_BYTES: u64 = 262_144;
+const PASS_BYTES: usize = 262_144;
 
 const PASSES: u32 = 40;
 
@@ -52,7 +54,7 @@ fn list_of<K: Timed>(alloc: Global, packets: &mut [Vec<u8>]) -> Result<Filled<K>
 
 /// Leads a full list to its end: all entries are over as many bytes, so that one run does. The packets come back, and the
 /// answer is a byte that the results depend on.
-pub fn run_list<K: Timed>(alloc: Global, packets: &mut [Vec<u8>]) -> Result<u8, AllocError> {
+fn run_list<K: Timed>(alloc: Global, packets: &mut [Vec<u8>]) -> Result<u8, AllocError> {
     let Filled { mut lanes } = list_of::<K>(alloc, packets)?;
     if lanes.len() > 0 {
         lanes.run_shortest();
@@ -69,7 +71,7 @@ pub fn run_list<K: Timed>(alloc: Global, packets: &mut [Vec<u8>]) -> Result<u8, 
 }
 
 /// The plain function on each packet.
-pub fn run_plain<K: Timed>(packets: &mut [Vec<u8>]) -> u8 {
+fn run_plain<K: Timed>(packets: &mut [Vec<u8>]) -> u8 {
     let mut sum = 0;
     for i in 0..packets.len() {
         sum ^= K::plain(&mut packets[i]);
@@ -77,101 +79,112 @@ pub fn run_plain<K: Timed>(packets: &mut [Vec<u8>]) -> u8 {
     sum
 }
 
-/// The bytes of packets.
-fn bytes_of(packets: &[Vec<u8>]) -> u64 {
-    let mut bytes = 0u64;
-    for packet in packets {
-        bytes = bytes.wrapping_add(packet.len() as u64);
+/// The packets of one kind as entries in full lists, or one after another by the plain function.
+fn run_kernel<K: Timed>(
+    alloc: Global,
+    in_lists: bool,
+    packets: &mut [Vec<u8>],
+) -> Result<u8, AllocError> {
+    if !in_lists {
+        return Ok(run_plain::<K>(packets));
     }
-    bytes
+    let mut sum = 0;
+    for lanes in packets.chunks_mut(K::LANES as usize) {
+        sum ^= run_list::<K>(alloc, lanes)?;
+    }
+    Ok(sum)
 }
 
-/// The time of one pass of full lists, in nanoseconds. What is computed goes into `sum`, so that none of it is left out.
-fn list_nanos<K: Timed>(
+fn run_kind(
+    alloc: Global,
+    in_lists: bool,
+    kind: Kind,
+    packets: &mut [Vec<u8>],
+) -> Result<u8, AllocError> {
+    match kind {
+        Kind::Cbc128 => run_kernel::<CbcKernel<10>>(alloc, in_lists, packets),
+        Kind::Cbc192 => run_kernel::<CbcKernel<12>>(alloc, in_lists, packets),
+        Kind::Cbc256 => run_kernel::<CbcKernel<14>>(alloc, in_lists, packets),
+        Kind::Cmac128 => run_kernel::<CmacKernel<10>>(alloc, in_lists, packets),
+        Kind::Cmac256 => run_kernel::<CmacKernel<14>>(alloc, in_lists, packets),
+        Kind::HmacSha1 => run_kernel::<Hmac1Kernel>(alloc, in_lists, packets),
+        Kind::HmacSha256 => run_kernel::<Hmac256Kernel>(alloc, in_lists, packets),
+        Kind::HmacSha512 => run_kernel::<Hmac512Kernel>(alloc, in_lists, packets),
+    }
+}
+
+/// The work on packets of no jobs.
+fn run_work(
+    alloc: Global,
+    in_lists: bool,
+    work: Work,
+    packets: &mut [Vec<u8>],
+) -> Result<u8, AllocError> {
+    let mut sum = 0;
+    match work {
+        Work::Null => {}
+        Work::One(kind) => sum = run_kind(alloc, in_lists, kind, packets)?,
+        Work::Mix => {
+            for (share, kind) in packets.chunks_mut(SHARE).zip(&Kind::ALL) {
+                sum ^= run_kind(alloc, in_lists, *kind, share)?;
+            }
+        }
+    }
+    Ok(sum)
+}
+
+/// How long so many turns of the work take on packets of no jobs. What is computed goes into `sum`, so that none of it is
+/// left out.
+pub fn nanos_of_packets(
     rt: &impl Clock,
     alloc: Global,
+    in_lists: bool,
+    work: Work,
     packets: &mut [Vec<u8>],
-    turns: u64,
+    turns: usize,
     sum: &mut u8,
 ) -> io::Result<u128> {
     let start = Instant::now(rt)?;
     for _ in 0..turns {
-        *sum ^= run_list::<K>(alloc, packets)?;
+        *sum ^= run_work(alloc, in_lists, work, packets)?;
     }
     nanos_since(rt, start)
 }
 
-/// The same of the plain function.
-fn plain_nanos<K: Timed>(
-    rt: &impl Clock,
-    packets: &mut [Vec<u8>],
-    turns: u64,
-    sum: &mut u8,
-) -> io::Result<u128> {
-    let start = Instant::now(rt)?;
-    for _ in 0..turns {
-        *sum ^= run_plain::<K>(packets);
-    }
-    nanos_since(rt, start)
-}
-
-/// The fastest pass of full lists and of the plain function, in nanoseconds. They take turns, so that what else the machine
-/// does meets them alike.
-fn fastest<K: Timed>(
-    rt: &impl Clock,
-    alloc: Global,
-    packets: &mut [Vec<u8>],
-    turns: u64,
-    sum: &mut u8,
-) -> io::Result<(u128, u128)> {
-    let mut lists = u128::MAX;
-    let mut plain = u128::MAX;
-    for _ in 0..PASSES {
-        lists = list_nanos::<K>(rt, alloc, packets, turns, sum)?.min(lists);
-        plain = plain_nanos::<K>(rt, packets, turns, sum)?.min(plain);
-    }
-    Ok((lists, plain))
-}
-
-/// Prints MB/s of full lists over these packets, and in how many times less time than the plain function they ran.
-fn print_packets<K: Timed>(
+/// Prints MB/s of a full list over packets of so many bytes, and in how many times less time than the plain function it ran.
+fn print_list(
     rt: &(impl Print + Clock),
     alloc: Global,
-    packets: &mut [Vec<u8>],
+    kind: Kind,
     len: usize,
     sum: &mut u8,
 ) -> io::Result<()> {
-    let turn_bytes = bytes_of(packets);
+    let mut packets = packets(alloc, kind.lanes(), len)?;
+    let turn_bytes = len.saturating_mul(packets.len());
     let turns = PASS_BYTES.checked_div(turn_bytes).unwrap_or(0);
-    let (lists, plain) = fastest::<K>(rt, alloc, packets, turns, sum)?;
+    let [lists, plain] = fastest(PASSES, &[true, false], |in_lists| {
+        nanos_of_packets(
+            rt,
+            alloc,
+            in_lists,
+            Work::One(kind),
+            &mut packets,
+            turns,
+            sum,
+        )
+    })?;
     print!(rt; "lists of ")?;
-    print_length(rt, K::name(), len)?;
-    print_rate(rt, turns.wrapping_mul(turn_bytes) as u128, lists, plain)
+    print_length(rt, kind.name(), 11, len)?;
+    print_rate(rt, turns.saturating_mul(turn_bytes) as u128, lists, plain)
 }
 
-/// Prints how fast full lists of a kind are by the length of the packets.
-fn print_kernel<K: Timed>(
-    rt: &(impl Print + Clock),
-    alloc: Global,
-    sum: &mut u8,
-) -> io::Result<()> {
-    for i in 0..3 {
-        let mut packets = packets(alloc, K::LANES, LENGTHS[i])?;
-        print_packets::<K>(rt, alloc, &mut packets, LENGTHS[i], sum)?;
-    }
-    Ok(())
-}
-
-/// Prints how fast full lists of each kind are.
+/// Prints how fast full lists of each kind are by the length of the packets.
 pub fn print_times(rt: &(impl Print + Clock), alloc: Global) -> io::Result<()> {
     let mut sum = 0;
-    print_kernel::<CbcKernel<10>>(rt, alloc, &mut sum)?;
-    print_kernel::<CbcKernel<12>>(rt, alloc, &mut sum)?;
-    print_kernel::<CbcKernel<14>>(rt, alloc, &mut sum)?;
-    print_kernel::<CmacKernel<10>>(rt, alloc, &mut sum)?;
-    print_kernel::<CmacKernel<14>>(rt, alloc, &mut sum)?;
-    print_kernel::<Hmac1Kernel>(rt, alloc, &mut sum)?;
-    print_kernel::<Hmac256Kernel>(rt, alloc, &mut sum)?;
-    print_kernel::<Hmac512Kernel>(rt, alloc, &mut sum)?;
+    for kind in &Kind::ALL {
+        for len in &LENGTHS {
+            print_list(rt, alloc, *kind, *len, &mut sum)?;
+        }
+    }
     print_bytes(rt, "checksum ", &[sum])
 }

@@ -5,7 +5,7 @@ use mbj_types::{Auth, Bytes, Cipher, Job};
 use std::alloc::{AllocError, Global};
 
 /// A packet of `len` bytes.
-pub fn packet(alloc: Global, len: usize) -> Result<Vec<u8>, AllocError> {
+fn packet(alloc: Global, len: usize) -> Result<Vec<u8>, AllocError> {
     let mut packet = Vec::new(alloc);
     packet.resize(len, 0)?;
     fill(&mut packet);
@@ -21,11 +21,11 @@ pub fn packets(alloc: Global, count: u32, len: usize) -> Result<Vec<Vec<u8>>, Al
     Ok(packets)
 }
 
-/// A job that does nothing with a packet.
-pub fn null_job(alloc: Global, packet: Vec<u8>) -> Job {
+/// A job that does nothing with a packet of `len` bytes.
+pub fn null_job(alloc: Global, len: usize) -> Result<Job, AllocError> {
     let mut job = Job::blank(alloc);
-    job.packet = Bytes::from_vec(packet);
-    job
+    job.packet = Bytes::from_vec(packet(alloc, len)?);
+    Ok(job)
 }
 
 /// Gives a job a tag of `tag_len` bytes over its packet.
@@ -56,30 +56,4 @@ pub fn put_cipher(
     job.iv = Bytes::from_vec(iv.to_vec(alloc)?);
     job.cipher_len = whole(job.packet.as_slice()) as u32;
     Ok(())
-}
-
-/// A job with a tag over a packet.
-pub fn auth_job(
-    alloc: Global,
-    packet: Vec<u8>,
-    auth: Auth,
-    key: &[u8],
-    tag_len: u8,
-) -> Result<Job, AllocError> {
-    let mut job = null_job(alloc, packet);
-    put_auth(alloc, &mut job, auth, key, tag_len)?;
-    Ok(job)
-}
-
-/// A job with a cipher over the whole blocks of a packet.
-pub fn cipher_job(
-    alloc: Global,
-    packet: Vec<u8>,
-    cipher: Cipher,
-    key: &[u8],
-    iv: &[u8],
-) -> Result<Job, AllocError> {
-    let mut job = null_job(alloc, packet);
-    put_cipher(alloc, &mut job, cipher, key, iv)?;
-    Ok(job)
 }
