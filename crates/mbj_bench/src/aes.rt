@@ -76,20 +76,18 @@ const CALLS: [(&str, Call); 14] = [
 
 impl Call {
     /// The bytes of text, or of schedule, of one turn.
-    fn bytes(self) -> u32
-        ensures { 1 ≤ result }
-    {
+    fn bytes(self) -> u32 {
         match self {
             Call::Encrypt16(_) | Call::Decrypt16(_) => 256,
             Call::Put | Call::Expand => SCHEDULE_BYTES,
-            Call::Ctr(len) | Call::CbcDecryption(len) => len.clamp(1, TEXT_BYTES) as u32,
+            Call::Ctr(len) | Call::CbcDecryption(len) => len.min(TEXT_BYTES) as u32,
             Call::PlainSha1 => TURN_BYTES as u32,
         }
     }
 
     /// The turns of one pass.
     fn turns(self) -> u32 {
-        PASS_BYTES / self.bytes()
+        PASS_BYTES.checked_div(self.bytes()).unwrap_or(0)
     }
 }
 

@@ -3,7 +3,7 @@
 ghost use Rattle.std.specs.Prelude.{◌≤◌, length};
 ghost use Rattle.mbj_bench.specs.declared.front.TheConstants.{MOST_PARTIES};
 
-use crate::clock::nanos_since;
+use crate::clock::{fastest, nanos_since};
 use crate::kinds::{HMAC_KEY, IV, MOST_BYTES, aes_key};
 use crate::line::{hundredths, print_name, print_ratio};
 use crate::making::{null_job, put_auth, put_cipher};
@@ -168,18 +168,17 @@ fn run<R: Threads + Wait + Sync>(
     }
 }
 
-/// The microseconds since `start`, and how many results there are.
-fn micros_and_count(
+/// The nanoseconds since `start`, and how many results there are.
+fn nanos_and_count(
     rt: &impl Clock,
     start: Instant,
     lists: &[Vec<Done>],
 ) -> io::Result<(u128, usize)> {
-    let micros = nanos_since(rt, start)? / 1000;
-    Ok((micros, count(lists)))
+    Ok((nanos_since(rt, start)?, count(lists)))
 }
 
-/// The time that the jobs take a crew, in microseconds, and how many results there are.
-fn micros_of<R: Threads + Wait + Sync + Clock>(
+/// The time that the jobs take a crew, in nanoseconds, and how many results there are.
+fn time_of<R: Threads + Wait + Sync + Clock>(
     rt: &R,
     alloc: Global,
     crew: Crew,
@@ -190,11 +189,11 @@ fn micros_of<R: Threads + Wait + Sync + Clock>(
 {
     let start = Instant::now(rt)?;
     let done = run(rt, alloc, crew, lists)?;
-    micros_and_count(rt, start, &done)
+    nanos_and_count(rt, start, &done)
 }
 
 /// The same for jobs of the work that are dealt to the crew.
-fn micros<R: Threads + Wait + Sync + Clock>(
+fn time_of_work<R: Threads + Wait + Sync + Clock>(
     rt: &R,
     alloc: Global,
     work: Work,
@@ -204,26 +203,7 @@ fn micros<R: Threads + Wait + Sync + Clock>(
     if lists.is_empty() || lists.len() > MOST_PARTIES as usize {
         return Ok((u128::MAX, 0));
     }
-    micros_of(rt, alloc, crew, lists)
-}
-
-/// The least time that the jobs take each crew, in microseconds, and how many results there were. The crews take turns, so
-/// that what else the machine does meets them alike.
-fn fastest<R: Threads + Wait + Sync + Clock>(
-    rt: &R,
-    alloc: Global,
-    work: Work,
-) -> io::Result<[(u128, usize); 8]> {
-    let mut best = [(u128::MAX, 0); 8];
-    for _ in 0..TURNS {
-        for i in 0..8 {
-            let run = micros(rt, alloc, work, Crew::ALL[i])?;
-            if run.0 < best[i].0 {
-                best[i] = run;
-            }
-        }
-    }
-    Ok(best)
+    time_of(rt, alloc, crew, lists)
 }
 
 /// Begins a line with a crew and what its jobs are.
@@ -232,24 +212,29 @@ fn print_crew(rt: &impl Print, crew: Crew, work: Work) -> io::Result<()> {
     print_name(rt, work.name(), 18)
 }
 
-/// Ends a line with how many results there were, after how many microseconds, and in how many times less time than one
+/// Ends a line with how many results there were, after how many nanoseconds, and in how many times less time than one
 /// submitter took alone.
-fn print_run(rt: &impl Print, results: usize, micros: u128, alone: u128) -> io::Result<()> {
-    print!(rt; "{results} jobs {micros:>8} us ")?;
-    print_ratio(rt, hundredths(alone, micros), 3)?;
+fn print_run(rt: &impl Print, results: usize, nanos: u128, alone: u128) -> io::Result<()> {
+    print!(rt; "{results} jobs {:>8} us ", nanos / 1000)?;
+    print_ratio(rt, hundredths(alone, nanos), 3)?;
     println!(rt)
 }
 
-/// Prints how long the jobs of a work take each crew.
+/// Prints how long the jobs of a work take each crew at least, and the least number of results of any run.
 fn print_work<R: Threads + Wait + Sync + Clock + Print>(
     rt: &R,
     alloc: Global,
     work: Work,
 ) -> io::Result<()> {
-    let best = fastest(rt, alloc, work)?;
+    let mut results = usize::MAX;
+    let best = fastest(TURNS, &Crew::ALL, |crew| {
+        let (nanos, count) = time_of_work(rt, alloc, work, crew)?;
+        results = count.min(results);
+        Ok(nanos)
+    })?;
     for i in 0..8 {
         print_crew(rt, Crew::ALL[i], work)?;
-        print_run(rt, best[i].1, best[i].0, best[0].0)?;
+        print_run(rt, results, best[i], best[0])?;
     }
     Ok(())
 }

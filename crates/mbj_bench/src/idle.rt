@@ -5,7 +5,7 @@ ghost use Rattle.mbj_core.specs.Parties.{new_party};
 ghost use Rattle.mbj_front.specs.Seats.{view_of, submitters_of, IsIssued, IsOf};
 ghost use Rattle.mbj_work.specs.Parties.{IsPartyOf, Submits};
 
-use crate::clock::nanos_since;
+use crate::clock::{fastest, nanos_since};
 use crate::front::{TURNS, Work, list};
 use crate::line::{hundredths, print_ratio};
 use mbj_core::SUBMITTER_CELLS;
@@ -133,7 +133,7 @@ fn work_beside<R: Threads + Wait + Sync>(
     results
 }
 
-/// The time that the jobs take a submitter, in microseconds, and how many results there are.
+/// The time that the jobs take a submitter, in nanoseconds, and how many results there are.
 fn time_of<R: Threads + Wait + Sync + Clock>(
     rt: &R,
     alloc: Global,
@@ -152,23 +152,7 @@ fn time_of<R: Threads + Wait + Sync + Clock>(
     } else {
         work(rt, alloc, front, submitter, jobs)?
     };
-    Ok((nanos_since(rt, start)? / 1000, results))
-}
-
-/// The same beside a party of the second seat.
-fn time_beside<R: Threads + Wait + Sync + Clock>(
-    rt: &R,
-    alloc: Global,
-    front: &Front,
-    submitter: &mut Party,
-    second: Seat,
-    is_beside: bool,
-) -> io::Result<(u128, usize)>
-    requires submitter { IsPartyOf front.now submitter.old × Submits front.now submitter.old }
-    requires second { IsOf front.now second × (view_of second ≡ new_party 1) }
-{
-    let mut worker = Party::new(alloc, second)?;
-    time_of(rt, alloc, front, submitter, &mut worker, is_beside)
+    Ok((nanos_since(rt, start)?, results))
 }
 
 /// The same by parties of the two seats.
@@ -185,11 +169,12 @@ fn time_of_seats<R: Threads + Wait + Sync + Clock>(
     requires few { submitters_of front.now ≡ 1 }
 {
     let mut submitter = Party::new(alloc, first)?;
-    time_beside(rt, alloc, front, &mut submitter, second, is_beside)
+    let mut worker = Party::new(alloc, second)?;
+    time_of(rt, alloc, front, &mut submitter, &mut worker, is_beside)
 }
 
 /// The same over a new front.
-fn micros<R: Threads + Wait + Sync + Clock>(
+fn time_of_new<R: Threads + Wait + Sync + Clock>(
     rt: &R,
     alloc: Global,
     is_beside: bool,
@@ -201,40 +186,27 @@ fn micros<R: Threads + Wait + Sync + Clock>(
     }
 }
 
-/// The least time that the jobs take a submitter alone and beside a worker, in microseconds, and how many results there are.
-fn fastest<R: Threads + Wait + Sync + Clock>(
-    rt: &R,
-    alloc: Global,
-) -> io::Result<(u128, u128, usize)> {
-    let mut alone = u128::MAX;
-    let mut beside = u128::MAX;
-    let mut results = 0;
-    for _ in 0..TURNS {
-        alone = micros(rt, alloc, false)?.0.min(alone);
-        let (time, count) = micros(rt, alloc, true)?;
-        beside = time.min(beside);
-        results = count;
-    }
-    Ok((alone, beside, results))
-}
-
 /// Prints how long a submitter takes who works its own jobs, alone and beside a worker who looks at the same cells and finds
 /// hardly any job, and in how many times as much time.
 pub fn print_times<R: Threads + Wait + Sync + Clock + Print>(
     rt: &R,
     alloc: Global,
 ) -> io::Result<()> {
-    let (alone, beside, results) = fastest(rt, alloc)?;
-    print_alone(rt, alone, results)?;
-    print_beside(rt, beside)?;
+    let mut results = 0;
+    let [alone, beside] = fastest(TURNS, &[false, true], |is_beside| {
+        let (nanos, count) = time_of_new(rt, alloc, is_beside)?;
+        results = count;
+        Ok(nanos)
+    })?;
+    print_line(rt, results, alone, beside)
+}
+
+fn print_line(rt: &impl Print, results: usize, alone: u128, beside: u128) -> io::Result<()> {
+    print!(rt;
+        "front, a busy submitter {results} jobs {} us, ",
+        alone / 1000
+    )?;
+    print!(rt; "beside an idle worker {} us ", beside / 1000)?;
     print_ratio(rt, hundredths(beside, alone), 0)?;
     println!(rt)
-}
-
-fn print_alone(rt: &impl Print, micros: u128, results: usize) -> io::Result<()> {
-    print!(rt; "front, a busy submitter {results} jobs {micros} us, ")
-}
-
-fn print_beside(rt: &impl Print, micros: u128) -> io::Result<()> {
-    print!(rt; "beside an idle worker {micros} us ")
 }
