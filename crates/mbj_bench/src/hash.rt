@@ -1,6 +1,8 @@
 //! The three hashes, each in the forms of its compression that are timed beside one another.
-ghost use Rattle.std.specs.Prelude.{◌<◌};
+ghost use Rattle.std.specs.Prelude.{◌≡◌, ℕ, ◌<◌, length};
 
+use crate::line::print_words;
+use crate::vector::{Vector, fill, value_in};
 use std::io;
 use std::io::Print;
 
@@ -33,7 +35,8 @@ impl Form {
     }
 }
 
-/// A hash whose compression is timed.
+/// A hash whose compression is timed. A form of it leads the initial hash value in each lane through a block of its own by
+/// so many calls, and answers the hash value of one lane.
 pub trait Hash {
     /// As many blocks as a wide vector has lanes.
     type Blocks: Copy;
@@ -43,27 +46,21 @@ pub trait Hash {
     /// The names of the narrow and of the wide form where digests are printed.
     const LANES: [&'static str; 2];
 
-    /// The words of a digest, and the hexadecimal digits of each.
-    const WORDS: usize;
-
-    const DIGITS: usize;
-
     /// Blocks of sevens.
     const SEVENS: Self::Blocks;
 
     /// The padded blocks of "abc" and of the empty message, by turns.
     fn short_blocks() -> Self::Blocks;
 
-    /// Leads the initial hash value in each lane of a narrow vector through the blocks by so many calls, and answers the
-    /// hash value of one lane.
+    /// Vectors of 128 bits.
     fn narrow(blocks: &Self::Blocks, calls: u32, lane: usize) -> [u64; 8]
         requires { lane < 2 };
 
-    /// The same in a wide vector.
+    /// Vectors of 256 bits.
     fn wide(blocks: &Self::Blocks, calls: u32, lane: usize) -> [u64; 8]
         requires { lane < 2 };
 
-    /// The same in arrays.
+    /// Arrays.
     fn arrays(blocks: &Self::Blocks, calls: u32, lane: usize) -> [u64; 8]
         requires { lane < 2 };
 
@@ -72,13 +69,48 @@ pub trait Hash {
 
     /// The crate that hashes one message, and a byte of its digest.
     fn plain(turns: u32) -> u64;
+
+    /// Ends a line with a hash value.
+    fn print(rt: &impl Print, value: &[u64; 8]) -> io::Result<()>;
+}
+
+/// A hash in the lanes of a vector.
+pub trait LaneHash<V: Vector> {
+    /// How many words a hash value has.
+    ghost count: { ℕ };
+
+    /// The initial hash value, with zeros behind it.
+    fn initial() -> [u64; 8];
+
+    /// `compress_lanes`.
+    fn compress(states: &mut [V], words: &mut [V])
+        requires states { length states.old ≡ count }
+        requires words { length words.old ≡ 16 };
+}
+
+/// Leads the initial hash value in each lane through the words of its block.
+pub fn lead<V: Vector, H: LaneHash<V>>(
+    states: &mut [V],
+    words: &mut [V],
+    calls: u32,
+    lane: usize,
+) -> [u64; 8]
+    requires states { length states.old ≡ H.count }
+    requires words { length words.old ≡ 16 }
+    requires lane { lane < 2 }
+{
+    fill(states, &H::initial());
+    for _ in 0..calls {
+        H::compress(states, words);
+    }
+    value_in(states, lane)
 }
 
 /// The words of a hash value of 32 bits each, in the place of 64.
-pub fn widened(words: &[u32]) -> [u64; 8] {
+pub fn widened<const N: usize>(words: &[u32; N]) -> [u64; 8] {
     let mut wide = [0; 8];
-    for (wide, word) in wide.iter_mut().zip(words) {
-        *wide = *word as u64;
+    for i in 0..N.min(8) {
+        wide[i] = words[i] as u64;
     }
     wide
 }
@@ -98,24 +130,34 @@ fn print_digest<H: Hash>(
     rt: &impl Print,
     form: &str,
     message: &str,
-    digest: [u64; 8],
+    digest: &[u64; 8],
 ) -> io::Result<()> {
     print!(rt; "{} {form}, {message}: ", H::NAME)?;
-    for word in digest.iter().take(H::WORDS) {
-        print!(rt; "{word:0width$x}", width = H::DIGITS)?;
-    }
-    println!(rt)
+    H::print(rt, digest)
 }
 
-/// Prints the digests of a hash: those of "abc" and of the empty message, in lanes side by side, by each form, and that of
-/// the standard's example of two blocks.
-pub fn print_digests<H: Hash>(rt: &impl Print) -> io::Result<()> {
+/// Prints the digests of "abc" and of the empty message by a form.
+fn print_pair<H: Hash>(rt: &impl Print, form: Form, name: &str) -> io::Result<()> {
+    print_digest::<H>(rt, name, "abc", &short_digest::<H>(form, 0))?;
+    print_digest::<H>(rt, name, "empty", &short_digest::<H>(form, 1))
+}
+
+/// The digest of "abc" or of the empty message, in lanes side by side.
+fn short_digest<H: Hash>(form: Form, lane: usize) -> [u64; 8]
+    requires { lane < 2 }
+{
     let blocks = H::short_blocks();
-    print_digest::<H>(rt, "arrays", "abc", H::arrays(&blocks, 1, 0))?;
-    print_digest::<H>(rt, "arrays", "empty", H::arrays(&blocks, 1, 1))?;
-    print_digest::<H>(rt, H::LANES[0], "abc", H::narrow(&blocks, 1, 0))?;
-    print_digest::<H>(rt, H::LANES[0], "empty", H::narrow(&blocks, 1, 1))?;
-    print_digest::<H>(rt, H::LANES[1], "abc", H::wide(&blocks, 1, 0))?;
-    print_digest::<H>(rt, H::LANES[1], "empty", H::wide(&blocks, 1, 1))?;
-    print_digest::<H>(rt, "arrays", "two blocks", H::long_digest())
+    match form {
+        Form::Narrow => H::narrow(&blocks, 1, lane),
+        Form::Wide => H::wide(&blocks, 1, lane),
+        Form::Plain | Form::Arrays => H::arrays(&blocks, 1, lane),
+    }
+}
+
+/// Prints the digests of a hash: the short ones by each form, and that of the standard's example of two blocks.
+pub fn print_digests<H: Hash>(rt: &impl Print) -> io::Result<()> {
+    print_pair::<H>(rt, Form::Arrays, "arrays")?;
+    print_pair::<H>(rt, Form::Narrow, H::LANES[0])?;
+    print_pair::<H>(rt, Form::Wide, H::LANES[1])?;
+    print_digest::<H>(rt, "arrays", "two blocks", &H::long_digest())
 }

@@ -155,6 +155,22 @@ fn time_of<R: Threads + Wait + Sync + Clock>(
     Ok((nanos_since(rt, start)?, results))
 }
 
+/// The same beside a party of the second seat.
+fn time_beside<R: Threads + Wait + Sync + Clock>(
+    rt: &R,
+    alloc: Global,
+    front: &Front,
+    submitter: &mut Party,
+    second: Seat,
+    is_beside: bool,
+) -> io::Result<(u128, usize)>
+    requires submitter { IsPartyOf front.now submitter.old × Submits front.now submitter.old }
+    requires second { IsOf front.now second × (view_of second ≡ new_party 1) }
+{
+    let mut worker = Party::new(alloc, second)?;
+    time_of(rt, alloc, front, submitter, &mut worker, is_beside)
+}
+
 /// The same by parties of the two seats.
 fn time_of_seats<R: Threads + Wait + Sync + Clock>(
     rt: &R,
@@ -169,8 +185,7 @@ fn time_of_seats<R: Threads + Wait + Sync + Clock>(
     requires few { submitters_of front.now ≡ 1 }
 {
     let mut submitter = Party::new(alloc, first)?;
-    let mut worker = Party::new(alloc, second)?;
-    time_of(rt, alloc, front, &mut submitter, &mut worker, is_beside)
+    time_beside(rt, alloc, front, &mut submitter, second, is_beside)
 }
 
 /// The same over a new front.
@@ -198,15 +213,18 @@ pub fn print_times<R: Threads + Wait + Sync + Clock + Print>(
         results = count;
         Ok(nanos)
     })?;
-    print_line(rt, results, alone, beside)
+    print_alone(rt, results, alone / 1000)?;
+    print_beside(rt, beside / 1000, hundredths(beside, alone))
 }
 
-fn print_line(rt: &impl Print, results: usize, alone: u128, beside: u128) -> io::Result<()> {
-    print!(rt;
-        "front, a busy submitter {results} jobs {} us, ",
-        alone / 1000
-    )?;
-    print!(rt; "beside an idle worker {} us ", beside / 1000)?;
-    print_ratio(rt, hundredths(beside, alone), 0)?;
+/// Begins the line with how many results there were, and how many microseconds the submitter took alone.
+fn print_alone(rt: &impl Print, results: usize, micros: u128) -> io::Result<()> {
+    print!(rt; "front, a busy submitter {results} jobs {micros} us, ")
+}
+
+/// Ends it with how many microseconds it took beside a worker.
+fn print_beside(rt: &impl Print, micros: u128, ratio: u128) -> io::Result<()> {
+    print!(rt; "beside an idle worker {micros} us ")?;
+    print_ratio(rt, ratio, 0)?;
     println!(rt)
 }

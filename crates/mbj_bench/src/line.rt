@@ -11,6 +11,14 @@ pub fn print_bytes(rt: &impl Print, label: &str, bytes: &[u8]) -> io::Result<()>
     println!(rt)
 }
 
+/// Ends a line with words of so many hexadecimal digits.
+pub fn print_words(rt: &impl Print, words: &[u64], digits: usize) -> io::Result<()> {
+    for word in words {
+        print!(rt; "{word:0digits$x}")?;
+    }
+    println!(rt)
+}
+
 /// Prints a name in a column of so many characters.
 pub fn print_name(rt: &impl Print, name: &str, width: usize) -> io::Result<()> {
     print!(rt; "{name:<width$}")

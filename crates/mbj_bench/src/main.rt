@@ -19,6 +19,7 @@ mod sha1_kernel;
 mod sha256_kernel;
 mod sha512_kernel;
 mod timing;
+mod vector;
 
 use crate::sha1_kernel::Sha1;
 use crate::sha256_kernel::Sha256;

@@ -1,7 +1,12 @@
-use crate::hash::{Hash, TURN_BYTES, widened};
+use crate::hash::{Hash, LaneHash, TURN_BYTES, lead, widened};
+use crate::line::print_words;
 use crate::message::{MESSAGE_448, padded};
+use crate::vector::Vector;
 use mbj_sha_lanes::load32::block_words;
 use mbj_sha1_lanes::{compress, compress_lanes};
+use mbj_types::Lane32;
+use std::io;
+use std::io::Print;
 use std::simd::{u32x4, u32x8};
 
 /// The initial hash value (FIPS 180-4, 5.3.1).
@@ -26,10 +31,6 @@ impl Hash for Sha1 {
 
     const LANES: [&'static str; 2] = ["4 lanes", "8 lanes"];
 
-    const WORDS: usize = 5;
-
-    const DIGITS: usize = 8;
-
     const SEVENS: [[u8; 64]; 8] = [[7; 64]; 8];
 
     fn short_blocks() -> [[u8; 64]; 8] {
@@ -38,21 +39,13 @@ impl Hash for Sha1 {
     }
 
     fn narrow(blocks: &[[u8; 64]; 8], calls: u32, lane: usize) -> [u64; 8] {
-        let mut states = INITIAL.map(|word| u32x4::splat(word));
         let mut words = block_words(blocks).map(|lanes| lanes.extract::<0, 4>());
-        for _ in 0..calls {
-            compress_lanes(&mut states, &mut words);
-        }
-        widened(&states.map(|lanes| lanes.to_array()[lane]))
+        lead::<u32x4, Sha1>(&mut [u32x4::splat(0); 5], &mut words, calls, lane)
     }
 
     fn wide(blocks: &[[u8; 64]; 8], calls: u32, lane: usize) -> [u64; 8] {
-        let mut states = INITIAL.map(|word| u32x8::splat(word));
         let mut words = block_words(blocks);
-        for _ in 0..calls {
-            compress_lanes(&mut states, &mut words);
-        }
-        widened(&states.map(|lanes| lanes.to_array()[lane]))
+        lead::<u32x8, Sha1>(&mut [u32x8::splat(0); 5], &mut words, calls, lane)
     }
 
     fn arrays(blocks: &[[u8; 64]; 8], calls: u32, lane: usize) -> [u64; 8] {
@@ -77,5 +70,21 @@ impl Hash for Sha1 {
             hasher.update(&[7; TURN_BYTES]);
         }
         hasher.finalize()[0] as u64
+    }
+
+    fn print(rt: &impl Print, value: &[u64; 8]) -> io::Result<()> {
+        print_words(rt, &value[..5], 8)
+    }
+}
+
+impl<V: Vector + Lane32> LaneHash<V> for Sha1 {
+    ghost count = { 5 };
+
+    fn initial() -> [u64; 8] {
+        widened(&INITIAL)
+    }
+
+    fn compress(states: &mut [V], words: &mut [V]) {
+        compress_lanes(states, words);
     }
 }

@@ -1,8 +1,13 @@
-use crate::hash::{Hash, TURN_BYTES};
+use crate::hash::{Hash, LaneHash, TURN_BYTES, lead};
+use crate::line::print_words;
 use crate::message::{MESSAGE_896, padded};
+use crate::vector::Vector;
 use mbj_sha_lanes::load64::block_words;
 use mbj_sha512_lanes::{compress, compress_lanes};
+use mbj_types::Lane64;
 use sha2::Digest;
+use std::io;
+use std::io::Print;
 use std::simd::{u64x2, u64x4};
 
 /// The initial hash value (FIPS 180-4, 5.3.5).
@@ -30,10 +35,6 @@ impl Hash for Sha512 {
 
     const LANES: [&'static str; 2] = ["2 lanes", "4 lanes"];
 
-    const WORDS: usize = 8;
-
-    const DIGITS: usize = 16;
-
     const SEVENS: [[u8; 128]; 4] = [[7; 128]; 4];
 
     fn short_blocks() -> [[u8; 128]; 4] {
@@ -42,21 +43,13 @@ impl Hash for Sha512 {
     }
 
     fn narrow(blocks: &[[u8; 128]; 4], calls: u32, lane: usize) -> [u64; 8] {
-        let mut states = INITIAL.map(|word| u64x2::splat(word));
         let mut words = block_words(blocks).map(|lanes| lanes.extract::<0, 2>());
-        for _ in 0..calls {
-            compress_lanes(&mut states, &mut words);
-        }
-        states.map(|lanes| lanes.to_array()[lane])
+        lead::<u64x2, Sha512>(&mut [u64x2::splat(0); 8], &mut words, calls, lane)
     }
 
     fn wide(blocks: &[[u8; 128]; 4], calls: u32, lane: usize) -> [u64; 8] {
-        let mut states = INITIAL.map(|word| u64x4::splat(word));
         let mut words = block_words(blocks);
-        for _ in 0..calls {
-            compress_lanes(&mut states, &mut words);
-        }
-        states.map(|lanes| lanes.to_array()[lane])
+        lead::<u64x4, Sha512>(&mut [u64x4::splat(0); 8], &mut words, calls, lane)
     }
 
     fn arrays(blocks: &[[u8; 128]; 4], calls: u32, lane: usize) -> [u64; 8] {
@@ -81,5 +74,21 @@ impl Hash for Sha512 {
             hasher.update(&[7; TURN_BYTES]);
         }
         hasher.finalize()[0] as u64
+    }
+
+    fn print(rt: &impl Print, value: &[u64; 8]) -> io::Result<()> {
+        print_words(rt, value, 16)
+    }
+}
+
+impl<V: Vector + Lane64> LaneHash<V> for Sha512 {
+    ghost count = { 8 };
+
+    fn initial() -> [u64; 8] {
+        INITIAL
+    }
+
+    fn compress(states: &mut [V], words: &mut [V]) {
+        compress_lanes(states, words);
     }
 }
