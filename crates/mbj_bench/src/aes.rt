@@ -4,8 +4,8 @@ ghost use Rattle.mbj_aes_lanes.specs.KeyLanes.{IsFull};
 use crate::clock::{fastest, nanos_since};
 use crate::ghash::fill;
 use crate::hash::{Hash, TURN_BYTES};
+use crate::hashes;
 use crate::line::{hundredths, print_bytes, print_ratio};
-use crate::sha1_kernel;
 use mbj_aes::Schedule;
 use mbj_aes_lanes::{LaneKeys, decrypt16, encrypt16};
 use mbj_cbc::decrypt_in_place;
@@ -197,7 +197,7 @@ fn run(call: Call, texts: &mut Texts, turns: u32) -> u64 {
         Call::CbcDecryption(len) => {
             cbc_decryption(&mut texts.text[..len.min(TEXT_BYTES) / 16 * 16], turns)
         }
-        Call::PlainSha1 => return sha1_kernel::Sha1::plain(turns),
+        Call::PlainSha1 => return hashes::Sha1::plain(turns),
     }
     (texts.blocks[0][0] ^ texts.text[0]) as u64
 }

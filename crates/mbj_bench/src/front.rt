@@ -16,42 +16,21 @@ use std::sync::Wait;
 use std::thread::Threads;
 use std::time::{Clock, Instant};
 
-/// Who does the jobs.
+/// Who does the jobs: a name, how many lists they are dealt to, each with a submitter, and how many workers serve the one
+/// front besides. With none there is no front: threads share nothing, each with a list and a manager of its own.
 #[derive(Clone, Copy)]
-enum Crew {
-    /// So many submitters and workers over one front.
-    Front(u32, u32),
-    /// So many threads that share nothing, each with jobs and a manager of its own.
-    Apart(u32),
-}
+struct Crew(&'static str, u32, Option<u32>);
 
-impl Crew {
-    const ALL: [Crew; 8] = [
-        Crew::Front(1, 0),
-        Crew::Front(1, 1),
-        Crew::Front(1, 3),
-        Crew::Front(2, 2),
-        Crew::Front(4, 0),
-        Crew::Front(4, 4),
-        Crew::Apart(2),
-        Crew::Apart(4),
-    ];
-
-    /// How many lists the jobs are dealt to.
-    fn lists(self) -> u32 {
-        match self {
-            Crew::Front(submitters, _) => submitters,
-            Crew::Apart(threads) => threads,
-        }
-    }
-
-    fn print_name(self, rt: &impl Print) -> io::Result<()> {
-        match self {
-            Crew::Front(submitters, workers) => print!(rt; "front {submitters}/{workers:<2}"),
-            Crew::Apart(threads) => print!(rt; "apart {threads:<4}"),
-        }
-    }
-}
+const CREWS: [Crew; 8] = [
+    Crew("front 1/0", 1, Some(0)),
+    Crew("front 1/1", 1, Some(1)),
+    Crew("front 1/3", 1, Some(3)),
+    Crew("front 2/2", 2, Some(2)),
+    Crew("front 4/0", 4, Some(0)),
+    Crew("front 4/4", 4, Some(4)),
+    Crew("apart 2", 2, None),
+    Crew("apart 4", 4, None),
+];
 
 /// How many jobs there are.
 const JOBS: u32 = 16_000;
@@ -71,16 +50,6 @@ pub enum Work {
     CbcHmacSha256,
     /// These two, CTR with HMAC-SHA-512, and GCM, by turns.
     Mix,
-}
-
-impl Work {
-    fn name(self) -> &'static str {
-        match self {
-            Work::HmacSha1 => "hmac-sha1",
-            Work::CbcHmacSha256 => "cbc, hmac-sha256",
-            Work::Mix => "a mix",
-        }
-    }
 }
 
 /// Makes a job over a packet the one that a mix has at this turn.
@@ -160,11 +129,9 @@ fn run<R: Threads + Wait + Sync>(
     requires some { 1 ≤ length lists.items }
     requires few { length lists.items ≤ MOST_PARTIES }
 {
-    match crew {
-        Crew::Front(_, workers) => {
-            run_shared(rt, alloc, lists, workers.min(MOST_PARTIES), &OpenGate)
-        }
-        Crew::Apart(_) => run_private(rt, alloc, lists),
+    match crew.2 {
+        Some(workers) => run_shared(rt, alloc, lists, workers.min(MOST_PARTIES), &OpenGate),
+        None => run_private(rt, alloc, lists),
     }
 }
 
@@ -199,17 +166,11 @@ fn time_of_work<R: Threads + Wait + Sync + Clock>(
     work: Work,
     crew: Crew,
 ) -> io::Result<(u128, usize)> {
-    let lists = lists(alloc, work, crew.lists())?;
+    let lists = lists(alloc, work, crew.1)?;
     if lists.is_empty() || lists.len() > MOST_PARTIES as usize {
         return Ok((u128::MAX, 0));
     }
     time_of(rt, alloc, crew, lists)
-}
-
-/// Begins a line with a crew and what its jobs are.
-fn print_crew(rt: &impl Print, crew: Crew, work: Work) -> io::Result<()> {
-    crew.print_name(rt)?;
-    print_name(rt, work.name(), 18)
 }
 
 /// Ends a line with how many results there were, after how many nanoseconds, and in how many times less time than one
@@ -224,16 +185,18 @@ fn print_run(rt: &impl Print, results: usize, nanos: u128, alone: u128) -> io::R
 fn print_work<R: Threads + Wait + Sync + Clock + Print>(
     rt: &R,
     alloc: Global,
+    name: &str,
     work: Work,
 ) -> io::Result<()> {
     let mut results = usize::MAX;
-    let best = fastest(TURNS, &Crew::ALL, |crew| {
+    let best = fastest(TURNS, &CREWS, |crew| {
         let (nanos, count) = time_of_work(rt, alloc, work, crew)?;
         results = count.min(results);
         Ok(nanos)
     })?;
     for i in 0..8 {
-        print_crew(rt, Crew::ALL[i], work)?;
+        print_name(rt, CREWS[i].0, 10)?;
+        print_name(rt, name, 18)?;
         print_run(rt, results, best[i], best[0])?;
     }
     Ok(())
@@ -244,7 +207,7 @@ pub fn print_times<R: Threads + Wait + Sync + Clock + Print>(
     rt: &R,
     alloc: Global,
 ) -> io::Result<()> {
-    print_work(rt, alloc, Work::HmacSha1)?;
-    print_work(rt, alloc, Work::CbcHmacSha256)?;
-    print_work(rt, alloc, Work::Mix)
+    print_work(rt, alloc, "hmac-sha1", Work::HmacSha1)?;
+    print_work(rt, alloc, "cbc, hmac-sha256", Work::CbcHmacSha256)?;
+    print_work(rt, alloc, "a mix", Work::Mix)
 }

@@ -74,8 +74,8 @@ pub trait Hash {
     fn print(rt: &impl Print, value: &[u64; 8]) -> io::Result<()>;
 }
 
-/// A hash in the lanes of a vector.
-pub trait LaneHash<V: Vector> {
+/// The compression of a hash in the lanes of a vector.
+pub trait Compression<V: Vector> {
     /// How many words a hash value has.
     ghost count: { ℕ };
 
@@ -89,7 +89,7 @@ pub trait LaneHash<V: Vector> {
 }
 
 /// Leads the initial hash value in each lane through the words of its block.
-pub fn lead<V: Vector, H: LaneHash<V>>(
+pub fn lead<V: Vector, H: Compression<V>>(
     states: &mut [V],
     words: &mut [V],
     calls: u32,

@@ -1,9 +1,7 @@
 use crate::clock::{fastest, nanos_since};
 use crate::hash::{Form, Hash, TURN_BYTES, run};
+use crate::hashes::{Sha1, Sha256, Sha512};
 use crate::line::{print_bytes, print_name, print_rate};
-use crate::sha1_kernel::Sha1;
-use crate::sha256_kernel::Sha256;
-use crate::sha512_kernel::Sha512;
 use std::io;
 use std::io::Print;
 use std::time::{Clock, Instant};

@@ -1,0 +1,226 @@
+//! The three hashes whose compression is timed, and their forms.
+use crate::hash::{Compression, Hash, TURN_BYTES, lead, widened};
+use crate::line::print_words;
+use crate::message::{MESSAGE_448, MESSAGE_896, padded};
+use crate::vector::Vector;
+use mbj_hmac::{LaneHash, Sha1Lanes, Sha256Lanes, Sha512Lanes};
+use mbj_sha_lanes::{load32, load64};
+use mbj_types::{Auth, Lane32, Lane64};
+use sha2::Digest;
+use std::io;
+use std::io::Print;
+use std::simd::{u32x4, u32x8, u64x2, u64x4};
+
+/// The blocks of a turn: one in each lane of a wide vector.
+type Blocks32 = [[u8; 64]; 8];
+
+type Blocks64 = [[u8; 128]; 4];
+
+// They are as many bytes.
+const _: () = prove!(size_of::<Blocks32>() == TURN_BYTES);
+
+const _: () = prove!(size_of::<Blocks64>() == TURN_BYTES);
+
+/// SHA-1.
+pub struct Sha1;
+
+impl Hash for Sha1 {
+    type Blocks = Blocks32;
+
+    const NAME: &'static str = "sha1";
+
+    const LANES: [&'static str; 2] = ["4 lanes", "8 lanes"];
+
+    const SEVENS: Blocks32 = [[7; 64]; 8];
+
+    fn short_blocks() -> Blocks32 {
+        let (abc, empty) = (padded(b"abc"), padded(b""));
+        [abc, empty, abc, empty, abc, empty, abc, empty]
+    }
+
+    fn narrow(blocks: &Blocks32, calls: u32, lane: usize) -> [u64; 8] {
+        let mut words = load32::block_words(blocks).map(|lanes| lanes.extract::<0, 4>());
+        lead::<u32x4, Sha1>(&mut [u32x4::splat(0); 5], &mut words, calls, lane)
+    }
+
+    fn wide(blocks: &Blocks32, calls: u32, lane: usize) -> [u64; 8] {
+        let mut words = load32::block_words(blocks);
+        lead::<u32x8, Sha1>(&mut [u32x8::splat(0); 5], &mut words, calls, lane)
+    }
+
+    fn arrays(blocks: &Blocks32, calls: u32, lane: usize) -> [u64; 8] {
+        let mut states = [Sha1Lanes::initial(Auth::HmacSha1); 8];
+        for _ in 0..calls {
+            mbj_sha1_lanes::compress(&mut states, blocks);
+        }
+        widened(&states[lane])
+    }
+
+    fn long_digest() -> [u64; 8] {
+        let mut states = [Sha1Lanes::initial(Auth::HmacSha1); 8];
+        for block in padded::<128>(MESSAGE_448).as_chunks::<64>().0 {
+            mbj_sha1_lanes::compress(&mut states, &[*block; 8]);
+        }
+        widened(&states[7])
+    }
+
+    fn plain(turns: u32) -> u64 {
+        let mut hasher = sha1::Sha1::new();
+        for _ in 0..turns {
+            hasher.update(&[7; TURN_BYTES]);
+        }
+        hasher.finalize()[0] as u64
+    }
+
+    fn print(rt: &impl Print, value: &[u64; 8]) -> io::Result<()> {
+        print_words(rt, &value[..5], 8)
+    }
+}
+
+impl<V: Vector + Lane32> Compression<V> for Sha1 {
+    ghost count = { 5 };
+
+    fn initial() -> [u64; 8] {
+        widened(&Sha1Lanes::initial(Auth::HmacSha1))
+    }
+
+    fn compress(states: &mut [V], words: &mut [V]) {
+        mbj_sha1_lanes::compress_lanes(states, words);
+    }
+}
+
+/// SHA-256.
+pub struct Sha256;
+
+impl Hash for Sha256 {
+    type Blocks = Blocks32;
+
+    const NAME: &'static str = "sha256";
+
+    const LANES: [&'static str; 2] = ["4 lanes", "8 lanes"];
+
+    const SEVENS: Blocks32 = [[7; 64]; 8];
+
+    fn short_blocks() -> Blocks32 {
+        let (abc, empty) = (padded(b"abc"), padded(b""));
+        [abc, empty, abc, empty, abc, empty, abc, empty]
+    }
+
+    fn narrow(blocks: &Blocks32, calls: u32, lane: usize) -> [u64; 8] {
+        let mut words = load32::block_words(blocks).map(|lanes| lanes.extract::<0, 4>());
+        lead::<u32x4, Sha256>(&mut [u32x4::splat(0); 8], &mut words, calls, lane)
+    }
+
+    fn wide(blocks: &Blocks32, calls: u32, lane: usize) -> [u64; 8] {
+        let mut words = load32::block_words(blocks);
+        lead::<u32x8, Sha256>(&mut [u32x8::splat(0); 8], &mut words, calls, lane)
+    }
+
+    fn arrays(blocks: &Blocks32, calls: u32, lane: usize) -> [u64; 8] {
+        let mut states = [Sha256Lanes::initial(Auth::HmacSha256); 8];
+        for _ in 0..calls {
+            mbj_sha256_lanes::compress(&mut states, blocks);
+        }
+        widened(&states[lane])
+    }
+
+    fn long_digest() -> [u64; 8] {
+        let mut states = [Sha256Lanes::initial(Auth::HmacSha256); 8];
+        for block in padded::<128>(MESSAGE_448).as_chunks::<64>().0 {
+            mbj_sha256_lanes::compress(&mut states, &[*block; 8]);
+        }
+        widened(&states[7])
+    }
+
+    fn plain(turns: u32) -> u64 {
+        let mut hasher = sha2::Sha256::new();
+        for _ in 0..turns {
+            hasher.update(&[7; TURN_BYTES]);
+        }
+        hasher.finalize()[0] as u64
+    }
+
+    fn print(rt: &impl Print, value: &[u64; 8]) -> io::Result<()> {
+        print_words(rt, value, 8)
+    }
+}
+
+impl<V: Vector + Lane32> Compression<V> for Sha256 {
+    ghost count = { 8 };
+
+    fn initial() -> [u64; 8] {
+        widened(&Sha256Lanes::initial(Auth::HmacSha256))
+    }
+
+    fn compress(states: &mut [V], words: &mut [V]) {
+        mbj_sha256_lanes::compress_lanes(states, words);
+    }
+}
+
+/// SHA-512.
+pub struct Sha512;
+
+impl Hash for Sha512 {
+    type Blocks = Blocks64;
+
+    const NAME: &'static str = "sha512";
+
+    const LANES: [&'static str; 2] = ["2 lanes", "4 lanes"];
+
+    const SEVENS: Blocks64 = [[7; 128]; 4];
+
+    fn short_blocks() -> Blocks64 {
+        let (abc, empty) = (padded(b"abc"), padded(b""));
+        [abc, empty, abc, empty]
+    }
+
+    fn narrow(blocks: &Blocks64, calls: u32, lane: usize) -> [u64; 8] {
+        let mut words = load64::block_words(blocks).map(|lanes| lanes.extract::<0, 2>());
+        lead::<u64x2, Sha512>(&mut [u64x2::splat(0); 8], &mut words, calls, lane)
+    }
+
+    fn wide(blocks: &Blocks64, calls: u32, lane: usize) -> [u64; 8] {
+        let mut words = load64::block_words(blocks);
+        lead::<u64x4, Sha512>(&mut [u64x4::splat(0); 8], &mut words, calls, lane)
+    }
+
+    fn arrays(blocks: &Blocks64, calls: u32, lane: usize) -> [u64; 8] {
+        let mut states = [Sha512Lanes::initial(Auth::HmacSha512); 4];
+        for _ in 0..calls {
+            mbj_sha512_lanes::compress(&mut states, blocks);
+        }
+        states[lane]
+    }
+
+    fn long_digest() -> [u64; 8] {
+        let mut states = [Sha512Lanes::initial(Auth::HmacSha512); 4];
+        for block in padded::<256>(MESSAGE_896).as_chunks::<128>().0 {
+            mbj_sha512_lanes::compress(&mut states, &[*block; 4]);
+        }
+        states[3]
+    }
+
+    fn plain(turns: u32) -> u64 {
+        let mut hasher = sha2::Sha512::new();
+        for _ in 0..turns {
+            hasher.update(&[7; TURN_BYTES]);
+        }
+        hasher.finalize()[0] as u64
+    }
+
+    fn print(rt: &impl Print, value: &[u64; 8]) -> io::Result<()> {
+        print_words(rt, value, 16)
+    }
+}
+
+impl<V: Vector + Lane64> Compression<V> for Sha512 {
+    ghost count = { 8 };
+
+    fn initial() -> [u64; 8] {
+        Sha512Lanes::initial(Auth::HmacSha512)
+    }
+
+    fn compress(states: &mut [V], words: &mut [V]) {
+        mbj_sha512_lanes::compress_lanes(states, words);
+    }
+}
