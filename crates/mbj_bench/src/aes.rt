@@ -11,8 +11,7 @@ use mbj_aes_lanes::{LaneKeys, decrypt16, encrypt16};
 use mbj_cbc::decrypt_in_place;
 use mbj_ctr::apply;
 use sha1::Sha1;
-use std::io;
-use std::io::Print;
+use std::io::{self, Print};
 use std::time::{Clock, Instant};
 
 /// The keys are the first 16, 24 and 32 of these bytes.
@@ -259,8 +258,10 @@ fn print_call(
     texts: &mut Texts,
     sum: &mut u64,
 ) -> io::Result<()> {
-    let rivals = [call, Call::PlainSha1];
-    let [nanos, plain] = fastest(PASSES, &rivals, |call| pass_nanos(rt, call, texts, sum))?;
+    let [nanos, plain]: [u128; 2] = fastest(
+        PASSES,
+        |i| pass_nanos(rt, [call, Call::PlainSha1][i % 2], texts, sum),
+    )?;
     let done = rate(call, nanos);
     print!(rt; "aes {name}: {} MB/s, ", done / 1000)?;
     print_ratio(rt, hundredths(done, rate(Call::PlainSha1, plain)), 0)?;

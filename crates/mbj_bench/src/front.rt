@@ -10,26 +10,26 @@ use crate::making::{null_job, put_auth, put_cipher};
 use mbj_types::{Auth, Cipher, Done, Job};
 use mbj_work::{OpenGate, run_private, run_shared};
 use std::alloc::{AllocError, Global};
-use std::io;
-use std::io::Print;
+use std::io::{self, Print};
 use std::sync::Wait;
 use std::thread::Threads;
 use std::time::{Clock, Instant};
 
-/// Who does the jobs: a name, how many lists they are dealt to, each with a submitter, and how many workers serve the one
-/// front besides. With none there is no front: threads share nothing, each with a list and a manager of its own.
+/// Who does the jobs: how many lists they are dealt to, each with a submitter, and how many workers serve the one front
+/// besides. With none there is no front: threads share nothing, each with a list and a manager of its own.
 #[derive(Clone, Copy)]
-struct Crew(&'static str, u32, Option<u32>);
+struct Crew(u32, Option<u32>);
 
-const CREWS: [Crew; 8] = [
-    Crew("front 1/0", 1, Some(0)),
-    Crew("front 1/1", 1, Some(1)),
-    Crew("front 1/3", 1, Some(3)),
-    Crew("front 2/2", 2, Some(2)),
-    Crew("front 4/0", 4, Some(0)),
-    Crew("front 4/4", 4, Some(4)),
-    Crew("apart 2", 2, None),
-    Crew("apart 4", 4, None),
+/// The crews by their names.
+const CREWS: [(&str, Crew); 8] = [
+    ("front 1/0", Crew(1, Some(0))),
+    ("front 1/1", Crew(1, Some(1))),
+    ("front 1/3", Crew(1, Some(3))),
+    ("front 2/2", Crew(2, Some(2))),
+    ("front 4/0", Crew(4, Some(0))),
+    ("front 4/4", Crew(4, Some(4))),
+    ("apart 2", Crew(2, None)),
+    ("apart 4", Crew(4, None)),
 ];
 
 /// How many jobs there are.
@@ -129,7 +129,7 @@ fn run<R: Threads + Wait + Sync>(
     requires some { 1 ≤ length lists.items }
     requires few { length lists.items ≤ MOST_PARTIES }
 {
-    match crew.2 {
+    match crew.1 {
         Some(workers) => run_shared(rt, alloc, lists, workers.min(MOST_PARTIES), &OpenGate),
         None => run_private(rt, alloc, lists),
     }
@@ -166,7 +166,7 @@ fn time_of_work<R: Threads + Wait + Sync + Clock>(
     work: Work,
     crew: Crew,
 ) -> io::Result<(u128, usize)> {
-    let lists = lists(alloc, work, crew.1)?;
+    let lists = lists(alloc, work, crew.0)?;
     if lists.is_empty() || lists.len() > MOST_PARTIES as usize {
         return Ok((u128::MAX, 0));
     }
@@ -189,8 +189,8 @@ fn print_work<R: Threads + Wait + Sync + Clock + Print>(
     work: Work,
 ) -> io::Result<()> {
     let mut results = usize::MAX;
-    let best = fastest(TURNS, &CREWS, |crew| {
-        let (nanos, count) = time_of_work(rt, alloc, work, crew)?;
+    let best: [u128; 8] = fastest(TURNS, |i| {
+        let (nanos, count) = time_of_work(rt, alloc, work, CREWS[i % 8].1)?;
         results = count.min(results);
         Ok(nanos)
     })?;

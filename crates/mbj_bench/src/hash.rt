@@ -1,17 +1,18 @@
 //! The three hashes, each in the forms of its compression that are timed beside one another.
 ghost use Rattle.std.specs.Prelude.{◌≡◌, ℕ, ◌<◌, length};
 
-use crate::line::print_words;
+use crate::clock::{fastest, nanos_since};
+use crate::line::{print_name, print_rate};
 use crate::vector::{Vector, fill, value_in};
-use std::io;
-use std::io::Print;
+use std::io::{self, Print};
+use std::time::{Clock, Instant};
 
 /// How many bytes a turn of each form hashes.
 pub const TURN_BYTES: usize = 512;
 
 /// The forms of a compression that are timed beside one another.
 #[derive(Clone, Copy)]
-pub enum Form {
+enum Form {
     /// The crate that hashes one message, a block at a time.
     Plain,
     /// `compress_lanes` over vectors of 128 bits.
@@ -22,18 +23,20 @@ pub enum Form {
     Arrays,
 }
 
-impl Form {
-    pub const ALL: [Form; 4] = [Form::Plain, Form::Narrow, Form::Wide, Form::Arrays];
+/// The forms by their names.
+const FORMS: [(&str, Form); 4] = [
+    ("plain crate", Form::Plain),
+    ("lanes of 128 bits", Form::Narrow),
+    ("lanes of 256 bits", Form::Wide),
+    ("arrays", Form::Arrays),
+];
 
-    pub fn name(self) -> &'static str {
-        match self {
-            Form::Plain => "plain crate",
-            Form::Narrow => "lanes of 128 bits",
-            Form::Wide => "lanes of 256 bits",
-            Form::Arrays => "arrays",
-        }
-    }
-}
+/// The turns of one pass, its bytes, and the passes of which the fastest counts.
+const TURNS: u32 = 1000;
+
+const PASS_BYTES: u128 = TURN_BYTES as u128 * TURNS as u128;
+
+const PASSES: u32 = 100;
 
 /// A hash whose compression is timed. A form of it leads the initial hash value in each lane through a block of its own by
 /// so many calls, and answers the hash value of one lane.
@@ -116,7 +119,7 @@ pub fn widened<const N: usize>(words: &[u32; N]) -> [u64; 8] {
 }
 
 /// Runs a form of a hash for some turns, and answers a word that its result depends on. A narrow form has two calls a turn.
-pub fn run<H: Hash>(form: Form, turns: u32) -> u64 {
+fn run<H: Hash>(form: Form, turns: u32) -> u64 {
     match form {
         Form::Plain => H::plain(turns),
         Form::Narrow => H::narrow(&H::SEVENS, turns.saturating_mul(2), 0)[0],
@@ -160,4 +163,22 @@ pub fn print_digests<H: Hash>(rt: &impl Print) -> io::Result<()> {
     print_pair::<H>(rt, Form::Narrow, H::LANES[0])?;
     print_pair::<H>(rt, Form::Wide, H::LANES[1])?;
     print_digest::<H>(rt, "arrays", "two blocks", &H::long_digest())
+}
+
+/// The time of one pass, in nanoseconds. What is computed goes into `sum`, so that none of it is left out.
+fn pass_nanos<H: Hash>(rt: &impl Clock, form: Form, sum: &mut u64) -> io::Result<u128> {
+    let start = Instant::now(rt)?;
+    *sum = sum.wrapping_add(run::<H>(form, TURNS));
+    nanos_since(rt, start)
+}
+
+/// Prints MB/s of each form of a hash, and in how many times less time than the plain crate it ran.
+pub fn print_times<H: Hash>(rt: &(impl Print + Clock), sum: &mut u64) -> io::Result<()> {
+    let best: [u128; 4] = fastest(PASSES, |i| pass_nanos::<H>(rt, FORMS[i % 4].1, sum))?;
+    for i in 0..4 {
+        print_name(rt, H::NAME, 8)?;
+        print_name(rt, FORMS[i].0, 19)?;
+        print_rate(rt, PASS_BYTES, best[i], best[0])?;
+    }
+    Ok(())
 }

@@ -1,15 +1,16 @@
 //! The three hashes whose compression is timed, and their forms.
-use crate::hash::{Compression, Hash, TURN_BYTES, lead, widened};
-use crate::line::print_words;
-use crate::message::{MESSAGE_448, MESSAGE_896, padded};
+ghost use Rattle.std.specs.Prelude.{◌+◌, ◌^◌, ◌<◌, ◌≤◌, length};
+
+use crate::hash::{Compression, Hash, TURN_BYTES, lead, print_digests, print_times, widened};
+use crate::line::{print_bytes, print_words};
 use crate::vector::Vector;
 use mbj_hmac::{LaneHash, Sha1Lanes, Sha256Lanes, Sha512Lanes};
 use mbj_sha_lanes::{load32, load64};
 use mbj_types::{Auth, Lane32, Lane64};
 use sha2::Digest;
-use std::io;
-use std::io::Print;
+use std::io::{self, Print};
 use std::simd::{u32x4, u32x8, u64x2, u64x4};
+use std::time::Clock;
 
 /// The blocks of a turn: one in each lane of a wide vector.
 type Blocks32 = [[u8; 64]; 8];
@@ -20,6 +21,27 @@ type Blocks64 = [[u8; 128]; 4];
 const _: () = prove!(size_of::<Blocks32>() == TURN_BYTES);
 
 const _: () = prove!(size_of::<Blocks64>() == TURN_BYTES);
+
+/// The two-block message of the standard's example for SHA-1 and SHA-256, of 448 bits.
+const MESSAGE_448: &[u8] = b"abcdbcdecdefdefgefghfghighijhijkijkljklmklmnlmnomnopnopq";
+
+/// The two-block message of the standard's example for SHA-512, of 896 bits.
+const MESSAGE_896: &[u8] =
+    b"abcdefghbcdefghicdefghijdefghijkefghijklfghijklmghijklmnhijklmnoijklmnopjklmnopqklmnopqrlmnopqrsmnopqrstnopqrstu";
+
+/// A message of fewer than 8,192 bytes with its padding (FIPS 180-4, 5.1), N bytes in all.
+fn padded<const N: usize>(message: &[u8]) -> [u8; N]
+    requires room { length message.now + 17 ≤ N }
+    requires short { length message.now < 8192 }
+{
+    let mut bytes = [0; N];
+    let block = &mut bytes[..];
+    block[..message.len()].copy_from_slice(message);
+    block[message.len()] = 0x80;
+    let bits = 8 * message.len() as u16;
+    block[N - 2..].copy_from_slice(&bits.to_be_bytes());
+    bytes
+}
 
 /// SHA-1.
 pub struct Sha1;
@@ -223,4 +245,20 @@ impl<V: Vector + Lane64> Compression<V> for Sha512 {
     fn compress(states: &mut [V], words: &mut [V]) {
         mbj_sha512_lanes::compress_lanes(states, words);
     }
+}
+
+/// Prints the digests of each hash.
+pub fn print_all_digests(rt: &impl Print) -> io::Result<()> {
+    print_digests::<Sha1>(rt)?;
+    print_digests::<Sha256>(rt)?;
+    print_digests::<Sha512>(rt)
+}
+
+/// Prints how fast each form of each hash is.
+pub fn print_all_times(rt: &(impl Print + Clock)) -> io::Result<()> {
+    let mut sum = 0;
+    print_times::<Sha1>(rt, &mut sum)?;
+    print_times::<Sha256>(rt, &mut sum)?;
+    print_times::<Sha512>(rt, &mut sum)?;
+    print_bytes(rt, "checksum ", &sum.to_be_bytes())
 }

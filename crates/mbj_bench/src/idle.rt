@@ -13,8 +13,7 @@ use mbj_front::{Front, Seat};
 use mbj_types::Job;
 use mbj_work::{HAND_ROOM, OpenGate, Party};
 use std::alloc::{AllocError, Global};
-use std::io;
-use std::io::Print;
+use std::io::{self, Print};
 use std::sync::Wait;
 use std::sync::atomic::AtomicBool;
 use std::sync::atomic::Ordering::SeqCst;
@@ -208,8 +207,8 @@ pub fn print_times<R: Threads + Wait + Sync + Clock + Print>(
     alloc: Global,
 ) -> io::Result<()> {
     let mut results = 0;
-    let [alone, beside] = fastest(TURNS, &[false, true], |is_beside| {
-        let (nanos, count) = time_of_new(rt, alloc, is_beside)?;
+    let [alone, beside]: [u128; 2] = fastest(TURNS, |i| {
+        let (nanos, count) = time_of_new(rt, alloc, i == 1)?;
         results = count;
         Ok(nanos)
     })?;

@@ -8,8 +8,7 @@ use crate::making::{null_job, packets, put_auth, put_cipher};
 use mbj_manager::Manager;
 use mbj_types::{Auth, Cipher, Done, Job, Kind};
 use std::alloc::{AllocError, Global};
-use std::io;
-use std::io::Print;
+use std::io::{self, Print};
 use std::time::{Clock, Instant};
 
 /// The jobs of a pass, and those of each kind where there are jobs of all.
@@ -31,27 +30,6 @@ pub enum Work {
     Mix,
 }
 
-impl Work {
-    fn name(self) -> &'static str {
-        match self {
-            Work::Null => "null",
-            Work::One(kind) => kind.name(),
-            Work::Mix => "a mix",
-        }
-    }
-}
-
-/// How the work is done.
-#[derive(Clone, Copy)]
-enum Way {
-    /// As jobs through the manager.
-    Jobs,
-    /// As entries in full lists.
-    Lists,
-    /// One packet after another by the plain function.
-    Plain,
-}
-
 /// Makes a job over a packet one that waits for the lanes of a kind.
 fn prepare(alloc: Global, job: &mut Job, kind: Kind) -> Result<(), AllocError> {
     match kind {
@@ -68,12 +46,13 @@ fn prepare(alloc: Global, job: &mut Job, kind: Kind) -> Result<(), AllocError> {
 
 /// Job `number` of a pass.
 fn job(alloc: Global, work: Work, number: usize, len: usize) -> Result<Job, AllocError> {
+    let kind = match work {
+        Work::Null => return null_job(alloc, len),
+        Work::One(kind) => kind,
+        Work::Mix => Kind::ALL[number % Kind::ALL.len()],
+    };
     let mut job = null_job(alloc, len)?;
-    match work {
-        Work::Null => {}
-        Work::One(kind) => prepare(alloc, &mut job, kind)?,
-        Work::Mix => prepare(alloc, &mut job, Kind::ALL[number % Kind::ALL.len()])?,
-    }
+    prepare(alloc, &mut job, kind)?;
     Ok(job)
 }
 
@@ -153,15 +132,10 @@ fn fastest_passes(
 ) -> io::Result<[u128; 3]> {
     let mut packets = packets(alloc, JOBS, len)?;
     let mut manager = Manager::new(alloc)?;
-    fastest(
-        PASSES,
-        &[Way::Jobs, Way::Lists, Way::Plain],
-        |way| match way {
-            Way::Jobs => nanos_of_jobs(rt, alloc, &mut manager, work, len),
-            Way::Lists => nanos_of_packets(rt, alloc, true, work, &mut packets, 1, sum),
-            Way::Plain => nanos_of_packets(rt, alloc, false, work, &mut packets, 1, sum),
-        },
-    )
+    fastest(PASSES, |i| match i {
+        0 => nanos_of_jobs(rt, alloc, &mut manager, work, len),
+        _ => nanos_of_packets(rt, alloc, i == 1, work, &mut packets, 1, sum),
+    })
 }
 
 /// Prints nanoseconds a job and MB/s, and in how many times less time than full lists and than the plain functions.
@@ -180,13 +154,14 @@ fn print_speed(rt: &impl Print, best: [u128; 3], len: usize) -> io::Result<()> {
 fn print_work(
     rt: &(impl Print + Clock),
     alloc: Global,
+    name: &str,
     work: Work,
     sum: &mut u8,
 ) -> io::Result<()> {
     for i in 0..LENGTHS.len() {
         let best = fastest_passes(rt, alloc, work, LENGTHS[i], sum)?;
         print!(rt; "jobs, ")?;
-        print_length(rt, work.name(), 11, LENGTHS[i])?;
+        print_length(rt, name, 11, LENGTHS[i])?;
         print_speed(rt, best, LENGTHS[i])?;
     }
     Ok(())
@@ -195,10 +170,10 @@ fn print_work(
 /// Prints how fast jobs go through a manager.
 pub fn print_times(rt: &(impl Print + Clock), alloc: Global) -> io::Result<()> {
     let mut sum = 0;
-    print_work(rt, alloc, Work::Null, &mut sum)?;
-    for i in 0..Kind::ALL.len() {
-        print_work(rt, alloc, Work::One(Kind::ALL[i]), &mut sum)?;
+    print_work(rt, alloc, "null", Work::Null, &mut sum)?;
+    for kind in &Kind::ALL {
+        print_work(rt, alloc, kind.name(), Work::One(*kind), &mut sum)?;
     }
-    print_work(rt, alloc, Work::Mix, &mut sum)?;
+    print_work(rt, alloc, "a mix", Work::Mix, &mut sum)?;
     print_bytes(rt, "checksum ", &[sum])
 }

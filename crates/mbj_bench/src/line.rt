@@ -1,6 +1,5 @@
 //! The parts of the lines that are printed.
-use std::io;
-use std::io::Print;
+use std::io::{self, Print};
 
 /// Prints a line of a label and bytes.
 pub fn print_bytes(rt: &impl Print, label: &str, bytes: &[u8]) -> io::Result<()> {

@@ -125,8 +125,11 @@ fn run_work(
         Work::Null => {}
         Work::One(kind) => sum = run_kind(alloc, in_lists, kind, packets)?,
         Work::Mix => {
-            for (share, kind) in packets.chunks_mut(SHARE).zip(&Kind::ALL) {
-                sum ^= run_kind(alloc, in_lists, *kind, share)?;
+            let mut shares = packets.chunks_mut(SHARE);
+            for i in 0..Kind::ALL.len() {
+                if let Some(share) = shares.next() {
+                    sum ^= run_kind(alloc, in_lists, Kind::ALL[i], share)?;
+                }
             }
         }
     }
@@ -162,16 +165,9 @@ fn print_list(
     let mut packets = packets(alloc, kind.lanes(), len)?;
     let turn_bytes = len.saturating_mul(packets.len());
     let turns = PASS_BYTES.checked_div(turn_bytes).unwrap_or(0);
-    let [lists, plain] = fastest(PASSES, &[true, false], |in_lists| {
-        nanos_of_packets(
-            rt,
-            alloc,
-            in_lists,
-            Work::One(kind),
-            &mut packets,
-            turns,
-            sum,
-        )
+    let work = Work::One(kind);
+    let [lists, plain]: [u128; 2] = fastest(PASSES, |i| {
+        nanos_of_packets(rt, alloc, i == 0, work, &mut packets, turns, sum)
     })?;
     print!(rt; "lists of ")?;
     print_length(rt, kind.name(), 11, len)?;

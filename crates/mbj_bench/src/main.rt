@@ -15,11 +15,8 @@ mod kinds;
 mod line;
 mod lists;
 mod making;
-mod message;
-mod timing;
 mod vector;
 
-use crate::hashes::{Sha1, Sha256, Sha512};
 use std::alloc::Global;
 use std::io::Print;
 use std::sync::Wait;
@@ -28,15 +25,13 @@ use std::time::Clock;
 use std::{env, io};
 
 fn print_digests(rt: &impl Print) -> io::Result<()> {
-    hash::print_digests::<Sha1>(rt)?;
-    hash::print_digests::<Sha256>(rt)?;
-    hash::print_digests::<Sha512>(rt)?;
+    hashes::print_all_digests(rt)?;
     ghash::print_digest(rt)?;
     aes::print_digests(rt)
 }
 
 fn print_times<R: Threads + Wait + Sync + Clock + Print>(rt: &R, alloc: Global) -> io::Result<()> {
-    timing::print(rt)?;
+    hashes::print_all_times(rt)?;
     ghash::print_times(rt)?;
     aes::print_times(rt)?;
     lists::print_times(rt, alloc)?;
