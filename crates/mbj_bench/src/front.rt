@@ -21,7 +21,7 @@ use std::time::{Clock, Instant};
 struct Crew(u32, Option<u32>);
 
 /// The crews by their names.
-const CREWS: [(&str, Crew); 8] = [
+static CREWS: [(&str, Crew); 8] = [
     ("front 1/0", Crew(1, Some(0))),
     ("front 1/1", Crew(1, Some(1))),
     ("front 1/3", Crew(1, Some(3))),

@@ -33,7 +33,7 @@ enum Work {
 }
 
 /// The works by their names.
-const WORKS: [(&str, Work); 3] = [
+static WORKS: [(&str, Work); 3] = [
     ("sha1", Work::Sha1),
     ("ghash", Work::Ghash),
     ("gcm seal", Work::Seal),

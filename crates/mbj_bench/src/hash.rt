@@ -24,7 +24,7 @@ enum Form {
 }
 
 /// The forms by their names.
-const FORMS: [(&str, Form); 4] = [
+static FORMS: [(&str, Form); 4] = [
     ("plain crate", Form::Plain),
     ("lanes of 128 bits", Form::Narrow),
     ("lanes of 256 bits", Form::Wide),
