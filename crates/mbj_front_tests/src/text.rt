@@ -2,17 +2,12 @@ mod reading;
 mod replay;
 mod writing;
 
-use std::alloc::{AllocError, Global};
+use mbj_text::TextFault;
 
-/// The text with the line for each `@`.
-fn file_of(alloc: Global, line: &[u8], text: &[u8]) -> Result<Vec<u8>, AllocError> {
-    let mut file = Vec::new(alloc);
-    for byte in text {
-        if *byte == b'@' {
-            file.extend_from_slice(line)?;
-        } else {
-            file.push(*byte)?;
-        }
+/// The line and the field of a fault, and (0, 0) for a fault that names none.
+fn place_of(fault: TextFault) -> (u32, u32) {
+    match fault {
+        TextFault::Line { line, field } => (line, field),
+        TextFault::Limit { .. } | TextFault::Memory => (0, 0),
     }
-    Ok(file)
 }

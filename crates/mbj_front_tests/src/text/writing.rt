@@ -14,15 +14,8 @@ const TAG: &[u8] = &[
     0xf1, 0x46, 0xbe, 0x00,
 ];
 
-fn result_of(alloc: Global, status: Status, packet: &[u8], tag: &[u8]) -> Result<Done, AllocError>
-    requires { length tag.now ≤ 64 }
-{
-    Ok(Done {
-        status,
-        packet: Bytes::from_vec(packet.to_vec(alloc)?),
-        tag: Tag::from_slice(tag),
-    })
-}
+/// Room for the lines.
+const ROOM: usize = 200;
 
 /// Whether the line of this result is written.
 fn writes(
@@ -35,19 +28,14 @@ fn writes(
 ) -> Result<bool, AllocError>
     requires { length tag.now ≤ 64 }
 {
-    let done = result_of(alloc, status, packet, tag)?;
+    let packet = Bytes::from_vec(packet.to_vec(alloc)?);
+    let tag = Tag::from_slice(tag);
+    let done = Done {
+        status,
+        packet,
+        tag,
+    };
     Ok(write_done(sink, number, &done).is_ok())
-}
-
-#[test]
-fn results_are_written_whole(rt: HostRuntime) -> Result<(), Fail> {
-    let mut sink = MemSink::new(rt.alloc(), 200, 7, &[])?;
-    assert!(rt; writes_three(rt.alloc(), &mut sink)?);
-    let lines = b"0 ok 4869205468657265 b617318655057264e28bc0b6fb378c8ef146be00\n\
-        65535 ok - -\n\
-        12 invalid-args 3\n";
-    assert!(rt; sink.held() == lines.as_slice());
-    Ok(())
 }
 
 /// Whether the lines of three results are written.
@@ -61,18 +49,40 @@ fn writes_three(alloc: Global, sink: &mut MemSink) -> Result<bool, AllocError> {
 }
 
 #[test]
+fn results_are_written_whole(rt: HostRuntime) -> Result<(), Fail> {
+    let mut sink = MemSink::new(rt.alloc(), ROOM, 7, &[])?;
+    let lines = b"0 ok 4869205468657265 b617318655057264e28bc0b6fb378c8ef146be00\n\
+        65535 ok - -\n\
+        12 invalid-args 3\n";
+    assert!(rt; writes_three(rt.alloc(), &mut sink)? && sink.held() == lines.as_slice());
+    Ok(())
+}
+
+/// Whether the line of a result with this number is cut off behind this text, by the write of this number, from 0, of so
+/// many bytes at most.
+fn cuts_off(
+    alloc: Global,
+    number: u32,
+    text: &[u8],
+    write: u64,
+    bytes: u32,
+) -> Result<bool, AllocError>
+    requires { 1 ≤ bytes }
+{
+    let mut sink = MemSink::new(alloc, ROOM, bytes, &[write])?;
+    let written = writes(alloc, &mut sink, number, Status::Ok, MESSAGE, TAG)?;
+    Ok(!written && sink.held() == text && sink.faults() == 1)
+}
+
+#[test]
 fn a_fault_leaves_a_front_of_the_line(rt: HostRuntime) -> Result<(), Fail> {
-    let mut sink = MemSink::new(rt.alloc(), 200, 7, &[2])?;
-    assert!(rt; !writes(rt.alloc(), &mut sink, 0, Status::Ok, MESSAGE, TAG)?);
-    assert!(rt; sink.held() == b"0 ok 486920546".as_slice() && sink.faults() == 1);
+    assert!(rt; cuts_off(rt.alloc(), 0, b"0 ok 486920546", 2, 7)?);
     Ok(())
 }
 
 #[test]
 fn a_long_line_is_offered_in_pieces_of_64_bytes(rt: HostRuntime) -> Result<(), Fail> {
-    let mut sink = MemSink::new(rt.alloc(), 200, 200, &[1])?;
-    assert!(rt; !writes(rt.alloc(), &mut sink, u32::MAX, Status::Ok, MESSAGE, TAG)?);
     let piece = b"4294967295 ok 4869205468657265 b617318655057264e28bc0b6fb378c8ef";
-    assert!(rt; sink.held() == piece.as_slice());
+    assert!(rt; cuts_off(rt.alloc(), u32::MAX, piece, 1, 200)?);
     Ok(())
 }
