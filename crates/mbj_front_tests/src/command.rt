@@ -1,4 +1,4 @@
-use mbj_command::{Command, WordFault, read_command};
+use mbj_command::{WordFault, read_command};
 use std::alloc::{AllocError, Global};
 use std::test::Fail;
 
@@ -34,197 +34,102 @@ const FAULTY: [&str; 28] = [
     "mbjobs RUN --submitters 1 --workers 0",
 ];
 
-const RUN: Command = Command::Run {
-    submitters: 1,
-    workers: 0,
-};
+/// Words that are a command, and behind the arrow which.
+const GOOD: [&str; 13] = [
+    "mbjobs run --submitters 1 --workers 0 => Run { submitters: 1, workers: 0 }",
+    "mbjobs run --workers 0 --submitters 1 => Run { submitters: 1, workers: 0 }",
+    "mbjobs run --submitters=1 --workers=0 => Run { submitters: 1, workers: 0 }",
+    "mbjobs run --submitters 01 --workers 000 => Run { submitters: 1, workers: 0 }",
+    "mbjobs run --submitters +1 --workers +0 => Run { submitters: 1, workers: 0 }",
+    "mbjobs run --submitters 16 --workers 16 => Run { submitters: 16, workers: 16 }",
+    "mbjobs trace => Trace",
+    "mbjobs gen --seed 7 --jobs 65536 --submitters 16 --workers 0 => Gen { seed: 7, jobs: 65536, submitters: 16, workers: 0 }",
+    "mbjobs gen --workers=0 --submitters=16 --jobs=65536 --seed=7 => Gen { seed: 7, jobs: 65536, submitters: 16, workers: 0 }",
+    "mbjobs gen --seed 18446744073709551615 --jobs 0 --submitters 2 --workers 0 => Gen { seed: 18446744073709551615, jobs: 0, submitters: 2, workers: 0 }",
+    "/usr/bin/mbjobs gen --seed 4294967296 --jobs 1 --submitters 3 --workers 2 => Gen { seed: 4294967296, jobs: 1, submitters: 3, workers: 2 }",
+    "mbjobs replay --submitters 16 --workers 16 => Replay { submitters: 16, workers: 16 }",
+    "mbjobs replay --workers=0 --submitters=1 => Replay { submitters: 1, workers: 0 }",
+];
 
-const GEN: Command = Command::Gen {
-    seed: 7,
-    jobs: 65_536,
-    submitters: 16,
-    workers: 0,
-};
-
-/// Words that are a command, and which.
-const GOOD: &[(&str, Command)] = &[
-    ("mbjobs run --submitters 1 --workers 0", RUN),
-    ("mbjobs run --workers 0 --submitters 1", RUN),
-    ("mbjobs run --submitters=1 --workers=0", RUN),
-    ("mbjobs run --submitters 01 --workers 000", RUN),
-    ("mbjobs run --submitters +1 --workers +0", RUN),
-    (
-        "mbjobs run --submitters 16 --workers 16",
-        Command::Run {
-            submitters: 16,
-            workers: 16,
-        },
-    ),
-    ("mbjobs trace", Command::Trace),
-    (
-        "mbjobs gen --seed 7 --jobs 65536 --submitters 16 --workers 0",
-        GEN,
-    ),
-    (
-        "mbjobs gen --workers=0 --submitters=16 --jobs=65536 --seed=7",
-        GEN,
-    ),
-    (
-        "mbjobs gen --seed 18446744073709551615 --jobs 0 --submitters 2 --workers 0",
-        Command::Gen {
-            seed: u64::MAX,
-            jobs: 0,
-            submitters: 2,
-            workers: 0,
-        },
-    ),
-    (
-        "/usr/bin/mbjobs gen --seed 4294967296 --jobs 1 --submitters 3 --workers 2",
-        Command::Gen {
-            seed: 1 << 32,
-            jobs: 1,
-            submitters: 3,
-            workers: 2,
-        },
-    ),
-    (
-        "mbjobs replay --submitters 16 --workers 16",
-        Command::Replay {
-            submitters: 16,
-            workers: 16,
-        },
-    ),
-    (
-        "mbjobs replay --workers=0 --submitters=1",
-        Command::Replay {
-            submitters: 1,
-            workers: 0,
-        },
-    ),
+/// Words that are no command, and behind the arrow what the text that tells it has, between bars.
+const TOLD: [&str; 8] = [
+    "mbjobs --help => Usage: mbjobs|run|trace|gen|replay|--version|1 to 65535 for gcm",
+    "mbjobs run --help => Usage: mbjobs run|--submitters <S>|1 to 16|--workers <W>",
+    "mbjobs trace --help => Usage: mbjobs trace|mbjobs trace",
+    "mbjobs gen --help => Usage: mbjobs gen|--seed <N>|--jobs <M>|0 to 65536|--submitters <S>|--workers <W>",
+    "mbjobs replay --help => Usage: mbjobs replay|--submitters <S>|--workers <W>|0 to 16",
+    "mbjobs --version => mbjobs 0.1.0",
+    "mbjobs run --submitters 17 --workers 0 => '17'|'--submitters <S>'|--help",
+    "mbjobs => Usage: mbjobs|run|trace|gen|replay|--help",
 ];
 
 fn words_of(alloc: Global, line: &str) -> Result<Vec<String>, AllocError> {
-    line.split(' ')
-        .map(|word| String::from_str(alloc, word))
-        .try_collect(alloc)
+    let mut words = Vec::new(alloc);
+    for word in line.split(' ') {
+        words.push(String::from_str(alloc, word)?)?;
+    }
+    Ok(words)
 }
 
-/// Whether the words of the line are this command.
-fn is_command(alloc: Global, line: &str, command: Command) -> Result<bool, AllocError> {
+/// What the words of a line come to: their command, or the text that tells that they are none.
+fn told(alloc: Global, line: &str) -> Result<String, AllocError> {
     let words = words_of(alloc, line)?;
     match read_command(alloc, &words) {
-        Ok(read) => Ok(read == command),
-        Err(_) => Ok(false),
+        Ok(command) => format!(in alloc; "{command:?}"),
+        Err(WordFault::Text(text)) => Ok(text),
+        Err(WordFault::Memory) => Err(AllocError),
     }
+}
+
+/// Whether the words before the arrow are the command behind it.
+fn is_command(alloc: Global, row: &str) -> Result<bool, Fail> {
+    let (line, command) = row.split_once(" => ").ok_or("no arrow")?;
+    let told = told(alloc, line)?;
+    Ok(told.as_str() == command)
 }
 
 #[test]
 fn good_words_are_their_command(rt: HostRuntime) -> Result<(), Fail> {
-    for (line, command) in GOOD {
-        assert!(&rt; is_command(rt.alloc(), *line, *command)?, "{line}");
+    for row in &GOOD {
+        assert!(rt; is_command(rt.alloc(), *row)?, "{row}");
     }
     Ok(())
+}
+
+/// Whether the line comes to a text that tells an error, or shows the help or the version, as no command does.
+fn is_refused(alloc: Global, line: &str) -> Result<bool, AllocError> {
+    let told = told(alloc, line)?;
+    Ok(told.contains("error: ") || told.contains("mbjobs"))
 }
 
 #[test]
 fn other_words_are_no_command(rt: HostRuntime) -> Result<(), Fail> {
     for line in &FAULTY {
-        assert!(&rt; is_refused(rt.alloc(), *line)?, "{line}");
+        assert!(rt; is_refused(rt.alloc(), *line)?, "{line}");
     }
     Ok(())
 }
 
-/// Whether the words of the line are no command, and a text tells it.
-fn is_refused(alloc: Global, line: &str) -> Result<bool, AllocError> {
-    let words = words_of(alloc, line)?;
-    match read_command(alloc, &words) {
-        Err(WordFault::Text(text)) => Ok(tells(text.as_str())),
-        Err(WordFault::Memory) => Err(AllocError),
-        Ok(_) => Ok(false),
+fn has_all(text: &str, parts: &str) -> bool {
+    for part in parts.split('|') {
+        if !text.contains(part) {
+            return false;
+        }
     }
+    true
 }
 
-/// Whether a text tells an error, or shows the help or the version.
-fn tells(text: &str) -> bool {
-    text.contains("error: ") || text.contains("mbjobs")
+/// Whether the text that the words before the arrow come to has the parts behind it, of which no command has each.
+fn has_parts(alloc: Global, row: &str) -> Result<bool, Fail> {
+    let (line, parts) = row.split_once(" => ").ok_or("no arrow")?;
+    let told = told(alloc, line)?;
+    Ok(has_all(&told, parts))
 }
-
-/// Lines, and what each one's text has.
-const PARTS: [(&str, &[&str]); 8] = [
-    (
-        "mbjobs --help",
-        &[
-            "Usage: mbjobs",
-            "run",
-            "trace",
-            "gen",
-            "replay",
-            "--version",
-            "1 to 65535 for gcm",
-        ],
-    ),
-    (
-        "mbjobs run --help",
-        &[
-            "Usage: mbjobs run",
-            "--submitters <S>",
-            "1 to 16",
-            "--workers <W>",
-        ],
-    ),
-    (
-        "mbjobs trace --help",
-        &["Usage: mbjobs trace", "mbjobs trace"],
-    ),
-    (
-        "mbjobs gen --help",
-        &[
-            "Usage: mbjobs gen",
-            "--seed <N>",
-            "--jobs <M>",
-            "0 to 65536",
-            "--submitters <S>",
-            "--workers <W>",
-        ],
-    ),
-    (
-        "mbjobs replay --help",
-        &[
-            "Usage: mbjobs replay",
-            "--submitters <S>",
-            "--workers <W>",
-            "0 to 16",
-        ],
-    ),
-    ("mbjobs --version", &["mbjobs 0.1.0"]),
-    (
-        "mbjobs run --submitters 17 --workers 0",
-        &["'17'", "'--submitters <S>'", "--help"],
-    ),
-    (
-        "mbjobs",
-        &["Usage: mbjobs", "run", "trace", "gen", "replay", "--help"],
-    ),
-];
 
 #[test]
 fn texts_say_what_is_wrong_and_what_is_right(rt: HostRuntime) -> Result<(), Fail> {
-    for (line, parts) in &PARTS {
-        assert!(&rt; has_parts(rt.alloc(), *line, *parts)?, "{line}");
+    for row in &TOLD {
+        assert!(rt; has_parts(rt.alloc(), *row)?, "{row}");
     }
     Ok(())
-}
-
-/// Whether the words of the line are no command, and a text tells it that has each of the parts.
-fn has_parts(alloc: Global, line: &str, parts: &[&str]) -> Result<bool, AllocError> {
-    let words = words_of(alloc, line)?;
-    match read_command(alloc, &words) {
-        Err(WordFault::Text(text)) => Ok(has_all(text.as_str(), parts)),
-        Err(WordFault::Memory) => Err(AllocError),
-        Ok(_) => Ok(false),
-    }
-}
-
-fn has_all(text: &str, parts: &[&str]) -> bool {
-    parts.iter().all(|part| text.contains(*part))
 }
