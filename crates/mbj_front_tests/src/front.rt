@@ -7,7 +7,6 @@ ghost use Rattle.mbj_front.specs.Views.{after_publish};
 use mbj_core::{MAX_SUBMITTERS, MAX_WORKERS};
 use mbj_front::{Front, PartySeat, Results, Seat, SharedFront};
 use std::alloc::{AllocError, Global};
-use std::process::Abort;
 use std::test::Fail;
 
 /// A job is a number, and it is owed the next one.
@@ -21,15 +20,9 @@ type Numbers = SharedFront<u32, u32, Next>;
 
 type NumberSeat = PartySeat<u32, u32>;
 
-/// What a job's way through a cell shows.
-#[derive(Clone, Copy, PartialEq)]
-struct Seen {
-    /// The words of the cell at first and after open, publish, claim, finish, take and free.
-    words: [u64; 7],
-    /// The words that a second claim and an early take find.
-    missed: [u64; 2],
-    done: u32,
-}
+/// What a job's way through a cell shows: the words of the cell at first and after open, publish, claim, finish, take and
+/// free, the words that a second claim and an early take find, and the result.
+type Seen = [u64; 10];
 
 /// A submitter posts a job in its next cell. Answers the words of the cell at first and after open and publish, as a third
 /// party finds them.
@@ -65,7 +58,7 @@ fn claim(
     helper: &mut NumberSeat,
     third: &mut NumberSeat,
     cell: u32,
-) -> Option<(u32, u64, [u64; 2])>
+) -> Option<(u32, [u64; 3])>
     requires fronts { IsOf front.now owner.old × IsOf front.now helper.old × IsOf front.now third.old }
     requires rests { ((view_of owner.old).phase ≡ Rest) × ((view_of helper.old).phase ≡ Rest) × ((view_of third.old).phase ≡ Rest) }
     requires out { (view_of owner.old).handed < length (view_of owner.old).due }
@@ -81,7 +74,7 @@ fn claim(
     let in_hand = front.scan(third, cell);
     let missed_claim = front.try_claim(third, cell).err()?;
     let missed_take = front.try_take(owner).err()?;
-    Some((job, in_hand, [missed_claim, missed_take]))
+    Some((job, [in_hand, missed_claim, missed_take]))
 }
 
 /// The helper finishes the cell, and the owner takes the result and frees the cell. Answers the result, and the word that a
@@ -132,20 +125,21 @@ fn goes_round(
 {
     let cell = owner.first_cell();
     let [at_first, opened, published] = post(front, owner, third, cell, job);
-    let (claimed, in_hand, missed) = claim(front, owner, helper, third, cell)?;
-    let (done, [finished, taken, freed]) = finish(
-        front,
-        owner,
-        helper,
-        third,
-        cell,
-        claimed.wrapping_add(1),
-    )?;
-    Some(Seen {
-        words: [at_first, opened, published, in_hand, finished, taken, freed],
-        missed,
-        done,
-    })
+    let (claimed, [in_hand, missed_claim, missed_take]) = claim(front, owner, helper, third, cell)?;
+    let next = claimed.wrapping_add(1);
+    let (done, [finished, taken, freed]) = finish(front, owner, helper, third, cell, next)?;
+    Some([
+        at_first,
+        opened,
+        published,
+        in_hand,
+        finished,
+        taken,
+        freed,
+        missed_claim,
+        missed_take,
+        u64::from(done),
+    ])
 }
 
 /// The three seats of a new front of three parties, in their order.
@@ -195,16 +189,8 @@ fn two_rounds(alloc: Global) -> Result<Option<[Seen; 2]>, AllocError> {
 
 #[test]
 fn each_step_leaves_its_word(rt: HostRuntime) -> Result<(), Fail> {
-    let one = Seen {
-        words: [0, 3, 1, 10, 2, 5, 0],
-        missed: [10, 10],
-        done: 8,
-    };
-    let two = Seen {
-        words: [0, 6, 1, 4, 2, 8, 0],
-        missed: [4, 4],
-        done: 9,
-    };
+    let one = [0, 3, 1, 10, 2, 5, 0, 10, 10, 8];
+    let two = [0, 6, 1, 4, 2, 8, 0, 4, 4, 9];
     assert!(rt; two_rounds(rt.alloc())? == Some([one, two]));
     Ok(())
 }
@@ -213,16 +199,18 @@ fn each_step_leaves_its_word(rt: HostRuntime) -> Result<(), Fail> {
 #[test]
 fn seats_come_in_the_order_of_the_parties(rt: HostRuntime) -> Result<(), Fail> {
     let (front, seats) = Numbers::new(rt.alloc(), MAX_SUBMITTERS, MAX_WORKERS)?;
-    assert!(rt; front.cells() == 4096 && seats.len() == 32);
-    check_seats(&rt, &seats);
+    assert!(rt; front.cells() == 4096 && are_in_order(&seats));
     Ok(())
 }
 
-/// Each seat is that of the party of its number, and none of its jobs is out.
-fn check_seats<R: Abort>(rt: &R, seats: &[NumberSeat]) {
+/// Whether there are 32 seats, each of the party of its number, with none of its jobs out.
+fn are_in_order(seats: &[NumberSeat]) -> bool {
     for (party, seat) in seats.iter().enumerate() {
-        assert!(rt; seat.party() as usize == party && seat.out() == 0);
+        if seat.party() as usize != party || seat.out() != 0 {
+            return false;
+        }
     }
+    seats.len() == 32
 }
 
 /// Takes a value that may cross to another thread.

@@ -32,8 +32,7 @@ pub(super) fn takes<O: Sink>(sink: &mut O, piece: &[u8], expected: Result<usize,
 #[test]
 fn a_source_in_memory_gives_pieces_and_fails_where_it_is_told(rt: HostRuntime) -> Result<(), Fail> {
     let mut source = MemSource::new(rt.alloc(), b"0123456789", 4, &[1])?;
-    assert!(rt; gives_digits_in_pieces(&mut source));
-    assert!(rt; source.faults() == 1);
+    assert!(rt; gives_digits_in_pieces(&mut source) && source.faults() == 1);
     Ok(())
 }
 
@@ -51,8 +50,6 @@ fn gives_digits_in_pieces(source: &mut MemSource) -> bool {
 fn a_sink_in_memory_takes_pieces_until_its_room_is_used_up(rt: HostRuntime) -> Result<(), Fail> {
     let mut sink = MemSink::new(rt.alloc(), 6, 4, &[1])?;
     assert!(rt; takes_letters_in_pieces(&mut sink));
-    assert!(rt; sink.held() == b"abcdef".as_slice());
-    assert!(rt; sink.faults() == 3);
     Ok(())
 }
 
@@ -65,4 +62,6 @@ fn takes_letters_in_pieces(sink: &mut MemSink) -> bool {
         && takes(sink, b"efgh", Ok(2))
         && takes(sink, b"gh", Err(Failed))
         && takes(sink, b"", Err(Failed))
+        && sink.held() == b"abcdef".as_slice()
+        && sink.faults() == 3
 }

@@ -25,9 +25,8 @@ impl Write for Broken {
 #[test]
 fn a_source_gives_what_its_reader_gives(rt: HostRuntime) {
     let mut source = StdSource::new(b"abc".as_slice());
-    assert!(rt; gives(&mut source, 2, Ok(b"ab")) && gives(&mut source, 2, Ok(b"c")));
-    assert!(rt; gives(&mut source, 2, Ok(b"")));
-    assert!(rt; source.faults() == 0);
+    let pieces = gives(&mut source, 2, Ok(b"ab")) && gives(&mut source, 2, Ok(b"c"));
+    assert!(rt; pieces && gives(&mut source, 2, Ok(b"")) && source.faults() == 0);
 }
 
 #[test]
@@ -35,8 +34,8 @@ fn each_error_is_counted(rt: HostRuntime) {
     let mut source = StdSource::new(Broken);
     let mut sink = StdSink::new(Broken);
     for count in 1..3 {
-        assert!(rt; gives(&mut source, 2, Err(Failed)) && source.faults() == count);
-        assert!(rt; takes(&mut sink, b"a", Err(Failed)) && sink.faults() == count);
+        let failed = gives(&mut source, 2, Err(Failed)) && takes(&mut sink, b"a", Err(Failed));
+        assert!(rt; failed && source.faults() == count && sink.faults() == count);
     }
 }
 
@@ -44,9 +43,9 @@ fn each_error_is_counted(rt: HostRuntime) {
 fn a_writer_that_takes_nothing_of_a_piece_fails(rt: HostRuntime) {
     let mut room = [0; 2];
     let mut sink = StdSink::new(&mut room[..]);
-    assert!(rt; takes(&mut sink, b"abc", Ok(2)) && takes(&mut sink, b"", Ok(0)));
-    assert!(rt; sink.faults() == 0);
-    assert!(rt; takes(&mut sink, b"c", Err(Failed)) && sink.faults() == 1);
+    let taken = takes(&mut sink, b"abc", Ok(2)) && takes(&mut sink, b"", Ok(0));
+    let calm = sink.faults() == 0;
+    assert!(rt; taken && calm && takes(&mut sink, b"c", Err(Failed)) && sink.faults() == 1);
 }
 
 #[test]
@@ -59,6 +58,6 @@ fn the_standard_input_is_a_source(rt: HostRuntime) {
 #[test]
 fn the_standard_output_is_a_sink(rt: HostRuntime) {
     let mut sink = StdSink::new(rt.stdout());
-    assert!(rt; takes(&mut sink, b"\n", Ok(1)) && takes(&mut sink, b"", Ok(0)));
-    assert!(rt; sink.faults() == 0);
+    let taken = takes(&mut sink, b"\n", Ok(1)) && takes(&mut sink, b"", Ok(0));
+    assert!(rt; taken && sink.faults() == 0);
 }
