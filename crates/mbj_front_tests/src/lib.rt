@@ -15,6 +15,8 @@ mod io;
 #[cfg(test)]
 mod party;
 #[cfg(test)]
+mod player;
+#[cfg(test)]
 mod replay;
 #[cfg(test)]
 mod script;

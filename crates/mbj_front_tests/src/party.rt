@@ -1,183 +1,119 @@
 // A job on its way between two parties.
-ghost use Rattle.std.specs.Prelude.{◌≡◌, IfSome, vec_len};
-ghost use Rattle.mbj_core.specs.Parties.{new_party};
-ghost use Rattle.mbj_front.specs.Seats.{view_of, IsIssued, IsOf, submitters_of};
-ghost use Rattle.mbj_work.specs.Parties.{part_of, IsPartyOf, Submits};
+ghost use Rattle.mbj_work.specs.Parties.{Submits};
 
+use crate::player::{Player, players_of};
 use crate::work::{HI_THERE, hmac_sha1};
-use mbj_front::{Front, Seat};
+use mbj_front::Front;
 use mbj_types::{Reason, Status};
-use mbj_work::{Claimed, HAND_ROOM, Party};
+use mbj_work::Claimed;
 use std::alloc::{AllocError, Global};
 use std::test::Fail;
 
-/// What a submitter and a worker see of a job on its way through cell 0.
-#[derive(Clone, Copy, PartialEq)]
-struct Seen {
-    /// Before the job is posted: whether the worker settles, what its hunt finds, its claim.
-    at_first: (bool, Option<u32>, Option<Claimed>),
-    /// After the post, what the worker's hunt finds, and its claim.
-    posted: (Option<u32>, Option<Claimed>),
-    /// Then the submitter's claim.
-    claimed: Option<Claimed>,
-    /// Then whether the worker settles, and its claim.
-    settled: (bool, Option<Claimed>),
-    /// The claim after the result is collected.
-    collected: Option<Claimed>,
-    /// What three collects give: before the post, after the worker's claim, and after it settled.
-    results: [Collected; 3],
+/// What a party does and what it sees then.
+enum Step {
+    Settle(bool),
+    /// From cell 0 on.
+    Hunt(Option<u32>),
+    /// Of cell 0.
+    Claim(Claimed),
+    /// Of the job of "Hi There" with this length of its tag.
+    Post(u8),
+    /// The status, and whether the tag is that of "Hi There".
+    Collect(Option<(Status, bool)>),
 }
 
-/// The status of a result that was collected, and whether its tag is that of "Hi There".
-type Collected = Option<(Status, bool)>;
+/// The steps of a submitter, which is party 0, and a worker. The job waits in the worker's lanes until the worker settles.
+const FROM_HAND_TO_HAND: [(usize, Step); 13] = [
+    (1, Step::Settle(false)),
+    (1, Step::Hunt(None)),
+    (1, Step::Claim(Claimed::Not(0))),
+    (0, Step::Collect(None)),
+    (0, Step::Post(20)),
+    (1, Step::Hunt(Some(0))),
+    (1, Step::Claim(Claimed::Yes)),
+    (0, Step::Claim(Claimed::Not(7))),
+    (0, Step::Collect(None)),
+    (1, Step::Settle(true)),
+    (1, Step::Claim(Claimed::Not(2))),
+    (0, Step::Collect(Some((Status::Ok, true)))),
+    (1, Step::Claim(Claimed::Not(0))),
+];
 
-fn collect(front: &Front, submitter: &mut Party) -> Collected
-    requires { IsPartyOf front.now submitter.old }
-    ensures front { IsPartyOf front.now submitter.new }
-    ensures number { (part_of submitter.new).number ≡ (part_of submitter.old).number }
-{
-    let done = submitter.collect(front)?;
+/// The status of a job whose tag is longer than that of its authentication.
+const REFUSED: Status = Status::InvalidArgs(Reason::TagLength);
+
+/// The steps with a refused job, which needs no lanes: the worker's claim gives its result back.
+const FINISHED_BY_ITS_CLAIM: [(usize, Step); 13] = [
+    (1, Step::Settle(false)),
+    (1, Step::Hunt(None)),
+    (1, Step::Claim(Claimed::Not(0))),
+    (0, Step::Collect(None)),
+    (0, Step::Post(21)),
+    (1, Step::Hunt(Some(0))),
+    (1, Step::Claim(Claimed::Yes)),
+    (0, Step::Claim(Claimed::Not(2))),
+    (0, Step::Collect(Some((REFUSED, false)))),
+    (1, Step::Settle(false)),
+    (1, Step::Claim(Claimed::Not(0))),
+    (0, Step::Collect(None)),
+    (1, Step::Claim(Claimed::Not(0))),
+];
+
+/// What a party collects.
+fn collected(player: &mut Player) -> Option<(Status, bool)> {
+    let done = player.collect()?;
     Some((done.status, done.tag.bytes() == HI_THERE.as_slice()))
 }
 
-/// Claims cell 0, where the hand has room.
-fn claim_first(front: &Front, party: &mut Party) -> Option<Claimed>
-    requires { IsPartyOf front.now party.old }
-    ensures front { IsPartyOf front.now party.new }
-    ensures number { (part_of party.new).number ≡ (part_of party.old).number }
+/// Whether a submitter posts the job with this length of its tag.
+fn posts(alloc: Global, player: &mut Player, tag_len: u8) -> bool
+    requires { Submits player.old.front.now player.old.party }
 {
-    if party.hand() == HAND_ROOM {
-        return None;
+    match hmac_sha1(alloc, &[0x0b; 20], b"Hi There", tag_len) {
+        Ok(job) => player.posts(job),
+        Err(_) => false,
     }
-    Some(party.claim(front, 0))
 }
 
-/// A job of the submitter with this length of its tag is posted, claimed, settled and collected.
-fn way_of(
-    alloc: Global,
-    front: &Front,
-    submitter: &mut Party,
-    worker: &mut Party,
-    tag_len: u8,
-) -> Result<Seen, AllocError>
-    requires submitter { IsPartyOf front.now submitter.old × Submits front.now submitter.old }
-    requires worker { IsPartyOf front.now worker.old }
-{
-    let job = hmac_sha1(alloc, &[0x0b; 20], b"Hi There", tag_len)?;
-    let at_first = (
-        worker.settle(front),
-        worker.hunt(front, 0),
-        claim_first(front, worker),
-    );
-    let none = collect(front, submitter);
-    let _full = submitter.post(front, job);
-    let posted = (worker.hunt(front, 0), claim_first(front, worker));
-    let claimed = claim_first(front, submitter);
-    let early = collect(front, submitter);
-    let settled = (worker.settle(front), claim_first(front, worker));
-    let done = collect(front, submitter);
-    let collected = claim_first(front, worker);
-    Ok(Seen {
-        at_first,
-        posted,
-        claimed,
-        settled,
-        collected,
-        results: [none, early, done],
-    })
+/// Whether a party sees what a step tells.
+fn sees(alloc: Global, player: &mut Player, step: &Step) -> bool {
+    match step {
+        Step::Settle(settled) => player.settles() == *settled,
+        Step::Hunt(found) => player.hunt(0) == *found,
+        Step::Claim(claimed) => player.claim(0) == Some(*claimed),
+        Step::Post(tag_len) => player.submits() && posts(alloc, player, *tag_len),
+        Step::Collect(result) => collected(player) == *result,
+    }
 }
 
-/// The two seats of a new front of two parties, in their order.
-fn two(front: &Front, mut seats: Vec<Seat>) -> Option<(Seat, Seat)>
-    requires two { vec_len seats ≡ 2 }
-    requires seats { IsIssued front.now seats.items }
-    ensures first { IfSome result (λ t. IsOf front.now t.0 × (view_of t.0 ≡ new_party 0)) }
-    ensures second { IfSome result (λ t. IsOf front.now t.1 × (view_of t.1 ≡ new_party 1)) }
-{
-    let second = seats.pop()?;
-    let first = seats.pop()?;
-    Some((first, second))
+/// Whether the parties see what each of the steps tells.
+fn see_all(alloc: Global, players: &mut [Player], steps: &[(usize, Step)]) -> bool {
+    for (party, step) in steps {
+        let Some(player) = players.get_mut(*party) else {
+            return false;
+        };
+        if !sees(alloc, player, step) {
+            return false;
+        }
+    }
+    true
 }
 
-/// What the submitter and a worker with this seat see of it.
-fn way_beside(
-    alloc: Global,
-    front: &Front,
-    submitter: &mut Party,
-    seat: Seat,
-    tag_len: u8,
-) -> Result<Seen, AllocError>
-    requires submitter { IsPartyOf front.now submitter.old × Submits front.now submitter.old }
-    requires worker { IsOf front.now seat × (view_of seat ≡ new_party 1) }
-{
-    let mut worker = Party::new(alloc, seat)?;
-    way_of(alloc, front, submitter, &mut worker, tag_len)
-}
-
-/// What the parties of the two seats of a front see of it.
-fn way_of_seats(
-    alloc: Global,
-    front: &Front,
-    first: Seat,
-    second: Seat,
-    tag_len: u8,
-) -> Result<Seen, AllocError>
-    requires submitters { submitters_of front.now ≡ 1 }
-    requires first { IsOf front.now first × (view_of first ≡ new_party 0) }
-    requires second { IsOf front.now second × (view_of second ≡ new_party 1) }
-{
-    let mut submitter = Party::new(alloc, first)?;
-    way_beside(alloc, front, &mut submitter, second, tag_len)
-}
-
-/// What the parties of a new front see of it.
-fn way_through_a_new_front(alloc: Global, tag_len: u8) -> Result<Option<Seen>, AllocError> {
+/// Whether the parties of a new front do.
+fn go(alloc: Global, steps: &[(usize, Step)]) -> Result<bool, AllocError> {
     let (front, seats) = Front::new(alloc, 1, 1)?;
-    let Some((first, second)) = two(&front, seats) else {
-        return Ok(None);
-    };
-    Ok(Some(way_of_seats(alloc, &front, first, second, tag_len)?))
+    let mut players = players_of(alloc, &front, seats)?;
+    Ok(see_all(alloc, &mut players, steps))
 }
 
-/// Whether the parties of a new front see this of it.
-fn goes_so(alloc: Global, tag_len: u8, expected: &Seen) -> Result<bool, AllocError> {
-    match way_through_a_new_front(alloc, tag_len)? {
-        Some(seen) => Ok(seen == *expected),
-        None => Ok(false),
-    }
-}
-
-fn not(word: u64) -> Option<Claimed> {
-    Some(Claimed::Not(word))
-}
-
-// The job waits in the worker's lanes until the worker settles.
 #[test]
 fn a_job_goes_from_hand_to_hand(rt: HostRuntime) -> Result<(), Fail> {
-    let expected = Seen {
-        at_first: (false, None, not(0)),
-        posted: (Some(0), Some(Claimed::Yes)),
-        claimed: not(7),
-        settled: (true, not(2)),
-        collected: not(0),
-        results: [None, None, Some((Status::Ok, true))],
-    };
-    assert!(rt; goes_so(rt.alloc(), 20, &expected)?);
+    assert!(rt; go(rt.alloc(), &FROM_HAND_TO_HAND)?);
     Ok(())
 }
 
-// A refused job needs no lanes: the worker's claim gives its result back.
 #[test]
 fn a_refused_job_is_finished_by_its_claim(rt: HostRuntime) -> Result<(), Fail> {
-    let refused = Status::InvalidArgs(Reason::TagLength);
-    let expected = Seen {
-        at_first: (false, None, not(0)),
-        posted: (Some(0), Some(Claimed::Yes)),
-        claimed: not(2),
-        settled: (false, not(0)),
-        collected: not(0),
-        results: [None, Some((refused, false)), None],
-    };
-    assert!(rt; goes_so(rt.alloc(), 21, &expected)?);
+    assert!(rt; go(rt.alloc(), &FINISHED_BY_ITS_CLAIM)?);
     Ok(())
 }

@@ -47,36 +47,33 @@ pub(crate) fn hmac_sha1(
     Ok(job)
 }
 
-fn has_tag(results: &[Done], i: usize, tag: &[u8]) -> bool {
-    results.get(i).is_some_and(|done| done.status == Status::Ok && done.tag.bytes() == tag)
-}
+/// Three jobs by their keys, packets and lengths of tags. The second is refused.
+const THREE_JOBS: [(&[u8], &[u8], u8); 3] = [
+    (b"Jefe", b"what do ya want for nothing?", 20),
+    (b"Jefe", b"", 21),
+    (&[0x0b; 20], b"Hi There", 20),
+];
 
-/// Adds three jobs, the second of which is refused.
-fn add_three(alloc: Global, jobs: &mut Vec<Job>) -> Result<(), AllocError> {
-    jobs.push(hmac_sha1(alloc, b"Jefe", b"what do ya want for nothing?", 20)?)?;
-    jobs.push(hmac_sha1(alloc, b"Jefe", b"", 21)?)?;
-    jobs.push(hmac_sha1(alloc, &[0x0b; 20], b"Hi There", 20)?)?;
-    Ok(())
-}
-
-fn three_jobs(alloc: Global) -> Result<Vec<Job>, AllocError> {
+fn jobs_of(alloc: Global, rows: &[(&[u8], &[u8], u8)]) -> Result<Vec<Job>, AllocError> {
     let mut jobs = Vec::new(alloc);
-    add_three(alloc, &mut jobs)?;
+    for (key, packet, tag_len) in rows {
+        jobs.push(hmac_sha1(alloc, *key, *packet, *tag_len)?)?;
+    }
     Ok(jobs)
 }
 
-fn one_job(alloc: Global) -> Result<Vec<Job>, AllocError> {
-    Ok(vec![in alloc; hmac_sha1(alloc, &[0x0b; 20], b"Hi There", 20)?]?)
-}
-
-/// A submitter with three jobs, the second of which is refused, and one with a single job.
+/// A submitter with the three jobs, and one with the last of them.
 fn two_lists(alloc: Global) -> Result<Vec<Vec<Job>>, AllocError>
     ensures { IfOk result (λ lists. length lists.items ≡ 2) }
 {
     let mut lists = Vec::with_capacity(alloc, 2)?;
-    lists.push_reserved(three_jobs(alloc)?);
-    lists.push_reserved(one_job(alloc)?);
+    lists.push_reserved(jobs_of(alloc, &THREE_JOBS)?);
+    lists.push_reserved(jobs_of(alloc, &THREE_JOBS[2..])?);
     Ok(lists)
+}
+
+fn has_tag(done: &Done, tag: &[u8]) -> bool {
+    done.status == Status::Ok && done.tag.bytes() == tag
 }
 
 /// Whether these are the results of the two lists.
@@ -84,13 +81,13 @@ fn are_results_of_two_lists(results: &[Vec<Done>]) -> bool {
     let [three, one] = results else {
         return false;
     };
-    let refused = Status::InvalidArgs(Reason::TagLength);
-    three.len() == 3
-        && has_tag(three, 0, &JEFE)
-        && three[1].status == refused
-        && has_tag(three, 2, &HI_THERE)
-        && one.len() == 1
-        && has_tag(one, 0, &HI_THERE)
+    let ([first, second, third], [only]) = (three.as_slice(), one.as_slice()) else {
+        return false;
+    };
+    has_tag(first, &JEFE)
+        && second.status == Status::InvalidArgs(Reason::TagLength)
+        && has_tag(third, &HI_THERE)
+        && has_tag(only, &HI_THERE)
 }
 
 /// Whether the two lists get their results where each has a manager of its own.
@@ -114,8 +111,9 @@ fn are_done_over_a_front<R: Threads + Wait + Sync>(
 #[test]
 fn each_list_gets_its_results_in_order(rt: HostRuntime) -> Result<(), Fail> {
     assert!(rt; are_done_apart(&rt, rt.alloc())?);
-    assert!(rt; are_done_over_a_front(&rt, rt.alloc(), 0)?);
-    assert!(rt; are_done_over_a_front(&rt, rt.alloc(), 2)?);
+    for workers in [0, 2] {
+        assert!(rt; are_done_over_a_front(&rt, rt.alloc(), workers)?);
+    }
     Ok(())
 }
 

@@ -4,7 +4,7 @@ use Rattle.mbj_types.specs.declared.done.Done.{Done}
 use Rattle.mbj_front.specs.declared.seat.PartySeat.{PartySeat}
 use Rattle.mbj_work.specs.Inside.Runs.{AreSeatsFrom}
 use Rattle.mbj_work.proofs.Crews.{issued_seats}
-use Rattle.mbj_front_tests.proofs.script.squad.Squad.new.Goals as goal
+use Rattle.mbj_front_tests.proofs.player.players_of.Goals as goal
 
 pub loop-seat-init : goal.loop-seat-init
 loop-seat-init c = (
