@@ -8,7 +8,6 @@ ghost use Rattle.mbj_types.specs.Result.{result_of};
 use mbj_core::{Core, MAX_SUBMITTERS, MAX_WORKERS, SUBMITTER_CELLS};
 use mbj_types::{Auth, Bytes, Cipher, Done, Job, MAX_PACKET_BYTES, PostFull, Status, Tag};
 use std::alloc::{AllocError, Global};
-use std::process::Abort;
 use std::test::Fail;
 
 /// What a party does with a core. A job is known by the one byte of its packet.
@@ -118,17 +117,14 @@ fn play(core: &mut Core, alloc: Global, step: &Move) -> Result<Got, AllocError> 
 /// A step, and what it gets.
 type Step = (Move, Got);
 
-/// The steps get what they are to get.
-fn check_steps<R: Abort>(
-    rt: &R,
-    alloc: Global,
-    core: &mut Core,
-    steps: &[Step],
-) -> Result<(), AllocError> {
+/// Whether the steps get what they are to get.
+fn get_all(alloc: Global, core: &mut Core, steps: &[Step]) -> Result<bool, AllocError> {
     for (step, got) in steps {
-        assert!(rt; play(core, alloc, step)? == *got);
+        if play(core, alloc, step)? != *got {
+            return Ok(false);
+        }
     }
-    Ok(())
+    Ok(true)
 }
 
 // Two submitters and a worker, which is party 2. The results come in the order of the posts, whatever the order in
@@ -155,8 +151,7 @@ const IN_ORDER: [Step; 16] = [
 #[test]
 fn results_come_in_order(rt: HostRuntime) -> Result<(), Fail> {
     let mut core = Core::new(rt.alloc(), 2, 1)?;
-    assert!(rt; !claims(&mut core, 2, 511));
-    check_steps(&rt, rt.alloc(), &mut core, &IN_ORDER)?;
+    assert!(rt; !claims(&mut core, 2, 511) && get_all(rt.alloc(), &mut core, &IN_ORDER)?);
     Ok(())
 }
 
@@ -177,20 +172,21 @@ const WHEN_FULL: [Step; 12] = [
     (Move::Claim(0, 256), Some(3)),
 ];
 
-/// The first submitter posts as many jobs as it may have out.
-fn post_all<R: Abort>(rt: &R, alloc: Global, core: &mut Core) -> Result<(), AllocError> {
+/// Whether the first submitter can post as many jobs as it may have out.
+fn posts_all(alloc: Global, core: &mut Core) -> Result<bool, AllocError> {
     for _ in 0..256u32 {
-        assert!(rt; post(core, alloc, 0, 1)?.is_none());
+        if post(core, alloc, 0, 1)?.is_some() {
+            return Ok(false);
+        }
     }
-    Ok(())
+    Ok(true)
 }
 
 #[test]
 fn a_submitter_has_256_cells(rt: HostRuntime) -> Result<(), Fail> {
     let mut core = Core::new(rt.alloc(), 2, 0)?;
-    post_all(&rt, rt.alloc(), &mut core)?;
-    check_steps(&rt, rt.alloc(), &mut core, &WHEN_FULL)?;
-    assert!(rt; core.out(0) == 256 && core.first_cell(0) == 1);
+    let all = posts_all(rt.alloc(), &mut core)? && get_all(rt.alloc(), &mut core, &WHEN_FULL)?;
+    assert!(rt; all && core.out(0) == 256 && core.first_cell(0) == 1);
     Ok(())
 }
 
@@ -205,7 +201,6 @@ const OF_THE_LAST: [Step; 4] = [
 #[test]
 fn the_most_parties(rt: HostRuntime) -> Result<(), Fail> {
     let mut core = Core::new(rt.alloc(), MAX_SUBMITTERS, MAX_WORKERS)?;
-    assert!(rt; core.workers() == 16);
-    check_steps(&rt, rt.alloc(), &mut core, &OF_THE_LAST)?;
+    assert!(rt; core.workers() == 16 && get_all(rt.alloc(), &mut core, &OF_THE_LAST)?);
     Ok(())
 }

@@ -20,9 +20,9 @@ type Numbers = SharedFront<u32, u32, Next>;
 
 type NumberSeat = PartySeat<u32, u32>;
 
-/// What a job's way through a cell shows: the words of the cell at first and after open, publish, claim, finish, take and
-/// free, the words that a second claim and an early take find, and the result.
-type Seen = [u64; 10];
+/// What a job's way through a cell shows: the words of the cell at first and after open and publish, those that a third
+/// party, a second claim and an early take find once it is claimed, those after finish, take and free, and the result.
+type Seen = ([[u64; 3]; 3], u32);
 
 /// A submitter posts a job in its next cell. Answers the words of the cell at first and after open and publish, as a third
 /// party finds them.
@@ -124,22 +124,11 @@ fn goes_round(
     ensures third { IfSome result (λ _. view_of third.new ≡ record (view_of third.old) { looks = (view_of third.new).looks }) }
 {
     let cell = owner.first_cell();
-    let [at_first, opened, published] = post(front, owner, third, cell, job);
-    let (claimed, [in_hand, missed_claim, missed_take]) = claim(front, owner, helper, third, cell)?;
+    let posted = post(front, owner, third, cell, job);
+    let (claimed, in_hand) = claim(front, owner, helper, third, cell)?;
     let next = claimed.wrapping_add(1);
-    let (done, [finished, taken, freed]) = finish(front, owner, helper, third, cell, next)?;
-    Some([
-        at_first,
-        opened,
-        published,
-        in_hand,
-        finished,
-        taken,
-        freed,
-        missed_claim,
-        missed_take,
-        u64::from(done),
-    ])
+    let (done, finished) = finish(front, owner, helper, third, cell, next)?;
+    Some(([posted, in_hand, finished], done))
 }
 
 /// The three seats of a new front of three parties, in their order.
@@ -189,8 +178,8 @@ fn two_rounds(alloc: Global) -> Result<Option<[Seen; 2]>, AllocError> {
 
 #[test]
 fn each_step_leaves_its_word(rt: HostRuntime) -> Result<(), Fail> {
-    let one = [0, 3, 1, 10, 2, 5, 0, 10, 10, 8];
-    let two = [0, 6, 1, 4, 2, 8, 0, 4, 4, 9];
+    let one = ([[0, 3, 1], [10, 10, 10], [2, 5, 0]], 8);
+    let two = ([[0, 6, 1], [4, 4, 4], [2, 8, 0]], 9);
     assert!(rt; two_rounds(rt.alloc())? == Some([one, two]));
     Ok(())
 }

@@ -69,7 +69,7 @@ fn collected(player: &mut Player) -> Option<(Status, bool)> {
 fn posts(alloc: Global, player: &mut Player, tag_len: u8) -> bool
     requires { Submits player.old.front.now player.old.party }
 {
-    match hmac_sha1(alloc, &[0x0b; 20], b"Hi There", tag_len) {
+    match hmac_sha1(alloc, (&[0x0b; 20], b"Hi There", tag_len)) {
         Ok(job) => player.posts(job),
         Err(_) => false,
     }

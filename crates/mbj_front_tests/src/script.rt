@@ -35,15 +35,13 @@ const NULL_JOB: &str = "null enc ch - - 0 0 null - - 0 0 0 -\n";
 const TWO_JOBS: [&str; 3] = [HI_THERE, JEFE, TWO_JOBS_SCRIPT];
 
 const TWO_JOBS_SCRIPT: &str =
-    "%\npost 0\npost 0\npost 0\nclaim 0 0\nclaim 1 0\nflush 1\ncollect 0\n\
-    flush 0\ncollect 0\n\
-    collect 0\n\
-    collect 0\nflush 0\n";
+    "%\npost 0\npost 0\npost 0\nclaim 0 0\nclaim 1 0\nflush 1\ncollect 0\nflush 0\ncollect 0\n\
+    collect 0\ncollect 0\nflush 0\n";
 
-/// The lines that it prints, row by row.
+/// The lines that it prints.
 const TWO_JOBS_LINES: &str =
-    "post 0 0\npost 0 1\npost 0 end\nclaim 0 0\nclaim 1 1\nfinish 1 1\ncollect 0 none\n\
-    finish 0 0\ncollect 0 0 ok 4869205468657265 b617318655057264e28bc0b6fb378c8ef146be00\n\
+    "post 0 0\npost 0 1\npost 0 end\nclaim 0 0\nclaim 1 1\nfinish 1 1\ncollect 0 none\nfinish 0 0\n\
+    collect 0 0 ok 4869205468657265 b617318655057264e28bc0b6fb378c8ef146be00\n\
     collect 0 1 ok 7768617420646f2079612077616e7420666f72206e6f7468696e673f effcdf6ae5eb2fa2d27416d5f184df9c259a7c79\n\
     collect 0 none\nfinish 0 none\n";
 
@@ -62,39 +60,24 @@ const EIGHT_JOBS: [&str; 9] = [
     EIGHT_JOBS_SCRIPT,
 ];
 
-const EIGHT_JOBS_SCRIPT: &str = "%\ncollect 0\nflush 1\nclaim 0 2\npost 2\npost 0\npost 0\npost 1\n\
-    claim 1 0\nclaim 0 1\ncollect 2\ncollect 0\ncollect 0\n\
-    claim 0 0\nclaim 0 0\npost 0\ncollect 0\npost 0\nclaim 1 2\npost 2\n\
-    post 2\ncollect 2\ncollect 2\npost 1\npost 1\npost 1\n\
-    collect 1\nclaim 1 1\nclaim 0 1\nclaim 1 1\nflush 0\ncollect 1\n\
-    collect 1\ncollect 1\nclaim 0 2\nclaim 1 0\ncollect 0\n\
-    collect 2\nflush 1\n\
-    collect 0\n\
-    collect 0\n";
+const EIGHT_JOBS_SCRIPT: &str =
+    "%\ncollect 0\nflush 1\nclaim 0 2\npost 2\npost 0\npost 0\npost 1\nclaim 1 0\nclaim 0 1\n\
+    collect 2\ncollect 0\ncollect 0\nclaim 0 0\nclaim 0 0\npost 0\ncollect 0\npost 0\nclaim 1 2\n\
+    post 2\npost 2\ncollect 2\ncollect 2\npost 1\npost 1\npost 1\ncollect 1\nclaim 1 1\n\
+    claim 0 1\nclaim 1 1\nflush 0\ncollect 1\ncollect 1\ncollect 1\nclaim 0 2\nclaim 1 0\n\
+    collect 0\ncollect 2\nflush 1\ncollect 0\ncollect 0\n";
 
-/// The lines that it prints, row by row. Job 0 waits for lanes with worker 1, while job 1 is finished at once. Job 2 is
+/// The lines that it prints. Job 0 waits for lanes with worker 1, while job 1 is finished at once. Job 2 is
 /// finished and waits behind job 0. Once worker 0 claims job 5, job 7 is its earliest one, and finished.
 const EIGHT_JOBS_LINES: &str =
     "collect 0 none\nfinish 1 none\nclaim 0 none\npost 2 2\npost 0 0\npost 0 3\npost 1 1\n\
-    claim 1 0\nclaim 0 1\nfinish 0 1\ncollect 2 none\ncollect 0 none\ncollect 0 none\n\
-    claim 0 3\nclaim 0 none\npost 0 6\ncollect 0 none\npost 0 end\nclaim 1 2\npost 2 5\n\
-    post 2 end\ncollect 2 none\ncollect 2 none\npost 1 4\npost 1 7\npost 1 end\n\
-    collect 1 1 ok - -\nclaim 1 4\nclaim 0 7\nclaim 1 none\nfinish 0 3\ncollect 1 none\n\
-    collect 1 none\ncollect 1 none\nclaim 0 5\nfinish 0 7\nclaim 1 6\ncollect 0 none\n\
-    collect 2 none\nfinish 1 0\n\
+    claim 1 0\nclaim 0 1\nfinish 0 1\ncollect 2 none\ncollect 0 none\ncollect 0 none\nclaim 0 3\n\
+    claim 0 none\npost 0 6\ncollect 0 none\npost 0 end\nclaim 1 2\npost 2 5\npost 2 end\n\
+    collect 2 none\ncollect 2 none\npost 1 4\npost 1 7\npost 1 end\ncollect 1 1 ok - -\n\
+    claim 1 4\nclaim 0 7\nclaim 1 none\nfinish 0 3\ncollect 1 none\ncollect 1 none\n\
+    collect 1 none\nclaim 0 5\nfinish 0 7\nclaim 1 6\ncollect 0 none\ncollect 2 none\nfinish 1 0\n\
     collect 0 0 ok 4869205468657265 b617318655057264e28bc0b6fb378c8ef146be00\n\
     collect 0 3 ok 7768617420646f2079612077616e7420666f72206e6f7468696e673f effcdf6ae5eb2fa2d27416d5f184df9c259a7c79\n";
-
-/// The lines that a squad tells.
-fn follow(
-    alloc: Global,
-    mut squad: Squad<'_>,
-    commands: &[Cmd],
-) -> Result<Vec<ReplayLine>, AllocError> {
-    let mut lines = Vec::new(alloc);
-    squad.follow(alloc, commands, &mut lines)?;
-    Ok(lines)
-}
 
 /// The lines that the parties of a new front tell, who follow a script over these jobs on this thread.
 fn tell(
@@ -113,7 +96,7 @@ fn tell(
         workers,
         jobs,
     };
-    follow(alloc, squad, commands)
+    squad.follow(alloc, commands)
 }
 
 /// The same of the jobs and the script of a file.
@@ -127,20 +110,13 @@ fn tell_of_file(alloc: Global, file: &str, submitters: u32) -> Result<Vec<Replay
     Ok(tell(alloc, &jobs, &commands, submitters)?)
 }
 
-/// Whether the parties tell these lines of the file.
-fn is_told(alloc: Global, file: &str, text: &str, submitters: u32) -> Result<bool, Fail>
-    requires { (1 ≤ submitters) × (submitters ≤ MAX_SUBMITTERS) }
-{
-    let lines = tell_of_file(alloc, file, submitters)?;
-    have_text(alloc, &lines, text)
-}
-
-/// Whether they tell them of the file of these parts.
-fn are_told(alloc: Global, parts: &[&str], lines: &str, submitters: u32) -> Result<bool, Fail>
+/// Whether the parties tell these lines of the file of these parts.
+fn are_told(alloc: Global, parts: &[&str], text: &str, submitters: u32) -> Result<bool, Fail>
     requires { (1 ≤ submitters) × (submitters ≤ MAX_SUBMITTERS) }
 {
     let file = parts.join(alloc, "")?;
-    is_told(alloc, file.as_str(), lines, submitters)
+    let lines = tell_of_file(alloc, file.as_str(), submitters)?;
+    have_text(alloc, &lines, text)
 }
 
 // Jobs with an HMAC, a CMAC or CBC encryption wait for lanes until they are flushed.

@@ -9,24 +9,18 @@ use std::test::Fail;
 use std::thread::Threads;
 
 /// RFC 2202, section 3, test case 1: the tag of "Hi There" under a key of 20 bytes 0b.
-pub(crate) const HI_THERE: [u8; 20] = [
-    0xb6, 0x17, 0x31, 0x86, 0x55, 0x05, 0x72, 0x64, 0xe2, 0x8b, 0xc0, 0xb6, 0xfb, 0x37, 0x8c, 0x8e,
-    0xf1, 0x46, 0xbe, 0x00,
-];
+pub(crate) const HI_THERE: &[u8; 20] =
+    b"\xb6\x17\x31\x86\x55\x05\x72\x64\xe2\x8b\xc0\xb6\xfb\x37\x8c\x8e\xf1\x46\xbe\x00";
 
 /// Test case 2: the tag of "what do ya want for nothing?" under the key "Jefe".
-const JEFE: [u8; 20] = [
-    0xef, 0xfc, 0xdf, 0x6a, 0xe5, 0xeb, 0x2f, 0xa2, 0xd2, 0x74, 0x16, 0xd5, 0xf1, 0x84, 0xdf, 0x9c,
-    0x25, 0x9a, 0x7c, 0x79,
-];
+const JEFE: &[u8; 20] =
+    b"\xef\xfc\xdf\x6a\xe5\xeb\x2f\xa2\xd2\x74\x16\xd5\xf1\x84\xdf\x9c\x25\x9a\x7c\x79";
 
-fn fill(
-    alloc: Global,
-    job: &mut Job,
-    key: &[u8],
-    packet: &[u8],
-    tag_len: u8,
-) -> Result<(), AllocError> {
+/// A key, a packet and the length of a tag.
+type Request<'a> = (&'a [u8], &'a [u8], u8);
+
+fn fill(alloc: Global, job: &mut Job, request: Request) -> Result<(), AllocError> {
+    let (key, packet, tag_len) = request;
     job.auth = Auth::HmacSha1;
     job.auth_key = Bytes::from_vec(key.to_vec(alloc)?);
     job.packet = Bytes::from_vec(packet.to_vec(alloc)?);
@@ -36,28 +30,23 @@ fn fill(
 }
 
 /// A job with HMAC-SHA-1 over a whole packet.
-pub(crate) fn hmac_sha1(
-    alloc: Global,
-    key: &[u8],
-    packet: &[u8],
-    tag_len: u8,
-) -> Result<Job, AllocError> {
+pub(crate) fn hmac_sha1(alloc: Global, request: Request) -> Result<Job, AllocError> {
     let mut job = Job::blank(alloc);
-    fill(alloc, &mut job, key, packet, tag_len)?;
+    fill(alloc, &mut job, request)?;
     Ok(job)
 }
 
-/// Three jobs by their keys, packets and lengths of tags. The second is refused.
-const THREE_JOBS: [(&[u8], &[u8], u8); 3] = [
+/// Three jobs, the second of which is refused.
+const THREE_JOBS: [Request; 3] = [
     (b"Jefe", b"what do ya want for nothing?", 20),
     (b"Jefe", b"", 21),
     (&[0x0b; 20], b"Hi There", 20),
 ];
 
-fn jobs_of(alloc: Global, rows: &[(&[u8], &[u8], u8)]) -> Result<Vec<Job>, AllocError> {
+fn jobs_of(alloc: Global, requests: &[Request]) -> Result<Vec<Job>, AllocError> {
     let mut jobs = Vec::new(alloc);
-    for (key, packet, tag_len) in rows {
-        jobs.push(hmac_sha1(alloc, *key, *packet, *tag_len)?)?;
+    for request in requests {
+        jobs.push(hmac_sha1(alloc, *request)?)?;
     }
     Ok(jobs)
 }
@@ -72,8 +61,8 @@ fn two_lists(alloc: Global) -> Result<Vec<Vec<Job>>, AllocError>
     Ok(lists)
 }
 
-fn has_tag(done: &Done, tag: &[u8]) -> bool {
-    done.status == Status::Ok && done.tag.bytes() == tag
+fn has_tag(done: &Done, tag: &[u8; 20]) -> bool {
+    done.status == Status::Ok && done.tag.bytes() == tag.as_slice()
 }
 
 /// Whether these are the results of the two lists.
@@ -84,10 +73,10 @@ fn are_results_of_two_lists(results: &[Vec<Done>]) -> bool {
     let ([first, second, third], [only]) = (three.as_slice(), one.as_slice()) else {
         return false;
     };
-    has_tag(first, &JEFE)
+    has_tag(first, JEFE)
         && second.status == Status::InvalidArgs(Reason::TagLength)
-        && has_tag(third, &HI_THERE)
-        && has_tag(only, &HI_THERE)
+        && has_tag(third, HI_THERE)
+        && has_tag(only, HI_THERE)
 }
 
 /// Whether the two lists get their results where each has a manager of its own.

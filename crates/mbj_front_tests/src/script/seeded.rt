@@ -77,16 +77,10 @@ fn tell_of_seed(alloc: Global, seed: u64, state: u64) -> Result<Vec<ReplayLine>,
     tell(alloc, &jobs, &commands, SUBMITTERS)
 }
 
-/// The digest of the text of the lines.
-fn digest_of(alloc: Global, lines: &[ReplayLine]) -> Result<String, Fail> {
+/// Whether the text of the lines has this digest.
+fn have_digest(alloc: Global, lines: &[ReplayLine], digest: &str) -> Result<bool, Fail> {
     let sink = write(alloc, lines)?;
-    Ok(hex::encode(alloc, Sha256::digest(sink.held()))?)
-}
-
-/// Whether what they tell has this digest.
-fn has_digest(alloc: Global, seed: u64, state: u64, digest: &str) -> Result<bool, Fail> {
-    let lines = tell_of_seed(alloc, seed, state)?;
-    let shown = digest_of(alloc, &lines)?;
+    let shown = hex::encode(alloc, Sha256::digest(sink.held()))?;
     Ok(shown.as_str() == digest)
 }
 
@@ -94,7 +88,8 @@ fn has_digest(alloc: Global, seed: u64, state: u64, digest: &str) -> Result<bool
 fn is_told(alloc: Global, row: &str) -> Result<bool, Fail> {
     let (seed, rest) = row.split_once(' ').ok_or("no state")?;
     let (state, digest) = rest.split_once(' ').ok_or("no digest")?;
-    has_digest(alloc, seed.parse()?, state.parse()?, digest)
+    let lines = tell_of_seed(alloc, seed.parse()?, state.parse()?)?;
+    have_digest(alloc, &lines, digest)
 }
 
 // The core tells the same of the same jobs and commands: `replay` is compared with these digests too.

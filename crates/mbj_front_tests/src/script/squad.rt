@@ -114,16 +114,16 @@ impl Squad<'_> {
         push(lines, finish(w, worker))
     }
 
-    /// Does what each command says.
+    /// The lines that tell what each command comes to.
     pub(crate) fn follow(
-        &mut self,
+        mut self,
         alloc: Global,
         commands: &[Cmd],
-        lines: &mut Vec<ReplayLine>,
-    ) -> Result<(), AllocError> {
+    ) -> Result<Vec<ReplayLine>, AllocError> {
+        let mut lines = Vec::new(alloc);
         for command in commands {
-            self.perform(alloc, *command, lines)?;
+            self.perform(alloc, *command, &mut lines)?;
         }
-        Ok(())
+        Ok(lines)
     }
 }

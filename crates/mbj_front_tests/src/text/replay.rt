@@ -109,21 +109,16 @@ fn the_first_fault_is_told(rt: HostRuntime) {
     }
 }
 
-/// A file of one job and 300 commands.
-fn long_text(alloc: Global) -> Result<String, AllocError> {
-    let commands = "post 2\nclaim 1 2\n".repeat(alloc, 150)?;
-    format!(in alloc; "@\n%\n{commands}")
-}
-
-/// Whether its commands are read.
-fn reads_long_text(alloc: Global) -> Result<bool, AllocError> {
-    let text = long_text(alloc)?;
+/// Whether 300 commands are read behind a job.
+fn reads_many(alloc: Global) -> Result<bool, AllocError> {
+    let script = "post 2\nclaim 1 2\n".repeat(alloc, 150)?;
+    let file = [JOB, "\n%\n", script.as_str()].join(alloc, "")?;
     let commands = [[Post(2), Claim(1, 2)]; 150];
-    Ok(text_has(alloc, text.as_str(), 1, commands.as_flattened()) == Ok(true))
+    Ok(has(alloc, file.as_str(), 1, commands.as_flattened()) == Ok(true))
 }
 
 #[test]
 fn a_script_may_have_many_commands(rt: HostRuntime) -> Result<(), Fail> {
-    assert!(rt; reads_long_text(rt.alloc())?);
+    assert!(rt; reads_many(rt.alloc())?);
     Ok(())
 }
