@@ -12,6 +12,8 @@ use std::test::Fail;
 
 /// What a party does with a core. A job is known by the one byte of its packet.
 enum Move {
+    /// 256 times.
+    PostAll(u32, u8),
     Post(u32, u8),
     Claim(u32, u32),
     Finish(u32, u32),
@@ -64,6 +66,17 @@ fn post(core: &mut Core, alloc: Global, s: u32, byte: u8) -> Result<Got, AllocEr
     }
 }
 
+/// Posts until a job comes back, at most 256 times.
+fn post_all(core: &mut Core, alloc: Global, s: u32, byte: u8) -> Result<Got, AllocError> {
+    for _ in 0..256u32 {
+        let got = post(core, alloc, s, byte)?;
+        if got.is_some() {
+            return Ok(got);
+        }
+    }
+    Ok(None)
+}
+
 fn claim(core: &mut Core, p: u32, cell: u32) -> Got {
     if p >= core.submitters() + core.workers() || cell >= SUBMITTER_CELLS * core.submitters() {
         return None;
@@ -107,6 +120,7 @@ fn collect(core: &mut Core, s: u32) -> Got {
 
 fn play(core: &mut Core, alloc: Global, step: &Move) -> Result<Got, AllocError> {
     match step {
+        Move::PostAll(s, byte) => post_all(core, alloc, *s, *byte),
         Move::Post(s, byte) => post(core, alloc, *s, *byte),
         Move::Claim(p, cell) => Ok(claim(core, *p, *cell)),
         Move::Finish(p, cell) => finish(core, alloc, *p, *cell),
@@ -157,7 +171,8 @@ fn results_come_in_order(rt: HostRuntime) -> Result<(), Fail> {
 
 // With 256 of a submitter out its next job comes back, and another submitter's doesn't. Once a result is collected,
 // its cell is that of the next job.
-const WHEN_FULL: [Step; 12] = [
+const WHEN_FULL: [Step; 13] = [
+    (Move::PostAll(0, 1), None),
     (Move::Post(0, 2), Some(2)),
     (Move::Post(1, 3), None),
     (Move::Claim(0, 0), Some(1)),
@@ -172,21 +187,11 @@ const WHEN_FULL: [Step; 12] = [
     (Move::Claim(0, 256), Some(3)),
 ];
 
-/// Whether the first submitter can post as many jobs as it may have out.
-fn posts_all(alloc: Global, core: &mut Core) -> Result<bool, AllocError> {
-    for _ in 0..256u32 {
-        if post(core, alloc, 0, 1)?.is_some() {
-            return Ok(false);
-        }
-    }
-    Ok(true)
-}
-
 #[test]
 fn a_submitter_has_256_cells(rt: HostRuntime) -> Result<(), Fail> {
     let mut core = Core::new(rt.alloc(), 2, 0)?;
-    let all = posts_all(rt.alloc(), &mut core)? && get_all(rt.alloc(), &mut core, &WHEN_FULL)?;
-    assert!(rt; all && core.out(0) == 256 && core.first_cell(0) == 1);
+    assert!(rt; get_all(rt.alloc(), &mut core, &WHEN_FULL)?);
+    assert!(rt; core.out(0) == 256 && core.first_cell(0) == 1);
     Ok(())
 }
 

@@ -5,7 +5,7 @@ ghost use Rattle.mbj_front.specs.Seats.{view_of, IsSubmitter, IsOf, IsIssued, su
 ghost use Rattle.mbj_front.specs.Views.{after_publish};
 
 use mbj_core::{MAX_SUBMITTERS, MAX_WORKERS};
-use mbj_front::{Front, PartySeat, Results, Seat, SharedFront};
+use mbj_front::{Front, PartySeat, Results, SharedFront};
 use std::alloc::{AllocError, Global};
 use std::test::Fail;
 
@@ -18,7 +18,7 @@ impl Results<u32, u32> for Next {
 
 type Numbers = SharedFront<u32, u32, Next>;
 
-type NumberSeat = PartySeat<u32, u32>;
+type Seat = PartySeat<u32, u32>;
 
 /// What a job's way through a cell shows: the words of the cell at first and after open and publish, those that a third
 /// party, a second claim and an early take find once it is claimed, those after finish, take and free, and the result.
@@ -26,13 +26,7 @@ type Seen = ([[u64; 3]; 3], u32);
 
 /// A submitter posts a job in its next cell. Answers the words of the cell at first and after open and publish, as a third
 /// party finds them.
-fn post(
-    front: &Numbers,
-    owner: &mut NumberSeat,
-    third: &mut NumberSeat,
-    cell: u32,
-    job: u32,
-) -> [u64; 3]
+fn post(front: &Numbers, owner: &mut Seat, third: &mut Seat, cell: u32, job: u32) -> [u64; 3]
     requires fronts { IsOf front.now owner.old × IsOf front.now third.old }
     requires rest { (view_of owner.old).phase ≡ Rest }
     requires submitter { (view_of owner.old).number < submitters_of front.now }
@@ -54,9 +48,9 @@ fn post(
 /// the job, the word that the third party finds in between, and those that the two find.
 fn claim(
     front: &Numbers,
-    owner: &mut NumberSeat,
-    helper: &mut NumberSeat,
-    third: &mut NumberSeat,
+    owner: &mut Seat,
+    helper: &mut Seat,
+    third: &mut Seat,
     cell: u32,
 ) -> Option<(u32, [u64; 3])>
     requires fronts { IsOf front.now owner.old × IsOf front.now helper.old × IsOf front.now third.old }
@@ -81,9 +75,9 @@ fn claim(
 /// third party finds after each.
 fn finish(
     front: &Numbers,
-    owner: &mut NumberSeat,
-    helper: &mut NumberSeat,
-    third: &mut NumberSeat,
+    owner: &mut Seat,
+    helper: &mut Seat,
+    third: &mut Seat,
     cell: u32,
     done: u32,
 ) -> Option<(u32, [u64; 3])>
@@ -108,9 +102,9 @@ fn finish(
 /// A submitter's job goes through its next cell, and a helper makes its result. A third party looks on.
 fn goes_round(
     front: &Numbers,
-    owner: &mut NumberSeat,
-    helper: &mut NumberSeat,
-    third: &mut NumberSeat,
+    owner: &mut Seat,
+    helper: &mut Seat,
+    third: &mut Seat,
     job: u32,
 ) -> Option<Seen>
     requires fronts { IsOf front.now owner.old × IsOf front.now helper.old × IsOf front.now third.old }
@@ -132,10 +126,7 @@ fn goes_round(
 }
 
 /// The three seats of a new front of three parties, in their order.
-fn three(
-    front: &Numbers,
-    mut seats: Vec<NumberSeat>,
-) -> Option<(NumberSeat, NumberSeat, NumberSeat)>
+fn three(front: &Numbers, mut seats: Vec<Seat>) -> Option<(Seat, Seat, Seat)>
     requires three { vec_len seats ≡ 3 }
     requires seats { IsIssued front.now seats.items }
     ensures first { IfSome result (λ t. IsOf front.now t.0 × (view_of t.0 ≡ new_party 0)) }
@@ -151,9 +142,9 @@ fn three(
 /// What two jobs show in turn: the first submitter's, which the worker does, and the second's, which the first does.
 fn go_round(
     front: &Numbers,
-    first: &mut NumberSeat,
-    second: &mut NumberSeat,
-    worker: &mut NumberSeat,
+    first: &mut Seat,
+    second: &mut Seat,
+    worker: &mut Seat,
 ) -> Option<[Seen; 2]>
     requires submitters { submitters_of front.now ≡ 2 }
     requires first { IsOf front.now first.old × (view_of first.old ≡ new_party 0) }
@@ -193,7 +184,7 @@ fn seats_come_in_the_order_of_the_parties(rt: HostRuntime) -> Result<(), Fail> {
 }
 
 /// Whether there are 32 seats, each of the party of its number, with none of its jobs out.
-fn are_in_order(seats: &[NumberSeat]) -> bool {
+fn are_in_order(seats: &[Seat]) -> bool {
     for (party, seat) in seats.iter().enumerate() {
         if seat.party() as usize != party || seat.out() != 0 {
             return false;
@@ -213,6 +204,6 @@ fn a_front_is_shared_and_seats_cross_to_other_threads(rt: HostRuntime) -> Result
     let (front, seats) = Front::new(rt.alloc(), 1, 1)?;
     share(&front);
     cross(front);
-    cross::<Vec<Seat>>(seats);
+    cross::<Vec<mbj_front::Seat>>(seats);
     Ok(())
 }

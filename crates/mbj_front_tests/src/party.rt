@@ -61,7 +61,7 @@ const FINISHED_BY_ITS_CLAIM: [(usize, Step); 13] = [
 
 /// What a party collects.
 fn collected(player: &mut Player) -> Option<(Status, bool)> {
-    let done = player.collect()?;
+    let done = player.party.collect(player.front)?;
     Some((done.status, done.tag.bytes() == HI_THERE.as_slice()))
 }
 
@@ -78,7 +78,7 @@ fn posts(alloc: Global, player: &mut Player, tag_len: u8) -> bool
 /// Whether a party sees what a step tells.
 fn sees(alloc: Global, player: &mut Player, step: &Step) -> bool {
     match step {
-        Step::Settle(settled) => player.settles() == *settled,
+        Step::Settle(settled) => player.party.settle(player.front) == *settled,
         Step::Hunt(found) => player.hunt(0) == *found,
         Step::Claim(claimed) => player.claim(0) == Some(*claimed),
         Step::Post(tag_len) => player.submits() && posts(alloc, player, *tag_len),

@@ -8,7 +8,7 @@ ghost use Rattle.mbj_work.specs.Parties.{part_of, IsPartyOf, Submits};
 
 use mbj_core::{MAX_SUBMITTERS, SUBMITTER_CELLS, cell_at};
 use mbj_front::{Front, Seat};
-use mbj_types::{Done, Job};
+use mbj_types::Job;
 use mbj_work::{Claimed, HAND_ROOM, Party};
 use std::alloc::{AllocError, Global};
 use std::collections::VecDeque;
@@ -16,9 +16,9 @@ use std::collections::VecDeque;
 /// A party of a front.
 #[derive(Drop)]
 pub(crate) struct Player<'a> {
-    front: &'a Front,
+    pub(crate) front: &'a Front,
     number: u32,
-    party: Party,
+    pub(crate) party: Party,
     /// In a script the number of a submitter's next job, and the numbers of its jobs that are out or of those in a worker's
     /// hand, the earliest first.
     pub(crate) next: u32,
@@ -81,16 +81,6 @@ impl Player<'_> {
         self.number < self.submitters()
     }
 
-    /// How many jobs are in its hand.
-    pub(crate) fn hand(&self) -> u32 {
-        self.party.hand()
-    }
-
-    /// Settles the first job in the hand, where there is one.
-    pub(crate) fn settles(&mut self) -> bool {
-        self.party.settle(self.front)
-    }
-
     /// The first cell from this one on that has a job to be claimed.
     pub(crate) fn hunt(&mut self, from: u32) -> Option<u32> {
         if from >= self.front.cells() {
@@ -112,10 +102,6 @@ impl Player<'_> {
         requires { Submits self.old.front.now self.old.party }
     {
         self.party.post(self.front, job).is_ok()
-    }
-
-    pub(crate) fn collect(&mut self) -> Option<Done> {
-        self.party.collect(self.front)
     }
 
     /// The cell of a submitter's job that is so many behind its earliest one that is out.

@@ -8,10 +8,9 @@ ghost use Rattle.mbj_core.specs.declared.cells.TheConstants.{MAX_SUBMITTERS};
 use crate::player::players_of;
 use crate::replay::have_text;
 use mbj_front::Front;
-use mbj_replay::ReplayLine;
 use mbj_text::{Cmd, INPUT_LIMIT, read_replay};
 use mbj_types::Job;
-use squad::Squad;
+use squad::{Lines, Squad};
 use std::alloc::{AllocError, Global};
 use std::test::Fail;
 
@@ -80,12 +79,7 @@ const EIGHT_JOBS_LINES: &str =
     collect 0 3 ok 7768617420646f2079612077616e7420666f72206e6f7468696e673f effcdf6ae5eb2fa2d27416d5f184df9c259a7c79\n";
 
 /// The lines that the parties of a new front tell, who follow a script over these jobs on this thread.
-fn tell(
-    alloc: Global,
-    jobs: &[Job],
-    commands: &[Cmd],
-    submitters: u32,
-) -> Result<Vec<ReplayLine>, AllocError>
+fn tell(alloc: Global, jobs: &[Job], commands: &[Cmd], submitters: u32) -> Result<Lines, AllocError>
     requires { (1 ≤ submitters) × (submitters ≤ MAX_SUBMITTERS) }
 {
     let (front, seats) = Front::new(alloc, submitters, WORKERS)?;
@@ -100,7 +94,7 @@ fn tell(
 }
 
 /// The same of the jobs and the script of a file.
-fn tell_of_file(alloc: Global, file: &str, submitters: u32) -> Result<Vec<ReplayLine>, Fail>
+fn tell_of_file(alloc: Global, file: &str, submitters: u32) -> Result<Lines, Fail>
     requires { (1 ≤ submitters) × (submitters ≤ MAX_SUBMITTERS) }
 {
     if file.len() > INPUT_LIMIT {

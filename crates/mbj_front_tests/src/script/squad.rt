@@ -6,6 +6,9 @@ use mbj_types::Job;
 use mbj_work::HAND_ROOM;
 use std::alloc::{AllocError, Global};
 
+/// What commands come to.
+pub(crate) type Lines = Vec<ReplayLine>;
+
 /// The parties of a front, and the jobs of a file, of which the submitters post copies by turns.
 #[derive(Drop)]
 pub(crate) struct Squad<'a> {
@@ -30,7 +33,7 @@ fn post(alloc: Global, s: u32, submitter: &mut Player, jobs: &[Job]) -> Option<R
 
 /// Claims the earliest job of a submitter that is to be claimed.
 fn claim(w: u32, worker: &mut Player, submitter: &Player) -> Option<ReplayLine> {
-    if worker.hand() == HAND_ROOM {
+    if worker.party.hand() == HAND_ROOM {
         return Some(ReplayLine::ClaimFull(w));
     }
     let job = worker.claim_from(submitter);
@@ -42,7 +45,7 @@ fn claim(w: u32, worker: &mut Player, submitter: &Player) -> Option<ReplayLine> 
 
 /// Settles the first job in the hand.
 fn flush(w: u32, worker: &mut Player) -> ReplayLine {
-    let job = if worker.settles() {
+    let job = if worker.party.settle(worker.front) {
         worker.jobs.pop_front()
     } else {
         None
@@ -52,7 +55,7 @@ fn flush(w: u32, worker: &mut Player) -> ReplayLine {
 
 /// Collects the result of the earliest job that is out.
 fn collect(s: u32, submitter: &mut Player) -> Option<ReplayLine> {
-    let Some(done) = submitter.collect() else {
+    let Some(done) = submitter.party.collect(submitter.front) else {
         return Some(ReplayLine::CollectNone(s));
     };
     Some(ReplayLine::Collect {
@@ -64,16 +67,14 @@ fn collect(s: u32, submitter: &mut Player) -> Option<ReplayLine> {
 
 /// The finish that a claim led to: the hand is then shorter than the list of its numbers.
 fn finish(w: u32, worker: &mut Player) -> Option<ReplayLine> {
-    if worker.hand() as usize == worker.jobs.len() {
+    if worker.party.hand() as usize == worker.jobs.len() {
         return None;
     }
-    Some(ReplayLine::Finish {
-        worker: w,
-        job: worker.jobs.pop_front(),
-    })
+    let job = worker.jobs.pop_front();
+    Some(ReplayLine::Finish { worker: w, job })
 }
 
-/// The worker and the submitter of a command, which may be without one of them.
+/// The worker and the submitter of a command, where it is without one of them the first.
 fn parties_of(command: Cmd) -> (u32, u32) {
     match command {
         Cmd::Post(s) | Cmd::Collect(s) => (0, s),
@@ -82,7 +83,7 @@ fn parties_of(command: Cmd) -> (u32, u32) {
     }
 }
 
-fn push(lines: &mut Vec<ReplayLine>, line: Option<ReplayLine>) -> Result<(), AllocError> {
+fn push(lines: &mut Lines, line: Option<ReplayLine>) -> Result<(), AllocError> {
     if let Some(line) = line {
         lines.push(line)?;
     }
@@ -95,7 +96,7 @@ impl Squad<'_> {
         &mut self,
         alloc: Global,
         command: Cmd,
-        lines: &mut Vec<ReplayLine>,
+        lines: &mut Lines,
     ) -> Result<(), AllocError> {
         let (w, s) = parties_of(command);
         let Some(submitter) = self.submitters.get_mut(s as usize) else {
@@ -115,11 +116,7 @@ impl Squad<'_> {
     }
 
     /// The lines that tell what each command comes to.
-    pub(crate) fn follow(
-        mut self,
-        alloc: Global,
-        commands: &[Cmd],
-    ) -> Result<Vec<ReplayLine>, AllocError> {
+    pub(crate) fn follow(mut self, alloc: Global, commands: &[Cmd]) -> Result<Lines, AllocError> {
         let mut lines = Vec::new(alloc);
         for command in commands {
             self.perform(alloc, *command, &mut lines)?;

@@ -16,7 +16,7 @@ const HMAC: &str = "hmac-sha1";
 const SHOWN: &str = "Null Dec HashCipher - 2:0af9 0 99999 HmacSha1 1:0b - 10 7 255 2:4869";
 
 /// For each field its number, from 0 on, texts that it may have and texts that it may not have.
-const FORMS: [(u32, &[&str], &[&str]); 14] = [
+const FORMS: [(u32, &[&str], &[&str]); 15] = [
     (0, &["cbc", "gcm"], &["ecb", "NULL", ""]),
     (1, &["enc"], &["encrypt", "Enc"]),
     (2, &["ch"], &["hash"]),
@@ -24,11 +24,8 @@ const FORMS: [(u32, &[&str], &[&str]); 14] = [
     (4, &["-"], &["--", "0x"]),
     (5, &["99999"], &["100000", "00", "01", ""]),
     (6, &[], &["+1", "1a"]),
-    (
-        7,
-        &["null", "hmac-sha384", "cmac256"],
-        &["hmac-md5", "hmac", "cmac192"],
-    ),
+    (7, &["null", "hmac-sha384", "cmac256"], &[]),
+    (7, &[], &["hmac-md5", "hmac", "cmac192"]),
     (8, &[], &["\t0b", "0b0"]),
     (9, &[], &["zz"]),
     (10, &["0"], &["-"]),
@@ -107,11 +104,9 @@ fn all_count(alloc: Global, number: u32, texts: &[&str], count: Count) -> bool {
 #[test]
 fn each_field_has_its_form(rt: HostRuntime) {
     for (number, good, bad) in &FORMS {
-        assert!(rt; all_count(rt.alloc(), *number, *good, Ok(1)), "{number}");
-        assert!(rt;
-            all_count(rt.alloc(), *number, *bad, Err((1, number + 1))),
-            "{number}"
-        );
+        let goods = all_count(rt.alloc(), *number, *good, Ok(1));
+        let bads = all_count(rt.alloc(), *number, *bad, Err((1, number + 1)));
+        assert!(rt; goods && bads, "field {number}");
     }
 }
 
