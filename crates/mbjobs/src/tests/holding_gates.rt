@@ -1,5 +1,4 @@
-use super::RUN;
-use super::parties::generated_file;
+use super::parties::{DIGEST, generated_file};
 use super::runs::{Host, Run};
 use mbj_work::{Gate, Moment};
 use std::alloc::Global;
@@ -8,13 +7,13 @@ use std::sync::atomic::{AtomicBool, AtomicU32};
 use std::thread::yield_now;
 
 /// How many turns a party is held at most; an ask for leave to help is a turn too.
-const MOST_TURNS: u32 = 10_000_000;
+pub(super) const MOST_TURNS: u32 = 10_000_000;
 
 /// How many moments of other parties end a hold.
 const OTHER_MOMENTS: u32 = 64;
 
 /// Two submitters, which are parties 0 and 1, and three workers.
-const WORDS: [&str; 6] = ["mbjobs", "run", "--submitters", "2", "--workers", "3"];
+const WORDS: &str = "mbjobs run --submitters 2 --workers 3";
 
 const WORKER: u32 = 2;
 
@@ -31,16 +30,6 @@ struct Holding {
 }
 
 impl Holding {
-    fn new(party: u32, moment: Moment) -> Holding {
-        Holding {
-            party,
-            moment,
-            begun: AtomicBool::new(false),
-            others: AtomicU32::new(0),
-            turns: AtomicU32::new(0),
-        }
-    }
-
     /// Takes a turn, and answers whether the hold is over.
     fn is_over(&self) -> bool {
         self.others.load(SeqCst) >= OTHER_MOMENTS || self.turns.fetch_add(1, SeqCst) >= MOST_TURNS
@@ -74,52 +63,31 @@ impl Gate for Holding {
     }
 }
 
-/// Runs a file with the party held at a moment, and compares the text.
-fn compare_held<R: Host>(
-    rt: &R,
-    alloc: Global,
-    party: u32,
-    moment: Moment,
-    file: &[u8],
-    text: &[u8],
-) {
-    let gate = Holding::new(party, moment);
-    let ending = Run::new(&WORDS, file).under(rt, alloc, &gate);
-    ending.check_long(rt, text, &moment);
-}
-
-/// Runs a file with the party held at each moment, and compares the text with that of a run with one party.
-fn compare_file<R: Host>(rt: &R, alloc: Global, party: u32, moments: &[Moment], file: &[u8]) {
-    let one = Run::new(&RUN, file).end(rt, alloc);
-    one.check_end(rt, b"\n");
-    for moment in moments {
-        compare_held(rt, alloc, party, *moment, file, one.out.held());
-    }
-}
-
-/// Runs generated jobs with the party held at each moment, and compares the text with that of a run with one party.
+/// Runs generated jobs with the party held at each moment, and compares the digest of the text.
 fn compare<R: Host>(rt: &R, alloc: Global, party: u32, moments: &[Moment]) {
-    let file = generated_file(alloc, 7, 600).expect(rt, "memory");
-    compare_file(rt, alloc, party, moments, file.as_bytes());
+    let file = generated_file(rt, alloc, 7, 600);
+    for moment in moments {
+        let gate = Holding {
+            party,
+            moment: *moment,
+            begun: AtomicBool::new(false),
+            others: AtomicU32::new(0),
+            turns: AtomicU32::new(0),
+        };
+        let ending = Run::new(WORDS, file.held()).under(rt, alloc, &gate);
+        assert!(rt; ending.has_digest(DIGEST), "{moment:?}");
+    }
 }
 
 // Each hold may last for all its turns, which take seconds: so these are two tests.
 #[test]
 fn a_held_worker_changes_no_text(rt: HostRuntime) {
-    compare(
-        &rt,
-        rt.alloc(),
-        WORKER,
-        &[Moment::Claimed, Moment::Finishing],
-    );
+    let moments = [Moment::Claimed, Moment::Finishing];
+    compare(&rt, rt.alloc(), WORKER, &moments);
 }
 
 #[test]
 fn a_held_submitter_changes_no_text(rt: HostRuntime) {
-    compare(
-        &rt,
-        rt.alloc(),
-        SUBMITTER,
-        &[Moment::Posted, Moment::Collected],
-    );
+    let moments = [Moment::Posted, Moment::Collected];
+    compare(&rt, rt.alloc(), SUBMITTER, &moments);
 }

@@ -1,220 +1,113 @@
 use super::RUN;
-use super::runs::{Host, Run, Told};
-use mbj_gen::Generator;
-use mbj_types::{Auth, Bytes, Cipher, Dir, Job, Order};
+use super::runs::{Host, ROOM, Run};
+use mbj_gen::make_jobs;
+use mbj_io::{Failed, MemSink};
+use mbj_text::{Part, write_line, write_parts};
+use mbj_types::Job;
 use std::alloc::{AllocError, Global};
+use std::process::Abort;
 
-const SUBMITTERS: [&str; 4] = ["1", "2", "3", "16"];
+const SUBMITTERS: [u8; 4] = [1, 2, 3, 16];
 
-const WORKERS: [&str; 3] = ["0", "1", "16"];
+const WORKERS: [u8; 3] = [0, 1, 16];
 
-/// Bytes as a field of a job file.
-fn field(alloc: Global, bytes: &Bytes) -> Result<String, AllocError> {
-    if bytes.as_slice().is_empty() {
-        return String::from_str(alloc, "-");
-    }
-    hex::encode(alloc, bytes.as_slice())
-}
+// The words of a job file, in the order of the values that they spell.
+const CIPHERS: [&str; 4] = ["null", "cbc", "ctr", "gcm"];
 
-fn cipher_word(cipher: Cipher) -> &'static str {
-    match cipher {
-        Cipher::Null => "null",
-        Cipher::Cbc => "cbc",
-        Cipher::Ctr => "ctr",
-        Cipher::Gcm => "gcm",
-    }
-}
+const DIRS: [&str; 2] = ["enc", "dec"];
 
-fn auth_word(auth: Auth) -> &'static str {
-    match auth {
-        Auth::Null => "null",
-        Auth::HmacSha1 => "hmac-sha1",
-        Auth::HmacSha224 => "hmac-sha224",
-        Auth::HmacSha256 => "hmac-sha256",
-        Auth::HmacSha384 => "hmac-sha384",
-        Auth::HmacSha512 => "hmac-sha512",
-        Auth::Cmac128 => "cmac128",
-        Auth::Cmac256 => "cmac256",
-        Auth::Gcm => "gcm",
-    }
-}
+const ORDERS: [&str; 2] = ["ch", "hc"];
 
-fn dir_word(dir: Dir) -> &'static str {
-    match dir {
-        Dir::Enc => "enc",
-        Dir::Dec => "dec",
-    }
-}
-
-fn order_word(order: Order) -> &'static str {
-    match order {
-        Order::CipherHash => "ch",
-        Order::HashCipher => "hc",
-    }
-}
-
-/// Adds bytes as a field, and a text behind it.
-fn add_field(
-    line: &mut String,
-    alloc: Global,
-    bytes: &Bytes,
-    behind: &str,
-) -> Result<(), AllocError> {
-    let field = field(alloc, bytes)?;
-    line.push_str(&field)?;
-    line.push_str(behind)
-}
-
-/// Adds the fields of what is ciphered.
-fn add_cipher(line: &mut String, alloc: Global, job: &Job) -> Result<(), AllocError> {
-    let (cipher, dir, order) = (
-        cipher_word(job.cipher),
-        dir_word(job.dir),
-        order_word(job.order),
-    );
-    write!(line, "{cipher} {dir} {order} ")?;
-    add_field(line, alloc, &job.key, " ")?;
-    add_field(line, alloc, &job.iv, " ")?;
-    write!(line, "{} {} ", job.cipher_off, job.cipher_len)
-}
-
-/// Adds the fields of what is hashed.
-fn add_auth(line: &mut String, alloc: Global, job: &Job) -> Result<(), AllocError> {
-    line.push_str(auth_word(job.auth))?;
-    line.push_str(" ")?;
-    add_field(line, alloc, &job.auth_key, " ")?;
-    add_field(line, alloc, &job.aad, " ")?;
-    write!(line, "{} {} {} ", job.hash_off, job.hash_len, job.tag_len)
-}
+const AUTHS: [&str; 9] = [
+    "null",
+    "hmac-sha1",
+    "hmac-sha224",
+    "hmac-sha256",
+    "hmac-sha384",
+    "hmac-sha512",
+    "cmac128",
+    "cmac256",
+    "gcm",
+];
 
 /// Adds a job as a line of a job file.
-fn add_job(file: &mut String, alloc: Global, job: &Job) -> Result<(), AllocError> {
-    add_cipher(file, alloc, job)?;
-    add_auth(file, alloc, job)?;
-    add_field(file, alloc, &job.packet, "\n")
-}
-
-/// Adds the next job that is generated.
-fn add_next(file: &mut String, alloc: Global, generator: &mut Generator) -> Result<(), AllocError> {
-    let job = generator.job(alloc)?;
-    add_job(file, alloc, &job)
+fn add_job(file: &mut MemSink, job: &Job) -> Result<(), Failed> {
+    let fields = [
+        Part::Words(CIPHERS[job.cipher as usize]),
+        Part::Words(DIRS[job.dir as usize]),
+        Part::Words(ORDERS[job.order as usize]),
+        Part::Hex(job.key.as_slice()),
+        Part::Hex(job.iv.as_slice()),
+        Part::Number(u64::from(job.cipher_off)),
+        Part::Number(u64::from(job.cipher_len)),
+        Part::Words(AUTHS[job.auth as usize]),
+        Part::Hex(job.auth_key.as_slice()),
+        Part::Hex(job.aad.as_slice()),
+        Part::Number(u64::from(job.hash_off)),
+        Part::Number(u64::from(job.hash_len)),
+        Part::Number(u64::from(job.tag_len)),
+    ];
+    for field in &fields {
+        write_parts(file, &[*field, Part::Words(" ")])?;
+    }
+    write_line(file, &[Part::Hex(job.packet.as_slice())])
 }
 
 /// A file of generated jobs.
-pub(super) fn generated_file(alloc: Global, seed: u64, count: u32) -> Result<String, AllocError> {
-    let mut generator = Generator::new(seed);
-    let mut file = String::new(alloc);
-    for _ in 0..count {
-        add_next(&mut file, alloc, &mut generator)?;
+pub(super) fn generated_file<R: Abort>(rt: &R, alloc: Global, seed: u64, count: u32) -> MemSink {
+    let jobs = make_jobs(alloc, seed, count).expect(rt, "memory");
+    let mut file = MemSink::new(alloc, ROOM, 1_024, &[]).expect(rt, "memory");
+    for job in &jobs {
+        add_job(&mut file, job).expect(rt, "room");
     }
-    Ok(file)
+    file
 }
 
-/// The words of a run with so many submitters and workers.
-pub(super) fn words_with<'a>(submitters: &'a str, workers: &'a str) -> [&'a str; 6] {
-    [
-        "mbjobs",
-        "run",
-        "--submitters",
-        submitters,
-        "--workers",
-        workers,
-    ]
-}
-
-/// Runs a file by these words, and compares what it writes.
-fn compare_run<'a, R: Host>(
-    rt: &R,
+/// The words of a command with so many submitters and workers.
+pub(super) fn words_with(
     alloc: Global,
-    words: &'a [&'a str],
-    file: &'a [u8],
-    text: &[u8],
-) {
-    let ending = Run::new(words, file).end(rt, alloc);
-    ending.check_long(rt, text, &words);
+    command: &str,
+    submitters: u8,
+    workers: u8,
+) -> Result<String, AllocError> {
+    format!(in alloc; "mbjobs {command} --submitters {submitters} --workers {workers}")
 }
 
-/// Runs a file with each number of submitters and of workers, and compares what it writes.
-fn compare_parties<R: Host>(rt: &R, alloc: Global, file: &[u8], text: &[u8]) {
+/// Runs a command on a file with each number of submitters and of workers, and compares what it writes.
+fn compare<R: Host>(rt: &R, alloc: Global, command: &str, file: &[u8], text: &str) {
     for submitters in &SUBMITTERS {
         for workers in &WORKERS {
-            compare_run(rt, alloc, &words_with(submitters, workers), file, text);
+            let words = words_with(alloc, command, *submitters, *workers).expect(rt, "memory");
+            Run::new(&words, file).check(rt, alloc, 0, text);
         }
     }
 }
 
-/// Compares what a file writes with each number of submitters and of workers with what it writes with one submitter.
-fn compare_file<R: Host>(rt: &R, alloc: Global, file: &[u8]) {
-    let one = Run::new(&RUN, file).end(rt, alloc);
-    one.check_end(rt, b"\n");
-    compare_parties(rt, alloc, file, one.out.held());
-}
+/// The digest of the results of 600 jobs from seed 7, by `tests/faults/reference.py summary 7 600`.
+pub(super) const DIGEST: &str = "b35ae57deabbe22d57517b5f198e0ca793dbd961373cb31ce1d1f7966b13e1f3";
 
 // With one and with two submitters a submitter has more jobs than cells.
 #[test]
 fn the_text_does_not_depend_on_submitters_and_workers(rt: HostRuntime) {
-    let file = generated_file(rt.alloc(), 7, 600).expect(&rt, "memory");
-    compare_file(&rt, rt.alloc(), file.as_bytes());
+    let file = generated_file(&rt, rt.alloc(), 7, 600);
+    let one = Run::new(RUN, file.held()).end(&rt, rt.alloc());
+    assert!(rt; one.has_digest(DIGEST));
+    let text = str::from_utf8(one.out.held()).expect(&rt, "text");
+    compare(&rt, rt.alloc(), "run", file.held(), text);
 }
 
-/// Seed and number of jobs, and what they come to by a program of their own.
-const SUMMARIES: [(&str, &str, &str); 4] = [
-    (
-        "1",
-        "0",
-        "jobs 0\nok 0\ninvalid 0\nbytes 0\nsha256 e3b0c44298fc1c149afbf4c8996fb92427ae41e4649b934ca495991b7852b855\n",
-    ),
-    (
-        "0",
-        "1",
-        "jobs 1\nok 1\ninvalid 0\nbytes 359\nsha256 9b39b258c9bbf0144181b9ee57a5282a0b4876739eef93be99691d121e1fe4b2\n",
-    ),
-    (
-        "1",
-        "16",
-        "jobs 16\nok 13\ninvalid 3\nbytes 7066\nsha256 800c0c47f067824b21f6847a1ab6709d99a1b767eccd8a52ae6afb961df6a1ad\n",
-    ),
-    (
-        "7",
-        "600",
-        "jobs 600\nok 570\ninvalid 30\nbytes 325085\nsha256 b35ae57deabbe22d57517b5f198e0ca793dbd961373cb31ce1d1f7966b13e1f3\n",
-    ),
+/// Commands that generate jobs, and what these come to by a program of their own.
+const SUMMARIES: [&str; 4] = [
+    "gen --seed 1 --jobs 0 => jobs 0\nok 0\ninvalid 0\nbytes 0\nsha256 e3b0c44298fc1c149afbf4c8996fb92427ae41e4649b934ca495991b7852b855\n",
+    "gen --seed 0 --jobs 1 => jobs 1\nok 1\ninvalid 0\nbytes 359\nsha256 9b39b258c9bbf0144181b9ee57a5282a0b4876739eef93be99691d121e1fe4b2\n",
+    "gen --seed 1 --jobs 16 => jobs 16\nok 13\ninvalid 3\nbytes 7066\nsha256 800c0c47f067824b21f6847a1ab6709d99a1b767eccd8a52ae6afb961df6a1ad\n",
+    "gen --seed 7 --jobs 600 => jobs 600\nok 570\ninvalid 30\nbytes 325085\nsha256 b35ae57deabbe22d57517b5f198e0ca793dbd961373cb31ce1d1f7966b13e1f3\n",
 ];
-
-/// The words of a generator with so many submitters and workers.
-fn generating<'a>(
-    seed: &'a str,
-    jobs: &'a str,
-    submitters: &'a str,
-    workers: &'a str,
-) -> [&'a str; 10] {
-    [
-        "mbjobs",
-        "gen",
-        "--seed",
-        seed,
-        "--jobs",
-        jobs,
-        "--submitters",
-        submitters,
-        "--workers",
-        workers,
-    ]
-}
-
-/// Generates jobs with each number of submitters and of workers, and compares what they come to.
-fn generate<'a, R: Host>(rt: &R, alloc: Global, seed: &'a str, jobs: &'a str, summary: &str) {
-    for submitters in &SUBMITTERS {
-        for workers in &WORKERS {
-            let words = generating(seed, jobs, submitters, workers);
-            Run::new(&words, b"").check(rt, alloc, Told::new(0, summary, ""));
-        }
-    }
-}
 
 #[test]
 fn generated_jobs_come_to_their_summary(rt: HostRuntime) {
-    for (seed, jobs, summary) in &SUMMARIES {
-        generate(&rt, rt.alloc(), seed, jobs, summary);
+    for row in &SUMMARIES {
+        let (command, summary) = row.split_once(" => ").expect(&rt, "a row has two halves");
+        compare(&rt, rt.alloc(), command, b"", summary);
     }
 }

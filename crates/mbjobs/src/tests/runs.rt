@@ -4,7 +4,6 @@ use mbj_io::{MemSink, MemSource, Source};
 use mbj_work::{Gate, OpenGate};
 use sha2::{Digest, Sha256};
 use std::alloc::{AllocError, Global};
-use std::fmt::Debug;
 use std::process::Abort;
 use std::sync::Wait;
 use std::thread::Threads;
@@ -17,24 +16,6 @@ pub(super) trait Host: Threads + Wait + Sync + Abort {}
 
 impl<R: Threads + Wait + Sync + Abort> Host for R {}
 
-/// A status that the program ends with, and what it writes.
-#[derive(Clone, Copy, Debug, PartialEq, Eq)]
-pub(super) struct Told<'a> {
-    pub(super) status: u8,
-    pub(super) out: &'a [u8],
-    pub(super) err: &'a [u8],
-}
-
-impl<'a> Told<'a> {
-    pub(super) fn new(status: u8, out: &'a str, err: &'a str) -> Told<'a> {
-        Told {
-            status,
-            out: out.as_bytes(),
-            err: err.as_bytes(),
-        }
-    }
-}
-
 /// How the program ended, what it left of its input, and what it wrote.
 #[derive(Drop)]
 pub(super) struct Ending {
@@ -45,77 +26,38 @@ pub(super) struct Ending {
 }
 
 impl Ending {
-    pub(super) fn told(&self) -> Told<'_> {
-        Told {
-            status: self.status,
-            out: self.out.held(),
-            err: self.err.held(),
-        }
+    /// Whether the program ended with this status, and wrote this on standard output and standard error.
+    pub(super) fn is(&self, status: u8, out: &str, err: &str) -> bool {
+        self.status == status
+            && self.out.held() == out.as_bytes()
+            && self.err.held() == err.as_bytes()
     }
 
-    /// Compares what was written with a text that is too long to be shown.
-    pub(super) fn check_long<R: Abort, W: Debug>(&self, rt: &R, text: &[u8], case: &W) {
-        assert!(rt; self.status == 0 && self.out.held() == text, "{case:?}");
-    }
-
-    /// Compares the end of what was written.
-    pub(super) fn check_end<R: Abort>(&self, rt: &R, end: &[u8]) {
-        assert!(rt; self.status == 0 && self.out.held().ends_with(end));
-    }
-
-    /// Compares how much was written.
-    pub(super) fn check_len<R: Abort>(&self, rt: &R, length: usize) {
-        assert!(rt; self.status == 0 && self.out.held().len() == length);
-    }
-
-    /// Compares the SHA-256 digest of what was written, in hexadecimal digits.
-    pub(super) fn check_digest<R: Abort, W: Debug>(
-        &self,
-        rt: &R,
-        alloc: Global,
-        digest: &str,
-        case: &W,
-    ) {
-        check_same(rt, &self.status, &0, case);
-        check_digest(rt, alloc, self.out.held(), digest, case);
+    /// Whether the program succeeded, and the SHA-256 digest of what it wrote is this one.
+    pub(super) fn has_digest(&self, digest: &str) -> bool {
+        self.status == 0 && is_digest(&Sha256::digest(self.out.held()), digest)
     }
 }
 
-/// Compares what is found in a case with what is right.
-pub(super) fn check_same<R: Abort, T: Debug + PartialEq, W: Debug>(
-    rt: &R,
-    found: &T,
-    right: &T,
-    case: &W,
-) {
-    assert_eq!(rt; *found, *right, "{case:?}");
+/// Whether hexadecimal digits spell a SHA-256 digest.
+pub(super) fn is_digest(found: &[u8; 32], digest: &str) -> bool {
+    let mut digits = [0; 64];
+    hex::encode_to_slice(found.as_slice(), &mut digits).is_ok()
+        && digits.as_slice() == digest.as_bytes()
 }
 
-/// Compares the SHA-256 digest of a text, in hexadecimal digits.
-pub(super) fn check_digest<R: Abort, W: Debug>(
-    rt: &R,
-    alloc: Global,
-    text: &[u8],
-    digest: &str,
-    case: &W,
-) {
-    let found: String = hex::encode(alloc, Sha256::digest(text)).expect(rt, "memory");
-    check_same(rt, &found.as_str(), &digest, case);
-}
+/// How many bytes a read or a write moves at most, and the numbers of those that fail.
+pub(super) type Calls<'a> = (u32, &'a [u64]);
 
 /// A run of the program over a source and two sinks in memory.
 #[derive(Clone, Copy)]
 pub(super) struct Run<'a> {
-    pub(super) words: &'a [&'a str],
+    pub(super) words: &'a str,
     pub(super) input: &'a [u8],
+    pub(super) reads: Calls<'a>,
 
-    /// How many bytes a read gives at most, and the numbers of the reads that fail.
-    pub(super) read_piece: u32,
-    pub(super) failing_reads: &'a [u64],
-
-    /// How many bytes a write takes at most, and the numbers of the writes to standard output that fail.
-    pub(super) write_piece: u32,
-    pub(super) failing_writes: &'a [u64],
+    /// The writes to standard output. Those to standard error move as much, and none of them is told to fail.
+    pub(super) writes: Calls<'a>,
 
     pub(super) out_room: usize,
     pub(super) err_room: usize,
@@ -123,14 +65,22 @@ pub(super) struct Run<'a> {
 
 impl<'a> Run<'a> {
     /// A run whose reads and writes all succeed.
-    pub(super) fn new(words: &'a [&'a str], input: &'a [u8]) -> Run<'a> {
+    pub(super) fn new(words: &'a str, input: &'a [u8]) -> Run<'a> {
+        Run::by(words, input, (4_096, &[]), (1_024, &[]))
+    }
+
+    /// A run by such reads and writes.
+    pub(super) fn by(
+        words: &'a str,
+        input: &'a [u8],
+        reads: Calls<'a>,
+        writes: Calls<'a>,
+    ) -> Run<'a> {
         Run {
             words,
             input,
-            read_piece: 4_096,
-            failing_reads: &[],
-            write_piece: 1_024,
-            failing_writes: &[],
+            reads,
+            writes,
             out_room: ROOM,
             err_room: ROOM,
         }
@@ -138,31 +88,21 @@ impl<'a> Run<'a> {
 
     /// The source and the sinks as a run finds them, under status 0.
     pub(super) fn begin<R: Abort>(&self, rt: &R, alloc: Global) -> Ending {
-        assert!(rt; 1 <= self.read_piece && 1 <= self.write_piece);
+        let ((gives, bad_reads), (takes, bad_writes)) = (self.reads, self.writes);
+        assert!(rt; 1 <= gives && 1 <= takes);
         Ending {
             status: 0,
-            input: MemSource::new(alloc, self.input, self.read_piece, self.failing_reads).expect(
-                rt, "memory",
-            ),
-            out: MemSink::new(alloc, self.out_room, self.write_piece, self.failing_writes).expect(
-                rt, "memory",
-            ),
-            err: MemSink::new(alloc, self.err_room, self.write_piece, &[]).expect(rt, "memory"),
+            input: MemSource::new(alloc, self.input, gives, bad_reads).expect(rt, "memory"),
+            out: MemSink::new(alloc, self.out_room, takes, bad_writes).expect(rt, "memory"),
+            err: MemSink::new(alloc, self.err_room, takes, &[]).expect(rt, "memory"),
         }
     }
 
     /// Runs the program under a gate.
     pub(super) fn under<R: Host, G: Gate + Sync>(&self, rt: &R, alloc: Global, gate: &G) -> Ending {
         let mut ending = self.begin(rt, alloc);
-        ending.status = run_on(
-            rt,
-            alloc,
-            self.words,
-            &mut ending.input,
-            &mut ending.out,
-            &mut ending.err,
-            gate,
-        );
+        let (input, out, err) = (&mut ending.input, &mut ending.out, &mut ending.err);
+        ending.status = run_on(rt, alloc, self.words, input, out, err, gate);
         ending
     }
 
@@ -171,42 +111,37 @@ impl<'a> Run<'a> {
         self.under(rt, alloc, &OpenGate)
     }
 
-    /// Runs the program, and compares its status and what it writes.
-    pub(super) fn check<R: Host>(&self, rt: &R, alloc: Global, told: Told<'_>) {
+    /// Runs the program, and compares its status and the text that it writes where that is 0, else tells.
+    pub(super) fn check<R: Host>(&self, rt: &R, alloc: Global, status: u8, text: &str) {
         let ending = self.end(rt, alloc);
-        self.compare(rt, ending.told(), told);
-    }
-
-    /// Compares how the run ended with what is right.
-    fn compare<R: Abort>(&self, rt: &R, found: Told<'_>, right: Told<'_>) {
-        check_same(rt, &found, &right, &(self.words, self.input.len()));
+        let (out, err) = if status == 0 { (text, "") } else { ("", text) };
+        assert!(rt;
+            ending.is(status, out, err),
+            "{} on {} bytes",
+            self.words,
+            self.input.len()
+        );
     }
 }
 
-fn add_words(owned: &mut Vec<String>, alloc: Global, words: &[&str]) -> Result<(), AllocError> {
-    for word in words {
-        let word = String::from_str(alloc, word)?;
-        owned.push(word)?;
+fn words_of(alloc: Global, line: &str) -> Result<Vec<String>, AllocError> {
+    let mut words = Vec::new(alloc);
+    for word in line.split_whitespace() {
+        words.push(String::from_str(alloc, word)?)?;
     }
-    Ok(())
+    Ok(words)
 }
 
-fn words_of(alloc: Global, words: &[&str]) -> Result<Vec<String>, AllocError> {
-    let mut owned = Vec::new(alloc);
-    add_words(&mut owned, alloc, words)?;
-    Ok(owned)
-}
-
-/// Runs the program, and answers its status.
+/// Runs the program by the words of a line, and answers its status.
 pub(super) fn run_on<R: Host, S: Source, G: Gate + Sync>(
     rt: &R,
     alloc: Global,
-    words: &[&str],
+    line: &str,
     input: &mut S,
     out: &mut MemSink,
     err: &mut MemSink,
     gate: &G,
 ) -> u8 {
-    let words = words_of(alloc, words).expect(rt, "memory");
+    let words = words_of(alloc, line).expect(rt, "memory");
     mbjobs(rt, alloc, &words, input, out, err, gate)
 }

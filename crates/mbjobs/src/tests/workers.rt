@@ -1,13 +1,9 @@
 use super::FIRST_JOB;
+use super::holding_gates::MOST_TURNS;
 use super::runs::Run;
 use mbj_work::{Gate, Moment};
 use std::sync::atomic::Ordering::SeqCst;
 use std::sync::atomic::{AtomicBool, AtomicU32};
-
-const WORDS: [&str; 6] = ["mbjobs", "run", "--submitters", "1", "--workers", "2"];
-
-/// How many turns a party waits for another at most; an ask for leave to help is a turn too.
-const MOST_TURNS: u32 = 10_000_000;
 
 /// Holds each of two workers that has claimed a job until the other one has claimed one too, and lets nobody help before.
 #[derive(Drop)]
@@ -58,10 +54,8 @@ fn two_workers_are_at_work_at_once(rt: HostRuntime) {
         turns: AtomicU32::new(0),
     };
     let file = FIRST_JOB.repeat(rt.alloc(), 2).expect(&rt, "memory");
-    let run = Run {
-        write_piece: 64,
-        ..Run::new(&WORDS, file.as_bytes())
-    };
+    let words = "mbjobs run --submitters 1 --workers 2";
+    let run = Run::by(words, file.as_bytes(), (4_096, &[]), (64, &[]));
     let ending = run.under(&rt, rt.alloc(), &gate);
     assert!(rt; ending.status == 0 && gate.were_seen());
 }

@@ -6,9 +6,9 @@ use std::sync::atomic::AtomicU64;
 use std::sync::atomic::Ordering::SeqCst;
 use std::thread::yield_now;
 
-const SUBMITTERS: [&str; 4] = ["1", "2", "3", "4"];
+const SUBMITTERS: [u8; 4] = [1, 2, 3, 4];
 
-const WORKERS: [&str; 5] = ["0", "1", "2", "3", "4"];
+const WORKERS: [u8; 5] = [0, 1, 2, 3, 4];
 
 /// How often each number of submitters and of workers is run.
 const SEEDS: u64 = 10;
@@ -47,24 +47,24 @@ impl Gate for Yielding {
 }
 
 /// Runs a file from so many seeds of the gate, and compares the digest of each text.
-fn compare<'a, R: Host>(rt: &R, alloc: Global, words: &'a [&'a str], file: &'a [u8]) {
+fn compare<R: Host>(rt: &R, alloc: Global, words: &str, file: &[u8]) {
     for seed in 0..SEEDS {
         let gate = Yielding {
             seed: seed << 32,
             draws: AtomicU64::new(0),
         };
         let ending = Run::new(words, file).under(rt, alloc, &gate);
-        ending.check_digest(rt, alloc, DIGEST, &(words, seed));
+        assert!(rt; ending.has_digest(DIGEST), "{words}, seed {seed}");
     }
 }
 
 #[test]
 fn two_hundred_schedules_give_one_text(rt: HostRuntime) {
-    let file = generated_file(rt.alloc(), 11, 64).expect(&rt, "memory");
+    let file = generated_file(&rt, rt.alloc(), 11, 64);
     for submitters in &SUBMITTERS {
         for workers in &WORKERS {
-            let words = words_with(submitters, workers);
-            compare(&rt, rt.alloc(), &words, file.as_bytes());
+            let words = words_with(rt.alloc(), "run", *submitters, *workers).expect(&rt, "memory");
+            compare(&rt, rt.alloc(), &words, file.held());
         }
     }
 }
