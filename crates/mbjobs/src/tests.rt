@@ -24,6 +24,7 @@ use super::*;
 use mbj_io::{Failed, Source};
 use runs::{Ending, Host, Run, run_on};
 use std::alloc::Global;
+use std::process::Abort;
 
 const RUN: &str = "mbjobs run --submitters 1 --workers 0";
 
@@ -39,7 +40,7 @@ const FIRST_TRACE: &str = "submit 0 none\ncompleted none\nflush 0\nflush none\n"
 fn compare<R: Host>(rt: &R, alloc: Global, status: u8, rows: &[&str]) {
     for row in rows {
         let (file, text) = row.split_once(" => ").expect(rt, "a row has two halves");
-        Run::new(RUN, file.as_bytes()).check(rt, alloc, status, text);
+        Run::new(RUN, file.as_bytes()).check(rt, alloc, status, text.as_bytes());
     }
 }
 
@@ -67,19 +68,21 @@ const NO_COMMANDS: [&str; 6] = [
     "",
 ];
 
-/// Whether a run of words that are no command read no byte and wrote none, and told a line.
-fn has_read_nothing(ending: &Ending) -> bool {
-    ending.status == 2
-        && ending.input.rest() == FIRST_JOB.as_bytes()
-        && ending.out.held().is_empty()
-        && ending.err.held().ends_with(b"\n")
+/// Sees that a run of words that are no command read no byte and wrote none, and told a line.
+fn check_unread<R: Abort>(rt: &R, ending: &Ending, words: &str) {
+    let is_unread = ending.status == 2 && ending.input.rest() == FIRST_JOB.as_bytes();
+    let (out, err) = (ending.out.held(), ending.err.held());
+    assert!(rt;
+        is_unread && out.is_empty() && err.ends_with(b"\n"),
+        "{words}"
+    );
 }
 
 #[test]
 fn words_that_are_no_command_read_nothing(rt: HostRuntime) {
     for words in &NO_COMMANDS {
         let run = Run::by(words, FIRST_JOB.as_bytes(), (64, &[]), (64, &[]));
-        assert!(rt; has_read_nothing(&run.end(&rt, rt.alloc())), "{words}");
+        check_unread(&rt, &run.end(&rt, rt.alloc()), words);
     }
 }
 
@@ -94,7 +97,7 @@ const TOLD_WORDS: [&str; 3] = [
 fn words_that_are_no_command_are_told(rt: HostRuntime) {
     for row in &TOLD_WORDS {
         let (words, text) = row.split_once(" => ").expect(&rt, "a row has two halves");
-        Run::new(words, b"").check(&rt, rt.alloc(), 2, text);
+        Run::new(words, b"").check(&rt, rt.alloc(), 2, text.as_bytes());
     }
 }
 
@@ -102,10 +105,10 @@ fn words_that_are_no_command_are_told(rt: HostRuntime) {
 fn a_failed_read_or_write_ends_the_run(rt: HostRuntime) {
     let file = FIRST_JOB.as_bytes();
     let run = Run::by(RUN, file, (5, &[1]), (7, &[]));
-    run.check(&rt, rt.alloc(), 3, "mbjobs: read failed\n");
+    run.check(&rt, rt.alloc(), 3, b"mbjobs: read failed\n");
     // A sink that takes 7 bytes a call and fails at its call 2 holds the first 14.
     let ending = Run::by(RUN, file, (64, &[]), (7, &[2])).end(&rt, rt.alloc());
-    assert!(rt; ending.is(4, "0 ok 486920546", "mbjobs: write failed\n"));
+    ending.check(&rt, 4, b"0 ok 486920546", b"mbjobs: write failed\n", RUN);
 }
 
 /// A source that is at its end once, and would then give more.
@@ -126,20 +129,29 @@ impl Source for Reopened {
     }
 }
 
+/// Runs the program over a source, and sees that it writes nothing.
+fn run_reopened<R: Host>(rt: &R, alloc: Global, input: &mut Reopened) {
+    let mut ending = Run::new(RUN, b"").begin(rt, alloc);
+    let Ending {
+        out,
+        err,
+        status,
+        ..
+    } = &mut *ending;
+    *status = run_on(rt, alloc, RUN, input, out, err, &OpenGate);
+    ending.check(rt, 0, b"", b"", RUN);
+}
+
 #[test]
 fn nothing_is_read_after_the_end(rt: HostRuntime) {
     let mut input = Reopened { reads: 0 };
-    let mut ending = Run::new(RUN, b"").begin(&rt, rt.alloc());
-    let (out, err) = (&mut ending.out, &mut ending.err);
-    ending.status = run_on(&rt, rt.alloc(), RUN, &mut input, out, err, &OpenGate);
-    assert!(rt; ending.is(0, "", "") && input.reads == 1);
+    run_reopened(&rt, rt.alloc(), &mut input);
+    assert!(rt; input.reads == 1);
 }
 
 #[test]
 fn a_fault_of_err_changes_no_status(rt: HostRuntime) {
-    let run = Run {
-        err_room: 8,
-        ..Run::by(RUN, b"null\n", (64, &[]), (64, &[]))
-    };
-    run.check(&rt, rt.alloc(), 5, "mbjobs: ");
+    let mut run = Run::by(RUN, b"null\n", (64, &[]), (64, &[]));
+    run.err_room = 8;
+    run.check(&rt, rt.alloc(), 5, b"mbjobs: ");
 }

@@ -1,6 +1,7 @@
 use super::runs::{Calls, Ending, Host, Run};
 use super::{FIRST_JOB, FIRST_RESULT, FIRST_TRACE, RUN};
 use std::alloc::Global;
+use std::process::Abort;
 
 /// Commands that read, and what they write for the first job.
 const COMMANDS: [(&str, &str); 3] = [
@@ -13,21 +14,26 @@ const COMMANDS: [(&str, &str); 3] = [
 /// finds their end.
 const READS: [(u32, u64); 3] = [(5, 21), (1, 98), (96, 3)];
 
-/// Whether a run ended as it is to where a read fails or none does, and gave so many bytes, and nothing was read after
-/// that.
-fn has_ended(ending: &Ending, text: &str, fails: bool, given: usize) -> bool {
-    let is_told = if fails {
-        ending.is(3, "", "mbjobs: read failed\n")
+/// Compares how a run ended, one of whose reads failed or none, and how many bytes it left: it read nothing after that.
+fn check_ending<R: Abort>(rt: &R, ending: &Ending, text: &str, fails: bool, left: usize) {
+    let (status, out, err) = if fails {
+        (3, "", "mbjobs: read failed\n")
     } else {
-        ending.is(0, text, "")
+        (0, text, "")
     };
-    is_told
-        && ending.input.rest().len() == FIRST_JOB.len().saturating_sub(given)
-        && ending.input.faults() == u64::from(fails)
+    assert!(rt;
+        ending.is(status, out.as_bytes(), err.as_bytes()),
+        "{left} bytes left"
+    );
+    let (rest, faults) = (ending.input.rest().len(), ending.input.faults());
+    assert!(rt;
+        rest == left && faults == u64::from(fails),
+        "{left} bytes left"
+    );
 }
 
 /// Runs a command on the first job by such reads.
-fn end_of<'a, R: Host>(rt: &R, alloc: Global, words: &'a str, reads: Calls<'a>) -> Ending {
+fn end_of<'a, R: Host>(rt: &R, alloc: Global, words: &'a str, reads: Calls<'a>) -> Box<Ending> {
     Run::by(words, FIRST_JOB.as_bytes(), reads, (64, &[])).end(rt, alloc)
 }
 
@@ -36,11 +42,9 @@ fn compare_command<R: Host>(rt: &R, alloc: Global, words: &str, text: &str) {
     for (piece, reads) in &READS {
         for number in 0..reads.saturating_add(2) {
             let given = (*piece as usize).saturating_mul(number as usize);
+            let left = FIRST_JOB.len().saturating_sub(given);
             let ending = end_of(rt, alloc, words, (*piece, &[number]));
-            assert!(rt;
-                has_ended(&ending, text, number < *reads, given),
-                "read {number} of {piece} bytes"
-            );
+            check_ending(rt, &ending, text, number < *reads, left);
         }
     }
 }

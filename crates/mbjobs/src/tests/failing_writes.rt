@@ -2,6 +2,7 @@ use super::runs::{Calls, Ending, Host, ROOM, Run};
 use super::{FIRST_JOB, FIRST_RESULT, FIRST_TRACE, RUN};
 use mbj_io::MemSink;
 use std::alloc::Global;
+use std::process::Abort;
 
 /// The words of a command, its input, and what it writes.
 type Case = (&'static str, &'static str, &'static str);
@@ -24,25 +25,29 @@ const CASES: [Case; 4] = [
 /// How many bytes a write takes at most, and how many writes the 63 bytes of the first result take.
 const WRITES: [(u32, u64); 4] = [(7, 9), (1, 63), (62, 2), (63, 1)];
 
-/// Whether a run wrote a front of the text: the status and the fault of the sink tell where it isn't the whole text.
-fn has_front(ending: &Ending, text: &str) -> bool {
-    let (held, text) = (ending.out.held(), text.as_bytes());
-    let is_cut = held.len() < text.len();
-    ending.status == (if is_cut { 4 } else { 0 })
-        && text.starts_with(held)
-        && ending.out.faults() == u64::from(is_cut)
+/// Sees that a run wrote a front of the text, and answers its length: the status and a fault of the sink tell where it
+/// isn't the whole text.
+fn front_of<R: Abort>(rt: &R, ending: &Ending, text: &[u8]) -> usize {
+    let held = ending.out.held();
+    let (status, faults) = if held.len() < text.len() {
+        (4, 1)
+    } else {
+        (0, 0)
+    };
+    assert!(rt;
+        ending.status == status && ending.out.faults() == faults,
+        "{faults} faults"
+    );
+    assert!(rt; text.starts_with(held), "{} bytes", held.len());
+    held.len()
 }
 
 /// Runs a command by such writes into a sink of so much room, and answers how many bytes of its text that holds.
 fn written<R: Host>(rt: &R, alloc: Global, case: &Case, room: usize, writes: Calls<'_>) -> usize {
     let (words, input, text) = case;
-    let run = Run {
-        out_room: room,
-        ..Run::by(words, input.as_bytes(), (64, &[]), writes)
-    };
-    let ending = run.end(rt, alloc);
-    assert!(rt; has_front(&ending, text), "{words} with room {room}");
-    ending.out.held().len()
+    let mut run = Run::by(words, input.as_bytes(), (64, &[]), writes);
+    run.out_room = room;
+    front_of(rt, &run.end(rt, alloc), text.as_bytes())
 }
 
 /// Fails each of so many writes of the first case by pieces of a length, and two that it doesn't come to.

@@ -1,4 +1,4 @@
-use super::texts::{Part, check_parts};
+use super::texts::{Repeat, check_parts};
 use super::trace::WAITING_JOB;
 
 /// The first block of SP 800-38A, F.5.1, which is done at once.
@@ -7,7 +7,7 @@ const DONE_JOB: &str =
 
 /// One job more than the 256 that a submitter may have out and a worker in its hand, and commands that fill the hand and
 /// then flush it.
-const FILE: [Part; 6] = [
+const FILE: [Repeat; 6] = [
     (WAITING_JOB, 1),
     (DONE_JOB, 256),
     ("%\n", 1),

@@ -75,7 +75,7 @@ fn compare<R: Host>(rt: &R, alloc: Global, party: u32, moments: &[Moment]) {
             turns: AtomicU32::new(0),
         };
         let ending = Run::new(WORDS, file.held()).under(rt, alloc, &gate);
-        assert!(rt; ending.has_digest(DIGEST), "{moment:?}");
+        ending.check_digest(rt, DIGEST, moment);
     }
 }
 

@@ -35,7 +35,7 @@ pub(super) fn file_of(alloc: Global, limit: &Limit) -> Result<String, AllocError
 fn compare<R: Host>(rt: &R, alloc: Global, limits: &[Limit]) {
     for limit in limits {
         let file = file_of(alloc, limit).expect(rt, "memory");
-        Run::new(RUN, file.as_bytes()).check(rt, alloc, limit.4, limit.5);
+        Run::new(RUN, file.as_bytes()).check(rt, alloc, limit.4, limit.5.as_bytes());
     }
 }
 

@@ -23,10 +23,7 @@ fn the_longest_file_of_the_most_jobs_is_done(rt: HostRuntime) {
     let (mut file, mut text) = (String::new(rt.alloc()), String::new(rt.alloc()));
     add_jobs(&mut file, &mut text).expect(&rt, "memory");
     assert!(rt; file.len() == INPUT_BYTES);
-    let run = Run {
-        out_room: INPUT_BYTES,
-        err_room: 64,
-        ..Run::by(WORDS, file.as_bytes(), (65_536, &[]), (65_536, &[]))
-    };
-    run.check(&rt, rt.alloc(), 0, &text);
+    let mut run = Run::by(WORDS, file.as_bytes(), (65_536, &[]), (65_536, &[]));
+    run.out_room = INPUT_BYTES;
+    run.check(&rt, rt.alloc(), 0, text.as_bytes());
 }

@@ -54,13 +54,18 @@ fn add_job(file: &mut MemSink, job: &Job) -> Result<(), Failed> {
 }
 
 /// A file of generated jobs.
-pub(super) fn generated_file<R: Abort>(rt: &R, alloc: Global, seed: u64, count: u32) -> MemSink {
+pub(super) fn generated_file<R: Abort>(
+    rt: &R,
+    alloc: Global,
+    seed: u64,
+    count: u32,
+) -> Box<MemSink> {
     let jobs = make_jobs(alloc, seed, count).expect(rt, "memory");
     let mut file = MemSink::new(alloc, ROOM, 1_024, &[]).expect(rt, "memory");
     for job in &jobs {
         add_job(&mut file, job).expect(rt, "room");
     }
-    file
+    Box::new(alloc, file).expect(rt, "memory")
 }
 
 /// The words of a command with so many submitters and workers.
@@ -74,7 +79,7 @@ pub(super) fn words_with(
 }
 
 /// Runs a command on a file with each number of submitters and of workers, and compares what it writes.
-fn compare<R: Host>(rt: &R, alloc: Global, command: &str, file: &[u8], text: &str) {
+fn compare<R: Host>(rt: &R, alloc: Global, command: &str, file: &[u8], text: &[u8]) {
     for submitters in &SUBMITTERS {
         for workers in &WORKERS {
             let words = words_with(alloc, command, *submitters, *workers).expect(rt, "memory");
@@ -86,14 +91,18 @@ fn compare<R: Host>(rt: &R, alloc: Global, command: &str, file: &[u8], text: &st
 /// The digest of the results of 600 jobs from seed 7, by `tests/faults/reference.py summary 7 600`.
 pub(super) const DIGEST: &str = "b35ae57deabbe22d57517b5f198e0ca793dbd961373cb31ce1d1f7966b13e1f3";
 
+/// Compares what a file writes with each number of submitters and of workers with what it writes with one submitter.
+fn compare_with_one<R: Host>(rt: &R, alloc: Global, file: &[u8]) {
+    let one = Run::new(RUN, file).end(rt, alloc);
+    one.check_digest(rt, DIGEST, &RUN);
+    compare(rt, alloc, "run", file, one.out.held());
+}
+
 // With one and with two submitters a submitter has more jobs than cells.
 #[test]
 fn the_text_does_not_depend_on_submitters_and_workers(rt: HostRuntime) {
     let file = generated_file(&rt, rt.alloc(), 7, 600);
-    let one = Run::new(RUN, file.held()).end(&rt, rt.alloc());
-    assert!(rt; one.has_digest(DIGEST));
-    let text = str::from_utf8(one.out.held()).expect(&rt, "text");
-    compare(&rt, rt.alloc(), "run", file.held(), text);
+    compare_with_one(&rt, rt.alloc(), file.held());
 }
 
 /// Commands that generate jobs, and what these come to by a program of their own.
@@ -108,6 +117,6 @@ const SUMMARIES: [&str; 4] = [
 fn generated_jobs_come_to_their_summary(rt: HostRuntime) {
     for row in &SUMMARIES {
         let (command, summary) = row.split_once(" => ").expect(&rt, "a row has two halves");
-        compare(&rt, rt.alloc(), command, b"", summary);
+        compare(&rt, rt.alloc(), command, b"", summary.as_bytes());
     }
 }

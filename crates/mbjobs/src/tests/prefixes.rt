@@ -25,6 +25,6 @@ fn every_prefix_of_a_line_is_read_as_it_stands(rt: HostRuntime) {
     assert!(rt; line.len() == LINE_BYTES);
     for length in 0..=LINE_BYTES {
         let (status, text) = told_of(length);
-        Run::new(RUN, &line[..length]).check(&rt, rt.alloc(), status, text);
+        Run::new(RUN, &line[..length]).check(&rt, rt.alloc(), status, text.as_bytes());
     }
 }

@@ -1,6 +1,6 @@
 use super::draws::{Draws, REPLAY};
 use super::parties::generated_file;
-use super::runs::{Ending, Host, Run, is_digest};
+use super::runs::{Ending, Host, Run, check_digest};
 use sha2::{Digest, Sha256};
 use std::alloc::{AllocError, Global};
 use std::process::Abort;
@@ -73,7 +73,7 @@ fn edited_file<R: Abort>(rt: &R, alloc: Global, seed: u64, is_script: bool) -> V
     };
     let mut file = generated_file(rt, alloc, seed, 3);
     if is_script {
-        draws.add_script(&mut file, 12).expect(rt, "room");
+        draws.add_script(&mut *file, 12).expect(rt, "room");
     }
     let mut edited = file.held().to_vec(alloc).expect(rt, "memory");
     edit(&mut edited, &mut draws);
@@ -89,21 +89,22 @@ fn input_of<R: Abort>(rt: &R, alloc: Global, kind: &Kind, seed: u64) -> Vec<u8> 
     }
 }
 
-/// Adds a line of the status, which has one digit, and then what was written.
-fn add_ending(endings: &mut Sha256, ending: &Ending) {
+/// Adds how a command ends on an input: a line of its status, which has one digit, and then what it writes.
+fn add_ending<R: Host>(endings: &mut Sha256, rt: &R, alloc: Global, words: &str, input: &[u8]) {
+    let ending = Run::new(words, input).end(rt, alloc);
     endings.update([b'0'.wrapping_add(ending.status), b'\n'].as_slice());
     endings.update(ending.out.held());
     endings.update(ending.err.held());
 }
 
-/// Compares the digest of how a command ends on inputs of a kind: each time a line of its status, and then what it writes.
+/// Compares the digest of how a command ends on inputs of a kind.
 fn compare<R: Host>(rt: &R, alloc: Global, words: &str, kind: &Kind, digest: &str) {
     let mut endings = Sha256::new();
     for seed in 0..SEEDS {
         let input = input_of(rt, alloc, kind, seed);
-        add_ending(&mut endings, &Run::new(words, &input).end(rt, alloc));
+        add_ending(&mut endings, rt, alloc, words, &input);
     }
-    assert!(rt; is_digest(&endings.finalize(), digest), "{words}");
+    check_digest(rt, &endings.finalize(), digest, &words);
 }
 
 #[test]
@@ -113,18 +114,16 @@ fn commands_end_on_random_inputs_as_they_are_to(rt: HostRuntime) {
     }
 }
 
-/// Whether a run of no jobs left its input as it was, and wrote a summary.
-fn is_left(ending: &Ending, input: &[u8]) -> bool {
-    ending.status == 0
-        && ending.input.rest() == input
-        && ending.out.held().starts_with(b"jobs 0\nok 0\n")
+/// Sees that a run of no jobs left its input as it was, and wrote a summary.
+fn check_left<R: Abort>(rt: &R, ending: &Ending, input: &[u8]) {
+    assert!(rt; ending.status == 0 && ending.input.rest() == input);
+    assert!(rt; ending.out.held().starts_with(b"jobs 0\nok 0\n"));
 }
 
 // No byte of the input is read, whose first read would fail, and a summary is written.
 #[test]
 fn gen_reads_no_input(rt: HostRuntime) {
     let words = "mbjobs gen --seed 1 --jobs 0 --submitters 1 --workers 1";
-    let input = random_bytes(rt.alloc(), &mut Draws { state: 1 }).expect(&rt, "memory");
-    let run = Run::by(words, &input, (64, &[0]), (64, &[]));
-    assert!(rt; is_left(&run.end(&rt, rt.alloc()), &input));
+    let run = Run::by(words, &HOSTILE, (64, &[0]), (64, &[]));
+    check_left(&rt, &run.end(&rt, rt.alloc()), &HOSTILE);
 }

@@ -1,5 +1,5 @@
 use super::FIRST_JOB;
-use super::texts::{Part, check_parts};
+use super::texts::{Repeat, check_parts};
 
 /// RFC 2202, test case 2 of HMAC-SHA-1.
 const SECOND_JOB: &str =
@@ -8,7 +8,7 @@ const SECOND_JOB: &str =
 const WORDS: &str = "mbjobs replay --submitters 1 --workers 2";
 
 /// Two jobs, and a script.
-const FILE: [Part; 7] = [
+const FILE: [Repeat; 7] = [
     (FIRST_JOB, 1),
     (SECOND_JOB, 1),
     ("%\n", 1),
@@ -40,7 +40,7 @@ fn a_replay_tells_what_each_command_comes_to(rt: HostRuntime) {
     check_parts(&rt, rt.alloc(), WORDS, &FILE, 0, LINES);
 }
 
-const POSTS: [Part; 3] = [(FIRST_JOB, 257), ("%\n", 1), ("post 0\n", 257)];
+const POSTS: [Repeat; 3] = [(FIRST_JOB, 257), ("%\n", 1), ("post 0\n", 257)];
 
 #[test]
 fn the_257th_post_is_full(rt: HostRuntime) {

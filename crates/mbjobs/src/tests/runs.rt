@@ -4,6 +4,7 @@ use mbj_io::{MemSink, MemSource, Source};
 use mbj_work::{Gate, OpenGate};
 use sha2::{Digest, Sha256};
 use std::alloc::{AllocError, Global};
+use std::fmt::Debug;
 use std::process::Abort;
 use std::sync::Wait;
 use std::thread::Threads;
@@ -27,23 +28,34 @@ pub(super) struct Ending {
 
 impl Ending {
     /// Whether the program ended with this status, and wrote this on standard output and standard error.
-    pub(super) fn is(&self, status: u8, out: &str, err: &str) -> bool {
-        self.status == status
-            && self.out.held() == out.as_bytes()
-            && self.err.held() == err.as_bytes()
+    pub(super) fn is(&self, status: u8, out: &[u8], err: &[u8]) -> bool {
+        self.status == status && self.out.held() == out && self.err.held() == err
     }
 
-    /// Whether the program succeeded, and the SHA-256 digest of what it wrote is this one.
-    pub(super) fn has_digest(&self, digest: &str) -> bool {
-        self.status == 0 && is_digest(&Sha256::digest(self.out.held()), digest)
+    /// Compares the status, and what was written on standard output and standard error.
+    pub(super) fn check<R: Abort>(&self, rt: &R, status: u8, out: &[u8], err: &[u8], words: &str) {
+        assert!(rt;
+            self.is(status, out, err),
+            "{words} ended with {}",
+            self.status
+        );
+    }
+
+    /// Sees that the program succeeded, and compares the digest of what it wrote.
+    pub(super) fn check_digest<R: Abort, W: Debug>(&self, rt: &R, digest: &str, case: &W) {
+        assert!(rt; self.status == 0, "{case:?} ended with {}", self.status);
+        check_digest(rt, &Sha256::digest(self.out.held()), digest, case);
     }
 }
 
-/// Whether hexadecimal digits spell a SHA-256 digest.
-pub(super) fn is_digest(found: &[u8; 32], digest: &str) -> bool {
+/// Compares a SHA-256 digest with its hexadecimal digits.
+pub(super) fn check_digest<R: Abort, W: Debug>(rt: &R, found: &[u8; 32], right: &str, case: &W) {
     let mut digits = [0; 64];
-    hex::encode_to_slice(found.as_slice(), &mut digits).is_ok()
-        && digits.as_slice() == digest.as_bytes()
+    let is_spelled = hex::encode_to_slice(found.as_slice(), &mut digits).is_ok();
+    assert!(rt;
+        is_spelled && digits.as_slice() == right.as_bytes(),
+        "{case:?}"
+    );
 }
 
 /// How many bytes a read or a write moves at most, and the numbers of those that fail.
@@ -87,40 +99,50 @@ impl<'a> Run<'a> {
     }
 
     /// The source and the sinks as a run finds them, under status 0.
-    pub(super) fn begin<R: Abort>(&self, rt: &R, alloc: Global) -> Ending {
+    pub(super) fn begin<R: Abort>(&self, rt: &R, alloc: Global) -> Box<Ending> {
         let ((gives, bad_reads), (takes, bad_writes)) = (self.reads, self.writes);
         assert!(rt; 1 <= gives && 1 <= takes);
-        Ending {
+        let ending = Ending {
             status: 0,
             input: MemSource::new(alloc, self.input, gives, bad_reads).expect(rt, "memory"),
             out: MemSink::new(alloc, self.out_room, takes, bad_writes).expect(rt, "memory"),
             err: MemSink::new(alloc, self.err_room, takes, &[]).expect(rt, "memory"),
-        }
+        };
+        Box::new(alloc, ending).expect(rt, "memory")
     }
 
     /// Runs the program under a gate.
-    pub(super) fn under<R: Host, G: Gate + Sync>(&self, rt: &R, alloc: Global, gate: &G) -> Ending {
+    pub(super) fn under<R: Host, G: Gate + Sync>(
+        &self,
+        rt: &R,
+        alloc: Global,
+        gate: &G,
+    ) -> Box<Ending> {
         let mut ending = self.begin(rt, alloc);
-        let (input, out, err) = (&mut ending.input, &mut ending.out, &mut ending.err);
-        ending.status = run_on(rt, alloc, self.words, input, out, err, gate);
+        let Ending {
+            input,
+            out,
+            err,
+            status,
+        } = &mut *ending;
+        *status = run_on(rt, alloc, self.words, input, out, err, gate);
         ending
     }
 
     /// Runs the program.
-    pub(super) fn end<R: Host>(&self, rt: &R, alloc: Global) -> Ending {
+    pub(super) fn end<R: Host>(&self, rt: &R, alloc: Global) -> Box<Ending> {
         self.under(rt, alloc, &OpenGate)
     }
 
-    /// Runs the program, and compares its status and the text that it writes where that is 0, else tells.
-    pub(super) fn check<R: Host>(&self, rt: &R, alloc: Global, status: u8, text: &str) {
+    /// Runs the program, and compares its status, and the text that it writes where that is 0, else tells.
+    pub(super) fn check<R: Host>(&self, rt: &R, alloc: Global, status: u8, text: &[u8]) {
         let ending = self.end(rt, alloc);
-        let (out, err) = if status == 0 { (text, "") } else { ("", text) };
-        assert!(rt;
-            ending.is(status, out, err),
-            "{} on {} bytes",
-            self.words,
-            self.input.len()
-        );
+        let (out, err): (&[u8], &[u8]) = if status == 0 {
+            (text, b"")
+        } else {
+            (b"", text)
+        };
+        ending.check(rt, status, out, err, self.words);
     }
 }
 

@@ -1,8 +1,9 @@
 use super::RUN;
 use super::draws::{Draws, REPLAY};
 use super::parties::generated_file;
-use super::runs::{Host, Run};
+use super::runs::{Ending, Host, Run};
 use std::alloc::Global;
+use std::process::Abort;
 
 /// How many jobs and how many commands a replay has.
 const JOBS: u32 = 100;
@@ -67,19 +68,25 @@ fn collect_in_order(replay: &[u8], run: &[u8]) -> bool {
     true
 }
 
-/// Runs jobs and replays them by the commands that are drawn from a state, and compares what they come to.
-fn compare<R: Host>(rt: &R, alloc: Global, seed: u64, state: u64, digest: &str) {
+/// Compares the digest of what a replay prints, and the results that it collects with those of a run.
+fn compare_endings<R: Abort>(rt: &R, replay: &Ending, run: &Ending, digest: &str) {
+    replay.check_digest(rt, digest, &REPLAY);
+    assert!(rt; run.status == 0 && collect_in_order(replay.out.held(), run.out.held()));
+}
+
+/// Replays jobs by the commands that are drawn from a state.
+fn replay<R: Host>(rt: &R, alloc: Global, seed: u64, state: u64) -> Box<Ending> {
     let mut file = generated_file(rt, alloc, seed, JOBS);
+    let mut draws = Draws { state };
+    draws.add_script(&mut *file, COMMANDS).expect(rt, "room");
+    Run::new(REPLAY, file.held()).end(rt, alloc)
+}
+
+/// Runs jobs and replays them, and compares what they come to.
+fn compare<R: Host>(rt: &R, alloc: Global, seed: u64, state: u64, digest: &str) {
+    let file = generated_file(rt, alloc, seed, JOBS);
     let run = Run::new(RUN, file.held()).end(rt, alloc);
-    Draws { state }
-        .add_script(&mut file, COMMANDS)
-        .expect(rt, "room");
-    let replay = Run::new(REPLAY, file.held()).end(rt, alloc);
-    assert!(rt; run.status == 0 && replay.has_digest(digest), "seed {seed}");
-    assert!(rt;
-        collect_in_order(replay.out.held(), run.out.held()),
-        "seed {seed}"
-    );
+    compare_endings(rt, &replay(rt, alloc, seed, state), &run, digest);
 }
 
 #[test]

@@ -2,11 +2,11 @@
 use super::runs::{Host, Run};
 use std::alloc::{AllocError, Global};
 
-/// A part of a text, and how often it comes.
-pub(super) type Part = (&'static str, usize);
+/// A part of a text, and how often it comes one after another.
+pub(super) type Repeat = (&'static str, usize);
 
 /// A text of parts.
-pub(super) fn repeated(alloc: Global, parts: &[Part]) -> Result<String, AllocError> {
+pub(super) fn repeated(alloc: Global, parts: &[Repeat]) -> Result<String, AllocError> {
     let mut text = String::new(alloc);
     for (part, times) in parts {
         text.push_str(&part.repeat(alloc, *times)?)?;
@@ -19,7 +19,10 @@ fn range_of(line: &str) -> Option<(&str, u32, u32, &str)> {
     let (front, rest) = line.split_once('[')?;
     let (range, back) = rest.split_once(']')?;
     let (from, to) = range.split_once("..")?;
-    Some((front, from.parse().ok()?, to.parse().ok()?, back))
+    match (from.parse(), to.parse()) {
+        (Ok(from), Ok(to)) => Some((front, from, to, back)),
+        _ => None,
+    }
 }
 
 /// Adds a line, one with a range once for each of its numbers.
@@ -47,11 +50,11 @@ pub(super) fn check_parts<R: Host>(
     rt: &R,
     alloc: Global,
     words: &str,
-    parts: &[Part],
+    parts: &[Repeat],
     status: u8,
     lines: &str,
 ) {
     let file = repeated(alloc, parts).expect(rt, "memory");
     let text = numbered(alloc, lines).expect(rt, "memory");
-    Run::new(words, file.as_bytes()).check(rt, alloc, status, &text);
+    Run::new(words, file.as_bytes()).check(rt, alloc, status, text.as_bytes());
 }

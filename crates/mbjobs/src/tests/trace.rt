@@ -1,5 +1,5 @@
 use super::FIRST_JOB;
-use super::texts::{Part, check_parts};
+use super::texts::{Repeat, check_parts};
 
 const TRACE: &str = "mbjobs trace";
 
@@ -34,7 +34,7 @@ const BAD_KEY: &str =
     "cbc enc ch 2b7e151628aed2a6abf7158809cf4f 000102030405060708090a0b0c0d0e0f 0 16 null - - 0 0 0 -\n";
 
 /// Job files, and the lines that their traces print.
-const CASES: [(&[Part], &str); 8] = [
+static CASES: [(&[Repeat], &str); 8] = [
     (&[], "completed none\nflush none\n"),
     // Rests of 4, 5, 4 and 6: the run of the full list ends two jobs, and a flush one at a time.
     (

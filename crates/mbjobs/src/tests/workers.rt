@@ -1,9 +1,12 @@
-use super::FIRST_JOB;
 use super::holding_gates::MOST_TURNS;
 use super::runs::Run;
 use mbj_work::{Gate, Moment};
 use std::sync::atomic::Ordering::SeqCst;
 use std::sync::atomic::{AtomicBool, AtomicU32};
+
+/// The first job twice.
+const TWO_JOBS: &[u8] =
+    b"null enc ch - - 0 0 hmac-sha1 0b0b0b0b0b0b0b0b0b0b0b0b0b0b0b0b0b0b0b0b - 0 8 20 4869205468657265\nnull enc ch - - 0 0 hmac-sha1 0b0b0b0b0b0b0b0b0b0b0b0b0b0b0b0b0b0b0b0b - 0 8 20 4869205468657265\n";
 
 /// Holds each of two workers that has claimed a job until the other one has claimed one too, and lets nobody help before.
 #[derive(Drop)]
@@ -53,9 +56,8 @@ fn two_workers_are_at_work_at_once(rt: HostRuntime) {
         second: AtomicBool::new(false),
         turns: AtomicU32::new(0),
     };
-    let file = FIRST_JOB.repeat(rt.alloc(), 2).expect(&rt, "memory");
     let words = "mbjobs run --submitters 1 --workers 2";
-    let run = Run::by(words, file.as_bytes(), (4_096, &[]), (64, &[]));
-    let ending = run.under(&rt, rt.alloc(), &gate);
-    assert!(rt; ending.status == 0 && gate.were_seen());
+    let run = Run::by(words, TWO_JOBS, (4_096, &[]), (64, &[]));
+    let status = run.under(&rt, rt.alloc(), &gate).status;
+    assert!(rt; status == 0 && gate.were_seen());
 }

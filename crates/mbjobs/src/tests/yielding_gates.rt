@@ -54,7 +54,7 @@ fn compare<R: Host>(rt: &R, alloc: Global, words: &str, file: &[u8]) {
             draws: AtomicU64::new(0),
         };
         let ending = Run::new(words, file).under(rt, alloc, &gate);
-        assert!(rt; ending.has_digest(DIGEST), "{words}, seed {seed}");
+        ending.check_digest(rt, DIGEST, &(words, seed));
     }
 }
 
