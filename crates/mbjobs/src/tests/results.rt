@@ -1,5 +1,5 @@
 use super::runs::Run;
-use super::texts::repeated;
+use super::texts::{Repeat, repeated};
 use super::{RUN, compare};
 
 /// RFC 2202, test case 1, whole and with a tag of 12 bytes as IPsec has it, and RFC 4231, test case 2.
@@ -71,27 +71,33 @@ fn a_key_longer_than_a_block_is_hashed(rt: HostRuntime) {
     compare(&rt, rt.alloc(), 0, &LONG_KEYS);
 }
 
-/// CTR over two zero blocks under the zero key, with a counter of 16 bytes ff.
-const WRAPPED_JOB: &str =
-    "ctr enc ch 00000000000000000000000000000000 ffffffffffffffffffffffffffffffff 0 32 null - - 0 0 0 0000000000000000000000000000000000000000000000000000000000000000\n";
+/// CTR over two zero blocks under the zero key, with a counter of 16 bytes ff. It is followed by 0: the blocks are those of
+/// AESAVS for the last variable text and for the zero text.
+const WRAPPED_COUNTERS: [&str; 1] = [
+    "ctr enc ch 00000000000000000000000000000000 ffffffffffffffffffffffffffffffff 0 32 null - - 0 0 0 0000000000000000000000000000000000000000000000000000000000000000\n => 0 ok 3f5b8cc9ea855a0afa7347d23e8d664e66e94bd4ef8a2c3b884cfa59ca342b2e -\n",
+];
 
-/// A counter of 16 bytes ff is followed by 0, whose block under the zero key is that of the zero block.
 #[test]
 fn a_counter_wraps_at_128_bits(rt: HostRuntime) {
-    let ending = Run::new(RUN, WRAPPED_JOB.as_bytes()).end(&rt, rt.alloc());
-    let end = b"66e94bd4ef8a2c3b884cfa59ca342b2e -\n";
-    assert!(rt; ending.status == 0 && ending.out.held().ends_with(end));
+    compare(&rt, rt.alloc(), 0, &WRAPPED_COUNTERS);
 }
+
+/// A job over 65,535 zero bytes, and its result. The tag is Python's `hmac.new(b"", b"\0" * 65535, "sha1")`.
+const LONGEST_JOB: [Repeat; 3] = [
+    ("null enc ch - - 0 0 hmac-sha1 - - 0 65535 20 ", 1),
+    ("00", 65_535),
+    ("\n", 1),
+];
+
+const LONGEST_RESULT: [Repeat; 3] = [
+    ("0 ok ", 1),
+    ("00", 65_535),
+    (" 51b4ef92c827825fd45f26155bd57c7a02608f5e\n", 1),
+];
 
 #[test]
 fn the_longest_packet_is_done(rt: HostRuntime) {
-    let parts = [
-        ("null enc ch - - 0 0 hmac-sha1 - - 0 65535 20 ", 1),
-        ("00", 65_535),
-        ("\n", 1),
-    ];
-    let file = repeated(rt.alloc(), &parts).expect(&rt, "memory");
-    let ending = Run::new(RUN, file.as_bytes()).end(&rt, rt.alloc());
-    let length = 5 + 2 * 65_535 + 1 + 2 * 20 + 1;
-    assert!(rt; ending.status == 0 && ending.out.held().len() == length);
+    let file = repeated(rt.alloc(), &LONGEST_JOB).expect(&rt, "memory");
+    let text = repeated(rt.alloc(), &LONGEST_RESULT).expect(&rt, "memory");
+    Run::new(RUN, file.as_bytes()).check(&rt, rt.alloc(), 0, text.as_bytes());
 }
