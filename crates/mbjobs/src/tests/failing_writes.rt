@@ -34,11 +34,8 @@ fn front_of<R: Abort>(rt: &R, ending: &Ending, text: &[u8]) -> usize {
     } else {
         (0, 0)
     };
-    assert!(rt;
-        ending.status == status && ending.out.faults() == faults,
-        "{faults} faults"
-    );
-    assert!(rt; text.starts_with(held), "{} bytes", held.len());
+    let is_told = ending.status == status && ending.out.faults() == faults;
+    assert!(rt; is_told && text.starts_with(held), "{} bytes", held.len());
     held.len()
 }
 
