@@ -166,6 +166,20 @@ impl Tracer {
         }
         Ok(())
     }
+
+    /// Does the jobs of a file, and tells each call.
+    fn tell(&mut self, jobs: Vec<Job>) -> Result<(), AllocError>
+        requires jobs { length jobs.items ≤ JOB_LIMIT }
+        requires fresh { state_of self.old ≡ new_tracing }
+        requires none { self.old.lines.items ≡ [] }
+        ensures { OnOk result (self.new.lines.items ≡ trace_lines jobs.items) }
+    {
+        self.submit_all(jobs)?;
+        self.take_all(Taking::Completed)?;
+        self.take_all(Taking::Flushed)?;
+        self.count()?;
+        Ok(())
+    }
 }
 
 /// The lines that tell what each call of one manager gives back over the jobs of a file.
@@ -176,9 +190,6 @@ pub fn trace_lines(alloc: Global, jobs: Vec<Job>) -> Result<Vec<TraceLine>, Allo
     ensures { IfOk result (λ lines. lines.items ≡ trace_lines jobs.items) }
 {
     let mut tracer = Tracer::new(alloc)?;
-    tracer.submit_all(jobs)?;
-    tracer.take_all(Taking::Completed)?;
-    tracer.take_all(Taking::Flushed)?;
-    tracer.count()?;
+    tracer.tell(jobs)?;
     Ok(tracer.lines)
 }
