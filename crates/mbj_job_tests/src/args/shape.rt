@@ -4,125 +4,144 @@ use mbj_args::check;
 use mbj_types::{Auth, Bytes, Cipher, Job, Reason};
 use std::alloc::{AllocError, Global};
 
-/// What the argument table looks at. `key`, `iv`, `auth_key`, `aad` and `packet` are lengths in bytes.
-pub(crate) struct Shape {
-    pub(crate) cipher: Cipher,
-    pub(crate) key: usize,
-    pub(crate) iv: usize,
-    pub(crate) cipher_off: u32,
-    pub(crate) cipher_len: u32,
-    pub(crate) auth: Auth,
-    pub(crate) auth_key: usize,
-    pub(crate) aad: usize,
-    pub(crate) hash_off: u32,
-    pub(crate) hash_len: u32,
-    pub(crate) tag_len: u8,
-    pub(crate) packet: usize,
+/// What a job has a length of, in bytes, or an offset.
+#[derive(Clone, Copy)]
+pub(crate) enum Length {
+    Packet,
+    Key,
+    Iv,
+    CipherOff,
+    CipherLen,
+    MacKey,
+    Aad,
+    HashOff,
+    HashLen,
+    TagLen,
 }
 
-/// A job that does nothing with 16 bytes.
-pub(crate) const NULL: Shape = Shape {
-    cipher: Cipher::Null,
-    key: 0,
-    iv: 0,
-    cipher_off: 0,
-    cipher_len: 0,
-    auth: Auth::Null,
-    auth_key: 0,
-    aad: 0,
-    hash_off: 0,
-    hash_len: 0,
-    tag_len: 0,
-    packet: 16,
-};
+/// A length, and how many bytes it is.
+pub(crate) type Change = (Length, u32);
 
-pub(crate) const CBC: Shape = Shape {
-    cipher: Cipher::Cbc,
-    key: 16,
-    iv: 16,
-    cipher_len: 16,
-    ..NULL
-};
+/// The packet that every job has unless a row changes it.
+pub(crate) const SAME: Change = (Length::Packet, 16);
 
-pub(crate) const CTR: Shape = Shape {
-    cipher: Cipher::Ctr,
-    key: 24,
-    iv: 12,
-    cipher_len: 16,
-    ..NULL
-};
+/// A job of these choices, of which two lengths are changed, and why the argument table refuses it, if it does.
+pub(crate) type Row = (Cipher, Auth, Length, u32, Length, u32, Option<Reason>);
 
-pub(crate) const GCM: Shape = Shape {
-    cipher: Cipher::Gcm,
-    key: 32,
-    iv: 12,
-    cipher_len: 16,
-    auth: Auth::Gcm,
-    tag_len: 16,
-    ..NULL
-};
+/// The lengths of a cipher's job of 16 bytes that the argument table takes.
+const NO_CIPHER: [Change; 3] = [(Length::Key, 0), (Length::Iv, 0), (Length::CipherLen, 0)];
 
-pub(crate) const HMAC: Shape = Shape {
-    auth: Auth::HmacSha1,
-    auth_key: 20,
-    hash_len: 16,
-    tag_len: 12,
-    ..NULL
-};
+const CBC: [Change; 3] = [(Length::Key, 16), (Length::Iv, 16), (Length::CipherLen, 16)];
 
-pub(crate) const CMAC: Shape = Shape {
-    auth: Auth::Cmac128,
-    auth_key: 16,
-    hash_len: 16,
-    tag_len: 16,
-    ..NULL
-};
+const CTR: [Change; 3] = [(Length::Key, 24), (Length::Iv, 12), (Length::CipherLen, 16)];
 
-/// CBC, then HMAC-SHA-1.
-pub(crate) const CBC_HMAC: Shape = Shape {
-    auth: Auth::HmacSha1,
-    auth_key: 20,
-    hash_len: 16,
-    tag_len: 12,
-    ..CBC
-};
+const GCM: [Change; 3] = [(Length::Key, 32), (Length::Iv, 12), (Length::CipherLen, 16)];
+
+/// The lengths of an authentication's job of 16 bytes that the argument table takes.
+const NO_AUTH: [Change; 3] = [
+    (Length::MacKey, 0),
+    (Length::HashLen, 0),
+    (Length::TagLen, 0),
+];
+
+const HMAC: [Change; 3] = [
+    (Length::MacKey, 20),
+    (Length::HashLen, 16),
+    (Length::TagLen, 12),
+];
+
+const CMAC_128: [Change; 3] = [
+    (Length::MacKey, 16),
+    (Length::HashLen, 16),
+    (Length::TagLen, 16),
+];
+
+const CMAC_256: [Change; 3] = [
+    (Length::MacKey, 32),
+    (Length::HashLen, 16),
+    (Length::TagLen, 16),
+];
+
+const GCM_AUTH: [Change; 3] = [
+    (Length::MacKey, 0),
+    (Length::HashLen, 0),
+    (Length::TagLen, 16),
+];
+
+fn lengths_of_cipher(cipher: Cipher) -> &'static [Change; 3] {
+    match cipher {
+        Cipher::Null => &NO_CIPHER,
+        Cipher::Cbc => &CBC,
+        Cipher::Ctr => &CTR,
+        Cipher::Gcm => &GCM,
+    }
+}
+
+fn lengths_of_auth(auth: Auth) -> &'static [Change; 3] {
+    match auth {
+        Auth::Null => &NO_AUTH,
+        Auth::Cmac128 => &CMAC_128,
+        Auth::Cmac256 => &CMAC_256,
+        Auth::Gcm => &GCM_AUTH,
+        _ => &HMAC,
+    }
+}
 
 /// Gives a part of a job as many zero bytes.
-fn put_zeros(alloc: Global, part: &mut Bytes, len: usize) -> Result<(), AllocError> {
-    *part = Bytes::from_vec(vec![in alloc; 0; len]?);
+fn put_zeros(alloc: Global, part: &mut Bytes, len: u32) -> Result<(), AllocError> {
+    *part = Bytes::from_vec(vec![in alloc; 0; len as usize]?);
     Ok(())
 }
 
-impl Shape {
-    /// Gives a job the choices and the numbers.
-    fn choose(&self, job: &mut Job) {
-        job.cipher = self.cipher;
-        job.cipher_off = self.cipher_off;
-        job.cipher_len = self.cipher_len;
-        job.auth = self.auth;
-        job.hash_off = self.hash_off;
-        job.hash_len = self.hash_len;
-        job.tag_len = self.tag_len;
+/// Gives a job a length that is a number.
+fn put_number(job: &mut Job, length: Length, number: u32) {
+    match length {
+        Length::CipherOff => job.cipher_off = number,
+        Length::CipherLen => job.cipher_len = number,
+        Length::HashOff => job.hash_off = number,
+        Length::HashLen => job.hash_len = number,
+        Length::TagLen => job.tag_len = number.min(u8::MAX as u32) as u8,
+        _ => {}
     }
+}
 
-    /// Gives a job the parts of bytes.
-    fn fill(&self, alloc: Global, job: &mut Job) -> Result<(), AllocError> {
-        put_zeros(alloc, &mut job.key, self.key)?;
-        put_zeros(alloc, &mut job.iv, self.iv)?;
-        put_zeros(alloc, &mut job.auth_key, self.auth_key)?;
-        put_zeros(alloc, &mut job.aad, self.aad)?;
-        put_zeros(alloc, &mut job.packet, self.packet)
+/// Gives a job a length: that of a part of zero bytes, or a number.
+fn put(alloc: Global, job: &mut Job, length: Length, number: u32) -> Result<(), AllocError> {
+    match length {
+        Length::Packet => put_zeros(alloc, &mut job.packet, number),
+        Length::Key => put_zeros(alloc, &mut job.key, number),
+        Length::Iv => put_zeros(alloc, &mut job.iv, number),
+        Length::MacKey => put_zeros(alloc, &mut job.auth_key, number),
+        Length::Aad => put_zeros(alloc, &mut job.aad, number),
+        _ => {
+            put_number(job, length, number);
+            Ok(())
+        }
     }
+}
 
-    /// What the argument table says of a blank job that is given this shape.
-    fn judged_in(&self, alloc: Global, job: &mut Job) -> Result<Option<Reason>, AllocError> {
-        self.choose(job);
-        self.fill(alloc, job)?;
-        Ok(check(job))
+/// Gives a job each of the lengths, one after another.
+fn put_all(alloc: Global, job: &mut Job, changes: &[Change]) -> Result<(), AllocError> {
+    for (length, number) in changes {
+        put(alloc, job, *length, *number)?;
     }
+    Ok(())
+}
 
-    /// What the argument table says of a job of this shape.
-    pub(crate) fn judged(&self, alloc: Global) -> Result<Option<Reason>, AllocError> {
-        self.judged_in(alloc, &mut Job::blank(alloc))
-    }
+/// What the argument table says of a blank job that is given what a row says.
+fn judged_in(alloc: Global, job: &mut Job, row: &Row) -> Result<Option<Reason>, AllocError> {
+    let (cipher, auth, first, one, second, two, _) = row;
+    job.cipher = *cipher;
+    job.auth = *auth;
+    put_all(alloc, job, &[SAME])?;
+    put_all(alloc, job, lengths_of_cipher(*cipher))?;
+    put_all(alloc, job, lengths_of_auth(*auth))?;
+    put(alloc, job, *first, *one)?;
+    put(alloc, job, *second, *two)?;
+    Ok(check(job))
+}
+
+/// What the argument table says of a row's job.
+pub(crate) fn judged(alloc: Global, row: &Row) -> Result<Option<Reason>, AllocError> {
+    judged_in(alloc, &mut Job::blank(alloc), row)
 }
