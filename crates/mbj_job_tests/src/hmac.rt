@@ -23,24 +23,13 @@ const QUESTION: &[u8] = b"what do ya want for nothing?";
 /// A key and a message, and the tag that they have, in hex.
 type Case = (Auth, &'static [u8], &'static [u8], &'static str);
 
-const PLAIN_CASES: [Case; 8] = [
-    (
-        Auth::HmacSha1,
-        &[0x0b; 20],
-        HI_THERE,
-        "b617318655057264e28bc0b6fb378c8ef146be00",
-    ),
+/// Cases beside those of the lists.
+const PLAIN_CASES: [Case; 3] = [
     (
         Auth::HmacSha224,
         &[0x0b; 20],
         HI_THERE,
         "896fb1128abbdf196832107cd49df33f47b4b1169912ba4f53684b22",
-    ),
-    (
-        Auth::HmacSha256,
-        &[0x0b; 20],
-        HI_THERE,
-        "b0344c61d8db38535ca8afceaf0bf12b881dc200c9833da726e9376c2e32cff7",
     ),
     (
         Auth::HmacSha384,
@@ -49,28 +38,10 @@ const PLAIN_CASES: [Case; 8] = [
         "afd03944d84895626b0825f4ab46907f15f9dadbe4101ec682aa034c7cebc59cfaea9ea9076ede7f4af152e8b2fa9cb6",
     ),
     (
-        Auth::HmacSha512,
-        &[0x0b; 20],
-        HI_THERE,
-        "87aa7cdea5ef619d4ff0b4241a1d6cb02379f4e2ce4ec2787ad0b30545e17cdedaa833b7d6b8a702038b274eaea3f4e4be9d914eeb61f1702e696c203a126854",
-    ),
-    (
-        Auth::HmacSha1,
-        b"Jefe",
-        QUESTION,
-        "effcdf6ae5eb2fa2d27416d5f184df9c259a7c79",
-    ),
-    (
         Auth::HmacSha256,
         b"Jefe",
         QUESTION,
         "5bdcc146bf60754e6a042426089575c75a003f089d2739839dec58b964ec3843",
-    ),
-    (
-        Auth::HmacSha1,
-        &[0xaa; 80],
-        LARGE,
-        "aa4ae5e15272d00e95705637ce8a3b55ed402112",
     ),
 ];
 
@@ -91,11 +62,18 @@ fn check_tag(rt: &impl Abort, case: &Case, tag: &[u8]) {
     expect(rt, expected, tag, &*wanted);
 }
 
+fn check_plain(rt: &impl Abort, cases: &[Case]) {
+    for case in cases {
+        check_tag(rt, case, plain_tag(rt, case).bytes());
+    }
+}
+
 #[test]
 fn the_tags_of_the_standards_come_out(rt: HostRuntime) {
-    for case in &PLAIN_CASES {
-        check_tag(&rt, case, plain_tag(&rt, case).bytes());
-    }
+    check_plain(&rt, &PLAIN_CASES);
+    check_plain(&rt, &SHA1_CASES);
+    check_plain(&rt, &SHA256_CASES);
+    check_plain(&rt, &SHA512_CASES);
 }
 
 #[test]
