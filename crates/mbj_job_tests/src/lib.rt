@@ -33,6 +33,8 @@ mod lists;
 #[cfg(test)]
 mod manager;
 #[cfg(test)]
+mod message;
+#[cfg(test)]
 mod ring;
 #[cfg(test)]
 mod sha1_lanes;

@@ -1,46 +1,16 @@
-ghost use Rattle.std.specs.Prelude.{◌<◌, length};
-
 use crate::compare::expect;
+use crate::message::padded;
 use mbj_sha1_lanes::{compress, compress_lanes};
 use std::simd::u32x4;
 
 /// The initial hash value (FIPS 180-4, 5.3.1).
-const INITIAL: [u32; 5] = [
-    0x6745_2301,
-    0xefcd_ab89,
-    0x98ba_dcfe,
-    0x1032_5476,
-    0xc3d2_e1f0,
-];
+const INITIAL: [u32; 5] = [0x67452301, 0xefcdab89, 0x98badcfe, 0x10325476, 0xc3d2e1f0];
 
 /// The digest of "abc".
-const OF_ABC: [u32; 5] = [
-    0xa999_3e36,
-    0x4706_816a,
-    0xba3e_2571,
-    0x7850_c26c,
-    0x9cd0_d89d,
-];
+const OF_ABC: [u32; 5] = [0xa9993e36, 0x4706816a, 0xba3e2571, 0x7850c26c, 0x9cd0d89d];
 
 /// The digest of the empty message.
-const OF_NOTHING: [u32; 5] = [
-    0xda39_a3ee,
-    0x5e6b_4b0d,
-    0x3255_bfef,
-    0x9560_1890,
-    0xafd8_0709,
-];
-
-/// A message of at most 31 bytes with its padding (5.1.1).
-fn padded(message: &[u8]) -> [u8; 64]
-    requires { length message.now < 32 }
-{
-    let mut block = [0; 64];
-    block[..message.len()].copy_from_slice(message);
-    block[message.len()] = 0x80;
-    block[63] = 8 * message.len() as u8;
-    block
-}
+const OF_NOTHING: [u32; 5] = [0xda39a3ee, 0x5e6b4b0d, 0x3255bfef, 0x95601890, 0xafd80709];
 
 #[test]
 fn each_block_goes_into_the_state_of_its_number(rt: HostRuntime) {

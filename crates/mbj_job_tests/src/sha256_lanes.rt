@@ -1,55 +1,22 @@
-ghost use Rattle.std.specs.Prelude.{◌<◌, length};
-
 use crate::compare::expect;
+use crate::message::padded;
 use mbj_sha256_lanes::{compress, compress_lanes};
 use std::simd::u32x4;
 
 /// The initial hash value of SHA-256 (FIPS 180-4, 5.3.3).
 const INITIAL: [u32; 8] = [
-    0x6a09_e667,
-    0xbb67_ae85,
-    0x3c6e_f372,
-    0xa54f_f53a,
-    0x510e_527f,
-    0x9b05_688c,
-    0x1f83_d9ab,
-    0x5be0_cd19,
+    0x6a09e667, 0xbb67ae85, 0x3c6ef372, 0xa54ff53a, 0x510e527f, 0x9b05688c, 0x1f83d9ab, 0x5be0cd19,
 ];
 
 /// The digest of "abc" under SHA-256.
 const OF_ABC: [u32; 8] = [
-    0xba78_16bf,
-    0x8f01_cfea,
-    0x4141_40de,
-    0x5dae_2223,
-    0xb003_61a3,
-    0x9617_7a9c,
-    0xb410_ff61,
-    0xf200_15ad,
+    0xba7816bf, 0x8f01cfea, 0x414140de, 0x5dae2223, 0xb00361a3, 0x96177a9c, 0xb410ff61, 0xf20015ad,
 ];
 
 /// The digest of the empty message under SHA-256.
 const OF_NOTHING: [u32; 8] = [
-    0xe3b0_c442,
-    0x98fc_1c14,
-    0x9afb_f4c8,
-    0x996f_b924,
-    0x27ae_41e4,
-    0x649b_934c,
-    0xa495_991b,
-    0x7852_b855,
+    0xe3b0c442, 0x98fc1c14, 0x9afbf4c8, 0x996fb924, 0x27ae41e4, 0x649b934c, 0xa495991b, 0x7852b855,
 ];
-
-/// A message of at most 31 bytes with its padding (5.1.1).
-fn padded(message: &[u8]) -> [u8; 64]
-    requires { length message.now < 32 }
-{
-    let mut block = [0; 64];
-    block[..message.len()].copy_from_slice(message);
-    block[message.len()] = 0x80;
-    block[63] = 8 * message.len() as u8;
-    block
-}
 
 #[test]
 fn each_block_goes_into_the_state_of_its_number(rt: HostRuntime) {

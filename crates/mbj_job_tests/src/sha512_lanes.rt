@@ -1,6 +1,5 @@
-ghost use Rattle.std.specs.Prelude.{◌<◌, length};
-
 use crate::compare::expect;
+use crate::message::padded;
 use mbj_sha512_lanes::{compress, compress_lanes};
 use sha2::{Digest, Sha512};
 use std::simd::u64x2;
@@ -40,17 +39,6 @@ const OF_NOTHING: [u64; 8] = [
     0x63b9_31bd_4741_7a81,
     0xa538_327a_f927_da3e,
 ];
-
-/// A message of at most 31 bytes with its padding (5.1.2).
-fn padded(message: &[u8]) -> [u8; 128]
-    requires { length message.now < 32 }
-{
-    let mut block = [0; 128];
-    block[..message.len()].copy_from_slice(message);
-    block[message.len()] = 0x80;
-    block[127] = 8 * message.len() as u8;
-    block
-}
 
 /// The words of the digest by the crate `sha2`.
 fn by_sha2(message: &[u8]) -> [u64; 8] {
