@@ -42,14 +42,8 @@ const PLAINTEXT: [u128; 4] = [
 /// Its IV.
 const IV: u128 = 0x000102030405060708090a0b0c0d0e0f;
 
-/// A text of some blocks.
-#[derive(Drop)]
-struct Case<'a> {
-    key: &'a [u8],
-    iv: u128,
-    plaintext: &'a [u128],
-    ciphertext: &'a [u128],
-}
+/// A key and an IV, and the blocks of a plaintext and of its ciphertext.
+type Case<'a> = (&'a [u8], u128, &'a [u128], &'a [u128]);
 
 /// The bytes of up to four blocks, and zeros.
 fn bytes_of(blocks: &[u128]) -> [u8; 64] {
@@ -68,14 +62,15 @@ impl<'a, const N: usize> Tried<Case<'a>> for CbcKernel<N> {
         number: u8,
         case: &Case<'a>,
     ) -> Result<CbcEntry<N>, AllocError> {
-        let key = schedule_of(rt, case.key);
+        let (key, iv, plaintext, _) = *case;
+        let key = schedule_of(rt, key);
         assert!(rt; key.rounds() as usize == N);
-        let blocks = case.plaintext.len();
+        let blocks = plaintext.len();
         assert!(rt; 0 < blocks && blocks <= 4);
         let len = 16 * blocks;
-        let packet = packet_of(alloc, number, &bytes_of(case.plaintext)[..len])?;
+        let packet = packet_of(alloc, number, &bytes_of(plaintext)[..len])?;
         assert!(rt; 1 + len <= packet.len());
-        Ok(CbcEntry::new(key, case.iv.to_be_bytes(), packet, 1, len as u32))
+        Ok(CbcEntry::new(key, iv.to_be_bytes(), packet, 1, len as u32))
     }
 
     fn check(rt: &impl Abort, cases: &[Case<'a>], entry: CbcEntry<N>) {
@@ -87,9 +82,10 @@ impl<'a, const N: usize> Tried<Case<'a>> for CbcKernel<N> {
 /// The packet is the case's, with the text encrypted.
 fn check_case(rt: &impl Abort, cases: &[Case], packet: &[u8]) {
     let (case, text) = case_of(rt, cases, packet);
-    let blocks = case.ciphertext.len();
-    assert!(rt; blocks <= 4);
-    expect(rt, "text", text, &bytes_of(case.ciphertext)[..16 * blocks]);
+    let ciphertext = case.3;
+    assert!(rt; ciphertext.len() <= 4);
+    let wanted = bytes_of(ciphertext);
+    expect(rt, "text", text, &wanted[..16 * ciphertext.len()]);
 }
 
 // SP 800-38A, appendix F.2.1, and cases 1 and 2 of RFC 3602, 4.
@@ -98,36 +94,36 @@ fn one_list_serves_keys_and_lengths_of_128_bits(rt: HostRuntime) -> Result<(), F
     let standard_key = 0x2b7e151628aed2a6abf7158809cf4f3cu128.to_be_bytes();
     let one_block_key = 0x06a9214036b8a15b512e03d534120006u128.to_be_bytes();
     let two_block_key = 0xc286696d887c9aa0611bbb3e2025a45au128.to_be_bytes();
-    let cases = [
-        Case {
-            key: &standard_key,
-            iv: IV,
-            plaintext: &PLAINTEXT,
-            ciphertext: &[
+    let cases: [Case; 3] = [
+        (
+            &standard_key,
+            IV,
+            &PLAINTEXT,
+            &[
                 0x7649abac8119b246cee98e9b12e9197d,
                 0x5086cb9b507219ee95db113a917678b2,
                 0x73bed6b8e3c1743b7116e69e22229516,
                 0x3ff1caa1681fac09120eca307586e1a7,
             ],
-        },
-        Case {
-            key: &one_block_key,
-            iv: 0x3dafba429d9eb430b422da802c9fac41,
-            plaintext: &[0x53696e676c6520626c6f636b206d7367],
-            ciphertext: &[0xe353779c1079aeb82708942dbe77181a],
-        },
-        Case {
-            key: &two_block_key,
-            iv: 0x562e17996d093d28ddb3ba695a2e6f58,
-            plaintext: &[
+        ),
+        (
+            &one_block_key,
+            0x3dafba429d9eb430b422da802c9fac41,
+            &[0x53696e676c6520626c6f636b206d7367],
+            &[0xe353779c1079aeb82708942dbe77181a],
+        ),
+        (
+            &two_block_key,
+            0x562e17996d093d28ddb3ba695a2e6f58,
+            &[
                 0x000102030405060708090a0b0c0d0e0f,
                 0x101112131415161718191a1b1c1d1e1f,
             ],
-            ciphertext: &[
+            &[
                 0xd296cd94c2cccf8a3a863028b5e1dc0a,
                 0x7586602d253cfff91b8266bea6d61ab1,
             ],
-        },
+        ),
     ];
     run_in_one_list::<Case, CbcKernel<10>>(&rt, rt.alloc(), &cases)
 }
@@ -145,19 +141,9 @@ fn one_list_serves_lengths_under_a_key_of_192_bits(rt: HostRuntime) -> Result<()
         0x571b242012fb7ae07fa9baac3df102e0,
         0x08b0e27988598881d920a9e64f5615cd,
     ];
-    let cases = [
-        Case {
-            key,
-            iv: IV,
-            plaintext: &PLAINTEXT,
-            ciphertext,
-        },
-        Case {
-            key,
-            iv: IV,
-            plaintext: &PLAINTEXT[..1],
-            ciphertext: &ciphertext[..1],
-        },
+    let cases: [Case; 2] = [
+        (key, IV, &PLAINTEXT, ciphertext),
+        (key, IV, &PLAINTEXT[..1], &ciphertext[..1]),
     ];
     run_in_one_list::<Case, CbcKernel<12>>(&rt, rt.alloc(), &cases)
 }
@@ -176,19 +162,9 @@ fn one_list_serves_lengths_under_a_key_of_256_bits(rt: HostRuntime) -> Result<()
         0x39f23369a9d9bacfa530e26304231461,
         0xb2eb05e2c39be9fcda6c19078c6a9d1b,
     ];
-    let cases = [
-        Case {
-            key,
-            iv: IV,
-            plaintext: &PLAINTEXT[..3],
-            ciphertext: &ciphertext[..3],
-        },
-        Case {
-            key,
-            iv: IV,
-            plaintext: &PLAINTEXT,
-            ciphertext,
-        },
+    let cases: [Case; 2] = [
+        (key, IV, &PLAINTEXT[..3], &ciphertext[..3]),
+        (key, IV, &PLAINTEXT, ciphertext),
     ];
     run_in_one_list::<Case, CbcKernel<14>>(&rt, rt.alloc(), &cases)
 }

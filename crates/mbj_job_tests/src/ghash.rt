@@ -36,25 +36,20 @@ fn text() -> [u8; 320] {
     bytes
 }
 
+/// Compares the value of a hash.
+fn expect_value(rt: &impl Abort, what: &str, hash: &Ghash, wanted: u128) {
+    expect(rt, what, u128::from_be_bytes(hash.value()), wanted);
+}
+
 // Test case 2 of the GCM specification: a block of ciphertext, and the block of the two bit lengths.
 #[test]
 fn values_are_those_of_the_gcm_specification(rt: HostRuntime) {
     let mut hash = Ghash::new(SUBKEY.to_be_bytes());
-    expect(&rt, "fresh", u128::from_be_bytes(hash.value()), 0);
+    expect_value(&rt, "fresh", &hash, 0);
     hash.update_block(&0x0388dace60b6a392f328c2b971b2fe78u128.to_be_bytes());
-    expect(
-        &rt,
-        "ciphertext",
-        u128::from_be_bytes(hash.value()),
-        0x5e2ec746917062882c85b0685353deb7,
-    );
+    expect_value(&rt, "ciphertext", &hash, 0x5e2ec746917062882c85b0685353deb7);
     hash.update_block(&0x80u128.to_be_bytes());
-    expect(
-        &rt,
-        "lengths",
-        u128::from_be_bytes(hash.value()),
-        0xf38cbb1ad69223dcc3457ae5b6b0f885,
-    );
+    expect_value(&rt, "lengths", &hash, 0xf38cbb1ad69223dcc3457ae5b6b0f885);
 }
 
 /// The blocks have this value, hashed together and one by one.
@@ -65,7 +60,7 @@ fn check_blocks(rt: &impl Abort, blocks: &[[u8; 16]], value: u128) {
     for block in blocks {
         one_by_one.update_block(block);
     }
-    expect(rt, "together", u128::from_be_bytes(together.value()), value);
+    expect_value(rt, "together", &together, value);
     expect(rt, "one by one", one_by_one.value(), together.value());
 }
 
@@ -83,7 +78,7 @@ fn check_part(rt: &impl Abort, block: &[u8], part: &[u8], value: u128) {
     let mut hash = Ghash::new(SUBKEY.to_be_bytes());
     hash.update_padded(block);
     hash.update_padded(part);
-    expect(rt, "value", u128::from_be_bytes(hash.value()), value);
+    expect_value(rt, "value", &hash, value);
 }
 
 #[test]
