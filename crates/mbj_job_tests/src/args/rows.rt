@@ -137,7 +137,8 @@ pub(crate) const AUTH_ROWS: [Row; 55] = [
     (Gcm, GcmAuth, TagLen, 17, Packet, 16, Some(TagLength)),
 ];
 
-/// For each two neighbouring rows that one job can meet, a job that meets both. None meets rows 8 and 9.
+/// For each two neighbouring rows that one job can meet, a job that meets both. None has a bad hash range and too much
+/// additional data: the data is of GCM alone, which has no hash range.
 pub(crate) const BOTH: [Row; 9] = [
     (Gcm, NoAuth, Packet, 16, Packet, 65_536, Some(PacketLong)),
     (Gcm, NoAuth, Key, 15, Packet, 16, Some(GcmPair)),
