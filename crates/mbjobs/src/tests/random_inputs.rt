@@ -124,6 +124,7 @@ fn check_left<R: Abort>(rt: &R, ending: &Ending, input: &[u8]) {
 #[test]
 fn gen_reads_no_input(rt: HostRuntime) {
     let words = "mbjobs gen --seed 1 --jobs 0 --submitters 1 --workers 1";
-    let run = Run::by(words, &HOSTILE, (64, &[0]), (64, &[]));
-    check_left(&rt, &run.end(&rt, rt.alloc()), &HOSTILE);
+    let input = input_of(&rt, rt.alloc(), &Kind::Bytes, 1);
+    let run = Run::by(words, &input, (64, &[0]), (64, &[]));
+    check_left(&rt, &run.end(&rt, rt.alloc()), &input);
 }
