@@ -55,7 +55,27 @@ fn collects_in_order(replay: &str, run: &str, submitter: usize, collects: &str) 
     true
 }
 
-/// Whether each submitter collects the results of its jobs in order.
+/// Whether a line is of one of the submitters, where it tells what is collected.
+fn is_of_submitter(line: &str) -> bool {
+    for collects in &COLLECTS {
+        if line.starts_with(*collects) {
+            return true;
+        }
+    }
+    !line.starts_with("collect ")
+}
+
+/// Whether none but the submitters collects.
+fn submitters_collect(replay: &str) -> bool {
+    for line in replay.lines() {
+        if !is_of_submitter(line) {
+            return false;
+        }
+    }
+    true
+}
+
+/// Whether each submitter collects the results of its jobs in order, and nobody else collects.
 fn collect_in_order(replay: &[u8], run: &[u8]) -> bool {
     let (Ok(replay), Ok(run)) = (str::from_utf8(replay), str::from_utf8(run)) else {
         return false;
@@ -65,7 +85,7 @@ fn collect_in_order(replay: &[u8], run: &[u8]) -> bool {
             return false;
         }
     }
-    true
+    submitters_collect(replay)
 }
 
 /// Compares the digest of what a replay prints, and the results that it collects with those of a run.
