@@ -1,38 +1,71 @@
 -- What the authentications are: whatever depends on a job's authentication goes by the cases of its class.
 use Rattle.std.specs.Prelude.{ℕ, Option, Some, None, IsSome}
 use Rattle.mbj_types.specs.Hmac.{Hash, sha1_hash, sha224_hash, sha256_hash, sha384_hash, sha512_hash}
+use Rattle.mbj_types.specs.declared.class.AuthClass.{AuthClass}
+use Rattle.mbj_types.specs.declared.class.AuthClass.TheVariants as class
+use Rattle.mbj_types.specs.declared.class.CmacKey.{CmacKey}
+use Rattle.mbj_types.specs.declared.class.CmacKey.TheVariants.{Aes128, Aes256}
+use Rattle.mbj_types.specs.declared.class.HashName.{HashName}
+use Rattle.mbj_types.specs.declared.class.HashName.TheVariants.{Sha1, Sha224, Sha256, Sha384, Sha512}
 use Rattle.mbj_types.specs.declared.job.Auth.{Auth}
-use Rattle.mbj_types.specs.declared.job.Auth.TheVariants.{Null, HmacSha1, HmacSha224, HmacSha256, HmacSha384, HmacSha512, Cmac128, Cmac256, Gcm}
-
-pub data AuthClass : Type 0 where
-  no_auth : AuthClass
-  -- HMAC over a hash
-  hmac_auth : Hash → AuthClass
-  -- CMAC with AES and a key of so many bytes
-  cmac_auth : ℕ → AuthClass
-  -- the tag of GCM
-  gcm_auth : AuthClass
+use Rattle.mbj_types.specs.declared.job.Auth.TheVariants as auth
+use Rattle.mbj_types.specs.declared.kind.Kind.{Kind}
+use Rattle.mbj_types.specs.declared.kind.Kind.TheVariants as kind
 
 abbrev pub class_of : Auth → AuthClass
-class_of Null = no_auth
-class_of HmacSha1 = hmac_auth sha1_hash
-class_of HmacSha224 = hmac_auth sha224_hash
-class_of HmacSha256 = hmac_auth sha256_hash
-class_of HmacSha384 = hmac_auth sha384_hash
-class_of HmacSha512 = hmac_auth sha512_hash
-class_of Cmac128 = cmac_auth 16
-class_of Cmac256 = cmac_auth 32
-class_of Gcm = gcm_auth
+class_of auth.Null = class.Null
+class_of auth.HmacSha1 = class.Hmac Sha1
+class_of auth.HmacSha224 = class.Hmac Sha224
+class_of auth.HmacSha256 = class.Hmac Sha256
+class_of auth.HmacSha384 = class.Hmac Sha384
+class_of auth.HmacSha512 = class.Hmac Sha512
+class_of auth.Cmac128 = class.Cmac Aes128
+class_of auth.Cmac256 = class.Cmac Aes256
+class_of auth.Gcm = class.Gcm
+
+-- ---- hashes
+
+abbrev pub hash_of_name : HashName → Hash
+hash_of_name Sha1 = sha1_hash
+hash_of_name Sha224 = sha224_hash
+hash_of_name Sha256 = sha256_hash
+hash_of_name Sha384 = sha384_hash
+hash_of_name Sha512 = sha512_hash
+
+-- the kind of lanes in which a hash is computed
+abbrev pub hash_kind : HashName → Kind
+hash_kind Sha1 = kind.HmacSha1
+hash_kind Sha224 = kind.HmacSha256
+hash_kind Sha256 = kind.HmacSha256
+hash_kind Sha384 = kind.HmacSha512
+hash_kind Sha512 = kind.HmacSha512
 
 -- the hash of an HMAC; the other authentications have none
 abbrev pub hash_in : AuthClass → Option Hash
-hash_in no_auth = None
-hash_in (hmac_auth h) = Some h
-hash_in (cmac_auth key_bytes) = None
-hash_in gcm_auth = None
+hash_in class.Null = None
+hash_in (class.Hmac h) = Some (hash_of_name h)
+hash_in (class.Cmac k) = None
+hash_in class.Gcm = None
 
 abbrev pub hash_of : Auth → Option Hash
 hash_of a = hash_in (class_of a)
 
 abbrev pub IsHmac : Auth → Type 0
 IsHmac a = IsSome (hash_of a)
+
+-- ---- keys of CMAC
+
+abbrev pub IsCmac : AuthClass → Type 0
+IsCmac class.Null = ⊥
+IsCmac (class.Hmac h) = ⊥
+IsCmac (class.Cmac k) = Unit {0}
+IsCmac class.Gcm = ⊥
+
+abbrev pub cmac_key_bytes : CmacKey → ℕ
+cmac_key_bytes Aes128 = 16
+cmac_key_bytes Aes256 = 32
+
+-- the kind of lanes in which CMAC is computed under a key
+abbrev pub cmac_kind : CmacKey → Kind
+cmac_kind Aes128 = kind.Cmac128
+cmac_kind Aes256 = kind.Cmac256

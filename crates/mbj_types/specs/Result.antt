@@ -6,7 +6,9 @@ use Rattle.mbj_types.specs.Modes.{cbc_text, uncbc_text, ctr_text}
 use Rattle.mbj_types.specs.Cmac.{cmac}
 use Rattle.mbj_types.specs.Gcm.{gcm}
 use Rattle.mbj_types.specs.Hmac.{hmac}
-use Rattle.mbj_types.specs.Auths.{AuthClass, no_auth, hmac_auth, cmac_auth, gcm_auth, class_of}
+use Rattle.mbj_types.specs.Auths.{class_of, hash_of_name}
+use Rattle.mbj_types.specs.declared.class.AuthClass.{AuthClass}
+use Rattle.mbj_types.specs.declared.class.AuthClass.TheVariants as class
 use Rattle.mbj_types.specs.Verdict.{verdict}
 use Rattle.mbj_types.specs.declared.job.Job.{Job}
 use Rattle.mbj_types.specs.declared.job.Cipher.{Cipher}
@@ -55,10 +57,10 @@ ciphered j p = ciphered_by j.cipher j.dir j p
 
 -- what the authentication makes of the packet p, in full; GCM takes the text as it was before the cipher
 abbrev pub mac_by : AuthClass → Job → List ℕ → List ℕ
-mac_by no_auth j p = []
-mac_by (hmac_auth h) j p = hmac h j.auth_key (hash_range j p)
-mac_by (cmac_auth key_bytes) j p = cmac (aes j.auth_key) (hash_range j p)
-mac_by gcm_auth j p = (gcm_of j p).1
+mac_by class.Null j p = []
+mac_by (class.Hmac h) j p = hmac (hash_of_name h) j.auth_key (hash_range j p)
+mac_by (class.Cmac k) j p = cmac (aes j.auth_key) (hash_range j p)
+mac_by class.Gcm j p = (gcm_of j p).1
 
 -- the tag over the packet p: the leftmost bytes
 unfoldable pub tag_over : Job → List ℕ → List ℕ
@@ -71,10 +73,10 @@ authenticated_in HashCipher j = j.packet
 
 -- GCM has no order: it is given the job's packet, and its tag is over the ciphertext in both directions
 abbrev pub authenticated_by : AuthClass → Job → List ℕ
-authenticated_by no_auth j = authenticated_in j.order j
-authenticated_by (hmac_auth h) j = authenticated_in j.order j
-authenticated_by (cmac_auth key_bytes) j = authenticated_in j.order j
-authenticated_by gcm_auth j = j.packet
+authenticated_by class.Null j = authenticated_in j.order j
+authenticated_by (class.Hmac h) j = authenticated_in j.order j
+authenticated_by (class.Cmac k) j = authenticated_in j.order j
+authenticated_by class.Gcm j = j.packet
 
 -- the result of a job that is accepted
 abbrev pub accepted : Job → Done

@@ -1,7 +1,9 @@
 -- The argument table: the reason for which a job is refused, or none. Sums are whole numbers and never wrap.
 use Rattle.std.specs.Prelude.{ℕ, ◌+◌, ◌%◌, ◌==◌, ◌&&◌, ◌||◌, Bool, true, false, not, nat_lt, nat_le, List, [], ◌∷◌, length, Option, Some, None, if◌then◌else◌}
 use Rattle.mbj_types.specs.Aes.{is_key_size}
-use Rattle.mbj_types.specs.Auths.{AuthClass, no_auth, hmac_auth, cmac_auth, gcm_auth, class_of}
+use Rattle.mbj_types.specs.Auths.{class_of, cmac_key_bytes, hash_of_name}
+use Rattle.mbj_types.specs.declared.class.AuthClass.{AuthClass}
+use Rattle.mbj_types.specs.declared.class.AuthClass.TheVariants as class
 use Rattle.mbj_types.specs.declared.job.Job.{Job}
 use Rattle.mbj_types.specs.declared.job.Cipher.{Cipher}
 use Rattle.mbj_types.specs.declared.job.Cipher.TheVariants as cipher
@@ -44,43 +46,40 @@ takes_range cipher.Gcm n = true
 -- ---- what an authentication takes
 
 abbrev pub is_gcm_auth : AuthClass → Bool
-is_gcm_auth no_auth = false
-is_gcm_auth (hmac_auth h) = false
-is_gcm_auth (cmac_auth key_bytes) = false
-is_gcm_auth gcm_auth = true
+is_gcm_auth class.Null = false
+is_gcm_auth (class.Hmac h) = false
+is_gcm_auth (class.Cmac k) = false
+is_gcm_auth class.Gcm = true
 
 -- whether it is over the hash range
 abbrev pub has_hash_range : AuthClass → Bool
-has_hash_range no_auth = false
-has_hash_range (hmac_auth h) = true
-has_hash_range (cmac_auth key_bytes) = true
-has_hash_range gcm_auth = false
+has_hash_range class.Null = false
+has_hash_range (class.Hmac h) = true
+has_hash_range (class.Cmac k) = true
+has_hash_range class.Gcm = false
 
 -- keys of n bytes
 abbrev pub takes_auth_key : AuthClass → ℕ → Bool
-takes_auth_key no_auth n = true
-takes_auth_key (hmac_auth h) n = nat_le n MAX_HMAC_KEY_BYTES
-takes_auth_key (cmac_auth key_bytes) n = n == key_bytes
-takes_auth_key gcm_auth n = true
+takes_auth_key class.Null n = true
+takes_auth_key (class.Hmac h) n = nat_le n MAX_HMAC_KEY_BYTES
+takes_auth_key (class.Cmac k) n = n == cmac_key_bytes k
+takes_auth_key class.Gcm n = true
 
--- how many bytes of tag it gives at most, and at least where it gives any
-abbrev pub most_tag_bytes : AuthClass → ℕ
-most_tag_bytes no_auth = 0
-most_tag_bytes (hmac_auth h) = h.digest_bytes
-most_tag_bytes (cmac_auth key_bytes) = 16
-most_tag_bytes gcm_auth = 16
-
-abbrev pub least_tag_bytes : AuthClass → ℕ
-least_tag_bytes no_auth = 0
-least_tag_bytes (hmac_auth h) = 1
-least_tag_bytes (cmac_auth key_bytes) = 1
-least_tag_bytes gcm_auth = 1
+-- tags of n bytes
+abbrev pub takes_tag : AuthClass → ℕ → Bool
+takes_tag class.Null n = n == 0
+takes_tag (class.Hmac h) n = nat_lt 0 n && nat_le n (hash_of_name h).digest_bytes
+takes_tag (class.Cmac k) n = nat_lt 0 n && nat_le n 16
+takes_tag class.Gcm n = nat_lt 0 n && nat_le n 16
 
 -- ---- the table
 
--- exactly one of the two is GCM
-abbrev pub is_half_gcm : Cipher → AuthClass → Bool
-is_half_gcm c a = if is_gcm_cipher c then not (is_gcm_auth a) else is_gcm_auth a
+-- which authentications go with a cipher: with GCM its own alone, with the others any but GCM's
+abbrev pub goes_with : Cipher → AuthClass → Bool
+goes_with cipher.Null a = not (is_gcm_auth a)
+goes_with cipher.Cbc a = not (is_gcm_auth a)
+goes_with cipher.Ctr a = not (is_gcm_auth a)
+goes_with cipher.Gcm a = is_gcm_auth a
 
 -- the range of length len from off on passes the end of a packet of n bytes
 abbrev pub passes_end : ℕ → ℕ → ℕ → Bool
@@ -90,7 +89,7 @@ passes_end off len n = nat_lt n (off + len)
 abbrev pub rows : Job → ℕ → List (Bool × Reason)
 rows j n =
     (nat_lt MAX_PACKET_BYTES n, PacketLong)
-    ∷ (is_half_gcm j.cipher (class_of j.auth), GcmPair)
+    ∷ (not (goes_with j.cipher (class_of j.auth)), GcmPair)
     ∷ (not (takes_key j.cipher (length j.key)), CipherKey)
     ∷ (not (takes_iv j.cipher (length j.iv)), IvLength)
     ∷ (not (is_null_cipher j.cipher) && passes_end j.cipher_off j.cipher_len n, CipherRange)
@@ -98,7 +97,7 @@ rows j n =
     ∷ (not (takes_auth_key (class_of j.auth) (length j.auth_key)), AuthKey)
     ∷ (has_hash_range (class_of j.auth) && passes_end j.hash_off j.hash_len n, HashRange)
     ∷ (is_gcm_cipher j.cipher && nat_lt MAX_AAD_BYTES (length j.aad), AadLong)
-    ∷ (nat_lt j.tag_len (least_tag_bytes (class_of j.auth)) || nat_lt (most_tag_bytes (class_of j.auth)) j.tag_len, TagLength)
+    ∷ (not (takes_tag (class_of j.auth) j.tag_len), TagLength)
     ∷ []
 
 -- the reason of the first row that applies

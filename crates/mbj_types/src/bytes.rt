@@ -25,6 +25,16 @@ impl Bytes {
         Bytes { bytes }
     }
 
+    /// Equal bytes in memory of their own.
+    ///
+    /// Answers `AllocError` for want of memory.
+    pub fn from_slice(alloc: Global, bytes: &[u8]) -> Result<Bytes, AllocError>
+        ensures { IfOk result (λ b. b ≡ bytes.now) }
+    {
+        let bytes = Vec::from_slice(alloc, bytes)?;
+        Ok(Bytes { bytes })
+    }
+
     /// The vector that holds the bytes. It takes no memory.
     pub fn into_vec(self) -> Vec<u8>
         ensures { result.items ≡ self }
@@ -38,8 +48,7 @@ impl Bytes {
     pub fn copy(&self, alloc: Global) -> Result<Bytes, AllocError>
         ensures { IfOk result (λ b. b ≡ self.now) }
     {
-        let bytes = Vec::from_slice(alloc, self.as_slice())?;
-        Ok(Bytes { bytes })
+        Bytes::from_slice(alloc, self.as_slice())
     }
 
     /// The bytes as a slice.
@@ -47,5 +56,13 @@ impl Bytes {
         ensures { result.now ≡ self.now }
     {
         self.bytes.as_slice()
+    }
+}
+
+impl From<Vec<u8>> for Bytes {
+    ghost from_gives = { λ v b. b ≡ v.items };
+
+    fn from(bytes: Vec<u8>) -> Bytes {
+        Bytes::from_vec(bytes)
     }
 }

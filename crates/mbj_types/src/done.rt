@@ -1,6 +1,7 @@
 use crate::bytes::Bytes;
 use crate::reason::Reason;
 use crate::tag::Tag;
+use std::fmt;
 
 /// How a job ended.
 #[derive(Clone, Copy, Debug, PartialEq, Eq)]
@@ -9,6 +10,15 @@ pub enum Status {
     Ok,
     /// The job's arguments are refused: the packet is as it came, and there is no tag.
     InvalidArgs(Reason),
+}
+
+impl fmt::Display for Status {
+    fn fmt<W: fmt::Write>(&self, f: &mut fmt::Formatter<W>) -> fmt::Result {
+        match self {
+            Status::Ok => f.write_str("done"),
+            Status::InvalidArgs(reason) => write!(f, "refused: {reason}"),
+        }
+    }
 }
 
 /// The result of a job.

@@ -3,6 +3,7 @@ ghost use Rattle.mbj_types.specs.Blank.{blank};
 
 use crate::bytes::Bytes;
 use std::alloc::{AllocError, Global};
+use std::fmt;
 
 /// What a job does with its cipher range.
 #[derive(Clone, Copy, Debug, PartialEq, Eq)]
@@ -56,6 +57,22 @@ pub enum Auth {
     Cmac256,
     /// The tag of Galois/counter mode, which goes with that cipher.
     Gcm,
+}
+
+impl fmt::Display for Auth {
+    fn fmt<W: fmt::Write>(&self, f: &mut fmt::Formatter<W>) -> fmt::Result {
+        f.write_str(match self {
+            Auth::Null => "none",
+            Auth::HmacSha1 => "HMAC-SHA-1",
+            Auth::HmacSha224 => "HMAC-SHA-224",
+            Auth::HmacSha256 => "HMAC-SHA-256",
+            Auth::HmacSha384 => "HMAC-SHA-384",
+            Auth::HmacSha512 => "HMAC-SHA-512",
+            Auth::Cmac128 => "AES-CMAC-128",
+            Auth::Cmac256 => "AES-CMAC-256",
+            Auth::Gcm => "AES-GCM",
+        })
+    }
 }
 
 /// A job: one packet with one cipher, one authentication, or both.

@@ -1,5 +1,35 @@
-ghost use Rattle.std.specs.Prelude.{◌≡◌};
+ghost use Rattle.std.specs.Prelude.{◌≡◌, IsTrue};
 ghost use Rattle.mbj_types.specs.Kinds.{all_kinds, lanes_of, name_of};
+
+use crate::lane8::Lane8;
+use crate::lane32::Lane32;
+use crate::lane64::Lane64;
+use std::fmt;
+use std::simd::{u8x16, u32x8, u64x4};
+
+/// How many texts or messages the kernels of AES serve at once.
+pub const AES_LANES: usize = 16;
+
+/// A byte of each of them, side by side.
+pub type AesWord = u8x16;
+
+/// How many messages the kernel of SHA-1 serves at once.
+pub const SHA1_LANES: usize = 8;
+
+/// A word of SHA-1 of each of them, side by side.
+pub type Sha1Word = u32x8;
+
+/// How many messages the kernel of SHA-224 and SHA-256 serves at once.
+pub const SHA256_LANES: usize = 8;
+
+/// A word of SHA-256 of each of them, side by side.
+pub type Sha256Word = u32x8;
+
+/// How many messages the kernel of SHA-384 and SHA-512 serves at once.
+pub const SHA512_LANES: usize = 4;
+
+/// A word of SHA-512 of each of them, side by side.
+pub type Sha512Word = u64x4;
 
 /// A kind of work whose jobs wait for one another, to be done in the lanes of one kernel.
 #[derive(Clone, Copy, Debug, PartialEq, Eq)]
@@ -39,12 +69,14 @@ impl Kind {
     pub fn lanes(&self) -> u32
         ensures { result ≡ lanes_of self.now }
     {
-        match self {
-            Kind::Cbc128 | Kind::Cbc192 | Kind::Cbc256 => 16,
-            Kind::Cmac128 | Kind::Cmac256 => 16,
-            Kind::HmacSha1 | Kind::HmacSha256 => 8,
-            Kind::HmacSha512 => 4,
-        }
+        let lanes = match self {
+            Kind::Cbc128 | Kind::Cbc192 | Kind::Cbc256 => AES_LANES,
+            Kind::Cmac128 | Kind::Cmac256 => AES_LANES,
+            Kind::HmacSha1 => SHA1_LANES,
+            Kind::HmacSha256 => SHA256_LANES,
+            Kind::HmacSha512 => SHA512_LANES,
+        };
+        lanes as u32
     }
 
     /// The kind's name, as it is printed.
@@ -64,7 +96,23 @@ impl Kind {
     }
 }
 
+impl fmt::Display for Kind {
+    fn fmt<W: fmt::Write>(&self, f: &mut fmt::Formatter<W>) -> fmt::Result {
+        f.write_str(self.name())
+    }
+}
+
 /// A law: `Kind::ALL` has every kind once, in the order in which they are told.
 pub fn kinds_are_told_in_order()
     ensures { Kind.ALL ≡ all_kinds }
 {}
+
+/// A law, which answers true: each lane word has as many lanes as its constant says.
+pub fn lane_words_have_these_lanes() -> bool
+    ensures { IsTrue result }
+{
+    AesWord::LANES as usize == AES_LANES
+        && Sha1Word::LANES as usize == SHA1_LANES
+        && Sha256Word::LANES as usize == SHA256_LANES
+        && Sha512Word::LANES as usize == SHA512_LANES
+}

@@ -4,6 +4,7 @@
 
 mod block;
 mod bytes;
+mod class;
 mod done;
 mod job;
 mod kind;
@@ -17,9 +18,13 @@ mod tag;
 
 pub use block::{BLOCK_BYTES, xor_in_place};
 pub use bytes::Bytes;
+pub use class::{AuthClass, CmacKey, HashName};
 pub use done::{Done, Status};
 pub use job::{Auth, Cipher, Dir, Job, Order};
-pub use kind::{Kind, kinds_are_told_in_order};
+pub use kind::{
+    AES_LANES, AesWord, Kind, SHA1_LANES, SHA256_LANES, SHA512_LANES, Sha1Word, Sha256Word,
+    Sha512Word, kinds_are_told_in_order, lane_words_have_these_lanes,
+};
 pub use lane8::Lane8;
 pub use lane32::Lane32;
 pub use lane64::Lane64;
