@@ -1,16 +1,16 @@
 -- What holds of a job that is accepted: no row of the argument table applies.
-use Rattle.std.proofs.Common.{◌≡◌, ℕ, ◌+◌, ◌≤◌, Bool, true, false, cond, not, ◌&&◌, ◌||◌, length, Option, Some, None, refl, sym}
+use Rattle.std.proofs.Common.{◌≡◌, ℕ, ◌+◌, ◌≤◌, Bool, true, false, cond, not, ◌&&◌, length, Option, Some, None, refl, sym}
 use Rattle.std.proofs.lemmas.Bool.{ltb-false}
 use Rattle.mbj_types.specs.declared.job.Job.{Job}
 use Rattle.mbj_types.specs.declared.reason.Reason.{Reason}
 use Rattle.mbj_types.specs.declared.limits.TheConstants.{MAX_PACKET_BYTES, MAX_AAD_BYTES}
 use Rattle.mbj_types.specs.Auths.{class_of}
-use Rattle.mbj_types.specs.Verdict.{is_null_cipher, is_gcm_cipher, takes_key, takes_iv, takes_range, takes_auth_key, has_hash_range, least_tag_bytes, most_tag_bytes, is_half_gcm, verdict_at}
+use Rattle.mbj_types.specs.Verdict.{is_null_cipher, is_gcm_cipher, takes_key, takes_iv, takes_range, takes_auth_key, has_hash_range, takes_tag, goes_with, verdict_at}
 
 -- a job with a packet of n bytes, read off the rows
 pub record IsAccepted (j : Job) (n : ℕ) : Type 0 where
   pub packet : n ≤ MAX_PACKET_BYTES
-  pub pair : is_half_gcm j.cipher (class_of j.auth) ≡ false
+  pub pair : goes_with j.cipher (class_of j.auth) ≡ true
   pub key : takes_key j.cipher (length j.key) ≡ true
   pub iv : takes_iv j.cipher (length j.iv) ≡ true
   pub cipher_range : is_null_cipher j.cipher ≡ false → j.cipher_off + j.cipher_len ≤ n
@@ -18,8 +18,7 @@ pub record IsAccepted (j : Job) (n : ℕ) : Type 0 where
   pub auth_key : takes_auth_key (class_of j.auth) (length j.auth_key) ≡ true
   pub hash_range : has_hash_range (class_of j.auth) ≡ true → j.hash_off + j.hash_len ≤ n
   pub aad : is_gcm_cipher j.cipher ≡ true → length j.aad ≤ MAX_AAD_BYTES
-  pub least_tag : least_tag_bytes (class_of j.auth) ≤ j.tag_len
-  pub most_tag : j.tag_len ≤ most_tag_bytes (class_of j.auth)
+  pub tag : takes_tag (class_of j.auth) j.tag_len ≡ true
 
 -- a choice that is none took the second way
 second_way : (b : Bool) (r : Reason) (rest : Option Reason) → cond b (Some r) rest ≡ None → (b ≡ false) × (rest ≡ None)
@@ -38,10 +37,6 @@ not_and-false : (a b : Bool) → not a && b ≡ false → a ≡ false → b ≡ 
 not_and-false true b h t = absurd (cc)
 not_and-false false b h t = h
 
-or-false : (a b : Bool) → a || b ≡ false → (a ≡ false) × (b ≡ false)
-or-false true b h = absurd (cc)
-or-false false b h = (refl, h)
-
 -- where the verdict is none, no row applies
 pub accepted : (j : Job) (n : ℕ) → verdict_at j n ≡ None → IsAccepted j n
 accepted j n none =
@@ -55,10 +50,9 @@ accepted j n none =
     let hash_range = second_way _ _ _ auth_key.1 in
     let aad = second_way _ _ _ hash_range.1 in
     let tag = second_way _ _ _ aad.1 in
-    let tag_bounds = or-false _ _ tag.0 in
     record {
       packet = ltb-false MAX_PACKET_BYTES n packet.0;
-      pair = pair.0;
+      pair = not-false _ pair.0;
       key = not-false _ key.0;
       iv = not-false _ iv.0;
       cipher_range = λ c. ltb-false n (j.cipher_off + j.cipher_len) (not_and-false (is_null_cipher j.cipher) _ cipher_range.0 c);
@@ -66,6 +60,5 @@ accepted j n none =
       auth_key = not-false _ auth_key.0;
       hash_range = λ a. ltb-false n (j.hash_off + j.hash_len) (and-false (has_hash_range (class_of j.auth)) _ hash_range.0 a);
       aad = λ c. ltb-false MAX_AAD_BYTES (length j.aad) (and-false (is_gcm_cipher j.cipher) _ aad.0 c);
-      least_tag = ltb-false j.tag_len (least_tag_bytes (class_of j.auth)) tag_bounds.0;
-      most_tag = ltb-false (most_tag_bytes (class_of j.auth)) j.tag_len tag_bounds.1;
+      tag = not-false _ tag.0;
     }

@@ -1,9 +1,10 @@
 //! What a cipher takes.
 
 ghost use Rattle.std.specs.Prelude.{◌≡◌, length, not};
-ghost use Rattle.mbj_types.specs.Verdict.{is_null_cipher, is_gcm_cipher, takes_key, takes_iv, takes_range};
+ghost use Rattle.mbj_types.specs.Verdict.{is_null_cipher, is_gcm_cipher, goes_with, takes_key, takes_iv, takes_range};
 
-use mbj_types::{Cipher, MAX_IV_BYTES};
+use crate::auth;
+use mbj_types::{AuthClass, Cipher, MAX_IV_BYTES};
 
 pub(crate) fn is_null(cipher: Cipher) -> bool
     ensures { result ≡ is_null_cipher cipher }
@@ -20,6 +21,16 @@ pub(crate) fn is_gcm(cipher: Cipher) -> bool
     match cipher {
         Cipher::Gcm => true,
         Cipher::Null | Cipher::Cbc | Cipher::Ctr => false,
+    }
+}
+
+/// Whether an authentication goes with the cipher: with GCM its own alone, with the others any but GCM's.
+pub(crate) fn goes_with(cipher: Cipher, class: AuthClass) -> bool
+    ensures { result ≡ goes_with cipher class }
+{
+    match cipher {
+        Cipher::Null | Cipher::Cbc | Cipher::Ctr => !auth::is_gcm(class),
+        Cipher::Gcm => auth::is_gcm(class),
     }
 }
 

@@ -16,10 +16,11 @@ pub fn check(job: &Job) -> Option<Reason>
     ensures { result ≡ verdict job.now }
 {
     let packet_len = job.packet.as_slice().len();
+    let class = job.auth.class();
     if packet_len > MAX_PACKET_BYTES {
         return Some(Reason::PacketLong);
     }
-    if cipher::is_gcm(job.cipher) != auth::is_gcm(job.auth) {
+    if !cipher::goes_with(job.cipher, class) {
         return Some(Reason::GcmPair);
     }
     if !cipher::takes_key(job.cipher, job.key.as_slice().len()) {
@@ -34,18 +35,16 @@ pub fn check(job: &Job) -> Option<Reason>
     if !cipher::takes_range(job.cipher, job.cipher_len) {
         return Some(Reason::CipherLength);
     }
-    if !auth::takes_key(job.auth, job.auth_key.as_slice().len()) {
+    if !auth::takes_key(class, job.auth_key.as_slice().len()) {
         return Some(Reason::AuthKey);
     }
-    if auth::has_hash_range(job.auth) && passes_end(job.hash_off, job.hash_len, packet_len) {
+    if auth::has_hash_range(class) && passes_end(job.hash_off, job.hash_len, packet_len) {
         return Some(Reason::HashRange);
     }
     if cipher::is_gcm(job.cipher) && job.aad.as_slice().len() > MAX_AAD_BYTES {
         return Some(Reason::AadLong);
     }
-    if job.tag_len < auth::least_tag_bytes(job.auth)
-        || job.tag_len > auth::most_tag_bytes(job.auth)
-    {
+    if !auth::takes_tag(class, job.tag_len) {
         return Some(Reason::TagLength);
     }
     None

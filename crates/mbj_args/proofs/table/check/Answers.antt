@@ -13,8 +13,5 @@ returns-then-passes_end c = grind arith
 pub returns-then-not-takes_range : goal.returns-then-not-takes_range
 returns-then-not-takes_range c = grind arith
 
-pub returns-then-job-least_tag_bytes : goal.returns-then-job-least_tag_bytes
-returns-then-job-least_tag_bytes c = search rules
-
 pub returns : goal.returns
 returns c = search rules
