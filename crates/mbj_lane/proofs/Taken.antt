@@ -4,7 +4,7 @@ use Rattle.std.specs.Option.{option_map}
 use Rattle.std.specs.List.{remove}
 use Rattle.std.proofs.lemmas.List.{get_or_default}
 use Rattle.std.proofs.lemmas.Bool.{ne_eqb}
-use Rattle.mbj_lane.specs.Rounds.{taken}
+use Rattle.mbj_lane.specs.Rounds.{IsFirst, taken}
 
 module _ {E : Type 0} (rest : E → ℕ) where
   -- an entry with a round left is passed over
@@ -26,6 +26,9 @@ module _ {E : Type 0} (rest : E → ℕ) where
   taken-first es i e f lt before is is' z =
       let same : e ≡ f = is ∙ get_or_default es i e f lt ∙ sym is' in
       at_place es i e lt before is (ap rest same ∙ z)
+
+  pub taken-at : (es : List E) (i : ℕ) (e : E) → IsFirst rest i es → e ≡ get_or es i e → taken rest es ≡ Some (e, remove es i)
+  taken-at es i e first is = at_place es i e first.inside first.before is (ap rest is ∙ first.done e)
 
   -- no entry, where each has a round left
   pub taken-none : (es : List E) → ((k : ℕ) (d : E) → k < length es → 1 ≤ rest (get_or es k d)) → taken rest es ≡ None

@@ -1,5 +1,5 @@
 -- Entries that are led by rounds. `rest` says how many rounds an entry has left, and `round` is an entry after its next round.
-use Rattle.std.specs.Prelude.{ℕ, ◌==◌, min, zero, suc, List, [], ◌∷◌, Option, Some, None, if◌then◌else◌}
+use Rattle.std.specs.Prelude.{◌≡◌, ℕ, ◌==◌, ◌<◌, ◌≤◌, length, slice_index_or, min, zero, suc, List, [], ◌∷◌, Option, Some, None, if◌then◌else◌}
 use Rattle.std.specs.Option.{option_map}
 
 -- an entry after m rounds
@@ -25,3 +25,9 @@ least rest (e ∷ es) = least_from rest (rest e) es
 abbrev pub taken : {E : Type 0} → (E → ℕ) → List E → Option (E × List E)
 taken rest [] = None
 taken rest (e ∷ es) = if rest e == 0 then Some (e, es) else option_map (λ t. (t.0, e ∷ t.1)) (taken rest es)
+
+-- the first entry that has no round left stands at i
+pub record IsFirst {E : Type 0} (rest : E → ℕ) (i : ℕ) (es : List E) : Type 0 where
+  pub inside : i < length es
+  pub before : (k : ℕ) (d : E) → k < i → 1 ≤ rest (slice_index_or es k d)
+  pub done : (d : E) → rest (slice_index_or es i d) ≡ 0

@@ -1,6 +1,7 @@
-ghost use Rattle.std.specs.Prelude.{◌≡◌, ◌+◌, ◌-◌, ◌<◌, ◌≤◌, [], ◌∷◌, ◌++◌, ◌↔◌, length, map, All, IfOk, None, vec_capacity, vec_len};
+ghost use Rattle.std.specs.Prelude.{◌≡◌, ◌+◌, ◌-◌, ◌<◌, ◌≤◌, [], ◌∷◌, ◌++◌, ◌↔◌, length, map, All, IfOk, MatchOption, None, slice_index_or, vec_capacity, vec_len};
+ghost use Rattle.std.specs.List.{remove};
 ghost use Rattle.std.specs.Option.{option_map};
-ghost use Rattle.mbj_lane.specs.Rounds.{after, end_of, least, taken};
+ghost use Rattle.mbj_lane.specs.Rounds.{IsFirst, after, end_of, least, taken};
 
 use crate::kernel::Kernel;
 use std::alloc::{AllocError, Global};
@@ -77,6 +78,27 @@ impl<K: Kernel> Lanes<K> {
         m
     }
 
+    /// Where the first entry stands that has no round left.
+    pub fn first_finished(&self) -> Option<usize>
+        ensures { MatchOption result (All (λ e. 1 ≤ K.rest_of e) self.now.entries.items) (λ i. IsFirst K.rest_of i self.now.entries.items) }
+    {
+        'places: for i in 0..self.entries.len() {
+            if K::rest(&self.entries[i]) == 0 {
+                return Some(i);
+            }
+        }
+        None
+    }
+
+    /// Takes an entry out. The others keep their order.
+    pub fn remove(&mut self, i: usize) -> K::Entry
+        requires { i < length self.old.entries.items }
+        ensures entry { result ≡ slice_index_or self.old.entries.items i result }
+        ensures others { self.new.entries.items ≡ remove self.old.entries.items i }
+    {
+        self.entries.remove(i)
+    }
+
     /// Takes out the first entry that has no round left, and answers None exactly where each has one. The others keep
     /// their order.
     pub fn take_finished(&mut self) -> Option<K::Entry>
@@ -84,11 +106,9 @@ impl<K: Kernel> Lanes<K> {
         ensures none { (result ≡ None) ↔ All (λ e. 1 ≤ K.rest_of e) self.old.entries.items }
         ensures kept { result ≡ None → self.new.entries.items ≡ self.old.entries.items }
     {
-        'places: for i in 0..self.entries.len() {
-            if K::rest(&self.entries[i]) == 0 {
-                return Some(self.entries.remove(i));
-            }
+        match self.first_finished() {
+            Some(i) => Some(self.remove(i)),
+            None => None,
         }
-        None
     }
 }

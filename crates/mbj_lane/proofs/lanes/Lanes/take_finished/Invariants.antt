@@ -1,8 +1,0 @@
-use Rattle.std.proofs.Common.{◌≡◌, ℕ, ◌<◌, ◌≤◌, get_or}
-use Rattle.mbj_lane.proofs.lanes.Lanes.take_finished.Given as goal
-
-abbrev pub invariant-places : goal.invariant-places
-invariant-places g l = record {
-  same : l.self.entries ≡ l.fn.self.entries;
-  before : (k : ℕ) (d : g.row.K-Entry.Denot) → k < l.i → 1 ≤ g.K.Kernel.rest_of (get_or l.self.entries.items k d);
-}
