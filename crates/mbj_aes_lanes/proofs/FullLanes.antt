@@ -4,6 +4,7 @@ use Rattle.std.specs.Prelude.{IsSome}
 use Rattle.std.proofs.lemmas.Bool.{cases_eq, cases_lt}
 use Rattle.std.proofs.lemmas.List.{set_past}
 use Rattle.std.proofs.lemmas.Simd.{get_or-replicate}
+use Rattle.mbj_types.specs.declared.kind.TheConstants.{AES_LANES}
 use Rattle.mbj_aes_lanes.specs.KeyLanes.{KeyLanes, same_keys, with_key, IsFull}
 
 abbrev no_schedule : Option (List ℕ)
@@ -13,7 +14,7 @@ no_schedule = None
 pub IsFull-same : (keys : KeyLanes) (w : List ℕ) → keys ≡ same_keys w → IsFull keys
 IsFull-same keys w e i h =
     subst IsSome
-    (sym (ap (λ k. get_or k.lanes i no_schedule) e ∙ get_or-replicate 16 i (Some w) no_schedule h))
+    (sym (ap (λ k. get_or k.lanes i no_schedule) e ∙ get_or-replicate AES_LANES i (Some w) no_schedule h))
     refl
 
 -- full lanes stay full

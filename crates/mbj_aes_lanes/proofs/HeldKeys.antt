@@ -6,6 +6,7 @@ use Rattle.std.proofs.lemmas.Bool.{cases_eq}
 use Rattle.std.proofs.lemmas.List.{length-set}
 use Rattle.std.proofs.lemmas.List.FromFn.{fill_by_all, get_or-map-range_with_len, length-map-range_with_len}
 use Rattle.std.proofs.lemmas.Simd.{get_or-replicate}
+use Rattle.mbj_types.specs.declared.kind.TheConstants.{AES_LANES}
 use Rattle.mbj_types.specs.Lanes.{lane_at}
 use Rattle.mbj_aes_lanes.specs.declared.state.State.{State}
 use Rattle.mbj_aes_lanes.specs.Inside.Keys.{schedule_in, held_lane, held_lanes}
@@ -14,11 +15,11 @@ abbrev no_schedule : Option (List ℕ)
 no_schedule = None
 
 -- what lane i holds
-pub held_lanes-at : (rounds : ℕ) (keys : List (State (List ℕ))) (put : List Bool) (i : ℕ) → i < 16
+pub held_lanes-at : (rounds : ℕ) (keys : List (State (List ℕ))) (put : List Bool) (i : ℕ) → i < AES_LANES
     → get_or (held_lanes rounds keys put) i no_schedule ≡ held_lane rounds keys put i
 unfolding held_lanes
 held_lanes-at rounds keys put i h =
-    get_or-map-range_with_len (held_lane rounds keys put) 0 16 i i no_schedule h (omega arith)
+    get_or-map-range_with_len (held_lane rounds keys put) 0 AES_LANES i i no_schedule h (omega arith)
 
 -- a lane whose flag is known
 held_lane-put : (rounds : ℕ) (keys : List (State (List ℕ))) (put : List Bool) (i : ℕ) → get_or put i false ≡ true
@@ -30,44 +31,44 @@ held_lane-not_put : (rounds : ℕ) (keys : List (State (List ℕ))) (put : List 
 held_lane-not_put rounds keys put i e = rw e refl
 
 -- no lane was put
-pub held_lanes-none : (rounds : ℕ) (keys : List (State (List ℕ))) → held_lanes rounds keys (replicate 16 false) ≡ replicate 16 no_schedule
+pub held_lanes-none : (rounds : ℕ) (keys : List (State (List ℕ))) → held_lanes rounds keys (replicate AES_LANES false) ≡ replicate AES_LANES no_schedule
 unfolding held_lanes
 held_lanes-none rounds keys =
-    sym (fill_by_all (held_lane rounds keys (replicate 16 false)) (replicate 16 no_schedule) 16 no_schedule refl
+    sym (fill_by_all (held_lane rounds keys (replicate AES_LANES false)) (replicate AES_LANES no_schedule) AES_LANES no_schedule refl
     (λ i h.
-    get_or-replicate 16 i no_schedule no_schedule h
-    ∙ sym (held_lane-not_put rounds keys (replicate 16 false) i (get_or-replicate 16 i false false h))))
+    get_or-replicate AES_LANES i no_schedule no_schedule h
+    ∙ sym (held_lane-not_put rounds keys (replicate AES_LANES false) i (get_or-replicate AES_LANES i false false h))))
 
 -- the same schedule was put in each lane
 pub held_lanes-all : (rounds : ℕ) (keys : List (State (List ℕ))) (w : List ℕ)
-    → ((i : ℕ) → i < 16 → schedule_in (lane_at 8) (take (rounds + 1) keys) i ≡ w)
-    → held_lanes rounds keys (replicate 16 true) ≡ replicate 16 (Some w)
+    → ((i : ℕ) → i < AES_LANES → schedule_in (lane_at 8) (take (rounds + 1) keys) i ≡ w)
+    → held_lanes rounds keys (replicate AES_LANES true) ≡ replicate AES_LANES (Some w)
 unfolding held_lanes
 held_lanes-all rounds keys w each =
-    sym (fill_by_all (held_lane rounds keys (replicate 16 true)) (replicate 16 (Some w)) 16 no_schedule refl
+    sym (fill_by_all (held_lane rounds keys (replicate AES_LANES true)) (replicate AES_LANES (Some w)) AES_LANES no_schedule refl
     (λ i h.
-    get_or-replicate 16 i (Some w) no_schedule h
+    get_or-replicate AES_LANES i (Some w) no_schedule h
     ∙ ap Some (sym (each i h))
-    ∙ sym (held_lane-put rounds keys (replicate 16 true) i (get_or-replicate 16 i true false h))))
+    ∙ sym (held_lane-put rounds keys (replicate AES_LANES true) i (get_or-replicate AES_LANES i true false h))))
 
 -- each lane was put
-pub held_lanes-each : (rounds : ℕ) (keys : List (State (List ℕ))) (i : ℕ) → i < 16
-    → get_or (held_lanes rounds keys (replicate 16 true)) i no_schedule ≡ Some (schedule_in (lane_at 8) (take (rounds + 1) keys) i)
+pub held_lanes-each : (rounds : ℕ) (keys : List (State (List ℕ))) (i : ℕ) → i < AES_LANES
+    → get_or (held_lanes rounds keys (replicate AES_LANES true)) i no_schedule ≡ Some (schedule_in (lane_at 8) (take (rounds + 1) keys) i)
 held_lanes-each rounds keys i h =
-    held_lanes-at rounds keys (replicate 16 true) i h
-    ∙ held_lane-put rounds keys (replicate 16 true) i (get_or-replicate 16 i true false h)
+    held_lanes-at rounds keys (replicate AES_LANES true) i h
+    ∙ held_lane-put rounds keys (replicate AES_LANES true) i (get_or-replicate AES_LANES i true false h)
 
 -- one lane more was put
-pub held_lanes-put : (rounds : ℕ) (old now : List (State (List ℕ))) (put : List Bool) (lane : ℕ) (w : List ℕ) → length put ≡ 16
-    → lane < 16 → schedule_in (lane_at 8) (take (rounds + 1) now) lane ≡ w
-    → ((i : ℕ) → i < 16 → i ≢ lane
+pub held_lanes-put : (rounds : ℕ) (old now : List (State (List ℕ))) (put : List Bool) (lane : ℕ) (w : List ℕ) → length put ≡ AES_LANES
+    → lane < AES_LANES → schedule_in (lane_at 8) (take (rounds + 1) now) lane ≡ w
+    → ((i : ℕ) → i < AES_LANES → i ≢ lane
     → schedule_in (lane_at 8) (take (rounds + 1) now) i ≡ schedule_in (lane_at 8) (take (rounds + 1) old) i)
     → held_lanes rounds now (set put lane true) ≡ set (held_lanes rounds old put) lane (Some w)
 unfolding held_lanes
 held_lanes-put rounds old now put lane w size inside here elsewhere =
-    let before : List (Option (List ℕ)) = map (held_lane rounds old put) (range_with_len 0 16) in
-    let many : length before ≡ 16 = length-map-range_with_len (held_lane rounds old put) 0 16 in
-    sym (fill_by_all (held_lane rounds now (set put lane true)) (set before lane (Some w)) 16 no_schedule
+    let before : List (Option (List ℕ)) = map (held_lane rounds old put) (range_with_len 0 AES_LANES) in
+    let many : length before ≡ AES_LANES = length-map-range_with_len (held_lane rounds old put) 0 AES_LANES in
+    sym (fill_by_all (held_lane rounds now (set put lane true)) (set before lane (Some w)) AES_LANES no_schedule
     (length-set before lane (Some w) ∙ many)
     (λ i h. elim (cases_eq i lane) [
       | inl same ↦
@@ -82,7 +83,7 @@ held_lanes-put rounds old now put lane w size inside here elsewhere =
     ]))
 
 by_flag : (rounds : ℕ) (keys : List (State (List ℕ))) (put : List Bool) (i : ℕ) (flag : Bool) → get_or put i false ≡ flag
-    → i < 16 → IsSome (get_or (held_lanes rounds keys put) i no_schedule)
+    → i < AES_LANES → IsSome (get_or (held_lanes rounds keys put) i no_schedule)
     → schedule_in (lane_at 8) (take (rounds + 1) keys) i ≡ unwrap_or (get_or (held_lanes rounds keys put) i no_schedule) []
 by_flag rounds keys put i true e h some =
     sym (ap (λ o. unwrap_or o []) (held_lanes-at rounds keys put i h ∙ held_lane-put rounds keys put i e))
@@ -92,7 +93,7 @@ by_flag rounds keys put i false e h some =
     cc
 
 -- the schedule in a lane that was put
-pub held_schedule : (rounds : ℕ) (keys : List (State (List ℕ))) (put : List Bool) (i : ℕ) → i < 16
+pub held_schedule : (rounds : ℕ) (keys : List (State (List ℕ))) (put : List Bool) (i : ℕ) → i < AES_LANES
     → IsSome (get_or (held_lanes rounds keys put) i no_schedule)
     → schedule_in (lane_at 8) (take (rounds + 1) keys) i ≡ unwrap_or (get_or (held_lanes rounds keys put) i no_schedule) []
 held_schedule rounds keys put i h some = by_flag rounds keys put i (get_or put i false) refl h some

@@ -1,6 +1,7 @@
--- Loops over the sixteen lanes, which store what each lane takes of its entry.
+-- Loops over the lanes, which store what each lane takes of its entry.
 use Rattle.std.proofs.Common.{◌≡◌, ◌≢◌, ℕ, ◌+◌, ◌-◌, ◌*◌, ◌/◌, ◌<◌, ◌≤◌, All, List, [], length, map, min, get_or, set, ap, ◌∙◌, arith, below_more, get_or-set_same, get_or-set_other}
 use Rattle.std.proofs.lemmas.List.{length-set}
+use Rattle.mbj_types.specs.declared.kind.TheConstants.{AES_LANES}
 use Rattle.mbj_aes_lanes.specs.Chaining.{in_lane}
 use Rattle.mbj_aes_lanes.proofs.Chains.{in_lane-map}
 
@@ -9,15 +10,15 @@ pub none_below : (k : ℕ) → k < 0 → ⊥
 none_below k lt = omega arith
 
 -- at the end everything is
-pub below_end : (k i : ℕ) → k < 16 → 16 ≤ i → k < i
+pub below_end : (k i : ℕ) → k < AES_LANES → AES_LANES ≤ i → k < i
 below_end k i lt end = omega arith
 
 -- the first i lanes are stored
 abbrev pub Stored : List (List ℕ) → (ℕ → List ℕ) → ℕ → Type 0
-Stored xs f i = (length xs ≡ 16) × ((k : ℕ) → k < i → get_or xs k [] ≡ f k)
+Stored xs f i = (length xs ≡ AES_LANES) × ((k : ℕ) → k < i → get_or xs k [] ≡ f k)
 
 -- one lane more
-pub one_stored : (xs : List (List ℕ)) (f : ℕ → List ℕ) (i : ℕ) (x : List ℕ) → Stored xs f i → i < 16 → x ≡ f i
+pub one_stored : (xs : List (List ℕ)) (f : ℕ → List ℕ) (i : ℕ) (x : List ℕ) → Stored xs f i → i < AES_LANES → x ≡ f i
     → Stored (set xs i x) f (i + 1)
 one_stored xs f i x before lt is =
     let inside : i < length xs = omega (arith, before.0) in (

@@ -1,7 +1,7 @@
 pub mod Blends
 pub mod ByteMatrices
 pub mod Chains
-pub mod EachOfSixteen
+pub mod EachPlace
 pub mod Exchanges
 pub mod FullLanes
 pub mod HalfRounds

@@ -1,21 +1,22 @@
-//! Sixteen blocks as lane words of 16 lanes, and back: a matrix of 16 times 16 bytes, which is transposed.
+//! Blocks, one for each lane, as lane words, and back: a matrix of bytes, a row for each block and a column for each byte of
+//! a block, which is transposed. There are as many lanes as bytes of a block, so the matrix is square.
 ghost use Rattle.std.specs.Prelude.{◌≡◌, ℕ, ◌+◌, ◌*◌, ◌/◌, ◌%◌, ◌<◌, [], length, slice_index, slice_index_or};
 ghost use Rattle.mbj_types.specs.Lanes.{lane_at, lane_of, lane_list};
 ghost use Rattle.mbj_aes_lanes.specs.Inside.Matrix.{row_at, interleaved_at};
 
-use std::simd::u8x16;
+use mbj_types::{AES_LANES, AesWord, BLOCK_BYTES};
 
 #[derive(Clone, Copy)]
 struct Rows {
-    first: u8x16,
-    second: u8x16,
+    first: AesWord,
+    second: AesWord,
 }
 
 // The bytes of two rows in turn, those of `even` and of `odd`.
 #[inline(always)]
-fn interleaved(even: u8x16, odd: u8x16) -> Rows
-    ensures first { (k : ℕ) → k < 16 → lane_at 8 result.first k ≡ interleaved_at even odd k }
-    ensures second { (k : ℕ) → k < 16 → lane_at 8 result.second k ≡ interleaved_at even odd (16 + k) }
+fn interleaved(even: AesWord, odd: AesWord) -> Rows
+    ensures first { (k : ℕ) → k < BLOCK_BYTES → lane_at 8 result.first k ≡ interleaved_at even odd k }
+    ensures second { (k : ℕ) → k < BLOCK_BYTES → lane_at 8 result.second k ≡ interleaved_at even odd (BLOCK_BYTES + k) }
 {
     let (first, second) = even.interleave(odd);
     Rows { first, second }
@@ -24,9 +25,9 @@ fn interleaved(even: u8x16, odd: u8x16) -> Rows
 // Row j and row j + 8 in turn, at rows 2 * j and 2 * j + 1. The place of a byte has eight bits, four of its row and four
 // within it: the highest of them has become the lowest.
 #[inline(always)]
-fn shuffled(rows: &[u8x16; 16]) -> [u8x16; 16]
-    ensures rows { length result ≡ 16 }
-    ensures bytes { (j k : ℕ) → j < 16 → k < 16
+fn shuffled(rows: &[AesWord; BLOCK_BYTES]) -> [AesWord; BLOCK_BYTES]
+    ensures rows { length result ≡ BLOCK_BYTES }
+    ensures bytes { (j k : ℕ) → j < BLOCK_BYTES → k < BLOCK_BYTES
         → row_at result j k ≡ row_at rows.now (j / 2 + 8 * (k % 2)) (8 * (j % 2) + k / 2) }
 {
     let pair0 = interleaved(rows[0], rows[8]);
@@ -59,42 +60,42 @@ fn shuffled(rows: &[u8x16; 16]) -> [u8x16; 16]
 
 // Byte k of row j is byte j of row k.
 #[inline(always)]
-fn transposed(rows: &[u8x16; 16]) -> [u8x16; 16]
-    ensures rows { length result ≡ 16 }
-    ensures bytes { (j k : ℕ) → j < 16 → k < 16 → row_at result j k ≡ row_at rows.now k j }
+fn transposed(rows: &[AesWord; BLOCK_BYTES]) -> [AesWord; BLOCK_BYTES]
+    ensures rows { length result ≡ BLOCK_BYTES }
+    ensures bytes { (j k : ℕ) → j < BLOCK_BYTES → k < BLOCK_BYTES → row_at result j k ≡ row_at rows.now k j }
 {
     shuffled(&shuffled(&shuffled(&shuffled(rows))))
 }
 
-// A slice of 16 bytes as a row.
+// The bytes of a block as a row.
 #[inline(always)]
-fn row_from(bytes: &[u8]) -> u8x16
-    requires { length bytes.now ≡ 16 }
-    ensures { (k : ℕ) → k < 16 → lane_at 8 result k ≡ slice_index bytes.now k }
+fn row_from(bytes: &[u8]) -> AesWord
+    requires { length bytes.now ≡ BLOCK_BYTES }
+    ensures { (k : ℕ) → k < BLOCK_BYTES → lane_at 8 result k ≡ slice_index bytes.now k }
 {
-    u8x16::from_slice(bytes)
+    AesWord::from_slice(bytes)
 }
 
 #[inline(always)]
-fn row_of(block: &[u8; 16]) -> u8x16
-    ensures bytes { (k : ℕ) → k < 16 → lane_at 8 result k ≡ slice_index block.now k }
-    ensures block { length block.now ≡ 16 }
+fn row_of(block: &[u8; 16]) -> AesWord
+    ensures bytes { (k : ℕ) → k < BLOCK_BYTES → lane_at 8 result k ≡ slice_index block.now k }
+    ensures block { length block.now ≡ BLOCK_BYTES }
 {
     row_from(block)
 }
 
 #[inline(always)]
-fn block_of(row: u8x16) -> [u8; 16]
-    ensures { result ≡ lane_list (lane_at 8) 16 row }
+fn block_of(row: AesWord) -> [u8; 16]
+    ensures { result ≡ lane_list (lane_at 8) AES_LANES row }
 {
     row.to_array()
 }
 
-/// The lane words of sixteen blocks: word j has byte j of block i in lane i.
+/// The lane words of the blocks: word j has byte j of block i in lane i.
 #[inline(always)]
-pub fn words_of(blocks: &[[u8; 16]; 16]) -> [u8x16; 16]
-    ensures words { length result ≡ 16 }
-    ensures lanes { (i : ℕ) → i < 16 → lane_of (lane_at 8) result i ≡ slice_index_or blocks.now i [] }
+pub fn words_of(blocks: &[[u8; 16]; AES_LANES]) -> [AesWord; BLOCK_BYTES]
+    ensures words { length result ≡ BLOCK_BYTES }
+    ensures lanes { (i : ℕ) → i < AES_LANES → lane_of (lane_at 8) result i ≡ slice_index_or blocks.now i [] }
 {
     transposed(&[
         row_of(&blocks[0]),
@@ -116,14 +117,14 @@ pub fn words_of(blocks: &[[u8; 16]; 16]) -> [u8x16; 16]
     ])
 }
 
-/// Writes the sixteen blocks of these lane words.
+/// Writes the blocks of these lane words.
 #[inline(always)]
-pub fn put_blocks(to: &mut [[u8; 16]; 16], words: &[u8x16; 16])
-    ensures bytes { (i : ℕ) → i < 16 → slice_index_or to.new i [] ≡ lane_of (lane_at 8) words.now i }
-    ensures lengths { (i : ℕ) → i < 16 → length (slice_index_or to.new i []) ≡ 16 }
+pub fn put_blocks(to: &mut [[u8; 16]; AES_LANES], words: &[AesWord; BLOCK_BYTES])
+    ensures bytes { (i : ℕ) → i < AES_LANES → slice_index_or to.new i [] ≡ lane_of (lane_at 8) words.now i }
+    ensures lengths { (i : ℕ) → i < AES_LANES → length (slice_index_or to.new i []) ≡ BLOCK_BYTES }
 {
     let rows = transposed(words);
-    'rows: for i in 0..16 {
+    'rows: for i in 0..AES_LANES {
         to[i] = block_of(rows[i]);
     }
 }

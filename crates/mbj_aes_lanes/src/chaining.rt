@@ -6,18 +6,14 @@ ghost use Rattle.mbj_aes_lanes.specs.Chaining.{in_lane, input_of, next_in_lane, 
 ghost use Rattle.mbj_aes_lanes.specs.KeyLanes.{IsFull, schedule_at};
 ghost use Rattle.mbj_aes_lanes.specs.Inside.State.{state_bytes};
 
+use crate::all_lanes::encrypt16;
 use crate::block_states::{put_state_blocks, state_of_blocks};
 use crate::columns::add_round_key;
 use crate::lane_keys::LaneKeys;
 use crate::rounds::encrypt;
-use crate::sixteen::encrypt16;
 use crate::state::State;
 use mbj_aes::Schedule;
-use mbj_types::BLOCK_BYTES;
-use std::simd::u8x16;
-
-// How many blocks are enciphered at once.
-const LANES: usize = 16;
+use mbj_types::{AES_LANES, AesWord, BLOCK_BYTES};
 
 /// Blocks that are chained under a key (SP 800-38A, 6.2): the next block is xored with the chaining value and
 /// enciphered, which gives the next chaining value. The keys of all entries of a type have as many rounds.
@@ -81,14 +77,14 @@ fn place_of(lane: usize, many: usize) -> usize
 
 /// Round key `r` of each lane's key.
 #[inline(always)]
-pub(crate) fn round_keys_at<E: Chaining>(entries: &[E], r: u32) -> [[u8; 16]; 16]
+pub(crate) fn round_keys_at<E: Chaining>(entries: &[E], r: u32) -> [[u8; 16]; AES_LANES]
     requires some { 0 < length entries.now }
     requires round { r ≤ E.key_rounds }
-    ensures keys { (i : ℕ) → i < 16 → slice_index_or result i [] ≡ round_key (in_lane (map E.key_of entries.now) i) r }
-    ensures lengths { (i : ℕ) → i < 16 → length (in_lane (map E.key_of entries.now) i) ≡ 16 * (E.key_rounds + 1) }
+    ensures keys { (i : ℕ) → i < AES_LANES → slice_index_or result i [] ≡ round_key (in_lane (map E.key_of entries.now) i) r }
+    ensures lengths { (i : ℕ) → i < AES_LANES → length (in_lane (map E.key_of entries.now) i) ≡ 16 * (E.key_rounds + 1) }
 {
-    let mut keys = [[0; BLOCK_BYTES]; LANES];
-    'keys: for i in 0..LANES {
+    let mut keys = [[0; BLOCK_BYTES]; AES_LANES];
+    'keys: for i in 0..AES_LANES {
         keys[i] = entries[place_of(i, entries.len())].key().round_key(r);
     }
     keys
@@ -96,34 +92,34 @@ pub(crate) fn round_keys_at<E: Chaining>(entries: &[E], r: u32) -> [[u8; 16]; 16
 
 /// The next block of each lane.
 #[inline(always)]
-fn next_blocks<E: Chaining>(entries: &[E]) -> [[u8; 16]; 16]
+fn next_blocks<E: Chaining>(entries: &[E]) -> [[u8; 16]; AES_LANES]
     requires some { 0 < length entries.now }
     requires rests { All (λ e. 1 ≤ E.rest_of e) entries.now }
-    ensures { (i : ℕ) → i < 16 → slice_index_or result i [] ≡ in_lane (map E.block_of entries.now) i }
+    ensures { (i : ℕ) → i < AES_LANES → slice_index_or result i [] ≡ in_lane (map E.block_of entries.now) i }
 {
-    let mut blocks = [[0; BLOCK_BYTES]; LANES];
-    'blocks: for i in 0..LANES {
+    let mut blocks = [[0; BLOCK_BYTES]; AES_LANES];
+    'blocks: for i in 0..AES_LANES {
         blocks[i] = entries[place_of(i, entries.len())].block();
     }
     blocks
 }
 
 /// The chaining value of each lane.
-fn chains_of<E: Chaining>(entries: &[E]) -> [[u8; 16]; 16]
+fn chains_of<E: Chaining>(entries: &[E]) -> [[u8; 16]; AES_LANES]
     requires { 0 < length entries.now }
-    ensures { (i : ℕ) → i < 16 → slice_index_or result i [] ≡ in_lane (map E.chain_of entries.now) i }
+    ensures { (i : ℕ) → i < AES_LANES → slice_index_or result i [] ≡ in_lane (map E.chain_of entries.now) i }
 {
-    let mut chains = [[0; BLOCK_BYTES]; LANES];
-    'chains: for i in 0..LANES {
+    let mut chains = [[0; BLOCK_BYTES]; AES_LANES];
+    'chains: for i in 0..AES_LANES {
         chains[i] = *entries[place_of(i, entries.len())].chain();
     }
     chains
 }
 
-/// Each entry takes its chaining value, of which there are 16.
+/// Each entry takes the chaining value of its lane.
 #[inline(always)]
-fn take_chains<E: Chaining>(entries: &mut [E], chains: &[[u8; 16]; 16])
-    requires few { length entries.old ≤ 16 }
+fn take_chains<E: Chaining>(entries: &mut [E], chains: &[[u8; 16]; AES_LANES])
+    requires few { length entries.old ≤ AES_LANES }
     requires rests { All (λ e. 1 ≤ E.rest_of e) entries.old }
     requires chains { (i : ℕ) (e : E) → i < length entries.old → slice_index_or chains.now i []
         ≡ encipher (E.key_of (slice_index_or entries.old i e)) (input_of E.block_of E.chain_of (slice_index_or entries.old i e)) }
@@ -137,13 +133,13 @@ fn take_chains<E: Chaining>(entries: &mut [E], chains: &[[u8; 16]; 16])
 
 /// The chaining value of each lane, which is in `chains`, becomes the next one.
 #[inline(always)]
-fn next_chains<E: Chaining>(entries: &[E], keys: &LaneKeys, chains: &mut State<u8x16>)
+fn next_chains<E: Chaining>(entries: &[E], keys: &LaneKeys, chains: &mut State<AesWord>)
     requires some { 0 < length entries.now }
     requires rests { All (λ e. 1 ≤ E.rest_of e) entries.now }
     requires full { IsFull keys.now }
-    requires keys { (i : ℕ) → i < 16 → schedule_at keys.now i ≡ in_lane (map E.key_of entries.now) i }
-    requires chains { (i : ℕ) → i < 16 → state_bytes (lane_at 8) chains.old i ≡ in_lane (map E.chain_of entries.now) i }
-    ensures { (i : ℕ) → i < 16 → state_bytes (lane_at 8) chains.new i
+    requires keys { (i : ℕ) → i < AES_LANES → schedule_at keys.now i ≡ in_lane (map E.key_of entries.now) i }
+    requires chains { (i : ℕ) → i < AES_LANES → state_bytes (lane_at 8) chains.old i ≡ in_lane (map E.chain_of entries.now) i }
+    ensures { (i : ℕ) → i < AES_LANES → state_bytes (lane_at 8) chains.new i
         ≡ next_in_lane E.key_of E.block_of E.chain_of entries.now i }
 {
     let blocks = state_of_blocks(&next_blocks(entries));
@@ -153,36 +149,36 @@ fn next_chains<E: Chaining>(entries: &[E], keys: &LaneKeys, chains: &mut State<u
 
 /// The next block of each entry is chained, all at once. `chains` has the chaining value of each lane.
 #[inline(always)]
-fn pass<E: Chaining>(entries: &mut [E], keys: &LaneKeys, chains: &mut State<u8x16>)
+fn pass<E: Chaining>(entries: &mut [E], keys: &LaneKeys, chains: &mut State<AesWord>)
     requires some { 0 < length entries.old }
-    requires few { length entries.old ≤ 16 }
+    requires few { length entries.old ≤ AES_LANES }
     requires rests { All (λ e. 1 ≤ E.rest_of e) entries.old }
     requires full { IsFull keys.now }
-    requires keys { (i : ℕ) → i < 16 → schedule_at keys.now i ≡ in_lane (map E.key_of entries.old) i }
-    requires chains { (i : ℕ) → i < 16 → state_bytes (lane_at 8) chains.old i ≡ in_lane (map E.chain_of entries.old) i }
+    requires keys { (i : ℕ) → i < AES_LANES → schedule_at keys.now i ≡ in_lane (map E.key_of entries.old) i }
+    requires chains { (i : ℕ) → i < AES_LANES → state_bytes (lane_at 8) chains.old i ≡ in_lane (map E.chain_of entries.old) i }
     ensures entries { entries.new ≡ map (chained_once E.key_of E.block_of E.chain_of E.led) entries.old }
-    ensures chains { (i : ℕ) → i < 16 → state_bytes (lane_at 8) chains.new i ≡ in_lane (map E.chain_of entries.new) i }
+    ensures chains { (i : ℕ) → i < AES_LANES → state_bytes (lane_at 8) chains.new i ≡ in_lane (map E.chain_of entries.new) i }
 {
     next_chains(entries, keys, chains);
-    let mut blocks = [[0; BLOCK_BYTES]; LANES];
+    let mut blocks = [[0; BLOCK_BYTES]; AES_LANES];
     put_state_blocks(&mut blocks, chains);
     take_chains(entries, &blocks);
 }
 
 /// Encrypts a block in each lane under the key of its entry; idle lanes go with the last entry. It takes no memory.
-pub fn encrypt_each<E: Chaining>(entries: &[E], blocks: &mut [[u8; 16]; 16])
+pub fn encrypt_each<E: Chaining>(entries: &[E], blocks: &mut [[u8; 16]; AES_LANES])
     requires { 0 < length entries.now }
-    ensures each { (i : ℕ) → i < 16 → slice_index_or blocks.new i []
+    ensures each { (i : ℕ) → i < AES_LANES → slice_index_or blocks.new i []
         ≡ encipher (in_lane (map E.key_of entries.now) i) (slice_index_or blocks.old i []) }
-    ensures lengths { (i : ℕ) → i < 16 → length (slice_index_or blocks.new i []) ≡ 16 }
+    ensures lengths { (i : ℕ) → i < AES_LANES → length (slice_index_or blocks.new i []) ≡ 16 }
 {
     encrypt16(&LaneKeys::each(entries), blocks);
 }
 
-/// Leads each of at most 16 entries by `m` blocks, of which each has that many left. In each of `m` passes one block of
+/// Leads each of at most `AES_LANES` entries by `m` blocks, of which each has that many left. In each of `m` passes one block of
 /// every entry is enciphered, all at once. It takes no memory.
 pub fn lead_all<E: Chaining>(entries: &mut [E], m: u32)
-    requires few { length entries.old ≤ 16 }
+    requires few { length entries.old ≤ AES_LANES }
     requires rests { All (λ e. m ≤ E.rest_of e) entries.old }
     ensures { entries.new ≡ map (after (chained_once E.key_of E.block_of E.chain_of E.led) m) entries.old }
 {

@@ -7,24 +7,25 @@ ghost use Rattle.mbj_aes_lanes.specs.Inside.Keys.{schedule_in};
 
 use crate::block_states::state_of_blocks;
 use crate::chaining::{Chaining, round_keys_at};
-use crate::key_planes::{planes_of, write_all_lanes, write_lane};
+use crate::key_planes::{planes_of, write_all_lanes};
+use crate::one_lane::write_lane;
 use crate::state::State;
 use mbj_aes::{Octet, Schedule};
+use mbj_types::{AES_LANES, AesWord};
 use std::marker::Model;
-use std::simd::u8x16;
 
 // The round keys of the longest schedule, of 14 rounds.
 const MAX_ROUND_KEYS: usize = 15;
 
-/// The schedules of sixteen keys side by side, of 10, 12 or 14 rounds each, which contracts see as the number of rounds
+/// The schedules of keys side by side, one for each lane, of 10, 12 or 14 rounds each, which contracts see as the number of rounds
 /// and, for each lane, the schedule that was put there, or none. It keeps the round keys in bit planes, as encryption
 /// and decryption take them, so a key is transposed once, when it is put. It is a plain value of 3,860 bytes, and owns
 /// no memory.
 #[derive(Drop)]
 pub struct LaneKeys {
-    round_keys: [State<u8x16>; MAX_ROUND_KEYS],
+    round_keys: [State<AesWord>; MAX_ROUND_KEYS],
     rounds: u32,
-    put: [bool; 16],
+    put: [bool; AES_LANES],
 }
 
 // The size that stands in the documentation.
@@ -33,6 +34,7 @@ const _: () = prove!(size_of::<LaneKeys>() == 3860);
 impl Model for LaneKeys {
     ghost use Rattle.std.specs.Prelude.{◌≡◌, length};
     ghost use Rattle.mbj_aes.specs.Bytes.{IsRoundCount};
+    ghost use Rattle.mbj_types.specs.declared.kind.TheConstants.{AES_LANES};
     ghost use Rattle.mbj_aes_lanes.specs.KeyLanes.{KeyLanes};
     ghost use Rattle.mbj_aes_lanes.specs.Inside.Keys.{held_lanes};
 
@@ -40,15 +42,15 @@ impl Model for LaneKeys {
 
     ghost view = { λ k. record { rounds = k.rounds; lanes = held_lanes k.rounds k.round_keys k.put } };
 
-    ghost invariant = { λ k. IsRoundCount k.rounds × (length k.round_keys ≡ 15) × (length k.put ≡ 16) };
+    ghost invariant = { λ k. IsRoundCount k.rounds × (length k.round_keys ≡ 15) × (length k.put ≡ AES_LANES) };
 }
 
 // Round keys of zeros.
 #[inline(always)]
-fn zero_keys() -> [State<u8x16>; MAX_ROUND_KEYS]
+fn zero_keys() -> [State<AesWord>; MAX_ROUND_KEYS]
     ensures { length result ≡ 15 }
 {
-    let zero = u8x16::splat(0);
+    let zero = AesWord::splat(0);
     let octet = Octet {
         p0: zero,
         p1: zero,
@@ -66,7 +68,7 @@ fn zero_keys() -> [State<u8x16>; MAX_ROUND_KEYS]
 }
 
 impl LaneKeys {
-    /// Sixteen lanes for keys of 10, 12 or 14 rounds, none of which is put. It takes no memory.
+    /// Lanes for keys of 10, 12 or 14 rounds, none of which is put. It takes no memory.
     pub fn new(rounds: u32) -> LaneKeys
         requires { IsRoundCount rounds }
         ensures { result ≡ no_keys rounds }
@@ -74,7 +76,7 @@ impl LaneKeys {
         LaneKeys {
             round_keys: zero_keys(),
             rounds,
-            put: [false; 16],
+            put: [false; AES_LANES],
         }
     }
 
@@ -97,13 +99,13 @@ impl LaneKeys {
         let planes = planes_of(key);
         let rounds = self.rounds as usize;
         write_all_lanes(&mut self.round_keys[..rounds + 1], &planes);
-        self.put = [true; 16];
+        self.put = [true; AES_LANES];
     }
 
-    /// Puts a schedule in a lane below 16, in place of the one that was there. It has as many rounds as the others. It
-    /// takes no memory.
+    /// Puts a schedule in a lane below `AES_LANES`, in place of the one that was there. It has as many rounds as the others. It
+    /// takes no memory. No product calls it.
     pub fn put(&mut self, lane: u32, key: &Schedule)
-        requires lane { lane < 16 }
+        requires lane { lane < AES_LANES }
         requires rounds { length key.now ≡ 16 * (self.old.rounds + 1) }
         ensures { self.new ≡ with_key self.old lane key.now }
     {
@@ -118,7 +120,7 @@ impl LaneKeys {
     pub(crate) fn each<E: Chaining>(entries: &[E]) -> LaneKeys
         requires { 0 < length entries.now }
         ensures full { IsFull result }
-        ensures schedules { (i : ℕ) → i < 16 → schedule_at result i ≡ in_lane (map E.key_of entries.now) i }
+        ensures schedules { (i : ℕ) → i < AES_LANES → schedule_at result i ≡ in_lane (map E.key_of entries.now) i }
     {
         let rounds = entries[0].key().rounds();
         let mut round_keys = zero_keys();
@@ -128,16 +130,16 @@ impl LaneKeys {
         LaneKeys {
             round_keys,
             rounds,
-            put: [true; 16],
+            put: [true; AES_LANES],
         }
     }
 
     /// The round keys in planes, of each lane those of its schedule.
     #[inline(always)]
-    pub(crate) fn round_keys(&self) -> &[State<u8x16>]
+    pub(crate) fn round_keys(&self) -> &[State<AesWord>]
         ensures least { 11 ≤ length result.now }
         ensures most { length result.now ≤ 15 }
-        ensures schedules { (i : ℕ) → i < 16 → IsSome (slice_index_or self.now.lanes i None)
+        ensures schedules { (i : ℕ) → i < AES_LANES → IsSome (slice_index_or self.now.lanes i None)
             → schedule_in (lane_at 8) result.now i ≡ schedule_at self.now i }
     {
         &self.round_keys[..self.rounds as usize + 1]

@@ -6,7 +6,7 @@ ghost use Rattle.mbj_types.specs.Blocks.{xor_lists};
 ghost use Rattle.mbj_types.specs.Aes.{shift_rows, mix_columns, inv_shift_rows, inv_mix_columns, encipher, decipher};
 ghost use Rattle.mbj_aes.specs.Planes.Gates.{nth_bit};
 ghost use Rattle.mbj_aes_lanes.specs.Inside.State.{state_bytes, turned, with_below, three_below};
-ghost use Rattle.mbj_aes_lanes.specs.Inside.Rounds.{round_of, undone_round_of, half_round_of, undone_half_round_of};
+ghost use Rattle.mbj_aes_lanes.specs.Inside.Rounds.{half_round_of, undone_half_round_of};
 ghost use Rattle.mbj_aes_lanes.specs.Inside.Keys.{schedule_in};
 
 use crate::columns::{Mixture, add_round_key, inv_mix_columns, mixed, mixed_reduced, mixture_of};
@@ -103,9 +103,9 @@ fn undo_last_linear_layer<V: Lane8>(s: &mut State<V>, key: &State<V>)
     *s = inv_shift_rows(add_round_key(*s, *key));
 }
 
-// Half a round: SUBBYTES in the upper rows; or in the lower ones, and then the steps of the round that follow it.
+/// Half a round: SUBBYTES in the upper rows; or in the lower ones, and then the steps of the round that follow it.
 #[inline(always)]
-fn half_round<V: Lane8>(s: &mut State<V>, key: &State<V>, is_lower: bool, is_last: bool)
+pub fn half_round<V: Lane8>(s: &mut State<V>, key: &State<V>, is_lower: bool, is_last: bool)
     ensures { (i : ℕ) → i < V.LANES → state_bytes V.lane s.new i
         ≡ half_round_of is_lower is_last (state_bytes V.lane s.old i) (state_bytes V.lane key.now i) }
 {
@@ -119,9 +119,9 @@ fn half_round<V: Lane8>(s: &mut State<V>, key: &State<V>, is_lower: bool, is_las
     }
 }
 
-// Half a round undone.
+/// Half a round undone.
 #[inline(always)]
-fn undone_half_round<V: Lane8>(s: &mut State<V>, key: &State<V>, is_lower: bool, is_last: bool)
+pub fn undone_half_round<V: Lane8>(s: &mut State<V>, key: &State<V>, is_lower: bool, is_last: bool)
     ensures { (i : ℕ) → i < V.LANES → state_bytes V.lane s.new i
         ≡ undone_half_round_of is_lower is_last (state_bytes V.lane s.old i) (state_bytes V.lane key.now i) }
 {
@@ -133,26 +133,6 @@ fn undone_half_round<V: Lane8>(s: &mut State<V>, key: &State<V>, is_lower: bool,
         }
     }
     inv_sub_half(s, is_lower);
-}
-
-/// One round: SUBBYTES, SHIFTROWS, MIXCOLUMNS but in the last round, and ADDROUNDKEY.
-#[inline(always)]
-pub fn round<V: Lane8>(s: &mut State<V>, key: &State<V>, is_last: bool)
-    ensures { (i : ℕ) → i < V.LANES → state_bytes V.lane s.new i
-        ≡ round_of is_last (state_bytes V.lane s.old i) (state_bytes V.lane key.now i) }
-{
-    half_round(s, key, false, is_last);
-    half_round(s, key, true, is_last);
-}
-
-/// One round undone.
-#[inline(always)]
-pub fn undone_round<V: Lane8>(s: &mut State<V>, key: &State<V>, is_last: bool)
-    ensures { (i : ℕ) → i < V.LANES → state_bytes V.lane s.new i
-        ≡ undone_round_of is_last (state_bytes V.lane s.old i) (state_bytes V.lane key.now i) }
-{
-    undone_half_round(s, key, true, is_last);
-    undone_half_round(s, key, false, is_last);
 }
 
 /// Encrypts the state in each lane under the round keys in that lane.

@@ -1,19 +1,21 @@
 ghost use Rattle.std.specs.Prelude.{refl};
 ghost use Rattle.mbj_cbc.specs.Rounds.{rest_of, round};
+ghost use Rattle.mbj_types.specs.declared.kind.TheConstants.{AES_LANES};
 
 use crate::entry::CbcEntry;
 use mbj_aes_lanes::lead_all;
 use mbj_lane::Kernel;
+use mbj_types::AES_LANES;
 
-/// CBC encryption in sixteen lanes, under keys of `N` rounds: 10, 12 or 14.
+/// CBC encryption in `AES_LANES` lanes, under keys of `N` rounds: 10, 12 or 14.
 pub struct CbcKernel<const N: usize>;
 
 impl<const N: usize> Kernel for CbcKernel<N> {
     type Entry = CbcEntry<N>;
 
-    const LANES: u32 = 16;
+    const LANES: u32 = AES_LANES as u32;
 
-    ghost LANES = { 16 };
+    ghost LANES = { AES_LANES };
 
     ghost rest_of = { rest_of };
 

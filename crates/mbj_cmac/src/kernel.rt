@@ -1,20 +1,21 @@
 ghost use Rattle.std.specs.Prelude.{◌≡◌, ◌≤◌, length, refl};
 ghost use Rattle.mbj_cmac.specs.Rounds.{rest_of, round};
+ghost use Rattle.mbj_types.specs.declared.kind.TheConstants.{AES_LANES};
 
 use crate::entry::CmacEntry;
 use mbj_aes_lanes::{encrypt_each, lead_all};
 use mbj_lane::Kernel;
-use mbj_types::BLOCK_BYTES;
+use mbj_types::{AES_LANES, BLOCK_BYTES};
 
-/// CMACs in sixteen lanes, under keys of `N` rounds: 10, 12 or 14.
+/// CMACs in `AES_LANES` lanes, under keys of `N` rounds: 10, 12 or 14.
 pub struct CmacKernel<const N: usize>;
 
 impl<const N: usize> Kernel for CmacKernel<N> {
     type Entry = CmacEntry<N>;
 
-    const LANES: u32 = 16;
+    const LANES: u32 = AES_LANES as u32;
 
-    ghost LANES = { 16 };
+    ghost LANES = { AES_LANES };
 
     ghost rest_of = { rest_of };
 
@@ -45,13 +46,13 @@ fn are_closed<const N: usize>(entries: &[CmacEntry<N>]) -> bool {
 
 /// Closes the last blocks of all messages, if one isn't closed yet. The zero block is enciphered under all keys at once.
 fn close_all<const N: usize>(entries: &mut [CmacEntry<N>])
-    requires { length entries.old ≤ 16 }
+    requires { length entries.old ≤ AES_LANES }
     ensures { entries.new ≡ entries.old }
 {
     if entries.is_empty() || are_closed(entries) {
         return;
     }
-    let mut zeros = [[0; BLOCK_BYTES]; 16];
+    let mut zeros = [[0; BLOCK_BYTES]; AES_LANES];
     encrypt_each(entries, &mut zeros);
     'closing: for i in 0..entries.len() {
         let entry = &mut entries[i];

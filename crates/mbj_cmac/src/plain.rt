@@ -1,3 +1,4 @@
+//! CMAC block by block. No product calls it, since one message fills no lanes: tests compare the kernel with it.
 ghost use Rattle.std.specs.Prelude.{◌≡◌};
 ghost use Rattle.mbj_types.specs.Aes.{encipher};
 ghost use Rattle.mbj_types.specs.Cmac.{cmac};

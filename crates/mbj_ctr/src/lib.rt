@@ -11,11 +11,8 @@ ghost use Rattle.mbj_types.specs.Modes.{first_counter, ctr_text};
 use mbj_aes::Schedule;
 use mbj_aes_lanes::{LaneKeys, encrypt16};
 use mbj_blocks::xor_block;
-use mbj_types::BLOCK_BYTES;
+use mbj_types::{AES_LANES, BLOCK_BYTES};
 use std::simd::{u8x16, u64x2};
-
-// The blocks that are enciphered at once.
-const LANES: usize = 16;
 
 // The number of the block with which an IV of 12 bytes begins.
 const FIRST_BLOCK_NUMBER: u8 = 1;
@@ -55,33 +52,33 @@ fn counter_block(counter: u128) -> [u8; 16]
 
 // Writes the counter blocks from these halves on, where the low one does not wrap.
 #[inline(always)]
-fn put_near_counters(blocks: &mut [[u8; 16]; 16], high: u64, low: u64)
-    requires { low + 15 < 2 ^ 64 }
-    ensures { (j : ℕ) → j < 16 → slice_index_or blocks.new j [] ≡ to_be_bytes w128 (low + j + 2 ^ 64 * high) }
+fn put_near_counters(blocks: &mut [[u8; 16]; AES_LANES], high: u64, low: u64)
+    requires { low + AES_LANES ≤ 2 ^ 64 }
+    ensures { (j : ℕ) → j < AES_LANES → slice_index_or blocks.new j [] ≡ to_be_bytes w128 (low + j + 2 ^ 64 * high) }
 {
-    'each: for j in 0..LANES {
+    'each: for j in 0..AES_LANES {
         blocks[j] = halves_block(high, low + j as u64);
     }
 }
 
 // Writes the counter blocks from `counter` on, wherever the counters wrap.
 #[inline(never)]
-fn put_any_counters(blocks: &mut [[u8; 16]; 16], counter: u128)
-    ensures { (j : ℕ) → j < 16 → slice_index_or blocks.new j [] ≡ to_be_bytes w128 ((counter + j) % 2 ^ 128) }
+fn put_any_counters(blocks: &mut [[u8; 16]; AES_LANES], counter: u128)
+    ensures { (j : ℕ) → j < AES_LANES → slice_index_or blocks.new j [] ≡ to_be_bytes w128 ((counter + j) % 2 ^ 128) }
 {
-    'each: for j in 0..LANES {
+    'each: for j in 0..AES_LANES {
         blocks[j] = counter_block(counter.wrapping_add(j as u128));
     }
 }
 
 // Writes the counter blocks from `counter` on, which is no secret.
 #[inline(always)]
-fn put_counters(blocks: &mut [[u8; 16]; 16], counter: u128)
-    ensures { (j : ℕ) → j < 16 → slice_index_or blocks.new j [] ≡ to_be_bytes w128 ((counter + j) % 2 ^ 128) }
+fn put_counters(blocks: &mut [[u8; 16]; AES_LANES], counter: u128)
+    ensures { (j : ℕ) → j < AES_LANES → slice_index_or blocks.new j [] ≡ to_be_bytes w128 ((counter + j) % 2 ^ 128) }
 {
     let low = (counter % (1 << 64)) as u64;
     let high = (counter >> 64) as u64;
-    if low < u64::MAX - 15 {
+    if low < u64::MAX - AES_LANES as u64 {
         put_near_counters(blocks, high, low);
     } else {
         put_any_counters(blocks, counter);
@@ -136,14 +133,14 @@ pub fn apply(key: &Schedule, iv: &[u8], text: &mut [u8])
     keys.put_all(key);
     let many = text.len().div_ceil(BLOCK_BYTES);
     let mut counter = first_counter(iv);
-    'batches: for b in 0..many.div_ceil(LANES) {
-        let mut masks = [[0; BLOCK_BYTES]; LANES];
+    'batches: for b in 0..many.div_ceil(AES_LANES) {
+        let mut masks = [[0; BLOCK_BYTES]; AES_LANES];
         put_counters(&mut masks, counter);
         encrypt16(&keys, &mut masks);
-        let first = LANES * b;
-        'each: for j in 0..(many - first).min(LANES) {
+        let first = AES_LANES * b;
+        'each: for j in 0..(many - first).min(AES_LANES) {
             xor_mask(text, first + j, &masks[j]);
         }
-        counter = counter.wrapping_add(LANES as u128);
+        counter = counter.wrapping_add(AES_LANES as u128);
     }
 }

@@ -10,16 +10,13 @@ use crate::hash::hash_of_parts;
 use mbj_aes::Schedule;
 use mbj_aes_lanes::{LaneKeys, encrypt16};
 use mbj_blocks::xor_block;
-use mbj_types::BLOCK_BYTES;
+use mbj_types::{AES_LANES, BLOCK_BYTES};
 
 // The bytes of an IV that begins a counter block as it is.
 const COUNTER_IV_BYTES: usize = 12;
 
 // The bytes of the number that follows it, the highest first.
 const NUMBER_BYTES: usize = 4;
-
-// The blocks that are enciphered at once.
-const LANES: usize = 16;
 
 // The number of the counter block before the first one of the text.
 const PRE_COUNTER_NUMBER: u8 = 1;
@@ -37,11 +34,11 @@ fn risen(block: &[u8; 16], by: u32) -> [u8; 16]
 }
 
 // The counter blocks after `counter`.
-fn counters_after(counter: &[u8; 16]) -> [[u8; 16]; 16]
-    ensures { (j : ℕ) → j < 16 → slice_index_or result j [] ≡ risen counter.now (j + 1) }
+fn counters_after(counter: &[u8; 16]) -> [[u8; 16]; AES_LANES]
+    ensures { (j : ℕ) → j < AES_LANES → slice_index_or result j [] ≡ risen counter.now (j + 1) }
 {
-    let mut counters = [[0; BLOCK_BYTES]; LANES];
-    'each: for j in 0..LANES {
+    let mut counters = [[0; BLOCK_BYTES]; AES_LANES];
+    'each: for j in 0..AES_LANES {
         counters[j] = risen(counter, j as u32 + 1);
     }
     counters
@@ -88,13 +85,13 @@ pub fn xor_key_stream(key: &Schedule, pre_counter: &[u8; 16], text: &mut [u8])
     let keys = LaneKeys::all(key);
     let many = text.len().div_ceil(BLOCK_BYTES);
     let mut counter = *pre_counter;
-    'batches: for b in 0..many.div_ceil(LANES) {
+    'batches: for b in 0..many.div_ceil(AES_LANES) {
         let mut masks = counters_after(&counter);
         encrypt16(&keys, &mut masks);
-        let first = LANES * b;
-        'each: for j in 0..(many - first).min(LANES) {
+        let first = AES_LANES * b;
+        'each: for j in 0..(many - first).min(AES_LANES) {
             xor_block(text, first + j, &masks[j]);
         }
-        counter = risen(&counter, LANES as u32);
+        counter = risen(&counter, AES_LANES as u32);
     }
 }

@@ -1,6 +1,7 @@
 -- Round keys in bit planes.
 use Rattle.std.specs.Prelude.{ℕ, ◌+◌, Bool, false, List, map, slice_index, slice_index_or, take, Option, Some, None, if◌then◌else◌}
 use Rattle.std.specs.List.{flat_map, range_with_len}
+use Rattle.mbj_types.specs.declared.kind.TheConstants.{AES_LANES}
 use Rattle.mbj_types.specs.Lanes.{lane_at}
 use Rattle.mbj_aes.specs.declared.octet.Octet.{Octet}
 use Rattle.mbj_aes_lanes.specs.declared.state.State.{State}
@@ -41,4 +42,4 @@ held_lane rounds keys put i =
     if slice_index_or put i false then Some (schedule_in (lane_at 8) (take (rounds + 1) keys) i) else None
 
 unfoldable pub held_lanes : ℕ → List (State (List ℕ)) → List Bool → List (Option (List ℕ))
-held_lanes rounds keys put = map (held_lane rounds keys put) (range_with_len 0 16)
+held_lanes rounds keys put = map (held_lane rounds keys put) (range_with_len 0 AES_LANES)

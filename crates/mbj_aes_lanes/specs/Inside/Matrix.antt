@@ -1,4 +1,4 @@
--- Matrices of bytes, a row being a vector of 16 lanes.
+-- Matrices of bytes, a row being a lane word.
 use Rattle.std.specs.Prelude.{ℕ, ◌/◌, ◌%◌, nat_eq, List, [], slice_index_or, if◌then◌else◌}
 use Rattle.mbj_types.specs.Lanes.{lane_at}
 

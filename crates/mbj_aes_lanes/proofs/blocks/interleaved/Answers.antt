@@ -2,7 +2,7 @@
 use Rattle.std.proofs.Common.{◌≡◌, ℕ, ◌+◌, List, [], ◌∷◌, ◌++◌, map, slice_index, refl, arith}
 use Rattle.mbj_types.specs.Lanes.{lane_at}
 use Rattle.mbj_aes_lanes.specs.Inside.Matrix.{interleaved_at}
-use Rattle.mbj_aes_lanes.proofs.EachOfSixteen.{at_sixteen}
+use Rattle.mbj_aes_lanes.proofs.EachPlace.{at_each_place}
 use Rattle.mbj_aes_lanes.proofs.ByteMatrices.{in_first, in_second}
 use Rattle.mbj_aes_lanes.proofs.blocks.interleaved.Goals as goal
 
@@ -11,7 +11,7 @@ returns-clause-first c k h =
     let even : List ℕ = c.args.even in
     let odd : List ℕ = c.args.odd in
     let row : List ℕ = map (slice_index (even ++ odd)) (0 ∷ 16 ∷ 1 ∷ 17 ∷ 2 ∷ 18 ∷ 3 ∷ 19 ∷ 4 ∷ 20 ∷ 5 ∷ 21 ∷ 6 ∷ 22 ∷ 7 ∷ 23 ∷ []) in
-    at_sixteen (λ k. lane_at 8 row k ≡ interleaved_at even odd k)
+    at_each_place (λ k. lane_at 8 row k ≡ interleaved_at even odd k)
     (in_first even odd 0 c.fits-even.0 (omega arith))
     (in_second even odd 0 16 c.fits-even.0 refl)
     (in_first even odd 1 c.fits-even.0 (omega arith))
@@ -35,7 +35,7 @@ returns-clause-second c k h =
     let even : List ℕ = c.args.even in
     let odd : List ℕ = c.args.odd in
     let row : List ℕ = map (slice_index (even ++ odd)) (8 ∷ 24 ∷ 9 ∷ 25 ∷ 10 ∷ 26 ∷ 11 ∷ 27 ∷ 12 ∷ 28 ∷ 13 ∷ 29 ∷ 14 ∷ 30 ∷ 15 ∷ 31 ∷ []) in
-    at_sixteen (λ k. lane_at 8 row k ≡ interleaved_at even odd (16 + k))
+    at_each_place (λ k. lane_at 8 row k ≡ interleaved_at even odd (16 + k))
     (in_first even odd 8 c.fits-even.0 (omega arith))
     (in_second even odd 8 24 c.fits-even.0 refl)
     (in_first even odd 9 c.fits-even.0 (omega arith))

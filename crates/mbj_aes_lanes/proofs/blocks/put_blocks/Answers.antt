@@ -1,6 +1,7 @@
 -- The rows of the transposed matrix are its columns, lane by lane.
 use Rattle.std.proofs.Common.{◌≢◌, ℕ, ◌<◌, List, [], length, get_or, sym, ap, ◌∙◌, arith, below_more, get_or-set_same, get_or-set_other}
 use Rattle.std.proofs.lemmas.List.{length-set}
+use Rattle.mbj_types.specs.declared.kind.TheConstants.{AES_LANES}
 use Rattle.mbj_types.specs.Lanes.{lane_at, lane_list}
 use Rattle.mbj_types.proofs.LaneLists.{length-lane_list, slice_index-lane_list}
 use Rattle.mbj_aes_lanes.proofs.ByteMatrices.{column_is}
@@ -20,11 +21,11 @@ returns-clause-bytes c i h =
     let rows : List (List ℕ) = c.transposed-rows.result in
     let row : List ℕ = get_or rows i [] in
     c.rows.invariant.1 i (omega arith)
-    ∙ sym (column_is c.args.words.now rows i (lane_list (lane_at 8) 16 row) c.told-words h (length-lane_list (lane_at 8) 16 row)
+    ∙ sym (column_is c.args.words.now rows i (lane_list (lane_at 8) AES_LANES row) c.told-words h (length-lane_list (lane_at 8) AES_LANES row)
     (λ k below. sym (c.transposed-rows.ensures.bytes i k h below))
-    (λ k below. sym (slice_index-lane_list (lane_at 8) 16 row k below)))
+    (λ k below. sym (slice_index-lane_list (lane_at 8) AES_LANES row k below)))
 
 pub returns-clause-lengths : goal.returns-clause-lengths
 returns-clause-lengths c i h =
     ap length (c.rows.invariant.1 i (omega arith))
-    ∙ length-lane_list (lane_at 8) 16 (get_or c.transposed-rows.result i [])
+    ∙ length-lane_list (lane_at 8) AES_LANES (get_or c.transposed-rows.result i [])

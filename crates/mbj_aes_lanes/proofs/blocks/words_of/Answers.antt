@@ -1,7 +1,7 @@
 -- Lane by lane the columns of the transposed matrix are the blocks.
 use Rattle.std.proofs.Common.{◌≡◌, ℕ, ◌<◌, List, [], ◌∷◌, length, slice_index, slice_index_or}
 use Rattle.mbj_aes_lanes.specs.Inside.Matrix.{row_at}
-use Rattle.mbj_aes_lanes.proofs.EachOfSixteen.{at_sixteen}
+use Rattle.mbj_aes_lanes.proofs.EachPlace.{at_each_place}
 use Rattle.mbj_aes_lanes.proofs.ByteMatrices.{column_is}
 use Rattle.mbj_aes_lanes.proofs.blocks.words_of.Goals as goal
 
@@ -10,7 +10,7 @@ returns-clause-lanes c i h =
     let blocks : List (List ℕ) = c.args.blocks.now in
     let rows : List (List ℕ) = c.row_of.result ∷ c.row_of-2.result ∷ c.row_of-3.result ∷ c.row_of-4.result ∷ c.row_of-5.result ∷ c.row_of-6.result ∷ c.row_of-7.result ∷ c.row_of-8.result ∷ c.row_of-9.result ∷ c.row_of-10.result ∷ c.row_of-11.result ∷ c.row_of-12.result ∷ c.row_of-13.result ∷ c.row_of-14.result ∷ c.row_of-15.result ∷ c.row_of-16.result ∷ [] in
     let bytes : (k : ℕ) → k < 16 → row_at rows i k ≡ slice_index (slice_index_or blocks i []) k = λ k below.
-    at_sixteen (λ i. row_at rows i k ≡ slice_index (slice_index_or blocks i []) k)
+    at_each_place (λ i. row_at rows i k ≡ slice_index (slice_index_or blocks i []) k)
     (c.row_of.ensures.bytes k below)
     (c.row_of-2.ensures.bytes k below)
     (c.row_of-3.ensures.bytes k below)
@@ -29,7 +29,7 @@ returns-clause-lanes c i h =
     (c.row_of-16.ensures.bytes k below)
     i h in
     let whole : length (slice_index_or blocks i []) ≡ 16 =
-    at_sixteen (λ i. length (slice_index_or blocks i []) ≡ 16)
+    at_each_place (λ i. length (slice_index_or blocks i []) ≡ 16)
     c.row_of.ensures.block
     c.row_of-2.ensures.block
     c.row_of-3.ensures.block

@@ -1,6 +1,7 @@
 -- One chaining value more is copied in each turn.
 use Rattle.std.proofs.Common.{map, refl}
 use borrow.Author.Count.{falls}
+use Rattle.mbj_types.specs.declared.kind.TheConstants.{AES_LANES}
 use Rattle.mbj_aes_lanes.specs.Chaining.{in_lane}
 use Rattle.mbj_aes_lanes.proofs.LaneLoops.{none_below, below_end, one_stored, read_in_lane}
 use Rattle.mbj_aes_lanes.proofs.chaining.chains_of.Goals as goal
@@ -18,7 +19,7 @@ pub bounds-chains-i : goal.bounds-chains-i
 bounds-chains-i g c = c.chains-test.true
 
 pub chains-smaller : goal.chains-smaller
-chains-smaller g c = falls 16 c.chains.i c.chains-test.true
+chains-smaller g c = falls AES_LANES c.chains.i c.chains-test.true
 
 pub chains-preserved : goal.chains-preserved
 chains-preserved g c =

@@ -1,6 +1,7 @@
 -- One block more is copied in each turn.
 use Rattle.std.proofs.Common.{map, refl}
 use borrow.Author.Count.{falls}
+use Rattle.mbj_types.specs.declared.kind.TheConstants.{AES_LANES}
 use Rattle.mbj_aes_lanes.specs.Chaining.{in_lane}
 use Rattle.mbj_aes_lanes.proofs.LaneLoops.{none_below, below_end, one_stored, read_rest, read_in_lane}
 use Rattle.mbj_aes_lanes.proofs.chaining.next_blocks.Goals as goal
@@ -23,7 +24,7 @@ pub bounds-blocks-i : goal.bounds-blocks-i
 bounds-blocks-i g c = c.blocks-2-test.true
 
 pub blocks-2-smaller : goal.blocks-2-smaller
-blocks-2-smaller g c = falls 16 c.blocks-2.i c.blocks-2-test.true
+blocks-2-smaller g c = falls AES_LANES c.blocks-2.i c.blocks-2-test.true
 
 pub blocks-2-preserved : goal.blocks-2-preserved
 blocks-2-preserved g c =

@@ -1,6 +1,7 @@
 -- One round key more is copied in each turn.
 use Rattle.std.proofs.Common.{◌≡◌, length, ap, map, refl, sym, ◌∙◌, below_more}
 use borrow.Author.Count.{falls}
+use Rattle.mbj_types.specs.declared.kind.TheConstants.{AES_LANES}
 use Rattle.mbj_types.specs.Aes.{round_key}
 use Rattle.mbj_aes_lanes.specs.Chaining.{in_lane}
 use Rattle.mbj_aes_lanes.proofs.LaneLoops.{none_below, below_end, one_stored, read_in_lane, round_within}
@@ -22,7 +23,7 @@ pub bounds-keys-i : goal.bounds-keys-i
 bounds-keys-i g c = c.keys-test.true
 
 pub keys-smaller : goal.keys-smaller
-keys-smaller g c = falls 16 c.keys.i c.keys-test.true
+keys-smaller g c = falls AES_LANES c.keys.i c.keys-test.true
 
 pub keys-preserved : goal.keys-preserved
 keys-preserved g c =

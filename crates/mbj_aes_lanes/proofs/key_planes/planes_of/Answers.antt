@@ -1,6 +1,7 @@
 -- One round key more is copied in each turn, and each stands in planes in its lane.
 use Rattle.std.proofs.Common.{◌≢◌, ◌<◌, length, refl, ap, ◌∙◌, arith, below_more, get_or-set_same, get_or-set_other}
 use Rattle.std.proofs.lemmas.List.{length-set}
+use Rattle.mbj_types.specs.declared.kind.TheConstants.{AES_LANES}
 use Rattle.mbj_aes_lanes.specs.Inside.Keys.{unplaned}
 use Rattle.mbj_aes_lanes.proofs.key_planes.planes_of.Goals as goal
 
@@ -19,7 +20,7 @@ keys-preserved c =
 
 pub returns-clause-keys : goal.returns-clause-keys
 returns-clause-keys c r h =
-    let below : r < 16 = omega arith in
+    let below : r < AES_LANES = omega arith in
     ap unplaned (c.put_blocks.ensures.bytes r below)
     ∙ c.put_in_planes.ensures r below
     ∙ c.words_of-words.ensures.lanes r below

@@ -1,6 +1,7 @@
 -- The blocks go through the first lanes, all of which have the same schedule.
 use Rattle.std.proofs.Common.{ℕ, List, [], length, drop, replicate, get_or, ◌++◌, sym, ap₂, ◌∙◌}
 use Rattle.std.proofs.lemmas.List.{length-take-le}
+use Rattle.mbj_types.specs.declared.kind.TheConstants.{AES_LANES}
 use Rattle.mbj_types.specs.Aes.{encipher}
 use Rattle.mbj_aes_lanes.proofs.SameKeys.{schedule_at-same, full-same, first-changed, first-lengths}
 use Rattle.mbj_aes_lanes.proofs.same.encrypt_same.Goals as goal
@@ -30,7 +31,7 @@ pub returns-clause-each : goal.returns-clause-each
 returns-clause-each c =
     let e : List ℕ → List ℕ = encipher c.args.key.now in
     let zero : ℕ = 0 in
-    let rest : List (List ℕ) = drop (length c.args.blocks.now) (replicate 16 (replicate 16 zero)) in
+    let rest : List (List ℕ) = drop (length c.args.blocks.now) (replicate AES_LANES (replicate 16 zero)) in
     c.copy_from_slice-2.ensures.after
     ∙ first-changed e c.args.blocks.now rest c.encrypt16.new.blocks c.requires c.encrypt16.array_long
     (λ i h.

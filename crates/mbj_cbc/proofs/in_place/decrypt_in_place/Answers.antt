@@ -2,6 +2,7 @@
 use Rattle.std.proofs.Common.{◌≡◌, List, ℕ, ◌+◌, ◌*◌, ◌<◌, [], get_or, take, drop, inl, inr, ap, ap₂, ◌∙◌, sym, refl, arith}
 use Rattle.std.proofs.lemmas.Bool.{cases_lt}
 use Rattle.std.proofs.lemmas.List.{drop-drop}
+use Rattle.mbj_types.specs.declared.kind.TheConstants.{AES_LANES}
 use Rattle.mbj_types.specs.Blocks.{xor_lists}
 use Rattle.mbj_types.specs.Aes.{decipher}
 use Rattle.mbj_types.specs.Modes.{uncbc}
@@ -12,7 +13,7 @@ use Rattle.mbj_cbc.proofs.in_place.decrypt_in_place.Goals as goal
 
 pub each-init : goal.each-init
 each-init c =
-    let block : 16 * c.batches.b + 0 ≡ 16 * c.batches.b = omega arith in
+    let block : AES_LANES * c.batches.b + 0 ≡ AES_LANES * c.batches.b = omega arith in
     record { size = c.batches.invariant.0; walked = rw block c.batches.invariant.1; left = refl }
 
 pub each-preserved : goal.each-preserved
@@ -20,9 +21,9 @@ each-preserved c =
     let d : List ℕ → List ℕ = decipher c.args.key.now in
     let text : List ℕ = c.each.text in
     let j : ℕ = c.each.j in
-    let inside : j < 16 = omega arith in
-    let i : ℕ = 16 * c.batches.b + j in
-    let next : 16 * c.batches.b + (j + 1) ≡ i + 1 = omega arith in
+    let inside : j < AES_LANES = omega arith in
+    let i : ℕ = AES_LANES * c.batches.b + j in
+    let next : AES_LANES * c.batches.b + (j + 1) ≡ i + 1 = omega arith in
     let behind : 16 * i + 16 ≡ 16 * (i + 1) = omega arith in
     let block : block_of text i ≡ c.block_at-ciphertext.result = sym c.block_at-ciphertext.ensures in
     let same : block_of text i ≡ block_of c.batches.text i = ap (take 16) c.each.invariant.left in
@@ -52,17 +53,17 @@ batches-preserved c =
     let b : ℕ = c.batches.b in
     let j : ℕ = c.each.j in (
       c.each.invariant.size,
-      elim (cases_lt j 16) [
+      elim (cases_lt j AES_LANES) [
         | inl fewer ↦
-            walk_over (uncbc d c.each.chain) (uncbc d c.each.chain) c.each.text _ (16 * b + j) (16 * (b + 1)) refl refl
+            walk_over (uncbc d c.each.chain) (uncbc d c.each.chain) c.each.text _ (AES_LANES * b + j) (AES_LANES * (b + 1)) refl refl
             (omega arith) (omega arith) c.each.invariant.walked
         | inr all ↦
-            let block : 16 * (b + 1) ≡ 16 * b + j = omega arith in
+            let block : AES_LANES * (b + 1) ≡ AES_LANES * b + j = omega arith in
             rw block c.each.invariant.walked
       ],
     )
 
 pub returns : goal.returns
 returns c =
-    walk_end (uncbc (decipher c.args.key.now) c.batches.chain) c.batches.text _ (16 * c.batches.b) refl (omega arith)
+    walk_end (uncbc (decipher c.args.key.now) c.batches.chain) c.batches.text _ (AES_LANES * c.batches.b) refl (omega arith)
     c.batches.invariant.1

@@ -1,6 +1,7 @@
 -- Each entry is given the zero block under its own key.
 use Rattle.std.proofs.Common.{ap, ap₂, sym, ◌∙◌, arith, [], get_or}
 use Rattle.std.proofs.lemmas.Simd.{get_or-replicate}
+use Rattle.mbj_types.specs.declared.kind.TheConstants.{AES_LANES}
 use Rattle.mbj_types.specs.Aes.{encipher}
 use Rattle.mbj_types.specs.Blocks.{zero_block}
 use Rattle.mbj_aes_lanes.proofs.Chains.{in_lane-map}
@@ -14,5 +15,5 @@ close-requires g c = (
       ∙ ap₂ encipher
       (sym (in_lane-map key_of c.args.entries.now c.closing.i c.closing.i c.index-entries-i.result (omega arith) (omega arith))
       ∙ ap (λ es. key_of (get_or es c.closing.i c.index-entries-i.result)) (sym c.closing.invariant))
-      (get_or-replicate 16 c.closing.i zero_block [] (omega arith)),
+      (get_or-replicate AES_LANES c.closing.i zero_block [] (omega arith)),
 )

@@ -1,7 +1,7 @@
 -- Each block goes through its own lane.
 use Rattle.std.proofs.Common.{ap₂, ◌∙◌}
 use Rattle.mbj_types.specs.Aes.{decipher}
-use Rattle.mbj_aes_lanes.proofs.sixteen.decrypt16.Goals as goal
+use Rattle.mbj_aes_lanes.proofs.all_lanes.decrypt16.Goals as goal
 
 pub returns-clause-each : goal.returns-clause-each
 returns-clause-each c i h =

@@ -3,7 +3,7 @@ use Rattle.std.proofs.Common.{ap₂, sym, ◌∙◌}
 use Rattle.mbj_types.specs.Lanes.{lane_at}
 use Rattle.mbj_aes_lanes.specs.Inside.Keys.{block_of_planes}
 use Rattle.mbj_aes_lanes.proofs.StatePlanes.{state_bytes-planes, unplaned_is}
-use Rattle.mbj_aes_lanes.proofs.key_planes.blended_state.Goals as goal
+use Rattle.mbj_aes_lanes.proofs.one_lane.blended_state.Goals as goal
 
 pub returns-clause-under : goal.returns-clause-under
 returns-clause-under c i h mask =

@@ -1,6 +1,6 @@
 -- Each plane has its byte under the mask.
 use Rattle.std.proofs.Common.{refl}
-use Rattle.mbj_aes_lanes.proofs.key_planes.blended_octet.Goals as goal
+use Rattle.mbj_aes_lanes.proofs.one_lane.blended_octet.Goals as goal
 
 pub returns-clause-under : goal.returns-clause-under
 returns-clause-under c i h mask =

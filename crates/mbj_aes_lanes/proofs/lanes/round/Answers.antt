@@ -4,7 +4,7 @@ use Rattle.mbj_types.specs.Aes.{sub_byte}
 use Rattle.mbj_aes_lanes.specs.Inside.State.{state_bytes}
 use Rattle.mbj_aes_lanes.specs.Inside.Rounds.{in_half, linear_layer_of}
 use Rattle.mbj_aes_lanes.proofs.HalfRounds.{in_half-lower-upper}
-use Rattle.mbj_aes_lanes.proofs.rounds.round.Goals as goal
+use Rattle.mbj_aes_lanes.proofs.lanes.round.Goals as goal
 
 pub returns : goal.returns
 returns g c i h =

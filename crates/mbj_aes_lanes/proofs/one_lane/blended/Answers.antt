@@ -1,7 +1,7 @@
 -- Computed at each pair of bytes.
 use Rattle.mbj_types.specs.Lanes.{lane_at, lane_at-lt}
 use Rattle.mbj_aes_lanes.proofs.Blends.{under_mask, beside_mask}
-use Rattle.mbj_aes_lanes.proofs.key_planes.blended.Goals as goal
+use Rattle.mbj_aes_lanes.proofs.one_lane.blended.Goals as goal
 
 pub returns-clause-under : goal.returns-clause-under
 returns-clause-under c i h mask =

@@ -5,7 +5,7 @@ use Rattle.std.proofs.lemmas.List.{get_or_default}
 use Rattle.mbj_types.specs.Lanes.{lane_at}
 use Rattle.mbj_aes_lanes.specs.Inside.Keys.{unplaned}
 use Rattle.mbj_aes_lanes.proofs.WrittenKeys.{IsWritten-none, IsWritten-next, IsWritten-all, schedule_in-set}
-use Rattle.mbj_aes_lanes.proofs.key_planes.write_lane.Goals as goal
+use Rattle.mbj_aes_lanes.proofs.one_lane.write_lane.Goals as goal
 
 pub keys-init : goal.keys-init
 keys-init c = (IsWritten-none (lane_at 8) c.args.planes.now c.args.keys.now c.args.lane, λ i h ne. refl)

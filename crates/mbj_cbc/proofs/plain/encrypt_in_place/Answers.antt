@@ -5,7 +5,7 @@ use Rattle.mbj_types.specs.Aes.{encipher}
 use Rattle.mbj_types.specs.Modes.{cbc}
 use Rattle.mbj_blocks.specs.Places.{block_of}
 use Rattle.mbj_blocks.proofs.Walk.{walk_step, walk_end}
-use Rattle.mbj_cbc.proofs.in_place.encrypt_in_place.Goals as goal
+use Rattle.mbj_cbc.proofs.plain.encrypt_in_place.Goals as goal
 
 pub encrypting-preserved : goal.encrypting-preserved
 encrypting-preserved c =
