@@ -1,7 +1,6 @@
 -- The words of a block as a window, and the five lane words of hash values in one lane.
-use Rattle.std.proofs.Common.{◌≡◌, ℕ, ◌+◌, ◌*◌, ◌%◌, ◌<◌, List, [], ◌∷◌, length, slice_index, slice_index_or, slice_set, get_or, refl, sym, ap, ◌∙◌, arith}
-use Rattle.std.proofs.lemmas.Grind.{same_number_lists}
-use Rattle.sha1.specs.Sha1.{first_words, word_at, schedule, IsWindow}
+use Rattle.std.proofs.Common.{◌≡◌, ℕ, ◌+◌, ◌%◌, ◌<◌, List, [], ◌∷◌, length, slice_index, slice_index_or, slice_set, get_or, refl, sym, ap, ◌∙◌, arith}
+use Rattle.sha1.specs.Sha1.{first_words, schedule, IsWindow}
 use Rattle.sha1.proofs.Schedule.{IsWindow_first, length-first_words, slice_index-first_words}
 use Rattle.mbj_types.specs.Lanes.{lane_of}
 
@@ -18,12 +17,6 @@ pub window_of : (b w : List ℕ) → first_words b 16 ≡ w → IsWindow w (sche
 window_of b w e =
     IsWindow_first b w (ap length (sym e) ∙ length-first_words b 16)
     (λ k h. ap (λ x. slice_index x k) (sym e) ∙ slice_index-first_words b 16 k h)
-
--- 16 words that are the block's at each place
-pub words_of : (b w : List ℕ) → length w ≡ 16 → ((k : ℕ) → k < 16 → slice_index w k ≡ word_at b (4 * k)) → first_words b 16 ≡ w
-words_of b w l h =
-    same_number_lists (first_words b 16) w (length-first_words b 16 ∙ sym l)
-    (λ k lt. let below : k < 16 = omega (arith, length-first_words b 16) in slice_index-first_words b 16 k below ∙ sym (h k below))
 
 -- five lane words that were read from a list of five
 pub five_read : {V : Type 0} (lane : V → ℕ → ℕ) (xs : List V) (a b c d e : V) (i : ℕ) → length xs ≡ 5

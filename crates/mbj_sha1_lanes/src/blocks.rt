@@ -1,29 +1,22 @@
+//! The compression over arrays of hash values and blocks. No product calls it: the kernels of HMAC keep their hash values in
+//! vectors, and read blocks where they stand.
 ghost use Rattle.std.specs.Prelude.{◌≡◌, ℕ, ◌<◌, [], slice_index_or};
 ghost use Rattle.sha1.specs.Sha1.{compress};
+ghost use Rattle.mbj_types.specs.declared.kind.TheConstants.{SHA1_LANES};
 
-use crate::compress_lanes;
-use mbj_sha_lanes::load32::{block_words, state_lanes};
+use crate::{compress_lanes, gathered, scattered};
+use mbj_sha_lanes::Load32;
+use mbj_types::{SHA1_LANES, Sha1Word};
 
-/// Compresses each of eight blocks into the hash value of the same number.
-pub fn compress(states: &mut [[u32; 5]; 8], blocks: &[[u8; 64]; 8])
-    ensures { (i : ℕ) → i < 8 → slice_index_or states.new i []
+/// Compresses each of `SHA1_LANES` blocks into the hash value of the same number.
+pub fn compress(states: &mut [[u32; 5]; SHA1_LANES], blocks: &[[u8; 64]; SHA1_LANES])
+    ensures { (i : ℕ) → i < SHA1_LANES → slice_index_or states.new i []
         ≡ compress (slice_index_or states.old i []) (slice_index_or blocks.now i []) }
 {
-    let mut words = block_words(blocks);
-    let mut lanes = [
-        state_lanes(states, 0),
-        state_lanes(states, 1),
-        state_lanes(states, 2),
-        state_lanes(states, 3),
-        state_lanes(states, 4),
-    ];
+    let mut words = Sha1Word::block_words(blocks);
+    let mut lanes = gathered(states);
     compress_lanes(&mut lanes, &mut words);
-    let a = lanes[0].to_array();
-    let b = lanes[1].to_array();
-    let c = lanes[2].to_array();
-    let d = lanes[3].to_array();
-    let e = lanes[4].to_array();
-    'states: for i in 0..8 {
-        states[i] = [a[i], b[i], c[i], d[i], e[i]];
+    'states: for i in 0..SHA1_LANES {
+        states[i] = scattered(&lanes, i);
     }
 }

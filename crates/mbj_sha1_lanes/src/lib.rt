@@ -5,6 +5,8 @@
 mod blocks;
 mod lanes;
 mod rounds;
+mod states;
 
 pub use blocks::compress;
 pub use lanes::compress_lanes;
+pub use states::{gathered, scattered};

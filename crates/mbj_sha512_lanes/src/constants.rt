@@ -1,8 +1,11 @@
 ghost use Rattle.std.specs.Prelude.{◌≡◌, ◌<◌, slice_index};
 ghost use Rattle.sha2.specs.Sha512.{round_constants};
 
+/// How many rounds there are (FIPS 180-4, 6.4.2). Each has a constant and a word of the schedule.
+pub(crate) const ROUNDS: usize = 80;
+
 // K 0, …, K 79 (4.2.3).
-const K: [u64; 80] = [
+const K: [u64; ROUNDS] = [
     0x428a_2f98_d728_ae22,
     0x7137_4491_23ef_65cd,
     0xb5c0_fbcf_ec4d_3b2f,
@@ -88,7 +91,7 @@ const K: [u64; 80] = [
 /// The constant of round t.
 #[inline(always)]
 pub(crate) fn constant_at(t: usize) -> u64
-    requires { t < 80 }
+    requires { t < ROUNDS }
     ensures { result ≡ slice_index round_constants t }
 {
     K[t]

@@ -1,7 +1,7 @@
 ghost use Rattle.std.specs.Prelude.{◌≡◌, ℕ, ◌<◌};
 ghost use Rattle.mbj_sha512_lanes.specs.Inside.Functions.{sha512_functions};
 
-use crate::constants::constant_at;
+use crate::constants::{ROUNDS, constant_at};
 use mbj_sha_lanes::Sha2;
 use mbj_sha_lanes::words64::{choice, majority, rotated_right};
 use mbj_types::Lane64;
@@ -19,7 +19,7 @@ impl<V: Lane64> Sha2<V> for Sha512 {
 
     ghost functions = { sha512_functions };
 
-    const ROUNDS: usize = 80;
+    const ROUNDS: usize = ROUNDS;
 
     ghost ROUNDS = { 80 };
 

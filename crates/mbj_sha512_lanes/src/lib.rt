@@ -6,6 +6,10 @@ mod blocks;
 mod constants;
 mod functions;
 mod lanes;
+mod scheduled;
+mod states;
 
 pub use blocks::compress;
-pub use lanes::{compress_four, compress_lanes};
+pub use lanes::compress_lanes;
+pub use scheduled::compress_scheduled;
+pub use states::{gathered, scattered};

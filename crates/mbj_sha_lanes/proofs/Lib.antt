@@ -1,4 +1,6 @@
 pub mod ShortForms
 pub mod EightWords
+pub mod Loading32
+pub mod Loading64
 pub mod RoundNumbers
 pub mod Windows

@@ -1,1 +1,3 @@
 pub mod Windows
+pub mod Columns32
+pub mod Columns64

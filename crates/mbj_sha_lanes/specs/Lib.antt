@@ -1,2 +1,3 @@
 pub mod Sha2
+pub mod Words
 pub mod Inside

@@ -2,6 +2,7 @@
 //! over lane words, the vectors that blocks and hash values are loaded into, and the compressions of SHA-2.
 #![tactic(auto)]
 
+mod blocks;
 pub mod load32;
 pub mod load64;
 mod scheduled;
@@ -11,6 +12,9 @@ pub mod words32;
 pub mod words64;
 mod working;
 
+pub use blocks::Blocks;
+pub use load32::Load32;
+pub use load64::Load64;
 pub use scheduled::compress_scheduled;
 pub use standard::Sha2;
 pub use windowed::compress_windowed;

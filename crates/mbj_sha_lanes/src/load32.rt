@@ -1,49 +1,151 @@
-//! Eight blocks and eight hash values as vectors: lane i has the words of block or hash value i.
-ghost use Rattle.std.specs.Prelude.{◌≡◌, ℕ, ◌+◌, ◌*◌, ◌<◌, ◌≤◌, [], length, slice_index, slice_index_or};
-ghost use Rattle.mbj_types.specs.Lanes.{lane_at};
-ghost use Rattle.sha2.specs.Sha256.{word_at};
+//! Blocks and hash values with words of 32 bits as vectors: lane i has the words of block or hash value i. Blocks are loaded
+//! 16 bytes at a time, and transposed in registers.
+ghost use Rattle.std.specs.Prelude.{◌≡◌, ℕ, ◌+◌, ◌^◌, ◌<◌, ◌≤◌, [], ◌∷◌, ◌++◌, length, slice_index, slice_index_or};
+ghost use Rattle.std.specs.Simd.Lanes.{pick_l};
+ghost use Rattle.mbj_types.specs.Lanes.{lane_at, lane_of};
+ghost use Rattle.mbj_sha_lanes.specs.Words.{words32};
+ghost use Rattle.mbj_sha_lanes.specs.Inside.Columns32.{quad, transposed};
 
-use std::simd::u32x8;
+use crate::blocks::Blocks;
+use mbj_types::Lane32;
+use std::simd::{u8x16, u32x8};
 
-// The word of 32 bits at byte i of a block, its highest byte first.
-#[inline(always)]
-fn word_of(block: &[u8; 64], i: usize) -> u32
-    requires { i + 4 ≤ 64 }
-    ensures { result ≡ word_at block.now i }
-{
-    u32::from_be_bytes([block[i], block[i + 1], block[i + 2], block[i + 3]])
+/// Lane words of 32 bits that are loaded from blocks.
+pub trait Load32: Lane32 {
+    /// The 16 words of each block (FIPS 180-4, 5.2): vector k has word k of block i in lane i.
+    fn block_words<B: Blocks>(blocks: &B) -> [Self; 16]
+        requires size { B.block_bytes ≡ 64 }
+        requires lent { (i : ℕ) → i < Self.LANES → B.lends blocks.now i }
+        ensures vectors { length result ≡ 16 }
+        ensures lanes { (i : ℕ) → i < Self.LANES → words32 (B.block blocks.now i) ≡ lane_of Self.lane result i };
+
+    /// The word in lane `i`.
+    fn word(self, i: usize) -> u32
+        requires { i < Self.LANES }
+        ensures { result ≡ Self.lane self i };
 }
 
-// Word k of each block.
+/// Four words of each of two blocks, from byte `at` on, the highest byte of a word first.
 #[inline(always)]
-fn word_lanes(blocks: &[[u8; 64]; 8], k: usize) -> u32x8
-    requires { k < 16 }
-    ensures { (i : ℕ) → i < 8 → lane_at 32 result i ≡ word_at (slice_index_or blocks.now i []) (4 * k) }
+fn pair(low: &[u8], high: &[u8], at: usize) -> u32x8
+    requires low { at + 16 ≤ length low.now }
+    requires high { at + 16 ≤ length high.now }
+    ensures words { result ≡ quad low.now at ++ quad high.now at }
+    ensures low { (k : ℕ) → slice_index low.now k < 2 ^ 8 }
+    ensures high { (k : ℕ) → slice_index high.now k < 2 ^ 8 }
 {
-    u32x8::from_array([
-        word_of(&blocks[0], 4 * k),
-        word_of(&blocks[1], 4 * k),
-        word_of(&blocks[2], 4 * k),
-        word_of(&blocks[3], 4 * k),
-        word_of(&blocks[4], 4 * k),
-        word_of(&blocks[5], 4 * k),
-        word_of(&blocks[6], 4 * k),
-        word_of(&blocks[7], 4 * k),
-    ])
+    let low = u8x16::from_slice(&low[at..]);
+    let high = u8x16::from_slice(&high[at..]);
+    u32x8::from_le_bytes(low.shuffle(
+        high,
+        [
+            3, 2, 1, 0, 7, 6, 5, 4, 11, 10, 9, 8, 15, 14, 13, 12, 19, 18, 17, 16, 23, 22, 21, 20,
+            27, 26, 25, 24, 31, 30, 29, 28,
+        ],
+    ))
 }
 
-/// The 16 words of each of eight blocks (FIPS 180-4, 5.2): vector k has word k of block i in lane i.
+/// The first two words of each block of two pairs, side by side.
 #[inline(always)]
-pub fn block_words(blocks: &[[u8; 64]; 8]) -> [u32x8; 16]
+fn low_words(a: u32x8, b: u32x8) -> u32x8
+    ensures { result ≡ pick_l 0 (a ++ b) (0 ∷ 8 ∷ 1 ∷ 9 ∷ 4 ∷ 12 ∷ 5 ∷ 13 ∷ []) }
+{
+    a.shuffle(b, [0, 8, 1, 9, 4, 12, 5, 13])
+}
+
+/// The last two words of each block of two pairs, side by side.
+#[inline(always)]
+fn high_words(a: u32x8, b: u32x8) -> u32x8
+    ensures { result ≡ pick_l 0 (a ++ b) (2 ∷ 10 ∷ 3 ∷ 11 ∷ 6 ∷ 14 ∷ 7 ∷ 15 ∷ []) }
+{
+    a.shuffle(b, [2, 10, 3, 11, 6, 14, 7, 15])
+}
+
+/// The first words of four pairs of blocks.
+#[inline(always)]
+fn low_halves(a: u32x8, b: u32x8) -> u32x8
+    ensures { result ≡ pick_l 0 (a ++ b) (0 ∷ 1 ∷ 8 ∷ 9 ∷ 4 ∷ 5 ∷ 12 ∷ 13 ∷ []) }
+{
+    a.shuffle(b, [0, 1, 8, 9, 4, 5, 12, 13])
+}
+
+/// The second words of four pairs of blocks.
+#[inline(always)]
+fn high_halves(a: u32x8, b: u32x8) -> u32x8
+    ensures { result ≡ pick_l 0 (a ++ b) (2 ∷ 3 ∷ 10 ∷ 11 ∷ 6 ∷ 7 ∷ 14 ∷ 15 ∷ []) }
+{
+    a.shuffle(b, [2, 3, 10, 11, 6, 7, 14, 15])
+}
+
+/// The words of four pairs of blocks, by word.
+#[inline(always)]
+fn transposed(a: u32x8, b: u32x8, c: u32x8, d: u32x8) -> [u32x8; 4]
+    ensures { result ≡ transposed a b c d }
+{
+    let low = low_words(a, b);
+    let low_on = low_words(c, d);
+    let high = high_words(a, b);
+    let high_on = high_words(c, d);
+    [
+        low_halves(low, low_on),
+        high_halves(low, low_on),
+        low_halves(high, high_on),
+        high_halves(high, high_on),
+    ]
+}
+
+/// The 16 words of each of the eight blocks from lane `first` on.
+#[inline(always)]
+fn eight_blocks<B: Blocks>(blocks: &B, first: usize) -> [u32x8; 16]
+    requires size { B.block_bytes ≡ 64 }
+    requires small { first < 2 ^ 32 }
+    requires lent { (i : ℕ) → i < 8 → B.lends blocks.now (first + i) }
     ensures vectors { length result ≡ 16 }
-    ensures words { (i k : ℕ) → i < 8 → k < 16
-        → lane_at 32 (slice_index_or result k []) i ≡ word_at (slice_index_or blocks.now i []) (4 * k) }
+    ensures lanes { (i : ℕ) → i < 8 → words32 (B.block blocks.now (first + i)) ≡ lane_of (lane_at 32) result i }
 {
-    let mut words = [u32x8::splat(0); 16];
-    'words: for k in 0..16 {
-        words[k] = word_lanes(blocks, k);
+    let (b0, b4) = (blocks.block(first), blocks.block(first + 4));
+    let (b1, b5) = (blocks.block(first + 1), blocks.block(first + 5));
+    let (b2, b6) = (blocks.block(first + 2), blocks.block(first + 6));
+    let (b3, b7) = (blocks.block(first + 3), blocks.block(first + 7));
+    let [w0, w1, w2, w3] = transposed(
+        pair(b0, b4, 0),
+        pair(b1, b5, 0),
+        pair(b2, b6, 0),
+        pair(b3, b7, 0),
+    );
+    let [w4, w5, w6, w7] = transposed(
+        pair(b0, b4, 16),
+        pair(b1, b5, 16),
+        pair(b2, b6, 16),
+        pair(b3, b7, 16),
+    );
+    let [w8, w9, w10, w11] = transposed(
+        pair(b0, b4, 32),
+        pair(b1, b5, 32),
+        pair(b2, b6, 32),
+        pair(b3, b7, 32),
+    );
+    let [w12, w13, w14, w15] = transposed(
+        pair(b0, b4, 48),
+        pair(b1, b5, 48),
+        pair(b2, b6, 48),
+        pair(b3, b7, 48),
+    );
+    [
+        w0, w1, w2, w3, w4, w5, w6, w7, w8, w9, w10, w11, w12, w13, w14, w15,
+    ]
+}
+
+impl Load32 for u32x8 {
+    #[inline(always)]
+    fn block_words<B: Blocks>(blocks: &B) -> [u32x8; 16] {
+        eight_blocks(blocks, 0)
     }
-    words
+
+    #[inline(always)]
+    fn word(self, i: usize) -> u32 {
+        self.to_array()[i]
+    }
 }
 
 #[inline(always)]
@@ -55,21 +157,19 @@ fn variable_of<const N: usize>(state: &[u32; N], j: usize) -> u32
     state[j]
 }
 
-/// Word j of each of eight hash values of N words: hash value i has it in lane i.
+/// Word j of each hash value of N words.
 #[inline(always)]
-pub fn state_lanes<const N: usize>(states: &[[u32; N]; 8], j: usize) -> u32x8
+pub fn state_words<const N: usize, const LANES: usize>(
+    states: &[[u32; N]; LANES],
+    j: usize,
+) -> [u32; LANES]
     requires { j < N }
-    ensures words { (i : ℕ) → i < 8 → lane_at 32 result i ≡ slice_index (slice_index_or states.now i []) j }
-    ensures lengths { (i : ℕ) → i < 8 → length (slice_index_or states.now i []) ≡ N }
+    ensures words { (i : ℕ) → i < LANES → lane_at 32 result i ≡ slice_index (slice_index_or states.now i []) j }
+    ensures lengths { (i : ℕ) → i < LANES → length (slice_index_or states.now i []) ≡ N }
 {
-    u32x8::from_array([
-        variable_of(&states[0], j),
-        variable_of(&states[1], j),
-        variable_of(&states[2], j),
-        variable_of(&states[3], j),
-        variable_of(&states[4], j),
-        variable_of(&states[5], j),
-        variable_of(&states[6], j),
-        variable_of(&states[7], j),
-    ])
+    let mut words = [0; LANES];
+    'states: for i in 0..LANES {
+        words[i] = variable_of(&states[i], j);
+    }
+    words
 }

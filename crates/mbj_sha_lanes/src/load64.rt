@@ -1,54 +1,91 @@
-//! Four blocks and four hash values as vectors: lane i has the words of block or hash value i.
-ghost use Rattle.std.specs.Prelude.{◌≡◌, ℕ, ◌+◌, ◌*◌, ◌<◌, ◌≤◌, [], length, slice_index, slice_index_or};
-ghost use Rattle.mbj_types.specs.Lanes.{lane_at};
-ghost use Rattle.sha2.specs.Sha512.{word_at};
+//! Blocks and hash values with words of 64 bits as vectors: lane i has the words of block or hash value i. Blocks are loaded
+//! 16 bytes at a time, and transposed in registers.
+ghost use Rattle.std.specs.Prelude.{◌≡◌, ℕ, ◌+◌, ◌^◌, ◌<◌, ◌≤◌, [], ◌++◌, length, slice_index, slice_index_or};
+ghost use Rattle.mbj_types.specs.Lanes.{lane_at, lane_of};
+ghost use Rattle.mbj_sha_lanes.specs.Words.{words64};
+ghost use Rattle.mbj_sha_lanes.specs.Inside.Columns64.{couple, transposed};
 
-use std::simd::u64x4;
+use crate::blocks::Blocks;
+use mbj_types::Lane64;
+use std::simd::{u8x16, u64x4};
 
-// The word of 64 bits at byte i of a block, its highest byte first.
-#[inline(always)]
-fn word_of(block: &[u8; 128], i: usize) -> u64
-    requires { i + 8 ≤ 128 }
-    ensures { result ≡ word_at block.now i }
-{
-    u64::from_be_bytes([
-        block[i],
-        block[i + 1],
-        block[i + 2],
-        block[i + 3],
-        block[i + 4],
-        block[i + 5],
-        block[i + 6],
-        block[i + 7],
-    ])
+/// Lane words of 64 bits that are loaded from blocks.
+pub trait Load64: Lane64 {
+    /// The 16 words of each block (FIPS 180-4, 5.2): vector k has word k of block i in lane i.
+    fn block_words<B: Blocks>(blocks: &B) -> [Self; 16]
+        requires size { B.block_bytes ≡ 128 }
+        requires lent { (i : ℕ) → i < Self.LANES → B.lends blocks.now i }
+        ensures vectors { length result ≡ 16 }
+        ensures lanes { (i : ℕ) → i < Self.LANES → words64 (B.block blocks.now i) ≡ lane_of Self.lane result i };
+
+    /// The word in lane `i`.
+    fn word(self, i: usize) -> u64
+        requires { i < Self.LANES }
+        ensures { result ≡ Self.lane self i };
 }
 
-// Word k of each block.
+/// Two words of each of two blocks, from byte `at` on, the highest byte of a word first.
 #[inline(always)]
-fn word_lanes(blocks: &[[u8; 128]; 4], k: usize) -> u64x4
-    requires { k < 16 }
-    ensures { (i : ℕ) → i < 4 → lane_at 64 result i ≡ word_at (slice_index_or blocks.now i []) (8 * k) }
+fn pair(low: &[u8], high: &[u8], at: usize) -> u64x4
+    requires low { at + 16 ≤ length low.now }
+    requires high { at + 16 ≤ length high.now }
+    ensures words { result ≡ couple low.now at ++ couple high.now at }
+    ensures low { (k : ℕ) → slice_index low.now k < 2 ^ 8 }
+    ensures high { (k : ℕ) → slice_index high.now k < 2 ^ 8 }
 {
-    u64x4::from_array([
-        word_of(&blocks[0], 8 * k),
-        word_of(&blocks[1], 8 * k),
-        word_of(&blocks[2], 8 * k),
-        word_of(&blocks[3], 8 * k),
-    ])
+    let low = u8x16::from_slice(&low[at..]);
+    let high = u8x16::from_slice(&high[at..]);
+    u64x4::from_le_bytes(low.shuffle(
+        high,
+        [
+            7, 6, 5, 4, 3, 2, 1, 0, 15, 14, 13, 12, 11, 10, 9, 8, 23, 22, 21, 20, 19, 18, 17, 16,
+            31, 30, 29, 28, 27, 26, 25, 24,
+        ],
+    ))
 }
 
-/// The 16 words of each of four blocks (FIPS 180-4, 5.2): vector k has word k of block i in lane i.
+/// The words of two pairs of blocks, by word.
 #[inline(always)]
-pub fn block_words(blocks: &[[u8; 128]; 4]) -> [u64x4; 16]
+fn transposed(a: u64x4, b: u64x4) -> [u64x4; 2]
+    ensures { result ≡ transposed a b }
+{
+    [a.shuffle(b, [0, 4, 2, 6]), a.shuffle(b, [1, 5, 3, 7])]
+}
+
+/// The 16 words of each of the four blocks from lane `first` on.
+#[inline(always)]
+fn four_blocks<B: Blocks>(blocks: &B, first: usize) -> [u64x4; 16]
+    requires size { B.block_bytes ≡ 128 }
+    requires small { first < 2 ^ 32 }
+    requires lent { (i : ℕ) → i < 4 → B.lends blocks.now (first + i) }
     ensures vectors { length result ≡ 16 }
-    ensures words { (i k : ℕ) → i < 4 → k < 16
-        → lane_at 64 (slice_index_or result k []) i ≡ word_at (slice_index_or blocks.now i []) (8 * k) }
+    ensures lanes { (i : ℕ) → i < 4 → words64 (B.block blocks.now (first + i)) ≡ lane_of (lane_at 64) result i }
 {
-    let mut words = [u64x4::splat(0); 16];
-    'words: for k in 0..16 {
-        words[k] = word_lanes(blocks, k);
+    let (b0, b2) = (blocks.block(first), blocks.block(first + 2));
+    let (b1, b3) = (blocks.block(first + 1), blocks.block(first + 3));
+    let [w0, w1] = transposed(pair(b0, b2, 0), pair(b1, b3, 0));
+    let [w2, w3] = transposed(pair(b0, b2, 16), pair(b1, b3, 16));
+    let [w4, w5] = transposed(pair(b0, b2, 32), pair(b1, b3, 32));
+    let [w6, w7] = transposed(pair(b0, b2, 48), pair(b1, b3, 48));
+    let [w8, w9] = transposed(pair(b0, b2, 64), pair(b1, b3, 64));
+    let [w10, w11] = transposed(pair(b0, b2, 80), pair(b1, b3, 80));
+    let [w12, w13] = transposed(pair(b0, b2, 96), pair(b1, b3, 96));
+    let [w14, w15] = transposed(pair(b0, b2, 112), pair(b1, b3, 112));
+    [
+        w0, w1, w2, w3, w4, w5, w6, w7, w8, w9, w10, w11, w12, w13, w14, w15,
+    ]
+}
+
+impl Load64 for u64x4 {
+    #[inline(always)]
+    fn block_words<B: Blocks>(blocks: &B) -> [u64x4; 16] {
+        four_blocks(blocks, 0)
     }
-    words
+
+    #[inline(always)]
+    fn word(self, i: usize) -> u64 {
+        self.to_array()[i]
+    }
 }
 
 #[inline(always)]
@@ -60,17 +97,19 @@ fn variable_of<const N: usize>(state: &[u64; N], j: usize) -> u64
     state[j]
 }
 
-/// Word j of each of four hash values of N words: hash value i has it in lane i.
+/// Word j of each hash value of N words.
 #[inline(always)]
-pub fn state_lanes<const N: usize>(states: &[[u64; N]; 4], j: usize) -> u64x4
+pub fn state_words<const N: usize, const LANES: usize>(
+    states: &[[u64; N]; LANES],
+    j: usize,
+) -> [u64; LANES]
     requires { j < N }
-    ensures words { (i : ℕ) → i < 4 → lane_at 64 result i ≡ slice_index (slice_index_or states.now i []) j }
-    ensures lengths { (i : ℕ) → i < 4 → length (slice_index_or states.now i []) ≡ N }
+    ensures words { (i : ℕ) → i < LANES → lane_at 64 result i ≡ slice_index (slice_index_or states.now i []) j }
+    ensures lengths { (i : ℕ) → i < LANES → length (slice_index_or states.now i []) ≡ N }
 {
-    u64x4::from_array([
-        variable_of(&states[0], j),
-        variable_of(&states[1], j),
-        variable_of(&states[2], j),
-        variable_of(&states[3], j),
-    ])
+    let mut words = [0; LANES];
+    'states: for i in 0..LANES {
+        words[i] = variable_of(&states[i], j);
+    }
+    words
 }

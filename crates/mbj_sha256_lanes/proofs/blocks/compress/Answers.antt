@@ -1,22 +1,11 @@
-use Rattle.std.proofs.Common.{◌≡◌, ℕ, List, [], length, slice_index_or, sym, ap, ◌∙◌, arith}
+use Rattle.std.proofs.Common.{List, ℕ, [], slice_index_or, ap, ◌∙◌, arith}
 use Rattle.sha2.specs.Sha256.{compress}
-use Rattle.mbj_types.specs.Lanes.{lane_at, lane_of}
-use Rattle.mbj_types.proofs.LaneLists.{length-lane_of, slice_index-lane_of}
-use Rattle.mbj_sha_lanes.proofs.EightWords.{eight_of, eight_at}
-use Rattle.mbj_sha256_lanes.proofs.BlockWords.{words_of}
+use Rattle.mbj_sha256_lanes.proofs.BlockWords.{first_words_is}
 use Rattle.mbj_sha256_lanes.proofs.blocks.compress.Goals as goal
 
 pub returns : goal.returns
-returns c i h =
-    let lane = lane_at 32 in
+returns c i lt =
     let block : List ℕ = slice_index_or c.args.blocks.now i [] in
-    let state : List ℕ = slice_index_or c.args.states.now i [] in
-    let ws = c.block_words-words.result in
-    let sixteen : length ws ≡ 16 = c.block_words-words.ensures.vectors in
-    let words = words_of block (lane_of lane ws i) (length-lane_of lane ws i ∙ sixteen)
-    (λ k lt. slice_index-lane_of lane ws i k [] (omega arith) ∙ c.block_words-words.ensures.words i k h lt) in
-    let start = eight_of state _ _ _ _ _ _ _ _ (c.state_lanes.ensures.lengths i h)
-    (c.state_lanes.ensures.words i h) (c.state_lanes-2.ensures.words i h) (c.state_lanes-3.ensures.words i h) (c.state_lanes-4.ensures.words i h)
-    (c.state_lanes-5.ensures.words i h) (c.state_lanes-6.ensures.words i h) (c.state_lanes-7.ensures.words i h) (c.state_lanes-8.ensures.words i h) in
-    c.states.invariant.1 i (omega arith) ∙ sym (eight_at lane c.compress_lanes.new.states i c.compress_lanes.auto.states)
-    ∙ c.compress_lanes.ensures i block h words ∙ ap (λ s. compress s block) start
+    c.states.invariant.done i (omega arith)
+    ∙ c.compress_lanes.ensures i block lt (first_words_is block ∙ c.block_words-words.ensures.lanes i lt)
+    ∙ ap (λ s. compress s block) (c.gathered-lanes.ensures.lanes i lt)

@@ -1,9 +1,10 @@
-use Rattle.std.proofs.Common.{◌≡◌, ℕ, ◌<◌, [], ◌∷◌, length, slice_index_or}
-use Rattle.mbj_types.specs.Lanes.{lane_at}
+use Rattle.std.proofs.Common.{◌≡◌, ℕ, ◌<◌, [], length, slice_index_or}
+use Rattle.mbj_types.specs.Lanes.{lane_at, lane_of}
+use Rattle.mbj_types.specs.declared.kind.TheConstants.{SHA512_LANES}
 use Rattle.mbj_sha512_lanes.proofs.blocks.compress.Given as goal
 
 abbrev pub invariant-states : goal.invariant-states
-invariant-states l = (length l.states ≡ 4)
-    × ((j : ℕ) → j < l.i → slice_index_or l.states j []
-    ≡ lane_at 64 l.a j ∷ lane_at 64 l.b j ∷ lane_at 64 l.c j ∷ lane_at 64 l.d j
-    ∷ lane_at 64 l.e j ∷ lane_at 64 l.f j ∷ lane_at 64 l.g j ∷ lane_at 64 l.h j ∷ [])
+invariant-states l = record {
+  long : length l.states ≡ SHA512_LANES;
+  done : (j : ℕ) → j < l.i → slice_index_or l.states j [] ≡ lane_of (lane_at 64) l.lanes j;
+}

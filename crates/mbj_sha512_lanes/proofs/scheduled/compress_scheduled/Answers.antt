@@ -2,7 +2,7 @@ use Rattle.std.proofs.Common.{sym, ap, ◌∙◌}
 use Rattle.std.proofs.lemmas.List.{take-map}
 use Rattle.sha2.specs.Sha512.{compress}
 use Rattle.mbj_types.specs.Lanes.{lane_at, lane_of}
-use Rattle.mbj_sha512_lanes.proofs.lanes.compress_four.Goals as goal
+use Rattle.mbj_sha512_lanes.proofs.scheduled.compress_scheduled.Goals as goal
 
 pub returns-clause-each : goal.returns-clause-each
 unfolding compress

@@ -1,6 +1,6 @@
 use Rattle.std.proofs.Common.{length, ap, ◌∙◌}
 use Rattle.std.proofs.lemmas.List.{take_at}
-use Rattle.mbj_sha512_lanes.proofs.lanes.with_room.Goals as goal
+use Rattle.mbj_sha512_lanes.proofs.scheduled.with_room.Goals as goal
 
 pub returns-clause-words : goal.returns-clause-words
 returns-clause-words c =
