@@ -2,7 +2,7 @@
 use Rattle.std.proofs.Common.{◌≡◌, ℕ, ◌+◌, ◌-◌, ◌*◌, ◌^◌, ◌≤◌, ◌<◌, List, ◌++◌, length, take, drop, refl, ap, ap₂, arith, length-drop}
 use Rattle.std.proofs.lemmas.List.{length-take-le, length-map}
 use Rattle.std.specs.Prelude.{bit_xor}
-use Rattle.mbj_types.specs.declared.job.Auth.{Auth}
+use Rattle.mbj_types.specs.declared.class.HashName.{HashName}
 use Rattle.mbj_types.specs.Hmac.{padded_key, ipad, opad}
 use Rattle.mbj_hmac.specs.Rounds.{Chaining}
 use Rattle.mbj_hmac.specs.Inside.Layout.{IsStandard, whole_blocks, tail_blocks, first_ends}
@@ -62,7 +62,7 @@ module _ (h : Chaining) (std : IsStandard h) (key packet : List ℕ) (off len : 
   ends_whole = omega arith
 
   -- the pieces, and the digest of a hash value s behind them
-  pub ends_made : (a : Auth) (s zeros x y z : List ℕ) → s ≡ zeros → x ≡ pad_block ipad → y ≡ text_end → z ≡ pad_block opad
+  pub ends_made : (a : HashName) (s zeros x y z : List ℕ) → s ≡ zeros → x ≡ pad_block ipad → y ≡ text_end → z ≡ pad_block opad
       → (((x ++ y) ++ h.padding (b + len)) ++ z) ++ (h.digest a s ++ h.padding (b + length (h.digest a s)))
       ≡ first_ends h a (pad_block ipad) (pad_block opad) zeros packet off len
   ends_made a s zeros x y z es ex ey ez = rw (es, ex, ey, ez) refl

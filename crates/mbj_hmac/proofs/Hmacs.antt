@@ -1,17 +1,17 @@
 -- The end of a new entry is its HMAC.
 use Rattle.std.proofs.Common.{◌≡◌, ℕ, ◌+◌, ◌/◌, ◌*◌, ◌^◌, ◌≤◌, ◌<◌, List, ◌++◌, length, take, drop, sym, ap, ◌∙◌, arith, length-append, length-drop, refl}
 use Rattle.std.proofs.lemmas.List.{length-take-le}
-use Rattle.mbj_types.specs.declared.job.Auth.{Auth}
+use Rattle.mbj_types.specs.declared.class.HashName.{HashName}
 use Rattle.mbj_types.specs.Hmac.{Hash, hmac, block_key, padded_key, ipad, opad}
 use Rattle.mbj_types.specs.Rounds.{hmac_rounds}
 use Rattle.mbj_lane.specs.Rounds.{end_of}
-use Rattle.mbj_hmac.specs.Rounds.{Chaining, hashed, padded, round, rest_of, started}
+use Rattle.mbj_hmac.specs.Rounds.{Chaining, Going, hashed, padded, round, rest_of, started}
 use Rattle.mbj_hmac.specs.Inside.Layout.{IsStandard, tail_blocks}
 use Rattle.mbj_hmac.proofs.Numbers.{blocks, rounds_is, split, fill_is}
-use Rattle.mbj_hmac.proofs.RoundEnds.{end_digest, end_packet}
+use Rattle.mbj_hmac.proofs.RoundEnds.{end_digest, end_hash, end_packet}
 use Rattle.mbj_hmac.proofs.Laid.{length-padding, length-padded}
 
-module _ (h : Chaining) (std : IsStandard h) (a : Auth) (front back packet : List ℕ) (off len : ℕ) where
+module _ (h : Chaining) (std : IsStandard h) (a : HashName) (front back packet : List ℕ) (off len : ℕ) where
   abbrev b : ℕ
   b = h.block_bytes
 
@@ -35,13 +35,14 @@ module _ (h : Chaining) (std : IsStandard h) (a : Auth) (front back packet : Lis
   pub hmac_end : (hash : Hash) (key : List ℕ) → ((m : List ℕ) → hash.digest m ≡ h.digest a (hashed h a m))
       → front ≡ padded_key ipad (block_key hash key) → back ≡ padded_key opad (block_key hash key)
       → length front ≡ b → length back ≡ b → off + len ≤ length packet → len < 2 ^ 32
-      → h.digest a (end_of (round h) rest_of (started h a front back packet off len)).chain ≡ hmac hash key msg
+      → (let end : Going = end_of (round h) rest_of (started h a front back packet off len) in h.digest end.hash end.chain) ≡ hmac hash key msg
   unfolding hmac
   hmac_end hash key is ef eb lf lb range small =
       let two : length (padded h (back ++ h.digest a (hashed h a (front ++ msg)))) / b ≡ 2 =
       let l = length-padded h std a back (hashed h a (front ++ msg)) lb in
       blocks b std.size 2 (length (padded h (back ++ h.digest a (hashed h a (front ++ msg))))) (omega (arith, l)) in
-      end_digest h a front back packet off len (rounds lf range small) two
+      ap (λ n. h.digest n (end_of (round h) rest_of (started h a front back packet off len)).chain) (end_hash h a front back packet off len (rounds lf range small))
+      ∙ end_digest h a front back packet off len (rounds lf range small) two
       ∙ sym (is (back ++ h.digest a (hashed h a (front ++ msg))))
       ∙ ap (λ x. hash.digest (back ++ x)) (sym (is (front ++ msg)))
       ∙ rw (ef, eb) refl

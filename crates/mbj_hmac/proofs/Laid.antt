@@ -3,7 +3,7 @@ use Rattle.std.proofs.Common.{◌≡◌, ℕ, zero, suc, ◌+◌, ◌-◌, ◌*�
 use Rattle.std.proofs.lemmas.List.{length-take-le, take_at, append_assoc}
 use Rattle.std.proofs.lemmas.Bool.{le-leb}
 use Rattle.std.specs.Prelude.{nat_le}
-use Rattle.mbj_types.specs.declared.job.Auth.{Auth}
+use Rattle.mbj_types.specs.declared.class.HashName.{HashName}
 use Rattle.mbj_hmac.specs.Rounds.{Chaining, Going, padded, message, inner_text, outer_text, block_before}
 use Rattle.mbj_hmac.specs.Inside.Layout.{IsStandard, whole_blocks, tail_blocks, fill, seen, IsSound}
 use Rattle.mbj_hmac.proofs.Numbers.{size_range, tail_range, split, rounds_is, fill_is, fill_on, piece_fill, length-padding_of, times_le, blocks}
@@ -20,7 +20,7 @@ module _ (h : Chaining) (std : IsStandard h) where
       ap length (std.pads (b + n) room) ∙ length-padding_of b std.size (b + n) ∙ ap (λ k. 1 + k + 8) (fill_on b std.size n)
 
   -- a block and a digest, padded
-  pub length-padded : (a : Auth) (back s : List ℕ) → length back ≡ b → length (padded h (back ++ h.digest a s)) ≡ b + b
+  pub length-padded : (a : HashName) (back s : List ℕ) → length back ≡ b → length (padded h (back ++ h.digest a s)) ≡ b + b
   length-padded a back s l =
       let d : List ℕ = h.digest a s in
       let bd : length (back ++ d) ≡ b + length d = length-append back d ∙ ap (λ n. n + length d) l in
@@ -30,7 +30,7 @@ module _ (h : Chaining) (std : IsStandard h) where
       ap (λ n. length (h.padding n)) bd ∙ ap length (std.pads (b + length d) room) ∙ length-padding_of b std.size (b + length d) in
       omega (arith, length-append (back ++ d) (h.padding (length (back ++ d))), piece_fill b std.size (length d) small)
 
-  module _ (packet chain inner : List ℕ) (a : Auth) (ends : List ℕ) (rest off len : ℕ) where
+  module _ (packet chain inner : List ℕ) (a : HashName) (ends : List ℕ) (rest off len : ℕ) where
     abbrev e : Going
     e = seen h packet rest chain inner a ends off len
 

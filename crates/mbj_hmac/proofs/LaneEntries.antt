@@ -1,5 +1,5 @@
 -- The entries that the lanes read, and the blocks of a pass over them.
-use Rattle.std.proofs.Common.{◌≡◌, ℕ, ◌+◌, ◌-◌, ◌≤◌, ◌<◌, nat_lt, List, [], ◌∷◌, All, length, get_or, set, Bool, true, false, refl, sym, ap, ap₂, ◌∙◌, add-one, arith}
+use Rattle.std.proofs.Common.{◌≡◌, ℕ, ◌+◌, ◌-◌, ◌≤◌, ◌<◌, nat_lt, List, All, length, get_or, set, Bool, true, false, refl, sym, ap, ◌∙◌, add-one, arith}
 use Rattle.std.specs.Prelude.{if◌then◌else◌}
 use Rattle.std.proofs.lemmas.Bool.{ltb-true, lt-ltb}
 use Rattle.std.proofs.lemmas.List.{get_or_default}
@@ -7,7 +7,7 @@ use Rattle.mbj_lane.specs.Rounds.{after}
 use Rattle.mbj_lane.proofs.Halfway.{halfway, get_or-halfway, set-halfway}
 use Rattle.mbj_hmac.specs.Rounds.{Chaining, Going, advanced, block_before}
 use Rattle.mbj_hmac.specs.Inside.Going.{blank, lane_going}
-use Rattle.mbj_hmac.proofs.Passes.{after_moved, chain_next, eight}
+use Rattle.mbj_hmac.proofs.Passes.{after_moved, chain_next}
 
 -- what every entry has left, the entry of each lane has
 pub rests_in_lanes : (es : List Going) (m i : ℕ) → 0 < length es → All (λ e. m ≤ e.rest) es → m ≤ (lane_going es i).rest
@@ -33,32 +33,17 @@ pub states_of_entries : (h : Chaining) (lane : ℕ → List ℕ) (es : List Goin
 states_of_entries h lane es m n few led i d lt =
     led i (omega arith) ∙ ap (λ (e : Going). (after (advanced h) m e).chain) (lane_going-inside es i d lt)
 
--- the entry of one of eight lanes isn't done before round m
-pub block_left : (es : List Going) (m d i : ℕ) (e : Going) → e ≡ lane_going es i
-    → ((k : ℕ) → k < 8 → m ≤ (lane_going es k).rest) → nat_lt i 8 ≡ true → d < m → d < e.rest
-block_left es m d i e is rests few lt =
-    let left : m ≤ (lane_going es i).rest = rests i (ltb-true i 8 few) in rw is (omega arith)
-
-module _ (h : Chaining) (es : List Going) (d : ℕ) where
-  -- the block of lane i that comes after d others
-  abbrev pub IsBlock : ℕ → List ℕ → Type 0
-  IsBlock i b = b ≡ block_before h (lane_going es i) ((lane_going es i).rest - d)
-
-  -- that of the lane's entry
-  pub block_in_lane : (i : ℕ) (b : List ℕ) (e : Going) → b ≡ block_before h e (e.rest - d) → e ≡ lane_going es i → IsBlock i b
-  block_in_lane i b e block is = block ∙ ap (λ (x : Going). block_before h x (x.rest - d)) is
+module _ (h : Chaining) (es : List Going) (m d i : ℕ) where
+  -- the entry of a lane isn't done before round m
+  pub lane_left : 0 < length es → ((k : ℕ) → m ≤ (lane_going es k).rest) → d < m → (0 < length es) × (d < (lane_going es i).rest)
+  lane_left some rests lt = (some, omega (arith, rests i))
 
   -- a pass leads the state of a lane by one block
-  pub pass_led : (b0 b1 b2 b3 b4 b5 b6 b7 now led : List ℕ) (i n : ℕ) → i < n → n ≤ 8
-      → IsBlock 0 b0 → IsBlock 1 b1 → IsBlock 2 b2 → IsBlock 3 b3 → IsBlock 4 b4 → IsBlock 5 b5 → IsBlock 6 b6 → IsBlock 7 b7
-      → now ≡ (after (advanced h) d (lane_going es i)).chain
-      → led ≡ h.compress now (get_or (b0 ∷ b1 ∷ b2 ∷ b3 ∷ b4 ∷ b5 ∷ b6 ∷ b7 ∷ []) i [])
+  pub pass_led : (now led : List ℕ) → now ≡ (after (advanced h) d (lane_going es i)).chain
+      → led ≡ h.compress now (block_before h (lane_going es i) ((lane_going es i).rest - d))
       → led ≡ (after (advanced h) (d + 1) (lane_going es i)).chain
-  pass_led b0 b1 b2 b3 b4 b5 b6 b7 now led i n lt few h0 h1 h2 h3 h4 h5 h6 h7 state next =
-      let bs : List (List ℕ) = b0 ∷ b1 ∷ b2 ∷ b3 ∷ b4 ∷ b5 ∷ b6 ∷ b7 ∷ [] in
-      let block : IsBlock i (get_or bs i []) =
-      eight (λ j. IsBlock j (get_or bs j [])) h0 h1 h2 h3 h4 h5 h6 h7 i (omega arith) in
-      next ∙ ap₂ (λ s x. h.compress s x) state block ∙ sym (chain_next h d (lane_going es i))
+  pass_led now led state next =
+      next ∙ ap (λ s. h.compress s (block_before h (lane_going es i) ((lane_going es i).rest - d))) state ∙ sym (chain_next h d (lane_going es i))
 
 -- the first i of the entries es are led by m rounds, and entry i is next
 module _ (h : Chaining) (m i : ℕ) (es now : List Going) (d : Going) where

@@ -2,8 +2,8 @@
 use Rattle.std.proofs.Common.{◌≡◌, ℕ, ◌+◌, ◌-◌, ◌*◌, ◌^◌, ◌≤◌, ◌<◌, List, ◌++◌, length, take, drop, refl, sym, ap, ap₂, ◌∙◌, arith, length-append, length-drop}
 use Rattle.std.proofs.lemmas.List.{length-take-le, take_at, take-take, drop-append-le, drop-take, drop-drop, append_assoc}
 use Rattle.std.proofs.Math.Seq.{drop-append-add, drop-append_seam}
-use Rattle.std.specs.Prelude.{replicate}
-use Rattle.mbj_types.specs.declared.job.Auth.{Auth}
+use Rattle.std.specs.Prelude.{replicate, IsTrue}
+use Rattle.mbj_types.specs.declared.class.HashName.{HashName}
 use Rattle.mbj_types.specs.Rounds.{hmac_rounds}
 use Rattle.mbj_hmac.specs.Rounds.{Chaining, padded, started}
 use Rattle.mbj_hmac.specs.Inside.Layout.{IsStandard, whole_blocks, tail_blocks, first_ends, seen, IsSound}
@@ -11,7 +11,7 @@ use Rattle.mbj_hmac.proofs.Numbers.{times_le, split, fill_is}
 use Rattle.mbj_hmac.proofs.Texts.{block_right, block_take}
 use Rattle.mbj_hmac.proofs.Laid.{length-padding}
 
-module _ (h : Chaining) (std : IsStandard h) (packet : List ℕ) (a : Auth) (ends front back zeros : List ℕ) (off len : ℕ) where
+module _ (h : Chaining) (std : IsStandard h) (packet : List ℕ) (a : HashName) (ends front back zeros : List ℕ) (off len : ℕ) where
   abbrev b : ℕ
   b = h.block_bytes
 
@@ -43,6 +43,7 @@ module _ (h : Chaining) (std : IsStandard h) (packet : List ℕ) (a : Auth) (end
     pub range : off + len ≤ length packet
     pub small : len < 2 ^ 32
     pub whole : length ends ≡ 5 * b
+    pub served : IsTrue (h.serves a)
     pub ends_are : take (b * (t + 3)) ends ≡ written
 
   module _ (f : Facts) where
@@ -108,7 +109,7 @@ module _ (h : Chaining) (std : IsStandard h) (packet : List ℕ) (a : Auth) (end
         sym (append_assoc back digest (h.padding (b + length digest))) ∙ ap (λ k. (back ++ digest) ++ h.padding k) (sym n) in
         let laid : take (b * (t + 2)) (drop b ends) ≡ drop (b * (w + 1)) (padded h (front ++ msg)) ++ padded h (back ++ digest) =
         tail_laid ∙ ap₂ (λ x y. x ++ y) (sym text_tail) o in
-        (f.range, omega (arith, r), f.small, rw (front_laid, back_laid) laid, f.whole)
+        (f.range, omega (arith, r), f.small, rw (front_laid, back_laid) laid, f.whole, f.served)
 
     pub new_seen : (rest : ℕ) → rest ≡ hmac_rounds b len → zeros ≡ replicate h.words 0
         → seen h packet rest (h.initial a) zeros a ends off len ≡ started h a front back packet off len

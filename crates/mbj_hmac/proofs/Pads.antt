@@ -1,18 +1,13 @@
 -- The key with a pad, as an entry takes it from the key of a block.
-use Rattle.std.proofs.Common.{◌≡◌, ℕ, ◌≤◌, List, ◌++◌, length, take, ap, ◌∙◌, arith, Option, Some, None, refl}
-use Rattle.std.specs.Prelude.{replicate, IfSome}
-use Rattle.mbj_types.specs.declared.job.Auth.{Auth}
+use Rattle.std.proofs.Common.{◌≡◌, ℕ, ◌≤◌, List, ◌++◌, length, take, ap, ◌∙◌, arith}
+use Rattle.std.specs.Prelude.{replicate}
+use Rattle.mbj_types.specs.declared.class.HashName.{HashName}
 use Rattle.mbj_types.specs.Hmac.{Hash, block_key, padded_key}
 use Rattle.mbj_hmac.specs.Rounds.{Chaining, hashed}
 use Rattle.mbj_hmac.specs.Inside.Layout.{IsStandard}
 use Rattle.mbj_hmac.proofs.Keys.{padded_key-front, length-block_key}
 
--- what follows of the hash that an option names
-pub for_some : (o : Option Hash) (P Q : Hash → Type 0) → ((h : Hash) → o ≡ Some h → P h → Q h) → IfSome o P → IfSome o Q
-for_some None P Q f x = x
-for_some (Some h) P Q f x = f h refl x
-
-module _ (h : Chaining) (std : IsStandard h) (a : Auth) (hash : Hash) (key x : List ℕ) where
+module _ (h : Chaining) (std : IsStandard h) (a : HashName) (hash : Hash) (key x : List ℕ) where
   -- the first bytes of a key of a block that is filled up with zeros, with a pad
   pub pad_of : (pad n : ℕ) → ((m : List ℕ) → hash.digest m ≡ h.digest a (hashed h a m)) → hash.block_bytes ≡ h.block_bytes
       → x ≡ block_key hash key ++ replicate n 0 → take h.block_bytes (padded_key pad x) ≡ padded_key pad (block_key hash key)

@@ -11,18 +11,6 @@ use Rattle.mbj_hmac.specs.Rounds.{Chaining, Going, block_before, advanced, turne
 use Rattle.mbj_hmac.specs.Inside.Going.{reach_of}
 use Rattle.mbj_hmac.specs.Laws.Falls.{turned_rest, falls}
 
--- what holds at each of eight places
-pub eight : (P : ℕ → Type 0) → P 0 → P 1 → P 2 → P 3 → P 4 → P 5 → P 6 → P 7 → (i : ℕ) → i < 8 → P i
-eight P p0 p1 p2 p3 p4 p5 p6 p7 zero lt = p0
-eight P p0 p1 p2 p3 p4 p5 p6 p7 (suc zero) lt = p1
-eight P p0 p1 p2 p3 p4 p5 p6 p7 (suc (suc zero)) lt = p2
-eight P p0 p1 p2 p3 p4 p5 p6 p7 (suc (suc (suc zero))) lt = p3
-eight P p0 p1 p2 p3 p4 p5 p6 p7 (suc (suc (suc (suc zero)))) lt = p4
-eight P p0 p1 p2 p3 p4 p5 p6 p7 (suc (suc (suc (suc (suc zero))))) lt = p5
-eight P p0 p1 p2 p3 p4 p5 p6 p7 (suc (suc (suc (suc (suc (suc zero)))))) lt = p6
-eight P p0 p1 p2 p3 p4 p5 p6 p7 (suc (suc (suc (suc (suc (suc (suc zero))))))) lt = p7
-eight P p0 p1 p2 p3 p4 p5 p6 p7 i lt = absurd (omega arith)
-
 module _ (h : Chaining) where
   -- blocks change the hash value and the rest alone
   pub after_moved : (d : ℕ) (e : Going) → after (advanced h) d e ≡ record e { chain = (after (advanced h) d e).chain; rest = e.rest - d }

@@ -2,7 +2,7 @@
 use Rattle.std.proofs.Common.{◌≡◌, ℕ, zero, suc, ◌+◌, ◌-◌, ◌/◌, List, ◌++◌, length, take, drop, refl, sym, ap, ◌∙◌, arith, rules, true, false, eqb}
 use Rattle.std.specs.Prelude.{nat_le, replicate}
 use Rattle.std.proofs.lemmas.Bool.{le-leb}
-use Rattle.mbj_types.specs.declared.job.Auth.{Auth}
+use Rattle.mbj_types.specs.declared.class.HashName.{HashName}
 use Rattle.mbj_types.specs.Rounds.{hmac_rounds}
 use Rattle.mbj_lane.specs.Rounds.{after, end_of}
 use Rattle.mbj_lane.proofs.Led.{after-one_more}
@@ -11,7 +11,7 @@ use Rattle.mbj_hmac.specs.Rounds.{Chaining, Going, padded, block_at, chained, ha
 two : (k : ℕ) → k + 1 + 1 ≡ k + 2
 two k = omega arith
 
-module _ (h : Chaining) (a : Auth) (front back packet : List ℕ) (off len : ℕ) where
+module _ (h : Chaining) (a : HashName) (front back packet : List ℕ) (off len : ℕ) where
   -- the entry with a rest and hash values
   abbrev at : ℕ → List ℕ → List ℕ → Going
   at rest chain inner = record {
@@ -19,7 +19,7 @@ module _ (h : Chaining) (a : Auth) (front back packet : List ℕ) (off len : ℕ
     rest = rest;
     chain = chain;
     inner = inner;
-    auth = a;
+    hash = a;
     front = front;
     back = back;
     off = off;
@@ -67,6 +67,10 @@ module _ (h : Chaining) (a : Auth) (front back packet : List ℕ) (off len : ℕ
       → h.digest a (end_of (round h) rest_of (started h a front back packet off len)).chain
       ≡ h.digest a (hashed h a (back ++ h.digest a (hashed h a (front ++ take len (drop off packet)))))
   end_digest r two = ap (λ (e : Going). h.digest a e.chain) (run_end r) ∙ ap (λ n. h.digest a (chained h a outer n)) (sym two)
+
+  -- so is the hash
+  pub end_hash : hmac_rounds h.block_bytes len ≡ blocks + 2 → (end_of (round h) rest_of (started h a front back packet off len)).hash ≡ a
+  end_hash r = ap (λ (e : Going). e.hash) (run_end r)
 
   pub end_packet : hmac_rounds h.block_bytes len ≡ blocks + 2 → (end_of (round h) rest_of (started h a front back packet off len)).packet ≡ packet
   end_packet r = ap (λ (e : Going). e.packet) (run_end r)

@@ -1,14 +1,14 @@
 -- Before the round of the outer pad the inner digest is written.
 use Rattle.std.proofs.Common.{◌≡◌, ℕ, ◌+◌, ◌*◌, ◌≤◌, List, ◌++◌, length, take, drop, refl, sym, ap, ◌∙◌, arith, length-append}
 use Rattle.std.proofs.lemmas.List.{length-take-le, take_at, append_assoc, take-take, take-append-le, drop-append-le, drop-take}
-use Rattle.mbj_types.specs.declared.job.Auth.{Auth}
+use Rattle.mbj_types.specs.declared.class.HashName.{HashName}
 use Rattle.mbj_hmac.specs.Rounds.{Chaining, Going, padded, inner_text, turned}
 use Rattle.mbj_hmac.specs.Inside.Layout.{IsStandard, whole_blocks, tail_blocks, seen, IsSound}
 use Rattle.mbj_hmac.proofs.Numbers.{size_range, tail_range, times_le}
 use Rattle.mbj_hmac.proofs.Texts.{block_take}
 use Rattle.mbj_hmac.proofs.Laid.{length-back, length-tail}
 
-module _ (h : Chaining) (std : IsStandard h) (packet chain inner : List ℕ) (a : Auth) (ends after : List ℕ) (rest off len : ℕ) where
+module _ (h : Chaining) (std : IsStandard h) (packet chain inner : List ℕ) (a : HashName) (ends after : List ℕ) (rest off len : ℕ) where
   abbrev b : ℕ
   b = h.block_bytes
 
@@ -73,7 +73,7 @@ module _ (h : Chaining) (std : IsStandard h) (packet chain inner : List ℕ) (a 
       ∙ drop-append-le b (take at ends) last inside
       ∙ ap (λ x. x ++ last) (before s) ∙ append_assoc tail e.back last
       ∙ ap (λ x. tail ++ x) (sym (append_assoc e.back d (h.padding (b + length d))) ∙ ap (λ k. (e.back ++ d) ++ h.padding k) (sym n)) in
-      (s.0, s.1, s.2, rw (same_front s w, same_back s w) laid, l)
+      (s.0, s.1, s.2, rw (same_front s w, same_back s w) laid, l, s.5)
 
   pub turned_seen : IsSound h ends e → take (at + b) after ≡ take at ends ++ last → rest ≡ 2
       → seen h packet rest (h.initial a) chain a after off len ≡ turned h e

@@ -3,7 +3,7 @@ use Rattle.std.proofs.Common.{◌≡◌, ℕ, ◌+◌, ◌*◌, ◌≤◌, ◌<�
 use Rattle.std.proofs.lemmas.List.{append_assoc, length-replicate}
 use Rattle.std.specs.Prelude.{replicate}
 use Rattle.std.specs.Int.{w64, to_be_bytes}
-use Rattle.mbj_types.specs.declared.job.Auth.{Auth}
+use Rattle.mbj_types.specs.declared.class.HashName.{HashName}
 use Rattle.mbj_hmac.specs.Rounds.{Chaining}
 use Rattle.mbj_hmac.specs.Inside.Layout.{IsStandard, fill}
 use Rattle.mbj_hmac.proofs.Numbers.{fill_on, piece_fill, size_range, length-padding_of}
@@ -44,7 +44,7 @@ module _ (h : Chaining) (std : IsStandard h) where
       ∙ ap₂ (λ p q. p ++ q) (sym ex) (sym ey)
 
   -- a digest and its padding are a block
-  pub digest_full : (a : Auth) (s : List ℕ) → length (h.digest a s) + length (h.padding (b + length (h.digest a s))) ≡ b
+  pub digest_full : (a : HashName) (s : List ℕ) → length (h.digest a s) + length (h.padding (b + length (h.digest a s))) ≡ b
   digest_full a s =
       let n : ℕ = length (h.digest a s) in
       let small : n + 1 + b / 8 ≤ b = std.room a s in
@@ -52,7 +52,7 @@ module _ (h : Chaining) (std : IsStandard h) where
       omega (arith, ap length (std.pads (b + n) room), length-padding_of b std.size (b + n), piece_fill b std.size n small)
 
   -- the writes of a digest and of its padding
-  pub digest_block : (a : Auth) (s xs ys zs x : List ℕ) (at next : ℕ) → x ≡ h.digest a s → next ≡ at + length x
+  pub digest_block : (a : HashName) (s xs ys zs x : List ℕ) (at next : ℕ) → x ≡ h.digest a s → next ≡ at + length x
       → take (at + length x) ys ≡ take at xs ++ x
       → take (next + length (h.padding (b + length x))) zs ≡ take next ys ++ h.padding (b + length x)
       → take (at + b) zs ≡ take at xs ++ (h.digest a s ++ h.padding (b + length (h.digest a s)))

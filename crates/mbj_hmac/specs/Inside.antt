@@ -1,4 +1,2 @@
 pub mod Going
 pub mod Layout
-pub mod Columns
-pub mod Columns64

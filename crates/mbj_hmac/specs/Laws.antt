@@ -1,6 +1,6 @@
 pub mod Falls
-pub mod Named
 pub mod Padding64
 pub mod Sha1
 pub mod Sha256
 pub mod Sha512
+pub mod Tests

@@ -1,27 +1,28 @@
 -- The rounds of an HMAC (RFC 2104, 2): the compressions of its two hashes, one after the other.
-use Rattle.std.specs.Prelude.{ℕ, zero, suc, ◌+◌, ◌-◌, ◌*◌, ◌/◌, ◌==◌, nat_le, List, ◌++◌, length, take, drop, replicate, if◌then◌else◌}
-use Rattle.mbj_types.specs.declared.job.Auth.{Auth}
+use Rattle.std.specs.Prelude.{Bool, ℕ, zero, suc, ◌+◌, ◌-◌, ◌*◌, ◌/◌, ◌==◌, nat_le, List, ◌++◌, length, take, drop, replicate, if◌then◌else◌}
+use Rattle.mbj_types.specs.declared.class.HashName.{HashName}
 use Rattle.mbj_types.specs.Rounds.{hmac_rounds}
 
--- how the hashes of some authentications work (FIPS 180-4, 5 and 6): the bytes of a block, the padding behind a message of so
--- many bytes, the compression of a block into a hash value, and how many words a hash value has; and by the authentication
--- the initial hash value and the digest that a hash value gives
+-- how hashes that share a compression work (FIPS 180-4, 5 and 6): which they are, the bytes of a block, the padding behind a
+-- message of so many bytes, the compression of a block into a hash value, and how many words a hash value has; and by the
+-- hash the initial hash value and the digest that a hash value gives
 pub record Chaining : Type 0 where
+  pub serves : HashName → Bool
   pub block_bytes : ℕ
   pub padding : ℕ → List ℕ
   pub compress : List ℕ → List ℕ → List ℕ
   pub words : ℕ
-  pub initial : Auth → List ℕ
-  pub digest : Auth → List ℕ → List ℕ
+  pub initial : HashName → List ℕ
+  pub digest : HashName → List ℕ → List ℕ
 
 -- an HMAC on its way: the packet, in which the message is `len` bytes from `off` on; the rounds that are left; the hash value
--- and, once the inner hash is done, its hash value; and the key xored with the inner and with the outer pad
+-- and, once the inner hash is done, its hash value; the hash; and the key xored with the inner and with the outer pad
 pub record Going : Type 0 where
   pub packet : List ℕ
   pub rest : ℕ
   pub chain : List ℕ
   pub inner : List ℕ
-  pub auth : Auth
+  pub hash : HashName
   pub front : List ℕ
   pub back : List ℕ
   pub off : ℕ
@@ -43,12 +44,12 @@ module _ (h : Chaining) where
   block_at p j = take h.block_bytes (drop (j * h.block_bytes) p)
 
   -- the hash value after the first n blocks of a text
-  abbrev pub chained : Auth → List ℕ → ℕ → List ℕ
+  abbrev pub chained : HashName → List ℕ → ℕ → List ℕ
   chained a p zero = h.initial a
   chained a p (suc n) = h.compress (chained a p n) (block_at p n)
 
   -- the hash value of a message
-  abbrev pub hashed : Auth → List ℕ → List ℕ
+  abbrev pub hashed : HashName → List ℕ → List ℕ
   hashed a m = chained a (padded m) (length (padded m) / h.block_bytes)
 
   -- what the inner and the outer hash read
@@ -56,7 +57,7 @@ module _ (h : Chaining) where
   inner_text e = padded (e.front ++ message e)
 
   abbrev pub outer_text : Going → List ℕ
-  outer_text e = padded (e.back ++ h.digest e.auth e.inner)
+  outer_text e = padded (e.back ++ h.digest e.hash e.inner)
 
   -- how many blocks the inner hash reads
   abbrev pub inner_blocks : Going → ℕ
@@ -70,7 +71,7 @@ module _ (h : Chaining) where
 
   -- before the round of the outer pad the hash value moves into `inner`, and the outer hash starts
   abbrev pub turned : Going → Going
-  turned e = if e.rest == 2 then record e { chain = h.initial e.auth; inner = e.chain } else e
+  turned e = if e.rest == 2 then record e { chain = h.initial e.hash; inner = e.chain } else e
 
   -- one block further
   abbrev pub advanced : Going → Going
@@ -81,13 +82,13 @@ module _ (h : Chaining) where
   round e = advanced (turned e)
 
   -- an HMAC of which nothing is done, by the key xored with the inner and with the outer pad
-  abbrev pub started : Auth → List ℕ → List ℕ → List ℕ → ℕ → ℕ → Going
+  abbrev pub started : HashName → List ℕ → List ℕ → List ℕ → ℕ → ℕ → Going
   started a front back packet off len = record {
     packet = packet;
     rest = hmac_rounds h.block_bytes len;
     chain = h.initial a;
     inner = replicate h.words 0;
-    auth = a;
+    hash = a;
     front = front;
     back = back;
     off = off;

@@ -1,13 +1,13 @@
 // The ends of an entry: the blocks that don't stand whole in its packet. They are the inner pad, the message's end with the
 // padding, the outer pad, and the inner digest with its padding.
-ghost use Rattle.std.specs.Prelude.{◌≡◌, ℕ, ◌+◌, ◌-◌, ◌*◌, ◌/◌, ◌^◌, ◌<◌, ◌≤◌, ◌∷◌, ◌++◌, length, replicate, take, drop};
+ghost use Rattle.std.specs.Prelude.{◌≡◌, ℕ, ◌+◌, ◌-◌, ◌*◌, ◌/◌, ◌^◌, ◌<◌, ◌≤◌, ◌∷◌, ◌++◌, length, replicate, take, drop, IsTrue};
 ghost use Rattle.mbj_types.specs.Hmac.{padded_key, ipad, opad};
 ghost use Rattle.mbj_types.specs.Rounds.{hmac_rounds};
 ghost use Rattle.mbj_hmac.specs.Inside.Layout.{fill, first_ends, tail_blocks};
 
+use crate::key::{IPAD, MAX_BLOCK_BYTES, OPAD, padded};
 use crate::lane_hash::LaneHash;
-use crate::plain::{IPAD, MAX_BLOCK_BYTES, OPAD, padded};
-use mbj_types::Auth;
+use mbj_types::HashName;
 
 /// The bytes of the length that ends the padding, as far as lengths of messages go.
 const LENGTH_BYTES: usize = 8;
@@ -95,14 +95,20 @@ fn put_padding<H: LaneHash>(ends: &mut H::Ends, at: usize, len: usize) -> usize
 }
 
 /// Writes the block that holds the digest of a hash value, with the padding behind the outer pad and the digest.
-pub(crate) fn put_digest<H: LaneHash>(ends: &mut H::Ends, at: usize, auth: Auth, chain: &H::Chain)
-    requires { at + H.chaining.block_bytes ≤ 5 * H.chaining.block_bytes }
+pub(crate) fn put_digest<H: LaneHash>(
+    ends: &mut H::Ends,
+    at: usize,
+    hash: HashName,
+    chain: &H::Chain,
+)
+    requires serves { IsTrue (H.chaining.serves hash) }
+    requires room { at + H.chaining.block_bytes ≤ 5 * H.chaining.block_bytes }
     ensures written { take (at + H.chaining.block_bytes) (H.ends_bytes ends.new) ≡ take at (H.ends_bytes ends.old)
-        ++ (H.chaining.digest auth (H.words chain.now)
-        ++ H.chaining.padding (H.chaining.block_bytes + length (H.chaining.digest auth (H.words chain.now)))) }
+        ++ (H.chaining.digest hash (H.words chain.now)
+        ++ H.chaining.padding (H.chaining.block_bytes + length (H.chaining.digest hash (H.words chain.now)))) }
     ensures len { length (H.ends_bytes ends.new) ≡ 5 * H.chaining.block_bytes }
 {
-    let digest = H::digest(auth, chain);
+    let digest = H::digest(hash, chain);
     let bytes = digest.bytes();
     let at = H::put(ends, at, bytes);
     put_padding::<H>(ends, at, bytes.len());
@@ -110,16 +116,17 @@ pub(crate) fn put_digest<H: LaneHash>(ends: &mut H::Ends, at: usize, auth: Auth,
 
 /// The ends of a new entry.
 pub(crate) fn first_ends<H: LaneHash>(
-    auth: Auth,
+    hash: HashName,
     key: &[u8; MAX_BLOCK_BYTES],
     packet: &[u8],
     off: usize,
     len: usize,
 ) -> H::Ends
+    requires serves { IsTrue (H.chaining.serves hash) }
     requires small { len < 2 ^ 32 }
     requires range { off + len ≤ length packet.now }
     ensures value { take (H.chaining.block_bytes * (tail_blocks H.chaining.block_bytes len + 3)) (H.ends_bytes result)
-        ≡ first_ends H.chaining auth (take H.chaining.block_bytes (padded_key ipad key.now)) (take H.chaining.block_bytes (padded_key opad key.now))
+        ≡ first_ends H.chaining hash (take H.chaining.block_bytes (padded_key ipad key.now)) (take H.chaining.block_bytes (padded_key opad key.now))
         (replicate H.chaining.words 0) packet.now off len }
     ensures length { length (H.ends_bytes result) ≡ 5 * H.chaining.block_bytes }
     ensures pads { length key.now ≡ MAX_BLOCK_BYTES }
@@ -134,6 +141,6 @@ pub(crate) fn first_ends<H: LaneHash>(
     );
     let at = put_padding::<H>(&mut ends, at, len);
     let at = H::put(&mut ends, at, &padded(key, OPAD)[..block]);
-    put_digest::<H>(&mut ends, at, auth, &H::zeros());
+    put_digest::<H>(&mut ends, at, hash, &H::zeros());
     ends
 }

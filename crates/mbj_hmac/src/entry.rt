@@ -1,14 +1,15 @@
 ghost use Rattle.std.specs.Prelude.{◌≡◌, ◌+◌, ◌-◌, ◌<◌, ◌≤◌, length, replicate, take, drop, IfSome, IsTrue};
-ghost use Rattle.mbj_types.specs.Auths.{hash_of};
+ghost use Rattle.mbj_types.specs.Auths.{hash_of, hash_of_name};
 ghost use Rattle.mbj_types.specs.Hmac.{block_key, padded_key, hmac, ipad, opad};
 ghost use Rattle.mbj_types.specs.Rounds.{hmac_rounds};
 ghost use Rattle.mbj_lane.specs.Rounds.{end_of};
+ghost use Rattle.mbj_hmac.specs.Names.{name_of, serves_auth};
 ghost use Rattle.mbj_hmac.specs.Rounds.{Going, block_before, rest_of, round, started, turned};
 
 use crate::ends::{first_ends, put_digest, rounds, tail_blocks};
+use crate::key::{MAX_BLOCK_BYTES, hash_key, hash_name};
 use crate::lane_hash::LaneHash;
-use crate::plain::{MAX_BLOCK_BYTES, pad_key};
-use mbj_types::{Auth, Tag};
+use mbj_types::{Auth, HashName, Tag};
 use std::marker::Model;
 
 /// An HMAC on its way, over a range of a packet. A round is one compression.
@@ -25,7 +26,7 @@ pub struct HmacEntry<H: LaneHash> {
     pub chain: H::Chain,
     /// The hash value of the inner hash, once that is done; zeros before.
     pub inner: H::Chain,
-    auth: Auth,
+    hash: HashName,
     ends: H::Ends,
     off: usize,
     len: usize,
@@ -37,54 +38,56 @@ impl<H: LaneHash> Model for HmacEntry<H> {
 
     ghost Value = { Going };
 
-    ghost view = { λ e. seen H.chaining e.packet.items e.rest (H.words e.chain) (H.words e.inner) e.auth (H.ends_bytes e.ends) e.off e.len };
+    ghost view = { λ e. seen H.chaining e.packet.items e.rest (H.words e.chain) (H.words e.inner) e.hash (H.ends_bytes e.ends) e.off e.len };
 
     ghost invariant = { λ e. IsSound H.chaining (H.ends_bytes e.ends)
-        (seen H.chaining e.packet.items e.rest (H.words e.chain) (H.words e.inner) e.auth (H.ends_bytes e.ends) e.off e.len) };
+        (seen H.chaining e.packet.items e.rest (H.words e.chain) (H.words e.inner) e.hash (H.ends_bytes e.ends) e.off e.len) };
 }
 
 impl<H: LaneHash> HmacEntry<H> {
-    /// An HMAC of which nothing is done, over `len` bytes of the packet from `off` on. The authentication is one that
-    /// the kernel serves, and the range lies in the packet. It takes no memory, and the packet moves into the entry.
+    /// An HMAC of which nothing is done, over `len` bytes of the packet from `off` on. The authentication is the HMAC
+    /// of a hash that the kernel serves, and the range lies in the packet. It takes no memory, and the packet moves into the entry.
     ///
     /// At its end the entry has the packet as it was given, and the digest of its hash value is the whole HMAC.
     // Called and not inlined, it writes the entry in its place, which saves copies of it.
     #[inline(never)]
     pub fn new(auth: Auth, key: &[u8], packet: Vec<u8>, off: u32, len: u32) -> HmacEntry<H>
-        requires auth { IsTrue (H.serves auth) }
+        requires auth { IsTrue (serves_auth H.chaining auth) }
         requires range { off + len ≤ length packet.items }
-        ensures start { IfSome (hash_of auth) (λ h. result ≡ started H.chaining auth (padded_key ipad (block_key h key.now))
-            (padded_key opad (block_key h key.now)) packet.items off len) }
+        ensures start { IfSome (name_of auth) (λ a. result ≡ started H.chaining a (padded_key ipad (block_key (hash_of_name a) key.now))
+            (padded_key opad (block_key (hash_of_name a) key.now)) packet.items off len) }
         ensures rest { result.rest ≡ hmac_rounds H.chaining.block_bytes len }
         ensures packet { (end_of (round H.chaining) rest_of result).packet ≡ packet.items }
-        ensures tag { IfSome (hash_of auth) (λ h. H.chaining.digest auth (end_of (round H.chaining) rest_of result).chain
-            ≡ hmac h key.now (take len (drop off packet.items))) }
+        ensures tag { let end = end_of (round H.chaining) rest_of result in
+            IfSome (hash_of auth) (λ h. H.chaining.digest end.hash end.chain ≡ hmac h key.now (take len (drop off packet.items))) }
     {
-        let key = pad_key(auth, key);
-        Self::started(auth, &key, packet, off, len)
+        let hash = hash_name(auth);
+        let key = hash_key(hash, key);
+        Self::started(hash, &key, packet, off, len)
     }
 
     /// An HMAC of which nothing is done, by the key of a block.
     fn started(
-        auth: Auth,
+        hash: HashName,
         key: &[u8; MAX_BLOCK_BYTES],
         packet: Vec<u8>,
         off: u32,
         len: u32,
     ) -> HmacEntry<H>
-        requires { off + len ≤ length packet.items }
-        ensures start { result ≡ started H.chaining auth (take H.chaining.block_bytes (padded_key ipad key.now))
+        requires serves { IsTrue (H.chaining.serves hash) }
+        requires range { off + len ≤ length packet.items }
+        ensures start { result ≡ started H.chaining hash (take H.chaining.block_bytes (padded_key ipad key.now))
             (take H.chaining.block_bytes (padded_key opad key.now)) packet.items off len }
         ensures pads { length key.now ≡ MAX_BLOCK_BYTES }
     {
         let (off, len) = (off as usize, len as usize);
-        let ends = first_ends::<H>(auth, key, &packet, off, len);
+        let ends = first_ends::<H>(hash, key, &packet, off, len);
         HmacEntry {
             packet,
             rest: rounds::<H>(len),
-            chain: H::initial(auth),
+            chain: H::initial(hash),
             inner: H::zeros(),
-            auth,
+            hash,
             ends,
             off,
             len,
@@ -95,9 +98,9 @@ impl<H: LaneHash> HmacEntry<H> {
     pub fn into_parts(self) -> (Vec<u8>, Tag)
         requires { self.rest ≡ 0 }
         ensures packet { result.0.items ≡ self.packet }
-        ensures tag { result.1 ≡ H.chaining.digest self.auth self.chain }
+        ensures tag { result.1 ≡ H.chaining.digest self.hash self.chain }
     {
-        let tag = H::digest(self.auth, &self.chain);
+        let tag = H::digest(self.hash, &self.chain);
         (self.packet, tag)
     }
 
@@ -138,9 +141,9 @@ impl<H: LaneHash> HmacEntry<H> {
     {
         if self.rest == 2 {
             let at = H::block_bytes() * (tail_blocks::<H>(self.len) + 2);
-            put_digest::<H>(&mut self.ends, at, self.auth, &self.chain);
+            put_digest::<H>(&mut self.ends, at, self.hash, &self.chain);
             self.inner = self.chain;
-            self.chain = H::initial(self.auth);
+            self.chain = H::initial(self.hash);
         }
     }
 }

@@ -3,7 +3,7 @@ ghost use Rattle.sha1.specs.Sha1.{Holds};
 ghost use Rattle.sha2.specs.Hashers.{Holds224, Holds256, Holds384, Holds512};
 ghost use Rattle.mbj_types.specs.Hmac.{Hash, sha1_hash, sha224_hash, sha256_hash, sha384_hash, sha512_hash};
 
-use crate::plain::MAX_BLOCK_BYTES;
+use crate::key::MAX_BLOCK_BYTES;
 use mbj_types::Tag;
 use sha1::Sha1;
 use sha2::{Digest, Sha224, Sha256, Sha384, Sha512};

@@ -5,6 +5,7 @@ ghost use Rattle.mbj_hmac.specs.Inside.Going.{lane_going, reach_of};
 
 use crate::entry::HmacEntry;
 use crate::lane_hash::LaneHash;
+use crate::view::LaneEntries;
 use mbj_lane::Kernel;
 use std::marker::PhantomData;
 
@@ -32,34 +33,13 @@ impl<H: LaneHash> Kernel for HmacKernel<H> {
         run(entries, m)
     }
 
-    ghost use Rattle.mbj_hmac.specs.Laws.Falls.{falls, lanes_few};
+    ghost use Rattle.mbj_hmac.specs.Laws.Falls.{falls};
 
     ghost some = { H.some };
 
-    ghost few = { lanes_few H.LANES H.few };
+    ghost few = { H.few };
 
     ghost falls = { falls H.chaining };
-}
-
-/// The entry of a lane; idle lanes go with the last entry.
-#[inline(always)]
-fn lane_entry<H: LaneHash>(entries: &[HmacEntry<H>], i: usize) -> &HmacEntry<H>
-    requires { 0 < length entries.now }
-    ensures { result.now ≡ lane_going entries.now i }
-{
-    if i < entries.len() {
-        &entries[i]
-    } else {
-        &entries[entries.len() - 1]
-    }
-}
-
-/// The hash value of an entry.
-#[inline(always)]
-fn chain_of<H: LaneHash>(entry: &HmacEntry<H>) -> &H::Chain
-    ensures { H.words result.now ≡ entry.now.chain }
-{
-    &entry.chain
 }
 
 /// The hash values of all lanes.
@@ -67,45 +47,18 @@ fn gathered<H: LaneHash>(entries: &[HmacEntry<H>]) -> H::States
     requires { 0 < length entries.now }
     ensures { (i : ℕ) → i < H.LANES → H.lane result i ≡ (lane_going entries.now i).chain }
 {
-    H::gathered(
-        chain_of(lane_entry(entries, 0)),
-        chain_of(lane_entry(entries, 1)),
-        chain_of(lane_entry(entries, 2)),
-        chain_of(lane_entry(entries, 3)),
-        chain_of(lane_entry(entries, 4)),
-        chain_of(lane_entry(entries, 5)),
-        chain_of(lane_entry(entries, 6)),
-        chain_of(lane_entry(entries, 7)),
-    )
+    H::gathered(&LaneEntries { entries, done: 0 })
 }
 
 /// The hash values are led through the next `m` blocks.
 fn compressed<H: LaneHash>(entries: &[HmacEntry<H>], m: u32, states: &mut H::States)
     requires some { 0 < length entries.now }
-    requires rests { (i : ℕ) → i < 8 → m ≤ (lane_going entries.now i).rest }
+    requires rests { (i : ℕ) → m ≤ (lane_going entries.now i).rest }
     requires start { (i : ℕ) → i < H.LANES → H.lane states.old i ≡ (lane_going entries.now i).chain }
     ensures { (i : ℕ) → i < H.LANES → H.lane states.new i ≡ (after (advanced H.chaining) m (lane_going entries.now i)).chain }
 {
-    let e0 = lane_entry(entries, 0);
-    let e1 = lane_entry(entries, 1);
-    let e2 = lane_entry(entries, 2);
-    let e3 = lane_entry(entries, 3);
-    let e4 = lane_entry(entries, 4);
-    let e5 = lane_entry(entries, 5);
-    let e6 = lane_entry(entries, 6);
-    let e7 = lane_entry(entries, 7);
     'passes: for done in 0..m {
-        H::compress(
-            states,
-            e0.block(done),
-            e1.block(done),
-            e2.block(done),
-            e3.block(done),
-            e4.block(done),
-            e5.block(done),
-            e6.block(done),
-            e7.block(done),
-        );
+        H::compress(states, &LaneEntries { entries, done });
     }
 }
 

@@ -1,13 +1,14 @@
-ghost use Rattle.std.specs.Prelude.{◌≡◌, ℕ, ◌+◌, ◌*◌, ◌<◌, ◌≤◌, Bool, List, [], ◌∷◌, ◌++◌, length, take, replicate, slice_index_or, IsTrue, Some};
-ghost use Rattle.mbj_types.specs.Auths.{IsHmac, hash_of};
-ghost use Rattle.mbj_types.specs.Hmac.{Hash};
-ghost use Rattle.mbj_types.specs.declared.job.Auth.{Auth};
+ghost use Rattle.std.specs.Prelude.{◌≡◌, ℕ, ◌+◌, ◌*◌, ◌^◌, ◌<◌, ◌≤◌, List, ◌++◌, length, take, replicate, IsTrue};
+ghost use Rattle.mbj_types.specs.Auths.{hash_of_name};
+ghost use Rattle.mbj_types.specs.declared.class.HashName.{HashName};
 ghost use Rattle.mbj_hmac.specs.Rounds.{Chaining, hashed};
 ghost use Rattle.mbj_hmac.specs.Inside.Layout.{IsStandard};
 
-use mbj_types::{Auth, Tag};
+use crate::view::Chains;
+use mbj_sha_lanes::Blocks;
+use mbj_types::{HashName, Tag};
 
-/// Hashes of FIPS 180-4 that share a compression, which is done in up to eight lanes.
+/// Hashes of FIPS 180-4 that share a compression, which is done in lanes.
 pub trait LaneHash {
     /// A hash value.
     type Chain: Copy + Drop;
@@ -26,9 +27,6 @@ pub trait LaneHash {
     /// How the hashes work.
     ghost chaining: { Chaining };
 
-    /// The authentications whose hash is one of these.
-    ghost serves: { Auth → Bool };
-
     /// The words of a hash value.
     ghost words: { Self.Chain → List ℕ };
 
@@ -42,9 +40,10 @@ pub trait LaneHash {
     fn block_bytes() -> usize
         ensures { result ≡ chaining.block_bytes };
 
-    /// The initial hash value.
-    fn initial(auth: Auth) -> Self::Chain
-        ensures { words result ≡ chaining.initial auth };
+    /// The initial hash value of a hash that is served.
+    fn initial(hash: HashName) -> Self::Chain
+        requires { IsTrue (chaining.serves hash) }
+        ensures { words result ≡ chaining.initial hash };
 
     /// A hash value of zeros.
     fn zeros() -> Self::Chain
@@ -65,68 +64,41 @@ pub trait LaneHash {
         ensures written { take (at + length bytes.now) (ends_bytes ends.new) ≡ take at (ends_bytes ends.old) ++ bytes.now }
         ensures len { length (ends_bytes ends.new) ≡ 5 * chaining.block_bytes };
 
-    /// The digest that a hash value gives.
-    fn digest(auth: Auth, chain: &Self::Chain) -> Tag
-        ensures { result ≡ chaining.digest auth (words chain.now) };
+    /// The digest that a hash value gives, of a hash that is served.
+    fn digest(hash: HashName, chain: &Self::Chain) -> Tag
+        requires { IsTrue (chaining.serves hash) }
+        ensures { result ≡ chaining.digest hash (words chain.now) };
 
-    /// The hash values as vectors, that of each lane. Those past the last lane are not looked at.
-    fn gathered(
-        c0: &Self::Chain,
-        c1: &Self::Chain,
-        c2: &Self::Chain,
-        c3: &Self::Chain,
-        c4: &Self::Chain,
-        c5: &Self::Chain,
-        c6: &Self::Chain,
-        c7: &Self::Chain,
-    ) -> Self::States
-        ensures { (i : ℕ) → i < LANES → lane result i ≡ slice_index_or (words c0.now ∷ words c1.now ∷ words c2.now
-            ∷ words c3.now ∷ words c4.now ∷ words c5.now ∷ words c6.now ∷ words c7.now ∷ []) i [] };
+    /// The hash values as vectors, that of each lane.
+    fn gathered<C: Chains<Self::Chain>>(chains: &C) -> Self::States
+        requires words { (c : Self.Chain) → C.words c ≡ words c }
+        requires lent { (i : ℕ) → i < LANES → C.lends chains.now i }
+        ensures { (i : ℕ) → i < LANES → lane result i ≡ C.chain chains.now i };
 
     /// The hash value of a lane.
     fn scattered(states: &Self::States, i: usize) -> Self::Chain
         requires { i < LANES }
         ensures { words result ≡ lane states.now i };
 
-    /// Compresses a block into the hash value of each lane. Blocks past the last lane are not looked at.
-    fn compress(
-        states: &mut Self::States,
-        b0: &[u8],
-        b1: &[u8],
-        b2: &[u8],
-        b3: &[u8],
-        b4: &[u8],
-        b5: &[u8],
-        b6: &[u8],
-        b7: &[u8],
-    )
-        requires l0 { length b0.now ≡ chaining.block_bytes }
-        requires l1 { length b1.now ≡ chaining.block_bytes }
-        requires l2 { length b2.now ≡ chaining.block_bytes }
-        requires l3 { length b3.now ≡ chaining.block_bytes }
-        requires l4 { length b4.now ≡ chaining.block_bytes }
-        requires l5 { length b5.now ≡ chaining.block_bytes }
-        requires l6 { length b6.now ≡ chaining.block_bytes }
-        requires l7 { length b7.now ≡ chaining.block_bytes }
-        ensures { (i : ℕ) → i < LANES → lane states.new i ≡ chaining.compress (lane states.old i)
-            (slice_index_or (b0.now ∷ b1.now ∷ b2.now ∷ b3.now ∷ b4.now ∷ b5.now ∷ b6.now ∷ b7.now ∷ []) i []) };
+    /// Compresses a block into the hash value of each lane.
+    fn compress<B: Blocks>(states: &mut Self::States, blocks: &B)
+        requires size { B.block_bytes ≡ chaining.block_bytes }
+        requires lent { (i : ℕ) → i < LANES → B.lends blocks.now i }
+        ensures { (i : ℕ) → i < LANES → lane states.new i ≡ chaining.compress (lane states.old i) (B.block blocks.now i) };
 
     /// There is a lane.
     ghost some: { 0 < LANES };
 
-    /// There are at most eight.
-    ghost few: { LANES ≤ 8 };
+    /// The lanes are counted by a `u32`.
+    ghost few: { LANES < 2 ^ 32 };
 
     /// Padding and digests are as FIPS 180-4 has them.
     ghost standard: { IsStandard chaining };
 
-    /// The authentications are HMACs.
-    ghost hmacs: { (a : Auth) → IsTrue (serves a) → IsHmac a };
+    /// The hashes have these blocks.
+    ghost blocks: { (a : HashName) → IsTrue (chaining.serves a) → (hash_of_name a).block_bytes ≡ chaining.block_bytes };
 
-    /// Their hash has these blocks.
-    ghost blocks: { (a : Auth) (h : Hash) → IsTrue (serves a) → hash_of a ≡ Some h → h.block_bytes ≡ chaining.block_bytes };
-
-    /// The hash of an authentication is the digest of the hash value to which the blocks lead.
-    ghost hashes: { (a : Auth) (h : Hash) → IsTrue (serves a) → hash_of a ≡ Some h
-        → (m : List ℕ) → h.digest m ≡ chaining.digest a (hashed chaining a m) };
+    /// A hash is the digest of the hash value to which the blocks lead.
+    ghost hashes: { (a : HashName) → IsTrue (chaining.serves a)
+        → (m : List ℕ) → (hash_of_name a).digest m ≡ chaining.digest a (hashed chaining a m) };
 }

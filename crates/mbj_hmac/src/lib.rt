@@ -5,21 +5,23 @@ mod ends;
 mod entry;
 mod hasher;
 mod kernel;
+mod key;
 mod lane_hash;
-mod load32;
-mod load64;
 mod plain;
 mod sha1_lanes;
 mod sha256_lanes;
 mod sha512_lanes;
+mod view;
 
 pub use entry::HmacEntry;
 pub use kernel::HmacKernel;
+pub use key::{MAX_BLOCK_BYTES, pad_key};
 pub use lane_hash::LaneHash;
-pub use plain::{MAX_BLOCK_BYTES, hmac_plain, pad_key};
+pub use plain::hmac_plain;
 pub use sha1_lanes::Sha1Lanes;
 pub use sha256_lanes::Sha256Lanes;
 pub use sha512_lanes::Sha512Lanes;
+pub use view::Chains;
 
 /// An HMAC with SHA-1 on its way.
 pub type Hmac1Entry = HmacEntry<Sha1Lanes>;

@@ -1,64 +1,23 @@
-ghost use Rattle.std.specs.Prelude.{◌≡◌, ◌-◌, ◌≤◌, ◌++◌, length, replicate, IfSome};
-ghost use Rattle.mbj_types.specs.Auths.{IsHmac, hash_of};
-ghost use Rattle.mbj_types.specs.Hmac.{block_key, padded_key, hmac, ipad, opad};
+//! HMAC of one message by itself. No product calls it: it is what the HMACs in lanes are compared with.
+ghost use Rattle.std.specs.Prelude.{◌≡◌, ◌++◌, length, IfSome};
+ghost use Rattle.mbj_types.specs.Auths.{IsHmac, hash_of, hash_of_name};
+ghost use Rattle.mbj_types.specs.Hmac.{hmac, ipad, opad};
 
 use crate::hasher::Hasher;
-use mbj_types::{Auth, Tag};
+use crate::key::{IPAD, OPAD, hash_name, key_of_block, padded};
+use mbj_types::{Auth, HashName, Tag};
 use sha1::Sha1;
 use sha2::{Sha224, Sha256, Sha384, Sha512};
-
-/// The longest block of a hash, in bytes: that of SHA-384 and SHA-512.
-pub const MAX_BLOCK_BYTES: usize = 128;
-
-/// The byte of the inner pad (RFC 2104, 2).
-pub(crate) const IPAD: u8 = 0x36;
-
-/// The byte of the outer pad (RFC 2104, 2).
-pub(crate) const OPAD: u8 = 0x5c;
 
 /// The digest of two pieces, taken as one message.
 fn digest_of_both<H: Hasher>(first: &[u8], second: &[u8]) -> Tag
     ensures value { result ≡ H.hash.digest (first.now ++ second.now) }
     ensures len { length result ≡ H.hash.digest_bytes }
-    ensures fits { length result ≤ H.hash.block_bytes }
 {
     let mut hasher = H::start();
     hasher.absorb(first);
     hasher.absorb(second);
     hasher.finish()
-}
-
-/// A key, and zero bytes behind it.
-fn filled(key: &[u8]) -> [u8; MAX_BLOCK_BYTES]
-    requires { length key.now ≤ MAX_BLOCK_BYTES }
-    ensures { result ≡ key.now ++ replicate (MAX_BLOCK_BYTES - length key.now) 0 }
-{
-    let mut block = [0; MAX_BLOCK_BYTES];
-    block[..key.len()].copy_from_slice(key);
-    block
-}
-
-/// The key of one block of the hash, and zero bytes behind it.
-fn key_of_block<H: Hasher>(key: &[u8]) -> [u8; MAX_BLOCK_BYTES]
-    ensures value { result ≡ block_key H.hash key.now ++ replicate (MAX_BLOCK_BYTES - H.hash.block_bytes) 0 }
-    ensures len { length (block_key H.hash key.now) ≡ H.hash.block_bytes }
-{
-    if key.len() <= H::block_bytes() {
-        filled(key)
-    } else {
-        filled(digest_of_both::<H>(key, &[]).bytes())
-    }
-}
-
-/// The bytes of a key, each xored with the byte of a pad.
-pub(crate) fn padded(key: &[u8; MAX_BLOCK_BYTES], pad: u8) -> [u8; MAX_BLOCK_BYTES]
-    ensures { result ≡ padded_key pad key.now }
-{
-    let mut block = *key;
-    for byte in block.iter_mut() {
-        *byte ^= pad;
-    }
-    block
 }
 
 /// HMAC over the hash `H`.
@@ -71,6 +30,20 @@ fn hmac_over<H: Hasher>(key: &[u8], message: &[u8]) -> Tag
     digest_of_both::<H>(&padded(&key, OPAD)[..H::block_bytes()], inner.bytes())
 }
 
+/// HMAC over a hash.
+fn hmac_by(hash: HashName, key: &[u8], message: &[u8]) -> Tag
+    ensures value { result ≡ hmac (hash_of_name hash) key.now message.now }
+    ensures len { length result ≡ (hash_of_name hash).digest_bytes }
+{
+    match hash {
+        HashName::Sha1 => hmac_over::<Sha1>(key, message),
+        HashName::Sha224 => hmac_over::<Sha224>(key, message),
+        HashName::Sha256 => hmac_over::<Sha256>(key, message),
+        HashName::Sha384 => hmac_over::<Sha384>(key, message),
+        HashName::Sha512 => hmac_over::<Sha512>(key, message),
+    }
+}
+
 /// HMAC of a message under a key, in full: 20, 28, 32, 48 or 64 bytes by the hash (RFC 2104, 2).
 ///
 /// It takes no memory. The authentication is one of the five HMACs.
@@ -79,28 +52,5 @@ pub fn hmac_plain(auth: Auth, key: &[u8], message: &[u8]) -> Tag
     ensures value { IfSome (hash_of auth) (λ h. result ≡ hmac h key.now message.now) }
     ensures len { IfSome (hash_of auth) (λ h. length result ≡ h.digest_bytes) }
 {
-    match auth {
-        Auth::HmacSha1 => hmac_over::<Sha1>(key, message),
-        Auth::HmacSha224 => hmac_over::<Sha224>(key, message),
-        Auth::HmacSha256 => hmac_over::<Sha256>(key, message),
-        Auth::HmacSha384 => hmac_over::<Sha384>(key, message),
-        Auth::HmacSha512 => hmac_over::<Sha512>(key, message),
-        Auth::Null | Auth::Cmac128 | Auth::Cmac256 | Auth::Gcm => unreachable!(),
-    }
-}
-
-/// The key of one block of an HMAC's hash: the key filled with zero bytes, or its digest where it is longer than
-/// the block (RFC 2104, 2). The block is the first 64 or 128 bytes, and the bytes behind it are zero.
-pub fn pad_key(auth: Auth, key: &[u8]) -> [u8; MAX_BLOCK_BYTES]
-    requires { IsHmac auth }
-    ensures { IfSome (hash_of auth) (λ h. result ≡ block_key h key.now ++ replicate (MAX_BLOCK_BYTES - h.block_bytes) 0) }
-{
-    match auth {
-        Auth::HmacSha1 => key_of_block::<Sha1>(key),
-        Auth::HmacSha224 => key_of_block::<Sha224>(key),
-        Auth::HmacSha256 => key_of_block::<Sha256>(key),
-        Auth::HmacSha384 => key_of_block::<Sha384>(key),
-        Auth::HmacSha512 => key_of_block::<Sha512>(key),
-        Auth::Null | Auth::Cmac128 | Auth::Cmac256 | Auth::Gcm => unreachable!(),
-    }
+    hmac_by(hash_name(auth), key, message)
 }

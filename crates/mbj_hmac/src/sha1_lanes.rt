@@ -1,21 +1,24 @@
-ghost use Rattle.std.specs.Prelude.{◌≡◌, ℕ, ◌<◌, ◌≤◌, [], ◌∷◌, List, length, slice_index, slice_index_or};
-ghost use Rattle.sha1.specs.Sha1.{compress, digest_bytes};
+ghost use Rattle.std.specs.Prelude.{◌≡◌, ℕ, ◌<◌, ◌≤◌, ◌*◌, ◌+◌, ◌++◌, List, length, take};
+ghost use Rattle.sha1.specs.Sha1.{digest_bytes};
 ghost use Rattle.mbj_types.specs.Lanes.{lane_at, lane_of};
-ghost use Rattle.mbj_hmac.specs.Chainings.{is_sha1, sha1_chaining};
+ghost use Rattle.mbj_types.specs.declared.kind.TheConstants.{SHA1_LANES};
+ghost use Rattle.mbj_hmac.specs.Chainings.{sha1_chaining};
 
 use crate::ends::put;
 use crate::lane_hash::LaneHash;
-use crate::load32::{block_words, lane_word};
-use mbj_sha_lanes::load32::state_lanes;
-use mbj_sha1_lanes::compress_lanes;
-use mbj_types::{Auth, Tag};
-use std::simd::u32x8;
+use crate::view::Chains;
+use mbj_sha_lanes::{Blocks, Load32};
+use mbj_sha1_lanes::{compress_lanes, gathered, scattered};
+use mbj_types::{HashName, SHA1_LANES, Sha1Word, Tag};
 
-/// SHA-1 in eight lanes.
+/// SHA-1 in lanes.
 pub struct Sha1Lanes;
 
+/// The length of a block, in bytes.
+const BLOCK_BYTES: usize = 64;
+
 /// The bytes of five blocks.
-const ENDS_BYTES: usize = 5 * 64;
+const ENDS_BYTES: usize = 5 * BLOCK_BYTES;
 
 /// The initial hash value (FIPS 180-4, 5.3.1).
 const INITIAL: [u32; 5] = [
@@ -43,17 +46,15 @@ fn bytes_of(chain: &[u32; 5]) -> [u8; 20]
 impl LaneHash for Sha1Lanes {
     type Chain = [u32; 5];
 
-    type States = [u32x8; 5];
+    type States = [Sha1Word; 5];
 
     type Ends = [u8; ENDS_BYTES];
 
-    const LANES: u32 = 8;
+    const LANES: u32 = SHA1_LANES as u32;
 
-    ghost LANES = { 8 };
+    ghost LANES = { SHA1_LANES };
 
     ghost chaining = { sha1_chaining };
-
-    ghost serves = { is_sha1 };
 
     ghost words = { λ c. c };
 
@@ -62,11 +63,15 @@ impl LaneHash for Sha1Lanes {
     ghost ends_bytes = { λ e. e };
 
     fn block_bytes() -> usize {
-        64
+        BLOCK_BYTES
     }
 
-    fn initial(_auth: Auth) -> [u32; 5] {
-        INITIAL
+    fn initial(hash: HashName) -> [u32; 5] {
+        match hash {
+            HashName::Sha1 => INITIAL,
+            HashName::Sha224 | HashName::Sha256 | HashName::Sha384 | HashName::Sha512 =>
+                unreachable!(),
+        }
     }
 
     fn zeros() -> [u32; 5] {
@@ -86,68 +91,42 @@ impl LaneHash for Sha1Lanes {
         put(ends, at, bytes)
     }
 
-    fn digest(_auth: Auth, chain: &[u32; 5]) -> Tag {
-        Tag::from_slice(&bytes_of(chain))
+    fn digest(hash: HashName, chain: &[u32; 5]) -> Tag {
+        match hash {
+            HashName::Sha1 => Tag::from_slice(&bytes_of(chain)),
+            HashName::Sha224 | HashName::Sha256 | HashName::Sha384 | HashName::Sha512 =>
+                unreachable!(),
+        }
     }
 
     #[inline(always)]
-    fn gathered(
-        c0: &[u32; 5],
-        c1: &[u32; 5],
-        c2: &[u32; 5],
-        c3: &[u32; 5],
-        c4: &[u32; 5],
-        c5: &[u32; 5],
-        c6: &[u32; 5],
-        c7: &[u32; 5],
-    ) -> [u32x8; 5] {
-        let chains = [*c0, *c1, *c2, *c3, *c4, *c5, *c6, *c7];
-        [
-            state_lanes(&chains, 0),
-            state_lanes(&chains, 1),
-            state_lanes(&chains, 2),
-            state_lanes(&chains, 3),
-            state_lanes(&chains, 4),
-        ]
+    fn gathered<C: Chains<[u32; 5]>>(chains: &C) -> [Sha1Word; 5] {
+        let mut states = [[0; 5]; SHA1_LANES];
+        'lanes: for i in 0..SHA1_LANES {
+            states[i] = *chains.chain(i);
+        }
+        gathered(&states)
     }
 
     #[inline(always)]
-    fn scattered(states: &[u32x8; 5], i: usize) -> [u32; 5] {
-        [
-            lane_word(states[0], i),
-            lane_word(states[1], i),
-            lane_word(states[2], i),
-            lane_word(states[3], i),
-            lane_word(states[4], i),
-        ]
+    fn scattered(states: &[Sha1Word; 5], i: usize) -> [u32; 5] {
+        scattered(states, i)
     }
 
     #[inline(always)]
-    fn compress(
-        states: &mut [u32x8; 5],
-        b0: &[u8],
-        b1: &[u8],
-        b2: &[u8],
-        b3: &[u8],
-        b4: &[u8],
-        b5: &[u8],
-        b6: &[u8],
-        b7: &[u8],
-    ) {
-        let mut words = block_words(b0, b1, b2, b3, b4, b5, b6, b7);
+    fn compress<B: Blocks>(states: &mut [Sha1Word; 5], blocks: &B) {
+        let mut words = Sha1Word::block_words(blocks);
         compress_lanes(states, &mut words);
     }
 
     ghost use Rattle.std.proofs.Common.{rules};
-    ghost use Rattle.mbj_hmac.specs.Laws.Sha1.{sha1_standard, sha1_hmacs, sha1_blocks, sha1_hashes};
+    ghost use Rattle.mbj_hmac.specs.Laws.Sha1.{sha1_standard, sha1_blocks, sha1_hashes};
 
     ghost some = { Prim.search rules };
 
     ghost few = { Prim.search rules };
 
     ghost standard = { sha1_standard };
-
-    ghost hmacs = { sha1_hmacs };
 
     ghost blocks = { sha1_blocks };
 

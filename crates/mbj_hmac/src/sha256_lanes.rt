@@ -1,21 +1,24 @@
-ghost use Rattle.std.specs.Prelude.{◌≡◌, ℕ, ◌<◌, ◌≤◌, [], ◌∷◌, List, length, slice_index, slice_index_or};
-ghost use Rattle.sha2.specs.Sha256.{compress, digest_bytes};
+ghost use Rattle.std.specs.Prelude.{◌≡◌, ℕ, ◌<◌, ◌≤◌, ◌*◌, ◌+◌, ◌++◌, List, length, take};
+ghost use Rattle.sha2.specs.Sha256.{digest_bytes};
 ghost use Rattle.mbj_types.specs.Lanes.{lane_at, lane_of};
-ghost use Rattle.mbj_hmac.specs.Chainings.{is_sha256, sha256_chaining};
+ghost use Rattle.mbj_types.specs.declared.kind.TheConstants.{SHA256_LANES};
+ghost use Rattle.mbj_hmac.specs.Chainings.{sha256_chaining};
 
 use crate::ends::put;
 use crate::lane_hash::LaneHash;
-use crate::load32::{block_words, lane_word};
-use mbj_sha_lanes::load32::state_lanes;
-use mbj_sha256_lanes::compress_lanes;
-use mbj_types::{Auth, Tag};
-use std::simd::u32x8;
+use crate::view::Chains;
+use mbj_sha_lanes::{Blocks, Load32};
+use mbj_sha256_lanes::{compress_lanes, gathered, scattered};
+use mbj_types::{HashName, SHA256_LANES, Sha256Word, Tag};
 
-/// SHA-224 and SHA-256 in eight lanes.
+/// SHA-224 and SHA-256 in lanes.
 pub struct Sha256Lanes;
 
+/// The length of a block, in bytes.
+const BLOCK_BYTES: usize = 64;
+
 /// The bytes of five blocks.
-const ENDS_BYTES: usize = 5 * 64;
+const ENDS_BYTES: usize = 5 * BLOCK_BYTES;
 
 /// The initial hash value of SHA-224 (FIPS 180-4, 5.3.2).
 const INITIAL_224: [u32; 8] = [
@@ -63,17 +66,15 @@ fn bytes_of(chain: &[u32; 8]) -> [u8; 32]
 impl LaneHash for Sha256Lanes {
     type Chain = [u32; 8];
 
-    type States = [u32x8; 8];
+    type States = [Sha256Word; 8];
 
     type Ends = [u8; ENDS_BYTES];
 
-    const LANES: u32 = 8;
+    const LANES: u32 = SHA256_LANES as u32;
 
-    ghost LANES = { 8 };
+    ghost LANES = { SHA256_LANES };
 
     ghost chaining = { sha256_chaining };
-
-    ghost serves = { is_sha256 };
 
     ghost words = { λ c. c };
 
@@ -82,13 +83,14 @@ impl LaneHash for Sha256Lanes {
     ghost ends_bytes = { λ e. e };
 
     fn block_bytes() -> usize {
-        64
+        BLOCK_BYTES
     }
 
-    fn initial(auth: Auth) -> [u32; 8] {
-        match auth {
-            Auth::HmacSha224 => INITIAL_224,
-            _ => INITIAL_256,
+    fn initial(hash: HashName) -> [u32; 8] {
+        match hash {
+            HashName::Sha224 => INITIAL_224,
+            HashName::Sha256 => INITIAL_256,
+            HashName::Sha1 | HashName::Sha384 | HashName::Sha512 => unreachable!(),
         }
     }
 
@@ -109,78 +111,43 @@ impl LaneHash for Sha256Lanes {
         put(ends, at, bytes)
     }
 
-    fn digest(auth: Auth, chain: &[u32; 8]) -> Tag {
+    fn digest(hash: HashName, chain: &[u32; 8]) -> Tag {
         let bytes = bytes_of(chain);
-        match auth {
-            Auth::HmacSha224 => Tag::from_slice(&bytes[..28]),
-            _ => Tag::from_slice(&bytes),
+        match hash {
+            HashName::Sha224 => Tag::from_slice(&bytes[..28]),
+            HashName::Sha256 => Tag::from_slice(&bytes),
+            HashName::Sha1 | HashName::Sha384 | HashName::Sha512 => unreachable!(),
         }
     }
 
     #[inline(always)]
-    fn gathered(
-        c0: &[u32; 8],
-        c1: &[u32; 8],
-        c2: &[u32; 8],
-        c3: &[u32; 8],
-        c4: &[u32; 8],
-        c5: &[u32; 8],
-        c6: &[u32; 8],
-        c7: &[u32; 8],
-    ) -> [u32x8; 8] {
-        let chains = [*c0, *c1, *c2, *c3, *c4, *c5, *c6, *c7];
-        [
-            state_lanes(&chains, 0),
-            state_lanes(&chains, 1),
-            state_lanes(&chains, 2),
-            state_lanes(&chains, 3),
-            state_lanes(&chains, 4),
-            state_lanes(&chains, 5),
-            state_lanes(&chains, 6),
-            state_lanes(&chains, 7),
-        ]
+    fn gathered<C: Chains<[u32; 8]>>(chains: &C) -> [Sha256Word; 8] {
+        let mut states = [[0; 8]; SHA256_LANES];
+        'lanes: for i in 0..SHA256_LANES {
+            states[i] = *chains.chain(i);
+        }
+        gathered(&states)
     }
 
     #[inline(always)]
-    fn scattered(states: &[u32x8; 8], i: usize) -> [u32; 8] {
-        [
-            lane_word(states[0], i),
-            lane_word(states[1], i),
-            lane_word(states[2], i),
-            lane_word(states[3], i),
-            lane_word(states[4], i),
-            lane_word(states[5], i),
-            lane_word(states[6], i),
-            lane_word(states[7], i),
-        ]
+    fn scattered(states: &[Sha256Word; 8], i: usize) -> [u32; 8] {
+        scattered(states, i)
     }
 
     #[inline(always)]
-    fn compress(
-        states: &mut [u32x8; 8],
-        b0: &[u8],
-        b1: &[u8],
-        b2: &[u8],
-        b3: &[u8],
-        b4: &[u8],
-        b5: &[u8],
-        b6: &[u8],
-        b7: &[u8],
-    ) {
-        let mut words = block_words(b0, b1, b2, b3, b4, b5, b6, b7);
+    fn compress<B: Blocks>(states: &mut [Sha256Word; 8], blocks: &B) {
+        let mut words = Sha256Word::block_words(blocks);
         compress_lanes(states, &mut words);
     }
 
     ghost use Rattle.std.proofs.Common.{rules};
-    ghost use Rattle.mbj_hmac.specs.Laws.Sha256.{sha256_standard, sha256_hmacs, sha256_blocks, sha256_hashes};
+    ghost use Rattle.mbj_hmac.specs.Laws.Sha256.{sha256_standard, sha256_blocks, sha256_hashes};
 
     ghost some = { Prim.search rules };
 
     ghost few = { Prim.search rules };
 
     ghost standard = { sha256_standard };
-
-    ghost hmacs = { sha256_hmacs };
 
     ghost blocks = { sha256_blocks };
 

@@ -1,22 +1,25 @@
-ghost use Rattle.std.specs.Prelude.{◌≡◌, ℕ, ◌<◌, ◌≤◌, [], ◌∷◌, ◌*◌, ◌+◌, ◌++◌, List, length, take, slice_index, slice_index_or};
+ghost use Rattle.std.specs.Prelude.{◌≡◌, ℕ, ◌<◌, ◌≤◌, ◌*◌, ◌+◌, ◌++◌, List, length, take};
 ghost use Rattle.std.specs.Int.{w64, to_be_bytes};
-ghost use Rattle.sha2.specs.Sha512.{compress, digest_bytes};
+ghost use Rattle.sha2.specs.Sha512.{digest_bytes};
 ghost use Rattle.mbj_types.specs.Lanes.{lane_at, lane_of};
-ghost use Rattle.mbj_hmac.specs.Chainings.{is_sha512, sha512_chaining};
+ghost use Rattle.mbj_types.specs.declared.kind.TheConstants.{SHA512_LANES};
+ghost use Rattle.mbj_hmac.specs.Chainings.{sha512_chaining};
 
 use crate::ends::put;
 use crate::lane_hash::LaneHash;
-use crate::load64::{block_words, lane_word};
-use mbj_sha_lanes::load64::state_lanes;
-use mbj_sha512_lanes::compress_four;
-use mbj_types::{Auth, Tag};
-use std::simd::u64x4;
+use crate::view::Chains;
+use mbj_sha_lanes::{Blocks, Load64};
+use mbj_sha512_lanes::{compress_scheduled, gathered, scattered};
+use mbj_types::{HashName, SHA512_LANES, Sha512Word, Tag};
 
-/// SHA-384 and SHA-512 in four lanes.
+/// SHA-384 and SHA-512 in lanes.
 pub struct Sha512Lanes;
 
+/// The length of a block, in bytes.
+const BLOCK_BYTES: usize = 128;
+
 /// The bytes of five blocks.
-const ENDS_BYTES: usize = 5 * 128;
+const ENDS_BYTES: usize = 5 * BLOCK_BYTES;
 
 /// The initial hash value of SHA-384 (FIPS 180-4, 5.3.4).
 const INITIAL_384: [u64; 8] = [
@@ -66,17 +69,15 @@ fn bytes_of(chain: &[u64; 8]) -> [u8; 64]
 impl LaneHash for Sha512Lanes {
     type Chain = [u64; 8];
 
-    type States = [u64x4; 8];
+    type States = [Sha512Word; 8];
 
     type Ends = [u8; ENDS_BYTES];
 
-    const LANES: u32 = 4;
+    const LANES: u32 = SHA512_LANES as u32;
 
-    ghost LANES = { 4 };
+    ghost LANES = { SHA512_LANES };
 
     ghost chaining = { sha512_chaining };
-
-    ghost serves = { is_sha512 };
 
     ghost words = { λ c. c };
 
@@ -85,13 +86,14 @@ impl LaneHash for Sha512Lanes {
     ghost ends_bytes = { λ e. e };
 
     fn block_bytes() -> usize {
-        128
+        BLOCK_BYTES
     }
 
-    fn initial(auth: Auth) -> [u64; 8] {
-        match auth {
-            Auth::HmacSha384 => INITIAL_384,
-            _ => INITIAL_512,
+    fn initial(hash: HashName) -> [u64; 8] {
+        match hash {
+            HashName::Sha384 => INITIAL_384,
+            HashName::Sha512 => INITIAL_512,
+            HashName::Sha1 | HashName::Sha224 | HashName::Sha256 => unreachable!(),
         }
     }
 
@@ -112,78 +114,43 @@ impl LaneHash for Sha512Lanes {
         put(ends, at, bytes)
     }
 
-    fn digest(auth: Auth, chain: &[u64; 8]) -> Tag {
+    fn digest(hash: HashName, chain: &[u64; 8]) -> Tag {
         let bytes = bytes_of(chain);
-        match auth {
-            Auth::HmacSha384 => Tag::from_slice(&bytes[..48]),
-            _ => Tag::from_slice(&bytes),
+        match hash {
+            HashName::Sha384 => Tag::from_slice(&bytes[..48]),
+            HashName::Sha512 => Tag::from_slice(&bytes),
+            HashName::Sha1 | HashName::Sha224 | HashName::Sha256 => unreachable!(),
         }
     }
 
     #[inline(always)]
-    fn gathered(
-        c0: &[u64; 8],
-        c1: &[u64; 8],
-        c2: &[u64; 8],
-        c3: &[u64; 8],
-        _c4: &[u64; 8],
-        _c5: &[u64; 8],
-        _c6: &[u64; 8],
-        _c7: &[u64; 8],
-    ) -> [u64x4; 8] {
-        let chains = [*c0, *c1, *c2, *c3];
-        [
-            state_lanes(&chains, 0),
-            state_lanes(&chains, 1),
-            state_lanes(&chains, 2),
-            state_lanes(&chains, 3),
-            state_lanes(&chains, 4),
-            state_lanes(&chains, 5),
-            state_lanes(&chains, 6),
-            state_lanes(&chains, 7),
-        ]
+    fn gathered<C: Chains<[u64; 8]>>(chains: &C) -> [Sha512Word; 8] {
+        let mut states = [[0; 8]; SHA512_LANES];
+        'lanes: for i in 0..SHA512_LANES {
+            states[i] = *chains.chain(i);
+        }
+        gathered(&states)
     }
 
     #[inline(always)]
-    fn scattered(states: &[u64x4; 8], i: usize) -> [u64; 8] {
-        [
-            lane_word(states[0], i),
-            lane_word(states[1], i),
-            lane_word(states[2], i),
-            lane_word(states[3], i),
-            lane_word(states[4], i),
-            lane_word(states[5], i),
-            lane_word(states[6], i),
-            lane_word(states[7], i),
-        ]
+    fn scattered(states: &[Sha512Word; 8], i: usize) -> [u64; 8] {
+        scattered(states, i)
     }
 
     #[inline(always)]
-    fn compress(
-        states: &mut [u64x4; 8],
-        b0: &[u8],
-        b1: &[u8],
-        b2: &[u8],
-        b3: &[u8],
-        _b4: &[u8],
-        _b5: &[u8],
-        _b6: &[u8],
-        _b7: &[u8],
-    ) {
-        let words = block_words(b0, b1, b2, b3);
-        compress_four(states, &words);
+    fn compress<B: Blocks>(states: &mut [Sha512Word; 8], blocks: &B) {
+        let words = Sha512Word::block_words(blocks);
+        compress_scheduled(states, &words);
     }
 
     ghost use Rattle.std.proofs.Common.{rules};
-    ghost use Rattle.mbj_hmac.specs.Laws.Sha512.{sha512_standard, sha512_hmacs, sha512_blocks, sha512_hashes};
+    ghost use Rattle.mbj_hmac.specs.Laws.Sha512.{sha512_standard, sha512_blocks, sha512_hashes};
 
     ghost some = { Prim.search rules };
 
     ghost few = { Prim.search rules };
 
     ghost standard = { sha512_standard };
-
-    ghost hmacs = { sha512_hmacs };
 
     ghost blocks = { sha512_blocks };
 

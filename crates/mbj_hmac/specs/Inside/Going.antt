@@ -1,11 +1,11 @@
 -- The entry that a lane reads.
 use Rattle.std.specs.Prelude.{ℕ, ◌-◌, nat_le, nat_lt, List, [], length, slice_index_or, if◌then◌else◌}
-use Rattle.mbj_types.specs.declared.job.Auth.TheVariants.{Null}
+use Rattle.mbj_types.specs.declared.class.HashName.TheVariants.{Sha1}
 use Rattle.mbj_hmac.specs.Rounds.{Going}
 
 -- an entry that is none
 abbrev pub blank : Going
-blank = record { packet = []; rest = 0; chain = []; inner = []; auth = Null; front = []; back = []; off = 0; len = 0 }
+blank = record { packet = []; rest = 0; chain = []; inner = []; hash = Sha1; front = []; back = []; off = 0; len = 0 }
 
 -- the entry of a lane; idle lanes go with the last entry
 abbrev pub lane_going : List Going → ℕ → Going

@@ -1,8 +1,8 @@
 -- How an entry lays out the blocks that don't stand whole in the packet: the inner pad, the end of the message with its padding,
 -- the outer pad, and the inner digest with its padding.
-use Rattle.std.specs.Prelude.{◌≡◌, ℕ, ◌+◌, ◌-◌, ◌*◌, ◌/◌, ◌%◌, ◌≤◌, ◌<◌, ◌^◌, List, ◌∷◌, ◌++◌, ◌⊎◌, length, take, drop, replicate}
+use Rattle.std.specs.Prelude.{IsTrue, ◌≡◌, ℕ, ◌+◌, ◌-◌, ◌*◌, ◌/◌, ◌%◌, ◌≤◌, ◌<◌, ◌^◌, List, ◌∷◌, ◌++◌, ◌⊎◌, length, take, drop, replicate}
 use Rattle.std.specs.Int.{w64, to_be_bytes}
-use Rattle.mbj_types.specs.declared.job.Auth.{Auth}
+use Rattle.mbj_types.specs.declared.class.HashName.{HashName}
 use Rattle.mbj_types.specs.Rounds.{hmac_rounds}
 use Rattle.mbj_hmac.specs.Rounds.{Chaining, Going, inner_text, outer_text}
 
@@ -28,17 +28,17 @@ module _ (b : ℕ) where
 pub record IsStandard (h : Chaining) : Type 0 where
   pub size : (h.block_bytes ≡ 64) ⊎ (h.block_bytes ≡ 128)
   pub pads : (n : ℕ) → n < 2 ^ 33 → h.padding n ≡ padding_of h.block_bytes n
-  pub room : (a : Auth) (s : List ℕ) → length (h.digest a s) + 1 + h.block_bytes / 8 ≤ h.block_bytes
+  pub room : (a : HashName) (s : List ℕ) → length (h.digest a s) + 1 + h.block_bytes / 8 ≤ h.block_bytes
 
 module _ (h : Chaining) where
   -- an entry as it is seen
-  abbrev pub seen : List ℕ → ℕ → List ℕ → List ℕ → Auth → List ℕ → ℕ → ℕ → Going
-  seen packet rest chain inner auth ends off len = record {
+  abbrev pub seen : List ℕ → ℕ → List ℕ → List ℕ → HashName → List ℕ → ℕ → ℕ → Going
+  seen packet rest chain inner hash ends off len = record {
     packet = packet;
     rest = rest;
     chain = chain;
     inner = inner;
-    auth = auth;
+    hash = hash;
     front = take h.block_bytes ends;
     back = take h.block_bytes (drop (h.block_bytes * (tail_blocks h.block_bytes len + 1)) ends);
     off = off;
@@ -46,7 +46,7 @@ module _ (h : Chaining) where
   }
 
   -- the ends of a new entry: the inner pad, the message's end and its padding, the outer pad, and a digest and its padding
-  abbrev pub first_ends : Auth → List ℕ → List ℕ → List ℕ → List ℕ → ℕ → ℕ → List ℕ
+  abbrev pub first_ends : HashName → List ℕ → List ℕ → List ℕ → List ℕ → ℕ → ℕ → List ℕ
   first_ends a front back zeros packet off len =
       let whole = h.block_bytes * whole_blocks h.block_bytes len in
       (((front ++ take (len - whole) (drop (off + whole) packet)) ++ h.padding (h.block_bytes + len)) ++ back)
@@ -57,6 +57,7 @@ module _ (h : Chaining) where
   IsLaid ends e = take (h.block_bytes * (tail_blocks h.block_bytes e.len + 2)) (drop h.block_bytes ends)
       ≡ drop (h.block_bytes * (whole_blocks h.block_bytes e.len + 1)) (inner_text h e) ++ outer_text h e
 
+  -- the range lies in the packet, the rounds are no more than there were, the blocks stand, and the hash is one of these
   abbrev pub IsSound : List ℕ → Going → Type 0
   IsSound ends e = (e.off + e.len ≤ length e.packet) × (e.rest ≤ hmac_rounds h.block_bytes e.len) × (e.len < 2 ^ 32)
-      × IsLaid ends e × (length ends ≡ 5 * h.block_bytes)
+      × IsLaid ends e × (length ends ≡ 5 * h.block_bytes) × IsTrue (h.serves e.hash)

@@ -1,5 +1,5 @@
--- Laws of a kernel of HMAC: a round lowers the rest by one, and lanes are few.
-use Rattle.std.proofs.Common.{◌≡◌, ℕ, ◌-◌, ◌^◌, ◌≤◌, ◌<◌, arith, Bool, true, false, eqb, refl, ap}
+-- A law of a kernel of HMAC: a round lowers the rest by one.
+use Rattle.std.proofs.Common.{◌≡◌, ◌-◌, Bool, true, false, eqb, refl, ap}
 use Rattle.std.specs.Prelude.{if◌then◌else◌}
 use Rattle.mbj_hmac.specs.Rounds.{Chaining, Going, turned, round}
 
@@ -7,12 +7,9 @@ module _ (h : Chaining) where
   pub turned_rest : (e : Going) → (turned h e).rest ≡ e.rest
   turned_rest e = go (eqb e.rest 2)
     where
-      go : (b : Bool) → (if b then record e { chain = h.initial e.auth; inner = e.chain } else e).rest ≡ e.rest
+      go : (b : Bool) → (if b then record e { chain = h.initial e.hash; inner = e.chain } else e).rest ≡ e.rest
       go true = refl
       go false = refl
 
   pub falls : (e : Going) → (round h e).rest ≡ e.rest - 1
   falls e = ap (λ n. n - 1) (turned_rest e)
-
-pub lanes_few : (n : ℕ) → n ≤ 8 → n < 2 ^ 32
-lanes_few n h = omega arith

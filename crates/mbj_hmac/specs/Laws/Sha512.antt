@@ -1,16 +1,15 @@
 -- SHA-384 and SHA-512 are as an entry takes them.
-use Rattle.std.proofs.Common.{◌≡◌, ℕ, zero, suc, ◌+◌, ◌-◌, ◌*◌, ◌/◌, ◌%◌, ◌^◌, ◌≤◌, ◌<◌, List, ◌∷◌, ◌++◌, inr, length, take, drop, Some, refl, sym, ap, ◌∙◌, arith, length-append, length-take}
+use Rattle.std.proofs.Common.{◌≡◌, ℕ, zero, suc, ◌+◌, ◌-◌, ◌*◌, ◌/◌, ◌%◌, ◌^◌, ◌≤◌, ◌<◌, List, ◌∷◌, ◌++◌, inr, length, take, drop, refl, sym, ap, ◌∙◌, arith, length-append, length-take}
 use Rattle.std.specs.Prelude.{IsTrue, replicate, slice_index}
 use Rattle.std.proofs.lemmas.List.{replicate-append-replicate, append_assoc}
 use Rattle.std.specs.Int.{w64, w128, to_be_bytes}
 use Rattle.sha2.specs.Sha512.{sha384, sha512, hash_after, final_hash, padded_message, compress, padding, digest_bytes}
-use Rattle.mbj_types.specs.declared.job.Auth.{Auth}
-use Rattle.mbj_types.specs.declared.job.Auth.TheVariants.{HmacSha384, HmacSha512}
-use Rattle.mbj_types.specs.Auths.{IsHmac, hash_of}
-use Rattle.mbj_types.specs.Hmac.{Hash, sha384_hash, sha512_hash}
+use Rattle.mbj_types.specs.declared.class.HashName.{HashName}
+use Rattle.mbj_types.specs.declared.class.HashName.TheVariants.{Sha1, Sha224, Sha256, Sha384, Sha512}
+use Rattle.mbj_types.specs.Auths.{hash_of_name}
 use Rattle.mbj_hmac.specs.Rounds.{chained, hashed}
 use Rattle.mbj_hmac.specs.Chainings.{is_sha512, sha512_initial, sha512_digest, sha512_chaining}
-use Rattle.mbj_hmac.specs.Laws.Named.{same_hash, not_both}
+use Rattle.mbj_hmac.specs.Laws.Tests.{not_both}
 use Rattle.mbj_hmac.specs.Inside.Layout.{IsStandard, fill, tail_blocks, padding_of}
 
 length-digest_bytes : (s : List ℕ) (n : ℕ) → length (digest_bytes s n) ≡ 8 * n
@@ -41,40 +40,42 @@ pads n lt =
     ap (λ z. 0x80 ∷ replicate k 0 ++ z) long
     ∙ ap (λ z. 0x80 ∷ z) (sym (append_assoc (replicate k 0) (replicate 8 0) (to_be_bytes w64 (n * 8))) ∙ ap (λ z. z ++ to_be_bytes w64 (n * 8)) (replicate-append-replicate k 8 0 ∙ ap (λ m. replicate m 0) zeros))
 
-room : (a : Auth) (s : List ℕ) → length (sha512_digest a s) + 1 + 16 ≤ 128
-room HmacSha384 s = omega (arith, length-take 48 (digest_bytes s 8))
-room a s = omega (arith, length-digest_bytes s 8)
+room : (a : HashName) (s : List ℕ) → length (sha512_digest a s) + 1 + 16 ≤ 128
+room Sha1 s = omega arith
+room Sha224 s = omega arith
+room Sha256 s = omega arith
+room Sha384 s = omega (arith, length-take 48 (digest_bytes s 8))
+room Sha512 s = omega (arith, length-digest_bytes s 8)
 
 pub sha512_standard : IsStandard sha512_chaining
 sha512_standard = record { size = inr refl; pads = pads; room = room }
 
-chained_is : (a : Auth) (p : List ℕ) (n : ℕ) → chained sha512_chaining a p n ≡ hash_after (sha512_initial a) p n
+chained_is : (a : HashName) (p : List ℕ) (n : ℕ) → chained sha512_chaining a p n ≡ hash_after (sha512_initial a) p n
 unfolding hash_after
 chained_is a p zero = refl
 chained_is a p (suc n) = ap (λ s. compress s (take 128 (drop (n * 128) p))) (chained_is a p n)
 
-final_is : (a : Auth) (m : List ℕ) → final_hash (sha512_initial a) m ≡ hashed sha512_chaining a m
+final_is : (a : HashName) (m : List ℕ) → final_hash (sha512_initial a) m ≡ hashed sha512_chaining a m
 final_is a m = sym (chained_is a (padded_message m) (length (padded_message m) / 128))
 
-sha384_is : (m : List ℕ) → sha384 m ≡ sha512_digest HmacSha384 (hashed sha512_chaining HmacSha384 m)
+sha384_is : (m : List ℕ) → sha384 m ≡ sha512_digest Sha384 (hashed sha512_chaining Sha384 m)
 unfolding sha384
-sha384_is m = ap (λ s. take 48 (digest_bytes s 8)) (final_is HmacSha384 m)
+sha384_is m = ap (λ s. take 48 (digest_bytes s 8)) (final_is Sha384 m)
 
-sha512_is : (m : List ℕ) → sha512 m ≡ sha512_digest HmacSha512 (hashed sha512_chaining HmacSha512 m)
+sha512_is : (m : List ℕ) → sha512 m ≡ sha512_digest Sha512 (hashed sha512_chaining Sha512 m)
 unfolding sha512
-sha512_is m = ap (λ s. digest_bytes s 8) (final_is HmacSha512 m)
+sha512_is m = ap (λ s. digest_bytes s 8) (final_is Sha512 m)
 
-pub sha512_hmacs : (a : Auth) → IsTrue (is_sha512 a) → IsHmac a
-sha512_hmacs HmacSha384 t = refl
-sha512_hmacs HmacSha512 t = refl
-sha512_hmacs a t = absurd (not_both t)
+pub sha512_blocks : (a : HashName) → IsTrue (is_sha512 a) → (hash_of_name a).block_bytes ≡ 128
+sha512_blocks Sha1 t = absurd (not_both t)
+sha512_blocks Sha224 t = absurd (not_both t)
+sha512_blocks Sha256 t = absurd (not_both t)
+sha512_blocks Sha384 t = refl
+sha512_blocks Sha512 t = refl
 
-pub sha512_blocks : (a : Auth) (h : Hash) → IsTrue (is_sha512 a) → hash_of a ≡ Some h → h.block_bytes ≡ 128
-sha512_blocks HmacSha384 h t e = ap (λ (k : Hash). k.block_bytes) (sym (same_hash sha384_hash h e))
-sha512_blocks HmacSha512 h t e = ap (λ (k : Hash). k.block_bytes) (sym (same_hash sha512_hash h e))
-sha512_blocks a h t e = absurd (not_both t)
-
-pub sha512_hashes : (a : Auth) (h : Hash) → IsTrue (is_sha512 a) → hash_of a ≡ Some h → (m : List ℕ) → h.digest m ≡ sha512_digest a (hashed sha512_chaining a m)
-sha512_hashes HmacSha384 h t e m = ap (λ (k : Hash). k.digest m) (sym (same_hash sha384_hash h e)) ∙ sha384_is m
-sha512_hashes HmacSha512 h t e m = ap (λ (k : Hash). k.digest m) (sym (same_hash sha512_hash h e)) ∙ sha512_is m
-sha512_hashes a h t e m = absurd (not_both t)
+pub sha512_hashes : (a : HashName) → IsTrue (is_sha512 a) → (m : List ℕ) → (hash_of_name a).digest m ≡ sha512_digest a (hashed sha512_chaining a m)
+sha512_hashes Sha1 t m = absurd (not_both t)
+sha512_hashes Sha224 t m = absurd (not_both t)
+sha512_hashes Sha256 t m = absurd (not_both t)
+sha512_hashes Sha384 t m = sha384_is m
+sha512_hashes Sha512 t m = sha512_is m

@@ -37,8 +37,8 @@ put-at-requires-3 g c =
     let at4 = behind_back h std key packet off len c.put_padding-at.result (c.put_padding-at.result + length (take c.block_bytes-block.result c.padded-2.result)) _ c.told-key at3 refl back in
     omega (arith, at4, ends_fit h std key packet off len)
 
-pub put_digest-requires : goal.put_digest-requires
-put_digest-requires g c =
+pub put_digest-requires-clause-room : goal.put_digest-requires-clause-room
+put_digest-requires-clause-room g c =
     let h = g.H.LaneHash.chaining in
     let std = g.met.H.LaneHash.standard in
     let key = c.args.key.now in
@@ -77,7 +77,7 @@ returns-clause-value g c =
     let g2 = grown (bytes c.put-at.new.ends) (bytes c.put-at-2.new.ends) _ _ c.put-at.result c.put-at-2.result g1 c.put-at-2.ensures.next c.put-at-2.ensures.written in
     let g3 = grown (bytes c.put-at-2.new.ends) (bytes c.put_padding-at.new.ends) _ _ c.put-at-2.result c.put_padding-at.result g2 c.put_padding-at.ensures.next c.put_padding-at.ensures.written in
     let g4 = grown (bytes c.put_padding-at.new.ends) (bytes c.put-at-3.new.ends) _ _ c.put_padding-at.result c.put-at-3.result g3 c.put-at-3.ensures.next c.put-at-3.ensures.written in
-    let digest : List ℕ = h.digest c.args.auth (g.H.LaneHash.words c.zeros.result) in
+    let digest : List ℕ = h.digest c.args.hash (g.H.LaneHash.words c.zeros.result) in
     let last : List ℕ = digest ++ h.padding (h.block_bytes + length digest) in
     ap (λ n. take n (bytes c.put_digest.new.ends)) place ∙ c.put_digest.ensures.written ∙ ap (λ (l : List ℕ). l ++ last) g4
-    ∙ ends_made h std key packet off len c.args.auth _ _ _ _ _ c.zeros.ensures front text back
+    ∙ ends_made h std key packet off len c.args.hash _ _ _ _ _ c.zeros.ensures front text back

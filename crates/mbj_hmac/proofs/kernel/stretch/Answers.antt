@@ -9,7 +9,7 @@ pub compressed-requires-clause-some : goal.compressed-requires-clause-some
 compressed-requires-clause-some g c = c.requires.some
 
 pub compressed-requires-clause-rests : goal.compressed-requires-clause-rests
-compressed-requires-clause-rests g c i lt = rests_in_lanes c.args.entries.now c.args.m i c.requires.some c.requires.rests
+compressed-requires-clause-rests g c i = rests_in_lanes c.args.entries.now c.args.m i c.requires.some c.requires.rests
 
 pub compressed-requires-clause-start : goal.compressed-requires-clause-start
 compressed-requires-clause-start g c = c.gathered-states.ensures

@@ -58,7 +58,7 @@ returns-then-rest-behind-clause-block g c =
     let some : 0 < r = omega (arith, rest_is, c.requires) in
     let at : r + q ≡ tail_blocks b f.len + 2 = omega (arith, c.if-rest-behind.true, c.tail_blocks-behind.ensures) in
     rw (c.block_bytes-block.ensures, c.tail_blocks-behind.ensures, n, c.ends.ensures)
-    (end_laid h g.met.H.LaneHash.standard f.packet.items (words f.chain) (words f.inner) f.auth (bytes f.ends) f.rest f.off f.len r q k c.self.invariant some at (omega arith)
+    (end_laid h g.met.H.LaneHash.standard f.packet.items (words f.chain) (words f.inner) f.hash (bytes f.ends) f.rest f.off f.len r q k c.self.invariant some at (omega arith)
     ∙ ap (λ e. block_before h e (e.rest - c.args.done)) c.self.view_is)
 
 pub returns-then-rest-behind-2-clause-block : goal.returns-then-rest-behind-2-clause-block
@@ -77,7 +77,7 @@ returns-then-rest-behind-2-clause-block g c =
     let le' = rw (c.block_bytes-block.ensures, c.tail_blocks-behind.ensures) at le in
     let at : r + q ≡ tail_blocks b f.len + 2 + f.len / b = omega (arith, le') in
     rw (c.block_bytes-block.ensures, c.tail_blocks-behind.ensures, n, c.deref.ensures.value)
-    (packet_laid h g.met.H.LaneHash.standard f.packet.items (words f.chain) (words f.inner) f.auth (bytes f.ends) f.rest f.off f.len r q k c.self.invariant lt at (omega arith)
+    (packet_laid h g.met.H.LaneHash.standard f.packet.items (words f.chain) (words f.inner) f.hash (bytes f.ends) f.rest f.off f.len r q k c.self.invariant lt at (omega arith)
     ∙ ap (λ e. block_before h e (e.rest - c.args.done)) c.self.view_is)
 
 pub returns-else-rest-behind-2-clause-block : goal.returns-else-rest-behind-2-clause-block
@@ -91,5 +91,5 @@ returns-else-rest-behind-2-clause-block g c =
     let lt : c.tail_blocks-behind.result + 2 + f.len / c.block_bytes-block.result < r = omega (arith, c.if-rest-behind-2.false) in
     let lt' = rw (c.block_bytes-block.ensures, c.tail_blocks-behind.ensures) at lt in
     rw (c.block_bytes-block.ensures, c.ends-else-rest-behind-2.ensures)
-    (first_laid h g.met.H.LaneHash.standard f.packet.items (words f.chain) (words f.inner) f.auth (bytes f.ends) f.rest f.off f.len r c.self.invariant (omega arith) lt'
+    (first_laid h g.met.H.LaneHash.standard f.packet.items (words f.chain) (words f.inner) f.hash (bytes f.ends) f.rest f.off f.len r c.self.invariant (omega arith) lt'
     ∙ ap (λ e. block_before h e (e.rest - c.args.done)) c.self.view_is)

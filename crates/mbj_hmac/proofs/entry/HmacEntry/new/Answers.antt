@@ -1,57 +1,68 @@
-use Rattle.std.proofs.Common.{◌≡◌, ◌-◌, ◌++◌, ap, ap₂, ◌∙◌}
-use Rattle.std.specs.Prelude.{replicate}
-use Rattle.mbj_types.specs.Hmac.{block_key, ipad, opad}
-use Rattle.mbj_types.specs.Auths.{hash_of}
+use Rattle.std.proofs.Common.{◌≡◌, List, ℕ, ap, ap₂, ◌∙◌, take, drop}
+use Rattle.mbj_types.specs.Auths.{hash_of_name}
+use Rattle.mbj_types.specs.Hmac.{Hash, block_key, padded_key, hmac, ipad, opad}
+use Rattle.mbj_types.specs.declared.class.HashName.{HashName}
 use Rattle.mbj_lane.specs.Rounds.{end_of}
 use Rattle.mbj_hmac.specs.Rounds.{Going, round, rest_of, started}
 use Rattle.mbj_hmac.proofs.FirstEnds.{length-pad}
 use Rattle.mbj_hmac.proofs.Hmacs.{hmac_end, packet_end}
-use Rattle.mbj_hmac.proofs.Pads.{for_some, pad_of}
+use Rattle.mbj_hmac.proofs.Pads.{pad_of}
+use Rattle.mbj_hmac.proofs.Served.{of_hash, of_name, served_hmac, served_name}
 use Rattle.mbj_hmac.proofs.entry.HmacEntry.new.Goals as goal
+
+pub hash_name-hash-requires : goal.hash_name-hash-requires
+hash_name-hash-requires g c = served_hmac g.H.LaneHash.chaining c.args.auth c.requires.auth
+
+pub started-requires-clause-serves : goal.started-requires-clause-serves
+started-requires-clause-serves g c =
+    served_name c.args.auth c.hash_name-hash.result c.hash_name-hash.ensures g.H.LaneHash.chaining c.requires.auth
 
 pub returns-clause-start : goal.returns-clause-start
 returns-clause-start g c =
     let h = g.H.LaneHash.chaining in
     let std = g.met.H.LaneHash.standard in
-    let a = c.args.auth in
-    let x = c.pad_key-key.result in
-    let key = c.args.key.now in
-    for_some (hash_of a) (λ k. x ≡ block_key k key ++ replicate (128 - k.block_bytes) 0) _
-    (λ k named e.
-    let is = g.met.H.LaneHash.hashes a k c.requires.auth named in
-    let size = g.met.H.LaneHash.blocks a k c.requires.auth named in
-    c.started.ensures.start ∙ ap₂ (λ f b. started h a f b c.args.packet.items c.args.off c.args.len)
-    (pad_of h std a k key x ipad (128 - k.block_bytes) is size e) (pad_of h std a k key x opad (128 - k.block_bytes) is size e))
-    c.pad_key-key.ensures
+    let a : HashName = c.hash_name-hash.result in
+    let hash : Hash = hash_of_name a in
+    let key : List ℕ = c.args.key.now in
+    let packet : List ℕ = c.args.packet.items in
+    let served = served_name c.args.auth a c.hash_name-hash.ensures h c.requires.auth in
+    let is = g.met.H.LaneHash.hashes a served in
+    let size = g.met.H.LaneHash.blocks a served in
+    let x = c.hash_key-key.result in
+    of_name c.args.auth a c.hash_name-hash.ensures
+    (λ n. c.started.result ≡ started h n (padded_key ipad (block_key (hash_of_name n) key)) (padded_key opad (block_key (hash_of_name n) key)) packet c.args.off c.args.len)
+    (c.started.ensures.start ∙ ap₂ (λ f b. started h a f b packet c.args.off c.args.len)
+    (pad_of h std a hash key x ipad _ is size c.hash_key-key.ensures) (pad_of h std a hash key x opad _ is size c.hash_key-key.ensures))
 
 pub returns-clause-packet : goal.returns-clause-packet
 returns-clause-packet g c =
     let h = g.H.LaneHash.chaining in
     let std = g.met.H.LaneHash.standard in
-    let x = c.pad_key-key.result in
+    let x = c.hash_key-key.result in
     let packet = c.args.packet.items in
     let off = c.args.off in
     let len = c.args.len in
     ap (λ (e : Going). (end_of (round h) rest_of e).packet) c.started.ensures.start
-    ∙ packet_end h std c.args.auth _ _ packet off len (length-pad h std x packet off len ipad c.started.ensures.pads) c.requires.range c.ranges.len.fits
+    ∙ packet_end h std c.hash_name-hash.result _ _ packet off len (length-pad h std x packet off len ipad c.started.ensures.pads) c.requires.range c.ranges.len.fits
 
 pub returns-clause-tag : goal.returns-clause-tag
 returns-clause-tag g c =
     let h = g.H.LaneHash.chaining in
     let std = g.met.H.LaneHash.standard in
-    let a = c.args.auth in
-    let x = c.pad_key-key.result in
-    let key = c.args.key.now in
-    let packet = c.args.packet.items in
+    let a : HashName = c.hash_name-hash.result in
+    let hash : Hash = hash_of_name a in
+    let key : List ℕ = c.args.key.now in
+    let packet : List ℕ = c.args.packet.items in
     let off = c.args.off in
     let len = c.args.len in
-    for_some (hash_of a) (λ k. x ≡ block_key k key ++ replicate (128 - k.block_bytes) 0) _
-    (λ k named e.
-    let is = g.met.H.LaneHash.hashes a k c.requires.auth named in
-    let size = g.met.H.LaneHash.blocks a k c.requires.auth named in
-    ap (λ (e : Going). h.digest a (end_of (round h) rest_of e).chain) c.started.ensures.start
-    ∙ hmac_end h std a _ _ packet off len k key is
-    (pad_of h std a k key x ipad (128 - k.block_bytes) is size e) (pad_of h std a k key x opad (128 - k.block_bytes) is size e)
+    let served = served_name c.args.auth a c.hash_name-hash.ensures h c.requires.auth in
+    let is = g.met.H.LaneHash.hashes a served in
+    let size = g.met.H.LaneHash.blocks a served in
+    let x = c.hash_key-key.result in
+    let digest : Going → List ℕ = λ e. let end : Going = end_of (round h) rest_of e in h.digest end.hash end.chain in
+    of_hash c.args.auth a c.hash_name-hash.ensures (λ k. digest c.started.result ≡ hmac k key (take len (drop off packet)))
+    (ap digest c.started.ensures.start
+    ∙ hmac_end h std a _ _ packet off len hash key is
+    (pad_of h std a hash key x ipad _ is size c.hash_key-key.ensures) (pad_of h std a hash key x opad _ is size c.hash_key-key.ensures)
     (length-pad h std x packet off len ipad c.started.ensures.pads) (length-pad h std x packet off len opad c.started.ensures.pads)
     c.requires.range c.ranges.len.fits)
-    c.pad_key-key.ensures

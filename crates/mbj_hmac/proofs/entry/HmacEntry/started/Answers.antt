@@ -9,7 +9,7 @@ pub invariant_of-result : goal.invariant_of-result
 invariant_of-result g c =
     let h = g.H.LaneHash.chaining in
     let std = g.met.H.LaneHash.standard in
-    let a = c.args.auth in
+    let a = c.args.hash in
     let key = c.args.key.now in
     let packet = c.args.packet.items in
     let off = c.args.off in
@@ -22,10 +22,11 @@ invariant_of-result g c =
     let facts : Facts h std packet a made front back zeros off len = record {
       front_is = length-pad h std key packet off len ipad c.first_ends-ends.ensures.pads;
       back_is = length-pad h std key packet off len opad c.first_ends-ends.ensures.pads;
-      range = c.requires;
+      range = c.requires.range;
       small = c.ranges.len.fits;
       whole = c.first_ends-ends.ensures.length;
       ends_are = ends;
+      served = c.requires.serves;
     } in
     new_sound h std packet a made front back zeros off len facts (g.H.LaneHash.words c.initial.result) c.rounds.result c.rounds.ensures
 
@@ -33,7 +34,7 @@ pub returns-clause-start : goal.returns-clause-start
 returns-clause-start g c =
     let h = g.H.LaneHash.chaining in
     let std = g.met.H.LaneHash.standard in
-    let a = c.args.auth in
+    let a = c.args.hash in
     let key = c.args.key.now in
     let packet = c.args.packet.items in
     let off = c.args.off in
@@ -46,10 +47,11 @@ returns-clause-start g c =
     let facts : Facts h std packet a made front back zeros off len = record {
       front_is = length-pad h std key packet off len ipad c.first_ends-ends.ensures.pads;
       back_is = length-pad h std key packet off len opad c.first_ends-ends.ensures.pads;
-      range = c.requires;
+      range = c.requires.range;
       small = c.ranges.len.fits;
       whole = c.first_ends-ends.ensures.length;
       ends_are = ends;
+      served = c.requires.serves;
     } in
     ap (λ s. seen h packet c.rounds.result s zeros a made off len) c.initial.ensures
     ∙ new_seen h std packet a made front back zeros off len facts c.rounds.result c.rounds.ensures c.zeros.ensures

@@ -18,8 +18,8 @@ overflow_mul-at g c =
     rw (c.tail_blocks.ensures, c.block_bytes.ensures)
     (omega (arith, (size_range b std.size).1, times_le b std.size (tail_blocks b c.self.inside.len) 2 (tail_range b std.size c.self.inside.len).1))
 
-pub put_digest-requires : goal.put_digest-requires
-put_digest-requires g c =
+pub put_digest-requires-clause-room : goal.put_digest-requires-clause-room
+put_digest-requires-clause-room g c =
     let std = g.met.H.LaneHash.standard in
     let b = g.H.LaneHash.chaining.block_bytes in
     rw (c.tail_blocks.ensures, c.block_bytes.ensures)
@@ -32,7 +32,7 @@ invariant_of-self g c =
     let bytes = g.H.LaneHash.ends_bytes in
     let f = c.self.inside in
     let written = rw (c.block_bytes.ensures, c.tail_blocks.ensures) at c.put_digest.ensures.written in
-    turned_sound h g.met.H.LaneHash.standard f.packet.items (words f.chain) (words f.inner) f.auth (bytes f.ends) (bytes c.put_digest.new.ends) f.rest f.off f.len
+    turned_sound h g.met.H.LaneHash.standard f.packet.items (words f.chain) (words f.inner) f.hash (bytes f.ends) (bytes c.put_digest.new.ends) f.rest f.off f.len
     (words c.initial-self-inside.result) c.self.invariant written c.put_digest.ensures.len
 
 pub returns-then-self-eq2 : goal.returns-then-self-eq2
@@ -42,7 +42,7 @@ returns-then-self-eq2 g c =
     let bytes = g.H.LaneHash.ends_bytes in
     let f = c.self.inside in
     let written = rw (c.block_bytes.ensures, c.tail_blocks.ensures) at c.put_digest.ensures.written in
-    ap (λ s. seen h f.packet.items f.rest s (words f.chain) f.auth (bytes c.put_digest.new.ends) f.off f.len) c.initial-self-inside.ensures
-    ∙ turned_seen h g.met.H.LaneHash.standard f.packet.items (words f.chain) (words f.inner) f.auth (bytes f.ends) (bytes c.put_digest.new.ends) f.rest f.off f.len
+    ap (λ s. seen h f.packet.items f.rest s (words f.chain) f.hash (bytes c.put_digest.new.ends) f.off f.len) c.initial-self-inside.ensures
+    ∙ turned_seen h g.met.H.LaneHash.standard f.packet.items (words f.chain) (words f.inner) f.hash (bytes f.ends) (bytes c.put_digest.new.ends) f.rest f.off f.len
     c.self.invariant written (omega arith)
     ∙ ap (turned h) c.self.view_is

@@ -1,9 +1,8 @@
 use Rattle.std.proofs.Common.{◌≡◌, ◌∙◌, ◌≤◌, ◌<◌, ◌++◌, ◌-◌, List, ℕ, length, subst, arith, ap, sym}
 use Rattle.std.specs.Prelude.{replicate}
-use Rattle.std.proofs.lemmas.List.{append-nil}
 use Rattle.mbj_types.specs.Hmac.{Hash}
 use Rattle.mbj_hmac.proofs.Keys.{filled_on, length-filled_key, block_key-short, block_key-long}
-use Rattle.mbj_hmac.proofs.plain.key_of_block.Goals as goal
+use Rattle.mbj_hmac.proofs.key.key_of_block.Goals as goal
 
 pub returns-then-key-block_bytes : goal.returns-then-key-block_bytes
 returns-then-key-block_bytes g c =
@@ -21,10 +20,9 @@ returns-else-key-block_bytes g c =
     let hash : Hash = g.H.Hasher.hash in
     let key : List ℕ = c.args.key.now in
     let long : hash.block_bytes < length key = omega arith in
-    let digest_is : c.digest_of_both.result ≡ hash.digest key =
-    c.digest_of_both.ensures.value ∙ ap hash.digest (append-nil key) in
+    let digest_is : c.digest_of.result ≡ hash.digest key = c.digest_of.ensures.value in
     let Fits : List ℕ → Type 0 = λ d. length d ≤ hash.block_bytes in
-    let fits : length (hash.digest key) ≤ hash.block_bytes = subst Fits digest_is c.digest_of_both.ensures.fits in
+    let fits : length (hash.digest key) ≤ hash.block_bytes = subst Fits digest_is c.digest_of.ensures.fits in
     let IsFilled : List ℕ → Type 0 = λ d. c.filled-else-key-block_bytes.result ≡ d ++ replicate (128 - length d) 0 in
     record {
       value = subst IsFilled (c.bytes.ensures.value ∙ digest_is) c.filled-else-key-block_bytes.ensures

@@ -1,7 +1,7 @@
 use Rattle.std.proofs.Common.{ℕ, bit_xor, arith, get_or}
 use Rattle.std.proofs.lemmas.List.{get_or_default}
 use Rattle.std.proofs.lemmas.List.Edits.{map_over_more}
-use Rattle.mbj_hmac.proofs.plain.padded.Goals as goal
+use Rattle.mbj_hmac.proofs.key.padded.Goals as goal
 
 pub loop-byte-preserved : goal.loop-byte-preserved
 loop-byte-preserved c =

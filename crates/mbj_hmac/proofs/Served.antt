@@ -1,0 +1,35 @@
+-- An authentication whose hash is served.
+use Rattle.std.proofs.Common.{◌≡◌, IsSome, IsTrue, refl, sym, ap, ◌∙◌, subst}
+use Rattle.std.specs.Prelude.{IfSome}
+use Rattle.mbj_types.specs.declared.class.AuthClass.{AuthClass}
+use Rattle.mbj_types.specs.declared.class.AuthClass.TheVariants as class
+use Rattle.mbj_types.specs.declared.class.HashName.{HashName}
+use Rattle.mbj_types.specs.declared.job.Auth.{Auth}
+use Rattle.mbj_types.specs.Auths.{IsHmac, class_of, hash_in, hash_of, hash_of_name}
+use Rattle.mbj_types.specs.Hmac.{Hash}
+use Rattle.mbj_hmac.specs.Names.{name_in, name_of, serves_auth, serves_class}
+use Rattle.mbj_hmac.specs.Rounds.{Chaining}
+use Rattle.mbj_hmac.specs.Laws.Tests.{not_both}
+
+served_class : (h : Chaining) (c : AuthClass) → IsTrue (serves_class h c) → IsSome (hash_in c)
+served_class h class.Null t = absurd (not_both t)
+served_class h (class.Hmac n) t = refl
+served_class h (class.Cmac k) t = absurd (not_both t)
+served_class h class.Gcm t = absurd (not_both t)
+
+-- it is an HMAC
+pub served_hmac : (h : Chaining) (a : Auth) → IsTrue (serves_auth h a) → IsHmac a
+served_hmac h a t = served_class h (class_of a) t
+
+module _ (a : Auth) (n : HashName) (is : class_of a ≡ class.Hmac n) where
+  -- its hash is served
+  pub served_name : (h : Chaining) → IsTrue (serves_auth h a) → IsTrue (h.serves n)
+  served_name h t = sym (ap (serves_class h) is) ∙ t
+
+  -- what holds of its hash
+  pub of_hash : (P : Hash → Type 0) → P (hash_of_name n) → IfSome (hash_of a) P
+  of_hash P p = let Holds : AuthClass → Type 0 = λ c. IfSome (hash_in c) P in subst Holds (sym is) p
+
+  -- what holds of its name
+  pub of_name : (P : HashName → Type 0) → P n → IfSome (name_of a) P
+  of_name P p = let Holds : AuthClass → Type 0 = λ c. IfSome (name_in c) P in subst Holds (sym is) p
