@@ -3,15 +3,17 @@ use Rattle.std.proofs.Common.{◌≡◌, ◌≢◌, ℕ, ◌+◌, ◌/◌, ◌==
 use Rattle.std.specs.Prelude.{if◌then◌else◌}
 use Rattle.std.proofs.lemmas.Bool.{cond_both, eqb-true}
 use Rattle.mbj_types.specs.declared.job.Job.{Job}
-use Rattle.mbj_types.specs.declared.job.Auth.{Auth}
-use Rattle.mbj_types.specs.declared.job.Auth.TheVariants as auth
+use Rattle.mbj_types.specs.declared.class.AuthClass.{AuthClass}
+use Rattle.mbj_types.specs.declared.class.AuthClass.TheVariants as class
+use Rattle.mbj_types.specs.declared.class.CmacKey.{CmacKey}
+use Rattle.mbj_types.specs.declared.class.CmacKey.TheVariants.{Aes128, Aes256}
 use Rattle.mbj_types.specs.declared.job.Cipher.{Cipher}
 use Rattle.mbj_types.specs.declared.job.Cipher.TheVariants as cipher
 use Rattle.mbj_types.specs.declared.job.Dir.TheVariants.{Enc}
 use Rattle.mbj_types.specs.declared.kind.Kind.TheVariants as kind
 use Rattle.mbj_types.specs.declared.reason.Reason.{Reason}
 use Rattle.mbj_types.specs.Aes.{round_count}
-use Rattle.mbj_types.specs.Auths.{class_of}
+use Rattle.mbj_types.specs.Auths.{IsCmac, class_of, cmac_key_bytes, cmac_kind}
 use Rattle.mbj_types.specs.Result.{ciphered, mac_by}
 use Rattle.mbj_types.specs.Verdict.{takes_auth_key, takes_key, verdict_at}
 use Rattle.mbj_aes.specs.Bytes.{IsKeySize, IsRoundCount}
@@ -20,14 +22,14 @@ use Rattle.mbj_args.proofs.Accepted.{accepted}
 use Rattle.mbj_stage.specs.declared.stage.Stage.TheVariants as stage
 use Rattle.mbj_stage.specs.declared.stage.Step.{Step}
 use Rattle.mbj_stage.specs.declared.stage.Step.TheVariants as step
-use Rattle.mbj_stage.specs.Inside.Families.{cbc_stage, cmac_stage}
-use Rattle.mbj_stage.specs.Steps.{IsFirst, auth_stage_by, cbc_kind, stage_at}
+use Rattle.mbj_stage.specs.Families.{cbc_lanes, cbc_stage, cmac_lanes, cmac_stage}
+use Rattle.mbj_stage.specs.Steps.{IsFirst, auth_stage_by, cbc_kind, stage_at, step_of}
 use Rattle.mbj_stage.specs.Going.{IsSound, packet_length, owed}
 use Rattle.mbj_stage.specs.Handing.{End, owed_with}
 use Rattle.mbj_stage.proofs.Handings.{going, owes-text, owes-mac}
 use Rattle.mbj_stage.proofs.Lengths.{length-ciphered}
 use Rattle.mbj_stage.proofs.Packets.{ciphered-packet, mac_by-packet}
-use Rattle.mbj_stage.proofs.StagesOf.{auth-first, cipher-first, cipher-lane, cmac-auth, first-some, first-step, stage-packet, step_of}
+use Rattle.mbj_stage.proofs.StagesOf.{auth-first, cipher-first, cipher-lane, cmac-auth, first-some, first-step, stage-packet}
 
 -- ---- what is owed
 
@@ -80,7 +82,7 @@ pub record IsCbcNext (j : Job) (p : List ℕ) (left : List Step) (n : ℕ) : Typ
   pub rounds : round_count j.key ≡ n
   pub accepted : verdict_at j (length p) ≡ None
 
-cbc-kinds : (n : ℕ) → step_of (if n == 10 then kind.Cbc128 else if n == 12 then kind.Cbc192 else kind.Cbc256) ≡ step.Cipher
+pub cbc-kinds : (n : ℕ) → step_of (cbc_lanes n) ≡ step.Cipher
 cbc-kinds n =
     cond_both (n == 10) kind.Cbc128 (if n == 12 then kind.Cbc192 else kind.Cbc256) (λ k. step_of k ≡ step.Cipher)
     (λ _. refl) (λ _. cond_both (n == 12) kind.Cbc192 kind.Cbc256 (λ k. step_of k ≡ step.Cipher) (λ _. refl) (λ _. refl))
@@ -117,21 +119,25 @@ hmac-accepted j p left out sound here first = here-accepted j p left out sound h
 
 pub record IsCmacNext (j : Job) (p : List ℕ) (left : List Step) (n : ℕ) : Type 0 where
   pub first : IsFirst step.Auth left
-  pub cmac : (j.auth ≡ auth.Cmac128) ⊎ (j.auth ≡ auth.Cmac256)
+  pub cmac : IsCmac (class_of j.auth)
   pub rounds : round_count j.auth_key ≡ n
   pub accepted : verdict_at j (length p) ≡ None
 
-cmac-kinds : (n : ℕ) → step_of (if n == 10 then kind.Cmac128 else kind.Cmac256) ≡ step.Auth
+pub cmac-kinds : (n : ℕ) → step_of (cmac_lanes n) ≡ step.Auth
 cmac-kinds n = cond_both (n == 10) kind.Cmac128 kind.Cmac256 (λ k. step_of k ≡ step.Auth) (λ _. refl) (λ _. refl)
 
 -- the rounds of each CMAC's keys
-cmac-rounds : (a : Auth) (key n : ℕ) → (n ≡ 10) ⊎ (n ≡ 14) → takes_auth_key (class_of a) key ≡ true → auth_stage_by a ≡ cmac_stage n → key / 4 + 6 ≡ n
-cmac-rounds auth.Cmac128 key n (inl b) k h = let e = eqb-true key 16 k in omega arith
-cmac-rounds auth.Cmac128 key n (inr b) k h = absurd (let e = h ∙ ap cmac_stage b in cc)
-cmac-rounds auth.Cmac256 key n (inl b) k h = absurd (let e = h ∙ ap cmac_stage b in cc)
-cmac-rounds auth.Cmac256 key n (inr b) k h = let e = eqb-true key 32 k in omega arith
-cmac-rounds _ key n (inl b) k h = absurd (let e = h ∙ ap cmac_stage b in cc)
-cmac-rounds _ key n (inr b) k h = absurd (let e = h ∙ ap cmac_stage b in cc)
+key-rounds : (k : CmacKey) (key n : ℕ) → (n ≡ 10) ⊎ (n ≡ 14) → key ≡ cmac_key_bytes k → stage.Lane (cmac_kind k) ≡ cmac_stage n → key / 4 + 6 ≡ n
+key-rounds Aes128 key n (inl b) k h = omega arith
+key-rounds Aes128 key n (inr b) k h = absurd (let e = h ∙ ap cmac_stage b in cc)
+key-rounds Aes256 key n (inl b) k h = absurd (let e = h ∙ ap cmac_stage b in cc)
+key-rounds Aes256 key n (inr b) k h = omega arith
+
+cmac-rounds : (a : AuthClass) (key n : ℕ) → (n ≡ 10) ⊎ (n ≡ 14) → takes_auth_key a key ≡ true → auth_stage_by a ≡ cmac_stage n → key / 4 + 6 ≡ n
+cmac-rounds class.Null key n count k h = absurd (cmac-auth class.Null n h)
+cmac-rounds (class.Hmac hash) key n count k h = absurd (cmac-auth (class.Hmac hash) n h)
+cmac-rounds (class.Cmac of) key n count k h = key-rounds of key n count (eqb-true key (cmac_key_bytes of) k) h
+cmac-rounds class.Gcm key n count k h = absurd (cmac-auth class.Gcm n h)
 
 pub cmac-next : (j : Job) (p : List ℕ) (left : List Step) (out : Option ℕ) (n : ℕ) → (n ≡ 10) ⊎ (n ≡ 14) → IsSound j p left out → out ≡ None
     → stage_at (record j { packet = p }) left ≡ cmac_stage n → IsCmacNext j p left n
@@ -142,7 +148,7 @@ cmac-next j p left out n count sound here next =
     let none = here-accepted j p left out sound here (first-some step.Auth left first) in
     record {
       first = first;
-      cmac = cmac-auth j.auth n lane;
-      rounds = cmac-rounds j.auth (length j.auth_key) n count (accepted j (length p) none).auth_key lane;
+      cmac = cmac-auth (class_of j.auth) n lane;
+      rounds = cmac-rounds (class_of j.auth) (length j.auth_key) n count (accepted j (length p) none).auth_key lane;
       accepted = none;
     }

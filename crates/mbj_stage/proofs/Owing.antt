@@ -10,7 +10,9 @@ use Rattle.mbj_types.specs.declared.job.Order.TheVariants.{CipherHash, HashCiphe
 use Rattle.mbj_types.specs.declared.done.Done.{Done}
 use Rattle.mbj_types.specs.declared.done.Status.TheVariants as status
 use Rattle.mbj_types.specs.declared.reason.Reason.{Reason}
-use Rattle.mbj_types.specs.Auths.{AuthClass, no_auth, hmac_auth, cmac_auth, gcm_auth, class_of}
+use Rattle.mbj_types.specs.Auths.{class_of}
+use Rattle.mbj_types.specs.declared.class.AuthClass.{AuthClass}
+use Rattle.mbj_types.specs.declared.class.AuthClass.TheVariants as class
 use Rattle.mbj_types.specs.Verdict.{is_gcm_cipher, is_gcm_auth, verdict}
 use Rattle.mbj_types.specs.Result.{ciphered, ciphered_by, mac_by, tag_over, authenticated_in, authenticated_by, accepted, refused, result_of}
 use Rattle.mbj_args.proofs.Accepted as table
@@ -43,19 +45,19 @@ after_cipher cipher.Gcm j tag left e h = absurd (cc)
 after_auth : (a : AuthClass) (j : Job) (left : List Step) → class_of j.auth ≡ a → is_gcm_auth a ≡ false
     → led_to None (auth_steps a ++ left) j [] ≡ led_to None left j (tag_over j j.packet)
 unfolding tag_over
-after_auth no_auth j left e h =
+after_auth class.Null j left e h =
     ap (λ (t : List ℕ). led_to None left j t)
     (sym (ap (λ (a : AuthClass). take j.tag_len (mac_by a j j.packet)) e ∙ take-nil j.tag_len))
-after_auth (hmac_auth hash) j left e h = refl
-after_auth (cmac_auth key_bytes) j left e h = refl
-after_auth gcm_auth j left e h = absurd (cc)
+after_auth (class.Hmac hash) j left e h = refl
+after_auth (class.Cmac key) j left e h = refl
+after_auth class.Gcm j left e h = absurd (cc)
 
 -- without GCM the packet that is authenticated goes by the order
 authenticated-ordered : (a : AuthClass) (j : Job) → is_gcm_auth a ≡ false → authenticated_by a j ≡ authenticated_in j.order j
-authenticated-ordered no_auth j h = refl
-authenticated-ordered (hmac_auth hash) j h = refl
-authenticated-ordered (cmac_auth key_bytes) j h = refl
-authenticated-ordered gcm_auth j h = absurd (cc)
+authenticated-ordered class.Null j h = refl
+authenticated-ordered (class.Hmac hash) j h = refl
+authenticated-ordered (class.Cmac key) j h = refl
+authenticated-ordered class.Gcm j h = absurd (cc)
 
 -- the steps of a job without GCM lead to its result
 ordered-led : (o : Order) (j : Job) → j.order ≡ o → is_gcm_cipher j.cipher ≡ false → is_gcm_auth (class_of j.auth) ≡ false
@@ -73,7 +75,7 @@ ordered-led HashCipher j e hc ha =
     ∙ after_cipher j.cipher j (tag_over j j.packet) [] refl hc
 
 -- the one step of a GCM job, in either order
-ordered-gcm : (o : Order) → ordered o (cipher_steps cipher.Gcm) (auth_steps gcm_auth) ≡ step.Gcm ∷ []
+ordered-gcm : (o : Order) → ordered o (cipher_steps cipher.Gcm) (auth_steps class.Gcm) ≡ step.Gcm ∷ []
 ordered-gcm CipherHash = refl
 ordered-gcm HashCipher = refl
 

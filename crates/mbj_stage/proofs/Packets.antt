@@ -6,7 +6,9 @@ use Rattle.mbj_types.specs.declared.job.Cipher.{Cipher}
 use Rattle.mbj_types.specs.declared.job.Cipher.TheVariants as cipher
 use Rattle.mbj_types.specs.declared.job.Dir.{Dir}
 use Rattle.mbj_types.specs.declared.job.Dir.TheVariants.{Enc, Dec}
-use Rattle.mbj_types.specs.Auths.{AuthClass, no_auth, hmac_auth, cmac_auth, gcm_auth, class_of}
+use Rattle.mbj_types.specs.Auths.{class_of}
+use Rattle.mbj_types.specs.declared.class.AuthClass.{AuthClass}
+use Rattle.mbj_types.specs.declared.class.AuthClass.TheVariants as class
 use Rattle.mbj_types.specs.Verdict.{is_null_cipher}
 use Rattle.mbj_types.specs.Result.{cipher_range, with_cipher_range, gcm_of, ciphered, ciphered_by, mac_by, tag_over}
 use Rattle.mbj_stage.specs.declared.stage.Step.{Step}
@@ -58,10 +60,10 @@ ciphered-packet j p q = ciphered_by-packet j.cipher j.dir j p q
 
 pub mac_by-packet : (a : AuthClass) (j : Job) (p q : List ℕ) → mac_by a (record j { packet = q }) p ≡ mac_by a j p
 unfolding gcm_of
-mac_by-packet no_auth j p q = refl
-mac_by-packet (hmac_auth h) j p q = refl
-mac_by-packet (cmac_auth key_bytes) j p q = refl
-mac_by-packet gcm_auth j p q = refl
+mac_by-packet class.Null j p q = refl
+mac_by-packet (class.Hmac h) j p q = refl
+mac_by-packet (class.Cmac key) j p q = refl
+mac_by-packet class.Gcm j p q = refl
 
 pub tag_over-packet : (j : Job) (p q : List ℕ) → tag_over (record j { packet = q }) p ≡ tag_over j p
 unfolding tag_over

@@ -8,7 +8,9 @@ use Rattle.mbj_types.specs.declared.job.Cipher.TheVariants as cipher
 use Rattle.mbj_types.specs.declared.job.Order.{Order}
 use Rattle.mbj_types.specs.declared.job.Order.TheVariants.{CipherHash, HashCipher}
 use Rattle.mbj_types.specs.declared.reason.Reason.{Reason}
-use Rattle.mbj_types.specs.Auths.{AuthClass, no_auth, hmac_auth, cmac_auth, gcm_auth, class_of}
+use Rattle.mbj_types.specs.Auths.{class_of}
+use Rattle.mbj_types.specs.declared.class.AuthClass.{AuthClass}
+use Rattle.mbj_types.specs.declared.class.AuthClass.TheVariants as class
 use Rattle.mbj_types.specs.Verdict.{verdict_at}
 use Rattle.mbj_stage.specs.declared.stage.Step.{Step}
 use Rattle.mbj_stage.specs.declared.stage.Step.TheVariants as step
@@ -27,10 +29,10 @@ own_cipher cipher.Ctr j e = own_one j step.Cipher e
 own_cipher cipher.Gcm j e = own_one j step.Gcm e
 
 own_auth : (a : AuthClass) (j : Job) → auth_steps (class_of j.auth) ≡ auth_steps a → All (IsStepOf j) (auth_steps a)
-own_auth no_auth j e = All-nil (IsStepOf j)
-own_auth (hmac_auth hash) j e = own_one j step.Auth e
-own_auth (cmac_auth key_bytes) j e = own_one j step.Auth e
-own_auth gcm_auth j e = All-nil (IsStepOf j)
+own_auth class.Null j e = All-nil (IsStepOf j)
+own_auth (class.Hmac hash) j e = own_one j step.Auth e
+own_auth (class.Cmac key) j e = own_one j step.Auth e
+own_auth class.Gcm j e = All-nil (IsStepOf j)
 
 own_ordered : (o : Order) (j : Job) (ciphers auths : List Step) → All (IsStepOf j) ciphers → All (IsStepOf j) auths
     → All (IsStepOf j) (ordered o ciphers auths)

@@ -1,23 +1,26 @@
 -- Which jobs have their next stage at once, in which lanes, or none left.
 use Rattle.std.proofs.Common.{◌≡◌, ◌≢◌, ℕ, ◌⊎◌, inl, inr, ◌==◌, List, [], ◌∷◌, length, refl, sym, ap, ◌∙◌}
-use Rattle.std.specs.Prelude.{if◌then◌else◌, IsTrue}
+use Rattle.std.specs.Prelude.{IsSome, if◌then◌else◌}
 use Rattle.std.proofs.lemmas.Bool.{cond_both}
 use Rattle.mbj_types.specs.declared.job.Job.{Job}
 use Rattle.mbj_types.specs.declared.job.Cipher.{Cipher}
 use Rattle.mbj_types.specs.declared.job.Cipher.TheVariants as cipher
 use Rattle.mbj_types.specs.declared.job.Dir.{Dir}
 use Rattle.mbj_types.specs.declared.job.Dir.TheVariants.{Enc, Dec}
-use Rattle.mbj_types.specs.declared.job.Auth.{Auth}
-use Rattle.mbj_types.specs.declared.job.Auth.TheVariants as auth
+use Rattle.mbj_types.specs.declared.class.AuthClass.{AuthClass}
+use Rattle.mbj_types.specs.declared.class.AuthClass.TheVariants as class
+use Rattle.mbj_types.specs.declared.class.CmacKey.{CmacKey}
+use Rattle.mbj_types.specs.declared.class.CmacKey.TheVariants.{Aes128}
+use Rattle.mbj_types.specs.declared.class.HashName.{HashName}
+use Rattle.mbj_types.specs.declared.class.HashName.TheVariants.{Sha1}
 use Rattle.mbj_types.specs.declared.kind.Kind.{Kind}
 use Rattle.mbj_types.specs.declared.kind.Kind.TheVariants as kind
-use Rattle.mbj_types.specs.Auths.{IsHmac}
-use Rattle.mbj_hmac.specs.Chainings.{is_sha1, is_sha256, is_sha512}
+use Rattle.mbj_types.specs.Auths.{IsCmac, class_of, cmac_kind, hash_in, hash_kind}
 use Rattle.mbj_stage.specs.declared.stage.Stage.TheVariants as stage
 use Rattle.mbj_stage.specs.declared.stage.Step.{Step}
 use Rattle.mbj_stage.specs.declared.stage.Step.TheVariants as step
-use Rattle.mbj_stage.specs.Inside.Families.{cmac_stage}
-use Rattle.mbj_stage.specs.Steps.{IsFirst, auth_stage_by, cbc_kind, cipher_stage_by, stage_at}
+use Rattle.mbj_stage.specs.Families.{cmac_lanes, cmac_stage}
+use Rattle.mbj_stage.specs.Steps.{IsFirst, auth_stage_by, cbc_kind, cipher_stage_by, stage_at, step_of}
 
 -- ---- the packet has no part in it
 
@@ -42,22 +45,17 @@ cipher-left cipher.Cbc Dec n e = cc
 cipher-left cipher.Ctr d n e = cc
 cipher-left cipher.Gcm d n e = cc
 
-auth-left : (a : Auth) → auth_stage_by a ≢ stage.Finished
-auth-left auth.Null e = cc
-auth-left auth.HmacSha1 e = cc
-auth-left auth.HmacSha224 e = cc
-auth-left auth.HmacSha256 e = cc
-auth-left auth.HmacSha384 e = cc
-auth-left auth.HmacSha512 e = cc
-auth-left auth.Cmac128 e = cc
-auth-left auth.Cmac256 e = cc
-auth-left auth.Gcm e = cc
+auth-left : (a : AuthClass) → auth_stage_by a ≢ stage.Finished
+auth-left class.Null e = cc
+auth-left (class.Hmac hash) e = cc
+auth-left (class.Cmac key) e = cc
+auth-left class.Gcm e = cc
 
 -- where the stage is finished no step is left
 pub finished-left : (j : Job) (left : List Step) → stage_at j left ≡ stage.Finished → left ≡ []
 finished-left j [] h = refl
 finished-left j (step.Cipher ∷ left) h = absurd (cipher-left j.cipher j.dir (length j.key) h)
-finished-left j (step.Auth ∷ left) h = absurd (auth-left j.auth h)
+finished-left j (step.Auth ∷ left) h = absurd (auth-left (class_of j.auth) h)
 finished-left j (step.Gcm ∷ left) h = absurd (cc)
 
 -- ---- CBC
@@ -85,42 +83,34 @@ cipher-lane cipher.Gcm d n k h = absurd (cc)
 
 -- ---- the step of each kind
 
--- the step whose stage is in a kind's lanes
-abbrev pub step_of : Kind → Step
-step_of kind.Cbc128 = step.Cipher
-step_of kind.Cbc192 = step.Cipher
-step_of kind.Cbc256 = step.Cipher
-step_of kind.Cmac128 = step.Auth
-step_of kind.Cmac256 = step.Auth
-step_of kind.HmacSha1 = step.Auth
-step_of kind.HmacSha256 = step.Auth
-step_of kind.HmacSha512 = step.Auth
-
 cbc-step : (n : ℕ) → step_of (cbc_kind n) ≡ step.Cipher
 cbc-step n =
     cond_both (n == 16) kind.Cbc128 (if n == 24 then kind.Cbc192 else kind.Cbc256) (λ k. step_of k ≡ step.Cipher)
     (λ _. refl) (λ _. cond_both (n == 24) kind.Cbc192 kind.Cbc256 (λ k. step_of k ≡ step.Cipher) (λ _. refl) (λ _. refl))
 
-auth-step : (a : Auth) (k : Kind) → auth_stage_by a ≡ stage.Lane k → step.Auth ≡ step_of k
-auth-step auth.Null k h = absurd (cc)
-auth-step auth.HmacSha1 k h = let e : kind.HmacSha1 ≡ k = cc in ap step_of e
-auth-step auth.HmacSha224 k h = let e : kind.HmacSha256 ≡ k = cc in ap step_of e
-auth-step auth.HmacSha256 k h = let e : kind.HmacSha256 ≡ k = cc in ap step_of e
-auth-step auth.HmacSha384 k h = let e : kind.HmacSha512 ≡ k = cc in ap step_of e
-auth-step auth.HmacSha512 k h = let e : kind.HmacSha512 ≡ k = cc in ap step_of e
-auth-step auth.Cmac128 k h = let e : kind.Cmac128 ≡ k = cc in ap step_of e
-auth-step auth.Cmac256 k h = let e : kind.Cmac256 ≡ k = cc in ap step_of e
-auth-step auth.Gcm k h = absurd (cc)
+hash-step : (h : HashName) → step.Auth ≡ step_of (hash_kind h)
+hash-step Sha1 = refl
+hash-step _ = refl
+
+cmac-step : (k : CmacKey) → step.Auth ≡ step_of (cmac_kind k)
+cmac-step Aes128 = refl
+cmac-step _ = refl
+
+auth-step : (a : AuthClass) (k : Kind) → auth_stage_by a ≡ stage.Lane k → step.Auth ≡ step_of k
+auth-step class.Null k h = absurd (cc)
+auth-step (class.Hmac hash) k h = let e : hash_kind hash ≡ k = cc in hash-step hash ∙ ap step_of e
+auth-step (class.Cmac key) k h = let e : cmac_kind key ≡ k = cc in cmac-step key ∙ ap step_of e
+auth-step class.Gcm k h = absurd (cc)
 
 -- where a stage in a kind's lanes is next, its step is the first
 pub first-step : (j : Job) (left : List Step) (k : Kind) → stage_at j left ≡ stage.Lane k → IsFirst (step_of k) left
 first-step j [] k h = absurd (cc)
 first-step j (step.Cipher ∷ left) k h = sym (cbc-step (length j.key)) ∙ ap step_of (cipher-lane j.cipher j.dir (length j.key) k h).kind
-first-step j (step.Auth ∷ left) k h = auth-step j.auth k h
+first-step j (step.Auth ∷ left) k h = auth-step (class_of j.auth) k h
 first-step j (step.Gcm ∷ left) k h = absurd (cc)
 
 -- where the first step is the authentication, its stage is next
-pub auth-first : (j : Job) (left : List Step) → IsFirst step.Auth left → stage_at j left ≡ auth_stage_by j.auth
+pub auth-first : (j : Job) (left : List Step) → IsFirst step.Auth left → stage_at j left ≡ auth_stage_by (class_of j.auth)
 auth-first j [] h = absurd h
 auth-first j (step.Cipher ∷ left) h = absurd (cc)
 auth-first j (step.Auth ∷ left) h = refl
@@ -138,44 +128,30 @@ first-some s (t ∷ left) h = λ e. cc
 
 -- ---- HMAC
 
-pub sha1-serves : (a : Auth) → auth_stage_by a ≡ stage.Lane kind.HmacSha1 → IsTrue (is_sha1 a)
-sha1-serves auth.HmacSha1 h = refl
-sha1-serves _ h = absurd (cc)
-
-pub sha256-serves : (a : Auth) → auth_stage_by a ≡ stage.Lane kind.HmacSha256 → IsTrue (is_sha256 a)
-sha256-serves auth.HmacSha224 h = refl
-sha256-serves auth.HmacSha256 h = refl
-sha256-serves _ h = absurd (cc)
-
-pub sha512-serves : (a : Auth) → auth_stage_by a ≡ stage.Lane kind.HmacSha512 → IsTrue (is_sha512 a)
-sha512-serves auth.HmacSha384 h = refl
-sha512-serves auth.HmacSha512 h = refl
-sha512-serves _ h = absurd (cc)
-
 -- an HMAC is done in lanes
-pub hmac-in-lanes : (a : Auth) → IsHmac a → auth_stage_by a ≢ stage.Now
-hmac-in-lanes auth.Null h e = absurd (cc)
-hmac-in-lanes auth.HmacSha1 h e = cc
-hmac-in-lanes auth.HmacSha224 h e = cc
-hmac-in-lanes auth.HmacSha256 h e = cc
-hmac-in-lanes auth.HmacSha384 h e = cc
-hmac-in-lanes auth.HmacSha512 h e = cc
-hmac-in-lanes auth.Cmac128 h e = absurd (cc)
-hmac-in-lanes auth.Cmac256 h e = absurd (cc)
-hmac-in-lanes auth.Gcm h e = absurd (cc)
+pub hmac-in-lanes : (a : AuthClass) → IsSome (hash_in a) → auth_stage_by a ≢ stage.Now
+hmac-in-lanes class.Null h e = absurd (cc)
+hmac-in-lanes (class.Hmac hash) h e = cc
+hmac-in-lanes (class.Cmac key) h e = absurd (cc)
+hmac-in-lanes class.Gcm h e = absurd (cc)
 
 -- ---- CMAC
 
--- the CMAC of a kind's lanes
-pub cmac-auth : (a : Auth) (n : ℕ) → auth_stage_by a ≡ cmac_stage n → (a ≡ auth.Cmac128) ⊎ (a ≡ auth.Cmac256)
-cmac-auth a n =
-    cond_both (n == 10) kind.Cmac128 kind.Cmac256 (λ k. auth_stage_by a ≡ stage.Lane k → (a ≡ auth.Cmac128) ⊎ (a ≡ auth.Cmac256))
-    (λ _. of128 a) (λ _. of256 a)
+-- a hash has another kind
+hash-else : (h : HashName) (n : ℕ) → hash_kind h ≢ cmac_lanes n
+hash-else h n = cond_both (n == 10) kind.Cmac128 kind.Cmac256 (λ k. hash_kind h ≢ k) (λ _. of128 h) (λ _. of256 h)
   where
-    of128 : (a : Auth) → auth_stage_by a ≡ stage.Lane kind.Cmac128 → (a ≡ auth.Cmac128) ⊎ (a ≡ auth.Cmac256)
-    of128 auth.Cmac128 h = inl refl
-    of128 _ h = absurd (cc)
+    of128 : (h : HashName) → hash_kind h ≢ kind.Cmac128
+    of128 Sha1 e = cc
+    of128 _ e = cc
 
-    of256 : (a : Auth) → auth_stage_by a ≡ stage.Lane kind.Cmac256 → (a ≡ auth.Cmac128) ⊎ (a ≡ auth.Cmac256)
-    of256 auth.Cmac256 h = inr refl
-    of256 _ h = absurd (cc)
+    of256 : (h : HashName) → hash_kind h ≢ kind.Cmac256
+    of256 Sha1 e = cc
+    of256 _ e = cc
+
+-- the authentication of a kind's lanes of CMAC
+pub cmac-auth : (a : AuthClass) (n : ℕ) → auth_stage_by a ≡ cmac_stage n → IsCmac a
+cmac-auth class.Null n h = absurd (cc)
+cmac-auth (class.Hmac hash) n h = absurd (let e : hash_kind hash ≡ cmac_lanes n = cc in hash-else hash n e)
+cmac-auth (class.Cmac key) n h = tt
+cmac-auth class.Gcm n h = absurd (cc)

@@ -13,4 +13,4 @@ cmac_end e = record { packet = e.packet; mac = e.chain }
 
 -- the whole HMAC is the digest of the hash value
 abbrev pub hmac_end : Hmac.Chaining → Hmac.Going → End
-hmac_end h e = record { packet = e.packet; mac = h.digest e.auth e.chain }
+hmac_end h e = record { packet = e.packet; mac = h.digest e.hash e.chain }

@@ -1,12 +1,15 @@
 -- A course whose packet is out in a lane: how it is handed out and taken back, and what is owed meanwhile.
-use Rattle.std.specs.Prelude.{◌≡◌, ℕ, List, [], ◌∷◌, length, take, None, Some}
+use Rattle.std.specs.Prelude.{◌≡◌, ◌≤◌, ℕ, List, [], ◌∷◌, length, take, None, Some}
 use Rattle.mbj_types.specs.Auths.{class_of}
 use Rattle.mbj_types.specs.Result.{mac_by}
 use Rattle.mbj_types.specs.declared.job.Job.{Job}
 use Rattle.mbj_types.specs.declared.done.Done.{Done}
 use Rattle.mbj_stage.specs.declared.stage.Step.{Step}
 use Rattle.mbj_stage.specs.declared.stage.Step.TheVariants as step
-use Rattle.mbj_stage.specs.Going.{Going, owed, packet_after}
+use Rattle.mbj_types.specs.Rounds.{rounds_of}
+use Rattle.mbj_types.specs.declared.kind.Kind.{Kind}
+use Rattle.mbj_stage.specs.declared.stage.Stage.TheVariants as stage
+use Rattle.mbj_stage.specs.Going.{Going, owed, packet_after, stage_of}
 
 -- what an entry holds when its rounds are done: the packet, and the whole value of an HMAC or a CMAC, which a cipher's entry
 -- doesn't have
@@ -41,6 +44,24 @@ taken_back e c = taken_back_at c.left e c
 -- what the course owes whose entry, which is out, ends so
 abbrev pub owed_with : End → Going → Done
 owed_with e c = owed (taken_back e c)
+
+-- a stage in the kind's lanes is next, and the packet is here
+pub record IsNext (k : Kind) (c : Going) : Type 0 where
+  pub stage : stage_of c ≡ stage.Lane k
+  pub here : c.out ≡ None
+
+-- the packet went out of the course old, in an entry of the kind with this rest and end
+pub record IsHandedOut (k : Kind) (rest : ℕ) (e : End) (new old : Going) : Type 0 where
+  pub out : new ≡ handed_out old
+  pub rest_is : rest ≡ rounds_of k old.job
+  pub some : 1 ≤ rest
+  pub owed_is : owed_with e new ≡ owed old
+  pub length_is : new.out ≡ Some (length e.packet)
+
+-- the course has an entry of the kind out, which brings back the end e
+pub record IsOut (k : Kind) (e : End) (c : Going) : Type 0 where
+  pub stage : stage_of c ≡ stage.Lane k
+  pub packet : c.out ≡ Some (length e.packet)
 
 -- the end of an entry that does this step
 abbrev pub stage_end : Step → Job → End

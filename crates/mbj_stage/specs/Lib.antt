@@ -2,4 +2,6 @@ pub mod Steps
 pub mod Going
 pub mod Handing
 pub mod Ends
+pub mod Families
+pub mod Laws
 pub mod Inside

@@ -1,13 +1,13 @@
 -- The steps of a job, and when each is done.
 use Rattle.std.specs.Prelude.{◌≡◌, ◌==◌, ℕ, List, [], ◌∷◌, ◌++◌, length, Option, Some, None, if◌then◌else◌}
-use Rattle.mbj_types.specs.Auths.{AuthClass, no_auth, hmac_auth, cmac_auth, gcm_auth, class_of}
+use Rattle.mbj_types.specs.Auths.{class_of, cmac_kind, hash_kind}
+use Rattle.mbj_types.specs.declared.class.AuthClass.{AuthClass}
+use Rattle.mbj_types.specs.declared.class.AuthClass.TheVariants as class
 use Rattle.mbj_types.specs.declared.job.Job.{Job}
 use Rattle.mbj_types.specs.declared.job.Cipher.{Cipher}
 use Rattle.mbj_types.specs.declared.job.Cipher.TheVariants as cipher
 use Rattle.mbj_types.specs.declared.job.Dir.{Dir}
 use Rattle.mbj_types.specs.declared.job.Dir.TheVariants.{Enc, Dec}
-use Rattle.mbj_types.specs.declared.job.Auth.{Auth}
-use Rattle.mbj_types.specs.declared.job.Auth.TheVariants as auth
 use Rattle.mbj_types.specs.declared.kind.Kind.{Kind}
 use Rattle.mbj_types.specs.declared.kind.Kind.TheVariants as kind
 use Rattle.mbj_types.specs.declared.job.Order.{Order}
@@ -29,10 +29,10 @@ cipher_steps cipher.Gcm = step.Gcm ∷ []
 
 -- the steps of an authentication; the tag of GCM is made with its cipher
 abbrev pub auth_steps : AuthClass → List Step
-auth_steps no_auth = []
-auth_steps (hmac_auth h) = step.Auth ∷ []
-auth_steps (cmac_auth key_bytes) = step.Auth ∷ []
-auth_steps gcm_auth = []
+auth_steps class.Null = []
+auth_steps (class.Hmac h) = step.Auth ∷ []
+auth_steps (class.Cmac key) = step.Auth ∷ []
+auth_steps class.Gcm = []
 
 abbrev pub ordered : Order → List Step → List Step → List Step
 ordered CipherHash ciphers auths = ciphers ++ auths
@@ -73,16 +73,11 @@ cipher_stage_by cipher.Ctr d n = stage.Now
 cipher_stage_by cipher.Gcm d n = stage.Now
 
 -- when an authentication is done: HMAC in the lanes of its hash, and CMAC in those of its key
-abbrev pub auth_stage_by : Auth → Stage
-auth_stage_by auth.Null = stage.Now
-auth_stage_by auth.HmacSha1 = stage.Lane kind.HmacSha1
-auth_stage_by auth.HmacSha224 = stage.Lane kind.HmacSha256
-auth_stage_by auth.HmacSha256 = stage.Lane kind.HmacSha256
-auth_stage_by auth.HmacSha384 = stage.Lane kind.HmacSha512
-auth_stage_by auth.HmacSha512 = stage.Lane kind.HmacSha512
-auth_stage_by auth.Cmac128 = stage.Lane kind.Cmac128
-auth_stage_by auth.Cmac256 = stage.Lane kind.Cmac256
-auth_stage_by auth.Gcm = stage.Now
+abbrev pub auth_stage_by : AuthClass → Stage
+auth_stage_by class.Null = stage.Now
+auth_stage_by (class.Hmac h) = stage.Lane (hash_kind h)
+auth_stage_by (class.Cmac k) = stage.Lane (cmac_kind k)
+auth_stage_by class.Gcm = stage.Now
 
 -- when a job's cipher is done
 abbrev pub cipher_stage : Job → Stage
@@ -90,7 +85,7 @@ cipher_stage j = cipher_stage_by j.cipher j.dir (length j.key)
 
 -- when a job's authentication is done
 abbrev pub auth_stage : Job → Stage
-auth_stage j = auth_stage_by j.auth
+auth_stage j = auth_stage_by (class_of j.auth)
 
 -- when the first of the steps that are left is done
 abbrev pub stage_at : Job → List Step → Stage
@@ -103,3 +98,14 @@ stage_at j (step.Gcm ∷ left) = stage.Now
 abbrev pub IsFirst : Step → List Step → Type 0
 IsFirst s [] = ⊥
 IsFirst s (t ∷ left) = t ≡ s
+
+-- the step whose stage is in a kind's lanes
+abbrev pub step_of : Kind → Step
+step_of kind.Cbc128 = step.Cipher
+step_of kind.Cbc192 = step.Cipher
+step_of kind.Cbc256 = step.Cipher
+step_of kind.Cmac128 = step.Auth
+step_of kind.Cmac256 = step.Auth
+step_of kind.HmacSha1 = step.Auth
+step_of kind.HmacSha256 = step.Auth
+step_of kind.HmacSha512 = step.Auth

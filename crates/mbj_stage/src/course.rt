@@ -7,6 +7,7 @@ ghost use Rattle.mbj_types.specs.Rounds.{cbc_rounds, cmac_rounds, hmac_rounds};
 ghost use Rattle.mbj_aes.specs.Bytes.{IsRoundCount};
 ghost use Rattle.mbj_cbc.specs.Rounds.{round as cbc_round, rest_of as cbc_rest};
 ghost use Rattle.mbj_cmac.specs.Rounds.{round as cmac_round, rest_of as cmac_rest};
+ghost use Rattle.mbj_hmac.specs.Names.{serves_auth};
 ghost use Rattle.mbj_hmac.specs.Rounds.{round as hmac_round, rest_of as hmac_rest};
 ghost use Rattle.mbj_stage.specs.declared.stage.Stage.TheVariants as stage;
 ghost use Rattle.mbj_stage.specs.declared.stage.Step.TheVariants as step;
@@ -14,7 +15,7 @@ ghost use Rattle.mbj_stage.specs.Steps.{IsFirst, IsStepOf, stage_at, steps_in};
 ghost use Rattle.mbj_stage.specs.Going.{stage_of, begun, packet_after, tag_after, ran, status_of, owed};
 ghost use Rattle.mbj_stage.specs.Handing.{handed_out, taken_back, owed_with};
 ghost use Rattle.mbj_stage.specs.Ends.{cbc_end, cmac_end, hmac_end};
-ghost use Rattle.mbj_stage.specs.Inside.Families.{cbc_stage, cmac_stage};
+ghost use Rattle.mbj_stage.specs.Families.{cbc_stage, cmac_stage};
 
 use crate::entries::{cbc_entry, cmac_entry, hmac_entry};
 use crate::stage::{Stage, Step, Steps, stage_of_step, steps_by};
@@ -232,7 +233,7 @@ impl Course {
     /// Hands the packet out in an entry of HMAC over a hash of `H`.
     pub(crate) fn hand_out_hmac<H: LaneHash>(&mut self) -> HmacEntry<H>
         requires next { IsFirst step.Auth self.old.left }
-        requires serves { IsTrue (H.serves self.old.job.auth) }
+        requires serves { IsTrue (serves_auth H.chaining self.old.job.auth) }
         requires here { self.old.out ≡ None }
         ensures out { self.new ≡ handed_out self.old }
         ensures rest { result.rest ≡ hmac_rounds H.chaining.block_bytes self.old.job.hash_len }

@@ -2,16 +2,16 @@
 
 ghost use Rattle.std.specs.Prelude.{◌≡◌, ◌≤◌, ◌⊎◌, None, length, IsTrue};
 ghost use Rattle.mbj_types.specs.Aes.{round_count};
-ghost use Rattle.mbj_types.specs.Auths.{class_of};
+ghost use Rattle.mbj_types.specs.Auths.{class_of, IsCmac};
 ghost use Rattle.mbj_types.specs.Rounds.{cbc_rounds, cmac_rounds, hmac_rounds};
 ghost use Rattle.mbj_types.specs.Result.{ciphered, mac_by};
 ghost use Rattle.mbj_types.specs.Verdict.{verdict_at};
-ghost use Rattle.mbj_types.specs.declared.job.Auth.TheVariants as auth;
 ghost use Rattle.mbj_types.specs.declared.job.Cipher.TheVariants as cipher;
 ghost use Rattle.mbj_types.specs.declared.job.Dir.TheVariants as dir;
 ghost use Rattle.mbj_lane.specs.Rounds.{end_of};
 ghost use Rattle.mbj_cbc.specs.Rounds.{round as cbc_round, rest_of as cbc_rest};
 ghost use Rattle.mbj_cmac.specs.Rounds.{round as cmac_round, rest_of as cmac_rest};
+ghost use Rattle.mbj_hmac.specs.Names.{serves_auth};
 ghost use Rattle.mbj_hmac.specs.Rounds.{round as hmac_round, rest_of as hmac_rest};
 ghost use Rattle.mbj_stage.specs.Ends.{cmac_end, hmac_end};
 
@@ -39,7 +39,7 @@ pub(crate) fn cbc_entry<const N: usize>(job: &Job, packet: Vec<u8>) -> CbcEntry<
 
 /// The CMAC of a job whose key has `N` rounds.
 pub(crate) fn cmac_entry<const N: usize>(job: &Job, packet: Vec<u8>) -> CmacEntry<N>
-    requires cmac { (job.now.auth ≡ auth.Cmac128) ⊎ (job.now.auth ≡ auth.Cmac256) }
+    requires cmac { IsCmac (class_of job.now.auth) }
     requires rounds { round_count job.now.auth_key ≡ N }
     requires accepted { verdict_at job.now (length packet.items) ≡ None }
     ensures rest { result.rest ≡ cmac_rounds job.now.hash_len }
@@ -52,7 +52,7 @@ pub(crate) fn cmac_entry<const N: usize>(job: &Job, packet: Vec<u8>) -> CmacEntr
 
 /// The HMAC of a job whose hash is one of `H`. A key longer than a block is hashed as the entry is made.
 pub(crate) fn hmac_entry<H: LaneHash>(job: &Job, packet: Vec<u8>) -> HmacEntry<H>
-    requires serves { IsTrue (H.serves job.now.auth) }
+    requires serves { IsTrue (serves_auth H.chaining job.now.auth) }
     requires accepted { verdict_at job.now (length packet.items) ≡ None }
     ensures rest { result.rest ≡ hmac_rounds H.chaining.block_bytes job.now.hash_len }
     ensures packet { (hmac_end H.chaining (end_of (hmac_round H.chaining) hmac_rest result)).packet ≡ packet.items }

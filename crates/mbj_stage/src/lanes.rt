@@ -5,211 +5,156 @@
 //! memory. An entry that is taken back has no round left and a packet as long as the one that went out. That stage is
 //! done then.
 
-ghost use Rattle.std.specs.Prelude.{◌≡◌, ◌≤◌, Some, None, length};
-ghost use Rattle.mbj_types.specs.Rounds.{rounds_of};
+ghost use Rattle.std.specs.Prelude.{◌≡◌};
 ghost use Rattle.mbj_types.specs.declared.kind.Kind.TheVariants as kind;
 ghost use Rattle.mbj_lane.specs.Rounds.{end_of};
 ghost use Rattle.mbj_cbc.specs.Rounds.{round as cbc_round, rest_of as cbc_rest};
 ghost use Rattle.mbj_cmac.specs.Rounds.{round as cmac_round, rest_of as cmac_rest};
 ghost use Rattle.mbj_hmac.specs.Rounds.{round as hmac_round, rest_of as hmac_rest};
 ghost use Rattle.mbj_hmac.specs.Chainings.{sha1_chaining, sha256_chaining, sha512_chaining};
-ghost use Rattle.mbj_stage.specs.declared.stage.Stage.TheVariants as stage;
-ghost use Rattle.mbj_stage.specs.Going.{stage_of, owed};
-ghost use Rattle.mbj_stage.specs.Handing.{handed_out, taken_back, owed_with};
+ghost use Rattle.mbj_stage.specs.Handing.{IsHandedOut, IsNext, IsOut, taken_back};
 ghost use Rattle.mbj_stage.specs.Ends.{cbc_end, cmac_end, hmac_end};
 
 use crate::course::Course;
-use mbj_cbc::CbcEntry;
-use mbj_cmac::CmacEntry;
-use mbj_hmac::{Hmac1Entry, Hmac256Entry, Hmac512Entry};
+use crate::feed::Feed;
+use mbj_cbc::{CbcEntry, CbcKernel};
+use mbj_cmac::{CmacEntry, CmacKernel};
+use mbj_hmac::{Hmac1Entry, Hmac1Kernel, Hmac256Entry, Hmac256Kernel, Hmac512Entry, Hmac512Kernel};
 
 impl Course {
     /// Hands the packet out in an entry of CBC encryption with a key of 128 bits.
     pub fn hand_out_cbc128(&mut self) -> CbcEntry<10>
-        requires next { stage_of self.old ≡ stage.Lane kind.Cbc128 }
-        requires here { self.old.out ≡ None }
-        ensures out { self.new ≡ handed_out self.old }
-        ensures rest { result.rest ≡ rounds_of kind.Cbc128 self.old.job }
-        ensures some { 1 ≤ result.rest }
-        ensures owed { owed_with (cbc_end (end_of cbc_round cbc_rest result)) self.new ≡ owed self.old }
-        ensures length { self.new.out ≡ Some (length (cbc_end (end_of cbc_round cbc_rest result)).packet) }
+        requires { IsNext kind.Cbc128 self.old }
+        ensures { IsHandedOut kind.Cbc128 result.rest (cbc_end (end_of cbc_round cbc_rest result)) self.new self.old }
     {
-        self.hand_out_cbc()
+        CbcKernel::<10>::hand_out(self)
     }
 
     /// Takes an entry of CBC encryption with a key of 128 bits back.
     pub fn take_back_cbc128(&mut self, entry: CbcEntry<10>)
-        requires next { stage_of self.old ≡ stage.Lane kind.Cbc128 }
-        requires length { self.old.out ≡ Some (length entry.packet) }
+        requires out { IsOut kind.Cbc128 (cbc_end entry) self.old }
         requires done { entry.rest ≡ 0 }
         ensures { self.new ≡ taken_back (cbc_end entry) self.old }
     {
-        self.take_text(entry.into_packet());
+        CbcKernel::<10>::take_back(self, entry);
     }
 
     /// Hands the packet out in an entry of CBC encryption with a key of 192 bits.
     pub fn hand_out_cbc192(&mut self) -> CbcEntry<12>
-        requires next { stage_of self.old ≡ stage.Lane kind.Cbc192 }
-        requires here { self.old.out ≡ None }
-        ensures out { self.new ≡ handed_out self.old }
-        ensures rest { result.rest ≡ rounds_of kind.Cbc192 self.old.job }
-        ensures some { 1 ≤ result.rest }
-        ensures owed { owed_with (cbc_end (end_of cbc_round cbc_rest result)) self.new ≡ owed self.old }
-        ensures length { self.new.out ≡ Some (length (cbc_end (end_of cbc_round cbc_rest result)).packet) }
+        requires { IsNext kind.Cbc192 self.old }
+        ensures { IsHandedOut kind.Cbc192 result.rest (cbc_end (end_of cbc_round cbc_rest result)) self.new self.old }
     {
-        self.hand_out_cbc()
+        CbcKernel::<12>::hand_out(self)
     }
 
     /// Takes an entry of CBC encryption with a key of 192 bits back.
     pub fn take_back_cbc192(&mut self, entry: CbcEntry<12>)
-        requires next { stage_of self.old ≡ stage.Lane kind.Cbc192 }
-        requires length { self.old.out ≡ Some (length entry.packet) }
+        requires out { IsOut kind.Cbc192 (cbc_end entry) self.old }
         requires done { entry.rest ≡ 0 }
         ensures { self.new ≡ taken_back (cbc_end entry) self.old }
     {
-        self.take_text(entry.into_packet());
+        CbcKernel::<12>::take_back(self, entry);
     }
 
     /// Hands the packet out in an entry of CBC encryption with a key of 256 bits.
     pub fn hand_out_cbc256(&mut self) -> CbcEntry<14>
-        requires next { stage_of self.old ≡ stage.Lane kind.Cbc256 }
-        requires here { self.old.out ≡ None }
-        ensures out { self.new ≡ handed_out self.old }
-        ensures rest { result.rest ≡ rounds_of kind.Cbc256 self.old.job }
-        ensures some { 1 ≤ result.rest }
-        ensures owed { owed_with (cbc_end (end_of cbc_round cbc_rest result)) self.new ≡ owed self.old }
-        ensures length { self.new.out ≡ Some (length (cbc_end (end_of cbc_round cbc_rest result)).packet) }
+        requires { IsNext kind.Cbc256 self.old }
+        ensures { IsHandedOut kind.Cbc256 result.rest (cbc_end (end_of cbc_round cbc_rest result)) self.new self.old }
     {
-        self.hand_out_cbc()
+        CbcKernel::<14>::hand_out(self)
     }
 
     /// Takes an entry of CBC encryption with a key of 256 bits back.
     pub fn take_back_cbc256(&mut self, entry: CbcEntry<14>)
-        requires next { stage_of self.old ≡ stage.Lane kind.Cbc256 }
-        requires length { self.old.out ≡ Some (length entry.packet) }
+        requires out { IsOut kind.Cbc256 (cbc_end entry) self.old }
         requires done { entry.rest ≡ 0 }
         ensures { self.new ≡ taken_back (cbc_end entry) self.old }
     {
-        self.take_text(entry.into_packet());
+        CbcKernel::<14>::take_back(self, entry);
     }
 
     /// Hands the packet out in an entry of CMAC with a key of 128 bits.
     pub fn hand_out_cmac128(&mut self) -> CmacEntry<10>
-        requires next { stage_of self.old ≡ stage.Lane kind.Cmac128 }
-        requires here { self.old.out ≡ None }
-        ensures out { self.new ≡ handed_out self.old }
-        ensures rest { result.rest ≡ rounds_of kind.Cmac128 self.old.job }
-        ensures some { 1 ≤ result.rest }
-        ensures owed { owed_with (cmac_end (end_of cmac_round cmac_rest result)) self.new ≡ owed self.old }
-        ensures length { self.new.out ≡ Some (length (cmac_end (end_of cmac_round cmac_rest result)).packet) }
+        requires { IsNext kind.Cmac128 self.old }
+        ensures { IsHandedOut kind.Cmac128 result.rest (cmac_end (end_of cmac_round cmac_rest result)) self.new self.old }
     {
-        self.hand_out_cmac()
+        CmacKernel::<10>::hand_out(self)
     }
 
     /// Takes an entry of CMAC with a key of 128 bits back.
     pub fn take_back_cmac128(&mut self, entry: CmacEntry<10>)
-        requires next { stage_of self.old ≡ stage.Lane kind.Cmac128 }
-        requires length { self.old.out ≡ Some (length entry.packet) }
+        requires out { IsOut kind.Cmac128 (cmac_end entry) self.old }
         requires done { entry.rest ≡ 0 }
         ensures { self.new ≡ taken_back (cmac_end entry) self.old }
     {
-        let (packet, mac) = entry.into_parts();
-        self.take_mac(packet, &mac);
+        CmacKernel::<10>::take_back(self, entry);
     }
 
     /// Hands the packet out in an entry of CMAC with a key of 256 bits.
     pub fn hand_out_cmac256(&mut self) -> CmacEntry<14>
-        requires next { stage_of self.old ≡ stage.Lane kind.Cmac256 }
-        requires here { self.old.out ≡ None }
-        ensures out { self.new ≡ handed_out self.old }
-        ensures rest { result.rest ≡ rounds_of kind.Cmac256 self.old.job }
-        ensures some { 1 ≤ result.rest }
-        ensures owed { owed_with (cmac_end (end_of cmac_round cmac_rest result)) self.new ≡ owed self.old }
-        ensures length { self.new.out ≡ Some (length (cmac_end (end_of cmac_round cmac_rest result)).packet) }
+        requires { IsNext kind.Cmac256 self.old }
+        ensures { IsHandedOut kind.Cmac256 result.rest (cmac_end (end_of cmac_round cmac_rest result)) self.new self.old }
     {
-        self.hand_out_cmac()
+        CmacKernel::<14>::hand_out(self)
     }
 
     /// Takes an entry of CMAC with a key of 256 bits back.
     pub fn take_back_cmac256(&mut self, entry: CmacEntry<14>)
-        requires next { stage_of self.old ≡ stage.Lane kind.Cmac256 }
-        requires length { self.old.out ≡ Some (length entry.packet) }
+        requires out { IsOut kind.Cmac256 (cmac_end entry) self.old }
         requires done { entry.rest ≡ 0 }
         ensures { self.new ≡ taken_back (cmac_end entry) self.old }
     {
-        let (packet, mac) = entry.into_parts();
-        self.take_mac(packet, &mac);
+        CmacKernel::<14>::take_back(self, entry);
     }
 
     /// Hands the packet out in an entry of HMAC with SHA-1.
     pub fn hand_out_hmac_sha1(&mut self) -> Hmac1Entry
-        requires next { stage_of self.old ≡ stage.Lane kind.HmacSha1 }
-        requires here { self.old.out ≡ None }
-        ensures out { self.new ≡ handed_out self.old }
-        ensures rest { result.rest ≡ rounds_of kind.HmacSha1 self.old.job }
-        ensures some { 1 ≤ result.rest }
-        ensures owed { owed_with (hmac_end sha1_chaining (end_of (hmac_round sha1_chaining) hmac_rest result)) self.new ≡ owed self.old }
-        ensures length { self.new.out ≡ Some (length (hmac_end sha1_chaining (end_of (hmac_round sha1_chaining) hmac_rest result)).packet) }
+        requires { IsNext kind.HmacSha1 self.old }
+        ensures { IsHandedOut kind.HmacSha1 result.rest (hmac_end sha1_chaining (end_of (hmac_round sha1_chaining) hmac_rest result)) self.new self.old }
     {
-        self.hand_out_hmac()
+        Hmac1Kernel::hand_out(self)
     }
 
     /// Takes an entry of HMAC with SHA-1 back.
     pub fn take_back_hmac_sha1(&mut self, entry: Hmac1Entry)
-        requires next { stage_of self.old ≡ stage.Lane kind.HmacSha1 }
-        requires length { self.old.out ≡ Some (length entry.packet) }
+        requires out { IsOut kind.HmacSha1 (hmac_end sha1_chaining entry) self.old }
         requires done { entry.rest ≡ 0 }
         ensures { self.new ≡ taken_back (hmac_end sha1_chaining entry) self.old }
     {
-        let (packet, mac) = entry.into_parts();
-        self.take_mac(packet, mac.bytes());
+        Hmac1Kernel::take_back(self, entry);
     }
 
     /// Hands the packet out in an entry of HMAC with SHA-224 or SHA-256.
     pub fn hand_out_hmac_sha256(&mut self) -> Hmac256Entry
-        requires next { stage_of self.old ≡ stage.Lane kind.HmacSha256 }
-        requires here { self.old.out ≡ None }
-        ensures out { self.new ≡ handed_out self.old }
-        ensures rest { result.rest ≡ rounds_of kind.HmacSha256 self.old.job }
-        ensures some { 1 ≤ result.rest }
-        ensures owed { owed_with (hmac_end sha256_chaining (end_of (hmac_round sha256_chaining) hmac_rest result)) self.new ≡ owed self.old }
-        ensures length { self.new.out ≡ Some (length (hmac_end sha256_chaining (end_of (hmac_round sha256_chaining) hmac_rest result)).packet) }
+        requires { IsNext kind.HmacSha256 self.old }
+        ensures { IsHandedOut kind.HmacSha256 result.rest (hmac_end sha256_chaining (end_of (hmac_round sha256_chaining) hmac_rest result)) self.new self.old }
     {
-        self.hand_out_hmac()
+        Hmac256Kernel::hand_out(self)
     }
 
     /// Takes an entry of HMAC with SHA-224 or SHA-256 back.
     pub fn take_back_hmac_sha256(&mut self, entry: Hmac256Entry)
-        requires next { stage_of self.old ≡ stage.Lane kind.HmacSha256 }
-        requires length { self.old.out ≡ Some (length entry.packet) }
+        requires out { IsOut kind.HmacSha256 (hmac_end sha256_chaining entry) self.old }
         requires done { entry.rest ≡ 0 }
         ensures { self.new ≡ taken_back (hmac_end sha256_chaining entry) self.old }
     {
-        let (packet, mac) = entry.into_parts();
-        self.take_mac(packet, mac.bytes());
+        Hmac256Kernel::take_back(self, entry);
     }
 
     /// Hands the packet out in an entry of HMAC with SHA-384 or SHA-512.
     pub fn hand_out_hmac_sha512(&mut self) -> Hmac512Entry
-        requires next { stage_of self.old ≡ stage.Lane kind.HmacSha512 }
-        requires here { self.old.out ≡ None }
-        ensures out { self.new ≡ handed_out self.old }
-        ensures rest { result.rest ≡ rounds_of kind.HmacSha512 self.old.job }
-        ensures some { 1 ≤ result.rest }
-        ensures owed { owed_with (hmac_end sha512_chaining (end_of (hmac_round sha512_chaining) hmac_rest result)) self.new ≡ owed self.old }
-        ensures length { self.new.out ≡ Some (length (hmac_end sha512_chaining (end_of (hmac_round sha512_chaining) hmac_rest result)).packet) }
+        requires { IsNext kind.HmacSha512 self.old }
+        ensures { IsHandedOut kind.HmacSha512 result.rest (hmac_end sha512_chaining (end_of (hmac_round sha512_chaining) hmac_rest result)) self.new self.old }
     {
-        self.hand_out_hmac()
+        Hmac512Kernel::hand_out(self)
     }
 
     /// Takes an entry of HMAC with SHA-384 or SHA-512 back.
     pub fn take_back_hmac_sha512(&mut self, entry: Hmac512Entry)
-        requires next { stage_of self.old ≡ stage.Lane kind.HmacSha512 }
-        requires length { self.old.out ≡ Some (length entry.packet) }
+        requires out { IsOut kind.HmacSha512 (hmac_end sha512_chaining entry) self.old }
         requires done { entry.rest ≡ 0 }
         ensures { self.new ≡ taken_back (hmac_end sha512_chaining entry) self.old }
     {
-        let (packet, mac) = entry.into_parts();
-        self.take_mac(packet, mac.bytes());
+        Hmac512Kernel::take_back(self, entry);
     }
 }

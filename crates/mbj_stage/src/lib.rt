@@ -4,6 +4,7 @@
 mod cipher;
 mod course;
 mod entries;
+mod feed;
 mod gcm;
 mod lanes;
 mod laws;
@@ -11,5 +12,6 @@ mod stage;
 mod tag;
 
 pub use course::Course;
+pub use feed::{Feed, HashKind};
 pub use laws::{a_course_owes_the_same_while_it_is_out, results_keep_length};
 pub use stage::Stage;

@@ -3,7 +3,7 @@ ghost use Rattle.std.specs.Option.{option_to_list};
 ghost use Rattle.mbj_types.specs.Auths.{class_of};
 ghost use Rattle.mbj_stage.specs.Steps.{cbc_kind, cipher_stage, auth_stage, cipher_steps, auth_steps, stage_at, steps_of, steps_by, steps_in};
 
-use mbj_types::{Auth, Cipher, Dir, Job, Kind, Order, Reason};
+use mbj_types::{Auth, AuthClass, Cipher, Dir, Job, Kind, Order, Reason};
 
 /// What comes next in the course of a job.
 #[derive(Clone, Copy, Debug, PartialEq, Eq)]
@@ -48,14 +48,9 @@ fn cipher_step(cipher: Cipher) -> Option<Step>
 fn auth_step(auth: Auth) -> Option<Step>
     ensures { option_to_list result ≡ auth_steps (class_of auth) }
 {
-    match auth {
-        Auth::Null | Auth::Gcm => None,
-        Auth::HmacSha1
-        | Auth::HmacSha224
-        | Auth::HmacSha256
-        | Auth::HmacSha384
-        | Auth::HmacSha512 => Some(Step::Auth),
-        Auth::Cmac128 | Auth::Cmac256 => Some(Step::Auth),
+    match auth.class() {
+        AuthClass::Null | AuthClass::Gcm => None,
+        AuthClass::Hmac(_) | AuthClass::Cmac(_) => Some(Step::Auth),
     }
 }
 
@@ -111,13 +106,10 @@ fn cipher_stage(job: &Job) -> Stage
 fn auth_stage(job: &Job) -> Stage
     ensures { result ≡ auth_stage job.now }
 {
-    match job.auth {
-        Auth::HmacSha1 => Stage::Lane(Kind::HmacSha1),
-        Auth::HmacSha224 | Auth::HmacSha256 => Stage::Lane(Kind::HmacSha256),
-        Auth::HmacSha384 | Auth::HmacSha512 => Stage::Lane(Kind::HmacSha512),
-        Auth::Cmac128 => Stage::Lane(Kind::Cmac128),
-        Auth::Cmac256 => Stage::Lane(Kind::Cmac256),
-        Auth::Null | Auth::Gcm => Stage::Now,
+    match job.auth.class() {
+        AuthClass::Hmac(hash) => Stage::Lane(hash.kind()),
+        AuthClass::Cmac(key) => Stage::Lane(key.kind()),
+        AuthClass::Null | AuthClass::Gcm => Stage::Now,
     }
 }
 

@@ -6,7 +6,7 @@ use Rattle.mbj_types.specs.Verdict.{verdict_at}
 use Rattle.mbj_lane.specs.Rounds.{end_of}
 use Rattle.mbj_cmac.specs.Rounds.{rest_of, round}
 use Rattle.mbj_stage.specs.Steps.{steps_in}
-use Rattle.mbj_stage.specs.Inside.Families.{cmac_stage}
+use Rattle.mbj_stage.specs.Families.{cmac_stage}
 use Rattle.mbj_stage.specs.Going.{Going, owed, stage_of}
 use Rattle.mbj_stage.specs.Handing.{owed_with}
 use Rattle.mbj_stage.specs.Ends.{cmac_end}

@@ -3,7 +3,9 @@ use Rattle.std.proofs.Common.{◌≡◌, ◌≢◌, ◌∙◌, List, ℕ, [], le
 use Rattle.mbj_types.specs.Auths.{class_of}
 use Rattle.mbj_types.specs.Result.{mac_by}
 use Rattle.mbj_lane.specs.Rounds.{end_of}
+use Rattle.mbj_hmac.specs.Names.{serves_auth}
 use Rattle.mbj_hmac.specs.Rounds.{rest_of, round}
+use Rattle.mbj_hmac.proofs.Served.{served_hmac}
 use Rattle.mbj_stage.specs.declared.stage.Stage.TheVariants as stage
 use Rattle.mbj_stage.specs.declared.stage.Step.TheVariants as step
 use Rattle.mbj_stage.specs.Steps.{IsFirst, stage_at, steps_in}
@@ -23,9 +25,9 @@ invariant_of-self g c =
     let left = steps_in f.left in
     let here : f.out ≡ None = subst (λ (v : Going). v.out ≡ None) (sym c.self.view_is) c.requires.here in
     let first : IsFirst step.Auth left = subst (λ (v : Going). IsFirst step.Auth v.left) (sym c.self.view_is) c.requires.next in
-    let serves = subst (λ (v : Going). IsTrue (g.H.LaneHash.serves v.job.auth)) (sym c.self.view_is) c.requires.serves in
+    let serves = subst (λ (v : Going). IsTrue (serves_auth g.H.LaneHash.chaining v.job.auth)) (sym c.self.view_is) c.requires.serves in
     let lane : stage_at f.job left ≢ stage.Now =
-    λ now. hmac-in-lanes f.job.auth (g.met.H.LaneHash.hmacs f.job.auth serves) (sym (auth-first f.job left first) ∙ now) in
+    λ now. hmac-in-lanes (class_of f.job.auth) (served_hmac g.H.LaneHash.chaining f.job.auth serves) (sym (auth-first f.job left first) ∙ now) in
     let sound = sound_out f.job f.packet.items left (subst (IsSound f.job f.packet.items left) here c.self.invariant) lane in
     subst (λ (q : List ℕ). IsSound f.job q left (Some c.len.result)) (sym c.taken-packet.ensures.none)
     (subst (λ (n : ℕ). IsSound f.job [] left (Some n)) (sym (len ∙ ap length c.taken-packet.ensures.taken)) sound)

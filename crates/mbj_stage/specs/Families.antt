@@ -1,13 +1,20 @@
 -- The lanes of AES by the number of rounds.
 use Rattle.std.specs.Prelude.{ℕ, ◌==◌, if◌then◌else◌}
+use Rattle.mbj_types.specs.declared.kind.Kind.{Kind}
 use Rattle.mbj_types.specs.declared.kind.Kind.TheVariants as kind
 use Rattle.mbj_stage.specs.declared.stage.Stage.{Stage}
 use Rattle.mbj_stage.specs.declared.stage.Stage.TheVariants as stage
 
 -- CBC encryption with keys of n rounds
+abbrev pub cbc_lanes : ℕ → Kind
+cbc_lanes n = if n == 10 then kind.Cbc128 else if n == 12 then kind.Cbc192 else kind.Cbc256
+
 abbrev pub cbc_stage : ℕ → Stage
-cbc_stage n = stage.Lane (if n == 10 then kind.Cbc128 else if n == 12 then kind.Cbc192 else kind.Cbc256)
+cbc_stage n = stage.Lane (cbc_lanes n)
 
 -- CMAC with keys of n rounds
+abbrev pub cmac_lanes : ℕ → Kind
+cmac_lanes n = if n == 10 then kind.Cmac128 else kind.Cmac256
+
 abbrev pub cmac_stage : ℕ → Stage
-cmac_stage n = stage.Lane (if n == 10 then kind.Cmac128 else kind.Cmac256)
+cmac_stage n = stage.Lane (cmac_lanes n)

@@ -1,0 +1,51 @@
+-- What the kernels of kinds prove of their kinds.
+use Rattle.std.proofs.Common.{◌≡◌, ℕ, ◌==◌, IsTrue, refl}
+use Rattle.std.specs.Prelude.{if◌then◌else◌}
+use Rattle.std.proofs.lemmas.Bool.{cond_both}
+use Rattle.mbj_types.specs.Kinds.{lanes_of}
+use Rattle.mbj_types.specs.declared.class.AuthClass.{AuthClass}
+use Rattle.mbj_types.specs.declared.class.AuthClass.TheVariants as class
+use Rattle.mbj_types.specs.declared.class.CmacKey.TheVariants.{Aes128}
+use Rattle.mbj_types.specs.declared.class.HashName.TheVariants.{Sha1, Sha224, Sha256, Sha384, Sha512}
+use Rattle.mbj_types.specs.declared.kind.TheConstants.{AES_LANES}
+use Rattle.mbj_types.specs.declared.kind.Kind.TheVariants as kind
+use Rattle.mbj_hmac.specs.Chainings.{sha1_chaining, sha256_chaining, sha512_chaining}
+use Rattle.mbj_hmac.specs.Names.{serves_class}
+use Rattle.mbj_stage.specs.declared.stage.Stage.TheVariants as stage
+use Rattle.mbj_stage.specs.Steps.{auth_stage_by}
+use Rattle.mbj_stage.specs.Families.{cbc_lanes, cmac_lanes}
+
+-- ---- lanes
+
+pub cbc-lanes : (n : ℕ) → AES_LANES ≡ lanes_of (cbc_lanes n)
+cbc-lanes n =
+    cond_both (n == 10) kind.Cbc128 (if n == 12 then kind.Cbc192 else kind.Cbc256) (λ k. AES_LANES ≡ lanes_of k)
+    (λ _. refl) (λ _. cond_both (n == 12) kind.Cbc192 kind.Cbc256 (λ k. AES_LANES ≡ lanes_of k) (λ _. refl) (λ _. refl))
+
+pub cmac-lanes : (n : ℕ) → AES_LANES ≡ lanes_of (cmac_lanes n)
+cmac-lanes n = cond_both (n == 10) kind.Cmac128 kind.Cmac256 (λ k. AES_LANES ≡ lanes_of k) (λ _. refl) (λ _. refl)
+
+-- ---- the authentications of each kind of HMAC
+
+pub sha1-serves : (a : AuthClass) → auth_stage_by a ≡ stage.Lane kind.HmacSha1 → IsTrue (serves_class sha1_chaining a)
+sha1-serves (class.Hmac Sha1) h = refl
+sha1-serves (class.Hmac _) h = absurd (cc)
+sha1-serves (class.Cmac Aes128) h = absurd (cc)
+sha1-serves (class.Cmac _) h = absurd (cc)
+sha1-serves _ h = absurd (cc)
+
+pub sha256-serves : (a : AuthClass) → auth_stage_by a ≡ stage.Lane kind.HmacSha256 → IsTrue (serves_class sha256_chaining a)
+sha256-serves (class.Hmac Sha224) h = refl
+sha256-serves (class.Hmac Sha256) h = refl
+sha256-serves (class.Hmac _) h = absurd (cc)
+sha256-serves (class.Cmac Aes128) h = absurd (cc)
+sha256-serves (class.Cmac _) h = absurd (cc)
+sha256-serves _ h = absurd (cc)
+
+pub sha512-serves : (a : AuthClass) → auth_stage_by a ≡ stage.Lane kind.HmacSha512 → IsTrue (serves_class sha512_chaining a)
+sha512-serves (class.Hmac Sha384) h = refl
+sha512-serves (class.Hmac Sha512) h = refl
+sha512-serves (class.Hmac _) h = absurd (cc)
+sha512-serves (class.Cmac Aes128) h = absurd (cc)
+sha512-serves (class.Cmac _) h = absurd (cc)
+sha512-serves _ h = absurd (cc)
