@@ -1,30 +1,32 @@
 -- The job that was open goes last, and stands in the agenda.
-use Rattle.std.proofs.Common.{◌≡◌, ℕ, zero, suc, ◌+◌, ◌%◌, ◌≤◌, ◌<◌, List, [], ◌∷◌, ◌++◌, length, map, Option, Some, None, inl, inr, refl, ap, ap₂, sym, ◌∙◌, subst, arith}
+use Rattle.std.proofs.Common.{◌≡◌, ℕ, zero, suc, ◌+◌, ◌-◌, ◌%◌, ◌≤◌, ◌<◌, List, [], ◌∷◌, ◌++◌, length, map, sum_by, Option, Some, None, inl, inr, refl, ap, ap₂, sym, ◌∙◌, subst, arith}
 use Rattle.std.specs.Prelude.{option_map}
 use Rattle.std.proofs.lemmas.Bool.{cases_eq}
 use Rattle.std.proofs.lemmas.List.{length-map, length_push, map_push}
+use Rattle.std.proofs.lemmas.List.Sums.{sum_by-cons}
 use Rattle.std.proofs.lemmas.List.Elements.{All-cons, All-nil, All-push}
-use Rattle.mbj_types.specs.Kinds.{lanes_of}
+use Rattle.mbj_types.specs.Kinds.{all_kinds, lanes_of}
 use Rattle.mbj_types.specs.Result.{result_of}
 use Rattle.mbj_types.specs.declared.done.Done.{Done}
 use Rattle.mbj_types.specs.declared.job.Job.{Job}
 use Rattle.mbj_types.specs.declared.kind.Kind.{Kind}
-use Rattle.mbj_types.specs.declared.kind.Kind.TheVariants as kind
 use Rattle.mbj_ring.specs.declared.ring.TheConstants.{CELLS}
 use Rattle.mbj_ring.specs.Ring.{RingState, ring}
 use Rattle.mbj_stage.specs.Going.{Going, begun, owed}
 use Rattle.mbj_stage.specs.Handing.{End}
 use Rattle.mbj_stage.proofs.Owing.{owed-begun}
-use Rattle.mbj_manager.specs.Rounds.{Pending, pending}
-use Rattle.mbj_manager.specs.Machine.{Machine}
-use Rattle.mbj_manager.specs.Between.{with_stages}
+use Rattle.mbj_manager.specs.Machine.Stages.{Pending, pending}
+use Rattle.mbj_manager.specs.Machine.Queues.{Machine}
+use Rattle.mbj_manager.specs.Machine.Between.{with_stages}
 use Rattle.mbj_manager.specs.declared.cell.Cell.{Cell}
 use Rattle.mbj_manager.specs.declared.cell.Cell.TheVariants as cell
 use Rattle.mbj_manager.specs.Inside.Added.{added}
 use Rattle.mbj_manager.specs.Inside.Courses.{IsGoing, course_in, courses, job_in, number, number_in}
 use Rattle.mbj_manager.specs.Inside.Leaving.{At}
-use Rattle.mbj_manager.specs.Inside.Desk.{Waiter, Listed}
-use Rattle.mbj_manager.specs.Inside.Lines.{Line, Lines, line_in, total}
+use Rattle.mbj_manager.specs.Inside.Desk.{Listed}
+use Rattle.mbj_manager.specs.Inside.LaneQueues.{placed_in, total, waiting_in}
+use Rattle.mbj_manager.specs.declared.lane_queues.LaneQueues.{LaneQueues}
+use Rattle.mbj_manager.specs.Inside.PlacedQueue.{PlacedQueue, Waiter}
 use Rattle.mbj_manager.specs.Inside.Standing.{IsWithin}
 use Rattle.mbj_manager.specs.Inside.Held.{IsHeld, IsHere, IsTied, agenda_room, find_in, held, lines_in, machine_in, owed_from, owed_of, waiting}
 use Rattle.mbj_manager.proofs.BetweenCalls.{submitted-within}
@@ -48,7 +50,7 @@ listed-front : (k : Kind) (cs : List Going) (c : Going) (ws : List Waiter) → L
 listed-front k cs c [] r = tt
 listed-front k cs c (w ∷ ws) r = (at-front _ w.0 cs c r.0, r.1, listed-front k cs c ws r.2)
 
-tied-add : (cs : List Going) (c : Going) (lines : Kind → Line) → c.out ≡ None → IsTied cs [] lines → IsTied (cs ++ c ∷ []) (length cs ∷ []) lines
+tied-add : (cs : List Going) (c : Going) (lines : Kind → PlacedQueue) → c.out ≡ None → IsTied cs [] lines → IsTied (cs ++ c ∷ []) (length cs ∷ []) lines
 tied-add cs c lines here y =
     let more = length_push cs c in
     record {
@@ -67,25 +69,23 @@ owed-end n find (x ∷ cs) c here = ap (λ (ds : List Done). owed_of n find x �
 
 -- ---- how many wait
 
-few-in : (k : Kind) (r : RingState Cell) (ag : List ℕ) (ls : Lines) (capacity : ℕ) → IsHeld r ag ls capacity → length (line_in k ls).waiters < lanes_of k
+few-in : (k : Kind) (r : RingState Cell) (ag : List ℕ) (ls : LaneQueues) (capacity : ℕ) → IsHeld r ag ls capacity → length (placed_in k ls).waiters < lanes_of k
 few-in k r ag ls capacity y =
     let few : length (map waiting (lines_in r ls k).waiters) < lanes_of k = (y.within.lanes k).few in
     let g : Waiter → Waiter = λ x. (number_in r x.0, x.1) in
-    let l : length (lines_in r ls k).waiters ≡ length (line_in k ls).waiters = length-map (line_in k ls).waiters g in
+    let l : length (lines_in r ls k).waiters ≡ length (placed_in k ls).waiters = length-map (placed_in k ls).waiters g in
     omega (arith, length-map (lines_in r ls k).waiters waiting)
 
+sum-below : (f g : Kind → ℕ) (ks : List Kind) → ((k : Kind) → f k ≤ g k) → sum_by f ks ≤ sum_by g ks
+sum-below f g [] h = omega arith
+sum-below f g (k ∷ ks) h =
+    omega (arith, sum_by-cons f k ks, sum_by-cons g k ks, sum-below f g ks h, h k)
+
 -- between two calls there is room for one that goes on
-few-wait : (r : RingState Cell) (ag : List ℕ) (ls : Lines) (capacity : ℕ) → IsHeld r ag ls capacity → 1 + total ls ≤ agenda_room
+few-wait : (r : RingState Cell) (ag : List ℕ) (ls : LaneQueues) (capacity : ℕ) → IsHeld r ag ls capacity → 1 + total ls ≤ agenda_room
 few-wait r ag ls capacity y =
-    let a : length ls.cbc128.waiters < 16 = few-in kind.Cbc128 r ag ls capacity y in
-    let b : length ls.cbc192.waiters < 16 = few-in kind.Cbc192 r ag ls capacity y in
-    let c : length ls.cbc256.waiters < 16 = few-in kind.Cbc256 r ag ls capacity y in
-    let d : length ls.cmac128.waiters < 16 = few-in kind.Cmac128 r ag ls capacity y in
-    let e : length ls.cmac256.waiters < 16 = few-in kind.Cmac256 r ag ls capacity y in
-    let f : length ls.hmac_sha1.waiters < 8 = few-in kind.HmacSha1 r ag ls capacity y in
-    let g : length ls.hmac_sha256.waiters < 8 = few-in kind.HmacSha256 r ag ls capacity y in
-    let h : length ls.hmac_sha512.waiters < 4 = few-in kind.HmacSha512 r ag ls capacity y in
-    omega arith
+    let below : (k : Kind) → waiting_in ls k ≤ lanes_of k - 1 = λ k. omega (arith, few-in k r ag ls capacity y) in
+    omega (arith, sum-below (waiting_in ls) (λ k. lanes_of k - 1) all_kinds below)
 
 -- ---- the job that was open
 
@@ -98,14 +98,14 @@ pub number-last : (first len place : ℕ) → first < CELLS → len < CELLS → 
 number-last first len place f l e = omega arith
 
 -- the fields then hold the state h, and keep what they keep
-pub record IsAdded (r r' : RingState Cell) (ag ag' : List ℕ) (ls : Lines) (capacity : ℕ) : Type 0 where
+pub record IsAdded (r r' : RingState Cell) (ag ag' : List ℕ) (ls : LaneQueues) (capacity : ℕ) : Type 0 where
   pub is : held r' ag' ls ≡ added (held r ag ls).opened (held r ag ls)
   pub kept : IsHeld r' ag' ls capacity
 
 abbrev pub one_more : RingState Cell → Cell → RingState Cell
 one_more r w = ring (r.values ++ w ∷ []) None r.first
 
-module _ (r : RingState Cell) (v w : Cell) (place : ℕ) (ls : Lines) (capacity : ℕ) (y : IsHeld r [] ls capacity)
+module _ (r : RingState Cell) (v w : Cell) (place : ℕ) (ls : LaneQueues) (capacity : ℕ) (y : IsHeld r [] ls capacity)
     (began : w ≡ cell.Going (begun (job_in v))) (room : length r.values < CELLS) (last : place ≡ (r.first + length r.values) % CELLS) where
   abbrev job : Job
   job = job_in v
@@ -163,7 +163,7 @@ module _ (r : RingState Cell) (v w : Cell) (place : ℕ) (ls : Lines) (capacity 
       same-state _ _ _ _ _ _ owed-then refl
       (machine-then ∙ ap (λ (n : ℕ). machine_with (map pending (courses r) ++ pending (begun job) ∷ []) (n ∷ [])) same-number)
 
-pub adds : (r : RingState Cell) (v w : Cell) (place : ℕ) (ag : List ℕ) (ls : Lines) (capacity : ℕ) → IsHeld r ag ls capacity → map (number_in r) ag ≡ []
+pub adds : (r : RingState Cell) (v w : Cell) (place : ℕ) (ag : List ℕ) (ls : LaneQueues) (capacity : ℕ) → IsHeld r ag ls capacity → map (number_in r) ag ≡ []
     → r.opened ≡ Some v → w ≡ cell.Going (begun (job_in v)) → length r.values < CELLS → place ≡ (r.first + length r.values) % CELLS
     → IsAdded r (one_more r w) ag (ag ++ place ∷ []) ls capacity
 adds r v w place ag ls capacity y idle opened began room last =

@@ -11,18 +11,23 @@ use Rattle.mbj_ring.specs.Ring.{RingState}
 use Rattle.mbj_stage.specs.Going.{Going, stage_of}
 use Rattle.mbj_stage.specs.declared.stage.Stage.{Stage}
 use Rattle.mbj_stage.specs.declared.stage.Stage.TheVariants as stage
-use Rattle.mbj_manager.specs.Rounds.{Pending, pending}
-use Rattle.mbj_manager.specs.Machine.{Lane, Waiting, Within, submit, flush, changed}
-use Rattle.mbj_manager.specs.Course.{goes_on, in_lanes_next, joined, stages_left, stepped, stepped_at}
-use Rattle.mbj_manager.specs.Between.{times_in}
+use Rattle.mbj_manager.specs.Machine.Stages.{Pending, pending}
+use Rattle.mbj_manager.specs.Machine.Queues.{Queue, Waiting, changed, put}
+use Rattle.mbj_manager.specs.declared.lane.Cause.{Cause}
+use Rattle.mbj_manager.specs.declared.lane.Cause.TheVariants as cause
+use Rattle.mbj_manager.specs.Machine.Course.{goes_on, in_lanes_next, joined, stages_left, stepped, stepped_at}
+use Rattle.mbj_manager.specs.Machine.Between.{times_in}
 use Rattle.mbj_manager.specs.declared.cell.Cell.{Cell}
 use Rattle.mbj_manager.specs.Inside.Courses.{Follows, IsSameRing, courses, job_in, number, number_in}
-use Rattle.mbj_manager.specs.Inside.Leaving.{At, Gives, IsAbsent, IsNext, finishers, numbers, others, returned}
-use Rattle.mbj_manager.specs.Inside.Desk.{Ahead, Desk, Enters, brings_in, HasRest, MayEnter, Waiter, desk, joined_by, led_all, ran_at, ran_if_full, rounds_in}
-use Rattle.mbj_manager.specs.Inside.Lines.{Line, Lines, desk_of, line, line_in, numbered_line, with_line}
+use Rattle.mbj_manager.specs.Inside.Leaving.{At, Gives, IsAbsent, finishers, numbers, others, returned}
+use Rattle.mbj_stage.specs.Handing.{IsNext}
+use Rattle.mbj_manager.specs.Inside.Desk.{Desk, Enters, MayEnter, desk, joined_by, led_all, ran_at, ran_if_full}
+use Rattle.mbj_manager.specs.Inside.LaneQueues.{desk_of, placed_in, with_placed}
+use Rattle.mbj_manager.specs.declared.lane_queues.LaneQueues.{LaneQueues}
+use Rattle.mbj_manager.specs.Inside.PlacedQueue.{Ahead, HasRest, PlacedQueue, Waiter, brings_in, placed_queue, numbered_queue, rounds_in}
 use Rattle.mbj_manager.specs.Inside.Standing.{IsWithin}
 use Rattle.mbj_manager.specs.Inside.Held.{IsHeld, IsHere, IsOpenAt, IsTied, find_in, found, lane_seen, lines_in, machine_by, machine_in, owed_from, waiting}
-use Rattle.mbj_manager.proofs.KindLines.{put, put-self}
+use Rattle.mbj_manager.proofs.KindLines.{put-self}
 use Rattle.mbj_manager.proofs.Listing.{absent-listed}
 use Rattle.mbj_manager.proofs.Joining.{at-here}
 use Rattle.mbj_manager.proofs.Moving.{IsStep, have-rests, in-total, moved-length, moved-machine, moved-owed, moved-tied, ran-length, same-state}
@@ -43,7 +48,7 @@ absent-times n (w ∷ ws) e =
       absent-times n ws (omega arith),
     )
 
-pub first-here : (n : ℕ) (rest : List ℕ) (cs : List Going) (agenda : List ℕ) (lines : Kind → Line) (runs : ℕ) → agenda ≡ n ∷ rest
+pub first-here : (n : ℕ) (rest : List ℕ) (cs : List Going) (agenda : List ℕ) (lines : Kind → PlacedQueue) (runs : ℕ) → agenda ≡ n ∷ rest
     → IsWithin (machine_by cs agenda lines runs) → IsTied cs agenda lines → At IsHere n cs
 first-here n rest cs agenda lines runs first within tied =
     let m = machine_by cs agenda lines runs in
@@ -64,7 +69,7 @@ follow-first c zero (x ∷ cs) f = sym f.pending_is
 follow-first c (suc n) (x ∷ cs) f = follow-first c n cs f
 
 -- the machine that the job goes on in
-pub follow-step : (at : Within) (c : Going) (n : ℕ) (rest : List ℕ) (cs : List Going) (lines : Kind → Line) (runs : ℕ) → At (Follows c) n cs
+pub follow-step : (at : Cause) (c : Going) (n : ℕ) (rest : List ℕ) (cs : List Going) (lines : Kind → PlacedQueue) (runs : ℕ) → At (Follows c) n cs
     → stepped at (machine_by cs (n ∷ rest) lines runs) ≡ goes_on at n (pending c) (machine_by (changed (λ _. c) n cs) rest lines runs)
 follow-step at c n rest cs lines runs f =
     sym (ap₂ (λ (ps : List Pending) (left : List (List Pending)). goes_on at n ps (record (machine_by cs rest lines runs) { left = left }))
@@ -82,12 +87,12 @@ at-from P x (suc n) (y ∷ xs) a = at-from P x n xs a
 
 -- ---- a job that enters a list, which runs where it is full then
 
-record IsTiedAt (k : Kind) (lines : Kind → Line) (cs : List Going) (d : Desk) : Type 0 where
-  tied : IsTied d.courses d.agenda (put k (line d.waiters 0 0) lines)
-  owed : owed_from 0 (find_in lines) cs ≡ owed_from 0 (find_in (put k (line d.waiters 0 0) lines)) d.courses
+record IsTiedAt (k : Kind) (lines : Kind → PlacedQueue) (cs : List Going) (d : Desk) : Type 0 where
+  tied : IsTied d.courses d.agenda (put k (placed_queue d.waiters 0 0) lines)
+  owed : owed_from 0 (find_in lines) cs ≡ owed_from 0 (find_in (put k (placed_queue d.waiters 0 0) lines)) d.courses
 
 -- the length of agenda and list
-entered-length : (at : Within) (lanes n : ℕ) (a : Ahead) (d : Desk) → length (ran_if_full at lanes (joined_by n a d)).agenda + length (ran_if_full at lanes (joined_by n a d)).waiters
+entered-length : (at : Cause) (lanes n : ℕ) (a : Ahead) (d : Desk) → length (ran_if_full at lanes (joined_by n a d)).agenda + length (ran_if_full at lanes (joined_by n a d)).waiters
     ≡ length d.agenda + length d.waiters + 1
 entered-length at lanes n a d = go (length (joined_by n a d).waiters == lanes)
   where
@@ -96,7 +101,7 @@ entered-length at lanes n a d = go (length (joined_by n a d).waiters == lanes)
     go true = omega (arith, ran-length at (joined_by n a d), length-append d.waiters ((n, a) ∷ []))
     go false = omega (arith, length-append d.waiters ((n, a) ∷ []))
 
-module _ (k : Kind) (n : ℕ) (a : Ahead) (cs : List Going) (ag : List ℕ) (lines : Kind → Line) (r b runs : ℕ) (y : IsTied cs ag lines)
+module _ (k : Kind) (n : ℕ) (a : Ahead) (cs : List Going) (ag : List ℕ) (lines : Kind → PlacedQueue) (r b runs : ℕ) (y : IsTied cs ag lines)
     (next : At (IsNext k) n cs) (gives : At (Gives k a.rounds a.brings) n cs) where
   abbrev before : Desk
   before = desk cs ag (lines k).waiters r b runs
@@ -104,8 +109,8 @@ module _ (k : Kind) (n : ℕ) (a : Ahead) (cs : List Going) (ag : List ℕ) (lin
   abbrev join : Desk
   join = joined_by n a before
 
-  abbrev grown : Kind → Line
-  grown = put k (line join.waiters 0 0) lines
+  abbrev grown : Kind → PlacedQueue
+  grown = put k (placed_queue join.waiters 0 0) lines
 
   join-tied : IsTied join.courses ag grown
   join-tied = tied-join k (n, a) 0 0 cs ag lines next gives y
@@ -119,16 +124,16 @@ module _ (k : Kind) (n : ℕ) (a : Ahead) (cs : List Going) (ag : List ℕ) (lin
   abbrev end_agenda : List Waiter → List ℕ
   end_agenda ws = ag ++ numbers (finishers rounds_in (led_all ws))
 
-  abbrev end_line : List Waiter → Line
-  end_line ws = line (others rounds_in (led_all ws)) 0 0
+  abbrev end_line : List Waiter → PlacedQueue
+  end_line ws = placed_queue (others rounds_in (led_all ws)) 0 0
 
   own : (grown k).waiters ≡ join.waiters
-  own = ap (λ (x : Line). x.waiters) (put-self k (line join.waiters 0 0) lines)
+  own = ap (λ (x : PlacedQueue). x.waiters) (put-self k (placed_queue join.waiters 0 0) lines)
 
   run-tied : IsTied (end_courses join.waiters) (end_agenda join.waiters) (put k (end_line join.waiters) lines)
   run-tied =
       tied-same (end_courses join.waiters) (end_agenda join.waiters) (put k (end_line join.waiters) grown) (put k (end_line join.waiters) lines)
-      (put-twice k (end_line join.waiters) (line join.waiters 0 0) lines)
+      (put-twice k (end_line join.waiters) (placed_queue join.waiters 0 0) lines)
       (subst (λ (ws : List Waiter). IsTied (end_courses ws) (end_agenda ws) (put k (end_line ws) grown)) own (ran-list k join.courses ag grown join-tied).tied)
 
   run-owed : owed_from 0 (find_in lines) cs ≡ owed_from 0 (find_in (put k (end_line join.waiters) lines)) (end_courses join.waiters)
@@ -137,22 +142,22 @@ module _ (k : Kind) (n : ℕ) (a : Ahead) (cs : List Going) (ag : List ℕ) (lin
       ∙ subst (λ (ws : List Waiter). owed_from 0 (find_in grown) join.courses ≡ owed_from 0 (find_in (put k (end_line ws) grown)) (end_courses ws)) own
       (ran-list k join.courses ag grown join-tied).owed
       ∙ owed_from-same 0 (find_in (put k (end_line join.waiters) grown)) (find_in (put k (end_line join.waiters) lines)) (end_courses join.waiters)
-      (λ j m h. ap (found m) (put-twice k (end_line join.waiters) (line join.waiters 0 0) lines j))
+      (λ j m h. ap (found m) (put-twice k (end_line join.waiters) (placed_queue join.waiters 0 0) lines j))
 
-  ran-tied : (at : Within) → IsTiedAt k lines cs (ran_at at join)
-  ran-tied submit = record { tied = run-tied; owed = run-owed }
-  ran-tied flush = record { tied = run-tied; owed = run-owed }
+  ran-tied : (at : Cause) → IsTiedAt k lines cs (ran_at at join)
+  ran-tied cause.Submit = record { tied = run-tied; owed = run-owed }
+  ran-tied cause.Flush = record { tied = run-tied; owed = run-owed }
 
-  entered-by : (at : Within) (full : Bool) → IsTiedAt k lines cs (cond full (ran_at at join) join)
+  entered-by : (at : Cause) (full : Bool) → IsTiedAt k lines cs (cond full (ran_at at join) join)
   entered-by at true = ran-tied at
   entered-by at false = record { tied = join-tied; owed = join-owed }
 
-  entered-tied : (at : Within) (lanes : ℕ) → IsTiedAt k lines cs (ran_if_full at lanes join)
+  entered-tied : (at : Cause) (lanes : ℕ) → IsTiedAt k lines cs (ran_if_full at lanes join)
   entered-tied at lanes = entered-by at (length join.waiters == lanes)
 
 -- ---- the fields, once what finishes at once is done
 
-module _ (r r1 : RingState Cell) (p : ℕ) (ag ag1 : List ℕ) (ls : Lines) (capacity : ℕ) (x : Going) (y : IsHeld r ag ls capacity) (first : ag ≡ p ∷ ag1)
+module _ (r r1 : RingState Cell) (p : ℕ) (ag ag1 : List ℕ) (ls : LaneQueues) (capacity : ℕ) (x : Going) (y : IsHeld r ag ls capacity) (first : ag ≡ p ∷ ag1)
     (same : IsSameRing r1 r) (is : courses r1 ≡ changed (λ _. x) (number_in r p) (courses r)) (follows : At (Follows x) (number_in r p) (courses r)) where
   numbers-first : map (number_in r) ag ≡ number_in r p ∷ map (number_in r) ag1
   numbers-first = ap (map (number_in r)) first
@@ -169,7 +174,7 @@ module _ (r r1 : RingState Cell) (p : ℕ) (ag ag1 : List ℕ) (ls : Lines) (cap
 
   pub tied-then : IsTied (courses r1) (map (number_in r1) ag1) (lines_in r1 ls)
   tied-then =
-      subst (λ (m : ℕ). IsTied (courses r1) (map (number m) ag1) (λ j. numbered_line (number m) (line_in j ls))) (sym same.first)
+      subst (λ (m : ℕ). IsTied (courses r1) (map (number m) ag1) (λ j. numbered_queue (number m) (placed_in j ls))) (sym same.first)
       (subst (λ (cs : List Going). IsTied cs (map (number_in r) ag1) (lines_in r ls)) (sym is)
       (tied-follow x (number_in r p) (courses r) (map (number_in r) ag1) (lines_in r ls) follows was-here tied-rest))
 
@@ -177,32 +182,32 @@ module _ (r r1 : RingState Cell) (p : ℕ) (ag ag1 : List ℕ) (ls : Lines) (cap
   owed-then =
       owed-follow 0 (find_in (lines_in r ls)) x (number_in r p) (courses r) follows
       ∙ ap (owed_from 0 (find_in (lines_in r ls))) (sym is)
-      ∙ ap (λ (m : ℕ). owed_from 0 (find_in (λ j. numbered_line (number m) (line_in j ls))) (courses r1)) (sym same.first)
+      ∙ ap (λ (m : ℕ). owed_from 0 (find_in (λ j. numbered_queue (number m) (placed_in j ls))) (courses r1)) (sym same.first)
 
-  pub machine-then : (at : Within) → stepped at (machine_in r ag ls) ≡ goes_on at (number_in r1 p) (pending x) (machine_in r1 ag1 ls)
+  pub machine-then : (at : Cause) → stepped at (machine_in r ag ls) ≡ goes_on at (number_in r1 p) (pending x) (machine_in r1 ag1 ls)
   machine-then at =
       ap (λ (a : List ℕ). stepped at (machine_by (courses r) a (lines_in r ls) ls.flush_runs)) numbers-first
       ∙ follow-step at x (number_in r p) (map (number_in r) ag1) (courses r) (lines_in r ls) ls.flush_runs follows
       ∙ ap (λ (cs : List Going). goes_on at (number_in r p) (pending x) (machine_by cs (map (number_in r) ag1) (lines_in r ls) ls.flush_runs)) (sym is)
-      ∙ ap (λ (m : ℕ). goes_on at (number m p) (pending x) (machine_by (courses r1) (map (number m) ag1) (λ j. numbered_line (number m) (line_in j ls)) ls.flush_runs)) (sym same.first)
+      ∙ ap (λ (m : ℕ). goes_on at (number m p) (pending x) (machine_by (courses r1) (map (number m) ag1) (λ j. numbered_queue (number m) (placed_in j ls)) ls.flush_runs)) (sym same.first)
 
-  pub within-then : (at : Within) → IsWithin (stepped at (machine_in r ag ls))
+  pub within-then : (at : Cause) → IsWithin (stepped at (machine_in r ag ls))
   within-then at =
       subst (λ (a : List ℕ). IsWithin (stepped_at at a (machine_in r ag ls))) (sym numbers-first)
       (steps at (number_in r p) (map (number_in r) ag1) (machine_in r ag ls) numbers-first y.within).within
 
-  pub fewer-then : (at : Within) → steps_ahead (stepped at (machine_in r ag ls)) < steps_ahead (machine_in r ag ls)
+  pub fewer-then : (at : Cause) → steps_ahead (stepped at (machine_in r ag ls)) < steps_ahead (machine_in r ag ls)
   fewer-then at =
       subst (λ (a : List ℕ). steps_ahead (stepped_at at a (machine_in r ag ls)) < steps_ahead (machine_in r ag ls)) (sym numbers-first)
       (steps at (number_in r p) (map (number_in r) ag1) (machine_in r ag ls) numbers-first y.within).ahead
 
-  pub no-more-then : (at : Within) → stages_left (stepped at (machine_in r ag ls)).left ≤ stages_left (machine_in r ag ls).left
+  pub no-more-then : (at : Cause) → stages_left (stepped at (machine_in r ag ls)).left ≤ stages_left (machine_in r ag ls).left
   no-more-then at =
       subst (λ (a : List ℕ). stages_left (stepped_at at a (machine_in r ag ls)).left ≤ stages_left (machine_in r ag ls).left) (sym numbers-first)
       (steps at (number_in r p) (map (number_in r) ag1) (machine_in r ag ls) numbers-first y.within).fewer
 
   -- a finished job
-  pub finishes : (at : Within) → pending x ≡ [] → IsStep r r1 ag ag1 ls ls (stepped at (machine_in r ag ls)) capacity
+  pub finishes : (at : Cause) → pending x ≡ [] → IsStep r r1 ag ag1 ls ls (stepped at (machine_in r ag ls)) capacity
   finishes at none =
       let machine : machine_in r1 ag1 ls ≡ stepped at (machine_in r ag ls)
       = sym (machine-then at ∙ ap (λ ps. goes_on at (number_in r1 p) ps (machine_in r1 ag1 ls)) none) in
@@ -226,8 +231,8 @@ module _ (r r1 : RingState Cell) (p : ℕ) (ag ag1 : List ℕ) (ls : Lines) (cap
       (subst (λ (cs : List Going). At (IsNext k) (number_in r p) cs) (sym is)
       (at-new (Follows x) (IsNext k) (λ _. x) (number_in r p) (courses r) (λ z h. record { stage = st; here = h.here }) follows))
 
-  waiters-length : (q : RingState Cell) (k : Kind) → length (lines_in q ls k).waiters ≡ length (line_in k ls).waiters
-  waiters-length q k = let g : Waiter → Waiter = λ w. (number_in q w.0, w.1) in length-map (line_in k ls).waiters g
+  waiters-length : (q : RingState Cell) (k : Kind) → length (lines_in q ls k).waiters ≡ length (placed_in k ls).waiters
+  waiters-length q k = let g : Waiter → Waiter = λ w. (number_in q w.0, w.1) in length-map (placed_in k ls).waiters g
 
   pub may-enter : (k : Kind) → stage_of x ≡ stage.Lane k
       → MayEnter (lanes_of k) k (number_in r1 p) (desk_of k (number_in r1) (courses r1) ag1 ls) capacity
@@ -240,14 +245,14 @@ module _ (r r1 : RingState Cell) (p : ℕ) (ag ag1 : List ℕ) (ls : Lines) (cap
       record {
         next = next-then k st;
         few = omega (arith, length-map (lines_in r ls k).waiters waiting, waiters-length r k, waiters-length r1 k);
-        rests = subst (λ (m : ℕ). All HasRest (numbered_line (number m) (line_in k ls)).waiters) (sym same.first) rests;
+        rests = subst (λ (m : ℕ). All HasRest (numbered_queue (number m) (placed_in k ls)).waiters) (sym same.first) rests;
         listed = tied-then.listed k;
         room_left = omega (arith, length-map ag1 (number_in r1), waiters-length r1 k, in-total k ls, ap length first);
       }
 
   -- and does so
-  pub enters : (at : Within) (k : Kind) (r2 : RingState Cell) (ag2 : List ℕ) (ls2 : Lines) → stage_of x ≡ stage.Lane k → IsSameRing r2 r1
-      → ls2 ≡ with_line k (line_in k ls2) ls2.flush_runs ls
+  pub enters : (at : Cause) (k : Kind) (r2 : RingState Cell) (ag2 : List ℕ) (ls2 : LaneQueues) → stage_of x ≡ stage.Lane k → IsSameRing r2 r1
+      → ls2 ≡ with_placed k (placed_in k ls2) ls2.flush_runs ls
       → Enters at (lanes_of k) k (number_in r1 p) (desk_of k (number_in r1) (courses r1) ag1 ls) (desk_of k (number_in r1) (courses r2) ag2 ls2)
       → IsStep r r2 ag ag2 ls ls2 (stepped at (machine_in r ag ls)) capacity
   enters at k r2 ag2 ls2 st then others-are e =
@@ -256,7 +261,7 @@ module _ (r r1 : RingState Cell) (p : ℕ) (ag ag1 : List ℕ) (ls : Lines) (cap
       let d1 = desk_of k (number_in r1) (courses r1) ag1 ls in
       let d = ran_if_full at (lanes_of k) (joined_by n a d1) in
       let m1 = machine_in r1 ag1 ls in
-      let lanes : Kind → Lane = λ j. lane_seen (lines_in r1 ls j) in
+      let lanes : Kind → Queue = λ j. lane_seen (lines_in r1 ls j) in
       let gives : Gives k a.rounds a.brings x
       = at-from (Gives k a.rounds a.brings) x (number_in r p) (courses r)
       (subst (λ (m : ℕ). At (Gives k a.rounds a.brings) (number m p) (changed (λ _. x) (number_in r p) (courses r))) same.first
@@ -266,7 +271,7 @@ module _ (r r1 : RingState Cell) (p : ℕ) (ag ag1 : List ℕ) (ls : Lines) (cap
       let machine : machine_in r2 ag2 ls2 ≡ stepped at (machine_in r ag ls)
       = moved-machine k r1 r2 ag1 ag2 ls ls2 d then others-are e.is ∙ enters-seen at k lanes n a d1
       ∙ ap (joined at k n a.rounds) (sym (by-desk k (lines_in r1 ls) (lines_in r1 ls) d1 refl (λ j ne. refl))) ∙ sym step in
-      let t = entered-tied k n a (courses r1) (map (number_in r1) ag1) (lines_in r1 ls) (line_in k ls).rounds (line_in k ls).blocks ls.flush_runs
+      let t = entered-tied k n a (courses r1) (map (number_in r1) ag1) (lines_in r1 ls) (placed_in k ls).rounds (placed_in k ls).blocks ls.flush_runs
       tied-then (next-then k st) e.gives at (lanes_of k) in
       let size = moved-length k r1 r2 ag1 ag2 ls ls2 d then others-are e.is in
       let fits = y.fits in

@@ -6,10 +6,12 @@ use Rattle.std.proofs.lemmas.List.{get_or_past, nil_from_length}
 use Rattle.std.proofs.lemmas.List.Elements.{All-push}
 use Rattle.std.proofs.lemmas.List.Sums.{count_by-le-length}
 use Rattle.mbj_types.specs.declared.kind.Kind.{Kind}
-use Rattle.mbj_manager.specs.Rounds.{Pending, at_once, in_lanes}
-use Rattle.mbj_manager.specs.Machine.{Machine, Within, submit, flush, lane_for, run_within}
-use Rattle.mbj_manager.specs.Course.{course, flush_step_at, flushed, in_lanes_next, stages_left}
-use Rattle.mbj_manager.specs.Between.{HasRounds, IsBetweenCalls, IsPlaced, KeepsMachines, times_in, with_stages}
+use Rattle.mbj_manager.specs.Machine.Stages.{Pending, at_once, in_lanes}
+use Rattle.mbj_manager.specs.Machine.Queues.{Machine, queue_for, run_within}
+use Rattle.mbj_manager.specs.declared.lane.Cause.{Cause}
+use Rattle.mbj_manager.specs.declared.lane.Cause.TheVariants as cause
+use Rattle.mbj_manager.specs.Machine.Course.{course, flush_step_at, flushed, in_lanes_next, stages_left}
+use Rattle.mbj_manager.specs.Machine.Between.{HasRounds, IsBetweenCalls, IsPlaced, KeepsMachines, times_in, with_stages}
 use Rattle.mbj_manager.specs.Inside.Standing.{IsWithin, Stands, left_at, times}
 use Rattle.mbj_manager.proofs.Changing.{length-changed, other-added}
 use Rattle.mbj_manager.proofs.CourseEnds.{course-ends, lanes-between, stages-at}
@@ -52,9 +54,9 @@ pub earliest-ready : (k : Kind) (rest : ℕ) (left : List Pending) (m : Machine)
     → IsBetweenCalls m → IsReady k m
 earliest-ready k rest left m earliest between =
     let placed = subst (IsPlaced m 0) earliest (between.placed 0) in
-    let there : times_in 0 (lane_for k m).waiting ≡ 1 = placed.0 in
+    let there : times_in 0 (queue_for k m).waiting ≡ 1 = placed.0 in
     let few = between.few k in
-    let some : 0 < length (lane_for k m).waiting = omega (arith, count_by-le-length (λ w. w.number == 0) (lane_for k m).waiting) in
+    let some : 0 < length (queue_for k m).waiting = omega (arith, count_by-le-length (λ w. w.number == 0) (queue_for k m).waiting) in
     record {
       others = λ j ne. lanes-between m between j;
       lane = record { some = some; room = omega arith; rests = between.rests k; blocks = between.blocks k };
@@ -64,7 +66,7 @@ earliest-ready k rest left m earliest between =
 
 -- the list of the earliest job runs
 pub earliest-runs : (left : List (List Pending)) (k : Kind) (rest : ℕ) (ps : List Pending) (m : Machine)
-    → left_at 0 left ≡ in_lanes k rest ∷ ps → flush_step_at (slice_get left 0) m ≡ course flush (run_within flush k m)
+    → left_at 0 left ≡ in_lanes k rest ∷ ps → flush_step_at (slice_get left 0) m ≡ course cause.Flush (run_within cause.Flush k m)
 earliest-runs [] k rest ps m earliest = cc
 earliest-runs (first ∷ left) k rest ps m earliest = ap (λ ps. flush_step_at (Some ps) m) earliest
 
@@ -83,10 +85,10 @@ enough-flush-steps zero (in_lanes k rest ∷ ps) m is between enough =
     let fewer = (idle-keeps k m (earliest-ready k rest ps m is between)).fewer in absurd (omega arith)
 enough-flush-steps (suc count) (in_lanes k rest ∷ ps) m is between enough =
     let run = idle-keeps k m (earliest-ready k rest ps m is between) in
-    let end = course-ends flush (run_within flush k m) run.within in
+    let end = course-ends cause.Flush (run_within cause.Flush k m) run.within in
     let fewer = run.fewer in
     let fewer-then = end.fewer in
-    let after = course flush (run_within flush k m) in
+    let after = course cause.Flush (run_within cause.Flush k m) in
     let flushed-then = enough-flush-steps count (left_at 0 after.left) after refl end.between (omega arith) in
     subst (λ m. IsFlushed (after_flush_steps count m)) (sym (earliest-runs m.left k rest ps m is)) flushed-then
 
@@ -98,12 +100,12 @@ flush-ends m between = enough-flush-steps (stages_left m.left) (left_at 0 m.left
 -- ---- how many jobs there are
 
 -- a run takes no job away
-run-length : (at : Within) (k : Kind) (m : Machine) → length (run_within at k m).left ≡ length m.left
-run-length submit k m = length-stage_done (gone k m) m.left
-run-length flush k m = length-stage_done (gone k m) m.left
+run-length : (at : Cause) (k : Kind) (m : Machine) → length (run_within at k m).left ≡ length m.left
+run-length cause.Submit k m = length-stage_done (gone k m) m.left
+run-length cause.Flush k m = length-stage_done (gone k m) m.left
 
 -- how many jobs there are stays within a course
-jobs-left : (at : Within) → IsUnchanged (λ m. length m.left) at
+jobs-left : (at : Cause) → IsUnchanged (λ m. length m.left) at
 jobs-left at = record {
   runs = run-length at;
   joins = λ k ws m. refl;
@@ -111,12 +113,12 @@ jobs-left at = record {
 }
 
 -- a course finishes jobs and takes none away
-pub course-length : (at : Within) (m : Machine) → length (course at m).left ≡ length m.left
+pub course-length : (at : Cause) (m : Machine) → length (course at m).left ≡ length m.left
 course-length at m = unchanged-course (λ m. length m.left) at (jobs-left at) m
 
 -- likewise a flush
 pub flush-length : (m : Machine) → length (flushed m).left ≡ length m.left
-flush-length m = unchanged-flush (λ m. length m.left) (jobs-left flush) m
+flush-length m = unchanged-flush (λ m. length m.left) (jobs-left cause.Flush) m
 
 -- ---- both
 
@@ -130,7 +132,7 @@ pub machines-kept : (m : Machine) → IsBetweenCalls m → KeepsMachines m
 machines-kept m between =
     let end = flush-ends m between in
     record {
-      submits = λ stages rounds. (course-ends submit (with_stages stages m) (submitted-within stages m rounds between)).between;
+      submits = λ stages rounds. (course-ends cause.Submit (with_stages stages m) (submitted-within stages m rounds between)).between;
       flushes = end.between;
       earliest = λ some. first-done (flushed m).left
           (λ none. some (nil_from_length m.left (sym (flush-length m) ∙ ap length none))) end.done;

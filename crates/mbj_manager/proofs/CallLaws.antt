@@ -6,9 +6,9 @@ use Rattle.mbj_types.specs.declared.job.Job.{Job}
 use Rattle.mbj_types.specs.declared.done.Done.{Done}
 use Rattle.mbj_types.specs.Result.{result_of}
 use Rattle.mbj_ring.specs.declared.ring.TheConstants.{CELLS}
-use Rattle.mbj_manager.specs.Rounds.{Pending}
-use Rattle.mbj_manager.specs.Course.{course}
-use Rattle.mbj_manager.specs.Machine as machine
+use Rattle.mbj_manager.specs.Machine.Stages.{Pending}
+use Rattle.mbj_manager.specs.Machine.Course.{course}
+use Rattle.mbj_manager.specs.declared.lane.Cause.TheVariants as cause
 use Rattle.mbj_manager.specs.Inside.Added.{added}
 use Rattle.mbj_manager.specs.State.{ManagerState, IsEarliestFinished, after_get_completed, given_at, entered, lent, after_submit, with_open, with_job}
 use Rattle.mbj_manager.specs.Calls.{Call, get_next, write, submit, get_completed, flush, called, jobs_in, given_back, jobs_submitted, after_calls}
@@ -47,7 +47,7 @@ abbrev pub entered_at : Option Job → ManagerState → ManagerState
 entered_at o h = unwrap_or (option_map (λ j. with_job j h) o) h
 
 -- the open job o goes last, and then the course is followed
-pub entered-added : (o : Option Job) (h : ManagerState) → IsSome o → record (added o h) { machine = course machine.submit (added o h).machine } ≡ entered_at o h
+pub entered-added : (o : Option Job) (h : ManagerState) → IsSome o → record (added o h) { machine = course cause.Submit (added o h).machine } ≡ entered_at o h
 entered-added None h some = cc
 entered-added (Some j) h some = refl
 
@@ -92,7 +92,7 @@ keeps get_next h = next-keeps h ∙ sym (append-nil h.owed)
 keeps (write j) h = write-keeps h.opened j h ∙ sym (append-nil h.owed)
 keeps submit h = submit-keeps h.opened h refl
 keeps get_completed h = given-order h ∙ sym (append-nil h.owed)
-keeps flush h = given-order (record h { machine = Rattle.mbj_manager.specs.Course.flushed h.machine }) ∙ sym (append-nil h.owed)
+keeps flush h = given-order (record h { machine = Rattle.mbj_manager.specs.Machine.Course.flushed h.machine }) ∙ sym (append-nil h.owed)
 
 pub all-in-order : (cs : List Call) (h : ManagerState)
     → given_back cs h ++ (after_calls cs h).owed ≡ h.owed ++ map result_of (jobs_submitted cs h)

@@ -11,14 +11,16 @@ use Rattle.mbj_types.specs.Result.{result_of}
 use Rattle.mbj_types.specs.Kinds.{lanes_of}
 use Rattle.mbj_ring.specs.declared.ring.TheConstants.{CELLS}
 use Rattle.mbj_stage.specs.Going.{begun}
-use Rattle.mbj_manager.specs.Rounds.{Pending, pending}
-use Rattle.mbj_manager.specs.Machine.{Machine, submit, lane_for, idle_lane, count_end}
-use Rattle.mbj_manager.specs.Course.{course, flushed}
+use Rattle.mbj_manager.specs.Machine.Stages.{Pending, pending}
+use Rattle.mbj_manager.specs.Machine.Queues.{Machine, queue_for, idle_queue, count_end}
+use Rattle.mbj_manager.specs.declared.lane.Cause.TheVariants as cause
+use Rattle.mbj_manager.specs.Machine.Course.{course, flushed}
 use Rattle.mbj_manager.specs.State.{ManagerState, entered, after_flush, after_get_completed, given_at, lent, new_manager, with_job, with_open}
 use Rattle.mbj_manager.specs.Calls as calls
 use Rattle.mbj_manager.specs.Calls.{Call, after_calls, called}
-use Rattle.mbj_manager.specs.Counts.{RisesUpTo}
-use Rattle.mbj_manager.specs.Between.{AreKept, HasRounds, IsBetweenCalls, IsKept}
+use Rattle.mbj_manager.specs.Machine.Counts.{RisesUpTo}
+use Rattle.mbj_manager.specs.Kept.{AreKept, IsKept}
+use Rattle.mbj_manager.specs.Machine.Between.{HasRounds, IsBetweenCalls}
 use Rattle.mbj_manager.specs.Inside.Added.{added}
 use Rattle.mbj_manager.specs.Inside.Standing.{IsLane, left_at}
 use Rattle.mbj_manager.specs.Inside.Settled.{IsSettled}
@@ -110,16 +112,16 @@ with-job-settled j h settled =
     let stages = pending (begun j) in
     let entering : ℕ → Machine = λ n. record h.machine { left = h.machine.left ++ stages ∷ []; agenda = n ∷ [] } in
     record {
-      machine = subst (λ n. IsBetweenCalls (course submit (entering n))) settled.jobs
+      machine = subst (λ n. IsBetweenCalls (course cause.Submit (entering n))) settled.jobs
           ((machines-kept h.machine settled.machine).submits stages (pending-rounds j));
-      jobs = course-length submit (entering (length h.owed)) ∙ length_push h.machine.left stages
+      jobs = course-length cause.Submit (entering (length h.owed)) ∙ length_push h.machine.left stages
           ∙ ap (λ n. n + 1) settled.jobs ∙ sym (length_push h.owed (result_of j));
-      two = each-course (λ ps. length ps ≤ 2) two-then two-next submit (entering (length h.owed)) (two-added h.machine.left stages settled.two (two-stages j));
+      two = each-course (λ ps. length ps ≤ 2) two-then two-next cause.Submit (entering (length h.owed)) (two-added h.machine.left stages settled.two (two-stages j));
     }
 
 -- the course of the job that was open
 pub added-settled : (o : Option Job) (h : ManagerState) → IsSome o → IsSettled h
-    → IsSettled (record (added o h) { machine = course submit (added o h).machine })
+    → IsSettled (record (added o h) { machine = course cause.Submit (added o h).machine })
 added-settled None h some settled = cc
 added-settled (Some j) h some settled = with-job-settled j h settled
 
@@ -169,7 +171,7 @@ calls-settled (c ∷ cs) h settled = calls-settled cs (called c h).1 (call-settl
 -- ---- from the first call on
 
 -- lanes in which no job waits
-idle-kept : (k : Kind) → IsLane k idle_lane
+idle-kept : (k : Kind) → IsLane k idle_queue
 idle-kept k = record {
   few = some-lanes k;
   rests = All-nil (λ w. 1 ≤ w.rest);
@@ -183,7 +185,7 @@ two-none (suc n) = omega arith
 -- a new manager has it
 pub new-settled : IsSettled new_manager
 new-settled =
-    let lanes : (k : Kind) → IsLane k (lane_for k new_manager.machine) = idle-kept in
+    let lanes : (k : Kind) → IsLane k (queue_for k new_manager.machine) = idle-kept in
     record {
       machine = record {
         agenda = refl;

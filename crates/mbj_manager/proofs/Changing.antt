@@ -2,7 +2,7 @@
 use Rattle.std.proofs.Common.{◌≡◌, ◌≢◌, ℕ, ◌+◌, zero, suc, List, [], ◌∷◌, ◌++◌, length, slice_index_or, refl, ap, sym, arith}
 use Rattle.std.specs.Prelude.{sum_by}
 use Rattle.std.proofs.lemmas.List.Sums.{sum_by-cons}
-use Rattle.mbj_manager.specs.Machine.{changed}
+use Rattle.mbj_manager.specs.Machine.Queues.{changed}
 
 -- the item that is changed, also past the end, where f keeps the default
 pub at-changed : {A : Type 0} (f : A → A) (d : A) → f d ≡ d → (n : ℕ) (xs : List A)

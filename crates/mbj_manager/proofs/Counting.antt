@@ -1,15 +1,16 @@
 -- Each run of a course goes into the count of the call that it is within.
-use Rattle.std.proofs.Common.{◌≡◌, List, refl}
+use Rattle.std.proofs.Common.{◌≡◌, ℕ, List, inl, inr, refl, ap, sym, ◌∙◌}
 use Rattle.mbj_types.specs.declared.kind.Kind.{Kind}
-use Rattle.mbj_types.specs.declared.kind.Kind.TheVariants as kind
-use Rattle.mbj_manager.specs.Machine.{Machine, Waiting, submit, flush, lane_for, with_lane}
-use Rattle.mbj_manager.specs.Counts.{CountsApart, full_runs}
+use Rattle.mbj_manager.specs.Machine.Queues.{Queue, Machine, Waiting, queue_for, with_queue}
+use Rattle.mbj_manager.specs.declared.lane.Cause.TheVariants as cause
+use Rattle.mbj_manager.specs.Machine.Counts.{CountsApart, full_runs}
 use Rattle.mbj_manager.proofs.Unchanged.{IsUnchanged, unchanged-course, unchanged-flush}
+use Rattle.mbj_manager.proofs.KindLines.{put-case}
 use Rattle.mbj_manager.proofs.Lanes.{with_waiting}
 
 -- ---- within a submit
 
-flush-runs-left : IsUnchanged (λ m. m.flush_runs) submit
+flush-runs-left : IsUnchanged (λ m. m.flush_runs) cause.Submit
 flush-runs-left = record {
   runs = λ k m. refl;
   joins = λ k ws m. refl;
@@ -20,18 +21,15 @@ flush-runs-left = record {
 
 -- a list that changes keeps its kind's counts, and those of the other kinds
 same-counts : (k j : Kind) (ws : List Waiting) (m : Machine)
-    → full_runs k (record m { lanes = with_lane j (with_waiting (lane_for j m) ws) m.lanes }) ≡ full_runs k m
-same-counts kind.Cbc128 kind.Cbc128 ws m = refl
-same-counts kind.Cbc192 kind.Cbc192 ws m = refl
-same-counts kind.Cbc256 kind.Cbc256 ws m = refl
-same-counts kind.Cmac128 kind.Cmac128 ws m = refl
-same-counts kind.Cmac256 kind.Cmac256 ws m = refl
-same-counts kind.HmacSha1 kind.HmacSha1 ws m = refl
-same-counts kind.HmacSha256 kind.HmacSha256 ws m = refl
-same-counts kind.HmacSha512 kind.HmacSha512 ws m = refl
-same-counts _ _ ws m = refl
+    → full_runs k (record m { lanes = with_queue j (with_waiting (queue_for j m) ws) m.lanes }) ≡ full_runs k m
+same-counts k j ws m =
+    let counts : Queue → ℕ × ℕ = λ l. (l.rounds, l.blocks) in
+    elim (put-case j k (with_waiting (queue_for j m) ws) m.lanes) [
+      | inl e ↦ ap counts e.1 ∙ ap (λ i. counts (m.lanes i)) (sym e.0)
+      | inr e ↦ ap counts e.1
+    ]
 
-full-runs-left : (k : Kind) → IsUnchanged (full_runs k) flush
+full-runs-left : (k : Kind) → IsUnchanged (full_runs k) cause.Flush
 full-runs-left k = record {
   runs = λ j m. same-counts k j _ m;
   joins = λ j ws m. same-counts k j ws m;
@@ -40,6 +38,6 @@ full-runs-left k = record {
 
 pub counts-apart : (m : Machine) → CountsApart m
 counts-apart m = record {
-  submitting = unchanged-course (λ m. m.flush_runs) submit flush-runs-left m;
+  submitting = unchanged-course (λ m. m.flush_runs) cause.Submit flush-runs-left m;
   flushing = λ k. unchanged-flush (full_runs k) (full-runs-left k) m;
 }

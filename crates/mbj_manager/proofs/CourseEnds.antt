@@ -5,10 +5,11 @@ use Rattle.std.proofs.lemmas.Bool.{cases_lt}
 use Rattle.std.proofs.lemmas.List.{get_or_past}
 use Rattle.std.proofs.lemmas.List.Elements.{All-from_get_or, All-get_or, All-nil}
 use Rattle.mbj_types.specs.declared.kind.Kind.{Kind}
-use Rattle.mbj_manager.specs.Rounds.{Pending}
-use Rattle.mbj_manager.specs.Machine.{Machine, Within, lane_for}
-use Rattle.mbj_manager.specs.Course.{course, stages_left, stepped, stepped_at}
-use Rattle.mbj_manager.specs.Between.{HasRounds, IsBetweenCalls}
+use Rattle.mbj_manager.specs.Machine.Stages.{Pending}
+use Rattle.mbj_manager.specs.Machine.Queues.{Machine, queue_for}
+use Rattle.mbj_manager.specs.declared.lane.Cause.{Cause}
+use Rattle.mbj_manager.specs.Machine.Course.{course, stages_left, stepped, stepped_at}
+use Rattle.mbj_manager.specs.Machine.Between.{HasRounds, IsBetweenCalls}
 use Rattle.mbj_manager.specs.Inside.Standing.{IsLane, IsWithin, left_at, times}
 use Rattle.mbj_manager.proofs.Resting.{rests}
 use Rattle.mbj_manager.proofs.Stepping.{IsStep, steps}
@@ -37,7 +38,7 @@ between-calls m within none = record {
 }
 
 -- the lanes between two calls are as they are after each step
-pub lanes-between : (m : Machine) → IsBetweenCalls m → (k : Kind) → IsLane k (lane_for k m)
+pub lanes-between : (m : Machine) → IsBetweenCalls m → (k : Kind) → IsLane k (queue_for k m)
 lanes-between m between k = record { few = between.few k; rests = between.rests k; blocks = between.blocks k }
 
 -- after is the machine m after a whole course
@@ -46,7 +47,7 @@ pub record Ends (after m : Machine) : Type 0 where
   pub fewer : stages_left after.left ≤ stages_left m.left
 
 -- as many steps as are ahead end the course
-enough-steps : (at : Within) (count : ℕ) (agenda : List ℕ) (m : Machine) → m.agenda ≡ agenda → IsWithin m → steps_ahead m ≤ count
+enough-steps : (at : Cause) (count : ℕ) (agenda : List ℕ) (m : Machine) → m.agenda ≡ agenda → IsWithin m → steps_ahead m ≤ count
     → Ends (after_steps at count m) m
 enough-steps at count [] m is within enough =
     subst (λ after. Ends after m) (sym (rests at count m is)) (record { between = between-calls m within is; fewer = omega arith })
@@ -61,6 +62,6 @@ enough-steps at (suc count) (n ∷ agenda) m is within enough =
     record { between = end.between; fewer = omega arith }
 
 -- a course from a machine between two steps
-pub course-ends : (at : Within) (m : Machine) → IsWithin m → Ends (course at m) m
+pub course-ends : (at : Cause) (m : Machine) → IsWithin m → Ends (course at m) m
 unfolding course
 course-ends at m within = enough-steps at (steps_ahead m) m.agenda m refl within (omega arith)

@@ -4,11 +4,12 @@ use Rattle.std.proofs.Math.Nat.{mod-add-mod}
 use Rattle.std.proofs.lemmas.Bool.{cond_both}
 use Rattle.mbj_types.specs.declared.kind.Kind.{Kind}
 use Rattle.mbj_types.specs.Kinds.{lanes_of}
-use Rattle.mbj_manager.specs.Rounds.{Pending, at_once, in_lanes}
-use Rattle.mbj_manager.specs.Machine.{Machine, count_end, flush, lane_for, run_within}
-use Rattle.mbj_manager.specs.Course.{course, flushed, goes_on, in_lanes_next, joined, stages_left, stepped, stepped_at}
-use Rattle.mbj_manager.specs.Between.{IsBetweenCalls, IsPlaced}
-use Rattle.mbj_manager.specs.Counts.{RunsFew}
+use Rattle.mbj_manager.specs.Machine.Stages.{Pending, at_once, in_lanes}
+use Rattle.mbj_manager.specs.Machine.Queues.{Machine, count_end, queue_for, run_within}
+use Rattle.mbj_manager.specs.declared.lane.Cause.TheVariants as cause
+use Rattle.mbj_manager.specs.Machine.Course.{course, flushed, goes_on, in_lanes_next, joined, stages_left, stepped, stepped_at}
+use Rattle.mbj_manager.specs.Machine.Between.{IsBetweenCalls, IsPlaced}
+use Rattle.mbj_manager.specs.Inside.RunsFew.{RunsFew}
 use Rattle.mbj_manager.specs.Inside.Standing.{IsWithin, left_at}
 use Rattle.mbj_manager.proofs.BetweenCalls.{earliest-ready, earliest-runs}
 use Rattle.mbj_manager.proofs.Changing.{at-changed}
@@ -40,7 +41,7 @@ and-then first next last a b =
     }
 
 -- a run ends a stage
-one-run : (k : Kind) (m : Machine) → IsReady k m → RunsFew (run_within flush k m) m
+one-run : (k : Kind) (m : Machine) → IsReady k m → RunsFew (run_within cause.Flush k m) m
 one-run k m ready =
     let fewer = (idle-keeps k m ready).fewer in
     let none : ((m.flush_runs + 1) % count_end + 0) % count_end ≡ (m.flush_runs + 1 + 0) % count_end = mod-add-mod (m.flush_runs + 1) count_end 0 in
@@ -49,36 +50,36 @@ one-run k m ready =
     record { count = 1; few = omega arith; is = sym (ap (λ n. n % count_end) same) ∙ none ∙ ap (λ n. n % count_end) plus }
 
 join-runs : (k : Kind) (n rest : ℕ) (left : List Pending) (m : Machine) → IsTaken n m → left_at n m.left ≡ in_lanes k rest ∷ left
-    → RunsFew (joined flush k n rest m) m
+    → RunsFew (joined cause.Flush k n rest m) m
 join-runs k n rest left m taken next =
     let g = grown k n rest m in
     let grew : RunsFew g m = record { count = 0; few = omega arith; is = no-more m.flush_runs } in
-    cond_both (length (lane_for k g).waiting == lanes_of k) (run_within flush k g) g (λ after. RunsFew after m)
-    (λ full. and-then m g (run_within flush k g) grew (one-run k g (grown-ready k n rest left m taken next)))
+    cond_both (length (queue_for k g).waiting == lanes_of k) (run_within cause.Flush k g) g (λ after. RunsFew after m)
+    (λ full. and-then m g (run_within cause.Flush k g) grew (one-run k g (grown-ready k n rest left m taken next)))
     (λ room. grew)
 
-goes-runs : (n : ℕ) (ps : List Pending) (m : Machine) → IsTaken n m → left_at n m.left ≡ ps → RunsFew (goes_on flush n ps m) m
+goes-runs : (n : ℕ) (ps : List Pending) (m : Machine) → IsTaken n m → left_at n m.left ≡ ps → RunsFew (goes_on cause.Flush n ps m) m
 goes-runs n [] m taken next = none-run m
 goes-runs n (at_once ∷ left) m taken next = none-run m
 goes-runs n (in_lanes k rest ∷ left) m taken next = join-runs k n rest left m taken next
 
-step-runs : (n : ℕ) (agenda : List ℕ) (m : Machine) → m.agenda ≡ n ∷ agenda → IsWithin m → RunsFew (stepped_at flush (n ∷ agenda) m) m
+step-runs : (n : ℕ) (agenda : List ℕ) (m : Machine) → m.agenda ≡ n ∷ agenda → IsWithin m → RunsFew (stepped_at cause.Flush (n ∷ agenda) m) m
 step-runs n agenda m first within =
     let t = take_first n agenda m in
     let took : RunsFew t m = record { count = 0; few = (let stages = no-more-stages n m.left in omega arith); is = no-more m.flush_runs } in
-    and-then m t (goes_on flush n (in_lanes_next (left_at n m.left)) t) took
+    and-then m t (goes_on cause.Flush n (in_lanes_next (left_at n m.left)) t) took
     (goes-runs n (in_lanes_next (left_at n m.left)) t (takes n agenda m first within) (at-changed in_lanes_next [] refl n m.left))
 
-steps-run : (count : ℕ) (agenda : List ℕ) (m : Machine) → m.agenda ≡ agenda → IsWithin m → RunsFew (after_steps flush count m) m
-steps-run count [] m is within = subst (λ (x : Machine). RunsFew x m) (sym (rests flush count m is)) (none-run m)
+steps-run : (count : ℕ) (agenda : List ℕ) (m : Machine) → m.agenda ≡ agenda → IsWithin m → RunsFew (after_steps cause.Flush count m) m
+steps-run count [] m is within = subst (λ (x : Machine). RunsFew x m) (sym (rests cause.Flush count m is)) (none-run m)
 steps-run zero (n ∷ agenda) m is within = none-run m
 steps-run (suc count) (n ∷ agenda) m is within =
-    let stepped-on = subst (λ a. IsWithin (stepped_at flush a m)) (sym is) (steps flush n agenda m is within).within in
-    and-then m (stepped flush m) (after_steps flush count (stepped flush m))
-    (subst (λ a. RunsFew (stepped_at flush a m) m) (sym is) (step-runs n agenda m is within))
-    (steps-run count (stepped flush m).agenda (stepped flush m) refl stepped-on)
+    let stepped-on = subst (λ a. IsWithin (stepped_at cause.Flush a m)) (sym is) (steps cause.Flush n agenda m is within).within in
+    and-then m (stepped cause.Flush m) (after_steps cause.Flush count (stepped cause.Flush m))
+    (subst (λ a. RunsFew (stepped_at cause.Flush a m) m) (sym is) (step-runs n agenda m is within))
+    (steps-run count (stepped cause.Flush m).agenda (stepped cause.Flush m) refl stepped-on)
 
-course-runs : (m : Machine) → IsWithin m → RunsFew (course flush m) m
+course-runs : (m : Machine) → IsWithin m → RunsFew (course cause.Flush m) m
 unfolding course
 course-runs m within = steps-run (steps_ahead m) m.agenda m refl within
 
@@ -90,9 +91,9 @@ flush-steps-run zero (in_lanes k rest ∷ ps) m is between = none-run m
 flush-steps-run (suc count) (in_lanes k rest ∷ ps) m is between =
     let ready = earliest-ready k rest ps m is between in
     let run = idle-keeps k m ready in
-    let after = course flush (run_within flush k m) in
-    let end = course-ends flush (run_within flush k m) run.within in
-    let runs = and-then m (run_within flush k m) after (one-run k m ready) (course-runs (run_within flush k m) run.within) in
+    let after = course cause.Flush (run_within cause.Flush k m) in
+    let end = course-ends cause.Flush (run_within cause.Flush k m) run.within in
+    let runs = and-then m (run_within cause.Flush k m) after (one-run k m ready) (course-runs (run_within cause.Flush k m) run.within) in
     subst (λ (x : Machine). RunsFew (after_flush_steps count x) m) (sym (earliest-runs m.left k rest ps m is))
     (and-then m after (after_flush_steps count after) runs (flush-steps-run count (left_at 0 after.left) after refl end.between))
 

@@ -1,9 +1,10 @@
 -- A loop of flush steps comes to where a whole flush comes.
 use Rattle.std.proofs.Common.{◌≡◌, ℕ, zero, suc, ◌≤◌, ◌<◌, List, [], ◌∷◌, None, Some, slice_get, refl, ap, sym, ◌∙◌, subst, arith}
 use Rattle.mbj_types.specs.declared.kind.Kind.{Kind}
-use Rattle.mbj_manager.specs.Rounds.{Pending, at_once, in_lanes}
-use Rattle.mbj_manager.specs.Machine.{Machine, flush, run_within}
-use Rattle.mbj_manager.specs.Course.{course, flush_step_at, flushed, stages_left}
+use Rattle.mbj_manager.specs.Machine.Stages.{Pending, at_once, in_lanes}
+use Rattle.mbj_manager.specs.Machine.Queues.{Machine, run_within}
+use Rattle.mbj_manager.specs.declared.lane.Cause.TheVariants as cause
+use Rattle.mbj_manager.specs.Machine.Course.{course, flush_step_at, flushed, stages_left}
 use Rattle.mbj_manager.specs.Inside.Added.{first_lane}
 use Rattle.mbj_manager.proofs.Steps.{after_flush_steps}
 
@@ -22,14 +23,14 @@ by-count : (m end : Machine) (count : ℕ) → stages_left (flush_step_at (slice
 by-count m end zero fewer enough is = absurd (omega arith)
 by-count m end (suc count) fewer enough is = record { count = count; enough = omega arith; is = is }
 
-step-runs : (left : List (List Pending)) (k : Kind) (m : Machine) → first_lane left ≡ Some k → flush_step_at (slice_get left 0) m ≡ course flush (run_within flush k m)
+step-runs : (left : List (List Pending)) (k : Kind) (m : Machine) → first_lane left ≡ Some k → flush_step_at (slice_get left 0) m ≡ course cause.Flush (run_within cause.Flush k m)
 step-runs [] k m e = cc
 step-runs ([] ∷ left) k m e = cc
 step-runs ((at_once ∷ ps) ∷ left) k m e = cc
-step-runs ((in_lanes j rest ∷ ps) ∷ left) k m e = let is : j ≡ k = cc in ap (λ (i : Kind). course flush (run_within flush i m)) is
+step-runs ((in_lanes j rest ∷ ps) ∷ left) k m e = let is : j ≡ k = cc in ap (λ (i : Kind). course cause.Flush (run_within cause.Flush i m)) is
 
 -- the list of the earliest job runs, and the course is followed
-pub flush-next : (m m' end : Machine) (k : Kind) → first_lane m.left ≡ Some k → m' ≡ course flush (run_within flush k m) → stages_left m'.left < stages_left m.left
+pub flush-next : (m m' end : Machine) (k : Kind) → first_lane m.left ≡ Some k → m' ≡ course cause.Flush (run_within cause.Flush k m) → stages_left m'.left < stages_left m.left
     → FlushReaches m end → FlushReaches m' end
 flush-next m m' end k e is fewer r =
     let step : m' ≡ flush_step_at (slice_get m.left 0) m = is ∙ sym (step-runs m.left k m e) in

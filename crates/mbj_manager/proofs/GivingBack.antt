@@ -6,10 +6,10 @@ use Rattle.std.proofs.lemmas.List.{length-map}
 use Rattle.std.proofs.lemmas.List.Elements.{All-map, All-tail}
 use Rattle.std.proofs.lemmas.List.Sums.{sum_by-cons}
 use Rattle.mbj_types.specs.declared.kind.Kind.{Kind}
-use Rattle.mbj_manager.specs.Rounds.{Pending}
-use Rattle.mbj_manager.specs.Machine.{Waiting, Lane, Machine, lane_for}
+use Rattle.mbj_manager.specs.Machine.Stages.{Pending}
+use Rattle.mbj_manager.specs.Machine.Queues.{Waiting, Queue, Machine, queue_for}
 use Rattle.mbj_manager.specs.State.{renumbered}
-use Rattle.mbj_manager.specs.Between.{HasRounds, IsBetweenCalls, IsPlaced, times_in}
+use Rattle.mbj_manager.specs.Machine.Between.{HasRounds, IsBetweenCalls, IsPlaced, times_in}
 use Rattle.mbj_manager.specs.Inside.Standing.{IsLane, left_at}
 use Rattle.mbj_manager.proofs.Standing.{same-placed}
 use Rattle.mbj_manager.proofs.CourseEnds.{lanes-between}
@@ -25,7 +25,7 @@ earlier w = record { number = w.number - 1; rest = w.rest }
 
 -- the machine once the first job left
 abbrev pub without_earliest : List (List Pending) → Machine → Machine
-without_earliest left m = record m { left = left; lanes = λ k. renumbered (lane_for k m) }
+without_earliest left m = record m { left = left; lanes = λ k. renumbered (queue_for k m) }
 
 -- where the job 0 isn't in a list, its jobs have the numbers that they had, less one
 times-earlier : (n : ℕ) (ws : List Waiting) → times_in 0 ws ≡ 0 → times_in n (map earlier ws) ≡ times_in (suc n) ws
@@ -37,7 +37,7 @@ times-earlier n (w ∷ ws) none =
     omega (arith, sum_by-cons (λ w. cond (w.number == n) 1 0) (earlier w) (map earlier ws), sum_by-cons (λ w. cond (w.number == suc n) 1 0) w ws)
 
 -- lower numbers keep what holds of lanes
-lane-back : (k : Kind) (l : Lane) → IsLane k l → IsLane k (renumbered l)
+lane-back : (k : Kind) (l : Queue) → IsLane k l → IsLane k (renumbered l)
 lane-back k l lane = record {
   few = (let same = length-map l.waiting earlier in let few = lane.few in omega arith);
   rests = All-map (λ w. 1 ≤ w.rest) earlier l.waiting lane.rests;
@@ -49,14 +49,14 @@ pub back-between : (left : List (List Pending)) (m : Machine) → m.left ≡ [] 
     → IsBetweenCalls (without_earliest left m)
 back-between left m is between =
     let after = without_earliest left m in
-    let lanes : (k : Kind) → IsLane k (lane_for k after) = λ k. lane-back k (lane_for k m) (lanes-between m between k) in
+    let lanes : (k : Kind) → IsLane k (queue_for k after) = λ k. lane-back k (queue_for k m) (lanes-between m between k) in
     let finished : IsPlaced m 0 [] = subst (λ left. IsPlaced m 0 (left_at 0 left)) is (between.placed 0) in
     record {
       agenda = between.agenda;
       few = λ k. (lanes k).few;
       rests = λ k. (lanes k).rests;
       placed = λ n. same-placed m after (suc n) n
-          (λ k. times-earlier n (lane_for k m).waiting (finished k)) (left_at n left)
+          (λ k. times-earlier n (queue_for k m).waiting (finished k)) (left_at n left)
           (subst (λ left. IsPlaced m (suc n) (left_at (suc n) left)) is (between.placed (suc n)));
       stages = All-tail (All HasRounds) [] left (subst (All (All HasRounds)) is between.stages);
       blocks = λ k. (lanes k).blocks;

@@ -4,8 +4,13 @@ use Rattle.std.specs.Prelude.{All, if◌then◌else◌}
 use Rattle.std.proofs.lemmas.Bool.{cond_both}
 use Rattle.std.proofs.lemmas.List.Elements.{All-append, All-cons, All-nil}
 use Rattle.mbj_types.specs.declared.job.Job.{Job}
-use Rattle.mbj_types.specs.declared.job.Auth.{Auth}
-use Rattle.mbj_types.specs.declared.job.Auth.TheVariants as auth
+use Rattle.mbj_types.specs.Auths.{class_of, cmac_kind, hash_kind}
+use Rattle.mbj_types.specs.declared.class.AuthClass.{AuthClass}
+use Rattle.mbj_types.specs.declared.class.AuthClass.TheVariants as class
+use Rattle.mbj_types.specs.declared.class.CmacKey.{CmacKey}
+use Rattle.mbj_types.specs.declared.class.CmacKey.TheVariants.{Aes128}
+use Rattle.mbj_types.specs.declared.class.HashName.{HashName}
+use Rattle.mbj_types.specs.declared.class.HashName.TheVariants.{Sha1}
 use Rattle.mbj_types.specs.declared.job.Cipher.{Cipher}
 use Rattle.mbj_types.specs.declared.job.Cipher.TheVariants as cipher
 use Rattle.mbj_types.specs.declared.job.Dir.{Dir}
@@ -19,8 +24,8 @@ use Rattle.mbj_stage.specs.declared.stage.Step.TheVariants as step
 use Rattle.mbj_stage.specs.Steps.{auth_stage_by, cbc_kind, cipher_stage_by, steps_by}
 use Rattle.mbj_stage.specs.Going.{begun}
 use Rattle.mbj_stage.proofs.EntryEnds.{cbc-accepted}
-use Rattle.mbj_manager.specs.Rounds.{Pending, in_lanes, pending, pending_by}
-use Rattle.mbj_manager.specs.Between.{HasRounds}
+use Rattle.mbj_manager.specs.Machine.Stages.{Pending, in_lanes, pending, pending_by}
+use Rattle.mbj_manager.specs.Machine.Between.{HasRounds}
 use Rattle.mbj_manager.proofs.PendingStages.{pending_at}
 
 one : (p : Pending) → HasRounds p → All HasRounds (p ∷ [])
@@ -40,16 +45,19 @@ cipher-rounds cipher.Cbc Dec n j h = one _ tt
 cipher-rounds cipher.Ctr d n j h = one _ tt
 cipher-rounds cipher.Gcm d n j h = one _ tt
 
-auth-rounds : (a : Auth) (j : Job) → All HasRounds (pending_by (auth_stage_by a) j)
-auth-rounds auth.Null j = one _ tt
-auth-rounds auth.HmacSha1 j = one (in_lanes kind.HmacSha1 (rounds_of kind.HmacSha1 j)) (omega arith)
-auth-rounds auth.HmacSha224 j = one (in_lanes kind.HmacSha256 (rounds_of kind.HmacSha256 j)) (omega arith)
-auth-rounds auth.HmacSha256 j = one (in_lanes kind.HmacSha256 (rounds_of kind.HmacSha256 j)) (omega arith)
-auth-rounds auth.HmacSha384 j = one (in_lanes kind.HmacSha512 (rounds_of kind.HmacSha512 j)) (omega arith)
-auth-rounds auth.HmacSha512 j = one (in_lanes kind.HmacSha512 (rounds_of kind.HmacSha512 j)) (omega arith)
-auth-rounds auth.Cmac128 j = one (in_lanes kind.Cmac128 (rounds_of kind.Cmac128 j)) (omega arith)
-auth-rounds auth.Cmac256 j = one (in_lanes kind.Cmac256 (rounds_of kind.Cmac256 j)) (omega arith)
-auth-rounds auth.Gcm j = one _ tt
+hash-one : (h : HashName) (j : Job) → 1 ≤ rounds_of (hash_kind h) j
+hash-one Sha1 j = omega arith
+hash-one _ j = omega arith
+
+cmac-one : (k : CmacKey) (j : Job) → 1 ≤ rounds_of (cmac_kind k) j
+cmac-one Aes128 j = omega arith
+cmac-one _ j = omega arith
+
+auth-rounds : (a : AuthClass) (j : Job) → All HasRounds (pending_by (auth_stage_by a) j)
+auth-rounds class.Null j = one _ tt
+auth-rounds (class.Hmac h) j = one (in_lanes (hash_kind h) (rounds_of (hash_kind h) j)) (hash-one h j)
+auth-rounds (class.Cmac k) j = one (in_lanes (cmac_kind k) (rounds_of (cmac_kind k) j)) (cmac-one k j)
+auth-rounds class.Gcm j = one _ tt
 
 steps-rounds : (j : Job) (steps : List Step) → (j.cipher ≡ cipher.Cbc → 1 ≤ cbc_rounds j.cipher_len) → All HasRounds (pending_at j steps)
 steps-rounds j [] h = All-nil HasRounds
@@ -57,7 +65,7 @@ steps-rounds j (step.Cipher ∷ steps) h =
     All-append HasRounds (pending_by (cipher_stage_by j.cipher j.dir (length j.key)) j) (pending_at j steps)
     (cipher-rounds j.cipher j.dir (length j.key) j h) (steps-rounds j steps h)
 steps-rounds j (step.Auth ∷ steps) h =
-    All-append HasRounds (pending_by (auth_stage_by j.auth) j) (pending_at j steps) (auth-rounds j.auth j) (steps-rounds j steps h)
+    All-append HasRounds (pending_by (auth_stage_by (class_of j.auth)) j) (pending_at j steps) (auth-rounds (class_of j.auth) j) (steps-rounds j steps h)
 steps-rounds j (step.Gcm ∷ steps) h = All-append HasRounds (_ ∷ []) (pending_at j steps) (one _ tt) (steps-rounds j steps h)
 
 by-verdict : (reason : Option Reason) (j : Job) → verdict j ≡ reason → All HasRounds (pending_at j (steps_by reason j))

@@ -2,7 +2,9 @@
 use Rattle.std.proofs.Common.{ℕ, ◌*◌, ◌≤◌, suc, List, [], ◌∷◌, length, Option, None, Some, arith}
 use Rattle.std.proofs.lemmas.List.{length-append}
 use Rattle.std.proofs.lemmas.List.Sums.{sum_by-cons}
-use Rattle.mbj_types.specs.Auths.{AuthClass, no_auth, hmac_auth, cmac_auth, gcm_auth, class_of}
+use Rattle.mbj_types.specs.Auths.{class_of}
+use Rattle.mbj_types.specs.declared.class.AuthClass.{AuthClass}
+use Rattle.mbj_types.specs.declared.class.AuthClass.TheVariants as class
 use Rattle.mbj_types.specs.Verdict.{verdict}
 use Rattle.mbj_types.specs.declared.job.Job.{Job}
 use Rattle.mbj_types.specs.declared.job.Cipher.{Cipher}
@@ -15,8 +17,8 @@ use Rattle.mbj_stage.specs.declared.stage.Stage.TheVariants as stage
 use Rattle.mbj_stage.specs.declared.stage.Step.{Step}
 use Rattle.mbj_stage.specs.Steps.{auth_steps, cipher_steps, ordered, stage_at, steps_by}
 use Rattle.mbj_stage.specs.Going.{begun}
-use Rattle.mbj_manager.specs.Rounds.{Pending, at_once, in_lanes, pending, pending_by}
-use Rattle.mbj_manager.specs.Course.{in_lanes_next, stages_left}
+use Rattle.mbj_manager.specs.Machine.Stages.{Pending, at_once, in_lanes, pending, pending_by}
+use Rattle.mbj_manager.specs.Machine.Course.{in_lanes_next, stages_left}
 use Rattle.mbj_manager.specs.Inside.Standing.{left_at}
 use Rattle.mbj_manager.proofs.PendingStages.{pending_at}
 use Rattle.std.specs.Prelude.{drop}
@@ -38,10 +40,10 @@ cipher-one cipher.Ctr = omega arith
 cipher-one cipher.Gcm = omega arith
 
 auth-one : (a : AuthClass) → length (auth_steps a) ≤ 1
-auth-one no_auth = omega arith
-auth-one (hmac_auth h) = omega arith
-auth-one (cmac_auth n) = omega arith
-auth-one gcm_auth = omega arith
+auth-one class.Null = omega arith
+auth-one (class.Hmac h) = omega arith
+auth-one (class.Cmac key) = omega arith
+auth-one class.Gcm = omega arith
 
 two-ordered : (o : Order) (xs ys : List Step) → length xs ≤ 1 → length ys ≤ 1 → length (ordered o xs ys) ≤ 2
 two-ordered CipherHash xs ys a b = omega (arith, length-append xs ys)

@@ -1,46 +1,28 @@
--- The lists of all kinds as a function: another one in the place of a kind's.
-use Rattle.std.proofs.Common.{◌≡◌, ◌≢◌, ℕ, ◌==◌, ◌⊎◌, inl, inr, refl, ap, sym, ◌∙◌}
+-- What is by kinds, with another in the place of a kind's.
+use Rattle.std.proofs.Common.{◌≡◌, ◌≢◌, ◌⊎◌, inl, inr, refl, ap, sym, ◌∙◌, slice_index_or}
 use Rattle.std.proofs.lemmas.Bool.{cases_eq, eq-eqb, ne_eqb}
-use Rattle.std.specs.Prelude.{if◌then◌else◌}
+use Rattle.mbj_types.specs.Kinds.{all_kinds, index_of}
 use Rattle.mbj_types.specs.declared.kind.Kind.{Kind}
 use Rattle.mbj_types.specs.declared.kind.Kind.TheVariants as kind
-use Rattle.mbj_manager.specs.Inside.Lines.{Line}
+use Rattle.mbj_manager.specs.Inside.Code.{told-kinds}
+use Rattle.mbj_manager.specs.Machine.Queues.{put}
 
-abbrev pub index_of : Kind → ℕ
-index_of kind.Cbc128 = 0
-index_of kind.Cbc192 = 1
-index_of kind.Cbc256 = 2
-index_of kind.Cmac128 = 3
-index_of kind.Cmac256 = 4
-index_of kind.HmacSha1 = 5
-index_of kind.HmacSha256 = 6
-index_of kind.HmacSha512 = 7
+same-index : (j k : Kind) → index_of j ≡ index_of k → j ≡ k
+same-index j k e =
+    sym (told-kinds kind.Cbc128 (λ i. i) j) ∙ ap (λ n. slice_index_or all_kinds n kind.Cbc128) e ∙ told-kinds kind.Cbc128 (λ i. i) k
 
-kind_at : ℕ → Kind
-kind_at n =
-    if n == 0 then kind.Cbc128 else if n == 1 then kind.Cbc192 else if n == 2 then kind.Cbc256 else if n == 3 then kind.Cmac128
-    else if n == 4 then kind.Cmac256 else if n == 5 then kind.HmacSha1 else if n == 6 then kind.HmacSha256 else kind.HmacSha512
+-- two kinds are one, or they are not
+pub same-kind : (j k : Kind) → (j ≡ k) ⊎ (j ≢ k)
+same-kind j k = elim (cases_eq (index_of j) (index_of k)) [
+  | inl e ↦ inl (same-index j k e)
+  | inr ne ↦ inr (λ e. ne (ap index_of e))
+]
 
-kind-index : (k : Kind) → kind_at (index_of k) ≡ k
-unfolding kind_at
-kind-index kind.Cbc128 = refl
-kind-index kind.Cbc192 = refl
-kind-index kind.Cbc256 = refl
-kind-index kind.Cmac128 = refl
-kind-index kind.Cmac256 = refl
-kind-index kind.HmacSha1 = refl
-kind-index kind.HmacSha256 = refl
-kind-index kind.HmacSha512 = refl
-
--- l for the list of the kind k
-abbrev pub put : Kind → Line → (Kind → Line) → Kind → Line
-put k l lines j = if index_of j == index_of k then l else lines j
-
-pub put-case : (k j : Kind) (l : Line) (lines : Kind → Line) → ((j ≡ k) × (put k l lines j ≡ l)) ⊎ ((j ≢ k) × (put k l lines j ≡ lines j))
-put-case k j l lines = elim (cases_eq (index_of j) (index_of k)) [
-  | inl e ↦ inl (sym (kind-index j) ∙ ap kind_at e ∙ kind-index k, rw (eq-eqb (index_of j) (index_of k) e) refl)
+pub put-case : {A : Type 0} (k j : Kind) (x : A) (xs : Kind → A) → ((j ≡ k) × (put k x xs j ≡ x)) ⊎ ((j ≢ k) × (put k x xs j ≡ xs j))
+put-case k j x xs = elim (cases_eq (index_of j) (index_of k)) [
+  | inl e ↦ inl (same-index j k e, rw (eq-eqb (index_of j) (index_of k) e) refl)
   | inr ne ↦ inr ((λ e. ne (ap index_of e)), rw (ne_eqb (index_of j) (index_of k) ne) refl)
 ]
 
-pub put-self : (k : Kind) (l : Line) (lines : Kind → Line) → put k l lines k ≡ l
-put-self k l lines = rw (eq-eqb (index_of k) (index_of k) refl) refl
+pub put-self : {A : Type 0} (k : Kind) (x : A) (xs : Kind → A) → put k x xs k ≡ x
+put-self k x xs = rw (eq-eqb (index_of k) (index_of k) refl) refl

@@ -1,22 +1,19 @@
 -- Who waits in a list has an entry there, which is out of its course and leads to what the job is owed.
-use Rattle.std.proofs.Common.{◌≡◌, ℕ, ◌+◌, zero, suc, List, [], ◌∷◌, ◌++◌, length, map, Option, Some, slice_get, refl, ap, ap₂, sym, ◌∙◌, subst, arith, append_assoc}
+use Rattle.std.proofs.Common.{◌≡◌, ℕ, ◌+◌, zero, suc, List, [], ◌∷◌, ◌++◌, map, Option, Some, slice_get, refl, ap, ap₂, sym, ◌∙◌, subst, arith, append_assoc}
 use Rattle.std.proofs.lemmas.Option.{slice_get-map}
 use Rattle.std.specs.Option.{option_map}
-use Rattle.mbj_lane.specs.Rounds.{end_of}
 use Rattle.mbj_types.specs.declared.done.Done.{Done}
 use Rattle.mbj_types.specs.declared.job.Job.{Job}
 use Rattle.mbj_types.specs.declared.kind.Kind.{Kind}
 use Rattle.mbj_stage.specs.Going.{Going}
-use Rattle.mbj_stage.specs.Handing.{End}
-use Rattle.mbj_manager.specs.Rounds.{pending}
-use Rattle.mbj_manager.specs.Machine.{rest_of}
+use Rattle.mbj_stage.specs.Handing.{End, IsOut}
+use Rattle.mbj_manager.specs.Machine.Stages.{pending}
+use Rattle.mbj_manager.specs.Machine.Queues.{rest_of}
 use Rattle.mbj_manager.specs.State.{ManagerState}
-use Rattle.mbj_manager.specs.Leads.{AreLed, IsOut, Leads}
-use Rattle.mbj_manager.specs.declared.queue.Place.{Place}
+use Rattle.mbj_manager.specs.Leads.{AreLed, Leads}
 use Rattle.mbj_manager.specs.Inside.Leaving.{At}
-use Rattle.mbj_manager.specs.Inside.Pairs.{paired}
-use Rattle.mbj_manager.specs.Inside.Desk.{Waiter, Listed, ahead_all}
-use Rattle.mbj_manager.specs.Inside.Lines.{Line, numbered}
+use Rattle.mbj_manager.specs.Inside.Desk.{Listed}
+use Rattle.mbj_manager.specs.Inside.PlacedQueue.{PlacedQueue, Waiter, numbered, pair_rest, rounds_in}
 use Rattle.mbj_manager.specs.Inside.Held.{find_in, found, machine_by, owed_from, owed_of, waiting}
 use Rattle.mbj_manager.proofs.Owing.{owed-out}
 use Rattle.mbj_manager.proofs.Tying.{Middle, found-here, middle}
@@ -45,7 +42,7 @@ owed-there first p (suc n) find (x ∷ cs) c e is = owed-there (suc first) p n f
 
 -- ---- the jobs of a list
 
-module _ (k : Kind) (cs : List Going) (agenda : List ℕ) (lines : Kind → Line) (runs : ℕ) (opened : Option Job) where
+module _ (k : Kind) (cs : List Going) (agenda : List ℕ) (lines : Kind → PlacedQueue) (runs : ℕ) (opened : Option Job) where
   abbrev state : ManagerState
   state = record { owed = owed_from 0 (find_in lines) cs; opened = opened; machine = machine_by cs agenda lines runs }
 
@@ -75,19 +72,11 @@ module _ (k : Kind) (cs : List Going) (agenda : List ℕ) (lines : Kind → Line
 
 -- ---- the entries of a list
 
-module _ {E : Type 0} (f : ℕ → ℕ) (round : E → E) (rest : E → ℕ) (brings : E → End) where
-  abbrev waiters : List Place → List E → List Waiter
-  waiters ws es = numbered f (ahead_all round rest brings (paired (λ p. p) ws es))
+-- the list's rests and ends, whatever the numbers of its jobs
+pub numbered-rests : (f : ℕ → ℕ) (ws : List Waiter) → map rest_of (map waiting (numbered f ws)) ≡ map (pair_rest rounds_in) ws
+numbered-rests f [] = refl
+numbered-rests f (w ∷ ws) = ap (λ (ns : List ℕ). w.1.rounds ∷ ns) (numbered-rests f ws)
 
-  pub rests-seen : (ws : List Place) (es : List E) → length es ≡ length ws → map rest es ≡ map rest_of (map waiting (waiters ws es))
-  rests-seen [] [] same = refl
-  rests-seen [] (e ∷ es) same = absurd (omega arith)
-  rests-seen (w ∷ ws) [] same = refl
-  rests-seen (w ∷ ws) (e ∷ es) same = ap (λ (ns : List ℕ). rest e ∷ ns) (rests-seen ws es (omega arith))
-
-  pub ends-seen : (ws : List Place) (es : List E) → length es ≡ length ws
-      → map (λ (w : Waiter). w.1.brings) (waiters ws es) ≡ map (λ e. brings (end_of round rest e)) es
-  ends-seen [] [] same = refl
-  ends-seen [] (e ∷ es) same = absurd (omega arith)
-  ends-seen (w ∷ ws) [] same = refl
-  ends-seen (w ∷ ws) (e ∷ es) same = ap (λ (ends : List End). brings (end_of round rest e) ∷ ends) (ends-seen ws es (omega arith))
+pub numbered-ends : (f : ℕ → ℕ) (ws : List Waiter) → map (λ (w : Waiter). w.1.brings) (numbered f ws) ≡ map (λ (w : Waiter). w.1.brings) ws
+numbered-ends f [] = refl
+numbered-ends f (w ∷ ws) = ap (λ (ends : List End). w.1.brings ∷ ends) (numbered-ends f ws)

@@ -6,7 +6,7 @@ use Rattle.std.proofs.lemmas.List.{length-map}
 use Rattle.std.proofs.lemmas.List.Filters.{length-filter_both}
 use Rattle.std.proofs.lemmas.List.Elements.{All-weaker, filter_passes}
 use Rattle.mbj_lane.specs.Rounds.{least_from}
-use Rattle.mbj_manager.specs.Machine.{Waiting, least, rest_of, shortened, leavers, stayers}
+use Rattle.mbj_manager.specs.Machine.Queues.{Waiting, least, rest_of, shortened, leavers, stayers}
 
 abbrev pub lowered : ℕ → Waiting → Waiting
 lowered m w = record w { rest = w.rest - m }

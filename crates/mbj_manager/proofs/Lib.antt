@@ -1,9 +1,8 @@
 mod Resting
 mod JobRounds
-mod Pairing
+mod Seated
 pub mod RingCourses
 mod Finishing
-mod SeenAhead
 mod Joining
 mod Listing
 mod Numbering

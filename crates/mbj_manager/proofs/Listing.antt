@@ -1,22 +1,22 @@
 -- Who waits in a list has an entry out: when one joins, and when the course of another changes.
-use Rattle.std.proofs.Common.{◌≡◌, ◌≢◌, ℕ, ◌≤◌, List, [], ◌∷◌, ◌++◌, length, refl, sym, subst, arith}
+use Rattle.std.proofs.Common.{◌≡◌, ◌≢◌, ℕ, ◌+◌, ◌*◌, ◌%◌, ◌≤◌, List, [], ◌∷◌, ◌++◌, length, map, refl, ap, sym, ◌∙◌, subst, arith}
 use Rattle.std.proofs.lemmas.Bool.{eq-eqb, ne_eqb}
-use Rattle.std.proofs.lemmas.List.{length-append}
+use Rattle.std.proofs.lemmas.List.{length-append, map-append}
+use Rattle.mbj_lane.specs.Rounds.{least}
 use Rattle.std.proofs.lemmas.List.Elements.{All-push}
 use Rattle.mbj_types.specs.declared.kind.Kind.{Kind}
 use Rattle.mbj_stage.specs.Going.{Going}
-use Rattle.mbj_stage.specs.Handing.{handed_out}
-use Rattle.mbj_manager.specs.Machine.{Within, changed}
-use Rattle.mbj_manager.specs.Leads.{IsOut}
-use Rattle.mbj_manager.specs.Inside.Leaving.{At, Gives, IsAbsent, IsNext}
-use Rattle.mbj_manager.specs.Inside.Desk.{Ahead, Waiter, Desk, HasRest, IsReady, Listed, MayEnter, joined_by, ran_at, ran_if_full}
+use Rattle.mbj_stage.specs.Handing.{IsNext, IsOut, handed_out}
+use Rattle.mbj_manager.specs.Machine.Queues.{changed, count_end}
+use Rattle.mbj_manager.specs.declared.lane.Cause.{Cause}
+use Rattle.mbj_manager.specs.declared.lane.Cause.TheVariants as cause
+use Rattle.mbj_manager.specs.Inside.Leaving.{At, Gives, IsAbsent}
+use Rattle.mbj_manager.specs.Inside.Desk.{Desk, IsReady, Listed, MayEnter, desk, desk_at, joined_by, led_all, left_by, left_now, ran_at, ran_if_full}
+use Rattle.mbj_manager.specs.Inside.PlacedQueue.{Ahead, HasRest, PlacedQueue, Waiter, led_queue, led_waiter, numbered, pair_rest, rounds_in, with_waiter}
 use Rattle.mbj_manager.specs.Inside.Held.{IsHere}
-use Rattle.mbj_manager.proofs.Finishing.{at-changed}
+use Rattle.mbj_manager.proofs.Finishing.{listed-changed}
+use Rattle.mbj_manager.proofs.Numbering.{numbered-least, numbered-led}
 use Rattle.mbj_manager.proofs.Joining.{at-here, at-made, here-not-out}
-
-pub listed-changed : (j : Kind) (f : Going → Going) (m : ℕ) (cs : List Going) (ws : List Waiter) → IsAbsent m ws → Listed j cs ws → Listed j (changed f m cs) ws
-listed-changed j f m cs [] a r = tt
-listed-changed j f m cs (w ∷ ws) a r = (at-changed _ f w.0 m cs a.0 r.0, r.1, listed-changed j f m cs ws a.1 r.2)
 
 -- a job whose packet is here is in no list
 pub absent-listed : (j : Kind) (m : ℕ) (cs : List Going) (ws : List Waiter) → At IsHere m cs → Listed j cs ws → IsAbsent m ws
@@ -52,8 +52,35 @@ joined-ready lanes k n a d room may some gives =
       room_left = (let left = may.room_left in omega arith);
     }
 
-pub full-runs : (at : Within) (lanes : ℕ) (d : Desk) → length d.waiters ≡ lanes → ran_if_full at lanes d ≡ ran_at at d
+pub full-runs : (at : Cause) (lanes : ℕ) (d : Desk) → length d.waiters ≡ lanes → ran_if_full at lanes d ≡ ran_at at d
 full-runs at lanes d e = rw (eq-eqb (length d.waiters) lanes e) refl
 
-pub else-waits : (at : Within) (lanes : ℕ) (d : Desk) → length d.waiters ≢ lanes → ran_if_full at lanes d ≡ d
+pub else-waits : (at : Cause) (lanes : ℕ) (d : Desk) → length d.waiters ≢ lanes → ran_if_full at lanes d ≡ d
 else-waits at lanes d ne = rw (ne_eqb (length d.waiters) lanes ne) refl
+
+-- ---- what is seen of a list with the courses and the agenda
+
+-- a job joins
+pub joined-desk : (f : ℕ → ℕ) (cs cs' : List Going) (agenda : List ℕ) (l l' : PlacedQueue) (p : ℕ) (a : Ahead) (runs : ℕ) → cs' ≡ changed handed_out (f p) cs
+    → l' ≡ with_waiter p a l → desk_at f cs' agenda l' runs ≡ joined_by (f p) a (desk_at f cs agenda l runs)
+joined-desk f cs cs' agenda l l' p a runs out join =
+    rw (out, join) (ap (λ (ws : List Waiter). desk (changed handed_out (f p) cs) (map f agenda) ws l.rounds l.blocks runs)
+    (map-append (λ (w : Waiter). (f w.0, w.1)) l.waiters ((p, a) ∷ [])))
+
+-- those leave whose rounds are done, once all were led by the least rest
+pub led-desk : (f : ℕ → ℕ) (cs : List Going) (agenda : List ℕ) (l l' : PlacedQueue) (m runs : ℕ) → l' ≡ led_queue m l → m ≡ least (pair_rest rounds_in) l.waiters
+    → left_now (desk_at f cs agenda l' 0) ≡ record (left_by (led_all (numbered f l.waiters)) (desk_at f cs agenda l runs)) { flush_runs = 0 }
+led-desk f cs agenda l l' m runs led is =
+    let ws : numbered f (map (led_waiter m) l.waiters) ≡ led_all (numbered f l.waiters)
+    = numbered-led f m l.waiters ∙ ap (λ (n : ℕ). map (led_waiter n) (numbered f l.waiters)) (is ∙ sym (numbered-least f l.waiters)) in
+    rw (led, ws) refl
+
+-- the run within a submit, and the one within a flush
+pub counted-run : (d e : Desk) (m lanes : ℕ) → e ≡ record (left_by (led_all d.waiters) d) { flush_runs = 0 } → m ≡ least (pair_rest rounds_in) d.waiters
+    → lanes ≡ length d.waiters
+    → record e { rounds = (e.rounds + m) % count_end; blocks = (e.blocks + m * lanes) % count_end; flush_runs = d.flush_runs } ≡ ran_at cause.Submit d
+counted-run d e m lanes is least-is lanes-are = rw (is, least-is, lanes-are) refl
+
+pub flushed-run : (d e : Desk) → e ≡ record (left_by (led_all d.waiters) d) { flush_runs = 0 }
+    → record e { flush_runs = (d.flush_runs + 1) % count_end } ≡ ran_at cause.Flush d
+flushed-run d e is = rw is refl

@@ -8,95 +8,98 @@ use Rattle.mbj_types.specs.declared.kind.Kind.{Kind}
 use Rattle.mbj_types.specs.declared.kind.Kind.TheVariants as kind
 use Rattle.mbj_ring.specs.Ring.{RingState}
 use Rattle.mbj_stage.specs.Going.{Going}
-use Rattle.mbj_manager.specs.Rounds.{Pending, at_once, in_lanes, pending}
-use Rattle.mbj_manager.specs.Machine.{Lane, Machine, Within, submit, flush, run_within}
+use Rattle.mbj_manager.specs.Machine.Stages.{Pending, at_once, in_lanes, pending}
+use Rattle.mbj_manager.specs.Machine.Queues.{Queue, Machine, put, run_within}
+use Rattle.mbj_manager.specs.declared.lane.Cause.{Cause}
+use Rattle.mbj_manager.specs.declared.lane.Cause.TheVariants as cause
 use Rattle.mbj_manager.specs.State.{ManagerState}
 use Rattle.mbj_manager.specs.declared.cell.Cell.{Cell}
 use Rattle.mbj_manager.specs.Inside.Added.{first_lane}
 use Rattle.mbj_manager.specs.Inside.Courses.{IsSameRing, courses, job_in, number, number_in}
 use Rattle.mbj_manager.specs.Inside.Leaving.{finishers, numbers, others}
-use Rattle.mbj_manager.specs.Inside.Desk.{Desk, HasRest, IsReady, Waiter, desk, led_all, led_waiter, ran_at, rounds_in}
-use Rattle.mbj_manager.specs.Inside.Lines.{Line, Lines, desk_of, line, line_in, numbered, numbered_line, total, with_line}
+use Rattle.mbj_manager.specs.Inside.Desk.{Desk, IsReady, desk, led_all, ran_at}
+use Rattle.mbj_manager.specs.Inside.LaneQueues.{desk_of, placed_in, total, with_placed}
+use Rattle.mbj_manager.specs.declared.lane_queues.LaneQueues.{LaneQueues}
+use Rattle.mbj_manager.specs.Inside.PlacedQueue.{HasRest, PlacedQueue, Waiter, led_waiter, placed_queue, numbered, numbered_queue, pair_rest, rounds_in}
 use Rattle.mbj_manager.specs.Inside.Standing.{IsWithin, left_at}
 use Rattle.mbj_manager.specs.Inside.Held.{IsHeld, IsOpenAt, IsTied, find_in, found, held, lane_seen, lines_in, machine_by, machine_in, owed_from, waiting}
 use Rattle.mbj_lane.specs.Rounds.{least}
-use Rattle.mbj_manager.specs.Inside.Pairs.{pair_rest}
 use Rattle.mbj_manager.proofs.BetweenCalls.{earliest-ready}
 use Rattle.mbj_manager.proofs.CourseEnds.{between-calls}
-use Rattle.mbj_manager.proofs.KindLines.{put, put-case}
+use Rattle.mbj_manager.proofs.KindLines.{put-case}
 use Rattle.mbj_manager.proofs.Owing.{owed_from-same}
 use Rattle.mbj_manager.proofs.Running as Running
-use Rattle.mbj_manager.proofs.SeenAhead.{zero-or}
+use Rattle.mbj_manager.proofs.Finishing.{zero-or}
 use Rattle.mbj_manager.proofs.Seeing.{by-desk, machine_at, run-seen}
 use Rattle.mbj_manager.proofs.Tying.{ran-list, tied-same}
 
 -- ---- the lists of all kinds
 
-line-other : (k j : Kind) (l : Line) (n : ℕ) (ls : Lines) → j ≢ k → line_in j (with_line k l n ls) ≡ line_in j ls
-line-other kind.Cbc128 kind.Cbc128 l n ls ne = absurd (ne refl)
-line-other kind.Cbc192 kind.Cbc192 l n ls ne = absurd (ne refl)
-line-other kind.Cbc256 kind.Cbc256 l n ls ne = absurd (ne refl)
-line-other kind.Cmac128 kind.Cmac128 l n ls ne = absurd (ne refl)
-line-other kind.Cmac256 kind.Cmac256 l n ls ne = absurd (ne refl)
-line-other kind.HmacSha1 kind.HmacSha1 l n ls ne = absurd (ne refl)
-line-other kind.HmacSha256 kind.HmacSha256 l n ls ne = absurd (ne refl)
-line-other kind.HmacSha512 kind.HmacSha512 l n ls ne = absurd (ne refl)
-line-other _ _ l n ls ne = refl
+line-put : (k j : Kind) (l : PlacedQueue) (n : ℕ) (ls : LaneQueues) → placed_in j (with_placed k l n ls) ≡ put k l (λ i. placed_in i ls) j
+line-put kind.Cbc128 kind.Cbc128 l n ls = refl
+line-put kind.Cbc192 kind.Cbc192 l n ls = refl
+line-put kind.Cbc256 kind.Cbc256 l n ls = refl
+line-put kind.Cmac128 kind.Cmac128 l n ls = refl
+line-put kind.Cmac256 kind.Cmac256 l n ls = refl
+line-put kind.HmacSha1 kind.HmacSha1 l n ls = refl
+line-put kind.HmacSha256 kind.HmacSha256 l n ls = refl
+line-put kind.HmacSha512 kind.HmacSha512 l n ls = refl
+line-put _ _ l n ls = refl
 
-total-line : (k : Kind) (ls ls' : Lines) → ls' ≡ with_line k (line_in k ls') ls'.flush_runs ls
-    → total ls' + length (line_in k ls).waiters ≡ total ls + length (line_in k ls').waiters
+line-other : (k j : Kind) (l : PlacedQueue) (n : ℕ) (ls : LaneQueues) → j ≢ k → placed_in j (with_placed k l n ls) ≡ placed_in j ls
+line-other k j l n ls ne = elim (put-case k j l (λ i. placed_in i ls)) [
+  | inl e ↦ absurd (ne e.0)
+  | inr e ↦ line-put k j l n ls ∙ e.1
+]
+
+total-line : (k : Kind) (ls ls' : LaneQueues) → ls' ≡ with_placed k (placed_in k ls') ls'.flush_runs ls
+    → total ls' + length (placed_in k ls).waiters ≡ total ls + length (placed_in k ls').waiters
 total-line kind.Cbc128 ls ls' e = let t = ap total e in omega arith
-total-line kind.Cbc192 ls ls' e = let t = ap total e in omega arith
-total-line kind.Cbc256 ls ls' e = let t = ap total e in omega arith
-total-line kind.Cmac128 ls ls' e = let t = ap total e in omega arith
-total-line kind.Cmac256 ls ls' e = let t = ap total e in omega arith
-total-line kind.HmacSha1 ls ls' e = let t = ap total e in omega arith
-total-line kind.HmacSha256 ls ls' e = let t = ap total e in omega arith
-total-line kind.HmacSha512 ls ls' e = let t = ap total e in omega arith
+total-line _ ls ls' e = let t = ap total e in omega arith
 
 -- ---- a step of the list of the kind k
 
-module _ (k : Kind) (r r' : RingState Cell) (ag ag' : List ℕ) (ls ls' : Lines) (d : Desk) (same : IsSameRing r' r)
-    (others-same : ls' ≡ with_line k (line_in k ls') ls'.flush_runs ls) (is : desk_of k (number_in r) (courses r') ag' ls' ≡ d) where
+module _ (k : Kind) (r r' : RingState Cell) (ag ag' : List ℕ) (ls ls' : LaneQueues) (d : Desk) (same : IsSameRing r' r)
+    (others-same : ls' ≡ with_placed k (placed_in k ls') ls'.flush_runs ls) (is : desk_of k (number_in r) (courses r') ag' ls' ≡ d) where
   -- the lists then, by the numbers of before
-  abbrev after : Kind → Line
-  after j = numbered_line (number_in r) (line_in j ls')
+  abbrev after : Kind → PlacedQueue
+  after j = numbered_queue (number_in r) (placed_in j ls')
 
   other-lines : (j : Kind) → j ≢ k → after j ≡ lines_in r ls j
-  other-lines j ne = ap (numbered_line (number_in r)) (ap (line_in j) others-same ∙ line-other k j (line_in k ls') ls'.flush_runs ls ne)
+  other-lines j ne = ap (numbered_queue (number_in r)) (ap (placed_in j) others-same ∙ line-other k j (placed_in k ls') ls'.flush_runs ls ne)
 
   pub moved-machine : machine_in r' ag' ls' ≡ machine_at k (λ j. lane_seen (lines_in r ls j)) d
   moved-machine =
-      ap (λ (n : ℕ). machine_by (courses r') (map (number n) ag') (λ j. numbered_line (number n) (line_in j ls')) ls'.flush_runs) same.first
+      ap (λ (n : ℕ). machine_by (courses r') (map (number n) ag') (λ j. numbered_queue (number n) (placed_in j ls')) ls'.flush_runs) same.first
       ∙ by-desk k (lines_in r ls) after (desk_of k (number_in r) (courses r') ag' ls') refl other-lines
       ∙ ap (machine_at k (λ j. lane_seen (lines_in r ls j))) is
 
-  abbrev expected : Kind → Line
-  expected = put k (line d.waiters 0 0) (lines_in r ls)
+  abbrev expected : Kind → PlacedQueue
+  expected = put k (placed_queue d.waiters 0 0) (lines_in r ls)
 
   same-waits : (j : Kind) → (expected j).waiters ≡ (after j).waiters
-  same-waits j = elim (put-case k j (line d.waiters 0 0) (lines_in r ls)) [
-    | inl e ↦ ap (λ (x : Line). x.waiters) e.1 ∙ sym (ap (λ (x : Desk). x.waiters) is) ∙ ap (λ i. (after i).waiters) (sym e.0)
-    | inr e ↦ ap (λ (x : Line). x.waiters) (e.1 ∙ sym (other-lines j e.0))
+  same-waits j = elim (put-case k j (placed_queue d.waiters 0 0) (lines_in r ls)) [
+    | inl e ↦ ap (λ (x : PlacedQueue). x.waiters) e.1 ∙ sym (ap (λ (x : Desk). x.waiters) is) ∙ ap (λ i. (after i).waiters) (sym e.0)
+    | inr e ↦ ap (λ (x : PlacedQueue). x.waiters) (e.1 ∙ sym (other-lines j e.0))
   ]
 
   pub moved-tied : IsTied d.courses d.agenda expected → IsTied (courses r') (map (number_in r') ag') (lines_in r' ls')
   moved-tied y =
-      subst (λ (n : ℕ). IsTied (courses r') (map (number n) ag') (λ j. numbered_line (number n) (line_in j ls'))) (sym same.first)
+      subst (λ (n : ℕ). IsTied (courses r') (map (number n) ag') (λ j. numbered_queue (number n) (placed_in j ls'))) (sym same.first)
       (subst (λ (x : Desk). IsTied x.courses x.agenda after) (sym is) (tied-same d.courses d.agenda expected after same-waits y))
 
   pub moved-owed : owed_from 0 (find_in expected) d.courses ≡ owed_from 0 (find_in (lines_in r' ls')) (courses r')
   moved-owed =
       owed_from-same 0 (find_in expected) (find_in after) d.courses (λ j m h. ap (found m) (same-waits j))
       ∙ sym (ap (λ (x : Desk). owed_from 0 (find_in after) x.courses) is)
-      ∙ ap (λ (n : ℕ). owed_from 0 (find_in (λ j. numbered_line (number n) (line_in j ls'))) (courses r')) (sym same.first)
+      ∙ ap (λ (n : ℕ). owed_from 0 (find_in (λ j. numbered_queue (number n) (placed_in j ls'))) (courses r')) (sym same.first)
 
-  pub moved-length : length ag' + total ls' + length (line_in k ls).waiters ≡ length d.agenda + length d.waiters + total ls
+  pub moved-length : length ag' + total ls' + length (placed_in k ls).waiters ≡ length d.agenda + length d.waiters + total ls
   moved-length =
       let a : length (map (number_in r) ag') ≡ length d.agenda = ap (λ (x : Desk). length x.agenda) is in
-      let w : length (numbered (number_in r) (line_in k ls').waiters) ≡ length d.waiters = ap (λ (x : Desk). length x.waiters) is in
+      let w : length (numbered (number_in r) (placed_in k ls').waiters) ≡ length d.waiters = ap (λ (x : Desk). length x.waiters) is in
       let g : Waiter → Waiter = λ x. (number_in r x.0, x.1) in
-      let l : length (numbered (number_in r) (line_in k ls').waiters) ≡ length (line_in k ls').waiters = length-map (line_in k ls').waiters g in
+      let l : length (numbered (number_in r) (placed_in k ls').waiters) ≡ length (placed_in k ls').waiters = length-map (placed_in k ls').waiters g in
       omega (arith, total-line k ls ls' others-same, length-map ag' (number_in r))
 
 -- ---- how many there are
@@ -108,10 +111,10 @@ finish-length (w ∷ ws) = elim (zero-or w.1.rounds) [
   | inr z ↦ rw z (omega (arith, finish-length ws))
 ]
 
-pub ran-length : (at : Within) (d : Desk) → length (ran_at at d).agenda + length (ran_at at d).waiters ≡ length d.agenda + length d.waiters
-ran-length submit d =
+pub ran-length : (at : Cause) (d : Desk) → length (ran_at at d).agenda + length (ran_at at d).waiters ≡ length d.agenda + length d.waiters
+ran-length cause.Submit d =
     omega (arith, length-append d.agenda (numbers (finishers rounds_in (led_all d.waiters))), finish-length (led_all d.waiters), length-map d.waiters (led_waiter (least (pair_rest rounds_in) d.waiters)))
-ran-length flush d =
+ran-length cause.Flush d =
     omega (arith, length-append d.agenda (numbers (finishers rounds_in (led_all d.waiters))), finish-length (led_all d.waiters), length-map d.waiters (led_waiter (least (pair_rest rounds_in) d.waiters)))
 
 -- ---- the list of the earliest job
@@ -131,7 +134,7 @@ have-rests [] a n d lt = absurd (omega arith)
 have-rests (w ∷ ws) a zero d lt = a 0 (waiting w) (omega arith)
 have-rests (w ∷ ws) a (suc n) d lt = have-rests ws (λ i x l. a (suc i) x (omega arith)) n d (omega arith)
 
-pub first-ready : (k : Kind) (cs : List Going) (agenda : List ℕ) (lines : Kind → Line) (runs room : ℕ) → agenda ≡ [] → first_lane (map pending cs) ≡ Some k
+pub first-ready : (k : Kind) (cs : List Going) (agenda : List ℕ) (lines : Kind → PlacedQueue) (runs room : ℕ) → agenda ≡ [] → first_lane (map pending cs) ≡ Some k
     → IsWithin (machine_by cs agenda lines runs) → IsTied cs agenda lines → length agenda + length (lines k).waiters ≤ room
     → IsReady k (desk cs agenda (lines k).waiters (lines k).rounds (lines k).blocks runs) room
 first-ready k cs agenda lines runs room idle first within tied fits =
@@ -145,20 +148,14 @@ first-ready k cs agenda lines runs room idle first within tied fits =
       room_left = fits;
     }
 
-pub in-total : (k : Kind) (ls : Lines) → length (line_in k ls).waiters ≤ total ls
+pub in-total : (k : Kind) (ls : LaneQueues) → length (placed_in k ls).waiters ≤ total ls
 in-total kind.Cbc128 ls = omega arith
-in-total kind.Cbc192 ls = omega arith
-in-total kind.Cbc256 ls = omega arith
-in-total kind.Cmac128 ls = omega arith
-in-total kind.Cmac256 ls = omega arith
-in-total kind.HmacSha1 ls = omega arith
-in-total kind.HmacSha256 ls = omega arith
-in-total kind.HmacSha512 ls = omega arith
+in-total _ ls = omega arith
 
 -- ---- steps of a manager's fields
 
 -- the fields then hold the state with the machine m, and keep what they keep
-pub record IsStep (r r' : RingState Cell) (ag ag' : List ℕ) (ls ls' : Lines) (m : Machine) (capacity : ℕ) : Type 0 where
+pub record IsStep (r r' : RingState Cell) (ag ag' : List ℕ) (ls ls' : LaneQueues) (m : Machine) (capacity : ℕ) : Type 0 where
   pub is : held r' ag' ls' ≡ record (held r ag ls) { machine = m }
   pub kept : IsHeld r' ag' ls' capacity
 
@@ -170,33 +167,33 @@ pub same-state : (a b : List Done) (o p : Option Job) (m n : Machine) → a ≡ 
 same-state a b o p m n x y z = rw (x, y, z) refl
 
 -- how many may join or leave a list
-pub room-in : (k : Kind) (r : RingState Cell) (ag : List ℕ) (ls : Lines) (capacity : ℕ) → IsHeld r ag ls capacity
+pub room-in : (k : Kind) (r : RingState Cell) (ag : List ℕ) (ls : LaneQueues) (capacity : ℕ) → IsHeld r ag ls capacity
     → length (map (number_in r) ag) + length (lines_in r ls k).waiters ≤ capacity
 room-in k r ag ls capacity y =
     let g : Waiter → Waiter = λ x. (number_in r x.0, x.1) in
-    let l : length (lines_in r ls k).waiters ≡ length (line_in k ls).waiters = length-map (line_in k ls).waiters g in
+    let l : length (lines_in r ls k).waiters ≡ length (placed_in k ls).waiters = length-map (placed_in k ls).waiters g in
     let fits = y.fits in
     let room = y.room in
     omega (arith, in-total k ls, length-map ag (number_in r))
 
 -- the list of the earliest job runs
-pub runs-first : (k : Kind) (r r' : RingState Cell) (ag ag' : List ℕ) (ls ls' : Lines) (capacity : ℕ) → IsHeld r ag ls capacity
+pub runs-first : (k : Kind) (r r' : RingState Cell) (ag ag' : List ℕ) (ls ls' : LaneQueues) (capacity : ℕ) → IsHeld r ag ls capacity
     → map (number_in r) ag ≡ [] → first_lane (map pending (courses r)) ≡ Some k → IsSameRing r' r
-    → ls' ≡ with_line k (line_in k ls') ls'.flush_runs ls
-    → desk_of k (number_in r) (courses r') ag' ls' ≡ ran_at flush (desk_of k (number_in r) (courses r) ag ls)
-    → IsStep r r' ag ag' ls ls' (run_within flush k (machine_in r ag ls)) capacity
+    → ls' ≡ with_placed k (placed_in k ls') ls'.flush_runs ls
+    → desk_of k (number_in r) (courses r') ag' ls' ≡ ran_at cause.Flush (desk_of k (number_in r) (courses r) ag ls)
+    → IsStep r r' ag ag' ls ls' (run_within cause.Flush k (machine_in r ag ls)) capacity
 runs-first k r r' ag ag' ls ls' capacity y idle first same others-are is =
     let d0 = desk_of k (number_in r) (courses r) ag ls in
-    let d = ran_at flush d0 in
+    let d = ran_at cause.Flush d0 in
     let m = machine_in r ag ls in
-    let lanes : Kind → Lane = λ j. lane_seen (lines_in r ls j) in
+    let lanes : Kind → Queue = λ j. lane_seen (lines_in r ls j) in
     let ran = ran-list k (courses r) (map (number_in r) ag) (lines_in r ls) y.tied in
-    let machine : machine_in r' ag' ls' ≡ run_within flush k m
-    = moved-machine k r r' ag ag' ls ls' d same others-are is ∙ run-seen flush k lanes d0
-    ∙ ap (run_within flush k) (sym (by-desk k (lines_in r ls) (lines_in r ls) d0 refl (λ j ne. refl))) in
+    let machine : machine_in r' ag' ls' ≡ run_within cause.Flush k m
+    = moved-machine k r r' ag ag' ls ls' d same others-are is ∙ run-seen cause.Flush k lanes d0
+    ∙ ap (run_within cause.Flush k) (sym (by-desk k (lines_in r ls) (lines_in r ls) d0 refl (λ j ne. refl))) in
     let size = moved-length k r r' ag ag' ls ls' d same others-are is in
     let g : Waiter → Waiter = λ x. (number_in r x.0, x.1) in
-    let l : length d0.waiters ≡ length (line_in k ls).waiters = length-map (line_in k ls).waiters g in
+    let l : length d0.waiters ≡ length (placed_in k ls).waiters = length-map (placed_in k ls).waiters g in
     let fits = y.fits in
     record {
       is = same-state _ _ _ _ _ _ (sym (moved-owed k r r' ag ag' ls ls' d same others-are is) ∙ sym ran.owed) (ap (option_map job_in) same.opened) machine;
@@ -205,7 +202,7 @@ runs-first k r r' ag ag' ls ls' capacity y idle first same others-are is =
         is_open = subst IsOpenAt (sym same.opened) y.is_open;
         within = subst IsWithin (sym machine) (Running.idle-keeps k m (first-machine k m idle first y.within)).within;
         tied = moved-tied k r r' ag ag' ls ls' d same others-are is ran.tied;
-        fits = omega (arith, ran-length flush d0, length-map ag (number_in r));
+        fits = omega (arith, ran-length cause.Flush d0, length-map ag (number_in r));
         room = y.room;
       };
     }

@@ -7,12 +7,11 @@ use Rattle.mbj_stage.specs.declared.stage.Stage.TheVariants as stage
 use Rattle.mbj_stage.specs.declared.stage.Step.{Step}
 use Rattle.mbj_stage.specs.Steps.{stage_at}
 use Rattle.mbj_stage.specs.Going.{Going, owed, stage_of}
-use Rattle.mbj_stage.specs.Handing.{End, handed_out, owed_with, taken_back, taken_back_at}
+use Rattle.mbj_stage.specs.Handing.{End, IsNext, IsOut, handed_out, owed_with, taken_back, taken_back_at}
 use Rattle.mbj_stage.proofs.StagesOf.{stage-packet}
-use Rattle.mbj_manager.specs.Machine.{changed}
+use Rattle.mbj_manager.specs.Machine.Queues.{changed}
 use Rattle.mbj_manager.specs.Inside.Courses.{Follows}
-use Rattle.mbj_manager.specs.Leads.{IsOut}
-use Rattle.mbj_manager.specs.Inside.Leaving.{At, Gives, IsNext}
+use Rattle.mbj_manager.specs.Inside.Leaving.{At, Gives}
 use Rattle.mbj_manager.specs.Inside.Held.{owed_by, owed_found, owed_from, owed_here, owed_of}
 
 -- the owed results stay

@@ -11,8 +11,8 @@ use Rattle.mbj_stage.specs.Steps.{stage_at}
 use Rattle.mbj_stage.specs.Going.{Going, ran, ran_at, stage_of}
 use Rattle.mbj_stage.specs.Handing.{End, handed_out, taken_back, taken_back_at}
 use Rattle.mbj_stage.proofs.StagesOf.{finished-left, stage-first, stage-packet}
-use Rattle.mbj_manager.specs.Rounds.{Pending, in_lanes, pending, pending_by}
-use Rattle.mbj_manager.specs.Course.{in_lanes_next}
+use Rattle.mbj_manager.specs.Machine.Stages.{Pending, in_lanes, pending, pending_by}
+use Rattle.mbj_manager.specs.Machine.Course.{in_lanes_next}
 use Rattle.std.specs.Prelude.{flat_map, drop}
 
 -- ---- the packet has no part in it
@@ -23,13 +23,7 @@ pending_at j left = flat_map (λ s. pending_by (stage_at j (s ∷ [])) j) left
 
 rounds-packet : (k : Kind) (j : Job) (p : List ℕ) → rounds_of k (record j { packet = p }) ≡ rounds_of k j
 rounds-packet kind.Cbc128 j p = refl
-rounds-packet kind.Cbc192 j p = refl
-rounds-packet kind.Cbc256 j p = refl
-rounds-packet kind.Cmac128 j p = refl
-rounds-packet kind.Cmac256 j p = refl
-rounds-packet kind.HmacSha1 j p = refl
-rounds-packet kind.HmacSha256 j p = refl
-rounds-packet kind.HmacSha512 j p = refl
+rounds-packet _ j p = refl
 
 by-packet : (s : Stage) (j : Job) (p : List ℕ) → pending_by s (record j { packet = p }) ≡ pending_by s j
 by-packet stage.Now j p = refl

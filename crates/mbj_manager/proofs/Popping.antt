@@ -8,19 +8,20 @@ use Rattle.mbj_types.specs.declared.kind.Kind.{Kind}
 use Rattle.mbj_ring.specs.declared.ring.TheConstants.{CELLS}
 use Rattle.mbj_ring.specs.Ring.{RingState, ring, without_first}
 use Rattle.mbj_stage.specs.Going.{Going, owed, stage_of}
-use Rattle.mbj_stage.specs.Handing.{End}
+use Rattle.mbj_stage.specs.Handing.{End, IsOut}
 use Rattle.mbj_stage.specs.declared.stage.Stage.{Stage}
 use Rattle.mbj_stage.specs.declared.stage.Stage.TheVariants as stage
-use Rattle.mbj_manager.specs.Rounds.{Pending, pending}
-use Rattle.mbj_manager.specs.Machine.{Lane, Machine, Waiting, lane_for}
-use Rattle.mbj_manager.specs.Between.{IsBetweenCalls}
+use Rattle.mbj_manager.specs.Machine.Stages.{Pending, pending}
+use Rattle.mbj_manager.specs.Machine.Queues.{Queue, Machine, Waiting, queue_for}
+use Rattle.mbj_manager.specs.Machine.Between.{IsBetweenCalls}
 use Rattle.mbj_manager.specs.State.{ManagerState, after_get_completed, given_at, renumbered}
 use Rattle.mbj_manager.specs.declared.cell.Cell.{Cell}
 use Rattle.mbj_manager.specs.Inside.Courses.{IsGoing, course_in, courses, number, number_in}
-use Rattle.mbj_manager.specs.Leads.{IsOut}
 use Rattle.mbj_manager.specs.Inside.Leaving.{At, IsAbsent}
-use Rattle.mbj_manager.specs.Inside.Desk.{Waiter, Listed}
-use Rattle.mbj_manager.specs.Inside.Lines.{Line, Lines, line, line_in, numbered}
+use Rattle.mbj_manager.specs.Inside.Desk.{Listed}
+use Rattle.mbj_manager.specs.Inside.LaneQueues.{placed_in}
+use Rattle.mbj_manager.specs.declared.lane_queues.LaneQueues.{LaneQueues}
+use Rattle.mbj_manager.specs.Inside.PlacedQueue.{PlacedQueue, Waiter, placed_queue, numbered}
 use Rattle.mbj_manager.specs.Inside.Standing.{IsWithin, times}
 use Rattle.mbj_manager.specs.Inside.Held.{IsHeld, IsTied, find_in, found, held, lane_seen, lines_in, machine_in, owed_by, owed_from, owed_here, owed_of, waiting}
 use Rattle.mbj_manager.proofs.Adding.{map-nil}
@@ -34,8 +35,8 @@ use Rattle.mbj_manager.proofs.PendingStages.{finished-pending}
 abbrev lower : Waiter → Waiter
 lower w = (w.0 - 1, w.1)
 
-abbrev low : Line → Line
-low l = line (map lower l.waiters) l.rounds l.blocks
+abbrev low : PlacedQueue → PlacedQueue
+low l = placed_queue (map lower l.waiters) l.rounds l.blocks
 
 -- the course of the job is behind the first one, which is finished
 behind : (k : Kind) (e : End) (n : ℕ) (c : Going) (cs : List Going) → stage_of c ≡ stage.Finished → At (IsOut k e) n (c ∷ cs)
@@ -78,7 +79,7 @@ found-low n (w ∷ ws) l =
 
 -- ---- what holds without the first course
 
-tied-low : (c : Going) (cs : List Going) (lines : Kind → Line) → stage_of c ≡ stage.Finished → IsTied (c ∷ cs) [] lines → IsTied cs [] (λ k. low (lines k))
+tied-low : (c : Going) (cs : List Going) (lines : Kind → PlacedQueue) → stage_of c ≡ stage.Finished → IsTied (c ∷ cs) [] lines → IsTied cs [] (λ k. low (lines k))
 tied-low c cs lines done y = record {
   listed = λ k. listed-low k c cs (lines k).waiters done (y.listed k);
   here = λ n lt a. y.here (suc n) (omega arith) (λ k. low-absent n (lines k).waiters (a k));
@@ -130,13 +131,13 @@ between-within m between = record {
 -- ---- the ring without its first course
 
 -- the course in the cell v is finished, its result is given back, and the fields then hold the state that is left
-pub record IsGiven (r : RingState Cell) (v : Cell) (ag : List ℕ) (ls : Lines) (capacity : ℕ) : Type 0 where
+pub record IsGiven (r : RingState Cell) (v : Cell) (ag : List ℕ) (ls : LaneQueues) (capacity : ℕ) : Type 0 where
   pub finished : stage_of (course_in v) ≡ stage.Finished
   pub result : Some (owed (course_in v)) ≡ (after_get_completed (held r ag ls)).0
   pub is : held (without_first r) ag ls ≡ (after_get_completed (held r ag ls)).1
   pub kept : IsHeld (without_first r) ag ls capacity
 
-module _ (v : Cell) (vs : List Cell) (o : Option Cell) (first : ℕ) (ls : Lines) (capacity : ℕ) (y : IsHeld (ring (v ∷ vs) o first) [] ls capacity)
+module _ (v : Cell) (vs : List Cell) (o : Option Cell) (first : ℕ) (ls : LaneQueues) (capacity : ℕ) (y : IsHeld (ring (v ∷ vs) o first) [] ls capacity)
     (none : pending (course_in v) ≡ []) where
   abbrev r : RingState Cell
   r = ring (v ∷ vs) o first
@@ -144,7 +145,7 @@ module _ (v : Cell) (vs : List Cell) (o : Option Cell) (first : ℕ) (ls : Lines
   abbrev r' : RingState Cell
   r' = ring vs o ((first + 1) % CELLS)
 
-  abbrev lines : Kind → Line
+  abbrev lines : Kind → PlacedQueue
   lines = lines_in r ls
 
   done : stage_of (course_in v) ≡ stage.Finished
@@ -155,19 +156,19 @@ module _ (v : Cell) (vs : List Cell) (o : Option Cell) (first : ℕ) (ls : Lines
 
   lines-low : (k : Kind) → lines_in r' ls k ≡ low (lines k)
   lines-low k =
-      ap (λ (ws : List Waiter). line ws (line_in k ls).rounds (line_in k ls).blocks) (numbered-low first (line_in k ls).waiters y.ring.first (are-later k))
+      ap (λ (ws : List Waiter). placed_queue ws (placed_in k ls).rounds (placed_in k ls).blocks) (numbered-low first (placed_in k ls).waiters y.ring.first (are-later k))
 
-  lane-low : (k : Kind) → lane_seen (lines_in r' ls k) ≡ renumbered (lane_for k (machine_in r [] ls))
+  lane-low : (k : Kind) → lane_seen (lines_in r' ls k) ≡ renumbered (queue_for k (machine_in r [] ls))
   lane-low k =
       ap lane_seen (lines-low k)
-      ∙ ap (λ (ws : List Waiting). record { waiting = ws; rounds = (line_in k ls).rounds; blocks = (line_in k ls).blocks }) (waiting-low (lines k).waiters)
+      ∙ ap (λ (ws : List Waiting). record { waiting = ws; rounds = (placed_in k ls).rounds; blocks = (placed_in k ls).blocks }) (waiting-low (lines k).waiters)
 
   abbrev left_then : List (List Pending)
   left_then = map pending (map course_in vs)
 
   machine-then : machine_in r' [] ls ≡ without_earliest left_then (machine_in r [] ls)
   machine-then =
-      ap (λ (f : Kind → Lane). record { left = left_then; lanes = f; agenda = []; flush_runs = ls.flush_runs }) (fun_ext lane-low)
+      ap (λ (f : Kind → Queue). record { left = left_then; lanes = f; agenda = []; flush_runs = ls.flush_runs }) (fun_ext lane-low)
 
   left-is : (machine_in r [] ls).left ≡ [] ∷ left_then
   left-is = ap (λ (ps : List Pending). ps ∷ left_then) none
@@ -182,7 +183,7 @@ module _ (v : Cell) (vs : List Cell) (o : Option Cell) (first : ℕ) (ls : Lines
     is_open = y.is_open;
     within = subst IsWithin (sym machine-then) (between-within (without_earliest left_then (machine_in r [] ls))
         (back-between left_then (machine_in r [] ls) left-is (between-calls (machine_in r [] ls) y.within refl)));
-    tied = subst (λ (f : Kind → Line). IsTied (map course_in vs) [] f) (sym (fun_ext lines-low)) (tied-low (course_in v) (map course_in vs) lines done y.tied);
+    tied = subst (λ (f : Kind → PlacedQueue). IsTied (map course_in vs) [] f) (sym (fun_ext lines-low)) (tied-low (course_in v) (map course_in vs) lines done y.tied);
     fits = y.fits;
     room = y.room;
   }
@@ -190,7 +191,7 @@ module _ (v : Cell) (vs : List Cell) (o : Option Cell) (first : ℕ) (ls : Lines
   owed-then : owed_from 1 (find_in lines) (map course_in vs) ≡ owed_from 0 (find_in (lines_in r' ls)) (map course_in vs)
   owed-then =
       owed-low 0 (find_in lines) (find_in (lines_in r' ls)) (map course_in vs)
-      (λ k n. found-low n (lines k).waiters (are-later k) ∙ sym (ap (λ (l : Line). found n l.waiters) (lines-low k)))
+      (λ k n. found-low n (lines k).waiters (are-later k) ∙ sym (ap (λ (l : PlacedQueue). found n l.waiters) (lines-low k)))
 
   abbrev answer : Option Done × ManagerState
   answer = (
@@ -214,21 +215,21 @@ first-none : (vs : List Cell) (v : Cell) → slice_get vs 0 ≡ Some v → slice
 first-none [] v e done = cc
 first-none (x ∷ vs) v e done = let is : x ≡ v = cc in let none : pending (course_in x) ≡ [] = cc in subst (λ (c : Cell). pending (course_in c) ≡ []) is none
 
-pops-at : (vs : List Cell) (v : Cell) (o : Option Cell) (first : ℕ) (ls : Lines) (capacity : ℕ) → IsHeld (ring vs o first) [] ls capacity
+pops-at : (vs : List Cell) (v : Cell) (o : Option Cell) (first : ℕ) (ls : LaneQueues) (capacity : ℕ) → IsHeld (ring vs o first) [] ls capacity
     → slice_get vs 0 ≡ Some v → pending (course_in v) ≡ [] → IsGiven (ring vs o first) v [] ls capacity
 pops-at [] v o first ls capacity y e none = cc
 pops-at (x ∷ vs) v o first ls capacity y e none =
     let is : x ≡ v = cc in
     subst (λ (c : Cell). pending (course_in c) ≡ [] → IsGiven (ring (x ∷ vs) o first) c [] ls capacity) is (given-then x vs o first ls capacity y) none
 
-pub pops : (r : RingState Cell) (v : Cell) (ag : List ℕ) (ls : Lines) (capacity : ℕ) → IsHeld r ag ls capacity → map (number_in r) ag ≡ []
+pub pops : (r : RingState Cell) (v : Cell) (ag : List ℕ) (ls : LaneQueues) (capacity : ℕ) → IsHeld r ag ls capacity → map (number_in r) ag ≡ []
     → slice_get (map pending (courses r)) 0 ≡ Some [] → slice_get r.values 0 ≡ Some v → IsGiven r v ag ls capacity
 pops r v ag ls capacity y idle done e =
     subst (λ (a : List ℕ). IsHeld r a ls capacity → IsGiven r v a ls capacity) (sym (map-nil (number_in r) ag idle))
     (λ z. pops-at r.values v r.opened r.first ls capacity z e (first-none r.values v e done)) y
 
 -- likewise by the state that the fields hold
-pub pops-of : (h : ManagerState) (r : RingState Cell) (v : Cell) (o : Option Cell) (ag : List ℕ) (ls : Lines) (capacity : ℕ) → held r ag ls ≡ h
+pub pops-of : (h : ManagerState) (r : RingState Cell) (v : Cell) (o : Option Cell) (ag : List ℕ) (ls : LaneQueues) (capacity : ℕ) → held r ag ls ≡ h
     → IsHeld r ag ls capacity → h.machine.agenda ≡ [] → slice_get h.machine.left 0 ≡ Some [] → o ≡ slice_get r.values 0 → o ≡ Some v
     → IsGiven r v ag ls capacity
 pops-of h r v o ag ls capacity is y idle done value e =

@@ -1,12 +1,13 @@
 -- Steps that change nothing: those of a course with nothing in the agenda, and those of a flush whose earliest job is finished.
 use Rattle.std.proofs.Common.{◌≡◌, ℕ, zero, suc, List, [], ◌∷◌, Some, slice_get, slice_index_or, refl, ap, ◌∙◌}
-use Rattle.mbj_manager.specs.Rounds.{Pending}
-use Rattle.mbj_manager.specs.Machine.{Machine, Within}
-use Rattle.mbj_manager.specs.Course.{stepped, stepped_at, flush_step_at}
+use Rattle.mbj_manager.specs.Machine.Stages.{Pending}
+use Rattle.mbj_manager.specs.Machine.Queues.{Machine}
+use Rattle.mbj_manager.specs.declared.lane.Cause.{Cause}
+use Rattle.mbj_manager.specs.Machine.Course.{stepped, stepped_at, flush_step_at}
 use Rattle.mbj_manager.proofs.Steps.{after_steps, after_flush_steps}
 
 -- with nothing in the agenda a course changes nothing
-pub rests : (at : Within) (steps : ℕ) (m : Machine) → m.agenda ≡ [] → after_steps at steps m ≡ m
+pub rests : (at : Cause) (steps : ℕ) (m : Machine) → m.agenda ≡ [] → after_steps at steps m ≡ m
 rests at zero m e = refl
 rests at (suc steps) m e =
     let stays : stepped at m ≡ m = ap (λ a. stepped_at at a m) e in

@@ -6,7 +6,7 @@ use Rattle.std.proofs.lemmas.List.Elements.{All-head, All-tail, All-cons}
 use Rattle.mbj_stage.specs.Going.{Going, stage_of}
 use Rattle.mbj_ring.specs.declared.ring.TheConstants.{CELLS}
 use Rattle.mbj_ring.specs.Ring.{RingState, IsLive, with_value_at}
-use Rattle.mbj_manager.specs.Machine.{changed}
+use Rattle.mbj_manager.specs.Machine.Queues.{changed}
 use Rattle.mbj_manager.specs.declared.cell.Cell.{Cell}
 use Rattle.mbj_manager.specs.Inside.Courses.{AreCourses, IsGoing, IsSameRing, course_in, courses, first_stage, number_in}
 use Rattle.mbj_manager.specs.Inside.Leaving.{At}

@@ -6,9 +6,11 @@ use Rattle.std.proofs.lemmas.Nat.{mul-mod_second}
 use Rattle.std.proofs.lemmas.List.{length-append}
 use Rattle.mbj_types.specs.declared.kind.Kind.{Kind}
 use Rattle.mbj_types.specs.Kinds.{lanes_of}
-use Rattle.mbj_manager.specs.Machine.{Waiting, Lane, Machine, Within, submit, flush, count_end, lane_for, least, ran, run_within, shortened, with_run}
-use Rattle.mbj_manager.specs.Course.{stages_left}
-use Rattle.mbj_manager.specs.Between.{HasRounds}
+use Rattle.mbj_manager.specs.Machine.Queues.{Waiting, Queue, Machine, count_end, queue_for, least, ran, run_within, shortened, with_run}
+use Rattle.mbj_manager.specs.declared.lane.Cause.{Cause}
+use Rattle.mbj_manager.specs.declared.lane.Cause.TheVariants as cause
+use Rattle.mbj_manager.specs.Machine.Course.{stages_left}
+use Rattle.mbj_manager.specs.Machine.Between.{HasRounds}
 use Rattle.mbj_manager.specs.Inside.Standing.{IsLane, IsWithin, Stands, left_at}
 use Rattle.mbj_manager.proofs.Lanes.{each-lane, with_waiting}
 use Rattle.mbj_manager.proofs.Leaving.{leave-or-stay, some-leave, stayers-rest}
@@ -17,7 +19,7 @@ use Rattle.mbj_manager.proofs.Standing.{gone, gone-most, ran-standing, stayed}
 use Rattle.mbj_manager.specs.Inside.Steps.{steps_ahead}
 
 -- somebody waits in the list of the kind k, which may be full
-pub record IsFilled (k : Kind) (l : Lane) : Type 0 where
+pub record IsFilled (k : Kind) (l : Queue) : Type 0 where
   pub some : 0 < length l.waiting
   pub room : length l.waiting ≤ lanes_of k
   pub rests : All (λ w. 1 ≤ w.rest) l.waiting
@@ -25,8 +27,8 @@ pub record IsFilled (k : Kind) (l : Lane) : Type 0 where
 
 -- the list of the kind k may run; else the machine is as it is after each step
 pub record IsReady (k : Kind) (m : Machine) : Type 0 where
-  pub others : (j : Kind) → j ≢ k → IsLane j (lane_for j m)
-  pub lane : IsFilled k (lane_for k m)
+  pub others : (j : Kind) → j ≢ k → IsLane j (queue_for j m)
+  pub lane : IsFilled k (queue_for k m)
   pub stages : (n : ℕ) → All HasRounds (left_at n m.left)
   pub stands : (n : ℕ) → Stands m n
 
@@ -38,13 +40,13 @@ pub record IsRun (after m : Machine) : Type 0 where
 
 -- fewer stay in the list than it has lanes
 few-stay : (k : Kind) (m : Machine) → IsReady k m → length (stayed k m) < lanes_of k
-few-stay k m ready = omega (arith, leave-or-stay (lane_for k m).waiting, some-leave (lane_for k m).waiting ready.lane.some, ready.lane.room)
+few-stay k m ready = omega (arith, leave-or-stay (queue_for k m).waiting, some-leave (queue_for k m).waiting ready.lane.some, ready.lane.room)
 
 -- a run keeps what holds of the machine, whatever it counts
-ran-keeps : (k : Kind) (after : List Waiting → Lane) (m : Machine) → ((ws : List Waiting) → (after ws).waiting ≡ ws) → IsReady k m
+ran-keeps : (k : Kind) (after : List Waiting → Queue) (m : Machine) → ((ws : List Waiting) → (after ws).waiting ≡ ws) → IsReady k m
     → IsLane k (after (stayed k m)) → IsRun (ran k after m) m
 ran-keeps k after m waiting ready lane =
-    let some = some-leave (lane_for k m).waiting ready.lane.some in
+    let some = some-leave (queue_for k m).waiting ready.lane.some in
     let fewer = fewer-stages (gone k m) m.left (λ n. gone-most k m n (ready.stands n)) in
     record {
       within = record {
@@ -57,13 +59,13 @@ ran-keeps k after m waiting ready lane =
     }
 
 -- a run within a flush
-pub idle-keeps : (k : Kind) (m : Machine) → IsReady k m → IsRun (run_within flush k m) m
+pub idle-keeps : (k : Kind) (m : Machine) → IsReady k m → IsRun (run_within cause.Flush k m) m
 idle-keeps k m ready =
     let counted : Machine = record m { flush_runs = (m.flush_runs + 1) % count_end } in
     let again : IsReady k counted
     = record { others = ready.others; lane = ready.lane; stages = ready.stages; stands = ready.stands } in
-    let run = ran-keeps k (with_waiting (lane_for k m)) counted (λ ws. refl) again
-    (record { few = few-stay k m ready; rests = stayers-rest (shortened (lane_for k m).waiting); blocks = ready.lane.blocks }) in
+    let run = ran-keeps k (with_waiting (queue_for k m)) counted (λ ws. refl) again
+    (record { few = few-stay k m ready; rests = stayers-rest (shortened (queue_for k m).waiting); blocks = ready.lane.blocks }) in
     record { within = run.within; fewer = run.fewer; ahead = run.ahead }
 
 -- so many rounds more of a full list
@@ -73,19 +75,19 @@ counted-blocks lanes rounds more end =
     mod-add-mod (lanes * rounds) end (more * lanes) ∙ ap (λ n. n % end) sum ∙ sym (mul-mod_second lanes (rounds + more) end)
 
 -- a run of a full list within a submit
-full-keeps : (k : Kind) (m : Machine) → IsReady k m → length (lane_for k m).waiting ≡ lanes_of k → IsRun (run_within submit k m) m
+full-keeps : (k : Kind) (m : Machine) → IsReady k m → length (queue_for k m).waiting ≡ lanes_of k → IsRun (run_within cause.Submit k m) m
 full-keeps k m ready full =
-    let l = lane_for k m in
+    let l = queue_for k m in
     ran-keeps k (with_run l) m (λ ws. refl) ready (record {
       few = few-stay k m ready;
-      rests = stayers-rest (shortened (lane_for k m).waiting);
+      rests = stayers-rest (shortened (queue_for k m).waiting);
       blocks = ap (λ n. (l.blocks + least l.waiting * n) % count_end) full
           ∙ ap (λ b. (b + least l.waiting * lanes_of k) % count_end) ready.lane.blocks
           ∙ counted-blocks (lanes_of k) l.rounds (least l.waiting) count_end;
     })
 
 -- a run of a full list, within either call
-pub run-keeps : (at : Within) (k : Kind) (m : Machine) → IsReady k m → length (lane_for k m).waiting ≡ lanes_of k
+pub run-keeps : (at : Cause) (k : Kind) (m : Machine) → IsReady k m → length (queue_for k m).waiting ≡ lanes_of k
     → IsRun (run_within at k m) m
-run-keeps submit k m ready full = full-keeps k m ready full
-run-keeps flush k m ready full = idle-keeps k m ready
+run-keeps cause.Submit k m ready full = full-keeps k m ready full
+run-keeps cause.Flush k m ready full = idle-keeps k m ready

@@ -7,17 +7,19 @@ use Rattle.mbj_types.specs.Kinds.{lanes_of}
 use Rattle.mbj_types.specs.declared.kind.Kind.{Kind}
 use Rattle.mbj_stage.specs.Going.{Going}
 use Rattle.mbj_stage.specs.Handing.{handed_out, taken_back}
-use Rattle.mbj_manager.specs.Rounds.{Pending, pending}
-use Rattle.mbj_manager.specs.Machine.{Lane, Machine, Waiting, Within, submit, flush, changed, count_end, lane_for, least, leavers, ran, rest_of, run_within, shortened, stage_done, stayers, with_lane, with_run}
-use Rattle.mbj_manager.specs.Course.{joined, run_if_full}
-use Rattle.mbj_manager.specs.Inside.Pairs.{pair_rest}
+use Rattle.mbj_manager.specs.Machine.Stages.{Pending, pending}
+use Rattle.mbj_manager.specs.Machine.Queues.{Queue, Machine, Waiting, changed, count_end, queue_for, least, leavers, ran, rest_of, run_within, shortened, stage_done, stayers, with_queue, with_run}
+use Rattle.mbj_manager.specs.declared.lane.Cause.{Cause}
+use Rattle.mbj_manager.specs.declared.lane.Cause.TheVariants as cause
+use Rattle.mbj_manager.specs.Machine.Course.{joined, run_if_full}
 use Rattle.mbj_manager.specs.Inside.Leaving.{finishers, numbers, others, returned}
-use Rattle.mbj_manager.specs.Inside.Desk.{Ahead, Desk, Waiter, brings_in, joined_by, led_all, led_waiter, ran_at, ran_if_full, rounds_in}
-use Rattle.mbj_manager.specs.Inside.Lines.{Line, line}
+use Rattle.mbj_manager.specs.Inside.Desk.{Desk, joined_by, led_all, ran_at, ran_if_full}
+use Rattle.mbj_manager.specs.Inside.PlacedQueue.{Ahead, PlacedQueue, Waiter, brings_in, led_waiter, placed_queue, pair_rest, rounds_in}
 use Rattle.mbj_manager.specs.Inside.Held.{lane_seen, machine_by, waiting}
-use Rattle.mbj_manager.proofs.Lanes.{given-lane, other-lane, same-kind, with_waiting, waits, again}
+use Rattle.mbj_manager.proofs.Lanes.{given-lane, other-lane, with_waiting, waits, again}
+use Rattle.mbj_manager.proofs.KindLines.{same-kind}
 use Rattle.mbj_manager.proofs.PendingStages.{pending-back, pending-out}
-use Rattle.mbj_manager.proofs.SeenAhead.{zero-or}
+use Rattle.mbj_manager.proofs.Finishing.{zero-or}
 use Rattle.mbj_manager.proofs.Leaving.{lowered}
 use Rattle.std.specs.Prelude.{drop}
 
@@ -80,89 +82,89 @@ out-same (suc n) (c ∷ cs) = ap (λ (x : List (List Pending)). pending c ∷ x)
 
 -- ---- the machine
 
-abbrev pub lane_at : Desk → Lane
-lane_at d = lane_seen (line d.waiters d.rounds d.blocks)
+abbrev pub lane_at : Desk → Queue
+lane_at d = lane_seen (placed_queue d.waiters d.rounds d.blocks)
 
 -- the machine with the desk of the kind k, and these lanes of the other kinds
-abbrev pub machine_at : Kind → (Kind → Lane) → Desk → Machine
-machine_at k lanes d = record { left = map pending d.courses; lanes = with_lane k (lane_at d) lanes; agenda = d.agenda; flush_runs = d.flush_runs }
+abbrev pub machine_at : Kind → (Kind → Queue) → Desk → Machine
+machine_at k lanes d = record { left = map pending d.courses; lanes = with_queue k (lane_at d) lanes; agenda = d.agenda; flush_runs = d.flush_runs }
 
-own-lane : (k : Kind) (lanes : Kind → Lane) (d : Desk) → lane_for k (machine_at k lanes d) ≡ lane_at d
+own-lane : (k : Kind) (lanes : Kind → Queue) (d : Desk) → queue_for k (machine_at k lanes d) ≡ lane_at d
 own-lane k lanes d = given-lane k (lane_at d) lanes
 
-abbrev machine : List (List Pending) → (Kind → Lane) → List ℕ → ℕ → Machine
+abbrev machine : List (List Pending) → (Kind → Queue) → List ℕ → ℕ → Machine
 machine left lanes agenda runs = record { left = left; lanes = lanes; agenda = agenda; flush_runs = runs }
 
-same-machine : (a b : List (List Pending)) (c d : Kind → Lane) (e f : List ℕ) (n : ℕ) → a ≡ b → c ≡ d → e ≡ f → machine a c e n ≡ machine b d f n
+same-machine : (a b : List (List Pending)) (c d : Kind → Queue) (e f : List ℕ) (n : ℕ) → a ≡ b → c ≡ d → e ≡ f → machine a c e n ≡ machine b d f n
 same-machine a b c d e f n x y z = rw (x, y, z) refl
 
 -- a run, whatever it counts
-ran-seen-by : (k : Kind) (lanes : Kind → Lane) (d e : Desk) (after : List Waiting → Lane) (m : Machine) → m.left ≡ map pending d.courses → m.agenda ≡ d.agenda
-    → m.lanes ≡ with_lane k (lane_at d) lanes → e.courses ≡ returned brings_in d.courses (finishers rounds_in (led_all d.waiters))
+ran-seen-by : (k : Kind) (lanes : Kind → Queue) (d e : Desk) (after : List Waiting → Queue) (m : Machine) → m.left ≡ map pending d.courses → m.agenda ≡ d.agenda
+    → m.lanes ≡ with_queue k (lane_at d) lanes → e.courses ≡ returned brings_in d.courses (finishers rounds_in (led_all d.waiters))
     → e.agenda ≡ d.agenda ++ numbers (finishers rounds_in (led_all d.waiters))
     → lane_at e ≡ after (map waiting (others rounds_in (led_all d.waiters))) → e.flush_runs ≡ m.flush_runs
     → machine_at k lanes e ≡ ran k after m
 ran-seen-by k lanes d e after m left agenda lanes-are cs ag lane runs =
-    let ws : (lane_for k m).waiting ≡ map waiting d.waiters = ap (λ (x : Kind → Lane). (x k).waiting) lanes-are ∙ ap (λ (l : Lane). l.waiting) (given-lane k (lane_at d) lanes) in
-    let gone : leavers (shortened (lane_for k m).waiting) ≡ numbers (finishers rounds_in (led_all d.waiters)) = ap (λ x. leavers (shortened x)) ws ∙ gone-seen d.waiters in
-    let stay : stayers (shortened (lane_for k m).waiting) ≡ map waiting (others rounds_in (led_all d.waiters)) = ap (λ x. stayers (shortened x)) ws ∙ stay-seen d.waiters in
-    let l : map pending e.courses ≡ stage_done (leavers (shortened (lane_for k m).waiting)) m.left
+    let ws : (queue_for k m).waiting ≡ map waiting d.waiters = ap (λ (x : Kind → Queue). (x k).waiting) lanes-are ∙ ap (λ (l : Queue). l.waiting) (given-lane k (lane_at d) lanes) in
+    let gone : leavers (shortened (queue_for k m).waiting) ≡ numbers (finishers rounds_in (led_all d.waiters)) = ap (λ x. leavers (shortened x)) ws ∙ gone-seen d.waiters in
+    let stay : stayers (shortened (queue_for k m).waiting) ≡ map waiting (others rounds_in (led_all d.waiters)) = ap (λ x. stayers (shortened x)) ws ∙ stay-seen d.waiters in
+    let l : map pending e.courses ≡ stage_done (leavers (shortened (queue_for k m).waiting)) m.left
     = ap (map pending) cs ∙ returned-seen d.courses (finishers rounds_in (led_all d.waiters)) ∙ ap₂ (λ x y. stage_done x y) (sym gone) (sym left) in
-    let n : with_lane k (lane_at e) lanes ≡ with_lane k (after (stayers (shortened (lane_for k m).waiting))) m.lanes
-    = ap (λ x. with_lane k x lanes) (lane ∙ ap after (sym stay)) ∙ sym (again k (after (stayers (shortened (lane_for k m).waiting))) (lane_at d) lanes)
-    ∙ ap (with_lane k (after (stayers (shortened (lane_for k m).waiting)))) (sym lanes-are) in
-    let a : e.agenda ≡ m.agenda ++ leavers (shortened (lane_for k m).waiting) = ag ∙ ap₂ (λ x y. x ++ y) (sym agenda) (sym gone) in
+    let n : with_queue k (lane_at e) lanes ≡ with_queue k (after (stayers (shortened (queue_for k m).waiting))) m.lanes
+    = ap (λ x. with_queue k x lanes) (lane ∙ ap after (sym stay)) ∙ sym (again k (after (stayers (shortened (queue_for k m).waiting))) (lane_at d) lanes)
+    ∙ ap (with_queue k (after (stayers (shortened (queue_for k m).waiting)))) (sym lanes-are) in
+    let a : e.agenda ≡ m.agenda ++ leavers (shortened (queue_for k m).waiting) = ag ∙ ap₂ (λ x y. x ++ y) (sym agenda) (sym gone) in
     same-machine _ _ _ _ _ _ e.flush_runs l n a ∙ ap (λ r. record (ran k after m) { flush_runs = r }) runs
 
-pub run-seen : (at : Within) (k : Kind) (lanes : Kind → Lane) (d : Desk) → machine_at k lanes (ran_at at d) ≡ run_within at k (machine_at k lanes d)
-run-seen submit k lanes d =
+pub run-seen : (at : Cause) (k : Kind) (lanes : Kind → Queue) (d : Desk) → machine_at k lanes (ran_at at d) ≡ run_within at k (machine_at k lanes d)
+run-seen cause.Submit k lanes d =
     let m = machine_at k lanes d in
     let own = own-lane k lanes d in
-    let lane : lane_at (ran_at submit d) ≡ with_run (lane_for k m) (map waiting (others rounds_in (led_all d.waiters)))
+    let lane : lane_at (ran_at cause.Submit d) ≡ with_run (queue_for k m) (map waiting (others rounds_in (led_all d.waiters)))
     = rw own (let a = least-seen d.waiters in let b = length-map d.waiters waiting in rw (a, b) refl) in
-    ran-seen-by k lanes d (ran_at submit d) (with_run (lane_for k m)) m refl refl refl refl refl lane refl
-run-seen flush k lanes d =
+    ran-seen-by k lanes d (ran_at cause.Submit d) (with_run (queue_for k m)) m refl refl refl refl refl lane refl
+run-seen cause.Flush k lanes d =
     let m = machine_at k lanes d in
     let own = own-lane k lanes d in
     let counted : Machine = record m { flush_runs = (m.flush_runs + 1) % count_end } in
-    ran-seen-by k lanes d (ran_at flush d) (with_waiting (lane_for k m)) counted refl refl refl refl refl (rw own refl) refl
+    ran-seen-by k lanes d (ran_at cause.Flush d) (with_waiting (queue_for k m)) counted refl refl refl refl refl (rw own refl) refl
 
 -- a job that joins
-joined-seen : (k : Kind) (lanes : Kind → Lane) (n : ℕ) (a : Ahead) (d : Desk)
+joined-seen : (k : Kind) (lanes : Kind → Queue) (n : ℕ) (a : Ahead) (d : Desk)
     → machine_at k lanes (joined_by n a d)
     ≡ record (machine_at k lanes d) {
-      lanes = with_lane k (with_waiting (lane_for k (machine_at k lanes d)) ((lane_for k (machine_at k lanes d)).waiting ++ waits n a.rounds ∷ [])) (with_lane k (lane_at d) lanes);
+      lanes = with_queue k (with_waiting (queue_for k (machine_at k lanes d)) ((queue_for k (machine_at k lanes d)).waiting ++ waits n a.rounds ∷ [])) (with_queue k (lane_at d) lanes);
     }
 joined-seen k lanes n a d =
     let m = machine_at k lanes d in
     let own = own-lane k lanes d in
-    let lane : lane_at (joined_by n a d) ≡ with_waiting (lane_for k m) ((lane_for k m).waiting ++ waits n a.rounds ∷ [])
+    let lane : lane_at (joined_by n a d) ≡ with_waiting (queue_for k m) ((queue_for k m).waiting ++ waits n a.rounds ∷ [])
     = rw own (ap (λ (r : List Waiting). record { waiting = r; rounds = d.rounds; blocks = d.blocks }) (map-append waiting d.waiters ((n, a) ∷ []))) in
     same-machine _ _ _ _ _ _ d.flush_runs (out-same n d.courses)
-    (ap (λ x. with_lane k x lanes) lane ∙ sym (again k (with_waiting (lane_for k m) ((lane_for k m).waiting ++ waits n a.rounds ∷ [])) (lane_at d) lanes)) refl
+    (ap (λ x. with_queue k x lanes) lane ∙ sym (again k (with_waiting (queue_for k m) ((queue_for k m).waiting ++ waits n a.rounds ∷ [])) (lane_at d) lanes)) refl
 
-either : (at : Within) (k : Kind) (lanes : Kind → Lane) (b : Bool) (d : Desk)
+either : (at : Cause) (k : Kind) (lanes : Kind → Queue) (b : Bool) (d : Desk)
     → machine_at k lanes (cond b (ran_at at d) d) ≡ cond b (run_within at k (machine_at k lanes d)) (machine_at k lanes d)
 either at k lanes true d = run-seen at k lanes d
 either at k lanes false d = refl
 
 -- a job that joins, and the run of the list where it is full then
-pub enters-seen : (at : Within) (k : Kind) (lanes : Kind → Lane) (n : ℕ) (a : Ahead) (d : Desk)
+pub enters-seen : (at : Cause) (k : Kind) (lanes : Kind → Queue) (n : ℕ) (a : Ahead) (d : Desk)
     → machine_at k lanes (ran_if_full at (lanes_of k) (joined_by n a d)) ≡ joined at k n a.rounds (machine_at k lanes d)
 enters-seen at k lanes n a d =
     let j = joined_by n a d in
-    let size : length j.waiters ≡ length (lane_for k (machine_at k lanes j)).waiting
-    = sym (length-map j.waiters waiting) ∙ ap (λ (l : Lane). length l.waiting) (sym (own-lane k lanes j)) in
+    let size : length j.waiters ≡ length (queue_for k (machine_at k lanes j)).waiting
+    = sym (length-map j.waiters waiting) ∙ ap (λ (l : Queue). length l.waiting) (sym (own-lane k lanes j)) in
     either at k lanes (length j.waiters == lanes_of k) j
     ∙ ap (λ (x : ℕ). cond (x == lanes_of k) (run_within at k (machine_at k lanes j)) (machine_at k lanes j)) size
     ∙ ap (run_if_full at k) (joined-seen k lanes n a d)
 
 -- the machine of all kinds, by one of them
-pub by-desk : (k : Kind) (lines after : Kind → Line) (d : Desk) → after k ≡ line d.waiters d.rounds d.blocks → ((j : Kind) → j ≢ k → after j ≡ lines j)
+pub by-desk : (k : Kind) (lines after : Kind → PlacedQueue) (d : Desk) → after k ≡ placed_queue d.waiters d.rounds d.blocks → ((j : Kind) → j ≢ k → after j ≡ lines j)
     → machine_by d.courses d.agenda after d.flush_runs ≡ machine_at k (λ j. lane_seen (lines j)) d
 by-desk k lines after d own others =
     same-machine _ _ _ _ _ _ d.flush_runs refl (fun_ext (λ j. elim (same-kind j k) [
-      | inl e ↦ subst (λ i. lane_seen (after i) ≡ with_lane k (lane_at d) (λ j. lane_seen (lines j)) i) (sym e)
+      | inl e ↦ subst (λ i. lane_seen (after i) ≡ with_queue k (lane_at d) (λ j. lane_seen (lines j)) i) (sym e)
           (ap lane_seen own ∙ sym (given-lane k (lane_at d) (λ j. lane_seen (lines j))))
       | inr ne ↦ ap lane_seen (others j ne) ∙ sym (other-lane k j (lane_at d) (λ j. lane_seen (lines j)) ne)
     ])) refl

@@ -3,9 +3,11 @@ use Rattle.std.proofs.Common.{ℕ, ◌==◌, zero, suc, List, [], ◌∷◌, ◌
 use Rattle.std.proofs.lemmas.Bool.{cond_both}
 use Rattle.mbj_types.specs.declared.kind.Kind.{Kind}
 use Rattle.mbj_types.specs.Kinds.{lanes_of}
-use Rattle.mbj_manager.specs.Rounds.{Pending, at_once, in_lanes}
-use Rattle.mbj_manager.specs.Machine.{Machine, Within, submit, flush, changed, lane_for, run_within, stage_done, with_lane}
-use Rattle.mbj_manager.specs.Course.{course, flush_step_at, flushed, goes_on, in_lanes_next, joined, stages_left, stepped, stepped_at}
+use Rattle.mbj_manager.specs.Machine.Stages.{Pending, at_once, in_lanes}
+use Rattle.mbj_manager.specs.Machine.Queues.{Machine, changed, queue_for, run_within, stage_done, with_queue}
+use Rattle.mbj_manager.specs.declared.lane.Cause.{Cause}
+use Rattle.mbj_manager.specs.declared.lane.Cause.TheVariants as cause
+use Rattle.mbj_manager.specs.Machine.Course.{course, flush_step_at, flushed, goes_on, in_lanes_next, joined, stages_left, stepped, stepped_at}
 use Rattle.mbj_manager.specs.Inside.Standing.{left_at}
 use Rattle.mbj_manager.proofs.Changing.{each-changed}
 use Rattle.mbj_manager.proofs.Standing.{gone}
@@ -22,31 +24,31 @@ module _ (P : List Pending → Type 0) (one_done : (ps : List Pending) → P ps 
   each-done [] left each = each
   each-done (m ∷ ns) left each = each-done ns (changed (drop 1) m left) (each-changed P (drop 1) [] one_done m left each)
 
-  each-run : (at : Within) (k : Kind) (m : Machine) → Each m.left → Each (run_within at k m).left
-  each-run submit k m each = each-done (gone k m) m.left each
-  each-run flush k m each = each-done (gone k m) m.left each
+  each-run : (at : Cause) (k : Kind) (m : Machine) → Each m.left → Each (run_within at k m).left
+  each-run cause.Submit k m each = each-done (gone k m) m.left each
+  each-run cause.Flush k m each = each-done (gone k m) m.left each
 
-  each-joined : (at : Within) (k : Kind) (n rest : ℕ) (m : Machine) → Each m.left → Each (joined at k n rest m).left
+  each-joined : (at : Cause) (k : Kind) (n rest : ℕ) (m : Machine) → Each m.left → Each (joined at k n rest m).left
   each-joined at k n rest m each =
-      let g = record m { lanes = with_lane k (with_waiting (lane_for k m) ((lane_for k m).waiting ++ waits n rest ∷ [])) m.lanes } in
-      cond_both (length (lane_for k g).waiting == lanes_of k) (run_within at k g) g (λ (after : Machine). Each after.left) (λ full. each-run at k g each) (λ room. each)
+      let g = record m { lanes = with_queue k (with_waiting (queue_for k m) ((queue_for k m).waiting ++ waits n rest ∷ [])) m.lanes } in
+      cond_both (length (queue_for k g).waiting == lanes_of k) (run_within at k g) g (λ (after : Machine). Each after.left) (λ full. each-run at k g each) (λ room. each)
 
-  each-going : (at : Within) (n : ℕ) (left : List Pending) (m : Machine) → Each m.left → Each (goes_on at n left m).left
+  each-going : (at : Cause) (n : ℕ) (left : List Pending) (m : Machine) → Each m.left → Each (goes_on at n left m).left
   each-going at n [] m each = each
   each-going at n (at_once ∷ left) m each = each
   each-going at n (in_lanes k rest ∷ left) m each = each-joined at k n rest m each
 
-  each-step : (at : Within) (agenda : List ℕ) (m : Machine) → Each m.left → Each (stepped_at at agenda m).left
+  each-step : (at : Cause) (agenda : List ℕ) (m : Machine) → Each m.left → Each (stepped_at at agenda m).left
   each-step at [] m each = each
   each-step at (n ∷ agenda) m each =
       each-going at n (in_lanes_next (slice_index_or m.left n [])) (record m { left = changed in_lanes_next n m.left; agenda = agenda })
       (each-changed P in_lanes_next [] next n m.left each)
 
-  each-steps : (at : Within) (steps : ℕ) (m : Machine) → Each m.left → Each (after_steps at steps m).left
+  each-steps : (at : Cause) (steps : ℕ) (m : Machine) → Each m.left → Each (after_steps at steps m).left
   each-steps at zero m each = each
   each-steps at (suc steps) m each = each-steps at steps (stepped at m) (each-step at m.agenda m each)
 
-  pub each-course : (at : Within) (m : Machine) → Each m.left → Each (course at m).left
+  pub each-course : (at : Cause) (m : Machine) → Each m.left → Each (course at m).left
   unfolding course
   each-course at m each = each-steps at (steps_ahead m) m each
 
@@ -54,7 +56,7 @@ module _ (P : List Pending → Type 0) (one_done : (ps : List Pending) → P ps 
   each-flush-step None m each = each
   each-flush-step (Some []) m each = each
   each-flush-step (Some (at_once ∷ left)) m each = each
-  each-flush-step (Some (in_lanes k rest ∷ left)) m each = each-course flush (run_within flush k m) (each-run flush k m each)
+  each-flush-step (Some (in_lanes k rest ∷ left)) m each = each-course cause.Flush (run_within cause.Flush k m) (each-run cause.Flush k m each)
 
   each-flush-steps : (steps : ℕ) (m : Machine) → Each m.left → Each (after_flush_steps steps m).left
   each-flush-steps zero m each = each

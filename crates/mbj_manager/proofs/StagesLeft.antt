@@ -3,10 +3,10 @@ use Rattle.std.proofs.Common.{◌≡◌, ◌≢◌, ℕ, ◌+◌, ◌≤◌, Lis
 use Rattle.std.specs.Prelude.{All, drop}
 use Rattle.std.proofs.lemmas.Bool.{cases_eq}
 use Rattle.std.proofs.lemmas.List.Elements.{All-tail}
-use Rattle.mbj_manager.specs.Rounds.{Pending, at_once, in_lanes}
-use Rattle.mbj_manager.specs.Machine.{changed, stage_done}
-use Rattle.mbj_manager.specs.Course.{in_lanes_next, stages_left}
-use Rattle.mbj_manager.specs.Between.{HasRounds}
+use Rattle.mbj_manager.specs.Machine.Stages.{Pending, at_once, in_lanes}
+use Rattle.mbj_manager.specs.Machine.Queues.{changed, stage_done}
+use Rattle.mbj_manager.specs.Machine.Course.{in_lanes_next, stages_left}
+use Rattle.mbj_manager.specs.Machine.Between.{HasRounds}
 use Rattle.mbj_manager.specs.Inside.Standing.{left_at, times}
 use Rattle.mbj_manager.proofs.Changing.{at-changed, other-changed, each-changed, length-changed, sum-changed}
 use Rattle.mbj_manager.proofs.Times.{times-here, times-there}

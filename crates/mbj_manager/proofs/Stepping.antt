@@ -6,10 +6,11 @@ use Rattle.std.proofs.lemmas.List.{length-append}
 use Rattle.std.proofs.lemmas.List.Elements.{All-head, All-push}
 use Rattle.mbj_types.specs.declared.kind.Kind.{Kind}
 use Rattle.mbj_types.specs.Kinds.{lanes_of}
-use Rattle.mbj_manager.specs.Rounds.{Pending, at_once, in_lanes}
-use Rattle.mbj_manager.specs.Machine.{Lane, Machine, Within, changed, lane_for, run_within, with_lane}
-use Rattle.mbj_manager.specs.Course.{in_lanes_next, joined, goes_on, stepped_at, stages_left}
-use Rattle.mbj_manager.specs.Between.{HasRounds, IsPlaced, times_in}
+use Rattle.mbj_manager.specs.Machine.Stages.{Pending, at_once, in_lanes}
+use Rattle.mbj_manager.specs.Machine.Queues.{Queue, Machine, changed, queue_for, run_within, with_queue}
+use Rattle.mbj_manager.specs.declared.lane.Cause.{Cause}
+use Rattle.mbj_manager.specs.Machine.Course.{in_lanes_next, joined, goes_on, stepped_at, stages_left}
+use Rattle.mbj_manager.specs.Machine.Between.{HasRounds, IsPlaced, times_in}
 use Rattle.mbj_manager.specs.Inside.Standing.{IsLane, IsWithin, Stands, left_at, times}
 use Rattle.mbj_manager.proofs.Changing.{at-changed, other-changed, each-changed}
 use Rattle.mbj_manager.proofs.Lanes.{each-lane, given-lane, other-lane, with_waiting, waits}
@@ -27,7 +28,7 @@ record Follows (after m : Machine) : Type 0 where
 
 -- the job n is out of the agenda and goes on; else the machine is as it is after each step
 pub record IsTaken (n : ℕ) (m : Machine) : Type 0 where
-  lanes : (k : Kind) → IsLane k (lane_for k m)
+  lanes : (k : Kind) → IsLane k (queue_for k m)
   stages : (i : ℕ) → All HasRounds (left_at i m.left)
   off : times n m.agenda ≡ 0
   absent : IsPlaced m n []
@@ -36,17 +37,17 @@ pub record IsTaken (n : ℕ) (m : Machine) : Type 0 where
 -- ---- a job joins a list
 
 -- the lanes of the kind k with the job n at the end of the list
-abbrev longer : Kind → ℕ → ℕ → Machine → Lane
-longer k n rest m = with_waiting (lane_for k m) ((lane_for k m).waiting ++ waits n rest ∷ [])
+abbrev longer : Kind → ℕ → ℕ → Machine → Queue
+longer k n rest m = with_waiting (queue_for k m) ((queue_for k m).waiting ++ waits n rest ∷ [])
 
 -- the machine with them
 abbrev pub grown : Kind → ℕ → ℕ → Machine → Machine
-grown k n rest m = record m { lanes = with_lane k (longer k n rest m) m.lanes }
+grown k n rest m = record m { lanes = with_queue k (longer k n rest m) m.lanes }
 
 -- the longer list may be full
-longer-filled : (k : Kind) (n rest : ℕ) (m : Machine) → IsLane k (lane_for k m) → 1 ≤ rest → IsFilled k (longer k n rest m)
+longer-filled : (k : Kind) (n rest : ℕ) (m : Machine) → IsLane k (queue_for k m) → 1 ≤ rest → IsFilled k (longer k n rest m)
 longer-filled k n rest m lane some =
-    let ws = (lane_for k m).waiting in
+    let ws = (queue_for k m).waiting in
     let few = lane.few in
     let more = length-append ws (waits n rest ∷ []) in
     record {
@@ -57,7 +58,7 @@ longer-filled k n rest m lane some =
     }
 
 -- where it isn't full it is as it is after each step
-not-full : (k : Kind) (l : Lane) → IsFilled k l → length l.waiting ≢ lanes_of k → IsLane k l
+not-full : (k : Kind) (l : Queue) → IsFilled k l → length l.waiting ≢ lanes_of k → IsLane k l
 not-full k l filled ne = record { few = (let room = filled.room in omega arith); rests = filled.rests; blocks = filled.blocks }
 
 -- the job that joins stands in that list alone
@@ -65,7 +66,7 @@ joined-placed : (k : Kind) (n rest : ℕ) (m : Machine) (left : List Pending) �
     → IsPlaced (grown k n rest m) n (in_lanes k rest ∷ left)
 joined-placed k n rest m left absent =
     let l = longer k n rest m in
-    let one : times_in n l.waiting ≡ 1 = (let more = times-joined n rest (lane_for k m).waiting in let none = absent k in omega arith) in (
+    let one : times_in n l.waiting ≡ 1 = (let more = times-joined n rest (queue_for k m).waiting in let none = absent k in omega arith) in (
       ap (λ l. times_in n l.waiting) (given-lane k l m.lanes) ∙ one,
       λ j ne. ap (λ l. times_in n l.waiting) (other-lane k j l m.lanes ne) ∙ absent j,
     )
@@ -74,8 +75,8 @@ joined-placed k n rest m left absent =
 joined-other : (k : Kind) (n rest i : ℕ) (m : Machine) → i ≢ n → Stands m i → Stands (grown k n rest m) i
 joined-other k n rest i m ne stands =
     same-stands m (grown k n rest m) i
-    (each-lane (λ j l. times_in i l.waiting ≡ times_in i (lane_for j m).waiting) k (longer k n rest m) m.lanes
-    (times-joined-other i n rest (lane_for k m).waiting (λ e. ne (sym e))) (λ j ne. refl))
+    (each-lane (λ j l. times_in i l.waiting ≡ times_in i (queue_for j m).waiting) k (longer k n rest m) m.lanes
+    (times-joined-other i n rest (queue_for k m).waiting (λ e. ne (sym e))) (λ j ne. refl))
     refl refl stands
 
 -- the machine whose list the job joined may run that list
@@ -96,21 +97,21 @@ grown-ready k n rest left m taken next =
     }
 
 -- a job joins the list of its next stage, which runs where it is full
-joins : (at : Within) (k : Kind) (n rest : ℕ) (left : List Pending) (m : Machine) → IsTaken n m
+joins : (at : Cause) (k : Kind) (n rest : ℕ) (left : List Pending) (m : Machine) → IsTaken n m
     → left_at n m.left ≡ in_lanes k rest ∷ left → Follows (joined at k n rest m) m
 joins at k n rest left m taken next =
     let l = longer k n rest m in
     let g = grown k n rest m in
     let ready = grown-ready k n rest left m taken next in
     let given = given-lane k l m.lanes in
-    cond_both (length (lane_for k g).waiting == lanes_of k) (run_within at k g) g (λ after. Follows after m)
-    (λ full. (let run = run-keeps at k g ready (eqb-true (length (lane_for k g).waiting) (lanes_of k) full) in
+    cond_both (length (queue_for k g).waiting == lanes_of k) (run_within at k g) g (λ after. Follows after m)
+    (λ full. (let run = run-keeps at k g ready (eqb-true (length (queue_for k g).waiting) (lanes_of k) full) in
     let fewer = run.fewer in
     record { within = run.within; fewer = omega arith; ahead = run.ahead }))
     (λ room. record {
       within = record {
         lanes = each-lane IsLane k l m.lanes
-            (subst (IsLane k) given (not-full k (lane_for k g) ready.lane (eqb-false (length (lane_for k g).waiting) (lanes_of k) room)))
+            (subst (IsLane k) given (not-full k (queue_for k g) ready.lane (eqb-false (length (queue_for k g).waiting) (lanes_of k) room)))
             (λ j ne. taken.lanes j);
         stages = ready.stages;
         stands = ready.stands;
@@ -146,7 +147,7 @@ takes n agenda m first within =
     }
 
 -- the job that is taken is finished, or joins the list of its next stage
-goes : (at : Within) (n : ℕ) (ps : List Pending) (m : Machine) → IsTaken n m → left_at n m.left ≡ ps
+goes : (at : Cause) (n : ℕ) (ps : List Pending) (m : Machine) → IsTaken n m → left_at n m.left ≡ ps
     → ((left : List Pending) → ps ≢ at_once ∷ left) → Follows (goes_on at n ps m) m
 goes at n [] m taken next in_lanes_now = record {
   within = record {
@@ -170,7 +171,7 @@ pub record IsStep (after m : Machine) : Type 0 where
   pub ahead : steps_ahead after < steps_ahead m
 
 -- a step that takes the agenda's first job
-pub steps : (at : Within) (n : ℕ) (agenda : List ℕ) (m : Machine) → m.agenda ≡ n ∷ agenda → IsWithin m
+pub steps : (at : Cause) (n : ℕ) (agenda : List ℕ) (m : Machine) → m.agenda ≡ n ∷ agenda → IsWithin m
     → IsStep (stepped_at at (n ∷ agenda) m) m
 steps at n agenda m first within =
     let t = take_first n agenda m in

@@ -4,8 +4,8 @@ use Rattle.std.specs.Prelude.{sum_by, filter}
 use Rattle.std.proofs.lemmas.Bool.{eq-eqb, ne_eqb, cond-true, cond-false}
 use Rattle.std.proofs.lemmas.List.Sums.{sum_by-cons, sum_by_push}
 use Rattle.std.proofs.lemmas.List.Filters.{sum_by-filter_both}
-use Rattle.mbj_manager.specs.Machine.{Waiting, least, shortened, leavers, stayers}
-use Rattle.mbj_manager.specs.Between.{times_in}
+use Rattle.mbj_manager.specs.Machine.Queues.{Waiting, least, shortened, leavers, stayers}
+use Rattle.mbj_manager.specs.Machine.Between.{times_in}
 use Rattle.mbj_manager.specs.Inside.Standing.{times}
 use Rattle.mbj_manager.proofs.Lanes.{waits}
 use Rattle.mbj_manager.proofs.Leaving.{lowered, is_at_end}

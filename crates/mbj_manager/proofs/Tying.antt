@@ -1,4 +1,4 @@
--- Lists, agenda and courses fit still: when an entry goes out, when a list runs, and when what finishes at once is done.
+-- LaneQueues, agenda and courses fit still: when an entry goes out, when a list runs, and when what finishes at once is done.
 use Rattle.std.proofs.Common.{◌≡◌, ◌≢◌, ℕ, ◌<◌, zero, suc, List, [], ◌∷◌, ◌++◌, length, map, cond, eqb, true, false, Option, Some, inl, inr, refl, ap, sym, ◌∙◌, subst, arith, append_assoc}
 use Rattle.std.proofs.lemmas.Bool.{cases_eq, eq-eqb, ne_eqb}
 use Rattle.std.proofs.lemmas.List.{append-nil}
@@ -7,23 +7,20 @@ use Rattle.mbj_lane.specs.Rounds.{least}
 use Rattle.mbj_types.specs.declared.kind.Kind.{Kind}
 use Rattle.mbj_stage.specs.declared.stage.Stage.TheVariants as stage
 use Rattle.mbj_stage.specs.Going.{Going}
-use Rattle.mbj_stage.specs.Handing.{End, handed_out, taken_back}
-use Rattle.mbj_manager.specs.Machine.{changed}
+use Rattle.mbj_stage.specs.Handing.{End, IsNext, IsOut, handed_out, taken_back}
+use Rattle.mbj_manager.specs.Machine.Queues.{changed, put}
 use Rattle.mbj_manager.specs.Inside.Courses.{Follows}
-use Rattle.mbj_manager.specs.Inside.Pairs.{pair_rest}
-use Rattle.mbj_manager.specs.Leads.{IsOut}
-use Rattle.mbj_manager.specs.Inside.Leaving.{At, Gives, IsAbsent, IsNext, finishers, numbers, others, returned}
-use Rattle.mbj_manager.specs.Inside.Desk.{Waiter, Listed, brings_in, led_all, led_waiter, rounds_in}
-use Rattle.mbj_manager.specs.Inside.Lines.{Line, line}
+use Rattle.mbj_manager.specs.Inside.Leaving.{At, Gives, IsAbsent, finishers, numbers, others, returned}
+use Rattle.mbj_manager.specs.Inside.Desk.{Listed, led_all}
+use Rattle.mbj_manager.specs.Inside.PlacedQueue.{PlacedQueue, Waiter, brings_in, led_waiter, placed_queue, pair_rest, rounds_in}
 use Rattle.mbj_manager.specs.Inside.Held.{IsHere, IsTied, find_in, found, owed_from}
 use Rattle.mbj_manager.proofs.Changing.{length-changed}
-use Rattle.mbj_manager.proofs.Finishing.{at-changed}
+use Rattle.mbj_manager.proofs.Finishing.{at-changed, listed-changed, zero-or}
 use Rattle.mbj_manager.proofs.Joining.{at-here}
-use Rattle.mbj_manager.proofs.KindLines.{put, put-case, put-self}
-use Rattle.mbj_manager.proofs.Listing.{absent-listed, joined-listed, listed-changed}
+use Rattle.mbj_manager.proofs.KindLines.{put-case, put-self}
+use Rattle.mbj_manager.proofs.Listing.{absent-listed, joined-listed}
 use Rattle.mbj_manager.proofs.Owing.{back-out, owed-back, owed-enter, owed_from-same}
 use Rattle.mbj_manager.proofs.RingCourses.{at-below}
-use Rattle.mbj_manager.proofs.SeenAhead.{zero-or}
 
 -- ---- items
 
@@ -90,20 +87,20 @@ found-other : (front : List Waiter) (w : Waiter) (ws : List Waiter) (m : ℕ) �
 found-other [] w ws m h = rw (ne_eqb m w.0 h) refl
 found-other (v ∷ front) w ws m h = ap (λ (r : Option End). cond (eqb m v.0) (Some v.1.brings) r) (found-other front w ws m h)
 
-find-put-self : (k : Kind) (m : ℕ) (l : Line) (lines : Kind → Line) → find_in (put k l lines) k m ≡ found m l.waiters
-find-put-self k m l lines = ap (λ (x : Line). found m x.waiters) (put-self k l lines)
+find-put-self : (k : Kind) (m : ℕ) (l : PlacedQueue) (lines : Kind → PlacedQueue) → find_in (put k l lines) k m ≡ found m l.waiters
+find-put-self k m l lines = ap (λ (x : PlacedQueue). found m x.waiters) (put-self k l lines)
 
-find-put-other : (k j : Kind) (m : ℕ) (l : Line) (lines : Kind → Line) → found m (lines k).waiters ≡ found m l.waiters
+find-put-other : (k j : Kind) (m : ℕ) (l : PlacedQueue) (lines : Kind → PlacedQueue) → found m (lines k).waiters ≡ found m l.waiters
     → find_in lines j m ≡ find_in (put k l lines) j m
 find-put-other k j m l lines h = elim (put-case k j l lines) [
-  | inl e ↦ subst (λ i. found m (lines i).waiters ≡ found m l.waiters) (sym e.0) h ∙ sym (ap (λ (x : Line). found m x.waiters) e.1)
-  | inr e ↦ sym (ap (λ (x : Line). found m x.waiters) e.1)
+  | inl e ↦ subst (λ i. found m (lines i).waiters ≡ found m l.waiters) (sym e.0) h ∙ sym (ap (λ (x : PlacedQueue). found m x.waiters) e.1)
+  | inr e ↦ sym (ap (λ (x : PlacedQueue). found m x.waiters) e.1)
 ]
 
 -- ---- steps
 
 -- lists with the same jobs in them
-pub tied-same : (cs : List Going) (agenda : List ℕ) (lines lines' : Kind → Line) → ((j : Kind) → (lines j).waiters ≡ (lines' j).waiters)
+pub tied-same : (cs : List Going) (agenda : List ℕ) (lines lines' : Kind → PlacedQueue) → ((j : Kind) → (lines j).waiters ≡ (lines' j).waiters)
     → IsTied cs agenda lines → IsTied cs agenda lines'
 tied-same cs agenda lines lines' h y = record {
   listed = λ j. subst (Listed j cs) (h j) (y.listed j);
@@ -112,7 +109,7 @@ tied-same cs agenda lines lines' h y = record {
 }
 
 -- what finishes at once is done
-pub tied-follow : (c : Going) (p : ℕ) (cs : List Going) (agenda : List ℕ) (lines : Kind → Line) → At (Follows c) p cs → At IsHere p cs → IsTied cs agenda lines
+pub tied-follow : (c : Going) (p : ℕ) (cs : List Going) (agenda : List ℕ) (lines : Kind → PlacedQueue) → At (Follows c) p cs → At IsHere p cs → IsTied cs agenda lines
     → IsTied (changed (λ _. c) p cs) agenda lines
 tied-follow c p cs agenda lines f was y =
     let len = length-changed (λ (_ : Going). c) p cs in
@@ -126,13 +123,13 @@ tied-follow c p cs agenda lines f was y =
     }
 
 -- an entry goes out and joins the list of its kind
-pub tied-join : (k : Kind) (w : Waiter) (r b : ℕ) (cs : List Going) (agenda : List ℕ) (lines : Kind → Line) → At (IsNext k) w.0 cs
+pub tied-join : (k : Kind) (w : Waiter) (r b : ℕ) (cs : List Going) (agenda : List ℕ) (lines : Kind → PlacedQueue) → At (IsNext k) w.0 cs
     → At (Gives k w.1.rounds w.1.brings) w.0 cs → IsTied cs agenda lines
-    → IsTied (changed handed_out w.0 cs) agenda (put k (line ((lines k).waiters ++ w ∷ []) r b) lines)
+    → IsTied (changed handed_out w.0 cs) agenda (put k (placed_queue ((lines k).waiters ++ w ∷ []) r b) lines)
 tied-join k w r b cs agenda lines next gives y =
     let p = w.0 in
     let cs' = changed handed_out p cs in
-    let l = line ((lines k).waiters ++ w ∷ []) r b in
+    let l = placed_queue ((lines k).waiters ++ w ∷ []) r b in
     let len = length-changed handed_out p cs in
     let was = at-here k p cs next in
     record {
@@ -141,23 +138,23 @@ tied-join k w r b cs agenda lines next gives y =
         | inr e ↦ rw e.1 (listed-changed j handed_out p cs (lines j).waiters (absent-listed j p cs (lines j).waiters was (y.listed j)) (y.listed j))
       ];
       here = λ n lt a.
-          (let own = absent-front n (lines k).waiters w (subst (λ (x : Line). IsAbsent n x.waiters) (put-self k l lines) (a k)) in
+          (let own = absent-front n (lines k).waiters w (subst (λ (x : PlacedQueue). IsAbsent n x.waiters) (put-self k l lines) (a k)) in
           at-changed IsHere handed_out n p cs (λ e. own.0 (sym e)) (y.here n (omega arith) (λ j. elim (put-case k j l lines) [
             | inl e ↦ subst (λ i. IsAbsent n (lines i).waiters) (sym e.0) own.1
-            | inr e ↦ subst (λ (x : Line). IsAbsent n x.waiters) e.1 (a j)
+            | inr e ↦ subst (λ (x : PlacedQueue). IsAbsent n x.waiters) e.1 (a j)
           ])));
       below = All-weaker (λ n. n < length cs) (λ n. n < length cs') (λ n h. omega arith) agenda y.below;
     }
 
 -- an entry comes back, and its course joins the agenda
-pub tied-give : (k : Kind) (front : List Waiter) (w : Waiter) (ws : List Waiter) (cs : List Going) (agenda : List ℕ) (lines : Kind → Line)
+pub tied-give : (k : Kind) (front : List Waiter) (w : Waiter) (ws : List Waiter) (cs : List Going) (agenda : List ℕ) (lines : Kind → PlacedQueue)
     → (lines k).waiters ≡ front ++ w ∷ ws → IsTied cs agenda lines
-    → IsTied (changed (taken_back w.1.brings) w.0 cs) (agenda ++ w.0 ∷ []) (put k (line (front ++ ws) 0 0) lines)
+    → IsTied (changed (taken_back w.1.brings) w.0 cs) (agenda ++ w.0 ∷ []) (put k (placed_queue (front ++ ws) 0 0) lines)
 tied-give k front w ws cs agenda lines l y =
     let p = w.0 in
     let f : Going → Going = taken_back w.1.brings in
     let cs' = changed f p cs in
-    let new = line (front ++ ws) 0 0 in
+    let new = placed_queue (front ++ ws) 0 0 in
     let len = length-changed f p cs in
     let o = middle k cs front w ws (subst (Listed k cs) l (y.listed k)) in
     let lt = at-below (IsOut k w.1.brings) p cs o.out in
@@ -170,30 +167,30 @@ tied-give k front w ws cs agenda lines l y =
         | inl e ↦ subst (λ (m : ℕ). At IsHere m cs') (sym e) (at-new (IsOut k w.1.brings) IsHere f p cs (λ c h. back-out k w.1.brings c h) o.out)
         | inr ne ↦ at-changed IsHere f n p cs ne (y.here n (omega arith) (λ j. elim (put-case k j new lines) [
           | inl e ↦ subst (λ i. IsAbsent n (lines i).waiters) (sym e.0) (subst (IsAbsent n) (sym l)
-              (absent-with n front w ws (λ e. ne (sym e)) (subst (λ (x : Line). IsAbsent n x.waiters) (put-self k new lines) (a k))))
-          | inr e ↦ subst (λ (x : Line). IsAbsent n x.waiters) e.1 (a j)
+              (absent-with n front w ws (λ e. ne (sym e)) (subst (λ (x : PlacedQueue). IsAbsent n x.waiters) (put-self k new lines) (a k))))
+          | inr e ↦ subst (λ (x : PlacedQueue). IsAbsent n x.waiters) e.1 (a j)
         ]))
       ];
       below = All-push (λ n. n < length cs') agenda p (All-weaker (λ n. n < length cs) (λ n. n < length cs') (λ n h. omega arith) agenda y.below) (omega arith);
     }
 
 -- what is owed then
-owed-give : (k : Kind) (front : List Waiter) (w : Waiter) (ws : List Waiter) (cs : List Going) (agenda : List ℕ) (lines : Kind → Line)
+owed-give : (k : Kind) (front : List Waiter) (w : Waiter) (ws : List Waiter) (cs : List Going) (agenda : List ℕ) (lines : Kind → PlacedQueue)
     → (lines k).waiters ≡ front ++ w ∷ ws → IsTied cs agenda lines
-    → owed_from 0 (find_in lines) cs ≡ owed_from 0 (find_in (put k (line (front ++ ws) 0 0) lines)) (changed (taken_back w.1.brings) w.0 cs)
+    → owed_from 0 (find_in lines) cs ≡ owed_from 0 (find_in (put k (placed_queue (front ++ ws) 0 0) lines)) (changed (taken_back w.1.brings) w.0 cs)
 owed-give k front w ws cs agenda lines l y =
     let o = middle k cs front w ws (subst (Listed k cs) l (y.listed k)) in
-    let new = line (front ++ ws) 0 0 in
+    let new = placed_queue (front ++ ws) 0 0 in
     owed-back 0 w.0 w.0 (find_in lines) (find_in (put k new lines)) k w.1.brings cs (omega arith)
     (λ j m h. find-put-other k j m new lines (ap (found m) l ∙ found-other front w ws m h))
     (ap (found w.0) l ∙ found-here front w ws o.absent) o.out
 
-pub owed-join : (k : Kind) (w : Waiter) (r b : ℕ) (cs : List Going) (lines : Kind → Line) → IsAbsent w.0 (lines k).waiters → At (IsNext k) w.0 cs
+pub owed-join : (k : Kind) (w : Waiter) (r b : ℕ) (cs : List Going) (lines : Kind → PlacedQueue) → IsAbsent w.0 (lines k).waiters → At (IsNext k) w.0 cs
     → At (Gives k w.1.rounds w.1.brings) w.0 cs
-    → owed_from 0 (find_in lines) cs ≡ owed_from 0 (find_in (put k (line ((lines k).waiters ++ w ∷ []) r b) lines)) (changed handed_out w.0 cs)
+    → owed_from 0 (find_in lines) cs ≡ owed_from 0 (find_in (put k (placed_queue ((lines k).waiters ++ w ∷ []) r b) lines)) (changed handed_out w.0 cs)
 owed-join k w r b cs lines a next gives =
     let ws = (lines k).waiters in
-    let new = line (ws ++ w ∷ []) r b in
+    let new = placed_queue (ws ++ w ∷ []) r b in
     let n : ws ++ [] ≡ ws = append-nil ws in
     owed-enter 0 w.0 w.0 (find_in lines) (find_in (put k new lines)) k w.1.rounds w.1.brings cs (omega arith)
     (λ j m h. find-put-other k j m new lines (ap (found m) (sym n) ∙ sym (found-other ws w [] m h)))
@@ -201,50 +198,50 @@ owed-join k w r b cs lines a next gives =
 
 -- ---- all whose rounds are done leave
 
-pub record Leaves (k : Kind) (cs : List Going) (agenda : List ℕ) (lines : Kind → Line) (front ws : List Waiter) : Type 0 where
+pub record Leaves (k : Kind) (cs : List Going) (agenda : List ℕ) (lines : Kind → PlacedQueue) (front ws : List Waiter) : Type 0 where
   pub tied : IsTied (returned brings_in cs (finishers rounds_in ws)) (agenda ++ numbers (finishers rounds_in ws))
-      (put k (line (front ++ others rounds_in ws) 0 0) lines)
+      (put k (placed_queue (front ++ others rounds_in ws) 0 0) lines)
   pub owed : owed_from 0 (find_in lines) cs
-      ≡ owed_from 0 (find_in (put k (line (front ++ others rounds_in ws) 0 0) lines)) (returned brings_in cs (finishers rounds_in ws))
+      ≡ owed_from 0 (find_in (put k (placed_queue (front ++ others rounds_in ws) 0 0) lines)) (returned brings_in cs (finishers rounds_in ws))
 
 -- the lists of which the kind's has these jobs
-put-waits : (k : Kind) (l : Line) (lines : Kind → Line) → (lines k).waiters ≡ l.waiters → (j : Kind) → (lines j).waiters ≡ (put k l lines j).waiters
+put-waits : (k : Kind) (l : PlacedQueue) (lines : Kind → PlacedQueue) → (lines k).waiters ≡ l.waiters → (j : Kind) → (lines j).waiters ≡ (put k l lines j).waiters
 put-waits k l lines h j = elim (put-case k j l lines) [
-  | inl e ↦ subst (λ i. (lines i).waiters ≡ l.waiters) (sym e.0) h ∙ sym (ap (λ (x : Line). x.waiters) e.1)
-  | inr e ↦ sym (ap (λ (x : Line). x.waiters) e.1)
+  | inl e ↦ subst (λ i. (lines i).waiters ≡ l.waiters) (sym e.0) h ∙ sym (ap (λ (x : PlacedQueue). x.waiters) e.1)
+  | inr e ↦ sym (ap (λ (x : PlacedQueue). x.waiters) e.1)
 ]
 
-pub put-twice : (k : Kind) (l m : Line) (lines : Kind → Line) (j : Kind) → (put k l (put k m lines) j).waiters ≡ (put k l lines j).waiters
+pub put-twice : (k : Kind) (l m : PlacedQueue) (lines : Kind → PlacedQueue) (j : Kind) → (put k l (put k m lines) j).waiters ≡ (put k l lines j).waiters
 put-twice k l m lines j = elim (put-case k j l lines) [
-  | inl e ↦ ap (λ (x : Line). x.waiters) (subst (λ i. put k l (put k m lines) i ≡ l) (sym e.0) (put-self k l (put k m lines))) ∙ sym (ap (λ (x : Line). x.waiters) e.1)
+  | inl e ↦ ap (λ (x : PlacedQueue). x.waiters) (subst (λ i. put k l (put k m lines) i ≡ l) (sym e.0) (put-self k l (put k m lines))) ∙ sym (ap (λ (x : PlacedQueue). x.waiters) e.1)
   | inr e ↦ elim (put-case k j l (put k m lines)) [
     | inl d ↦ absurd (e.0 d.0)
     | inr d ↦ elim (put-case k j m lines) [
       | inl b ↦ absurd (e.0 b.0)
-      | inr b ↦ ap (λ (x : Line). x.waiters) (d.1 ∙ b.1 ∙ sym e.1)
+      | inr b ↦ ap (λ (x : PlacedQueue). x.waiters) (d.1 ∙ b.1 ∙ sym e.1)
     ]
   ]
 ]
 
-leaves-none : (k : Kind) (cs : List Going) (agenda : List ℕ) (lines : Kind → Line) (front : List Waiter) → (lines k).waiters ≡ front ++ []
+leaves-none : (k : Kind) (cs : List Going) (agenda : List ℕ) (lines : Kind → PlacedQueue) (front : List Waiter) → (lines k).waiters ≡ front ++ []
     → IsTied cs agenda lines → Leaves k cs agenda lines front []
 leaves-none k cs agenda lines front l y =
-    let same = put-waits k (line (front ++ []) 0 0) lines l in
+    let same = put-waits k (placed_queue (front ++ []) 0 0) lines l in
     record {
-      tied = subst (λ (a : List ℕ). IsTied cs a (put k (line (front ++ []) 0 0) lines)) (sym (append-nil agenda))
-          (tied-same cs agenda lines (put k (line (front ++ []) 0 0) lines) same y);
-      owed = owed_from-same 0 (find_in lines) (find_in (put k (line (front ++ []) 0 0) lines)) cs (λ j m h. ap (found m) (same j));
+      tied = subst (λ (a : List ℕ). IsTied cs a (put k (placed_queue (front ++ []) 0 0) lines)) (sym (append-nil agenda))
+          (tied-same cs agenda lines (put k (placed_queue (front ++ []) 0 0) lines) same y);
+      owed = owed_from-same 0 (find_in lines) (find_in (put k (placed_queue (front ++ []) 0 0) lines)) cs (λ j m h. ap (found m) (same j));
     }
 
-leaves-first : (k : Kind) (cs : List Going) (agenda : List ℕ) (lines : Kind → Line) (front : List Waiter) (w : Waiter) (ws : List Waiter)
+leaves-first : (k : Kind) (cs : List Going) (agenda : List ℕ) (lines : Kind → PlacedQueue) (front : List Waiter) (w : Waiter) (ws : List Waiter)
     → (lines k).waiters ≡ front ++ w ∷ ws → IsTied cs agenda lines → eqb w.1.rounds 0 ≡ true
-    → Leaves k (changed (taken_back w.1.brings) w.0 cs) (agenda ++ w.0 ∷ []) (put k (line (front ++ ws) 0 0) lines) front ws
+    → Leaves k (changed (taken_back w.1.brings) w.0 cs) (agenda ++ w.0 ∷ []) (put k (placed_queue (front ++ ws) 0 0) lines) front ws
     → Leaves k cs agenda lines front (w ∷ ws)
 leaves-first k cs agenda lines front w ws l y z i =
     let f : Going → Going = taken_back w.1.brings in
     let cs' = changed f w.0 cs in
-    let mid = line (front ++ ws) 0 0 in
-    let end = line (front ++ others rounds_in ws) 0 0 in
+    let mid = placed_queue (front ++ ws) 0 0 in
+    let end = placed_queue (front ++ others rounds_in ws) 0 0 in
     let cs2 = returned brings_in cs' (finishers rounds_in ws) in
     let same = put-twice k end mid lines in
     let tied = tied-same cs2 _ (put k end (put k mid lines)) (put k end lines) same i.tied in
@@ -253,7 +250,7 @@ leaves-first k cs agenda lines front w ws l y z i =
     ∙ owed_from-same 0 (find_in (put k end (put k mid lines))) (find_in (put k end lines)) cs2 (λ j m h. ap (found m) (same j)) in
     record { tied = rw z tied'; owed = rw z ow }
 
-leaves-later : (k : Kind) (cs : List Going) (agenda : List ℕ) (lines : Kind → Line) (front : List Waiter) (w : Waiter) (ws : List Waiter) → eqb w.1.rounds 0 ≡ false
+leaves-later : (k : Kind) (cs : List Going) (agenda : List ℕ) (lines : Kind → PlacedQueue) (front : List Waiter) (w : Waiter) (ws : List Waiter) → eqb w.1.rounds 0 ≡ false
     → Leaves k cs agenda lines (front ++ w ∷ []) ws → Leaves k cs agenda lines front (w ∷ ws)
 leaves-later k cs agenda lines front w ws z i =
     let a = append_assoc front (w ∷ []) (others rounds_in ws) in
@@ -261,13 +258,13 @@ leaves-later k cs agenda lines front w ws z i =
     let o = i.owed in
     record { tied = rw z (rw a at t); owed = rw z (rw a at o) }
 
-pub leaves : (k : Kind) (cs : List Going) (agenda : List ℕ) (lines : Kind → Line) (front ws : List Waiter) → (lines k).waiters ≡ front ++ ws → IsTied cs agenda lines
+pub leaves : (k : Kind) (cs : List Going) (agenda : List ℕ) (lines : Kind → PlacedQueue) (front ws : List Waiter) → (lines k).waiters ≡ front ++ ws → IsTied cs agenda lines
     → Leaves k cs agenda lines front ws
 leaves k cs agenda lines front [] l y = leaves-none k cs agenda lines front l y
 leaves k cs agenda lines front (w ∷ ws) l y = elim (zero-or w.1.rounds) [
   | inl z ↦ leaves-first k cs agenda lines front w ws l y z.1
-      (leaves k (changed (taken_back w.1.brings) w.0 cs) (agenda ++ w.0 ∷ []) (put k (line (front ++ ws) 0 0) lines) front ws
-      (ap (λ (x : Line). x.waiters) (put-self k (line (front ++ ws) 0 0) lines)) (tied-give k front w ws cs agenda lines l y))
+      (leaves k (changed (taken_back w.1.brings) w.0 cs) (agenda ++ w.0 ∷ []) (put k (placed_queue (front ++ ws) 0 0) lines) front ws
+      (ap (λ (x : PlacedQueue). x.waiters) (put-self k (placed_queue (front ++ ws) 0 0) lines)) (tied-give k front w ws cs agenda lines l y))
   | inr z ↦ leaves-later k cs agenda lines front w ws z
       (leaves k cs agenda lines (front ++ w ∷ []) ws (l ∙ sym (append_assoc front (w ∷ []) ws)) y)
 ]
@@ -290,10 +287,10 @@ led-found : (n m : ℕ) (ws : List Waiter) → found n ws ≡ found n (map (led_
 led-found n m [] = refl
 led-found n m (w ∷ ws) = ap (λ (r : Option End). cond (eqb n w.0) (Some w.1.brings) r) (led-found n m ws)
 
-tied-led : (k : Kind) (m : ℕ) (cs : List Going) (agenda : List ℕ) (lines : Kind → Line) → IsTied cs agenda lines
-    → IsTied cs agenda (put k (line (map (led_waiter m) (lines k).waiters) 0 0) lines)
+tied-led : (k : Kind) (m : ℕ) (cs : List Going) (agenda : List ℕ) (lines : Kind → PlacedQueue) → IsTied cs agenda lines
+    → IsTied cs agenda (put k (placed_queue (map (led_waiter m) (lines k).waiters) 0 0) lines)
 tied-led k m cs agenda lines y =
-    let l = line (map (led_waiter m) (lines k).waiters) 0 0 in
+    let l = placed_queue (map (led_waiter m) (lines k).waiters) 0 0 in
     record {
       listed = λ j. elim (put-case k j l lines) [
         | inl e ↦ rw (e.1, e.0) (led-listed k cs m (lines k).waiters (y.listed k))
@@ -301,28 +298,28 @@ tied-led k m cs agenda lines y =
       ];
       here = λ n lt a. y.here n lt (λ j. elim (put-case k j l lines) [
         | inl e ↦ subst (λ i. IsAbsent n (lines i).waiters) (sym e.0)
-            (absent-led m n (lines k).waiters (subst (λ (x : Line). IsAbsent n x.waiters) (put-self k l lines) (a k)))
-        | inr e ↦ subst (λ (x : Line). IsAbsent n x.waiters) e.1 (a j)
+            (absent-led m n (lines k).waiters (subst (λ (x : PlacedQueue). IsAbsent n x.waiters) (put-self k l lines) (a k)))
+        | inr e ↦ subst (λ (x : PlacedQueue). IsAbsent n x.waiters) e.1 (a j)
       ]);
       below = y.below;
     }
 
 -- the list of a kind runs
-pub record Ran (k : Kind) (cs : List Going) (agenda : List ℕ) (lines : Kind → Line) : Type 0 where
+pub record Ran (k : Kind) (cs : List Going) (agenda : List ℕ) (lines : Kind → PlacedQueue) : Type 0 where
   pub tied : IsTied (returned brings_in cs (finishers rounds_in (led_all (lines k).waiters))) (agenda ++ numbers (finishers rounds_in (led_all (lines k).waiters)))
-      (put k (line (others rounds_in (led_all (lines k).waiters)) 0 0) lines)
+      (put k (placed_queue (others rounds_in (led_all (lines k).waiters)) 0 0) lines)
   pub owed : owed_from 0 (find_in lines) cs
-      ≡ owed_from 0 (find_in (put k (line (others rounds_in (led_all (lines k).waiters)) 0 0) lines))
+      ≡ owed_from 0 (find_in (put k (placed_queue (others rounds_in (led_all (lines k).waiters)) 0 0) lines))
       (returned brings_in cs (finishers rounds_in (led_all (lines k).waiters)))
 
-pub ran-list : (k : Kind) (cs : List Going) (agenda : List ℕ) (lines : Kind → Line) → IsTied cs agenda lines → Ran k cs agenda lines
+pub ran-list : (k : Kind) (cs : List Going) (agenda : List ℕ) (lines : Kind → PlacedQueue) → IsTied cs agenda lines → Ran k cs agenda lines
 ran-list k cs agenda lines y =
     let m = least (pair_rest rounds_in) (lines k).waiters in
     let ws = led_all (lines k).waiters in
-    let l = line ws 0 0 in
-    let end = line (others rounds_in ws) 0 0 in
+    let l = placed_queue ws 0 0 in
+    let end = placed_queue (others rounds_in ws) 0 0 in
     let lines' = put k l lines in
-    let i = leaves k cs agenda lines' [] ws (ap (λ (x : Line). x.waiters) (put-self k l lines)) (tied-led k m cs agenda lines y) in
+    let i = leaves k cs agenda lines' [] ws (ap (λ (x : PlacedQueue). x.waiters) (put-self k l lines)) (tied-led k m cs agenda lines y) in
     let same = put-twice k end l lines in
     let cs2 = returned brings_in cs (finishers rounds_in ws) in
     record {

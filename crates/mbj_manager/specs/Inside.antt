@@ -1,11 +1,12 @@
-pub mod Pairs
+pub mod PlacedQueue
 pub mod Leaving
 pub mod Courses
-pub mod Cause
 pub mod Desk
-pub mod Lines
+pub mod LaneQueues
 pub mod Steps
 pub mod Standing
 pub mod Held
 pub mod Added
 pub mod Settled
+pub mod Code
+pub mod RunsFew

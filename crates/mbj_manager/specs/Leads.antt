@@ -1,17 +1,11 @@
 -- The entries in a manager's lanes: of which jobs they are, and where they lead.
-use Rattle.std.specs.Prelude.{◌≡◌, List, [], ◌∷◌, length, Some, slice_get}
+use Rattle.std.specs.Prelude.{◌≡◌, List, [], ◌∷◌, Some, slice_get}
 use Rattle.mbj_types.specs.declared.kind.Kind.{Kind}
-use Rattle.mbj_stage.specs.Going.{Going, stage_of}
-use Rattle.mbj_stage.specs.Handing.{End, owed_with}
-use Rattle.mbj_stage.specs.declared.stage.Stage.TheVariants as stage
-use Rattle.mbj_manager.specs.Rounds.{pending}
-use Rattle.mbj_manager.specs.Machine.{Waiting}
+use Rattle.mbj_stage.specs.Going.{Going}
+use Rattle.mbj_stage.specs.Handing.{End, IsOut, owed_with}
+use Rattle.mbj_manager.specs.Machine.Stages.{pending}
+use Rattle.mbj_manager.specs.Machine.Queues.{Waiting}
 use Rattle.mbj_manager.specs.State.{ManagerState}
-
--- the course has an entry of the kind out, which brings back the end e
-pub record IsOut (k : Kind) (e : End) (c : Going) : Type 0 where
-  pub stage : stage_of c ≡ stage.Lane k
-  pub packet : c.out ≡ Some (length e.packet)
 
 -- an entry that ends as e is that of the job w, which waits in the lanes of the kind k
 pub record Leads (k : Kind) (h : ManagerState) (e : End) (w : Waiting) : Type 0 where

@@ -1,11 +1,7 @@
-pub mod Rounds
 pub mod Machine
-pub mod Course
-pub mod Counts
 pub mod State
-pub mod Code
 pub mod Calls
-pub mod Between
+pub mod Kept
 pub mod Leads
 pub mod Inside
 pub mod Lending

@@ -6,9 +6,10 @@ use Rattle.mbj_types.specs.Blank.{blank}
 use Rattle.mbj_types.specs.Result.{result_of}
 use Rattle.mbj_ring.specs.declared.ring.TheConstants.{CELLS}
 use Rattle.mbj_stage.specs.Going.{begun}
-use Rattle.mbj_manager.specs.Rounds.{Pending, pending}
-use Rattle.mbj_manager.specs.Machine.{submit, Waiting, Lane, Machine, idle_lane, lane_for}
-use Rattle.mbj_manager.specs.Course.{course, flushed}
+use Rattle.mbj_manager.specs.Machine.Stages.{Pending, pending}
+use Rattle.mbj_manager.specs.Machine.Queues.{Waiting, Queue, Machine, idle_queue, queue_for}
+use Rattle.mbj_manager.specs.declared.lane.Cause.TheVariants as cause
+use Rattle.mbj_manager.specs.Machine.Course.{course, flushed}
 
 pub record ManagerState : Type 0 where
   -- the results of the jobs that are submitted and not given back, in the order of submission
@@ -20,7 +21,7 @@ pub record ManagerState : Type 0 where
 
 -- a manager with no job and no open one, and with lanes in which no job waits and nothing ran
 abbrev pub new_manager : ManagerState
-new_manager = record { owed = []; opened = None; machine = record { left = []; lanes = λ k. idle_lane; agenda = []; flush_runs = 0 } }
+new_manager = record { owed = []; opened = None; machine = record { left = []; lanes = λ k. idle_queue; agenda = []; flush_runs = 0 } }
 
 -- ---- get_next
 
@@ -35,13 +36,13 @@ with_open h j = record h { opened = Some j }
 -- ---- giving back
 
 -- the lanes of a kind once the first job left: each number is one lower
-abbrev pub renumbered : Lane → Lane
+abbrev pub renumbered : Queue → Queue
 renumbered l = record l { waiting = map (λ (w : Waiting). record w { number = w.number - 1 }) l.waiting }
 
 -- the earliest job's result is given back where that job is finished
 abbrev pub given_at : List Done → List (List Pending) → ManagerState → Option Done × ManagerState
 given_at (d ∷ ds) ([] ∷ left) h =
-    (Some d, record h { owed = ds; machine = record h.machine { left = left; lanes = λ k. renumbered (lane_for k h.machine) } })
+    (Some d, record h { owed = ds; machine = record h.machine { left = left; lanes = λ k. renumbered (queue_for k h.machine) } })
 given_at ds left h = (None, h)
 
 abbrev pub after_get_completed : ManagerState → Option Done × ManagerState
@@ -59,7 +60,7 @@ abbrev pub with_job : Job → ManagerState → ManagerState
 with_job j h = record {
   owed = h.owed ++ result_of j ∷ [];
   opened = None;
-  machine = course submit (record h.machine {
+  machine = course cause.Submit (record h.machine {
     left = h.machine.left ++ pending (begun j) ∷ [];
     agenda = length h.owed ∷ [];
   });

@@ -1,7 +1,8 @@
 ghost use Rattle.std.specs.Prelude.{List};
-ghost use Rattle.mbj_manager.specs.Machine.{Machine};
+ghost use Rattle.mbj_manager.specs.Machine.Queues.{Machine};
 ghost use Rattle.mbj_manager.specs.Calls.{Call};
-ghost use Rattle.mbj_manager.specs.Between.{AreKept, IsBetweenCalls, KeepsMachines};
+ghost use Rattle.mbj_manager.specs.Kept.{AreKept};
+ghost use Rattle.mbj_manager.specs.Machine.Between.{IsBetweenCalls, KeepsMachines};
 
 /// A law: from every machine between two calls, the course of a submission and a flush lead to a machine between two calls,
 /// whatever stages the submitted job has, where each of them in lanes takes a round at least; so the course ends with nothing

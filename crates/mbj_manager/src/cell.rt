@@ -2,17 +2,15 @@ ghost use Rattle.std.specs.Prelude.{◌≡◌, ◌≢◌, ◌≤◌, None, Some,
 ghost use Rattle.std.specs.Borrow.{sem};
 ghost use Rattle.mbj_lane.specs.Rounds.{end_of};
 ghost use Rattle.mbj_stage.specs.Going.{begun, owed, stage_of};
-ghost use Rattle.mbj_stage.specs.Handing.{handed_out, taken_back};
+ghost use Rattle.mbj_stage.specs.Handing.{IsNext, IsOut, handed_out, taken_back};
 ghost use Rattle.mbj_stage.specs.declared.stage.Stage.TheVariants as stage;
-ghost use Rattle.mbj_manager.specs.Rounds.{pending};
-ghost use Rattle.mbj_manager.specs.Course.{in_lanes_next};
+ghost use Rattle.mbj_manager.specs.Machine.Stages.{pending};
+ghost use Rattle.mbj_manager.specs.Machine.Course.{in_lanes_next};
 ghost use Rattle.mbj_manager.specs.Lending.{LendsJobIn};
 ghost use Rattle.mbj_manager.specs.Inside.Courses.{Follows, IsGoing, IsOpen, course_in, job_in};
-ghost use Rattle.mbj_manager.specs.Leads.{IsOut};
-ghost use Rattle.mbj_manager.specs.Inside.Leaving.{Gives, IsNext};
+ghost use Rattle.mbj_manager.specs.Inside.Leaving.{Gives};
 
-use crate::feed::Feed;
-use mbj_stage::{Course, Stage};
+use mbj_stage::{Course, Feed, Stage};
 use mbj_types::{Done, Job};
 use std::alloc::Global;
 use std::mem;
@@ -91,6 +89,7 @@ impl Cell {
 
     /// Hands the packet of the course out.
     pub(crate) fn hand_out<K: Feed>(&mut self) -> K::Entry
+        requires fits { K.fits }
         requires going { IsGoing self.old }
         requires next { IsNext K.kind (course_in self.old) }
         ensures going { IsGoing self.new }

@@ -1,5 +1,5 @@
-ghost use Rattle.mbj_manager.specs.Machine.{Machine};
-ghost use Rattle.mbj_manager.specs.Counts.{CountsApart};
+ghost use Rattle.mbj_manager.specs.Machine.Queues.{Machine};
+ghost use Rattle.mbj_manager.specs.Machine.Counts.{CountsApart};
 
 /// A law: whatever waits in the lanes, what a submission runs is counted as rounds and blocks of full lists, and what a
 /// flush runs is counted as runs of a flush, also a list that fills within its course.

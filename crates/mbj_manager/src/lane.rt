@@ -1,25 +1,23 @@
 //! The work on one list, with the courses in the ring and the agenda: the same for every kind.
 
-ghost use Rattle.std.specs.Prelude.{◌≡◌, ℕ, ◌+◌, ◌<◌, ◌≤◌, ◌∷◌, [], ◌++◌, length, map, All, vec_capacity};
-ghost use Rattle.mbj_lane.specs.Rounds.{end_of, least};
+ghost use Rattle.std.specs.Prelude.{◌≡◌, ◌+◌, ◌<◌, ◌≤◌, length, vec_capacity};
+ghost use Rattle.mbj_types.specs.Kinds.{lanes_of};
+ghost use Rattle.mbj_lane.specs.Rounds.{end_of};
 ghost use Rattle.mbj_ring.specs.declared.ring.TheConstants.{CELLS};
 ghost use Rattle.mbj_stage.specs.Going.{stage_of};
-ghost use Rattle.mbj_stage.specs.Handing.{handed_out, taken_back};
-ghost use Rattle.mbj_manager.specs.Machine.{changed};
+ghost use Rattle.mbj_stage.specs.Handing.{IsNext, IsOut, handed_out, taken_back};
+ghost use Rattle.mbj_manager.specs.Machine.Queues.{changed};
 ghost use Rattle.mbj_manager.specs.Inside.Courses.{AreCourses, Follows, IsSameRing, courses, number_in};
-ghost use Rattle.mbj_manager.specs.Leads.{IsOut};
-ghost use Rattle.mbj_manager.specs.Inside.Leaving.{AreOut, At, Gives, IsNext, finishers, numbers, others, returned};
-ghost use Rattle.mbj_manager.specs.Inside.Pairs.{led_pair, pair_rest, paired};
-ghost use Rattle.mbj_manager.specs.Inside.Desk.{Enters, Desk, IsReady, MayEnter, ahead_all, desk, ran_at};
-ghost use Rattle.mbj_manager.specs.Inside.Cause.{within};
+ghost use Rattle.mbj_manager.specs.Inside.Leaving.{At, Gives};
+ghost use Rattle.mbj_manager.specs.Inside.PlacedQueue.{numbered};
+ghost use Rattle.mbj_manager.specs.Inside.Desk.{Enters, IsReady, Listed, MayEnter, desk_at, left_now, ran_at};
 ghost use Rattle.mbj_stage.specs.Going.{Going};
 
 use crate::agenda::Agenda;
 use crate::cell::Cell;
-use crate::feed::Feed;
-use crate::queue::Queue;
+use crate::lane_queue::LaneQueue;
 use mbj_ring::Ring;
-use mbj_stage::Stage;
+use mbj_stage::{Feed, Stage};
 
 /// The call within which a list runs.
 #[derive(Clone, Copy)]
@@ -43,6 +41,7 @@ pub(crate) fn run_nows(ring: &mut Ring<Cell>, place: u32) -> Stage
 
 /// Hands an entry out of the course at a place.
 fn hand_out<K: Feed>(ring: &mut Ring<Cell>, place: u32) -> K::Entry
+    requires fits { K.fits }
     requires ring { AreCourses ring.old }
     requires place { place < CELLS }
     requires next { At (IsNext K.kind) (number_in ring.old place) (courses ring.old) }
@@ -69,22 +68,14 @@ fn take_back<K: Feed>(ring: &mut Ring<Cell>, place: u32, entry: K::Entry)
 }
 
 /// Those whose rounds are done go back to their courses, which join the agenda, in list order.
-fn leave<K: Feed>(queue: &mut Queue<K>, ring: &mut Ring<Cell>, agenda: &mut Agenda)
+fn leave<K: Feed>(queue: &mut LaneQueue<K>, ring: &mut Ring<Cell>, agenda: &mut Agenda)
     requires ring { AreCourses ring.old }
-    requires ready { AreOut K.round K.rest_of K.brings K.kind (courses ring.old)
-        (paired (number_in ring.old) queue.old.places.items queue.old.lanes.entries.items) }
-    requires room { length agenda.old.places.items + length (paired (number_in ring.old) queue.old.places.items queue.old.lanes.entries.items)
-        ≤ vec_capacity agenda.old.places }
+    requires listed { Listed K.kind (courses ring.old) (numbered (number_in ring.old) queue.old.waiters) }
+    requires room { length agenda.old.places.items + length queue.old.waiters ≤ vec_capacity agenda.old.places }
     ensures ring { IsSameRing ring.new ring.old }
-    ensures waits { paired (number_in ring.old) queue.new.places.items queue.new.lanes.entries.items
-        ≡ others K.rest_of (paired (number_in ring.old) queue.old.places.items queue.old.lanes.entries.items) }
-    ensures back { courses ring.new ≡ returned K.brings (courses ring.old)
-        (finishers K.rest_of (paired (number_in ring.old) queue.old.places.items queue.old.lanes.entries.items)) }
-    ensures agenda { map (number_in ring.old) agenda.new.places.items ≡ map (number_in ring.old) agenda.old.places.items
-        ++ numbers (finishers K.rest_of (paired (number_in ring.old) queue.old.places.items queue.old.lanes.entries.items)) }
     ensures room { vec_capacity agenda.new.places ≡ vec_capacity agenda.old.places }
-    ensures rounds { queue.new.rounds ≡ queue.old.rounds }
-    ensures blocks { queue.new.blocks ≡ queue.old.blocks }
+    ensures left { desk_at (number_in ring.old) (courses ring.new) agenda.new.places.items queue.new 0
+        ≡ left_now (desk_at (number_in ring.old) (courses ring.old) agenda.old.places.items queue.old 0) }
 {
     'leaving: loop {
         match queue.take() {
@@ -97,105 +88,54 @@ fn leave<K: Feed>(queue: &mut Queue<K>, ring: &mut Ring<Cell>, agenda: &mut Agen
     }
 }
 
-/// The list runs for its least rest, which is the answer, and those whose rounds are done leave.
-fn run_lane<K: Feed>(queue: &mut Queue<K>, ring: &mut Ring<Cell>, agenda: &mut Agenda) -> u32
-    requires ring { AreCourses ring.old }
-    requires some { 0 < length queue.old.lanes.entries.items }
-    requires rests { All (λ e. 1 ≤ K.rest_of e) queue.old.lanes.entries.items }
-    requires ready { AreOut K.round K.rest_of K.brings K.kind (courses ring.old)
-        (paired (number_in ring.old) queue.old.places.items queue.old.lanes.entries.items) }
-    requires room { length agenda.old.places.items + length (paired (number_in ring.old) queue.old.places.items queue.old.lanes.entries.items)
-        ≤ vec_capacity agenda.old.places }
-    ensures ring { IsSameRing ring.new ring.old }
-    ensures least { result ≡ least (pair_rest K.rest_of) (paired (number_in ring.old) queue.old.places.items queue.old.lanes.entries.items) }
-    ensures waits { paired (number_in ring.old) queue.new.places.items queue.new.lanes.entries.items
-        ≡ others K.rest_of (map (led_pair K.round result) (paired (number_in ring.old) queue.old.places.items queue.old.lanes.entries.items)) }
-    ensures back { courses ring.new ≡ returned K.brings (courses ring.old) (finishers K.rest_of
-        (map (led_pair K.round result) (paired (number_in ring.old) queue.old.places.items queue.old.lanes.entries.items))) }
-    ensures agenda { map (number_in ring.old) agenda.new.places.items ≡ map (number_in ring.old) agenda.old.places.items ++ numbers (finishers K.rest_of
-        (map (led_pair K.round result) (paired (number_in ring.old) queue.old.places.items queue.old.lanes.entries.items))) }
-    ensures room { vec_capacity agenda.new.places ≡ vec_capacity agenda.old.places }
-    ensures rounds { queue.new.rounds ≡ queue.old.rounds }
-    ensures blocks { queue.new.blocks ≡ queue.old.blocks }
-{
-    let m = queue.run();
-    leave(queue, ring, agenda);
-    m
-}
-
-/// The list runs within a submit, where all its lanes are in use, or within a flush. The run goes into the counts of that call.
+/// The list runs for its least rest, within a submit, where all its lanes are in use, or within a flush; and those whose rounds
+/// are done leave. The run goes into the counts of that call.
 pub(crate) fn run_within<K: Feed>(
     cause: Cause,
-    queue: &mut Queue<K>,
+    queue: &mut LaneQueue<K>,
     flush_runs: &mut u64,
     ring: &mut Ring<Cell>,
     agenda: &mut Agenda,
 )
     requires ring { AreCourses ring.old }
-    requires ready { IsReady K.kind (desk (courses ring.old) (map (number_in ring.old) agenda.old.places.items)
-        (ahead_all K.round K.rest_of K.brings (paired (number_in ring.old) queue.old.places.items queue.old.lanes.entries.items))
-        queue.old.rounds queue.old.blocks flush_runs.old) (vec_capacity agenda.old.places) }
-    requires full { within cause ≡ Rattle.mbj_manager.specs.Machine.submit → length queue.old.lanes.entries.items ≡ K.LANES }
+    requires ready { IsReady K.kind (desk_at (number_in ring.old) (courses ring.old) agenda.old.places.items queue.old flush_runs.old)
+        (vec_capacity agenda.old.places) }
+    requires full { cause ≡ Cause.Submit → length queue.old.waiters ≡ lanes_of K.kind }
     ensures ring { IsSameRing ring.new ring.old }
     ensures room { vec_capacity agenda.new.places ≡ vec_capacity agenda.old.places }
-    ensures ran { desk (courses ring.new) (map (number_in ring.old) agenda.new.places.items)
-        (ahead_all K.round K.rest_of K.brings (paired (number_in ring.old) queue.new.places.items queue.new.lanes.entries.items))
-        queue.new.rounds queue.new.blocks flush_runs.new
-        ≡ ran_at (within cause) (desk (courses ring.old) (map (number_in ring.old) agenda.old.places.items)
-        (ahead_all K.round K.rest_of K.brings (paired (number_in ring.old) queue.old.places.items queue.old.lanes.entries.items))
-        queue.old.rounds queue.old.blocks flush_runs.old) }
+    ensures ran { desk_at (number_in ring.old) (courses ring.new) agenda.new.places.items queue.new flush_runs.new
+        ≡ ran_at cause (desk_at (number_in ring.old) (courses ring.old) agenda.old.places.items queue.old flush_runs.old) }
 {
-    let m = run_lane(queue, ring, agenda);
+    let m = queue.run();
+    leave(queue, ring, agenda);
     match cause {
         Cause::Submit => queue.count(m),
         Cause::Flush => *flush_runs = flush_runs.wrapping_add(1),
     }
 }
 
-/// The course at a place hands its entry out, which joins the end of the list.
-fn join<K: Feed>(queue: &mut Queue<K>, ring: &mut Ring<Cell>, place: u32)
-    requires ring { AreCourses ring.old }
-    requires place { place < CELLS }
-    requires next { At (IsNext K.kind) (number_in ring.old place) (courses ring.old) }
-    requires free { length queue.old.lanes.entries.items < K.LANES }
-    ensures ring { IsSameRing ring.new ring.old }
-    ensures out { courses ring.new ≡ changed handed_out (number_in ring.old place) (courses ring.old) }
-    ensures entry { (e : K.Entry) × ((1 ≤ K.rest_of e)
-        × ((paired (number_in ring.old) queue.new.places.items queue.new.lanes.entries.items
-        ≡ paired (number_in ring.old) queue.old.places.items queue.old.lanes.entries.items ++ (number_in ring.old place, e) ∷ [])
-        × At (Gives K.kind (K.rest_of e) (K.brings (end_of K.round K.rest_of e))) (number_in ring.old place) (courses ring.old))) }
-    ensures rounds { queue.new.rounds ≡ queue.old.rounds }
-    ensures blocks { queue.new.blocks ≡ queue.old.blocks }
-{
-    let entry = hand_out::<K>(ring, place);
-    queue.join(place, entry);
-}
-
 /// The course at a place goes into the list, which runs where it is full then.
 pub(crate) fn enter<K: Feed>(
     cause: Cause,
-    queue: &mut Queue<K>,
+    queue: &mut LaneQueue<K>,
     flush_runs: &mut u64,
     ring: &mut Ring<Cell>,
     agenda: &mut Agenda,
     place: u32,
 )
+    requires fits { K.fits }
     requires ring { AreCourses ring.old }
     requires place { place < CELLS }
-    requires may { MayEnter K.LANES K.kind (number_in ring.old place) (desk (courses ring.old) (map (number_in ring.old) agenda.old.places.items)
-        (ahead_all K.round K.rest_of K.brings (paired (number_in ring.old) queue.old.places.items queue.old.lanes.entries.items))
-        queue.old.rounds queue.old.blocks flush_runs.old) (vec_capacity agenda.old.places) }
+    requires may { MayEnter (lanes_of K.kind) K.kind (number_in ring.old place)
+        (desk_at (number_in ring.old) (courses ring.old) agenda.old.places.items queue.old flush_runs.old) (vec_capacity agenda.old.places) }
     ensures ring { IsSameRing ring.new ring.old }
     ensures room { vec_capacity agenda.new.places ≡ vec_capacity agenda.old.places }
-    ensures entered { Enters (within cause) K.LANES K.kind (number_in ring.old place)
-        (desk (courses ring.old) (map (number_in ring.old) agenda.old.places.items)
-        (ahead_all K.round K.rest_of K.brings (paired (number_in ring.old) queue.old.places.items queue.old.lanes.entries.items))
-        queue.old.rounds queue.old.blocks flush_runs.old)
-        (desk (courses ring.new) (map (number_in ring.old) agenda.new.places.items)
-        (ahead_all K.round K.rest_of K.brings (paired (number_in ring.old) queue.new.places.items queue.new.lanes.entries.items))
-        queue.new.rounds queue.new.blocks flush_runs.new) }
+    ensures entered { Enters cause (lanes_of K.kind) K.kind (number_in ring.old place)
+        (desk_at (number_in ring.old) (courses ring.old) agenda.old.places.items queue.old flush_runs.old)
+        (desk_at (number_in ring.old) (courses ring.new) agenda.new.places.items queue.new flush_runs.new) }
 {
-    join(queue, ring, place);
+    let entry = hand_out::<K>(ring, place);
+    queue.join(place, entry);
     if queue.len() == K::LANES {
         run_within(cause, queue, flush_runs, ring, agenda);
     }

@@ -7,13 +7,10 @@ mod between;
 mod calls;
 mod cell;
 mod counts;
-mod feed;
-mod kernels;
 mod lane;
-mod listed;
-mod lists;
+mod lane_queue;
+mod lane_queues;
 mod manager;
-mod queue;
 mod queued;
 mod works;
 
@@ -25,20 +22,13 @@ pub use agenda::Agenda;
 #[doc(hidden)]
 pub use cell::Cell;
 pub use counts::counts_are_kept_apart;
-pub use feed::Feed;
-pub use kernels::{
-    Cbc128Kernel, Cbc192Kernel, Cbc256Kernel, Cmac128Kernel, Cmac256Kernel, HmacSha1Kernel,
-    HmacSha256Kernel, HmacSha512Kernel,
-};
 #[doc(hidden)]
 pub use lane::Cause;
 #[doc(hidden)]
-pub use listed::Listed;
+pub use lane_queue::LaneQueue;
 #[doc(hidden)]
-pub use lists::Lists;
+pub use lane_queues::LaneQueues;
 pub use manager::Manager;
-#[doc(hidden)]
-pub use queue::{Place, Queue};
 pub use queued::Queued;
 #[doc(hidden)]
 pub use works::Works;

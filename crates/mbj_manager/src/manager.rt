@@ -1,13 +1,13 @@
-ghost use Rattle.std.specs.Prelude.{◌≡◌, ◌↔◌, ◌*◌, ◌%◌, ◌<◌, ◌≤◌, ◌++◌, [], None, IfOk, OnOk, OnErr, IsSome, IsTrue, length, map, option_to_list};
+ghost use Rattle.std.specs.Prelude.{◌≡◌, ◌↔◌, ◌*◌, ◌%◌, ◌<◌, ◌≤◌, ◌∷◌, ◌++◌, [], None, IfOk, OnOk, OnErr, IsSome, IsTrue, length, map, option_to_list};
 ghost use Rattle.std.specs.Bool.{OnFalse};
 ghost use Rattle.std.specs.Borrow.{sem};
 ghost use Rattle.mbj_types.specs.Result.{result_of};
 ghost use Rattle.mbj_ring.specs.declared.ring.TheConstants.{CELLS};
 ghost use Rattle.mbj_types.specs.Kinds.{lanes_of};
 ghost use Rattle.mbj_lane.specs.Rounds.{end_of};
-ghost use Rattle.mbj_manager.specs.Machine.{count_end, lane_for, rest_of};
+ghost use Rattle.mbj_manager.specs.Machine.Queues.{count_end, queue_for, rest_of};
 ghost use Rattle.mbj_manager.specs.Leads.{AreLed};
-ghost use Rattle.mbj_manager.specs.Counts.{RisesUpTo};
+ghost use Rattle.mbj_manager.specs.Machine.Counts.{RisesUpTo};
 ghost use Rattle.mbj_manager.specs.State.{IsEarliestFinished, entered, after_flush, after_get_completed, lent, new_manager, after_making_room, after_submit, with_open};
 ghost use Rattle.mbj_manager.specs.Lending.{LendsNext, LendsOpen};
 
@@ -36,7 +36,7 @@ pub struct Manager {
 impl Model for Manager {
     ghost use Rattle.mbj_manager.specs.State.{ManagerState};
     ghost use Rattle.std.specs.Coded.{codes};
-    ghost use Rattle.mbj_manager.specs.Code.{state_code};
+    ghost use Rattle.mbj_manager.specs.Inside.Code.{state_code};
     ghost use Rattle.mbj_manager.specs.Inside.Settled.{IsSettled};
 
     ghost Value = { ManagerState };
@@ -134,6 +134,20 @@ impl Manager {
         self.get_completed()
     }
 
+    /// Submits a job: it goes into the next cell, in the place of an open job, and is submitted as it is. It takes no memory.
+    ///
+    /// Answers `None` exactly where, after that, the earliest job isn't finished.
+    pub fn submit_job(&mut self, job: Job) -> Option<Done>
+        requires { length self.old.owed < CELLS }
+        ensures result { result ≡ (after_submit (with_open self.old job)).0 }
+        ensures state { self.new ≡ (after_submit (with_open self.old job)).1 }
+        ensures none { (result ≡ None) ↔ ¬ IsEarliestFinished (entered (with_open self.old job)) }
+        ensures order { option_to_list result ++ self.new.owed ≡ self.old.owed ++ result_of job ∷ [] }
+    {
+        self.put_next(job);
+        self.submit()
+    }
+
     /// The open job goes last among those that are submitted, and the course is followed from it.
     fn enter(&mut self)
         requires { IsSome self.old.opened }
@@ -157,7 +171,7 @@ impl Manager {
         self.works.give()
     }
 
-    /// Finishes the earliest job, and gives it back. An open cell stays as it is. Lists run twice at most for each job that
+    /// Finishes the earliest job, and gives it back. An open cell stays as it is. LaneQueues run twice at most for each job that
     /// is submitted and not given back.
     ///
     /// Answers `None` exactly where no job is submitted and not given back.
@@ -183,7 +197,7 @@ impl Manager {
 
     /// How many jobs of a kind wait for lanes.
     pub fn waiting(&self, kind: Kind) -> u32
-        ensures { result ≡ length (lane_for kind self.now.machine).waiting }
+        ensures { result ≡ length (queue_for kind self.now.machine).waiting }
     {
         self.works.waiting(kind)
     }
@@ -192,24 +206,24 @@ impl Manager {
     /// many rounds left as its job, whose course has it out; and once they are done, the course owes the result that the job
     /// is owed.
     pub fn lanes<K: Queued>(&self) -> &Lanes<K>
-        ensures rests { map K.rest_of result.now.entries.items ≡ map rest_of (lane_for K.kind self.now.machine).waiting }
+        ensures rests { map K.rest_of result.now.entries.items ≡ map rest_of (queue_for K.kind self.now.machine).waiting }
         ensures led { AreLed K.kind self.now (map (λ e. K.brings (end_of K.round K.rest_of e)) result.now.entries.items)
-            (lane_for K.kind self.now.machine).waiting }
+            (queue_for K.kind self.now.machine).waiting }
     {
         self.works.lanes::<K>()
     }
 
     /// How many rounds the full runs of a kind took, modulo 2^64.
     pub fn rounds(&self, kind: Kind) -> u64
-        ensures { result ≡ (lane_for kind self.now.machine).rounds }
+        ensures { result ≡ (queue_for kind self.now.machine).rounds }
     {
         self.works.rounds(kind)
     }
 
     /// How many blocks went through the full runs of a kind, modulo 2^64: as many as its lanes in each round.
     pub fn blocks(&self, kind: Kind) -> u64
-        ensures blocks { result ≡ (lane_for kind self.now.machine).blocks }
-        ensures full { result ≡ (lanes_of kind * (lane_for kind self.now.machine).rounds) % count_end }
+        ensures blocks { result ≡ (queue_for kind self.now.machine).blocks }
+        ensures full { result ≡ (lanes_of kind * (queue_for kind self.now.machine).rounds) % count_end }
     {
         self.works.blocks(kind)
     }

@@ -1,8 +1,66 @@
-//! The kinds whose list a manager shows.
+//! The list of each kind, by the kernel of the kind.
 
-use crate::listed::Listed;
+ghost use Rattle.std.specs.Prelude.{◌≡◌};
+ghost use Rattle.mbj_manager.specs.Inside.LaneQueues.{placed_in};
+
+use crate::lane_queue::LaneQueue;
+use crate::lane_queues::LaneQueues;
+use mbj_cbc::CbcKernel;
+use mbj_cmac::CmacKernel;
+use mbj_hmac::{Hmac1Kernel, Hmac256Kernel, Hmac512Kernel};
+use mbj_stage::Feed;
 
 /// The kernel of a kind, whose list is one of a manager's.
-pub trait Queued: Listed {}
+pub trait Queued: Feed {
+    /// The list of the kind.
+    fn queue(lists: &LaneQueues) -> &LaneQueue<Self>
+        ensures { result.now ≡ placed_in Self.kind lists.now };
+}
 
-impl<K: Listed> Queued for K {}
+impl Queued for CbcKernel<10> {
+    fn queue(lists: &LaneQueues) -> &LaneQueue<Self> {
+        &lists.cbc128
+    }
+}
+
+impl Queued for CbcKernel<12> {
+    fn queue(lists: &LaneQueues) -> &LaneQueue<Self> {
+        &lists.cbc192
+    }
+}
+
+impl Queued for CbcKernel<14> {
+    fn queue(lists: &LaneQueues) -> &LaneQueue<Self> {
+        &lists.cbc256
+    }
+}
+
+impl Queued for CmacKernel<10> {
+    fn queue(lists: &LaneQueues) -> &LaneQueue<Self> {
+        &lists.cmac128
+    }
+}
+
+impl Queued for CmacKernel<14> {
+    fn queue(lists: &LaneQueues) -> &LaneQueue<Self> {
+        &lists.cmac256
+    }
+}
+
+impl Queued for Hmac1Kernel {
+    fn queue(lists: &LaneQueues) -> &LaneQueue<Self> {
+        &lists.hmac_sha1
+    }
+}
+
+impl Queued for Hmac256Kernel {
+    fn queue(lists: &LaneQueues) -> &LaneQueue<Self> {
+        &lists.hmac_sha256
+    }
+}
+
+impl Queued for Hmac512Kernel {
+    fn queue(lists: &LaneQueues) -> &LaneQueue<Self> {
+        &lists.hmac_sha512
+    }
+}

@@ -5,22 +5,22 @@ ghost use Rattle.mbj_types.specs.Result.{result_of};
 ghost use Rattle.mbj_ring.specs.declared.ring.TheConstants.{CELLS};
 ghost use Rattle.mbj_stage.specs.Going.{begun, stage_of};
 ghost use Rattle.mbj_stage.specs.declared.stage.Stage.TheVariants as stage;
-ghost use Rattle.mbj_manager.specs.Rounds.{pending};
+ghost use Rattle.mbj_manager.specs.Machine.Stages.{pending};
 ghost use Rattle.mbj_lane.specs.Rounds.{end_of};
-ghost use Rattle.mbj_manager.specs.Machine.{count_end, flush, lane_for, rest_of, run_within};
+ghost use Rattle.mbj_manager.specs.Machine.Queues.{count_end, queue_for, rest_of, run_within};
 ghost use Rattle.mbj_manager.specs.Leads.{AreLed};
-ghost use Rattle.mbj_manager.specs.Course.{course, flushed, stages_left, stepped};
+ghost use Rattle.mbj_manager.specs.Machine.Course.{course, flushed, stages_left, stepped};
 ghost use Rattle.mbj_manager.specs.State.{after_get_completed, lent, new_manager, with_open};
 ghost use Rattle.mbj_manager.specs.Lending.{LendsOpenJob};
 ghost use Rattle.mbj_manager.specs.Inside.Added.{added, first_lane};
-ghost use Rattle.mbj_manager.specs.Inside.Cause.{within};
 ghost use Rattle.mbj_manager.specs.Inside.Courses.{AreCourses, courses, first_stage};
+ghost use Rattle.mbj_manager.specs.Inside.Held.{agenda_room};
 ghost use Rattle.mbj_manager.specs.Inside.Steps.{steps_ahead};
 
 use crate::agenda::Agenda;
 use crate::cell::Cell;
 use crate::lane::{Cause, run_nows};
-use crate::lists::Lists;
+use crate::lane_queues::LaneQueues;
 use crate::queued::Queued;
 use mbj_lane::Lanes;
 use mbj_ring::{CELLS, Ring};
@@ -30,21 +30,29 @@ use std::alloc::{AllocError, Global};
 use std::marker::Model;
 
 /// How many jobs stand in agenda and lists at most: in each list one fewer than it has lanes, and one that goes on.
-const AGENDA_ROOM: usize = 5 * 15 + 2 * 7 + 3 + 1;
+fn agenda_room() -> usize
+    ensures { result ≡ agenda_room }
+{
+    let mut room = 1;
+    'kinds: for kind in Kind::ALL {
+        room += kind.lanes() as usize - 1;
+    }
+    room
+}
 
 /// The courses of the jobs, those that stand between two stages, and those that wait for lanes.
 #[derive(Drop)]
 pub struct Works {
     ring: Ring<Cell>,
     agenda: Agenda,
-    lists: Lists,
+    lists: LaneQueues,
 }
 
 impl Model for Works {
     ghost use Rattle.std.specs.Prelude.{vec_capacity};
     ghost use Rattle.mbj_manager.specs.State.{ManagerState};
     ghost use Rattle.std.specs.Coded.{codes};
-    ghost use Rattle.mbj_manager.specs.Code.{state_code};
+    ghost use Rattle.mbj_manager.specs.Inside.Code.{state_code};
     ghost use Rattle.mbj_manager.specs.Inside.Held.{held, IsHeld};
 
     ghost Value = { ManagerState };
@@ -74,8 +82,8 @@ impl Works {
     {
         Ok(Works {
             ring: Ring::new(alloc)?,
-            agenda: Agenda::new(alloc, AGENDA_ROOM)?,
-            lists: Lists::new(alloc)?,
+            agenda: Agenda::new(alloc, agenda_room())?,
+            lists: LaneQueues::new(alloc)?,
         })
     }
 
@@ -133,7 +141,7 @@ impl Works {
     /// Takes the agenda's first job: what finishes at once is done, and it goes on.
     fn advance(&mut self, cause: Cause)
         requires { self.old.machine.agenda ≢ [] }
-        ensures step { self.new ≡ record (self.old) { machine = stepped (within cause) self.old.machine } }
+        ensures step { self.new ≡ record (self.old) { machine = stepped cause self.old.machine } }
         ensures fewer { steps_ahead self.new.machine < steps_ahead self.old.machine }
         ensures stages { stages_left self.new.machine.left ≤ stages_left self.old.machine.left }
     {
@@ -149,7 +157,7 @@ impl Works {
 
     /// Follows the course until nobody stands between two stages.
     pub(crate) fn settle(&mut self, cause: Cause)
-        ensures course { self.new ≡ record (self.old) { machine = course (within cause) self.old.machine } }
+        ensures course { self.new ≡ record (self.old) { machine = course cause self.old.machine } }
         ensures idle { self.new.machine.agenda ≡ [] }
         ensures stages { stages_left self.new.machine.left ≤ stages_left self.old.machine.left }
     {
@@ -175,7 +183,7 @@ impl Works {
     fn run_first(&mut self, kind: Kind)
         requires idle { self.old.machine.agenda ≡ [] }
         requires first { first_lane self.old.machine.left ≡ Some kind }
-        ensures ran { self.new ≡ record (self.old) { machine = run_within flush kind self.old.machine } }
+        ensures ran { self.new ≡ record (self.old) { machine = run_within Cause.Flush kind self.old.machine } }
         ensures stages { stages_left self.new.machine.left < stages_left self.old.machine.left }
     {
         self.lists.run(kind, &mut self.ring, &mut self.agenda);
@@ -237,28 +245,28 @@ impl Works {
     }
 
     pub(crate) fn lanes<K: Queued>(&self) -> &Lanes<K>
-        ensures rests { map K.rest_of result.now.entries.items ≡ map rest_of (lane_for K.kind self.now.machine).waiting }
+        ensures rests { map K.rest_of result.now.entries.items ≡ map rest_of (queue_for K.kind self.now.machine).waiting }
         ensures led { AreLed K.kind self.now (map (λ e. K.brings (end_of K.round K.rest_of e)) result.now.entries.items)
-            (lane_for K.kind self.now.machine).waiting }
+            (queue_for K.kind self.now.machine).waiting }
     {
-        &K::queue(&self.lists).lanes
+        K::queue(&self.lists).lanes()
     }
 
     pub(crate) fn waiting(&self, kind: Kind) -> u32
-        ensures { result ≡ length (lane_for kind self.now.machine).waiting }
+        ensures { result ≡ length (queue_for kind self.now.machine).waiting }
     {
         self.lists.len(kind)
     }
 
     pub(crate) fn rounds(&self, kind: Kind) -> u64
-        ensures { result ≡ (lane_for kind self.now.machine).rounds }
+        ensures { result ≡ (queue_for kind self.now.machine).rounds }
     {
         self.lists.rounds(kind)
     }
 
     pub(crate) fn blocks(&self, kind: Kind) -> u64
-        ensures blocks { result ≡ (lane_for kind self.now.machine).blocks }
-        ensures full { result ≡ (lanes_of kind * (lane_for kind self.now.machine).rounds) % count_end }
+        ensures blocks { result ≡ (queue_for kind self.now.machine).blocks }
+        ensures full { result ≡ (lanes_of kind * (queue_for kind self.now.machine).rounds) % count_end }
     {
         self.lists.blocks(kind)
     }

@@ -4,7 +4,7 @@ use Rattle.mbj_types.specs.declared.job.Job.{Job}
 use Rattle.mbj_types.specs.declared.kind.Kind.{Kind}
 use Rattle.mbj_types.specs.Result.{result_of}
 use Rattle.mbj_stage.specs.Going.{begun}
-use Rattle.mbj_manager.specs.Rounds.{Pending, at_once, in_lanes, pending}
+use Rattle.mbj_manager.specs.Machine.Stages.{Pending, at_once, in_lanes, pending}
 use Rattle.mbj_manager.specs.State.{ManagerState}
 
 -- the job that was open goes last, and stands in the agenda

@@ -6,8 +6,8 @@ use Rattle.mbj_stage.specs.declared.stage.Stage.{Stage}
 use Rattle.mbj_stage.specs.declared.stage.Stage.TheVariants as stage
 use Rattle.mbj_ring.specs.declared.ring.TheConstants.{CELLS}
 use Rattle.mbj_ring.specs.Ring.{RingState}
-use Rattle.mbj_manager.specs.Rounds.{pending}
-use Rattle.mbj_manager.specs.Course.{in_lanes_next}
+use Rattle.mbj_manager.specs.Machine.Stages.{pending}
+use Rattle.mbj_manager.specs.Machine.Course.{in_lanes_next}
 use Rattle.mbj_manager.specs.declared.cell.Cell.{Cell}
 use Rattle.mbj_manager.specs.declared.cell.Cell.TheVariants as cell
 

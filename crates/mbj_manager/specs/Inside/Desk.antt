@@ -1,38 +1,14 @@
--- The list of one kind with the courses and the agenda, and what joining and running make of them. An entry is seen as its
--- rest and as its end, so that there is one type for the lists of all kinds.
-use Rattle.std.specs.Prelude.{◌≡◌, ℕ, ◌+◌, ◌*◌, ◌-◌, ◌%◌, ◌<◌, ◌≤◌, ◌==◌, List, [], ◌∷◌, ◌++◌, length, map, All, if◌then◌else◌}
+-- The list of one kind with the courses and the agenda, and what joining and running make of them.
+use Rattle.std.specs.Prelude.{◌≡◌, ℕ, ◌+◌, ◌*◌, ◌%◌, ◌<◌, ◌≤◌, ◌==◌, List, [], ◌∷◌, ◌++◌, length, map, All, if◌then◌else◌}
 use Rattle.mbj_types.specs.declared.kind.Kind.{Kind}
-use Rattle.mbj_lane.specs.Rounds.{end_of, least}
+use Rattle.mbj_lane.specs.Rounds.{least}
 use Rattle.mbj_stage.specs.Going.{Going}
-use Rattle.mbj_stage.specs.Handing.{End, handed_out}
-use Rattle.mbj_manager.specs.Machine.{Within, submit, flush, changed, count_end}
-use Rattle.mbj_manager.specs.Leads.{IsOut}
-use Rattle.mbj_manager.specs.Inside.Leaving.{At, Gives, IsAbsent, IsNext, finishers, numbers, others, returned}
-use Rattle.mbj_manager.specs.Inside.Pairs.{pair_rest}
-
--- an entry seen without its kind: how many rounds are left, and what it brings back at its end
-pub record Ahead : Type 0 where
-  pub rounds : ℕ
-  pub brings : End
-
--- a job's number and its entry
-abbrev pub Waiter : Type 0
-Waiter = ℕ × Ahead
-
-abbrev pub rounds_in : Ahead → ℕ
-rounds_in a = a.rounds
-
-abbrev pub brings_in : Ahead → End
-brings_in a = a.brings
-
-abbrev pub ahead : {E : Type 0} → (E → E) → (E → ℕ) → (E → End) → ℕ × E → Waiter
-ahead round rest brings p = (p.0, record { rounds = rest p.1; brings = brings (end_of round rest p.1) })
-
-abbrev pub ahead_all : {E : Type 0} → (E → E) → (E → ℕ) → (E → End) → List (ℕ × E) → List Waiter
-ahead_all round rest brings ps = map (ahead round rest brings) ps
-
-abbrev pub led_waiter : ℕ → Waiter → Waiter
-led_waiter m w = (w.0, record { rounds = w.1.rounds - m; brings = w.1.brings })
+use Rattle.mbj_stage.specs.Handing.{IsNext, IsOut, handed_out}
+use Rattle.mbj_manager.specs.Machine.Queues.{changed, count_end}
+use Rattle.mbj_manager.specs.declared.lane.Cause.{Cause}
+use Rattle.mbj_manager.specs.declared.lane.Cause.TheVariants as cause
+use Rattle.mbj_manager.specs.Inside.Leaving.{At, Gives, IsAbsent, finishers, numbers, others, returned}
+use Rattle.mbj_manager.specs.Inside.PlacedQueue.{Ahead, HasRest, PlacedQueue, Waiter, brings_in, led_waiter, numbered, pair_rest, rounds_in}
 
 -- a list after a run by its least rest, those with no round left still in it
 abbrev pub led_all : List Waiter → List Waiter
@@ -50,6 +26,10 @@ abbrev pub desk : List Going → List ℕ → List Waiter → ℕ → ℕ → �
 desk cs agenda ws rounds blocks flush_runs =
     record { courses = cs; agenda = agenda; waiters = ws; rounds = rounds; blocks = blocks; flush_runs = flush_runs }
 
+-- a list by places with the courses and the agenda, by the numbers that f makes of places
+abbrev pub desk_at : (ℕ → ℕ) → List Going → List ℕ → PlacedQueue → ℕ → Desk
+desk_at f cs agenda l flush_runs = desk cs (map f agenda) (numbered f l.waiters) l.rounds l.blocks flush_runs
+
 -- once those left whose rounds are done
 abbrev pub left_by : List Waiter → Desk → Desk
 left_by ws d = record d {
@@ -58,28 +38,28 @@ left_by ws d = record d {
   waiters = others rounds_in ws;
 }
 
+abbrev pub left_now : Desk → Desk
+left_now d = left_by d.waiters d
+
 -- a run of the list
-abbrev pub ran_at : Within → Desk → Desk
-ran_at submit d = record (left_by (led_all d.waiters) d) {
+abbrev pub ran_at : Cause → Desk → Desk
+ran_at cause.Submit d = record (left_by (led_all d.waiters) d) {
   rounds = (d.rounds + least (pair_rest rounds_in) d.waiters) % count_end;
   blocks = (d.blocks + least (pair_rest rounds_in) d.waiters * length d.waiters) % count_end;
 }
-ran_at flush d = record (left_by (led_all d.waiters) d) { flush_runs = (d.flush_runs + 1) % count_end }
+ran_at cause.Flush d = record (left_by (led_all d.waiters) d) { flush_runs = (d.flush_runs + 1) % count_end }
 
 -- the job n joins with its entry
 abbrev pub joined_by : ℕ → Ahead → Desk → Desk
 joined_by n a d = record d { courses = changed handed_out n d.courses; waiters = d.waiters ++ (n, a) ∷ [] }
 
-abbrev pub ran_if_full : Within → ℕ → Desk → Desk
+abbrev pub ran_if_full : Cause → ℕ → Desk → Desk
 ran_if_full at lanes d = if length d.waiters == lanes then ran_at at d else d
 
 -- the course of each waiter has its entry out, and no course has two
 abbrev pub Listed : Kind → List Going → List Waiter → Type 0
 Listed k cs [] = Unit {0}
 Listed k cs (w ∷ ws) = At (IsOut k w.1.brings) w.0 cs × IsAbsent w.0 ws × Listed k cs ws
-
-abbrev pub HasRest : Waiter → Type 0
-HasRest w = 1 ≤ w.1.rounds
 
 -- the list may run, and the agenda has room for those that leave
 pub record IsReady (k : Kind) (d : Desk) (room : ℕ) : Type 0 where
@@ -97,7 +77,7 @@ pub record MayEnter (lanes : ℕ) (k : Kind) (n : ℕ) (d : Desk) (room : ℕ) :
   pub room_left : length d.agenda + length d.waiters < room
 
 -- what then becomes of it
-pub record Enters (at : Within) (lanes : ℕ) (k : Kind) (n : ℕ) (old new : Desk) : Type 0 where
+pub record Enters (at : Cause) (lanes : ℕ) (k : Kind) (n : ℕ) (old new : Desk) : Type 0 where
   pub entry : Ahead
   pub some : 1 ≤ entry.rounds
   pub gives : At (Gives k entry.rounds entry.brings) n old.courses

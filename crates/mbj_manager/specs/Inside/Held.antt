@@ -1,5 +1,6 @@
 -- How ring, agenda and lists hold a manager's state.
-use Rattle.std.specs.Prelude.{◌≡◌, ℕ, ◌+◌, ◌*◌, ◌<◌, ◌≤◌, ◌==◌, suc, List, [], ◌∷◌, length, map, All, Option, Some, None, option_map, if◌then◌else◌}
+use Rattle.std.specs.Prelude.{◌≡◌, ℕ, ◌+◌, ◌-◌, ◌<◌, ◌≤◌, ◌==◌, suc, List, [], ◌∷◌, length, map, sum_by, All, Option, Some, None, option_map, if◌then◌else◌}
+use Rattle.mbj_types.specs.Kinds.{all_kinds, lanes_of}
 use Rattle.mbj_types.specs.declared.kind.Kind.{Kind}
 use Rattle.mbj_types.specs.declared.done.Done.{Done}
 use Rattle.mbj_ring.specs.Ring.{RingState}
@@ -7,42 +8,27 @@ use Rattle.mbj_stage.specs.Going.{Going, owed, stage_of}
 use Rattle.mbj_stage.specs.Handing.{End, owed_with}
 use Rattle.mbj_stage.specs.declared.stage.Stage.{Stage}
 use Rattle.mbj_stage.specs.declared.stage.Stage.TheVariants as stage
-use Rattle.mbj_manager.specs.Rounds.{pending}
-use Rattle.mbj_manager.specs.Machine.{Waiting, Lane, Machine}
+use Rattle.mbj_manager.specs.Machine.Stages.{pending}
+use Rattle.mbj_manager.specs.Machine.Queues.{Waiting, Queue, Machine}
 use Rattle.mbj_manager.specs.State.{ManagerState}
 use Rattle.mbj_manager.specs.declared.cell.Cell.{Cell}
 use Rattle.mbj_manager.specs.Inside.Courses.{AreCourses, IsOpen, courses, job_in, number_in}
 use Rattle.mbj_manager.specs.Inside.Leaving.{At, IsAbsent}
-use Rattle.mbj_manager.specs.Inside.Desk.{Waiter, Listed}
-use Rattle.mbj_manager.specs.Inside.Lines.{Line, Lines, line, line_in, numbered_line, total}
+use Rattle.mbj_manager.specs.Inside.Desk.{Listed}
+use Rattle.mbj_manager.specs.Inside.LaneQueues.{placed_in, total}
+use Rattle.mbj_manager.specs.Inside.PlacedQueue.{PlacedQueue, Waiter, numbered_queue}
+use Rattle.mbj_manager.specs.declared.lane_queues.LaneQueues.{LaneQueues}
 use Rattle.mbj_manager.specs.Inside.Standing.{IsWithin}
-
-abbrev pub no_line : Line
-no_line = line [] 0 0
-
--- lists with nobody in them, and counts of 0
-abbrev pub no_lines : Lines
-no_lines = record {
-  cbc128 = no_line;
-  cbc192 = no_line;
-  cbc256 = no_line;
-  cmac128 = no_line;
-  cmac256 = no_line;
-  hmac_sha1 = no_line;
-  hmac_sha256 = no_line;
-  hmac_sha512 = no_line;
-  flush_runs = 0;
-}
 
 -- ---- the machine
 
 abbrev pub waiting : Waiter → Waiting
 waiting w = record { number = w.0; rest = w.1.rounds }
 
-abbrev pub lane_seen : Line → Lane
+abbrev pub lane_seen : PlacedQueue → Queue
 lane_seen l = record { waiting = map waiting l.waiters; rounds = l.rounds; blocks = l.blocks }
 
-abbrev pub machine_by : List Going → List ℕ → (Kind → Line) → ℕ → Machine
+abbrev pub machine_by : List Going → List ℕ → (Kind → PlacedQueue) → ℕ → Machine
 machine_by cs agenda lines flush_runs =
     record { left = map pending cs; lanes = λ k. lane_seen (lines k); agenda = agenda; flush_runs = flush_runs }
 
@@ -75,18 +61,18 @@ abbrev pub owed_from : ℕ → (Kind → ℕ → Option End) → List Going → 
 owed_from n find [] = []
 owed_from n find (c ∷ cs) = owed_of n find c ∷ owed_from (suc n) find cs
 
-abbrev pub find_in : (Kind → Line) → Kind → ℕ → Option End
+abbrev pub find_in : (Kind → PlacedQueue) → Kind → ℕ → Option End
 find_in lines k n = found n (lines k).waiters
 
 -- ---- the state
 
-abbrev pub lines_in : RingState Cell → Lines → Kind → Line
-lines_in r ls k = numbered_line (number_in r) (line_in k ls)
+abbrev pub lines_in : RingState Cell → LaneQueues → Kind → PlacedQueue
+lines_in r ls k = numbered_queue (number_in r) (placed_in k ls)
 
-abbrev pub machine_in : RingState Cell → List ℕ → Lines → Machine
+abbrev pub machine_in : RingState Cell → List ℕ → LaneQueues → Machine
 machine_in r agenda ls = machine_by (courses r) (map (number_in r) agenda) (lines_in r ls) ls.flush_runs
 
-abbrev pub held : RingState Cell → List ℕ → Lines → ManagerState
+abbrev pub held : RingState Cell → List ℕ → LaneQueues → ManagerState
 held r agenda ls = record {
   owed = owed_from 0 (find_in (lines_in r ls)) (courses r);
   opened = option_map job_in r.opened;
@@ -102,17 +88,17 @@ IsHere c = c.out ≡ None
 
 -- lists, agenda and courses fit: who waits has its entry out, each other course has its packet, and who stands in the agenda
 -- has a course
-pub record IsTied (cs : List Going) (agenda : List ℕ) (lines : Kind → Line) : Type 0 where
+pub record IsTied (cs : List Going) (agenda : List ℕ) (lines : Kind → PlacedQueue) : Type 0 where
   pub listed : (k : Kind) → Listed k cs (lines k).waiters
   pub here : (n : ℕ) → n < length cs → ((k : Kind) → IsAbsent n (lines k).waiters) → At IsHere n cs
   pub below : All (λ n. n < length cs) agenda
 
 -- how many jobs there are at most in agenda and lists: in each list one fewer than it has lanes, and one that goes on
 abbrev pub agenda_room : ℕ
-agenda_room = 5 * 15 + 2 * 7 + 3 + 1
+agenda_room = sum_by (λ k. lanes_of k - 1) all_kinds + 1
 
 -- what the fields keep
-pub record IsHeld (r : RingState Cell) (agenda : List ℕ) (ls : Lines) (capacity : ℕ) : Type 0 where
+pub record IsHeld (r : RingState Cell) (agenda : List ℕ) (ls : LaneQueues) (capacity : ℕ) : Type 0 where
   pub ring : AreCourses r
   pub is_open : IsOpenAt r.opened
   pub within : IsWithin (machine_in r agenda ls)

@@ -1,13 +1,10 @@
 -- Entries that go out of courses, and those whose rounds are done, which go back.
-use Rattle.std.specs.Prelude.{◌≡◌, ◌≢◌, ℕ, ◌==◌, zero, suc, List, [], ◌∷◌, length, Some, None, if◌then◌else◌}
+use Rattle.std.specs.Prelude.{◌≡◌, ◌≢◌, ℕ, ◌==◌, zero, suc, List, [], ◌∷◌, length, Some, if◌then◌else◌}
 use Rattle.mbj_types.specs.Rounds.{rounds_of}
 use Rattle.mbj_types.specs.declared.kind.Kind.{Kind}
-use Rattle.mbj_lane.specs.Rounds.{end_of}
-use Rattle.mbj_stage.specs.Going.{Going, owed, stage_of}
+use Rattle.mbj_stage.specs.Going.{Going, owed}
 use Rattle.mbj_stage.specs.Handing.{End, handed_out, owed_with, taken_back}
-use Rattle.mbj_stage.specs.declared.stage.Stage.TheVariants as stage
-use Rattle.mbj_manager.specs.Machine.{changed}
-use Rattle.mbj_manager.specs.Leads.{IsOut}
+use Rattle.mbj_manager.specs.Machine.Queues.{changed}
 
 -- there is an item at n, and it has P
 abbrev pub At : {A : Type 0} → (A → Type 0) → ℕ → List A → Type 0
@@ -36,17 +33,6 @@ returned brings cs (p ∷ ps) = returned brings (changed (taken_back (brings p.1
 abbrev pub IsAbsent : {E : Type 0} → ℕ → List (ℕ × E) → Type 0
 IsAbsent n [] = Unit {0}
 IsAbsent n (p ∷ ps) = (p.0 ≢ n) × IsAbsent n ps
-
--- the course of each entry has it out, and no course has two
-abbrev pub AreOut : {E : Type 0} → (E → E) → (E → ℕ) → (E → End) → Kind → List Going → List (ℕ × E) → Type 0
-AreOut round rest brings k cs [] = Unit {0}
-AreOut round rest brings k cs (p ∷ ps) =
-    At (IsOut k (brings (end_of round rest p.1))) p.0 cs × IsAbsent p.0 ps × AreOut round rest brings k cs ps
-
--- a stage in the kind's lanes is next, and the packet is there
-pub record IsNext (k : Kind) (c : Going) : Type 0 where
-  pub stage : stage_of c ≡ stage.Lane k
-  pub here : c.out ≡ None
 
 -- an entry with this rest and end goes out of the course
 pub record Gives (k : Kind) (rest : ℕ) (e : End) (c : Going) : Type 0 where

@@ -1,6 +1,6 @@
 -- What a manager keeps between two calls.
 use Rattle.std.specs.Prelude.{◌≡◌, ℕ, ◌≤◌, length}
-use Rattle.mbj_manager.specs.Between.{IsBetweenCalls}
+use Rattle.mbj_manager.specs.Machine.Between.{IsBetweenCalls}
 use Rattle.mbj_manager.specs.State.{ManagerState}
 use Rattle.mbj_manager.specs.Inside.Standing.{left_at}
 

@@ -1,7 +1,7 @@
 -- How many steps a course has ahead.
 use Rattle.std.specs.Prelude.{ℕ, ◌+◌, ◌*◌, length}
-use Rattle.mbj_manager.specs.Machine.{Machine}
-use Rattle.mbj_manager.specs.Course.{stages_left}
+use Rattle.mbj_manager.specs.Machine.Queues.{Machine}
+use Rattle.mbj_manager.specs.Machine.Course.{stages_left}
 
 -- each step takes from this number, so that so many steps empty the agenda
 abbrev pub steps_ahead : Machine → ℕ

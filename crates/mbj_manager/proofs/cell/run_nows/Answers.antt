@@ -1,6 +1,6 @@
 use Rattle.std.proofs.Common.{◌∙◌, sym, ap}
-use Rattle.mbj_manager.specs.Rounds.{pending}
-use Rattle.mbj_manager.specs.Course.{in_lanes_next}
+use Rattle.mbj_manager.specs.Machine.Stages.{pending}
+use Rattle.mbj_manager.specs.Machine.Course.{in_lanes_next}
 use Rattle.mbj_stage.specs.Going.{Going}
 use Rattle.mbj_manager.proofs.PendingStages.{ran-next, ran-out}
 use Rattle.mbj_manager.proofs.cell.run_nows.Goals as goal

@@ -1,90 +1,67 @@
 -- The list with the entry that joined, which runs where it is full.
-use Rattle.std.proofs.Common.{◌≡◌, ◌∙◌, ℕ, length, map, vec_capacity, ap, sym, subst, arith}
-use Rattle.mbj_lane.specs.Rounds.{end_of}
-use Rattle.mbj_manager.specs.Inside.Cause.{within}
+use Rattle.std.proofs.Common.{◌≡◌, ◌∙◌, ℕ, length, vec_capacity, ap, sym, subst, arith}
+use Rattle.mbj_types.specs.Kinds.{lanes_of}
 use Rattle.mbj_manager.specs.Inside.Courses.{courses, number, number_in}
-use Rattle.mbj_manager.specs.Inside.Pairs.{paired}
-use Rattle.mbj_manager.specs.Inside.Desk.{Ahead, Desk, IsReady, ahead_all, desk, ran_at}
-use Rattle.mbj_manager.proofs.Listing.{else-waits, full-runs, joined-ready}
-use Rattle.mbj_manager.proofs.Pairing.{length-paired, same-length}
-use Rattle.mbj_manager.proofs.SeenAhead.{joined-desk, seen-length}
+use Rattle.mbj_manager.specs.Inside.PlacedQueue.{ahead}
+use Rattle.mbj_manager.specs.Inside.Desk.{Desk, IsReady, desk_at, joined_by, ran_at}
+use Rattle.mbj_manager.proofs.Listing.{else-waits, full-runs, joined-desk, joined-ready}
+use Rattle.mbj_manager.proofs.Numbering.{numbered-length}
 use Rattle.mbj_manager.proofs.lane.enter.Goals as goal
 
 pub join-requires-clause-free : goal.join-requires-clause-free
 join-requires-clause-free g c =
-    let f = number_in c.args.ring.now in
-    let s = c.args.queue.now in
-    let ps = paired f s.places.items s.lanes.entries.items in
-    omega (
-      arith,
-      c.requires.may.few,
-      seen-length g.K.Kernel.round g.K.Kernel.rest_of g.K.Feed.brings ps,
-      length-paired f s.places.items s.lanes.entries.items (same-length g.K.Kernel.rest_of s.places.items s.lanes.entries.items s.tied.0),
-    )
+    omega (arith, c.requires.may.few, g.met.K.Feed.lanes, numbered-length (number_in c.args.ring.now) c.args.queue.now.waiters)
 
 pub run_within-requires-clause-ready : goal.run_within-requires-clause-ready
 run_within-requires-clause-ready g c =
-    let q = c.join.new.queue in
-    let j = c.join.ensures.entry in
+    let f = number_in c.args.ring.now in
+    let a = ahead g.K.Kernel.round g.K.Kernel.rest_of g.K.Feed.brings c.hand_out-entry.result in
+    let d = desk_at f (courses c.args.ring.now) c.args.agenda.now.places.items c.args.queue.now c.args.flush_runs.now in
+    let is = joined-desk f (courses c.args.ring.now) (courses c.hand_out-entry.new.ring) c.args.agenda.now.places.items c.args.queue.now
+    c.join.new.self c.args.place a c.args.flush_runs.now c.hand_out-entry.ensures.out c.join.ensures in
     let room = vec_capacity c.args.agenda.now.places in
-    let a : Ahead = record { rounds = g.K.Kernel.rest_of j.0; brings = g.K.Feed.brings (end_of g.K.Kernel.round g.K.Kernel.rest_of j.0) } in
-    subst (λ (n : ℕ). IsReady g.K.Feed.kind (desk (courses c.join.new.ring) (map (number n) c.args.agenda.now.places.items)
-    (ahead_all g.K.Kernel.round g.K.Kernel.rest_of g.K.Feed.brings (paired (number n) q.places.items q.lanes.entries.items)) q.rounds q.blocks c.args.flush_runs.now) room)
-    (sym c.join.ensures.ring.first)
-    (subst (λ (d : Desk). IsReady g.K.Feed.kind d room) (sym (joined-desk g.K.Kernel.round g.K.Kernel.rest_of g.K.Feed.brings (courses c.args.ring.now) (courses c.join.new.ring) (map (number_in c.args.ring.now) c.args.agenda.now.places.items)
-    (paired (number_in c.args.ring.now) c.args.queue.now.places.items c.args.queue.now.lanes.entries.items) (paired (number_in c.args.ring.now) c.join.new.queue.places.items c.join.new.queue.lanes.entries.items)
-    ((number_in c.args.ring.now) c.args.place) c.join.ensures.entry.0 c.args.queue.now.rounds c.join.new.queue.rounds c.args.queue.now.blocks c.join.new.queue.blocks c.args.flush_runs.now
-    c.join.ensures.out c.join.ensures.entry.1.1.0 c.join.ensures.rounds c.join.ensures.blocks))
-    (joined-ready g.K.Kernel.LANES g.K.Feed.kind (number_in c.args.ring.now c.args.place) a _ room c.requires.may j.1.0 j.1.1.1))
+    subst (λ (n : ℕ). IsReady g.K.Feed.kind (desk_at (number n) (courses c.hand_out-entry.new.ring) c.args.agenda.now.places.items c.join.new.self c.args.flush_runs.now) room)
+    (sym c.hand_out-entry.ensures.ring.first)
+    (subst (λ (d : Desk). IsReady g.K.Feed.kind d room) (sym is)
+    (joined-ready (lanes_of g.K.Feed.kind) g.K.Feed.kind (f c.args.place) a d room c.requires.may c.hand_out-entry.ensures.some c.hand_out-entry.ensures.gives))
 
 pub run_within-requires-clause-full : goal.run_within-requires-clause-full
-run_within-requires-clause-full g c = λ _.
-    (let q = c.join.new.queue in
-    let f = number_in c.args.ring.now in
-    let size = length-paired f q.places.items q.lanes.entries.items (same-length g.K.Kernel.rest_of q.places.items q.lanes.entries.items q.tied.0) in
-    sym size ∙ sym (c.len.ensures f) ∙ c.if-len-LANES.true ∙ c.LANES.ensures)
+run_within-requires-clause-full g c = λ _. sym c.len.ensures ∙ c.if-len-LANES.true ∙ c.LANES.ensures ∙ g.met.K.Feed.lanes
 
 pub returns-then-len-LANES-clause-entered : goal.returns-then-len-LANES-clause-entered
 returns-then-len-LANES-clause-entered g c =
     let f = number_in c.args.ring.now in
-    let q = c.run_within.new.queue in
-    let p = c.join.new.queue in
-    let j = c.join.ensures.entry in
-    let a : Ahead = record { rounds = g.K.Kernel.rest_of j.0; brings = g.K.Feed.brings (end_of g.K.Kernel.round g.K.Kernel.rest_of j.0) } in
-    let is = joined-desk g.K.Kernel.round g.K.Kernel.rest_of g.K.Feed.brings (courses c.args.ring.now) (courses c.join.new.ring) (map (number_in c.args.ring.now) c.args.agenda.now.places.items)
-    (paired (number_in c.args.ring.now) c.args.queue.now.places.items c.args.queue.now.lanes.entries.items) (paired (number_in c.args.ring.now) c.join.new.queue.places.items c.join.new.queue.lanes.entries.items)
-    ((number_in c.args.ring.now) c.args.place) c.join.ensures.entry.0 c.args.queue.now.rounds c.join.new.queue.rounds c.args.queue.now.blocks c.join.new.queue.blocks c.args.flush_runs.now
-    c.join.ensures.out c.join.ensures.entry.1.1.0 c.join.ensures.rounds c.join.ensures.blocks in
-    let seen : (n : ℕ) → Desk = λ n. desk (courses c.join.new.ring) (map (number n) c.args.agenda.now.places.items)
-    (ahead_all g.K.Kernel.round g.K.Kernel.rest_of g.K.Feed.brings (paired (number n) p.places.items p.lanes.entries.items)) p.rounds p.blocks c.args.flush_runs.now in
-    let after : (n : ℕ) → Desk = λ n. desk (courses c.run_within.new.ring) (map (number n) c.run_within.new.agenda.places.items)
-    (ahead_all g.K.Kernel.round g.K.Kernel.rest_of g.K.Feed.brings (paired (number n) q.places.items q.lanes.entries.items)) q.rounds q.blocks c.run_within.new.flush_runs in
-    let ran : after c.args.ring.now.first ≡ ran_at (within c.args.cause) (seen c.args.ring.now.first)
-    = subst (λ (n : ℕ). after n ≡ ran_at (within c.args.cause) (seen n)) c.join.ensures.ring.first c.run_within.ensures.ran in
-    let full : length (seen c.args.ring.now.first).waiters ≡ g.K.Kernel.LANES
-    = seen-length g.K.Kernel.round g.K.Kernel.rest_of g.K.Feed.brings (paired f p.places.items p.lanes.entries.items) ∙ sym (c.len.ensures f) ∙ c.if-len-LANES.true ∙ c.LANES.ensures in
+    let a = ahead g.K.Kernel.round g.K.Kernel.rest_of g.K.Feed.brings c.hand_out-entry.result in
+    let d = desk_at f (courses c.args.ring.now) c.args.agenda.now.places.items c.args.queue.now c.args.flush_runs.now in
+    let is = joined-desk f (courses c.args.ring.now) (courses c.hand_out-entry.new.ring) c.args.agenda.now.places.items c.args.queue.now
+    c.join.new.self c.args.place a c.args.flush_runs.now c.hand_out-entry.ensures.out c.join.ensures in
+    let at = c.args.cause in
+    let k = g.K.Feed.kind in
+    let q = c.join.new.self in
+    let ran = subst (λ (n : ℕ). desk_at (number n) (courses c.run_within.new.ring) c.run_within.new.agenda.places.items c.run_within.new.queue c.run_within.new.flush_runs
+    ≡ ran_at at (desk_at (number n) (courses c.hand_out-entry.new.ring) c.args.agenda.now.places.items q c.args.flush_runs.now))
+    c.hand_out-entry.ensures.ring.first c.run_within.ensures.ran in
+    let full : length (joined_by (f c.args.place) a d).waiters ≡ lanes_of k
+    = sym (ap (λ (d : Desk). length d.waiters) is) ∙ numbered-length f q.waiters ∙ sym c.len.ensures ∙ c.if-len-LANES.true ∙ c.LANES.ensures ∙ g.met.K.Feed.lanes in
     record {
       entry = a;
-      some = j.1.0;
-      gives = j.1.1.1;
-      is = ran ∙ ap (ran_at (within c.args.cause)) is ∙ sym (full-runs (within c.args.cause) g.K.Kernel.LANES _ (sym (ap (λ (d : Desk). length d.waiters) is) ∙ full));
+      some = c.hand_out-entry.ensures.some;
+      gives = c.hand_out-entry.ensures.gives;
+      is = ran ∙ ap (ran_at at) is ∙ sym (full-runs at (lanes_of k) _ full);
     }
 
 pub returns-else-len-LANES-clause-entered : goal.returns-else-len-LANES-clause-entered
 returns-else-len-LANES-clause-entered g c =
     let f = number_in c.args.ring.now in
-    let p = c.join.new.queue in
-    let j = c.join.ensures.entry in
-    let a : Ahead = record { rounds = g.K.Kernel.rest_of j.0; brings = g.K.Feed.brings (end_of g.K.Kernel.round g.K.Kernel.rest_of j.0) } in
-    let is = joined-desk g.K.Kernel.round g.K.Kernel.rest_of g.K.Feed.brings (courses c.args.ring.now) (courses c.join.new.ring) (map (number_in c.args.ring.now) c.args.agenda.now.places.items)
-    (paired (number_in c.args.ring.now) c.args.queue.now.places.items c.args.queue.now.lanes.entries.items) (paired (number_in c.args.ring.now) c.join.new.queue.places.items c.join.new.queue.lanes.entries.items)
-    ((number_in c.args.ring.now) c.args.place) c.join.ensures.entry.0 c.args.queue.now.rounds c.join.new.queue.rounds c.args.queue.now.blocks c.join.new.queue.blocks c.args.flush_runs.now
-    c.join.ensures.out c.join.ensures.entry.1.1.0 c.join.ensures.rounds c.join.ensures.blocks in
-    let size = seen-length g.K.Kernel.round g.K.Kernel.rest_of g.K.Feed.brings (paired f p.places.items p.lanes.entries.items) in
+    let a = ahead g.K.Kernel.round g.K.Kernel.rest_of g.K.Feed.brings c.hand_out-entry.result in
+    let d = desk_at f (courses c.args.ring.now) c.args.agenda.now.places.items c.args.queue.now c.args.flush_runs.now in
+    let is = joined-desk f (courses c.args.ring.now) (courses c.hand_out-entry.new.ring) c.args.agenda.now.places.items c.args.queue.now
+    c.join.new.self c.args.place a c.args.flush_runs.now c.hand_out-entry.ensures.out c.join.ensures in
     record {
       entry = a;
-      some = j.1.0;
-      gives = j.1.1.1;
-      is = is ∙ sym (else-waits (within c.args.cause) g.K.Kernel.LANES _
-          (λ e. c.if-len-LANES.false (c.len.ensures f ∙ sym size ∙ ap (λ (d : Desk). length d.waiters) is ∙ e ∙ sym c.LANES.ensures)));
+      some = c.hand_out-entry.ensures.some;
+      gives = c.hand_out-entry.ensures.gives;
+      is = is ∙ sym (else-waits c.args.cause (lanes_of g.K.Feed.kind) _
+          (λ e. c.if-len-LANES.false (c.len.ensures ∙ sym (numbered-length f c.join.new.self.waiters) ∙ ap (λ (d : Desk). length d.waiters) is ∙ e
+          ∙ sym g.met.K.Feed.lanes ∙ sym c.LANES.ensures)));
     }

@@ -1,8 +1,8 @@
 -- The course at the place changes, and no other.
 use Rattle.mbj_lane.specs.Rounds.{end_of}
-use Rattle.mbj_stage.specs.Handing.{handed_out}
+use Rattle.mbj_stage.specs.Handing.{IsNext, handed_out}
 use Rattle.mbj_manager.specs.Inside.Courses.{number_in}
-use Rattle.mbj_manager.specs.Inside.Leaving.{Gives, IsNext}
+use Rattle.mbj_manager.specs.Inside.Leaving.{Gives}
 use Rattle.mbj_manager.proofs.RingCourses.{at-cell, cell-at, courses-set, going-at, live, same-ring}
 use Rattle.mbj_manager.proofs.lane.hand_out.Goals as goal
 

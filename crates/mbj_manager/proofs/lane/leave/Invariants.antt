@@ -1,29 +1,19 @@
 -- Those that leave, from here on, are the ones that leave the list as it was, and nothing else is different.
-use Rattle.std.proofs.Common.{◌≡◌, ◌+◌, ◌≤◌, ◌++◌, length, map, vec_capacity}
+use Rattle.std.proofs.Common.{◌≡◌, ◌+◌, ◌≤◌, length, vec_capacity}
 use Rattle.mbj_manager.specs.Inside.Courses.{IsSameRing, courses, number_in}
-use Rattle.mbj_manager.specs.Inside.Pairs.{paired}
-use Rattle.mbj_manager.specs.Inside.Leaving.{AreOut, finishers, numbers, others, returned}
+use Rattle.mbj_manager.specs.Inside.PlacedQueue.{numbered}
+use Rattle.mbj_manager.specs.Inside.Desk.{Listed, desk_at, left_now}
 use Rattle.mbj_manager.proofs.lane.leave.Given as goal
 
 abbrev pub invariant-leaving : goal.invariant-leaving
 invariant-leaving g l = record {
   ring : IsSameRing l.ring l.initial.ring;
-  ready : AreOut g.K.Kernel.round g.K.Kernel.rest_of g.K.Feed.brings g.K.Feed.kind (courses l.ring)
-      (paired (number_in l.initial.ring) l.queue.places.items l.queue.lanes.entries.items);
-  room : length l.agenda.places.items + length (paired (number_in l.initial.ring) l.queue.places.items l.queue.lanes.entries.items) ≤ vec_capacity l.agenda.places;
+  listed : Listed g.K.Feed.kind (courses l.ring) (numbered (number_in l.initial.ring) l.queue.waiters);
+  room : length l.agenda.places.items + length l.queue.waiters ≤ vec_capacity l.agenda.places;
   capacity : vec_capacity l.agenda.places ≡ vec_capacity l.initial.agenda.places;
-  stay : others g.K.Kernel.rest_of (paired (number_in l.initial.ring) l.queue.places.items l.queue.lanes.entries.items)
-      ≡ others g.K.Kernel.rest_of (paired (number_in l.initial.ring) l.initial.queue.places.items l.initial.queue.lanes.entries.items);
-  back : returned g.K.Feed.brings (courses l.ring) (finishers g.K.Kernel.rest_of (paired (number_in l.initial.ring) l.queue.places.items l.queue.lanes.entries.items))
-      ≡ returned g.K.Feed.brings (courses l.initial.ring)
-      (finishers g.K.Kernel.rest_of (paired (number_in l.initial.ring) l.initial.queue.places.items l.initial.queue.lanes.entries.items));
-  agenda : map (number_in l.initial.ring) l.agenda.places.items
-      ++ numbers (finishers g.K.Kernel.rest_of (paired (number_in l.initial.ring) l.queue.places.items l.queue.lanes.entries.items))
-      ≡ map (number_in l.initial.ring) l.initial.agenda.places.items
-      ++ numbers (finishers g.K.Kernel.rest_of (paired (number_in l.initial.ring) l.initial.queue.places.items l.initial.queue.lanes.entries.items));
-  rounds : l.queue.rounds ≡ l.initial.queue.rounds;
-  blocks : l.queue.blocks ≡ l.initial.queue.blocks;
+  left : left_now (desk_at (number_in l.initial.ring) (courses l.ring) l.agenda.places.items l.queue 0)
+      ≡ left_now (desk_at (number_in l.initial.ring) (courses l.initial.ring) l.initial.agenda.places.items l.initial.queue 0);
 }
 
 abbrev pub decreases-leaving : goal.decreases-leaving
-decreases-leaving g l = length (paired (number_in l.initial.ring) l.queue.places.items l.queue.lanes.entries.items)
+decreases-leaving g l = length l.queue.waiters

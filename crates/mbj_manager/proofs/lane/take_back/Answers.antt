@@ -1,7 +1,6 @@
 -- The course at the place changes, and no other.
-use Rattle.mbj_stage.specs.Handing.{taken_back}
+use Rattle.mbj_stage.specs.Handing.{IsOut, taken_back}
 use Rattle.mbj_manager.specs.Inside.Courses.{number_in}
-use Rattle.mbj_manager.specs.Leads.{IsOut}
 use Rattle.mbj_manager.proofs.RingCourses.{at-cell, courses-set, going-at, live, same-ring}
 use Rattle.mbj_manager.proofs.lane.take_back.Goals as goal
 

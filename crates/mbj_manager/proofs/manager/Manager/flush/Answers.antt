@@ -2,9 +2,9 @@
 use Rattle.std.proofs.Common.{◌≡◌, ◌≢◌, ◌*◌, ◌++◌, ◌∙◌, List, [], ◌∷◌, length, Option, None, Some, IsSome, slice_get, refl, ap, ap₂, sym, subst}
 use Rattle.std.specs.Prelude.{option_to_list}
 use Rattle.mbj_types.specs.declared.done.Done.{Done}
-use Rattle.mbj_manager.specs.Course.{flushed}
+use Rattle.mbj_manager.specs.Machine.Course.{flushed}
 use Rattle.mbj_manager.specs.State.{ManagerState, after_get_completed, given_at}
-use Rattle.mbj_manager.specs.Counts.{RisesUpTo}
+use Rattle.mbj_manager.specs.Machine.Counts.{RisesUpTo}
 use Rattle.mbj_manager.specs.Inside.Settled.{IsSettled}
 use Rattle.mbj_manager.proofs.CallLaws.{given-order}
 use Rattle.mbj_manager.proofs.CallsKeep.{earliest-given, few-runs, flush-settled, given-opened, given-settled}

@@ -2,10 +2,9 @@
 use Rattle.std.proofs.Common.{◌≡◌, ◌≤◌, ◌<◌, map, vec_capacity, ap, sym, subst}
 use Rattle.mbj_manager.specs.Inside.Courses.{courses, number_in}
 use Rattle.mbj_manager.specs.Inside.Held.{held, lines_in}
-use Rattle.mbj_manager.specs.Inside.Cause.{within}
 use Rattle.mbj_manager.specs.State.{ManagerState}
-use Rattle.mbj_manager.specs.Course.{stages_left, stepped}
-use Rattle.mbj_manager.specs.Machine.{Machine}
+use Rattle.mbj_manager.specs.Machine.Course.{stages_left, stepped}
+use Rattle.mbj_manager.specs.Machine.Queues.{Machine}
 use Rattle.mbj_manager.proofs.Advancing.{enters, fewer-then, finishes, first-here, may-enter, no-more-then, none-pending}
 use Rattle.mbj_manager.specs.Inside.Steps.{steps_ahead}
 use Rattle.mbj_manager.proofs.works.Works.advance.Goals as goal
@@ -34,7 +33,7 @@ invariant_of-self c =
     let e = c.in-Lane.ensures in
     rw (c.enter.ensures.room, t.ensures.room)
     (enters w.ring c.run_nows.new.ring t.result w.agenda.places.items t.new.self.places.items w.lists (vec_capacity w.agenda.places) e.follows.0
-    c.self.invariant t.ensures.first e.ring e.follows.1.0 e.follows.1.1.1 (within c.args.cause) c.in-Lane.kind c.enter.new.ring c.enter.new.agenda.places.items c.enter.new.self
+    c.self.invariant t.ensures.first e.ring e.follows.1.0 e.follows.1.1.1 c.args.cause c.in-Lane.kind c.enter.new.ring c.enter.new.agenda.places.items c.enter.new.self
     (sym e.follows.1.1.0) c.enter.ensures.ring c.enter.ensures.others c.enter.ensures.entered).kept
 
 pub returns-in-Lane-clause-step : goal.returns-in-Lane-clause-step
@@ -43,9 +42,9 @@ returns-in-Lane-clause-step c =
     let t = c.take_first-place in
     let e = c.in-Lane.ensures in
     let new = held c.enter.new.ring c.enter.new.agenda.places.items c.enter.new.self in
-    subst (λ (h : ManagerState). new ≡ record h { machine = stepped (within c.args.cause) h.machine }) c.self.view_is
+    subst (λ (h : ManagerState). new ≡ record h { machine = stepped c.args.cause h.machine }) c.self.view_is
     (enters w.ring c.run_nows.new.ring t.result w.agenda.places.items t.new.self.places.items w.lists (vec_capacity w.agenda.places) e.follows.0
-    c.self.invariant t.ensures.first e.ring e.follows.1.0 e.follows.1.1.1 (within c.args.cause) c.in-Lane.kind c.enter.new.ring c.enter.new.agenda.places.items c.enter.new.self
+    c.self.invariant t.ensures.first e.ring e.follows.1.0 e.follows.1.1.1 c.args.cause c.in-Lane.kind c.enter.new.ring c.enter.new.agenda.places.items c.enter.new.self
     (sym e.follows.1.1.0) c.enter.ensures.ring c.enter.ensures.others c.enter.ensures.entered).is
 
 pub invariant_of-self-in-Now : goal.invariant_of-self-in-Now
@@ -56,7 +55,7 @@ invariant_of-self-in-Now c =
     let n = number_in w.ring t.result in
     rw t.ensures.room
     (finishes w.ring c.run_nows.new.ring t.result w.agenda.places.items t.new.self.places.items w.lists (vec_capacity w.agenda.places) e.follows.0
-    c.self.invariant t.ensures.first e.ring e.follows.1.0 e.follows.1.1.1 (within c.args.cause)
+    c.self.invariant t.ensures.first e.ring e.follows.1.0 e.follows.1.1.1 c.args.cause
     (none-pending e.follows.0 n (courses w.ring) c.run_nows.result e.follows.1.1.1 e.follows.1.1.0 c.in-Now.is)).kept
 
 pub returns-in-Now-clause-step : goal.returns-in-Now-clause-step
@@ -66,9 +65,9 @@ returns-in-Now-clause-step c =
     let e = c.run_nows.ensures in
     let n = number_in w.ring t.result in
     let new = held c.run_nows.new.ring t.new.self.places.items w.lists in
-    subst (λ (h : ManagerState). new ≡ record h { machine = stepped (within c.args.cause) h.machine }) c.self.view_is
+    subst (λ (h : ManagerState). new ≡ record h { machine = stepped c.args.cause h.machine }) c.self.view_is
     (finishes w.ring c.run_nows.new.ring t.result w.agenda.places.items t.new.self.places.items w.lists (vec_capacity w.agenda.places) e.follows.0
-    c.self.invariant t.ensures.first e.ring e.follows.1.0 e.follows.1.1.1 (within c.args.cause)
+    c.self.invariant t.ensures.first e.ring e.follows.1.0 e.follows.1.1.1 c.args.cause
     (none-pending e.follows.0 n (courses w.ring) c.run_nows.result e.follows.1.1.1 e.follows.1.1.0 c.in-Now.is)).is
 
 pub returns-in-Lane-clause-fewer : goal.returns-in-Lane-clause-fewer
@@ -79,9 +78,9 @@ returns-in-Lane-clause-fewer c =
     let new = held c.enter.new.ring c.enter.new.agenda.places.items c.enter.new.self in
     let step = returns-in-Lane-clause-step c in
     subst (λ (m : Machine). steps_ahead m < steps_ahead c.args.self.now.machine) (sym (ap (λ (h : ManagerState). h.machine) step))
-    (subst (λ (h : ManagerState). steps_ahead (stepped (within c.args.cause) h.machine) < steps_ahead h.machine) c.self.view_is
+    (subst (λ (h : ManagerState). steps_ahead (stepped c.args.cause h.machine) < steps_ahead h.machine) c.self.view_is
     (fewer-then w.ring c.run_nows.new.ring t.result w.agenda.places.items t.new.self.places.items w.lists (vec_capacity w.agenda.places) e.follows.0
-    c.self.invariant t.ensures.first e.ring e.follows.1.0 e.follows.1.1.1 (within c.args.cause)))
+    c.self.invariant t.ensures.first e.ring e.follows.1.0 e.follows.1.1.1 c.args.cause))
 
 pub returns-in-Now-clause-fewer : goal.returns-in-Now-clause-fewer
 returns-in-Now-clause-fewer c =
@@ -91,9 +90,9 @@ returns-in-Now-clause-fewer c =
     let new = held c.run_nows.new.ring t.new.self.places.items w.lists in
     let step = returns-in-Now-clause-step c in
     subst (λ (m : Machine). steps_ahead m < steps_ahead c.args.self.now.machine) (sym (ap (λ (h : ManagerState). h.machine) step))
-    (subst (λ (h : ManagerState). steps_ahead (stepped (within c.args.cause) h.machine) < steps_ahead h.machine) c.self.view_is
+    (subst (λ (h : ManagerState). steps_ahead (stepped c.args.cause h.machine) < steps_ahead h.machine) c.self.view_is
     (fewer-then w.ring c.run_nows.new.ring t.result w.agenda.places.items t.new.self.places.items w.lists (vec_capacity w.agenda.places) e.follows.0
-    c.self.invariant t.ensures.first e.ring e.follows.1.0 e.follows.1.1.1 (within c.args.cause)))
+    c.self.invariant t.ensures.first e.ring e.follows.1.0 e.follows.1.1.1 c.args.cause))
 
 pub returns-in-Lane-clause-stages : goal.returns-in-Lane-clause-stages
 returns-in-Lane-clause-stages c =
@@ -102,9 +101,9 @@ returns-in-Lane-clause-stages c =
     let e = c.in-Lane.ensures in
     let step = returns-in-Lane-clause-step c in
     subst (λ (m : Machine). stages_left m.left ≤ stages_left c.args.self.now.machine.left) (sym (ap (λ (h : ManagerState). h.machine) step))
-    (subst (λ (h : ManagerState). stages_left (stepped (within c.args.cause) h.machine).left ≤ stages_left h.machine.left) c.self.view_is
+    (subst (λ (h : ManagerState). stages_left (stepped c.args.cause h.machine).left ≤ stages_left h.machine.left) c.self.view_is
     (no-more-then w.ring c.run_nows.new.ring t.result w.agenda.places.items t.new.self.places.items w.lists (vec_capacity w.agenda.places) e.follows.0
-    c.self.invariant t.ensures.first e.ring e.follows.1.0 e.follows.1.1.1 (within c.args.cause)))
+    c.self.invariant t.ensures.first e.ring e.follows.1.0 e.follows.1.1.1 c.args.cause))
 
 pub returns-in-Now-clause-stages : goal.returns-in-Now-clause-stages
 returns-in-Now-clause-stages c =
@@ -113,6 +112,6 @@ returns-in-Now-clause-stages c =
     let e = c.run_nows.ensures in
     let step = returns-in-Now-clause-step c in
     subst (λ (m : Machine). stages_left m.left ≤ stages_left c.args.self.now.machine.left) (sym (ap (λ (h : ManagerState). h.machine) step))
-    (subst (λ (h : ManagerState). stages_left (stepped (within c.args.cause) h.machine).left ≤ stages_left h.machine.left) c.self.view_is
+    (subst (λ (h : ManagerState). stages_left (stepped c.args.cause h.machine).left ≤ stages_left h.machine.left) c.self.view_is
     (no-more-then w.ring c.run_nows.new.ring t.result w.agenda.places.items t.new.self.places.items w.lists (vec_capacity w.agenda.places) e.follows.0
-    c.self.invariant t.ensures.first e.ring e.follows.1.0 e.follows.1.1.1 (within c.args.cause)))
+    c.self.invariant t.ensures.first e.ring e.follows.1.0 e.follows.1.1.1 c.args.cause))

@@ -1,7 +1,7 @@
 -- Each run that counts was on a full list.
 use Rattle.std.proofs.Common.{◌∙◌, ◌*◌, ◌%◌, ap}
 use Rattle.mbj_types.specs.Kinds.{lanes_of}
-use Rattle.mbj_manager.specs.Machine.{count_end, lane_for}
+use Rattle.mbj_manager.specs.Machine.Queues.{count_end, queue_for}
 use Rattle.mbj_manager.specs.State.{ManagerState}
 use Rattle.mbj_manager.proofs.works.Works.blocks.Goals as goal
 
@@ -9,4 +9,4 @@ pub returns-clause-full : goal.returns-clause-full
 returns-clause-full c =
     let k = c.args.kind in
     c.blocks-2.ensures ∙ (c.self.invariant.within.lanes k).blocks
-    ∙ ap (λ (h : ManagerState). (lanes_of k * (lane_for k h.machine).rounds) % count_end) c.self.view_is
+    ∙ ap (λ (h : ManagerState). (lanes_of k * (queue_for k h.machine).rounds) % count_end) c.self.view_is

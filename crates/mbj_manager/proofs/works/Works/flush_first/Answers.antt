@@ -1,7 +1,8 @@
 -- A flush step takes one of those that are ahead.
 use Rattle.std.proofs.Common.{◌≡◌, ◌∙◌, [], Some, slice_get, refl, ap, sym, subst, arith}
-use Rattle.mbj_manager.specs.Machine.{flush, run_within}
-use Rattle.mbj_manager.specs.Course.{course, flushed, stages_left}
+use Rattle.mbj_manager.specs.Machine.Queues.{run_within}
+use Rattle.mbj_manager.specs.declared.lane.Cause.TheVariants as cause
+use Rattle.mbj_manager.specs.Machine.Course.{course, flushed, stages_left}
 use Rattle.mbj_manager.specs.State.{ManagerState}
 use Rattle.mbj_manager.proofs.Flushing.{flush-end, flush-next, flush-start}
 use Rattle.mbj_manager.proofs.Moving.{same-state}
@@ -17,8 +18,8 @@ flushing-preserved c =
     let settled = c.settle.ensures.course in
     let kind = sym c.first_kind.ensures.kind ∙ c.in-Some.is in
     let same = ap (λ (h : ManagerState). h.machine) c.first_kind.ensures.same in
-    let machine : c.settle.new.self.machine ≡ course flush (run_within flush c.in-Some.kind m)
-    = ap (λ (h : ManagerState). h.machine) settled ∙ ap (course flush) (ap (λ (h : ManagerState). h.machine) ran ∙ ap (run_within flush c.in-Some.kind) same) in
+    let machine : c.settle.new.self.machine ≡ course cause.Flush (run_within cause.Flush c.in-Some.kind m)
+    = ap (λ (h : ManagerState). h.machine) settled ∙ ap (course cause.Flush) (ap (λ (h : ManagerState). h.machine) ran ∙ ap (run_within cause.Flush c.in-Some.kind) same) in
     record {
       reaches = flush-next m c.settle.new.self.machine (flushed c.args.self.now.machine) c.in-Some.kind kind machine
           (omega (arith, c.settle.ensures.stages, c.run_first.ensures.stages, ap (λ (h : ManagerState). stages_left h.machine.left) c.first_kind.ensures.same))

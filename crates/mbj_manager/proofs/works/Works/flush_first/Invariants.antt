@@ -1,6 +1,6 @@
 -- The flush steps still ahead come to where the whole flush comes, and nothing else changes.
 use Rattle.std.proofs.Common.{◌≡◌, []}
-use Rattle.mbj_manager.specs.Course.{flushed, stages_left}
+use Rattle.mbj_manager.specs.Machine.Course.{flushed, stages_left}
 use Rattle.mbj_manager.proofs.Flushing.{FlushReaches}
 use Rattle.mbj_manager.proofs.works.Works.flush_first.Given as goal
 

@@ -1,6 +1,6 @@
 -- The list of the earliest job runs, with what it keeps.
 use Rattle.std.proofs.Common.{◌≡◌, ◌<◌, [], Some, map, vec_capacity, sym, subst}
-use Rattle.mbj_manager.specs.Course.{stages_left}
+use Rattle.mbj_manager.specs.Machine.Course.{stages_left}
 use Rattle.mbj_manager.specs.State.{ManagerState}
 use Rattle.mbj_manager.specs.Inside.Standing.{IsWithin}
 use Rattle.mbj_manager.specs.Inside.Added.{first_lane}
@@ -8,7 +8,8 @@ use Rattle.mbj_manager.specs.Inside.Courses.{courses, number_in}
 use Rattle.mbj_manager.specs.Inside.Held.{held, lines_in}
 use Rattle.mbj_manager.proofs.Running.{idle-keeps}
 use Rattle.mbj_manager.proofs.Moving.{first-machine, first-ready, room-in, runs-first}
-use Rattle.mbj_manager.specs.Machine.{run_within, flush}
+use Rattle.mbj_manager.specs.Machine.Queues.{run_within}
+use Rattle.mbj_manager.specs.declared.lane.Cause.TheVariants as cause
 use Rattle.mbj_manager.proofs.works.Works.run_first.Goals as goal
 
 pub run-requires-clause-ready : goal.run-requires-clause-ready
@@ -37,7 +38,7 @@ returns-clause-ran c =
     let idle = subst (λ (h : ManagerState). h.machine.agenda ≡ []) (sym c.self.view_is) c.requires.idle in
     let first = subst (λ (h : ManagerState). first_lane h.machine.left ≡ Some c.args.kind) (sym c.self.view_is) c.requires.first in
     let new = held c.run.new.ring c.run.new.agenda.places.items c.run.new.self in
-    subst (λ (h : ManagerState). new ≡ record h { machine = run_within flush c.args.kind h.machine }) c.self.view_is
+    subst (λ (h : ManagerState). new ≡ record h { machine = run_within cause.Flush c.args.kind h.machine }) c.self.view_is
     (runs-first c.args.kind w.ring c.run.new.ring w.agenda.places.items c.run.new.agenda.places.items w.lists c.run.new.self (vec_capacity w.agenda.places) y
     idle first c.run.ensures.ring c.run.ensures.others c.run.ensures.ran).is
 

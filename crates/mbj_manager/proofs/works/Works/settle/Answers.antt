@@ -1,20 +1,19 @@
 -- A step takes one of those that are ahead.
 use Rattle.std.proofs.Common.{◌≡◌, ◌<◌, [], ◌∙◌, refl, ap, sym, subst, arith, rules}
-use Rattle.mbj_manager.specs.Machine.{Machine}
-use Rattle.mbj_manager.specs.Course.{course}
+use Rattle.mbj_manager.specs.Machine.Queues.{Machine}
+use Rattle.mbj_manager.specs.Machine.Course.{course}
 use Rattle.mbj_manager.specs.State.{ManagerState}
-use Rattle.mbj_manager.specs.Inside.Cause.{within}
 use Rattle.mbj_manager.proofs.Moving.{same-state}
 use Rattle.mbj_manager.proofs.Reaching.{Reaches, reaches-end, reaches-start, reaches-step}
 use Rattle.mbj_manager.specs.Inside.Steps.{steps_ahead}
 use Rattle.mbj_manager.proofs.works.Works.settle.Goals as goal
 
 pub settling-init : goal.settling-init
-settling-init c = record { reaches = reaches-start (within c.args.cause) c.args.self.now.machine; owed_is = refl; opened_is = refl; stages = omega arith }
+settling-init c = record { reaches = reaches-start c.args.cause c.args.self.now.machine; owed_is = refl; opened_is = refl; stages = omega arith }
 
 pub settling-preserved : goal.settling-preserved
 settling-preserved c =
-    let at = within c.args.cause in
+    let at = c.args.cause in
     let m = c.settling.self.machine in
     let end = course at c.args.self.now.machine in
     let step = c.advance.ensures.step in
@@ -29,7 +28,7 @@ settling-preserved c =
 
 pub returns-clause-course : goal.returns-clause-course
 returns-clause-course c =
-    let at = within c.args.cause in
+    let at = c.args.cause in
     let m = c.settling.self.machine in
     let none : m.agenda ≡ [] = search rules in
     same-state _ _ _ _ _ _ c.settling.invariant.owed_is c.settling.invariant.opened_is

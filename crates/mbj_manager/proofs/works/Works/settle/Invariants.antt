@@ -1,14 +1,13 @@
 -- The steps still ahead come to where the whole course comes, and nothing else changes.
 use Rattle.std.proofs.Common.{◌≡◌, ◌≤◌}
-use Rattle.mbj_manager.specs.Course.{course, stages_left}
-use Rattle.mbj_manager.specs.Inside.Cause.{within}
+use Rattle.mbj_manager.specs.Machine.Course.{course, stages_left}
 use Rattle.mbj_manager.proofs.Reaching.{Reaches}
 use Rattle.mbj_manager.proofs.works.Works.settle.Given as goal
 use Rattle.mbj_manager.specs.Inside.Steps.{steps_ahead}
 
 abbrev pub invariant-settling : goal.invariant-settling
 invariant-settling l = record {
-  reaches : Reaches (within l.cause) l.self.machine (course (within l.cause) l.initial.self.machine);
+  reaches : Reaches l.cause l.self.machine (course l.cause l.initial.self.machine);
   owed_is : l.self.owed ≡ l.initial.self.owed;
   opened_is : l.self.opened ≡ l.initial.self.opened;
   stages : stages_left l.self.machine.left ≤ stages_left l.initial.self.machine.left;

@@ -1,0 +1,49 @@
+-- What holds of the lane machine between two calls.
+use Rattle.std.specs.Prelude.{◌≡◌, ◌≢◌, ◌<◌, ◌≤◌, ◌*◌, ◌%◌, ◌==◌, ◌++◌, ℕ, List, [], ◌∷◌, length, count_by, slice_index_or, All, Some, slice_get}
+use Rattle.mbj_types.specs.declared.kind.Kind.{Kind}
+use Rattle.mbj_types.specs.Kinds.{lanes_of}
+use Rattle.mbj_manager.specs.Machine.Stages.{Pending, at_once, in_lanes}
+use Rattle.mbj_manager.specs.Machine.Queues.{Machine, Waiting, count_end, queue_for}
+use Rattle.mbj_manager.specs.declared.lane.Cause.TheVariants as cause
+use Rattle.mbj_manager.specs.Machine.Course.{course, flushed}
+
+-- how often the job n stands in a list
+abbrev pub times_in : ℕ → List Waiting → ℕ
+times_in n ws = count_by (λ w. w.number == n) ws
+
+-- where the job n stands, by the stages that are left of it: a finished one in no list, another one once in the list of the
+-- kind of its first stage left, and in no other list
+abbrev pub IsPlaced : Machine → ℕ → List Pending → Type 0
+IsPlaced m n [] = (k : Kind) → times_in n (queue_for k m).waiting ≡ 0
+IsPlaced m n (at_once ∷ left) = ⊥
+IsPlaced m n (in_lanes k rest ∷ left) =
+    (times_in n (queue_for k m).waiting ≡ 1) × ((j : Kind) → j ≢ k → times_in n (queue_for j m).waiting ≡ 0)
+
+-- a stage in lanes takes a round at least
+abbrev pub HasRounds : Pending → Type 0
+HasRounds at_once = Unit {0}
+HasRounds (in_lanes k rest) = 1 ≤ rest
+
+pub record IsBetweenCalls (m : Machine) : Type 0 where
+  -- no job stands between two stages
+  pub agenda : m.agenda ≡ []
+  -- no list is full
+  pub few : (k : Kind) → length (queue_for k m).waiting < lanes_of k
+  -- each job that waits has rounds left
+  pub rests : (k : Kind) → All (λ w. 1 ≤ w.rest) (queue_for k m).waiting
+  -- each job is finished, or stands in exactly one list
+  pub placed : (n : ℕ) → IsPlaced m n (slice_index_or m.left n [])
+  pub stages : All (All HasRounds) m.left
+  -- each run that counts was on a full list
+  pub blocks : (k : Kind) → (queue_for k m).blocks ≡ (lanes_of k * (queue_for k m).rounds) % count_end
+
+-- the machine to which a job with these stages is submitted
+abbrev pub with_stages : List Pending → Machine → Machine
+with_stages stages m = record m { left = m.left ++ stages ∷ []; agenda = length m.left ∷ [] }
+
+-- what the course of a submission and a flush make of a machine between two calls, whatever waits in it: the course ends with
+-- nothing in the agenda, and a flush ends with the earliest job finished
+pub record KeepsMachines (m : Machine) : Type 0 where
+  pub submits : (stages : List Pending) → All HasRounds stages → IsBetweenCalls (course cause.Submit (with_stages stages m))
+  pub flushes : IsBetweenCalls (flushed m)
+  pub earliest : m.left ≢ [] → slice_get (flushed m).left 0 ≡ Some []

@@ -1,0 +1,159 @@
+//! The lists of all kinds. What is the same for every kind stands in `lane`.
+
+ghost use Rattle.std.specs.Prelude.{◌≡◌, ◌<◌, ◌≤◌, IfOk, vec_capacity};
+ghost use Rattle.mbj_types.specs.Kinds.{lanes_of};
+ghost use Rattle.mbj_ring.specs.declared.ring.TheConstants.{CELLS};
+ghost use Rattle.mbj_manager.specs.Inside.Courses.{AreCourses, IsSameRing, courses, number_in};
+ghost use Rattle.mbj_manager.specs.Inside.Desk.{Enters, IsReady, MayEnter, ran_at};
+ghost use Rattle.mbj_manager.specs.Inside.LaneQueues.{desk_of, placed_in, no_queues, waiting_in, with_placed};
+
+use crate::agenda::Agenda;
+use crate::cell::Cell;
+use crate::lane::{Cause, enter, run_within};
+use crate::lane_queue::LaneQueue;
+use mbj_cbc::CbcKernel;
+use mbj_cmac::CmacKernel;
+use mbj_hmac::{Hmac1Kernel, Hmac256Kernel, Hmac512Kernel};
+use mbj_ring::Ring;
+use mbj_types::Kind;
+use std::alloc::{AllocError, Global};
+
+/// The jobs that wait for lanes, kind by kind.
+#[derive(Drop)]
+pub struct LaneQueues {
+    pub cbc128: LaneQueue<CbcKernel<10>>,
+    pub cbc192: LaneQueue<CbcKernel<12>>,
+    pub cbc256: LaneQueue<CbcKernel<14>>,
+    pub cmac128: LaneQueue<CmacKernel<10>>,
+    pub cmac256: LaneQueue<CmacKernel<14>>,
+    pub hmac_sha1: LaneQueue<Hmac1Kernel>,
+    pub hmac_sha256: LaneQueue<Hmac256Kernel>,
+    pub hmac_sha512: LaneQueue<Hmac512Kernel>,
+    /// How many runs there were within a flush, modulo 2^64.
+    pub flush_runs: u64,
+}
+
+/// What the macro `work` writes for the list of a kind.
+macro_rules! at_kind {
+    ($kind:expr, $work:ident) => {
+        match $kind {
+            Kind::Cbc128 => $work!(cbc128),
+            Kind::Cbc192 => $work!(cbc192),
+            Kind::Cbc256 => $work!(cbc256),
+            Kind::Cmac128 => $work!(cmac128),
+            Kind::Cmac256 => $work!(cmac256),
+            Kind::HmacSha1 => $work!(hmac_sha1),
+            Kind::HmacSha256 => $work!(hmac_sha256),
+            Kind::HmacSha512 => $work!(hmac_sha512),
+        }
+    };
+}
+
+impl LaneQueues {
+    /// LaneQueues with nobody in them, and counts of 0. It takes the memory of all lanes; no other call takes any.
+    pub(crate) fn new(alloc: Global) -> Result<LaneQueues, AllocError>
+        ensures { IfOk result (λ l. l ≡ no_queues) }
+    {
+        Ok(LaneQueues {
+            cbc128: LaneQueue::new(alloc)?,
+            cbc192: LaneQueue::new(alloc)?,
+            cbc256: LaneQueue::new(alloc)?,
+            cmac128: LaneQueue::new(alloc)?,
+            cmac256: LaneQueue::new(alloc)?,
+            hmac_sha1: LaneQueue::new(alloc)?,
+            hmac_sha256: LaneQueue::new(alloc)?,
+            hmac_sha512: LaneQueue::new(alloc)?,
+            flush_runs: 0,
+        })
+    }
+
+    /// The course at a place goes into the list of a kind, which runs where it is full then.
+    pub(crate) fn enter(
+        &mut self,
+        kind: Kind,
+        cause: Cause,
+        ring: &mut Ring<Cell>,
+        agenda: &mut Agenda,
+        place: u32,
+    )
+        requires ring { AreCourses ring.old }
+        requires place { place < CELLS }
+        requires may { MayEnter (lanes_of kind) kind (number_in ring.old place)
+            (desk_of kind (number_in ring.old) (courses ring.old) agenda.old.places.items self.old) (vec_capacity agenda.old.places) }
+        ensures ring { IsSameRing ring.new ring.old }
+        ensures room { vec_capacity agenda.new.places ≡ vec_capacity agenda.old.places }
+        ensures entered { Enters cause (lanes_of kind) kind (number_in ring.old place)
+            (desk_of kind (number_in ring.old) (courses ring.old) agenda.old.places.items self.old)
+            (desk_of kind (number_in ring.old) (courses ring.new) agenda.new.places.items self.new) }
+        ensures others { self.new ≡ with_placed kind (placed_in kind self.new) self.new.flush_runs self.old }
+    {
+        macro_rules! enter_at {
+            ($list:ident) => {
+                enter(cause, &mut self.$list, &mut self.flush_runs, ring, agenda, place)
+            };
+        }
+        at_kind!(kind, enter_at)
+    }
+
+    /// The list of a kind runs within a flush.
+    pub(crate) fn run(&mut self, kind: Kind, ring: &mut Ring<Cell>, agenda: &mut Agenda)
+        requires ring { AreCourses ring.old }
+        requires ready { IsReady kind (desk_of kind (number_in ring.old) (courses ring.old) agenda.old.places.items self.old)
+            (vec_capacity agenda.old.places) }
+        ensures ring { IsSameRing ring.new ring.old }
+        ensures room { vec_capacity agenda.new.places ≡ vec_capacity agenda.old.places }
+        ensures ran { desk_of kind (number_in ring.old) (courses ring.new) agenda.new.places.items self.new
+            ≡ ran_at Cause.Flush (desk_of kind (number_in ring.old) (courses ring.old) agenda.old.places.items self.old) }
+        ensures others { self.new ≡ with_placed kind (placed_in kind self.new) self.new.flush_runs self.old }
+    {
+        macro_rules! run_at {
+            ($list:ident) => {
+                run_within(Cause::Flush, &mut self.$list, &mut self.flush_runs, ring, agenda)
+            };
+        }
+        at_kind!(kind, run_at)
+    }
+
+    /// How many jobs wait in the list of a kind.
+    pub(crate) fn len(&self, kind: Kind) -> u32
+        ensures { result ≡ waiting_in self.now kind }
+    {
+        macro_rules! len_at {
+            ($list:ident) => {
+                self.$list.len()
+            };
+        }
+        at_kind!(kind, len_at)
+    }
+
+    /// How many rounds the full runs of a kind took.
+    pub(crate) fn rounds(&self, kind: Kind) -> u64
+        ensures { result ≡ (placed_in kind self.now).rounds }
+    {
+        macro_rules! rounds_at {
+            ($list:ident) => {
+                self.$list.rounds()
+            };
+        }
+        at_kind!(kind, rounds_at)
+    }
+
+    /// How many blocks went through the full runs of a kind.
+    pub(crate) fn blocks(&self, kind: Kind) -> u64
+        ensures { result ≡ (placed_in kind self.now).blocks }
+    {
+        macro_rules! blocks_at {
+            ($list:ident) => {
+                self.$list.blocks()
+            };
+        }
+        at_kind!(kind, blocks_at)
+    }
+
+    /// How many runs there were within a flush.
+    pub(crate) fn flush_runs(&self) -> u64
+        ensures { result ≡ self.now.flush_runs }
+    {
+        self.flush_runs
+    }
+}
