@@ -5,7 +5,7 @@ use lib.ListN.{length-map}
 use Rattle.circular_buffer.specs.Buffer.{Buffer, buffer, keep_last}
 use Rattle.mbj_types.specs.declared.done.Done.{Done}
 use Rattle.mbj_front.specs.Seats.{IsFirst}
-use Rattle.mbj_manager.specs.Rounds.{Pending}
+use Rattle.mbj_manager.specs.Machine.Stages.{Pending}
 use Rattle.mbj_manager.specs.State.{ManagerState, after_get_completed, given_at}
 use Rattle.mbj_work.specs.Inside.Holding.{cells_in, results_in}
 

@@ -1,6 +1,7 @@
 pub mod Deals
 pub mod Endless
 mod Lists
+mod PartyCalls
 pub mod Hands
 pub mod Keeping
 pub mod Rounds

@@ -3,4 +3,5 @@ pub mod Feeding
 pub mod Parties
 pub mod Hunts
 pub mod Claims
+pub mod Calls
 pub mod Inside

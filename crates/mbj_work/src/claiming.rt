@@ -1,14 +1,12 @@
 // What every party does with the jobs of others: it claims them, and its manager works them.
-ghost use Rattle.std.specs.Prelude.{◌≡◌, ◌≢◌, ℕ, ◌<◌, [], ◌∷◌, ◌++◌, None, Some, length, option_to_list, MatchBool};
+ghost use Rattle.std.specs.Prelude.{◌≡◌, ◌≢◌, ℕ, ◌<◌, [], None, Some, length, MatchBool};
 ghost use Rattle.circular_buffer.specs.Buffer.{buffer};
 ghost use Rattle.mbj_types.specs.declared.done.Done.{Done};
-ghost use Rattle.mbj_types.specs.Result.{result_of};
 ghost use Rattle.mbj_core.specs.declared.party.Phase.TheVariants.{Rest};
 ghost use Rattle.mbj_front.specs.declared.words.TheConstants.{READY};
 ghost use Rattle.mbj_front.specs.Seats.{view_of, cells_of, IsFirst, IsOf};
 ghost use Rattle.mbj_front.specs.Views.{after_finish, after_look};
-ghost use Rattle.mbj_manager.specs.State.{after_get_completed, after_submit, with_open};
-ghost use Rattle.mbj_ring.specs.declared.ring.TheConstants.{CELLS};
+ghost use Rattle.mbj_manager.specs.State.{after_get_completed};
 ghost use Rattle.mbj_work.specs.declared.party.TheConstants.{HAND_ROOM};
 ghost use Rattle.mbj_work.specs.Parties.{part_of, manager_of, IsPartyOf, KeepsDue};
 ghost use Rattle.mbj_work.specs.Claims.{MatchClaimed, IfNot, FinishesFirst, ClaimsJob, Settles};
@@ -19,19 +17,7 @@ use crate::gate::{Gate, Moment, OpenGate};
 use crate::party::Party;
 use circular_buffer::HeapCircularBuffer;
 use mbj_front::{Front, Seat};
-use mbj_manager::Manager;
-use mbj_types::{Done, Job};
-
-/// Gives a job to a manager that has a cell for it.
-fn submit(manager: &mut Manager, job: Job) -> Option<Done>
-    requires room { length manager.old.owed < CELLS }
-    ensures result { result ≡ (after_submit (with_open manager.old job)).0 }
-    ensures state { manager.new ≡ (after_submit (with_open manager.old job)).1 }
-    ensures order { option_to_list result ++ manager.new.owed ≡ manager.old.owed ++ result_of job ∷ [] }
-{
-    manager.put_next(job);
-    manager.submit()
-}
+use mbj_types::Done;
 
 /// Finishes the first cell in the hand with its result, after the gate is passed.
 fn finish_first<G: Gate>(
@@ -93,7 +79,7 @@ impl Party {
             Ok(job) => {
                 self.cells.push_back(cell);
                 gate.pass(self.seat.party(), Moment::Claimed);
-                if let Some(done) = submit(&mut self.manager, job) {
+                if let Some(done) = self.manager.submit_job(job) {
                     finish_first(front, &mut self.seat, &mut self.cells, done, gate);
                 }
                 Claimed::Yes

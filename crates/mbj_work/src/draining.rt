@@ -1,9 +1,11 @@
 // How a submitter waits for its results, and helps with its own jobs meanwhile.
-ghost use Rattle.std.specs.Prelude.{◌≡◌, ◌+◌, ◌-◌, ◌<◌, ◌≤◌, [], ◌++◌, drop, length, vec_capacity, vec_len};
+ghost use Rattle.std.specs.Prelude.{◌≡◌, ◌+◌, ◌-◌, ◌<◌, ◌≤◌, List, [], ◌++◌, drop, length, vec_capacity, vec_len};
 ghost use Rattle.mbj_front.specs.Seats.{cells_of};
 ghost use Rattle.mbj_front.specs.Views.{after_finish};
 ghost use Rattle.mbj_work.specs.Parties.{part_of, IsPartyOf, Submits, KeepsDue};
+ghost use Rattle.mbj_work.specs.Calls.{Drains};
 ghost use Rattle.mbj_work.specs.Inside.Runs.{with_due};
+ghost use Rattle.mbj_types.specs.declared.done.Done.{Done};
 
 use crate::claimed::Claimed;
 use crate::gate::Gate;
@@ -11,12 +13,12 @@ use crate::party::{HAND_ROOM, Party};
 use crossbeam_utils::Backoff;
 use mbj_core::cell_at;
 use mbj_front::{Front, READY};
-use mbj_types::Done;
+use mbj_types::{AES_LANES, Done};
 use std::sync::Wait;
 
-/// How many of its own jobs a submitter claims at once where it helps: as many as the longest list has lanes, so that
-/// the lists fill up, and the workers find the other jobs.
-const CLAIMS: u32 = 16;
+/// How many of its own jobs a submitter claims at once where it helps: as many as the longest lane queue holds, so
+/// that the queues fill up, and the workers find the other jobs.
+const CLAIMS: u32 = AES_LANES as u32;
 
 impl Party {
     /// Collects until nothing of this submitter is out, and appends the results, for which there is room, in the order of
@@ -37,6 +39,7 @@ impl Party {
         ensures handed { (part_of self.new).handed ≡ length (part_of self.old).due }
         ensures hand { (part_of self.new).hand ≡ [] }
         ensures results { results.new.items ≡ results.old.items ++ drop (part_of self.old).handed (part_of self.old).due }
+        ensures call { (ds : List Done) × ((results.new.items ≡ results.old.items ++ ds) × Drains ds (part_of self.old) (part_of self.new)) }
         ensures room { vec_capacity results.new ≡ vec_capacity results.old }
     {
         self.collect_down_to(rt, front, gate, results, 0);

@@ -21,7 +21,6 @@ pub fn submit_job(manager: &mut Manager, job: Job) -> Submitted
     ensures order { given_back result ++ manager.new.owed ≡ manager.old.owed ++ result_of job ∷ [] }
 {
     let flushed = manager.make_room();
-    manager.put_next(job);
-    let given = manager.submit();
+    let given = manager.submit_job(job);
     Submitted { flushed, given }
 }

@@ -1,6 +1,9 @@
 ghost use Rattle.std.specs.Prelude.{◌≡◌, map};
 ghost use Rattle.mbj_core.specs.declared.party.Phase.TheVariants.{Rest};
 ghost use Rattle.mbj_work.specs.Parties.{part_of, manager_of};
+ghost use Rattle.mbj_work.specs.Calls.{CollectsInOrder, DrainsCollectAll};
+ghost use Rattle.mbj_ring.specs.declared.ring.TheConstants.{CELLS};
+ghost use Rattle.mbj_work.specs.declared.party.TheConstants.{HAND_ROOM};
 
 use crate::party::Party;
 
@@ -14,3 +17,16 @@ impl Party {
         let _ = &self.seat;
     }
 }
+
+/// A law: a hand holds as many cells as a manager's ring has.
+pub fn a_hand_holds_a_ring()
+    ensures { HAND_ROOM ≡ CELLS }
+{}
+
+/// A law: over every list of calls of one party, in any order and with any outcome that the calls' own clauses allow, what it
+/// collected is a front of the results of the jobs that it posted, in the order of its posts and each once; and after a drain it
+/// is all of them.
+pub fn results_are_collected_in_order()
+    ensures order { CollectsInOrder }
+    ensures drained { DrainsCollectAll }
+{}

@@ -24,6 +24,7 @@ pub use claimed::Claimed;
 pub use dealing::do_jobs;
 pub use feeding::{Submitted, submit_job};
 pub use gate::{Gate, Moment, OpenGate};
+pub use laws::{a_hand_holds_a_ring, results_are_collected_in_order};
 pub use party::{HAND_ROOM, Party};
 pub use private::run_private;
 pub use results::Results;

@@ -1,3 +1,6 @@
+//! Each list of jobs through a manager of its own, without a front. No product calls it: tests and the bench compare runs over a
+//! front with it.
+
 ghost use Rattle.std.specs.Prelude.{◌≡◌, ◌<◌, ℕ, IfOk, length, map, slice_index_or};
 ghost use Rattle.mbj_types.specs.Result.{result_of};
 
