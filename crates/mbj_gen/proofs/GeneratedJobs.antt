@@ -2,6 +2,7 @@
 use Rattle.std.proofs.Common.{◌≡◌, ℕ, zero, suc, ◌+◌, ◌-◌, ◌*◌, ◌%◌, ◌<◌, ◌≤◌, List, [], ◌∷◌, ◌++◌, append_assoc, length, map, slice_get, Some, refl, sym, subst, ap, ◌∙◌, arith}
 use Rattle.std.proofs.lemmas.List.{length-map}
 use Rattle.std.proofs.lemmas.Nat.{mod_below}
+use Rattle.mbj_types.specs.Auths.{class_of}
 use Rattle.mbj_types.specs.Result.{result_of}
 use Rattle.mbj_types.specs.declared.job.Job.{Job}
 use Rattle.mbj_types.specs.declared.done.Done.{Done}
@@ -28,7 +29,7 @@ packet-small x =
     let n : ℕ = 16 * (1 + b % 32) in
     let below : b % 32 < 32 = mod_below b 32 (omega arith) in
     let ciphered = ciphered_by (bare x).0.cipher n (bare x).0 (byte (bare x).1).1 in
-    let y : ℕ = (authenticated_by ciphered.0.auth n ciphered.0 ciphered.1).1 in
+    let y : ℕ = (authenticated_by (class_of ciphered.0.auth) n ciphered.0 ciphered.1).1 in
     omega (arith, length-draws byte n y)
 
 -- one more job is made

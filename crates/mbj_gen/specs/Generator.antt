@@ -1,6 +1,9 @@
 -- Jobs that are drawn from a state, a number of 64 bits. What draws answers what it drew, and the state after it.
 use Rattle.std.specs.Prelude.{◌+◌, ◌-◌, ◌*◌, ◌/◌, ◌%◌, ◌^◌, ◌==◌, ℕ, zero, suc, List, [], ◌∷◌, if◌then◌else◌, get_or}
+use Rattle.mbj_types.specs.Auths.{class_of, cmac_key_bytes}
 use Rattle.mbj_types.specs.Blank.{blank}
+use Rattle.mbj_types.specs.declared.class.AuthClass.{AuthClass}
+use Rattle.mbj_types.specs.declared.class.AuthClass.TheVariants as class
 use Rattle.mbj_types.specs.declared.job.Job.{Job}
 use Rattle.mbj_types.specs.declared.job.Cipher.{Cipher}
 use Rattle.mbj_types.specs.declared.job.Cipher.TheVariants as cipher
@@ -61,7 +64,8 @@ iv_length cipher.Gcm x = (12, x)
 abbrev pub cipher_length : Cipher → ℕ → ℕ → ℕ × ℕ
 cipher_length cipher.Null n x = (0, x)
 cipher_length cipher.Cbc n x = (n, x)
-cipher_length _ n x = shortened n x
+cipher_length cipher.Ctr n x = shortened n x
+cipher_length cipher.Gcm n x = shortened n x
 
 -- a key of 16, 24 or 32 bytes, an IV and a range
 unfoldable pub keyed : ℕ → Job → ℕ → Job × ℕ
@@ -75,7 +79,9 @@ keyed n j x =
 
 abbrev pub ciphered_by : Cipher → ℕ → Job → ℕ → Job × ℕ
 ciphered_by cipher.Null n j x = (j, x)
-ciphered_by _ n j x = keyed n j x
+ciphered_by cipher.Cbc n j x = keyed n j x
+ciphered_by cipher.Ctr n j x = keyed n j x
+ciphered_by cipher.Gcm n j x = keyed n j x
 
 -- a key of k bytes and a range
 unfoldable pub hashed : ℕ → ℕ → Job → ℕ → Job × ℕ
@@ -84,13 +90,19 @@ hashed k n j x =
     let len = shortened n key.1 in
     (record j { auth_key = key.0; hash_len = len.0 }, len.1)
 
--- a job with an HMAC has a key of up to 255 bytes, one with GCM up to 63 bytes of additional authenticated data
-abbrev pub authenticated_by : Auth → ℕ → Job → ℕ → Job × ℕ
-authenticated_by auth.Null n j x = (j, x)
-authenticated_by auth.Cmac128 n j x = hashed 16 n j x
-authenticated_by auth.Cmac256 n j x = hashed 32 n j x
-authenticated_by auth.Gcm n j x = let b = byte x in let aad = draws byte (b.0 % 64) b.1 in (record j { aad = aad.0 }, aad.1)
-authenticated_by _ n j x = let b = byte x in hashed b.0 n j b.1
+-- a key of up to 255 bytes and a range
+abbrev pub hmac_keyed : ℕ → Job → ℕ → Job × ℕ
+hmac_keyed n j x = let b = byte x in hashed b.0 n j b.1
+
+-- up to 63 bytes of additional authenticated data
+abbrev pub with_aad : Job → ℕ → Job × ℕ
+with_aad j x = let b = byte x in let aad = draws byte (b.0 % 64) b.1 in (record j { aad = aad.0 }, aad.1)
+
+abbrev pub authenticated_by : AuthClass → ℕ → Job → ℕ → Job × ℕ
+authenticated_by class.Null n j x = (j, x)
+authenticated_by (class.Hmac h) n j x = hmac_keyed n j x
+authenticated_by (class.Cmac k) n j x = hashed (cmac_key_bytes k) n j x
+authenticated_by class.Gcm n j x = with_aad j x
 
 -- ---- the job
 
@@ -118,6 +130,6 @@ job x =
     let b = byte j.1 in
     let n = 16 * (1 + b.0 % 32) in
     let ciphered = ciphered_by j.0.cipher n j.0 b.1 in
-    let authenticated = authenticated_by ciphered.0.auth n ciphered.0 ciphered.1 in
+    let authenticated = authenticated_by (class_of ciphered.0.auth) n ciphered.0 ciphered.1 in
     let packet = draws byte n authenticated.1 in
     (record authenticated.0 { packet = packet.0 }, packet.1)

@@ -1,8 +1,9 @@
 ghost use Rattle.std.specs.Prelude.{◌≡◌, ◌≤◌, ◌==◌, ◌%◌, ℕ, IfOk, OnErr, OnOk, if◌then◌else◌};
-ghost use Rattle.mbj_gen.specs.Generator.{authenticated_by, bare, byte, cipher_length, ciphered_by, draws as drawn, hashed, iv_length, job, keyed, recipe_of};
+ghost use Rattle.mbj_types.specs.Auths.{class_of};
+ghost use Rattle.mbj_gen.specs.Generator.{authenticated_by, bare, byte, cipher_length, ciphered_by, draws as drawn, hashed, hmac_keyed, iv_length, job, keyed, recipe_of, with_aad};
 
 use crate::draws::Draws;
-use mbj_types::{Auth, Cipher, Dir, Job, Order};
+use mbj_types::{Auth, AuthClass, Cipher, Dir, Job, Order};
 use std::alloc::{AllocError, Global};
 use std::marker::Model;
 
@@ -161,8 +162,8 @@ fn draw_hash(
 
 /// Draws the additional authenticated data of a job with GCM.
 fn draw_aad(draws: &mut Draws, alloc: Global, job: &mut Job) -> Result<(), AllocError>
-    ensures { (n : ℕ) → OnOk result ((job.new ≡ (authenticated_by Auth.Gcm n job.old draws.old.state).0)
-        × (draws.new.state ≡ (authenticated_by Auth.Gcm n job.old draws.old.state).1)) }
+    ensures { OnOk result ((job.new ≡ (with_aad job.old draws.old.state).0)
+        × (draws.new.state ≡ (with_aad job.old draws.old.state).1)) }
 {
     let aad_bytes = (draws.byte() % AAD_BYTES) as usize;
     job.aad = draws.bytes(alloc, aad_bytes)?;
@@ -172,8 +173,8 @@ fn draw_aad(draws: &mut Draws, alloc: Global, job: &mut Job) -> Result<(), Alloc
 /// Draws the key's length, the key and the range of a job with an HMAC.
 fn draw_hmac(draws: &mut Draws, alloc: Global, length: u32, job: &mut Job) -> Result<(), AllocError>
     requires { 16 ≤ length }
-    ensures { OnOk result ((job.new ≡ (authenticated_by Auth.HmacSha1 length job.old draws.old.state).0)
-        × (draws.new.state ≡ (authenticated_by Auth.HmacSha1 length job.old draws.old.state).1)) }
+    ensures { OnOk result ((job.new ≡ (hmac_keyed length job.old draws.old.state).0)
+        × (draws.new.state ≡ (hmac_keyed length job.old draws.old.state).1)) }
 {
     let key_bytes = draws.byte() as usize;
     draw_hash(draws, alloc, key_bytes, length, job)
@@ -182,19 +183,14 @@ fn draw_hmac(draws: &mut Draws, alloc: Global, length: u32, job: &mut Job) -> Re
 /// Draws what the job's authentication needs.
 fn draw_auth(draws: &mut Draws, alloc: Global, length: u32, job: &mut Job) -> Result<(), AllocError>
     requires { 16 ≤ length }
-    ensures { OnOk result ((job.new ≡ (authenticated_by job.old.auth length job.old draws.old.state).0)
-        × (draws.new.state ≡ (authenticated_by job.old.auth length job.old draws.old.state).1)) }
+    ensures { OnOk result (let drawn = authenticated_by (class_of job.old.auth) length job.old draws.old.state in
+        (job.new ≡ drawn.0) × (draws.new.state ≡ drawn.1)) }
 {
-    match job.auth {
-        Auth::Null => Ok(()),
-        Auth::HmacSha1
-        | Auth::HmacSha224
-        | Auth::HmacSha256
-        | Auth::HmacSha384
-        | Auth::HmacSha512 => draw_hmac(draws, alloc, length, job),
-        Auth::Cmac128 => draw_hash(draws, alloc, 16, length, job),
-        Auth::Cmac256 => draw_hash(draws, alloc, 32, length, job),
-        Auth::Gcm => draw_aad(draws, alloc, job),
+    match job.auth.class() {
+        AuthClass::Null => Ok(()),
+        AuthClass::Hmac(_) => draw_hmac(draws, alloc, length, job),
+        AuthClass::Cmac(key) => draw_hash(draws, alloc, key.bytes(), length, job),
+        AuthClass::Gcm => draw_aad(draws, alloc, job),
     }
 }
 
@@ -227,7 +223,7 @@ fn draw_parts(
     requires { 16 ≤ length }
     ensures { OnOk result (
         let ciphered = ciphered_by job.old.cipher length job.old draws.old.state in
-        let authenticated = authenticated_by ciphered.0.auth length ciphered.0 ciphered.1 in
+        let authenticated = authenticated_by (class_of ciphered.0.auth) length ciphered.0 ciphered.1 in
         let packet = drawn byte length authenticated.1 in
         (job.new ≡ record authenticated.0 { packet = packet.0 }) × (draws.new.state ≡ packet.1)) }
 {
