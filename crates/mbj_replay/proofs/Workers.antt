@@ -20,7 +20,7 @@ use Rattle.mbj_core.specs.declared.cells.TheConstants.{SUBMITTER_CELLS}
 use Rattle.mbj_core.proofs.Calls.{Sizes, claims_lead, finishes_lead}
 use Rattle.mbj_core.proofs.Steps.{step_sound}
 use Rattle.mbj_ring.specs.declared.ring.TheConstants as ring
-use Rattle.mbj_manager.specs.Rounds.{Pending}
+use Rattle.mbj_manager.specs.Machine.Stages.{Pending}
 use Rattle.mbj_manager.specs.State.{ManagerState, after_flush, given_at, new_manager, after_submit, with_open}
 use Rattle.mbj_text.specs.declared.command.Cmd.TheVariants as command
 use Rattle.mbj_replay.specs.Events.{Answered, ResultIs, Tells}

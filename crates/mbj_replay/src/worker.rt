@@ -65,8 +65,7 @@ impl Worker {
             ≡ self.old.manager.owed ++ result_of job ∷ [] }
     {
         self.hand.push_reserved(cell);
-        self.manager.put_next(job);
-        let done = self.manager.submit();
+        let done = self.manager.submit_job(job);
         take_first(&mut self.hand, done)
     }
 

@@ -5,7 +5,7 @@ use Rattle.mbj_types.specs.declared.done.Done.{Done}
 use Rattle.mbj_types.specs.declared.kind.Kind.{Kind}
 use Rattle.mbj_types.specs.Kinds.{all_kinds}
 use Rattle.mbj_ring.specs.declared.ring.TheConstants.{CELLS}
-use Rattle.mbj_manager.specs.Machine.{Machine, lane_for}
+use Rattle.mbj_manager.specs.Machine.Queues.{Machine, queue_for}
 use Rattle.mbj_manager.specs.State.{ManagerState, new_manager, with_open, after_submit, after_get_completed, after_flush}
 use Rattle.mbj_trace.specs.Lines.{line_text}
 use Rattle.mbj_trace.specs.declared.line.TraceLine.{TraceLine}
@@ -70,7 +70,7 @@ all_told how t = takes_told how (length t.manager.owed) t
 
 -- the rounds and blocks of a kind whose lists ran
 abbrev pub count_lines : Machine → Kind → List TraceLine
-count_lines m k = let l = lane_for k m in if l.rounds == 0 then [] else line.Rounds k l.rounds l.blocks ∷ []
+count_lines m k = let l = queue_for k m in if l.rounds == 0 then [] else line.Rounds k l.rounds l.blocks ∷ []
 
 -- ---- the whole
 

@@ -82,8 +82,7 @@ impl Tracer {
         ensures count { OnOk result (jobs_in (state_of self.new) ≡ jobs_in (state_of self.old) + 1) }
     {
         self.make_room()?;
-        self.manager.put_next(job);
-        let done = self.manager.submit();
+        let done = self.manager.submit_job(job);
         let given = self.number(done);
         self.lines.push(TraceLine::Submit { job: number, given })?;
         Ok(())
