@@ -8,6 +8,8 @@ use crate::options::{JOBS, SEED, SUBMITTERS, WORKERS, number};
 use clap::ArgMatches;
 use clap::error::ErrorKind;
 use std::alloc::Global;
+use std::error::Error;
+use std::fmt;
 
 /// What a command line asks for.
 #[derive(Clone, Copy, Debug, PartialEq, Eq)]
@@ -50,6 +52,17 @@ impl WordFault {
         String::from_str(alloc, text).map_or(WordFault::Memory, WordFault::Text)
     }
 }
+
+impl fmt::Display for WordFault {
+    fn fmt<W: fmt::Write>(&self, f: &mut fmt::Formatter<W>) -> fmt::Result {
+        f.write_str(match self {
+            WordFault::Text(text) => text.as_str(),
+            WordFault::Memory => "not enough memory to read the command line",
+        })
+    }
+}
+
+impl Error for WordFault {}
 
 /// How many submitters and workers were asked for.
 fn parties(matches: &ArgMatches<'_>) -> Option<(u32, u32)>
