@@ -5,8 +5,8 @@ use crate::hash::{Compression, Hash, TURN_BYTES, lead, print_digests, print_time
 use crate::line::{print_bytes, print_words};
 use crate::vector::Vector;
 use mbj_hmac::{LaneHash, Sha1Lanes, Sha256Lanes, Sha512Lanes};
-use mbj_sha_lanes::{load32, load64};
-use mbj_types::{Auth, Lane32, Lane64};
+use mbj_sha_lanes::{Load32, Load64};
+use mbj_types::{HashName, Lane32, Lane64};
 use sha2::Digest;
 use std::io::{self, Print};
 use std::simd::{u32x4, u32x8, u64x2, u64x4};
@@ -61,17 +61,17 @@ impl Hash for Sha1 {
     }
 
     fn narrow(blocks: &Blocks32, calls: u32, lane: usize) -> [u64; 8] {
-        let mut words = load32::block_words(blocks).map(|lanes| lanes.extract::<0, 4>());
+        let mut words = u32x8::block_words(blocks).map(|lanes| lanes.extract::<0, 4>());
         lead::<u32x4, Sha1>(&mut [u32x4::splat(0); 5], &mut words, calls, lane)
     }
 
     fn wide(blocks: &Blocks32, calls: u32, lane: usize) -> [u64; 8] {
-        let mut words = load32::block_words(blocks);
+        let mut words = u32x8::block_words(blocks);
         lead::<u32x8, Sha1>(&mut [u32x8::splat(0); 5], &mut words, calls, lane)
     }
 
     fn arrays(blocks: &Blocks32, calls: u32, lane: usize) -> [u64; 8] {
-        let mut states = [Sha1Lanes::initial(Auth::HmacSha1); 8];
+        let mut states = [Sha1Lanes::initial(HashName::Sha1); 8];
         for _ in 0..calls {
             mbj_sha1_lanes::compress(&mut states, blocks);
         }
@@ -79,7 +79,7 @@ impl Hash for Sha1 {
     }
 
     fn long_digest() -> [u64; 8] {
-        let mut states = [Sha1Lanes::initial(Auth::HmacSha1); 8];
+        let mut states = [Sha1Lanes::initial(HashName::Sha1); 8];
         for block in padded::<128>(MESSAGE_448).as_chunks::<64>().0 {
             mbj_sha1_lanes::compress(&mut states, &[*block; 8]);
         }
@@ -103,7 +103,7 @@ impl<V: Vector + Lane32> Compression<V> for Sha1 {
     ghost count = { 5 };
 
     fn initial() -> [u64; 8] {
-        widened(&Sha1Lanes::initial(Auth::HmacSha1))
+        widened(&Sha1Lanes::initial(HashName::Sha1))
     }
 
     fn compress(states: &mut [V], words: &mut [V]) {
@@ -129,17 +129,17 @@ impl Hash for Sha256 {
     }
 
     fn narrow(blocks: &Blocks32, calls: u32, lane: usize) -> [u64; 8] {
-        let mut words = load32::block_words(blocks).map(|lanes| lanes.extract::<0, 4>());
+        let mut words = u32x8::block_words(blocks).map(|lanes| lanes.extract::<0, 4>());
         lead::<u32x4, Sha256>(&mut [u32x4::splat(0); 8], &mut words, calls, lane)
     }
 
     fn wide(blocks: &Blocks32, calls: u32, lane: usize) -> [u64; 8] {
-        let mut words = load32::block_words(blocks);
+        let mut words = u32x8::block_words(blocks);
         lead::<u32x8, Sha256>(&mut [u32x8::splat(0); 8], &mut words, calls, lane)
     }
 
     fn arrays(blocks: &Blocks32, calls: u32, lane: usize) -> [u64; 8] {
-        let mut states = [Sha256Lanes::initial(Auth::HmacSha256); 8];
+        let mut states = [Sha256Lanes::initial(HashName::Sha256); 8];
         for _ in 0..calls {
             mbj_sha256_lanes::compress(&mut states, blocks);
         }
@@ -147,7 +147,7 @@ impl Hash for Sha256 {
     }
 
     fn long_digest() -> [u64; 8] {
-        let mut states = [Sha256Lanes::initial(Auth::HmacSha256); 8];
+        let mut states = [Sha256Lanes::initial(HashName::Sha256); 8];
         for block in padded::<128>(MESSAGE_448).as_chunks::<64>().0 {
             mbj_sha256_lanes::compress(&mut states, &[*block; 8]);
         }
@@ -171,7 +171,7 @@ impl<V: Vector + Lane32> Compression<V> for Sha256 {
     ghost count = { 8 };
 
     fn initial() -> [u64; 8] {
-        widened(&Sha256Lanes::initial(Auth::HmacSha256))
+        widened(&Sha256Lanes::initial(HashName::Sha256))
     }
 
     fn compress(states: &mut [V], words: &mut [V]) {
@@ -197,17 +197,17 @@ impl Hash for Sha512 {
     }
 
     fn narrow(blocks: &Blocks64, calls: u32, lane: usize) -> [u64; 8] {
-        let mut words = load64::block_words(blocks).map(|lanes| lanes.extract::<0, 2>());
+        let mut words = u64x4::block_words(blocks).map(|lanes| lanes.extract::<0, 2>());
         lead::<u64x2, Sha512>(&mut [u64x2::splat(0); 8], &mut words, calls, lane)
     }
 
     fn wide(blocks: &Blocks64, calls: u32, lane: usize) -> [u64; 8] {
-        let mut words = load64::block_words(blocks);
+        let mut words = u64x4::block_words(blocks);
         lead::<u64x4, Sha512>(&mut [u64x4::splat(0); 8], &mut words, calls, lane)
     }
 
     fn arrays(blocks: &Blocks64, calls: u32, lane: usize) -> [u64; 8] {
-        let mut states = [Sha512Lanes::initial(Auth::HmacSha512); 4];
+        let mut states = [Sha512Lanes::initial(HashName::Sha512); 4];
         for _ in 0..calls {
             mbj_sha512_lanes::compress(&mut states, blocks);
         }
@@ -215,7 +215,7 @@ impl Hash for Sha512 {
     }
 
     fn long_digest() -> [u64; 8] {
-        let mut states = [Sha512Lanes::initial(Auth::HmacSha512); 4];
+        let mut states = [Sha512Lanes::initial(HashName::Sha512); 4];
         for block in padded::<256>(MESSAGE_896).as_chunks::<128>().0 {
             mbj_sha512_lanes::compress(&mut states, &[*block; 4]);
         }
@@ -239,7 +239,7 @@ impl<V: Vector + Lane64> Compression<V> for Sha512 {
     ghost count = { 8 };
 
     fn initial() -> [u64; 8] {
-        Sha512Lanes::initial(Auth::HmacSha512)
+        Sha512Lanes::initial(HashName::Sha512)
     }
 
     fn compress(states: &mut [V], words: &mut [V]) {

@@ -7,6 +7,7 @@ use crate::lists::{LENGTHS, nanos_of_packets};
 use crate::making::{null_job, packets, put_auth, put_cipher};
 use mbj_manager::Manager;
 use mbj_types::{Auth, Cipher, Done, Job, Kind};
+use mbj_work::submit_job;
 use std::alloc::{AllocError, Global};
 use std::io::{self, Print};
 use std::time::{Clock, Instant};
@@ -75,10 +76,9 @@ fn keep(results: &mut Vec<Done>, given: Option<Done>) -> Result<(), AllocError> 
 
 /// Puts a job through a manager.
 fn run_job(manager: &mut Manager, job: Job, results: &mut Vec<Done>) -> Result<(), AllocError> {
-    let earliest = manager.make_room();
-    manager.put_next(job);
-    keep(results, earliest)?;
-    keep(results, manager.submit())
+    let submitted = submit_job(manager, job);
+    keep(results, submitted.flushed)?;
+    keep(results, submitted.given)
 }
 
 /// Puts jobs through a manager, and keeps their results. The memory of the list stays, so that its return isn't timed.

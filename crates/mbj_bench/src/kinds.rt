@@ -1,6 +1,7 @@
 //! The kinds of entries that wait for lanes, each with its plain function.
 ghost use Rattle.std.specs.Prelude.{◌≡◌, ◌%◌, ◌≤◌, IfSome, IsTrue, length};
 ghost use Rattle.mbj_types.specs.Auths.{IsHmac};
+ghost use Rattle.mbj_hmac.specs.Names.{serves_auth};
 ghost use Rattle.mbj_aes.specs.Bytes.{IsKeySize};
 ghost use Rattle.mbj_bench.specs.declared.kinds.TheConstants.{MOST_BYTES};
 
@@ -102,7 +103,7 @@ impl<const N: usize> Timed for CmacKernel<N> {
 pub trait TimedHash: LaneHash {
     /// The HMAC.
     fn auth() -> Auth
-        ensures served { IsTrue (Self.serves result) }
+        ensures served { IsTrue (serves_auth Self.chaining result) }
         ensures hmac { IsHmac result };
 }
 

@@ -37,7 +37,7 @@ pub fn put_auth(
     tag_len: u8,
 ) -> Result<(), AllocError> {
     job.auth = auth;
-    job.auth_key = Bytes::from_vec(key.to_vec(alloc)?);
+    job.auth_key = Bytes::from_slice(alloc, key)?;
     job.hash_len = job.packet.as_slice().len().min(MOST_BYTES) as u32;
     job.tag_len = tag_len;
     Ok(())
@@ -52,8 +52,8 @@ pub fn put_cipher(
     iv: &[u8],
 ) -> Result<(), AllocError> {
     job.cipher = cipher;
-    job.key = Bytes::from_vec(key.to_vec(alloc)?);
-    job.iv = Bytes::from_vec(iv.to_vec(alloc)?);
+    job.key = Bytes::from_slice(alloc, key)?;
+    job.iv = Bytes::from_slice(alloc, iv)?;
     job.cipher_len = whole(job.packet.as_slice()) as u32;
     Ok(())
 }
