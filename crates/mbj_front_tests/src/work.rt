@@ -22,8 +22,8 @@ type Request<'a> = (&'a [u8], &'a [u8], u8);
 fn fill(alloc: Global, job: &mut Job, request: Request) -> Result<(), AllocError> {
     let (key, packet, tag_len) = request;
     job.auth = Auth::HmacSha1;
-    job.auth_key = Bytes::from_vec(key.to_vec(alloc)?);
-    job.packet = Bytes::from_vec(packet.to_vec(alloc)?);
+    job.auth_key = Bytes::from_slice(alloc, key)?;
+    job.packet = Bytes::from_slice(alloc, packet)?;
     job.hash_len = packet.len().min(100) as u32;
     job.tag_len = tag_len;
     Ok(())

@@ -5,7 +5,7 @@ use std::alloc::{AllocError, Global};
 
 /// Puts a copy of the bytes into a part of a job.
 pub(crate) fn put(alloc: Global, part: &mut Bytes, bytes: &[u8]) -> Result<(), AllocError> {
-    *part = Bytes::from_vec(bytes.to_vec(alloc)?);
+    *part = Bytes::from_slice(alloc, bytes)?;
     Ok(())
 }
 

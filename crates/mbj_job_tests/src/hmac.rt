@@ -1,4 +1,5 @@
 ghost use Rattle.std.specs.Prelude.{◌≡◌};
+ghost use Rattle.mbj_hmac.specs.Names.{serves_auth};
 
 use crate::compare::expect;
 use crate::lists::{Tried, case_of, expect_no_rest, packet_of, run_in_one_list};
@@ -88,7 +89,7 @@ fn a_key_is_padded_to_its_block(rt: HostRuntime) {
 /// Hashes whose lanes tell which authentications they serve.
 trait Serving: LaneHash {
     fn takes(auth: Auth) -> bool
-        ensures { result ≡ Self.serves auth };
+        ensures { result ≡ serves_auth Self.chaining auth };
 }
 
 impl Serving for Sha1Lanes {

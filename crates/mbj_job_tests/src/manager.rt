@@ -3,7 +3,8 @@ ghost use Rattle.mbj_types.specs.declared.job.Job.{Job};
 
 use crate::compare::expect;
 use crate::fill::{put, put_block};
-use mbj_manager::{HmacSha512Kernel, Manager, results_come_back_in_order};
+use mbj_hmac::Hmac512Kernel;
+use mbj_manager::{Manager, results_come_back_in_order};
 use mbj_types::{Auth, Bytes, Cipher, Done, Job, Kind, Order, Reason, RingFull, Status};
 use std::alloc::{AllocError, Global};
 use std::process::Abort;
@@ -18,8 +19,8 @@ const TAG: [u8; 20] = [
 // The README quotes these two functions.
 fn fill(alloc: Global, job: &mut Job) -> Result<(), AllocError> {
     job.auth = Auth::HmacSha1;
-    job.auth_key = Bytes::from_vec([0x0b; 20].to_vec(alloc)?);
-    job.packet = Bytes::from_vec(b"Hi There".to_vec(alloc)?);
+    job.auth_key = Bytes::from_slice(alloc, &[0x0b; 20])?;
+    job.packet = Bytes::from_slice(alloc, b"Hi There")?;
     job.hash_len = 8;
     job.tag_len = 20;
     Ok(())
@@ -166,7 +167,7 @@ const STEPS: [Step; 4] = [
 fn check_waiting(rt: &impl Abort, manager: &Manager, wanted: u32) {
     let waiting = manager.waiting(Kind::HmacSha512);
     expect(rt, "waiting", waiting, wanted);
-    let entries = manager.lanes::<HmacSha512Kernel>().len();
+    let entries = manager.lanes::<Hmac512Kernel>().len();
     expect(rt, "in lanes", entries, wanted);
 }
 
@@ -261,8 +262,7 @@ fn expect_done(rt: &impl Abort, back: Option<Done>) {
 fn submit_both(rt: &impl Abort, alloc: Global, manager: &mut Manager) -> Result<(), Fail> {
     for order in [Order::CipherHash, Order::HashCipher] {
         expect_none(rt, manager.make_room());
-        manager.put_next(job_of(alloc, order)?);
-        expect_none(rt, manager.submit());
+        expect_none(rt, manager.submit_job(job_of(alloc, order)?));
     }
     Ok(())
 }

@@ -2,15 +2,15 @@ ghost use Rattle.std.specs.Mem.{FitsInMemory};
 ghost use Rattle.std.specs.Prelude.{◌≡◌, ◌<◌, None, length};
 ghost use Rattle.mbj_types.specs.Result.{result_of};
 ghost use Rattle.mbj_lane.specs.Rounds.{end_of};
-ghost use Rattle.mbj_stage.specs.declared.stage.Stage.TheVariants as stage;
-ghost use Rattle.mbj_stage.specs.Going.{owed, stage_of};
+ghost use Rattle.mbj_stage.specs.Going.{owed};
+ghost use Rattle.mbj_stage.specs.Handing.{IsNext};
 
 use crate::fill::{put, put_block};
 use mbj_cbc::CbcKernel;
 use mbj_cmac::CmacKernel;
 use mbj_hmac::{Hmac1Kernel, Hmac256Kernel, Hmac512Kernel};
 use mbj_lane::Kernel;
-use mbj_stage::{Course, Stage};
+use mbj_stage::{Course, Feed, Stage};
 use mbj_types::{Auth, Cipher, Dir, Done, Job, Kind, Order, Reason, Status, Tag};
 use std::alloc::{AllocError, Global};
 use std::process::Abort;
@@ -65,47 +65,35 @@ fn led<K: Kernel>(entry: K::Entry) -> K::Entry
     entry
 }
 
+/// Does the next stage, in the lanes of a kernel.
+fn do_lane_of<K: Feed>(course: &mut Course)
+    requires memory { FitsInMemory K.Entry.row }
+    requires fits { K.fits }
+    requires next { IsNext K.kind course.old }
+    ensures owed { owed course.new ≡ owed course.old }
+    ensures here { course.new.out ≡ None }
+    ensures fewer { length course.new.left < length course.old.left }
+{
+    let entry = K::hand_out(course);
+    K::take_back(course, led::<K>(entry));
+}
+
 /// Does the next stage, which is in lanes.
 fn do_lane(course: &mut Course, kind: Kind)
-    requires next { stage_of course.old ≡ stage.Lane kind }
-    requires here { course.old.out ≡ None }
+    requires next { IsNext kind course.old }
     ensures owed { owed course.new ≡ owed course.old }
     ensures here { course.new.out ≡ None }
     ensures fewer { length course.new.left < length course.old.left }
 {
     match kind {
-        Kind::Cbc128 => {
-            let entry = course.hand_out_cbc128();
-            course.take_back_cbc128(led::<CbcKernel<10>>(entry));
-        }
-        Kind::Cbc192 => {
-            let entry = course.hand_out_cbc192();
-            course.take_back_cbc192(led::<CbcKernel<12>>(entry));
-        }
-        Kind::Cbc256 => {
-            let entry = course.hand_out_cbc256();
-            course.take_back_cbc256(led::<CbcKernel<14>>(entry));
-        }
-        Kind::Cmac128 => {
-            let entry = course.hand_out_cmac128();
-            course.take_back_cmac128(led::<CmacKernel<10>>(entry));
-        }
-        Kind::Cmac256 => {
-            let entry = course.hand_out_cmac256();
-            course.take_back_cmac256(led::<CmacKernel<14>>(entry));
-        }
-        Kind::HmacSha1 => {
-            let entry = course.hand_out_hmac_sha1();
-            course.take_back_hmac_sha1(led::<Hmac1Kernel>(entry));
-        }
-        Kind::HmacSha256 => {
-            let entry = course.hand_out_hmac_sha256();
-            course.take_back_hmac_sha256(led::<Hmac256Kernel>(entry));
-        }
-        Kind::HmacSha512 => {
-            let entry = course.hand_out_hmac_sha512();
-            course.take_back_hmac_sha512(led::<Hmac512Kernel>(entry));
-        }
+        Kind::Cbc128 => do_lane_of::<CbcKernel<10>>(course),
+        Kind::Cbc192 => do_lane_of::<CbcKernel<12>>(course),
+        Kind::Cbc256 => do_lane_of::<CbcKernel<14>>(course),
+        Kind::Cmac128 => do_lane_of::<CmacKernel<10>>(course),
+        Kind::Cmac256 => do_lane_of::<CmacKernel<14>>(course),
+        Kind::HmacSha1 => do_lane_of::<Hmac1Kernel>(course),
+        Kind::HmacSha256 => do_lane_of::<Hmac256Kernel>(course),
+        Kind::HmacSha512 => do_lane_of::<Hmac512Kernel>(course),
     }
 }
 

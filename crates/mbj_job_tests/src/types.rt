@@ -16,7 +16,7 @@ fn cross<T: Send + Drop>(_value: T) {}
 
 #[test]
 fn bytes_go_in_and_out(rt: HostRuntime) -> Result<(), Fail> {
-    let bytes = Bytes::from_vec(b"packet".to_vec(rt.alloc())?);
+    let bytes = Bytes::from_slice(rt.alloc(), b"packet")?;
     expect(&rt, "lent", bytes.as_slice(), b"packet");
     let vec = bytes.into_vec();
     expect(&rt, "taken out", vec.as_slice(), b"packet");

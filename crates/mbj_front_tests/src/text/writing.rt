@@ -21,7 +21,7 @@ fn writes(alloc: Global, sink: &mut MemSink, number: u32, done: Parts) -> Result
     requires { length done.2.now ≤ 64 }
 {
     let (status, packet, tag) = done;
-    let packet = Bytes::from_vec(packet.to_vec(alloc)?);
+    let packet = Bytes::from_slice(alloc, packet)?;
     let tag = Tag::from_slice(tag);
     let done = Done {
         status,
