@@ -9,9 +9,9 @@ use Rattle.mbj_types.specs.Result.{result_of}
 use Rattle.mbj_ring.specs.declared.ring.TheConstants.{CELLS}
 use Rattle.mbj_ring.specs.Ring.{RingState}
 use Rattle.mbj_stage.proofs.Lengths.{length-result_of}
-use Rattle.mbj_manager.specs.Rounds.{Pending}
+use Rattle.mbj_manager.specs.Machine.Stages.{Pending}
 use Rattle.mbj_manager.specs.State.{ManagerState, entered, given_at, with_job}
-use Rattle.mbj_manager.specs.Course.{flushed}
+use Rattle.mbj_manager.specs.Machine.Course.{flushed}
 use Rattle.mbj_c.specs.declared.giving.Call.{Call}
 use Rattle.mbj_c.specs.declared.giving.Call.TheVariants as call
 use Rattle.mbj_c.specs.Giving.{owed_in, step}

@@ -2,16 +2,16 @@
 use Rattle.std.specs.Prelude.{◌≡◌, ℕ, Bool, true, false, length, Option, Some, None, slice_get}
 use Rattle.mbj_types.specs.declared.kind.Kind.{Kind}
 use Rattle.mbj_types.specs.Kinds.{all_kinds}
-use Rattle.mbj_manager.specs.Machine.{lane_for}
+use Rattle.mbj_manager.specs.Machine.Queues.{queue_for}
 use Rattle.mbj_manager.specs.State.{ManagerState}
 use Rattle.mbj_c.specs.declared.counts.Counts.{Counts}
 
 abbrev pub counts_of : Kind → ManagerState → Counts
 counts_of k m = record {
-  rounds = (lane_for k m.machine).rounds;
-  blocks = (lane_for k m.machine).blocks;
+  rounds = (queue_for k m.machine).rounds;
+  blocks = (queue_for k m.machine).blocks;
   flush_runs = m.machine.flush_runs;
-  waiting = length (lane_for k m.machine).waiting;
+  waiting = length (queue_for k m.machine).waiting;
 }
 
 -- how many jobs are submitted and not given back

@@ -32,7 +32,7 @@ pub struct Measured {
 impl Model for Measured {
     ghost use Rattle.mbj_manager.specs.State.{ManagerState};
     ghost use Rattle.std.specs.Coded.{codes};
-    ghost use Rattle.mbj_manager.specs.Code.{state_code};
+    ghost use Rattle.mbj_manager.specs.Inside.Code.{state_code};
     ghost use Rattle.mbj_c.specs.Inside.Lengths.{AreLengths};
 
     ghost Value = { ManagerState };
