@@ -5,31 +5,31 @@ use crate::lane8::Lane8;
 use crate::lane32::Lane32;
 use crate::lane64::Lane64;
 use std::fmt;
-use std::simd::{u8x16, u32x8, u64x4};
+use std::simd::{u8x32, u32x16, u64x8};
 
 /// How many texts or messages the kernels of AES serve at once.
-pub const AES_LANES: usize = 16;
+pub const AES_LANES: usize = 32;
 
 /// A byte of each of them, side by side.
-pub type AesWord = u8x16;
+pub type AesWord = u8x32;
 
 /// How many messages the kernel of SHA-1 serves at once.
-pub const SHA1_LANES: usize = 8;
+pub const SHA1_LANES: usize = 16;
 
 /// A word of SHA-1 of each of them, side by side.
-pub type Sha1Word = u32x8;
+pub type Sha1Word = u32x16;
 
 /// How many messages the kernel of SHA-224 and SHA-256 serves at once.
-pub const SHA256_LANES: usize = 8;
+pub const SHA256_LANES: usize = 16;
 
 /// A word of SHA-256 of each of them, side by side.
-pub type Sha256Word = u32x8;
+pub type Sha256Word = u32x16;
 
 /// How many messages the kernel of SHA-384 and SHA-512 serves at once.
-pub const SHA512_LANES: usize = 4;
+pub const SHA512_LANES: usize = 8;
 
 /// A word of SHA-512 of each of them, side by side.
-pub type Sha512Word = u64x4;
+pub type Sha512Word = u64x8;
 
 /// A kind of work whose jobs wait for one another, to be done in the lanes of one kernel.
 #[derive(Clone, Copy, Debug, PartialEq, Eq)]
