@@ -7,7 +7,7 @@ use Rattle.mbj_aes.proofs.Octets.{AreBits, by_bytes}
 use Rattle.mbj_aes.specs.declared.octet.Octet.{Octet}
 use Rattle.mbj_aes.specs.Planes.Gates.{nth_bit}
 use Rattle.mbj_aes.specs.Planes.Bytes.{byte_of, bits_of}
-use Rattle.mbj_aes.specs.Planes.Circuit.{top_bits, middle_bits, product_bits, bottom_bits, circuit_bits, inv_top_bits, inv_bottom_bits, inv_circuit_bits}
+use Rattle.mbj_aes.specs.Inside.Circuit.{top_bits, middle_bits, product_bits, bottom_bits, circuit_bits, inv_top_bits, inv_bottom_bits, inv_circuit_bits}
 
 circuit_of_byte : (x : ℕ) → x < 256 → byte_of (circuit_bits (bits_of x)) ≡ sub_byte x
 unfolding nth_bit top_bits middle_bits product_bits bottom_bits times

@@ -1,4 +1,3 @@
 -- Bytes in bit planes: what the functions on lane words cite. No clause on keys, schedules or blocks does.
 pub mod Gates
 pub mod Bytes
-pub mod Circuit

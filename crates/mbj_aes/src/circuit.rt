@@ -5,7 +5,7 @@
 ghost use Rattle.std.specs.Prelude.{◌≡◌, ℕ, ◌<◌};
 ghost use Rattle.mbj_types.specs.Aes.{sub_byte};
 ghost use Rattle.mbj_aes.specs.Planes.Bytes.{bits_at, byte_at};
-ghost use Rattle.mbj_aes.specs.Planes.Circuit.{top_at, middle_at, products_at, top_bits, middle_bits, product_bits, bottom_bits};
+ghost use Rattle.mbj_aes.specs.Inside.Circuit.{top_at, middle_at, products_at, top_bits, middle_bits, product_bits, bottom_bits};
 
 use crate::gates::{and, not, xor};
 use crate::octet::Octet;
@@ -75,7 +75,7 @@ pub(crate) struct Products<V> {
     pub(crate) z17: V,
 }
 
-#[tactic(auto, unfolding(crate::specs::Planes::Circuit::top_bits))]
+#[tactic(auto, unfolding(crate::specs::Inside::Circuit::top_bits))]
 #[inline(always)]
 fn top_layer<V: Lane8>(q: Octet<V>) -> TopLayer<V>
     ensures { (i t : ℕ) → i < V.LANES → top_at V.lane result i t ≡ top_bits (bits_at V.lane q i t) }
@@ -137,7 +137,7 @@ fn top_layer<V: Lane8>(q: Octet<V>) -> TopLayer<V>
     }
 }
 
-#[tactic(auto, unfolding(crate::specs::Planes::Circuit::middle_bits))]
+#[tactic(auto, unfolding(crate::specs::Inside::Circuit::middle_bits))]
 #[inline(always)]
 pub(crate) fn middle_layer<V: Lane8>(y: &TopLayer<V>) -> MiddleLayer<V>
     ensures { (i t : ℕ) → i < V.LANES → middle_at V.lane result i t ≡ middle_bits (top_at V.lane y.now i t) }
@@ -199,7 +199,7 @@ pub(crate) fn middle_layer<V: Lane8>(y: &TopLayer<V>) -> MiddleLayer<V>
     }
 }
 
-#[tactic(auto, unfolding(crate::specs::Planes::Circuit::product_bits))]
+#[tactic(auto, unfolding(crate::specs::Inside::Circuit::product_bits))]
 #[inline(always)]
 pub(crate) fn products_of<V: Lane8>(w: MiddleLayer<V>, y: &TopLayer<V>) -> Products<V>
     ensures { (i t : ℕ) → i < V.LANES
@@ -228,7 +228,7 @@ pub(crate) fn products_of<V: Lane8>(w: MiddleLayer<V>, y: &TopLayer<V>) -> Produ
 }
 
 // Sums of the products: the bits of the S-box.
-#[tactic(auto, unfolding(crate::specs::Planes::Circuit::bottom_bits))]
+#[tactic(auto, unfolding(crate::specs::Inside::Circuit::bottom_bits))]
 #[inline(always)]
 fn bottom_layer<V: Lane8>(z: Products<V>) -> Octet<V>
     ensures { (i t : ℕ) → i < V.LANES → t < 8

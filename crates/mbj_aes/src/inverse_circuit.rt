@@ -4,7 +4,7 @@
 ghost use Rattle.std.specs.Prelude.{◌≡◌, ℕ, ◌<◌};
 ghost use Rattle.mbj_types.specs.Aes.{inv_sub_byte};
 ghost use Rattle.mbj_aes.specs.Planes.Bytes.{bits_at, byte_at};
-ghost use Rattle.mbj_aes.specs.Planes.Circuit.{top_at, products_at, inv_top_bits, inv_bottom_bits};
+ghost use Rattle.mbj_aes.specs.Inside.Circuit.{top_at, products_at, inv_top_bits, inv_bottom_bits};
 
 use crate::circuit::{Products, TopLayer, middle_layer, products_of};
 use crate::gates::{not, xor};
@@ -12,7 +12,7 @@ use crate::octet::Octet;
 use mbj_types::Lane8;
 
 // Sums of the bits of the bytes, some of them complemented: what the inverse S-box gives to the middle layer.
-#[tactic(auto, unfolding(crate::specs::Planes::Circuit::inv_top_bits))]
+#[tactic(auto, unfolding(crate::specs::Inside::Circuit::inv_top_bits))]
 #[inline(always)]
 fn inv_top_layer<V: Lane8>(q: Octet<V>) -> TopLayer<V>
     ensures { (i t : ℕ) → i < V.LANES → t < 8 → top_at V.lane result i t ≡ inv_top_bits (bits_at V.lane q i t) }
@@ -79,7 +79,7 @@ fn inv_top_layer<V: Lane8>(q: Octet<V>) -> TopLayer<V>
 }
 
 // Sums of the products: the bits of the inverse S-box.
-#[tactic(auto, unfolding(crate::specs::Planes::Circuit::inv_bottom_bits))]
+#[tactic(auto, unfolding(crate::specs::Inside::Circuit::inv_bottom_bits))]
 #[inline(always)]
 fn inv_bottom_layer<V: Lane8>(z: Products<V>) -> Octet<V>
     ensures { (i t : ℕ) → i < V.LANES → bits_at V.lane result i t ≡ inv_bottom_bits (products_at V.lane z i t) }

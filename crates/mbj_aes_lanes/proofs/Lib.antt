@@ -7,11 +7,10 @@ pub mod FullLanes
 pub mod HalfRounds
 pub mod HeldKeys
 pub mod KeySchedules
-pub mod LaneLoops
 pub mod LaneWords
 pub mod Matrices
-pub mod PlaneBytes
 pub mod MixedPlanes
+pub mod PlaneBytes
 pub mod RoundByRound
 pub mod RoundKeys
 pub mod SameKeys

@@ -12,11 +12,16 @@ module _ {E : Type 0} where
   abbrev pub input_of : (E → List ℕ) → (E → List ℕ) → E → List ℕ
   input_of block chain e = xor_lists (block e) (chain e)
 
+  -- the next chaining value
+  abbrev pub next_chain : (E → List ℕ) → (E → List ℕ) → (E → List ℕ) → E → List ℕ
+  next_chain key block chain e = encipher (key e) (input_of block chain e)
+
   -- the next chaining value in lane i
   abbrev pub next_in_lane : (E → List ℕ) → (E → List ℕ) → (E → List ℕ) → List E → ℕ → List ℕ
   next_in_lane key block chain es i =
       encipher (in_lane (map key es) i) (xor_lists (in_lane (map block es) i) (in_lane (map chain es) i))
 
-  -- the next block is chained: `led` says what an entry is once its chaining value is another
-  abbrev pub chained_once : (E → List ℕ) → (E → List ℕ) → (E → List ℕ) → (E → List ℕ → E) → E → E
-  chained_once key block chain led e = led e (encipher (key e) (input_of block chain e))
+  -- the next block is chained: `led` says what an entry is once its next block gave a chaining value, and `kept` what it is with
+  -- that one
+  abbrev pub chained_once : (E → List ℕ) → (E → List ℕ) → (E → List ℕ) → (E → List ℕ → E) → (E → List ℕ → E) → E → E
+  chained_once key block chain led kept e = kept (led e (next_chain key block chain e)) (next_chain key block chain e)

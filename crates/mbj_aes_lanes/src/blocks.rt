@@ -1,130 +1,78 @@
-//! Blocks, one for each lane, as lane words, and back: a matrix of bytes, a row for each block and a column for each byte of
-//! a block, which is transposed. There are as many lanes as bytes of a block, so the matrix is square.
-ghost use Rattle.std.specs.Prelude.{◌≡◌, ℕ, ◌+◌, ◌*◌, ◌/◌, ◌%◌, ◌<◌, [], length, slice_index, slice_index_or};
-ghost use Rattle.mbj_types.specs.Lanes.{lane_at, lane_of, lane_list};
-ghost use Rattle.mbj_aes_lanes.specs.Inside.Matrix.{row_at, interleaved_at};
+//! Blocks as lane words, word j having byte j of each block, and back. Sixteen rows of blocks are a matrix of 16 times 16
+//! bytes in each group of 16 lanes, and all groups are transposed at once.
+ghost use Rattle.std.specs.Prelude.{◌≡◌, ℕ, ◌+◌, ◌*◌, ◌/◌, ◌%◌, ◌<◌, ◌≤◌, [], length, slice_index_or};
+ghost use Rattle.mbj_types.specs.Lanes.{lane_of};
+ghost use Rattle.mbj_aes_lanes.specs.Inside.Matrix.{byte_at_row};
 
-use mbj_types::{AES_LANES, AesWord, BLOCK_BYTES};
+use crate::block_row::BlockRow;
+use crate::lane_blocks::LaneBlocks;
+use mbj_types::BLOCK_BYTES;
 
-#[derive(Clone, Copy)]
-struct Rows {
-    first: AesWord,
-    second: AesWord,
+// Row j and row j + 8 in turn, at rows 2 * j and 2 * j + 1. The place of a byte in its group has eight bits, four of its row
+// and four within it: the highest of them has become the lowest.
+#[inline(always)]
+fn shuffle<V: BlockRow>(rows: &mut [V])
+    requires { length rows.old ≡ 16 }
+    ensures { (j g k : ℕ) → j < 16 → 16 * g < V.LANES → k < 16 → byte_at_row V.lane rows.new j (16 * g + k)
+        ≡ byte_at_row V.lane rows.old (j / 2 + 8 * (k % 2)) (16 * g + (8 * (j % 2) + k / 2)) }
+{
+    let (r0, r1, r2, r3) = (rows[0], rows[1], rows[2], rows[3]);
+    let (r4, r5, r6, r7) = (rows[4], rows[5], rows[6], rows[7]);
+    let (r8, r9, r10, r11) = (rows[8], rows[9], rows[10], rows[11]);
+    let (r12, r13, r14, r15) = (rows[12], rows[13], rows[14], rows[15]);
+    rows[0] = r0.lower_in_turn(r8);
+    rows[1] = r0.upper_in_turn(r8);
+    rows[2] = r1.lower_in_turn(r9);
+    rows[3] = r1.upper_in_turn(r9);
+    rows[4] = r2.lower_in_turn(r10);
+    rows[5] = r2.upper_in_turn(r10);
+    rows[6] = r3.lower_in_turn(r11);
+    rows[7] = r3.upper_in_turn(r11);
+    rows[8] = r4.lower_in_turn(r12);
+    rows[9] = r4.upper_in_turn(r12);
+    rows[10] = r5.lower_in_turn(r13);
+    rows[11] = r5.upper_in_turn(r13);
+    rows[12] = r6.lower_in_turn(r14);
+    rows[13] = r6.upper_in_turn(r14);
+    rows[14] = r7.lower_in_turn(r15);
+    rows[15] = r7.upper_in_turn(r15);
 }
 
-// The bytes of two rows in turn, those of `even` and of `odd`.
+// In each group byte k of row j becomes byte j of row k.
 #[inline(always)]
-fn interleaved(even: AesWord, odd: AesWord) -> Rows
-    ensures first { (k : ℕ) → k < BLOCK_BYTES → lane_at 8 result.first k ≡ interleaved_at even odd k }
-    ensures second { (k : ℕ) → k < BLOCK_BYTES → lane_at 8 result.second k ≡ interleaved_at even odd (BLOCK_BYTES + k) }
+fn transpose<V: BlockRow>(rows: &mut [V])
+    requires { length rows.old ≡ 16 }
+    ensures { (j g k : ℕ) → j < 16 → 16 * g < V.LANES → k < 16
+        → byte_at_row V.lane rows.new j (16 * g + k) ≡ byte_at_row V.lane rows.old k (16 * g + j) }
 {
-    let (first, second) = even.interleave(odd);
-    Rows { first, second }
+    shuffle(rows);
+    shuffle(rows);
+    shuffle(rows);
+    shuffle(rows);
 }
 
-// Row j and row j + 8 in turn, at rows 2 * j and 2 * j + 1. The place of a byte has eight bits, four of its row and four
-// within it: the highest of them has become the lowest.
+/// The blocks as 16 lane words.
 #[inline(always)]
-fn shuffled(rows: &[AesWord; BLOCK_BYTES]) -> [AesWord; BLOCK_BYTES]
-    ensures rows { length result ≡ BLOCK_BYTES }
-    ensures bytes { (j k : ℕ) → j < BLOCK_BYTES → k < BLOCK_BYTES
-        → row_at result j k ≡ row_at rows.now (j / 2 + 8 * (k % 2)) (8 * (j % 2) + k / 2) }
+pub fn words_of<V: BlockRow, B: LaneBlocks>(words: &mut [V], blocks: &B)
+    requires words { length words.old ≡ 16 }
+    requires lanes { V.LANES ≤ B.lanes_of blocks.now }
+    ensures { (i : ℕ) → i < V.LANES → lane_of V.lane words.new i ≡ B.block_in blocks.now i }
 {
-    let pair0 = interleaved(rows[0], rows[8]);
-    let pair1 = interleaved(rows[1], rows[9]);
-    let pair2 = interleaved(rows[2], rows[10]);
-    let pair3 = interleaved(rows[3], rows[11]);
-    let pair4 = interleaved(rows[4], rows[12]);
-    let pair5 = interleaved(rows[5], rows[13]);
-    let pair6 = interleaved(rows[6], rows[14]);
-    let pair7 = interleaved(rows[7], rows[15]);
-    [
-        pair0.first,
-        pair0.second,
-        pair1.first,
-        pair1.second,
-        pair2.first,
-        pair2.second,
-        pair3.first,
-        pair3.second,
-        pair4.first,
-        pair4.second,
-        pair5.first,
-        pair5.second,
-        pair6.first,
-        pair6.second,
-        pair7.first,
-        pair7.second,
-    ]
+    'rows: for k in 0..BLOCK_BYTES {
+        words[k] = V::row(blocks, k);
+    }
+    transpose(words);
 }
 
-// Byte k of row j is byte j of row k.
+/// Writes the blocks of 16 lane words, which become the rows of these blocks.
 #[inline(always)]
-fn transposed(rows: &[AesWord; BLOCK_BYTES]) -> [AesWord; BLOCK_BYTES]
-    ensures rows { length result ≡ BLOCK_BYTES }
-    ensures bytes { (j k : ℕ) → j < BLOCK_BYTES → k < BLOCK_BYTES → row_at result j k ≡ row_at rows.now k j }
+pub fn put_blocks<V: BlockRow>(to: &mut [[u8; 16]], words: &mut [V])
+    requires words { length words.old ≡ 16 }
+    requires lanes { length to.old ≡ V.LANES }
+    ensures { (i : ℕ) → i < V.LANES → slice_index_or to.new i [] ≡ lane_of V.lane words.old i }
 {
-    shuffled(&shuffled(&shuffled(&shuffled(rows))))
-}
-
-// The bytes of a block as a row.
-#[inline(always)]
-fn row_from(bytes: &[u8]) -> AesWord
-    requires { length bytes.now ≡ BLOCK_BYTES }
-    ensures { (k : ℕ) → k < BLOCK_BYTES → lane_at 8 result k ≡ slice_index bytes.now k }
-{
-    AesWord::from_slice(bytes)
-}
-
-#[inline(always)]
-fn row_of(block: &[u8; 16]) -> AesWord
-    ensures bytes { (k : ℕ) → k < BLOCK_BYTES → lane_at 8 result k ≡ slice_index block.now k }
-    ensures block { length block.now ≡ BLOCK_BYTES }
-{
-    row_from(block)
-}
-
-#[inline(always)]
-fn block_of(row: AesWord) -> [u8; 16]
-    ensures { result ≡ lane_list (lane_at 8) AES_LANES row }
-{
-    row.to_array()
-}
-
-/// The lane words of the blocks: word j has byte j of block i in lane i.
-#[inline(always)]
-pub fn words_of(blocks: &[[u8; 16]; AES_LANES]) -> [AesWord; BLOCK_BYTES]
-    ensures words { length result ≡ BLOCK_BYTES }
-    ensures lanes { (i : ℕ) → i < AES_LANES → lane_of (lane_at 8) result i ≡ slice_index_or blocks.now i [] }
-{
-    transposed(&[
-        row_of(&blocks[0]),
-        row_of(&blocks[1]),
-        row_of(&blocks[2]),
-        row_of(&blocks[3]),
-        row_of(&blocks[4]),
-        row_of(&blocks[5]),
-        row_of(&blocks[6]),
-        row_of(&blocks[7]),
-        row_of(&blocks[8]),
-        row_of(&blocks[9]),
-        row_of(&blocks[10]),
-        row_of(&blocks[11]),
-        row_of(&blocks[12]),
-        row_of(&blocks[13]),
-        row_of(&blocks[14]),
-        row_of(&blocks[15]),
-    ])
-}
-
-/// Writes the blocks of these lane words.
-#[inline(always)]
-pub fn put_blocks(to: &mut [[u8; 16]; AES_LANES], words: &[AesWord; BLOCK_BYTES])
-    ensures bytes { (i : ℕ) → i < AES_LANES → slice_index_or to.new i [] ≡ lane_of (lane_at 8) words.now i }
-    ensures lengths { (i : ℕ) → i < AES_LANES → length (slice_index_or to.new i []) ≡ BLOCK_BYTES }
-{
-    let rows = transposed(words);
-    'rows: for i in 0..AES_LANES {
-        to[i] = block_of(rows[i]);
+    transpose(words);
+    'rows: for k in 0..BLOCK_BYTES {
+        words[k].put_row(to, k);
     }
 }

@@ -2,16 +2,21 @@
 ghost use Rattle.std.specs.Prelude.{◌≡◌, ℕ, ◌+◌, ◌*◌, ◌<◌, ◌≤◌, [], length, take, slice_index_or};
 ghost use Rattle.std.specs.List.{flat_map};
 ghost use Rattle.mbj_types.specs.Aes.{round_key};
-ghost use Rattle.mbj_types.specs.Lanes.{lane_at, lane_of};
+ghost use Rattle.mbj_types.specs.Lanes.{lane_of};
 ghost use Rattle.mbj_aes.specs.Planes.Bytes.{octet_lane};
 ghost use Rattle.mbj_aes_lanes.specs.Inside.State.{state_bytes};
 ghost use Rattle.mbj_aes_lanes.specs.Inside.Keys.{octet_from, unplaned, schedule_in};
 
+use crate::block_states::{FEW_BLOCKS, FewWord};
 use crate::blocks::{put_blocks, words_of};
+use crate::lane_blocks::Blocks;
 use crate::state::State;
 use crate::words::{put_planes, state_at};
 use mbj_aes::{Octet, Schedule};
-use mbj_types::{AES_LANES, AesWord, BLOCK_BYTES, Lane8};
+use mbj_types::{BLOCK_BYTES, Lane8};
+
+/// The round keys of the longest schedule, of 14 rounds.
+pub const MAX_ROUND_KEYS: usize = 15;
 
 // The block in each lane becomes its plane bytes.
 #[inline(always)]
@@ -23,44 +28,50 @@ fn put_in_planes<V: Lane8>(words: &mut [V])
     put_planes(words, state);
 }
 
-/// The plane bytes of each round key. All round keys are transposed at once, one in each lane.
-pub fn planes_of(key: &Schedule) -> [[u8; 16]; AES_LANES]
-    ensures length { length result ≡ AES_LANES }
+/// The plane bytes of each round key. All round keys are transposed at once, one in each lane of a narrow pass.
+pub fn planes_of(key: &Schedule) -> [[u8; 16]; FEW_BLOCKS]
+    ensures length { length result ≡ FEW_BLOCKS }
     ensures keys { (r : ℕ) → 16 * (r + 1) ≤ length key.now
         → unplaned (slice_index_or result r []) ≡ round_key key.now r }
 {
-    let mut round_keys = [[0; BLOCK_BYTES]; AES_LANES];
+    let mut round_keys = [[0; BLOCK_BYTES]; FEW_BLOCKS];
     'keys: for r in 0..key.rounds() + 1 {
         round_keys[r as usize] = key.round_key(r);
     }
-    let mut words = words_of(&round_keys);
+    let mut words = [FewWord::splat(0); BLOCK_BYTES];
+    words_of(
+        &mut words,
+        &Blocks {
+            blocks: &round_keys,
+        },
+    );
     put_in_planes(&mut words);
-    put_blocks(&mut round_keys, &words);
+    put_blocks(&mut round_keys, &mut words);
     round_keys
 }
 
 // Eight plane bytes, from `start` on, in every lane.
 #[inline(always)]
-fn octet_of(planes: &[u8; 16], start: usize) -> Octet<AesWord>
-    requires { start + 8 ≤ BLOCK_BYTES }
-    ensures { (i : ℕ) → i < AES_LANES → octet_lane (lane_at 8) result i ≡ octet_from planes.now start }
+fn octet_of<V: Lane8>(planes: &[u8; 16], start: usize) -> Octet<V>
+    requires { start + 8 ≤ 16 }
+    ensures { (i : ℕ) → i < V.LANES → octet_lane V.lane result i ≡ octet_from planes.now start }
 {
     Octet {
-        p0: <AesWord as Lane8>::splat(planes[start]),
-        p1: <AesWord as Lane8>::splat(planes[start + 1]),
-        p2: <AesWord as Lane8>::splat(planes[start + 2]),
-        p3: <AesWord as Lane8>::splat(planes[start + 3]),
-        p4: <AesWord as Lane8>::splat(planes[start + 4]),
-        p5: <AesWord as Lane8>::splat(planes[start + 5]),
-        p6: <AesWord as Lane8>::splat(planes[start + 6]),
-        p7: <AesWord as Lane8>::splat(planes[start + 7]),
+        p0: V::splat(planes[start]),
+        p1: V::splat(planes[start + 1]),
+        p2: V::splat(planes[start + 2]),
+        p3: V::splat(planes[start + 3]),
+        p4: V::splat(planes[start + 4]),
+        p5: V::splat(planes[start + 5]),
+        p6: V::splat(planes[start + 6]),
+        p7: V::splat(planes[start + 7]),
     }
 }
 
-// A round key in every lane.
+/// A round key in every lane.
 #[inline(always)]
-fn state_of(planes: &[u8; 16]) -> State<AesWord>
-    ensures { (i : ℕ) → i < AES_LANES → state_bytes (lane_at 8) result i ≡ unplaned planes.now }
+pub fn state_of<V: Lane8>(planes: &[u8; 16]) -> State<V>
+    ensures { (i : ℕ) → i < V.LANES → state_bytes V.lane result i ≡ unplaned planes.now }
 {
     State {
         upper: octet_of(planes, 0),
@@ -69,10 +80,10 @@ fn state_of(planes: &[u8; 16]) -> State<AesWord>
 }
 
 /// Writes the first of the round keys into every lane of as many states.
-pub fn write_all_lanes(keys: &mut [State<AesWord>], planes: &[[u8; 16]; AES_LANES])
-    requires { length keys.old ≤ AES_LANES }
-    ensures { (i : ℕ) → i < AES_LANES
-        → schedule_in (lane_at 8) keys.new i ≡ flat_map unplaned (take (length keys.old) planes.now) }
+pub fn write_all_lanes<V: Lane8>(keys: &mut [State<V>], planes: &[[u8; 16]; FEW_BLOCKS])
+    requires { length keys.old ≤ FEW_BLOCKS }
+    ensures { (i : ℕ) → i < V.LANES
+        → schedule_in V.lane keys.new i ≡ flat_map unplaned (take (length keys.old) planes.now) }
 {
     'keys: for r in 0..keys.len() {
         keys[r] = state_of(&planes[r]);

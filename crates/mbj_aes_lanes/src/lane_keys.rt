@@ -1,25 +1,19 @@
-ghost use Rattle.std.specs.Prelude.{◌≡◌, ℕ, ◌+◌, ◌*◌, ◌<◌, ◌≤◌, length, map, slice_index_or, None, IsSome};
+ghost use Rattle.std.specs.Prelude.{◌≡◌, ℕ, ◌+◌, ◌*◌, ◌<◌, ◌≤◌, length, slice_index_or, None, IsSome};
 ghost use Rattle.mbj_types.specs.Lanes.{lane_at};
 ghost use Rattle.mbj_aes.specs.Bytes.{IsRoundCount};
-ghost use Rattle.mbj_aes_lanes.specs.Chaining.{in_lane};
-ghost use Rattle.mbj_aes_lanes.specs.KeyLanes.{no_keys, same_keys, with_key, schedule_at, IsFull};
+ghost use Rattle.mbj_aes_lanes.specs.KeyLanes.{no_keys, same_keys, with_key, schedule_at};
 ghost use Rattle.mbj_aes_lanes.specs.Inside.Keys.{schedule_in};
 
-use crate::block_states::state_of_blocks;
-use crate::chaining::{Chaining, round_keys_at};
-use crate::key_planes::{planes_of, write_all_lanes};
+use crate::key_planes::{MAX_ROUND_KEYS, planes_of, write_all_lanes};
 use crate::one_lane::write_lane;
-use crate::state::State;
-use mbj_aes::{Octet, Schedule};
+use crate::state::{State, zero_state};
+use mbj_aes::Schedule;
 use mbj_types::{AES_LANES, AesWord};
 use std::marker::Model;
 
-// The round keys of the longest schedule, of 14 rounds.
-const MAX_ROUND_KEYS: usize = 15;
-
 /// The schedules of keys side by side, one for each lane, of 10, 12 or 14 rounds each, which contracts see as the number of rounds
 /// and, for each lane, the schedule that was put there, or none. It keeps the round keys in bit planes, as encryption
-/// and decryption take them, so a key is transposed once, when it is put. It is a plain value of 3,860 bytes, and owns
+/// and decryption take them, so a key is transposed once, when it is put. It is a plain value of 7,716 bytes, and owns
 /// no memory.
 #[derive(Drop)]
 pub struct LaneKeys {
@@ -29,7 +23,7 @@ pub struct LaneKeys {
 }
 
 // The size that stands in the documentation.
-const _: () = prove!(size_of::<LaneKeys>() == 3860);
+const _: () = prove!(size_of::<LaneKeys>() == 7716);
 
 impl Model for LaneKeys {
     ghost use Rattle.std.specs.Prelude.{◌≡◌, length};
@@ -45,28 +39,6 @@ impl Model for LaneKeys {
     ghost invariant = { λ k. IsRoundCount k.rounds × (length k.round_keys ≡ 15) × (length k.put ≡ AES_LANES) };
 }
 
-// Round keys of zeros.
-#[inline(always)]
-fn zero_keys() -> [State<AesWord>; MAX_ROUND_KEYS]
-    ensures { length result ≡ 15 }
-{
-    let zero = AesWord::splat(0);
-    let octet = Octet {
-        p0: zero,
-        p1: zero,
-        p2: zero,
-        p3: zero,
-        p4: zero,
-        p5: zero,
-        p6: zero,
-        p7: zero,
-    };
-    [State {
-        upper: octet,
-        lower: octet,
-    }; MAX_ROUND_KEYS]
-}
-
 impl LaneKeys {
     /// Lanes for keys of 10, 12 or 14 rounds, none of which is put. It takes no memory.
     pub fn new(rounds: u32) -> LaneKeys
@@ -74,7 +46,7 @@ impl LaneKeys {
         ensures { result ≡ no_keys rounds }
     {
         LaneKeys {
-            round_keys: zero_keys(),
+            round_keys: [zero_state(); MAX_ROUND_KEYS],
             rounds,
             put: [false; AES_LANES],
         }
@@ -113,25 +85,6 @@ impl LaneKeys {
         let rounds = self.rounds as usize;
         write_lane(&mut self.round_keys[..rounds + 1], lane as usize, &planes);
         self.put[lane as usize] = true;
-    }
-
-    /// The key of an entry in each lane; idle lanes have that of the last one. The keys of all lanes are transposed
-    /// at once, round key by round key.
-    pub(crate) fn each<E: Chaining>(entries: &[E]) -> LaneKeys
-        requires { 0 < length entries.now }
-        ensures full { IsFull result }
-        ensures schedules { (i : ℕ) → i < AES_LANES → schedule_at result i ≡ in_lane (map E.key_of entries.now) i }
-    {
-        let rounds = entries[0].key().rounds();
-        let mut round_keys = zero_keys();
-        'keys: for r in 0..rounds + 1 {
-            round_keys[r as usize] = state_of_blocks(&round_keys_at(entries, r));
-        }
-        LaneKeys {
-            round_keys,
-            rounds,
-            put: [true; AES_LANES],
-        }
     }
 
     /// The round keys in planes, of each lane those of its schedule.

@@ -2,13 +2,17 @@
 #![tactic(auto)]
 
 mod all_lanes;
+mod block_row;
 mod block_states;
 mod blocks;
 mod chaining;
 mod columns;
+mod entry_blocks;
 mod key_planes;
+mod lane_blocks;
 mod lane_keys;
 mod lanes;
+mod leading;
 mod octets;
 mod one_block;
 mod one_lane;
@@ -20,9 +24,11 @@ mod substitution;
 mod transposition;
 mod words;
 
-pub use all_lanes::{decrypt16, encrypt16};
-pub use chaining::{Chaining, encrypt_each, lead_all};
+pub use all_lanes::{decrypt32, encrypt32};
+pub use block_states::FEW_BLOCKS;
+pub use chaining::Chaining;
 pub use lane_keys::LaneKeys;
 pub use lanes::{decrypt_lanes, encrypt_lanes};
+pub use leading::{encrypt_each, lead_all};
 pub use one_block::chained;
-pub use same::encrypt_same;
+pub use same::{decrypt_same, encrypt_same};

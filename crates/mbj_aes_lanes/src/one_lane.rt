@@ -7,6 +7,7 @@ ghost use Rattle.mbj_aes.specs.Planes.Bytes.{octet_lane};
 ghost use Rattle.mbj_aes_lanes.specs.Inside.State.{state_bytes};
 ghost use Rattle.mbj_aes_lanes.specs.Inside.Keys.{octet_from, unplaned, schedule_in};
 
+use crate::block_states::FEW_BLOCKS;
 use crate::state::State;
 use mbj_aes::Octet;
 use mbj_types::{AES_LANES, AesWord, BLOCK_BYTES, Lane8};
@@ -73,8 +74,8 @@ fn blended_state(s: State<AesWord>, mask: AesWord, planes: &[u8; 16]) -> State<A
 }
 
 /// Writes the first of the round keys into one lane of as many states. The other lanes stay.
-pub fn write_lane(keys: &mut [State<AesWord>], lane: usize, planes: &[[u8; 16]; AES_LANES])
-    requires keys { length keys.old ≤ AES_LANES }
+pub fn write_lane(keys: &mut [State<AesWord>], lane: usize, planes: &[[u8; 16]; FEW_BLOCKS])
+    requires keys { length keys.old ≤ FEW_BLOCKS }
     requires lane { lane < AES_LANES }
     ensures here { schedule_in (lane_at 8) keys.new lane ≡ flat_map unplaned (take (length keys.old) planes.now) }
     ensures elsewhere { (i : ℕ) → i < AES_LANES → i ≢ lane

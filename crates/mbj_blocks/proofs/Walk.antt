@@ -6,15 +6,12 @@ use Rattle.std.proofs.lemmas.Bool.{cases_lt}
 use Rattle.mbj_types.specs.Blocks.{xor_lists, blocks}
 use Rattle.mbj_types.proofs.XorLists.{length-xor_lists}
 use Rattle.mbj_blocks.specs.Places.{block_of, with_block}
+use Rattle.mbj_blocks.specs.Walked.{Walked}
 use Rattle.mbj_blocks.proofs.Blocks.{blocks-nil, blocks-drop}
 
 -- the length of block i
 pub length-block_of : (text : List ℕ) (i : ℕ) → length (block_of text i) ≡ min 16 (length text - 16 * i)
 length-block_of text i = length-take 16 (drop (16 * i) text) ∙ ap (λ (n : ℕ). min 16 n) (length-drop (16 * i) text)
-
--- the blocks before block i are done, and with what rest makes of the others they are the whole
-abbrev pub Walked : (List (List ℕ) → List (List ℕ)) → List ℕ → ℕ → List ℕ → Type 0
-Walked rest text i whole = take (16 * i) text ++ concat (rest (blocks (drop (16 * i) text))) ≡ whole
 
 -- no block is left
 pub walk_end : (rest : List (List ℕ) → List (List ℕ)) (text whole : List ℕ) (i : ℕ) → rest [] ≡ []

@@ -1,11 +1,14 @@
 //! The blocks of 16 bytes of a text, numbered from 0 on, of which the last may be shorter: reading one, putting one in
-//! its place, and xoring one with a mask. No call takes memory.
+//! its place, and xoring them with masks. No call takes memory.
 #![tactic(auto)]
+
+mod masks;
 
 ghost use Rattle.std.specs.Prelude.{◌≡◌, ◌+◌, ◌*◌, ◌<◌, ◌≤◌, length, take, drop};
 ghost use Rattle.mbj_types.specs.Blocks.{xor_lists, filled_block};
 ghost use Rattle.mbj_blocks.specs.Places.{block_of, with_block};
 
+pub use masks::xor_blocks;
 use mbj_types::{BLOCK_BYTES, xor_in_place};
 
 /// The 16 bytes of a text from `start` on, which it has.

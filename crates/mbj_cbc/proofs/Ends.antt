@@ -9,16 +9,16 @@ use Rattle.mbj_types.specs.Result.{range}
 use Rattle.mbj_aes.proofs.Rounds.{length-encipher}
 use Rattle.mbj_lane.specs.Rounds.{after, end_of}
 use Rattle.mbj_blocks.proofs.Blocks.{blocks-nil, blocks-cons}
-use Rattle.mbj_cbc.specs.Rounds.{Going, rest_of, round, started}
+use Rattle.mbj_cbc.specs.Rounds.{CbcState, rest_of, round, started}
 
 module _ (key : List ℕ) (off len : ℕ) (long : 16 ≤ length key) where
-  abbrev going : List ℕ → ℕ → List ℕ → Going
-  going packet rest chain = record { packet = packet; rest = rest; chain = chain; key = key; off = off; len = len }
+  abbrev state : List ℕ → ℕ → List ℕ → CbcState
+  state packet rest chain = record { packet = packet; rest = rest; chain = chain; key = key; off = off; len = len }
 
   -- one round, where b is the next block, before it stands what is done and behind it what is left
   one_round : (done b left chain : List ℕ) (n : ℕ) → length done + 16 * suc n ≡ off + len → length b ≡ 16
-      → round (going (done ++ b ++ left) (suc n) chain)
-      ≡ going (done ++ encipher key (xor_lists b chain) ++ left) n (encipher key (xor_lists b chain))
+      → round (state (done ++ b ++ left) (suc n) chain)
+      ≡ state (done ++ encipher key (xor_lists b chain) ++ left) n (encipher key (xor_lists b chain))
   one_round done b left chain n at size =
       let p : ℕ = off + len - 16 * suc n in
       let place : length done ≡ p = omega arith in
@@ -31,12 +31,12 @@ module _ (key : List ℕ) (off len : ℕ) (long : 16 ≤ length key) where
       let behind : drop (p + 16) packet ≡ left = drop_at (done ++ b) left (p + 16) (omega (arith, length-append done b)) in
       let c : List ℕ = encipher key (xor_lists (take 16 (drop p packet)) chain) in
       let sealed : c ≡ encipher key (xor_lists b chain) = ap (λ x. encipher key (xor_lists x chain)) block in
-      ap₂ (λ xs ys. going (xs ++ c ++ ys) (suc n - 1) c) before behind
-      ∙ ap₂ (λ d m. going (done ++ d ++ left) m d) sealed fewer
+      ap₂ (λ xs ys. state (xs ++ c ++ ys) (suc n - 1) c) before behind
+      ∙ ap₂ (λ d m. state (done ++ d ++ left) m d) sealed fewer
 
   -- n rounds, which are all that are left
   all_rounds : (n : ℕ) (done text behind chain : List ℕ) → length done + 16 * n ≡ off + len → length text ≡ 16 * n
-      → (after round n (going (done ++ text ++ behind) n chain)).packet ≡ done ++ cbc_text (encipher key) chain text ++ behind
+      → (after round n (state (done ++ text ++ behind) n chain)).packet ≡ done ++ cbc_text (encipher key) chain text ++ behind
   all_rounds zero done [] behind chain at size =
       ap (λ bs. done ++ concat (cbc (encipher key) chain bs) ++ behind) (sym (blocks-nil [] (omega arith)))
   all_rounds zero done (x ∷ text) behind chain at size = absurd (omega arith)
@@ -51,9 +51,9 @@ module _ (key : List ℕ) (off len : ℕ) (long : 16 ≤ length key) where
       ∙ append_assoc (done ++ b) left behind in
       let whole : cbc_text (encipher key) chain text ≡ c ++ cbc_text (encipher key) c left =
       ap (λ bs. concat (cbc (encipher key) chain bs)) (blocks-cons text (omega arith)) in
-      ap (λ p. (after round n (round (going p (suc n) chain))).packet) cut
+      ap (λ p. (after round n (round (state p (suc n) chain))).packet) cut
       ∙ ap (λ e. (after round n e).packet) (one_round done b (left ++ behind) chain n at block)
-      ∙ ap (λ p. (after round n (going p n c)).packet) (sym (append_assoc (done ++ c) left behind))
+      ∙ ap (λ p. (after round n (state p n c)).packet) (sym (append_assoc (done ++ c) left behind))
       ∙ all_rounds n (done ++ c) left behind c
       (omega (arith, length-append done c, length-encipher key (xor_lists b chain) long)) (omega (arith, length-drop 16 text))
       ∙ ap (λ xs. xs ++ behind)
@@ -72,5 +72,5 @@ module _ (key : List ℕ) (off len : ℕ) (long : 16 ≤ length key) where
       ∙ take-append-drop off packet) in
       let before : length (take off packet) ≡ off = length-take-le off packet (omega arith) in
       let size : length text ≡ len = length-take-le len (drop off packet) (omega (arith, length-drop off packet)) in
-      ap (λ p. (after round (len / 16) (going p (len / 16) iv)).packet) cut
+      ap (λ p. (after round (len / 16) (state p (len / 16) iv)).packet) cut
       ∙ all_rounds (len / 16) (take off packet) text behind iv (omega arith) (omega arith)

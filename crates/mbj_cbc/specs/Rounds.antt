@@ -7,7 +7,7 @@ use Rattle.mbj_types.specs.Rounds.{cbc_rounds}
 
 -- an encryption on its way: the packet, in which the text is `len` bytes from `off` on; the rounds that are left; the chaining
 -- value; and the schedule of the key
-pub record Going : Type 0 where
+pub record CbcState : Type 0 where
   pub packet : List ℕ
   pub rest : ℕ
   pub chain : List ℕ
@@ -15,36 +15,41 @@ pub record Going : Type 0 where
   pub off : ℕ
   pub len : ℕ
 
-abbrev pub key_of : Going → List ℕ
+abbrev pub key_of : CbcState → List ℕ
 key_of e = e.key
 
-abbrev pub rest_of : Going → ℕ
+abbrev pub rest_of : CbcState → ℕ
 rest_of e = e.rest
 
-abbrev pub chain_of : Going → List ℕ
+abbrev pub chain_of : CbcState → List ℕ
 chain_of e = e.chain
 
--- where the next block stands
-abbrev pub place_of : Going → ℕ
-place_of e = e.off + e.len - 16 * e.rest
+-- where the next block of the text begins in the packet
+abbrev pub next_block_at : CbcState → ℕ
+next_block_at e = e.off + e.len - 16 * e.rest
 
-abbrev pub block_of : Going → List ℕ
-block_of e = range (place_of e) 16 e.packet
+abbrev pub block_of : CbcState → List ℕ
+block_of e = range (next_block_at e) 16 e.packet
 
--- the next block gave the ciphertext block c, which stands in its place and is the next chaining value
-abbrev pub led : Going → List ℕ → Going
+-- the next block gave the ciphertext block c, which stands in its place
+abbrev pub led : CbcState → List ℕ → CbcState
 led e c = record e {
-  packet = take (place_of e) e.packet ++ c ++ drop (place_of e + 16) e.packet;
+  packet = take (next_block_at e) e.packet ++ c ++ drop (next_block_at e + 16) e.packet;
   rest = e.rest - 1;
-  chain = c;
 }
 
--- the next round
-abbrev pub round : Going → Going
-round e = led e (encipher e.key (xor_lists (block_of e) e.chain))
+-- c is the chaining value
+abbrev pub kept : CbcState → List ℕ → CbcState
+kept e c = record e { chain = c }
+
+-- the next round: the ciphertext block is the next chaining value
+abbrev pub round : CbcState → CbcState
+round e =
+    let c = encipher e.key (xor_lists (block_of e) e.chain) in
+    kept (led e c) c
 
 -- an encryption of which nothing is done
-abbrev pub started : List ℕ → List ℕ → List ℕ → ℕ → ℕ → Going
+abbrev pub started : List ℕ → List ℕ → List ℕ → ℕ → ℕ → CbcState
 started key iv packet off len = record {
   packet = packet;
   rest = cbc_rounds len;

@@ -4,7 +4,7 @@ ghost use Rattle.mbj_types.specs.Modes.{cbc_text};
 ghost use Rattle.mbj_types.specs.Result.{range};
 ghost use Rattle.mbj_types.specs.Rounds.{cbc_rounds};
 ghost use Rattle.mbj_lane.specs.Rounds.{end_of};
-ghost use Rattle.mbj_cbc.specs.Rounds.{Going, key_of, rest_of, block_of, chain_of, led, place_of, round, started};
+ghost use Rattle.mbj_cbc.specs.Rounds.{CbcState, key_of, rest_of, block_of, chain_of, led, kept, next_block_at, round, started};
 
 use mbj_aes::Schedule;
 use mbj_aes_lanes::Chaining;
@@ -29,9 +29,9 @@ pub struct CbcEntry<const N: usize> {
 
 impl<const N: usize> Model for CbcEntry<N> {
     ghost use Rattle.std.specs.Prelude.{◌≡◌, ◌+◌, ◌*◌, ◌^◌, ◌<◌, ◌≤◌, length};
-    ghost use Rattle.mbj_cbc.specs.Rounds.{Going};
+    ghost use Rattle.mbj_cbc.specs.Rounds.{CbcState};
 
-    ghost Value = { Going };
+    ghost Value = { CbcState };
 
     ghost view = { λ e. record {
       packet = e.packet.items;
@@ -81,10 +81,10 @@ impl<const N: usize> CbcEntry<N> {
         self.packet
     }
 
-    /// Where the next block stands in the packet.
+    /// Where the next block of the text begins in the packet.
     #[inline(always)]
-    fn place(&self) -> usize
-        ensures { result ≡ place_of self.now }
+    fn next_block_at(&self) -> usize
+        ensures { result ≡ next_block_at self.now }
     {
         self.off + self.len - BLOCK_BYTES * self.rest as usize
     }
@@ -103,6 +103,8 @@ impl<const N: usize> Chaining for CbcEntry<N> {
 
     ghost led = { led };
 
+    ghost kept = { kept };
+
     #[inline(always)]
     fn key(&self) -> &Schedule {
         &self.key
@@ -110,7 +112,7 @@ impl<const N: usize> Chaining for CbcEntry<N> {
 
     #[inline(always)]
     fn block(&self) -> [u8; 16] {
-        block_from(&self.packet, self.place())
+        block_from(&self.packet, self.next_block_at())
     }
 
     #[inline(always)]
@@ -120,15 +122,31 @@ impl<const N: usize> Chaining for CbcEntry<N> {
 
     #[inline(always)]
     fn lead(&mut self, chain: &[u8; 16]) {
-        let at = self.place();
+        let at = self.next_block_at();
         self.packet[at..at + BLOCK_BYTES].copy_from_slice(chain);
-        self.chain = *chain;
         self.rest -= 1;
+    }
+
+    #[inline(always)]
+    fn keep(&mut self, chain: &[u8; 16]) {
+        self.chain = *chain;
     }
 
     ghost takes = { λ e c. refl };
 
+    ghost keeps_own = { λ e. refl };
+
+    ghost keeps_last = { λ e b c. refl };
+
+    ghost leads_rest = { λ e b c l. refl };
+
     ghost keeps_key = { λ e c. refl };
+
+    ghost keeps_block = { λ e c. refl };
+
+    ghost keeps_rest = { λ e c. refl };
+
+    ghost leads_key = { λ e c. refl };
 
     ghost falls = { λ e c. refl };
 }

@@ -1,24 +1,72 @@
-ghost use Rattle.std.specs.Prelude.{◌≡◌, ℕ, ◌+◌, ◌*◌, ◌%◌, ◌<◌, ◌≤◌, [], length, slice_index_or};
+ghost use Rattle.std.specs.Prelude.{◌≡◌, ℕ, ◌+◌, ◌*◌, ◌%◌, ◌<◌, ◌≤◌, List, [], length, slice_index_or};
 ghost use Rattle.mbj_types.specs.Aes.{decipher};
+ghost use Rattle.mbj_types.specs.Modes.{uncbc, uncbc_text};
 ghost use Rattle.mbj_blocks.specs.Places.{block_of};
-ghost use Rattle.mbj_types.specs.Modes.{uncbc_text};
+ghost use Rattle.mbj_blocks.specs.Walked.{Walked};
 
 use mbj_aes::Schedule;
-use mbj_aes_lanes::{LaneKeys, decrypt16};
+use mbj_aes_lanes::{FEW_BLOCKS, LaneKeys, decrypt_same, decrypt32};
 use mbj_blocks::{block_at, put_block};
 use mbj_types::{AES_LANES, BLOCK_BYTES, xor_in_place};
 
-// The blocks of a text of whole blocks from block `first` on, as many as there are lanes, and zero blocks behind them.
-fn blocks_from(text: &[u8], first: usize) -> [[u8; 16]; AES_LANES]
-    requires { 16 * first ≤ length text.now }
-    ensures { (j : ℕ) → j < AES_LANES → 16 * (first + j + 1) ≤ length text.now
-        → slice_index_or result j [] ≡ block_of text.now (first + j) }
+// Copies blocks of a text, from block `first` on.
+fn copy_blocks(text: &[u8], first: usize, blocks: &mut [[u8; 16]])
+    requires { 16 * (first + length blocks.old) ≤ length text.now }
+    ensures { (j : ℕ) → j < length blocks.old → slice_index_or blocks.new j [] ≡ block_of text.now (first + j) }
 {
-    let mut found = [[0; BLOCK_BYTES]; AES_LANES];
-    'each: for j in 0..(text.len() / BLOCK_BYTES - first).min(AES_LANES) {
-        found[j] = block_at(text, first + j);
+    'each: for j in 0..blocks.len() {
+        blocks[j] = block_at(text, first + j);
     }
-    found
+}
+
+// Xors deciphered blocks, each with the ciphertext before it, and puts them in the text from block `first` on. `chain` is
+// the ciphertext before the first of them, and the answer is the last one's.
+fn put_opened(text: &mut [u8], first: usize, opened: &[[u8; 16]], chain: &[u8; 16]) -> [u8; 16]
+    requires { 16 * (first + length opened.now) ≤ length text.old }
+    ensures { (d : List ℕ → List ℕ) (whole : List ℕ)
+        → ((j : ℕ) → j < length opened.now → slice_index_or opened.now j [] ≡ d (block_of text.old (first + j)))
+        → Walked (uncbc d chain.now) text.old first whole → Walked (uncbc d result) text.new (first + length opened.now) whole }
+{
+    let mut chain = *chain;
+    'each: for j in 0..opened.len() {
+        let ciphertext = block_at(text, first + j);
+        let mut block = opened[j];
+        xor_in_place(&mut block, &chain);
+        put_block(text, first + j, &block);
+        chain = ciphertext;
+    }
+    chain
+}
+
+// A text of few blocks, in one narrow pass.
+fn decrypt_few(key: &Schedule, iv: &[u8; 16], text: &mut [u8])
+    requires whole { length text.old % 16 ≡ 0 }
+    requires few { length text.old ≤ 16 * FEW_BLOCKS }
+    ensures { text.new ≡ uncbc_text (decipher key.now) iv.now text.old }
+{
+    let mut room = [[0; BLOCK_BYTES]; FEW_BLOCKS];
+    let opened = &mut room[..text.len() / BLOCK_BYTES];
+    copy_blocks(text, 0, opened);
+    decrypt_same(key, opened);
+    put_opened(text, 0, opened, iv);
+}
+
+// A text of any number of blocks, under keys that are made once.
+fn decrypt_many(key: &Schedule, iv: &[u8; 16], text: &mut [u8])
+    requires { length text.old % 16 ≡ 0 }
+    ensures { text.new ≡ uncbc_text (decipher key.now) iv.now text.old }
+{
+    let keys = LaneKeys::all(key);
+    let many = text.len() / BLOCK_BYTES;
+    let mut chain = *iv;
+    'batches: for b in 0..many.div_ceil(AES_LANES) {
+        let first = AES_LANES * b;
+        let here = (many - first).min(AES_LANES);
+        let mut opened = [[0; BLOCK_BYTES]; AES_LANES];
+        copy_blocks(text, first, &mut opened[..here]);
+        decrypt32(&keys, &mut opened);
+        chain = put_opened(text, first, &opened[..here], &chain);
+    }
 }
 
 /// Decrypts a text in place by CBC (SP 800-38A, 6.2): each block of 16 bytes is deciphered and xored with the
@@ -27,20 +75,9 @@ pub fn decrypt_in_place(key: &Schedule, iv: &[u8; 16], text: &mut [u8])
     requires { length text.old % 16 ≡ 0 }
     ensures { text.new ≡ uncbc_text (decipher key.now) iv.now text.old }
 {
-    let mut keys = LaneKeys::new(key.rounds());
-    keys.put_all(key);
-    let many = text.len() / BLOCK_BYTES;
-    let mut chain = *iv;
-    'batches: for b in 0..many.div_ceil(AES_LANES) {
-        let first = AES_LANES * b;
-        let mut opened = blocks_from(text, first);
-        decrypt16(&keys, &mut opened);
-        'each: for j in 0..(many - first).min(AES_LANES) {
-            let ciphertext = block_at(text, first + j);
-            let mut block = opened[j];
-            xor_in_place(&mut block, &chain);
-            put_block(text, first + j, &block);
-            chain = ciphertext;
-        }
+    if text.len() <= BLOCK_BYTES * FEW_BLOCKS {
+        decrypt_few(key, iv, text);
+    } else {
+        decrypt_many(key, iv, text);
     }
 }

@@ -9,7 +9,7 @@ use Rattle.mbj_types.specs.Result.{range}
 use Rattle.mbj_types.specs.Rounds.{cmac_rounds}
 use Rattle.mbj_lane.specs.Rounds.{after, end_of}
 use Rattle.mbj_blocks.specs.Places.{block_of}
-use Rattle.mbj_cmac.specs.Rounds.{Going, rest_of, round, started}
+use Rattle.mbj_cmac.specs.Rounds.{CmacState, rest_of, round, started}
 use Rattle.mbj_cmac.proofs.Messages.{closed-more, closed-last}
 
 -- ---- how many blocks there are
@@ -92,13 +92,13 @@ range-rest off len at packet h =
 -- ---- the rounds
 
 -- the packet stays
-pub packet-after : (n : ℕ) (e : Going) → (after round n e).packet ≡ e.packet
+pub packet-after : (n : ℕ) (e : CmacState) → (after round n e).packet ≡ e.packet
 packet-after zero e = refl
 packet-after (suc n) e = packet-after n (round e)
 
 module _ (key packet : List ℕ) (off len : ℕ) (h : off + len ≤ length packet) where
-  abbrev going : ℕ → List ℕ → Going
-  going rest chain = record { packet = packet; rest = rest; chain = chain; key = key; off = off; len = len }
+  abbrev state : ℕ → List ℕ → CmacState
+  state rest chain = record { packet = packet; rest = rest; chain = chain; key = key; off = off; len = len }
 
   abbrev parts : List (List ℕ)
   parts = closed (encipher key) (message_blocks (range off len packet))
@@ -108,15 +108,15 @@ module _ (key packet : List ℕ) (off len : ℕ) (h : off + len ≤ length packe
 
   -- n rounds, which are all that are left, from block i on
   chain-after : (n i : ℕ) (chain : List ℕ) → i + n ≡ cmac_rounds len
-      → (after round n (going n chain)).chain ≡ last_or chain (cbc (encipher key) chain (drop i parts))
+      → (after round n (state n chain)).chain ≡ last_or chain (cbc (encipher key) chain (drop i parts))
   chain-after zero i chain at =
       ap (λ bs. last_or chain (cbc (encipher key) chain bs)) (sym (drop_all i parts (omega (arith, many))))
   chain-after (suc n) i chain at =
       let place : cmac_rounds len - suc n ≡ i = omega arith in
       let fewer : suc n - 1 ≡ n = omega arith in
       let next : List ℕ = encipher key (xor_lists (get_or parts i []) chain) in
-      let led : round (going (suc n) chain) ≡ going n next =
-      ap₂ (λ (m k : ℕ). going m (encipher key (xor_lists (get_or parts k []) chain))) fewer place in
+      let led : round (state (suc n) chain) ≡ state n next =
+      ap₂ (λ (m k : ℕ). state m (encipher key (xor_lists (get_or parts k []) chain))) fewer place in
       ap (λ e. (after round n e).chain) led
       ∙ chain-after n (i + 1) next (omega arith)
       ∙ ap (λ bs. last_or chain (cbc (encipher key) chain bs)) (sym (drop_more parts i [] (omega (arith, many))))

@@ -6,7 +6,7 @@ ghost use Rattle.mbj_types.specs.Result.{range};
 ghost use Rattle.mbj_types.specs.Rounds.{cmac_rounds};
 ghost use Rattle.mbj_lane.specs.Rounds.{end_of};
 ghost use Rattle.mbj_cmac.specs.Inside.Sound.{last_part};
-ghost use Rattle.mbj_cmac.specs.Rounds.{Going, key_of, rest_of, block_of, chain_of, led, round, started};
+ghost use Rattle.mbj_cmac.specs.Rounds.{CmacState, key_of, rest_of, block_of, chain_of, led, kept, round, started};
 
 use crate::closing::{closed_block, closed_by, doubled};
 use mbj_aes::Schedule;
@@ -35,10 +35,10 @@ pub struct CmacEntry<const N: usize> {
 }
 
 impl<const N: usize> Model for CmacEntry<N> {
-    ghost use Rattle.mbj_cmac.specs.Rounds.{Going};
+    ghost use Rattle.mbj_cmac.specs.Rounds.{CmacState};
     ghost use Rattle.mbj_cmac.specs.Inside.Sound.{IsSound};
 
-    ghost Value = { Going };
+    ghost Value = { CmacState };
 
     ghost view = { λ e. record {
       packet = e.packet.items;
@@ -160,6 +160,8 @@ impl<const N: usize> Chaining for CmacEntry<N> {
 
     ghost led = { led };
 
+    ghost kept = { kept };
+
     #[inline(always)]
     fn key(&self) -> &Schedule {
         &self.key
@@ -180,14 +182,30 @@ impl<const N: usize> Chaining for CmacEntry<N> {
     }
 
     #[inline(always)]
-    fn lead(&mut self, chain: &[u8; 16]) {
-        self.chain = *chain;
+    fn lead(&mut self, _chain: &[u8; 16]) {
         self.rest -= 1;
+    }
+
+    #[inline(always)]
+    fn keep(&mut self, chain: &[u8; 16]) {
+        self.chain = *chain;
     }
 
     ghost takes = { λ e c. refl };
 
+    ghost keeps_own = { λ e. refl };
+
+    ghost keeps_last = { λ e b c. refl };
+
+    ghost leads_rest = { λ e b c l. refl };
+
     ghost keeps_key = { λ e c. refl };
+
+    ghost keeps_block = { λ e c. refl };
+
+    ghost keeps_rest = { λ e c. refl };
+
+    ghost leads_key = { λ e c. refl };
 
     ghost falls = { λ e c. refl };
 }

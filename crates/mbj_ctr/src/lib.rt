@@ -2,17 +2,17 @@
 #![tactic(auto)]
 
 ghost use Rattle.std.specs.Prelude.{◌≡◌, ◌⊎◌, ℕ, ◌+◌, ◌*◌, ◌%◌, ◌^◌, ◌<◌, ◌≤◌, [], length, slice_index_or};
+ghost use Rattle.std.specs.List.{concat};
 ghost use Rattle.std.specs.Int.{w128, to_be_bytes};
 ghost use Rattle.mbj_types.specs.Aes.{encipher};
-ghost use Rattle.mbj_types.specs.Blocks.{xor_lists};
-ghost use Rattle.mbj_blocks.specs.Places.{block_of, with_block};
-ghost use Rattle.mbj_types.specs.Modes.{first_counter, ctr_text};
+ghost use Rattle.mbj_types.specs.Blocks.{blocks};
+ghost use Rattle.mbj_types.specs.Modes.{first_counter, ctr_blocks, ctr_text};
 
 use mbj_aes::Schedule;
-use mbj_aes_lanes::{LaneKeys, encrypt16};
-use mbj_blocks::xor_block;
+use mbj_aes_lanes::{FEW_BLOCKS, LaneKeys, encrypt_same, encrypt32};
+use mbj_blocks::xor_blocks;
 use mbj_types::{AES_LANES, BLOCK_BYTES};
-use std::simd::{u8x16, u64x2};
+use std::simd::u64x2;
 
 // The number of the block with which an IV of 12 bytes begins.
 const FIRST_BLOCK_NUMBER: u8 = 1;
@@ -52,29 +52,30 @@ fn counter_block(counter: u128) -> [u8; 16]
 
 // Writes the counter blocks from these halves on, where the low one does not wrap.
 #[inline(always)]
-fn put_near_counters(blocks: &mut [[u8; 16]; AES_LANES], high: u64, low: u64)
-    requires { low + AES_LANES ≤ 2 ^ 64 }
-    ensures { (j : ℕ) → j < AES_LANES → slice_index_or blocks.new j [] ≡ to_be_bytes w128 (low + j + 2 ^ 64 * high) }
+fn put_near_counters(blocks: &mut [[u8; 16]], high: u64, low: u64)
+    requires { low + length blocks.old ≤ 2 ^ 64 }
+    ensures { (j : ℕ) → j < length blocks.old → slice_index_or blocks.new j [] ≡ to_be_bytes w128 (low + j + 2 ^ 64 * high) }
 {
-    'each: for j in 0..AES_LANES {
+    'each: for j in 0..blocks.len() {
         blocks[j] = halves_block(high, low + j as u64);
     }
 }
 
 // Writes the counter blocks from `counter` on, wherever the counters wrap.
 #[inline(never)]
-fn put_any_counters(blocks: &mut [[u8; 16]; AES_LANES], counter: u128)
-    ensures { (j : ℕ) → j < AES_LANES → slice_index_or blocks.new j [] ≡ to_be_bytes w128 ((counter + j) % 2 ^ 128) }
+fn put_any_counters(blocks: &mut [[u8; 16]], counter: u128)
+    ensures { (j : ℕ) → j < length blocks.old → slice_index_or blocks.new j [] ≡ to_be_bytes w128 ((counter + j) % 2 ^ 128) }
 {
-    'each: for j in 0..AES_LANES {
+    'each: for j in 0..blocks.len() {
         blocks[j] = counter_block(counter.wrapping_add(j as u128));
     }
 }
 
-// Writes the counter blocks from `counter` on, which is no secret.
+// Writes the counter blocks from `counter` on, which is no secret. There are no more of them than lanes.
 #[inline(always)]
-fn put_counters(blocks: &mut [[u8; 16]; AES_LANES], counter: u128)
-    ensures { (j : ℕ) → j < AES_LANES → slice_index_or blocks.new j [] ≡ to_be_bytes w128 ((counter + j) % 2 ^ 128) }
+fn put_counters(blocks: &mut [[u8; 16]], counter: u128)
+    requires { length blocks.old ≤ AES_LANES }
+    ensures { (j : ℕ) → j < length blocks.old → slice_index_or blocks.new j [] ≡ to_be_bytes w128 ((counter + j) % 2 ^ 128) }
 {
     let low = (counter % (1 << 64)) as u64;
     let high = (counter >> 64) as u64;
@@ -85,38 +86,33 @@ fn put_counters(blocks: &mut [[u8; 16]; AES_LANES], counter: u128)
     }
 }
 
-// Xors block `i` of a text, which has it whole, with `mask`, as one vector.
-#[inline(always)]
-fn xor_whole(text: &mut [u8], i: usize, mask: &[u8; 16])
-    requires { 16 * (i + 1) ≤ length text.old }
-    ensures { text.new ≡ with_block text.old i (xor_lists (block_of text.old i) mask.now) }
+// A text of few blocks, in one narrow pass.
+fn apply_few(key: &Schedule, counter: u128, text: &mut [u8])
+    requires { length text.old ≤ 16 * FEW_BLOCKS }
+    ensures { text.new ≡ concat (ctr_blocks (encipher key.now) counter (blocks text.old)) }
 {
-    let start = BLOCK_BYTES * i;
-    let whole = &mut text[start..start + BLOCK_BYTES];
-    let block = u8x16::from_slice(whole) ^ u8x16::from_array(*mask);
-    block.copy_to_slice(whole);
+    let mut room = [[0; BLOCK_BYTES]; FEW_BLOCKS];
+    let masks = &mut room[..text.len().div_ceil(BLOCK_BYTES)];
+    put_counters(masks, counter);
+    encrypt_same(key, masks);
+    xor_blocks(text, 0, masks);
 }
 
-// Xors block `i` of a text, of which the last one may be shorter, with `mask`. A call for that one keeps it out of the
-// loop over the others.
-#[inline(never)]
-fn xor_last(text: &mut [u8], i: usize, mask: &[u8; 16])
-    requires { 16 * i < length text.old }
-    ensures { text.new ≡ with_block text.old i (xor_lists (block_of text.old i) mask.now) }
+// A text of any number of blocks, under keys that are made once.
+fn apply_many(key: &Schedule, first_counter: u128, text: &mut [u8])
+    ensures { text.new ≡ concat (ctr_blocks (encipher key.now) first_counter (blocks text.old)) }
 {
-    xor_block(text, i, mask);
-}
-
-// Xors block `i` of a text with `mask`.
-#[inline(always)]
-fn xor_mask(text: &mut [u8], i: usize, mask: &[u8; 16])
-    requires { 16 * i < length text.old }
-    ensures { text.new ≡ with_block text.old i (xor_lists (block_of text.old i) mask.now) }
-{
-    if i < text.len() / BLOCK_BYTES {
-        xor_whole(text, i, mask);
-    } else {
-        xor_last(text, i, mask);
+    let keys = LaneKeys::all(key);
+    let many = text.len().div_ceil(BLOCK_BYTES);
+    let mut counter = first_counter;
+    'batches: for b in 0..many.div_ceil(AES_LANES) {
+        let first = AES_LANES * b;
+        let here = (many - first).min(AES_LANES);
+        let mut masks = [[0; BLOCK_BYTES]; AES_LANES];
+        put_counters(&mut masks, counter);
+        encrypt32(&keys, &mut masks);
+        xor_blocks(text, first, &masks[..here]);
+        counter = counter.wrapping_add(AES_LANES as u128);
     }
 }
 
@@ -129,18 +125,10 @@ pub fn apply(key: &Schedule, iv: &[u8], text: &mut [u8])
     requires { (length iv.now ≡ 12) ⊎ (length iv.now ≡ 16) }
     ensures { text.new ≡ ctr_text (encipher key.now) iv.now text.old }
 {
-    let mut keys = LaneKeys::new(key.rounds());
-    keys.put_all(key);
-    let many = text.len().div_ceil(BLOCK_BYTES);
-    let mut counter = first_counter(iv);
-    'batches: for b in 0..many.div_ceil(AES_LANES) {
-        let mut masks = [[0; BLOCK_BYTES]; AES_LANES];
-        put_counters(&mut masks, counter);
-        encrypt16(&keys, &mut masks);
-        let first = AES_LANES * b;
-        'each: for j in 0..(many - first).min(AES_LANES) {
-            xor_mask(text, first + j, &masks[j]);
-        }
-        counter = counter.wrapping_add(AES_LANES as u128);
+    let counter = first_counter(iv);
+    if text.len() <= BLOCK_BYTES * FEW_BLOCKS {
+        apply_few(key, counter, text);
+    } else {
+        apply_many(key, counter, text);
     }
 }

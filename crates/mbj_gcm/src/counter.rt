@@ -1,4 +1,4 @@
-ghost use Rattle.std.specs.Prelude.{◌≡◌, ℕ, ◌+◌, ◌<◌, [], ◌∷◌, ◌++◌, length, replicate, slice_index_or};
+ghost use Rattle.std.specs.Prelude.{◌≡◌, ℕ, ◌+◌, ◌*◌, ◌<◌, ◌≤◌, [], ◌∷◌, ◌++◌, length, replicate, slice_index_or};
 ghost use Rattle.std.specs.List.{concat};
 ghost use Rattle.mbj_types.specs.Aes.{encipher};
 ghost use Rattle.mbj_types.specs.Blocks.{blocks};
@@ -8,8 +8,8 @@ ghost use Rattle.mbj_gcm.specs.Inside.Risen.{risen};
 
 use crate::hash::hash_of_parts;
 use mbj_aes::Schedule;
-use mbj_aes_lanes::{LaneKeys, encrypt16};
-use mbj_blocks::xor_block;
+use mbj_aes_lanes::{FEW_BLOCKS, LaneKeys, encrypt_same, encrypt32};
+use mbj_blocks::xor_blocks;
 use mbj_types::{AES_LANES, BLOCK_BYTES};
 
 // The bytes of an IV that begins a counter block as it is.
@@ -33,15 +33,14 @@ fn risen(block: &[u8; 16], by: u32) -> [u8; 16]
     risen
 }
 
-// The counter blocks after `counter`.
-fn counters_after(counter: &[u8; 16]) -> [[u8; 16]; AES_LANES]
-    ensures { (j : ℕ) → j < AES_LANES → slice_index_or result j [] ≡ risen counter.now (j + 1) }
+// Writes the counter blocks after `counter`, of which there are no more than lanes.
+fn put_counters_after(blocks: &mut [[u8; 16]], counter: &[u8; 16])
+    requires { length blocks.old ≤ AES_LANES }
+    ensures { (j : ℕ) → j < length blocks.old → slice_index_or blocks.new j [] ≡ risen counter.now (j + 1) }
 {
-    let mut counters = [[0; BLOCK_BYTES]; AES_LANES];
-    'each: for j in 0..AES_LANES {
-        counters[j] = risen(counter, j as u32 + 1);
+    'each: for j in 0..blocks.len() {
+        blocks[j] = risen(counter, j as u32 + 1);
     }
-    counters
 }
 
 // An IV of 12 bytes, and the number 1 in 4 bytes.
@@ -76,22 +75,45 @@ pub fn pre_counter_block(subkey: &[u8; 16], iv: &[u8]) -> [u8; 16]
     }
 }
 
-/// Encrypts or decrypts a text in place, which is the same map (SP 800-38D, 7.1, step 3): each block of 16 bytes is
-/// xored with its enciphered counter block, and the last one, which may be shorter, with as many bytes of it. The first
-/// counter block is the one after `pre_counter`.
-pub fn xor_key_stream(key: &Schedule, pre_counter: &[u8; 16], text: &mut [u8])
+// A text of few blocks, in one narrow pass.
+fn xor_few(key: &Schedule, pre_counter: &[u8; 16], text: &mut [u8])
+    requires { length text.old ≤ 16 * FEW_BLOCKS }
+    ensures { text.new ≡ concat (gctr (encipher key.now) (inc32 pre_counter.now) (blocks text.old)) }
+{
+    let mut room = [[0; BLOCK_BYTES]; FEW_BLOCKS];
+    let masks = &mut room[..text.len().div_ceil(BLOCK_BYTES)];
+    put_counters_after(masks, pre_counter);
+    encrypt_same(key, masks);
+    xor_blocks(text, 0, masks);
+}
+
+// A text of any number of blocks, under keys that are made once.
+fn xor_many(key: &Schedule, pre_counter: &[u8; 16], text: &mut [u8])
     ensures { text.new ≡ concat (gctr (encipher key.now) (inc32 pre_counter.now) (blocks text.old)) }
 {
     let keys = LaneKeys::all(key);
     let many = text.len().div_ceil(BLOCK_BYTES);
     let mut counter = *pre_counter;
     'batches: for b in 0..many.div_ceil(AES_LANES) {
-        let mut masks = counters_after(&counter);
-        encrypt16(&keys, &mut masks);
         let first = AES_LANES * b;
-        'each: for j in 0..(many - first).min(AES_LANES) {
-            xor_block(text, first + j, &masks[j]);
-        }
+        let here = (many - first).min(AES_LANES);
+        let mut masks = [[0; BLOCK_BYTES]; AES_LANES];
+        put_counters_after(&mut masks, &counter);
+        encrypt32(&keys, &mut masks);
+        xor_blocks(text, first, &masks[..here]);
         counter = risen(&counter, AES_LANES as u32);
+    }
+}
+
+/// Encrypts or decrypts a text in place, which is the same map (SP 800-38D, 7.1, step 3): each block of 16 bytes is
+/// xored with its enciphered counter block, and the last one, which may be shorter, with as many bytes of it. The first
+/// counter block is the one after `pre_counter`.
+pub fn xor_key_stream(key: &Schedule, pre_counter: &[u8; 16], text: &mut [u8])
+    ensures { text.new ≡ concat (gctr (encipher key.now) (inc32 pre_counter.now) (blocks text.old)) }
+{
+    if text.len() <= BLOCK_BYTES * FEW_BLOCKS {
+        xor_few(key, pre_counter, text);
+    } else {
+        xor_many(key, pre_counter, text);
     }
 }

@@ -4,14 +4,14 @@ use Rattle.mbj_types.specs.Aes.{encipher}
 use Rattle.mbj_types.specs.Cmac.{closed_block}
 use Rattle.mbj_types.specs.Result.{range}
 use Rattle.mbj_types.specs.Rounds.{cmac_rounds}
-use Rattle.mbj_cmac.specs.Rounds.{Going}
+use Rattle.mbj_cmac.specs.Rounds.{CmacState}
 
 -- the last block of the message, as it is before it is closed
-abbrev pub last_part : Going → List ℕ
+abbrev pub last_part : CmacState → List ℕ
 last_part e = drop (16 * (cmac_rounds e.len - 1)) (range e.off e.len e.packet)
 
 -- the key has n rounds, the range lies in the packet, and where the last block was closed, it is `last`
-pub record IsSound (n : ℕ) (is_closed : Bool) (last : List ℕ) (e : Going) : Type 0 where
+pub record IsSound (n : ℕ) (is_closed : Bool) (last : List ℕ) (e : CmacState) : Type 0 where
   pub key : length e.key ≡ 16 * (n + 1)
   pub chain : length e.chain ≡ 16
   pub range : e.off + e.len ≤ length e.packet

@@ -1,7 +1,7 @@
 -- The three layers are the circuit.
 use Rattle.std.proofs.Common.{ap, ap₂, ◌∙◌}
 use Rattle.mbj_aes.specs.Planes.Bytes.{bits_at, byte_of, byte_at}
-use Rattle.mbj_aes.specs.Planes.Circuit.{middle_bits, product_bits, bottom_bits}
+use Rattle.mbj_aes.specs.Inside.Circuit.{middle_bits, product_bits, bottom_bits}
 use Rattle.mbj_aes.proofs.Octets.{AreBits-across}
 use Rattle.mbj_aes.proofs.SBoxCircuit.{circuit_is}
 use Rattle.mbj_aes.proofs.circuit.sub_planes.Goals as goal

@@ -1,31 +1,31 @@
--- The rows of the transposed matrix are its columns, lane by lane.
-use Rattle.std.proofs.Common.{◌≢◌, ℕ, ◌<◌, List, [], length, get_or, sym, ap, ◌∙◌, arith, below_more, get_or-set_same, get_or-set_other}
-use Rattle.std.proofs.lemmas.List.{length-set}
-use Rattle.mbj_types.specs.declared.kind.TheConstants.{AES_LANES}
-use Rattle.mbj_types.specs.Lanes.{lane_at, lane_list}
-use Rattle.mbj_types.proofs.LaneLists.{length-lane_list, slice_index-lane_list}
-use Rattle.mbj_aes_lanes.proofs.ByteMatrices.{column_is}
+-- The blocks of one row more are written in each turn; the rows are the transposed words.
+use Rattle.std.proofs.Common.{◌≡◌, ℕ, ◌+◌, ◌*◌, ◌/◌, ◌%◌, ◌<◌, [], get_or, inl, inr, sym, ap, ◌∙◌, arith}
+use Rattle.std.proofs.lemmas.Bool.{cases_eq}
+use Rattle.mbj_aes_lanes.specs.Inside.Matrix.{byte_at_row}
+use Rattle.mbj_aes_lanes.proofs.ByteMatrices.{group_read, lane_of-turned}
 use Rattle.mbj_aes_lanes.proofs.blocks.put_blocks.Goals as goal
 
+pub rows-init : goal.rows-init
+rows-init g c j h lt hg = absurd (omega arith)
+
 pub rows-preserved : goal.rows-preserved
-rows-preserved c =
-    let inside : c.rows.i < length c.rows.to = omega (arith, c.rows.invariant.0) in (
-      length-set c.rows.to c.rows.i c.block_of.result ∙ c.rows.invariant.0,
-      below_more _ c.rows.i
-          (λ k h. let ne : k ≢ c.rows.i = omega arith in rw get_or-set_other (c.rows.invariant.1 k h))
-          (rw get_or-set_same c.block_of.ensures),
-    )
+rows-preserved g c j h lt hg =
+    let lane = g.V.Lane8.lane in
+    let k : ℕ = c.rows.k in
+    elim (cases_eq j k) [
+      | inl same ↦
+          rw same (c.put_row.ensures.written h hg ∙ group_read lane c.transpose.new.rows k h c.index-words-k.result (omega arith) c.index-words-k.is)
+      | inr ne ↦ c.put_row.ensures.others h j (omega arith) ne ∙ c.rows.invariant j h (omega arith) hg
+    ]
 
-pub returns-clause-bytes : goal.returns-clause-bytes
-returns-clause-bytes c i h =
-    let rows : List (List ℕ) = c.transposed-rows.result in
-    let row : List ℕ = get_or rows i [] in
-    c.rows.invariant.1 i (omega arith)
-    ∙ sym (column_is c.args.words.now rows i (lane_list (lane_at 8) AES_LANES row) c.told-words h (length-lane_list (lane_at 8) AES_LANES row)
-    (λ k below. sym (c.transposed-rows.ensures.bytes i k h below))
-    (λ k below. sym (slice_index-lane_list (lane_at 8) AES_LANES row k below)))
-
-pub returns-clause-lengths : goal.returns-clause-lengths
-returns-clause-lengths c i h =
-    ap length (c.rows.invariant.1 i (omega arith))
-    ∙ length-lane_list (lane_at 8) AES_LANES (get_or c.transposed-rows.result i [])
+pub returns : goal.returns
+returns g c i h =
+    let lane = g.V.Lane8.lane in
+    let place : i ≡ 16 * (i / 16) + i % 16 = omega arith in
+    let group : 16 * (i / 16) < g.V.Lane8.LANES = omega arith in
+    ap (λ (n : ℕ). get_or c.rows.to n []) place
+    ∙ c.rows.invariant (i % 16) (i / 16) (omega arith) group
+    ∙ sym (lane_of-turned lane c.args.words.now c.transpose.new.rows i (omega arith)
+    (λ t below.
+    ap (byte_at_row lane c.args.words.now t) place
+    ∙ sym (c.transpose.ensures (i % 16) (i / 16) t (omega arith) group below)))

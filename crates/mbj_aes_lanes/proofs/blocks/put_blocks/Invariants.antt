@@ -1,9 +1,9 @@
--- The blocks before the next one are written.
-use Rattle.std.proofs.Common.{◌≡◌, ℕ, ◌<◌, [], length, get_or}
-use Rattle.mbj_types.specs.declared.kind.TheConstants.{AES_LANES}
-use Rattle.mbj_types.specs.Lanes.{lane_at, lane_list}
+-- The blocks of the rows before the next one are written.
+use Rattle.std.proofs.Common.{◌≡◌, ℕ, ◌+◌, ◌*◌, ◌<◌, [], get_or}
+use Rattle.mbj_aes_lanes.specs.Inside.Matrix.{group_at_row}
 use Rattle.mbj_aes_lanes.proofs.blocks.put_blocks.Given as goal
 
 abbrev pub invariant-rows : goal.invariant-rows
-invariant-rows l =
-    (length l.to ≡ AES_LANES) × ((k : ℕ) → k < l.i → get_or l.to k [] ≡ lane_list (lane_at 8) AES_LANES (get_or l.rows k []))
+invariant-rows g l =
+    (j h : ℕ) → j < l.k → 16 * h < g.V.Lane8.LANES
+    → get_or l.to (16 * h + j) [] ≡ group_at_row g.V.Lane8.lane l.words j h

@@ -1,51 +1,31 @@
--- Lane by lane the columns of the transposed matrix are the blocks.
-use Rattle.std.proofs.Common.{◌≡◌, ℕ, ◌<◌, List, [], ◌∷◌, length, slice_index, slice_index_or}
-use Rattle.mbj_aes_lanes.specs.Inside.Matrix.{row_at}
-use Rattle.mbj_aes_lanes.proofs.EachPlace.{at_each_place}
-use Rattle.mbj_aes_lanes.proofs.ByteMatrices.{column_is}
+-- One row more is loaded in each turn, and the transposed rows are the words.
+use Rattle.std.proofs.Common.{◌≡◌, ℕ, ◌+◌, ◌*◌, ◌/◌, ◌%◌, ◌<◌, length, inl, inr, ap, ◌∙◌, arith}
+use Rattle.std.proofs.lemmas.Bool.{cases_eq}
+use Rattle.mbj_aes_lanes.specs.Inside.Matrix.{byte_at_row}
+use Rattle.mbj_aes_lanes.proofs.ByteMatrices.{group_written, group_beside, lane_of-turned}
 use Rattle.mbj_aes_lanes.proofs.blocks.words_of.Goals as goal
 
-pub returns-clause-lanes : goal.returns-clause-lanes
-returns-clause-lanes c i h =
-    let blocks : List (List ℕ) = c.args.blocks.now in
-    let rows : List (List ℕ) = c.row_of.result ∷ c.row_of-2.result ∷ c.row_of-3.result ∷ c.row_of-4.result ∷ c.row_of-5.result ∷ c.row_of-6.result ∷ c.row_of-7.result ∷ c.row_of-8.result ∷ c.row_of-9.result ∷ c.row_of-10.result ∷ c.row_of-11.result ∷ c.row_of-12.result ∷ c.row_of-13.result ∷ c.row_of-14.result ∷ c.row_of-15.result ∷ c.row_of-16.result ∷ [] in
-    let bytes : (k : ℕ) → k < 16 → row_at rows i k ≡ slice_index (slice_index_or blocks i []) k = λ k below.
-    at_each_place (λ i. row_at rows i k ≡ slice_index (slice_index_or blocks i []) k)
-    (c.row_of.ensures.bytes k below)
-    (c.row_of-2.ensures.bytes k below)
-    (c.row_of-3.ensures.bytes k below)
-    (c.row_of-4.ensures.bytes k below)
-    (c.row_of-5.ensures.bytes k below)
-    (c.row_of-6.ensures.bytes k below)
-    (c.row_of-7.ensures.bytes k below)
-    (c.row_of-8.ensures.bytes k below)
-    (c.row_of-9.ensures.bytes k below)
-    (c.row_of-10.ensures.bytes k below)
-    (c.row_of-11.ensures.bytes k below)
-    (c.row_of-12.ensures.bytes k below)
-    (c.row_of-13.ensures.bytes k below)
-    (c.row_of-14.ensures.bytes k below)
-    (c.row_of-15.ensures.bytes k below)
-    (c.row_of-16.ensures.bytes k below)
-    i h in
-    let whole : length (slice_index_or blocks i []) ≡ 16 =
-    at_each_place (λ i. length (slice_index_or blocks i []) ≡ 16)
-    c.row_of.ensures.block
-    c.row_of-2.ensures.block
-    c.row_of-3.ensures.block
-    c.row_of-4.ensures.block
-    c.row_of-5.ensures.block
-    c.row_of-6.ensures.block
-    c.row_of-7.ensures.block
-    c.row_of-8.ensures.block
-    c.row_of-9.ensures.block
-    c.row_of-10.ensures.block
-    c.row_of-11.ensures.block
-    c.row_of-12.ensures.block
-    c.row_of-13.ensures.block
-    c.row_of-14.ensures.block
-    c.row_of-15.ensures.block
-    c.row_of-16.ensures.block
-    i h in
-    column_is c.transposed.result rows i (slice_index_or blocks i []) c.transposed.ensures.rows h whole
-    (λ k below. c.transposed.ensures.bytes k i below h) bytes
+pub rows-init : goal.rows-init
+rows-init g c j h lt hg = absurd (omega arith)
+
+pub rows-preserved : goal.rows-preserved
+rows-preserved g c j h lt hg =
+    let lane = g.V.Lane8.lane in
+    let k : ℕ = c.rows.k in
+    let inside : k < length c.rows.words = omega arith in
+    elim (cases_eq j k) [
+      | inl same ↦ rw same (group_written lane c.rows.words k h c.row.result inside ∙ c.row.ensures h hg)
+      | inr ne ↦ group_beside lane c.rows.words k j h c.row.result ne ∙ c.rows.invariant j h (omega arith) hg
+    ]
+
+pub returns : goal.returns
+returns g c i h =
+    let lane = g.V.Lane8.lane in
+    let place : 16 * (i / 16) + i % 16 ≡ i = omega arith in
+    let group : 16 * (i / 16) < g.V.Lane8.LANES = omega arith in
+    lane_of-turned lane c.transpose.new.rows c.rows.words i (omega arith)
+    (λ t below.
+    ap (byte_at_row lane c.transpose.new.rows t) (omega arith)
+    ∙ c.transpose.ensures t (i / 16) (i % 16) below group (omega arith))
+    ∙ c.rows.invariant (i % 16) (i / 16) (omega arith) group
+    ∙ ap (g.B.LaneBlocks.block_in c.args.blocks.now) place

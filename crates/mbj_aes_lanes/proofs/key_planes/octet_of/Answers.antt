@@ -3,7 +3,7 @@ use Rattle.std.proofs.Common.{refl}
 use Rattle.mbj_aes_lanes.proofs.key_planes.octet_of.Goals as goal
 
 pub returns : goal.returns
-returns c i h =
+returns g c i h =
     rw (
       c.splat.ensures i h,
       c.splat-2.ensures i h,

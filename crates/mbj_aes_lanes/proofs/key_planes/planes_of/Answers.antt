@@ -1,7 +1,7 @@
 -- One round key more is copied in each turn, and each stands in planes in its lane.
 use Rattle.std.proofs.Common.{◌≢◌, ◌<◌, length, refl, ap, ◌∙◌, arith, below_more, get_or-set_same, get_or-set_other}
 use Rattle.std.proofs.lemmas.List.{length-set}
-use Rattle.mbj_types.specs.declared.kind.TheConstants.{AES_LANES}
+use Rattle.mbj_aes_lanes.specs.declared.block_states.TheConstants.{FEW_BLOCKS}
 use Rattle.mbj_aes_lanes.specs.Inside.Keys.{unplaned}
 use Rattle.mbj_aes_lanes.proofs.key_planes.planes_of.Goals as goal
 
@@ -20,8 +20,8 @@ keys-preserved c =
 
 pub returns-clause-keys : goal.returns-clause-keys
 returns-clause-keys c r h =
-    let below : r < AES_LANES = omega arith in
-    ap unplaned (c.put_blocks.ensures.bytes r below)
+    let below : r < FEW_BLOCKS = omega arith in
+    ap unplaned (c.put_blocks.ensures r below)
     ∙ c.put_in_planes.ensures r below
-    ∙ c.words_of-words.ensures.lanes r below
+    ∙ c.words_of.ensures r below
     ∙ c.keys.invariant.1 r (omega arith)

@@ -2,7 +2,7 @@
 use Rattle.std.proofs.Common.{◌≡◌, length}
 use Rattle.mbj_types.specs.Aes.{encipher}
 use Rattle.mbj_types.specs.Modes.{cbc, cbc_text}
-use Rattle.mbj_blocks.proofs.Walk.{Walked}
+use Rattle.mbj_blocks.specs.Walked.{Walked}
 use Rattle.mbj_cbc.proofs.plain.encrypt_in_place.Given as goal
 
 abbrev pub invariant-encrypting : goal.invariant-encrypting

@@ -11,7 +11,7 @@ use Rattle.mbj_cmac.proofs.kernel.close_all.Goals as goal
 pub close-requires : goal.close-requires
 close-requires g c = (
   omega arith,
-  c.encrypt_each.ensures.each c.closing.i (omega arith)
+  c.encrypt_each.ensures.each c.closing.i (omega arith) (omega arith)
       ∙ ap₂ encipher
       (sym (in_lane-map key_of c.args.entries.now c.closing.i c.closing.i c.index-entries-i.result (omega arith) (omega arith))
       ∙ ap (λ es. key_of (get_or es c.closing.i c.index-entries-i.result)) (sym c.closing.invariant))

@@ -22,7 +22,7 @@ returns c =
     (ap (λ lanes. record { rounds = rounds; lanes = lanes })
     (held_lanes-put rounds c.self.inside.round_keys (keys ++ rest) c.self.inside.put c.args.lane w c.self.invariant.2
     c.requires.lane
-    (schedule_in-written m (length old) c.args.lane keys rest c.planes_of-planes.result w size many (omega arith) (omega arith)
+    (schedule_in-written (lane_at 8) m (length old) c.args.lane keys rest c.planes_of-planes.result w size many (omega arith) (omega arith)
     c.planes_of-planes.ensures.keys c.write_lane.ensures.here)
     (λ i h ne.
     ap (λ ks. schedule_in (lane_at 8) ks i) (take_at keys rest m size) ∙ c.write_lane.ensures.elsewhere i h ne)))

@@ -1,6 +1,7 @@
 -- Each lane has the schedule.
 use Rattle.std.proofs.Common.{◌≡◌, ℕ, ◌+◌, ◌-◌, ◌/◌, List, ◌++◌, length, drop, take, ap, ap₂, ◌∙◌, arith}
 use Rattle.std.proofs.lemmas.List.{length-take-le}
+use Rattle.mbj_types.specs.Lanes.{lane_at}
 use Rattle.mbj_aes_lanes.proofs.HeldKeys.{held_lanes-all}
 use Rattle.mbj_aes_lanes.proofs.KeySchedules.{schedule_in-written}
 use Rattle.mbj_aes_lanes.proofs.lane_keys.LaneKeys.put_all.Goals as goal
@@ -20,5 +21,5 @@ returns c =
     ap₂ (λ rounds lanes. record { rounds = rounds; lanes = lanes }) count
     (held_lanes-all rounds (keys ++ rest) w
     (λ i h.
-    schedule_in-written m (length old) i keys rest c.planes_of-planes.result w size many (omega arith) (omega arith)
+    schedule_in-written (lane_at 8) m (length old) i keys rest c.planes_of-planes.result w size many (omega arith) (omega arith)
     c.planes_of-planes.ensures.keys (c.write_all_lanes.ensures i h)))

@@ -4,7 +4,7 @@ use Rattle.mbj_types.specs.Aes.{encipher}
 use Rattle.mbj_types.specs.Cmac.{closed_block, doubled}
 use Rattle.mbj_cmac.specs.Inside.Closing.{closed_by}
 use Rattle.mbj_cmac.specs.Inside.Sound.{last_part}
-use Rattle.mbj_cmac.specs.Rounds.{Going}
+use Rattle.mbj_cmac.specs.Rounds.{CmacState}
 use Rattle.mbj_cmac.proofs.entry.CmacEntry.close.Goals as goal
 
 pub invariant_of-self : goal.invariant_of-self
@@ -15,6 +15,6 @@ invariant_of-self g c = record {
   small = c.self.invariant.small;
   rest = c.self.invariant.rest;
   closing = λ t.
-      subst (λ (e : Going). c.closed_by-last.result ≡ closed_block (encipher e.key) (last_part e)) (sym c.self.view_is)
+      subst (λ (e : CmacState). c.closed_by-last.result ≡ closed_block (encipher e.key) (last_part e)) (sym c.self.view_is)
       (c.closed_by-last.ensures ∙ ap₂ closed_by (c.doubled.ensures ∙ ap doubled c.requires) c.last_part.ensures.part);
 }

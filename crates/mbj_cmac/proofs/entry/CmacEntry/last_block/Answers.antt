@@ -2,7 +2,7 @@
 use Rattle.std.proofs.Common.{ap, ap₂, ◌∙◌}
 use Rattle.mbj_types.specs.Aes.{encipher}
 use Rattle.mbj_types.specs.Cmac.{closed_block}
-use Rattle.mbj_cmac.specs.Rounds.{Going}
+use Rattle.mbj_cmac.specs.Rounds.{CmacState}
 use Rattle.mbj_cmac.proofs.entry.CmacEntry.last_block.Goals as goal
 
 pub returns-then-self : goal.returns-then-self
@@ -11,4 +11,4 @@ returns-then-self g c = rw (← c.self.view_is) (c.self.invariant.closing c.if-s
 pub returns-else-self : goal.returns-else-self
 returns-else-self g c =
     c.closed_block.ensures
-    ∙ ap₂ (λ k p. closed_block (encipher k) p) (ap (λ (e : Going). e.key) c.self.view_is) c.last_part.ensures.part
+    ∙ ap₂ (λ k p. closed_block (encipher k) p) (ap (λ (e : CmacState). e.key) c.self.view_is) c.last_part.ensures.part

@@ -3,7 +3,7 @@ use Rattle.std.proofs.Common.{◌≡◌, ℕ, ◌-◌, ◌≤◌, List, sym, ap,
 use Rattle.mbj_types.specs.Aes.{encipher}
 use Rattle.mbj_types.specs.Rounds.{cmac_rounds}
 use Rattle.mbj_types.specs.Result.{range}
-use Rattle.mbj_cmac.specs.Rounds.{Going}
+use Rattle.mbj_cmac.specs.Rounds.{CmacState}
 use Rattle.mbj_cmac.proofs.Ends.{block-last, block-more, length-range, range-block}
 use Rattle.mbj_cmac.proofs.entry.CmacEntryChaining.block.Goals as goal
 
@@ -22,7 +22,7 @@ returns g c =
     let m : List ℕ = range f.off f.len f.packet.items in
     let i : ℕ = cmac_rounds f.len - f.rest in
     let size = length-range f.off f.len f.packet.items c.self.invariant.range in
-    let rest : f.rest ≡ c.args.self.now.rest = ap (λ (e : Going). e.rest) c.self.view_is in
+    let rest : f.rest ≡ c.args.self.now.rest = ap (λ (e : CmacState). e.rest) c.self.view_is in
     let more : 2 ≤ f.rest = omega (arith, rest, c.requires, c.if-self-eq1.false) in
     rw (← c.self.view_is)
     (c.block_from.ensures
