@@ -5,7 +5,7 @@ use Rattle.mbj_types.specs.declared.class.HashName.{HashName}
 use Rattle.mbj_types.specs.Hmac.{Hash, hmac, block_key, padded_key, ipad, opad}
 use Rattle.mbj_types.specs.Rounds.{hmac_rounds}
 use Rattle.mbj_lane.specs.Rounds.{end_of}
-use Rattle.mbj_hmac.specs.Rounds.{Chaining, Going, hashed, padded, round, rest_of, started}
+use Rattle.mbj_hmac.specs.Rounds.{Chaining, HmacState, hashed, padded, round, rest_of, started}
 use Rattle.mbj_hmac.specs.Inside.Layout.{IsStandard, tail_blocks}
 use Rattle.mbj_hmac.proofs.Numbers.{blocks, rounds_is, split, fill_is}
 use Rattle.mbj_hmac.proofs.RoundEnds.{end_digest, end_hash, end_packet}
@@ -35,7 +35,7 @@ module _ (h : Chaining) (std : IsStandard h) (a : HashName) (front back packet :
   pub hmac_end : (hash : Hash) (key : List ℕ) → ((m : List ℕ) → hash.digest m ≡ h.digest a (hashed h a m))
       → front ≡ padded_key ipad (block_key hash key) → back ≡ padded_key opad (block_key hash key)
       → length front ≡ b → length back ≡ b → off + len ≤ length packet → len < 2 ^ 32
-      → (let end : Going = end_of (round h) rest_of (started h a front back packet off len) in h.digest end.hash end.chain) ≡ hmac hash key msg
+      → (let end : HmacState = end_of (round h) rest_of (started h a front back packet off len) in h.digest end.hash end.chain) ≡ hmac hash key msg
   unfolding hmac
   hmac_end hash key is ef eb lf lb range small =
       let two : length (padded h (back ++ h.digest a (hashed h a (front ++ msg)))) / b ≡ 2 =

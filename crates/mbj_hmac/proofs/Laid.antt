@@ -4,7 +4,7 @@ use Rattle.std.proofs.lemmas.List.{length-take-le, take_at, append_assoc}
 use Rattle.std.proofs.lemmas.Bool.{le-leb}
 use Rattle.std.specs.Prelude.{nat_le}
 use Rattle.mbj_types.specs.declared.class.HashName.{HashName}
-use Rattle.mbj_hmac.specs.Rounds.{Chaining, Going, padded, message, inner_text, outer_text, block_before}
+use Rattle.mbj_hmac.specs.Rounds.{Chaining, HmacState, padded, message, inner_text, outer_text, block_before}
 use Rattle.mbj_hmac.specs.Inside.Layout.{IsStandard, whole_blocks, tail_blocks, fill, seen, IsSound}
 use Rattle.mbj_hmac.proofs.Numbers.{size_range, tail_range, split, rounds_is, fill_is, fill_on, piece_fill, length-padding_of, times_le, blocks}
 use Rattle.mbj_hmac.proofs.Texts.{block_left, block_right, block_take, block_drop, block_range}
@@ -31,7 +31,7 @@ module _ (h : Chaining) (std : IsStandard h) where
       omega (arith, length-append (back ++ d) (h.padding (length (back ++ d))), piece_fill b std.size (length d) small)
 
   module _ (packet chain inner : List ℕ) (a : HashName) (ends : List ℕ) (rest off len : ℕ) where
-    abbrev e : Going
+    abbrev e : HmacState
     e = seen h packet rest chain inner a ends off len
 
     abbrev text : List ℕ

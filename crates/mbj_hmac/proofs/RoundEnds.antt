@@ -6,14 +6,14 @@ use Rattle.mbj_types.specs.declared.class.HashName.{HashName}
 use Rattle.mbj_types.specs.Rounds.{hmac_rounds}
 use Rattle.mbj_lane.specs.Rounds.{after, end_of}
 use Rattle.mbj_lane.proofs.Led.{after-one_more}
-use Rattle.mbj_hmac.specs.Rounds.{Chaining, Going, padded, block_at, chained, hashed, rest_of, round, started}
+use Rattle.mbj_hmac.specs.Rounds.{Chaining, HmacState, padded, block_at, chained, hashed, rest_of, round, started}
 
 two : (k : ℕ) → k + 1 + 1 ≡ k + 2
 two k = omega arith
 
 module _ (h : Chaining) (a : HashName) (front back packet : List ℕ) (off len : ℕ) where
   -- the entry with a rest and hash values
-  abbrev at : ℕ → List ℕ → List ℕ → Going
+  abbrev at : ℕ → List ℕ → List ℕ → HmacState
   at rest chain inner = record {
     packet = packet;
     rest = rest;
@@ -56,7 +56,7 @@ module _ (h : Chaining) (a : HashName) (front back packet : List ℕ) (off len :
   run_end : hmac_rounds h.block_bytes len ≡ blocks + 2
       → end_of (round h) rest_of (started h a front back packet off len) ≡ at 0 (h.compress (h.compress (h.initial a) (block_at h outer 0)) (block_at h outer 1)) inner_end
   run_end r =
-      let split : (k : ℕ) (e : Going) → after (round h) (k + 2) e ≡ round h (round h (after (round h) k e)) =
+      let split : (k : ℕ) (e : HmacState) → after (round h) (k + 2) e ≡ round h (round h (after (round h) k e)) =
       λ k e. sym (after-one_more (round h) (k + 1) e ∙ ap (λ m. after (round h) m e) (two k)) ∙ ap (round h) (sym (after-one_more (round h) k e)) in
       ap (λ n. after (round h) n (at n (h.initial a) (replicate h.words 0))) r
       ∙ split blocks (at (blocks + 2) (h.initial a) (replicate h.words 0))
@@ -66,11 +66,11 @@ module _ (h : Chaining) (a : HashName) (front back packet : List ℕ) (off len :
   pub end_digest : hmac_rounds h.block_bytes len ≡ blocks + 2 → length outer / h.block_bytes ≡ 2
       → h.digest a (end_of (round h) rest_of (started h a front back packet off len)).chain
       ≡ h.digest a (hashed h a (back ++ h.digest a (hashed h a (front ++ take len (drop off packet)))))
-  end_digest r two = ap (λ (e : Going). h.digest a e.chain) (run_end r) ∙ ap (λ n. h.digest a (chained h a outer n)) (sym two)
+  end_digest r two = ap (λ (e : HmacState). h.digest a e.chain) (run_end r) ∙ ap (λ n. h.digest a (chained h a outer n)) (sym two)
 
   -- so is the hash
   pub end_hash : hmac_rounds h.block_bytes len ≡ blocks + 2 → (end_of (round h) rest_of (started h a front back packet off len)).hash ≡ a
-  end_hash r = ap (λ (e : Going). e.hash) (run_end r)
+  end_hash r = ap (λ (e : HmacState). e.hash) (run_end r)
 
   pub end_packet : hmac_rounds h.block_bytes len ≡ blocks + 2 → (end_of (round h) rest_of (started h a front back packet off len)).packet ≡ packet
-  end_packet r = ap (λ (e : Going). e.packet) (run_end r)
+  end_packet r = ap (λ (e : HmacState). e.packet) (run_end r)

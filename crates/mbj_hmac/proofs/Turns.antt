@@ -2,7 +2,7 @@
 use Rattle.std.proofs.Common.{◌≡◌, ℕ, ◌+◌, ◌*◌, ◌≤◌, List, ◌++◌, length, take, drop, refl, sym, ap, ◌∙◌, arith, length-append}
 use Rattle.std.proofs.lemmas.List.{length-take-le, take_at, append_assoc, take-take, take-append-le, drop-append-le, drop-take}
 use Rattle.mbj_types.specs.declared.class.HashName.{HashName}
-use Rattle.mbj_hmac.specs.Rounds.{Chaining, Going, padded, inner_text, turned}
+use Rattle.mbj_hmac.specs.Rounds.{Chaining, HmacState, padded, inner_text, turned}
 use Rattle.mbj_hmac.specs.Inside.Layout.{IsStandard, whole_blocks, tail_blocks, seen, IsSound}
 use Rattle.mbj_hmac.proofs.Numbers.{size_range, tail_range, times_le}
 use Rattle.mbj_hmac.proofs.Texts.{block_take}
@@ -12,7 +12,7 @@ module _ (h : Chaining) (std : IsStandard h) (packet chain inner : List ℕ) (a 
   abbrev b : ℕ
   b = h.block_bytes
 
-  abbrev e : Going
+  abbrev e : HmacState
   e = seen h packet rest chain inner a ends off len
 
   abbrev t : ℕ

@@ -1,2 +1,2 @@
-pub mod Going
+pub mod LaneEntry
 pub mod Layout

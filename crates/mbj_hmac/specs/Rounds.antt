@@ -17,7 +17,7 @@ pub record Chaining : Type 0 where
 
 -- an HMAC on its way: the packet, in which the message is `len` bytes from `off` on; the rounds that are left; the hash value
 -- and, once the inner hash is done, its hash value; the hash; and the key xored with the inner and with the outer pad
-pub record Going : Type 0 where
+pub record HmacState : Type 0 where
   pub packet : List ℕ
   pub rest : ℕ
   pub chain : List ℕ
@@ -28,10 +28,10 @@ pub record Going : Type 0 where
   pub off : ℕ
   pub len : ℕ
 
-abbrev pub rest_of : Going → ℕ
+abbrev pub rest_of : HmacState → ℕ
 rest_of e = e.rest
 
-abbrev pub message : Going → List ℕ
+abbrev pub message : HmacState → List ℕ
 message e = take e.len (drop e.off e.packet)
 
 module _ (h : Chaining) where
@@ -53,36 +53,36 @@ module _ (h : Chaining) where
   hashed a m = chained a (padded m) (length (padded m) / h.block_bytes)
 
   -- what the inner and the outer hash read
-  abbrev pub inner_text : Going → List ℕ
+  abbrev pub inner_text : HmacState → List ℕ
   inner_text e = padded (e.front ++ message e)
 
-  abbrev pub outer_text : Going → List ℕ
+  abbrev pub outer_text : HmacState → List ℕ
   outer_text e = padded (e.back ++ h.digest e.hash e.inner)
 
   -- how many blocks the inner hash reads
-  abbrev pub inner_blocks : Going → ℕ
+  abbrev pub inner_blocks : HmacState → ℕ
   inner_blocks e = length (inner_text e) / h.block_bytes
 
   -- the block of the round that is r rounds before the end: the last two are those of the outer hash
-  abbrev pub block_before : Going → ℕ → List ℕ
+  abbrev pub block_before : HmacState → ℕ → List ℕ
   block_before e r =
       if nat_le 3 r then block_at (inner_text e) (inner_blocks e + 2 - r)
       else block_at (outer_text e) (2 - r)
 
   -- before the round of the outer pad the hash value moves into `inner`, and the outer hash starts
-  abbrev pub turned : Going → Going
+  abbrev pub turned : HmacState → HmacState
   turned e = if e.rest == 2 then record e { chain = h.initial e.hash; inner = e.chain } else e
 
   -- one block further
-  abbrev pub advanced : Going → Going
+  abbrev pub advanced : HmacState → HmacState
   advanced e = record e { rest = e.rest - 1; chain = h.compress e.chain (block_before e e.rest) }
 
   -- the next round
-  abbrev pub round : Going → Going
+  abbrev pub round : HmacState → HmacState
   round e = advanced (turned e)
 
   -- an HMAC of which nothing is done, by the key xored with the inner and with the outer pad
-  abbrev pub started : HashName → List ℕ → List ℕ → List ℕ → ℕ → ℕ → Going
+  abbrev pub started : HashName → List ℕ → List ℕ → List ℕ → ℕ → ℕ → HmacState
   started a front back packet off len = record {
     packet = packet;
     rest = hmac_rounds h.block_bytes len;

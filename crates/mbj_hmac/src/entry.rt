@@ -4,7 +4,7 @@ ghost use Rattle.mbj_types.specs.Hmac.{block_key, padded_key, hmac, ipad, opad};
 ghost use Rattle.mbj_types.specs.Rounds.{hmac_rounds};
 ghost use Rattle.mbj_lane.specs.Rounds.{end_of};
 ghost use Rattle.mbj_hmac.specs.Names.{name_of, serves_auth};
-ghost use Rattle.mbj_hmac.specs.Rounds.{Going, block_before, rest_of, round, started, turned};
+ghost use Rattle.mbj_hmac.specs.Rounds.{HmacState, block_before, rest_of, round, started, turned};
 
 use crate::ends::{first_ends, put_digest, rounds, tail_blocks};
 use crate::key::{MAX_BLOCK_BYTES, hash_key, hash_name};
@@ -33,10 +33,10 @@ pub struct HmacEntry<H: LaneHash> {
 }
 
 impl<H: LaneHash> Model for HmacEntry<H> {
-    ghost use Rattle.mbj_hmac.specs.Rounds.{Going};
+    ghost use Rattle.mbj_hmac.specs.Rounds.{HmacState};
     ghost use Rattle.mbj_hmac.specs.Inside.Layout.{seen, IsSound};
 
-    ghost Value = { Going };
+    ghost Value = { HmacState };
 
     ghost view = { λ e. seen H.chaining e.packet.items e.rest (H.words e.chain) (H.words e.inner) e.hash (H.ends_bytes e.ends) e.off e.len };
 

@@ -1,7 +1,7 @@
 ghost use Rattle.std.specs.Prelude.{◌≡◌, ℕ, ◌-◌, ◌<◌, ◌≤◌, All, length, map, min, slice_index_or as get_or};
 ghost use Rattle.mbj_lane.specs.Rounds.{after, least_from};
-ghost use Rattle.mbj_hmac.specs.Rounds.{Going, advanced, rest_of, round, turned};
-ghost use Rattle.mbj_hmac.specs.Inside.Going.{lane_going, reach_of};
+ghost use Rattle.mbj_hmac.specs.Rounds.{HmacState, advanced, rest_of, round, turned};
+ghost use Rattle.mbj_hmac.specs.Inside.LaneEntry.{lane_entry, reach_of};
 
 use crate::entry::HmacEntry;
 use crate::lane_hash::LaneHash;
@@ -45,20 +45,25 @@ impl<H: LaneHash> Kernel for HmacKernel<H> {
 /// The hash values of all lanes.
 fn gathered<H: LaneHash>(entries: &[HmacEntry<H>]) -> H::States
     requires { 0 < length entries.now }
-    ensures { (i : ℕ) → i < H.LANES → H.lane result i ≡ (lane_going entries.now i).chain }
+    ensures { (i : ℕ) → i < H.LANES → H.lane result i ≡ (lane_entry entries.now i).chain }
 {
     H::gathered(&LaneEntries { entries, done: 0 })
 }
 
 /// The hash values are led through the next `m` blocks.
-fn compressed<H: LaneHash>(entries: &[HmacEntry<H>], m: u32, states: &mut H::States)
+fn compressed<H: LaneHash>(
+    entries: &[HmacEntry<H>],
+    m: u32,
+    states: &mut H::States,
+    schedule: &mut H::Schedule,
+)
     requires some { 0 < length entries.now }
-    requires rests { (i : ℕ) → m ≤ (lane_going entries.now i).rest }
-    requires start { (i : ℕ) → i < H.LANES → H.lane states.old i ≡ (lane_going entries.now i).chain }
-    ensures { (i : ℕ) → i < H.LANES → H.lane states.new i ≡ (after (advanced H.chaining) m (lane_going entries.now i)).chain }
+    requires rests { (i : ℕ) → m ≤ (lane_entry entries.now i).rest }
+    requires start { (i : ℕ) → i < H.LANES → H.lane states.old i ≡ (lane_entry entries.now i).chain }
+    ensures { (i : ℕ) → i < H.LANES → H.lane states.new i ≡ (after (advanced H.chaining) m (lane_entry entries.now i)).chain }
 {
     'passes: for done in 0..m {
-        H::compress(states, &LaneEntries { entries, done });
+        H::compress(states, schedule, &LaneEntries { entries, done });
     }
 }
 
@@ -66,7 +71,7 @@ fn compressed<H: LaneHash>(entries: &[HmacEntry<H>], m: u32, states: &mut H::Sta
 fn scattered<H: LaneHash>(entries: &mut [HmacEntry<H>], m: u32, states: &H::States)
     requires few { length entries.old ≤ H.LANES }
     requires rests { All (λ e. m ≤ e.rest) entries.old }
-    requires states { (i : ℕ) (d : Going) → i < length entries.old
+    requires states { (i : ℕ) (d : HmacState) → i < length entries.old
         → H.lane states.now i ≡ (after (advanced H.chaining) m (get_or entries.old i d)).chain }
     ensures { entries.new ≡ map (after (advanced H.chaining) m) entries.old }
 {
@@ -77,14 +82,14 @@ fn scattered<H: LaneHash>(entries: &mut [HmacEntry<H>], m: u32, states: &H::Stat
 }
 
 /// All entries go on by the next `m` blocks, of which the outer pad's is at most the first.
-fn stretch<H: LaneHash>(entries: &mut [HmacEntry<H>], m: u32)
+fn stretch<H: LaneHash>(entries: &mut [HmacEntry<H>], m: u32, schedule: &mut H::Schedule)
     requires some { 0 < length entries.old }
     requires few { length entries.old ≤ H.LANES }
     requires rests { All (λ e. m ≤ e.rest) entries.old }
     ensures { entries.new ≡ map (after (advanced H.chaining) m) entries.old }
 {
     let mut states = gathered(entries);
-    compressed(entries, m, &mut states);
+    compressed(entries, m, &mut states, schedule);
     scattered(entries, m, &states);
 }
 
@@ -137,11 +142,12 @@ fn run<H: LaneHash>(entries: &mut [HmacEntry<H>], m: u32)
     if entries.len() == 0 {
         return;
     }
+    let mut schedule = H::blank_schedule();
     let mut left = m;
     while left > 0 {
         turn_all(entries);
         let len = stretch_len(entries, left);
-        stretch(entries, len);
+        stretch(entries, len, &mut schedule);
         left -= len;
     }
 }

@@ -16,6 +16,9 @@ pub trait LaneHash {
     /// The hash values of all lanes, as vectors.
     type States: Drop;
 
+    /// Room for the schedule of a block in each lane, where it is made whole before the rounds.
+    type Schedule: Drop;
+
     /// Five blocks, which an entry holds beside its packet.
     type Ends: Drop;
 
@@ -80,8 +83,11 @@ pub trait LaneHash {
         requires { i < LANES }
         ensures { words result ≡ lane states.now i };
 
-    /// Compresses a block into the hash value of each lane.
-    fn compress<B: Blocks>(states: &mut Self::States, blocks: &B)
+    /// Room for a schedule, whose words are not looked at.
+    fn blank_schedule() -> Self::Schedule;
+
+    /// Compresses a block into the hash value of each lane. The schedule is made in the room that is lent.
+    fn compress<B: Blocks>(states: &mut Self::States, schedule: &mut Self::Schedule, blocks: &B)
         requires size { B.block_bytes ≡ chaining.block_bytes }
         requires lent { (i : ℕ) → i < LANES → B.lends blocks.now i }
         ensures { (i : ℕ) → i < LANES → lane states.new i ≡ chaining.compress (lane states.old i) (B.block blocks.now i) };

@@ -32,11 +32,11 @@ pub type Hmac256Entry = HmacEntry<Sha256Lanes>;
 /// An HMAC with SHA-384 or SHA-512 on its way.
 pub type Hmac512Entry = HmacEntry<Sha512Lanes>;
 
-/// HMACs with SHA-1 in eight lanes.
+/// HMACs with SHA-1 in lanes.
 pub type Hmac1Kernel = HmacKernel<Sha1Lanes>;
 
-/// HMACs with SHA-224 and SHA-256 in eight lanes.
+/// HMACs with SHA-224 and SHA-256 in lanes.
 pub type Hmac256Kernel = HmacKernel<Sha256Lanes>;
 
-/// HMACs with SHA-384 and SHA-512 in four lanes.
+/// HMACs with SHA-384 and SHA-512 in lanes.
 pub type Hmac512Kernel = HmacKernel<Sha512Lanes>;

@@ -48,6 +48,9 @@ impl LaneHash for Sha1Lanes {
 
     type States = [Sha1Word; 5];
 
+    // The schedule is made in the words of the block, each word when its round comes.
+    type Schedule = ();
+
     type Ends = [u8; ENDS_BYTES];
 
     const LANES: u32 = SHA1_LANES as u32;
@@ -113,8 +116,10 @@ impl LaneHash for Sha1Lanes {
         scattered(states, i)
     }
 
+    fn blank_schedule() {}
+
     #[inline(always)]
-    fn compress<B: Blocks>(states: &mut [Sha1Word; 5], blocks: &B) {
+    fn compress<B: Blocks>(states: &mut [Sha1Word; 5], _schedule: &mut (), blocks: &B) {
         let mut words = Sha1Word::block_words(blocks);
         compress_lanes(states, &mut words);
     }

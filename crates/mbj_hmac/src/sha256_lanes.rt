@@ -8,7 +8,7 @@ use crate::ends::put;
 use crate::lane_hash::LaneHash;
 use crate::view::Chains;
 use mbj_sha_lanes::{Blocks, Load32};
-use mbj_sha256_lanes::{compress_lanes, gathered, scattered};
+use mbj_sha256_lanes::{ROUNDS, compress_scheduled, gathered, scattered};
 use mbj_types::{HashName, SHA256_LANES, Sha256Word, Tag};
 
 /// SHA-224 and SHA-256 in lanes.
@@ -67,6 +67,8 @@ impl LaneHash for Sha256Lanes {
     type Chain = [u32; 8];
 
     type States = [Sha256Word; 8];
+
+    type Schedule = [Sha256Word; ROUNDS];
 
     type Ends = [u8; ENDS_BYTES];
 
@@ -135,9 +137,18 @@ impl LaneHash for Sha256Lanes {
     }
 
     #[inline(always)]
-    fn compress<B: Blocks>(states: &mut [Sha256Word; 8], blocks: &B) {
-        let mut words = Sha256Word::block_words(blocks);
-        compress_lanes(states, &mut words);
+    fn blank_schedule() -> [Sha256Word; ROUNDS] {
+        [Sha256Word::splat(0); ROUNDS]
+    }
+
+    #[inline(always)]
+    fn compress<B: Blocks>(
+        states: &mut [Sha256Word; 8],
+        schedule: &mut [Sha256Word; ROUNDS],
+        blocks: &B,
+    ) {
+        let words = Sha256Word::block_words(blocks);
+        compress_scheduled(states, &words, schedule);
     }
 
     ghost use Rattle.std.proofs.Common.{rules};

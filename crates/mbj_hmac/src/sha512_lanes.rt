@@ -9,7 +9,7 @@ use crate::ends::put;
 use crate::lane_hash::LaneHash;
 use crate::view::Chains;
 use mbj_sha_lanes::{Blocks, Load64};
-use mbj_sha512_lanes::{compress_scheduled, gathered, scattered};
+use mbj_sha512_lanes::{ROUNDS, compress_scheduled, gathered, scattered};
 use mbj_types::{HashName, SHA512_LANES, Sha512Word, Tag};
 
 /// SHA-384 and SHA-512 in lanes.
@@ -70,6 +70,8 @@ impl LaneHash for Sha512Lanes {
     type Chain = [u64; 8];
 
     type States = [Sha512Word; 8];
+
+    type Schedule = [Sha512Word; ROUNDS];
 
     type Ends = [u8; ENDS_BYTES];
 
@@ -138,9 +140,18 @@ impl LaneHash for Sha512Lanes {
     }
 
     #[inline(always)]
-    fn compress<B: Blocks>(states: &mut [Sha512Word; 8], blocks: &B) {
+    fn blank_schedule() -> [Sha512Word; ROUNDS] {
+        [Sha512Word::splat(0); ROUNDS]
+    }
+
+    #[inline(always)]
+    fn compress<B: Blocks>(
+        states: &mut [Sha512Word; 8],
+        schedule: &mut [Sha512Word; ROUNDS],
+        blocks: &B,
+    ) {
         let words = Sha512Word::block_words(blocks);
-        compress_scheduled(states, &words);
+        compress_scheduled(states, &words, schedule);
     }
 
     ghost use Rattle.std.proofs.Common.{rules};

@@ -1,6 +1,6 @@
 ghost use Rattle.std.specs.Prelude.{◌≡◌, ℕ, ◌-◌, ◌<◌, List, length};
 ghost use Rattle.mbj_hmac.specs.Rounds.{block_before};
-ghost use Rattle.mbj_hmac.specs.Inside.Going.{lane_going};
+ghost use Rattle.mbj_hmac.specs.Inside.LaneEntry.{lane_entry};
 
 use crate::entry::HmacEntry;
 use crate::lane_hash::LaneHash;
@@ -35,7 +35,7 @@ pub(crate) struct LaneEntries<'a, H: LaneHash> {
 #[inline(always)]
 fn lane_entry<H: LaneHash>(entries: &[HmacEntry<H>], i: usize) -> &HmacEntry<H>
     requires { 0 < length entries.now }
-    ensures { result.now ≡ lane_going entries.now i }
+    ensures { result.now ≡ lane_entry entries.now i }
 {
     if i < entries.len() {
         &entries[i]
@@ -55,9 +55,9 @@ fn chain_of<H: LaneHash>(entry: &HmacEntry<H>) -> &H::Chain
 impl<'a, H: LaneHash> Blocks for LaneEntries<'a, H> {
     ghost block_bytes = { H.chaining.block_bytes };
 
-    ghost lends = { λ v i. (0 < length v.entries.now) × (v.done < (lane_going v.entries.now i).rest) };
+    ghost lends = { λ v i. (0 < length v.entries.now) × (v.done < (lane_entry v.entries.now i).rest) };
 
-    ghost block = { λ v i. block_before H.chaining (lane_going v.entries.now i) ((lane_going v.entries.now i).rest - v.done) };
+    ghost block = { λ v i. block_before H.chaining (lane_entry v.entries.now i) ((lane_entry v.entries.now i).rest - v.done) };
 
     #[inline(always)]
     fn block(&self, i: usize) -> &[u8] {
@@ -70,7 +70,7 @@ impl<'a, H: LaneHash> Chains<H::Chain> for LaneEntries<'a, H> {
 
     ghost lends = { λ v i. 0 < length v.entries.now };
 
-    ghost chain = { λ v i. (lane_going v.entries.now i).chain };
+    ghost chain = { λ v i. (lane_entry v.entries.now i).chain };
 
     #[inline(always)]
     fn chain(&self, i: usize) -> &H::Chain {

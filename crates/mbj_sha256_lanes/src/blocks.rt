@@ -4,7 +4,7 @@ ghost use Rattle.std.specs.Prelude.{◌≡◌, ℕ, ◌<◌, [], slice_index_or}
 ghost use Rattle.sha2.specs.Sha256.{compress};
 ghost use Rattle.mbj_types.specs.declared.kind.TheConstants.{SHA256_LANES};
 
-use crate::{compress_lanes, gathered, scattered};
+use crate::{ROUNDS, compress_scheduled, gathered, scattered};
 use mbj_sha_lanes::Load32;
 use mbj_types::{SHA256_LANES, Sha256Word};
 
@@ -13,9 +13,10 @@ pub fn compress(states: &mut [[u32; 8]; SHA256_LANES], blocks: &[[u8; 64]; SHA25
     ensures { (i : ℕ) → i < SHA256_LANES → slice_index_or states.new i []
         ≡ compress (slice_index_or states.old i []) (slice_index_or blocks.now i []) }
 {
-    let mut words = Sha256Word::block_words(blocks);
+    let words = Sha256Word::block_words(blocks);
+    let mut schedule = [Sha256Word::splat(0); ROUNDS];
     let mut lanes = gathered(states);
-    compress_lanes(&mut lanes, &mut words);
+    compress_scheduled(&mut lanes, &words, &mut schedule);
     'states: for i in 0..SHA256_LANES {
         states[i] = scattered(&lanes, i);
     }

@@ -1,8 +1,11 @@
 ghost use Rattle.std.specs.Prelude.{◌≡◌, ◌<◌, slice_index};
 ghost use Rattle.sha2.specs.Sha256.{round_constants};
 
+/// How many rounds there are (FIPS 180-4, 6.2.2). Each has a constant and a word of the schedule.
+pub const ROUNDS: usize = 64;
+
 // K 0, …, K 63 (4.2.2).
-const K: [u32; 64] = [
+const K: [u32; ROUNDS] = [
     0x428a_2f98,
     0x7137_4491,
     0xb5c0_fbcf,
@@ -72,7 +75,7 @@ const K: [u32; 64] = [
 /// The constant of round t.
 #[inline(always)]
 pub(crate) fn constant_at(t: usize) -> u32
-    requires { t < 64 }
+    requires { t < ROUNDS }
     ensures { result ≡ slice_index round_constants t }
 {
     K[t]

@@ -4,7 +4,7 @@ ghost use Rattle.std.specs.Prelude.{◌≡◌, ℕ, ◌<◌, [], slice_index_or}
 ghost use Rattle.sha2.specs.Sha512.{compress};
 ghost use Rattle.mbj_types.specs.declared.kind.TheConstants.{SHA512_LANES};
 
-use crate::{compress_scheduled, gathered, scattered};
+use crate::{ROUNDS, compress_scheduled, gathered, scattered};
 use mbj_sha_lanes::Load64;
 use mbj_types::{SHA512_LANES, Sha512Word};
 
@@ -14,8 +14,9 @@ pub fn compress(states: &mut [[u64; 8]; SHA512_LANES], blocks: &[[u8; 128]; SHA5
         ≡ compress (slice_index_or states.old i []) (slice_index_or blocks.now i []) }
 {
     let words = Sha512Word::block_words(blocks);
+    let mut schedule = [Sha512Word::splat(0); ROUNDS];
     let mut lanes = gathered(states);
-    compress_scheduled(&mut lanes, &words);
+    compress_scheduled(&mut lanes, &words, &mut schedule);
     'states: for i in 0..SHA512_LANES {
         states[i] = scattered(&lanes, i);
     }

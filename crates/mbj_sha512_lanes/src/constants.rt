@@ -2,7 +2,7 @@ ghost use Rattle.std.specs.Prelude.{◌≡◌, ◌<◌, slice_index};
 ghost use Rattle.sha2.specs.Sha512.{round_constants};
 
 /// How many rounds there are (FIPS 180-4, 6.4.2). Each has a constant and a word of the schedule.
-pub(crate) const ROUNDS: usize = 80;
+pub const ROUNDS: usize = 80;
 
 // K 0, …, K 79 (4.2.3).
 const K: [u64; ROUNDS] = [

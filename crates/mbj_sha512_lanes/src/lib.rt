@@ -10,6 +10,7 @@ mod scheduled;
 mod states;
 
 pub use blocks::compress;
+pub use constants::ROUNDS;
 pub use lanes::compress_lanes;
 pub use scheduled::compress_scheduled;
 pub use states::{gathered, scattered};

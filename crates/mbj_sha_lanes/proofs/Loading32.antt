@@ -101,16 +101,16 @@ words_read : (block : ℕ → List ℕ) (i : ℕ) (b : List ℕ) → IsRead bloc
 words_read block i b r = ap words32 (sym r.same) ∙ words_mod b r.bytes places32
 
 -- eight blocks, lane by lane
-pub eight_lanes : (block : ℕ → List ℕ) (b0 b1 b2 b3 b4 b5 b6 b7 : List ℕ)
+pub group_lanes : (block : ℕ → List ℕ) (b0 b1 b2 b3 b4 b5 b6 b7 : List ℕ)
     → IsRead block 0 b0 → IsRead block 1 b1 → IsRead block 2 b2 → IsRead block 3 b3
     → IsRead block 4 b4 → IsRead block 5 b5 → IsRead block 6 b6 → IsRead block 7 b7
     → (i : ℕ) → i < 8 → words32 (block i) ≡ lane_of (lane_at 32) (all_columns (b0 ∷ b1 ∷ b2 ∷ b3 ∷ b4 ∷ b5 ∷ b6 ∷ b7 ∷ [])) i
-eight_lanes block b0 b1 b2 b3 b4 b5 b6 b7 r0 r1 r2 r3 r4 r5 r6 r7 zero lt = words_read block 0 b0 r0
-eight_lanes block b0 b1 b2 b3 b4 b5 b6 b7 r0 r1 r2 r3 r4 r5 r6 r7 (suc zero) lt = words_read block 1 b1 r1
-eight_lanes block b0 b1 b2 b3 b4 b5 b6 b7 r0 r1 r2 r3 r4 r5 r6 r7 (suc (suc zero)) lt = words_read block 2 b2 r2
-eight_lanes block b0 b1 b2 b3 b4 b5 b6 b7 r0 r1 r2 r3 r4 r5 r6 r7 (suc (suc (suc zero))) lt = words_read block 3 b3 r3
-eight_lanes block b0 b1 b2 b3 b4 b5 b6 b7 r0 r1 r2 r3 r4 r5 r6 r7 (suc (suc (suc (suc zero)))) lt = words_read block 4 b4 r4
-eight_lanes block b0 b1 b2 b3 b4 b5 b6 b7 r0 r1 r2 r3 r4 r5 r6 r7 (suc (suc (suc (suc (suc zero))))) lt = words_read block 5 b5 r5
-eight_lanes block b0 b1 b2 b3 b4 b5 b6 b7 r0 r1 r2 r3 r4 r5 r6 r7 (suc (suc (suc (suc (suc (suc zero)))))) lt = words_read block 6 b6 r6
-eight_lanes block b0 b1 b2 b3 b4 b5 b6 b7 r0 r1 r2 r3 r4 r5 r6 r7 (suc (suc (suc (suc (suc (suc (suc zero))))))) lt = words_read block 7 b7 r7
-eight_lanes block b0 b1 b2 b3 b4 b5 b6 b7 r0 r1 r2 r3 r4 r5 r6 r7 i lt = absurd (omega arith)
+group_lanes block b0 b1 b2 b3 b4 b5 b6 b7 r0 r1 r2 r3 r4 r5 r6 r7 zero lt = words_read block 0 b0 r0
+group_lanes block b0 b1 b2 b3 b4 b5 b6 b7 r0 r1 r2 r3 r4 r5 r6 r7 (suc zero) lt = words_read block 1 b1 r1
+group_lanes block b0 b1 b2 b3 b4 b5 b6 b7 r0 r1 r2 r3 r4 r5 r6 r7 (suc (suc zero)) lt = words_read block 2 b2 r2
+group_lanes block b0 b1 b2 b3 b4 b5 b6 b7 r0 r1 r2 r3 r4 r5 r6 r7 (suc (suc (suc zero))) lt = words_read block 3 b3 r3
+group_lanes block b0 b1 b2 b3 b4 b5 b6 b7 r0 r1 r2 r3 r4 r5 r6 r7 (suc (suc (suc (suc zero)))) lt = words_read block 4 b4 r4
+group_lanes block b0 b1 b2 b3 b4 b5 b6 b7 r0 r1 r2 r3 r4 r5 r6 r7 (suc (suc (suc (suc (suc zero))))) lt = words_read block 5 b5 r5
+group_lanes block b0 b1 b2 b3 b4 b5 b6 b7 r0 r1 r2 r3 r4 r5 r6 r7 (suc (suc (suc (suc (suc (suc zero)))))) lt = words_read block 6 b6 r6
+group_lanes block b0 b1 b2 b3 b4 b5 b6 b7 r0 r1 r2 r3 r4 r5 r6 r7 (suc (suc (suc (suc (suc (suc (suc zero))))))) lt = words_read block 7 b7 r7
+group_lanes block b0 b1 b2 b3 b4 b5 b6 b7 r0 r1 r2 r3 r4 r5 r6 r7 i lt = absurd (omega arith)

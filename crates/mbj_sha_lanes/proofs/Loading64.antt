@@ -104,10 +104,10 @@ words_read : (block : ℕ → List ℕ) (i : ℕ) (b : List ℕ) → IsRead bloc
 words_read block i b r = ap words64 (sym r.same) ∙ words_mod b r.bytes places64
 
 -- four blocks, lane by lane
-pub four_lanes : (block : ℕ → List ℕ) (b0 b1 b2 b3 : List ℕ) → IsRead block 0 b0 → IsRead block 1 b1 → IsRead block 2 b2 → IsRead block 3 b3
+pub group_lanes : (block : ℕ → List ℕ) (b0 b1 b2 b3 : List ℕ) → IsRead block 0 b0 → IsRead block 1 b1 → IsRead block 2 b2 → IsRead block 3 b3
     → (i : ℕ) → i < 4 → words64 (block i) ≡ lane_of (lane_at 64) (all_columns (b0 ∷ b1 ∷ b2 ∷ b3 ∷ [])) i
-four_lanes block b0 b1 b2 b3 r0 r1 r2 r3 zero lt = words_read block 0 b0 r0
-four_lanes block b0 b1 b2 b3 r0 r1 r2 r3 (suc zero) lt = words_read block 1 b1 r1
-four_lanes block b0 b1 b2 b3 r0 r1 r2 r3 (suc (suc zero)) lt = words_read block 2 b2 r2
-four_lanes block b0 b1 b2 b3 r0 r1 r2 r3 (suc (suc (suc zero))) lt = words_read block 3 b3 r3
-four_lanes block b0 b1 b2 b3 r0 r1 r2 r3 i lt = absurd (omega arith)
+group_lanes block b0 b1 b2 b3 r0 r1 r2 r3 zero lt = words_read block 0 b0 r0
+group_lanes block b0 b1 b2 b3 r0 r1 r2 r3 (suc zero) lt = words_read block 1 b1 r1
+group_lanes block b0 b1 b2 b3 r0 r1 r2 r3 (suc (suc zero)) lt = words_read block 2 b2 r2
+group_lanes block b0 b1 b2 b3 r0 r1 r2 r3 (suc (suc (suc zero))) lt = words_read block 3 b3 r3
+group_lanes block b0 b1 b2 b3 r0 r1 r2 r3 i lt = absurd (omega arith)

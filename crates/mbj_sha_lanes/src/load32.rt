@@ -1,14 +1,14 @@
 //! Blocks and hash values with words of 32 bits as vectors: lane i has the words of block or hash value i. Blocks are loaded
 //! 16 bytes at a time, and transposed in registers.
 ghost use Rattle.std.specs.Prelude.{◌≡◌, ℕ, ◌+◌, ◌^◌, ◌<◌, ◌≤◌, [], ◌∷◌, ◌++◌, length, slice_index, slice_index_or};
-ghost use Rattle.std.specs.Simd.Lanes.{pick_l};
+ghost use Rattle.std.specs.Simd.Lanes.{Each1, pick_l};
 ghost use Rattle.mbj_types.specs.Lanes.{lane_at, lane_of};
 ghost use Rattle.mbj_sha_lanes.specs.Words.{words32};
 ghost use Rattle.mbj_sha_lanes.specs.Inside.Columns32.{quad, transposed};
 
 use crate::blocks::Blocks;
 use mbj_types::Lane32;
-use std::simd::{u8x16, u32x8};
+use std::simd::{u8x16, u32x8, u32x16};
 
 /// Lane words of 32 bits that are loaded from blocks.
 pub trait Load32: Lane32 {
@@ -94,13 +94,14 @@ fn transposed(a: u32x8, b: u32x8, c: u32x8, d: u32x8) -> [u32x8; 4]
     ]
 }
 
-/// The 16 words of each of the eight blocks from lane `first` on.
+/// The 16 words of each block of a group: the eight from lane `first` on.
 #[inline(always)]
-fn eight_blocks<B: Blocks>(blocks: &B, first: usize) -> [u32x8; 16]
+fn group_words<B: Blocks>(blocks: &B, first: usize) -> [u32x8; 16]
     requires size { B.block_bytes ≡ 64 }
     requires small { first < 2 ^ 32 }
     requires lent { (i : ℕ) → i < 8 → B.lends blocks.now (first + i) }
     ensures vectors { length result ≡ 16 }
+    ensures width { Each1 (λ v. length v ≡ 8) result }
     ensures lanes { (i : ℕ) → i < 8 → words32 (B.block blocks.now (first + i)) ≡ lane_of (lane_at 32) result i }
 {
     let (b0, b4) = (blocks.block(first), blocks.block(first + 4));
@@ -136,10 +137,49 @@ fn eight_blocks<B: Blocks>(blocks: &B, first: usize) -> [u32x8; 16]
     ]
 }
 
+/// Two vectors side by side.
+#[inline(always)]
+fn both(low: u32x8, high: u32x8) -> u32x16
+    requires low { length low ≡ 8 }
+    requires high { length high ≡ 8 }
+    ensures { result ≡ low ++ high }
+{
+    low.shuffle(high, [0, 1, 2, 3, 4, 5, 6, 7, 8, 9, 10, 11, 12, 13, 14, 15])
+}
+
+/// The words of two groups of blocks, side by side.
+#[inline(always)]
+fn joined(low: &[u32x8; 16], high: &[u32x8; 16]) -> [u32x16; 16]
+    requires low { Each1 (λ v. length v ≡ 8) low.now }
+    requires high { Each1 (λ v. length v ≡ 8) high.now }
+    ensures vectors { length result ≡ 16 }
+    ensures words { (k : ℕ) → k < 16 → slice_index_or result k [] ≡ slice_index_or low.now k [] ++ slice_index_or high.now k [] }
+{
+    let mut words = [u32x16::splat(0); 16];
+    'words: for k in 0..16 {
+        words[k] = both(low[k], high[k]);
+    }
+    words
+}
+
 impl Load32 for u32x8 {
     #[inline(always)]
     fn block_words<B: Blocks>(blocks: &B) -> [u32x8; 16] {
-        eight_blocks(blocks, 0)
+        group_words(blocks, 0)
+    }
+
+    #[inline(always)]
+    fn word(self, i: usize) -> u32 {
+        self.to_array()[i]
+    }
+}
+
+impl Load32 for u32x16 {
+    #[inline(always)]
+    fn block_words<B: Blocks>(blocks: &B) -> [u32x16; 16] {
+        let low = group_words(blocks, 0);
+        let high = group_words(blocks, 8);
+        joined(&low, &high)
     }
 
     #[inline(always)]

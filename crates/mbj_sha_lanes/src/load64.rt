@@ -1,13 +1,14 @@
 //! Blocks and hash values with words of 64 bits as vectors: lane i has the words of block or hash value i. Blocks are loaded
 //! 16 bytes at a time, and transposed in registers.
 ghost use Rattle.std.specs.Prelude.{◌≡◌, ℕ, ◌+◌, ◌^◌, ◌<◌, ◌≤◌, [], ◌++◌, length, slice_index, slice_index_or};
+ghost use Rattle.std.specs.Simd.Lanes.{Each1};
 ghost use Rattle.mbj_types.specs.Lanes.{lane_at, lane_of};
 ghost use Rattle.mbj_sha_lanes.specs.Words.{words64};
 ghost use Rattle.mbj_sha_lanes.specs.Inside.Columns64.{couple, transposed};
 
 use crate::blocks::Blocks;
 use mbj_types::Lane64;
-use std::simd::{u8x16, u64x4};
+use std::simd::{u8x16, u64x4, u64x8};
 
 /// Lane words of 64 bits that are loaded from blocks.
 pub trait Load64: Lane64 {
@@ -52,13 +53,14 @@ fn transposed(a: u64x4, b: u64x4) -> [u64x4; 2]
     [a.shuffle(b, [0, 4, 2, 6]), a.shuffle(b, [1, 5, 3, 7])]
 }
 
-/// The 16 words of each of the four blocks from lane `first` on.
+/// The 16 words of each block of a group: the four from lane `first` on.
 #[inline(always)]
-fn four_blocks<B: Blocks>(blocks: &B, first: usize) -> [u64x4; 16]
+fn group_words<B: Blocks>(blocks: &B, first: usize) -> [u64x4; 16]
     requires size { B.block_bytes ≡ 128 }
     requires small { first < 2 ^ 32 }
     requires lent { (i : ℕ) → i < 4 → B.lends blocks.now (first + i) }
     ensures vectors { length result ≡ 16 }
+    ensures width { Each1 (λ v. length v ≡ 4) result }
     ensures lanes { (i : ℕ) → i < 4 → words64 (B.block blocks.now (first + i)) ≡ lane_of (lane_at 64) result i }
 {
     let (b0, b2) = (blocks.block(first), blocks.block(first + 2));
@@ -76,10 +78,49 @@ fn four_blocks<B: Blocks>(blocks: &B, first: usize) -> [u64x4; 16]
     ]
 }
 
+/// Two vectors side by side.
+#[inline(always)]
+fn both(low: u64x4, high: u64x4) -> u64x8
+    requires low { length low ≡ 4 }
+    requires high { length high ≡ 4 }
+    ensures { result ≡ low ++ high }
+{
+    low.shuffle(high, [0, 1, 2, 3, 4, 5, 6, 7])
+}
+
+/// The words of two groups of blocks, side by side.
+#[inline(always)]
+fn joined(low: &[u64x4; 16], high: &[u64x4; 16]) -> [u64x8; 16]
+    requires low { Each1 (λ v. length v ≡ 4) low.now }
+    requires high { Each1 (λ v. length v ≡ 4) high.now }
+    ensures vectors { length result ≡ 16 }
+    ensures words { (k : ℕ) → k < 16 → slice_index_or result k [] ≡ slice_index_or low.now k [] ++ slice_index_or high.now k [] }
+{
+    let mut words = [u64x8::splat(0); 16];
+    'words: for k in 0..16 {
+        words[k] = both(low[k], high[k]);
+    }
+    words
+}
+
 impl Load64 for u64x4 {
     #[inline(always)]
     fn block_words<B: Blocks>(blocks: &B) -> [u64x4; 16] {
-        four_blocks(blocks, 0)
+        group_words(blocks, 0)
+    }
+
+    #[inline(always)]
+    fn word(self, i: usize) -> u64 {
+        self.to_array()[i]
+    }
+}
+
+impl Load64 for u64x8 {
+    #[inline(always)]
+    fn block_words<B: Blocks>(blocks: &B) -> [u64x8; 16] {
+        let low = group_words(blocks, 0);
+        let high = group_words(blocks, 4);
+        joined(&low, &high)
     }
 
     #[inline(always)]

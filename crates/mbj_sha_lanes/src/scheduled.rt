@@ -68,15 +68,18 @@ fn all_rounds<V: Copy, H: Sha2<V>>(words: &[V], start: Working<V>) -> Working<V>
 }
 
 /// Compresses one block into one hash value in each lane. `states` has 8 lane words, the words of the hash values;
-/// `words` has one for each round, of which the first 16 are the words of the blocks. The others are made here.
+/// `words` has 16, the words of the blocks. `schedule` has one for each round: the schedule is made there, and what it
+/// held before is not looked at.
 #[inline(always)]
-pub fn compress_scheduled<V: Copy, H: Sha2<V>>(states: &mut [V], words: &mut [V])
+pub fn compress_scheduled<V: Copy, H: Sha2<V>>(states: &mut [V], words: &[V], schedule: &mut [V])
     requires states { length states.old ≡ 8 }
-    requires words { length words.old ≡ H.functions.count }
-    ensures { (i : ℕ) (b : List ℕ) → i < H.LANES → H.functions.first_words b ≡ take 16 (lane_of H.lane words.old i)
+    requires words { length words.now ≡ 16 }
+    requires schedule { length schedule.old ≡ H.functions.count }
+    ensures { (i : ℕ) (b : List ℕ) → i < H.LANES → H.functions.first_words b ≡ lane_of H.lane words.now i
         → lane_of H.lane states.new i ≡ compressed H.functions (lane_of H.lane states.old i) b }
 {
-    fill::<V, H>(words);
-    let v = all_rounds::<V, H>(words, working_of::<V, H>(states));
+    schedule[..16].copy_from_slice(words);
+    fill::<V, H>(schedule);
+    let v = all_rounds::<V, H>(schedule, working_of::<V, H>(states));
     add_working::<V, H>(states, v);
 }

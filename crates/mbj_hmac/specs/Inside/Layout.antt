@@ -4,7 +4,7 @@ use Rattle.std.specs.Prelude.{IsTrue, ◌≡◌, ℕ, ◌+◌, ◌-◌, ◌*◌,
 use Rattle.std.specs.Int.{w64, to_be_bytes}
 use Rattle.mbj_types.specs.declared.class.HashName.{HashName}
 use Rattle.mbj_types.specs.Rounds.{hmac_rounds}
-use Rattle.mbj_hmac.specs.Rounds.{Chaining, Going, inner_text, outer_text}
+use Rattle.mbj_hmac.specs.Rounds.{Chaining, HmacState, inner_text, outer_text}
 
 module _ (b : ℕ) where
   -- the whole blocks of b bytes in a message of n bytes
@@ -32,7 +32,7 @@ pub record IsStandard (h : Chaining) : Type 0 where
 
 module _ (h : Chaining) where
   -- an entry as it is seen
-  abbrev pub seen : List ℕ → ℕ → List ℕ → List ℕ → HashName → List ℕ → ℕ → ℕ → Going
+  abbrev pub seen : List ℕ → ℕ → List ℕ → List ℕ → HashName → List ℕ → ℕ → ℕ → HmacState
   seen packet rest chain inner hash ends off len = record {
     packet = packet;
     rest = rest;
@@ -53,11 +53,11 @@ module _ (h : Chaining) where
       ++ (h.digest a zeros ++ h.padding (h.block_bytes + length (h.digest a zeros)))
 
   -- the blocks stand in the entry
-  abbrev pub IsLaid : List ℕ → Going → Type 0
+  abbrev pub IsLaid : List ℕ → HmacState → Type 0
   IsLaid ends e = take (h.block_bytes * (tail_blocks h.block_bytes e.len + 2)) (drop h.block_bytes ends)
       ≡ drop (h.block_bytes * (whole_blocks h.block_bytes e.len + 1)) (inner_text h e) ++ outer_text h e
 
   -- the range lies in the packet, the rounds are no more than there were, the blocks stand, and the hash is one of these
-  abbrev pub IsSound : List ℕ → Going → Type 0
+  abbrev pub IsSound : List ℕ → HmacState → Type 0
   IsSound ends e = (e.off + e.len ≤ length e.packet) × (e.rest ≤ hmac_rounds h.block_bytes e.len) × (e.len < 2 ^ 32)
       × IsLaid ends e × (length ends ≡ 5 * h.block_bytes) × IsTrue (h.serves e.hash)

@@ -1,15 +1,15 @@
 -- A law of a kernel of HMAC: a round lowers the rest by one.
 use Rattle.std.proofs.Common.{◌≡◌, ◌-◌, Bool, true, false, eqb, refl, ap}
 use Rattle.std.specs.Prelude.{if◌then◌else◌}
-use Rattle.mbj_hmac.specs.Rounds.{Chaining, Going, turned, round}
+use Rattle.mbj_hmac.specs.Rounds.{Chaining, HmacState, turned, round}
 
 module _ (h : Chaining) where
-  pub turned_rest : (e : Going) → (turned h e).rest ≡ e.rest
+  pub turned_rest : (e : HmacState) → (turned h e).rest ≡ e.rest
   turned_rest e = go (eqb e.rest 2)
     where
       go : (b : Bool) → (if b then record e { chain = h.initial e.hash; inner = e.chain } else e).rest ≡ e.rest
       go true = refl
       go false = refl
 
-  pub falls : (e : Going) → (round h e).rest ≡ e.rest - 1
+  pub falls : (e : HmacState) → (round h e).rest ≡ e.rest - 1
   falls e = ap (λ n. n - 1) (turned_rest e)

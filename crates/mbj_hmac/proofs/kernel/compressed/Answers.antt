@@ -2,7 +2,7 @@
 use Rattle.std.proofs.Common.{◌≡◌, ap, ◌∙◌, arith}
 use Rattle.mbj_lane.specs.Rounds.{after}
 use Rattle.mbj_hmac.specs.Rounds.{advanced}
-use Rattle.mbj_hmac.specs.Inside.Going.{lane_going}
+use Rattle.mbj_hmac.specs.Inside.LaneEntry.{lane_entry}
 use Rattle.mbj_hmac.proofs.LaneEntries.{lane_left, pass_led}
 use Rattle.mbj_hmac.proofs.kernel.compressed.Goals as goal
 
@@ -18,4 +18,4 @@ passes-preserved g c i lt =
 pub returns : goal.returns
 returns g c i lt =
     let all : c.passes.done ≡ c.args.m = omega arith in
-    c.passes.invariant i lt ∙ ap (λ d. (after (advanced g.H.LaneHash.chaining) d (lane_going c.args.entries.now i)).chain) all
+    c.passes.invariant i lt ∙ ap (λ d. (after (advanced g.H.LaneHash.chaining) d (lane_entry c.args.entries.now i)).chain) all

@@ -1,21 +1,21 @@
 use Rattle.std.proofs.Common.{◌≡◌, ◌≢◌, ℕ, ◌-◌, ◌<◌, ◌≤◌, List, [], ◌∷◌, length, map, refl, sym, ap, ◌∙◌, arith}
 use Rattle.mbj_lane.specs.Rounds.{after}
 use Rattle.mbj_lane.proofs.Led.{map-after-none}
-use Rattle.mbj_hmac.specs.Rounds.{Going, round}
+use Rattle.mbj_hmac.specs.Rounds.{HmacState, round}
 use Rattle.mbj_hmac.proofs.Passes.{k_le, k_some, k_rests, led}
 use Rattle.mbj_hmac.proofs.kernel.run.Goals as goal
 
 -- what is not empty has an entry
-some : (es : List Going) → length es ≢ 0 → 0 < length es
+some : (es : List HmacState) → length es ≢ 0 → 0 < length es
 some es h = omega arith
 
 -- no entries, led by any rounds, are none
-none_led : (f : Going → Going) (es : List Going) → length es ≡ 0 → es ≡ map f es
+none_led : (f : HmacState → HmacState) (es : List HmacState) → length es ≡ 0 → es ≡ map f es
 none_led f [] h = refl
 none_led f (e ∷ es) h = absurd (omega arith)
 
 -- once no round is left, all are done
-all_led : (f : Going → Going) (m left : ℕ) (now es : List Going) → now ≡ map (after f (m - left)) es → left ≤ 0
+all_led : (f : HmacState → HmacState) (m left : ℕ) (now es : List HmacState) → now ≡ map (after f (m - left)) es → left ≤ 0
     → now ≡ map (after f m) es
 all_led f m left now es is none =
     let all : m - left ≡ m = omega arith in is ∙ ap (λ n. map (after f n) es) all

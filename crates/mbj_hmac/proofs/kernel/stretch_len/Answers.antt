@@ -3,12 +3,12 @@ use Rattle.std.proofs.Common.{◌≡◌, ℕ, ◌+◌, ◌<◌, List, length, dr
 use Rattle.std.proofs.lemmas.List.{at_drop_more}
 use Rattle.std.specs.Prelude.{slice_index_or as get_or}
 use Rattle.mbj_lane.specs.Rounds.{least_from}
-use Rattle.mbj_hmac.specs.Rounds.{Going}
-use Rattle.mbj_hmac.specs.Inside.Going.{reach_of}
+use Rattle.mbj_hmac.specs.Rounds.{HmacState}
+use Rattle.mbj_hmac.specs.Inside.LaneEntry.{reach_of}
 use Rattle.mbj_hmac.proofs.kernel.stretch_len.Goals as goal
 
 -- the least of the entries from one on, where that entry's reach is taken into the number
-least_step : (n r i : ℕ) (es : List Going) (e : Going) → i < length es → e ≡ get_or es i e → r ≡ min n (reach_of e)
+least_step : (n r i : ℕ) (es : List HmacState) (e : HmacState) → i < length es → e ≡ get_or es i e → r ≡ min n (reach_of e)
     → least_from reach_of r (drop (i + 1) es) ≡ least_from reach_of n (drop i es)
 least_step n r i es e lt is least =
     ap (λ k. least_from reach_of k (drop (i + 1) es)) (least ∙ ap (λ x. min n (reach_of x)) is)

@@ -7,5 +7,5 @@ pub returns : goal.returns
 returns c i lt =
     let block : List ℕ = slice_index_or c.args.blocks.now i [] in
     c.states.invariant.done i (omega arith)
-    ∙ c.compress_lanes.ensures i block lt (first_words_is block ∙ c.block_words-words.ensures.lanes i lt)
+    ∙ c.compress_scheduled.ensures.each i block lt (first_words_is block ∙ c.block_words-words.ensures.lanes i lt)
     ∙ ap (λ s. compress s block) (c.gathered-lanes.ensures.lanes i lt)

@@ -1,5 +1,5 @@
 use Rattle.std.proofs.Common.{◌≡◌, ℕ, ◌+◌, ◌-◌, ◌*◌, ◌/◌, ◌≤◌, ◌<◌, ◌⊎◌, length, ap, ◌∙◌, arith}
-use Rattle.mbj_hmac.specs.Rounds.{Going, block_before}
+use Rattle.mbj_hmac.specs.Rounds.{HmacState, block_before}
 use Rattle.mbj_hmac.specs.Inside.Layout.{tail_blocks}
 use Rattle.mbj_hmac.proofs.Numbers.{size_range, tail_range, times_le}
 use Rattle.mbj_hmac.proofs.Laid.{first_laid, packet_laid, end_laid}
@@ -38,7 +38,7 @@ pub slice_bounds-result-end : goal.slice_bounds-result-end
 slice_bounds-result-end g c =
     let b = c.block_bytes-block.result in
     let size : (b ≡ 64) ⊎ (b ≡ 128) = rw c.block_bytes-block.ensures g.met.H.LaneHash.standard.size in
-    let rest_is : c.self.inside.rest ≡ c.args.self.now.rest = ap (λ (e : Going). e.rest) c.self.view_is in
+    let rest_is : c.self.inside.rest ≡ c.args.self.now.rest = ap (λ (e : HmacState). e.rest) c.self.view_is in
     let q : ℕ = c.tail_blocks-behind.result + 2 - (c.self.inside.rest - c.args.done) in
     let few : q ≤ 3 = omega (arith, rest_is, c.requires, c.tail_blocks-behind.ensures, (tail_range g.H.LaneHash.chaining.block_bytes g.met.H.LaneHash.standard.size c.self.inside.len).1) in
     omega (arith, ap length c.ends.ensures, c.self.invariant.4, c.block_bytes-block.ensures, times_le b size q 3 few)
@@ -53,7 +53,7 @@ returns-then-rest-behind-clause-block g c =
     let r : ℕ = f.rest - c.args.done in
     let q : ℕ = tail_blocks b f.len + 2 - r in
     let k : ℕ = b + b * q in
-    let rest_is : f.rest ≡ c.args.self.now.rest = ap (λ (e : Going). e.rest) c.self.view_is in
+    let rest_is : f.rest ≡ c.args.self.now.rest = ap (λ (e : HmacState). e.rest) c.self.view_is in
     let n : k + b - k ≡ b = omega arith in
     let some : 0 < r = omega (arith, rest_is, c.requires) in
     let at : r + q ≡ tail_blocks b f.len + 2 = omega (arith, c.if-rest-behind.true, c.tail_blocks-behind.ensures) in

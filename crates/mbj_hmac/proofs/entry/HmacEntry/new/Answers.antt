@@ -3,7 +3,7 @@ use Rattle.mbj_types.specs.Auths.{hash_of_name}
 use Rattle.mbj_types.specs.Hmac.{Hash, block_key, padded_key, hmac, ipad, opad}
 use Rattle.mbj_types.specs.declared.class.HashName.{HashName}
 use Rattle.mbj_lane.specs.Rounds.{end_of}
-use Rattle.mbj_hmac.specs.Rounds.{Going, round, rest_of, started}
+use Rattle.mbj_hmac.specs.Rounds.{HmacState, round, rest_of, started}
 use Rattle.mbj_hmac.proofs.FirstEnds.{length-pad}
 use Rattle.mbj_hmac.proofs.Hmacs.{hmac_end, packet_end}
 use Rattle.mbj_hmac.proofs.Pads.{pad_of}
@@ -42,7 +42,7 @@ returns-clause-packet g c =
     let packet = c.args.packet.items in
     let off = c.args.off in
     let len = c.args.len in
-    ap (λ (e : Going). (end_of (round h) rest_of e).packet) c.started.ensures.start
+    ap (λ (e : HmacState). (end_of (round h) rest_of e).packet) c.started.ensures.start
     ∙ packet_end h std c.hash_name-hash.result _ _ packet off len (length-pad h std x packet off len ipad c.started.ensures.pads) c.requires.range c.ranges.len.fits
 
 pub returns-clause-tag : goal.returns-clause-tag
@@ -59,7 +59,7 @@ returns-clause-tag g c =
     let is = g.met.H.LaneHash.hashes a served in
     let size = g.met.H.LaneHash.blocks a served in
     let x = c.hash_key-key.result in
-    let digest : Going → List ℕ = λ e. let end : Going = end_of (round h) rest_of e in h.digest end.hash end.chain in
+    let digest : HmacState → List ℕ = λ e. let end : HmacState = end_of (round h) rest_of e in h.digest end.hash end.chain in
     of_hash c.args.auth a c.hash_name-hash.ensures (λ k. digest c.started.result ≡ hmac k key (take len (drop off packet)))
     (ap digest c.started.ensures.start
     ∙ hmac_end h std a _ _ packet off len hash key is

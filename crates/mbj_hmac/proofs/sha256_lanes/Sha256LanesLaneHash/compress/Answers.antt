@@ -5,4 +5,4 @@ use Rattle.mbj_hmac.proofs.sha256_lanes.Sha256LanesLaneHash.compress.Goals as go
 pub returns : goal.returns
 returns g c i lt =
     let block : List ℕ = g.B.Blocks.block c.args.blocks.now i in
-    c.compress_lanes.ensures i block lt (first_words_is block ∙ c.block_words-words.ensures.lanes i lt)
+    c.compress_scheduled.ensures.each i block lt (first_words_is block ∙ c.block_words-words.ensures.lanes i lt)

@@ -1,7 +1,7 @@
-use Rattle.std.proofs.Common.{◌≡◌, ℕ, ◌+◌, List, [], ◌∷◌, refl, sym, ap, ◌∙◌, add-zero}
+use Rattle.std.proofs.Common.{◌≡◌, ℕ, ◌+◌, List, [], ◌∷◌, refl, sym, ap, ◌∙◌, add-zero, rules}
 use Rattle.mbj_sha_lanes.specs.Inside.Columns64.{columns}
-use Rattle.mbj_sha_lanes.proofs.Loading64.{IsRead, four_lanes}
-use Rattle.mbj_sha_lanes.proofs.load64.four_blocks.Goals as goal
+use Rattle.mbj_sha_lanes.proofs.Loading64.{IsRead, group_lanes}
+use Rattle.mbj_sha_lanes.proofs.load64.group_words.Goals as goal
 
 pub returns-clause-lanes : goal.returns-clause-lanes
 returns-clause-lanes g c i lt =
@@ -23,4 +23,9 @@ returns-clause-lanes g c i lt =
     let r1 : IsRead block 1 b1 = record { same = c.block-b1.ensures.block; bytes = c.pair-2.ensures.low } in
     let r2 : IsRead block 2 b2 = record { same = c.block-b2.ensures.block; bytes = c.pair.ensures.high } in
     let r3 : IsRead block 3 b3 = record { same = c.block-b3.ensures.block; bytes = c.pair-2.ensures.high } in
-    rw (w0, w16, w32, w48, w64, w80, w96, w112) (four_lanes block b0 b1 b2 b3 r0 r1 r2 r3 i lt)
+    rw (w0, w16, w32, w48, w64, w80, w96, w112) (group_lanes block b0 b1 b2 b3 r0 r1 r2 r3 i lt)
+
+pub returns-clause-width : goal.returns-clause-width
+returns-clause-width g c =
+    rw (c.transposed.ensures, c.transposed-2.ensures, c.transposed-3.ensures, c.transposed-4.ensures, c.transposed-5.ensures, c.transposed-6.ensures, c.transposed-7.ensures, c.transposed-8.ensures)
+    (search rules)

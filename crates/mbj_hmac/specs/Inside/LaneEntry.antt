@@ -1,18 +1,18 @@
 -- The entry that a lane reads.
 use Rattle.std.specs.Prelude.{ℕ, ◌-◌, nat_le, nat_lt, List, [], length, slice_index_or, if◌then◌else◌}
 use Rattle.mbj_types.specs.declared.class.HashName.TheVariants.{Sha1}
-use Rattle.mbj_hmac.specs.Rounds.{Going}
+use Rattle.mbj_hmac.specs.Rounds.{HmacState}
 
 -- an entry that is none
-abbrev pub blank : Going
+abbrev pub blank : HmacState
 blank = record { packet = []; rest = 0; chain = []; inner = []; hash = Sha1; front = []; back = []; off = 0; len = 0 }
 
 -- the entry of a lane; idle lanes go with the last entry
-abbrev pub lane_going : List Going → ℕ → Going
-lane_going entries i =
+abbrev pub lane_entry : List HmacState → ℕ → HmacState
+lane_entry entries i =
     if nat_lt i (length entries) then slice_index_or entries i blank
     else slice_index_or entries (length entries - 1) blank
 
 -- how many rounds an entry has before that of its outer pad, or has at all
-abbrev pub reach_of : Going → ℕ
+abbrev pub reach_of : HmacState → ℕ
 reach_of e = if nat_le 3 e.rest then e.rest - 2 else e.rest

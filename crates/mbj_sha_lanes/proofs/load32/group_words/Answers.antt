@@ -1,7 +1,7 @@
-use Rattle.std.proofs.Common.{◌≡◌, ℕ, ◌+◌, List, [], ◌∷◌, refl, sym, ap, ◌∙◌, add-zero}
+use Rattle.std.proofs.Common.{◌≡◌, ℕ, ◌+◌, List, [], ◌∷◌, refl, sym, ap, ◌∙◌, add-zero, rules}
 use Rattle.mbj_sha_lanes.specs.Inside.Columns32.{columns}
-use Rattle.mbj_sha_lanes.proofs.Loading32.{IsRead, eight_lanes}
-use Rattle.mbj_sha_lanes.proofs.load32.eight_blocks.Goals as goal
+use Rattle.mbj_sha_lanes.proofs.Loading32.{IsRead, group_lanes}
+use Rattle.mbj_sha_lanes.proofs.load32.group_words.Goals as goal
 
 pub returns-clause-lanes : goal.returns-clause-lanes
 returns-clause-lanes g c i lt =
@@ -27,4 +27,9 @@ returns-clause-lanes g c i lt =
     let r5 : IsRead block 5 b5 = record { same = c.block-b5.ensures.block; bytes = c.pair-2.ensures.high } in
     let r6 : IsRead block 6 b6 = record { same = c.block-b6.ensures.block; bytes = c.pair-3.ensures.high } in
     let r7 : IsRead block 7 b7 = record { same = c.block-b7.ensures.block; bytes = c.pair-4.ensures.high } in
-    rw (w0, w16, w32, w48) (eight_lanes block b0 b1 b2 b3 b4 b5 b6 b7 r0 r1 r2 r3 r4 r5 r6 r7 i lt)
+    rw (w0, w16, w32, w48) (group_lanes block b0 b1 b2 b3 b4 b5 b6 b7 r0 r1 r2 r3 r4 r5 r6 r7 i lt)
+
+pub returns-clause-width : goal.returns-clause-width
+returns-clause-width g c =
+    rw (c.transposed.ensures, c.transposed-2.ensures, c.transposed-3.ensures, c.transposed-4.ensures)
+    (search rules)
