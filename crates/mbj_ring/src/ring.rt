@@ -10,11 +10,11 @@ use std::alloc::{AllocError, Global};
 use std::marker::Model;
 
 /// How many cells a ring has.
-pub const CELLS: u32 = 256;
+pub const CELLS: u32 = 512;
 
-/// A law: a ring has 256 cells.
-pub fn the_ring_has_256_cells()
-    ensures { CELLS ≡ 256 }
+/// A law: a ring has this many cells.
+pub fn a_ring_has_these_cells()
+    ensures { CELLS ≡ 512 }
 {}
 
 /// A queue of committed values in `CELLS` cells of one block of memory, with at most one open cell behind them.
