@@ -16,8 +16,8 @@ use Rattle.mbj_core.specs.declared.cells.TheConstants.{SUBMITTER_CELLS}
 use Rattle.mbj_core.specs.declared.machine.JobsOut.{JobsOut}
 use Rattle.mbj_core.specs.Cells.{Cell, free, ready, done, hand_of, word_of, result_in, cell_of}
 use Rattle.mbj_core.specs.Parties.{view, front, FrontState, new_party, with_due, with_handed, with_hand}
-use Rattle.mbj_core.specs.Events.{post, claim, finish, collect, accepted, returned, claimed, collected, nothing, Leaves, Step}
-use Rattle.mbj_core.specs.CoreStates.{CoreState, cell_in, hand_in, jobs_out, out_of, first_cell, next_cell, posted, claimed_by, finished, handed_out}
+use Rattle.mbj_core.specs.Events.{post, claim, finish, collect, carried_out, returned, claimed, collected, nothing, Leaves, Step}
+use Rattle.mbj_core.specs.CoreStates.{CoreState, cell_in, hand_in, jobs_out, out_of, first_cell, next_cell, posted, claimed_by, finished, with_result_collected}
 use Rattle.mbj_core.specs.Stands.{StandsFor, Leads, IsBacked}
 use Rattle.mbj_core.proofs.Puts.{put, at_put, put_here, put_else}
 use Rattle.mbj_core.proofs.Entries.{at_left, at_end, at_middle, skip, in_whole, set_here, set_else}
@@ -105,7 +105,7 @@ module _ (c : CoreState) (size : Sizes c) (f : FrontState Job Done) (sf : Stands
   hand_is p l = get_or_from_slice_get c.hands p (cells_of (f.seats p).hand) [] (sf.each_hand p l)
 
   post_leads : (s : ℕ) (j : Job) → Facts c f → s < c.submitters → out_of c s < SUBMITTER_CELLS
-      → (g : FrontState Job Done) × Step result_of c.submitters c.workers f (post s j) accepted g × StandsFor (posted c s j) g
+      → (g : FrontState Job Done) × Step result_of c.submitters c.workers f (post s j) carried_out g × StandsFor (posted c s j) g
   post_leads s j all l below =
       let v : View Done = f.seats s in let m : ℕ = length v.due in let i : ℕ = cell_of s m in let d : Done = result_of j in let due : List Done = v.due ++ d ∷ [] in let w : View Done = with_due v due in
       let out = sf.each_out s l in let longer = length-append v.due (d ∷ []) in let o : ℕ = out_of c s in
@@ -146,7 +146,7 @@ module _ (c : CoreState) (size : Sizes c) (f : FrontState Job Done) (sf : Stands
       cells_more (x ∷ l) i d = ap (λ (t : List ℕ). x.0 ∷ t) (cells_more l i d)
 
   finish_leads : (p i : ℕ) (d : Done) → Facts c f → p < c.submitters + c.workers → i < SUBMITTER_CELLS * c.submitters → cell_in c i ≡ Some (hand_of p d)
-      → (g : FrontState Job Done) × Step result_of c.submitters c.workers f (finish p i d) accepted g × StandsFor (finished c p i d) g
+      → (g : FrontState Job Done) × Step result_of c.submitters c.workers f (finish p i d) carried_out g × StandsFor (finished c p i d) g
   finish_leads p i d all lp li is =
       let v : View Done = f.seats p in let here = cell_is i (hand_of p d) li is in
       let r = leaving v.hand i (all.once p) (all.held p i li (ap word_of here)) in let rest : List (ℕ × Done) = r.1 in let w : View Done = with_hand v rest in
@@ -161,7 +161,7 @@ module _ (c : CoreState) (size : Sizes c) (f : FrontState Job Done) (sf : Stands
       )
 
   collect_leads : (s : ℕ) (d : Done) → Facts c f → s < c.submitters → 0 < out_of c s → cell_in c (first_cell c s) ≡ Some (done d)
-      → (g : FrontState Job Done) × Step result_of c.submitters c.workers f (collect s) (collected d) g × StandsFor (handed_out c s) g
+      → (g : FrontState Job Done) × Step result_of c.submitters c.workers f (collect s) (collected d) g × StandsFor (with_result_collected c s) g
   collect_leads s d all l some_out is =
       let v : View Done = f.seats s in let h : ℕ = v.handed in let i : ℕ = cell_of s h in let w : View Done = with_handed v (h + 1) in
       let n : ℕ = (jobs_out c s).first in let o : ℕ = out_of c s in
@@ -179,7 +179,7 @@ module _ (c : CoreState) (size : Sizes c) (f : FrontState Job Done) (sf : Stands
       )
 
 module _ (c : CoreState) (size : Sizes c) (backed : IsBacked c) where
-  pub posts_lead : (s : ℕ) (j : Job) → s < c.submitters → out_of c s < SUBMITTER_CELLS → Leads c (post s j) accepted (posted c s j)
+  pub posts_lead : (s : ℕ) (j : Job) → s < c.submitters → out_of c s < SUBMITTER_CELLS → Leads c (post s j) carried_out (posted c s j)
   posts_lead s j l below f sf = post_leads c size f sf s j (facts_of c f sf backed) l below
 
   pub refused_posts_lead : (s : ℕ) (j : Job) → s < c.submitters → out_of c s ≡ SUBMITTER_CELLS → Leads c (post s j) (returned j) c
@@ -191,10 +191,10 @@ module _ (c : CoreState) (size : Sizes c) (backed : IsBacked c) where
   pub vain_claims_lead : (p i : ℕ) → p < c.submitters + c.workers → i < SUBMITTER_CELLS * c.submitters → ((j : Job) → cell_in c i ≢ Some (ready j)) → Leads c (claim p i) nothing c
   vain_claims_lead p i lp li unready f sf = (f, (lp, li, (λ j e. unready j (sf.each_cell i li ∙ ap Some e)), refl), sf)
 
-  pub finishes_lead : (p i : ℕ) (d : Done) → p < c.submitters + c.workers → i < SUBMITTER_CELLS * c.submitters → cell_in c i ≡ Some (hand_of p d) → Leads c (finish p i d) accepted (finished c p i d)
+  pub finishes_lead : (p i : ℕ) (d : Done) → p < c.submitters + c.workers → i < SUBMITTER_CELLS * c.submitters → cell_in c i ≡ Some (hand_of p d) → Leads c (finish p i d) carried_out (finished c p i d)
   finishes_lead p i d lp li is f sf = finish_leads c size f sf p i d (facts_of c f sf backed) lp li is
 
-  pub collects_lead : (s : ℕ) (d : Done) → s < c.submitters → 0 < out_of c s → cell_in c (first_cell c s) ≡ Some (done d) → Leads c (collect s) (collected d) (handed_out c s)
+  pub collects_lead : (s : ℕ) (d : Done) → s < c.submitters → 0 < out_of c s → cell_in c (first_cell c s) ≡ Some (done d) → Leads c (collect s) (collected d) (with_result_collected c s)
   collects_lead s d l some_out is f sf = collect_leads c size f sf s d (facts_of c f sf backed) l some_out is
 
   -- none is out, or the earliest has no result

@@ -10,14 +10,14 @@ use Rattle.mbj_types.specs.Result.{result_of}
 use Rattle.mbj_types.specs.declared.job.Job.{Job}
 use Rattle.mbj_types.specs.declared.done.Done.{Done}
 use Rattle.mbj_core.specs.Cells.{Cell, free, ready, done, hand_of, cell_of}
-use Rattle.mbj_core.specs.CoreStates.{CoreState, HasHand, cell_in, hand_in, jobs_out, out_of, first_cell, next_cell, posted, claimed_by, finished, handed_out}
+use Rattle.mbj_core.specs.CoreStates.{CoreState, HasHand, cell_in, hand_in, jobs_out, out_of, first_cell, next_cell, posted, claimed_by, finished, with_result_collected}
 use Rattle.mbj_core.specs.Inside.Fields.{cell_shown, state_of, IsCore}
 use Rattle.mbj_core.specs.declared.cells.Slot.{Slot}
 use Rattle.mbj_core.specs.declared.cells.Slot.TheVariants as slot
 use Rattle.mbj_core.specs.declared.cells.TheConstants.{MAX_SUBMITTERS, SUBMITTER_CELLS}
 use Rattle.mbj_core.specs.declared.machine.Core.TheInside.{Inside}
 use Rattle.mbj_core.specs.declared.machine.JobsOut.{JobsOut}
-use Rattle.mbj_core.specs.Events.{Event, Answer, post, claim, finish, collect, accepted, claimed, collected}
+use Rattle.mbj_core.specs.Events.{Event, Answer, post, claim, finish, collect, carried_out, claimed, collected}
 use Rattle.mbj_core.specs.Stands.{Leads, IsBacked}
 use Rattle.mbj_core.proofs.Posts.{near}
 use Rattle.mbj_core.proofs.Facts.{backed_after}
@@ -97,11 +97,11 @@ module _ (a : Inside) (is : IsCore a) where
   pub after_post : (s next : ℕ) (out : JobsOut) (job : Job) → s < a.submitters → next ≡ cell_of s (out.first + out.count) → out ≡ get_or a.outs.items s out
       → out.count ≢ SUBMITTER_CELLS
       → let new : CoreState = state_with a (set a.cells.items next (slot.Ready job)) a.hands.items (set a.outs.items s (one_more out)) in
-      (new ≡ posted (state_of a) s job) × IsBacked new × Leads (state_of a) (post s job) accepted new
+      (new ≡ posted (state_of a) s job) × IsBacked new × Leads (state_of a) (post s job) carried_out new
   after_post s next out job l at o room =
       let c : CoreState = state_of a in let out_is = out_read s out l o in let count_is = count_read s out l o in let most = out_within s l in
       let next_is : next ≡ next_cell c s = at ∙ ap (λ (z : JobsOut). cell_of s (z.first + z.count)) out_is in
-      led (state_with a (set a.cells.items next (slot.Ready job)) a.hands.items (set a.outs.items s (one_more out))) (posted c s job) (post s job) accepted
+      led (state_with a (set a.cells.items next (slot.Ready job)) a.hands.items (set a.outs.items s (one_more out))) (posted c s job) (post s job) carried_out
       (cell_set a next (slot.Ready job) (ready job) a.hands.items (set a.outs.items s (one_more out)) refl
       ∙ ap (λ (i : ℕ). record c { cells = set c.cells i (ready job); outs = set c.outs s (one_more out) }) next_is
       ∙ ap (λ (z : JobsOut). record c { cells = set c.cells (next_cell c s) (ready job); outs = set c.outs s (one_more z) }) out_is)
@@ -150,11 +150,11 @@ module _ (a : Inside) (is : IsCore a) where
   pub after_finish : (p i : ℕ) (d : Done) (hand left : List ℕ) → p < a.submitters + a.workers → cell_in (state_of a) i ≡ Some (hand_of p d) → hand ≡ get_or a.hands.items p hand
       → left ≡ filter (λ k. not (k == i)) hand
       → let new : CoreState = state_with a (set a.cells.items i (slot.Done d)) (set a.hands.items p left) a.outs.items in
-      (new ≡ finished (state_of a) p i d) × IsBacked new × Leads (state_of a) (finish p i d) accepted new
+      (new ≡ finished (state_of a) p i d) × IsBacked new × Leads (state_of a) (finish p i d) carried_out new
   after_finish p i d hand left lp is_held h shorter =
       let c : CoreState = state_of a in
       let li : i < SUBMITTER_CELLS * a.submitters = omega (arith, slice_get_within c.cells i (hand_of p d) is_held, (sizes_of a is).cells) in
-      led (state_with a (set a.cells.items i (slot.Done d)) (set a.hands.items p left) a.outs.items) (finished c p i d) (finish p i d) accepted
+      led (state_with a (set a.cells.items i (slot.Done d)) (set a.hands.items p left) a.outs.items) (finished c p i d) (finish p i d) carried_out
       (cell_set a i (slot.Done d) (done d) (set a.hands.items p left) a.outs.items refl
       ∙ ap (λ (t : List ℕ). record c { cells = set c.cells i (done d); hands = set c.hands p t }) (shorter ∙ ap (filter (λ k. not (k == i))) (hand_read p hand lp h)))
       refl refl (finishes_lead c (sizes_of a is) is.backed p i d lp li is_held)
@@ -179,10 +179,10 @@ module _ (a : Inside) (is : IsCore a) where
   pub after_collect : (s at : ℕ) (out : JobsOut) (d : Done) (x y : Slot) → s < a.submitters → at ≡ cell_of s out.first → out ≡ get_or a.outs.items s out
       → out.count ≢ 0 → x ≡ get_or a.cells.items at x → x ≡ slot.Done d → y ≡ slot.Free
       → let new : CoreState = state_with a (set a.cells.items at y) a.hands.items (set a.outs.items s (one_less out)) in
-      (new ≡ handed_out (state_of a) s) × IsBacked new × Leads (state_of a) (collect s) (collected d) new
+      (new ≡ with_result_collected (state_of a) s) × IsBacked new × Leads (state_of a) (collect s) (collected d) new
   after_collect s at out d x y l here o some_out e is_done is_free =
       let c : CoreState = state_of a in let out_is = out_read s out l o in let count_is = count_read s out l o in let same = first_at s at out l here o in
-      led (state_with a (set a.cells.items at y) a.hands.items (set a.outs.items s (one_less out))) (handed_out c s) (collect s) (collected d)
+      led (state_with a (set a.cells.items at y) a.hands.items (set a.outs.items s (one_less out))) (with_result_collected c s) (collect s) (collected d)
       (cell_set a at y free a.hands.items (set a.outs.items s (one_less out)) (ap cell_shown is_free)
       ∙ ap (λ (i : ℕ). record c { cells = set c.cells i free; outs = set c.outs s (one_less out) }) same
       ∙ ap (λ (z : JobsOut). record c { cells = set c.cells (first_cell c s) free; outs = set c.outs s (one_less z) }) out_is)

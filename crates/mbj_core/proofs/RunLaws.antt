@@ -10,7 +10,7 @@ use Rattle.mbj_core.specs.declared.party.View.{View}
 use Rattle.mbj_core.specs.Cells.{Cell, free, done, hand_of}
 use Rattle.mbj_core.specs.Parties.{FrontState, new_front, with_hand}
 use Rattle.mbj_core.specs.Lawful.{Lawful}
-use Rattle.mbj_core.specs.Events.{Event, post, claim, finish, collect, Answer, accepted, returned, claimed, collected, nothing, Changes, Step}
+use Rattle.mbj_core.specs.Events.{Event, post, claim, finish, collect, Answer, carried_out, returned, claimed, collected, nothing, Changes, Step}
 use Rattle.mbj_core.specs.Runs.{Run, posted_by, collected_by}
 use Rattle.mbj_core.proofs.Hands.{not_in_hand}
 use Rattle.mbj_core.proofs.Fitting.{rest_open, rest_take, lawful}
@@ -50,7 +50,7 @@ module _ {J D : Type 0} (owed : J → D) (submitters workers : ℕ) where
   -- an event adds to what is due and handed out to q
   step_adds : (q : ℕ) (f g : FrontState J D) (e : Event J D) (a : Answer J D) → Step owed submitters workers f e a g → Sound owed submitters workers f
       → Adds (f.seats q) (g.seats q) (posted_by owed q e a) (collected_by owed q e a)
-  step_adds q f g (post s j) accepted step ok = let ch = step.2 in dite (ℕ_discrete q s)
+  step_adds q f g (post s j) carried_out step ok = let ch = step.2 in dite (ℕ_discrete q s)
       (λ e. subst (λ (l : List D). Adds (f.seats q) (g.seats q) l []) (sym (if_same q s (owed j ∷ []) e))
       (subst (λ (r : ℕ). Adds (f.seats r) (g.seats r) (owed j ∷ []) []) (sym e)
       (let v : View D = f.seats s in let due : (g.seats s).due ≡ v.due ++ owed j ∷ [] = ap (λ (y : View D). y.due) ch.party in
@@ -63,10 +63,10 @@ module _ {J D : Type 0} (owed : J → D) (submitters workers : ℕ) where
   step_adds q f g (post s j) nothing step ok = absurd step
   step_adds q f g (claim p c) (claimed j) step ok = keeps f g c (hand_of p (owed j)) p (with_hand (f.seats p) ((f.seats p).hand ++ (c, owed j) ∷ [])) q step.3 refl refl
   step_adds q f g (claim p c) nothing step ok = stands f g q step.3
-  step_adds q f g (claim p c) accepted step ok = absurd step
+  step_adds q f g (claim p c) carried_out step ok = absurd step
   step_adds q f g (claim p c) (returned i) step ok = absurd step
   step_adds q f g (claim p c) (collected d) step ok = absurd step
-  step_adds q f g (finish p c d) accepted step ok = keeps f g c (done d) p (with_hand (f.seats p) step.1.0) q step.1.2 refl refl
+  step_adds q f g (finish p c d) carried_out step ok = keeps f g c (done d) p (with_hand (f.seats p) step.1.0) q step.1.2 refl refl
   step_adds q f g (finish p c d) (returned i) step ok = absurd step
   step_adds q f g (finish p c d) (claimed i) step ok = absurd step
   step_adds q f g (finish p c d) (collected e) step ok = absurd step
@@ -80,7 +80,7 @@ module _ {J D : Type 0} (owed : J → D) (submitters workers : ℕ) where
       (λ ne. subst (λ (l : List D). Adds (f.seats q) (g.seats q) [] l) (sym (if_other q s (d ∷ []) ne))
       (let same = ch.other_parties q ne in adds_nothing (f.seats q) (g.seats q) (ap (λ (y : View D). y.due) same) (ap (λ (y : View D). y.handed) same)))
   step_adds q f g (collect s) nothing step ok = stands f g q step.2
-  step_adds q f g (collect s) accepted step ok = absurd step
+  step_adds q f g (collect s) carried_out step ok = absurd step
   step_adds q f g (collect s) (returned i) step ok = absurd step
   step_adds q f g (collect s) (claimed i) step ok = absurd step
 

@@ -6,7 +6,7 @@ use Rattle.mbj_core.specs.declared.party.Phase.TheVariants.{Rest}
 use Rattle.mbj_core.specs.Cells.{Cell, free, ready, done, hand_of, cell_of}
 use Rattle.mbj_core.specs.Parties.{view, front, FrontState, with_due, with_handed, with_hand}
 use Rattle.mbj_core.specs.Lawful.{Lawful}
-use Rattle.mbj_core.specs.Events.{Event, post, claim, finish, collect, Answer, accepted, returned, claimed, collected, nothing, Changes, Step}
+use Rattle.mbj_core.specs.Events.{Event, post, claim, finish, collect, Answer, carried_out, returned, claimed, collected, nothing, Changes, Step}
 use Rattle.mbj_core.proofs.Puts.{put, at_put, put_here, put_else}
 use Rattle.mbj_core.proofs.Hands.{claims, finishes}
 use Rattle.mbj_core.proofs.Posts.{posts, collects}
@@ -47,7 +47,7 @@ module _ {J D : Type 0} (owed : J → D) (submitters workers : ℕ) where
   )
 
   pub step_sound : (f g : FrontState J D) (e : Event J D) (a : Answer J D) → Step owed submitters workers f e a g → Sound f → Sound g
-  step_sound f g (post s j) accepted step ok =
+  step_sound f g (post s j) carried_out step ok =
       let v : View D = f.seats s in
       changed f g (cell_of s (length v.due)) (ready j) s (with_due v (v.due ++ owed j ∷ [])) (view v.number Rest (v.due ++ owed j ∷ []) v.handed v.hand v.looks) step.2
       (ap (λ st. view v.number st (v.due ++ owed j ∷ []) v.handed v.hand v.looks) (sym (ok.0 s))) (ok.0 s) ok.0
@@ -60,10 +60,10 @@ module _ {J D : Type 0} (owed : J → D) (submitters workers : ℕ) where
       let v : View D = f.seats p in let w : View D = with_hand v (v.hand ++ (c, owed j) ∷ []) in
       changed f g c (hand_of p (owed j)) p w w step.3 refl (ok.0 p) ok.0 (claims owed submitters workers f c p j v.looks ok.1 step.0 step.1 step.2)
   step_sound f g (claim p c) nothing step ok = subst Sound (sym step.3) ok
-  step_sound f g (claim p c) accepted step ok = absurd step
+  step_sound f g (claim p c) carried_out step ok = absurd step
   step_sound f g (claim p c) (returned i) step ok = absurd step
   step_sound f g (claim p c) (collected d) step ok = absurd step
-  step_sound f g (finish p c d) accepted step ok =
+  step_sound f g (finish p c d) carried_out step ok =
       let v : View D = f.seats p in let w : View D = with_hand v step.1.0 in
       changed f g c (done d) p w w step.1.2 refl (ok.0 p) ok.0 (finishes owed submitters workers f c p d step.1.0 v.looks ok.1 step.0 step.1.1)
   step_sound f g (finish p c d) (returned i) step ok = absurd step
@@ -76,6 +76,6 @@ module _ {J D : Type 0} (owed : J → D) (submitters workers : ℕ) where
       (ap (λ st. view v.number st v.due (v.handed + 1) v.hand v.looks) (sym (ok.0 s))) (ok.0 s) ok.0
       (collects owed submitters workers f s d v.looks ok.1 step.0 (ok.0 s) step.1).1
   step_sound f g (collect s) nothing step ok = subst Sound (sym step.2) ok
-  step_sound f g (collect s) accepted step ok = absurd step
+  step_sound f g (collect s) carried_out step ok = absurd step
   step_sound f g (collect s) (returned i) step ok = absurd step
   step_sound f g (collect s) (claimed i) step ok = absurd step

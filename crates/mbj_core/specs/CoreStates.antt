@@ -81,8 +81,8 @@ finished c p i d = record c {
 }
 
 -- the submitter s has collected its earliest result
-abbrev pub handed_out : CoreState → ℕ → CoreState
-handed_out c s = record c {
+abbrev pub with_result_collected : CoreState → ℕ → CoreState
+with_result_collected c s = record c {
   cells = set c.cells (first_cell c s) free;
   outs = set c.outs s (record { first = ((jobs_out c s).first + 1) % SUBMITTER_CELLS; count = out_of c s - 1 });
 }

@@ -17,7 +17,7 @@ pub data Event (J D : Type 0) : Type 0 where
 
 pub data Answer (J D : Type 0) : Type 0 where
   -- it is done
-  accepted : Answer J D
+  carried_out : Answer J D
   -- the job that was to be posted comes back
   returned : J → Answer J D
   -- the job that was claimed
@@ -44,7 +44,7 @@ module _ {J D : Type 0} (owed : J → D) (submitters workers : ℕ) where
   -- The event leads from f to g with this answer, where `owed` gives the result of a job.
   abbrev pub Step : FrontState J D → Event J D → Answer J D → FrontState J D → Type 0
   -- fewer than SUBMITTER_CELLS of s are out: its next number's cell gets the job
-  Step f (post s j) accepted g =
+  Step f (post s j) carried_out g =
       let v = f.seats s in
       (s < submitters) × (length v.due < v.handed + SUBMITTER_CELLS)
       × Changes f g (cell_of s (length v.due)) (ready j) s (with_due v (v.due ++ owed j ∷ []))
@@ -60,7 +60,7 @@ module _ {J D : Type 0} (owed : J → D) (submitters workers : ℕ) where
   Step f (claim p c) nothing g =
       (p < submitters + workers) × (c < SUBMITTER_CELLS * submitters) × ((j : J) → f.cells c ≢ ready j) × (g ≡ f)
   -- c is in the hand of p with this result: it leaves the hand
-  Step f (finish p c d) accepted g =
+  Step f (finish p c d) carried_out g =
       let v = f.seats p in
       (p < submitters + workers)
       × ((hand : List (ℕ × D)) × Leaves v.hand c d hand × Changes f g c (done d) p (with_hand v hand))

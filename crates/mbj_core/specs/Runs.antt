@@ -3,7 +3,7 @@ use Rattle.std.specs.Prelude.{◌≡◌, ℕ, List, [], ◌∷◌, take, if◌th
 use Rattle.std.specs.List.{flat_map}
 use Rattle.mbj_core.specs.Parties.{FrontState, new_front}
 use Rattle.mbj_core.specs.Lawful.{Lawful}
-use Rattle.mbj_core.specs.Events.{Event, post, collect, Answer, accepted, collected, Step}
+use Rattle.mbj_core.specs.Events.{Event, post, collect, Answer, carried_out, collected, Step}
 
 module _ {J D : Type 0} (owed : J → D) where
   -- the events lead from f to g, each with its answer
@@ -14,7 +14,7 @@ module _ {J D : Type 0} (owed : J → D) where
 
   -- the result that a post of the submitter s adds to those that it is due
   abbrev pub posted_by : ℕ → Event J D → Answer J D → List D
-  posted_by s (post t j) accepted = if s == t then owed j ∷ [] else []
+  posted_by s (post t j) carried_out = if s == t then owed j ∷ [] else []
   posted_by s e a = []
 
   -- the result that a collect of the submitter s gives

@@ -10,7 +10,7 @@ use std::alloc::{AllocError, Global};
 use std::mem;
 
 /// How many cells a submitter has.
-pub const SUBMITTER_CELLS: u32 = 256;
+pub const SUBMITTER_CELLS: u32 = 512;
 
 /// The most submitters that a front has.
 pub const MAX_SUBMITTERS: u32 = 16;
@@ -18,9 +18,9 @@ pub const MAX_SUBMITTERS: u32 = 16;
 /// The most workers that a front has.
 pub const MAX_WORKERS: u32 = 16;
 
-/// A law: a submitter has 256 cells, and a front at most 16 submitters and 16 workers.
+/// A law: a submitter has this many cells, and a front at most this many submitters and workers.
 pub fn the_front_has_these_limits()
-    ensures cells { SUBMITTER_CELLS ≡ 256 }
+    ensures cells { SUBMITTER_CELLS ≡ 512 }
     ensures submitters { MAX_SUBMITTERS ≡ 16 }
     ensures workers { MAX_WORKERS ≡ 16 }
 {}

@@ -6,9 +6,9 @@ ghost use Rattle.mbj_types.specs.declared.done.Done.{Done};
 ghost use Rattle.mbj_core.specs.declared.cells.TheConstants.{MAX_SUBMITTERS, MAX_WORKERS, SUBMITTER_CELLS};
 ghost use Rattle.mbj_core.specs.Parties.{FrontState, new_front};
 ghost use Rattle.mbj_core.specs.Lawful.{Lawful};
-ghost use Rattle.mbj_core.specs.Events.{post, finish, collect, accepted};
+ghost use Rattle.mbj_core.specs.Events.{post, finish, collect, carried_out};
 ghost use Rattle.mbj_core.specs.Answers.{post_answer, collect_answer};
-ghost use Rattle.mbj_core.specs.CoreStates.{new_core, out_of, first_cell, HasJob, HasHand, HasResult, posted, finished, handed_out};
+ghost use Rattle.mbj_core.specs.CoreStates.{new_core, out_of, first_cell, HasJob, HasHand, HasResult, posted, finished, with_result_collected};
 ghost use Rattle.mbj_core.specs.Stands.{StandsFor, Leads, IsBacked};
 
 use crate::cells::{SUBMITTER_CELLS, Slot, cell_at, free_cells};
@@ -162,7 +162,7 @@ impl Core {
         requires party { p < self.old.submitters + self.old.workers }
         requires held { HasHand self.old cell p done }
         ensures finished { self.new ≡ finished self.old p cell done }
-        ensures leads { Leads self.old (finish p cell done) accepted self.new }
+        ensures leads { Leads self.old (finish p cell done) carried_out self.new }
     {
         self.hands[p as usize].take_out(cell);
         self.cells[cell as usize].put(Slot::Done(done));
@@ -176,7 +176,7 @@ impl Core {
         ensures done { IfSome result (λ d. HasResult self.old (first_cell self.old s) d) }
         ensures none { IfNone result
             ((out_of self.old s ≡ 0) ⊎ ((d : Done) → ¬ HasResult self.old (first_cell self.old s) d)) }
-        ensures collected { MatchOption result (self.new ≡ self.old) (λ _. self.new ≡ handed_out self.old s) }
+        ensures collected { MatchOption result (self.new ≡ self.old) (λ _. self.new ≡ with_result_collected self.old s) }
         ensures leads { Leads self.old (collect s) (collect_answer result) self.new }
     {
         let submitter = s as usize;
