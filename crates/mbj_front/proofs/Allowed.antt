@@ -3,7 +3,6 @@ use Rattle.std.proofs.Common.{◌≡◌, ℕ, ◌+◌, ◌-◌, ◌*◌, ◌<◌
 use Rattle.std.specs.Prelude.{slice_get}
 use mathlib.Core.Option.{none, some}
 use lib.ListN.{get_elem?}
-use lib.Seq.{set-get_or}
 use prog.Atomic.{either}
 use Rattle.atomic_table.specs.Table.{State, Act, keeps, takes, gives, Valid, stepped, carried_after, step, Allows}
 use Rattle.atomic_table.proofs.Lists.{exchanged}
@@ -24,9 +23,11 @@ use Rattle.mbj_front.specs.declared.place.Place.{Place}
 use Rattle.mbj_front.specs.Rule.{home_of, place, Shows, Rule}
 use Rattle.mbj_front.specs.Views.{after_look, after_claim, after_finish, after_publish, after_take, at_phase}
 use Rattle.mbj_front.specs.Moves.{opening, publishing, claiming, finishing, taking, freeing, looking, Move, Moves, Led}
+use Rattle.mbj_front.specs.Looks.{StepsBy}
 use Rattle.mbj_front.specs.Inside.Plays.{Mine, LookTells, ClaimTells, FinishTells, OpenTells, PublishTells, TakeTells, FreeTells}
 use Rattle.mbj_front.proofs.Shown.{table, seated, shows_view, shows_cell}
 use Rattle.mbj_front.proofs.MoveLaws.{last_cell, after, keeps_law, finds_cell, led}
+use Rattle.mbj_front.proofs.Looked.{shows_step, looked, claimed, taken_at}
 
 module _ {D : Type 0} where
   abbrev first_result : D → List (ℕ × D) → D
@@ -41,14 +42,6 @@ module _ {D : Type 0} where
   same_first c d e a b h = (ap (first_result d) h, ap others h)
 
 module _ {J D : Type 0} where
-  ready_there : (y : Cell J D) → word_of y ≡ 1 → (j : J) × Is (ready j) y
-  ready_there free e = absurd (omega arith)
-  ready_there (ready j) e = (j, refl)
-  ready_there (done d) e = absurd (omega arith)
-  ready_there (open_by p) e = absurd (omega arith)
-  ready_there (hand_of p d) e = absurd (omega arith)
-  ready_there (take_by p) e = absurd (omega arith)
-
   abbrev job_in : J → List (ℕ × Slot J D) → J
   job_in j [] = j
   job_in j (x ∷ xs) = of_slot j x.1
@@ -78,22 +71,23 @@ module _ {J D : Type 0} (owed : J → D) (S W : ℕ) where
   -- one cell and one part change
   shows_both : (s : St) (f : FrontState J D) (p c new : ℕ) (x : Cell J D) (w : View D) (h : Shows S W s f) → p < h.cut → c < SUBMITTER_CELLS * S → new ≡ word_of x → w.number ≡ p
       → Lawful owed S W (after f c x p w) → Rule owed S W (table (set s.words c new) (set s.homes c (home_of x)) (set s.views (p + 1) (place S W w)))
-  shows_both s f p c new x w h cut less is num law = subst (λ (n : ℕ). Rule owed S W (table (set s.words c n) (set s.homes c (home_of x)) (set s.views (p + 1) (place S W w)))) (sym is)
-      (after f c x p w, shows_cell S W (table s.words s.homes (set s.views (p + 1) (place S W w))) (front f.cells (put f.seats p w)) c x (shows_view S W s f p w h cut num) less, law)
+  shows_both s f p c new x w h cut less is num law = (after f c x p w, shows_step owed S W s f p c new x w h cut less is num, law)
+
+  -- a step that leads by a move keeps the rule
+  keeps_rule : (s : St) (f : FrontState J D) (p c : ℕ) (held : List (ℕ × Slot J D)) (move : Move J D) (word : ℕ) (act : Act (Slot J D)) (v : View D)
+      → (by : StepsBy owed S W s f p c held move word act v) → Lawful owed S W f → Rule owed S W (stepped s c word (p + 1) held (place S W v) act)
+  keeps_rule s f p c held move word act v by law = (by.after, by.shows, keeps_law owed S W p move f by.after law by.moves)
 
   -- a load, or a compare-exchange that failed
   looks_on : (s : St) (f : FrontState J D) (p c slots a b : ℕ) (carried : List (ℕ × Slot J D)) (h : Shows S W s f) → Lawful owed S W f → p < h.cut → c < SUBMITTER_CELLS * S
       → Goes s (p + 1) (place S W (f.seats p), carried) c (get_or s.words c 0) (λ m n. LookTells owed (step slots c a b none) m (get_or s.words c 0) n)
-  looks_on s f p c slots a b carried h law cut less = let r : ℕ = get_or s.words c 0 in let v : View D = f.seats p in let w : View D = after_look v c r in let lp : p < S + W = omega (arith, h.few) in
-      let g : FrontState J D = front f.cells (put f.seats p w) in
-      let mv : Moves owed S W f p (looking c r) g
-      = (lp, less, sym (h.each_word c less), record { cell = refl; other_cells = λ i ne. refl; party = put_here f.seats p w; other_parties = λ q ne. put_else f.seats p q w ne }) in (
+  looks_on s f p c slots a b carried h law cut less = let r : ℕ = get_or s.words c 0 in let w : View D = after_look (f.seats p) c r in
+      let by = looked owed S W s f p c carried h cut less in (
         place S W w,
         keeps,
-        tt,
-        subst (λ (ws : List ℕ). Rule owed S W (table ws s.homes (set s.views (p + 1) (place S W w)))) (sym (set-get_or s.words c 0))
-            (g, shows_view S W s f p w h cut (h.each_number p), keeps_law owed S W p (looking c r) f g law mv),
-        (refl, led owed S W f g p w (looking c r) law (h.each_number p) (put_here f.seats p w) mv),
+        by.valid,
+        keeps_rule s f p c carried (looking c r) r keeps w by law,
+        (refl, led owed S W f by.after p w (looking c r) law (h.each_number p) by.moves.3.party by.moves),
       )
 
   pub scans : (slots id c : ℕ) (m : Mine J D) → m.0.root ≡ false → c < SUBMITTER_CELLS * m.0.submitters → Allows (Rule owed S W) slots id m c (λ n. n) (LookTells owed (step slots c 0 0 none) m)
@@ -108,15 +102,15 @@ module _ {J D : Type 0} (owed : J → D) (S W : ℕ) where
       at_place s f id m c (either (eqb r 1) new r) then (λ x. (c < SUBMITTER_CELLS * x.submitters) × (new ≡ 4 + 3 * x.view.number)) h at live (less, is)
       (λ p cut pre. exchanged r 1 new (λ z. Goes s (p + 1) (place S W (f.seats p), m.1) c z then)
       (λ hit.
-      let num = h.each_number p in let v : View D = f.seats p in let lp : p < S + W = omega (arith, h.few) in
-      let job = ready_there (f.cells c) (sym (h.each_word c pre.0) ∙ hit) in let j = job.0 in let x : Cell J D = hand_of p (owed j) in let w : View D = after_claim v c (owed j) in
-      let g : FrontState J D = after f c x p w in let move : Move J D = claiming c j in
-      let mv : Moves owed S W f p move g = (lp, pre.0, job.1, put_changes f c x p w) in (
+      let claim = (claimed owed S W s f p c m.1 h cut pre.0).ready hit in let j = claim.0 in let by = claim.1 in
+      let w : View D = after_claim (f.seats p) c (owed j) in let word : ℕ = 4 + 3 * p in
+      let is : word ≡ new = sym (pre.1 ∙ ap (λ (q : ℕ). 4 + 3 * q) (h.each_number p)) in (
         place S W w,
         takes c (Task j),
-        h.each_home c pre.0 ∙ ap (λ (y : Cell J D). some (home_of y)) job.1,
-        shows_both s f p c new x w h cut pre.0 (pre.1 ∙ ap (λ (q : ℕ). 4 + 3 * q) num) num (keeps_law owed S W p move f g law mv),
-        ((λ _. (j, (refl, led owed S W f g p w move law num (put_here f.seats p w) mv))), λ ne. absurd (ne hit)),
+        by.valid,
+        subst (λ (n : ℕ). Rule owed S W (stepped s c n (p + 1) m.1 (place S W w) (takes c (Task j)))) is
+            (keeps_rule s f p c m.1 (claiming c j) word (takes c (Task j)) w by law),
+        ((λ _. (j, (refl, led owed S W f by.after p w (claiming c j) law (h.each_number p) by.moves.3.party by.moves))), λ ne. absurd (ne hit)),
       ))
       (λ miss. let look = looks_on s f p c slots 1 new m.1 h law cut pre.0 in (look.0, look.1, look.2, look.3, ((λ e. absurd (miss e)), λ _. look.4))))
 
@@ -205,16 +199,14 @@ module _ {J D : Type 0} (owed : J → D) (S W : ℕ) where
       let inner : c < SUBMITTER_CELLS * S = subst (λ (k : ℕ). k < SUBMITTER_CELLS * S) here (near S p v.handed ls) in
       exchanged r 2 new (λ z. Goes s (p + 1) (place S W (f.seats p), m.1) c z then)
       (λ hit.
-      let fits = each_number owed S W f law p v.handed ls (omega arith) (omega arith) in
-      let found = done_there owed v p (f.cells (cell_of p v.handed)) fits (ap (λ (k : ℕ). word_of (f.cells k)) here ∙ sym (h.each_word c inner) ∙ hit) in let d = found.0 in
-      let g : FrontState J D = after f c x p w in let move : Move J D = taking d in
-      let mv : Moves owed S W f p move g
-      = subst (λ (k : ℕ). Moves owed S W f p move (after f k x p (after_take v k))) here (ls, pre.3, pre.4, found.1, put_changes f (cell_of p v.handed) x p (after_take v (cell_of p v.handed))) in (
+      let take = (taken_at owed S W s f p c m.1 h law cut ls pre.3 pre.4 here).done hit in let d = take.0 in let by = take.1 in
+      let word : ℕ = 5 + 3 * p in let is : word ≡ new = sym (pre.2 ∙ ap (λ (q : ℕ). 5 + 3 * q) num) in (
         place S W w,
         takes c (Made d),
-        h.each_home c inner ∙ ap (λ (y : Cell J D). some (home_of y)) (ap f.cells (sym here) ∙ found.1),
-        shows_both s f p c new x w h cut inner (pre.2 ∙ ap (λ (q : ℕ). 5 + 3 * q) num) num (keeps_law owed S W p move f g law mv),
-        ((λ _. (d, found.2, (refl, led owed S W f g p w move law num (put_here f.seats p w) mv))), λ ne. absurd (ne hit)),
+        by.valid,
+        subst (λ (n : ℕ). Rule owed S W (stepped s c n (p + 1) m.1 (place S W w) (takes c (Made d)))) is
+            (keeps_rule s f p c m.1 (taking d) word (takes c (Made d)) w by law),
+        ((λ _. (d, (finds_cell owed S W p (taking d) f by.after law by.moves).1, (refl, led owed S W f by.after p w (taking d) law num (by.moves.4.party ∙ ap (after_take v) here) by.moves))), λ ne. absurd (ne hit)),
       ))
       (λ miss. let look = looks_on s f p c slots 2 new m.1 h law cut inner in (look.0, look.1, look.2, look.3, ((λ e. absurd (miss e)), λ _. look.4))))
 

@@ -1,6 +1,7 @@
 pub mod Shown
 pub mod Slots
 pub mod MoveLaws
+pub mod Looked
 pub mod Allowed
 pub mod Cutting
 pub mod Kept

@@ -7,7 +7,7 @@ use Rattle.mbj_core.specs.declared.party.Phase.TheVariants.{Rest, Opening, Empty
 use Rattle.mbj_core.specs.Cells.{free, ready, done, open_by, hand_of, take_by, word_of, cell_of}
 use Rattle.mbj_core.specs.Parties.{FrontState}
 use Rattle.mbj_core.specs.Lawful.{Lawful}
-use Rattle.mbj_core.specs.Events.{post, claim, finish, collect, accepted, claimed, collected, Leaves, Changes, Step}
+use Rattle.mbj_core.specs.Events.{post, claim, finish, collect, carried_out, claimed, collected, Leaves, Changes, Step}
 use Rattle.mbj_front.specs.Views.{after_look, after_claim, after_finish, after_publish, after_take, at_phase}
 
 pub data Move (J D : Type 0) : Type 0 where
@@ -71,9 +71,9 @@ module _ {J D : Type 0} (owed : J → D) (submitters workers : ℕ) where
 
   -- what the step is to the core, where the state f leads to g
   abbrev pub CoreSees : FrontState J D → ℕ → Move J D → FrontState J D → Type 0
-  CoreSees f p (publishing j) g = Step owed submitters workers f (post p j) accepted g
+  CoreSees f p (publishing j) g = Step owed submitters workers f (post p j) carried_out g
   CoreSees f p (claiming c j) g = Step owed submitters workers f (claim p c) (claimed j) g
-  CoreSees f p (finishing c d) g = Step owed submitters workers f (finish p c d) accepted g
+  CoreSees f p (finishing c d) g = Step owed submitters workers f (finish p c d) carried_out g
   CoreSees f p (taking d) g = Step owed submitters workers f (collect p) (collected d) g
   CoreSees f p opening g = g ≡ f
   CoreSees f p freeing g = g ≡ f

@@ -1,11 +1,15 @@
 -- What contracts see of a front and of a seat.
-use Rattle.std.specs.Prelude.{◌≡◌, ℕ, ◌*◌, ◌<◌, List, ◌∷◌, slice_get, Some}
+use Rattle.std.specs.Prelude.{◌≡◌, ◌↔◌, ℕ, ◌*◌, ◌<◌, List, ◌∷◌, slice_get, Some}
+use Rattle.atomic_table.specs.Table.{State}
 use Rattle.mbj_core.specs.declared.cells.TheConstants.{SUBMITTER_CELLS}
 use Rattle.mbj_core.specs.declared.party.View.{View}
 use Rattle.mbj_core.specs.Parties.{new_party}
 use Rattle.mbj_front.specs.declared.seat.PartySeat.{PartySeat}
 use Rattle.mbj_front.specs.declared.front.SharedFront.{SharedFront}
+use Rattle.mbj_front.specs.declared.slot.Slot.{Slot}
+use Rattle.mbj_front.specs.declared.place.Place.{Place}
 use Rattle.mbj_front.specs.Moves.{Move, Led}
+use Rattle.mbj_front.specs.Rule.{Rule}
 
 -- the first cell of the hand, with its job's result
 abbrev pub IsFirst : {D : Type 0} → ℕ → D → List (ℕ × D) → Type 0
@@ -22,6 +26,10 @@ module _ {J D : Type 0} where
   -- the seat's party made this one step
   abbrev pub Did : (J → D) → PartySeat J D → Move J D → PartySeat J D → Type 0
   Did owed old move new = Led owed old.inner.me.0.submitters old.inner.me.0.workers (view_of old) move (view_of new)
+
+-- what holds of a table is the rule of so many submitters and workers
+abbrev pub HasRule : {J D : Type 0} → (J → D) → ℕ → ℕ → (State (Slot J D) (Place D) → Type 0) → Type 0
+HasRule {J} {D} owed submitters workers holds = (table : State (Slot J D) (Place D)) → holds table ↔ Rule owed submitters workers table
 
 module _ {J D R : Type 0} where
   -- how many parties and cells there are

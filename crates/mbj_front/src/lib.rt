@@ -23,7 +23,8 @@ mod working;
 
 pub use front::SharedFront;
 pub use laws::{
-    cuts_keep_the_rule, new_fronts_are_empty, steps_are_events_of_the_core, steps_find_their_cell,
+    a_front_keeps_its_own_rule, a_seat_is_a_partys, cuts_keep_the_rule, looks_find_the_word,
+    new_fronts_are_empty, steps_are_events_of_the_core, steps_find_their_cell,
     steps_keep_the_front_lawful, the_core_sees_lawful_states,
 };
 pub use results::Results;
