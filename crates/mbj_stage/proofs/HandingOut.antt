@@ -23,8 +23,9 @@ use Rattle.mbj_stage.specs.declared.stage.Stage.TheVariants as stage
 use Rattle.mbj_stage.specs.declared.stage.Step.{Step}
 use Rattle.mbj_stage.specs.declared.stage.Step.TheVariants as step
 use Rattle.mbj_stage.specs.Families.{cbc_lanes, cbc_stage, cmac_lanes, cmac_stage}
-use Rattle.mbj_stage.specs.Steps.{IsFirst, auth_stage_by, cbc_kind, stage_at, step_of}
-use Rattle.mbj_stage.specs.Going.{IsSound, packet_length, owed}
+use Rattle.mbj_stage.specs.Steps.{auth_stage_by, cbc_kind, stage_at, step_of}
+use Rattle.mbj_stage.specs.Inside.Kept.{IsNextStep, IsSound, packet_length}
+use Rattle.mbj_stage.specs.CourseState.{owed}
 use Rattle.mbj_stage.specs.Handing.{End, owed_with}
 use Rattle.mbj_stage.proofs.Handings.{going, owes-text, owes-mac}
 use Rattle.mbj_stage.proofs.Lengths.{length-ciphered}
@@ -35,7 +36,7 @@ use Rattle.mbj_stage.proofs.StagesOf.{auth-first, cipher-first, cipher-lane, cma
 
 -- with a packet out that is ciphered
 pub text-out : (j : Job) (p q tag : List ℕ) (reason : Option Reason) (left : List Step) (out : Option ℕ) (m : ℕ) (e : End) → q ≡ [] → m ≡ length p
-    → IsFirst step.Cipher left → e.packet ≡ ciphered j p
+    → IsNextStep step.Cipher left → e.packet ≡ ciphered j p
     → owed_with e (going j q tag reason left (Some m)) ≡ owed (going j p tag reason left out)
 unfolding owed
 text-out j p q tag reason left out m e none len first is =
@@ -44,7 +45,7 @@ text-out j p q tag reason left out m e none len first is =
 
 -- with a packet out that is authenticated
 pub mac-out : (j : Job) (p q tag : List ℕ) (reason : Option Reason) (left : List Step) (out : Option ℕ) (m : ℕ) (e : End) → q ≡ [] → m ≡ length p
-    → IsFirst step.Auth left → e.packet ≡ p → e.mac ≡ mac_by (class_of j.auth) j p
+    → IsNextStep step.Auth left → e.packet ≡ p → e.mac ≡ mac_by (class_of j.auth) j p
     → owed_with e (going j q tag reason left (Some m)) ≡ owed (going j p tag reason left out)
 unfolding owed
 mac-out j p q tag reason left out m e none len first is mac =
@@ -76,7 +77,7 @@ cbc-rounds key n (inr (inr a)) (inr (inr b)) h = omega arith
 -- ---- a course whose next stage is CBC encryption with keys of n rounds
 
 pub record IsCbcNext (j : Job) (p : List ℕ) (left : List Step) (n : ℕ) : Type 0 where
-  pub first : IsFirst step.Cipher left
+  pub first : IsNextStep step.Cipher left
   pub cbc : j.cipher ≡ cipher.Cbc
   pub enc : j.dir ≡ Enc
   pub rounds : round_count j.key ≡ n
@@ -96,7 +97,7 @@ pub cbc-next : (j : Job) (p : List ℕ) (left : List Step) (out : Option ℕ) (n
     → stage_at (record j { packet = p }) left ≡ cbc_stage n → IsCbcNext j p left n
 cbc-next j p left out n count sound here next =
     let at : stage_at j left ≡ cbc_stage n = sym (stage-packet j p left) ∙ next in
-    let first = subst (λ (s : Step). IsFirst s left) (cbc-kinds n) (first-step j left _ at) in
+    let first = subst (λ (s : Step). IsNextStep s left) (cbc-kinds n) (first-step j left _ at) in
     let lane = sym (cipher-first j left first) ∙ at in
     let is = cipher-lane j.cipher j.dir (length j.key) _ lane in
     let none = here-accepted j p left out sound here (first-some step.Cipher left first) in
@@ -112,13 +113,13 @@ cbc-next j p left out n count sound here next =
 -- ---- a course whose next stage is HMAC
 
 pub hmac-accepted : (j : Job) (p : List ℕ) (left : List Step) (out : Option ℕ) → IsSound j p left out → out ≡ None
-    → IsFirst step.Auth left → verdict_at j (length p) ≡ None
+    → IsNextStep step.Auth left → verdict_at j (length p) ≡ None
 hmac-accepted j p left out sound here first = here-accepted j p left out sound here (first-some step.Auth left first)
 
 -- ---- a course whose next stage is CMAC with keys of n rounds
 
 pub record IsCmacNext (j : Job) (p : List ℕ) (left : List Step) (n : ℕ) : Type 0 where
-  pub first : IsFirst step.Auth left
+  pub first : IsNextStep step.Auth left
   pub cmac : IsCmac (class_of j.auth)
   pub rounds : round_count j.auth_key ≡ n
   pub accepted : verdict_at j (length p) ≡ None
@@ -143,7 +144,7 @@ pub cmac-next : (j : Job) (p : List ℕ) (left : List Step) (out : Option ℕ) (
     → stage_at (record j { packet = p }) left ≡ cmac_stage n → IsCmacNext j p left n
 cmac-next j p left out n count sound here next =
     let at : stage_at j left ≡ cmac_stage n = sym (stage-packet j p left) ∙ next in
-    let first = subst (λ (s : Step). IsFirst s left) (cmac-kinds n) (first-step j left _ at) in
+    let first = subst (λ (s : Step). IsNextStep s left) (cmac-kinds n) (first-step j left _ at) in
     let lane = sym (auth-first j left first) ∙ at in
     let none = here-accepted j p left out sound here (first-some step.Auth left first) in
     record {

@@ -20,7 +20,7 @@ use Rattle.mbj_stage.specs.declared.stage.Stage.TheVariants as stage
 use Rattle.mbj_stage.specs.declared.stage.Step.{Step}
 use Rattle.mbj_stage.specs.declared.stage.Step.TheVariants as step
 use Rattle.mbj_stage.specs.Steps.{cipher_steps, auth_steps, ordered, steps_of, steps_by, stage_at}
-use Rattle.mbj_stage.specs.Going.{Going, stage_of, begun, packet_after, tag_after, ran, ran_at, status_of, led_to, owed}
+use Rattle.mbj_stage.specs.CourseState.{CourseState, stage_of, begun, packet_after, tag_after, ran, ran_at, status_of, led_to, owed}
 use Rattle.mbj_stage.proofs.Gcms.{gcm_pair}
 use Rattle.mbj_stage.proofs.StagesOf.{finished-left}
 use Rattle.mbj_stage.proofs.Packets.{packet_after-packet, tag_after-packet, tag_over-packet}
@@ -104,13 +104,13 @@ owed-begun j = begun-led (verdict j) j refl
 
 -- ---- after a step
 
-led_to-ran : (c : Going) (left : List Step) → stage_at c.job left ≡ stage.Now
+led_to-ran : (c : CourseState) (left : List Step) → stage_at c.job left ≡ stage.Now
     → led_to (ran_at c left).reason (ran_at c left).left (ran_at c left).job (ran_at c left).tag ≡ led_to c.reason left c.job c.tag
 led_to-ran c [] h = absurd (cc)
 led_to-ran c (s ∷ left) h = refl
 
 -- doing the next step changes nothing of what is owed
-pub owed-ran : (c : Going) → stage_of c ≡ stage.Now → owed (ran c) ≡ owed c
+pub owed-ran : (c : CourseState) → stage_of c ≡ stage.Now → owed (ran c) ≡ owed c
 unfolding owed
 owed-ran c h = led_to-ran c c.left h
 
@@ -120,7 +120,7 @@ pub ran-step : (j : Job) (p q tag t : List ℕ) (reason : Option Reason) (s : St
     → record { job = record j { packet = q }; tag = t; reason = reason; left = left; out = out }
     ≡ ran (record { job = record j { packet = p }; tag = tag; reason = reason; left = all; out = out })
 ran-step j p q tag t reason s left all out is packet_is tag_is =
-    let next : List ℕ → List ℕ → Going = λ x y. record { job = record j { packet = x }; tag = y; reason = reason; left = left; out = out } in
+    let next : List ℕ → List ℕ → CourseState = λ x y. record { job = record j { packet = x }; tag = y; reason = reason; left = left; out = out } in
     ap₂ next (packet_is ∙ sym (packet_after-packet s j p p)) (tag_is ∙ sym (tag_after-packet s j p p tag))
     ∙ ap (λ (steps : List Step). ran (record { job = record j { packet = p }; tag = tag; reason = reason; left = steps; out = out })) (sym is)
 
@@ -131,7 +131,7 @@ led_to-finished : (reason : Option Reason) (j : Job) (tag : List ℕ) (left : Li
 led_to-finished reason j tag left h = ap (λ (steps : List Step). led_to reason steps j tag) (sym (finished-left j left h))
 
 -- where no step is left, what is owed is there
-pub owed-finished : (c : Going) → stage_of c ≡ stage.Finished
+pub owed-finished : (c : CourseState) → stage_of c ≡ stage.Finished
     → record { status = status_of c.reason; packet = c.job.packet; tag = c.tag } ≡ owed c
 unfolding owed
 owed-finished c h = led_to-finished c.reason c.job c.tag c.left h

@@ -13,7 +13,7 @@ use Rattle.mbj_types.specs.Verdict.{is_null_cipher}
 use Rattle.mbj_types.specs.Result.{cipher_range, with_cipher_range, gcm_of, ciphered, ciphered_by, mac_by, tag_over}
 use Rattle.mbj_stage.specs.declared.stage.Step.{Step}
 use Rattle.mbj_stage.specs.declared.stage.Step.TheVariants as step
-use Rattle.mbj_stage.specs.Going.{packet_after, tag_after}
+use Rattle.mbj_stage.specs.CourseState.{packet_after, tag_after}
 use Rattle.mbj_stage.specs.Inside.Texts.{other_text}
 
 -- ---- the cipher range

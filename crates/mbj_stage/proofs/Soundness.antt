@@ -14,9 +14,9 @@ use Rattle.mbj_types.specs.declared.class.AuthClass.TheVariants as class
 use Rattle.mbj_types.specs.Verdict.{verdict_at}
 use Rattle.mbj_stage.specs.declared.stage.Step.{Step}
 use Rattle.mbj_stage.specs.declared.stage.Step.TheVariants as step
-use Rattle.mbj_stage.specs.Steps.{cipher_steps, auth_steps, ordered, steps_of, steps_by, stage_at, IsStepOf}
+use Rattle.mbj_stage.specs.Steps.{cipher_steps, auth_steps, ordered, steps_of, steps_by, stage_at}
+use Rattle.mbj_stage.specs.Inside.Kept.{IsStepOf, packet_length, IsSound}
 use Rattle.mbj_stage.specs.declared.stage.Stage.TheVariants as stage
-use Rattle.mbj_stage.specs.Going.{packet_length, IsSound}
 
 -- the one step of a list is a job's where it is so
 own_one : (j : Job) (s : Step) → IsStepOf j s → All (IsStepOf j) (s ∷ [])

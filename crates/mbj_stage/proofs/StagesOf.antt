@@ -20,7 +20,8 @@ use Rattle.mbj_stage.specs.declared.stage.Stage.TheVariants as stage
 use Rattle.mbj_stage.specs.declared.stage.Step.{Step}
 use Rattle.mbj_stage.specs.declared.stage.Step.TheVariants as step
 use Rattle.mbj_stage.specs.Families.{cmac_lanes, cmac_stage}
-use Rattle.mbj_stage.specs.Steps.{IsFirst, auth_stage_by, cbc_kind, cipher_stage_by, stage_at, step_of}
+use Rattle.mbj_stage.specs.Steps.{auth_stage_by, cbc_kind, cipher_stage_by, stage_at, step_of}
+use Rattle.mbj_stage.specs.Inside.Kept.{IsNextStep}
 
 -- ---- the packet has no part in it
 
@@ -103,26 +104,26 @@ auth-step (class.Cmac key) k h = let e : cmac_kind key ≡ k = cc in cmac-step k
 auth-step class.Gcm k h = absurd (cc)
 
 -- where a stage in a kind's lanes is next, its step is the first
-pub first-step : (j : Job) (left : List Step) (k : Kind) → stage_at j left ≡ stage.Lane k → IsFirst (step_of k) left
+pub first-step : (j : Job) (left : List Step) (k : Kind) → stage_at j left ≡ stage.Lane k → IsNextStep (step_of k) left
 first-step j [] k h = absurd (cc)
 first-step j (step.Cipher ∷ left) k h = sym (cbc-step (length j.key)) ∙ ap step_of (cipher-lane j.cipher j.dir (length j.key) k h).kind
 first-step j (step.Auth ∷ left) k h = auth-step (class_of j.auth) k h
 first-step j (step.Gcm ∷ left) k h = absurd (cc)
 
 -- where the first step is the authentication, its stage is next
-pub auth-first : (j : Job) (left : List Step) → IsFirst step.Auth left → stage_at j left ≡ auth_stage_by (class_of j.auth)
+pub auth-first : (j : Job) (left : List Step) → IsNextStep step.Auth left → stage_at j left ≡ auth_stage_by (class_of j.auth)
 auth-first j [] h = absurd h
 auth-first j (step.Cipher ∷ left) h = absurd (cc)
 auth-first j (step.Auth ∷ left) h = refl
 auth-first j (step.Gcm ∷ left) h = absurd (cc)
 
-pub cipher-first : (j : Job) (left : List Step) → IsFirst step.Cipher left → stage_at j left ≡ cipher_stage_by j.cipher j.dir (length j.key)
+pub cipher-first : (j : Job) (left : List Step) → IsNextStep step.Cipher left → stage_at j left ≡ cipher_stage_by j.cipher j.dir (length j.key)
 cipher-first j [] h = absurd h
 cipher-first j (step.Cipher ∷ left) h = refl
 cipher-first j (step.Auth ∷ left) h = absurd (cc)
 cipher-first j (step.Gcm ∷ left) h = absurd (cc)
 
-pub first-some : (s : Step) (left : List Step) → IsFirst s left → left ≢ []
+pub first-some : (s : Step) (left : List Step) → IsNextStep s left → left ≢ []
 first-some s [] h = absurd h
 first-some s (t ∷ left) h = λ e. cc
 

@@ -5,12 +5,12 @@ use Rattle.mbj_cmac.specs.Rounds as Cmac
 use Rattle.mbj_hmac.specs.Rounds as Hmac
 use Rattle.mbj_stage.specs.Handing.{End}
 
-abbrev pub cbc_end : Cbc.Going → End
+abbrev pub cbc_end : Cbc.CbcState → End
 cbc_end e = record { packet = e.packet; mac = [] }
 
-abbrev pub cmac_end : Cmac.Going → End
+abbrev pub cmac_end : Cmac.CmacState → End
 cmac_end e = record { packet = e.packet; mac = e.chain }
 
 -- the whole HMAC is the digest of the hash value
-abbrev pub hmac_end : Hmac.Chaining → Hmac.Going → End
+abbrev pub hmac_end : Hmac.Chaining → Hmac.HmacState → End
 hmac_end h e = record { packet = e.packet; mac = h.digest e.hash e.chain }

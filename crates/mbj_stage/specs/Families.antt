@@ -1,5 +1,8 @@
--- The lanes of AES by the number of rounds.
-use Rattle.std.specs.Prelude.{ℕ, ◌==◌, if◌then◌else◌}
+-- Which kernel serves a kind: the lanes of AES by the number of rounds, and what a kernel and its kind have in common.
+use Rattle.std.specs.Prelude.{◌≡◌, ℕ, ◌==◌, if◌then◌else◌}
+use Rattle.mbj_types.specs.Kinds.{lanes_of}
+use Rattle.mbj_types.specs.Rounds.{rounds_of}
+use Rattle.mbj_types.specs.declared.job.Job.{Job}
 use Rattle.mbj_types.specs.declared.kind.Kind.{Kind}
 use Rattle.mbj_types.specs.declared.kind.Kind.TheVariants as kind
 use Rattle.mbj_stage.specs.declared.stage.Stage.{Stage}
@@ -18,3 +21,10 @@ cmac_lanes n = if n == 10 then kind.Cmac128 else kind.Cmac256
 
 abbrev pub cmac_stage : ℕ → Stage
 cmac_stage n = stage.Lane (cmac_lanes n)
+
+-- the kind k is that of the kernel, with so many lanes, and these are the rounds of its jobs
+pub record IsServed (k kernel_kind : Kind) (kernel_lanes : ℕ) (lanes : ℕ) (rounds : Job → ℕ) : Type 0 where
+  pub kind : kernel_kind ≡ k
+  pub kernel : kernel_lanes ≡ lanes
+  pub lanes_are : lanes_of k ≡ lanes
+  pub rounds_are : (j : Job) → rounds_of k j ≡ rounds j

@@ -9,7 +9,7 @@ use Rattle.mbj_stage.specs.declared.stage.Step.TheVariants as step
 use Rattle.mbj_types.specs.Rounds.{rounds_of}
 use Rattle.mbj_types.specs.declared.kind.Kind.{Kind}
 use Rattle.mbj_stage.specs.declared.stage.Stage.TheVariants as stage
-use Rattle.mbj_stage.specs.Going.{Going, owed, packet_after, stage_of}
+use Rattle.mbj_stage.specs.CourseState.{CourseState, owed, packet_after, stage_of}
 
 -- what an entry holds when its rounds are done: the packet, and the whole value of an HMAC or a CMAC, which a cipher's entry
 -- doesn't have
@@ -18,7 +18,7 @@ pub record End : Type 0 where
   pub mac : List ℕ
 
 -- the course with its packet out in an entry
-abbrev pub handed_out : Going → Going
+abbrev pub handed_out : CourseState → CourseState
 handed_out c = record c { job = record c.job { packet = [] }; out = Some (length c.job.packet) }
 
 -- the tag once an entry's end is taken back
@@ -27,7 +27,7 @@ tag_back step.Cipher j mac tag = tag
 tag_back step.Auth j mac tag = take j.tag_len mac
 tag_back step.Gcm j mac tag = tag
 
-abbrev pub taken_back_at : List Step → End → Going → Going
+abbrev pub taken_back_at : List Step → End → CourseState → CourseState
 taken_back_at [] e c = c
 taken_back_at (s ∷ left) e c = record {
   job = record c.job { packet = e.packet };
@@ -38,20 +38,20 @@ taken_back_at (s ∷ left) e c = record {
 }
 
 -- the course once its entry's end is taken back, which does the first of its steps
-abbrev pub taken_back : End → Going → Going
+abbrev pub taken_back : End → CourseState → CourseState
 taken_back e c = taken_back_at c.left e c
 
 -- what the course owes whose entry, which is out, ends so
-abbrev pub owed_with : End → Going → Done
+abbrev pub owed_with : End → CourseState → Done
 owed_with e c = owed (taken_back e c)
 
 -- a stage in the kind's lanes is next, and the packet is here
-pub record IsNext (k : Kind) (c : Going) : Type 0 where
+pub record IsNext (k : Kind) (c : CourseState) : Type 0 where
   pub stage : stage_of c ≡ stage.Lane k
   pub here : c.out ≡ None
 
 -- the packet went out of the course old, in an entry of the kind with this rest and end
-pub record IsHandedOut (k : Kind) (rest : ℕ) (e : End) (new old : Going) : Type 0 where
+pub record IsHandedOut (k : Kind) (rest : ℕ) (e : End) (new old : CourseState) : Type 0 where
   pub out : new ≡ handed_out old
   pub rest_is : rest ≡ rounds_of k old.job
   pub some : 1 ≤ rest
@@ -59,7 +59,7 @@ pub record IsHandedOut (k : Kind) (rest : ℕ) (e : End) (new old : Going) : Typ
   pub length_is : new.out ≡ Some (length e.packet)
 
 -- the course has an entry of the kind out, which brings back the end e
-pub record IsOut (k : Kind) (e : End) (c : Going) : Type 0 where
+pub record IsOut (k : Kind) (e : End) (c : CourseState) : Type 0 where
   pub stage : stage_of c ≡ stage.Lane k
   pub packet : c.out ≡ Some (length e.packet)
 
@@ -74,5 +74,5 @@ IsForLanes step.Auth = Unit {0}
 IsForLanes step.Gcm = ⊥
 
 -- a course owes the same while its packet is out in an entry that does its first step
-abbrev pub OwesTheSame : Going → Type 0
+abbrev pub OwesTheSame : CourseState → Type 0
 OwesTheSame c = (s : Step) (left : List Step) → c.left ≡ s ∷ left → IsForLanes s → owed_with (stage_end s c.job) (handed_out c) ≡ owed c

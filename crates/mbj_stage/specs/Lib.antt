@@ -1,5 +1,5 @@
 pub mod Steps
-pub mod Going
+pub mod CourseState
 pub mod Handing
 pub mod Ends
 pub mod Families

@@ -47,12 +47,6 @@ abbrev pub steps_by : Option Reason → Job → List Step
 steps_by None j = steps_of j
 steps_by (Some reason) j = []
 
--- the step is one of the job's
-abbrev pub IsStepOf : Job → Step → Type 0
-IsStepOf j step.Cipher = cipher_steps j.cipher ≡ step.Cipher ∷ []
-IsStepOf j step.Auth = auth_steps (class_of j.auth) ≡ step.Auth ∷ []
-IsStepOf j step.Gcm = cipher_steps j.cipher ≡ step.Gcm ∷ []
-
 -- steps as a list
 abbrev pub steps_in : Steps → List Step
 steps_in steps.Done = []
@@ -93,11 +87,6 @@ stage_at j [] = stage.Finished
 stage_at j (step.Cipher ∷ left) = cipher_stage j
 stage_at j (step.Auth ∷ left) = auth_stage j
 stage_at j (step.Gcm ∷ left) = stage.Now
-
--- the step is the first of those that are left
-abbrev pub IsFirst : Step → List Step → Type 0
-IsFirst s [] = ⊥
-IsFirst s (t ∷ left) = t ≡ s
 
 -- the step whose stage is in a kind's lanes
 abbrev pub step_of : Kind → Step

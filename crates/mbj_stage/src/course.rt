@@ -11,8 +11,9 @@ ghost use Rattle.mbj_hmac.specs.Names.{serves_auth};
 ghost use Rattle.mbj_hmac.specs.Rounds.{round as hmac_round, rest_of as hmac_rest};
 ghost use Rattle.mbj_stage.specs.declared.stage.Stage.TheVariants as stage;
 ghost use Rattle.mbj_stage.specs.declared.stage.Step.TheVariants as step;
-ghost use Rattle.mbj_stage.specs.Steps.{IsFirst, IsStepOf, stage_at, steps_in};
-ghost use Rattle.mbj_stage.specs.Going.{stage_of, begun, packet_after, tag_after, ran, status_of, owed};
+ghost use Rattle.mbj_stage.specs.Steps.{stage_at, steps_in};
+ghost use Rattle.mbj_stage.specs.Inside.Kept.{IsNextStep, IsStepOf};
+ghost use Rattle.mbj_stage.specs.CourseState.{stage_of, begun, packet_after, tag_after, ran, status_of, owed};
 ghost use Rattle.mbj_stage.specs.Handing.{handed_out, taken_back, owed_with};
 ghost use Rattle.mbj_stage.specs.Ends.{cbc_end, cmac_end, hmac_end};
 ghost use Rattle.mbj_stage.specs.Families.{cbc_stage, cmac_stage};
@@ -52,9 +53,10 @@ pub struct Course {
 
 impl Model for Course {
     ghost use Rattle.mbj_stage.specs.Steps.{steps_in};
-    ghost use Rattle.mbj_stage.specs.Going.{Going, IsSound};
+    ghost use Rattle.mbj_stage.specs.CourseState.{CourseState};
+    ghost use Rattle.mbj_stage.specs.Inside.Kept.{IsSound};
 
-    ghost Value = { Going };
+    ghost Value = { CourseState };
 
     ghost view = { λ c. record {
       job = record c.job { packet = c.packet.items };
@@ -193,7 +195,7 @@ impl Course {
 
     /// Takes back a packet that was ciphered.
     pub(crate) fn take_text(&mut self, packet: Vec<u8>)
-        requires next { IsFirst step.Cipher self.old.left }
+        requires next { IsNextStep step.Cipher self.old.left }
         requires length { self.old.out ≡ Some (length packet.items) }
         ensures { self.new ≡ taken_back (record { packet = packet.items; mac = [] }) self.old }
     {
@@ -204,7 +206,7 @@ impl Course {
 
     /// Takes back a packet that was authenticated, with its whole tag.
     pub(crate) fn take_mac(&mut self, packet: Vec<u8>, mac: &[u8])
-        requires next { IsFirst step.Auth self.old.left }
+        requires next { IsNextStep step.Auth self.old.left }
         requires length { self.old.out ≡ Some (length packet.items) }
         requires fits { length mac.now ≤ MAX_TAG_BYTES }
         ensures { self.new ≡ taken_back (record { packet = packet.items; mac = mac.now }) self.old }
@@ -232,7 +234,7 @@ impl Course {
 
     /// Hands the packet out in an entry of HMAC over a hash of `H`.
     pub(crate) fn hand_out_hmac<H: LaneHash>(&mut self) -> HmacEntry<H>
-        requires next { IsFirst step.Auth self.old.left }
+        requires next { IsNextStep step.Auth self.old.left }
         requires serves { IsTrue (serves_auth H.chaining self.old.job.auth) }
         requires here { self.old.out ≡ None }
         ensures out { self.new ≡ handed_out self.old }

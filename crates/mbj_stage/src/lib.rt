@@ -13,5 +13,7 @@ mod tag;
 
 pub use course::Course;
 pub use feed::{Feed, HashKind};
-pub use laws::{a_course_owes_the_same_while_it_is_out, results_keep_length};
+pub use laws::{
+    a_course_owes_the_same_while_it_is_out, each_kind_has_its_kernel, results_keep_length,
+};
 pub use stage::Stage;

@@ -1,6 +1,6 @@
 -- The status is that of the reason.
 use Rattle.std.proofs.Common.{ap, sym}
-use Rattle.mbj_stage.specs.Going.{status_of}
+use Rattle.mbj_stage.specs.CourseState.{status_of}
 use Rattle.mbj_stage.proofs.course.status.Goals as goal
 
 pub returns-in-Some : goal.returns-in-Some

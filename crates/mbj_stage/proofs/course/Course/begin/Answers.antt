@@ -1,5 +1,5 @@
 use Rattle.std.proofs.Common.{◌∙◌, ap}
-use Rattle.mbj_stage.specs.Going.{owed}
+use Rattle.mbj_stage.specs.CourseState.{owed}
 use Rattle.mbj_stage.proofs.Owing.{owed-begun}
 use Rattle.mbj_stage.proofs.course.Course.begin.Goals as goal
 

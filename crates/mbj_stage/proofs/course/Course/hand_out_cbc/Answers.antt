@@ -6,7 +6,7 @@ use Rattle.mbj_lane.specs.Rounds.{end_of}
 use Rattle.mbj_cbc.specs.Rounds.{rest_of, round}
 use Rattle.mbj_stage.specs.Steps.{steps_in}
 use Rattle.mbj_stage.specs.Families.{cbc_stage}
-use Rattle.mbj_stage.specs.Going.{Going, owed, stage_of}
+use Rattle.mbj_stage.specs.CourseState.{CourseState, owed, stage_of}
 use Rattle.mbj_stage.specs.Handing.{owed_with}
 use Rattle.mbj_stage.specs.Ends.{cbc_end}
 use Rattle.mbj_stage.proofs.Handings.{going}
@@ -18,8 +18,8 @@ is-next : (g : given.Over) (c : goal.After-cbc_entry-arg-1 g) → IsCbcNext c.se
 is-next g c =
     let f = c.self.inside in
     cbc-next f.job f.packet.items (steps_in f.left) f.out g.row.N c.requires.rounds c.self.invariant
-    (subst (λ (v : Going). v.out ≡ None) (sym c.self.view_is) c.requires.here)
-    (subst (λ (v : Going). stage_of v ≡ cbc_stage g.row.N) (sym c.self.view_is) c.requires.next)
+    (subst (λ (v : CourseState). v.out ≡ None) (sym c.self.view_is) c.requires.here)
+    (subst (λ (v : CourseState). stage_of v ≡ cbc_stage g.row.N) (sym c.self.view_is) c.requires.next)
 
 pub cbc_entry-requires : goal.cbc_entry-requires
 cbc_entry-requires g c =
@@ -33,8 +33,8 @@ returns-clause-owed g c =
     let is = is-next g c.before in
     let len : c.len.result ≡ length c.taken-packet.result.items = omega (arith, c.len.ensures, c.taken-packet.result.ok) in
     let e = cbc_end (end_of round rest_of c.cbc_entry.result) in
-    let out : Going = going f.job c.taken-packet.new.packet.items f.tag f.reason (steps_in f.left) (Some c.len.result) in
-    subst (λ (v : Going). owed_with e out ≡ owed v) c.self.view_is
+    let out : CourseState = going f.job c.taken-packet.new.packet.items f.tag f.reason (steps_in f.left) (Some c.len.result) in
+    subst (λ (v : CourseState). owed_with e out ≡ owed v) c.self.view_is
     (text-out f.job f.packet.items c.taken-packet.new.packet.items f.tag f.reason (steps_in f.left) f.out c.len.result e c.taken-packet.ensures.none
     (len ∙ ap length c.taken-packet.ensures.taken) is.first
     (c.cbc_entry.ensures.packet ∙ ap (ciphered f.job) c.taken-packet.ensures.taken))

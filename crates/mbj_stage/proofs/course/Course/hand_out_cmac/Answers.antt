@@ -7,7 +7,7 @@ use Rattle.mbj_lane.specs.Rounds.{end_of}
 use Rattle.mbj_cmac.specs.Rounds.{rest_of, round}
 use Rattle.mbj_stage.specs.Steps.{steps_in}
 use Rattle.mbj_stage.specs.Families.{cmac_stage}
-use Rattle.mbj_stage.specs.Going.{Going, owed, stage_of}
+use Rattle.mbj_stage.specs.CourseState.{CourseState, owed, stage_of}
 use Rattle.mbj_stage.specs.Handing.{owed_with}
 use Rattle.mbj_stage.specs.Ends.{cmac_end}
 use Rattle.mbj_stage.proofs.Handings.{going}
@@ -19,8 +19,8 @@ is-next : (g : given.Over) (c : goal.After-cmac_entry-arg-1 g) → IsCmacNext c.
 is-next g c =
     let f = c.self.inside in
     cmac-next f.job f.packet.items (steps_in f.left) f.out g.row.N c.requires.rounds c.self.invariant
-    (subst (λ (v : Going). v.out ≡ None) (sym c.self.view_is) c.requires.here)
-    (subst (λ (v : Going). stage_of v ≡ cmac_stage g.row.N) (sym c.self.view_is) c.requires.next)
+    (subst (λ (v : CourseState). v.out ≡ None) (sym c.self.view_is) c.requires.here)
+    (subst (λ (v : CourseState). stage_of v ≡ cmac_stage g.row.N) (sym c.self.view_is) c.requires.next)
 
 pub cmac_entry-requires : goal.cmac_entry-requires
 cmac_entry-requires g c =
@@ -34,8 +34,8 @@ returns-clause-owed g c =
     let len : c.len.result ≡ length c.taken-packet.result.items = omega (arith, c.len.ensures, c.taken-packet.result.ok) in
     let is = is-next g c.before in
     let e = cmac_end (end_of round rest_of c.cmac_entry.result) in
-    let out : Going = going f.job c.taken-packet.new.packet.items f.tag f.reason (steps_in f.left) (Some c.len.result) in
-    subst (λ (v : Going). owed_with e out ≡ owed v) c.self.view_is
+    let out : CourseState = going f.job c.taken-packet.new.packet.items f.tag f.reason (steps_in f.left) (Some c.len.result) in
+    subst (λ (v : CourseState). owed_with e out ≡ owed v) c.self.view_is
     (mac-out f.job f.packet.items c.taken-packet.new.packet.items f.tag f.reason (steps_in f.left) f.out c.len.result e c.taken-packet.ensures.none
     (len ∙ ap length c.taken-packet.ensures.taken) is.first (c.cmac_entry.ensures.packet ∙ c.taken-packet.ensures.taken)
     (c.cmac_entry.ensures.mac ∙ ap (λ (q : List ℕ). mac_by (class_of f.job.auth) f.job q) c.taken-packet.ensures.taken))

@@ -8,8 +8,9 @@ use Rattle.mbj_hmac.specs.Rounds.{rest_of, round}
 use Rattle.mbj_hmac.proofs.Served.{served_hmac}
 use Rattle.mbj_stage.specs.declared.stage.Stage.TheVariants as stage
 use Rattle.mbj_stage.specs.declared.stage.Step.TheVariants as step
-use Rattle.mbj_stage.specs.Steps.{IsFirst, stage_at, steps_in}
-use Rattle.mbj_stage.specs.Going.{Going, IsSound, owed}
+use Rattle.mbj_stage.specs.Steps.{stage_at, steps_in}
+use Rattle.mbj_stage.specs.Inside.Kept.{IsNextStep, IsSound}
+use Rattle.mbj_stage.specs.CourseState.{CourseState, owed}
 use Rattle.mbj_stage.specs.Handing.{owed_with}
 use Rattle.mbj_stage.specs.Ends.{hmac_end}
 use Rattle.mbj_stage.proofs.Handings.{going}
@@ -23,9 +24,9 @@ invariant_of-self g c =
     let f = c.self.inside in
     let len : c.len.result ≡ length c.taken-packet.result.items = omega (arith, c.len.ensures, c.taken-packet.result.ok) in
     let left = steps_in f.left in
-    let here : f.out ≡ None = subst (λ (v : Going). v.out ≡ None) (sym c.self.view_is) c.requires.here in
-    let first : IsFirst step.Auth left = subst (λ (v : Going). IsFirst step.Auth v.left) (sym c.self.view_is) c.requires.next in
-    let serves = subst (λ (v : Going). IsTrue (serves_auth g.H.LaneHash.chaining v.job.auth)) (sym c.self.view_is) c.requires.serves in
+    let here : f.out ≡ None = subst (λ (v : CourseState). v.out ≡ None) (sym c.self.view_is) c.requires.here in
+    let first : IsNextStep step.Auth left = subst (λ (v : CourseState). IsNextStep step.Auth v.left) (sym c.self.view_is) c.requires.next in
+    let serves = subst (λ (v : CourseState). IsTrue (serves_auth g.H.LaneHash.chaining v.job.auth)) (sym c.self.view_is) c.requires.serves in
     let lane : stage_at f.job left ≢ stage.Now =
     λ now. hmac-in-lanes (class_of f.job.auth) (served_hmac g.H.LaneHash.chaining f.job.auth serves) (sym (auth-first f.job left first) ∙ now) in
     let sound = sound_out f.job f.packet.items left (subst (IsSound f.job f.packet.items left) here c.self.invariant) lane in
@@ -36,10 +37,10 @@ pub returns-clause-owed : goal.returns-clause-owed
 returns-clause-owed g c =
     let f = c.self.inside in
     let len : c.len.result ≡ length c.taken-packet.result.items = omega (arith, c.len.ensures, c.taken-packet.result.ok) in
-    let first : IsFirst step.Auth (steps_in f.left) = subst (λ (v : Going). IsFirst step.Auth v.left) (sym c.self.view_is) c.requires.next in
+    let first : IsNextStep step.Auth (steps_in f.left) = subst (λ (v : CourseState). IsNextStep step.Auth v.left) (sym c.self.view_is) c.requires.next in
     let e = hmac_end g.H.LaneHash.chaining (end_of (round g.H.LaneHash.chaining) rest_of c.hmac_entry.result) in
-    let out : Going = going f.job c.taken-packet.new.packet.items f.tag f.reason (steps_in f.left) (Some c.len.result) in
-    subst (λ (v : Going). owed_with e out ≡ owed v) c.self.view_is
+    let out : CourseState = going f.job c.taken-packet.new.packet.items f.tag f.reason (steps_in f.left) (Some c.len.result) in
+    subst (λ (v : CourseState). owed_with e out ≡ owed v) c.self.view_is
     (mac-out f.job f.packet.items c.taken-packet.new.packet.items f.tag f.reason (steps_in f.left) f.out c.len.result e c.taken-packet.ensures.none
     (len ∙ ap length c.taken-packet.ensures.taken) first (c.hmac_entry.ensures.packet ∙ c.taken-packet.ensures.taken)
     (c.hmac_entry.ensures.mac ∙ ap (λ (q : List ℕ). mac_by (class_of f.job.auth) f.job q) c.taken-packet.ensures.taken))

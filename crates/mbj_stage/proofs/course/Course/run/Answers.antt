@@ -4,9 +4,10 @@ use Rattle.std.specs.List.{All}
 use Rattle.std.proofs.lemmas.List.Elements.{All-head}
 use Rattle.mbj_types.specs.declared.job.Job.{Job}
 use Rattle.mbj_stage.specs.declared.stage.Steps.{Steps}
-use Rattle.mbj_stage.specs.Steps.{IsStepOf, stage_at, steps_in}
+use Rattle.mbj_stage.specs.Steps.{stage_at, steps_in}
+use Rattle.mbj_stage.specs.Inside.Kept.{IsStepOf, packet_length, IsSound}
 use Rattle.mbj_stage.specs.declared.stage.Stage.TheVariants as stage
-use Rattle.mbj_stage.specs.Going.{Going, ran, stage_of, packet_length, IsSound}
+use Rattle.mbj_stage.specs.CourseState.{CourseState, ran, stage_of}
 use Rattle.mbj_stage.proofs.StagesOf.{stage-first, stage-packet}
 use Rattle.mbj_stage.proofs.Soundness.{sound_next}
 use Rattle.mbj_stage.proofs.Owing.{ran-step}
@@ -27,7 +28,7 @@ run_step-requires-in-Two-clause-own c =
 pub run_step-requires-clause-now : goal.run_step-requires-clause-now
 run_step-requires-clause-now c =
     let j : Job = c.self.inside.job in
-    let Now : Going → Type 0 = λ v. stage_of v ≡ stage.Now in
+    let Now : CourseState → Type 0 = λ v. stage_of v ≡ stage.Now in
     let left = steps_in c.self.inside.left in
     ap (λ (l : Steps). stage_at j (steps_in l)) (sym c.in-One.is)
     ∙ sym (stage-packet j c.self.inside.packet.items left) ∙ subst Now (sym c.self.view_is) c.requires
@@ -35,7 +36,7 @@ run_step-requires-clause-now c =
 pub run_step-requires-in-Two-clause-now : goal.run_step-requires-in-Two-clause-now
 run_step-requires-in-Two-clause-now c =
     let j : Job = c.self.inside.job in
-    let Now : Going → Type 0 = λ v. stage_of v ≡ stage.Now in
+    let Now : CourseState → Type 0 = λ v. stage_of v ≡ stage.Now in
     let left = steps_in c.self.inside.left in
     sym (stage-first j c.in-Two.step (c.in-Two.later ∷ []))
     ∙ ap (λ (l : Steps). stage_at j (steps_in l)) (sym c.in-Two.is)
@@ -46,7 +47,7 @@ invariant_of-self-in-Two c =
     let j : Job = c.self.inside.job in
     let p : List ℕ = c.self.inside.packet.items in
     let out = c.self.inside.out in
-    let Now : Going → Type 0 = λ v. stage_of v ≡ stage.Now in
+    let Now : CourseState → Type 0 = λ v. stage_of v ≡ stage.Now in
     let now : stage_at j (steps_in c.self.inside.left) ≡ stage.Now =
     sym (stage-packet j p (steps_in c.self.inside.left)) ∙ subst Now (sym c.self.view_is) c.requires in
     let Sound : Steps → Type 0 = λ l. IsSound j p (steps_in l) out in
@@ -59,14 +60,14 @@ invariant_of-self-in-Two c =
 pub returns-in-One : goal.returns-in-One
 returns-in-One c =
     let f = c.self.inside in
-    let after : Going = record {
+    let after : CourseState = record {
       job = record f.job { packet = c.run_step.new.packet.items };
       tag = c.run_step.new.tag;
       reason = f.reason;
       left = [];
       out = f.out;
     } in
-    let Ran : Going → Type 0 = λ v. after ≡ ran v in
+    let Ran : CourseState → Type 0 = λ v. after ≡ ran v in
     subst Ran c.self.view_is
     (ran-step f.job f.packet.items c.run_step.new.packet.items f.tag c.run_step.new.tag f.reason c.in-One.step [] (steps_in f.left) f.out
     (ap steps_in c.in-One.is) c.run_step.ensures.packet c.run_step.ensures.tag)
@@ -74,14 +75,14 @@ returns-in-One c =
 pub returns-in-Two : goal.returns-in-Two
 returns-in-Two c =
     let f = c.self.inside in
-    let after : Going = record {
+    let after : CourseState = record {
       job = record f.job { packet = c.run_step-in-Two.new.packet.items };
       tag = c.run_step-in-Two.new.tag;
       reason = f.reason;
       left = c.in-Two.later ∷ [];
       out = f.out;
     } in
-    let Ran : Going → Type 0 = λ v. after ≡ ran v in
+    let Ran : CourseState → Type 0 = λ v. after ≡ ran v in
     subst Ran c.self.view_is
     (ran-step f.job f.packet.items c.run_step-in-Two.new.packet.items f.tag c.run_step-in-Two.new.tag f.reason c.in-Two.step
     (c.in-Two.later ∷ []) (steps_in f.left) f.out (ap steps_in c.in-Two.is) c.run_step-in-Two.ensures.packet

@@ -1,7 +1,6 @@
 -- The course of a job: what contracts see of it, how it goes on, and the result to which it leads.
 use Rattle.std.specs.Prelude.{◌≡◌, ◌≢◌, ℕ, List, [], ◌∷◌, length, Option, Some, None}
-use Rattle.std.specs.List.{All}
-use Rattle.mbj_types.specs.Verdict.{verdict, verdict_at}
+use Rattle.mbj_types.specs.Verdict.{verdict}
 use Rattle.mbj_types.specs.Result.{ciphered, tag_over}
 use Rattle.mbj_types.specs.declared.job.Job.{Job}
 use Rattle.mbj_types.specs.declared.done.Done.{Done}
@@ -12,10 +11,10 @@ use Rattle.mbj_stage.specs.declared.stage.Stage.{Stage}
 use Rattle.mbj_stage.specs.declared.stage.Stage.TheVariants as stage
 use Rattle.mbj_stage.specs.declared.stage.Step.{Step}
 use Rattle.mbj_stage.specs.declared.stage.Step.TheVariants as step
-use Rattle.mbj_stage.specs.Steps.{steps_by, stage_at, IsStepOf}
+use Rattle.mbj_stage.specs.Steps.{steps_by, stage_at}
 
 -- a job on its way
-pub record Going : Type 0 where
+pub record CourseState : Type 0 where
   -- the job with its packet as it now is
   pub job : Job
   -- the tag where it is made, else no bytes
@@ -27,13 +26,13 @@ pub record Going : Type 0 where
   -- the length of the packet where it is out of the course, in a lane
   pub out : Option ℕ
 
-abbrev pub stage_of : Going → Stage
+abbrev pub stage_of : CourseState → Stage
 stage_of c = stage_at c.job c.left
 
 -- ---- how a course goes on
 
 -- a course with nothing done
-abbrev pub begun : Job → Going
+abbrev pub begun : Job → CourseState
 begun j = record { job = j; tag = []; reason = verdict j; left = steps_by (verdict j) j; out = None }
 
 -- what a step makes of the packet p
@@ -49,7 +48,7 @@ tag_after step.Auth j p tag = tag_over j p
 tag_after step.Gcm j p tag = tag_over j p
 
 -- the course with the first of the steps left done
-abbrev pub ran_at : Going → List Step → Going
+abbrev pub ran_at : CourseState → List Step → CourseState
 ran_at c [] = c
 ran_at c (s ∷ left) = record {
   job = record c.job { packet = packet_after s c.job c.job.packet };
@@ -59,7 +58,7 @@ ran_at c (s ∷ left) = record {
   out = c.out;
 }
 
-abbrev pub ran : Going → Going
+abbrev pub ran : CourseState → CourseState
 ran c = ran_at c c.left
 
 -- ---- where a course leads
@@ -75,19 +74,5 @@ led_to reason (s ∷ left) j tag =
     led_to reason left (record j { packet = packet_after s j j.packet }) (tag_after s j j.packet tag)
 
 -- the result that a course owes
-unfoldable pub owed : Going → Done
+unfoldable pub owed : CourseState → Done
 owed c = led_to c.reason c.left c.job c.tag
-
--- ---- what the fields of a course keep
-
--- the length of the packet p, or of the one that is out
-abbrev pub packet_length : Option ℕ → List ℕ → ℕ
-packet_length None p = length p
-packet_length (Some n) p = n
-
--- where a step is left no row of the argument table applies, each step left is one of the job's, and a packet is out only while
--- the first of them is done in lanes
-pub record IsSound (j : Job) (p : List ℕ) (left : List Step) (out : Option ℕ) : Type 0 where
-  pub accepted : left ≢ [] → verdict_at j (packet_length out p) ≡ None
-  pub own : All (IsStepOf j) left
-  pub here : stage_at j left ≡ stage.Now → out ≡ None

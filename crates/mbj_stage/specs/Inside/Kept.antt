@@ -1,0 +1,33 @@
+-- What the fields of a course keep.
+use Rattle.std.specs.Prelude.{◌≡◌, ◌≢◌, ℕ, List, [], ◌∷◌, length, Option, Some, None}
+use Rattle.std.specs.List.{All}
+use Rattle.mbj_types.specs.Auths.{class_of}
+use Rattle.mbj_types.specs.Verdict.{verdict_at}
+use Rattle.mbj_types.specs.declared.job.Job.{Job}
+use Rattle.mbj_stage.specs.declared.stage.Stage.TheVariants as stage
+use Rattle.mbj_stage.specs.declared.stage.Step.{Step}
+use Rattle.mbj_stage.specs.declared.stage.Step.TheVariants as step
+use Rattle.mbj_stage.specs.Steps.{auth_steps, cipher_steps, stage_at}
+
+-- the step is one of the job's
+abbrev pub IsStepOf : Job → Step → Type 0
+IsStepOf j step.Cipher = cipher_steps j.cipher ≡ step.Cipher ∷ []
+IsStepOf j step.Auth = auth_steps (class_of j.auth) ≡ step.Auth ∷ []
+IsStepOf j step.Gcm = cipher_steps j.cipher ≡ step.Gcm ∷ []
+
+-- the step is the first of those that are left
+abbrev pub IsNextStep : Step → List Step → Type 0
+IsNextStep s [] = ⊥
+IsNextStep s (t ∷ left) = t ≡ s
+
+-- the length of the packet p, or of the one that is out
+abbrev pub packet_length : Option ℕ → List ℕ → ℕ
+packet_length None p = length p
+packet_length (Some n) p = n
+
+-- where a step is left no row of the argument table applies, each step left is one of the job's, and a packet is out only while
+-- the first of them is done in lanes
+pub record IsSound (j : Job) (p : List ℕ) (left : List Step) (out : Option ℕ) : Type 0 where
+  pub accepted : left ≢ [] → verdict_at j (packet_length out p) ≡ None
+  pub own : All (IsStepOf j) left
+  pub here : stage_at j left ≡ stage.Now → out ≡ None
