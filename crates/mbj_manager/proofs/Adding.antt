@@ -12,7 +12,7 @@ use Rattle.mbj_types.specs.declared.job.Job.{Job}
 use Rattle.mbj_types.specs.declared.kind.Kind.{Kind}
 use Rattle.mbj_ring.specs.declared.ring.TheConstants.{CELLS}
 use Rattle.mbj_ring.specs.Ring.{RingState, ring}
-use Rattle.mbj_stage.specs.Going.{Going, begun, owed}
+use Rattle.mbj_stage.specs.CourseState.{CourseState, begun, owed}
 use Rattle.mbj_stage.specs.Handing.{End}
 use Rattle.mbj_stage.proofs.Owing.{owed-begun}
 use Rattle.mbj_manager.specs.Machine.Stages.{Pending, pending}
@@ -21,13 +21,13 @@ use Rattle.mbj_manager.specs.Machine.Between.{with_stages}
 use Rattle.mbj_manager.specs.declared.cell.Cell.{Cell}
 use Rattle.mbj_manager.specs.declared.cell.Cell.TheVariants as cell
 use Rattle.mbj_manager.specs.Inside.Added.{added}
-use Rattle.mbj_manager.specs.Inside.Courses.{IsGoing, course_in, courses, job_in, number, number_in}
+use Rattle.mbj_manager.specs.Inside.Courses.{IsGoing, course_in, courses, job_in, number, ring_number}
 use Rattle.mbj_manager.specs.Inside.Leaving.{At}
 use Rattle.mbj_manager.specs.Inside.Desk.{Listed}
 use Rattle.mbj_manager.specs.Inside.LaneQueues.{placed_in, total, waiting_in}
 use Rattle.mbj_manager.specs.declared.lane_queues.LaneQueues.{LaneQueues}
 use Rattle.mbj_manager.specs.Inside.PlacedQueue.{PlacedQueue, Waiter}
-use Rattle.mbj_manager.specs.Inside.Standing.{IsWithin}
+use Rattle.mbj_manager.specs.Inside.Standing.{IsInCourse}
 use Rattle.mbj_manager.specs.Inside.Held.{IsHeld, IsHere, IsTied, agenda_room, find_in, held, lines_in, machine_in, owed_from, owed_of, waiting}
 use Rattle.mbj_manager.proofs.BetweenCalls.{submitted-within}
 use Rattle.mbj_manager.proofs.CourseEnds.{between-calls}
@@ -46,11 +46,11 @@ at-last : {A : Type 0} (P : A → Type 0) (xs : List A) (x : A) → P x → At P
 at-last P [] x p = p
 at-last P (y ∷ xs) x p = at-last P xs x p
 
-listed-front : (k : Kind) (cs : List Going) (c : Going) (ws : List Waiter) → Listed k cs ws → Listed k (cs ++ c ∷ []) ws
+listed-front : (k : Kind) (cs : List CourseState) (c : CourseState) (ws : List Waiter) → Listed k cs ws → Listed k (cs ++ c ∷ []) ws
 listed-front k cs c [] r = tt
 listed-front k cs c (w ∷ ws) r = (at-front _ w.0 cs c r.0, r.1, listed-front k cs c ws r.2)
 
-tied-add : (cs : List Going) (c : Going) (lines : Kind → PlacedQueue) → c.out ≡ None → IsTied cs [] lines → IsTied (cs ++ c ∷ []) (length cs ∷ []) lines
+tied-add : (cs : List CourseState) (c : CourseState) (lines : Kind → PlacedQueue) → c.out ≡ None → IsTied cs [] lines → IsTied (cs ++ c ∷ []) (length cs ∷ []) lines
 tied-add cs c lines here y =
     let more = length_push cs c in
     record {
@@ -62,7 +62,7 @@ tied-add cs c lines here y =
       below = All-cons (λ n. n < length (cs ++ c ∷ [])) (length cs) [] (omega arith) (All-nil (λ n. n < length (cs ++ c ∷ [])));
     }
 
-owed-end : (n : ℕ) (find : Kind → ℕ → Option End) (cs : List Going) (c : Going) → c.out ≡ None
+owed-end : (n : ℕ) (find : Kind → ℕ → Option End) (cs : List CourseState) (c : CourseState) → c.out ≡ None
     → owed_from n find (cs ++ c ∷ []) ≡ owed_from n find cs ++ owed c ∷ []
 owed-end n find [] c here = rw here refl
 owed-end n find (x ∷ cs) c here = ap (λ (ds : List Done). owed_of n find x ∷ ds) (owed-end (suc n) find cs c here)
@@ -72,7 +72,7 @@ owed-end n find (x ∷ cs) c here = ap (λ (ds : List Done). owed_of n find x �
 few-in : (k : Kind) (r : RingState Cell) (ag : List ℕ) (ls : LaneQueues) (capacity : ℕ) → IsHeld r ag ls capacity → length (placed_in k ls).waiters < lanes_of k
 few-in k r ag ls capacity y =
     let few : length (map waiting (lines_in r ls k).waiters) < lanes_of k = (y.within.lanes k).few in
-    let g : Waiter → Waiter = λ x. (number_in r x.0, x.1) in
+    let g : Waiter → Waiter = λ x. (ring_number r x.0, x.1) in
     let l : length (lines_in r ls k).waiters ≡ length (placed_in k ls).waiters = length-map (placed_in k ls).waiters g in
     omega (arith, length-map (lines_in r ls k).waiters waiting)
 
@@ -116,10 +116,10 @@ module _ (r : RingState Cell) (v w : Cell) (place : ℕ) (ls : LaneQueues) (capa
   more-courses : courses r' ≡ courses r ++ begun job ∷ []
   more-courses = map_push course_in r.values w ∙ ap (λ (x : Cell). courses r ++ course_in x ∷ []) began
 
-  last-number : number_in r' place ≡ length (courses r)
+  last-number : ring_number r' place ≡ length (courses r)
   last-number = number-last r.first (length r.values) place y.ring.first room last ∙ sym (length-map r.values course_in)
 
-  numbers : map (number_in r') (place ∷ []) ≡ length (courses r) ∷ []
+  numbers : map (ring_number r') (place ∷ []) ≡ length (courses r) ∷ []
   numbers = ap (λ (n : ℕ). n ∷ []) last-number
 
   more-left : map pending (courses r') ≡ map pending (courses r) ++ pending (begun job) ∷ []
@@ -142,9 +142,9 @@ module _ (r : RingState Cell) (v w : Cell) (place : ℕ) (ls : LaneQueues) (capa
       first = y.ring.first;
     };
     is_open = tt;
-    within = subst IsWithin (sym machine-then)
+    within = subst IsInCourse (sym machine-then)
         (submitted-within (pending (begun job)) (machine_in r [] ls) (pending-rounds job) (between-calls (machine_in r [] ls) y.within refl));
-    tied = subst (λ (cs : List Going). IsTied cs (map (number_in r') (place ∷ [])) (lines_in r ls)) (sym more-courses)
+    tied = subst (λ (cs : List CourseState). IsTied cs (map (ring_number r') (place ∷ [])) (lines_in r ls)) (sym more-courses)
         (subst (λ (ns : List ℕ). IsTied (courses r ++ begun job ∷ []) ns (lines_in r ls)) (sym numbers) (tied-add (courses r) (begun job) (lines_in r ls) refl y.tied));
     fits = few-wait r [] ls capacity y;
     room = y.room;
@@ -163,11 +163,11 @@ module _ (r : RingState Cell) (v w : Cell) (place : ℕ) (ls : LaneQueues) (capa
       same-state _ _ _ _ _ _ owed-then refl
       (machine-then ∙ ap (λ (n : ℕ). machine_with (map pending (courses r) ++ pending (begun job) ∷ []) (n ∷ [])) same-number)
 
-pub adds : (r : RingState Cell) (v w : Cell) (place : ℕ) (ag : List ℕ) (ls : LaneQueues) (capacity : ℕ) → IsHeld r ag ls capacity → map (number_in r) ag ≡ []
+pub adds : (r : RingState Cell) (v w : Cell) (place : ℕ) (ag : List ℕ) (ls : LaneQueues) (capacity : ℕ) → IsHeld r ag ls capacity → map (ring_number r) ag ≡ []
     → r.opened ≡ Some v → w ≡ cell.Going (begun (job_in v)) → length r.values < CELLS → place ≡ (r.first + length r.values) % CELLS
     → IsAdded r (one_more r w) ag (ag ++ place ∷ []) ls capacity
 adds r v w place ag ls capacity y idle opened began room last =
-    subst (λ (a : List ℕ). IsHeld r a ls capacity → IsAdded r (one_more r w) a (a ++ place ∷ []) ls capacity) (sym (map-nil (number_in r) ag idle))
+    subst (λ (a : List ℕ). IsHeld r a ls capacity → IsAdded r (one_more r w) a (a ++ place ∷ []) ls capacity) (sym (map-nil (ring_number r) ag idle))
     (λ z. record {
       is = subst (λ (o : Option Cell). held (one_more r w) (place ∷ []) ls ≡ added (option_map job_in o) (held r [] ls)) (sym opened)
           (added-is r v w place ls capacity z began room last);

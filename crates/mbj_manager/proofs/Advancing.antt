@@ -8,7 +8,7 @@ use Rattle.std.proofs.lemmas.List.Sums.{sum_by-cons}
 use Rattle.mbj_types.specs.Kinds.{lanes_of}
 use Rattle.mbj_types.specs.declared.kind.Kind.{Kind}
 use Rattle.mbj_ring.specs.Ring.{RingState}
-use Rattle.mbj_stage.specs.Going.{Going, stage_of}
+use Rattle.mbj_stage.specs.CourseState.{CourseState, stage_of}
 use Rattle.mbj_stage.specs.declared.stage.Stage.{Stage}
 use Rattle.mbj_stage.specs.declared.stage.Stage.TheVariants as stage
 use Rattle.mbj_manager.specs.Machine.Stages.{Pending, pending}
@@ -18,14 +18,14 @@ use Rattle.mbj_manager.specs.declared.lane.Cause.TheVariants as cause
 use Rattle.mbj_manager.specs.Machine.Course.{goes_on, in_lanes_next, joined, stages_left, stepped, stepped_at}
 use Rattle.mbj_manager.specs.Machine.Between.{times_in}
 use Rattle.mbj_manager.specs.declared.cell.Cell.{Cell}
-use Rattle.mbj_manager.specs.Inside.Courses.{Follows, IsSameRing, courses, job_in, number, number_in}
+use Rattle.mbj_manager.specs.Inside.Courses.{Follows, IsSameRing, courses, job_in, number, ring_number}
 use Rattle.mbj_manager.specs.Inside.Leaving.{At, Gives, IsAbsent, finishers, numbers, others, returned}
 use Rattle.mbj_stage.specs.Handing.{IsNext}
 use Rattle.mbj_manager.specs.Inside.Desk.{Desk, Enters, MayEnter, desk, joined_by, led_all, ran_at, ran_if_full}
 use Rattle.mbj_manager.specs.Inside.LaneQueues.{desk_of, placed_in, with_placed}
 use Rattle.mbj_manager.specs.declared.lane_queues.LaneQueues.{LaneQueues}
 use Rattle.mbj_manager.specs.Inside.PlacedQueue.{Ahead, HasRest, PlacedQueue, Waiter, brings_in, placed_queue, numbered_queue, rounds_in}
-use Rattle.mbj_manager.specs.Inside.Standing.{IsWithin}
+use Rattle.mbj_manager.specs.Inside.Standing.{IsInCourse}
 use Rattle.mbj_manager.specs.Inside.Held.{IsHeld, IsHere, IsOpenAt, IsTied, find_in, found, lane_seen, lines_in, machine_by, machine_in, owed_from, waiting}
 use Rattle.mbj_manager.proofs.KindLines.{put-self}
 use Rattle.mbj_manager.proofs.Listing.{absent-listed}
@@ -48,8 +48,8 @@ absent-times n (w ∷ ws) e =
       absent-times n ws (omega arith),
     )
 
-pub first-here : (n : ℕ) (rest : List ℕ) (cs : List Going) (agenda : List ℕ) (lines : Kind → PlacedQueue) (runs : ℕ) → agenda ≡ n ∷ rest
-    → IsWithin (machine_by cs agenda lines runs) → IsTied cs agenda lines → At IsHere n cs
+pub first-here : (n : ℕ) (rest : List ℕ) (cs : List CourseState) (agenda : List ℕ) (lines : Kind → PlacedQueue) (runs : ℕ) → agenda ≡ n ∷ rest
+    → IsInCourse (machine_by cs agenda lines runs) → IsTied cs agenda lines → At IsHere n cs
 first-here n rest cs agenda lines runs first within tied =
     let m = machine_by cs agenda lines runs in
     let off = first-off n rest m first (within.stands n) in
@@ -58,18 +58,18 @@ first-here n rest cs agenda lines runs first within tied =
 
 -- ---- what finishes at once is done
 
-follow-map : (c : Going) (n : ℕ) (cs : List Going) → At (Follows c) n cs → map pending (changed (λ _. c) n cs) ≡ changed in_lanes_next n (map pending cs)
+follow-map : (c : CourseState) (n : ℕ) (cs : List CourseState) → At (Follows c) n cs → map pending (changed (λ _. c) n cs) ≡ changed in_lanes_next n (map pending cs)
 follow-map c n [] f = absurd f
 follow-map c zero (x ∷ cs) f = ap (λ (t : List Pending). t ∷ map pending cs) f.pending_is
 follow-map c (suc n) (x ∷ cs) f = ap (λ (l : List (List Pending)). pending x ∷ l) (follow-map c n cs f)
 
-follow-first : (c : Going) (n : ℕ) (cs : List Going) → At (Follows c) n cs → in_lanes_next (slice_index_or (map pending cs) n []) ≡ pending c
+follow-first : (c : CourseState) (n : ℕ) (cs : List CourseState) → At (Follows c) n cs → in_lanes_next (slice_index_or (map pending cs) n []) ≡ pending c
 follow-first c n [] f = absurd f
 follow-first c zero (x ∷ cs) f = sym f.pending_is
 follow-first c (suc n) (x ∷ cs) f = follow-first c n cs f
 
 -- the machine that the job goes on in
-pub follow-step : (at : Cause) (c : Going) (n : ℕ) (rest : List ℕ) (cs : List Going) (lines : Kind → PlacedQueue) (runs : ℕ) → At (Follows c) n cs
+pub follow-step : (at : Cause) (c : CourseState) (n : ℕ) (rest : List ℕ) (cs : List CourseState) (lines : Kind → PlacedQueue) (runs : ℕ) → At (Follows c) n cs
     → stepped at (machine_by cs (n ∷ rest) lines runs) ≡ goes_on at n (pending c) (machine_by (changed (λ _. c) n cs) rest lines runs)
 follow-step at c n rest cs lines runs f =
     sym (ap₂ (λ (ps : List Pending) (left : List (List Pending)). goes_on at n ps (record (machine_by cs rest lines runs) { left = left }))
@@ -85,13 +85,13 @@ at-from P x n [] a = absurd a
 at-from P x zero (y ∷ xs) a = a
 at-from P x (suc n) (y ∷ xs) a = at-from P x n xs a
 
--- ---- a job that enters a list, which runs where it is full then
+-- ---- a job that enters a lane queue, which runs where it is full then
 
-record IsTiedAt (k : Kind) (lines : Kind → PlacedQueue) (cs : List Going) (d : Desk) : Type 0 where
+record IsTiedAt (k : Kind) (lines : Kind → PlacedQueue) (cs : List CourseState) (d : Desk) : Type 0 where
   tied : IsTied d.courses d.agenda (put k (placed_queue d.waiters 0 0) lines)
   owed : owed_from 0 (find_in lines) cs ≡ owed_from 0 (find_in (put k (placed_queue d.waiters 0 0) lines)) d.courses
 
--- the length of agenda and list
+-- the length of agenda and lane queue
 entered-length : (at : Cause) (lanes n : ℕ) (a : Ahead) (d : Desk) → length (ran_if_full at lanes (joined_by n a d)).agenda + length (ran_if_full at lanes (joined_by n a d)).waiters
     ≡ length d.agenda + length d.waiters + 1
 entered-length at lanes n a d = go (length (joined_by n a d).waiters == lanes)
@@ -101,7 +101,7 @@ entered-length at lanes n a d = go (length (joined_by n a d).waiters == lanes)
     go true = omega (arith, ran-length at (joined_by n a d), length-append d.waiters ((n, a) ∷ []))
     go false = omega (arith, length-append d.waiters ((n, a) ∷ []))
 
-module _ (k : Kind) (n : ℕ) (a : Ahead) (cs : List Going) (ag : List ℕ) (lines : Kind → PlacedQueue) (r b runs : ℕ) (y : IsTied cs ag lines)
+module _ (k : Kind) (n : ℕ) (a : Ahead) (cs : List CourseState) (ag : List ℕ) (lines : Kind → PlacedQueue) (r b runs : ℕ) (y : IsTied cs ag lines)
     (next : At (IsNext k) n cs) (gives : At (Gives k a.rounds a.brings) n cs) where
   abbrev before : Desk
   before = desk cs ag (lines k).waiters r b runs
@@ -118,7 +118,7 @@ module _ (k : Kind) (n : ℕ) (a : Ahead) (cs : List Going) (ag : List ℕ) (lin
   join-owed : owed_from 0 (find_in lines) cs ≡ owed_from 0 (find_in grown) join.courses
   join-owed = owed-join k (n, a) 0 0 cs lines (absent-listed k n cs (lines k).waiters (at-here k n cs next) (y.listed k)) next gives
 
-  abbrev end_courses : List Waiter → List Going
+  abbrev end_courses : List Waiter → List CourseState
   end_courses ws = returned brings_in join.courses (finishers rounds_in (led_all ws))
 
   abbrev end_agenda : List Waiter → List ℕ
@@ -157,67 +157,67 @@ module _ (k : Kind) (n : ℕ) (a : Ahead) (cs : List Going) (ag : List ℕ) (lin
 
 -- ---- the fields, once what finishes at once is done
 
-module _ (r r1 : RingState Cell) (p : ℕ) (ag ag1 : List ℕ) (ls : LaneQueues) (capacity : ℕ) (x : Going) (y : IsHeld r ag ls capacity) (first : ag ≡ p ∷ ag1)
-    (same : IsSameRing r1 r) (is : courses r1 ≡ changed (λ _. x) (number_in r p) (courses r)) (follows : At (Follows x) (number_in r p) (courses r)) where
-  numbers-first : map (number_in r) ag ≡ number_in r p ∷ map (number_in r) ag1
-  numbers-first = ap (map (number_in r)) first
+module _ (r r1 : RingState Cell) (p : ℕ) (ag ag1 : List ℕ) (ls : LaneQueues) (capacity : ℕ) (x : CourseState) (y : IsHeld r ag ls capacity) (first : ag ≡ p ∷ ag1)
+    (same : IsSameRing r1 r) (is : courses r1 ≡ changed (λ _. x) (ring_number r p) (courses r)) (follows : At (Follows x) (ring_number r p) (courses r)) where
+  numbers-first : map (ring_number r) ag ≡ ring_number r p ∷ map (ring_number r) ag1
+  numbers-first = ap (map (ring_number r)) first
 
-  was-here : At IsHere (number_in r p) (courses r)
-  was-here = first-here (number_in r p) (map (number_in r) ag1) (courses r) (map (number_in r) ag) (lines_in r ls) ls.flush_runs numbers-first y.within y.tied
+  was-here : At IsHere (ring_number r p) (courses r)
+  was-here = first-here (ring_number r p) (map (ring_number r) ag1) (courses r) (map (ring_number r) ag) (lines_in r ls) ls.flush_runs numbers-first y.within y.tied
 
-  tied-rest : IsTied (courses r) (map (number_in r) ag1) (lines_in r ls)
+  tied-rest : IsTied (courses r) (map (ring_number r) ag1) (lines_in r ls)
   tied-rest = record {
     listed = y.tied.listed;
     here = y.tied.here;
-    below = All-tail (λ i. i < length (courses r)) (number_in r p) (map (number_in r) ag1) (subst (All (λ i. i < length (courses r))) numbers-first y.tied.below);
+    below = All-tail (λ i. i < length (courses r)) (ring_number r p) (map (ring_number r) ag1) (subst (All (λ i. i < length (courses r))) numbers-first y.tied.below);
   }
 
-  pub tied-then : IsTied (courses r1) (map (number_in r1) ag1) (lines_in r1 ls)
+  pub tied-then : IsTied (courses r1) (map (ring_number r1) ag1) (lines_in r1 ls)
   tied-then =
       subst (λ (m : ℕ). IsTied (courses r1) (map (number m) ag1) (λ j. numbered_queue (number m) (placed_in j ls))) (sym same.first)
-      (subst (λ (cs : List Going). IsTied cs (map (number_in r) ag1) (lines_in r ls)) (sym is)
-      (tied-follow x (number_in r p) (courses r) (map (number_in r) ag1) (lines_in r ls) follows was-here tied-rest))
+      (subst (λ (cs : List CourseState). IsTied cs (map (ring_number r) ag1) (lines_in r ls)) (sym is)
+      (tied-follow x (ring_number r p) (courses r) (map (ring_number r) ag1) (lines_in r ls) follows was-here tied-rest))
 
   pub owed-then : owed_from 0 (find_in (lines_in r ls)) (courses r) ≡ owed_from 0 (find_in (lines_in r1 ls)) (courses r1)
   owed-then =
-      owed-follow 0 (find_in (lines_in r ls)) x (number_in r p) (courses r) follows
+      owed-follow 0 (find_in (lines_in r ls)) x (ring_number r p) (courses r) follows
       ∙ ap (owed_from 0 (find_in (lines_in r ls))) (sym is)
       ∙ ap (λ (m : ℕ). owed_from 0 (find_in (λ j. numbered_queue (number m) (placed_in j ls))) (courses r1)) (sym same.first)
 
-  pub machine-then : (at : Cause) → stepped at (machine_in r ag ls) ≡ goes_on at (number_in r1 p) (pending x) (machine_in r1 ag1 ls)
+  pub machine-then : (at : Cause) → stepped at (machine_in r ag ls) ≡ goes_on at (ring_number r1 p) (pending x) (machine_in r1 ag1 ls)
   machine-then at =
       ap (λ (a : List ℕ). stepped at (machine_by (courses r) a (lines_in r ls) ls.flush_runs)) numbers-first
-      ∙ follow-step at x (number_in r p) (map (number_in r) ag1) (courses r) (lines_in r ls) ls.flush_runs follows
-      ∙ ap (λ (cs : List Going). goes_on at (number_in r p) (pending x) (machine_by cs (map (number_in r) ag1) (lines_in r ls) ls.flush_runs)) (sym is)
+      ∙ follow-step at x (ring_number r p) (map (ring_number r) ag1) (courses r) (lines_in r ls) ls.flush_runs follows
+      ∙ ap (λ (cs : List CourseState). goes_on at (ring_number r p) (pending x) (machine_by cs (map (ring_number r) ag1) (lines_in r ls) ls.flush_runs)) (sym is)
       ∙ ap (λ (m : ℕ). goes_on at (number m p) (pending x) (machine_by (courses r1) (map (number m) ag1) (λ j. numbered_queue (number m) (placed_in j ls)) ls.flush_runs)) (sym same.first)
 
-  pub within-then : (at : Cause) → IsWithin (stepped at (machine_in r ag ls))
+  pub within-then : (at : Cause) → IsInCourse (stepped at (machine_in r ag ls))
   within-then at =
-      subst (λ (a : List ℕ). IsWithin (stepped_at at a (machine_in r ag ls))) (sym numbers-first)
-      (steps at (number_in r p) (map (number_in r) ag1) (machine_in r ag ls) numbers-first y.within).within
+      subst (λ (a : List ℕ). IsInCourse (stepped_at at a (machine_in r ag ls))) (sym numbers-first)
+      (steps at (ring_number r p) (map (ring_number r) ag1) (machine_in r ag ls) numbers-first y.within).within
 
   pub fewer-then : (at : Cause) → steps_ahead (stepped at (machine_in r ag ls)) < steps_ahead (machine_in r ag ls)
   fewer-then at =
       subst (λ (a : List ℕ). steps_ahead (stepped_at at a (machine_in r ag ls)) < steps_ahead (machine_in r ag ls)) (sym numbers-first)
-      (steps at (number_in r p) (map (number_in r) ag1) (machine_in r ag ls) numbers-first y.within).ahead
+      (steps at (ring_number r p) (map (ring_number r) ag1) (machine_in r ag ls) numbers-first y.within).ahead
 
   pub no-more-then : (at : Cause) → stages_left (stepped at (machine_in r ag ls)).left ≤ stages_left (machine_in r ag ls).left
   no-more-then at =
       subst (λ (a : List ℕ). stages_left (stepped_at at a (machine_in r ag ls)).left ≤ stages_left (machine_in r ag ls).left) (sym numbers-first)
-      (steps at (number_in r p) (map (number_in r) ag1) (machine_in r ag ls) numbers-first y.within).fewer
+      (steps at (ring_number r p) (map (ring_number r) ag1) (machine_in r ag ls) numbers-first y.within).fewer
 
   -- a finished job
   pub finishes : (at : Cause) → pending x ≡ [] → IsStep r r1 ag ag1 ls ls (stepped at (machine_in r ag ls)) capacity
   finishes at none =
       let machine : machine_in r1 ag1 ls ≡ stepped at (machine_in r ag ls)
-      = sym (machine-then at ∙ ap (λ ps. goes_on at (number_in r1 p) ps (machine_in r1 ag1 ls)) none) in
+      = sym (machine-then at ∙ ap (λ ps. goes_on at (ring_number r1 p) ps (machine_in r1 ag1 ls)) none) in
       let fits = y.fits in
       record {
         is = same-state _ _ _ _ _ _ (sym owed-then) (ap (option_map job_in) same.opened) machine;
         kept = record {
           ring = same.courses;
           is_open = subst IsOpenAt (sym same.opened) y.is_open;
-          within = subst IsWithin (sym machine) (within-then at);
+          within = subst IsInCourse (sym machine) (within-then at);
           tied = tied-then;
           fits = omega (arith, ap length first);
           room = y.room;
@@ -225,17 +225,17 @@ module _ (r r1 : RingState Cell) (p : ℕ) (ag ag1 : List ℕ) (ls : LaneQueues)
       }
 
   -- a job whose next stage is in lanes may enter them
-  pub next-then : (k : Kind) → stage_of x ≡ stage.Lane k → At (IsNext k) (number_in r1 p) (courses r1)
+  pub next-then : (k : Kind) → stage_of x ≡ stage.Lane k → At (IsNext k) (ring_number r1 p) (courses r1)
   next-then k st =
       subst (λ (m : ℕ). At (IsNext k) (number m p) (courses r1)) (sym same.first)
-      (subst (λ (cs : List Going). At (IsNext k) (number_in r p) cs) (sym is)
-      (at-new (Follows x) (IsNext k) (λ _. x) (number_in r p) (courses r) (λ z h. record { stage = st; here = h.here }) follows))
+      (subst (λ (cs : List CourseState). At (IsNext k) (ring_number r p) cs) (sym is)
+      (at-new (Follows x) (IsNext k) (λ _. x) (ring_number r p) (courses r) (λ z h. record { stage = st; here = h.here }) follows))
 
   waiters-length : (q : RingState Cell) (k : Kind) → length (lines_in q ls k).waiters ≡ length (placed_in k ls).waiters
-  waiters-length q k = let g : Waiter → Waiter = λ w. (number_in q w.0, w.1) in length-map (placed_in k ls).waiters g
+  waiters-length q k = let g : Waiter → Waiter = λ w. (ring_number q w.0, w.1) in length-map (placed_in k ls).waiters g
 
   pub may-enter : (k : Kind) → stage_of x ≡ stage.Lane k
-      → MayEnter (lanes_of k) k (number_in r1 p) (desk_of k (number_in r1) (courses r1) ag1 ls) capacity
+      → MayEnter (lanes_of k) k (ring_number r1 p) (desk_of k (ring_number r1) (courses r1) ag1 ls) capacity
   may-enter k st =
       let lane = y.within.lanes k in
       let few : length (map waiting (lines_in r ls k).waiters) < lanes_of k = lane.few in
@@ -247,31 +247,31 @@ module _ (r r1 : RingState Cell) (p : ℕ) (ag ag1 : List ℕ) (ls : LaneQueues)
         few = omega (arith, length-map (lines_in r ls k).waiters waiting, waiters-length r k, waiters-length r1 k);
         rests = subst (λ (m : ℕ). All HasRest (numbered_queue (number m) (placed_in k ls)).waiters) (sym same.first) rests;
         listed = tied-then.listed k;
-        room_left = omega (arith, length-map ag1 (number_in r1), waiters-length r1 k, in-total k ls, ap length first);
+        room_left = omega (arith, length-map ag1 (ring_number r1), waiters-length r1 k, in-total k ls, ap length first);
       }
 
   -- and does so
   pub enters : (at : Cause) (k : Kind) (r2 : RingState Cell) (ag2 : List ℕ) (ls2 : LaneQueues) → stage_of x ≡ stage.Lane k → IsSameRing r2 r1
       → ls2 ≡ with_placed k (placed_in k ls2) ls2.flush_runs ls
-      → Enters at (lanes_of k) k (number_in r1 p) (desk_of k (number_in r1) (courses r1) ag1 ls) (desk_of k (number_in r1) (courses r2) ag2 ls2)
+      → Enters at (lanes_of k) k (ring_number r1 p) (desk_of k (ring_number r1) (courses r1) ag1 ls) (desk_of k (ring_number r1) (courses r2) ag2 ls2)
       → IsStep r r2 ag ag2 ls ls2 (stepped at (machine_in r ag ls)) capacity
   enters at k r2 ag2 ls2 st then others-are e =
-      let n = number_in r1 p in
+      let n = ring_number r1 p in
       let a = e.entry in
-      let d1 = desk_of k (number_in r1) (courses r1) ag1 ls in
+      let d1 = desk_of k (ring_number r1) (courses r1) ag1 ls in
       let d = ran_if_full at (lanes_of k) (joined_by n a d1) in
       let m1 = machine_in r1 ag1 ls in
       let lanes : Kind → Queue = λ j. lane_seen (lines_in r1 ls j) in
       let gives : Gives k a.rounds a.brings x
-      = at-from (Gives k a.rounds a.brings) x (number_in r p) (courses r)
-      (subst (λ (m : ℕ). At (Gives k a.rounds a.brings) (number m p) (changed (λ _. x) (number_in r p) (courses r))) same.first
-      (subst (λ (cs : List Going). At (Gives k a.rounds a.brings) n cs) is e.gives)) in
+      = at-from (Gives k a.rounds a.brings) x (ring_number r p) (courses r)
+      (subst (λ (m : ℕ). At (Gives k a.rounds a.brings) (number m p) (changed (λ _. x) (ring_number r p) (courses r))) same.first
+      (subst (λ (cs : List CourseState). At (Gives k a.rounds a.brings) n cs) is e.gives)) in
       let step : stepped at (machine_in r ag ls) ≡ joined at k n a.rounds m1
       = machine-then at ∙ ap (λ ps. goes_on at n ps m1) (pending-lane x k st) ∙ ap (λ (q : ℕ). joined at k n q m1) (sym gives.rest_is) in
       let machine : machine_in r2 ag2 ls2 ≡ stepped at (machine_in r ag ls)
       = moved-machine k r1 r2 ag1 ag2 ls ls2 d then others-are e.is ∙ enters-seen at k lanes n a d1
       ∙ ap (joined at k n a.rounds) (sym (by-desk k (lines_in r1 ls) (lines_in r1 ls) d1 refl (λ j ne. refl))) ∙ sym step in
-      let t = entered-tied k n a (courses r1) (map (number_in r1) ag1) (lines_in r1 ls) (placed_in k ls).rounds (placed_in k ls).blocks ls.flush_runs
+      let t = entered-tied k n a (courses r1) (map (ring_number r1) ag1) (lines_in r1 ls) (placed_in k ls).rounds (placed_in k ls).blocks ls.flush_runs
       tied-then (next-then k st) e.gives at (lanes_of k) in
       let size = moved-length k r1 r2 ag1 ag2 ls ls2 d then others-are e.is in
       let fits = y.fits in
@@ -281,21 +281,21 @@ module _ (r r1 : RingState Cell) (p : ℕ) (ag ag1 : List ℕ) (ls : LaneQueues)
         kept = record {
           ring = then.courses;
           is_open = subst IsOpenAt (sym (then.opened ∙ same.opened)) y.is_open;
-          within = subst IsWithin (sym machine) (within-then at);
+          within = subst IsInCourse (sym machine) (within-then at);
           tied = moved-tied k r1 r2 ag1 ag2 ls ls2 d then others-are e.is t.tied;
-          fits = omega (arith, entered-length at (lanes_of k) n a d1, length-map ag1 (number_in r1), waiters-length r1 k, ap length first);
+          fits = omega (arith, entered-length at (lanes_of k) n a d1, length-map ag1 (ring_number r1), waiters-length r1 k, ap length first);
           room = y.room;
         };
       }
 
 -- ---- a job whose next stage isn't in lanes
 
-not-now : (x : Going) (n : ℕ) (cs : List Going) → At (Follows x) n cs → stage_of x ≢ stage.Now
+not-now : (x : CourseState) (n : ℕ) (cs : List CourseState) → At (Follows x) n cs → stage_of x ≢ stage.Now
 not-now x n [] f = absurd f
 not-now x zero (c ∷ cs) f = f.not_now
 not-now x (suc n) (c ∷ cs) f = not-now x n cs f
 
 -- has none left
-pub none-pending : (x : Going) (n : ℕ) (cs : List Going) (s : Stage) → At (Follows x) n cs → s ≡ stage_of x → (s ≡ stage.Now) ⊎ (s ≡ stage.Finished) → pending x ≡ []
+pub none-pending : (x : CourseState) (n : ℕ) (cs : List CourseState) (s : Stage) → At (Follows x) n cs → s ≡ stage_of x → (s ≡ stage.Now) ⊎ (s ≡ stage.Finished) → pending x ≡ []
 none-pending x n cs s f is (inl now) = absurd (not-now x n cs f (sym is ∙ now))
 none-pending x n cs s f is (inr finished) = pending-finished x (sym is ∙ finished)

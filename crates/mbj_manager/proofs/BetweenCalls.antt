@@ -12,7 +12,7 @@ use Rattle.mbj_manager.specs.declared.lane.Cause.{Cause}
 use Rattle.mbj_manager.specs.declared.lane.Cause.TheVariants as cause
 use Rattle.mbj_manager.specs.Machine.Course.{course, flush_step_at, flushed, in_lanes_next, stages_left}
 use Rattle.mbj_manager.specs.Machine.Between.{HasRounds, IsBetweenCalls, IsPlaced, KeepsMachines, times_in, with_stages}
-use Rattle.mbj_manager.specs.Inside.Standing.{IsWithin, Stands, left_at, times}
+use Rattle.mbj_manager.specs.Inside.Standing.{IsInCourse, Stands, left_at, times}
 use Rattle.mbj_manager.proofs.Changing.{length-changed, other-added}
 use Rattle.mbj_manager.proofs.CourseEnds.{course-ends, lanes-between, stages-at}
 use Rattle.mbj_manager.proofs.Resting.{flush-rests}
@@ -40,7 +40,7 @@ submitted-stands stages m between n = elim (cases_eq (length m.left) n) [
 ]
 
 -- the machine to which a job is submitted is as it is after each step
-pub submitted-within : (stages : List Pending) (m : Machine) → All HasRounds stages → IsBetweenCalls m → IsWithin (with_stages stages m)
+pub submitted-within : (stages : List Pending) (m : Machine) → All HasRounds stages → IsBetweenCalls m → IsInCourse (with_stages stages m)
 submitted-within stages m rounds between = record {
   lanes = lanes-between m between;
   stages = stages-at (m.left ++ stages ∷ []) (All-push (All HasRounds) m.left stages between.stages rounds);
@@ -49,7 +49,7 @@ submitted-within stages m rounds between = record {
 
 -- ---- a flush
 
--- somebody waits in the list of the earliest job
+-- somebody waits in the lane queue of the earliest job
 pub earliest-ready : (k : Kind) (rest : ℕ) (left : List Pending) (m : Machine) → left_at 0 m.left ≡ in_lanes k rest ∷ left
     → IsBetweenCalls m → IsReady k m
 earliest-ready k rest left m earliest between =
@@ -64,7 +64,7 @@ earliest-ready k rest left m earliest between =
       stands = λ n. inr (ap (times n) between.agenda, between.placed n);
     }
 
--- the list of the earliest job runs
+-- the lane queue of the earliest job runs
 pub earliest-runs : (left : List (List Pending)) (k : Kind) (rest : ℕ) (ps : List Pending) (m : Machine)
     → left_at 0 left ≡ in_lanes k rest ∷ ps → flush_step_at (slice_get left 0) m ≡ course cause.Flush (run_within cause.Flush k m)
 earliest-runs [] k rest ps m earliest = cc

@@ -10,7 +10,7 @@ use Rattle.mbj_types.specs.declared.kind.Kind.{Kind}
 use Rattle.mbj_types.specs.Result.{result_of}
 use Rattle.mbj_types.specs.Kinds.{lanes_of}
 use Rattle.mbj_ring.specs.declared.ring.TheConstants.{CELLS}
-use Rattle.mbj_stage.specs.Going.{begun}
+use Rattle.mbj_stage.specs.CourseState.{begun}
 use Rattle.mbj_manager.specs.Machine.Stages.{Pending, pending}
 use Rattle.mbj_manager.specs.Machine.Queues.{Machine, queue_for, idle_queue, count_end}
 use Rattle.mbj_manager.specs.declared.lane.Cause.TheVariants as cause
@@ -57,7 +57,7 @@ given-runs-at (d ∷ ds) [] h = refl
 given-runs-at (d ∷ ds) ([] ∷ left) h = refl
 given-runs-at (d ∷ ds) ((p ∷ ps) ∷ left) h = refl
 
--- how often a flush runs lists
+-- how often a flush runs lane queues
 pub few-runs : (h : ManagerState) → IsSettled h → RisesUpTo (2 * length h.owed) h.machine.flush_runs (after_flush h).1.machine.flush_runs
 few-runs h settled =
     let runs = flush-runs h.machine settled.machine in

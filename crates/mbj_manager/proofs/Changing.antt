@@ -1,4 +1,4 @@
--- A list in which one item is changed, or which has one item more.
+-- A lane queue in which one item is changed, or which has one item more.
 use Rattle.std.proofs.Common.{◌≡◌, ◌≢◌, ℕ, ◌+◌, zero, suc, List, [], ◌∷◌, ◌++◌, length, slice_index_or, refl, ap, sym, arith}
 use Rattle.std.specs.Prelude.{sum_by}
 use Rattle.std.proofs.lemmas.List.Sums.{sum_by-cons}

@@ -19,7 +19,7 @@ flush-runs-left = record {
 
 -- ---- within a flush
 
--- a list that changes keeps its kind's counts, and those of the other kinds
+-- a lane queue that changes keeps its kind's counts, and those of the other kinds
 same-counts : (k j : Kind) (ws : List Waiting) (m : Machine)
     → full_runs k (record m { lanes = with_queue j (with_waiting (queue_for j m) ws) m.lanes }) ≡ full_runs k m
 same-counts k j ws m =

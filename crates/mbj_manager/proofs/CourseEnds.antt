@@ -10,7 +10,7 @@ use Rattle.mbj_manager.specs.Machine.Queues.{Machine, queue_for}
 use Rattle.mbj_manager.specs.declared.lane.Cause.{Cause}
 use Rattle.mbj_manager.specs.Machine.Course.{course, stages_left, stepped, stepped_at}
 use Rattle.mbj_manager.specs.Machine.Between.{HasRounds, IsBetweenCalls}
-use Rattle.mbj_manager.specs.Inside.Standing.{IsLane, IsWithin, left_at, times}
+use Rattle.mbj_manager.specs.Inside.Standing.{IsLane, IsInCourse, left_at, times}
 use Rattle.mbj_manager.proofs.Resting.{rests}
 use Rattle.mbj_manager.proofs.Stepping.{IsStep, steps}
 use Rattle.mbj_manager.specs.Inside.Steps.{steps_ahead}
@@ -24,7 +24,7 @@ stages-at left rounds n = elim (cases_lt n (length left)) [
 ]
 
 -- where the agenda is empty, what holds after each step holds between two calls
-pub between-calls : (m : Machine) → IsWithin m → m.agenda ≡ [] → IsBetweenCalls m
+pub between-calls : (m : Machine) → IsInCourse m → m.agenda ≡ [] → IsBetweenCalls m
 between-calls m within none = record {
   agenda = none;
   few = λ k. (within.lanes k).few;
@@ -47,7 +47,7 @@ pub record Ends (after m : Machine) : Type 0 where
   pub fewer : stages_left after.left ≤ stages_left m.left
 
 -- as many steps as are ahead end the course
-enough-steps : (at : Cause) (count : ℕ) (agenda : List ℕ) (m : Machine) → m.agenda ≡ agenda → IsWithin m → steps_ahead m ≤ count
+enough-steps : (at : Cause) (count : ℕ) (agenda : List ℕ) (m : Machine) → m.agenda ≡ agenda → IsInCourse m → steps_ahead m ≤ count
     → Ends (after_steps at count m) m
 enough-steps at count [] m is within enough =
     subst (λ after. Ends after m) (sym (rests at count m is)) (record { between = between-calls m within is; fewer = omega arith })
@@ -62,6 +62,6 @@ enough-steps at (suc count) (n ∷ agenda) m is within enough =
     record { between = end.between; fewer = omega arith }
 
 -- a course from a machine between two steps
-pub course-ends : (at : Cause) (m : Machine) → IsWithin m → Ends (course at m) m
+pub course-ends : (at : Cause) (m : Machine) → IsInCourse m → Ends (course at m) m
 unfolding course
 course-ends at m within = enough-steps at (steps_ahead m) m.agenda m refl within (omega arith)

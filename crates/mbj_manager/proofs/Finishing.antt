@@ -5,7 +5,7 @@ use Rattle.std.proofs.lemmas.List.{append-nil}
 use Rattle.std.specs.Option.{option_map}
 use Rattle.mbj_lane.specs.Rounds.{taken}
 use Rattle.mbj_types.specs.declared.kind.Kind.{Kind}
-use Rattle.mbj_stage.specs.Going.{Going}
+use Rattle.mbj_stage.specs.CourseState.{CourseState}
 use Rattle.mbj_stage.specs.Handing.{End, IsOut, taken_back}
 use Rattle.mbj_manager.specs.Inside.PlacedQueue.{Waiter, ended, led_waiter, numbered, pair_rest, rounds_in}
 use Rattle.mbj_manager.specs.Inside.Leaving.{At, finishers, others, numbers, IsAbsent}
@@ -20,7 +20,7 @@ at-changed P f zero (suc m) (x ∷ xs) h a = a
 at-changed P f (suc n) zero (x ∷ xs) h a = a
 at-changed P f (suc n) (suc m) (x ∷ xs) h a = at-changed P f n m xs (λ e. h (ap suc e)) a
 
-pub listed-changed : (k : Kind) (f : Going → Going) (m : ℕ) (cs : List Going) (ws : List Waiter) → IsAbsent m ws → Listed k cs ws → Listed k (changed f m cs) ws
+pub listed-changed : (k : Kind) (f : CourseState → CourseState) (m : ℕ) (cs : List CourseState) (ws : List Waiter) → IsAbsent m ws → Listed k cs ws → Listed k (changed f m cs) ws
 listed-changed k f m cs [] a r = tt
 listed-changed k f m cs (w ∷ ws) a r = (at-changed _ f w.0 m cs a.0 r.0, r.1, listed-changed k f m cs ws a.1 r.2)
 
@@ -29,12 +29,12 @@ absent-led m n [] a = tt
 absent-led m n (w ∷ ws) a = (a.0, absent-led m n ws a.1)
 
 -- a run keeps the ends
-pub listed-led : (k : Kind) (cs : List Going) (m : ℕ) (ws : List Waiter) → Listed k cs ws → Listed k cs (map (led_waiter m) ws)
+pub listed-led : (k : Kind) (cs : List CourseState) (m : ℕ) (ws : List Waiter) → Listed k cs ws → Listed k cs (map (led_waiter m) ws)
 listed-led k cs m [] r = tt
 listed-led k cs m (w ∷ ws) r = (r.0, absent-led m w.0 ws r.1, listed-led k cs m ws r.2)
 
 -- what `taken` tells of the finishers and the others
-pub record Took (k : Kind) (cs : List Going) (ws : List Waiter) (w : Waiter) (vs : List Waiter) : Type 0 where
+pub record Took (k : Kind) (cs : List CourseState) (ws : List Waiter) (w : Waiter) (vs : List Waiter) : Type 0 where
   pub leave : finishers rounds_in ws ≡ w ∷ finishers rounds_in vs
   pub stay : others rounds_in ws ≡ others rounds_in vs
   pub out : At (IsOut k w.1.brings) w.0 cs
@@ -75,7 +75,7 @@ absent-taken n (x ∷ ws) w vs h a =
           let P : List Waiter → Type 0 = λ t. (w.0 ≢ n) × IsAbsent n t in subst P u.1.1 (i.0, (a.0, i.1)))
     ]
 
-took-here : (k : Kind) (cs : List Going) (x : Waiter) (ws : List Waiter) → eqb x.1.rounds 0 ≡ true → Listed k cs (x ∷ ws) → Took k cs (x ∷ ws) x ws
+took-here : (k : Kind) (cs : List CourseState) (x : Waiter) (ws : List Waiter) → eqb x.1.rounds 0 ≡ true → Listed k cs (x ∷ ws) → Took k cs (x ∷ ws) x ws
 took-here k cs x ws b r = record {
   leave = rw b refl;
   stay = rw b refl;
@@ -85,7 +85,7 @@ took-here k cs x ws b r = record {
   shorter = sym (add-one (length ws));
 }
 
-took-later : (k : Kind) (cs : List Going) (x : Waiter) (ws : List Waiter) (w : Waiter) (rs : List Waiter)
+took-later : (k : Kind) (cs : List CourseState) (x : Waiter) (ws : List Waiter) (w : Waiter) (rs : List Waiter)
     → eqb x.1.rounds 0 ≡ false → taken (pair_rest rounds_in) ws ≡ Some (w, rs) → Listed k cs (x ∷ ws) → Took k cs ws w rs → Took k cs (x ∷ ws) w (x ∷ rs)
 took-later k cs x ws w rs b h r i =
     let a = absent-taken x.0 ws w rs h r.1 in
@@ -98,7 +98,7 @@ took-later k cs x ws w rs b h r i =
       shorter = omega (arith, i.shorter);
     }
 
-pub took : (k : Kind) (cs : List Going) (ws : List Waiter) (w : Waiter) (vs : List Waiter)
+pub took : (k : Kind) (cs : List CourseState) (ws : List Waiter) (w : Waiter) (vs : List Waiter)
     → taken (pair_rest rounds_in) ws ≡ Some (w, vs) → Listed k cs ws → Took k cs ws w vs
 took k cs [] w vs h r = cc
 took k cs (x ∷ ws) w vs h r =
@@ -110,13 +110,13 @@ took k cs (x ∷ ws) w vs h r =
     ]
 
 -- the same by places
-pub leaves : (k : Kind) (f : ℕ → ℕ) (cs : List Going) (ws vs : List Waiter) (p : ℕ) (e : End) → taken (pair_rest rounds_in) ws ≡ Some ((p, ended e), vs)
+pub leaves : (k : Kind) (f : ℕ → ℕ) (cs : List CourseState) (ws vs : List Waiter) (p : ℕ) (e : End) → taken (pair_rest rounds_in) ws ≡ Some ((p, ended e), vs)
     → Listed k cs (numbered f ws) → Took k cs (numbered f ws) (f p, ended e) (numbered f vs)
 leaves k f cs ws vs p e h r =
     took k cs (numbered f ws) (f p, ended e) (numbered f vs) (numbered-taken f ws ∙ ap (option_map (numbered_split f)) h) r
 
 -- those that leave from here on, too
-pub took-left : (k : Kind) (cs : List Going) (agenda : List ℕ) (ws : List Waiter) (w : Waiter) (vs : List Waiter) (rounds blocks runs : ℕ) → Took k cs ws w vs
+pub took-left : (k : Kind) (cs : List CourseState) (agenda : List ℕ) (ws : List Waiter) (w : Waiter) (vs : List Waiter) (rounds blocks runs : ℕ) → Took k cs ws w vs
     → left_now (desk (changed (taken_back w.1.brings) w.0 cs) (agenda ++ w.0 ∷ []) vs rounds blocks runs) ≡ left_now (desk cs agenda ws rounds blocks runs)
 took-left k cs agenda ws w vs rounds blocks runs t =
     rw (t.leave, t.stay, append_assoc agenda (w.0 ∷ []) (numbers (finishers rounds_in vs))) refl
@@ -135,6 +135,6 @@ none-left (x ∷ ws) h =
     ]
 
 -- nobody leaves any more
-pub none-left-now : (cs : List Going) (agenda : List ℕ) (ws : List Waiter) (rounds blocks runs : ℕ) → taken (pair_rest rounds_in) ws ≡ None
+pub none-left-now : (cs : List CourseState) (agenda : List ℕ) (ws : List Waiter) (rounds blocks runs : ℕ) → taken (pair_rest rounds_in) ws ≡ None
     → left_now (desk cs agenda ws rounds blocks runs) ≡ desk cs agenda ws rounds blocks runs
 none-left-now cs agenda ws rounds blocks runs h = let n = none-left ws h in rw (n.0, n.1, append-nil agenda) refl

@@ -10,7 +10,7 @@ use Rattle.mbj_manager.specs.declared.lane.Cause.TheVariants as cause
 use Rattle.mbj_manager.specs.Machine.Course.{course, flushed, goes_on, in_lanes_next, joined, stages_left, stepped, stepped_at}
 use Rattle.mbj_manager.specs.Machine.Between.{IsBetweenCalls, IsPlaced}
 use Rattle.mbj_manager.specs.Inside.RunsFew.{RunsFew}
-use Rattle.mbj_manager.specs.Inside.Standing.{IsWithin, left_at}
+use Rattle.mbj_manager.specs.Inside.Standing.{IsInCourse, left_at}
 use Rattle.mbj_manager.proofs.BetweenCalls.{earliest-ready, earliest-runs}
 use Rattle.mbj_manager.proofs.Changing.{at-changed}
 use Rattle.mbj_manager.proofs.CourseEnds.{course-ends}
@@ -63,23 +63,23 @@ goes-runs n [] m taken next = none-run m
 goes-runs n (at_once ∷ left) m taken next = none-run m
 goes-runs n (in_lanes k rest ∷ left) m taken next = join-runs k n rest left m taken next
 
-step-runs : (n : ℕ) (agenda : List ℕ) (m : Machine) → m.agenda ≡ n ∷ agenda → IsWithin m → RunsFew (stepped_at cause.Flush (n ∷ agenda) m) m
+step-runs : (n : ℕ) (agenda : List ℕ) (m : Machine) → m.agenda ≡ n ∷ agenda → IsInCourse m → RunsFew (stepped_at cause.Flush (n ∷ agenda) m) m
 step-runs n agenda m first within =
     let t = take_first n agenda m in
     let took : RunsFew t m = record { count = 0; few = (let stages = no-more-stages n m.left in omega arith); is = no-more m.flush_runs } in
     and-then m t (goes_on cause.Flush n (in_lanes_next (left_at n m.left)) t) took
     (goes-runs n (in_lanes_next (left_at n m.left)) t (takes n agenda m first within) (at-changed in_lanes_next [] refl n m.left))
 
-steps-run : (count : ℕ) (agenda : List ℕ) (m : Machine) → m.agenda ≡ agenda → IsWithin m → RunsFew (after_steps cause.Flush count m) m
+steps-run : (count : ℕ) (agenda : List ℕ) (m : Machine) → m.agenda ≡ agenda → IsInCourse m → RunsFew (after_steps cause.Flush count m) m
 steps-run count [] m is within = subst (λ (x : Machine). RunsFew x m) (sym (rests cause.Flush count m is)) (none-run m)
 steps-run zero (n ∷ agenda) m is within = none-run m
 steps-run (suc count) (n ∷ agenda) m is within =
-    let stepped-on = subst (λ a. IsWithin (stepped_at cause.Flush a m)) (sym is) (steps cause.Flush n agenda m is within).within in
+    let stepped-on = subst (λ a. IsInCourse (stepped_at cause.Flush a m)) (sym is) (steps cause.Flush n agenda m is within).within in
     and-then m (stepped cause.Flush m) (after_steps cause.Flush count (stepped cause.Flush m))
     (subst (λ a. RunsFew (stepped_at cause.Flush a m) m) (sym is) (step-runs n agenda m is within))
     (steps-run count (stepped cause.Flush m).agenda (stepped cause.Flush m) refl stepped-on)
 
-course-runs : (m : Machine) → IsWithin m → RunsFew (course cause.Flush m) m
+course-runs : (m : Machine) → IsInCourse m → RunsFew (course cause.Flush m) m
 unfolding course
 course-runs m within = steps-run (steps_ahead m) m.agenda m refl within
 

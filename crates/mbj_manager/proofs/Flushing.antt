@@ -29,7 +29,7 @@ step-runs ([] ∷ left) k m e = cc
 step-runs ((at_once ∷ ps) ∷ left) k m e = cc
 step-runs ((in_lanes j rest ∷ ps) ∷ left) k m e = let is : j ≡ k = cc in ap (λ (i : Kind). course cause.Flush (run_within cause.Flush i m)) is
 
--- the list of the earliest job runs, and the course is followed
+-- the lane queue of the earliest job runs, and the course is followed
 pub flush-next : (m m' end : Machine) (k : Kind) → first_lane m.left ≡ Some k → m' ≡ course cause.Flush (run_within cause.Flush k m) → stages_left m'.left < stages_left m.left
     → FlushReaches m end → FlushReaches m' end
 flush-next m m' end k e is fewer r =
@@ -47,6 +47,6 @@ rests : (count : ℕ) (m : Machine) → first_lane m.left ≡ None → after_flu
 rests zero m e = refl
 rests (suc count) m e = ap (after_flush_steps count) (step-rests m.left m e) ∙ rests count m e
 
--- the earliest job stands in no list
+-- the earliest job stands in no lane queue
 pub flush-end : (m end : Machine) → first_lane m.left ≡ None → FlushReaches m end → m ≡ end
 flush-end m end e r = sym (rests r.count m e) ∙ r.is

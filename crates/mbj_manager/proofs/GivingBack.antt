@@ -27,7 +27,7 @@ earlier w = record { number = w.number - 1; rest = w.rest }
 abbrev pub without_earliest : List (List Pending) → Machine → Machine
 without_earliest left m = record m { left = left; lanes = λ k. renumbered (queue_for k m) }
 
--- where the job 0 isn't in a list, its jobs have the numbers that they had, less one
+-- where the job 0 isn't in a lane queue, its jobs have the numbers that they had, less one
 times-earlier : (n : ℕ) (ws : List Waiting) → times_in 0 ws ≡ 0 → times_in n (map earlier ws) ≡ times_in (suc n) ws
 times-earlier n [] none = refl
 times-earlier n (w ∷ ws) none =

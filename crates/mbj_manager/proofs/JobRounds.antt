@@ -22,7 +22,7 @@ use Rattle.mbj_types.specs.Verdict.{verdict}
 use Rattle.mbj_stage.specs.declared.stage.Step.{Step}
 use Rattle.mbj_stage.specs.declared.stage.Step.TheVariants as step
 use Rattle.mbj_stage.specs.Steps.{auth_stage_by, cbc_kind, cipher_stage_by, steps_by}
-use Rattle.mbj_stage.specs.Going.{begun}
+use Rattle.mbj_stage.specs.CourseState.{begun}
 use Rattle.mbj_stage.proofs.EntryEnds.{cbc-accepted}
 use Rattle.mbj_manager.specs.Machine.Stages.{Pending, in_lanes, pending, pending_by}
 use Rattle.mbj_manager.specs.Machine.Between.{HasRounds}

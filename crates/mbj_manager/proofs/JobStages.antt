@@ -16,7 +16,7 @@ use Rattle.mbj_stage.specs.declared.stage.Stage.{Stage}
 use Rattle.mbj_stage.specs.declared.stage.Stage.TheVariants as stage
 use Rattle.mbj_stage.specs.declared.stage.Step.{Step}
 use Rattle.mbj_stage.specs.Steps.{auth_steps, cipher_steps, ordered, stage_at, steps_by}
-use Rattle.mbj_stage.specs.Going.{begun}
+use Rattle.mbj_stage.specs.CourseState.{begun}
 use Rattle.mbj_manager.specs.Machine.Stages.{Pending, at_once, in_lanes, pending, pending_by}
 use Rattle.mbj_manager.specs.Machine.Course.{in_lanes_next, stages_left}
 use Rattle.mbj_manager.specs.Inside.Standing.{left_at}

@@ -7,7 +7,7 @@ use Rattle.mbj_types.specs.Kinds.{lanes_of}
 use Rattle.mbj_manager.specs.Machine.Queues.{Queue, Waiting, with_queue}
 use Rattle.mbj_manager.proofs.KindLines.{put-case}
 
--- the lanes of a kind with another list
+-- the lanes of a kind with another lane queue
 abbrev pub with_waiting : Queue → List Waiting → Queue
 with_waiting l ws = record l { waiting = ws }
 

@@ -1,11 +1,11 @@
--- Who waits in a list has an entry there, which is out of its course and leads to what the job is owed.
+-- Who waits in a lane queue has an entry there, which is out of its course and leads to what the job is owed.
 use Rattle.std.proofs.Common.{◌≡◌, ℕ, ◌+◌, zero, suc, List, [], ◌∷◌, ◌++◌, map, Option, Some, slice_get, refl, ap, ap₂, sym, ◌∙◌, subst, arith, append_assoc}
 use Rattle.std.proofs.lemmas.Option.{slice_get-map}
 use Rattle.std.specs.Option.{option_map}
 use Rattle.mbj_types.specs.declared.done.Done.{Done}
 use Rattle.mbj_types.specs.declared.job.Job.{Job}
 use Rattle.mbj_types.specs.declared.kind.Kind.{Kind}
-use Rattle.mbj_stage.specs.Going.{Going}
+use Rattle.mbj_stage.specs.CourseState.{CourseState}
 use Rattle.mbj_stage.specs.Handing.{End, IsOut}
 use Rattle.mbj_manager.specs.Machine.Stages.{pending}
 use Rattle.mbj_manager.specs.Machine.Queues.{rest_of}
@@ -31,18 +31,18 @@ there P zero (x ∷ xs) a = record { item = x; is = refl; has = a }
 there P (suc n) (x ∷ xs) a = let t = there P n xs a in record { item = t.item; is = t.is; has = t.has }
 
 -- what is owed for the course there
-owed-there : (first p n : ℕ) (find : Kind → ℕ → Option End) (cs : List Going) (c : Going) → p ≡ first + n → slice_get cs n ≡ Some c
+owed-there : (first p n : ℕ) (find : Kind → ℕ → Option End) (cs : List CourseState) (c : CourseState) → p ≡ first + n → slice_get cs n ≡ Some c
     → slice_get (owed_from first find cs) n ≡ Some (owed_of p find c)
 owed-there first p n find [] c e is = cc
 owed-there first p zero find (x ∷ cs) c e is =
     let here : first ≡ p = omega arith in
     let same : x ≡ c = cc in
-    ap₂ (λ (i : ℕ) (y : Going). Some (owed_of i find y)) here same
+    ap₂ (λ (i : ℕ) (y : CourseState). Some (owed_of i find y)) here same
 owed-there first p (suc n) find (x ∷ cs) c e is = owed-there (suc first) p n find cs c (omega arith) is
 
--- ---- the jobs of a list
+-- ---- the jobs of a lane queue
 
-module _ (k : Kind) (cs : List Going) (agenda : List ℕ) (lines : Kind → PlacedQueue) (runs : ℕ) (opened : Option Job) where
+module _ (k : Kind) (cs : List CourseState) (agenda : List ℕ) (lines : Kind → PlacedQueue) (runs : ℕ) (opened : Option Job) where
   abbrev state : ManagerState
   state = record { owed = owed_from 0 (find_in lines) cs; opened = opened; machine = machine_by cs agenda lines runs }
 
@@ -72,7 +72,7 @@ module _ (k : Kind) (cs : List Going) (agenda : List ℕ) (lines : Kind → Plac
 
 -- ---- the entries of a list
 
--- the list's rests and ends, whatever the numbers of its jobs
+-- the lane queue's rests and ends, whatever the numbers of its jobs
 pub numbered-rests : (f : ℕ → ℕ) (ws : List Waiter) → map rest_of (map waiting (numbered f ws)) ≡ map (pair_rest rounds_in) ws
 numbered-rests f [] = refl
 numbered-rests f (w ∷ ws) = ap (λ (ns : List ℕ). w.1.rounds ∷ ns) (numbered-rests f ws)

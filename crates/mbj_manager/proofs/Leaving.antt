@@ -1,4 +1,4 @@
--- Who leaves a list that runs, and who stays.
+-- Who leaves a lane queue that runs, and who stays.
 use Rattle.std.proofs.Common.{◌≡◌, ◌≢◌, ℕ, ◌+◌, ◌-◌, ◌==◌, ◌<◌, ◌≤◌, min, List, [], ◌∷◌, map, length, not, Bool, true, ◌⊎◌, inl, inr, refl, ap, ◌∙◌, arith}
 use Rattle.std.specs.Prelude.{All, filter}
 use Rattle.std.proofs.lemmas.Bool.{cases_eq, eq-eqb, eqb-false, not-true, cases_Bool}
@@ -14,7 +14,7 @@ lowered m w = record w { rest = w.rest - m }
 abbrev pub is_at_end : Waiting → Bool
 is_at_end w = w.rest == 0
 
--- each of the list leaves or stays
+-- each of the lane queue leaves or stays
 pub leave-or-stay : (ws : List Waiting) → length (leavers (shortened ws)) + length (stayers (shortened ws)) ≡ length ws
 leave-or-stay ws =
     ap (λ n. n + length (stayers (shortened ws))) (length-map (filter is_at_end (shortened ws)) (λ w. w.number))
@@ -34,7 +34,7 @@ leaves-more w ws h = elim (cases_Bool (is_at_end w)) [ inl e ↦ rw e (omega ari
 leaves-first : (w : Waiting) (ws : List Waiting) → w.rest ≡ 0 → 0 < length (leavers (w ∷ ws))
 leaves-first w ws e = let t : is_at_end w ≡ true = eq-eqb w.rest 0 e in rw t (omega arith)
 
--- the least is n itself or the rest of one of the list, who leaves
+-- the least is n itself or the rest of one of the lane queue, who leaves
 least-leaves : (m n : ℕ) (ws : List Waiting) → m ≡ least_from rest_of n ws → (m ≡ n) ⊎ (0 < length (leavers (map (lowered m) ws)))
 least-leaves m n [] e = inl e
 least-leaves m n (w ∷ ws) e = elim (least-leaves m (min n w.rest) ws e) [
@@ -45,7 +45,7 @@ least-leaves m n (w ∷ ws) e = elim (least-leaves m (min n w.rest) ws e) [
   | inr l ↦ inr (leaves-more (lowered m w) (map (lowered m) ws) l)
 ]
 
--- of a list in which somebody waits somebody leaves
+-- of a lane queue in which somebody waits somebody leaves
 pub some-leave : (ws : List Waiting) → 0 < length ws → 0 < length (leavers (shortened ws))
 some-leave [] h = absurd (omega arith)
 some-leave (w ∷ ws) h =

@@ -17,7 +17,7 @@ mod Flushing
 pub mod PendingStages
 mod Unchanged
 mod Counting
-mod CallLaws
+pub mod CallLaws
 mod Lanes
 mod Steps
 mod Changing

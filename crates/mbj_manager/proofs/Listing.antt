@@ -1,11 +1,11 @@
--- Who waits in a list has an entry out: when one joins, and when the course of another changes.
+-- Who waits in a lane queue has an entry out: when one joins, and when the course of another changes.
 use Rattle.std.proofs.Common.{◌≡◌, ◌≢◌, ℕ, ◌+◌, ◌*◌, ◌%◌, ◌≤◌, List, [], ◌∷◌, ◌++◌, length, map, refl, ap, sym, ◌∙◌, subst, arith}
 use Rattle.std.proofs.lemmas.Bool.{eq-eqb, ne_eqb}
 use Rattle.std.proofs.lemmas.List.{length-append, map-append}
 use Rattle.mbj_lane.specs.Rounds.{least}
 use Rattle.std.proofs.lemmas.List.Elements.{All-push}
 use Rattle.mbj_types.specs.declared.kind.Kind.{Kind}
-use Rattle.mbj_stage.specs.Going.{Going}
+use Rattle.mbj_stage.specs.CourseState.{CourseState}
 use Rattle.mbj_stage.specs.Handing.{IsNext, IsOut, handed_out}
 use Rattle.mbj_manager.specs.Machine.Queues.{changed, count_end}
 use Rattle.mbj_manager.specs.declared.lane.Cause.{Cause}
@@ -18,8 +18,8 @@ use Rattle.mbj_manager.proofs.Finishing.{listed-changed}
 use Rattle.mbj_manager.proofs.Numbering.{numbered-least, numbered-led}
 use Rattle.mbj_manager.proofs.Joining.{at-here, at-made, here-not-out}
 
--- a job whose packet is here is in no list
-pub absent-listed : (j : Kind) (m : ℕ) (cs : List Going) (ws : List Waiter) → At IsHere m cs → Listed j cs ws → IsAbsent m ws
+-- a job whose packet is here is in no lane queue
+pub absent-listed : (j : Kind) (m : ℕ) (cs : List CourseState) (ws : List Waiter) → At IsHere m cs → Listed j cs ws → IsAbsent m ws
 absent-listed j m cs [] h r = tt
 absent-listed j m cs (w ∷ ws) h r =
     ((λ z. here-not-out j w.1.brings m cs h (subst (λ (n : ℕ). At (IsOut j w.1.brings) n cs) z r.0)), absent-listed j m cs ws h r.2)
@@ -28,13 +28,13 @@ pub absent-end : (m : ℕ) (w : Waiter) (ws : List Waiter) → IsAbsent m ws →
 absent-end m w [] a h = (h, tt)
 absent-end m w (v ∷ ws) a h = (a.0, absent-end m w ws a.1 h)
 
-pub listed-join : (k : Kind) (w : Waiter) (cs : List Going) (ws : List Waiter) → At (IsOut k w.1.brings) w.0 cs → IsAbsent w.0 ws → Listed k cs ws
+pub listed-join : (k : Kind) (w : Waiter) (cs : List CourseState) (ws : List Waiter) → At (IsOut k w.1.brings) w.0 cs → IsAbsent w.0 ws → Listed k cs ws
     → Listed k cs (ws ++ w ∷ [])
 listed-join k w cs [] o a r = (o, tt, tt)
 listed-join k w cs (v ∷ ws) o a r = (r.0, absent-end v.0 w ws r.1 (λ z. a.0 (sym z)), listed-join k w cs ws o a.1 r.2)
 
--- the list that a job joined
-pub joined-listed : (k : Kind) (w : Waiter) (cs : List Going) (ws : List Waiter) → At (IsNext k) w.0 cs → At (Gives k w.1.rounds w.1.brings) w.0 cs
+-- the lane queue that a job joined
+pub joined-listed : (k : Kind) (w : Waiter) (cs : List CourseState) (ws : List Waiter) → At (IsNext k) w.0 cs → At (Gives k w.1.rounds w.1.brings) w.0 cs
     → Listed k cs ws → Listed k (changed handed_out w.0 cs) (ws ++ w ∷ [])
 joined-listed k w cs ws next gives r =
     let a = absent-listed k w.0 cs ws (at-here k w.0 cs next) r in
@@ -61,14 +61,14 @@ else-waits at lanes d ne = rw (ne_eqb (length d.waiters) lanes ne) refl
 -- ---- what is seen of a list with the courses and the agenda
 
 -- a job joins
-pub joined-desk : (f : ℕ → ℕ) (cs cs' : List Going) (agenda : List ℕ) (l l' : PlacedQueue) (p : ℕ) (a : Ahead) (runs : ℕ) → cs' ≡ changed handed_out (f p) cs
+pub joined-desk : (f : ℕ → ℕ) (cs cs' : List CourseState) (agenda : List ℕ) (l l' : PlacedQueue) (p : ℕ) (a : Ahead) (runs : ℕ) → cs' ≡ changed handed_out (f p) cs
     → l' ≡ with_waiter p a l → desk_at f cs' agenda l' runs ≡ joined_by (f p) a (desk_at f cs agenda l runs)
 joined-desk f cs cs' agenda l l' p a runs out join =
     rw (out, join) (ap (λ (ws : List Waiter). desk (changed handed_out (f p) cs) (map f agenda) ws l.rounds l.blocks runs)
     (map-append (λ (w : Waiter). (f w.0, w.1)) l.waiters ((p, a) ∷ [])))
 
 -- those leave whose rounds are done, once all were led by the least rest
-pub led-desk : (f : ℕ → ℕ) (cs : List Going) (agenda : List ℕ) (l l' : PlacedQueue) (m runs : ℕ) → l' ≡ led_queue m l → m ≡ least (pair_rest rounds_in) l.waiters
+pub led-desk : (f : ℕ → ℕ) (cs : List CourseState) (agenda : List ℕ) (l l' : PlacedQueue) (m runs : ℕ) → l' ≡ led_queue m l → m ≡ least (pair_rest rounds_in) l.waiters
     → left_now (desk_at f cs agenda l' 0) ≡ record (left_by (led_all (numbered f l.waiters)) (desk_at f cs agenda l runs)) { flush_runs = 0 }
 led-desk f cs agenda l l' m runs led is =
     let ws : numbered f (map (led_waiter m) l.waiters) ≡ led_all (numbered f l.waiters)

@@ -1,4 +1,4 @@
--- A step of a manager's lists: what it comes to for the machine, for what is owed, and for what is kept.
+-- A step of a manager's lane queues: what it comes to for the machine, for what is owed, and for what is kept.
 use Rattle.std.proofs.Common.{◌≡◌, ◌≢◌, ℕ, zero, suc, ◌+◌, ◌≤◌, ◌<◌, List, [], ◌∷◌, length, map, Option, Some, inl, inr, refl, ap, sym, ◌∙◌, subst, arith}
 use Rattle.std.specs.Prelude.{All, option_map}
 use Rattle.std.proofs.lemmas.List.{length-append, length-map}
@@ -7,7 +7,7 @@ use Rattle.mbj_types.specs.declared.job.Job.{Job}
 use Rattle.mbj_types.specs.declared.kind.Kind.{Kind}
 use Rattle.mbj_types.specs.declared.kind.Kind.TheVariants as kind
 use Rattle.mbj_ring.specs.Ring.{RingState}
-use Rattle.mbj_stage.specs.Going.{Going}
+use Rattle.mbj_stage.specs.CourseState.{CourseState}
 use Rattle.mbj_manager.specs.Machine.Stages.{Pending, at_once, in_lanes, pending}
 use Rattle.mbj_manager.specs.Machine.Queues.{Queue, Machine, put, run_within}
 use Rattle.mbj_manager.specs.declared.lane.Cause.{Cause}
@@ -15,13 +15,13 @@ use Rattle.mbj_manager.specs.declared.lane.Cause.TheVariants as cause
 use Rattle.mbj_manager.specs.State.{ManagerState}
 use Rattle.mbj_manager.specs.declared.cell.Cell.{Cell}
 use Rattle.mbj_manager.specs.Inside.Added.{first_lane}
-use Rattle.mbj_manager.specs.Inside.Courses.{IsSameRing, courses, job_in, number, number_in}
+use Rattle.mbj_manager.specs.Inside.Courses.{IsSameRing, courses, job_in, number, ring_number}
 use Rattle.mbj_manager.specs.Inside.Leaving.{finishers, numbers, others}
 use Rattle.mbj_manager.specs.Inside.Desk.{Desk, IsReady, desk, led_all, ran_at}
 use Rattle.mbj_manager.specs.Inside.LaneQueues.{desk_of, placed_in, total, with_placed}
 use Rattle.mbj_manager.specs.declared.lane_queues.LaneQueues.{LaneQueues}
 use Rattle.mbj_manager.specs.Inside.PlacedQueue.{HasRest, PlacedQueue, Waiter, led_waiter, placed_queue, numbered, numbered_queue, pair_rest, rounds_in}
-use Rattle.mbj_manager.specs.Inside.Standing.{IsWithin, left_at}
+use Rattle.mbj_manager.specs.Inside.Standing.{IsInCourse, left_at}
 use Rattle.mbj_manager.specs.Inside.Held.{IsHeld, IsOpenAt, IsTied, find_in, found, held, lane_seen, lines_in, machine_by, machine_in, owed_from, waiting}
 use Rattle.mbj_lane.specs.Rounds.{least}
 use Rattle.mbj_manager.proofs.BetweenCalls.{earliest-ready}
@@ -33,7 +33,7 @@ use Rattle.mbj_manager.proofs.Finishing.{zero-or}
 use Rattle.mbj_manager.proofs.Seeing.{by-desk, machine_at, run-seen}
 use Rattle.mbj_manager.proofs.Tying.{ran-list, tied-same}
 
--- ---- the lists of all kinds
+-- ---- the lane queues of all kinds
 
 line-put : (k j : Kind) (l : PlacedQueue) (n : ℕ) (ls : LaneQueues) → placed_in j (with_placed k l n ls) ≡ put k l (λ i. placed_in i ls) j
 line-put kind.Cbc128 kind.Cbc128 l n ls = refl
@@ -57,21 +57,21 @@ total-line : (k : Kind) (ls ls' : LaneQueues) → ls' ≡ with_placed k (placed_
 total-line kind.Cbc128 ls ls' e = let t = ap total e in omega arith
 total-line _ ls ls' e = let t = ap total e in omega arith
 
--- ---- a step of the list of the kind k
+-- ---- a step of the lane queue of the kind k
 
 module _ (k : Kind) (r r' : RingState Cell) (ag ag' : List ℕ) (ls ls' : LaneQueues) (d : Desk) (same : IsSameRing r' r)
-    (others-same : ls' ≡ with_placed k (placed_in k ls') ls'.flush_runs ls) (is : desk_of k (number_in r) (courses r') ag' ls' ≡ d) where
-  -- the lists then, by the numbers of before
+    (others-same : ls' ≡ with_placed k (placed_in k ls') ls'.flush_runs ls) (is : desk_of k (ring_number r) (courses r') ag' ls' ≡ d) where
+  -- the lane queues then, by the numbers of before
   abbrev after : Kind → PlacedQueue
-  after j = numbered_queue (number_in r) (placed_in j ls')
+  after j = numbered_queue (ring_number r) (placed_in j ls')
 
   other-lines : (j : Kind) → j ≢ k → after j ≡ lines_in r ls j
-  other-lines j ne = ap (numbered_queue (number_in r)) (ap (placed_in j) others-same ∙ line-other k j (placed_in k ls') ls'.flush_runs ls ne)
+  other-lines j ne = ap (numbered_queue (ring_number r)) (ap (placed_in j) others-same ∙ line-other k j (placed_in k ls') ls'.flush_runs ls ne)
 
   pub moved-machine : machine_in r' ag' ls' ≡ machine_at k (λ j. lane_seen (lines_in r ls j)) d
   moved-machine =
       ap (λ (n : ℕ). machine_by (courses r') (map (number n) ag') (λ j. numbered_queue (number n) (placed_in j ls')) ls'.flush_runs) same.first
-      ∙ by-desk k (lines_in r ls) after (desk_of k (number_in r) (courses r') ag' ls') refl other-lines
+      ∙ by-desk k (lines_in r ls) after (desk_of k (ring_number r) (courses r') ag' ls') refl other-lines
       ∙ ap (machine_at k (λ j. lane_seen (lines_in r ls j))) is
 
   abbrev expected : Kind → PlacedQueue
@@ -83,7 +83,7 @@ module _ (k : Kind) (r r' : RingState Cell) (ag ag' : List ℕ) (ls ls' : LaneQu
     | inr e ↦ ap (λ (x : PlacedQueue). x.waiters) (e.1 ∙ sym (other-lines j e.0))
   ]
 
-  pub moved-tied : IsTied d.courses d.agenda expected → IsTied (courses r') (map (number_in r') ag') (lines_in r' ls')
+  pub moved-tied : IsTied d.courses d.agenda expected → IsTied (courses r') (map (ring_number r') ag') (lines_in r' ls')
   moved-tied y =
       subst (λ (n : ℕ). IsTied (courses r') (map (number n) ag') (λ j. numbered_queue (number n) (placed_in j ls'))) (sym same.first)
       (subst (λ (x : Desk). IsTied x.courses x.agenda after) (sym is) (tied-same d.courses d.agenda expected after same-waits y))
@@ -96,11 +96,11 @@ module _ (k : Kind) (r r' : RingState Cell) (ag ag' : List ℕ) (ls ls' : LaneQu
 
   pub moved-length : length ag' + total ls' + length (placed_in k ls).waiters ≡ length d.agenda + length d.waiters + total ls
   moved-length =
-      let a : length (map (number_in r) ag') ≡ length d.agenda = ap (λ (x : Desk). length x.agenda) is in
-      let w : length (numbered (number_in r) (placed_in k ls').waiters) ≡ length d.waiters = ap (λ (x : Desk). length x.waiters) is in
-      let g : Waiter → Waiter = λ x. (number_in r x.0, x.1) in
-      let l : length (numbered (number_in r) (placed_in k ls').waiters) ≡ length (placed_in k ls').waiters = length-map (placed_in k ls').waiters g in
-      omega (arith, total-line k ls ls' others-same, length-map ag' (number_in r))
+      let a : length (map (ring_number r) ag') ≡ length d.agenda = ap (λ (x : Desk). length x.agenda) is in
+      let w : length (numbered (ring_number r) (placed_in k ls').waiters) ≡ length d.waiters = ap (λ (x : Desk). length x.waiters) is in
+      let g : Waiter → Waiter = λ x. (ring_number r x.0, x.1) in
+      let l : length (numbered (ring_number r) (placed_in k ls').waiters) ≡ length (placed_in k ls').waiters = length-map (placed_in k ls').waiters g in
+      omega (arith, total-line k ls ls' others-same, length-map ag' (ring_number r))
 
 -- ---- how many there are
 
@@ -117,7 +117,7 @@ ran-length cause.Submit d =
 ran-length cause.Flush d =
     omega (arith, length-append d.agenda (numbers (finishers rounds_in (led_all d.waiters))), finish-length (led_all d.waiters), length-map d.waiters (led_waiter (least (pair_rest rounds_in) d.waiters)))
 
--- ---- the list of the earliest job
+-- ---- the lane queue of the earliest job
 
 first-stage : (left : List (List Pending)) (k : Kind) → first_lane left ≡ Some k → (rest : ℕ) × ((ps : List Pending) × (left_at 0 left ≡ in_lanes k rest ∷ ps))
 first-stage [] k h = cc
@@ -125,7 +125,7 @@ first-stage ([] ∷ left) k h = cc
 first-stage ((at_once ∷ ps) ∷ left) k h = cc
 first-stage ((in_lanes j rest ∷ ps) ∷ left) k h = let e : j ≡ k = cc in (rest, (ps, ap (λ (i : Kind). in_lanes i rest ∷ ps) e))
 
-pub first-machine : (k : Kind) (m : Machine) → m.agenda ≡ [] → first_lane m.left ≡ Some k → IsWithin m → Running.IsReady k m
+pub first-machine : (k : Kind) (m : Machine) → m.agenda ≡ [] → first_lane m.left ≡ Some k → IsInCourse m → Running.IsReady k m
 first-machine k m idle first within =
     let s = first-stage m.left k first in earliest-ready k s.0 s.1.0 m s.1.1 (between-calls m within idle)
 
@@ -134,8 +134,8 @@ have-rests [] a n d lt = absurd (omega arith)
 have-rests (w ∷ ws) a zero d lt = a 0 (waiting w) (omega arith)
 have-rests (w ∷ ws) a (suc n) d lt = have-rests ws (λ i x l. a (suc i) x (omega arith)) n d (omega arith)
 
-pub first-ready : (k : Kind) (cs : List Going) (agenda : List ℕ) (lines : Kind → PlacedQueue) (runs room : ℕ) → agenda ≡ [] → first_lane (map pending cs) ≡ Some k
-    → IsWithin (machine_by cs agenda lines runs) → IsTied cs agenda lines → length agenda + length (lines k).waiters ≤ room
+pub first-ready : (k : Kind) (cs : List CourseState) (agenda : List ℕ) (lines : Kind → PlacedQueue) (runs room : ℕ) → agenda ≡ [] → first_lane (map pending cs) ≡ Some k
+    → IsInCourse (machine_by cs agenda lines runs) → IsTied cs agenda lines → length agenda + length (lines k).waiters ≤ room
     → IsReady k (desk cs agenda (lines k).waiters (lines k).rounds (lines k).blocks runs) room
 first-ready k cs agenda lines runs room idle first within tied fits =
     let m = machine_by cs agenda lines runs in
@@ -168,31 +168,31 @@ same-state a b o p m n x y z = rw (x, y, z) refl
 
 -- how many may join or leave a list
 pub room-in : (k : Kind) (r : RingState Cell) (ag : List ℕ) (ls : LaneQueues) (capacity : ℕ) → IsHeld r ag ls capacity
-    → length (map (number_in r) ag) + length (lines_in r ls k).waiters ≤ capacity
+    → length (map (ring_number r) ag) + length (lines_in r ls k).waiters ≤ capacity
 room-in k r ag ls capacity y =
-    let g : Waiter → Waiter = λ x. (number_in r x.0, x.1) in
+    let g : Waiter → Waiter = λ x. (ring_number r x.0, x.1) in
     let l : length (lines_in r ls k).waiters ≡ length (placed_in k ls).waiters = length-map (placed_in k ls).waiters g in
     let fits = y.fits in
     let room = y.room in
-    omega (arith, in-total k ls, length-map ag (number_in r))
+    omega (arith, in-total k ls, length-map ag (ring_number r))
 
--- the list of the earliest job runs
+-- the lane queue of the earliest job runs
 pub runs-first : (k : Kind) (r r' : RingState Cell) (ag ag' : List ℕ) (ls ls' : LaneQueues) (capacity : ℕ) → IsHeld r ag ls capacity
-    → map (number_in r) ag ≡ [] → first_lane (map pending (courses r)) ≡ Some k → IsSameRing r' r
+    → map (ring_number r) ag ≡ [] → first_lane (map pending (courses r)) ≡ Some k → IsSameRing r' r
     → ls' ≡ with_placed k (placed_in k ls') ls'.flush_runs ls
-    → desk_of k (number_in r) (courses r') ag' ls' ≡ ran_at cause.Flush (desk_of k (number_in r) (courses r) ag ls)
+    → desk_of k (ring_number r) (courses r') ag' ls' ≡ ran_at cause.Flush (desk_of k (ring_number r) (courses r) ag ls)
     → IsStep r r' ag ag' ls ls' (run_within cause.Flush k (machine_in r ag ls)) capacity
 runs-first k r r' ag ag' ls ls' capacity y idle first same others-are is =
-    let d0 = desk_of k (number_in r) (courses r) ag ls in
+    let d0 = desk_of k (ring_number r) (courses r) ag ls in
     let d = ran_at cause.Flush d0 in
     let m = machine_in r ag ls in
     let lanes : Kind → Queue = λ j. lane_seen (lines_in r ls j) in
-    let ran = ran-list k (courses r) (map (number_in r) ag) (lines_in r ls) y.tied in
+    let ran = ran-list k (courses r) (map (ring_number r) ag) (lines_in r ls) y.tied in
     let machine : machine_in r' ag' ls' ≡ run_within cause.Flush k m
     = moved-machine k r r' ag ag' ls ls' d same others-are is ∙ run-seen cause.Flush k lanes d0
     ∙ ap (run_within cause.Flush k) (sym (by-desk k (lines_in r ls) (lines_in r ls) d0 refl (λ j ne. refl))) in
     let size = moved-length k r r' ag ag' ls ls' d same others-are is in
-    let g : Waiter → Waiter = λ x. (number_in r x.0, x.1) in
+    let g : Waiter → Waiter = λ x. (ring_number r x.0, x.1) in
     let l : length d0.waiters ≡ length (placed_in k ls).waiters = length-map (placed_in k ls).waiters g in
     let fits = y.fits in
     record {
@@ -200,9 +200,9 @@ runs-first k r r' ag ag' ls ls' capacity y idle first same others-are is =
       kept = record {
         ring = same.courses;
         is_open = subst IsOpenAt (sym same.opened) y.is_open;
-        within = subst IsWithin (sym machine) (Running.idle-keeps k m (first-machine k m idle first y.within)).within;
+        within = subst IsInCourse (sym machine) (Running.idle-keeps k m (first-machine k m idle first y.within)).within;
         tied = moved-tied k r r' ag ag' ls ls' d same others-are is ran.tied;
-        fits = omega (arith, ran-length cause.Flush d0, length-map ag (number_in r));
+        fits = omega (arith, ran-length cause.Flush d0, length-map ag (ring_number r));
         room = y.room;
       };
     }

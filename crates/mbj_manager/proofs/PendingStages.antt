@@ -8,7 +8,7 @@ use Rattle.mbj_stage.specs.declared.stage.Stage.{Stage}
 use Rattle.mbj_stage.specs.declared.stage.Stage.TheVariants as stage
 use Rattle.mbj_stage.specs.declared.stage.Step.{Step}
 use Rattle.mbj_stage.specs.Steps.{stage_at}
-use Rattle.mbj_stage.specs.Going.{Going, ran, ran_at, stage_of}
+use Rattle.mbj_stage.specs.CourseState.{CourseState, ran, ran_at, stage_of}
 use Rattle.mbj_stage.specs.Handing.{End, handed_out, taken_back, taken_back_at}
 use Rattle.mbj_stage.proofs.StagesOf.{finished-left, stage-first, stage-packet}
 use Rattle.mbj_manager.specs.Machine.Stages.{Pending, in_lanes, pending, pending_by}
@@ -38,7 +38,7 @@ pending-packet j p (s ∷ left) =
     (pending-packet j p left)
 
 -- the stages of a course whose packet goes out
-pub pending-out : (c : Going) → pending (handed_out c) ≡ pending c
+pub pending-out : (c : CourseState) → pending (handed_out c) ≡ pending c
 pending-out c = pending-packet c.job [] c.left
 
 -- ---- a stage at once
@@ -49,21 +49,21 @@ now-next stage.Now j ps e = refl
 now-next (stage.Lane k) j ps e = cc
 now-next stage.Finished j ps e = cc
 
-ran-next-at : (c : Going) (left : List Step) → stage_at c.job left ≡ stage.Now
+ran-next-at : (c : CourseState) (left : List Step) → stage_at c.job left ≡ stage.Now
     → in_lanes_next (pending_at (ran_at c left).job (ran_at c left).left) ≡ in_lanes_next (pending_at c.job left)
 ran-next-at c [] h = cc
 ran-next-at c (s ∷ left) h =
     ap in_lanes_next (pending-packet c.job _ left)
     ∙ sym (now-next (stage_at c.job (s ∷ [])) c.job (pending_at c.job left) (sym (stage-first c.job s left) ∙ h))
 
-pub ran-next : (c : Going) → stage_of c ≡ stage.Now → in_lanes_next (pending (ran c)) ≡ in_lanes_next (pending c)
+pub ran-next : (c : CourseState) → stage_of c ≡ stage.Now → in_lanes_next (pending (ran c)) ≡ in_lanes_next (pending c)
 ran-next c h = ran-next-at c c.left h
 
-ran-out-at : (c : Going) (left : List Step) → (ran_at c left).out ≡ c.out
+ran-out-at : (c : CourseState) (left : List Step) → (ran_at c left).out ≡ c.out
 ran-out-at c [] = refl
 ran-out-at c (s ∷ left) = refl
 
-pub ran-out : (c : Going) → (ran c).out ≡ c.out
+pub ran-out : (c : CourseState) → (ran c).out ≡ c.out
 ran-out c = ran-out-at c c.left
 
 -- ---- a stage in lanes, or none
@@ -82,7 +82,7 @@ not-now-at j (s ∷ left) h =
     not-now-by (stage_at j (s ∷ [])) j (pending_at j left) (λ e. h (stage-first j s left ∙ e)) (never-finished j s [])
 
 -- where no stage finishes at once, the stages are those in lanes and later ones
-pub not-now-next : (c : Going) → stage_of c ≢ stage.Now → in_lanes_next (pending c) ≡ pending c
+pub not-now-next : (c : CourseState) → stage_of c ≢ stage.Now → in_lanes_next (pending c) ≡ pending c
 not-now-next c h = not-now-at c.job c.left h
 
 -- the first stage is in lanes
@@ -101,10 +101,10 @@ lane-at : (j : Job) (left : List Step) (k : Kind) → stage_at j left ≡ stage.
 lane-at j [] k h = cc
 lane-at j (s ∷ left) k h = lane-by (stage_at j (s ∷ [])) j (pending_at j left) k (sym (stage-first j s left) ∙ h)
 
-pub pending-lane : (c : Going) (k : Kind) → stage_of c ≡ stage.Lane k → pending c ≡ in_lanes k (rounds_of k c.job) ∷ later_at c.job c.left
+pub pending-lane : (c : CourseState) (k : Kind) → stage_of c ≡ stage.Lane k → pending c ≡ in_lanes k (rounds_of k c.job) ∷ later_at c.job c.left
 pending-lane c k h = lane-at c.job c.left k h
 
-pub pending-finished : (c : Going) → stage_of c ≡ stage.Finished → pending c ≡ []
+pub pending-finished : (c : CourseState) → stage_of c ≡ stage.Finished → pending c ≡ []
 pending-finished c h = ap (pending_at c.job) (finished-left c.job c.left h)
 
 some-by : (s : Stage) (j : Job) (ps : List Pending) → s ≢ stage.Finished → pending_by s j ++ ps ≢ []
@@ -117,7 +117,7 @@ none-left-at j [] h = refl
 none-left-at j (s ∷ left) h = absurd (some-by (stage_at j (s ∷ [])) j (pending_at j left) (never-finished j s []) h)
 
 -- a course with no stage left is finished
-pub finished-pending : (c : Going) → pending c ≡ [] → stage_of c ≡ stage.Finished
+pub finished-pending : (c : CourseState) → pending c ≡ [] → stage_of c ≡ stage.Finished
 finished-pending c h = none-left-at c.job c.left h
 
 -- ---- a packet that comes back
@@ -127,11 +127,11 @@ first-by stage.Now j ps f = refl
 first-by (stage.Lane k) j ps f = refl
 first-by stage.Finished j ps f = absurd (f refl)
 
-back-at : (left : List Step) (c : Going) (e : End) → c.left ≡ left → pending (taken_back_at left e c) ≡ drop 1 (pending_at c.job left)
+back-at : (left : List Step) (c : CourseState) (e : End) → c.left ≡ left → pending (taken_back_at left e c) ≡ drop 1 (pending_at c.job left)
 back-at [] c e is = ap (pending_at c.job) is
 back-at (s ∷ left) c e is =
     pending-packet c.job e.packet left ∙ sym (first-by (stage_at c.job (s ∷ [])) c.job (pending_at c.job left) (never-finished c.job s []))
 
 -- the first stage is done
-pub pending-back : (c : Going) (e : End) → pending (taken_back e c) ≡ drop 1 (pending c)
+pub pending-back : (c : CourseState) (e : End) → pending (taken_back e c) ≡ drop 1 (pending c)
 pending-back c e = back-at c.left c e refl

@@ -7,7 +7,7 @@ use Rattle.mbj_types.specs.declared.done.Done.{Done}
 use Rattle.mbj_types.specs.declared.kind.Kind.{Kind}
 use Rattle.mbj_ring.specs.declared.ring.TheConstants.{CELLS}
 use Rattle.mbj_ring.specs.Ring.{RingState, ring, without_first}
-use Rattle.mbj_stage.specs.Going.{Going, owed, stage_of}
+use Rattle.mbj_stage.specs.CourseState.{CourseState, owed, stage_of}
 use Rattle.mbj_stage.specs.Handing.{End, IsOut}
 use Rattle.mbj_stage.specs.declared.stage.Stage.{Stage}
 use Rattle.mbj_stage.specs.declared.stage.Stage.TheVariants as stage
@@ -16,13 +16,13 @@ use Rattle.mbj_manager.specs.Machine.Queues.{Queue, Machine, Waiting, queue_for}
 use Rattle.mbj_manager.specs.Machine.Between.{IsBetweenCalls}
 use Rattle.mbj_manager.specs.State.{ManagerState, after_get_completed, given_at, renumbered}
 use Rattle.mbj_manager.specs.declared.cell.Cell.{Cell}
-use Rattle.mbj_manager.specs.Inside.Courses.{IsGoing, course_in, courses, number, number_in}
+use Rattle.mbj_manager.specs.Inside.Courses.{IsGoing, course_in, courses, number, ring_number}
 use Rattle.mbj_manager.specs.Inside.Leaving.{At, IsAbsent}
 use Rattle.mbj_manager.specs.Inside.Desk.{Listed}
 use Rattle.mbj_manager.specs.Inside.LaneQueues.{placed_in}
 use Rattle.mbj_manager.specs.declared.lane_queues.LaneQueues.{LaneQueues}
 use Rattle.mbj_manager.specs.Inside.PlacedQueue.{PlacedQueue, Waiter, placed_queue, numbered}
-use Rattle.mbj_manager.specs.Inside.Standing.{IsWithin, times}
+use Rattle.mbj_manager.specs.Inside.Standing.{IsInCourse, times}
 use Rattle.mbj_manager.specs.Inside.Held.{IsHeld, IsTied, find_in, found, held, lane_seen, lines_in, machine_in, owed_by, owed_from, owed_here, owed_of, waiting}
 use Rattle.mbj_manager.proofs.Adding.{map-nil}
 use Rattle.mbj_manager.proofs.CourseEnds.{between-calls, lanes-between, stages-at}
@@ -30,7 +30,7 @@ use Rattle.mbj_manager.proofs.GivingBack.{back-between, earlier, without_earlies
 use Rattle.mbj_manager.proofs.Moving.{same-state}
 use Rattle.mbj_manager.proofs.PendingStages.{finished-pending}
 
--- ---- lists with numbers one lower
+-- ---- lane queues with numbers one lower
 
 abbrev lower : Waiter → Waiter
 lower w = (w.0 - 1, w.1)
@@ -39,17 +39,17 @@ abbrev low : PlacedQueue → PlacedQueue
 low l = placed_queue (map lower l.waiters) l.rounds l.blocks
 
 -- the course of the job is behind the first one, which is finished
-behind : (k : Kind) (e : End) (n : ℕ) (c : Going) (cs : List Going) → stage_of c ≡ stage.Finished → At (IsOut k e) n (c ∷ cs)
+behind : (k : Kind) (e : End) (n : ℕ) (c : CourseState) (cs : List CourseState) → stage_of c ≡ stage.Finished → At (IsOut k e) n (c ∷ cs)
     → (m : ℕ) × ((n ≡ suc m) × At (IsOut k e) m cs)
 behind k e zero c cs done a = let is = a.stage in cc
 behind k e (suc m) c cs done a = (m, (refl, a))
 
--- no job of the list is the first one
+-- no job of the lane queue is the first one
 abbrev AreLater : List Waiter → Type 0
 AreLater [] = Unit {0}
 AreLater (w ∷ ws) = (1 ≤ w.0) × AreLater ws
 
-later : (k : Kind) (c : Going) (cs : List Going) (ws : List Waiter) → stage_of c ≡ stage.Finished → Listed k (c ∷ cs) ws → AreLater ws
+later : (k : Kind) (c : CourseState) (cs : List CourseState) (ws : List Waiter) → stage_of c ≡ stage.Finished → Listed k (c ∷ cs) ws → AreLater ws
 later k c cs [] done r = tt
 later k c cs (w ∷ ws) done r = let b = behind k w.1.brings w.0 c cs done r.0 in (omega (arith, b.1.0), later k c cs ws done r.2)
 
@@ -61,7 +61,7 @@ low-absent : (n : ℕ) (ws : List Waiter) → IsAbsent n (map lower ws) → IsAb
 low-absent n [] a = tt
 low-absent n (w ∷ ws) a = ((λ e. a.0 (omega (arith, e))), low-absent n ws a.1)
 
-listed-low : (k : Kind) (c : Going) (cs : List Going) (ws : List Waiter) → stage_of c ≡ stage.Finished → Listed k (c ∷ cs) ws → Listed k cs (map lower ws)
+listed-low : (k : Kind) (c : CourseState) (cs : List CourseState) (ws : List Waiter) → stage_of c ≡ stage.Finished → Listed k (c ∷ cs) ws → Listed k cs (map lower ws)
 listed-low k c cs [] done r = tt
 listed-low k c cs (w ∷ ws) done r =
     let b = behind k w.1.brings w.0 c cs done r.0 in
@@ -79,20 +79,20 @@ found-low n (w ∷ ws) l =
 
 -- ---- what holds without the first course
 
-tied-low : (c : Going) (cs : List Going) (lines : Kind → PlacedQueue) → stage_of c ≡ stage.Finished → IsTied (c ∷ cs) [] lines → IsTied cs [] (λ k. low (lines k))
+tied-low : (c : CourseState) (cs : List CourseState) (lines : Kind → PlacedQueue) → stage_of c ≡ stage.Finished → IsTied (c ∷ cs) [] lines → IsTied cs [] (λ k. low (lines k))
 tied-low c cs lines done y = record {
   listed = λ k. listed-low k c cs (lines k).waiters done (y.listed k);
   here = λ n lt a. y.here (suc n) (omega arith) (λ k. low-absent n (lines k).waiters (a k));
   below = All-nil (λ n. n < length cs);
 }
 
-owed_by-low : (n : ℕ) (find find' : Kind → ℕ → Option End) (s : Stage) (c : Going) → ((k : Kind) → find k (suc n) ≡ find' k n)
+owed_by-low : (n : ℕ) (find find' : Kind → ℕ → Option End) (s : Stage) (c : CourseState) → ((k : Kind) → find k (suc n) ≡ find' k n)
     → owed_by s (suc n) find c ≡ owed_by s n find' c
 owed_by-low n find find' stage.Now c h = refl
 owed_by-low n find find' stage.Finished c h = refl
 owed_by-low n find find' (stage.Lane k) c h = ap (Rattle.mbj_manager.specs.Inside.Held.owed_found c) (h k)
 
-owed-low : (n : ℕ) (find find' : Kind → ℕ → Option End) (cs : List Going) → ((k : Kind) (m : ℕ) → find k (suc m) ≡ find' k m)
+owed-low : (n : ℕ) (find find' : Kind → ℕ → Option End) (cs : List CourseState) → ((k : Kind) (m : ℕ) → find k (suc m) ≡ find' k m)
     → owed_from (suc n) find cs ≡ owed_from n find' cs
 owed-low n find find' [] h = refl
 owed-low n find find' (c ∷ cs) h =
@@ -100,7 +100,7 @@ owed-low n find find' (c ∷ cs) h =
     = ap (owed_here c.out (owed c)) (owed_by-low n find find' (stage_of c) c (λ k. h k n)) in
     ap₂ (λ (d : Done) (ds : List Done). d ∷ ds) first (owed-low (suc n) find find' cs h)
 
-owed-finished : (n : ℕ) (find : Kind → ℕ → Option End) (out : Option ℕ) (s : Stage) (c : Going) → s ≡ stage.Finished
+owed-finished : (n : ℕ) (find : Kind → ℕ → Option End) (out : Option ℕ) (s : Stage) (c : CourseState) → s ≡ stage.Finished
     → owed_here out (owed c) (owed_by s n find c) ≡ owed c
 owed-finished n find None s c done = refl
 owed-finished n find (Some m) s c done = ap (λ (s : Stage). owed_by s n find c) done
@@ -121,7 +121,7 @@ waiting-low [] = refl
 waiting-low (w ∷ ws) = ap (λ (r : List Waiting). earlier (waiting w) ∷ r) (waiting-low ws)
 
 -- what holds between two calls holds after each step
-between-within : (m : Machine) → IsBetweenCalls m → IsWithin m
+between-within : (m : Machine) → IsBetweenCalls m → IsInCourse m
 between-within m between = record {
   lanes = lanes-between m between;
   stages = stages-at m.left between.stages;
@@ -181,7 +181,7 @@ module _ (v : Cell) (vs : List Cell) (o : Option Cell) (first : ℕ) (ls : LaneQ
       first = omega arith;
     };
     is_open = y.is_open;
-    within = subst IsWithin (sym machine-then) (between-within (without_earliest left_then (machine_in r [] ls))
+    within = subst IsInCourse (sym machine-then) (between-within (without_earliest left_then (machine_in r [] ls))
         (back-between left_then (machine_in r [] ls) left-is (between-calls (machine_in r [] ls) y.within refl)));
     tied = subst (λ (f : Kind → PlacedQueue). IsTied (map course_in vs) [] f) (sym (fun_ext lines-low)) (tied-low (course_in v) (map course_in vs) lines done y.tied);
     fits = y.fits;
@@ -222,10 +222,10 @@ pops-at (x ∷ vs) v o first ls capacity y e none =
     let is : x ≡ v = cc in
     subst (λ (c : Cell). pending (course_in c) ≡ [] → IsGiven (ring (x ∷ vs) o first) c [] ls capacity) is (given-then x vs o first ls capacity y) none
 
-pub pops : (r : RingState Cell) (v : Cell) (ag : List ℕ) (ls : LaneQueues) (capacity : ℕ) → IsHeld r ag ls capacity → map (number_in r) ag ≡ []
+pub pops : (r : RingState Cell) (v : Cell) (ag : List ℕ) (ls : LaneQueues) (capacity : ℕ) → IsHeld r ag ls capacity → map (ring_number r) ag ≡ []
     → slice_get (map pending (courses r)) 0 ≡ Some [] → slice_get r.values 0 ≡ Some v → IsGiven r v ag ls capacity
 pops r v ag ls capacity y idle done e =
-    subst (λ (a : List ℕ). IsHeld r a ls capacity → IsGiven r v a ls capacity) (sym (map-nil (number_in r) ag idle))
+    subst (λ (a : List ℕ). IsHeld r a ls capacity → IsGiven r v a ls capacity) (sym (map-nil (ring_number r) ag idle))
     (λ z. pops-at r.values v r.opened r.first ls capacity z e (first-none r.values v e done)) y
 
 -- likewise by the state that the fields hold

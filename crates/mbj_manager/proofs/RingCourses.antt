@@ -3,12 +3,12 @@ use Rattle.std.proofs.Common.{◌≡◌, ℕ, ◌<◌, zero, suc, List, [], ◌�
 use Rattle.std.specs.Prelude.{All}
 use Rattle.std.proofs.lemmas.List.{length-map}
 use Rattle.std.proofs.lemmas.List.Elements.{All-head, All-tail, All-cons}
-use Rattle.mbj_stage.specs.Going.{Going, stage_of}
+use Rattle.mbj_stage.specs.CourseState.{CourseState, stage_of}
 use Rattle.mbj_ring.specs.declared.ring.TheConstants.{CELLS}
 use Rattle.mbj_ring.specs.Ring.{RingState, IsLive, with_value_at}
 use Rattle.mbj_manager.specs.Machine.Queues.{changed}
 use Rattle.mbj_manager.specs.declared.cell.Cell.{Cell}
-use Rattle.mbj_manager.specs.Inside.Courses.{AreCourses, IsGoing, IsSameRing, course_in, courses, first_stage, number_in}
+use Rattle.mbj_manager.specs.Inside.Courses.{AreCourses, IsGoing, IsSameRing, course_in, courses, first_stage, ring_number}
 use Rattle.mbj_manager.specs.Inside.Leaving.{At}
 
 pub at-below : {A : Type 0} (P : A → Type 0) (n : ℕ) (xs : List A) → At P n xs → n < length xs
@@ -17,12 +17,12 @@ at-below P zero (x ∷ xs) a = omega arith
 at-below P (suc n) (x ∷ xs) a = let h = at-below P n xs a in omega arith
 
 -- the item that is there
-pub at-cell : (P : Going → Type 0) (n : ℕ) (vs : List Cell) (v : Cell) → slice_get vs n ≡ Some v → At P n (map course_in vs) → P (course_in v)
+pub at-cell : (P : CourseState → Type 0) (n : ℕ) (vs : List Cell) (v : Cell) → slice_get vs n ≡ Some v → At P n (map course_in vs) → P (course_in v)
 at-cell P n [] v e a = absurd a
 at-cell P zero (x ∷ vs) v e a = let is : x ≡ v = cc in subst (λ c. P (course_in c)) is a
 at-cell P (suc n) (x ∷ vs) v e a = at-cell P n vs v e a
 
-pub cell-at : (P : Going → Type 0) (n : ℕ) (vs : List Cell) (v : Cell) → slice_get vs n ≡ Some v → P (course_in v) → At P n (map course_in vs)
+pub cell-at : (P : CourseState → Type 0) (n : ℕ) (vs : List Cell) (v : Cell) → slice_get vs n ≡ Some v → P (course_in v) → At P n (map course_in vs)
 cell-at P n [] v e p = cc
 cell-at P zero (x ∷ vs) v e p = let is : v ≡ x = cc in subst (λ c. P (course_in c)) is p
 cell-at P (suc n) (x ∷ vs) v e p = cell-at P n vs v e p
@@ -33,13 +33,13 @@ going-at zero (x ∷ vs) v e a = let is : x ≡ v = cc in subst IsGoing is (All-
 going-at (suc n) (x ∷ vs) v e a = going-at n vs v e (All-tail IsGoing x vs a)
 
 -- what f makes of the course there
-pub courses-set : (f : Going → Going) (n : ℕ) (vs : List Cell) (v w : Cell) → slice_get vs n ≡ Some v → course_in w ≡ f (course_in v)
+pub courses-set : (f : CourseState → CourseState) (n : ℕ) (vs : List Cell) (v w : Cell) → slice_get vs n ≡ Some v → course_in w ≡ f (course_in v)
     → map course_in (set vs n w) ≡ changed f n (map course_in vs)
 courses-set f n [] v w e is = cc
 courses-set f zero (x ∷ vs) v w e is =
     let same : x ≡ v = cc in
-    ap (λ (c : Going). c ∷ map course_in vs) (is ∙ ap (λ c. f (course_in c)) (sym same))
-courses-set f (suc n) (x ∷ vs) v w e is = ap (λ (cs : List Going). course_in x ∷ cs) (courses-set f n vs v w e is)
+    ap (λ (c : CourseState). c ∷ map course_in vs) (is ∙ ap (λ c. f (course_in c)) (sym same))
+courses-set f (suc n) (x ∷ vs) v w e is = ap (λ (cs : List CourseState). course_in x ∷ cs) (courses-set f n vs v w e is)
 
 all-set : (n : ℕ) (vs : List Cell) (w : Cell) → IsGoing w → All IsGoing vs → All IsGoing (set vs n w)
 all-set n [] w g a = a
@@ -52,8 +52,8 @@ length-set zero (x ∷ vs) w = refl
 length-set (suc n) (x ∷ vs) w = ap suc (length-set n vs w)
 
 -- a place where a course is
-pub live : (P : Going → Type 0) (r : RingState Cell) (p : ℕ) → p < CELLS → At P (number_in r p) (courses r) → IsLive r p
-live P r p lt a = (lt, let below = at-below P (number_in r p) (courses r) a in omega (arith, length-map r.values course_in))
+pub live : (P : CourseState → Type 0) (r : RingState Cell) (p : ℕ) → p < CELLS → At P (ring_number r p) (courses r) → IsLive r p
+live P r p lt a = (lt, let below = at-below P (ring_number r p) (courses r) a in omega (arith, length-map r.values course_in))
 
 -- the ring with a course in place of another
 pub same-ring : (r : RingState Cell) (n : ℕ) (w : Cell) → AreCourses r → IsGoing w → IsSameRing (with_value_at r n w) r

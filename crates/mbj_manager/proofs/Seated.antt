@@ -1,4 +1,4 @@
--- Entries, each with its job's place, as the waiters of a list: what joining, running and taking make of them.
+-- Entries, each with its job's place, as the waiters of a lane queue: what joining, running and taking make of them.
 use Rattle.std.proofs.Common.{◌≡◌, ℕ, ◌+◌, ◌-◌, ◌≤◌, ◌<◌, min, zero, suc, List, [], ◌∷◌, ◌++◌, length, map, get_or, remove, Some, None, eqb, false, refl, ap, ◌∙◌, arith}
 use Rattle.std.specs.Prelude.{All}
 use Rattle.std.specs.Option.{option_map}

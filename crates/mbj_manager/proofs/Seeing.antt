@@ -1,14 +1,14 @@
--- What the lane machine sees of a list with the courses and the agenda.
+-- What the lane machine sees of a lane queue with the courses and the agenda.
 use Rattle.std.proofs.Common.{◌≡◌, ◌≢◌, ℕ, ◌+◌, ◌%◌, ◌==◌, min, zero, suc, List, [], ◌∷◌, ◌++◌, length, map, Bool, true, false, cond, refl, ap, ap₂, sym, ◌∙◌, subst, inl, inr}
 use mathlib.Core.Path.{fun_ext}
 use Rattle.std.proofs.lemmas.List.{length-map, map-append}
 use Rattle.mbj_lane.specs.Rounds.{least as least_of, least_from as least_of_from}
 use Rattle.mbj_types.specs.Kinds.{lanes_of}
 use Rattle.mbj_types.specs.declared.kind.Kind.{Kind}
-use Rattle.mbj_stage.specs.Going.{Going}
+use Rattle.mbj_stage.specs.CourseState.{CourseState}
 use Rattle.mbj_stage.specs.Handing.{handed_out, taken_back}
 use Rattle.mbj_manager.specs.Machine.Stages.{Pending, pending}
-use Rattle.mbj_manager.specs.Machine.Queues.{Queue, Machine, Waiting, changed, count_end, queue_for, least, leavers, ran, rest_of, run_within, shortened, stage_done, stayers, with_queue, with_run}
+use Rattle.mbj_manager.specs.Machine.Queues.{Queue, Machine, Waiting, changed, count_end, queue_for, least, leavers, after_run, rest_of, run_within, shortened, stage_done, stayers, with_queue, with_run}
 use Rattle.mbj_manager.specs.declared.lane.Cause.{Cause}
 use Rattle.mbj_manager.specs.declared.lane.Cause.TheVariants as cause
 use Rattle.mbj_manager.specs.Machine.Course.{joined, run_if_full}
@@ -23,7 +23,7 @@ use Rattle.mbj_manager.proofs.Finishing.{zero-or}
 use Rattle.mbj_manager.proofs.Leaving.{lowered}
 use Rattle.std.specs.Prelude.{drop}
 
--- ---- lists
+-- ---- lane queues
 
 least_from-seen : (n : ℕ) (ws : List Waiter) → least_of_from rest_of n (map waiting ws) ≡ least_of_from (pair_rest rounds_in) n ws
 least_from-seen n [] = refl
@@ -63,19 +63,19 @@ stay-seen ws = ap stayers (shortened-seen ws) ∙ others-seen (led_all ws)
 
 -- ---- the stages that are left
 
-pub map-changed : (f : Going → Going) (h : List Pending → List Pending) (n : ℕ) (cs : List Going) → ((c : Going) → pending (f c) ≡ h (pending c))
+pub map-changed : (f : CourseState → CourseState) (h : List Pending → List Pending) (n : ℕ) (cs : List CourseState) → ((c : CourseState) → pending (f c) ≡ h (pending c))
     → map pending (changed f n cs) ≡ changed h n (map pending cs)
 map-changed f h n [] same = refl
 map-changed f h zero (c ∷ cs) same = ap (λ (x : List Pending). x ∷ map pending cs) (same c)
 map-changed f h (suc n) (c ∷ cs) same = ap (λ (x : List (List Pending)). pending c ∷ x) (map-changed f h n cs same)
 
-pub returned-seen : (cs : List Going) (ws : List Waiter) → map pending (returned brings_in cs ws) ≡ stage_done (numbers ws) (map pending cs)
+pub returned-seen : (cs : List CourseState) (ws : List Waiter) → map pending (returned brings_in cs ws) ≡ stage_done (numbers ws) (map pending cs)
 returned-seen cs [] = refl
 returned-seen cs (w ∷ ws) =
     returned-seen (changed (taken_back w.1.brings) w.0 cs) ws
     ∙ ap (stage_done (numbers ws)) (map-changed (taken_back w.1.brings) (drop 1) w.0 cs (λ c. pending-back c w.1.brings))
 
-out-same : (n : ℕ) (cs : List Going) → map pending (changed handed_out n cs) ≡ map pending cs
+out-same : (n : ℕ) (cs : List CourseState) → map pending (changed handed_out n cs) ≡ map pending cs
 out-same n [] = refl
 out-same zero (c ∷ cs) = ap (λ (x : List Pending). x ∷ map pending cs) (pending-out c)
 out-same (suc n) (c ∷ cs) = ap (λ (x : List (List Pending)). pending c ∷ x) (out-same n cs)
@@ -103,7 +103,7 @@ ran-seen-by : (k : Kind) (lanes : Kind → Queue) (d e : Desk) (after : List Wai
     → m.lanes ≡ with_queue k (lane_at d) lanes → e.courses ≡ returned brings_in d.courses (finishers rounds_in (led_all d.waiters))
     → e.agenda ≡ d.agenda ++ numbers (finishers rounds_in (led_all d.waiters))
     → lane_at e ≡ after (map waiting (others rounds_in (led_all d.waiters))) → e.flush_runs ≡ m.flush_runs
-    → machine_at k lanes e ≡ ran k after m
+    → machine_at k lanes e ≡ after_run k after m
 ran-seen-by k lanes d e after m left agenda lanes-are cs ag lane runs =
     let ws : (queue_for k m).waiting ≡ map waiting d.waiters = ap (λ (x : Kind → Queue). (x k).waiting) lanes-are ∙ ap (λ (l : Queue). l.waiting) (given-lane k (lane_at d) lanes) in
     let gone : leavers (shortened (queue_for k m).waiting) ≡ numbers (finishers rounds_in (led_all d.waiters)) = ap (λ x. leavers (shortened x)) ws ∙ gone-seen d.waiters in
@@ -114,7 +114,7 @@ ran-seen-by k lanes d e after m left agenda lanes-are cs ag lane runs =
     = ap (λ x. with_queue k x lanes) (lane ∙ ap after (sym stay)) ∙ sym (again k (after (stayers (shortened (queue_for k m).waiting))) (lane_at d) lanes)
     ∙ ap (with_queue k (after (stayers (shortened (queue_for k m).waiting)))) (sym lanes-are) in
     let a : e.agenda ≡ m.agenda ++ leavers (shortened (queue_for k m).waiting) = ag ∙ ap₂ (λ x y. x ++ y) (sym agenda) (sym gone) in
-    same-machine _ _ _ _ _ _ e.flush_runs l n a ∙ ap (λ r. record (ran k after m) { flush_runs = r }) runs
+    same-machine _ _ _ _ _ _ e.flush_runs l n a ∙ ap (λ r. record (after_run k after m) { flush_runs = r }) runs
 
 pub run-seen : (at : Cause) (k : Kind) (lanes : Kind → Queue) (d : Desk) → machine_at k lanes (ran_at at d) ≡ run_within at k (machine_at k lanes d)
 run-seen cause.Submit k lanes d =
@@ -148,7 +148,7 @@ either : (at : Cause) (k : Kind) (lanes : Kind → Queue) (b : Bool) (d : Desk)
 either at k lanes true d = run-seen at k lanes d
 either at k lanes false d = refl
 
--- a job that joins, and the run of the list where it is full then
+-- a job that joins, and the run of the lane queue where it is full then
 pub enters-seen : (at : Cause) (k : Kind) (lanes : Kind → Queue) (n : ℕ) (a : Ahead) (d : Desk)
     → machine_at k lanes (ran_if_full at (lanes_of k) (joined_by n a d)) ≡ joined at k n a.rounds (machine_at k lanes d)
 enters-seen at k lanes n a d =

@@ -1,10 +1,10 @@
--- Where each job stands within a course, and where it stands once a list ran.
+-- Where each job stands within a course, and where it stands once a lane queue ran.
 use Rattle.std.proofs.Common.{◌≡◌, ◌≢◌, ℕ, ◌+◌, ◌≤◌, ◌<◌, ◌==◌, List, [], ◌∷◌, ◌++◌, length, cond, inl, inr, refl, ap, sym, ◌∙◌, subst, arith}
 use Rattle.std.proofs.lemmas.Bool.{cases_lt}
 use Rattle.std.proofs.lemmas.List.Sums.{sum_by-append}
 use Rattle.mbj_types.specs.declared.kind.Kind.{Kind}
 use Rattle.mbj_manager.specs.Machine.Stages.{Pending, at_once, in_lanes}
-use Rattle.mbj_manager.specs.Machine.Queues.{Waiting, Queue, Machine, queue_for, leavers, ran, shortened, stayers}
+use Rattle.mbj_manager.specs.Machine.Queues.{Waiting, Queue, Machine, queue_for, leavers, after_run, shortened, stayers}
 use Rattle.mbj_manager.specs.Machine.Between.{IsPlaced, times_in}
 use Rattle.mbj_manager.specs.Inside.Standing.{Stands, left_at, times}
 use Rattle.mbj_manager.proofs.Lanes.{each-lane}
@@ -31,9 +31,9 @@ same-stands m after n same left agenda stands = elim stands [
   | inr p ↦ inr (agenda ∙ p.0, subst (IsPlaced after n) (sym left) (same-placed m after n n same (left_at n m.left) p.1))
 ]
 
--- ---- a list runs
+-- ---- a lane queue runs
 
--- the jobs that leave the list of the kind k when it runs
+-- the jobs that leave the lane queue of the kind k when it runs
 abbrev pub gone : Kind → Machine → List ℕ
 gone k m = leavers (shortened (queue_for k m).waiting)
 
@@ -41,12 +41,12 @@ gone k m = leavers (shortened (queue_for k m).waiting)
 abbrev pub stayed : Kind → Machine → List Waiting
 stayed k m = stayers (shortened (queue_for k m).waiting)
 
--- who stood in the list leaves it or stays
+-- who stood in the lane queue leaves it or stays
 gone-or-stayed : (k : Kind) (m : Machine) (n : ℕ)
     → times n (gone k m) + times_in n (stayed k m) ≡ times_in n (queue_for k m).waiting
 gone-or-stayed k m n = times-leave n (shortened (queue_for k m).waiting) ∙ times-shortened n (queue_for k m).waiting
 
--- a job that is placed stands in a list no more often than it has stages left
+-- a job that is placed stands in a lane queue no more often than it has stages left
 placed-most : (k : Kind) (m : Machine) (n : ℕ) (ps : List Pending) → IsPlaced m n ps
     → times_in n (queue_for k m).waiting ≤ length ps
 placed-most k m n [] placed = omega (arith, placed k)
@@ -63,7 +63,7 @@ gone-most k m n stands = elim stands [
   | inr p ↦ omega (arith, gone-or-stayed k m n, placed-most k m n (left_at n m.left) p.1)
 ]
 
--- a job that is placed and stands in a list stands there once, and in no other list
+-- a job that is placed and stands in a lane queue stands there once, and in no other lane queue
 placed-once : (k : Kind) (m : Machine) (n : ℕ) (ps : List Pending) → IsPlaced m n ps → 0 < times_in n (queue_for k m).waiting
     → (times_in n (queue_for k m).waiting ≡ 1) × ((j : Kind) → j ≢ k → times_in n (queue_for j m).waiting ≡ 0)
 placed-once k m n [] placed there = absurd (omega (arith, placed k))
@@ -75,19 +75,19 @@ placed-once k m n (in_lanes i rest ∷ left) placed there = elim (same-kind k i)
 
 -- a job that doesn't leave
 stays-standing : (k : Kind) (after : List Waiting → Queue) (m : Machine) (n : ℕ) → ((ws : List Waiting) → (after ws).waiting ≡ ws)
-    → times n (gone k m) ≡ 0 → Stands m n → Stands (ran k after m) n
+    → times n (gone k m) ≡ 0 → Stands m n → Stands (after_run k after m) n
 stays-standing k after m n waiting none stands =
     let here : times_in n (after (stayed k m)).waiting ≡ times_in n (queue_for k m).waiting
     = ap (times_in n) (waiting (stayed k m)) ∙ (let all = gone-or-stayed k m n in omega arith) in
     let agenda : times n (m.agenda ++ gone k m) ≡ times n m.agenda
     = (let more = sum_by-append (λ k. cond (k == n) 1 0) m.agenda (gone k m) in omega arith) in
-    same-stands m (ran k after m) n
+    same-stands m (after_run k after m) n
     (each-lane (λ j l. times_in n l.waiting ≡ times_in n (queue_for j m).waiting) k (after (stayed k m)) m.lanes here (λ j ne. refl))
     (stage-stays n (gone k m) m.left none) agenda stands
 
 -- a job that leaves stands in the agenda then
 leaves-standing : (k : Kind) (after : List Waiting → Queue) (m : Machine) (n : ℕ) → ((ws : List Waiting) → (after ws).waiting ≡ ws)
-    → 0 < times n (gone k m) → Stands m n → Stands (ran k after m) n
+    → 0 < times n (gone k m) → Stands m n → Stands (after_run k after m) n
 leaves-standing k after m n waiting some stands =
     let all = gone-or-stayed k m n in
     let more = sum_by-append (λ k. cond (k == n) 1 0) m.agenda (gone k m) in
@@ -101,9 +101,9 @@ leaves-standing k after m n waiting some stands =
           inl (omega arith, each-lane (λ j l. times_in n l.waiting ≡ 0) k (after (stayed k m)) m.lanes here once.1))
     ]
 
--- each job stands in one place once the list ran
+-- each job stands in one place once the lane queue ran
 pub ran-standing : (k : Kind) (after : List Waiting → Queue) (m : Machine) (n : ℕ) → ((ws : List Waiting) → (after ws).waiting ≡ ws)
-    → Stands m n → Stands (ran k after m) n
+    → Stands m n → Stands (after_run k after m) n
 ran-standing k after m n waiting stands = elim (cases_lt 0 (times n (gone k m))) [
   | inl some ↦ leaves-standing k after m n waiting some stands
   | inr none ↦ stays-standing k after m n waiting (omega arith) stands

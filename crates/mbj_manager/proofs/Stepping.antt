@@ -11,7 +11,7 @@ use Rattle.mbj_manager.specs.Machine.Queues.{Queue, Machine, changed, queue_for,
 use Rattle.mbj_manager.specs.declared.lane.Cause.{Cause}
 use Rattle.mbj_manager.specs.Machine.Course.{in_lanes_next, joined, goes_on, stepped_at, stages_left}
 use Rattle.mbj_manager.specs.Machine.Between.{HasRounds, IsPlaced, times_in}
-use Rattle.mbj_manager.specs.Inside.Standing.{IsLane, IsWithin, Stands, left_at, times}
+use Rattle.mbj_manager.specs.Inside.Standing.{IsLane, IsInCourse, Stands, left_at, times}
 use Rattle.mbj_manager.proofs.Changing.{at-changed, other-changed, each-changed}
 use Rattle.mbj_manager.proofs.Lanes.{each-lane, given-lane, other-lane, with_waiting, waits}
 use Rattle.mbj_manager.proofs.Times.{times-here, times-there, times-joined, times-joined-other}
@@ -22,7 +22,7 @@ use Rattle.mbj_manager.specs.Inside.Steps.{steps_ahead}
 
 -- after comes of the machine m, and no more is ahead of it
 record Follows (after m : Machine) : Type 0 where
-  within : IsWithin after
+  within : IsInCourse after
   fewer : stages_left after.left ≤ stages_left m.left
   ahead : steps_ahead after ≤ steps_ahead m
 
@@ -34,9 +34,9 @@ pub record IsTaken (n : ℕ) (m : Machine) : Type 0 where
   absent : IsPlaced m n []
   others : (i : ℕ) → i ≢ n → Stands m i
 
--- ---- a job joins a list
+-- ---- a job joins a lane queue
 
--- the lanes of the kind k with the job n at the end of the list
+-- the lanes of the kind k with the job n at the end of the lane queue
 abbrev longer : Kind → ℕ → ℕ → Machine → Queue
 longer k n rest m = with_waiting (queue_for k m) ((queue_for k m).waiting ++ waits n rest ∷ [])
 
@@ -44,7 +44,7 @@ longer k n rest m = with_waiting (queue_for k m) ((queue_for k m).waiting ++ wai
 abbrev pub grown : Kind → ℕ → ℕ → Machine → Machine
 grown k n rest m = record m { lanes = with_queue k (longer k n rest m) m.lanes }
 
--- the longer list may be full
+-- the longer lane queue may be full
 longer-filled : (k : Kind) (n rest : ℕ) (m : Machine) → IsLane k (queue_for k m) → 1 ≤ rest → IsFilled k (longer k n rest m)
 longer-filled k n rest m lane some =
     let ws = (queue_for k m).waiting in
@@ -61,7 +61,7 @@ longer-filled k n rest m lane some =
 not-full : (k : Kind) (l : Queue) → IsFilled k l → length l.waiting ≢ lanes_of k → IsLane k l
 not-full k l filled ne = record { few = (let room = filled.room in omega arith); rests = filled.rests; blocks = filled.blocks }
 
--- the job that joins stands in that list alone
+-- the job that joins stands in that lane queue alone
 joined-placed : (k : Kind) (n rest : ℕ) (m : Machine) (left : List Pending) → IsPlaced m n []
     → IsPlaced (grown k n rest m) n (in_lanes k rest ∷ left)
 joined-placed k n rest m left absent =
@@ -79,7 +79,7 @@ joined-other k n rest i m ne stands =
     (times-joined-other i n rest (queue_for k m).waiting (λ e. ne (sym e))) (λ j ne. refl))
     refl refl stands
 
--- the machine whose list the job joined may run that list
+-- the machine whose lane queue the job joined may run that lane queue
 pub grown-ready : (k : Kind) (n rest : ℕ) (left : List Pending) (m : Machine) → IsTaken n m → left_at n m.left ≡ in_lanes k rest ∷ left
     → IsReady k (grown k n rest m)
 grown-ready k n rest left m taken next =
@@ -96,7 +96,7 @@ grown-ready k n rest left m taken next =
       ];
     }
 
--- a job joins the list of its next stage, which runs where it is full
+-- a job joins the lane queue of its next stage, which runs where it is full
 joins : (at : Cause) (k : Kind) (n rest : ℕ) (left : List Pending) (m : Machine) → IsTaken n m
     → left_at n m.left ≡ in_lanes k rest ∷ left → Follows (joined at k n rest m) m
 joins at k n rest left m taken next =
@@ -126,7 +126,7 @@ joins at k n rest left m taken next =
 abbrev pub take_first : ℕ → List ℕ → Machine → Machine
 take_first n agenda m = record m { left = changed in_lanes_next n m.left; agenda = agenda }
 
--- the agenda's first stands there once and in no list
+-- the agenda's first stands there once and in no lane queue
 pub first-off : (n : ℕ) (agenda : List ℕ) (m : Machine) → m.agenda ≡ n ∷ agenda → Stands m n
     → (times n agenda ≡ 0) × IsPlaced m n []
 first-off n agenda m first stands =
@@ -134,7 +134,7 @@ first-off n agenda m first stands =
     elim stands [ inl a ↦ ((let one = a.0 in omega arith), a.1) | inr p ↦ absurd (let none = p.0 in omega arith) ]
 
 -- once it is taken it goes on
-pub takes : (n : ℕ) (agenda : List ℕ) (m : Machine) → m.agenda ≡ n ∷ agenda → IsWithin m → IsTaken n (take_first n agenda m)
+pub takes : (n : ℕ) (agenda : List ℕ) (m : Machine) → m.agenda ≡ n ∷ agenda → IsInCourse m → IsTaken n (take_first n agenda m)
 takes n agenda m first within =
     let off = first-off n agenda m first (within.stands n) in
     record {
@@ -146,7 +146,7 @@ takes n agenda m first within =
           (sym (ap (times i) first ∙ times-there i n agenda (λ e. ne (sym e)))) (within.stands i);
     }
 
--- the job that is taken is finished, or joins the list of its next stage
+-- the job that is taken is finished, or joins the lane queue of its next stage
 goes : (at : Cause) (n : ℕ) (ps : List Pending) (m : Machine) → IsTaken n m → left_at n m.left ≡ ps
     → ((left : List Pending) → ps ≢ at_once ∷ left) → Follows (goes_on at n ps m) m
 goes at n [] m taken next in_lanes_now = record {
@@ -166,12 +166,12 @@ goes at n (in_lanes k rest ∷ left) m taken next in_lanes_now = joins at k n re
 
 -- after is the machine m after a step
 pub record IsStep (after m : Machine) : Type 0 where
-  pub within : IsWithin after
+  pub within : IsInCourse after
   pub fewer : stages_left after.left ≤ stages_left m.left
   pub ahead : steps_ahead after < steps_ahead m
 
 -- a step that takes the agenda's first job
-pub steps : (at : Cause) (n : ℕ) (agenda : List ℕ) (m : Machine) → m.agenda ≡ n ∷ agenda → IsWithin m
+pub steps : (at : Cause) (n : ℕ) (agenda : List ℕ) (m : Machine) → m.agenda ≡ n ∷ agenda → IsInCourse m
     → IsStep (stepped_at at (n ∷ agenda) m) m
 steps at n agenda m first within =
     let t = take_first n agenda m in

@@ -1,4 +1,4 @@
--- How often a job stands in a list.
+-- How often a job stands in a lane queue.
 use Rattle.std.proofs.Common.{◌≡◌, ◌≢◌, ℕ, ◌+◌, ◌==◌, List, [], ◌∷◌, ◌++◌, map, cond, not, refl, ap, sym, ◌∙◌, arith}
 use Rattle.std.specs.Prelude.{sum_by, filter}
 use Rattle.std.proofs.lemmas.Bool.{eq-eqb, ne_eqb, cond-true, cond-false}
@@ -21,14 +21,14 @@ times-there n m ns ne =
     = sum_by-cons (λ k. cond (k == n) 1 0) m ns ∙ ap (λ t. t + times n ns) (cond-false (m == n) 1 0 (ne_eqb m n ne)) in
     omega arith
 
--- ---- the lists of those who wait
+-- ---- the lane queues of those who wait
 
 -- a sum over a list that is mapped
 sum_by-map : {A B : Type 0} (w : B → ℕ) (f : A → B) (xs : List A) → sum_by w (map f xs) ≡ sum_by (λ x. w (f x)) xs
 sum_by-map w f [] = refl
 sum_by-map w f (x ∷ xs) = sum_by-cons w (f x) (map f xs) ∙ ap (λ n. w (f x) + n) (sum_by-map w f xs) ∙ sym (sum_by-cons (λ x. w (f x)) x xs)
 
--- a run takes nobody off the list but those who leave
+-- a run takes nobody off the lane queue but those who leave
 pub times-leave : (n : ℕ) (ws : List Waiting) → times n (leavers ws) + times_in n (stayers ws) ≡ times_in n ws
 times-leave n ws =
     ap (λ t. t + times_in n (stayers ws)) (sum_by-map (λ k. cond (k == n) 1 0) (λ w. w.number) (filter is_at_end ws))
@@ -38,7 +38,7 @@ times-leave n ws =
 pub times-shortened : (n : ℕ) (ws : List Waiting) → times_in n (shortened ws) ≡ times_in n ws
 times-shortened n ws = sum_by-map (λ w. cond (w.number == n) 1 0) (lowered (least ws)) ws
 
--- a job that joins a list stands there once more
+-- a job that joins a lane queue stands there once more
 pub times-joined : (n rest : ℕ) (ws : List Waiting) → times_in n (ws ++ waits n rest ∷ []) ≡ times_in n ws + 1
 times-joined n rest ws = sum_by_push (λ w. cond (w.number == n) 1 0) ws (waits n rest)
     ∙ ap (λ t. times_in n ws + t) (cond-true (n == n) 1 0 (eq-eqb n n refl))

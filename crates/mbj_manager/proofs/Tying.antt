@@ -1,4 +1,4 @@
--- LaneQueues, agenda and courses fit still: when an entry goes out, when a list runs, and when what finishes at once is done.
+-- Lane queues, agenda and courses fit still: when an entry goes out, when a lane queue runs, and when what finishes at once is done.
 use Rattle.std.proofs.Common.{◌≡◌, ◌≢◌, ℕ, ◌<◌, zero, suc, List, [], ◌∷◌, ◌++◌, length, map, cond, eqb, true, false, Option, Some, inl, inr, refl, ap, sym, ◌∙◌, subst, arith, append_assoc}
 use Rattle.std.proofs.lemmas.Bool.{cases_eq, eq-eqb, ne_eqb}
 use Rattle.std.proofs.lemmas.List.{append-nil}
@@ -6,7 +6,7 @@ use Rattle.std.proofs.lemmas.List.Elements.{All-push, All-weaker}
 use Rattle.mbj_lane.specs.Rounds.{least}
 use Rattle.mbj_types.specs.declared.kind.Kind.{Kind}
 use Rattle.mbj_stage.specs.declared.stage.Stage.TheVariants as stage
-use Rattle.mbj_stage.specs.Going.{Going}
+use Rattle.mbj_stage.specs.CourseState.{CourseState}
 use Rattle.mbj_stage.specs.Handing.{End, IsNext, IsOut, handed_out, taken_back}
 use Rattle.mbj_manager.specs.Machine.Queues.{changed, put}
 use Rattle.mbj_manager.specs.Inside.Courses.{Follows}
@@ -42,11 +42,11 @@ at-none P (suc n) (x ∷ xs) f a = at-none P n xs f a
 same-lane : (k j : Kind) → stage.Lane k ≡ stage.Lane j → j ≡ k
 same-lane k j h = cc
 
-other-kinds : (k j : Kind) (e d : End) (n : ℕ) (cs : List Going) → j ≢ k → At (IsOut k e) n cs → At (IsOut j d) n cs → ⊥
+other-kinds : (k j : Kind) (e d : End) (n : ℕ) (cs : List CourseState) → j ≢ k → At (IsOut k e) n cs → At (IsOut j d) n cs → ⊥
 other-kinds k j e d n cs h a b =
     at-none (λ c. IsOut k e c × IsOut j d c) n cs (λ c p. h (same-lane k j (sym p.0.stage ∙ p.1.stage))) (at-both (IsOut k e) (IsOut j d) n cs a b)
 
-absent-other : (k j : Kind) (e : End) (m : ℕ) (cs : List Going) (ws : List Waiter) → j ≢ k → At (IsOut k e) m cs → Listed j cs ws → IsAbsent m ws
+absent-other : (k j : Kind) (e : End) (m : ℕ) (cs : List CourseState) (ws : List Waiter) → j ≢ k → At (IsOut k e) m cs → Listed j cs ws → IsAbsent m ws
 absent-other k j e m cs [] h o r = tt
 absent-other k j e m cs (w ∷ ws) h o r =
     ((λ z. other-kinds k j e w.1.brings m cs h o (subst (λ (n : ℕ). At (IsOut j w.1.brings) n cs) z r.0)), absent-other k j e m cs ws h o r.2)
@@ -65,12 +65,12 @@ absent-front : (m : ℕ) (ws : List Waiter) (w : Waiter) → IsAbsent m (ws ++ w
 absent-front m [] w a = (a.0, tt)
 absent-front m (v ∷ ws) w a = let i = absent-front m ws w a.1 in (i.0, (a.0, i.1))
 
-pub record Middle (k : Kind) (cs : List Going) (front : List Waiter) (w : Waiter) (ws : List Waiter) : Type 0 where
+pub record Middle (k : Kind) (cs : List CourseState) (front : List Waiter) (w : Waiter) (ws : List Waiter) : Type 0 where
   pub out : At (IsOut k w.1.brings) w.0 cs
   pub absent : IsAbsent w.0 (front ++ ws)
   pub rest : Listed k cs (front ++ ws)
 
-pub middle : (k : Kind) (cs : List Going) (front : List Waiter) (w : Waiter) (ws : List Waiter) → Listed k cs (front ++ w ∷ ws) → Middle k cs front w ws
+pub middle : (k : Kind) (cs : List CourseState) (front : List Waiter) (w : Waiter) (ws : List Waiter) → Listed k cs (front ++ w ∷ ws) → Middle k cs front w ws
 middle k cs [] w ws r = record { out = r.0; absent = r.1; rest = r.2 }
 middle k cs (v ∷ front) w ws r =
     let i = middle k cs front w ws r.2 in
@@ -99,8 +99,8 @@ find-put-other k j m l lines h = elim (put-case k j l lines) [
 
 -- ---- steps
 
--- lists with the same jobs in them
-pub tied-same : (cs : List Going) (agenda : List ℕ) (lines lines' : Kind → PlacedQueue) → ((j : Kind) → (lines j).waiters ≡ (lines' j).waiters)
+-- lane queues with the same jobs in them
+pub tied-same : (cs : List CourseState) (agenda : List ℕ) (lines lines' : Kind → PlacedQueue) → ((j : Kind) → (lines j).waiters ≡ (lines' j).waiters)
     → IsTied cs agenda lines → IsTied cs agenda lines'
 tied-same cs agenda lines lines' h y = record {
   listed = λ j. subst (Listed j cs) (h j) (y.listed j);
@@ -109,21 +109,21 @@ tied-same cs agenda lines lines' h y = record {
 }
 
 -- what finishes at once is done
-pub tied-follow : (c : Going) (p : ℕ) (cs : List Going) (agenda : List ℕ) (lines : Kind → PlacedQueue) → At (Follows c) p cs → At IsHere p cs → IsTied cs agenda lines
+pub tied-follow : (c : CourseState) (p : ℕ) (cs : List CourseState) (agenda : List ℕ) (lines : Kind → PlacedQueue) → At (Follows c) p cs → At IsHere p cs → IsTied cs agenda lines
     → IsTied (changed (λ _. c) p cs) agenda lines
 tied-follow c p cs agenda lines f was y =
-    let len = length-changed (λ (_ : Going). c) p cs in
+    let len = length-changed (λ (_ : CourseState). c) p cs in
     record {
       listed = λ j. listed-changed j (λ _. c) p cs (lines j).waiters (absent-listed j p cs (lines j).waiters was (y.listed j)) (y.listed j);
       here = λ n lt a. elim (cases_eq n p) [
         | inl e ↦ subst (λ (m : ℕ). At IsHere m (changed (λ _. c) p cs)) (sym e) (at-new (Follows c) IsHere (λ _. c) p cs (λ x h. h.here) f)
         | inr ne ↦ at-changed IsHere (λ _. c) n p cs ne (y.here n (omega arith) a)
       ];
-      below = All-weaker (λ n. n < length cs) (λ n. n < length (changed (λ (_ : Going). c) p cs)) (λ n h. omega arith) agenda y.below;
+      below = All-weaker (λ n. n < length cs) (λ n. n < length (changed (λ (_ : CourseState). c) p cs)) (λ n h. omega arith) agenda y.below;
     }
 
--- an entry goes out and joins the list of its kind
-pub tied-join : (k : Kind) (w : Waiter) (r b : ℕ) (cs : List Going) (agenda : List ℕ) (lines : Kind → PlacedQueue) → At (IsNext k) w.0 cs
+-- an entry goes out and joins the lane queue of its kind
+pub tied-join : (k : Kind) (w : Waiter) (r b : ℕ) (cs : List CourseState) (agenda : List ℕ) (lines : Kind → PlacedQueue) → At (IsNext k) w.0 cs
     → At (Gives k w.1.rounds w.1.brings) w.0 cs → IsTied cs agenda lines
     → IsTied (changed handed_out w.0 cs) agenda (put k (placed_queue ((lines k).waiters ++ w ∷ []) r b) lines)
 tied-join k w r b cs agenda lines next gives y =
@@ -147,12 +147,12 @@ tied-join k w r b cs agenda lines next gives y =
     }
 
 -- an entry comes back, and its course joins the agenda
-pub tied-give : (k : Kind) (front : List Waiter) (w : Waiter) (ws : List Waiter) (cs : List Going) (agenda : List ℕ) (lines : Kind → PlacedQueue)
+pub tied-give : (k : Kind) (front : List Waiter) (w : Waiter) (ws : List Waiter) (cs : List CourseState) (agenda : List ℕ) (lines : Kind → PlacedQueue)
     → (lines k).waiters ≡ front ++ w ∷ ws → IsTied cs agenda lines
     → IsTied (changed (taken_back w.1.brings) w.0 cs) (agenda ++ w.0 ∷ []) (put k (placed_queue (front ++ ws) 0 0) lines)
 tied-give k front w ws cs agenda lines l y =
     let p = w.0 in
-    let f : Going → Going = taken_back w.1.brings in
+    let f : CourseState → CourseState = taken_back w.1.brings in
     let cs' = changed f p cs in
     let new = placed_queue (front ++ ws) 0 0 in
     let len = length-changed f p cs in
@@ -175,7 +175,7 @@ tied-give k front w ws cs agenda lines l y =
     }
 
 -- what is owed then
-owed-give : (k : Kind) (front : List Waiter) (w : Waiter) (ws : List Waiter) (cs : List Going) (agenda : List ℕ) (lines : Kind → PlacedQueue)
+owed-give : (k : Kind) (front : List Waiter) (w : Waiter) (ws : List Waiter) (cs : List CourseState) (agenda : List ℕ) (lines : Kind → PlacedQueue)
     → (lines k).waiters ≡ front ++ w ∷ ws → IsTied cs agenda lines
     → owed_from 0 (find_in lines) cs ≡ owed_from 0 (find_in (put k (placed_queue (front ++ ws) 0 0) lines)) (changed (taken_back w.1.brings) w.0 cs)
 owed-give k front w ws cs agenda lines l y =
@@ -185,7 +185,7 @@ owed-give k front w ws cs agenda lines l y =
     (λ j m h. find-put-other k j m new lines (ap (found m) l ∙ found-other front w ws m h))
     (ap (found w.0) l ∙ found-here front w ws o.absent) o.out
 
-pub owed-join : (k : Kind) (w : Waiter) (r b : ℕ) (cs : List Going) (lines : Kind → PlacedQueue) → IsAbsent w.0 (lines k).waiters → At (IsNext k) w.0 cs
+pub owed-join : (k : Kind) (w : Waiter) (r b : ℕ) (cs : List CourseState) (lines : Kind → PlacedQueue) → IsAbsent w.0 (lines k).waiters → At (IsNext k) w.0 cs
     → At (Gives k w.1.rounds w.1.brings) w.0 cs
     → owed_from 0 (find_in lines) cs ≡ owed_from 0 (find_in (put k (placed_queue ((lines k).waiters ++ w ∷ []) r b) lines)) (changed handed_out w.0 cs)
 owed-join k w r b cs lines a next gives =
@@ -198,13 +198,13 @@ owed-join k w r b cs lines a next gives =
 
 -- ---- all whose rounds are done leave
 
-pub record Leaves (k : Kind) (cs : List Going) (agenda : List ℕ) (lines : Kind → PlacedQueue) (front ws : List Waiter) : Type 0 where
+pub record Leaves (k : Kind) (cs : List CourseState) (agenda : List ℕ) (lines : Kind → PlacedQueue) (front ws : List Waiter) : Type 0 where
   pub tied : IsTied (returned brings_in cs (finishers rounds_in ws)) (agenda ++ numbers (finishers rounds_in ws))
       (put k (placed_queue (front ++ others rounds_in ws) 0 0) lines)
   pub owed : owed_from 0 (find_in lines) cs
       ≡ owed_from 0 (find_in (put k (placed_queue (front ++ others rounds_in ws) 0 0) lines)) (returned brings_in cs (finishers rounds_in ws))
 
--- the lists of which the kind's has these jobs
+-- the lane queues of which the kind's has these jobs
 put-waits : (k : Kind) (l : PlacedQueue) (lines : Kind → PlacedQueue) → (lines k).waiters ≡ l.waiters → (j : Kind) → (lines j).waiters ≡ (put k l lines j).waiters
 put-waits k l lines h j = elim (put-case k j l lines) [
   | inl e ↦ subst (λ i. (lines i).waiters ≡ l.waiters) (sym e.0) h ∙ sym (ap (λ (x : PlacedQueue). x.waiters) e.1)
@@ -223,7 +223,7 @@ put-twice k l m lines j = elim (put-case k j l lines) [
   ]
 ]
 
-leaves-none : (k : Kind) (cs : List Going) (agenda : List ℕ) (lines : Kind → PlacedQueue) (front : List Waiter) → (lines k).waiters ≡ front ++ []
+leaves-none : (k : Kind) (cs : List CourseState) (agenda : List ℕ) (lines : Kind → PlacedQueue) (front : List Waiter) → (lines k).waiters ≡ front ++ []
     → IsTied cs agenda lines → Leaves k cs agenda lines front []
 leaves-none k cs agenda lines front l y =
     let same = put-waits k (placed_queue (front ++ []) 0 0) lines l in
@@ -233,12 +233,12 @@ leaves-none k cs agenda lines front l y =
       owed = owed_from-same 0 (find_in lines) (find_in (put k (placed_queue (front ++ []) 0 0) lines)) cs (λ j m h. ap (found m) (same j));
     }
 
-leaves-first : (k : Kind) (cs : List Going) (agenda : List ℕ) (lines : Kind → PlacedQueue) (front : List Waiter) (w : Waiter) (ws : List Waiter)
+leaves-first : (k : Kind) (cs : List CourseState) (agenda : List ℕ) (lines : Kind → PlacedQueue) (front : List Waiter) (w : Waiter) (ws : List Waiter)
     → (lines k).waiters ≡ front ++ w ∷ ws → IsTied cs agenda lines → eqb w.1.rounds 0 ≡ true
     → Leaves k (changed (taken_back w.1.brings) w.0 cs) (agenda ++ w.0 ∷ []) (put k (placed_queue (front ++ ws) 0 0) lines) front ws
     → Leaves k cs agenda lines front (w ∷ ws)
 leaves-first k cs agenda lines front w ws l y z i =
-    let f : Going → Going = taken_back w.1.brings in
+    let f : CourseState → CourseState = taken_back w.1.brings in
     let cs' = changed f w.0 cs in
     let mid = placed_queue (front ++ ws) 0 0 in
     let end = placed_queue (front ++ others rounds_in ws) 0 0 in
@@ -250,7 +250,7 @@ leaves-first k cs agenda lines front w ws l y z i =
     ∙ owed_from-same 0 (find_in (put k end (put k mid lines))) (find_in (put k end lines)) cs2 (λ j m h. ap (found m) (same j)) in
     record { tied = rw z tied'; owed = rw z ow }
 
-leaves-later : (k : Kind) (cs : List Going) (agenda : List ℕ) (lines : Kind → PlacedQueue) (front : List Waiter) (w : Waiter) (ws : List Waiter) → eqb w.1.rounds 0 ≡ false
+leaves-later : (k : Kind) (cs : List CourseState) (agenda : List ℕ) (lines : Kind → PlacedQueue) (front : List Waiter) (w : Waiter) (ws : List Waiter) → eqb w.1.rounds 0 ≡ false
     → Leaves k cs agenda lines (front ++ w ∷ []) ws → Leaves k cs agenda lines front (w ∷ ws)
 leaves-later k cs agenda lines front w ws z i =
     let a = append_assoc front (w ∷ []) (others rounds_in ws) in
@@ -258,7 +258,7 @@ leaves-later k cs agenda lines front w ws z i =
     let o = i.owed in
     record { tied = rw z (rw a at t); owed = rw z (rw a at o) }
 
-pub leaves : (k : Kind) (cs : List Going) (agenda : List ℕ) (lines : Kind → PlacedQueue) (front ws : List Waiter) → (lines k).waiters ≡ front ++ ws → IsTied cs agenda lines
+pub leaves : (k : Kind) (cs : List CourseState) (agenda : List ℕ) (lines : Kind → PlacedQueue) (front ws : List Waiter) → (lines k).waiters ≡ front ++ ws → IsTied cs agenda lines
     → Leaves k cs agenda lines front ws
 leaves k cs agenda lines front [] l y = leaves-none k cs agenda lines front l y
 leaves k cs agenda lines front (w ∷ ws) l y = elim (zero-or w.1.rounds) [
@@ -279,7 +279,7 @@ absent-led : (m n : ℕ) (ws : List Waiter) → IsAbsent n (map (led_waiter m) w
 absent-led m n [] a = tt
 absent-led m n (w ∷ ws) a = (a.0, absent-led m n ws a.1)
 
-led-listed : (k : Kind) (cs : List Going) (m : ℕ) (ws : List Waiter) → Listed k cs ws → Listed k cs (map (led_waiter m) ws)
+led-listed : (k : Kind) (cs : List CourseState) (m : ℕ) (ws : List Waiter) → Listed k cs ws → Listed k cs (map (led_waiter m) ws)
 led-listed k cs m [] r = tt
 led-listed k cs m (w ∷ ws) r = (r.0, led-absent m w.0 ws r.1, led-listed k cs m ws r.2)
 
@@ -287,7 +287,7 @@ led-found : (n m : ℕ) (ws : List Waiter) → found n ws ≡ found n (map (led_
 led-found n m [] = refl
 led-found n m (w ∷ ws) = ap (λ (r : Option End). cond (eqb n w.0) (Some w.1.brings) r) (led-found n m ws)
 
-tied-led : (k : Kind) (m : ℕ) (cs : List Going) (agenda : List ℕ) (lines : Kind → PlacedQueue) → IsTied cs agenda lines
+tied-led : (k : Kind) (m : ℕ) (cs : List CourseState) (agenda : List ℕ) (lines : Kind → PlacedQueue) → IsTied cs agenda lines
     → IsTied cs agenda (put k (placed_queue (map (led_waiter m) (lines k).waiters) 0 0) lines)
 tied-led k m cs agenda lines y =
     let l = placed_queue (map (led_waiter m) (lines k).waiters) 0 0 in
@@ -304,15 +304,15 @@ tied-led k m cs agenda lines y =
       below = y.below;
     }
 
--- the list of a kind runs
-pub record Ran (k : Kind) (cs : List Going) (agenda : List ℕ) (lines : Kind → PlacedQueue) : Type 0 where
+-- the lane queue of a kind runs
+pub record Ran (k : Kind) (cs : List CourseState) (agenda : List ℕ) (lines : Kind → PlacedQueue) : Type 0 where
   pub tied : IsTied (returned brings_in cs (finishers rounds_in (led_all (lines k).waiters))) (agenda ++ numbers (finishers rounds_in (led_all (lines k).waiters)))
       (put k (placed_queue (others rounds_in (led_all (lines k).waiters)) 0 0) lines)
   pub owed : owed_from 0 (find_in lines) cs
       ≡ owed_from 0 (find_in (put k (placed_queue (others rounds_in (led_all (lines k).waiters)) 0 0) lines))
       (returned brings_in cs (finishers rounds_in (led_all (lines k).waiters)))
 
-pub ran-list : (k : Kind) (cs : List Going) (agenda : List ℕ) (lines : Kind → PlacedQueue) → IsTied cs agenda lines → Ran k cs agenda lines
+pub ran-list : (k : Kind) (cs : List CourseState) (agenda : List ℕ) (lines : Kind → PlacedQueue) → IsTied cs agenda lines → Ran k cs agenda lines
 ran-list k cs agenda lines y =
     let m = least (pair_rest rounds_in) (lines k).waiters in
     let ws = led_all (lines k).waiters in

@@ -11,7 +11,7 @@ use Rattle.mbj_manager.specs.Inside.Steps.{steps_ahead}
 use Rattle.mbj_manager.proofs.Lanes.{with_waiting, waits}
 use Rattle.mbj_manager.proofs.Steps.{after_steps, after_flush_steps}
 
--- what f reads of a machine stays as it is when a list runs, a job joins one, or the agenda's first is taken
+-- what f reads of a machine stays as it is when a lane queue runs, a job joins one, or the agenda's first is taken
 pub record IsUnchanged {A : Type 0} (f : Machine → A) (at : Cause) : Type 0 where
   pub runs : (k : Kind) (m : Machine) → f (run_within at k m) ≡ f m
   pub joins : (k : Kind) (ws : List Waiting) (m : Machine)
@@ -24,7 +24,7 @@ either-way : {A : Type 0} (f : Machine → A) (b : Bool) (x y : Machine) → f x
 either-way f true x y e = e
 either-way f false x y e = refl
 
--- through a job that joins a list
+-- through a job that joins a lane queue
 unchanged-joined : {A : Type 0} (f : Machine → A) (at : Cause) → IsUnchanged f at → (k : Kind) (n rest : ℕ) (m : Machine)
     → f (joined at k n rest m) ≡ f m
 unchanged-joined f at stays k n rest m =

@@ -11,7 +11,7 @@ pub record IsKept (h : ManagerState) : Type 0 where
   pub jobs : length h.machine.left ≡ length h.owed
   -- a flush gives the earliest job back
   pub flush_gives : h.owed ≢ [] → IsSome (after_flush h).0
-  -- and runs lists twice for each job at most
+  -- and runs lane queues twice for each job at most
   pub flush_runs : RisesUpTo (2 * length h.owed) h.machine.flush_runs (after_flush h).1.machine.flush_runs
 
 abbrev pub AreKept : List Call → Type 0

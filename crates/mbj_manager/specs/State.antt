@@ -5,7 +5,7 @@ use Rattle.mbj_types.specs.declared.done.Done.{Done}
 use Rattle.mbj_types.specs.Blank.{blank}
 use Rattle.mbj_types.specs.Result.{result_of}
 use Rattle.mbj_ring.specs.declared.ring.TheConstants.{CELLS}
-use Rattle.mbj_stage.specs.Going.{begun}
+use Rattle.mbj_stage.specs.CourseState.{begun}
 use Rattle.mbj_manager.specs.Machine.Stages.{Pending, pending}
 use Rattle.mbj_manager.specs.Machine.Queues.{Waiting, Queue, Machine, idle_queue, queue_for}
 use Rattle.mbj_manager.specs.declared.lane.Cause.TheVariants as cause

@@ -2,11 +2,11 @@ ghost use Rattle.std.specs.Prelude.{List};
 ghost use Rattle.mbj_manager.specs.Machine.Queues.{Machine};
 ghost use Rattle.mbj_manager.specs.Calls.{Call};
 ghost use Rattle.mbj_manager.specs.Kept.{AreKept};
-ghost use Rattle.mbj_manager.specs.Machine.Between.{IsBetweenCalls, KeepsMachines};
+ghost use Rattle.mbj_manager.specs.Machine.Between.{IsBetweenCalls, KeepsMachines, StepsEndAlike};
 
 /// A law: from every machine between two calls, the course of a submission and a flush lead to a machine between two calls,
 /// whatever stages the submitted job has, where each of them in lanes takes a round at least; so the course ends with nothing
-/// left to take up, no job stands in two lists, and a flush ends with the earliest job finished.
+/// left to take up, no job stands in two lane queues, and a flush ends with the earliest job finished.
 pub fn machines_stay_between_calls()
     ensures { (m : Machine) → IsBetweenCalls m → KeepsMachines m }
 {}
@@ -16,4 +16,10 @@ pub fn machines_stay_between_calls()
 /// and not given back.
 pub fn calls_keep_the_machine()
     ensures { (calls : List Call) → AreKept calls }
+{}
+
+/// A law: by which number a course and a flush iterate doesn't matter. Every number of steps after which the agenda is empty
+/// gives the same machine, and so does every number of flush steps after which the earliest job is finished.
+pub fn enough_steps_give_one_machine()
+    ensures { (m : Machine) → StepsEndAlike m }
 {}

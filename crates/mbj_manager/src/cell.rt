@@ -1,7 +1,7 @@
 ghost use Rattle.std.specs.Prelude.{◌≡◌, ◌≢◌, ◌≤◌, None, Some, length};
 ghost use Rattle.std.specs.Borrow.{sem};
 ghost use Rattle.mbj_lane.specs.Rounds.{end_of};
-ghost use Rattle.mbj_stage.specs.Going.{begun, owed, stage_of};
+ghost use Rattle.mbj_stage.specs.CourseState.{begun, owed, stage_of};
 ghost use Rattle.mbj_stage.specs.Handing.{IsNext, IsOut, handed_out, taken_back};
 ghost use Rattle.mbj_stage.specs.declared.stage.Stage.TheVariants as stage;
 ghost use Rattle.mbj_manager.specs.Machine.Stages.{pending};

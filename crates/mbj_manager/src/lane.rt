@@ -1,17 +1,17 @@
-//! The work on one list, with the courses in the ring and the agenda: the same for every kind.
+//! The work on one lane queue, with the courses in the ring and the agenda: the same for every kind.
 
 ghost use Rattle.std.specs.Prelude.{◌≡◌, ◌+◌, ◌<◌, ◌≤◌, length, vec_capacity};
 ghost use Rattle.mbj_types.specs.Kinds.{lanes_of};
 ghost use Rattle.mbj_lane.specs.Rounds.{end_of};
 ghost use Rattle.mbj_ring.specs.declared.ring.TheConstants.{CELLS};
-ghost use Rattle.mbj_stage.specs.Going.{stage_of};
+ghost use Rattle.mbj_stage.specs.CourseState.{stage_of};
 ghost use Rattle.mbj_stage.specs.Handing.{IsNext, IsOut, handed_out, taken_back};
 ghost use Rattle.mbj_manager.specs.Machine.Queues.{changed};
-ghost use Rattle.mbj_manager.specs.Inside.Courses.{AreCourses, Follows, IsSameRing, courses, number_in};
+ghost use Rattle.mbj_manager.specs.Inside.Courses.{AreCourses, Follows, IsSameRing, courses, ring_number};
 ghost use Rattle.mbj_manager.specs.Inside.Leaving.{At, Gives};
 ghost use Rattle.mbj_manager.specs.Inside.PlacedQueue.{numbered};
 ghost use Rattle.mbj_manager.specs.Inside.Desk.{Enters, IsReady, Listed, MayEnter, desk_at, left_now, ran_at};
-ghost use Rattle.mbj_stage.specs.Going.{Going};
+ghost use Rattle.mbj_stage.specs.CourseState.{CourseState};
 
 use crate::agenda::Agenda;
 use crate::cell::Cell;
@@ -19,7 +19,7 @@ use crate::lane_queue::LaneQueue;
 use mbj_ring::Ring;
 use mbj_stage::{Feed, Stage};
 
-/// The call within which a list runs.
+/// The call within which a lane queue runs.
 #[derive(Clone, Copy)]
 pub enum Cause {
     Submit,
@@ -30,10 +30,10 @@ pub enum Cause {
 pub(crate) fn run_nows(ring: &mut Ring<Cell>, place: u32) -> Stage
     requires ring { AreCourses ring.old }
     requires place { place < CELLS }
-    requires here { At (λ c. c.out ≡ None) (number_in ring.old place) (courses ring.old) }
+    requires here { At (λ c. c.out ≡ None) (ring_number ring.old place) (courses ring.old) }
     ensures ring { IsSameRing ring.new ring.old }
-    ensures follows { (c : Going) × ((courses ring.new ≡ changed (λ _. c) (number_in ring.old place) (courses ring.old))
-        × ((result ≡ stage_of c) × (At (Follows c) (number_in ring.old place) (courses ring.old)))) }
+    ensures follows { (c : CourseState) × ((courses ring.new ≡ changed (λ _. c) (ring_number ring.old place) (courses ring.old))
+        × ((result ≡ stage_of c) × (At (Follows c) (ring_number ring.old place) (courses ring.old)))) }
 {
     let cell = ring.at_mut(place);
     cell.run_nows()
@@ -44,10 +44,10 @@ fn hand_out<K: Feed>(ring: &mut Ring<Cell>, place: u32) -> K::Entry
     requires fits { K.fits }
     requires ring { AreCourses ring.old }
     requires place { place < CELLS }
-    requires next { At (IsNext K.kind) (number_in ring.old place) (courses ring.old) }
+    requires next { At (IsNext K.kind) (ring_number ring.old place) (courses ring.old) }
     ensures ring { IsSameRing ring.new ring.old }
-    ensures out { courses ring.new ≡ changed handed_out (number_in ring.old place) (courses ring.old) }
-    ensures gives { At (Gives K.kind (K.rest_of result) (K.brings (end_of K.round K.rest_of result))) (number_in ring.old place) (courses ring.old) }
+    ensures out { courses ring.new ≡ changed handed_out (ring_number ring.old place) (courses ring.old) }
+    ensures gives { At (Gives K.kind (K.rest_of result) (K.brings (end_of K.round K.rest_of result))) (ring_number ring.old place) (courses ring.old) }
     ensures some { 1 ≤ K.rest_of result }
 {
     let cell = ring.at_mut(place);
@@ -58,24 +58,24 @@ fn hand_out<K: Feed>(ring: &mut Ring<Cell>, place: u32) -> K::Entry
 fn take_back<K: Feed>(ring: &mut Ring<Cell>, place: u32, entry: K::Entry)
     requires ring { AreCourses ring.old }
     requires place { place < CELLS }
-    requires out { At (IsOut K.kind (K.brings entry)) (number_in ring.old place) (courses ring.old) }
+    requires out { At (IsOut K.kind (K.brings entry)) (ring_number ring.old place) (courses ring.old) }
     requires done { K.rest_of entry ≡ 0 }
     ensures ring { IsSameRing ring.new ring.old }
-    ensures back { courses ring.new ≡ changed (taken_back (K.brings entry)) (number_in ring.old place) (courses ring.old) }
+    ensures back { courses ring.new ≡ changed (taken_back (K.brings entry)) (ring_number ring.old place) (courses ring.old) }
 {
     let cell = ring.at_mut(place);
     cell.take_back::<K>(entry);
 }
 
-/// Those whose rounds are done go back to their courses, which join the agenda, in list order.
+/// Those whose rounds are done go back to their courses, which join the agenda, in the order of the lane queue.
 fn leave<K: Feed>(queue: &mut LaneQueue<K>, ring: &mut Ring<Cell>, agenda: &mut Agenda)
     requires ring { AreCourses ring.old }
-    requires listed { Listed K.kind (courses ring.old) (numbered (number_in ring.old) queue.old.waiters) }
+    requires listed { Listed K.kind (courses ring.old) (numbered (ring_number ring.old) queue.old.waiters) }
     requires room { length agenda.old.places.items + length queue.old.waiters ≤ vec_capacity agenda.old.places }
     ensures ring { IsSameRing ring.new ring.old }
     ensures room { vec_capacity agenda.new.places ≡ vec_capacity agenda.old.places }
-    ensures left { desk_at (number_in ring.old) (courses ring.new) agenda.new.places.items queue.new 0
-        ≡ left_now (desk_at (number_in ring.old) (courses ring.old) agenda.old.places.items queue.old 0) }
+    ensures left { desk_at (ring_number ring.old) (courses ring.new) agenda.new.places.items queue.new 0
+        ≡ left_now (desk_at (ring_number ring.old) (courses ring.old) agenda.old.places.items queue.old 0) }
 {
     'leaving: loop {
         match queue.take() {
@@ -88,7 +88,7 @@ fn leave<K: Feed>(queue: &mut LaneQueue<K>, ring: &mut Ring<Cell>, agenda: &mut 
     }
 }
 
-/// The list runs for its least rest, within a submit, where all its lanes are in use, or within a flush; and those whose rounds
+/// The lane queue runs for its least rest, within a submit, where all its lanes are in use, or within a flush; and those whose rounds
 /// are done leave. The run goes into the counts of that call.
 pub(crate) fn run_within<K: Feed>(
     cause: Cause,
@@ -98,13 +98,13 @@ pub(crate) fn run_within<K: Feed>(
     agenda: &mut Agenda,
 )
     requires ring { AreCourses ring.old }
-    requires ready { IsReady K.kind (desk_at (number_in ring.old) (courses ring.old) agenda.old.places.items queue.old flush_runs.old)
+    requires ready { IsReady K.kind (desk_at (ring_number ring.old) (courses ring.old) agenda.old.places.items queue.old flush_runs.old)
         (vec_capacity agenda.old.places) }
     requires full { cause ≡ Cause.Submit → length queue.old.waiters ≡ lanes_of K.kind }
     ensures ring { IsSameRing ring.new ring.old }
     ensures room { vec_capacity agenda.new.places ≡ vec_capacity agenda.old.places }
-    ensures ran { desk_at (number_in ring.old) (courses ring.new) agenda.new.places.items queue.new flush_runs.new
-        ≡ ran_at cause (desk_at (number_in ring.old) (courses ring.old) agenda.old.places.items queue.old flush_runs.old) }
+    ensures ran { desk_at (ring_number ring.old) (courses ring.new) agenda.new.places.items queue.new flush_runs.new
+        ≡ ran_at cause (desk_at (ring_number ring.old) (courses ring.old) agenda.old.places.items queue.old flush_runs.old) }
 {
     let m = queue.run();
     leave(queue, ring, agenda);
@@ -114,7 +114,7 @@ pub(crate) fn run_within<K: Feed>(
     }
 }
 
-/// The course at a place goes into the list, which runs where it is full then.
+/// The course at a place goes into the lane queue, which runs where it is full then.
 pub(crate) fn enter<K: Feed>(
     cause: Cause,
     queue: &mut LaneQueue<K>,
@@ -126,13 +126,13 @@ pub(crate) fn enter<K: Feed>(
     requires fits { K.fits }
     requires ring { AreCourses ring.old }
     requires place { place < CELLS }
-    requires may { MayEnter (lanes_of K.kind) K.kind (number_in ring.old place)
-        (desk_at (number_in ring.old) (courses ring.old) agenda.old.places.items queue.old flush_runs.old) (vec_capacity agenda.old.places) }
+    requires may { MayEnter (lanes_of K.kind) K.kind (ring_number ring.old place)
+        (desk_at (ring_number ring.old) (courses ring.old) agenda.old.places.items queue.old flush_runs.old) (vec_capacity agenda.old.places) }
     ensures ring { IsSameRing ring.new ring.old }
     ensures room { vec_capacity agenda.new.places ≡ vec_capacity agenda.old.places }
-    ensures entered { Enters cause (lanes_of K.kind) K.kind (number_in ring.old place)
-        (desk_at (number_in ring.old) (courses ring.old) agenda.old.places.items queue.old flush_runs.old)
-        (desk_at (number_in ring.old) (courses ring.new) agenda.new.places.items queue.new flush_runs.new) }
+    ensures entered { Enters cause (lanes_of K.kind) K.kind (ring_number ring.old place)
+        (desk_at (ring_number ring.old) (courses ring.old) agenda.old.places.items queue.old flush_runs.old)
+        (desk_at (ring_number ring.old) (courses ring.new) agenda.new.places.items queue.new flush_runs.new) }
 {
     let entry = hand_out::<K>(ring, place);
     queue.join(place, entry);

@@ -1,9 +1,9 @@
-//! The lists of all kinds. What is the same for every kind stands in `lane`.
+//! The lane queues of all kinds. What is the same for every kind stands in `lane`.
 
 ghost use Rattle.std.specs.Prelude.{◌≡◌, ◌<◌, ◌≤◌, IfOk, vec_capacity};
 ghost use Rattle.mbj_types.specs.Kinds.{lanes_of};
 ghost use Rattle.mbj_ring.specs.declared.ring.TheConstants.{CELLS};
-ghost use Rattle.mbj_manager.specs.Inside.Courses.{AreCourses, IsSameRing, courses, number_in};
+ghost use Rattle.mbj_manager.specs.Inside.Courses.{AreCourses, IsSameRing, courses, ring_number};
 ghost use Rattle.mbj_manager.specs.Inside.Desk.{Enters, IsReady, MayEnter, ran_at};
 ghost use Rattle.mbj_manager.specs.Inside.LaneQueues.{desk_of, placed_in, no_queues, waiting_in, with_placed};
 
@@ -33,7 +33,7 @@ pub struct LaneQueues {
     pub flush_runs: u64,
 }
 
-/// What the macro `work` writes for the list of a kind.
+/// What the macro `work` writes for the lane queue of a kind.
 macro_rules! at_kind {
     ($kind:expr, $work:ident) => {
         match $kind {
@@ -67,7 +67,7 @@ impl LaneQueues {
         })
     }
 
-    /// The course at a place goes into the list of a kind, which runs where it is full then.
+    /// The course at a place goes into the lane queue of a kind, which runs where it is full then.
     pub(crate) fn enter(
         &mut self,
         kind: Kind,
@@ -78,13 +78,13 @@ impl LaneQueues {
     )
         requires ring { AreCourses ring.old }
         requires place { place < CELLS }
-        requires may { MayEnter (lanes_of kind) kind (number_in ring.old place)
-            (desk_of kind (number_in ring.old) (courses ring.old) agenda.old.places.items self.old) (vec_capacity agenda.old.places) }
+        requires may { MayEnter (lanes_of kind) kind (ring_number ring.old place)
+            (desk_of kind (ring_number ring.old) (courses ring.old) agenda.old.places.items self.old) (vec_capacity agenda.old.places) }
         ensures ring { IsSameRing ring.new ring.old }
         ensures room { vec_capacity agenda.new.places ≡ vec_capacity agenda.old.places }
-        ensures entered { Enters cause (lanes_of kind) kind (number_in ring.old place)
-            (desk_of kind (number_in ring.old) (courses ring.old) agenda.old.places.items self.old)
-            (desk_of kind (number_in ring.old) (courses ring.new) agenda.new.places.items self.new) }
+        ensures entered { Enters cause (lanes_of kind) kind (ring_number ring.old place)
+            (desk_of kind (ring_number ring.old) (courses ring.old) agenda.old.places.items self.old)
+            (desk_of kind (ring_number ring.old) (courses ring.new) agenda.new.places.items self.new) }
         ensures others { self.new ≡ with_placed kind (placed_in kind self.new) self.new.flush_runs self.old }
     {
         macro_rules! enter_at {
@@ -95,15 +95,15 @@ impl LaneQueues {
         at_kind!(kind, enter_at)
     }
 
-    /// The list of a kind runs within a flush.
+    /// The lane queue of a kind runs within a flush.
     pub(crate) fn run(&mut self, kind: Kind, ring: &mut Ring<Cell>, agenda: &mut Agenda)
         requires ring { AreCourses ring.old }
-        requires ready { IsReady kind (desk_of kind (number_in ring.old) (courses ring.old) agenda.old.places.items self.old)
+        requires ready { IsReady kind (desk_of kind (ring_number ring.old) (courses ring.old) agenda.old.places.items self.old)
             (vec_capacity agenda.old.places) }
         ensures ring { IsSameRing ring.new ring.old }
         ensures room { vec_capacity agenda.new.places ≡ vec_capacity agenda.old.places }
-        ensures ran { desk_of kind (number_in ring.old) (courses ring.new) agenda.new.places.items self.new
-            ≡ ran_at Cause.Flush (desk_of kind (number_in ring.old) (courses ring.old) agenda.old.places.items self.old) }
+        ensures ran { desk_of kind (ring_number ring.old) (courses ring.new) agenda.new.places.items self.new
+            ≡ ran_at Cause.Flush (desk_of kind (ring_number ring.old) (courses ring.old) agenda.old.places.items self.old) }
         ensures others { self.new ≡ with_placed kind (placed_in kind self.new) self.new.flush_runs self.old }
     {
         macro_rules! run_at {
@@ -114,7 +114,7 @@ impl LaneQueues {
         at_kind!(kind, run_at)
     }
 
-    /// How many jobs wait in the list of a kind.
+    /// How many jobs wait in the lane queue of a kind.
     pub(crate) fn len(&self, kind: Kind) -> u32
         ensures { result ≡ waiting_in self.now kind }
     {

@@ -14,7 +14,9 @@ mod manager;
 mod queued;
 mod works;
 
-pub use between::{calls_keep_the_machine, machines_stay_between_calls};
+pub use between::{
+    calls_keep_the_machine, enough_steps_give_one_machine, machines_stay_between_calls,
+};
 pub use calls::results_come_back_in_order;
 // A crate can name a manager in a contract only if the types of its fields are exported.
 #[doc(hidden)]

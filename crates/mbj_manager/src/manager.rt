@@ -26,7 +26,7 @@ use std::marker::Model;
 /// `get_completed` and `flush` give finished jobs back, always in the order of submission. A job that is refused comes
 /// back in its place, as `Status::InvalidArgs`.
 ///
-/// `new` takes all the memory of the cells; no other call takes any. At most 256 jobs are submitted and not given back.
+/// `new` takes all the memory of the cells; no other call takes any. At most `CELLS` jobs are submitted and not given back.
 #[derive(Drop)]
 pub struct Manager {
     works: Works,
@@ -63,7 +63,7 @@ impl Manager {
     /// Lends the open job, to be filled: a blank one where none was open, else that one as it was written. What is
     /// written there is the open job.
     ///
-    /// Answers `RingFull` exactly where 256 jobs are submitted and not given back; nothing changes then.
+    /// Answers `RingFull` exactly where `CELLS` jobs are submitted and not given back; nothing changes then.
     pub fn get_next(&mut self) -> Result<&mut Job, RingFull>
         ensures* lends { sem 𝓛 (LendsNext self.entry result) }
         ensures value { IfOk result (λ j. j.now ≡ lent self.old) }
@@ -77,7 +77,7 @@ impl Manager {
         Ok(self.open_job())
     }
 
-    /// Whether 256 jobs are submitted and not given back, so that `get_next` has no cell for another one.
+    /// Whether `CELLS` jobs are submitted and not given back, so that `get_next` has no cell for another one.
     pub fn is_full(&self) -> bool
         ensures full { IsTrue result ↔ (length self.now.owed ≡ CELLS) }
         ensures room { OnFalse result (length self.now.owed < CELLS) }
@@ -171,7 +171,7 @@ impl Manager {
         self.works.give()
     }
 
-    /// Finishes the earliest job, and gives it back. An open cell stays as it is. LaneQueues run twice at most for each job that
+    /// Finishes the earliest job, and gives it back. An open cell stays as it is. Lane queues run twice at most for each job that
     /// is submitted and not given back.
     ///
     /// Answers `None` exactly where no job is submitted and not given back.
@@ -187,7 +187,7 @@ impl Manager {
         self.works.give()
     }
 
-    /// How many jobs are submitted and not given back, at most 256.
+    /// How many jobs are submitted and not given back, at most `CELLS`.
     pub fn queue_size(&self) -> u32
         ensures size { result ≡ length self.now.owed }
         ensures within { result ≤ CELLS }

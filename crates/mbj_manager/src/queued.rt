@@ -1,4 +1,4 @@
-//! The list of each kind, by the kernel of the kind.
+//! The lane queue of each kind, by the kernel of the kind.
 
 ghost use Rattle.std.specs.Prelude.{◌≡◌};
 ghost use Rattle.mbj_manager.specs.Inside.LaneQueues.{placed_in};
@@ -10,9 +10,9 @@ use mbj_cmac::CmacKernel;
 use mbj_hmac::{Hmac1Kernel, Hmac256Kernel, Hmac512Kernel};
 use mbj_stage::Feed;
 
-/// The kernel of a kind, whose list is one of a manager's.
+/// The kernel of a kind, whose lane queue is one of a manager's.
 pub trait Queued: Feed {
-    /// The list of the kind.
+    /// The lane queue of the kind.
     fn queue(lists: &LaneQueues) -> &LaneQueue<Self>
         ensures { result.now ≡ placed_in Self.kind lists.now };
 }

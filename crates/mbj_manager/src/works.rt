@@ -3,7 +3,7 @@ ghost use Rattle.std.specs.Prelude.{◌≡◌, ◌≢◌, ◌↔◌, ◌*◌, �
 ghost use Rattle.std.specs.Borrow.{sem};
 ghost use Rattle.mbj_types.specs.Result.{result_of};
 ghost use Rattle.mbj_ring.specs.declared.ring.TheConstants.{CELLS};
-ghost use Rattle.mbj_stage.specs.Going.{begun, stage_of};
+ghost use Rattle.mbj_stage.specs.CourseState.{begun, stage_of};
 ghost use Rattle.mbj_stage.specs.declared.stage.Stage.TheVariants as stage;
 ghost use Rattle.mbj_manager.specs.Machine.Stages.{pending};
 ghost use Rattle.mbj_lane.specs.Rounds.{end_of};
@@ -29,7 +29,7 @@ use mbj_types::{Done, Job, Kind};
 use std::alloc::{AllocError, Global};
 use std::marker::Model;
 
-/// How many jobs stand in agenda and lists at most: in each list one fewer than it has lanes, and one that goes on.
+/// How many jobs stand in agenda and lane queues at most: in each lane queue one fewer than it has lanes, and one that goes on.
 fn agenda_room() -> usize
     ensures { result ≡ agenda_room }
 {
@@ -179,7 +179,7 @@ impl Works {
         }
     }
 
-    /// Runs the list of the earliest job.
+    /// Runs the lane queue of the earliest job.
     fn run_first(&mut self, kind: Kind)
         requires idle { self.old.machine.agenda ≡ [] }
         requires first { first_lane self.old.machine.left ≡ Some kind }

@@ -3,7 +3,7 @@ use Rattle.std.specs.Prelude.{List, [], ◌∷◌, ◌++◌, length, Option, Som
 use Rattle.mbj_types.specs.declared.job.Job.{Job}
 use Rattle.mbj_types.specs.declared.kind.Kind.{Kind}
 use Rattle.mbj_types.specs.Result.{result_of}
-use Rattle.mbj_stage.specs.Going.{begun}
+use Rattle.mbj_stage.specs.CourseState.{begun}
 use Rattle.mbj_manager.specs.Machine.Stages.{Pending, at_once, in_lanes, pending}
 use Rattle.mbj_manager.specs.State.{ManagerState}
 

@@ -1,7 +1,7 @@
 -- The courses in a manager's ring.
 use Rattle.std.specs.Prelude.{◌≡◌, ◌≢◌, ℕ, ◌+◌, ◌-◌, ◌%◌, ◌<◌, ◌≤◌, List, [], ◌∷◌, length, map, All, Option, Some, None}
 use Rattle.mbj_types.specs.declared.job.Job.{Job}
-use Rattle.mbj_stage.specs.Going.{Going, begun, stage_of, owed}
+use Rattle.mbj_stage.specs.CourseState.{CourseState, begun, stage_of, owed}
 use Rattle.mbj_stage.specs.declared.stage.Stage.{Stage}
 use Rattle.mbj_stage.specs.declared.stage.Stage.TheVariants as stage
 use Rattle.mbj_ring.specs.declared.ring.TheConstants.{CELLS}
@@ -17,7 +17,7 @@ job_in (cell.Open j) = j
 job_in (cell.Going c) = c.job
 
 -- the course in a cell; a job that is being filled has nothing done
-abbrev pub course_in : Cell → Going
+abbrev pub course_in : Cell → CourseState
 course_in (cell.Open j) = begun j
 course_in (cell.Going c) = c
 
@@ -29,15 +29,15 @@ abbrev pub IsGoing : Cell → Type 0
 IsGoing (cell.Open j) = ⊥
 IsGoing (cell.Going c) = Unit {0}
 
-abbrev pub courses : RingState Cell → List Going
+abbrev pub courses : RingState Cell → List CourseState
 courses r = map course_in r.values
 
 -- the number of the job at a place: how many are before it
 abbrev pub number : ℕ → ℕ → ℕ
 number first place = (CELLS + place - first) % CELLS
 
-abbrev pub number_in : RingState Cell → ℕ → ℕ
-number_in r = number r.first
+abbrev pub ring_number : RingState Cell → ℕ → ℕ
+ring_number r = number r.first
 
 -- the committed cells hold courses, at places of the ring
 pub record AreCourses (r : RingState Cell) : Type 0 where
@@ -52,12 +52,12 @@ pub record IsSameRing (new old : RingState Cell) : Type 0 where
   pub courses : AreCourses new
 
 -- the stage of the earliest course
-abbrev pub first_stage : List Going → Option Stage
+abbrev pub first_stage : List CourseState → Option Stage
 first_stage [] = None
 first_stage (c ∷ cs) = Some (stage_of c)
 
 -- c is the course once what finishes at once is done
-pub record Follows (c : Going) (old : Going) : Type 0 where
+pub record Follows (c : CourseState) (old : CourseState) : Type 0 where
   pub owed_is : owed c ≡ owed old
   pub pending_is : pending c ≡ in_lanes_next (pending old)
   pub was_here : old.out ≡ None

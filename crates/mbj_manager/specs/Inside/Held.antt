@@ -1,10 +1,10 @@
--- How ring, agenda and lists hold a manager's state.
+-- How ring, agenda and lane queues hold a manager's state.
 use Rattle.std.specs.Prelude.{◌≡◌, ℕ, ◌+◌, ◌-◌, ◌<◌, ◌≤◌, ◌==◌, suc, List, [], ◌∷◌, length, map, sum_by, All, Option, Some, None, option_map, if◌then◌else◌}
 use Rattle.mbj_types.specs.Kinds.{all_kinds, lanes_of}
 use Rattle.mbj_types.specs.declared.kind.Kind.{Kind}
 use Rattle.mbj_types.specs.declared.done.Done.{Done}
 use Rattle.mbj_ring.specs.Ring.{RingState}
-use Rattle.mbj_stage.specs.Going.{Going, owed, stage_of}
+use Rattle.mbj_stage.specs.CourseState.{CourseState, owed, stage_of}
 use Rattle.mbj_stage.specs.Handing.{End, owed_with}
 use Rattle.mbj_stage.specs.declared.stage.Stage.{Stage}
 use Rattle.mbj_stage.specs.declared.stage.Stage.TheVariants as stage
@@ -12,13 +12,13 @@ use Rattle.mbj_manager.specs.Machine.Stages.{pending}
 use Rattle.mbj_manager.specs.Machine.Queues.{Waiting, Queue, Machine}
 use Rattle.mbj_manager.specs.State.{ManagerState}
 use Rattle.mbj_manager.specs.declared.cell.Cell.{Cell}
-use Rattle.mbj_manager.specs.Inside.Courses.{AreCourses, IsOpen, courses, job_in, number_in}
+use Rattle.mbj_manager.specs.Inside.Courses.{AreCourses, IsOpen, courses, job_in, ring_number}
 use Rattle.mbj_manager.specs.Inside.Leaving.{At, IsAbsent}
 use Rattle.mbj_manager.specs.Inside.Desk.{Listed}
 use Rattle.mbj_manager.specs.Inside.LaneQueues.{placed_in, total}
 use Rattle.mbj_manager.specs.Inside.PlacedQueue.{PlacedQueue, Waiter, numbered_queue}
 use Rattle.mbj_manager.specs.declared.lane_queues.LaneQueues.{LaneQueues}
-use Rattle.mbj_manager.specs.Inside.Standing.{IsWithin}
+use Rattle.mbj_manager.specs.Inside.Standing.{IsInCourse}
 
 -- ---- the machine
 
@@ -28,22 +28,22 @@ waiting w = record { number = w.0; rest = w.1.rounds }
 abbrev pub lane_seen : PlacedQueue → Queue
 lane_seen l = record { waiting = map waiting l.waiters; rounds = l.rounds; blocks = l.blocks }
 
-abbrev pub machine_by : List Going → List ℕ → (Kind → PlacedQueue) → ℕ → Machine
+abbrev pub machine_by : List CourseState → List ℕ → (Kind → PlacedQueue) → ℕ → Machine
 machine_by cs agenda lines flush_runs =
     record { left = map pending cs; lanes = λ k. lane_seen (lines k); agenda = agenda; flush_runs = flush_runs }
 
 -- ---- what is owed
 
--- the end of the entry of the job n in a list
+-- the end of the entry of the job n in a lane queue
 abbrev pub found : ℕ → List Waiter → Option End
 found n [] = None
 found n (w ∷ ws) = if n == w.0 then Some w.1.brings else found n ws
 
-abbrev pub owed_found : Going → Option End → Done
+abbrev pub owed_found : CourseState → Option End → Done
 owed_found c None = owed c
 owed_found c (Some e) = owed_with e c
 
-abbrev pub owed_by : Stage → ℕ → (Kind → ℕ → Option End) → Going → Done
+abbrev pub owed_by : Stage → ℕ → (Kind → ℕ → Option End) → CourseState → Done
 owed_by stage.Now n find c = owed c
 owed_by stage.Finished n find c = owed c
 owed_by (stage.Lane k) n find c = owed_found c (find k n)
@@ -53,11 +53,11 @@ owed_here None d out = d
 owed_here (Some n) d out = out
 
 -- what the course of the job n owes: while its packet is out, that is by the end of its entry
-abbrev pub owed_of : ℕ → (Kind → ℕ → Option End) → Going → Done
+abbrev pub owed_of : ℕ → (Kind → ℕ → Option End) → CourseState → Done
 owed_of n find c = owed_here c.out (owed c) (owed_by (stage_of c) n find c)
 
 -- what courses owe, the first of which is of the job n
-abbrev pub owed_from : ℕ → (Kind → ℕ → Option End) → List Going → List Done
+abbrev pub owed_from : ℕ → (Kind → ℕ → Option End) → List CourseState → List Done
 owed_from n find [] = []
 owed_from n find (c ∷ cs) = owed_of n find c ∷ owed_from (suc n) find cs
 
@@ -67,10 +67,10 @@ find_in lines k n = found n (lines k).waiters
 -- ---- the state
 
 abbrev pub lines_in : RingState Cell → LaneQueues → Kind → PlacedQueue
-lines_in r ls k = numbered_queue (number_in r) (placed_in k ls)
+lines_in r ls k = numbered_queue (ring_number r) (placed_in k ls)
 
 abbrev pub machine_in : RingState Cell → List ℕ → LaneQueues → Machine
-machine_in r agenda ls = machine_by (courses r) (map (number_in r) agenda) (lines_in r ls) ls.flush_runs
+machine_in r agenda ls = machine_by (courses r) (map (ring_number r) agenda) (lines_in r ls) ls.flush_runs
 
 abbrev pub held : RingState Cell → List ℕ → LaneQueues → ManagerState
 held r agenda ls = record {
@@ -83,17 +83,17 @@ abbrev pub IsOpenAt : Option Cell → Type 0
 IsOpenAt None = Unit {0}
 IsOpenAt (Some c) = IsOpen c
 
-abbrev pub IsHere : Going → Type 0
+abbrev pub IsHere : CourseState → Type 0
 IsHere c = c.out ≡ None
 
--- lists, agenda and courses fit: who waits has its entry out, each other course has its packet, and who stands in the agenda
+-- lane queues, agenda and courses fit: who waits has its entry out, each other course has its packet, and who stands in the agenda
 -- has a course
-pub record IsTied (cs : List Going) (agenda : List ℕ) (lines : Kind → PlacedQueue) : Type 0 where
+pub record IsTied (cs : List CourseState) (agenda : List ℕ) (lines : Kind → PlacedQueue) : Type 0 where
   pub listed : (k : Kind) → Listed k cs (lines k).waiters
   pub here : (n : ℕ) → n < length cs → ((k : Kind) → IsAbsent n (lines k).waiters) → At IsHere n cs
   pub below : All (λ n. n < length cs) agenda
 
--- how many jobs there are at most in agenda and lists: in each list one fewer than it has lanes, and one that goes on
+-- how many jobs there are at most in agenda and lane queues: in each lane queue one fewer than it has lanes, and one that goes on
 abbrev pub agenda_room : ℕ
 agenda_room = sum_by (λ k. lanes_of k - 1) all_kinds + 1
 
@@ -101,7 +101,7 @@ agenda_room = sum_by (λ k. lanes_of k - 1) all_kinds + 1
 pub record IsHeld (r : RingState Cell) (agenda : List ℕ) (ls : LaneQueues) (capacity : ℕ) : Type 0 where
   pub ring : AreCourses r
   pub is_open : IsOpenAt r.opened
-  pub within : IsWithin (machine_in r agenda ls)
-  pub tied : IsTied (courses r) (map (number_in r) agenda) (lines_in r ls)
+  pub within : IsInCourse (machine_in r agenda ls)
+  pub tied : IsTied (courses r) (map (ring_number r) agenda) (lines_in r ls)
   pub fits : length agenda + total ls ≤ agenda_room
   pub room : agenda_room ≤ capacity

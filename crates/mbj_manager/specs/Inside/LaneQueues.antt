@@ -1,9 +1,9 @@
--- The lists of all kinds.
+-- The lane queues of all kinds.
 use Rattle.std.specs.Prelude.{ℕ, List, length, sum_by}
 use Rattle.mbj_types.specs.Kinds.{all_kinds}
 use Rattle.mbj_types.specs.declared.kind.Kind.{Kind}
 use Rattle.mbj_types.specs.declared.kind.Kind.TheVariants as kind
-use Rattle.mbj_stage.specs.Going.{Going}
+use Rattle.mbj_stage.specs.CourseState.{CourseState}
 use Rattle.mbj_manager.specs.declared.lane_queues.LaneQueues.{LaneQueues}
 use Rattle.mbj_manager.specs.Inside.PlacedQueue.{PlacedQueue, no_queue}
 use Rattle.mbj_manager.specs.Inside.Desk.{Desk, desk_at}
@@ -18,7 +18,7 @@ placed_in kind.HmacSha1 ls = ls.hmac_sha1
 placed_in kind.HmacSha256 ls = ls.hmac_sha256
 placed_in kind.HmacSha512 ls = ls.hmac_sha512
 
--- with another list of a kind, and another count
+-- with another lane queue of a kind, and another count
 abbrev pub with_placed : Kind → PlacedQueue → ℕ → LaneQueues → LaneQueues
 with_placed kind.Cbc128 l n ls = record ls { cbc128 = l; flush_runs = n }
 with_placed kind.Cbc192 l n ls = record ls { cbc192 = l; flush_runs = n }
@@ -29,7 +29,7 @@ with_placed kind.HmacSha1 l n ls = record ls { hmac_sha1 = l; flush_runs = n }
 with_placed kind.HmacSha256 l n ls = record ls { hmac_sha256 = l; flush_runs = n }
 with_placed kind.HmacSha512 l n ls = record ls { hmac_sha512 = l; flush_runs = n }
 
--- lists with nobody in them, and counts of 0
+-- lane queues with nobody in them, and counts of 0
 abbrev pub no_queues : LaneQueues
 no_queues = record {
   cbc128 = no_queue;
@@ -50,6 +50,6 @@ waiting_in ls k = length (placed_in k ls).waiters
 abbrev pub total : LaneQueues → ℕ
 total ls = sum_by (waiting_in ls) all_kinds
 
--- the list of a kind with the courses and the agenda
-abbrev pub desk_of : Kind → (ℕ → ℕ) → List Going → List ℕ → LaneQueues → Desk
+-- the lane queue of a kind with the courses and the agenda
+abbrev pub desk_of : Kind → (ℕ → ℕ) → List CourseState → List ℕ → LaneQueues → Desk
 desk_of k f cs agenda ls = desk_at f cs agenda (placed_in k ls) ls.flush_runs

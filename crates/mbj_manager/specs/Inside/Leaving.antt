@@ -2,7 +2,7 @@
 use Rattle.std.specs.Prelude.{◌≡◌, ◌≢◌, ℕ, ◌==◌, zero, suc, List, [], ◌∷◌, length, Some, if◌then◌else◌}
 use Rattle.mbj_types.specs.Rounds.{rounds_of}
 use Rattle.mbj_types.specs.declared.kind.Kind.{Kind}
-use Rattle.mbj_stage.specs.Going.{Going, owed}
+use Rattle.mbj_stage.specs.CourseState.{CourseState, owed}
 use Rattle.mbj_stage.specs.Handing.{End, handed_out, owed_with, taken_back}
 use Rattle.mbj_manager.specs.Machine.Queues.{changed}
 
@@ -26,7 +26,7 @@ numbers [] = []
 numbers (p ∷ ps) = p.0 ∷ numbers ps
 
 -- the courses once these entries are taken back
-abbrev pub returned : {E : Type 0} → (E → End) → List Going → List (ℕ × E) → List Going
+abbrev pub returned : {E : Type 0} → (E → End) → List CourseState → List (ℕ × E) → List CourseState
 returned brings cs [] = cs
 returned brings cs (p ∷ ps) = returned brings (changed (taken_back (brings p.1)) p.0 cs) ps
 
@@ -35,7 +35,7 @@ IsAbsent n [] = Unit {0}
 IsAbsent n (p ∷ ps) = (p.0 ≢ n) × IsAbsent n ps
 
 -- an entry with this rest and end goes out of the course
-pub record Gives (k : Kind) (rest : ℕ) (e : End) (c : Going) : Type 0 where
+pub record Gives (k : Kind) (rest : ℕ) (e : End) (c : CourseState) : Type 0 where
   pub rest_is : rest ≡ rounds_of k c.job
   pub owed_is : owed_with e (handed_out c) ≡ owed c
   pub length_is : (handed_out c).out ≡ Some (length e.packet)

@@ -1,5 +1,5 @@
--- The list of one kind, with the counts of its full runs. An entry is seen as its rest and as its end, so that there is one type
--- for the lists of all kinds.
+-- The lane queue of one kind, with the counts of its full runs. An entry is seen as its rest and as its end, so that there is one type
+-- for the lane queues of all kinds.
 use Rattle.std.specs.Prelude.{◌≡◌, ℕ, ◌-◌, ◌≤◌, List, [], ◌∷◌, ◌++◌, map, Some, None}
 use Rattle.mbj_lane.specs.Rounds.{end_of, taken}
 use Rattle.mbj_stage.specs.Handing.{End}
@@ -41,7 +41,7 @@ seated round rest brings [] es = []
 seated round rest brings (p ∷ ps) [] = []
 seated round rest brings (p ∷ ps) (e ∷ es) = (p, ahead round rest brings e) ∷ seated round rest brings ps es
 
--- the list of a kind, and the counts of its full runs
+-- the lane queue of a kind, and the counts of its full runs
 pub record PlacedQueue : Type 0 where
   pub waiters : List Waiter
   pub rounds : ℕ
@@ -53,7 +53,7 @@ placed_queue ws rounds blocks = record { waiters = ws; rounds = rounds; blocks =
 abbrev pub no_queue : PlacedQueue
 no_queue = placed_queue [] 0 0
 
--- a list by places, with the numbers that f makes of them
+-- a lane queue by places, with the numbers that f makes of them
 abbrev pub numbered : (ℕ → ℕ) → List Waiter → List Waiter
 numbered f ws = map (λ w. (f w.0, w.1)) ws
 

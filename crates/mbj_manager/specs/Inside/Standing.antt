@@ -14,7 +14,7 @@ times n ns = count_by (λ k. k == n) ns
 abbrev pub left_at : ℕ → List (List Pending) → List Pending
 left_at n left = slice_index_or left n []
 
--- the job n stands in the agenda and in no list, or it doesn't stand in the agenda and is placed by the stages left of it
+-- the job n stands in the agenda and in no lane queue, or it doesn't stand in the agenda and is placed by the stages left of it
 abbrev pub Stands : Machine → ℕ → Type 0
 Stands m n = ((times n m.agenda ≡ 1) × IsPlaced m n []) ⊎ ((times n m.agenda ≡ 0) × IsPlaced m n (left_at n m.left))
 
@@ -25,7 +25,7 @@ pub record IsLane (k : Kind) (l : Queue) : Type 0 where
   pub blocks : l.blocks ≡ (lanes_of k * l.rounds) % count_end
 
 -- what holds of the machine after each step of a course
-pub record IsWithin (m : Machine) : Type 0 where
+pub record IsInCourse (m : Machine) : Type 0 where
   pub lanes : (k : Kind) → IsLane k (queue_for k m)
   pub stages : (n : ℕ) → All HasRounds (left_at n m.left)
   pub stands : (n : ℕ) → Stands m n

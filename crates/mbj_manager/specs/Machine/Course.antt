@@ -16,7 +16,7 @@ in_lanes_next left = left
 abbrev pub run_if_full : Cause → Kind → Machine → Machine
 run_if_full at k m = if length (queue_for k m).waiting == lanes_of k then run_within at k m else m
 
--- the job n joins the end of the kind's list, which runs where it is full then
+-- the job n joins the end of the kind's lane queue, which runs where it is full then
 abbrev pub joined : Cause → Kind → ℕ → ℕ → Machine → Machine
 joined at k n rest m = run_if_full at k (record m {
   lanes = with_queue k (record (queue_for k m) { waiting = (queue_for k m).waiting ++ record { number = n; rest = rest } ∷ [] }) m.lanes;
@@ -45,11 +45,14 @@ course at m = iterate (stepped at) (2 * stages_left m.left + length m.agenda) m
 
 -- ---- flush
 
--- while the earliest job stands in a list, that list runs, and the course is followed for those that leave
+-- while the earliest job stands in a lane queue, that lane queue runs, and the course is followed for those that leave
 abbrev pub flush_step_at : Option (List Pending) → Machine → Machine
 flush_step_at (Some (in_lanes k rest ∷ left)) m = course cause.Flush (run_within cause.Flush k m)
 flush_step_at _ m = m
 
+abbrev pub flush_step : Machine → Machine
+flush_step m = flush_step_at (slice_get m.left 0) m
+
 -- flush steps until the earliest job is finished: each ends a stage, so that there are no more of them than stages
 unfoldable pub flushed : Machine → Machine
-flushed m = iterate (λ m. flush_step_at (slice_get m.left 0) m) (stages_left m.left) m
+flushed m = iterate flush_step (stages_left m.left) m

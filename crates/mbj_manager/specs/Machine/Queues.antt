@@ -7,12 +7,12 @@ use Rattle.mbj_manager.specs.Machine.Stages.{Pending}
 use Rattle.mbj_manager.specs.declared.lane.Cause.{Cause}
 use Rattle.mbj_manager.specs.declared.lane.Cause.TheVariants as cause
 
--- a job that waits in a list: its number, and its rest, which is how many rounds are left of its stage
+-- a job that waits in a lane queue: its number, and its rest, which is how many rounds are left of its stage
 pub record Waiting : Type 0 where
   pub number : ℕ
   pub rest : ℕ
 
--- the list of a kind, and what its full runs came to: how many rounds they took, and how many blocks went through them
+-- the lane queue of a kind, and what its full runs came to: how many rounds they took, and how many blocks went through them
 pub record Queue : Type 0 where
   pub waiting : List Waiting
   pub rounds : ℕ
@@ -64,15 +64,15 @@ queue_for k m = m.lanes k
 abbrev pub rest_of : Waiting → ℕ
 rest_of w = w.rest
 
--- the least rest in a list
+-- the least rest in a lane queue
 abbrev pub least : List Waiting → ℕ
 least ws = least_of rest_of ws
 
--- a list once it ran by its least rest, those at rest 0 still in it
+-- a lane queue once it ran by its least rest, those at rest 0 still in it
 abbrev pub shortened : List Waiting → List Waiting
 shortened ws = map (λ (w : Waiting). record w { rest = w.rest - least ws }) ws
 
--- the numbers of those whose rounds are done, in list order; and the others, in theirs
+-- the numbers of those whose rounds are done, in their order; and the others, in theirs
 abbrev pub leavers : List Waiting → List ℕ
 leavers ws = map (λ w. w.number) (filter (λ w. w.rest == 0) ws)
 
@@ -84,9 +84,10 @@ abbrev pub stage_done : List ℕ → List (List Pending) → List (List Pending)
 stage_done [] left = left
 stage_done (n ∷ ns) left = stage_done ns (changed (drop 1) n left)
 
--- the list of the kind k runs by its least rest: those whose rounds are done leave in list order, and join the agenda's end
-abbrev pub ran : Kind → (List Waiting → Queue) → Machine → Machine
-ran k after m = record {
+-- the lane queue of the kind k runs by its least rest: those whose rounds are done leave it in their order, and join the agenda's
+-- end
+abbrev pub after_run : Kind → (List Waiting → Queue) → Machine → Machine
+after_run k after m = record {
   left = stage_done (leavers (shortened (queue_for k m).waiting)) m.left;
   lanes = with_queue k (after (stayers (shortened (queue_for k m).waiting))) m.lanes;
   agenda = m.agenda ++ leavers (shortened (queue_for k m).waiting);
@@ -101,8 +102,8 @@ with_run l ws = record {
   blocks = (l.blocks + least l.waiting * length l.waiting) % count_end;
 }
 
--- a run within a submit, which is of a full list and counts for its kind; and one within a flush, of the list of the earliest
--- job or of one that fills then
+-- a run within a submit, which is of a full lane queue and counts for its kind; and one within a flush, of the lane queue of the
+-- earliest job or of one that fills then
 abbrev pub run_within : Cause → Kind → Machine → Machine
-run_within cause.Submit k m = ran k (with_run (queue_for k m)) m
-run_within cause.Flush k m = ran k (λ ws. record (queue_for k m) { waiting = ws }) (record m { flush_runs = (m.flush_runs + 1) % count_end })
+run_within cause.Submit k m = after_run k (with_run (queue_for k m)) m
+run_within cause.Flush k m = after_run k (λ ws. record (queue_for k m) { waiting = ws }) (record m { flush_runs = (m.flush_runs + 1) % count_end })

@@ -6,7 +6,7 @@ use Rattle.mbj_types.specs.declared.kind.Kind.{Kind}
 use Rattle.mbj_stage.specs.declared.stage.Stage.{Stage}
 use Rattle.mbj_stage.specs.declared.stage.Stage.TheVariants as stage
 use Rattle.mbj_stage.specs.Steps.{stage_at}
-use Rattle.mbj_stage.specs.Going.{Going}
+use Rattle.mbj_stage.specs.CourseState.{CourseState}
 
 -- a stage that is left of a job: one that is done at once, or one that is done in a kind's lanes, with its rounds
 pub data Pending : Type 0 where
@@ -19,5 +19,5 @@ pending_by (stage.Lane k) j = in_lanes k (rounds_of k j) ∷ []
 pending_by stage.Finished j = []
 
 -- the stages that are left of a course, by its steps
-abbrev pub pending : Going → List Pending
+abbrev pub pending : CourseState → List Pending
 pending c = flat_map (λ s. pending_by (stage_at c.job (s ∷ [])) c.job) c.left

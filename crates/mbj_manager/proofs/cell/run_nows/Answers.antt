@@ -1,7 +1,7 @@
 use Rattle.std.proofs.Common.{◌∙◌, sym, ap}
 use Rattle.mbj_manager.specs.Machine.Stages.{pending}
 use Rattle.mbj_manager.specs.Machine.Course.{in_lanes_next}
-use Rattle.mbj_stage.specs.Going.{Going}
+use Rattle.mbj_stage.specs.CourseState.{CourseState}
 use Rattle.mbj_manager.proofs.PendingStages.{ran-next, ran-out}
 use Rattle.mbj_manager.proofs.cell.run_nows.Goals as goal
 
@@ -11,6 +11,6 @@ stages-preserved c =
     let now = sym c.in-Now.ensures in
     record {
       owed_is = c.run_now.ensures.owed ∙ i.owed_is;
-      pending_is = ap (λ (v : Going). in_lanes_next (pending v)) c.run_now.ensures.ran ∙ ran-next c.stages.course now ∙ i.pending_is;
-      here = ap (λ (v : Going). v.out) c.run_now.ensures.ran ∙ ran-out c.stages.course ∙ i.here;
+      pending_is = ap (λ (v : CourseState). in_lanes_next (pending v)) c.run_now.ensures.ran ∙ ran-next c.stages.course now ∙ i.pending_is;
+      here = ap (λ (v : CourseState). v.out) c.run_now.ensures.ran ∙ ran-out c.stages.course ∙ i.here;
     }

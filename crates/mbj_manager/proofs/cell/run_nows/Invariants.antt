@@ -1,6 +1,6 @@
 -- What is owed and what is in lanes stays, and a stage less is left after each turn.
 use Rattle.std.proofs.Common.{◌≡◌, None, length}
-use Rattle.mbj_stage.specs.Going.{owed}
+use Rattle.mbj_stage.specs.CourseState.{owed}
 use Rattle.mbj_manager.specs.Machine.Stages.{pending}
 use Rattle.mbj_manager.specs.Machine.Course.{in_lanes_next}
 use Rattle.mbj_manager.proofs.cell.run_nows.Given as goal

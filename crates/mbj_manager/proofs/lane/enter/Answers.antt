@@ -1,7 +1,7 @@
--- The list with the entry that joined, which runs where it is full.
+-- The lane queue with the entry that joined, which runs where it is full.
 use Rattle.std.proofs.Common.{◌≡◌, ◌∙◌, ℕ, length, vec_capacity, ap, sym, subst, arith}
 use Rattle.mbj_types.specs.Kinds.{lanes_of}
-use Rattle.mbj_manager.specs.Inside.Courses.{courses, number, number_in}
+use Rattle.mbj_manager.specs.Inside.Courses.{courses, number, ring_number}
 use Rattle.mbj_manager.specs.Inside.PlacedQueue.{ahead}
 use Rattle.mbj_manager.specs.Inside.Desk.{Desk, IsReady, desk_at, joined_by, ran_at}
 use Rattle.mbj_manager.proofs.Listing.{else-waits, full-runs, joined-desk, joined-ready}
@@ -10,11 +10,11 @@ use Rattle.mbj_manager.proofs.lane.enter.Goals as goal
 
 pub join-requires-clause-free : goal.join-requires-clause-free
 join-requires-clause-free g c =
-    omega (arith, c.requires.may.few, g.met.K.Feed.lanes, numbered-length (number_in c.args.ring.now) c.args.queue.now.waiters)
+    omega (arith, c.requires.may.few, g.met.K.Feed.lanes, numbered-length (ring_number c.args.ring.now) c.args.queue.now.waiters)
 
 pub run_within-requires-clause-ready : goal.run_within-requires-clause-ready
 run_within-requires-clause-ready g c =
-    let f = number_in c.args.ring.now in
+    let f = ring_number c.args.ring.now in
     let a = ahead g.K.Kernel.round g.K.Kernel.rest_of g.K.Feed.brings c.hand_out-entry.result in
     let d = desk_at f (courses c.args.ring.now) c.args.agenda.now.places.items c.args.queue.now c.args.flush_runs.now in
     let is = joined-desk f (courses c.args.ring.now) (courses c.hand_out-entry.new.ring) c.args.agenda.now.places.items c.args.queue.now
@@ -30,7 +30,7 @@ run_within-requires-clause-full g c = λ _. sym c.len.ensures ∙ c.if-len-LANES
 
 pub returns-then-len-LANES-clause-entered : goal.returns-then-len-LANES-clause-entered
 returns-then-len-LANES-clause-entered g c =
-    let f = number_in c.args.ring.now in
+    let f = ring_number c.args.ring.now in
     let a = ahead g.K.Kernel.round g.K.Kernel.rest_of g.K.Feed.brings c.hand_out-entry.result in
     let d = desk_at f (courses c.args.ring.now) c.args.agenda.now.places.items c.args.queue.now c.args.flush_runs.now in
     let is = joined-desk f (courses c.args.ring.now) (courses c.hand_out-entry.new.ring) c.args.agenda.now.places.items c.args.queue.now
@@ -52,7 +52,7 @@ returns-then-len-LANES-clause-entered g c =
 
 pub returns-else-len-LANES-clause-entered : goal.returns-else-len-LANES-clause-entered
 returns-else-len-LANES-clause-entered g c =
-    let f = number_in c.args.ring.now in
+    let f = ring_number c.args.ring.now in
     let a = ahead g.K.Kernel.round g.K.Kernel.rest_of g.K.Feed.brings c.hand_out-entry.result in
     let d = desk_at f (courses c.args.ring.now) c.args.agenda.now.places.items c.args.queue.now c.args.flush_runs.now in
     let is = joined-desk f (courses c.args.ring.now) (courses c.hand_out-entry.new.ring) c.args.agenda.now.places.items c.args.queue.now

@@ -1,7 +1,7 @@
--- The run of the list is counted for its call.
+-- The run of the lane queue is counted for its call.
 use Rattle.std.proofs.Common.{◌≡◌, ◌∙◌, length, ap, sym, arith}
 use Rattle.std.proofs.lemmas.List.{length-map}
-use Rattle.mbj_manager.specs.Inside.Courses.{courses, number_in}
+use Rattle.mbj_manager.specs.Inside.Courses.{courses, ring_number}
 use Rattle.mbj_manager.specs.Inside.PlacedQueue.{led_waiter, numbered}
 use Rattle.mbj_manager.specs.Inside.Desk.{desk_at, ran_at}
 use Rattle.mbj_manager.proofs.Finishing.{listed-led}
@@ -11,28 +11,28 @@ use Rattle.mbj_manager.proofs.lane.run_within.Goals as goal
 
 pub run-m-requires-clause-some : goal.run-m-requires-clause-some
 run-m-requires-clause-some g c =
-    omega (arith, c.requires.ready.some, numbered-length (number_in c.args.ring.now) c.args.queue.now.waiters)
+    omega (arith, c.requires.ready.some, numbered-length (ring_number c.args.ring.now) c.args.queue.now.waiters)
 
 pub run-m-requires-clause-rests : goal.run-m-requires-clause-rests
-run-m-requires-clause-rests g c = unnumbered-rests (number_in c.args.ring.now) c.args.queue.now.waiters c.requires.ready.rests
+run-m-requires-clause-rests g c = unnumbered-rests (ring_number c.args.ring.now) c.args.queue.now.waiters c.requires.ready.rests
 
 pub leave-requires-clause-listed : goal.leave-requires-clause-listed
 leave-requires-clause-listed g c =
-    let f = number_in c.args.ring.now in
+    let f = ring_number c.args.ring.now in
     let ws = c.args.queue.now.waiters in
     let m = c.run-m.result in
     rw (c.run-m.ensures.led, numbered-led f m ws) (listed-led g.K.Feed.kind (courses c.args.ring.now) m (numbered f ws) c.requires.ready.listed)
 
 pub leave-requires-clause-room : goal.leave-requires-clause-room
 leave-requires-clause-room g c =
-    let f = number_in c.args.ring.now in
+    let f = ring_number c.args.ring.now in
     let ws = c.args.queue.now.waiters in
     rw c.run-m.ensures.led
     (omega (arith, c.requires.ready.room_left, length-map ws (led_waiter c.run-m.result), numbered-length f ws, length-map c.args.agenda.now.places.items f))
 
 pub returns-in-Submit-clause-ran : goal.returns-in-Submit-clause-ran
 returns-in-Submit-clause-ran g c =
-    let f = number_in c.args.ring.now in
+    let f = ring_number c.args.ring.now in
     let q = c.args.queue.now in
     let cs = courses c.args.ring.now in
     let ag = c.args.agenda.now.places.items in
@@ -48,7 +48,7 @@ returns-in-Submit-clause-ran g c =
 
 pub returns-in-Flush-clause-ran : goal.returns-in-Flush-clause-ran
 returns-in-Flush-clause-ran g c =
-    let f = number_in c.args.ring.now in
+    let f = ring_number c.args.ring.now in
     let q = c.args.queue.now in
     let cs = courses c.args.ring.now in
     let ag = c.args.agenda.now.places.items in

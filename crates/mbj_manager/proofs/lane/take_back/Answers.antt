@@ -1,6 +1,6 @@
 -- The course at the place changes, and no other.
 use Rattle.mbj_stage.specs.Handing.{IsOut, taken_back}
-use Rattle.mbj_manager.specs.Inside.Courses.{number_in}
+use Rattle.mbj_manager.specs.Inside.Courses.{ring_number}
 use Rattle.mbj_manager.proofs.RingCourses.{at-cell, courses-set, going-at, live, same-ring}
 use Rattle.mbj_manager.proofs.lane.take_back.Goals as goal
 
@@ -10,20 +10,20 @@ at_mut-cell-requires g c = live (IsOut g.K.Feed.kind (g.K.Feed.brings c.args.ent
 pub take_back-requires-clause-going : goal.take_back-requires-clause-going
 take_back-requires-clause-going g c =
     let r = c.args.ring.now in
-    going-at (number_in r c.args.place) r.values c.at_mut-cell.result.now c.at_mut-cell.ensures.value c.requires.ring.going
+    going-at (ring_number r c.args.place) r.values c.at_mut-cell.result.now c.at_mut-cell.ensures.value c.requires.ring.going
 
 pub take_back-requires-clause-out : goal.take_back-requires-clause-out
 take_back-requires-clause-out g c =
     let r = c.args.ring.now in
-    at-cell (IsOut g.K.Feed.kind (g.K.Feed.brings c.args.entry)) (number_in r c.args.place) r.values c.at_mut-cell.result.now c.at_mut-cell.ensures.value c.requires.out
+    at-cell (IsOut g.K.Feed.kind (g.K.Feed.brings c.args.entry)) (ring_number r c.args.place) r.values c.at_mut-cell.result.now c.at_mut-cell.ensures.value c.requires.out
 
 pub returns-clause-ring : goal.returns-clause-ring
 returns-clause-ring g c =
     let r = c.args.ring.now in
-    same-ring r (number_in r c.args.place) c.take_back.new.self c.requires.ring c.take_back.ensures.going
+    same-ring r (ring_number r c.args.place) c.take_back.new.self c.requires.ring c.take_back.ensures.going
 
 pub returns-clause-back : goal.returns-clause-back
 returns-clause-back g c =
     let r = c.args.ring.now in
-    courses-set (taken_back (g.K.Feed.brings c.args.entry)) (number_in r c.args.place) r.values c.at_mut-cell.result.now c.take_back.new.self
+    courses-set (taken_back (g.K.Feed.brings c.args.entry)) (ring_number r c.args.place) r.values c.at_mut-cell.result.now c.take_back.new.self
     c.at_mut-cell.ensures.value c.take_back.ensures.back

@@ -1,5 +1,5 @@
 use Rattle.std.proofs.Common.{◌∙◌, ap}
-use Rattle.mbj_stage.specs.Going.{begun}
+use Rattle.mbj_stage.specs.CourseState.{begun}
 use Rattle.mbj_manager.specs.declared.cell.Cell.{Cell}
 use Rattle.mbj_manager.specs.declared.cell.Cell.TheVariants as cell
 use Rattle.mbj_manager.specs.Inside.Courses.{job_in}

@@ -1,4 +1,4 @@
--- The same place leaves both lists.
+-- The same place leaves both lane queues.
 use Rattle.std.proofs.Common.{◌<◌, ◌≤◌, ◌∙◌, ℕ, List, All, Some, length, refl, ap, sym, subst, arith}
 use Rattle.mbj_lane.specs.Rounds.{taken}
 use Rattle.mbj_ring.specs.declared.ring.TheConstants.{CELLS}

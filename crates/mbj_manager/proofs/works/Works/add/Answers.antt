@@ -6,7 +6,7 @@ use Rattle.mbj_ring.specs.declared.ring.TheConstants.{CELLS}
 use Rattle.mbj_ring.specs.Ring.{RingState}
 use Rattle.mbj_manager.specs.State.{ManagerState}
 use Rattle.mbj_manager.specs.declared.cell.Cell.{Cell}
-use Rattle.mbj_manager.specs.Inside.Courses.{job_in, number_in}
+use Rattle.mbj_manager.specs.Inside.Courses.{job_in, ring_number}
 use Rattle.mbj_manager.specs.Inside.Added.{added}
 use Rattle.mbj_manager.specs.Inside.Held.{IsOpenAt, held}
 use Rattle.mbj_manager.proofs.Adding.{IsAdded, adds, one_more}
@@ -44,10 +44,10 @@ commit-place-requires c = record { is_open = refl }
 pub push-requires : goal.push-requires
 push-requires c =
     let w = c.self.inside in
-    let idle : map (number_in w.ring) w.agenda.places.items ≡ [] = subst (λ (h : ManagerState). h.machine.agenda ≡ []) (sym c.self.view_is) c.requires.idle in
+    let idle : map (ring_number w.ring) w.agenda.places.items ≡ [] = subst (λ (h : ManagerState). h.machine.agenda ≡ []) (sym c.self.view_is) c.requires.idle in
     record {
       place = omega (arith, c.commit-place.ensures.place);
-      room = omega (arith, length-map w.agenda.places.items (number_in w.ring), ap length idle, c.self.invariant.room);
+      room = omega (arith, length-map w.agenda.places.items (ring_number w.ring), ap length idle, c.self.invariant.room);
     }
 
 pub invariant_of-self : goal.invariant_of-self

@@ -1,6 +1,6 @@
 -- The agenda's first job has its packet here, and goes on.
 use Rattle.std.proofs.Common.{◌≡◌, ◌≤◌, ◌<◌, map, vec_capacity, ap, sym, subst}
-use Rattle.mbj_manager.specs.Inside.Courses.{courses, number_in}
+use Rattle.mbj_manager.specs.Inside.Courses.{courses, ring_number}
 use Rattle.mbj_manager.specs.Inside.Held.{held, lines_in}
 use Rattle.mbj_manager.specs.State.{ManagerState}
 use Rattle.mbj_manager.specs.Machine.Course.{stages_left, stepped}
@@ -13,7 +13,7 @@ pub run_nows-requires-clause-here : goal.run_nows-requires-clause-here
 run_nows-requires-clause-here c =
     let w = c.self.inside in
     let y = c.self.invariant in
-    let f = number_in w.ring in
+    let f = ring_number w.ring in
     first-here (f c.take_first-place.result) (map f c.take_first-place.new.self.places.items) (courses w.ring) (map f w.agenda.places.items)
     (lines_in w.ring w.lists) w.lists.flush_runs (ap (map f) c.take_first-place.ensures.first) y.within y.tied
 
@@ -52,7 +52,7 @@ invariant_of-self-in-Now c =
     let w = c.self.inside in
     let t = c.take_first-place in
     let e = c.run_nows.ensures in
-    let n = number_in w.ring t.result in
+    let n = ring_number w.ring t.result in
     rw t.ensures.room
     (finishes w.ring c.run_nows.new.ring t.result w.agenda.places.items t.new.self.places.items w.lists (vec_capacity w.agenda.places) e.follows.0
     c.self.invariant t.ensures.first e.ring e.follows.1.0 e.follows.1.1.1 c.args.cause
@@ -63,7 +63,7 @@ returns-in-Now-clause-step c =
     let w = c.self.inside in
     let t = c.take_first-place in
     let e = c.run_nows.ensures in
-    let n = number_in w.ring t.result in
+    let n = ring_number w.ring t.result in
     let new = held c.run_nows.new.ring t.new.self.places.items w.lists in
     subst (λ (h : ManagerState). new ≡ record h { machine = stepped c.args.cause h.machine }) c.self.view_is
     (finishes w.ring c.run_nows.new.ring t.result w.agenda.places.items t.new.self.places.items w.lists (vec_capacity w.agenda.places) e.follows.0

@@ -1,4 +1,4 @@
--- Each run that counts was on a full list.
+-- Each run that counts was on a full lane queue.
 use Rattle.std.proofs.Common.{◌∙◌, ◌*◌, ◌%◌, ap}
 use Rattle.mbj_types.specs.Kinds.{lanes_of}
 use Rattle.mbj_manager.specs.Machine.Queues.{count_end, queue_for}

@@ -1,4 +1,4 @@
--- The list that the fields hold is the machine's, and its entries are those of the machine's jobs.
+-- The lane queue that the fields hold is the machine's, and its entries are those of the machine's jobs.
 use Rattle.std.proofs.Common.{◌≡◌, ◌∙◌, List, map, ap, sym, subst}
 use Rattle.std.specs.Prelude.{option_map}
 use Rattle.mbj_lane.specs.Rounds.{end_of}
@@ -6,7 +6,7 @@ use Rattle.mbj_stage.specs.Handing.{End}
 use Rattle.mbj_manager.specs.Machine.Queues.{queue_for, rest_of}
 use Rattle.mbj_manager.specs.State.{ManagerState}
 use Rattle.mbj_manager.specs.Leads.{AreLed}
-use Rattle.mbj_manager.specs.Inside.Courses.{courses, job_in, number_in}
+use Rattle.mbj_manager.specs.Inside.Courses.{courses, job_in, ring_number}
 use Rattle.mbj_manager.specs.Inside.Held.{held, lines_in, waiting}
 use Rattle.mbj_manager.specs.Inside.PlacedQueue.{PlacedQueue, Waiter, pair_rest, rounds_in}
 use Rattle.mbj_manager.specs.Inside.LaneQueues.{placed_in}
@@ -16,7 +16,7 @@ use Rattle.mbj_manager.proofs.works.Works.lanes.Goals as goal
 pub returns-clause-rests : goal.returns-clause-rests
 returns-clause-rests g c =
     let w = c.self.inside in
-    let f = number_in w.ring in
+    let f = ring_number w.ring in
     c.lanes.ensures.rests ∙ ap (λ (l : PlacedQueue). map (pair_rest rounds_in) l.waiters) c.queue.ensures
     ∙ sym (numbered-rests f (placed_in g.K.Feed.kind w.lists).waiters)
     ∙ ap (λ (h : ManagerState). map rest_of (queue_for g.K.Feed.kind h.machine).waiting) c.self.view_is
@@ -24,7 +24,7 @@ returns-clause-rests g c =
 pub returns-clause-led : goal.returns-clause-led
 returns-clause-led g c =
     let w = c.self.inside in
-    let f = number_in w.ring in
+    let f = ring_number w.ring in
     let k = g.K.Feed.kind in
     let lines = lines_in w.ring w.lists in
     let state = held w.ring w.agenda.places.items w.lists in

@@ -1,10 +1,10 @@
--- The list of the earliest job runs, with what it keeps.
+-- The lane queue of the earliest job runs, with what it keeps.
 use Rattle.std.proofs.Common.{◌≡◌, ◌<◌, [], Some, map, vec_capacity, sym, subst}
 use Rattle.mbj_manager.specs.Machine.Course.{stages_left}
 use Rattle.mbj_manager.specs.State.{ManagerState}
-use Rattle.mbj_manager.specs.Inside.Standing.{IsWithin}
+use Rattle.mbj_manager.specs.Inside.Standing.{IsInCourse}
 use Rattle.mbj_manager.specs.Inside.Added.{first_lane}
-use Rattle.mbj_manager.specs.Inside.Courses.{courses, number_in}
+use Rattle.mbj_manager.specs.Inside.Courses.{courses, ring_number}
 use Rattle.mbj_manager.specs.Inside.Held.{held, lines_in}
 use Rattle.mbj_manager.proofs.Running.{idle-keeps}
 use Rattle.mbj_manager.proofs.Moving.{first-machine, first-ready, room-in, runs-first}
@@ -18,7 +18,7 @@ run-requires-clause-ready c =
     let y = c.self.invariant in
     let idle = subst (λ (h : ManagerState). h.machine.agenda ≡ []) (sym c.self.view_is) c.requires.idle in
     let first = subst (λ (h : ManagerState). first_lane h.machine.left ≡ Some c.args.kind) (sym c.self.view_is) c.requires.first in
-    first-ready c.args.kind (courses w.ring) (map (number_in w.ring) w.agenda.places.items) (lines_in w.ring w.lists) w.lists.flush_runs
+    first-ready c.args.kind (courses w.ring) (map (ring_number w.ring) w.agenda.places.items) (lines_in w.ring w.lists) w.lists.flush_runs
     (vec_capacity w.agenda.places) idle first y.within y.tied (room-in c.args.kind w.ring w.agenda.places.items w.lists (vec_capacity w.agenda.places) y)
 
 pub invariant_of-self : goal.invariant_of-self
@@ -45,6 +45,6 @@ returns-clause-ran c =
 pub returns-clause-stages : goal.returns-clause-stages
 returns-clause-stages c =
     let m = c.args.self.now.machine in
-    let within = subst (λ (h : ManagerState). IsWithin h.machine) c.self.view_is c.self.invariant.within in
+    let within = subst (λ (h : ManagerState). IsInCourse h.machine) c.self.view_is c.self.invariant.within in
     subst (λ (h : ManagerState). stages_left h.machine.left < stages_left m.left) (sym (returns-clause-ran c))
     (idle-keeps c.args.kind m (first-machine c.args.kind m c.requires.idle c.requires.first within)).fewer
