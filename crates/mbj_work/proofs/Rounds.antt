@@ -5,7 +5,7 @@ use Rattle.mbj_core.specs.declared.party.View.{View}
 use Rattle.mbj_core.specs.Parties.{view}
 use Rattle.mbj_front.specs.Views.{after_look}
 use Rattle.mbj_front.specs.declared.words.TheConstants.{READY}
-use Rattle.mbj_work.specs.Hunts.{looks_round, after_looks, Finds, FindsNone}
+use Rattle.mbj_work.specs.Hunts.{looks_round, after_looks, FindsReady, FindsNone}
 
 all_with : {A : Type 0} (P : A → Type 0) (xs : List A) (x : A) → All P xs → P x → All P (xs ++ x ∷ [])
 all_with P xs x all one = All-append P xs (x ∷ []) all (λ k d b. subst (λ (i : ℕ). P (slice_index_or (x ∷ []) i d)) (let e : 0 ≡ k = omega arith in e) one)
@@ -49,7 +49,7 @@ finds_none cells all at i v w p is most least =
 
 -- the next cell is ready
 pub finds_one : {D : Type 0} (cells all at i c word : ℕ) (v w u : View D) → Passed cells at i v w → cells ≡ all → i < cells → c ≡ (at + i) % cells
-    → u ≡ after_look w c word → word ≡ READY → Finds all at c v u
+    → u ≡ after_look w c word → word ≡ READY → FindsReady all at c v u
 finds_one cells all at i c word v w u p is inside here looked ready = (
   p.0,
   (let e : length p.0 < all = omega (arith, p.1, is, inside) in e),

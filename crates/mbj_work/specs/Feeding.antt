@@ -13,5 +13,5 @@ fed j h = (
 )
 
 -- what is given back, in order
-abbrev pub given_back : Submitted → List Done
-given_back s = option_to_list s.flushed ++ option_to_list s.given
+abbrev pub results_given : Submitted → List Done
+results_given s = option_to_list s.flushed ++ option_to_list s.given

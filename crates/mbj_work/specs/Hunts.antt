@@ -21,8 +21,8 @@ module _ {D : Type 0} where
       × (w ≡ after_looks v (looks_round cells at words))
 
   -- it looked from `at` round to the cell c, which was ready, and none before it was
-  abbrev pub Finds : ℕ → ℕ → ℕ → View D → View D → Type 0
-  Finds cells at c v w =
+  abbrev pub FindsReady : ℕ → ℕ → ℕ → View D → View D → Type 0
+  FindsReady cells at c v w =
       (words : List ℕ) × (length words < cells) × All (λ word. word ≢ READY) words × (c ≡ (at + length words) % cells)
       × (w ≡ after_looks v (looks_round cells at words ++ (c, READY) ∷ []))
 

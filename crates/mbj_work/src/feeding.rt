@@ -1,6 +1,6 @@
 ghost use Rattle.std.specs.Prelude.{◌≡◌, [], ◌∷◌, ◌++◌};
 ghost use Rattle.mbj_types.specs.Result.{result_of};
-ghost use Rattle.mbj_work.specs.Feeding.{fed, given_back};
+ghost use Rattle.mbj_work.specs.Feeding.{fed, results_given};
 
 use mbj_manager::Manager;
 use mbj_types::{Done, Job};
@@ -18,7 +18,7 @@ pub struct Submitted {
 pub fn submit_job(manager: &mut Manager, job: Job) -> Submitted
     ensures result { result ≡ (fed job manager.old).0 }
     ensures state { manager.new ≡ (fed job manager.old).1 }
-    ensures order { given_back result ++ manager.new.owed ≡ manager.old.owed ++ result_of job ∷ [] }
+    ensures order { results_given result ++ manager.new.owed ≡ manager.old.owed ++ result_of job ∷ [] }
 {
     let flushed = manager.make_room();
     let given = manager.submit_job(job);

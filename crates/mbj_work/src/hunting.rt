@@ -1,7 +1,7 @@
 ghost use Rattle.std.specs.Prelude.{◌≡◌, ◌<◌, IfSome, MatchOption};
 ghost use Rattle.mbj_front.specs.Seats.{cells_of};
 ghost use Rattle.mbj_work.specs.Parties.{part_of, manager_of, IsPartyOf, KeepsDue};
-ghost use Rattle.mbj_work.specs.Hunts.{Finds, FindsNone};
+ghost use Rattle.mbj_work.specs.Hunts.{FindsReady, FindsNone};
 
 use crate::party::Party;
 use mbj_front::{Front, READY};
@@ -16,7 +16,7 @@ impl Party {
         ensures cell { IfSome result (λ c. c < cells_of front.now) }
         ensures part { MatchOption result
             (FindsNone (cells_of front.now) from (part_of self.old) (part_of self.new))
-            (λ c. Finds (cells_of front.now) from c (part_of self.old) (part_of self.new)) }
+            (λ c. FindsReady (cells_of front.now) from c (part_of self.old) (part_of self.new)) }
         ensures due { KeepsDue (part_of self.old) (part_of self.new) }
         ensures manager { manager_of self.new ≡ manager_of self.old }
     {
