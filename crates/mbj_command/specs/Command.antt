@@ -9,6 +9,8 @@ use Rattle.clap.specs.Faults.{fault_of}
 use Rattle.clap.specs.ValueTests.{is_unsigned_in}
 use Rattle.clap.specs.declared.builder.action.ArgAction.TheVariants.{Set}
 use Rattle.clap.specs.declared.builder.value_parser.ValueParser.TheVariants as vp
+use Rattle.mbj_core.specs.declared.cells.TheConstants.{MAX_SUBMITTERS, MAX_WORKERS}
+use Rattle.mbj_text.specs.declared.limits.TheConstants.{JOB_LIMIT}
 use Rattle.mbj_command.specs.declared.command.Command.{Command}
 use Rattle.mbj_command.specs.declared.command.Command.TheVariants.{Run, Trace, Gen, Replay}
 
@@ -21,16 +23,16 @@ pub record RangedOption : Type 0 where
   pub greatest : ℕ
 
 abbrev pub submitters : RangedOption
-submitters = record { name = codes "submitters"; least = 1; greatest = 16 }
+submitters = record { name = codes "submitters"; least = 1; greatest = MAX_SUBMITTERS }
 
 abbrev pub workers : RangedOption
-workers = record { name = codes "workers"; least = 0; greatest = 16 }
+workers = record { name = codes "workers"; least = 0; greatest = MAX_WORKERS }
 
 abbrev pub seed : RangedOption
 seed = record { name = codes "seed"; least = 0; greatest = 2 ^ 64 - 1 }
 
 abbrev pub jobs : RangedOption
-jobs = record { name = codes "jobs"; least = 0; greatest = 65536 }
+jobs = record { name = codes "jobs"; least = 0; greatest = JOB_LIMIT }
 
 -- an option as clap is told it
 abbrev pub rule : RangedOption → Rule
@@ -43,13 +45,13 @@ rule o = record (new_rule o.name) {
 }
 
 -- the number that a text is, where it is in range; a plus sign and zeros may stand in front
-abbrev pub number_in : ℕ → ℕ → Text → Option ℕ
-number_in least greatest text =
+abbrev pub number_within : ℕ → ℕ → Text → Option ℕ
+number_within least greatest text =
     if is_unsigned_in least greatest text then Some (digits_value 10 (without_leading_plus text)) else None
 
 -- the number that was given to an option
-abbrev pub number_of : List Row → RangedOption → Option ℕ
-number_of rows o = option_and_then (number_in o.least o.greatest) (first_of o.name rows)
+abbrev pub option_number : List Row → RangedOption → Option ℕ
+option_number rows o = option_and_then (number_within o.least o.greatest) (first_of o.name rows)
 
 -- ---- the commands
 
@@ -59,10 +61,10 @@ shape name options = record (new_shape name) { rules = map rule options }
 
 -- the command with the submitters and workers that were given
 abbrev pub with_parties : (ℕ → ℕ → Command) → List Row → Option Command
-with_parties c rows = option_and_then (λ s. option_map (c s) (number_of rows workers)) (number_of rows submitters)
+with_parties c rows = option_and_then (λ s. option_map (c s) (option_number rows workers)) (option_number rows submitters)
 
 abbrev pub gen_of : List Row → Option Command
-gen_of rows = option_and_then (λ n. option_and_then (λ m. with_parties (Gen n m) rows) (number_of rows jobs)) (number_of rows seed)
+gen_of rows = option_and_then (λ n. option_and_then (λ m. with_parties (Gen n m) rows) (option_number rows jobs)) (option_number rows seed)
 
 -- each command as clap is told it, and what is meant by the options that clap found
 abbrev pub commands : List (Shape × (List Row → Option Command))
@@ -92,15 +94,15 @@ command words = if is_empty (fault_of app words) then option_and_then found_comm
 
 -- ---- what is known of a command
 
-abbrev pub IsWithin : RangedOption → ℕ → Type 0
-IsWithin o n = (o.least ≤ n) × (n ≤ o.greatest)
+abbrev pub IsInOption : RangedOption → ℕ → Type 0
+IsInOption o n = (o.least ≤ n) × (n ≤ o.greatest)
 
 abbrev pub IsParties : ℕ → ℕ → Type 0
-IsParties s w = IsWithin submitters s × IsWithin workers w
+IsParties s w = IsInOption submitters s × IsInOption workers w
 
 -- each number is in its option's range
 abbrev pub IsInRange : Command → Type 0
 IsInRange (Run s w) = IsParties s w
 IsInRange Trace = Unit {0}
-IsInRange (Gen n m s w) = IsWithin seed n × IsWithin jobs m × IsParties s w
+IsInRange (Gen n m s w) = IsInOption seed n × IsInOption jobs m × IsParties s w
 IsInRange (Replay s w) = IsParties s w

@@ -1,6 +1,6 @@
 ghost use Rattle.std.specs.Prelude.{◌≡◌, ◌≤◌, IfSome, false};
 ghost use Rattle.clap.specs.Words.{found_of, rows_of, rule_of};
-ghost use Rattle.mbj_command.specs.Command.{number_in, number_of, rule};
+ghost use Rattle.mbj_command.specs.Command.{number_within, option_number, rule};
 
 use clap::builder::ValueParser;
 use clap::{Arg, ArgAction, ArgMatches};
@@ -66,7 +66,7 @@ pub(crate) fn argument<'a>(alloc: Global, option: &NumberOption) -> Arg<'a>
 
 /// The number that a text is, where it is from `least` to `greatest`.
 fn parse_number(text: &str, least: u64, greatest: u64) -> Option<u64>
-    ensures value { result ≡ number_in least greatest text.now }
+    ensures value { result ≡ number_within least greatest text.now }
     ensures range { IfSome result (λ n. (least ≤ n) × (n ≤ greatest)) }
 {
     match text.parse::<u64>() {
@@ -83,7 +83,7 @@ fn parse_number(text: &str, least: u64, greatest: u64) -> Option<u64>
 
 /// The number that was given to the option.
 pub(crate) fn number(matches: &ArgMatches<'_>, option: &NumberOption) -> Option<u64>
-    ensures value { result ≡ number_of (rows_of (found_of matches.now))
+    ensures value { result ≡ option_number (rows_of (found_of matches.now))
         record { name = option.now.name.now; least = option.now.least; greatest = option.now.greatest } }
     ensures range { IfSome result (λ n. (option.now.least ≤ n) × (n ≤ option.now.greatest)) }
 {

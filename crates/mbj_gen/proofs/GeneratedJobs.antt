@@ -9,7 +9,7 @@ use Rattle.mbj_types.specs.declared.done.Done.{Done}
 use Rattle.mbj_stage.proofs.Lengths.{length-result_of}
 use Rattle.mbj_gen.proofs.TagLengths.{length-tag}
 use Rattle.mbj_text.specs.Line.{done_line}
-use Rattle.mbj_gen.specs.Generator.{authenticated_by, bare, byte, ciphered_by, draws, job}
+use Rattle.mbj_gen.specs.Generator.{with_auth_part, bare, byte, with_cipher_part, draws, job}
 use Rattle.mbj_gen.specs.declared.line_sink.TheConstants.{LINE_ROOM}
 use Rattle.mbj_text.specs.declared.limits.TheConstants.{JOB_LIMIT}
 use Rattle.mbj_gen.proofs.ResultLines.{length-done_line}
@@ -28,8 +28,8 @@ packet-small x =
     let b : ℕ = (byte (bare x).1).0 in
     let n : ℕ = 16 * (1 + b % 32) in
     let below : b % 32 < 32 = mod_below b 32 (omega arith) in
-    let ciphered = ciphered_by (bare x).0.cipher n (bare x).0 (byte (bare x).1).1 in
-    let y : ℕ = (authenticated_by (class_of ciphered.0.auth) n ciphered.0 ciphered.1).1 in
+    let ciphered = with_cipher_part (bare x).0.cipher n (bare x).0 (byte (bare x).1).1 in
+    let y : ℕ = (with_auth_part (class_of ciphered.0.auth) n ciphered.0 ciphered.1).1 in
     omega (arith, length-draws byte n y)
 
 -- one more job is made

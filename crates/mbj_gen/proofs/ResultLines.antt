@@ -14,7 +14,7 @@ use Rattle.mbj_types.specs.declared.reason.Reason.{Reason}
 use Rattle.mbj_types.specs.declared.reason.Reason.TheVariants.{PacketLong, GcmPair, CipherKey, IvLength, CipherRange, CipherLength, AuthKey, HashRange, AadLong, TagLength}
 use Rattle.mbj_text.specs.Flow.{GainsPrefix}
 use Rattle.mbj_text.specs.Line.{shown, ok_line, invalid_line, line_by, done_line, text_from, text}
-use Rattle.mbj_gen.specs.Summary.{accepted, is_ok}
+use Rattle.mbj_gen.specs.Summary.{accepted_count, is_ok}
 
 -- ---- a sink for one line
 
@@ -111,8 +111,8 @@ text-next n results done h =
 
 -- with one more result
 pub accepted-next : (n : ℕ) (results : List Done) (done : Done) (ok : Bool) → slice_get results n ≡ Some done
-    → ok ≡ is_ok done.status → accepted (take (n + 1) results) ≡ accepted (take n results) + cond ok 1 0
+    → ok ≡ is_ok done.status → accepted_count (take (n + 1) results) ≡ accepted_count (take n results) + cond ok 1 0
 accepted-next n results done ok at is =
     let here : get_or results n done ≡ done = get_or_from_slice_get results n done done at in
     sum_by_more (λ (d : Done). cond (is_ok d.status) 1 0) results n done (slice_get_within results n done at)
-    ∙ ap (λ (b : Bool). accepted (take n results) + cond b 1 0) (ap (λ (d : Done). is_ok d.status) here ∙ sym is)
+    ∙ ap (λ (b : Bool). accepted_count (take n results) + cond b 1 0) (ap (λ (d : Done). is_ok d.status) here ∙ sym is)

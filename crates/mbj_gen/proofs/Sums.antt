@@ -6,7 +6,7 @@ use Rattle.sha2.specs.Hashers.{Holds256}
 use Rattle.sha2.specs.Sha256.{sha256}
 use Rattle.mbj_types.specs.declared.done.Done.{Done}
 use Rattle.mbj_text.specs.Line.{done_line, text}
-use Rattle.mbj_gen.specs.Summary.{accepted, is_ok, summary_lines}
+use Rattle.mbj_gen.specs.Summary.{accepted_count, is_ok, summary_lines}
 use Rattle.mbj_gen.specs.Sums.{IsSumOf}
 use Rattle.mbj_gen.specs.declared.line.SummaryLine.TheVariants as told
 use Rattle.mbj_gen.specs.declared.summary.Summary.{Summary}
@@ -28,7 +28,7 @@ sum-next results old new done ok one line is at ok_is one_is line_is update coun
     let before : List ℕ = text (take n results) in
     let next : text (take (n + 1) results) ≡ before ++ line = text-next n results done at ∙ ap (λ (l : List ℕ). before ++ l) (sym line_is) in
     let all : text (take new.count results) ≡ before ++ line = ap (λ (k : ℕ). text (take k results)) count_is ∙ next in
-    let good : accepted (take new.count results) ≡ accepted (take (n + 1) results) = ap (λ (k : ℕ). accepted (take k results)) count_is in
+    let good : accepted_count (take new.count results) ≡ accepted_count (take (n + 1) results) = ap (λ (k : ℕ). accepted_count (take k results)) count_is in
     let Holds : List ℕ → Type 0 = λ m. Holds256 new.hasher m in
     record {
       good_is = good_is ∙ ap₂ (λ (k i : ℕ). k + i) is.good_is one_is ∙ sym (good ∙ accepted-next n results done ok at ok_is);
@@ -43,7 +43,7 @@ pub sum-all : (results : List Done) (s : Summary) (digest : List ℕ) → IsSumO
     ≡ summary_lines results
 sum-all results s digest is all finalize =
     let whole : take s.count results ≡ results = take_all s.count results (omega arith) in
-    let good_is : s.accepted ≡ accepted results = is.good_is ∙ ap (λ (ds : List Done). accepted ds) whole in
+    let good_is : s.accepted ≡ accepted_count results = is.good_is ∙ ap (λ (ds : List Done). accepted_count ds) whole in
     let size_is : s.bytes ≡ length (text results) = is.size_is ∙ ap (λ (ds : List Done). length (text ds)) whole in
     let digest_is : digest ≡ sha256 (text results) = finalize _ is.holds ∙ ap (λ (ds : List Done). sha256 (text ds)) whole in
     cc (all, good_is, size_is, digest_is)

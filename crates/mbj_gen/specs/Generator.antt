@@ -24,8 +24,8 @@ draws draw zero x = ([], x)
 draws draw (suc n) x = let first = draw x in let rest = draws draw n first.1 in (first.0 ∷ rest.0, rest.1)
 
 -- the length n, or up to 15 less
-unfoldable pub shortened : ℕ → ℕ → ℕ × ℕ
-shortened n x = let b = byte x in (n - b.0 % 16, b.1)
+unfoldable pub drawn_length : ℕ → ℕ → ℕ × ℕ
+drawn_length n x = let b = byte x in (n - b.0 % 16, b.1)
 
 -- ---- the kinds of jobs
 
@@ -64,8 +64,8 @@ iv_length cipher.Gcm x = (12, x)
 abbrev pub cipher_length : Cipher → ℕ → ℕ → ℕ × ℕ
 cipher_length cipher.Null n x = (0, x)
 cipher_length cipher.Cbc n x = (n, x)
-cipher_length cipher.Ctr n x = shortened n x
-cipher_length cipher.Gcm n x = shortened n x
+cipher_length cipher.Ctr n x = drawn_length n x
+cipher_length cipher.Gcm n x = drawn_length n x
 
 -- a key of 16, 24 or 32 bytes, an IV and a range
 unfoldable pub keyed : ℕ → Job → ℕ → Job × ℕ
@@ -77,32 +77,32 @@ keyed n j x =
     let len = cipher_length j.cipher n iv.1 in
     (record j { key = key.0; iv = iv.0; cipher_len = len.0 }, len.1)
 
-abbrev pub ciphered_by : Cipher → ℕ → Job → ℕ → Job × ℕ
-ciphered_by cipher.Null n j x = (j, x)
-ciphered_by cipher.Cbc n j x = keyed n j x
-ciphered_by cipher.Ctr n j x = keyed n j x
-ciphered_by cipher.Gcm n j x = keyed n j x
+abbrev pub with_cipher_part : Cipher → ℕ → Job → ℕ → Job × ℕ
+with_cipher_part cipher.Null n j x = (j, x)
+with_cipher_part cipher.Cbc n j x = keyed n j x
+with_cipher_part cipher.Ctr n j x = keyed n j x
+with_cipher_part cipher.Gcm n j x = keyed n j x
 
 -- a key of k bytes and a range
-unfoldable pub hashed : ℕ → ℕ → Job → ℕ → Job × ℕ
-hashed k n j x =
+unfoldable pub with_hash_part : ℕ → ℕ → Job → ℕ → Job × ℕ
+with_hash_part k n j x =
     let key = draws byte k x in
-    let len = shortened n key.1 in
+    let len = drawn_length n key.1 in
     (record j { auth_key = key.0; hash_len = len.0 }, len.1)
 
 -- a key of up to 255 bytes and a range
 abbrev pub hmac_keyed : ℕ → Job → ℕ → Job × ℕ
-hmac_keyed n j x = let b = byte x in hashed b.0 n j b.1
+hmac_keyed n j x = let b = byte x in with_hash_part b.0 n j b.1
 
 -- up to 63 bytes of additional authenticated data
 abbrev pub with_aad : Job → ℕ → Job × ℕ
 with_aad j x = let b = byte x in let aad = draws byte (b.0 % 64) b.1 in (record j { aad = aad.0 }, aad.1)
 
-abbrev pub authenticated_by : AuthClass → ℕ → Job → ℕ → Job × ℕ
-authenticated_by class.Null n j x = (j, x)
-authenticated_by (class.Hmac h) n j x = hmac_keyed n j x
-authenticated_by (class.Cmac k) n j x = hashed (cmac_key_bytes k) n j x
-authenticated_by class.Gcm n j x = with_aad j x
+abbrev pub with_auth_part : AuthClass → ℕ → Job → ℕ → Job × ℕ
+with_auth_part class.Null n j x = (j, x)
+with_auth_part (class.Hmac h) n j x = hmac_keyed n j x
+with_auth_part (class.Cmac k) n j x = with_hash_part (cmac_key_bytes k) n j x
+with_auth_part class.Gcm n j x = with_aad j x
 
 -- ---- the job
 
@@ -129,7 +129,7 @@ job x =
     let j = bare x in
     let b = byte j.1 in
     let n = 16 * (1 + b.0 % 32) in
-    let ciphered = ciphered_by j.0.cipher n j.0 b.1 in
-    let authenticated = authenticated_by (class_of ciphered.0.auth) n ciphered.0 ciphered.1 in
+    let ciphered = with_cipher_part j.0.cipher n j.0 b.1 in
+    let authenticated = with_auth_part (class_of ciphered.0.auth) n ciphered.0 ciphered.1 in
     let packet = draws byte n authenticated.1 in
     (record authenticated.0 { packet = packet.0 }, packet.1)

@@ -15,14 +15,14 @@ abbrev pub is_ok : Status → Bool
 is_ok status.Ok = true
 is_ok (status.InvalidArgs reason) = false
 
-abbrev pub accepted : List Done → ℕ
-accepted results = count_by (λ done. is_ok done.status) results
+abbrev pub accepted_count : List Done → ℕ
+accepted_count results = count_by (λ done. is_ok done.status) results
 
 abbrev pub summary_lines : List Done → List SummaryLine
 summary_lines results =
     line.Jobs (length results)
-    ∷ line.Accepted (accepted results)
-    ∷ line.Invalid (length results - accepted results)
+    ∷ line.Accepted (accepted_count results)
+    ∷ line.Invalid (length results - accepted_count results)
     ∷ line.Bytes (length (text results))
     ∷ line.Sha256 (sha256 (text results))
     ∷ []

@@ -1,5 +1,5 @@
 ghost use Rattle.std.specs.Prelude.{◌≡◌, ◌≤◌, IfOk};
-ghost use Rattle.mbj_gen.specs.Generator.{byte, draws, shortened};
+ghost use Rattle.mbj_gen.specs.Generator.{byte, draws, drawn_length};
 
 use mbj_types::Bytes;
 use std::alloc::{AllocError, Global};
@@ -42,11 +42,11 @@ impl Draws {
     }
 
     /// Draws a length in bytes: `length`, or up to 15 less.
-    #[tactic(auto, unfolding(crate::specs::Generator::shortened))]
+    #[tactic(auto, unfolding(crate::specs::Generator::drawn_length))]
     pub(crate) fn shortened(&mut self, length: u32) -> u32
         requires { 16 ≤ length }
-        ensures value { result ≡ (shortened length self.old.state).0 }
-        ensures state { self.new.state ≡ (shortened length self.old.state).1 }
+        ensures value { result ≡ (drawn_length length self.old.state).0 }
+        ensures state { self.new.state ≡ (drawn_length length self.old.state).1 }
     {
         length - (self.byte() % 16) as u32
     }

@@ -1,6 +1,6 @@
 ghost use Rattle.std.specs.Prelude.{◌≡◌, ◌≤◌, ◌==◌, ◌%◌, ℕ, IfOk, OnErr, OnOk, if◌then◌else◌};
 ghost use Rattle.mbj_types.specs.Auths.{class_of};
-ghost use Rattle.mbj_gen.specs.Generator.{authenticated_by, bare, byte, cipher_length, ciphered_by, draws as drawn, hashed, hmac_keyed, iv_length, job, keyed, recipe_of, with_aad};
+ghost use Rattle.mbj_gen.specs.Generator.{with_auth_part, bare, byte, cipher_length, with_cipher_part, draws as drawn, with_hash_part, hmac_keyed, iv_length, job, keyed, recipe_of, with_aad};
 
 use crate::draws::Draws;
 use mbj_types::{Auth, AuthClass, Cipher, Dir, Job, Order};
@@ -133,8 +133,8 @@ fn draw_cipher(
     job: &mut Job,
 ) -> Result<(), AllocError>
     requires { 16 ≤ length }
-    ensures { OnOk result ((job.new ≡ (ciphered_by job.old.cipher length job.old draws.old.state).0)
-        × (draws.new.state ≡ (ciphered_by job.old.cipher length job.old draws.old.state).1)) }
+    ensures { OnOk result ((job.new ≡ (with_cipher_part job.old.cipher length job.old draws.old.state).0)
+        × (draws.new.state ≡ (with_cipher_part job.old.cipher length job.old draws.old.state).1)) }
 {
     match job.cipher {
         Cipher::Null => Ok(()),
@@ -143,7 +143,7 @@ fn draw_cipher(
 }
 
 /// Draws a key of `key_bytes` bytes and a range for a job with an HMAC or a CMAC.
-#[tactic(auto, unfolding(crate::specs::Generator::hashed))]
+#[tactic(auto, unfolding(crate::specs::Generator::with_hash_part))]
 fn draw_hash(
     draws: &mut Draws,
     alloc: Global,
@@ -152,8 +152,8 @@ fn draw_hash(
     job: &mut Job,
 ) -> Result<(), AllocError>
     requires { 16 ≤ length }
-    ensures { OnOk result ((job.new ≡ (hashed key_bytes length job.old draws.old.state).0)
-        × (draws.new.state ≡ (hashed key_bytes length job.old draws.old.state).1)) }
+    ensures { OnOk result ((job.new ≡ (with_hash_part key_bytes length job.old draws.old.state).0)
+        × (draws.new.state ≡ (with_hash_part key_bytes length job.old draws.old.state).1)) }
 {
     job.auth_key = draws.bytes(alloc, key_bytes)?;
     job.hash_len = draws.shortened(length);
@@ -183,7 +183,7 @@ fn draw_hmac(draws: &mut Draws, alloc: Global, length: u32, job: &mut Job) -> Re
 /// Draws what the job's authentication needs.
 fn draw_auth(draws: &mut Draws, alloc: Global, length: u32, job: &mut Job) -> Result<(), AllocError>
     requires { 16 ≤ length }
-    ensures { OnOk result (let drawn = authenticated_by (class_of job.old.auth) length job.old draws.old.state in
+    ensures { OnOk result (let drawn = with_auth_part (class_of job.old.auth) length job.old draws.old.state in
         (job.new ≡ drawn.0) × (draws.new.state ≡ drawn.1)) }
 {
     match job.auth.class() {
@@ -222,8 +222,8 @@ fn draw_parts(
 ) -> Result<(), AllocError>
     requires { 16 ≤ length }
     ensures { OnOk result (
-        let ciphered = ciphered_by job.old.cipher length job.old draws.old.state in
-        let authenticated = authenticated_by (class_of ciphered.0.auth) length ciphered.0 ciphered.1 in
+        let ciphered = with_cipher_part job.old.cipher length job.old draws.old.state in
+        let authenticated = with_auth_part (class_of ciphered.0.auth) length ciphered.0 ciphered.1 in
         let packet = drawn byte length authenticated.1 in
         (job.new ≡ record authenticated.0 { packet = packet.0 }) × (draws.new.state ≡ packet.1)) }
 {

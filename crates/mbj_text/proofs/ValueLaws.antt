@@ -13,7 +13,7 @@ use Rattle.std.proofs.lemmas.Fmt.{decimal-digits_value, digits_value-decimal, di
 use Rattle.hex.specs.Hex.{decode_of}
 use Rattle.hex.specs.declared.error.FromHexError.{FromHexError}
 use Rattle.mbj_text.specs.Spelling.{SpellsBytes, SpellsNumber}
-use Rattle.mbj_text.specs.Inside.Reading.{bytes_of, number_of, below_of, digits_after, is_number_sized}
+use Rattle.mbj_text.specs.Inside.Reading.{bytes_of, spelled_number, below_of, digits_after, is_number_sized}
 
 -- ---- bytes
 
@@ -66,7 +66,7 @@ is_sized : (t : List ℕ) → 0 < length t → length t ≤ 5 → (slice_index t
 is_sized t a b c = grind (arith, nat_tests)
 
 -- a number that is read is spelled
-pub number_read : (t : List ℕ) (n : ℕ) → number_of t ≡ Some n → SpellsNumber t n
+pub number_read : (t : List ℕ) (n : ℕ) → spelled_number t ≡ Some n → SpellsNumber t n
 number_read t n h = go (is_number_sized t) (all_ascii_digits t) refl refl (ap (λ o. cond (is_number_sized t) o None) (sym (digits_are 0 t)) ∙ h)
   where
     go : (x y : Bool) → is_number_sized t ≡ x → all_ascii_digits t ≡ y → cond x (cond y (Some (value_after 0 t)) None) None ≡ Some n → SpellsNumber t n
@@ -80,7 +80,7 @@ number_read t n h = go (is_number_sized t) (all_ascii_digits t) refl refl (ap (�
         (sym spelled ∙ ap (λ (k : ℕ). decimal k) same, omega (arith, small, same))
 
 -- what decimal writes is read
-number_known : (n : ℕ) → n < 10 ^ 5 → number_of (decimal n) ≡ Some n
+number_known : (n : ℕ) → n < 10 ^ 5 → spelled_number (decimal n) ≡ Some n
 number_known n h =
     let small : n < 2 ^ 64 = omega (arith, h) in
     let inside : is_number_sized (decimal n) ≡ true = is_sized (decimal n) (decimal_nonempty n small) (length-decimal-le 5 n (omega arith) h small) (lead n small) in
@@ -93,21 +93,21 @@ number_known n h =
     lead (suc n) h e = absurd (omega (arith, first_decimal (suc n) (omega arith) h, e))
 
 -- a number that is spelled is read
-pub number_back : (t : List ℕ) (n : ℕ) → SpellsNumber t n → number_of t ≡ Some n
-number_back t n s = ap number_of s.0 ∙ number_known n s.1
+pub number_back : (t : List ℕ) (n : ℕ) → SpellsNumber t n → spelled_number t ≡ Some n
+number_back t n s = ap spelled_number s.0 ∙ number_known n s.1
 
 -- a number below a limit that is read is spelled
 pub below_read : (limit : ℕ) (t : List ℕ) (n : ℕ) → below_of limit t ≡ Some n → SpellsNumber t n × (n < limit)
-below_read limit t n h = go (number_of t) refl h
+below_read limit t n h = go (spelled_number t) refl h
   where
-    in_range : (m : ℕ) (b : Bool) → nat_lt m limit ≡ b → number_of t ≡ Some m → cond b (Some m) None ≡ Some n → SpellsNumber t n × (n < limit)
+    in_range : (m : ℕ) (b : Bool) → nat_lt m limit ≡ b → spelled_number t ≡ Some m → cond b (Some m) None ≡ Some n → SpellsNumber t n × (n < limit)
     in_range m true e is q =
         let same : m ≡ n = cc in
         let below : m < limit = grind (arith, nat_tests) in
         (number_read t n (is ∙ ap (λ (k : ℕ). Some k) same), omega (arith, below, same))
     in_range m false e is q = cc
 
-    go : (o : Option ℕ) → number_of t ≡ o → option_and_then (λ n. cond (nat_lt n limit) (Some n) None) o ≡ Some n → SpellsNumber t n × (n < limit)
+    go : (o : Option ℕ) → spelled_number t ≡ o → option_and_then (λ n. cond (nat_lt n limit) (Some n) None) o ≡ Some n → SpellsNumber t n × (n < limit)
     go None is q = cc
     go (Some m) is q = in_range m (nat_lt m limit) refl is q
 

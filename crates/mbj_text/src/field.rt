@@ -1,5 +1,5 @@
 ghost use Rattle.std.specs.Prelude.{◌≡◌, ◌≤◌, List, ℕ, Option, IfOk, length};
-ghost use Rattle.mbj_text.specs.Inside.Reading.{bytes_of, number_of, below_of, digits_after};
+ghost use Rattle.mbj_text.specs.Inside.Reading.{bytes_of, spelled_number, below_of, digits_after};
 ghost use Rattle.mbj_text.specs.declared.field.TheConstants.{MAX_DIGITS};
 
 use mbj_types::Bytes;
@@ -38,7 +38,7 @@ impl Field for Bytes {
 
 /// A number of 1 to 5 digits.
 impl Field for u32 {
-    ghost value_of = { number_of };
+    ghost value_of = { spelled_number };
 
     fn read(_alloc: Global, text: &[u8]) -> Result<Option<u32>, AllocError> {
         Ok(number(text))
@@ -63,7 +63,7 @@ pub(crate) fn below(text: &[u8], limit: u32) -> Option<u32>
 
 /// The number that 1 to 5 digits write, the first of them not `0` unless it is the only one.
 fn number(text: &[u8]) -> Option<u32>
-    ensures { result ≡ number_of text.now }
+    ensures { result ≡ spelled_number text.now }
 {
     match text {
         [] | [b'0', _, ..] => None,

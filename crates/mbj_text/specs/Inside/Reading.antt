@@ -82,11 +82,11 @@ abbrev pub is_number_sized : List ℕ → Bool
 is_number_sized text =
     nat_lt 0 (length text) && (nat_le (length text) 5 && (length text == 1 || not (slice_index text 0 == 48)))
 
-abbrev pub number_of : List ℕ → Option ℕ
-number_of text = if is_number_sized text then digits_after 0 text else None
+abbrev pub spelled_number : List ℕ → Option ℕ
+spelled_number text = if is_number_sized text then digits_after 0 text else None
 
 abbrev pub below_of : ℕ → List ℕ → Option ℕ
-below_of limit text = option_and_then (λ n. if nat_lt n limit then Some n else None) (number_of text)
+below_of limit text = option_and_then (λ n. if nat_lt n limit then Some n else None) (spelled_number text)
 
 -- what the text is read as in a form
 abbrev pub value_of : (form : Form) → List ℕ → Option (Value form)
@@ -95,7 +95,7 @@ value_of DirWord = dir_of
 value_of OrderWord = order_of
 value_of AuthWord = auth_of
 value_of Hex = bytes_of
-value_of Number = number_of
+value_of Number = spelled_number
 value_of (Below limit) = below_of limit
 
 -- ---- lines
