@@ -13,7 +13,7 @@ use Rattle.mbj_text.specs.declared.command.Cmd.TheVariants as command
 use Rattle.mbj_types.specs.declared.done.Done.{Done}
 use Rattle.std.specs.declared.alloc.AllocError.{AllocError}
 use Rattle.mbj_manager.specs.State.{ManagerState, after_flush, new_manager, after_submit, with_open}
-use Rattle.mbj_replay.specs.Replay.{Replaying, Told, all_told, cells_out, claim_of, finish_told, first_ready, hand, manager, number_in, party, post_of, told, with_post}
+use Rattle.mbj_replay.specs.Replay.{Replaying, Replayed, replayed, cells_out, claim_of, finish_told, first_ready, hand, manager, cell_number, party, post_of, told, with_post}
 use Rattle.mbj_replay.specs.Inside.Giving.{core_after, first_with}
 use Rattle.mbj_replay.specs.Inside.State.{state_of}
 use Rattle.mbj_replay.specs.declared.replayer.Posted.{Posted}
@@ -42,11 +42,11 @@ after_finish w given r = record r { core = core_after (party w r) given r.core }
 
 -- the number of the job that is finished
 abbrev pub finish_of : Replaying → Option Entry → Option ℕ
-finish_of r given = option_map (λ g. number_in r g.0) given
+finish_of r given = option_map (λ g. cell_number r g.0) given
 
 -- what a manager gave back is finished in the first cell of the hand
 pub finish-is : (lines : Option ℕ → List ReplayLine) (w : ℕ) (cells : List ℕ) (o : Option Done) (r : Replaying)
-    → ◌≡◌ {A = Told} (lines (finish_of r (first_with cells o)), after_finish w (first_with cells o) r) (finish_told lines w cells o r)
+    → ◌≡◌ {A = Replayed} (lines (finish_of r (first_with cells o)), after_finish w (first_with cells o) r) (finish_told lines w cells o r)
 finish-is lines w [] None r = refl
 finish-is lines w [] (Some d) r = refl
 finish-is lines w (cell ∷ cells) None r = refl
@@ -59,14 +59,14 @@ manager-is workers w x at =
     get_or_from_slice_get (map (λ y. y.manager) workers) w x.manager new_manager
     (slice_get-map (λ (y : Worker). y.manager) workers w ∙ ap (option_map (λ (y : Worker). y.manager)) at)
 
-told-is : (a b : List ReplayLine) (q r : Replaying) → a ≡ b → q ≡ r → ◌≡◌ {A = Told} (a, q) (b, r)
+told-is : (a b : List ReplayLine) (q r : Replaying) → a ≡ b → q ≡ r → ◌≡◌ {A = Replayed} (a, q) (b, r)
 told-is a b q r lines state = ap (λ (l : List ReplayLine). (l, q)) lines ∙ ap (λ (u : Replaying). (b, u)) state
 
 -- a flush, and the finish that it leads to
 pub flush-is : (jobs : List Job) (w : ℕ) (r q : Replaying) (x : ManagerState) (cells : List ℕ) (given : Option Entry) (job : Option ℕ)
     → manager w r ≡ x → hand w r ≡ cells → given ≡ first_with cells (after_flush x).0
     → q ≡ after_finish w given (with_manager w (after_flush x).1 r) → job ≡ finish_of r given
-    → ◌≡◌ {A = Told} (line.Finish w job ∷ [], q) (told jobs (command.Flush w) r)
+    → ◌≡◌ {A = Replayed} (line.Finish w job ∷ [], q) (told jobs (command.Flush w) r)
 flush-is jobs w r q x cells given job is_manager is_hand is_given is_state is_job =
     let found : given ≡ first_with (hand w r) (after_flush (manager w r)).0
     = is_given ∙ ap (λ (cs : List ℕ). first_with cs (after_flush x).0) (sym is_hand) ∙ ap (λ (m : ManagerState). first_with (hand w r) (after_flush m).0) (sym is_manager) in
@@ -84,8 +84,8 @@ pub claim-is : (jobs : List Job) (w s cell : ℕ) (job : Job) (r q : Replaying) 
     → manager w r ≡ x → hand w (with_claim w cell job (after_submit (with_open x job)).1 r) ≡ cells
     → given ≡ first_with cells (after_submit (with_open x job)).0
     → q ≡ after_finish w given (with_claim w cell job (after_submit (with_open x job)).1 r)
-    → number ≡ Some (number_in r cell) → finishes ≡ map (λ n. line.Finish w (Some n)) (option_to_list (finish_of r given))
-    → ◌≡◌ {A = Told} (line.Claim w number ∷ finishes, q) (told jobs (command.Claim w s) r)
+    → number ≡ Some (cell_number r cell) → finishes ≡ map (λ n. line.Finish w (Some n)) (option_to_list (finish_of r given))
+    → ◌≡◌ {A = Replayed} (line.Claim w number ∷ finishes, q) (told jobs (command.Claim w s) r)
 claim-is jobs w s cell job r q x full cells given number finishes is_full is_room is_ready is_manager is_hand is_given is_state is_number are =
     let after : ManagerState → Replaying = λ m. with_claim w cell job (after_submit (with_open m job)).1 r in
     let back : ManagerState → Option Entry = λ m. first_with (hand w (after m)) (after_submit (with_open m job)).0 in
@@ -95,12 +95,12 @@ claim-is jobs w s cell job r q x full cells given number finishes is_full is_roo
     = is_state ∙ ap (λ (m : ManagerState). after_finish w given (after m)) (sym is_manager)
     ∙ ap (λ (g : Option Entry). after_finish w g (after (manager w r))) found in
     let lines : ◌≡◌ {A = List ReplayLine} (line.Claim w number ∷ finishes)
-    (line.Claim w (Some (number_in r cell)) ∷ map (λ n. line.Finish w (Some n)) (option_to_list (finish_of r (back (manager w r)))))
+    (line.Claim w (Some (cell_number r cell)) ∷ map (λ n. line.Finish w (Some n)) (option_to_list (finish_of r (back (manager w r)))))
     = ap (λ (n : Option ℕ). line.Claim w n ∷ finishes) is_number
-    ∙ ap (λ (ls : List ReplayLine). line.Claim w (Some (number_in r cell)) ∷ ls)
+    ∙ ap (λ (ls : List ReplayLine). line.Claim w (Some (cell_number r cell)) ∷ ls)
     (are ∙ ap (λ (g : Option Entry). map (λ n. line.Finish w (Some n)) (option_to_list (finish_of r g))) found) in
     told-is (line.Claim w number ∷ finishes) _ q _ lines state
-    ∙ finish-is (λ n. line.Claim w (Some (number_in r cell)) ∷ map (λ m. line.Finish w (Some m)) (option_to_list n)) w
+    ∙ finish-is (λ n. line.Claim w (Some (cell_number r cell)) ∷ map (λ m. line.Finish w (Some m)) (option_to_list n)) w
     (hand w (after (manager w r))) (after_submit (with_open (manager w r) job)).0 (after (manager w r))
     ∙ ap (λ f. claim_of w f r) (sym is_ready)
     ∙ sym (if-apart (length (hand w r)) ring.CELLS (line.ClaimFull w ∷ [], r) (claim_of w (first_ready r.core (cells_out r.core s)) r)
@@ -108,7 +108,7 @@ claim-is jobs w s cell job r q x full cells given number finishes is_full is_roo
 
 -- where the submitter has no job that is ready
 pub no-claim-is : (jobs : List Job) (w s : ℕ) (r q : Replaying) (full : List ℕ) → hand w r ≡ full → length full ≢ ring.CELLS → first_ready r.core (cells_out r.core s) ≡ None
-    → q ≡ r → ◌≡◌ {A = Told} (line.Claim w None ∷ [], q) (told jobs (command.Claim w s) r)
+    → q ≡ r → ◌≡◌ {A = Replayed} (line.Claim w None ∷ [], q) (told jobs (command.Claim w s) r)
 no-claim-is jobs w s r q full is_full is_room is_none same =
     ap (λ (u : Replaying). (line.Claim w None ∷ [], u)) same
     ∙ ap (λ f. claim_of w f r) (sym is_none)
@@ -118,7 +118,7 @@ no-claim-is jobs w s r q full is_full is_room is_none same =
 -- a post
 pub post-is : (jobs : List Job) (s n : ℕ) (job : Job) (r q : Replaying) → n ≡ slice_index r.nexts s → slice_get jobs n ≡ Some job
     → out_of r.core s ≢ SUBMITTER_CELLS → q ≡ with_post s n job r
-    → ◌≡◌ {A = Told} (line.Post s n ∷ [], q) (told jobs (command.Post s) r)
+    → ◌≡◌ {A = Replayed} (line.Post s n ∷ [], q) (told jobs (command.Post s) r)
 post-is jobs s n job r q next is_job room state =
     ap (λ (u : Replaying). (line.Post s n ∷ [], u)) state
     ∙ sym (if-apart (out_of r.core s) SUBMITTER_CELLS (line.PostFull s ∷ [], r) (line.Post s n ∷ [], with_post s n job r) room)
@@ -132,9 +132,9 @@ numbers-stay posted cell z taken at same =
     map-set_same (λ (x : Posted). x.number) posted cell taken z (same ∙ ap (λ (x : Posted). x.number) (sym (get_or_from_slice_get posted cell z z at)))
 
 -- the numbers of what is finished
-pub finish-number : (r : Replaying) (given : Option Entry) (cell : Option ℕ) → cell ≡ option_map (λ g. g.0) given → option_map (number_in r) cell ≡ finish_of r given
-finish-number r None cell is = ap (option_map (number_in r)) is
-finish-number r (Some g) cell is = ap (option_map (number_in r)) is
+pub finish-number : (r : Replaying) (given : Option Entry) (cell : Option ℕ) → cell ≡ option_map (λ g. g.0) given → option_map (cell_number r) cell ≡ finish_of r given
+finish-number r None cell is = ap (option_map (cell_number r)) is
+finish-number r (Some g) cell is = ap (option_map (cell_number r)) is
 
 replaying : CoreState → List ManagerState → List ℕ → List ℕ → Replaying
 replaying core managers nexts numbers = record { core = core; managers = managers; nexts = nexts; numbers = numbers }
@@ -190,23 +190,23 @@ refuted false P decides is p = let bad : false ≡ true = decides.1 p in cc
 
 -- the lines of commands over the jobs and the state that a replay begins with
 pub answered-by : (result : Result (Vec ReplayLine Global) AllocError) (own jobs : List Job) (commands : List Cmd) (r q : Replaying) → own ≡ jobs → r ≡ q
-    → IfOk result (λ lines. lines.items ≡ (all_told own commands r).0) → IfOk result (λ lines. lines.items ≡ (all_told jobs commands q).0)
+    → IfOk result (λ lines. lines.items ≡ (replayed own commands r).0) → IfOk result (λ lines. lines.items ≡ (replayed jobs commands q).0)
 answered-by (Err e) own jobs commands r q same begun told = told
 answered-by (Ok lines) own jobs commands r q same begun told =
-    told ∙ ap (λ (js : List Job). (all_told js commands r).0) same ∙ ap (λ (u : Replaying). (all_told jobs commands u).0) begun
+    told ∙ ap (λ (js : List Job). (replayed js commands r).0) same ∙ ap (λ (u : Replaying). (replayed jobs commands u).0) begun
 
 -- one command more is told
 pub one-told : (jobs : List Job) (commands rest : List Cmd) (command : Cmd) (before after lines all : List ReplayLine) (r q : Replaying)
-    → commands ≡ command ∷ rest → ◌≡◌ {A = Told} (lines, q) (told jobs command r) → after ≡ before ++ lines
-    → before ++ (all_told jobs commands r).0 ≡ all → after ++ (all_told jobs rest q).0 ≡ all
+    → commands ≡ command ∷ rest → ◌≡◌ {A = Replayed} (lines, q) (told jobs command r) → after ≡ before ++ lines
+    → before ++ (replayed jobs commands r).0 ≡ all → after ++ (replayed jobs rest q).0 ≡ all
 one-told jobs commands rest command before after lines all r q is does more told_all =
-    let first : lines ≡ (told jobs command r).0 = ap (λ (t : Told). t.0) does in
-    let state : q ≡ (told jobs command r).1 = ap (λ (t : Told). t.1) does in
-    ap (λ (l : List ReplayLine). l ++ (all_told jobs rest q).0) more
-    ∙ append_assoc before lines (all_told jobs rest q).0
-    ∙ ap (λ (u : Replaying). before ++ (lines ++ (all_told jobs rest u).0)) state
-    ∙ ap (λ (l : List ReplayLine). before ++ (l ++ (all_told jobs rest (told jobs command r).1).0)) first
-    ∙ ap (λ (cs : List Cmd). before ++ (all_told jobs cs r).0) (sym is)
+    let first : lines ≡ (told jobs command r).0 = ap (λ (t : Replayed). t.0) does in
+    let state : q ≡ (told jobs command r).1 = ap (λ (t : Replayed). t.1) does in
+    ap (λ (l : List ReplayLine). l ++ (replayed jobs rest q).0) more
+    ∙ append_assoc before lines (replayed jobs rest q).0
+    ∙ ap (λ (u : Replaying). before ++ (lines ++ (replayed jobs rest u).0)) state
+    ∙ ap (λ (l : List ReplayLine). before ++ (l ++ (replayed jobs rest (told jobs command r).1).0)) first
+    ∙ ap (λ (cs : List Cmd). before ++ (replayed jobs cs r).0) (sym is)
     ∙ told_all
 
 -- of all commands, the first and those behind it

@@ -12,8 +12,8 @@ use Rattle.mbj_types.specs.declared.done.Done.{Done}
 use Rattle.mbj_core.specs.Cells.{ready, free, hand_of, cell_of}
 use Rattle.mbj_core.specs.Parties.{FrontState}
 use Rattle.mbj_core.specs.Lawful.{Lawful}
-use Rattle.mbj_core.specs.Events.{accepted, collect, collected, finish, post}
-use Rattle.mbj_core.specs.CoreStates.{CoreState, HasHand, claimed_by, hand_in, handed_out, next_cell, posted}
+use Rattle.mbj_core.specs.Events.{carried_out, collect, collected, finish, post}
+use Rattle.mbj_core.specs.CoreStates.{CoreState, HasHand, claimed_by, hand_in, with_result_collected, next_cell, posted}
 use Rattle.mbj_core.specs.Stands.{StandsFor, Leads}
 use Rattle.mbj_core.specs.declared.cells.TheConstants.{SUBMITTER_CELLS}
 use Rattle.mbj_core.proofs.Entries.{set_else}
@@ -236,7 +236,7 @@ next-left jobs r s n x playing next at =
 pub post-plays : (jobs : List Job) (r : Replayer) (new : CoreState) (s n cell : ℕ) (job : Job) (left : Option Unposted) (x : Posted)
     (nexts : Vec ℕ Global) (unposted : Vec (Option Unposted) Global) (cells : Vec Posted Global)
     → IsPlaying jobs r → s < r.core.submitters → slice_get r.nexts.items s ≡ Some n → slice_get jobs n ≡ Some job → x.copy ≡ Some job
-    → cell ≡ next_cell r.core s → new ≡ posted r.core s job → Leads r.core (post s job) accepted new
+    → cell ≡ next_cell r.core s → new ≡ posted r.core s job → Leads r.core (post s job) carried_out new
     → nexts.items ≡ set r.nexts.items s (n + r.core.submitters) → unposted.items ≡ set r.unposted.items n left
     → cells.items ≡ set r.posted.items cell x
     → IsPlaying jobs (record { core = new; workers = r.workers; unposted = unposted; nexts = nexts; posted = cells })
@@ -258,7 +258,7 @@ post-plays jobs r new s n cell job left x nexts unposted cells playing below nex
 
 -- a result that is collected changes no hand, and leaves its cell free
 pub collect-plays : (jobs : List Job) (r : Replayer) (new : CoreState) (s : ℕ) (d : Done) → IsPlaying jobs r → s < r.core.submitters
-    → new ≡ handed_out r.core s → Leads r.core (collect s) (collected d) new
+    → new ≡ with_result_collected r.core s → Leads r.core (collect s) (collected d) new
     → IsPlaying jobs (record { core = new; workers = r.workers; unposted = r.unposted; nexts = r.nexts; posted = r.posted })
 collect-plays jobs r new s d playing below same leads =
     let f = playing.0 in
@@ -294,7 +294,7 @@ module _ (jobs : List Job) (r : Replayer) (w p : ℕ) (given : Option Entry) (x 
     flush-held = first-held r.core playing.0 p given flushed.rest flushed.front (law playing.0 flushed.front) flushed.hand
 
     pub flush-plays : (new : CoreState) (workers : Vec Worker Global) → new ≡ core_after p given r.core
-        → IfSome given (λ e. Leads r.core (finish p e.0 e.1) accepted new) → workers.items ≡ set r.workers.items w y
+        → IfSome given (λ e. Leads r.core (finish p e.0 e.1) carried_out new) → workers.items ≡ set r.workers.items w y
         → IsPlaying jobs (record { core = new; workers = workers; unposted = r.unposted; nexts = r.nexts; posted = r.posted })
     flush-plays new workers same leads are =
         let f = playing.0 in
@@ -330,7 +330,7 @@ module _ (jobs : List Job) (r : Replayer) (w p : ℕ) (given : Option Entry) (x 
         (subst (λ (c : CoreState). hand_in c p ≡ x.hand.items ++ cell ∷ []) claims.state in_mid)
 
     pub claim-plays : (new : CoreState) (taken : Posted) (workers : Vec Worker Global) (cells : Vec Posted Global) → new ≡ core_after p given mid
-        → IfSome given (λ e. Leads mid (finish p e.0 e.1) accepted new)
+        → IfSome given (λ e. Leads mid (finish p e.0 e.1) carried_out new)
         → workers.items ≡ set r.workers.items w y → cells.items ≡ set r.posted.items cell taken
         → IsPlaying jobs (record { core = new; workers = workers; unposted = r.unposted; nexts = r.nexts; posted = cells })
     claim-plays new taken workers cells same leads are_workers are_cells =

@@ -7,7 +7,7 @@ use Rattle.mbj_types.specs.declared.done.Done.{Done}
 use Rattle.mbj_core.specs.Cells.{Cell, ready, done, result_in, cell_of}
 use Rattle.mbj_core.specs.Parties.{FrontState}
 use Rattle.mbj_core.specs.Lawful.{Lawful}
-use Rattle.mbj_core.specs.Events.{accepted, finish}
+use Rattle.mbj_core.specs.Events.{carried_out, finish}
 use Rattle.mbj_core.specs.Runs.{Run}
 use Rattle.mbj_core.specs.CoreStates.{CoreState, HasHand, jobs_out, next_cell}
 use Rattle.mbj_core.specs.Stands.{StandsFor, Leads}
@@ -64,7 +64,7 @@ results-kept g h cell x is others was i d has = dite (ℕ_discrete i cell)
 
 -- the finish of an entry that was given back
 abbrev pub finish-event : ℕ → Option Entry → Option Answered
-finish-event p given = option_map (λ e. (finish p e.0 e.1, accepted)) given
+finish-event p given = option_map (λ e. (finish p e.0 e.1, carried_out)) given
 
 -- the party's first entry is finished, where there is one to finish
 pub record Finishes (core new : CoreState) (p : ℕ) (given : Option Entry) (rest : List Entry) (g h : FrontState Job Done) : Type 0 where
@@ -93,7 +93,7 @@ rest-left e hand rest (b ∷ before) after left first cut leaves none = let bad 
 
 pub first-finishes : (core new : CoreState) (g : FrontState Job Done) (p : ℕ) (given : Option Entry) (rest : List Entry)
     → StandsFor core g → Lawful result_of core.submitters core.workers g → (g.seats p).hand ≡ option_to_list given ++ rest
-    → new ≡ core_after p given core → IfSome given (λ e. Leads core (finish p e.0 e.1) accepted new)
+    → new ≡ core_after p given core → IfSome given (λ e. Leads core (finish p e.0 e.1) carried_out new)
     → (h : FrontState Job Done) × Finishes core new p given rest g h
 first-finishes core new g p None rest stands law is same leads = (
   g,

@@ -17,7 +17,7 @@ use Rattle.mbj_core.proofs.Calls.{Sizes}
 use Rattle.mbj_core.proofs.Steps.{Sound, step_sound}
 use Rattle.mbj_manager.specs.State.{ManagerState}
 use Rattle.mbj_replay.specs.Events.{Answered, ResultIs, Tells}
-use Rattle.mbj_replay.specs.Replay.{Replaying, Told, number_in}
+use Rattle.mbj_replay.specs.Replay.{Replaying, Replayed, cell_number}
 use Rattle.mbj_replay.specs.declared.line.ReplayLine.{ReplayLine}
 
 -- the core stands for f, whose cells hold the jobs of the file and their results, by the numbers of the replay
@@ -27,9 +27,9 @@ pub record Stands (jobs : List Job) (r : Replaying) (f : FrontState Job Done) : 
   pub law : Lawful result_of r.core.submitters r.core.workers f
   pub manager_count : length r.managers ≡ r.core.workers
   pub number_count : length r.numbers ≡ SUBMITTER_CELLS * r.core.submitters
-  pub jobs_are : (cell : ℕ) (job : Job) → cell < SUBMITTER_CELLS * r.core.submitters → f.cells cell ≡ ready job → slice_get jobs (number_in r cell) ≡ Some job
+  pub jobs_are : (cell : ℕ) (job : Job) → cell < SUBMITTER_CELLS * r.core.submitters → f.cells cell ≡ ready job → slice_get jobs (cell_number r cell) ≡ Some job
   pub results : (cell : ℕ) (d : Done) → cell < SUBMITTER_CELLS * r.core.submitters → result_in result_of (f.cells cell) ≡ Some d
-      → ResultIs jobs (number_in r cell) d
+      → ResultIs jobs (cell_number r cell) d
 
 -- a worker's manager owes the results of the worker's hand, in the same order
 abbrev pub Owes : ℕ → FrontState Job Done → ℕ → ManagerState → Type 0
@@ -47,7 +47,7 @@ pub record Plays (jobs : List Job) (r : Replaying) (f : FrontState Job Done) : T
   pub owes : EachOwes r f
 
 -- lines and a state that are told at r tell of events that lead from f
-pub record Goes (jobs : List Job) (r : Replaying) (f : FrontState Job Done) (t : Told) : Type 0 where
+pub record Goes (jobs : List Job) (r : Replaying) (f : FrontState Job Done) (t : Replayed) : Type 0 where
   pub events : List (Option Answered)
   pub to : FrontState Job Done
   pub tells : AllZip (Tells jobs r.core.submitters) t.0 events

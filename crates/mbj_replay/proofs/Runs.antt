@@ -20,7 +20,7 @@ use Rattle.mbj_manager.specs.State.{ManagerState, new_manager}
 use Rattle.mbj_text.specs.declared.command.Cmd.{Cmd}
 use Rattle.mbj_text.specs.declared.command.Cmd.TheVariants as command
 use Rattle.mbj_replay.specs.Events.{Answered, ReplaysAreOfEvents, Tells}
-use Rattle.mbj_replay.specs.Replay.{IsFor, Replaying, all_told, new_replay, replay_lines, told}
+use Rattle.mbj_replay.specs.Replay.{IsFor, Replaying, replayed, new_replay, replay_lines, told}
 use Rattle.mbj_replay.proofs.CommandLines.{all-first, all-rest}
 use Rattle.mbj_replay.proofs.NewReplayers.{alike}
 use Rattle.mbj_replay.proofs.Playing.{Goes, Plays}
@@ -51,9 +51,9 @@ run-append submitters workers f g h (e ∷ first) later one two = (one.0, one.1,
 abbrev pub AreOfEvents : List Job → ℕ → ℕ → List Cmd → Replaying → FrontState Job Done → Type 0
 AreOfEvents jobs submitters workers commands r f =
     (events : List (Option Answered)) × (g : FrontState Job Done)
-    × AllZip (Tells jobs submitters) (all_told jobs commands r).0 events
+    × AllZip (Tells jobs submitters) (replayed jobs commands r).0 events
     × Run result_of submitters workers f (flat_map option_to_list events) g
-    × StandsFor (all_told jobs commands r).1.core g
+    × StandsFor (replayed jobs commands r).1.core g
 
 are-of-events : (jobs : List Job) (commands : List Cmd) (r : Replaying) (f : FrontState Job Done) → Plays jobs r f
     → All (IsFor r.core.submitters r.core.workers) commands → AreOfEvents jobs r.core.submitters r.core.workers commands r f
@@ -69,7 +69,7 @@ are-of-events jobs (c ∷ commands) r f plays own =
     = subst (λ (n : ℕ × ℕ). AreOfEvents jobs n.0 n.1 commands q one.to) (λ t. (one.submitters t, one.workers t)) (are-of-events jobs commands q one.to one.plays left) in (
       one.events ++ later.0,
       later.1,
-      zip-append (Tells jobs S) (told jobs c r).0 (all_told jobs commands q).0 one.events later.0 one.tells later.2,
+      zip-append (Tells jobs S) (told jobs c r).0 (replayed jobs commands q).0 one.events later.0 one.tells later.2,
       subst (λ (es : List Answered). Run result_of S W f es later.1) (sym (flat_map-append option_to_list one.events later.0))
           (run-append S W f one.to later.1 (flat_map option_to_list one.events) (flat_map option_to_list later.0) one.run later.3),
       later.4,

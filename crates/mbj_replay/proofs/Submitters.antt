@@ -9,13 +9,13 @@ use Rattle.mbj_types.specs.declared.job.Job.{Job}
 use Rattle.mbj_types.specs.declared.done.Done.{Done}
 use Rattle.mbj_core.specs.Cells.{Cell, free, ready, done, result_in, cell_of}
 use Rattle.mbj_core.specs.Parties.{FrontState}
-use Rattle.mbj_core.specs.Events.{post, collect, accepted, returned, collected, nothing}
-use Rattle.mbj_core.specs.CoreStates.{CoreState, cell_in, first_cell, handed_out, next_cell, out_of, posted}
+use Rattle.mbj_core.specs.Events.{post, collect, carried_out, returned, collected, nothing}
+use Rattle.mbj_core.specs.CoreStates.{CoreState, cell_in, first_cell, with_result_collected, next_cell, out_of, posted}
 use Rattle.mbj_core.specs.declared.cells.TheConstants.{SUBMITTER_CELLS}
 use Rattle.mbj_core.proofs.Calls.{Sizes, posts_lead, collects_lead, vain_collects_lead}
 use Rattle.mbj_core.proofs.Steps.{step_sound}
 use Rattle.mbj_replay.specs.Events.{ResultIs}
-use Rattle.mbj_replay.specs.Replay.{Replaying, collect_of, number_in, post_of, with_post}
+use Rattle.mbj_replay.specs.Replay.{Replaying, collect_of, cell_number, post_of, with_post}
 use Rattle.mbj_replay.specs.declared.line.ReplayLine.TheVariants as line
 use Rattle.mbj_replay.proofs.CommandLines.{if-apart, if-same}
 use Rattle.mbj_replay.proofs.Fronts.{KeepsResults, KeepsJobs, jobs-kept, next-is, results-kept}
@@ -48,10 +48,10 @@ post-room jobs s n job r f plays below is room =
     let at : cell ≡ cell_of s (length (f.seats s).due) = next-is r.core f s st.front below in
     let has : g.cells cell ≡ ready job = ap g.cells at ∙ changes.cell in
     let elsewhere : (i : ℕ) → i ≢ cell → g.cells i ≡ f.cells i = λ i apart. changes.other_cells i (λ e. apart (e ∙ sym at)) in
-    let numbered : (i : ℕ) → i < SUBMITTER_CELLS * r.core.submitters → (P : ℕ → Type 0) → (i ≡ cell → P n) → (i ≢ cell → P (number_in r i)) → P (slice_index (set r.numbers cell n) i)
+    let numbered : (i : ℕ) → i < SUBMITTER_CELLS * r.core.submitters → (P : ℕ → Type 0) → (i ≡ cell → P n) → (i ≢ cell → P (cell_number r i)) → P (slice_index (set r.numbers cell n) i)
     = set-number r.numbers cell n (SUBMITTER_CELLS * r.core.submitters) st.number_count in
     record {
-      events = Some (post s job, accepted) ∷ [];
+      events = Some (post s job, carried_out) ∷ [];
       to = g;
       tells = ((refl, is), tt);
       run = (g, step.1, refl);
@@ -59,7 +59,7 @@ post-room jobs s n job r f plays below is room =
         stands = record {
           sizes = post-sizes r.core s job st.sizes;
           front = step.2;
-          law = (step_sound result_of r.core.submitters r.core.workers f g (post s job) accepted step.1 (sound r.core f st.front st.law)).1;
+          law = (step_sound result_of r.core.submitters r.core.workers f g (post s job) carried_out step.1 (sound r.core f st.front st.law)).1;
           manager_count = st.manager_count;
           number_count = length-set r.numbers cell n ∙ st.number_count;
           jobs_are = λ i other within there. numbered i within (λ k. slice_get jobs k ≡ Some other)
@@ -102,7 +102,7 @@ post-goes jobs s n (Some job) r f plays below is = dite (ℕ_discrete (out_of r.
 
 -- ---- collect
 
-collect-sizes : (c : CoreState) (s : ℕ) → Sizes c → Sizes (handed_out c s)
+collect-sizes : (c : CoreState) (s : ℕ) → Sizes c → Sizes (with_result_collected c s)
 collect-sizes c s sizes = record {
   cells = length-set c.cells (first_cell c s) free ∙ sizes.cells;
   hands = sizes.hands;

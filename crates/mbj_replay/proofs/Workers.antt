@@ -12,7 +12,7 @@ use Rattle.mbj_types.specs.declared.done.Done.{Done}
 use Rattle.mbj_core.specs.Cells.{Cell, free, ready, done, open_by, hand_of, take_by, result_in}
 use Rattle.mbj_core.specs.Parties.{FrontState}
 use Rattle.mbj_core.specs.Lawful.{Lawful}
-use Rattle.mbj_core.specs.Events.{Step, claim, finish, accepted, claimed}
+use Rattle.mbj_core.specs.Events.{Step, claim, finish, carried_out, claimed}
 use Rattle.mbj_core.specs.Runs.{Run}
 use Rattle.mbj_core.specs.CoreStates.{CoreState, HasHand, cell_in, claimed_by}
 use Rattle.mbj_core.specs.Stands.{Leads, IsBacked}
@@ -24,7 +24,7 @@ use Rattle.mbj_manager.specs.Machine.Stages.{Pending}
 use Rattle.mbj_manager.specs.State.{ManagerState, after_flush, given_at, new_manager, after_submit, with_open}
 use Rattle.mbj_text.specs.declared.command.Cmd.TheVariants as command
 use Rattle.mbj_replay.specs.Events.{Answered, ResultIs, Tells}
-use Rattle.mbj_replay.specs.Replay.{Replaying, Told, cells_out, claim_of, first_ready, hand, job_or, manager, number_in, party, told}
+use Rattle.mbj_replay.specs.Replay.{Replaying, Replayed, cells_out, claim_of, first_ready, hand, job_or, manager, cell_number, party, told}
 use Rattle.mbj_replay.specs.Inside.Giving.{core_after, first_with}
 use Rattle.mbj_replay.specs.declared.line.ReplayLine.TheVariants as line
 use Rattle.mbj_replay.proofs.Commands.{at-places, parties}
@@ -44,7 +44,7 @@ finish-sizes p (Some e) c sizes = record {
 
 finish-leads : (core : CoreState) (p : ℕ) (given : Option Entry) → Sizes core → IsBacked core → p < core.submitters + core.workers
     → IfSome given (λ e. (e.0 < SUBMITTER_CELLS * core.submitters) × HasHand core e.0 p e.1)
-    → IfSome given (λ e. Leads core (finish p e.0 e.1) accepted (core_after p given core))
+    → IfSome given (λ e. Leads core (finish p e.0 e.1) carried_out (core_after p given core))
 finish-leads core p None sizes behind near held = tt
 finish-leads core p (Some e) sizes behind near held = finishes_lead core sizes behind p e.0 e.1 near held.0 held.1
 
@@ -52,11 +52,11 @@ finish-leads core p (Some e) sizes behind near held = finishes_lead core sizes b
 pub record Ends (jobs : List Job) (r : Replaying) (f : FrontState Job Done) (w : ℕ) (given : Option Entry) : Type 0 where
   pub to : FrontState Job Done
   pub run : Run result_of r.core.submitters r.core.workers f (option_to_list (finish-event (party w r) given)) to
-  pub results : IfSome given (λ e. ResultIs jobs (number_in r e.0) e.1)
+  pub results : IfSome given (λ e. ResultIs jobs (cell_number r e.0) e.1)
   pub plays : Plays jobs (after_finish w given r) to
 
 given-result : (jobs : List Job) (r : Replaying) (f : FrontState Job Done) (p : ℕ) (given : Option Entry) → Stands jobs r f
-    → IfSome given (λ e. (e.0 < SUBMITTER_CELLS * r.core.submitters) × HasHand r.core e.0 p e.1) → IfSome given (λ e. ResultIs jobs (number_in r e.0) e.1)
+    → IfSome given (λ e. (e.0 < SUBMITTER_CELLS * r.core.submitters) × HasHand r.core e.0 p e.1) → IfSome given (λ e. ResultIs jobs (cell_number r e.0) e.1)
 given-result jobs r f p None st held = tt
 given-result jobs r f p (Some e) st held =
     st.results e.0 e.1 held.0 (ap (result_in result_of) (cell-is jobs r f e.0 (hand_of p e.1) st held.1).1)
@@ -165,7 +165,7 @@ with-manager jobs r f w m st = record {
   results = st.results;
 }
 
-finish-tells : (jobs : List Job) (r : Replaying) (w : ℕ) (given : Option Entry) → IfSome given (λ e. ResultIs jobs (number_in r e.0) e.1)
+finish-tells : (jobs : List Job) (r : Replaying) (w : ℕ) (given : Option Entry) → IfSome given (λ e. ResultIs jobs (cell_number r e.0) e.1)
     → Tells jobs r.core.submitters (line.Finish w (finish_of r given)) (finish-event (party w r) given)
 finish-tells jobs r w None result = tt
 finish-tells jobs r w (Some e) result = (refl, result)
@@ -229,9 +229,9 @@ claim-sizes c p cell job sizes = record {
 -- the claim, and then the finish
 claim-ends : (jobs : List Job) (r q : Replaying) (f g : FrontState Job Done) (w cell : ℕ) (job : Job) (given : Option Entry)
     → q.core.submitters ≡ r.core.submitters → q.core.workers ≡ r.core.workers
-    → Step result_of r.core.submitters r.core.workers f (claim (party w r) cell) (claimed job) g → slice_get jobs (number_in r cell) ≡ Some job
+    → Step result_of r.core.submitters r.core.workers f (claim (party w r) cell) (claimed job) g → slice_get jobs (cell_number r cell) ≡ Some job
     → Ends jobs q g w given
-    → Goes jobs r f (line.Claim w (Some (number_in r cell)) ∷ map (λ n. line.Finish w (Some n)) (option_to_list (finish_of q given)), after_finish w given q)
+    → Goes jobs r f (line.Claim w (Some (cell_number r cell)) ∷ map (λ n. line.Finish w (Some n)) (option_to_list (finish_of q given)), after_finish w given q)
 claim-ends jobs r q f g w cell job None submitters workers step own end = record {
   events = Some (claim (party w r) cell, claimed job) ∷ [];
   to = end.to;
@@ -280,7 +280,7 @@ claim-found jobs w cell job r f plays near is =
     let order : option_to_list o ++ after.owed ≡ map (λ e. e.1) (g.seats p).hand
     = submitted-owed m job ∙ ap (λ (ds : List Done). ds ++ result_of job ∷ []) (plays.owes w m (manager-at jobs r f w st near))
     ∙ sym (ap (map (λ e. e.1)) hand_now ∙ map-append (λ (e : Entry). e.1) (f.seats p).hand ((cell, result_of job) ∷ [])) in
-    subst (Goes jobs r f) (finish-is (λ n. line.Claim w (Some (number_in r cell)) ∷ map (λ k. line.Finish w (Some k)) (option_to_list n)) w (hand w q) o q)
+    subst (Goes jobs r f) (finish-is (λ n. line.Claim w (Some (cell_number r cell)) ∷ map (λ k. line.Finish w (Some k)) (option_to_list n)) w (hand w q) o q)
     (claim-ends jobs r q f g w cell job (first_with (hand w q) o) refl refl step.1
     (st.jobs_are cell job here.0 here.1)
     (gives jobs q g w o after mid near (manager-set jobs r f w after st near) order
@@ -295,8 +295,8 @@ claim-tries jobs w cells (Some found) r f plays near is = claim-found jobs w fou
 pub claim-goes : (jobs : List Job) (w s : ℕ) (r : Replaying) (f : FrontState Job Done) → Plays jobs r f → w < r.core.workers
     → Goes jobs r f (told jobs (command.Claim w s) r)
 claim-goes jobs w s r f plays near =
-    let full : Told = (line.ClaimFull w ∷ [], r) in
-    let tries : Told = claim_of w (first_ready r.core (cells_out r.core s)) r in
+    let full : Replayed = (line.ClaimFull w ∷ [], r) in
+    let tries : Replayed = claim_of w (first_ready r.core (cells_out r.core s)) r in
     dite (ℕ_discrete (length (hand w r)) ring.CELLS)
     (λ same. subst (Goes jobs r f) (sym (if-same (length (hand w r)) ring.CELLS full tries same)) (goes-nowhere jobs r f (line.ClaimFull w) plays tt))
     (λ apart. subst (Goes jobs r f) (sym (if-apart (length (hand w r)) ring.CELLS full tries apart))

@@ -4,7 +4,7 @@ use Rattle.std.specs.List.{range_with_len}
 use Rattle.mbj_types.specs.declared.job.Job.{Job}
 use Rattle.mbj_types.specs.declared.done.Done.{Done}
 use Rattle.mbj_core.specs.Cells.{Cell, ready, done, cell_of}
-use Rattle.mbj_core.specs.CoreStates.{CoreState, new_core, cell_in, claimed_by, finished, first_cell, hand_in, handed_out, jobs_out, next_cell, out_of, posted}
+use Rattle.mbj_core.specs.CoreStates.{CoreState, new_core, cell_in, claimed_by, finished, first_cell, hand_in, with_result_collected, jobs_out, next_cell, out_of, posted}
 use Rattle.mbj_core.specs.declared.cells.TheConstants.{SUBMITTER_CELLS}
 use Rattle.mbj_ring.specs.declared.ring.TheConstants as ring
 use Rattle.mbj_manager.specs.State.{ManagerState, after_flush, new_manager, after_submit, with_open}
@@ -44,12 +44,12 @@ abbrev pub hand : ℕ → Replaying → List ℕ
 hand w r = hand_in r.core (party w r)
 
 -- the number of the job in a cell
-abbrev pub number_in : Replaying → ℕ → ℕ
-number_in r cell = slice_index r.numbers cell
+abbrev pub cell_number : Replaying → ℕ → ℕ
+cell_number r cell = slice_index r.numbers cell
 
 -- the lines that a command prints, and the state after it
-abbrev pub Told : Type 0
-Told = List ReplayLine × Replaying
+abbrev pub Replayed : Type 0
+Replayed = List ReplayLine × Replaying
 
 -- ---- post
 
@@ -62,7 +62,7 @@ with_post s n job r = record r {
 }
 
 -- where there is no job n, there is nothing to post; where all cells of the submitter are out, the job stays the next one
-abbrev pub post_of : ℕ → ℕ → Option Job → Replaying → Told
+abbrev pub post_of : ℕ → ℕ → Option Job → Replaying → Replayed
 post_of s n None r = (line.PostEnd s ∷ [], r)
 post_of s n (Some job) r =
     if out_of r.core s == SUBMITTER_CELLS then (line.PostFull s ∷ [], r) else (line.Post s n ∷ [], with_post s n job r)
@@ -70,13 +70,13 @@ post_of s n (Some job) r =
 -- ---- what a worker's manager gives back
 
 -- it goes into the first cell of the worker's hand, whose job is finished so; its number, where there is one, is told
-abbrev pub finish_told : (Option ℕ → List ReplayLine) → ℕ → List ℕ → Option Done → Replaying → Told
+abbrev pub finish_told : (Option ℕ → List ReplayLine) → ℕ → List ℕ → Option Done → Replaying → Replayed
 finish_told lines w (cell ∷ cells) (Some d) r =
-    (lines (Some (number_in r cell)), record r { core = finished r.core (party w r) cell d })
+    (lines (Some (cell_number r cell)), record r { core = finished r.core (party w r) cell d })
 finish_told lines w _ _ r = (lines None, r)
 
 -- the worker's manager answered so when it was called
-abbrev pub answer_told : (Option ℕ → List ReplayLine) → ℕ → Option Done × ManagerState → Replaying → Told
+abbrev pub answer_told : (Option ℕ → List ReplayLine) → ℕ → Option Done × ManagerState → Replaying → Replayed
 answer_told lines w answer r = finish_told lines w (hand w r) answer.0 (record r { managers = set r.managers w answer.1 })
 
 -- ---- claim
@@ -95,18 +95,18 @@ first_ready c [] = None
 first_ready c (cell ∷ cells) = job_or (cell_in c cell) cell (first_ready c cells)
 
 -- the claimed job is submitted to the worker's manager
-abbrev pub claim_of : ℕ → Option (ℕ × Job) → Replaying → Told
+abbrev pub claim_of : ℕ → Option (ℕ × Job) → Replaying → Replayed
 claim_of w None r = (line.Claim w None ∷ [], r)
 claim_of w (Some found) r =
-    answer_told (λ n. line.Claim w (Some (number_in r found.0)) ∷ map (λ m. line.Finish w (Some m)) (option_to_list n)) w
+    answer_told (λ n. line.Claim w (Some (cell_number r found.0)) ∷ map (λ m. line.Finish w (Some m)) (option_to_list n)) w
     (after_submit (with_open (manager w r) found.1)) (record r { core = claimed_by r.core (party w r) found.0 found.1 })
 
 -- ---- collect
 
 -- the submitter's earliest job that is out is handed out where its cell holds a result
-abbrev pub collect_of : ℕ → Option (Cell Job Done) → Replaying → Told
+abbrev pub collect_of : ℕ → Option (Cell Job Done) → Replaying → Replayed
 collect_of s (Some (done d)) r =
-    (line.Collect s (number_in r (first_cell r.core s)) d ∷ [], record r { core = handed_out r.core s })
+    (line.Collect s (cell_number r (first_cell r.core s)) d ∷ [], record r { core = with_result_collected r.core s })
 collect_of s _ r = (line.CollectNone s ∷ [], r)
 
 -- ---- the whole
@@ -118,7 +118,7 @@ IsFor submitters workers (command.Claim w s) = (w < workers) × (s < submitters)
 IsFor submitters workers (command.Flush w) = w < workers
 IsFor submitters workers (command.Collect s) = s < submitters
 
-abbrev pub told : List Job → Cmd → Replaying → Told
+abbrev pub told : List Job → Cmd → Replaying → Replayed
 told jobs (command.Post s) r = post_of s (slice_index r.nexts s) (slice_get jobs (slice_index r.nexts s)) r
 -- a worker whose hand has as many cells as its manager's ring tries nothing
 told jobs (command.Claim w s) r =
@@ -127,13 +127,13 @@ told jobs (command.Flush w) r = answer_told (λ n. line.Finish w n ∷ []) w (af
 told jobs (command.Collect s) r = collect_of s (if out_of r.core s == 0 then None else cell_in r.core (first_cell r.core s)) r
 
 -- the lines of commands, one after another, and the state after the last
-abbrev pub all_told : List Job → List Cmd → Replaying → Told
-all_told jobs [] r = ([], r)
-all_told jobs (c ∷ commands) r =
-    let rest = all_told jobs commands (told jobs c r).1 in ((told jobs c r).0 ++ rest.0, rest.1)
+abbrev pub replayed : List Job → List Cmd → Replaying → Replayed
+replayed jobs [] r = ([], r)
+replayed jobs (c ∷ commands) r =
+    let rest = replayed jobs commands (told jobs c r).1 in ((told jobs c r).0 ++ rest.0, rest.1)
 
 unfoldable pub replay_lines : List Job → List Cmd → ℕ → ℕ → List ReplayLine
-replay_lines jobs commands submitters workers = (all_told jobs commands (new_replay submitters workers)).0
+replay_lines jobs commands submitters workers = (replayed jobs commands (new_replay submitters workers)).0
 
 abbrev pub replay_text : List Job → List Cmd → ℕ → ℕ → List ℕ
 replay_text jobs commands submitters workers = flat_map replay_line_text (replay_lines jobs commands submitters workers)

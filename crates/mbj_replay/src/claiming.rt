@@ -3,7 +3,7 @@ ghost use Rattle.std.specs.Bool.{OnFalse, OnTrue};
 ghost use Rattle.mbj_types.specs.declared.job.Job.{Job};
 ghost use Rattle.mbj_core.specs.Cells.{cell_of};
 ghost use Rattle.mbj_core.specs.CoreStates.{HasHand, HasJob, jobs_out};
-ghost use Rattle.mbj_core.specs.Events.{accepted, finish};
+ghost use Rattle.mbj_core.specs.Events.{carried_out, finish};
 ghost use Rattle.mbj_core.specs.Stands.{Leads};
 ghost use Rattle.mbj_core.specs.declared.cells.TheConstants.{SUBMITTER_CELLS};
 ghost use Rattle.mbj_replay.specs.Inside.Claiming.{ClaimsAt};
@@ -75,7 +75,7 @@ pub(crate) fn finish_given(core: &mut Core, p: u32, given: Option<(u32, Done)>) 
     requires held { IfSome given (λ g. HasHand core.old g.0 p g.1) }
     ensures cell { result ≡ option_map (λ g. g.0) given }
     ensures core { core.new ≡ core_after p given core.old }
-    ensures leads { IfSome given (λ g. Leads core.old (finish p g.0 g.1) accepted core.new) }
+    ensures leads { IfSome given (λ g. Leads core.old (finish p g.0 g.1) carried_out core.new) }
 {
     let (cell, done) = given?;
     core.finish(p, cell, done);

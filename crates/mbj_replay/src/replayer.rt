@@ -2,11 +2,11 @@ ghost use Rattle.std.specs.Prelude.{◌≡◌, ◌≢◌, ◌<◌, ◌≤◌, []
 ghost use Rattle.std.specs.List.{range_with_len};
 ghost use Rattle.mbj_types.specs.declared.job.Job.{Job};
 ghost use Rattle.mbj_core.specs.CoreStates.{out_of, posted};
-ghost use Rattle.mbj_core.specs.Events.{accepted, post};
+ghost use Rattle.mbj_core.specs.Events.{carried_out, post};
 ghost use Rattle.mbj_core.specs.Stands.{Leads};
 ghost use Rattle.mbj_core.specs.declared.cells.TheConstants.{MAX_SUBMITTERS, MAX_WORKERS, SUBMITTER_CELLS};
 ghost use Rattle.mbj_text.specs.declared.limits.TheConstants.{JOB_LIMIT};
-ghost use Rattle.mbj_replay.specs.Replay.{IsFor, Replaying, all_told, new_replay, number_in, replay_lines, told};
+ghost use Rattle.mbj_replay.specs.Replay.{IsFor, Replaying, replayed, new_replay, cell_number, replay_lines, told};
 ghost use Rattle.mbj_replay.specs.Inside.State.{HasPartiesOf, IsPlaying, lines_of, state_of, with_copy};
 
 use crate::claiming::{cell_behind, claim_earliest, finish_given, party_of};
@@ -104,7 +104,7 @@ fn post_entry(core: &mut Core, s: u32, entry: &mut Option<Unposted>) -> Job
     requires room { out_of core.old s ≢ SUBMITTER_CELLS }
     ensures copy { entry.old ≡ with_copy result }
     ensures posted { core.new ≡ posted core.old s result }
-    ensures leads { Leads core.old (post s result) accepted core.new }
+    ensures leads { Leads core.old (post s result) carried_out core.new }
 {
     let Some(Unposted { job, copy }) = entry.take() else {
         unreachable!()
@@ -167,7 +167,7 @@ impl Replayer {
     /// The number of the job in a cell, where there is a cell.
     fn number_at(&self, cell: Option<u32>) -> Option<u32>
         requires { IfSome cell (λ c. c < length self.now.posted.items) }
-        ensures { result ≡ option_map (number_in (state_of self.now)) cell }
+        ensures { result ≡ option_map (cell_number (state_of self.now)) cell }
     {
         let cell = cell?;
         Some(self.posted[cell as usize].number)
@@ -301,7 +301,7 @@ impl Replayer {
         requires playing { IsPlaying jobs self.old }
         requires limit { length jobs ≤ JOB_LIMIT }
         requires parties { All (IsFor self.old.core.submitters self.old.core.workers) commands.items }
-        ensures { IfOk result (λ lines. lines.items ≡ (all_told jobs commands.items (state_of self.old)).0) }
+        ensures { IfOk result (λ lines. lines.items ≡ (replayed jobs commands.items (state_of self.old)).0) }
     {
         let mut lines = Vec::new(alloc);
         for command in commands {

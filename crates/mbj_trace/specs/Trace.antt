@@ -22,15 +22,15 @@ abbrev pub new_tracing : Tracing
 new_tracing = record { manager = new_manager; given = 0 }
 
 -- lines, and the state after what they tell
-abbrev pub Told : Type 0
-Told = List TraceLine × Tracing
+abbrev pub Traced : Type 0
+Traced = List TraceLine × Tracing
 
 -- what is told first, and what is told next from the state after that
-abbrev pub then_told : Told → (Tracing → Told) → Told
+abbrev pub then_told : Traced → (Tracing → Traced) → Traced
 then_told first next = (first.0 ++ (next first.1).0, (next first.1).1)
 
 -- a call of the manager is told in one line; the job that it gives back, where it gives one, is told by its number
-abbrev pub call_told : (Option ℕ → TraceLine) → (ManagerState → Option Done × ManagerState) → Tracing → Told
+abbrev pub call_told : (Option ℕ → TraceLine) → (ManagerState → Option Done × ManagerState) → Tracing → Traced
 call_told line call t =
     let a = call t.manager in
     (line (option_map (λ _. t.given) a.0) ∷ [], record { manager = a.1; given = if is_some a.0 then t.given + 1 else t.given })
@@ -38,33 +38,33 @@ call_told line call t =
 -- ---- submitting
 
 -- where no cell is left, that is told, and the earliest job is flushed
-abbrev pub room_told : Tracing → Told
+abbrev pub room_told : Tracing → Traced
 room_told t =
     if length t.manager.owed == CELLS then then_told (line.Full ∷ [], t) (call_told line.Flush after_flush) else ([], t)
 
 -- once there is room, job n is written into the next cell and submitted
-abbrev pub job_told : ℕ → Job → Tracing → Told
+abbrev pub job_told : ℕ → Job → Tracing → Traced
 job_told n j t = then_told (room_told t) (call_told (line.Submit n) (λ h. after_submit (with_open h j)))
 
 -- the jobs from number n on
-abbrev pub jobs_told : ℕ → List Job → Tracing → Told
+abbrev pub jobs_told : ℕ → List Job → Tracing → Traced
 jobs_told n [] t = ([], t)
 jobs_told n (j ∷ jobs) t = then_told (job_told n j t) (jobs_told (n + 1) jobs)
 
 -- ---- taking back
 
-abbrev pub take_told : Taking → Tracing → Told
+abbrev pub take_told : Taking → Tracing → Traced
 take_told taking.Completed t = call_told line.Completed after_get_completed t
 take_told taking.Flushed t = call_told line.Flush after_flush t
 
 -- one call after another until one gives nothing back; where so many jobs are owed, so many calls give one back at most
-abbrev pub takes_told : Taking → ℕ → Tracing → Told
+abbrev pub takes_told : Taking → ℕ → Tracing → Traced
 takes_told how zero t = take_told how t
 takes_told how (suc jobs) t =
     let one = take_told how t in if one.1.given == t.given then one else then_told one (takes_told how jobs)
 
-abbrev pub all_told : Taking → Tracing → Told
-all_told how t = takes_told how (length t.manager.owed) t
+abbrev pub traced : Taking → Tracing → Traced
+traced how t = takes_told how (length t.manager.owed) t
 
 -- ---- the counts
 
@@ -75,8 +75,8 @@ count_lines m k = let l = queue_for k m in if l.rounds == 0 then [] else line.Ro
 -- ---- the whole
 
 -- after the last job: what is finished, then what a flush finishes
-abbrev pub calls_told : List Job → Told
-calls_told jobs = then_told (then_told (jobs_told 0 jobs new_tracing) (all_told taking.Completed)) (all_told taking.Flushed)
+abbrev pub calls_told : List Job → Traced
+calls_told jobs = then_told (then_told (jobs_told 0 jobs new_tracing) (traced taking.Completed)) (traced taking.Flushed)
 
 -- the counts come last
 unfoldable pub trace_lines : List Job → List TraceLine

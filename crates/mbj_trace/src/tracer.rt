@@ -2,7 +2,7 @@ ghost use Rattle.std.specs.Prelude.{◌≡◌, ◌+◌, ◌<◌, ◌≤◌, ◌+
 ghost use Rattle.mbj_types.specs.Kinds.{all_kinds};
 ghost use Rattle.mbj_ring.specs.declared.ring.TheConstants.{CELLS};
 ghost use Rattle.mbj_text.specs.declared.limits.TheConstants.{JOB_LIMIT};
-ghost use Rattle.mbj_trace.specs.Trace.{all_told, count_lines, job_told, jobs_told, new_tracing, room_told, take_told, trace_lines};
+ghost use Rattle.mbj_trace.specs.Trace.{traced, count_lines, job_told, jobs_told, new_tracing, room_told, take_told, trace_lines};
 ghost use Rattle.mbj_trace.specs.Inside.State.{MAX_GIVEN, jobs_in, state_of};
 
 use crate::line::TraceLine;
@@ -129,8 +129,8 @@ impl Tracer {
     /// Takes jobs back until there is none.
     fn take_all(&mut self, how: Taking) -> Result<(), AllocError>
         requires { jobs_in (state_of self.old) ≤ JOB_LIMIT }
-        ensures lines { OnOk result (self.new.lines.items ≡ self.old.lines.items ++ (all_told how (state_of self.old)).0) }
-        ensures state { OnOk result (state_of self.new ≡ (all_told how (state_of self.old)).1) }
+        ensures lines { OnOk result (self.new.lines.items ≡ self.old.lines.items ++ (traced how (state_of self.old)).0) }
+        ensures state { OnOk result (state_of self.new ≡ (traced how (state_of self.old)).1) }
         ensures count { OnOk result (jobs_in (state_of self.new) ≡ jobs_in (state_of self.old)) }
     {
         'taking: while self.take(how)? {}

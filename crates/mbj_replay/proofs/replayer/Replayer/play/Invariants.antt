@@ -1,7 +1,7 @@
 -- What was told and the lines of the commands that are left are those of all commands.
 use Rattle.std.proofs.Common.{◌≡◌, ◌++◌, All}
 use Rattle.std.specs.Vec.Iter.{into_iter_items}
-use Rattle.mbj_replay.specs.Replay.{IsFor, all_told}
+use Rattle.mbj_replay.specs.Replay.{IsFor, replayed}
 use Rattle.mbj_replay.specs.Inside.State.{IsPlaying, state_of}
 use Rattle.mbj_replay.proofs.replayer.Replayer.play.Given as goal
 
@@ -14,6 +14,6 @@ invariant-loop-command g l = record {
   finite : (goal.iterator-loop-command g).is_finite l.command-iterator;
   playing : IsPlaying g.jobs l.self;
   parties : All (IsFor l.self.core.submitters l.self.core.workers) (into_iter_items l.command-iterator);
-  lines : l.lines.items ++ (all_told g.jobs (into_iter_items l.command-iterator) (state_of l.self)).0
-      ≡ (all_told g.jobs l.fn.commands.items (state_of l.initial.self)).0;
+  lines : l.lines.items ++ (replayed g.jobs (into_iter_items l.command-iterator) (state_of l.self)).0
+      ≡ (replayed g.jobs l.fn.commands.items (state_of l.initial.self)).0;
 }

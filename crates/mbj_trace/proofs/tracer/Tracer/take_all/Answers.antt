@@ -1,6 +1,6 @@
 -- A job was taken back, and the calls that are left are one fewer.
 use Rattle.std.proofs.Common.{◌≡◌, ◌∙◌, ◌+◌, ◌++◌, ap, sym, subst, List, if◌then◌else◌, Bool}
-use Rattle.mbj_trace.specs.Trace.{Tracing, all_told, take_told}
+use Rattle.mbj_trace.specs.Trace.{Tracing, traced, take_told}
 use Rattle.mbj_trace.specs.Inside.State.{jobs_in, state_of}
 use Rattle.mbj_trace.specs.declared.line.TraceLine.{TraceLine}
 use Rattle.mbj_trace.proofs.TraceLines.{rest-taken}
@@ -16,9 +16,9 @@ taking-preserved c =
     let same : jobs_in (take_told c.args.how old).1 ≡ jobs_in old = subst (λ (t : Tracing). jobs_in t ≡ jobs_in old) is c.in_ok-take.ensures.count in
     let rest = rest-taken c.args.how old c.taking.self.lines.items one same in
     record {
-      lines = ap (λ (t : Tracing). c.take.new.self.lines.items ++ (all_told c.args.how t).0) is
-          ∙ ap (λ (ls : List TraceLine). ls ++ (all_told c.args.how (take_told c.args.how old).1).0) c.in_ok-take.ensures.lines
+      lines = ap (λ (t : Tracing). c.take.new.self.lines.items ++ (traced c.args.how t).0) is
+          ∙ ap (λ (ls : List TraceLine). ls ++ (traced c.args.how (take_told c.args.how old).1).0) c.in_ok-take.ensures.lines
           ∙ rest.0 ∙ c.taking.invariant.lines;
-      state = ap (λ (t : Tracing). (all_told c.args.how t).1) is ∙ rest.1 ∙ c.taking.invariant.state;
+      state = ap (λ (t : Tracing). (traced c.args.how t).1) is ∙ rest.1 ∙ c.taking.invariant.state;
       count = c.in_ok-take.ensures.count ∙ c.taking.invariant.count;
     }
