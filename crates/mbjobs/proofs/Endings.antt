@@ -3,7 +3,7 @@ use Rattle.std.proofs.Common.{◌≡◌, ◌⊎◌, ◌∙◌, ◌≤◌, ◌<�
 use Rattle.mbj_text.specs.declared.limits.TheConstants.{INPUT_LIMIT}
 use Rattle.mbj_text.proofs.FileLaws.{reads_not_bad, reads_not_over, bad_not_over}
 use Rattle.mbj_text.proofs.ReplayLaws.{replay_not_bad, replay_not_over, bad_replay_not_over}
-use Rattle.mbjobs.specs.Message.{status_of}
+use Rattle.mbjobs.specs.Message.{status_for}
 use Rattle.mbjobs.specs.Outcome.{AsksFor, Does, IsBadFor, IsOverFor, ReadsInput, Stands}
 use Rattle.mbj_io.specs.Streams.{Fails, Stream}
 use Rattle.mbjobs.specs.Reading.{ReadsAll, ReadsBytes, ReadsTooMuch}
@@ -85,7 +85,7 @@ over_reads c told line o = tt
 
 pub good_ends : (c : Command) (cause : Cause) (input out : Stream) (told text : List ℕ)
     → Stands c cause input out → input.before ≡ Some told → length told ≤ INPUT_LIMIT → AsksFor c told text
-    → ¬ Fails input → ¬ Fails out → status_of cause ≡ 7
+    → ¬ Fails input → ¬ Fails out → status_for cause ≡ 7
 good_ends c Read input out told text s tells short good calm calm_out = absurd (calm s.1.rose)
 good_ends c Write input out told text s tells short good calm calm_out = absurd (calm_out s.0)
 good_ends c (Line line field) input out told text s tells short good calm calm_out =
@@ -98,7 +98,7 @@ good_ends c Memory input out told text s tells short good calm calm_out = refl
 
 -- ---- no input
 
-pub gen_ends : (n m s w : ℕ) (cause : Cause) (input out : Stream) → Stands (Gen n m s w) cause input out → ¬ Fails out → status_of cause ≡ 7
+pub gen_ends : (n m s w : ℕ) (cause : Cause) (input out : Stream) → Stands (Gen n m s w) cause input out → ¬ Fails out → status_for cause ≡ 7
 gen_ends n m s w Read input out stands calm = absurd stands.0
 gen_ends n m s w Write input out stands calm = absurd (calm stands.0)
 gen_ends n m s w (Line line field) input out stands calm = absurd stands.2
@@ -115,7 +115,7 @@ bad_not_whole c input out IsWritten told line field d tells bad =
 
 pub bad_ends : (c : Command) (cause : Cause) (input out : Stream) (told : List ℕ) (line field : ℕ)
     → Stands c cause input out → input.before ≡ Some told → length told ≤ INPUT_LIMIT → IsBadFor c told line field
-    → ¬ Fails input → (status_of cause ≡ 5) ⊎ (status_of cause ≡ 7)
+    → ¬ Fails input → (status_for cause ≡ 5) ⊎ (status_for cause ≡ 7)
 bad_ends c Read input out told line field s tells short bad calm = absurd (calm s.1.rose)
 bad_ends c Write input out told line field s tells short bad calm = absurd (bad_not_whole c input out _ told line field s.1 tells bad)
 bad_ends c (Line at f) input out told line field s tells short bad calm = inl refl
@@ -134,7 +134,7 @@ over_not_whole c input out IsWritten told line d tells over =
 
 pub over_ends : (c : Command) (cause : Cause) (input out : Stream) (told : List ℕ) (line : ℕ)
     → Stands c cause input out → input.before ≡ Some told → length told ≤ INPUT_LIMIT → IsOverFor c told line
-    → ¬ Fails input → (status_of cause ≡ 6) ⊎ (status_of cause ≡ 7)
+    → ¬ Fails input → (status_for cause ≡ 6) ⊎ (status_for cause ≡ 7)
 over_ends c Read input out told line s tells short over calm = absurd (calm s.1.rose)
 over_ends c Write input out told line s tells short over calm = absurd (over_not_whole c input out _ told line s.1 tells over)
 over_ends c (Line at f) input out told line s tells short over calm =
@@ -151,7 +151,7 @@ long_not_whole c input out IsWritten told reads d tells long = does_short c inpu
 
 pub long_ends : (c : Command) (cause : Cause) (input out : Stream) (told : List ℕ) → ReadsInput c
     → Stands c cause input out → input.before ≡ Some told → INPUT_LIMIT < length told
-    → ¬ Fails input → (status_of cause ≡ 6) ⊎ (status_of cause ≡ 7)
+    → ¬ Fails input → (status_for cause ≡ 6) ⊎ (status_for cause ≡ 7)
 long_ends c Read input out told reads s tells long calm = absurd (calm s.1.rose)
 long_ends c Write input out told reads s tells long calm = absurd (does_short c input _ told reads s.1 tells long)
 long_ends c (Line at f) input out told reads s tells long calm = absurd (read_is_short input told s.0 tells s.1 long)
@@ -169,7 +169,7 @@ along e (inl h) = inl (e ∙ h)
 along e (inr h) = inr (e ∙ h)
 
 -- what stands behind the status of an input that is too long
-pub status_6 : (c : Command) (cause : Cause) (input out : Stream) (status : ℕ) → Stands c cause input out → status ≡ status_of cause → status ≡ 6
+pub status_6 : (c : Command) (cause : Cause) (input out : Stream) (status : ℕ) → Stands c cause input out → status ≡ status_for cause → status ≡ 6
     → ReadsInput c × (ReadsTooMuch input.before input.after ⊎ ((line : ℕ) × ReadsBytes input (λ bytes. IsOverFor c bytes line)))
 status_6 c Read input out status s is six = let bad : 3 ≡ 6 = sym is ∙ six in absurd (omega (arith, bad))
 status_6 c Write input out status s is six = let bad : 4 ≡ 6 = sym is ∙ six in absurd (omega (arith, bad))

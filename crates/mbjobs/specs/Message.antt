@@ -12,9 +12,10 @@ message_of cause.Bytes = codes "mbjobs: input over 16777216 bytes\n"
 message_of (cause.Jobs line) = codes "mbjobs: line " ++ (decimal line ++ codes ": over 65536 jobs\n")
 message_of cause.Memory = codes "mbjobs: out of memory\n"
 
-abbrev pub status_of : Cause → ℕ
-status_of cause.Read = 3
-status_of cause.Write = 4
-status_of (cause.Line line field) = 5
-status_of cause.Memory = 7
-status_of _ = 6
+abbrev pub status_for : Cause → ℕ
+status_for cause.Read = 3
+status_for cause.Write = 4
+status_for (cause.Line line field) = 5
+status_for cause.Memory = 7
+status_for cause.Bytes = 6
+status_for (cause.Jobs line) = 6

@@ -1,5 +1,5 @@
 ghost use Rattle.std.specs.Prelude.{◌≡◌};
-ghost use Rattle.mbjobs.specs.Message.{status_of};
+ghost use Rattle.mbjobs.specs.Message.{status_for};
 ghost use Rattle.mbjobs.specs.declared.cause.Cause.TheVariants as variant;
 
 use mbj_io::Failed;
@@ -29,7 +29,7 @@ pub enum Cause {
 impl Cause {
     /// The status that the program ends with.
     pub fn status(&self) -> u8
-        ensures { result ≡ status_of self.now }
+        ensures { result ≡ status_for self.now }
     {
         match self {
             Cause::Read => 3,

@@ -3,7 +3,7 @@
 
 ghost use Rattle.std.specs.Prelude.{◌≡◌, ◌⊎◌};
 ghost use Rattle.std.specs.Process.{exit_status};
-ghost use Rattle.mbjobs.specs.Message.{status_of};
+ghost use Rattle.mbjobs.specs.Message.{status_for};
 ghost use Rattle.mbjobs.specs.declared.cause.Cause.{Cause};
 
 mod cause;
@@ -43,7 +43,7 @@ fn command_line(rt: &HostRuntime) -> Result<Vec<String>, WordFault> {
 /// The status once what waits in the buffer of standard output is written: a good one becomes that of a failed write where
 /// it can't be, which is told.
 fn written<W: Write, E: Sink>(out: &mut W, err: &mut E, status: u8) -> u8
-    ensures { (result ≡ status) ⊎ ((status ≡ 0) × (result ≡ status_of Cause.Write)) }
+    ensures { (result ≡ status) ⊎ ((status ≡ 0) × (result ≡ status_for Cause.Write)) }
 {
     match out.flush() {
         Err(_) if status == 0 => tell(err, Cause::Write),

@@ -1,7 +1,7 @@
 ghost use Rattle.std.specs.Prelude.{◌≡◌, ◌≢◌, ◌⊎◌, ◌≤◌, ◌<◌, List, [], ℕ, Err, IfErr, OnOk, Some, None, map, string_bytes, length};
 ghost use Rattle.mbj_text.specs.declared.limits.TheConstants.{INPUT_LIMIT};
 ghost use Rattle.mbj_command.specs.Command.{IsInRange, command};
-ghost use Rattle.mbjobs.specs.Message.{message_of, status_of};
+ghost use Rattle.mbjobs.specs.Message.{message_of, status_for};
 ghost use Rattle.mbj_io.specs.Streams.{Fails, FailsOnce, IsUntouched, stream};
 ghost use Rattle.mbjobs.specs.Reading.{ReadsBytes, ReadsTooMuch};
 ghost use Rattle.mbjobs.specs.Outcome.{AsksFor, BreaksOff, Completes, Gains, IsBadFor, IsOverFor, ReadsInput, Stands};
@@ -27,7 +27,7 @@ const BAD_WORDS: u8 = 2;
 
 /// Tells a cause, and answers its status.
 pub(crate) fn tell<E: Sink>(err: &mut E, cause: Cause) -> u8
-    ensures status { result ≡ status_of cause }
+    ensures status { result ≡ status_for cause }
     ensures told { Gains (stream E.held E.faults err.old err.new) (message_of cause) }
 {
     report(err, cause);
@@ -141,7 +141,7 @@ pub fn mbjobs<R: Threads + Wait + Sync, S: Source, O: Sink, E: Sink, G: Gate + S
     // What err gained: nothing, clap's text, or the line of a cause that stands.
     ensures quiet { result ≡ 0 → IsUntouched (stream E.held E.faults err.old err.new) }
     ensures told_words { result ≡ 2 → (text : List ℕ) × (text ≢ []) × Gains (stream E.held E.faults err.old err.new) text }
-    ensures told { result ≢ 0 → result ≢ 2 → (cause : Cause) × (result ≡ status_of cause)
+    ensures told { result ≢ 0 → result ≢ 2 → (cause : Cause) × (result ≡ status_for cause)
         × Gains (stream E.held E.faults err.old err.new) (message_of cause)
         × ((cause ≡ Cause.Memory) ⊎ ((c : Command) × (command (map string_bytes words.now) ≡ Some c)
         × Stands c cause (stream S.rest S.faults input.old input.new) (stream O.held O.faults out.old out.new))) }
