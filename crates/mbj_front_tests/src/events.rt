@@ -12,7 +12,7 @@ use std::test::Fail;
 
 /// What a party does with a core. A job is known by the one byte of its packet.
 enum Move {
-    /// 256 times.
+    /// As often as a submitter has cells.
     PostAll(u32, u8),
     Post(u32, u8),
     Claim(u32, u32),
@@ -66,9 +66,9 @@ fn post(core: &mut Core, alloc: Global, s: u32, byte: u8) -> Result<Got, AllocEr
     }
 }
 
-/// Posts until a job comes back, at most 256 times.
+/// Posts until a job comes back, at most as often as a submitter has cells.
 fn post_all(core: &mut Core, alloc: Global, s: u32, byte: u8) -> Result<Got, AllocError> {
-    for _ in 0..256u32 {
+    for _ in 0..SUBMITTER_CELLS {
         let got = post(core, alloc, s, byte)?;
         if got.is_some() {
             return Ok(got);
@@ -148,10 +148,10 @@ const IN_ORDER: [Step; 16] = [
     (Move::Post(0, 11), None),
     (Move::Post(1, 20), None),
     (Move::Claim(2, 1), Some(11)),
-    (Move::Claim(2, 256), Some(20)),
+    (Move::Claim(2, SUBMITTER_CELLS), Some(20)),
     (Move::Claim(2, 0), Some(10)),
     (Move::Claim(1, 0), None),
-    (Move::Finish(2, 256), None),
+    (Move::Finish(2, SUBMITTER_CELLS), None),
     (Move::Finish(2, 1), None),
     (Move::Collect(0), None),
     (Move::Collect(1), Some(20)),
@@ -165,11 +165,13 @@ const IN_ORDER: [Step; 16] = [
 #[test]
 fn results_come_in_order(rt: HostRuntime) -> Result<(), Fail> {
     let mut core = Core::new(rt.alloc(), 2, 1)?;
-    assert!(rt; !claims(&mut core, 2, 511) && get_all(rt.alloc(), &mut core, &IN_ORDER)?);
+    assert!(rt;
+        !claims(&mut core, 2, 2 * SUBMITTER_CELLS - 1) && get_all(rt.alloc(), &mut core, &IN_ORDER)?
+    );
     Ok(())
 }
 
-// With 256 of a submitter out its next job comes back, and another submitter's doesn't. Once a result is collected,
+// With all cells of a submitter out its next job comes back, and another submitter's doesn't. Once a result is collected,
 // its cell is that of the next job.
 const WHEN_FULL: [Step; 13] = [
     (Move::PostAll(0, 1), None),
@@ -184,22 +186,22 @@ const WHEN_FULL: [Step; 13] = [
     (Move::Post(0, 6), None),
     (Move::Post(0, 7), Some(7)),
     (Move::Claim(1, 0), Some(6)),
-    (Move::Claim(0, 256), Some(3)),
+    (Move::Claim(0, SUBMITTER_CELLS), Some(3)),
 ];
 
 #[test]
-fn a_submitter_has_256_cells(rt: HostRuntime) -> Result<(), Fail> {
+fn a_submitter_with_no_cell_left_posts_nothing(rt: HostRuntime) -> Result<(), Fail> {
     let mut core = Core::new(rt.alloc(), 2, 0)?;
     assert!(rt; get_all(rt.alloc(), &mut core, &WHEN_FULL)?);
-    assert!(rt; core.out(0) == 256 && core.first_cell(0) == 1);
+    assert!(rt; core.out(0) == SUBMITTER_CELLS && core.first_cell(0) == 1);
     Ok(())
 }
 
 // Sixteen submitters and sixteen workers, the last of which claims the last submitter's job.
 const OF_THE_LAST: [Step; 4] = [
     (Move::Post(15, 1), None),
-    (Move::Claim(31, 3840), Some(1)),
-    (Move::Finish(31, 3840), None),
+    (Move::Claim(31, 15 * SUBMITTER_CELLS), Some(1)),
+    (Move::Finish(31, 15 * SUBMITTER_CELLS), None),
     (Move::Collect(15), Some(1)),
 ];
 

@@ -4,7 +4,7 @@ ghost use Rattle.mbj_core.specs.Parties.{new_party};
 ghost use Rattle.mbj_front.specs.Seats.{view_of, IsSubmitter, IsOf, IsIssued, submitters_of, cells_of};
 ghost use Rattle.mbj_front.specs.Views.{after_publish};
 
-use mbj_core::{MAX_SUBMITTERS, MAX_WORKERS};
+use mbj_core::{MAX_SUBMITTERS, MAX_WORKERS, SUBMITTER_CELLS};
 use mbj_front::{Front, PartySeat, Results, SharedFront};
 use std::alloc::{AllocError, Global};
 use std::test::Fail;
@@ -179,7 +179,8 @@ fn each_step_leaves_its_word(rt: HostRuntime) -> Result<(), Fail> {
 #[test]
 fn seats_come_in_the_order_of_the_parties(rt: HostRuntime) -> Result<(), Fail> {
     let (front, seats) = Numbers::new(rt.alloc(), MAX_SUBMITTERS, MAX_WORKERS)?;
-    assert!(rt; front.cells() == 4096 && are_in_order(&seats));
+    let cells = MAX_SUBMITTERS * SUBMITTER_CELLS;
+    assert!(rt; front.cells() == cells && are_in_order(&seats));
     Ok(())
 }
 

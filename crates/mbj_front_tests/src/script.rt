@@ -7,6 +7,7 @@ ghost use Rattle.mbj_core.specs.declared.cells.TheConstants.{MAX_SUBMITTERS};
 
 use crate::player::players_of;
 use crate::replay::have_text;
+use mbj_core::SUBMITTER_CELLS;
 use mbj_front::Front;
 use mbj_text::{Cmd, INPUT_LIMIT, read_replay};
 use mbj_types::Job;
@@ -16,9 +17,6 @@ use std::test::Fail;
 
 /// How many workers follow a script.
 const WORKERS: u32 = 2;
-
-/// How many jobs a submitter may have out.
-const OUT_LIMIT: u32 = 256;
 
 /// RFC 2202, section 3, test cases 1 and 2.
 const HI_THERE: &str =
@@ -124,7 +122,7 @@ fn parties_tell_what_each_command_comes_to(rt: HostRuntime) -> Result<(), Fail> 
 /// The lines of as many posts as a submitter may have out, and of one more.
 fn lines_of_posts(alloc: Global) -> Result<String, AllocError> {
     let mut lines = String::new(alloc);
-    for number in 0..OUT_LIMIT {
+    for number in 0..SUBMITTER_CELLS {
         write!(lines, "post 0 {number}\n")?;
     }
     lines.push_str("post 0 full\n")?;
@@ -133,13 +131,13 @@ fn lines_of_posts(alloc: Global) -> Result<String, AllocError> {
 
 /// Whether the parties tell them of one job more than a submitter may have out and as many posts.
 fn posts_are_told(alloc: Global, lines: &str) -> Result<bool, Fail> {
-    let jobs = NULL_JOB.repeat(alloc, OUT_LIMIT as usize + 1)?;
-    let posts = "post 0\n".repeat(alloc, OUT_LIMIT as usize + 1)?;
+    let jobs = NULL_JOB.repeat(alloc, SUBMITTER_CELLS as usize + 1)?;
+    let posts = "post 0\n".repeat(alloc, SUBMITTER_CELLS as usize + 1)?;
     are_told(alloc, &[jobs.as_str(), "%\n", posts.as_str()], lines, 1)
 }
 
 #[test]
-fn the_257th_post_is_full(rt: HostRuntime) -> Result<(), Fail> {
+fn a_post_with_all_cells_out_is_full(rt: HostRuntime) -> Result<(), Fail> {
     let lines = lines_of_posts(rt.alloc())?;
     assert!(rt; posts_are_told(rt.alloc(), &lines)?);
     Ok(())

@@ -1,4 +1,5 @@
 mod draws;
+mod endings;
 mod failing_err;
 mod failing_reads;
 mod failing_writes;
@@ -14,6 +15,7 @@ mod results;
 mod runs;
 mod seeded_replays;
 mod texts;
+mod told_gates;
 mod trace;
 mod workers;
 mod yielding_gates;

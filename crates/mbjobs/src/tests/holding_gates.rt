@@ -1,4 +1,4 @@
-use super::parties::{DIGEST, generated_file};
+use super::parties::{DIGEST, JOBS, generated_file};
 use super::runs::{Host, Run};
 use mbj_work::{Gate, Moment};
 use std::alloc::Global;
@@ -65,7 +65,7 @@ impl Gate for Holding {
 
 /// Runs generated jobs with the party held at each moment, and compares the digest of the text.
 fn compare<R: Host>(rt: &R, alloc: Global, party: u32, moments: &[Moment]) {
-    let file = generated_file(rt, alloc, 7, 600);
+    let file = generated_file(rt, alloc, 7, JOBS);
     for moment in moments {
         let gate = Holding {
             party,

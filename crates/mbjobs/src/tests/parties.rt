@@ -88,8 +88,11 @@ fn compare<R: Host>(rt: &R, alloc: Global, command: &str, file: &[u8], text: &[u
     }
 }
 
-/// The digest of the results of 600 jobs from seed 7, by `tests/faults/reference.py summary 7 600`.
-pub(super) const DIGEST: &str = "b35ae57deabbe22d57517b5f198e0ca793dbd961373cb31ce1d1f7966b13e1f3";
+/// How many jobs the file has, from seed 7.
+pub(super) const JOBS: u32 = 1_200;
+
+/// The digest of their results, by `tests/faults/reference.py summary 7 1200`.
+pub(super) const DIGEST: &str = "3cce09cac621ea5b90f19883655d3ac02b289041c1f5a88ae5b7b0a7159fee37";
 
 /// Compares what a file writes with each number of submitters and of workers with what it writes with one submitter.
 fn compare_with_one<R: Host>(rt: &R, alloc: Global, file: &[u8]) {
@@ -101,7 +104,7 @@ fn compare_with_one<R: Host>(rt: &R, alloc: Global, file: &[u8]) {
 // With one and with two submitters a submitter has more jobs than cells.
 #[test]
 fn the_text_does_not_depend_on_submitters_and_workers(rt: HostRuntime) {
-    let file = generated_file(&rt, rt.alloc(), 7, 600);
+    let file = generated_file(&rt, rt.alloc(), 7, JOBS);
     compare_with_one(&rt, rt.alloc(), file.held());
 }
 

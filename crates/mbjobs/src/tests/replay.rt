@@ -40,11 +40,11 @@ fn a_replay_tells_what_each_command_comes_to(rt: HostRuntime) {
     check_parts(&rt, rt.alloc(), WORDS, &FILE, 0, LINES);
 }
 
-const POSTS: [Repeat; 3] = [(FIRST_JOB, 257), ("%\n", 1), ("post 0\n", 257)];
+const POSTS: [Repeat; 3] = [(FIRST_JOB, 513), ("%\n", 1), ("post 0\n", 513)];
 
 #[test]
-fn the_257th_post_is_full(rt: HostRuntime) {
-    let lines = "post 0 [0..255]\npost 0 full\n";
+fn a_post_with_all_cells_out_is_full(rt: HostRuntime) {
+    let lines = "post 0 [0..511]\npost 0 full\n";
     check_parts(&rt, rt.alloc(), WORDS, &POSTS, 0, lines);
 }
 

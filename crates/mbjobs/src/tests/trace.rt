@@ -33,31 +33,57 @@ const CBC_HMAC_SHA512: &str =
 const BAD_KEY: &str =
     "cbc enc ch 2b7e151628aed2a6abf7158809cf4f 000102030405060708090a0b0c0d0e0f 0 16 null - - 0 0 0 -\n";
 
+/// Four jobs of one kind.
+const FOUR_JOBS: [Repeat; 8] = [
+    (WAITING_JOB, 1),
+    (HMAC_OVER_112, 1),
+    ("00", 112),
+    ("\n", 1),
+    (WAITING_JOB, 1),
+    (HMAC_OVER_300, 1),
+    ("00", 300),
+    ("\n", 1),
+];
+
+const FOUR_JOBS_TWICE: [Repeat; 16] = [
+    (WAITING_JOB, 1),
+    (HMAC_OVER_112, 1),
+    ("00", 112),
+    ("\n", 1),
+    (WAITING_JOB, 1),
+    (HMAC_OVER_300, 1),
+    ("00", 300),
+    ("\n", 1),
+    (WAITING_JOB, 1),
+    (HMAC_OVER_112, 1),
+    ("00", 112),
+    ("\n", 1),
+    (WAITING_JOB, 1),
+    (HMAC_OVER_300, 1),
+    ("00", 300),
+    ("\n", 1),
+];
+
 /// Job files, and the lines that their traces print.
-static CASES: [(&[Repeat], &str); 8] = [
+static CASES: [(&[Repeat], &str); 9] = [
     (&[], "completed none\nflush none\n"),
-    // Rests of 4, 5, 4 and 6: the run of the full list ends two jobs, and a flush one at a time.
+    // Rests of 4, 5, 4 and 6 in turn. Four jobs wait until they are flushed, and the run of a full list ends four of eight.
     (
-        &[
-            (WAITING_JOB, 1),
-            (HMAC_OVER_112, 1),
-            ("00", 112),
-            ("\n", 1),
-            (WAITING_JOB, 1),
-            (HMAC_OVER_300, 1),
-            ("00", 300),
-            ("\n", 1),
-        ],
-        "submit [0..2] none\nsubmit 3 0\ncompleted none\nflush [1..3]\nflush none\nrounds hmac-sha512 4 16\n",
+        &FOUR_JOBS,
+        "submit [0..3] none\ncompleted none\nflush [0..3]\nflush none\n",
     ),
     (
-        &[(CBC_HMAC_SHA512, 16)],
-        "submit [0..14] none\nsubmit 15 0\ncompleted [1..15]\ncompleted none\nflush none\nrounds cbc128 1 16\nrounds hmac-sha512 16 64\n",
+        &FOUR_JOBS_TWICE,
+        "submit [0..6] none\nsubmit 7 0\ncompleted none\nflush [1..7]\nflush none\nrounds hmac-sha512 4 32\n",
+    ),
+    (
+        &[(CBC_HMAC_SHA512, 32)],
+        "submit [0..30] none\nsubmit 31 0\ncompleted [1..31]\ncompleted none\nflush none\nrounds cbc128 1 32\nrounds hmac-sha512 16 128\n",
     ),
     // The earliest job waits for lanes while the ring fills behind it.
     (
-        &[(WAITING_JOB, 1), (CTR, 256)],
-        "submit [0..255] none\nfull\nflush 0\nsubmit 256 1\ncompleted [2..256]\ncompleted none\nflush none\n",
+        &[(WAITING_JOB, 1), (CTR, 512)],
+        "submit [0..511] none\nfull\nflush 0\nsubmit 512 1\ncompleted [2..512]\ncompleted none\nflush none\n",
     ),
     // A refused job keeps its place.
     (
@@ -66,13 +92,13 @@ static CASES: [(&[Repeat], &str); 8] = [
     ),
     // Two hashes share the lanes of one kind.
     (
-        &[(HMAC_SHA224_SHA256, 4)],
-        "submit [0..6] none\nsubmit 7 0\ncompleted [1..7]\ncompleted none\nflush none\nrounds hmac-sha256 4 32\n",
+        &[(HMAC_SHA224_SHA256, 8)],
+        "submit [0..14] none\nsubmit 15 0\ncompleted [1..15]\ncompleted none\nflush none\nrounds hmac-sha256 4 64\n",
     ),
     // Rests of 1 and 2 in turn: the run of the full list ends every other job.
     (
-        &[(CMAC128, 8)],
-        "submit [0..14] none\nsubmit 15 0\ncompleted none\nflush [1..15]\nflush none\nrounds cmac128 1 16\n",
+        &[(CMAC128, 16)],
+        "submit [0..30] none\nsubmit 31 0\ncompleted none\nflush [1..31]\nflush none\nrounds cmac128 1 32\n",
     ),
     (&[(BAD_KEY, 1)], "submit 0 0\ncompleted none\nflush none\n"),
 ];
