@@ -1,12 +1,13 @@
-ghost use Rattle.std.specs.Prelude.{◌≡◌, length};
+ghost use Rattle.std.specs.Prelude.{◌≡◌, ◌≤◌, length};
 ghost use Rattle.mbj_aes_lanes.specs.KeyLanes.{IsFull};
 
 use crate::compare::expect;
 use mbj_aes::Schedule;
 use mbj_aes_lanes::{
-    LaneKeys, chained, decrypt_lanes, decrypt16, encrypt_lanes, encrypt_same, encrypt16,
+    LaneKeys, chained, decrypt_lanes, decrypt_same, decrypt32, encrypt_lanes, encrypt_same,
+    encrypt32,
 };
-use mbj_types::Lane8;
+use mbj_types::{AES_LANES, Lane8};
 use std::fmt::Debug;
 use std::process::Abort;
 use std::simd::{u8x16, u8x32};
@@ -26,19 +27,50 @@ const CIPHERTEXT: u128 = 0x69c4e0d86a7b0430d8cdb78070b4c55a;
 /// The zero block under the zero key.
 const ZEROS: u128 = 0x66e94bd4ef8a2c3b884cfa59ca342b2e;
 
-/// A block under the key in five places and in sixteen lanes, there and back. The place behind the five stays.
+/// The block in each place, encrypted by one call and decrypted by another.
+fn check_places(
+    rt: &impl Abort,
+    key: &Schedule,
+    places: &mut [[u8; 16]],
+    plaintext: u128,
+    ciphertext: u128,
+)
+    requires { length places.old ≤ AES_LANES }
+{
+    places.fill(plaintext.to_be_bytes());
+    encrypt_same(key, places);
+    for place in places.iter() {
+        expect(rt, "encrypted", *place, ciphertext.to_be_bytes());
+    }
+    decrypt_same(key, places);
+    for place in places.iter() {
+        expect(rt, "decrypted", *place, plaintext.to_be_bytes());
+    }
+}
+
+/// A block under the key in five places, in every place and in every lane. The place behind the five stays.
 fn check_key(rt: &impl Abort, key: &[u8], plaintext: u128, ciphertext: u128) {
     assert!(rt; matches!(key.len(), 16 | 24 | 32));
     let schedule = Schedule::expand(key);
-    let (plaintext, ciphertext) = (plaintext.to_be_bytes(), ciphertext.to_be_bytes());
-    let mut blocks = [plaintext; 16];
-    encrypt_same(&schedule, &mut blocks[..5]);
-    expect(rt, "encrypted", blocks[4], ciphertext);
-    expect(rt, "behind", blocks[5], plaintext);
-    let mut blocks = [ciphertext; 16];
-    decrypt16(&LaneKeys::all(&schedule), &mut blocks);
-    expect(rt, "decrypted", blocks[15], plaintext);
-    encrypt_same(&schedule, &mut []);
+    let mut blocks = [[0; 16]; AES_LANES];
+    check_places(rt, &schedule, &mut blocks[..5], plaintext, ciphertext);
+    expect(rt, "behind", blocks[5], [0; 16]);
+    check_places(
+        rt,
+        &schedule,
+        &mut [[0; 16]; AES_LANES],
+        plaintext,
+        ciphertext,
+    );
+    check_places(rt, &schedule, &mut [], plaintext, ciphertext);
+    let mut blocks = [ciphertext.to_be_bytes(); AES_LANES];
+    decrypt32(&LaneKeys::all(&schedule), &mut blocks);
+    expect(
+        rt,
+        "decrypted",
+        blocks[AES_LANES - 1],
+        plaintext.to_be_bytes(),
+    );
 }
 
 #[test]
@@ -59,21 +91,21 @@ fn blocks_under_one_key_are_those_of_the_standard(rt: HostRuntime) {
     check_key(&rt, &[0; 16], 0, ZEROS);
 }
 
-/// Sixteen lanes, of which the even ones have one key and the odd ones the other.
+/// Lanes, of which the even ones have one key and the odd ones the other.
 fn alternating(even: &Schedule, odd: &Schedule) -> LaneKeys
     requires even { length even.now ≡ 176 }
     requires odd { length odd.now ≡ 176 }
     ensures { IsFull result }
 {
     let mut keys = LaneKeys::all(odd);
-    'lanes: for pair in 0..8u32 {
+    'lanes: for pair in 0..AES_LANES as u32 / 2 {
         keys.put(2 * pair, even);
     }
     keys
 }
 
 /// Each two neighbouring blocks are these two.
-fn check_pairs(rt: &impl Abort, blocks: &[[u8; 16]; 16], wanted: [u128; 2]) {
+fn check_pairs(rt: &impl Abort, blocks: &[[u8; 16]; AES_LANES], wanted: [u128; 2]) {
     let wanted = wanted.map(|block| block.to_be_bytes());
     for pair in blocks.as_chunks::<2>().0 {
         expect(rt, "pair", *pair, wanted);
@@ -84,23 +116,23 @@ fn check_pairs(rt: &impl Abort, blocks: &[[u8; 16]; 16], wanted: [u128; 2]) {
 fn lanes_under_two_keys_go_side_by_side(rt: HostRuntime) {
     let counting = Schedule::expand(&COUNTING[..16]);
     let keys = alternating(&counting, &Schedule::expand(&[0; 16]));
-    let mut blocks = [[0; 16]; 16];
-    for pair in 0..8usize {
+    let mut blocks = [[0; 16]; AES_LANES];
+    for pair in 0..AES_LANES / 2 {
         blocks[2 * pair] = PLAINTEXT.to_be_bytes();
     }
-    encrypt16(&keys, &mut blocks);
+    encrypt32(&keys, &mut blocks);
     check_pairs(&rt, &blocks, [CIPHERTEXT, ZEROS]);
-    decrypt16(&keys, &mut blocks);
+    decrypt32(&keys, &mut blocks);
     check_pairs(&rt, &blocks, [PLAINTEXT, 0]);
 }
 
-/// Sixteen new lanes, put one by one.
+/// New lanes, put one by one.
 fn put_one_by_one(key: &Schedule) -> LaneKeys
     requires { length key.now ≡ 240 }
     ensures { IsFull result }
 {
     let mut keys = LaneKeys::new(14);
-    'lanes: for lane in 0..16u32 {
+    'lanes: for lane in 0..AES_LANES as u32 {
         keys.put(lane, key);
     }
     keys
@@ -109,10 +141,10 @@ fn put_one_by_one(key: &Schedule) -> LaneKeys
 #[test]
 fn a_new_lane_is_put_before_it_is_used(rt: HostRuntime) {
     let keys = put_one_by_one(&Schedule::expand(&COUNTING));
-    let mut blocks = [PLAINTEXT.to_be_bytes(); 16];
-    encrypt16(&keys, &mut blocks);
+    let mut blocks = [PLAINTEXT.to_be_bytes(); AES_LANES];
+    encrypt32(&keys, &mut blocks);
     let wanted = 0x8ea2b7ca516745bfeafc49904b496089u128;
-    expect(&rt, "block", blocks[7], wanted.to_be_bytes());
+    expect(&rt, "block", blocks[AES_LANES - 1], wanted.to_be_bytes());
 }
 
 #[test]

@@ -149,6 +149,19 @@ fn texts_are_sealed_from_ivs_of_8_12_and_60_bytes_as_in_the_gcm_specification(rt
     unsealing_undoes_sealing();
 }
 
+// The key, the IV and the additional data of test case 4. No standard has a text of so many blocks, more than go at once; the
+// tag is OpenSSL's.
+#[test]
+fn a_text_of_more_blocks_than_lanes_is_sealed(rt: HostRuntime) {
+    let key = Schedule::expand(&KEY[..16]);
+    let mut text = [0; 600];
+    let tag = seal(&key, &IV, &AAD, &mut text);
+    expect_block(&rt, "tag", tag, 0x47b1006deb7e041c824d0bfc43ca3a84);
+    let tag = unseal(&key, &IV, &AAD, &mut text);
+    expect(&rt, "unsealed", text, [0; 600]);
+    expect_block(&rt, "tag again", tag, 0x47b1006deb7e041c824d0bfc43ca3a84);
+}
+
 // With no text and no additional data the tag is the enciphered counter block, which is GHASH of the IV, filled with
 // zeros, and of 8 zero bytes and the bit length of the IV.
 #[test]

@@ -228,7 +228,7 @@ fn one_list_serves_sha224_and_sha256(rt: HostRuntime) -> Result<(), Fail> {
     run_in_one_list::<Case, HmacKernel<Sha256Lanes>>(&rt, rt.alloc(), &SHA256_CASES)
 }
 
-const SHA512_CASES: [Case; 4] = [
+const SHA512_CASES: [Case; 8] = [
     (
         Auth::HmacSha512,
         &[0x0b; 20],
@@ -252,6 +252,30 @@ const SHA512_CASES: [Case; 4] = [
         b"Jefe",
         &[0x61; 300],
         "08d8d44bfa31d244942372428106c09456f2ea22c8323b114327155aa202c581582dc8967c12efe17307a0969614ce8b2838f8832a6de3cf9298f3250555e55a",
+    ),
+    (
+        Auth::HmacSha512,
+        b"Jefe",
+        QUESTION,
+        "164b7a7bfcf819e2e395fbe73b56e0a387bd64222e831fd610270cd7ea2505549758bf75c05a994a6d034f65f8f0e6fdcaeab1a34d4a6b4b636e070a38bce737",
+    ),
+    (
+        Auth::HmacSha384,
+        &[0xaa; 20],
+        &[0xdd; 50],
+        "88062608d3e6ad8a0aa2ace014c8a86f0aa635d947ac9febe83ef4e55966144b2a5ab39dc13814b94e3ab6e101a34f27",
+    ),
+    (
+        Auth::HmacSha512,
+        &[0xaa; 131],
+        LARGE,
+        "80b24263c7c1a3ebb71493c1dd7be8b49b46d1f41b4aeec1121b013783f8f3526b56d037e05f2598bd0fd2215d6a1e5295e64f73f63f0aec8b915a985d786598",
+    ),
+    (
+        Auth::HmacSha384,
+        b"Jefe",
+        &[],
+        "99e07b65e0bfdedd41f44a433e51475a027ef03fe6c9bb6ecf67a700d375dae3863d8b5c3ff63c693d942a291add2e78",
     ),
 ];
 

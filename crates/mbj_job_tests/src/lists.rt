@@ -74,15 +74,18 @@ fn enter<C, K: Tried<C>>(
     Ok(())
 }
 
-/// Puts each case in a lane.
-fn enter_all<C, K: Tried<C>>(
+/// Puts cases in so many lanes, by turns.
+fn enter_by_turns<C, K: Tried<C>>(
     rt: &impl Abort,
     alloc: Global,
     cases: &[C],
+    many: usize,
     lanes: &mut Lanes<K>,
 ) -> Result<(), AllocError> {
-    assert!(rt; cases.len() <= MOST_CASES);
-    for number in 0..cases.len() {
+    assert!(rt; 0 < cases.len() && cases.len() <= MOST_CASES);
+    for i in 0..many {
+        let number = i % cases.len();
+        assert!(rt; number < cases.len());
         enter(rt, alloc, number as u8, &cases[number], lanes)?;
     }
     Ok(())
@@ -100,15 +103,16 @@ fn step<C, K: Tried<C>>(rt: &impl Abort, cases: &[C], lanes: &mut Lanes<K>) {
     }
 }
 
-/// Runs the cases in an empty list, and looks at what leaves it.
+/// Runs so many entries of the cases in an empty list, and looks at what leaves it.
 fn run_in<C, K: Tried<C>>(
     rt: &impl Abort,
     alloc: Global,
     cases: &[C],
+    many: usize,
     lanes: &mut Lanes<K>,
 ) -> Result<(), Fail> {
-    enter_all(rt, alloc, cases, lanes)?;
-    expect(rt, "entries", lanes.len() as usize, cases.len());
+    enter_by_turns(rt, alloc, cases, many, lanes)?;
+    expect(rt, "entries", lanes.len() as usize, many);
     for _ in 0..40u32 {
         step(rt, cases, lanes);
     }
@@ -116,11 +120,13 @@ fn run_in<C, K: Tried<C>>(
     Ok(())
 }
 
-/// Runs the cases in one list, and looks at what leaves it.
+/// Runs the cases in one list, first each once, then by turns in all its lanes, and looks at what leaves it.
 pub(crate) fn run_in_one_list<C, K: Tried<C>>(
     rt: &impl Abort,
     alloc: Global,
     cases: &[C],
 ) -> Result<(), Fail> {
-    run_in(rt, alloc, cases, &mut Lanes::<K>::new(alloc)?)
+    let mut lanes = Lanes::<K>::new(alloc)?;
+    run_in(rt, alloc, cases, cases.len(), &mut lanes)?;
+    run_in(rt, alloc, cases, K::LANES as usize, &mut lanes)
 }

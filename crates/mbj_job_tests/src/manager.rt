@@ -57,7 +57,7 @@ fn a_job_is_filled_submitted_and_taken_back(rt: HostRuntime) -> Result<(), Fail>
     check_taken_back(&rt, rt.alloc(), &mut Manager::new(rt.alloc())?)
 }
 
-/// Writes the tag's length into the open job, and answers what it was. A full ring is 255.
+/// Writes the tag's length into the open job, and answers what it was. A full ring is `u8::MAX`.
 fn write_tag_len(manager: &mut Manager, tag_len: u8) -> u8
     ensures { length manager.new.owed ≡ length manager.old.owed }
 {
@@ -67,7 +67,7 @@ fn write_tag_len(manager: &mut Manager, tag_len: u8) -> u8
             job.tag_len = tag_len;
             old
         }
-        Err(RingFull) => 255,
+        Err(RingFull) => u8::MAX,
     }
 }
 
@@ -156,12 +156,16 @@ fn number_of(done: Option<Done>) -> Option<usize> {
 /// A job's number and zero bytes, the number of the job that comes back, and how many wait then.
 type Step = (u8, u32, Option<usize>, u32);
 
-/// The rests are 4, 5, 4 and 6. The full run by 4 ends the first and the third job.
-const STEPS: [Step; 4] = [
+/// The rests are 4, 5, 4 and 6, twice. The full run by 4 ends every other job.
+const STEPS: [Step; 8] = [
     (0, 0, None, 1),
     (1, 112, None, 2),
     (2, 0, None, 3),
-    (3, 300, Some(0), 2),
+    (3, 300, None, 4),
+    (4, 0, None, 5),
+    (5, 112, None, 6),
+    (6, 0, None, 7),
+    (7, 300, Some(0), 4),
 ];
 
 fn check_waiting(rt: &impl Abort, manager: &Manager, wanted: u32) {
@@ -184,14 +188,15 @@ fn submit_each(rt: &impl Abort, alloc: Global, manager: &mut Manager) -> Result<
 /// The flush runs by 1, twice.
 fn flush_each(rt: &impl Abort, manager: &mut Manager) {
     expect(rt, "none", number_of(manager.get_completed()), None);
-    for back in [Some(1), Some(2), Some(3), None] {
-        expect(rt, "back", number_of(manager.flush()), back);
+    for number in 1..STEPS.len() {
+        expect(rt, "back", number_of(manager.flush()), Some(number));
     }
+    expect(rt, "no more", number_of(manager.flush()), None);
 }
 
 fn check_counts(rt: &impl Abort, manager: &Manager) {
     expect(rt, "rounds", manager.rounds(Kind::HmacSha512), 4);
-    expect(rt, "blocks", manager.blocks(Kind::HmacSha512), 16);
+    expect(rt, "blocks", manager.blocks(Kind::HmacSha512), 32);
     expect(rt, "flush runs", manager.flush_runs(), 2);
 }
 

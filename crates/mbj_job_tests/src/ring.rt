@@ -49,7 +49,7 @@ fn fill(ring: &mut Ring<u32>)
 }
 
 fn check_full(rt: &impl Abort, ring: &mut Ring<u32>) {
-    expect(rt, "values", ring.len(), 256);
+    expect(rt, "values", ring.len(), CELLS);
     for value in 0..CELLS {
         expect(rt, "in order", ring.pop(), Some(value));
     }
@@ -122,7 +122,7 @@ fn replace(rt: &impl Abort, ring: &mut Ring<u32>, value: u32)
     ensures first { ring.new.first < CELLS }
 {
     let place = push(ring, value);
-    expect(rt, "place", place, value % 256);
+    expect(rt, "place", place, value % CELLS);
     *ring.at_mut(place) += 1000;
     if let Some(first) = ring.front_mut() {
         *first = first.wrapping_add(1);

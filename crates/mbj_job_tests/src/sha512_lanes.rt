@@ -1,6 +1,7 @@
 use crate::compare::expect;
-use crate::message::padded;
+use crate::message::{letter_blocks, letters};
 use mbj_sha512_lanes::{compress, compress_lanes};
+use mbj_types::SHA512_LANES;
 use sha2::{Digest, Sha512};
 use std::simd::u64x2;
 
@@ -51,22 +52,12 @@ fn by_sha2(message: &[u8]) -> [u64; 8] {
 }
 
 #[test]
-fn four_messages_have_the_digests_of_the_crate_for_one(rt: HostRuntime) {
-    let mut states = [INITIAL; 4];
-    compress(
-        &mut states,
-        &[
-            padded(b"abc"),
-            padded(&[]),
-            padded(b"message digest"),
-            padded(b"0123456789abcdef0123456789abcde"),
-        ],
-    );
-    expect(&rt, "first", states[0], by_sha2(b"abc"));
-    expect(&rt, "second", states[1], by_sha2(&[]));
-    expect(&rt, "third", states[2], by_sha2(b"message digest"));
-    let fourth = by_sha2(b"0123456789abcdef0123456789abcde");
-    expect(&rt, "fourth", states[3], fourth);
+fn each_message_has_the_digest_of_the_crate_for_one(rt: HostRuntime) {
+    let mut states = [INITIAL; SHA512_LANES];
+    compress(&mut states, &letter_blocks());
+    for i in 0..SHA512_LANES {
+        expect(&rt, "digest", states[i], by_sha2(letters(i)));
+    }
 }
 
 #[test]

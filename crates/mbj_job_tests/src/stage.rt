@@ -2,7 +2,7 @@ ghost use Rattle.std.specs.Mem.{FitsInMemory};
 ghost use Rattle.std.specs.Prelude.{◌≡◌, ◌<◌, None, length};
 ghost use Rattle.mbj_types.specs.Result.{result_of};
 ghost use Rattle.mbj_lane.specs.Rounds.{end_of};
-ghost use Rattle.mbj_stage.specs.Going.{owed};
+ghost use Rattle.mbj_stage.specs.CourseState.{owed};
 ghost use Rattle.mbj_stage.specs.Handing.{IsNext};
 
 use crate::fill::{put, put_block};

@@ -90,8 +90,8 @@ fn a_copied_job_is_equal_and_stands_alone(rt: HostRuntime) -> Result<(), Fail> {
 fn reasons_and_lanes_have_their_numbers(rt: HostRuntime) {
     expect(&rt, "first row", Reason::PacketLong.number(), 1);
     expect(&rt, "last row", Reason::TagLength.number(), 10);
-    expect(&rt, "CMAC", Kind::Cmac256.lanes(), 16);
-    expect(&rt, "SHA-512", Kind::HmacSha512.lanes(), 4);
+    expect(&rt, "CMAC", Kind::Cmac256.lanes(), 32);
+    expect(&rt, "SHA-512", Kind::HmacSha512.lanes(), 8);
     expect(&rt, "name", Kind::ALL[5].name(), "hmac-sha1");
     limits_are_these_numbers();
     kinds_are_told_in_order();
