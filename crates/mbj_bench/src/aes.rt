@@ -7,9 +7,10 @@ use crate::hash::{Hash, TURN_BYTES};
 use crate::hashes;
 use crate::line::{hundredths, print_bytes, print_ratio};
 use mbj_aes::Schedule;
-use mbj_aes_lanes::{LaneKeys, decrypt16, encrypt16};
+use mbj_aes_lanes::{LaneKeys, decrypt32, encrypt32};
 use mbj_cbc::decrypt_in_place;
 use mbj_ctr::apply;
+use mbj_types::{AES_LANES, BLOCK_BYTES};
 use sha1::Sha1;
 use std::io::{self, Print};
 use std::time::{Clock, Instant};
@@ -29,6 +30,9 @@ const IV: u128 = 0xf0f1_f2f3_f4f5_f6f7_f8f9_fafb_fcfd_feff;
 /// The bytes of the longest text.
 const TEXT_BYTES: usize = 1500;
 
+/// The bytes of a block in each lane.
+const LANES_BYTES: u32 = (AES_LANES * BLOCK_BYTES) as u32;
+
 /// The bytes of a schedule of 10 rounds.
 const SCHEDULE_BYTES: u32 = 176;
 
@@ -40,9 +44,9 @@ const PASSES: u32 = 50;
 /// A call, and how many rounds or bytes of text.
 #[derive(Clone, Copy)]
 enum Call {
-    /// Sixteen blocks under one key of so many rounds.
-    Encrypt16(u32),
-    Decrypt16(u32),
+    /// A block in each lane, under one key of so many rounds.
+    Encrypt(u32),
+    Decrypt(u32),
     /// A schedule of 10 rounds put in one lane.
     Put,
     /// A schedule of 10 rounds made of its key.
@@ -56,12 +60,12 @@ enum Call {
 
 /// The calls that are timed, by their names.
 const CALLS: [(&str, Call); 14] = [
-    ("encrypt16, 10 rounds", Call::Encrypt16(10)),
-    ("encrypt16, 12 rounds", Call::Encrypt16(12)),
-    ("encrypt16, 14 rounds", Call::Encrypt16(14)),
-    ("decrypt16, 10 rounds", Call::Decrypt16(10)),
-    ("decrypt16, 12 rounds", Call::Decrypt16(12)),
-    ("decrypt16, 14 rounds", Call::Decrypt16(14)),
+    ("encrypt32, 10 rounds", Call::Encrypt(10)),
+    ("encrypt32, 12 rounds", Call::Encrypt(12)),
+    ("encrypt32, 14 rounds", Call::Encrypt(14)),
+    ("decrypt32, 10 rounds", Call::Decrypt(10)),
+    ("decrypt32, 12 rounds", Call::Decrypt(12)),
+    ("decrypt32, 14 rounds", Call::Decrypt(14)),
     ("put", Call::Put),
     ("expand", Call::Expand),
     ("ctr, 64 bytes", Call::Ctr(64)),
@@ -77,7 +81,7 @@ impl Call {
     /// The bytes of text, or of schedule, of one turn.
     fn bytes(self) -> u32 {
         match self {
-            Call::Encrypt16(_) | Call::Decrypt16(_) => 256,
+            Call::Encrypt(_) | Call::Decrypt(_) => LANES_BYTES,
             Call::Put | Call::Expand => SCHEDULE_BYTES,
             Call::Ctr(len) | Call::CbcDecryption(len) => len.min(TEXT_BYTES) as u32,
             Call::PlainSha1 => TURN_BYTES as u32,
@@ -93,14 +97,14 @@ impl Call {
 /// What the calls work on.
 #[derive(Drop)]
 struct Texts {
-    blocks: [[u8; 16]; 16],
+    blocks: [[u8; 16]; AES_LANES],
     text: [u8; TEXT_BYTES],
 }
 
 /// New texts.
 fn filled_texts() -> Texts {
     let mut texts = Texts {
-        blocks: [[0; 16]; 16],
+        blocks: [[0; 16]; AES_LANES],
         text: [0; TEXT_BYTES],
     };
     fill(texts.blocks.as_flattened_mut());
@@ -126,38 +130,38 @@ fn schedule(rounds: u32) -> Schedule {
 }
 
 /// Enciphers the blocks by turns, under one key of so many rounds.
-fn encrypt(rounds: u32, blocks: &mut [[u8; 16]; 16], turns: u32) {
+fn encrypt(rounds: u32, blocks: &mut [[u8; 16]; AES_LANES], turns: u32) {
     let keys = LaneKeys::all(&schedule(rounds));
     for _ in 0..turns {
-        encrypt16(&keys, blocks);
+        encrypt32(&keys, blocks);
     }
 }
 
 /// Deciphers them.
-fn decrypt(rounds: u32, blocks: &mut [[u8; 16]; 16], turns: u32) {
+fn decrypt(rounds: u32, blocks: &mut [[u8; 16]; AES_LANES], turns: u32) {
     let keys = LaneKeys::all(&schedule(rounds));
     for _ in 0..turns {
-        decrypt16(&keys, blocks);
+        decrypt32(&keys, blocks);
     }
 }
 
 /// Puts a schedule in the lanes by turns, and enciphers the blocks under what is there then.
-fn put(blocks: &mut [[u8; 16]; 16], turns: u32) {
+fn put(blocks: &mut [[u8; 16]; AES_LANES], turns: u32) {
     let key = schedule_from(0);
     let mut keys = LaneKeys::all(&key);
     'turns: for turn in 0..turns {
-        keys.put(turn % 16, &key);
+        keys.put(turn % AES_LANES as u32, &key);
     }
-    encrypt16(&keys, blocks);
+    encrypt32(&keys, blocks);
 }
 
-/// Sixteen keys of 10 rounds, that in lane i being the bytes of KEY from i on.
-fn sixteen_keys() -> LaneKeys
+/// Keys of 10 rounds, that in lane i being the bytes of KEY from i % 16 on.
+fn keys_of_lanes() -> LaneKeys
     ensures { IsFull result }
 {
     let mut keys = LaneKeys::all(&schedule_from(0));
-    'lanes: for lane in 0..16u32 {
-        keys.put(lane, &schedule_from(lane as usize));
+    'lanes: for lane in 0..AES_LANES as u32 {
+        keys.put(lane, &schedule_from(lane as usize % 16));
     }
     keys
 }
@@ -188,8 +192,8 @@ fn cbc_decryption(text: &mut [u8], turns: u32)
 /// Runs the call for some turns, and answers a word that its result depends on.
 fn run(call: Call, texts: &mut Texts, turns: u32) -> u64 {
     match call {
-        Call::Encrypt16(rounds) => encrypt(rounds, &mut texts.blocks, turns),
-        Call::Decrypt16(rounds) => decrypt(rounds, &mut texts.blocks, turns),
+        Call::Encrypt(rounds) => encrypt(rounds, &mut texts.blocks, turns),
+        Call::Decrypt(rounds) => decrypt(rounds, &mut texts.blocks, turns),
         Call::Put => put(&mut texts.blocks, turns),
         Call::Expand => expand(&mut texts.blocks[0], turns),
         Call::Ctr(len) => ctr(&mut texts.text[..len.min(TEXT_BYTES)], turns),
@@ -201,11 +205,11 @@ fn run(call: Call, texts: &mut Texts, turns: u32) -> u64 {
     (texts.blocks[0][0] ^ texts.text[0]) as u64
 }
 
-/// SHA-1 of what a call makes of new texts in one turn; of `Put` that of the blocks under sixteen keys.
+/// SHA-1 of what a call makes of new texts in one turn; of `Put` that of the blocks under a key for each lane.
 fn digest(call: Call) -> [u8; 20] {
     let mut texts = filled_texts();
     match call {
-        Call::Put => encrypt16(&sixteen_keys(), &mut texts.blocks),
+        Call::Put => encrypt32(&keys_of_lanes(), &mut texts.blocks),
         _ => {
             run(call, &mut texts, 1);
         }

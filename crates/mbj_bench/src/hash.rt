@@ -8,7 +8,7 @@ use std::io::{self, Print};
 use std::time::{Clock, Instant};
 
 /// How many bytes a turn of each form hashes.
-pub const TURN_BYTES: usize = 512;
+pub const TURN_BYTES: usize = 1024;
 
 /// The forms of a compression that are timed beside one another.
 #[derive(Clone, Copy)]
@@ -41,7 +41,7 @@ const PASSES: u32 = 100;
 /// A hash whose compression is timed. A form of it leads the initial hash value in each lane through a block of its own by
 /// so many calls, and answers the hash value of one lane.
 pub trait Hash {
-    /// As many blocks as a wide vector has lanes.
+    /// As many blocks as the arrays have.
     type Blocks: Copy;
 
     const NAME: &'static str;
@@ -52,7 +52,7 @@ pub trait Hash {
     /// Blocks of sevens.
     const SEVENS: Self::Blocks;
 
-    /// The padded blocks of "abc" and of the empty message, by turns.
+    /// The padded block of "abc" in the first place, and that of the empty message in the others.
     fn short_blocks() -> Self::Blocks;
 
     /// Vectors of 128 bits.
@@ -118,12 +118,13 @@ pub fn widened<const N: usize>(words: &[u32; N]) -> [u64; 8] {
     wide
 }
 
-/// Runs a form of a hash for some turns, and answers a word that its result depends on. A narrow form has two calls a turn.
+/// Runs a form of a hash for some turns, and answers a word that its result depends on. A vector has a half or a quarter of
+/// the lanes that the arrays fill, and so many more calls a turn.
 fn run<H: Hash>(form: Form, turns: u32) -> u64 {
     match form {
         Form::Plain => H::plain(turns),
-        Form::Narrow => H::narrow(&H::SEVENS, turns.saturating_mul(2), 0)[0],
-        Form::Wide => H::wide(&H::SEVENS, turns, 0)[0],
+        Form::Narrow => H::narrow(&H::SEVENS, turns.saturating_mul(4), 0)[0],
+        Form::Wide => H::wide(&H::SEVENS, turns.saturating_mul(2), 0)[0],
         Form::Arrays => H::arrays(&H::SEVENS, turns, 0)[0],
     }
 }

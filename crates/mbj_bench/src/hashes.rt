@@ -6,21 +6,18 @@ use crate::line::{print_bytes, print_words};
 use crate::vector::Vector;
 use mbj_hmac::{LaneHash, Sha1Lanes, Sha256Lanes, Sha512Lanes};
 use mbj_sha_lanes::{Load32, Load64};
-use mbj_types::{HashName, Lane32, Lane64};
+use mbj_types::{HashName, Lane32, Lane64, SHA1_LANES, SHA256_LANES, SHA512_LANES};
 use sha2::Digest;
 use std::io::{self, Print};
 use std::simd::{u32x4, u32x8, u64x2, u64x4};
 use std::time::Clock;
 
-/// The blocks of a turn: one in each lane of a wide vector.
-type Blocks32 = [[u8; 64]; 8];
+// The blocks that a call of `compress` takes are as many bytes for each hash.
+const _: () = prove!(64 * SHA1_LANES == TURN_BYTES);
 
-type Blocks64 = [[u8; 128]; 4];
+const _: () = prove!(64 * SHA256_LANES == TURN_BYTES);
 
-// They are as many bytes.
-const _: () = prove!(size_of::<Blocks32>() == TURN_BYTES);
-
-const _: () = prove!(size_of::<Blocks64>() == TURN_BYTES);
+const _: () = prove!(128 * SHA512_LANES == TURN_BYTES);
 
 /// The two-block message of the standard's example for SHA-1 and SHA-256, of 448 bits.
 const MESSAGE_448: &[u8] = b"abcdbcdecdefdefgefghfghighijhijkijkljklmklmnlmnomnopnopq";
@@ -47,31 +44,32 @@ fn padded<const N: usize>(message: &[u8]) -> [u8; N]
 pub struct Sha1;
 
 impl Hash for Sha1 {
-    type Blocks = Blocks32;
+    type Blocks = [[u8; 64]; SHA1_LANES];
 
     const NAME: &'static str = "sha1";
 
     const LANES: [&'static str; 2] = ["4 lanes", "8 lanes"];
 
-    const SEVENS: Blocks32 = [[7; 64]; 8];
+    const SEVENS: Self::Blocks = [[7; 64]; SHA1_LANES];
 
-    fn short_blocks() -> Blocks32 {
-        let (abc, empty) = (padded(b"abc"), padded(b""));
-        [abc, empty, abc, empty, abc, empty, abc, empty]
+    fn short_blocks() -> Self::Blocks {
+        let mut blocks = [padded(b""); SHA1_LANES];
+        blocks[0] = padded(b"abc");
+        blocks
     }
 
-    fn narrow(blocks: &Blocks32, calls: u32, lane: usize) -> [u64; 8] {
+    fn narrow(blocks: &Self::Blocks, calls: u32, lane: usize) -> [u64; 8] {
         let mut words = u32x8::block_words(blocks).map(|lanes| lanes.extract::<0, 4>());
         lead::<u32x4, Sha1>(&mut [u32x4::splat(0); 5], &mut words, calls, lane)
     }
 
-    fn wide(blocks: &Blocks32, calls: u32, lane: usize) -> [u64; 8] {
+    fn wide(blocks: &Self::Blocks, calls: u32, lane: usize) -> [u64; 8] {
         let mut words = u32x8::block_words(blocks);
         lead::<u32x8, Sha1>(&mut [u32x8::splat(0); 5], &mut words, calls, lane)
     }
 
-    fn arrays(blocks: &Blocks32, calls: u32, lane: usize) -> [u64; 8] {
-        let mut states = [Sha1Lanes::initial(HashName::Sha1); 8];
+    fn arrays(blocks: &Self::Blocks, calls: u32, lane: usize) -> [u64; 8] {
+        let mut states = [Sha1Lanes::initial(HashName::Sha1); SHA1_LANES];
         for _ in 0..calls {
             mbj_sha1_lanes::compress(&mut states, blocks);
         }
@@ -79,11 +77,11 @@ impl Hash for Sha1 {
     }
 
     fn long_digest() -> [u64; 8] {
-        let mut states = [Sha1Lanes::initial(HashName::Sha1); 8];
+        let mut states = [Sha1Lanes::initial(HashName::Sha1); SHA1_LANES];
         for block in padded::<128>(MESSAGE_448).as_chunks::<64>().0 {
-            mbj_sha1_lanes::compress(&mut states, &[*block; 8]);
+            mbj_sha1_lanes::compress(&mut states, &[*block; SHA1_LANES]);
         }
-        widened(&states[7])
+        widened(&states[SHA1_LANES - 1])
     }
 
     fn plain(turns: u32) -> u64 {
@@ -115,31 +113,32 @@ impl<V: Vector + Lane32> Compression<V> for Sha1 {
 pub struct Sha256;
 
 impl Hash for Sha256 {
-    type Blocks = Blocks32;
+    type Blocks = [[u8; 64]; SHA256_LANES];
 
     const NAME: &'static str = "sha256";
 
     const LANES: [&'static str; 2] = ["4 lanes", "8 lanes"];
 
-    const SEVENS: Blocks32 = [[7; 64]; 8];
+    const SEVENS: Self::Blocks = [[7; 64]; SHA256_LANES];
 
-    fn short_blocks() -> Blocks32 {
-        let (abc, empty) = (padded(b"abc"), padded(b""));
-        [abc, empty, abc, empty, abc, empty, abc, empty]
+    fn short_blocks() -> Self::Blocks {
+        let mut blocks = [padded(b""); SHA256_LANES];
+        blocks[0] = padded(b"abc");
+        blocks
     }
 
-    fn narrow(blocks: &Blocks32, calls: u32, lane: usize) -> [u64; 8] {
+    fn narrow(blocks: &Self::Blocks, calls: u32, lane: usize) -> [u64; 8] {
         let mut words = u32x8::block_words(blocks).map(|lanes| lanes.extract::<0, 4>());
         lead::<u32x4, Sha256>(&mut [u32x4::splat(0); 8], &mut words, calls, lane)
     }
 
-    fn wide(blocks: &Blocks32, calls: u32, lane: usize) -> [u64; 8] {
+    fn wide(blocks: &Self::Blocks, calls: u32, lane: usize) -> [u64; 8] {
         let mut words = u32x8::block_words(blocks);
         lead::<u32x8, Sha256>(&mut [u32x8::splat(0); 8], &mut words, calls, lane)
     }
 
-    fn arrays(blocks: &Blocks32, calls: u32, lane: usize) -> [u64; 8] {
-        let mut states = [Sha256Lanes::initial(HashName::Sha256); 8];
+    fn arrays(blocks: &Self::Blocks, calls: u32, lane: usize) -> [u64; 8] {
+        let mut states = [Sha256Lanes::initial(HashName::Sha256); SHA256_LANES];
         for _ in 0..calls {
             mbj_sha256_lanes::compress(&mut states, blocks);
         }
@@ -147,11 +146,11 @@ impl Hash for Sha256 {
     }
 
     fn long_digest() -> [u64; 8] {
-        let mut states = [Sha256Lanes::initial(HashName::Sha256); 8];
+        let mut states = [Sha256Lanes::initial(HashName::Sha256); SHA256_LANES];
         for block in padded::<128>(MESSAGE_448).as_chunks::<64>().0 {
-            mbj_sha256_lanes::compress(&mut states, &[*block; 8]);
+            mbj_sha256_lanes::compress(&mut states, &[*block; SHA256_LANES]);
         }
-        widened(&states[7])
+        widened(&states[SHA256_LANES - 1])
     }
 
     fn plain(turns: u32) -> u64 {
@@ -183,31 +182,32 @@ impl<V: Vector + Lane32> Compression<V> for Sha256 {
 pub struct Sha512;
 
 impl Hash for Sha512 {
-    type Blocks = Blocks64;
+    type Blocks = [[u8; 128]; SHA512_LANES];
 
     const NAME: &'static str = "sha512";
 
     const LANES: [&'static str; 2] = ["2 lanes", "4 lanes"];
 
-    const SEVENS: Blocks64 = [[7; 128]; 4];
+    const SEVENS: Self::Blocks = [[7; 128]; SHA512_LANES];
 
-    fn short_blocks() -> Blocks64 {
-        let (abc, empty) = (padded(b"abc"), padded(b""));
-        [abc, empty, abc, empty]
+    fn short_blocks() -> Self::Blocks {
+        let mut blocks = [padded(b""); SHA512_LANES];
+        blocks[0] = padded(b"abc");
+        blocks
     }
 
-    fn narrow(blocks: &Blocks64, calls: u32, lane: usize) -> [u64; 8] {
+    fn narrow(blocks: &Self::Blocks, calls: u32, lane: usize) -> [u64; 8] {
         let mut words = u64x4::block_words(blocks).map(|lanes| lanes.extract::<0, 2>());
         lead::<u64x2, Sha512>(&mut [u64x2::splat(0); 8], &mut words, calls, lane)
     }
 
-    fn wide(blocks: &Blocks64, calls: u32, lane: usize) -> [u64; 8] {
+    fn wide(blocks: &Self::Blocks, calls: u32, lane: usize) -> [u64; 8] {
         let mut words = u64x4::block_words(blocks);
         lead::<u64x4, Sha512>(&mut [u64x4::splat(0); 8], &mut words, calls, lane)
     }
 
-    fn arrays(blocks: &Blocks64, calls: u32, lane: usize) -> [u64; 8] {
-        let mut states = [Sha512Lanes::initial(HashName::Sha512); 4];
+    fn arrays(blocks: &Self::Blocks, calls: u32, lane: usize) -> [u64; 8] {
+        let mut states = [Sha512Lanes::initial(HashName::Sha512); SHA512_LANES];
         for _ in 0..calls {
             mbj_sha512_lanes::compress(&mut states, blocks);
         }
@@ -215,11 +215,11 @@ impl Hash for Sha512 {
     }
 
     fn long_digest() -> [u64; 8] {
-        let mut states = [Sha512Lanes::initial(HashName::Sha512); 4];
+        let mut states = [Sha512Lanes::initial(HashName::Sha512); SHA512_LANES];
         for block in padded::<256>(MESSAGE_896).as_chunks::<128>().0 {
-            mbj_sha512_lanes::compress(&mut states, &[*block; 4]);
+            mbj_sha512_lanes::compress(&mut states, &[*block; SHA512_LANES]);
         }
-        states[3]
+        states[SHA512_LANES - 1]
     }
 
     fn plain(turns: u32) -> u64 {

@@ -2,7 +2,7 @@
 use Rattle.std.proofs.Common.{ℕ, ◌-◌, ◌/◌, ap, subst, sym, ◌∙◌}
 use Rattle.mbj_aes_lanes.specs.KeyLanes.{IsFull}
 use Rattle.mbj_aes_lanes.proofs.FullLanes.{IsFull-same, IsFull-with_key}
-use Rattle.mbj_bench.proofs.aes.sixteen_keys.Goals as goal
+use Rattle.mbj_bench.proofs.aes.keys_of_lanes.Goals as goal
 
 pub lanes-init : goal.lanes-init
 lanes-init c = (
