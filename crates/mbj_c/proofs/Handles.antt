@@ -24,7 +24,7 @@ use Rattle.std_heap.specs.contracts.Global as heap
 use Rattle.std_heap.proofs.Global.TheLaws as heap_laws
 use Rattle.std_heap.proofs.GlobalToken.{dealloc_token-Testable}
 use Rattle.std_heap.specs.contracts.GlobalAllocator.TheImpl.{ghosts}
-use Rattle.mbj_c.specs.contracts.measured.Measured as measured
+use Rattle.mbj_c.specs.contracts.ranged.RangedManager as ranged
 use Rattle.mbj_c.specs.contracts.handle.Handle as handle
 use Rattle.mbj_c.specs.Inside.Held.{boxed_at, owned_at}
 use Rattle.mbj_c.proofs.RawBoxes.{pair_of}
@@ -34,7 +34,7 @@ Row = handle.the_row
 
 -- what stands behind it
 abbrev pub R : RattleType
-R = measured.the_row
+R = ranged.the_row
 
 -- the allocator
 abbrev pub Z : RattleType

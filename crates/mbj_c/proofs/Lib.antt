@@ -1,4 +1,7 @@
 mod RawBoxes
 mod Handles
-mod Lengths
+mod Crosses
+mod Ranges
+mod Packets
+mod CallLaws
 mod Answered

@@ -6,11 +6,13 @@ use Rattle.mbj_types.specs.declared.job.Dir.{Dir}
 use Rattle.mbj_types.specs.declared.job.Order.{Order}
 use Rattle.mbj_types.specs.declared.job.Auth.{Auth}
 use Rattle.mbj_ring.specs.declared.ring.TheConstants.{CELLS}
-use Rattle.mbj_manager.specs.State.{ManagerState, new_manager, with_open}
+use Rattle.mbj_manager.specs.State.{with_open}
 use Rattle.mbj_c.specs.declared.job.RawJob.{RawJob}
 use Rattle.mbj_c.specs.declared.words.Words.{Words}
 use Rattle.mbj_c.specs.declared.refusal.Refusal.{Refusal}
 use Rattle.mbj_c.specs.declared.refusal.Refusal.TheVariants as refusal
+use Rattle.mbj_c.specs.Ranges.{given_range, narrowed}
+use Rattle.mbj_c.specs.State.{RangedState, new_ranged}
 use Rattle.mbj_c.specs.Words.{ciphers, dirs, orders, auths}
 
 -- the words, where each code is one
@@ -28,13 +30,13 @@ job_with r w = record {
   order = w.order;
   key = r.key.now;
   iv = r.iv.now;
-  cipher_off = r.cipher_off;
-  cipher_len = r.cipher_len;
+  cipher_off = narrowed r.cipher_off;
+  cipher_len = narrowed r.cipher_len;
   auth = w.auth;
   auth_key = r.auth_key.now;
   aad = r.aad.now;
-  hash_off = r.hash_off;
-  hash_len = r.hash_len;
+  hash_off = narrowed r.hash_off;
+  hash_len = narrowed r.hash_len;
   tag_len = r.tag_len;
   packet = r.packet.now;
 }
@@ -43,20 +45,24 @@ job_with r w = record {
 abbrev pub job_said : RawJob → Option Job
 job_said r = option_map (job_with r) (words_said r)
 
+-- the job is the open one
+abbrev pub with_job : Job → RangedState → RangedState
+with_job j k = record k { manager = with_open k.manager j; filled = Some (given_range j) }
+
 -- the job that is said is the open one
-abbrev pub filled_with : Option Job → ManagerState → Result Unit Refusal × ManagerState
-filled_with None m = (Err refusal.Word, m)
-filled_with (Some j) m = (Ok tt, with_open m j)
+abbrev pub filled_with : Option Job → RangedState → Result Unit Refusal × RangedState
+filled_with None k = (Err refusal.Word, k)
+filled_with (Some j) k = (Ok tt, with_job j k)
 
 -- what filling comes to where there is memory: it is refused where no cell is left, and then where a code is none
-abbrev pub filled_in : RawJob → ManagerState → Result Unit Refusal × ManagerState
-filled_in r m = if length m.owed == CELLS then (Err refusal.Full, m) else filled_with (job_said r) m
+abbrev pub filled_in : RawJob → RangedState → Result Unit Refusal × RangedState
+filled_in r k = if length k.manager.owed == CELLS then (Err refusal.Full, k) else filled_with (job_said r) k
 
-abbrev pub filled : RawJob → Option ManagerState → Result Unit Refusal × Option ManagerState
+abbrev pub filled : RawJob → Option RangedState → Result Unit Refusal × Option RangedState
 filled r None = (Err refusal.NoManager, None)
-filled r (Some m) = ((filled_in r m).0, Some (filled_in r m).1)
+filled r (Some k) = ((filled_in r k).0, Some (filled_in r k).1)
 
 -- what making a manager comes to where there is memory
-abbrev pub made : Option ManagerState → Result Unit Refusal × Option ManagerState
-made None = (Ok tt, Some new_manager)
-made (Some m) = (Err refusal.HasManager, Some m)
+abbrev pub made : Option RangedState → Result Unit Refusal × Option RangedState
+made None = (Ok tt, Some new_ranged)
+made (Some k) = (Err refusal.HasManager, Some k)

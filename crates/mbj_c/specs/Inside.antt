@@ -1,4 +1,4 @@
 pub mod Held
-pub mod Lengths
+pub mod Ranges
 pub mod Answers
 pub mod Room

@@ -1,6 +1,10 @@
 pub mod Codes
 pub mod Words
+pub mod Ranges
+pub mod State
+pub mod Code
 pub mod Counts
 pub mod Filling
 pub mod Giving
+pub mod Calls
 pub mod Inside

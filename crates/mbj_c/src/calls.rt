@@ -1,9 +1,9 @@
 //! The calls of a handle, which the exports make.
 
 ghost use Rattle.std.specs.Prelude.{◌≡◌, IfOk, false};
-ghost use Rattle.mbj_manager.specs.State.{new_manager};
+ghost use Rattle.mbj_c.specs.State.{new_ranged};
 ghost use Rattle.mbj_c.specs.Filling.{filled, made};
-ghost use Rattle.mbj_c.specs.Giving.{IsDrained, IsTold, called};
+ghost use Rattle.mbj_c.specs.Giving.{IsDrained, IsTold, answered};
 ghost use Rattle.mbj_c.specs.declared.giving.Call.TheVariants as calls;
 ghost use Rattle.mbj_c.specs.Counts.{IsCounted, queue_size};
 ghost use Rattle.mbj_c.specs.Inside.Answers.{IsDone};
@@ -12,16 +12,16 @@ use crate::counts::Counts;
 use crate::giving::{Call, RawDone};
 use crate::handle::Handle;
 use crate::job::RawJob;
-use crate::measured::Measured;
+use crate::ranged::RangedManager;
 use crate::refusal::Refusal;
 use crate::words::kind_at;
 use std::alloc::{AllocError, Global};
 
 /// A new manager on the heap.
-fn boxed(alloc: Global) -> Result<Box<Measured>, AllocError>
-    ensures { IfOk result (λ b. b.value ≡ new_manager) }
+fn boxed(alloc: Global) -> Result<Box<RangedManager>, AllocError>
+    ensures { IfOk result (λ b. b.value ≡ new_ranged) }
 {
-    let manager = Measured::new(alloc)?;
+    let manager = RangedManager::new(alloc)?;
     Ok(Box::new(alloc, manager)?)
 }
 
@@ -57,8 +57,8 @@ pub(crate) fn give(
     out: &mut RawDone<'_>,
     refusal: &mut u32,
 ) -> bool
-    ensures state { handle.new.manager ≡ (called call handle.old.manager out.old).1 }
-    ensures told { IsTold (called call handle.old.manager out.old).0 result refusal.new out.old out.new }
+    ensures state { handle.new.manager ≡ (answered call handle.old.manager out.old).1 }
+    ensures told { IsTold (answered call handle.old.manager out.old).0 result refusal.new out.old out.new }
     ensures drained { call ≡ calls.Flush → result ≡ false → refusal.new ≡ 0 → IsDrained handle.old.manager }
 {
     let answer = match handle.take(alloc) {

@@ -1,22 +1,22 @@
 ghost use Rattle.std.specs.Prelude.{◌≡◌, Option, None, Some, option_map};
 ghost use Rattle.std.specs.Coded.{coded_option};
-ghost use Rattle.mbj_manager.specs.State.{ManagerState};
-ghost use Rattle.mbj_c.specs.contracts.measured.Measured.{the_row as measured_row};
+ghost use Rattle.mbj_c.specs.State.{RangedState};
+ghost use Rattle.mbj_c.specs.contracts.ranged.RangedManager.{the_row as ranged_row};
 
-use crate::measured::Measured;
+use crate::ranged::RangedManager;
 use crate::raw_box::RawBox;
 use std::alloc::Global;
-use std::marker::Model;
+use std::marker::{Model, Send};
 use std::mem;
 use std::ptr::null_mut;
 
-/// A manager on the heap, as C holds it: one word, which is null where there is none.
+/// A manager on the heap, as C holds it: one word, which is null where there is none. A handle isn't let go of: what is taken out
+/// of it is freed.
 #[repr(C)]
-#[derive(Drop)]
 pub struct Handle {
     at: *mut u8,
     alloc: Global,
-    pub ghost manager: { Option ManagerState } by { coded_option measured_row.coded },
+    pub ghost manager: { Option RangedState } by { coded_option ranged_row.coded },
 }
 
 impl Model for Handle {
@@ -24,6 +24,8 @@ impl Model for Handle {
 
     ghost also_owns = { λ h. owned_at h.alloc h.at h.manager };
 }
+
+unsafe impl Send for Handle {}
 
 impl Handle {
     /// A handle with no manager.
@@ -36,7 +38,7 @@ impl Handle {
         }
     }
 
-    pub(crate) fn seal(manager: RawBox<Measured, Global>) -> Handle
+    pub(crate) fn seal(manager: RawBox<RangedManager, Global>) -> Handle
         ensures { result.manager ≡ Some manager.value }
     {
         let RawBox { at, alloc } = manager;
@@ -47,7 +49,7 @@ impl Handle {
     }
 
     /// The manager as its box's pointer. Answers `None` exactly where the handle has none.
-    pub(crate) fn unseal(self) -> Option<RawBox<Measured, Global>>
+    pub(crate) fn unseal(self) -> Option<RawBox<RangedManager, Global>>
         ensures { option_map (λ b. b.value) result ≡ self.manager }
     {
         let Handle { at, alloc } = self;
@@ -55,28 +57,34 @@ impl Handle {
             None
         } else {
             Some(RawBox {
-                at: at as *mut Measured,
+                at: at as *mut RangedManager,
                 alloc,
             })
         }
     }
-    /// Takes the manager out. Answers `None` exactly where there is none.
-    pub(crate) fn take(&mut self, alloc: Global) -> Option<Box<Measured>>
-        ensures manager { option_map (λ b. b.value) result ≡ self.old.manager }
-        ensures empty { self.new.manager ≡ None }
+
+    /// The manager as a box. Answers `None` exactly where the handle has none.
+    pub(crate) fn into_manager(self) -> Option<Box<RangedManager>>
+        ensures { option_map (λ b. b.value) result ≡ self.manager }
     {
-        let whole = mem::replace(self, Handle::empty(alloc));
-        match whole.unseal() {
+        match self.unseal() {
             Some(manager) => Some(manager.into_box()),
             None => None,
         }
     }
 
-    /// Puts a manager in, where there is none.
-    pub(crate) fn put(&mut self, manager: Box<Measured>)
-        requires { self.old.manager ≡ None }
+    /// Takes the manager out. Answers `None` exactly where there is none.
+    pub(crate) fn take(&mut self, alloc: Global) -> Option<Box<RangedManager>>
+        ensures manager { option_map (λ b. b.value) result ≡ self.old.manager }
+        ensures empty { self.new.manager ≡ None }
+    {
+        mem::replace(self, Handle::empty(alloc)).into_manager()
+    }
+
+    /// Puts a manager in, in place of what there is, which is freed.
+    pub(crate) fn put(&mut self, manager: Box<RangedManager>)
         ensures { self.new.manager ≡ Some manager.value }
     {
-        *self = Handle::seal(RawBox::from_box(manager));
+        mem::replace(self, Handle::seal(RawBox::from_box(manager))).into_manager();
     }
 }

@@ -1,11 +1,13 @@
 ghost use Rattle.std.specs.Prelude.{◌≡◌, IfOk, IfErr, Some, option_map};
 ghost use Rattle.mbj_c.specs.Filling.{job_said, job_with, words_said};
 
+use crate::range::narrowed;
 use crate::words::{Words, auth_at, cipher_at, dir_at, order_at};
 use mbj_types::{Bytes, Job};
 use std::alloc::{AllocError, Global};
 
-/// A job as C fills it. Bytes are a pointer, which isn't null, and a length.
+/// A job as C fills it. Bytes are a pointer, which isn't null, and a length. Offsets and lengths of ranges are in bytes; one that 32
+/// bits can't hold is past the end of every packet that is accepted.
 #[repr(C)]
 #[derive(Clone, Copy)]
 pub struct RawJob<'a> {
@@ -23,10 +25,10 @@ pub struct RawJob<'a> {
     pub auth_key: &'a [u8],
     pub aad: &'a [u8],
     pub packet: &'a [u8],
-    pub cipher_off: u32,
-    pub cipher_len: u32,
-    pub hash_off: u32,
-    pub hash_len: u32,
+    pub cipher_off: u64,
+    pub cipher_len: u64,
+    pub hash_off: u64,
+    pub hash_len: u64,
     pub tag_len: u8,
 }
 
@@ -69,13 +71,13 @@ impl RawJob<'_> {
             order: words.order,
             key: bytes_of(alloc, self.key)?,
             iv: bytes_of(alloc, self.iv)?,
-            cipher_off: self.cipher_off,
-            cipher_len: self.cipher_len,
+            cipher_off: narrowed(self.cipher_off),
+            cipher_len: narrowed(self.cipher_len),
             auth: words.auth,
             auth_key: bytes_of(alloc, self.auth_key)?,
             aad: bytes_of(alloc, self.aad)?,
-            hash_off: self.hash_off,
-            hash_len: self.hash_len,
+            hash_off: narrowed(self.hash_off),
+            hash_len: narrowed(self.hash_len),
             tag_len: self.tag_len,
             packet: bytes_of(alloc, self.packet)?,
         })

@@ -2,8 +2,8 @@
 //!
 //! A handle holds a manager, or none: C keeps it as one pointer, which is null at first. `mbj_c_new` makes a manager,
 //! `mbj_c_free` frees it. `mbj_c_fill` copies a job of C's into the next cell, and `mbj_c_submit` submits it.
-//! `mbj_c_submit`, `mbj_c_get_completed` and `mbj_c_flush` give results back in the order of submission. Only making a
-//! manager and filling a job take memory.
+//! `mbj_c_submit`, `mbj_c_get_completed` and `mbj_c_flush` give results back in the order of submission: of a packet the
+//! ciphered range alone. Only making a manager and filling a job take memory.
 //!
 //! A call that is refused says so and changes nothing. What a call can't look at is promised by C: that pointers point to
 //! what their types say, that no two of the things that are written overlap each other or anything that is read, and that
@@ -14,7 +14,7 @@ ghost use Rattle.std.specs.Prelude.{◌≡◌, ◌≢◌, None, Ok, false, is_so
 ghost use Rattle.mbj_c.specs.Codes.{code_of, refusal_code};
 ghost use Rattle.mbj_c.specs.Counts.{IsCounted, queue_size};
 ghost use Rattle.mbj_c.specs.Filling.{filled, made};
-ghost use Rattle.mbj_c.specs.Giving.{IsDrained, IsTold, called};
+ghost use Rattle.mbj_c.specs.Giving.{IsDrained, IsTold, answered};
 ghost use Rattle.mbj_c.specs.declared.giving.Call.TheVariants as call;
 ghost use Rattle.mbj_c.specs.declared.refusal.Refusal.TheVariants.{Memory};
 
@@ -23,11 +23,14 @@ mod counts;
 mod giving;
 mod handle;
 mod job;
-mod measured;
+mod laws;
+mod range;
+mod ranged;
 mod raw_box;
 mod refusal;
 #[cfg(test)]
 mod tests;
+mod version;
 mod words;
 
 use crate::giving::Call;
@@ -36,10 +39,24 @@ pub use counts::Counts;
 pub use giving::RawDone;
 pub use handle::Handle;
 pub use job::RawJob;
+pub use laws::{
+    accepted_ranges_are_within_their_packets, packets_change_in_their_range_alone,
+    results_come_back_with_their_ranges,
+};
+pub use range::CipherRange;
 use std::alloc::Global;
 // C holds a handle to it; an exported type names it in its contract.
 #[doc(hidden)]
-pub use measured::Measured;
+pub use ranged::RangedManager;
+pub use version::VERSION;
+
+/// Answers the library's version. A program compares it with that of the header that it was compiled with.
+#[unsafe(no_mangle)]
+pub extern "C" fn mbj_c_version() -> u32
+    ensures { result ≡ VERSION }
+{
+    VERSION
+}
 
 /// Makes a manager. Answers 0, or the code of a refusal: `HasManager` exactly where the handle has one already, else
 /// `Memory` for want of memory.
@@ -62,7 +79,7 @@ pub extern "C" fn mbj_c_free(alloc: Global, handle: &mut Handle) -> bool
     handle.take(alloc).is_some()
 }
 
-/// How many jobs are submitted and not given back, at most 256: 0 where there is no manager.
+/// How many jobs are submitted and not given back, at most `CELLS` of `mbj_ring`: 0 where there is no manager.
 #[unsafe(no_mangle)]
 pub extern "C" fn mbj_c_queue_size(alloc: Global, handle: &mut Handle) -> u32
     ensures size { result ≡ queue_size handle.old.manager }
@@ -87,9 +104,9 @@ pub extern "C" fn mbj_c_count(
 }
 
 /// Fills the next job with a copy of C's, in place of what was filled and not submitted. Answers 0, or the code of a
-/// refusal: `NoManager` exactly where there is no manager; else `Full` exactly where 256 jobs are submitted and not given
+/// refusal: `NoManager` exactly where there is no manager; else `Full` exactly where `CELLS` jobs are submitted and not given
 /// back; else `Word` exactly where a code is no cipher, direction, order or authentication; else `Memory` for want of
-/// memory. A refused call changes nothing.
+/// memory. A refused call changes nothing. Whether the job's arguments are refused shows when its result is given back.
 #[unsafe(no_mangle)]
 pub extern "C" fn mbj_c_fill(alloc: Global, handle: &mut Handle, raw: &RawJob<'_>) -> u32
     ensures want_of_memory { result ≡ refusal_code Memory → (filled raw.now handle.old.manager).0 ≡ Ok tt }
@@ -104,8 +121,9 @@ pub extern "C" fn mbj_c_fill(alloc: Global, handle: &mut Handle, raw: &RawJob<'_
 ///
 /// Answers true exactly where it gives one, which is then written whole; else `out` stays as it was. `refusal` is 0, or the
 /// code of a refusal: `NoManager` exactly where there is no manager; else `NoJob` exactly where no job is filled; else
-/// `NoRoom` exactly where the packet of the result that is given back next, whether it is finished or not, is longer than
-/// its room, or the room for the tag is under 64 bytes.
+/// `NoRoom` exactly where a result is owed and the room for bytes is shorter than the range of the job whose result is given
+/// back next, whether it is finished or not, or the room for the tag is under 64 bytes. A job without a cipher and one that is
+/// refused have a range of no byte.
 #[unsafe(no_mangle)]
 pub extern "C" fn mbj_c_submit(
     alloc: Global,
@@ -113,8 +131,8 @@ pub extern "C" fn mbj_c_submit(
     out: &mut RawDone<'_>,
     refusal: &mut u32,
 ) -> bool
-    ensures state { handle.new.manager ≡ (called call.Submit handle.old.manager out.old).1 }
-    ensures told { IsTold (called call.Submit handle.old.manager out.old).0 result refusal.new out.old out.new }
+    ensures state { handle.new.manager ≡ (answered call.Submit handle.old.manager out.old).1 }
+    ensures told { IsTold (answered call.Submit handle.old.manager out.old).0 result refusal.new out.old out.new }
 {
     calls::give(alloc, handle, Call::Submit, out, refusal)
 }
@@ -128,8 +146,8 @@ pub extern "C" fn mbj_c_get_completed(
     out: &mut RawDone<'_>,
     refusal: &mut u32,
 ) -> bool
-    ensures state { handle.new.manager ≡ (called call.Completed handle.old.manager out.old).1 }
-    ensures told { IsTold (called call.Completed handle.old.manager out.old).0 result refusal.new out.old out.new }
+    ensures state { handle.new.manager ≡ (answered call.Completed handle.old.manager out.old).1 }
+    ensures told { IsTold (answered call.Completed handle.old.manager out.old).0 result refusal.new out.old out.new }
 {
     calls::give(alloc, handle, Call::Completed, out, refusal)
 }
@@ -143,8 +161,8 @@ pub extern "C" fn mbj_c_flush(
     out: &mut RawDone<'_>,
     refusal: &mut u32,
 ) -> bool
-    ensures state { handle.new.manager ≡ (called call.Flush handle.old.manager out.old).1 }
-    ensures told { IsTold (called call.Flush handle.old.manager out.old).0 result refusal.new out.old out.new }
+    ensures state { handle.new.manager ≡ (answered call.Flush handle.old.manager out.old).1 }
+    ensures told { IsTold (answered call.Flush handle.old.manager out.old).0 result refusal.new out.old out.new }
     ensures drained { result ≡ false → refusal.new ≡ 0 → IsDrained handle.old.manager }
 {
     calls::give(alloc, handle, Call::Flush, out, refusal)

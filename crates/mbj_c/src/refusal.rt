@@ -7,7 +7,7 @@ use std::alloc::AllocError;
 /// Why a call is refused. It then changes nothing.
 #[derive(Clone, Copy, Debug, PartialEq, Eq)]
 pub(crate) enum Refusal {
-    /// 256 jobs are submitted and not given back.
+    /// `CELLS` jobs are submitted and not given back.
     Full,
     /// A code is no cipher, direction, order or authentication.
     Word,

@@ -5,7 +5,7 @@ use denote.RawPtr.{Ptr, null_ptr}
 use base.Fml.{Fml, ftrue, fex}
 use Rattle.std_heap.specs.declared.Global.{Global}
 use Rattle.std_heap.specs.contracts.GlobalAllocator.TheImpl.{ghosts}
-use Rattle.mbj_c.specs.contracts.measured.Measured.{the_row}
+use Rattle.mbj_c.specs.contracts.ranged.RangedManager.{the_row}
 
 -- the manager at the pointer, and the right to free its block
 abbrev pub boxed_at : Global → Ptr → the_row.Denot → Fml

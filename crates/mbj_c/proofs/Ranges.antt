@@ -1,0 +1,191 @@
+-- The ranges that are kept beside a manager once it made a call.
+use Rattle.std.proofs.Common.{◌≡◌, ◌<◌, ◌≤◌, ◌+◌, ◌++◌, ℕ, List, [], ◌∷◌, length, drop, map, Option, None, Some, refl, sym, ap, ◌∙◌, subst, arith, length-append}
+use mathlib.Core.Bool.{true≢false}
+use Rattle.std.specs.Prelude.{IsSome, false, option_map, option_to_list, unwrap_or}
+use Rattle.std.proofs.lemmas.List.{append-nil, drop-map, length-map, map-append}
+use Rattle.mbj_types.specs.declared.job.Job.{Job}
+use Rattle.mbj_types.specs.declared.job.Cipher.{Cipher}
+use Rattle.mbj_types.specs.declared.job.Cipher.TheVariants as cipher
+use Rattle.mbj_types.specs.declared.done.Done.{Done}
+use Rattle.mbj_types.specs.declared.reason.Reason.{Reason}
+use Rattle.mbj_types.specs.Result.{result_of}
+use Rattle.mbj_types.specs.Verdict.{verdict, is_null_cipher}
+use Rattle.mbj_args.proofs.Accepted as table
+use Rattle.mbj_ring.specs.declared.ring.TheConstants.{CELLS}
+use Rattle.mbj_ring.specs.Ring.{RingState}
+use Rattle.mbj_stage.proofs.Lengths.{length-result_of}
+use Rattle.mbj_manager.specs.Machine.Stages.{Pending}
+use Rattle.mbj_manager.specs.State.{ManagerState, entered, given_at, with_job}
+use Rattle.mbj_manager.specs.Machine.Course.{flushed}
+use Rattle.mbj_c.specs.declared.giving.Call.{Call}
+use Rattle.mbj_c.specs.declared.giving.Call.TheVariants as call
+use Rattle.mbj_c.specs.declared.range.CipherRange.{CipherRange}
+use Rattle.mbj_c.specs.Giving.{filled_after, given_with, job_entered, manager_step, owed_in, ranges_entered}
+use Rattle.mbj_c.specs.Inside.Ranges.{AreOfJobs, AreRanges}
+use Rattle.mbj_c.specs.Inside.Room.{IsWithin}
+use Rattle.mbj_c.specs.Ranges.{given_range, range_by, written_range}
+
+-- ---- the open job
+
+-- giving back leaves the open job alone
+given-opened : (owed : List Done) (left : List (List Pending)) (m : ManagerState) → (given_at owed left m).1.opened ≡ m.opened
+given-opened [] left m = refl
+given-opened (d ∷ owed) [] m = refl
+given-opened (d ∷ owed) ([] ∷ left) m = refl
+given-opened (d ∷ owed) ((p ∷ ps) ∷ left) m = refl
+
+-- no job is open once it is submitted
+entered-opened : (opened : Option Job) (m : ManagerState) → m.opened ≡ opened → (unwrap_or (option_map (λ j. with_job j m) opened) m).opened ≡ None
+entered-opened None m is = is
+entered-opened (Some j) m is = refl
+
+-- the range of the open job that is left is that of the job that is open then
+pub opened-after : (c : Call) (m : ManagerState) (filled : Option CipherRange) → filled ≡ option_map given_range m.opened
+    → filled_after c filled ≡ option_map given_range (manager_step c m).1.opened
+opened-after call.Submit m filled is =
+    let after = entered m in
+    ap (option_map given_range) (sym (given-opened after.owed after.machine.left after ∙ entered-opened m.opened m refl))
+opened-after call.Completed m filled is = is ∙ ap (option_map given_range) (sym (given-opened m.owed m.machine.left m))
+opened-after call.Flush m filled is =
+    let after : ManagerState = record m { machine = flushed m.machine } in
+    is ∙ ap (option_map given_range) (sym (given-opened after.owed after.machine.left after))
+
+-- a job is open after the call only where it was open before, and no result joined those that are owed
+room-after : (c : Call) (m after : ManagerState) (given : Option Done) → after ≡ (manager_step c m).1 → option_to_list given ++ after.owed ≡ owed_in c m
+    → (IsSome m.opened → length m.owed < CELLS) → IsSome after.opened → length after.owed < CELLS
+room-after call.Submit m after given is order room is_open =
+    let none : after.opened ≡ None = ap (λ n. n.opened) is ∙ given-opened (entered m).owed (entered m).machine.left (entered m) ∙ entered-opened m.opened m refl in
+    absurd (true≢false (sym (subst IsSome none is_open)))
+room-after call.Completed m after given is order room is_open =
+    let same : after.opened ≡ m.opened = ap (λ n. n.opened) is ∙ given-opened m.owed m.machine.left m in
+    let few = room (subst IsSome same is_open) in
+    omega (arith, ap length order, length-append (option_to_list given) after.owed)
+room-after call.Flush m after given is order room is_open =
+    let flushing : ManagerState = record m { machine = flushed m.machine } in
+    let same : after.opened ≡ m.opened = ap (λ n. n.opened) is ∙ given-opened m.owed flushing.machine.left flushing in
+    let few = room (subst IsSome same is_open) in
+    omega (arith, ap length order, length-append (option_to_list given) after.owed)
+
+-- ---- the jobs
+
+-- the list of an optional value's image
+list-of-map : {A B : Type 0} (f : A → B) (o : Option A) → option_to_list (option_map f o) ≡ map f (option_to_list o)
+list-of-map f None = refl
+list-of-map f (Some x) = refl
+
+-- with the job that is submitted, the results that are owed are those of the jobs again
+pub results-in : (c : Call) (m : ManagerState) (jobs : List Job) → m.owed ≡ map result_of jobs
+    → owed_in c m ≡ map result_of (jobs ++ job_entered c m.opened)
+results-in call.Submit m jobs are =
+    ap (λ ds. ds ++ map result_of (option_to_list m.opened)) are ∙ sym (map-append result_of jobs (option_to_list m.opened))
+results-in call.Completed m jobs are = are ∙ ap (map result_of) (sym (append-nil jobs))
+results-in call.Flush m jobs are = are ∙ ap (map result_of) (sym (append-nil jobs))
+
+-- and so are the ranges
+pub ranges-in : (c : Call) (opened : Option Job) (ranges : List CipherRange) (filled : Option CipherRange) (jobs : List Job)
+    → ranges ≡ map given_range jobs → filled ≡ option_map given_range opened
+    → ranges ++ ranges_entered c filled ≡ map given_range (jobs ++ job_entered c opened)
+ranges-in call.Submit opened ranges filled jobs are is =
+    ap (λ rs. rs ++ option_to_list filled) are
+    ∙ ap (λ o. map given_range jobs ++ option_to_list o) is
+    ∙ ap (λ rs. map given_range jobs ++ rs) (list-of-map given_range opened)
+    ∙ sym (map-append given_range jobs (option_to_list opened))
+ranges-in call.Completed opened ranges filled jobs are is = append-nil ranges ∙ are ∙ ap (map given_range) (sym (append-nil jobs))
+ranges-in call.Flush opened ranges filled jobs are is = append-nil ranges ∙ are ∙ ap (map given_range) (sym (append-nil jobs))
+
+-- the first job goes with its result
+pub results-left : (done : Option Done) (after owed : List Done) (jobs : List Job) → option_to_list done ++ after ≡ owed
+    → owed ≡ map result_of jobs → after ≡ map result_of (drop (length (option_to_list done)) jobs)
+results-left None after owed jobs order are = order ∙ are
+results-left (Some d) after owed jobs order are = ap (drop 1) (order ∙ are) ∙ drop-map result_of 1 jobs
+
+-- and so does its range
+pub ranges-left : (done : Option Done) (ranges : List CipherRange) (jobs : List Job) → ranges ≡ map given_range jobs
+    → drop (length (option_to_list done)) ranges ≡ map given_range (drop (length (option_to_list done)) jobs)
+ranges-left done ranges jobs are = ap (drop (length (option_to_list done))) are ∙ drop-map given_range (length (option_to_list done)) jobs
+
+-- ---- the range of a result
+
+written-within : (c : Cipher) (j : Job) (n : ℕ) → (is_null_cipher c ≡ false → j.cipher_off + j.cipher_len ≤ n)
+    → (written_range c j).off + (written_range c j).len ≤ n
+written-within cipher.Null j n inside = omega arith
+written-within cipher.Cbc j n inside = inside refl
+written-within cipher.Ctr j n inside = inside refl
+written-within cipher.Gcm j n inside = inside refl
+
+range-within : (reason : Option Reason) (j : Job) → verdict j ≡ reason
+    → (range_by reason j).off + (range_by reason j).len ≤ length j.packet
+range-within None j none = written-within j.cipher j (length j.packet) (table.accepted j (length j.packet) none).cipher_range
+range-within (Some reason) j some = omega arith
+
+-- it is within the packet
+pub given-within : (j : Job) → (given_range j).off + (given_range j).len ≤ length (result_of j).packet
+given-within j = subst (λ n. (given_range j).off + (given_range j).len ≤ n) (sym (length-result_of j)) (range-within (verdict j) j refl)
+
+-- the first result, or another where there is none
+abbrev pub head_or : Done → List Done → Done
+head_or d [] = d
+head_or d (e ∷ es) = e
+
+pub result-within : (done : Option Done) (after : List Done) (jobs : List Job) → option_to_list done ++ after ≡ map result_of jobs
+    → IsWithin (given_with done (map given_range jobs))
+result-within None after jobs order = tt
+result-within (Some d) after [] order = absurd (cc)
+result-within (Some d) after (j ∷ jobs) order =
+    subst (λ (e : Done). (given_range j).off + (given_range j).len ≤ length e.packet) (sym (ap (head_or d) order)) (given-within j)
+
+-- ---- a call
+
+-- the results that are owed and the ranges, once a call's job is submitted
+pub of-jobs-in : (c : Call) (m : ManagerState) (ranges : List CipherRange) (filled : Option CipherRange)
+    → AreOfJobs m.owed ranges → filled ≡ option_map given_range m.opened → AreOfJobs (owed_in c m) (ranges ++ ranges_entered c filled)
+of-jobs-in c m ranges filled are is = record {
+  jobs = are.jobs ++ job_entered c m.opened;
+  results = results-in c m are.jobs are.results;
+  given = ranges-in c m.opened ranges filled are.jobs are.given is;
+}
+
+of-jobs-left : (done : Option Done) (after owed : List Done) (ranges : List CipherRange) → option_to_list done ++ after ≡ owed
+    → AreOfJobs owed ranges → AreOfJobs after (drop (length (option_to_list done)) ranges)
+of-jobs-left done after owed ranges order are = record {
+  jobs = drop (length (option_to_list done)) are.jobs;
+  results = results-left done after owed are.jobs order are.results;
+  given = ranges-left done ranges are.jobs are.given;
+}
+
+-- where a range is filled, a job is open
+some-opened : (opened : Option Job) (filled : Option CipherRange) → filled ≡ option_map given_range opened → IsSome filled → IsSome opened
+some-opened None filled is some = absurd (true≢false (sym (subst IsSome is some)))
+some-opened (Some j) filled is some = refl
+
+-- and then a cell is left for it
+pub room-for-range : (m : ManagerState) (ranges : RingState CipherRange) (filled : Option CipherRange)
+    → AreRanges m ranges filled → IsSome filled → length ranges.values < CELLS
+room-for-range m ranges filled are some =
+    let few = are.room (some-opened m.opened filled are.opened some) in
+    let owed : length m.owed ≡ length are.owed.jobs = ap length are.owed.results ∙ length-map are.owed.jobs result_of in
+    let kept : length ranges.values ≡ length are.owed.jobs = ap length are.owed.given ∙ length-map are.owed.jobs given_range in
+    omega arith
+
+-- the range of what is given back
+pub given-range-within : (c : Call) (m : ManagerState) (done : Option Done) (after : List Done) (ranges : List CipherRange) (filled : Option CipherRange)
+    → AreOfJobs m.owed ranges → filled ≡ option_map given_range m.opened → option_to_list done ++ after ≡ owed_in c m
+    → IsWithin (given_with done (ranges ++ ranges_entered c filled))
+given-range-within c m done after ranges filled are is order =
+    let those = of-jobs-in c m ranges filled are is in
+    subst (λ (rs : List CipherRange). IsWithin (given_with done rs)) (sym those.given)
+    (result-within done after those.jobs (order ∙ those.results))
+
+-- the ranges after a call
+pub ranges-after : (c : Call) (m after : ManagerState) (done : Option Done) (before ranges : RingState CipherRange) (filled left : Option CipherRange)
+    → AreRanges m before filled → after ≡ (manager_step c m).1 → option_to_list done ++ after.owed ≡ owed_in c m
+    → ranges.values ≡ drop (length (option_to_list done)) (before.values ++ ranges_entered c filled) → ranges.opened ≡ None
+    → left ≡ filled_after c filled → AreRanges after ranges left
+ranges-after c m after done before ranges filled left are is order values closed kept = record {
+  owed = subst (AreOfJobs after.owed) (sym values)
+      (of-jobs-left done after.owed (owed_in c m) (before.values ++ ranges_entered c filled) order
+      (of-jobs-in c m before.values filled are.owed are.opened));
+  closed = closed;
+  opened = kept ∙ opened-after c m filled are.opened ∙ ap (λ n. option_map given_range n.opened) (sym is);
+  room = room-after c m after done is order are.room;
+}

@@ -1,0 +1,177 @@
+ghost use Rattle.std.specs.Prelude.{◌≡◌, ◌<◌, ◌++◌, IfOk, IsSome, Ok, None, [], drop, length, option_to_list, slice_get};
+ghost use Rattle.mbj_ring.specs.declared.ring.TheConstants.{CELLS};
+ghost use Rattle.mbj_c.specs.declared.giving.Call.TheVariants as calls;
+ghost use Rattle.mbj_c.specs.Counts.{counts_of};
+ghost use Rattle.mbj_c.specs.Filling.{filled_in};
+ghost use Rattle.mbj_c.specs.Giving.{called_in, filled_after, first_range, given_with, ranges_entered, step};
+ghost use Rattle.mbj_c.specs.Inside.Answers.{IsDone};
+ghost use Rattle.mbj_c.specs.Inside.Room.{HasJob, IsGivenRoom, IsWithin};
+ghost use Rattle.mbj_c.specs.State.{new_ranged};
+
+use crate::counts::Counts;
+use crate::giving::{Call, Given, RawDone};
+use crate::job::RawJob;
+use crate::range::CipherRange;
+use crate::refusal::Refusal;
+use mbj_manager::Manager;
+use mbj_ring::Ring;
+use mbj_types::{Done, Kind};
+use std::alloc::{AllocError, Global};
+use std::marker::Model;
+
+/// A manager, with the ranges that the jobs whose results it owes give back, and that of its open job. So the room for a result
+/// can be looked at before the result is taken, and only its range is given back.
+#[derive(Drop)]
+pub struct RangedManager {
+    manager: Manager,
+    ranges: Ring<CipherRange>,
+    filled: Option<CipherRange>,
+}
+
+impl Model for RangedManager {
+    ghost use Rattle.std.specs.Coded.{codes};
+    ghost use Rattle.mbj_manager.specs.Inside.Code.{state_code};
+    ghost use Rattle.mbj_c.specs.State.{RangedState};
+    ghost use Rattle.mbj_c.specs.Code.{ranged_code};
+    ghost use Rattle.mbj_c.specs.Inside.Ranges.{AreRanges};
+
+    ghost Value = { RangedState };
+
+    ghost coded = { ranged_code (state_code (Prim.hlevel codes)) (Prim.hlevel codes) };
+
+    ghost view = { λ m. record { manager = m.manager; ranges = m.ranges.values; filled = m.filled } };
+
+    ghost invariant = { λ m. AreRanges m.manager m.ranges m.filled };
+}
+
+/// The range of the job that is submitted, where the call submits one, goes last.
+fn enter(ranges: &mut Ring<CipherRange>, filled: &mut Option<CipherRange>, call: Call)
+    requires closed { ranges.old.opened ≡ None }
+    requires room { IsSome filled.old → length ranges.old.values < CELLS }
+    ensures values { ranges.new.values ≡ ranges.old.values ++ ranges_entered call filled.old }
+    ensures closed { ranges.new.opened ≡ None }
+    ensures filled { filled.new ≡ filled_after call filled.old }
+{
+    if call == Call::Submit {
+        if let Some(range) = *filled {
+            ranges.open_cell(range);
+            ranges.commit();
+        }
+        *filled = None;
+    }
+}
+
+/// The first range, which stays.
+fn first_of(ranges: &mut Ring<CipherRange>) -> Option<CipherRange>
+    ensures first { result ≡ slice_get ranges.old.values 0 }
+    ensures same { ranges.new ≡ ranges.old }
+{
+    match ranges.front_mut() {
+        Some(range) => Some(*range),
+        None => None,
+    }
+}
+
+/// The first range goes with a result that is given back.
+fn leave(ranges: &mut Ring<CipherRange>, done: Option<Done>) -> Option<Given>
+    ensures given { result ≡ given_with done ranges.old.values }
+    ensures values { ranges.new.values ≡ drop (length (option_to_list done)) ranges.old.values }
+    ensures same { ranges.new.opened ≡ ranges.old.opened }
+{
+    let done = done?;
+    let range = ranges.pop()?;
+    Some(Given { done, range })
+}
+
+impl RangedManager {
+    /// A manager with no job. It takes all the memory that the manager and the ranges need.
+    ///
+    /// Answers `AllocError` for want of memory.
+    pub(crate) fn new(alloc: Global) -> Result<RangedManager, AllocError>
+        ensures { IfOk result (λ m. m ≡ new_ranged) }
+    {
+        let ranges = Ring::new(alloc)?;
+        let manager = Manager::new(alloc)?;
+        Ok(RangedManager {
+            manager,
+            ranges,
+            filled: None,
+        })
+    }
+
+    pub(crate) fn queue_size(&self) -> u32
+        ensures { result ≡ length self.now.manager.owed }
+    {
+        self.manager.queue_size()
+    }
+
+    pub(crate) fn counts(&self, kind: Kind) -> Counts
+        ensures { result ≡ counts_of kind self.now.manager }
+    {
+        Counts {
+            rounds: self.manager.rounds(kind),
+            blocks: self.manager.blocks(kind),
+            flush_runs: self.manager.flush_runs(),
+            waiting: self.manager.waiting(kind),
+        }
+    }
+
+    /// Fills the next job with a copy of C's. Where it answers a refusal, nothing changes.
+    pub(crate) fn fill(&mut self, alloc: Global, raw: &RawJob<'_>) -> Result<(), Refusal>
+        ensures { IsDone (filled_in raw.now self.old) self.old result self.new }
+    {
+        if self.manager.is_full() {
+            return Err(Refusal::Full);
+        }
+        let Some(words) = raw.words() else {
+            return Err(Refusal::Word);
+        };
+        let job = raw.copied(alloc, words)?;
+        self.filled = Some(CipherRange::given_by(&job));
+        self.manager.put_next(job);
+        Ok(())
+    }
+
+    /// Makes the call, where it isn't refused.
+    pub(crate) fn give(&mut self, call: Call, out: &RawDone<'_>) -> Result<Option<Given>, Refusal>
+        ensures answer { result ≡ (called_in call self.old out.now).0 }
+        ensures state { self.new ≡ (called_in call self.old out.now).1 }
+        ensures room { IsGivenRoom result out.now }
+        ensures drained { call ≡ calls.Flush → result ≡ Ok None → self.old.manager.owed ≡ [] }
+    {
+        if call == Call::Submit && self.filled.is_none() {
+            return Err(Refusal::NoJob);
+        }
+        if !out.has_room(self.first_range(call)) {
+            return Err(Refusal::NoRoom);
+        }
+        Ok(self.step(call))
+    }
+
+    /// The range that the first result that is owed gives back.
+    fn first_range(&mut self, call: Call) -> Option<CipherRange>
+        ensures range { result ≡ first_range call self.old }
+        ensures same { self.new ≡ self.old }
+    {
+        match first_of(&mut self.ranges) {
+            Some(range) => Some(range),
+            None => match call {
+                Call::Submit => self.filled,
+                Call::Completed | Call::Flush => None,
+            },
+        }
+    }
+
+    /// Makes the call, and keeps the ranges with it.
+    fn step(&mut self, call: Call) -> Option<Given>
+        requires { HasJob call self.old.manager }
+        ensures result { result ≡ (step call self.old).0 }
+        ensures state { self.new ≡ (step call self.old).1 }
+        ensures range { IsWithin result }
+        ensures drained { call ≡ calls.Flush → result ≡ None → self.old.manager.owed ≡ [] }
+    {
+        enter(&mut self.ranges, &mut self.filled, call);
+        let done = call.make(&mut self.manager);
+        leave(&mut self.ranges, done)
+    }
+}
