@@ -57,8 +57,11 @@ static void give_up(const char *why) {
 /* ---- this library ---- */
 
 static void fill(MBJ_JOB *job, const struct row *row, size_t len, size_t i) {
+    job->cipher_mode = MBJ_CIPHER_NULL;
+    job->hash_alg = MBJ_AUTH_NULL;
     job->packet = packets[i];
     job->packet_len_in_bytes = len;
+    job->dst = packets[i];
     job->auth_tag_output = tags[i];
     job->auth_tag_output_len_in_bytes = row->tag_len;
     switch (row->algorithm) {
@@ -74,7 +77,7 @@ static void fill(MBJ_JOB *job, const struct row *row, size_t len, size_t i) {
                                                          : MBJ_AUTH_AES_CMAC;
         job->auth_key = key;
         job->auth_key_len_in_bytes = row->algorithm == CMAC ? 16 : row->tag_len;
-        job->msg_len_to_hash_in_bytes = (uint32_t)len;
+        job->msg_len_to_hash_in_bytes = len;
         return;
     case CBC:
     case CTR:
@@ -84,9 +87,9 @@ static void fill(MBJ_JOB *job, const struct row *row, size_t len, size_t i) {
         job->key_len_in_bytes = 16;
         job->iv = iv;
         job->iv_len_in_bytes = row->algorithm == CBC ? 16 : 12;
-        job->msg_len_to_cipher_in_bytes = (uint32_t)len;
+        job->msg_len_to_cipher_in_bytes = len;
         if (row->algorithm == GCM) {
-            job->hash_alg = MBJ_AUTH_AES_GMAC;
+            job->hash_alg = MBJ_AUTH_GCM;
             job->aad = aad;
             job->aad_len_in_bytes = AAD_LEN;
         }

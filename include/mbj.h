@@ -1,10 +1,14 @@
 /* Pulvezant's job manager, for C11 and C++17.
  *
  * The first part declares what the archive libmbj_c.a exports, which is proved. The second part is the job interface that a user of
- * intel-ipsec-mb knows, as inline C over these exports, which is tested. docs/C.md says how to build, and what differs.
+ * intel-ipsec-mb knows, as inline C over these exports, which is tested. docs/C.md says how to build, what each pointer must stand for
+ * and until when, and what differs.
  *
- * One thread at a time uses a manager. Nothing here is called from a signal handler, or between fork and exec in a process with
- * threads.
+ * One thread at a time uses a manager. Nothing here is called from a signal handler, or in the child of a process with threads that
+ * forked.
+ *
+ * The functions of the second part are static and inline. A C file that defines MBJ_API as nothing before it includes this header makes
+ * real symbols of them, for a program in another language.
  */
 #ifndef MBJ_H
 #define MBJ_H
@@ -15,16 +19,34 @@
 #include <stdlib.h>
 #include <string.h>
 
+/* The version of this header, which is that of the archive that it goes with. */
+#define MBJ_VERSION_MAJOR 0
+#define MBJ_VERSION_MINOR 1
+#define MBJ_VERSION_PATCH 0
+#define MBJ_VERSION_NUM (MBJ_VERSION_MAJOR * 65536 + MBJ_VERSION_MINOR * 256 + MBJ_VERSION_PATCH)
+#define MBJ_QUOTE_(number) #number
+#define MBJ_VERSION_(major, minor, patch) MBJ_QUOTE_(major) "." MBJ_QUOTE_(minor) "." MBJ_QUOTE_(patch)
+#define MBJ_VERSION_STR MBJ_VERSION_(MBJ_VERSION_MAJOR, MBJ_VERSION_MINOR, MBJ_VERSION_PATCH)
+
+#ifndef MBJ_API
+#define MBJ_API static inline
+#endif
+
 #ifdef __cplusplus
+#define MBJ_ASSERT_(condition) static_assert(condition, #condition)
 extern "C" {
+#else
+#define MBJ_ASSERT_(condition) _Static_assert(condition, #condition)
 #endif
 
 /* ---- what the archive exports ---- */
 
-/* A manager, or none: at is NULL at first, and is written by the exports alone. A handle may be moved, and never copied. */
+/* A manager, or none: MBJ_HANDLE_INIT at first, and then written by the exports alone. A handle may be moved, and never copied. */
 struct mbj_handle {
     void *at;
 };
+
+#define MBJ_HANDLE_INIT {NULL}
 
 /* Bytes that are read. at isn't NULL, even where len is 0. */
 struct mbj_bytes {
@@ -38,13 +60,15 @@ struct mbj_room {
     size_t len;
 };
 
-enum mbj_cipher { MBJ_CIPHER_NULL, MBJ_CIPHER_CBC, MBJ_CIPHER_CNTR, MBJ_CIPHER_GCM };
+/* Codes are handed over as uint32_t, so that a number that is no code is one that can be refused. */
+enum mbj_cipher { MBJ_CIPHER_NULL, MBJ_CIPHER_CBC, MBJ_CIPHER_CNTR, MBJ_CIPHER_GCM, MBJ_CIPHER_UNSET = 255 };
 
 enum mbj_dir { MBJ_DIR_ENCRYPT, MBJ_DIR_DECRYPT };
 
 enum mbj_order { MBJ_ORDER_CIPHER_HASH, MBJ_ORDER_HASH_CIPHER };
 
-/* CMAC has keys of 128 or of 256 bits. */
+/* CMAC has keys of 128 or of 256 bits. MBJ_AUTH_GCM is the tag of GCM, and goes with that cipher. 9 to 20 are kept for later: 9 GMAC,
+ * 10 CCM, 11 to 15 hashes without a key, 16 to 20 HMAC from the states of its key. */
 enum mbj_auth {
     MBJ_AUTH_NULL,
     MBJ_AUTH_HMAC_SHA_1,
@@ -54,7 +78,8 @@ enum mbj_auth {
     MBJ_AUTH_HMAC_SHA_512,
     MBJ_AUTH_AES_CMAC,
     MBJ_AUTH_AES_CMAC_256,
-    MBJ_AUTH_AES_GMAC
+    MBJ_AUTH_GCM,
+    MBJ_AUTH_UNSET = 255
 };
 
 /* The kinds of work that is done in lanes. HMAC-SHA-224 goes with SHA-256, and SHA-384 with SHA-512. */
@@ -70,34 +95,55 @@ enum mbj_kind {
     MBJ_KINDS
 };
 
-/* Why a call is refused. A refused call changes nothing. */
+/* Why a call is refused. A refused call changes nothing. mbj_refusal_text has a text for each. */
 enum mbj_refusal {
     MBJ_ERR_NONE,        /* it isn't */
-    MBJ_ERR_FULL,        /* 256 jobs are submitted and not given back */
-    MBJ_ERR_WORD,        /* a code is no cipher, direction, order or authentication */
+    MBJ_ERR_FULL,        /* MBJ_MAX_JOBS jobs are submitted and not given back */
+    MBJ_ERR_WORD,        /* a code is no cipher, direction, order or authentication; mbj_c_fill alone answers this */
     MBJ_ERR_MEMORY,      /* there wasn't memory enough */
     MBJ_ERR_NO_MANAGER,  /* there is no manager */
-    MBJ_ERR_NO_JOB,      /* no job is filled that could be submitted */
+    MBJ_ERR_NO_JOB,      /* no job is filled, or handed out, that could be submitted */
     MBJ_ERR_NO_ROOM,     /* there is too little room for the result that is given back next */
     MBJ_ERR_HAS_MANAGER, /* the handle has a manager already */
-    MBJ_ERR_NULL         /* a pointer to bytes is NULL; the second part alone answers this */
+    MBJ_ERR_NULL,        /* mbj_init_mgr was given no memory */
+    MBJ_ERR_VERSION      /* the archive's version isn't that of the header that the program was compiled with */
 };
 
-/* A job: cipher, dir, order and auth are numbers of the enums above. What the cipher and the authentication don't use is ignored. */
+/* Why a job is refused: what is the matter with its arguments. mbj_reason_text has a text for each, docs/FORMAT.md the table of 1 to 10.
+ * From 100 on the reasons are those of the job interface. */
+enum mbj_reason {
+    MBJ_REASON_NONE,          /* it isn't */
+    MBJ_REASON_PACKET_LONG,   /* the packet is longer than 65,535 bytes */
+    MBJ_REASON_GCM_PAIR,      /* exactly one of cipher and authentication is GCM */
+    MBJ_REASON_CIPHER_KEY,    /* the cipher's key has neither 16, 24 nor 32 bytes */
+    MBJ_REASON_IV_LENGTH,     /* the cipher doesn't take an IV of this length */
+    MBJ_REASON_CIPHER_RANGE,  /* the cipher range passes the packet's end */
+    MBJ_REASON_CIPHER_LENGTH, /* the cipher doesn't take a range of this length */
+    MBJ_REASON_AUTH_KEY,      /* the authentication doesn't take a key of this length */
+    MBJ_REASON_HASH_RANGE,    /* the hash range passes the packet's end */
+    MBJ_REASON_AAD_LONG,      /* the additional data is longer than 65,535 bytes */
+    MBJ_REASON_TAG_LENGTH,    /* the authentication doesn't give a tag of this length */
+    MBJ_REASON_CODE = 100,    /* a code is no cipher, direction, order or authentication, as in a job whose cipher was never set */
+    MBJ_REASON_NULL           /* bytes that the job uses are at NULL */
+};
+
+/* A job: cipher, dir, order and auth are numbers of the enums above. What the cipher and the authentication don't use is ignored. Ranges
+ * are in bytes. */
 struct mbj_raw_job {
     uint32_t cipher, dir, order, auth;
     struct mbj_bytes key, iv, auth_key, aad, packet;
-    uint32_t cipher_off, cipher_len, hash_off, hash_len;
+    uint64_t cipher_off, cipher_len, hash_off, hash_len;
     uint8_t tag_len;
 };
 
 #define MBJ_MAX_TAG_BYTES 64
 
-/* Where a result goes: room for its packet, and 64 bytes of room for its tag. The rest is written with it: the lengths of both,
- * status 0 for a job that was done and 1 for one that was refused, and the number of the reason, 1 to 10, or 0. */
+/* Where a result goes: room for the bytes that were ciphered, and 64 bytes of room for its tag. The rest is written with it: the lengths
+ * of both, status 0 for a job that was done and 1 for one that was refused, and its reason, MBJ_REASON_NONE to MBJ_REASON_TAG_LENGTH. No
+ * bytes are given back of a job without a cipher, or of one that was refused. */
 struct mbj_raw_done {
-    struct mbj_room packet, tag;
-    size_t packet_len;
+    struct mbj_room dst, tag;
+    size_t dst_len;
     uint32_t tag_len, status, reason;
 };
 
@@ -107,6 +153,9 @@ struct mbj_counts {
     uint64_t rounds, blocks, flush_runs;
     uint32_t waiting;
 };
+
+/* The version of the archive: to be compared with MBJ_VERSION_NUM. */
+uint32_t mbj_c_version(void);
 
 /* Makes a manager, and answers MBJ_ERR_NONE, MBJ_ERR_HAS_MANAGER or MBJ_ERR_MEMORY. */
 uint32_t mbj_c_new(struct mbj_handle *);
@@ -131,6 +180,17 @@ bool mbj_c_submit(struct mbj_handle *, struct mbj_raw_done *, uint32_t *refusal)
 bool mbj_c_get_completed(struct mbj_handle *, struct mbj_raw_done *, uint32_t *refusal);
 bool mbj_c_flush(struct mbj_handle *, struct mbj_raw_done *, uint32_t *refusal);
 
+/* The archive was built for this layout. */
+MBJ_ASSERT_(sizeof(void *) == 8 && sizeof(size_t) == 8 && sizeof(bool) == 1);
+MBJ_ASSERT_(sizeof(struct mbj_handle) == 8);
+MBJ_ASSERT_(sizeof(struct mbj_bytes) == 16 && offsetof(struct mbj_bytes, len) == 8);
+MBJ_ASSERT_(sizeof(struct mbj_room) == 16 && offsetof(struct mbj_room, len) == 8);
+MBJ_ASSERT_(sizeof(struct mbj_raw_job) == 136 && offsetof(struct mbj_raw_job, key) == 16);
+MBJ_ASSERT_(offsetof(struct mbj_raw_job, cipher_off) == 96 && offsetof(struct mbj_raw_job, tag_len) == 128);
+MBJ_ASSERT_(sizeof(struct mbj_raw_done) == 56 && offsetof(struct mbj_raw_done, dst_len) == 32);
+MBJ_ASSERT_(offsetof(struct mbj_raw_done, tag_len) == 40 && offsetof(struct mbj_raw_done, reason) == 48);
+MBJ_ASSERT_(sizeof(struct mbj_counts) == 32 && offsetof(struct mbj_counts, waiting) == 24);
+
 /* ---- the job interface ---- */
 
 enum mbj_status {
@@ -140,14 +200,14 @@ enum mbj_status {
     MBJ_STATUS_ERROR         /* the job wasn't submitted: mbj_get_errno says why */
 };
 
-/* A job. From its submission until it is given back its bytes belong to the manager: the packet is written then, and after it the tag,
- * whose bytes may lie inside the packet's. Keys, IV and AAD are copied when it is submitted. */
+/* A job. Its bytes and its keys are copied when it is submitted, and never written: all that it reads may be used anew then. What was
+ * ciphered goes to dst and the tag to auth_tag_output when the job is given back, first the one and then the other. */
 typedef struct mbj_job {
-    enum mbj_cipher cipher_mode;
-    enum mbj_dir cipher_direction;
-    enum mbj_order chain_order;
-    enum mbj_auth hash_alg;
-    const uint8_t *key; /* the cipher's, raw: 16, 24 or 32 bytes */
+    uint32_t cipher_mode;      /* enum mbj_cipher; MBJ_CIPHER_UNSET in a blank job */
+    uint32_t cipher_direction; /* enum mbj_dir */
+    uint32_t chain_order;      /* enum mbj_order */
+    uint32_t hash_alg;         /* enum mbj_auth; MBJ_AUTH_UNSET in a blank job */
+    const uint8_t *key;        /* the cipher's, raw: 16, 24 or 32 bytes */
     size_t key_len_in_bytes;
     const uint8_t *iv;
     size_t iv_len_in_bytes;
@@ -155,61 +215,149 @@ typedef struct mbj_job {
     size_t auth_key_len_in_bytes;
     const uint8_t *aad; /* of GCM */
     size_t aad_len_in_bytes;
-    uint8_t *packet; /* ciphered in place */
+    const uint8_t *packet;
     size_t packet_len_in_bytes;
-    uint32_t cipher_start_src_offset_in_bytes;
-    uint32_t msg_len_to_cipher_in_bytes;
-    uint32_t hash_start_src_offset_in_bytes;
-    uint32_t msg_len_to_hash_in_bytes;
+    uint8_t *dst; /* room for msg_len_to_cipher_in_bytes; packet + cipher_start_src_offset_in_bytes to cipher in place */
+    uint64_t cipher_start_src_offset_in_bytes;
+    uint64_t msg_len_to_cipher_in_bytes;
+    uint64_t hash_start_src_offset_in_bytes;
+    uint64_t msg_len_to_hash_in_bytes;
     uint8_t *auth_tag_output;
     size_t auth_tag_output_len_in_bytes;
-    enum mbj_status status;
-    uint32_t reason; /* why the job was refused, 1 to 10, or 0 */
     void *user_data, *user_data2;
+    enum mbj_status status;
+    uint32_t reason; /* enum mbj_reason: why the job was refused */
 } MBJ_JOB;
 
-#define MBJ_MAX_JOBS 256
+#define MBJ_MAX_JOBS 512
+
+/* Where the result of a submitted job goes. */
+struct mbj_slot {
+    uint8_t *dst, *tag;
+    size_t dst_len, tag_len;
+    uint32_t reason; /* one of the job interface's own, or 0 */
+};
 
 /* A manager and its jobs: those from first on, below next, are submitted and not given back. */
 typedef struct mbj_mgr {
     struct mbj_handle handle;
     uint32_t first, next, error;
     bool is_lent; /* the job at next was handed out and isn't submitted */
-    struct mbj_room packets[MBJ_MAX_JOBS], tags[MBJ_MAX_JOBS];
+    struct mbj_slot slots[MBJ_MAX_JOBS];
     MBJ_JOB jobs[MBJ_MAX_JOBS];
 } MBJ_MGR;
 
-/* Makes a manager; NULL for want of memory. */
-static inline MBJ_MGR *mbj_alloc_mgr(void) {
-    MBJ_MGR *m = (MBJ_MGR *)calloc(1, sizeof *m);
-    if (m != NULL && mbj_c_new(&m->handle) != MBJ_ERR_NONE) {
+MBJ_ASSERT_(sizeof(MBJ_JOB) == 176 && offsetof(MBJ_JOB, key) == 16 && offsetof(MBJ_JOB, packet) == 80 && offsetof(MBJ_JOB, dst) == 96);
+MBJ_ASSERT_(offsetof(MBJ_JOB, auth_tag_output) == 136 && offsetof(MBJ_JOB, user_data) == 152 && offsetof(MBJ_JOB, status) == 168);
+MBJ_ASSERT_(sizeof(struct mbj_slot) == 40 && offsetof(struct mbj_slot, reason) == 32);
+MBJ_ASSERT_(offsetof(MBJ_MGR, slots) == 24 && sizeof(MBJ_MGR) == 24 + MBJ_MAX_JOBS * (40 + sizeof(MBJ_JOB)));
+
+/* The version of this header, as text. */
+MBJ_API const char *mbj_version_text(void) {
+    return MBJ_VERSION_STR;
+}
+
+/* A refusal as text. */
+MBJ_API const char *mbj_refusal_text(uint32_t refusal) {
+    switch (refusal) {
+    case MBJ_ERR_NONE: return "not refused";
+    case MBJ_ERR_FULL: return "MBJ_MAX_JOBS jobs are submitted and not given back";
+    case MBJ_ERR_WORD: return "a code is no cipher, direction, order or authentication";
+    case MBJ_ERR_MEMORY: return "out of memory";
+    case MBJ_ERR_NO_MANAGER: return "there is no manager";
+    case MBJ_ERR_NO_JOB: return "no job was handed out";
+    case MBJ_ERR_NO_ROOM: return "too little room for the next result";
+    case MBJ_ERR_HAS_MANAGER: return "the handle has a manager already";
+    case MBJ_ERR_NULL: return "no memory was given for the manager";
+    case MBJ_ERR_VERSION: return "header and archive have different versions";
+    default: return "no such refusal";
+    }
+}
+
+/* The reason for which a job was refused, as text. */
+MBJ_API const char *mbj_reason_text(uint32_t reason) {
+    switch (reason) {
+    case MBJ_REASON_NONE: return "not refused";
+    case MBJ_REASON_PACKET_LONG: return "the packet is longer than 65,535 bytes";
+    case MBJ_REASON_GCM_PAIR: return "exactly one of cipher and authentication is GCM";
+    case MBJ_REASON_CIPHER_KEY: return "the cipher's key has neither 16, 24 nor 32 bytes";
+    case MBJ_REASON_IV_LENGTH: return "the cipher doesn't take an IV of this length";
+    case MBJ_REASON_CIPHER_RANGE: return "the cipher range passes the packet's end";
+    case MBJ_REASON_CIPHER_LENGTH: return "the cipher doesn't take a range of this length";
+    case MBJ_REASON_AUTH_KEY: return "the authentication doesn't take a key of this length";
+    case MBJ_REASON_HASH_RANGE: return "the hash range passes the packet's end";
+    case MBJ_REASON_AAD_LONG: return "the additional data is longer than 65,535 bytes";
+    case MBJ_REASON_TAG_LENGTH: return "the authentication doesn't give a tag of this length";
+    case MBJ_REASON_CODE: return "a code is no cipher, direction, order or authentication";
+    case MBJ_REASON_NULL: return "bytes that the job uses are at NULL";
+    default: return "no such reason";
+    }
+}
+
+/* Makes a manager in the caller's memory, which then stays where it is until mbj_end_mgr. Answers MBJ_ERR_NONE, or why there is no
+ * manager: MBJ_ERR_NULL, MBJ_ERR_VERSION or MBJ_ERR_MEMORY. A submission is then refused with MBJ_ERR_NO_MANAGER, and mbj_end_mgr does
+ * nothing. */
+MBJ_API enum mbj_refusal mbj_init_mgr(MBJ_MGR *m) {
+    if (m == NULL)
+        return MBJ_ERR_NULL;
+    m->handle.at = NULL;
+    m->first = m->next = 0;
+    m->is_lent = false;
+    m->error = mbj_c_version() == MBJ_VERSION_NUM ? mbj_c_new(&m->handle) : (uint32_t)MBJ_ERR_VERSION;
+    return (enum mbj_refusal)m->error;
+}
+
+/* Frees what mbj_init_mgr took, and neither the caller's memory nor the bytes of jobs. NULL is left alone. */
+MBJ_API void mbj_end_mgr(MBJ_MGR *m) {
+    if (m != NULL)
+        mbj_c_free(&m->handle);
+}
+
+/* Makes a manager; NULL where mbj_init_mgr would refuse. */
+MBJ_API MBJ_MGR *mbj_alloc_mgr(void) {
+    MBJ_MGR *m = (MBJ_MGR *)malloc(sizeof *m);
+    if (m != NULL && mbj_init_mgr(m) != MBJ_ERR_NONE) {
         free(m);
         m = NULL;
     }
     return m;
 }
 
-/* Frees a manager, and nothing of its jobs' bytes. NULL is left alone. */
-static inline void mbj_free_mgr(MBJ_MGR *m) {
-    if (m != NULL) {
-        mbj_c_free(&m->handle);
-        free(m);
-    }
+/* Frees a manager of mbj_alloc_mgr, and nothing of its jobs' bytes. NULL is left alone. */
+MBJ_API void mbj_free_mgr(MBJ_MGR *m) {
+    mbj_end_mgr(m);
+    free(m);
 }
 
 /* Why the last call answered no job: MBJ_ERR_NONE where there was none to give, or the refusal. */
-static inline enum mbj_refusal mbj_get_errno(const MBJ_MGR *m) {
+MBJ_API enum mbj_refusal mbj_get_errno(const MBJ_MGR *m) {
     return m == NULL ? MBJ_ERR_NO_MANAGER : (enum mbj_refusal)m->error;
 }
 
 /* How many jobs are submitted and not given back. */
-static inline uint32_t mbj_queue_size(MBJ_MGR *m) {
+MBJ_API uint32_t mbj_queue_size(MBJ_MGR *m) {
     return m == NULL ? 0 : mbj_c_queue_size(&m->handle);
 }
 
-/* Hands out the next job: a blank one, or the one that was handed out and isn't submitted yet. NULL with MBJ_ERR_FULL where 256 jobs
+static inline void mbj_make_blank_(MBJ_JOB *job) {
+    job->cipher_mode = MBJ_CIPHER_UNSET;
+    job->cipher_direction = MBJ_DIR_ENCRYPT;
+    job->chain_order = MBJ_ORDER_CIPHER_HASH;
+    job->hash_alg = MBJ_AUTH_UNSET;
+    job->key = job->iv = job->auth_key = job->aad = job->packet = NULL;
+    job->key_len_in_bytes = job->iv_len_in_bytes = job->auth_key_len_in_bytes = job->aad_len_in_bytes = job->packet_len_in_bytes = 0;
+    job->dst = job->auth_tag_output = NULL;
+    job->cipher_start_src_offset_in_bytes = job->msg_len_to_cipher_in_bytes = 0;
+    job->hash_start_src_offset_in_bytes = job->msg_len_to_hash_in_bytes = 0;
+    job->auth_tag_output_len_in_bytes = 0;
+    job->user_data = job->user_data2 = NULL;
+    job->status = MBJ_STATUS_BEING_PROCESSED;
+    job->reason = MBJ_REASON_NONE;
+}
+
+/* Hands out the next job: a blank one, or the one that was handed out and isn't submitted yet. NULL with MBJ_ERR_FULL where MBJ_MAX_JOBS jobs
  * are submitted and not given back: nothing is forced then, so flush one. */
-static inline MBJ_JOB *mbj_get_next_job(MBJ_MGR *m) {
+MBJ_API MBJ_JOB *mbj_get_next_job(MBJ_MGR *m) {
     if (m == NULL)
         return NULL;
     if (m->next - m->first == MBJ_MAX_JOBS) {
@@ -218,22 +366,10 @@ static inline MBJ_JOB *mbj_get_next_job(MBJ_MGR *m) {
     }
     MBJ_JOB *job = &m->jobs[m->next % MBJ_MAX_JOBS];
     m->error = MBJ_ERR_NONE;
-    if (!m->is_lent) {
-        memset(job, 0, sizeof *job);
-        m->is_lent = true;
-    }
+    if (!m->is_lent)
+        mbj_make_blank_(job);
+    m->is_lent = true;
     return job;
-}
-
-/* The bytes of a job, or none where it doesn't use them. Bytes at NULL are found by mbj_has_null_. */
-static inline struct mbj_bytes mbj_bytes_(bool is_used, const uint8_t *at, size_t len) {
-    static const uint8_t none[1] = {0};
-    struct mbj_bytes bytes = {none, 0};
-    if (is_used && at != NULL) {
-        bytes.at = at;
-        bytes.len = len;
-    }
-    return bytes;
 }
 
 static inline bool mbj_has_cipher_(const MBJ_JOB *job) {
@@ -245,79 +381,132 @@ static inline bool mbj_has_aad_(const MBJ_JOB *job) {
 }
 
 static inline bool mbj_has_auth_key_(const MBJ_JOB *job) {
-    return job->hash_alg != MBJ_AUTH_NULL && job->hash_alg != MBJ_AUTH_AES_GMAC;
+    return job->hash_alg != MBJ_AUTH_NULL && job->hash_alg != MBJ_AUTH_GCM;
 }
 
 static inline bool mbj_has_tag_(const MBJ_JOB *job) {
     return job->hash_alg != MBJ_AUTH_NULL;
 }
 
+static inline bool mbj_is_null_(bool is_used, const uint8_t *at, uint64_t len) {
+    return is_used && at == NULL && len != 0;
+}
+
 /* Whether the job uses bytes that are at NULL. */
 static inline bool mbj_has_null_(const MBJ_JOB *job) {
-    return (job->packet == NULL && job->packet_len_in_bytes != 0) ||
-           (mbj_has_cipher_(job) && ((job->key == NULL && job->key_len_in_bytes != 0) || (job->iv == NULL && job->iv_len_in_bytes != 0))) ||
-           (mbj_has_aad_(job) && job->aad == NULL && job->aad_len_in_bytes != 0) ||
-           (mbj_has_auth_key_(job) && job->auth_key == NULL && job->auth_key_len_in_bytes != 0) ||
-           (mbj_has_tag_(job) && job->auth_tag_output == NULL && job->auth_tag_output_len_in_bytes != 0);
+    return mbj_is_null_(true, job->packet, job->packet_len_in_bytes) ||
+           mbj_is_null_(mbj_has_cipher_(job), job->key, job->key_len_in_bytes) ||
+           mbj_is_null_(mbj_has_cipher_(job), job->iv, job->iv_len_in_bytes) ||
+           mbj_is_null_(mbj_has_cipher_(job), job->dst, job->msg_len_to_cipher_in_bytes) ||
+           mbj_is_null_(mbj_has_aad_(job), job->aad, job->aad_len_in_bytes) ||
+           mbj_is_null_(mbj_has_auth_key_(job), job->auth_key, job->auth_key_len_in_bytes) ||
+           mbj_is_null_(mbj_has_tag_(job), job->auth_tag_output, job->auth_tag_output_len_in_bytes);
+}
+
+static inline bool mbj_has_bad_code_(const MBJ_JOB *job) {
+    return job->cipher_mode > MBJ_CIPHER_GCM || job->cipher_direction > MBJ_DIR_DECRYPT || job->chain_order > MBJ_ORDER_HASH_CIPHER ||
+           job->hash_alg > MBJ_AUTH_GCM;
+}
+
+/* The job interface's own reason for which the job is refused, or 0. */
+static inline uint32_t mbj_own_reason_(const MBJ_JOB *job) {
+    return mbj_has_bad_code_(job) ? MBJ_REASON_CODE : mbj_has_null_(job) ? MBJ_REASON_NULL : MBJ_REASON_NONE;
+}
+
+/* No job takes so many bytes of anything: more are refused as so many are. */
+#define MBJ_TOO_LONG_ 65536
+
+/* The bytes of a job, or none where it doesn't use them. */
+static inline void mbj_say_bytes_(struct mbj_bytes *bytes, bool is_used, const uint8_t *at, size_t len) {
+    static const uint8_t none[1] = {0};
+    bool is_some = is_used && len != 0;
+    bytes->at = is_some ? at : none;
+    bytes->len = !is_some ? 0 : len < MBJ_TOO_LONG_ ? len : MBJ_TOO_LONG_;
 }
 
 /* The job as the archive takes it. A tag of more than 255 bytes is refused as one of 255 is. */
-static inline struct mbj_raw_job mbj_raw_(const MBJ_JOB *job) {
-    struct mbj_raw_job raw;
-    memset(&raw, 0, sizeof raw);
-    raw.cipher = (uint32_t)job->cipher_mode;
-    raw.dir = (uint32_t)job->cipher_direction;
-    raw.order = (uint32_t)job->chain_order;
-    raw.auth = (uint32_t)job->hash_alg;
-    raw.key = mbj_bytes_(mbj_has_cipher_(job), job->key, job->key_len_in_bytes);
-    raw.iv = mbj_bytes_(mbj_has_cipher_(job), job->iv, job->iv_len_in_bytes);
-    raw.auth_key = mbj_bytes_(mbj_has_auth_key_(job), job->auth_key, job->auth_key_len_in_bytes);
-    raw.aad = mbj_bytes_(mbj_has_aad_(job), job->aad, job->aad_len_in_bytes);
-    raw.packet = mbj_bytes_(true, job->packet, job->packet_len_in_bytes);
-    raw.cipher_off = job->cipher_start_src_offset_in_bytes;
-    raw.cipher_len = job->msg_len_to_cipher_in_bytes;
-    raw.hash_off = job->hash_start_src_offset_in_bytes;
-    raw.hash_len = job->msg_len_to_hash_in_bytes;
-    raw.tag_len = (uint8_t)(job->auth_tag_output_len_in_bytes < 255 ? job->auth_tag_output_len_in_bytes : 255);
-    return raw;
+static inline void mbj_say_(struct mbj_raw_job *raw, const MBJ_JOB *job) {
+    raw->cipher = job->cipher_mode;
+    raw->dir = job->cipher_direction;
+    raw->order = job->chain_order;
+    raw->auth = job->hash_alg;
+    mbj_say_bytes_(&raw->key, mbj_has_cipher_(job), job->key, job->key_len_in_bytes);
+    mbj_say_bytes_(&raw->iv, mbj_has_cipher_(job), job->iv, job->iv_len_in_bytes);
+    mbj_say_bytes_(&raw->auth_key, mbj_has_auth_key_(job), job->auth_key, job->auth_key_len_in_bytes);
+    mbj_say_bytes_(&raw->aad, mbj_has_aad_(job), job->aad, job->aad_len_in_bytes);
+    mbj_say_bytes_(&raw->packet, true, job->packet, job->packet_len_in_bytes);
+    raw->cipher_off = job->cipher_start_src_offset_in_bytes;
+    raw->cipher_len = job->msg_len_to_cipher_in_bytes;
+    raw->hash_off = job->hash_start_src_offset_in_bytes;
+    raw->hash_len = job->msg_len_to_hash_in_bytes;
+    raw->tag_len = (uint8_t)(job->auth_tag_output_len_in_bytes < 255 ? job->auth_tag_output_len_in_bytes : 255);
 }
 
-/* Room for the earliest job's result: its packet, in place, and a tag beside it, since that may go inside the packet. */
-static inline struct mbj_raw_done mbj_room_(MBJ_MGR *m, uint8_t *tag) {
-    static uint8_t none[1];
+/* A job that the archive refuses, so that it comes back in its place: CBC with a key of no byte. */
+static inline void mbj_say_refused_(struct mbj_raw_job *raw) {
+    raw->cipher = MBJ_CIPHER_CBC;
+    raw->dir = MBJ_DIR_ENCRYPT;
+    raw->order = MBJ_ORDER_CIPHER_HASH;
+    raw->auth = MBJ_AUTH_NULL;
+    mbj_say_bytes_(&raw->key, false, NULL, 0);
+    mbj_say_bytes_(&raw->iv, false, NULL, 0);
+    mbj_say_bytes_(&raw->auth_key, false, NULL, 0);
+    mbj_say_bytes_(&raw->aad, false, NULL, 0);
+    mbj_say_bytes_(&raw->packet, false, NULL, 0);
+    raw->cipher_off = raw->cipher_len = raw->hash_off = raw->hash_len = 0;
+    raw->tag_len = 0;
+}
+
+/* Notes where the job's result goes. A cipher range that passes the packet's end is refused, and wants no room. */
+static inline void mbj_note_slot_(struct mbj_slot *slot, const MBJ_JOB *job, uint32_t reason) {
+    uint64_t off = job->cipher_start_src_offset_in_bytes, len = job->msg_len_to_cipher_in_bytes, end = job->packet_len_in_bytes;
+    bool is_written = reason == MBJ_REASON_NONE && mbj_has_cipher_(job) && off <= end && len <= end - off;
+    slot->dst = job->dst;
+    slot->dst_len = is_written ? (size_t)len : 0;
+    slot->tag = job->auth_tag_output;
+    slot->tag_len = reason == MBJ_REASON_NONE && mbj_has_tag_(job) ? job->auth_tag_output_len_in_bytes : 0;
+    slot->reason = reason;
+}
+
+/* A result as it is given: its tag beside the job's own, since that may lie within what was ciphered. */
+struct mbj_given_ {
     struct mbj_raw_done done;
-    memset(&done, 0, sizeof done);
-    done.packet = m->packets[m->first % MBJ_MAX_JOBS];
-    if (done.packet.at == NULL)
-        done.packet.at = none;
-    done.tag.at = tag;
-    done.tag.len = MBJ_MAX_TAG_BYTES;
-    return done;
+    uint8_t tag[MBJ_MAX_TAG_BYTES];
+    uint8_t none[1];
+};
+
+static inline void mbj_make_room_(struct mbj_given_ *given, const MBJ_MGR *m) {
+    const struct mbj_slot *slot = &m->slots[m->first % MBJ_MAX_JOBS];
+    given->done.dst.at = slot->dst_len != 0 ? slot->dst : given->none;
+    given->done.dst.len = slot->dst_len;
+    given->done.tag.at = given->tag;
+    given->done.tag.len = MBJ_MAX_TAG_BYTES;
 }
 
-/* The job whose result was given: its packet is written, and now its tag. */
-static inline MBJ_JOB *mbj_given_(MBJ_MGR *m, const struct mbj_raw_done *done) {
-    MBJ_JOB *job = &m->jobs[m->first % MBJ_MAX_JOBS];
-    struct mbj_room tag = m->tags[m->first % MBJ_MAX_JOBS];
-    if (done->tag_len != 0 && done->tag_len <= tag.len)
-        memcpy(tag.at, done->tag.at, done->tag_len);
-    job->status = done->status == 0 ? MBJ_STATUS_COMPLETED : MBJ_STATUS_INVALID_ARGS;
-    job->reason = done->reason;
-    m->first++;
+/* The job whose result was given: what was ciphered is written, and now its tag. */
+static inline MBJ_JOB *mbj_give_back_(MBJ_MGR *m, const struct mbj_given_ *given) {
+    uint32_t place = m->first++ % MBJ_MAX_JOBS;
+    MBJ_JOB *job = &m->jobs[place];
+    const struct mbj_slot *slot = &m->slots[place];
+    if (given->done.tag_len != 0 && given->done.tag_len <= slot->tag_len)
+        memcpy(slot->tag, given->tag, given->done.tag_len);
+    job->status = given->done.status == 0 ? MBJ_STATUS_COMPLETED : MBJ_STATUS_INVALID_ARGS;
+    job->reason = slot->reason != MBJ_REASON_NONE ? slot->reason : given->done.reason;
     return job;
 }
 
-static inline MBJ_JOB *mbj_refused_(MBJ_MGR *m, MBJ_JOB *job, uint32_t refusal) {
+/* The job stays handed out. */
+static inline MBJ_JOB *mbj_not_submitted_(MBJ_MGR *m, MBJ_JOB *job, uint32_t refusal) {
     job->status = MBJ_STATUS_ERROR;
     m->error = refusal;
     return NULL;
 }
 
-/* Submits the job that was handed out, and gives the earliest job back where that is finished, with MBJ_STATUS_COMPLETED, or with
- * MBJ_STATUS_INVALID_ARGS where it was refused. NULL with MBJ_ERR_NONE where none is finished. Any other error says that the job wasn't
- * submitted, and may be mended and submitted again: MBJ_ERR_NO_JOB where none was handed out, MBJ_ERR_NULL, MBJ_ERR_WORD or
- * MBJ_ERR_MEMORY. */
-static inline MBJ_JOB *mbj_submit_job(MBJ_MGR *m) {
+/* Submits the job that was handed out, and gives the earliest job back where that is finished: with MBJ_STATUS_COMPLETED, or with
+ * MBJ_STATUS_INVALID_ARGS where it was refused. NULL with MBJ_ERR_NONE where none is finished. Any other error says that no job was
+ * submitted: MBJ_ERR_NO_MANAGER, MBJ_ERR_NO_JOB where none was handed out, or MBJ_ERR_MEMORY, after which the job may be submitted
+ * again. */
+MBJ_API MBJ_JOB *mbj_submit_job(MBJ_MGR *m) {
     if (m == NULL)
         return NULL;
     if (!m->is_lent) {
@@ -326,50 +515,50 @@ static inline MBJ_JOB *mbj_submit_job(MBJ_MGR *m) {
     }
     uint32_t place = m->next % MBJ_MAX_JOBS;
     MBJ_JOB *job = &m->jobs[place];
-    if (mbj_has_null_(job))
-        return mbj_refused_(m, job, MBJ_ERR_NULL);
-    struct mbj_raw_job raw = mbj_raw_(job);
+    uint32_t reason = mbj_own_reason_(job);
+    struct mbj_raw_job raw;
+    if (reason == MBJ_REASON_NONE)
+        mbj_say_(&raw, job);
+    else
+        mbj_say_refused_(&raw);
     uint32_t refusal = mbj_c_fill(&m->handle, &raw);
     if (refusal != MBJ_ERR_NONE)
-        return mbj_refused_(m, job, refusal);
-    m->packets[place].at = job->packet;
-    m->packets[place].len = job->packet_len_in_bytes;
-    m->tags[place].at = job->auth_tag_output;
-    m->tags[place].len = mbj_has_tag_(job) ? job->auth_tag_output_len_in_bytes : 0;
-    uint8_t tag[MBJ_MAX_TAG_BYTES];
-    struct mbj_raw_done done = mbj_room_(m, tag);
-    bool is_given = mbj_c_submit(&m->handle, &done, &refusal);
+        return mbj_not_submitted_(m, job, refusal);
+    mbj_note_slot_(&m->slots[place], job, reason);
+    struct mbj_given_ given;
+    mbj_make_room_(&given, m);
+    bool is_given = mbj_c_submit(&m->handle, &given.done, &refusal);
     if (refusal != MBJ_ERR_NONE)
-        return mbj_refused_(m, job, refusal);
+        return mbj_not_submitted_(m, job, refusal);
     job->status = MBJ_STATUS_BEING_PROCESSED;
     m->error = MBJ_ERR_NONE;
     m->next++;
     m->is_lent = false;
-    return is_given ? mbj_given_(m, &done) : NULL;
+    return is_given ? mbj_give_back_(m, &given) : NULL;
 }
 
 /* Gives the earliest job back where it is finished, and runs nothing; NULL where none is. */
-static inline MBJ_JOB *mbj_get_completed_job(MBJ_MGR *m) {
+MBJ_API MBJ_JOB *mbj_get_completed_job(MBJ_MGR *m) {
     if (m == NULL)
         return NULL;
-    uint8_t tag[MBJ_MAX_TAG_BYTES];
     m->error = MBJ_ERR_NONE;
     if (m->next == m->first)
         return NULL;
-    struct mbj_raw_done done = mbj_room_(m, tag);
-    return mbj_c_get_completed(&m->handle, &done, &m->error) ? mbj_given_(m, &done) : NULL;
+    struct mbj_given_ given;
+    mbj_make_room_(&given, m);
+    return mbj_c_get_completed(&m->handle, &given.done, &m->error) ? mbj_give_back_(m, &given) : NULL;
 }
 
 /* Finishes the earliest job and gives it back; NULL where no job is submitted and not given back. */
-static inline MBJ_JOB *mbj_flush_job(MBJ_MGR *m) {
+MBJ_API MBJ_JOB *mbj_flush_job(MBJ_MGR *m) {
     if (m == NULL)
         return NULL;
-    uint8_t tag[MBJ_MAX_TAG_BYTES];
     m->error = MBJ_ERR_NONE;
     if (m->next == m->first)
         return NULL;
-    struct mbj_raw_done done = mbj_room_(m, tag);
-    return mbj_c_flush(&m->handle, &done, &m->error) ? mbj_given_(m, &done) : NULL;
+    struct mbj_given_ given;
+    mbj_make_room_(&given, m);
+    return mbj_c_flush(&m->handle, &given.done, &m->error) ? mbj_give_back_(m, &given) : NULL;
 }
 
 #ifdef __cplusplus

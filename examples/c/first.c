@@ -13,11 +13,12 @@ int main(void) {
     if (manager == NULL)
         return 7;
 
-    uint8_t key[20], tag[20], packet[8];
+    static const uint8_t packet[8] = {'H', 'i', ' ', 'T', 'h', 'e', 'r', 'e'};
+    uint8_t key[20], tag[20];
     memset(key, 0x0b, sizeof key);
-    memcpy(packet, "Hi There", sizeof packet);
 
     MBJ_JOB *job = mbj_get_next_job(manager);
+    job->cipher_mode = MBJ_CIPHER_NULL;
     job->hash_alg = MBJ_AUTH_HMAC_SHA_1;
     job->auth_key = key;
     job->auth_key_len_in_bytes = sizeof key;
@@ -32,7 +33,7 @@ int main(void) {
         done = mbj_flush_job(manager);
     int status = 0;
     if (done == NULL) {
-        fprintf(stderr, "first: %s\n", mbj_get_errno(manager) == MBJ_ERR_MEMORY ? "out of memory" : "not submitted");
+        fprintf(stderr, "first: %s\n", mbj_refusal_text(mbj_get_errno(manager)));
         status = 7;
     } else if (done->status == MBJ_STATUS_COMPLETED) {
         printf("0 ok ");

@@ -43,14 +43,14 @@ static bool read_word(struct field field, const char *const *words, int count, i
 }
 
 /* One to five digits with no zero in front. */
-static bool read_number(struct field field, uint32_t *number) {
+static bool read_number(struct field field, uint64_t *number) {
     if (field.len == 0 || field.len > MAX_DIGITS || (field.len > 1 && field.at[0] == '0'))
         return false;
     *number = 0;
     for (size_t i = 0; i < field.len; i++) {
         if (field.at[i] < '0' || field.at[i] > '9')
             return false;
-        *number = *number * 10 + (uint32_t)(field.at[i] - '0');
+        *number = *number * 10 + (uint64_t)(field.at[i] - '0');
     }
     return true;
 }
@@ -97,6 +97,12 @@ static bool split_line(char *line, size_t len, struct field *fields) {
     return false;
 }
 
+/* Where the cipher range begins. One that begins behind the packet is refused, and nothing is written there. */
+static uint8_t *range_in(uint8_t *packet, const MBJ_JOB *job) {
+    uint64_t off = job->cipher_start_src_offset_in_bytes;
+    return off <= job->packet_len_in_bytes ? packet + off : packet;
+}
+
 /* Reads a job line. Returns 0 and fills the job, or the number of the first field that isn't of its form, or -1 for a wrong number of
  * fields. */
 static int read_job(char *line, size_t len, struct file_job *into) {
@@ -108,8 +114,8 @@ static int read_job(char *line, size_t len, struct file_job *into) {
     struct field f[FIELDS];
     MBJ_JOB *job = &into->job;
     int cipher, dir, order, auth;
-    uint32_t tag_len;
-    uint8_t *key, *iv, *auth_key, *aad;
+    uint64_t tag_len;
+    uint8_t *key, *iv, *auth_key, *aad, *packet;
     memset(into, 0, sizeof *into);
     if (!split_line(line, len, f))
         return -1;
@@ -139,17 +145,19 @@ static int read_job(char *line, size_t len, struct file_job *into) {
         return 12;
     if (!read_number(f[12], &tag_len) || tag_len > 255)
         return 13;
-    if (!read_bytes(f[13], &job->packet, &job->packet_len_in_bytes))
+    if (!read_bytes(f[13], &packet, &job->packet_len_in_bytes))
         return 14;
-    job->cipher_mode = (enum mbj_cipher)cipher;
-    job->cipher_direction = (enum mbj_dir)dir;
-    job->chain_order = (enum mbj_order)order;
-    job->hash_alg = (enum mbj_auth)auth;
+    job->cipher_mode = (uint32_t)cipher;
+    job->cipher_direction = (uint32_t)dir;
+    job->chain_order = (uint32_t)order;
+    job->hash_alg = (uint32_t)auth;
     job->key = key;
     job->iv = iv;
     job->auth_key = auth_key;
     job->aad = aad;
-    job->auth_tag_output_len_in_bytes = tag_len;
+    job->packet = packet;
+    job->dst = range_in(packet, job); /* in place */
+    job->auth_tag_output_len_in_bytes = (size_t)tag_len;
     return 0;
 }
 
