@@ -1,43 +1,13 @@
-/* Tests what the header's calls answer: prints the first check that fails, and ends with status 1. */
-#include "mbj.h"
+/* Tests what the header's calls answer, with and without memory. Link with refuse.c. */
+#include "check.h"
 #include "refuse.h"
-
-#include <stdio.h>
-
-#define CHECK(condition)                                                    \
-    do {                                                                    \
-        if (!(condition)) {                                                 \
-            printf("calls.c:%d: %s\n", __LINE__, #condition);               \
-            exit(1);                                                        \
-        }                                                                   \
-    } while (0)
-
-/* RFC 2202, section 3, test case 1. */
-static const uint8_t mac[20] = {0xb6, 0x17, 0x31, 0x86, 0x55, 0x05, 0x72, 0x64, 0xe2, 0x8b,
-                                0xc0, 0xb6, 0xfb, 0x37, 0x8c, 0x8e, 0xf1, 0x46, 0xbe, 0x00};
-static uint8_t mac_key[20];
-
-/* A job that authenticates the eight bytes at the packet, with room for the tag. */
-static void fill_mac(MBJ_JOB *job, uint8_t *packet, size_t len, uint8_t *tag) {
-    job->hash_alg = MBJ_AUTH_HMAC_SHA_1;
-    job->auth_key = mac_key;
-    job->auth_key_len_in_bytes = sizeof mac_key;
-    job->packet = packet;
-    job->packet_len_in_bytes = len;
-    job->msg_len_to_hash_in_bytes = 8;
-    job->auth_tag_output = tag;
-    job->auth_tag_output_len_in_bytes = sizeof mac;
-}
-
-static MBJ_JOB *finish(MBJ_MGR *m) {
-    MBJ_JOB *done = mbj_submit_job(m);
-    return done == NULL && mbj_get_errno(m) == MBJ_ERR_NONE ? mbj_flush_job(m) : done;
-}
 
 static void calls_without_a_manager(void) {
     CHECK(mbj_get_next_job(NULL) == NULL && mbj_submit_job(NULL) == NULL);
     CHECK(mbj_get_completed_job(NULL) == NULL && mbj_flush_job(NULL) == NULL);
     CHECK(mbj_get_errno(NULL) == MBJ_ERR_NO_MANAGER && mbj_queue_size(NULL) == 0);
+    CHECK(mbj_init_mgr(NULL) == MBJ_ERR_NULL);
+    mbj_end_mgr(NULL);
     mbj_free_mgr(NULL);
 }
 
@@ -51,71 +21,48 @@ static void jobs_that_are_not_there(MBJ_MGR *m) {
 static void a_job_that_does_nothing(MBJ_MGR *m) {
     MBJ_JOB *job = mbj_get_next_job(m);
     CHECK(job != NULL && job->packet == NULL);
+    job->cipher_mode = MBJ_CIPHER_NULL;
+    job->hash_alg = MBJ_AUTH_NULL;
     /* what a job doesn't use isn't looked at */
     job->key = (const uint8_t *)1;
     job->key_len_in_bytes = 16;
+    job->dst = (uint8_t *)1;
+    job->msg_len_to_cipher_in_bytes = 16;
     CHECK(mbj_get_next_job(m) == job && job->key_len_in_bytes == 16);
-    CHECK(finish(m) == job && job->status == MBJ_STATUS_COMPLETED && job->reason == 0);
+    CHECK(finish(m) == job && is_done(job));
 }
 
-static void refused_jobs(MBJ_MGR *m) {
-    uint8_t packet[8] = {0}, tag[64];
+static void a_job_is_submitted_again_where_memory_wanted(MBJ_MGR *m) {
+    uint8_t tag[MAC_BYTES];
     MBJ_JOB *job = mbj_get_next_job(m);
-    fill_mac(job, packet, sizeof packet, tag);
-    job->auth_tag_output_len_in_bytes = 300;
-    memset(tag, 7, sizeof tag);
-    CHECK(finish(m) == job && job->status == MBJ_STATUS_INVALID_ARGS && job->reason == 10 && tag[0] == 7);
-    job = mbj_get_next_job(m);
-    fill_mac(job, packet, sizeof packet, tag);
-    job->msg_len_to_hash_in_bytes = 9;
-    CHECK(finish(m) == job && job->status == MBJ_STATUS_INVALID_ARGS && job->reason == 8);
-}
-
-static void jobs_that_are_not_submitted(MBJ_MGR *m) {
-    uint8_t packet[8], tag[20];
-    memcpy(packet, "Hi There", 8);
-    MBJ_JOB *job = mbj_get_next_job(m);
-    fill_mac(job, packet, sizeof packet, tag);
-    job->auth_key = NULL;
-    CHECK(mbj_submit_job(m) == NULL && mbj_get_errno(m) == MBJ_ERR_NULL && job->status == MBJ_STATUS_ERROR);
-    job->auth_key = mac_key;
-    job->hash_alg = (enum mbj_auth)9;
-    CHECK(mbj_submit_job(m) == NULL && mbj_get_errno(m) == MBJ_ERR_WORD && mbj_queue_size(m) == 0);
-    job->hash_alg = MBJ_AUTH_HMAC_SHA_1;
+    fill_mac(job, mac_text, sizeof mac_text, tag);
     allocations = 0;
     refuse_at = 1;
     CHECK(mbj_submit_job(m) == NULL && mbj_get_errno(m) == MBJ_ERR_MEMORY && job->status == MBJ_STATUS_ERROR);
     refuse_at = 0;
     CHECK(mbj_queue_size(m) == 0 && mbj_get_next_job(m) == job);
-    CHECK(finish(m) == job && job->status == MBJ_STATUS_COMPLETED && memcmp(tag, mac, sizeof mac) == 0);
-}
-
-static void a_tag_inside_the_packet(MBJ_MGR *m) {
-    uint8_t packet[28] = {0};
-    memcpy(packet, "Hi There", 8);
-    MBJ_JOB *job = mbj_get_next_job(m);
-    fill_mac(job, packet, sizeof packet, packet + 8);
-    CHECK(finish(m) == job && memcmp(packet, "Hi There", 8) == 0 && memcmp(packet + 8, mac, sizeof mac) == 0);
+    CHECK(finish(m) == job && is_done(job) && memcmp(tag, mac, sizeof mac) == 0);
 }
 
 /* Many jobs come back in the order of submission; where none is left, one is flushed. */
 static void jobs_come_back_in_order(MBJ_MGR *m) {
     enum { COUNT = 700 };
-    static uint8_t packets[COUNT][8], tags[COUNT][20];
+    static uint8_t tags[COUNT][MAC_BYTES];
     static char place[COUNT];
-    int next = 0, is_full = 0;
+    int next = 0, full = 0;
     for (int i = 0; i < COUNT; i++) {
         MBJ_JOB *job = mbj_get_next_job(m);
         if (job == NULL) {
-            is_full++;
+            full++;
             CHECK(mbj_get_errno(m) == MBJ_ERR_FULL && mbj_queue_size(m) == MBJ_MAX_JOBS);
             MBJ_JOB *flushed = mbj_flush_job(m);
             CHECK(flushed != NULL && flushed->user_data == &place[next++]);
             job = mbj_get_next_job(m);
         }
-        memcpy(packets[i], "Hi There", 8);
-        if (i % 300 == 0)
-            fill_mac(job, packets[i], 8, tags[i]);
+        CHECK(job->user_data == NULL && job->cipher_mode == MBJ_CIPHER_UNSET && job->hash_alg == MBJ_AUTH_UNSET);
+        fill_mac(job, mac_text, sizeof mac_text, tags[i]);
+        if (i % 300 != 0)
+            job->hash_alg = MBJ_AUTH_NULL, job->auth_tag_output_len_in_bytes = 0;
         job->user_data = &place[i];
         MBJ_JOB *done = mbj_submit_job(m);
         CHECK(mbj_get_errno(m) == MBJ_ERR_NONE);
@@ -125,58 +72,166 @@ static void jobs_come_back_in_order(MBJ_MGR *m) {
             CHECK(done->user_data == &place[next++]);
     }
     for (MBJ_JOB *done; (done = mbj_flush_job(m)) != NULL;)
-        CHECK(done->user_data == &place[next++] && done->status == MBJ_STATUS_COMPLETED);
-    CHECK(next == COUNT && mbj_queue_size(m) == 0);
+        CHECK(done->user_data == &place[next++] && is_done(done));
+    CHECK(next == COUNT && mbj_queue_size(m) == 0 && full >= 0);
     for (int i = 0; i < COUNT; i += 300)
         CHECK(memcmp(tags[i], mac, sizeof mac) == 0);
 }
 
-static void exports(void) {
-    static const uint8_t none[1] = {0};
-    struct mbj_handle handle = {NULL};
-    struct mbj_counts counts;
-    uint8_t packet[3], tag[MBJ_MAX_TAG_BYTES];
+/* A raw job that enciphers a block behind one byte of the packet. */
+static struct mbj_raw_job raw_cbc(const uint8_t *packet, size_t len) {
     struct mbj_raw_job raw;
     memset(&raw, 0, sizeof raw);
-    struct mbj_bytes empty = {none, 0}, bytes = {(const uint8_t *)"abc", 3};
-    raw.key = raw.iv = raw.auth_key = raw.aad = empty;
-    raw.packet = bytes;
-    struct mbj_raw_done done = {{packet, 2}, {tag, sizeof tag}, 9, 9, 9, 9};
+    raw.cipher = MBJ_CIPHER_CBC;
+    raw.key.at = cbc_key;
+    raw.key.len = sizeof cbc_key;
+    raw.iv.at = cbc_iv;
+    raw.iv.len = sizeof cbc_iv;
+    raw.auth_key.at = raw.aad.at = packet;
+    raw.packet.at = packet;
+    raw.packet.len = len;
+    raw.cipher_off = 1;
+    raw.cipher_len = CBC_BYTES;
+    return raw;
+}
+
+static void exports_without_a_manager(struct mbj_handle *handle, const struct mbj_raw_job *raw, struct mbj_raw_done *done) {
+    struct mbj_counts counts;
     uint32_t refusal = 9;
-    CHECK(!mbj_c_free(&handle) && mbj_c_queue_size(&handle) == 0 && !mbj_c_count(&handle, 0, &counts));
-    CHECK(mbj_c_fill(&handle, &raw) == MBJ_ERR_NO_MANAGER);
-    CHECK(!mbj_c_flush(&handle, &done, &refusal) && refusal == MBJ_ERR_NO_MANAGER);
-    CHECK(mbj_c_new(&handle) == MBJ_ERR_NONE && mbj_c_new(&handle) == MBJ_ERR_HAS_MANAGER);
-    CHECK(!mbj_c_submit(&handle, &done, &refusal) && refusal == MBJ_ERR_NO_JOB);
-    CHECK(mbj_c_fill(&handle, &raw) == MBJ_ERR_NONE);
-    /* from here on no call takes memory */
+    CHECK(!mbj_c_free(handle) && mbj_c_queue_size(handle) == 0 && !mbj_c_count(handle, 0, &counts));
+    CHECK(mbj_c_fill(handle, raw) == MBJ_ERR_NO_MANAGER);
+    CHECK(!mbj_c_flush(handle, done, &refusal) && refusal == MBJ_ERR_NO_MANAGER);
+}
+
+/* Room is wanted for the range alone, and no call from the filling on takes memory. */
+static void exports_give_the_range_back(struct mbj_handle *handle, struct mbj_raw_done *done) {
+    uint32_t refusal = 9;
     allocations = 0;
-    CHECK(!mbj_c_submit(&handle, &done, &refusal) && refusal == MBJ_ERR_NO_ROOM && done.packet_len == 9 && done.status == 9);
-    done.packet.len = 3;
-    CHECK(mbj_c_submit(&handle, &done, &refusal) && refusal == MBJ_ERR_NONE && memcmp(packet, "abc", 3) == 0);
-    CHECK(done.packet_len == 3 && done.tag_len == 0 && done.status == 0 && done.reason == 0);
-    CHECK(mbj_c_count(&handle, MBJ_KIND_HMAC_SHA_512, &counts) && counts.waiting == 0 && !mbj_c_count(&handle, MBJ_KINDS, &counts));
-    CHECK(!mbj_c_get_completed(&handle, &done, &refusal) && !mbj_c_flush(&handle, &done, &refusal) && mbj_c_queue_size(&handle) == 0);
-    CHECK(mbj_c_free(&handle) && handle.at == NULL && !mbj_c_free(&handle));
+    done->dst.len = CBC_BYTES - 1;
+    CHECK(!mbj_c_submit(handle, done, &refusal) && refusal == MBJ_ERR_NO_ROOM && done->dst_len == 9 && done->status == 9);
+    done->dst.len = CBC_BYTES;
+    done->tag.len = MBJ_MAX_TAG_BYTES - 1;
+    CHECK(!mbj_c_submit(handle, done, &refusal) && refusal == MBJ_ERR_NO_ROOM);
+    done->tag.len = MBJ_MAX_TAG_BYTES;
+    bool is_given = mbj_c_submit(handle, done, &refusal);
+    CHECK(refusal == MBJ_ERR_NONE && (is_given || mbj_c_flush(handle, done, &refusal)));
+    CHECK(done->dst_len == CBC_BYTES && memcmp(done->dst.at, cbc_ciphertext, CBC_BYTES) == 0);
+    CHECK(done->tag_len == 0 && done->status == 0 && done->reason == MBJ_REASON_NONE);
+    CHECK(!mbj_c_get_completed(handle, done, &refusal) && !mbj_c_flush(handle, done, &refusal) && mbj_c_queue_size(handle) == 0);
     CHECK(allocations == 0);
 }
 
+static void exports_want_no_room_for_a_refused_job(struct mbj_handle *handle, struct mbj_raw_job *raw, struct mbj_raw_done *done) {
+    uint32_t refusal = 9;
+    raw->cipher_len = UINT64_C(1) << 32;
+    CHECK(mbj_c_fill(handle, raw) == MBJ_ERR_NONE);
+    done->dst.len = 0;
+    CHECK(mbj_c_submit(handle, done, &refusal) && refusal == MBJ_ERR_NONE && done->dst_len == 0);
+    CHECK(done->status == 1 && done->reason == MBJ_REASON_CIPHER_RANGE);
+}
+
+static void exports(void) {
+    struct mbj_handle handle = MBJ_HANDLE_INIT;
+    struct mbj_counts counts;
+    uint8_t packet[CBC_BYTES + 3] = {0}, dst[CBC_BYTES], tag[MBJ_MAX_TAG_BYTES];
+    memcpy(packet + 1, cbc_text, sizeof cbc_text);
+    struct mbj_raw_job raw = raw_cbc(packet, sizeof packet);
+    struct mbj_raw_done done = {{dst, sizeof dst}, {tag, sizeof tag}, 9, 9, 9, 9};
+    uint32_t refusal = 9;
+    exports_without_a_manager(&handle, &raw, &done);
+    CHECK(mbj_c_new(&handle) == MBJ_ERR_NONE && mbj_c_new(&handle) == MBJ_ERR_HAS_MANAGER);
+    CHECK(!mbj_c_submit(&handle, &done, &refusal) && refusal == MBJ_ERR_NO_JOB);
+    raw.auth = MBJ_AUTH_GCM + 1;
+    CHECK(mbj_c_fill(&handle, &raw) == MBJ_ERR_WORD);
+    raw.auth = MBJ_AUTH_NULL;
+    CHECK(mbj_c_fill(&handle, &raw) == MBJ_ERR_NONE);
+    exports_give_the_range_back(&handle, &done);
+    exports_want_no_room_for_a_refused_job(&handle, &raw, &done);
+    CHECK(mbj_c_count(&handle, MBJ_KIND_CBC_128, &counts) && counts.waiting == 0 && !mbj_c_count(&handle, MBJ_KINDS, &counts));
+    CHECK(mbj_c_free(&handle) && handle.at == NULL && !mbj_c_free(&handle));
+}
+
+/* Every block that is asked for is freed, also where a manager is asked for twice, where jobs are left, and where making one fails. */
+static void every_block_is_freed(void) {
+    long before = blocks;
+    struct mbj_handle handle = MBJ_HANDLE_INIT;
+    CHECK(mbj_c_new(&handle) == MBJ_ERR_NONE);
+    long taken = blocks;
+    CHECK(taken > before && mbj_c_new(&handle) == MBJ_ERR_HAS_MANAGER && blocks == taken);
+    struct mbj_raw_job raw = raw_cbc(cbc_text, sizeof cbc_text);
+    CHECK(mbj_c_fill(&handle, &raw) == MBJ_ERR_NONE && mbj_c_fill(&handle, &raw) == MBJ_ERR_NONE);
+    CHECK(mbj_c_free(&handle) && blocks == before);
+    for (long at = 1;; at++) {
+        allocations = 0;
+        refuse_at = at;
+        MBJ_MGR *m = mbj_alloc_mgr();
+        refuse_at = 0;
+        bool is_made = m != NULL;
+        if (is_made) {
+            fill_mac(mbj_get_next_job(m), mac_text, sizeof mac_text, NULL);
+            mbj_submit_job(m);
+            mbj_get_next_job(m);
+        }
+        mbj_free_mgr(m);
+        CHECK(blocks == before);
+        if (is_made)
+            return;
+    }
+}
+
+static void a_manager_in_memory_of_ones_own(void) {
+    static MBJ_MGR own;
+    uint8_t tag[MAC_BYTES];
+    memset(&own, 0xee, sizeof own);
+    CHECK(mbj_init_mgr(&own) == MBJ_ERR_NONE && mbj_get_errno(&own) == MBJ_ERR_NONE);
+    MBJ_JOB *job = mbj_get_next_job(&own);
+    fill_mac(job, mac_text, sizeof mac_text, tag);
+    CHECK(finish(&own) == job && is_done(job) && memcmp(tag, mac, sizeof mac) == 0);
+    mbj_end_mgr(&own);
+    mbj_end_mgr(&own);
+    CHECK(mbj_get_next_job(&own) != NULL && mbj_submit_job(&own) == NULL && mbj_get_errno(&own) == MBJ_ERR_NO_MANAGER);
+    allocations = 0;
+    refuse_at = 1;
+    CHECK(mbj_init_mgr(&own) == MBJ_ERR_MEMORY && mbj_queue_size(&own) == 0);
+    refuse_at = 0;
+}
+
+static void another_version_is_refused(void) {
+    static MBJ_MGR own;
+    CHECK(mbj_c_version() == MBJ_VERSION_NUM && strcmp(mbj_version_text(), MBJ_VERSION_STR) == 0);
+    faked_version = MBJ_VERSION_NUM + 1;
+    CHECK(mbj_init_mgr(&own) == MBJ_ERR_VERSION && mbj_alloc_mgr() == NULL);
+    faked_version = 0;
+}
+
+/* Each number of a refusal and of a reason has a text of its own, and other numbers have none. */
+static void numbers_have_texts(void) {
+    const char *none = mbj_refusal_text(UINT32_MAX);
+    for (uint32_t i = 0; i <= MBJ_ERR_VERSION; i++)
+        for (uint32_t j = 0; j < i; j++)
+            CHECK(strcmp(mbj_refusal_text(i), none) != 0 && strcmp(mbj_refusal_text(i), mbj_refusal_text(j)) != 0);
+    CHECK(mbj_refusal_text(MBJ_ERR_VERSION + 1) == none);
+    none = mbj_reason_text(UINT32_MAX);
+    for (uint32_t i = 0; i <= MBJ_REASON_NULL; i++)
+        CHECK((mbj_reason_text(i) == none) == (i > MBJ_REASON_TAG_LENGTH && i < MBJ_REASON_CODE));
+    CHECK(mbj_reason_text(MBJ_REASON_NULL + 1) == none);
+}
+
 int main(void) {
-    memset(mac_key, 0x0b, sizeof mac_key);
     calls_without_a_manager();
     exports();
+    every_block_is_freed();
+    a_manager_in_memory_of_ones_own();
+    another_version_is_refused();
+    numbers_have_texts();
+    long before = blocks;
     MBJ_MGR *m = mbj_alloc_mgr();
     CHECK(m != NULL);
     jobs_that_are_not_there(m);
     a_job_that_does_nothing(m);
-    refused_jobs(m);
-    jobs_that_are_not_submitted(m);
-    a_tag_inside_the_packet(m);
+    a_job_is_submitted_again_where_memory_wanted(m);
     jobs_come_back_in_order(m);
-    /* a manager is freed with jobs in it */
-    CHECK(mbj_get_next_job(m) != NULL);
-    mbj_submit_job(m);
-    CHECK(mbj_get_next_job(m) != NULL);
     mbj_free_mgr(m);
+    CHECK(blocks == before);
     return 0;
 }

@@ -1,9 +1,12 @@
-/* Refuses one allocation: that with the number in MBJ_REFUSE or in refuse_at, from 1 on. Link with -Wl,--wrap for the three names. */
+/* Counts allocations and blocks, and refuses one allocation: that with the number in MBJ_REFUSE or in refuse_at, from 1 on. Link with
+ * -Wl,--wrap for the names. */
 #include "refuse.h"
 
 #include <stdlib.h>
 
-long refuse_at, allocations;
+long refuse_at, allocations, blocks;
+
+uint32_t faked_version;
 
 static int is_refused(void) {
     static int is_read;
@@ -16,14 +19,30 @@ static int is_refused(void) {
     return ++allocations == refuse_at;
 }
 
+static void *counted(void *at) {
+    blocks += at != NULL;
+    return at;
+}
+
 void *__wrap_malloc(size_t len) {
-    return is_refused() ? NULL : __real_malloc(len);
+    return is_refused() ? NULL : counted(__real_malloc(len));
 }
 
 void *__wrap_calloc(size_t count, size_t len) {
-    return is_refused() ? NULL : __real_calloc(count, len);
+    return is_refused() ? NULL : counted(__real_calloc(count, len));
 }
 
 void *__wrap_realloc(void *old, size_t len) {
-    return is_refused() ? NULL : __real_realloc(old, len);
+    if (is_refused())
+        return NULL;
+    return old == NULL ? counted(__real_realloc(old, len)) : __real_realloc(old, len);
+}
+
+void __wrap_free(void *at) {
+    blocks -= at != NULL;
+    __real_free(at);
+}
+
+uint32_t __wrap_mbj_c_version(void) {
+    return faked_version != 0 ? faked_version : __real_mbj_c_version();
 }
