@@ -2,7 +2,7 @@
 from jobs import CMACS, HASHES, reason, result_line
 
 # Kinds in the order in which a trace tells them, with their lanes.
-LANES = {"cbc128": 16, "cbc192": 16, "cbc256": 16, "cmac128": 16, "cmac256": 16, "hmac-sha1": 8, "hmac-sha256": 8, "hmac-sha512": 4}
+LANES = {"cbc128": 32, "cbc192": 32, "cbc256": 32, "cmac128": 32, "cmac256": 32, "hmac-sha1": 16, "hmac-sha256": 16, "hmac-sha512": 8}
 
 
 def cipher_stage(job):
@@ -29,7 +29,7 @@ def lane_stages(job):
 
 
 class Manager:
-    ROOM = 256
+    ROOM = 512
 
     def __init__(self):
         self.ring, self.stages, self.lists = [], {}, {kind: [] for kind in LANES}
