@@ -18,10 +18,11 @@ use Rattle.mbj_stage.proofs.Owing.{owed-begun}
 use Rattle.mbj_manager.specs.Machine.Stages.{Pending, pending}
 use Rattle.mbj_manager.specs.Machine.Queues.{Machine}
 use Rattle.mbj_manager.specs.Machine.Between.{with_stages}
+use Rattle.mbj_manager.specs.State.{without_packet}
 use Rattle.mbj_manager.specs.declared.cell.Cell.{Cell}
 use Rattle.mbj_manager.specs.declared.cell.Cell.TheVariants as cell
 use Rattle.mbj_manager.specs.Inside.Added.{added}
-use Rattle.mbj_manager.specs.Inside.Courses.{IsGoing, course_in, courses, job_in, number, ring_number}
+use Rattle.mbj_manager.specs.Inside.Courses.{IsGoing, KeepsSteps, asked, course_in, courses, job_in, number, ring_number}
 use Rattle.mbj_manager.specs.Inside.Leaving.{At}
 use Rattle.mbj_manager.specs.Inside.Desk.{Listed}
 use Rattle.mbj_manager.specs.Inside.LaneQueues.{placed_in, total, waiting_in}
@@ -32,6 +33,7 @@ use Rattle.mbj_manager.specs.Inside.Held.{IsHeld, IsHere, IsTied, agenda_room, f
 use Rattle.mbj_manager.proofs.BetweenCalls.{submitted-within}
 use Rattle.mbj_manager.proofs.CourseEnds.{between-calls}
 use Rattle.mbj_manager.proofs.JobRounds.{pending-rounds}
+use Rattle.mbj_manager.proofs.JobSteps.{begun-steps}
 use Rattle.mbj_manager.proofs.Moving.{same-state}
 use Rattle.mbj_manager.proofs.Owing.{owed-length}
 
@@ -134,10 +136,14 @@ module _ (r : RingState Cell) (v w : Cell) (place : ℕ) (ls : LaneQueues) (capa
   going : IsGoing w
   going = subst IsGoing (sym began) tt
 
+  steps : KeepsSteps w
+  steps = subst KeepsSteps (sym began) (begun-steps job)
+
   added-kept : IsHeld r' (place ∷ []) ls capacity
   added-kept = record {
     ring = record {
       going = All-push IsGoing r.values w y.ring.going going;
+      steps = All-push KeepsSteps r.values w y.ring.steps steps;
       few = omega (arith, length_push r.values w);
       first = y.ring.first;
     };
@@ -155,12 +161,15 @@ module _ (r : RingState Cell) (v w : Cell) (place : ℕ) (ls : LaneQueues) (capa
       ap (owed_from 0 (find_in (lines_in r ls))) more-courses ∙ owed-end 0 (find_in (lines_in r ls)) (courses r) (begun job) refl
       ∙ ap (λ (d : Done). owed_from 0 (find_in (lines_in r ls)) (courses r) ++ d ∷ []) (owed-begun job)
 
+  asked-then : map asked (courses r') ≡ map asked (courses r) ++ without_packet job ∷ []
+  asked-then = ap (map asked) more-courses ∙ map_push asked (courses r) (begun job)
+
   same-number : length (map pending (courses r)) ≡ length (owed_from 0 (find_in (lines_in r ls)) (courses r))
   same-number = length-map (courses r) pending ∙ sym (owed-length 0 (find_in (lines_in r ls)) (courses r))
 
   added-is : held r' (place ∷ []) ls ≡ added (Some job) (held r [] ls)
   added-is =
-      same-state _ _ _ _ _ _ owed-then refl
+      same-state owed-then asked-then refl
       (machine-then ∙ ap (λ (n : ℕ). machine_with (map pending (courses r) ++ pending (begun job) ∷ []) (n ∷ [])) same-number)
 
 pub adds : (r : RingState Cell) (v w : Cell) (place : ℕ) (ag : List ℕ) (ls : LaneQueues) (capacity : ℕ) → IsHeld r ag ls capacity → map (ring_number r) ag ≡ []

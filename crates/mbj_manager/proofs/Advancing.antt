@@ -18,7 +18,7 @@ use Rattle.mbj_manager.specs.declared.lane.Cause.TheVariants as cause
 use Rattle.mbj_manager.specs.Machine.Course.{goes_on, in_lanes_next, joined, stages_left, stepped, stepped_at}
 use Rattle.mbj_manager.specs.Machine.Between.{times_in}
 use Rattle.mbj_manager.specs.declared.cell.Cell.{Cell}
-use Rattle.mbj_manager.specs.Inside.Courses.{Follows, IsSameRing, courses, job_in, number, ring_number}
+use Rattle.mbj_manager.specs.Inside.Courses.{Follows, IsSameRing, asked, courses, job_in, number, ring_number}
 use Rattle.mbj_manager.specs.Inside.Leaving.{At, Gives, IsAbsent, finishers, numbers, others, returned}
 use Rattle.mbj_stage.specs.Handing.{IsNext}
 use Rattle.mbj_manager.specs.Inside.Desk.{Desk, Enters, MayEnter, desk, joined_by, led_all, ran_at, ran_if_full}
@@ -27,10 +27,11 @@ use Rattle.mbj_manager.specs.declared.lane_queues.LaneQueues.{LaneQueues}
 use Rattle.mbj_manager.specs.Inside.PlacedQueue.{Ahead, HasRest, PlacedQueue, Waiter, brings_in, placed_queue, numbered_queue, rounds_in}
 use Rattle.mbj_manager.specs.Inside.Standing.{IsInCourse}
 use Rattle.mbj_manager.specs.Inside.Held.{IsHeld, IsHere, IsOpenAt, IsTied, find_in, found, lane_seen, lines_in, machine_by, machine_in, owed_from, waiting}
+use Rattle.mbj_manager.proofs.Asking.{entered-asked, follow-asked}
 use Rattle.mbj_manager.proofs.KindLines.{put-self}
 use Rattle.mbj_manager.proofs.Listing.{absent-listed}
 use Rattle.mbj_manager.proofs.Joining.{at-here}
-use Rattle.mbj_manager.proofs.Moving.{IsStep, have-rests, in-total, moved-length, moved-machine, moved-owed, moved-tied, ran-length, same-state}
+use Rattle.mbj_manager.proofs.Moving.{IsStep, have-rests, in-total, moved-asked, moved-length, moved-machine, moved-owed, moved-tied, ran-length, same-state}
 use Rattle.mbj_manager.proofs.Owing.{owed-follow, owed_from-same}
 use Rattle.mbj_manager.proofs.PendingStages.{pending-finished, pending-lane}
 use Rattle.mbj_manager.proofs.Seeing.{by-desk, enters-seen}
@@ -184,6 +185,9 @@ module _ (r r1 : RingState Cell) (p : ℕ) (ag ag1 : List ℕ) (ls : LaneQueues)
       ∙ ap (owed_from 0 (find_in (lines_in r ls))) (sym is)
       ∙ ap (λ (m : ℕ). owed_from 0 (find_in (λ j. numbered_queue (number m) (placed_in j ls))) (courses r1)) (sym same.first)
 
+  asked-then : map asked (courses r1) ≡ map asked (courses r)
+  asked-then = ap (map asked) is ∙ follow-asked x (ring_number r p) (courses r) follows
+
   pub machine-then : (at : Cause) → stepped at (machine_in r ag ls) ≡ goes_on at (ring_number r1 p) (pending x) (machine_in r1 ag1 ls)
   machine-then at =
       ap (λ (a : List ℕ). stepped at (machine_by (courses r) a (lines_in r ls) ls.flush_runs)) numbers-first
@@ -213,7 +217,7 @@ module _ (r r1 : RingState Cell) (p : ℕ) (ag ag1 : List ℕ) (ls : LaneQueues)
       = sym (machine-then at ∙ ap (λ ps. goes_on at (ring_number r1 p) ps (machine_in r1 ag1 ls)) none) in
       let fits = y.fits in
       record {
-        is = same-state _ _ _ _ _ _ (sym owed-then) (ap (option_map job_in) same.opened) machine;
+        is = same-state (sym owed-then) asked-then (ap (option_map job_in) same.opened) machine;
         kept = record {
           ring = same.courses;
           is_open = subst IsOpenAt (sym same.opened) y.is_open;
@@ -276,7 +280,8 @@ module _ (r r1 : RingState Cell) (p : ℕ) (ag ag1 : List ℕ) (ls : LaneQueues)
       let size = moved-length k r1 r2 ag1 ag2 ls ls2 d then others-are e.is in
       let fits = y.fits in
       record {
-        is = same-state _ _ _ _ _ _ (sym (owed-then ∙ t.owed ∙ moved-owed k r1 r2 ag1 ag2 ls ls2 d then others-are e.is))
+        is = same-state (sym (owed-then ∙ t.owed ∙ moved-owed k r1 r2 ag1 ag2 ls ls2 d then others-are e.is))
+            (moved-asked k r1 r2 ag1 ag2 ls ls2 d then others-are e.is ∙ entered-asked at (lanes_of k) n a d1 ∙ asked-then)
             (ap (option_map job_in) (then.opened ∙ same.opened)) machine;
         kept = record {
           ring = then.courses;

@@ -87,7 +87,7 @@ write-keeps (Some old) j h = refl
 next-keeps : (h : ManagerState) → (opened_next h).owed ≡ h.owed
 next-keeps h = grind arith
 
-keeps : (c : Call) (h : ManagerState) → Keeps c h
+pub keeps : (c : Call) (h : ManagerState) → Keeps c h
 keeps get_next h = next-keeps h ∙ sym (append-nil h.owed)
 keeps (write j) h = write-keeps h.opened j h ∙ sym (append-nil h.owed)
 keeps submit h = submit-keeps h.opened h refl

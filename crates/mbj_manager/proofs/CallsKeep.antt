@@ -2,7 +2,7 @@
 use Rattle.std.proofs.Common.{◌≡◌, ◌≢◌, ℕ, ◌+◌, ◌*◌, ◌%◌, ◌≤◌, ◌==◌, zero, suc, List, [], ◌∷◌, ◌++◌, length, Option, Some, None, slice_get, refl, ap, sym, ◌∙◌, subst, arith}
 use Rattle.std.specs.Prelude.{All, IsSome}
 use Rattle.std.proofs.lemmas.Bool.{cond_both}
-use Rattle.std.proofs.lemmas.List.{length_push, nil_from_length}
+use Rattle.std.proofs.lemmas.List.{length-drop, length_push, nil_from_length}
 use Rattle.std.proofs.lemmas.List.Elements.{All-nil}
 use Rattle.mbj_types.specs.declared.job.Job.{Job}
 use Rattle.mbj_types.specs.declared.done.Done.{Done}
@@ -15,7 +15,7 @@ use Rattle.mbj_manager.specs.Machine.Stages.{Pending, pending}
 use Rattle.mbj_manager.specs.Machine.Queues.{Machine, queue_for, idle_queue, count_end}
 use Rattle.mbj_manager.specs.declared.lane.Cause.TheVariants as cause
 use Rattle.mbj_manager.specs.Machine.Course.{course, flushed}
-use Rattle.mbj_manager.specs.State.{ManagerState, entered, after_flush, after_get_completed, given_at, lent, new_manager, with_job, with_open}
+use Rattle.mbj_manager.specs.State.{ManagerState, entered, after_flush, after_get_completed, given_at, lent, new_manager, with_job, with_open, without_packet}
 use Rattle.mbj_manager.specs.Calls as calls
 use Rattle.mbj_manager.specs.Calls.{Call, after_calls, called}
 use Rattle.mbj_manager.specs.Machine.Counts.{RisesUpTo}
@@ -75,6 +75,7 @@ kept : (h : ManagerState) → IsSettled h → IsKept h
 kept h settled = record {
   machine = settled.machine;
   jobs = settled.jobs;
+  asked = settled.asked;
   flush_gives = λ owes. earliest-given h.owed (flushed h.machine).left (record h { machine = flushed h.machine }) owes
       ((machines-kept h.machine settled.machine).earliest
       (λ none. owes (nil_from_length h.owed (sym settled.jobs ∙ ap length none))));
@@ -92,6 +93,7 @@ given-at-settled (d ∷ ds) ((p ∷ ps) ∷ left) h owes is settled = settled
 given-at-settled (d ∷ ds) ([] ∷ left) h owes is settled = record {
   machine = back-between left h.machine is settled.machine;
   jobs = (let same = settled.jobs in omega (arith, ap length owes, ap length is));
+  asked = (let same = settled.asked in omega (arith, ap length owes, length-drop 1 h.jobs));
   two = λ n. subst (λ (l : List (List Pending)). length (left_at (suc n) l) ≤ 2) is (settled.two (suc n));
 }
 
@@ -116,6 +118,7 @@ with-job-settled j h settled =
           ((machines-kept h.machine settled.machine).submits stages (pending-rounds j));
       jobs = course-length cause.Submit (entering (length h.owed)) ∙ length_push h.machine.left stages
           ∙ ap (λ n. n + 1) settled.jobs ∙ sym (length_push h.owed (result_of j));
+      asked = length_push h.jobs (without_packet j) ∙ ap (λ n. n + 1) settled.asked ∙ sym (length_push h.owed (result_of j));
       two = each-course (λ ps. length ps ≤ 2) two-then two-next cause.Submit (entering (length h.owed)) (two-added h.machine.left stages settled.two (two-stages j));
     }
 
@@ -133,7 +136,7 @@ submit-settled (Some j) h is settled =
 
 -- an open job changes neither
 pub open-settled : (j : Job) (h : ManagerState) → IsSettled h → IsSettled (with_open h j)
-open-settled j h settled = record { machine = settled.machine; jobs = settled.jobs; two = settled.two }
+open-settled j h settled = record { machine = settled.machine; jobs = settled.jobs; asked = settled.asked; two = settled.two }
 
 -- a write changes the open job alone
 write-settled : (o : Option Job) (j : Job) (h : ManagerState) → IsSettled h → IsSettled (written_at o j h)
@@ -151,11 +154,12 @@ flush-settled h settled =
     record {
       machine = (machines-kept h.machine settled.machine).flushes;
       jobs = flush-length h.machine ∙ settled.jobs;
+      asked = settled.asked;
       two = each-flush (λ ps. length ps ≤ 2) two-then two-next h.machine settled.two;
     }
 
 -- each call keeps it
-call-settled : (c : Call) (h : ManagerState) → IsSettled h → IsSettled (called c h).1
+pub call-settled : (c : Call) (h : ManagerState) → IsSettled h → IsSettled (called c h).1
 call-settled calls.get_next h settled = next-settled h settled
 call-settled (calls.write j) h settled = write-settled h.opened j h settled
 call-settled calls.submit h settled = submit-settled h.opened h refl settled
@@ -196,6 +200,7 @@ new-settled =
         blocks = λ k. (lanes k).blocks;
       };
       jobs = refl;
+      asked = refl;
       two = two-none;
     }
 

@@ -1,5 +1,5 @@
 -- A lane queue in which one item is changed, or which has one item more.
-use Rattle.std.proofs.Common.{◌≡◌, ◌≢◌, ℕ, ◌+◌, zero, suc, List, [], ◌∷◌, ◌++◌, length, slice_index_or, refl, ap, sym, arith}
+use Rattle.std.proofs.Common.{◌≡◌, ◌≢◌, ℕ, ◌+◌, zero, suc, List, [], ◌∷◌, ◌++◌, length, map, slice_index_or, refl, ap, sym, arith}
 use Rattle.std.specs.Prelude.{sum_by}
 use Rattle.std.proofs.lemmas.List.Sums.{sum_by-cons}
 use Rattle.mbj_manager.specs.Machine.Queues.{changed}
@@ -19,6 +19,13 @@ other-changed f d zero zero (x ∷ xs) ne = absurd (ne refl)
 other-changed f d zero (suc m) (x ∷ xs) ne = refl
 other-changed f d (suc n) zero (x ∷ xs) ne = refl
 other-changed f d (suc n) (suc m) (x ∷ xs) ne = other-changed f d n m xs (λ e. ne (ap suc e))
+
+-- what g sees of the items stays where f changes nothing of it
+pub map-unchanged : {A B : Type 0} (g : A → B) (f : A → A) → ((x : A) → g (f x) ≡ g x) → (n : ℕ) (xs : List A)
+    → map g (changed f n xs) ≡ map g xs
+map-unchanged g f same n [] = refl
+map-unchanged g f same zero (x ∷ xs) = ap (λ y. y ∷ map g xs) (same x)
+map-unchanged g f same (suc n) (x ∷ xs) = ap (λ ys. g x ∷ ys) (map-unchanged g f same n xs)
 
 -- what f keeps of an item holds of each item still
 pub each-changed : {A : Type 0} (P : A → Type 0) (f : A → A) (d : A) → ((x : A) → P x → P (f x)) → (n : ℕ) (xs : List A)

@@ -36,4 +36,7 @@ mod Shrinking
 mod JobStages
 mod FlushRuns
 mod CallsKeep
-mod Leading
+mod JobLaws
+mod Entries
+mod JobSteps
+mod Asking

@@ -15,7 +15,7 @@ use Rattle.mbj_manager.specs.declared.lane.Cause.TheVariants as cause
 use Rattle.mbj_manager.specs.State.{ManagerState}
 use Rattle.mbj_manager.specs.declared.cell.Cell.{Cell}
 use Rattle.mbj_manager.specs.Inside.Added.{first_lane}
-use Rattle.mbj_manager.specs.Inside.Courses.{IsSameRing, courses, job_in, number, ring_number}
+use Rattle.mbj_manager.specs.Inside.Courses.{IsSameRing, asked, courses, job_in, number, ring_number}
 use Rattle.mbj_manager.specs.Inside.Leaving.{finishers, numbers, others}
 use Rattle.mbj_manager.specs.Inside.Desk.{Desk, IsReady, desk, led_all, ran_at}
 use Rattle.mbj_manager.specs.Inside.LaneQueues.{desk_of, placed_in, total, with_placed}
@@ -24,6 +24,7 @@ use Rattle.mbj_manager.specs.Inside.PlacedQueue.{HasRest, PlacedQueue, Waiter, l
 use Rattle.mbj_manager.specs.Inside.Standing.{IsInCourse, left_at}
 use Rattle.mbj_manager.specs.Inside.Held.{IsHeld, IsOpenAt, IsTied, find_in, found, held, lane_seen, lines_in, machine_by, machine_in, owed_from, waiting}
 use Rattle.mbj_lane.specs.Rounds.{least}
+use Rattle.mbj_manager.proofs.Asking.{run-asked}
 use Rattle.mbj_manager.proofs.BetweenCalls.{earliest-ready}
 use Rattle.mbj_manager.proofs.CourseEnds.{between-calls}
 use Rattle.mbj_manager.proofs.KindLines.{put-case}
@@ -94,6 +95,9 @@ module _ (k : Kind) (r r' : RingState Cell) (ag ag' : List ℕ) (ls ls' : LaneQu
       ∙ sym (ap (λ (x : Desk). owed_from 0 (find_in after) x.courses) is)
       ∙ ap (λ (n : ℕ). owed_from 0 (find_in (λ j. numbered_queue (number n) (placed_in j ls'))) (courses r')) (sym same.first)
 
+  pub moved-asked : map asked (courses r') ≡ map asked d.courses
+  moved-asked = ap (λ (x : Desk). map asked x.courses) is
+
   pub moved-length : length ag' + total ls' + length (placed_in k ls).waiters ≡ length d.agenda + length d.waiters + total ls
   moved-length =
       let a : length (map (ring_number r) ag') ≡ length d.agenda = ap (λ (x : Desk). length x.agenda) is in
@@ -159,12 +163,12 @@ pub record IsStep (r r' : RingState Cell) (ag ag' : List ℕ) (ls ls' : LaneQueu
   pub is : held r' ag' ls' ≡ record (held r ag ls) { machine = m }
   pub kept : IsHeld r' ag' ls' capacity
 
-abbrev state : List Done → Option Job → Machine → ManagerState
-state owed opened machine = record { owed = owed; opened = opened; machine = machine }
+abbrev state : List Done → List Job → Option Job → Machine → ManagerState
+state owed jobs opened machine = record { owed = owed; jobs = jobs; opened = opened; machine = machine }
 
-pub same-state : (a b : List Done) (o p : Option Job) (m n : Machine) → a ≡ b → o ≡ p → m ≡ n
-    → state a o m ≡ state b p n
-same-state a b o p m n x y z = rw (x, y, z) refl
+pub same-state : {a b : List Done} {i j : List Job} {o p : Option Job} {m n : Machine} → a ≡ b → i ≡ j → o ≡ p → m ≡ n
+    → state a i o m ≡ state b j p n
+same-state owed jobs opened machine = rw (owed, jobs, opened, machine) refl
 
 -- how many may join or leave a list
 pub room-in : (k : Kind) (r : RingState Cell) (ag : List ℕ) (ls : LaneQueues) (capacity : ℕ) → IsHeld r ag ls capacity
@@ -196,7 +200,8 @@ runs-first k r r' ag ag' ls ls' capacity y idle first same others-are is =
     let l : length d0.waiters ≡ length (placed_in k ls).waiters = length-map (placed_in k ls).waiters g in
     let fits = y.fits in
     record {
-      is = same-state _ _ _ _ _ _ (sym (moved-owed k r r' ag ag' ls ls' d same others-are is) ∙ sym ran.owed) (ap (option_map job_in) same.opened) machine;
+      is = same-state (sym (moved-owed k r r' ag ag' ls ls' d same others-are is) ∙ sym ran.owed)
+          (moved-asked k r r' ag ag' ls ls' d same others-are is ∙ run-asked cause.Flush d0) (ap (option_map job_in) same.opened) machine;
       kept = record {
         ring = same.courses;
         is_open = subst IsOpenAt (sym same.opened) y.is_open;

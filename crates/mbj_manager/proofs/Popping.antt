@@ -16,7 +16,7 @@ use Rattle.mbj_manager.specs.Machine.Queues.{Queue, Machine, Waiting, queue_for}
 use Rattle.mbj_manager.specs.Machine.Between.{IsBetweenCalls}
 use Rattle.mbj_manager.specs.State.{ManagerState, after_get_completed, given_at, renumbered}
 use Rattle.mbj_manager.specs.declared.cell.Cell.{Cell}
-use Rattle.mbj_manager.specs.Inside.Courses.{IsGoing, course_in, courses, number, ring_number}
+use Rattle.mbj_manager.specs.Inside.Courses.{IsGoing, KeepsSteps, asked, course_in, courses, number, ring_number}
 use Rattle.mbj_manager.specs.Inside.Leaving.{At, IsAbsent}
 use Rattle.mbj_manager.specs.Inside.Desk.{Listed}
 use Rattle.mbj_manager.specs.Inside.LaneQueues.{placed_in}
@@ -177,6 +177,7 @@ module _ (v : Cell) (vs : List Cell) (o : Option Cell) (first : ℕ) (ls : LaneQ
   kept-then = record {
     ring = record {
       going = All-tail IsGoing v vs y.ring.going;
+      steps = All-tail KeepsSteps v vs y.ring.steps;
       few = (let few = y.ring.few in omega arith);
       first = omega arith;
     };
@@ -196,7 +197,12 @@ module _ (v : Cell) (vs : List Cell) (o : Option Cell) (first : ℕ) (ls : LaneQ
   abbrev answer : Option Done × ManagerState
   answer = (
     Some (owed_of 0 (find_in lines) (course_in v)),
-    record { owed = owed_from 1 (find_in lines) (map course_in vs); opened = (held r [] ls).opened; machine = without_earliest left_then (machine_in r [] ls) },
+    record {
+      owed = owed_from 1 (find_in lines) (map course_in vs);
+      jobs = map asked (map course_in vs);
+      opened = (held r [] ls).opened;
+      machine = without_earliest left_then (machine_in r [] ls);
+    },
   )
 
   given-is : after_get_completed (held r [] ls) ≡ answer
@@ -207,7 +213,7 @@ module _ (v : Cell) (vs : List Cell) (o : Option Cell) (first : ℕ) (ls : LaneQ
     finished = done;
     result = ap Some (sym (owed-finished 0 (find_in lines) (course_in v).out (stage_of (course_in v)) (course_in v) done))
         ∙ sym (ap (λ (a : Option Done × ManagerState). a.0) given-is);
-    is = same-state _ _ _ _ _ _ (sym owed-then) refl machine-then ∙ sym (ap (λ (a : Option Done × ManagerState). a.1) given-is);
+    is = same-state (sym owed-then) refl refl machine-then ∙ sym (ap (λ (a : Option Done × ManagerState). a.1) given-is);
     kept = kept-then;
   }
 

@@ -1,14 +1,14 @@
 -- The courses in a ring, when the one at a place changes.
-use Rattle.std.proofs.Common.{◌≡◌, ℕ, ◌<◌, zero, suc, List, [], ◌∷◌, length, map, set, Some, None, slice_get, refl, ap, sym, ◌∙◌, subst, arith}
+use Rattle.std.proofs.Common.{◌≡◌, ℕ, ◌<◌, zero, suc, List, [], ◌∷◌, length, map, set, length-set, Some, None, slice_get, refl, ap, sym, ◌∙◌, subst, arith}
 use Rattle.std.specs.Prelude.{All}
 use Rattle.std.proofs.lemmas.List.{length-map}
-use Rattle.std.proofs.lemmas.List.Elements.{All-head, All-tail, All-cons}
+use Rattle.std.proofs.lemmas.List.Elements.{All-head, All-set, All-tail}
 use Rattle.mbj_stage.specs.CourseState.{CourseState, stage_of}
 use Rattle.mbj_ring.specs.declared.ring.TheConstants.{CELLS}
 use Rattle.mbj_ring.specs.Ring.{RingState, IsLive, with_value_at}
 use Rattle.mbj_manager.specs.Machine.Queues.{changed}
 use Rattle.mbj_manager.specs.declared.cell.Cell.{Cell}
-use Rattle.mbj_manager.specs.Inside.Courses.{AreCourses, IsGoing, IsSameRing, course_in, courses, first_stage, ring_number}
+use Rattle.mbj_manager.specs.Inside.Courses.{AreCourses, IsGoing, IsSameRing, KeepsSteps, course_in, courses, first_stage, ring_number}
 use Rattle.mbj_manager.specs.Inside.Leaving.{At}
 
 pub at-below : {A : Type 0} (P : A → Type 0) (n : ℕ) (xs : List A) → At P n xs → n < length xs
@@ -27,10 +27,11 @@ cell-at P n [] v e p = cc
 cell-at P zero (x ∷ vs) v e p = let is : v ≡ x = cc in subst (λ c. P (course_in c)) is p
 cell-at P (suc n) (x ∷ vs) v e p = cell-at P n vs v e p
 
-pub going-at : (n : ℕ) (vs : List Cell) (v : Cell) → slice_get vs n ≡ Some v → All IsGoing vs → IsGoing v
-going-at n [] v e a = cc
-going-at zero (x ∷ vs) v e a = let is : x ≡ v = cc in subst IsGoing is (All-head IsGoing x vs a)
-going-at (suc n) (x ∷ vs) v e a = going-at n vs v e (All-tail IsGoing x vs a)
+-- what each has, the one there has
+pub each-at : {A : Type 0} (P : A → Type 0) (n : ℕ) (xs : List A) (x : A) → slice_get xs n ≡ Some x → All P xs → P x
+each-at P n [] x e a = cc
+each-at P zero (y ∷ xs) x e a = let is : y ≡ x = cc in subst P is (All-head P y xs a)
+each-at P (suc n) (y ∷ xs) x e a = each-at P n xs x e (All-tail P y xs a)
 
 -- what f makes of the course there
 pub courses-set : (f : CourseState → CourseState) (n : ℕ) (vs : List Cell) (v w : Cell) → slice_get vs n ≡ Some v → course_in w ≡ f (course_in v)
@@ -41,28 +42,19 @@ courses-set f zero (x ∷ vs) v w e is =
     ap (λ (c : CourseState). c ∷ map course_in vs) (is ∙ ap (λ c. f (course_in c)) (sym same))
 courses-set f (suc n) (x ∷ vs) v w e is = ap (λ (cs : List CourseState). course_in x ∷ cs) (courses-set f n vs v w e is)
 
-all-set : (n : ℕ) (vs : List Cell) (w : Cell) → IsGoing w → All IsGoing vs → All IsGoing (set vs n w)
-all-set n [] w g a = a
-all-set zero (x ∷ vs) w g a = All-cons IsGoing w vs g (All-tail IsGoing x vs a)
-all-set (suc n) (x ∷ vs) w g a = All-cons IsGoing x (set vs n w) (All-head IsGoing x vs a) (all-set n vs w g (All-tail IsGoing x vs a))
-
-length-set : (n : ℕ) (vs : List Cell) (w : Cell) → length (set vs n w) ≡ length vs
-length-set n [] w = refl
-length-set zero (x ∷ vs) w = refl
-length-set (suc n) (x ∷ vs) w = ap suc (length-set n vs w)
-
 -- a place where a course is
 pub live : (P : CourseState → Type 0) (r : RingState Cell) (p : ℕ) → p < CELLS → At P (ring_number r p) (courses r) → IsLive r p
 live P r p lt a = (lt, let below = at-below P (ring_number r p) (courses r) a in omega (arith, length-map r.values course_in))
 
 -- the ring with a course in place of another
-pub same-ring : (r : RingState Cell) (n : ℕ) (w : Cell) → AreCourses r → IsGoing w → IsSameRing (with_value_at r n w) r
-same-ring r n w is g = record {
+pub same-ring : (r : RingState Cell) (n : ℕ) (w : Cell) → AreCourses r → IsGoing w → KeepsSteps w → IsSameRing (with_value_at r n w) r
+same-ring r n w is going steps = record {
   first = refl;
   opened = refl;
   courses = record {
-    going = all-set n r.values w g is.going;
-    few = (let few = is.few in omega (arith, length-set n r.values w));
+    going = All-set IsGoing r.values n w going is.going;
+    steps = All-set KeepsSteps r.values n w steps is.steps;
+    few = (let few = is.few in omega (arith, length-set r.values n w));
     first = is.first;
   };
 }

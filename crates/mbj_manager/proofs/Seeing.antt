@@ -16,6 +16,7 @@ use Rattle.mbj_manager.specs.Inside.Leaving.{finishers, numbers, others, returne
 use Rattle.mbj_manager.specs.Inside.Desk.{Desk, joined_by, led_all, ran_at, ran_if_full}
 use Rattle.mbj_manager.specs.Inside.PlacedQueue.{Ahead, PlacedQueue, Waiter, brings_in, led_waiter, placed_queue, pair_rest, rounds_in}
 use Rattle.mbj_manager.specs.Inside.Held.{lane_seen, machine_by, waiting}
+use Rattle.mbj_manager.proofs.Changing.{map-unchanged}
 use Rattle.mbj_manager.proofs.Lanes.{given-lane, other-lane, with_waiting, waits, again}
 use Rattle.mbj_manager.proofs.KindLines.{same-kind}
 use Rattle.mbj_manager.proofs.PendingStages.{pending-back, pending-out}
@@ -74,11 +75,6 @@ returned-seen cs [] = refl
 returned-seen cs (w ∷ ws) =
     returned-seen (changed (taken_back w.1.brings) w.0 cs) ws
     ∙ ap (stage_done (numbers ws)) (map-changed (taken_back w.1.brings) (drop 1) w.0 cs (λ c. pending-back c w.1.brings))
-
-out-same : (n : ℕ) (cs : List CourseState) → map pending (changed handed_out n cs) ≡ map pending cs
-out-same n [] = refl
-out-same zero (c ∷ cs) = ap (λ (x : List Pending). x ∷ map pending cs) (pending-out c)
-out-same (suc n) (c ∷ cs) = ap (λ (x : List (List Pending)). pending c ∷ x) (out-same n cs)
 
 -- ---- the machine
 
@@ -140,7 +136,7 @@ joined-seen k lanes n a d =
     let own = own-lane k lanes d in
     let lane : lane_at (joined_by n a d) ≡ with_waiting (queue_for k m) ((queue_for k m).waiting ++ waits n a.rounds ∷ [])
     = rw own (ap (λ (r : List Waiting). record { waiting = r; rounds = d.rounds; blocks = d.blocks }) (map-append waiting d.waiters ((n, a) ∷ []))) in
-    same-machine _ _ _ _ _ _ d.flush_runs (out-same n d.courses)
+    same-machine _ _ _ _ _ _ d.flush_runs (map-unchanged pending handed_out pending-out n d.courses)
     (ap (λ x. with_queue k x lanes) lane ∙ sym (again k (with_waiting (queue_for k m) ((queue_for k m).waiting ++ waits n a.rounds ∷ [])) (lane_at d) lanes)) refl
 
 either : (at : Cause) (k : Kind) (lanes : Kind → Queue) (b : Bool) (d : Desk)

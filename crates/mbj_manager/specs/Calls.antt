@@ -1,10 +1,10 @@
 -- The calls of a manager one after another, and the law of what they give back.
-use Rattle.std.specs.Prelude.{◌≡◌, ◌==◌, List, [], ◌∷◌, ◌++◌, length, map, Option, None, option_map, option_to_list, unwrap_or, if◌then◌else◌}
+use Rattle.std.specs.Prelude.{◌≡◌, ◌==◌, List, [], ◌∷◌, ◌++◌, drop, length, map, Option, None, option_map, option_to_list, unwrap_or, if◌then◌else◌}
 use Rattle.mbj_types.specs.declared.job.Job.{Job}
 use Rattle.mbj_types.specs.declared.done.Done.{Done}
 use Rattle.mbj_types.specs.Result.{result_of}
 use Rattle.mbj_ring.specs.declared.ring.TheConstants.{CELLS}
-use Rattle.mbj_manager.specs.State.{ManagerState, new_manager, lent, with_open, after_get_completed, after_submit, after_flush}
+use Rattle.mbj_manager.specs.State.{ManagerState, new_manager, lent, with_open, after_get_completed, after_submit, after_flush, without_packet}
 
 -- a call, or a write of the job that is lent
 pub data Call : Type 0 where
@@ -44,3 +44,8 @@ after_calls (c ∷ cs) h = after_calls cs (called c h).1
 -- what is given back, and then what is still owed, are the results of what was submitted, each once and in order
 abbrev pub GivesInOrder : List Call → Type 0
 GivesInOrder cs = given_back cs new_manager ++ (after_calls cs new_manager).owed ≡ map result_of (jobs_submitted cs new_manager)
+
+-- what a manager has of the jobs whose results it owes is what was asked for the last of those that were submitted
+abbrev pub HoldsTheRest : List Call → Type 0
+HoldsTheRest cs = (after_calls cs new_manager).jobs
+    ≡ drop (length (given_back cs new_manager)) (map without_packet (jobs_submitted cs new_manager))

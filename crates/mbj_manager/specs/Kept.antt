@@ -9,6 +9,8 @@ pub record IsKept (h : ManagerState) : Type 0 where
   pub machine : IsBetweenCalls h.machine
   -- there is a result owed for each job of the machine
   pub jobs : length h.machine.left ≡ length h.owed
+  -- and what is asked for each of them
+  pub asked : length h.jobs ≡ length h.owed
   -- a flush gives the earliest job back
   pub flush_gives : h.owed ≢ [] → IsSome (after_flush h).0
   -- and runs lane queues twice for each job at most

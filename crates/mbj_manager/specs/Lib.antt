@@ -2,6 +2,6 @@ pub mod Machine
 pub mod State
 pub mod Calls
 pub mod Kept
-pub mod Leads
+pub mod Entries
 pub mod Inside
 pub mod Lending

@@ -1,5 +1,5 @@
 -- What a contract sees of a manager, and what each call makes of it.
-use Rattle.std.specs.Prelude.{◌≡◌, ◌≢◌, ◌==◌, ◌-◌, List, [], ◌∷◌, ◌++◌, length, map, Option, Some, None, option_map, slice_get, unwrap_or, if◌then◌else◌}
+use Rattle.std.specs.Prelude.{◌≡◌, ◌≢◌, ◌==◌, ◌-◌, List, [], ◌∷◌, ◌++◌, drop, length, map, Option, Some, None, option_map, slice_get, unwrap_or, if◌then◌else◌}
 use Rattle.mbj_types.specs.declared.job.Job.{Job}
 use Rattle.mbj_types.specs.declared.done.Done.{Done}
 use Rattle.mbj_types.specs.Blank.{blank}
@@ -11,9 +11,15 @@ use Rattle.mbj_manager.specs.Machine.Queues.{Waiting, Queue, Machine, idle_queue
 use Rattle.mbj_manager.specs.declared.lane.Cause.TheVariants as cause
 use Rattle.mbj_manager.specs.Machine.Course.{course, flushed}
 
+-- what a job asks for, which is all of it but its packet
+abbrev pub without_packet : Job → Job
+without_packet j = record j { packet = [] }
+
 pub record ManagerState : Type 0 where
   -- the results of the jobs that are submitted and not given back, in the order of submission
   pub owed : List Done
+  -- what is asked for each of them: its job without its packet
+  pub jobs : List Job
   -- the job that is being filled
   pub opened : Option Job
   -- where the submitted jobs stand
@@ -21,7 +27,7 @@ pub record ManagerState : Type 0 where
 
 -- a manager with no job and no open one, and with lanes in which no job waits and nothing ran
 abbrev pub new_manager : ManagerState
-new_manager = record { owed = []; opened = None; machine = record { left = []; lanes = λ k. idle_queue; agenda = []; flush_runs = 0 } }
+new_manager = record { owed = []; jobs = []; opened = None; machine = record { left = []; lanes = λ k. idle_queue; agenda = []; flush_runs = 0 } }
 
 -- ---- get_next
 
@@ -42,7 +48,7 @@ renumbered l = record l { waiting = map (λ (w : Waiting). record w { number = w
 -- the earliest job's result is given back where that job is finished
 abbrev pub given_at : List Done → List (List Pending) → ManagerState → Option Done × ManagerState
 given_at (d ∷ ds) ([] ∷ left) h =
-    (Some d, record h { owed = ds; machine = record h.machine { left = left; lanes = λ k. renumbered (queue_for k h.machine) } })
+    (Some d, record h { owed = ds; jobs = drop 1 h.jobs; machine = record h.machine { left = left; lanes = λ k. renumbered (queue_for k h.machine) } })
 given_at ds left h = (None, h)
 
 abbrev pub after_get_completed : ManagerState → Option Done × ManagerState
@@ -59,6 +65,7 @@ pub record IsEarliestFinished (h : ManagerState) : Type 0 where
 abbrev pub with_job : Job → ManagerState → ManagerState
 with_job j h = record {
   owed = h.owed ++ result_of j ∷ [];
+  jobs = h.jobs ++ without_packet j ∷ [];
   opened = None;
   machine = course cause.Submit (record h.machine {
     left = h.machine.left ++ pending (begun j) ∷ [];

@@ -6,7 +6,7 @@ ghost use Rattle.mbj_ring.specs.declared.ring.TheConstants.{CELLS};
 ghost use Rattle.mbj_types.specs.Kinds.{lanes_of};
 ghost use Rattle.mbj_lane.specs.Rounds.{end_of};
 ghost use Rattle.mbj_manager.specs.Machine.Queues.{count_end, queue_for, rest_of};
-ghost use Rattle.mbj_manager.specs.Leads.{AreLed};
+ghost use Rattle.mbj_manager.specs.Entries.{AreEntriesOf};
 ghost use Rattle.mbj_manager.specs.Machine.Counts.{RisesUpTo};
 ghost use Rattle.mbj_manager.specs.State.{IsEarliestFinished, entered, after_flush, after_get_completed, lent, new_manager, after_making_room, after_submit, with_open};
 ghost use Rattle.mbj_manager.specs.Lending.{LendsNext, LendsOpen};
@@ -203,11 +203,11 @@ impl Manager {
     }
 
     /// The entries of the jobs of K's kind that wait for lanes: as many entries as jobs, and in their order. An entry has as
-    /// many rounds left as its job, whose course has it out; and once they are done, the course owes the result that the job
-    /// is owed.
+    /// many rounds left as its job. The job's own course has it out, with the job's keys, IV, data and ranges and with the last
+    /// of its steps left; once the entry's rounds are done, it owes the result that the job is owed.
     pub fn lanes<K: Queued>(&self) -> &Lanes<K>
         ensures rests { map K.rest_of result.now.entries.items ≡ map rest_of (queue_for K.kind self.now.machine).waiting }
-        ensures led { AreLed K.kind self.now (map (λ e. K.brings (end_of K.round K.rest_of e)) result.now.entries.items)
+        ensures entries { AreEntriesOf K.kind self.now (map (λ e. K.brings (end_of K.round K.rest_of e)) result.now.entries.items)
             (queue_for K.kind self.now.machine).waiting }
     {
         self.works.lanes::<K>()

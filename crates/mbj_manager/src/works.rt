@@ -8,7 +8,7 @@ ghost use Rattle.mbj_stage.specs.declared.stage.Stage.TheVariants as stage;
 ghost use Rattle.mbj_manager.specs.Machine.Stages.{pending};
 ghost use Rattle.mbj_lane.specs.Rounds.{end_of};
 ghost use Rattle.mbj_manager.specs.Machine.Queues.{count_end, queue_for, rest_of, run_within};
-ghost use Rattle.mbj_manager.specs.Leads.{AreLed};
+ghost use Rattle.mbj_manager.specs.Entries.{AreEntriesOf};
 ghost use Rattle.mbj_manager.specs.Machine.Course.{course, flushed, stages_left, stepped};
 ghost use Rattle.mbj_manager.specs.State.{after_get_completed, lent, new_manager, with_open};
 ghost use Rattle.mbj_manager.specs.Lending.{LendsOpenJob};
@@ -246,7 +246,7 @@ impl Works {
 
     pub(crate) fn lanes<K: Queued>(&self) -> &Lanes<K>
         ensures rests { map K.rest_of result.now.entries.items ≡ map rest_of (queue_for K.kind self.now.machine).waiting }
-        ensures led { AreLed K.kind self.now (map (λ e. K.brings (end_of K.round K.rest_of e)) result.now.entries.items)
+        ensures entries { AreEntriesOf K.kind self.now (map (λ e. K.brings (end_of K.round K.rest_of e)) result.now.entries.items)
             (queue_for K.kind self.now.machine).waiting }
     {
         K::queue(&self.lists).lanes()

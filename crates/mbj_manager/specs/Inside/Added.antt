@@ -5,13 +5,14 @@ use Rattle.mbj_types.specs.declared.kind.Kind.{Kind}
 use Rattle.mbj_types.specs.Result.{result_of}
 use Rattle.mbj_stage.specs.CourseState.{begun}
 use Rattle.mbj_manager.specs.Machine.Stages.{Pending, at_once, in_lanes, pending}
-use Rattle.mbj_manager.specs.State.{ManagerState}
+use Rattle.mbj_manager.specs.State.{ManagerState, without_packet}
 
 -- the job that was open goes last, and stands in the agenda
 abbrev pub added : Option Job → ManagerState → ManagerState
 added None h = h
 added (Some j) h = record {
   owed = h.owed ++ result_of j ∷ [];
+  jobs = h.jobs ++ without_packet j ∷ [];
   opened = None;
   machine = record h.machine { left = h.machine.left ++ pending (begun j) ∷ []; agenda = length h.owed ∷ [] };
 }

@@ -25,16 +25,17 @@ listed lanes = told idle_queue lanes
 
 -- a state with its lanes as a list, field by field
 abbrev pub Stored : Type 0
-Stored = List Done × (Option Job × (List (List Pending) × (List Queue × (List ℕ × ℕ))))
+Stored = List Done × (List Job × (Option Job × (List (List Pending) × (List Queue × (List ℕ × ℕ)))))
 
 abbrev stored : ManagerState → Stored
-stored h = (h.owed, (h.opened, (h.machine.left, (map h.machine.lanes all_kinds, (h.machine.agenda, h.machine.flush_runs)))))
+stored h = (h.owed, (h.jobs, (h.opened, (h.machine.left, (map h.machine.lanes all_kinds, (h.machine.agenda, h.machine.flush_runs))))))
 
 abbrev state : Stored → ManagerState
 state s = record {
   owed = s.0;
-  opened = s.1.0;
-  machine = record { left = s.1.1.0; lanes = listed s.1.1.1.0; agenda = s.1.1.1.1.0; flush_runs = s.1.1.1.1.1 };
+  jobs = s.1.0;
+  opened = s.1.1.0;
+  machine = record { left = s.1.1.1.0; lanes = listed s.1.1.1.1.0; agenda = s.1.1.1.1.1.0; flush_runs = s.1.1.1.1.1.1 };
 }
 
 -- a state is what it is stored as

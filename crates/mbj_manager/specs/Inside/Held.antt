@@ -12,7 +12,7 @@ use Rattle.mbj_manager.specs.Machine.Stages.{pending}
 use Rattle.mbj_manager.specs.Machine.Queues.{Waiting, Queue, Machine}
 use Rattle.mbj_manager.specs.State.{ManagerState}
 use Rattle.mbj_manager.specs.declared.cell.Cell.{Cell}
-use Rattle.mbj_manager.specs.Inside.Courses.{AreCourses, IsOpen, courses, job_in, ring_number}
+use Rattle.mbj_manager.specs.Inside.Courses.{AreCourses, IsOpen, asked, courses, job_in, ring_number}
 use Rattle.mbj_manager.specs.Inside.Leaving.{At, IsAbsent}
 use Rattle.mbj_manager.specs.Inside.Desk.{Listed}
 use Rattle.mbj_manager.specs.Inside.LaneQueues.{placed_in, total}
@@ -75,6 +75,7 @@ machine_in r agenda ls = machine_by (courses r) (map (ring_number r) agenda) (li
 abbrev pub held : RingState Cell → List ℕ → LaneQueues → ManagerState
 held r agenda ls = record {
   owed = owed_from 0 (find_in (lines_in r ls)) (courses r);
+  jobs = map asked (courses r);
   opened = option_map job_in r.opened;
   machine = machine_in r agenda ls;
 }

@@ -1,9 +1,12 @@
 -- The course at the place changes, and no other.
+use Rattle.std.proofs.Common.{sym, subst}
 use Rattle.mbj_lane.specs.Rounds.{end_of}
 use Rattle.mbj_stage.specs.Handing.{IsNext, handed_out}
-use Rattle.mbj_manager.specs.Inside.Courses.{ring_number}
+use Rattle.mbj_manager.specs.Inside.Courses.{IsGoing, KeepsSteps, course_in, ring_number}
+use Rattle.mbj_manager.specs.Entries.{HasJobSteps}
 use Rattle.mbj_manager.specs.Inside.Leaving.{Gives}
-use Rattle.mbj_manager.proofs.RingCourses.{at-cell, cell-at, courses-set, going-at, live, same-ring}
+use Rattle.mbj_manager.proofs.JobSteps.{out-steps}
+use Rattle.mbj_manager.proofs.RingCourses.{at-cell, cell-at, courses-set, each-at, live, same-ring}
 use Rattle.mbj_manager.proofs.lane.hand_out.Goals as goal
 
 pub at_mut-cell-requires : goal.at_mut-cell-requires
@@ -12,7 +15,7 @@ at_mut-cell-requires g c = live (IsNext g.K.Feed.kind) c.args.ring.now c.args.pl
 pub hand_out-requires-clause-going : goal.hand_out-requires-clause-going
 hand_out-requires-clause-going g c =
     let r = c.args.ring.now in
-    going-at (ring_number r c.args.place) r.values c.at_mut-cell.result.now c.at_mut-cell.ensures.value c.requires.ring.going
+    each-at IsGoing (ring_number r c.args.place) r.values c.at_mut-cell.result.now c.at_mut-cell.ensures.value c.requires.ring.going
 
 pub hand_out-requires-clause-next : goal.hand_out-requires-clause-next
 hand_out-requires-clause-next g c =
@@ -23,6 +26,8 @@ pub returns-clause-ring : goal.returns-clause-ring
 returns-clause-ring g c =
     let r = c.args.ring.now in
     same-ring r (ring_number r c.args.place) c.hand_out.new.self c.requires.ring c.hand_out.ensures.going
+    (subst HasJobSteps (sym c.hand_out.ensures.out) (out-steps (course_in c.at_mut-cell.result.now)
+    (each-at KeepsSteps (ring_number r c.args.place) r.values c.at_mut-cell.result.now c.at_mut-cell.ensures.value c.requires.ring.steps)))
 
 pub returns-clause-out : goal.returns-clause-out
 returns-clause-out g c =

@@ -1,7 +1,10 @@
 -- The course at the place changes, and no other.
+use Rattle.std.proofs.Common.{sym, subst}
 use Rattle.mbj_stage.specs.Handing.{IsOut, taken_back}
-use Rattle.mbj_manager.specs.Inside.Courses.{ring_number}
-use Rattle.mbj_manager.proofs.RingCourses.{at-cell, courses-set, going-at, live, same-ring}
+use Rattle.mbj_manager.specs.Entries.{HasJobSteps}
+use Rattle.mbj_manager.specs.Inside.Courses.{IsGoing, KeepsSteps, course_in, ring_number}
+use Rattle.mbj_manager.proofs.JobSteps.{back-steps}
+use Rattle.mbj_manager.proofs.RingCourses.{at-cell, courses-set, each-at, live, same-ring}
 use Rattle.mbj_manager.proofs.lane.take_back.Goals as goal
 
 pub at_mut-cell-requires : goal.at_mut-cell-requires
@@ -10,7 +13,7 @@ at_mut-cell-requires g c = live (IsOut g.K.Feed.kind (g.K.Feed.brings c.args.ent
 pub take_back-requires-clause-going : goal.take_back-requires-clause-going
 take_back-requires-clause-going g c =
     let r = c.args.ring.now in
-    going-at (ring_number r c.args.place) r.values c.at_mut-cell.result.now c.at_mut-cell.ensures.value c.requires.ring.going
+    each-at IsGoing (ring_number r c.args.place) r.values c.at_mut-cell.result.now c.at_mut-cell.ensures.value c.requires.ring.going
 
 pub take_back-requires-clause-out : goal.take_back-requires-clause-out
 take_back-requires-clause-out g c =
@@ -21,6 +24,8 @@ pub returns-clause-ring : goal.returns-clause-ring
 returns-clause-ring g c =
     let r = c.args.ring.now in
     same-ring r (ring_number r c.args.place) c.take_back.new.self c.requires.ring c.take_back.ensures.going
+    (subst HasJobSteps (sym c.take_back.ensures.back) (back-steps (course_in c.at_mut-cell.result.now) (g.K.Feed.brings c.args.entry)
+    (each-at KeepsSteps (ring_number r c.args.place) r.values c.at_mut-cell.result.now c.at_mut-cell.ensures.value c.requires.ring.steps)))
 
 pub returns-clause-back : goal.returns-clause-back
 returns-clause-back g c =

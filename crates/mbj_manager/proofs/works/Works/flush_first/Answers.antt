@@ -9,7 +9,7 @@ use Rattle.mbj_manager.proofs.Moving.{same-state}
 use Rattle.mbj_manager.proofs.works.Works.flush_first.Goals as goal
 
 pub flushing-init : goal.flushing-init
-flushing-init c = record { reaches = flush-start c.args.self.now.machine; owed_is = refl; opened_is = refl; idle = c.requires }
+flushing-init c = record { reaches = flush-start c.args.self.now.machine; owed_is = refl; jobs_are = refl; opened_is = refl; idle = c.requires }
 
 pub flushing-preserved : goal.flushing-preserved
 flushing-preserved c =
@@ -26,6 +26,8 @@ flushing-preserved c =
           c.flushing.invariant.reaches;
       owed_is = ap (λ (h : ManagerState). h.owed) settled ∙ ap (λ (h : ManagerState). h.owed) ran
           ∙ ap (λ (h : ManagerState). h.owed) c.first_kind.ensures.same ∙ c.flushing.invariant.owed_is;
+      jobs_are = ap (λ (h : ManagerState). h.jobs) settled ∙ ap (λ (h : ManagerState). h.jobs) ran
+          ∙ ap (λ (h : ManagerState). h.jobs) c.first_kind.ensures.same ∙ c.flushing.invariant.jobs_are;
       opened_is = ap (λ (h : ManagerState). h.opened) settled ∙ ap (λ (h : ManagerState). h.opened) ran
           ∙ ap (λ (h : ManagerState). h.opened) c.first_kind.ensures.same ∙ c.flushing.invariant.opened_is;
       idle = c.settle.ensures.idle;
@@ -35,7 +37,7 @@ pub returns-in-None-clause-flushed : goal.returns-in-None-clause-flushed
 returns-in-None-clause-flushed c =
     let m = c.flushing.self.machine in
     c.first_kind.ensures.same
-    ∙ same-state _ _ _ _ _ _ c.flushing.invariant.owed_is c.flushing.invariant.opened_is
+    ∙ same-state c.flushing.invariant.owed_is c.flushing.invariant.jobs_are c.flushing.invariant.opened_is
     (flush-end m (flushed c.args.self.now.machine) (sym c.first_kind.ensures.kind ∙ c.in-None.is) c.flushing.invariant.reaches)
 
 pub returns-in-None-clause-done : goal.returns-in-None-clause-done

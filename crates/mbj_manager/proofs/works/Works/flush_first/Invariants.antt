@@ -8,6 +8,7 @@ abbrev pub invariant-flushing : goal.invariant-flushing
 invariant-flushing l = record {
   reaches : FlushReaches l.self.machine (flushed l.initial.self.machine);
   owed_is : l.self.owed ≡ l.initial.self.owed;
+  jobs_are : l.self.jobs ≡ l.initial.self.jobs;
   opened_is : l.self.opened ≡ l.initial.self.opened;
   idle : l.self.machine.agenda ≡ [];
 }

@@ -1,16 +1,17 @@
 -- The lane queue that the fields hold is the machine's, and its entries are those of the machine's jobs.
 use Rattle.std.proofs.Common.{◌≡◌, ◌∙◌, List, map, ap, sym, subst}
 use Rattle.std.specs.Prelude.{option_map}
+use Rattle.std.proofs.lemmas.List.Elements.{All-map}
 use Rattle.mbj_lane.specs.Rounds.{end_of}
 use Rattle.mbj_stage.specs.Handing.{End}
 use Rattle.mbj_manager.specs.Machine.Queues.{queue_for, rest_of}
 use Rattle.mbj_manager.specs.State.{ManagerState}
-use Rattle.mbj_manager.specs.Leads.{AreLed}
-use Rattle.mbj_manager.specs.Inside.Courses.{courses, job_in, ring_number}
+use Rattle.mbj_manager.specs.Entries.{AreEntriesOf, HasJobSteps}
+use Rattle.mbj_manager.specs.Inside.Courses.{course_in, courses, job_in, ring_number}
 use Rattle.mbj_manager.specs.Inside.Held.{held, lines_in, waiting}
 use Rattle.mbj_manager.specs.Inside.PlacedQueue.{PlacedQueue, Waiter, pair_rest, rounds_in}
 use Rattle.mbj_manager.specs.Inside.LaneQueues.{placed_in}
-use Rattle.mbj_manager.proofs.Leading.{all-led, numbered-ends, numbered-rests}
+use Rattle.mbj_manager.proofs.Entries.{all-entries, numbered-ends, numbered-rests}
 use Rattle.mbj_manager.proofs.works.Works.lanes.Goals as goal
 
 pub returns-clause-rests : goal.returns-clause-rests
@@ -21,8 +22,8 @@ returns-clause-rests g c =
     ∙ sym (numbered-rests f (placed_in g.K.Feed.kind w.lists).waiters)
     ∙ ap (λ (h : ManagerState). map rest_of (queue_for g.K.Feed.kind h.machine).waiting) c.self.view_is
 
-pub returns-clause-led : goal.returns-clause-led
-returns-clause-led g c =
+pub returns-clause-entries : goal.returns-clause-entries
+returns-clause-entries g c =
     let w = c.self.inside in
     let f = ring_number w.ring in
     let k = g.K.Feed.kind in
@@ -31,6 +32,7 @@ returns-clause-led g c =
     let ends : List End = map (λ e. g.K.Feed.brings (end_of g.K.Kernel.round g.K.Kernel.rest_of e)) c.lanes.result.now.entries.items in
     let seen : map (λ (x : Waiter). x.1.brings) (lines k).waiters ≡ ends
     = numbered-ends f (placed_in k w.lists).waiters ∙ ap (λ (l : PlacedQueue). map (λ (x : Waiter). x.1.brings) l.waiters) (sym c.queue.ensures) ∙ sym c.lanes.ensures.ends in
-    subst (λ (h : ManagerState). AreLed k h ends (queue_for k h.machine).waiting) c.self.view_is
-    (subst (λ (es : List End). AreLed k state es (map waiting (lines k).waiters)) seen
-    (all-led k (courses w.ring) (map f w.agenda.places.items) lines w.lists.flush_runs (option_map job_in w.ring.opened) (c.self.invariant.tied.listed k)))
+    subst (λ (h : ManagerState). AreEntriesOf k h ends (queue_for k h.machine).waiting) c.self.view_is
+    (subst (λ (es : List End). AreEntriesOf k state es (map waiting (lines k).waiters)) seen
+    (all-entries k (courses w.ring) (map f w.agenda.places.items) lines w.lists.flush_runs (option_map job_in w.ring.opened)
+    (All-map HasJobSteps course_in w.ring.values c.self.invariant.ring.steps) (c.self.invariant.tied.listed k)))

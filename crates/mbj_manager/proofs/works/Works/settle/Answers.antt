@@ -9,7 +9,7 @@ use Rattle.mbj_manager.specs.Inside.Steps.{steps_ahead}
 use Rattle.mbj_manager.proofs.works.Works.settle.Goals as goal
 
 pub settling-init : goal.settling-init
-settling-init c = record { reaches = reaches-start c.args.cause c.args.self.now.machine; owed_is = refl; opened_is = refl; stages = omega arith }
+settling-init c = record { reaches = reaches-start c.args.cause c.args.self.now.machine; owed_is = refl; jobs_are = refl; opened_is = refl; stages = omega arith }
 
 pub settling-preserved : goal.settling-preserved
 settling-preserved c =
@@ -22,6 +22,7 @@ settling-preserved c =
       reaches = subst (λ (x : Machine). Reaches at x end) (sym machine)
           (reaches-step at m end (subst (λ (x : Machine). steps_ahead x < steps_ahead m) machine c.advance.ensures.fewer) c.settling.invariant.reaches);
       owed_is = ap (λ (h : ManagerState). h.owed) step ∙ c.settling.invariant.owed_is;
+      jobs_are = ap (λ (h : ManagerState). h.jobs) step ∙ c.settling.invariant.jobs_are;
       opened_is = ap (λ (h : ManagerState). h.opened) step ∙ c.settling.invariant.opened_is;
       stages = omega (arith, c.advance.ensures.stages, c.settling.invariant.stages);
     }
@@ -31,5 +32,5 @@ returns-clause-course c =
     let at = c.args.cause in
     let m = c.settling.self.machine in
     let none : m.agenda ≡ [] = search rules in
-    same-state _ _ _ _ _ _ c.settling.invariant.owed_is c.settling.invariant.opened_is
+    same-state c.settling.invariant.owed_is c.settling.invariant.jobs_are c.settling.invariant.opened_is
     (reaches-end at m (course at c.args.self.now.machine) none c.settling.invariant.reaches)

@@ -9,6 +9,7 @@ abbrev pub invariant-settling : goal.invariant-settling
 invariant-settling l = record {
   reaches : Reaches l.cause l.self.machine (course l.cause l.initial.self.machine);
   owed_is : l.self.owed ≡ l.initial.self.owed;
+  jobs_are : l.self.jobs ≡ l.initial.self.jobs;
   opened_is : l.self.opened ≡ l.initial.self.opened;
   stages : stages_left l.self.machine.left ≤ stages_left l.initial.self.machine.left;
 }

@@ -1,7 +1,8 @@
--- Who waits in a lane queue has an entry there, which is out of its course and leads to what the job is owed.
+-- Who waits in a lane queue has an entry there, which is out of the job's own course and leads to what the job is owed.
 use Rattle.std.proofs.Common.{◌≡◌, ℕ, ◌+◌, zero, suc, List, [], ◌∷◌, ◌++◌, map, Option, Some, slice_get, refl, ap, ap₂, sym, ◌∙◌, subst, arith, append_assoc}
 use Rattle.std.proofs.lemmas.Option.{slice_get-map}
 use Rattle.std.specs.Option.{option_map}
+use Rattle.std.specs.Prelude.{All}
 use Rattle.mbj_types.specs.declared.done.Done.{Done}
 use Rattle.mbj_types.specs.declared.job.Job.{Job}
 use Rattle.mbj_types.specs.declared.kind.Kind.{Kind}
@@ -10,12 +11,14 @@ use Rattle.mbj_stage.specs.Handing.{End, IsOut}
 use Rattle.mbj_manager.specs.Machine.Stages.{pending}
 use Rattle.mbj_manager.specs.Machine.Queues.{rest_of}
 use Rattle.mbj_manager.specs.State.{ManagerState}
-use Rattle.mbj_manager.specs.Leads.{AreLed, Leads}
+use Rattle.mbj_manager.specs.Entries.{AreEntriesOf, HasJobSteps, IsEntryOf}
+use Rattle.mbj_manager.specs.Inside.Courses.{asked}
 use Rattle.mbj_manager.specs.Inside.Leaving.{At}
 use Rattle.mbj_manager.specs.Inside.Desk.{Listed}
 use Rattle.mbj_manager.specs.Inside.PlacedQueue.{PlacedQueue, Waiter, numbered, pair_rest, rounds_in}
 use Rattle.mbj_manager.specs.Inside.Held.{find_in, found, machine_by, owed_from, owed_of, waiting}
 use Rattle.mbj_manager.proofs.Owing.{owed-out}
+use Rattle.mbj_manager.proofs.RingCourses.{each-at}
 use Rattle.mbj_manager.proofs.Tying.{Middle, found-here, middle}
 
 -- ---- the course of a job
@@ -42,33 +45,36 @@ owed-there first p (suc n) find (x ∷ cs) c e is = owed-there (suc first) p n f
 
 -- ---- the jobs of a lane queue
 
-module _ (k : Kind) (cs : List CourseState) (agenda : List ℕ) (lines : Kind → PlacedQueue) (runs : ℕ) (opened : Option Job) where
+module _ (k : Kind) (cs : List CourseState) (agenda : List ℕ) (lines : Kind → PlacedQueue) (runs : ℕ) (opened : Option Job)
+    (steps : All HasJobSteps cs) where
   abbrev state : ManagerState
-  state = record { owed = owed_from 0 (find_in lines) cs; opened = opened; machine = machine_by cs agenda lines runs }
+  state = record { owed = owed_from 0 (find_in lines) cs; jobs = map asked cs; opened = opened; machine = machine_by cs agenda lines runs }
 
-  leads : (front : List Waiter) (w : Waiter) (ws : List Waiter) → (lines k).waiters ≡ front ++ w ∷ ws → Middle k cs front w ws
-      → Leads k state w.1.brings (waiting w)
-  leads front w ws l o =
+  entry-of : (front : List Waiter) (w : Waiter) (ws : List Waiter) → (lines k).waiters ≡ front ++ w ∷ ws → Middle k cs front w ws
+      → IsEntryOf k state w.1.brings (waiting w)
+  entry-of front w ws l o =
       let t = there (IsOut k w.1.brings) w.0 cs o.out in
       let here : found w.0 (lines k).waiters ≡ Some w.1.brings = ap (found w.0) l ∙ found-here front w ws o.absent in
       record {
         course = t.item;
         out = t.has;
+        job = slice_get-map asked cs w.0 ∙ ap (option_map asked) t.is;
+        steps = each-at HasJobSteps w.0 cs t.item t.is steps;
         left = slice_get-map pending cs w.0 ∙ ap (option_map pending) t.is;
         owed = owed-there 0 w.0 w.0 (find_in lines) cs t.item (omega arith) t.is
             ∙ ap (λ (d : Done). Some d) (owed-out w.0 (find_in lines) k w.1.brings t.item t.has here);
       }
 
-  led-behind : (front ws : List Waiter) → (lines k).waiters ≡ front ++ ws → Listed k cs (lines k).waiters
-      → AreLed k state (map (λ w. w.1.brings) ws) (map waiting ws)
-  led-behind front [] l listed = tt
-  led-behind front (w ∷ ws) l listed = (
-    leads front w ws l (middle k cs front w ws (subst (Listed k cs) l listed)),
-    led-behind (front ++ w ∷ []) ws (l ∙ sym (append_assoc front (w ∷ []) ws)) listed,
+  entries-behind : (front ws : List Waiter) → (lines k).waiters ≡ front ++ ws → Listed k cs (lines k).waiters
+      → AreEntriesOf k state (map (λ w. w.1.brings) ws) (map waiting ws)
+  entries-behind front [] l listed = tt
+  entries-behind front (w ∷ ws) l listed = (
+    entry-of front w ws l (middle k cs front w ws (subst (Listed k cs) l listed)),
+    entries-behind (front ++ w ∷ []) ws (l ∙ sym (append_assoc front (w ∷ []) ws)) listed,
   )
 
-  pub all-led : Listed k cs (lines k).waiters → AreLed k state (map (λ w. w.1.brings) (lines k).waiters) (map waiting (lines k).waiters)
-  all-led listed = led-behind [] (lines k).waiters refl listed
+  pub all-entries : Listed k cs (lines k).waiters → AreEntriesOf k state (map (λ w. w.1.brings) (lines k).waiters) (map waiting (lines k).waiters)
+  all-entries listed = entries-behind [] (lines k).waiters refl listed
 
 -- ---- the entries of a list
 
