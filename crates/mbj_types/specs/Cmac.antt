@@ -1,7 +1,7 @@
 -- CMAC (SP 800-38B). The block cipher is the argument e.
 use Rattle.std.specs.Prelude.{ℕ, ◌-◌, ◌*◌, ◌/◌, ◌%◌, ◌^◌, nat_eq, List, [], ◌∷◌, ◌++◌, length, replicate, bit_xor, if◌then◌else◌}
 use Rattle.std.specs.Int.{w128, to_be_bytes, from_be_bytes}
-use Rattle.mbj_types.specs.Blocks.{xor_lists, blocks, zero_block}
+use Rattle.mbj_types.specs.Blocks.{xor_lists, blocks, zero_block, last_or}
 use Rattle.mbj_types.specs.Modes.{cbc}
 
 -- 6.1: a block as a string of 128 bits shifted left by one, and 87 xored into it where the bit shifted out was 1
@@ -34,11 +34,6 @@ abbrev pub closed : (List ℕ → List ℕ) → List (List ℕ) → List (List �
 closed e [] = []
 closed e (p ∷ []) = closed_block e p ∷ []
 closed e (p ∷ q ∷ ps) = p ∷ closed e (q ∷ ps)
-
--- the last block, or c where there is none
-abbrev pub last_or : List ℕ → List (List ℕ) → List ℕ
-last_or c [] = c
-last_or c (x ∷ xs) = last_or x xs
 
 -- 6.2, steps 5 to 7: the last block of CBC over these blocks, from the zero block on
 abbrev pub cmac : (List ℕ → List ℕ) → List ℕ → List ℕ

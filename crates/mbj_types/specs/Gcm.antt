@@ -2,8 +2,8 @@
 use Rattle.std.specs.Prelude.{ℕ, ◌+◌, ◌*◌, ◌%◌, ◌^◌, Bool, nat_eq, List, [], ◌∷◌, ◌++◌, length, take, drop, replicate, if◌then◌else◌}
 use Rattle.std.specs.List.{concat}
 use Rattle.std.specs.Int.{w32, w64, to_be_bytes, from_be_bytes}
-use Rattle.mbj_types.specs.Blocks.{xor_lists, blocks, zero_block}
-use Rattle.mbj_types.specs.Ghash.{ghash, filled_blocks}
+use Rattle.mbj_types.specs.Blocks.{xor_lists, blocks, zero_block, filled_blocks}
+use Rattle.mbj_types.specs.Ghash.{ghash}
 
 -- 6.2: the last 4 bytes, as a number, rise by 1 modulo 2^32
 unfoldable pub inc32 : List ℕ → List ℕ

@@ -1,7 +1,7 @@
 -- GHASH (SP 800-38D) on blocks of 16 bytes.
-use Rattle.std.specs.Prelude.{ℕ, Bool, List, [], ◌∷◌, map}
+use Rattle.std.specs.Prelude.{ℕ, Bool, List, [], ◌∷◌}
 use Rattle.std.specs.Int.{w128, to_be_bytes, from_be_bytes}
-use Rattle.mbj_types.specs.Blocks.{xor_lists, blocks, zero_block, filled_block}
+use Rattle.mbj_types.specs.Blocks.{xor_lists, zero_block}
 use Rattle.mbj_types.specs.Field.{bits, number, product}
 
 -- a block as an element of the field: its leftmost bit is the coefficient of x^0 (6.3)
@@ -20,7 +20,3 @@ ghash_from h y (x ∷ xs) = ghash_from h (block_product (xor_lists y x) h) xs
 -- 6.4: GHASH of blocks under h
 abbrev pub ghash : List ℕ → List (List ℕ) → List ℕ
 ghash h xs = ghash_from h zero_block xs
-
--- the blocks of a part, the last one filled with zero bytes; an empty part has none
-abbrev pub filled_blocks : List ℕ → List (List ℕ)
-filled_blocks part = map filled_block (blocks part)

@@ -8,6 +8,7 @@ pub mod Cmac
 pub mod Field
 pub mod Ghash
 pub mod Gcm
+pub mod Ccm
 pub mod Hmac
 pub mod Auths
 pub mod Rounds

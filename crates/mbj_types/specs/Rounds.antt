@@ -1,5 +1,5 @@
 -- How many rounds a job takes in the lanes of its kind.
-use Rattle.std.specs.Prelude.{ℕ, ◌+◌, ◌/◌, max}
+use Rattle.std.specs.Prelude.{ℕ, ◌+◌, ◌/◌, nat_eq, max, if◌then◌else◌}
 use Rattle.mbj_types.specs.declared.job.Job.{Job}
 use Rattle.mbj_types.specs.declared.kind.Kind.{Kind}
 use Rattle.mbj_types.specs.declared.kind.Kind.TheVariants.{Cbc128, Cbc192, Cbc256, Cmac128, Cmac256, HmacSha1, HmacSha256, HmacSha512}
@@ -17,6 +17,15 @@ cmac_rounds n = max 1 ((n + 15) / 16)
 -- holds the inner digest
 abbrev pub hmac_rounds : ℕ → ℕ → ℕ
 hmac_rounds b n = (n + b / 8) / b + 4
+
+-- CCM's additional data of a bytes: one for each block of it and the 2 bytes of its length, and none where there is no data
+abbrev pub data_rounds : ℕ → ℕ
+data_rounds a = if nat_eq a 0 then 0 else (a + 2 + 15) / 16
+
+-- CCM's MAC over additional data of a bytes and a text of n bytes: one for the first block, those of the data, and one for each block
+-- of the text
+abbrev pub ccm_rounds : ℕ → ℕ → ℕ
+ccm_rounds a n = 1 + data_rounds a + (n + 15) / 16
 
 abbrev pub rounds_of : Kind → Job → ℕ
 rounds_of Cbc128 j = cbc_rounds j.cipher_len
