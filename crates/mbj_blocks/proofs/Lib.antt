@@ -1,2 +1,4 @@
 pub mod Blocks
+pub mod Ranges
 pub mod Walk
+pub mod XoredTwice
