@@ -1,5 +1,6 @@
 pub mod Blends
 pub mod ByteMatrices
+pub mod ChainedEnds
 pub mod Chains
 pub mod EachPlace
 pub mod Exchanges
@@ -7,6 +8,7 @@ pub mod FullLanes
 pub mod HalfRounds
 pub mod HeldKeys
 pub mod KeySchedules
+pub mod KeyStreams
 pub mod LaneWords
 pub mod Matrices
 pub mod MixedPlanes

@@ -5,3 +5,4 @@ pub mod Rounds
 pub mod Keys
 pub mod Matrix
 pub mod Lending
+pub mod KeyStream

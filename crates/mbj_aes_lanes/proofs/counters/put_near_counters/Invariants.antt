@@ -1,7 +1,7 @@
 -- The counter blocks before the next one are made.
 use Rattle.std.proofs.Common.{◌≡◌, ℕ, ◌+◌, ◌*◌, ◌^◌, ◌<◌, [], get_or}
 use Rattle.std.specs.Int.{w128, to_be_bytes}
-use Rattle.mbj_ctr.proofs.put_near_counters.Given as goal
+use Rattle.mbj_aes_lanes.proofs.counters.put_near_counters.Given as goal
 
 abbrev pub invariant-each : goal.invariant-each
 invariant-each l =

@@ -1,6 +1,6 @@
 -- One counter block more is made in each turn.
 use Rattle.std.proofs.Common.{◌≢◌, ◌<◌, length, arith, get_or-set_other, get_or-set_same, below_more}
-use Rattle.mbj_ctr.proofs.put_any_counters.Goals as goal
+use Rattle.mbj_aes_lanes.proofs.counters.put_any_counters.Goals as goal
 
 pub each-preserved : goal.each-preserved
 each-preserved c =

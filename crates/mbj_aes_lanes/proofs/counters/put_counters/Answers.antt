@@ -1,7 +1,7 @@
 -- Where the low half does not wrap, neither does the counter.
 use Rattle.std.proofs.Common.{◌≡◌, ℕ, ◌+◌, ◌*◌, ◌/◌, ◌%◌, ◌^◌, ◌<◌, ap, ◌∙◌, arith}
 use Rattle.std.specs.Int.{w128, to_be_bytes}
-use Rattle.mbj_ctr.proofs.put_counters.Goals as goal
+use Rattle.mbj_aes_lanes.proofs.counters.put_counters.Goals as goal
 
 pub returns-then-low : goal.returns-then-low
 returns-then-low c j h =

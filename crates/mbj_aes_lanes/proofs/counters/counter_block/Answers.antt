@@ -1,7 +1,7 @@
 -- A counter is its two halves.
 use Rattle.std.proofs.Common.{◌≡◌, ℕ, ◌+◌, ◌*◌, ◌/◌, ◌%◌, ◌^◌, ap, ◌∙◌, arith}
 use Rattle.std.specs.Int.{w128, to_be_bytes}
-use Rattle.mbj_ctr.proofs.counter_block.Goals as goal
+use Rattle.mbj_aes_lanes.proofs.counters.counter_block.Goals as goal
 
 pub returns : goal.returns
 returns c =

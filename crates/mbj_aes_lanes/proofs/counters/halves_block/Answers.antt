@@ -2,7 +2,7 @@
 use Rattle.std.proofs.Common.{◌≡◌, ℕ, zero, suc, ◌+◌, ◌*◌, ◌/◌, ◌%◌, ◌^◌, List, [], ◌∷◌, refl, ap, ap₂, ◌∙◌, sym, arith}
 use Rattle.std.specs.Int.{w128, to_be_bytes, byte_at, bytes_high_first}
 use Rattle.std.proofs.Math.Nat.{div-div-eq-div-mul, pow-suc}
-use Rattle.mbj_ctr.proofs.halves_block.Goals as goal
+use Rattle.mbj_aes_lanes.proofs.counters.halves_block.Goals as goal
 
 -- n divided by 256, k times
 abbrev down : ℕ → ℕ → ℕ

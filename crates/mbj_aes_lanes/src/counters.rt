@@ -1,0 +1,184 @@
+//! Texts xored with the key stream of counters, in place: few blocks in one narrow pass, more of them in wide ones. No
+//! call takes memory.
+ghost use Rattle.std.specs.Prelude.{◌≡◌, ℕ, ◌+◌, ◌-◌, ◌*◌, ◌/◌, ◌%◌, ◌^◌, ◌<◌, ◌≤◌, List, All, [], length, slice_index_or};
+ghost use Rattle.std.specs.List.{concat};
+ghost use Rattle.std.specs.Int.{w128, to_be_bytes};
+ghost use Rattle.mbj_types.specs.Aes.{encipher};
+ghost use Rattle.mbj_types.specs.Blocks.{blocks};
+ghost use Rattle.mbj_types.specs.Modes.{ctr_blocks};
+ghost use Rattle.mbj_blocks.specs.Walked.{Walked};
+ghost use Rattle.mbj_aes_lanes.specs.KeyLanes.{IsFull, same_keys};
+ghost use Rattle.mbj_aes_lanes.specs.Inside.KeyStream.{IsKeyStream};
+
+use crate::all_lanes::encrypt32;
+use crate::block_states::FEW_BLOCKS;
+use crate::lane_keys::LaneKeys;
+use crate::same::encrypt_same;
+use mbj_aes::Schedule;
+use mbj_blocks::xor_blocks;
+use mbj_types::{AES_LANES, BLOCK_BYTES};
+use std::simd::u64x2;
+
+// The bytes of a counter in two halves, the highest first, by way of a vector: byte by byte they take a dozen times as
+// long.
+#[inline(always)]
+fn halves_block(high: u64, low: u64) -> [u8; 16]
+    ensures { result ≡ to_be_bytes w128 (low + 2 ^ 64 * high) }
+{
+    u64x2::from_array([low, high])
+        .to_le_bytes()
+        .reverse()
+        .to_array()
+}
+
+// The bytes of a counter, the highest first.
+#[inline(always)]
+fn counter_block(counter: u128) -> [u8; 16]
+    ensures { result ≡ to_be_bytes w128 counter }
+{
+    let low = (counter % (1 << 64)) as u64;
+    let high = (counter >> 64) as u64;
+    halves_block(high, low)
+}
+
+// Writes the counter blocks from these halves on, where the low one does not wrap.
+#[inline(always)]
+fn put_near_counters(blocks: &mut [[u8; 16]], high: u64, low: u64)
+    requires { low + length blocks.old ≤ 2 ^ 64 }
+    ensures { (j : ℕ) → j < length blocks.old → slice_index_or blocks.new j [] ≡ to_be_bytes w128 (low + j + 2 ^ 64 * high) }
+{
+    'each: for j in 0..blocks.len() {
+        blocks[j] = halves_block(high, low + j as u64);
+    }
+}
+
+// Writes the counter blocks from `counter` on, wherever the counters wrap.
+#[inline(never)]
+fn put_any_counters(blocks: &mut [[u8; 16]], counter: u128)
+    ensures { (j : ℕ) → j < length blocks.old → slice_index_or blocks.new j [] ≡ to_be_bytes w128 ((counter + j) % 2 ^ 128) }
+{
+    'each: for j in 0..blocks.len() {
+        blocks[j] = counter_block(counter.wrapping_add(j as u128));
+    }
+}
+
+// Writes the counter blocks from `counter` on, which is no secret. There are no more of them than lanes.
+#[inline(always)]
+fn put_counters(blocks: &mut [[u8; 16]], counter: u128)
+    requires { length blocks.old ≤ AES_LANES }
+    ensures { (j : ℕ) → j < length blocks.old → slice_index_or blocks.new j [] ≡ to_be_bytes w128 ((counter + j) % 2 ^ 128) }
+{
+    let low = (counter % (1 << 64)) as u64;
+    let high = (counter >> 64) as u64;
+    if low < u64::MAX - AES_LANES as u64 {
+        put_near_counters(blocks, high, low);
+    } else {
+        put_any_counters(blocks, counter);
+    }
+}
+
+// Writes the enciphered counters from `counter` on, as many as a narrow pass serves at most.
+#[inline(always)]
+fn put_few_masks(key: &Schedule, counter: u128, masks: &mut [[u8; 16]])
+    requires { length masks.old ≤ FEW_BLOCKS }
+    ensures masks { IsKeyStream (encipher key.now) counter masks.new }
+    ensures lengths { All (λ b. length b ≡ 16) masks.new }
+{
+    put_counters(masks, counter);
+    encrypt_same(key, masks);
+}
+
+// Writes the enciphered counters from `counter` on, one in each lane, where all lanes have the same key.
+#[inline(always)]
+fn put_masks(keys: &LaneKeys, counter: u128, masks: &mut [[u8; 16]; AES_LANES])
+    requires { IsFull keys.now }
+    ensures masks { (w : List ℕ) → keys.now ≡ same_keys w → IsKeyStream (encipher w) counter masks.new }
+    ensures lengths { All (λ b. length b ≡ 16) masks.new }
+{
+    put_counters(masks, counter);
+    encrypt32(keys, masks);
+}
+
+// A text of few blocks, in one narrow pass.
+fn xor_few(key: &Schedule, counter: u128, text: &mut [u8])
+    requires { length text.old ≤ 16 * FEW_BLOCKS }
+    ensures { text.new ≡ concat (ctr_blocks (encipher key.now) counter (blocks text.old)) }
+{
+    let mut room = [[0; BLOCK_BYTES]; FEW_BLOCKS];
+    let masks = &mut room[..text.len().div_ceil(BLOCK_BYTES)];
+    put_few_masks(key, counter, masks);
+    xor_blocks(text, 0, masks);
+}
+
+// An enciphered counter, and a text of few blocks from the next one on, in one narrow pass.
+fn xor_few_after(key: &Schedule, counter: u128, text: &mut [u8]) -> [u8; 16]
+    requires { length text.old ≤ 16 * (FEW_BLOCKS - 1) }
+    ensures mask { result ≡ encipher key.now (to_be_bytes w128 counter) }
+    ensures text { text.new ≡ concat (ctr_blocks (encipher key.now) ((counter + 1) % 2 ^ 128) (blocks text.old)) }
+{
+    let mut room = [[0; BLOCK_BYTES]; FEW_BLOCKS];
+    let masks = &mut room[..text.len().div_ceil(BLOCK_BYTES) + 1];
+    put_few_masks(key, counter, masks);
+    xor_blocks(text, 0, &masks[1..]);
+    masks[0]
+}
+
+// The blocks of a text from block `first` on, in wide passes, where all lanes have the same key.
+fn xor_from(keys: &LaneKeys, first_counter: u128, text: &mut [u8], first: usize)
+    requires keys { IsFull keys.now }
+    requires inside { first ≤ (length text.old + 15) / 16 }
+    ensures { (w whole : List ℕ) → keys.now ≡ same_keys w
+        → Walked (ctr_blocks (encipher w) first_counter) text.old first whole → text.new ≡ whole }
+{
+    let left = text.len().div_ceil(BLOCK_BYTES) - first;
+    let mut counter = first_counter;
+    'batches: for b in 0..left.div_ceil(AES_LANES) {
+        let here = (left - AES_LANES * b).min(AES_LANES);
+        let mut masks = [[0; BLOCK_BYTES]; AES_LANES];
+        put_masks(keys, counter, &mut masks);
+        xor_blocks(text, first + AES_LANES * b, &masks[..here]);
+        counter = counter.wrapping_add(AES_LANES as u128);
+    }
+}
+
+// An enciphered counter, and a text of any number of blocks from the next one on, in wide passes under keys that are
+// made once.
+fn xor_many_after(key: &Schedule, counter: u128, text: &mut [u8]) -> [u8; 16]
+    ensures mask { result ≡ encipher key.now (to_be_bytes w128 counter) }
+    ensures text { text.new ≡ concat (ctr_blocks (encipher key.now) ((counter + 1) % 2 ^ 128) (blocks text.old)) }
+{
+    let keys = LaneKeys::all(key);
+    let mut masks = [[0; BLOCK_BYTES]; AES_LANES];
+    put_masks(&keys, counter, &mut masks);
+    let here = text.len().div_ceil(BLOCK_BYTES).min(AES_LANES - 1);
+    xor_blocks(text, 0, &masks[1..here + 1]);
+    xor_from(&keys, counter.wrapping_add(AES_LANES as u128), text, here);
+    masks[0]
+}
+
+/// Xors each block of a text, in place, with its enciphered counter (SP 800-38A, 6.5), and the last block, which may be
+/// shorter, with as many bytes of it. `counter` is that of the first block. A counter is a number, its first byte being
+/// the highest, and the next one is 1 more modulo 2^128. It takes no memory.
+pub fn xor_counters(key: &Schedule, counter: u128, text: &mut [u8])
+    ensures { text.new ≡ concat (ctr_blocks (encipher key.now) counter (blocks text.old)) }
+{
+    if text.len() <= BLOCK_BYTES * FEW_BLOCKS {
+        xor_few(key, counter, text);
+    } else {
+        xor_from(&LaneKeys::all(key), counter, text, 0);
+    }
+}
+
+/// Enciphers `counter`, and xors a text from the counter after it on, as `xor_counters` does. The enciphered counter,
+/// which is the answer, goes through the lanes with the first blocks of the text, and takes a pass of its own only
+/// where there is no text. It takes no memory.
+pub fn xor_counters_after(key: &Schedule, counter: u128, text: &mut [u8]) -> [u8; 16]
+    ensures mask { result ≡ encipher key.now (to_be_bytes w128 counter) }
+    ensures text { text.new ≡ concat (ctr_blocks (encipher key.now) ((counter + 1) % 2 ^ 128) (blocks text.old)) }
+{
+    if text.len() <= BLOCK_BYTES * (FEW_BLOCKS - 1) {
+        xor_few_after(key, counter, text)
+    } else {
+        xor_many_after(key, counter, text)
+    }
+}
