@@ -1,15 +1,17 @@
 -- The blocks of a message by their numbers, and what a CMAC comes to by its rounds.
-use Rattle.std.proofs.Common.{◌≡◌, ℕ, zero, suc, ◌+◌, ◌-◌, ◌*◌, ◌/◌, ◌<◌, ◌≤◌, List, [], ◌∷◌, length, take, drop, get_or, refl, sym, ap, ap₂, ◌∙◌, arith, length-drop}
-use Rattle.std.proofs.lemmas.List.{drop-drop, drop-take, take-take, drop_more, drop_all, length-take-le, get_or-drop}
+use Rattle.std.proofs.Common.{◌≡◌, ℕ, zero, suc, ◌+◌, ◌-◌, ◌*◌, ◌<◌, ◌≤◌, List, [], ◌∷◌, length, take, drop, get_or, refl, sym, ap, ap₂, ◌∙◌, arith, length-drop}
+use Rattle.std.proofs.lemmas.List.{drop-drop, drop-take, take-take, get_or-drop}
 use Rattle.mbj_types.specs.Aes.{encipher}
-use Rattle.mbj_types.specs.Blocks.{xor_lists, zero_block, first_blocks, blocks}
-use Rattle.mbj_types.specs.Modes.{cbc}
-use Rattle.mbj_types.specs.Cmac.{closed, closed_block, message_blocks, last_or, cmac}
+use Rattle.mbj_types.specs.Blocks.{xor_lists, zero_block}
+use Rattle.mbj_types.specs.Cmac.{closed, closed_block, message_blocks, cmac}
 use Rattle.mbj_types.specs.Result.{range}
 use Rattle.mbj_types.specs.Rounds.{cmac_rounds}
-use Rattle.mbj_lane.specs.Rounds.{after, end_of}
+use Rattle.mbj_lane.specs.Rounds.{end_of}
+use Rattle.mbj_aes_lanes.proofs.ChainedEnds.{chain_end}
 use Rattle.mbj_blocks.specs.Places.{block_of}
-use Rattle.mbj_cmac.specs.Rounds.{CmacState, rest_of, round, started}
+use Rattle.mbj_blocks.proofs.Blocks.{length-blocks}
+use Rattle.mbj_blocks.proofs.Ranges.{length-range}
+use Rattle.mbj_cmac.specs.Rounds.{CmacState, chain_of, rest_of, round, started}
 use Rattle.mbj_cmac.proofs.Messages.{closed-more, closed-last}
 
 -- ---- how many blocks there are
@@ -19,14 +21,9 @@ length-closed e [] = refl
 length-closed e (p ∷ []) = refl
 length-closed e (p ∷ q ∷ ps) = ap suc (length-closed e (q ∷ ps))
 
-length-first_blocks : (n : ℕ) (m : List ℕ) → length (first_blocks n m) ≡ n
-length-first_blocks zero m = refl
-length-first_blocks (suc n) m = ap suc (length-first_blocks n (drop 16 m))
-
 length-message_blocks : (m : List ℕ) → length (message_blocks m) ≡ cmac_rounds (length m)
-unfolding blocks
 length-message_blocks [] = refl
-length-message_blocks (x ∷ m) = omega (arith, length-first_blocks ((length (x ∷ m) + 15) / 16) (x ∷ m))
+length-message_blocks (x ∷ m) = omega (arith, length-blocks (x ∷ m))
 
 -- as many as there are rounds
 length-closed_blocks : (e : List ℕ → List ℕ) (m : List ℕ) → length (closed e (message_blocks m)) ≡ cmac_rounds (length m)
@@ -66,9 +63,6 @@ block-last e m i h =
 
 -- ---- the range that the message is
 
-pub length-range : (off len : ℕ) (packet : List ℕ) → off + len ≤ length packet → length (range off len packet) ≡ len
-length-range off len packet h = length-take-le len (drop off packet) (omega (arith, length-drop off packet))
-
 -- block i of a range that has it whole
 pub range-block : (off len i : ℕ) (packet : List ℕ) → 16 * (i + 1) ≤ len
     → take 16 (drop (off + 16 * i) packet) ≡ block_of (range off len packet) i
@@ -91,11 +85,6 @@ range-rest off len at packet h =
 
 -- ---- the rounds
 
--- the packet stays
-pub packet-after : (n : ℕ) (e : CmacState) → (after round n e).packet ≡ e.packet
-packet-after zero e = refl
-packet-after (suc n) e = packet-after n (round e)
-
 module _ (key packet : List ℕ) (off len : ℕ) (h : off + len ≤ length packet) where
   abbrev state : ℕ → List ℕ → CmacState
   state rest chain = record { packet = packet; rest = rest; chain = chain; key = key; off = off; len = len }
@@ -106,21 +95,14 @@ module _ (key packet : List ℕ) (off len : ℕ) (h : off + len ≤ length packe
   many : length parts ≡ cmac_rounds len
   many = length-closed_blocks (encipher key) (range off len packet) ∙ ap cmac_rounds (length-range off len packet h)
 
-  -- n rounds, which are all that are left, from block i on
-  chain-after : (n i : ℕ) (chain : List ℕ) → i + n ≡ cmac_rounds len
-      → (after round n (state n chain)).chain ≡ last_or chain (cbc (encipher key) chain (drop i parts))
-  chain-after zero i chain at =
-      ap (λ bs. last_or chain (cbc (encipher key) chain bs)) (sym (drop_all i parts (omega (arith, many))))
-  chain-after (suc n) i chain at =
-      let place : cmac_rounds len - suc n ≡ i = omega arith in
+  -- a round takes the next block
+  led : (n i : ℕ) (chain : List ℕ) → i + suc n ≡ length parts
+      → round (state (suc n) chain) ≡ state n (encipher key (xor_lists (get_or parts i []) chain))
+  led n i chain at =
+      let place : cmac_rounds len - suc n ≡ i = omega (arith, many) in
       let fewer : suc n - 1 ≡ n = omega arith in
-      let next : List ℕ = encipher key (xor_lists (get_or parts i []) chain) in
-      let led : round (state (suc n) chain) ≡ state n next =
-      ap₂ (λ (m k : ℕ). state m (encipher key (xor_lists (get_or parts k []) chain))) fewer place in
-      ap (λ e. (after round n e).chain) led
-      ∙ chain-after n (i + 1) next (omega arith)
-      ∙ ap (λ bs. last_or chain (cbc (encipher key) chain bs)) (sym (drop_more parts i [] (omega (arith, many))))
+      ap₂ (λ (m k : ℕ). state m (encipher key (xor_lists (get_or parts k []) chain))) fewer place
 
   -- at the end the chaining value is the CMAC
   pub mac_end : (end_of round rest_of (started key packet off len)).chain ≡ cmac (encipher key) (range off len packet)
-  mac_end = chain-after (cmac_rounds len) 0 zero_block (omega arith)
+  mac_end = chain_end round chain_of state (encipher key) parts (λ n c. refl) led (cmac_rounds len) zero_block (sym many)

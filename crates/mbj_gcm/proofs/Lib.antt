@@ -1,3 +1,2 @@
-mod Counters
 mod Undoing
 pub mod RisenCounters

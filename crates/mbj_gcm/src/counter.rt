@@ -1,8 +1,8 @@
 ghost use Rattle.std.specs.Prelude.{◌≡◌, ℕ, ◌+◌, ◌*◌, ◌<◌, ◌≤◌, [], ◌∷◌, ◌++◌, length, replicate, slice_index_or};
 ghost use Rattle.std.specs.List.{concat};
 ghost use Rattle.mbj_types.specs.Aes.{encipher};
-ghost use Rattle.mbj_types.specs.Blocks.{blocks};
-ghost use Rattle.mbj_types.specs.Ghash.{ghash, filled_blocks};
+ghost use Rattle.mbj_types.specs.Blocks.{blocks, filled_blocks};
+ghost use Rattle.mbj_types.specs.Ghash.{ghash};
 ghost use Rattle.mbj_types.specs.Gcm.{bit_length, gctr, inc32, pre_counter_block};
 ghost use Rattle.mbj_gcm.specs.Inside.Risen.{risen};
 

@@ -1,7 +1,7 @@
 ghost use Rattle.std.specs.Prelude.{◌≡◌, [], ◌∷◌, ◌++◌, length};
 ghost use Rattle.mbj_types.specs.Aes.{encipher};
-ghost use Rattle.mbj_types.specs.Blocks.{xor_lists, zero_block};
-ghost use Rattle.mbj_types.specs.Ghash.{ghash, filled_blocks};
+ghost use Rattle.mbj_types.specs.Blocks.{xor_lists, zero_block, filled_blocks};
+ghost use Rattle.mbj_types.specs.Ghash.{ghash};
 ghost use Rattle.mbj_types.specs.Gcm.{bit_length};
 
 use mbj_aes::Schedule;

@@ -4,8 +4,8 @@ use Rattle.std.specs.List.{flat_map}
 use Rattle.std.specs.Simd.{first_chunks}
 use Rattle.std.proofs.lemmas.Grind.{flat_map-append}
 use Rattle.std.proofs.lemmas.List.{take_more, take_all, take-append-drop, drop-drop, length-take-le}
-use Rattle.mbj_types.specs.Blocks.{xor_lists, first_blocks, blocks, filled_block}
-use Rattle.mbj_types.specs.Ghash.{block_product, ghash_from, filled_blocks}
+use Rattle.mbj_types.specs.Blocks.{xor_lists, first_blocks, blocks, filled_block, filled_blocks}
+use Rattle.mbj_types.specs.Ghash.{block_product, ghash_from}
 
 -- one run after another
 pub ghash_from-append : (h y : List ℕ) (xs ys : List (List ℕ))

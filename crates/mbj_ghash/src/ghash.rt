@@ -1,6 +1,6 @@
 ghost use Rattle.std.specs.Prelude.{◌≡◌, ℕ, ◌≤◌, List, [], ◌∷◌, ◌++◌, length};
-ghost use Rattle.mbj_types.specs.Blocks.{xor_lists, filled_block};
-ghost use Rattle.mbj_types.specs.Ghash.{block_product, ghash, ghash_from, filled_blocks};
+ghost use Rattle.mbj_types.specs.Blocks.{xor_lists, filled_block, filled_blocks};
+ghost use Rattle.mbj_types.specs.Ghash.{block_product, ghash, ghash_from};
 ghost use Rattle.mbj_ghash.specs.State.{HashState, state_after};
 
 use crate::horner::{after_block, after_blocks};

@@ -2,9 +2,9 @@
 use Rattle.std.proofs.Common.{◌≡◌, ℕ, List, ◌+◌, ◌-◌, ◌*◌, ◌/◌, length, take, drop, refl, ap, ◌∙◌, sym, arith, length-drop}
 use Rattle.std.proofs.lemmas.List.{take_rest}
 use Rattle.mbj_types.specs.Aes.{encipher}
-use Rattle.mbj_types.specs.Blocks.{xor_lists}
+use Rattle.mbj_types.specs.Blocks.{xor_lists, last_or}
 use Rattle.mbj_types.specs.Modes.{cbc}
-use Rattle.mbj_types.specs.Cmac.{closed, closed_block, message_blocks, last_or}
+use Rattle.mbj_types.specs.Cmac.{closed, closed_block, message_blocks}
 use Rattle.mbj_blocks.specs.Places.{block_of}
 use Rattle.mbj_cmac.proofs.Messages.{closed-more, closed-last}
 use Rattle.mbj_cmac.proofs.plain.cmac_plain.Goals as goal

@@ -1,6 +1,7 @@
 -- The blocks of aad, those of the ciphertext, and the block of lengths are taken.
 use Rattle.std.proofs.Common.{◌≡◌, ℕ, List, [], ◌∷◌, ◌++◌, ap, ◌∙◌}
-use Rattle.mbj_types.specs.Ghash.{ghash, filled_blocks}
+use Rattle.mbj_types.specs.Blocks.{filled_blocks}
+use Rattle.mbj_types.specs.Ghash.{ghash}
 use Rattle.mbj_ghash.specs.State.{state_after}
 use Rattle.mbj_gcm.proofs.hash.hash_of_parts.Goals as goal
 

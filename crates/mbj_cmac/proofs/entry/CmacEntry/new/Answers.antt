@@ -1,13 +1,14 @@
 -- The rounds of a new entry lead to the CMAC.
-use Rattle.std.proofs.Common.{ap, ◌∙◌}
+use Rattle.std.proofs.Common.{refl, ap, ◌∙◌}
 use Rattle.mbj_types.specs.Blocks.{zero_block}
 use Rattle.mbj_lane.specs.Rounds.{end_of}
-use Rattle.mbj_cmac.specs.Rounds.{rest_of, round}
-use Rattle.mbj_cmac.proofs.Ends.{packet-after, mac_end}
+use Rattle.mbj_aes_lanes.proofs.ChainedEnds.{same-after}
+use Rattle.mbj_cmac.specs.Rounds.{CmacState, rest_of, round}
+use Rattle.mbj_cmac.proofs.Ends.{mac_end}
 use Rattle.mbj_cmac.proofs.entry.CmacEntry.new.Goals as goal
 
 pub returns-clause-packet : goal.returns-clause-packet
-returns-clause-packet g c = packet-after c.rounds.result _
+returns-clause-packet g c = same-after round (λ (e : CmacState). e.packet) (λ e. refl) c.rounds.result _
 
 pub returns-clause-mac : goal.returns-clause-mac
 returns-clause-mac g c =

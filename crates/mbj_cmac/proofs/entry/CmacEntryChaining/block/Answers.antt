@@ -3,8 +3,9 @@ use Rattle.std.proofs.Common.{◌≡◌, ℕ, ◌-◌, ◌≤◌, List, sym, ap,
 use Rattle.mbj_types.specs.Aes.{encipher}
 use Rattle.mbj_types.specs.Rounds.{cmac_rounds}
 use Rattle.mbj_types.specs.Result.{range}
+use Rattle.mbj_blocks.proofs.Ranges.{length-range}
 use Rattle.mbj_cmac.specs.Rounds.{CmacState}
-use Rattle.mbj_cmac.proofs.Ends.{block-last, block-more, length-range, range-block}
+use Rattle.mbj_cmac.proofs.Ends.{block-last, block-more, range-block}
 use Rattle.mbj_cmac.proofs.entry.CmacEntryChaining.block.Goals as goal
 
 pub returns-then-self-eq1 : goal.returns-then-self-eq1

@@ -1,8 +1,8 @@
 -- The whole blocks are taken, and then the last one, if it isn't whole.
 use Rattle.std.proofs.Common.{◌≡◌, ℕ, ◌*◌, ◌/◌, ◌%◌, ◌<◌, List, [], ◌∷◌, ◌++◌, length, drop, sym, ap, ap₂, ◌∙◌, arith}
 use Rattle.std.proofs.lemmas.Bool.{eqb-true, eqb-false}
-use Rattle.mbj_types.specs.Blocks.{filled_block}
-use Rattle.mbj_types.specs.Ghash.{ghash_from, filled_blocks}
+use Rattle.mbj_types.specs.Blocks.{filled_block, filled_blocks}
+use Rattle.mbj_types.specs.Ghash.{ghash_from}
 use Rattle.mbj_ghash.specs.State.{HashState}
 use Rattle.mbj_ghash.proofs.BlockRuns.{ghash_from-append, filled_blocks-whole, filled_blocks-last}
 use Rattle.mbj_ghash.proofs.States.{state_after-more}
