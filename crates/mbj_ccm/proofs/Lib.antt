@@ -1,0 +1,5 @@
+pub mod CounterNumbers
+pub mod Ends
+pub mod Formatted
+mod Opening
+pub mod WrittenNumbers
