@@ -13,6 +13,8 @@ mod blocks;
 #[cfg(test)]
 mod cbc;
 #[cfg(test)]
+mod ccm;
+#[cfg(test)]
 mod cmac;
 #[cfg(test)]
 mod compare;
