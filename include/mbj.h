@@ -1,8 +1,8 @@
 /* Pulvezant's job manager, for C11 and C++17.
  *
- * The first part declares what the archive libmbj_c.a exports, which is proved. The second part is the job interface that a user of
- * intel-ipsec-mb knows, as inline C over these exports, which is tested. docs/C.md says how to build, what each pointer must stand for
- * and until when, and what differs.
+ * The first part declares what the library exports, which is proved but for two functions that tell of the build. The second part is the
+ * job interface that a user of intel-ipsec-mb knows, as inline C over these exports, which is tested. docs/C.md says how to build, what each
+ * pointer must stand for and until when, and what differs.
  *
  * One thread at a time uses a manager. Nothing here is called from a signal handler, or in the child of a process with threads that
  * forked.
@@ -19,7 +19,9 @@
 #include <stdlib.h>
 #include <string.h>
 
-/* The version of this header, which is that of the archive that it goes with. */
+/* The version of this header, which is that of the library that it goes with. It stands here alone for C: the Makefile reads it for the
+ * shared library's name and for what pkg-config and CMake are told, and the proved code's own is compared when a manager is made. A change
+ * of a struct or of a code, or of what an export means, makes a new major number, and with it a new soname. */
 #define MBJ_VERSION_MAJOR 0
 #define MBJ_VERSION_MINOR 1
 #define MBJ_VERSION_PATCH 0
@@ -39,7 +41,7 @@ extern "C" {
 #define MBJ_ASSERT_(condition) _Static_assert(condition, #condition)
 #endif
 
-/* ---- what the archive exports ---- */
+/* ---- what the library exports ---- */
 
 /* A manager, or none: MBJ_HANDLE_INIT at first, and then written by the exports alone. A handle may be moved, and never copied. */
 struct mbj_handle {
@@ -106,7 +108,8 @@ enum mbj_refusal {
     MBJ_ERR_NO_ROOM,     /* there is too little room for the result that is given back next */
     MBJ_ERR_HAS_MANAGER, /* the handle has a manager already */
     MBJ_ERR_NULL,        /* mbj_init_mgr was given no memory */
-    MBJ_ERR_VERSION      /* the archive's version isn't that of the header that the program was compiled with */
+    MBJ_ERR_VERSION,     /* the library has another major version than the header that the program was compiled with, or is older */
+    MBJ_ERR_PROCESSOR    /* the processor lacks a feature that the library was built for: mbj_c_missing_feature names it */
 };
 
 /* Why a job is refused: what is the matter with its arguments. mbj_reason_text has a text for each, docs/FORMAT.md the table of 1 to 10.
@@ -154,7 +157,16 @@ struct mbj_counts {
     uint32_t waiting;
 };
 
-/* The version of the archive: to be compared with MBJ_VERSION_NUM. */
+/* The name of a feature that the library was built for and this processor lacks, or NULL where it has them all. Only then may the proved
+ * exports be called: the job interface asks before it makes a manager, and a program that calls them itself asks too. This function and the
+ * next one aren't proved. */
+const char *mbj_c_missing_feature(void);
+
+/* The library's version, the processors that it was built for, and the line of the toolchain that proved it, as text. */
+const char *mbj_c_build_text(void);
+
+/* The version of the library, to be compared with MBJ_VERSION_NUM: a later one goes with the header too, as long as its major number, all
+ * but the lower 16 bits, is the same. */
 uint32_t mbj_c_version(void);
 
 /* Makes a manager, and answers MBJ_ERR_NONE, MBJ_ERR_HAS_MANAGER or MBJ_ERR_MEMORY. */
@@ -180,7 +192,7 @@ bool mbj_c_submit(struct mbj_handle *, struct mbj_raw_done *, uint32_t *refusal)
 bool mbj_c_get_completed(struct mbj_handle *, struct mbj_raw_done *, uint32_t *refusal);
 bool mbj_c_flush(struct mbj_handle *, struct mbj_raw_done *, uint32_t *refusal);
 
-/* The archive was built for this layout. */
+/* The library was built for this layout. */
 MBJ_ASSERT_(sizeof(void *) == 8 && sizeof(size_t) == 8 && sizeof(bool) == 1);
 MBJ_ASSERT_(sizeof(struct mbj_handle) == 8);
 MBJ_ASSERT_(sizeof(struct mbj_bytes) == 16 && offsetof(struct mbj_bytes, len) == 8);
@@ -252,9 +264,9 @@ MBJ_ASSERT_(offsetof(MBJ_JOB, auth_tag_output) == 136 && offsetof(MBJ_JOB, user_
 MBJ_ASSERT_(sizeof(struct mbj_slot) == 40 && offsetof(struct mbj_slot, reason) == 32);
 MBJ_ASSERT_(offsetof(MBJ_MGR, slots) == 24 && sizeof(MBJ_MGR) == 24 + MBJ_MAX_JOBS * (40 + sizeof(MBJ_JOB)));
 
-/* The version of this header, as text. */
+/* The library's version, what it was built for and by which toolchain, as text. That of this header is MBJ_VERSION_STR. */
 MBJ_API const char *mbj_version_text(void) {
-    return MBJ_VERSION_STR;
+    return mbj_c_build_text();
 }
 
 /* A refusal as text. */
@@ -269,7 +281,8 @@ MBJ_API const char *mbj_refusal_text(uint32_t refusal) {
     case MBJ_ERR_NO_ROOM: return "too little room for the next result";
     case MBJ_ERR_HAS_MANAGER: return "the handle has a manager already";
     case MBJ_ERR_NULL: return "no memory was given for the manager";
-    case MBJ_ERR_VERSION: return "header and archive have different versions";
+    case MBJ_ERR_VERSION: return "the library has another major version than the header, or is older";
+    case MBJ_ERR_PROCESSOR: return "the processor lacks a feature that the library was built for";
     default: return "no such refusal";
     }
 }
@@ -294,22 +307,38 @@ MBJ_API const char *mbj_reason_text(uint32_t reason) {
     }
 }
 
+/* Whether there is a manager. Where none was ever made no proved export is called: the processor may be one that they don't run on. */
+static inline bool mbj_is_made_(const MBJ_MGR *m) {
+    return m != NULL && m->handle.at != NULL;
+}
+
+static inline bool mbj_goes_with_(uint32_t version) {
+    return version / 65536 == MBJ_VERSION_MAJOR && version >= MBJ_VERSION_NUM;
+}
+
+/* Makes a manager, having asked the processor before any proved export is called. */
+static inline uint32_t mbj_make_(struct mbj_handle *handle) {
+    if (mbj_c_missing_feature() != NULL)
+        return MBJ_ERR_PROCESSOR;
+    return mbj_goes_with_(mbj_c_version()) ? mbj_c_new(handle) : (uint32_t)MBJ_ERR_VERSION;
+}
+
 /* Makes a manager in the caller's memory, which then stays where it is until mbj_end_mgr. Answers MBJ_ERR_NONE, or why there is no
- * manager: MBJ_ERR_NULL, MBJ_ERR_VERSION or MBJ_ERR_MEMORY. A submission is then refused with MBJ_ERR_NO_MANAGER, and mbj_end_mgr does
- * nothing. */
+ * manager: MBJ_ERR_NULL, MBJ_ERR_PROCESSOR, MBJ_ERR_VERSION or MBJ_ERR_MEMORY. A submission is then refused with MBJ_ERR_NO_MANAGER, and
+ * mbj_end_mgr does nothing. */
 MBJ_API enum mbj_refusal mbj_init_mgr(MBJ_MGR *m) {
     if (m == NULL)
         return MBJ_ERR_NULL;
     m->handle.at = NULL;
     m->first = m->next = 0;
     m->is_lent = false;
-    m->error = mbj_c_version() == MBJ_VERSION_NUM ? mbj_c_new(&m->handle) : (uint32_t)MBJ_ERR_VERSION;
+    m->error = mbj_make_(&m->handle);
     return (enum mbj_refusal)m->error;
 }
 
 /* Frees what mbj_init_mgr took, and neither the caller's memory nor the bytes of jobs. NULL is left alone. */
 MBJ_API void mbj_end_mgr(MBJ_MGR *m) {
-    if (m != NULL)
+    if (mbj_is_made_(m))
         mbj_c_free(&m->handle);
 }
 
@@ -336,7 +365,7 @@ MBJ_API enum mbj_refusal mbj_get_errno(const MBJ_MGR *m) {
 
 /* How many jobs are submitted and not given back. */
 MBJ_API uint32_t mbj_queue_size(MBJ_MGR *m) {
-    return m == NULL ? 0 : mbj_c_queue_size(&m->handle);
+    return mbj_is_made_(m) ? mbj_c_queue_size(&m->handle) : 0;
 }
 
 static inline void mbj_make_blank_(MBJ_JOB *job) {
@@ -424,7 +453,7 @@ static inline void mbj_say_bytes_(struct mbj_bytes *bytes, bool is_used, const u
     bytes->len = !is_some ? 0 : len < MBJ_TOO_LONG_ ? len : MBJ_TOO_LONG_;
 }
 
-/* The job as the archive takes it. A tag of more than 255 bytes is refused as one of 255 is. */
+/* The job as the library takes it. A tag of more than 255 bytes is refused as one of 255 is. */
 static inline void mbj_say_(struct mbj_raw_job *raw, const MBJ_JOB *job) {
     raw->cipher = job->cipher_mode;
     raw->dir = job->cipher_direction;
@@ -442,7 +471,7 @@ static inline void mbj_say_(struct mbj_raw_job *raw, const MBJ_JOB *job) {
     raw->tag_len = (uint8_t)(job->auth_tag_output_len_in_bytes < 255 ? job->auth_tag_output_len_in_bytes : 255);
 }
 
-/* A job that the archive refuses, so that it comes back in its place: CBC with a key of no byte. */
+/* A job that the library refuses, so that it comes back in its place: CBC with a key of no byte. */
 static inline void mbj_say_refused_(struct mbj_raw_job *raw) {
     raw->cipher = MBJ_CIPHER_CBC;
     raw->dir = MBJ_DIR_ENCRYPT;
@@ -515,6 +544,8 @@ MBJ_API MBJ_JOB *mbj_submit_job(MBJ_MGR *m) {
     }
     uint32_t place = m->next % MBJ_MAX_JOBS;
     MBJ_JOB *job = &m->jobs[place];
+    if (!mbj_is_made_(m))
+        return mbj_not_submitted_(m, job, MBJ_ERR_NO_MANAGER);
     uint32_t reason = mbj_own_reason_(job);
     struct mbj_raw_job raw;
     if (reason == MBJ_REASON_NONE)

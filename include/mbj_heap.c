@@ -1,5 +1,5 @@
-/* What the archive libmbj_c.a asks of the C library. Compile and link it with the archive, unless the program defines these functions
- * itself. A block is aligned as malloc aligns it. */
+/* What the proved code asks of the C library. `make` puts it into the archive libmbj_c.a as a member of its own, so that a program which
+ * defines these functions itself is linked without it, and hides it in the shared library. A block is aligned as malloc aligns it. */
 #include <stddef.h>
 #include <stdint.h>
 #include <stdlib.h>

@@ -196,21 +196,52 @@ static void a_manager_in_memory_of_ones_own(void) {
     refuse_at = 0;
 }
 
+/* An earlier one, and those of other major numbers. */
 static void another_version_is_refused(void) {
+    static const uint32_t others[] = {MBJ_VERSION_NUM - 1, MBJ_VERSION_NUM + 65536, (MBJ_VERSION_MAJOR + 1) * 65536, UINT32_MAX};
     static MBJ_MGR own;
-    CHECK(mbj_c_version() == MBJ_VERSION_NUM && strcmp(mbj_version_text(), MBJ_VERSION_STR) == 0);
-    faked_version = MBJ_VERSION_NUM + 1;
-    CHECK(mbj_init_mgr(&own) == MBJ_ERR_VERSION && mbj_alloc_mgr() == NULL);
+    CHECK(mbj_c_version() == MBJ_VERSION_NUM);
+    for (size_t i = 0; i < sizeof others / sizeof *others; i++) {
+        faked_version = others[i];
+        CHECK(mbj_init_mgr(&own) == MBJ_ERR_VERSION && mbj_get_errno(&own) == MBJ_ERR_VERSION && mbj_alloc_mgr() == NULL);
+    }
     faked_version = 0;
+}
+
+static void a_later_version_is_taken(void) {
+    static const uint32_t later[] = {MBJ_VERSION_NUM, MBJ_VERSION_NUM + 1, MBJ_VERSION_NUM + 256, MBJ_VERSION_MAJOR * 65536 + 65535};
+    static MBJ_MGR own;
+    for (size_t i = 0; i < sizeof later / sizeof *later; i++) {
+        faked_version = later[i];
+        CHECK(mbj_init_mgr(&own) == MBJ_ERR_NONE);
+        mbj_end_mgr(&own);
+    }
+    faked_version = 0;
+}
+
+static void a_lesser_processor_is_refused(void) {
+    static MBJ_MGR own;
+    CHECK(mbj_c_missing_feature() == NULL);
+    faked_missing_feature = "avx2";
+    CHECK(mbj_init_mgr(&own) == MBJ_ERR_PROCESSOR && mbj_get_errno(&own) == MBJ_ERR_PROCESSOR && mbj_alloc_mgr() == NULL);
+    CHECK(mbj_get_next_job(&own) != NULL && mbj_submit_job(&own) == NULL && mbj_get_errno(&own) == MBJ_ERR_NO_MANAGER);
+    mbj_end_mgr(&own);
+    faked_missing_feature = NULL;
+}
+
+/* The text begins with the version, and names what the library was built for. */
+static void the_version_is_told(void) {
+    const char *text = mbj_version_text();
+    CHECK(strncmp(text, MBJ_VERSION_STR " for x86-64-v", strlen(MBJ_VERSION_STR " for x86-64-v")) == 0 && text == mbj_c_build_text());
 }
 
 /* Each number of a refusal and of a reason has a text of its own, and other numbers have none. */
 static void numbers_have_texts(void) {
     const char *none = mbj_refusal_text(UINT32_MAX);
-    for (uint32_t i = 0; i <= MBJ_ERR_VERSION; i++)
+    for (uint32_t i = 0; i <= MBJ_ERR_PROCESSOR; i++)
         for (uint32_t j = 0; j < i; j++)
             CHECK(strcmp(mbj_refusal_text(i), none) != 0 && strcmp(mbj_refusal_text(i), mbj_refusal_text(j)) != 0);
-    CHECK(mbj_refusal_text(MBJ_ERR_VERSION + 1) == none);
+    CHECK(mbj_refusal_text(MBJ_ERR_PROCESSOR + 1) == none);
     none = mbj_reason_text(UINT32_MAX);
     for (uint32_t i = 0; i <= MBJ_REASON_NULL; i++)
         CHECK((mbj_reason_text(i) == none) == (i > MBJ_REASON_TAG_LENGTH && i < MBJ_REASON_CODE));
@@ -223,6 +254,9 @@ int main(void) {
     every_block_is_freed();
     a_manager_in_memory_of_ones_own();
     another_version_is_refused();
+    a_later_version_is_taken();
+    a_lesser_processor_is_refused();
+    the_version_is_told();
     numbers_have_texts();
     long before = blocks;
     MBJ_MGR *m = mbj_alloc_mgr();

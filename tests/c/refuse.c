@@ -7,6 +7,7 @@
 long refuse_at, allocations, blocks;
 
 uint32_t faked_version;
+const char *faked_missing_feature;
 
 static int is_refused(void) {
     static int is_read;
@@ -45,4 +46,8 @@ void __wrap_free(void *at) {
 
 uint32_t __wrap_mbj_c_version(void) {
     return faked_version != 0 ? faked_version : __real_mbj_c_version();
+}
+
+const char *__wrap_mbj_c_missing_feature(void) {
+    return faked_missing_feature != NULL ? faked_missing_feature : __real_mbj_c_missing_feature();
 }

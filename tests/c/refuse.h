@@ -15,6 +15,9 @@ extern long refuse_at, allocations, blocks;
 /* What the archive's version is said to be, or 0 for what it is. */
 extern uint32_t faked_version;
 
+/* What the processor is said to lack, or NULL for what it does. */
+extern const char *faked_missing_feature;
+
 /* The linker puts the first of each pair in the place of the function, which is the second. */
 void *__wrap_malloc(size_t len);
 void *__real_malloc(size_t len);
@@ -26,6 +29,8 @@ void __wrap_free(void *at);
 void __real_free(void *at);
 uint32_t __wrap_mbj_c_version(void);
 uint32_t __real_mbj_c_version(void);
+const char *__wrap_mbj_c_missing_feature(void);
+const char *__real_mbj_c_missing_feature(void);
 
 #ifdef __cplusplus
 }

@@ -1,0 +1,14 @@
+/* Prints the library's text, and whether a manager is made here: its refusal, and the feature that the processor lacks. Status 0 where one
+ * is made, 1 where the processor is refused, 2 else. */
+#include "mbj.h"
+
+#include <stdio.h>
+
+int main(void) {
+    static MBJ_MGR manager;
+    const char *missing = mbj_c_missing_feature();
+    enum mbj_refusal refusal = mbj_init_mgr(&manager);
+    mbj_end_mgr(&manager);
+    printf("%s: %s%s%s\n", mbj_version_text(), mbj_refusal_text(refusal), missing != NULL ? ": " : "", missing != NULL ? missing : "");
+    return refusal == MBJ_ERR_NONE ? 0 : refusal == MBJ_ERR_PROCESSOR ? 1 : 2;
+}
