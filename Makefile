@@ -1,0 +1,192 @@
+# Builds, checks and installs the library for C. `make help` says how, docs/C.md says more. It runs no gate: that is `rt ci`.
+
+RT ?= $(shell command -v rt 2>/dev/null)
+TOOLCHAIN ?= $(if $(ARCHIVE),an unknown toolchain,$(shell $(RT) version))
+CPU ?= x86-64-v2
+BUILD ?= build
+
+PREFIX ?= /usr/local
+LIBDIR ?= $(PREFIX)/lib
+INCLUDEDIR ?= $(PREFIX)/include
+BINDIR ?= $(PREFIX)/bin
+MANDIR ?= $(PREFIX)/share/man
+DOCDIR ?= $(PREFIX)/share/doc/mbj
+INSTALL ?= install
+CFLAGS ?= -O2
+
+define help
+make             builds the static and the shared library, having proved them
+make check       builds and tests them
+make install     copies what was built to PREFIX=/usr/local, below DESTDIR= where that is given. The folders
+                 LIBDIR= INCLUDEDIR= BINDIR= MANDIR= DOCDIR= may be given too
+make uninstall   removes what was installed, with the same settings
+make mbjobs      builds the program mbjobs, having proved it; make install copies that too
+make clean       removes what was built
+
+RT=COMMAND       the toolchain's command, where rt isn't on the path
+ARCHIVE=FILE     an archive that was built elsewhere, in place of the toolchain. With it:
+                 ARCHIVE_AVX2=FILE    another one, for AVX2
+                 TOOLCHAIN=LINE       what `rt version` printed there
+                 MBJOBS=FILE          the program
+CPU=x86-64-v3    builds for processors with AVX2 alone. By default, x86-64-v2, the libraries run wherever SSE4.2 is, and a
+                 second shared library for AVX2 stands where the loader finds it
+BUILD=FOLDER     where things are built, and installed from: build
+CC= CPPFLAGS= CFLAGS= LDFLAGS=
+                 for the library's C code and its linking
+endef
+
+# ---- what is built, and what for ----
+
+# The version stands in the header.
+number = $(shell sed -n 's/^.define MBJ_VERSION_$(1) //p' include/mbj.h)
+major := $(call number,MAJOR)
+version := $(major).$(call number,MINOR).$(call number,PATCH)
+
+# The functions that the header declares and doesn't define.
+exports := $(shell sed -n 's/^[a-z].*[ *]\(mbj_c_[a-z_]*\).*;$$/\1/p' include/mbj.h)
+
+static := libmbj_c.a
+shared := libmbj_c.so.$(major)
+
+avx2 := x86-64-v3
+cpus := $(sort $(CPU) $(if $(or $(ARCHIVE_AVX2),$(if $(ARCHIVE),,yes)),$(avx2)))
+main := $(BUILD)/$(CPU)
+beside := $(if $(filter-out $(avx2),$(CPU)),$(BUILD)/$(avx2))
+program := $(or $(MBJOBS),$(if $(ARCHIVE),,$(BUILD)/mbjobs))
+
+goals := $(filter-out help install uninstall clean,$(or $(MAKECMDGOALS),all))
+ifneq ($(goals),)
+ifeq ($(filter x86-64-v2 $(avx2),$(CPU)),)
+$(error CPU is x86-64-v2 or $(avx2))
+endif
+ifeq ($(or $(ARCHIVE),$(shell command -v $(firstword $(RT)) 2>/dev/null)),)
+$(error no toolchain: have its command rt on the path, give it by RT=, or give an archive that was built elsewhere by ARCHIVE=)
+endif
+endif
+
+# What an earlier call built for AVX2, and this one doesn't, isn't left to be installed.
+all: $(foreach cpu,$(cpus),$(BUILD)/$(cpu)/$(static) $(BUILD)/$(cpu)/$(shared))
+	@rm -rf $(filter-out $(cpus:%=$(BUILD)/%),$(beside))
+
+# ---- the proved code ----
+
+# Copies a file, where it isn't the same already.
+copy = @mkdir -p $(@D) && { cmp -s $(1) $@ || cp $(1) $@; }
+
+ifneq ($(ARCHIVE),)
+given-$(avx2) := $(ARCHIVE_AVX2)
+given-$(CPU) := $(ARCHIVE)
+
+$(BUILD)/%/proved.a: FORCE
+	$(call copy,$(given-$*))
+else
+sources := crates.txt $(shell find crates -name out -prune -o '(' -name '*.rt' -o -name '*.antt' ')' -print)
+
+$(BUILD)/%/proved.a: $(BUILD)/%/rt-lib.a FORCE
+	$(call copy,$<)
+
+$(BUILD)/%/rt-lib.a: $(sources)
+	@echo 'rt lib proves mbj_c and the crates below it, and then builds it for $*: on a new machine some twenty minutes, later one or two'
+	@mkdir -p $(@D)
+	cd crates/mbj_c && $(RT) lib --cpu $*
+	cp crates/mbj_c/out/$(static) $@
+
+$(BUILD)/mbjobs: $(sources)
+	@echo 'rt run proves mbjobs and the crates below it, and then builds it: on a new machine some twenty minutes, later one or two'
+	@mkdir -p $(@D)
+	cd crates/mbjobs && $(RT) run -- run --submitters 1 --workers 0 < stdin
+	cp crates/mbjobs/out/mbjobs $@
+endif
+
+mbjobs: $(program)
+
+# ---- the libraries ----
+
+compile = $(CC) -std=c11 -Wall -Wextra $(CPPFLAGS) $(CFLAGS) -march=x86-64 -fPIC -ffile-prefix-map=$(CURDIR)=. -c -o $@ $<
+
+# What was last built with. Where that changes, what depends on it is built anew.
+settings = $(TOOLCHAIN) $(CC) $(CPPFLAGS) $(CFLAGS) $(LDFLAGS)
+
+$(BUILD)/settings: FORCE
+	@mkdir -p $(@D) && printf '%s\n' '$(subst ','\'',$(settings))' > $@.now && { cmp -s $@.now $@ || cp $@.now $@; }
+
+$(BUILD)/%/mbj_processor.o: include/mbj_processor.c include/mbj.h $(BUILD)/settings
+	@mkdir -p $(@D)
+	$(compile) -DMBJ_LEVEL=$(*:x86-64-v%=%) '-DMBJ_TOOLCHAIN="$(TOOLCHAIN)"'
+
+$(BUILD)/mbj_heap.o: include/mbj_heap.c $(BUILD)/settings
+	@mkdir -p $(@D)
+	$(compile)
+
+$(BUILD)/%/$(static): $(BUILD)/%/proved.a $(BUILD)/%/mbj_processor.o $(BUILD)/mbj_heap.o packaging/archive
+	AR='$(AR)' packaging/archive $* $@ $(filter-out packaging/archive,$^)
+
+$(BUILD)/exports.map: include/mbj.h
+	@mkdir -p $(@D)
+	@printf '%s\n' 'MBJ_$(major) {' 'global:' $(exports:%='    %;') 'local:' '    *;' '};' > $@
+
+$(BUILD)/%/$(shared): $(BUILD)/%/$(static) $(BUILD)/exports.map $(BUILD)/settings
+	$(CC) $(CFLAGS) $(LDFLAGS) -shared -Wl,-soname,$(shared) -Wl,--version-script=$(BUILD)/exports.map -Wl,--no-undefined-version \
+	    -Wl,-z,text -Wl,-z,defs -o $@ -Wl,--whole-archive $< -Wl,--no-whole-archive
+
+# ---- tests ----
+
+# The examples' texts are compared with those of mbjobs. Without that program known answers alone are compared.
+check: all $(program)
+	BUILD='$(abspath $(BUILD))' MBJOBS='$(abspath $(program))' CPU=$(CPU) CC='$(CC)' tests/c/$(if $(program),run,known)
+
+# ---- installing ----
+
+override PREFIX := $(abspath $(PREFIX))
+
+CMAKEDIR := $(LIBDIR)/cmake/mbj
+HWCAPSDIR := $(LIBDIR)/glibc-hwcaps/$(avx2)
+
+documents := README.md $(wildcard docs/*.md)
+examples := $(wildcard examples/c/*.c) include/mbj_heap.c include/mbj_symbols.c
+described := $(LIBDIR)/pkgconfig/mbj.pc $(LIBDIR)/pkgconfig/mbj-static.pc $(CMAKEDIR)/mbjConfig.cmake $(CMAKEDIR)/mbjConfigVersion.cmake
+
+# What goes where, by what is done with it. Files that aren't there are left out.
+define files
+$(call $(1),644,include/mbj.h,$(INCLUDEDIR))
+$(call $(1),644,$(main)/$(static),$(LIBDIR))
+$(call $(1),755,$(main)/$(shared),$(LIBDIR))
+$(call $(1),755,$(beside:%=%/$(shared)),$(HWCAPSDIR))
+$(call $(1),644,docs/mbjobs.1,$(MANDIR)/man1)
+$(call $(1),644,$(documents),$(DOCDIR))
+$(call $(1),644,$(examples),$(DOCDIR)/examples)
+endef
+
+put = $(if $(wildcard $(2)),$(INSTALL) -D -m $(1) -t '$(DESTDIR)$(3)' $(wildcard $(2)))
+drop = rm -f $(patsubst %,'$(DESTDIR)$(3)/%',$(notdir $(2)))
+
+fill = sed -e 's|@PREFIX@|$(PREFIX)|; s|@LIBDIR@|$(LIBDIR:$(PREFIX)/%=$${prefix}/%)|' \
+    -e 's|@INCLUDEDIR@|$(INCLUDEDIR:$(PREFIX)/%=$${prefix}/%)|; s|@VERSION@|$(version)|; s|@MAJOR@|$(major)|' \
+    -e "s|@TO_INCLUDEDIR@|$$(realpath -ms --relative-to='$(CMAKEDIR)' '$(INCLUDEDIR)')|"
+
+install:
+	@[ -f $(main)/$(shared) ] || { echo 'nothing is built for $(CPU): run make first' >&2; exit 1; }
+	rm -f '$(DESTDIR)$(HWCAPSDIR)/$(shared)'
+	$(call files,put)
+	$(if $(wildcard $(program)),$(INSTALL) -D -m 755 $(program) '$(DESTDIR)$(BINDIR)/mbjobs')
+	ln -sf $(shared) '$(DESTDIR)$(LIBDIR)/libmbj_c.so'
+	@$(foreach file,$(described),$(INSTALL) -d '$(DESTDIR)$(dir $(file))' && $(fill) packaging/$(notdir $(file)).in > '$(DESTDIR)$(file)' && ):
+
+uninstall:
+	$(call files,drop)
+	rm -f '$(DESTDIR)$(BINDIR)/mbjobs' '$(DESTDIR)$(LIBDIR)/libmbj_c.so' $(described:%='$(DESTDIR)%')
+	rmdir $(patsubst %,'$(DESTDIR)%',$(DOCDIR)/examples $(DOCDIR) $(CMAKEDIR) $(HWCAPSDIR)) 2>/dev/null || true
+
+# ---- the rest ----
+
+help:
+	$(info $(help))@:
+
+clean:
+	rm -rf $(BUILD)
+
+.PHONY: all check install uninstall mbjobs help clean FORCE
+.DELETE_ON_ERROR:
+.SECONDARY:
+# rt works in one folder, one call after another.
+.NOTPARALLEL:
