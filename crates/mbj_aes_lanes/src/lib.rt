@@ -1,4 +1,5 @@
-//! AES (FIPS 197) on many blocks at once: one block and one key in each lane.
+//! AES (FIPS 197) on many blocks at once, one block and one key in each lane, and what the modes share over it: blocks that
+//! are chained, and the key stream of counters.
 #![tactic(auto)]
 
 mod all_lanes;

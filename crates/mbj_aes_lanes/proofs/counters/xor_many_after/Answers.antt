@@ -49,7 +49,7 @@ returns-clause-text c =
     (ap (λ (u : ℕ). concat (ctr_blocks e u (blocks text))) first) in
     let counter : ℕ = (c.args.counter + AES_LANES) % 2 ^ 128 in
     c.xor_from.ensures w whole c.all-keys.ensures
-    (elim (cases_lt here 31) [
+    (elim (cases_lt here (AES_LANES - 1)) [
       | inl fewer ↦
           walk_over (stream_from e t (length masks)) (ctr_blocks e counter) now whole (0 + length masks) here refl refl
           (omega (arith, c.xor_blocks.auto.text)) (omega (arith, c.xor_blocks.auto.text)) walked
