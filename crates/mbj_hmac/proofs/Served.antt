@@ -16,6 +16,7 @@ served_class h class.Null t = absurd (not_both t)
 served_class h (class.Hmac n) t = refl
 served_class h (class.Cmac k) t = absurd (not_both t)
 served_class h class.Gcm t = absurd (not_both t)
+served_class h class.Ccm t = absurd (not_both t)
 
 -- it is an HMAC
 pub served_hmac : (h : Chaining) (a : Auth) → IsTrue (serves_auth h a) → IsHmac a

@@ -13,6 +13,7 @@ name_in class.Null = None
 name_in (class.Hmac n) = Some n
 name_in (class.Cmac k) = None
 name_in class.Gcm = None
+name_in class.Ccm = None
 
 abbrev pub name_of : Auth → Option HashName
 name_of a = name_in (class_of a)
@@ -23,6 +24,7 @@ serves_class h class.Null = false
 serves_class h (class.Hmac n) = h.serves n
 serves_class h (class.Cmac k) = false
 serves_class h class.Gcm = false
+serves_class h class.Ccm = false
 
 abbrev pub serves_auth : Chaining → Auth → Bool
 serves_auth h a = serves_class h (class_of a)

@@ -23,7 +23,7 @@ pub(crate) fn hash_name(auth: Auth) -> HashName
 {
     match auth.class() {
         AuthClass::Hmac(hash) => hash,
-        AuthClass::Null | AuthClass::Cmac(_) | AuthClass::Gcm => unreachable!(),
+        AuthClass::Null | AuthClass::Cmac(_) | AuthClass::Gcm | AuthClass::Ccm => unreachable!(),
     }
 }
 

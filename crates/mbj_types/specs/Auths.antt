@@ -22,6 +22,7 @@ class_of auth.HmacSha512 = class.Hmac Sha512
 class_of auth.Cmac128 = class.Cmac Aes128
 class_of auth.Cmac256 = class.Cmac Aes256
 class_of auth.Gcm = class.Gcm
+class_of auth.Ccm = class.Ccm
 
 -- ---- hashes
 
@@ -46,6 +47,7 @@ hash_in class.Null = None
 hash_in (class.Hmac h) = Some (hash_of_name h)
 hash_in (class.Cmac k) = None
 hash_in class.Gcm = None
+hash_in class.Ccm = None
 
 abbrev pub hash_of : Auth → Option Hash
 hash_of a = hash_in (class_of a)
@@ -60,6 +62,7 @@ IsCmac class.Null = ⊥
 IsCmac (class.Hmac h) = ⊥
 IsCmac (class.Cmac k) = Unit {0}
 IsCmac class.Gcm = ⊥
+IsCmac class.Ccm = ⊥
 
 abbrev pub cmac_key_bytes : CmacKey → ℕ
 cmac_key_bytes Aes128 = 16

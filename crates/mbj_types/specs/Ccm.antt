@@ -11,7 +11,7 @@ length_bytes nonce = 15 - length nonce
 
 -- ---- A.2: what is authenticated
 
--- A.2.1, table 2: the bit of the flags that says whether there is additional data
+-- A.2.1: the bit of the flags that says whether there is additional data
 abbrev pub data_flag : List ℕ → ℕ
 data_flag [] = 0
 data_flag (x ∷ aad) = 64

@@ -5,6 +5,7 @@ use Rattle.mbj_types.specs.Aes.{aes, aes_inverse}
 use Rattle.mbj_types.specs.Modes.{cbc_text, uncbc_text, ctr_text}
 use Rattle.mbj_types.specs.Cmac.{cmac}
 use Rattle.mbj_types.specs.Gcm.{gcm}
+use Rattle.mbj_types.specs.Ccm.{ccm}
 use Rattle.mbj_types.specs.Hmac.{hmac}
 use Rattle.mbj_types.specs.Auths.{class_of, hash_of_name}
 use Rattle.mbj_types.specs.declared.class.AuthClass.{AuthClass}
@@ -44,6 +45,10 @@ is_enc Dec = false
 unfoldable pub gcm_of : Job → List ℕ → List ℕ × List ℕ
 gcm_of j p = gcm (aes j.key) j.iv j.aad (cipher_range j p) (is_enc j.dir)
 
+-- CCM on the cipher range of the packet p: the other text, and the whole tag
+unfoldable pub ccm_of : Job → List ℕ → List ℕ × List ℕ
+ccm_of j p = ccm (aes j.key) j.iv j.aad (cipher_range j p) j.tag_len (is_enc j.dir)
+
 -- what the cipher makes of the packet p: its cipher range is replaced
 abbrev pub ciphered_by : Cipher → Dir → Job → List ℕ → List ℕ
 ciphered_by cipher.Null d j p = p
@@ -51,16 +56,18 @@ ciphered_by cipher.Cbc Enc j p = with_cipher_range j (cbc_text (aes j.key) j.iv 
 ciphered_by cipher.Cbc Dec j p = with_cipher_range j (uncbc_text (aes_inverse j.key) j.iv (cipher_range j p)) p
 ciphered_by cipher.Ctr d j p = with_cipher_range j (ctr_text (aes j.key) j.iv (cipher_range j p)) p
 ciphered_by cipher.Gcm d j p = with_cipher_range j (gcm_of j p).0 p
+ciphered_by cipher.Ccm d j p = with_cipher_range j (ccm_of j p).0 p
 
 unfoldable pub ciphered : Job → List ℕ → List ℕ
 ciphered j p = ciphered_by j.cipher j.dir j p
 
--- what the authentication makes of the packet p, in full; GCM takes the text as it was before the cipher
+-- what the authentication makes of the packet p, in full; GCM and CCM take the text as it was before the cipher
 abbrev pub mac_by : AuthClass → Job → List ℕ → List ℕ
 mac_by class.Null j p = []
 mac_by (class.Hmac h) j p = hmac (hash_of_name h) j.auth_key (hash_range j p)
 mac_by (class.Cmac k) j p = cmac (aes j.auth_key) (hash_range j p)
 mac_by class.Gcm j p = (gcm_of j p).1
+mac_by class.Ccm j p = (ccm_of j p).1
 
 -- the tag over the packet p: the leftmost bytes
 unfoldable pub tag_over : Job → List ℕ → List ℕ
@@ -71,12 +78,14 @@ abbrev pub authenticated_in : Order → Job → List ℕ
 authenticated_in CipherHash j = ciphered j j.packet
 authenticated_in HashCipher j = j.packet
 
--- GCM has no order: it is given the job's packet, and its tag is over the ciphertext in both directions
+-- GCM and CCM have no order: each is given the job's packet. In both directions GCM's tag is over the ciphertext, and CCM's over the
+-- plaintext
 abbrev pub authenticated_by : AuthClass → Job → List ℕ
 authenticated_by class.Null j = authenticated_in j.order j
 authenticated_by (class.Hmac h) j = authenticated_in j.order j
 authenticated_by (class.Cmac k) j = authenticated_in j.order j
 authenticated_by class.Gcm j = j.packet
+authenticated_by class.Ccm j = j.packet
 
 -- the result of a job that is accepted
 abbrev pub accepted : Job → Done

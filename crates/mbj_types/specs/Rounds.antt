@@ -1,8 +1,8 @@
 -- How many rounds a job takes in the lanes of its kind.
-use Rattle.std.specs.Prelude.{ℕ, ◌+◌, ◌/◌, nat_eq, max, if◌then◌else◌}
+use Rattle.std.specs.Prelude.{ℕ, ◌+◌, ◌/◌, nat_eq, length, max, if◌then◌else◌}
 use Rattle.mbj_types.specs.declared.job.Job.{Job}
 use Rattle.mbj_types.specs.declared.kind.Kind.{Kind}
-use Rattle.mbj_types.specs.declared.kind.Kind.TheVariants.{Cbc128, Cbc192, Cbc256, Cmac128, Cmac256, HmacSha1, HmacSha256, HmacSha512}
+use Rattle.mbj_types.specs.declared.kind.Kind.TheVariants.{Cbc128, Cbc192, Cbc256, Cmac128, Cmac256, HmacSha1, HmacSha256, HmacSha512, Ccm128, Ccm192, Ccm256}
 
 -- CBC over a text of n bytes: one for each block
 abbrev pub cbc_rounds : ℕ → ℕ
@@ -36,3 +36,6 @@ rounds_of Cmac256 j = cmac_rounds j.hash_len
 rounds_of HmacSha1 j = hmac_rounds 64 j.hash_len
 rounds_of HmacSha256 j = hmac_rounds 64 j.hash_len
 rounds_of HmacSha512 j = hmac_rounds 128 j.hash_len
+rounds_of Ccm128 j = ccm_rounds (length j.aad) j.cipher_len
+rounds_of Ccm192 j = ccm_rounds (length j.aad) j.cipher_len
+rounds_of Ccm256 j = ccm_rounds (length j.aad) j.cipher_len

@@ -9,7 +9,7 @@ use Rattle.mbj_types.specs.declared.job.Cipher.{Cipher}
 use Rattle.mbj_types.specs.declared.job.Cipher.TheVariants as cipher
 use Rattle.mbj_types.specs.declared.reason.Reason.{Reason}
 use Rattle.mbj_types.specs.declared.reason.Reason.TheVariants.{PacketLong, GcmPair, CipherKey, IvLength, CipherRange, CipherLength, AuthKey, HashRange, AadLong, TagLength}
-use Rattle.mbj_types.specs.declared.limits.TheConstants.{MAX_PACKET_BYTES, MAX_IV_BYTES, MAX_AAD_BYTES, MAX_HMAC_KEY_BYTES}
+use Rattle.mbj_types.specs.declared.limits.TheConstants.{MAX_PACKET_BYTES, MAX_IV_BYTES, MAX_AAD_BYTES, MAX_CCM_AAD_BYTES, MAX_HMAC_KEY_BYTES}
 
 -- ---- what a cipher takes
 
@@ -18,12 +18,7 @@ is_null_cipher cipher.Null = true
 is_null_cipher cipher.Cbc = false
 is_null_cipher cipher.Ctr = false
 is_null_cipher cipher.Gcm = false
-
-abbrev pub is_gcm_cipher : Cipher → Bool
-is_gcm_cipher cipher.Null = false
-is_gcm_cipher cipher.Cbc = false
-is_gcm_cipher cipher.Ctr = false
-is_gcm_cipher cipher.Gcm = true
+is_null_cipher cipher.Ccm = false
 
 -- keys of n bytes
 abbrev pub takes_key : Cipher → ℕ → Bool
@@ -35,6 +30,7 @@ takes_iv cipher.Null n = true
 takes_iv cipher.Cbc n = n == 16
 takes_iv cipher.Ctr n = n == 12 || n == 16
 takes_iv cipher.Gcm n = nat_lt 0 n && nat_le n MAX_IV_BYTES
+takes_iv cipher.Ccm n = nat_le 7 n && nat_le n 13
 
 -- ranges of n bytes
 abbrev pub takes_range : Cipher → ℕ → Bool
@@ -42,6 +38,15 @@ takes_range cipher.Null n = true
 takes_range cipher.Cbc n = nat_lt 0 n && n % 16 == 0
 takes_range cipher.Ctr n = nat_lt 0 n
 takes_range cipher.Gcm n = true
+takes_range cipher.Ccm n = true
+
+-- additional data of n bytes
+abbrev pub takes_aad : Cipher → ℕ → Bool
+takes_aad cipher.Null n = true
+takes_aad cipher.Cbc n = true
+takes_aad cipher.Ctr n = true
+takes_aad cipher.Gcm n = nat_le n MAX_AAD_BYTES
+takes_aad cipher.Ccm n = nat_le n MAX_CCM_AAD_BYTES
 
 -- ---- what an authentication takes
 
@@ -50,6 +55,14 @@ is_gcm_auth class.Null = false
 is_gcm_auth (class.Hmac h) = false
 is_gcm_auth (class.Cmac k) = false
 is_gcm_auth class.Gcm = true
+is_gcm_auth class.Ccm = false
+
+abbrev pub is_ccm_auth : AuthClass → Bool
+is_ccm_auth class.Null = false
+is_ccm_auth (class.Hmac h) = false
+is_ccm_auth (class.Cmac k) = false
+is_ccm_auth class.Gcm = false
+is_ccm_auth class.Ccm = true
 
 -- whether it is over the hash range
 abbrev pub has_hash_range : AuthClass → Bool
@@ -57,6 +70,7 @@ has_hash_range class.Null = false
 has_hash_range (class.Hmac h) = true
 has_hash_range (class.Cmac k) = true
 has_hash_range class.Gcm = false
+has_hash_range class.Ccm = false
 
 -- keys of n bytes
 abbrev pub takes_auth_key : AuthClass → ℕ → Bool
@@ -64,6 +78,7 @@ takes_auth_key class.Null n = true
 takes_auth_key (class.Hmac h) n = nat_le n MAX_HMAC_KEY_BYTES
 takes_auth_key (class.Cmac k) n = n == cmac_key_bytes k
 takes_auth_key class.Gcm n = true
+takes_auth_key class.Ccm n = true
 
 -- tags of n bytes
 abbrev pub takes_tag : AuthClass → ℕ → Bool
@@ -71,15 +86,17 @@ takes_tag class.Null n = n == 0
 takes_tag (class.Hmac h) n = nat_lt 0 n && nat_le n (hash_of_name h).digest_bytes
 takes_tag (class.Cmac k) n = nat_lt 0 n && nat_le n 16
 takes_tag class.Gcm n = nat_lt 0 n && nat_le n 16
+takes_tag class.Ccm n = nat_le 4 n && nat_le n 16 && n % 2 == 0
 
 -- ---- the table
 
--- which authentications go with a cipher: with GCM its own alone, with the others any but GCM's
+-- which authentications go with a cipher: with GCM and with CCM its own alone, with the others any but these two
 abbrev pub goes_with : Cipher → AuthClass → Bool
-goes_with cipher.Null a = not (is_gcm_auth a)
-goes_with cipher.Cbc a = not (is_gcm_auth a)
-goes_with cipher.Ctr a = not (is_gcm_auth a)
+goes_with cipher.Null a = not (is_gcm_auth a || is_ccm_auth a)
+goes_with cipher.Cbc a = not (is_gcm_auth a || is_ccm_auth a)
+goes_with cipher.Ctr a = not (is_gcm_auth a || is_ccm_auth a)
 goes_with cipher.Gcm a = is_gcm_auth a
+goes_with cipher.Ccm a = is_ccm_auth a
 
 -- the range of length len from off on passes the end of a packet of n bytes
 abbrev pub passes_end : ℕ → ℕ → ℕ → Bool
@@ -96,7 +113,7 @@ rows j n =
     ∷ (not (takes_range j.cipher j.cipher_len), CipherLength)
     ∷ (not (takes_auth_key (class_of j.auth) (length j.auth_key)), AuthKey)
     ∷ (has_hash_range (class_of j.auth) && passes_end j.hash_off j.hash_len n, HashRange)
-    ∷ (is_gcm_cipher j.cipher && nat_lt MAX_AAD_BYTES (length j.aad), AadLong)
+    ∷ (not (takes_aad j.cipher (length j.aad)), AadLong)
     ∷ (not (takes_tag (class_of j.auth) j.tag_len), TagLength)
     ∷ []
 

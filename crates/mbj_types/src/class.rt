@@ -94,6 +94,8 @@ pub enum AuthClass {
     Cmac(CmacKey),
     /// The tag of GCM (SP 800-38D).
     Gcm,
+    /// The tag of CCM (SP 800-38C).
+    Ccm,
 }
 
 impl Auth {
@@ -111,6 +113,7 @@ impl Auth {
             Auth::Cmac128 => AuthClass::Cmac(CmacKey::Aes128),
             Auth::Cmac256 => AuthClass::Cmac(CmacKey::Aes256),
             Auth::Gcm => AuthClass::Gcm,
+            Auth::Ccm => AuthClass::Ccm,
         }
     }
 }

@@ -16,6 +16,8 @@ pub enum Cipher {
     Ctr,
     /// AES in Galois/counter mode (SP 800-38D), which gives the tag too.
     Gcm,
+    /// AES in counter mode with the MAC of CBC (SP 800-38C), which gives the tag too.
+    Ccm,
 }
 
 /// The direction of the cipher.
@@ -57,6 +59,8 @@ pub enum Auth {
     Cmac256,
     /// The tag of Galois/counter mode, which goes with that cipher.
     Gcm,
+    /// The tag of counter mode with the MAC of CBC, which goes with that cipher.
+    Ccm,
 }
 
 impl fmt::Display for Auth {
@@ -71,14 +75,15 @@ impl fmt::Display for Auth {
             Auth::Cmac128 => "AES-CMAC-128",
             Auth::Cmac256 => "AES-CMAC-256",
             Auth::Gcm => "AES-GCM",
+            Auth::Ccm => "AES-CCM",
         })
     }
 }
 
 /// A job: one packet with one cipher, one authentication, or both.
 ///
-/// A field that the chosen cipher and authentication don't use is ignored. GCM uses `key`, `iv`, `aad` and the
-/// cipher range, and ignores `order`, `auth_key` and the hash range.
+/// A field that the chosen cipher and authentication don't use is ignored. GCM and CCM use `key`, `iv`, `aad` and the
+/// cipher range, and ignore `order`, `auth_key` and the hash range.
 #[derive(Debug, Drop)]
 pub struct Job {
     pub cipher: Cipher,
@@ -86,7 +91,8 @@ pub struct Job {
     pub order: Order,
     /// The cipher's key: 16, 24 or 32 bytes.
     pub key: Bytes,
-    /// The cipher's initialization vector.
+    /// The cipher's initialization vector: 16 bytes for CBC, 12 or 16 for CTR, 1 to 65,535 for GCM. For CCM it is the nonce, of
+    /// 7 to 13 bytes.
     pub iv: Bytes,
     /// Where the range of the packet that is ciphered in place begins, in bytes.
     pub cipher_off: u32,
@@ -95,13 +101,13 @@ pub struct Job {
     pub auth: Auth,
     /// The key of an HMAC or a CMAC.
     pub auth_key: Bytes,
-    /// GCM's additional authenticated data.
+    /// The additional authenticated data of GCM, of at most 65,535 bytes, or of CCM, of at most 65,279.
     pub aad: Bytes,
     /// Where the range that an HMAC or a CMAC is over begins, in bytes.
     pub hash_off: u32,
     /// The length of that range, in bytes.
     pub hash_len: u32,
-    /// The length of the tag, in bytes.
+    /// The length of the tag, in bytes. CCM's tag has 4, 6, 8, 10, 12, 14 or 16.
     pub tag_len: u8,
     pub packet: Bytes,
 }

@@ -50,11 +50,17 @@ pub enum Kind {
     HmacSha256,
     /// HMAC with SHA-384 or SHA-512.
     HmacSha512,
+    /// The MAC of CCM with a key of 128 bits.
+    Ccm128,
+    /// The MAC of CCM with a key of 192 bits.
+    Ccm192,
+    /// The MAC of CCM with a key of 256 bits.
+    Ccm256,
 }
 
 impl Kind {
     /// Every kind once, in the order in which they are told.
-    pub const ALL: [Kind; 8] = [
+    pub const ALL: [Kind; 11] = [
         Kind::Cbc128,
         Kind::Cbc192,
         Kind::Cbc256,
@@ -63,6 +69,9 @@ impl Kind {
         Kind::HmacSha1,
         Kind::HmacSha256,
         Kind::HmacSha512,
+        Kind::Ccm128,
+        Kind::Ccm192,
+        Kind::Ccm256,
     ];
 
     /// How many jobs of this kind one run serves.
@@ -75,6 +84,7 @@ impl Kind {
             Kind::HmacSha1 => SHA1_LANES,
             Kind::HmacSha256 => SHA256_LANES,
             Kind::HmacSha512 => SHA512_LANES,
+            Kind::Ccm128 | Kind::Ccm192 | Kind::Ccm256 => AES_LANES,
         };
         lanes as u32
     }
@@ -92,6 +102,9 @@ impl Kind {
             Kind::HmacSha1 => "hmac-sha1",
             Kind::HmacSha256 => "hmac-sha256",
             Kind::HmacSha512 => "hmac-sha512",
+            Kind::Ccm128 => "ccm128",
+            Kind::Ccm192 => "ccm192",
+            Kind::Ccm256 => "ccm256",
         }
     }
 }

@@ -9,7 +9,7 @@ pub const MAX_IV_BYTES: usize = 65_535;
 /// The longest additional authenticated data that a GCM job may have, in bytes.
 pub const MAX_AAD_BYTES: usize = 65_535;
 
-/// The longest additional authenticated data that CCM takes here, in bytes: its length is written in 2 bytes, as it is below
+/// The longest additional authenticated data that a CCM job may have, in bytes: its length is written in 2 bytes, as it is below
 /// 65,280 (SP 800-38C, A.2.2).
 pub const MAX_CCM_AAD_BYTES: usize = 65_279;
 

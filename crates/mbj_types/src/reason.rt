@@ -9,7 +9,7 @@ use std::fmt;
 pub enum Reason {
     /// The packet is longer than 65,535 bytes.
     PacketLong,
-    /// Exactly one of cipher and authentication is GCM.
+    /// Exactly one of cipher and authentication is GCM, or exactly one is CCM.
     GcmPair,
     /// The cipher's key has neither 16, 24 nor 32 bytes.
     CipherKey,
@@ -23,7 +23,7 @@ pub enum Reason {
     AuthKey,
     /// The hash range passes the packet's end.
     HashRange,
-    /// The additional authenticated data is longer than 65,535 bytes.
+    /// The additional authenticated data is longer than the 65,535 bytes that GCM takes, or the 65,279 that CCM takes.
     AadLong,
     /// The tag's length is outside what the authentication gives.
     TagLength,
@@ -53,14 +53,15 @@ impl fmt::Display for Reason {
     fn fmt<W: fmt::Write>(&self, f: &mut fmt::Formatter<W>) -> fmt::Result {
         f.write_str(match self {
             Reason::PacketLong => "the packet is longer than 65,535 bytes",
-            Reason::GcmPair => "exactly one of cipher and authentication is GCM",
+            Reason::GcmPair =>
+                "exactly one of cipher and authentication is GCM, or exactly one is CCM",
             Reason::CipherKey => "the cipher's key has neither 16, 24 nor 32 bytes",
             Reason::IvLength => "the cipher doesn't take an IV of this length",
             Reason::CipherRange => "the cipher range passes the packet's end",
             Reason::CipherLength => "the cipher doesn't take a range of this length",
             Reason::AuthKey => "the authentication doesn't take a key of this length",
             Reason::HashRange => "the hash range passes the packet's end",
-            Reason::AadLong => "the additional data is longer than 65,535 bytes",
+            Reason::AadLong => "the cipher doesn't take additional data of this length",
             Reason::TagLength => "the authentication doesn't give a tag of this length",
         })
     }
