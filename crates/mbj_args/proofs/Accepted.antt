@@ -3,9 +3,9 @@ use Rattle.std.proofs.Common.{◌≡◌, ℕ, ◌+◌, ◌≤◌, Bool, true, fa
 use Rattle.std.proofs.lemmas.Bool.{ltb-false}
 use Rattle.mbj_types.specs.declared.job.Job.{Job}
 use Rattle.mbj_types.specs.declared.reason.Reason.{Reason}
-use Rattle.mbj_types.specs.declared.limits.TheConstants.{MAX_PACKET_BYTES, MAX_AAD_BYTES}
+use Rattle.mbj_types.specs.declared.limits.TheConstants.{MAX_PACKET_BYTES}
 use Rattle.mbj_types.specs.Auths.{class_of}
-use Rattle.mbj_types.specs.Verdict.{is_null_cipher, is_gcm_cipher, takes_key, takes_iv, takes_range, takes_auth_key, has_hash_range, takes_tag, goes_with, verdict_at}
+use Rattle.mbj_types.specs.Verdict.{is_null_cipher, takes_key, takes_iv, takes_range, takes_aad, takes_auth_key, has_hash_range, takes_tag, goes_with, verdict_at}
 
 -- a job with a packet of n bytes, read off the rows
 pub record IsAccepted (j : Job) (n : ℕ) : Type 0 where
@@ -17,7 +17,7 @@ pub record IsAccepted (j : Job) (n : ℕ) : Type 0 where
   pub cipher_len : takes_range j.cipher j.cipher_len ≡ true
   pub auth_key : takes_auth_key (class_of j.auth) (length j.auth_key) ≡ true
   pub hash_range : has_hash_range (class_of j.auth) ≡ true → j.hash_off + j.hash_len ≤ n
-  pub aad : is_gcm_cipher j.cipher ≡ true → length j.aad ≤ MAX_AAD_BYTES
+  pub aad : takes_aad j.cipher (length j.aad) ≡ true
   pub tag : takes_tag (class_of j.auth) j.tag_len ≡ true
 
 -- a choice that is none took the second way
@@ -59,6 +59,6 @@ accepted j n none =
       cipher_len = not-false _ cipher_len.0;
       auth_key = not-false _ auth_key.0;
       hash_range = λ a. ltb-false n (j.hash_off + j.hash_len) (and-false (has_hash_range (class_of j.auth)) _ hash_range.0 a);
-      aad = λ c. ltb-false MAX_AAD_BYTES (length j.aad) (and-false (is_gcm_cipher j.cipher) _ aad.0 c);
+      aad = not-false _ aad.0;
       tag = not-false _ tag.0;
     }

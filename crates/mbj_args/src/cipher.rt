@@ -1,36 +1,28 @@
 //! What a cipher takes.
 
 ghost use Rattle.std.specs.Prelude.{◌≡◌, length, not};
-ghost use Rattle.mbj_types.specs.Verdict.{is_null_cipher, is_gcm_cipher, goes_with, takes_key, takes_iv, takes_range};
+ghost use Rattle.mbj_types.specs.Verdict.{is_null_cipher, goes_with, takes_key, takes_iv, takes_range, takes_aad};
 
 use crate::auth;
-use mbj_types::{AuthClass, Cipher, MAX_IV_BYTES};
+use mbj_types::{AuthClass, Cipher, MAX_AAD_BYTES, MAX_CCM_AAD_BYTES, MAX_IV_BYTES};
 
 pub(crate) fn is_null(cipher: Cipher) -> bool
     ensures { result ≡ is_null_cipher cipher }
 {
     match cipher {
         Cipher::Null => true,
-        Cipher::Cbc | Cipher::Ctr | Cipher::Gcm => false,
+        Cipher::Cbc | Cipher::Ctr | Cipher::Gcm | Cipher::Ccm => false,
     }
 }
 
-pub(crate) fn is_gcm(cipher: Cipher) -> bool
-    ensures { result ≡ is_gcm_cipher cipher }
-{
-    match cipher {
-        Cipher::Gcm => true,
-        Cipher::Null | Cipher::Cbc | Cipher::Ctr => false,
-    }
-}
-
-/// Whether an authentication goes with the cipher: with GCM its own alone, with the others any but GCM's.
+/// Whether an authentication goes with the cipher: with GCM and with CCM its own alone, with the others any but these two.
 pub(crate) fn goes_with(cipher: Cipher, class: AuthClass) -> bool
     ensures { result ≡ goes_with cipher class }
 {
     match cipher {
-        Cipher::Null | Cipher::Cbc | Cipher::Ctr => !auth::is_gcm(class),
+        Cipher::Null | Cipher::Cbc | Cipher::Ctr => !(auth::is_gcm(class) || auth::is_ccm(class)),
         Cipher::Gcm => auth::is_gcm(class),
+        Cipher::Ccm => auth::is_ccm(class),
     }
 }
 
@@ -41,7 +33,8 @@ pub(crate) fn takes_key(cipher: Cipher, len: usize) -> bool
     is_null(cipher) || len == 16 || len == 24 || len == 32
 }
 
-/// Initialization vectors of this many bytes: 16 for CBC, 12 or 16 for CTR, 1 to 65,535 for GCM.
+/// Initialization vectors of this many bytes: 16 for CBC, 12 or 16 for CTR, 1 to 65,535 for GCM, 7 to 13 for CCM
+/// (SP 800-38C, A.1).
 pub(crate) fn takes_iv(cipher: Cipher, len: usize) -> bool
     ensures { result ≡ takes_iv cipher len }
 {
@@ -50,6 +43,7 @@ pub(crate) fn takes_iv(cipher: Cipher, len: usize) -> bool
         Cipher::Cbc => len == 16,
         Cipher::Ctr => len == 12 || len == 16,
         Cipher::Gcm => len > 0 && len <= MAX_IV_BYTES,
+        Cipher::Ccm => 7 <= len && len <= 13,
     }
 }
 
@@ -58,8 +52,19 @@ pub(crate) fn takes_range(cipher: Cipher, len: u32) -> bool
     ensures { result ≡ takes_range cipher len }
 {
     match cipher {
-        Cipher::Null | Cipher::Gcm => true,
+        Cipher::Null | Cipher::Gcm | Cipher::Ccm => true,
         Cipher::Cbc => len > 0 && len % 16 == 0,
         Cipher::Ctr => len > 0,
+    }
+}
+
+/// Additional data of this many bytes: ciphers without a tag of their own don't look at it.
+pub(crate) fn takes_aad(cipher: Cipher, len: usize) -> bool
+    ensures { result ≡ takes_aad cipher len }
+{
+    match cipher {
+        Cipher::Null | Cipher::Cbc | Cipher::Ctr => true,
+        Cipher::Gcm => len <= MAX_AAD_BYTES,
+        Cipher::Ccm => len <= MAX_CCM_AAD_BYTES,
     }
 }

@@ -2,7 +2,7 @@ ghost use Rattle.std.specs.Prelude.{◌≡◌, ◌+◌, length};
 ghost use Rattle.mbj_types.specs.Verdict.{verdict, passes_end};
 
 use crate::{auth, cipher};
-use mbj_types::{Job, MAX_AAD_BYTES, MAX_PACKET_BYTES, Reason};
+use mbj_types::{Job, MAX_PACKET_BYTES, Reason};
 
 /// Whether a range passes the end of a packet of `packet_len` bytes. The sum of its offset and its length doesn't wrap.
 fn passes_end(off: u32, len: u32, packet_len: usize) -> bool
@@ -41,7 +41,7 @@ pub fn check(job: &Job) -> Option<Reason>
     if auth::has_hash_range(class) && passes_end(job.hash_off, job.hash_len, packet_len) {
         return Some(Reason::HashRange);
     }
-    if cipher::is_gcm(job.cipher) && job.aad.as_slice().len() > MAX_AAD_BYTES {
+    if !cipher::takes_aad(job.cipher, job.aad.as_slice().len()) {
         return Some(Reason::AadLong);
     }
     if !auth::takes_tag(class, job.tag_len) {
