@@ -1,7 +1,9 @@
 -- A course that hands its packet out, by its fields.
-use Rattle.std.proofs.Common.{◌≡◌, ◌≢◌, ℕ, ◌+◌, ◌/◌, ◌==◌, true, ◌⊎◌, inl, inr, List, [], length, Option, Some, None, refl, sym, ap, ap₂, ◌∙◌, subst, arith}
+use Rattle.std.proofs.Common.{◌≡◌, ◌≢◌, ℕ, ◌+◌, ◌/◌, ◌==◌, true, ◌⊎◌, inl, inr, List, [], ◌∷◌, length, Option, Some, None, refl, sym, ap, ap₂, ◌∙◌, subst, arith}
 use Rattle.std.specs.Prelude.{if◌then◌else◌}
+use Rattle.std.specs.List.{All}
 use Rattle.std.proofs.lemmas.Bool.{cond_both, eqb-true}
+use Rattle.std.proofs.lemmas.List.Elements.{All-head}
 use Rattle.mbj_types.specs.declared.job.Job.{Job}
 use Rattle.mbj_types.specs.declared.class.AuthClass.{AuthClass}
 use Rattle.mbj_types.specs.declared.class.AuthClass.TheVariants as class
@@ -10,6 +12,7 @@ use Rattle.mbj_types.specs.declared.class.CmacKey.TheVariants.{Aes128, Aes256}
 use Rattle.mbj_types.specs.declared.job.Cipher.{Cipher}
 use Rattle.mbj_types.specs.declared.job.Cipher.TheVariants as cipher
 use Rattle.mbj_types.specs.declared.job.Dir.TheVariants.{Enc}
+use Rattle.mbj_types.specs.declared.kind.Kind.{Kind}
 use Rattle.mbj_types.specs.declared.kind.Kind.TheVariants as kind
 use Rattle.mbj_types.specs.declared.reason.Reason.{Reason}
 use Rattle.mbj_types.specs.Aes.{round_count}
@@ -22,35 +25,94 @@ use Rattle.mbj_args.proofs.Accepted.{accepted}
 use Rattle.mbj_stage.specs.declared.stage.Stage.TheVariants as stage
 use Rattle.mbj_stage.specs.declared.stage.Step.{Step}
 use Rattle.mbj_stage.specs.declared.stage.Step.TheVariants as step
-use Rattle.mbj_stage.specs.Families.{cbc_lanes, cbc_stage, cmac_lanes, cmac_stage}
-use Rattle.mbj_stage.specs.Steps.{auth_stage_by, cbc_kind, stage_at, step_of}
-use Rattle.mbj_stage.specs.Inside.Kept.{IsNextStep, IsSound, packet_length}
-use Rattle.mbj_stage.specs.CourseState.{owed}
-use Rattle.mbj_stage.specs.Handing.{End, owed_with}
-use Rattle.mbj_stage.proofs.Handings.{going, owes-text, owes-mac}
-use Rattle.mbj_stage.proofs.Lengths.{length-ciphered}
+use Rattle.mbj_stage.specs.Families.{by_rounds, cbc_lanes, cbc_stage, ccm_lanes, ccm_stage, cmac_lanes, cmac_stage}
+use Rattle.mbj_stage.specs.Laws.{each-by_rounds}
+use Rattle.mbj_stage.specs.Steps.{auth_stage_by, by_key, cbc_kind, ccm_kind, stage_at, step_of}
+use Rattle.mbj_stage.specs.Inside.Kept.{IsNextStep, IsSound, IsStepOf, has_texts, packet_length}
+use Rattle.mbj_stage.specs.declared.lengths.Lengths.{Lengths}
+use Rattle.mbj_stage.specs.CourseState.{owed, sized}
+use Rattle.mbj_stage.specs.Handing.{End, handed_out, left_behind, owed_with}
+use Rattle.mbj_stage.proofs.Handings.{IsCcmEnd, going, owes-ccm, owes-text, owes-mac}
+use Rattle.mbj_stage.proofs.PacketLengths.{length-ciphered}
+use Rattle.mbj_stage.proofs.Soundness.{verdict-sized}
 use Rattle.mbj_stage.proofs.Packets.{ciphered-packet, mac_by-packet}
-use Rattle.mbj_stage.proofs.StagesOf.{auth-first, cipher-first, cipher-lane, cmac-auth, first-some, first-step, stage-packet}
+use Rattle.mbj_stage.proofs.StagesOf.{auth-first, ccm-first, cipher-first, cipher-lane, cmac-auth, first-some, first-step, stage-packet}
 
 -- ---- what is owed
 
+-- what is left of a job by the step that its entry does
+left-cipher : (j : Job) (left : List Step) → IsNextStep step.Cipher left → left_behind left j ≡ record j { packet = [] }
+left-cipher j [] h = absurd h
+left-cipher j (step.Cipher ∷ left) h = refl
+left-cipher j (step.Auth ∷ left) h = absurd (cc)
+left-cipher j (step.Gcm ∷ left) h = absurd (cc)
+left-cipher j (step.CcmMac ∷ left) h = absurd (cc)
+left-cipher j (step.CcmText ∷ left) h = absurd (cc)
+
+left-auth : (j : Job) (left : List Step) → IsNextStep step.Auth left → left_behind left j ≡ record j { packet = [] }
+left-auth j [] h = absurd h
+left-auth j (step.Cipher ∷ left) h = absurd (cc)
+left-auth j (step.Auth ∷ left) h = refl
+left-auth j (step.Gcm ∷ left) h = absurd (cc)
+left-auth j (step.CcmMac ∷ left) h = absurd (cc)
+left-auth j (step.CcmText ∷ left) h = absurd (cc)
+
+left-ccm : (j : Job) (left : List Step) → IsNextStep step.CcmMac left → left_behind left j ≡ record j { packet = []; iv = []; aad = [] }
+left-ccm j [] h = absurd h
+left-ccm j (step.Cipher ∷ left) h = absurd (cc)
+left-ccm j (step.Auth ∷ left) h = absurd (cc)
+left-ccm j (step.Gcm ∷ left) h = absurd (cc)
+left-ccm j (step.CcmMac ∷ left) h = refl
+left-ccm j (step.CcmText ∷ left) h = absurd (cc)
+
+-- a course by its fields once its packet went out
+out-is : (n : Lengths) (j : Job) (p q tag : List ℕ) (reason : Option Reason) (left : List Step) (out : Option ℕ) (m : ℕ) → q ≡ [] → m ≡ length p
+    → left_behind left (record j { packet = p }) ≡ record j { packet = [] }
+    → going n j q tag reason left (Some m) ≡ handed_out (going n j p tag reason left out)
+out-is n j p q tag reason left out m none len behind =
+    ap₂ (λ (x : List ℕ) (l : ℕ). going n j x tag reason left (Some l)) none len
+    ∙ ap (λ (x : Job). record { job = x; tag = tag; reason = reason; left = left; out = Some (length p); lengths = n }) (sym behind)
+
+pub text-is-out : (n : Lengths) (j : Job) (p q tag : List ℕ) (reason : Option Reason) (left : List Step) (out : Option ℕ) (m : ℕ) → q ≡ [] → m ≡ length p
+    → IsNextStep step.Cipher left → going n j q tag reason left (Some m) ≡ handed_out (going n j p tag reason left out)
+text-is-out n j p q tag reason left out m none len first = out-is n j p q tag reason left out m none len (left-cipher (record j { packet = p }) left first)
+
+pub mac-is-out : (n : Lengths) (j : Job) (p q tag : List ℕ) (reason : Option Reason) (left : List Step) (out : Option ℕ) (m : ℕ) → q ≡ [] → m ≡ length p
+    → IsNextStep step.Auth left → going n j q tag reason left (Some m) ≡ handed_out (going n j p tag reason left out)
+mac-is-out n j p q tag reason left out m none len first = out-is n j p q tag reason left out m none len (left-auth (record j { packet = p }) left first)
+
+pub ccm-is-out : (n : Lengths) (j : Job) (p q iv aad tag : List ℕ) (reason : Option Reason) (left : List Step) (out : Option ℕ) (m : ℕ) → q ≡ [] → iv ≡ [] → aad ≡ []
+    → m ≡ length p → IsNextStep step.CcmMac left
+    → going n (record j { iv = iv; aad = aad }) q tag reason left (Some m) ≡ handed_out (going n j p tag reason left out)
+ccm-is-out n j p q iv aad tag reason left out m none no_iv no_aad len first =
+    ap₂ (λ (x y : List ℕ). going n (record j { iv = x; aad = y }) q tag reason left (Some m)) no_iv no_aad
+    ∙ ap₂ (λ (x : List ℕ) (l : ℕ). going n (record j { iv = []; aad = [] }) x tag reason left (Some l)) none len
+    ∙ ap (λ (x : Job). record { job = x; tag = tag; reason = reason; left = left; out = Some (length p); lengths = n })
+    (sym (left-ccm (record j { packet = p }) left first))
+
 -- with a packet out that is ciphered
-pub text-out : (j : Job) (p q tag : List ℕ) (reason : Option Reason) (left : List Step) (out : Option ℕ) (m : ℕ) (e : End) → q ≡ [] → m ≡ length p
+pub text-out : (n : Lengths) (j : Job) (p q tag : List ℕ) (reason : Option Reason) (left : List Step) (out : Option ℕ) (m : ℕ) (e : End) → q ≡ [] → m ≡ length p
     → IsNextStep step.Cipher left → e.packet ≡ ciphered j p
-    → owed_with e (going j q tag reason left (Some m)) ≡ owed (going j p tag reason left out)
-unfolding owed
-text-out j p q tag reason left out m e none len first is =
-    ap₂ (λ (x : List ℕ) (n : ℕ). owed_with e (going j x tag reason left (Some n))) none len
-    ∙ owes-text (going j p tag reason left None) e first (is ∙ sym (ciphered-packet j p p))
+    → owed_with e (going n j q tag reason left (Some m)) ≡ owed (going n j p tag reason left out)
+text-out n j p q tag reason left out m e none len first is =
+    ap (owed_with e) (text-is-out n j p q tag reason left out m none len first)
+    ∙ owes-text (going n j p tag reason left out) e first (is ∙ sym (ciphered-packet j p p))
 
 -- with a packet out that is authenticated
-pub mac-out : (j : Job) (p q tag : List ℕ) (reason : Option Reason) (left : List Step) (out : Option ℕ) (m : ℕ) (e : End) → q ≡ [] → m ≡ length p
+pub mac-out : (n : Lengths) (j : Job) (p q tag : List ℕ) (reason : Option Reason) (left : List Step) (out : Option ℕ) (m : ℕ) (e : End) → q ≡ [] → m ≡ length p
     → IsNextStep step.Auth left → e.packet ≡ p → e.mac ≡ mac_by (class_of j.auth) j p
-    → owed_with e (going j q tag reason left (Some m)) ≡ owed (going j p tag reason left out)
-unfolding owed
-mac-out j p q tag reason left out m e none len first is mac =
-    ap₂ (λ (x : List ℕ) (n : ℕ). owed_with e (going j x tag reason left (Some n))) none len
-    ∙ owes-mac (going j p tag reason left None) e first is (mac ∙ sym (mac_by-packet (class_of j.auth) j p p))
+    → owed_with e (going n j q tag reason left (Some m)) ≡ owed (going n j p tag reason left out)
+mac-out n j p q tag reason left out m e none len first is mac =
+    ap (owed_with e) (mac-is-out n j p q tag reason left out m none len first)
+    ∙ owes-mac (going n j p tag reason left out) e first is (mac ∙ sym (mac_by-packet (class_of j.auth) j p p))
+
+-- with a packet out over which CCM's MAC is made
+pub ccm-out : (n : Lengths) (j : Job) (p q iv aad tag : List ℕ) (reason : Option Reason) (left : List Step) (out : Option ℕ) (m : ℕ) (e : End) → q ≡ [] → iv ≡ [] → aad ≡ []
+    → m ≡ length p → IsNextStep step.CcmMac left → IsCcmEnd (record j { packet = p }) e
+    → owed_with e (going n (record j { iv = iv; aad = aad }) q tag reason left (Some m)) ≡ owed (going n j p tag reason left out)
+ccm-out n j p q iv aad tag reason left out m e none no_iv no_aad len first is =
+    ap (owed_with e) (ccm-is-out n j p q iv aad tag reason left out m none no_iv no_aad len first)
+    ∙ owes-ccm (going n j p tag reason left out) e first is
 
 -- the ciphered packet is as long
 pub ciphered-long : (j : Job) (p : List ℕ) → verdict_at j (length p) ≡ None → length (ciphered j p) ≡ length p
@@ -58,21 +120,35 @@ ciphered-long j p none = ap length (sym (ciphered-packet j p p)) ∙ length-ciph
 
 -- ---- the keys of AES
 
-same-kinds : (key k n m : ℕ) → key ≡ k → n ≡ m → stage.Lane (cbc_kind key) ≡ cbc_stage n → stage.Lane (cbc_kind k) ≡ cbc_stage m
-same-kinds key k n m a b h =
-    ap (λ (x : ℕ). stage.Lane (cbc_kind x)) (sym a) ∙ h ∙ ap cbc_stage b
+lane-kind : (a b : Kind) → stage.Lane a ≡ stage.Lane b → a ≡ b
+lane-kind a b h = cc
+
+-- three kinds apart
+pub record AreThree (a b c : Kind) : Type 0 where
+  pub first : a ≢ b
+  pub second : b ≢ c
+  pub third : a ≢ c
+
+same-kinds : (a b c : Kind) (key k n m : ℕ) → key ≡ k → n ≡ m → by_key key a b c ≡ by_rounds n a b c → by_key k a b c ≡ by_rounds m a b c
+same-kinds a b c key k n m e f h = ap (λ (x : ℕ). by_key x a b c) (sym e) ∙ h ∙ ap (λ (x : ℕ). by_rounds x a b c) f
 
 -- the rounds of the kind's keys
-cbc-rounds : (key n : ℕ) → (key ≡ 16) ⊎ ((key ≡ 24) ⊎ (key ≡ 32)) → IsRoundCount n → stage.Lane (cbc_kind key) ≡ cbc_stage n → key / 4 + 6 ≡ n
-cbc-rounds key n (inl a) (inl b) h = omega arith
-cbc-rounds key n (inl a) (inr (inl b)) h = absurd (let e = same-kinds key 16 n 12 a b h in cc)
-cbc-rounds key n (inl a) (inr (inr b)) h = absurd (let e = same-kinds key 16 n 14 a b h in cc)
-cbc-rounds key n (inr (inl a)) (inl b) h = absurd (let e = same-kinds key 24 n 10 a b h in cc)
-cbc-rounds key n (inr (inl a)) (inr (inl b)) h = omega arith
-cbc-rounds key n (inr (inl a)) (inr (inr b)) h = absurd (let e = same-kinds key 24 n 14 a b h in cc)
-cbc-rounds key n (inr (inr a)) (inl b) h = absurd (let e = same-kinds key 32 n 10 a b h in cc)
-cbc-rounds key n (inr (inr a)) (inr (inl b)) h = absurd (let e = same-kinds key 32 n 12 a b h in cc)
-cbc-rounds key n (inr (inr a)) (inr (inr b)) h = omega arith
+kind-rounds : (a b c : Kind) (key n : ℕ) → AreThree a b c → (key ≡ 16) ⊎ ((key ≡ 24) ⊎ (key ≡ 32)) → IsRoundCount n → by_key key a b c ≡ by_rounds n a b c → key / 4 + 6 ≡ n
+kind-rounds a b c key n d (inl e) (inl f) h = omega arith
+kind-rounds a b c key n d (inl e) (inr (inl f)) h = absurd (d.first (same-kinds a b c key 16 n 12 e f h))
+kind-rounds a b c key n d (inl e) (inr (inr f)) h = absurd (d.third (same-kinds a b c key 16 n 14 e f h))
+kind-rounds a b c key n d (inr (inl e)) (inl f) h = absurd (d.first (sym (same-kinds a b c key 24 n 10 e f h)))
+kind-rounds a b c key n d (inr (inl e)) (inr (inl f)) h = omega arith
+kind-rounds a b c key n d (inr (inl e)) (inr (inr f)) h = absurd (d.second (same-kinds a b c key 24 n 14 e f h))
+kind-rounds a b c key n d (inr (inr e)) (inl f) h = absurd (d.third (sym (same-kinds a b c key 32 n 10 e f h)))
+kind-rounds a b c key n d (inr (inr e)) (inr (inl f)) h = absurd (d.second (sym (same-kinds a b c key 32 n 12 e f h)))
+kind-rounds a b c key n d (inr (inr e)) (inr (inr f)) h = omega arith
+
+cbc-three : AreThree kind.Cbc128 kind.Cbc192 kind.Cbc256
+cbc-three = record { first = λ e. cc; second = λ e. cc; third = λ e. cc }
+
+ccm-three : AreThree kind.Ccm128 kind.Ccm192 kind.Ccm256
+ccm-three = record { first = λ e. cc; second = λ e. cc; third = λ e. cc }
 
 -- ---- a course whose next stage is CBC encryption with keys of n rounds
 
@@ -84,37 +160,36 @@ pub record IsCbcNext (j : Job) (p : List ℕ) (left : List Step) (n : ℕ) : Typ
   pub accepted : verdict_at j (length p) ≡ None
 
 pub cbc-kinds : (n : ℕ) → step_of (cbc_lanes n) ≡ step.Cipher
-cbc-kinds n =
-    cond_both (n == 10) kind.Cbc128 (if n == 12 then kind.Cbc192 else kind.Cbc256) (λ k. step_of k ≡ step.Cipher)
-    (λ _. refl) (λ _. cond_both (n == 12) kind.Cbc192 kind.Cbc256 (λ k. step_of k ≡ step.Cipher) (λ _. refl) (λ _. refl))
+cbc-kinds n = each-by_rounds (λ k. step_of k ≡ step.Cipher) n kind.Cbc128 kind.Cbc192 kind.Cbc256 refl refl refl
 
 -- an accepted job whose packet is there
-here-accepted : (j : Job) (p : List ℕ) (left : List Step) (out : Option ℕ) → IsSound j p left out → out ≡ None → left ≢ []
+here-accepted : (j : Job) (p : List ℕ) (left : List Step) (out : Option ℕ) (m : Lengths) → IsSound j p left out m → out ≡ None → left ≢ []
     → verdict_at j (length p) ≡ None
-here-accepted j p left out sound here some = ap (λ (o : Option ℕ). verdict_at j (packet_length o p)) (sym here) ∙ sound.accepted some
+here-accepted j p left out m sound here some =
+    sym (verdict-sized j m (length p) (sound.lengths (ap (λ (o : Option ℕ). has_texts o left) here))) ∙ ap (λ (o : Option ℕ). verdict_at (sized m j) (packet_length o p)) (sym here) ∙ sound.accepted some
 
-pub cbc-next : (j : Job) (p : List ℕ) (left : List Step) (out : Option ℕ) (n : ℕ) → IsRoundCount n → IsSound j p left out → out ≡ None
+pub cbc-next : (j : Job) (p : List ℕ) (left : List Step) (out : Option ℕ) (m : Lengths) (n : ℕ) → IsRoundCount n → IsSound j p left out m → out ≡ None
     → stage_at (record j { packet = p }) left ≡ cbc_stage n → IsCbcNext j p left n
-cbc-next j p left out n count sound here next =
+cbc-next j p left out m n count sound here next =
     let at : stage_at j left ≡ cbc_stage n = sym (stage-packet j p left) ∙ next in
     let first = subst (λ (s : Step). IsNextStep s left) (cbc-kinds n) (first-step j left _ at) in
     let lane = sym (cipher-first j left first) ∙ at in
     let is = cipher-lane j.cipher j.dir (length j.key) _ lane in
-    let none = here-accepted j p left out sound here (first-some step.Cipher left first) in
+    let none = here-accepted j p left out m sound here (first-some step.Cipher left first) in
     let key : IsKeySize (length j.key) = ap (λ (c : Cipher). takes_key c (length j.key)) (sym is.cbc) ∙ (accepted j (length p) none).key in
     record {
       first = first;
       cbc = is.cbc;
       enc = is.enc;
-      rounds = cbc-rounds (length j.key) n (key_sizes (length j.key) key) count (ap (λ k. stage.Lane k) is.kind);
+      rounds = kind-rounds kind.Cbc128 kind.Cbc192 kind.Cbc256 (length j.key) n cbc-three (key_sizes (length j.key) key) count is.kind;
       accepted = none;
     }
 
 -- ---- a course whose next stage is HMAC
 
-pub hmac-accepted : (j : Job) (p : List ℕ) (left : List Step) (out : Option ℕ) → IsSound j p left out → out ≡ None
+pub hmac-accepted : (j : Job) (p : List ℕ) (left : List Step) (out : Option ℕ) (m : Lengths) → IsSound j p left out m → out ≡ None
     → IsNextStep step.Auth left → verdict_at j (length p) ≡ None
-hmac-accepted j p left out sound here first = here-accepted j p left out sound here (first-some step.Auth left first)
+hmac-accepted j p left out m sound here first = here-accepted j p left out m sound here (first-some step.Auth left first)
 
 -- ---- a course whose next stage is CMAC with keys of n rounds
 
@@ -139,17 +214,54 @@ cmac-rounds class.Null key n count k h = absurd (cmac-auth class.Null n h)
 cmac-rounds (class.Hmac hash) key n count k h = absurd (cmac-auth (class.Hmac hash) n h)
 cmac-rounds (class.Cmac of) key n count k h = key-rounds of key n count (eqb-true key (cmac_key_bytes of) k) h
 cmac-rounds class.Gcm key n count k h = absurd (cmac-auth class.Gcm n h)
+cmac-rounds class.Ccm key n count k h = absurd (cmac-auth class.Ccm n h)
 
-pub cmac-next : (j : Job) (p : List ℕ) (left : List Step) (out : Option ℕ) (n : ℕ) → (n ≡ 10) ⊎ (n ≡ 14) → IsSound j p left out → out ≡ None
+pub cmac-next : (j : Job) (p : List ℕ) (left : List Step) (out : Option ℕ) (m : Lengths) (n : ℕ) → (n ≡ 10) ⊎ (n ≡ 14) → IsSound j p left out m → out ≡ None
     → stage_at (record j { packet = p }) left ≡ cmac_stage n → IsCmacNext j p left n
-cmac-next j p left out n count sound here next =
+cmac-next j p left out m n count sound here next =
     let at : stage_at j left ≡ cmac_stage n = sym (stage-packet j p left) ∙ next in
     let first = subst (λ (s : Step). IsNextStep s left) (cmac-kinds n) (first-step j left _ at) in
     let lane = sym (auth-first j left first) ∙ at in
-    let none = here-accepted j p left out sound here (first-some step.Auth left first) in
+    let none = here-accepted j p left out m sound here (first-some step.Auth left first) in
     record {
       first = first;
       cmac = cmac-auth (class_of j.auth) n lane;
       rounds = cmac-rounds (class_of j.auth) (length j.auth_key) n count (accepted j (length p) none).auth_key lane;
+      accepted = none;
+    }
+
+-- ---- a course whose next stage is CCM's MAC with keys of n rounds
+
+pub record IsCcmNext (j : Job) (p : List ℕ) (left : List Step) (n : ℕ) : Type 0 where
+  pub first : IsNextStep step.CcmMac left
+  pub ccm : j.cipher ≡ cipher.Ccm
+  pub rounds : round_count j.key ≡ n
+  pub accepted : verdict_at j (length p) ≡ None
+
+pub ccm-kinds : (n : ℕ) → step_of (ccm_lanes n) ≡ step.CcmMac
+ccm-kinds n = each-by_rounds (λ k. step_of k ≡ step.CcmMac) n kind.Ccm128 kind.Ccm192 kind.Ccm256 refl refl refl
+
+-- the first of the steps is one of the job's
+own-first : (j : Job) (left : List Step) → All (IsStepOf j) left → IsNextStep step.CcmMac left → j.cipher ≡ cipher.Ccm
+own-first j [] own h = absurd h
+own-first j (step.Cipher ∷ left) own h = absurd (cc)
+own-first j (step.Auth ∷ left) own h = absurd (cc)
+own-first j (step.Gcm ∷ left) own h = absurd (cc)
+own-first j (step.CcmMac ∷ left) own h = All-head (IsStepOf j) step.CcmMac left own
+own-first j (step.CcmText ∷ left) own h = absurd (cc)
+
+pub ccm-next : (j : Job) (p : List ℕ) (left : List Step) (out : Option ℕ) (m : Lengths) (n : ℕ) → IsRoundCount n → IsSound j p left out m → out ≡ None
+    → stage_at (record j { packet = p }) left ≡ ccm_stage n → IsCcmNext j p left n
+ccm-next j p left out m n count sound here next =
+    let at : stage_at j left ≡ ccm_stage n = sym (stage-packet j p left) ∙ next in
+    let first = subst (λ (s : Step). IsNextStep s left) (ccm-kinds n) (first-step j left _ at) in
+    let lane : stage.Lane (ccm_kind (length j.key)) ≡ ccm_stage n = sym (ccm-first j left first) ∙ at in
+    let none = here-accepted j p left out m sound here (first-some step.CcmMac left first) in
+    let ccm = own-first j left sound.own first in
+    let key : IsKeySize (length j.key) = ap (λ (c : Cipher). takes_key c (length j.key)) (sym ccm) ∙ (accepted j (length p) none).key in
+    record {
+      first = first;
+      ccm = ccm;
+      rounds = kind-rounds kind.Ccm128 kind.Ccm192 kind.Ccm256 (length j.key) n ccm-three (key_sizes (length j.key) key) count (lane-kind _ _ lane);
       accepted = none;
     }

@@ -4,7 +4,8 @@ pub mod Tags
 pub mod StagesOf
 pub mod Soundness
 pub mod Owing
-pub mod Lengths
+pub mod PacketLengths
 pub mod EntryEnds
 pub mod HandingOut
 pub mod Handings
+pub mod Masks

@@ -1,10 +1,13 @@
 -- That the fields of a course fit: at its start, and when a step is done.
-use Rattle.std.proofs.Common.{◌≡◌, ◌≢◌, ℕ, List, [], ◌∷◌, length, Option, Some, None, refl, sym, ap, ◌∙◌, subst}
+use Rattle.std.proofs.Common.{◌≡◌, ◌≢◌, ℕ, true, List, [], ◌∷◌, drop, length, replicate, Option, Some, None, refl, sym, ap, ap₂, ◌∙◌, subst}
 use Rattle.std.specs.List.{All}
+use Rattle.std.proofs.lemmas.List.{length-replicate}
 use Rattle.std.proofs.lemmas.List.Elements.{All-nil, All-cons, All-tail, All-append}
 use Rattle.mbj_types.specs.declared.job.Job.{Job}
 use Rattle.mbj_types.specs.declared.job.Cipher.{Cipher}
 use Rattle.mbj_types.specs.declared.job.Cipher.TheVariants as cipher
+use Rattle.mbj_types.specs.declared.job.Dir.{Dir}
+use Rattle.mbj_types.specs.declared.job.Dir.TheVariants.{Enc, Dec}
 use Rattle.mbj_types.specs.declared.job.Order.{Order}
 use Rattle.mbj_types.specs.declared.job.Order.TheVariants.{CipherHash, HashCipher}
 use Rattle.mbj_types.specs.declared.reason.Reason.{Reason}
@@ -12,11 +15,14 @@ use Rattle.mbj_types.specs.Auths.{class_of}
 use Rattle.mbj_types.specs.declared.class.AuthClass.{AuthClass}
 use Rattle.mbj_types.specs.declared.class.AuthClass.TheVariants as class
 use Rattle.mbj_types.specs.Verdict.{verdict_at}
+use Rattle.mbj_stage.specs.declared.lengths.Lengths.{Lengths}
 use Rattle.mbj_stage.specs.declared.stage.Step.{Step}
 use Rattle.mbj_stage.specs.declared.stage.Step.TheVariants as step
-use Rattle.mbj_stage.specs.Steps.{cipher_steps, auth_steps, ordered, steps_of, steps_by, stage_at}
-use Rattle.mbj_stage.specs.Inside.Kept.{IsStepOf, packet_length, IsSound}
+use Rattle.mbj_stage.specs.Steps.{ccm_steps, cipher_steps, auth_steps, ordered, steps_with, steps_of, steps_by, stage_at}
+use Rattle.mbj_stage.specs.Inside.Kept.{IsNextStep, IsStepOf, has_texts, packet_length, IsSound}
 use Rattle.mbj_stage.specs.declared.stage.Stage.TheVariants as stage
+use Rattle.mbj_stage.specs.CourseState.{lengths_of, sized}
+use Rattle.mbj_stage.proofs.StagesOf.{stage-texts}
 
 -- the one step of a list is a job's where it is so
 own_one : (j : Job) (s : Step) → IsStepOf j s → All (IsStepOf j) (s ∷ [])
@@ -27,52 +33,146 @@ own_cipher cipher.Null j e = All-nil (IsStepOf j)
 own_cipher cipher.Cbc j e = own_one j step.Cipher e
 own_cipher cipher.Ctr j e = own_one j step.Cipher e
 own_cipher cipher.Gcm j e = own_one j step.Gcm e
+own_cipher cipher.Ccm j e = All-nil (IsStepOf j)
 
 own_auth : (a : AuthClass) (j : Job) → auth_steps (class_of j.auth) ≡ auth_steps a → All (IsStepOf j) (auth_steps a)
 own_auth class.Null j e = All-nil (IsStepOf j)
 own_auth (class.Hmac hash) j e = own_one j step.Auth e
 own_auth (class.Cmac key) j e = own_one j step.Auth e
 own_auth class.Gcm j e = All-nil (IsStepOf j)
+own_auth class.Ccm j e = All-nil (IsStepOf j)
 
 own_ordered : (o : Order) (j : Job) (ciphers auths : List Step) → All (IsStepOf j) ciphers → All (IsStepOf j) auths
     → All (IsStepOf j) (ordered o ciphers auths)
 own_ordered CipherHash j ciphers auths hc ha = All-append (IsStepOf j) ciphers auths hc ha
 own_ordered HashCipher j ciphers auths hc ha = All-append (IsStepOf j) auths ciphers ha hc
 
--- the steps of a job are its own
-own : (j : Job) → All (IsStepOf j) (steps_of j)
-own j =
-    own_ordered j.order j (cipher_steps j.cipher) (auth_steps (class_of j.auth)) (own_cipher j.cipher j refl) (own_auth (class_of j.auth) j refl)
+own_ccm : (d : Dir) (j : Job) → j.cipher ≡ cipher.Ccm → All (IsStepOf j) (ccm_steps d)
+own_ccm Enc j e = All-cons (IsStepOf j) step.CcmMac (step.CcmText ∷ []) e (own_one j step.CcmText e)
+own_ccm Dec j e = All-cons (IsStepOf j) step.CcmText (step.CcmMac ∷ []) e (own_one j step.CcmMac e)
+
+own_both : (c : Cipher) (j : Job) → j.cipher ≡ c → All (IsStepOf j) (ordered j.order (cipher_steps c) (auth_steps (class_of j.auth)))
+own_both c j e =
+    own_ordered j.order j (cipher_steps c) (auth_steps (class_of j.auth)) (own_cipher c j (ap cipher_steps e)) (own_auth (class_of j.auth) j refl)
+
+-- the steps of a job are its own, whatever packet it has
+own_packet_with : (c : Cipher) (j : Job) (q : List ℕ) → j.cipher ≡ c → All (IsStepOf (record j { packet = q })) (steps_with c j)
+own_packet_with cipher.Null j q e = own_both cipher.Null (record j { packet = q }) e
+own_packet_with cipher.Cbc j q e = own_both cipher.Cbc (record j { packet = q }) e
+own_packet_with cipher.Ctr j q e = own_both cipher.Ctr (record j { packet = q }) e
+own_packet_with cipher.Gcm j q e = own_both cipher.Gcm (record j { packet = q }) e
+own_packet_with cipher.Ccm j q e = own_ccm j.dir (record j { packet = q }) e
+
+own-packet : (j : Job) (q : List ℕ) → All (IsStepOf (record j { packet = q })) (steps_of j)
+own-packet j q = own_packet_with j.cipher j q refl
+
+-- a job with another nonce and other data has the same steps
+own_texts : (j : Job) (iv aad : List ℕ) (s : Step) → IsStepOf j s → IsStepOf (record j { iv = iv; aad = aad }) s
+own_texts j iv aad step.Cipher h = h
+own_texts j iv aad step.Auth h = h
+own_texts j iv aad step.Gcm h = h
+own_texts j iv aad step.CcmMac h = h
+own_texts j iv aad step.CcmText h = h
+
+all_own_texts : (j : Job) (iv aad : List ℕ) (left : List Step) → All (IsStepOf j) left → All (IsStepOf (record j { iv = iv; aad = aad })) left
+all_own_texts j iv aad left h = λ k s lt. own_texts j iv aad _ (h k s lt)
+
+-- zero bytes have the verdict of a nonce and data as long
+pub verdict-sized : (j : Job) (n : Lengths) (m : ℕ) → n ≡ lengths_of j → verdict_at (sized n j) m ≡ verdict_at j m
+verdict-sized j n m is =
+    ap (λ (l : Lengths). verdict_at (sized l j) m) is ∙ rw (length-replicate {A = ℕ} (length j.iv) 0, length-replicate {A = ℕ} (length j.aad) 0) refl
 
 -- at the start, when another packet stands in the job
 pub sound_begun : (reason : Option Reason) (j : Job) (p q : List ℕ) (left : List Step)
     → verdict_at j (length j.packet) ≡ reason → p ≡ j.packet → left ≡ steps_by reason j
-    → IsSound (record j { packet = q }) p left None
+    → IsSound (record j { packet = q }) p left None (lengths_of j)
 sound_begun None j p q left e is steps = record {
-  accepted = λ _. ap (λ (x : List ℕ). verdict_at j (length x)) is ∙ e;
-  own = subst (All (IsStepOf (record j { packet = q }))) (sym steps) (own (record j { packet = q }));
+  accepted = λ _. verdict-sized j (lengths_of j) (length p) refl ∙ ap (λ (x : List ℕ). verdict_at j (length x)) is ∙ e;
+  own = subst (All (IsStepOf (record j { packet = q }))) (sym steps) (own-packet j q);
   here = λ _. refl;
+  lengths = λ _. refl;
 }
 sound_begun (Some r) j p q left e is steps = record {
   accepted = λ some. absurd (some steps);
   own = subst (All (IsStepOf (record j { packet = q }))) (sym steps) (All-nil (IsStepOf (record j { packet = q })));
   here = λ _. refl;
+  lengths = λ _. refl;
 }
 
 -- when a step is done, which keeps the packet's length
-pub sound_next : (j : Job) (p q : List ℕ) (s : Step) (left : List Step) (out : Option ℕ) → IsSound j p (s ∷ left) out
-    → length q ≡ packet_length out p → IsSound j q left None
-sound_next j p q s left out h len = record {
-  accepted = λ _. ap (verdict_at j) len ∙ h.accepted (λ none. cc);
+pub sound_next : (j : Job) (p q : List ℕ) (s : Step) (left : List Step) (out : Option ℕ) (n : Lengths) → IsSound j p (s ∷ left) out n
+    → n ≡ lengths_of j → length q ≡ packet_length out p → IsSound j q left None n
+sound_next j p q s left out n h is len = record {
+  accepted = λ _. ap (verdict_at (sized n j)) len ∙ h.accepted (λ none. cc);
   own = All-tail (IsStepOf j) s left h.own;
   here = λ _. refl;
+  lengths = λ _. is;
 }
 
+-- when nonce and data come back with the packet
+pub sound_texts_back : (j : Job) (p q iv aad : List ℕ) (s : Step) (left : List Step) (out : Option ℕ) (n : Lengths) → IsSound j p (s ∷ left) out n
+    → length iv ≡ n.iv → length aad ≡ n.aad → length q ≡ packet_length out p → IsSound (record j { iv = iv; aad = aad }) q left None n
+sound_texts_back j p q iv aad s left out n h i a len = record {
+  accepted = λ _. ap (verdict_at (sized n j)) len ∙ h.accepted (λ none. cc);
+  own = all_own_texts j iv aad left (All-tail (IsStepOf j) s left h.own);
+  here = λ _. refl;
+  lengths = λ _. ap₂ (λ (x y : ℕ). record { iv = x; aad = y }) (sym i) (sym a);
+}
+
+-- a step whose entry has the packet alone
+abbrev pub KeepsTexts : Step → Type 0
+KeepsTexts step.CcmMac = ⊥
+KeepsTexts s = Unit {0}
+
+texts-kept : (m : ℕ) (s : Step) (left : List Step) → KeepsTexts s → has_texts (Some m) (s ∷ left) ≡ true
+texts-kept m step.Cipher left h = refl
+texts-kept m step.Auth left h = refl
+texts-kept m step.Gcm left h = refl
+texts-kept m step.CcmMac left h = absurd h
+texts-kept m step.CcmText left h = refl
+
+-- when such an entry is taken back
+pub sound_taken : (j : Job) (p q : List ℕ) (s : Step) (all left : List Step) (out : Option ℕ) (n : Lengths) → IsSound j p all out n
+    → IsNextStep s all → KeepsTexts s → out ≡ Some (length q) → left ≡ drop 1 all → IsSound j q left None n
+sound_taken j p q s [] left out n h next keeps is e = absurd next
+sound_taken j p q s (t ∷ rest) left out n h next keeps is e =
+    let has = texts-kept (length q) t rest (subst KeepsTexts (sym next) keeps) in
+    subst (λ (l : List Step). IsSound j q l None n) (sym e)
+    (sound_next j p q t rest out n h (h.lengths (ap (λ (o : Option ℕ). has_texts o (t ∷ rest)) is ∙ has)) (sym (ap (λ (o : Option ℕ). packet_length o p) is)))
+
+-- when an entry with nonce and data is taken back
+pub sound_ccm_taken : (j : Job) (p q iv aad : List ℕ) (all left : List Step) (out : Option ℕ) (n : Lengths) → IsSound j p all out n
+    → IsNextStep step.CcmMac all → out ≡ Some (length q) → length iv ≡ n.iv → length aad ≡ n.aad → left ≡ drop 1 all
+    → IsSound (record j { iv = iv; aad = aad }) q left None n
+sound_ccm_taken j p q iv aad [] left out n h next is i a e = absurd next
+sound_ccm_taken j p q iv aad (t ∷ rest) left out n h next is i a e =
+    subst (λ (l : List Step). IsSound (record j { iv = iv; aad = aad }) q l None n) (sym e)
+    (sound_texts_back j p q iv aad t rest out n h i a (sym (ap (λ (o : Option ℕ). packet_length o p) is)))
+
 -- while the packet is out
-pub sound_out : (j : Job) (p : List ℕ) (left : List Step) → IsSound j p left None → stage_at j left ≢ stage.Now
-    → IsSound j [] left (Some (length p))
-sound_out j p left h lane = record {
+pub sound_out : (j : Job) (p : List ℕ) (left : List Step) (n : Lengths) → IsSound j p left None n → stage_at j left ≢ stage.Now
+    → IsSound j [] left (Some (length p)) n
+sound_out j p left n h lane = record {
   accepted = h.accepted;
   own = h.own;
   here = λ now. absurd (lane now);
+  lengths = λ _. h.lengths refl;
+}
+
+no-texts : (m : ℕ) (left : List Step) → IsNextStep step.CcmMac left → has_texts (Some m) left ≢ true
+no-texts m [] h = absurd h
+no-texts m (step.Cipher ∷ left) h = absurd (cc)
+no-texts m (step.Auth ∷ left) h = absurd (cc)
+no-texts m (step.Gcm ∷ left) h = absurd (cc)
+no-texts m (step.CcmMac ∷ left) h = λ e. cc
+no-texts m (step.CcmText ∷ left) h = absurd (cc)
+
+-- and nonce and data with it
+pub sound_texts_out : (j : Job) (p iv aad : List ℕ) (left : List Step) (n : Lengths) → IsSound j p left None n → stage_at j left ≢ stage.Now
+    → IsNextStep step.CcmMac left → IsSound (record j { iv = iv; aad = aad }) [] left (Some (length p)) n
+sound_texts_out j p iv aad left n h lane first = record {
+  accepted = h.accepted;
+  own = all_own_texts j iv aad left h.own;
+  here = λ now. absurd (lane (sym (stage-texts j iv aad left) ∙ now));
+  lengths = λ has. absurd (no-texts (length p) left first has);
 }

@@ -23,6 +23,7 @@ hmac_has_range class.Null h = absurd (cc)
 hmac_has_range (class.Hmac hash) h = refl
 hmac_has_range (class.Cmac key) h = absurd (cc)
 hmac_has_range class.Gcm h = absurd (cc)
+hmac_has_range class.Ccm h = absurd (cc)
 
 -- an HMAC with the hash of its authentication is that authentication's value
 pub hmac_is_mac : (a : AuthClass) (j : Job) (p tag : List ℕ) → IsSome (hash_in a)
@@ -31,6 +32,7 @@ hmac_is_mac class.Null j p tag h is = absurd (cc)
 hmac_is_mac (class.Hmac hash) j p tag h is = is
 hmac_is_mac (class.Cmac key) j p tag h is = absurd (cc)
 hmac_is_mac class.Gcm j p tag h is = absurd (cc)
+hmac_is_mac class.Ccm j p tag h is = absurd (cc)
 
 -- ---- CMAC
 
@@ -40,6 +42,7 @@ cmac_has_range class.Null h = absurd h
 cmac_has_range (class.Hmac hash) h = absurd h
 cmac_has_range (class.Cmac key) h = refl
 cmac_has_range class.Gcm h = absurd h
+cmac_has_range class.Ccm h = absurd h
 
 -- its key is one of AES
 sized : (k : CmacKey) → IsKeySize (cmac_key_bytes k)
@@ -51,6 +54,7 @@ cmac_key class.Null n h k = absurd h
 cmac_key (class.Hmac hash) n h k = absurd h
 cmac_key (class.Cmac key) n h k = ap is_key_size (eqb-true n (cmac_key_bytes key) k) ∙ sized key
 cmac_key class.Gcm n h k = absurd h
+cmac_key class.Ccm n h k = absurd h
 
 -- the value of a CMAC
 pub cmac_is_mac : (a : AuthClass) (j : Job) (p : List ℕ) → IsCmac a → cmac (aes j.auth_key) (hash_range j p) ≡ mac_by a j p
@@ -58,6 +62,7 @@ cmac_is_mac class.Null j p h = absurd h
 cmac_is_mac (class.Hmac hash) j p h = absurd h
 cmac_is_mac (class.Cmac key) j p h = refl
 cmac_is_mac class.Gcm j p h = absurd h
+cmac_is_mac class.Ccm j p h = absurd h
 
 -- ---- GCM
 

@@ -8,19 +8,26 @@ use Rattle.mbj_types.specs.declared.class.AuthClass.TheVariants as class
 use Rattle.mbj_types.specs.declared.class.CmacKey.TheVariants.{Aes128}
 use Rattle.mbj_types.specs.declared.class.HashName.TheVariants.{Sha1, Sha224, Sha256, Sha384, Sha512}
 use Rattle.mbj_types.specs.declared.kind.TheConstants.{AES_LANES}
+use Rattle.mbj_types.specs.declared.kind.Kind.{Kind}
 use Rattle.mbj_types.specs.declared.kind.Kind.TheVariants as kind
 use Rattle.mbj_hmac.specs.Chainings.{sha1_chaining, sha256_chaining, sha512_chaining}
 use Rattle.mbj_hmac.specs.Names.{serves_class}
 use Rattle.mbj_stage.specs.declared.stage.Stage.TheVariants as stage
 use Rattle.mbj_stage.specs.Steps.{auth_stage_by}
-use Rattle.mbj_stage.specs.Families.{cbc_lanes, cmac_lanes}
+use Rattle.mbj_stage.specs.Families.{by_rounds, cbc_lanes, ccm_lanes, cmac_lanes}
 
 -- ---- lanes
 
+-- what holds of each of three kinds holds of the one by rounds
+pub each-by_rounds : (P : Kind → Type 0) (n : ℕ) (a b c : Kind) → P a → P b → P c → P (by_rounds n a b c)
+each-by_rounds P n a b c pa pb pc =
+    cond_both (n == 10) a (if n == 12 then b else c) P (λ _. pa) (λ _. cond_both (n == 12) b c P (λ _. pb) (λ _. pc))
+
 pub cbc-lanes : (n : ℕ) → AES_LANES ≡ lanes_of (cbc_lanes n)
-cbc-lanes n =
-    cond_both (n == 10) kind.Cbc128 (if n == 12 then kind.Cbc192 else kind.Cbc256) (λ k. AES_LANES ≡ lanes_of k)
-    (λ _. refl) (λ _. cond_both (n == 12) kind.Cbc192 kind.Cbc256 (λ k. AES_LANES ≡ lanes_of k) (λ _. refl) (λ _. refl))
+cbc-lanes n = each-by_rounds (λ k. AES_LANES ≡ lanes_of k) n kind.Cbc128 kind.Cbc192 kind.Cbc256 refl refl refl
+
+pub ccm-lanes : (n : ℕ) → AES_LANES ≡ lanes_of (ccm_lanes n)
+ccm-lanes n = each-by_rounds (λ k. AES_LANES ≡ lanes_of k) n kind.Ccm128 kind.Ccm192 kind.Ccm256 refl refl refl
 
 pub cmac-lanes : (n : ℕ) → AES_LANES ≡ lanes_of (cmac_lanes n)
 cmac-lanes n = cond_both (n == 10) kind.Cmac128 kind.Cmac256 (λ k. AES_LANES ≡ lanes_of k) (λ _. refl) (λ _. refl)

@@ -20,27 +20,39 @@ use Rattle.mbj_stage.specs.declared.stage.Step.TheVariants as step
 use Rattle.mbj_stage.specs.declared.stage.Steps.{Steps}
 use Rattle.mbj_stage.specs.declared.stage.Steps.TheVariants as steps
 
--- the steps of a cipher; GCM makes the tag too
+-- the steps of a cipher alone; GCM makes the tag too, and CCM has steps of its own
 abbrev pub cipher_steps : Cipher → List Step
 cipher_steps cipher.Null = []
 cipher_steps cipher.Cbc = step.Cipher ∷ []
 cipher_steps cipher.Ctr = step.Cipher ∷ []
 cipher_steps cipher.Gcm = step.Gcm ∷ []
+cipher_steps cipher.Ccm = []
 
--- the steps of an authentication; the tag of GCM is made with its cipher
+-- the steps of an authentication; the tags of GCM and CCM are made with their ciphers
 abbrev pub auth_steps : AuthClass → List Step
 auth_steps class.Null = []
 auth_steps (class.Hmac h) = step.Auth ∷ []
 auth_steps (class.Cmac key) = step.Auth ∷ []
 auth_steps class.Gcm = []
+auth_steps class.Ccm = []
 
 abbrev pub ordered : Order → List Step → List Step → List Step
 ordered CipherHash ciphers auths = ciphers ++ auths
 ordered HashCipher ciphers auths = auths ++ ciphers
 
--- the steps of an accepted job: its cipher's and its authentication's, in its order
+-- the steps of CCM: the MAC is over the plaintext, so that a text that is sealed is ciphered after it, and one that is opened before
+-- it
+abbrev pub ccm_steps : Dir → List Step
+ccm_steps Enc = step.CcmMac ∷ step.CcmText ∷ []
+ccm_steps Dec = step.CcmText ∷ step.CcmMac ∷ []
+
+-- the steps of an accepted job with this cipher: but for CCM its cipher's and its authentication's, in its order
+abbrev pub steps_with : Cipher → Job → List Step
+steps_with cipher.Ccm j = ccm_steps j.dir
+steps_with c j = ordered j.order (cipher_steps c) (auth_steps (class_of j.auth))
+
 abbrev pub steps_of : Job → List Step
-steps_of j = ordered j.order (cipher_steps j.cipher) (auth_steps (class_of j.auth))
+steps_of j = steps_with j.cipher j
 
 -- the steps of a job by the reason for which it is refused: then there are none
 abbrev pub steps_by : Option Reason → Job → List Step
@@ -53,9 +65,17 @@ steps_in steps.Done = []
 steps_in (steps.One first) = first ∷ []
 steps_in (steps.Two first second) = first ∷ second ∷ []
 
+-- one of three by a key of n bytes: 16, 24 or 32
+abbrev pub by_key : ℕ → Kind → Kind → Kind → Kind
+by_key n k128 k192 k256 = if n == 16 then k128 else if n == 24 then k192 else k256
+
 -- the lanes in which CBC encrypts under a key of n bytes
 abbrev pub cbc_kind : ℕ → Kind
-cbc_kind n = if n == 16 then kind.Cbc128 else if n == 24 then kind.Cbc192 else kind.Cbc256
+cbc_kind n = by_key n kind.Cbc128 kind.Cbc192 kind.Cbc256
+
+-- the lanes of CCM's MAC
+abbrev pub ccm_kind : ℕ → Kind
+ccm_kind n = by_key n kind.Ccm128 kind.Ccm192 kind.Ccm256
 
 -- when a cipher is done under a key of n bytes: CBC encryption in lanes, and all else at once, since it has blocks of one
 -- packet for every lane
@@ -65,6 +85,7 @@ cipher_stage_by cipher.Cbc Enc n = stage.Lane (cbc_kind n)
 cipher_stage_by cipher.Cbc Dec n = stage.Now
 cipher_stage_by cipher.Ctr d n = stage.Now
 cipher_stage_by cipher.Gcm d n = stage.Now
+cipher_stage_by cipher.Ccm d n = stage.Now
 
 -- when an authentication is done: HMAC in the lanes of its hash, and CMAC in those of its key
 abbrev pub auth_stage_by : AuthClass → Stage
@@ -72,6 +93,7 @@ auth_stage_by class.Null = stage.Now
 auth_stage_by (class.Hmac h) = stage.Lane (hash_kind h)
 auth_stage_by (class.Cmac k) = stage.Lane (cmac_kind k)
 auth_stage_by class.Gcm = stage.Now
+auth_stage_by class.Ccm = stage.Now
 
 -- when a job's cipher is done
 abbrev pub cipher_stage : Job → Stage
@@ -87,6 +109,8 @@ stage_at j [] = stage.Finished
 stage_at j (step.Cipher ∷ left) = cipher_stage j
 stage_at j (step.Auth ∷ left) = auth_stage j
 stage_at j (step.Gcm ∷ left) = stage.Now
+stage_at j (step.CcmMac ∷ left) = stage.Lane (ccm_kind (length j.key))
+stage_at j (step.CcmText ∷ left) = stage.Now
 
 -- the step whose stage is in a kind's lanes
 abbrev pub step_of : Kind → Step
@@ -98,3 +122,6 @@ step_of kind.Cmac256 = step.Auth
 step_of kind.HmacSha1 = step.Auth
 step_of kind.HmacSha256 = step.Auth
 step_of kind.HmacSha512 = step.Auth
+step_of kind.Ccm128 = step.CcmMac
+step_of kind.Ccm192 = step.CcmMac
+step_of kind.Ccm256 = step.CcmMac

@@ -59,6 +59,6 @@ pub(crate) fn run(job: &Job, packet: &mut [u8])
     match job.cipher {
         Cipher::Cbc => decrypt(job, &mut packet[start..end]),
         Cipher::Ctr => ctr(job, &mut packet[start..end]),
-        Cipher::Null | Cipher::Gcm => unreachable!(),
+        Cipher::Null | Cipher::Gcm | Cipher::Ccm => unreachable!(),
     }
 }

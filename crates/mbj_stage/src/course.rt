@@ -3,7 +3,7 @@ ghost use Rattle.mbj_types.specs.declared.limits.TheConstants.{MAX_TAG_BYTES};
 ghost use Rattle.mbj_types.specs.Verdict.{verdict_at};
 ghost use Rattle.mbj_types.specs.Result.{result_of};
 ghost use Rattle.mbj_lane.specs.Rounds.{end_of};
-ghost use Rattle.mbj_types.specs.Rounds.{cbc_rounds, cmac_rounds, hmac_rounds};
+ghost use Rattle.mbj_types.specs.Rounds.{cbc_rounds, cmac_rounds, hmac_rounds, rounds_of};
 ghost use Rattle.mbj_aes.specs.Bytes.{IsRoundCount};
 ghost use Rattle.mbj_cbc.specs.Rounds.{round as cbc_round, rest_of as cbc_rest};
 ghost use Rattle.mbj_cmac.specs.Rounds.{round as cmac_round, rest_of as cmac_rest};
@@ -13,30 +13,35 @@ ghost use Rattle.mbj_stage.specs.declared.stage.Stage.TheVariants as stage;
 ghost use Rattle.mbj_stage.specs.declared.stage.Step.TheVariants as step;
 ghost use Rattle.mbj_stage.specs.Steps.{stage_at, steps_in};
 ghost use Rattle.mbj_stage.specs.Inside.Kept.{IsNextStep, IsStepOf};
-ghost use Rattle.mbj_stage.specs.CourseState.{stage_of, begun, packet_after, tag_after, ran, status_of, owed};
-ghost use Rattle.mbj_stage.specs.Handing.{handed_out, taken_back, owed_with};
-ghost use Rattle.mbj_stage.specs.Ends.{cbc_end, cmac_end, hmac_end};
-ghost use Rattle.mbj_stage.specs.Families.{cbc_stage, cmac_stage};
+ghost use Rattle.mbj_stage.specs.CourseState.{stage_of, begun, packet_after, tag_after, ran, sized, status_of, owed};
+ghost use Rattle.mbj_ccm.specs.Rounds.{round as ccm_round, rest_of as ccm_rest};
+ghost use Rattle.mbj_stage.specs.Handing.{BringsData, handed_out, taken_back, without_packet, owed_with};
+ghost use Rattle.mbj_stage.specs.Ends.{cbc_end, ccm_end, cmac_end, hmac_end};
+ghost use Rattle.mbj_stage.specs.Families.{cbc_stage, ccm_lanes, ccm_stage, cmac_stage};
 
-use crate::entries::{cbc_entry, cmac_entry, hmac_entry};
+use crate::entries::{cbc_entry, ccm_entry, cmac_entry, hmac_entry};
+use crate::lengths::{Lengths, lengths_of};
 use crate::stage::{Stage, Step, Steps, stage_of_step, steps_by};
 use crate::tag::cut;
-use crate::{cipher, gcm};
+use crate::{ccm, cipher, gcm};
 use mbj_args::check;
 use mbj_cbc::CbcEntry;
+use mbj_ccm::CcmEntry;
 use mbj_cmac::CmacEntry;
 use mbj_hmac::{HmacEntry, LaneHash};
 use mbj_types::{Bytes, Done, Job, Reason, Status, Tag};
+use std::alloc::Global;
 use std::marker::Model;
 use std::mem;
 
 /// The course of one job: its stages one after another, each of which is done once.
 ///
 /// The stages of a job that is accepted are its cipher's and its authentication's, in the job's order. A null cipher
-/// or authentication has none, and GCM has one for both. A job that is refused has none.
+/// or authentication has none, and GCM has one for both. CCM has two: its MAC over the plaintext, and its text with the mask of the
+/// tag; a text that is sealed is authenticated first, and one that is opened is deciphered first. A job that is refused has none.
 ///
-/// CBC encryption, CMAC and HMAC are done in lanes: a call hands the packet out in an entry, and another one takes it back
-/// once the entry's rounds are done. All else `run_now` does.
+/// CBC encryption, CMAC, HMAC and CCM's MAC are done in lanes: a call hands the packet out in an entry, and another one takes it
+/// back once the entry's rounds are done. All else `run_now` does.
 ///
 /// No call takes memory, and each stage expands its key once.
 #[derive(Drop)]
@@ -49,6 +54,7 @@ pub struct Course {
     left: Steps,
     // The length of the packet while it is out.
     out: Option<usize>,
+    lengths: Lengths,
 }
 
 impl Model for Course {
@@ -64,9 +70,10 @@ impl Model for Course {
       reason = c.reason;
       left = steps_in c.left;
       out = c.out;
+      lengths = c.lengths;
     } };
 
-    ghost invariant = { λ c. IsSound c.job c.packet.items (steps_in c.left) c.out };
+    ghost invariant = { λ c. IsSound c.job c.packet.items (steps_in c.left) c.out c.lengths };
 }
 
 /// Does a step of an accepted job that is done at once.
@@ -82,6 +89,8 @@ fn run_step(step: Step, job: &Job, packet: &mut Vec<u8>, tag: &mut Tag)
         Step::Cipher => cipher::run(job, packet.as_mut_slice()),
         Step::Auth => unreachable!(),
         Step::Gcm => *tag = gcm::run(job, packet.as_mut_slice()),
+        Step::CcmMac => unreachable!(),
+        Step::CcmText => ccm::run(job, packet.as_mut_slice(), tag),
     }
 }
 
@@ -102,6 +111,14 @@ fn taken(packet: &mut Vec<u8>) -> Vec<u8>
 {
     let alloc = *packet.allocator();
     mem::replace(packet, Vec::new(alloc))
+}
+
+/// Takes bytes out of their place, in which none are left. It takes no memory.
+fn taken_bytes(bytes: &mut Bytes, alloc: Global) -> Vec<u8>
+    ensures taken { result.items ≡ bytes.old }
+    ensures none { bytes.new ≡ [] }
+{
+    mem::replace(bytes, Bytes::from_vec(Vec::new(alloc))).into_vec()
 }
 
 /// The steps after the first of those that are left.
@@ -128,6 +145,7 @@ impl Course {
     {
         let reason = check(&job);
         let left = steps_by(reason, &job);
+        let lengths = lengths_of(&job);
         let packet = job.packet.into_vec();
         let alloc = *packet.allocator();
         job.packet = Bytes::from_vec(Vec::new(alloc));
@@ -138,6 +156,7 @@ impl Course {
             reason,
             left,
             out: None,
+            lengths,
         }
     }
 
@@ -186,6 +205,7 @@ impl Course {
         ensures rest { result.rest ≡ cbc_rounds self.old.job.cipher_len }
         ensures some { 1 ≤ result.rest }
         ensures owed { owed_with (cbc_end (end_of cbc_round cbc_rest result)) self.new ≡ owed self.old }
+        ensures job { without_packet (taken_back (cbc_end (end_of cbc_round cbc_rest result)) self.new).job ≡ without_packet self.old.job }
         ensures length { self.new.out ≡ Some (length (cbc_end (end_of cbc_round cbc_rest result)).packet) }
     {
         let packet = taken(&mut self.packet);
@@ -197,7 +217,7 @@ impl Course {
     pub(crate) fn take_text(&mut self, packet: Vec<u8>)
         requires next { IsNextStep step.Cipher self.old.left }
         requires length { self.old.out ≡ Some (length packet.items) }
-        ensures { self.new ≡ taken_back (record { packet = packet.items; mac = [] }) self.old }
+        ensures { self.new ≡ taken_back (record { packet = packet.items; mac = []; iv = []; aad = [] }) self.old }
     {
         self.packet = packet;
         self.out = None;
@@ -209,7 +229,7 @@ impl Course {
         requires next { IsNextStep step.Auth self.old.left }
         requires length { self.old.out ≡ Some (length packet.items) }
         requires fits { length mac.now ≤ MAX_TAG_BYTES }
-        ensures { self.new ≡ taken_back (record { packet = packet.items; mac = mac.now }) self.old }
+        ensures { self.new ≡ taken_back (record { packet = packet.items; mac = mac.now; iv = []; aad = [] }) self.old }
     {
         self.packet = packet;
         self.tag = cut(mac, self.job.tag_len);
@@ -225,6 +245,7 @@ impl Course {
         ensures out { self.new ≡ handed_out self.old }
         ensures rest { result.rest ≡ cmac_rounds self.old.job.hash_len }
         ensures owed { owed_with (cmac_end (end_of cmac_round cmac_rest result)) self.new ≡ owed self.old }
+        ensures job { without_packet (taken_back (cmac_end (end_of cmac_round cmac_rest result)) self.new).job ≡ without_packet self.old.job }
         ensures length { self.new.out ≡ Some (length (cmac_end (end_of cmac_round cmac_rest result)).packet) }
     {
         let packet = taken(&mut self.packet);
@@ -240,11 +261,49 @@ impl Course {
         ensures out { self.new ≡ handed_out self.old }
         ensures rest { result.rest ≡ hmac_rounds H.chaining.block_bytes self.old.job.hash_len }
         ensures owed { owed_with (hmac_end H.chaining (end_of (hmac_round H.chaining) hmac_rest result)) self.new ≡ owed self.old }
+        ensures job { without_packet (taken_back (hmac_end H.chaining (end_of (hmac_round H.chaining) hmac_rest result)) self.new).job ≡ without_packet self.old.job }
         ensures length { self.new.out ≡ Some (length (hmac_end H.chaining (end_of (hmac_round H.chaining) hmac_rest result)).packet) }
     {
         let packet = taken(&mut self.packet);
         self.out = Some(packet.len());
         hmac_entry(&self.job, packet)
+    }
+
+    /// Hands packet, nonce and additional data out in an entry of CCM's MAC with `N` rounds.
+    pub(crate) fn hand_out_ccm<const N: usize>(&mut self) -> CcmEntry<N>
+        requires rounds { IsRoundCount N }
+        requires next { stage_of self.old ≡ ccm_stage N }
+        requires here { self.old.out ≡ None }
+        ensures out { self.new ≡ handed_out self.old }
+        ensures rest { result.rest ≡ rounds_of (ccm_lanes N) (sized self.old.lengths self.old.job) }
+        ensures some { 1 ≤ result.rest }
+        ensures owed { owed_with (ccm_end (end_of ccm_round ccm_rest result)) self.new ≡ owed self.old }
+        ensures job { without_packet (taken_back (ccm_end (end_of ccm_round ccm_rest result)) self.new).job ≡ without_packet self.old.job }
+        ensures length { self.new.out ≡ Some (length (ccm_end (end_of ccm_round ccm_rest result)).packet) }
+        ensures texts { BringsData step.CcmMac self.new.lengths (ccm_end (end_of ccm_round ccm_rest result)) }
+    {
+        let packet = taken(&mut self.packet);
+        self.out = Some(packet.len());
+        let alloc = *packet.allocator();
+        let iv = taken_bytes(&mut self.job.iv, alloc);
+        let aad = taken_bytes(&mut self.job.aad, alloc);
+        ccm_entry(&self.job, iv, aad, packet)
+    }
+
+    /// Takes back packet, nonce and additional data, with CCM's MAC.
+    pub(crate) fn take_ccm(&mut self, packet: Vec<u8>, iv: Vec<u8>, aad: Vec<u8>, mac: &[u8; 16])
+        requires next { IsNextStep step.CcmMac self.old.left }
+        requires length { self.old.out ≡ Some (length packet.items) }
+        requires iv { length iv.items ≡ self.old.lengths.iv }
+        requires aad { length aad.items ≡ self.old.lengths.aad }
+        ensures { self.new ≡ taken_back (record { packet = packet.items; mac = mac.now; iv = iv.items; aad = aad.items }) self.old }
+    {
+        self.packet = packet;
+        self.job.iv = Bytes::from_vec(iv);
+        self.job.aad = Bytes::from_vec(aad);
+        self.tag = ccm::with_mac(&self.job, mac, &self.tag);
+        self.out = None;
+        self.left = later(self.left);
     }
 
     /// The result of a job whose stages are all done.

@@ -1,10 +1,11 @@
 //! The entries in which the stages of an accepted job are done in lanes, over the job's packet.
 
 ghost use Rattle.std.specs.Prelude.{◌≡◌, ◌≤◌, ◌⊎◌, None, length, IsTrue};
-ghost use Rattle.mbj_types.specs.Aes.{round_count};
+ghost use Rattle.mbj_types.specs.Aes.{aes, round_count};
 ghost use Rattle.mbj_types.specs.Auths.{class_of, IsCmac};
-ghost use Rattle.mbj_types.specs.Rounds.{cbc_rounds, cmac_rounds, hmac_rounds};
-ghost use Rattle.mbj_types.specs.Result.{ciphered, mac_by};
+ghost use Rattle.mbj_types.specs.Ccm.{ccm_mac};
+ghost use Rattle.mbj_types.specs.Rounds.{cbc_rounds, ccm_rounds, cmac_rounds, hmac_rounds};
+ghost use Rattle.mbj_types.specs.Result.{ciphered, cipher_range, mac_by};
 ghost use Rattle.mbj_types.specs.Verdict.{verdict_at};
 ghost use Rattle.mbj_types.specs.declared.job.Cipher.TheVariants as cipher;
 ghost use Rattle.mbj_types.specs.declared.job.Dir.TheVariants as dir;
@@ -13,11 +14,13 @@ ghost use Rattle.mbj_cbc.specs.Rounds.{round as cbc_round, rest_of as cbc_rest};
 ghost use Rattle.mbj_cmac.specs.Rounds.{round as cmac_round, rest_of as cmac_rest};
 ghost use Rattle.mbj_hmac.specs.Names.{serves_auth};
 ghost use Rattle.mbj_hmac.specs.Rounds.{round as hmac_round, rest_of as hmac_rest};
-ghost use Rattle.mbj_stage.specs.Ends.{cmac_end, hmac_end};
+ghost use Rattle.mbj_ccm.specs.Rounds.{round as ccm_round, rest_of as ccm_rest};
+ghost use Rattle.mbj_stage.specs.Ends.{ccm_end, cmac_end, hmac_end};
 
 use crate::cipher::iv_block;
 use mbj_aes::Schedule;
 use mbj_cbc::CbcEntry;
+use mbj_ccm::CcmEntry;
 use mbj_cmac::CmacEntry;
 use mbj_hmac::{HmacEntry, LaneHash};
 use mbj_types::Job;
@@ -65,5 +68,36 @@ pub(crate) fn hmac_entry<H: LaneHash>(job: &Job, packet: Vec<u8>) -> HmacEntry<H
         packet,
         job.hash_off,
         job.hash_len,
+    )
+}
+
+/// The MAC of a CCM job whose key has `N` rounds, over the cipher range, which is plaintext. IV and additional data are the job's,
+/// and go into the entry too.
+pub(crate) fn ccm_entry<const N: usize>(
+    job: &Job,
+    iv: Vec<u8>,
+    aad: Vec<u8>,
+    packet: Vec<u8>,
+) -> CcmEntry<N>
+    requires ccm { job.now.cipher ≡ cipher.Ccm }
+    requires rounds { round_count job.now.key ≡ N }
+    requires accepted { verdict_at (record job.now { iv = iv.items; aad = aad.items }) (length packet.items) ≡ None }
+    ensures rest { result.rest ≡ ccm_rounds (length aad.items) job.now.cipher_len }
+    ensures some { 1 ≤ result.rest }
+    ensures packet { (ccm_end (end_of ccm_round ccm_rest result)).packet ≡ packet.items }
+    ensures iv { (ccm_end (end_of ccm_round ccm_rest result)).iv ≡ iv.items }
+    ensures aad { (ccm_end (end_of ccm_round ccm_rest result)).aad ≡ aad.items }
+    ensures mac { (ccm_end (end_of ccm_round ccm_rest result)).mac
+        ≡ ccm_mac (aes job.now.key) iv.items aad.items (cipher_range job.now packet.items) job.now.tag_len }
+{
+    let key = Schedule::expand(job.key.as_slice());
+    CcmEntry::new(
+        key,
+        iv,
+        aad,
+        packet,
+        job.cipher_off,
+        job.cipher_len,
+        job.tag_len,
     )
 }

@@ -12,11 +12,12 @@ ghost use Rattle.mbj_stage.specs.declared.stage.Stage.TheVariants as stage;
 ghost use Rattle.mbj_stage.specs.declared.stage.Step.TheVariants as step;
 ghost use Rattle.mbj_stage.specs.Steps.{auth_stage_by, step_of};
 ghost use Rattle.mbj_stage.specs.Handing.{End, IsHandedOut, IsNext, IsOut, taken_back};
-ghost use Rattle.mbj_stage.specs.Ends.{cbc_end, cmac_end, hmac_end};
-ghost use Rattle.mbj_stage.specs.Families.{cbc_lanes, cmac_lanes};
+ghost use Rattle.mbj_stage.specs.Ends.{cbc_end, ccm_end, cmac_end, hmac_end};
+ghost use Rattle.mbj_stage.specs.Families.{cbc_lanes, ccm_lanes, cmac_lanes};
 
 use crate::course::Course;
 use mbj_cbc::{CbcEntry, CbcKernel};
+use mbj_ccm::{CcmEntry, CcmKernel};
 use mbj_cmac::{CmacEntry, CmacKernel};
 use mbj_hmac::{HmacEntry, HmacKernel, LaneHash, Sha1Lanes, Sha256Lanes, Sha512Lanes};
 use mbj_lane::Kernel;
@@ -87,6 +88,27 @@ impl<const N: usize> Feed for CmacKernel<N> {
     }
 
     ghost lanes = { cmac-lanes N };
+}
+
+impl<const N: usize> Feed for CcmKernel<N> {
+    ghost use Rattle.mbj_stage.specs.Laws.{ccm-lanes};
+
+    ghost kind = { ccm_lanes N };
+
+    ghost fits = { IsRoundCount N };
+
+    ghost brings = { ccm_end };
+
+    fn hand_out(course: &mut Course) -> CcmEntry<N> {
+        course.hand_out_ccm()
+    }
+
+    fn take_back(course: &mut Course, entry: CcmEntry<N>) {
+        let (packet, iv, aad, mac) = entry.into_parts();
+        course.take_ccm(packet, iv, aad, &mac);
+    }
+
+    ghost lanes = { ccm-lanes N };
 }
 
 /// Hashes whose HMACs are done in the lanes of a kind.

@@ -2,8 +2,8 @@
 //!
 //! Before it is handed out, a packet is in the course and the stage in that kernel's lanes is next. The entry has a round
 //! left at least, and what the course owes with the entry's end is what it owed before. A call expands the key, and takes no
-//! memory. An entry that is taken back has no round left and a packet as long as the one that went out. That stage is
-//! done then.
+//! memory. An entry that is taken back has no round left and a packet as long as the one that went out; that of CCM has a nonce and
+//! additional data as long as those that went out too. That stage is done then.
 
 ghost use Rattle.std.specs.Prelude.{◌≡◌};
 ghost use Rattle.mbj_types.specs.declared.kind.Kind.TheVariants as kind;
@@ -11,13 +11,15 @@ ghost use Rattle.mbj_lane.specs.Rounds.{end_of};
 ghost use Rattle.mbj_cbc.specs.Rounds.{round as cbc_round, rest_of as cbc_rest};
 ghost use Rattle.mbj_cmac.specs.Rounds.{round as cmac_round, rest_of as cmac_rest};
 ghost use Rattle.mbj_hmac.specs.Rounds.{round as hmac_round, rest_of as hmac_rest};
+ghost use Rattle.mbj_ccm.specs.Rounds.{round as ccm_round, rest_of as ccm_rest};
 ghost use Rattle.mbj_hmac.specs.Chainings.{sha1_chaining, sha256_chaining, sha512_chaining};
 ghost use Rattle.mbj_stage.specs.Handing.{IsHandedOut, IsNext, IsOut, taken_back};
-ghost use Rattle.mbj_stage.specs.Ends.{cbc_end, cmac_end, hmac_end};
+ghost use Rattle.mbj_stage.specs.Ends.{cbc_end, ccm_end, cmac_end, hmac_end};
 
 use crate::course::Course;
 use crate::feed::Feed;
 use mbj_cbc::{CbcEntry, CbcKernel};
+use mbj_ccm::{CcmEntry, CcmKernel};
 use mbj_cmac::{CmacEntry, CmacKernel};
 use mbj_hmac::{Hmac1Entry, Hmac1Kernel, Hmac256Entry, Hmac256Kernel, Hmac512Entry, Hmac512Kernel};
 
@@ -156,5 +158,56 @@ impl Course {
         ensures { self.new ≡ taken_back (hmac_end sha512_chaining entry) self.old }
     {
         Hmac512Kernel::take_back(self, entry);
+    }
+
+    /// Hands packet, nonce and additional data out in an entry of CCM's MAC with a key of 128 bits.
+    pub fn hand_out_ccm128(&mut self) -> CcmEntry<10>
+        requires { IsNext kind.Ccm128 self.old }
+        ensures { IsHandedOut kind.Ccm128 result.rest (ccm_end (end_of ccm_round ccm_rest result)) self.new self.old }
+    {
+        CcmKernel::<10>::hand_out(self)
+    }
+
+    /// Takes an entry of CCM's MAC with a key of 128 bits back.
+    pub fn take_back_ccm128(&mut self, entry: CcmEntry<10>)
+        requires out { IsOut kind.Ccm128 (ccm_end entry) self.old }
+        requires done { entry.rest ≡ 0 }
+        ensures { self.new ≡ taken_back (ccm_end entry) self.old }
+    {
+        CcmKernel::<10>::take_back(self, entry);
+    }
+
+    /// Hands packet, nonce and additional data out in an entry of CCM's MAC with a key of 192 bits.
+    pub fn hand_out_ccm192(&mut self) -> CcmEntry<12>
+        requires { IsNext kind.Ccm192 self.old }
+        ensures { IsHandedOut kind.Ccm192 result.rest (ccm_end (end_of ccm_round ccm_rest result)) self.new self.old }
+    {
+        CcmKernel::<12>::hand_out(self)
+    }
+
+    /// Takes an entry of CCM's MAC with a key of 192 bits back.
+    pub fn take_back_ccm192(&mut self, entry: CcmEntry<12>)
+        requires out { IsOut kind.Ccm192 (ccm_end entry) self.old }
+        requires done { entry.rest ≡ 0 }
+        ensures { self.new ≡ taken_back (ccm_end entry) self.old }
+    {
+        CcmKernel::<12>::take_back(self, entry);
+    }
+
+    /// Hands packet, nonce and additional data out in an entry of CCM's MAC with a key of 256 bits.
+    pub fn hand_out_ccm256(&mut self) -> CcmEntry<14>
+        requires { IsNext kind.Ccm256 self.old }
+        ensures { IsHandedOut kind.Ccm256 result.rest (ccm_end (end_of ccm_round ccm_rest result)) self.new self.old }
+    {
+        CcmKernel::<14>::hand_out(self)
+    }
+
+    /// Takes an entry of CCM's MAC with a key of 256 bits back.
+    pub fn take_back_ccm256(&mut self, entry: CcmEntry<14>)
+        requires out { IsOut kind.Ccm256 (ccm_end entry) self.old }
+        requires done { entry.rest ≡ 0 }
+        ensures { self.new ≡ taken_back (ccm_end entry) self.old }
+    {
+        CcmKernel::<14>::take_back(self, entry);
     }
 }

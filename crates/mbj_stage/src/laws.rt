@@ -1,5 +1,5 @@
 ghost use Rattle.std.specs.Prelude.{◌≡◌, length};
-ghost use Rattle.mbj_types.specs.Rounds.{cbc_rounds, cmac_rounds, hmac_rounds};
+ghost use Rattle.mbj_types.specs.Rounds.{cbc_rounds, ccm_rounds, cmac_rounds, hmac_rounds};
 ghost use Rattle.mbj_types.specs.declared.kind.Kind.TheVariants as kind;
 ghost use Rattle.mbj_types.specs.declared.kind.TheConstants.{AES_LANES, SHA1_LANES, SHA256_LANES, SHA512_LANES};
 ghost use Rattle.mbj_types.specs.declared.job.Job.{Job};
@@ -10,6 +10,7 @@ ghost use Rattle.mbj_stage.specs.Families.{IsServed};
 
 use crate::feed::Feed;
 use mbj_cbc::CbcKernel;
+use mbj_ccm::CcmKernel;
 use mbj_cmac::CmacKernel;
 use mbj_hmac::{HmacKernel, Sha1Lanes, Sha256Lanes, Sha512Lanes};
 use mbj_lane::Kernel;
@@ -35,4 +36,7 @@ pub fn each_kind_has_its_kernel()
     ensures hmac_sha1 { IsServed kind.HmacSha1 ⟦<HmacKernel<Sha1Lanes> as Feed>⟧.kind ⟦<HmacKernel<Sha1Lanes> as Kernel>⟧.LANES SHA1_LANES (λ j. hmac_rounds 64 j.hash_len) }
     ensures hmac_sha256 { IsServed kind.HmacSha256 ⟦<HmacKernel<Sha256Lanes> as Feed>⟧.kind ⟦<HmacKernel<Sha256Lanes> as Kernel>⟧.LANES SHA256_LANES (λ j. hmac_rounds 64 j.hash_len) }
     ensures hmac_sha512 { IsServed kind.HmacSha512 ⟦<HmacKernel<Sha512Lanes> as Feed>⟧.kind ⟦<HmacKernel<Sha512Lanes> as Kernel>⟧.LANES SHA512_LANES (λ j. hmac_rounds 128 j.hash_len) }
+    ensures ccm128 { IsServed kind.Ccm128 ⟦<CcmKernel<10> as Feed>⟧.kind ⟦<CcmKernel<10> as Kernel>⟧.LANES AES_LANES (λ j. ccm_rounds (length j.aad) j.cipher_len) }
+    ensures ccm192 { IsServed kind.Ccm192 ⟦<CcmKernel<12> as Feed>⟧.kind ⟦<CcmKernel<12> as Kernel>⟧.LANES AES_LANES (λ j. ccm_rounds (length j.aad) j.cipher_len) }
+    ensures ccm256 { IsServed kind.Ccm256 ⟦<CcmKernel<14> as Feed>⟧.kind ⟦<CcmKernel<14> as Kernel>⟧.LANES AES_LANES (λ j. ccm_rounds (length j.aad) j.cipher_len) }
 {}

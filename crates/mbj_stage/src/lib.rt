@@ -1,6 +1,7 @@
 //! The course of one job: its cipher and its authentication, one after another, in the job's order.
 #![tactic(auto)]
 
+mod ccm;
 mod cipher;
 mod course;
 mod entries;
@@ -8,6 +9,7 @@ mod feed;
 mod gcm;
 mod lanes;
 mod laws;
+mod lengths;
 mod stage;
 mod tag;
 

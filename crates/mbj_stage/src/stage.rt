@@ -1,7 +1,7 @@
-ghost use Rattle.std.specs.Prelude.{◌≡◌, [], ◌∷◌, Option};
+ghost use Rattle.std.specs.Prelude.{◌≡◌, [], ◌∷◌, Option, length};
 ghost use Rattle.std.specs.Option.{option_to_list};
 ghost use Rattle.mbj_types.specs.Auths.{class_of};
-ghost use Rattle.mbj_stage.specs.Steps.{cbc_kind, cipher_stage, auth_stage, cipher_steps, auth_steps, stage_at, steps_of, steps_by, steps_in};
+ghost use Rattle.mbj_stage.specs.Steps.{by_key, ccm_kind, ccm_steps, cipher_stage, auth_stage, cipher_steps, auth_steps, ordered, stage_at, steps_of, steps_by, steps_in};
 
 use mbj_types::{Auth, AuthClass, Cipher, Dir, Job, Kind, Order, Reason};
 
@@ -25,6 +25,10 @@ pub(crate) enum Step {
     Auth,
     /// GCM, which is cipher and authentication together.
     Gcm,
+    /// CCM's MAC over the plaintext.
+    CcmMac,
+    /// CCM's text, and the mask of its tag.
+    CcmText,
 }
 
 /// The steps of a job that are left, in their order.
@@ -35,11 +39,12 @@ pub(crate) enum Steps {
     Two(Step, Step),
 }
 
+/// The step of a cipher alone: CCM has steps of its own.
 fn cipher_step(cipher: Cipher) -> Option<Step>
     ensures { option_to_list result ≡ cipher_steps cipher }
 {
     match cipher {
-        Cipher::Null => None,
+        Cipher::Null | Cipher::Ccm => None,
         Cipher::Cbc | Cipher::Ctr => Some(Step::Cipher),
         Cipher::Gcm => Some(Step::Gcm),
     }
@@ -49,14 +54,24 @@ fn auth_step(auth: Auth) -> Option<Step>
     ensures { option_to_list result ≡ auth_steps (class_of auth) }
 {
     match auth.class() {
-        AuthClass::Null | AuthClass::Gcm => None,
+        AuthClass::Null | AuthClass::Gcm | AuthClass::Ccm => None,
         AuthClass::Hmac(_) | AuthClass::Cmac(_) => Some(Step::Auth),
     }
 }
 
-/// The steps of an accepted job: those of its cipher and its authentication, in its order.
-fn all_steps(job: &Job) -> Steps
-    ensures { steps_in result ≡ steps_of job.now }
+/// The steps of CCM: a text that is sealed is authenticated before it is ciphered, and one that is opened is deciphered first.
+fn ccm_steps(dir: Dir) -> Steps
+    ensures { steps_in result ≡ ccm_steps dir }
+{
+    match dir {
+        Dir::Enc => Steps::Two(Step::CcmMac, Step::CcmText),
+        Dir::Dec => Steps::Two(Step::CcmText, Step::CcmMac),
+    }
+}
+
+/// The steps of a job's cipher and its authentication, in its order.
+fn ordered_steps(job: &Job) -> Steps
+    ensures { steps_in result ≡ ordered job.now.order (cipher_steps job.now.cipher) (auth_steps (class_of job.now.auth)) }
 {
     match (cipher_step(job.cipher), auth_step(job.auth)) {
         (None, None) => Steps::Done,
@@ -65,6 +80,16 @@ fn all_steps(job: &Job) -> Steps
             Order::CipherHash => Steps::Two(cipher, auth),
             Order::HashCipher => Steps::Two(auth, cipher),
         },
+    }
+}
+
+/// The steps of an accepted job.
+fn all_steps(job: &Job) -> Steps
+    ensures { steps_in result ≡ steps_of job.now }
+{
+    match job.cipher {
+        Cipher::Null | Cipher::Cbc | Cipher::Ctr | Cipher::Gcm => ordered_steps(job),
+        Cipher::Ccm => ccm_steps(job.dir),
     }
 }
 
@@ -78,16 +103,14 @@ pub(crate) fn steps_by(reason: Option<Reason>, job: &Job) -> Steps
     }
 }
 
-/// The lanes in which CBC encrypts under a key of so many bytes: 16, 24 or 32.
-fn cbc_kind(key_bytes: usize) -> Kind
-    ensures { result ≡ cbc_kind key_bytes }
+/// One of three kinds by the length of a job's key, in bytes: 16, 24 or 32.
+fn by_key(job: &Job, of_16: Kind, of_24: Kind, of_32: Kind) -> Kind
+    ensures { result ≡ by_key (length job.now.key) of_16 of_24 of_32 }
 {
-    if key_bytes == 16 {
-        Kind::Cbc128
-    } else if key_bytes == 24 {
-        Kind::Cbc192
-    } else {
-        Kind::Cbc256
+    match job.key.as_slice().len() {
+        16 => of_16,
+        24 => of_24,
+        _ => of_32,
     }
 }
 
@@ -96,10 +119,10 @@ fn cipher_stage(job: &Job) -> Stage
 {
     match job.cipher {
         Cipher::Cbc => match job.dir {
-            Dir::Enc => Stage::Lane(cbc_kind(job.key.as_slice().len())),
+            Dir::Enc => Stage::Lane(by_key(job, Kind::Cbc128, Kind::Cbc192, Kind::Cbc256)),
             Dir::Dec => Stage::Now,
         },
-        Cipher::Null | Cipher::Ctr | Cipher::Gcm => Stage::Now,
+        Cipher::Null | Cipher::Ctr | Cipher::Gcm | Cipher::Ccm => Stage::Now,
     }
 }
 
@@ -109,7 +132,7 @@ fn auth_stage(job: &Job) -> Stage
     match job.auth.class() {
         AuthClass::Hmac(hash) => Stage::Lane(hash.kind()),
         AuthClass::Cmac(key) => Stage::Lane(key.kind()),
-        AuthClass::Null | AuthClass::Gcm => Stage::Now,
+        AuthClass::Null | AuthClass::Gcm | AuthClass::Ccm => Stage::Now,
     }
 }
 
@@ -120,6 +143,7 @@ pub(crate) fn stage_of_step(step: Step, job: &Job) -> Stage
     match step {
         Step::Cipher => cipher_stage(job),
         Step::Auth => auth_stage(job),
-        Step::Gcm => Stage::Now,
+        Step::Gcm | Step::CcmText => Stage::Now,
+        Step::CcmMac => Stage::Lane(by_key(job, Kind::Ccm128, Kind::Ccm192, Kind::Ccm256)),
     }
 }

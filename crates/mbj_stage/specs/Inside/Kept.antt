@@ -1,19 +1,24 @@
 -- What the fields of a course keep.
-use Rattle.std.specs.Prelude.{◌≡◌, ◌≢◌, ℕ, List, [], ◌∷◌, length, Option, Some, None}
+use Rattle.std.specs.Prelude.{◌≡◌, ◌≢◌, ℕ, Bool, true, false, List, [], ◌∷◌, length, Option, Some, None}
 use Rattle.std.specs.List.{All}
 use Rattle.mbj_types.specs.Auths.{class_of}
 use Rattle.mbj_types.specs.Verdict.{verdict_at}
 use Rattle.mbj_types.specs.declared.job.Job.{Job}
+use Rattle.mbj_types.specs.declared.job.Cipher.TheVariants as cipher
+use Rattle.mbj_stage.specs.declared.lengths.Lengths.{Lengths}
 use Rattle.mbj_stage.specs.declared.stage.Stage.TheVariants as stage
 use Rattle.mbj_stage.specs.declared.stage.Step.{Step}
 use Rattle.mbj_stage.specs.declared.stage.Step.TheVariants as step
 use Rattle.mbj_stage.specs.Steps.{auth_steps, cipher_steps, stage_at}
+use Rattle.mbj_stage.specs.CourseState.{lengths_of, sized}
 
 -- the step is one of the job's
 abbrev pub IsStepOf : Job → Step → Type 0
 IsStepOf j step.Cipher = cipher_steps j.cipher ≡ step.Cipher ∷ []
 IsStepOf j step.Auth = auth_steps (class_of j.auth) ≡ step.Auth ∷ []
 IsStepOf j step.Gcm = cipher_steps j.cipher ≡ step.Gcm ∷ []
+IsStepOf j step.CcmMac = j.cipher ≡ cipher.Ccm
+IsStepOf j step.CcmText = j.cipher ≡ cipher.Ccm
 
 -- the step is the first of those that are left
 abbrev pub IsNextStep : Step → List Step → Type 0
@@ -25,9 +30,15 @@ abbrev pub packet_length : Option ℕ → List ℕ → ℕ
 packet_length None p = length p
 packet_length (Some n) p = n
 
--- where a step is left no row of the argument table applies, each step left is one of the job's, and a packet is out only while
--- the first of them is done in lanes
-pub record IsSound (j : Job) (p : List ℕ) (left : List Step) (out : Option ℕ) : Type 0 where
-  pub accepted : left ≢ [] → verdict_at j (packet_length out p) ≡ None
+-- whether IV and data are in the course: they are unless an entry of CCM's MAC is out
+abbrev pub has_texts : Option ℕ → List Step → Bool
+has_texts (Some m) (step.CcmMac ∷ left) = false
+has_texts out left = true
+
+-- where a step is left no row of the argument table applies, each step left is one of the job's, a packet is out only while the first
+-- of them is done in lanes, and n has the lengths of IV and data
+pub record IsSound (j : Job) (p : List ℕ) (left : List Step) (out : Option ℕ) (n : Lengths) : Type 0 where
+  pub accepted : left ≢ [] → verdict_at (sized n j) (packet_length out p) ≡ None
   pub own : All (IsStepOf j) left
   pub here : stage_at j left ≡ stage.Now → out ≡ None
+  pub lengths : has_texts out left ≡ true → n ≡ lengths_of j

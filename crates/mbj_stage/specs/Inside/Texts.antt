@@ -3,6 +3,7 @@ use Rattle.std.specs.Prelude.{ℕ, List}
 use Rattle.mbj_types.specs.Aes.{aes, aes_inverse}
 use Rattle.mbj_types.specs.Modes.{cbc_text, uncbc_text, ctr_text}
 use Rattle.mbj_types.specs.Gcm.{gcm}
+use Rattle.mbj_types.specs.Ccm.{ccm_text}
 use Rattle.mbj_types.specs.Result.{is_enc}
 use Rattle.mbj_types.specs.declared.job.Job.{Job}
 use Rattle.mbj_types.specs.declared.job.Cipher.{Cipher}
@@ -21,3 +22,4 @@ other_text cipher.Cbc Enc j text = cbc_text (aes j.key) j.iv text
 other_text cipher.Cbc Dec j text = uncbc_text (aes_inverse j.key) j.iv text
 other_text cipher.Ctr d j text = ctr_text (aes j.key) j.iv text
 other_text cipher.Gcm d j text = (gcm_by j text).0
+other_text cipher.Ccm d j text = ccm_text (aes j.key) j.iv text

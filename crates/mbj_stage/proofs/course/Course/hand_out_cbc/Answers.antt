@@ -7,17 +7,18 @@ use Rattle.mbj_cbc.specs.Rounds.{rest_of, round}
 use Rattle.mbj_stage.specs.Steps.{steps_in}
 use Rattle.mbj_stage.specs.Families.{cbc_stage}
 use Rattle.mbj_stage.specs.CourseState.{CourseState, owed, stage_of}
-use Rattle.mbj_stage.specs.Handing.{owed_with}
+use Rattle.mbj_stage.specs.declared.stage.Step.TheVariants as step
+use Rattle.mbj_stage.specs.Handing.{handed_out, owed_with, taken_back, without_packet}
 use Rattle.mbj_stage.specs.Ends.{cbc_end}
-use Rattle.mbj_stage.proofs.Handings.{going}
-use Rattle.mbj_stage.proofs.HandingOut.{IsCbcNext, cbc-next, ciphered-long, text-out}
+use Rattle.mbj_stage.proofs.Handings.{going, own-back}
+use Rattle.mbj_stage.proofs.HandingOut.{IsCbcNext, cbc-next, ciphered-long, text-is-out, text-out}
 use Rattle.mbj_stage.proofs.course.Course.hand_out_cbc.Given as given
 use Rattle.mbj_stage.proofs.course.Course.hand_out_cbc.Goals as goal
 
 is-next : (g : given.Over) (c : goal.After-cbc_entry-arg-1 g) → IsCbcNext c.self.inside.job c.self.inside.packet.items (steps_in c.self.inside.left) g.row.N
 is-next g c =
     let f = c.self.inside in
-    cbc-next f.job f.packet.items (steps_in f.left) f.out g.row.N c.requires.rounds c.self.invariant
+    cbc-next f.job f.packet.items (steps_in f.left) f.out f.lengths g.row.N c.requires.rounds c.self.invariant
     (subst (λ (v : CourseState). v.out ≡ None) (sym c.self.view_is) c.requires.here)
     (subst (λ (v : CourseState). stage_of v ≡ cbc_stage g.row.N) (sym c.self.view_is) c.requires.next)
 
@@ -27,15 +28,24 @@ cbc_entry-requires g c =
     let is = is-next g c in
     (omega arith, (is.cbc, (is.enc, (is.rounds, subst (λ (q : List ℕ). verdict_at f.job (length q) ≡ None) (sym c.taken-packet.ensures.taken) is.accepted))))
 
+pub returns-clause-out : goal.returns-clause-out
+returns-clause-out g c =
+    let f = c.self.inside in
+    let len : c.len.result ≡ length c.taken-packet.result.items = omega (arith, c.len.ensures, c.taken-packet.result.ok) in
+    let out : CourseState = going f.lengths f.job c.taken-packet.new.packet.items f.tag f.reason (steps_in f.left) (Some c.len.result) in
+    subst (λ (v : CourseState). out ≡ handed_out v) c.self.view_is
+    (text-is-out f.lengths f.job f.packet.items c.taken-packet.new.packet.items f.tag f.reason (steps_in f.left) f.out c.len.result c.taken-packet.ensures.none
+    (len ∙ ap length c.taken-packet.ensures.taken) (is-next g c.before).first)
+
 pub returns-clause-owed : goal.returns-clause-owed
 returns-clause-owed g c =
     let f = c.self.inside in
     let is = is-next g c.before in
     let len : c.len.result ≡ length c.taken-packet.result.items = omega (arith, c.len.ensures, c.taken-packet.result.ok) in
     let e = cbc_end (end_of round rest_of c.cbc_entry.result) in
-    let out : CourseState = going f.job c.taken-packet.new.packet.items f.tag f.reason (steps_in f.left) (Some c.len.result) in
+    let out : CourseState = going f.lengths f.job c.taken-packet.new.packet.items f.tag f.reason (steps_in f.left) (Some c.len.result) in
     subst (λ (v : CourseState). owed_with e out ≡ owed v) c.self.view_is
-    (text-out f.job f.packet.items c.taken-packet.new.packet.items f.tag f.reason (steps_in f.left) f.out c.len.result e c.taken-packet.ensures.none
+    (text-out f.lengths f.job f.packet.items c.taken-packet.new.packet.items f.tag f.reason (steps_in f.left) f.out c.len.result e c.taken-packet.ensures.none
     (len ∙ ap length c.taken-packet.ensures.taken) is.first
     (c.cbc_entry.ensures.packet ∙ ap (ciphered f.job) c.taken-packet.ensures.taken))
 
@@ -47,3 +57,15 @@ returns-clause-length g c =
     ap (λ (n : ℕ). Some n)
     (len ∙ ap length c.taken-packet.ensures.taken ∙ sym (ciphered-long f.job f.packet.items is.accepted)
     ∙ sym (ap length (c.cbc_entry.ensures.packet ∙ ap (ciphered f.job) c.taken-packet.ensures.taken)))
+
+pub returns-clause-job : goal.returns-clause-job
+returns-clause-job g c =
+    let f = c.self.inside in
+    let len : c.len.result ≡ length c.taken-packet.result.items = omega (arith, c.len.ensures, c.taken-packet.result.ok) in
+    let first = (is-next g c.before).first in
+    let e = cbc_end (end_of round rest_of c.cbc_entry.result) in
+    let out : CourseState = going f.lengths f.job c.taken-packet.new.packet.items f.tag f.reason (steps_in f.left) (Some c.len.result) in
+    subst (λ (v : CourseState). without_packet (taken_back e out).job ≡ without_packet v.job) c.self.view_is
+    (own-back (going f.lengths f.job f.packet.items f.tag f.reason (steps_in f.left) f.out) out e step.Cipher
+    (text-is-out f.lengths f.job f.packet.items c.taken-packet.new.packet.items f.tag f.reason (steps_in f.left) f.out c.len.result c.taken-packet.ensures.none
+    (len ∙ ap length c.taken-packet.ensures.taken) first) first tt)

@@ -1,5 +1,5 @@
 -- The packet goes out into an entry that ends with the job's HMAC.
-use Rattle.std.proofs.Common.{◌≡◌, ◌≢◌, ◌∙◌, List, ℕ, [], length, IsTrue, Some, None, sym, ap, subst, arith}
+use Rattle.std.proofs.Common.{◌≡◌, ◌≢◌, ◌∙◌, List, ℕ, [], length, Option, IsTrue, Some, None, sym, ap, subst, arith}
 use Rattle.mbj_types.specs.Auths.{class_of}
 use Rattle.mbj_types.specs.Result.{mac_by}
 use Rattle.mbj_lane.specs.Rounds.{end_of}
@@ -11,10 +11,10 @@ use Rattle.mbj_stage.specs.declared.stage.Step.TheVariants as step
 use Rattle.mbj_stage.specs.Steps.{stage_at, steps_in}
 use Rattle.mbj_stage.specs.Inside.Kept.{IsNextStep, IsSound}
 use Rattle.mbj_stage.specs.CourseState.{CourseState, owed}
-use Rattle.mbj_stage.specs.Handing.{owed_with}
+use Rattle.mbj_stage.specs.Handing.{handed_out, owed_with, taken_back, without_packet}
 use Rattle.mbj_stage.specs.Ends.{hmac_end}
-use Rattle.mbj_stage.proofs.Handings.{going}
-use Rattle.mbj_stage.proofs.HandingOut.{mac-out}
+use Rattle.mbj_stage.proofs.Handings.{going, own-back}
+use Rattle.mbj_stage.proofs.HandingOut.{mac-is-out, mac-out}
 use Rattle.mbj_stage.proofs.Soundness.{sound_out}
 use Rattle.mbj_stage.proofs.StagesOf.{auth-first, hmac-in-lanes}
 use Rattle.mbj_stage.proofs.course.Course.hand_out_hmac.Goals as goal
@@ -29,9 +29,19 @@ invariant_of-self g c =
     let serves = subst (λ (v : CourseState). IsTrue (serves_auth g.H.LaneHash.chaining v.job.auth)) (sym c.self.view_is) c.requires.serves in
     let lane : stage_at f.job left ≢ stage.Now =
     λ now. hmac-in-lanes (class_of f.job.auth) (served_hmac g.H.LaneHash.chaining f.job.auth serves) (sym (auth-first f.job left first) ∙ now) in
-    let sound = sound_out f.job f.packet.items left (subst (IsSound f.job f.packet.items left) here c.self.invariant) lane in
-    subst (λ (q : List ℕ). IsSound f.job q left (Some c.len.result)) (sym c.taken-packet.ensures.none)
-    (subst (λ (n : ℕ). IsSound f.job [] left (Some n)) (sym (len ∙ ap length c.taken-packet.ensures.taken)) sound)
+    let sound = sound_out f.job f.packet.items left f.lengths (subst (λ (o : Option ℕ). IsSound f.job f.packet.items left o f.lengths) here c.self.invariant) lane in
+    subst (λ (q : List ℕ). IsSound f.job q left (Some c.len.result) f.lengths) (sym c.taken-packet.ensures.none)
+    (subst (λ (n : ℕ). IsSound f.job [] left (Some n) f.lengths) (sym (len ∙ ap length c.taken-packet.ensures.taken)) sound)
+
+pub returns-clause-out : goal.returns-clause-out
+returns-clause-out g c =
+    let f = c.self.inside in
+    let len : c.len.result ≡ length c.taken-packet.result.items = omega (arith, c.len.ensures, c.taken-packet.result.ok) in
+    let first : IsNextStep step.Auth (steps_in f.left) = subst (λ (v : CourseState). IsNextStep step.Auth v.left) (sym c.self.view_is) c.requires.next in
+    let out : CourseState = going f.lengths f.job c.taken-packet.new.packet.items f.tag f.reason (steps_in f.left) (Some c.len.result) in
+    subst (λ (v : CourseState). out ≡ handed_out v) c.self.view_is
+    (mac-is-out f.lengths f.job f.packet.items c.taken-packet.new.packet.items f.tag f.reason (steps_in f.left) f.out c.len.result c.taken-packet.ensures.none
+    (len ∙ ap length c.taken-packet.ensures.taken) first)
 
 pub returns-clause-owed : goal.returns-clause-owed
 returns-clause-owed g c =
@@ -39,8 +49,20 @@ returns-clause-owed g c =
     let len : c.len.result ≡ length c.taken-packet.result.items = omega (arith, c.len.ensures, c.taken-packet.result.ok) in
     let first : IsNextStep step.Auth (steps_in f.left) = subst (λ (v : CourseState). IsNextStep step.Auth v.left) (sym c.self.view_is) c.requires.next in
     let e = hmac_end g.H.LaneHash.chaining (end_of (round g.H.LaneHash.chaining) rest_of c.hmac_entry.result) in
-    let out : CourseState = going f.job c.taken-packet.new.packet.items f.tag f.reason (steps_in f.left) (Some c.len.result) in
+    let out : CourseState = going f.lengths f.job c.taken-packet.new.packet.items f.tag f.reason (steps_in f.left) (Some c.len.result) in
     subst (λ (v : CourseState). owed_with e out ≡ owed v) c.self.view_is
-    (mac-out f.job f.packet.items c.taken-packet.new.packet.items f.tag f.reason (steps_in f.left) f.out c.len.result e c.taken-packet.ensures.none
+    (mac-out f.lengths f.job f.packet.items c.taken-packet.new.packet.items f.tag f.reason (steps_in f.left) f.out c.len.result e c.taken-packet.ensures.none
     (len ∙ ap length c.taken-packet.ensures.taken) first (c.hmac_entry.ensures.packet ∙ c.taken-packet.ensures.taken)
     (c.hmac_entry.ensures.mac ∙ ap (λ (q : List ℕ). mac_by (class_of f.job.auth) f.job q) c.taken-packet.ensures.taken))
+
+pub returns-clause-job : goal.returns-clause-job
+returns-clause-job g c =
+    let f = c.self.inside in
+    let len : c.len.result ≡ length c.taken-packet.result.items = omega (arith, c.len.ensures, c.taken-packet.result.ok) in
+    let first : IsNextStep step.Auth (steps_in f.left) = subst (λ (v : CourseState). IsNextStep step.Auth v.left) (sym c.self.view_is) c.requires.next in
+    let e = hmac_end g.H.LaneHash.chaining (end_of (round g.H.LaneHash.chaining) rest_of c.hmac_entry.result) in
+    let out : CourseState = going f.lengths f.job c.taken-packet.new.packet.items f.tag f.reason (steps_in f.left) (Some c.len.result) in
+    subst (λ (v : CourseState). without_packet (taken_back e out).job ≡ without_packet v.job) c.self.view_is
+    (own-back (going f.lengths f.job f.packet.items f.tag f.reason (steps_in f.left) f.out) out e step.Auth
+    (mac-is-out f.lengths f.job f.packet.items c.taken-packet.new.packet.items f.tag f.reason (steps_in f.left) f.out c.len.result c.taken-packet.ensures.none
+    (len ∙ ap length c.taken-packet.ensures.taken) first) first tt)

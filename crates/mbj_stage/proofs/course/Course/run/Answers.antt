@@ -5,7 +5,7 @@ use Rattle.std.proofs.lemmas.List.Elements.{All-head}
 use Rattle.mbj_types.specs.declared.job.Job.{Job}
 use Rattle.mbj_stage.specs.declared.stage.Steps.{Steps}
 use Rattle.mbj_stage.specs.Steps.{stage_at, steps_in}
-use Rattle.mbj_stage.specs.Inside.Kept.{IsStepOf, packet_length, IsSound}
+use Rattle.mbj_stage.specs.Inside.Kept.{IsStepOf, has_texts, packet_length, IsSound}
 use Rattle.mbj_stage.specs.declared.stage.Stage.TheVariants as stage
 use Rattle.mbj_stage.specs.CourseState.{CourseState, ran, stage_of}
 use Rattle.mbj_stage.proofs.StagesOf.{stage-first, stage-packet}
@@ -50,12 +50,14 @@ invariant_of-self-in-Two c =
     let Now : CourseState → Type 0 = λ v. stage_of v ≡ stage.Now in
     let now : stage_at j (steps_in c.self.inside.left) ≡ stage.Now =
     sym (stage-packet j p (steps_in c.self.inside.left)) ∙ subst Now (sym c.self.view_is) c.requires in
-    let Sound : Steps → Type 0 = λ l. IsSound j p (steps_in l) out in
+    let n = c.self.inside.lengths in
+    let Sound : Steps → Type 0 = λ l. IsSound j p (steps_in l) out n in
     let Long : Option ℕ → Type 0 = λ o. length c.run_step-in-Two.new.packet.items ≡ packet_length o p in
-    let Out : Option ℕ → Type 0 = λ o. IsSound j c.run_step-in-Two.new.packet.items (c.in-Two.later ∷ []) o in
+    let Out : Option ℕ → Type 0 = λ o. IsSound j c.run_step-in-Two.new.packet.items (c.in-Two.later ∷ []) o n in
     subst Out (sym (c.self.invariant.here now))
-    (sound_next j p c.run_step-in-Two.new.packet.items c.in-Two.step (c.in-Two.later ∷ []) out
-    (subst Sound c.in-Two.is c.self.invariant) (subst Long (sym (c.self.invariant.here now)) c.run_step-in-Two.ensures.len))
+    (sound_next j p c.run_step-in-Two.new.packet.items c.in-Two.step (c.in-Two.later ∷ []) out n
+    (subst Sound c.in-Two.is c.self.invariant) (c.self.invariant.lengths (ap (λ (o : Option ℕ). has_texts o (steps_in c.self.inside.left)) (c.self.invariant.here now)))
+    (subst Long (sym (c.self.invariant.here now)) c.run_step-in-Two.ensures.len))
 
 pub returns-in-One : goal.returns-in-One
 returns-in-One c =
@@ -66,10 +68,11 @@ returns-in-One c =
       reason = f.reason;
       left = [];
       out = f.out;
+      lengths = f.lengths;
     } in
     let Ran : CourseState → Type 0 = λ v. after ≡ ran v in
     subst Ran c.self.view_is
-    (ran-step f.job f.packet.items c.run_step.new.packet.items f.tag c.run_step.new.tag f.reason c.in-One.step [] (steps_in f.left) f.out
+    (ran-step f.lengths f.job f.packet.items c.run_step.new.packet.items f.tag c.run_step.new.tag f.reason c.in-One.step [] (steps_in f.left) f.out
     (ap steps_in c.in-One.is) c.run_step.ensures.packet c.run_step.ensures.tag)
 
 pub returns-in-Two : goal.returns-in-Two
@@ -81,9 +84,10 @@ returns-in-Two c =
       reason = f.reason;
       left = c.in-Two.later ∷ [];
       out = f.out;
+      lengths = f.lengths;
     } in
     let Ran : CourseState → Type 0 = λ v. after ≡ ran v in
     subst Ran c.self.view_is
-    (ran-step f.job f.packet.items c.run_step-in-Two.new.packet.items f.tag c.run_step-in-Two.new.tag f.reason c.in-Two.step
+    (ran-step f.lengths f.job f.packet.items c.run_step-in-Two.new.packet.items f.tag c.run_step-in-Two.new.tag f.reason c.in-Two.step
     (c.in-Two.later ∷ []) (steps_in f.left) f.out (ap steps_in c.in-Two.is) c.run_step-in-Two.ensures.packet
     c.run_step-in-Two.ensures.tag)

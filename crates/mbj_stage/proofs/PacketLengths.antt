@@ -4,14 +4,15 @@ use Rattle.std.specs.List.{All, concat}
 use Rattle.std.specs.Option.{option_map_or}
 use Rattle.std.specs.Int.{w128, to_be_bytes}
 use Rattle.std.proofs.lemmas.Bool.{cases_lt, eqb-true}
-use Rattle.std.proofs.lemmas.List.{length-take, length-take-le}
+use Rattle.std.proofs.lemmas.List.{append_assoc, drop_at, length-take, length-take-le, take_at}
 use Rattle.std.proofs.lemmas.List.Elements.{All-cons, All-head, All-nil, All-tail}
 use Rattle.mbj_types.specs.Aes.{key_schedule, schedule, schedule_term, word, round_key, round_count, decipher, undone_rounds, inv_sub_bytes, inv_shift_rows, aes, aes_inverse}
 use Rattle.mbj_types.specs.Blocks.{zero_block, xor_lists, first_blocks, blocks}
 use Rattle.mbj_types.specs.Modes.{cbc, uncbc, ctr_blocks, first_counter, cbc_text, uncbc_text, ctr_text}
 use Rattle.mbj_types.specs.Gcm.{inc32, pre_counter_block, gctr, gcm_text}
+use Rattle.mbj_types.specs.Ccm.{ccm_text, counted, counter_block}
 use Rattle.mbj_types.specs.Verdict.{is_null_cipher, takes_key, takes_iv, takes_range, verdict}
-use Rattle.mbj_types.specs.Result.{cipher_range, with_cipher_range, gcm_of, ciphered, ciphered_by, accepted, refused, result_of}
+use Rattle.mbj_types.specs.Result.{cipher_range, with_cipher_range, gcm_of, ccm_of, ciphered, ciphered_by, accepted, refused, result_of}
 use Rattle.mbj_types.specs.declared.job.Job.{Job}
 use Rattle.mbj_types.specs.declared.job.Cipher.{Cipher}
 use Rattle.mbj_types.specs.declared.job.Cipher.TheVariants as cipher
@@ -128,6 +129,16 @@ length-gctr e j (p ∷ ps) g a =
     length-next (xor_lists p (e j)) p (gctr e (inc32 j) ps) ps (length-xor_lists p (e j) (omega arith))
     (length-gctr e (inc32 j) ps g (All-tail IsWithin p ps a))
 
+length-counted : (e : List ℕ → List ℕ) (nonce : List ℕ) (i : ℕ) (ps : List (List ℕ)) → GivesBlocks e → All IsWithin ps
+    → length (concat (counted e nonce i ps)) ≡ length (concat ps)
+length-counted e nonce i [] g a = refl
+length-counted e nonce i (p ∷ ps) g a =
+    let mask : List ℕ = e (counter_block nonce i) in
+    let size : length mask ≡ 16 = g (counter_block nonce i) in
+    let within : length p ≤ 16 = All-head IsWithin p ps a in
+    length-next (xor_lists p mask) p (counted e nonce (i + 1) ps) ps (length-xor_lists p mask (omega arith))
+    (length-counted e nonce (i + 1) ps g (All-tail IsWithin p ps a))
+
 -- ---- texts
 
 length-cbc_text : (e : List ℕ → List ℕ) (iv text : List ℕ) → GivesBlocks e → length text % 16 ≡ 0
@@ -151,6 +162,11 @@ length-gcm_text : (e : List ℕ → List ℕ) (iv text : List ℕ) → GivesBloc
 unfolding blocks
 length-gcm_text e iv text g =
     length-gctr e (inc32 (pre_counter_block (e zero_block) iv)) (blocks text) g (All-within ((length text + 15) / 16) text) ∙ ap length (concat-blocks text)
+
+length-ccm_text : (e : List ℕ → List ℕ) (nonce text : List ℕ) → GivesBlocks e → length (ccm_text e nonce text) ≡ length text
+unfolding blocks
+length-ccm_text e nonce text g =
+    length-counted e nonce 1 (blocks text) g (All-within ((length text + 15) / 16) text) ∙ ap length (concat-blocks text)
 
 -- ---- packets
 
@@ -190,7 +206,7 @@ length-cipher_range : (j : Job) → j.cipher_off + j.cipher_len ≤ length j.pac
 length-cipher_range j inside = length-take-le j.cipher_len (drop j.cipher_off j.packet) (omega (arith, length-drop j.cipher_off j.packet))
 
 length-ciphered_by : (c : Cipher) (d : Dir) (j : Job) → IsCiphered c j → length (ciphered_by c d j j.packet) ≡ length j.packet
-unfolding gcm_of
+unfolding gcm_of ccm_of
 length-ciphered_by cipher.Null d j h = refl
 length-ciphered_by cipher.Cbc Enc j h =
     let range : List ℕ = cipher_range j j.packet in
@@ -213,12 +229,38 @@ length-ciphered_by cipher.Gcm d j h =
     let range : List ℕ = cipher_range j j.packet in
     length-with_cipher_range j (gcm_text (aes j.key) j.iv range) j.packet (h.inside refl)
     (length-gcm_text (aes j.key) j.iv range (length-aes j.key (key_size (length j.key) h.key)))
+length-ciphered_by cipher.Ccm d j h =
+    let range : List ℕ = cipher_range j j.packet in
+    length-with_cipher_range j (ccm_text (aes j.key) j.iv range) j.packet (h.inside refl)
+    (length-ccm_text (aes j.key) j.iv range (length-aes j.key (key_size (length j.key) h.key)))
 
 length-by_verdict : (reason : Option Reason) (j : Job) → verdict j ≡ reason
     → length (option_map_or (refused j) reason (accepted j)).packet ≡ length j.packet
 unfolding ciphered
 length-by_verdict None j none = length-ciphered_by j.cipher j.dir j (is_ciphered j none)
 length-by_verdict (Some reason) j e = refl
+
+-- the cipher range of a packet whose cipher range was replaced by a text as long
+range-replaced : (j : Job) (text p : List ℕ) → j.cipher_off + j.cipher_len ≤ length p → length text ≡ j.cipher_len
+    → cipher_range j (with_cipher_range j text p) ≡ text
+range-replaced j text p inside same =
+    let from : List ℕ = drop (j.cipher_off + j.cipher_len) p in
+    let front : length (take j.cipher_off p) ≡ j.cipher_off = length-take-le j.cipher_off p (omega arith) in
+    ap (take j.cipher_len) (ap (drop j.cipher_off) (append_assoc (take j.cipher_off p) text from)
+    ∙ drop_at (take j.cipher_off p) (text ++ from) j.cipher_off front)
+    ∙ take_at text from j.cipher_len same
+
+-- the cipher range that CCM ciphered is its other text
+pub ccm-range : (j : Job) → verdict j ≡ None → j.cipher ≡ cipher.Ccm → cipher_range j (ciphered j j.packet) ≡ ccm_text (aes j.key) j.iv (cipher_range j j.packet)
+unfolding ciphered ccm_of
+ccm-range j none is =
+    let facts = table.accepted j (length j.packet) none in
+    let inside = facts.cipher_range (ap is_null_cipher is) in
+    let range : List ℕ = cipher_range j j.packet in
+    let key : IsKeySize (length j.key) = ap (λ (c : Cipher). takes_key c (length j.key)) (sym is) ∙ facts.key in
+    ap (λ (c : Cipher). cipher_range j (ciphered_by c j.dir j j.packet)) is
+    ∙ range-replaced j (ccm_text (aes j.key) j.iv range) j.packet inside
+    (length-ccm_text (aes j.key) j.iv range (length-aes j.key (key_size (length j.key) key)) ∙ length-cipher_range j inside)
 
 -- the cipher of an accepted job keeps the packet's length
 pub length-ciphered : (j : Job) → verdict j ≡ None → length (ciphered j j.packet) ≡ length j.packet
