@@ -13,12 +13,11 @@ use Rattle.mbj_types.specs.declared.kind.Kind.{Kind}
 use Rattle.mbj_ring.specs.declared.ring.TheConstants.{CELLS}
 use Rattle.mbj_ring.specs.Ring.{RingState, ring}
 use Rattle.mbj_stage.specs.CourseState.{CourseState, begun, owed}
-use Rattle.mbj_stage.specs.Handing.{End}
+use Rattle.mbj_stage.specs.Handing.{End, without_packet}
 use Rattle.mbj_stage.proofs.Owing.{owed-begun}
 use Rattle.mbj_manager.specs.Machine.Stages.{Pending, pending}
 use Rattle.mbj_manager.specs.Machine.Queues.{Machine}
 use Rattle.mbj_manager.specs.Machine.Between.{with_stages}
-use Rattle.mbj_manager.specs.State.{without_packet}
 use Rattle.mbj_manager.specs.declared.cell.Cell.{Cell}
 use Rattle.mbj_manager.specs.declared.cell.Cell.TheVariants as cell
 use Rattle.mbj_manager.specs.Inside.Added.{added}
@@ -29,13 +28,13 @@ use Rattle.mbj_manager.specs.Inside.LaneQueues.{placed_in, total, waiting_in}
 use Rattle.mbj_manager.specs.declared.lane_queues.LaneQueues.{LaneQueues}
 use Rattle.mbj_manager.specs.Inside.PlacedQueue.{PlacedQueue, Waiter}
 use Rattle.mbj_manager.specs.Inside.Standing.{IsInCourse}
-use Rattle.mbj_manager.specs.Inside.Held.{IsHeld, IsHere, IsTied, agenda_room, find_in, held, lines_in, machine_in, owed_from, owed_of, waiting}
+use Rattle.mbj_manager.specs.Inside.Held.{IsHeld, IsHere, IsTied, agenda_room, find_in, held, lines_in, machine_in, restored, restored_from, waiting}
 use Rattle.mbj_manager.proofs.BetweenCalls.{submitted-within}
 use Rattle.mbj_manager.proofs.CourseEnds.{between-calls}
 use Rattle.mbj_manager.proofs.JobRounds.{pending-rounds}
 use Rattle.mbj_manager.proofs.JobSteps.{begun-steps}
 use Rattle.mbj_manager.proofs.Moving.{same-state}
-use Rattle.mbj_manager.proofs.Owing.{owed-length}
+use Rattle.mbj_manager.proofs.Restoring.{restored-length}
 
 -- ---- one course more
 
@@ -64,10 +63,10 @@ tied-add cs c lines here y =
       below = All-cons (λ n. n < length (cs ++ c ∷ [])) (length cs) [] (omega arith) (All-nil (λ n. n < length (cs ++ c ∷ [])));
     }
 
-owed-end : (n : ℕ) (find : Kind → ℕ → Option End) (cs : List CourseState) (c : CourseState) → c.out ≡ None
-    → owed_from n find (cs ++ c ∷ []) ≡ owed_from n find cs ++ owed c ∷ []
-owed-end n find [] c here = rw here refl
-owed-end n find (x ∷ cs) c here = ap (λ (ds : List Done). owed_of n find x ∷ ds) (owed-end (suc n) find cs c here)
+restored-end : (n : ℕ) (find : Kind → ℕ → Option End) (cs : List CourseState) (c : CourseState) → c.out ≡ None
+    → restored_from n find (cs ++ c ∷ []) ≡ restored_from n find cs ++ c ∷ []
+restored-end n find [] c here = rw here refl
+restored-end n find (x ∷ cs) c here = ap (λ (xs : List CourseState). restored n find x ∷ xs) (restored-end (suc n) find cs c here)
 
 -- ---- how many wait
 
@@ -156,16 +155,23 @@ module _ (r : RingState Cell) (v w : Cell) (place : ℕ) (ls : LaneQueues) (capa
     room = y.room;
   }
 
-  owed-then : owed_from 0 (find_in (lines_in r ls)) (courses r') ≡ owed_from 0 (find_in (lines_in r ls)) (courses r) ++ result_of job ∷ []
+  abbrev restored_then : List CourseState
+  restored_then = restored_from 0 (find_in (lines_in r ls)) (courses r)
+
+  more-restored : restored_from 0 (find_in (lines_in r ls)) (courses r') ≡ restored_then ++ begun job ∷ []
+  more-restored = ap (restored_from 0 (find_in (lines_in r ls))) more-courses ∙ restored-end 0 (find_in (lines_in r ls)) (courses r) (begun job) refl
+
+  owed-then : map owed (restored_from 0 (find_in (lines_in r ls)) (courses r')) ≡ map owed restored_then ++ result_of job ∷ []
   owed-then =
-      ap (owed_from 0 (find_in (lines_in r ls))) more-courses ∙ owed-end 0 (find_in (lines_in r ls)) (courses r) (begun job) refl
-      ∙ ap (λ (d : Done). owed_from 0 (find_in (lines_in r ls)) (courses r) ++ d ∷ []) (owed-begun job)
+      ap (map owed) more-restored ∙ map_push owed restored_then (begun job)
+      ∙ ap (λ (d : Done). map owed restored_then ++ d ∷ []) (owed-begun job)
 
-  asked-then : map asked (courses r') ≡ map asked (courses r) ++ without_packet job ∷ []
-  asked-then = ap (map asked) more-courses ∙ map_push asked (courses r) (begun job)
+  asked-then : map asked (restored_from 0 (find_in (lines_in r ls)) (courses r')) ≡ map asked restored_then ++ without_packet job ∷ []
+  asked-then = ap (map asked) more-restored ∙ map_push asked restored_then (begun job)
 
-  same-number : length (map pending (courses r)) ≡ length (owed_from 0 (find_in (lines_in r ls)) (courses r))
-  same-number = length-map (courses r) pending ∙ sym (owed-length 0 (find_in (lines_in r ls)) (courses r))
+  same-number : length (map pending (courses r)) ≡ length (map owed restored_then)
+  same-number =
+      length-map (courses r) pending ∙ sym (restored-length 0 (find_in (lines_in r ls)) (courses r)) ∙ sym (length-map restored_then owed)
 
   added-is : held r' (place ∷ []) ls ≡ added (Some job) (held r [] ls)
   added-is =

@@ -8,7 +8,7 @@ use Rattle.std.proofs.lemmas.List.Sums.{sum_by-cons}
 use Rattle.mbj_types.specs.Kinds.{lanes_of}
 use Rattle.mbj_types.specs.declared.kind.Kind.{Kind}
 use Rattle.mbj_ring.specs.Ring.{RingState}
-use Rattle.mbj_stage.specs.CourseState.{CourseState, stage_of}
+use Rattle.mbj_stage.specs.CourseState.{CourseState, owed, stage_of}
 use Rattle.mbj_stage.specs.declared.stage.Stage.{Stage}
 use Rattle.mbj_stage.specs.declared.stage.Stage.TheVariants as stage
 use Rattle.mbj_manager.specs.Machine.Stages.{Pending, pending}
@@ -20,23 +20,22 @@ use Rattle.mbj_manager.specs.Machine.Between.{times_in}
 use Rattle.mbj_manager.specs.declared.cell.Cell.{Cell}
 use Rattle.mbj_manager.specs.Inside.Courses.{Follows, IsSameRing, asked, courses, job_in, number, ring_number}
 use Rattle.mbj_manager.specs.Inside.Leaving.{At, Gives, IsAbsent, finishers, numbers, others, returned}
-use Rattle.mbj_stage.specs.Handing.{IsNext}
+use Rattle.mbj_stage.specs.Handing.{End, IsNext, handed_out, taken_back}
 use Rattle.mbj_manager.specs.Inside.Desk.{Desk, Enters, MayEnter, desk, joined_by, led_all, ran_at, ran_if_full}
 use Rattle.mbj_manager.specs.Inside.LaneQueues.{desk_of, placed_in, with_placed}
 use Rattle.mbj_manager.specs.declared.lane_queues.LaneQueues.{LaneQueues}
 use Rattle.mbj_manager.specs.Inside.PlacedQueue.{Ahead, HasRest, PlacedQueue, Waiter, brings_in, placed_queue, numbered_queue, rounds_in}
 use Rattle.mbj_manager.specs.Inside.Standing.{IsInCourse}
-use Rattle.mbj_manager.specs.Inside.Held.{IsHeld, IsHere, IsOpenAt, IsTied, find_in, found, lane_seen, lines_in, machine_by, machine_in, owed_from, waiting}
-use Rattle.mbj_manager.proofs.Asking.{entered-asked, follow-asked}
+use Rattle.mbj_manager.specs.Inside.Held.{IsHeld, IsHere, IsOpenAt, IsTied, find_in, found, lane_seen, lines_in, machine_by, machine_in, restored_from, waiting}
 use Rattle.mbj_manager.proofs.KindLines.{put-self}
 use Rattle.mbj_manager.proofs.Listing.{absent-listed}
 use Rattle.mbj_manager.proofs.Joining.{at-here}
-use Rattle.mbj_manager.proofs.Moving.{IsStep, have-rests, in-total, moved-asked, moved-length, moved-machine, moved-owed, moved-tied, ran-length, same-state}
-use Rattle.mbj_manager.proofs.Owing.{owed-follow, owed_from-same}
+use Rattle.mbj_manager.proofs.Moving.{IsStep, have-rests, in-total, moved-length, moved-machine, moved-restored, moved-tied, ran-length, same-state}
 use Rattle.mbj_manager.proofs.PendingStages.{pending-finished, pending-lane}
+use Rattle.mbj_manager.proofs.Restoring.{restored-follow, restored-same}
 use Rattle.mbj_manager.proofs.Seeing.{by-desk, enters-seen}
 use Rattle.mbj_manager.proofs.Stepping.{first-off, steps}
-use Rattle.mbj_manager.proofs.Tying.{at-new, owed-join, put-twice, ran-list, tied-follow, tied-join, tied-same}
+use Rattle.mbj_manager.proofs.Tying.{at-new, put-twice, ran-list, restored-join, tied-follow, tied-join, tied-same}
 use Rattle.mbj_manager.specs.Inside.Steps.{steps_ahead}
 
 -- ---- the agenda's first job has its packet
@@ -88,9 +87,19 @@ at-from P x (suc n) (y ∷ xs) a = at-from P x n xs a
 
 -- ---- a job that enters a lane queue, which runs where it is full then
 
-record IsTiedAt (k : Kind) (lines : Kind → PlacedQueue) (cs : List CourseState) (d : Desk) : Type 0 where
+-- what f tells of the courses stays
+record IsTiedAt {X : Type 0} (f : CourseState → X) (k : Kind) (lines : Kind → PlacedQueue) (cs : List CourseState) (d : Desk) : Type 0 where
   tied : IsTied d.courses d.agenda (put k (placed_queue d.waiters 0 0) lines)
-  owed : owed_from 0 (find_in lines) cs ≡ owed_from 0 (find_in (put k (placed_queue d.waiters 0 0) lines)) d.courses
+  told : map f (restored_from 0 (find_in lines) cs) ≡ map f (restored_from 0 (find_in (put k (placed_queue d.waiters 0 0) lines)) d.courses)
+
+-- f tells the same once this entry went out and came back
+abbrev Tells : {X : Type 0} → (CourseState → X) → End → CourseState → Type 0
+Tells f e c = f (taken_back e (handed_out c)) ≡ f c
+
+at-each : {A : Type 0} (P Q : A → Type 0) (n : ℕ) (xs : List A) → ((x : A) → P x → Q x) → At P n xs → At Q n xs
+at-each P Q n [] h a = a
+at-each P Q zero (x ∷ xs) h a = h x a
+at-each P Q (suc n) (x ∷ xs) h a = at-each P Q n xs h a
 
 -- the length of agenda and lane queue
 entered-length : (at : Cause) (lanes n : ℕ) (a : Ahead) (d : Desk) → length (ran_if_full at lanes (joined_by n a d)).agenda + length (ran_if_full at lanes (joined_by n a d)).waiters
@@ -102,8 +111,9 @@ entered-length at lanes n a d = go (length (joined_by n a d).waiters == lanes)
     go true = omega (arith, ran-length at (joined_by n a d), length-append d.waiters ((n, a) ∷ []))
     go false = omega (arith, length-append d.waiters ((n, a) ∷ []))
 
-module _ (k : Kind) (n : ℕ) (a : Ahead) (cs : List CourseState) (ag : List ℕ) (lines : Kind → PlacedQueue) (r b runs : ℕ) (y : IsTied cs ag lines)
-    (next : At (IsNext k) n cs) (gives : At (Gives k a.rounds a.brings) n cs) where
+module _ {X : Type 0} (f : CourseState → X) (k : Kind) (n : ℕ) (a : Ahead) (cs : List CourseState) (ag : List ℕ) (lines : Kind → PlacedQueue)
+    (r b runs : ℕ) (y : IsTied cs ag lines) (next : At (IsNext k) n cs) (gives : At (Gives k a.rounds a.brings) n cs)
+    (tells : (c : CourseState) → Gives k a.rounds a.brings c → Tells f a.brings c) where
   abbrev before : Desk
   before = desk cs ag (lines k).waiters r b runs
 
@@ -116,8 +126,10 @@ module _ (k : Kind) (n : ℕ) (a : Ahead) (cs : List CourseState) (ag : List ℕ
   join-tied : IsTied join.courses ag grown
   join-tied = tied-join k (n, a) 0 0 cs ag lines next gives y
 
-  join-owed : owed_from 0 (find_in lines) cs ≡ owed_from 0 (find_in grown) join.courses
-  join-owed = owed-join k (n, a) 0 0 cs lines (absent-listed k n cs (lines k).waiters (at-here k n cs next) (y.listed k)) next gives
+  join-told : map f (restored_from 0 (find_in lines) cs) ≡ map f (restored_from 0 (find_in grown) join.courses)
+  join-told =
+      restored-join f k (n, a) 0 0 cs lines (absent-listed k n cs (lines k).waiters (at-here k n cs next) (y.listed k)) next
+      (at-each (Gives k a.rounds a.brings) (Tells f a.brings) n cs tells gives)
 
   abbrev end_courses : List Waiter → List CourseState
   end_courses ws = returned brings_in join.courses (finishers rounds_in (led_all ws))
@@ -137,23 +149,22 @@ module _ (k : Kind) (n : ℕ) (a : Ahead) (cs : List CourseState) (ag : List ℕ
       (put-twice k (end_line join.waiters) (placed_queue join.waiters 0 0) lines)
       (subst (λ (ws : List Waiter). IsTied (end_courses ws) (end_agenda ws) (put k (end_line ws) grown)) own (ran-list k join.courses ag grown join-tied).tied)
 
-  run-owed : owed_from 0 (find_in lines) cs ≡ owed_from 0 (find_in (put k (end_line join.waiters) lines)) (end_courses join.waiters)
-  run-owed =
-      join-owed
-      ∙ subst (λ (ws : List Waiter). owed_from 0 (find_in grown) join.courses ≡ owed_from 0 (find_in (put k (end_line ws) grown)) (end_courses ws)) own
-      (ran-list k join.courses ag grown join-tied).owed
-      ∙ owed_from-same 0 (find_in (put k (end_line join.waiters) grown)) (find_in (put k (end_line join.waiters) lines)) (end_courses join.waiters)
+  run-restored : restored_from 0 (find_in grown) join.courses ≡ restored_from 0 (find_in (put k (end_line join.waiters) lines)) (end_courses join.waiters)
+  run-restored =
+      subst (λ (ws : List Waiter). restored_from 0 (find_in grown) join.courses ≡ restored_from 0 (find_in (put k (end_line ws) grown)) (end_courses ws)) own
+      (ran-list k join.courses ag grown join-tied).restored
+      ∙ restored-same 0 (find_in (put k (end_line join.waiters) grown)) (find_in (put k (end_line join.waiters) lines)) (end_courses join.waiters)
       (λ j m h. ap (found m) (put-twice k (end_line join.waiters) (placed_queue join.waiters 0 0) lines j))
 
-  ran-tied : (at : Cause) → IsTiedAt k lines cs (ran_at at join)
-  ran-tied cause.Submit = record { tied = run-tied; owed = run-owed }
-  ran-tied cause.Flush = record { tied = run-tied; owed = run-owed }
+  ran-tied : (at : Cause) → IsTiedAt f k lines cs (ran_at at join)
+  ran-tied cause.Submit = record { tied = run-tied; told = join-told ∙ ap (map f) run-restored }
+  ran-tied cause.Flush = record { tied = run-tied; told = join-told ∙ ap (map f) run-restored }
 
-  entered-by : (at : Cause) (full : Bool) → IsTiedAt k lines cs (cond full (ran_at at join) join)
+  entered-by : (at : Cause) (full : Bool) → IsTiedAt f k lines cs (cond full (ran_at at join) join)
   entered-by at true = ran-tied at
-  entered-by at false = record { tied = join-tied; owed = join-owed }
+  entered-by at false = record { tied = join-tied; told = join-told }
 
-  entered-tied : (at : Cause) (lanes : ℕ) → IsTiedAt k lines cs (ran_if_full at lanes join)
+  entered-tied : (at : Cause) (lanes : ℕ) → IsTiedAt f k lines cs (ran_if_full at lanes join)
   entered-tied at lanes = entered-by at (length join.waiters == lanes)
 
 -- ---- the fields, once what finishes at once is done
@@ -179,14 +190,18 @@ module _ (r r1 : RingState Cell) (p : ℕ) (ag ag1 : List ℕ) (ls : LaneQueues)
       (subst (λ (cs : List CourseState). IsTied cs (map (ring_number r) ag1) (lines_in r ls)) (sym is)
       (tied-follow x (ring_number r p) (courses r) (map (ring_number r) ag1) (lines_in r ls) follows was-here tied-rest))
 
-  pub owed-then : owed_from 0 (find_in (lines_in r ls)) (courses r) ≡ owed_from 0 (find_in (lines_in r1 ls)) (courses r1)
-  owed-then =
-      owed-follow 0 (find_in (lines_in r ls)) x (ring_number r p) (courses r) follows
-      ∙ ap (owed_from 0 (find_in (lines_in r ls))) (sym is)
-      ∙ ap (λ (m : ℕ). owed_from 0 (find_in (λ j. numbered_queue (number m) (placed_in j ls))) (courses r1)) (sym same.first)
+  told-then : {X : Type 0} (f : CourseState → X) → ((c : CourseState) → Follows x c → f x ≡ f c)
+      → map f (restored_from 0 (find_in (lines_in r ls)) (courses r)) ≡ map f (restored_from 0 (find_in (lines_in r1 ls)) (courses r1))
+  told-then f stays =
+      restored-follow f 0 (find_in (lines_in r ls)) x (ring_number r p) (courses r) follows stays
+      ∙ ap (λ (cs : List CourseState). map f (restored_from 0 (find_in (lines_in r ls)) cs)) (sym is)
+      ∙ ap (λ (m : ℕ). map f (restored_from 0 (find_in (λ j. numbered_queue (number m) (placed_in j ls))) (courses r1))) (sym same.first)
 
-  asked-then : map asked (courses r1) ≡ map asked (courses r)
-  asked-then = ap (map asked) is ∙ follow-asked x (ring_number r p) (courses r) follows
+  pub owed-then : map owed (restored_from 0 (find_in (lines_in r ls)) (courses r)) ≡ map owed (restored_from 0 (find_in (lines_in r1 ls)) (courses r1))
+  owed-then = told-then owed (λ c h. h.owed_is)
+
+  pub asked-then : map asked (restored_from 0 (find_in (lines_in r ls)) (courses r)) ≡ map asked (restored_from 0 (find_in (lines_in r1 ls)) (courses r1))
+  asked-then = told-then asked (λ c h. h.asked_is)
 
   pub machine-then : (at : Cause) → stepped at (machine_in r ag ls) ≡ goes_on at (ring_number r1 p) (pending x) (machine_in r1 ag1 ls)
   machine-then at =
@@ -217,7 +232,7 @@ module _ (r r1 : RingState Cell) (p : ℕ) (ag ag1 : List ℕ) (ls : LaneQueues)
       = sym (machine-then at ∙ ap (λ ps. goes_on at (ring_number r1 p) ps (machine_in r1 ag1 ls)) none) in
       let fits = y.fits in
       record {
-        is = same-state (sym owed-then) asked-then (ap (option_map job_in) same.opened) machine;
+        is = same-state (sym owed-then) (sym asked-then) (ap (option_map job_in) same.opened) machine;
         kept = record {
           ring = same.courses;
           is_open = subst IsOpenAt (sym same.opened) y.is_open;
@@ -275,19 +290,21 @@ module _ (r r1 : RingState Cell) (p : ℕ) (ag ag1 : List ℕ) (ls : LaneQueues)
       let machine : machine_in r2 ag2 ls2 ≡ stepped at (machine_in r ag ls)
       = moved-machine k r1 r2 ag1 ag2 ls ls2 d then others-are e.is ∙ enters-seen at k lanes n a d1
       ∙ ap (joined at k n a.rounds) (sym (by-desk k (lines_in r1 ls) (lines_in r1 ls) d1 refl (λ j ne. refl))) ∙ sym step in
-      let t = entered-tied k n a (courses r1) (map (ring_number r1) ag1) (lines_in r1 ls) (placed_in k ls).rounds (placed_in k ls).blocks ls.flush_runs
-      tied-then (next-then k st) e.gives at (lanes_of k) in
+      let owes = entered-tied owed k n a (courses r1) (map (ring_number r1) ag1) (lines_in r1 ls) (placed_in k ls).rounds (placed_in k ls).blocks ls.flush_runs
+      tied-then (next-then k st) e.gives (λ c g. g.owed_is) at (lanes_of k) in
+      let asks = entered-tied asked k n a (courses r1) (map (ring_number r1) ag1) (lines_in r1 ls) (placed_in k ls).rounds (placed_in k ls).blocks ls.flush_runs
+      tied-then (next-then k st) e.gives (λ c g. g.asked_is) at (lanes_of k) in
+      let moved = moved-restored k r1 r2 ag1 ag2 ls ls2 d then others-are e.is in
       let size = moved-length k r1 r2 ag1 ag2 ls ls2 d then others-are e.is in
       let fits = y.fits in
       record {
-        is = same-state (sym (owed-then ∙ t.owed ∙ moved-owed k r1 r2 ag1 ag2 ls ls2 d then others-are e.is))
-            (moved-asked k r1 r2 ag1 ag2 ls ls2 d then others-are e.is ∙ entered-asked at (lanes_of k) n a d1 ∙ asked-then)
+        is = same-state (sym (owed-then ∙ owes.told ∙ ap (map owed) moved)) (sym (asked-then ∙ asks.told ∙ ap (map asked) moved))
             (ap (option_map job_in) (then.opened ∙ same.opened)) machine;
         kept = record {
           ring = then.courses;
           is_open = subst IsOpenAt (sym (then.opened ∙ same.opened)) y.is_open;
           within = subst IsInCourse (sym machine) (within-then at);
-          tied = moved-tied k r1 r2 ag1 ag2 ls ls2 d then others-are e.is t.tied;
+          tied = moved-tied k r1 r2 ag1 ag2 ls ls2 d then others-are e.is owes.tied;
           fits = omega (arith, entered-length at (lanes_of k) n a d1, length-map ag1 (ring_number r1), waiters-length r1 k, ap length first);
           room = y.room;
         };

@@ -11,11 +11,12 @@ use Rattle.mbj_types.specs.Result.{result_of}
 use Rattle.mbj_types.specs.Kinds.{lanes_of}
 use Rattle.mbj_ring.specs.declared.ring.TheConstants.{CELLS}
 use Rattle.mbj_stage.specs.CourseState.{begun}
+use Rattle.mbj_stage.specs.Handing.{without_packet}
 use Rattle.mbj_manager.specs.Machine.Stages.{Pending, pending}
 use Rattle.mbj_manager.specs.Machine.Queues.{Machine, queue_for, idle_queue, count_end}
 use Rattle.mbj_manager.specs.declared.lane.Cause.TheVariants as cause
 use Rattle.mbj_manager.specs.Machine.Course.{course, flushed}
-use Rattle.mbj_manager.specs.State.{ManagerState, entered, after_flush, after_get_completed, given_at, lent, new_manager, with_job, with_open, without_packet}
+use Rattle.mbj_manager.specs.State.{ManagerState, entered, after_flush, after_get_completed, given_at, lent, new_manager, with_job, with_open}
 use Rattle.mbj_manager.specs.Calls as calls
 use Rattle.mbj_manager.specs.Calls.{Call, after_calls, called}
 use Rattle.mbj_manager.specs.Machine.Counts.{RisesUpTo}

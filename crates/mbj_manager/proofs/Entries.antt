@@ -3,11 +3,10 @@ use Rattle.std.proofs.Common.{◌≡◌, ℕ, ◌+◌, zero, suc, List, [], ◌�
 use Rattle.std.proofs.lemmas.Option.{slice_get-map}
 use Rattle.std.specs.Option.{option_map}
 use Rattle.std.specs.Prelude.{All}
-use Rattle.mbj_types.specs.declared.done.Done.{Done}
 use Rattle.mbj_types.specs.declared.job.Job.{Job}
 use Rattle.mbj_types.specs.declared.kind.Kind.{Kind}
-use Rattle.mbj_stage.specs.CourseState.{CourseState}
-use Rattle.mbj_stage.specs.Handing.{End, IsOut}
+use Rattle.mbj_stage.specs.CourseState.{CourseState, owed}
+use Rattle.mbj_stage.specs.Handing.{End, IsOut, taken_back}
 use Rattle.mbj_manager.specs.Machine.Stages.{pending}
 use Rattle.mbj_manager.specs.Machine.Queues.{rest_of}
 use Rattle.mbj_manager.specs.State.{ManagerState}
@@ -16,8 +15,8 @@ use Rattle.mbj_manager.specs.Inside.Courses.{asked}
 use Rattle.mbj_manager.specs.Inside.Leaving.{At}
 use Rattle.mbj_manager.specs.Inside.Desk.{Listed}
 use Rattle.mbj_manager.specs.Inside.PlacedQueue.{PlacedQueue, Waiter, numbered, pair_rest, rounds_in}
-use Rattle.mbj_manager.specs.Inside.Held.{find_in, found, machine_by, owed_from, owed_of, waiting}
-use Rattle.mbj_manager.proofs.Owing.{owed-out}
+use Rattle.mbj_manager.specs.Inside.Held.{find_in, found, machine_by, restored, restored_from, waiting}
+use Rattle.mbj_manager.proofs.Restoring.{out-restored}
 use Rattle.mbj_manager.proofs.RingCourses.{each-at}
 use Rattle.mbj_manager.proofs.Tying.{Middle, found-here, middle}
 
@@ -33,22 +32,36 @@ there P n [] a = absurd a
 there P zero (x ∷ xs) a = record { item = x; is = refl; has = a }
 there P (suc n) (x ∷ xs) a = let t = there P n xs a in record { item = t.item; is = t.is; has = t.has }
 
--- what is owed for the course there
-owed-there : (first p n : ℕ) (find : Kind → ℕ → Option End) (cs : List CourseState) (c : CourseState) → p ≡ first + n → slice_get cs n ≡ Some c
-    → slice_get (owed_from first find cs) n ≡ Some (owed_of p find c)
-owed-there first p n find [] c e is = cc
-owed-there first p zero find (x ∷ cs) c e is =
+-- the course there, with its entry taken back
+restored-there : (first p n : ℕ) (find : Kind → ℕ → Option End) (cs : List CourseState) (c : CourseState) → p ≡ first + n → slice_get cs n ≡ Some c
+    → slice_get (restored_from first find cs) n ≡ Some (restored p find c)
+restored-there first p n find [] c e is = cc
+restored-there first p zero find (x ∷ cs) c e is =
     let here : first ≡ p = omega arith in
     let same : x ≡ c = cc in
-    ap₂ (λ (i : ℕ) (y : CourseState). Some (owed_of i find y)) here same
-owed-there first p (suc n) find (x ∷ cs) c e is = owed-there (suc first) p n find cs c (omega arith) is
+    ap₂ (λ (i : ℕ) (y : CourseState). Some (restored i find y)) here same
+restored-there first p (suc n) find (x ∷ cs) c e is = restored-there (suc first) p n find cs c (omega arith) is
 
 -- ---- the jobs of a lane queue
 
 module _ (k : Kind) (cs : List CourseState) (agenda : List ℕ) (lines : Kind → PlacedQueue) (runs : ℕ) (opened : Option Job)
     (steps : All HasJobSteps cs) where
   abbrev state : ManagerState
-  state = record { owed = owed_from 0 (find_in lines) cs; jobs = map asked cs; opened = opened; machine = machine_by cs agenda lines runs }
+  state = record {
+    owed = map owed (restored_from 0 (find_in lines) cs);
+    jobs = map asked (restored_from 0 (find_in lines) cs);
+    opened = opened;
+    machine = machine_by cs agenda lines runs;
+  }
+
+  -- what f tells of the course w.0
+  told-of : {X : Type 0} (f : CourseState → X) (w : Waiter) (c : CourseState) → slice_get cs w.0 ≡ Some c → IsOut k w.1.brings c
+      → found w.0 (lines k).waiters ≡ Some w.1.brings
+      → slice_get (map f (restored_from 0 (find_in lines) cs)) w.0 ≡ Some (f (taken_back w.1.brings c))
+  told-of f w c is out here =
+      slice_get-map f (restored_from 0 (find_in lines) cs) w.0
+      ∙ ap (option_map f) (restored-there 0 w.0 w.0 (find_in lines) cs c (omega arith) is)
+      ∙ ap (λ (x : CourseState). Some (f x)) (out-restored w.0 (find_in lines) k w.1.brings c out here)
 
   entry-of : (front : List Waiter) (w : Waiter) (ws : List Waiter) → (lines k).waiters ≡ front ++ w ∷ ws → Middle k cs front w ws
       → IsEntryOf k state w.1.brings (waiting w)
@@ -58,11 +71,10 @@ module _ (k : Kind) (cs : List CourseState) (agenda : List ℕ) (lines : Kind �
       record {
         course = t.item;
         out = t.has;
-        job = slice_get-map asked cs w.0 ∙ ap (option_map asked) t.is;
+        job = told-of asked w t.item t.is t.has here;
         steps = each-at HasJobSteps w.0 cs t.item t.is steps;
         left = slice_get-map pending cs w.0 ∙ ap (option_map pending) t.is;
-        owed = owed-there 0 w.0 w.0 (find_in lines) cs t.item (omega arith) t.is
-            ∙ ap (λ (d : Done). Some d) (owed-out w.0 (find_in lines) k w.1.brings t.item t.has here);
+        owed = told-of owed w t.item t.is t.has here;
       }
 
   entries-behind : (front ws : List Waiter) → (lines k).waiters ≡ front ++ ws → Listed k cs (lines k).waiters

@@ -6,9 +6,10 @@ use Rattle.mbj_types.specs.declared.job.Job.{Job}
 use Rattle.mbj_types.specs.declared.done.Done.{Done}
 use Rattle.mbj_types.specs.Result.{result_of}
 use Rattle.mbj_ring.specs.declared.ring.TheConstants.{CELLS}
+use Rattle.mbj_stage.specs.Handing.{without_packet}
 use Rattle.mbj_manager.specs.Machine.Stages.{Pending}
 use Rattle.mbj_manager.specs.Machine.Course.{flushed}
-use Rattle.mbj_manager.specs.State.{ManagerState, after_get_completed, after_submit, entered, given_at, lent, with_open, without_packet}
+use Rattle.mbj_manager.specs.State.{ManagerState, after_get_completed, after_submit, entered, given_at, lent, with_open}
 use Rattle.mbj_manager.specs.Calls as calls
 use Rattle.mbj_manager.specs.Calls.{Call, after_calls, called, given_back, jobs_in, jobs_submitted}
 use Rattle.mbj_manager.specs.Inside.Settled.{IsSettled}

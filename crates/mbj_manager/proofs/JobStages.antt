@@ -9,18 +9,19 @@ use Rattle.mbj_types.specs.Verdict.{verdict}
 use Rattle.mbj_types.specs.declared.job.Job.{Job}
 use Rattle.mbj_types.specs.declared.job.Cipher.{Cipher}
 use Rattle.mbj_types.specs.declared.job.Cipher.TheVariants as cipher
+use Rattle.mbj_types.specs.declared.job.Dir.{Dir}
+use Rattle.mbj_types.specs.declared.job.Dir.TheVariants.{Enc, Dec}
 use Rattle.mbj_types.specs.declared.job.Order.{Order}
 use Rattle.mbj_types.specs.declared.job.Order.TheVariants.{CipherHash, HashCipher}
 use Rattle.mbj_types.specs.declared.reason.Reason.{Reason}
 use Rattle.mbj_stage.specs.declared.stage.Stage.{Stage}
 use Rattle.mbj_stage.specs.declared.stage.Stage.TheVariants as stage
 use Rattle.mbj_stage.specs.declared.stage.Step.{Step}
-use Rattle.mbj_stage.specs.Steps.{auth_steps, cipher_steps, ordered, stage_at, steps_by}
-use Rattle.mbj_stage.specs.CourseState.{begun}
-use Rattle.mbj_manager.specs.Machine.Stages.{Pending, at_once, in_lanes, pending, pending_by}
+use Rattle.mbj_stage.specs.Steps.{auth_steps, ccm_steps, cipher_steps, ordered, stage_at, steps_by, steps_with}
+use Rattle.mbj_stage.specs.CourseState.{begun, lengths_of, sized}
+use Rattle.mbj_manager.specs.Machine.Stages.{Pending, at_once, in_lanes, pending, pending_at, pending_by}
 use Rattle.mbj_manager.specs.Machine.Course.{in_lanes_next, stages_left}
 use Rattle.mbj_manager.specs.Inside.Standing.{left_at}
-use Rattle.mbj_manager.proofs.PendingStages.{pending_at}
 use Rattle.std.specs.Prelude.{drop}
 
 few-by : (s : Stage) (j : Job) → length (pending_by s j) ≤ 1
@@ -38,24 +39,40 @@ cipher-one cipher.Null = omega arith
 cipher-one cipher.Cbc = omega arith
 cipher-one cipher.Ctr = omega arith
 cipher-one cipher.Gcm = omega arith
+cipher-one cipher.Ccm = omega arith
 
 auth-one : (a : AuthClass) → length (auth_steps a) ≤ 1
 auth-one class.Null = omega arith
 auth-one (class.Hmac h) = omega arith
 auth-one (class.Cmac key) = omega arith
 auth-one class.Gcm = omega arith
+auth-one class.Ccm = omega arith
 
 two-ordered : (o : Order) (xs ys : List Step) → length xs ≤ 1 → length ys ≤ 1 → length (ordered o xs ys) ≤ 2
 two-ordered CipherHash xs ys a b = omega (arith, length-append xs ys)
 two-ordered HashCipher xs ys a b = omega (arith, length-append ys xs)
 
+two-ccm : (d : Dir) → length (ccm_steps d) ≤ 2
+two-ccm Enc = omega arith
+two-ccm Dec = omega arith
+
+two-both : (c : Cipher) (j : Job) → length (ordered j.order (cipher_steps c) (auth_steps (class_of j.auth))) ≤ 2
+two-both c j = two-ordered j.order (cipher_steps c) (auth_steps (class_of j.auth)) (cipher-one c) (auth-one (class_of j.auth))
+
+two-with : (c : Cipher) (j : Job) → length (steps_with c j) ≤ 2
+two-with cipher.Null j = two-both cipher.Null j
+two-with cipher.Cbc j = two-both cipher.Cbc j
+two-with cipher.Ctr j = two-both cipher.Ctr j
+two-with cipher.Gcm j = two-both cipher.Gcm j
+two-with cipher.Ccm j = two-ccm j.dir
+
 two-steps : (reason : Option Reason) (j : Job) → length (steps_by reason j) ≤ 2
-two-steps None j = two-ordered j.order (cipher_steps j.cipher) (auth_steps (class_of j.auth)) (cipher-one j.cipher) (auth-one (class_of j.auth))
+two-steps None j = two-with j.cipher j
 two-steps (Some reason) j = omega arith
 
 -- the stages of a job
 pub two-stages : (j : Job) → length (pending (begun j)) ≤ 2
-two-stages j = omega (arith, few-at j (steps_by (verdict j) j), two-steps (verdict j) j)
+two-stages j = omega (arith, few-at (sized (lengths_of j) j) (steps_by (verdict j) j), two-steps (verdict j) j)
 
 -- a stage that is done leaves no more
 pub two-then : (ps : List Pending) → length ps ≤ 2 → length (drop 1 ps) ≤ 2

@@ -14,7 +14,7 @@ here-not-out k e (suc n) (c ∷ cs) h o = here-not-out k e n cs h o
 
 pub at-made : (k : Kind) (r : ℕ) (e : End) (n : ℕ) (cs : List CourseState) → At (IsNext k) n cs → At (Gives k r e) n cs → At (IsOut k e) n (changed handed_out n cs)
 at-made k r e n [] h g = absurd h
-at-made k r e zero (c ∷ cs) h g = record { stage = h.stage; packet = g.length_is }
+at-made k r e zero (c ∷ cs) h g = g.is_out
 at-made k r e (suc n) (c ∷ cs) h g = at-made k r e n cs h g
 
 pub at-here : (k : Kind) (n : ℕ) (cs : List CourseState) → At (IsNext k) n cs → At IsHere n cs

@@ -8,7 +8,7 @@ mod Listing
 mod Numbering
 mod Seeing
 mod KindLines
-mod Owing
+mod Restoring
 mod Tying
 mod Moving
 mod Advancing
@@ -39,4 +39,3 @@ mod CallsKeep
 mod JobLaws
 mod Entries
 mod JobSteps
-mod Asking

@@ -7,7 +7,7 @@ use Rattle.mbj_types.specs.declared.job.Job.{Job}
 use Rattle.mbj_types.specs.declared.kind.Kind.{Kind}
 use Rattle.mbj_types.specs.declared.kind.Kind.TheVariants as kind
 use Rattle.mbj_ring.specs.Ring.{RingState}
-use Rattle.mbj_stage.specs.CourseState.{CourseState}
+use Rattle.mbj_stage.specs.CourseState.{CourseState, owed}
 use Rattle.mbj_manager.specs.Machine.Stages.{Pending, at_once, in_lanes, pending}
 use Rattle.mbj_manager.specs.Machine.Queues.{Queue, Machine, put, run_within}
 use Rattle.mbj_manager.specs.declared.lane.Cause.{Cause}
@@ -22,13 +22,12 @@ use Rattle.mbj_manager.specs.Inside.LaneQueues.{desk_of, placed_in, total, with_
 use Rattle.mbj_manager.specs.declared.lane_queues.LaneQueues.{LaneQueues}
 use Rattle.mbj_manager.specs.Inside.PlacedQueue.{HasRest, PlacedQueue, Waiter, led_waiter, placed_queue, numbered, numbered_queue, pair_rest, rounds_in}
 use Rattle.mbj_manager.specs.Inside.Standing.{IsInCourse, left_at}
-use Rattle.mbj_manager.specs.Inside.Held.{IsHeld, IsOpenAt, IsTied, find_in, found, held, lane_seen, lines_in, machine_by, machine_in, owed_from, waiting}
+use Rattle.mbj_manager.specs.Inside.Held.{IsHeld, IsOpenAt, IsTied, find_in, found, held, lane_seen, lines_in, machine_by, machine_in, restored_from, waiting}
 use Rattle.mbj_lane.specs.Rounds.{least}
-use Rattle.mbj_manager.proofs.Asking.{run-asked}
 use Rattle.mbj_manager.proofs.BetweenCalls.{earliest-ready}
 use Rattle.mbj_manager.proofs.CourseEnds.{between-calls}
 use Rattle.mbj_manager.proofs.KindLines.{put-case}
-use Rattle.mbj_manager.proofs.Owing.{owed_from-same}
+use Rattle.mbj_manager.proofs.Restoring.{restored-same}
 use Rattle.mbj_manager.proofs.Running as Running
 use Rattle.mbj_manager.proofs.Finishing.{zero-or}
 use Rattle.mbj_manager.proofs.Seeing.{by-desk, machine_at, run-seen}
@@ -45,6 +44,9 @@ line-put kind.Cmac256 kind.Cmac256 l n ls = refl
 line-put kind.HmacSha1 kind.HmacSha1 l n ls = refl
 line-put kind.HmacSha256 kind.HmacSha256 l n ls = refl
 line-put kind.HmacSha512 kind.HmacSha512 l n ls = refl
+line-put kind.Ccm128 kind.Ccm128 l n ls = refl
+line-put kind.Ccm192 kind.Ccm192 l n ls = refl
+line-put kind.Ccm256 kind.Ccm256 l n ls = refl
 line-put _ _ l n ls = refl
 
 line-other : (k j : Kind) (l : PlacedQueue) (n : ℕ) (ls : LaneQueues) → j ≢ k → placed_in j (with_placed k l n ls) ≡ placed_in j ls
@@ -89,14 +91,11 @@ module _ (k : Kind) (r r' : RingState Cell) (ag ag' : List ℕ) (ls ls' : LaneQu
       subst (λ (n : ℕ). IsTied (courses r') (map (number n) ag') (λ j. numbered_queue (number n) (placed_in j ls'))) (sym same.first)
       (subst (λ (x : Desk). IsTied x.courses x.agenda after) (sym is) (tied-same d.courses d.agenda expected after same-waits y))
 
-  pub moved-owed : owed_from 0 (find_in expected) d.courses ≡ owed_from 0 (find_in (lines_in r' ls')) (courses r')
-  moved-owed =
-      owed_from-same 0 (find_in expected) (find_in after) d.courses (λ j m h. ap (found m) (same-waits j))
-      ∙ sym (ap (λ (x : Desk). owed_from 0 (find_in after) x.courses) is)
-      ∙ ap (λ (n : ℕ). owed_from 0 (find_in (λ j. numbered_queue (number n) (placed_in j ls'))) (courses r')) (sym same.first)
-
-  pub moved-asked : map asked (courses r') ≡ map asked d.courses
-  moved-asked = ap (λ (x : Desk). map asked x.courses) is
+  pub moved-restored : restored_from 0 (find_in expected) d.courses ≡ restored_from 0 (find_in (lines_in r' ls')) (courses r')
+  moved-restored =
+      restored-same 0 (find_in expected) (find_in after) d.courses (λ j m h. ap (found m) (same-waits j))
+      ∙ sym (ap (λ (x : Desk). restored_from 0 (find_in after) x.courses) is)
+      ∙ ap (λ (n : ℕ). restored_from 0 (find_in (λ j. numbered_queue (number n) (placed_in j ls'))) (courses r')) (sym same.first)
 
   pub moved-length : length ag' + total ls' + length (placed_in k ls).waiters ≡ length d.agenda + length d.waiters + total ls
   moved-length =
@@ -199,9 +198,9 @@ runs-first k r r' ag ag' ls ls' capacity y idle first same others-are is =
     let g : Waiter → Waiter = λ x. (ring_number r x.0, x.1) in
     let l : length d0.waiters ≡ length (placed_in k ls).waiters = length-map (placed_in k ls).waiters g in
     let fits = y.fits in
+    let restored = sym (ran.restored ∙ moved-restored k r r' ag ag' ls ls' d same others-are is) in
     record {
-      is = same-state (sym (moved-owed k r r' ag ag' ls ls' d same others-are is) ∙ sym ran.owed)
-          (moved-asked k r r' ag ag' ls ls' d same others-are is ∙ run-asked cause.Flush d0) (ap (option_map job_in) same.opened) machine;
+      is = same-state (ap (map owed) restored) (ap (map asked) restored) (ap (option_map job_in) same.opened) machine;
       kept = record {
         ring = same.courses;
         is_open = subst IsOpenAt (sym same.opened) y.is_open;

@@ -8,18 +8,16 @@ use Rattle.mbj_stage.specs.declared.stage.Stage.{Stage}
 use Rattle.mbj_stage.specs.declared.stage.Stage.TheVariants as stage
 use Rattle.mbj_stage.specs.declared.stage.Step.{Step}
 use Rattle.mbj_stage.specs.Steps.{stage_at}
-use Rattle.mbj_stage.specs.CourseState.{CourseState, ran, ran_at, stage_of}
-use Rattle.mbj_stage.specs.Handing.{End, handed_out, taken_back, taken_back_at}
-use Rattle.mbj_stage.proofs.StagesOf.{finished-left, stage-first, stage-packet}
-use Rattle.mbj_manager.specs.Machine.Stages.{Pending, in_lanes, pending, pending_by}
+use Rattle.mbj_stage.specs.declared.lengths.Lengths.{Lengths}
+use Rattle.mbj_stage.specs.declared.stage.Step.TheVariants as step
+use Rattle.mbj_stage.specs.CourseState.{CourseState, ran, ran_at, sized, stage_of}
+use Rattle.mbj_stage.specs.Handing.{End, brought_back, handed_out, left_behind, taken_back, taken_back_at}
+use Rattle.mbj_stage.proofs.StagesOf.{finished-left, stage-first, stage-packet, stage-texts}
+use Rattle.mbj_manager.specs.Machine.Stages.{Pending, in_lanes, pending, pending_at, pending_by}
 use Rattle.mbj_manager.specs.Machine.Course.{in_lanes_next}
-use Rattle.std.specs.Prelude.{flat_map, drop}
+use Rattle.std.specs.Prelude.{flat_map, drop, replicate}
 
 -- ---- the packet has no part in it
-
--- the stages of a job for the steps that are left
-abbrev pub pending_at : Job → List Step → List Pending
-pending_at j left = flat_map (λ s. pending_by (stage_at j (s ∷ [])) j) left
 
 rounds-packet : (k : Kind) (j : Job) (p : List ℕ) → rounds_of k (record j { packet = p }) ≡ rounds_of k j
 rounds-packet kind.Cbc128 j p = refl
@@ -37,9 +35,33 @@ pending-packet j p (s ∷ left) =
     (ap (λ (t : Stage). pending_by t (record j { packet = p })) (stage-packet j p (s ∷ [])) ∙ by-packet (stage_at j (s ∷ [])) j p)
     (pending-packet j p left)
 
+-- ---- nor have nonce and data, which may be out
+
+-- the job by which the stages are told
+abbrev pub whole : CourseState → Job
+whole c = sized c.lengths c.job
+
+pub stage-whole : (c : CourseState) (left : List Step) → stage_at (whole c) left ≡ stage_at c.job left
+stage-whole c left = stage-texts c.job (replicate c.lengths.iv 0) (replicate c.lengths.aad 0) left
+
+sized-left : (n : Lengths) (j : Job) (left : List Step) → sized n (left_behind left j) ≡ record (sized n j) { packet = [] }
+sized-left n j [] = refl
+sized-left n j (step.Cipher ∷ left) = refl
+sized-left n j (step.Auth ∷ left) = refl
+sized-left n j (step.Gcm ∷ left) = refl
+sized-left n j (step.CcmMac ∷ left) = refl
+sized-left n j (step.CcmText ∷ left) = refl
+
+sized-back : (n : Lengths) (j : Job) (s : Step) (e : End) → sized n (brought_back s e j) ≡ record (sized n j) { packet = e.packet }
+sized-back n j step.Cipher e = refl
+sized-back n j step.Auth e = refl
+sized-back n j step.Gcm e = refl
+sized-back n j step.CcmMac e = refl
+sized-back n j step.CcmText e = refl
+
 -- the stages of a course whose packet goes out
 pub pending-out : (c : CourseState) → pending (handed_out c) ≡ pending c
-pending-out c = pending-packet c.job [] c.left
+pending-out c = ap (λ (j : Job). pending_at j c.left) (sized-left c.lengths c.job c.left) ∙ pending-packet (whole c) [] c.left
 
 -- ---- a stage at once
 
@@ -50,11 +72,12 @@ now-next (stage.Lane k) j ps e = cc
 now-next stage.Finished j ps e = cc
 
 ran-next-at : (c : CourseState) (left : List Step) → stage_at c.job left ≡ stage.Now
-    → in_lanes_next (pending_at (ran_at c left).job (ran_at c left).left) ≡ in_lanes_next (pending_at c.job left)
+    → in_lanes_next (pending (ran_at c left)) ≡ in_lanes_next (pending_at (whole c) left)
 ran-next-at c [] h = cc
 ran-next-at c (s ∷ left) h =
-    ap in_lanes_next (pending-packet c.job _ left)
-    ∙ sym (now-next (stage_at c.job (s ∷ [])) c.job (pending_at c.job left) (sym (stage-first c.job s left) ∙ h))
+    ap in_lanes_next (pending-packet (whole c) _ left)
+    ∙ sym (now-next (stage_at (whole c) (s ∷ [])) (whole c) (pending_at (whole c) left)
+    (sym (stage-first (whole c) s left) ∙ stage-whole c (s ∷ left) ∙ h))
 
 pub ran-next : (c : CourseState) → stage_of c ≡ stage.Now → in_lanes_next (pending (ran c)) ≡ in_lanes_next (pending c)
 ran-next c h = ran-next-at c c.left h
@@ -83,7 +106,7 @@ not-now-at j (s ∷ left) h =
 
 -- where no stage finishes at once, the stages are those in lanes and later ones
 pub not-now-next : (c : CourseState) → stage_of c ≢ stage.Now → in_lanes_next (pending c) ≡ pending c
-not-now-next c h = not-now-at c.job c.left h
+not-now-next c h = not-now-at (whole c) c.left (λ e. h (sym (stage-whole c c.left) ∙ e))
 
 -- the first stage is in lanes
 lane-by : (s : Stage) (j : Job) (ps : List Pending) (k : Kind) → s ≡ stage.Lane k → pending_by s j ++ ps ≡ in_lanes k (rounds_of k j) ∷ ps
@@ -101,11 +124,11 @@ lane-at : (j : Job) (left : List Step) (k : Kind) → stage_at j left ≡ stage.
 lane-at j [] k h = cc
 lane-at j (s ∷ left) k h = lane-by (stage_at j (s ∷ [])) j (pending_at j left) k (sym (stage-first j s left) ∙ h)
 
-pub pending-lane : (c : CourseState) (k : Kind) → stage_of c ≡ stage.Lane k → pending c ≡ in_lanes k (rounds_of k c.job) ∷ later_at c.job c.left
-pending-lane c k h = lane-at c.job c.left k h
+pub pending-lane : (c : CourseState) (k : Kind) → stage_of c ≡ stage.Lane k → pending c ≡ in_lanes k (rounds_of k (whole c)) ∷ later_at (whole c) c.left
+pending-lane c k h = lane-at (whole c) c.left k (stage-whole c c.left ∙ h)
 
 pub pending-finished : (c : CourseState) → stage_of c ≡ stage.Finished → pending c ≡ []
-pending-finished c h = ap (pending_at c.job) (finished-left c.job c.left h)
+pending-finished c h = ap (pending_at (whole c)) (finished-left c.job c.left h)
 
 some-by : (s : Stage) (j : Job) (ps : List Pending) → s ≢ stage.Finished → pending_by s j ++ ps ≢ []
 some-by stage.Now j ps f = λ e. cc
@@ -118,7 +141,7 @@ none-left-at j (s ∷ left) h = absurd (some-by (stage_at j (s ∷ [])) j (pendi
 
 -- a course with no stage left is finished
 pub finished-pending : (c : CourseState) → pending c ≡ [] → stage_of c ≡ stage.Finished
-finished-pending c h = none-left-at c.job c.left h
+finished-pending c h = sym (stage-whole c c.left) ∙ none-left-at (whole c) c.left h
 
 -- ---- a packet that comes back
 
@@ -127,10 +150,12 @@ first-by stage.Now j ps f = refl
 first-by (stage.Lane k) j ps f = refl
 first-by stage.Finished j ps f = absurd (f refl)
 
-back-at : (left : List Step) (c : CourseState) (e : End) → c.left ≡ left → pending (taken_back_at left e c) ≡ drop 1 (pending_at c.job left)
-back-at [] c e is = ap (pending_at c.job) is
+back-at : (left : List Step) (c : CourseState) (e : End) → c.left ≡ left → pending (taken_back_at left e c) ≡ drop 1 (pending_at (whole c) left)
+back-at [] c e is = ap (pending_at (whole c)) is
 back-at (s ∷ left) c e is =
-    pending-packet c.job e.packet left ∙ sym (first-by (stage_at c.job (s ∷ [])) c.job (pending_at c.job left) (never-finished c.job s []))
+    ap (λ (j : Job). pending_at j left) (sized-back c.lengths c.job s e)
+    ∙ pending-packet (whole c) e.packet left
+    ∙ sym (first-by (stage_at (whole c) (s ∷ [])) (whole c) (pending_at (whole c) left) (never-finished (whole c) s []))
 
 -- the first stage is done
 pub pending-back : (c : CourseState) (e : End) → pending (taken_back e c) ≡ drop 1 (pending c)

@@ -23,7 +23,7 @@ use Rattle.mbj_manager.specs.Inside.LaneQueues.{placed_in}
 use Rattle.mbj_manager.specs.declared.lane_queues.LaneQueues.{LaneQueues}
 use Rattle.mbj_manager.specs.Inside.PlacedQueue.{PlacedQueue, Waiter, placed_queue, numbered}
 use Rattle.mbj_manager.specs.Inside.Standing.{IsInCourse, times}
-use Rattle.mbj_manager.specs.Inside.Held.{IsHeld, IsTied, find_in, found, held, lane_seen, lines_in, machine_in, owed_by, owed_from, owed_here, owed_of, waiting}
+use Rattle.mbj_manager.specs.Inside.Held.{IsHeld, IsTied, find_in, found, held, lane_seen, lines_in, machine_in, back_by, restored, restored_by, restored_from, restored_here, waiting}
 use Rattle.mbj_manager.proofs.Adding.{map-nil}
 use Rattle.mbj_manager.proofs.CourseEnds.{between-calls, lanes-between, stages-at}
 use Rattle.mbj_manager.proofs.GivingBack.{back-between, earlier, without_earliest}
@@ -86,24 +86,24 @@ tied-low c cs lines done y = record {
   below = All-nil (λ n. n < length cs);
 }
 
-owed_by-low : (n : ℕ) (find find' : Kind → ℕ → Option End) (s : Stage) (c : CourseState) → ((k : Kind) → find k (suc n) ≡ find' k n)
-    → owed_by s (suc n) find c ≡ owed_by s n find' c
-owed_by-low n find find' stage.Now c h = refl
-owed_by-low n find find' stage.Finished c h = refl
-owed_by-low n find find' (stage.Lane k) c h = ap (Rattle.mbj_manager.specs.Inside.Held.owed_found c) (h k)
+by-low : (n : ℕ) (find find' : Kind → ℕ → Option End) (s : Stage) (c : CourseState) → ((k : Kind) → find k (suc n) ≡ find' k n)
+    → restored_by s (suc n) find c ≡ restored_by s n find' c
+by-low n find find' stage.Now c h = refl
+by-low n find find' stage.Finished c h = refl
+by-low n find find' (stage.Lane k) c h = ap (back_by c) (h k)
 
-owed-low : (n : ℕ) (find find' : Kind → ℕ → Option End) (cs : List CourseState) → ((k : Kind) (m : ℕ) → find k (suc m) ≡ find' k m)
-    → owed_from (suc n) find cs ≡ owed_from n find' cs
-owed-low n find find' [] h = refl
-owed-low n find find' (c ∷ cs) h =
-    let first : owed_of (suc n) find c ≡ owed_of n find' c
-    = ap (owed_here c.out (owed c)) (owed_by-low n find find' (stage_of c) c (λ k. h k n)) in
-    ap₂ (λ (d : Done) (ds : List Done). d ∷ ds) first (owed-low (suc n) find find' cs h)
+restored-low : (n : ℕ) (find find' : Kind → ℕ → Option End) (cs : List CourseState) → ((k : Kind) (m : ℕ) → find k (suc m) ≡ find' k m)
+    → restored_from (suc n) find cs ≡ restored_from n find' cs
+restored-low n find find' [] h = refl
+restored-low n find find' (c ∷ cs) h =
+    let first : restored (suc n) find c ≡ restored n find' c
+    = ap (restored_here c.out c) (by-low n find find' (stage_of c) c (λ k. h k n)) in
+    ap₂ (λ (x : CourseState) (xs : List CourseState). x ∷ xs) first (restored-low (suc n) find find' cs h)
 
-owed-finished : (n : ℕ) (find : Kind → ℕ → Option End) (out : Option ℕ) (s : Stage) (c : CourseState) → s ≡ stage.Finished
-    → owed_here out (owed c) (owed_by s n find c) ≡ owed c
-owed-finished n find None s c done = refl
-owed-finished n find (Some m) s c done = ap (λ (s : Stage). owed_by s n find c) done
+finished-restored : (n : ℕ) (find : Kind → ℕ → Option End) (out : Option ℕ) (s : Stage) (c : CourseState) → s ≡ stage.Finished
+    → restored_here out c (restored_by s n find c) ≡ c
+finished-restored n find None s c done = refl
+finished-restored n find (Some m) s c done = ap (λ (s : Stage). restored_by s n find c) done
 
 -- ---- places and numbers
 
@@ -189,17 +189,17 @@ module _ (v : Cell) (vs : List Cell) (o : Option Cell) (first : ℕ) (ls : LaneQ
     room = y.room;
   }
 
-  owed-then : owed_from 1 (find_in lines) (map course_in vs) ≡ owed_from 0 (find_in (lines_in r' ls)) (map course_in vs)
-  owed-then =
-      owed-low 0 (find_in lines) (find_in (lines_in r' ls)) (map course_in vs)
+  restored-then : restored_from 1 (find_in lines) (map course_in vs) ≡ restored_from 0 (find_in (lines_in r' ls)) (map course_in vs)
+  restored-then =
+      restored-low 0 (find_in lines) (find_in (lines_in r' ls)) (map course_in vs)
       (λ k n. found-low n (lines k).waiters (are-later k) ∙ sym (ap (λ (l : PlacedQueue). found n l.waiters) (lines-low k)))
 
   abbrev answer : Option Done × ManagerState
   answer = (
-    Some (owed_of 0 (find_in lines) (course_in v)),
+    Some (owed (restored 0 (find_in lines) (course_in v))),
     record {
-      owed = owed_from 1 (find_in lines) (map course_in vs);
-      jobs = map asked (map course_in vs);
+      owed = map owed (restored_from 1 (find_in lines) (map course_in vs));
+      jobs = map asked (restored_from 1 (find_in lines) (map course_in vs));
       opened = (held r [] ls).opened;
       machine = without_earliest left_then (machine_in r [] ls);
     },
@@ -211,9 +211,11 @@ module _ (v : Cell) (vs : List Cell) (o : Option Cell) (first : ℕ) (ls : LaneQ
   given-then : IsGiven r v [] ls capacity
   given-then = record {
     finished = done;
-    result = ap Some (sym (owed-finished 0 (find_in lines) (course_in v).out (stage_of (course_in v)) (course_in v) done))
+    result = ap (λ (c : CourseState). Some (owed c))
+        (sym (finished-restored 0 (find_in lines) (course_in v).out (stage_of (course_in v)) (course_in v) done))
         ∙ sym (ap (λ (a : Option Done × ManagerState). a.0) given-is);
-    is = same-state (sym owed-then) refl refl machine-then ∙ sym (ap (λ (a : Option Done × ManagerState). a.1) given-is);
+    is = same-state (ap (map owed) (sym restored-then)) (ap (map asked) (sym restored-then)) refl machine-then
+        ∙ sym (ap (λ (a : Option Done × ManagerState). a.1) given-is);
     kept = kept-then;
   }
 

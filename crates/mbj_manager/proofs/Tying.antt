@@ -13,13 +13,13 @@ use Rattle.mbj_manager.specs.Inside.Courses.{Follows}
 use Rattle.mbj_manager.specs.Inside.Leaving.{At, Gives, IsAbsent, finishers, numbers, others, returned}
 use Rattle.mbj_manager.specs.Inside.Desk.{Listed, led_all}
 use Rattle.mbj_manager.specs.Inside.PlacedQueue.{PlacedQueue, Waiter, brings_in, led_waiter, placed_queue, pair_rest, rounds_in}
-use Rattle.mbj_manager.specs.Inside.Held.{IsHere, IsTied, find_in, found, owed_from}
+use Rattle.mbj_manager.specs.Inside.Held.{IsHere, IsTied, find_in, found, restored_from}
 use Rattle.mbj_manager.proofs.Changing.{length-changed}
 use Rattle.mbj_manager.proofs.Finishing.{at-changed, listed-changed, zero-or}
 use Rattle.mbj_manager.proofs.Joining.{at-here}
 use Rattle.mbj_manager.proofs.KindLines.{put-case, put-self}
 use Rattle.mbj_manager.proofs.Listing.{absent-listed, joined-listed}
-use Rattle.mbj_manager.proofs.Owing.{back-out, owed-back, owed-enter, owed_from-same}
+use Rattle.mbj_manager.proofs.Restoring.{back-out, restored-back, restored-enter, restored-same}
 use Rattle.mbj_manager.proofs.RingCourses.{at-below}
 
 -- ---- items
@@ -174,25 +174,26 @@ tied-give k front w ws cs agenda lines l y =
       below = All-push (λ n. n < length cs') agenda p (All-weaker (λ n. n < length cs) (λ n. n < length cs') (λ n h. omega arith) agenda y.below) (omega arith);
     }
 
--- what is owed then
-owed-give : (k : Kind) (front : List Waiter) (w : Waiter) (ws : List Waiter) (cs : List CourseState) (agenda : List ℕ) (lines : Kind → PlacedQueue)
+-- the courses with their entries taken back are the same
+restored-give : (k : Kind) (front : List Waiter) (w : Waiter) (ws : List Waiter) (cs : List CourseState) (agenda : List ℕ) (lines : Kind → PlacedQueue)
     → (lines k).waiters ≡ front ++ w ∷ ws → IsTied cs agenda lines
-    → owed_from 0 (find_in lines) cs ≡ owed_from 0 (find_in (put k (placed_queue (front ++ ws) 0 0) lines)) (changed (taken_back w.1.brings) w.0 cs)
-owed-give k front w ws cs agenda lines l y =
+    → restored_from 0 (find_in lines) cs ≡ restored_from 0 (find_in (put k (placed_queue (front ++ ws) 0 0) lines)) (changed (taken_back w.1.brings) w.0 cs)
+restored-give k front w ws cs agenda lines l y =
     let o = middle k cs front w ws (subst (Listed k cs) l (y.listed k)) in
     let new = placed_queue (front ++ ws) 0 0 in
-    owed-back 0 w.0 w.0 (find_in lines) (find_in (put k new lines)) k w.1.brings cs (omega arith)
+    restored-back 0 w.0 w.0 (find_in lines) (find_in (put k new lines)) k w.1.brings cs (omega arith)
     (λ j m h. find-put-other k j m new lines (ap (found m) l ∙ found-other front w ws m h))
     (ap (found w.0) l ∙ found-here front w ws o.absent) o.out
 
-pub owed-join : (k : Kind) (w : Waiter) (r b : ℕ) (cs : List CourseState) (lines : Kind → PlacedQueue) → IsAbsent w.0 (lines k).waiters → At (IsNext k) w.0 cs
-    → At (Gives k w.1.rounds w.1.brings) w.0 cs
-    → owed_from 0 (find_in lines) cs ≡ owed_from 0 (find_in (put k (placed_queue ((lines k).waiters ++ w ∷ []) r b) lines)) (changed handed_out w.0 cs)
-owed-join k w r b cs lines a next gives =
+pub restored-join : {X : Type 0} (f : CourseState → X) (k : Kind) (w : Waiter) (r b : ℕ) (cs : List CourseState) (lines : Kind → PlacedQueue)
+    → IsAbsent w.0 (lines k).waiters → At (IsNext k) w.0 cs → At (λ c. f (taken_back w.1.brings (handed_out c)) ≡ f c) w.0 cs
+    → map f (restored_from 0 (find_in lines) cs)
+    ≡ map f (restored_from 0 (find_in (put k (placed_queue ((lines k).waiters ++ w ∷ []) r b) lines)) (changed handed_out w.0 cs))
+restored-join f k w r b cs lines a next gives =
     let ws = (lines k).waiters in
     let new = placed_queue (ws ++ w ∷ []) r b in
     let n : ws ++ [] ≡ ws = append-nil ws in
-    owed-enter 0 w.0 w.0 (find_in lines) (find_in (put k new lines)) k w.1.rounds w.1.brings cs (omega arith)
+    restored-enter f 0 w.0 w.0 (find_in lines) (find_in (put k new lines)) k w.1.brings cs (omega arith)
     (λ j m h. find-put-other k j m new lines (ap (found m) (sym n) ∙ sym (found-other ws w [] m h)))
     (find-put-self k w.0 new lines ∙ found-here ws w [] (subst (IsAbsent w.0) (sym n) a)) next gives
 
@@ -201,8 +202,8 @@ owed-join k w r b cs lines a next gives =
 pub record Leaves (k : Kind) (cs : List CourseState) (agenda : List ℕ) (lines : Kind → PlacedQueue) (front ws : List Waiter) : Type 0 where
   pub tied : IsTied (returned brings_in cs (finishers rounds_in ws)) (agenda ++ numbers (finishers rounds_in ws))
       (put k (placed_queue (front ++ others rounds_in ws) 0 0) lines)
-  pub owed : owed_from 0 (find_in lines) cs
-      ≡ owed_from 0 (find_in (put k (placed_queue (front ++ others rounds_in ws) 0 0) lines)) (returned brings_in cs (finishers rounds_in ws))
+  pub restored : restored_from 0 (find_in lines) cs
+      ≡ restored_from 0 (find_in (put k (placed_queue (front ++ others rounds_in ws) 0 0) lines)) (returned brings_in cs (finishers rounds_in ws))
 
 -- the lane queues of which the kind's has these jobs
 put-waits : (k : Kind) (l : PlacedQueue) (lines : Kind → PlacedQueue) → (lines k).waiters ≡ l.waiters → (j : Kind) → (lines j).waiters ≡ (put k l lines j).waiters
@@ -230,7 +231,7 @@ leaves-none k cs agenda lines front l y =
     record {
       tied = subst (λ (a : List ℕ). IsTied cs a (put k (placed_queue (front ++ []) 0 0) lines)) (sym (append-nil agenda))
           (tied-same cs agenda lines (put k (placed_queue (front ++ []) 0 0) lines) same y);
-      owed = owed_from-same 0 (find_in lines) (find_in (put k (placed_queue (front ++ []) 0 0) lines)) cs (λ j m h. ap (found m) (same j));
+      restored = restored-same 0 (find_in lines) (find_in (put k (placed_queue (front ++ []) 0 0) lines)) cs (λ j m h. ap (found m) (same j));
     }
 
 leaves-first : (k : Kind) (cs : List CourseState) (agenda : List ℕ) (lines : Kind → PlacedQueue) (front : List Waiter) (w : Waiter) (ws : List Waiter)
@@ -246,17 +247,17 @@ leaves-first k cs agenda lines front w ws l y z i =
     let same = put-twice k end mid lines in
     let tied = tied-same cs2 _ (put k end (put k mid lines)) (put k end lines) same i.tied in
     let tied' = subst (λ (a : List ℕ). IsTied cs2 a (put k end lines)) (append_assoc agenda (w.0 ∷ []) (numbers (finishers rounds_in ws))) tied in
-    let ow = owed-give k front w ws cs agenda lines l y ∙ i.owed
-    ∙ owed_from-same 0 (find_in (put k end (put k mid lines))) (find_in (put k end lines)) cs2 (λ j m h. ap (found m) (same j)) in
-    record { tied = rw z tied'; owed = rw z ow }
+    let ow = restored-give k front w ws cs agenda lines l y ∙ i.restored
+    ∙ restored-same 0 (find_in (put k end (put k mid lines))) (find_in (put k end lines)) cs2 (λ j m h. ap (found m) (same j)) in
+    record { tied = rw z tied'; restored = rw z ow }
 
 leaves-later : (k : Kind) (cs : List CourseState) (agenda : List ℕ) (lines : Kind → PlacedQueue) (front : List Waiter) (w : Waiter) (ws : List Waiter) → eqb w.1.rounds 0 ≡ false
     → Leaves k cs agenda lines (front ++ w ∷ []) ws → Leaves k cs agenda lines front (w ∷ ws)
 leaves-later k cs agenda lines front w ws z i =
     let a = append_assoc front (w ∷ []) (others rounds_in ws) in
     let t = i.tied in
-    let o = i.owed in
-    record { tied = rw z (rw a at t); owed = rw z (rw a at o) }
+    let o = i.restored in
+    record { tied = rw z (rw a at t); restored = rw z (rw a at o) }
 
 pub leaves : (k : Kind) (cs : List CourseState) (agenda : List ℕ) (lines : Kind → PlacedQueue) (front ws : List Waiter) → (lines k).waiters ≡ front ++ ws → IsTied cs agenda lines
     → Leaves k cs agenda lines front ws
@@ -308,8 +309,8 @@ tied-led k m cs agenda lines y =
 pub record Ran (k : Kind) (cs : List CourseState) (agenda : List ℕ) (lines : Kind → PlacedQueue) : Type 0 where
   pub tied : IsTied (returned brings_in cs (finishers rounds_in (led_all (lines k).waiters))) (agenda ++ numbers (finishers rounds_in (led_all (lines k).waiters)))
       (put k (placed_queue (others rounds_in (led_all (lines k).waiters)) 0 0) lines)
-  pub owed : owed_from 0 (find_in lines) cs
-      ≡ owed_from 0 (find_in (put k (placed_queue (others rounds_in (led_all (lines k).waiters)) 0 0) lines))
+  pub restored : restored_from 0 (find_in lines) cs
+      ≡ restored_from 0 (find_in (put k (placed_queue (others rounds_in (led_all (lines k).waiters)) 0 0) lines))
       (returned brings_in cs (finishers rounds_in (led_all (lines k).waiters)))
 
 pub ran-list : (k : Kind) (cs : List CourseState) (agenda : List ℕ) (lines : Kind → PlacedQueue) → IsTied cs agenda lines → Ran k cs agenda lines
@@ -324,6 +325,6 @@ ran-list k cs agenda lines y =
     let cs2 = returned brings_in cs (finishers rounds_in ws) in
     record {
       tied = tied-same cs2 _ (put k end lines') (put k end lines) same i.tied;
-      owed = owed_from-same 0 (find_in lines) (find_in lines') cs (λ j n h. find-put-other k j n l lines (led-found n m (lines k).waiters))
-          ∙ i.owed ∙ owed_from-same 0 (find_in (put k end lines')) (find_in (put k end lines)) cs2 (λ j n h. ap (found n) (same j));
+      restored = restored-same 0 (find_in lines) (find_in lines') cs (λ j n h. find-put-other k j n l lines (led-found n m (lines k).waiters))
+          ∙ i.restored ∙ restored-same 0 (find_in (put k end lines')) (find_in (put k end lines)) cs2 (λ j n h. ap (found n) (same j));
     }

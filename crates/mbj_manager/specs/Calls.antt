@@ -4,7 +4,8 @@ use Rattle.mbj_types.specs.declared.job.Job.{Job}
 use Rattle.mbj_types.specs.declared.done.Done.{Done}
 use Rattle.mbj_types.specs.Result.{result_of}
 use Rattle.mbj_ring.specs.declared.ring.TheConstants.{CELLS}
-use Rattle.mbj_manager.specs.State.{ManagerState, new_manager, lent, with_open, after_get_completed, after_submit, after_flush, without_packet}
+use Rattle.mbj_stage.specs.Handing.{without_packet}
+use Rattle.mbj_manager.specs.State.{ManagerState, new_manager, lent, with_open, after_get_completed, after_submit, after_flush}
 
 -- a call, or a write of the job that is lent
 pub data Call : Type 0 where

@@ -4,10 +4,10 @@ use Rattle.mbj_types.specs.declared.kind.Kind.{Kind}
 use Rattle.mbj_stage.specs.declared.stage.Step.{Step}
 use Rattle.mbj_stage.specs.Steps.{steps_of}
 use Rattle.mbj_stage.specs.CourseState.{CourseState}
-use Rattle.mbj_stage.specs.Handing.{End, IsOut, owed_with}
+use Rattle.mbj_stage.specs.Handing.{End, IsOut, owed_with, taken_back, without_packet}
 use Rattle.mbj_manager.specs.Machine.Stages.{pending}
 use Rattle.mbj_manager.specs.Machine.Queues.{Waiting}
-use Rattle.mbj_manager.specs.State.{ManagerState, without_packet}
+use Rattle.mbj_manager.specs.State.{ManagerState}
 
 -- the steps that are left of a course are its job's last ones
 pub record HasJobSteps (c : CourseState) : Type 0 where
@@ -19,8 +19,8 @@ pub record IsEntryOf (k : Kind) (h : ManagerState) (e : End) (w : Waiting) : Typ
   -- the job's course, which has the entry out
   pub course : CourseState
   pub out : IsOut k e course
-  -- it is the job's own: it has the job's cipher, authentication, keys, IV, data and ranges
-  pub job : slice_get h.jobs w.number ≡ Some (without_packet course.job)
+  -- it is the job's own: once the entry is back it has the job's cipher, authentication, keys, IV, data and ranges
+  pub job : slice_get h.jobs w.number ≡ Some (without_packet (taken_back e course).job)
   -- and does the job's steps
   pub steps : HasJobSteps course
   -- it has the stages left that the machine has for the job

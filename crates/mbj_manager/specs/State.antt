@@ -6,14 +6,11 @@ use Rattle.mbj_types.specs.Blank.{blank}
 use Rattle.mbj_types.specs.Result.{result_of}
 use Rattle.mbj_ring.specs.declared.ring.TheConstants.{CELLS}
 use Rattle.mbj_stage.specs.CourseState.{begun}
+use Rattle.mbj_stage.specs.Handing.{without_packet}
 use Rattle.mbj_manager.specs.Machine.Stages.{Pending, pending}
 use Rattle.mbj_manager.specs.Machine.Queues.{Waiting, Queue, Machine, idle_queue, queue_for}
 use Rattle.mbj_manager.specs.declared.lane.Cause.TheVariants as cause
 use Rattle.mbj_manager.specs.Machine.Course.{course, flushed}
-
--- what a job asks for, which is all of it but its packet
-abbrev pub without_packet : Job → Job
-without_packet j = record j { packet = [] }
 
 pub record ManagerState : Type 0 where
   -- the results of the jobs that are submitted and not given back, in the order of submission

@@ -12,6 +12,7 @@ use crate::cell::Cell;
 use crate::lane::{Cause, enter, run_within};
 use crate::lane_queue::LaneQueue;
 use mbj_cbc::CbcKernel;
+use mbj_ccm::CcmKernel;
 use mbj_cmac::CmacKernel;
 use mbj_hmac::{Hmac1Kernel, Hmac256Kernel, Hmac512Kernel};
 use mbj_ring::Ring;
@@ -29,6 +30,9 @@ pub struct LaneQueues {
     pub hmac_sha1: LaneQueue<Hmac1Kernel>,
     pub hmac_sha256: LaneQueue<Hmac256Kernel>,
     pub hmac_sha512: LaneQueue<Hmac512Kernel>,
+    pub ccm128: LaneQueue<CcmKernel<10>>,
+    pub ccm192: LaneQueue<CcmKernel<12>>,
+    pub ccm256: LaneQueue<CcmKernel<14>>,
     /// How many runs there were within a flush, modulo 2^64.
     pub flush_runs: u64,
 }
@@ -45,6 +49,9 @@ macro_rules! at_kind {
             Kind::HmacSha1 => $work!(hmac_sha1),
             Kind::HmacSha256 => $work!(hmac_sha256),
             Kind::HmacSha512 => $work!(hmac_sha512),
+            Kind::Ccm128 => $work!(ccm128),
+            Kind::Ccm192 => $work!(ccm192),
+            Kind::Ccm256 => $work!(ccm256),
         }
     };
 }
@@ -63,6 +70,9 @@ impl LaneQueues {
             hmac_sha1: LaneQueue::new(alloc)?,
             hmac_sha256: LaneQueue::new(alloc)?,
             hmac_sha512: LaneQueue::new(alloc)?,
+            ccm128: LaneQueue::new(alloc)?,
+            ccm192: LaneQueue::new(alloc)?,
+            ccm256: LaneQueue::new(alloc)?,
             flush_runs: 0,
         })
     }

@@ -6,6 +6,7 @@ ghost use Rattle.mbj_manager.specs.Inside.LaneQueues.{placed_in};
 use crate::lane_queue::LaneQueue;
 use crate::lane_queues::LaneQueues;
 use mbj_cbc::CbcKernel;
+use mbj_ccm::CcmKernel;
 use mbj_cmac::CmacKernel;
 use mbj_hmac::{Hmac1Kernel, Hmac256Kernel, Hmac512Kernel};
 use mbj_stage::Feed;
@@ -62,5 +63,23 @@ impl Queued for Hmac256Kernel {
 impl Queued for Hmac512Kernel {
     fn queue(lists: &LaneQueues) -> &LaneQueue<Self> {
         &lists.hmac_sha512
+    }
+}
+
+impl Queued for CcmKernel<10> {
+    fn queue(lists: &LaneQueues) -> &LaneQueue<Self> {
+        &lists.ccm128
+    }
+}
+
+impl Queued for CcmKernel<12> {
+    fn queue(lists: &LaneQueues) -> &LaneQueue<Self> {
+        &lists.ccm192
+    }
+}
+
+impl Queued for CcmKernel<14> {
+    fn queue(lists: &LaneQueues) -> &LaneQueue<Self> {
+        &lists.ccm256
     }
 }

@@ -4,8 +4,9 @@ use Rattle.mbj_types.specs.declared.job.Job.{Job}
 use Rattle.mbj_types.specs.declared.kind.Kind.{Kind}
 use Rattle.mbj_types.specs.Result.{result_of}
 use Rattle.mbj_stage.specs.CourseState.{begun}
+use Rattle.mbj_stage.specs.Handing.{without_packet}
 use Rattle.mbj_manager.specs.Machine.Stages.{Pending, at_once, in_lanes, pending}
-use Rattle.mbj_manager.specs.State.{ManagerState, without_packet}
+use Rattle.mbj_manager.specs.State.{ManagerState}
 
 -- the job that was open goes last, and stands in the agenda
 abbrev pub added : Option Job → ManagerState → ManagerState

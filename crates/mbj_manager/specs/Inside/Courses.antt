@@ -4,11 +4,11 @@ use Rattle.mbj_types.specs.declared.job.Job.{Job}
 use Rattle.mbj_stage.specs.CourseState.{CourseState, begun, stage_of, owed}
 use Rattle.mbj_stage.specs.declared.stage.Stage.{Stage}
 use Rattle.mbj_stage.specs.declared.stage.Stage.TheVariants as stage
+use Rattle.mbj_stage.specs.Handing.{without_packet}
 use Rattle.mbj_ring.specs.declared.ring.TheConstants.{CELLS}
 use Rattle.mbj_ring.specs.Ring.{RingState}
 use Rattle.mbj_manager.specs.Machine.Stages.{pending}
 use Rattle.mbj_manager.specs.Machine.Course.{in_lanes_next}
-use Rattle.mbj_manager.specs.State.{without_packet}
 use Rattle.mbj_manager.specs.Entries.{HasJobSteps}
 use Rattle.mbj_manager.specs.declared.cell.Cell.{Cell}
 use Rattle.mbj_manager.specs.declared.cell.Cell.TheVariants as cell

@@ -2,10 +2,9 @@
 use Rattle.std.specs.Prelude.{◌≡◌, ℕ, ◌+◌, ◌-◌, ◌<◌, ◌≤◌, ◌==◌, suc, List, [], ◌∷◌, length, map, sum_by, All, Option, Some, None, option_map, if◌then◌else◌}
 use Rattle.mbj_types.specs.Kinds.{all_kinds, lanes_of}
 use Rattle.mbj_types.specs.declared.kind.Kind.{Kind}
-use Rattle.mbj_types.specs.declared.done.Done.{Done}
 use Rattle.mbj_ring.specs.Ring.{RingState}
 use Rattle.mbj_stage.specs.CourseState.{CourseState, owed, stage_of}
-use Rattle.mbj_stage.specs.Handing.{End, owed_with}
+use Rattle.mbj_stage.specs.Handing.{End, taken_back}
 use Rattle.mbj_stage.specs.declared.stage.Stage.{Stage}
 use Rattle.mbj_stage.specs.declared.stage.Stage.TheVariants as stage
 use Rattle.mbj_manager.specs.Machine.Stages.{pending}
@@ -32,34 +31,35 @@ abbrev pub machine_by : List CourseState → List ℕ → (Kind → PlacedQueue)
 machine_by cs agenda lines flush_runs =
     record { left = map pending cs; lanes = λ k. lane_seen (lines k); agenda = agenda; flush_runs = flush_runs }
 
--- ---- what is owed
+-- ---- what is owed, and for which jobs
 
 -- the end of the entry of the job n in a lane queue
 abbrev pub found : ℕ → List Waiter → Option End
 found n [] = None
 found n (w ∷ ws) = if n == w.0 then Some w.1.brings else found n ws
 
-abbrev pub owed_found : CourseState → Option End → Done
-owed_found c None = owed c
-owed_found c (Some e) = owed_with e c
+-- the course with its entry taken back as it ends, where it is found
+abbrev pub back_by : CourseState → Option End → CourseState
+back_by c None = c
+back_by c (Some e) = taken_back e c
 
-abbrev pub owed_by : Stage → ℕ → (Kind → ℕ → Option End) → CourseState → Done
-owed_by stage.Now n find c = owed c
-owed_by stage.Finished n find c = owed c
-owed_by (stage.Lane k) n find c = owed_found c (find k n)
+abbrev pub restored_by : Stage → ℕ → (Kind → ℕ → Option End) → CourseState → CourseState
+restored_by stage.Now n find c = c
+restored_by stage.Finished n find c = c
+restored_by (stage.Lane k) n find c = back_by c (find k n)
 
-abbrev pub owed_here : Option ℕ → Done → Done → Done
-owed_here None d out = d
-owed_here (Some n) d out = out
+abbrev pub restored_here : Option ℕ → CourseState → CourseState → CourseState
+restored_here None c back = c
+restored_here (Some n) c back = back
 
--- what the course of the job n owes: while its packet is out, that is by the end of its entry
-abbrev pub owed_of : ℕ → (Kind → ℕ → Option End) → CourseState → Done
-owed_of n find c = owed_here c.out (owed c) (owed_by (stage_of c) n find c)
+-- the course of the job n with all that is its own: while its packet is out, with its entry taken back
+abbrev pub restored : ℕ → (Kind → ℕ → Option End) → CourseState → CourseState
+restored n find c = restored_here c.out c (restored_by (stage_of c) n find c)
 
--- what courses owe, the first of which is of the job n
-abbrev pub owed_from : ℕ → (Kind → ℕ → Option End) → List CourseState → List Done
-owed_from n find [] = []
-owed_from n find (c ∷ cs) = owed_of n find c ∷ owed_from (suc n) find cs
+-- courses so, the first of which is of the job n
+abbrev pub restored_from : ℕ → (Kind → ℕ → Option End) → List CourseState → List CourseState
+restored_from n find [] = []
+restored_from n find (c ∷ cs) = restored n find c ∷ restored_from (suc n) find cs
 
 abbrev pub find_in : (Kind → PlacedQueue) → Kind → ℕ → Option End
 find_in lines k n = found n (lines k).waiters
@@ -72,10 +72,13 @@ lines_in r ls k = numbered_queue (ring_number r) (placed_in k ls)
 abbrev pub machine_in : RingState Cell → List ℕ → LaneQueues → Machine
 machine_in r agenda ls = machine_by (courses r) (map (ring_number r) agenda) (lines_in r ls) ls.flush_runs
 
+abbrev pub restored_in : RingState Cell → LaneQueues → List CourseState
+restored_in r ls = restored_from 0 (find_in (lines_in r ls)) (courses r)
+
 abbrev pub held : RingState Cell → List ℕ → LaneQueues → ManagerState
 held r agenda ls = record {
-  owed = owed_from 0 (find_in (lines_in r ls)) (courses r);
-  jobs = map asked (courses r);
+  owed = map owed (restored_in r ls);
+  jobs = map asked (restored_in r ls);
   opened = option_map job_in r.opened;
   machine = machine_in r agenda ls;
 }

@@ -17,6 +17,9 @@ placed_in kind.Cmac256 ls = ls.cmac256
 placed_in kind.HmacSha1 ls = ls.hmac_sha1
 placed_in kind.HmacSha256 ls = ls.hmac_sha256
 placed_in kind.HmacSha512 ls = ls.hmac_sha512
+placed_in kind.Ccm128 ls = ls.ccm128
+placed_in kind.Ccm192 ls = ls.ccm192
+placed_in kind.Ccm256 ls = ls.ccm256
 
 -- with another lane queue of a kind, and another count
 abbrev pub with_placed : Kind → PlacedQueue → ℕ → LaneQueues → LaneQueues
@@ -28,6 +31,9 @@ with_placed kind.Cmac256 l n ls = record ls { cmac256 = l; flush_runs = n }
 with_placed kind.HmacSha1 l n ls = record ls { hmac_sha1 = l; flush_runs = n }
 with_placed kind.HmacSha256 l n ls = record ls { hmac_sha256 = l; flush_runs = n }
 with_placed kind.HmacSha512 l n ls = record ls { hmac_sha512 = l; flush_runs = n }
+with_placed kind.Ccm128 l n ls = record ls { ccm128 = l; flush_runs = n }
+with_placed kind.Ccm192 l n ls = record ls { ccm192 = l; flush_runs = n }
+with_placed kind.Ccm256 l n ls = record ls { ccm256 = l; flush_runs = n }
 
 -- lane queues with nobody in them, and counts of 0
 abbrev pub no_queues : LaneQueues
@@ -40,6 +46,9 @@ no_queues = record {
   hmac_sha1 = no_queue;
   hmac_sha256 = no_queue;
   hmac_sha512 = no_queue;
+  ccm128 = no_queue;
+  ccm192 = no_queue;
+  ccm256 = no_queue;
   flush_runs = 0;
 }
 

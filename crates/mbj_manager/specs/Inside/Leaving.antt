@@ -2,8 +2,8 @@
 use Rattle.std.specs.Prelude.{◌≡◌, ◌≢◌, ℕ, ◌==◌, zero, suc, List, [], ◌∷◌, length, Some, if◌then◌else◌}
 use Rattle.mbj_types.specs.Rounds.{rounds_of}
 use Rattle.mbj_types.specs.declared.kind.Kind.{Kind}
-use Rattle.mbj_stage.specs.CourseState.{CourseState, owed}
-use Rattle.mbj_stage.specs.Handing.{End, handed_out, owed_with, taken_back}
+use Rattle.mbj_stage.specs.CourseState.{CourseState, owed, sized}
+use Rattle.mbj_stage.specs.Handing.{End, IsOut, handed_out, owed_with, taken_back, without_packet}
 use Rattle.mbj_manager.specs.Machine.Queues.{changed}
 
 -- there is an item at n, and it has P
@@ -36,6 +36,7 @@ IsAbsent n (p ∷ ps) = (p.0 ≢ n) × IsAbsent n ps
 
 -- an entry with this rest and end goes out of the course
 pub record Gives (k : Kind) (rest : ℕ) (e : End) (c : CourseState) : Type 0 where
-  pub rest_is : rest ≡ rounds_of k c.job
+  pub rest_is : rest ≡ rounds_of k (sized c.lengths c.job)
   pub owed_is : owed_with e (handed_out c) ≡ owed c
-  pub length_is : (handed_out c).out ≡ Some (length e.packet)
+  pub asked_is : without_packet (taken_back e (handed_out c)).job ≡ without_packet c.job
+  pub is_out : IsOut k e (handed_out c)
