@@ -13,10 +13,10 @@ use Rattle.mbj_types.specs.declared.reason.Reason.{Reason}
 use Rattle.mbj_types.specs.Auths.{class_of}
 use Rattle.mbj_types.specs.Aes.{aes, aes_inverse}
 use Rattle.mbj_types.specs.Modes.{cbc_text, ctr_text, uncbc_text}
-use Rattle.mbj_types.specs.Result.{accepted, cipher_range, ciphered, ciphered_by, gcm_of, refused, result_of, with_cipher_range}
+use Rattle.mbj_types.specs.Result.{accepted, cipher_range, ciphered, ciphered_by, gcm_of, ccm_of, refused, result_of, with_cipher_range}
 use Rattle.mbj_types.specs.Verdict.{has_hash_range, is_null_cipher, verdict}
 use Rattle.mbj_args.proofs.Accepted as table
-use Rattle.mbj_stage.proofs.Lengths.{length-ciphered}
+use Rattle.mbj_stage.proofs.PacketLengths.{length-ciphered}
 use Rattle.mbj_c.specs.declared.job.RawJob.{RawJob}
 use Rattle.mbj_c.specs.declared.range.CipherRange.{CipherRange}
 use Rattle.mbj_c.specs.declared.words.Words.{Words}
@@ -67,6 +67,7 @@ written-in-range cipher.Cbc Enc j inside same = replaced-in-range j (cbc_text (a
 written-in-range cipher.Cbc Dec j inside same = replaced-in-range j (uncbc_text (aes_inverse j.key) j.iv (cipher_range j j.packet)) (inside refl) same
 written-in-range cipher.Ctr d j inside same = replaced-in-range j (ctr_text (aes j.key) j.iv (cipher_range j j.packet)) (inside refl) same
 written-in-range cipher.Gcm d j inside same = replaced-in-range j (gcm_of j j.packet).0 (inside refl) same
+written-in-range cipher.Ccm d j inside same = replaced-in-range j (ccm_of j j.packet).0 (inside refl) same
 
 by-verdict : (reason : Option Reason) (j : Job) → verdict j ≡ reason
     → IsInRange (range_by reason j) j.packet (option_map_or (refused j) reason (accepted j)).packet

@@ -13,7 +13,7 @@ use Rattle.mbj_types.specs.Verdict.{verdict, is_null_cipher}
 use Rattle.mbj_args.proofs.Accepted as table
 use Rattle.mbj_ring.specs.declared.ring.TheConstants.{CELLS}
 use Rattle.mbj_ring.specs.Ring.{RingState}
-use Rattle.mbj_stage.proofs.Lengths.{length-result_of}
+use Rattle.mbj_stage.proofs.PacketLengths.{length-result_of}
 use Rattle.mbj_manager.specs.Machine.Stages.{Pending}
 use Rattle.mbj_manager.specs.State.{ManagerState, entered, given_at, with_job}
 use Rattle.mbj_manager.specs.Machine.Course.{flushed}
@@ -112,6 +112,7 @@ written-within cipher.Null j n inside = omega arith
 written-within cipher.Cbc j n inside = inside refl
 written-within cipher.Ctr j n inside = inside refl
 written-within cipher.Gcm j n inside = inside refl
+written-within cipher.Ccm j n inside = inside refl
 
 range-within : (reason : Option Reason) (j : Job) → verdict j ≡ reason
     → (range_by reason j).off + (range_by reason j).len ≤ length j.packet

@@ -16,6 +16,7 @@ written_range cipher.Null j = no_range
 written_range cipher.Cbc j = record { off = j.cipher_off; len = j.cipher_len }
 written_range cipher.Ctr j = record { off = j.cipher_off; len = j.cipher_len }
 written_range cipher.Gcm j = record { off = j.cipher_off; len = j.cipher_len }
+written_range cipher.Ccm j = record { off = j.cipher_off; len = j.cipher_len }
 
 -- a job that is refused gives no byte back
 abbrev pub range_by : Option Reason → Job → CipherRange

@@ -29,7 +29,7 @@ impl CipherRange {
         }
         match job.cipher {
             Cipher::Null => CipherRange::empty(),
-            Cipher::Cbc | Cipher::Ctr | Cipher::Gcm => CipherRange {
+            Cipher::Cbc | Cipher::Ctr | Cipher::Gcm | Cipher::Ccm => CipherRange {
                 off: job.cipher_off,
                 len: job.cipher_len,
             },

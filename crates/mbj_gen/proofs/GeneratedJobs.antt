@@ -6,7 +6,7 @@ use Rattle.mbj_types.specs.Auths.{class_of}
 use Rattle.mbj_types.specs.Result.{result_of}
 use Rattle.mbj_types.specs.declared.job.Job.{Job}
 use Rattle.mbj_types.specs.declared.done.Done.{Done}
-use Rattle.mbj_stage.proofs.Lengths.{length-result_of}
+use Rattle.mbj_stage.proofs.PacketLengths.{length-result_of}
 use Rattle.mbj_gen.proofs.TagLengths.{length-tag}
 use Rattle.mbj_text.specs.Line.{done_line}
 use Rattle.mbj_gen.specs.Generator.{with_auth_part, bare, byte, with_cipher_part, draws, job}

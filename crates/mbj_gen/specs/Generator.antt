@@ -53,19 +53,21 @@ recipes =
 abbrev pub recipe_of : ℕ → Cipher × Auth × ℕ
 recipe_of b = get_or recipes (b % 16) (cipher.Null, auth.Null, 1)
 
--- ---- the parts of a job whose packet has n bytes
+-- ---- the parts of a job whose packet has n bytes; no recipe has CCM, whose parts would be as long as those of GCM
 
 abbrev pub iv_length : Cipher → ℕ → ℕ × ℕ
 iv_length cipher.Null x = (0, x)
 iv_length cipher.Cbc x = (16, x)
 iv_length cipher.Ctr x = let b = byte x in (if b.0 % 2 == 0 then 16 else 12, b.1)
 iv_length cipher.Gcm x = (12, x)
+iv_length cipher.Ccm x = (12, x)
 
 abbrev pub cipher_length : Cipher → ℕ → ℕ → ℕ × ℕ
 cipher_length cipher.Null n x = (0, x)
 cipher_length cipher.Cbc n x = (n, x)
 cipher_length cipher.Ctr n x = drawn_length n x
 cipher_length cipher.Gcm n x = drawn_length n x
+cipher_length cipher.Ccm n x = drawn_length n x
 
 -- a key of 16, 24 or 32 bytes, an IV and a range
 unfoldable pub keyed : ℕ → Job → ℕ → Job × ℕ
@@ -82,6 +84,7 @@ with_cipher_part cipher.Null n j x = (j, x)
 with_cipher_part cipher.Cbc n j x = keyed n j x
 with_cipher_part cipher.Ctr n j x = keyed n j x
 with_cipher_part cipher.Gcm n j x = keyed n j x
+with_cipher_part cipher.Ccm n j x = keyed n j x
 
 -- a key of k bytes and a range
 unfoldable pub with_hash_part : ℕ → ℕ → Job → ℕ → Job × ℕ
@@ -103,6 +106,7 @@ with_auth_part class.Null n j x = (j, x)
 with_auth_part (class.Hmac h) n j x = hmac_keyed n j x
 with_auth_part (class.Cmac k) n j x = with_hash_part (cmac_key_bytes k) n j x
 with_auth_part class.Gcm n j x = with_aad j x
+with_auth_part class.Ccm n j x = with_aad j x
 
 -- ---- the job
 

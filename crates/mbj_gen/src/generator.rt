@@ -93,7 +93,7 @@ fn iv_length(draws: &mut Draws, cipher: Cipher) -> usize
                 SHORT_IV_BYTES
             }
         }
-        Cipher::Gcm => SHORT_IV_BYTES,
+        Cipher::Gcm | Cipher::Ccm => SHORT_IV_BYTES,
     }
 }
 
@@ -106,7 +106,7 @@ fn cipher_length(draws: &mut Draws, cipher: Cipher, length: u32) -> u32
     match cipher {
         Cipher::Null => 0,
         Cipher::Cbc => length,
-        Cipher::Ctr | Cipher::Gcm => draws.shortened(length),
+        Cipher::Ctr | Cipher::Gcm | Cipher::Ccm => draws.shortened(length),
     }
 }
 
@@ -138,7 +138,9 @@ fn draw_cipher(
 {
     match job.cipher {
         Cipher::Null => Ok(()),
-        Cipher::Cbc | Cipher::Ctr | Cipher::Gcm => draw_key(draws, alloc, length, job),
+        Cipher::Cbc | Cipher::Ctr | Cipher::Gcm | Cipher::Ccm => {
+            draw_key(draws, alloc, length, job)
+        }
     }
 }
 
@@ -160,7 +162,7 @@ fn draw_hash(
     Ok(())
 }
 
-/// Draws the additional authenticated data of a job with GCM.
+/// Draws the additional authenticated data of a job with GCM or CCM.
 fn draw_aad(draws: &mut Draws, alloc: Global, job: &mut Job) -> Result<(), AllocError>
     ensures { OnOk result ((job.new ≡ (with_aad job.old draws.old.state).0)
         × (draws.new.state ≡ (with_aad job.old draws.old.state).1)) }
@@ -190,7 +192,7 @@ fn draw_auth(draws: &mut Draws, alloc: Global, length: u32, job: &mut Job) -> Re
         AuthClass::Null => Ok(()),
         AuthClass::Hmac(_) => draw_hmac(draws, alloc, length, job),
         AuthClass::Cmac(key) => draw_hash(draws, alloc, key.bytes(), length, job),
-        AuthClass::Gcm => draw_aad(draws, alloc, job),
+        AuthClass::Gcm | AuthClass::Ccm => draw_aad(draws, alloc, job),
     }
 }
 

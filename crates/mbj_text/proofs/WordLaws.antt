@@ -51,6 +51,7 @@ cipher_back t cipher.Null e = ap cipher_of e
 cipher_back t cipher.Cbc e = ap cipher_of e
 cipher_back t cipher.Ctr e = ap cipher_of e
 cipher_back t cipher.Gcm e = ap cipher_of e
+cipher_back t cipher.Ccm e = ap cipher_of e
 
 -- what is read is spelled
 pub auth_read : (t : List ℕ) (a : Auth) → auth_of t ≡ Some a → t ≡ auth_word a
@@ -68,6 +69,7 @@ auth_back t auth.HmacSha512 e = ap auth_of e
 auth_back t auth.Cmac128 e = ap auth_of e
 auth_back t auth.Cmac256 e = ap auth_of e
 auth_back t auth.Gcm e = ap auth_of e
+auth_back t auth.Ccm e = ap auth_of e
 
 -- what is read is spelled
 pub dir_read : (t : List ℕ) (d : Dir) → dir_of t ≡ Some d → t ≡ dir_word d

@@ -16,6 +16,7 @@ cipher_word cipher.Null = codes "null"
 cipher_word cipher.Cbc = codes "cbc"
 cipher_word cipher.Ctr = codes "ctr"
 cipher_word cipher.Gcm = codes "gcm"
+cipher_word cipher.Ccm = codes "ccm"
 
 abbrev pub dir_word : Dir → List ℕ
 dir_word Enc = codes "enc"
@@ -35,6 +36,7 @@ auth_word auth.HmacSha512 = codes "hmac-sha512"
 auth_word auth.Cmac128 = codes "cmac128"
 auth_word auth.Cmac256 = codes "cmac256"
 auth_word auth.Gcm = codes "gcm"
+auth_word auth.Ccm = codes "ccm"
 
 abbrev pub verb_word : Verb → List ℕ
 verb_word Post = codes "post"

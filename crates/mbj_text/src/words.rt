@@ -8,11 +8,12 @@ use mbj_types::{Auth, Cipher, Dir, Order};
 use std::alloc::{AllocError, Global};
 
 /// The ciphers, each with its word.
-const CIPHERS: [(&[u8], Cipher); 4] = [
+const CIPHERS: [(&[u8], Cipher); 5] = [
     (b"null", Cipher::Null),
     (b"cbc", Cipher::Cbc),
     (b"ctr", Cipher::Ctr),
     (b"gcm", Cipher::Gcm),
+    (b"ccm", Cipher::Ccm),
 ];
 
 const DIRS: [(&[u8], Dir); 2] = [(b"enc", Dir::Enc), (b"dec", Dir::Dec)];
@@ -20,7 +21,7 @@ const DIRS: [(&[u8], Dir); 2] = [(b"enc", Dir::Enc), (b"dec", Dir::Dec)];
 const ORDERS: [(&[u8], Order); 2] = [(b"ch", Order::CipherHash), (b"hc", Order::HashCipher)];
 
 /// The authentications, each with its word.
-const AUTHS: [(&[u8], Auth); 9] = [
+const AUTHS: [(&[u8], Auth); 10] = [
     (b"null", Auth::Null),
     (b"hmac-sha1", Auth::HmacSha1),
     (b"hmac-sha224", Auth::HmacSha224),
@@ -30,6 +31,7 @@ const AUTHS: [(&[u8], Auth); 9] = [
     (b"cmac128", Auth::Cmac128),
     (b"cmac256", Auth::Cmac256),
     (b"gcm", Auth::Gcm),
+    (b"ccm", Auth::Ccm),
 ];
 
 const VERBS: [(&[u8], Verb); 4] = [

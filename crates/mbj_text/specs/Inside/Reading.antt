@@ -43,11 +43,12 @@ rows_of word values = map (λ v. (word v, v)) values
 
 -- all ciphers, all authentications and all verbs
 abbrev pub ciphers : List Cipher
-ciphers = cipher.Null ∷ cipher.Cbc ∷ cipher.Ctr ∷ cipher.Gcm ∷ []
+ciphers = cipher.Null ∷ cipher.Cbc ∷ cipher.Ctr ∷ cipher.Gcm ∷ cipher.Ccm ∷ []
 
 abbrev pub auths : List Auth
 auths =
-    auth.Null ∷ auth.HmacSha1 ∷ auth.HmacSha224 ∷ auth.HmacSha256 ∷ auth.HmacSha384 ∷ auth.HmacSha512 ∷ auth.Cmac128 ∷ auth.Cmac256 ∷ auth.Gcm ∷ []
+    auth.Null ∷ auth.HmacSha1 ∷ auth.HmacSha224 ∷ auth.HmacSha256 ∷ auth.HmacSha384 ∷ auth.HmacSha512
+    ∷ auth.Cmac128 ∷ auth.Cmac256 ∷ auth.Gcm ∷ auth.Ccm ∷ []
 
 abbrev pub verbs : List Verb
 verbs = verb.Post ∷ verb.Claim ∷ verb.Flush ∷ verb.Collect ∷ []
