@@ -1,7 +1,7 @@
 //! Jobs through one manager, from its next cell to their results, beside full lists of the same entries and the plain
 //! functions on the same packets.
 use crate::clock::{fastest, nanos_since};
-use crate::kinds::{HMAC_KEY, IV, aes_key};
+use crate::kinds::{CCM_TAG_BYTES, HMAC_KEY, IV, MOST_BYTES, NONCE_BYTES, aes_key};
 use crate::line::{hundredths, megabytes, print_bytes, print_length, print_ratio};
 use crate::lists::{LENGTHS, nanos_of_packets};
 use crate::making::{null_job, packets, put_auth, put_cipher};
@@ -12,10 +12,11 @@ use std::alloc::{AllocError, Global};
 use std::io::{self, Print};
 use std::time::{Clock, Instant};
 
-/// The jobs of a pass, and those of each kind where there are jobs of all.
-const JOBS: u32 = SHARE as u32 * 8;
+/// The jobs of a pass.
+const JOBS: u32 = 512;
 
-pub const SHARE: usize = 64;
+/// Those of each kind where there are jobs of all.
+pub const SHARE: usize = JOBS as usize / Kind::ALL.len();
 
 /// The passes of which the fastest counts.
 const PASSES: u32 = 40;
@@ -29,6 +30,8 @@ pub enum Work {
     One(Kind),
     /// Those of all kinds by turns.
     Mix,
+    /// CTR, and CMAC with a key of 128 bits: what CCM does, by two keys.
+    CtrCmac,
 }
 
 /// Makes a job over a packet one that waits for the lanes of a kind.
@@ -42,18 +45,37 @@ fn prepare(alloc: Global, job: &mut Job, kind: Kind) -> Result<(), AllocError> {
         Kind::HmacSha1 => put_auth(alloc, job, Auth::HmacSha1, &HMAC_KEY, 20),
         Kind::HmacSha256 => put_auth(alloc, job, Auth::HmacSha256, &HMAC_KEY, 32),
         Kind::HmacSha512 => put_auth(alloc, job, Auth::HmacSha512, &HMAC_KEY, 64),
+        Kind::Ccm128 => put_ccm(alloc, job, aes_key(10)),
+        Kind::Ccm192 => put_ccm(alloc, job, aes_key(12)),
+        Kind::Ccm256 => put_ccm(alloc, job, aes_key(14)),
     }
+}
+
+/// Makes a job over a packet one of CCM over the whole packet, without additional data.
+fn put_ccm(alloc: Global, job: &mut Job, key: &[u8]) -> Result<(), AllocError> {
+    put_cipher(alloc, job, Cipher::Ccm, key, &IV[..NONCE_BYTES])?;
+    job.cipher_len = job.packet.as_slice().len().min(MOST_BYTES) as u32;
+    job.auth = Auth::Ccm;
+    job.tag_len = CCM_TAG_BYTES;
+    Ok(())
+}
+
+/// Makes a job over a packet one of CTR and CMAC over the whole packet.
+fn put_ctr_cmac(alloc: Global, job: &mut Job) -> Result<(), AllocError> {
+    put_cipher(alloc, job, Cipher::Ctr, aes_key(10), &IV)?;
+    job.cipher_len = job.packet.as_slice().len().min(MOST_BYTES) as u32;
+    put_auth(alloc, job, Auth::Cmac128, aes_key(10), 16)
 }
 
 /// Job `number` of a pass.
 fn job(alloc: Global, work: Work, number: usize, len: usize) -> Result<Job, AllocError> {
-    let kind = match work {
-        Work::Null => return null_job(alloc, len),
-        Work::One(kind) => kind,
-        Work::Mix => Kind::ALL[number % Kind::ALL.len()],
-    };
     let mut job = null_job(alloc, len)?;
-    prepare(alloc, &mut job, kind)?;
+    match work {
+        Work::Null => {}
+        Work::One(kind) => prepare(alloc, &mut job, kind)?,
+        Work::Mix => prepare(alloc, &mut job, Kind::ALL[number % Kind::ALL.len()])?,
+        Work::CtrCmac => put_ctr_cmac(alloc, &mut job)?,
+    }
     Ok(job)
 }
 
@@ -167,6 +189,33 @@ fn print_work(
     Ok(())
 }
 
+/// Prints how fast jobs of a work are beside those of another one over the same bytes, which take turns.
+fn print_beside(
+    rt: &(impl Print + Clock),
+    alloc: Global,
+    names: [&str; 2],
+    works: [Work; 2],
+) -> io::Result<()> {
+    for i in 0..LENGTHS.len() {
+        let mut manager = Manager::new(alloc)?;
+        let [first, second]: [u128; 2] = fastest(PASSES, |turn| {
+            let work = if turn == 0 { works[0] } else { works[1] };
+            nanos_of_jobs(rt, alloc, &mut manager, work, LENGTHS[i])
+        })?;
+        print!(rt; "jobs, ")?;
+        print_length(rt, names[0], 11, LENGTHS[i])?;
+        print!(rt;
+            " {:>7} ns, {} {:>7} ns ",
+            first / JOBS as u128,
+            names[1],
+            second / JOBS as u128
+        )?;
+        print_ratio(rt, hundredths(second, first), 2)?;
+        println!(rt)?;
+    }
+    Ok(())
+}
+
 /// Prints how fast jobs go through a manager.
 pub fn print_times(rt: &(impl Print + Clock), alloc: Global) -> io::Result<()> {
     let mut sum = 0;
@@ -175,5 +224,11 @@ pub fn print_times(rt: &(impl Print + Clock), alloc: Global) -> io::Result<()> {
         print_work(rt, alloc, kind.name(), Work::One(*kind), &mut sum)?;
     }
     print_work(rt, alloc, "a mix", Work::Mix, &mut sum)?;
+    print_beside(
+        rt,
+        alloc,
+        ["ccm128", "ctr with cmac128"],
+        [Work::One(Kind::Ccm128), Work::CtrCmac],
+    )?;
     print_bytes(rt, "checksum ", &[sum])
 }

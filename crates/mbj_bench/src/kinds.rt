@@ -7,6 +7,7 @@ ghost use Rattle.mbj_bench.specs.declared.kinds.TheConstants.{MOST_BYTES};
 
 use mbj_aes::Schedule;
 use mbj_cbc::{CbcEntry, CbcKernel, encrypt_in_place};
+use mbj_ccm::{CcmEntry, CcmKernel};
 use mbj_cmac::{CmacEntry, CmacKernel, cmac_plain};
 use mbj_hmac::{HmacEntry, HmacKernel, LaneHash, Sha1Lanes, Sha256Lanes, Sha512Lanes, hmac_plain};
 use mbj_lane::Kernel;
@@ -94,6 +95,35 @@ impl<const N: usize> Timed for CmacKernel<N> {
         (entry.packet, byte)
     }
 
+    fn plain(packet: &mut [u8]) -> u8 {
+        cmac_plain(&Schedule::expand(aes_key(N)), packet)[0]
+    }
+}
+
+/// The longest nonce of CCM, in bytes.
+pub const NONCE_BYTES: usize = 13;
+
+/// The longest tag of CCM, in bytes.
+pub const CCM_TAG_BYTES: u8 = 16;
+
+impl<const N: usize> Timed for CcmKernel<N> {
+    fn entry(packet: Vec<u8>) -> Option<CcmEntry<N>> {
+        let key = Schedule::expand(aes_key(N));
+        if packet.len() > MOST_BYTES || key.rounds() as usize != N {
+            return None;
+        }
+        let len = packet.len() as u32;
+        let alloc = *packet.allocator();
+        let nonce = Vec::from_slice(alloc, &IV[..NONCE_BYTES]).ok()?;
+        Some(CcmEntry::new(key, nonce, Vec::new(alloc), packet, 0, len, CCM_TAG_BYTES))
+    }
+
+    fn ended(entry: CcmEntry<N>) -> (Vec<u8>, u8) {
+        let byte = entry.chain[0];
+        (entry.packet, byte)
+    }
+
+    /// CMAC, which chains a block fewer: CCM's MAC has no plain form.
     fn plain(packet: &mut [u8]) -> u8 {
         cmac_plain(&Schedule::expand(aes_key(N)), packet)[0]
     }

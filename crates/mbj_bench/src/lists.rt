@@ -7,6 +7,7 @@ use crate::kinds::{MOST_BYTES, Timed};
 use crate::line::{print_bytes, print_length, print_rate};
 use crate::making::packets;
 use mbj_cbc::CbcKernel;
+use mbj_ccm::CcmKernel;
 use mbj_cmac::CmacKernel;
 use mbj_hmac::{Hmac1Kernel, Hmac256Kernel, Hmac512Kernel};
 use mbj_lane::{Kernel, Lanes};
@@ -110,6 +111,9 @@ fn run_kind(
         Kind::HmacSha1 => run_kernel::<Hmac1Kernel>(alloc, in_lists, packets),
         Kind::HmacSha256 => run_kernel::<Hmac256Kernel>(alloc, in_lists, packets),
         Kind::HmacSha512 => run_kernel::<Hmac512Kernel>(alloc, in_lists, packets),
+        Kind::Ccm128 => run_kernel::<CcmKernel<10>>(alloc, in_lists, packets),
+        Kind::Ccm192 => run_kernel::<CcmKernel<12>>(alloc, in_lists, packets),
+        Kind::Ccm256 => run_kernel::<CcmKernel<14>>(alloc, in_lists, packets),
     }
 }
 
@@ -122,7 +126,7 @@ fn run_work(
 ) -> Result<u8, AllocError> {
     let mut sum = 0;
     match work {
-        Work::Null => {}
+        Work::Null | Work::CtrCmac => {}
         Work::One(kind) => sum = run_kind(alloc, in_lists, kind, packets)?,
         Work::Mix => {
             let mut shares = packets.chunks_mut(SHARE);
