@@ -122,7 +122,7 @@ def ghash(h, text):
     return value.to_bytes(16, "big")
 
 
-def gcm(keys, iv, aad, text, encrypts):
+def gcm(keys, iv, aad, text, tag_len, encrypts):
     h = encipher(keys, bytes(16))
     first = iv + b"\0\0\0\1" if len(iv) == 12 else ghash(h, filled(iv) + lengths(b"", iv))
     out = b""
@@ -131,6 +131,18 @@ def gcm(keys, iv, aad, text, encrypts):
         out += xor(block, encipher(keys, first[:12] + low.to_bytes(4, "big")))
     cipher_text = out if encrypts else text
     return out, xor(encipher(keys, first), ghash(h, filled(aad) + filled(cipher_text) + lengths(aad, text)))
+
+
+def ccm(keys, nonce, aad, text, tag_len, encrypts):
+    """SP 800-38C, 6.1 and 6.2, with the formatting and the counter blocks of its appendix A."""
+    q = 15 - len(nonce)
+    masks = [encipher(keys, bytes([q - 1]) + nonce + i.to_bytes(q, "big")) for i in range(len(text) // 16 + 2)]
+    out = b"".join(map(xor, blocks_of(text), masks[1:]))
+    plain = text if encrypts else out
+    first = bytes([64 * bool(aad) + 4 * (tag_len - 2) + q - 1]) + nonce + len(text).to_bytes(q, "big")
+    data = len(aad).to_bytes(2, "big") + aad if aad else b""
+    mac = cbc(keys, bytes(16), first + filled(data) + filled(plain), True)[-16:]
+    return out, xor(mac, masks[0])
 
 
 def doubled(block):

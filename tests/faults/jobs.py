@@ -2,10 +2,12 @@
 import hashlib
 import hmac
 
-from ciphers import cbc, cmac, ctr, gcm, schedule
+from ciphers import cbc, ccm, cmac, ctr, gcm, schedule
 
 HASHES = {"hmac-sha1": "sha1", "hmac-sha224": "sha224", "hmac-sha256": "sha256", "hmac-sha384": "sha384", "hmac-sha512": "sha512"}
 CMACS = {"cmac128": 16, "cmac256": 32}
+# Ciphers that make the tag too.
+AEADS = {"gcm": gcm, "ccm": ccm}
 FIELDS = "cipher dir order key iv coff clen auth akey aad hoff hlen taglen packet".split()
 
 
@@ -18,18 +20,20 @@ def reason(job):
     """The number of the first row of the argument table that refuses the job, else 0."""
     cipher, auth, length = job["cipher"], job["auth"], len(job["packet"])
     text, iv, key, tag = job["clen"], len(job["iv"]), len(job["akey"]), job["taglen"]
+    ivs = {"cbc": [16], "ctr": [12, 16], "gcm": range(1, 65536), "ccm": range(7, 14)}
+    tags = range(4, 17, 2) if auth == "ccm" else [0] if auth == "null" else range(1, longest_tag(job) + 1)
     hashes = auth in HASHES or auth in CMACS
     rows = [
         length > 65535,
-        (cipher == "gcm") != (auth == "gcm"),
+        any((cipher == aead) != (auth == aead) for aead in AEADS),
         cipher != "null" and len(job["key"]) not in (16, 24, 32),
-        cipher == "cbc" and iv != 16 or cipher == "ctr" and iv not in (12, 16) or cipher == "gcm" and not 1 <= iv <= 65535,
+        cipher != "null" and iv not in ivs[cipher],
         cipher != "null" and job["coff"] + text > length,
         cipher == "cbc" and (text == 0 or text % 16 != 0) or cipher == "ctr" and text == 0,
         auth in CMACS and key != CMACS[auth] or auth in HASHES and key > 1024,
         hashes and job["hoff"] + job["hlen"] > length,
-        cipher == "gcm" and len(job["aad"]) > 65535,
-        tag != 0 if auth == "null" else not 1 <= tag <= longest_tag(job),
+        cipher in AEADS and len(job["aad"]) > {"gcm": 65535, "ccm": 65279}[cipher],
+        tag not in tags,
     ]
     return rows.index(True) + 1 if True in rows else 0
 
@@ -54,9 +58,10 @@ def result_line(number, job):
     if reason(job):
         return "%d invalid-args %d\n" % (number, reason(job))
     packet = job["packet"]
-    if job["cipher"] == "gcm":
-        end = job["coff"] + job["clen"]
-        text, tag = gcm(schedule(job["key"]), job["iv"], job["aad"], packet[job["coff"]:end], job["dir"] == "enc")
+    if job["cipher"] in AEADS:
+        end, tag_len = job["coff"] + job["clen"], job["taglen"]
+        seal = AEADS[job["cipher"]]
+        text, tag = seal(schedule(job["key"]), job["iv"], job["aad"], packet[job["coff"]:end], tag_len, job["dir"] == "enc")
         packet = packet[:job["coff"]] + text + packet[end:]
     elif job["order"] == "ch":
         packet = ciphered(job, packet)
@@ -74,10 +79,10 @@ def run_text(jobs):
 # The job file.
 
 WORDS = {
-    "cipher": ["null", "cbc", "ctr", "gcm"],
+    "cipher": ["null", "cbc", "ctr", *AEADS],
     "dir": ["enc", "dec"],
     "order": ["ch", "hc"],
-    "auth": ["null", *HASHES, *CMACS, "gcm"],
+    "auth": ["null", *HASHES, *CMACS, *AEADS],
 }
 
 

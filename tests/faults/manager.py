@@ -2,10 +2,14 @@
 from jobs import CMACS, HASHES, reason, result_line
 
 # Kinds in the order in which a trace tells them, with their lanes.
-LANES = {"cbc128": 32, "cbc192": 32, "cbc256": 32, "cmac128": 32, "cmac256": 32, "hmac-sha1": 16, "hmac-sha256": 16, "hmac-sha512": 8}
+LANES = {"cbc128": 32, "cbc192": 32, "cbc256": 32, "cmac128": 32, "cmac256": 32, "hmac-sha1": 16, "hmac-sha256": 16, "hmac-sha512": 8,
+         "ccm128": 32, "ccm192": 32, "ccm256": 32}
 
 
 def cipher_stage(job):
+    if job["cipher"] == "ccm":
+        data = -(-(len(job["aad"]) + 2) // 16) if job["aad"] else 0
+        return [("ccm%d" % (8 * len(job["key"])), 1 + data + -(-job["clen"] // 16))]
     if job["cipher"] == "cbc" and job["dir"] == "enc":
         return [("cbc%d" % (8 * len(job["key"])), job["clen"] // 16)]
     return []

@@ -7,6 +7,7 @@ ghost use Rattle.mbj_stage.specs.Handing.{IsNext};
 
 use crate::fill::{put, put_block};
 use mbj_cbc::CbcKernel;
+use mbj_ccm::CcmKernel;
 use mbj_cmac::CmacKernel;
 use mbj_hmac::{Hmac1Kernel, Hmac256Kernel, Hmac512Kernel};
 use mbj_lane::Kernel;
@@ -94,6 +95,9 @@ fn do_lane(course: &mut Course, kind: Kind)
         Kind::HmacSha1 => do_lane_of::<Hmac1Kernel>(course),
         Kind::HmacSha256 => do_lane_of::<Hmac256Kernel>(course),
         Kind::HmacSha512 => do_lane_of::<Hmac512Kernel>(course),
+        Kind::Ccm128 => do_lane_of::<CcmKernel<10>>(course),
+        Kind::Ccm192 => do_lane_of::<CcmKernel<12>>(course),
+        Kind::Ccm256 => do_lane_of::<CcmKernel<14>>(course),
     }
 }
 
@@ -169,6 +173,38 @@ fn gcm_makes_text_and_tag(rt: HostRuntime) -> Result<(), Fail> {
     let tag = 0xab6e47d42cec13bdf53a67b21257bddfu128.to_be_bytes();
     check_job(&rt, job, 0x0388dace60b6a392f328c2b971b2fe78, &tag);
     Ok(())
+}
+
+/// A CCM job over 4 bytes, with the key, the nonce, the data and the length of the tag of SP 800-38C, example 1.
+fn fill_ccm(alloc: Global, job: &mut Job, packet: &[u8]) -> Result<(), AllocError> {
+    job.cipher = Cipher::Ccm;
+    job.cipher_len = 4;
+    job.auth = Auth::Ccm;
+    job.tag_len = 4;
+    put_block(alloc, &mut job.key, 0x404142434445464748494a4b4c4d4e4f)?;
+    put(alloc, &mut job.iv, &[0x10, 0x11, 0x12, 0x13, 0x14, 0x15, 0x16])?;
+    put(alloc, &mut job.aad, &[0, 1, 2, 3, 4, 5, 6, 7])?;
+    put(alloc, &mut job.packet, packet)
+}
+
+/// That job in a direction makes this packet, and the example's tag.
+fn check_ccm(rt: &impl Abort, alloc: Global, dir: Dir, given: &[u8], made: &[u8]) -> Result<(), Fail> {
+    let mut job = Job::blank(alloc);
+    job.dir = dir;
+    fill_ccm(alloc, &mut job, given)?;
+    let done = do_job(job);
+    assert!(rt; done.packet.as_slice() == made);
+    assert!(rt; done.tag.bytes() == [0x4d, 0xac, 0x25, 0x5d].as_slice());
+    Ok(())
+}
+
+// SP 800-38C, appendix C.1: the tag is over the plaintext, whether it is ciphered behind its MAC or deciphered before.
+#[test]
+fn ccm_makes_text_and_tag(rt: HostRuntime) -> Result<(), Fail> {
+    let plaintext = [0x20, 0x21, 0x22, 0x23];
+    let ciphertext = [0x71, 0x62, 0x01, 0x5b];
+    check_ccm(&rt, rt.alloc(), Dir::Enc, &plaintext, &ciphertext)?;
+    check_ccm(&rt, rt.alloc(), Dir::Dec, &ciphertext, &plaintext)
 }
 
 /// The result of a course that is finished from the beginning.

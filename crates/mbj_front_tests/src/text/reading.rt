@@ -17,14 +17,14 @@ const SHOWN: &str = "Null Dec HashCipher - 2:0af9 0 99999 HmacSha1 1:0b - 10 7 2
 
 /// For each field its number, from 0 on, texts that it may have and texts that it may not have.
 const FORMS: [(u32, &[&str], &[&str]); 15] = [
-    (0, &["cbc", "gcm"], &["ecb", "NULL", ""]),
+    (0, &["cbc", "gcm", "ccm"], &["ecb", "NULL", "CCM", ""]),
     (1, &["enc"], &["encrypt", "Enc"]),
     (2, &["ch"], &["hash"]),
     (3, &["00"], &["abc", "0g", ""]),
     (4, &["-"], &["--", "0x"]),
     (5, &["99999"], &["100000", "00", "01", ""]),
     (6, &[], &["+1", "1a"]),
-    (7, &["null", "hmac-sha384", "cmac256"], &[]),
+    (7, &["null", "hmac-sha384", "cmac256", "ccm"], &[]),
     (7, &[], &["hmac-md5", "hmac", "cmac192"]),
     (8, &[], &["\t0b", "0b0"]),
     (9, &[], &["zz"]),

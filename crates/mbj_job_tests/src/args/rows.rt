@@ -5,10 +5,10 @@ use super::shape::Length::{
 };
 use super::shape::Row;
 use mbj_types::Auth::{
-    Cmac128, Cmac256, Gcm as GcmAuth, HmacSha1, HmacSha224, HmacSha256, HmacSha384, HmacSha512,
-    Null as NoAuth,
+    Ccm as CcmAuth, Cmac128, Cmac256, Gcm as GcmAuth, HmacSha1, HmacSha224, HmacSha256, HmacSha384,
+    HmacSha512, Null as NoAuth,
 };
-use mbj_types::Cipher::{Cbc, Ctr, Gcm, Null as Plain};
+use mbj_types::Cipher::{Cbc, Ccm, Ctr, Gcm, Null as Plain};
 use mbj_types::Reason::{
     AadLong, AuthKey, CipherKey, CipherLength, CipherRange, GcmPair, HashRange, IvLength,
     PacketLong, TagLength,
@@ -18,7 +18,7 @@ use mbj_types::Reason::{
 const MAX: u32 = u32::MAX;
 
 /// Jobs at the boundaries of each row up to the cipher's lengths, on both sides.
-pub(crate) const CIPHER_ROWS: [Row; 49] = [
+pub(crate) const CIPHER_ROWS: [Row; 64] = [
     (Plain, NoAuth, Packet, 16, Packet, 65_535, None),
     (Plain, NoAuth, Packet, 16, Packet, 65_536, Some(PacketLong)),
     (Plain, NoAuth, Packet, 16, Packet, 0, None),
@@ -27,6 +27,13 @@ pub(crate) const CIPHER_ROWS: [Row; 49] = [
     (Gcm, HmacSha1, Packet, 16, Packet, 16, Some(GcmPair)),
     (Plain, GcmAuth, Packet, 16, Packet, 16, Some(GcmPair)),
     (Cbc, GcmAuth, Packet, 16, Packet, 16, Some(GcmPair)),
+    (Ccm, CcmAuth, Packet, 16, Packet, 16, None),
+    (Ccm, NoAuth, Packet, 16, Packet, 16, Some(GcmPair)),
+    (Ccm, Cmac128, Packet, 16, Packet, 16, Some(GcmPair)),
+    (Ccm, GcmAuth, Packet, 16, Packet, 16, Some(GcmPair)),
+    (Gcm, CcmAuth, Packet, 16, Packet, 16, Some(GcmPair)),
+    (Plain, CcmAuth, Packet, 16, Packet, 16, Some(GcmPair)),
+    (Ctr, CcmAuth, Packet, 16, Packet, 16, Some(GcmPair)),
     (Cbc, NoAuth, Key, 0, Packet, 16, Some(CipherKey)),
     (Cbc, NoAuth, Key, 15, Packet, 16, Some(CipherKey)),
     (Cbc, NoAuth, Key, 17, Packet, 16, Some(CipherKey)),
@@ -38,6 +45,8 @@ pub(crate) const CIPHER_ROWS: [Row; 49] = [
     (Ctr, NoAuth, Key, 23, Packet, 16, Some(CipherKey)),
     (Ctr, NoAuth, Key, 25, Packet, 16, Some(CipherKey)),
     (Gcm, GcmAuth, Key, 15, Packet, 16, Some(CipherKey)),
+    (Ccm, CcmAuth, Key, 15, Packet, 16, Some(CipherKey)),
+    (Ccm, CcmAuth, Key, 24, Packet, 16, None),
     (Plain, NoAuth, Key, 15, Iv, 1, None),
     (Cbc, NoAuth, Iv, 15, Packet, 16, Some(IvLength)),
     (Cbc, NoAuth, Iv, 12, Packet, 16, Some(IvLength)),
@@ -53,6 +62,10 @@ pub(crate) const CIPHER_ROWS: [Row; 49] = [
     (Gcm, GcmAuth, Iv, 60, Packet, 16, None),
     (Gcm, GcmAuth, Iv, 65_535, Packet, 16, None),
     (Gcm, GcmAuth, Iv, 65_536, Packet, 16, Some(IvLength)),
+    (Ccm, CcmAuth, Iv, 6, Packet, 16, Some(IvLength)),
+    (Ccm, CcmAuth, Iv, 7, Packet, 16, None),
+    (Ccm, CcmAuth, Iv, 13, Packet, 16, None),
+    (Ccm, CcmAuth, Iv, 14, Packet, 16, Some(IvLength)),
     (Ctr, NoAuth, CipherOff, 15, CipherLen, 1, None),
     (Ctr, NoAuth, CipherOff, 16, CipherLen, 1, Some(CipherRange)),
     (Ctr, NoAuth, CipherLen, 17, Packet, 16, Some(CipherRange)),
@@ -68,6 +81,8 @@ pub(crate) const CIPHER_ROWS: [Row; 49] = [
     ),
     (Gcm, GcmAuth, CipherOff, 16, CipherLen, 0, None),
     (Gcm, GcmAuth, CipherOff, 17, CipherLen, 0, Some(CipherRange)),
+    (Ccm, CcmAuth, CipherOff, 16, CipherLen, 0, None),
+    (Ccm, CcmAuth, CipherOff, 17, CipherLen, 0, Some(CipherRange)),
     (Plain, NoAuth, CipherOff, MAX, CipherLen, MAX, None),
     (Cbc, NoAuth, CipherLen, 0, Packet, 16, Some(CipherLength)),
     (Cbc, NoAuth, CipherLen, 1, Packet, 16, Some(CipherLength)),
@@ -79,7 +94,7 @@ pub(crate) const CIPHER_ROWS: [Row; 49] = [
 ];
 
 /// Jobs at the boundaries of each row from the authentication's key on, on both sides.
-pub(crate) const AUTH_ROWS: [Row; 55] = [
+pub(crate) const AUTH_ROWS: [Row; 70] = [
     (Plain, HmacSha1, MacKey, 0, Packet, 16, None),
     (Plain, HmacSha1, MacKey, 1_024, Packet, 16, None),
     (Plain, HmacSha1, MacKey, 1_025, Packet, 16, Some(AuthKey)),
@@ -92,6 +107,7 @@ pub(crate) const AUTH_ROWS: [Row; 55] = [
     (Plain, Cmac256, MacKey, 32, Packet, 16, None),
     (Plain, Cmac256, MacKey, 33, Packet, 16, Some(AuthKey)),
     (Gcm, GcmAuth, MacKey, 1_025, Packet, 16, None),
+    (Ccm, CcmAuth, MacKey, 1_025, Packet, 16, None),
     (Plain, HmacSha1, HashOff, 16, HashLen, 0, None),
     (Plain, HmacSha1, HashOff, 17, HashLen, 0, Some(HashRange)),
     (Plain, HmacSha1, HashLen, 17, Packet, 16, Some(HashRange)),
@@ -101,8 +117,12 @@ pub(crate) const AUTH_ROWS: [Row; 55] = [
     (Plain, Cmac128, HashOff, 1, Packet, 16, Some(HashRange)),
     (Plain, NoAuth, HashOff, 17, Packet, 16, None),
     (Gcm, GcmAuth, HashOff, 17, Packet, 16, None),
+    (Ccm, CcmAuth, HashOff, 17, Packet, 16, None),
     (Gcm, GcmAuth, Aad, 65_535, Packet, 16, None),
     (Gcm, GcmAuth, Aad, 65_536, Packet, 16, Some(AadLong)),
+    (Ccm, CcmAuth, Aad, 65_279, Packet, 16, None),
+    (Ccm, CcmAuth, Aad, 65_280, Packet, 16, Some(AadLong)),
+    (Ccm, CcmAuth, Aad, 65_536, Packet, 16, Some(AadLong)),
     (Cbc, HmacSha1, Aad, 65_536, Packet, 16, None),
     (Plain, NoAuth, TagLen, 1, Packet, 16, Some(TagLength)),
     (Plain, HmacSha1, TagLen, 0, Packet, 16, Some(TagLength)),
@@ -135,11 +155,21 @@ pub(crate) const AUTH_ROWS: [Row; 55] = [
     (Gcm, GcmAuth, TagLen, 0, Packet, 16, Some(TagLength)),
     (Gcm, GcmAuth, TagLen, 1, Packet, 16, None),
     (Gcm, GcmAuth, TagLen, 17, Packet, 16, Some(TagLength)),
+    (Ccm, CcmAuth, TagLen, 0, Packet, 16, Some(TagLength)),
+    (Ccm, CcmAuth, TagLen, 2, Packet, 16, Some(TagLength)),
+    (Ccm, CcmAuth, TagLen, 3, Packet, 16, Some(TagLength)),
+    (Ccm, CcmAuth, TagLen, 4, Packet, 16, None),
+    (Ccm, CcmAuth, TagLen, 5, Packet, 16, Some(TagLength)),
+    (Ccm, CcmAuth, TagLen, 6, Packet, 16, None),
+    (Ccm, CcmAuth, TagLen, 14, Packet, 16, None),
+    (Ccm, CcmAuth, TagLen, 15, Packet, 16, Some(TagLength)),
+    (Ccm, CcmAuth, TagLen, 16, Packet, 16, None),
+    (Ccm, CcmAuth, TagLen, 18, Packet, 16, Some(TagLength)),
 ];
 
 /// For each two neighbouring rows that one job can meet, a job that meets both. None has a bad hash range and too much
-/// additional data: the data is of GCM alone, which has no hash range.
-pub(crate) const BOTH: [Row; 9] = [
+/// additional data: the data is of GCM and CCM alone, which have no hash range.
+pub(crate) const BOTH: [Row; 11] = [
     (Gcm, NoAuth, Packet, 16, Packet, 65_536, Some(PacketLong)),
     (Gcm, NoAuth, Key, 15, Packet, 16, Some(GcmPair)),
     (Cbc, NoAuth, Key, 15, Iv, 15, Some(CipherKey)),
@@ -157,4 +187,6 @@ pub(crate) const BOTH: [Row; 9] = [
     (Plain, HmacSha1, MacKey, 1_025, HashLen, 17, Some(AuthKey)),
     (Plain, HmacSha1, HashLen, 17, TagLen, 21, Some(HashRange)),
     (Gcm, GcmAuth, Aad, 65_536, TagLen, 17, Some(AadLong)),
+    (Ccm, CcmAuth, Iv, 14, Aad, 65_280, Some(IvLength)),
+    (Ccm, CcmAuth, Aad, 65_280, TagLen, 5, Some(AadLong)),
 ];

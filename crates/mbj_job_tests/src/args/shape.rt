@@ -37,6 +37,8 @@ const CTR: [Change; 3] = [(Length::Key, 24), (Length::Iv, 12), (Length::CipherLe
 
 const GCM: [Change; 3] = [(Length::Key, 32), (Length::Iv, 12), (Length::CipherLen, 16)];
 
+const CCM: [Change; 3] = [(Length::Key, 16), (Length::Iv, 11), (Length::CipherLen, 16)];
+
 /// The lengths of an authentication's job of 16 bytes that the argument table takes.
 const NO_AUTH: [Change; 3] = [
     (Length::MacKey, 0),
@@ -62,7 +64,7 @@ const CMAC_256: [Change; 3] = [
     (Length::TagLen, 16),
 ];
 
-const GCM_AUTH: [Change; 3] = [
+const CIPHERS_TAG: [Change; 3] = [
     (Length::MacKey, 0),
     (Length::HashLen, 0),
     (Length::TagLen, 16),
@@ -74,6 +76,7 @@ fn lengths_of_cipher(cipher: Cipher) -> &'static [Change; 3] {
         Cipher::Cbc => &CBC,
         Cipher::Ctr => &CTR,
         Cipher::Gcm => &GCM,
+        Cipher::Ccm => &CCM,
     }
 }
 
@@ -82,7 +85,7 @@ fn lengths_of_auth(auth: Auth) -> &'static [Change; 3] {
         Auth::Null => &NO_AUTH,
         Auth::Cmac128 => &CMAC_128,
         Auth::Cmac256 => &CMAC_256,
-        Auth::Gcm => &GCM_AUTH,
+        Auth::Gcm | Auth::Ccm => &CIPHERS_TAG,
         _ => &HMAC,
     }
 }

@@ -61,6 +61,21 @@ fn cmac_and_gcm_jobs_are_done(rt: HostRuntime) {
     compare(&rt, rt.alloc(), 0, &TAGGED_TEXTS);
 }
 
+/// SP 800-38C, examples 1 to 3 (appendix C), the first in both directions, and jobs that aren't CCM's.
+const CCM_TEXTS: [&str; 6] = [
+    "ccm enc ch 404142434445464748494a4b4c4d4e4f 10111213141516 0 4 ccm - 0001020304050607 0 0 4 20212223\n => 0 ok 7162015b 4dac255d\n",
+    "ccm dec hc 404142434445464748494a4b4c4d4e4f 10111213141516 0 4 ccm - 0001020304050607 0 0 4 7162015b\n => 0 ok 20212223 4dac255d\n",
+    "ccm enc ch 404142434445464748494a4b4c4d4e4f 1011121314151617 0 16 ccm - 000102030405060708090a0b0c0d0e0f 0 0 6 202122232425262728292a2b2c2d2e2f\n => 0 ok d2a1f0e051ea5f62081a7792073d593d 1fc64fbfaccd\n",
+    "ccm enc ch 404142434445464748494a4b4c4d4e4f 101112131415161718191a1b 0 24 ccm - 000102030405060708090a0b0c0d0e0f10111213 0 0 8 202122232425262728292a2b2c2d2e2f3031323334353637\n => 0 ok e3b201a9f5b71a7a9b1ceaeccd97e70b6176aad9a4428aa5 484392fbc1b09951\n",
+    "ccm enc ch 404142434445464748494a4b4c4d4e4f 10111213141516 0 4 ccm - 0001020304050607 0 0 5 20212223\n => 0 invalid-args 10\n",
+    "ccm enc ch 404142434445464748494a4b4c4d4e4f 10111213141516 0 4 null - 0001020304050607 0 0 0 20212223\n => 0 invalid-args 2\n",
+];
+
+#[test]
+fn ccm_jobs_are_done(rt: HostRuntime) {
+    compare(&rt, rt.alloc(), 0, &CCM_TEXTS);
+}
+
 /// RFC 2202, test case 6: the packet is `Test Using Larger Than Block-Size Key - Hash Key First`.
 const LONG_KEYS: [&str; 1] = [
     "null enc ch - - 0 0 hmac-sha1 aaaaaaaaaaaaaaaaaaaaaaaaaaaaaaaaaaaaaaaaaaaaaaaaaaaaaaaaaaaaaaaaaaaaaaaaaaaaaaaaaaaaaaaaaaaaaaaaaaaaaaaaaaaaaaaaaaaaaaaaaaaaaaaaaaaaaaaaaaaaaaaaaaaaaaaaaaaaaaaa - 0 54 20 54657374205573696e67204c6172676572205468616e20426c6f636b2d53697a65204b6579202d2048617368204b6579204669727374\n => 0 ok 54657374205573696e67204c6172676572205468616e20426c6f636b2d53697a65204b6579202d2048617368204b6579204669727374 aa4ae5e15272d00e95705637ce8a3b55ed402112\n",

@@ -25,6 +25,10 @@ const CMAC128: &str =
 const CTR: &str =
     "ctr enc ch 2b7e151628aed2a6abf7158809cf4f3c 000102030405060708090a0b0c0d0e0f 0 16 null - - 0 0 0 00000000000000000000000000000000\n";
 
+/// SP 800-38C, example 1: one block before the text, one of data, and one of text.
+const CCM: &str =
+    "ccm enc ch 404142434445464748494a4b4c4d4e4f 10111213141516 0 4 ccm - 0001020304050607 0 0 4 20212223\n";
+
 /// CBC encryption, and then HMAC-SHA-512.
 const CBC_HMAC_SHA512: &str =
     "cbc enc ch 2b7e151628aed2a6abf7158809cf4f3c 000102030405060708090a0b0c0d0e0f 0 16 hmac-sha512 0b0b0b0b0b0b0b0b0b0b0b0b0b0b0b0b0b0b0b0b - 0 16 64 00000000000000000000000000000000\n";
@@ -65,7 +69,7 @@ const FOUR_JOBS_TWICE: [Repeat; 16] = [
 ];
 
 /// Job files, and the lines that their traces print.
-static CASES: [(&[Repeat], &str); 9] = [
+static CASES: [(&[Repeat], &str); 10] = [
     (&[], "completed none\nflush none\n"),
     // Rests of 4, 5, 4 and 6 in turn. Four jobs wait until they are flushed, and the run of a full list ends four of eight.
     (
@@ -99,6 +103,10 @@ static CASES: [(&[Repeat], &str); 9] = [
     (
         &[(CMAC128, 16)],
         "submit [0..30] none\nsubmit 31 0\ncompleted none\nflush [1..31]\nflush none\nrounds cmac128 1 32\n",
+    ),
+    (
+        &[(CCM, 32)],
+        "submit [0..30] none\nsubmit 31 0\ncompleted [1..31]\ncompleted none\nflush none\nrounds ccm128 3 96\n",
     ),
     (&[(BAD_KEY, 1)], "submit 0 0\ncompleted none\nflush none\n"),
 ];
