@@ -1,5 +1,5 @@
 -- What the authentications are: whatever depends on a job's authentication goes by the cases of its class.
-use Rattle.std.specs.Prelude.{ℕ, Option, Some, None, IsSome}
+use Rattle.std.specs.Prelude.{ℕ, Bool, true, false, Option, Some, None, IsSome}
 use Rattle.mbj_types.specs.Hmac.{Hash, sha1_hash, sha224_hash, sha256_hash, sha384_hash, sha512_hash}
 use Rattle.mbj_types.specs.declared.class.AuthClass.{AuthClass}
 use Rattle.mbj_types.specs.declared.class.AuthClass.TheVariants as class
@@ -23,6 +23,12 @@ class_of auth.Cmac128 = class.Cmac Aes128
 class_of auth.Cmac256 = class.Cmac Aes256
 class_of auth.Gcm = class.Gcm
 class_of auth.Ccm = class.Ccm
+class_of auth.Sha1 = class.Plain Sha1
+class_of auth.Sha224 = class.Plain Sha224
+class_of auth.Sha256 = class.Plain Sha256
+class_of auth.Sha384 = class.Plain Sha384
+class_of auth.Sha512 = class.Plain Sha512
+class_of auth.Gmac = class.Gmac
 
 -- ---- hashes
 
@@ -48,12 +54,36 @@ hash_in (class.Hmac h) = Some (hash_of_name h)
 hash_in (class.Cmac k) = None
 hash_in class.Gcm = None
 hash_in class.Ccm = None
+hash_in (class.Plain h) = None
+hash_in class.Gmac = None
 
 abbrev pub hash_of : Auth → Option Hash
 hash_of a = hash_in (class_of a)
 
 abbrev pub IsHmac : Auth → Type 0
 IsHmac a = IsSome (hash_of a)
+
+-- the hash of which an authentication is the digest; the others have none
+abbrev pub plain_hash_in : AuthClass → Option Hash
+plain_hash_in class.Null = None
+plain_hash_in (class.Hmac h) = None
+plain_hash_in (class.Cmac k) = None
+plain_hash_in class.Gcm = None
+plain_hash_in class.Ccm = None
+plain_hash_in (class.Plain h) = Some (hash_of_name h)
+plain_hash_in class.Gmac = None
+
+abbrev pub plain_hash_of : Auth → Option Hash
+plain_hash_of a = plain_hash_in (class_of a)
+
+abbrev pub is_plain : AuthClass → Bool
+is_plain class.Null = false
+is_plain (class.Hmac h) = false
+is_plain (class.Cmac k) = false
+is_plain class.Gcm = false
+is_plain class.Ccm = false
+is_plain (class.Plain h) = true
+is_plain class.Gmac = false
 
 -- ---- keys of CMAC
 
@@ -63,6 +93,8 @@ IsCmac (class.Hmac h) = ⊥
 IsCmac (class.Cmac k) = Unit {0}
 IsCmac class.Gcm = ⊥
 IsCmac class.Ccm = ⊥
+IsCmac (class.Plain h) = ⊥
+IsCmac class.Gmac = ⊥
 
 abbrev pub cmac_key_bytes : CmacKey → ℕ
 cmac_key_bytes Aes128 = 16

@@ -39,3 +39,7 @@ gcm_tag e iv aad ciphertext =
 -- 7.1 and 7.2: the other text, and the tag over the ciphertext, which is that text where the text is sealed, else the given one
 abbrev pub gcm : (List ℕ → List ℕ) → List ℕ → List ℕ → List ℕ → Bool → List ℕ × List ℕ
 gcm e iv aad text sealing = (gcm_text e iv text, gcm_tag e iv aad (if sealing then gcm_text e iv text else text))
+
+-- 3.1: GMAC is the tag over data alone, with no text
+abbrev pub gmac : (List ℕ → List ℕ) → List ℕ → List ℕ → List ℕ
+gmac e iv aad = gcm_tag e iv aad []

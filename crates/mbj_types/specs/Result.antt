@@ -4,7 +4,7 @@ use Rattle.std.specs.Option.{option_map_or}
 use Rattle.mbj_types.specs.Aes.{aes, aes_inverse}
 use Rattle.mbj_types.specs.Modes.{cbc_text, uncbc_text, ctr_text}
 use Rattle.mbj_types.specs.Cmac.{cmac}
-use Rattle.mbj_types.specs.Gcm.{gcm}
+use Rattle.mbj_types.specs.Gcm.{gcm, gmac}
 use Rattle.mbj_types.specs.Ccm.{ccm}
 use Rattle.mbj_types.specs.Hmac.{hmac}
 use Rattle.mbj_types.specs.Auths.{class_of, hash_of_name}
@@ -68,6 +68,8 @@ mac_by (class.Hmac h) j p = hmac (hash_of_name h) j.auth_key (hash_range j p)
 mac_by (class.Cmac k) j p = cmac (aes j.auth_key) (hash_range j p)
 mac_by class.Gcm j p = (gcm_of j p).1
 mac_by class.Ccm j p = (ccm_of j p).1
+mac_by (class.Plain h) j p = (hash_of_name h).digest (hash_range j p)
+mac_by class.Gmac j p = gmac (aes j.auth_key) j.iv (hash_range j p)
 
 -- the tag over the packet p: the leftmost bytes
 unfoldable pub tag_over : Job → List ℕ → List ℕ
@@ -86,6 +88,8 @@ authenticated_by (class.Hmac h) j = authenticated_in j.order j
 authenticated_by (class.Cmac k) j = authenticated_in j.order j
 authenticated_by class.Gcm j = j.packet
 authenticated_by class.Ccm j = j.packet
+authenticated_by (class.Plain h) j = authenticated_in j.order j
+authenticated_by class.Gmac j = authenticated_in j.order j
 
 -- the result of a job that is accepted
 abbrev pub accepted : Job → Done

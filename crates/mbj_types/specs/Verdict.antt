@@ -56,6 +56,8 @@ is_gcm_auth (class.Hmac h) = false
 is_gcm_auth (class.Cmac k) = false
 is_gcm_auth class.Gcm = true
 is_gcm_auth class.Ccm = false
+is_gcm_auth (class.Plain h) = false
+is_gcm_auth class.Gmac = false
 
 abbrev pub is_ccm_auth : AuthClass → Bool
 is_ccm_auth class.Null = false
@@ -63,6 +65,17 @@ is_ccm_auth (class.Hmac h) = false
 is_ccm_auth (class.Cmac k) = false
 is_ccm_auth class.Gcm = false
 is_ccm_auth class.Ccm = true
+is_ccm_auth (class.Plain h) = false
+is_ccm_auth class.Gmac = false
+
+abbrev pub is_gmac : AuthClass → Bool
+is_gmac class.Null = false
+is_gmac (class.Hmac h) = false
+is_gmac (class.Cmac k) = false
+is_gmac class.Gcm = false
+is_gmac class.Ccm = false
+is_gmac (class.Plain h) = false
+is_gmac class.Gmac = true
 
 -- whether it is over the hash range
 abbrev pub has_hash_range : AuthClass → Bool
@@ -71,6 +84,8 @@ has_hash_range (class.Hmac h) = true
 has_hash_range (class.Cmac k) = true
 has_hash_range class.Gcm = false
 has_hash_range class.Ccm = false
+has_hash_range (class.Plain h) = true
+has_hash_range class.Gmac = true
 
 -- keys of n bytes
 abbrev pub takes_auth_key : AuthClass → ℕ → Bool
@@ -79,6 +94,18 @@ takes_auth_key (class.Hmac h) n = nat_le n MAX_HMAC_KEY_BYTES
 takes_auth_key (class.Cmac k) n = n == cmac_key_bytes k
 takes_auth_key class.Gcm n = true
 takes_auth_key class.Ccm n = true
+takes_auth_key (class.Plain h) n = true
+takes_auth_key class.Gmac n = is_key_size n
+
+-- initialization vectors of n bytes: GMAC alone has one
+abbrev pub takes_auth_iv : AuthClass → ℕ → Bool
+takes_auth_iv class.Null n = true
+takes_auth_iv (class.Hmac h) n = true
+takes_auth_iv (class.Cmac k) n = true
+takes_auth_iv class.Gcm n = true
+takes_auth_iv class.Ccm n = true
+takes_auth_iv (class.Plain h) n = true
+takes_auth_iv class.Gmac n = nat_lt 0 n && nat_le n MAX_IV_BYTES
 
 -- tags of n bytes
 abbrev pub takes_tag : AuthClass → ℕ → Bool
@@ -87,14 +114,17 @@ takes_tag (class.Hmac h) n = nat_lt 0 n && nat_le n (hash_of_name h).digest_byte
 takes_tag (class.Cmac k) n = nat_lt 0 n && nat_le n 16
 takes_tag class.Gcm n = nat_lt 0 n && nat_le n 16
 takes_tag class.Ccm n = nat_le 4 n && nat_le n 16 && n % 2 == 0
+takes_tag (class.Plain h) n = nat_lt 0 n && nat_le n (hash_of_name h).digest_bytes
+takes_tag class.Gmac n = nat_lt 0 n && nat_le n 16
 
 -- ---- the table
 
--- which authentications go with a cipher: with GCM and with CCM its own alone, with the others any but these two
+-- which authentications go with a cipher: with GCM and with CCM its own alone, with the others any but these two; GMAC goes with
+-- no cipher, since it has the job's IV
 abbrev pub goes_with : Cipher → AuthClass → Bool
 goes_with cipher.Null a = not (is_gcm_auth a || is_ccm_auth a)
-goes_with cipher.Cbc a = not (is_gcm_auth a || is_ccm_auth a)
-goes_with cipher.Ctr a = not (is_gcm_auth a || is_ccm_auth a)
+goes_with cipher.Cbc a = not (is_gcm_auth a || is_ccm_auth a) && not (is_gmac a)
+goes_with cipher.Ctr a = not (is_gcm_auth a || is_ccm_auth a) && not (is_gmac a)
 goes_with cipher.Gcm a = is_gcm_auth a
 goes_with cipher.Ccm a = is_ccm_auth a
 
@@ -108,7 +138,7 @@ rows j n =
     (nat_lt MAX_PACKET_BYTES n, PacketLong)
     ∷ (not (goes_with j.cipher (class_of j.auth)), GcmPair)
     ∷ (not (takes_key j.cipher (length j.key)), CipherKey)
-    ∷ (not (takes_iv j.cipher (length j.iv)), IvLength)
+    ∷ (not (takes_iv j.cipher (length j.iv) && takes_auth_iv (class_of j.auth) (length j.iv)), IvLength)
     ∷ (not (is_null_cipher j.cipher) && passes_end j.cipher_off j.cipher_len n, CipherRange)
     ∷ (not (takes_range j.cipher j.cipher_len), CipherLength)
     ∷ (not (takes_auth_key (class_of j.auth) (length j.auth_key)), AuthKey)

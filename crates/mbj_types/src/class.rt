@@ -96,6 +96,10 @@ pub enum AuthClass {
     Gcm,
     /// The tag of CCM (SP 800-38C).
     Ccm,
+    /// The digest of a hash (FIPS 180-4).
+    Plain(HashName),
+    /// GMAC (SP 800-38D, 3.1).
+    Gmac,
 }
 
 impl Auth {
@@ -114,6 +118,12 @@ impl Auth {
             Auth::Cmac256 => AuthClass::Cmac(CmacKey::Aes256),
             Auth::Gcm => AuthClass::Gcm,
             Auth::Ccm => AuthClass::Ccm,
+            Auth::Sha1 => AuthClass::Plain(HashName::Sha1),
+            Auth::Sha224 => AuthClass::Plain(HashName::Sha224),
+            Auth::Sha256 => AuthClass::Plain(HashName::Sha256),
+            Auth::Sha384 => AuthClass::Plain(HashName::Sha384),
+            Auth::Sha512 => AuthClass::Plain(HashName::Sha512),
+            Auth::Gmac => AuthClass::Gmac,
         }
     }
 }

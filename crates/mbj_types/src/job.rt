@@ -61,6 +61,18 @@ pub enum Auth {
     Gcm,
     /// The tag of counter mode with the MAC of CBC, which goes with that cipher.
     Ccm,
+    /// The digest of SHA-1 (FIPS 180-4), without a key.
+    Sha1,
+    /// The digest of SHA-224.
+    Sha224,
+    /// The digest of SHA-256.
+    Sha256,
+    /// The digest of SHA-384.
+    Sha384,
+    /// The digest of SHA-512.
+    Sha512,
+    /// GMAC (SP 800-38D, 3.1): the tag of Galois/counter mode over data alone, under a key of its own.
+    Gmac,
 }
 
 impl fmt::Display for Auth {
@@ -76,6 +88,12 @@ impl fmt::Display for Auth {
             Auth::Cmac256 => "AES-CMAC-256",
             Auth::Gcm => "AES-GCM",
             Auth::Ccm => "AES-CCM",
+            Auth::Sha1 => "SHA-1",
+            Auth::Sha224 => "SHA-224",
+            Auth::Sha256 => "SHA-256",
+            Auth::Sha384 => "SHA-384",
+            Auth::Sha512 => "SHA-512",
+            Auth::Gmac => "AES-GMAC",
         })
     }
 }
@@ -91,19 +109,19 @@ pub struct Job {
     pub order: Order,
     /// The cipher's key: 16, 24 or 32 bytes.
     pub key: Bytes,
-    /// The cipher's initialization vector: 16 bytes for CBC, 12 or 16 for CTR, 1 to 65,535 for GCM. For CCM it is the nonce, of
-    /// 7 to 13 bytes.
+    /// The initialization vector of the cipher, or of GMAC: 16 bytes for CBC, 12 or 16 for CTR, 1 to 65,535 for GCM and GMAC. For
+    /// CCM it is the nonce, of 7 to 13 bytes.
     pub iv: Bytes,
     /// Where the range of the packet that is ciphered in place begins, in bytes.
     pub cipher_off: u32,
     /// The length of that range, in bytes.
     pub cipher_len: u32,
     pub auth: Auth,
-    /// The key of an HMAC or a CMAC.
+    /// The key of an HMAC, a CMAC or GMAC.
     pub auth_key: Bytes,
     /// The additional authenticated data of GCM, of at most 65,535 bytes, or of CCM, of at most 65,279.
     pub aad: Bytes,
-    /// Where the range that an HMAC or a CMAC is over begins, in bytes.
+    /// Where the range that the authentication is over begins, in bytes. GCM and CCM have none.
     pub hash_off: u32,
     /// The length of that range, in bytes.
     pub hash_len: u32,

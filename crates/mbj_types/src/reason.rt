@@ -9,11 +9,12 @@ use std::fmt;
 pub enum Reason {
     /// The packet is longer than 65,535 bytes.
     PacketLong,
-    /// Exactly one of cipher and authentication is GCM, or exactly one is CCM.
+    /// The authentication doesn't go with the cipher: exactly one of the two is GCM, exactly one is CCM, or GMAC stands beside a
+    /// cipher.
     GcmPair,
     /// The cipher's key has neither 16, 24 nor 32 bytes.
     CipherKey,
-    /// The initialization vector has a length that the cipher doesn't take.
+    /// The initialization vector has a length that the cipher, or GMAC, doesn't take.
     IvLength,
     /// The cipher range passes the packet's end.
     CipherRange,
@@ -53,10 +54,9 @@ impl fmt::Display for Reason {
     fn fmt<W: fmt::Write>(&self, f: &mut fmt::Formatter<W>) -> fmt::Result {
         f.write_str(match self {
             Reason::PacketLong => "the packet is longer than 65,535 bytes",
-            Reason::GcmPair =>
-                "exactly one of cipher and authentication is GCM, or exactly one is CCM",
+            Reason::GcmPair => "the authentication doesn't go with the cipher",
             Reason::CipherKey => "the cipher's key has neither 16, 24 nor 32 bytes",
-            Reason::IvLength => "the cipher doesn't take an IV of this length",
+            Reason::IvLength => "the cipher or GMAC doesn't take an IV of this length",
             Reason::CipherRange => "the cipher range passes the packet's end",
             Reason::CipherLength => "the cipher doesn't take a range of this length",
             Reason::AuthKey => "the authentication doesn't take a key of this length",
