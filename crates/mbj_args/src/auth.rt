@@ -1,16 +1,22 @@
 //! What an authentication takes, by its class.
 
 ghost use Rattle.std.specs.Prelude.{◌≡◌};
-ghost use Rattle.mbj_types.specs.Verdict.{is_gcm_auth, is_ccm_auth, has_hash_range, takes_auth_key, takes_tag};
+ghost use Rattle.mbj_types.specs.Verdict.{is_gcm_auth, is_ccm_auth, is_gmac, has_hash_range, takes_auth_iv, takes_auth_key, takes_tag};
 
-use mbj_types::{AuthClass, BLOCK_BYTES, MAX_HMAC_KEY_BYTES};
+use crate::cipher::is_aes_key;
+use mbj_types::{AuthClass, BLOCK_BYTES, MAX_HMAC_KEY_BYTES, MAX_IV_BYTES};
 
 pub(crate) fn is_gcm(class: AuthClass) -> bool
     ensures { result ≡ is_gcm_auth class }
 {
     match class {
-        AuthClass::Null | AuthClass::Hmac(_) | AuthClass::Cmac(_) | AuthClass::Ccm => false,
         AuthClass::Gcm => true,
+        AuthClass::Null
+        | AuthClass::Hmac(_)
+        | AuthClass::Cmac(_)
+        | AuthClass::Ccm
+        | AuthClass::Plain(_)
+        | AuthClass::Gmac => false,
     }
 }
 
@@ -18,8 +24,27 @@ pub(crate) fn is_ccm(class: AuthClass) -> bool
     ensures { result ≡ is_ccm_auth class }
 {
     match class {
-        AuthClass::Null | AuthClass::Hmac(_) | AuthClass::Cmac(_) | AuthClass::Gcm => false,
         AuthClass::Ccm => true,
+        AuthClass::Null
+        | AuthClass::Hmac(_)
+        | AuthClass::Cmac(_)
+        | AuthClass::Gcm
+        | AuthClass::Plain(_)
+        | AuthClass::Gmac => false,
+    }
+}
+
+pub(crate) fn is_gmac(class: AuthClass) -> bool
+    ensures { result ≡ is_gmac class }
+{
+    match class {
+        AuthClass::Gmac => true,
+        AuthClass::Null
+        | AuthClass::Hmac(_)
+        | AuthClass::Cmac(_)
+        | AuthClass::Gcm
+        | AuthClass::Ccm
+        | AuthClass::Plain(_) => false,
     }
 }
 
@@ -29,30 +54,48 @@ pub(crate) fn has_hash_range(class: AuthClass) -> bool
 {
     match class {
         AuthClass::Null | AuthClass::Gcm | AuthClass::Ccm => false,
-        AuthClass::Hmac(_) | AuthClass::Cmac(_) => true,
+        AuthClass::Hmac(_) | AuthClass::Cmac(_) | AuthClass::Plain(_) | AuthClass::Gmac => true,
     }
 }
 
-/// Authentication keys of this many bytes.
+/// Initialization vectors of this many bytes: 1 to 65,535 for GMAC; the other authentications have none.
+pub(crate) fn takes_iv(class: AuthClass, len: usize) -> bool
+    ensures { result ≡ takes_auth_iv class len }
+{
+    match class {
+        AuthClass::Null
+        | AuthClass::Hmac(_)
+        | AuthClass::Cmac(_)
+        | AuthClass::Gcm
+        | AuthClass::Ccm
+        | AuthClass::Plain(_) => true,
+        AuthClass::Gmac => len > 0 && len <= MAX_IV_BYTES,
+    }
+}
+
+/// Authentication keys of this many bytes: a digest doesn't look at one.
 pub(crate) fn takes_key(class: AuthClass, len: usize) -> bool
     ensures { result ≡ takes_auth_key class len }
 {
     match class {
-        AuthClass::Null | AuthClass::Gcm | AuthClass::Ccm => true,
+        AuthClass::Null | AuthClass::Gcm | AuthClass::Ccm | AuthClass::Plain(_) => true,
         AuthClass::Hmac(_) => len <= MAX_HMAC_KEY_BYTES,
         AuthClass::Cmac(key) => len == key.bytes(),
+        AuthClass::Gmac => is_aes_key(len),
     }
 }
 
-/// Tags of this many bytes: up to the digest of an HMAC's hash, and up to a block for CMAC and GCM. CCM's have an even number of
+/// Tags of this many bytes: up to a hash's digest for it and its HMAC, and up to a block for CMAC, GCM and GMAC. CCM's have an even number of
 /// them, 4 at least (SP 800-38C, A.1).
 pub(crate) fn takes_tag(class: AuthClass, len: u8) -> bool
     ensures { result ≡ takes_tag class len }
 {
     match class {
         AuthClass::Null => len == 0,
-        AuthClass::Hmac(hash) => len > 0 && len <= hash.digest_bytes(),
-        AuthClass::Cmac(_) | AuthClass::Gcm => len > 0 && len as usize <= BLOCK_BYTES,
+        AuthClass::Hmac(hash) | AuthClass::Plain(hash) => len > 0 && len <= hash.digest_bytes(),
+        AuthClass::Cmac(_) | AuthClass::Gcm | AuthClass::Gmac => {
+            len > 0 && len as usize <= BLOCK_BYTES
+        }
         AuthClass::Ccm => 4 <= len && len as usize <= BLOCK_BYTES && len % 2 == 0,
     }
 }

@@ -1,6 +1,7 @@
 //! What a cipher takes.
 
 ghost use Rattle.std.specs.Prelude.{◌≡◌, length, not};
+ghost use Rattle.mbj_types.specs.Aes.{is_key_size};
 ghost use Rattle.mbj_types.specs.Verdict.{is_null_cipher, goes_with, takes_key, takes_iv, takes_range, takes_aad};
 
 use crate::auth;
@@ -15,22 +16,33 @@ pub(crate) fn is_null(cipher: Cipher) -> bool
     }
 }
 
-/// Whether an authentication goes with the cipher: with GCM and with CCM its own alone, with the others any but these two.
+/// Whether an authentication goes with the cipher: with GCM and with CCM its own alone, with the others any but these two. GMAC has the
+/// job's IV, and goes with no cipher.
 pub(crate) fn goes_with(cipher: Cipher, class: AuthClass) -> bool
     ensures { result ≡ goes_with cipher class }
 {
     match cipher {
-        Cipher::Null | Cipher::Cbc | Cipher::Ctr => !(auth::is_gcm(class) || auth::is_ccm(class)),
+        Cipher::Null => !(auth::is_gcm(class) || auth::is_ccm(class)),
+        Cipher::Cbc | Cipher::Ctr => {
+            !(auth::is_gcm(class) || auth::is_ccm(class)) && !auth::is_gmac(class)
+        }
         Cipher::Gcm => auth::is_gcm(class),
         Cipher::Ccm => auth::is_ccm(class),
     }
 }
 
-/// Keys of this many bytes: 16, 24 or 32 for AES.
+/// Whether AES has keys of this many bytes (FIPS 197, 5).
+pub(crate) fn is_aes_key(len: usize) -> bool
+    ensures { result ≡ is_key_size len }
+{
+    len == 16 || len == 24 || len == 32
+}
+
+/// Keys of this many bytes.
 pub(crate) fn takes_key(cipher: Cipher, len: usize) -> bool
     ensures { result ≡ takes_key cipher len }
 {
-    is_null(cipher) || len == 16 || len == 24 || len == 32
+    is_null(cipher) || is_aes_key(len)
 }
 
 /// Initialization vectors of this many bytes: 16 for CBC, 12 or 16 for CTR, 1 to 65,535 for GCM, 7 to 13 for CCM

@@ -26,7 +26,8 @@ pub fn check(job: &Job) -> Option<Reason>
     if !cipher::takes_key(job.cipher, job.key.as_slice().len()) {
         return Some(Reason::CipherKey);
     }
-    if !cipher::takes_iv(job.cipher, job.iv.as_slice().len()) {
+    let iv_len = job.iv.as_slice().len();
+    if !(cipher::takes_iv(job.cipher, iv_len) && auth::takes_iv(class, iv_len)) {
         return Some(Reason::IvLength);
     }
     if !cipher::is_null(job.cipher) && passes_end(job.cipher_off, job.cipher_len, packet_len) {
