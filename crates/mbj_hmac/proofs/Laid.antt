@@ -1,23 +1,45 @@
 -- The blocks of an entry stand where the entry reads them.
-use Rattle.std.proofs.Common.{◌≡◌, ℕ, zero, suc, ◌+◌, ◌-◌, ◌*◌, ◌/◌, ◌^◌, ◌≤◌, ◌<◌, List, ◌++◌, length, take, drop, refl, sym, ap, ◌∙◌, arith, length-append, length-drop, true}
+use Rattle.std.proofs.Common.{◌≡◌, ℕ, ◌+◌, ◌-◌, ◌*◌, ◌/◌, ◌^◌, ◌≤◌, ◌<◌, ◌⊎◌, inl, inr, List, [], ◌++◌, length, take, drop, refl, sym, ap, ◌∙◌, arith, length-append, length-drop, Bool, true, false}
 use Rattle.std.proofs.lemmas.List.{length-take-le, take_at, append_assoc}
-use Rattle.std.proofs.lemmas.Bool.{le-leb}
-use Rattle.std.specs.Prelude.{nat_le}
+use Rattle.std.proofs.lemmas.Bool.{lt-ltb, le-ltb, cases_lt}
+use Rattle.std.specs.Prelude.{nat_lt, if◌then◌else◌}
 use Rattle.mbj_types.specs.declared.class.HashName.{HashName}
 use Rattle.mbj_hmac.specs.Rounds.{Chaining, HmacState, padded, message, inner_text, outer_text, block_before}
-use Rattle.mbj_hmac.specs.Inside.Layout.{IsStandard, whole_blocks, tail_blocks, fill, seen, IsSound}
-use Rattle.mbj_hmac.proofs.Numbers.{size_range, tail_range, split, rounds_is, fill_is, fill_on, piece_fill, length-padding_of, times_le, blocks}
+use Rattle.mbj_hmac.specs.Inside.Layout.{IsStandard, whole_blocks, tail_blocks, fill, seen, outer_part, IsSound}
+use Rattle.mbj_hmac.proofs.Numbers.{size_range, before_range, split, rounds_is, fill_is, fill_on, piece_fill, length-padding_of, times_le, blocks}
 use Rattle.mbj_hmac.proofs.Texts.{block_left, block_right, block_take, block_drop, block_range}
+
+-- the blocks before the message: an HMAC has the inner pad
+abbrev pub front_blocks : Bool → ℕ
+front_blocks keyed = if keyed then 1 else 0
+
+-- a text of the outer hash is an HMAC's
+outer_is : (keyed : Bool) (x : List ℕ) → 0 < (if keyed then 2 else 0) → (if keyed then x else []) ≡ x
+outer_is true x some = refl
+outer_is false x some = absurd (omega arith)
+
+-- its rounds are two at most
+pub outer_few : (keyed : Bool) → (if keyed then 2 else 0) ≤ 2
+outer_few true = omega arith
+outer_few false = omega arith
 
 module _ (h : Chaining) (std : IsStandard h) where
   abbrev b : ℕ
   b = h.block_bytes
 
-  -- the padding behind a block and a message of n bytes
-  pub length-padding : (n : ℕ) → n < 2 ^ 32 → length (h.padding (b + n)) ≡ 1 + fill b n + 8
-  length-padding n lt =
-      let room : b + n < 2 ^ 33 = omega (arith, (size_range b std.size).1) in
-      ap length (std.pads (b + n) room) ∙ length-padding_of b std.size (b + n) ∙ ap (λ k. 1 + k + 8) (fill_on b std.size n)
+  join : (x y : ℕ) → b * x + y * b ≡ b * (x + y)
+  join x y = omega arith
+
+  -- before the message there is a block, or nothing
+  pub front_bytes : (keyed : Bool) → (b * front_blocks keyed ≡ 0) ⊎ (b * front_blocks keyed ≡ b)
+  front_bytes true = inr (omega arith)
+  front_bytes false = inl (omega arith)
+
+  -- the padding behind p bytes and a message of n
+  pub length-padding : (p n : ℕ) → (p ≡ 0) ⊎ (p ≡ b) → n < 2 ^ 32 → length (h.padding (p + n)) ≡ 1 + fill b n + 8
+  length-padding p n is lt =
+      let room : p + n < 2 ^ 33 = omega (arith, before_range b std.size p is) in
+      ap length (std.pads (p + n) room) ∙ length-padding_of b std.size (p + n) ∙ ap (λ k. 1 + k + 8) (fill_on b std.size p n is)
 
   -- a block and a digest, padded
   pub length-padded : (a : HashName) (back s : List ℕ) → length back ≡ b → length (padded h (back ++ h.digest a s)) ≡ b + b
@@ -30,15 +52,15 @@ module _ (h : Chaining) (std : IsStandard h) where
       ap (λ n. length (h.padding n)) bd ∙ ap length (std.pads (b + length d) room) ∙ length-padding_of b std.size (b + length d) in
       omega (arith, length-append (back ++ d) (h.padding (length (back ++ d))), piece_fill b std.size (length d) small)
 
-  module _ (packet chain inner : List ℕ) (a : HashName) (ends : List ℕ) (rest off len : ℕ) where
+  module _ (packet chain inner : List ℕ) (a : HashName) (keyed : Bool) (ends : List ℕ) (rest off len : ℕ) where
     abbrev e : HmacState
-    e = seen h packet rest chain inner a ends off len
+    e = seen h packet rest chain inner a keyed ends off len
 
     abbrev text : List ℕ
     text = inner_text h e
 
     abbrev out : List ℕ
-    out = outer_text h e
+    out = outer_part h e
 
     abbrev w : ℕ
     w = whole_blocks b len
@@ -46,93 +68,102 @@ module _ (h : Chaining) (std : IsStandard h) where
     abbrev t : ℕ
     t = tail_blocks b len
 
+    -- the rounds of the outer hash, and the blocks before the message
+    abbrev o : ℕ
+    o = if keyed then 2 else 0
+
+    abbrev f : ℕ
+    f = front_blocks keyed
+
     pub length-message : IsSound h ends e → length (message e) ≡ len
-    length-message s = length-take-le len (drop off packet) (omega (arith, length-drop off packet))
+    length-message s = length-take-le len (drop off packet) (omega (arith, s.0, length-drop off packet))
 
-    pub length-front : IsSound h ends e → length e.front ≡ b
-    length-front s = length-take-le b ends (omega (arith, s.4, (size_range b std.size).1))
+    pub length-front : IsSound h ends e → length e.front ≡ b * f
+    length-front s = go keyed
+      where
+        go : (k : Bool) → length (if k then take b ends else []) ≡ b * front_blocks k
+        go true = length-take-le b ends (omega (arith, s.4, (size_range b std.size).1)) ∙ omega arith
+        go false = omega arith
 
-    pub length-text : IsSound h ends e → length text ≡ b * (w + 1 + t)
+    pub length-text : IsSound h ends e → length text ≡ b * (f + w + t)
     length-text s =
-        let fm : length (e.front ++ message e) ≡ b + len = omega (arith, length-append e.front (message e), length-front s, length-message s) in
-        let p : length (h.padding (length (e.front ++ message e))) ≡ 1 + fill b len + 8 = ap (λ n. length (h.padding n)) fm ∙ length-padding len s.2 in
+        let fm : length (e.front ++ message e) ≡ b * f + len = omega (arith, length-append e.front (message e), length-front s, length-message s) in
+        let p : length (h.padding (length (e.front ++ message e))) ≡ 1 + fill b len + 8 = ap (λ n. length (h.padding n)) fm ∙ length-padding (b * f) len (front_bytes keyed) s.2 in
         omega (arith, length-append (e.front ++ message e) (h.padding (length (e.front ++ message e))), split b std.size len, fill_is b std.size len)
 
-    pub length-back : IsSound h ends e → length e.back ≡ b
-    length-back s =
-        let room : b * t ≤ b + b = omega (arith, times_le b std.size t 2 (tail_range b std.size len).1) in
-        length-take-le b (drop (b * (t + 1)) ends) (omega (arith, s.4, length-drop (b * (t + 1)) ends, (size_range b std.size).1))
-
-    pub length-out : IsSound h ends e → length out ≡ b + b
-    length-out s = length-padded a e.back inner (length-back s)
-
     -- how many blocks the inner hash reads
-    text_blocks : IsSound h ends e → length text / b ≡ w + 1 + t
-    text_blocks s = blocks b std.size (w + 1 + t) (length text) (length-text s)
-
-    -- the first block
-    pub first_laid : (r : ℕ) → IsSound h ends e → r ≤ rest → t + 2 + w < r → take b ends ≡ block_before h e r
-    first_laid r s le lt =
-        let yes : nat_le 3 r ≡ true = le-leb 3 r (omega (arith, (tail_range b std.size len).0)) in
-        let place : length text / b + 2 - r ≡ 0 = omega (arith, text_blocks s, rounds_is b std.size len, s.1) in
-        let j : (length text / b + 2 - r) * b ≡ 0 = ap (λ n. n * b) place ∙ omega arith in
-        rw (yes, j, append_assoc) (sym (take_at e.front (message e ++ h.padding (length (e.front ++ message e))) b (length-front s)))
+    text_blocks : IsSound h ends e → length text / b ≡ f + w + t
+    text_blocks s = blocks b std.size (f + w + t) (length text) (length-text s)
 
     -- a block of the packet
-    pub packet_laid : (r q k : ℕ) → IsSound h ends e → t + 2 < r → r + q ≡ t + 2 + w → k ≡ off + b * q → take b (drop k packet) ≡ block_before h e r
+    pub packet_laid : (r q k : ℕ) → IsSound h ends e → t + o < r → r + q ≡ t + o + w → k ≡ off + b * q → take b (drop k packet) ≡ block_before h e r
     packet_laid r q k s lt at ek =
-        let yes : nat_le 3 r ≡ true = le-leb 3 r (omega arith) in
-        let place : length text / b + 2 - r ≡ q + 1 = omega (arith, text_blocks s) in
-        let j : (length text / b + 2 - r) * b ≡ b + b * q = ap (λ n. n * b) place ∙ omega arith in
+        let yes : nat_lt o r ≡ true = lt-ltb o r (omega arith) in
+        let place : length text / b + o - r ≡ q + f = omega (arith, text_blocks s) in
+        let j : (length text / b + o - r) * b ≡ b * f + b * q = ap (λ n. n * b) place ∙ omega arith in
         let before : q + 1 ≤ w = omega arith in
         let inside : b * q + b ≤ len = omega (arith, times_le b std.size (q + 1) w before, split b std.size len) in
         let p : List ℕ = h.padding (length (e.front ++ message e)) in
         let lm : length (message e) ≡ len = length-message s in
-        let read : take b (drop (b + b * q) ((e.front ++ message e) ++ p)) ≡ take b (drop k packet) =
-        ap (λ t. take b (drop (b + b * q) t)) (append_assoc e.front (message e) p)
-        ∙ block_right b (b + b * q) (b * q) e.front (message e ++ p) (ap (λ n. n + b * q) (length-front s))
+        let read : take b (drop (b * f + b * q) ((e.front ++ message e) ++ p)) ≡ take b (drop k packet) =
+        ap (λ t. take b (drop (b * f + b * q) t)) (append_assoc e.front (message e) p)
+        ∙ block_right b (b * f + b * q) (b * q) e.front (message e ++ p) (ap (λ n. n + b * q) (length-front s))
         ∙ block_left b (b * q) (message e) p (omega arith)
         ∙ block_range b (b * q) off len packet inside
         ∙ ap (λ i. take b (drop i packet)) (sym ek) in
         rw (yes, j) (sym read)
 
     abbrev tail : List ℕ
-    tail = drop (b * (w + 1)) text
+    tail = drop (length e.front + b * w) text
 
     pub length-tail : IsSound h ends e → length tail ≡ b * t
-    length-tail s = omega (arith, length-drop (b * (w + 1)) text, length-text s)
+    length-tail s = omega (arith, length-drop (length e.front + b * w) text, length-text s, length-front s)
 
-    by_kind : (r q k : ℕ) → IsSound h ends e → take b (drop k ends) ≡ take b (drop (b * q) (tail ++ out))
-        → r + q ≡ t + 2 → 0 < r → take b (drop k ends) ≡ block_before h e r
-    by_kind zero q k s read at some = absurd (omega arith)
-    by_kind (suc zero) q k s read at some =
-        let place : q ≡ t + 1 = omega arith in
-        let i : length tail + b ≡ b * q = omega (arith, length-tail s, ap (λ n. b * n) place) in
-        let one : (2 - 1) * b ≡ b = omega arith in
-        read ∙ block_right b (b * q) b tail out i ∙ ap (λ n. take b (drop n out)) (sym one)
-    by_kind (suc (suc zero)) q k s read at some =
-        let place : q ≡ t = omega arith in
-        let i : length tail + 0 ≡ b * q = omega (arith, length-tail s, ap (λ n. b * n) place) in
-        let none : (2 - 2) * b ≡ 0 = omega arith in
-        read ∙ block_right b (b * q) 0 tail out i ∙ ap (λ n. take b (drop n out)) (sym none)
-    by_kind (suc (suc (suc r))) q k s read at some =
-        let v : ℕ = suc (suc (suc r)) in
-        let yes : nat_le 3 v ≡ true = le-leb 3 v (omega arith) in
-        let place : length text / b + 2 - v ≡ w + 1 + q = omega (arith, text_blocks s) in
-        let j : b * (w + 1) + b * q ≡ (length text / b + 2 - v) * b = sym (ap (λ n. n * b) place ∙ omega arith) in
+    -- a block of the inner hash
+    inner_laid : (r q : ℕ) → IsSound h ends e → o < r → r + q ≡ t + o → take b (drop (b * q) (tail ++ out)) ≡ block_before h e r
+    inner_laid r q s lt at =
+        let yes : nat_lt o r ≡ true = lt-ltb o r lt in
+        let place : length text / b + o - r ≡ f + w + q = omega (arith, text_blocks s) in
+        let at_front : (length e.front + b * w) + b * q ≡ (f + w + q) * b = omega (arith, length-front s) in
+        let j : (length e.front + b * w) + b * q ≡ (length text / b + o - r) * b = at_front ∙ sym (ap (λ n. n * b) place) in
         let before : q + 1 ≤ t = omega arith in
         let inside : b * q + b ≤ length tail = omega (arith, times_le b std.size (q + 1) t before, length-tail s) in
-        read ∙ block_left b (b * q) tail out inside
-        ∙ block_drop b (b * q) (b * (w + 1)) text
+        block_left b (b * q) tail out inside
+        ∙ block_drop b (b * q) (length e.front + b * w) text
         ∙ ap (λ i. take b (drop i text)) j
         ∙ sym (rw yes refl)
 
+    -- a block of the outer hash
+    outer_laid : (r q : ℕ) → IsSound h ends e → r ≤ o → 0 < r → r + q ≡ t + o → take b (drop (b * q) (tail ++ out)) ≡ block_before h e r
+    outer_laid r q s le some at =
+        let no : nat_lt o r ≡ false = le-ltb o r le in
+        let place : t + (o - r) ≡ q = omega arith in
+        let i : length tail + (o - r) * b ≡ b * q = ap (λ n. n + (o - r) * b) (length-tail s) ∙ join t (o - r) ∙ ap (λ n. b * n) place in
+        block_right b (b * q) ((o - r) * b) tail out i
+        ∙ ap (λ x. take b (drop ((o - r) * b) x)) (outer_is keyed (outer_text h e) (omega arith))
+        ∙ sym (rw no refl)
+
     -- a block behind the packet's whole blocks
-    pub end_laid : (r q k : ℕ) → IsSound h ends e → 0 < r → r + q ≡ t + 2 → k ≡ b + b * q → take b (drop k ends) ≡ block_before h e r
+    pub end_laid : (r q k : ℕ) → IsSound h ends e → 0 < r → r + q ≡ t + o → k ≡ b + b * q → take b (drop k ends) ≡ block_before h e r
     end_laid r q k s some at ek =
-        let before : q + 1 ≤ t + 2 = omega arith in
-        let inside : b * q + b ≤ b * (t + 2) = omega (arith, times_le b std.size (q + 1) (t + 2) before) in
+        let before : q + 1 ≤ t + o = omega arith in
+        let inside : b * q + b ≤ b * (t + o) = omega (arith, times_le b std.size (q + 1) (t + o) before) in
         let read : take b (drop k ends) ≡ take b (drop (b * q) (tail ++ out)) =
         ap (λ i. take b (drop i ends)) ek ∙ sym (block_drop b (b * q) b ends)
-        ∙ sym (block_take b (b * q) (b * (t + 2)) (drop b ends) inside) ∙ ap (λ x. take b (drop (b * q) x)) s.3 in
-        by_kind r q k s read at some
+        ∙ sym (block_take b (b * q) (b * (t + o)) (drop b ends) inside) ∙ ap (λ x. take b (drop (b * q) x)) s.3 in
+        read ∙ elim (cases_lt o r) [ inl lt ↦ inner_laid r q s lt at | inr le ↦ outer_laid r q s le some at ]
+
+  -- the first block is an HMAC's alone
+  pub first_laid : (packet chain inner : List ℕ) (a : HashName) (keyed : Bool) (ends : List ℕ) (rest off len r : ℕ)
+      → IsSound h ends (seen h packet rest chain inner a keyed ends off len) → r ≤ rest
+      → tail_blocks b len + (if keyed then 2 else 0) + whole_blocks b len < r
+      → take b ends ≡ block_before h (seen h packet rest chain inner a keyed ends off len) r
+  first_laid packet chain inner a true ends rest off len r s le lt =
+      let e : HmacState = seen h packet rest chain inner a true ends off len in
+      let text : List ℕ = inner_text h e in
+      let yes : nat_lt 2 r ≡ true = lt-ltb 2 r (omega arith) in
+      let place : length text / b + 2 - r ≡ 0 = omega (arith, text_blocks packet chain inner a true ends rest off len s, rounds_is b std.size len, s.1) in
+      let j : (length text / b + 2 - r) * b ≡ 0 = ap (λ n. n * b) place ∙ omega arith in
+      let lf : length (take b ends) ≡ b = length-front packet chain inner a true ends rest off len s ∙ omega arith in
+      rw (yes, j, append_assoc) (sym (take_at (take b ends) (message e ++ h.padding (length (take b ends ++ message e))) b lf))
+  first_laid packet chain inner a false ends rest off len r s le lt = absurd (omega (arith, rounds_is b std.size len, s.1))

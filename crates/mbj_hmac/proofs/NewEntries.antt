@@ -1,17 +1,17 @@
 -- A new entry.
-use Rattle.std.proofs.Common.{◌≡◌, ℕ, ◌+◌, ◌-◌, ◌*◌, ◌^◌, ◌≤◌, ◌<◌, List, ◌++◌, length, take, drop, refl, sym, ap, ap₂, ◌∙◌, arith, length-append, length-drop}
+use Rattle.std.proofs.Common.{◌≡◌, ℕ, ◌+◌, ◌-◌, ◌*◌, ◌^◌, ◌≤◌, ◌<◌, inr, List, [], ◌++◌, length, take, drop, true, false, refl, sym, ap, ap₂, ◌∙◌, arith, append-nil, length-append, length-drop}
 use Rattle.std.proofs.lemmas.List.{length-take-le, take_at, take-take, drop-append-le, drop-take, drop-drop, append_assoc}
 use Rattle.std.proofs.Math.Seq.{drop-append-add, drop-append_seam}
 use Rattle.std.specs.Prelude.{replicate, IsTrue}
 use Rattle.mbj_types.specs.declared.class.HashName.{HashName}
-use Rattle.mbj_types.specs.Rounds.{hmac_rounds}
-use Rattle.mbj_hmac.specs.Rounds.{Chaining, padded, started}
-use Rattle.mbj_hmac.specs.Inside.Layout.{IsStandard, whole_blocks, tail_blocks, first_ends, seen, IsSound}
-use Rattle.mbj_hmac.proofs.Numbers.{times_le, split, fill_is}
+use Rattle.mbj_types.specs.Rounds.{hash_rounds, hmac_rounds}
+use Rattle.mbj_hmac.specs.Rounds.{Chaining, padded, started, started_plain}
+use Rattle.mbj_hmac.specs.Inside.Layout.{IsStandard, whole_blocks, tail_blocks, message_end, first_ends, seen, IsSound}
+use Rattle.mbj_hmac.proofs.Numbers.{times_le, split}
 use Rattle.mbj_hmac.proofs.Texts.{block_right, block_take}
-use Rattle.mbj_hmac.proofs.Laid.{length-padding}
+use Rattle.mbj_hmac.proofs.FirstEnds.{text_end, length-message_end}
 
-module _ (h : Chaining) (std : IsStandard h) (packet : List ℕ) (a : HashName) (ends front back zeros : List ℕ) (off len : ℕ) where
+module _ (h : Chaining) (std : IsStandard h) (packet : List ℕ) (off len : ℕ) where
   abbrev b : ℕ
   b = h.block_bytes
 
@@ -21,96 +21,104 @@ module _ (h : Chaining) (std : IsStandard h) (packet : List ℕ) (a : HashName) 
   abbrev w : ℕ
   w = whole_blocks b len
 
-  -- the message's end, and the padding behind it
-  abbrev text_end : List ℕ
-  text_end = take (len - b * w) (drop (off + b * w) packet)
+  abbrev msg : List ℕ
+  msg = take len (drop off packet)
 
-  abbrev middle : List ℕ
-  middle = text_end ++ h.padding (b + len)
+  -- the end of the text that the first hash reads, where `front` stands before the message
+  text_tail : (front : List ℕ) → off + len ≤ length packet → drop (length front + b * w) (padded h (front ++ msg)) ≡ message_end h (length front) packet off len
+  text_tail front range =
+      let lm : length msg ≡ len = length-take-le len (drop off packet) (omega (arith, length-drop off packet)) in
+      let all : length (front ++ msg) ≡ length front + len = omega (arith, length-append front msg) in
+      let before : b * w ≤ len = omega (arith, split b std.size len) in
+      let sum : b * w + (len - b * w) ≡ len = omega arith in
+      let p : List ℕ = h.padding (length front + len) in
+      let e : drop (b * w) msg ≡ text_end h std len packet off =
+      ap (λ k. drop (b * w) (take k (drop off packet))) (sym sum) ∙ drop-take (b * w) (len - b * w) (drop off packet)
+      ∙ ap (take (len - b * w)) (drop-drop (b * w) off packet) in
+      ap (λ n. drop (length front + b * w) ((front ++ msg) ++ h.padding n)) all
+      ∙ ap (drop (length front + b * w)) (append_assoc front msg p)
+      ∙ drop-append-add front (msg ++ p) (b * w)
+      ∙ drop-append-le (b * w) msg p (omega arith)
+      ∙ ap (λ x. x ++ p) e
 
-  abbrev digest : List ℕ
-  digest = h.digest a zeros
+  -- an HMAC
+  module _ (a : HashName) (ends front back zeros : List ℕ) where
+    -- the message's end, and the padding behind it
+    abbrev middle : List ℕ
+    middle = message_end h b packet off len
 
-  abbrev last : List ℕ
-  last = digest ++ h.padding (b + length digest)
+    abbrev digest : List ℕ
+    digest = h.digest a zeros
 
-  abbrev pub written : List ℕ
-  written = first_ends h a front back zeros packet off len
+    abbrev last : List ℕ
+    last = digest ++ h.padding (b + length digest)
 
-  pub record Facts : Type 0 where
-    pub front_is : length front ≡ b
-    pub back_is : length back ≡ b
-    pub range : off + len ≤ length packet
-    pub small : len < 2 ^ 32
-    pub whole : length ends ≡ 5 * b
-    pub served : IsTrue (h.serves a)
-    pub ends_are : take (b * (t + 3)) ends ≡ written
+    abbrev pub written : List ℕ
+    written = first_ends h a front back zeros packet off len
 
-  module _ (f : Facts) where
-    abbrev msg : List ℕ
-    msg = take len (drop off packet)
+    pub record Facts : Type 0 where
+      pub front_is : length front ≡ b
+      pub back_is : length back ≡ b
+      pub range : off + len ≤ length packet
+      pub small : len < 2 ^ 32
+      pub whole : length ends ≡ 5 * b
+      pub served : IsTrue (h.serves a)
+      pub ends_are : take (b * (t + 3)) ends ≡ written
 
-    length-msg : length msg ≡ len
-    length-msg = length-take-le len (drop off packet) (omega (arith, f.range, length-drop off packet))
+    module _ (f : Facts) where
+      regroup : written ≡ front ++ (middle ++ (back ++ last))
+      regroup = simp append_assoc refl
 
-    length-all : length (front ++ msg) ≡ b + len
-    length-all = omega (arith, length-append front msg, length-msg, f.front_is)
+      length-middle : length middle ≡ b * t
+      length-middle =
+          omega (arith, length-append (text_end h std len packet off) (h.padding (b + len)), length-message_end h std len packet off b (inr refl) f.range f.small)
 
-    -- the end of the padded text
-    text_tail : drop (b * (w + 1)) (padded h (front ++ msg)) ≡ middle
-    text_tail =
-        let i : b * (w + 1) ≡ length front + b * w = omega (arith, f.front_is) in
-        let before : b * w ≤ len = omega (arith, split b std.size len) in
-        let sum : b * w + (len - b * w) ≡ len = omega arith in
-        let p : List ℕ = h.padding (b + len) in
-        let e : drop (b * w) msg ≡ text_end =
-        ap (λ k. drop (b * w) (take k (drop off packet))) (sym sum) ∙ drop-take (b * w) (len - b * w) (drop off packet)
-        ∙ ap (take (len - b * w)) (drop-drop (b * w) off packet) in
-        ap₂ (λ k n. drop k ((front ++ msg) ++ h.padding n)) i length-all
-        ∙ ap (drop (length front + b * w)) (append_assoc front msg p)
-        ∙ drop-append-add front (msg ++ p) (b * w)
-        ∙ drop-append-le (b * w) msg p (omega (arith, length-msg))
-        ∙ ap (λ x. x ++ p) e
+      front_laid : take b ends ≡ front
+      front_laid =
+          sym (take-take b (b * (t + 3)) ends (omega (arith, times_le b std.size 1 (t + 3) (omega arith)))) ∙ ap (take b) (f.ends_are ∙ regroup)
+          ∙ take_at front (middle ++ (back ++ last)) b f.front_is
 
-    regroup : written ≡ front ++ (middle ++ (back ++ last))
-    regroup = simp append_assoc refl
+      tail_laid : take (b * (t + 2)) (drop b ends) ≡ middle ++ (back ++ last)
+      tail_laid =
+          let i : b * (t + 3) ≡ b + b * (t + 2) = omega arith in
+          sym (drop-take b (b * (t + 2)) ends) ∙ ap (λ k. drop b (take k ends)) (sym i) ∙ ap (drop b) (f.ends_are ∙ regroup)
+          ∙ ap (λ k. drop k (front ++ (middle ++ (back ++ last)))) (sym f.front_is)
+          ∙ drop-append_seam front (middle ++ (back ++ last))
 
-    length-middle : length middle ≡ b * t
-    length-middle =
-        let lt : length text_end ≡ len - b * w =
-        length-take-le (len - b * w) (drop (off + b * w) packet) (omega (arith, f.range, length-drop (off + b * w) packet)) in
-        omega (arith, length-append text_end (h.padding (b + len)), length-padding h std len f.small, fill_is b std.size len, split b std.size len)
+      back_laid : take b (drop (b * (t + 1)) ends) ≡ back
+      back_laid =
+          let i : b * (t + 1) ≡ b + b * t = omega arith in
+          ap (λ k. take b (drop k ends)) i ∙ ap (take b) (sym (drop-drop (b * t) b ends))
+          ∙ sym (block_take b (b * t) (b * (t + 2)) (drop b ends) (omega arith))
+          ∙ ap (λ x. take b (drop (b * t) x)) tail_laid
+          ∙ block_right b (b * t) 0 middle (back ++ last) (omega (arith, length-middle))
+          ∙ take_at back last b f.back_is
 
-    front_laid : take b ends ≡ front
-    front_laid =
-        sym (take-take b (b * (t + 3)) ends (omega (arith, times_le b std.size 1 (t + 3) (omega arith)))) ∙ ap (take b) (f.ends_are ∙ regroup)
-        ∙ take_at front (middle ++ (back ++ last)) b f.front_is
+      pub new_sound : (chain : List ℕ) (rest : ℕ) → rest ≡ hmac_rounds b len → IsSound h ends (seen h packet rest chain zeros a true ends off len)
+      new_sound chain rest r =
+          let n : length (back ++ digest) ≡ b + length digest = length-append back digest ∙ ap (λ n. n + length digest) f.back_is in
+          let o : back ++ last ≡ padded h (back ++ digest) =
+          sym (append_assoc back digest (h.padding (b + length digest))) ∙ ap (λ k. (back ++ digest) ++ h.padding k) (sym n) in
+          let inner : middle ≡ drop (length front + b * w) (padded h (front ++ msg)) =
+          ap (λ n. message_end h n packet off len) (sym f.front_is) ∙ sym (text_tail front f.range) in
+          let laid : take (b * (t + 2)) (drop b ends) ≡ drop (length front + b * w) (padded h (front ++ msg)) ++ padded h (back ++ digest) =
+          tail_laid ∙ ap₂ (λ x y. x ++ y) inner o in
+          (f.range, omega (arith, r), f.small, rw (front_laid, back_laid) laid, f.whole, f.served)
 
-    tail_laid : take (b * (t + 2)) (drop b ends) ≡ middle ++ (back ++ last)
-    tail_laid =
-        let i : b * (t + 3) ≡ b + b * (t + 2) = omega arith in
-        sym (drop-take b (b * (t + 2)) ends) ∙ ap (λ k. drop b (take k ends)) (sym i) ∙ ap (drop b) (f.ends_are ∙ regroup)
-        ∙ ap (λ k. drop k (front ++ (middle ++ (back ++ last)))) (sym f.front_is)
-        ∙ drop-append_seam front (middle ++ (back ++ last))
+      pub new_seen : (rest : ℕ) → rest ≡ hmac_rounds b len → zeros ≡ replicate h.words 0
+          → seen h packet rest (h.initial a) zeros a true ends off len ≡ started h a front back packet off len
+      new_seen rest r z = rw (front_laid, back_laid, r, z) refl
 
-    back_laid : take b (drop (b * (t + 1)) ends) ≡ back
-    back_laid =
-        let i : b * (t + 1) ≡ b + b * t = omega arith in
-        ap (λ k. take b (drop k ends)) i ∙ ap (take b) (sym (drop-drop (b * t) b ends))
-        ∙ sym (block_take b (b * t) (b * (t + 2)) (drop b ends) (omega arith))
-        ∙ ap (λ x. take b (drop (b * t) x)) tail_laid
-        ∙ block_right b (b * t) 0 middle (back ++ last) (omega (arith, length-middle))
-        ∙ take_at back last b f.back_is
+  -- a digest
+  pub plain_sound : (a : HashName) (ends chain zeros : List ℕ) (rest : ℕ) → off + len ≤ length packet → len < 2 ^ 32 → length ends ≡ 5 * b → IsTrue (h.serves a)
+      → take (b * t) (drop b ends) ≡ message_end h 0 packet off len → rest ≡ hash_rounds b len
+      → IsSound h ends (seen h packet rest chain zeros a false ends off len)
+  plain_sound a ends chain zeros rest range small whole served ends_are r =
+      let none : t + 0 ≡ t = omega arith in
+      let laid = ap (λ (n : ℕ). take (b * n) (drop b ends)) none ∙ ends_are ∙ sym (text_tail [] range)
+      ∙ sym (append-nil (drop (0 + b * w) (padded h msg))) in
+      (range, omega (arith, r), small, laid, whole, served)
 
-    pub new_sound : (chain : List ℕ) (rest : ℕ) → rest ≡ hmac_rounds b len → IsSound h ends (seen h packet rest chain zeros a ends off len)
-    new_sound chain rest r =
-        let n : length (back ++ digest) ≡ b + length digest = length-append back digest ∙ ap (λ n. n + length digest) f.back_is in
-        let o : back ++ last ≡ padded h (back ++ digest) =
-        sym (append_assoc back digest (h.padding (b + length digest))) ∙ ap (λ k. (back ++ digest) ++ h.padding k) (sym n) in
-        let laid : take (b * (t + 2)) (drop b ends) ≡ drop (b * (w + 1)) (padded h (front ++ msg)) ++ padded h (back ++ digest) =
-        tail_laid ∙ ap₂ (λ x y. x ++ y) (sym text_tail) o in
-        (f.range, omega (arith, r), f.small, rw (front_laid, back_laid) laid, f.whole, f.served)
-
-    pub new_seen : (rest : ℕ) → rest ≡ hmac_rounds b len → zeros ≡ replicate h.words 0
-        → seen h packet rest (h.initial a) zeros a ends off len ≡ started h a front back packet off len
-    new_seen rest r z = rw (front_laid, back_laid, r, z) refl
+  pub plain_seen : (a : HashName) (ends zeros : List ℕ) (rest : ℕ) → rest ≡ hash_rounds b len → zeros ≡ replicate h.words 0
+      → seen h packet rest (h.initial a) zeros a false ends off len ≡ started_plain h a packet off len
+  plain_seen a ends zeros rest r z = rw (r, z) refl

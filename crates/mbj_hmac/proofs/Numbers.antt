@@ -1,9 +1,9 @@
 -- How many blocks and bytes a message and its padding take, for blocks of 64 and of 128 bytes.
-use Rattle.std.proofs.Common.{◌≡◌, ℕ, ◌+◌, ◌*◌, ◌/◌, ◌%◌, ◌≤◌, ◌<◌, ◌⊎◌, inl, inr, length, subst, sym, arith, length-append}
+use Rattle.std.proofs.Common.{◌≡◌, ℕ, ◌+◌, ◌*◌, ◌/◌, ◌%◌, ◌≤◌, ◌<◌, ◌⊎◌, inl, inr, length, subst, sym, ap, ◌∙◌, arith, length-append}
 use Rattle.std.proofs.lemmas.List.{length-replicate}
 use Rattle.std.specs.Prelude.{List, replicate}
 use Rattle.std.specs.Int.{w64, to_be_bytes}
-use Rattle.mbj_types.specs.Rounds.{hmac_rounds}
+use Rattle.mbj_types.specs.Rounds.{hash_rounds}
 use Rattle.mbj_hmac.specs.Inside.Layout.{tail_blocks, fill, padding_of}
 
 module _ (b : ℕ) (size : (b ≡ 64) ⊎ (b ≡ 128)) where
@@ -25,9 +25,9 @@ module _ (b : ℕ) (size : (b ≡ 64) ⊎ (b ≡ 128)) where
   pub split : (n : ℕ) → b * (n / b) + n % b ≡ n
   split n = by_size (λ b. b * (n / b) + n % b ≡ n) (omega arith) (omega arith)
 
-  pub rounds_is : (n : ℕ) → hmac_rounds b n ≡ n / b + tail_blocks b n + 3
+  pub rounds_is : (n : ℕ) → hash_rounds b n ≡ n / b + tail_blocks b n
   unfolding tail_blocks
-  rounds_is n = by_size (λ b. hmac_rounds b n ≡ n / b + tail_blocks b n + 3) (omega arith) (omega arith)
+  rounds_is n = by_size (λ b. hash_rounds b n ≡ n / b + tail_blocks b n) (omega arith) (omega arith)
 
   -- the tail is full
   pub fill_is : (n : ℕ) → n % b + 1 + fill b n + 8 ≡ b * tail_blocks b n
@@ -39,9 +39,18 @@ module _ (b : ℕ) (size : (b ≡ 64) ⊎ (b ≡ 128)) where
   fill_less n = by_size (λ b. fill b n < 144) (omega arith) (omega arith)
 
   -- a block before the message changes nothing of its padding but the length
-  pub fill_on : (n : ℕ) → fill b (b + n) ≡ fill b n
+  fill_on_block : (n : ℕ) → fill b (b + n) ≡ fill b n
   unfolding tail_blocks fill
-  fill_on n = by_size (λ b. fill b (b + n) ≡ fill b n) (omega arith) (omega arith)
+  fill_on_block n = by_size (λ b. fill b (b + n) ≡ fill b n) (omega arith) (omega arith)
+
+  pub fill_on : (p n : ℕ) → (p ≡ 0) ⊎ (p ≡ b) → fill b (p + n) ≡ fill b n
+  fill_on p n is =
+      let none : 0 + n ≡ n = omega arith in
+      elim is [ inl e ↦ ap (λ x. fill b (x + n)) e ∙ ap (fill b) none | inr e ↦ ap (λ x. fill b (x + n)) e ∙ fill_on_block n ]
+
+  -- such a block is no longer than 128 bytes
+  pub before_range : (p : ℕ) → (p ≡ 0) ⊎ (p ≡ b) → p ≤ 128
+  before_range p is = elim is [ inl e ↦ omega arith | inr e ↦ omega (arith, size_range) ]
 
   -- a block, and a piece that leaves room for the padding, end with a block
   pub piece_fill : (n : ℕ) → n + 1 + b / 8 ≤ b → n + 1 + fill b (b + n) + 8 ≡ b

@@ -1,15 +1,16 @@
 -- Entries that go on by blocks, the outer pad's being at most the first of them.
-use Rattle.std.proofs.Common.{◌≡◌, ℕ, zero, suc, ◌+◌, ◌-◌, ◌≤◌, ◌<◌, List, [], ◌∷◌, length, map, min, get_or, eqb, Bool, true, false, refl, sym, ap, ap₂, ◌∙◌, arith, add-one}
-use Rattle.std.specs.Prelude.{nat_le, if◌then◌else◌}
-use Rattle.std.proofs.lemmas.Bool.{le-leb, eqb-true}
+use Rattle.std.proofs.Common.{◌≡◌, ℕ, zero, suc, ◌+◌, ◌-◌, ◌≤◌, ◌<◌, List, [], ◌∷◌, length, map, min, get_or, eqb, ◌&&◌, Bool, true, false, ◌⊎◌, inl, inr, refl, sym, ap, ap₂, ◌∙◌, arith, add-one}
+use Rattle.std.specs.Prelude.{nat_lt, if◌then◌else◌}
+use Rattle.std.proofs.lemmas.Bool.{cases_lt, lt-ltb, le-ltb, eqb-true}
 use Rattle.std.proofs.lemmas.List.{length-map}
 use Rattle.mbj_lane.specs.Rounds.{after, least_from}
 use Rattle.mbj_lane.specs.Laws.{rest-after}
 use Rattle.mbj_lane.proofs.Led.{after-one_more, map-after-after, get_or-map, rests-after}
 use Rattle.mbj_lane.proofs.Least.{least_from-le, least_from-at}
-use Rattle.mbj_hmac.specs.Rounds.{Chaining, HmacState, block_before, advanced, turned, round, rest_of}
+use Rattle.mbj_hmac.specs.Rounds.{Chaining, HmacState, block_before, advanced, outer_rounds, turned, round, rest_of}
 use Rattle.mbj_hmac.specs.Inside.LaneEntry.{reach_of}
 use Rattle.mbj_hmac.specs.Laws.Falls.{turned_rest, falls}
+use Rattle.mbj_hmac.specs.Laws.Tests.{not_both}
 
 module _ (h : Chaining) where
   -- blocks change the hash value and the rest alone
@@ -26,28 +27,23 @@ module _ (h : Chaining) where
       ap (λ (x : HmacState). x.chain) (sym (after-one_more (advanced h) d e))
       ∙ ap (λ x. h.compress (after (advanced h) d e).chain (block_before h x x.rest)) (after_moved d e)
 
--- how far an entry goes, by its rest
-abbrev reach : ℕ → ℕ
-reach n = if nat_le 3 n then n - 2 else n
+-- how far an entry goes, by its rest and the rounds of its outer hash
+module _ (o n : ℕ) where
+  abbrev reach : ℕ
+  reach = if nat_lt o n then n - o else n
 
-reach_le : (n : ℕ) → reach n ≤ n
-reach_le zero = omega arith
-reach_le (suc zero) = omega arith
-reach_le (suc (suc zero)) = omega arith
-reach_le (suc (suc (suc n))) = rw (le-leb 3 (suc (suc (suc n))) (omega arith)) (omega arith)
+  reach_is : ((o < n) × (reach ≡ n - o)) ⊎ ((n ≤ o) × (reach ≡ n))
+  reach_is = elim (cases_lt o n) [ inl lt ↦ inl (lt, rw (lt-ltb o n lt) refl) | inr le ↦ inr (le, rw (le-ltb o n le) refl) ]
 
-reach_some : (n : ℕ) → 1 ≤ n → 0 < reach n
-reach_some zero h = absurd (omega arith)
-reach_some (suc zero) h = omega arith
-reach_some (suc (suc zero)) h = omega arith
-reach_some (suc (suc (suc n))) h = rw (le-leb 3 (suc (suc (suc n))) (omega arith)) (omega arith)
+  reach_le : reach ≤ n
+  reach_le = elim reach_is [ inl p ↦ omega arith | inr p ↦ omega arith ]
 
--- within its reach, and behind its first round, an entry doesn't come to the outer pad's round
-reach_before : (n k : ℕ) → suc (suc k) ≤ reach n → n - suc k ≡ 2 → ⊥
-reach_before zero k le e = omega arith
-reach_before (suc zero) k le e = omega arith
-reach_before (suc (suc zero)) k le e = omega arith
-reach_before (suc (suc (suc n))) k le e = let le' : suc (suc k) ≤ suc (suc (suc n)) - 2 = rw (le-leb 3 (suc (suc (suc n))) (omega arith)) at le in omega arith
+  reach_some : 1 ≤ n → 0 < reach
+  reach_some h = elim reach_is [ inl p ↦ omega arith | inr p ↦ omega arith ]
+
+  -- within its reach, and behind its first round, an entry doesn't come to the outer pad's round
+  reach_before : (k : ℕ) → suc (suc k) ≤ reach → n - suc k ≡ o → ⊥
+  reach_before k le e = elim reach_is [ inl p ↦ omega arith | inr p ↦ omega arith ]
 
 pub least_from-some : (f : HmacState → ℕ) (n : ℕ) (es : List HmacState) → 0 < n → ((j : ℕ) (d : HmacState) → j < length es → 0 < f (get_or es j d)) → 0 < least_from f n es
 least_from-some f n [] h le = h
@@ -55,27 +51,50 @@ least_from-some f n (e ∷ es) h le =
     let first : 0 < f e = le 0 e (omega arith) in
     least_from-some f (min n (f e)) es (omega arith) (λ j d lt. le (suc j) d (omega arith))
 
+-- what holds with another holds
+second : (x y : Bool) → (x && y) ≡ true → y ≡ true
+second true y q = q
+second false y q = absurd (not_both q)
+
 module _ (h : Chaining) where
   -- an entry whose outer pad isn't next isn't turned
-  unturned : (e : HmacState) → (e.rest ≡ 2 → ⊥) → turned h e ≡ e
-  unturned e apart = go (eqb e.rest 2) refl
+  unturned : (e : HmacState) → (e.rest ≡ outer_rounds e → ⊥) → turned h e ≡ e
+  unturned e apart = go (e.keyed && eqb e.rest (outer_rounds e)) refl
     where
-      go : (b : Bool) → eqb e.rest 2 ≡ b → turned h e ≡ e
-      go true q = absurd (apart (eqb-true e.rest 2 q))
+      go : (b : Bool) → (e.keyed && eqb e.rest (outer_rounds e)) ≡ b → turned h e ≡ e
+      go true q = absurd (apart (eqb-true e.rest (outer_rounds e) (second e.keyed (eqb e.rest (outer_rounds e)) q)))
       go false q = rw q refl
 
+  -- what is turned is an HMAC or a digest as before
+  turned_keyed : (e : HmacState) → (turned h e).keyed ≡ e.keyed
+  turned_keyed e = go (e.keyed && eqb e.rest (outer_rounds e))
+    where
+      go : (b : Bool) → (if b then record e { chain = h.initial e.hash; inner = e.chain } else e).keyed ≡ e.keyed
+      go true = refl
+      go false = refl
+
+  -- and so is what is led
+  keyed_after : (k : ℕ) (e : HmacState) → (after (round h) k e).keyed ≡ e.keyed
+  keyed_after zero e = refl
+  keyed_after (suc k) e = keyed_after k (round h e) ∙ turned_keyed e
+
+  -- a turn leaves the reach
+  turned_reach : (e : HmacState) → reach_of (turned h e) ≡ reach_of e
+  turned_reach e = ap₂ (λ (k : Bool) (n : ℕ). reach (if k then 2 else 0) n) (turned_keyed e) (turned_rest h e)
+
   -- rounds are blocks, where no outer pad is among them but at first
-  pub rounds_are_blocks : (k : ℕ) (e : HmacState) → suc k ≤ reach e.rest → after (round h) (suc k) e ≡ after (advanced h) (suc k) (turned h e)
+  pub rounds_are_blocks : (k : ℕ) (e : HmacState) → suc k ≤ reach_of e → after (round h) (suc k) e ≡ after (advanced h) (suc k) (turned h e)
   rounds_are_blocks zero e le = refl
   rounds_are_blocks (suc k) e le =
       let x : HmacState = after (round h) (suc k) e in
       let xr : x.rest ≡ e.rest - suc k = rest-after (round h) rest_of (falls h) (suc k) e in
-      let stays : turned h x ≡ x = unturned x (λ q. reach_before e.rest k le (sym xr ∙ q)) in
+      let xo : outer_rounds x ≡ outer_rounds e = ap (λ (b : Bool). if b then 2 else 0) (keyed_after (suc k) e) in
+      let stays : turned h x ≡ x = unturned x (λ q. reach_before (outer_rounds e) e.rest k le (sym xr ∙ q ∙ xo)) in
       ap (λ n. after (round h) n e) (sym (add-one (suc k))) ∙ sym (after-one_more (round h) (suc k) e)
       ∙ ap (advanced h) (stays ∙ rounds_are_blocks k e (omega arith))
       ∙ after-one_more (advanced h) (suc k) (turned h e) ∙ ap (λ n. after (advanced h) n (turned h e)) (add-one (suc k))
 
-  pub all_blocks : (k : ℕ) (es : List HmacState) → ((j : ℕ) (d : HmacState) → j < length es → suc k ≤ reach (get_or es j d).rest)
+  pub all_blocks : (k : ℕ) (es : List HmacState) → ((j : ℕ) (d : HmacState) → j < length es → suc k ≤ reach_of (get_or es j d))
       → map (after (advanced h) (suc k)) (map (turned h) es) ≡ map (after (round h) (suc k)) es
   all_blocks k [] le = refl
   all_blocks k (e ∷ es) le =
@@ -102,16 +121,19 @@ module _ (h : Chaining) (es now turns : List HmacState) (m left k : ℕ) where
   pub k_le : Facts → k ≤ left
   k_le f = rw f.3 (least_from-le reach_of left turns)
 
-  k_reach : Facts → (j : ℕ) (d : HmacState) → j < length turns → k ≤ reach (get_or turns j d).rest
+  reach_same : Facts → (j : ℕ) (d : HmacState) → j < length now → reach_of (get_or turns j d) ≡ reach_of (get_or now j d)
+  reach_same f j d lt = ap (λ (xs : List HmacState). reach_of (get_or xs j d)) f.2 ∙ ap reach_of (get_or-map (turned h) now j d lt) ∙ turned_reach h (get_or now j d)
+
+  k_reach : Facts → (j : ℕ) (d : HmacState) → j < length turns → k ≤ reach_of (get_or turns j d)
   k_reach f j d lt = rw f.3 (least_from-at reach_of left turns j d lt)
 
   pub k_some : Facts → 0 < k
   k_some f = rw f.3 (least_from-some reach_of left turns f.4 (λ j d lt.
       let lt' : j < length now = omega (arith, lengths f) in
-      reach_some (get_or turns j d).rest (rw (rest_same f j d lt') (some_left f j d lt'))))
+      reach_some (outer_rounds (get_or turns j d)) (get_or turns j d).rest (rw (rest_same f j d lt') (some_left f j d lt'))))
 
   pub k_rests : Facts → (j : ℕ) (d : HmacState) → j < length turns → k ≤ (get_or turns j d).rest
-  k_rests f j d lt = omega (arith, k_reach f j d lt, reach_le (get_or turns j d).rest)
+  k_rests f j d lt = omega (arith, k_reach f j d lt, reach_le (outer_rounds (get_or turns j d)) (get_or turns j d).rest)
 
   pub led : Facts → map (after (advanced h) k) turns ≡ map (after (round h) (m - (left - k))) es
   led f = go k refl
@@ -120,8 +142,8 @@ module _ (h : Chaining) (es now turns : List HmacState) (m left k : ℕ) where
       go zero q = absurd (omega (arith, k_some f))
       go (suc n) q =
           let sum : (m - left) + suc n ≡ m - (left - k) = omega (arith, k_le f, f.0) in
-          let all : (j : ℕ) (d : HmacState) → j < length now → suc n ≤ reach (get_or now j d).rest = λ j d lt.
-          let lt' : j < length turns = omega (arith, lengths f) in rw (q, ← rest_same f j d lt) (k_reach f j d lt') in
+          let all : (j : ℕ) (d : HmacState) → j < length now → suc n ≤ reach_of (get_or now j d) = λ j d lt.
+          let lt' : j < length turns = omega (arith, lengths f) in omega (arith, q, reach_same f j d lt, k_reach f j d lt') in
           ap₂ (λ i xs. map (after (advanced h) i) xs) (sym q) f.2
           ∙ all_blocks h n now all
           ∙ ap (map (after (round h) (suc n))) f.1

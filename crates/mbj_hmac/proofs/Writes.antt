@@ -1,12 +1,13 @@
 -- Bytes that are written one behind the other.
-use Rattle.std.proofs.Common.{◌≡◌, ℕ, ◌+◌, ◌*◌, ◌≤◌, ◌<◌, ◌^◌, List, ◌∷◌, ◌++◌, length, take, sym, ap, ap₂, ◌∙◌, arith, length-append, ◌/◌}
+use Rattle.std.proofs.Common.{◌≡◌, ℕ, ◌+◌, ◌*◌, ◌≤◌, ◌<◌, ◌^◌, List, ◌∷◌, ◌++◌, ◌⊎◌, length, take, sym, ap, ap₂, ◌∙◌, arith, length-append, ◌/◌}
 use Rattle.std.proofs.lemmas.List.{append_assoc, length-replicate}
 use Rattle.std.specs.Prelude.{replicate}
 use Rattle.std.specs.Int.{w64, to_be_bytes}
 use Rattle.mbj_types.specs.declared.class.HashName.{HashName}
 use Rattle.mbj_hmac.specs.Rounds.{Chaining}
 use Rattle.mbj_hmac.specs.Inside.Layout.{IsStandard, fill}
-use Rattle.mbj_hmac.proofs.Numbers.{fill_on, piece_fill, size_range, length-padding_of}
+use Rattle.mbj_hmac.proofs.Numbers.{before_range, fill_on, piece_fill, size_range, length-padding_of}
+use Rattle.mbj_hmac.proofs.Laid.{length-padding}
 
 -- a write behind a write
 pub behind : (xs ys zs x y : List ℕ) (at next : ℕ) → next ≡ at + length x → take (at + length x) ys ≡ take at xs ++ x
@@ -19,29 +20,20 @@ module _ (h : Chaining) (std : IsStandard h) where
   abbrev b : ℕ
   b = h.block_bytes
 
-  -- the start of the padding, and the length in bits
-  abbrev pub start : ℕ → List ℕ
-  start n = 0x80 ∷ replicate (fill b n) 0
-
-  abbrev pub bits : ℕ → List ℕ
-  bits n = to_be_bytes w64 (8 * (b + n))
-
-  pub padding_parts : (n : ℕ) → n < 2 ^ 32 → h.padding (b + n) ≡ start n ++ bits n
-  padding_parts n lt =
-      let room : b + n < 2 ^ 33 = omega (arith, (size_range b std.size).1) in
-      let times : (b + n) * 8 ≡ 8 * (b + n) = omega arith in
-      std.pads (b + n) room ∙ ap₂ (λ f m. (0x80 ∷ replicate f 0) ++ to_be_bytes w64 m) (fill_on b std.size n) times
-
-  pub length-start : (n : ℕ) → length (start n) ≡ 1 + fill b n
-  length-start n = omega (arith, length-replicate {A = ℕ} (fill b n) 0)
+  -- how long the padding is behind p bytes and a message of n, whose start is x
+  pub padding_length : (p n f : ℕ) (x : List ℕ) → (p ≡ 0) ⊎ (p ≡ b) → n < 2 ^ 32 → f ≡ fill b n → x ≡ 0x80 ∷ replicate f 0
+      → length x + 8 ≡ length (h.padding (p + n))
+  padding_length p n f x is lt ef ex = omega (arith, ap length ex, length-replicate {A = ℕ} f 0, ef, length-padding h std p n is lt)
 
   -- the padding, by its parts as they were made
-  pub padding_made : (n f blk : ℕ) (x y : List ℕ) → n < 2 ^ 32 → f ≡ fill b n → blk ≡ b → x ≡ 0x80 ∷ replicate f 0 → y ≡ to_be_bytes w64 (8 * (blk + n))
-      → h.padding (b + n) ≡ x ++ y
-  padding_made n f blk x y lt ef eb ex ey =
-      padding_parts n lt
-      ∙ ap₂ (λ (k m : ℕ). (0x80 ∷ replicate k 0) ++ to_be_bytes w64 (8 * (m + n))) (sym ef) (sym eb)
-      ∙ ap₂ (λ p q. p ++ q) (sym ex) (sym ey)
+  pub padding_made : (p n f : ℕ) (x y : List ℕ) → (p ≡ 0) ⊎ (p ≡ b) → n < 2 ^ 32 → f ≡ fill b n → x ≡ 0x80 ∷ replicate f 0 → y ≡ to_be_bytes w64 (8 * (p + n))
+      → h.padding (p + n) ≡ x ++ y
+  padding_made p n f x y is lt ef ex ey =
+      let room : p + n < 2 ^ 33 = omega (arith, before_range b std.size p is) in
+      let times : (p + n) * 8 ≡ 8 * (p + n) = omega arith in
+      std.pads (p + n) room
+      ∙ ap₂ (λ (k m : ℕ). (0x80 ∷ replicate k 0) ++ to_be_bytes w64 m) (fill_on b std.size p n is ∙ sym ef) times
+      ∙ ap₂ (λ q r. q ++ r) (sym ex) (sym ey)
 
   -- a digest and its padding are a block
   pub digest_full : (a : HashName) (s : List ℕ) → length (h.digest a s) + length (h.padding (b + length (h.digest a s))) ≡ b

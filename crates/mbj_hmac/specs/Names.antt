@@ -1,5 +1,5 @@
--- The hash of an HMAC, by its name.
-use Rattle.std.specs.Prelude.{Bool, false, Option, Some, None}
+-- The hash of an HMAC and of a digest, by its name.
+use Rattle.std.specs.Prelude.{Bool, false, ◌||◌, Option, Some, None}
 use Rattle.mbj_types.specs.declared.class.AuthClass.{AuthClass}
 use Rattle.mbj_types.specs.declared.class.AuthClass.TheVariants as class
 use Rattle.mbj_types.specs.declared.class.HashName.{HashName}
@@ -14,6 +14,8 @@ name_in (class.Hmac n) = Some n
 name_in (class.Cmac k) = None
 name_in class.Gcm = None
 name_in class.Ccm = None
+name_in (class.Plain n) = None
+name_in class.Gmac = None
 
 abbrev pub name_of : Auth → Option HashName
 name_of a = name_in (class_of a)
@@ -25,6 +27,44 @@ serves_class h (class.Hmac n) = h.serves n
 serves_class h (class.Cmac k) = false
 serves_class h class.Gcm = false
 serves_class h class.Ccm = false
+serves_class h (class.Plain n) = false
+serves_class h class.Gmac = false
 
 abbrev pub serves_auth : Chaining → Auth → Bool
 serves_auth h a = serves_class h (class_of a)
+
+-- ---- digests
+
+abbrev pub plain_name_in : AuthClass → Option HashName
+plain_name_in class.Null = None
+plain_name_in (class.Hmac n) = None
+plain_name_in (class.Cmac k) = None
+plain_name_in class.Gcm = None
+plain_name_in class.Ccm = None
+plain_name_in (class.Plain n) = Some n
+plain_name_in class.Gmac = None
+
+abbrev pub plain_name_of : Auth → Option HashName
+plain_name_of a = plain_name_in (class_of a)
+
+-- an authentication is the digest of a hash that is served
+abbrev pub serves_plain_class : Chaining → AuthClass → Bool
+serves_plain_class h class.Null = false
+serves_plain_class h (class.Hmac n) = false
+serves_plain_class h (class.Cmac k) = false
+serves_plain_class h class.Gcm = false
+serves_plain_class h class.Ccm = false
+serves_plain_class h (class.Plain n) = h.serves n
+serves_plain_class h class.Gmac = false
+
+abbrev pub serves_plain : Chaining → Auth → Bool
+serves_plain h a = serves_plain_class h (class_of a)
+
+-- ---- both
+
+-- an authentication is done in the lanes: the HMAC or the digest of a hash that is served
+abbrev pub serves_lanes_class : Chaining → AuthClass → Bool
+serves_lanes_class h a = serves_class h a || serves_plain_class h a
+
+abbrev pub serves_lanes : Chaining → Auth → Bool
+serves_lanes h a = serves_lanes_class h (class_of a)

@@ -1,7 +1,7 @@
--- The rounds of an HMAC (RFC 2104, 2): the compressions of its two hashes, one after the other.
-use Rattle.std.specs.Prelude.{Bool, ℕ, zero, suc, ◌+◌, ◌-◌, ◌*◌, ◌/◌, ◌==◌, nat_le, List, ◌++◌, length, take, drop, replicate, if◌then◌else◌}
+-- The rounds of a digest (FIPS 180-4), and of an HMAC (RFC 2104, 2), which are the compressions of its two hashes, one after the other.
+use Rattle.std.specs.Prelude.{Bool, true, false, ℕ, zero, suc, ◌+◌, ◌-◌, ◌*◌, ◌/◌, ◌==◌, ◌&&◌, nat_lt, List, [], ◌++◌, length, take, drop, replicate, if◌then◌else◌}
 use Rattle.mbj_types.specs.declared.class.HashName.{HashName}
-use Rattle.mbj_types.specs.Rounds.{hmac_rounds}
+use Rattle.mbj_types.specs.Rounds.{hash_rounds, hmac_rounds}
 
 -- how hashes that share a compression work (FIPS 180-4, 5 and 6): which they are, the bytes of a block, the padding behind a
 -- message of so many bytes, the compression of a block into a hash value, and how many words a hash value has; and by the
@@ -15,14 +15,16 @@ pub record Chaining : Type 0 where
   pub initial : HashName → List ℕ
   pub digest : HashName → List ℕ → List ℕ
 
--- an HMAC on its way: the packet, in which the message is `len` bytes from `off` on; the rounds that are left; the hash value
--- and, once the inner hash is done, its hash value; the hash; and the key xored with the inner and with the outer pad
+-- a digest or an HMAC on its way: the packet, in which the message is `len` bytes from `off` on; the rounds that are left; the hash
+-- value; the hash; and whether it is an HMAC. An HMAC has the hash value of the inner hash, once that is done, and the key xored with
+-- the inner and with the outer pad; a digest has no bytes for these two
 pub record HmacState : Type 0 where
   pub packet : List ℕ
   pub rest : ℕ
   pub chain : List ℕ
   pub inner : List ℕ
   pub hash : HashName
+  pub keyed : Bool
   pub front : List ℕ
   pub back : List ℕ
   pub off : ℕ
@@ -33,6 +35,10 @@ rest_of e = e.rest
 
 abbrev pub message : HmacState → List ℕ
 message e = take e.len (drop e.off e.packet)
+
+-- the rounds of the outer hash: the outer pad, and the block that holds the inner digest; a digest has no outer hash
+abbrev pub outer_rounds : HmacState → ℕ
+outer_rounds e = if e.keyed then 2 else 0
 
 module _ (h : Chaining) where
   -- a message and its padding
@@ -63,15 +69,15 @@ module _ (h : Chaining) where
   abbrev pub inner_blocks : HmacState → ℕ
   inner_blocks e = length (inner_text e) / h.block_bytes
 
-  -- the block of the round that is r rounds before the end: the last two are those of the outer hash
+  -- the block of the round that is r rounds before the end: the last two of an HMAC are those of the outer hash
   abbrev pub block_before : HmacState → ℕ → List ℕ
   block_before e r =
-      if nat_le 3 r then block_at (inner_text e) (inner_blocks e + 2 - r)
-      else block_at (outer_text e) (2 - r)
+      if nat_lt (outer_rounds e) r then block_at (inner_text e) (inner_blocks e + outer_rounds e - r)
+      else block_at (outer_text e) (outer_rounds e - r)
 
   -- before the round of the outer pad the hash value moves into `inner`, and the outer hash starts
   abbrev pub turned : HmacState → HmacState
-  turned e = if e.rest == 2 then record e { chain = h.initial e.hash; inner = e.chain } else e
+  turned e = if e.keyed && e.rest == outer_rounds e then record e { chain = h.initial e.hash; inner = e.chain } else e
 
   -- one block further
   abbrev pub advanced : HmacState → HmacState
@@ -89,8 +95,24 @@ module _ (h : Chaining) where
     chain = h.initial a;
     inner = replicate h.words 0;
     hash = a;
+    keyed = true;
     front = front;
     back = back;
+    off = off;
+    len = len;
+  }
+
+  -- a digest of which nothing is done
+  abbrev pub started_plain : HashName → List ℕ → ℕ → ℕ → HmacState
+  started_plain a packet off len = record {
+    packet = packet;
+    rest = hash_rounds h.block_bytes len;
+    chain = h.initial a;
+    inner = replicate h.words 0;
+    hash = a;
+    keyed = false;
+    front = [];
+    back = [];
     off = off;
     len = len;
   }

@@ -1,13 +1,16 @@
 // The ends of an entry: the blocks that don't stand whole in its packet. They are the inner pad, the message's end with the
-// padding, the outer pad, and the inner digest with its padding.
-ghost use Rattle.std.specs.Prelude.{◌≡◌, ℕ, ◌+◌, ◌-◌, ◌*◌, ◌/◌, ◌^◌, ◌<◌, ◌≤◌, ◌∷◌, ◌++◌, length, replicate, take, drop, IsTrue};
+// padding, the outer pad, and the inner digest with its padding. A digest has the message's end alone, at the same place.
+ghost use Rattle.std.specs.Prelude.{◌≡◌, ℕ, ◌+◌, ◌-◌, ◌*◌, ◌/◌, ◌^◌, ◌<◌, ◌≤◌, ◌∷◌, ◌++◌, ◌⊎◌, length, replicate, take, drop, IsTrue};
 ghost use Rattle.mbj_types.specs.Hmac.{padded_key, ipad, opad};
-ghost use Rattle.mbj_types.specs.Rounds.{hmac_rounds};
-ghost use Rattle.mbj_hmac.specs.Inside.Layout.{fill, first_ends, tail_blocks};
+ghost use Rattle.mbj_types.specs.Rounds.{hash_rounds, hmac_rounds};
+ghost use Rattle.mbj_hmac.specs.Inside.Layout.{fill, first_ends, message_end, tail_blocks};
 
 use crate::key::{IPAD, MAX_BLOCK_BYTES, OPAD, padded};
 use crate::lane_hash::LaneHash;
 use mbj_types::HashName;
+
+/// The rounds of an HMAC's outer hash: the outer pad, and the block that holds the inner digest.
+pub(crate) const OUTER_ROUNDS: u32 = 2;
 
 /// The bytes of the length that ends the padding, as far as lengths of messages go.
 const LENGTH_BYTES: usize = 8;
@@ -42,13 +45,22 @@ fn whole_bytes<H: LaneHash>(len: usize) -> usize
     block * (len / block)
 }
 
-/// The rounds of an HMAC over a message.
+/// The rounds of a digest of a message: one for each block of the padded message.
+pub(crate) fn plain_rounds<H: LaneHash>(len: usize) -> u32
+    requires { len < 2 ^ 32 }
+    ensures value { result ≡ hash_rounds H.chaining.block_bytes len }
+    ensures few { result < 2 ^ 31 }
+{
+    let block = H::block_bytes();
+    ((len + block / 8) / block + 1) as u32
+}
+
+/// The rounds of an HMAC over a message: that of the inner pad, those of the message, and those of the outer hash.
 pub(crate) fn rounds<H: LaneHash>(len: usize) -> u32
     requires { len < 2 ^ 32 }
     ensures { result ≡ hmac_rounds H.chaining.block_bytes len }
 {
-    let block = H::block_bytes();
-    ((len + block / 8) / block + 4) as u32
+    1 + plain_rounds::<H>(len) + OUTER_ROUNDS
 }
 
 /// The zero bytes of a message's padding, up to its last 8 bytes.
@@ -80,18 +92,44 @@ pub(crate) fn put(ends: &mut [u8], at: usize, bytes: &[u8]) -> usize
     at + bytes.len()
 }
 
-/// Writes the padding behind a block and a message of `len` bytes.
-fn put_padding<H: LaneHash>(ends: &mut H::Ends, at: usize, len: usize) -> usize
+/// Writes the padding behind a message of `len` bytes. So many bytes are hashed before the message: a block of a pad, or none.
+fn put_padding<H: LaneHash>(ends: &mut H::Ends, at: usize, before: usize, len: usize) -> usize
     requires small { len < 2 ^ 32 }
-    requires room { at + length (H.chaining.padding (H.chaining.block_bytes + len)) ≤ 5 * H.chaining.block_bytes }
-    ensures next { result ≡ at + length (H.chaining.padding (H.chaining.block_bytes + len)) }
-    ensures written { take (at + length (H.chaining.padding (H.chaining.block_bytes + len))) (H.ends_bytes ends.new)
-        ≡ take at (H.ends_bytes ends.old) ++ H.chaining.padding (H.chaining.block_bytes + len) }
+    requires before { (before ≡ 0) ⊎ (before ≡ H.chaining.block_bytes) }
+    requires room { at + length (H.chaining.padding (before + len)) ≤ 5 * H.chaining.block_bytes }
+    ensures next { result ≡ at + length (H.chaining.padding (before + len)) }
+    ensures written { take (at + length (H.chaining.padding (before + len))) (H.ends_bytes ends.new)
+        ≡ take at (H.ends_bytes ends.old) ++ H.chaining.padding (before + len) }
     ensures len { length (H.ends_bytes ends.new) ≡ 5 * H.chaining.block_bytes }
 {
-    let bits = (8 * (H::block_bytes() + len) as u64).to_be_bytes();
+    let bits = (8 * (before + len) as u64).to_be_bytes();
     let at = H::put(ends, at, padding_start(fill::<H>(len)));
     H::put(ends, at, &bits)
+}
+
+/// Writes the end of a message and the padding behind the first block, and answers the place behind them. So many bytes are
+/// hashed before the message: a block of a pad, or none.
+fn put_end<H: LaneHash>(
+    ends: &mut H::Ends,
+    before: usize,
+    packet: &[u8],
+    off: usize,
+    len: usize,
+) -> usize
+    requires small { len < 2 ^ 32 }
+    requires before { (before ≡ 0) ⊎ (before ≡ H.chaining.block_bytes) }
+    requires range { off + len ≤ length packet.now }
+    ensures next { result ≡ H.chaining.block_bytes * (tail_blocks H.chaining.block_bytes len + 1) }
+    ensures written { take (H.chaining.block_bytes * (tail_blocks H.chaining.block_bytes len + 1)) (H.ends_bytes ends.new)
+        ≡ take H.chaining.block_bytes (H.ends_bytes ends.old) ++ message_end H.chaining before packet.now off len }
+    ensures len { length (H.ends_bytes ends.new) ≡ 5 * H.chaining.block_bytes }
+{
+    let at = H::put(
+        ends,
+        H::block_bytes(),
+        &packet[off + whole_bytes::<H>(len)..off + len],
+    );
+    put_padding::<H>(ends, at, before, len)
 }
 
 /// Writes the block that holds the digest of a hash value, with the padding behind the outer pad and the digest.
@@ -111,10 +149,10 @@ pub(crate) fn put_digest<H: LaneHash>(
     let digest = H::digest(hash, chain);
     let bytes = digest.bytes();
     let at = H::put(ends, at, bytes);
-    put_padding::<H>(ends, at, bytes.len());
+    put_padding::<H>(ends, at, H::block_bytes(), bytes.len());
 }
 
-/// The ends of a new entry.
+/// The ends of a new HMAC.
 pub(crate) fn first_ends<H: LaneHash>(
     hash: HashName,
     key: &[u8; MAX_BLOCK_BYTES],
@@ -133,14 +171,22 @@ pub(crate) fn first_ends<H: LaneHash>(
 {
     let block = H::block_bytes();
     let mut ends = H::blank_ends();
-    let at = H::put(&mut ends, 0, &padded(key, IPAD)[..block]);
-    let at = H::put(
-        &mut ends,
-        at,
-        &packet[off + whole_bytes::<H>(len)..off + len],
-    );
-    let at = put_padding::<H>(&mut ends, at, len);
+    H::put(&mut ends, 0, &padded(key, IPAD)[..block]);
+    let at = put_end::<H>(&mut ends, block, packet, off, len);
     let at = H::put(&mut ends, at, &padded(key, OPAD)[..block]);
     put_digest::<H>(&mut ends, at, hash, &H::zeros());
+    ends
+}
+
+/// The ends of a new digest: the end of the message and its padding. What stands around them is not looked at.
+pub(crate) fn plain_ends<H: LaneHash>(packet: &[u8], off: usize, len: usize) -> H::Ends
+    requires small { len < 2 ^ 32 }
+    requires range { off + len ≤ length packet.now }
+    ensures value { take (H.chaining.block_bytes * tail_blocks H.chaining.block_bytes len) (drop H.chaining.block_bytes (H.ends_bytes result))
+        ≡ message_end H.chaining 0 packet.now off len }
+    ensures length { length (H.ends_bytes result) ≡ 5 * H.chaining.block_bytes }
+{
+    let mut ends = H::blank_ends();
+    put_end::<H>(&mut ends, 0, packet, off, len);
     ends
 }

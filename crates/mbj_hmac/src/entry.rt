@@ -1,21 +1,23 @@
 ghost use Rattle.std.specs.Prelude.{◌≡◌, ◌+◌, ◌-◌, ◌<◌, ◌≤◌, length, replicate, take, drop, IfSome, IsTrue};
-ghost use Rattle.mbj_types.specs.Auths.{hash_of, hash_of_name};
+ghost use Rattle.mbj_types.specs.Auths.{hash_of, hash_of_name, plain_hash_of};
 ghost use Rattle.mbj_types.specs.Hmac.{block_key, padded_key, hmac, ipad, opad};
-ghost use Rattle.mbj_types.specs.Rounds.{hmac_rounds};
+ghost use Rattle.mbj_types.specs.Rounds.{hash_rounds, hmac_rounds};
 ghost use Rattle.mbj_lane.specs.Rounds.{end_of};
-ghost use Rattle.mbj_hmac.specs.Names.{name_of, serves_auth};
-ghost use Rattle.mbj_hmac.specs.Rounds.{HmacState, block_before, rest_of, round, started, turned};
+ghost use Rattle.mbj_hmac.specs.Names.{name_of, plain_name_of, serves_auth, serves_plain};
+ghost use Rattle.mbj_hmac.specs.Rounds.{HmacState, block_before, outer_rounds, rest_of, round, started, started_plain, turned};
 
-use crate::ends::{first_ends, put_digest, rounds, tail_blocks};
-use crate::key::{MAX_BLOCK_BYTES, hash_key, hash_name};
+use crate::ends::{
+    OUTER_ROUNDS, first_ends, plain_ends, plain_rounds, put_digest, rounds, tail_blocks,
+};
+use crate::key::{MAX_BLOCK_BYTES, hash_key, hash_name, plain_name};
 use crate::lane_hash::LaneHash;
 use mbj_types::{Auth, HashName, Tag};
 use std::marker::Model;
 
-/// An HMAC on its way, over a range of a packet. A round is one compression.
+/// A digest or an HMAC on its way, over a range of a packet. A round is one compression.
 ///
-/// The rounds are, in order: the inner pad, the blocks of the padded message, the outer pad, and the block that holds
-/// the inner digest (RFC 2104, 2).
+/// The rounds of a digest are the blocks of the padded message (FIPS 180-4, 5). Those of an HMAC are, in order: the inner
+/// pad, the blocks of the padded message, the outer pad, and the block that holds the inner digest (RFC 2104, 2).
 #[derive(Drop)]
 pub struct HmacEntry<H: LaneHash> {
     /// The packet, as it was given.
@@ -24,9 +26,11 @@ pub struct HmacEntry<H: LaneHash> {
     pub rest: u32,
     /// The hash value.
     pub chain: H::Chain,
-    /// The hash value of the inner hash, once that is done; zeros before.
+    /// The hash value of an HMAC's inner hash, once that is done; zeros before, and in a digest.
     pub inner: H::Chain,
     hash: HashName,
+    /// Whether it is an HMAC.
+    keyed: bool,
     ends: H::Ends,
     off: usize,
     len: usize,
@@ -38,10 +42,10 @@ impl<H: LaneHash> Model for HmacEntry<H> {
 
     ghost Value = { HmacState };
 
-    ghost view = { λ e. seen H.chaining e.packet.items e.rest (H.words e.chain) (H.words e.inner) e.hash (H.ends_bytes e.ends) e.off e.len };
+    ghost view = { λ e. seen H.chaining e.packet.items e.rest (H.words e.chain) (H.words e.inner) e.hash e.keyed (H.ends_bytes e.ends) e.off e.len };
 
     ghost invariant = { λ e. IsSound H.chaining (H.ends_bytes e.ends)
-        (seen H.chaining e.packet.items e.rest (H.words e.chain) (H.words e.inner) e.hash (H.ends_bytes e.ends) e.off e.len) };
+        (seen H.chaining e.packet.items e.rest (H.words e.chain) (H.words e.inner) e.hash e.keyed (H.ends_bytes e.ends) e.off e.len) };
 }
 
 impl<H: LaneHash> HmacEntry<H> {
@@ -88,13 +92,53 @@ impl<H: LaneHash> HmacEntry<H> {
             chain: H::initial(hash),
             inner: H::zeros(),
             hash,
+            keyed: true,
             ends,
             off,
             len,
         }
     }
 
-    /// The packet, and the HMAC in full. No round is left.
+    /// A digest of which nothing is done, over `len` bytes of the packet from `off` on. The authentication is the digest
+    /// of a hash that the kernel serves, and the range lies in the packet. It takes no memory, and the packet moves into the entry.
+    ///
+    /// At its end the entry has the packet as it was given, and the digest of its hash value is that of the range.
+    // Called and not inlined, as `new`.
+    #[inline(never)]
+    pub fn new_plain(auth: Auth, packet: Vec<u8>, off: u32, len: u32) -> HmacEntry<H>
+        requires auth { IsTrue (serves_plain H.chaining auth) }
+        requires range { off + len ≤ length packet.items }
+        ensures start { IfSome (plain_name_of auth) (λ a. result ≡ started_plain H.chaining a packet.items off len) }
+        ensures rest { result.rest ≡ hash_rounds H.chaining.block_bytes len }
+        ensures packet { (end_of (round H.chaining) rest_of result).packet ≡ packet.items }
+        ensures digest { let end = end_of (round H.chaining) rest_of result in
+            IfSome (plain_hash_of auth) (λ h. H.chaining.digest end.hash end.chain ≡ h.digest (take len (drop off packet.items))) }
+    {
+        Self::started_plain(plain_name(auth), packet, off, len)
+    }
+
+    /// A digest of which nothing is done, by its hash.
+    fn started_plain(hash: HashName, packet: Vec<u8>, off: u32, len: u32) -> HmacEntry<H>
+        requires serves { IsTrue (H.chaining.serves hash) }
+        requires range { off + len ≤ length packet.items }
+        ensures { result ≡ started_plain H.chaining hash packet.items off len }
+    {
+        let (off, len) = (off as usize, len as usize);
+        let ends = plain_ends::<H>(&packet, off, len);
+        HmacEntry {
+            packet,
+            rest: plain_rounds::<H>(len),
+            chain: H::initial(hash),
+            inner: H::zeros(),
+            hash,
+            keyed: false,
+            ends,
+            off,
+            len,
+        }
+    }
+
+    /// The packet, and the digest or HMAC in full. No round is left.
     pub fn into_parts(self) -> (Vec<u8>, Tag)
         requires { self.rest ≡ 0 }
         ensures packet { result.0.items ≡ self.packet }
@@ -102,6 +146,14 @@ impl<H: LaneHash> HmacEntry<H> {
     {
         let tag = H::digest(self.hash, &self.chain);
         (self.packet, tag)
+    }
+
+    /// The rounds of the outer hash: a digest has none.
+    #[inline(always)]
+    pub(crate) fn outer_rounds(&self) -> u32
+        ensures { result ≡ outer_rounds self.now }
+    {
+        if self.keyed { OUTER_ROUNDS } else { 0 }
     }
 
     /// The block of the round that comes after `done` others, of which the outer pad's is at most the first.
@@ -114,7 +166,7 @@ impl<H: LaneHash> HmacEntry<H> {
         let block = H::block_bytes();
         let rest = (self.rest - done) as usize;
         let whole = self.len / block;
-        let behind = tail_blocks::<H>(self.len) + 2;
+        let behind = tail_blocks::<H>(self.len) + self.outer_rounds() as usize;
         if rest <= behind {
             let at = block + block * (behind - rest);
             &H::ends(&self.ends)[at..at + block]
@@ -135,11 +187,11 @@ impl<H: LaneHash> HmacEntry<H> {
         self.rest -= m;
     }
 
-    /// Where the round of the outer pad is next, the hash value moves, and the outer hash starts.
+    /// Where the round of an HMAC's outer pad is next, the hash value moves, and the outer hash starts.
     pub(crate) fn turn(&mut self)
         ensures { self.new ≡ turned H.chaining self.old }
     {
-        if self.rest == 2 {
+        if self.rest == OUTER_ROUNDS && self.keyed {
             let at = H::block_bytes() * (tail_blocks::<H>(self.len) + 2);
             put_digest::<H>(&mut self.ends, at, self.hash, &self.chain);
             self.inner = self.chain;

@@ -9,7 +9,7 @@ use crate::view::LaneEntries;
 use mbj_lane::Kernel;
 use std::marker::PhantomData;
 
-/// HMAC in the lanes of a hash.
+/// Digests and HMACs in the lanes of a hash.
 pub struct HmacKernel<H: LaneHash> {
     hash: PhantomData<H>,
 }
@@ -93,7 +93,7 @@ fn stretch<H: LaneHash>(entries: &mut [HmacEntry<H>], m: u32, schedule: &mut H::
     scattered(entries, m, &states);
 }
 
-/// The outer hash starts in each entry whose outer pad is next.
+/// The outer hash starts in each HMAC whose outer pad is next.
 fn turn_all<H: LaneHash>(entries: &mut [HmacEntry<H>])
     ensures { entries.new ≡ map (turned H.chaining) entries.old }
 {
@@ -115,8 +115,9 @@ fn least(a: u32, b: u32) -> u32
 fn reach<H: LaneHash>(entry: &HmacEntry<H>) -> u32
     ensures { result ≡ reach_of entry.now }
 {
-    if entry.rest > 2 {
-        entry.rest - 2
+    let outer = entry.outer_rounds();
+    if entry.rest > outer {
+        entry.rest - outer
     } else {
         entry.rest
     }

@@ -1,4 +1,5 @@
-//! HMAC (RFC 2104) with the hashes of FIPS 180-4: of one message, and of many messages side by side in the lanes of a kernel.
+//! The hashes of FIPS 180-4 and HMAC with them (RFC 2104): HMAC of one message, and digests and HMACs of many messages side by
+//! side in the lanes of a kernel.
 #![tactic(auto)]
 
 mod ends;
@@ -23,20 +24,20 @@ pub use sha256_lanes::Sha256Lanes;
 pub use sha512_lanes::Sha512Lanes;
 pub use view::Chains;
 
-/// An HMAC with SHA-1 on its way.
+/// A digest or an HMAC with SHA-1 on its way.
 pub type Hmac1Entry = HmacEntry<Sha1Lanes>;
 
-/// An HMAC with SHA-224 or SHA-256 on its way.
+/// A digest or an HMAC with SHA-224 or SHA-256 on its way.
 pub type Hmac256Entry = HmacEntry<Sha256Lanes>;
 
-/// An HMAC with SHA-384 or SHA-512 on its way.
+/// A digest or an HMAC with SHA-384 or SHA-512 on its way.
 pub type Hmac512Entry = HmacEntry<Sha512Lanes>;
 
-/// HMACs with SHA-1 in lanes.
+/// Digests and HMACs with SHA-1 in lanes.
 pub type Hmac1Kernel = HmacKernel<Sha1Lanes>;
 
-/// HMACs with SHA-224 and SHA-256 in lanes.
+/// Digests and HMACs with SHA-224 and SHA-256 in lanes.
 pub type Hmac256Kernel = HmacKernel<Sha256Lanes>;
 
-/// HMACs with SHA-384 and SHA-512 in lanes.
+/// Digests and HMACs with SHA-384 and SHA-512 in lanes.
 pub type Hmac512Kernel = HmacKernel<Sha512Lanes>;

@@ -1,11 +1,11 @@
 -- The entry that a lane reads.
-use Rattle.std.specs.Prelude.{ℕ, ◌-◌, nat_le, nat_lt, List, [], length, slice_index_or, if◌then◌else◌}
+use Rattle.std.specs.Prelude.{false, ℕ, ◌-◌, nat_lt, List, [], length, slice_index_or, if◌then◌else◌}
 use Rattle.mbj_types.specs.declared.class.HashName.TheVariants.{Sha1}
-use Rattle.mbj_hmac.specs.Rounds.{HmacState}
+use Rattle.mbj_hmac.specs.Rounds.{HmacState, outer_rounds}
 
 -- an entry that is none
 abbrev pub blank : HmacState
-blank = record { packet = []; rest = 0; chain = []; inner = []; hash = Sha1; front = []; back = []; off = 0; len = 0 }
+blank = record { packet = []; rest = 0; chain = []; inner = []; hash = Sha1; keyed = false; front = []; back = []; off = 0; len = 0 }
 
 -- the entry of a lane; idle lanes go with the last entry
 abbrev pub lane_entry : List HmacState → ℕ → HmacState
@@ -15,4 +15,4 @@ lane_entry entries i =
 
 -- how many rounds an entry has before that of its outer pad, or has at all
 abbrev pub reach_of : HmacState → ℕ
-reach_of e = if nat_le 3 e.rest then e.rest - 2 else e.rest
+reach_of e = if nat_lt (outer_rounds e) e.rest then e.rest - outer_rounds e else e.rest

@@ -1,10 +1,10 @@
 -- How an entry lays out the blocks that don't stand whole in the packet: the inner pad, the end of the message with its padding,
--- the outer pad, and the inner digest with its padding.
-use Rattle.std.specs.Prelude.{IsTrue, ◌≡◌, ℕ, ◌+◌, ◌-◌, ◌*◌, ◌/◌, ◌%◌, ◌≤◌, ◌<◌, ◌^◌, List, ◌∷◌, ◌++◌, ◌⊎◌, length, take, drop, replicate}
+-- the outer pad, and the inner digest with its padding. A digest has the end of the message alone, at the same place.
+use Rattle.std.specs.Prelude.{IsTrue, ◌≡◌, Bool, ℕ, ◌+◌, ◌-◌, ◌*◌, ◌/◌, ◌%◌, ◌≤◌, ◌<◌, ◌^◌, List, [], ◌∷◌, ◌++◌, ◌⊎◌, length, take, drop, replicate, if◌then◌else◌}
 use Rattle.std.specs.Int.{w64, to_be_bytes}
 use Rattle.mbj_types.specs.declared.class.HashName.{HashName}
-use Rattle.mbj_types.specs.Rounds.{hmac_rounds}
-use Rattle.mbj_hmac.specs.Rounds.{Chaining, HmacState, inner_text, outer_text}
+use Rattle.mbj_types.specs.Rounds.{hash_rounds, hmac_rounds}
+use Rattle.mbj_hmac.specs.Rounds.{Chaining, HmacState, inner_text, outer_rounds, outer_text}
 
 module _ (b : ℕ) where
   -- the whole blocks of b bytes in a message of n bytes
@@ -32,32 +32,46 @@ pub record IsStandard (h : Chaining) : Type 0 where
 
 module _ (h : Chaining) where
   -- an entry as it is seen
-  abbrev pub seen : List ℕ → ℕ → List ℕ → List ℕ → HashName → List ℕ → ℕ → ℕ → HmacState
-  seen packet rest chain inner hash ends off len = record {
+  abbrev pub seen : List ℕ → ℕ → List ℕ → List ℕ → HashName → Bool → List ℕ → ℕ → ℕ → HmacState
+  seen packet rest chain inner hash keyed ends off len = record {
     packet = packet;
     rest = rest;
     chain = chain;
     inner = inner;
     hash = hash;
-    front = take h.block_bytes ends;
-    back = take h.block_bytes (drop (h.block_bytes * (tail_blocks h.block_bytes len + 1)) ends);
+    keyed = keyed;
+    front = if keyed then take h.block_bytes ends else [];
+    back = if keyed then take h.block_bytes (drop (h.block_bytes * (tail_blocks h.block_bytes len + 1)) ends) else [];
     off = off;
     len = len;
   }
 
-  -- the ends of a new entry: the inner pad, the message's end and its padding, the outer pad, and a digest and its padding
+  -- the end of a message behind its whole blocks, and the padding; so many bytes are hashed before the message
+  abbrev pub message_end : ℕ → List ℕ → ℕ → ℕ → List ℕ
+  message_end before packet off len =
+      let whole = h.block_bytes * whole_blocks h.block_bytes len in
+      take (len - whole) (drop (off + whole) packet) ++ h.padding (before + len)
+
+  -- the ends of a new HMAC: the inner pad, the message's end and its padding, the outer pad, and a digest and its padding
   abbrev pub first_ends : HashName → List ℕ → List ℕ → List ℕ → List ℕ → ℕ → ℕ → List ℕ
   first_ends a front back zeros packet off len =
-      let whole = h.block_bytes * whole_blocks h.block_bytes len in
-      (((front ++ take (len - whole) (drop (off + whole) packet)) ++ h.padding (h.block_bytes + len)) ++ back)
+      ((front ++ message_end h.block_bytes packet off len) ++ back)
       ++ (h.digest a zeros ++ h.padding (h.block_bytes + length (h.digest a zeros)))
 
-  -- the blocks stand in the entry
+  -- how many rounds there were
+  abbrev pub all_rounds : HmacState → ℕ
+  all_rounds e = if e.keyed then hmac_rounds h.block_bytes e.len else hash_rounds h.block_bytes e.len
+
+  -- what the outer hash reads, of which a digest has none
+  abbrev pub outer_part : HmacState → List ℕ
+  outer_part e = if e.keyed then outer_text h e else []
+
+  -- the blocks behind the message's whole ones stand in the entry
   abbrev pub IsLaid : List ℕ → HmacState → Type 0
-  IsLaid ends e = take (h.block_bytes * (tail_blocks h.block_bytes e.len + 2)) (drop h.block_bytes ends)
-      ≡ drop (h.block_bytes * (whole_blocks h.block_bytes e.len + 1)) (inner_text h e) ++ outer_text h e
+  IsLaid ends e = take (h.block_bytes * (tail_blocks h.block_bytes e.len + outer_rounds e)) (drop h.block_bytes ends)
+      ≡ drop (length e.front + h.block_bytes * whole_blocks h.block_bytes e.len) (inner_text h e) ++ outer_part e
 
   -- the range lies in the packet, the rounds are no more than there were, the blocks stand, and the hash is one of these
   abbrev pub IsSound : List ℕ → HmacState → Type 0
-  IsSound ends e = (e.off + e.len ≤ length e.packet) × (e.rest ≤ hmac_rounds h.block_bytes e.len) × (e.len < 2 ^ 32)
+  IsSound ends e = (e.off + e.len ≤ length e.packet) × (e.rest ≤ all_rounds e) × (e.len < 2 ^ 32)
       × IsLaid ends e × (length ends ≡ 5 * h.block_bytes) × IsTrue (h.serves e.hash)

@@ -43,7 +43,7 @@ returns-clause-packet g c =
     let off = c.args.off in
     let len = c.args.len in
     ap (λ (e : HmacState). (end_of (round h) rest_of e).packet) c.started.ensures.start
-    ∙ packet_end h std c.hash_name-hash.result _ _ packet off len (length-pad h std x packet off len ipad c.started.ensures.pads) c.requires.range c.ranges.len.fits
+    ∙ packet_end h std c.hash_name-hash.result _ _ packet off len (length-pad h std x ipad c.started.ensures.pads) c.requires.range c.ranges.len.fits
 
 pub returns-clause-tag : goal.returns-clause-tag
 returns-clause-tag g c =
@@ -64,5 +64,5 @@ returns-clause-tag g c =
     (ap digest c.started.ensures.start
     ∙ hmac_end h std a _ _ packet off len hash key is
     (pad_of h std a hash key x ipad _ is size c.hash_key-key.ensures) (pad_of h std a hash key x opad _ is size c.hash_key-key.ensures)
-    (length-pad h std x packet off len ipad c.started.ensures.pads) (length-pad h std x packet off len opad c.started.ensures.pads)
+    (length-pad h std x ipad c.started.ensures.pads) (length-pad h std x opad c.started.ensures.pads)
     c.requires.range c.ranges.len.fits)

@@ -1,4 +1,4 @@
-use Rattle.std.proofs.Common.{ℕ, List, take, ap, ap₂, sym, ◌∙◌}
+use Rattle.std.proofs.Common.{ℕ, List, take, true, ap, ap₂, sym, ◌∙◌}
 use Rattle.mbj_types.specs.Hmac.{padded_key, ipad, opad}
 use Rattle.mbj_hmac.specs.Inside.Layout.{first_ends, seen}
 use Rattle.mbj_hmac.proofs.FirstEnds.{length-pad}
@@ -19,16 +19,16 @@ invariant_of-result g c =
     let front : List ℕ = take h.block_bytes (padded_key ipad key) in
     let back : List ℕ = take h.block_bytes (padded_key opad key) in
     let ends = c.first_ends-ends.ensures.value ∙ ap₂ (λ z p. first_ends h a front back z p off len) (sym c.zeros.ensures) c.deref.ensures.value in
-    let facts : Facts h std packet a made front back zeros off len = record {
-      front_is = length-pad h std key packet off len ipad c.first_ends-ends.ensures.pads;
-      back_is = length-pad h std key packet off len opad c.first_ends-ends.ensures.pads;
+    let facts : Facts h std packet off len a made front back zeros = record {
+      front_is = length-pad h std key ipad c.first_ends-ends.ensures.pads;
+      back_is = length-pad h std key opad c.first_ends-ends.ensures.pads;
       range = c.requires.range;
       small = c.ranges.len.fits;
       whole = c.first_ends-ends.ensures.length;
       ends_are = ends;
       served = c.requires.serves;
     } in
-    new_sound h std packet a made front back zeros off len facts (g.H.LaneHash.words c.initial.result) c.rounds.result c.rounds.ensures
+    new_sound h std packet off len a made front back zeros facts (g.H.LaneHash.words c.initial.result) c.rounds.result c.rounds.ensures
 
 pub returns-clause-start : goal.returns-clause-start
 returns-clause-start g c =
@@ -44,14 +44,14 @@ returns-clause-start g c =
     let front : List ℕ = take h.block_bytes (padded_key ipad key) in
     let back : List ℕ = take h.block_bytes (padded_key opad key) in
     let ends = c.first_ends-ends.ensures.value ∙ ap₂ (λ z p. first_ends h a front back z p off len) (sym c.zeros.ensures) c.deref.ensures.value in
-    let facts : Facts h std packet a made front back zeros off len = record {
-      front_is = length-pad h std key packet off len ipad c.first_ends-ends.ensures.pads;
-      back_is = length-pad h std key packet off len opad c.first_ends-ends.ensures.pads;
+    let facts : Facts h std packet off len a made front back zeros = record {
+      front_is = length-pad h std key ipad c.first_ends-ends.ensures.pads;
+      back_is = length-pad h std key opad c.first_ends-ends.ensures.pads;
       range = c.requires.range;
       small = c.ranges.len.fits;
       whole = c.first_ends-ends.ensures.length;
       ends_are = ends;
       served = c.requires.serves;
     } in
-    ap (λ s. seen h packet c.rounds.result s zeros a made off len) c.initial.ensures
-    ∙ new_seen h std packet a made front back zeros off len facts c.rounds.result c.rounds.ensures c.zeros.ensures
+    ap (λ s. seen h packet c.rounds.result s zeros a true made off len) c.initial.ensures
+    ∙ new_seen h std packet off len a made front back zeros facts c.rounds.result c.rounds.ensures c.zeros.ensures

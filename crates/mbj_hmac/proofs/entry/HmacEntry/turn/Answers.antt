@@ -1,4 +1,4 @@
-use Rattle.std.proofs.Common.{ap, ◌∙◌, arith}
+use Rattle.std.proofs.Common.{true, ap, ◌∙◌, arith}
 use Rattle.mbj_hmac.specs.Rounds.{turned}
 use Rattle.mbj_hmac.specs.Inside.Layout.{tail_blocks, seen}
 use Rattle.mbj_hmac.proofs.Numbers.{size_range, tail_range, times_le}
@@ -31,18 +31,23 @@ invariant_of-self g c =
     let words = g.H.LaneHash.words in
     let bytes = g.H.LaneHash.ends_bytes in
     let f = c.self.inside in
+    let sound = rw c.if-self.true at c.self.invariant in
     let written = rw (c.block_bytes.ensures, c.tail_blocks.ensures) at c.put_digest.ensures.written in
-    turned_sound h g.met.H.LaneHash.standard f.packet.items (words f.chain) (words f.inner) f.hash (bytes f.ends) (bytes c.put_digest.new.ends) f.rest f.off f.len
-    (words c.initial-self-inside.result) c.self.invariant written c.put_digest.ensures.len
+    rw c.if-self.true
+    (turned_sound h g.met.H.LaneHash.standard f.packet.items (words f.chain) (words f.inner) f.hash (bytes f.ends) (bytes c.put_digest.new.ends) f.rest f.off f.len
+    (words c.initial-self-inside.result) sound written c.put_digest.ensures.len)
 
-pub returns-then-self-eq2 : goal.returns-then-self-eq2
-returns-then-self-eq2 g c =
+pub returns-then-self : goal.returns-then-self
+returns-then-self g c =
     let h = g.H.LaneHash.chaining in
     let words = g.H.LaneHash.words in
     let bytes = g.H.LaneHash.ends_bytes in
     let f = c.self.inside in
+    let sound = rw c.if-self.true at c.self.invariant in
     let written = rw (c.block_bytes.ensures, c.tail_blocks.ensures) at c.put_digest.ensures.written in
-    ap (λ s. seen h f.packet.items f.rest s (words f.chain) f.hash (bytes c.put_digest.new.ends) f.off f.len) c.initial-self-inside.ensures
+    let now = rw c.if-self.true at c.self.view_is in
+    rw c.if-self.true
+    (ap (λ s. seen h f.packet.items f.rest s (words f.chain) f.hash true (bytes c.put_digest.new.ends) f.off f.len) c.initial-self-inside.ensures
     ∙ turned_seen h g.met.H.LaneHash.standard f.packet.items (words f.chain) (words f.inner) f.hash (bytes f.ends) (bytes c.put_digest.new.ends) f.rest f.off f.len
-    c.self.invariant written (omega arith)
-    ∙ ap (turned h) c.self.view_is
+    sound written (omega arith)
+    ∙ ap (turned h) now)

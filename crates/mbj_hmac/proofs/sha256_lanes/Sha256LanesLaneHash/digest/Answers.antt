@@ -1,9 +1,8 @@
-use Rattle.std.proofs.Common.{sym, arith}
-use Rattle.std.proofs.lemmas.List.{length-take-le}
+use Rattle.std.proofs.Common.{ℕ, arith, length-take}
 use Rattle.mbj_hmac.proofs.sha256_lanes.Sha256LanesLaneHash.digest.Goals as goal
 
 pub slice_bounds-from_slice-end : goal.slice_bounds-from_slice-end
-slice_bounds-from_slice-end c = sym (length-take-le 28 c.bytes_of-bytes.result (omega (arith, c.bytes_of-bytes.ensures.length)))
+slice_bounds-from_slice-end c = omega (arith, length-take {A = ℕ}, c.bytes_of-bytes.ensures.length)
 
 pub from_slice-requires : goal.from_slice-requires
-from_slice-requires c = omega (arith, length-take-le 28 c.bytes_of-bytes.result (omega (arith, c.bytes_of-bytes.ensures.length)))
+from_slice-requires c = omega (arith, length-take {A = ℕ}, c.bytes_of-bytes.ensures.length)
