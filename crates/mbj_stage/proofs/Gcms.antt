@@ -1,5 +1,5 @@
 -- Which jobs are GCM's and which CCM's: in an accepted job cipher and authentication are both GCM, both CCM, or neither is one of them.
-use Rattle.std.proofs.Common.{◌≡◌, Bool, true, false, not, ◌||◌, ◌⊎◌, inl, inr, [], ◌∷◌, refl}
+use Rattle.std.proofs.Common.{◌≡◌, Bool, true, false, not, ◌&&◌, ◌||◌, [], ◌∷◌, refl}
 use Rattle.mbj_types.specs.declared.job.Cipher.{Cipher}
 use Rattle.mbj_types.specs.declared.job.Cipher.TheVariants as cipher
 use Rattle.mbj_types.specs.declared.class.AuthClass.{AuthClass}
@@ -27,6 +27,8 @@ only_gcm (class.Hmac hash) h = absurd (cc)
 only_gcm (class.Cmac key) h = absurd (cc)
 only_gcm class.Gcm h = refl
 only_gcm class.Ccm h = absurd (cc)
+only_gcm (class.Plain hash) h = absurd (cc)
+only_gcm class.Gmac h = absurd (cc)
 
 -- the one that is CCM
 pub ccm_both : (a : AuthClass) → is_ccm_auth a ≡ true → a ≡ class.Ccm
@@ -35,10 +37,16 @@ ccm_both (class.Hmac hash) h = absurd (cc)
 ccm_both (class.Cmac key) h = absurd (cc)
 ccm_both class.Gcm h = absurd (cc)
 ccm_both class.Ccm h = refl
+ccm_both (class.Plain hash) h = absurd (cc)
+ccm_both class.Gmac h = absurd (cc)
 
 not-true : (b : Bool) → not b ≡ true → b ≡ false
 not-true true h = absurd (cc)
 not-true false h = refl
+
+left-true : (a b : Bool) → a && b ≡ true → a ≡ true
+left-true true b h = refl
+left-true false b h = absurd (cc)
 
 -- how cipher and authentication of an accepted job go together
 pub data Pair (c : Cipher) (a : AuthClass) : Type 0 where
@@ -48,8 +56,8 @@ pub data Pair (c : Cipher) (a : AuthClass) : Type 0 where
 
 pub pair_of : (c : Cipher) (a : AuthClass) → goes_with c a ≡ true → Pair c a
 pair_of cipher.Null a h = neither refl (not-true (is_ciphers a) h)
-pair_of cipher.Cbc a h = neither refl (not-true (is_ciphers a) h)
-pair_of cipher.Ctr a h = neither refl (not-true (is_ciphers a) h)
+pair_of cipher.Cbc a h = neither refl (not-true (is_ciphers a) (left-true (not (is_ciphers a)) _ h))
+pair_of cipher.Ctr a h = neither refl (not-true (is_ciphers a) (left-true (not (is_ciphers a)) _ h))
 pair_of cipher.Gcm a h = both_gcm refl (only_gcm a h)
 pair_of cipher.Ccm a h = both_ccm refl (ccm_both a h)
 

@@ -1,6 +1,5 @@
 -- A course that hands its packet out, by its fields.
 use Rattle.std.proofs.Common.{◌≡◌, ◌≢◌, ℕ, ◌+◌, ◌/◌, ◌==◌, true, ◌⊎◌, inl, inr, List, [], ◌∷◌, length, Option, Some, None, refl, sym, ap, ap₂, ◌∙◌, subst, arith}
-use Rattle.std.specs.Prelude.{if◌then◌else◌}
 use Rattle.std.specs.List.{All}
 use Rattle.std.proofs.lemmas.Bool.{cond_both, eqb-true}
 use Rattle.std.proofs.lemmas.List.Elements.{All-head}
@@ -27,7 +26,7 @@ use Rattle.mbj_stage.specs.declared.stage.Step.{Step}
 use Rattle.mbj_stage.specs.declared.stage.Step.TheVariants as step
 use Rattle.mbj_stage.specs.Families.{by_rounds, cbc_lanes, cbc_stage, ccm_lanes, ccm_stage, cmac_lanes, cmac_stage}
 use Rattle.mbj_stage.specs.Laws.{each-by_rounds}
-use Rattle.mbj_stage.specs.Steps.{auth_stage_by, by_key, cbc_kind, ccm_kind, stage_at, step_of}
+use Rattle.mbj_stage.specs.Steps.{auth_stage_by, by_key, ccm_kind, stage_at, step_of}
 use Rattle.mbj_stage.specs.Inside.Kept.{IsNextStep, IsSound, IsStepOf, has_texts, packet_length}
 use Rattle.mbj_stage.specs.declared.lengths.Lengths.{Lengths}
 use Rattle.mbj_stage.specs.CourseState.{owed, sized}
@@ -48,6 +47,7 @@ left-cipher j (step.Auth ∷ left) h = absurd (cc)
 left-cipher j (step.Gcm ∷ left) h = absurd (cc)
 left-cipher j (step.CcmMac ∷ left) h = absurd (cc)
 left-cipher j (step.CcmText ∷ left) h = absurd (cc)
+left-cipher j (step.Gmac ∷ left) h = absurd (cc)
 
 left-auth : (j : Job) (left : List Step) → IsNextStep step.Auth left → left_behind left j ≡ record j { packet = [] }
 left-auth j [] h = absurd h
@@ -56,6 +56,7 @@ left-auth j (step.Auth ∷ left) h = refl
 left-auth j (step.Gcm ∷ left) h = absurd (cc)
 left-auth j (step.CcmMac ∷ left) h = absurd (cc)
 left-auth j (step.CcmText ∷ left) h = absurd (cc)
+left-auth j (step.Gmac ∷ left) h = absurd (cc)
 
 left-ccm : (j : Job) (left : List Step) → IsNextStep step.CcmMac left → left_behind left j ≡ record j { packet = []; iv = []; aad = [] }
 left-ccm j [] h = absurd h
@@ -64,6 +65,7 @@ left-ccm j (step.Auth ∷ left) h = absurd (cc)
 left-ccm j (step.Gcm ∷ left) h = absurd (cc)
 left-ccm j (step.CcmMac ∷ left) h = refl
 left-ccm j (step.CcmText ∷ left) h = absurd (cc)
+left-ccm j (step.Gmac ∷ left) h = absurd (cc)
 
 -- a course by its fields once its packet went out
 out-is : (n : Lengths) (j : Job) (p q tag : List ℕ) (reason : Option Reason) (left : List Step) (out : Option ℕ) (m : ℕ) → q ≡ [] → m ≡ length p
@@ -215,6 +217,8 @@ cmac-rounds (class.Hmac hash) key n count k h = absurd (cmac-auth (class.Hmac ha
 cmac-rounds (class.Cmac of) key n count k h = key-rounds of key n count (eqb-true key (cmac_key_bytes of) k) h
 cmac-rounds class.Gcm key n count k h = absurd (cmac-auth class.Gcm n h)
 cmac-rounds class.Ccm key n count k h = absurd (cmac-auth class.Ccm n h)
+cmac-rounds (class.Plain hash) key n count k h = absurd (cmac-auth (class.Plain hash) n h)
+cmac-rounds class.Gmac key n count k h = absurd (cmac-auth class.Gmac n h)
 
 pub cmac-next : (j : Job) (p : List ℕ) (left : List Step) (out : Option ℕ) (m : Lengths) (n : ℕ) → (n ≡ 10) ⊎ (n ≡ 14) → IsSound j p left out m → out ≡ None
     → stage_at (record j { packet = p }) left ≡ cmac_stage n → IsCmacNext j p left n
@@ -249,6 +253,7 @@ own-first j (step.Auth ∷ left) own h = absurd (cc)
 own-first j (step.Gcm ∷ left) own h = absurd (cc)
 own-first j (step.CcmMac ∷ left) own h = All-head (IsStepOf j) step.CcmMac left own
 own-first j (step.CcmText ∷ left) own h = absurd (cc)
+own-first j (step.Gmac ∷ left) own h = absurd (cc)
 
 pub ccm-next : (j : Job) (p : List ℕ) (left : List Step) (out : Option ℕ) (m : Lengths) (n : ℕ) → IsRoundCount n → IsSound j p left out m → out ≡ None
     → stage_at (record j { packet = p }) left ≡ ccm_stage n → IsCcmNext j p left n

@@ -28,6 +28,7 @@ back-ran step.Auth left c h = refl
 back-ran step.Gcm left c h = absurd h
 back-ran step.CcmMac left c h = refl
 back-ran step.CcmText left c h = absurd h
+back-ran step.Gmac left c h = absurd h
 
 owes : (all : List Step) (c : CourseState) (s : Step) (left : List Step) → all ≡ s ∷ left → IsForLanes s
     → owed (taken_back_at all (stage_end s c.job) (out_by all c)) ≡ led_to c.reason all c.job c.tag
@@ -51,6 +52,7 @@ out-text (step.Auth ∷ left) c e h is = absurd (cc)
 out-text (step.Gcm ∷ left) c e h is = absurd (cc)
 out-text (step.CcmMac ∷ left) c e h is = absurd (cc)
 out-text (step.CcmText ∷ left) c e h is = absurd (cc)
+out-text (step.Gmac ∷ left) c e h is = absurd (cc)
 
 -- in an entry that ciphers
 pub owes-text : (c : CourseState) (e : End) → IsNextStep step.Cipher c.left → e.packet ≡ ciphered c.job c.job.packet → owed_with e (handed_out c) ≡ owed c
@@ -68,6 +70,7 @@ out-mac (step.Auth ∷ left) c e h is m =
 out-mac (step.Gcm ∷ left) c e h is m = absurd (cc)
 out-mac (step.CcmMac ∷ left) c e h is m = absurd (cc)
 out-mac (step.CcmText ∷ left) c e h is m = absurd (cc)
+out-mac (step.Gmac ∷ left) c e h is m = absurd (cc)
 
 -- in an entry that authenticates
 pub owes-mac : (c : CourseState) (e : End) → IsNextStep step.Auth c.left → e.packet ≡ c.job.packet
@@ -93,6 +96,7 @@ out-ccm (step.CcmMac ∷ left) c e h is =
     ap₂ (λ (iv aad : List ℕ). led_to c.reason left (record c.job { packet = e.packet; iv = iv; aad = aad }) (with_mac c.job.tag_len e.mac c.job.dir c.tag)) is.iv is.aad
     ∙ ap₂ (λ (q m : List ℕ). led_to c.reason left (record c.job { packet = q }) (with_mac c.job.tag_len m c.job.dir c.tag)) is.packet is.mac
 out-ccm (step.CcmText ∷ left) c e h is = absurd (cc)
+out-ccm (step.Gmac ∷ left) c e h is = absurd (cc)
 
 -- in an entry of CCM's MAC
 pub owes-ccm : (c : CourseState) (e : End) → IsNextStep step.CcmMac c.left → IsCcmEnd c.job e → owed_with e (handed_out c) ≡ owed c
@@ -116,6 +120,7 @@ own-at (step.CcmMac ∷ left) c e s h own =
     let of : IsOwn step.CcmMac e c.job = subst (λ (t : Step). IsOwn t e c.job) (sym h) own in
     ap₂ (λ (iv aad : List ℕ). record c.job { packet = []; iv = iv; aad = aad }) of.0 of.1
 own-at (step.CcmText ∷ left) c e s h own = refl
+own-at (step.Gmac ∷ left) c e s h own = refl
 
 -- the job is the course's own once the packet is back
 pub own-back : (c d : CourseState) (e : End) (s : Step) → d ≡ handed_out c → IsNextStep s c.left → IsOwn s e c.job
@@ -136,6 +141,7 @@ back-text n (step.Auth ∷ left) j p tag e reason out h = absurd (cc)
 back-text n (step.Gcm ∷ left) j p tag e reason out h = absurd (cc)
 back-text n (step.CcmMac ∷ left) j p tag e reason out h = absurd (cc)
 back-text n (step.CcmText ∷ left) j p tag e reason out h = absurd (cc)
+back-text n (step.Gmac ∷ left) j p tag e reason out h = absurd (cc)
 
 pub text-back : (n : Lengths) (j : Job) (p tag : List ℕ) (e : End) (reason : Option Reason) (all left : List Step) (out : Option ℕ) → IsNextStep step.Cipher all
     → left ≡ drop 1 all → going n j e.packet tag reason left None ≡ taken_back e (going n j p tag reason all out)
@@ -150,6 +156,7 @@ back-mac n (step.Auth ∷ left) j p tag e reason out h = refl
 back-mac n (step.Gcm ∷ left) j p tag e reason out h = absurd (cc)
 back-mac n (step.CcmMac ∷ left) j p tag e reason out h = absurd (cc)
 back-mac n (step.CcmText ∷ left) j p tag e reason out h = absurd (cc)
+back-mac n (step.Gmac ∷ left) j p tag e reason out h = absurd (cc)
 
 pub mac-back : (n : Lengths) (j : Job) (p tag t : List ℕ) (e : End) (reason : Option Reason) (all left : List Step) (out : Option ℕ) → IsNextStep step.Auth all
     → left ≡ drop 1 all → t ≡ take j.tag_len e.mac
@@ -166,6 +173,7 @@ back-ccm n (step.Auth ∷ left) j p tag e reason out h = absurd (cc)
 back-ccm n (step.Gcm ∷ left) j p tag e reason out h = absurd (cc)
 back-ccm n (step.CcmMac ∷ left) j p tag e reason out h = refl
 back-ccm n (step.CcmText ∷ left) j p tag e reason out h = absurd (cc)
+back-ccm n (step.Gmac ∷ left) j p tag e reason out h = absurd (cc)
 
 pub ccm-back : (n : Lengths) (j : Job) (p tag t : List ℕ) (e : End) (reason : Option Reason) (all left : List Step) (out : Option ℕ) → IsNextStep step.CcmMac all
     → left ≡ drop 1 all → t ≡ with_mac j.tag_len e.mac j.dir tag

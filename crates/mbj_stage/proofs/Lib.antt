@@ -9,3 +9,5 @@ pub mod EntryEnds
 pub mod HandingOut
 pub mod Handings
 pub mod Masks
+pub mod Hashes
+pub mod Gmacs

@@ -1,5 +1,5 @@
 -- A MAC and a mask, xored.
-use Rattle.std.proofs.Common.{◌≡◌, ℕ, zero, suc, ◌≤◌, ◌<◌, inl, inr, min, List, [], ◌∷◌, length, take, bit_xor, refl, ap, ap₂, arith}
+use Rattle.std.proofs.Common.{◌≡◌, ℕ, zero, suc, ◌≤◌, inl, inr, min, List, [], ◌∷◌, length, take, bit_xor, refl, ap, ap₂, arith}
 use Rattle.std.proofs.lemmas.Bool.{cases_lt}
 use Rattle.std.proofs.lemmas.List.{take_all}
 use lib.Bits.{xor_comm}

@@ -1,5 +1,5 @@
 -- What a course owes: at its start the job's result, and the same after each step.
-use Rattle.std.proofs.Common.{◌≡◌, ℕ, inl, inr, false, List, [], ◌∷◌, ◌++◌, take, Option, Some, None, refl, sym, ap, ap₂, ◌∙◌, append-nil}
+use Rattle.std.proofs.Common.{◌≡◌, ℕ, false, List, [], ◌∷◌, ◌++◌, take, Option, Some, None, refl, sym, ap, ap₂, ◌∙◌, append-nil}
 use Rattle.std.specs.Option.{option_map_or}
 use Rattle.std.proofs.Math.Seq.{take-nil}
 use Rattle.mbj_types.specs.declared.job.Job.{Job}
@@ -61,6 +61,8 @@ after_auth (class.Hmac hash) j left e h = refl
 after_auth (class.Cmac key) j left e h = refl
 after_auth class.Gcm j left e h = absurd (cc)
 after_auth class.Ccm j left e h = absurd (cc)
+after_auth (class.Plain hash) j left e h = refl
+after_auth class.Gmac j left e h = refl
 
 -- without GCM and CCM the packet that is authenticated goes by the order
 authenticated-ordered : (a : AuthClass) (j : Job) → is_ciphers a ≡ false → authenticated_by a j ≡ authenticated_in j.order j
@@ -69,6 +71,8 @@ authenticated-ordered (class.Hmac hash) j h = refl
 authenticated-ordered (class.Cmac key) j h = refl
 authenticated-ordered class.Gcm j h = absurd (cc)
 authenticated-ordered class.Ccm j h = absurd (cc)
+authenticated-ordered (class.Plain hash) j h = refl
+authenticated-ordered class.Gmac j h = refl
 
 -- the steps of a job without GCM and CCM lead to its result
 ordered-led : (o : Order) (j : Job) → j.order ≡ o → makes_tag j.cipher ≡ false → is_ciphers (class_of j.auth) ≡ false

@@ -67,6 +67,8 @@ mac_by-packet (class.Hmac h) j p q = refl
 mac_by-packet (class.Cmac key) j p q = refl
 mac_by-packet class.Gcm j p q = refl
 mac_by-packet class.Ccm j p q = refl
+mac_by-packet (class.Plain hash) j p q = refl
+mac_by-packet class.Gmac j p q = refl
 
 pub tag_over-packet : (j : Job) (p q : List ℕ) → tag_over (record j { packet = q }) p ≡ tag_over j p
 unfolding tag_over
@@ -79,6 +81,7 @@ packet_after-packet step.Auth j p q = refl
 packet_after-packet step.Gcm j p q = ciphered-packet j p q
 packet_after-packet step.CcmMac j p q = refl
 packet_after-packet step.CcmText j p q = ciphered-packet j p q
+packet_after-packet step.Gmac j p q = refl
 
 -- the tag after a step, whatever packet the job has
 pub tag_after-packet : (s : Step) (j : Job) (p q tag : List ℕ) → tag_after s (record j { packet = q }) p tag ≡ tag_after s j p tag
@@ -87,3 +90,4 @@ tag_after-packet step.Auth j p q tag = tag_over-packet j p q
 tag_after-packet step.Gcm j p q tag = tag_over-packet j p q
 tag_after-packet step.CcmMac j p q tag = refl
 tag_after-packet step.CcmText j p q tag = refl
+tag_after-packet step.Gmac j p q tag = tag_over-packet j p q

@@ -1,5 +1,5 @@
 -- That the fields of a course fit: at its start, and when a step is done.
-use Rattle.std.proofs.Common.{◌≡◌, ◌≢◌, ℕ, true, List, [], ◌∷◌, drop, length, replicate, Option, Some, None, refl, sym, ap, ap₂, ◌∙◌, subst}
+use Rattle.std.proofs.Common.{◌≡◌, ◌≢◌, ℕ, true, List, [], ◌∷◌, drop, length, Option, Some, None, refl, sym, ap, ap₂, ◌∙◌, subst}
 use Rattle.std.specs.List.{All}
 use Rattle.std.proofs.lemmas.List.{length-replicate}
 use Rattle.std.proofs.lemmas.List.Elements.{All-nil, All-cons, All-tail, All-append}
@@ -41,6 +41,8 @@ own_auth (class.Hmac hash) j e = own_one j step.Auth e
 own_auth (class.Cmac key) j e = own_one j step.Auth e
 own_auth class.Gcm j e = All-nil (IsStepOf j)
 own_auth class.Ccm j e = All-nil (IsStepOf j)
+own_auth (class.Plain hash) j e = own_one j step.Auth e
+own_auth class.Gmac j e = own_one j step.Gmac e
 
 own_ordered : (o : Order) (j : Job) (ciphers auths : List Step) → All (IsStepOf j) ciphers → All (IsStepOf j) auths
     → All (IsStepOf j) (ordered o ciphers auths)
@@ -73,6 +75,7 @@ own_texts j iv aad step.Auth h = h
 own_texts j iv aad step.Gcm h = h
 own_texts j iv aad step.CcmMac h = h
 own_texts j iv aad step.CcmText h = h
+own_texts j iv aad step.Gmac h = h
 
 all_own_texts : (j : Job) (iv aad : List ℕ) (left : List Step) → All (IsStepOf j) left → All (IsStepOf (record j { iv = iv; aad = aad })) left
 all_own_texts j iv aad left h = λ k s lt. own_texts j iv aad _ (h k s lt)
@@ -130,6 +133,7 @@ texts-kept m step.Auth left h = refl
 texts-kept m step.Gcm left h = refl
 texts-kept m step.CcmMac left h = absurd h
 texts-kept m step.CcmText left h = refl
+texts-kept m step.Gmac left h = refl
 
 -- when such an entry is taken back
 pub sound_taken : (j : Job) (p q : List ℕ) (s : Step) (all left : List Step) (out : Option ℕ) (n : Lengths) → IsSound j p all out n
@@ -166,6 +170,7 @@ no-texts m (step.Auth ∷ left) h = absurd (cc)
 no-texts m (step.Gcm ∷ left) h = absurd (cc)
 no-texts m (step.CcmMac ∷ left) h = λ e. cc
 no-texts m (step.CcmText ∷ left) h = absurd (cc)
+no-texts m (step.Gmac ∷ left) h = absurd (cc)
 
 -- and nonce and data with it
 pub sound_texts_out : (j : Job) (p iv aad : List ℕ) (left : List Step) (n : Lengths) → IsSound j p left None n → stage_at j left ≢ stage.Now

@@ -1,6 +1,6 @@
 -- Which jobs have their next stage at once, in which lanes, or none left.
-use Rattle.std.proofs.Common.{◌≡◌, ◌≢◌, ℕ, ◌⊎◌, inl, inr, ◌==◌, List, [], ◌∷◌, length, refl, sym, ap, ◌∙◌}
-use Rattle.std.specs.Prelude.{IsSome, if◌then◌else◌}
+use Rattle.std.proofs.Common.{◌≡◌, ◌≢◌, ℕ, ◌==◌, List, [], ◌∷◌, length, refl, sym, ap, ◌∙◌}
+use Rattle.std.specs.Prelude.{if◌then◌else◌}
 use Rattle.std.proofs.lemmas.Bool.{cond_both}
 use Rattle.mbj_types.specs.declared.job.Job.{Job}
 use Rattle.mbj_types.specs.declared.job.Cipher.{Cipher}
@@ -15,7 +15,7 @@ use Rattle.mbj_types.specs.declared.class.HashName.{HashName}
 use Rattle.mbj_types.specs.declared.class.HashName.TheVariants.{Sha1}
 use Rattle.mbj_types.specs.declared.kind.Kind.{Kind}
 use Rattle.mbj_types.specs.declared.kind.Kind.TheVariants as kind
-use Rattle.mbj_types.specs.Auths.{IsCmac, class_of, cmac_kind, hash_in, hash_kind}
+use Rattle.mbj_types.specs.Auths.{IsCmac, class_of, cmac_kind, hash_kind}
 use Rattle.mbj_stage.specs.declared.stage.Stage.TheVariants as stage
 use Rattle.mbj_stage.specs.declared.stage.Step.{Step}
 use Rattle.mbj_stage.specs.declared.stage.Step.TheVariants as step
@@ -33,6 +33,7 @@ stage-packet j p (step.Auth ∷ left) = refl
 stage-packet j p (step.Gcm ∷ left) = refl
 stage-packet j p (step.CcmMac ∷ left) = refl
 stage-packet j p (step.CcmText ∷ left) = refl
+stage-packet j p (step.Gmac ∷ left) = refl
 
 -- nor have nonce and additional data
 pub stage-texts : (j : Job) (iv aad : List ℕ) (left : List Step) → stage_at (record j { iv = iv; aad = aad }) left ≡ stage_at j left
@@ -42,6 +43,7 @@ stage-texts j iv aad (step.Auth ∷ left) = refl
 stage-texts j iv aad (step.Gcm ∷ left) = refl
 stage-texts j iv aad (step.CcmMac ∷ left) = refl
 stage-texts j iv aad (step.CcmText ∷ left) = refl
+stage-texts j iv aad (step.Gmac ∷ left) = refl
 
 -- a job of which parts are out has its stages
 pub stage-left_behind : (j : Job) (left : List Step) → stage_at (left_behind left j) left ≡ stage_at j left
@@ -51,6 +53,7 @@ stage-left_behind j (step.Auth ∷ left) = refl
 stage-left_behind j (step.Gcm ∷ left) = refl
 stage-left_behind j (step.CcmMac ∷ left) = refl
 stage-left_behind j (step.CcmText ∷ left) = refl
+stage-left_behind j (step.Gmac ∷ left) = refl
 
 -- the steps after the first have no part in it
 pub stage-first : (j : Job) (s : Step) (left : List Step) → stage_at j (s ∷ left) ≡ stage_at j (s ∷ [])
@@ -59,6 +62,7 @@ stage-first j step.Auth left = refl
 stage-first j step.Gcm left = refl
 stage-first j step.CcmMac left = refl
 stage-first j step.CcmText left = refl
+stage-first j step.Gmac left = refl
 
 -- ---- a step that is left isn't finished
 
@@ -76,6 +80,8 @@ auth-left (class.Hmac hash) e = cc
 auth-left (class.Cmac key) e = cc
 auth-left class.Gcm e = cc
 auth-left class.Ccm e = cc
+auth-left (class.Plain hash) e = cc
+auth-left class.Gmac e = cc
 
 -- where the stage is finished no step is left
 pub finished-left : (j : Job) (left : List Step) → stage_at j left ≡ stage.Finished → left ≡ []
@@ -85,6 +91,7 @@ finished-left j (step.Auth ∷ left) h = absurd (auth-left (class_of j.auth) h)
 finished-left j (step.Gcm ∷ left) h = absurd (cc)
 finished-left j (step.CcmMac ∷ left) h = absurd (cc)
 finished-left j (step.CcmText ∷ left) h = absurd (cc)
+finished-left j (step.Gmac ∷ left) h = absurd (cc)
 
 -- ---- CBC
 
@@ -138,6 +145,8 @@ auth-step (class.Hmac hash) k h = let e : hash_kind hash ≡ k = cc in hash-step
 auth-step (class.Cmac key) k h = let e : cmac_kind key ≡ k = cc in cmac-step key ∙ ap step_of e
 auth-step class.Gcm k h = absurd (cc)
 auth-step class.Ccm k h = absurd (cc)
+auth-step (class.Plain hash) k h = let e : hash_kind hash ≡ k = cc in hash-step hash ∙ ap step_of e
+auth-step class.Gmac k h = absurd (cc)
 
 -- where a stage in a kind's lanes is next, its step is the first
 pub first-step : (j : Job) (left : List Step) (k : Kind) → stage_at j left ≡ stage.Lane k → IsNextStep (step_of k) left
@@ -147,6 +156,7 @@ first-step j (step.Auth ∷ left) k h = auth-step (class_of j.auth) k h
 first-step j (step.Gcm ∷ left) k h = absurd (cc)
 first-step j (step.CcmMac ∷ left) k h = let e : ccm_kind (length j.key) ≡ k = cc in sym (ccm-step (length j.key)) ∙ ap step_of e
 first-step j (step.CcmText ∷ left) k h = absurd (cc)
+first-step j (step.Gmac ∷ left) k h = absurd (cc)
 
 -- where the first step is the authentication, its stage is next
 pub auth-first : (j : Job) (left : List Step) → IsNextStep step.Auth left → stage_at j left ≡ auth_stage_by (class_of j.auth)
@@ -156,6 +166,7 @@ auth-first j (step.Auth ∷ left) h = refl
 auth-first j (step.Gcm ∷ left) h = absurd (cc)
 auth-first j (step.CcmMac ∷ left) h = absurd (cc)
 auth-first j (step.CcmText ∷ left) h = absurd (cc)
+auth-first j (step.Gmac ∷ left) h = absurd (cc)
 
 pub cipher-first : (j : Job) (left : List Step) → IsNextStep step.Cipher left → stage_at j left ≡ cipher_stage_by j.cipher j.dir (length j.key)
 cipher-first j [] h = absurd h
@@ -164,6 +175,7 @@ cipher-first j (step.Auth ∷ left) h = absurd (cc)
 cipher-first j (step.Gcm ∷ left) h = absurd (cc)
 cipher-first j (step.CcmMac ∷ left) h = absurd (cc)
 cipher-first j (step.CcmText ∷ left) h = absurd (cc)
+cipher-first j (step.Gmac ∷ left) h = absurd (cc)
 
 pub ccm-first : (j : Job) (left : List Step) → IsNextStep step.CcmMac left → stage_at j left ≡ stage.Lane (ccm_kind (length j.key))
 ccm-first j [] h = absurd h
@@ -172,20 +184,11 @@ ccm-first j (step.Auth ∷ left) h = absurd (cc)
 ccm-first j (step.Gcm ∷ left) h = absurd (cc)
 ccm-first j (step.CcmMac ∷ left) h = refl
 ccm-first j (step.CcmText ∷ left) h = absurd (cc)
+ccm-first j (step.Gmac ∷ left) h = absurd (cc)
 
 pub first-some : (s : Step) (left : List Step) → IsNextStep s left → left ≢ []
 first-some s [] h = absurd h
 first-some s (t ∷ left) h = λ e. cc
-
--- ---- HMAC
-
--- an HMAC is done in lanes
-pub hmac-in-lanes : (a : AuthClass) → IsSome (hash_in a) → auth_stage_by a ≢ stage.Now
-hmac-in-lanes class.Null h e = absurd (cc)
-hmac-in-lanes (class.Hmac hash) h e = cc
-hmac-in-lanes (class.Cmac key) h e = absurd (cc)
-hmac-in-lanes class.Gcm h e = absurd (cc)
-hmac-in-lanes class.Ccm h e = absurd (cc)
 
 -- ---- CMAC
 
@@ -208,3 +211,5 @@ cmac-auth (class.Hmac hash) n h = absurd (let e : hash_kind hash ≡ cmac_lanes 
 cmac-auth (class.Cmac key) n h = tt
 cmac-auth class.Gcm n h = absurd (cc)
 cmac-auth class.Ccm n h = absurd (cc)
+cmac-auth (class.Plain hash) n h = absurd (let e : hash_kind hash ≡ cmac_lanes n = cc in hash-else hash n e)
+cmac-auth class.Gmac n h = absurd (cc)

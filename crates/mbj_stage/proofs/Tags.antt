@@ -1,11 +1,10 @@
--- The tags of HMAC, CMAC and GCM jobs.
-use Rattle.std.proofs.Common.{◌≡◌, ℕ, ◌+◌, ◌-◌, ◌⊎◌, inl, inr, true, List, take, drop, refl, sym, ap, ◌∙◌, IfSome, IsSome, arith}
+-- The tags of CMAC and GCM jobs.
+use Rattle.std.proofs.Common.{◌≡◌, ℕ, ◌+◌, ◌-◌, true, List, take, drop, refl, sym, ap, ◌∙◌, arith}
 use Rattle.mbj_types.specs.declared.job.Job.{Job}
 use Rattle.mbj_types.specs.declared.class.CmacKey.{CmacKey}
 use Rattle.mbj_types.specs.declared.class.CmacKey.TheVariants.{Aes128}
 use Rattle.mbj_types.specs.Aes.{aes, is_key_size}
-use Rattle.mbj_types.specs.Hmac.{hmac}
-use Rattle.mbj_types.specs.Auths.{IsCmac, class_of, cmac_key_bytes, hash_in, hash_of_name}
+use Rattle.mbj_types.specs.Auths.{IsCmac, class_of, cmac_key_bytes}
 use Rattle.mbj_types.specs.declared.class.AuthClass.{AuthClass}
 use Rattle.mbj_types.specs.declared.class.AuthClass.TheVariants as class
 use Rattle.mbj_types.specs.Cmac.{cmac}
@@ -14,25 +13,6 @@ use Rattle.mbj_types.specs.Result.{hash_range, gcm_of, mac_by, tag_over}
 use Rattle.std.proofs.lemmas.Bool.{eqb-true}
 use Rattle.mbj_aes.specs.Bytes.{IsKeySize}
 use Rattle.mbj_stage.specs.Inside.Texts.{gcm_by}
-
--- ---- HMAC
-
--- an HMAC is over the hash range
-pub hmac_has_range : (a : AuthClass) → IsSome (hash_in a) → has_hash_range a ≡ true
-hmac_has_range class.Null h = absurd (cc)
-hmac_has_range (class.Hmac hash) h = refl
-hmac_has_range (class.Cmac key) h = absurd (cc)
-hmac_has_range class.Gcm h = absurd (cc)
-hmac_has_range class.Ccm h = absurd (cc)
-
--- an HMAC with the hash of its authentication is that authentication's value
-pub hmac_is_mac : (a : AuthClass) (j : Job) (p tag : List ℕ) → IsSome (hash_in a)
-    → IfSome (hash_in a) (λ h. tag ≡ hmac h j.auth_key (hash_range j p)) → tag ≡ mac_by a j p
-hmac_is_mac class.Null j p tag h is = absurd (cc)
-hmac_is_mac (class.Hmac hash) j p tag h is = is
-hmac_is_mac (class.Cmac key) j p tag h is = absurd (cc)
-hmac_is_mac class.Gcm j p tag h is = absurd (cc)
-hmac_is_mac class.Ccm j p tag h is = absurd (cc)
 
 -- ---- CMAC
 
@@ -43,6 +23,8 @@ cmac_has_range (class.Hmac hash) h = absurd h
 cmac_has_range (class.Cmac key) h = refl
 cmac_has_range class.Gcm h = absurd h
 cmac_has_range class.Ccm h = absurd h
+cmac_has_range (class.Plain hash) h = absurd h
+cmac_has_range class.Gmac h = absurd h
 
 -- its key is one of AES
 sized : (k : CmacKey) → IsKeySize (cmac_key_bytes k)
@@ -55,6 +37,8 @@ cmac_key (class.Hmac hash) n h k = absurd h
 cmac_key (class.Cmac key) n h k = ap is_key_size (eqb-true n (cmac_key_bytes key) k) ∙ sized key
 cmac_key class.Gcm n h k = absurd h
 cmac_key class.Ccm n h k = absurd h
+cmac_key (class.Plain hash) n h k = absurd h
+cmac_key class.Gmac n h k = absurd h
 
 -- the value of a CMAC
 pub cmac_is_mac : (a : AuthClass) (j : Job) (p : List ℕ) → IsCmac a → cmac (aes j.auth_key) (hash_range j p) ≡ mac_by a j p
@@ -63,6 +47,8 @@ cmac_is_mac (class.Hmac hash) j p h = absurd h
 cmac_is_mac (class.Cmac key) j p h = refl
 cmac_is_mac class.Gcm j p h = absurd h
 cmac_is_mac class.Ccm j p h = absurd h
+cmac_is_mac (class.Plain hash) j p h = absurd h
+cmac_is_mac class.Gmac j p h = absurd h
 
 -- ---- GCM
 

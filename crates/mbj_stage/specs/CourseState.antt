@@ -1,5 +1,5 @@
 -- The course of a job: what contracts see of it, how it goes on, and the result to which it leads.
-use Rattle.std.specs.Prelude.{◌≡◌, ◌≢◌, ℕ, List, [], ◌∷◌, length, replicate, take, Option, Some, None}
+use Rattle.std.specs.Prelude.{ℕ, List, [], ◌∷◌, length, replicate, take, Option, Some, None}
 use Rattle.mbj_types.specs.Verdict.{verdict}
 use Rattle.mbj_types.specs.Aes.{aes}
 use Rattle.mbj_types.specs.Blocks.{xor_lists}
@@ -13,7 +13,6 @@ use Rattle.mbj_types.specs.declared.done.Status.{Status}
 use Rattle.mbj_types.specs.declared.done.Status.TheVariants as status
 use Rattle.mbj_types.specs.declared.reason.Reason.{Reason}
 use Rattle.mbj_stage.specs.declared.stage.Stage.{Stage}
-use Rattle.mbj_stage.specs.declared.stage.Stage.TheVariants as stage
 use Rattle.mbj_stage.specs.declared.lengths.Lengths.{Lengths}
 use Rattle.mbj_stage.specs.declared.stage.Step.{Step}
 use Rattle.mbj_stage.specs.declared.stage.Step.TheVariants as step
@@ -58,6 +57,7 @@ packet_after step.Auth j p = p
 packet_after step.Gcm j p = ciphered j p
 packet_after step.CcmMac j p = p
 packet_after step.CcmText j p = ciphered j p
+packet_after step.Gmac j p = p
 
 -- CCM's MAC over the packet p, whose cipher range is the plaintext
 abbrev pub ccm_mac_over : Job → List ℕ → List ℕ
@@ -80,6 +80,7 @@ tag_after step.Auth j p tag = tag_over j p
 tag_after step.Gcm j p tag = tag_over j p
 tag_after step.CcmMac j p tag = with_mac j.tag_len (ccm_mac_over j p) j.dir tag
 tag_after step.CcmText j p tag = with_mask j.tag_len (ccm_mask (aes j.key) j.iv) j.dir tag
+tag_after step.Gmac j p tag = tag_over j p
 
 -- the course with the first of the steps left done
 abbrev pub ran_at : CourseState → List Step → CourseState

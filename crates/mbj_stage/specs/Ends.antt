@@ -12,7 +12,7 @@ cbc_end e = record { packet = e.packet; mac = []; iv = []; aad = [] }
 abbrev pub cmac_end : Cmac.CmacState → End
 cmac_end e = record { packet = e.packet; mac = e.chain; iv = []; aad = [] }
 
--- the whole HMAC is the digest of the hash value
+-- a digest, and a whole HMAC, is the digest of the hash value
 abbrev pub hmac_end : Hmac.Chaining → Hmac.HmacState → End
 hmac_end h e = record { packet = e.packet; mac = h.digest e.hash e.chain; iv = []; aad = [] }
 

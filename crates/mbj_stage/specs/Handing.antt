@@ -13,8 +13,8 @@ use Rattle.mbj_stage.specs.declared.stage.Stage.TheVariants as stage
 use Rattle.mbj_stage.specs.CourseState.{CourseState, ccm_mac_over, owed, packet_after, sized, stage_of, with_mac}
 use Rattle.mbj_stage.specs.Steps.{step_of}
 
--- what an entry holds when its rounds are done: the packet; the whole value of an HMAC or a CMAC, or CCM's MAC, which a cipher's entry
--- doesn't have; and CCM's nonce and additional data, which no other entry has
+-- what an entry holds when its rounds are done: the packet; the whole value of a digest, an HMAC or a CMAC, or CCM's MAC, which a
+-- cipher's entry doesn't have; and CCM's nonce and additional data, which no other entry has
 pub record End : Type 0 where
   pub packet : List ℕ
   pub mac : List ℕ
@@ -42,6 +42,7 @@ tag_back step.Auth j mac tag = take j.tag_len mac
 tag_back step.Gcm j mac tag = tag
 tag_back step.CcmMac j mac tag = with_mac j.tag_len mac j.dir tag
 tag_back step.CcmText j mac tag = tag
+tag_back step.Gmac j mac tag = tag
 
 abbrev pub taken_back_at : List Step → End → CourseState → CourseState
 taken_back_at [] e c = c
@@ -107,6 +108,7 @@ IsForLanes step.Auth = Unit {0}
 IsForLanes step.Gcm = ⊥
 IsForLanes step.CcmMac = Unit {0}
 IsForLanes step.CcmText = ⊥
+IsForLanes step.Gmac = ⊥
 
 -- a course owes the same while its packet is out in an entry that does its first step
 abbrev pub OwesTheSame : CourseState → Type 0

@@ -11,7 +11,7 @@ use Rattle.mbj_types.specs.declared.kind.TheConstants.{AES_LANES}
 use Rattle.mbj_types.specs.declared.kind.Kind.{Kind}
 use Rattle.mbj_types.specs.declared.kind.Kind.TheVariants as kind
 use Rattle.mbj_hmac.specs.Chainings.{sha1_chaining, sha256_chaining, sha512_chaining}
-use Rattle.mbj_hmac.specs.Names.{serves_class}
+use Rattle.mbj_hmac.specs.Names.{serves_lanes_class}
 use Rattle.mbj_stage.specs.declared.stage.Stage.TheVariants as stage
 use Rattle.mbj_stage.specs.Steps.{auth_stage_by}
 use Rattle.mbj_stage.specs.Families.{by_rounds, cbc_lanes, ccm_lanes, cmac_lanes}
@@ -32,27 +32,35 @@ ccm-lanes n = each-by_rounds (λ k. AES_LANES ≡ lanes_of k) n kind.Ccm128 kind
 pub cmac-lanes : (n : ℕ) → AES_LANES ≡ lanes_of (cmac_lanes n)
 cmac-lanes n = cond_both (n == 10) kind.Cmac128 kind.Cmac256 (λ k. AES_LANES ≡ lanes_of k) (λ _. refl) (λ _. refl)
 
--- ---- the authentications of each kind of HMAC
+-- ---- the authentications of each kind of hashes
 
-pub sha1-serves : (a : AuthClass) → auth_stage_by a ≡ stage.Lane kind.HmacSha1 → IsTrue (serves_class sha1_chaining a)
+pub sha1-serves : (a : AuthClass) → auth_stage_by a ≡ stage.Lane kind.HmacSha1 → IsTrue (serves_lanes_class sha1_chaining a)
 sha1-serves (class.Hmac Sha1) h = refl
 sha1-serves (class.Hmac _) h = absurd (cc)
+sha1-serves (class.Plain Sha1) h = refl
+sha1-serves (class.Plain _) h = absurd (cc)
 sha1-serves (class.Cmac Aes128) h = absurd (cc)
 sha1-serves (class.Cmac _) h = absurd (cc)
 sha1-serves _ h = absurd (cc)
 
-pub sha256-serves : (a : AuthClass) → auth_stage_by a ≡ stage.Lane kind.HmacSha256 → IsTrue (serves_class sha256_chaining a)
+pub sha256-serves : (a : AuthClass) → auth_stage_by a ≡ stage.Lane kind.HmacSha256 → IsTrue (serves_lanes_class sha256_chaining a)
 sha256-serves (class.Hmac Sha224) h = refl
 sha256-serves (class.Hmac Sha256) h = refl
 sha256-serves (class.Hmac _) h = absurd (cc)
+sha256-serves (class.Plain Sha224) h = refl
+sha256-serves (class.Plain Sha256) h = refl
+sha256-serves (class.Plain _) h = absurd (cc)
 sha256-serves (class.Cmac Aes128) h = absurd (cc)
 sha256-serves (class.Cmac _) h = absurd (cc)
 sha256-serves _ h = absurd (cc)
 
-pub sha512-serves : (a : AuthClass) → auth_stage_by a ≡ stage.Lane kind.HmacSha512 → IsTrue (serves_class sha512_chaining a)
+pub sha512-serves : (a : AuthClass) → auth_stage_by a ≡ stage.Lane kind.HmacSha512 → IsTrue (serves_lanes_class sha512_chaining a)
 sha512-serves (class.Hmac Sha384) h = refl
 sha512-serves (class.Hmac Sha512) h = refl
 sha512-serves (class.Hmac _) h = absurd (cc)
+sha512-serves (class.Plain Sha384) h = refl
+sha512-serves (class.Plain Sha512) h = refl
+sha512-serves (class.Plain _) h = absurd (cc)
 sha512-serves (class.Cmac Aes128) h = absurd (cc)
 sha512-serves (class.Cmac _) h = absurd (cc)
 sha512-serves _ h = absurd (cc)

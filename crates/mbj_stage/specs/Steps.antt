@@ -1,5 +1,5 @@
 -- The steps of a job, and when each is done.
-use Rattle.std.specs.Prelude.{◌≡◌, ◌==◌, ℕ, List, [], ◌∷◌, ◌++◌, length, Option, Some, None, if◌then◌else◌}
+use Rattle.std.specs.Prelude.{◌==◌, ℕ, List, [], ◌∷◌, ◌++◌, length, Option, Some, None, if◌then◌else◌}
 use Rattle.mbj_types.specs.Auths.{class_of, cmac_kind, hash_kind}
 use Rattle.mbj_types.specs.declared.class.AuthClass.{AuthClass}
 use Rattle.mbj_types.specs.declared.class.AuthClass.TheVariants as class
@@ -28,13 +28,15 @@ cipher_steps cipher.Ctr = step.Cipher ∷ []
 cipher_steps cipher.Gcm = step.Gcm ∷ []
 cipher_steps cipher.Ccm = []
 
--- the steps of an authentication; the tags of GCM and CCM are made with their ciphers
+-- the steps of an authentication; the tags of GCM and CCM are made with their ciphers, and GMAC has a step of its own
 abbrev pub auth_steps : AuthClass → List Step
 auth_steps class.Null = []
 auth_steps (class.Hmac h) = step.Auth ∷ []
 auth_steps (class.Cmac key) = step.Auth ∷ []
 auth_steps class.Gcm = []
 auth_steps class.Ccm = []
+auth_steps (class.Plain h) = step.Auth ∷ []
+auth_steps class.Gmac = step.Gmac ∷ []
 
 abbrev pub ordered : Order → List Step → List Step → List Step
 ordered CipherHash ciphers auths = ciphers ++ auths
@@ -87,13 +89,15 @@ cipher_stage_by cipher.Ctr d n = stage.Now
 cipher_stage_by cipher.Gcm d n = stage.Now
 cipher_stage_by cipher.Ccm d n = stage.Now
 
--- when an authentication is done: HMAC in the lanes of its hash, and CMAC in those of its key
+-- when an authentication is done: HMAC and digests in the lanes of their hash, and CMAC in those of its key
 abbrev pub auth_stage_by : AuthClass → Stage
 auth_stage_by class.Null = stage.Now
 auth_stage_by (class.Hmac h) = stage.Lane (hash_kind h)
 auth_stage_by (class.Cmac k) = stage.Lane (cmac_kind k)
 auth_stage_by class.Gcm = stage.Now
 auth_stage_by class.Ccm = stage.Now
+auth_stage_by (class.Plain h) = stage.Lane (hash_kind h)
+auth_stage_by class.Gmac = stage.Now
 
 -- when a job's cipher is done
 abbrev pub cipher_stage : Job → Stage
@@ -111,6 +115,7 @@ stage_at j (step.Auth ∷ left) = auth_stage j
 stage_at j (step.Gcm ∷ left) = stage.Now
 stage_at j (step.CcmMac ∷ left) = stage.Lane (ccm_kind (length j.key))
 stage_at j (step.CcmText ∷ left) = stage.Now
+stage_at j (step.Gmac ∷ left) = stage.Now
 
 -- the step whose stage is in a kind's lanes
 abbrev pub step_of : Kind → Step

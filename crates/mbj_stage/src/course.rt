@@ -3,11 +3,12 @@ ghost use Rattle.mbj_types.specs.declared.limits.TheConstants.{MAX_TAG_BYTES};
 ghost use Rattle.mbj_types.specs.Verdict.{verdict_at};
 ghost use Rattle.mbj_types.specs.Result.{result_of};
 ghost use Rattle.mbj_lane.specs.Rounds.{end_of};
-ghost use Rattle.mbj_types.specs.Rounds.{cbc_rounds, cmac_rounds, hmac_rounds, rounds_of};
+ghost use Rattle.mbj_types.specs.Rounds.{auth_rounds, cbc_rounds, cmac_rounds, rounds_of};
+ghost use Rattle.mbj_types.specs.Auths.{class_of};
 ghost use Rattle.mbj_aes.specs.Bytes.{IsRoundCount};
 ghost use Rattle.mbj_cbc.specs.Rounds.{round as cbc_round, rest_of as cbc_rest};
 ghost use Rattle.mbj_cmac.specs.Rounds.{round as cmac_round, rest_of as cmac_rest};
-ghost use Rattle.mbj_hmac.specs.Names.{serves_auth};
+ghost use Rattle.mbj_hmac.specs.Names.{serves_lanes};
 ghost use Rattle.mbj_hmac.specs.Rounds.{round as hmac_round, rest_of as hmac_rest};
 ghost use Rattle.mbj_stage.specs.declared.stage.Stage.TheVariants as stage;
 ghost use Rattle.mbj_stage.specs.declared.stage.Step.TheVariants as step;
@@ -23,7 +24,7 @@ use crate::entries::{cbc_entry, ccm_entry, cmac_entry, hmac_entry};
 use crate::lengths::{Lengths, lengths_of};
 use crate::stage::{Stage, Step, Steps, stage_of_step, steps_by};
 use crate::tag::cut;
-use crate::{ccm, cipher, gcm};
+use crate::{ccm, cipher, gcm, gmac};
 use mbj_args::check;
 use mbj_cbc::CbcEntry;
 use mbj_ccm::CcmEntry;
@@ -40,7 +41,7 @@ use std::mem;
 /// or authentication has none, and GCM has one for both. CCM has two: its MAC over the plaintext, and its text with the mask of the
 /// tag; a text that is sealed is authenticated first, and one that is opened is deciphered first. A job that is refused has none.
 ///
-/// CBC encryption, CMAC, HMAC and CCM's MAC are done in lanes: a call hands the packet out in an entry, and another one takes it
+/// CBC encryption, CMAC, HMAC, digests and CCM's MAC are done in lanes: a call hands the packet out in an entry, and another one takes it
 /// back once the entry's rounds are done. All else `run_now` does.
 ///
 /// No call takes memory, and each stage expands its key once.
@@ -91,6 +92,7 @@ fn run_step(step: Step, job: &Job, packet: &mut Vec<u8>, tag: &mut Tag)
         Step::Gcm => *tag = gcm::run(job, packet.as_mut_slice()),
         Step::CcmMac => unreachable!(),
         Step::CcmText => ccm::run(job, packet.as_mut_slice(), tag),
+        Step::Gmac => *tag = gmac::run(job, packet.as_slice()),
     }
 }
 
@@ -253,13 +255,14 @@ impl Course {
         cmac_entry(&self.job, packet)
     }
 
-    /// Hands the packet out in an entry of HMAC over a hash of `H`.
+    /// Hands the packet out in an entry of a digest by a hash of `H`, or of its HMAC.
     pub(crate) fn hand_out_hmac<H: LaneHash>(&mut self) -> HmacEntry<H>
         requires next { IsNextStep step.Auth self.old.left }
-        requires serves { IsTrue (serves_auth H.chaining self.old.job.auth) }
+        requires serves { IsTrue (serves_lanes H.chaining self.old.job.auth) }
         requires here { self.old.out ≡ None }
         ensures out { self.new ≡ handed_out self.old }
-        ensures rest { result.rest ≡ hmac_rounds H.chaining.block_bytes self.old.job.hash_len }
+        ensures rest { result.rest ≡ auth_rounds (class_of self.old.job.auth) H.chaining.block_bytes self.old.job.hash_len }
+        ensures some { 1 ≤ result.rest }
         ensures owed { owed_with (hmac_end H.chaining (end_of (hmac_round H.chaining) hmac_rest result)) self.new ≡ owed self.old }
         ensures job { without_packet (taken_back (hmac_end H.chaining (end_of (hmac_round H.chaining) hmac_rest result)) self.new).job ≡ without_packet self.old.job }
         ensures length { self.new.out ≡ Some (length (hmac_end H.chaining (end_of (hmac_round H.chaining) hmac_rest result)).packet) }

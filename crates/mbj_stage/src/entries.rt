@@ -4,7 +4,7 @@ ghost use Rattle.std.specs.Prelude.{◌≡◌, ◌≤◌, ◌⊎◌, None, lengt
 ghost use Rattle.mbj_types.specs.Aes.{aes, round_count};
 ghost use Rattle.mbj_types.specs.Auths.{class_of, IsCmac};
 ghost use Rattle.mbj_types.specs.Ccm.{ccm_mac};
-ghost use Rattle.mbj_types.specs.Rounds.{cbc_rounds, ccm_rounds, cmac_rounds, hmac_rounds};
+ghost use Rattle.mbj_types.specs.Rounds.{auth_rounds, cbc_rounds, ccm_rounds, cmac_rounds};
 ghost use Rattle.mbj_types.specs.Result.{ciphered, cipher_range, mac_by};
 ghost use Rattle.mbj_types.specs.Verdict.{verdict_at};
 ghost use Rattle.mbj_types.specs.declared.job.Cipher.TheVariants as cipher;
@@ -12,7 +12,7 @@ ghost use Rattle.mbj_types.specs.declared.job.Dir.TheVariants as dir;
 ghost use Rattle.mbj_lane.specs.Rounds.{end_of};
 ghost use Rattle.mbj_cbc.specs.Rounds.{round as cbc_round, rest_of as cbc_rest};
 ghost use Rattle.mbj_cmac.specs.Rounds.{round as cmac_round, rest_of as cmac_rest};
-ghost use Rattle.mbj_hmac.specs.Names.{serves_auth};
+ghost use Rattle.mbj_hmac.specs.Names.{serves_lanes};
 ghost use Rattle.mbj_hmac.specs.Rounds.{round as hmac_round, rest_of as hmac_rest};
 ghost use Rattle.mbj_ccm.specs.Rounds.{round as ccm_round, rest_of as ccm_rest};
 ghost use Rattle.mbj_stage.specs.Ends.{ccm_end, cmac_end, hmac_end};
@@ -23,7 +23,7 @@ use mbj_cbc::CbcEntry;
 use mbj_ccm::CcmEntry;
 use mbj_cmac::CmacEntry;
 use mbj_hmac::{HmacEntry, LaneHash};
-use mbj_types::Job;
+use mbj_types::{AuthClass, Job};
 
 /// The CBC encryption of a job whose key has `N` rounds.
 pub(crate) fn cbc_entry<const N: usize>(job: &Job, packet: Vec<u8>) -> CbcEntry<N>
@@ -53,22 +53,23 @@ pub(crate) fn cmac_entry<const N: usize>(job: &Job, packet: Vec<u8>) -> CmacEntr
     CmacEntry::new(key, packet, job.hash_off, job.hash_len)
 }
 
-/// The HMAC of a job whose hash is one of `H`. A key longer than a block is hashed as the entry is made.
+/// The HMAC of a job whose hash is one of `H`, or the digest. An HMAC's key that is longer than a block is hashed as the entry is
+/// made.
 pub(crate) fn hmac_entry<H: LaneHash>(job: &Job, packet: Vec<u8>) -> HmacEntry<H>
-    requires serves { IsTrue (serves_auth H.chaining job.now.auth) }
+    requires serves { IsTrue (serves_lanes H.chaining job.now.auth) }
     requires accepted { verdict_at job.now (length packet.items) ≡ None }
-    ensures rest { result.rest ≡ hmac_rounds H.chaining.block_bytes job.now.hash_len }
+    ensures rest { result.rest ≡ auth_rounds (class_of job.now.auth) H.chaining.block_bytes job.now.hash_len }
     ensures packet { (hmac_end H.chaining (end_of (hmac_round H.chaining) hmac_rest result)).packet ≡ packet.items }
     ensures mac { (hmac_end H.chaining (end_of (hmac_round H.chaining) hmac_rest result)).mac
         ≡ mac_by (class_of job.now.auth) job.now packet.items }
 {
-    HmacEntry::new(
-        job.auth,
-        job.auth_key.as_slice(),
-        packet,
-        job.hash_off,
-        job.hash_len,
-    )
+    let (auth, off, len) = (job.auth, job.hash_off, job.hash_len);
+    match auth.class() {
+        AuthClass::Hmac(_) => HmacEntry::new(auth, job.auth_key.as_slice(), packet, off, len),
+        AuthClass::Plain(_) => HmacEntry::new_plain(auth, packet, off, len),
+        AuthClass::Null | AuthClass::Cmac(_) | AuthClass::Gcm | AuthClass::Ccm | AuthClass::Gmac =>
+            unreachable!(),
+    }
 }
 
 /// The MAC of a CCM job whose key has `N` rounds, over the cipher range, which is plaintext. IV and additional data are the job's,

@@ -1,12 +1,13 @@
 ghost use Rattle.std.specs.Prelude.{◌≡◌, ◌⊎◌, IsTrue};
 ghost use Rattle.mbj_types.specs.Kinds.{lanes_of};
-ghost use Rattle.mbj_types.specs.Rounds.{hmac_rounds, rounds_of};
+ghost use Rattle.mbj_types.specs.Auths.{class_of};
+ghost use Rattle.mbj_types.specs.Rounds.{auth_rounds, rounds_of};
 ghost use Rattle.mbj_types.specs.declared.class.AuthClass.{AuthClass};
 ghost use Rattle.mbj_types.specs.declared.job.Job.{Job};
 ghost use Rattle.mbj_types.specs.declared.kind.Kind.{Kind};
 ghost use Rattle.mbj_types.specs.declared.kind.Kind.TheVariants as kind;
 ghost use Rattle.mbj_aes.specs.Bytes.{IsRoundCount};
-ghost use Rattle.mbj_hmac.specs.Names.{serves_class};
+ghost use Rattle.mbj_hmac.specs.Names.{serves_lanes_class};
 ghost use Rattle.mbj_lane.specs.Rounds.{end_of};
 ghost use Rattle.mbj_stage.specs.declared.stage.Stage.TheVariants as stage;
 ghost use Rattle.mbj_stage.specs.declared.stage.Step.TheVariants as step;
@@ -111,7 +112,7 @@ impl<const N: usize> Feed for CcmKernel<N> {
     ghost lanes = { ccm-lanes N };
 }
 
-/// Hashes whose HMACs are done in the lanes of a kind.
+/// Hashes whose digests and HMACs are done in the lanes of a kind.
 pub trait HashKind: LaneHash {
     /// The kind.
     ghost kind: { Kind };
@@ -122,11 +123,11 @@ pub trait HashKind: LaneHash {
     /// It is one of authentications.
     ghost authenticates: { step_of kind ≡ step.Auth };
 
-    /// An authentication whose stage is in these lanes is the HMAC of one of the hashes.
-    ghost served: { (a : AuthClass) → auth_stage_by a ≡ stage.Lane kind → IsTrue (serves_class Self.chaining a) };
+    /// An authentication whose stage is in these lanes is the digest of one of the hashes, or its HMAC.
+    ghost served: { (a : AuthClass) → auth_stage_by a ≡ stage.Lane kind → IsTrue (serves_lanes_class Self.chaining a) };
 
     /// Its rounds are those over the hashes' blocks.
-    ghost rounds: { (j : Job) → hmac_rounds Self.chaining.block_bytes j.hash_len ≡ rounds_of kind j };
+    ghost rounds: { (j : Job) → auth_rounds (class_of j.auth) Self.chaining.block_bytes j.hash_len ≡ rounds_of kind j };
 }
 
 impl HashKind for Sha1Lanes {

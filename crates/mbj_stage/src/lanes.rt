@@ -109,7 +109,7 @@ impl Course {
         CmacKernel::<14>::take_back(self, entry);
     }
 
-    /// Hands the packet out in an entry of HMAC with SHA-1.
+    /// Hands the packet out in an entry of a digest by SHA-1, or of HMAC with it.
     pub fn hand_out_hmac_sha1(&mut self) -> Hmac1Entry
         requires { IsNext kind.HmacSha1 self.old }
         ensures { IsHandedOut kind.HmacSha1 result.rest (hmac_end sha1_chaining (end_of (hmac_round sha1_chaining) hmac_rest result)) self.new self.old }
@@ -117,7 +117,7 @@ impl Course {
         Hmac1Kernel::hand_out(self)
     }
 
-    /// Takes an entry of HMAC with SHA-1 back.
+    /// Takes an entry of a digest by SHA-1 back, or of HMAC with it.
     pub fn take_back_hmac_sha1(&mut self, entry: Hmac1Entry)
         requires out { IsOut kind.HmacSha1 (hmac_end sha1_chaining entry) self.old }
         requires done { entry.rest ≡ 0 }
@@ -126,7 +126,7 @@ impl Course {
         Hmac1Kernel::take_back(self, entry);
     }
 
-    /// Hands the packet out in an entry of HMAC with SHA-224 or SHA-256.
+    /// Hands the packet out in an entry of a digest by SHA-224 or SHA-256, or of HMAC with one of them.
     pub fn hand_out_hmac_sha256(&mut self) -> Hmac256Entry
         requires { IsNext kind.HmacSha256 self.old }
         ensures { IsHandedOut kind.HmacSha256 result.rest (hmac_end sha256_chaining (end_of (hmac_round sha256_chaining) hmac_rest result)) self.new self.old }
@@ -134,7 +134,7 @@ impl Course {
         Hmac256Kernel::hand_out(self)
     }
 
-    /// Takes an entry of HMAC with SHA-224 or SHA-256 back.
+    /// Takes an entry of a digest by SHA-224 or SHA-256 back, or of HMAC with one of them.
     pub fn take_back_hmac_sha256(&mut self, entry: Hmac256Entry)
         requires out { IsOut kind.HmacSha256 (hmac_end sha256_chaining entry) self.old }
         requires done { entry.rest ≡ 0 }
@@ -143,7 +143,7 @@ impl Course {
         Hmac256Kernel::take_back(self, entry);
     }
 
-    /// Hands the packet out in an entry of HMAC with SHA-384 or SHA-512.
+    /// Hands the packet out in an entry of a digest by SHA-384 or SHA-512, or of HMAC with one of them.
     pub fn hand_out_hmac_sha512(&mut self) -> Hmac512Entry
         requires { IsNext kind.HmacSha512 self.old }
         ensures { IsHandedOut kind.HmacSha512 result.rest (hmac_end sha512_chaining (end_of (hmac_round sha512_chaining) hmac_rest result)) self.new self.old }
@@ -151,7 +151,7 @@ impl Course {
         Hmac512Kernel::hand_out(self)
     }
 
-    /// Takes an entry of HMAC with SHA-384 or SHA-512 back.
+    /// Takes an entry of a digest by SHA-384 or SHA-512 back, or of HMAC with one of them.
     pub fn take_back_hmac_sha512(&mut self, entry: Hmac512Entry)
         requires out { IsOut kind.HmacSha512 (hmac_end sha512_chaining entry) self.old }
         requires done { entry.rest ≡ 0 }

@@ -1,5 +1,6 @@
 ghost use Rattle.std.specs.Prelude.{◌≡◌, length};
-ghost use Rattle.mbj_types.specs.Rounds.{cbc_rounds, ccm_rounds, cmac_rounds, hmac_rounds};
+ghost use Rattle.mbj_types.specs.Auths.{class_of};
+ghost use Rattle.mbj_types.specs.Rounds.{auth_rounds, cbc_rounds, ccm_rounds, cmac_rounds};
 ghost use Rattle.mbj_types.specs.declared.kind.Kind.TheVariants as kind;
 ghost use Rattle.mbj_types.specs.declared.kind.TheConstants.{AES_LANES, SHA1_LANES, SHA256_LANES, SHA512_LANES};
 ghost use Rattle.mbj_types.specs.declared.job.Job.{Job};
@@ -33,9 +34,9 @@ pub fn each_kind_has_its_kernel()
     ensures cbc256 { IsServed kind.Cbc256 ⟦<CbcKernel<14> as Feed>⟧.kind ⟦<CbcKernel<14> as Kernel>⟧.LANES AES_LANES (λ j. cbc_rounds j.cipher_len) }
     ensures cmac128 { IsServed kind.Cmac128 ⟦<CmacKernel<10> as Feed>⟧.kind ⟦<CmacKernel<10> as Kernel>⟧.LANES AES_LANES (λ j. cmac_rounds j.hash_len) }
     ensures cmac256 { IsServed kind.Cmac256 ⟦<CmacKernel<14> as Feed>⟧.kind ⟦<CmacKernel<14> as Kernel>⟧.LANES AES_LANES (λ j. cmac_rounds j.hash_len) }
-    ensures hmac_sha1 { IsServed kind.HmacSha1 ⟦<HmacKernel<Sha1Lanes> as Feed>⟧.kind ⟦<HmacKernel<Sha1Lanes> as Kernel>⟧.LANES SHA1_LANES (λ j. hmac_rounds 64 j.hash_len) }
-    ensures hmac_sha256 { IsServed kind.HmacSha256 ⟦<HmacKernel<Sha256Lanes> as Feed>⟧.kind ⟦<HmacKernel<Sha256Lanes> as Kernel>⟧.LANES SHA256_LANES (λ j. hmac_rounds 64 j.hash_len) }
-    ensures hmac_sha512 { IsServed kind.HmacSha512 ⟦<HmacKernel<Sha512Lanes> as Feed>⟧.kind ⟦<HmacKernel<Sha512Lanes> as Kernel>⟧.LANES SHA512_LANES (λ j. hmac_rounds 128 j.hash_len) }
+    ensures hmac_sha1 { IsServed kind.HmacSha1 ⟦<HmacKernel<Sha1Lanes> as Feed>⟧.kind ⟦<HmacKernel<Sha1Lanes> as Kernel>⟧.LANES SHA1_LANES (λ j. auth_rounds (class_of j.auth) 64 j.hash_len) }
+    ensures hmac_sha256 { IsServed kind.HmacSha256 ⟦<HmacKernel<Sha256Lanes> as Feed>⟧.kind ⟦<HmacKernel<Sha256Lanes> as Kernel>⟧.LANES SHA256_LANES (λ j. auth_rounds (class_of j.auth) 64 j.hash_len) }
+    ensures hmac_sha512 { IsServed kind.HmacSha512 ⟦<HmacKernel<Sha512Lanes> as Feed>⟧.kind ⟦<HmacKernel<Sha512Lanes> as Kernel>⟧.LANES SHA512_LANES (λ j. auth_rounds (class_of j.auth) 128 j.hash_len) }
     ensures ccm128 { IsServed kind.Ccm128 ⟦<CcmKernel<10> as Feed>⟧.kind ⟦<CcmKernel<10> as Kernel>⟧.LANES AES_LANES (λ j. ccm_rounds (length j.aad) j.cipher_len) }
     ensures ccm192 { IsServed kind.Ccm192 ⟦<CcmKernel<12> as Feed>⟧.kind ⟦<CcmKernel<12> as Kernel>⟧.LANES AES_LANES (λ j. ccm_rounds (length j.aad) j.cipher_len) }
     ensures ccm256 { IsServed kind.Ccm256 ⟦<CcmKernel<14> as Feed>⟧.kind ⟦<CcmKernel<14> as Kernel>⟧.LANES AES_LANES (λ j. ccm_rounds (length j.aad) j.cipher_len) }

@@ -7,6 +7,7 @@ mod course;
 mod entries;
 mod feed;
 mod gcm;
+mod gmac;
 mod lanes;
 mod laws;
 mod lengths;

@@ -21,7 +21,7 @@ pub enum Stage {
 pub(crate) enum Step {
     /// The cipher, which is CBC or CTR.
     Cipher,
-    /// The authentication, which is an HMAC or a CMAC.
+    /// The authentication, which is an HMAC, a digest or a CMAC.
     Auth,
     /// GCM, which is cipher and authentication together.
     Gcm,
@@ -29,6 +29,8 @@ pub(crate) enum Step {
     CcmMac,
     /// CCM's text, and the mask of its tag.
     CcmText,
+    /// GMAC.
+    Gmac,
 }
 
 /// The steps of a job that are left, in their order.
@@ -55,7 +57,8 @@ fn auth_step(auth: Auth) -> Option<Step>
 {
     match auth.class() {
         AuthClass::Null | AuthClass::Gcm | AuthClass::Ccm => None,
-        AuthClass::Hmac(_) | AuthClass::Cmac(_) => Some(Step::Auth),
+        AuthClass::Hmac(_) | AuthClass::Cmac(_) | AuthClass::Plain(_) => Some(Step::Auth),
+        AuthClass::Gmac => Some(Step::Gmac),
     }
 }
 
@@ -130,9 +133,9 @@ fn auth_stage(job: &Job) -> Stage
     ensures { result ≡ auth_stage job.now }
 {
     match job.auth.class() {
-        AuthClass::Hmac(hash) => Stage::Lane(hash.kind()),
+        AuthClass::Hmac(hash) | AuthClass::Plain(hash) => Stage::Lane(hash.kind()),
         AuthClass::Cmac(key) => Stage::Lane(key.kind()),
-        AuthClass::Null | AuthClass::Gcm | AuthClass::Ccm => Stage::Now,
+        AuthClass::Null | AuthClass::Gcm | AuthClass::Ccm | AuthClass::Gmac => Stage::Now,
     }
 }
 
@@ -143,7 +146,7 @@ pub(crate) fn stage_of_step(step: Step, job: &Job) -> Stage
     match step {
         Step::Cipher => cipher_stage(job),
         Step::Auth => auth_stage(job),
-        Step::Gcm | Step::CcmText => Stage::Now,
+        Step::Gcm | Step::CcmText | Step::Gmac => Stage::Now,
         Step::CcmMac => Stage::Lane(by_key(job, Kind::Ccm128, Kind::Ccm192, Kind::Ccm256)),
     }
 }

@@ -19,6 +19,7 @@ IsStepOf j step.Auth = auth_steps (class_of j.auth) ≡ step.Auth ∷ []
 IsStepOf j step.Gcm = cipher_steps j.cipher ≡ step.Gcm ∷ []
 IsStepOf j step.CcmMac = j.cipher ≡ cipher.Ccm
 IsStepOf j step.CcmText = j.cipher ≡ cipher.Ccm
+IsStepOf j step.Gmac = auth_steps (class_of j.auth) ≡ step.Gmac ∷ []
 
 -- the step is the first of those that are left
 abbrev pub IsNextStep : Step → List Step → Type 0

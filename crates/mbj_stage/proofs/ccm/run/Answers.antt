@@ -1,13 +1,18 @@
 -- The cipher range is replaced by its other text, and the mask joins what stands in the tag's place.
-use Rattle.std.proofs.Common.{◌≡◌, ◌∙◌, ◌+◌, ◌-◌, List, ℕ, length, take, drop, refl, ap, ap₂}
+use Rattle.std.proofs.Common.{◌≡◌, ◌∙◌, ◌+◌, ◌-◌, List, ℕ, length, take, drop, refl, ap, ap₂, arith}
 use Rattle.std.proofs.Math.Path.{fun_ext}
 use Rattle.mbj_types.specs.Aes.{aes, encipher}
 use Rattle.mbj_types.specs.Ccm.{ccm_mask, ccm_text}
 use Rattle.mbj_types.specs.declared.job.Job.{Job}
 use Rattle.mbj_types.specs.declared.job.Cipher.TheVariants as cipher
 use Rattle.mbj_stage.specs.CourseState.{with_mask}
+use Rattle.mbj_stage.proofs.EntryEnds.{ccm-accepted}
 use Rattle.mbj_stage.proofs.Packets.{ciphered-range}
 use Rattle.mbj_stage.proofs.ccm.run.Goals as goal
+
+pub slice_bounds-apply_and_mask-end : goal.slice_bounds-apply_and_mask-end
+slice_bounds-apply_and_mask-end c =
+    omega (arith, (ccm-accepted c.args.job.now (length c.args.packet.now) c.requires.accepted c.requires.ccm).range)
 
 pub returns-clause-packet : goal.returns-clause-packet
 returns-clause-packet c =

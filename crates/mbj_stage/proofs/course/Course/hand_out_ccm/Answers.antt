@@ -1,5 +1,5 @@
 -- Packet, nonce and data go out into an entry that ends with the job's MAC.
-use Rattle.std.proofs.Common.{◌≡◌, ◌≢◌, ◌∙◌, List, ℕ, [], length, Option, Some, None, sym, ap, ap₂, subst, arith, true}
+use Rattle.std.proofs.Common.{◌≡◌, ◌≢◌, ◌∙◌, List, ℕ, [], length, Option, Some, None, sym, ap, ap₂, subst, arith}
 use Rattle.std.proofs.lemmas.List.{length-replicate}
 use Rattle.mbj_types.specs.declared.job.Job.{Job}
 use Rattle.mbj_types.specs.declared.kind.Kind.TheVariants as kind
@@ -18,7 +18,7 @@ use Rattle.mbj_stage.specs.Families.{ccm_lanes, ccm_stage}
 use Rattle.mbj_stage.specs.Laws.{each-by_rounds}
 use Rattle.mbj_stage.specs.Inside.Kept.{IsSound, has_texts}
 use Rattle.mbj_stage.specs.CourseState.{CourseState, ccm_mac_over, lengths_of, owed, sized, stage_of}
-use Rattle.mbj_stage.specs.Handing.{BringsData, handed_out, owed_with, taken_back, without_packet}
+use Rattle.mbj_stage.specs.Handing.{handed_out, owed_with, taken_back, without_packet}
 use Rattle.mbj_stage.specs.Ends.{ccm_end}
 use Rattle.mbj_stage.proofs.Handings.{IsCcmEnd, going, own-back}
 use Rattle.mbj_stage.proofs.HandingOut.{ccm-is-out, ccm-next, ccm-out}
@@ -153,6 +153,7 @@ pub returns-clause-texts : goal.returns-clause-texts
 returns-clause-texts g c =
     let f = c.self.inside in
     let here : f.out ≡ None = subst (λ (v : CourseState). v.out ≡ None) (sym c.self.view_is) c.requires.here in
-    let lengths : f.lengths ≡ lengths_of f.job = c.self.invariant.lengths (ap (λ (o : Option ℕ). has_texts o (steps_in f.left)) here) in
-    (ap length (c.ccm_entry.ensures.iv ∙ c.taken_bytes-iv.ensures.taken) ∙ sym (ap (λ (l : Lengths). l.iv) lengths),
-    ap length (c.ccm_entry.ensures.aad ∙ c.taken_bytes-aad.ensures.taken) ∙ sym (ap (λ (l : Lengths). l.aad) lengths))
+    let lengths : f.lengths ≡ lengths_of f.job = c.self.invariant.lengths (ap (λ (o : Option ℕ). has_texts o (steps_in f.left)) here) in (
+      ap length (c.ccm_entry.ensures.iv ∙ c.taken_bytes-iv.ensures.taken) ∙ sym (ap (λ (l : Lengths). l.iv) lengths),
+      ap length (c.ccm_entry.ensures.aad ∙ c.taken_bytes-aad.ensures.taken) ∙ sym (ap (λ (l : Lengths). l.aad) lengths),
+    )

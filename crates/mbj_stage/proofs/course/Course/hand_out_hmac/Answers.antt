@@ -1,11 +1,10 @@
--- The packet goes out into an entry that ends with the job's HMAC.
+-- The packet goes out into an entry that ends with the job's digest or HMAC.
 use Rattle.std.proofs.Common.{◌≡◌, ◌≢◌, ◌∙◌, List, ℕ, [], length, Option, IsTrue, Some, None, sym, ap, subst, arith}
 use Rattle.mbj_types.specs.Auths.{class_of}
 use Rattle.mbj_types.specs.Result.{mac_by}
 use Rattle.mbj_lane.specs.Rounds.{end_of}
-use Rattle.mbj_hmac.specs.Names.{serves_auth}
+use Rattle.mbj_hmac.specs.Names.{serves_lanes}
 use Rattle.mbj_hmac.specs.Rounds.{rest_of, round}
-use Rattle.mbj_hmac.proofs.Served.{served_hmac}
 use Rattle.mbj_stage.specs.declared.stage.Stage.TheVariants as stage
 use Rattle.mbj_stage.specs.declared.stage.Step.TheVariants as step
 use Rattle.mbj_stage.specs.Steps.{stage_at, steps_in}
@@ -16,7 +15,8 @@ use Rattle.mbj_stage.specs.Ends.{hmac_end}
 use Rattle.mbj_stage.proofs.Handings.{going, own-back}
 use Rattle.mbj_stage.proofs.HandingOut.{mac-is-out, mac-out}
 use Rattle.mbj_stage.proofs.Soundness.{sound_out}
-use Rattle.mbj_stage.proofs.StagesOf.{auth-first, hmac-in-lanes}
+use Rattle.mbj_stage.proofs.StagesOf.{auth-first}
+use Rattle.mbj_stage.proofs.Hashes.{auth-some, hash-in-lanes}
 use Rattle.mbj_stage.proofs.course.Course.hand_out_hmac.Goals as goal
 
 pub invariant_of-self : goal.invariant_of-self
@@ -26,9 +26,9 @@ invariant_of-self g c =
     let left = steps_in f.left in
     let here : f.out ≡ None = subst (λ (v : CourseState). v.out ≡ None) (sym c.self.view_is) c.requires.here in
     let first : IsNextStep step.Auth left = subst (λ (v : CourseState). IsNextStep step.Auth v.left) (sym c.self.view_is) c.requires.next in
-    let serves = subst (λ (v : CourseState). IsTrue (serves_auth g.H.LaneHash.chaining v.job.auth)) (sym c.self.view_is) c.requires.serves in
+    let serves = subst (λ (v : CourseState). IsTrue (serves_lanes g.H.LaneHash.chaining v.job.auth)) (sym c.self.view_is) c.requires.serves in
     let lane : stage_at f.job left ≢ stage.Now =
-    λ now. hmac-in-lanes (class_of f.job.auth) (served_hmac g.H.LaneHash.chaining f.job.auth serves) (sym (auth-first f.job left first) ∙ now) in
+    λ now. hash-in-lanes g.H.LaneHash.chaining (class_of f.job.auth) serves (sym (auth-first f.job left first) ∙ now) in
     let sound = sound_out f.job f.packet.items left f.lengths (subst (λ (o : Option ℕ). IsSound f.job f.packet.items left o f.lengths) here c.self.invariant) lane in
     subst (λ (q : List ℕ). IsSound f.job q left (Some c.len.result) f.lengths) (sym c.taken-packet.ensures.none)
     (subst (λ (n : ℕ). IsSound f.job [] left (Some n) f.lengths) (sym (len ∙ ap length c.taken-packet.ensures.taken)) sound)
@@ -42,6 +42,11 @@ returns-clause-out g c =
     subst (λ (v : CourseState). out ≡ handed_out v) c.self.view_is
     (mac-is-out f.lengths f.job f.packet.items c.taken-packet.new.packet.items f.tag f.reason (steps_in f.left) f.out c.len.result c.taken-packet.ensures.none
     (len ∙ ap length c.taken-packet.ensures.taken) first)
+
+pub returns-clause-some : goal.returns-clause-some
+returns-clause-some g c =
+    let j = c.self.inside.job in
+    omega (arith, c.hmac_entry.ensures.rest, auth-some (class_of j.auth) g.H.LaneHash.chaining.block_bytes j.hash_len)
 
 pub returns-clause-owed : goal.returns-clause-owed
 returns-clause-owed g c =

@@ -1,0 +1,62 @@
+-- Digests and HMACs, which are done in the lanes of their hash.
+use Rattle.std.proofs.Common.{◌≡◌, ◌≢◌, ℕ, ◌≤◌, Bool, true, false, ◌||◌, IfSome, IsTrue, List, refl, sym, ap, ◌∙◌, subst, arith}
+use Rattle.std.proofs.lemmas.Bool.{cond_both}
+use Rattle.mbj_types.specs.Auths.{hash_in, is_plain, plain_hash_in}
+use Rattle.mbj_types.specs.Hmac.{hmac}
+use Rattle.mbj_types.specs.Result.{hash_range, mac_by}
+use Rattle.mbj_types.specs.Rounds.{auth_rounds, hash_rounds, hmac_rounds}
+use Rattle.mbj_types.specs.declared.class.AuthClass.{AuthClass}
+use Rattle.mbj_types.specs.declared.class.AuthClass.TheVariants as class
+use Rattle.mbj_types.specs.declared.class.HashName.{HashName}
+use Rattle.mbj_types.specs.declared.job.Job.{Job}
+use Rattle.mbj_hmac.specs.Names.{serves_class, serves_plain_class, serves_lanes_class}
+use Rattle.mbj_hmac.specs.Rounds.{Chaining}
+use Rattle.mbj_stage.specs.declared.stage.Stage.TheVariants as stage
+use Rattle.mbj_stage.specs.Steps.{auth_stage_by}
+
+either-left : (x y : Bool) → x || y ≡ true → y ≡ false → x ≡ true
+either-left true y t f = refl
+either-left false y t f = absurd (cc)
+
+either-right : (x y : Bool) → x || y ≡ true → x ≡ false → y ≡ true
+either-right true y t f = absurd (cc)
+either-right false y t f = t
+
+module _ (h : Chaining) (a : AuthClass) where
+  -- an HMAC that is served, and a digest
+  pub keyed-served : (n : HashName) → a ≡ class.Hmac n → IsTrue (serves_lanes_class h a) → IsTrue (serves_class h a)
+  keyed-served n e t = either-left (serves_class h a) (serves_plain_class h a) t (ap (serves_plain_class h) e)
+
+  pub plain-served : (n : HashName) → a ≡ class.Plain n → IsTrue (serves_lanes_class h a) → IsTrue (serves_plain_class h a)
+  plain-served n e t = either-right (serves_class h a) (serves_plain_class h a) t (ap (serves_class h) e)
+
+  -- nothing else is
+  pub unserved : (b : AuthClass) → a ≡ b → serves_lanes_class h b ≡ false → IsTrue (serves_lanes_class h a) → ⊥
+  unserved b e f t = let both : true ≡ false = sym t ∙ ap (serves_lanes_class h) e ∙ f in cc
+
+-- a digest or an HMAC has a round at least
+pub auth-some : (a : AuthClass) (b n : ℕ) → 1 ≤ auth_rounds a b n
+auth-some a b n = cond_both (is_plain a) (hash_rounds b n) (hmac_rounds b n) (λ r. 1 ≤ r) (λ _. omega arith) (λ _. omega arith)
+
+-- what is served is done in lanes
+pub hash-in-lanes : (h : Chaining) (a : AuthClass) → IsTrue (serves_lanes_class h a) → auth_stage_by a ≢ stage.Now
+hash-in-lanes h class.Null t e = absurd (cc)
+hash-in-lanes h (class.Hmac hash) t e = cc
+hash-in-lanes h (class.Cmac key) t e = absurd (cc)
+hash-in-lanes h class.Gcm t e = absurd (cc)
+hash-in-lanes h class.Ccm t e = absurd (cc)
+hash-in-lanes h (class.Plain hash) t e = cc
+hash-in-lanes h class.Gmac t e = absurd (cc)
+
+module _ (a : AuthClass) (n : HashName) (j : Job) (p tag : List ℕ) where
+  -- an HMAC with the hash of its authentication is that authentication's value
+  pub keyed_is_mac : a ≡ class.Hmac n → IfSome (hash_in a) (λ h. tag ≡ hmac h j.auth_key (hash_range j p)) → tag ≡ mac_by a j p
+  keyed_is_mac e is =
+      let Is : AuthClass → Type 0 = λ c. IfSome (hash_in c) (λ h. tag ≡ hmac h j.auth_key (hash_range j p)) in
+      subst Is e is ∙ sym (ap (λ (c : AuthClass). mac_by c j p) e)
+
+  -- and so is a digest
+  pub plain_is_mac : a ≡ class.Plain n → IfSome (plain_hash_in a) (λ h. tag ≡ h.digest (hash_range j p)) → tag ≡ mac_by a j p
+  plain_is_mac e is =
+      let Is : AuthClass → Type 0 = λ c. IfSome (plain_hash_in c) (λ h. tag ≡ h.digest (hash_range j p)) in
+      subst Is e is ∙ sym (ap (λ (c : AuthClass). mac_by c j p) e)
