@@ -1,22 +1,23 @@
 -- Each stage in lanes of a job takes a round at least.
 use Rattle.std.proofs.Common.{◌≡◌, ℕ, ◌≤◌, List, [], ◌∷◌, length, Option, Some, None, refl, arith}
 use Rattle.std.specs.Prelude.{All}
+use Rattle.std.proofs.lemmas.Bool.{cond_both}
 use Rattle.std.proofs.lemmas.List.Elements.{All-append, All-cons, All-nil}
 use Rattle.mbj_types.specs.declared.job.Job.{Job}
-use Rattle.mbj_types.specs.Auths.{class_of, cmac_kind, hash_kind}
+use Rattle.mbj_types.specs.Auths.{class_of, cmac_kind, hash_kind, is_plain}
 use Rattle.mbj_types.specs.declared.class.AuthClass.{AuthClass}
 use Rattle.mbj_types.specs.declared.class.AuthClass.TheVariants as class
 use Rattle.mbj_types.specs.declared.class.CmacKey.{CmacKey}
 use Rattle.mbj_types.specs.declared.class.CmacKey.TheVariants.{Aes128}
 use Rattle.mbj_types.specs.declared.class.HashName.{HashName}
-use Rattle.mbj_types.specs.declared.class.HashName.TheVariants.{Sha1}
+use Rattle.mbj_types.specs.declared.class.HashName.TheVariants.{Sha1, Sha224, Sha256, Sha384, Sha512}
 use Rattle.mbj_types.specs.declared.job.Cipher.{Cipher}
 use Rattle.mbj_types.specs.declared.job.Cipher.TheVariants as cipher
 use Rattle.mbj_types.specs.declared.job.Dir.{Dir}
 use Rattle.mbj_types.specs.declared.job.Dir.TheVariants.{Enc, Dec}
 use Rattle.mbj_types.specs.declared.kind.Kind.TheVariants as kind
 use Rattle.mbj_types.specs.declared.reason.Reason.{Reason}
-use Rattle.mbj_types.specs.Rounds.{cbc_rounds, rounds_of}
+use Rattle.mbj_types.specs.Rounds.{auth_rounds, cbc_rounds, hash_rounds, hmac_rounds, rounds_of}
 use Rattle.mbj_types.specs.Verdict.{verdict}
 use Rattle.mbj_stage.specs.declared.stage.Step.{Step}
 use Rattle.mbj_stage.specs.declared.stage.Step.TheVariants as step
@@ -47,9 +48,16 @@ cipher-rounds cipher.Ctr d n j h = one _ tt
 cipher-rounds cipher.Gcm d n j h = one _ tt
 cipher-rounds cipher.Ccm d n j h = one _ tt
 
+-- a digest takes one for each block of the padded message, and an HMAC more
+auth-some : (c : AuthClass) (b n : ℕ) → 1 ≤ auth_rounds c b n
+auth-some c b n = cond_both (is_plain c) (hash_rounds b n) (hmac_rounds b n) (λ r. 1 ≤ r) (λ _. omega arith) (λ _. omega arith)
+
 hash-one : (h : HashName) (j : Job) → 1 ≤ rounds_of (hash_kind h) j
-hash-one Sha1 j = omega arith
-hash-one _ j = omega arith
+hash-one Sha1 j = auth-some (class_of j.auth) 64 j.hash_len
+hash-one Sha224 j = auth-some (class_of j.auth) 64 j.hash_len
+hash-one Sha256 j = auth-some (class_of j.auth) 64 j.hash_len
+hash-one Sha384 j = auth-some (class_of j.auth) 128 j.hash_len
+hash-one Sha512 j = auth-some (class_of j.auth) 128 j.hash_len
 
 cmac-one : (k : CmacKey) (j : Job) → 1 ≤ rounds_of (cmac_kind k) j
 cmac-one Aes128 j = omega arith
@@ -61,6 +69,8 @@ auth-rounds (class.Hmac h) j = one (in_lanes (hash_kind h) (rounds_of (hash_kind
 auth-rounds (class.Cmac k) j = one (in_lanes (cmac_kind k) (rounds_of (cmac_kind k) j)) (cmac-one k j)
 auth-rounds class.Gcm j = one _ tt
 auth-rounds class.Ccm j = one _ tt
+auth-rounds (class.Plain h) j = one (in_lanes (hash_kind h) (rounds_of (hash_kind h) j)) (hash-one h j)
+auth-rounds class.Gmac j = one _ tt
 
 steps-rounds : (j : Job) (steps : List Step) → (j.cipher ≡ cipher.Cbc → 1 ≤ cbc_rounds j.cipher_len) → All HasRounds (pending_at j steps)
 steps-rounds j [] h = All-nil HasRounds
@@ -73,6 +83,7 @@ steps-rounds j (step.Gcm ∷ steps) h = All-append HasRounds (_ ∷ []) (pending
 steps-rounds j (step.CcmMac ∷ steps) h =
     All-append HasRounds (in_lanes (ccm_kind (length j.key)) (rounds_of (ccm_kind (length j.key)) j) ∷ []) (pending_at j steps)
     (one (in_lanes (ccm_kind (length j.key)) (rounds_of (ccm_kind (length j.key)) j)) (ccm-one (length j.key) j)) (steps-rounds j steps h)
+steps-rounds j (step.Gmac ∷ steps) h = All-append HasRounds (_ ∷ []) (pending_at j steps) (one _ tt) (steps-rounds j steps h)
 steps-rounds j (step.CcmText ∷ steps) h = All-append HasRounds (_ ∷ []) (pending_at j steps) (one _ tt) (steps-rounds j steps h)
 
 by-verdict : (reason : Option Reason) (j : Job) → verdict j ≡ reason → All HasRounds (pending_at (sized (lengths_of j) j) (steps_by reason j))

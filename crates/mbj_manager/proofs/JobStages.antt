@@ -47,6 +47,8 @@ auth-one (class.Hmac h) = omega arith
 auth-one (class.Cmac key) = omega arith
 auth-one class.Gcm = omega arith
 auth-one class.Ccm = omega arith
+auth-one (class.Plain h) = omega arith
+auth-one class.Gmac = omega arith
 
 two-ordered : (o : Order) (xs ys : List Step) → length xs ≤ 1 → length ys ≤ 1 → length (ordered o xs ys) ≤ 2
 two-ordered CipherHash xs ys a b = omega (arith, length-append xs ys)

@@ -50,6 +50,7 @@ behind-steps [] j = steps-packet j []
 behind-steps (step.Cipher ∷ left) j = steps-packet j []
 behind-steps (step.Auth ∷ left) j = steps-packet j []
 behind-steps (step.Gcm ∷ left) j = steps-packet j []
+behind-steps (step.Gmac ∷ left) j = steps-packet j []
 behind-steps (step.CcmMac ∷ left) j = steps-texts j.cipher j [] [] []
 behind-steps (step.CcmText ∷ left) j = steps-packet j []
 
@@ -58,6 +59,7 @@ brought-steps : (s : Step) (e : End) (j : Job) → steps_of (brought_back s e j)
 brought-steps step.Cipher e j = steps-packet j e.packet
 brought-steps step.Auth e j = steps-packet j e.packet
 brought-steps step.Gcm e j = steps-packet j e.packet
+brought-steps step.Gmac e j = steps-packet j e.packet
 brought-steps step.CcmMac e j = steps-texts j.cipher j e.packet e.iv e.aad
 brought-steps step.CcmText e j = steps-packet j e.packet
 

@@ -51,6 +51,7 @@ sized-left n j (step.Auth ∷ left) = refl
 sized-left n j (step.Gcm ∷ left) = refl
 sized-left n j (step.CcmMac ∷ left) = refl
 sized-left n j (step.CcmText ∷ left) = refl
+sized-left n j (step.Gmac ∷ left) = refl
 
 sized-back : (n : Lengths) (j : Job) (s : Step) (e : End) → sized n (brought_back s e j) ≡ record (sized n j) { packet = e.packet }
 sized-back n j step.Cipher e = refl
@@ -58,6 +59,7 @@ sized-back n j step.Auth e = refl
 sized-back n j step.Gcm e = refl
 sized-back n j step.CcmMac e = refl
 sized-back n j step.CcmText e = refl
+sized-back n j step.Gmac e = refl
 
 -- the stages of a course whose packet goes out
 pub pending-out : (c : CourseState) → pending (handed_out c) ≡ pending c
