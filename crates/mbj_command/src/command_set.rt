@@ -91,7 +91,7 @@ fn program<'a>(alloc: Global) -> Command<'a>
     Command::new(alloc, "mbjobs")
         .about("Ciphers and authenticates the packets of many jobs at a time")
         .after_help(
-            "A job file is read from standard input. An IV has 16 bytes for cbc, 12 or 16 for ctr, 1 to 65535 for gcm, and 7 to 13 for ccm. Example: mbjobs run --submitters 1 --workers 0 < jobs.txt",
+            "A job file is read from standard input. An IV has 16 bytes for cbc, 12 or 16 for ctr, 1 to 65535 for gcm and gmac, and 7 to 13 for ccm. Example: mbjobs run --submitters 1 --workers 0 < jobs.txt",
         )
         .version(VERSION)
         .subcommand_required(true)

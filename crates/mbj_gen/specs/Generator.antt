@@ -107,6 +107,8 @@ with_auth_part (class.Hmac h) n j x = hmac_keyed n j x
 with_auth_part (class.Cmac k) n j x = with_hash_part (cmac_key_bytes k) n j x
 with_auth_part class.Gcm n j x = with_aad j x
 with_auth_part class.Ccm n j x = with_aad j x
+with_auth_part (class.Plain h) n j x = with_hash_part 0 n j x
+with_auth_part class.Gmac n j x = with_hash_part 16 n j x
 
 -- ---- the job
 

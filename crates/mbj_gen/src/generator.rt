@@ -26,6 +26,9 @@ impl Model for Generator {
 /// The length of AES's block and of the longer IVs, in bytes.
 const BLOCK_BYTES: usize = 16;
 
+/// The length of GMAC's keys, in bytes.
+const GMAC_KEY_BYTES: usize = 16;
+
 /// The length of the shorter IVs, in bytes.
 const SHORT_IV_BYTES: usize = 12;
 
@@ -193,6 +196,8 @@ fn draw_auth(draws: &mut Draws, alloc: Global, length: u32, job: &mut Job) -> Re
         AuthClass::Hmac(_) => draw_hmac(draws, alloc, length, job),
         AuthClass::Cmac(key) => draw_hash(draws, alloc, key.bytes(), length, job),
         AuthClass::Gcm | AuthClass::Ccm => draw_aad(draws, alloc, job),
+        AuthClass::Plain(_) => draw_hash(draws, alloc, 0, length, job),
+        AuthClass::Gmac => draw_hash(draws, alloc, GMAC_KEY_BYTES, length, job),
     }
 }
 

@@ -70,6 +70,12 @@ auth_back t auth.Cmac128 e = ap auth_of e
 auth_back t auth.Cmac256 e = ap auth_of e
 auth_back t auth.Gcm e = ap auth_of e
 auth_back t auth.Ccm e = ap auth_of e
+auth_back t auth.Sha1 e = ap auth_of e
+auth_back t auth.Sha224 e = ap auth_of e
+auth_back t auth.Sha256 e = ap auth_of e
+auth_back t auth.Sha384 e = ap auth_of e
+auth_back t auth.Sha512 e = ap auth_of e
+auth_back t auth.Gmac e = ap auth_of e
 
 -- what is read is spelled
 pub dir_read : (t : List ℕ) (d : Dir) → dir_of t ≡ Some d → t ≡ dir_word d

@@ -37,6 +37,12 @@ auth_word auth.Cmac128 = codes "cmac128"
 auth_word auth.Cmac256 = codes "cmac256"
 auth_word auth.Gcm = codes "gcm"
 auth_word auth.Ccm = codes "ccm"
+auth_word auth.Sha1 = codes "sha1"
+auth_word auth.Sha224 = codes "sha224"
+auth_word auth.Sha256 = codes "sha256"
+auth_word auth.Sha384 = codes "sha384"
+auth_word auth.Sha512 = codes "sha512"
+auth_word auth.Gmac = codes "gmac"
 
 abbrev pub verb_word : Verb → List ℕ
 verb_word Post = codes "post"

@@ -25,7 +25,7 @@ use std::alloc::Global;
 /// | 3 | order | `ch` (cipher, then hash), `hc` (hash, then cipher) |
 /// | 4, 5 | key, initialization vector | bytes |
 /// | 6, 7 | offset and length of the cipher range | number |
-/// | 8 | authentication | `null`, `gcm`, `ccm`, or the word of an HMAC or a CMAC |
+/// | 8 | authentication | `null`, `gcm`, `ccm`, `gmac`, or the word of an HMAC, a hash or a CMAC |
 /// | 9, 10 | key of the authentication, additional data | bytes |
 /// | 11, 12 | offset and length of the hash range | number |
 /// | 13 | length of the tag | number, at most 255 |

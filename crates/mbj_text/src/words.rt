@@ -21,7 +21,7 @@ const DIRS: [(&[u8], Dir); 2] = [(b"enc", Dir::Enc), (b"dec", Dir::Dec)];
 const ORDERS: [(&[u8], Order); 2] = [(b"ch", Order::CipherHash), (b"hc", Order::HashCipher)];
 
 /// The authentications, each with its word.
-const AUTHS: [(&[u8], Auth); 10] = [
+const AUTHS: [(&[u8], Auth); 16] = [
     (b"null", Auth::Null),
     (b"hmac-sha1", Auth::HmacSha1),
     (b"hmac-sha224", Auth::HmacSha224),
@@ -32,6 +32,12 @@ const AUTHS: [(&[u8], Auth); 10] = [
     (b"cmac256", Auth::Cmac256),
     (b"gcm", Auth::Gcm),
     (b"ccm", Auth::Ccm),
+    (b"sha1", Auth::Sha1),
+    (b"sha224", Auth::Sha224),
+    (b"sha256", Auth::Sha256),
+    (b"sha384", Auth::Sha384),
+    (b"sha512", Auth::Sha512),
+    (b"gmac", Auth::Gmac),
 ];
 
 const VERBS: [(&[u8], Verb); 4] = [

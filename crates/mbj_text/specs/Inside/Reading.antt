@@ -48,7 +48,8 @@ ciphers = cipher.Null ∷ cipher.Cbc ∷ cipher.Ctr ∷ cipher.Gcm ∷ cipher.Cc
 abbrev pub auths : List Auth
 auths =
     auth.Null ∷ auth.HmacSha1 ∷ auth.HmacSha224 ∷ auth.HmacSha256 ∷ auth.HmacSha384 ∷ auth.HmacSha512
-    ∷ auth.Cmac128 ∷ auth.Cmac256 ∷ auth.Gcm ∷ auth.Ccm ∷ []
+    ∷ auth.Cmac128 ∷ auth.Cmac256 ∷ auth.Gcm ∷ auth.Ccm
+    ∷ auth.Sha1 ∷ auth.Sha224 ∷ auth.Sha256 ∷ auth.Sha384 ∷ auth.Sha512 ∷ auth.Gmac ∷ []
 
 abbrev pub verbs : List Verb
 verbs = verb.Post ∷ verb.Claim ∷ verb.Flush ∷ verb.Collect ∷ []
