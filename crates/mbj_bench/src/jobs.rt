@@ -18,6 +18,16 @@ const JOBS: u32 = 512;
 /// Those of each kind where there are jobs of all.
 pub const SHARE: usize = JOBS as usize / Kind::ALL.len();
 
+/// The bytes of a plain hash that are the tag: those of the shortest one.
+const DIGEST_TAG_BYTES: u8 = 20;
+
+/// Plain hashes, each with the kind whose HMACs it waits among.
+const DIGESTS: [(Auth, Kind, &str); 3] = [
+    (Auth::Sha1, Kind::HmacSha1, "sha1"),
+    (Auth::Sha256, Kind::HmacSha256, "sha256"),
+    (Auth::Sha512, Kind::HmacSha512, "sha512"),
+];
+
 /// The passes of which the fastest counts.
 const PASSES: u32 = 40;
 
@@ -32,6 +42,8 @@ pub enum Work {
     Mix,
     /// CTR, and CMAC with a key of 128 bits: what CCM does, by two keys.
     CtrCmac,
+    /// A plain hash, which waits for the lanes of its HMAC.
+    Digest(Auth),
 }
 
 /// Makes a job over a packet one that waits for the lanes of a kind.
@@ -75,6 +87,7 @@ fn job(alloc: Global, work: Work, number: usize, len: usize) -> Result<Job, Allo
         Work::One(kind) => prepare(alloc, &mut job, kind)?,
         Work::Mix => prepare(alloc, &mut job, Kind::ALL[number % Kind::ALL.len()])?,
         Work::CtrCmac => put_ctr_cmac(alloc, &mut job)?,
+        Work::Digest(auth) => put_auth(alloc, &mut job, auth, &[], DIGEST_TAG_BYTES)?,
     }
     Ok(job)
 }
@@ -204,12 +217,7 @@ fn print_beside(
         })?;
         print!(rt; "jobs, ")?;
         print_length(rt, names[0], 11, LENGTHS[i])?;
-        print!(rt;
-            " {:>7} ns, {} {:>7} ns ",
-            first / JOBS as u128,
-            names[1],
-            second / JOBS as u128
-        )?;
+        print!(rt; " {:>7} ns, {} {:>7} ns ", first / JOBS as u128, names[1], second / JOBS as u128)?;
         print_ratio(rt, hundredths(second, first), 2)?;
         println!(rt)?;
     }
@@ -230,5 +238,13 @@ pub fn print_times(rt: &(impl Print + Clock), alloc: Global) -> io::Result<()> {
         ["ccm128", "ctr with cmac128"],
         [Work::One(Kind::Ccm128), Work::CtrCmac],
     )?;
+    for (auth, kind, name) in DIGESTS {
+        print_beside(
+            rt,
+            alloc,
+            [name, kind.name()],
+            [Work::Digest(auth), Work::One(kind)],
+        )?;
+    }
     print_bytes(rt, "checksum ", &[sum])
 }

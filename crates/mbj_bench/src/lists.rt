@@ -126,7 +126,7 @@ fn run_work(
 ) -> Result<u8, AllocError> {
     let mut sum = 0;
     match work {
-        Work::Null | Work::CtrCmac => {}
+        Work::Null | Work::CtrCmac | Work::Digest(_) => {}
         Work::One(kind) => sum = run_kind(alloc, in_lists, kind, packets)?,
         Work::Mix => {
             let mut shares = packets.chunks_mut(SHARE);
