@@ -4,7 +4,10 @@ import hmac
 
 from ciphers import cbc, ccm, cmac, ctr, gcm, schedule
 
-HASHES = {"hmac-sha1": "sha1", "hmac-sha224": "sha224", "hmac-sha256": "sha256", "hmac-sha384": "sha384", "hmac-sha512": "sha512"}
+DIGESTS = ["sha1", "sha224", "sha256", "sha384", "sha512"]
+HMACS = {"hmac-" + digest: digest for digest in DIGESTS}
+# The hash of each authentication that is over one.
+HASHES = {**HMACS, **{digest: digest for digest in DIGESTS}}
 CMACS = {"cmac128": 16, "cmac256": 32}
 # Ciphers that make the tag too.
 AEADS = {"gcm": gcm, "ccm": ccm}
@@ -20,17 +23,18 @@ def reason(job):
     """The number of the first row of the argument table that refuses the job, else 0."""
     cipher, auth, length = job["cipher"], job["auth"], len(job["packet"])
     text, iv, key, tag = job["clen"], len(job["iv"]), len(job["akey"]), job["taglen"]
-    ivs = {"cbc": [16], "ctr": [12, 16], "gcm": range(1, 65536), "ccm": range(7, 14)}
+    ivs = {"cbc": [16], "ctr": [12, 16], "gcm": range(1, 65536), "gmac": range(1, 65536), "ccm": range(7, 14)}
     tags = range(4, 17, 2) if auth == "ccm" else [0] if auth == "null" else range(1, longest_tag(job) + 1)
-    hashes = auth in HASHES or auth in CMACS
+    hashes = auth in HASHES or auth in CMACS or auth == "gmac"
+    takes_iv = "gmac" if auth == "gmac" else cipher
     rows = [
         length > 65535,
-        any((cipher == aead) != (auth == aead) for aead in AEADS),
+        any((cipher == aead) != (auth == aead) for aead in AEADS) or auth == "gmac" and cipher != "null",
         cipher != "null" and len(job["key"]) not in (16, 24, 32),
-        cipher != "null" and iv not in ivs[cipher],
+        takes_iv != "null" and iv not in ivs[takes_iv],
         cipher != "null" and job["coff"] + text > length,
         cipher == "cbc" and (text == 0 or text % 16 != 0) or cipher == "ctr" and text == 0,
-        auth in CMACS and key != CMACS[auth] or auth in HASHES and key > 1024,
+        auth in CMACS and key != CMACS[auth] or auth in HMACS and key > 1024 or auth == "gmac" and key not in (16, 24, 32),
         hashes and job["hoff"] + job["hlen"] > length,
         cipher in AEADS and len(job["aad"]) > {"gcm": 65535, "ccm": 65279}[cipher],
         tag not in tags,
@@ -49,8 +53,12 @@ def ciphered(job, packet):
 
 def authenticated(job, packet):
     message = packet[job["hoff"]:job["hoff"] + job["hlen"]]
-    if job["auth"] in HASHES:
-        return hmac.new(job["akey"], message, HASHES[job["auth"]]).digest()
+    if job["auth"] in HMACS:
+        return hmac.new(job["akey"], message, HMACS[job["auth"]]).digest()
+    if job["auth"] in DIGESTS:
+        return hashlib.new(job["auth"], message).digest()
+    if job["auth"] == "gmac":
+        return gcm(schedule(job["akey"]), job["iv"], message, b"", 16, True)[1]
     return cmac(schedule(job["akey"]), message) if job["auth"] in CMACS else b""
 
 
@@ -82,7 +90,7 @@ WORDS = {
     "cipher": ["null", "cbc", "ctr", *AEADS],
     "dir": ["enc", "dec"],
     "order": ["ch", "hc"],
-    "auth": ["null", *HASHES, *CMACS, *AEADS],
+    "auth": ["null", *HASHES, *CMACS, "gmac", *AEADS],
 }
 
 

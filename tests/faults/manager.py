@@ -1,5 +1,5 @@
 """Which job a manager gives back when, and what traces and replays tell of it."""
-from jobs import CMACS, HASHES, reason, result_line
+from jobs import CMACS, HASHES, HMACS, reason, result_line
 
 # Kinds in the order in which a trace tells them, with their lanes.
 LANES = {"cbc128": 32, "cbc192": 32, "cbc256": 32, "cmac128": 32, "cmac256": 32, "hmac-sha1": 16, "hmac-sha256": 16, "hmac-sha512": 8,
@@ -19,9 +19,11 @@ def auth_stage(job):
     if job["auth"] in CMACS:
         return [(job["auth"], max(1, -(-job["hlen"] // 16)))]
     if job["auth"] in HASHES:
-        wide = job["auth"] in ("hmac-sha384", "hmac-sha512")
-        kind = "hmac-sha512" if wide else "hmac-sha1" if job["auth"] == "hmac-sha1" else "hmac-sha256"
-        return [(kind, (job["hlen"] + 16) // 128 + 4 if wide else (job["hlen"] + 8) // 64 + 4)]
+        digest = HASHES[job["auth"]]
+        wide = digest in ("sha384", "sha512")
+        kind = "hmac-sha512" if wide else "hmac-sha1" if digest == "sha1" else "hmac-sha256"
+        pads = 3 if job["auth"] in HMACS else 0
+        return [(kind, 1 + pads + ((job["hlen"] + 16) // 128 if wide else (job["hlen"] + 8) // 64))]
     return []
 
 

@@ -53,7 +53,7 @@ const GOOD: [&str; 13] = [
 
 /// Words that are no command, and behind the arrow what the text that tells it has, between bars.
 const TOLD: [&str; 8] = [
-    "mbjobs --help => Usage: mbjobs|run|trace|gen|replay|--version|1 to 65535 for gcm, and 7 to 13 for ccm",
+    "mbjobs --help => Usage: mbjobs|run|trace|gen|replay|--version|1 to 65535 for gcm and gmac, and 7 to 13 for ccm",
     "mbjobs run --help => Usage: mbjobs run|--submitters <S>|1 to 16|--workers <W>",
     "mbjobs trace --help => Usage: mbjobs trace|mbjobs trace",
     "mbjobs gen --help => Usage: mbjobs gen|--seed <N>|--jobs <M>|0 to 65536|--submitters <S>|--workers <W>",
