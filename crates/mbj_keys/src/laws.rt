@@ -1,0 +1,35 @@
+ghost use Rattle.std.specs.Prelude.{◌≡◌, IsSome};
+ghost use Rattle.mbj_keys.specs.Sessions.{AreOf, entry_of};
+ghost use Rattle.mbj_keys.specs.declared.keys.TheConstants.{MAX_SESSIONS};
+
+use crate::keys::Keys;
+use crate::notes::Notes;
+
+/// A law: the bound on the number of sessions.
+pub fn there_are_at_most_this_many_sessions()
+    ensures { MAX_SESSIONS ≡ 256 }
+{}
+
+/// A law: two notes of one `Keys` that both know session `n` show one and the same entry, whichever threads learned it.
+/// It takes no memory, and leaves both as they are.
+pub fn agree(keys: &Keys, one: &mut Notes, other: &mut Notes, n: u32)
+    requires one_notes { AreOf keys.now one.old }
+    requires other_notes { AreOf keys.now other.old }
+    requires one_learnt { IsSome (entry_of one.old n) }
+    requires other_learnt { IsSome (entry_of other.old n) }
+    ensures agree { entry_of one.old n ≡ entry_of other.old n }
+    ensures one_same { one.new ≡ one.old }
+    ensures other_same { other.new ≡ other.old }
+{
+    one.notes[n as usize].agree(&mut other.notes[n as usize]);
+}
+
+fn may_be_shared<T: Send + Sync>() {}
+
+fn may_be_sent<T: Send>() {}
+
+/// A law: keys may be sent to other threads and shared by them, and notes may be sent.
+pub fn keys_cross_threads() {
+    may_be_shared::<Keys>();
+    may_be_sent::<Notes>();
+}

@@ -1,0 +1,22 @@
+//! Keys that tasks share, in sessions that are numbered from 0. A task that learns a session finds its key expanded in
+//! the session's cell, or expands it and puts it there; all tasks then use the schedule of the first. No call waits.
+#![tactic(auto)]
+
+mod compare;
+mod entry;
+mod keys;
+mod laws;
+mod notes;
+mod session;
+
+pub use entry::KeyEntry;
+pub use keys::{Keys, MAX_SESSIONS};
+pub use laws::{agree, keys_cross_threads, there_are_at_most_this_many_sessions};
+pub use notes::Notes;
+
+// A crate can name keys and notes in a contract only if the types of their fields are exported.
+#[doc(hidden)]
+pub use session::{Session, SessionNote};
+
+#[cfg(test)]
+mod tests;
