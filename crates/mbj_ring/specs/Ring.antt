@@ -1,26 +1,27 @@
 -- What a contract sees of a ring.
-use Rattle.std.specs.Prelude.{ℕ, ◌+◌, ◌-◌, ◌%◌, ◌<◌, ◌≤◌, List, ◌++◌, length, drop, set, Option, Some, option_to_list}
+use Rattle.std.specs.Prelude.{ℕ, ◌+◌, ◌-◌, ◌%◌, ◌<◌, ◌≤◌, List, [], ◌∷◌, ◌++◌, length, take, drop, set}
 use Rattle.mbj_ring.specs.declared.ring.TheConstants.{CELLS}
 
--- the committed values, the earliest first; the value of the open cell, if there is one; the place of the first value
+-- the committed values, the earliest first; the values of the open cells, the first opened first; the place of the ring's
+-- first value
 pub record RingState (X : Type 0) : Type 0 where
   pub values : List X
-  pub opened : Option X
+  pub opened : List X
   pub first : ℕ
 
 module _ {X : Type 0} where
-  abbrev pub ring : List X → Option X → ℕ → RingState X
+  abbrev pub ring : List X → List X → ℕ → RingState X
   ring vs o p = record { values = vs; opened = o; first = p }
 
-  -- the committed values and, last, the open one
+  -- the committed values, and then the open ones
   abbrev pub all_values : RingState X → List X
-  all_values r = r.values ++ option_to_list r.opened
+  all_values r = r.values ++ r.opened
 
   -- a cell for each value, and a place for the first
   abbrev pub IsWithin : RingState X → Type 0
   IsWithin r = (length (all_values r) ≤ CELLS) × (r.first < CELLS)
 
-  -- the place of value i, and that of the open cell where i is the number of values
+  -- the place of value i; the open cells stand behind the committed ones
   abbrev pub place_of : RingState X → ℕ → ℕ
   place_of r i = (r.first + i) % CELLS
 
@@ -32,9 +33,17 @@ module _ {X : Type 0} where
   abbrev pub IsLive : RingState X → ℕ → Type 0
   IsLive r p = (p < CELLS) × (index_at r p < length r.values)
 
-  -- the ring with the open value w
-  abbrev pub with_open : RingState X → X → RingState X
-  with_open r w = ring r.values (Some w) r.first
+  -- the ring with one more open value
+  abbrev pub with_open_last : RingState X → X → RingState X
+  with_open_last r w = ring r.values (r.opened ++ w ∷ []) r.first
+
+  -- the ring with w for open value i
+  abbrev pub with_open_at : RingState X → ℕ → X → RingState X
+  with_open_at r i w = ring r.values (set r.opened i w) r.first
+
+  -- the ring with its first n open values committed
+  abbrev pub with_committed : RingState X → ℕ → RingState X
+  with_committed r n = ring (r.values ++ take n r.opened) (drop n r.opened) r.first
 
   -- the ring with w for value i
   abbrev pub with_value_at : RingState X → ℕ → X → RingState X

@@ -1,13 +1,17 @@
 -- What a ring ends as, once a `&mut` into it has ended.
 use Rattle.std.specs.Prelude.{ℕ, Option}
 use Rattle.std.specs.Borrow.{Fml, RattleType, MutBor, Lends, LendsIf}
-use Rattle.mbj_ring.specs.Ring.{RingState, index_at, with_open, with_value_at}
+use Rattle.mbj_ring.specs.Ring.{RingState, index_at, with_open_at, with_value_at}
 use Rattle.mbj_ring.specs.contracts.ring.Ring.{the_row}
 
 module _ (R : RattleType) (b : MutBor (RingState R.Denot)) where
-  -- the open value is the last one written through r, and at `None` the ring stays as it is
+  -- the first open value is the last one written through r, and at `None` the ring stays as it is
   abbrev pub LendsOpen : Option (MutBor R.Denot) → Fml
-  LendsOpen r = LendsIf (the_row R) R b r (with_open b.now) b.now
+  LendsOpen r = LendsIf (the_row R) R b r (with_open_at b.now 0) b.now
+
+  -- open value i is the last one written through r
+  abbrev pub LendsOpenAt : ℕ → MutBor R.Denot → Fml
+  LendsOpenAt i r = Lends (the_row R) R b r (with_open_at b.now i)
 
   -- the first value is the last one written through r, and at `None` the ring stays as it is
   abbrev pub LendsFront : Option (MutBor R.Denot) → Fml

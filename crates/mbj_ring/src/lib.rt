@@ -1,4 +1,5 @@
-//! A ring of cells over raw memory: values are committed at its end and popped at its front, and one more can be open.
+//! A ring of cells over raw memory: cells are opened at its end, committed in the order in which they were opened, and
+//! popped at its front.
 #![tactic(auto)]
 
 mod cells;

@@ -1,9 +1,9 @@
-//! `Ring` and its calls. A clause sees a ring as the list of its committed values, the value of its open cell, and the
+//! `Ring` and its calls. A clause sees a ring as the list of its committed values, the list of its open ones, and the
 //! place of its first value (`specs/Ring.antt`).
-ghost use Rattle.std.specs.Prelude.{◌≡◌, ◌↔◌, ◌+◌, ◌%◌, ◌<◌, ◌≤◌, [], length, slice_get, Some, None, IfOk, IsTrue};
-ghost use Rattle.std.specs.Option.{option_copied_mut, IsSome, MatchOption};
+ghost use Rattle.std.specs.Prelude.{◌≡◌, ◌+◌, ◌%◌, ◌<◌, ◌≤◌, [], length, slice_get, Some, IfOk};
+ghost use Rattle.std.specs.Option.{option_copied_mut, MatchOption};
 ghost use Rattle.std.specs.Borrow.{sem};
-ghost use Rattle.mbj_ring.specs.Ring.{ring, all_values, place_of, index_at, IsLive, IsWithin, without_first};
+ghost use Rattle.mbj_ring.specs.Ring.{ring, all_values, place_of, index_at, IsLive, IsWithin, with_committed, with_open_last, without_first};
 
 use crate::cells::Cells;
 use std::alloc::{AllocError, Global};
@@ -17,16 +17,16 @@ pub fn a_ring_has_these_cells()
     ensures { CELLS ≡ 512 }
 {}
 
-/// A queue of committed values in `CELLS` cells of one block of memory, with at most one open cell behind them.
+/// A queue of committed values in `CELLS` cells of one block of memory, with open cells behind them.
 ///
 /// The number of a value's cell is its place. The committed values stand at places that follow each other, and after
-/// the last place comes 0; the open cell is the next one. A cell holds a value exactly where the ring has one. A dropped
-/// ring drops its values.
+/// the last place comes 0; the open cells are the next ones, in the order in which they were opened. A cell holds a
+/// value exactly where the ring has one. A dropped ring drops its values, the open ones too.
 pub struct Ring<T> {
     cells: Cells<T>,
     first: u32,
     len: u32,
-    has_open: bool,
+    open_len: u32,
     alloc: Global,
 }
 
@@ -53,25 +53,25 @@ fn place_after(first: u32, index: u32) -> u32
 }
 
 impl<T> Ring<T> {
-    ghost use Rattle.mbj_ring.specs.RingLends.{LendsOpen, LendsFront, LendsAt};
+    ghost use Rattle.mbj_ring.specs.RingLends.{LendsOpen, LendsOpenAt, LendsFront, LendsAt};
 
     /// Returns a ring with nothing in it. It takes the memory of all cells; no other call takes any.
     ///
     /// Answers `AllocError` for want of memory.
     pub fn new(alloc: Global) -> Result<Ring<T>, AllocError>
-        ensures { IfOk result (λ r. r ≡ ring [] None 0) }
+        ensures { IfOk result (λ r. r ≡ ring [] [] 0) }
     {
         let cells = Cells::allocate(&alloc, CELLS as usize)?;
         Ok(Ring {
             cells,
             first: 0,
             len: 0,
-            has_open: false,
+            open_len: 0,
             alloc,
         })
     }
 
-    /// Returns how many values are committed and not popped.
+    /// Returns how many values are committed and not popped. Together with the open ones they are at most `CELLS`.
     pub fn len(&self) -> u32
         ensures len { result ≡ length self.now.values }
         ensures within { IsWithin self.now }
@@ -79,46 +79,66 @@ impl<T> Ring<T> {
         self.len
     }
 
-    /// Whether a cell is open.
-    pub fn has_open(&self) -> bool
-        ensures { IsTrue result ↔ IsSome self.now.opened }
+    /// Returns how many cells are open.
+    pub fn open_len(&self) -> u32
+        ensures len { result ≡ length self.now.opened }
+        ensures within { IsWithin self.now }
     {
-        self.has_open
+        self.open_len
     }
 
-    /// Opens the cell after the committed values, and puts `value` there.
+    /// Opens the cell after the committed values and the open ones, and puts `value` there. A cell must be free; the others
+    /// that are open stay so.
     pub fn open_cell(&mut self, value: T)
-        requires closed { self.old.opened ≡ None }
-        requires room { length self.old.values < CELLS }
-        ensures { self.new ≡ ring self.old.values (Some value) self.old.first }
+        requires { length (all_values self.old) < CELLS }
+        ensures { self.new ≡ with_open_last self.old value }
     {
-        let next = place_after(self.first, self.len);
+        let next = place_after(self.first, self.len + self.open_len);
         self.cells.write(next as usize, value);
-        self.has_open = true;
+        self.open_len += 1;
     }
 
-    /// Lends the value of the open cell. `None` exactly where no cell is open.
+    /// Lends the value of the first open cell. `None` exactly where no cell is open.
     pub fn open_mut(&mut self) -> Option<&mut T>
         ensures* writes_back { sem 𝓛 (LendsOpen T.row self.entry result) }
-        ensures value { option_copied_mut result ≡ self.old.opened }
+        ensures value { option_copied_mut result ≡ slice_get self.old.opened 0 }
     {
-        if !self.has_open {
+        if self.open_len == 0 {
             return None;
         }
         let next = place_after(self.first, self.len);
         Some(self.cells.get_mut(next as usize))
     }
 
-    /// Puts the open value last among the committed ones, and returns its place. No cell is open then.
+    /// Lends the value of open cell `index`, which is below `open_len`; the first opened is 0.
+    pub fn open_at(&mut self, index: u32) -> &mut T
+        requires { index < length self.old.opened }
+        ensures* writes_back { sem 𝓛 (LendsOpenAt T.row self.entry index result) }
+        ensures value { slice_get self.old.opened index ≡ Some result.now }
+    {
+        let next = place_after(self.first, self.len + index);
+        self.cells.get_mut(next as usize)
+    }
+
+    /// Puts the first open value last among the committed ones, and returns its place. The other open ones stay so. A cell
+    /// must be open.
     pub fn commit(&mut self) -> u32
-        requires is_open { IsSome self.old.opened }
+        requires is_open { 0 < length self.old.opened }
         ensures place { result ≡ place_of self.old (length self.old.values) }
-        ensures values { self.new ≡ ring (all_values self.old) None self.old.first }
+        ensures values { self.new ≡ with_committed self.old 1 }
     {
         let next = place_after(self.first, self.len);
         self.len += 1;
-        self.has_open = false;
+        self.open_len -= 1;
         next
+    }
+
+    /// Puts all open values behind the committed ones.
+    fn commit_all(&mut self)
+        ensures { self.new ≡ ring (all_values self.old) [] self.old.first }
+    {
+        self.len += self.open_len;
+        self.open_len = 0;
     }
 
     /// Lends the first value. `None` exactly where the ring has no committed value.
@@ -159,15 +179,13 @@ impl<T> Ring<T> {
 
 impl<T: Drop> Drop for Ring<T> {
     fn drop(mut self) {
-        if self.has_open {
-            self.commit();
-        }
+        self.commit_all();
         while let Some(_value) = self.pop() {}
         let Ring {
             cells,
             first: _,
             len: _,
-            has_open: _,
+            open_len: _,
             alloc,
         } = self;
         cells.deallocate(&alloc, CELLS as usize);

@@ -1,8 +1,8 @@
 -- How the values of a ring lie in its cells.
-use Rattle.std.specs.Prelude.{◌≡◌, ℕ, ◌+◌, ◌-◌, List, [], ◌∷◌, ◌++◌, map, length, take, drop, replicate, slice_get, Option, Some, None, if◌then◌else◌}
+use Rattle.std.specs.Prelude.{◌≡◌, ℕ, ◌+◌, ◌-◌, List, [], ◌∷◌, ◌++◌, map, length, take, drop, replicate, Option, Some, None}
 use Rattle.mbj_ring.specs.declared.ring.TheConstants.{CELLS}
 use Rattle.mbj_ring.specs.declared.ring.Ring.TheInside.{Inside}
-use Rattle.mbj_ring.specs.Ring.{RingState, ring, all_values, IsWithin}
+use Rattle.mbj_ring.specs.Ring.{RingState, ring, IsWithin}
 
 module _ {X : Type 0} where
   -- the list read from the index on, and round its end
@@ -28,13 +28,13 @@ module _ {X : Type 0} (r : Inside X) where
   unfoldable pub found : List X
   found = present in_order
 
-  -- the first `len` of them are committed, and the next one, if there is one, is open
+  -- the first `len` of them are committed, and the others are open
   abbrev pub state_of : RingState X
-  state_of = ring (take r.len found) (slice_get found r.len) r.first
+  state_of = ring (take r.len found) (drop r.len found) r.first
 
-  -- a cell holds a value exactly where the ring has one (`laid`), and `has_open` says whether one of them is open (`count`)
+  -- a cell holds a value exactly where the ring has one (`laid`)
   pub record IsRing : Type 0 where
     pub cells : length r.cells.held ≡ CELLS
     pub within : IsWithin state_of
-    pub laid : in_order ≡ filled (all_values state_of) CELLS
-    pub count : length (all_values state_of) ≡ (if r.has_open then r.len + 1 else r.len)
+    pub laid : in_order ≡ filled found CELLS
+    pub count : length found ≡ r.len + r.open_len

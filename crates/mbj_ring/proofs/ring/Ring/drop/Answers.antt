@@ -1,18 +1,12 @@
 -- No cell is open in the loop, and after it no value is left.
 use Rattle.std.proofs.Common.{◌<◌, length, sym, ap, ◌∙◌, arith, length-drop}
-use Rattle.std.proofs.lemmas.Option.{slice_get_past, slice_get_within}
-use Rattle.mbj_ring.specs.Inside.Laid.{found}
+use Rattle.std.proofs.lemmas.Option.{slice_get_within}
 use Rattle.mbj_ring.proofs.Elements.{none_past}
-use Rattle.mbj_ring.proofs.Rings.{closed_flag, value_count, no_open, emptied}
-use Rattle.mbj_ring.proofs.ring.Ring.drop.Goals.{then-self, else-self}
+use Rattle.mbj_ring.proofs.Rings.{value_count, open_count, emptied}
 use Rattle.mbj_ring.proofs.ring.Ring.drop.Goals as goal
 
 pub loop-value-init : goal.loop-value-init
-loop-value-init g c = elim c.if-self.branch [
-  | then-self w ↦ ap (λ s. s.opened) (w.self-is ∙ w.commit.ensures.values)
-  | else-self w ↦ let r = c.self.inside in let count = closed_flag r c.self.invariant w.if-self.false in
-      ap (λ s. s.opened) (w.self-is ∙ sym c.self.view_is) ∙ slice_get_past (found r) r.len (omega arith)
-]
+loop-value-init g c = ap (λ s. s.opened) c.commit_all.ensures
 
 pub loop-value-smaller : goal.loop-value-smaller
 loop-value-smaller g c =
@@ -24,5 +18,5 @@ loop-value-preserved g c = ap (λ s. s.opened) c.in-Some.ensures.rest ∙ c.loop
 
 pub deallocate-requires : goal.deallocate-requires
 deallocate-requires g c =
-    let r = c.self-2.inside in let h = c.self-2.invariant in let v = c.loop-value.self in let view = c.self-2.view_is ∙ c.in_default.ensures.rest in
-    emptied r h (omega (arith, none_past v.values 0 (sym c.in_default.ensures.value), value_count r h v view, no_open r h v view c.loop-value.invariant))
+    let r = c.self.inside in let h = c.self.invariant in let v = c.loop-value.self in let view = c.self.view_is ∙ c.in_default.ensures.rest in
+    emptied r h (omega (arith, none_past v.values 0 (sym c.in_default.ensures.value), value_count r h v view, open_count r h v view, ap length c.loop-value.invariant, h.count))

@@ -1,30 +1,24 @@
--- The open cell's value is lent, and what is written there is the open value.
-use Rattle.std.proofs.Common.{set, get_or, Some, None, refl, sym, ap, ◌∙◌, inl, arith}
-use Rattle.mbj_ring.specs.Inside.CellLends.{with_value}
-use Rattle.mbj_ring.specs.Inside.Laid.{found}
-use Rattle.mbj_ring.proofs.Elements.{get_some}
-use Rattle.mbj_ring.proofs.Rings.{reads, room, open_flag, written_open}
+-- The first open cell's value is lent, and what is written there is the first open value.
+use Rattle.std.proofs.Common.{◌≡◌, ◌+◌, ◌%◌, ◌<◌, sym, ap, ◌∙◌, inl, arith}
+use Rattle.mbj_ring.specs.declared.ring.TheConstants.{CELLS}
+use Rattle.mbj_ring.proofs.Rings.{open_read, open_filled, open_written}
 use Rattle.mbj_ring.proofs.ring.Ring.open_mut.Goals as goal
 
 pub get_mut-requires : goal.get_mut-requires
 get_mut-requires g c =
-    let r = c.self.inside in let h = c.self.invariant in let one = open_flag r h c.if-not-self.false in let fits = room r h in let x = get_some (found r) r.len one in
-    (x.0, ap (λ p. get_or r.cells.held p None) c.place_after-next.ensures ∙ reads r h r.len (omega arith) ∙ x.1)
+    let r = c.self.inside in let none : r.len ≡ r.len + 0 = omega arith in
+    open_filled r c.self.invariant 0 c.place_after-next.result (omega (arith, c.if-self-eq0.false)) (c.place_after-next.ensures ∙ ap (λ k. (r.first + k) % CELLS) none)
 
 pub invariant_of-self-lent : goal.invariant_of-self-lent
 invariant_of-self-lent g c = λ w.
-    let r = c.self.inside in let h = c.self.invariant in
-    (written_open r h (record r { cells = with_value r.cells c.place_after-next.result w }) w (open_flag r h c.if-not-self.false) refl refl refl
-    (ap (λ p. set r.cells.held p (Some w)) c.place_after-next.ensures)).0
+    let r = c.self.inside in let none : r.len ≡ r.len + 0 = omega arith in
+    (open_written r c.self.invariant 0 c.place_after-next.result (omega (arith, c.if-self-eq0.false)) (c.place_after-next.ensures ∙ ap (λ k. (r.first + k) % CELLS) none) w).0
 
 pub returns : goal.returns
 returns g c =
-    let r = c.self.inside in let h = c.self.invariant in let one = open_flag r h c.if-not-self.false in let fits = room r h in
+    let r = c.self.inside in let h = c.self.invariant in let none : r.len ≡ r.len + 0 = omega arith in
+    let some : 0 < r.open_len = omega (arith, c.if-self-eq0.false) in let at = c.place_after-next.ensures ∙ ap (λ k. (r.first + k) % CELLS) none in
     rw (← c.self.view_is) (
-      λ i. inl (
-        c.get_mut.result.ghost_name,
-        λ w. (written_open r h (record r { cells = with_value r.cells c.place_after-next.result w }) w one refl refl refl
-            (ap (λ p. set r.cells.held p (Some w)) c.place_after-next.ensures)).1 i,
-      ),
-      record { writes_back = tt; value = sym c.get_mut.ensures.value ∙ ap (λ p. get_or r.cells.held p None) c.place_after-next.ensures ∙ reads r h r.len (omega arith) },
+      λ i. inl (c.get_mut.result.ghost_name, λ w. (open_written r h 0 c.place_after-next.result some at w).1 i),
+      record { writes_back = tt; value = sym c.get_mut.ensures.value ∙ open_read r h 0 c.place_after-next.result some at },
     )
