@@ -1,10 +1,10 @@
 -- The job that was open goes last, and stands in the agenda.
-use Rattle.std.proofs.Common.{◌≡◌, ℕ, zero, suc, ◌+◌, ◌-◌, ◌%◌, ◌≤◌, ◌<◌, List, [], ◌∷◌, ◌++◌, length, map, sum_by, Option, Some, None, inl, inr, refl, ap, ap₂, sym, ◌∙◌, subst, arith}
-use Rattle.std.specs.Prelude.{option_map}
+use Rattle.std.proofs.Common.{◌≡◌, ℕ, zero, suc, ◌+◌, ◌-◌, ◌%◌, ◌≤◌, ◌<◌, List, [], ◌∷◌, ◌++◌, length, map, sum_by, Option, None, inl, inr, refl, ap, ap₂, sym, ◌∙◌, subst, arith, drop, set, take}
+use Rattle.std.specs.Prelude.{All}
 use Rattle.std.proofs.lemmas.Bool.{cases_eq}
 use Rattle.std.proofs.lemmas.List.{length-map, length_push, map_push}
 use Rattle.std.proofs.lemmas.List.Sums.{sum_by-cons}
-use Rattle.std.proofs.lemmas.List.Elements.{All-cons, All-nil, All-push}
+use Rattle.std.proofs.lemmas.List.Elements.{All-cons, All-nil, All-push, All-tail}
 use Rattle.mbj_types.specs.Kinds.{all_kinds, lanes_of}
 use Rattle.mbj_types.specs.Result.{result_of}
 use Rattle.mbj_types.specs.declared.done.Done.{Done}
@@ -21,7 +21,7 @@ use Rattle.mbj_manager.specs.Machine.Between.{with_stages}
 use Rattle.mbj_manager.specs.declared.cell.Cell.{Cell}
 use Rattle.mbj_manager.specs.declared.cell.Cell.TheVariants as cell
 use Rattle.mbj_manager.specs.Inside.Added.{added}
-use Rattle.mbj_manager.specs.Inside.Courses.{IsGoing, KeepsSteps, asked, course_in, courses, job_in, number, ring_number}
+use Rattle.mbj_manager.specs.Inside.Courses.{IsGoing, KeepsSteps, asked, course_in, courses, job_in, number, ring_number, IsOpen}
 use Rattle.mbj_manager.specs.Inside.Leaving.{At}
 use Rattle.mbj_manager.specs.Inside.Desk.{Listed}
 use Rattle.mbj_manager.specs.Inside.LaneQueues.{placed_in, total, waiting_in}
@@ -103,16 +103,22 @@ pub record IsAdded (r r' : RingState Cell) (ag ag' : List ℕ) (ls : LaneQueues)
   pub is : held r' ag' ls ≡ added (held r ag ls).opened (held r ag ls)
   pub kept : IsHeld r' ag' ls capacity
 
-abbrev pub one_more : RingState Cell → Cell → RingState Cell
-one_more r w = ring (r.values ++ w ∷ []) None r.first
+abbrev pub one_more : RingState Cell → Cell → List Cell → RingState Cell
+one_more r w vs = ring (r.values ++ w ∷ []) vs r.first
 
-module _ (r : RingState Cell) (v w : Cell) (place : ℕ) (ls : LaneQueues) (capacity : ℕ) (y : IsHeld r [] ls capacity)
-    (began : w ≡ cell.Going (begun (job_in v))) (room : length r.values < CELLS) (last : place ≡ (r.first + length r.values) % CELLS) where
+-- where the first open cell was written over and committed
+pub commit-one : (r : RingState Cell) (os : List Cell) (v w : Cell) → os ≡ v ∷ drop 1 os
+    → ring (r.values ++ take 1 (set os 0 w)) (drop 1 (set os 0 w)) r.first ≡ one_more r w (drop 1 os)
+commit-one r [] v w e = cc
+commit-one r (x ∷ os) v w e = refl
+
+module _ (r : RingState Cell) (v w : Cell) (vs : List Cell) (place : ℕ) (ls : LaneQueues) (capacity : ℕ) (y : IsHeld r [] ls capacity)
+    (are_open : All IsOpen vs) (began : w ≡ cell.Going (begun (job_in v))) (room : length r.values < CELLS) (last : place ≡ (r.first + length r.values) % CELLS) where
   abbrev job : Job
   job = job_in v
 
   abbrev r' : RingState Cell
-  r' = one_more r w
+  r' = one_more r w vs
 
   more-courses : courses r' ≡ courses r ++ begun job ∷ []
   more-courses = map_push course_in r.values w ∙ ap (λ (x : Cell). courses r ++ course_in x ∷ []) began
@@ -146,7 +152,7 @@ module _ (r : RingState Cell) (v w : Cell) (place : ℕ) (ls : LaneQueues) (capa
       few = omega (arith, length_push r.values w);
       first = y.ring.first;
     };
-    is_open = tt;
+    is_open = are_open;
     within = subst IsInCourse (sym machine-then)
         (submitted-within (pending (begun job)) (machine_in r [] ls) (pending-rounds job) (between-calls (machine_in r [] ls) y.within refl));
     tied = subst (λ (cs : List CourseState). IsTied cs (map (ring_number r') (place ∷ [])) (lines_in r ls)) (sym more-courses)
@@ -173,18 +179,19 @@ module _ (r : RingState Cell) (v w : Cell) (place : ℕ) (ls : LaneQueues) (capa
   same-number =
       length-map (courses r) pending ∙ sym (restored-length 0 (find_in (lines_in r ls)) (courses r)) ∙ sym (length-map restored_then owed)
 
-  added-is : held r' (place ∷ []) ls ≡ added (Some job) (held r [] ls)
+  added-is : held r' (place ∷ []) ls ≡ added (job ∷ map job_in vs) (held r [] ls)
   added-is =
       same-state owed-then asked-then refl
       (machine-then ∙ ap (λ (n : ℕ). machine_with (map pending (courses r) ++ pending (begun job) ∷ []) (n ∷ [])) same-number)
 
-pub adds : (r : RingState Cell) (v w : Cell) (place : ℕ) (ag : List ℕ) (ls : LaneQueues) (capacity : ℕ) → IsHeld r ag ls capacity → map (ring_number r) ag ≡ []
-    → r.opened ≡ Some v → w ≡ cell.Going (begun (job_in v)) → length r.values < CELLS → place ≡ (r.first + length r.values) % CELLS
-    → IsAdded r (one_more r w) ag (ag ++ place ∷ []) ls capacity
-adds r v w place ag ls capacity y idle opened began room last =
-    subst (λ (a : List ℕ). IsHeld r a ls capacity → IsAdded r (one_more r w) a (a ++ place ∷ []) ls capacity) (sym (map-nil (ring_number r) ag idle))
+pub adds : (r : RingState Cell) (v w : Cell) (vs : List Cell) (place : ℕ) (ag : List ℕ) (ls : LaneQueues) (capacity : ℕ) → IsHeld r ag ls capacity → map (ring_number r) ag ≡ []
+    → r.opened ≡ v ∷ vs → w ≡ cell.Going (begun (job_in v)) → length r.values < CELLS → place ≡ (r.first + length r.values) % CELLS
+    → IsAdded r (one_more r w vs) ag (ag ++ place ∷ []) ls capacity
+adds r v w vs place ag ls capacity y idle opened began room last =
+    let others = All-tail IsOpen v vs (subst (All IsOpen) opened y.is_open) in
+    subst (λ (a : List ℕ). IsHeld r a ls capacity → IsAdded r (one_more r w vs) a (a ++ place ∷ []) ls capacity) (sym (map-nil (ring_number r) ag idle))
     (λ z. record {
-      is = subst (λ (o : Option Cell). held (one_more r w) (place ∷ []) ls ≡ added (option_map job_in o) (held r [] ls)) (sym opened)
-          (added-is r v w place ls capacity z began room last);
-      kept = added-kept r v w place ls capacity z began room last;
+      is = subst (λ (o : List Cell). held (one_more r w vs) (place ∷ []) ls ≡ added (map job_in o) (held r [] ls)) (sym opened)
+          (added-is r v w vs place ls capacity z others began room last);
+      kept = added-kept r v w vs place ls capacity z others began room last;
     }) y

@@ -1,6 +1,6 @@
 -- A step of the agenda: its first job goes on.
 use Rattle.std.proofs.Common.{◌≡◌, ◌≢◌, ℕ, zero, suc, ◌+◌, ◌≤◌, ◌<◌, ◌==◌, List, [], ◌∷◌, ◌++◌, length, map, slice_index_or, Bool, true, false, cond, ◌⊎◌, inl, inr, refl, ap, ap₂, sym, ◌∙◌, subst, arith}
-use Rattle.std.specs.Prelude.{All, option_map}
+use Rattle.std.specs.Prelude.{All}
 use Rattle.std.proofs.lemmas.Bool.{cond-true, eq-eqb}
 use Rattle.std.proofs.lemmas.List.{length-append, length-map}
 use Rattle.std.proofs.lemmas.List.Elements.{All-head, All-tail}
@@ -18,7 +18,7 @@ use Rattle.mbj_manager.specs.declared.lane.Cause.TheVariants as cause
 use Rattle.mbj_manager.specs.Machine.Course.{goes_on, in_lanes_next, joined, stages_left, stepped, stepped_at}
 use Rattle.mbj_manager.specs.Machine.Between.{times_in}
 use Rattle.mbj_manager.specs.declared.cell.Cell.{Cell}
-use Rattle.mbj_manager.specs.Inside.Courses.{Follows, IsSameRing, asked, courses, job_in, number, ring_number}
+use Rattle.mbj_manager.specs.Inside.Courses.{Follows, IsSameRing, asked, courses, job_in, number, ring_number, IsOpen}
 use Rattle.mbj_manager.specs.Inside.Leaving.{At, Gives, IsAbsent, finishers, numbers, others, returned}
 use Rattle.mbj_stage.specs.Handing.{End, IsNext, handed_out, taken_back}
 use Rattle.mbj_manager.specs.Inside.Desk.{Desk, Enters, MayEnter, desk, joined_by, led_all, ran_at, ran_if_full}
@@ -26,7 +26,7 @@ use Rattle.mbj_manager.specs.Inside.LaneQueues.{desk_of, placed_in, with_placed}
 use Rattle.mbj_manager.specs.declared.lane_queues.LaneQueues.{LaneQueues}
 use Rattle.mbj_manager.specs.Inside.PlacedQueue.{Ahead, HasRest, PlacedQueue, Waiter, brings_in, placed_queue, numbered_queue, rounds_in}
 use Rattle.mbj_manager.specs.Inside.Standing.{IsInCourse}
-use Rattle.mbj_manager.specs.Inside.Held.{IsHeld, IsHere, IsOpenAt, IsTied, find_in, found, lane_seen, lines_in, machine_by, machine_in, restored_from, waiting}
+use Rattle.mbj_manager.specs.Inside.Held.{IsHeld, IsHere, IsTied, find_in, found, lane_seen, lines_in, machine_by, machine_in, restored_from, waiting}
 use Rattle.mbj_manager.proofs.KindLines.{put-self}
 use Rattle.mbj_manager.proofs.Listing.{absent-listed}
 use Rattle.mbj_manager.proofs.Joining.{at-here}
@@ -232,10 +232,10 @@ module _ (r r1 : RingState Cell) (p : ℕ) (ag ag1 : List ℕ) (ls : LaneQueues)
       = sym (machine-then at ∙ ap (λ ps. goes_on at (ring_number r1 p) ps (machine_in r1 ag1 ls)) none) in
       let fits = y.fits in
       record {
-        is = same-state (sym owed-then) (sym asked-then) (ap (option_map job_in) same.opened) machine;
+        is = same-state (sym owed-then) (sym asked-then) (ap (map job_in) same.opened) machine;
         kept = record {
           ring = same.courses;
-          is_open = subst IsOpenAt (sym same.opened) y.is_open;
+          is_open = subst (All IsOpen) (sym same.opened) y.is_open;
           within = subst IsInCourse (sym machine) (within-then at);
           tied = tied-then;
           fits = omega (arith, ap length first);
@@ -299,10 +299,10 @@ module _ (r r1 : RingState Cell) (p : ℕ) (ag ag1 : List ℕ) (ls : LaneQueues)
       let fits = y.fits in
       record {
         is = same-state (sym (owed-then ∙ owes.told ∙ ap (map owed) moved)) (sym (asked-then ∙ asks.told ∙ ap (map asked) moved))
-            (ap (option_map job_in) (then.opened ∙ same.opened)) machine;
+            (ap (map job_in) (then.opened ∙ same.opened)) machine;
         kept = record {
           ring = then.courses;
-          is_open = subst IsOpenAt (sym (then.opened ∙ same.opened)) y.is_open;
+          is_open = subst (All IsOpen) (sym (then.opened ∙ same.opened)) y.is_open;
           within = subst IsInCourse (sym machine) (within-then at);
           tied = moved-tied k r1 r2 ag1 ag2 ls ls2 d then others-are e.is owes.tied;
           fits = omega (arith, entered-length at (lanes_of k) n a d1, length-map ag1 (ring_number r1), waiters-length r1 k, ap length first);

@@ -1,6 +1,6 @@
 -- What is given back over a list of calls.
-use Rattle.std.proofs.Common.{◌≡◌, ◌↔◌, List, [], ◌∷◌, ◌++◌, map, Option, Some, None, option_to_list, slice_get, refl, ap, sym, ◌∙◌, append_assoc, append-nil, arith}
-use Rattle.std.specs.Prelude.{◌==◌, IsSome, length, option_map, unwrap_or, if◌then◌else◌}
+use Rattle.std.proofs.Common.{◌≡◌, ◌↔◌, ◌<◌, List, [], ◌∷◌, ◌++◌, drop, length, map, take, Some, None, option_to_list, slice_get, refl, ap, sym, ◌∙◌, append_assoc, append-nil, arith}
+use Rattle.std.specs.Prelude.{◌==◌, if◌then◌else◌}
 use Rattle.std.proofs.lemmas.List.{map-append}
 use Rattle.mbj_types.specs.declared.job.Job.{Job}
 use Rattle.mbj_types.specs.declared.done.Done.{Done}
@@ -10,8 +10,8 @@ use Rattle.mbj_manager.specs.Machine.Stages.{Pending}
 use Rattle.mbj_manager.specs.Machine.Course.{course}
 use Rattle.mbj_manager.specs.declared.lane.Cause.TheVariants as cause
 use Rattle.mbj_manager.specs.Inside.Added.{added}
-use Rattle.mbj_manager.specs.State.{ManagerState, IsEarliestFinished, after_get_completed, given_at, entered, lent, after_submit, with_open, with_job}
-use Rattle.mbj_manager.specs.Calls.{Call, get_next, write, submit, get_completed, flush, called, jobs_in, given_back, jobs_submitted, after_calls}
+use Rattle.mbj_manager.specs.State.{ManagerState, IsEarliestFinished, after_get_completed, given_at, entered, entered_at, lent, after_submit, with_open}
+use Rattle.mbj_manager.specs.Calls.{Call, get_next, get_next_burst, write, submit, get_completed, flush, called, submitted_at, jobs_in, given_back, jobs_submitted, after_calls}
 
 given-order-at : (ds : List Done) (left : List (List Pending)) (h : ManagerState) → h.owed ≡ ds
     → option_to_list (given_at ds left h).0 ++ (given_at ds left h).1.owed ≡ ds
@@ -42,54 +42,54 @@ none-if (d ∷ ds) ((p ∷ ps) ∷ left) h e f n = refl
 pub none-where : (h : ManagerState) → ((after_get_completed h).0 ≡ None) ↔ ¬ IsEarliestFinished h
 none-where h = (none-then h.owed h.machine.left h refl refl, none-if h.owed h.machine.left h refl refl)
 
--- the state where the job o is submitted, if there is one
-abbrev pub entered_at : Option Job → ManagerState → ManagerState
-entered_at o h = unwrap_or (option_map (λ j. with_job j h) o) h
+-- the first open job goes last, and then the course is followed
+pub entered-added : (o : List Job) (h : ManagerState) → 0 < length o → record (added o h) { machine = course cause.Submit (added o h).machine } ≡ entered_at o h
+entered-added [] h some = absurd (omega arith)
+entered-added (j ∷ js) h some = refl
 
--- the open job o goes last, and then the course is followed
-pub entered-added : (o : Option Job) (h : ManagerState) → IsSome o → record (added o h) { machine = course cause.Submit (added o h).machine } ≡ entered_at o h
-entered-added None h some = cc
-entered-added (Some j) h some = refl
+entered-owed : (o : List Job) (h : ManagerState) → (entered_at o h).owed ≡ h.owed ++ map result_of (take 1 o)
+entered-owed [] h = sym (append-nil h.owed)
+entered-owed (j ∷ js) h = refl
 
-entered-owed : (o : Option Job) (h : ManagerState) → (entered_at o h).owed ≡ h.owed ++ map result_of (option_to_list o)
-entered-owed None h = sym (append-nil h.owed)
-entered-owed (Some j) h = refl
+entered-opened : (o : List Job) (h : ManagerState) → h.opened ≡ o → (entered_at o h).opened ≡ drop 1 o
+entered-opened [] h e = e
+entered-opened (j ∷ js) h e = refl
+
+-- giving back leaves the open jobs as they are
+pub given-opened : (ds : List Done) (left : List (List Pending)) (h : ManagerState) → (given_at ds left h).1.opened ≡ h.opened
+given-opened [] left h = refl
+given-opened (d ∷ ds) [] h = refl
+given-opened (d ∷ ds) ([] ∷ left) h = refl
+given-opened (d ∷ ds) ((p ∷ ps) ∷ left) h = refl
+
+-- the others stay open
+pub submitted-opened : (h : ManagerState) → (after_submit h).1.opened ≡ drop 1 h.opened
+submitted-opened h = given-opened (entered h).owed (entered h).machine.left (entered h) ∙ entered-opened h.opened h refl
 
 pub submitted-order : (h : ManagerState)
-    → option_to_list (after_submit h).0 ++ (after_submit h).1.owed ≡ h.owed ++ map result_of (option_to_list h.opened)
+    → option_to_list (after_submit h).0 ++ (after_submit h).1.owed ≡ h.owed ++ map result_of (take 1 h.opened)
 submitted-order h = given-order (entered h) ∙ entered-owed h.opened h
 
 -- what a call gives back, and then what is owed, are what was owed and the results of what the call submits
 abbrev pub Keeps : Call → ManagerState → Type 0
 Keeps c h = option_to_list (called c h).0 ++ (called c h).1.owed ≡ h.owed ++ map result_of (jobs_in c h)
 
--- what a submission gives back where o is the open job
-abbrev pub submitted_at : Option Job → ManagerState → Option Done × ManagerState
-submitted_at o h = unwrap_or (option_map (λ _. after_submit h) o) (None, h)
-
--- the job j written over the open job o
-abbrev pub written_at : Option Job → Job → ManagerState → ManagerState
-written_at o j h = unwrap_or (option_map (λ _. with_open h j) o) h
-
 -- the next cell lent where there is one
 abbrev pub opened_next : ManagerState → ManagerState
 opened_next h = if length h.owed == CELLS then h else with_open h (lent h)
 
-submit-keeps : (o : Option Job) (h : ManagerState) → h.opened ≡ o
-    → option_to_list (submitted_at o h).0 ++ (submitted_at o h).1.owed ≡ h.owed ++ map result_of (option_to_list o)
-submit-keeps None h e = sym (append-nil h.owed)
-submit-keeps (Some j) h e = submitted-order h ∙ ap (λ o. h.owed ++ map result_of (option_to_list o)) e
-
-write-keeps : (o : Option Job) (j : Job) (h : ManagerState) → (written_at o j h).owed ≡ h.owed
-write-keeps None j h = refl
-write-keeps (Some old) j h = refl
+submit-keeps : (o : List Job) (h : ManagerState) → h.opened ≡ o
+    → option_to_list (submitted_at o h).0 ++ (submitted_at o h).1.owed ≡ h.owed ++ map result_of (take 1 o)
+submit-keeps [] h e = sym (append-nil h.owed)
+submit-keeps (j ∷ js) h e = submitted-order h ∙ ap (λ o. h.owed ++ map result_of (take 1 o)) e
 
 next-keeps : (h : ManagerState) → (opened_next h).owed ≡ h.owed
 next-keeps h = grind arith
 
 pub keeps : (c : Call) (h : ManagerState) → Keeps c h
 keeps get_next h = next-keeps h ∙ sym (append-nil h.owed)
-keeps (write j) h = write-keeps h.opened j h ∙ sym (append-nil h.owed)
+keeps (get_next_burst n) h = sym (append-nil h.owed)
+keeps (write i j) h = sym (append-nil h.owed)
 keeps submit h = submit-keeps h.opened h refl
 keeps get_completed h = given-order h ∙ sym (append-nil h.owed)
 keeps flush h = given-order (record h { machine = Rattle.mbj_manager.specs.Machine.Course.flushed h.machine }) ∙ sym (append-nil h.owed)

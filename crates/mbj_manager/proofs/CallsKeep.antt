@@ -1,6 +1,7 @@
 -- Over each list of calls the machine is between two calls, with a job for each result owed.
-use Rattle.std.proofs.Common.{◌≡◌, ◌≢◌, ℕ, ◌+◌, ◌*◌, ◌%◌, ◌≤◌, ◌==◌, zero, suc, List, [], ◌∷◌, ◌++◌, length, Option, Some, None, slice_get, refl, ap, sym, ◌∙◌, subst, arith}
+use Rattle.std.proofs.Common.{◌≡◌, ◌≢◌, ℕ, ◌+◌, ◌*◌, ◌%◌, ◌≤◌, ◌==◌, zero, suc, List, [], ◌∷◌, ◌++◌, length, drop, set, ◌<◌, Some, slice_get, refl, ap, sym, ◌∙◌, subst, arith}
 use Rattle.std.specs.Prelude.{All, IsSome}
+use Rattle.std.specs.Fn.{iterate}
 use Rattle.std.proofs.lemmas.Bool.{cond_both}
 use Rattle.std.proofs.lemmas.List.{length-drop, length_push, nil_from_length}
 use Rattle.std.proofs.lemmas.List.Elements.{All-nil}
@@ -15,17 +16,17 @@ use Rattle.mbj_stage.specs.Handing.{without_packet}
 use Rattle.mbj_manager.specs.Machine.Stages.{Pending, pending}
 use Rattle.mbj_manager.specs.Machine.Queues.{Machine, queue_for, idle_queue, count_end}
 use Rattle.mbj_manager.specs.declared.lane.Cause.TheVariants as cause
-use Rattle.mbj_manager.specs.Machine.Course.{course, flushed}
-use Rattle.mbj_manager.specs.State.{ManagerState, entered, after_flush, after_get_completed, given_at, lent, new_manager, with_job, with_open}
+use Rattle.mbj_manager.specs.Machine.Course.{course, flushed, flush_step_at, stages_left}
+use Rattle.mbj_manager.specs.State.{ManagerState, entered, after_flush, after_get_completed, given_at, lent, new_manager, with_job, with_open, after_get_next_burst, entered_at}
 use Rattle.mbj_manager.specs.Calls as calls
-use Rattle.mbj_manager.specs.Calls.{Call, after_calls, called}
+use Rattle.mbj_manager.specs.Calls.{Call, after_calls, called, submitted_at}
 use Rattle.mbj_manager.specs.Machine.Counts.{RisesUpTo}
 use Rattle.mbj_manager.specs.Kept.{AreKept, IsKept}
 use Rattle.mbj_manager.specs.Machine.Between.{HasRounds, IsBetweenCalls}
 use Rattle.mbj_manager.specs.Inside.Added.{added}
 use Rattle.mbj_manager.specs.Inside.Standing.{IsLane, left_at}
 use Rattle.mbj_manager.specs.Inside.Settled.{IsSettled}
-use Rattle.mbj_manager.proofs.CallLaws.{opened_next, submitted_at, written_at, entered_at}
+use Rattle.mbj_manager.proofs.CallLaws.{opened_next}
 use Rattle.mbj_manager.proofs.BetweenCalls.{course-length, flush-length, machines-kept}
 use Rattle.mbj_manager.proofs.FlushRuns.{flush-runs}
 use Rattle.mbj_manager.proofs.JobRounds.{pending-rounds}
@@ -44,12 +45,14 @@ earliest-given (d ∷ ds) [] h owes done = cc
 earliest-given (d ∷ ds) ([] ∷ left) h owes done = refl
 earliest-given (d ∷ ds) ((p ∷ ps) ∷ left) h owes done = cc
 
--- giving back leaves the open job as it is
-pub given-opened : (ds : List Done) (left : List (List Pending)) (h : ManagerState) → (given_at ds left h).1.opened ≡ h.opened
-given-opened [] left h = refl
-given-opened (d ∷ ds) [] h = refl
-given-opened (d ∷ ds) ([] ∷ left) h = refl
-given-opened (d ∷ ds) ((p ∷ ps) ∷ left) h = refl
+-- where no job is left a flush changes nothing
+flushed-none : (m : Machine) → m.left ≡ [] → flushed m ≡ m
+unfolding flushed
+flushed-none m none = ap (λ (left : List (List Pending)). iterate (λ (m : Machine). flush_step_at (slice_get m.left 0) m) (stages_left left) m) none
+
+pub flush-none : (h : ManagerState) → IsSettled h → h.owed ≡ [] → record h { machine = flushed h.machine } ≡ h
+flush-none h settled none =
+    ap (λ (m : Machine). record h { machine = m }) (flushed-none h.machine (nil_from_length h.machine.left (settled.jobs ∙ ap length none)))
 
 -- giving back runs nothing
 given-runs-at : (ds : List Done) (left : List (List Pending)) (h : ManagerState) → (given_at ds left h).1.machine.flush_runs ≡ h.machine.flush_runs
@@ -110,8 +113,8 @@ two-added (x ∷ left) ps two few zero = two zero
 two-added (x ∷ left) ps two few (suc n) = two-added left ps (λ i. two (suc i)) few n
 
 -- a submission adds one job and one result
-with-job-settled : (j : Job) (h : ManagerState) → IsSettled h → IsSettled (with_job j h)
-with-job-settled j h settled =
+with-job-settled : (j : Job) (js : List Job) (h : ManagerState) → IsSettled h → IsSettled (with_job j js h)
+with-job-settled j js h settled =
     let stages = pending (begun j) in
     let entering : ℕ → Machine = λ n. record h.machine { left = h.machine.left ++ stages ∷ []; agenda = n ∷ [] } in
     record {
@@ -123,31 +126,26 @@ with-job-settled j h settled =
       two = each-course (λ ps. length ps ≤ 2) two-then two-next cause.Submit (entering (length h.owed)) (two-added h.machine.left stages settled.two (two-stages j));
     }
 
--- the course of the job that was open
-pub added-settled : (o : Option Job) (h : ManagerState) → IsSome o → IsSettled h
+-- the course of the first job that was open
+pub added-settled : (o : List Job) (h : ManagerState) → 0 < length o → IsSettled h
     → IsSettled (record (added o h) { machine = course cause.Submit (added o h).machine })
-added-settled None h some settled = cc
-added-settled (Some j) h some settled = with-job-settled j h settled
+added-settled [] h some settled = absurd (omega arith)
+added-settled (j ∷ js) h some settled = with-job-settled j js h settled
 
--- a submission of the open job, if there is one, and what it gives back
-submit-settled : (o : Option Job) (h : ManagerState) → h.opened ≡ o → IsSettled h → IsSettled (submitted_at o h).1
-submit-settled None h is settled = settled
-submit-settled (Some j) h is settled =
-    given-settled (entered h) (subst (λ o. IsSettled (entered_at o h)) (sym is) (with-job-settled j h settled))
+-- a submission of the first open job, if there is one, and what it gives back
+submit-settled : (o : List Job) (h : ManagerState) → h.opened ≡ o → IsSettled h → IsSettled (submitted_at o h).1
+submit-settled [] h is settled = settled
+submit-settled (j ∷ js) h is settled =
+    given-settled (entered h) (subst (λ o. IsSettled (entered_at o h)) (sym is) (with-job-settled j js h settled))
 
--- an open job changes neither
-pub open-settled : (j : Job) (h : ManagerState) → IsSettled h → IsSettled (with_open h j)
-open-settled j h settled = record { machine = settled.machine; jobs = settled.jobs; asked = settled.asked; two = settled.two }
-
--- a write changes the open job alone
-write-settled : (o : Option Job) (j : Job) (h : ManagerState) → IsSettled h → IsSettled (written_at o j h)
-write-settled None j h settled = settled
-write-settled (Some old) j h settled = open-settled j h settled
+-- open jobs change neither
+pub opened-settled : (js : List Job) (h : ManagerState) → IsSettled h → IsSettled (record h { opened = js })
+opened-settled js h settled = record { machine = settled.machine; jobs = settled.jobs; asked = settled.asked; two = settled.two }
 
 -- likewise a job that is lent
 next-settled : (h : ManagerState) → IsSettled h → IsSettled (opened_next h)
 next-settled h settled = cond_both (length h.owed == CELLS) h (with_open h (lent h)) IsSettled (λ full. settled)
-    (λ room. open-settled (lent h) h settled)
+    (λ room. opened-settled (lent h ∷ drop 1 h.opened) h settled)
 
 -- a flush takes neither a job nor a result
 pub flush-settled : (h : ManagerState) → IsSettled h → IsSettled (record h { machine = flushed h.machine })
@@ -162,7 +160,8 @@ flush-settled h settled =
 -- each call keeps it
 pub call-settled : (c : Call) (h : ManagerState) → IsSettled h → IsSettled (called c h).1
 call-settled calls.get_next h settled = next-settled h settled
-call-settled (calls.write j) h settled = write-settled h.opened j h settled
+call-settled (calls.get_next_burst n) h settled = opened-settled (after_get_next_burst n h).opened h settled
+call-settled (calls.write i j) h settled = opened-settled (set h.opened i j) h settled
 call-settled calls.submit h settled = submit-settled h.opened h refl settled
 call-settled calls.get_completed h settled = given-settled h settled
 call-settled calls.flush h settled = given-settled (record h { machine = flushed h.machine }) (flush-settled h settled)

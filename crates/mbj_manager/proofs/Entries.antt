@@ -44,7 +44,7 @@ restored-there first p (suc n) find (x ∷ cs) c e is = restored-there (suc firs
 
 -- ---- the jobs of a lane queue
 
-module _ (k : Kind) (cs : List CourseState) (agenda : List ℕ) (lines : Kind → PlacedQueue) (runs : ℕ) (opened : Option Job)
+module _ (k : Kind) (cs : List CourseState) (agenda : List ℕ) (lines : Kind → PlacedQueue) (runs : ℕ) (opened : List Job)
     (steps : All HasJobSteps cs) where
   abbrev state : ManagerState
   state = record {

@@ -1,5 +1,5 @@
 -- What is asked for the jobs that are owed, over a list of calls.
-use Rattle.std.proofs.Common.{◌≡◌, ℕ, ◌≤◌, ◌==◌, List, [], ◌∷◌, ◌++◌, length, map, drop, drop-drop, length-append, Option, Some, None, option_to_list, refl, ap, ap₂, sym, ◌∙◌, append_assoc, append-nil, arith}
+use Rattle.std.proofs.Common.{◌≡◌, ℕ, ◌≤◌, ◌==◌, List, [], ◌∷◌, ◌++◌, length, map, drop, take, drop-drop, length-append, Option, option_to_list, refl, ap, ap₂, sym, ◌∙◌, append_assoc, append-nil, arith}
 use Rattle.std.proofs.lemmas.Bool.{cond_both}
 use Rattle.std.proofs.lemmas.List.{drop-append-le, length-map, map-append}
 use Rattle.mbj_types.specs.declared.job.Job.{Job}
@@ -9,11 +9,11 @@ use Rattle.mbj_ring.specs.declared.ring.TheConstants.{CELLS}
 use Rattle.mbj_stage.specs.Handing.{without_packet}
 use Rattle.mbj_manager.specs.Machine.Stages.{Pending}
 use Rattle.mbj_manager.specs.Machine.Course.{flushed}
-use Rattle.mbj_manager.specs.State.{ManagerState, after_get_completed, after_submit, entered, given_at, lent, with_open}
+use Rattle.mbj_manager.specs.State.{ManagerState, after_get_completed, after_submit, entered, entered_at, given_at, lent, with_open}
 use Rattle.mbj_manager.specs.Calls as calls
-use Rattle.mbj_manager.specs.Calls.{Call, after_calls, called, given_back, jobs_in, jobs_submitted}
+use Rattle.mbj_manager.specs.Calls.{Call, after_calls, called, given_back, jobs_in, jobs_submitted, submitted_at}
 use Rattle.mbj_manager.specs.Inside.Settled.{IsSettled}
-use Rattle.mbj_manager.proofs.CallLaws.{entered_at, keeps, opened_next, submitted_at, written_at}
+use Rattle.mbj_manager.proofs.CallLaws.{keeps, opened_next}
 use Rattle.mbj_manager.proofs.CallsKeep.{call-settled}
 
 -- how many results a call gives back
@@ -30,31 +30,28 @@ given-at-jobs (d ∷ ds) ((p ∷ ps) ∷ left) h = refl
 given-jobs : (h : ManagerState) → (after_get_completed h).1.jobs ≡ drop (count (after_get_completed h).0) h.jobs
 given-jobs h = given-at-jobs h.owed h.machine.left h
 
-entered-jobs : (o : Option Job) (h : ManagerState) → (entered_at o h).jobs ≡ h.jobs ++ map without_packet (option_to_list o)
-entered-jobs None h = sym (append-nil h.jobs)
-entered-jobs (Some j) h = refl
+entered-jobs : (o : List Job) (h : ManagerState) → (entered_at o h).jobs ≡ h.jobs ++ map without_packet (take 1 o)
+entered-jobs [] h = sym (append-nil h.jobs)
+entered-jobs (j ∷ js) h = refl
 
 -- the jobs after a call are those from before and what it submits, without those whose results it gives back
 abbrev KeepsJobs : Call → ManagerState → Type 0
 KeepsJobs c h = (called c h).1.jobs ≡ drop (count (called c h).0) (h.jobs ++ map without_packet (jobs_in c h))
 
-submit-jobs : (o : Option Job) (h : ManagerState) → h.opened ≡ o
-    → (submitted_at o h).1.jobs ≡ drop (count (submitted_at o h).0) (h.jobs ++ map without_packet (option_to_list o))
-submit-jobs None h e = sym (append-nil h.jobs)
-submit-jobs (Some j) h e =
+submit-jobs : (o : List Job) (h : ManagerState) → h.opened ≡ o
+    → (submitted_at o h).1.jobs ≡ drop (count (submitted_at o h).0) (h.jobs ++ map without_packet (take 1 o))
+submit-jobs [] h e = sym (append-nil h.jobs)
+submit-jobs (j ∷ js) h e =
     given-jobs (entered h) ∙ ap (drop (count (after_submit h).0)) (entered-jobs h.opened h
-    ∙ ap (λ o. h.jobs ++ map without_packet (option_to_list o)) e)
-
-write-jobs : (o : Option Job) (j : Job) (h : ManagerState) → (written_at o j h).jobs ≡ h.jobs
-write-jobs None j h = refl
-write-jobs (Some old) j h = refl
+    ∙ ap (λ (o : List Job). h.jobs ++ map without_packet (take 1 o)) e)
 
 next-jobs : (h : ManagerState) → (opened_next h).jobs ≡ h.jobs
 next-jobs h = cond_both (length h.owed == CELLS) h (with_open h (lent h)) (λ (x : ManagerState). x.jobs ≡ h.jobs) (λ full. refl) (λ room. refl)
 
 keeps-jobs : (c : Call) (h : ManagerState) → KeepsJobs c h
 keeps-jobs calls.get_next h = next-jobs h ∙ sym (append-nil h.jobs)
-keeps-jobs (calls.write j) h = write-jobs h.opened j h ∙ sym (append-nil h.jobs)
+keeps-jobs (calls.get_next_burst n) h = sym (append-nil h.jobs)
+keeps-jobs (calls.write i j) h = sym (append-nil h.jobs)
 keeps-jobs calls.submit h = submit-jobs h.opened h refl
 keeps-jobs calls.get_completed h = given-jobs h ∙ ap (drop (count (after_get_completed h).0)) (sym (append-nil h.jobs))
 keeps-jobs calls.flush h =

@@ -39,3 +39,5 @@ mod CallsKeep
 mod JobLaws
 mod Entries
 mod JobSteps
+mod Turns
+mod Submissions

@@ -1,6 +1,6 @@
 -- A step of a manager's lane queues: what it comes to for the machine, for what is owed, and for what is kept.
-use Rattle.std.proofs.Common.{◌≡◌, ◌≢◌, ℕ, zero, suc, ◌+◌, ◌≤◌, ◌<◌, List, [], ◌∷◌, length, map, Option, Some, inl, inr, refl, ap, sym, ◌∙◌, subst, arith}
-use Rattle.std.specs.Prelude.{All, option_map}
+use Rattle.std.proofs.Common.{◌≡◌, ◌≢◌, ℕ, zero, suc, ◌+◌, ◌≤◌, ◌<◌, List, [], ◌∷◌, length, map, Some, inl, inr, refl, ap, sym, ◌∙◌, subst, arith}
+use Rattle.std.specs.Prelude.{All}
 use Rattle.std.proofs.lemmas.List.{length-append, length-map}
 use Rattle.mbj_types.specs.declared.done.Done.{Done}
 use Rattle.mbj_types.specs.declared.job.Job.{Job}
@@ -15,14 +15,14 @@ use Rattle.mbj_manager.specs.declared.lane.Cause.TheVariants as cause
 use Rattle.mbj_manager.specs.State.{ManagerState}
 use Rattle.mbj_manager.specs.declared.cell.Cell.{Cell}
 use Rattle.mbj_manager.specs.Inside.Added.{first_lane}
-use Rattle.mbj_manager.specs.Inside.Courses.{IsSameRing, asked, courses, job_in, number, ring_number}
+use Rattle.mbj_manager.specs.Inside.Courses.{IsSameRing, asked, courses, job_in, number, ring_number, IsOpen}
 use Rattle.mbj_manager.specs.Inside.Leaving.{finishers, numbers, others}
 use Rattle.mbj_manager.specs.Inside.Desk.{Desk, IsReady, desk, led_all, ran_at}
 use Rattle.mbj_manager.specs.Inside.LaneQueues.{desk_of, placed_in, total, with_placed}
 use Rattle.mbj_manager.specs.declared.lane_queues.LaneQueues.{LaneQueues}
 use Rattle.mbj_manager.specs.Inside.PlacedQueue.{HasRest, PlacedQueue, Waiter, led_waiter, placed_queue, numbered, numbered_queue, pair_rest, rounds_in}
 use Rattle.mbj_manager.specs.Inside.Standing.{IsInCourse, left_at}
-use Rattle.mbj_manager.specs.Inside.Held.{IsHeld, IsOpenAt, IsTied, find_in, found, held, lane_seen, lines_in, machine_by, machine_in, restored_from, waiting}
+use Rattle.mbj_manager.specs.Inside.Held.{IsHeld, IsTied, find_in, found, held, lane_seen, lines_in, machine_by, machine_in, restored_from, waiting}
 use Rattle.mbj_lane.specs.Rounds.{least}
 use Rattle.mbj_manager.proofs.BetweenCalls.{earliest-ready}
 use Rattle.mbj_manager.proofs.CourseEnds.{between-calls}
@@ -162,10 +162,10 @@ pub record IsStep (r r' : RingState Cell) (ag ag' : List ℕ) (ls ls' : LaneQueu
   pub is : held r' ag' ls' ≡ record (held r ag ls) { machine = m }
   pub kept : IsHeld r' ag' ls' capacity
 
-abbrev state : List Done → List Job → Option Job → Machine → ManagerState
+abbrev state : List Done → List Job → List Job → Machine → ManagerState
 state owed jobs opened machine = record { owed = owed; jobs = jobs; opened = opened; machine = machine }
 
-pub same-state : {a b : List Done} {i j : List Job} {o p : Option Job} {m n : Machine} → a ≡ b → i ≡ j → o ≡ p → m ≡ n
+pub same-state : {a b : List Done} {i j : List Job} {o p : List Job} {m n : Machine} → a ≡ b → i ≡ j → o ≡ p → m ≡ n
     → state a i o m ≡ state b j p n
 same-state owed jobs opened machine = rw (owed, jobs, opened, machine) refl
 
@@ -200,10 +200,10 @@ runs-first k r r' ag ag' ls ls' capacity y idle first same others-are is =
     let fits = y.fits in
     let restored = sym (ran.restored ∙ moved-restored k r r' ag ag' ls ls' d same others-are is) in
     record {
-      is = same-state (ap (map owed) restored) (ap (map asked) restored) (ap (option_map job_in) same.opened) machine;
+      is = same-state (ap (map owed) restored) (ap (map asked) restored) (ap (map job_in) same.opened) machine;
       kept = record {
         ring = same.courses;
-        is_open = subst IsOpenAt (sym same.opened) y.is_open;
+        is_open = subst (All IsOpen) (sym same.opened) y.is_open;
         within = subst IsInCourse (sym machine) (Running.idle-keeps k m (first-machine k m idle first y.within)).within;
         tied = moved-tied k r r' ag ag' ls ls' d same others-are is ran.tied;
         fits = omega (arith, ran-length cause.Flush d0, length-map ag (ring_number r));

@@ -15,7 +15,7 @@ use Rattle.mbj_stage.specs.Handing.{End, brought_back, handed_out, left_behind, 
 use Rattle.mbj_stage.proofs.StagesOf.{finished-left, stage-first, stage-packet, stage-texts}
 use Rattle.mbj_manager.specs.Machine.Stages.{Pending, in_lanes, pending, pending_at, pending_by}
 use Rattle.mbj_manager.specs.Machine.Course.{in_lanes_next}
-use Rattle.std.specs.Prelude.{flat_map, drop, replicate}
+use Rattle.std.specs.Prelude.{drop, replicate}
 
 -- ---- the packet has no part in it
 

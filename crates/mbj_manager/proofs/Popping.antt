@@ -137,7 +137,7 @@ pub record IsGiven (r : RingState Cell) (v : Cell) (ag : List ℕ) (ls : LaneQue
   pub is : held (without_first r) ag ls ≡ (after_get_completed (held r ag ls)).1
   pub kept : IsHeld (without_first r) ag ls capacity
 
-module _ (v : Cell) (vs : List Cell) (o : Option Cell) (first : ℕ) (ls : LaneQueues) (capacity : ℕ) (y : IsHeld (ring (v ∷ vs) o first) [] ls capacity)
+module _ (v : Cell) (vs : List Cell) (o : List Cell) (first : ℕ) (ls : LaneQueues) (capacity : ℕ) (y : IsHeld (ring (v ∷ vs) o first) [] ls capacity)
     (none : pending (course_in v) ≡ []) where
   abbrev r : RingState Cell
   r = ring (v ∷ vs) o first
@@ -223,7 +223,7 @@ first-none : (vs : List Cell) (v : Cell) → slice_get vs 0 ≡ Some v → slice
 first-none [] v e done = cc
 first-none (x ∷ vs) v e done = let is : x ≡ v = cc in let none : pending (course_in x) ≡ [] = cc in subst (λ (c : Cell). pending (course_in c) ≡ []) is none
 
-pops-at : (vs : List Cell) (v : Cell) (o : Option Cell) (first : ℕ) (ls : LaneQueues) (capacity : ℕ) → IsHeld (ring vs o first) [] ls capacity
+pops-at : (vs : List Cell) (v : Cell) (o : List Cell) (first : ℕ) (ls : LaneQueues) (capacity : ℕ) → IsHeld (ring vs o first) [] ls capacity
     → slice_get vs 0 ≡ Some v → pending (course_in v) ≡ [] → IsGiven (ring vs o first) v [] ls capacity
 pops-at [] v o first ls capacity y e none = cc
 pops-at (x ∷ vs) v o first ls capacity y e none =

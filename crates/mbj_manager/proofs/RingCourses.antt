@@ -1,14 +1,19 @@
 -- The courses in a ring, when the one at a place changes.
-use Rattle.std.proofs.Common.{◌≡◌, ℕ, ◌<◌, zero, suc, List, [], ◌∷◌, length, map, set, length-set, Some, None, slice_get, refl, ap, sym, ◌∙◌, subst, arith}
+use Rattle.std.proofs.Common.{◌≡◌, ℕ, ◌<◌, zero, suc, List, [], ◌∷◌, length, map, set, length-set, Some, None, slice_get, refl, ap, sym, ◌∙◌, subst, arith, drop}
 use Rattle.std.specs.Prelude.{All}
-use Rattle.std.proofs.lemmas.List.{length-map}
+use Rattle.std.proofs.lemmas.List.{length-map, map-set}
 use Rattle.std.proofs.lemmas.List.Elements.{All-head, All-set, All-tail}
 use Rattle.mbj_stage.specs.CourseState.{CourseState, stage_of}
 use Rattle.mbj_ring.specs.declared.ring.TheConstants.{CELLS}
-use Rattle.mbj_ring.specs.Ring.{RingState, IsLive, with_value_at}
+use Rattle.mbj_ring.specs.Ring.{RingState, IsLive, with_value_at, ring}
 use Rattle.mbj_manager.specs.Machine.Queues.{changed}
+use Rattle.mbj_manager.specs.State.{with_open_at}
+use Rattle.mbj_manager.specs.Inside.Held.{IsHeld, held}
+use Rattle.mbj_types.specs.declared.job.Job.{Job}
+use Rattle.mbj_manager.specs.declared.lane_queues.LaneQueues.{LaneQueues}
 use Rattle.mbj_manager.specs.declared.cell.Cell.{Cell}
-use Rattle.mbj_manager.specs.Inside.Courses.{AreCourses, IsGoing, IsSameRing, KeepsSteps, course_in, courses, first_stage, ring_number}
+use Rattle.mbj_manager.specs.declared.cell.Cell.TheVariants as cell
+use Rattle.mbj_manager.specs.Inside.Courses.{AreCourses, IsGoing, IsSameRing, KeepsSteps, course_in, courses, first_stage, ring_number, IsOpen, job_in}
 use Rattle.mbj_manager.specs.Inside.Leaving.{At}
 
 pub at-below : {A : Type 0} (P : A → Type 0) (n : ℕ) (xs : List A) → At P n xs → n < length xs
@@ -72,3 +77,45 @@ first-is (x ∷ vs) v e = let is : x ≡ v = cc in ap (λ y. Some (stage_of (cou
 pub first-none : (vs : List Cell) → slice_get vs 0 ≡ None → first_stage (map course_in vs) ≡ None
 first-none [] e = refl
 first-none (x ∷ vs) e = cc
+
+-- ---- the open cells
+
+all-at : {A : Type 0} (P : A → Type 0) (n : ℕ) (xs : List A) (x : A) → slice_get xs n ≡ Some x → All P xs → P x
+all-at P n [] x e a = cc
+all-at P zero (y ∷ xs) x e a = let is : y ≡ x = cc in subst P is (All-head P y xs a)
+all-at P (suc n) (y ∷ xs) x e a = all-at P n xs x e (All-tail P y xs a)
+
+pub open-at : (n : ℕ) (vs : List Cell) (v : Cell) → slice_get vs n ≡ Some v → All IsOpen vs → IsOpen v
+open-at n vs v e a = all-at IsOpen n vs v e a
+
+-- the job in an open cell
+pub job-at : (n : ℕ) (vs : List Cell) (v : Cell) (j : Job) → slice_get vs n ≡ Some v → cell.Open j ≡ v → slice_get (map job_in vs) n ≡ Some j
+job-at n [] v j e is = cc
+job-at zero (x ∷ vs) v j e is = let same : x ≡ v = cc in ap (λ (c : Cell). Some (job_in c)) (same ∙ sym is)
+job-at (suc n) (x ∷ vs) v j e is = job-at n vs v j e is
+
+-- the first open cell and the others
+pub first-open : (vs : List Cell) (v : Cell) → slice_get vs 0 ≡ Some v → vs ≡ v ∷ drop 1 vs
+first-open [] v e = cc
+first-open (x ∷ vs) v e = let is : x ≡ v = cc in ap (λ y. y ∷ vs) is
+
+pub none-open : (vs : List Cell) → slice_get vs 0 ≡ None → ¬ (0 < length (map job_in vs))
+none-open [] e = λ some. absurd (omega (arith, some))
+none-open (x ∷ vs) e = cc
+
+-- an open job is written over
+pub written-open : (r : RingState Cell) (n : ℕ) (j : Job) (ag : List ℕ) (ls : LaneQueues)
+    → held (ring r.values (set r.opened n (cell.Open j)) r.first) ag ls ≡ with_open_at (held r ag ls) n j
+written-open r n j ag ls = ap (λ (js : List Job). record (held r ag ls) { opened = js }) (map-set job_in r.opened n (cell.Open j))
+
+-- a ring with other open cells
+pub open-held : (r : RingState Cell) (vs : List Cell) (ag : List ℕ) (ls : LaneQueues) (capacity : ℕ) → All IsOpen vs → IsHeld r ag ls capacity
+    → IsHeld (ring r.values vs r.first) ag ls capacity
+open-held r vs ag ls capacity are y = record {
+  ring = record { going = y.ring.going; steps = y.ring.steps; few = y.ring.few; first = y.ring.first };
+  is_open = are;
+  within = y.within;
+  tied = y.tied;
+  fits = y.fits;
+  room = y.room;
+}

@@ -1,31 +1,38 @@
 -- The calls of a manager one after another, and the law of what they give back.
-use Rattle.std.specs.Prelude.{◌≡◌, ◌==◌, List, [], ◌∷◌, ◌++◌, drop, length, map, Option, None, option_map, option_to_list, unwrap_or, if◌then◌else◌}
+use Rattle.std.specs.Prelude.{◌≡◌, ◌==◌, List, [], ◌∷◌, ◌++◌, drop, length, map, Option, None, option_to_list, if◌then◌else◌, Some, take, ℕ}
 use Rattle.mbj_types.specs.declared.job.Job.{Job}
 use Rattle.mbj_types.specs.declared.done.Done.{Done}
 use Rattle.mbj_types.specs.Result.{result_of}
 use Rattle.mbj_ring.specs.declared.ring.TheConstants.{CELLS}
 use Rattle.mbj_stage.specs.Handing.{without_packet}
-use Rattle.mbj_manager.specs.State.{ManagerState, new_manager, lent, with_open, after_get_completed, after_submit, after_flush}
+use Rattle.mbj_manager.specs.State.{ManagerState, new_manager, lent, with_open, after_get_completed, after_submit, after_flush, after_get_next_burst, with_open_at}
 
--- a call, or a write of the job that is lent
+-- a call, or a write of an open job
 pub data Call : Type 0 where
   get_next : Call
-  write : Job → Call
+  get_next_burst : ℕ → Call
+  write : ℕ → Job → Call
   submit : Call
   get_completed : Call
   flush : Call
 
--- what a call gives back, and the state after it: only a job that is lent is written, and only an open one is submitted
+-- only an open job is submitted
+abbrev pub submitted_at : List Job → ManagerState → Option Done × ManagerState
+submitted_at [] h = (None, h)
+submitted_at (j ∷ js) h = after_submit h
+
+-- what a call gives back, and the state after it: only an open job is written
 abbrev pub called : Call → ManagerState → Option Done × ManagerState
 called get_next h = (None, if length h.owed == CELLS then h else with_open h (lent h))
-called (write j) h = (None, unwrap_or (option_map (λ _. with_open h j) h.opened) h)
-called submit h = unwrap_or (option_map (λ _. after_submit h) h.opened) (None, h)
+called (get_next_burst n) h = (None, after_get_next_burst n h)
+called (write i j) h = (None, with_open_at h i j)
+called submit h = submitted_at h.opened h
 called get_completed h = after_get_completed h
 called flush h = after_flush h
 
 -- the jobs that a call submits
 abbrev pub jobs_in : Call → ManagerState → List Job
-jobs_in submit h = option_to_list h.opened
+jobs_in submit h = take 1 h.opened
 jobs_in _ h = []
 
 -- what the calls give back, in order
@@ -41,6 +48,11 @@ jobs_submitted (c ∷ cs) h = jobs_in c h ++ jobs_submitted cs (called c h).1
 unfoldable pub after_calls : List Call → ManagerState → ManagerState
 after_calls [] h = h
 after_calls (c ∷ cs) h = after_calls cs (called c h).1
+
+-- flushes one after another, each of which gives the next of these results back, lead from h to the end
+abbrev pub FlushesEach : List Done → ManagerState → ManagerState → Type 0
+FlushesEach [] h end = end ≡ h
+FlushesEach (d ∷ ds) h end = ((after_flush h).0 ≡ Some d) × FlushesEach ds (after_flush h).1 end
 
 -- what is given back, and then what is still owed, are the results of what was submitted, each once and in order
 abbrev pub GivesInOrder : List Call → Type 0

@@ -1,5 +1,5 @@
 -- What a contract sees of a manager, and what each call makes of it.
-use Rattle.std.specs.Prelude.{◌≡◌, ◌≢◌, ◌==◌, ◌-◌, List, [], ◌∷◌, ◌++◌, drop, length, map, Option, Some, None, option_map, slice_get, unwrap_or, if◌then◌else◌}
+use Rattle.std.specs.Prelude.{◌≡◌, ◌≢◌, ◌==◌, ◌-◌, List, [], ◌∷◌, ◌++◌, drop, length, map, Option, Some, None, slice_get, if◌then◌else◌, min, replicate, set, slice_index_or, ℕ}
 use Rattle.mbj_types.specs.declared.job.Job.{Job}
 use Rattle.mbj_types.specs.declared.done.Done.{Done}
 use Rattle.mbj_types.specs.Blank.{blank}
@@ -17,24 +17,38 @@ pub record ManagerState : Type 0 where
   pub owed : List Done
   -- what is asked for each of them: its job without its packet
   pub jobs : List Job
-  -- the job that is being filled
-  pub opened : Option Job
+  -- the jobs that are being filled, the first opened first
+  pub opened : List Job
   -- where the submitted jobs stand
   pub machine : Machine
 
 -- a manager with no job and no open one, and with lanes in which no job waits and nothing ran
 abbrev pub new_manager : ManagerState
-new_manager = record { owed = []; jobs = []; opened = None; machine = record { left = []; lanes = λ k. idle_queue; agenda = []; flush_runs = 0 } }
+new_manager = record { owed = []; jobs = []; opened = []; machine = record { left = []; lanes = λ k. idle_queue; agenda = []; flush_runs = 0 } }
 
 -- ---- get_next
 
--- the job that is lent: the open one, or a blank one where none is open
+-- the job that is lent: the first open one, or a blank one where none is open
 abbrev pub lent : ManagerState → Job
-lent h = unwrap_or h.opened blank
+lent h = slice_index_or h.opened 0 blank
 
--- what is written there is the open job
+-- what is written there is the first open job; the others stay
 abbrev pub with_open : ManagerState → Job → ManagerState
-with_open h j = record h { opened = Some j }
+with_open h j = record h { opened = j ∷ drop 1 h.opened }
+
+-- what is written into open cell i
+abbrev pub with_open_at : ManagerState → ℕ → Job → ManagerState
+with_open_at h i j = record h { opened = set h.opened i j }
+
+-- ---- get_next_burst
+
+-- n more blank jobs are open, behind the others
+abbrev pub with_blanks : ℕ → ManagerState → ManagerState
+with_blanks n h = record h { opened = h.opened ++ replicate n blank }
+
+-- blank jobs are opened until n are open, or a cell is left for no more
+abbrev pub after_get_next_burst : ℕ → ManagerState → ManagerState
+after_get_next_burst n h = with_blanks (min n (CELLS - length h.owed) - length h.opened) h
 
 -- ---- giving back
 
@@ -58,21 +72,25 @@ pub record IsEarliestFinished (h : ManagerState) : Type 0 where
 
 -- ---- submit
 
--- the job goes last among those that are submitted, and the course is followed from it
-abbrev pub with_job : Job → ManagerState → ManagerState
-with_job j h = record {
+-- the job goes last among those that are submitted, and the course is followed from it; the jobs js stay open
+abbrev pub with_job : Job → List Job → ManagerState → ManagerState
+with_job j js h = record {
   owed = h.owed ++ result_of j ∷ [];
   jobs = h.jobs ++ without_packet j ∷ [];
-  opened = None;
+  opened = js;
   machine = course cause.Submit (record h.machine {
     left = h.machine.left ++ pending (begun j) ∷ [];
     agenda = length h.owed ∷ [];
   });
 }
 
--- the open job is submitted as it is
+-- the first open job is submitted as it is
+abbrev pub entered_at : List Job → ManagerState → ManagerState
+entered_at [] h = h
+entered_at (j ∷ js) h = with_job j js h
+
 abbrev pub entered : ManagerState → ManagerState
-entered h = unwrap_or (option_map (λ j. with_job j h) h.opened) h
+entered h = entered_at h.opened h
 
 abbrev pub after_submit : ManagerState → Option Done × ManagerState
 after_submit h = after_get_completed (entered h)

@@ -4,6 +4,7 @@
 
 mod agenda;
 mod between;
+mod bursts;
 mod calls;
 mod cell;
 mod counts;

@@ -1,4 +1,4 @@
-ghost use Rattle.std.specs.Prelude.{◌≡◌, ◌↔◌, ◌*◌, ◌%◌, ◌<◌, ◌≤◌, ◌∷◌, ◌++◌, [], None, IfOk, OnOk, OnErr, IsSome, IsTrue, length, map, option_to_list};
+ghost use Rattle.std.specs.Prelude.{◌≡◌, ◌↔◌, ◌*◌, ◌%◌, ◌<◌, ◌≤◌, ◌∷◌, ◌++◌, [], None, IfOk, OnOk, OnErr, IsSome, IsTrue, length, map, option_to_list, Some, drop, slice_get, take, ◌+◌};
 ghost use Rattle.std.specs.Bool.{OnFalse};
 ghost use Rattle.std.specs.Borrow.{sem};
 ghost use Rattle.mbj_types.specs.Result.{result_of};
@@ -8,7 +8,7 @@ ghost use Rattle.mbj_lane.specs.Rounds.{end_of};
 ghost use Rattle.mbj_manager.specs.Machine.Queues.{count_end, queue_for, rest_of};
 ghost use Rattle.mbj_manager.specs.Entries.{AreEntriesOf};
 ghost use Rattle.mbj_manager.specs.Machine.Counts.{RisesUpTo};
-ghost use Rattle.mbj_manager.specs.State.{IsEarliestFinished, entered, after_flush, after_get_completed, lent, new_manager, after_making_room, after_submit, with_open};
+ghost use Rattle.mbj_manager.specs.State.{IsEarliestFinished, entered, after_flush, after_get_completed, lent, new_manager, after_making_room, after_submit, with_open, after_get_next_burst};
 ghost use Rattle.mbj_manager.specs.Lending.{LendsNext, LendsOpen};
 
 use crate::lane::Cause;
@@ -60,8 +60,8 @@ impl Manager {
         Ok(Manager { works, alloc })
     }
 
-    /// Lends the open job, to be filled: a blank one where none was open, else that one as it was written. What is
-    /// written there is the open job.
+    /// Lends the first open job, to be filled: a blank one where none was open, else that one as it was written. What is
+    /// written there is the first open job.
     ///
     /// Answers `RingFull` exactly where `CELLS` jobs are submitted and not given back; nothing changes then.
     pub fn get_next(&mut self) -> Result<&mut Job, RingFull>
@@ -73,8 +73,8 @@ impl Manager {
         if self.is_full() {
             return Err(RingFull);
         }
-        self.works.open_cell(self.alloc);
-        Ok(self.open_job())
+        self.works.open_first(self.alloc);
+        Ok(self.burst_mut(0))
     }
 
     /// Whether `CELLS` jobs are submitted and not given back, so that `get_next` has no cell for another one.
@@ -98,7 +98,7 @@ impl Manager {
         if self.is_full() { self.flush() } else { None }
     }
 
-    /// Puts a job into the next cell, where it is the open job. It takes no memory.
+    /// Puts a job into the next cell, where it is the first open job. It takes no memory.
     pub fn put_next(&mut self, job: Job)
         requires { length self.old.owed < CELLS }
         ensures { self.new ≡ with_open self.old job }
@@ -109,32 +109,43 @@ impl Manager {
         }
     }
 
-    fn open_job(&mut self) -> &mut Job
-        requires { IsSome self.old.opened }
-        ensures* lends { sem 𝓛 (LendsOpen self.entry result) }
-        ensures value { result.now ≡ lent self.old }
+    /// Opens blank cells until `n` are open, or there is no cell left, and closes none. Answers how many are open.
+    pub fn get_next_burst(&mut self, n: u32) -> u32
+        ensures state { self.new ≡ after_get_next_burst n self.old }
+        ensures size { result ≡ length self.new.opened }
+        ensures within { length self.new.owed + result ≤ CELLS }
     {
-        self.works.open_job()
+        self.works.open_burst(n, self.alloc)
     }
 
-    /// Submits the open job as it is: the results that are owed get its result, its stages are done, and then the earliest
+    /// Lends the job in open cell `i`, the first opened being 0, to be filled. What is written there is that open job.
+    pub fn burst_mut(&mut self, i: u32) -> &mut Job
+        requires { i < length self.old.opened }
+        ensures* lends { sem 𝓛 (LendsOpen self.entry i result) }
+        ensures value { slice_get self.old.opened i ≡ Some result.now }
+    {
+        self.works.open_job(i)
+    }
+
+    /// Submits the first open job as it is: the results that are owed get its result, its stages are done, and then the earliest
     /// job is given back where it is finished.
     ///
     /// Answers `None` exactly where, after that, the earliest job isn't finished.
     pub fn submit(&mut self) -> Option<Done>
-        requires is_open { IsSome self.old.opened }
+        requires is_open { 0 < length self.old.opened }
         ensures result { result ≡ (after_submit self.old).0 }
         ensures state { self.new ≡ (after_submit self.old).1 }
         ensures none { (result ≡ None) ↔ ¬ IsEarliestFinished (entered self.old) }
         ensures some { IsEarliestFinished (entered self.old) → IsSome result }
         ensures order { option_to_list result ++ self.new.owed
-            ≡ self.old.owed ++ map result_of (option_to_list self.old.opened) }
+            ≡ self.old.owed ++ map result_of (take 1 self.old.opened) }
+        ensures others { self.new.opened ≡ drop 1 self.old.opened }
     {
         self.enter();
         self.get_completed()
     }
 
-    /// Submits a job: it goes into the next cell, in the place of an open job, and is submitted as it is. It takes no memory.
+    /// Submits a job: it goes into the next cell, in the place of the first open job, and is submitted as it is. It takes no memory.
     ///
     /// Answers `None` exactly where, after that, the earliest job isn't finished.
     pub fn submit_job(&mut self, job: Job) -> Option<Done>
@@ -148,9 +159,9 @@ impl Manager {
         self.submit()
     }
 
-    /// The open job goes last among those that are submitted, and the course is followed from it.
+    /// The first open job goes last among those that are submitted, and the course is followed from it.
     fn enter(&mut self)
-        requires { IsSome self.old.opened }
+        requires { 0 < length self.old.opened }
         ensures { self.new ≡ entered self.old }
     {
         self.works.add(self.alloc);
@@ -171,14 +182,15 @@ impl Manager {
         self.works.give()
     }
 
-    /// Finishes the earliest job, and gives it back. An open cell stays as it is. Lane queues run twice at most for each job that
+    /// Finishes the earliest job, and gives it back. Open cells stay as they are. Lane queues run twice at most for each job that
     /// is submitted and not given back.
     ///
-    /// Answers `None` exactly where no job is submitted and not given back.
+    /// Answers `None` exactly where no job is submitted and not given back; nothing changes then.
     pub fn flush(&mut self) -> Option<Done>
         ensures result { result ≡ (after_flush self.old).0 }
         ensures state { self.new ≡ (after_flush self.old).1 }
         ensures none { (result ≡ None) ↔ (self.old.owed ≡ []) }
+        ensures none_stays { result ≡ None → self.new ≡ self.old }
         ensures open_stays { self.new.opened ≡ self.old.opened }
         ensures runs { RisesUpTo (2 * length self.old.owed) self.old.machine.flush_runs self.new.machine.flush_runs }
         ensures order { option_to_list result ++ self.new.owed ≡ self.old.owed }

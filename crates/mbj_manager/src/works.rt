@@ -1,5 +1,5 @@
 ghost use Rattle.mbj_types.specs.Kinds.{lanes_of};
-ghost use Rattle.std.specs.Prelude.{◌≡◌, ◌≢◌, ◌↔◌, ◌*◌, ◌%◌, ◌<◌, ◌≤◌, [], ◌∷◌, ◌++◌, length, map, Option, Some, None, IfOk, IsSome, IsTrue, slice_get, option_map};
+ghost use Rattle.std.specs.Prelude.{◌≡◌, ◌≢◌, ◌↔◌, ◌*◌, ◌%◌, ◌<◌, ◌≤◌, [], ◌∷◌, ◌++◌, length, map, Option, Some, None, ◌+◌, IfOk, IsTrue, slice_get};
 ghost use Rattle.std.specs.Borrow.{sem};
 ghost use Rattle.mbj_types.specs.Result.{result_of};
 ghost use Rattle.mbj_ring.specs.declared.ring.TheConstants.{CELLS};
@@ -10,7 +10,7 @@ ghost use Rattle.mbj_lane.specs.Rounds.{end_of};
 ghost use Rattle.mbj_manager.specs.Machine.Queues.{count_end, queue_for, rest_of, run_within};
 ghost use Rattle.mbj_manager.specs.Entries.{AreEntriesOf};
 ghost use Rattle.mbj_manager.specs.Machine.Course.{course, flushed, stages_left, stepped};
-ghost use Rattle.mbj_manager.specs.State.{after_get_completed, lent, new_manager, with_open};
+ghost use Rattle.mbj_manager.specs.State.{after_get_completed, lent, new_manager, with_open, after_get_next_burst, with_blanks};
 ghost use Rattle.mbj_manager.specs.Lending.{LendsOpenJob};
 ghost use Rattle.mbj_manager.specs.Inside.Added.{added, first_lane};
 ghost use Rattle.mbj_manager.specs.Inside.Courses.{AreCourses, courses, first_stage};
@@ -87,7 +87,7 @@ impl Works {
         })
     }
 
-    /// How many jobs there are, and not the one that is being filled.
+    /// How many jobs there are, and not those that are being filled.
     pub(crate) fn len(&self) -> u32
         ensures size { result ≡ length self.now.owed }
         ensures within { result ≤ CELLS }
@@ -95,31 +95,57 @@ impl Works {
         self.ring.len()
     }
 
-    /// Opens a cell with a blank job, where none is open.
+    /// How many jobs are being filled.
+    pub(crate) fn open_len(&self) -> u32
+        ensures size { result ≡ length self.now.opened }
+        ensures within { length self.now.owed + result ≤ CELLS }
+    {
+        self.ring.open_len()
+    }
+
+    /// Opens a cell with a blank job, behind those that are open.
     pub(crate) fn open_cell(&mut self, alloc: Global)
+        requires { length self.old.owed + length self.old.opened < CELLS }
+        ensures { self.new ≡ with_blanks 1 self.old }
+    {
+        self.ring.open_cell(Cell::Open(Job::blank(alloc)));
+    }
+
+    /// Opens a cell with a blank job, where none is open.
+    pub(crate) fn open_first(&mut self, alloc: Global)
         requires { length self.old.owed < CELLS }
         ensures { self.new ≡ with_open self.old (lent self.old) }
     {
-        if !self.ring.has_open() {
-            self.ring.open_cell(Cell::Open(Job::blank(alloc)));
+        if self.open_len() == 0 {
+            self.open_cell(alloc);
         }
     }
 
-    /// Lends the job that is being filled.
-    pub(crate) fn open_job(&mut self) -> &mut Job
-        requires { IsSome self.old.opened }
-        ensures* lends { sem 𝓛 (LendsOpenJob self.entry result) }
-        ensures value { result.now ≡ lent self.old }
+    /// Opens cells with blank jobs until `n` are open, or there is no cell left. Answers how many are open.
+    pub(crate) fn open_burst(&mut self, n: u32, alloc: Global) -> u32
+        ensures state { self.new ≡ after_get_next_burst n self.old }
+        ensures size { result ≡ length self.new.opened }
+        ensures within { length self.new.owed + result ≤ CELLS }
     {
-        match self.ring.open_mut() {
-            Some(cell) => cell.job_mut(),
-            None => unreachable!(),
+        let wanted = n.min(CELLS - self.len());
+        'opening: while self.open_len() < wanted {
+            self.open_cell(alloc);
         }
+        self.open_len()
     }
 
-    /// The job that was filled goes last among those that are submitted, and stands in the agenda.
+    /// Lends the job in open cell `index`, the first opened being 0.
+    pub(crate) fn open_job(&mut self, index: u32) -> &mut Job
+        requires { index < length self.old.opened }
+        ensures* lends { sem 𝓛 (LendsOpenJob self.entry index result) }
+        ensures value { slice_get self.old.opened index ≡ Some result.now }
+    {
+        self.ring.open_at(index).job_mut()
+    }
+
+    /// The first job that was filled goes last among those that are submitted, and stands in the agenda.
     pub(crate) fn add(&mut self, alloc: Global)
-        requires some { IsSome self.old.opened }
+        requires some { 0 < length self.old.opened }
         requires idle { self.old.machine.agenda ≡ [] }
         ensures { self.new ≡ added self.old.opened self.old }
     {

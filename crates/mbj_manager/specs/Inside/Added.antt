@@ -8,13 +8,13 @@ use Rattle.mbj_stage.specs.Handing.{without_packet}
 use Rattle.mbj_manager.specs.Machine.Stages.{Pending, at_once, in_lanes, pending}
 use Rattle.mbj_manager.specs.State.{ManagerState}
 
--- the job that was open goes last, and stands in the agenda
-abbrev pub added : Option Job → ManagerState → ManagerState
-added None h = h
-added (Some j) h = record {
+-- the first job that was open goes last, and stands in the agenda
+abbrev pub added : List Job → ManagerState → ManagerState
+added [] h = h
+added (j ∷ js) h = record {
   owed = h.owed ++ result_of j ∷ [];
   jobs = h.jobs ++ without_packet j ∷ [];
-  opened = None;
+  opened = js;
   machine = record h.machine { left = h.machine.left ++ pending (begun j) ∷ []; agenda = length h.owed ∷ [] };
 }
 

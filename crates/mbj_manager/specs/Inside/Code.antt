@@ -1,5 +1,5 @@
 -- The code of a manager's state, by which proofs tell states apart: it is stored with its lanes in the order of their kinds.
-use Rattle.std.specs.Prelude.{◌≡◌, ℕ, List, Option, refl, map, slice_index_or}
+use Rattle.std.specs.Prelude.{◌≡◌, ℕ, List, refl, map, slice_index_or}
 use Rattle.std.specs.Coded.{Coded, code_by}
 use mathlib.Core.Path.{fun_ext, ap}
 use Rattle.mbj_types.specs.declared.job.Job.{Job}
@@ -25,7 +25,7 @@ listed lanes = told idle_queue lanes
 
 -- a state with its lanes as a list, field by field
 abbrev pub Stored : Type 0
-Stored = List Done × (List Job × (Option Job × (List (List Pending) × (List Queue × (List ℕ × ℕ)))))
+Stored = List Done × (List Job × (List Job × (List (List Pending) × (List Queue × (List ℕ × ℕ)))))
 
 abbrev stored : ManagerState → Stored
 stored h = (h.owed, (h.jobs, (h.opened, (h.machine.left, (map h.machine.lanes all_kinds, (h.machine.agenda, h.machine.flush_runs))))))

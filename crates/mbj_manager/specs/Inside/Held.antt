@@ -1,5 +1,5 @@
 -- How ring, agenda and lane queues hold a manager's state.
-use Rattle.std.specs.Prelude.{◌≡◌, ℕ, ◌+◌, ◌-◌, ◌<◌, ◌≤◌, ◌==◌, suc, List, [], ◌∷◌, length, map, sum_by, All, Option, Some, None, option_map, if◌then◌else◌}
+use Rattle.std.specs.Prelude.{◌≡◌, ℕ, ◌+◌, ◌-◌, ◌<◌, ◌≤◌, ◌==◌, suc, List, [], ◌∷◌, length, map, sum_by, All, Option, Some, None, if◌then◌else◌}
 use Rattle.mbj_types.specs.Kinds.{all_kinds, lanes_of}
 use Rattle.mbj_types.specs.declared.kind.Kind.{Kind}
 use Rattle.mbj_ring.specs.Ring.{RingState}
@@ -79,13 +79,9 @@ abbrev pub held : RingState Cell → List ℕ → LaneQueues → ManagerState
 held r agenda ls = record {
   owed = map owed (restored_in r ls);
   jobs = map asked (restored_in r ls);
-  opened = option_map job_in r.opened;
+  opened = map job_in r.opened;
   machine = machine_in r agenda ls;
 }
-
-abbrev pub IsOpenAt : Option Cell → Type 0
-IsOpenAt None = Unit {0}
-IsOpenAt (Some c) = IsOpen c
 
 abbrev pub IsHere : CourseState → Type 0
 IsHere c = c.out ≡ None
@@ -104,7 +100,7 @@ agenda_room = sum_by (λ k. lanes_of k - 1) all_kinds + 1
 -- what the fields keep
 pub record IsHeld (r : RingState Cell) (agenda : List ℕ) (ls : LaneQueues) (capacity : ℕ) : Type 0 where
   pub ring : AreCourses r
-  pub is_open : IsOpenAt r.opened
+  pub is_open : All IsOpen r.opened
   pub within : IsInCourse (machine_in r agenda ls)
   pub tied : IsTied (courses r) (map (ring_number r) agenda) (lines_in r ls)
   pub fits : length agenda + total ls ≤ agenda_room

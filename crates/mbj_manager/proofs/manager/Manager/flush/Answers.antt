@@ -6,8 +6,8 @@ use Rattle.mbj_manager.specs.Machine.Course.{flushed}
 use Rattle.mbj_manager.specs.State.{ManagerState, after_get_completed, given_at}
 use Rattle.mbj_manager.specs.Machine.Counts.{RisesUpTo}
 use Rattle.mbj_manager.specs.Inside.Settled.{IsSettled}
-use Rattle.mbj_manager.proofs.CallLaws.{given-order}
-use Rattle.mbj_manager.proofs.CallsKeep.{earliest-given, few-runs, flush-settled, given-opened, given-settled}
+use Rattle.mbj_manager.proofs.CallLaws.{given-opened, given-order}
+use Rattle.mbj_manager.proofs.CallsKeep.{earliest-given, few-runs, flush-none, flush-settled, given-settled}
 use Rattle.mbj_manager.proofs.manager.Manager.flush.Goals as goal
 
 not-some : (o : Option Done) → o ≡ None → IsSome o → ⊥
@@ -62,3 +62,13 @@ returns-clause-runs c =
     let is = c.give.ensures.state ∙ ap (λ (h : ManagerState). (after_get_completed h).1) c.flush_first.ensures.flushed in
     subst (λ (h : ManagerState). RisesUpTo (2 * length h.owed) h.machine.flush_runs c.give.new.self.machine.flush_runs) c.self.view_is
     (subst (λ (h : ManagerState). RisesUpTo (2 * length w.owed) w.machine.flush_runs h.machine.flush_runs) (sym is) (few-runs w c.self.invariant))
+
+pub returns-clause-none_stays : goal.returns-clause-none_stays
+returns-clause-none_stays c none =
+    let w = c.self.inside.works in
+    let h = c.flush_first.new.self in
+    let owes : c.args.self.now.owed ≡ [] = (returns-clause-none c).0 none in
+    let same : h.owed ≡ [] = ap (λ (h : ManagerState). h.owed) (at-flushed c) ∙ owes in
+    let was : w.owed ≡ [] = ap (λ (h : ManagerState). h.owed) c.self.view_is ∙ owes in
+    c.give.ensures.state ∙ ap (λ (ds : List Done). (given_at ds h.machine.left h).1) same
+    ∙ c.flush_first.ensures.flushed ∙ flush-none w c.self.invariant was ∙ c.self.view_is

@@ -3,7 +3,7 @@ use Rattle.std.proofs.Common.{◌≡◌, ◌↔◌, ◌++◌, ◌∙◌, Option,
 use Rattle.std.specs.Prelude.{IsSome, option_to_list}
 use Rattle.mbj_types.specs.declared.done.Done.{Done}
 use Rattle.mbj_manager.specs.State.{ManagerState, IsEarliestFinished, after_get_completed}
-use Rattle.mbj_manager.proofs.CallLaws.{submitted-order}
+use Rattle.mbj_manager.proofs.CallLaws.{submitted-opened, submitted-order}
 use Rattle.mbj_manager.proofs.manager.Manager.submit.Goals as goal
 
 pub returns-clause-result : goal.returns-clause-result
@@ -24,3 +24,6 @@ pub returns-clause-order : goal.returns-clause-order
 returns-clause-order c =
     ap₂ (λ (o : Option Done) (h : ManagerState). option_to_list o ++ h.owed) (returns-clause-result c) (returns-clause-state c)
     ∙ submitted-order c.args.self.now
+
+pub returns-clause-others : goal.returns-clause-others
+returns-clause-others c = ap (λ (h : ManagerState). h.opened) (returns-clause-state c) ∙ submitted-opened c.args.self.now

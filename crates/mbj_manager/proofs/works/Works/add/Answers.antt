@@ -1,15 +1,16 @@
--- The job that was open goes last, and stands in the agenda.
-use Rattle.std.proofs.Common.{◌≡◌, ◌<◌, ◌∙◌, ℕ, List, [], ◌∷◌, length, length-append, Option, IsSome, option_map, false, true, map, vec_capacity, refl, ap, sym, subst, arith}
+-- The first job that was open goes last, and stands in the agenda.
+use Rattle.std.proofs.Common.{◌≡◌, ◌<◌, ◌∙◌, ℕ, List, [], drop, length, length-append, length-set, map, set, vec_capacity, ap, sym, subst, arith}
 use Rattle.std.specs.Option.{option_copied_mut}
 use Rattle.std.proofs.lemmas.List.{length-map}
 use Rattle.mbj_ring.specs.declared.ring.TheConstants.{CELLS}
 use Rattle.mbj_ring.specs.Ring.{RingState}
 use Rattle.mbj_manager.specs.State.{ManagerState}
 use Rattle.mbj_manager.specs.declared.cell.Cell.{Cell}
-use Rattle.mbj_manager.specs.Inside.Courses.{job_in, ring_number}
+use Rattle.mbj_manager.specs.Inside.Courses.{ring_number}
 use Rattle.mbj_manager.specs.Inside.Added.{added}
-use Rattle.mbj_manager.specs.Inside.Held.{IsOpenAt, held}
-use Rattle.mbj_manager.proofs.Adding.{IsAdded, adds, one_more}
+use Rattle.mbj_manager.specs.Inside.Held.{held}
+use Rattle.mbj_manager.proofs.Adding.{IsAdded, adds, commit-one, one_more}
+use Rattle.mbj_manager.proofs.RingCourses.{first-open, none-open, open-at}
 use Rattle.mbj_manager.proofs.works.Works.add.Goals as goal
 
 is-added : (c : goal.After-push)
@@ -21,25 +22,33 @@ is-added c =
     let capacity = vec_capacity w.agenda.places in
     let idle = subst (λ (h : ManagerState). h.machine.agenda ≡ []) (sym c.self.view_is) c.requires.idle in
     let room : length r.values < CELLS = omega (arith, c.if-prove.false, c.len.ensures.len) in
-    subst (λ (x : RingState Cell). IsAdded r x w.agenda.places.items c.push.new.self.places.items w.lists capacity) (sym c.commit-place.ensures.values)
-    (subst (λ (ag : List ℕ). IsAdded r (one_more r c.begin.new.self) w.agenda.places.items ag w.lists capacity) (sym c.push.ensures.places)
-    (adds r c.in-Some.cell.now c.begin.new.self c.commit-place.result w.agenda.places.items w.lists capacity c.self.invariant idle
-    (sym c.open_mut.ensures.value ∙ ap option_copied_mut c.in-Some.is) c.begin.ensures room c.commit-place.ensures.place))
+    let first = first-open r.opened c.in-Some.cell.now (sym c.open_mut.ensures.value ∙ ap option_copied_mut c.in-Some.is) in
+    subst (λ (x : RingState Cell). IsAdded r x w.agenda.places.items c.push.new.self.places.items w.lists capacity)
+    (sym (c.commit-place.ensures.values ∙ commit-one r r.opened c.in-Some.cell.now c.begin.new.self first))
+    (subst (λ (ag : List ℕ). IsAdded r (one_more r c.begin.new.self (drop 1 r.opened)) w.agenda.places.items ag w.lists capacity) (sym c.push.ensures.places)
+    (adds r c.in-Some.cell.now c.begin.new.self (drop 1 r.opened) c.commit-place.result w.agenda.places.items w.lists capacity c.self.invariant idle
+    first c.begin.ensures room c.commit-place.ensures.place))
 
 pub begin-requires : goal.begin-requires
-begin-requires c = subst IsOpenAt (sym c.open_mut.follows ∙ ap option_copied_mut c.in-Some.is) c.self.invariant.is_open
+begin-requires c =
+    open-at 0 c.self.inside.ring.opened c.in-Some.cell.now (sym c.open_mut.ensures.value ∙ ap option_copied_mut c.in-Some.is) c.self.invariant.is_open
 
 pub unreachable-requires : goal.unreachable-requires
 unreachable-requires c =
-    let none : false ≡ true = subst (λ (o : Option Cell). IsSome (option_map job_in o)) (sym c.open_mut.follows ∙ ap option_copied_mut c.in-None.is)
-    (subst (λ (h : ManagerState). IsSome h.opened) (sym c.self.view_is) c.requires.some) in
-    cc
+    none-open c.self.inside.ring.opened (sym c.open_mut.ensures.value ∙ ap option_copied_mut c.in-None.is)
+    (subst (λ (h : ManagerState). 0 < length h.opened) (sym c.self.view_is) c.requires.some)
 
 pub prove-unreachable-requires : goal.prove-unreachable-requires
-prove-unreachable-requires c = omega (arith, length-append c.self.inside.ring.values (c.begin.new.self ∷ []), c.len.ensures.len, c.len.ensures.within)
+prove-unreachable-requires c =
+    let r = c.self.inside.ring in
+    let first = first-open r.opened c.in-Some.cell.now (sym c.open_mut.ensures.value ∙ ap option_copied_mut c.in-Some.is) in
+    omega (arith, length-append r.values (set r.opened 0 c.begin.new.self), length-set r.opened 0 c.begin.new.self, ap length first, c.len.ensures.len, c.len.ensures.within.0)
 
 pub commit-place-requires : goal.commit-place-requires
-commit-place-requires c = record { is_open = refl }
+commit-place-requires c =
+    let r = c.self.inside.ring in
+    let first = first-open r.opened c.in-Some.cell.now (sym c.open_mut.ensures.value ∙ ap option_copied_mut c.in-Some.is) in
+    record { is_open = omega (arith, length-set r.opened 0 c.begin.new.self, ap length first) }
 
 pub push-requires : goal.push-requires
 push-requires c =

@@ -1,6 +1,5 @@
 -- The lane queue that the fields hold is the machine's, and its entries are those of the machine's jobs.
 use Rattle.std.proofs.Common.{◌≡◌, ◌∙◌, List, map, ap, sym, subst}
-use Rattle.std.specs.Prelude.{option_map}
 use Rattle.std.proofs.lemmas.List.Elements.{All-map}
 use Rattle.mbj_lane.specs.Rounds.{end_of}
 use Rattle.mbj_stage.specs.Handing.{End}
@@ -34,5 +33,5 @@ returns-clause-entries g c =
     = numbered-ends f (placed_in k w.lists).waiters ∙ ap (λ (l : PlacedQueue). map (λ (x : Waiter). x.1.brings) l.waiters) (sym c.queue.ensures) ∙ sym c.lanes.ensures.ends in
     subst (λ (h : ManagerState). AreEntriesOf k h ends (queue_for k h.machine).waiting) c.self.view_is
     (subst (λ (es : List End). AreEntriesOf k state es (map waiting (lines k).waiters)) seen
-    (all-entries k (courses w.ring) (map f w.agenda.places.items) lines w.lists.flush_runs (option_map job_in w.ring.opened)
+    (all-entries k (courses w.ring) (map f w.agenda.places.items) lines w.lists.flush_runs (map job_in w.ring.opened)
     (All-map HasJobSteps course_in w.ring.values c.self.invariant.ring.steps) (c.self.invariant.tied.listed k)))
