@@ -7,3 +7,4 @@ pub mod Keeping
 pub mod Rounds
 pub mod Collecting
 pub mod Crews
+pub mod Settling

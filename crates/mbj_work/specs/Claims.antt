@@ -1,5 +1,5 @@
 -- What a claim and a settle make of a party.
-use Rattle.std.specs.Prelude.{◌≡◌, ℕ, List, ◌∷◌, Option, Some, MatchOption}
+use Rattle.std.specs.Prelude.{◌≡◌, ℕ, zero, suc, List, [], ◌∷◌, Option, Some, MatchOption}
 use Rattle.mbj_types.specs.declared.job.Job.{Job}
 use Rattle.mbj_types.specs.declared.done.Done.{Done}
 use Rattle.mbj_types.specs.Result.{result_of}
@@ -54,3 +54,14 @@ module _ (front : SharedFront Job Done Standard) where
     pub given : (after_flush manager).0 ≡ Some done
     pub manager_is : manager' ≡ (after_flush manager).1
     pub part : FinishesFirst done v w
+
+  -- these results are those of the first pairs of the hand, which left it by a finish each, in turn
+  abbrev pub FinishesEach : List Done → View Done → View Done → Type 0
+  FinishesEach [] v w = w ≡ v
+  FinishesEach (d ∷ ds) v w = (u : View Done) × FinishesFirst d v u × FinishesEach ds u w
+
+  -- so many settles, one after another
+  abbrev pub SettlesInTurn : ℕ → View Done → ManagerState → View Done → ManagerState → Type 0
+  SettlesInTurn zero v manager w manager' = (w ≡ v) × (manager' ≡ manager)
+  SettlesInTurn (suc n) v manager w manager' =
+      (u : View Done) × (between : ManagerState) × Settles v manager u between × SettlesInTurn n u between w manager'

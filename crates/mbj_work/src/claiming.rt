@@ -20,7 +20,7 @@ use mbj_front::{Front, Seat};
 use mbj_types::Done;
 
 /// Finishes the first cell in the hand with its result, after the gate is passed.
-fn finish_first<G: Gate>(
+pub(crate) fn finish_first<G: Gate>(
     front: &Front,
     seat: &mut Seat,
     cells: &mut HeapCircularBuffer<u32>,

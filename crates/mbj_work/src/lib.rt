@@ -1,6 +1,7 @@
 //! Parties at work: what submitters do with their jobs, what workers do for them, and the threads in which they do it.
 #![tactic(auto)]
 
+mod bursting;
 mod claimed;
 mod claiming;
 mod crew;

@@ -27,10 +27,12 @@ impl Party {
     {
         let cells = HeapCircularBuffer::with_capacity(alloc, HAND_ROOM as usize)?;
         let manager = Manager::new(alloc)?;
+        let settled = Vec::with_capacity(alloc, HAND_ROOM as usize)?;
         Ok(Party {
             seat,
             manager,
             cells,
+            settled,
         })
     }
 

@@ -1,10 +1,11 @@
 ghost use Rattle.mbj_front.specs.Seats.{view_of};
-ghost use Rattle.mbj_work.specs.Inside.Holding.{Holds};
+ghost use Rattle.mbj_work.specs.Inside.Holding.{Holds, HasRoom};
 
 use circular_buffer::HeapCircularBuffer;
 use mbj_front::Seat;
 use mbj_manager::Manager;
 use mbj_ring::CELLS;
+use mbj_types::Done;
 
 /// How many cells a hand has room for: as many as a manager has for jobs.
 pub const HAND_ROOM: u32 = CELLS;
@@ -18,5 +19,8 @@ pub struct Party {
     pub(crate) seat: Seat,
     pub(crate) manager: Manager,
     pub(crate) cells: HeapCircularBuffer<u32>,
+    /// The results of a burst until their cells are finished, and empty between calls.
+    pub(crate) settled: Vec<Done>,
     pub(crate) ghost holds: { Holds (view_of seat) manager cells },
+    pub(crate) ghost room: { HasRoom settled },
 }

@@ -1,5 +1,6 @@
 -- What a party keeps between its calls.
-use Rattle.std.specs.Prelude.{◌≡◌, ℕ, List, map}
+use Rattle.std.specs.Prelude.{◌≡◌, ℕ, ◌≤◌, List, [], map, Vec, vec_capacity}
+use Rattle.std.specs.declared.alloc.Global.{Global}
 use Rattle.circular_buffer.specs.Buffer.{Buffer, buffer}
 use Rattle.mbj_types.specs.declared.done.Done.{Done}
 use Rattle.mbj_core.specs.declared.party.View.{View}
@@ -20,3 +21,8 @@ pub record Holds (v : View Done) (manager : ManagerState) (cells : Buffer ℕ) :
   pub cells_are : cells ≡ buffer (cells_in v.hand) HAND_ROOM
   -- the manager owes the results of the hand
   pub owed_is : manager.owed ≡ results_in v.hand
+
+-- no result is in the list, which has room for those of a hand
+pub record HasRoom (settled : Vec Done Global) : Type 0 where
+  pub none : settled.items ≡ []
+  pub room : HAND_ROOM ≤ vec_capacity settled

@@ -29,6 +29,7 @@ invariant_of-self-in-Some g c = let v = view_of c.args.self.now.seat in let d = 
         ∙ sym (results_with v.hand c.args.cell d) ∙ ap (λ w. results_in w.hand) (sym c.in-Ok.ensures.view))
         left.first ∙ ap (λ w. results_in w.hand) (sym left.part);
   };
+  room = c.args.self.now.room;
 }
 
 pub returns-in-Err-clause-part : goal.returns-in-Err-clause-part
@@ -87,6 +88,7 @@ invariant_of-self-in_default g c = let v = view_of c.args.self.now.seat in let d
     owed_is = c.in_default.ensures.order ∙ ap (λ l. l ++ d ∷ []) c.args.self.now.holds.owed_is
         ∙ sym (results_with v.hand c.args.cell d) ∙ ap (λ w. results_in w.hand) (sym c.in-Ok.ensures.view);
   };
+  room = c.args.self.now.room;
 }
 
 pub submit_job-requires : goal.submit_job-requires
