@@ -1,6 +1,6 @@
 -- What is given back over a list of C's calls.
 use Rattle.std.proofs.Common.{◌≡◌, ◌==◌, List, [], ◌∷◌, ◌++◌, drop, length, map, Option, Some, None, option_to_list, Err, refl, ap, sym, ◌∙◌, append_assoc, append-nil, true, false, Bool}
-use Rattle.std.specs.Prelude.{option_map, if◌then◌else◌}
+use Rattle.std.specs.Prelude.{if◌then◌else◌}
 use Rattle.std.proofs.lemmas.List.{map-append}
 use Rattle.mbj_types.specs.declared.job.Job.{Job}
 use Rattle.mbj_types.specs.declared.done.Done.{Done}
@@ -19,13 +19,13 @@ use Rattle.mbj_c.specs.Filling.{filled_in, filled_with, job_said}
 use Rattle.mbj_c.specs.Giving.{called_by, given_with, job_entered, manager_step, owed_in, refusal_in, step}
 use Rattle.mbj_c.specs.Ranges.{given_range}
 use Rattle.mbj_c.specs.State.{RangedState, new_ranged}
-use Rattle.mbj_c.proofs.Ranges.{head_or, opened-after, ranges-in, ranges-left, results-in, results-left}
+use Rattle.mbj_c.proofs.Ranges.{head_or, opened-after, opened-first, ranges-in, ranges-left, results-in, results-left}
 
--- the state owes what these jobs are owed, and has the range of the open one
+-- the state owes what these jobs are owed, and has the ranges of the open ones
 record Owes (k : RangedState) (jobs : List Job) : Type 0 where
   results : k.manager.owed ≡ map result_of jobs
   ranges : k.ranges ≡ map given_range jobs
-  filled : k.filled ≡ option_map given_range k.manager.opened
+  filled : k.filled ≡ map given_range k.manager.opened
 
 -- of the jobs the first one is given back, or none, and the rest is owed
 record Leaves (given : Option Given) (after : RangedState) (jobs : List Job) : Type 0 where
@@ -77,7 +77,8 @@ called-leaves (Some r) c k jobs owes = nothing-given k jobs owes
 
 said-owes : (said : Option Job) (k : RangedState) (jobs : List Job) → Owes k jobs → Owes (filled_with said k).1 jobs
 said-owes None k jobs owes = owes
-said-owes (Some j) k jobs owes = record { results = owes.results; ranges = owes.ranges; filled = refl }
+said-owes (Some j) k jobs owes =
+    record { results = owes.results; ranges = owes.ranges; filled = opened-first j k.manager.opened k.filled owes.filled }
 
 filled-owes : (is_full : Bool) (said : Option Job) (k : RangedState) (jobs : List Job) → Owes k jobs
     → Owes (if is_full then (Err refusal.Full, k) else filled_with said k).1 jobs

@@ -1,8 +1,7 @@
 -- The ranges that are kept beside a manager once it made a call.
-use Rattle.std.proofs.Common.{◌≡◌, ◌<◌, ◌≤◌, ◌+◌, ◌++◌, ℕ, List, [], ◌∷◌, length, drop, map, Option, None, Some, refl, sym, ap, ◌∙◌, subst, arith, length-append}
-use mathlib.Core.Bool.{true≢false}
-use Rattle.std.specs.Prelude.{IsSome, false, option_map, option_to_list, unwrap_or}
-use Rattle.std.proofs.lemmas.List.{append-nil, drop-map, length-map, map-append}
+use Rattle.std.proofs.Common.{set, slice_get, ◌≡◌, ◌<◌, ◌≤◌, ◌+◌, ◌++◌, ℕ, List, [], ◌∷◌, length, drop, take, map, Option, None, Some, refl, sym, ap, ◌∙◌, subst, arith}
+use Rattle.std.specs.Prelude.{false, option_to_list}
+use Rattle.std.proofs.lemmas.List.{append-nil, drop-map, length-map, map-append, take-map}
 use Rattle.mbj_types.specs.declared.job.Job.{Job}
 use Rattle.mbj_types.specs.declared.job.Cipher.{Cipher}
 use Rattle.mbj_types.specs.declared.job.Cipher.TheVariants as cipher
@@ -14,8 +13,8 @@ use Rattle.mbj_args.proofs.Accepted as table
 use Rattle.mbj_ring.specs.declared.ring.TheConstants.{CELLS}
 use Rattle.mbj_ring.specs.Ring.{RingState}
 use Rattle.mbj_stage.proofs.PacketLengths.{length-result_of}
-use Rattle.mbj_manager.specs.Machine.Stages.{Pending}
-use Rattle.mbj_manager.specs.State.{ManagerState, entered, given_at, with_job}
+use Rattle.mbj_manager.specs.State.{ManagerState}
+use Rattle.mbj_manager.proofs.CallLaws.{given-opened, submitted-opened}
 use Rattle.mbj_manager.specs.Machine.Course.{flushed}
 use Rattle.mbj_c.specs.declared.giving.Call.{Call}
 use Rattle.mbj_c.specs.declared.giving.Call.TheVariants as call
@@ -25,71 +24,49 @@ use Rattle.mbj_c.specs.Inside.Ranges.{AreOfJobs, AreRanges}
 use Rattle.mbj_c.specs.Inside.Room.{IsWithin}
 use Rattle.mbj_c.specs.Ranges.{given_range, range_by, written_range}
 
--- ---- the open job
+-- the first range, written back as it was read
+pub first-set : (ranges : List CipherRange) (range : CipherRange) → slice_get ranges 0 ≡ Some range → set ranges 0 range ≡ ranges
+first-set [] range is = refl
+first-set (r ∷ ranges) range is =
+    let same : range ≡ r = cc in
+    ap (λ s. s ∷ ranges) same
 
--- giving back leaves the open job alone
-given-opened : (owed : List Done) (left : List (List Pending)) (m : ManagerState) → (given_at owed left m).1.opened ≡ m.opened
-given-opened [] left m = refl
-given-opened (d ∷ owed) [] m = refl
-given-opened (d ∷ owed) ([] ∷ left) m = refl
-given-opened (d ∷ owed) ((p ∷ ps) ∷ left) m = refl
+-- ---- the open jobs
 
--- no job is open once it is submitted
-entered-opened : (opened : Option Job) (m : ManagerState) → m.opened ≡ opened → (unwrap_or (option_map (λ j. with_job j m) opened) m).opened ≡ None
-entered-opened None m is = is
-entered-opened (Some j) m is = refl
-
--- the range of the open job that is left is that of the job that is open then
-pub opened-after : (c : Call) (m : ManagerState) (filled : Option CipherRange) → filled ≡ option_map given_range m.opened
-    → filled_after c filled ≡ option_map given_range (manager_step c m).1.opened
+-- the ranges of the open jobs that are left are those of the jobs that are open then
+pub opened-after : (c : Call) (m : ManagerState) (filled : List CipherRange) → filled ≡ map given_range m.opened
+    → filled_after c filled ≡ map given_range (manager_step c m).1.opened
 opened-after call.Submit m filled is =
-    let after = entered m in
-    ap (option_map given_range) (sym (given-opened after.owed after.machine.left after ∙ entered-opened m.opened m refl))
-opened-after call.Completed m filled is = is ∙ ap (option_map given_range) (sym (given-opened m.owed m.machine.left m))
+    ap (drop 1) is ∙ drop-map given_range 1 m.opened ∙ ap (map given_range) (sym (submitted-opened m))
+opened-after call.Completed m filled is = is ∙ ap (map given_range) (sym (given-opened m.owed m.machine.left m))
 opened-after call.Flush m filled is =
     let after : ManagerState = record m { machine = flushed m.machine } in
-    is ∙ ap (option_map given_range) (sym (given-opened after.owed after.machine.left after))
+    is ∙ ap (map given_range) (sym (given-opened after.owed after.machine.left after))
 
--- a job is open after the call only where it was open before, and no result joined those that are owed
-room-after : (c : Call) (m after : ManagerState) (given : Option Done) → after ≡ (manager_step c m).1 → option_to_list given ++ after.owed ≡ owed_in c m
-    → (IsSome m.opened → length m.owed < CELLS) → IsSome after.opened → length after.owed < CELLS
-room-after call.Submit m after given is order room is_open =
-    let none : after.opened ≡ None = ap (λ n. n.opened) is ∙ given-opened (entered m).owed (entered m).machine.left (entered m) ∙ entered-opened m.opened m refl in
-    absurd (true≢false (sym (subst IsSome none is_open)))
-room-after call.Completed m after given is order room is_open =
-    let same : after.opened ≡ m.opened = ap (λ n. n.opened) is ∙ given-opened m.owed m.machine.left m in
-    let few = room (subst IsSome same is_open) in
-    omega (arith, ap length order, length-append (option_to_list given) after.owed)
-room-after call.Flush m after given is order room is_open =
-    let flushing : ManagerState = record m { machine = flushed m.machine } in
-    let same : after.opened ≡ m.opened = ap (λ n. n.opened) is ∙ given-opened m.owed flushing.machine.left flushing in
-    let few = room (subst IsSome same is_open) in
-    omega (arith, ap length order, length-append (option_to_list given) after.owed)
+-- the range of the first open job is written over
+pub opened-first : (j : Job) (opened : List Job) (filled : List CipherRange) → filled ≡ map given_range opened
+    → given_range j ∷ drop 1 filled ≡ map given_range (j ∷ drop 1 opened)
+opened-first j opened filled is = ap (λ rs. given_range j ∷ rs) (ap (drop 1) is ∙ drop-map given_range 1 opened)
 
 -- ---- the jobs
-
--- the list of an optional value's image
-list-of-map : {A B : Type 0} (f : A → B) (o : Option A) → option_to_list (option_map f o) ≡ map f (option_to_list o)
-list-of-map f None = refl
-list-of-map f (Some x) = refl
 
 -- with the job that is submitted, the results that are owed are those of the jobs again
 pub results-in : (c : Call) (m : ManagerState) (jobs : List Job) → m.owed ≡ map result_of jobs
     → owed_in c m ≡ map result_of (jobs ++ job_entered c m.opened)
 results-in call.Submit m jobs are =
-    ap (λ ds. ds ++ map result_of (option_to_list m.opened)) are ∙ sym (map-append result_of jobs (option_to_list m.opened))
+    ap (λ ds. ds ++ map result_of (take 1 m.opened)) are ∙ sym (map-append result_of jobs (take 1 m.opened))
 results-in call.Completed m jobs are = are ∙ ap (map result_of) (sym (append-nil jobs))
 results-in call.Flush m jobs are = are ∙ ap (map result_of) (sym (append-nil jobs))
 
 -- and so are the ranges
-pub ranges-in : (c : Call) (opened : Option Job) (ranges : List CipherRange) (filled : Option CipherRange) (jobs : List Job)
-    → ranges ≡ map given_range jobs → filled ≡ option_map given_range opened
+pub ranges-in : (c : Call) (opened : List Job) (ranges filled : List CipherRange) (jobs : List Job)
+    → ranges ≡ map given_range jobs → filled ≡ map given_range opened
     → ranges ++ ranges_entered c filled ≡ map given_range (jobs ++ job_entered c opened)
 ranges-in call.Submit opened ranges filled jobs are is =
-    ap (λ rs. rs ++ option_to_list filled) are
-    ∙ ap (λ o. map given_range jobs ++ option_to_list o) is
-    ∙ ap (λ rs. map given_range jobs ++ rs) (list-of-map given_range opened)
-    ∙ sym (map-append given_range jobs (option_to_list opened))
+    ap (λ rs. rs ++ take 1 filled) are
+    ∙ ap (λ o. map given_range jobs ++ take 1 o) is
+    ∙ ap (λ rs. map given_range jobs ++ rs) (take-map given_range 1 opened)
+    ∙ sym (map-append given_range jobs (take 1 opened))
 ranges-in call.Completed opened ranges filled jobs are is = append-nil ranges ∙ are ∙ ap (map given_range) (sym (append-nil jobs))
 ranges-in call.Flush opened ranges filled jobs are is = append-nil ranges ∙ are ∙ ap (map given_range) (sym (append-nil jobs))
 
@@ -138,8 +115,8 @@ result-within (Some d) after (j ∷ jobs) order =
 -- ---- a call
 
 -- the results that are owed and the ranges, once a call's job is submitted
-pub of-jobs-in : (c : Call) (m : ManagerState) (ranges : List CipherRange) (filled : Option CipherRange)
-    → AreOfJobs m.owed ranges → filled ≡ option_map given_range m.opened → AreOfJobs (owed_in c m) (ranges ++ ranges_entered c filled)
+pub of-jobs-in : (c : Call) (m : ManagerState) (ranges filled : List CipherRange)
+    → AreOfJobs m.owed ranges → filled ≡ map given_range m.opened → AreOfJobs (owed_in c m) (ranges ++ ranges_entered c filled)
 of-jobs-in c m ranges filled are is = record {
   jobs = are.jobs ++ job_entered c m.opened;
   results = results-in c m are.jobs are.results;
@@ -154,23 +131,17 @@ of-jobs-left done after owed ranges order are = record {
   given = ranges-left done ranges are.jobs are.given;
 }
 
--- where a range is filled, a job is open
-some-opened : (opened : Option Job) (filled : Option CipherRange) → filled ≡ option_map given_range opened → IsSome filled → IsSome opened
-some-opened None filled is some = absurd (true≢false (sym (subst IsSome is some)))
-some-opened (Some j) filled is some = refl
-
--- and then a cell is left for it
-pub room-for-range : (m : ManagerState) (ranges : RingState CipherRange) (filled : Option CipherRange)
-    → AreRanges m ranges filled → IsSome filled → length ranges.values < CELLS
-room-for-range m ranges filled are some =
-    let few = are.room (some-opened m.opened filled are.opened some) in
+-- where a cell is left for a job, one is left for its range
+pub room-for-range : (m : ManagerState) (ranges : RingState CipherRange) → AreRanges m ranges → length m.owed < CELLS
+    → length ranges.values < CELLS
+room-for-range m ranges are few =
     let owed : length m.owed ≡ length are.owed.jobs = ap length are.owed.results ∙ length-map are.owed.jobs result_of in
     let kept : length ranges.values ≡ length are.owed.jobs = ap length are.owed.given ∙ length-map are.owed.jobs given_range in
     omega arith
 
 -- the range of what is given back
-pub given-range-within : (c : Call) (m : ManagerState) (done : Option Done) (after : List Done) (ranges : List CipherRange) (filled : Option CipherRange)
-    → AreOfJobs m.owed ranges → filled ≡ option_map given_range m.opened → option_to_list done ++ after ≡ owed_in c m
+pub given-range-within : (c : Call) (m : ManagerState) (done : Option Done) (after : List Done) (ranges filled : List CipherRange)
+    → AreOfJobs m.owed ranges → filled ≡ map given_range m.opened → option_to_list done ++ after ≡ owed_in c m
     → IsWithin (given_with done (ranges ++ ranges_entered c filled))
 given-range-within c m done after ranges filled are is order =
     let those = of-jobs-in c m ranges filled are is in
@@ -178,15 +149,13 @@ given-range-within c m done after ranges filled are is order =
     (result-within done after those.jobs (order ∙ those.results))
 
 -- the ranges after a call
-pub ranges-after : (c : Call) (m after : ManagerState) (done : Option Done) (before ranges : RingState CipherRange) (filled left : Option CipherRange)
-    → AreRanges m before filled → after ≡ (manager_step c m).1 → option_to_list done ++ after.owed ≡ owed_in c m
-    → ranges.values ≡ drop (length (option_to_list done)) (before.values ++ ranges_entered c filled) → ranges.opened ≡ None
-    → left ≡ filled_after c filled → AreRanges after ranges left
-ranges-after c m after done before ranges filled left are is order values closed kept = record {
+pub ranges-after : (c : Call) (m after : ManagerState) (done : Option Done) (before ranges : RingState CipherRange)
+    → AreRanges m before → after ≡ (manager_step c m).1 → option_to_list done ++ after.owed ≡ owed_in c m
+    → ranges.values ≡ drop (length (option_to_list done)) (before.values ++ ranges_entered c before.opened)
+    → ranges.opened ≡ filled_after c before.opened → AreRanges after ranges
+ranges-after c m after done before ranges are is order values kept = record {
   owed = subst (AreOfJobs after.owed) (sym values)
-      (of-jobs-left done after.owed (owed_in c m) (before.values ++ ranges_entered c filled) order
-      (of-jobs-in c m before.values filled are.owed are.opened));
-  closed = closed;
-  opened = kept ∙ opened-after c m filled are.opened ∙ ap (λ n. option_map given_range n.opened) (sym is);
-  room = room-after c m after done is order are.room;
+      (of-jobs-left done after.owed (owed_in c m) (before.values ++ ranges_entered c before.opened) order
+      (of-jobs-in c m before.values before.opened are.owed are.opened));
+  opened = kept ∙ opened-after c m before.opened are.opened ∙ ap (λ n. map given_range n.opened) (sym is);
 }

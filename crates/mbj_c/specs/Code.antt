@@ -1,12 +1,12 @@
 -- The code of a state, by which proofs tell states apart.
-use Rattle.std.specs.Prelude.{List, Option, refl}
+use Rattle.std.specs.Prelude.{List, refl}
 use Rattle.std.specs.Coded.{Coded, code_by, coded×}
 use Rattle.mbj_manager.specs.State.{ManagerState}
 use Rattle.mbj_c.specs.declared.range.CipherRange.{CipherRange}
 use Rattle.mbj_c.specs.State.{RangedState}
 
 abbrev pub Stored : Type 0
-Stored = List CipherRange × Option CipherRange
+Stored = List CipherRange × List CipherRange
 
 -- a state is stored as its manager and the rest
 abbrev pub ranged_code : Coded ManagerState → Coded Stored → Coded RangedState

@@ -1,5 +1,5 @@
 -- What C's job says, and what filling the next job with it comes to.
-use Rattle.std.specs.Prelude.{◌==◌, length, Option, Some, None, Result, Ok, Err, slice_get, option_map, if◌then◌else◌}
+use Rattle.std.specs.Prelude.{◌==◌, ◌∷◌, drop, length, Option, Some, None, Result, Ok, Err, slice_get, option_map, if◌then◌else◌}
 use Rattle.mbj_types.specs.declared.job.Job.{Job}
 use Rattle.mbj_types.specs.declared.job.Cipher.{Cipher}
 use Rattle.mbj_types.specs.declared.job.Dir.{Dir}
@@ -45,11 +45,11 @@ job_with r w = record {
 abbrev pub job_said : RawJob → Option Job
 job_said r = option_map (job_with r) (words_said r)
 
--- the job is the open one
+-- the job is the first open one
 abbrev pub with_job : Job → RangedState → RangedState
-with_job j k = record k { manager = with_open k.manager j; filled = Some (given_range j) }
+with_job j k = record k { manager = with_open k.manager j; filled = given_range j ∷ drop 1 k.filled }
 
--- the job that is said is the open one
+-- the job that is said is the first open one
 abbrev pub filled_with : Option Job → RangedState → Result Unit Refusal × RangedState
 filled_with None k = (Err refusal.Word, k)
 filled_with (Some j) k = (Ok tt, with_job j k)

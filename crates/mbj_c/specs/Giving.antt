@@ -1,5 +1,5 @@
 -- What the calls come to that may give a result back.
-use Rattle.std.specs.Prelude.{◌≡◌, ℕ, Bool, true, false, ◌&&◌, nat_le, List, [], ◌++◌, length, map, drop, Option, Some, None, is_some, option_map, option_to_list, slice_get, Result, Ok, Err, if◌then◌else◌}
+use Rattle.std.specs.Prelude.{◌≡◌, ℕ, Bool, true, false, ◌&&◌, nat_le, nat_lt, List, [], ◌++◌, length, map, drop, take, Option, Some, None, option_map, option_to_list, slice_get, Result, Ok, Err, if◌then◌else◌}
 use Rattle.mbj_types.specs.declared.done.Done.{Done}
 use Rattle.mbj_types.specs.declared.job.Job.{Job}
 use Rattle.mbj_types.specs.declared.limits.TheConstants.{MAX_TAG_BYTES}
@@ -26,26 +26,26 @@ manager_step call.Flush m = after_flush m
 
 -- the results that are owed once the call's job, where it has one, is submitted: the first one is the one that may be given back
 abbrev pub owed_in : Call → ManagerState → List Done
-owed_in call.Submit m = m.owed ++ map result_of (option_to_list m.opened)
+owed_in call.Submit m = m.owed ++ map result_of (take 1 m.opened)
 owed_in call.Completed m = m.owed
 owed_in call.Flush m = m.owed
 
 -- the job that the call submits, where it submits one
-abbrev pub job_entered : Call → Option Job → List Job
-job_entered call.Submit opened = option_to_list opened
+abbrev pub job_entered : Call → List Job → List Job
+job_entered call.Submit opened = take 1 opened
 job_entered call.Completed opened = []
 job_entered call.Flush opened = []
 
 -- ---- the ranges
 
--- the range that joins those that are kept, and what is left of the open job's
-abbrev pub ranges_entered : Call → Option CipherRange → List CipherRange
-ranges_entered call.Submit filled = option_to_list filled
+-- the range that joins those that are kept, and what is left of the open jobs'
+abbrev pub ranges_entered : Call → List CipherRange → List CipherRange
+ranges_entered call.Submit filled = take 1 filled
 ranges_entered call.Completed filled = []
 ranges_entered call.Flush filled = []
 
-abbrev pub filled_after : Call → Option CipherRange → Option CipherRange
-filled_after call.Submit filled = None
+abbrev pub filled_after : Call → List CipherRange → List CipherRange
+filled_after call.Submit filled = drop 1 filled
 filled_after call.Completed filled = filled
 filled_after call.Flush filled = filled
 
@@ -78,7 +78,7 @@ step c k =
 
 -- a job is open where the call submits it
 abbrev pub has_job : Call → ManagerState → Bool
-has_job call.Submit m = is_some m.opened
+has_job call.Submit m = nat_lt 0 (length m.opened)
 has_job call.Completed m = true
 has_job call.Flush m = true
 

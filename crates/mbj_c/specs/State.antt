@@ -1,5 +1,5 @@
 -- What a contract sees of the manager behind a handle.
-use Rattle.std.specs.Prelude.{List, [], Option, None}
+use Rattle.std.specs.Prelude.{List, []}
 use Rattle.mbj_manager.specs.State.{ManagerState, new_manager}
 use Rattle.mbj_c.specs.declared.range.CipherRange.{CipherRange}
 
@@ -7,8 +7,8 @@ pub record RangedState : Type 0 where
   pub manager : ManagerState
   -- the ranges that the jobs give back whose results are owed, in their order
   pub ranges : List CipherRange
-  -- the range that the open job gives back
-  pub filled : Option CipherRange
+  -- the ranges that the open jobs give back, the first opened first
+  pub filled : List CipherRange
 
 abbrev pub new_ranged : RangedState
-new_ranged = record { manager = new_manager; ranges = []; filled = None }
+new_ranged = record { manager = new_manager; ranges = []; filled = [] }

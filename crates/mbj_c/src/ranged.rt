@@ -1,9 +1,10 @@
-ghost use Rattle.std.specs.Prelude.{◌≡◌, ◌<◌, ◌++◌, IfOk, IsSome, Ok, None, [], drop, length, option_to_list, slice_get};
+ghost use Rattle.std.specs.Prelude.{◌≡◌, ◌<◌, ◌∷◌, ◌++◌, IfOk, Ok, None, [], drop, length, option_to_list, slice_get};
+ghost use Rattle.std.specs.Bool.{OnTrue};
 ghost use Rattle.mbj_ring.specs.declared.ring.TheConstants.{CELLS};
 ghost use Rattle.mbj_c.specs.declared.giving.Call.TheVariants as calls;
 ghost use Rattle.mbj_c.specs.Counts.{counts_of};
 ghost use Rattle.mbj_c.specs.Filling.{filled_in};
-ghost use Rattle.mbj_c.specs.Giving.{called_in, filled_after, first_range, given_with, ranges_entered, step};
+ghost use Rattle.mbj_c.specs.Giving.{called_in, filled_after, first_range, given_with, has_job, ranges_entered, step};
 ghost use Rattle.mbj_c.specs.Inside.Answers.{IsDone};
 ghost use Rattle.mbj_c.specs.Inside.Room.{HasJob, IsGivenRoom, IsWithin};
 ghost use Rattle.mbj_c.specs.State.{new_ranged};
@@ -19,13 +20,12 @@ use mbj_types::{Done, Kind};
 use std::alloc::{AllocError, Global};
 use std::marker::Model;
 
-/// A manager, with the ranges that the jobs whose results it owes give back, and that of its open job. So the room for a result
+/// A manager, with the ranges that the jobs whose results it owes give back, and those of its open jobs. So the room for a result
 /// can be looked at before the result is taken, and only its range is given back.
 #[derive(Drop)]
 pub struct RangedManager {
     manager: Manager,
     ranges: Ring<CipherRange>,
-    filled: Option<CipherRange>,
 }
 
 impl Model for RangedManager {
@@ -39,25 +39,31 @@ impl Model for RangedManager {
 
     ghost coded = { ranged_code (state_code (Prim.hlevel codes)) (Prim.hlevel codes) };
 
-    ghost view = { λ m. record { manager = m.manager; ranges = m.ranges.values; filled = m.filled } };
+    ghost view = { λ m. record { manager = m.manager; ranges = m.ranges.values; filled = m.ranges.opened } };
 
-    ghost invariant = { λ m. AreRanges m.manager m.ranges m.filled };
+    ghost invariant = { λ m. AreRanges m.manager m.ranges };
+}
+
+/// The range of the first open job is this one from now on.
+fn fill_first(ranges: &mut Ring<CipherRange>, range: CipherRange)
+    requires room { length ranges.old.values < CELLS }
+    ensures values { ranges.new.values ≡ ranges.old.values }
+    ensures filled { ranges.new.opened ≡ range ∷ drop 1 ranges.old.opened }
+{
+    if ranges.open_len() == 0 {
+        ranges.open_cell(range);
+    } else {
+        *ranges.open_at(0) = range;
+    }
 }
 
 /// The range of the job that is submitted, where the call submits one, goes last.
-fn enter(ranges: &mut Ring<CipherRange>, filled: &mut Option<CipherRange>, call: Call)
-    requires closed { ranges.old.opened ≡ None }
-    requires room { IsSome filled.old → length ranges.old.values < CELLS }
-    ensures values { ranges.new.values ≡ ranges.old.values ++ ranges_entered call filled.old }
-    ensures closed { ranges.new.opened ≡ None }
-    ensures filled { filled.new ≡ filled_after call filled.old }
+fn enter(ranges: &mut Ring<CipherRange>, call: Call)
+    ensures values { ranges.new.values ≡ ranges.old.values ++ ranges_entered call ranges.old.opened }
+    ensures filled { ranges.new.opened ≡ filled_after call ranges.old.opened }
 {
-    if call == Call::Submit {
-        if let Some(range) = *filled {
-            ranges.open_cell(range);
-            ranges.commit();
-        }
-        *filled = None;
+    if call == Call::Submit && ranges.open_len() > 0 {
+        ranges.commit();
     }
 }
 
@@ -67,6 +73,17 @@ fn first_of(ranges: &mut Ring<CipherRange>) -> Option<CipherRange>
     ensures same { ranges.new ≡ ranges.old }
 {
     match ranges.front_mut() {
+        Some(range) => Some(*range),
+        None => None,
+    }
+}
+
+/// The range of the first open job, which stays.
+fn first_filled(ranges: &mut Ring<CipherRange>) -> Option<CipherRange>
+    ensures first { result ≡ slice_get ranges.old.opened 0 }
+    ensures same { ranges.new ≡ ranges.old }
+{
+    match ranges.open_mut() {
         Some(range) => Some(*range),
         None => None,
     }
@@ -92,11 +109,7 @@ impl RangedManager {
     {
         let ranges = Ring::new(alloc)?;
         let manager = Manager::new(alloc)?;
-        Ok(RangedManager {
-            manager,
-            ranges,
-            filled: None,
-        })
+        Ok(RangedManager { manager, ranges })
     }
 
     pub(crate) fn queue_size(&self) -> u32
@@ -127,7 +140,7 @@ impl RangedManager {
             return Err(Refusal::Word);
         };
         let job = raw.copied(alloc, words)?;
-        self.filled = Some(CipherRange::given_by(&job));
+        fill_first(&mut self.ranges, CipherRange::given_by(&job));
         self.manager.put_next(job);
         Ok(())
     }
@@ -139,13 +152,21 @@ impl RangedManager {
         ensures room { IsGivenRoom result out.now }
         ensures drained { call ≡ calls.Flush → result ≡ Ok None → self.old.manager.owed ≡ [] }
     {
-        if call == Call::Submit && self.filled.is_none() {
+        if !self.has_job(call) {
             return Err(Refusal::NoJob);
         }
         if !out.has_room(self.first_range(call)) {
             return Err(Refusal::NoRoom);
         }
         Ok(self.step(call))
+    }
+
+    /// Whether a job is open where the call submits it.
+    fn has_job(&self, call: Call) -> bool
+        ensures has { result ≡ has_job call self.now.manager }
+        ensures job { OnTrue result (HasJob call self.now.manager) }
+    {
+        call != Call::Submit || self.ranges.open_len() > 0
     }
 
     /// The range that the first result that is owed gives back.
@@ -156,7 +177,7 @@ impl RangedManager {
         match first_of(&mut self.ranges) {
             Some(range) => Some(range),
             None => match call {
-                Call::Submit => self.filled,
+                Call::Submit => first_filled(&mut self.ranges),
                 Call::Completed | Call::Flush => None,
             },
         }
@@ -170,7 +191,7 @@ impl RangedManager {
         ensures range { IsWithin result }
         ensures drained { call ≡ calls.Flush → result ≡ None → self.old.manager.owed ≡ [] }
     {
-        enter(&mut self.ranges, &mut self.filled, call);
+        enter(&mut self.ranges, call);
         let done = call.make(&mut self.manager);
         leave(&mut self.ranges, done)
     }

@@ -1,5 +1,5 @@
 -- What a call wants before it is made, and before its result is written.
-use Rattle.std.specs.Prelude.{◌+◌, ◌≤◌, length, Option, Some, None, IsSome, Result, Ok, Err}
+use Rattle.std.specs.Prelude.{◌+◌, ◌<◌, ◌≤◌, length, Option, Some, None, Result, Ok, Err}
 use Rattle.mbj_manager.specs.State.{ManagerState}
 use Rattle.mbj_c.specs.declared.giving.Call.{Call}
 use Rattle.mbj_c.specs.declared.giving.Call.TheVariants as call
@@ -9,7 +9,7 @@ use Rattle.mbj_c.specs.declared.refusal.Refusal.{Refusal}
 
 -- a job is open where the call submits it
 abbrev pub HasJob : Call → ManagerState → Type 0
-HasJob call.Submit m = IsSome m.opened
+HasJob call.Submit m = 0 < length m.opened
 HasJob call.Completed m = Unit {0}
 HasJob call.Flush m = Unit {0}
 
