@@ -1,21 +1,9 @@
 /* A program with a heap of its own, which defines the three functions of include/mbj_heap.c itself: the archive is linked without that
  * member. Blocks come from an array, and are never used again. */
 #include "check.h"
+#include "mbj_heap.h"
 
 #include <stddef.h>
-
-#ifdef __cplusplus
-extern "C" {
-#endif
-
-struct mbj_block {
-    uint64_t is_there;
-    void *at;
-};
-
-struct mbj_block rattle_alloc(size_t len, size_t align);
-struct mbj_block rattle_realloc(void *old, size_t old_len, size_t len, size_t align);
-void rattle_dealloc(void *at);
 
 enum { ROOM = 1 << 24, GRAIN = 16 };
 
@@ -37,10 +25,10 @@ struct mbj_block rattle_alloc(size_t len, size_t align) {
     return block;
 }
 
-struct mbj_block rattle_realloc(void *old, size_t old_len, size_t len, size_t align) {
+struct mbj_block rattle_realloc(void *old, size_t kept, size_t len, size_t align) {
     struct mbj_block block = rattle_alloc(len, align);
     if (block.is_there) {
-        memcpy(block.at, old, old_len < len ? old_len : len);
+        memcpy(block.at, old, kept);
         rattle_dealloc(old);
     }
     return block;
@@ -50,10 +38,6 @@ void rattle_dealloc(void *at) {
     CHECK((unsigned char *)at >= heap.bytes && (unsigned char *)at < heap.bytes + used);
     blocks--;
 }
-
-#ifdef __cplusplus
-}
-#endif
 
 int main(void) {
     static MBJ_MGR manager;

@@ -1,0 +1,221 @@
+/* The heap of mbj_heap_pool.h, to be compiled into a program in place of mbj_heap.c: a buddy allocator. A block's length is a power of two,
+ * and it begins at a multiple of that, counted from the first block. A free block is halved until its length is the one that is wanted, and
+ * is joined with its other half as soon as both are free. */
+#include "mbj_heap_pool.h"
+#include "mbj_heap.h"
+
+#include <stdlib.h>
+#include <string.h>
+
+#ifdef __cplusplus
+#define MBJ_THREAD_LOCAL thread_local
+#else
+#define MBJ_THREAD_LOCAL _Thread_local
+#endif
+
+/* The least block has 2^6 bytes, a cache line. */
+enum { LEAST_ORDER = 6, ORDERS = 48 };
+
+enum state { IS_FREE, IS_USED, IS_OVERFLOW };
+
+/* The front of each block, behind which the bytes are that were asked for. It has 16 bytes, so these are aligned to 16. */
+struct head {
+    struct mbj_pool *pool;
+    uint32_t order; /* the block has 2^order bytes, with its head */
+    uint32_t state;
+};
+
+/* A free block is in the list of its order. */
+struct free_block {
+    struct head head;
+    struct free_block *next, **link; /* link is what points to it */
+};
+
+struct mbj_pool {
+    unsigned char *first;
+    size_t len;
+    bool has_overflow;
+    struct mbj_pool_counts counts;
+    uint64_t orders; /* bit i is set where the list of order i isn't empty */
+    struct free_block *lists[ORDERS];
+};
+
+static MBJ_THREAD_LOCAL struct mbj_pool *named;
+
+/* ---- lists ---- */
+
+static size_t length_of(uint32_t order) {
+    return (size_t)1 << order;
+}
+
+static void put_in(struct mbj_pool *pool, size_t off, uint32_t order) {
+    struct free_block *block = (struct free_block *)(void *)(pool->first + off), **list = &pool->lists[order];
+    block->head.pool = pool;
+    block->head.order = order;
+    block->head.state = IS_FREE;
+    block->next = *list;
+    block->link = list;
+    if (*list != NULL)
+        (*list)->link = &block->next;
+    *list = block;
+    pool->orders |= (uint64_t)1 << order;
+}
+
+static void take_out(struct mbj_pool *pool, struct free_block *block) {
+    uint32_t order = block->head.order;
+    *block->link = block->next;
+    if (block->next != NULL)
+        block->next->link = block->link;
+    if (pool->lists[order] == NULL)
+        pool->orders &= ~((uint64_t)1 << order);
+}
+
+/* ---- blocks of a pool ---- */
+
+/* The order of the least block that has room for so many bytes and its head; ORDERS where no order has. */
+static uint32_t order_for(size_t len) {
+    uint32_t order = LEAST_ORDER;
+    while (order < ORDERS && length_of(order) - sizeof(struct head) < len)
+        order++;
+    return order;
+}
+
+/* A block of the order, halved from the least one that is free; NULL where none is. */
+static struct head *take(struct mbj_pool *pool, uint32_t order) {
+    uint64_t large_enough = order < ORDERS ? pool->orders >> order << order : 0;
+    if (large_enough == 0)
+        return NULL;
+    uint32_t found = (uint32_t)__builtin_ctzll(large_enough);
+    struct free_block *block = pool->lists[found];
+    size_t off = (size_t)((unsigned char *)block - pool->first);
+    take_out(pool, block);
+    while (found > order) {
+        found--;
+        put_in(pool, off + length_of(found), found);
+    }
+    block->head.order = order;
+    block->head.state = IS_USED;
+    pool->counts.blocks++;
+    pool->counts.bytes += length_of(order);
+    if (pool->counts.bytes > pool->counts.most_bytes)
+        pool->counts.most_bytes = pool->counts.bytes;
+    return &block->head;
+}
+
+/* The other half of what the block was halved from, where that is free as a whole; else NULL. */
+static struct free_block *free_buddy(const struct mbj_pool *pool, size_t off, uint32_t order) {
+    size_t other = off ^ length_of(order);
+    if (length_of(order) > pool->len || other > pool->len - length_of(order))
+        return NULL;
+    struct free_block *block = (struct free_block *)(void *)(pool->first + other);
+    return block->head.state == IS_FREE && block->head.order == order ? block : NULL;
+}
+
+static void give(struct mbj_pool *pool, struct head *head) {
+    size_t off = (size_t)((unsigned char *)head - pool->first);
+    uint32_t order = head->order;
+    struct free_block *buddy;
+    pool->counts.blocks--;
+    pool->counts.bytes -= length_of(order);
+    while ((buddy = free_buddy(pool, off, order)) != NULL) {
+        take_out(pool, buddy);
+        off &= ~length_of(order++);
+    }
+    put_in(pool, off, order);
+}
+
+/* ---- blocks of malloc ---- */
+
+static struct head *take_overflow(struct mbj_pool *pool, size_t len) {
+    struct head *head = len <= SIZE_MAX - sizeof *head ? (struct head *)malloc(sizeof *head + len) : NULL;
+    if (head == NULL)
+        return NULL;
+    head->pool = pool;
+    head->order = 0;
+    head->state = IS_OVERFLOW;
+    if (++pool->counts.overflow_blocks > pool->counts.most_overflow_blocks)
+        pool->counts.most_overflow_blocks = pool->counts.overflow_blocks;
+    return head;
+}
+
+/* ---- the heap ---- */
+
+static struct head *head_of(void *at) {
+    return (struct head *)at - 1;
+}
+
+static struct mbj_block block_behind(struct head *head) {
+    static char nowhere;
+    struct mbj_block block = {head != NULL, &nowhere};
+    if (head != NULL)
+        block.at = head + 1;
+    return block;
+}
+
+static struct mbj_block take_from(struct mbj_pool *pool, size_t len) {
+    struct head *head = pool == NULL ? NULL : take(pool, order_for(len));
+    if (head == NULL && pool != NULL && pool->has_overflow)
+        head = take_overflow(pool, len);
+    return block_behind(head);
+}
+
+struct mbj_block rattle_alloc(size_t len, size_t align) {
+    (void)align;
+    return take_from(named, len);
+}
+
+struct mbj_block rattle_realloc(void *old, size_t kept, size_t len, size_t align) {
+    struct head *head = head_of(old);
+    (void)align;
+    if (head->state == IS_USED && len <= length_of(head->order) - sizeof *head)
+        return block_behind(head);
+    struct mbj_block block = take_from(head->pool, len);
+    if (block.is_there) {
+        memcpy(block.at, old, kept);
+        rattle_dealloc(old);
+    }
+    return block;
+}
+
+void rattle_dealloc(void *at) {
+    struct head *head = head_of(at);
+    if (head->state == IS_OVERFLOW) {
+        head->pool->counts.overflow_blocks--;
+        free(head);
+    } else {
+        give(head->pool, head);
+    }
+}
+
+/* ---- pools ---- */
+
+/* The pool stands in front, and behind it the blocks, from the next multiple of the least block's length on: each as long as it can be. */
+struct mbj_pool *mbj_pool_make(void *at, size_t len, bool has_overflow) {
+    size_t least = length_of(LEAST_ORDER);
+    size_t front = (size_t)(-(uintptr_t)at % least), own = (sizeof(struct mbj_pool) + least - 1) / least * least;
+    if (at == NULL || len < front + own + least)
+        return NULL;
+    struct mbj_pool *pool = (struct mbj_pool *)(void *)((unsigned char *)at + front);
+    memset(pool, 0, sizeof *pool);
+    pool->first = (unsigned char *)pool + own;
+    pool->len = (len - front - own) / least * least;
+    pool->has_overflow = has_overflow;
+    for (size_t off = 0; off < pool->len;) {
+        uint32_t order = LEAST_ORDER;
+        while (order + 1 < ORDERS && off % length_of(order + 1) == 0 && length_of(order + 1) <= pool->len - off)
+            order++;
+        put_in(pool, off, order);
+        off += length_of(order);
+    }
+    return pool;
+}
+
+struct mbj_pool *mbj_pool_name(struct mbj_pool *pool) {
+    struct mbj_pool *before = named;
+    named = pool;
+    return before;
+}
+
+struct mbj_pool_counts mbj_pool_count(const struct mbj_pool *pool) {
+    return pool->counts;
+}
