@@ -84,7 +84,7 @@ enum mbj_auth {
     MBJ_AUTH_UNSET = 255
 };
 
-/* The kinds of work that is done in lanes. HMAC-SHA-224 goes with SHA-256, and SHA-384 with SHA-512. */
+/* The kinds of work that is done in lanes. HMAC-SHA-224 goes with SHA-256, and SHA-384 with SHA-512. No job's codes ask for CCM yet. */
 enum mbj_kind {
     MBJ_KIND_CBC_128,
     MBJ_KIND_CBC_192,
@@ -94,6 +94,9 @@ enum mbj_kind {
     MBJ_KIND_HMAC_SHA_1,
     MBJ_KIND_HMAC_SHA_256,
     MBJ_KIND_HMAC_SHA_512,
+    MBJ_KIND_CCM_128,
+    MBJ_KIND_CCM_192,
+    MBJ_KIND_CCM_256,
     MBJ_KINDS
 };
 

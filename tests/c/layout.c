@@ -124,6 +124,9 @@ static void print_codes(void) {
     NUMBER(MBJ_KIND_HMAC_SHA_1);
     NUMBER(MBJ_KIND_HMAC_SHA_256);
     NUMBER(MBJ_KIND_HMAC_SHA_512);
+    NUMBER(MBJ_KIND_CCM_128);
+    NUMBER(MBJ_KIND_CCM_192);
+    NUMBER(MBJ_KIND_CCM_256);
 }
 
 static void print_answers(void) {
