@@ -1,0 +1,384 @@
+/* Seals and opens ESP packets (RFC 4303) as a gateway does, all through one manager. Reads lines from standard input, and prints a line for
+ * each, in order, N from 0:
+ *
+ *     seal SUITE KEY AKEY SPI SEQ IV NEXT PAYLOAD    ->  N PACKET
+ *     open SUITE KEY AKEY PACKET                     ->  N NEXT PAYLOAD, or N drop
+ *
+ * Bytes and SPI are hexadecimal, `-` for none; SEQ and NEXT are decimal. KEY has the suite's salt at its end. PACKET is SPI, SEQ, IV, text
+ * with padding, its length and NEXT, and the tag. A suite's name with `-esn` behind it has extended sequence numbers: SEQ has 64 bits then,
+ * also in PACKET. On the wire only its low half goes, and a receiver knows the high half by its window.
+ *
+ * Status 1 for a bad line, 2 where reading, writing or memory fails; the lines before are answered. */
+#define _POSIX_C_SOURCE 200809L /* getline */
+#include "mbj.h"
+
+#include <stdio.h>
+#include <sys/types.h>
+
+enum { SPI = 4, SEQ = 4, HEADER = SPI + SEQ, TRAILER = 2, MAX_IV = 16, MAX_TAG = 32, MAX_PACKET = 65535, MAX_HMAC_KEY = 1024 };
+
+enum { BAD_LINE = 1, FAILED = 2 };
+
+/* ---- suites ---- */
+
+struct suite {
+    const char *name;
+    uint32_t cipher, auth;
+    size_t salt_len, iv_len, align, tag_len; /* the length of the text is a multiple of align */
+};
+
+static const struct suite suites[] = {
+    {"cbc-hmac-sha1-96", MBJ_CIPHER_CBC, MBJ_AUTH_HMAC_SHA_1, 0, 16, 16, 12},      /* RFC 3602, RFC 2404 */
+    {"cbc-hmac-sha256-128", MBJ_CIPHER_CBC, MBJ_AUTH_HMAC_SHA_256, 0, 16, 16, 16}, /* RFC 4868 */
+    {"cbc-hmac-sha384-192", MBJ_CIPHER_CBC, MBJ_AUTH_HMAC_SHA_384, 0, 16, 16, 24},
+    {"cbc-hmac-sha512-256", MBJ_CIPHER_CBC, MBJ_AUTH_HMAC_SHA_512, 0, 16, 16, 32},
+    {"cbc-cmac-96", MBJ_CIPHER_CBC, MBJ_AUTH_AES_CMAC, 0, 16, 16, 12},              /* RFC 4494 */
+    {"ctr-hmac-sha256-128", MBJ_CIPHER_CNTR, MBJ_AUTH_HMAC_SHA_256, 4, 8, 4, 16},   /* RFC 3686 */
+    {"null-hmac-sha256-128", MBJ_CIPHER_NULL, MBJ_AUTH_HMAC_SHA_256, 0, 0, 4, 16},  /* RFC 2410 */
+    {"gcm-16", MBJ_CIPHER_GCM, MBJ_AUTH_GCM, 4, 8, 4, 16},                          /* RFC 4106 */
+};
+
+struct bytes {
+    uint8_t *at;
+    size_t len;
+};
+
+/* A security association. */
+struct association {
+    const struct suite *suite;
+    bool is_esn;
+    struct bytes key, akey;
+};
+
+static bool has_keys(const struct association *sa) {
+    size_t len = sa->key.len - sa->suite->salt_len, akey = sa->akey.len;
+    bool is_aes_key = len == 16 || len == 24 || len == 32;
+    if (sa->suite->auth == MBJ_AUTH_GCM)
+        return is_aes_key && akey == 0;
+    bool is_akey = sa->suite->auth == MBJ_AUTH_AES_CMAC ? akey == 16 : akey >= 1 && akey <= MAX_HMAC_KEY;
+    return is_akey && (sa->suite->cipher == MBJ_CIPHER_NULL ? len == 0 : is_aes_key);
+}
+
+/* ---- packets ---- */
+
+enum task { SEAL, OPEN, DROP };
+
+/* A packet: SPI, the low half of SEQ, IV and text, which end at len, and room for what stands behind: the high half of SEQ while it is
+ * authenticated, and then the tag. The tag that was received and the one that is computed are apart. */
+struct packet {
+    const struct suite *suite;
+    enum task task;
+    bool is_esn;
+    size_t number, len;
+    uint8_t iv[MAX_IV], aad[HEADER + SEQ], seq_high[SEQ], received[MAX_TAG], tag[MAX_TAG];
+    uint8_t bytes[MAX_PACKET + MAX_TAG];
+};
+
+/* Jobs come back in order, so a line's place is free once as many later ones are submitted as the manager takes. */
+static struct packet packets[MBJ_MAX_JOBS];
+
+static size_t text_at(const struct packet *p) {
+    return HEADER + p->suite->iv_len;
+}
+
+static uint8_t *put(uint8_t *to, const void *from, size_t len) {
+    if (len != 0)
+        memcpy(to, from, len);
+    return to + len;
+}
+
+static void put_number(uint8_t *to, uint64_t number, size_t len) {
+    for (; len > 0; number >>= 8)
+        to[--len] = (uint8_t)number;
+}
+
+/* Whether the tags are the same, in a time that doesn't depend on where they differ. */
+static bool is_same_tag(const uint8_t *a, const uint8_t *b, size_t len) {
+    volatile uint8_t differ = 0;
+    for (size_t i = 0; i < len; i++)
+        differ = (uint8_t)(differ | (a[i] ^ b[i]));
+    return differ == 0;
+}
+
+/* Takes a received packet apart; false where it is none. */
+static bool take_apart(struct packet *p, struct bytes wire) {
+    size_t tag_len = p->suite->tag_len, high = p->is_esn ? SEQ : 0;
+    if (wire.len < text_at(p) + p->suite->align + tag_len + high || wire.len - high > MAX_PACKET)
+        return false;
+    p->len = wire.len - tag_len - high;
+    put(p->seq_high, wire.at + SPI, high);
+    put(put(p->bytes, wire.at, SPI), wire.at + SPI + high, p->len - SPI);
+    put(p->received, wire.at + wire.len - tag_len, tag_len);
+    return (p->len - text_at(p)) % p->suite->align == 0;
+}
+
+/* How many bytes the payload of a text has, which ends in padding 1, 2, 3, .., its length and NEXT; SIZE_MAX where it doesn't. */
+static size_t payload_len(const uint8_t *text, size_t len) {
+    size_t pad = text[len - 2];
+    if (pad > len - TRAILER)
+        return SIZE_MAX;
+    for (size_t i = 1; i <= pad; i++)
+        if (text[len - TRAILER - pad + i - 1] != i)
+            return SIZE_MAX;
+    return len - TRAILER - pad;
+}
+
+/* ---- answers ---- */
+
+static void print_bytes(const uint8_t *at, size_t len) {
+    static const char digits[] = "0123456789abcdef";
+    for (size_t i = 0; i < len; i++) {
+        putchar(digits[at[i] >> 4]);
+        putchar(digits[at[i] & 15]);
+    }
+}
+
+static void print_sealed(const struct packet *p) {
+    printf("%zu ", p->number);
+    print_bytes(p->bytes, SPI);
+    print_bytes(p->seq_high, p->is_esn ? SEQ : 0);
+    print_bytes(p->bytes + SPI, p->len - SPI);
+    print_bytes(p->tag, p->suite->tag_len);
+    putchar('\n');
+}
+
+/* Nothing of the text is looked at before the tags are the same. */
+static void print_opened(const struct packet *p) {
+    const uint8_t *text = p->bytes + text_at(p);
+    size_t len = p->len - text_at(p), payload = SIZE_MAX;
+    if (is_same_tag(p->received, p->tag, p->suite->tag_len))
+        payload = payload_len(text, len);
+    if (payload == SIZE_MAX) {
+        printf("%zu drop\n", p->number);
+        return;
+    }
+    printf("%zu %u ", p->number, text[len - 1]);
+    if (payload == 0)
+        putchar('-');
+    print_bytes(text, payload);
+    putchar('\n');
+}
+
+static void answer(const MBJ_JOB *done) {
+    const struct packet *p = (const struct packet *)done->user_data;
+    if (p->task == DROP || done->status != MBJ_STATUS_COMPLETED)
+        printf("%zu drop\n", p->number);
+    else if (p->task == SEAL)
+        print_sealed(p);
+    else
+        print_opened(p);
+}
+
+/* ---- jobs ---- */
+
+/* A combined mode authenticates SPI and SEQ, with its high half between them, as additional data (RFC 4106, section 5). */
+static size_t put_aad(struct packet *p) {
+    uint8_t *end = put(put(p->aad, p->bytes, SPI), p->seq_high, p->is_esn ? SEQ : 0);
+    return (size_t)(put(end, p->bytes + SPI, SEQ) - p->aad);
+}
+
+/* Else all from SPI to the text's end is authenticated, and behind it the high half of SEQ (RFC 4303, section 2.2.1), which the tag
+ * overwrites later. */
+static size_t put_hashed(struct packet *p) {
+    return (size_t)(put(p->bytes + p->len, p->seq_high, p->is_esn ? SEQ : 0) - p->bytes);
+}
+
+/* A packet that is none goes through the manager as a job that does nothing, so that its answer comes in its turn. */
+static void fill_job(MBJ_JOB *job, const struct association *sa, struct packet *p) {
+    const struct suite *suite = p->suite;
+    size_t key_len = sa->key.len - suite->salt_len;
+    bool is_sealed = p->task == SEAL;
+    job->user_data = p;
+    job->cipher_mode = p->task == DROP ? (uint32_t)MBJ_CIPHER_NULL : suite->cipher;
+    job->hash_alg = p->task == DROP ? (uint32_t)MBJ_AUTH_NULL : suite->auth;
+    if (p->task == DROP)
+        return;
+    job->cipher_direction = is_sealed ? MBJ_DIR_ENCRYPT : MBJ_DIR_DECRYPT;
+    job->chain_order = is_sealed ? MBJ_ORDER_CIPHER_HASH : MBJ_ORDER_HASH_CIPHER;
+    job->key = sa->key.at;
+    job->key_len_in_bytes = key_len;
+    job->iv = p->iv;
+    uint8_t *salt_end = put(p->iv, sa->key.at + key_len, suite->salt_len);
+    job->iv_len_in_bytes = (size_t)(put(salt_end, p->bytes + HEADER, suite->iv_len) - p->iv);
+    job->cipher_start_src_offset_in_bytes = text_at(p);
+    job->msg_len_to_cipher_in_bytes = p->len - text_at(p);
+    job->dst = p->bytes + text_at(p); /* in place */
+    job->auth_key = sa->akey.at;
+    job->auth_key_len_in_bytes = sa->akey.len;
+    job->aad = p->aad;
+    job->aad_len_in_bytes = put_aad(p);
+    job->packet = p->bytes;
+    job->packet_len_in_bytes = job->msg_len_to_hash_in_bytes = put_hashed(p);
+    job->auth_tag_output = p->tag;
+    job->auth_tag_output_len_in_bytes = suite->tag_len;
+}
+
+/* ---- lines ---- */
+
+enum { SEAL_FIELDS = 9, OPEN_FIELDS = 5 };
+
+static int digit_value(uint8_t digit) {
+    const char *digits = "0123456789abcdefABCDEF", *at = (const char *)memchr(digits, digit, 22);
+    return at == NULL ? -1 : (int)(at - digits < 16 ? at - digits : at - digits - 6);
+}
+
+/* Pairs of hexadecimal digits, or `-`: the bytes are written over the digits. */
+static bool read_bytes(struct bytes *field) {
+    size_t len = field->len;
+    bool is_none = len == 1 && field->at[0] == '-';
+    field->len = is_none ? 0 : len / 2;
+    for (size_t i = 0; i < field->len; i++) {
+        int high = digit_value(field->at[2 * i]), low = digit_value(field->at[2 * i + 1]);
+        if (high < 0 || low < 0)
+            return false;
+        field->at[i] = (uint8_t)(high * 16 + low);
+    }
+    return is_none || (len != 0 && len % 2 == 0);
+}
+
+/* A number to this base that is at most the limit. */
+static bool read_number(struct bytes field, unsigned base, uint64_t limit, uint64_t *number) {
+    *number = 0;
+    for (size_t i = 0; i < field.len; i++) {
+        int value = digit_value(field.at[i]);
+        if (value < 0 || (unsigned)value >= base || *number > (limit - (unsigned)value) / base)
+            return false;
+        *number = *number * base + (unsigned)value;
+    }
+    return field.len != 0;
+}
+
+static bool is_word(struct bytes field, const char *word) {
+    return field.len == strlen(word) && memcmp(field.at, word, field.len) == 0;
+}
+
+/* The suite's name, with -esn behind it or not. */
+static bool read_suite(struct bytes field, struct association *sa) {
+    static const char esn[] = "-esn";
+    size_t len = sizeof esn - 1;
+    sa->is_esn = field.len > len && memcmp(field.at + field.len - len, esn, len) == 0;
+    field.len -= sa->is_esn ? len : 0;
+    for (size_t i = 0; i < sizeof suites / sizeof *suites; i++)
+        if (is_word(field, suites[i].name)) {
+            sa->suite = &suites[i];
+            return true;
+        }
+    return false;
+}
+
+/* The packet of the fields SPI SEQ IV NEXT PAYLOAD, as it is before it is enciphered; what is wrong with them, or NULL. */
+static const char *put_together(struct packet *p, struct bytes *f) {
+    uint64_t spi, seq, next;
+    if (!read_number(f[0], 16, UINT32_MAX, &spi))
+        return "no SPI";
+    if (!read_number(f[1], 10, p->is_esn ? UINT64_MAX : UINT32_MAX, &seq))
+        return "no SEQ";
+    if (!read_bytes(&f[2]) || f[2].len != p->suite->iv_len)
+        return "no IV of the suite";
+    if (!read_number(f[3], 10, UINT8_MAX, &next))
+        return "no NEXT";
+    if (!read_bytes(&f[4]))
+        return "no PAYLOAD";
+    size_t align = p->suite->align, pad = (align - (f[4].len + TRAILER) % align) % align;
+    if (f[4].len > MAX_PACKET || text_at(p) + f[4].len + pad + TRAILER + p->suite->tag_len > MAX_PACKET)
+        return "PAYLOAD too long";
+    put_number(p->bytes, spi, SPI);
+    put_number(p->bytes + SPI, seq, SEQ);
+    put_number(p->seq_high, seq >> 32, SEQ);
+    uint8_t *end = put(put(p->bytes + HEADER, f[2].at, f[2].len), f[4].at, f[4].len);
+    for (size_t i = 1; i <= pad; i++)
+        *end++ = (uint8_t)i;
+    *end++ = (uint8_t)pad;
+    *end++ = (uint8_t)next;
+    p->len = (size_t)(end - p->bytes);
+    return NULL;
+}
+
+/* Cuts a line at its single spaces; how many fields it has, or one more than fit. */
+static size_t split(uint8_t *line, size_t len, struct bytes *fields) {
+    size_t count = 0, start = 0;
+    for (size_t i = 0; i <= len && count < SEAL_FIELDS; i++)
+        if (i == len || line[i] == ' ') {
+            fields[count].at = line + start;
+            fields[count++].len = i - start;
+            start = i + 1;
+        }
+    return start > len ? count : count + 1;
+}
+
+/* Reads a line into a packet and its association; what is wrong with it, or NULL. */
+static const char *read_line(uint8_t *line, size_t len, struct association *sa, struct packet *p) {
+    struct bytes f[SEAL_FIELDS];
+    size_t count = split(line, len, f);
+    if (!(count == SEAL_FIELDS && is_word(f[0], "seal")) && !(count == OPEN_FIELDS && is_word(f[0], "open")))
+        return "neither seal nor open with its fields";
+    if (!read_suite(f[1], sa))
+        return "no such SUITE";
+    if (!read_bytes(&f[2]) || !read_bytes(&f[3]))
+        return "no KEY or AKEY";
+    sa->key = f[2];
+    sa->akey = f[3];
+    if (!has_keys(sa))
+        return "no KEY and AKEY of the suite";
+    p->suite = sa->suite;
+    p->is_esn = sa->is_esn;
+    p->task = SEAL;
+    if (count == SEAL_FIELDS)
+        return put_together(p, f + 4);
+    if (!read_bytes(&f[4]))
+        return "no PACKET";
+    p->task = take_apart(p, f[4]) ? OPEN : DROP;
+    return NULL;
+}
+
+/* ---- the gateway ---- */
+
+static int complain(const char *what) {
+    fprintf(stderr, "esp: %s\n", what);
+    return FAILED;
+}
+
+static int do_line(MBJ_MGR *m, uint8_t *line, size_t len, size_t number) {
+    struct association sa;
+    struct packet *p = &packets[number % MBJ_MAX_JOBS];
+    if (mbj_queue_size(m) == MBJ_MAX_JOBS)
+        answer(mbj_flush_job(m));
+    p->number = number;
+    const char *fault = read_line(line, len, &sa, p);
+    if (fault != NULL) {
+        fprintf(stderr, "esp: line %zu: %s\n", number + 1, fault);
+        return BAD_LINE;
+    }
+    fill_job(mbj_get_next_job(m), &sa, p);
+    for (const MBJ_JOB *done = mbj_submit_job(m); done != NULL; done = mbj_get_completed_job(m))
+        answer(done);
+    enum mbj_refusal refusal = mbj_get_errno(m);
+    return refusal == MBJ_ERR_NONE ? 0 : complain(mbj_refusal_text(refusal));
+}
+
+static int run(MBJ_MGR *m) {
+    char *line = NULL;
+    size_t room = 0, number = 0;
+    ssize_t len;
+    int status = 0;
+    while (status == 0 && (len = getline(&line, &room, stdin)) >= 0)
+        status = do_line(m, (uint8_t *)line, (size_t)(line[len - 1] == '\n' ? len - 1 : len), number++);
+    free(line);
+    for (const MBJ_JOB *done; (done = mbj_flush_job(m)) != NULL;)
+        answer(done);
+    if (status == 0 && !feof(stdin))
+        status = complain("reading failed");
+    return status;
+}
+
+int main(void) {
+    static MBJ_MGR m;
+    enum mbj_refusal refusal = mbj_init_mgr(&m);
+    if (refusal != MBJ_ERR_NONE)
+        return complain(mbj_refusal_text(refusal));
+    int status = run(&m);
+    mbj_end_mgr(&m);
+    if ((fflush(stdout) != 0 || ferror(stdout)) && status == 0)
+        status = complain("writing failed");
+    return status;
+}
