@@ -1,0 +1,58 @@
+/* What is timed, by which library: shared by the files of the bench. */
+#ifndef BENCH_H
+#define BENCH_H
+
+#include <stdbool.h>
+#include <stddef.h>
+#include <stdint.h>
+
+enum { BATCH = 256, MAX_LEN = 65535, TAG_ROOM = 64 };
+
+enum cipher { NO_CIPHER, CBC, CTR, GCM };
+
+enum auth { NO_AUTH, HMAC_SHA_1, HMAC_SHA_224, HMAC_SHA_256, HMAC_SHA_384, HMAC_SHA_512, CMAC, GCM_TAG };
+
+/* A kind of jobs: a cipher, an authentication, or both, the packet being enciphered before it is authenticated. */
+struct work {
+    enum cipher cipher;
+    enum auth auth;
+};
+
+/* The packets of a pass, which are enciphered in place, and where their tags go. */
+struct batch {
+    uint8_t *packets[BATCH];
+    size_t lens[BATCH];
+    uint8_t tags[BATCH][TAG_ROOM];
+};
+
+/* The keys of all jobs: 128 bits for AES, as many as its tag has for an HMAC. */
+struct keys {
+    uint8_t aes[16], hmac[TAG_ROOM], iv[16], aad[12];
+};
+
+extern const struct keys keys;
+
+/* Bytes of the tag. */
+size_t tag_len(const struct work *work);
+
+/* Bytes of the IV. */
+size_t iv_len(const struct work *work);
+
+/* Prints why, and ends the program. */
+void give_up(const char *why);
+
+/* A library: what starts it for a kind of jobs, in the thread that uses it, puts a batch through it, and ends it. */
+struct library {
+    const char *name;
+    void *(*start)(const struct library *library, const struct work *work);
+    void (*pass)(void *started, const struct work *work, struct batch *batch);
+    void (*end)(void *started);
+};
+
+/* This library. */
+extern const struct library ours;
+
+/* The managers that intel-ipsec-mb offers here, and how many they are: none where the bench is built without it. */
+const struct library *theirs(size_t *count);
+
+#endif
