@@ -114,7 +114,7 @@ $(BUILD)/%/mbj_processor.o: include/mbj_processor.c include/mbj.h $(BUILD)/setti
 	@mkdir -p $(@D)
 	$(compile) -DMBJ_LEVEL=$(*:x86-64-v%=%) '-DMBJ_TOOLCHAIN="$(TOOLCHAIN)"'
 
-$(BUILD)/mbj_heap.o: include/mbj_heap.c $(BUILD)/settings
+$(BUILD)/mbj_heap.o: include/mbj_heap.c include/mbj_heap.h $(BUILD)/settings
 	@mkdir -p $(@D)
 	$(compile)
 
@@ -142,13 +142,14 @@ override PREFIX := $(abspath $(PREFIX))
 CMAKEDIR := $(LIBDIR)/cmake/mbj
 HWCAPSDIR := $(LIBDIR)/glibc-hwcaps/$(avx2)
 
+headers := include/mbj.h include/mbj_heap.h include/mbj_heap_pool.h
 documents := README.md $(wildcard docs/*.md)
-examples := $(wildcard examples/c/*.c) include/mbj_heap.c include/mbj_symbols.c
+examples := $(wildcard examples/c/*.c) $(wildcard include/mbj_heap*.c) include/mbj_symbols.c
 described := $(LIBDIR)/pkgconfig/mbj.pc $(LIBDIR)/pkgconfig/mbj-static.pc $(CMAKEDIR)/mbjConfig.cmake $(CMAKEDIR)/mbjConfigVersion.cmake
 
 # What goes where, by what is done with it. Files that aren't there are left out.
 define files
-$(call $(1),644,include/mbj.h,$(INCLUDEDIR))
+$(call $(1),644,$(headers),$(INCLUDEDIR))
 $(call $(1),644,$(main)/$(static),$(LIBDIR))
 $(call $(1),755,$(main)/$(shared),$(LIBDIR))
 $(call $(1),755,$(beside:%=%/$(shared)),$(HWCAPSDIR))

@@ -44,6 +44,101 @@ static void a_job_is_submitted_again_where_memory_wanted(MBJ_MGR *m) {
     CHECK(finish(m) == job && is_done(job) && memcmp(tag, mac, sizeof mac) == 0);
 }
 
+/* Submits the job, which takes so many blocks and no more, and all of them are free once it is given back. */
+static void submit_for_blocks(MBJ_MGR *m, long expected) {
+    long before = blocks;
+    allocations = 0;
+    const MBJ_JOB *done = mbj_submit_job(m);
+    CHECK(mbj_get_errno(m) == MBJ_ERR_NONE && (done != NULL || blocks == before + expected));
+    if (done == NULL)
+        done = mbj_flush_job(m);
+    CHECK(done != NULL && is_done(done) && allocations == expected && blocks == before);
+}
+
+/* A block for each of keys, IV, additional data and packet that the job uses and that has bytes. */
+static void a_job_takes_a_block_for_each_of_its_bytes(MBJ_MGR *m) {
+    uint8_t dst[CBC_BYTES], tag[MAC_BYTES];
+    MBJ_JOB *job = mbj_get_next_job(m);
+    job->cipher_mode = MBJ_CIPHER_NULL;
+    job->hash_alg = MBJ_AUTH_NULL;
+    submit_for_blocks(m, 0);
+    fill_mac(mbj_get_next_job(m), mac_text, sizeof mac_text, tag);
+    submit_for_blocks(m, 2);
+    fill_cbc(mbj_get_next_job(m), cbc_text, sizeof cbc_text, 0, dst);
+    submit_for_blocks(m, 3);
+    job = mbj_get_next_job(m);
+    fill_mac(job, cbc_text, sizeof cbc_text, tag);
+    fill_cbc(job, cbc_text, sizeof cbc_text, 0, dst);
+    job->hash_alg = MBJ_AUTH_HMAC_SHA_1;
+    submit_for_blocks(m, 4);
+    job = mbj_get_next_job(m);
+    fill_gcm(job, gcm_zeros, dst, tag);
+    job->auth_key = mac_key;
+    job->auth_key_len_in_bytes = sizeof mac_key;
+    submit_for_blocks(m, 3);
+    job = mbj_get_next_job(m);
+    fill_gcm(job, gcm_zeros, dst, tag);
+    job->aad = mac_text;
+    job->aad_len_in_bytes = sizeof mac_text;
+    submit_for_blocks(m, 4);
+}
+
+/* A kind of work, the key of one of its jobs, and how many lanes docs/C.md says that it has. */
+struct lanes {
+    uint32_t cipher, auth, kind, count;
+    size_t key_len;
+};
+
+static void fill_lane(MBJ_JOB *job, const struct lanes *lanes, uint8_t *dst, uint8_t *tag) {
+    static const uint8_t key[32] = {0};
+    if (lanes->cipher != MBJ_CIPHER_NULL) {
+        fill_cbc(job, cbc_text, sizeof cbc_text, 0, dst);
+        job->key = key;
+        job->key_len_in_bytes = lanes->key_len;
+        return;
+    }
+    fill_mac(job, mac_text, sizeof mac_text, tag);
+    job->hash_alg = lanes->auth;
+    job->auth_key = key;
+    job->auth_key_len_in_bytes = lanes->key_len;
+    job->auth_tag_output_len_in_bytes = 16;
+}
+
+static uint32_t count_waiting(MBJ_MGR *m, uint32_t kind) {
+    struct mbj_counts counts;
+    CHECK(mbj_c_count(&m->handle, kind, &counts));
+    return counts.waiting;
+}
+
+/* Jobs of a kind wait until there is one for each lane; then all of the same length are finished. */
+static void lanes_run_once_all_are_in_use(MBJ_MGR *m) {
+    static const struct lanes all[] = {
+        {MBJ_CIPHER_CBC, MBJ_AUTH_NULL, MBJ_KIND_CBC_128, 32, 16},
+        {MBJ_CIPHER_CBC, MBJ_AUTH_NULL, MBJ_KIND_CBC_192, 32, 24},
+        {MBJ_CIPHER_CBC, MBJ_AUTH_NULL, MBJ_KIND_CBC_256, 32, 32},
+        {MBJ_CIPHER_NULL, MBJ_AUTH_AES_CMAC, MBJ_KIND_CMAC_128, 32, 16},
+        {MBJ_CIPHER_NULL, MBJ_AUTH_AES_CMAC_256, MBJ_KIND_CMAC_256, 32, 32},
+        {MBJ_CIPHER_NULL, MBJ_AUTH_HMAC_SHA_1, MBJ_KIND_HMAC_SHA_1, 16, 20},
+        {MBJ_CIPHER_NULL, MBJ_AUTH_HMAC_SHA_224, MBJ_KIND_HMAC_SHA_256, 16, 28},
+        {MBJ_CIPHER_NULL, MBJ_AUTH_HMAC_SHA_256, MBJ_KIND_HMAC_SHA_256, 16, 32},
+        {MBJ_CIPHER_NULL, MBJ_AUTH_HMAC_SHA_384, MBJ_KIND_HMAC_SHA_512, 8, 32},
+        {MBJ_CIPHER_NULL, MBJ_AUTH_HMAC_SHA_512, MBJ_KIND_HMAC_SHA_512, 8, 32},
+    };
+    uint8_t dst[CBC_BYTES], tag[MAC_BYTES];
+    for (size_t k = 0; k < sizeof all / sizeof *all; k++) {
+        const struct lanes *lanes = &all[k];
+        uint32_t given = 0;
+        for (uint32_t i = 1; i <= lanes->count; i++) {
+            fill_lane(mbj_get_next_job(m), lanes, dst, tag);
+            MBJ_JOB *done = mbj_submit_job(m);
+            CHECK((done != NULL) == (i == lanes->count) && count_waiting(m, lanes->kind) == i % lanes->count);
+            for (; done != NULL; done = mbj_get_completed_job(m), given++)
+                CHECK(is_done(done));
+        }
+        CHECK(given == lanes->count && mbj_queue_size(m) == 0);
+    }
+}
+
 /* Many jobs come back in the order of submission; where none is left, one is flushed. */
 static void jobs_come_back_in_order(MBJ_MGR *m) {
     enum { COUNT = 700 };
@@ -264,6 +359,8 @@ int main(void) {
     jobs_that_are_not_there(m);
     a_job_that_does_nothing(m);
     a_job_is_submitted_again_where_memory_wanted(m);
+    a_job_takes_a_block_for_each_of_its_bytes(m);
+    lanes_run_once_all_are_in_use(m);
     jobs_come_back_in_order(m);
     mbj_free_mgr(m);
     CHECK(blocks == before);

@@ -12,6 +12,8 @@ trap 'rm -rf "$room"' EXIT
 warnings='-Wall -Wextra -Wconversion -Wshadow -Wpedantic -Werror'
 level_2='-DMBJ_LEVEL=2 -DMBJ_TOOLCHAIN="none"'
 level_3='-DMBJ_LEVEL=3 -DMBJ_TOOLCHAIN="none"'
+sanitizers='-fsanitize=address,undefined -fno-sanitize-recover=all'
+export ASAN_OPTIONS=exitcode=23 UBSAN_OPTIONS=halt_on_error=1 TSAN_OPTIONS=halt_on_error=1
 wraps='-Wl,--wrap=malloc,--wrap=calloc,--wrap=realloc,--wrap=free,--wrap=mbj_c_version,--wrap=mbj_c_missing_feature'
 
 # check NAME COMMAND..: runs the command, and ends the script where it fails.
@@ -25,6 +27,13 @@ check() {
         tail -5 "$room/log"
         exit 1
     fi
+}
+
+# compilers: those that are installed; of the others standard error says that they are skipped.
+compilers() {
+    for compiler in gcc g++ clang clang++; do
+        if command -v $compiler > "$room/log"; then echo $compiler; else echo "skip $compiler: it isn't installed" >&2; fi
+    done
 }
 
 # compile COMPILER FLAGS OUTPUT SOURCE..: as C11 or as C++17, by the compiler's name.
@@ -48,4 +57,20 @@ layout() {
     compile "$cc" -c "$room/symbols.o" "$top/include/mbj_symbols.c" || return 1
     nm --defined-only --extern-only "$lib" "$room/symbols.o" | sed -n 's/.* T \(mbj_.*\)/\1/p' | LC_ALL=C sort >> "$room/layout"
     diff "$tests/layout.txt" "$room/layout"
+}
+
+# each_refused STATUS PROGRAM FILE: with each allocation refused in turn the program ends with the status and says that memory wants, having
+# printed a front of the text, until a run takes fewer allocations.
+each_refused() {
+    "$2" < "$3" > "$room/want" || return 1
+    for number in $(seq 1 2000); do
+        MBJ_REFUSE=$number "$2" < "$3" > "$room/out" 2> "$room/err"
+        case $? in
+        0) cmp "$room/want" "$room/out" && [ "$number" -gt 3 ] && echo "$((number - 1)) allocations" > "$room/count"
+           return ;;
+        "$1") head -c "$(wc -c < "$room/out")" "$room/want" | cmp - "$room/out" && grep -q 'out of memory' "$room/err" || return 1 ;;
+        *) cat "$room/err"; return 1 ;;
+        esac
+    done
+    return 1
 }

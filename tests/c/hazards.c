@@ -1,6 +1,9 @@
 /* Tests what an engineer may fall into: packets that can't be written or are shared, lengths beyond 32 bits, codes that are none,
- * pointers that are NULL, overlap or lie at odd addresses. */
+ * pointers that are NULL, overlap or lie at odd addresses, and a fork. */
 #include "check.h"
+
+#include <sys/wait.h>
+#include <unistd.h>
 
 /* ---- packets are read and never written ---- */
 
@@ -266,9 +269,25 @@ static void no_job_is_lost_by_the_usual_loop(MBJ_MGR *m) {
     CHECK(back == COUNT);
 }
 
+/* In a process without threads the child has a manager of its own, with the same jobs. */
+static void a_fork_copies_the_jobs(MBJ_MGR *m) {
+    uint8_t tag[MAC_BYTES] = {0};
+    int status = 1;
+    MBJ_JOB *job = mbj_get_next_job(m);
+    fill_mac(job, mac_text, sizeof mac_text, tag);
+    CHECK(mbj_submit_job(m) == NULL && mbj_get_errno(m) == MBJ_ERR_NONE);
+    pid_t child = fork();
+    CHECK(child >= 0);
+    if (child == 0)
+        _exit(mbj_flush_job(m) == job && is_done(job) && memcmp(tag, mac, sizeof mac) == 0 ? 0 : 1);
+    CHECK(waitpid(child, &status, 0) == child && status == 0 && is_all(tag, sizeof tag, 0));
+    CHECK(mbj_flush_job(m) == job && is_done(job) && memcmp(tag, mac, sizeof mac) == 0);
+}
+
 int main(void) {
     MBJ_MGR *m = mbj_alloc_mgr();
     CHECK(m != NULL);
+    a_fork_copies_the_jobs(m);
     a_constant_packet_is_authenticated(m);
     a_shared_packet_stays_enciphered(m);
     the_ciphered_range_goes_elsewhere(m);

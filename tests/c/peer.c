@@ -35,10 +35,10 @@ static bool cipher_range(const MBJ_JOB *job, const uint8_t *from, uint8_t *to) {
 }
 
 /* Enciphers the range by GCM, from the plain text that the job has or gives. */
-static bool gcm_agrees(const MBJ_JOB *job, const uint8_t *dst, const uint8_t *tag) {
+static bool gcm_agrees(const MBJ_JOB *job, const uint8_t *packet, const uint8_t *dst, const uint8_t *tag) {
     bool is_enc = job->cipher_direction == MBJ_DIR_ENCRYPT;
     size_t text_len = (size_t)job->msg_len_to_cipher_in_bytes;
-    const uint8_t *range = job->packet + job->cipher_start_src_offset_in_bytes;
+    const uint8_t *range = packet + job->cipher_start_src_offset_in_bytes;
     uint8_t *ciphertext = (uint8_t *)malloc(text_len + BLOCK), own_tag[BLOCK] = {0};
     EVP_CIPHER *cipher = cipher_of("-GCM", job->key_len_in_bytes);
     EVP_CIPHER_CTX *c = EVP_CIPHER_CTX_new();
@@ -81,21 +81,26 @@ static bool mac_agrees(const MBJ_JOB *job, const uint8_t *packet, const uint8_t 
     return is_done;
 }
 
+/* Ciphers the copy of the packet, and authenticates it before or afterwards. */
+static bool both_agree(const MBJ_JOB *job, uint8_t *packet, const uint8_t *dst, const uint8_t *tag) {
+    bool is_hash_first = job->chain_order == MBJ_ORDER_HASH_CIPHER, has_tag = job->hash_alg != MBJ_AUTH_NULL;
+    uint8_t *range = packet + job->cipher_start_src_offset_in_bytes;
+    if (has_tag && is_hash_first && !mac_agrees(job, packet, tag))
+        return false;
+    if (job->cipher_mode != MBJ_CIPHER_NULL &&
+        (!cipher_range(job, range, range) || memcmp(range, dst, (size_t)job->msg_len_to_cipher_in_bytes) != 0))
+        return false;
+    return !has_tag || is_hash_first || mac_agrees(job, packet, tag);
+}
+
+/* The packet is copied, also since one of no byte may be at NULL. */
 bool peer_agrees(const MBJ_JOB *job, const uint8_t *dst, const uint8_t *tag) {
-    if (job->cipher_mode == MBJ_CIPHER_GCM)
-        return gcm_agrees(job, dst, tag);
     uint8_t *packet = (uint8_t *)malloc(job->packet_len_in_bytes + BLOCK);
     if (packet == NULL)
         return false;
-    bool is_same = true;
     if (job->packet_len_in_bytes != 0)
         memcpy(packet, job->packet, job->packet_len_in_bytes);
-    if (job->cipher_mode != MBJ_CIPHER_NULL) {
-        uint8_t *range = packet + job->cipher_start_src_offset_in_bytes;
-        is_same = cipher_range(job, range, range) && memcmp(range, dst, (size_t)job->msg_len_to_cipher_in_bytes) == 0;
-    }
-    if (job->hash_alg != MBJ_AUTH_NULL)
-        is_same = is_same && mac_agrees(job, job->chain_order == MBJ_ORDER_CIPHER_HASH ? packet : job->packet, tag);
+    bool is_same = job->cipher_mode == MBJ_CIPHER_GCM ? gcm_agrees(job, packet, dst, tag) : both_agree(job, packet, dst, tag);
     free(packet);
     return is_same;
 }
