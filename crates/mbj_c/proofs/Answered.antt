@@ -1,5 +1,5 @@
 -- What an answer's code says, where memory may want.
-use Rattle.std.proofs.Common.{◌≡◌, ◌≢◌, Ok, Err, Result, refl, ap}
+use Rattle.std.proofs.Common.{◌≡◌, ◌≢◌, ◌∙◌, Ok, Err, Result, refl, ap}
 use Rattle.mbj_c.specs.declared.refusal.Refusal.{Refusal}
 use Rattle.mbj_c.specs.Codes.{code_of, refusal_code}
 use Rattle.mbj_c.specs.Inside.Answers.{IsDoneAs}
@@ -17,3 +17,10 @@ pub state-wanted : {A : Type 0} (want : Result Unit Refusal) (next before : A) (
 state-wanted (Ok u) next before (Ok v) after is other = is
 state-wanted (Ok u) next before (Err r) after is other = absurd (other (ap refusal_code is.0))
 state-wanted (Err q) next before answer after is other = is.1
+
+-- where it is that of want of memory, the state is the one before, as with each refusal that is wanted
+pub state-kept : {A : Type 0} (want : Result Unit Refusal) (next before : A) (answer : Result Unit Refusal) (after : A)
+    → IsDoneAs want next before answer after → ((q : Refusal) → want ≡ Err q → next ≡ before) → code_of answer ≡ 3 → after ≡ before
+state-kept (Ok u) next before (Ok v) after is kept memory = absurd (cc)
+state-kept (Ok u) next before (Err r) after is kept memory = is.1
+state-kept (Err q) next before answer after is kept memory = is.1 ∙ kept q refl

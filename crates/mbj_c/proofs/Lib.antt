@@ -5,3 +5,4 @@ mod Ranges
 mod Packets
 mod CallLaws
 mod Answered
+mod Refused

@@ -10,7 +10,7 @@ use Rattle.mbj_types.specs.declared.job.Auth.{Auth}
 use Rattle.mbj_types.specs.declared.job.Auth.TheVariants as auth
 
 abbrev pub ciphers : List Cipher
-ciphers = cipher.Null ∷ cipher.Cbc ∷ cipher.Ctr ∷ cipher.Gcm ∷ []
+ciphers = cipher.Null ∷ cipher.Cbc ∷ cipher.Ctr ∷ cipher.Gcm ∷ cipher.Ccm ∷ []
 
 abbrev pub dirs : List Dir
 dirs = dir.Enc ∷ dir.Dec ∷ []
@@ -21,4 +21,5 @@ orders = order.CipherHash ∷ order.HashCipher ∷ []
 abbrev pub auths : List Auth
 auths =
     auth.Null ∷ auth.HmacSha1 ∷ auth.HmacSha224 ∷ auth.HmacSha256 ∷ auth.HmacSha384 ∷ auth.HmacSha512
-    ∷ auth.Cmac128 ∷ auth.Cmac256 ∷ auth.Gcm ∷ []
+    ∷ auth.Cmac128 ∷ auth.Cmac256 ∷ auth.Gcm ∷ auth.Gmac ∷ auth.Ccm
+    ∷ auth.Sha1 ∷ auth.Sha224 ∷ auth.Sha256 ∷ auth.Sha384 ∷ auth.Sha512 ∷ []

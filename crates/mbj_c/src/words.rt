@@ -15,13 +15,19 @@ pub(crate) struct Words {
     pub(crate) auth: Auth,
 }
 
-const CIPHERS: [Cipher; 4] = [Cipher::Null, Cipher::Cbc, Cipher::Ctr, Cipher::Gcm];
+const CIPHERS: [Cipher; 5] = [
+    Cipher::Null,
+    Cipher::Cbc,
+    Cipher::Ctr,
+    Cipher::Gcm,
+    Cipher::Ccm,
+];
 
 const DIRS: [Dir; 2] = [Dir::Enc, Dir::Dec];
 
 const ORDERS: [Order; 2] = [Order::CipherHash, Order::HashCipher];
 
-const AUTHS: [Auth; 9] = [
+const AUTHS: [Auth; 16] = [
     Auth::Null,
     Auth::HmacSha1,
     Auth::HmacSha224,
@@ -31,6 +37,13 @@ const AUTHS: [Auth; 9] = [
     Auth::Cmac128,
     Auth::Cmac256,
     Auth::Gcm,
+    Auth::Gmac,
+    Auth::Ccm,
+    Auth::Sha1,
+    Auth::Sha224,
+    Auth::Sha256,
+    Auth::Sha384,
+    Auth::Sha512,
 ];
 
 /// The cipher with this code. Answers `None` exactly where the code is none.

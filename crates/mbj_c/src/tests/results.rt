@@ -111,9 +111,9 @@ fn check_counts(rt: &impl Abort, alloc: Global, handle: &mut Handle) {
     let mut counts = before;
     assert!(rt; !mbj_c_count(alloc, handle, 0, &mut counts));
     expect_number(rt, mbj_c_new(alloc, handle), 0);
-    assert!(rt; !mbj_c_count(alloc, handle, 8, &mut counts));
+    assert!(rt; !mbj_c_count(alloc, handle, 11, &mut counts));
     expect_counts(rt, counts, before);
-    assert!(rt; mbj_c_count(alloc, handle, 7, &mut counts));
+    assert!(rt; mbj_c_count(alloc, handle, 10, &mut counts));
     expect_counts(rt, counts, none);
 }
 
