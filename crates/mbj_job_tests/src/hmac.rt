@@ -1,5 +1,5 @@
 ghost use Rattle.std.specs.Prelude.{◌≡◌};
-ghost use Rattle.mbj_hmac.specs.Names.{serves_auth};
+ghost use Rattle.mbj_hmac.specs.Names.{serves_auth, serves_plain};
 
 use crate::compare::expect;
 use crate::lists::{Tried, case_of, expect_no_rest, packet_of, run_in_one_list};
@@ -49,13 +49,26 @@ const PLAIN_CASES: [Case; 3] = [
 /// The case's tag by HMAC without lanes.
 fn plain_tag(rt: &impl Abort, case: &Case) -> Tag {
     let (auth, key, message, _) = *case;
-    assert!(rt; !matches!(auth, Auth::Null | Auth::Cmac128 | Auth::Cmac256 | Auth::Gcm));
+    assert!(rt;
+        matches!(
+            auth,
+            Auth::HmacSha1
+                | Auth::HmacSha224
+                | Auth::HmacSha256
+                | Auth::HmacSha384
+                | Auth::HmacSha512
+        )
+    );
     hmac_plain(auth, key, message)
 }
 
 /// The tag is what the case has.
 fn check_tag(rt: &impl Abort, case: &Case, tag: &[u8]) {
-    let expected = case.3;
+    expect_hex(rt, case.3, tag);
+}
+
+/// The tag is this one in hex.
+pub(crate) fn expect_hex(rt: &impl Abort, expected: &str, tag: &[u8]) {
     let mut wanted = [0; 64];
     assert!(rt; tag.len() <= wanted.len());
     let wanted = &mut wanted[..tag.len()];
@@ -87,14 +100,23 @@ fn a_key_is_padded_to_its_block(rt: HostRuntime) {
 }
 
 /// Hashes whose lanes tell which authentications they serve.
-trait Serving: LaneHash {
+pub(crate) trait Serving: LaneHash {
+    /// Whether it is the HMAC of a hash that is served.
     fn takes(auth: Auth) -> bool
         ensures { result ≡ serves_auth Self.chaining auth };
+
+    /// Whether it is the digest of a hash that is served.
+    fn takes_plain(auth: Auth) -> bool
+        ensures { result ≡ serves_plain Self.chaining auth };
 }
 
 impl Serving for Sha1Lanes {
     fn takes(auth: Auth) -> bool {
         matches!(auth, Auth::HmacSha1)
+    }
+
+    fn takes_plain(auth: Auth) -> bool {
+        matches!(auth, Auth::Sha1)
     }
 }
 
@@ -102,11 +124,19 @@ impl Serving for Sha256Lanes {
     fn takes(auth: Auth) -> bool {
         matches!(auth, Auth::HmacSha224 | Auth::HmacSha256)
     }
+
+    fn takes_plain(auth: Auth) -> bool {
+        matches!(auth, Auth::Sha224 | Auth::Sha256)
+    }
 }
 
 impl Serving for Sha512Lanes {
     fn takes(auth: Auth) -> bool {
         matches!(auth, Auth::HmacSha384 | Auth::HmacSha512)
+    }
+
+    fn takes_plain(auth: Auth) -> bool {
+        matches!(auth, Auth::Sha384 | Auth::Sha512)
     }
 }
 

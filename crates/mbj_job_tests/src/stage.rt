@@ -122,7 +122,7 @@ fn is(done: &Done, status: Status, packet: u128, tag: &[u8]) -> bool {
 }
 
 /// A job that succeeds makes this packet and this tag.
-fn check_job(rt: &impl Abort, job: Job, packet: u128, tag: &[u8]) {
+pub(crate) fn check_job(rt: &impl Abort, job: Job, packet: u128, tag: &[u8]) {
     let done = do_job(job);
     assert!(rt; is(&done, Status::Ok, packet, tag));
 }
@@ -182,13 +182,23 @@ fn fill_ccm(alloc: Global, job: &mut Job, packet: &[u8]) -> Result<(), AllocErro
     job.auth = Auth::Ccm;
     job.tag_len = 4;
     put_block(alloc, &mut job.key, 0x404142434445464748494a4b4c4d4e4f)?;
-    put(alloc, &mut job.iv, &[0x10, 0x11, 0x12, 0x13, 0x14, 0x15, 0x16])?;
+    put(
+        alloc,
+        &mut job.iv,
+        &[0x10, 0x11, 0x12, 0x13, 0x14, 0x15, 0x16],
+    )?;
     put(alloc, &mut job.aad, &[0, 1, 2, 3, 4, 5, 6, 7])?;
     put(alloc, &mut job.packet, packet)
 }
 
 /// That job in a direction makes this packet, and the example's tag.
-fn check_ccm(rt: &impl Abort, alloc: Global, dir: Dir, given: &[u8], made: &[u8]) -> Result<(), Fail> {
+fn check_ccm(
+    rt: &impl Abort,
+    alloc: Global,
+    dir: Dir,
+    given: &[u8],
+    made: &[u8],
+) -> Result<(), Fail> {
     let mut job = Job::blank(alloc);
     job.dir = dir;
     fill_ccm(alloc, &mut job, given)?;
@@ -205,6 +215,25 @@ fn ccm_makes_text_and_tag(rt: HostRuntime) -> Result<(), Fail> {
     let ciphertext = [0x71, 0x62, 0x01, 0x5b];
     check_ccm(&rt, rt.alloc(), Dir::Enc, &plaintext, &ciphertext)?;
     check_ccm(&rt, rt.alloc(), Dir::Dec, &ciphertext, &plaintext)
+}
+
+/// A job with CBC and the digest of SHA-384 over a packet of one block.
+fn cbc_sha384(alloc: Global, order: Order) -> Result<Job, AllocError> {
+    let mut job = cbc_cmac(alloc, Dir::Enc, order, PLAINTEXT)?;
+    job.auth = Auth::Sha384;
+    Ok(job)
+}
+
+// The leftmost bytes of the digests of the plaintext and of the ciphertext, by Python's hashlib.
+#[test]
+fn a_digest_goes_in_the_order_of_the_job(rt: HostRuntime) -> Result<(), Fail> {
+    let before = cbc_sha384(rt.alloc(), Order::HashCipher)?;
+    let of_plaintext = 0x0961bb6be5c7e896af1a57b8fd0f37ddu128.to_be_bytes();
+    check_job(&rt, before, CIPHERTEXT, &of_plaintext);
+    let after = cbc_sha384(rt.alloc(), Order::CipherHash)?;
+    let of_ciphertext = 0x54c0f98b933ef8d941747d5f592e6832u128.to_be_bytes();
+    check_job(&rt, after, CIPHERTEXT, &of_ciphertext);
+    Ok(())
 }
 
 /// The result of a course that is finished from the beginning.

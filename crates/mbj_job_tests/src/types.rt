@@ -124,7 +124,7 @@ fn refusals_say_what_is_wrong(rt: HostRuntime) -> Result<(), Fail> {
         &rt,
         alloc,
         &Reason::GcmPair,
-        "exactly one of cipher and authentication is GCM",
+        "the authentication doesn't go with the cipher",
     )?;
     check_shown(
         &rt,

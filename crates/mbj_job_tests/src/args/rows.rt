@@ -5,8 +5,8 @@ use super::shape::Length::{
 };
 use super::shape::Row;
 use mbj_types::Auth::{
-    Ccm as CcmAuth, Cmac128, Cmac256, Gcm as GcmAuth, HmacSha1, HmacSha224, HmacSha256, HmacSha384,
-    HmacSha512, Null as NoAuth,
+    Ccm as CcmAuth, Cmac128, Cmac256, Gcm as GcmAuth, Gmac, HmacSha1, HmacSha224, HmacSha256,
+    HmacSha384, HmacSha512, Null as NoAuth, Sha1, Sha224, Sha256, Sha384, Sha512,
 };
 use mbj_types::Cipher::{Cbc, Ccm, Ctr, Gcm, Null as Plain};
 use mbj_types::Reason::{
@@ -18,7 +18,7 @@ use mbj_types::Reason::{
 const MAX: u32 = u32::MAX;
 
 /// Jobs at the boundaries of each row up to the cipher's lengths, on both sides.
-pub(crate) const CIPHER_ROWS: [Row; 64] = [
+pub(crate) const CIPHER_ROWS: [Row; 77] = [
     (Plain, NoAuth, Packet, 16, Packet, 65_535, None),
     (Plain, NoAuth, Packet, 16, Packet, 65_536, Some(PacketLong)),
     (Plain, NoAuth, Packet, 16, Packet, 0, None),
@@ -34,6 +34,14 @@ pub(crate) const CIPHER_ROWS: [Row; 64] = [
     (Gcm, CcmAuth, Packet, 16, Packet, 16, Some(GcmPair)),
     (Plain, CcmAuth, Packet, 16, Packet, 16, Some(GcmPair)),
     (Ctr, CcmAuth, Packet, 16, Packet, 16, Some(GcmPair)),
+    (Ctr, Sha224, Packet, 16, Packet, 16, None),
+    (Gcm, Sha256, Packet, 16, Packet, 16, Some(GcmPair)),
+    (Ccm, Sha384, Packet, 16, Packet, 16, Some(GcmPair)),
+    (Plain, Gmac, Iv, 12, Packet, 16, None),
+    (Cbc, Gmac, Packet, 16, Packet, 16, Some(GcmPair)),
+    (Ctr, Gmac, Packet, 16, Packet, 16, Some(GcmPair)),
+    (Gcm, Gmac, Packet, 16, Packet, 16, Some(GcmPair)),
+    (Ccm, Gmac, Packet, 16, Packet, 16, Some(GcmPair)),
     (Cbc, NoAuth, Key, 0, Packet, 16, Some(CipherKey)),
     (Cbc, NoAuth, Key, 15, Packet, 16, Some(CipherKey)),
     (Cbc, NoAuth, Key, 17, Packet, 16, Some(CipherKey)),
@@ -66,6 +74,11 @@ pub(crate) const CIPHER_ROWS: [Row; 64] = [
     (Ccm, CcmAuth, Iv, 7, Packet, 16, None),
     (Ccm, CcmAuth, Iv, 13, Packet, 16, None),
     (Ccm, CcmAuth, Iv, 14, Packet, 16, Some(IvLength)),
+    (Plain, Gmac, Iv, 0, Packet, 16, Some(IvLength)),
+    (Plain, Gmac, Iv, 1, Packet, 16, None),
+    (Plain, Gmac, Iv, 65_535, Packet, 16, None),
+    (Plain, Gmac, Iv, 65_536, Packet, 16, Some(IvLength)),
+    (Plain, Sha1, Iv, 65_536, Packet, 16, None),
     (Ctr, NoAuth, CipherOff, 15, CipherLen, 1, None),
     (Ctr, NoAuth, CipherOff, 16, CipherLen, 1, Some(CipherRange)),
     (Ctr, NoAuth, CipherLen, 17, Packet, 16, Some(CipherRange)),
@@ -94,7 +107,7 @@ pub(crate) const CIPHER_ROWS: [Row; 64] = [
 ];
 
 /// Jobs at the boundaries of each row from the authentication's key on, on both sides.
-pub(crate) const AUTH_ROWS: [Row; 70] = [
+pub(crate) const AUTH_ROWS: [Row; 105] = [
     (Plain, HmacSha1, MacKey, 0, Packet, 16, None),
     (Plain, HmacSha1, MacKey, 1_024, Packet, 16, None),
     (Plain, HmacSha1, MacKey, 1_025, Packet, 16, Some(AuthKey)),
@@ -108,6 +121,14 @@ pub(crate) const AUTH_ROWS: [Row; 70] = [
     (Plain, Cmac256, MacKey, 33, Packet, 16, Some(AuthKey)),
     (Gcm, GcmAuth, MacKey, 1_025, Packet, 16, None),
     (Ccm, CcmAuth, MacKey, 1_025, Packet, 16, None),
+    (Plain, Sha1, MacKey, 0, Packet, 16, None),
+    (Plain, Sha512, MacKey, 1_025, Packet, 16, None),
+    (Plain, Gmac, Iv, 12, MacKey, 0, Some(AuthKey)),
+    (Plain, Gmac, Iv, 12, MacKey, 15, Some(AuthKey)),
+    (Plain, Gmac, Iv, 12, MacKey, 17, Some(AuthKey)),
+    (Plain, Gmac, Iv, 12, MacKey, 24, None),
+    (Plain, Gmac, Iv, 12, MacKey, 32, None),
+    (Plain, Gmac, Iv, 12, MacKey, 33, Some(AuthKey)),
     (Plain, HmacSha1, HashOff, 16, HashLen, 0, None),
     (Plain, HmacSha1, HashOff, 17, HashLen, 0, Some(HashRange)),
     (Plain, HmacSha1, HashLen, 17, Packet, 16, Some(HashRange)),
@@ -115,6 +136,10 @@ pub(crate) const AUTH_ROWS: [Row; 70] = [
     (Plain, HmacSha1, HashOff, MAX, HashLen, MAX, Some(HashRange)),
     (Plain, Cmac128, HashOff, 16, HashLen, 0, None),
     (Plain, Cmac128, HashOff, 1, Packet, 16, Some(HashRange)),
+    (Plain, Sha256, HashOff, 16, HashLen, 0, None),
+    (Plain, Sha256, HashOff, 17, HashLen, 0, Some(HashRange)),
+    (Plain, Gmac, Iv, 12, HashOff, 1, Some(HashRange)),
+    (Plain, Gmac, Iv, 12, HashLen, 17, Some(HashRange)),
     (Plain, NoAuth, HashOff, 17, Packet, 16, None),
     (Gcm, GcmAuth, HashOff, 17, Packet, 16, None),
     (Ccm, CcmAuth, HashOff, 17, Packet, 16, None),
@@ -152,6 +177,29 @@ pub(crate) const AUTH_ROWS: [Row; 70] = [
     (Plain, Cmac256, TagLen, 1, Packet, 16, None),
     (Plain, Cmac256, TagLen, 16, Packet, 16, None),
     (Plain, Cmac256, TagLen, 17, Packet, 16, Some(TagLength)),
+    (Plain, Sha1, TagLen, 0, Packet, 16, Some(TagLength)),
+    (Plain, Sha1, TagLen, 1, Packet, 16, None),
+    (Plain, Sha1, TagLen, 20, Packet, 16, None),
+    (Plain, Sha1, TagLen, 21, Packet, 16, Some(TagLength)),
+    (Plain, Sha224, TagLen, 0, Packet, 16, Some(TagLength)),
+    (Plain, Sha224, TagLen, 1, Packet, 16, None),
+    (Plain, Sha224, TagLen, 28, Packet, 16, None),
+    (Plain, Sha224, TagLen, 29, Packet, 16, Some(TagLength)),
+    (Plain, Sha256, TagLen, 0, Packet, 16, Some(TagLength)),
+    (Plain, Sha256, TagLen, 1, Packet, 16, None),
+    (Plain, Sha256, TagLen, 32, Packet, 16, None),
+    (Plain, Sha256, TagLen, 33, Packet, 16, Some(TagLength)),
+    (Plain, Sha384, TagLen, 0, Packet, 16, Some(TagLength)),
+    (Plain, Sha384, TagLen, 1, Packet, 16, None),
+    (Plain, Sha384, TagLen, 48, Packet, 16, None),
+    (Plain, Sha384, TagLen, 49, Packet, 16, Some(TagLength)),
+    (Plain, Sha512, TagLen, 0, Packet, 16, Some(TagLength)),
+    (Plain, Sha512, TagLen, 1, Packet, 16, None),
+    (Plain, Sha512, TagLen, 64, Packet, 16, None),
+    (Plain, Sha512, TagLen, 65, Packet, 16, Some(TagLength)),
+    (Plain, Gmac, Iv, 12, TagLen, 0, Some(TagLength)),
+    (Plain, Gmac, Iv, 12, TagLen, 1, None),
+    (Plain, Gmac, Iv, 12, TagLen, 17, Some(TagLength)),
     (Gcm, GcmAuth, TagLen, 0, Packet, 16, Some(TagLength)),
     (Gcm, GcmAuth, TagLen, 1, Packet, 16, None),
     (Gcm, GcmAuth, TagLen, 17, Packet, 16, Some(TagLength)),

@@ -39,26 +39,26 @@ const GCM: [Change; 3] = [(Length::Key, 32), (Length::Iv, 12), (Length::CipherLe
 
 const CCM: [Change; 3] = [(Length::Key, 16), (Length::Iv, 11), (Length::CipherLen, 16)];
 
-/// The lengths of an authentication's job of 16 bytes that the argument table takes.
+/// The lengths of an authentication's job of 16 bytes that the argument table takes, but for the IV of GMAC.
 const NO_AUTH: [Change; 3] = [
     (Length::MacKey, 0),
     (Length::HashLen, 0),
     (Length::TagLen, 0),
 ];
 
-const HMAC: [Change; 3] = [
+const HASH: [Change; 3] = [
     (Length::MacKey, 20),
     (Length::HashLen, 16),
     (Length::TagLen, 12),
 ];
 
-const CMAC_128: [Change; 3] = [
+const AES_128: [Change; 3] = [
     (Length::MacKey, 16),
     (Length::HashLen, 16),
     (Length::TagLen, 16),
 ];
 
-const CMAC_256: [Change; 3] = [
+const AES_256: [Change; 3] = [
     (Length::MacKey, 32),
     (Length::HashLen, 16),
     (Length::TagLen, 16),
@@ -83,10 +83,10 @@ fn lengths_of_cipher(cipher: Cipher) -> &'static [Change; 3] {
 fn lengths_of_auth(auth: Auth) -> &'static [Change; 3] {
     match auth {
         Auth::Null => &NO_AUTH,
-        Auth::Cmac128 => &CMAC_128,
-        Auth::Cmac256 => &CMAC_256,
+        Auth::Cmac128 | Auth::Gmac => &AES_128,
+        Auth::Cmac256 => &AES_256,
         Auth::Gcm | Auth::Ccm => &CIPHERS_TAG,
-        _ => &HMAC,
+        _ => &HASH,
     }
 }
 
