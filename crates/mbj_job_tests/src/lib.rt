@@ -11,6 +11,8 @@ mod args;
 #[cfg(test)]
 mod blocks;
 #[cfg(test)]
+mod bursts;
+#[cfg(test)]
 mod cbc;
 #[cfg(test)]
 mod ccm;
@@ -21,11 +23,15 @@ mod compare;
 #[cfg(test)]
 mod ctr;
 #[cfg(test)]
+mod digests;
+#[cfg(test)]
 mod fill;
 #[cfg(test)]
 mod gcm;
 #[cfg(test)]
 mod ghash;
+#[cfg(test)]
+mod gmac;
 #[cfg(test)]
 mod hmac;
 #[cfg(test)]

@@ -58,7 +58,7 @@ fn a_job_is_filled_submitted_and_taken_back(rt: HostRuntime) -> Result<(), Fail>
 }
 
 /// Writes the tag's length into the open job, and answers what it was. A full ring is `u8::MAX`.
-fn write_tag_len(manager: &mut Manager, tag_len: u8) -> u8
+pub(crate) fn write_tag_len(manager: &mut Manager, tag_len: u8) -> u8
     ensures { length manager.new.owed ≡ length manager.old.owed }
 {
     match manager.get_next() {
@@ -72,12 +72,12 @@ fn write_tag_len(manager: &mut Manager, tag_len: u8) -> u8
 }
 
 /// No job comes back.
-fn expect_none(rt: &impl Abort, back: Option<Done>) {
+pub(crate) fn expect_none(rt: &impl Abort, back: Option<Done>) {
     assert!(rt; back.is_none());
 }
 
 // A null job with a tag length other than 0 is refused for that length.
-fn write_tag_lens(rt: &impl Abort, manager: &mut Manager) {
+pub(crate) fn write_tag_lens(rt: &impl Abort, manager: &mut Manager) {
     expect(rt, "fresh", write_tag_len(manager, 7), 0);
     expect(rt, "lent again", write_tag_len(manager, 9), 7);
     expect_none(rt, manager.get_completed());
