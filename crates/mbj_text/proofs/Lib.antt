@@ -12,4 +12,5 @@ pub mod ScriptLaws
 pub mod ReplayLaws
 pub mod Flows
 pub mod Lines
+pub mod Tellings
 pub mod HexText

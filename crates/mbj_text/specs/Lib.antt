@@ -9,3 +9,4 @@ pub mod Replay
 pub mod Flow
 pub mod Inside
 pub mod Line
+pub mod Telling

@@ -4,12 +4,14 @@ use Rattle.mbj_types.specs.declared.job.Job.{Job}
 use Rattle.mbj_types.specs.Kinds.{all_kinds}
 use Rattle.mbj_types.specs.declared.kind.Kind.{Kind}
 use Rattle.mbj_manager.specs.State.{ManagerState}
-use Rattle.mbj_trace.specs.Trace.{Traced, Tracing, traced, calls_told, count_lines, jobs_told, new_tracing, take_told, takes_told, then_told, trace_lines}
+use Rattle.mbj_trace.specs.Trace.{Traced, Tracing, traced, calls_told, count_lines, jobs_told, new_tracing, take_told, takes_told, trace_lines}
 use Rattle.mbj_trace.specs.Inside.State.{jobs_in}
 use Rattle.mbj_trace.specs.declared.line.TraceLine.{TraceLine}
 use Rattle.mbj_trace.specs.declared.tracer.Taking.{Taking}
 use Rattle.mbj_trace.specs.declared.tracer.Taking.TheVariants as taking
 use Rattle.mbj_text.proofs.Lines.{flat-next}
+use Rattle.mbj_text.proofs.Tellings.{after-told}
+use Rattle.mbj_text.specs.Telling.{then_told}
 
 -- one more kind is told
 pub kind-told : (old now : ManagerState) (lines told all : List TraceLine) (i : ℕ) (d : Kind) → i < length all_kinds → now ≡ old
@@ -22,14 +24,6 @@ kind-told old now lines told all i d below same one before =
     ∙ append_assoc lines (count_lines old.machine (get_or all_kinds i d)) (flat_map (count_lines old.machine) (drop (i + 1) all_kinds))
     ∙ ap (λ ls. lines ++ ls) (sym (flat-next (count_lines old.machine) all_kinds i d below))
     ∙ before
-
--- what is told behind what was told before
-after-told : (told : Traced) (next : Tracing → Traced) (before lines : List TraceLine) (old new : Tracing) → before ≡ told.0 → old ≡ told.1
-    → lines ≡ before ++ (next old).0 → new ≡ (next old).1 → (lines ≡ (then_told told next).0) × (new ≡ (then_told told next).1)
-after-told told next before lines old new told_before is_old more is_new = (
-  more ∙ ap (λ ls. ls ++ (next old).0) told_before ∙ ap (λ t. told.0 ++ (next t).0) is_old,
-  is_new ∙ ap (λ t. (next t).1) is_old,
-)
 
 -- all of a trace, from a new manager on
 pub whole : (jobs : List Job) (t0 t1 t2 t3 : Tracing) (l0 l1 l2 l3 l4 : List TraceLine) → t0 ≡ new_tracing → l0 ≡ []

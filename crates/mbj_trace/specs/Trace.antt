@@ -7,6 +7,7 @@ use Rattle.mbj_types.specs.Kinds.{all_kinds}
 use Rattle.mbj_ring.specs.declared.ring.TheConstants.{CELLS}
 use Rattle.mbj_manager.specs.Machine.Queues.{Machine, queue_for}
 use Rattle.mbj_manager.specs.State.{ManagerState, new_manager, with_open, after_submit, after_get_completed, after_flush}
+use Rattle.mbj_text.specs.Telling.{Told, then_told}
 use Rattle.mbj_trace.specs.Lines.{line_text}
 use Rattle.mbj_trace.specs.declared.line.TraceLine.{TraceLine}
 use Rattle.mbj_trace.specs.declared.line.TraceLine.TheVariants as line
@@ -21,13 +22,8 @@ pub record Tracing : Type 0 where
 abbrev pub new_tracing : Tracing
 new_tracing = record { manager = new_manager; given = 0 }
 
--- lines, and the state after what they tell
 abbrev pub Traced : Type 0
-Traced = List TraceLine × Tracing
-
--- what is told first, and what is told next from the state after that
-abbrev pub then_told : Traced → (Tracing → Traced) → Traced
-then_told first next = (first.0 ++ (next first.1).0, (next first.1).1)
+Traced = Told TraceLine Tracing
 
 -- a call of the manager is told in one line; the job that it gives back, where it gives one, is told by its number
 abbrev pub call_told : (Option ℕ → TraceLine) → (ManagerState → Option Done × ManagerState) → Tracing → Traced
