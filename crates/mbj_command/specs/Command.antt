@@ -10,9 +10,10 @@ use Rattle.clap.specs.ValueTests.{is_unsigned_in}
 use Rattle.clap.specs.declared.builder.action.ArgAction.TheVariants.{Set}
 use Rattle.clap.specs.declared.builder.value_parser.ValueParser.TheVariants as vp
 use Rattle.mbj_core.specs.declared.cells.TheConstants.{MAX_SUBMITTERS, MAX_WORKERS}
+use Rattle.mbj_ring.specs.declared.ring.TheConstants.{CELLS}
 use Rattle.mbj_text.specs.declared.limits.TheConstants.{JOB_LIMIT}
 use Rattle.mbj_command.specs.declared.command.Command.{Command}
-use Rattle.mbj_command.specs.declared.command.Command.TheVariants.{Run, Trace, Gen, Replay}
+use Rattle.mbj_command.specs.declared.command.Command.TheVariants.{Run, Trace, Burst, Gen, Replay}
 
 -- ---- the options
 
@@ -33,6 +34,9 @@ seed = record { name = codes "seed"; least = 0; greatest = 2 ^ 64 - 1 }
 
 abbrev pub jobs : RangedOption
 jobs = record { name = codes "jobs"; least = 0; greatest = JOB_LIMIT }
+
+abbrev pub size : RangedOption
+size = record { name = codes "size"; least = 1; greatest = CELLS }
 
 -- an option as clap is told it
 abbrev pub rule : RangedOption → Rule
@@ -63,6 +67,9 @@ shape name options = record (new_shape name) { rules = map rule options }
 abbrev pub with_parties : (ℕ → ℕ → Command) → List Row → Option Command
 with_parties c rows = option_and_then (λ s. option_map (c s) (option_number rows workers)) (option_number rows submitters)
 
+abbrev pub burst_of : List Row → Option Command
+burst_of rows = option_map Burst (option_number rows size)
+
 abbrev pub gen_of : List Row → Option Command
 gen_of rows = option_and_then (λ n. option_and_then (λ m. with_parties (Gen n m) rows) (option_number rows jobs)) (option_number rows seed)
 
@@ -71,6 +78,7 @@ abbrev pub commands : List (Shape × (List Row → Option Command))
 commands =
     (shape (codes "run") (submitters ∷ workers ∷ []), with_parties Run)
     ∷ (shape (codes "trace") [], λ rows. Some Trace)
+    ∷ (shape (codes "burst") (size ∷ []), burst_of)
     ∷ (shape (codes "gen") (seed ∷ jobs ∷ submitters ∷ workers ∷ []), gen_of)
     ∷ (shape (codes "replay") (submitters ∷ workers ∷ []), with_parties Replay)
     ∷ []
@@ -104,5 +112,6 @@ IsParties s w = IsInOption submitters s × IsInOption workers w
 abbrev pub IsInRange : Command → Type 0
 IsInRange (Run s w) = IsParties s w
 IsInRange Trace = Unit {0}
+IsInRange (Burst n) = IsInOption size n
 IsInRange (Gen n m s w) = IsInOption seed n × IsInOption jobs m × IsParties s w
 IsInRange (Replay s w) = IsParties s w

@@ -1,10 +1,10 @@
 ghost use Rattle.std.specs.Prelude.{◌≡◌, ◌≢◌, ℕ, IfErr, IfOk, IfSome, Some, None, map, option_and_then, option_map, string_bytes};
 ghost use Rattle.clap.specs.Words.{found_of, kind_of, rows_of, subcommand_rows_of};
-ghost use Rattle.mbj_command.specs.Command.{IsInRange, IsParties, command, found_command, gen_of, with_parties};
+ghost use Rattle.mbj_command.specs.Command.{IsInRange, IsParties, burst_of, command, found_command, gen_of, with_parties};
 ghost use Rattle.mbj_command.specs.declared.command.Command.TheVariants.{Run, Replay};
 
 use crate::command_set::command_set;
-use crate::options::{JOBS, SEED, SUBMITTERS, WORKERS, number};
+use crate::options::{JOBS, SEED, SIZE, SUBMITTERS, WORKERS, number};
 use clap::ArgMatches;
 use clap::error::ErrorKind;
 use std::alloc::Global;
@@ -21,6 +21,11 @@ pub enum Command {
     },
     /// `trace`: reads a job file, drives one manager with its jobs, and prints what each call gives back.
     Trace,
+    /// `burst`: reads a job file, hands its jobs to one manager in groups of `size`, prints how many results each call gives
+    /// back, and then the result lines.
+    Burst {
+        size: u32,
+    },
     /// `gen`: makes jobs from the seed, does them as `run` does, and prints a summary.
     Gen {
         seed: u64,
@@ -86,6 +91,14 @@ fn run_of(matches: &ArgMatches<'_>) -> Option<Command>
     })
 }
 
+fn burst_of(matches: &ArgMatches<'_>) -> Option<Command>
+    ensures meaning { result ≡ burst_of (rows_of (found_of matches.now)) }
+    ensures range { IfSome result IsInRange }
+{
+    let size = number(matches, &SIZE)?;
+    Some(Command::Burst { size: size as u32 })
+}
+
 fn gen_of(matches: &ArgMatches<'_>) -> Option<Command>
     ensures meaning { result ≡ gen_of (rows_of (found_of matches.now)) }
     ensures range { IfSome result IsInRange }
@@ -123,6 +136,9 @@ fn found_command(matches: &ArgMatches<'_>) -> Option<Command>
     }
     if name == "trace" {
         return Some(Command::Trace);
+    }
+    if name == "burst" {
+        return burst_of(options);
     }
     if name == "gen" {
         return gen_of(options);

@@ -2,9 +2,9 @@ ghost use Rattle.std.specs.Prelude.{◌≡◌, ◌∷◌, [], IfOk, Some, codes,
 ghost use Rattle.clap.specs.Words.{Shape, app_of, shape_of};
 ghost use Rattle.clap.specs.Simple.{new_app, new_shape, with_rule, with_subcommand};
 ghost use Rattle.clap.specs.declared.builder.command.Command.TheViews.{out-Command as fields_of};
-ghost use Rattle.mbj_command.specs.Command.{app, jobs, rule, seed, shape, submitters, workers};
+ghost use Rattle.mbj_command.specs.Command.{app, jobs, rule, seed, shape, size, submitters, workers};
 
-use crate::options::{JOBS, NumberOption, SEED, SUBMITTERS, WORKERS, argument};
+use crate::options::{JOBS, NumberOption, SEED, SIZE, SUBMITTERS, WORKERS, argument};
 use clap::Command;
 use std::alloc::{AllocError, Global};
 
@@ -58,6 +58,16 @@ fn trace_command<'a>(alloc: Global) -> Command<'a>
 {
     let about = "Reads a job file, drives one manager, and prints what each call gives back";
     bare_command(alloc, "trace", about, "Example: mbjobs trace < jobs.txt")
+}
+
+fn burst_command<'a>(alloc: Global) -> Result<Command<'a>, AllocError>
+    ensures shape { IfOk result (λ c. shape_of c ≡ shape (codes "burst") (size ∷ [])) }
+    ensures local { IfOk result (λ c. (fields_of c).has_globals ≡ false) }
+{
+    let about =
+        "Reads a job file, drives one manager by bursts of jobs, and prints how many results each call gives back, and then the results";
+    let example = "Example: mbjobs burst --size 32 < jobs.txt";
+    with_option(alloc, bare_command(alloc, "burst", about, example), &SIZE)
 }
 
 fn gen_command<'a>(alloc: Global) -> Result<Command<'a>, AllocError>
@@ -117,6 +127,7 @@ pub(crate) fn command_set<'a>(alloc: Global) -> Result<Command<'a>, AllocError>
 {
     let set = with_command(program(alloc), run_command(alloc))?;
     let set = set.subcommand(trace_command(alloc))?;
+    let set = with_command(set, burst_command(alloc))?;
     let set = with_command(set, gen_command(alloc))?;
     with_command(set, replay_command(alloc))
 }

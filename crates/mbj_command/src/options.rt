@@ -5,6 +5,7 @@ ghost use Rattle.mbj_command.specs.Command.{number_within, option_number, rule};
 use clap::builder::ValueParser;
 use clap::{Arg, ArgAction, ArgMatches};
 use mbj_core::{MAX_SUBMITTERS, MAX_WORKERS};
+use mbj_ring::CELLS;
 use mbj_text::JOB_LIMIT;
 use std::alloc::Global;
 
@@ -48,6 +49,14 @@ pub(crate) const JOBS: NumberOption = NumberOption {
     help: "Jobs to make: 0 to 65536, as in --jobs 1000",
     least: 0,
     greatest: JOB_LIMIT as u64,
+};
+
+pub(crate) const SIZE: NumberOption = NumberOption {
+    name: "size",
+    placeholder: "B",
+    help: "Jobs to hand over in one burst: 1 to 512, as in --size 32",
+    least: 1,
+    greatest: CELLS as u64,
 };
 
 /// The option as clap is told it.

@@ -10,7 +10,7 @@ use Rattle.mbjobs.specs.Reading.{ReadsAll, ReadsBytes, ReadsTooMuch}
 use Rattle.mbjobs.specs.declared.cause.Cause.{Cause}
 use Rattle.mbjobs.specs.declared.cause.Cause.TheVariants.{Read, Write, Line, Bytes, Jobs, Memory}
 use Rattle.mbj_command.specs.declared.command.Command.{Command}
-use Rattle.mbj_command.specs.declared.command.Command.TheVariants.{Run, Trace, Gen, Replay}
+use Rattle.mbj_command.specs.declared.command.Command.TheVariants.{Run, Trace, Burst, Gen, Replay}
 
 all_of_told : (told bytes : List ℕ) (after : Option (List ℕ)) → ReadsAll (Some told) after bytes → bytes ≡ told
 all_of_told told bytes None r = absurd r.1
@@ -41,18 +41,21 @@ holds_of_told input told Holds tells r = subst Holds (read_is_told input told r.
 asks_not_bad : (c : Command) (told text : List ℕ) (line field : ℕ) → AsksFor c told text → IsBadFor c told line field → ⊥
 asks_not_bad (Run s w) told text line field a b = reads_not_bad told a.0 line field a.1 b
 asks_not_bad Trace told text line field a b = reads_not_bad told a.0 line field a.1 b
+asks_not_bad (Burst n) told text line field a b = reads_not_bad told a.0 line field a.1 b
 asks_not_bad (Gen n m s w) told text line field a b = b
 asks_not_bad (Replay s w) told text line field a b = replay_not_bad s w told a.0 a.1 line field a.2 b
 
 asks_not_over : (c : Command) (told text : List ℕ) (line : ℕ) → AsksFor c told text → IsOverFor c told line → ⊥
 asks_not_over (Run s w) told text line a o = reads_not_over told a.0 line a.1 o
 asks_not_over Trace told text line a o = reads_not_over told a.0 line a.1 o
+asks_not_over (Burst n) told text line a o = reads_not_over told a.0 line a.1 o
 asks_not_over (Gen n m s w) told text line a o = o
 asks_not_over (Replay s w) told text line a o = replay_not_over s w told a.0 a.1 line a.2 o
 
 bad_not_over_for : (c : Command) (told : List ℕ) (line field at : ℕ) → IsBadFor c told line field → IsOverFor c told at → ⊥
 bad_not_over_for (Run s w) told line field at b o = bad_not_over told line field at b o
 bad_not_over_for Trace told line field at b o = bad_not_over told line field at b o
+bad_not_over_for (Burst n) told line field at b o = bad_not_over told line field at b o
 bad_not_over_for (Gen n m s w) told line field at b o = o
 bad_not_over_for (Replay s w) told line field at b o = bad_replay_not_over s w told line field at b o
 

@@ -12,11 +12,12 @@ use Rattle.mbj_io.specs.Streams.{Fails, FailsOnce, IsUntouched, Stream}
 use Rattle.mbjobs.specs.Reading.{ReadsBytes, ReadsTooMuch}
 use Rattle.mbj_replay.specs.Replay.{replay_text}
 use Rattle.mbj_trace.specs.Trace.{trace_text}
+use Rattle.mbj_burst.specs.Burst.{burst_text}
 use Rattle.mbj_gen.specs.Summary.{gen_text}
 use Rattle.mbjobs.specs.declared.cause.Cause.{Cause}
 use Rattle.mbjobs.specs.declared.cause.Cause.TheVariants as cause
 use Rattle.mbj_command.specs.declared.command.Command.{Command}
-use Rattle.mbj_command.specs.declared.command.Command.TheVariants.{Run, Trace, Gen, Replay}
+use Rattle.mbj_command.specs.declared.command.Command.TheVariants.{Run, Trace, Burst, Gen, Replay}
 
 -- ---- what a command reads and writes
 
@@ -25,6 +26,7 @@ use Rattle.mbj_command.specs.declared.command.Command.TheVariants.{Run, Trace, G
 abbrev pub AsksFor : Command → List ℕ → List ℕ → Type 0
 AsksFor (Run s w) bytes output = (jobs : List Job) × Reads bytes jobs × (output ≡ text (map result_of jobs))
 AsksFor Trace bytes output = (jobs : List Job) × Reads bytes jobs × (output ≡ trace_text jobs)
+AsksFor (Burst n) bytes output = (jobs : List Job) × Reads bytes jobs × (output ≡ burst_text n jobs)
 AsksFor (Gen n m s w) bytes output = ⊥
 AsksFor (Replay s w) bytes output =
     (jobs : List Job) × (commands : List Cmd) × ReadsReplay s w bytes jobs commands × (output ≡ replay_text jobs commands s w)

@@ -6,6 +6,7 @@ ghost use Rattle.std.specs.Process.{exit_status};
 ghost use Rattle.mbjobs.specs.Message.{status_for};
 ghost use Rattle.mbjobs.specs.declared.cause.Cause.{Cause};
 
+mod burst;
 mod cause;
 mod generate;
 mod reading;

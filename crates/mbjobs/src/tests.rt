@@ -1,3 +1,4 @@
+mod burst;
 mod draws;
 mod endings;
 mod failing_err;
@@ -35,6 +36,9 @@ const FIRST_JOB: &str =
     "null enc ch - - 0 0 hmac-sha1 0b0b0b0b0b0b0b0b0b0b0b0b0b0b0b0b0b0b0b0b - 0 8 20 4869205468657265\n";
 
 const FIRST_RESULT: &str = "0 ok 4869205468657265 b617318655057264e28bc0b6fb378c8ef146be00\n";
+
+const FIRST_BURST: &str =
+    "submit 1 0\nflush 1\nflush 0\n0 ok 4869205468657265 b617318655057264e28bc0b6fb378c8ef146be00\n";
 
 const FIRST_TRACE: &str = "submit 0 none\ncompleted none\nflush 0\nflush none\n";
 

@@ -9,6 +9,7 @@ ghost use Rattle.mbjobs.specs.declared.cause.Cause.{Cause};
 ghost use Rattle.mbj_command.specs.declared.command.Command.{Command};
 ghost use Rattle.mbj_command.specs.declared.command.Command.TheVariants.{Gen};
 
+use crate::burst::run_burst;
 use crate::cause::Cause;
 use crate::generate::run_gen;
 use crate::replay::run_replay;
@@ -75,6 +76,7 @@ fn carry_out<R: Threads + Wait + Sync, S: Source, O: Sink, G: Gate + Sync>(
             workers,
         } => run(rt, alloc, submitters, workers, input, out, gate),
         Command::Trace => run_trace(alloc, input, out),
+        Command::Burst { size } => run_burst(alloc, size, input, out),
         Command::Gen {
             seed,
             jobs,
@@ -92,9 +94,10 @@ fn carry_out<R: Threads + Wait + Sync, S: Source, O: Sink, G: Gate + Sync>(
 ///
 /// `words` are the command line, with the program's name first. `run` reads a job file from `input`, does its jobs and
 /// writes the line of each result to `out`; `trace` drives one manager with a job file and writes what each call gives
-/// back; `gen` reads nothing, makes jobs from a seed and writes what they come to; `replay` reads a job file with a script
-/// behind its jobs, and writes what each command of the script comes to. Every status but 0 is told on `err`; a fault of
-/// `err` changes no status.
+/// back; `burst` hands the jobs of a file to one manager in groups and writes how many results each call gives back, and
+/// then the results; `gen` reads nothing, makes jobs from a seed and writes what they come to; `replay` reads a job file
+/// with a script behind its jobs, and writes what each command of the script comes to. Every status but 0 is told on
+/// `err`; a fault of `err` changes no status.
 ///
 /// | Status | Comes |
 /// |---|---|

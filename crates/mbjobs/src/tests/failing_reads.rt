@@ -1,12 +1,13 @@
 use super::runs::{Calls, Ending, Host, Run};
-use super::{FIRST_JOB, FIRST_RESULT, FIRST_TRACE, RUN};
+use super::{FIRST_BURST, FIRST_JOB, FIRST_RESULT, FIRST_TRACE, RUN};
 use std::alloc::Global;
 use std::process::Abort;
 
 /// Commands that read, and what they write for the first job.
-const COMMANDS: [(&str, &str); 3] = [
+const COMMANDS: [(&str, &str); 4] = [
     (RUN, FIRST_RESULT),
     ("mbjobs trace", FIRST_TRACE),
+    ("mbjobs burst --size 2", FIRST_BURST),
     ("mbjobs replay --submitters 1 --workers 1", ""),
 ];
 

@@ -1,5 +1,5 @@
 use super::runs::{Calls, Ending, Host, ROOM, Run};
-use super::{FIRST_JOB, FIRST_RESULT, FIRST_TRACE, RUN};
+use super::{FIRST_BURST, FIRST_JOB, FIRST_RESULT, FIRST_TRACE, RUN};
 use mbj_io::MemSink;
 use std::alloc::Global;
 use std::process::Abort;
@@ -7,9 +7,10 @@ use std::process::Abort;
 /// The words of a command, its input, and what it writes.
 type Case = (&'static str, &'static str, &'static str);
 
-const CASES: [Case; 4] = [
+const CASES: [Case; 5] = [
     (RUN, FIRST_JOB, FIRST_RESULT),
     ("mbjobs trace", FIRST_JOB, FIRST_TRACE),
+    ("mbjobs burst --size 2", FIRST_JOB, FIRST_BURST),
     (
         "mbjobs replay --submitters 1 --workers 1",
         "null enc ch - - 0 0 hmac-sha1 0b0b0b0b0b0b0b0b0b0b0b0b0b0b0b0b0b0b0b0b - 0 8 20 4869205468657265\n%\npost 0\nclaim 0 0\nflush 0\ncollect 0\n",

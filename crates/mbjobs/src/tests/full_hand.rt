@@ -2,7 +2,7 @@ use super::texts::{Repeat, check_parts};
 use super::trace::WAITING_JOB;
 
 /// The first block of SP 800-38A, F.5.1, which is done at once.
-const DONE_JOB: &str =
+pub(super) const DONE_JOB: &str =
     "ctr enc ch 2b7e151628aed2a6abf7158809cf4f3c f0f1f2f3f4f5f6f7f8f9fafbfcfdfeff 0 16 null - - 0 0 0 6bc1bee22e409f96e93d7e117393172a\n";
 
 /// One job more than the 512 that a submitter may have out and a worker in its hand, and commands that fill the hand and

@@ -33,14 +33,18 @@ const RUNS: &str = "9bec36b8d8937f99c885f03dfac96d22f103f2e19a983c28da38ee2604ff
 
 const TRACES: &str = "52989b950802c3706075e0141c76f7d9cb70162cb83a82b6a0d1c45c0ff5ab25";
 
+const BURSTS: &str = "4a2be3481093c31be3d5d346ff0621f9aca922f72ab8283d465ef5374a285c66";
+
 const REPLAYS: &str = "870cb4d9d75cc2269a35cdee193bc1fd072a172a51b9cd871122321680cc8a56";
 
 /// Commands and kinds of inputs, and the digests of how 64 of them end, by `tests/faults/reference.py random`.
-const CASES: [(&str, Kind, &str); 6] = [
+const CASES: [(&str, Kind, &str); 8] = [
     (WORDS, Kind::Bytes, BYTES),
     (WORDS, Kind::Jobs, RUNS),
     ("mbjobs trace", Kind::Bytes, BYTES),
     ("mbjobs trace", Kind::Jobs, TRACES),
+    ("mbjobs burst --size 2", Kind::Bytes, BYTES),
+    ("mbjobs burst --size 2", Kind::Jobs, BURSTS),
     (REPLAY, Kind::Bytes, BYTES),
     (REPLAY, Kind::Script, REPLAYS),
 ];

@@ -76,6 +76,19 @@ fn ccm_jobs_are_done(rt: HostRuntime) {
     compare(&rt, rt.alloc(), 0, &CCM_TEXTS);
 }
 
+/// The first example of FIPS 180 and the GCM specification's test case 1 as GMAC. A plain hash ignores the key, and GMAC goes with no cipher.
+const HASHED_TEXTS: [&str; 4] = [
+    "null enc ch - - 0 0 sha1 - - 0 3 20 616263\n => 0 ok 616263 a9993e364706816aba3e25717850c26c9cd0d89d\n",
+    "null enc hc - 00 0 0 sha256 2b7e - 0 3 32 616263\n => 0 ok 616263 ba7816bf8f01cfea414140de5dae2223b00361a396177a9cb410ff61f20015ad\n",
+    "null enc ch - 000000000000000000000000 0 0 gmac 00000000000000000000000000000000 - 0 0 16 -\n => 0 ok - 58e2fccefa7e3061367f1d57a4e7455a\n",
+    "ctr enc ch 2b7e151628aed2a6abf7158809cf4f3c 000000000000000000000000 0 1 gmac 00000000000000000000000000000000 - 0 0 16 00\n => 0 invalid-args 2\n",
+];
+
+#[test]
+fn plain_hashes_and_gmac_are_done(rt: HostRuntime) {
+    compare(&rt, rt.alloc(), 0, &HASHED_TEXTS);
+}
+
 /// RFC 2202, test case 6: the packet is `Test Using Larger Than Block-Size Key - Hash Key First`.
 const LONG_KEYS: [&str; 1] = [
     "null enc ch - - 0 0 hmac-sha1 aaaaaaaaaaaaaaaaaaaaaaaaaaaaaaaaaaaaaaaaaaaaaaaaaaaaaaaaaaaaaaaaaaaaaaaaaaaaaaaaaaaaaaaaaaaaaaaaaaaaaaaaaaaaaaaaaaaaaaaaaaaaaaaaaaaaaaaaaaaaaaaaaaaaaaaaaaaaaaaa - 0 54 20 54657374205573696e67204c6172676572205468616e20426c6f636b2d53697a65204b6579202d2048617368204b6579204669727374\n => 0 ok 54657374205573696e67204c6172676572205468616e20426c6f636b2d53697a65204b6579202d2048617368204b6579204669727374 aa4ae5e15272d00e95705637ce8a3b55ed402112\n",

@@ -18,6 +18,12 @@ const HMAC_OVER_300: &str =
 const HMAC_SHA224_SHA256: &str =
     "null enc ch - - 0 0 hmac-sha224 0b0b0b0b0b0b0b0b0b0b0b0b0b0b0b0b0b0b0b0b - 0 8 28 0000000000000000\nnull enc ch - - 0 0 hmac-sha256 0b0b0b0b0b0b0b0b0b0b0b0b0b0b0b0b0b0b0b0b - 0 8 32 0000000000000000\n";
 
+/// A plain hash of three bytes, and an HMAC over 8 bytes with the same hash.
+const SHA256: &str = "null enc ch - - 0 0 sha256 - - 0 3 32 616263\n";
+
+const HMAC_SHA256: &str =
+    "null enc ch - - 0 0 hmac-sha256 0b0b0b0b0b0b0b0b0b0b0b0b0b0b0b0b0b0b0b0b - 0 8 32 0000000000000000\n";
+
 /// CMAC over one block and over two.
 const CMAC128: &str =
     "null enc ch - - 0 0 cmac128 2b7e151628aed2a6abf7158809cf4f3c - 0 16 16 00000000000000000000000000000000\nnull enc ch - - 0 0 cmac128 2b7e151628aed2a6abf7158809cf4f3c - 0 32 16 0000000000000000000000000000000000000000000000000000000000000000\n";
@@ -69,7 +75,7 @@ const FOUR_JOBS_TWICE: [Repeat; 16] = [
 ];
 
 /// Job files, and the lines that their traces print.
-static CASES: [(&[Repeat], &str); 10] = [
+static CASES: [(&[Repeat], &str); 11] = [
     (&[], "completed none\nflush none\n"),
     // Rests of 4, 5, 4 and 6 in turn. Four jobs wait until they are flushed, and the run of a full list ends four of eight.
     (
@@ -98,6 +104,11 @@ static CASES: [(&[Repeat], &str); 10] = [
     (
         &[(HMAC_SHA224_SHA256, 8)],
         "submit [0..14] none\nsubmit 15 0\ncompleted [1..15]\ncompleted none\nflush none\nrounds hmac-sha256 4 64\n",
+    ),
+    // Plain hashes, which have a rest of 1, and an HMAC share the lanes of one kind.
+    (
+        &[(SHA256, 15), (HMAC_SHA256, 1)],
+        "submit [0..14] none\nsubmit 15 0\ncompleted [1..14]\ncompleted none\nflush 15\nflush none\nrounds hmac-sha256 1 16\n",
     ),
     // Rests of 1 and 2 in turn: the run of the full list ends every other job.
     (
