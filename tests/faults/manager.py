@@ -1,5 +1,5 @@
-"""Which job a manager gives back when, and what traces and replays tell of it."""
-from jobs import CMACS, HASHES, HMACS, reason, result_line
+"""Which job a manager gives back when, and what traces, bursts and replays tell of it."""
+from jobs import CMACS, HASHES, HMACS, reason, result_line, run_text
 
 # Kinds in the order in which a trace tells them, with their lanes.
 LANES = {"cbc128": 32, "cbc192": 32, "cbc256": 32, "cmac128": 32, "cmac256": 32, "hmac-sha1": 16, "hmac-sha256": 16, "hmac-sha512": 8,
@@ -94,6 +94,32 @@ def trace_text(jobs):
             lines.append(word + told(call()))
     lines += ["rounds %s %d %d" % (kind, manager.rounds[kind], manager.blocks[kind]) for kind in LANES if manager.rounds[kind]]
     return "".join(line + "\n" for line in lines)
+
+
+def burst_text(jobs, size):
+    manager, lines, number = Manager(), [], 0
+
+    def flush_burst(most):
+        given = 0
+        while given < most and manager.flush() is not None:
+            given += 1
+        lines.append("flush %d" % given)
+        return given
+
+    while number < len(jobs):
+        group_end = min(number + size, len(jobs))
+        while number < group_end:
+            count = min(group_end - number, Manager.ROOM - len(manager.ring))
+            if count == 0:
+                lines.append("full")
+                flush_burst(size)
+                continue
+            given = sum(manager.submit(each, jobs[each]) is not None for each in range(number, number + count))
+            lines.append("submit %d %d" % (count, given))
+            number += count
+    while flush_burst(Manager.ROOM) > 0:
+        pass
+    return "".join(line + "\n" for line in lines) + run_text(jobs)
 
 
 class Replay:

@@ -12,8 +12,8 @@ import hashlib
 import subprocess
 import sys
 
-from jobs import CMACS, FIELDS, HASHES, BadLine, read, reason, run_text, longest_tag
-from manager import replay_text, trace_text
+from jobs import CMACS, FIELDS, HASHES, HMACS, BadLine, read, reason, run_text, longest_tag
+from manager import burst_text, replay_text, trace_text
 
 
 def ending(command, text):
@@ -22,7 +22,8 @@ def ending(command, text):
         if command == "replay":
             return 0, replay_text(*read(text, (3, 2)), 3, 2), ""
         jobs, _ = read(text)
-        return 0, run_text(jobs) if command == "run" else trace_text(jobs), ""
+        texts = {"run": run_text, "trace": trace_text, "burst": lambda jobs: burst_text(jobs, 2)}
+        return 0, texts[command](jobs), ""
     except BadLine as bad:
         return 5, "", "mbjobs: line %d: field %d\n" % bad.args
 
@@ -42,7 +43,7 @@ class Draws:
         return bytes(self.byte() for _ in range(count))
 
 
-RECIPES = [("null", auth) for auth in [*HASHES, *CMACS]] + [
+RECIPES = [("null", auth) for auth in [*HMACS, *CMACS]] + [
     ("cbc", "null"), ("ctr", "null"), ("gcm", "gcm"), ("cbc", "hmac-sha1"), ("cbc", "hmac-sha256"), ("cbc", "cmac128"),
     ("ctr", "hmac-sha512"), ("ctr", "hmac-sha384"), ("null", "null"),
 ]
@@ -132,13 +133,15 @@ def edited_file(command, seed):
 
 def random():
     """For each command and kind of input, the digest of the statuses and texts of 64 inputs."""
-    for command in ("run", "trace", "replay"):
+    for command in ("run", "trace", "burst", "replay"):
         for kind in (random_bytes, edited_file):
             endings = [ending(command, kind(command, seed)) for seed in range(64)]
             print(command, kind.__name__, digest("".join("%d\n%s%s" % each for each in endings)))
 
 
-ARGUMENTS = {"run": "run --submitters 2 --workers 2", "trace": "trace", "replay": "replay --submitters 3 --workers 2"}
+ARGUMENTS = {
+    "run": "run --submitters 2 --workers 2", "trace": "trace", "burst": "burst --size 2", "replay": "replay --submitters 3 --workers 2",
+}
 
 
 def compare(program, first, last):

@@ -3,7 +3,7 @@ use std::alloc::{AllocError, Global};
 use std::test::Fail;
 
 /// Words that are no command.
-const FAULTY: [&str; 28] = [
+const FAULTY: [&str; 34] = [
     "mbjobs",
     "mbjobs run",
     "mbjobs run --submitters 1",
@@ -22,6 +22,12 @@ const FAULTY: [&str; 28] = [
     "mbjobs replay --submitters 1 --workers 17",
     "mbjobs trace x",
     "mbjobs trace --workers 0",
+    "mbjobs burst",
+    "mbjobs burst --size",
+    "mbjobs burst --size 0",
+    "mbjobs burst --size 513",
+    "mbjobs burst --size 2 --size 2",
+    "mbjobs burst --size 2 --workers 0",
     "mbjobs gen --seed 1 --submitters 1 --workers 0",
     "mbjobs gen --seed 1 --jobs 1 --submitters 1 --workers 17",
     "mbjobs gen --seed 1 --jobs 65537 --submitters 1 --workers 0",
@@ -35,7 +41,7 @@ const FAULTY: [&str; 28] = [
 ];
 
 /// Words that are a command, and behind the arrow which.
-const GOOD: [&str; 13] = [
+const GOOD: [&str; 15] = [
     "mbjobs run --submitters 1 --workers 0 => Run { submitters: 1, workers: 0 }",
     "mbjobs run --workers 0 --submitters 1 => Run { submitters: 1, workers: 0 }",
     "mbjobs run --submitters=1 --workers=0 => Run { submitters: 1, workers: 0 }",
@@ -43,6 +49,8 @@ const GOOD: [&str; 13] = [
     "mbjobs run --submitters +1 --workers +0 => Run { submitters: 1, workers: 0 }",
     "mbjobs run --submitters 16 --workers 16 => Run { submitters: 16, workers: 16 }",
     "mbjobs trace => Trace",
+    "mbjobs burst --size 1 => Burst { size: 1 }",
+    "mbjobs burst --size=512 => Burst { size: 512 }",
     "mbjobs gen --seed 7 --jobs 65536 --submitters 16 --workers 0 => Gen { seed: 7, jobs: 65536, submitters: 16, workers: 0 }",
     "mbjobs gen --workers=0 --submitters=16 --jobs=65536 --seed=7 => Gen { seed: 7, jobs: 65536, submitters: 16, workers: 0 }",
     "mbjobs gen --seed 18446744073709551615 --jobs 0 --submitters 2 --workers 0 => Gen { seed: 18446744073709551615, jobs: 0, submitters: 2, workers: 0 }",
@@ -52,15 +60,16 @@ const GOOD: [&str; 13] = [
 ];
 
 /// Words that are no command, and behind the arrow what the text that tells it has, between bars.
-const TOLD: [&str; 8] = [
-    "mbjobs --help => Usage: mbjobs|run|trace|gen|replay|--version|1 to 65535 for gcm and gmac, and 7 to 13 for ccm",
+const TOLD: [&str; 9] = [
+    "mbjobs --help => Usage: mbjobs|run|trace|burst|gen|replay|--version|1 to 65535 for gcm and gmac, and 7 to 13 for ccm",
     "mbjobs run --help => Usage: mbjobs run|--submitters <S>|1 to 16|--workers <W>",
     "mbjobs trace --help => Usage: mbjobs trace|mbjobs trace",
+    "mbjobs burst --help => Usage: mbjobs burst|--size <B>|1 to 512|mbjobs burst --size",
     "mbjobs gen --help => Usage: mbjobs gen|--seed <N>|--jobs <M>|0 to 65536|--submitters <S>|--workers <W>",
     "mbjobs replay --help => Usage: mbjobs replay|--submitters <S>|--workers <W>|0 to 16",
     "mbjobs --version => mbjobs 0.1.0",
     "mbjobs run --submitters 17 --workers 0 => '17'|'--submitters <S>'|--help",
-    "mbjobs => Usage: mbjobs|run|trace|gen|replay|--help",
+    "mbjobs => Usage: mbjobs|run|trace|burst|gen|replay|--help",
 ];
 
 fn words_of(alloc: Global, line: &str) -> Result<Vec<String>, AllocError> {
