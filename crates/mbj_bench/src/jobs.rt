@@ -1,11 +1,14 @@
 //! Jobs through one manager, from its next cell to their results, beside full lists of the same entries and the plain
 //! functions on the same packets.
+ghost use Rattle.std.specs.Prelude.{◌≡◌, ◌≤◌, length};
+
 use crate::clock::{fastest, nanos_since};
 use crate::kinds::{CCM_TAG_BYTES, HMAC_KEY, IV, MOST_BYTES, NONCE_BYTES, aes_key};
 use crate::line::{hundredths, megabytes, print_bytes, print_length, print_ratio};
 use crate::lists::{LENGTHS, nanos_of_packets};
 use crate::making::{null_job, packets, put_auth, put_cipher};
 use mbj_manager::Manager;
+use mbj_ring::CELLS;
 use mbj_types::{Auth, Cipher, Done, Job, Kind};
 use mbj_work::submit_job;
 use std::alloc::{AllocError, Global};
@@ -30,6 +33,18 @@ const DIGESTS: [(Auth, Kind, &str); 3] = [
 
 /// The passes of which the fastest counts.
 const PASSES: u32 = 40;
+
+/// The jobs of a burst.
+const BURST: u32 = 32;
+
+/// By which calls jobs go through a manager.
+#[derive(Clone, Copy)]
+enum Calls {
+    /// Those for one job.
+    Single,
+    /// Those for a burst.
+    Burst,
+}
 
 /// What the jobs are.
 #[derive(Clone, Copy)]
@@ -131,15 +146,58 @@ fn run_jobs(
     Ok(())
 }
 
+/// Puts jobs into open cells, of which there are `count`.
+fn fill(manager: &mut Manager, jobs: &mut Vec<Job>, count: u32)
+    requires { count ≤ length manager.old.opened }
+    ensures { length manager.new.opened ≡ length manager.old.opened }
+{
+    for index in 0..count {
+        if let Some(job) = jobs.pop() {
+            *manager.burst_mut(index) = job;
+        }
+    }
+}
+
+/// Puts the next jobs through a manager by one burst.
+fn run_burst(
+    manager: &mut Manager,
+    jobs: &mut Vec<Job>,
+    results: &mut Vec<Done>,
+) -> Result<(), AllocError> {
+    let count = manager.get_next_burst(BURST);
+    fill(manager, jobs, count);
+    results.reserve(count as usize)?;
+    manager.submit_burst(count, results);
+    Ok(())
+}
+
+/// Puts the jobs of a pass, none of which waits, through a manager by bursts, and keeps their results.
+fn run_bursts(
+    manager: &mut Manager,
+    jobs: &mut Vec<Job>,
+    results: &mut Vec<Done>,
+) -> Result<(), AllocError> {
+    for _ in 0..JOBS / BURST {
+        run_burst(manager, jobs, results)?;
+    }
+    results.reserve(manager.queue_size() as usize)?;
+    manager.flush_burst(CELLS, results);
+    Ok(())
+}
+
 /// How long jobs take that are made before.
 fn nanos_of_made(
     rt: &impl Clock,
     manager: &mut Manager,
+    calls: Calls,
     jobs: &mut Vec<Job>,
     results: &mut Vec<Done>,
 ) -> io::Result<u128> {
     let start = Instant::now(rt)?;
-    run_jobs(manager, jobs, results)?;
+    match calls {
+        Calls::Single => run_jobs(manager, jobs, results)?,
+        Calls::Burst => run_bursts(manager, jobs, results)?,
+    }
     nanos_since(rt, start)
 }
 
@@ -149,11 +207,12 @@ fn nanos_of_jobs(
     alloc: Global,
     manager: &mut Manager,
     work: Work,
+    calls: Calls,
     len: usize,
 ) -> io::Result<u128> {
     let mut jobs = jobs(alloc, work, len)?;
     let mut results = Vec::with_capacity(alloc, JOBS as usize)?;
-    nanos_of_made(rt, manager, &mut jobs, &mut results)
+    nanos_of_made(rt, manager, calls, &mut jobs, &mut results)
 }
 
 /// The fastest passes of jobs, of lists and of the plain functions. What is computed goes into `sum`, so that none of it is
@@ -168,7 +227,7 @@ fn fastest_passes(
     let mut packets = packets(alloc, JOBS, len)?;
     let mut manager = Manager::new(alloc)?;
     fastest(PASSES, |i| match i {
-        0 => nanos_of_jobs(rt, alloc, &mut manager, work, len),
+        0 => nanos_of_jobs(rt, alloc, &mut manager, work, Calls::Single, len),
         _ => nanos_of_packets(rt, alloc, i == 1, work, &mut packets, 1, sum),
     })
 }
@@ -202,22 +261,27 @@ fn print_work(
     Ok(())
 }
 
-/// Prints how fast jobs of a work are beside those of another one over the same bytes, which take turns.
+/// Prints how fast jobs of a work are by these calls beside others over as many bytes, which take turns.
 fn print_beside(
     rt: &(impl Print + Clock),
     alloc: Global,
     names: [&str; 2],
-    works: [Work; 2],
+    rivals: [(Work, Calls); 2],
 ) -> io::Result<()> {
     for i in 0..LENGTHS.len() {
         let mut manager = Manager::new(alloc)?;
         let [first, second]: [u128; 2] = fastest(PASSES, |turn| {
-            let work = if turn == 0 { works[0] } else { works[1] };
-            nanos_of_jobs(rt, alloc, &mut manager, work, LENGTHS[i])
+            let (work, calls) = if turn == 0 { rivals[0] } else { rivals[1] };
+            nanos_of_jobs(rt, alloc, &mut manager, work, calls, LENGTHS[i])
         })?;
         print!(rt; "jobs, ")?;
         print_length(rt, names[0], 11, LENGTHS[i])?;
-        print!(rt; " {:>7} ns, {} {:>7} ns ", first / JOBS as u128, names[1], second / JOBS as u128)?;
+        print!(rt;
+            " {:>7} ns, {} {:>7} ns ",
+            first / JOBS as u128,
+            names[1],
+            second / JOBS as u128
+        )?;
         print_ratio(rt, hundredths(second, first), 2)?;
         println!(rt)?;
     }
@@ -228,6 +292,12 @@ fn print_beside(
 pub fn print_times(rt: &(impl Print + Clock), alloc: Global) -> io::Result<()> {
     let mut sum = 0;
     print_work(rt, alloc, "null", Work::Null, &mut sum)?;
+    print_beside(
+        rt,
+        alloc,
+        ["null, by 32", "one by one"],
+        [(Work::Null, Calls::Burst), (Work::Null, Calls::Single)],
+    )?;
     for kind in &Kind::ALL {
         print_work(rt, alloc, kind.name(), Work::One(*kind), &mut sum)?;
     }
@@ -236,14 +306,20 @@ pub fn print_times(rt: &(impl Print + Clock), alloc: Global) -> io::Result<()> {
         rt,
         alloc,
         ["ccm128", "ctr with cmac128"],
-        [Work::One(Kind::Ccm128), Work::CtrCmac],
+        [
+            (Work::One(Kind::Ccm128), Calls::Single),
+            (Work::CtrCmac, Calls::Single),
+        ],
     )?;
     for (auth, kind, name) in DIGESTS {
         print_beside(
             rt,
             alloc,
             [name, kind.name()],
-            [Work::Digest(auth), Work::One(kind)],
+            [
+                (Work::Digest(auth), Calls::Single),
+                (Work::One(kind), Calls::Single),
+            ],
         )?;
     }
     print_bytes(rt, "checksum ", &[sum])
