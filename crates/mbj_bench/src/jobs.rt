@@ -61,6 +61,24 @@ pub enum Work {
     Digest(Auth),
 }
 
+/// A work and the calls by which its jobs go through a manager, to be timed by turns with another one.
+#[derive(Clone, Copy)]
+struct Rival {
+    name: &'static str,
+    work: Work,
+    calls: Calls,
+}
+
+impl Rival {
+    fn singly(name: &'static str, work: Work) -> Rival {
+        Rival {
+            name,
+            work,
+            calls: Calls::Single,
+        }
+    }
+}
+
 /// Makes a job over a packet one that waits for the lanes of a kind.
 fn prepare(alloc: Global, job: &mut Job, kind: Kind) -> Result<(), AllocError> {
     match kind {
@@ -261,29 +279,64 @@ fn print_work(
     Ok(())
 }
 
-/// Prints how fast jobs of a work are by these calls beside others over as many bytes, which take turns.
+/// The fastest passes of two rivals over packets of `len` bytes.
+fn fastest_rivals(
+    rt: &impl Clock,
+    alloc: Global,
+    first: Rival,
+    second: Rival,
+    len: usize,
+) -> io::Result<[u128; 2]> {
+    let mut manager = Manager::new(alloc)?;
+    fastest(PASSES, |turn| {
+        let rival = if turn == 0 { first } else { second };
+        nanos_of_jobs(rt, alloc, &mut manager, rival.work, rival.calls, len)
+    })
+}
+
+/// Prints how fast the jobs of a rival are beside those of another one over as many bytes.
 fn print_beside(
     rt: &(impl Print + Clock),
     alloc: Global,
-    names: [&str; 2],
-    rivals: [(Work, Calls); 2],
+    first: Rival,
+    second: Rival,
 ) -> io::Result<()> {
     for i in 0..LENGTHS.len() {
-        let mut manager = Manager::new(alloc)?;
-        let [first, second]: [u128; 2] = fastest(PASSES, |turn| {
-            let (work, calls) = if turn == 0 { rivals[0] } else { rivals[1] };
-            nanos_of_jobs(rt, alloc, &mut manager, work, calls, LENGTHS[i])
-        })?;
+        let [one, other] = fastest_rivals(rt, alloc, first, second, LENGTHS[i])?;
         print!(rt; "jobs, ")?;
-        print_length(rt, names[0], 11, LENGTHS[i])?;
+        print_length(rt, first.name, 11, LENGTHS[i])?;
         print!(rt;
             " {:>7} ns, {} {:>7} ns ",
-            first / JOBS as u128,
-            names[1],
-            second / JOBS as u128
+            one / JOBS as u128,
+            second.name,
+            other / JOBS as u128
         )?;
-        print_ratio(rt, hundredths(second, first), 2)?;
+        print_ratio(rt, hundredths(other, one), 2)?;
         println!(rt)?;
+    }
+    Ok(())
+}
+
+/// Prints how fast null jobs are by bursts, CCM beside what it is made of, and plain hashes beside HMACs.
+fn print_rivals(rt: &(impl Print + Clock), alloc: Global) -> io::Result<()> {
+    let singles = Rival::singly("one by one", Work::Null);
+    let bursts = Rival {
+        name: "null, by 32",
+        work: Work::Null,
+        calls: Calls::Burst,
+    };
+    print_beside(rt, alloc, bursts, singles)?;
+    let ccm = Rival::singly("ccm128", Work::One(Kind::Ccm128));
+    let parts = Rival::singly("ctr with cmac128", Work::CtrCmac);
+    print_beside(rt, alloc, ccm, parts)?;
+    for (auth, kind, name) in DIGESTS {
+        let digest = Rival::singly(name, Work::Digest(auth));
+        print_beside(
+            rt,
+            alloc,
+            digest,
+            Rival::singly(kind.name(), Work::One(kind)),
+        )?;
     }
     Ok(())
 }
@@ -292,35 +345,10 @@ fn print_beside(
 pub fn print_times(rt: &(impl Print + Clock), alloc: Global) -> io::Result<()> {
     let mut sum = 0;
     print_work(rt, alloc, "null", Work::Null, &mut sum)?;
-    print_beside(
-        rt,
-        alloc,
-        ["null, by 32", "one by one"],
-        [(Work::Null, Calls::Burst), (Work::Null, Calls::Single)],
-    )?;
     for kind in &Kind::ALL {
         print_work(rt, alloc, kind.name(), Work::One(*kind), &mut sum)?;
     }
     print_work(rt, alloc, "a mix", Work::Mix, &mut sum)?;
-    print_beside(
-        rt,
-        alloc,
-        ["ccm128", "ctr with cmac128"],
-        [
-            (Work::One(Kind::Ccm128), Calls::Single),
-            (Work::CtrCmac, Calls::Single),
-        ],
-    )?;
-    for (auth, kind, name) in DIGESTS {
-        print_beside(
-            rt,
-            alloc,
-            [name, kind.name()],
-            [
-                (Work::Digest(auth), Calls::Single),
-                (Work::One(kind), Calls::Single),
-            ],
-        )?;
-    }
+    print_rivals(rt, alloc)?;
     print_bytes(rt, "checksum ", &[sum])
 }
