@@ -12,13 +12,13 @@ const SUBMITTERS: [u8; 4] = [1, 2, 3, 16];
 const WORKERS: [u8; 3] = [0, 1, 16];
 
 // The words of a job file, in the order of the values that they spell.
-const CIPHERS: [&str; 4] = ["null", "cbc", "ctr", "gcm"];
+const CIPHERS: [&str; 5] = ["null", "cbc", "ctr", "gcm", "ccm"];
 
 const DIRS: [&str; 2] = ["enc", "dec"];
 
 const ORDERS: [&str; 2] = ["ch", "hc"];
 
-const AUTHS: [&str; 9] = [
+const AUTHS: [&str; 16] = [
     "null",
     "hmac-sha1",
     "hmac-sha224",
@@ -28,6 +28,13 @@ const AUTHS: [&str; 9] = [
     "cmac128",
     "cmac256",
     "gcm",
+    "ccm",
+    "sha1",
+    "sha224",
+    "sha256",
+    "sha384",
+    "sha512",
+    "gmac",
 ];
 
 /// Adds a job as a line of a job file.
