@@ -63,14 +63,15 @@ struct mbj_room {
 };
 
 /* Codes are handed over as uint32_t, so that a number that is no code is one that can be refused. */
-enum mbj_cipher { MBJ_CIPHER_NULL, MBJ_CIPHER_CBC, MBJ_CIPHER_CNTR, MBJ_CIPHER_GCM, MBJ_CIPHER_UNSET = 255 };
+enum mbj_cipher { MBJ_CIPHER_NULL, MBJ_CIPHER_CBC, MBJ_CIPHER_CNTR, MBJ_CIPHER_GCM, MBJ_CIPHER_CCM, MBJ_CIPHER_UNSET = 255 };
 
 enum mbj_dir { MBJ_DIR_ENCRYPT, MBJ_DIR_DECRYPT };
 
 enum mbj_order { MBJ_ORDER_CIPHER_HASH, MBJ_ORDER_HASH_CIPHER };
 
-/* CMAC has keys of 128 or of 256 bits. MBJ_AUTH_GCM is the tag of GCM, and goes with that cipher. 9 to 20 are kept for later: 9 GMAC,
- * 10 CCM, 11 to 15 hashes without a key, 16 to 20 HMAC from the states of its key. */
+/* CMAC has keys of 128 or of 256 bits. MBJ_AUTH_GCM and MBJ_AUTH_AES_CCM are the tags of GCM and of CCM, and go with these ciphers.
+ * MBJ_AUTH_AES_GMAC is GMAC by itself, over the hash range and under auth_key, with the job's IV; it goes with MBJ_CIPHER_NULL. From
+ * MBJ_AUTH_SHA_1 on the tag is a digest, without a key. 16 to 20 are kept for HMAC from the states of its key. */
 enum mbj_auth {
     MBJ_AUTH_NULL,
     MBJ_AUTH_HMAC_SHA_1,
@@ -81,10 +82,18 @@ enum mbj_auth {
     MBJ_AUTH_AES_CMAC,
     MBJ_AUTH_AES_CMAC_256,
     MBJ_AUTH_GCM,
+    MBJ_AUTH_AES_GMAC,
+    MBJ_AUTH_AES_CCM,
+    MBJ_AUTH_SHA_1,
+    MBJ_AUTH_SHA_224,
+    MBJ_AUTH_SHA_256,
+    MBJ_AUTH_SHA_384,
+    MBJ_AUTH_SHA_512,
     MBJ_AUTH_UNSET = 255
 };
 
-/* The kinds of work that is done in lanes. HMAC-SHA-224 goes with SHA-256, and SHA-384 with SHA-512. No job's codes ask for CCM yet. */
+/* The kinds of work that is done in lanes. HMAC-SHA-224 goes with SHA-256, and SHA-384 with SHA-512. A hash without a key goes with the
+ * HMAC of that hash. */
 enum mbj_kind {
     MBJ_KIND_CBC_128,
     MBJ_KIND_CBC_192,
@@ -120,14 +129,15 @@ enum mbj_refusal {
 enum mbj_reason {
     MBJ_REASON_NONE,          /* it isn't */
     MBJ_REASON_PACKET_LONG,   /* the packet is longer than 65,535 bytes */
-    MBJ_REASON_GCM_PAIR,      /* exactly one of cipher and authentication is GCM */
+    MBJ_REASON_PAIR,          /* exactly one of cipher and authentication is GCM, exactly one is CCM, or GMAC stands beside a cipher */
+    MBJ_REASON_GCM_PAIR = MBJ_REASON_PAIR, /* its earlier name */
     MBJ_REASON_CIPHER_KEY,    /* the cipher's key has neither 16, 24 nor 32 bytes */
-    MBJ_REASON_IV_LENGTH,     /* the cipher doesn't take an IV of this length */
+    MBJ_REASON_IV_LENGTH,     /* the cipher, or GMAC, doesn't take an IV of this length */
     MBJ_REASON_CIPHER_RANGE,  /* the cipher range passes the packet's end */
     MBJ_REASON_CIPHER_LENGTH, /* the cipher doesn't take a range of this length */
     MBJ_REASON_AUTH_KEY,      /* the authentication doesn't take a key of this length */
     MBJ_REASON_HASH_RANGE,    /* the hash range passes the packet's end */
-    MBJ_REASON_AAD_LONG,      /* the additional data is longer than 65,535 bytes */
+    MBJ_REASON_AAD_LONG,      /* the additional data is longer than 65,535 bytes for GCM, or 65,279 for CCM */
     MBJ_REASON_TAG_LENGTH,    /* the authentication doesn't give a tag of this length */
     MBJ_REASON_CODE = 100,    /* a code is no cipher, direction, order or authentication, as in a job whose cipher was never set */
     MBJ_REASON_NULL           /* bytes that the job uses are at NULL */
@@ -224,11 +234,11 @@ typedef struct mbj_job {
     uint32_t hash_alg;         /* enum mbj_auth; MBJ_AUTH_UNSET in a blank job */
     const uint8_t *key;        /* the cipher's, raw: 16, 24 or 32 bytes */
     size_t key_len_in_bytes;
-    const uint8_t *iv;
+    const uint8_t *iv; /* the cipher's or GMAC's; CCM's nonce */
     size_t iv_len_in_bytes;
-    const uint8_t *auth_key; /* of HMAC or CMAC, raw */
+    const uint8_t *auth_key; /* of HMAC, CMAC or GMAC, raw */
     size_t auth_key_len_in_bytes;
-    const uint8_t *aad; /* of GCM */
+    const uint8_t *aad; /* of GCM or CCM */
     size_t aad_len_in_bytes;
     const uint8_t *packet;
     size_t packet_len_in_bytes;
@@ -295,14 +305,16 @@ MBJ_API const char *mbj_reason_text(uint32_t reason) {
     switch (reason) {
     case MBJ_REASON_NONE: return "not refused";
     case MBJ_REASON_PACKET_LONG: return "the packet is longer than 65,535 bytes";
-    case MBJ_REASON_GCM_PAIR: return "exactly one of cipher and authentication is GCM";
+    case MBJ_REASON_PAIR:
+        return "the authentication doesn't go with the cipher: "
+               "exactly one of the two is GCM, exactly one is CCM, or GMAC stands beside a cipher";
     case MBJ_REASON_CIPHER_KEY: return "the cipher's key has neither 16, 24 nor 32 bytes";
-    case MBJ_REASON_IV_LENGTH: return "the cipher doesn't take an IV of this length";
+    case MBJ_REASON_IV_LENGTH: return "the cipher or GMAC doesn't take an IV of this length";
     case MBJ_REASON_CIPHER_RANGE: return "the cipher range passes the packet's end";
     case MBJ_REASON_CIPHER_LENGTH: return "the cipher doesn't take a range of this length";
     case MBJ_REASON_AUTH_KEY: return "the authentication doesn't take a key of this length";
     case MBJ_REASON_HASH_RANGE: return "the hash range passes the packet's end";
-    case MBJ_REASON_AAD_LONG: return "the additional data is longer than 65,535 bytes";
+    case MBJ_REASON_AAD_LONG: return "the additional data is longer than the 65,535 bytes that GCM takes, or the 65,279 that CCM takes";
     case MBJ_REASON_TAG_LENGTH: return "the authentication doesn't give a tag of this length";
     case MBJ_REASON_CODE: return "a code is no cipher, direction, order or authentication";
     case MBJ_REASON_NULL: return "bytes that the job uses are at NULL";
@@ -408,12 +420,16 @@ static inline bool mbj_has_cipher_(const MBJ_JOB *job) {
     return job->cipher_mode != MBJ_CIPHER_NULL;
 }
 
+static inline bool mbj_has_iv_(const MBJ_JOB *job) {
+    return mbj_has_cipher_(job) || job->hash_alg == MBJ_AUTH_AES_GMAC;
+}
+
 static inline bool mbj_has_aad_(const MBJ_JOB *job) {
-    return job->cipher_mode == MBJ_CIPHER_GCM;
+    return job->cipher_mode == MBJ_CIPHER_GCM || job->cipher_mode == MBJ_CIPHER_CCM;
 }
 
 static inline bool mbj_has_auth_key_(const MBJ_JOB *job) {
-    return job->hash_alg != MBJ_AUTH_NULL && job->hash_alg != MBJ_AUTH_GCM;
+    return (job->hash_alg >= MBJ_AUTH_HMAC_SHA_1 && job->hash_alg <= MBJ_AUTH_AES_CMAC_256) || job->hash_alg == MBJ_AUTH_AES_GMAC;
 }
 
 static inline bool mbj_has_tag_(const MBJ_JOB *job) {
@@ -428,7 +444,7 @@ static inline bool mbj_is_null_(bool is_used, const uint8_t *at, uint64_t len) {
 static inline bool mbj_has_null_(const MBJ_JOB *job) {
     return mbj_is_null_(true, job->packet, job->packet_len_in_bytes) ||
            mbj_is_null_(mbj_has_cipher_(job), job->key, job->key_len_in_bytes) ||
-           mbj_is_null_(mbj_has_cipher_(job), job->iv, job->iv_len_in_bytes) ||
+           mbj_is_null_(mbj_has_iv_(job), job->iv, job->iv_len_in_bytes) ||
            mbj_is_null_(mbj_has_cipher_(job), job->dst, job->msg_len_to_cipher_in_bytes) ||
            mbj_is_null_(mbj_has_aad_(job), job->aad, job->aad_len_in_bytes) ||
            mbj_is_null_(mbj_has_auth_key_(job), job->auth_key, job->auth_key_len_in_bytes) ||
@@ -436,8 +452,8 @@ static inline bool mbj_has_null_(const MBJ_JOB *job) {
 }
 
 static inline bool mbj_has_bad_code_(const MBJ_JOB *job) {
-    return job->cipher_mode > MBJ_CIPHER_GCM || job->cipher_direction > MBJ_DIR_DECRYPT || job->chain_order > MBJ_ORDER_HASH_CIPHER ||
-           job->hash_alg > MBJ_AUTH_GCM;
+    return job->cipher_mode > MBJ_CIPHER_CCM || job->cipher_direction > MBJ_DIR_DECRYPT || job->chain_order > MBJ_ORDER_HASH_CIPHER ||
+           job->hash_alg > MBJ_AUTH_SHA_512;
 }
 
 /* The job interface's own reason for which the job is refused, or 0. */
@@ -463,7 +479,7 @@ static inline void mbj_say_(struct mbj_raw_job *raw, const MBJ_JOB *job) {
     raw->order = job->chain_order;
     raw->auth = job->hash_alg;
     mbj_say_bytes_(&raw->key, mbj_has_cipher_(job), job->key, job->key_len_in_bytes);
-    mbj_say_bytes_(&raw->iv, mbj_has_cipher_(job), job->iv, job->iv_len_in_bytes);
+    mbj_say_bytes_(&raw->iv, mbj_has_iv_(job), job->iv, job->iv_len_in_bytes);
     mbj_say_bytes_(&raw->auth_key, mbj_has_auth_key_(job), job->auth_key, job->auth_key_len_in_bytes);
     mbj_say_bytes_(&raw->aad, mbj_has_aad_(job), job->aad, job->aad_len_in_bytes);
     mbj_say_bytes_(&raw->packet, true, job->packet, job->packet_len_in_bytes);
