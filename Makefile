@@ -142,9 +142,9 @@ override PREFIX := $(abspath $(PREFIX))
 CMAKEDIR := $(LIBDIR)/cmake/mbj
 HWCAPSDIR := $(LIBDIR)/glibc-hwcaps/$(avx2)
 
-headers := include/mbj.h include/mbj_heap.h include/mbj_heap_pool.h
+headers := include/mbj.h include/mbj_heap.h include/mbj_heap_pool.h include/mbj_selftest.h
 documents := README.md $(wildcard docs/*.md)
-examples := $(wildcard examples/c/*.c) $(wildcard include/mbj_heap*.c) include/mbj_symbols.c
+examples := $(wildcard examples/c/*.c) $(wildcard include/mbj_heap*.c) include/mbj_symbols.c include/mbj_selftest.c
 described := $(LIBDIR)/pkgconfig/mbj.pc $(LIBDIR)/pkgconfig/mbj-static.pc $(CMAKEDIR)/mbjConfig.cmake $(CMAKEDIR)/mbjConfigVersion.cmake
 
 # What goes where, by what is done with it. Files that aren't there are left out.
