@@ -36,6 +36,7 @@ static const struct suite suites[] = {
     {"ctr-hmac-sha256-128", MBJ_CIPHER_CNTR, MBJ_AUTH_HMAC_SHA_256, 4, 8, 4, 16},   /* RFC 3686 */
     {"null-hmac-sha256-128", MBJ_CIPHER_NULL, MBJ_AUTH_HMAC_SHA_256, 0, 0, 4, 16},  /* RFC 2410 */
     {"gcm-16", MBJ_CIPHER_GCM, MBJ_AUTH_GCM, 4, 8, 4, 16},                          /* RFC 4106 */
+    {"ccm-16", MBJ_CIPHER_CCM, MBJ_AUTH_AES_CCM, 3, 8, 4, 16},                      /* RFC 4309 */
 };
 
 struct bytes {
@@ -50,10 +51,15 @@ struct association {
     struct bytes key, akey;
 };
 
+/* Whether the cipher gives the tag too, under its own key. */
+static bool is_combined(const struct suite *suite) {
+    return suite->cipher == MBJ_CIPHER_GCM || suite->cipher == MBJ_CIPHER_CCM;
+}
+
 static bool has_keys(const struct association *sa) {
     size_t len = sa->key.len - sa->suite->salt_len, akey = sa->akey.len;
     bool is_aes_key = len == 16 || len == 24 || len == 32;
-    if (sa->suite->auth == MBJ_AUTH_GCM)
+    if (is_combined(sa->suite))
         return is_aes_key && akey == 0;
     bool is_akey = sa->suite->auth == MBJ_AUTH_AES_CMAC ? akey == 16 : akey >= 1 && akey <= MAX_HMAC_KEY;
     return is_akey && (sa->suite->cipher == MBJ_CIPHER_NULL ? len == 0 : is_aes_key);
@@ -171,7 +177,8 @@ static void answer(const MBJ_JOB *done) {
 
 /* ---- jobs ---- */
 
-/* A combined mode authenticates SPI and SEQ, with its high half between them, as additional data (RFC 4106, section 5). */
+/* A combined mode authenticates SPI and SEQ, with its high half between them, as additional data (RFC 4106, section 5; RFC 4309,
+ * section 5). */
 static size_t put_aad(struct packet *p) {
     uint8_t *end = put(put(p->aad, p->bytes, SPI), p->seq_high, p->is_esn ? SEQ : 0);
     return (size_t)(put(end, p->bytes + SPI, SEQ) - p->aad);

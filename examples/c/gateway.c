@@ -104,13 +104,14 @@ static uint8_t *range_in(uint8_t *packet, const MBJ_JOB *job) {
 }
 
 /* Reads a job line. Returns 0 and fills the job, or the number of the first field that isn't of its form, or -1 for a wrong number of
- * fields. */
+ * fields. Words stand in the order of the codes. */
 static int read_job(char *line, size_t len, struct file_job *into) {
-    static const char *const ciphers[] = {"null", "cbc", "ctr", "gcm"};
+    static const char *const ciphers[] = {"null", "cbc", "ctr", "gcm", "ccm"};
     static const char *const dirs[] = {"enc", "dec"};
     static const char *const orders[] = {"ch", "hc"};
-    static const char *const auths[] = {"null",        "hmac-sha1", "hmac-sha224", "hmac-sha256", "hmac-sha384",
-                                        "hmac-sha512", "cmac128",   "cmac256",     "gcm"};
+    static const char *const auths[] = {"null",    "hmac-sha1", "hmac-sha224", "hmac-sha256", "hmac-sha384", "hmac-sha512",
+                                        "cmac128", "cmac256",   "gcm",         "gmac",        "ccm",         "sha1",
+                                        "sha224",  "sha256",    "sha384",      "sha512"};
     struct field f[FIELDS];
     MBJ_JOB *job = &into->job;
     int cipher, dir, order, auth;
@@ -119,7 +120,7 @@ static int read_job(char *line, size_t len, struct file_job *into) {
     memset(into, 0, sizeof *into);
     if (!split_line(line, len, f))
         return -1;
-    if (!read_word(f[0], ciphers, 4, &cipher))
+    if (!read_word(f[0], ciphers, MBJ_CIPHER_CCM + 1, &cipher))
         return 1;
     if (!read_word(f[1], dirs, 2, &dir))
         return 2;
@@ -133,7 +134,7 @@ static int read_job(char *line, size_t len, struct file_job *into) {
         return 6;
     if (!read_number(f[6], &job->msg_len_to_cipher_in_bytes))
         return 7;
-    if (!read_word(f[7], auths, 9, &auth))
+    if (!read_word(f[7], auths, MBJ_AUTH_SHA_512 + 1, &auth))
         return 8;
     if (!read_bytes(f[8], &auth_key, &job->auth_key_len_in_bytes))
         return 9;

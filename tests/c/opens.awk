@@ -1,5 +1,5 @@
 # Prints open lines for what examples/c/esp.c sealed into the file `lines`, and what it must answer into the file `want`: each packet as it is,
-# and with one bit flipped; the first sixteen also with every single bit flipped, cut at each byte, and with a byte more.
+# and with one bit flipped; the first eighteen also with every single bit flipped, cut at each byte, and with a byte more.
 # Run it as: awk -v lines=OPENS -v want=WANT -f tests/c/opens.awk SEALS SEALED
 BEGIN {
     digits = "0123456789abcdef"
@@ -13,7 +13,7 @@ FNR == NR {
     packet = $2
     put(packet, opened[$1])
     bits = 4 * length(packet)
-    if ($1 >= 16) {
+    if ($1 >= 18) {
         put(flipped(packet, ($1 * 7919) % bits), "drop")
         next
     }

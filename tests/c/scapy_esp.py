@@ -23,6 +23,7 @@ SUITES = {
     "ctr-hmac-sha256-128": ("AES-CTR", "SHA2-256-128", (20, 28, 36), 32),
     "null-hmac-sha256-128": ("NULL", "SHA2-256-128", (0,), 32),
     "gcm-16": ("AES-GCM", "NULL", (20, 28, 36), 0),
+    "ccm-16": ("AES-CCM", "NULL", (19, 27, 35), 0),
 }
 EXPERIMENTAL = 253  # a NEXT whose payload scapy takes as bytes
 PAYLOAD_LENGTHS = (*range(20), 61, 62, 63, 64, 255, 1400, 9000)

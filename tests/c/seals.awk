@@ -1,17 +1,17 @@
 # Prints seal lines for examples/c/esp.c, as many as `count` says: every suite, with and without extended sequence numbers, each length of a
-# key, and drawn bytes. The payloads of the first sixteen are short. Run it as: awk -v count=1000 -f tests/c/seals.awk
+# key, and drawn bytes. The payloads of the first eighteen are short. Run it as: awk -v count=1000 -f tests/c/seals.awk
 BEGIN {
-    split("cbc-hmac-sha1-96 cbc-hmac-sha256-128 cbc-hmac-sha384-192 cbc-hmac-sha512-256 cbc-cmac-96 ctr-hmac-sha256-128 null-hmac-sha256-128 gcm-16", suites)
-    split("0 0 0 0 0 4 0 4", salts)
-    split("16 16 16 16 16 8 0 8", ivs)
-    split("20 32 48 64 16 32 32 0", auth_keys)
+    split("cbc-hmac-sha1-96 cbc-hmac-sha256-128 cbc-hmac-sha384-192 cbc-hmac-sha512-256 cbc-cmac-96 ctr-hmac-sha256-128 null-hmac-sha256-128 gcm-16 ccm-16", suites)
+    split("0 0 0 0 0 4 0 4 3", salts)
+    split("16 16 16 16 16 8 0 8 8", ivs)
+    split("20 32 48 64 16 32 32 0 0", auth_keys)
     for (i = 0; i < count; i++) {
-        number = i % 8 + 1
-        is_esn = int(i / 8) % 2
-        key = number == 7 ? 0 : 8 * (int(i / 16) % 3 + 2) + salts[number]
+        number = i % 9 + 1
+        is_esn = int(i / 9) % 2
+        key = number == 7 ? 0 : 8 * (int(i / 18) % 3 + 2) + salts[number]
         high = is_esn ? drawn(2097152) : 0 # a sequence number below 2^53, which awk holds
         seq = sprintf("%.0f", high * 4294967296 + drawn(65536) * 65536 + drawn(65536))
-        len = i < 16 ? 3 + drawn(10) : i % 50 == 49 ? drawn(9000) : drawn(200)
+        len = i < 18 ? 3 + drawn(10) : i % 50 == 49 ? drawn(9000) : drawn(200)
         print "seal", suites[number] (is_esn ? "-esn" : ""), hex(key), hex(auth_keys[number]), hex(4), seq, hex(ivs[number]), drawn(256), hex(len)
     }
 }
