@@ -81,61 +81,29 @@ static void a_job_takes_a_block_for_each_of_its_bytes(MBJ_MGR *m) {
     job->aad = mac_text;
     job->aad_len_in_bytes = sizeof mac_text;
     submit_for_blocks(m, 4);
+    job = mbj_get_next_job(m);
+    fill_cbc(job, cbc_text, sizeof cbc_text, 0, dst);
+    make_ccm(job, tag);
+    job->auth_key = mac_key;
+    job->auth_key_len_in_bytes = sizeof mac_key;
+    submit_for_blocks(m, 4);
 }
 
-/* A kind of work, the key of one of its jobs, and how many lanes docs/C.md says that it has. */
-struct lanes {
-    uint32_t cipher, auth, kind, count;
-    size_t key_len;
-};
-
-static void fill_lane(MBJ_JOB *job, const struct lanes *lanes, uint8_t *dst, uint8_t *tag) {
-    static const uint8_t key[32] = {0};
-    if (lanes->cipher != MBJ_CIPHER_NULL) {
-        fill_cbc(job, cbc_text, sizeof cbc_text, 0, dst);
-        job->key = key;
-        job->key_len_in_bytes = lanes->key_len;
-        return;
-    }
-    fill_mac(job, mac_text, sizeof mac_text, tag);
-    job->hash_alg = lanes->auth;
-    job->auth_key = key;
-    job->auth_key_len_in_bytes = lanes->key_len;
-    job->auth_tag_output_len_in_bytes = 16;
-}
-
-static uint32_t count_waiting(MBJ_MGR *m, uint32_t kind) {
-    struct mbj_counts counts;
-    CHECK(mbj_c_count(&m->handle, kind, &counts));
-    return counts.waiting;
-}
-
-/* Jobs of a kind wait until there is one for each lane; then all of the same length are finished. */
-static void lanes_run_once_all_are_in_use(MBJ_MGR *m) {
-    static const struct lanes all[] = {
-        {MBJ_CIPHER_CBC, MBJ_AUTH_NULL, MBJ_KIND_CBC_128, 32, 16},
-        {MBJ_CIPHER_CBC, MBJ_AUTH_NULL, MBJ_KIND_CBC_192, 32, 24},
-        {MBJ_CIPHER_CBC, MBJ_AUTH_NULL, MBJ_KIND_CBC_256, 32, 32},
-        {MBJ_CIPHER_NULL, MBJ_AUTH_AES_CMAC, MBJ_KIND_CMAC_128, 32, 16},
-        {MBJ_CIPHER_NULL, MBJ_AUTH_AES_CMAC_256, MBJ_KIND_CMAC_256, 32, 32},
-        {MBJ_CIPHER_NULL, MBJ_AUTH_HMAC_SHA_1, MBJ_KIND_HMAC_SHA_1, 16, 20},
-        {MBJ_CIPHER_NULL, MBJ_AUTH_HMAC_SHA_224, MBJ_KIND_HMAC_SHA_256, 16, 28},
-        {MBJ_CIPHER_NULL, MBJ_AUTH_HMAC_SHA_256, MBJ_KIND_HMAC_SHA_256, 16, 32},
-        {MBJ_CIPHER_NULL, MBJ_AUTH_HMAC_SHA_384, MBJ_KIND_HMAC_SHA_512, 8, 32},
-        {MBJ_CIPHER_NULL, MBJ_AUTH_HMAC_SHA_512, MBJ_KIND_HMAC_SHA_512, 8, 32},
-    };
+/* A hash uses no key, and GMAC beside its key the IV. Neither uses the cipher's key or additional data. */
+static void a_job_without_a_cipher_takes_blocks_too(MBJ_MGR *m) {
     uint8_t dst[CBC_BYTES], tag[MAC_BYTES];
-    for (size_t k = 0; k < sizeof all / sizeof *all; k++) {
-        const struct lanes *lanes = &all[k];
-        uint32_t given = 0;
-        for (uint32_t i = 1; i <= lanes->count; i++) {
-            fill_lane(mbj_get_next_job(m), lanes, dst, tag);
-            MBJ_JOB *done = mbj_submit_job(m);
-            CHECK((done != NULL) == (i == lanes->count) && count_waiting(m, lanes->kind) == i % lanes->count);
-            for (; done != NULL; done = mbj_get_completed_job(m), given++)
-                CHECK(is_done(done));
-        }
-        CHECK(given == lanes->count && mbj_queue_size(m) == 0);
+    static const long taken[] = {1, 3};
+    static const uint32_t auths[] = {MBJ_AUTH_SHA_1, MBJ_AUTH_AES_GMAC};
+    for (int i = 0; i < 2; i++) {
+        MBJ_JOB *job = mbj_get_next_job(m);
+        fill_gcm(job, gcm_zeros, dst, tag);
+        job->cipher_mode = MBJ_CIPHER_NULL;
+        job->hash_alg = auths[i];
+        job->auth_key = cbc_key;
+        job->auth_key_len_in_bytes = sizeof cbc_key;
+        job->aad = mac_text;
+        job->aad_len_in_bytes = sizeof mac_text;
+        submit_for_blocks(m, taken[i]);
     }
 }
 
@@ -236,9 +204,12 @@ static void exports(void) {
     exports_without_a_manager(&handle, &raw, &done);
     CHECK(mbj_c_new(&handle) == MBJ_ERR_NONE && mbj_c_new(&handle) == MBJ_ERR_HAS_MANAGER);
     CHECK(!mbj_c_submit(&handle, &done, &refusal) && refusal == MBJ_ERR_NO_JOB);
-    raw.auth = MBJ_AUTH_GCM + 1;
+    raw.auth = MBJ_AUTH_SHA_512 + 1;
     CHECK(mbj_c_fill(&handle, &raw) == MBJ_ERR_WORD);
+    raw.cipher = MBJ_CIPHER_CCM + 1;
     raw.auth = MBJ_AUTH_NULL;
+    CHECK(mbj_c_fill(&handle, &raw) == MBJ_ERR_WORD);
+    raw.cipher = MBJ_CIPHER_CBC;
     CHECK(mbj_c_fill(&handle, &raw) == MBJ_ERR_NONE);
     exports_give_the_range_back(&handle, &done);
     exports_want_no_room_for_a_refused_job(&handle, &raw, &done);
@@ -248,6 +219,7 @@ static void exports(void) {
 
 /* Every block that is asked for is freed, also where a manager is asked for twice, where jobs are left, and where making one fails. */
 static void every_block_is_freed(void) {
+    uint8_t dst[CBC_BYTES], tag[MAC_BYTES];
     long before = blocks;
     struct mbj_handle handle = MBJ_HANDLE_INIT;
     CHECK(mbj_c_new(&handle) == MBJ_ERR_NONE);
@@ -263,8 +235,12 @@ static void every_block_is_freed(void) {
         refuse_at = 0;
         bool is_made = m != NULL;
         if (is_made) {
-            fill_mac(mbj_get_next_job(m), mac_text, sizeof mac_text, NULL);
+            fill_mac(mbj_get_next_job(m), mac_text, sizeof mac_text, tag);
             mbj_submit_job(m);
+            fill_cbc(mbj_get_next_job(m), cbc_text, sizeof cbc_text, 0, dst);
+            make_ccm(mbj_get_next_job(m), tag);
+            mbj_submit_job(m);
+            CHECK(mbj_queue_size(m) == 2);
             mbj_get_next_job(m);
         }
         mbj_free_mgr(m);
@@ -360,7 +336,7 @@ int main(void) {
     a_job_that_does_nothing(m);
     a_job_is_submitted_again_where_memory_wanted(m);
     a_job_takes_a_block_for_each_of_its_bytes(m);
-    lanes_run_once_all_are_in_use(m);
+    a_job_without_a_cipher_takes_blocks_too(m);
     jobs_come_back_in_order(m);
     mbj_free_mgr(m);
     CHECK(blocks == before);

@@ -82,6 +82,17 @@ static inline void fill_gcm(MBJ_JOB *job, const uint8_t *packet, uint8_t *dst, u
     job->auth_tag_output_len_in_bytes = GCM_BYTES;
 }
 
+/* Makes a job of a cipher one of CCM, with the first bytes of its IV as the nonce and some additional data. */
+static inline void make_ccm(MBJ_JOB *job, uint8_t *tag) {
+    job->cipher_mode = MBJ_CIPHER_CCM;
+    job->hash_alg = MBJ_AUTH_AES_CCM;
+    job->iv_len_in_bytes = 11;
+    job->aad = mac_text;
+    job->aad_len_in_bytes = sizeof mac_text;
+    job->auth_tag_output = tag;
+    job->auth_tag_output_len_in_bytes = 16;
+}
+
 /* Submits the job that was handed out where no other one is out, and gives it back. */
 static inline MBJ_JOB *finish(MBJ_MGR *m) {
     MBJ_JOB *done = mbj_submit_job(m);

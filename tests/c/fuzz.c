@@ -74,36 +74,72 @@ struct out {
 
 static struct out *first_out, **last_out = &first_out;
 
+/* Mostly an authentication that goes with the cipher. */
+static void draw_pair(struct source *s, MBJ_JOB *job) {
+    job->cipher_mode = draw(s, MBJ_CIPHER_CCM + 1);
+    job->hash_alg = draw(s, MBJ_AUTH_SHA_512 + 1);
+    if (draw(s, 4) == 0)
+        return;
+    if (job->cipher_mode == MBJ_CIPHER_GCM)
+        job->hash_alg = MBJ_AUTH_GCM;
+    else if (job->cipher_mode == MBJ_CIPHER_CCM)
+        job->hash_alg = MBJ_AUTH_AES_CCM;
+    else if (job->hash_alg == MBJ_AUTH_GCM || job->hash_alg == MBJ_AUTH_AES_CCM)
+        job->hash_alg = MBJ_AUTH_HMAC_SHA_256;
+    else if (job->hash_alg == MBJ_AUTH_AES_GMAC)
+        job->cipher_mode = MBJ_CIPHER_NULL;
+}
+
 static void draw_codes(struct source *s, MBJ_JOB *job) {
-    static const uint32_t bad[] = {4, 9, 20, 255, 256, UINT32_MAX};
-    job->cipher_mode = draw(s, 4);
+    static const uint32_t bad[] = {MBJ_CIPHER_CCM + 1, MBJ_AUTH_SHA_512 + 1, 20, 255, 256, UINT32_MAX};
+    draw_pair(s, job);
     job->cipher_direction = draw(s, 2);
     job->chain_order = draw(s, 2);
-    job->hash_alg = draw(s, 9);
-    if (draw(s, 4) != 0 && job->cipher_mode == MBJ_CIPHER_GCM)
-        job->hash_alg = MBJ_AUTH_GCM;
-    if (draw(s, 4) != 0 && job->cipher_mode != MBJ_CIPHER_GCM && job->hash_alg == MBJ_AUTH_GCM)
-        job->hash_alg = MBJ_AUTH_HMAC_SHA_256;
     uint32_t *const fields[] = {&job->cipher_mode, &job->cipher_direction, &job->chain_order, &job->hash_alg};
     if (draw(s, 32) == 0)
         *fields[draw(s, 4)] = draw_among(s, bad, 6);
 }
 
-static void draw_lengths(struct source *s, MBJ_JOB *job) {
+static uint32_t draw_aes_key_len(struct source *s) {
     static const uint32_t keys[] = {16, 24, 32, 16, 24, 32, 16, 24, 32, 0, 17, 64};
+    return draw_among(s, keys, 12);
+}
+
+/* The lengths below are mostly those that the job's codes take. */
+static uint32_t draw_iv_len(struct source *s, const MBJ_JOB *job) {
     static const uint32_t ivs[] = {16, 12, 16, 12, 16, 12, 1, 0, 13, 60};
+    bool is_any = draw(s, 8) == 0;
+    if (!is_any && job->cipher_mode == MBJ_CIPHER_CBC)
+        return 16;
+    return !is_any && job->cipher_mode == MBJ_CIPHER_CCM ? 7 + draw(s, 7) : draw_among(s, ivs, 10);
+}
+
+static uint32_t draw_auth_key_len(struct source *s, const MBJ_JOB *job) {
     static const uint32_t auth_keys[] = {16, 32, 20, 0, 63, 64, 65, 127, 128, 129, 1024, 1025};
+    bool is_any = draw(s, 8) == 0;
+    if (!is_any && job->hash_alg == MBJ_AUTH_AES_GMAC)
+        return draw_aes_key_len(s);
+    if (!is_any && (job->hash_alg == MBJ_AUTH_AES_CMAC || job->hash_alg == MBJ_AUTH_AES_CMAC_256))
+        return job->hash_alg == MBJ_AUTH_AES_CMAC ? 16 : 32;
+    return draw_among(s, auth_keys, 12);
+}
+
+static uint32_t draw_tag_len(struct source *s, const MBJ_JOB *job) {
     static const uint32_t tags[] = {20, 28, 32, 48, 64, 16, 1, 12, 0, 65, 255, 300};
-    static const uint32_t cmac_keys[] = {16, 32};
-    job->key_len_in_bytes = draw_among(s, keys, 12);
-    job->iv_len_in_bytes = job->cipher_mode == MBJ_CIPHER_CBC && draw(s, 8) != 0 ? 16 : draw_among(s, ivs, 10);
-    job->auth_key_len_in_bytes = draw_among(s, auth_keys, 12);
-    if (draw(s, 8) != 0 && (job->hash_alg == MBJ_AUTH_AES_CMAC || job->hash_alg == MBJ_AUTH_AES_CMAC_256))
-        job->auth_key_len_in_bytes = cmac_keys[job->hash_alg - MBJ_AUTH_AES_CMAC];
+    bool is_any = draw(s, 8) == 0;
+    if (!is_any && job->hash_alg == MBJ_AUTH_NULL)
+        return 0;
+    if (!is_any && job->hash_alg == MBJ_AUTH_AES_CCM)
+        return 4 + 2 * draw(s, 7);
+    return draw(s, 4) != 0 ? 1 + draw(s, 16) : draw_among(s, tags, 12);
+}
+
+static void draw_lengths(struct source *s, MBJ_JOB *job) {
+    job->key_len_in_bytes = draw_aes_key_len(s);
+    job->iv_len_in_bytes = draw_iv_len(s, job);
+    job->auth_key_len_in_bytes = draw_auth_key_len(s, job);
     job->aad_len_in_bytes = draw(s, 64);
-    job->auth_tag_output_len_in_bytes = draw(s, 4) != 0 ? 1 + draw(s, 16) : draw_among(s, tags, 12);
-    if (job->hash_alg == MBJ_AUTH_NULL && draw(s, 8) != 0)
-        job->auth_tag_output_len_in_bytes = 0;
+    job->auth_tag_output_len_in_bytes = draw_tag_len(s, job);
     job->packet_len_in_bytes = draw(s, MAX_PACKET);
 }
 

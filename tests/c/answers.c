@@ -1,0 +1,395 @@
+/* Tests CCM, GMAC and hashes without a key: the answers that the standards have, which fields a job ignores, and why one is refused. */
+#include "check.h"
+
+enum { ROOM = 256 };
+
+/* ---- bytes ---- */
+
+struct text {
+    uint8_t at[ROOM];
+    size_t len;
+};
+
+static uint8_t digit_value(char digit) {
+    return (uint8_t)(digit <= '9' ? digit - '0' : digit - 'a' + 10);
+}
+
+/* The bytes of so many pairs of hexadecimal digits in lower case. */
+static struct text bytes_of(const char *digits) {
+    struct text text = {{0}, strlen(digits) / 2};
+    CHECK(text.len <= ROOM);
+    for (size_t i = 0; i < text.len; i++)
+        text.at[i] = (uint8_t)(digit_value(digits[2 * i]) * 16 + digit_value(digits[2 * i + 1]));
+    return text;
+}
+
+static bool is_same(const uint8_t *bytes, const struct text *text) {
+    return memcmp(bytes, text->at, text->len) == 0;
+}
+
+/* A pointer to nothing, for what a job doesn't use: whoever reads there ends the program. */
+static uint8_t *nowhere(void) {
+    return (uint8_t *)1;
+}
+
+/* ---- CCM ---- */
+
+struct ccm_answer {
+    const char *key, *nonce, *aad, *plaintext, *ciphertext, *tag;
+};
+
+static const struct ccm_answer ccm_answers[] = {
+    /* RFC 3610, section 8, packet vector #1 */
+    {"c0c1c2c3c4c5c6c7c8c9cacbcccdcecf", "00000003020100a0a1a2a3a4a5", "0001020304050607",
+     "08090a0b0c0d0e0f101112131415161718191a1b1c1d1e", "588c979a61c663d2f066d0c2c0f989806d5f6b61dac384", "17e8d12cfdf926e0"},
+    /* SP 800-38C, examples 1 to 3 */
+    {"404142434445464748494a4b4c4d4e4f", "10111213141516", "0001020304050607", "20212223", "7162015b", "4dac255d"},
+    {"404142434445464748494a4b4c4d4e4f", "1011121314151617", "000102030405060708090a0b0c0d0e0f", "202122232425262728292a2b2c2d2e2f",
+     "d2a1f0e051ea5f62081a7792073d593d", "1fc64fbfaccd"},
+    {"404142434445464748494a4b4c4d4e4f", "101112131415161718191a1b", "000102030405060708090a0b0c0d0e0f10111213",
+     "202122232425262728292a2b2c2d2e2f3031323334353637", "e3b201a9f5b71a7a9b1ceaeccd97e70b6176aad9a4428aa5", "484392fbc1b09951"},
+};
+
+/* A job of CCM over all of the packet but its first byte. What CCM doesn't use is nowhere and out of range. */
+static void fill_ccm(MBJ_JOB *job, const struct text *key, const struct text *nonce, const struct text *aad, const struct text *packet) {
+    job->cipher_mode = MBJ_CIPHER_CCM;
+    job->hash_alg = MBJ_AUTH_AES_CCM;
+    job->key = key->at;
+    job->key_len_in_bytes = key->len;
+    job->iv = nonce->at;
+    job->iv_len_in_bytes = nonce->len;
+    job->aad = aad->at;
+    job->aad_len_in_bytes = aad->len;
+    job->packet = packet->at;
+    job->packet_len_in_bytes = packet->len;
+    job->cipher_start_src_offset_in_bytes = 1;
+    job->msg_len_to_cipher_in_bytes = packet->len - 1;
+    job->auth_key = nowhere();
+    job->auth_key_len_in_bytes = 2000;
+    job->hash_start_src_offset_in_bytes = job->msg_len_to_hash_in_bytes = UINT64_C(1) << 40;
+}
+
+/* Does what the answer says in this direction and order: only the range is given back, and the tag is that over the plain text. */
+static void check_ccm(MBJ_MGR *m, const struct ccm_answer *answer, uint32_t direction, uint32_t order) {
+    bool is_enc = direction == MBJ_DIR_ENCRYPT;
+    struct text key = bytes_of(answer->key), nonce = bytes_of(answer->nonce), aad = bytes_of(answer->aad), tag = bytes_of(answer->tag);
+    struct text from = bytes_of(is_enc ? answer->plaintext : answer->ciphertext);
+    struct text to = bytes_of(is_enc ? answer->ciphertext : answer->plaintext), packet = {{0xaa}, from.len + 1};
+    uint8_t dst[ROOM], own_tag[MBJ_MAX_TAG_BYTES];
+    memcpy(packet.at + 1, from.at, from.len);
+    memset(dst, 0xee, sizeof dst);
+    memset(own_tag, 0xee, sizeof own_tag);
+    MBJ_JOB *job = mbj_get_next_job(m);
+    fill_ccm(job, &key, &nonce, &aad, &packet);
+    job->cipher_direction = direction;
+    job->chain_order = order;
+    job->dst = dst;
+    job->auth_tag_output = own_tag;
+    job->auth_tag_output_len_in_bytes = tag.len;
+    CHECK(finish(m) == job && is_done(job) && is_same(dst, &to) && is_same(own_tag, &tag));
+    CHECK(is_all(dst + to.len, sizeof dst - to.len, 0xee) && is_all(own_tag + tag.len, sizeof own_tag - tag.len, 0xee));
+    CHECK(packet.at[0] == 0xaa && memcmp(packet.at + 1, from.at, from.len) == 0);
+}
+
+static void ccm_answers_come_out(MBJ_MGR *m) {
+    for (size_t i = 0; i < sizeof ccm_answers / sizeof *ccm_answers; i++)
+        for (uint32_t way = 0; way < 4; way++)
+            check_ccm(m, &ccm_answers[i], way % 2, way / 2);
+}
+
+/* The first answer, in place, of as many jobs as there are lanes and some more. */
+static void ccm_is_sealed_in_lanes(MBJ_MGR *m) {
+    enum { COUNT = 40 };
+    static struct text packets[COUNT];
+    static uint8_t tags[COUNT][8];
+    struct text key = bytes_of(ccm_answers[0].key), nonce = bytes_of(ccm_answers[0].nonce), aad = bytes_of(ccm_answers[0].aad);
+    struct text plaintext = bytes_of(ccm_answers[0].plaintext), ciphertext = bytes_of(ccm_answers[0].ciphertext);
+    struct text tag = bytes_of(ccm_answers[0].tag);
+    int given = 0;
+    for (int i = 0; i < COUNT; i++) {
+        packets[i].len = plaintext.len + 1;
+        memcpy(packets[i].at + 1, plaintext.at, plaintext.len);
+        MBJ_JOB *job = mbj_get_next_job(m);
+        fill_ccm(job, &key, &nonce, &aad, &packets[i]);
+        job->dst = packets[i].at + 1;
+        job->auth_tag_output = tags[i];
+        job->auth_tag_output_len_in_bytes = tag.len;
+        for (MBJ_JOB *done = mbj_submit_job(m); done != NULL; done = mbj_get_completed_job(m), given++)
+            CHECK(is_done(done));
+    }
+    CHECK(given == 32);
+    for (MBJ_JOB *done; (done = mbj_flush_job(m)) != NULL; given++)
+        CHECK(is_done(done));
+    CHECK(given == COUNT);
+    for (int i = 0; i < COUNT; i++)
+        CHECK(is_same(packets[i].at + 1, &ciphertext) && is_same(tags[i], &tag));
+}
+
+/* ---- hashes and GMAC ---- */
+
+struct digest {
+    const char *message, *digest;
+};
+
+/* FIPS 180-4, its examples ("Examples with Intermediate Values"): "abc", and messages of two blocks. */
+#define TWO_BLOCKS_OF_64 "abcdbcdecdefdefgefghfghighijhijkijkljklmklmnlmnomnopnopq"
+#define TWO_BLOCKS_OF_128 \
+    "abcdefghbcdefghicdefghijdefghijkefghijklfghijklmghijklmnhijklmnoijklmnopjklmnopqklmnopqrlmnopqrsmnopqrstnopqrstu"
+
+static const struct digest digests[][2] = {
+    {{"abc", "a9993e364706816aba3e25717850c26c9cd0d89d"}, {TWO_BLOCKS_OF_64, "84983e441c3bd26ebaae4aa1f95129e5e54670f1"}},
+    {{"abc", "23097d223405d8228642a477bda255b32aadbce4bda0b3f7e36c9da7"},
+     {TWO_BLOCKS_OF_64, "75388b16512776cc5dba5da1fd890150b0c6455cb4f58b1952522525"}},
+    {{"abc", "ba7816bf8f01cfea414140de5dae2223b00361a396177a9cb410ff61f20015ad"},
+     {TWO_BLOCKS_OF_64, "248d6a61d20638b8e5c026930c3e6039a33ce45964ff2167f6ecedd419db06c1"}},
+    {{"abc", "cb00753f45a35e8bb5a03d699ac65007272c32ab0eded1631a8b605a43ff5bed8086072ba1e7cc2358baeca134c825a7"},
+     {TWO_BLOCKS_OF_128, "09330c33f71147e83d192fc782cd1b4753111b173b3b05d22fa08086e3b0f712fcc7c71a557e2db966c3e9fa91746039"}},
+    {{"abc",
+      "ddaf35a193617abacc417349ae20413112e6fa4e89a97ea20a9eeee64b55d39a2192992a274fc1a836ba3c23a3feebbd454d4423643ce80e2a9ac94fa54ca49f"},
+     {TWO_BLOCKS_OF_128,
+      "8e959b75dae313da8cf4f72814fc143f8f7779c6eb9f7fa17299aeadb6889018501d289e4900f7e4331b99dec4b5433ac7d329eeb6dd26545e96e55b874be909"}},
+};
+
+/* A digest of all of the packet but its first and its last byte. A hash uses no key, and a job without a cipher nothing of one. */
+static void fill_hash(MBJ_JOB *job, uint32_t hash, const uint8_t *packet, size_t len, uint8_t *tag, size_t tag_len) {
+    job->cipher_mode = MBJ_CIPHER_NULL;
+    job->hash_alg = hash;
+    job->key = job->iv = job->aad = job->auth_key = job->dst = nowhere();
+    job->key_len_in_bytes = job->iv_len_in_bytes = job->aad_len_in_bytes = job->auth_key_len_in_bytes = 70000;
+    job->cipher_start_src_offset_in_bytes = job->msg_len_to_cipher_in_bytes = UINT64_C(1) << 40;
+    job->packet = packet;
+    job->packet_len_in_bytes = len;
+    job->hash_start_src_offset_in_bytes = 1;
+    job->msg_len_to_hash_in_bytes = len - 2;
+    job->auth_tag_output = tag;
+    job->auth_tag_output_len_in_bytes = tag_len;
+}
+
+/* The leftmost bytes of the digest. */
+static void check_digest(MBJ_MGR *m, uint32_t hash, const struct digest *answer, size_t tag_len) {
+    struct text digest = bytes_of(answer->digest), packet = {{0xff}, strlen(answer->message) + 2};
+    uint8_t tag[MBJ_MAX_TAG_BYTES];
+    memcpy(packet.at + 1, answer->message, packet.len - 2);
+    memset(tag, 0xee, sizeof tag);
+    MBJ_JOB *job = mbj_get_next_job(m);
+    fill_hash(job, hash, packet.at, packet.len, tag, tag_len);
+    CHECK(finish(m) == job && is_done(job) && memcmp(tag, digest.at, tag_len) == 0);
+    CHECK(is_all(tag + tag_len, sizeof tag - tag_len, 0xee));
+}
+
+static void digests_come_out(MBJ_MGR *m) {
+    for (uint32_t hash = MBJ_AUTH_SHA_1; hash <= MBJ_AUTH_SHA_512; hash++)
+        for (int i = 0; i < 2; i++) {
+            const struct digest *answer = &digests[hash - MBJ_AUTH_SHA_1][i];
+            check_digest(m, hash, answer, strlen(answer->digest) / 2);
+            check_digest(m, hash, answer, 1);
+        }
+}
+
+/* A hash goes with each cipher but GCM and CCM, before it or behind it: here over what is enciphered, and over the text in clear. */
+static void a_hash_goes_with_a_cipher(MBJ_MGR *m) {
+    for (uint32_t order = MBJ_ORDER_CIPHER_HASH; order <= MBJ_ORDER_HASH_CIPHER; order++) {
+        uint8_t dst[CBC_BYTES], tag[32], own[32];
+        MBJ_JOB *job = mbj_get_next_job(m);
+        fill_hash(job, MBJ_AUTH_SHA_256, order == MBJ_ORDER_CIPHER_HASH ? cbc_ciphertext : cbc_text, CBC_BYTES, own, sizeof own);
+        CHECK(finish(m) == job && is_done(job));
+        job = mbj_get_next_job(m);
+        fill_hash(job, MBJ_AUTH_SHA_256, cbc_text, CBC_BYTES, tag, sizeof tag);
+        fill_cbc(job, cbc_text, CBC_BYTES, 0, dst);
+        job->hash_alg = MBJ_AUTH_SHA_256;
+        job->chain_order = order;
+        CHECK(finish(m) == job && is_done(job) && memcmp(dst, cbc_ciphertext, sizeof dst) == 0 && memcmp(tag, own, sizeof tag) == 0);
+    }
+}
+
+struct gmac_answer {
+    const char *key, *iv, *text, *tag;
+};
+
+static const struct gmac_answer gmac_answers[] = {
+    /* `openssl mac` with AES-128-GCM */
+    {"77be63708971c4e240d1cb79e8d77feb", "e0e00f19fed7ba0136a797f3", "7a43ec1d9c0a5a78a0b16533a6213cab",
+     "209fcc8d3675ed938e9c7166709dd946"},
+    /* The Galois/counter mode of operation (McGrew and Viega), appendix B, test cases 1, 7 and 13: GCM of no text is GMAC */
+    {"00000000000000000000000000000000", "000000000000000000000000", "", "58e2fccefa7e3061367f1d57a4e7455a"},
+    {"000000000000000000000000000000000000000000000000", "000000000000000000000000", "", "cd33b28ac773f74ba00ed1f312572435"},
+    {"0000000000000000000000000000000000000000000000000000000000000000", "000000000000000000000000", "",
+     "530f8afbc74536b9a963b4f1c4cb738b"},
+};
+
+/* The bytes go to the four places, where they stand until the job is submitted, or its result until it is given back. */
+static void fill_gmac(MBJ_JOB *job, const struct gmac_answer *answer, struct text *key, struct text *iv, struct text *packet,
+                      uint8_t *tag) {
+    *key = bytes_of(answer->key);
+    *iv = bytes_of(answer->iv);
+    *packet = bytes_of(answer->text);
+    fill_hash(job, MBJ_AUTH_AES_GMAC, packet->at, packet->len, tag, 16);
+    job->auth_key = key->at;
+    job->auth_key_len_in_bytes = key->len;
+    job->iv = iv->at;
+    job->iv_len_in_bytes = iv->len;
+    job->hash_start_src_offset_in_bytes = 0;
+    job->msg_len_to_hash_in_bytes = packet->len;
+}
+
+static void gmac_answers_come_out(MBJ_MGR *m) {
+    for (size_t i = 0; i < sizeof gmac_answers / sizeof *gmac_answers; i++) {
+        struct text key, iv, packet, want = bytes_of(gmac_answers[i].tag);
+        uint8_t tag[16];
+        MBJ_JOB *job = mbj_get_next_job(m);
+        fill_gmac(job, &gmac_answers[i], &key, &iv, &packet, tag);
+        CHECK(mbj_submit_job(m) == job && is_done(job) && is_same(tag, &want));
+    }
+}
+
+/* ---- refusals ---- */
+
+/* What is the matter with a job, and the reason for which it is refused. */
+struct fault {
+    void (*spoil)(MBJ_JOB *job, size_t number);
+    size_t number;
+    uint32_t reason;
+};
+
+static const uint8_t zeros[70000] = {0};
+
+/* The pointer that stands there is NULL. */
+static void take(MBJ_JOB *job, size_t at) { memset((char *)job + at, 0, sizeof(void *)); }
+static void pair_with(MBJ_JOB *job, size_t auth) { job->hash_alg = (uint32_t)auth, job->auth_key = zeros; }
+static void give_key(MBJ_JOB *job, size_t len) { job->key_len_in_bytes = len; }
+static void give_auth_key(MBJ_JOB *job, size_t len) { job->auth_key_len_in_bytes = len; }
+static void give_iv(MBJ_JOB *job, size_t len) { job->iv = zeros, job->iv_len_in_bytes = len; }
+static void give_aad(MBJ_JOB *job, size_t len) { job->aad = zeros, job->aad_len_in_bytes = len; }
+static void give_tag(MBJ_JOB *job, size_t len) { job->auth_tag_output_len_in_bytes = len; }
+static void cipher_more(MBJ_JOB *job, size_t len) { job->msg_len_to_cipher_in_bytes += len; }
+static void hash_more(MBJ_JOB *job, size_t len) { job->msg_len_to_hash_in_bytes += len; }
+
+/* With a key, an IV and data of lengths that the cipher doesn't take either: that the two don't go together is told first. */
+static void encipher_by(MBJ_JOB *job, size_t cipher) {
+    job->cipher_mode = (uint32_t)cipher;
+    job->key = job->iv = job->aad = zeros;
+    job->msg_len_to_cipher_in_bytes = 0;
+}
+
+/* The job that was filled is spoiled, and refused for that. Nothing is written. */
+static void check_fault(MBJ_MGR *m, MBJ_JOB *job, const struct fault *fault, uint8_t *dst, uint8_t *tag) {
+    memset(dst, 0xee, ROOM);
+    memset(tag, 0xee, MBJ_MAX_TAG_BYTES);
+    fault->spoil(job, fault->number);
+    CHECK(finish(m) == job && is_refused(job, fault->reason) && is_all(dst, ROOM, 0xee) && is_all(tag, MBJ_MAX_TAG_BYTES, 0xee));
+}
+
+static const struct fault ccm_faults[] = {
+    {take, offsetof(MBJ_JOB, key), MBJ_REASON_NULL},
+    {take, offsetof(MBJ_JOB, iv), MBJ_REASON_NULL},
+    {take, offsetof(MBJ_JOB, aad), MBJ_REASON_NULL},
+    {take, offsetof(MBJ_JOB, packet), MBJ_REASON_NULL},
+    {take, offsetof(MBJ_JOB, dst), MBJ_REASON_NULL},
+    {take, offsetof(MBJ_JOB, auth_tag_output), MBJ_REASON_NULL},
+    {pair_with, MBJ_AUTH_NULL, MBJ_REASON_PAIR},
+    {pair_with, MBJ_AUTH_GCM, MBJ_REASON_PAIR},
+    {pair_with, MBJ_AUTH_AES_GMAC, MBJ_REASON_PAIR},
+    {pair_with, MBJ_AUTH_SHA_1, MBJ_REASON_PAIR},
+    {encipher_by, MBJ_CIPHER_CNTR, MBJ_REASON_PAIR},
+    {encipher_by, MBJ_CIPHER_GCM, MBJ_REASON_PAIR},
+    {encipher_by, MBJ_CIPHER_NULL, MBJ_REASON_PAIR},
+    {give_key, 15, MBJ_REASON_CIPHER_KEY},
+    {give_iv, 6, MBJ_REASON_IV_LENGTH},
+    {give_iv, 14, MBJ_REASON_IV_LENGTH},
+    {cipher_more, 1, MBJ_REASON_CIPHER_RANGE},
+    {give_aad, 65280, MBJ_REASON_AAD_LONG},
+    {give_tag, 0, MBJ_REASON_TAG_LENGTH},
+    {give_tag, 2, MBJ_REASON_TAG_LENGTH},
+    {give_tag, 7, MBJ_REASON_TAG_LENGTH},
+    {give_tag, 18, MBJ_REASON_TAG_LENGTH},
+};
+
+static void ccm_is_refused(MBJ_MGR *m) {
+    struct text key = bytes_of(ccm_answers[0].key), nonce = bytes_of(ccm_answers[0].nonce), aad = bytes_of(ccm_answers[0].aad);
+    struct text packet = bytes_of(ccm_answers[0].plaintext);
+    uint8_t dst[ROOM], tag[MBJ_MAX_TAG_BYTES];
+    for (size_t i = 0; i < sizeof ccm_faults / sizeof *ccm_faults; i++) {
+        MBJ_JOB *job = mbj_get_next_job(m);
+        fill_ccm(job, &key, &nonce, &aad, &packet);
+        job->dst = dst;
+        job->auth_tag_output = tag;
+        job->auth_tag_output_len_in_bytes = 8;
+        check_fault(m, job, &ccm_faults[i], dst, tag);
+    }
+}
+
+/* 65,279 bytes of additional data are taken, and no text is as good as any. The tag is that of OpenSSL. */
+static void ccm_takes_its_longest_aad(MBJ_MGR *m) {
+    struct text key = bytes_of(ccm_answers[0].key), nonce = bytes_of(ccm_answers[0].nonce), none = {{0}, 0}, packet = {{0}, 1};
+    struct text want = bytes_of("0e5f096f88586f8a9c25ff22f67a690c");
+    uint8_t tag[16];
+    MBJ_JOB *job = mbj_get_next_job(m);
+    fill_ccm(job, &key, &nonce, &none, &packet);
+    job->aad = zeros;
+    job->aad_len_in_bytes = 65279;
+    job->auth_tag_output = tag;
+    job->auth_tag_output_len_in_bytes = sizeof tag;
+    CHECK(finish(m) == job && is_done(job) && is_same(tag, &want));
+}
+
+static const struct fault gmac_faults[] = {
+    {take, offsetof(MBJ_JOB, iv), MBJ_REASON_NULL},
+    {take, offsetof(MBJ_JOB, auth_key), MBJ_REASON_NULL},
+    {take, offsetof(MBJ_JOB, packet), MBJ_REASON_NULL},
+    {take, offsetof(MBJ_JOB, auth_tag_output), MBJ_REASON_NULL},
+    {encipher_by, MBJ_CIPHER_CBC, MBJ_REASON_PAIR},
+    {encipher_by, MBJ_CIPHER_CNTR, MBJ_REASON_PAIR},
+    {encipher_by, MBJ_CIPHER_GCM, MBJ_REASON_PAIR},
+    {encipher_by, MBJ_CIPHER_CCM, MBJ_REASON_PAIR},
+    {give_iv, 0, MBJ_REASON_IV_LENGTH},
+    {give_iv, 65536, MBJ_REASON_IV_LENGTH},
+    {give_auth_key, 15, MBJ_REASON_AUTH_KEY},
+    {hash_more, 1, MBJ_REASON_HASH_RANGE},
+    {give_tag, 0, MBJ_REASON_TAG_LENGTH},
+    {give_tag, 17, MBJ_REASON_TAG_LENGTH},
+};
+
+static void gmac_is_refused(MBJ_MGR *m) {
+    struct text key, iv, packet;
+    uint8_t dst[ROOM], tag[MBJ_MAX_TAG_BYTES];
+    for (size_t i = 0; i < sizeof gmac_faults / sizeof *gmac_faults; i++) {
+        MBJ_JOB *job = mbj_get_next_job(m);
+        fill_gmac(job, &gmac_answers[0], &key, &iv, &packet, tag);
+        check_fault(m, job, &gmac_faults[i], dst, tag);
+    }
+}
+
+static const struct fault hash_faults[] = {
+    {take, offsetof(MBJ_JOB, packet), MBJ_REASON_NULL},
+    {take, offsetof(MBJ_JOB, auth_tag_output), MBJ_REASON_NULL},
+    {encipher_by, MBJ_CIPHER_GCM, MBJ_REASON_PAIR},
+    {encipher_by, MBJ_CIPHER_CCM, MBJ_REASON_PAIR},
+    {hash_more, 2, MBJ_REASON_HASH_RANGE},
+    {give_tag, 0, MBJ_REASON_TAG_LENGTH},
+    {give_tag, 21, MBJ_REASON_TAG_LENGTH},
+};
+
+static void a_hash_is_refused(MBJ_MGR *m) {
+    uint8_t packet[8] = {0}, dst[ROOM], tag[MBJ_MAX_TAG_BYTES];
+    for (size_t i = 0; i < sizeof hash_faults / sizeof *hash_faults; i++) {
+        MBJ_JOB *job = mbj_get_next_job(m);
+        fill_hash(job, MBJ_AUTH_SHA_1, packet, sizeof packet, tag, 20);
+        check_fault(m, job, &hash_faults[i], dst, tag);
+    }
+}
+
+int main(void) {
+    MBJ_MGR *m = mbj_alloc_mgr();
+    CHECK(m != NULL);
+    ccm_answers_come_out(m);
+    ccm_is_sealed_in_lanes(m);
+    digests_come_out(m);
+    a_hash_goes_with_a_cipher(m);
+    gmac_answers_come_out(m);
+    ccm_is_refused(m);
+    ccm_takes_its_longest_aad(m);
+    gmac_is_refused(m);
+    a_hash_is_refused(m);
+    mbj_free_mgr(m);
+    return 0;
+}
