@@ -14,8 +14,8 @@ static const char usage[] =
     "\n"
     "--sizes     lengths of packets in bytes: 64,256,1500 where neither these nor drawn ones are given\n"
     "--drawn     lengths that are drawn for each packet from LEAST to MOST bytes\n"
-    "--jobs      null, cbc, ctr, gcm, hmac-sha1, hmac-sha224, hmac-sha256, hmac-sha384, hmac-sha512, cmac, or chained jobs as\n"
-    "            cbc+hmac-sha1, which are enciphered and then authenticated\n"
+    "--jobs      null, cbc, ctr, gcm, ccm, cmac, gmac, sha1, sha224, sha256, sha384, sha512, the same five with hmac- before\n"
+    "            them, or chained jobs as cbc+hmac-sha1, which are enciphered and then authenticated\n"
     "--threads   how many threads run at once, each with a manager of its own: 1\n"
     "--passes    how often the 256 jobs of a row are done, of which the fastest time counts: 40\n";
 
@@ -28,18 +28,24 @@ void give_up(const char *why) {
 
 const struct keys keys = {{1, 2, 3, 4, 5, 6, 7, 8, 9, 10, 11, 12, 13, 14, 15, 16}, {1, 2, 3, 5, 7, 11, 13, 17, 19, 23}, {1}, {2}};
 
-static const char *const ciphers[] = {"", "cbc", "ctr", "gcm"};
+static const char *const ciphers[] = {"", "cbc", "ctr", "gcm", "ccm"};
 
-static const char *const auths[] = {"", "hmac-sha1", "hmac-sha224", "hmac-sha256", "hmac-sha384", "hmac-sha512", "cmac"};
+static const char *const auths[] = {"",     "hmac-sha1", "hmac-sha224", "hmac-sha256", "hmac-sha384", "hmac-sha512", "cmac",
+                                    "gmac", "sha1",      "sha224",      "sha256",      "sha384",      "sha512"};
+
+bool is_hmac(enum auth auth) {
+    return auth >= HMAC_SHA_1 && auth <= HMAC_SHA_512;
+}
 
 size_t tag_len(const struct work *work) {
-    static const size_t lens[] = {0, 20, 28, 32, 48, 64, 16, 16};
+    static const size_t lens[] = {0, 20, 28, 32, 48, 64, 16, 16, 20, 28, 32, 48, 64, 16, 16};
     return lens[work->auth];
 }
 
+/* CCM has 11 bytes, as in ESP (RFC 4309, section 4). */
 size_t iv_len(const struct work *work) {
-    static const size_t lens[] = {0, 16, 12, 12};
-    return lens[work->cipher];
+    static const size_t lens[] = {0, 16, 12, 12, 11};
+    return work->auth == GMAC ? 12 : lens[work->cipher];
 }
 
 /* The place of a word among these; 0 where it is none. */
@@ -58,11 +64,12 @@ static struct work read_work(const char *name) {
     work.cipher = (enum cipher)place(name, cipher_len, ciphers, sizeof ciphers / sizeof *ciphers);
     work.auth = (enum auth)place(auth, strlen(auth), auths, sizeof auths / sizeof *auths);
     bool has_cipher = work.cipher != NO_CIPHER, has_auth = work.auth != NO_AUTH;
-    bool is_chain = has_cipher && has_auth && work.cipher != GCM, is_one = has_cipher || has_auth || strcmp(name, "null") == 0;
+    bool is_combined = work.cipher == GCM || work.cipher == CCM, is_one = has_cipher || has_auth || strcmp(name, "null") == 0;
+    bool is_chain = has_cipher && has_auth && !is_combined && work.auth != GMAC;
     if (auth != name ? !is_chain : !is_one)
         give_up(usage);
-    if (work.cipher == GCM)
-        work.auth = GCM_TAG;
+    if (is_combined)
+        work.auth = work.cipher == GCM ? GCM_TAG : CCM_TAG;
     return work;
 }
 
@@ -111,7 +118,7 @@ static void read_jobs(struct settings *s, char *at) {
 static void read_settings(struct settings *s, int argc, char **argv) {
     static const struct option options[] = {{"sizes", 1, NULL, 's'},   {"drawn", 1, NULL, 'd'},  {"jobs", 1, NULL, 'j'},
                                             {"threads", 1, NULL, 't'}, {"passes", 1, NULL, 'p'}, {NULL, 0, NULL, 0}};
-    static char sizes[] = "64,256,1500", jobs[] = "null,hmac-sha1,hmac-sha256,hmac-sha512,cbc,ctr,gcm,cmac,cbc+hmac-sha256";
+    static char sizes[] = "64,256,1500", jobs[] = "null,hmac-sha1,hmac-sha256,hmac-sha512,sha256,cbc,ctr,gcm,ccm,cmac,gmac,cbc+hmac-sha256";
     memset(s, 0, sizeof *s);
     s->threads = 1;
     s->passes = 40;

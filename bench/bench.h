@@ -8,9 +8,26 @@
 
 enum { BATCH = 256, MAX_LEN = 65535, TAG_ROOM = 64 };
 
-enum cipher { NO_CIPHER, CBC, CTR, GCM };
+enum cipher { NO_CIPHER, CBC, CTR, GCM, CCM };
 
-enum auth { NO_AUTH, HMAC_SHA_1, HMAC_SHA_224, HMAC_SHA_256, HMAC_SHA_384, HMAC_SHA_512, CMAC, GCM_TAG };
+/* The last two are the tags of GCM and CCM, which go with these ciphers. */
+enum auth {
+    NO_AUTH,
+    HMAC_SHA_1,
+    HMAC_SHA_224,
+    HMAC_SHA_256,
+    HMAC_SHA_384,
+    HMAC_SHA_512,
+    CMAC,
+    GMAC,
+    SHA_1,
+    SHA_224,
+    SHA_256,
+    SHA_384,
+    SHA_512,
+    GCM_TAG,
+    CCM_TAG
+};
 
 /* A kind of jobs: a cipher, an authentication, or both, the packet being enciphered before it is authenticated. */
 struct work {
@@ -32,10 +49,13 @@ struct keys {
 
 extern const struct keys keys;
 
+/* Whether the authentication is an HMAC. */
+bool is_hmac(enum auth auth);
+
 /* Bytes of the tag. */
 size_t tag_len(const struct work *work);
 
-/* Bytes of the IV. */
+/* Bytes of the IV, which is that of the cipher or of GMAC. */
 size_t iv_len(const struct work *work);
 
 /* Prints why, and ends the program. */

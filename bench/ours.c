@@ -2,10 +2,12 @@
 #include "bench.h"
 #include "mbj.h"
 
-static const uint32_t ciphers[] = {MBJ_CIPHER_NULL, MBJ_CIPHER_CBC, MBJ_CIPHER_CNTR, MBJ_CIPHER_GCM};
+static const uint32_t ciphers[] = {MBJ_CIPHER_NULL, MBJ_CIPHER_CBC, MBJ_CIPHER_CNTR, MBJ_CIPHER_GCM, MBJ_CIPHER_CCM};
 
 static const uint32_t auths[] = {MBJ_AUTH_NULL,         MBJ_AUTH_HMAC_SHA_1,   MBJ_AUTH_HMAC_SHA_224, MBJ_AUTH_HMAC_SHA_256,
-                                 MBJ_AUTH_HMAC_SHA_384, MBJ_AUTH_HMAC_SHA_512, MBJ_AUTH_AES_CMAC,     MBJ_AUTH_GCM};
+                                 MBJ_AUTH_HMAC_SHA_384, MBJ_AUTH_HMAC_SHA_512, MBJ_AUTH_AES_CMAC,     MBJ_AUTH_AES_GMAC,
+                                 MBJ_AUTH_SHA_1,        MBJ_AUTH_SHA_224,      MBJ_AUTH_SHA_256,      MBJ_AUTH_SHA_384,
+                                 MBJ_AUTH_SHA_512,      MBJ_AUTH_GCM,          MBJ_AUTH_AES_CCM};
 
 static void *start(const struct library *library, const struct work *work) {
     MBJ_MGR *m = mbj_alloc_mgr();
@@ -25,11 +27,11 @@ static void fill(MBJ_JOB *job, const struct work *work, struct batch *batch, siz
     job->hash_alg = auths[work->auth];
     job->packet = batch->packets[i];
     job->packet_len_in_bytes = batch->lens[i];
+    job->iv = keys.iv;
+    job->iv_len_in_bytes = iv_len(work);
     if (work->cipher != NO_CIPHER) {
         job->key = keys.aes;
         job->key_len_in_bytes = sizeof keys.aes;
-        job->iv = keys.iv;
-        job->iv_len_in_bytes = iv_len(work);
         job->msg_len_to_cipher_in_bytes = batch->lens[i];
         job->dst = batch->packets[i];
     }
@@ -37,13 +39,13 @@ static void fill(MBJ_JOB *job, const struct work *work, struct batch *batch, siz
         return;
     job->auth_tag_output = batch->tags[i];
     job->auth_tag_output_len_in_bytes = tag_len(work);
-    if (work->auth == GCM_TAG) {
+    if (work->auth == GCM_TAG || work->auth == CCM_TAG) {
         job->aad = keys.aad;
         job->aad_len_in_bytes = sizeof keys.aad;
         return;
     }
-    job->auth_key = work->auth == CMAC ? keys.aes : keys.hmac;
-    job->auth_key_len_in_bytes = work->auth == CMAC ? sizeof keys.aes : tag_len(work);
+    job->auth_key = is_hmac(work->auth) ? keys.hmac : keys.aes;
+    job->auth_key_len_in_bytes = is_hmac(work->auth) ? tag_len(work) : sizeof keys.aes;
     job->msg_len_to_hash_in_bytes = batch->lens[i];
 }
 

@@ -16,10 +16,12 @@ const struct library *theirs(size_t *count) {
 #include <stdlib.h>
 #include <string.h>
 
-static const IMB_CIPHER_MODE ciphers[] = {IMB_CIPHER_NULL, IMB_CIPHER_CBC, IMB_CIPHER_CNTR, IMB_CIPHER_GCM};
+static const IMB_CIPHER_MODE ciphers[] = {IMB_CIPHER_NULL, IMB_CIPHER_CBC, IMB_CIPHER_CNTR, IMB_CIPHER_GCM, IMB_CIPHER_CCM};
 
 static const IMB_HASH_ALG auths[] = {IMB_AUTH_NULL,         IMB_AUTH_HMAC_SHA_1,   IMB_AUTH_HMAC_SHA_224, IMB_AUTH_HMAC_SHA_256,
-                                     IMB_AUTH_HMAC_SHA_384, IMB_AUTH_HMAC_SHA_512, IMB_AUTH_AES_CMAC,     IMB_AUTH_AES_GMAC};
+                                     IMB_AUTH_HMAC_SHA_384, IMB_AUTH_HMAC_SHA_512, IMB_AUTH_AES_CMAC,     IMB_AUTH_AES_GMAC_128,
+                                     IMB_AUTH_SHA_1,        IMB_AUTH_SHA_224,      IMB_AUTH_SHA_256,      IMB_AUTH_SHA_384,
+                                     IMB_AUTH_SHA_512,      IMB_AUTH_AES_GMAC,     IMB_AUTH_AES_CCM};
 
 /* A manager, and what its job interface wants of keys, which is made before any job is timed. */
 struct started {
@@ -53,12 +55,12 @@ static void hash_pad(IMB_MGR *m, const struct work *work, uint8_t pad, uint8_t *
 
 static void expand_keys(struct started *s, const struct work *work) {
     IMB_AES_KEYEXP_128(s->m, keys.aes, s->enc, s->dec);
-    if (work->auth == GCM_TAG) {
+    if (work->auth == GCM_TAG || work->auth == GMAC) {
         IMB_AES128_GCM_PRE(s->m, keys.aes, &s->gcm);
     } else if (work->auth == CMAC) {
         IMB_AES_KEYEXP_128(s->m, keys.aes, s->mac, s->dec);
         IMB_AES_CMAC_SUBKEY_GEN_128(s->m, s->mac, s->first_subkey, s->second_subkey);
-    } else if (work->auth != NO_AUTH) {
+    } else if (is_hmac(work->auth)) {
         hash_pad(s->m, work, 0x36, s->inner);
         hash_pad(s->m, work, 0x5c, s->outer);
     }
@@ -108,17 +110,24 @@ static void end(void *started) {
 
 /* ---- jobs ---- */
 
-static void fill_auth(IMB_JOB *job, const struct started *s, enum auth auth) {
-    if (auth == GCM_TAG) {
+static void fill_auth(IMB_JOB *job, const struct started *s, const struct work *work) {
+    if (work->auth == GCM_TAG) {
         job->enc_keys = &s->gcm;
         job->dec_keys = &s->gcm;
         job->u.GCM.aad = keys.aad;
         job->u.GCM.aad_len_in_bytes = sizeof keys.aad;
-    } else if (auth == CMAC) {
+    } else if (work->auth == CCM_TAG) {
+        job->u.CCM.aad = keys.aad;
+        job->u.CCM.aad_len_in_bytes = sizeof keys.aad;
+    } else if (work->auth == GMAC) {
+        job->u.GMAC._key = &s->gcm;
+        job->u.GMAC._iv = keys.iv;
+        job->u.GMAC.iv_len_in_bytes = iv_len(work);
+    } else if (work->auth == CMAC) {
         job->u.CMAC._key_expanded = s->mac;
         job->u.CMAC._skey1 = s->first_subkey;
         job->u.CMAC._skey2 = s->second_subkey;
-    } else if (auth != NO_AUTH) {
+    } else if (is_hmac(work->auth)) {
         job->u.HMAC._hashed_auth_key_xor_ipad = s->inner;
         job->u.HMAC._hashed_auth_key_xor_opad = s->outer;
     }
@@ -130,7 +139,7 @@ static void fill(IMB_JOB *job, const struct started *s, const struct work *work,
     job->cipher_mode = ciphers[work->cipher];
     job->hash_alg = auths[work->auth];
     job->cipher_direction = IMB_DIR_ENCRYPT;
-    job->chain_order = IMB_ORDER_CIPHER_HASH;
+    job->chain_order = work->cipher == CCM ? IMB_ORDER_HASH_CIPHER : IMB_ORDER_CIPHER_HASH; /* CCM's tag is over the text in clear */
     job->cipher_start_src_offset_in_bytes = 0;
     job->hash_start_src_offset_in_bytes = 0;
     job->msg_len_to_cipher_in_bytes = batch->lens[i];
@@ -142,7 +151,7 @@ static void fill(IMB_JOB *job, const struct started *s, const struct work *work,
     job->iv_len_in_bytes = iv_len(work);
     job->enc_keys = s->enc;
     job->dec_keys = s->dec;
-    fill_auth(job, s, work->auth);
+    fill_auth(job, s, work);
 }
 
 static size_t take(const IMB_JOB *done) {
