@@ -1,6 +1,6 @@
 -- Xors of four numbers, which add the terms of a product with a matrix.
 use Rattle.std.proofs.Common.{◌≡◌, ℕ, bit_xor, sym, ap, ap₂, ◌∙◌}
-use lib.Bits.{xor_assoc, xor_comm, xor_zero_r}
+use lib.Bits.{xor_assoc, xor_comm, xor_self, xor_zero_r}
 
 abbrev pub sum4 : ℕ → ℕ → ℕ → ℕ → ℕ
 sum4 a b c d = bit_xor (bit_xor (bit_xor a b) c) d
@@ -45,3 +45,7 @@ sum4-transposed a0 a1 a2 a3 b0 b1 b2 b3 c0 c1 c2 c3 d0 d1 d2 d3 =
     (sum4-added (bit_xor a0 b0) (bit_xor a1 b1) (bit_xor a2 b2) (bit_xor a3 b3) c0 c1 c2 c3)
     ∙ sum4-added (bit_xor (bit_xor a0 b0) c0) (bit_xor (bit_xor a1 b1) c1)
     (bit_xor (bit_xor a2 b2) c2) (bit_xor (bit_xor a3 b3) c3) d0 d1 d2 d3
+
+-- a number that is added twice is gone
+pub xor_twice : (x y : ℕ) → bit_xor (bit_xor x y) y ≡ x
+xor_twice x y = xor_assoc x y y ∙ ap (bit_xor x) (xor_self y) ∙ xor_zero_r x

@@ -1,13 +1,15 @@
-//! The S-box on bit planes, as a circuit of 115 gates and four inversions (J. Boyar and R. Peralta, A New Combinational
-//! Logic Minimization Technique with Applications to Cryptology, 2010). Its bits have the names of that paper, which
-//! numbers the bits of a byte from the highest on. It looks nothing up, and takes the same steps whatever the bytes are. The
-//! gates stand in an order in which few of their bits are wanted at a time, so that the registers hold most of them.
-ghost use Rattle.std.specs.Prelude.{◌≡◌, ℕ, ◌<◌};
+//! The S-box without its constant on bit planes, as a circuit of 113 gates (J. Boyar, R. Peralta and Ç. Çalık). Its bits
+//! have the names of J. Boyar and R. Peralta, A New Combinational Logic Minimization Technique with Applications to
+//! Cryptology, 2010, which numbers the bits of a byte from the highest on. It looks nothing up, and takes the same steps
+//! whatever the bytes are. The gates stand in an order in which few of their bits are wanted at a time, so that the registers
+//! hold most of them.
+ghost use Rattle.std.specs.Prelude.{◌≡◌, ℕ, ◌<◌, bit_xor};
 ghost use Rattle.mbj_types.specs.Aes.{sub_byte};
+ghost use Rattle.mbj_aes.specs.declared.octet.TheConstants.{SBOX_CONSTANT};
 ghost use Rattle.mbj_aes.specs.Planes.Bytes.{bits_at, byte_at};
 ghost use Rattle.mbj_aes.specs.Inside.Circuit.{top_at, middle_at, products_at, top_bits, middle_bits, product_bits, bottom_bits};
 
-use crate::gates::{and, not, xor};
+use crate::gates::{and, xor};
 use crate::octet::Octet;
 use mbj_types::Lane8;
 
@@ -227,47 +229,40 @@ pub(crate) fn products_of<V: Lane8>(w: MiddleLayer<V>, y: &TopLayer<V>) -> Produ
     }
 }
 
-// Sums of the products: the bits of the S-box.
+// Sums of the products: the bits of the S-box, without its constant.
 #[tactic(auto, unfolding(crate::specs::Inside::Circuit::bottom_bits))]
 #[inline(always)]
 fn bottom_layer<V: Lane8>(z: Products<V>) -> Octet<V>
-    ensures { (i t : ℕ) → i < V.LANES → t < 8
-        → bits_at V.lane result i t ≡ bottom_bits (products_at V.lane z i t) }
+    ensures { (i t : ℕ) → i < V.LANES → bits_at V.lane result i t ≡ bottom_bits (products_at V.lane z i t) }
 {
-    let t46 = xor(z.z15, z.z16);
-    let t48 = xor(z.z5, z.z13);
-    let t51 = xor(z.z2, z.z5);
-    let t53 = xor(z.z0, z.z3);
-    let t49 = xor(z.z9, z.z10);
-    let t50 = xor(z.z2, z.z12);
-    let t57 = xor(t50, t53);
-    let t54 = xor(z.z6, z.z7);
-    let t58 = xor(z.z4, t46);
-    let t52 = xor(z.z7, z.z8);
-    let t63 = xor(t49, t58);
-    let t59 = xor(z.z3, t54);
-    let t56 = xor(z.z12, t48);
-    let t62 = xor(t52, t58);
-    let t61 = xor(z.z14, t57);
-    let s6i = xor(t56, t62);
-    let t55 = xor(z.z16, z.z17);
-    let t60 = xor(t46, t57);
-    let t65 = xor(t61, t62);
-    let s6 = not(s6i);
-    let t64 = xor(z.z4, t59);
-    let s0 = xor(t59, t63);
-    let t66 = xor(z.z1, t63);
-    let s3 = xor(t53, t66);
-    let s7i = xor(t48, t60);
-    let t47 = xor(z.z10, z.z11);
-    let s5 = xor(t47, t65);
-    let s7 = not(s7i);
-    let t67 = xor(t64, t65);
-    let s2i = xor(t55, t67);
-    let s1i = xor(t64, s3);
-    let s2 = not(s2i);
-    let s4 = xor(t51, t66);
-    let s1 = not(s1i);
+    let tc12 = xor(z.z3, z.z5);
+    let tc6 = xor(z.z3, z.z4);
+    let tc5 = xor(z.z1, z.z0);
+    let tc11 = xor(tc6, tc5);
+    let tc8 = xor(z.z7, tc6);
+    let tc16 = xor(z.z6, tc8);
+    let tc20 = xor(z.z15, tc16);
+    let tc1 = xor(z.z15, z.z16);
+    let tc2 = xor(z.z10, tc1);
+    let tc21 = xor(tc2, z.z11);
+    let tc3 = xor(z.z9, tc2);
+    let s0 = xor(tc3, tc16);
+    let s3 = xor(tc3, tc11);
+    let s1 = xor(s3, tc16);
+    let tc13 = xor(z.z13, tc1);
+    let tc4 = xor(z.z0, z.z2);
+    let tc7 = xor(z.z12, tc4);
+    let tc9 = xor(z.z8, tc7);
+    let tc10 = xor(tc8, tc9);
+    let tc17 = xor(z.z14, tc10);
+    let s5 = xor(tc21, tc17);
+    let tc26 = xor(tc17, tc20);
+    let s2 = xor(tc26, z.z17);
+    let tc14 = xor(tc4, tc12);
+    let tc18 = xor(tc13, tc14);
+    let s6 = xor(tc10, tc18);
+    let s7 = xor(z.z12, tc18);
+    let s4 = xor(tc14, s3);
     Octet {
         p0: s7,
         p1: s6,
@@ -280,10 +275,11 @@ fn bottom_layer<V: Lane8>(z: Products<V>) -> Octet<V>
     }
 }
 
-/// SBOX (FIPS 197, 5.1.1) of each byte of each lane.
+/// SBOX (FIPS 197, 5.1.1) of each byte of each lane, but for `SBOX_CONSTANT`.
 #[inline(always)]
 pub fn sub_planes<V: Lane8>(q: Octet<V>) -> Octet<V>
-    ensures { (i t : ℕ) → i < V.LANES → t < 8 → byte_at V.lane result i t ≡ sub_byte (byte_at V.lane q i t) }
+    ensures { (i t : ℕ) → i < V.LANES → t < 8
+        → byte_at V.lane result i t ≡ bit_xor (sub_byte (byte_at V.lane q i t)) SBOX_CONSTANT }
 {
     let y = top_layer(q);
     bottom_layer(products_of(middle_layer(&y), &y))

@@ -1,31 +1,32 @@
-//! The inverse S-box on bit planes, as a circuit of 126 gates and four inversions. What is not linear is that of the
-//! S-box; its sums are those of J. Boyar and R. Peralta, A Depth-16 Circuit for the AES S-box, 2011, whose names its bits
-//! have, with each inversion moved to a bit of the byte.
-ghost use Rattle.std.specs.Prelude.{◌≡◌, ℕ, ◌<◌};
+//! The inverse S-box on bit planes, of bytes that have the constant of the S-box added, as a circuit of 126 gates. What is
+//! not linear is that of the S-box; its sums are those of J. Boyar and R. Peralta, A Depth-16 Circuit for the AES S-box,
+//! 2011, whose names its bits have. The inversions of that circuit are those of the constant.
+ghost use Rattle.std.specs.Prelude.{◌≡◌, ℕ, ◌<◌, bit_xor};
 ghost use Rattle.mbj_types.specs.Aes.{inv_sub_byte};
+ghost use Rattle.mbj_aes.specs.declared.octet.TheConstants.{SBOX_CONSTANT};
 ghost use Rattle.mbj_aes.specs.Planes.Bytes.{bits_at, byte_at};
 ghost use Rattle.mbj_aes.specs.Inside.Circuit.{top_at, products_at, inv_top_bits, inv_bottom_bits};
 
 use crate::circuit::{Products, TopLayer, middle_layer, products_of};
-use crate::gates::{not, xor};
+use crate::gates::xor;
 use crate::octet::Octet;
 use mbj_types::Lane8;
 
-// Sums of the bits of the bytes, some of them complemented: what the inverse S-box gives to the middle layer.
+// Sums of the bits of the bytes: what the inverse S-box gives to the middle layer.
 #[tactic(auto, unfolding(crate::specs::Inside::Circuit::inv_top_bits))]
 #[inline(always)]
 fn inv_top_layer<V: Lane8>(q: Octet<V>) -> TopLayer<V>
-    ensures { (i t : ℕ) → i < V.LANES → t < 8 → top_at V.lane result i t ≡ inv_top_bits (bits_at V.lane q i t) }
+    ensures { (i t : ℕ) → i < V.LANES → top_at V.lane result i t ≡ inv_top_bits (bits_at V.lane q i t) }
 {
     let u0 = q.p7;
     let u3 = q.p4;
     let u4 = q.p3;
     let u5 = q.p2;
-    let u2 = not(q.p5);
-    let u1 = not(q.p6);
+    let u2 = q.p5;
+    let u1 = q.p6;
     let t23 = xor(u0, u3);
-    let u7 = not(q.p0);
-    let u6 = not(q.p1);
+    let u7 = q.p0;
+    let u6 = q.p1;
     let r5 = xor(u6, u7);
     let r18 = xor(u5, u6);
     let t1 = xor(u3, u4);
@@ -133,10 +134,11 @@ fn inv_bottom_layer<V: Lane8>(z: Products<V>) -> Octet<V>
     }
 }
 
-/// INVSBOX (FIPS 197, 5.3.2) of each byte of each lane.
+/// INVSBOX (FIPS 197, 5.3.2) of each byte of each lane, once `SBOX_CONSTANT` is added to it.
 #[inline(always)]
 pub fn inv_sub_planes<V: Lane8>(q: Octet<V>) -> Octet<V>
-    ensures { (i t : ℕ) → i < V.LANES → t < 8 → byte_at V.lane result i t ≡ inv_sub_byte (byte_at V.lane q i t) }
+    ensures { (i t : ℕ) → i < V.LANES → t < 8
+        → byte_at V.lane result i t ≡ inv_sub_byte (bit_xor (byte_at V.lane q i t) SBOX_CONSTANT) }
 {
     let y = inv_top_layer(q);
     inv_bottom_layer(products_of(middle_layer(&y), &y))

@@ -12,5 +12,5 @@ mod schedule;
 mod substitution;
 
 pub use laws::{blocks_stay_blocks, each_undoes_the_other, examples_of_the_standard};
-pub use octet::Octet;
+pub use octet::{Octet, SBOX_CONSTANT};
 pub use schedule::Schedule;

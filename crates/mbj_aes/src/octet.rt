@@ -10,3 +10,6 @@ pub struct Octet<V> {
     pub p6: V,
     pub p7: V,
 }
+
+/// The constant byte of the S-box's affine map (FIPS 197, 5.1.1). The circuits on planes leave it out.
+pub const SBOX_CONSTANT: u8 = 0x63;

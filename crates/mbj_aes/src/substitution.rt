@@ -7,7 +7,7 @@ ghost use Rattle.mbj_aes.specs.Planes.Bytes.{byte_at};
 
 use crate::circuit::sub_planes;
 use crate::gates::moved_down;
-use crate::octet::Octet;
+use crate::octet::{Octet, SBOX_CONSTANT};
 use mbj_types::Lane8;
 use std::simd::u8x16;
 
@@ -58,7 +58,7 @@ fn lanes_of<V: Lane8>(q: Octet<V>) -> V
 fn substituted<V: Lane8>(x: V) -> V
     ensures { (i : ℕ) → i < V.LANES → V.lane result i ≡ sub_byte (V.lane x i) }
 {
-    lanes_of(sub_planes(planes_of(x)))
+    lanes_of(sub_planes(planes_of(x))).xored(V::splat(SBOX_CONSTANT))
 }
 
 // The lanes of a vector.

@@ -1,11 +1,11 @@
--- The circuit of the S-box, gate by gate: 115 gates and four inversions (J. Boyar and R. Peralta, A New Combinational
--- Logic Minimization Technique with Applications to Cryptology, 2010, whose names its bits have).
+-- The circuit of the S-box without its constant, gate by gate: 113 gates (J. Boyar, R. Peralta and Ç. Çalık; its bits have
+-- the names of J. Boyar and R. Peralta, A New Combinational Logic Minimization Technique with Applications to Cryptology, 2010).
 use Rattle.std.specs.Prelude.{ℕ}
 use Rattle.mbj_aes.specs.declared.octet.Octet.{Octet}
 use Rattle.mbj_aes.specs.declared.circuit.TopLayer.{TopLayer}
 use Rattle.mbj_aes.specs.declared.circuit.MiddleLayer.{MiddleLayer}
 use Rattle.mbj_aes.specs.declared.circuit.Products.{Products}
-use Rattle.mbj_aes.specs.Planes.Gates.{nth_bit, xor_bits, and_bits, not_bit}
+use Rattle.mbj_aes.specs.Planes.Gates.{nth_bit, xor_bits, and_bits}
 
 -- ---- the layers at position t of lane i
 
@@ -205,43 +205,37 @@ product_bits w y = record {
   z17 = and_bits w.t41 y.y8;
 }
 
--- sums of the products: the bits of the S-box
+-- sums of the products: the bits of the S-box, without its constant
 unfoldable pub bottom_bits : Products ℕ → Octet ℕ
 bottom_bits z =
-    let t46 : ℕ = xor_bits z.z15 z.z16 in
-    let t47 : ℕ = xor_bits z.z10 z.z11 in
-    let t48 : ℕ = xor_bits z.z5 z.z13 in
-    let t49 : ℕ = xor_bits z.z9 z.z10 in
-    let t50 : ℕ = xor_bits z.z2 z.z12 in
-    let t51 : ℕ = xor_bits z.z2 z.z5 in
-    let t52 : ℕ = xor_bits z.z7 z.z8 in
-    let t53 : ℕ = xor_bits z.z0 z.z3 in
-    let t54 : ℕ = xor_bits z.z6 z.z7 in
-    let t55 : ℕ = xor_bits z.z16 z.z17 in
-    let t56 : ℕ = xor_bits z.z12 t48 in
-    let t57 : ℕ = xor_bits t50 t53 in
-    let t58 : ℕ = xor_bits z.z4 t46 in
-    let t59 : ℕ = xor_bits z.z3 t54 in
-    let t60 : ℕ = xor_bits t46 t57 in
-    let t61 : ℕ = xor_bits z.z14 t57 in
-    let t62 : ℕ = xor_bits t52 t58 in
-    let t63 : ℕ = xor_bits t49 t58 in
-    let t64 : ℕ = xor_bits z.z4 t59 in
-    let t65 : ℕ = xor_bits t61 t62 in
-    let t66 : ℕ = xor_bits z.z1 t63 in
-    let s0 : ℕ = xor_bits t59 t63 in
-    let s6i : ℕ = xor_bits t56 t62 in
-    let s6 : ℕ = not_bit s6i in
-    let s7i : ℕ = xor_bits t48 t60 in
-    let s7 : ℕ = not_bit s7i in
-    let t67 : ℕ = xor_bits t64 t65 in
-    let s3 : ℕ = xor_bits t53 t66 in
-    let s4 : ℕ = xor_bits t51 t66 in
-    let s5 : ℕ = xor_bits t47 t65 in
-    let s1i : ℕ = xor_bits t64 s3 in
-    let s1 : ℕ = not_bit s1i in
-    let s2i : ℕ = xor_bits t55 t67 in
-    let s2 : ℕ = not_bit s2i in
+    let tc12 : ℕ = xor_bits z.z3 z.z5 in
+    let tc6 : ℕ = xor_bits z.z3 z.z4 in
+    let tc5 : ℕ = xor_bits z.z1 z.z0 in
+    let tc11 : ℕ = xor_bits tc6 tc5 in
+    let tc8 : ℕ = xor_bits z.z7 tc6 in
+    let tc16 : ℕ = xor_bits z.z6 tc8 in
+    let tc20 : ℕ = xor_bits z.z15 tc16 in
+    let tc1 : ℕ = xor_bits z.z15 z.z16 in
+    let tc2 : ℕ = xor_bits z.z10 tc1 in
+    let tc21 : ℕ = xor_bits tc2 z.z11 in
+    let tc3 : ℕ = xor_bits z.z9 tc2 in
+    let s0 : ℕ = xor_bits tc3 tc16 in
+    let s3 : ℕ = xor_bits tc3 tc11 in
+    let s1 : ℕ = xor_bits s3 tc16 in
+    let tc13 : ℕ = xor_bits z.z13 tc1 in
+    let tc4 : ℕ = xor_bits z.z0 z.z2 in
+    let tc7 : ℕ = xor_bits z.z12 tc4 in
+    let tc9 : ℕ = xor_bits z.z8 tc7 in
+    let tc10 : ℕ = xor_bits tc8 tc9 in
+    let tc17 : ℕ = xor_bits z.z14 tc10 in
+    let s5 : ℕ = xor_bits tc21 tc17 in
+    let tc26 : ℕ = xor_bits tc17 tc20 in
+    let s2 : ℕ = xor_bits tc26 z.z17 in
+    let tc14 : ℕ = xor_bits tc4 tc12 in
+    let tc18 : ℕ = xor_bits tc13 tc14 in
+    let s6 : ℕ = xor_bits tc10 tc18 in
+    let s7 : ℕ = xor_bits z.z12 tc18 in
+    let s4 : ℕ = xor_bits tc14 s3 in
     record {
       p0 = s7;
       p1 = s6;
@@ -256,16 +250,16 @@ bottom_bits z =
 abbrev pub circuit_bits : Octet ℕ → Octet ℕ
 circuit_bits q = bottom_bits (product_bits (middle_bits (top_bits q)) (top_bits q))
 
--- ---- the circuit of the inverse S-box, gate by gate: 126 gates and four inversions (J. Boyar and R. Peralta, A Depth-16
--- Circuit for the AES S-box, 2011), which has the middle layer and the products in common
+-- ---- the circuit of the inverse S-box, gate by gate: 126 gates (J. Boyar and R. Peralta, A Depth-16 Circuit for the
+-- AES S-box, 2011), which has the middle layer and the products in common
 
--- sums of the bits of a byte, four of them complemented
+-- sums of the bits of a byte that has the constant of the S-box added
 unfoldable pub inv_top_bits : Octet ℕ → TopLayer ℕ
 inv_top_bits q =
-    let u1 : ℕ = not_bit q.p6 in
-    let u2 : ℕ = not_bit q.p5 in
-    let u6 : ℕ = not_bit q.p1 in
-    let u7 : ℕ = not_bit q.p0 in
+    let u1 : ℕ = q.p6 in
+    let u2 : ℕ = q.p5 in
+    let u6 : ℕ = q.p1 in
+    let u7 : ℕ = q.p0 in
     let t23 : ℕ = xor_bits q.p7 q.p4 in
     let t22 : ℕ = xor_bits u1 q.p4 in
     let t2 : ℕ = xor_bits q.p7 u1 in

@@ -12,5 +12,5 @@ returns g c i t h k =
     let top = c.top_layer-y.ensures i t h in
     let middle = c.middle_layer.ensures i t h ∙ ap middle_bits top in
     let products = c.products_of.ensures i t h ∙ ap₂ product_bits middle top in
-    ap byte_of (c.bottom_layer.ensures i t h k ∙ ap bottom_bits products)
+    ap byte_of (c.bottom_layer.ensures i t h ∙ ap bottom_bits products)
     ∙ circuit_is (bits_at g.V.Lane8.lane c.args.q i t) (AreBits-across _ t)

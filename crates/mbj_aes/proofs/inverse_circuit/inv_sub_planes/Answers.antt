@@ -9,7 +9,7 @@ use Rattle.mbj_aes.proofs.inverse_circuit.inv_sub_planes.Goals as goal
 pub returns : goal.returns
 unfolding byte_at
 returns g c i t h k =
-    let top = c.inv_top_layer-y.ensures i t h k in
+    let top = c.inv_top_layer-y.ensures i t h in
     let middle = c.middle_layer.ensures i t h ∙ ap middle_bits top in
     let products = c.products_of.ensures i t h ∙ ap₂ product_bits middle top in
     ap byte_of (c.inv_bottom_layer.ensures i t h ∙ ap inv_bottom_bits products)

@@ -5,4 +5,4 @@ use Rattle.mbj_aes.proofs.inverse_circuit.inv_top_layer.Goals as goal
 
 pub returns : goal.returns
 unfolding inv_top_bits
-returns g c i t h k = search rules
+returns g c i t h = search rules
