@@ -5,7 +5,6 @@ pub mod Chains
 pub mod EachPlace
 pub mod Exchanges
 pub mod FullLanes
-pub mod HalfRounds
 pub mod HeldKeys
 pub mod KeySchedules
 pub mod KeyStreams
@@ -17,5 +16,5 @@ pub mod RoundByRound
 pub mod RoundKeys
 pub mod SameKeys
 pub mod StatePlanes
-pub mod TurnedRows
+pub mod MovedSlots
 pub mod WrittenKeys

@@ -1,8 +1,8 @@
 -- States and round keys in bit planes. Clauses of private functions alone cite these.
 pub mod Exchange
 pub mod State
+pub mod Moves
 pub mod Rounds
 pub mod Keys
 pub mod Matrix
-pub mod Lending
 pub mod KeyStream

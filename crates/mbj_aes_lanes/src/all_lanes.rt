@@ -5,6 +5,7 @@ ghost use Rattle.mbj_aes_lanes.specs.KeyLanes.{IsFull, schedule_at};
 use crate::block_states::PassWord;
 use crate::lane_blocks::Blocks;
 use crate::lane_keys::LaneKeys;
+use crate::layout::Layout;
 use crate::rounds::{decrypt, encrypt};
 use mbj_types::{AES_LANES, AesWord};
 
@@ -15,9 +16,9 @@ pub fn encrypt32(keys: &LaneKeys, blocks: &mut [[u8; 16]; AES_LANES])
         ≡ encipher (schedule_at keys.now i) (slice_index_or blocks.old i []) }
     ensures lengths { (i : ℕ) → i < AES_LANES → length (slice_index_or blocks.new i []) ≡ 16 }
 {
-    let mut state = AesWord::load(&Blocks { blocks });
+    let mut state = AesWord::load(&Blocks { blocks }, Layout::Plain);
     encrypt(keys.round_keys(), &mut state);
-    AesWord::store(blocks, &state);
+    AesWord::store(blocks, &state, Layout::Last);
 }
 
 /// Decrypts the block in each lane by the schedule that was put there: INVCIPHER (FIPS 197, 5.3). It takes no memory.
@@ -27,7 +28,7 @@ pub fn decrypt32(keys: &LaneKeys, blocks: &mut [[u8; 16]; AES_LANES])
         ≡ decipher (schedule_at keys.now i) (slice_index_or blocks.old i []) }
     ensures lengths { (i : ℕ) → i < AES_LANES → length (slice_index_or blocks.new i []) ≡ 16 }
 {
-    let mut state = AesWord::load(&Blocks { blocks });
+    let mut state = AesWord::load(&Blocks { blocks }, Layout::Last);
     decrypt(keys.round_keys(), &mut state);
-    AesWord::store(blocks, &state);
+    AesWord::store(blocks, &state, Layout::Plain);
 }

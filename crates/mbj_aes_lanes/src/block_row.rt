@@ -34,7 +34,7 @@ pub trait BlockRow: Lane8 {
             → slice_index_or to.new (16 * g + j) [] ≡ slice_index_or to.old (16 * g + j) [] };
 }
 
-// The bytes of a block as a vector, which is their list.
+// Bytes as a vector, which is their list.
 #[inline(always)]
 fn vector_from(bytes: &[u8]) -> u8x16
     requires { length bytes.now ≡ 16 }
@@ -44,8 +44,9 @@ fn vector_from(bytes: &[u8]) -> u8x16
     u8x16::from_slice(bytes)
 }
 
+/// The bytes of a block as a vector, which is their list.
 #[inline(always)]
-fn vector_of(block: &[u8; 16]) -> u8x16
+pub fn vector_of(block: &[u8; 16]) -> u8x16
     ensures value { result ≡ block.now }
     ensures size { length block.now ≡ 16 }
     ensures bytes { (t : ℕ) → slice_index block.now t < 256 }

@@ -1,11 +1,14 @@
 //! Blocks, one for each lane, as the state in planes, and back: in the wide passes, in `AesWord`, and in the narrow ones.
 ghost use Rattle.std.specs.Prelude.{◌≡◌, ℕ, ◌<◌, ◌≤◌, [], length, slice_index_or};
 ghost use Rattle.mbj_types.specs.declared.kind.TheConstants.{AES_LANES};
-ghost use Rattle.mbj_aes_lanes.specs.Inside.State.{state_bytes};
+ghost use Rattle.mbj_aes_lanes.specs.Inside.State.{reading};
+ghost use Rattle.mbj_aes_lanes.specs.Inside.Keys.{key_in};
 
 use crate::block_row::BlockRow;
 use crate::blocks::{put_blocks, words_of};
 use crate::lane_blocks::LaneBlocks;
+use crate::layout::Layout;
+use crate::round_keys::key_at;
 use crate::state::State;
 use crate::words::{put_state, state_at};
 use mbj_types::{AesWord, BLOCK_BYTES};
@@ -19,15 +22,20 @@ pub const FEW_BLOCKS: usize = size_of::<FewWord>();
 
 /// A lane word of a pass.
 pub trait PassWord: BlockRow {
-    /// The state of the block in each lane.
-    fn load<B: LaneBlocks>(blocks: &B) -> State<Self>
+    /// The state of the block in each lane, in a layout.
+    fn load<B: LaneBlocks>(blocks: &B, layout: Layout) -> State<Self>
         requires { Self.LANES ≤ B.lanes_of blocks.now }
-        ensures { (i : ℕ) → i < Self.LANES → state_bytes Self.lane result i ≡ B.block_in blocks.now i };
+        ensures { (i : ℕ) → i < Self.LANES → reading layout Self.lane result i ≡ B.block_in blocks.now i };
 
-    /// Writes the block in each lane, of which this is the state.
-    fn store(to: &mut [[u8; 16]], s: &State<Self>)
+    /// Round key `r` of so many rounds, which is the block in each lane.
+    fn load_key<B: LaneBlocks>(blocks: &B, r: usize, rounds: usize) -> State<Self>
+        requires { Self.LANES ≤ B.lanes_of blocks.now }
+        ensures { (i : ℕ) → i < Self.LANES → key_in Self.lane rounds r result i ≡ B.block_in blocks.now i };
+
+    /// Writes the block in each lane, of which this is the state in a layout.
+    fn store(to: &mut [[u8; 16]], s: &State<Self>, layout: Layout)
         requires { length to.old ≡ Self.LANES }
-        ensures { (i : ℕ) → i < Self.LANES → slice_index_or to.new i [] ≡ state_bytes Self.lane s.now i };
+        ensures { (i : ℕ) → i < Self.LANES → slice_index_or to.new i [] ≡ reading layout Self.lane s.now i };
 
     /// No pass serves more lanes than a wide one.
     ghost most: { Self.LANES ≤ AES_LANES };
@@ -37,16 +45,23 @@ impl PassWord for FewWord {
     ghost use Rattle.std.proofs.Common.{rules};
 
     #[inline(always)]
-    fn load<B: LaneBlocks>(blocks: &B) -> State<Self> {
+    fn load<B: LaneBlocks>(blocks: &B, layout: Layout) -> State<Self> {
         let mut words = [FewWord::splat(0); BLOCK_BYTES];
         words_of(&mut words, blocks);
-        state_at(&words, 0)
+        state_at(&words, 0, layout)
     }
 
     #[inline(always)]
-    fn store(to: &mut [[u8; 16]], s: &State<Self>) {
+    fn load_key<B: LaneBlocks>(blocks: &B, r: usize, rounds: usize) -> State<Self> {
         let mut words = [FewWord::splat(0); BLOCK_BYTES];
-        put_state(&mut words, *s);
+        words_of(&mut words, blocks);
+        key_at(&words, 0, r, rounds)
+    }
+
+    #[inline(always)]
+    fn store(to: &mut [[u8; 16]], s: &State<Self>, layout: Layout) {
+        let mut words = [FewWord::splat(0); BLOCK_BYTES];
+        put_state(&mut words, *s, layout);
         put_blocks(to, &mut words);
     }
 
@@ -57,16 +72,23 @@ impl PassWord for AesWord {
     ghost use Rattle.std.proofs.Common.{rules};
 
     #[inline(always)]
-    fn load<B: LaneBlocks>(blocks: &B) -> State<Self> {
+    fn load<B: LaneBlocks>(blocks: &B, layout: Layout) -> State<Self> {
         let mut words = [AesWord::splat(0); BLOCK_BYTES];
         words_of(&mut words, blocks);
-        state_at(&words, 0)
+        state_at(&words, 0, layout)
     }
 
     #[inline(always)]
-    fn store(to: &mut [[u8; 16]], s: &State<Self>) {
+    fn load_key<B: LaneBlocks>(blocks: &B, r: usize, rounds: usize) -> State<Self> {
         let mut words = [AesWord::splat(0); BLOCK_BYTES];
-        put_state(&mut words, *s);
+        words_of(&mut words, blocks);
+        key_at(&words, 0, r, rounds)
+    }
+
+    #[inline(always)]
+    fn store(to: &mut [[u8; 16]], s: &State<Self>, layout: Layout) {
+        let mut words = [AesWord::splat(0); BLOCK_BYTES];
+        put_state(&mut words, *s, layout);
         put_blocks(to, &mut words);
     }
 

@@ -1,192 +1,180 @@
-//! MIXCOLUMNS and its inverse (FIPS 197, 5.1.3 and 5.3.3) on bit planes, and ADDROUNDKEY (5.1.4).
+//! MIXCOLUMNS (FIPS 197, 5.1.3) with ADDROUNDKEY (5.1.4) on bit planes, plane by plane, so that few of them are at work at a
+//! time. With a the byte of a row, b the one below it, and c and d the two below that, the byte a becomes
+//! 2(a + b) + a + (a + b + c + d), and the byte b becomes that, + (a + b) + 2(a + c): sums of bytes two rows apart.
 ghost use Rattle.std.specs.Prelude.{◌≡◌, ℕ, ◌<◌, bit_xor};
-ghost use Rattle.mbj_types.specs.Blocks.{xor_lists};
-ghost use Rattle.mbj_types.specs.Aes.{xtime, mix_columns, inv_mix_columns};
+ghost use Rattle.mbj_types.specs.Aes.{mixed_byte};
 ghost use Rattle.mbj_aes.specs.Planes.Gates.{nth_bit, xor_bits};
 ghost use Rattle.mbj_aes.specs.Planes.Bytes.{byte_at};
-ghost use Rattle.mbj_aes_lanes.specs.Inside.State.{state_bytes, rows_between, with_below, three_below};
+ghost use Rattle.mbj_aes_lanes.specs.Inside.Moves.{pair_of, first_from, second_from};
 
-use crate::octets::{each_of, each_plane};
-use crate::state::State;
+use crate::moves::{moved, pair_sum};
 use mbj_aes::Octet;
-use mbj_aes::gates::{moved_down, moved_up, xor};
+use mbj_aes::gates::xor;
 use mbj_types::Lane8;
 
-#[inline(always)]
-fn sum<V: Lane8>(p: Octet<V>, q: Octet<V>) -> Octet<V>
-    ensures { (i t : ℕ) → i < V.LANES
-        → byte_at V.lane result i t ≡ bit_xor (byte_at V.lane p i t) (byte_at V.lane q i t) }
-{
-    each_plane!(xor(p, q))
-}
-
-// XTIMES (FIPS 197, 4.2): the product by x in the field.
-#[inline(always)]
-fn xtime<V: Lane8>(q: Octet<V>) -> Octet<V>
-    ensures { (i t : ℕ) → i < V.LANES → byte_at V.lane result i t ≡ xtime (byte_at V.lane q i t) }
-{
-    Octet {
-        p0: q.p7,
-        p1: xor(q.p0, q.p7),
-        p2: q.p1,
-        p3: xor(q.p2, q.p7),
-        p4: xor(q.p3, q.p7),
-        p5: q.p4,
-        p6: q.p5,
-        p7: q.p6,
-    }
-}
-
-// The second row of one plane, and then the first row of another.
-#[inline(always)]
-fn second_and_first<V: Lane8>(x: V, y: V) -> V
-    ensures { (i t : ℕ) → i < V.LANES → t < 8
-        → nth_bit (V.lane result i) t ≡ rows_between (nth_bit (V.lane x i)) (nth_bit (V.lane y i)) t }
-{
-    xor(moved_down(x, 4), moved_up(y, 4))
-}
-
-/// What a plane of the state gives to mixed columns: the sums of each row and the one below it, which are doubled, and the
-/// sums of the three rows below each.
+// Of a plane: the first half, its sum with the second one, and the sums of each of these two with what is two rows away.
 #[derive(Clone, Copy)]
-pub struct Mixture<V> {
-    upper_sums: V,
-    lower_sums: V,
-    upper_below: V,
-    lower_below: V,
+struct Parts<V> {
+    first: V,
+    sum: V,
+    first_pairs: V,
+    pairs: V,
 }
 
-/// A plane of the state.
+// A plane of the two halves.
 #[derive(Clone, Copy)]
-pub struct Plane<V> {
-    pub upper: V,
-    pub lower: V,
+struct Plane<V> {
+    first: V,
+    second: V,
 }
 
-/// What the plane of upper rows `x` and lower rows `y` gives to mixed columns.
+// The plane in the layout after the round.
 #[inline(always)]
-pub fn mixture_of<V: Lane8>(x: V, y: V) -> Mixture<V>
-    ensures upper_sums { (i t : ℕ) → i < V.LANES → t < 8
-        → nth_bit (V.lane result.upper_sums i) t ≡ with_below (nth_bit (V.lane x i)) (nth_bit (V.lane y i)) t }
-    ensures lower_sums { (i t : ℕ) → i < V.LANES → t < 8
-        → nth_bit (V.lane result.lower_sums i) t ≡ with_below (nth_bit (V.lane y i)) (nth_bit (V.lane x i)) t }
-    ensures upper_below { (i t : ℕ) → i < V.LANES → t < 8
-        → nth_bit (V.lane result.upper_below i) t ≡ three_below (nth_bit (V.lane x i)) (nth_bit (V.lane y i)) t }
-    ensures lower_below { (i t : ℕ) → i < V.LANES → t < 8
-        → nth_bit (V.lane result.lower_below i) t ≡ three_below (nth_bit (V.lane y i)) (nth_bit (V.lane x i)) t }
+fn moved_plane<V: Lane8>(x: V, y: V, is_odd: bool) -> Plane<V>
+    ensures first { (i t : ℕ) → i < V.LANES → t < 8
+        → nth_bit (V.lane result.first i) t ≡ nth_bit (V.lane x i) (first_from is_odd t) }
+    ensures second { (i t : ℕ) → i < V.LANES → t < 8
+        → nth_bit (V.lane result.second i) t ≡ nth_bit (V.lane y i) (second_from is_odd t) }
 {
-    let below_upper = second_and_first(x, y);
-    let below_lower = second_and_first(y, x);
-    let upper_sums = xor(x, below_upper);
-    let lower_sums = xor(y, below_lower);
-    Mixture {
-        upper_sums,
-        lower_sums,
-        upper_below: xor(below_upper, lower_sums),
-        lower_below: xor(below_lower, upper_sums),
+    if is_odd {
+        Plane {
+            first: moved(x),
+            second: y,
+        }
+    } else {
+        Plane {
+            first: x,
+            second: moved(y),
+        }
     }
 }
 
-/// A plane of mixed columns, which the plane before it is doubled into.
 #[inline(always)]
-pub fn mixed<V: Lane8>(before: Mixture<V>, here: Mixture<V>) -> Plane<V>
-    ensures upper { (i t : ℕ) → i < V.LANES → nth_bit (V.lane result.upper i) t
-        ≡ xor_bits (nth_bit (V.lane before.upper_sums i) t) (nth_bit (V.lane here.upper_below i) t) }
-    ensures lower { (i t : ℕ) → i < V.LANES → nth_bit (V.lane result.lower i) t
-        ≡ xor_bits (nth_bit (V.lane before.lower_sums i) t) (nth_bit (V.lane here.lower_below i) t) }
+fn parts_of<V: Lane8>(x: V, y: V, is_odd: bool) -> Parts<V>
+    ensures first { (i t : ℕ) → i < V.LANES → t < 8
+        → nth_bit (V.lane result.first i) t ≡ nth_bit (V.lane x i) (first_from is_odd t) }
+    ensures sum { (i t : ℕ) → i < V.LANES → t < 8 → nth_bit (V.lane result.sum i) t
+        ≡ xor_bits (nth_bit (V.lane x i) (first_from is_odd t)) (nth_bit (V.lane y i) (second_from is_odd t)) }
+    ensures first_pairs { (i t : ℕ) → i < V.LANES → t < 8 → nth_bit (V.lane result.first_pairs i) t
+        ≡ xor_bits (nth_bit (V.lane x i) (first_from is_odd t))
+        (nth_bit (V.lane x i) (first_from is_odd (pair_of is_odd t))) }
+    ensures pairs { (i t : ℕ) → i < V.LANES → t < 8 → nth_bit (V.lane result.pairs i) t
+        ≡ xor_bits
+        (xor_bits (nth_bit (V.lane x i) (first_from is_odd t)) (nth_bit (V.lane y i) (second_from is_odd t)))
+        (xor_bits (nth_bit (V.lane x i) (first_from is_odd (pair_of is_odd t)))
+        (nth_bit (V.lane y i) (second_from is_odd (pair_of is_odd t)))) }
 {
+    let plane = moved_plane(x, y, is_odd);
+    let sum = xor(plane.first, plane.second);
+    Parts {
+        first: plane.first,
+        sum,
+        first_pairs: pair_sum(plane.first, is_odd),
+        pairs: pair_sum(sum, is_odd),
+    }
+}
+
+// A plane of mixed columns: `sum` and `first_pairs` are doubled into it.
+#[inline(always)]
+fn mixed<V: Lane8>(here: Parts<V>, sum: V, first_pairs: V) -> Plane<V>
+    ensures first { (i t : ℕ) → i < V.LANES → nth_bit (V.lane result.first i) t
+        ≡ xor_bits (xor_bits (nth_bit (V.lane here.first i) t) (nth_bit (V.lane sum i) t)) (nth_bit (V.lane here.pairs i) t) }
+    ensures second { (i t : ℕ) → i < V.LANES → nth_bit (V.lane result.second i) t
+        ≡ xor_bits (xor_bits (nth_bit (V.lane result.first i) t) (nth_bit (V.lane here.sum i) t))
+        (nth_bit (V.lane first_pairs i) t) }
+{
+    let first = xor(xor(here.first, sum), here.pairs);
     Plane {
-        upper: xor(before.upper_sums, here.upper_below),
-        lower: xor(before.lower_sums, here.lower_below),
+        first,
+        second: xor(xor(first, here.sum), first_pairs),
     }
 }
 
-/// A plane of mixed columns, which the highest plane is reduced into besides.
+// A plane of mixed columns, which the plane before it is doubled into.
 #[inline(always)]
-pub fn mixed_reduced<V: Lane8>(
-    before: Mixture<V>,
-    highest: Mixture<V>,
-    here: Mixture<V>,
-) -> Plane<V>
-    ensures upper { (i t : ℕ) → i < V.LANES → nth_bit (V.lane result.upper i) t
-        ≡ xor_bits (xor_bits (nth_bit (V.lane before.upper_sums i) t) (nth_bit (V.lane highest.upper_sums i) t))
-        (nth_bit (V.lane here.upper_below i) t) }
-    ensures lower { (i t : ℕ) → i < V.LANES → nth_bit (V.lane result.lower i) t
-        ≡ xor_bits (xor_bits (nth_bit (V.lane before.lower_sums i) t) (nth_bit (V.lane highest.lower_sums i) t))
-        (nth_bit (V.lane here.lower_below i) t) }
+fn mixed_after<V: Lane8>(before: Parts<V>, here: Parts<V>) -> Plane<V>
+    ensures first { (i t : ℕ) → i < V.LANES → nth_bit (V.lane result.first i) t
+        ≡ xor_bits (xor_bits (nth_bit (V.lane here.first i) t) (nth_bit (V.lane before.sum i) t)) (nth_bit (V.lane here.pairs i) t) }
+    ensures second { (i t : ℕ) → i < V.LANES → nth_bit (V.lane result.second i) t
+        ≡ xor_bits (xor_bits (nth_bit (V.lane result.first i) t) (nth_bit (V.lane here.sum i) t))
+        (nth_bit (V.lane before.first_pairs i) t) }
 {
-    Plane {
-        upper: xor(xor(before.upper_sums, highest.upper_sums), here.upper_below),
-        lower: xor(xor(before.lower_sums, highest.lower_sums), here.lower_below),
-    }
+    mixed(here, before.sum, before.first_pairs)
 }
 
-/// MIXCOLUMNS. Plane goes by plane, so that few of them are at work at a time.
+// A plane of mixed columns, which the highest plane is reduced into besides.
 #[inline(always)]
-pub fn mix_columns<V: Lane8>(s: State<V>) -> State<V>
-    ensures { (i : ℕ) → i < V.LANES → state_bytes V.lane result i ≡ mix_columns (state_bytes V.lane s i) }
+fn mixed_reduced<V: Lane8>(before: Parts<V>, highest: Parts<V>, here: Parts<V>) -> Plane<V>
+    ensures first { (i t : ℕ) → i < V.LANES → nth_bit (V.lane result.first i) t
+        ≡ xor_bits
+        (xor_bits (nth_bit (V.lane here.first i) t) (xor_bits (nth_bit (V.lane before.sum i) t) (nth_bit (V.lane highest.sum i) t)))
+        (nth_bit (V.lane here.pairs i) t) }
+    ensures second { (i t : ℕ) → i < V.LANES → nth_bit (V.lane result.second i) t
+        ≡ xor_bits (xor_bits (nth_bit (V.lane result.first i) t) (nth_bit (V.lane here.sum i) t))
+        (xor_bits (nth_bit (V.lane before.first_pairs i) t) (nth_bit (V.lane highest.first_pairs i) t)) }
 {
-    let State { upper: u, lower: l } = s;
-    let m7 = mixture_of(u.p7, l.p7);
-    let m0 = mixture_of(u.p0, l.p0);
-    let p0 = mixed(m7, m0);
-    let m1 = mixture_of(u.p1, l.p1);
+    mixed(
+        here,
+        xor(before.sum, highest.sum),
+        xor(before.first_pairs, highest.first_pairs),
+    )
+}
+
+/// What a round does after SUBBYTES, but for the last one: moves the odd rows, mixes the columns and adds a key. The halves are
+/// the odd rows and the even rows in an odd round, and the other way round in an even one. Each plane is written as soon as it
+/// is known. The highest one comes first, since it is reduced into others.
+#[inline(always)]
+pub fn mix_halves<V: Lane8>(
+    x: &mut Octet<V>,
+    y: &mut Octet<V>,
+    first_key: &Octet<V>,
+    second_key: &Octet<V>,
+    is_odd: bool,
+)
+    ensures first { (i t : ℕ) → i < V.LANES → t < 8 → byte_at V.lane x.new i t
+        ≡ bit_xor
+        (mixed_byte (byte_at V.lane x.old i (first_from is_odd t)) (byte_at V.lane y.old i (second_from is_odd t))
+        (byte_at V.lane x.old i (first_from is_odd (pair_of is_odd t)))
+        (byte_at V.lane y.old i (second_from is_odd (pair_of is_odd t))))
+        (byte_at V.lane first_key.now i t) }
+    ensures second { (i t : ℕ) → i < V.LANES → t < 8 → byte_at V.lane y.new i t
+        ≡ bit_xor
+        (mixed_byte (byte_at V.lane y.old i (second_from is_odd t))
+        (byte_at V.lane x.old i (first_from is_odd (pair_of is_odd t)))
+        (byte_at V.lane y.old i (second_from is_odd (pair_of is_odd t)))
+        (byte_at V.lane x.old i (first_from is_odd t)))
+        (byte_at V.lane second_key.now i t) }
+{
+    let m7 = parts_of(x.p7, y.p7, is_odd);
+    let m0 = parts_of(x.p0, y.p0, is_odd);
+    let p0 = mixed_after(m7, m0);
+    x.p0 = xor(p0.first, first_key.p0);
+    y.p0 = xor(p0.second, second_key.p0);
+    let m1 = parts_of(x.p1, y.p1, is_odd);
     let p1 = mixed_reduced(m0, m7, m1);
-    let m2 = mixture_of(u.p2, l.p2);
-    let p2 = mixed(m1, m2);
-    let m3 = mixture_of(u.p3, l.p3);
+    x.p1 = xor(p1.first, first_key.p1);
+    y.p1 = xor(p1.second, second_key.p1);
+    let m2 = parts_of(x.p2, y.p2, is_odd);
+    let p2 = mixed_after(m1, m2);
+    x.p2 = xor(p2.first, first_key.p2);
+    y.p2 = xor(p2.second, second_key.p2);
+    let m3 = parts_of(x.p3, y.p3, is_odd);
     let p3 = mixed_reduced(m2, m7, m3);
-    let m4 = mixture_of(u.p4, l.p4);
+    x.p3 = xor(p3.first, first_key.p3);
+    y.p3 = xor(p3.second, second_key.p3);
+    let m4 = parts_of(x.p4, y.p4, is_odd);
     let p4 = mixed_reduced(m3, m7, m4);
-    let m5 = mixture_of(u.p5, l.p5);
-    let p5 = mixed(m4, m5);
-    let m6 = mixture_of(u.p6, l.p6);
-    let p6 = mixed(m5, m6);
-    let p7 = mixed(m6, m7);
-    State {
-        upper: each_of!(upper, p0, p1, p2, p3, p4, p5, p6, p7),
-        lower: each_of!(lower, p0, p1, p2, p3, p4, p5, p6, p7),
-    }
-}
-
-// Four times the sum of the bytes at each place.
-#[inline(always)]
-fn four_sums<V: Lane8>(p: Octet<V>, q: Octet<V>) -> Octet<V>
-    ensures { (i t : ℕ) → i < V.LANES → byte_at V.lane result i t
-        ≡ xtime (xtime (bit_xor (byte_at V.lane p i t) (byte_at V.lane q i t))) }
-{
-    xtime(xtime(sum(p, q)))
-}
-
-// Each byte with four times its sum with the byte two rows away: each column times the circulant matrix with the first
-// row 05 00 04 00. The matrix of MIXCOLUMNS times this one is that of INVMIXCOLUMNS, with the first row 0e 0b 0d 09.
-#[inline(always)]
-fn spread_columns<V: Lane8>(s: State<V>) -> State<V>
-    ensures { (i : ℕ) → i < V.LANES → mix_columns (state_bytes V.lane result i) ≡ inv_mix_columns (state_bytes V.lane s i) }
-{
-    let four = four_sums(s.upper, s.lower);
-    State {
-        upper: sum(s.upper, four),
-        lower: sum(s.lower, four),
-    }
-}
-
-/// INVMIXCOLUMNS.
-#[inline(always)]
-pub fn inv_mix_columns<V: Lane8>(s: State<V>) -> State<V>
-    ensures { (i : ℕ) → i < V.LANES → state_bytes V.lane result i ≡ inv_mix_columns (state_bytes V.lane s i) }
-{
-    mix_columns(spread_columns(s))
-}
-
-/// ADDROUNDKEY.
-#[inline(always)]
-pub fn add_round_key<V: Lane8>(s: State<V>, key: State<V>) -> State<V>
-    ensures { (i : ℕ) → i < V.LANES
-        → state_bytes V.lane result i ≡ xor_lists (state_bytes V.lane s i) (state_bytes V.lane key i) }
-{
-    State {
-        upper: sum(s.upper, key.upper),
-        lower: sum(s.lower, key.lower),
-    }
+    x.p4 = xor(p4.first, first_key.p4);
+    y.p4 = xor(p4.second, second_key.p4);
+    let m5 = parts_of(x.p5, y.p5, is_odd);
+    let p5 = mixed_after(m4, m5);
+    x.p5 = xor(p5.first, first_key.p5);
+    y.p5 = xor(p5.second, second_key.p5);
+    let m6 = parts_of(x.p6, y.p6, is_odd);
+    let p6 = mixed_after(m5, m6);
+    x.p6 = xor(p6.first, first_key.p6);
+    y.p6 = xor(p6.second, second_key.p6);
+    let p7 = mixed_after(m6, m7);
+    x.p7 = xor(p7.first, first_key.p7);
+    y.p7 = xor(p7.second, second_key.p7);
 }

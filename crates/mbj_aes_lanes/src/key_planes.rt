@@ -1,42 +1,45 @@
 //! Round keys in planes, 16 plane bytes each, written into all lanes of states.
-ghost use Rattle.std.specs.Prelude.{◌≡◌, ℕ, ◌+◌, ◌*◌, ◌<◌, ◌≤◌, [], length, take, slice_index_or};
-ghost use Rattle.std.specs.List.{flat_map};
+ghost use Rattle.std.specs.Prelude.{◌≡◌, ℕ, ◌+◌, ◌-◌, ◌*◌, ◌/◌, ◌<◌, ◌≤◌, [], length, slice_index, slice_index_or};
 ghost use Rattle.mbj_types.specs.Aes.{round_key};
 ghost use Rattle.mbj_types.specs.Lanes.{lane_of};
 ghost use Rattle.mbj_aes.specs.Planes.Bytes.{octet_lane};
-ghost use Rattle.mbj_aes_lanes.specs.Inside.State.{state_bytes};
-ghost use Rattle.mbj_aes_lanes.specs.Inside.Keys.{octet_from, unplaned, schedule_in};
+ghost use Rattle.mbj_aes_lanes.specs.declared.state.State.{State};
+ghost use Rattle.mbj_aes_lanes.specs.Inside.State.{slots, octet_at};
+ghost use Rattle.mbj_aes_lanes.specs.Inside.Keys.{key_from, unplaned};
 
 use crate::block_states::{FEW_BLOCKS, FewWord};
 use crate::blocks::{put_blocks, words_of};
 use crate::lane_blocks::Blocks;
+use crate::round_keys::key_in_slots;
 use crate::state::State;
-use crate::words::{put_planes, state_at};
+use crate::words::{put_planes, state_of_slots};
 use mbj_aes::{Octet, Schedule};
 use mbj_types::{BLOCK_BYTES, Lane8};
 
 /// The round keys of the longest schedule, of 14 rounds.
 pub const MAX_ROUND_KEYS: usize = 15;
 
-// The block in each lane becomes its plane bytes.
+// The bytes in each lane, which stand slot by slot, become their plane bytes.
 #[inline(always)]
 fn put_in_planes<V: Lane8>(words: &mut [V])
     requires { length words.old ≡ 16 }
     ensures { (i : ℕ) → i < V.LANES → unplaned (lane_of V.lane words.new i) ≡ lane_of V.lane words.old i }
 {
-    let state = state_at(words, 0);
+    let state = state_of_slots(words);
     put_planes(words, state);
 }
 
-/// The plane bytes of each round key. All round keys are transposed at once, one in each lane of a narrow pass.
+/// The plane bytes of each round key, in its layout. All round keys are transposed at once, one in each lane of a narrow
+/// pass.
 pub fn planes_of(key: &Schedule) -> [[u8; 16]; FEW_BLOCKS]
     ensures length { length result ≡ FEW_BLOCKS }
     ensures keys { (r : ℕ) → 16 * (r + 1) ≤ length key.now
-        → unplaned (slice_index_or result r []) ≡ round_key key.now r }
+        → key_from (length key.now / 16 - 1) r (unplaned (slice_index_or result r [])) ≡ round_key key.now r }
 {
     let mut round_keys = [[0; BLOCK_BYTES]; FEW_BLOCKS];
-    'keys: for r in 0..key.rounds() + 1 {
-        round_keys[r as usize] = key.round_key(r);
+    let rounds = key.rounds();
+    'keys: for r in 0..rounds + 1 {
+        round_keys[r as usize] = key_in_slots(&key.round_key(r), r as usize, rounds as usize);
     }
     let mut words = [FewWord::splat(0); BLOCK_BYTES];
     words_of(
@@ -54,7 +57,7 @@ pub fn planes_of(key: &Schedule) -> [[u8; 16]; FEW_BLOCKS]
 #[inline(always)]
 fn octet_of<V: Lane8>(planes: &[u8; 16], start: usize) -> Octet<V>
     requires { start + 8 ≤ 16 }
-    ensures { (i : ℕ) → i < V.LANES → octet_lane V.lane result i ≡ octet_from planes.now start }
+    ensures { (i : ℕ) → i < V.LANES → octet_lane V.lane result i ≡ octet_at (slice_index planes.now) start }
 {
     Octet {
         p0: V::splat(planes[start]),
@@ -70,22 +73,22 @@ fn octet_of<V: Lane8>(planes: &[u8; 16], start: usize) -> Octet<V>
 
 /// A round key in every lane.
 #[inline(always)]
-pub fn state_of<V: Lane8>(planes: &[u8; 16]) -> State<V>
-    ensures { (i : ℕ) → i < V.LANES → state_bytes V.lane result i ≡ unplaned planes.now }
+pub fn key_of<V: Lane8>(planes: &[u8; 16]) -> State<V>
+    ensures { (i : ℕ) → i < V.LANES → slots V.lane result i ≡ unplaned planes.now }
 {
     State {
-        upper: octet_of(planes, 0),
-        lower: octet_of(planes, 8),
+        even: octet_of(planes, 0),
+        odd: octet_of(planes, 8),
     }
 }
 
 /// Writes the first of the round keys into every lane of as many states.
 pub fn write_all_lanes<V: Lane8>(keys: &mut [State<V>], planes: &[[u8; 16]; FEW_BLOCKS])
     requires { length keys.old ≤ FEW_BLOCKS }
-    ensures { (i : ℕ) → i < V.LANES
-        → schedule_in V.lane keys.new i ≡ flat_map unplaned (take (length keys.old) planes.now) }
+    ensures { (i r : ℕ) (d : State V) → i < V.LANES → r < length keys.old
+        → slots V.lane (slice_index_or keys.new r d) i ≡ unplaned (slice_index_or planes.now r []) }
 {
     'keys: for r in 0..keys.len() {
-        keys[r] = state_of(&planes[r]);
+        keys[r] = key_of(&planes[r]);
     }
 }

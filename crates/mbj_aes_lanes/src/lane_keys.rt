@@ -1,4 +1,4 @@
-ghost use Rattle.std.specs.Prelude.{◌≡◌, ℕ, ◌+◌, ◌*◌, ◌<◌, ◌≤◌, length, slice_index_or, None, IsSome};
+ghost use Rattle.std.specs.Prelude.{◌≡◌, ℕ, ◌+◌, ◌-◌, ◌*◌, ◌%◌, ◌<◌, ◌≤◌, length, slice_index_or, None, IsSome};
 ghost use Rattle.mbj_types.specs.Lanes.{lane_at};
 ghost use Rattle.mbj_aes.specs.Bytes.{IsRoundCount};
 ghost use Rattle.mbj_aes_lanes.specs.KeyLanes.{no_keys, same_keys, with_key, schedule_at};
@@ -92,8 +92,9 @@ impl LaneKeys {
     pub(crate) fn round_keys(&self) -> &[State<AesWord>]
         ensures least { 11 ≤ length result.now }
         ensures most { length result.now ≤ 15 }
+        ensures even { length result.now % 2 ≡ 1 }
         ensures schedules { (i : ℕ) → i < AES_LANES → IsSome (slice_index_or self.now.lanes i None)
-            → schedule_in (lane_at 8) result.now i ≡ schedule_at self.now i }
+            → schedule_in (lane_at 8) (length result.now - 1) result.now i ≡ schedule_at self.now i }
     {
         &self.round_keys[..self.rounds as usize + 1]
     }

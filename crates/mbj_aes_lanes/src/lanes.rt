@@ -1,36 +1,29 @@
 //! AES on lane words, with the schedules as lane words too: a block and a schedule in each lane. No product calls it: tests
 //! compare it, at lane words of every width, with the other calls and with the standard's examples.
-ghost use Rattle.std.specs.Prelude.{◌≡◌, ℕ, ◌<◌, length};
-ghost use Rattle.mbj_types.specs.Aes.{encipher, decipher};
+ghost use Rattle.std.specs.Prelude.{◌≡◌, ℕ, ◌+◌, ◌*◌, ◌<◌, ◌≤◌, length};
+ghost use Rattle.mbj_types.specs.Aes.{round_key, encipher, decipher};
 ghost use Rattle.mbj_types.specs.Lanes.{lane_of};
 ghost use Rattle.mbj_aes_lanes.specs.Lanes.{IsScheduleSize};
-ghost use Rattle.mbj_aes_lanes.specs.Inside.State.{state_bytes};
-ghost use Rattle.mbj_aes_lanes.specs.Inside.Rounds.{round_of, undone_round_of};
+ghost use Rattle.mbj_aes_lanes.specs.Inside.Keys.{key_in};
 
-use crate::columns::add_round_key;
-use crate::rounds::{half_round, undone_half_round};
+use crate::layout::Layout;
+use crate::round_keys::key_at;
+use crate::rounds::{
+    even_round, last_round, odd_round, undo_even_round, undo_last_round, undo_odd_round,
+};
 use crate::state::State;
+use crate::undone_columns::add_round_key;
 use crate::words::{put_state, state_at};
 use mbj_types::{BLOCK_BYTES, Lane8};
 
-// One round: SUBBYTES, SHIFTROWS, MIXCOLUMNS but in the last round, and ADDROUNDKEY.
+// Round key `r` of so many rounds in each lane.
 #[inline(always)]
-fn round<V: Lane8>(s: &mut State<V>, key: &State<V>, is_last: bool)
-    ensures { (i : ℕ) → i < V.LANES → state_bytes V.lane s.new i
-        ≡ round_of is_last (state_bytes V.lane s.old i) (state_bytes V.lane key.now i) }
+fn round_key<V: Lane8>(keys: &[V], r: usize, rounds: usize) -> State<V>
+    requires size { length keys.now ≤ 240 }
+    requires inside { 16 * (r + 1) ≤ length keys.now }
+    ensures { (i : ℕ) → i < V.LANES → key_in V.lane rounds r result i ≡ round_key (lane_of V.lane keys.now i) r }
 {
-    half_round(s, key, false, is_last);
-    half_round(s, key, true, is_last);
-}
-
-// One round undone.
-#[inline(always)]
-fn undone_round<V: Lane8>(s: &mut State<V>, key: &State<V>, is_last: bool)
-    ensures { (i : ℕ) → i < V.LANES → state_bytes V.lane s.new i
-        ≡ undone_round_of is_last (state_bytes V.lane s.old i) (state_bytes V.lane key.now i) }
-{
-    undone_half_round(s, key, true, is_last);
-    undone_half_round(s, key, false, is_last);
+    key_at(keys, BLOCK_BYTES * r, r, rounds)
 }
 
 /// Encrypts the block in each lane under the schedule in that lane: CIPHER (FIPS 197, 5.1). `state` has 16 lane words,
@@ -43,11 +36,15 @@ pub fn encrypt_lanes<V: Lane8>(keys: &[V], state: &mut [V])
         → lane_of V.lane state.new i ≡ encipher (lane_of V.lane keys.now i) (lane_of V.lane state.old i) }
 {
     let rounds = keys.len() / BLOCK_BYTES - 1;
-    let mut s = add_round_key(state_at(state, 0), state_at(keys, 0));
-    'rounds: for r in 1..rounds + 1 {
-        round(&mut s, &state_at(keys, BLOCK_BYTES * r), r == rounds);
+    let block = state_at(state, 0, Layout::Plain);
+    let mut s = add_round_key(block, round_key(keys, 0, rounds));
+    'pairs: for pair in 0..rounds / 2 - 1 {
+        odd_round(&mut s, &round_key(keys, 2 * pair + 1, rounds));
+        even_round(&mut s, &round_key(keys, 2 * pair + 2, rounds));
     }
-    put_state(state, s);
+    odd_round(&mut s, &round_key(keys, rounds - 1, rounds));
+    last_round(&mut s, &round_key(keys, rounds, rounds));
+    put_state(state, s, Layout::Last);
 }
 
 /// Decrypts the block in each lane by the schedule in that lane: INVCIPHER (FIPS 197, 5.3). The lane words are as for
@@ -59,9 +56,13 @@ pub fn decrypt_lanes<V: Lane8>(keys: &[V], state: &mut [V])
         → lane_of V.lane state.new i ≡ decipher (lane_of V.lane keys.now i) (lane_of V.lane state.old i) }
 {
     let rounds = keys.len() / BLOCK_BYTES - 1;
-    let mut s = state_at(state, 0);
-    'rounds: for r in (1..rounds + 1).rev() {
-        undone_round(&mut s, &state_at(keys, BLOCK_BYTES * r), r == rounds);
+    let mut s = state_at(state, 0, Layout::Last);
+    undo_last_round(&mut s, &round_key(keys, rounds, rounds));
+    undo_odd_round(&mut s, &round_key(keys, rounds - 1, rounds));
+    'pairs: for pair in (0..rounds / 2 - 1).rev() {
+        undo_even_round(&mut s, &round_key(keys, 2 * pair + 2, rounds));
+        undo_odd_round(&mut s, &round_key(keys, 2 * pair + 1, rounds));
     }
-    put_state(state, add_round_key(s, state_at(keys, 0)));
+    let block = add_round_key(s, round_key(keys, 0, rounds));
+    put_state(state, block, Layout::Plain);
 }

@@ -1,20 +1,22 @@
 //! Blocks of many entries chained side by side, each under its own key: few entries in narrow passes, more in wide ones.
-ghost use Rattle.std.specs.Prelude.{◌≡◌, ℕ, ◌+◌, ◌*◌, ◌<◌, ◌≤◌, All, [], length, map, slice_index_or};
+ghost use Rattle.std.specs.Prelude.{◌≡◌, ℕ, ◌+◌, ◌-◌, ◌*◌, ◌%◌, ◌<◌, ◌≤◌, All, [], length, map, slice_index_or};
 ghost use Rattle.mbj_types.specs.Aes.{encipher};
 ghost use Rattle.mbj_types.specs.Blocks.{xor_lists};
 ghost use Rattle.mbj_lane.specs.Rounds.{after};
 ghost use Rattle.mbj_aes_lanes.specs.Chaining.{in_lane, chained_once};
 ghost use Rattle.mbj_aes_lanes.specs.Inside.Keys.{schedule_in};
-ghost use Rattle.mbj_aes_lanes.specs.Inside.State.{state_bytes};
+ghost use Rattle.mbj_aes_lanes.specs.Inside.State.{plain_bytes};
 
 use crate::block_states::{FEW_BLOCKS, FewWord, PassWord};
 use crate::chaining::Chaining;
-use crate::columns::add_round_key;
 use crate::entry_blocks::{Chains, NextBlocks, RoundKeys};
 use crate::key_planes::MAX_ROUND_KEYS;
 use crate::lane_blocks::Blocks;
+use crate::layout::Layout;
+use crate::moves::move_to_plain;
 use crate::rounds::encrypt;
 use crate::state::{State, zero_state};
+use crate::undone_columns::add_round_key;
 use mbj_types::{AES_LANES, AesWord, BLOCK_BYTES};
 
 // The rounds of the keys, of which each has as many.
@@ -24,6 +26,7 @@ fn rounds_of<E: Chaining>(entries: &[E]) -> usize
     ensures value { result ≡ E.key_rounds }
     ensures least { 10 ≤ result }
     ensures most { result ≤ 14 }
+    ensures even { result % 2 ≡ 0 }
     ensures lengths { All (λ e. length (E.key_of e) ≡ 16 * (E.key_rounds + 1)) entries.now }
 {
     let mut rounds = 10;
@@ -38,25 +41,28 @@ fn rounds_of<E: Chaining>(entries: &[E]) -> usize
 fn write_keys<V: PassWord, E: Chaining>(keys: &mut [State<V>], entries: &[E])
     requires some { 0 < length entries.now }
     requires rounds { length keys.old ≡ E.key_rounds + 1 }
+    requires least { 1 ≤ E.key_rounds }
     requires few { E.key_rounds ≤ 14 }
     requires lengths { All (λ e. length (E.key_of e) ≡ 16 * (E.key_rounds + 1)) entries.now }
-    ensures { (i : ℕ) → i < V.LANES → schedule_in V.lane keys.new i ≡ in_lane (map E.key_of entries.now) i }
+    ensures { (i : ℕ) → i < V.LANES → schedule_in V.lane E.key_rounds keys.new i ≡ in_lane (map E.key_of entries.now) i }
 {
+    let rounds = keys.len() - 1;
     'keys: for r in 0..keys.len() {
-        keys[r] = V::load(&RoundKeys {
+        let round_keys = RoundKeys {
             entries,
             r: r as u32,
-        });
+        };
+        keys[r] = V::load_key(&round_keys, r, rounds);
     }
 }
 
 // The blocks of which this is the state, in as many lanes as there are.
 #[inline(always)]
 fn blocks_of<V: PassWord>(s: &State<V>) -> [[u8; 16]; AES_LANES]
-    ensures { (i : ℕ) → i < V.LANES → slice_index_or result i [] ≡ state_bytes V.lane s.now i }
+    ensures { (i : ℕ) → i < V.LANES → slice_index_or result i [] ≡ plain_bytes V.lane s.now i }
 {
     let mut blocks = [[0; BLOCK_BYTES]; AES_LANES];
-    V::store(&mut blocks[..V::LANES as usize], s);
+    V::store(&mut blocks[..V::LANES as usize], s, Layout::Plain);
     blocks
 }
 
@@ -66,15 +72,16 @@ fn next_chains<V: PassWord, E: Chaining>(entries: &[E], keys: &[State<V>], chain
     requires some { 0 < length entries.now }
     requires rests { All (λ e. 1 ≤ E.rest_of e) entries.now }
     requires least { 3 ≤ length keys.now }
-    requires most { length keys.now ≤ 15 }
-    requires keys { (i : ℕ) → i < V.LANES → schedule_in V.lane keys.now i ≡ in_lane (map E.key_of entries.now) i }
-    ensures { (i : ℕ) → i < V.LANES → state_bytes V.lane chains.new i
+    requires even { length keys.now % 2 ≡ 1 }
+    requires keys { (i : ℕ) → i < V.LANES → schedule_in V.lane (length keys.now - 1) keys.now i ≡ in_lane (map E.key_of entries.now) i }
+    ensures { (i : ℕ) → i < V.LANES → plain_bytes V.lane chains.new i
         ≡ encipher (in_lane (map E.key_of entries.now) i)
-        (xor_lists (in_lane (map E.block_of entries.now) i) (state_bytes V.lane chains.old i)) }
+        (xor_lists (in_lane (map E.block_of entries.now) i) (plain_bytes V.lane chains.old i)) }
 {
-    let blocks = V::load(&NextBlocks { entries });
+    let blocks = V::load(&NextBlocks { entries }, Layout::Plain);
     *chains = add_round_key(blocks, *chains);
     encrypt(keys, chains);
+    move_to_plain(chains);
 }
 
 // Each entry is led by the chaining value of its lane.
@@ -111,13 +118,13 @@ fn pass<V: PassWord, E: Chaining>(entries: &mut [E], keys: &[State<V>], chains: 
     requires few { length entries.old ≤ V.LANES }
     requires rests { All (λ e. 1 ≤ E.rest_of e) entries.old }
     requires least { 3 ≤ length keys.now }
-    requires most { length keys.now ≤ 15 }
-    requires keys { (i : ℕ) → i < V.LANES → schedule_in V.lane keys.now i ≡ in_lane (map E.key_of entries.old) i }
-    ensures chains { (i : ℕ) → i < V.LANES → state_bytes V.lane chains.new i
+    requires even { length keys.now % 2 ≡ 1 }
+    requires keys { (i : ℕ) → i < V.LANES → schedule_in V.lane (length keys.now - 1) keys.now i ≡ in_lane (map E.key_of entries.old) i }
+    ensures chains { (i : ℕ) → i < V.LANES → plain_bytes V.lane chains.new i
         ≡ encipher (in_lane (map E.key_of entries.old) i)
-        (xor_lists (in_lane (map E.block_of entries.old) i) (state_bytes V.lane chains.old i)) }
+        (xor_lists (in_lane (map E.block_of entries.old) i) (plain_bytes V.lane chains.old i)) }
     ensures entries { (i : ℕ) (e : E) → i < length entries.old → slice_index_or entries.new i e
-        ≡ E.led (slice_index_or entries.old i e) (state_bytes V.lane chains.new i) }
+        ≡ E.led (slice_index_or entries.old i e) (plain_bytes V.lane chains.new i) }
 {
     next_chains(entries, keys, chains);
     lead_each(entries, &blocks_of(chains));
@@ -130,11 +137,11 @@ fn lead_by<V: PassWord, E: Chaining>(entries: &mut [E], m: u32, keys: &[State<V>
     requires few { length entries.old ≤ V.LANES }
     requires rests { All (λ e. m ≤ E.rest_of e) entries.old }
     requires least { 3 ≤ length keys.now }
-    requires most { length keys.now ≤ 15 }
-    requires keys { (i : ℕ) → i < V.LANES → schedule_in V.lane keys.now i ≡ in_lane (map E.key_of entries.old) i }
+    requires even { length keys.now % 2 ≡ 1 }
+    requires keys { (i : ℕ) → i < V.LANES → schedule_in V.lane (length keys.now - 1) keys.now i ≡ in_lane (map E.key_of entries.old) i }
     ensures { entries.new ≡ map (after (chained_once E.key_of E.block_of E.chain_of E.led E.kept) m) entries.old }
 {
-    let mut chains = V::load(&Chains { entries });
+    let mut chains = V::load(&Chains { entries }, Layout::Plain);
     'passes: for done in 0..m {
         pass(entries, keys, &mut chains);
     }
@@ -171,9 +178,9 @@ fn encrypt_pass<V: PassWord, E: Chaining>(
 {
     let keys = &mut room[..rounds_of(entries) + 1];
     write_keys(keys, entries);
-    let mut state = V::load(&Blocks { blocks });
+    let mut state = V::load(&Blocks { blocks }, Layout::Plain);
     encrypt(keys, &mut state);
-    V::store(blocks, &state);
+    V::store(blocks, &state, Layout::Last);
 }
 
 /// Encrypts a block in the lane of each entry, under its key. The blocks in idle lanes become any. It takes no memory.

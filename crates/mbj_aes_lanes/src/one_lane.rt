@@ -1,11 +1,11 @@
 //! Round keys in planes written into one lane of states, beside the keys in the others. No product calls it: `LaneKeys::put`
 //! does, by which tests give each lane a key of its own.
-ghost use Rattle.std.specs.Prelude.{◌≡◌, ◌≢◌, ℕ, ◌+◌, ◌<◌, ◌≤◌, length, take};
-ghost use Rattle.std.specs.List.{flat_map};
+ghost use Rattle.std.specs.Prelude.{◌≡◌, ◌≢◌, ℕ, ◌+◌, ◌<◌, ◌≤◌, List, [], length, slice_index, slice_index_or};
 ghost use Rattle.mbj_types.specs.Lanes.{lane_at};
 ghost use Rattle.mbj_aes.specs.Planes.Bytes.{octet_lane};
-ghost use Rattle.mbj_aes_lanes.specs.Inside.State.{state_bytes};
-ghost use Rattle.mbj_aes_lanes.specs.Inside.Keys.{octet_from, unplaned, schedule_in};
+ghost use Rattle.mbj_aes_lanes.specs.declared.state.State.{State};
+ghost use Rattle.mbj_aes_lanes.specs.Inside.State.{slots, octet_at};
+ghost use Rattle.mbj_aes_lanes.specs.Inside.Keys.{unplaned};
 
 use crate::block_states::FEW_BLOCKS;
 use crate::state::State;
@@ -43,7 +43,7 @@ fn blended_octet(
 ) -> Octet<AesWord>
     requires { start + 8 ≤ BLOCK_BYTES }
     ensures under { (i : ℕ) → i < AES_LANES → lane_at 8 mask i ≡ 0xff
-        → octet_lane (lane_at 8) result i ≡ octet_from planes.now start }
+        → octet_lane (lane_at 8) result i ≡ octet_at (slice_index planes.now) start }
     ensures beside { (i : ℕ) → i < AES_LANES → lane_at 8 mask i ≡ 0
         → octet_lane (lane_at 8) result i ≡ octet_lane (lane_at 8) q i }
 {
@@ -63,13 +63,13 @@ fn blended_octet(
 #[inline(always)]
 fn blended_state(s: State<AesWord>, mask: AesWord, planes: &[u8; 16]) -> State<AesWord>
     ensures under { (i : ℕ) → i < AES_LANES → lane_at 8 mask i ≡ 0xff
-        → state_bytes (lane_at 8) result i ≡ unplaned planes.now }
+        → slots (lane_at 8) result i ≡ unplaned planes.now }
     ensures beside { (i : ℕ) → i < AES_LANES → lane_at 8 mask i ≡ 0
-        → state_bytes (lane_at 8) result i ≡ state_bytes (lane_at 8) s i }
+        → slots (lane_at 8) result i ≡ slots (lane_at 8) s i }
 {
     State {
-        upper: blended_octet(s.upper, mask, planes, 0),
-        lower: blended_octet(s.lower, mask, planes, 8),
+        even: blended_octet(s.even, mask, planes, 0),
+        odd: blended_octet(s.odd, mask, planes, 8),
     }
 }
 
@@ -77,9 +77,10 @@ fn blended_state(s: State<AesWord>, mask: AesWord, planes: &[u8; 16]) -> State<A
 pub fn write_lane(keys: &mut [State<AesWord>], lane: usize, planes: &[[u8; 16]; FEW_BLOCKS])
     requires keys { length keys.old ≤ FEW_BLOCKS }
     requires lane { lane < AES_LANES }
-    ensures here { schedule_in (lane_at 8) keys.new lane ≡ flat_map unplaned (take (length keys.old) planes.now) }
-    ensures elsewhere { (i : ℕ) → i < AES_LANES → i ≢ lane
-        → schedule_in (lane_at 8) keys.new i ≡ schedule_in (lane_at 8) keys.old i }
+    ensures here { (r : ℕ) (d : State (List ℕ)) → r < length keys.old
+        → slots (lane_at 8) (slice_index_or keys.new r d) lane ≡ unplaned (slice_index_or planes.now r []) }
+    ensures elsewhere { (i r : ℕ) (d : State (List ℕ)) → i < AES_LANES → i ≢ lane → r < length keys.old
+        → slots (lane_at 8) (slice_index_or keys.new r d) i ≡ slots (lane_at 8) (slice_index_or keys.old r d) i }
 {
     let mask = lane_mask(lane);
     'keys: for r in 0..keys.len() {

@@ -6,6 +6,7 @@ ghost use Rattle.mbj_types.specs.Aes.{encipher, decipher};
 use crate::block_states::{FEW_BLOCKS, FewWord, PassWord};
 use crate::key_planes::{MAX_ROUND_KEYS, planes_of, write_all_lanes};
 use crate::lane_blocks::Blocks;
+use crate::layout::Layout;
 use crate::rounds::{decrypt, encrypt};
 use crate::state::{State, zero_state};
 use mbj_aes::Schedule;
@@ -22,9 +23,9 @@ fn encrypt_pass<V: PassWord>(key: &Schedule, room: &mut [State<V>], blocks: &mut
 {
     let round_keys = &mut room[..key.rounds() as usize + 1];
     write_all_lanes(round_keys, &planes_of(key));
-    let mut state = V::load(&Blocks { blocks });
+    let mut state = V::load(&Blocks { blocks }, Layout::Plain);
     encrypt(round_keys, &mut state);
-    V::store(blocks, &state);
+    V::store(blocks, &state, Layout::Last);
 }
 
 // One pass of decryption. `room` takes the round keys.
@@ -38,9 +39,9 @@ fn decrypt_pass<V: PassWord>(key: &Schedule, room: &mut [State<V>], blocks: &mut
 {
     let round_keys = &mut room[..key.rounds() as usize + 1];
     write_all_lanes(round_keys, &planes_of(key));
-    let mut state = V::load(&Blocks { blocks });
+    let mut state = V::load(&Blocks { blocks }, Layout::Last);
     decrypt(round_keys, &mut state);
-    V::store(blocks, &state);
+    V::store(blocks, &state, Layout::Plain);
 }
 
 // Encrypts the first `many` blocks.

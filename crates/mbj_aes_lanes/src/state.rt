@@ -1,13 +1,12 @@
 use mbj_aes::Octet;
 use mbj_types::Lane8;
 
-/// The state of AES (FIPS 197, 3.4) of the block in each lane, in bit planes. In each lane the planes `upper` have the
-/// bytes of rows 0 and 1, and `lower` those of rows 2 and 3: bytes 0 to 3 are the first of the two rows, bytes 4 to 7
-/// the second, column by column.
+/// The state of AES (FIPS 197, 3.4) of the block in each lane, in bit planes. In each lane the planes `even` have the
+/// bytes of rows 0 and 2, and `odd` those of rows 1 and 3, in a layout of `layout`.
 #[derive(Clone, Copy)]
 pub struct State<V> {
-    pub upper: Octet<V>,
-    pub lower: Octet<V>,
+    pub even: Octet<V>,
+    pub odd: Octet<V>,
 }
 
 /// A state of zeros.
@@ -25,7 +24,7 @@ pub fn zero_state<V: Lane8>() -> State<V> {
         p7: zero,
     };
     State {
-        upper: octet,
-        lower: octet,
+        even: octet,
+        odd: octet,
     }
 }

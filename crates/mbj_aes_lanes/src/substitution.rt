@@ -1,10 +1,11 @@
-//! SUBBYTES and its inverse (FIPS 197, 5.1.1 and 5.3.2) on bit planes.
-ghost use Rattle.std.specs.Prelude.{◌≡◌, ℕ, ◌<◌};
-ghost use Rattle.std.specs.Borrow.{sem};
-ghost use Rattle.mbj_types.specs.Aes.{sub_byte, inv_sub_byte};
-ghost use Rattle.mbj_aes_lanes.specs.Inside.State.{state_bytes, half};
-ghost use Rattle.mbj_aes_lanes.specs.Inside.Lending.{LendsHalf};
-ghost use Rattle.mbj_aes_lanes.specs.Inside.Rounds.{in_half};
+//! SUBBYTES and its inverse (FIPS 197, 5.1.1 and 5.3.2) on bit planes, but for the constant of the S-box, which the round keys
+//! have. The S-box of eight bytes a lane is called, and not inlined: two of them side by side want more registers than there
+//! are with vectors of 128 bits.
+ghost use Rattle.std.specs.Prelude.{◌≡◌, ℕ, ◌<◌, map};
+ghost use Rattle.mbj_aes.specs.Planes.Bytes.{byte_at};
+ghost use Rattle.mbj_aes_lanes.specs.Inside.State.{reading};
+ghost use Rattle.mbj_aes_lanes.specs.Inside.Rounds.{bare_sub_byte, bare_inv_sub_byte};
+ghost use Rattle.mbj_aes_lanes.specs.declared.layout.Layout.{Layout};
 
 use crate::state::State;
 use mbj_aes::Octet;
@@ -12,31 +13,38 @@ use mbj_aes::circuit::sub_planes;
 use mbj_aes::inverse_circuit::inv_sub_planes;
 use mbj_types::Lane8;
 
-// The lower two rows, or the upper two. They are lent, and not copied, so that one S-box in the code serves both.
-#[inline(always)]
-fn half_mut<V: Lane8>(s: &mut State<V>, is_lower: bool) -> &mut Octet<V>
-    ensures* lends { sem 𝓛 (LendsHalf V.row s.entry is_lower result) }
-    ensures value { result.now ≡ half s.old is_lower }
+#[inline(never)]
+fn sub_rows<V: Lane8>(rows: &mut Octet<V>)
+    ensures { (i t : ℕ) → i < V.LANES → t < 8
+        → byte_at V.lane rows.new i t ≡ bare_sub_byte (byte_at V.lane rows.old i t) }
 {
-    if is_lower { &mut s.lower } else { &mut s.upper }
-}
-
-/// SUBBYTES in the lower two rows, or in the upper two. All at once would need more registers than there are.
-#[inline(always)]
-pub fn sub_half<V: Lane8>(s: &mut State<V>, is_lower: bool)
-    ensures { (i : ℕ) → i < V.LANES
-        → state_bytes V.lane s.new i ≡ in_half sub_byte is_lower 0 (state_bytes V.lane s.old i) }
-{
-    let rows = half_mut(s, is_lower);
     *rows = sub_planes(*rows);
 }
 
-/// INVSUBBYTES in the lower two rows, or in the upper two.
-#[inline(always)]
-pub fn inv_sub_half<V: Lane8>(s: &mut State<V>, is_lower: bool)
-    ensures { (i : ℕ) → i < V.LANES
-        → state_bytes V.lane s.new i ≡ in_half inv_sub_byte is_lower 0 (state_bytes V.lane s.old i) }
+#[inline(never)]
+fn inv_sub_rows<V: Lane8>(rows: &mut Octet<V>)
+    ensures { (i t : ℕ) → i < V.LANES → t < 8
+        → byte_at V.lane rows.new i t ≡ bare_inv_sub_byte (byte_at V.lane rows.old i t) }
 {
-    let rows = half_mut(s, is_lower);
     *rows = inv_sub_planes(*rows);
+}
+
+/// SUBBYTES without the constant.
+#[inline(always)]
+pub fn sub_bytes<V: Lane8>(s: &mut State<V>)
+    ensures { (i : ℕ) (layout : Layout) → i < V.LANES
+        → reading layout V.lane s.new i ≡ map bare_sub_byte (reading layout V.lane s.old i) }
+{
+    sub_rows(&mut s.even);
+    sub_rows(&mut s.odd);
+}
+
+/// INVSUBBYTES of bytes that have the constant added.
+#[inline(always)]
+pub fn inv_sub_bytes<V: Lane8>(s: &mut State<V>)
+    ensures { (i : ℕ) (layout : Layout) → i < V.LANES
+        → reading layout V.lane s.new i ≡ map bare_inv_sub_byte (reading layout V.lane s.old i) }
+{
+    inv_sub_rows(&mut s.even);
+    inv_sub_rows(&mut s.odd);
 }

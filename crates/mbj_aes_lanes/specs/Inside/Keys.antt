@@ -1,45 +1,61 @@
 -- Round keys in bit planes.
-use Rattle.std.specs.Prelude.{ℕ, ◌+◌, Bool, false, List, map, slice_index, slice_index_or, take, Option, Some, None, if◌then◌else◌}
-use Rattle.std.specs.List.{flat_map, range_with_len}
+use Rattle.std.specs.Prelude.{ℕ, zero, suc, ◌+◌, ◌%◌, nat_eq, Bool, false, List, [], ◌∷◌, ◌++◌, map, slice_index, slice_index_or, take, Option, Some, None, bit_xor, if◌then◌else◌}
+use Rattle.std.specs.List.{range_with_len}
 use Rattle.mbj_types.specs.declared.kind.TheConstants.{AES_LANES}
 use Rattle.mbj_types.specs.Lanes.{lane_at}
-use Rattle.mbj_aes.specs.declared.octet.Octet.{Octet}
+use Rattle.mbj_aes.specs.declared.octet.TheConstants.{SBOX_CONSTANT}
 use Rattle.mbj_aes_lanes.specs.declared.state.State.{State}
-use Rattle.mbj_aes_lanes.specs.Inside.State.{state_bytes}
+use Rattle.mbj_aes_lanes.specs.declared.layout.Layout.{Layout}
+use Rattle.mbj_aes_lanes.specs.declared.layout.Layout.TheVariants.{Plain, Turned, Last}
+use Rattle.mbj_aes_lanes.specs.Inside.State.{octet_at, slots, block_from, reading}
 
--- the schedule in lane i of a list of round keys
-unfoldable pub schedule_in : {V : Type 0} → (V → ℕ → ℕ) → List (State V) → ℕ → List ℕ
-schedule_in lane keys i = flat_map (λ k. state_bytes lane k i) keys
+-- ---- what a round key is made into
 
--- ---- 16 plane bytes: planes 0 to 7 of rows 0 and 1, and then those of rows 2 and 3
+-- the layout of round key r of n rounds, which is that of the state after the round
+abbrev pub layout_of : ℕ → ℕ → Layout
+layout_of n r = if nat_eq r n then Last else if nat_eq (r % 2) 1 then Turned else Plain
 
--- eight of a list of plane bytes, from byte k on
-abbrev pub octet_from : List ℕ → ℕ → Octet ℕ
-octet_from xs k = record {
-  p0 = slice_index xs k;
-  p1 = slice_index xs (k + 1);
-  p2 = slice_index xs (k + 2);
-  p3 = slice_index xs (k + 3);
-  p4 = slice_index xs (k + 4);
-  p5 = slice_index xs (k + 5);
-  p6 = slice_index xs (k + 6);
-  p7 = slice_index xs (k + 7);
-}
+-- the constant of the S-box added to each byte
+abbrev pub with_constant : List ℕ → List ℕ
+with_constant b = map (λ x. bit_xor x SBOX_CONSTANT) b
 
--- the block that has these planes
-abbrev pub block_of_planes : Octet ℕ → Octet ℕ → List ℕ
-block_of_planes upper lower = state_bytes (λ x i. x) (record { upper = upper; lower = lower }) 0
+-- from round 1 on a round key has it added, since the S-box leaves it out
+abbrev pub without : ℕ → List ℕ → List ℕ
+without r b = if nat_eq r 0 then b else with_constant b
 
--- the block that has these plane bytes
+-- the round key r of n rounds whose bytes stand in the slots so
+abbrev pub key_from : ℕ → ℕ → List ℕ → List ℕ
+key_from n r xs = without r (block_from (layout_of n r) xs)
+
+-- round key r of n rounds that a state stands for in lane i
+unfoldable pub key_in : {V : Type 0} → (V → ℕ → ℕ) → ℕ → ℕ → State V → ℕ → List ℕ
+key_in lane n r key i = key_from n r (slots lane key i)
+
+-- the round keys from r on
+abbrev pub keys_from : {V : Type 0} → (V → ℕ → ℕ) → ℕ → ℕ → List (State V) → ℕ → List ℕ
+keys_from lane n r [] i = []
+keys_from lane n r (key ∷ keys) i = key_in lane n r key i ++ keys_from lane n (r + 1) keys i
+
+-- the schedule of n rounds in lane i of a list of round keys
+unfoldable pub schedule_in : {V : Type 0} → (V → ℕ → ℕ) → ℕ → List (State V) → ℕ → List ℕ
+schedule_in lane n keys i = keys_from lane n 0 keys i
+
+-- ---- 16 plane bytes: planes 0 to 7 of the even rows, and then those of the odd rows
+
+-- the state that has these planes, of one lane
+abbrev pub state_of_planes : List ℕ → State ℕ
+state_of_planes xs = record { even = octet_at (slice_index xs) 0; odd = octet_at (slice_index xs) 8 }
+
+-- the bytes that have these planes, by their slots
 unfoldable pub unplaned : List ℕ → List ℕ
-unplaned xs = block_of_planes (octet_from xs 0) (octet_from xs 8)
+unplaned xs = slots (λ x i. x) (state_of_planes xs) 0
 
 -- ---- what the lanes hold of which some were put
 
 -- the schedule in lane i, where it was put
 abbrev pub held_lane : ℕ → List (State (List ℕ)) → List Bool → ℕ → Option (List ℕ)
 held_lane rounds keys put i =
-    if slice_index_or put i false then Some (schedule_in (lane_at 8) (take (rounds + 1) keys) i) else None
+    if slice_index_or put i false then Some (schedule_in (lane_at 8) rounds (take (rounds + 1) keys) i) else None
 
 unfoldable pub held_lanes : ℕ → List (State (List ℕ)) → List Bool → List (Option (List ℕ))
 held_lanes rounds keys put = map (held_lane rounds keys put) (range_with_len 0 AES_LANES)
