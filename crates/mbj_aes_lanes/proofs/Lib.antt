@@ -2,6 +2,7 @@ pub mod Blends
 pub mod ByteMatrices
 pub mod ChainedEnds
 pub mod Chains
+pub mod Constants
 pub mod EachPlace
 pub mod Exchanges
 pub mod FullLanes
@@ -10,11 +11,14 @@ pub mod KeySchedules
 pub mod KeyStreams
 pub mod LaneWords
 pub mod Matrices
-pub mod MixedPlanes
+pub mod ColumnBytes
 pub mod PlaneBytes
+pub mod PlaneColumns
 pub mod RoundByRound
 pub mod RoundKeys
 pub mod SameKeys
+pub mod XorSums
+pub mod SlotLists
 pub mod StatePlanes
 pub mod MovedSlots
 pub mod WrittenKeys

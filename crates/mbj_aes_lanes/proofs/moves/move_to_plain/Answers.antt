@@ -7,12 +7,12 @@ pub returns : goal.returns
 unfolding reading
 returns g c i h =
     rw (
-      c.moved_octet.ensures i 0 h (omega arith),
-      c.moved_octet.ensures i 1 h (omega arith),
-      c.moved_octet.ensures i 2 h (omega arith),
-      c.moved_octet.ensures i 3 h (omega arith),
-      c.moved_octet.ensures i 4 h (omega arith),
-      c.moved_octet.ensures i 5 h (omega arith),
-      c.moved_octet.ensures i 6 h (omega arith),
-      c.moved_octet.ensures i 7 h (omega arith),
+      c.moved_octet-s.ensures i 0 h (omega arith),
+      c.moved_octet-s.ensures i 1 h (omega arith),
+      c.moved_octet-s.ensures i 2 h (omega arith),
+      c.moved_octet-s.ensures i 3 h (omega arith),
+      c.moved_octet-s.ensures i 4 h (omega arith),
+      c.moved_octet-s.ensures i 5 h (omega arith),
+      c.moved_octet-s.ensures i 6 h (omega arith),
+      c.moved_octet-s.ensures i 7 h (omega arith),
     ) refl
