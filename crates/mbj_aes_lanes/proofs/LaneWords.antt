@@ -2,30 +2,15 @@
 use Rattle.std.proofs.Common.{◌≡◌, ℕ, ◌+◌, ◌<◌, ◌≤◌, List, [], ◌∷◌, length, take, drop, slice_index, slice_set, refl, sym, ap, ◌∙◌, arith, length-drop}
 use Rattle.std.proofs.lemmas.List.{get_or-drop, get_or-take, length-take-le}
 use Rattle.mbj_types.specs.Lanes.{lane_of}
-use Rattle.mbj_aes_lanes.specs.Inside.State.{rows_from}
 
 -- byte k of the 16 from `start` on
-slice_index-part : (ys : List ℕ) (start k at : ℕ) → at ≡ start + k → k < 16
+pub slice_index-part : (ys : List ℕ) (start k at : ℕ) → at ≡ start + k → k < 16
     → slice_index ys at ≡ slice_index (take 16 (drop start ys)) k
 slice_index-part ys start k at e h =
     ap (slice_index ys) e ∙ sym (get_or-drop start ys k 0) ∙ sym (get_or-take 16 (drop start ys) k 0 h)
 
 pub length-part : (ys : List ℕ) (start : ℕ) → start + 16 ≤ length ys → length (take 16 (drop start ys)) ≡ 16
 length-part ys start h = length-take-le 16 (drop start ys) (omega (arith, length-drop start ys))
-
-pub rows_from-part : (ys : List ℕ) (start k at : ℕ) → at ≡ start + k → k ≤ 2
-    → rows_from ys at ≡ rows_from (take 16 (drop start ys)) k
-rows_from-part ys start k at e h =
-    rw (
-      slice_index-part ys start k at e (omega arith),
-      slice_index-part ys start (k + 4) (at + 4) (omega arith) (omega arith),
-      slice_index-part ys start (k + 8) (at + 8) (omega arith) (omega arith),
-      slice_index-part ys start (k + 12) (at + 12) (omega arith) (omega arith),
-      slice_index-part ys start (k + 1) (at + 1) (omega arith) (omega arith),
-      slice_index-part ys start (k + 5) (at + 5) (omega arith) (omega arith),
-      slice_index-part ys start (k + 9) (at + 9) (omega arith) (omega arith),
-      slice_index-part ys start (k + 13) (at + 13) (omega arith) (omega arith),
-    ) refl
 
 -- sixteen lane words written one after another
 pub lane_of-written : {V : Type 0} (lane : V → ℕ → ℕ) (words : List V) (v0 v1 v2 v3 v4 v5 v6 v7 v8 v9 v10 v11 v12 v13 v14 v15 : V) (i : ℕ)

@@ -7,9 +7,11 @@ pub mod EachPlace
 pub mod Exchanges
 pub mod FullLanes
 pub mod HeldKeys
+pub mod KeyLayouts
 pub mod KeySchedules
 pub mod KeyStreams
 pub mod LaneWords
+pub mod LayoutTables
 pub mod Matrices
 pub mod ColumnBytes
 pub mod PlaneBytes
@@ -18,6 +20,7 @@ pub mod RoundByRound
 pub mod RoundKeys
 pub mod SameKeys
 pub mod XorSums
+pub mod ShiftedRows
 pub mod SlotLists
 pub mod StatePlanes
 pub mod MovedSlots

@@ -86,3 +86,8 @@ reading-xor lane s k r i layout even odd =
 pub length-reading : {V : Type 0} (lane : V → ℕ → ℕ) (s : State V) (i : ℕ) (layout : Layout) → length (reading layout lane s i) ≡ 16
 unfolding reading
 length-reading lane s i layout = refl
+
+pub length-reading-xor : {V : Type 0} (lane : V → ℕ → ℕ) (s key : State V) (i : ℕ) (layout : Layout)
+    → length (xor_lists (reading layout lane s i) (reading layout lane key i)) ≡ 16
+unfolding reading
+length-reading-xor lane s key i layout = refl

@@ -65,12 +65,23 @@ fn in_slots(block: u8x16, layout: Layout) -> u8x16
     }
 }
 
+// The constant of the S-box added to each byte.
+#[inline(always)]
+fn bytes_with_constant(bytes: u8x16) -> u8x16
+    ensures { result ≡ with_constant bytes }
+{
+    bytes ^ u8x16::splat(SBOX_CONSTANT)
+}
+
 /// The bytes of round key `r` of so many rounds, slot by slot.
 #[inline(always)]
 pub fn key_in_slots(key: &[u8; 16], r: usize, rounds: usize) -> [u8; 16]
     ensures { key_from rounds r result ≡ key.now }
 {
-    let constant = if r == 0 { 0 } else { SBOX_CONSTANT };
     let bytes = in_slots(vector_of(key), layout_of(r, rounds));
-    (bytes ^ u8x16::splat(constant)).to_array()
+    if r == 0 {
+        bytes.to_array()
+    } else {
+        bytes_with_constant(bytes).to_array()
+    }
 }
