@@ -16,8 +16,9 @@ pub mod Matrices
 pub mod ColumnBytes
 pub mod PlaneBytes
 pub mod PlaneColumns
-pub mod RoundByRound
+
 pub mod RoundKeys
+pub mod RoundPairs
 pub mod SameKeys
 pub mod XorSums
 pub mod ShiftedRows

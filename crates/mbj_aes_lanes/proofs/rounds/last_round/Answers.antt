@@ -13,7 +13,7 @@ pub returns : goal.returns
 returns g c i h =
     let lane = g.V.Lane8.lane in
     let key : List ℕ = last_bytes lane c.args.key.now i in
-    c.add_round_key-s.ensures i Last h
+    c.add_round_key.ensures i Last h
     ∙ ap (λ (s : List ℕ). xor_lists s key) (last-turned lane c.sub_bytes.new.s i)
     ∙ ap (λ (s : List ℕ). xor_lists (shift_rows s) key) (c.sub_bytes.ensures i Turned h)
     ∙ last_round-bare (turned_bytes lane c.args.s.now i) key (length-reading lane c.args.s.now i Turned)

@@ -14,5 +14,5 @@ returns g c i h =
     let lane = g.V.Lane8.lane in
     c.inv_sub_bytes.ensures i Turned h
     ∙ ap (map bare_inv_sub_byte)
-    (turned-last lane c.add_round_key-s.result i ∙ ap inv_shift_rows (c.add_round_key-s.ensures i Last h))
+    (turned-last lane c.add_round_key.result i ∙ ap inv_shift_rows (c.add_round_key.ensures i Last h))
     ∙ undone_last_round-bare (last_bytes lane c.args.s.now i) (last_bytes lane c.args.key.now i) (length-reading-xor lane c.args.s.now c.args.key.now i Last)
