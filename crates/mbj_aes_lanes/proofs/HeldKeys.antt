@@ -23,7 +23,7 @@ held_lanes-at rounds keys put i h =
 
 -- a lane whose flag is known
 held_lane-put : (rounds : ℕ) (keys : List (State (List ℕ))) (put : List Bool) (i : ℕ) → get_or put i false ≡ true
-    → held_lane rounds keys put i ≡ Some (schedule_in (lane_at 8) (take (rounds + 1) keys) i)
+    → held_lane rounds keys put i ≡ Some (schedule_in (lane_at 8) rounds (take (rounds + 1) keys) i)
 held_lane-put rounds keys put i e = rw e refl
 
 held_lane-not_put : (rounds : ℕ) (keys : List (State (List ℕ))) (put : List Bool) (i : ℕ) → get_or put i false ≡ false
@@ -41,7 +41,7 @@ held_lanes-none rounds keys =
 
 -- the same schedule was put in each lane
 pub held_lanes-all : (rounds : ℕ) (keys : List (State (List ℕ))) (w : List ℕ)
-    → ((i : ℕ) → i < AES_LANES → schedule_in (lane_at 8) (take (rounds + 1) keys) i ≡ w)
+    → ((i : ℕ) → i < AES_LANES → schedule_in (lane_at 8) rounds (take (rounds + 1) keys) i ≡ w)
     → held_lanes rounds keys (replicate AES_LANES true) ≡ replicate AES_LANES (Some w)
 unfolding held_lanes
 held_lanes-all rounds keys w each =
@@ -53,16 +53,16 @@ held_lanes-all rounds keys w each =
 
 -- each lane was put
 pub held_lanes-each : (rounds : ℕ) (keys : List (State (List ℕ))) (i : ℕ) → i < AES_LANES
-    → get_or (held_lanes rounds keys (replicate AES_LANES true)) i no_schedule ≡ Some (schedule_in (lane_at 8) (take (rounds + 1) keys) i)
+    → get_or (held_lanes rounds keys (replicate AES_LANES true)) i no_schedule ≡ Some (schedule_in (lane_at 8) rounds (take (rounds + 1) keys) i)
 held_lanes-each rounds keys i h =
     held_lanes-at rounds keys (replicate AES_LANES true) i h
     ∙ held_lane-put rounds keys (replicate AES_LANES true) i (get_or-replicate AES_LANES i true false h)
 
 -- one lane more was put
 pub held_lanes-put : (rounds : ℕ) (old now : List (State (List ℕ))) (put : List Bool) (lane : ℕ) (w : List ℕ) → length put ≡ AES_LANES
-    → lane < AES_LANES → schedule_in (lane_at 8) (take (rounds + 1) now) lane ≡ w
+    → lane < AES_LANES → schedule_in (lane_at 8) rounds (take (rounds + 1) now) lane ≡ w
     → ((i : ℕ) → i < AES_LANES → i ≢ lane
-    → schedule_in (lane_at 8) (take (rounds + 1) now) i ≡ schedule_in (lane_at 8) (take (rounds + 1) old) i)
+    → schedule_in (lane_at 8) rounds (take (rounds + 1) now) i ≡ schedule_in (lane_at 8) rounds (take (rounds + 1) old) i)
     → held_lanes rounds now (set put lane true) ≡ set (held_lanes rounds old put) lane (Some w)
 unfolding held_lanes
 held_lanes-put rounds old now put lane w size inside here elsewhere =
@@ -84,7 +84,7 @@ held_lanes-put rounds old now put lane w size inside here elsewhere =
 
 by_flag : (rounds : ℕ) (keys : List (State (List ℕ))) (put : List Bool) (i : ℕ) (flag : Bool) → get_or put i false ≡ flag
     → i < AES_LANES → IsSome (get_or (held_lanes rounds keys put) i no_schedule)
-    → schedule_in (lane_at 8) (take (rounds + 1) keys) i ≡ unwrap_or (get_or (held_lanes rounds keys put) i no_schedule) []
+    → schedule_in (lane_at 8) rounds (take (rounds + 1) keys) i ≡ unwrap_or (get_or (held_lanes rounds keys put) i no_schedule) []
 by_flag rounds keys put i true e h some =
     sym (ap (λ o. unwrap_or o []) (held_lanes-at rounds keys put i h ∙ held_lane-put rounds keys put i e))
 by_flag rounds keys put i false e h some =
@@ -95,5 +95,5 @@ by_flag rounds keys put i false e h some =
 -- the schedule in a lane that was put
 pub held_schedule : (rounds : ℕ) (keys : List (State (List ℕ))) (put : List Bool) (i : ℕ) → i < AES_LANES
     → IsSome (get_or (held_lanes rounds keys put) i no_schedule)
-    → schedule_in (lane_at 8) (take (rounds + 1) keys) i ≡ unwrap_or (get_or (held_lanes rounds keys put) i no_schedule) []
+    → schedule_in (lane_at 8) rounds (take (rounds + 1) keys) i ≡ unwrap_or (get_or (held_lanes rounds keys put) i no_schedule) []
 held_schedule rounds keys put i h some = by_flag rounds keys put i (get_or put i false) refl h some

@@ -25,4 +25,3 @@ pub mod ShiftedRows
 pub mod SlotLists
 pub mod StatePlanes
 pub mod MovedSlots
-pub mod WrittenKeys

@@ -21,5 +21,5 @@ returns c =
     ap₂ (λ rounds lanes. record { rounds = rounds; lanes = lanes }) count
     (held_lanes-all rounds (keys ++ rest) w
     (λ i h.
-    schedule_in-written (lane_at 8) m (length old) i keys rest c.planes_of-planes.result w size many (omega arith) (omega arith)
-    c.planes_of-planes.ensures.keys (c.write_all_lanes.ensures i h)))
+    schedule_in-written (lane_at 8) m rounds i keys rest c.planes_of-planes.result w size (omega arith) count
+    c.planes_of-planes.ensures.keys (λ r d lt. c.write_all_lanes.ensures i r d h (omega arith))))

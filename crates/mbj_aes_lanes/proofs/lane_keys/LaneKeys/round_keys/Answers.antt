@@ -1,7 +1,16 @@
 -- A lane that was put holds its schedule.
+use Rattle.std.proofs.Common.{◌≡◌, ◌≢◌, ℕ, ◌+◌, ◌-◌, ◌%◌, List, length, take, inl, inr, sym, ap, ◌∙◌, arith}
+use Rattle.std.proofs.lemmas.List.{length-take-le}
+use Rattle.mbj_types.specs.Lanes.{lane_at}
+use Rattle.mbj_aes_lanes.specs.Inside.Keys.{schedule_in}
 use Rattle.mbj_aes_lanes.proofs.HeldKeys.{held_schedule}
 use Rattle.mbj_aes_lanes.proofs.lane_keys.LaneKeys.round_keys.Goals as goal
 
 pub returns-clause-schedules : goal.returns-clause-schedules
 returns-clause-schedules c =
-    rw (← c.self.view_is) (λ i h some. held_schedule c.self.inside.rounds c.self.inside.round_keys c.self.inside.put i h some)
+    let keys = take (c.self.inside.rounds + 1) c.self.inside.round_keys in
+    let count : length keys - 1 ≡ c.self.inside.rounds = omega (arith, length-take-le (c.self.inside.rounds + 1) c.self.inside.round_keys (omega arith)) in
+    rw (← c.self.view_is)
+    (λ i h some.
+    ap (λ (n : ℕ). schedule_in (lane_at 8) n keys i) count
+    ∙ held_schedule c.self.inside.rounds c.self.inside.round_keys c.self.inside.put i h some)
