@@ -13,6 +13,7 @@ entries-preserved g c =
       asked = λ some. omega (arith, c.key.ensures.length, c.rounds-rounds.ensures.length);
       least = c.rounds-rounds.ensures.least;
       most = c.rounds-rounds.ensures.most;
+      even = omega (arith, c.rounds-rounds.ensures.count);
       lengths = λ k d lt inside. elim (cases_eq k i) [
         | inl same ↦
             rw same
