@@ -1,10 +1,10 @@
 -- A column of four bytes mixed, and unmixed, by sums of bytes that are two rows apart.
-use Rattle.std.proofs.Common.{◌≡◌, ℕ, ◌<◌, [], ◌∷◌, refl, sym, ap, ap₂, ◌∙◌, arith, bit_xor}
+use Rattle.std.proofs.Common.{◌≡◌, ℕ, ◌<◌, [], ◌∷◌, refl, sym, ap, ap₂, ◌∙◌, bit_xor}
 use Rattle.std.proofs.lemmas.Nat.{xor_lt}
 use Rattle.mbj_types.specs.Aes.{xtime, mixed_byte, inv_mixed_byte}
 use Rattle.mbj_aes.proofs.Circulants.{IsColumn, turned, spread_byte, mixed_after_spread}
 use Rattle.mbj_aes.proofs.FieldProducts.{times_2, times_3, times-xor, xtime_small, spread_is}
-use Rattle.mbj_aes_lanes.proofs.XorSums.{Sum, term, plus, same_sum}
+use Rattle.mbj_aes_lanes.proofs.XorSums.{term, plus, same_sum}
 
 -- the product by x of a sum
 pub xtime-xor : (a b : ℕ) → a < 256 → b < 256 → xtime (bit_xor a b) ≡ bit_xor (xtime a) (xtime b)
@@ -99,8 +99,12 @@ unmixed-sums a b c d h =
     ap (λ (x : ℕ). bit_xor x (bit_xor (spread_sum b d) (bit_xor (spread_sum c a) (spread_sum d b))))
     (sym (xtime-xor (spread_sum a c) (spread_sum b d) sa sb))
     ∙ mixed_byte-sums (spread_sum a c) (spread_sum b d) (spread_sum c a) (spread_sum d b) sa sb
-    ∙ rw (spread_sum_is a b c d h.first h.third, spread_sum_is b c d a h.second h.fourth,
-    spread_sum_is c d a b h.third h.first, spread_sum_is d a b c h.fourth h.second) refl
+    ∙ rw (
+      spread_sum_is a b c d h.first h.third,
+      spread_sum_is b c d a h.second h.fourth,
+      spread_sum_is c d a b h.third h.first,
+      spread_sum_is d a b c h.fourth h.second,
+    ) refl
     ∙ mixed_after_spread a b c d h
 
 -- the double of a sum of four

@@ -3,12 +3,11 @@ use Rattle.std.proofs.Common.{◌≡◌, ℕ, List, [], ◌∷◌, ◌++◌, len
 use lib.Bits.{xor_assoc, xor_comm}
 use Rattle.mbj_types.specs.Blocks.{xor_lists}
 use Rattle.mbj_types.specs.Aes.{times, sub_byte, sub_bytes, shift_rows, mix_columns, mixed_byte, inv_sub_byte, inv_sub_bytes, inv_shift_rows, inv_mix_columns, inv_mixed_byte, full_round, undone_round}
-
 use Rattle.mbj_aes.specs.declared.octet.TheConstants.{SBOX_CONSTANT}
 use Rattle.mbj_aes.proofs.FieldProducts.{times-xor}
 use Rattle.mbj_aes_lanes.specs.Inside.Rounds.{bare_sub_byte, bare_inv_sub_byte}
 use Rattle.mbj_aes_lanes.specs.Inside.Keys.{with_constant}
-use Rattle.mbj_aes_lanes.proofs.XorSums.{Sum, term, plus, same_sum}
+use Rattle.mbj_aes_lanes.proofs.XorSums.{term, plus, same_sum}
 
 abbrev k : ℕ
 k = SBOX_CONSTANT

@@ -1,5 +1,5 @@
 -- Round keys in their layouts, and with the constant of the S-box added.
-use Rattle.std.proofs.Common.{◌≡◌, ◌≢◌, ℕ, ◌+◌, ◌-◌, ◌*◌, ◌%◌, ◌<◌, ◌≤◌, List, [], ◌∷◌, length, map, slice_index, nat_eq, refl, sym, ap, ap₂, ◌∙◌, arith, bit_xor, inl, inr, eq-eqb}
+use Rattle.std.proofs.Common.{◌≡◌, ◌≢◌, ℕ, ◌%◌, ◌<◌, ◌≤◌, List, [], ◌∷◌, length, map, slice_index, refl, sym, ap, ap₂, ◌∙◌, arith, inl, inr, eq-eqb}
 use Rattle.std.proofs.lemmas.Bool.{cases_eq, ne_eqb}
 use Rattle.mbj_aes.specs.declared.octet.TheConstants.{SBOX_CONSTANT}
 use Rattle.mbj_aes.proofs.States.{picked-all}

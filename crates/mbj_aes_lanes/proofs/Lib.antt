@@ -16,7 +16,6 @@ pub mod Matrices
 pub mod ColumnBytes
 pub mod PlaneBytes
 pub mod PlaneColumns
-
 pub mod RoundKeys
 pub mod RoundPairs
 pub mod SameKeys

@@ -1,7 +1,7 @@
 -- CIPHER and INVCIPHER, round by round.
-use Rattle.std.proofs.Common.{◌≡◌, ℕ, suc, ◌+◌, ◌-◌, List, refl, ap, ◌∙◌, arith}
+use Rattle.std.proofs.Common.{◌≡◌, ℕ, suc, ◌+◌, ◌-◌, List, refl, ap, arith}
 use Rattle.mbj_types.specs.Blocks.{xor_lists}
-use Rattle.mbj_types.specs.Aes.{round_key, full_round, after_rounds, undone_rounds, cipher, inv_cipher, sub_bytes, shift_rows, undone_round}
+use Rattle.mbj_types.specs.Aes.{round_key, full_round, after_rounds, undone_rounds, cipher, sub_bytes, shift_rows, undone_round}
 
 -- ---- encryption
 

@@ -5,10 +5,10 @@ use Rattle.mbj_aes_lanes.specs.declared.state.State.{State}
 use Rattle.mbj_aes_lanes.specs.Inside.State.{reading, turned_bytes, last_bytes}
 
 module _ {V : Type 0} (lane : V → ℕ → ℕ) (s : State V) (i : ℕ) where
-  pub last-turned : last_bytes lane s i ≡ shift_rows (turned_bytes lane s i)
+  pub last_is_shifted : last_bytes lane s i ≡ shift_rows (turned_bytes lane s i)
   unfolding reading
-  last-turned = refl
+  last_is_shifted = refl
 
-  pub turned-last : turned_bytes lane s i ≡ inv_shift_rows (last_bytes lane s i)
+  pub turned_is_shifted_back : turned_bytes lane s i ≡ inv_shift_rows (last_bytes lane s i)
   unfolding reading
-  turned-last = refl
+  turned_is_shifted_back = refl

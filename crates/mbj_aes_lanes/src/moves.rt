@@ -85,5 +85,9 @@ pub fn pair_sum<V: Lane8>(x: V, is_odd: bool) -> V
     ensures { (i t : ℕ) → i < V.LANES → t < 8 → nth_bit (V.lane result i) t
         ≡ xor_bits (nth_bit (V.lane x i) t) (nth_bit (V.lane x i) (pair_of is_odd t)) }
 {
-    if is_odd { near_pair_sum(x) } else { far_pair_sum(x) }
+    if is_odd {
+        near_pair_sum(x)
+    } else {
+        far_pair_sum(x)
+    }
 }

@@ -50,7 +50,11 @@ pub fn key_at<V: Lane8>(words: &[V], start: usize, r: usize, rounds: usize) -> S
         → key_in V.lane rounds r result i ≡ take 16 (drop start (lane_of V.lane words.now i)) }
 {
     let key = state_at(words, start, layout_of(r, rounds));
-    if r == 0 { key } else { state_with_constant(key) }
+    if r == 0 {
+        key
+    } else {
+        state_with_constant(key)
+    }
 }
 
 // The bytes of a block, slot by slot.

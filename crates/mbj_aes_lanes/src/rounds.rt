@@ -31,6 +31,16 @@ fn even_linear_layer<V: Lane8>(s: &mut State<V>, key: &State<V>)
     mix_halves(&mut s.even, &mut s.odd, &key.even, &key.odd, false);
 }
 
+// The same of the last one, which mixes no columns. The last layout reads the rows as shifted.
+#[tactic(auto, using(crate::proofs::ShiftedRows::last_is_shifted))]
+#[inline(always)]
+fn last_linear_layer<V: Lane8>(s: &mut State<V>, key: &State<V>)
+    ensures { (i : ℕ) → i < V.LANES → last_bytes V.lane s.new i
+        ≡ xor_lists (shift_rows (turned_bytes V.lane s.old i)) (last_bytes V.lane key.now i) }
+{
+    *s = add_round_key(*s, *key);
+}
+
 /// An odd round.
 #[inline(always)]
 pub fn odd_round<V: Lane8>(s: &mut State<V>, key: &State<V>)
@@ -51,14 +61,25 @@ pub fn even_round<V: Lane8>(s: &mut State<V>, key: &State<V>)
     even_linear_layer(s, key);
 }
 
-/// The last round: SUBBYTES, SHIFTROWS, which the last layout is, and ADDROUNDKEY.
+/// The last round.
 #[inline(always)]
 pub fn last_round<V: Lane8>(s: &mut State<V>, key: &State<V>)
     ensures { (i : ℕ) → i < V.LANES → last_bytes V.lane s.new i
         ≡ xor_lists (shift_rows (sub_bytes (turned_bytes V.lane s.old i))) (with_constant (last_bytes V.lane key.now i)) }
 {
     sub_bytes(s);
-    *s = add_round_key(*s, *key);
+    last_linear_layer(s, key);
+}
+
+// ADDROUNDKEY and INVSHIFTROWS of the last round. The turned layout reads the rows as shifted back.
+#[tactic(auto, using(crate::proofs::ShiftedRows::turned_is_shifted_back))]
+#[inline(always)]
+fn undo_last_linear_layer<V: Lane8>(s: &mut State<V>, key: &State<V>)
+    ensures { (i : ℕ) → i < V.LANES → turned_bytes V.lane s.new i
+        ≡ inv_shift_rows (xor_lists (last_bytes V.lane s.old i) (last_bytes V.lane key.now i)) }
+{
+    let added = add_round_key(*s, *key);
+    *s = added;
 }
 
 // ADDROUNDKEY, INVMIXCOLUMNS and INVSHIFTROWS of an odd round.
@@ -115,7 +136,7 @@ pub fn undo_last_round<V: Lane8>(s: &mut State<V>, key: &State<V>)
     ensures { (i : ℕ) → i < V.LANES → turned_bytes V.lane s.new i
         ≡ inv_sub_bytes (inv_shift_rows (xor_lists (last_bytes V.lane s.old i) (with_constant (last_bytes V.lane key.now i)))) }
 {
-    *s = add_round_key(*s, *key);
+    undo_last_linear_layer(s, key);
     inv_sub_bytes(s);
 }
 

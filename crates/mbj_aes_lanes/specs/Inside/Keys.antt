@@ -1,5 +1,5 @@
 -- Round keys in bit planes.
-use Rattle.std.specs.Prelude.{ℕ, zero, suc, ◌+◌, ◌%◌, nat_eq, Bool, false, List, [], ◌∷◌, ◌++◌, map, slice_index, slice_index_or, take, Option, Some, None, bit_xor, if◌then◌else◌}
+use Rattle.std.specs.Prelude.{ℕ, ◌+◌, ◌%◌, nat_eq, Bool, false, List, [], ◌∷◌, ◌++◌, map, slice_index, slice_index_or, take, Option, Some, None, bit_xor, if◌then◌else◌}
 use Rattle.std.specs.List.{range_with_len}
 use Rattle.mbj_types.specs.declared.kind.TheConstants.{AES_LANES}
 use Rattle.mbj_types.specs.Lanes.{lane_at}
@@ -7,7 +7,7 @@ use Rattle.mbj_aes.specs.declared.octet.TheConstants.{SBOX_CONSTANT}
 use Rattle.mbj_aes_lanes.specs.declared.state.State.{State}
 use Rattle.mbj_aes_lanes.specs.declared.layout.Layout.{Layout}
 use Rattle.mbj_aes_lanes.specs.declared.layout.Layout.TheVariants.{Plain, Turned, Last}
-use Rattle.mbj_aes_lanes.specs.Inside.State.{octet_at, slots, block_from, reading}
+use Rattle.mbj_aes_lanes.specs.Inside.State.{octet_at, slots, block_from}
 
 -- ---- what a round key is made into
 

@@ -1,5 +1,5 @@
 -- Slots between two layouts, and the slots of a column.
-use Rattle.std.specs.Prelude.{ℕ, ◌+◌, ◌-◌, ◌*◌, ◌%◌, nat_lt, Bool, List, [], ◌∷◌, slice_index, if◌then◌else◌}
+use Rattle.std.specs.Prelude.{ℕ, ◌+◌, ◌-◌, ◌*◌, ◌%◌, nat_lt, Bool, [], ◌∷◌, slice_index, if◌then◌else◌}
 
 -- the odd rows from one layout to the next: where what then stands in slot t came from
 abbrev pub moved_from : ℕ → ℕ

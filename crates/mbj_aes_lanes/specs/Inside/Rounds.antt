@@ -1,6 +1,6 @@
 -- A byte between two rounds of AES, since the S-box of the lanes leaves out its constant (FIPS 197, 5.1.1), which the round keys
 -- have added.
-use Rattle.std.specs.Prelude.{ℕ, List, map, bit_xor}
+use Rattle.std.specs.Prelude.{ℕ, bit_xor}
 use Rattle.mbj_types.specs.Aes.{sub_byte, inv_sub_byte}
 use Rattle.mbj_aes.specs.declared.octet.TheConstants.{SBOX_CONSTANT}
 

@@ -1,5 +1,5 @@
 -- One round key more is written in each turn.
-use Rattle.std.proofs.Common.{◌≢◌, ℕ, inl, inr, ap, ◌∙◌, arith, get_or-set_same, get_or-set_other}
+use Rattle.std.proofs.Common.{ℕ, inl, inr, ap, ◌∙◌, arith, get_or-set_same, get_or-set_other}
 use Rattle.std.proofs.lemmas.Bool.{cases_eq}
 use Rattle.mbj_aes_lanes.specs.Inside.State.{slots}
 use Rattle.mbj_aes_lanes.proofs.key_planes.write_all_lanes.Goals as goal

@@ -1,5 +1,5 @@
 -- CIPHER, pair of rounds by pair of rounds, in each lane.
-use Rattle.std.proofs.Common.{◌≡◌, ℕ, ◌+◌, ◌-◌, ◌*◌, ◌/◌, ◌%◌, ◌<◌, List, length, refl, arith, sym, ap, ap₂, ◌∙◌}
+use Rattle.std.proofs.Common.{◌≡◌, ℕ, ◌+◌, ◌-◌, ◌*◌, ◌/◌, List, length, refl, arith, sym, ap, ap₂, ◌∙◌}
 use Rattle.std.proofs.lemmas.List.{take_all}
 use Rattle.mbj_types.specs.Blocks.{xor_lists}
 use Rattle.mbj_types.specs.Aes.{shift_rows, sub_bytes, full_round, after_rounds, cipher, encipher}

@@ -1,5 +1,5 @@
 -- One round key of each lane more is written in each turn.
-use Rattle.std.proofs.Common.{◌≡◌, ◌≢◌, ℕ, ◌+◌, ◌-◌, ◌*◌, List, length, map, inl, inr, ap, ◌∙◌, arith, get_or-set_same, get_or-set_other}
+use Rattle.std.proofs.Common.{◌≡◌, ℕ, ◌+◌, ◌-◌, ◌*◌, List, length, map, inl, inr, ap, ◌∙◌, arith, get_or-set_same, get_or-set_other}
 use Rattle.std.proofs.lemmas.Bool.{cases_eq}
 use Rattle.mbj_aes_lanes.specs.Chaining.{in_lane}
 use Rattle.mbj_aes_lanes.specs.Inside.Keys.{key_in, schedule_in}

@@ -1,5 +1,5 @@
 -- The key in its layout, from round 1 on with the constant added.
-use Rattle.std.proofs.Common.{◌≡◌, ℕ, List, take, drop, sym, ap, ◌∙◌}
+use Rattle.std.proofs.Common.{ℕ, List, take, drop, sym, ap, ◌∙◌}
 use Rattle.mbj_types.specs.Lanes.{lane_of}
 use Rattle.mbj_aes_lanes.specs.declared.layout.Layout.{Layout}
 use Rattle.mbj_aes_lanes.specs.Inside.State.{reading}

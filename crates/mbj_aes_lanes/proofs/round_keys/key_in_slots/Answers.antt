@@ -1,7 +1,7 @@
 -- The bytes in the slots of the layout.
-use Rattle.std.proofs.Common.{◌≡◌, ℕ, List, map, slice_index, ap, ap₂, ◌∙◌}
+use Rattle.std.proofs.Common.{map, slice_index, ap, ap₂, ◌∙◌}
 use Rattle.mbj_aes_lanes.specs.Inside.State.{table}
-use Rattle.mbj_aes_lanes.specs.Inside.Keys.{layout_of, with_constant}
+use Rattle.mbj_aes_lanes.specs.Inside.Keys.{with_constant}
 use Rattle.mbj_aes_lanes.proofs.KeyLayouts.{key_from-first, key_from-later}
 use Rattle.mbj_aes_lanes.proofs.round_keys.key_in_slots.Goals as goal
 

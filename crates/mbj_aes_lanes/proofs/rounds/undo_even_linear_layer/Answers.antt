@@ -1,5 +1,5 @@
 -- The sixteen bytes, each unmixed in its column and moved back.
-use Rattle.std.proofs.Common.{ap, refl, ◌∙◌, arith}
+use Rattle.std.proofs.Common.{ap, arith}
 use Rattle.mbj_types.specs.Aes.{inv_shift_rows, inv_mix_columns}
 use Rattle.mbj_aes_lanes.specs.declared.layout.Layout.TheVariants.{Plain}
 use Rattle.mbj_aes_lanes.specs.Inside.State.{reading}

@@ -1,6 +1,5 @@
 -- INVSUBBYTES of bytes that have the constant, as the key gave it.
-use Rattle.std.proofs.Common.{ℕ, List, length, map, refl, sym, ap, ◌∙◌}
-use Rattle.mbj_types.specs.Blocks.{xor_lists}
+use Rattle.std.proofs.Common.{map, ap, ◌∙◌}
 use Rattle.mbj_aes_lanes.specs.declared.layout.Layout.TheVariants.{Plain, Turned}
 use Rattle.mbj_aes_lanes.specs.Inside.State.{turned_bytes}
 use Rattle.mbj_aes_lanes.specs.Inside.Rounds.{bare_inv_sub_byte}

@@ -1,7 +1,6 @@
 -- The sums are those of the bytes of a column.
 use Rattle.std.proofs.Common.{ℕ}
 use Rattle.mbj_aes.specs.Planes.Bytes.{byte_at}
-use Rattle.mbj_aes.proofs.Circulants.{IsColumn}
 use Rattle.mbj_aes.proofs.Octets.{byte_at-lt}
 use Rattle.mbj_aes_lanes.specs.Inside.Moves.{pair_of}
 use Rattle.mbj_aes_lanes.proofs.ColumnBytes.{first_unmixed_is, second_unmixed_is}
