@@ -121,56 +121,55 @@ fn mixed_reduced<V: Lane8>(before: Parts<V>, highest: Parts<V>, here: Parts<V>) 
 }
 
 /// What a round does after SUBBYTES, but for the last one: moves the odd rows, mixes the columns and adds a key. The halves are
-/// the odd rows and the even rows in an odd round, and the other way round in an even one. Each plane is written as soon as it
-/// is known. The highest one comes first, since it is reduced into others.
+/// the odd rows and the even rows in an odd round, and the other way round in an even one; each kind of round has a body of its
+/// own. Each plane is written as soon as it is known. The highest one comes first, since it is reduced into others.
 #[inline(always)]
-pub fn mix_halves<V: Lane8>(
+pub fn mix_halves<V: Lane8, const IS_ODD: bool>(
     x: &mut Octet<V>,
     y: &mut Octet<V>,
     first_key: &Octet<V>,
     second_key: &Octet<V>,
-    is_odd: bool,
 )
     ensures first { (i t : ℕ) → i < V.LANES → t < 8 → byte_at V.lane x.new i t
         ≡ bit_xor
-        (mixed_byte (byte_at V.lane x.old i (first_from is_odd t)) (byte_at V.lane y.old i (second_from is_odd t))
-        (byte_at V.lane x.old i (first_from is_odd (pair_of is_odd t)))
-        (byte_at V.lane y.old i (second_from is_odd (pair_of is_odd t))))
+        (mixed_byte (byte_at V.lane x.old i (first_from IS_ODD t)) (byte_at V.lane y.old i (second_from IS_ODD t))
+        (byte_at V.lane x.old i (first_from IS_ODD (pair_of IS_ODD t)))
+        (byte_at V.lane y.old i (second_from IS_ODD (pair_of IS_ODD t))))
         (byte_at V.lane first_key.now i t) }
     ensures second { (i t : ℕ) → i < V.LANES → t < 8 → byte_at V.lane y.new i t
         ≡ bit_xor
-        (mixed_byte (byte_at V.lane y.old i (second_from is_odd t))
-        (byte_at V.lane x.old i (first_from is_odd (pair_of is_odd t)))
-        (byte_at V.lane y.old i (second_from is_odd (pair_of is_odd t)))
-        (byte_at V.lane x.old i (first_from is_odd t)))
+        (mixed_byte (byte_at V.lane y.old i (second_from IS_ODD t))
+        (byte_at V.lane x.old i (first_from IS_ODD (pair_of IS_ODD t)))
+        (byte_at V.lane y.old i (second_from IS_ODD (pair_of IS_ODD t)))
+        (byte_at V.lane x.old i (first_from IS_ODD t)))
         (byte_at V.lane second_key.now i t) }
 {
-    let m7 = parts_of(x.p7, y.p7, is_odd);
-    let m0 = parts_of(x.p0, y.p0, is_odd);
+    let m7 = parts_of(x.p7, y.p7, IS_ODD);
+    let m0 = parts_of(x.p0, y.p0, IS_ODD);
     let p0 = mixed_after(m7, m0);
     x.p0 = xor(p0.first, first_key.p0);
     y.p0 = xor(p0.second, second_key.p0);
-    let m1 = parts_of(x.p1, y.p1, is_odd);
+    let m1 = parts_of(x.p1, y.p1, IS_ODD);
     let p1 = mixed_reduced(m0, m7, m1);
     x.p1 = xor(p1.first, first_key.p1);
     y.p1 = xor(p1.second, second_key.p1);
-    let m2 = parts_of(x.p2, y.p2, is_odd);
+    let m2 = parts_of(x.p2, y.p2, IS_ODD);
     let p2 = mixed_after(m1, m2);
     x.p2 = xor(p2.first, first_key.p2);
     y.p2 = xor(p2.second, second_key.p2);
-    let m3 = parts_of(x.p3, y.p3, is_odd);
+    let m3 = parts_of(x.p3, y.p3, IS_ODD);
     let p3 = mixed_reduced(m2, m7, m3);
     x.p3 = xor(p3.first, first_key.p3);
     y.p3 = xor(p3.second, second_key.p3);
-    let m4 = parts_of(x.p4, y.p4, is_odd);
+    let m4 = parts_of(x.p4, y.p4, IS_ODD);
     let p4 = mixed_reduced(m3, m7, m4);
     x.p4 = xor(p4.first, first_key.p4);
     y.p4 = xor(p4.second, second_key.p4);
-    let m5 = parts_of(x.p5, y.p5, is_odd);
+    let m5 = parts_of(x.p5, y.p5, IS_ODD);
     let p5 = mixed_after(m4, m5);
     x.p5 = xor(p5.first, first_key.p5);
     y.p5 = xor(p5.second, second_key.p5);
-    let m6 = parts_of(x.p6, y.p6, is_odd);
+    let m6 = parts_of(x.p6, y.p6, IS_ODD);
     let p6 = mixed_after(m5, m6);
     x.p6 = xor(p6.first, first_key.p6);
     y.p6 = xor(p6.second, second_key.p6);

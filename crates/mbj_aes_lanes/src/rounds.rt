@@ -19,7 +19,7 @@ fn odd_linear_layer<V: Lane8>(s: &mut State<V>, key: &State<V>)
     ensures { (i : ℕ) → i < V.LANES → turned_bytes V.lane s.new i
         ≡ xor_lists (mix_columns (shift_rows (plain_bytes V.lane s.old i))) (turned_bytes V.lane key.now i) }
 {
-    mix_halves(&mut s.odd, &mut s.even, &key.odd, &key.even, true);
+    mix_halves::<V, true>(&mut s.odd, &mut s.even, &key.odd, &key.even);
 }
 
 // The same of an even one.
@@ -28,7 +28,7 @@ fn even_linear_layer<V: Lane8>(s: &mut State<V>, key: &State<V>)
     ensures { (i : ℕ) → i < V.LANES → plain_bytes V.lane s.new i
         ≡ xor_lists (mix_columns (shift_rows (turned_bytes V.lane s.old i))) (plain_bytes V.lane key.now i) }
 {
-    mix_halves(&mut s.even, &mut s.odd, &key.even, &key.odd, false);
+    mix_halves::<V, false>(&mut s.even, &mut s.odd, &key.even, &key.odd);
 }
 
 // The same of the last one, which mixes no columns. The last layout reads the rows as shifted.

@@ -1,5 +1,6 @@
 -- The bytes of a column, of which each plane has a bit.
-use Rattle.std.proofs.Common.{ℕ}
+use Rattle.std.proofs.Common.{ℕ, Bool}
+use Rattle.std.specs.Prelude.{not, nat_eq}
 use Rattle.mbj_aes.specs.declared.octet.Octet.{Octet}
 use Rattle.mbj_aes.specs.Planes.Bytes.{bits_at, byte_at}
 use Rattle.mbj_aes.proofs.Octets.{AreBits-across}
@@ -11,11 +12,12 @@ pub returns-clause-first : goal.returns-clause-first
 unfolding byte_at
 returns-clause-first g c i t h k =
     let lane = g.V.Lane8.lane in
-    let p : ℕ = pair_of c.args.is_odd t in
-    let a : Octet ℕ = bits_at lane c.args.x.now i (first_from c.args.is_odd t) in
-    let b : Octet ℕ = bits_at lane c.args.y.now i (second_from c.args.is_odd t) in
-    let d : Octet ℕ = bits_at lane c.args.x.now i (first_from c.args.is_odd p) in
-    let e : Octet ℕ = bits_at lane c.args.y.now i (second_from c.args.is_odd p) in
+    let is_odd : Bool = not (nat_eq g.row.IS_ODD 0) in
+    let p : ℕ = pair_of is_odd t in
+    let a : Octet ℕ = bits_at lane c.args.x.now i (first_from is_odd t) in
+    let b : Octet ℕ = bits_at lane c.args.y.now i (second_from is_odd t) in
+    let d : Octet ℕ = bits_at lane c.args.x.now i (first_from is_odd p) in
+    let e : Octet ℕ = bits_at lane c.args.y.now i (second_from is_odd p) in
     let column : AreColumn a b d e = record {
       first = AreBits-across _ _;
       second = AreBits-across _ _;
@@ -78,11 +80,12 @@ pub returns-clause-second : goal.returns-clause-second
 unfolding byte_at
 returns-clause-second g c i t h k =
     let lane = g.V.Lane8.lane in
-    let p : ℕ = pair_of c.args.is_odd t in
-    let a : Octet ℕ = bits_at lane c.args.x.now i (first_from c.args.is_odd t) in
-    let b : Octet ℕ = bits_at lane c.args.y.now i (second_from c.args.is_odd t) in
-    let d : Octet ℕ = bits_at lane c.args.x.now i (first_from c.args.is_odd p) in
-    let e : Octet ℕ = bits_at lane c.args.y.now i (second_from c.args.is_odd p) in
+    let is_odd : Bool = not (nat_eq g.row.IS_ODD 0) in
+    let p : ℕ = pair_of is_odd t in
+    let a : Octet ℕ = bits_at lane c.args.x.now i (first_from is_odd t) in
+    let b : Octet ℕ = bits_at lane c.args.y.now i (second_from is_odd t) in
+    let d : Octet ℕ = bits_at lane c.args.x.now i (first_from is_odd p) in
+    let e : Octet ℕ = bits_at lane c.args.y.now i (second_from is_odd p) in
     let column : AreColumn a b d e = record {
       first = AreBits-across _ _;
       second = AreBits-across _ _;
