@@ -1,6 +1,7 @@
 -- What the authentications are: whatever depends on a job's authentication goes by the cases of its class.
 use Rattle.std.specs.Prelude.{ℕ, Bool, true, false, Option, Some, None, IsSome}
 use Rattle.mbj_types.specs.Hmac.{Hash, sha1_hash, sha224_hash, sha256_hash, sha384_hash, sha512_hash}
+use Rattle.mbj_types.specs.States.{Compression, sha1_compression, sha224_compression, sha256_compression, sha384_compression, sha512_compression}
 use Rattle.mbj_types.specs.declared.class.AuthClass.{AuthClass}
 use Rattle.mbj_types.specs.declared.class.AuthClass.TheVariants as class
 use Rattle.mbj_types.specs.declared.class.CmacKey.{CmacKey}
@@ -29,6 +30,11 @@ class_of auth.Sha256 = class.Plain Sha256
 class_of auth.Sha384 = class.Plain Sha384
 class_of auth.Sha512 = class.Plain Sha512
 class_of auth.Gmac = class.Gmac
+class_of auth.HmacSha1States = class.States Sha1
+class_of auth.HmacSha224States = class.States Sha224
+class_of auth.HmacSha256States = class.States Sha256
+class_of auth.HmacSha384States = class.States Sha384
+class_of auth.HmacSha512States = class.States Sha512
 
 -- ---- hashes
 
@@ -38,6 +44,13 @@ hash_of_name Sha224 = sha224_hash
 hash_of_name Sha256 = sha256_hash
 hash_of_name Sha384 = sha384_hash
 hash_of_name Sha512 = sha512_hash
+
+abbrev pub compression_of_name : HashName → Compression
+compression_of_name Sha1 = sha1_compression
+compression_of_name Sha224 = sha224_compression
+compression_of_name Sha256 = sha256_compression
+compression_of_name Sha384 = sha384_compression
+compression_of_name Sha512 = sha512_compression
 
 -- the kind of lanes in which a hash is computed
 abbrev pub hash_kind : HashName → Kind
@@ -56,6 +69,7 @@ hash_in class.Gcm = None
 hash_in class.Ccm = None
 hash_in (class.Plain h) = None
 hash_in class.Gmac = None
+hash_in (class.States h) = None
 
 abbrev pub hash_of : Auth → Option Hash
 hash_of a = hash_in (class_of a)
@@ -72,6 +86,7 @@ plain_hash_in class.Gcm = None
 plain_hash_in class.Ccm = None
 plain_hash_in (class.Plain h) = Some (hash_of_name h)
 plain_hash_in class.Gmac = None
+plain_hash_in (class.States h) = None
 
 abbrev pub plain_hash_of : Auth → Option Hash
 plain_hash_of a = plain_hash_in (class_of a)
@@ -84,6 +99,31 @@ is_plain class.Gcm = false
 is_plain class.Ccm = false
 is_plain (class.Plain h) = true
 is_plain class.Gmac = false
+is_plain (class.States h) = false
+
+-- the hash of an HMAC from states, as it goes on by blocks; the others have none
+abbrev pub states_hash_in : AuthClass → Option Compression
+states_hash_in class.Null = None
+states_hash_in (class.Hmac h) = None
+states_hash_in (class.Cmac k) = None
+states_hash_in class.Gcm = None
+states_hash_in class.Ccm = None
+states_hash_in (class.Plain h) = None
+states_hash_in class.Gmac = None
+states_hash_in (class.States h) = Some (compression_of_name h)
+
+abbrev pub states_hash_of : Auth → Option Compression
+states_hash_of a = states_hash_in (class_of a)
+
+abbrev pub is_from_states : AuthClass → Bool
+is_from_states class.Null = false
+is_from_states (class.Hmac h) = false
+is_from_states (class.Cmac k) = false
+is_from_states class.Gcm = false
+is_from_states class.Ccm = false
+is_from_states (class.Plain h) = false
+is_from_states class.Gmac = false
+is_from_states (class.States h) = true
 
 -- ---- keys of CMAC
 
@@ -95,6 +135,7 @@ IsCmac class.Gcm = ⊥
 IsCmac class.Ccm = ⊥
 IsCmac (class.Plain h) = ⊥
 IsCmac class.Gmac = ⊥
+IsCmac (class.States h) = ⊥
 
 abbrev pub cmac_key_bytes : CmacKey → ℕ
 cmac_key_bytes Aes128 = 16

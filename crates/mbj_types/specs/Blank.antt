@@ -1,5 +1,5 @@
 -- The job that does nothing.
-use Rattle.std.specs.Prelude.{[]}
+use Rattle.std.specs.Prelude.{[], None}
 use Rattle.mbj_types.specs.declared.job.Job.{Job}
 use Rattle.mbj_types.specs.declared.job.Cipher.TheVariants as cipher
 use Rattle.mbj_types.specs.declared.job.Dir.TheVariants as dir
@@ -22,4 +22,5 @@ blank = record {
   hash_len = 0;
   tag_len = 0;
   packet = [];
+  session = None;
 }

@@ -10,6 +10,7 @@ pub mod Ghash
 pub mod Gcm
 pub mod Ccm
 pub mod Hmac
+pub mod States
 pub mod Auths
 pub mod Rounds
 pub mod Verdict

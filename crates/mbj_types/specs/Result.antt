@@ -7,7 +7,8 @@ use Rattle.mbj_types.specs.Cmac.{cmac}
 use Rattle.mbj_types.specs.Gcm.{gcm, gmac}
 use Rattle.mbj_types.specs.Ccm.{ccm}
 use Rattle.mbj_types.specs.Hmac.{hmac}
-use Rattle.mbj_types.specs.Auths.{class_of, hash_of_name}
+use Rattle.mbj_types.specs.States.{hmac_from_states}
+use Rattle.mbj_types.specs.Auths.{class_of, compression_of_name, hash_of_name}
 use Rattle.mbj_types.specs.declared.class.AuthClass.{AuthClass}
 use Rattle.mbj_types.specs.declared.class.AuthClass.TheVariants as class
 use Rattle.mbj_types.specs.Verdict.{verdict}
@@ -70,6 +71,7 @@ mac_by class.Gcm j p = (gcm_of j p).1
 mac_by class.Ccm j p = (ccm_of j p).1
 mac_by (class.Plain h) j p = (hash_of_name h).digest (hash_range j p)
 mac_by class.Gmac j p = gmac (aes j.auth_key) j.iv (hash_range j p)
+mac_by (class.States h) j p = hmac_from_states (compression_of_name h) j.auth_key (hash_range j p)
 
 -- the tag over the packet p: the leftmost bytes
 unfoldable pub tag_over : Job → List ℕ → List ℕ
@@ -90,6 +92,7 @@ authenticated_by class.Gcm j = j.packet
 authenticated_by class.Ccm j = j.packet
 authenticated_by (class.Plain h) j = authenticated_in j.order j
 authenticated_by class.Gmac j = authenticated_in j.order j
+authenticated_by (class.States h) j = authenticated_in j.order j
 
 -- the result of a job that is accepted
 abbrev pub accepted : Job → Done

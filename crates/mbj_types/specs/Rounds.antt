@@ -1,6 +1,6 @@
 -- How many rounds a job takes in the lanes of its kind.
 use Rattle.std.specs.Prelude.{ℕ, ◌+◌, ◌/◌, nat_eq, length, max, if◌then◌else◌}
-use Rattle.mbj_types.specs.Auths.{class_of, is_plain}
+use Rattle.mbj_types.specs.Auths.{class_of, is_from_states, is_plain}
 use Rattle.mbj_types.specs.declared.class.AuthClass.{AuthClass}
 use Rattle.mbj_types.specs.declared.job.Job.{Job}
 use Rattle.mbj_types.specs.declared.kind.Kind.{Kind}
@@ -23,9 +23,16 @@ hash_rounds b n = (n + b / 8) / b + 1
 abbrev pub hmac_rounds : ℕ → ℕ → ℕ
 hmac_rounds b n = hash_rounds b n + 3
 
--- a digest or an HMAC
+-- HMAC over it from states, behind which a block lies already: one more for the block that holds the inner digest
+abbrev pub states_rounds : ℕ → ℕ → ℕ
+states_rounds b n = hash_rounds b n + 1
+
+-- a digest, an HMAC from states, or an HMAC
 abbrev pub auth_rounds : AuthClass → ℕ → ℕ → ℕ
-auth_rounds c b n = if is_plain c then hash_rounds b n else hmac_rounds b n
+auth_rounds c b n =
+    if is_plain c then hash_rounds b n
+    else if is_from_states c then states_rounds b n
+    else hmac_rounds b n
 
 -- CCM's additional data of a bytes: one for each block of it and the 2 bytes of its length, and none where there is no data
 abbrev pub data_rounds : ℕ → ℕ

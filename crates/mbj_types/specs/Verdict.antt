@@ -1,7 +1,7 @@
 -- The argument table: the reason for which a job is refused, or none. Sums are whole numbers and never wrap.
-use Rattle.std.specs.Prelude.{ℕ, ◌+◌, ◌%◌, ◌==◌, ◌&&◌, ◌||◌, Bool, true, false, not, nat_lt, nat_le, List, [], ◌∷◌, length, Option, Some, None, if◌then◌else◌}
+use Rattle.std.specs.Prelude.{ℕ, ◌+◌, ◌*◌, ◌%◌, ◌==◌, ◌&&◌, ◌||◌, Bool, true, false, not, nat_lt, nat_le, List, [], ◌∷◌, length, Option, Some, None, if◌then◌else◌}
 use Rattle.mbj_types.specs.Aes.{is_key_size}
-use Rattle.mbj_types.specs.Auths.{class_of, cmac_key_bytes, hash_of_name}
+use Rattle.mbj_types.specs.Auths.{class_of, cmac_key_bytes, compression_of_name, hash_of_name}
 use Rattle.mbj_types.specs.declared.class.AuthClass.{AuthClass}
 use Rattle.mbj_types.specs.declared.class.AuthClass.TheVariants as class
 use Rattle.mbj_types.specs.declared.job.Job.{Job}
@@ -58,6 +58,7 @@ is_gcm_auth class.Gcm = true
 is_gcm_auth class.Ccm = false
 is_gcm_auth (class.Plain h) = false
 is_gcm_auth class.Gmac = false
+is_gcm_auth (class.States h) = false
 
 abbrev pub is_ccm_auth : AuthClass → Bool
 is_ccm_auth class.Null = false
@@ -67,6 +68,7 @@ is_ccm_auth class.Gcm = false
 is_ccm_auth class.Ccm = true
 is_ccm_auth (class.Plain h) = false
 is_ccm_auth class.Gmac = false
+is_ccm_auth (class.States h) = false
 
 abbrev pub is_gmac : AuthClass → Bool
 is_gmac class.Null = false
@@ -76,6 +78,7 @@ is_gmac class.Gcm = false
 is_gmac class.Ccm = false
 is_gmac (class.Plain h) = false
 is_gmac class.Gmac = true
+is_gmac (class.States h) = false
 
 -- whether it is over the hash range
 abbrev pub has_hash_range : AuthClass → Bool
@@ -86,8 +89,9 @@ has_hash_range class.Gcm = false
 has_hash_range class.Ccm = false
 has_hash_range (class.Plain h) = true
 has_hash_range class.Gmac = true
+has_hash_range (class.States h) = true
 
--- keys of n bytes
+-- keys of n bytes: an HMAC from states has the inner state and the outer state
 abbrev pub takes_auth_key : AuthClass → ℕ → Bool
 takes_auth_key class.Null n = true
 takes_auth_key (class.Hmac h) n = nat_le n MAX_HMAC_KEY_BYTES
@@ -96,6 +100,7 @@ takes_auth_key class.Gcm n = true
 takes_auth_key class.Ccm n = true
 takes_auth_key (class.Plain h) n = true
 takes_auth_key class.Gmac n = is_key_size n
+takes_auth_key (class.States h) n = n == 2 * (compression_of_name h).state_bytes
 
 -- initialization vectors of n bytes: GMAC alone has one
 abbrev pub takes_auth_iv : AuthClass → ℕ → Bool
@@ -106,6 +111,7 @@ takes_auth_iv class.Gcm n = true
 takes_auth_iv class.Ccm n = true
 takes_auth_iv (class.Plain h) n = true
 takes_auth_iv class.Gmac n = nat_lt 0 n && nat_le n MAX_IV_BYTES
+takes_auth_iv (class.States h) n = true
 
 -- tags of n bytes
 abbrev pub takes_tag : AuthClass → ℕ → Bool
@@ -116,6 +122,7 @@ takes_tag class.Gcm n = nat_lt 0 n && nat_le n 16
 takes_tag class.Ccm n = nat_le 4 n && nat_le n 16 && n % 2 == 0
 takes_tag (class.Plain h) n = nat_lt 0 n && nat_le n (hash_of_name h).digest_bytes
 takes_tag class.Gmac n = nat_lt 0 n && nat_le n 16
+takes_tag (class.States h) n = nat_lt 0 n && nat_le n (hash_of_name h).digest_bytes
 
 -- ---- the table
 

@@ -1,7 +1,7 @@
 //! What the authentications are: whatever depends on a job's authentication goes by its class.
 
 ghost use Rattle.std.specs.Prelude.{◌≡◌};
-ghost use Rattle.mbj_types.specs.Auths.{class_of, cmac_key_bytes, cmac_kind, hash_kind, hash_of_name};
+ghost use Rattle.mbj_types.specs.Auths.{class_of, cmac_key_bytes, cmac_kind, compression_of_name, hash_kind, hash_of_name};
 
 use crate::job::Auth;
 use crate::kind::Kind;
@@ -37,6 +37,17 @@ impl HashName {
         match self {
             HashName::Sha1 | HashName::Sha224 | HashName::Sha256 => 64,
             HashName::Sha384 | HashName::Sha512 => 128,
+        }
+    }
+
+    /// The length of a stored state, in bytes: a hash value, whole (FIPS 180-4, 6).
+    pub fn state_bytes(&self) -> usize
+        ensures { result ≡ (compression_of_name self.now).state_bytes }
+    {
+        match self {
+            HashName::Sha1 => 20,
+            HashName::Sha224 | HashName::Sha256 => 32,
+            HashName::Sha384 | HashName::Sha512 => 64,
         }
     }
 
@@ -100,6 +111,8 @@ pub enum AuthClass {
     Plain(HashName),
     /// GMAC (SP 800-38D, 3.1).
     Gmac,
+    /// HMAC over a hash from stored states (RFC 2104, 4).
+    States(HashName),
 }
 
 impl Auth {
@@ -124,6 +137,11 @@ impl Auth {
             Auth::Sha384 => AuthClass::Plain(HashName::Sha384),
             Auth::Sha512 => AuthClass::Plain(HashName::Sha512),
             Auth::Gmac => AuthClass::Gmac,
+            Auth::HmacSha1States => AuthClass::States(HashName::Sha1),
+            Auth::HmacSha224States => AuthClass::States(HashName::Sha224),
+            Auth::HmacSha256States => AuthClass::States(HashName::Sha256),
+            Auth::HmacSha384States => AuthClass::States(HashName::Sha384),
+            Auth::HmacSha512States => AuthClass::States(HashName::Sha512),
         }
     }
 }

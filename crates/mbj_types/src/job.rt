@@ -73,6 +73,16 @@ pub enum Auth {
     Sha512,
     /// GMAC (SP 800-38D, 3.1): the tag of Galois/counter mode over data alone, under a key of its own.
     Gmac,
+    /// HMAC with SHA-1 from stored states (RFC 2104, 4).
+    HmacSha1States,
+    /// HMAC with SHA-224 from stored states.
+    HmacSha224States,
+    /// HMAC with SHA-256 from stored states.
+    HmacSha256States,
+    /// HMAC with SHA-384 from stored states.
+    HmacSha384States,
+    /// HMAC with SHA-512 from stored states.
+    HmacSha512States,
 }
 
 impl fmt::Display for Auth {
@@ -94,6 +104,11 @@ impl fmt::Display for Auth {
             Auth::Sha384 => "SHA-384",
             Auth::Sha512 => "SHA-512",
             Auth::Gmac => "AES-GMAC",
+            Auth::HmacSha1States => "HMAC-SHA-1 from states",
+            Auth::HmacSha224States => "HMAC-SHA-224 from states",
+            Auth::HmacSha256States => "HMAC-SHA-256 from states",
+            Auth::HmacSha384States => "HMAC-SHA-384 from states",
+            Auth::HmacSha512States => "HMAC-SHA-512 from states",
         })
     }
 }
@@ -117,7 +132,8 @@ pub struct Job {
     /// The length of that range, in bytes.
     pub cipher_len: u32,
     pub auth: Auth,
-    /// The key of an HMAC, a CMAC or GMAC.
+    /// The key of an HMAC, a CMAC or GMAC. For an HMAC from states it is the inner state and the outer state behind it, each a whole
+    /// hash value as its words, big-endian: 40 bytes for SHA-1, 64 for SHA-224 and SHA-256, 128 for SHA-384 and SHA-512.
     pub auth_key: Bytes,
     /// The additional authenticated data of GCM, of at most 65,535 bytes, or of CCM, of at most 65,279.
     pub aad: Bytes,
@@ -128,6 +144,9 @@ pub struct Job {
     /// The length of the tag, in bytes. CCM's tag has 4, 6, 8, 10, 12, 14 or 16.
     pub tag_len: u8,
     pub packet: Bytes,
+    /// The number of the shared session whose key is `key`, if there is one. It says only where an expanded key may be found:
+    /// `key` decides, and no result depends on the number.
+    pub session: Option<u32>,
 }
 
 impl Job {
@@ -150,6 +169,7 @@ impl Job {
             hash_len: 0,
             tag_len: 0,
             packet: Bytes::from_vec(Vec::new(alloc)),
+            session: None,
         }
     }
 
@@ -174,6 +194,7 @@ impl Job {
             hash_len: self.hash_len,
             tag_len: self.tag_len,
             packet: self.packet.copy(alloc)?,
+            session: self.session,
         })
     }
 }

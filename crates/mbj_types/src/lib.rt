@@ -30,7 +30,7 @@ pub use lane32::Lane32;
 pub use lane64::Lane64;
 pub use limits::{
     MAX_AAD_BYTES, MAX_CCM_AAD_BYTES, MAX_HMAC_KEY_BYTES, MAX_IV_BYTES, MAX_PACKET_BYTES,
-    MAX_TAG_BYTES, limits_are_these_numbers,
+    MAX_SESSIONS, MAX_TAG_BYTES, limits_are_these_numbers,
 };
 pub use reason::Reason;
 pub use refusal::{PostFull, RingFull};

@@ -19,7 +19,10 @@ pub const MAX_HMAC_KEY_BYTES: usize = 1_024;
 /// The longest tag, in bytes: the digest of SHA-512.
 pub const MAX_TAG_BYTES: usize = 64;
 
-/// A law: the limits on a job are these numbers, which the argument table takes from the constants.
+/// The most sessions of shared keys. They are numbered from 0.
+pub const MAX_SESSIONS: usize = 256;
+
+/// A law: the limits are these numbers, which the argument table and the readers of files take from the constants.
 pub fn limits_are_these_numbers()
     ensures packet { MAX_PACKET_BYTES ≡ 65535 }
     ensures iv { MAX_IV_BYTES ≡ 65535 }
@@ -27,4 +30,5 @@ pub fn limits_are_these_numbers()
     ensures ccm_aad { MAX_CCM_AAD_BYTES ≡ 65279 }
     ensures hmac_key { MAX_HMAC_KEY_BYTES ≡ 1024 }
     ensures tag { MAX_TAG_BYTES ≡ 64 }
+    ensures sessions { MAX_SESSIONS ≡ 256 }
 {}

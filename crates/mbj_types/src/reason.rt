@@ -20,7 +20,8 @@ pub enum Reason {
     CipherRange,
     /// The cipher range has a length that the cipher doesn't take.
     CipherLength,
-    /// The authentication's key has a length that it doesn't take.
+    /// The authentication's key has a length that it doesn't take. An HMAC from states takes two states: 40 bytes for SHA-1, 64 for
+    /// SHA-224 and SHA-256, 128 for SHA-384 and SHA-512.
     AuthKey,
     /// The hash range passes the packet's end.
     HashRange,
