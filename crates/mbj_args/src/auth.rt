@@ -16,7 +16,8 @@ pub(crate) fn is_gcm(class: AuthClass) -> bool
         | AuthClass::Cmac(_)
         | AuthClass::Ccm
         | AuthClass::Plain(_)
-        | AuthClass::Gmac => false,
+        | AuthClass::Gmac
+        | AuthClass::States(_) => false,
     }
 }
 
@@ -30,7 +31,8 @@ pub(crate) fn is_ccm(class: AuthClass) -> bool
         | AuthClass::Cmac(_)
         | AuthClass::Gcm
         | AuthClass::Plain(_)
-        | AuthClass::Gmac => false,
+        | AuthClass::Gmac
+        | AuthClass::States(_) => false,
     }
 }
 
@@ -44,7 +46,8 @@ pub(crate) fn is_gmac(class: AuthClass) -> bool
         | AuthClass::Cmac(_)
         | AuthClass::Gcm
         | AuthClass::Ccm
-        | AuthClass::Plain(_) => false,
+        | AuthClass::Plain(_)
+        | AuthClass::States(_) => false,
     }
 }
 
@@ -54,7 +57,11 @@ pub(crate) fn has_hash_range(class: AuthClass) -> bool
 {
     match class {
         AuthClass::Null | AuthClass::Gcm | AuthClass::Ccm => false,
-        AuthClass::Hmac(_) | AuthClass::Cmac(_) | AuthClass::Plain(_) | AuthClass::Gmac => true,
+        AuthClass::Hmac(_)
+        | AuthClass::Cmac(_)
+        | AuthClass::Plain(_)
+        | AuthClass::Gmac
+        | AuthClass::States(_) => true,
     }
 }
 
@@ -68,12 +75,14 @@ pub(crate) fn takes_iv(class: AuthClass, len: usize) -> bool
         | AuthClass::Cmac(_)
         | AuthClass::Gcm
         | AuthClass::Ccm
-        | AuthClass::Plain(_) => true,
+        | AuthClass::Plain(_)
+        | AuthClass::States(_) => true,
         AuthClass::Gmac => len > 0 && len <= MAX_IV_BYTES,
     }
 }
 
-/// Authentication keys of this many bytes: a digest doesn't look at one.
+/// Authentication keys of this many bytes: a digest doesn't look at one, and an HMAC from states takes the inner state and the outer
+/// state, together 40 bytes for SHA-1, 64 for SHA-224 and SHA-256, and 128 for SHA-384 and SHA-512.
 pub(crate) fn takes_key(class: AuthClass, len: usize) -> bool
     ensures { result ≡ takes_auth_key class len }
 {
@@ -82,17 +91,20 @@ pub(crate) fn takes_key(class: AuthClass, len: usize) -> bool
         AuthClass::Hmac(_) => len <= MAX_HMAC_KEY_BYTES,
         AuthClass::Cmac(key) => len == key.bytes(),
         AuthClass::Gmac => is_aes_key(len),
+        AuthClass::States(hash) => len == 2 * hash.state_bytes(),
     }
 }
 
-/// Tags of this many bytes: up to a hash's digest for it and its HMAC, and up to a block for CMAC, GCM and GMAC. CCM's have an even number of
+/// Tags of this many bytes: up to a hash's digest for it and its HMACs, and up to a block for CMAC, GCM and GMAC. CCM's have an even number of
 /// them, 4 at least (SP 800-38C, A.1).
 pub(crate) fn takes_tag(class: AuthClass, len: u8) -> bool
     ensures { result ≡ takes_tag class len }
 {
     match class {
         AuthClass::Null => len == 0,
-        AuthClass::Hmac(hash) | AuthClass::Plain(hash) => len > 0 && len <= hash.digest_bytes(),
+        AuthClass::Hmac(hash) | AuthClass::Plain(hash) | AuthClass::States(hash) => {
+            len > 0 && len <= hash.digest_bytes()
+        }
         AuthClass::Cmac(_) | AuthClass::Gcm | AuthClass::Gmac => {
             len > 0 && len as usize <= BLOCK_BYTES
         }
