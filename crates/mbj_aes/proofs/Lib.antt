@@ -16,5 +16,8 @@ pub mod AesLaws
 pub mod Bits
 pub mod Octets
 pub mod SBoxCircuit
+pub mod SBoxRows
 pub mod RoundConstants
 pub mod LowestBits
+mod VectorLanes
+mod Turns

@@ -1,7 +1,8 @@
-ghost use Rattle.std.specs.Prelude.{◌≡◌, ◌+◌, ◌*◌, ◌-◌, ◌<◌, ◌≤◌, ◌++◌, length, take, drop, replicate, ◌/◌};
+ghost use Rattle.std.specs.Prelude.{◌≡◌, ◌+◌, ◌*◌, ◌-◌, ◌%◌, ◌<◌, ◌≤◌, ◌++◌, length, take, drop, replicate, ◌/◌};
 ghost use Rattle.mbj_types.specs.Blocks.{xor_lists};
 ghost use Rattle.mbj_types.specs.Aes.{word, sub_bytes, rot_word, rcon, schedule_term, round_count, key_schedule};
 ghost use Rattle.mbj_aes.specs.Bytes.{IsKeySize, IsKeyWords};
+ghost use Rattle.mbj_aes.specs.Inside.Turns.{IsTurn};
 ghost use Rattle.mbj_aes.specs.declared.expansion.TheConstants.{MAX_SCHEDULE_BYTES};
 
 use crate::substitution::sub_word;
@@ -63,20 +64,50 @@ fn put_word(words: &mut [u8], i: usize, word: &[u8; 4])
     words[WORD_BYTES * i..WORD_BYTES * (i + 1)].copy_from_slice(word);
 }
 
-// What is added to word `i - key_words` to make word `i` of the schedule of a key of `key_words` words.
-fn schedule_term(words: &[u8], key_words: usize, i: usize) -> [u8; 4]
+// Where word `i` of a schedule stands, counted from the key on: its place in a turn of as many words as the key has, and the number
+// of the turn. It is counted on from word to word, since a division takes longer than the word.
+#[derive(Clone, Copy)]
+struct Turn {
+    place: usize,
+    number: usize,
+}
+
+// The turn of the next word.
+fn next_turn(turn: Turn, key_words: usize) -> Turn
     requires key { IsKeyWords key_words }
+    requires inside { turn.place < key_words }
+    requires few { turn.number < MAX_SCHEDULE_BYTES }
+    ensures place { result.place ≡ (turn.place + 1) % key_words }
+    ensures number { result.number ≡ turn.number + (turn.place + 1) / key_words }
+{
+    if turn.place + 1 == key_words {
+        Turn {
+            place: 0,
+            number: turn.number + 1,
+        }
+    } else {
+        Turn {
+            place: turn.place + 1,
+            ..turn
+        }
+    }
+}
+
+// What is added to word `i - key_words` to make word `i` of the schedule of a key of `key_words` words.
+fn schedule_term(words: &[u8], key_words: usize, i: usize, turn: Turn) -> [u8; 4]
+    requires key { IsKeyWords key_words }
+    requires turn { IsTurn key_words i turn }
     requires first { key_words ≤ i }
     requires last { i < 4 * (key_words + 7) }
     requires written { 4 * i ≤ length words.now }
     ensures { result ≡ schedule_term key_words words.now i }
 {
     let last = word_at(words, i - 1);
-    if i % key_words == 0 {
+    if turn.place == 0 {
         let mut term = sub_word(&rot_word(&last));
-        xor_in_place(&mut term, &round_constant(i / key_words));
+        xor_in_place(&mut term, &round_constant(turn.number));
         term
-    } else if key_words == 8 && i % 8 == 4 {
+    } else if key_words == 8 && turn.place == 4 {
         // Keys of 32 bytes have one substitution more, between two round constants.
         sub_word(&last)
     } else {
@@ -85,15 +116,16 @@ fn schedule_term(words: &[u8], key_words: usize, i: usize) -> [u8; 4]
 }
 
 // Word `i` of the schedule of a key of `key_words` words, from the words before it.
-fn next_word(words: &[u8], key_words: usize, i: usize) -> [u8; 4]
+fn next_word(words: &[u8], key_words: usize, i: usize, turn: Turn) -> [u8; 4]
     requires key { IsKeyWords key_words }
+    requires turn { IsTurn key_words i turn }
     requires first { key_words ≤ i }
     requires last { i < 4 * (key_words + 7) }
     requires written { 4 * i ≤ length words.now }
     ensures { result ≡ xor_lists (word words.now (i - key_words)) (schedule_term key_words words.now i) }
 {
     let mut word = word_at(words, i - key_words);
-    xor_in_place(&mut word, &schedule_term(words, key_words, i));
+    xor_in_place(&mut word, &schedule_term(words, key_words, i, turn));
     word
 }
 
@@ -115,9 +147,14 @@ pub fn expanded_key(key: &[u8]) -> [u8; MAX_SCHEDULE_BYTES]
 {
     let key_words = key.len() / WORD_BYTES;
     let mut bytes = key_and_zeros(key);
+    let mut turn = Turn {
+        place: 0,
+        number: 1,
+    };
     'words: for i in key_words..ROUND_WORDS * (round_count(key.len()) + 1) {
-        let word = next_word(&bytes, key_words, i);
+        let word = next_word(&bytes, key_words, i, turn);
         put_word(&mut bytes, i, &word);
+        turn = next_turn(turn, key_words);
     }
     bytes
 }
