@@ -8,7 +8,7 @@ use Rattle.mbj_aes_lanes.specs.Inside.Keys.{unplaned, key_from, key_in, schedule
 use Rattle.mbj_aes_lanes.proofs.RoundKeys.{schedule_in-each, round_key-schedule_in, length-schedule_in}
 
 module _ {V : Type 0} (lane : V → ℕ → ℕ) where
-  key_in-slots : (n r : ℕ) (key : State V) (i : ℕ) → key_in lane n r key i ≡ key_from n r (slots lane key i)
+  pub key_in-slots : (n r : ℕ) (key : State V) (i : ℕ) → key_in lane n r key i ≡ key_from n r (slots lane key i)
   unfolding key_in
   key_in-slots n r key i = refl
 

@@ -1,15 +1,10 @@
 -- Masks that are the key stream of counters, and texts that are xored with them.
-use Rattle.std.proofs.Common.{◌≡◌, ℕ, ◌+◌, ◌%◌, ◌^◌, ◌<◌, ◌≤◌, List, [], ◌∷◌, length, take, drop, replicate, get_or, sym, ap, ap₂, ◌∙◌, arith, length-drop}
+use Rattle.std.proofs.Common.{◌≡◌, ℕ, ◌+◌, ◌%◌, ◌^◌, ◌<◌, List, [], ◌∷◌, length, take, drop, get_or, sym, ap, ap₂, ◌∙◌, arith, length-drop}
 use Rattle.std.specs.Int.{w128, to_be_bytes}
-use Rattle.std.proofs.lemmas.List.{get_or-take, get_or-drop, length-take, length-take-le}
-use Rattle.mbj_types.specs.Blocks.{xor_lists, zero_block}
+use Rattle.std.proofs.lemmas.List.{get_or-take, get_or-drop, length-take}
+use Rattle.mbj_types.specs.Blocks.{xor_lists}
 use Rattle.mbj_types.specs.Modes.{ctr_blocks}
 use Rattle.mbj_aes_lanes.specs.Inside.KeyStream.{IsKeyStream}
-
--- the masks of a narrow pass, which take the first blocks of its room
-pub length-few_masks : (n : ℕ) (masks : List (List ℕ)) → n ≤ 16 → length masks ≡ length (take n (replicate 16 zero_block))
-    → length masks ≡ n
-length-few_masks n masks few size = size ∙ length-take-le n (replicate 16 zero_block) few
 
 -- the first masks
 pub IsKeyStream-take : (e : List ℕ → List ℕ) (t n : ℕ) (masks : List (List ℕ)) → IsKeyStream e t masks

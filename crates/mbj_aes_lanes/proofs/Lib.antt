@@ -16,6 +16,7 @@ pub mod Matrices
 pub mod ColumnBytes
 pub mod PlaneBytes
 pub mod PlaneColumns
+pub mod PlaneSchedules
 pub mod RoundKeys
 pub mod RoundPairs
 pub mod SameKeys

@@ -5,6 +5,7 @@ ghost use Rattle.mbj_aes_lanes.specs.KeyLanes.{IsFull, schedule_at};
 use crate::block_states::PassWord;
 use crate::lane_blocks::Blocks;
 use crate::lane_keys::LaneKeys;
+use crate::lane_schedules::RoundStates;
 use crate::layout::Layout;
 use crate::rounds::{decrypt, encrypt};
 use mbj_types::{AES_LANES, AesWord};
@@ -17,7 +18,10 @@ pub fn encrypt32(keys: &LaneKeys, blocks: &mut [[u8; 16]; AES_LANES])
     ensures lengths { (i : ℕ) → i < AES_LANES → length (slice_index_or blocks.new i []) ≡ 16 }
 {
     let mut state = AesWord::load(&Blocks { blocks }, Layout::Plain);
-    encrypt(keys.round_keys(), &mut state);
+    let keys = RoundStates {
+        keys: keys.round_keys(),
+    };
+    encrypt(&keys, &mut state);
     AesWord::store(blocks, &state, Layout::Last);
 }
 
@@ -29,6 +33,9 @@ pub fn decrypt32(keys: &LaneKeys, blocks: &mut [[u8; 16]; AES_LANES])
     ensures lengths { (i : ℕ) → i < AES_LANES → length (slice_index_or blocks.new i []) ≡ 16 }
 {
     let mut state = AesWord::load(&Blocks { blocks }, Layout::Last);
-    decrypt(keys.round_keys(), &mut state);
+    let keys = RoundStates {
+        keys: keys.round_keys(),
+    };
+    decrypt(&keys, &mut state);
     AesWord::store(blocks, &state, Layout::Plain);
 }

@@ -7,16 +7,13 @@ ghost use Rattle.mbj_types.specs.Aes.{encipher};
 ghost use Rattle.mbj_types.specs.Blocks.{blocks};
 ghost use Rattle.mbj_types.specs.Modes.{ctr_blocks};
 ghost use Rattle.mbj_blocks.specs.Walked.{Walked};
-ghost use Rattle.mbj_aes_lanes.specs.KeyLanes.{IsFull, same_keys};
 ghost use Rattle.mbj_aes_lanes.specs.Inside.KeyStream.{IsKeyStream};
 
-use crate::all_lanes::encrypt32;
-use crate::block_states::FEW_BLOCKS;
-use crate::lane_keys::LaneKeys;
-use crate::same::encrypt_same;
+use crate::block_states::{FEW_BLOCKS, FewWord, PassWord};
+use crate::text_key::{TextKey, encrypt_pass};
 use mbj_aes::Schedule;
 use mbj_blocks::xor_blocks;
-use mbj_types::{AES_LANES, BLOCK_BYTES};
+use mbj_types::{AES_LANES, AesWord, BLOCK_BYTES};
 use std::simd::u64x2;
 
 // The bytes of a counter in two halves, the highest first, by way of a vector: byte by byte they take a dozen times as
@@ -77,82 +74,67 @@ fn put_counters(blocks: &mut [[u8; 16]], counter: u128)
     }
 }
 
-// Writes the enciphered counters from `counter` on, as many as a narrow pass serves at most.
+// Writes the enciphered counters from `counter` on, one in each lane of a pass.
 #[inline(always)]
-fn put_few_masks(key: &Schedule, counter: u128, masks: &mut [[u8; 16]])
-    requires { length masks.old ≤ FEW_BLOCKS }
+fn put_masks<V: PassWord>(key: &TextKey, counter: u128, masks: &mut [[u8; 16]])
+    requires { length masks.old ≡ V.LANES }
     ensures masks { IsKeyStream (encipher key.now) counter masks.new }
     ensures lengths { All (λ b. length b ≡ 16) masks.new }
 {
     put_counters(masks, counter);
-    encrypt_same(key, masks);
-}
-
-// Writes the enciphered counters from `counter` on, one in each lane, where all lanes have the same key.
-#[inline(always)]
-fn put_masks(keys: &LaneKeys, counter: u128, masks: &mut [[u8; 16]; AES_LANES])
-    requires { IsFull keys.now }
-    ensures masks { (w : List ℕ) → keys.now ≡ same_keys w → IsKeyStream (encipher w) counter masks.new }
-    ensures lengths { All (λ b. length b ≡ 16) masks.new }
-{
-    put_counters(masks, counter);
-    encrypt32(keys, masks);
+    encrypt_pass::<V>(key, masks);
 }
 
 // A text of few blocks, in one narrow pass.
-fn xor_few(key: &Schedule, counter: u128, text: &mut [u8])
+fn xor_few(key: &TextKey, counter: u128, text: &mut [u8])
     requires { length text.old ≤ 16 * FEW_BLOCKS }
     ensures { text.new ≡ concat (ctr_blocks (encipher key.now) counter (blocks text.old)) }
 {
-    let mut room = [[0; BLOCK_BYTES]; FEW_BLOCKS];
-    let masks = &mut room[..text.len().div_ceil(BLOCK_BYTES)];
-    put_few_masks(key, counter, masks);
-    xor_blocks(text, 0, masks);
+    let mut masks = [[0; BLOCK_BYTES]; FEW_BLOCKS];
+    put_masks::<FewWord>(key, counter, &mut masks);
+    let many = text.len().div_ceil(BLOCK_BYTES);
+    xor_blocks(text, 0, &masks[..many]);
 }
 
 // An enciphered counter, and a text of few blocks from the next one on, in one narrow pass.
-fn xor_few_after(key: &Schedule, counter: u128, text: &mut [u8]) -> [u8; 16]
+fn xor_few_after(key: &TextKey, counter: u128, text: &mut [u8]) -> [u8; 16]
     requires { length text.old ≤ 16 * (FEW_BLOCKS - 1) }
     ensures mask { result ≡ encipher key.now (to_be_bytes w128 counter) }
     ensures text { text.new ≡ concat (ctr_blocks (encipher key.now) ((counter + 1) % 2 ^ 128) (blocks text.old)) }
 {
-    let mut room = [[0; BLOCK_BYTES]; FEW_BLOCKS];
-    let masks = &mut room[..text.len().div_ceil(BLOCK_BYTES) + 1];
-    put_few_masks(key, counter, masks);
-    xor_blocks(text, 0, &masks[1..]);
+    let mut masks = [[0; BLOCK_BYTES]; FEW_BLOCKS];
+    put_masks::<FewWord>(key, counter, &mut masks);
+    let many = text.len().div_ceil(BLOCK_BYTES);
+    xor_blocks(text, 0, &masks[1..many + 1]);
     masks[0]
 }
 
-// The blocks of a text from block `first` on, in wide passes, where all lanes have the same key.
-fn xor_from(keys: &LaneKeys, first_counter: u128, text: &mut [u8], first: usize)
-    requires keys { IsFull keys.now }
-    requires inside { first ≤ (length text.old + 15) / 16 }
-    ensures { (w whole : List ℕ) → keys.now ≡ same_keys w
-        → Walked (ctr_blocks (encipher w) first_counter) text.old first whole → text.new ≡ whole }
+// The blocks of a text from block `first` on, in wide passes.
+fn xor_from(key: &TextKey, first_counter: u128, text: &mut [u8], first: usize)
+    requires { first ≤ (length text.old + 15) / 16 }
+    ensures { (whole : List ℕ) → Walked (ctr_blocks (encipher key.now) first_counter) text.old first whole → text.new ≡ whole }
 {
     let left = text.len().div_ceil(BLOCK_BYTES) - first;
     let mut counter = first_counter;
     'batches: for b in 0..left.div_ceil(AES_LANES) {
         let here = (left - AES_LANES * b).min(AES_LANES);
         let mut masks = [[0; BLOCK_BYTES]; AES_LANES];
-        put_masks(keys, counter, &mut masks);
+        put_masks::<AesWord>(key, counter, &mut masks);
         xor_blocks(text, first + AES_LANES * b, &masks[..here]);
         counter = counter.wrapping_add(AES_LANES as u128);
     }
 }
 
-// An enciphered counter, and a text of any number of blocks from the next one on, in wide passes under keys that are
-// made once.
-fn xor_many_after(key: &Schedule, counter: u128, text: &mut [u8]) -> [u8; 16]
+// An enciphered counter, and a text of any number of blocks from the next one on, in wide passes.
+fn xor_many_after(key: &TextKey, counter: u128, text: &mut [u8]) -> [u8; 16]
     ensures mask { result ≡ encipher key.now (to_be_bytes w128 counter) }
     ensures text { text.new ≡ concat (ctr_blocks (encipher key.now) ((counter + 1) % 2 ^ 128) (blocks text.old)) }
 {
-    let keys = LaneKeys::all(key);
     let mut masks = [[0; BLOCK_BYTES]; AES_LANES];
-    put_masks(&keys, counter, &mut masks);
+    put_masks::<AesWord>(key, counter, &mut masks);
     let here = text.len().div_ceil(BLOCK_BYTES).min(AES_LANES - 1);
     xor_blocks(text, 0, &masks[1..here + 1]);
-    xor_from(&keys, counter.wrapping_add(AES_LANES as u128), text, here);
+    xor_from(key, counter.wrapping_add(AES_LANES as u128), text, here);
     masks[0]
 }
 
@@ -162,10 +144,11 @@ fn xor_many_after(key: &Schedule, counter: u128, text: &mut [u8]) -> [u8; 16]
 pub fn xor_counters(key: &Schedule, counter: u128, text: &mut [u8])
     ensures { text.new ≡ concat (ctr_blocks (encipher key.now) counter (blocks text.old)) }
 {
+    let key = TextKey::new(key);
     if text.len() <= BLOCK_BYTES * FEW_BLOCKS {
-        xor_few(key, counter, text);
+        xor_few(&key, counter, text);
     } else {
-        xor_from(&LaneKeys::all(key), counter, text, 0);
+        xor_from(&key, counter, text, 0);
     }
 }
 
@@ -176,9 +159,10 @@ pub fn xor_counters_after(key: &Schedule, counter: u128, text: &mut [u8]) -> [u8
     ensures mask { result ≡ encipher key.now (to_be_bytes w128 counter) }
     ensures text { text.new ≡ concat (ctr_blocks (encipher key.now) ((counter + 1) % 2 ^ 128) (blocks text.old)) }
 {
+    let key = TextKey::new(key);
     if text.len() <= BLOCK_BYTES * (FEW_BLOCKS - 1) {
-        xor_few_after(key, counter, text)
+        xor_few_after(&key, counter, text)
     } else {
-        xor_many_after(key, counter, text)
+        xor_many_after(&key, counter, text)
     }
 }

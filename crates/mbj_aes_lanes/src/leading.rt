@@ -12,6 +12,7 @@ use crate::chaining::Chaining;
 use crate::entry_blocks::{Chains, NextBlocks, RoundKeys};
 use crate::key_planes::MAX_ROUND_KEYS;
 use crate::lane_blocks::Blocks;
+use crate::lane_schedules::RoundStates;
 use crate::layout::Layout;
 use crate::moves::move_to_plain;
 use crate::rounds::encrypt;
@@ -80,7 +81,7 @@ fn next_chains<V: PassWord, E: Chaining>(entries: &[E], keys: &[State<V>], chain
 {
     let blocks = V::load(&NextBlocks { entries }, Layout::Plain);
     *chains = add_round_key(blocks, *chains);
-    encrypt(keys, chains);
+    encrypt(&RoundStates { keys }, chains);
     move_to_plain(chains);
 }
 
@@ -179,7 +180,7 @@ fn encrypt_pass<V: PassWord, E: Chaining>(
     let keys = &mut room[..rounds_of(entries) + 1];
     write_keys(keys, entries);
     let mut state = V::load(&Blocks { blocks }, Layout::Plain);
-    encrypt(keys, &mut state);
+    encrypt(&RoundStates { keys }, &mut state);
     V::store(blocks, &state, Layout::Last);
 }
 

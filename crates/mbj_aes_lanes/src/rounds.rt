@@ -1,12 +1,12 @@
 //! The rounds of CIPHER and INVCIPHER (FIPS 197, 5.1 and 5.3) in all lanes, in bit planes. Odd rounds go from the plain layout
 //! to the turned one, and even rounds back; the last one, which is even, ends in the last layout.
-ghost use Rattle.std.specs.Prelude.{◌≡◌, ℕ, ◌-◌, ◌<◌, ◌≤◌, ◌%◌, length};
+ghost use Rattle.std.specs.Prelude.{◌≡◌, ℕ, ◌+◌, ◌<◌, ◌≤◌, ◌%◌};
 ghost use Rattle.mbj_types.specs.Blocks.{xor_lists};
-ghost use Rattle.mbj_types.specs.Aes.{shift_rows, mix_columns, inv_shift_rows, inv_mix_columns, sub_bytes, inv_sub_bytes, full_round, undone_round, encipher, decipher};
+ghost use Rattle.mbj_types.specs.Aes.{round_key, shift_rows, mix_columns, inv_shift_rows, inv_mix_columns, sub_bytes, inv_sub_bytes, full_round, undone_round, encipher, decipher};
 ghost use Rattle.mbj_aes_lanes.specs.Inside.State.{plain_bytes, turned_bytes, last_bytes};
-ghost use Rattle.mbj_aes_lanes.specs.Inside.Keys.{with_constant, schedule_in};
 
 use crate::columns::mix_halves;
+use crate::lane_schedules::LaneSchedules;
 use crate::moves::unmoved_octet;
 use crate::state::State;
 use crate::substitution::{inv_sub_bytes, sub_bytes};
@@ -41,34 +41,41 @@ fn last_linear_layer<V: Lane8>(s: &mut State<V>, key: &State<V>)
     *s = add_round_key(*s, *key);
 }
 
-/// An odd round.
+/// Odd round `r`.
 #[inline(always)]
-pub fn odd_round<V: Lane8>(s: &mut State<V>, key: &State<V>)
+fn odd_round<V: Lane8, K: LaneSchedules<V>>(s: &mut State<V>, keys: &K, r: usize)
+    requires odd { r % 2 ≡ 1 }
+    requires inside { r + 1 < K.count_of keys.now }
     ensures { (i : ℕ) → i < V.LANES → turned_bytes V.lane s.new i
-        ≡ full_round (plain_bytes V.lane s.old i) (with_constant (turned_bytes V.lane key.now i)) }
+        ≡ full_round (plain_bytes V.lane s.old i) (round_key (K.schedule_of keys.now i) r) }
 {
     sub_bytes(s);
-    odd_linear_layer(s, key);
+    odd_linear_layer(s, &keys.round_key(r));
 }
 
-/// An even round, but for the last one.
+/// Even round `r`, which isn't the last one.
 #[inline(always)]
-pub fn even_round<V: Lane8>(s: &mut State<V>, key: &State<V>)
+fn even_round<V: Lane8, K: LaneSchedules<V>>(s: &mut State<V>, keys: &K, r: usize)
+    requires even { r % 2 ≡ 0 }
+    requires later { 1 ≤ r }
+    requires inside { r + 1 < K.count_of keys.now }
     ensures { (i : ℕ) → i < V.LANES → plain_bytes V.lane s.new i
-        ≡ full_round (turned_bytes V.lane s.old i) (with_constant (plain_bytes V.lane key.now i)) }
+        ≡ full_round (turned_bytes V.lane s.old i) (round_key (K.schedule_of keys.now i) r) }
 {
     sub_bytes(s);
-    even_linear_layer(s, key);
+    even_linear_layer(s, &keys.round_key(r));
 }
 
-/// The last round.
+/// The last round, `r`.
 #[inline(always)]
-pub fn last_round<V: Lane8>(s: &mut State<V>, key: &State<V>)
+fn last_round<V: Lane8, K: LaneSchedules<V>>(s: &mut State<V>, keys: &K, r: usize)
+    requires later { 1 ≤ r }
+    requires last { r + 1 ≡ K.count_of keys.now }
     ensures { (i : ℕ) → i < V.LANES → last_bytes V.lane s.new i
-        ≡ xor_lists (shift_rows (sub_bytes (turned_bytes V.lane s.old i))) (with_constant (last_bytes V.lane key.now i)) }
+        ≡ xor_lists (shift_rows (sub_bytes (turned_bytes V.lane s.old i))) (round_key (K.schedule_of keys.now i) r) }
 {
     sub_bytes(s);
-    last_linear_layer(s, key);
+    last_linear_layer(s, &keys.round_key(r));
 }
 
 // ADDROUNDKEY and INVSHIFTROWS of the last round. The turned layout reads the rows as shifted back.
@@ -110,66 +117,69 @@ fn undo_even_linear_layer<V: Lane8>(s: &mut State<V>, key: &State<V>)
     };
 }
 
-/// An odd round undone.
+/// Odd round `r` undone.
 #[inline(always)]
-pub fn undo_odd_round<V: Lane8>(s: &mut State<V>, key: &State<V>)
+fn undo_odd_round<V: Lane8, K: LaneSchedules<V>>(s: &mut State<V>, keys: &K, r: usize)
+    requires odd { r % 2 ≡ 1 }
+    requires inside { r + 1 < K.count_of keys.now }
     ensures { (i : ℕ) → i < V.LANES → plain_bytes V.lane s.new i
-        ≡ undone_round (turned_bytes V.lane s.old i) (with_constant (turned_bytes V.lane key.now i)) }
+        ≡ undone_round (turned_bytes V.lane s.old i) (round_key (K.schedule_of keys.now i) r) }
 {
-    undo_odd_linear_layer(s, key);
+    undo_odd_linear_layer(s, &keys.round_key(r));
     inv_sub_bytes(s);
 }
 
-/// An even round undone, but for the last one.
+/// Even round `r` undone, which isn't the last one.
 #[inline(always)]
-pub fn undo_even_round<V: Lane8>(s: &mut State<V>, key: &State<V>)
+fn undo_even_round<V: Lane8, K: LaneSchedules<V>>(s: &mut State<V>, keys: &K, r: usize)
+    requires even { r % 2 ≡ 0 }
+    requires later { 1 ≤ r }
+    requires inside { r + 1 < K.count_of keys.now }
     ensures { (i : ℕ) → i < V.LANES → turned_bytes V.lane s.new i
-        ≡ undone_round (plain_bytes V.lane s.old i) (with_constant (plain_bytes V.lane key.now i)) }
+        ≡ undone_round (plain_bytes V.lane s.old i) (round_key (K.schedule_of keys.now i) r) }
 {
-    undo_even_linear_layer(s, key);
+    undo_even_linear_layer(s, &keys.round_key(r));
     inv_sub_bytes(s);
 }
 
-/// The last round undone.
+/// The last round, `r`, undone.
 #[inline(always)]
-pub fn undo_last_round<V: Lane8>(s: &mut State<V>, key: &State<V>)
+fn undo_last_round<V: Lane8, K: LaneSchedules<V>>(s: &mut State<V>, keys: &K, r: usize)
+    requires later { 1 ≤ r }
+    requires last { r + 1 ≡ K.count_of keys.now }
     ensures { (i : ℕ) → i < V.LANES → turned_bytes V.lane s.new i
-        ≡ inv_sub_bytes (inv_shift_rows (xor_lists (last_bytes V.lane s.old i) (with_constant (last_bytes V.lane key.now i)))) }
+        ≡ inv_sub_bytes (inv_shift_rows (xor_lists (last_bytes V.lane s.old i) (round_key (K.schedule_of keys.now i) r))) }
 {
-    undo_last_linear_layer(s, key);
+    undo_last_linear_layer(s, &keys.round_key(r));
     inv_sub_bytes(s);
 }
 
-/// Encrypts the state in each lane under the round keys in that lane, from the plain layout to the last one.
-pub fn encrypt<V: Lane8>(keys: &[State<V>], s: &mut State<V>)
-    requires least { 3 ≤ length keys.now }
-    requires even { length keys.now % 2 ≡ 1 }
+/// Encrypts the state in each lane under the schedule in that lane, from the plain layout to the last one.
+pub fn encrypt<V: Lane8, K: LaneSchedules<V>>(keys: &K, s: &mut State<V>)
     ensures { (i : ℕ) → i < V.LANES → last_bytes V.lane s.new i
-        ≡ encipher (schedule_in V.lane (length keys.now - 1) keys.now i) (plain_bytes V.lane s.old i) }
+        ≡ encipher (K.schedule_of keys.now i) (plain_bytes V.lane s.old i) }
 {
-    let rounds = keys.len() - 1;
-    *s = add_round_key(*s, keys[0]);
+    let rounds = keys.rounds();
+    *s = add_round_key(*s, keys.round_key(0));
     'pairs: for pair in 0..rounds / 2 - 1 {
-        odd_round(s, &keys[2 * pair + 1]);
-        even_round(s, &keys[2 * pair + 2]);
+        odd_round(s, keys, 2 * pair + 1);
+        even_round(s, keys, 2 * pair + 2);
     }
-    odd_round(s, &keys[rounds - 1]);
-    last_round(s, &keys[rounds]);
+    odd_round(s, keys, rounds - 1);
+    last_round(s, keys, rounds);
 }
 
-/// Decrypts the state in each lane by the round keys in that lane, from the last layout to the plain one.
-pub fn decrypt<V: Lane8>(keys: &[State<V>], s: &mut State<V>)
-    requires least { 3 ≤ length keys.now }
-    requires even { length keys.now % 2 ≡ 1 }
+/// Decrypts the state in each lane by the schedule in that lane, from the last layout to the plain one.
+pub fn decrypt<V: Lane8, K: LaneSchedules<V>>(keys: &K, s: &mut State<V>)
     ensures { (i : ℕ) → i < V.LANES → plain_bytes V.lane s.new i
-        ≡ decipher (schedule_in V.lane (length keys.now - 1) keys.now i) (last_bytes V.lane s.old i) }
+        ≡ decipher (K.schedule_of keys.now i) (last_bytes V.lane s.old i) }
 {
-    let rounds = keys.len() - 1;
-    undo_last_round(s, &keys[rounds]);
-    undo_odd_round(s, &keys[rounds - 1]);
+    let rounds = keys.rounds();
+    undo_last_round(s, keys, rounds);
+    undo_odd_round(s, keys, rounds - 1);
     'pairs: for pair in (0..rounds / 2 - 1).rev() {
-        undo_even_round(s, &keys[2 * pair + 2]);
-        undo_odd_round(s, &keys[2 * pair + 1]);
+        undo_even_round(s, keys, 2 * pair + 2);
+        undo_odd_round(s, keys, 2 * pair + 1);
     }
-    *s = add_round_key(*s, keys[0]);
+    *s = add_round_key(*s, keys.round_key(0));
 }

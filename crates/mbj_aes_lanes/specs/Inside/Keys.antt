@@ -50,6 +50,10 @@ state_of_planes xs = record { even = octet_at (slice_index xs) 0; odd = octet_at
 unfoldable pub unplaned : List ℕ → List ℕ
 unplaned xs = slots (λ x i. x) (state_of_planes xs) 0
 
+-- the schedule of n rounds whose round keys have these plane bytes
+unfoldable pub schedule_of_planes : ℕ → List (List ℕ) → List ℕ
+schedule_of_planes n planes = schedule_in (λ x i. x) n (map state_of_planes planes) 0
+
 -- ---- what the lanes hold of which some were put
 
 -- the schedule in lane i, where it was put

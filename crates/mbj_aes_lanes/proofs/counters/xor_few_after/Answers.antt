@@ -8,15 +8,13 @@ use Rattle.mbj_types.specs.Blocks.{blocks}
 use Rattle.mbj_types.specs.Modes.{ctr_blocks}
 use Rattle.mbj_blocks.proofs.Walk.{walk_end}
 use Rattle.mbj_aes_lanes.specs.Inside.KeyStream.{IsKeyStream}
-use Rattle.mbj_aes_lanes.proofs.KeyStreams.{length-few_masks, IsKeyStream-rest, stream_from, stream_from-cons}
+use Rattle.mbj_aes_lanes.proofs.KeyStreams.{IsKeyStream-rest, stream_from, stream_from-cons}
 use Rattle.mbj_aes_lanes.proofs.counters.xor_few_after.Goals as goal
 
 pub returns-clause-mask : goal.returns-clause-mask
 returns-clause-mask c =
     let first : (c.args.counter + 0) % 2 ^ 128 ≡ c.args.counter = omega (arith, c.ranges.counter.fits) in
-    let many : length c.put_few_masks.new.masks ≡ c.div_ceil.result + 1 =
-    length-few_masks (c.div_ceil.result + 1) c.put_few_masks.new.masks (omega arith) c.put_few_masks.auto.masks in
-    c.put_few_masks.ensures.masks 0 (omega arith)
+    c.put_masks.ensures.masks 0 (omega (arith, c.put_masks.auto.masks))
     ∙ ap (λ (u : ℕ). encipher c.args.key.now (to_be_bytes w128 u)) first
 
 pub returns-clause-text : goal.returns-clause-text
@@ -24,14 +22,11 @@ returns-clause-text c =
     let e : List ℕ → List ℕ = encipher c.args.key.now in
     let t : ℕ = (c.args.counter + 1) % 2 ^ 128 in
     let text : List ℕ = c.args.text.now in
-    let all : List (List ℕ) = c.put_few_masks.new.masks in
-    let many : length all ≡ c.div_ceil.result + 1 =
-    length-few_masks (c.div_ceil.result + 1) all (omega arith) c.put_few_masks.auto.masks in
-    let n : ℕ = length all - 1 in
+    let all : List (List ℕ) = c.put_masks.new.masks in
+    let n : ℕ = c.div_ceil-many.result + 1 - 1 in
     let masks : List (List ℕ) = take n (drop 1 all) in
-    let rest : length masks ≡ n = length-take-le n (drop 1 all) (omega (arith, length-drop 1 all)) in
-    let known : IsKeyStream e t masks =
-    IsKeyStream-rest e c.args.counter n all c.put_few_masks.ensures.masks in
+    let many : length masks ≡ n = length-take-le n (drop 1 all) (omega (arith, length-drop 1 all, c.put_masks.auto.masks)) in
+    let known : IsKeyStream e t masks = IsKeyStream-rest e c.args.counter n all c.put_masks.ensures.masks in
     let whole : List ℕ = concat (ctr_blocks e t (blocks text)) in
     let first : (t + 0) % 2 ^ 128 ≡ t = omega arith in
     walk_end (stream_from e t (length masks)) c.xor_blocks.new.text whole (0 + length masks) refl

@@ -12,20 +12,20 @@ use Rattle.mbj_aes_lanes.proofs.KeyStreams.{IsKeyStream-take, stream_from, strea
 use Rattle.mbj_aes_lanes.proofs.counters.xor_from.Goals as goal
 
 pub batches-preserved : goal.batches-preserved
-batches-preserved c w whole same walked =
-    let e : List ℕ → List ℕ = encipher w in
+batches-preserved c whole walked =
+    let e : List ℕ → List ℕ = encipher c.args.key.now in
     let t : ℕ = c.batches.counter in
     let here : ℕ = c.min-here.result in
     let masks : List (List ℕ) = take here c.put_masks.new.masks in
-    let many : length masks ≡ here = length-take-le here c.put_masks.new.masks (omega (arith, c.put_masks.array_long)) in
+    let many : length masks ≡ here = length-take-le here c.put_masks.new.masks (omega (arith, c.put_masks.auto.masks)) in
     let at : ℕ = c.args.first + AES_LANES * c.batches.b in
     let next : ℕ = c.args.first + AES_LANES * (c.batches.b + 1) in
     let text : List ℕ = c.xor_blocks.new.text in
     let first : (t + 0) % 2 ^ 128 ≡ t = omega arith in
-    let known : IsKeyStream e t masks = IsKeyStream-take e t here c.put_masks.new.masks (c.put_masks.ensures.masks w same) in
+    let known : IsKeyStream e t masks = IsKeyStream-take e t here c.put_masks.new.masks c.put_masks.ensures.masks in
     let now : Walked (stream_from e t (length masks)) text (at + length masks) whole =
     c.xor_blocks.ensures (stream_from e t) whole (stream_from-cons e t masks known)
-    (rw first (c.batches.invariant w whole same walked)) in
+    (rw first (c.batches.invariant whole walked)) in
     elim (cases_lt here AES_LANES) [
       | inl fewer ↦
           walk_over (stream_from e t (length masks)) (stream_from e t AES_LANES) text whole (at + length masks) next refl refl
@@ -38,6 +38,6 @@ batches-preserved c w whole same walked =
     ]
 
 pub returns : goal.returns
-returns c w whole same walked =
-    walk_end (ctr_blocks (encipher w) c.batches.counter) c.batches.text whole (c.args.first + AES_LANES * c.batches.b) refl
-    (omega arith) (c.batches.invariant w whole same walked)
+returns c whole walked =
+    walk_end (ctr_blocks (encipher c.args.key.now) c.batches.counter) c.batches.text whole (c.args.first + AES_LANES * c.batches.b) refl
+    (omega arith) (c.batches.invariant whole walked)

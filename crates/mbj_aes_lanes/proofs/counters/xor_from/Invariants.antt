@@ -1,13 +1,12 @@
 -- The blocks before the next batch are xored, and the counter is that of its first block.
-use Rattle.std.proofs.Common.{◌≡◌, ℕ, ◌+◌, ◌*◌, List}
+use Rattle.std.proofs.Common.{ℕ, ◌+◌, ◌*◌, List}
 use Rattle.mbj_types.specs.declared.kind.TheConstants.{AES_LANES}
 use Rattle.mbj_types.specs.Aes.{encipher}
 use Rattle.mbj_types.specs.Modes.{ctr_blocks}
 use Rattle.mbj_blocks.specs.Walked.{Walked}
-use Rattle.mbj_aes_lanes.specs.KeyLanes.{same_keys}
 use Rattle.mbj_aes_lanes.proofs.counters.xor_from.Given as goal
 
 abbrev pub invariant-batches : goal.invariant-batches
 invariant-batches l =
-    (w whole : List ℕ) → l.keys ≡ same_keys w → Walked (ctr_blocks (encipher w) l.first_counter) l.fn.text l.first whole
-    → Walked (ctr_blocks (encipher w) l.counter) l.text (l.first + AES_LANES * l.b) whole
+    (whole : List ℕ) → Walked (ctr_blocks (encipher l.key) l.first_counter) l.fn.text l.first whole
+    → Walked (ctr_blocks (encipher l.key) l.counter) l.text (l.first + AES_LANES * l.b) whole

@@ -11,26 +11,18 @@ use Rattle.mbj_types.specs.Modes.{ctr_blocks}
 use Rattle.mbj_blocks.specs.Walked.{Walked}
 use Rattle.mbj_blocks.proofs.Walk.{walk_over}
 use Rattle.mbj_aes_lanes.specs.Inside.KeyStream.{IsKeyStream}
-use Rattle.mbj_aes_lanes.proofs.FullLanes.{IsFull-same}
 use Rattle.mbj_aes_lanes.proofs.KeyStreams.{IsKeyStream-rest, stream_from, stream_from-cons}
 use Rattle.mbj_aes_lanes.proofs.counters.xor_many_after.Goals as goal
-
-pub put_masks-requires : goal.put_masks-requires
-put_masks-requires c = IsFull-same c.all-keys.result c.args.key.now c.all-keys.ensures
-
-pub xor_from-requires-clause-keys : goal.xor_from-requires-clause-keys
-xor_from-requires-clause-keys c = IsFull-same c.all-keys.result c.args.key.now c.all-keys.ensures
 
 pub returns-clause-mask : goal.returns-clause-mask
 returns-clause-mask c =
     let first : (c.args.counter + 0) % 2 ^ 128 ≡ c.args.counter = omega (arith, c.ranges.counter.fits) in
-    c.put_masks.ensures.masks c.args.key.now c.all-keys.ensures 0 (omega (arith, c.put_masks.array_long))
+    c.put_masks.ensures.masks 0 (omega (arith, c.put_masks.auto.masks))
     ∙ ap (λ (u : ℕ). encipher c.args.key.now (to_be_bytes w128 u)) first
 
 pub returns-clause-text : goal.returns-clause-text
 returns-clause-text c =
-    let w : List ℕ = c.args.key.now in
-    let e : List ℕ → List ℕ = encipher w in
+    let e : List ℕ → List ℕ = encipher c.args.key.now in
     let t : ℕ = (c.args.counter + 1) % 2 ^ 128 in
     let text : List ℕ = c.args.text.now in
     let now : List ℕ = c.xor_blocks.new.text in
@@ -39,16 +31,16 @@ returns-clause-text c =
     let n : ℕ = here + 1 - 1 in
     let masks : List (List ℕ) = take n (drop 1 all) in
     let many : length masks ≡ here =
-    length-take-le n (drop 1 all) (omega (arith, length-drop 1 all, c.put_masks.array_long)) ∙ omega arith in
+    length-take-le n (drop 1 all) (omega (arith, length-drop 1 all, c.put_masks.auto.masks)) ∙ omega arith in
     let known : IsKeyStream e t masks =
-    IsKeyStream-rest e c.args.counter n all (c.put_masks.ensures.masks w c.all-keys.ensures) in
+    IsKeyStream-rest e c.args.counter n all c.put_masks.ensures.masks in
     let whole : List ℕ = concat (ctr_blocks e t (blocks text)) in
     let first : (t + 0) % 2 ^ 128 ≡ t = omega arith in
     let walked : Walked (stream_from e t (length masks)) now (0 + length masks) whole =
     c.xor_blocks.ensures (stream_from e t) whole (stream_from-cons e t masks known)
     (ap (λ (u : ℕ). concat (ctr_blocks e u (blocks text))) first) in
     let counter : ℕ = (c.args.counter + AES_LANES) % 2 ^ 128 in
-    c.xor_from.ensures w whole c.all-keys.ensures
+    c.xor_from.ensures whole
     (elim (cases_lt here (AES_LANES - 1)) [
       | inl fewer ↦
           walk_over (stream_from e t (length masks)) (ctr_blocks e counter) now whole (0 + length masks) here refl refl

@@ -1,15 +1,20 @@
 -- INVSUBBYTES of bytes that have the constant, as the key gave it.
-use Rattle.std.proofs.Common.{map, ap, ◌∙◌}
+use Rattle.std.proofs.Common.{ℕ, ◌-◌, List, map, ap, ◌∙◌, arith}
+use Rattle.mbj_types.specs.Aes.{undone_round}
 use Rattle.mbj_aes_lanes.specs.declared.layout.Layout.TheVariants.{Plain, Turned}
 use Rattle.mbj_aes_lanes.specs.Inside.State.{plain_bytes}
 use Rattle.mbj_aes_lanes.specs.Inside.Rounds.{bare_inv_sub_byte}
 use Rattle.mbj_aes_lanes.proofs.SlotLists.{length-reading-xor}
 use Rattle.mbj_aes_lanes.proofs.Constants.{undone_round-bare}
+use Rattle.mbj_aes_lanes.proofs.KeyLayouts.{key_in-even}
 use Rattle.mbj_aes_lanes.proofs.rounds.undo_even_round.Goals as goal
 
 pub returns : goal.returns
 returns g c i h =
     let lane = g.V.Lane8.lane in
+    let n : ℕ = g.K.LaneSchedules.count_of c.args.keys.now - 1 in
+    let s : List ℕ = plain_bytes lane c.args.s.now i in
     c.inv_sub_bytes.ensures i Turned h
     ∙ ap (map bare_inv_sub_byte) (c.undo_even_linear_layer.ensures i h)
-    ∙ undone_round-bare (plain_bytes lane c.args.s.now i) (plain_bytes lane c.args.key.now i) (length-reading-xor lane c.args.s.now c.args.key.now i Plain)
+    ∙ undone_round-bare s (plain_bytes lane c.round_key.result i) (length-reading-xor lane c.args.s.now c.round_key.result i Plain)
+    ∙ ap (undone_round s) (key_in-even lane n c.args.r c.round_key.result i c.requires.even c.requires.later (omega arith) ∙ c.round_key.ensures i h)

@@ -1,5 +1,5 @@
 -- The blocks go through the first lanes.
-use Rattle.std.proofs.Common.{ℕ, List, [], length, drop, replicate, get_or, ◌++◌, sym, ap, ◌∙◌}
+use Rattle.std.proofs.Common.{ℕ, List, [], length, drop, replicate, get_or, ◌++◌, sym, ap₂, ◌∙◌}
 use Rattle.std.proofs.lemmas.List.{length-take-le}
 use Rattle.mbj_types.specs.declared.kind.TheConstants.{AES_LANES}
 use Rattle.mbj_types.specs.Aes.{decipher}
@@ -31,7 +31,8 @@ returns-clause-each c =
     c.copy_from_slice-2.ensures.after
     ∙ first-changed (decipher c.args.key.now) c.args.blocks.now rest c.decrypt_first.new.blocks c.requires c.decrypt_first.array_long
     (λ i h.
-    c.decrypt_first.ensures.each i h ∙ ap (λ bs. decipher c.args.key.now (get_or (bs ++ rest) i [])) c.copy_from_slice.ensures.after)
+    c.decrypt_first.ensures.each i h
+    ∙ ap₂ (λ w bs. decipher w (get_or (bs ++ rest) i [])) c.new.ensures c.copy_from_slice.ensures.after)
 
 pub returns-clause-lengths : goal.returns-clause-lengths
 returns-clause-lengths c =
