@@ -5,7 +5,7 @@ ghost use Rattle.mbj_blocks.specs.Places.{block_of};
 ghost use Rattle.mbj_blocks.specs.Walked.{Walked};
 
 use mbj_aes::Schedule;
-use mbj_aes_lanes::{FEW_BLOCKS, LaneKeys, decrypt_same, decrypt32};
+use mbj_aes_lanes::TextKey;
 use mbj_blocks::{block_at, put_block};
 use mbj_types::{AES_LANES, BLOCK_BYTES, xor_in_place};
 
@@ -38,25 +38,13 @@ fn put_opened(text: &mut [u8], first: usize, opened: &[[u8; 16]], chain: &[u8; 1
     chain
 }
 
-// A text of few blocks, in one narrow pass.
-fn decrypt_few(key: &Schedule, iv: &[u8; 16], text: &mut [u8])
-    requires whole { length text.old % 16 ≡ 0 }
-    requires few { length text.old ≤ 16 * FEW_BLOCKS }
-    ensures { text.new ≡ uncbc_text (decipher key.now) iv.now text.old }
-{
-    let mut room = [[0; BLOCK_BYTES]; FEW_BLOCKS];
-    let opened = &mut room[..text.len() / BLOCK_BYTES];
-    copy_blocks(text, 0, opened);
-    decrypt_same(key, opened);
-    put_opened(text, 0, opened, iv);
-}
-
-// A text of any number of blocks, under keys that are made once.
-fn decrypt_many(key: &Schedule, iv: &[u8; 16], text: &mut [u8])
+/// Decrypts a text in place by CBC (SP 800-38A, 6.2): each block of 16 bytes is deciphered and xored with the
+/// ciphertext before it, the first one with the IV. The text's length is a multiple of 16 bytes, and may be 0.
+pub fn decrypt_in_place(key: &Schedule, iv: &[u8; 16], text: &mut [u8])
     requires { length text.old % 16 ≡ 0 }
     ensures { text.new ≡ uncbc_text (decipher key.now) iv.now text.old }
 {
-    let keys = LaneKeys::all(key);
+    let key = TextKey::new(key);
     let many = text.len() / BLOCK_BYTES;
     let mut chain = *iv;
     'batches: for b in 0..many.div_ceil(AES_LANES) {
@@ -64,20 +52,7 @@ fn decrypt_many(key: &Schedule, iv: &[u8; 16], text: &mut [u8])
         let here = (many - first).min(AES_LANES);
         let mut opened = [[0; BLOCK_BYTES]; AES_LANES];
         copy_blocks(text, first, &mut opened[..here]);
-        decrypt32(&keys, &mut opened);
+        key.decrypt_first(&mut opened, here);
         chain = put_opened(text, first, &opened[..here], &chain);
-    }
-}
-
-/// Decrypts a text in place by CBC (SP 800-38A, 6.2): each block of 16 bytes is deciphered and xored with the
-/// ciphertext before it, the first one with the IV. The text's length is a multiple of 16 bytes, and may be 0.
-pub fn decrypt_in_place(key: &Schedule, iv: &[u8; 16], text: &mut [u8])
-    requires { length text.old % 16 ≡ 0 }
-    ensures { text.new ≡ uncbc_text (decipher key.now) iv.now text.old }
-{
-    if text.len() <= BLOCK_BYTES * FEW_BLOCKS {
-        decrypt_few(key, iv, text);
-    } else {
-        decrypt_many(key, iv, text);
     }
 }

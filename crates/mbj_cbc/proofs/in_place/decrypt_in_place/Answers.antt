@@ -5,15 +5,10 @@ use Rattle.std.proofs.lemmas.List.{get_or_append_left, get_or-take, length-take-
 use Rattle.mbj_types.specs.declared.kind.TheConstants.{AES_LANES}
 use Rattle.mbj_types.specs.Aes.{decipher}
 use Rattle.mbj_types.specs.Modes.{uncbc, uncbc_text}
-use Rattle.mbj_aes_lanes.proofs.FullLanes.{IsFull-same}
-use Rattle.mbj_aes_lanes.proofs.SameKeys.{schedule_at-same}
 use Rattle.mbj_blocks.specs.Places.{block_of}
 use Rattle.mbj_blocks.specs.Walked.{Walked}
 use Rattle.mbj_blocks.proofs.Walk.{walk_end, walk_over}
-use Rattle.mbj_cbc.proofs.in_place.decrypt_many.Goals as goal
-
-pub decrypt32-requires : goal.decrypt32-requires
-decrypt32-requires c = IsFull-same c.all-keys.result c.args.key.now c.all-keys.ensures
+use Rattle.mbj_cbc.proofs.in_place.decrypt_in_place.Goals as goal
 
 pub batches-preserved : goal.batches-preserved
 batches-preserved c =
@@ -25,12 +20,12 @@ batches-preserved c =
     let room : List (List ℕ) = replicate AES_LANES (replicate 16 zero) in
     let few : length (take here room) ≡ here = length-take-le here room (omega arith) in
     let copied : length c.copy_blocks.new.blocks ≡ here = c.copy_blocks.auto.blocks ∙ few in
-    let opened : List (List ℕ) = take here c.decrypt32.new.blocks in
-    let many : length opened ≡ here = length-take-le here c.decrypt32.new.blocks (omega (arith, c.decrypt32.array_long)) in
+    let opened : List (List ℕ) = take here c.decrypt_first.new.blocks in
+    let many : length opened ≡ here = length-take-le here c.decrypt_first.new.blocks (omega (arith, c.decrypt_first.array_long)) in
     let known : (j : ℕ) → j < length opened → get_or opened j [] ≡ d (block_of c.batches.text (AES_LANES * b + j)) = λ j lt.
-    get_or-take here c.decrypt32.new.blocks j [] (omega arith)
-    ∙ c.decrypt32.ensures.each j (omega arith)
-    ∙ ap₂ decipher (schedule_at-same c.all-keys.result c.args.key.now j (omega arith) c.all-keys.ensures)
+    get_or-take here c.decrypt_first.new.blocks j [] (omega arith)
+    ∙ c.decrypt_first.ensures.each j (omega arith)
+    ∙ ap₂ decipher c.new-key.ensures
     (get_or_append_left c.copy_blocks.new.blocks (drop here room) [] j (omega arith) ∙ c.copy_blocks.ensures j (omega arith)) in
     let text : List ℕ = c.put_opened-chain.new.text in
     let rest = uncbc d c.put_opened-chain.result in
