@@ -26,7 +26,7 @@ impl<const N: usize> Kernel for CmacKernel<N> {
     }
 
     fn run(entries: &mut [CmacEntry<N>], m: u32) {
-        close_all(entries);
+        close_last(entries, m);
         lead_all(entries, m);
     }
 
@@ -39,17 +39,20 @@ impl<const N: usize> Kernel for CmacKernel<N> {
     ghost falls = { λ e. refl };
 }
 
-/// Whether the last block of each message was closed.
-fn are_closed<const N: usize>(entries: &[CmacEntry<N>]) -> bool {
-    entries.iter().all(|entry| entry.is_closed())
+/// Whether an entry comes to its last block within `m` rounds that isn't closed yet.
+fn is_any_open<const N: usize>(entries: &[CmacEntry<N>], m: u32) -> bool {
+    entries
+        .iter()
+        .any(|entry| !entry.is_closed() && entry.rest <= m)
 }
 
-/// Closes the last blocks of all messages, if one isn't closed yet. The zero block is enciphered under all keys at once.
-fn close_all<const N: usize>(entries: &mut [CmacEntry<N>])
+/// Closes the last blocks of all messages, where an entry comes to one within `m` rounds that isn't closed yet. The zero block is
+/// enciphered under all keys at once.
+fn close_last<const N: usize>(entries: &mut [CmacEntry<N>], m: u32)
     requires { length entries.old ≤ AES_LANES }
     ensures { entries.new ≡ entries.old }
 {
-    if entries.is_empty() || are_closed(entries) {
+    if entries.is_empty() || !is_any_open(entries, m) {
         return;
     }
     let mut zeros = [[0; BLOCK_BYTES]; AES_LANES];

@@ -6,7 +6,7 @@ use Rattle.mbj_types.specs.Aes.{encipher}
 use Rattle.mbj_types.specs.Blocks.{zero_block}
 use Rattle.mbj_aes_lanes.proofs.Chains.{in_lane-map}
 use Rattle.mbj_cmac.specs.Rounds.{key_of}
-use Rattle.mbj_cmac.proofs.kernel.close_all.Goals as goal
+use Rattle.mbj_cmac.proofs.kernel.close_last.Goals as goal
 
 pub close-requires : goal.close-requires
 close-requires g c = (
