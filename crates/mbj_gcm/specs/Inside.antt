@@ -1,2 +1,3 @@
--- What functions that make counter blocks cite.
+-- What functions that make counter blocks and passes cite.
+pub mod First
 pub mod Risen

@@ -1,14 +1,15 @@
-ghost use Rattle.std.specs.Prelude.{◌≡◌, ℕ, ◌+◌, ◌*◌, ◌<◌, ◌≤◌, [], ◌∷◌, ◌++◌, length, replicate, slice_index_or};
+ghost use Rattle.std.specs.Prelude.{◌≡◌, ℕ, ◌+◌, ◌*◌, ◌/◌, ◌<◌, ◌≤◌, List, [], ◌∷◌, ◌++◌, length, replicate, slice_index_or};
 ghost use Rattle.std.specs.List.{concat};
 ghost use Rattle.mbj_types.specs.Aes.{encipher};
-ghost use Rattle.mbj_types.specs.Blocks.{blocks, filled_blocks};
+ghost use Rattle.mbj_types.specs.Blocks.{blocks, filled_blocks, zero_block};
 ghost use Rattle.mbj_types.specs.Ghash.{ghash};
 ghost use Rattle.mbj_types.specs.Gcm.{bit_length, gctr, inc32, pre_counter_block};
+ghost use Rattle.mbj_blocks.specs.Walked.{Walked};
+ghost use Rattle.mbj_gcm.specs.Inside.First.{AreFirst};
 ghost use Rattle.mbj_gcm.specs.Inside.Risen.{risen};
 
 use crate::hash::hash_of_parts;
-use mbj_aes::Schedule;
-use mbj_aes_lanes::{FEW_BLOCKS, LaneKeys, encrypt_same, encrypt32};
+use mbj_aes_lanes::TextKey;
 use mbj_blocks::xor_blocks;
 use mbj_types::{AES_LANES, BLOCK_BYTES};
 
@@ -20,6 +21,17 @@ const NUMBER_BYTES: usize = 4;
 
 // The number of the counter block before the first one of the text.
 const PRE_COUNTER_NUMBER: u8 = 1;
+
+/// The places of the hash subkey and of the tag's mask in the first pass; the key stream of the text stands behind them.
+pub const SUBKEY: usize = 0;
+
+/// See `SUBKEY`.
+pub const TAG_MASK: usize = 1;
+
+const LEAD: usize = 2;
+
+/// The blocks of a text whose key stream goes through the lanes in the first pass.
+const FIRST_BLOCKS: usize = AES_LANES - LEAD;
 
 // The number rises by `by` modulo 2^32, and the bytes before it stay (SP 800-38D, 6.2).
 fn risen(block: &[u8; 16], by: u32) -> [u8; 16]
@@ -63,57 +75,71 @@ fn hashed_iv(subkey: &[u8; 16], iv: &[u8]) -> [u8; 16]
     hash_of_parts(subkey, &[], iv)
 }
 
-/// The counter block before the first one of the text, J0 (SP 800-38D, 7.1, step 2), which masks the tag.
+// The hash subkey, H (SP 800-38D, 7.1, step 1): the enciphered zero block, in a pass of its own.
+fn hash_subkey(key: &TextKey) -> [u8; 16]
+    ensures { result ≡ encipher key.now zero_block }
+{
+    let mut blocks = [[0; BLOCK_BYTES]; AES_LANES];
+    key.encrypt_first(&mut blocks, 1);
+    blocks[SUBKEY]
+}
+
+/// The counter block before the first one of the text, J0 (SP 800-38D, 7.1, step 2), which masks the tag. An IV of another
+/// length than 12 bytes takes a pass of its own, for the hash subkey.
 #[tactic(auto, unfolding(mbj_types::specs::Gcm::pre_counter_block))]
-pub fn pre_counter_block(subkey: &[u8; 16], iv: &[u8]) -> [u8; 16]
-    ensures { result ≡ pre_counter_block subkey.now iv.now }
+pub fn pre_counter_block(key: &TextKey, iv: &[u8]) -> [u8; 16]
+    ensures { result ≡ pre_counter_block (encipher key.now zero_block) iv.now }
 {
     if iv.len() == COUNTER_IV_BYTES {
         numbered_iv(iv)
     } else {
-        hashed_iv(subkey, iv)
+        hashed_iv(&hash_subkey(key), iv)
     }
 }
 
-// A text of few blocks, in one narrow pass.
-fn xor_few(key: &Schedule, pre_counter: &[u8; 16], text: &mut [u8])
-    requires { length text.old ≤ 16 * FEW_BLOCKS }
-    ensures { text.new ≡ concat (gctr (encipher key.now) (inc32 pre_counter.now) (blocks text.old)) }
+/// The first pass for a text of `len` bytes: the hash subkey, the mask of the tag, and the key stream of the first blocks. Few
+/// blocks take a narrow pass.
+pub fn first_pass(key: &TextKey, pre_counter: &[u8; 16], len: usize) -> [[u8; 16]; AES_LANES]
+    ensures { AreFirst (encipher key.now) pre_counter.now len result }
 {
-    let mut room = [[0; BLOCK_BYTES]; FEW_BLOCKS];
-    let masks = &mut room[..text.len().div_ceil(BLOCK_BYTES)];
-    put_counters_after(masks, pre_counter);
-    encrypt_same(key, masks);
-    xor_blocks(text, 0, masks);
+    let many = len.div_ceil(BLOCK_BYTES).min(FIRST_BLOCKS);
+    let mut masks = [[0; BLOCK_BYTES]; AES_LANES];
+    masks[TAG_MASK] = *pre_counter;
+    put_counters_after(&mut masks[LEAD..many + LEAD], pre_counter);
+    key.encrypt_first(&mut masks, many + LEAD);
+    masks
 }
 
-// A text of any number of blocks, under keys that are made once.
-fn xor_many(key: &Schedule, pre_counter: &[u8; 16], text: &mut [u8])
-    ensures { text.new ≡ concat (gctr (encipher key.now) (inc32 pre_counter.now) (blocks text.old)) }
+// The blocks of a text from block `first` on, in wide passes. `before` is the counter block before that of block `first`.
+fn xor_from(key: &TextKey, before: &[u8; 16], text: &mut [u8], first: usize)
+    requires { first ≤ (length text.old + 15) / 16 }
+    ensures { (whole : List ℕ) → Walked (gctr (encipher key.now) (inc32 before.now)) text.old first whole → text.new ≡ whole }
 {
-    let keys = LaneKeys::all(key);
-    let many = text.len().div_ceil(BLOCK_BYTES);
-    let mut counter = *pre_counter;
-    'batches: for b in 0..many.div_ceil(AES_LANES) {
-        let first = AES_LANES * b;
-        let here = (many - first).min(AES_LANES);
+    let left = text.len().div_ceil(BLOCK_BYTES) - first;
+    let mut counter = *before;
+    'batches: for b in 0..left.div_ceil(AES_LANES) {
+        let here = (left - AES_LANES * b).min(AES_LANES);
         let mut masks = [[0; BLOCK_BYTES]; AES_LANES];
         put_counters_after(&mut masks, &counter);
-        encrypt32(&keys, &mut masks);
-        xor_blocks(text, first, &masks[..here]);
+        key.encrypt_first(&mut masks, AES_LANES);
+        xor_blocks(text, first + AES_LANES * b, &masks[..here]);
         counter = risen(&counter, AES_LANES as u32);
     }
 }
 
 /// Encrypts or decrypts a text in place, which is the same map (SP 800-38D, 7.1, step 3): each block of 16 bytes is
 /// xored with its enciphered counter block, and the last one, which may be shorter, with as many bytes of it. The first
-/// counter block is the one after `pre_counter`.
-pub fn xor_key_stream(key: &Schedule, pre_counter: &[u8; 16], text: &mut [u8])
+/// counter block is the one after `pre_counter`, and `masks` are those of the text's first pass.
+pub fn xor_key_stream(
+    key: &TextKey,
+    pre_counter: &[u8; 16],
+    masks: &[[u8; 16]; AES_LANES],
+    text: &mut [u8],
+)
+    requires { AreFirst (encipher key.now) pre_counter.now (length text.old) masks.now }
     ensures { text.new ≡ concat (gctr (encipher key.now) (inc32 pre_counter.now) (blocks text.old)) }
 {
-    if text.len() <= BLOCK_BYTES * FEW_BLOCKS {
-        xor_few(key, pre_counter, text);
-    } else {
-        xor_many(key, pre_counter, text);
-    }
+    let many = text.len().div_ceil(BLOCK_BYTES).min(FIRST_BLOCKS);
+    xor_blocks(text, 0, &masks[LEAD..many + LEAD]);
+    xor_from(key, &risen(pre_counter, FIRST_BLOCKS as u32), text, many);
 }

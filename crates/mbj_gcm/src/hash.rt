@@ -1,11 +1,8 @@
 ghost use Rattle.std.specs.Prelude.{◌≡◌, [], ◌∷◌, ◌++◌, length};
-ghost use Rattle.mbj_types.specs.Aes.{encipher};
-ghost use Rattle.mbj_types.specs.Blocks.{xor_lists, zero_block, filled_blocks};
+ghost use Rattle.mbj_types.specs.Blocks.{xor_lists, filled_blocks};
 ghost use Rattle.mbj_types.specs.Ghash.{ghash};
 ghost use Rattle.mbj_types.specs.Gcm.{bit_length};
 
-use mbj_aes::Schedule;
-use mbj_aes_lanes::encrypt_same;
 use mbj_ghash::Ghash;
 use mbj_types::{BLOCK_BYTES, xor_in_place};
 
@@ -14,15 +11,6 @@ const BYTE_BITS: u64 = 8;
 
 // The bytes of a bit length.
 const BIT_LENGTH_BYTES: usize = 8;
-
-/// The hash subkey, H (SP 800-38D, 7.1, step 1): the enciphered zero block.
-pub fn hash_subkey(key: &Schedule) -> [u8; 16]
-    ensures { result ≡ encipher key.now zero_block }
-{
-    let mut blocks = [[0; BLOCK_BYTES]];
-    encrypt_same(key, &mut blocks);
-    blocks[0]
-}
 
 // The bit length of a part, modulo 2^64.
 fn bit_length(part: &[u8]) -> [u8; 8]
@@ -54,22 +42,13 @@ pub fn hash_of_parts(subkey: &[u8; 16], aad: &[u8], ciphertext: &[u8]) -> [u8; 1
     hash.value()
 }
 
-/// The 16 bytes of tag over `aad` and the ciphertext (SP 800-38D, 7.1, steps 4 to 6): their hash, xored with the
-/// enciphered counter block before the first one.
-pub fn tag(
-    key: &Schedule,
-    subkey: &[u8; 16],
-    pre_counter: &[u8; 16],
-    aad: &[u8],
-    ciphertext: &[u8],
-) -> [u8; 16]
+/// The 16 bytes of tag over `aad` and the ciphertext (SP 800-38D, 7.1, steps 4 to 6): their hash under the subkey, xored with
+/// the tag's mask.
+pub fn tag(subkey: &[u8; 16], mask: &[u8; 16], aad: &[u8], ciphertext: &[u8]) -> [u8; 16]
     ensures { let lengths = bit_length (length aad.now) ++ bit_length (length ciphertext.now) in
-        result ≡ xor_lists (encipher key.now pre_counter.now)
-        (ghash subkey.now (filled_blocks aad.now ++ filled_blocks ciphertext.now ++ lengths ∷ [])) }
+        result ≡ xor_lists mask.now (ghash subkey.now (filled_blocks aad.now ++ filled_blocks ciphertext.now ++ lengths ∷ [])) }
 {
-    let mut blocks = [*pre_counter];
-    encrypt_same(key, &mut blocks);
-    let mut tag = blocks[0];
+    let mut tag = *mask;
     xor_in_place(&mut tag, &hash_of_parts(subkey, aad, ciphertext));
     tag
 }

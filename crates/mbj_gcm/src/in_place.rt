@@ -2,9 +2,10 @@ ghost use Rattle.std.specs.Prelude.{◌≡◌, ◌≤◌, true, false, length};
 ghost use Rattle.mbj_types.specs.Aes.{encipher};
 ghost use Rattle.mbj_types.specs.Gcm.{gcm};
 
-use crate::counter::{pre_counter_block, xor_key_stream};
-use crate::hash::{hash_subkey, tag};
+use crate::counter::{SUBKEY, TAG_MASK, first_pass, pre_counter_block, xor_key_stream};
+use crate::hash::tag;
 use mbj_aes::Schedule;
+use mbj_aes_lanes::TextKey;
 
 /// Encrypts a text in place by GCM (SP 800-38D, 7.1) from an IV of 1 to 65,535 bytes, and answers the 16 bytes of tag
 /// over `aad` and the ciphertext, of which a shorter tag is the leftmost ones. The text and `aad` may have any number of
@@ -15,10 +16,11 @@ pub fn seal(key: &Schedule, iv: &[u8], aad: &[u8], text: &mut [u8]) -> [u8; 16]
     ensures text { text.new ≡ (gcm (encipher key.now) iv.now aad.now text.old true).0 }
     ensures tag { result ≡ (gcm (encipher key.now) iv.now aad.now text.old true).1 }
 {
-    let subkey = hash_subkey(key);
-    let pre_counter = pre_counter_block(&subkey, iv);
-    xor_key_stream(key, &pre_counter, text);
-    tag(key, &subkey, &pre_counter, aad, text)
+    let key = TextKey::new(key);
+    let pre_counter = pre_counter_block(&key, iv);
+    let masks = first_pass(&key, &pre_counter, text.len());
+    xor_key_stream(&key, &pre_counter, &masks, text);
+    tag(&masks[SUBKEY], &masks[TAG_MASK], aad, text)
 }
 
 /// Decrypts a text in place by GCM (SP 800-38D, 7.2, steps 2 to 7) from an IV of 1 to 65,535 bytes, and answers the 16
@@ -30,9 +32,10 @@ pub fn unseal(key: &Schedule, iv: &[u8], aad: &[u8], text: &mut [u8]) -> [u8; 16
     ensures text { text.new ≡ (gcm (encipher key.now) iv.now aad.now text.old false).0 }
     ensures tag { result ≡ (gcm (encipher key.now) iv.now aad.now text.old false).1 }
 {
-    let subkey = hash_subkey(key);
-    let pre_counter = pre_counter_block(&subkey, iv);
-    let computed = tag(key, &subkey, &pre_counter, aad, text);
-    xor_key_stream(key, &pre_counter, text);
+    let key = TextKey::new(key);
+    let pre_counter = pre_counter_block(&key, iv);
+    let masks = first_pass(&key, &pre_counter, text.len());
+    let computed = tag(&masks[SUBKEY], &masks[TAG_MASK], aad, text);
+    xor_key_stream(&key, &pre_counter, &masks, text);
     computed
 }
