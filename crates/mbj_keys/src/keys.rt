@@ -3,17 +3,15 @@ ghost use Rattle.std.specs.List.{All};
 ghost use Rattle.mbj_aes.specs.Bytes.{IsKeySize};
 ghost use Rattle.mbj_keys.specs.Sessions.{AreOf, keys_of, knows_key, entry_of};
 ghost use Rattle.mbj_keys.specs.Schedules.{IsScheduleOf};
-ghost use Rattle.mbj_keys.specs.declared.keys.TheConstants.{MAX_SESSIONS};
+ghost use Rattle.mbj_types.specs.declared.limits.TheConstants.{MAX_SESSIONS};
 
 use crate::entry::KeyEntry;
 use crate::notes::Notes;
 use crate::session::Session;
 use mbj_aes::Schedule;
+use mbj_types::MAX_SESSIONS;
 use std::alloc::{AllocError, Global};
 use std::marker::Model;
-
-/// How many sessions there are at most.
-pub const MAX_SESSIONS: usize = 256;
 
 /// Keys that tasks share, one for each session. Contracts see each session's key, and the name of the cell in which the
 /// key's entry is put.
@@ -28,7 +26,7 @@ pub struct Keys {
 impl Model for Keys {
     ghost use Rattle.std.specs.Prelude.{List, ◌≤◌, length};
     ghost use Rattle.mbj_keys.specs.Sessions.{Session as Seen};
-    ghost use Rattle.mbj_keys.specs.declared.keys.TheConstants.{MAX_SESSIONS};
+    ghost use Rattle.mbj_types.specs.declared.limits.TheConstants.{MAX_SESSIONS};
 
     ghost Value = { List Seen };
 

@@ -1,14 +1,8 @@
 ghost use Rattle.std.specs.Prelude.{◌≡◌, IsSome};
 ghost use Rattle.mbj_keys.specs.Sessions.{AreOf, entry_of};
-ghost use Rattle.mbj_keys.specs.declared.keys.TheConstants.{MAX_SESSIONS};
 
 use crate::keys::Keys;
 use crate::notes::Notes;
-
-/// A law: the bound on the number of sessions.
-pub fn there_are_at_most_this_many_sessions()
-    ensures { MAX_SESSIONS ≡ 256 }
-{}
 
 /// A law: two notes of one `Keys` that both know session `n` show one and the same entry, whichever threads learned it.
 /// It takes no memory, and leaves both as they are.

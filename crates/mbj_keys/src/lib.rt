@@ -10,8 +10,8 @@ mod notes;
 mod session;
 
 pub use entry::KeyEntry;
-pub use keys::{Keys, MAX_SESSIONS};
-pub use laws::{agree, keys_cross_threads, there_are_at_most_this_many_sessions};
+pub use keys::Keys;
+pub use laws::{agree, keys_cross_threads};
 pub use notes::Notes;
 
 // A crate can name keys and notes in a contract only if the types of their fields are exported.
