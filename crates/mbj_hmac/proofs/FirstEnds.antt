@@ -14,6 +14,14 @@ module _ (h : Chaining) (std : IsStandard h) where
   abbrev b : ℕ
   b = h.block_bytes
 
+  -- what is written behind the first block
+  pub behind_first : (t : ℕ) (xs old x : List ℕ) → length old ≡ 5 * b → take (b * (t + 1)) xs ≡ take b old ++ x → take (b * t) (drop b xs) ≡ x
+  behind_first t xs old x whole written =
+      let i : b * (t + 1) ≡ b + b * t = omega arith in
+      let l : length (take b old) ≡ b = length-take-le b old (omega (arith, (size_range b std.size).1)) in
+      sym (drop-take b (b * t) xs) ∙ ap (λ k. drop b (take k xs)) (sym i) ∙ ap (drop b) written
+      ∙ ap (λ k. drop k (take b old ++ x)) (sym l) ∙ drop-append_seam (take b old) x
+
   module _ (len : ℕ) where
     abbrev t : ℕ
     t = tail_blocks b len
@@ -25,13 +33,13 @@ module _ (h : Chaining) (std : IsStandard h) where
     pub end_fits : b * (t + 1) ≤ 5 * b
     end_fits = omega (arith, times_le b std.size (t + 1) 5 (omega (arith, (tail_range b std.size len).1)))
 
-    -- what is written behind the first block
-    pub behind_first : (xs old x : List ℕ) → length old ≡ 5 * b → take (b * (t + 1)) xs ≡ take b old ++ x → take (b * t) (drop b xs) ≡ x
-    behind_first xs old x whole written =
-        let i : b * (t + 1) ≡ b + b * t = omega arith in
-        let l : length (take b old) ≡ b = length-take-le b old (omega (arith, (size_range b std.size).1)) in
-        sym (drop-take b (b * t) xs) ∙ ap (λ k. drop b (take k xs)) (sym i) ∙ ap (drop b) written
-        ∙ ap (λ k. drop k (take b old ++ x)) (sym l) ∙ drop-append_seam (take b old) x
+    -- what is written behind the message's end
+    pub both_behind : (old mid xs x y : List ℕ) (at : ℕ) → length old ≡ 5 * b → at ≡ b * (t + 1) → take (b * (t + 1)) mid ≡ take b old ++ x
+        → take (at + b) xs ≡ take at mid ++ y → take (b * (t + 1)) (drop b xs) ≡ x ++ y
+    both_behind old mid xs x y at whole e first second =
+        let n : b * (t + 1 + 1) ≡ at + b = omega (arith, e) in
+        behind_first (t + 1) xs old (x ++ y) whole
+        (ap (λ k. take k xs) n ∙ second ∙ ap (λ k. take k mid ++ y) e ∙ ap (λ l. l ++ y) first ∙ append_assoc (take b old) x y)
 
     -- the end of a message
     module _ (packet : List ℕ) (off : ℕ) where

@@ -1,27 +1,45 @@
 -- The blocks of an entry stand where the entry reads them.
-use Rattle.std.proofs.Common.{◌≡◌, ℕ, ◌+◌, ◌-◌, ◌*◌, ◌/◌, ◌^◌, ◌≤◌, ◌<◌, ◌⊎◌, inl, inr, List, [], ◌++◌, length, take, drop, refl, sym, ap, ◌∙◌, arith, length-append, length-drop, Bool, true, false}
+use Rattle.std.proofs.Common.{◌≡◌, ℕ, ◌+◌, ◌-◌, ◌*◌, ◌/◌, ◌^◌, ◌≤◌, ◌<◌, ◌⊎◌, inl, inr, List, [], ◌++◌, length, take, drop, refl, sym, ap, ◌∙◌, arith, length-append, length-drop, true, false}
 use Rattle.std.proofs.lemmas.List.{length-take-le, take_at, append_assoc}
 use Rattle.std.proofs.lemmas.Bool.{lt-ltb, le-ltb, cases_lt}
 use Rattle.std.specs.Prelude.{nat_lt, if◌then◌else◌}
 use Rattle.mbj_types.specs.declared.class.HashName.{HashName}
+use Rattle.mbj_hmac.specs.declared.form.Form.{Form}
+use Rattle.mbj_hmac.specs.declared.form.Form.TheVariants.{Plain, Keyed, States}
+use Rattle.mbj_hmac.specs.Forms.{counted, has_pads, outer_rounds_of}
 use Rattle.mbj_hmac.specs.Rounds.{Chaining, HmacState, padded, message, inner_text, outer_text, block_before}
 use Rattle.mbj_hmac.specs.Inside.Layout.{IsStandard, whole_blocks, tail_blocks, fill, seen, outer_part, IsSound}
 use Rattle.mbj_hmac.proofs.Numbers.{size_range, before_range, split, rounds_is, fill_is, fill_on, piece_fill, length-padding_of, times_le, blocks}
 use Rattle.mbj_hmac.proofs.Texts.{block_left, block_right, block_take, block_drop, block_range}
 
--- the blocks before the message: an HMAC has the inner pad
-abbrev pub front_blocks : Bool → ℕ
-front_blocks keyed = if keyed then 1 else 0
+-- the blocks before the message: under a key there is the inner pad
+abbrev pub front_blocks : Form → ℕ
+front_blocks Plain = 0
+front_blocks Keyed = 1
+front_blocks States = 0
+
+-- the bytes that lie behind a stored state, of blocks of b bytes
+abbrev pub bytes_behind : Form → ℕ → ℕ
+bytes_behind Plain b = 0
+bytes_behind Keyed b = 0
+bytes_behind States b = b
+
+pub counted_is : (form : Form) (b n : ℕ) → counted form b n ≡ bytes_behind form b + n
+counted_is Plain b n = omega arith
+counted_is Keyed b n = omega arith
+counted_is States b n = refl
 
 -- a text of the outer hash is an HMAC's
-outer_is : (keyed : Bool) (x : List ℕ) → 0 < (if keyed then 2 else 0) → (if keyed then x else []) ≡ x
-outer_is true x some = refl
-outer_is false x some = absurd (omega arith)
+pub outer_is : (form : Form) (x : List ℕ) → 0 < outer_rounds_of form → (if nat_lt 0 (outer_rounds_of form) then x else []) ≡ x
+outer_is Plain x some = absurd (omega arith)
+outer_is Keyed x some = refl
+outer_is States x some = refl
 
 -- its rounds are two at most
-pub outer_few : (keyed : Bool) → (if keyed then 2 else 0) ≤ 2
-outer_few true = omega arith
-outer_few false = omega arith
+pub outer_few : (form : Form) → outer_rounds_of form ≤ 2
+outer_few Plain = omega arith
+outer_few Keyed = omega arith
+outer_few States = omega arith
 
 module _ (h : Chaining) (std : IsStandard h) where
   abbrev b : ℕ
@@ -31,9 +49,10 @@ module _ (h : Chaining) (std : IsStandard h) where
   join x y = omega arith
 
   -- before the message there is a block, or nothing
-  pub front_bytes : (keyed : Bool) → (b * front_blocks keyed ≡ 0) ⊎ (b * front_blocks keyed ≡ b)
-  front_bytes true = inr (omega arith)
-  front_bytes false = inl (omega arith)
+  pub front_bytes : (form : Form) → (bytes_behind form b + b * front_blocks form ≡ 0) ⊎ (bytes_behind form b + b * front_blocks form ≡ b)
+  front_bytes Plain = inl (omega arith)
+  front_bytes Keyed = inr (omega arith)
+  front_bytes States = inr (omega arith)
 
   -- the padding behind p bytes and a message of n
   pub length-padding : (p n : ℕ) → (p ≡ 0) ⊎ (p ≡ b) → n < 2 ^ 32 → length (h.padding (p + n)) ≡ 1 + fill b n + 8
@@ -52,9 +71,9 @@ module _ (h : Chaining) (std : IsStandard h) where
       ap (λ n. length (h.padding n)) bd ∙ ap length (std.pads (b + length d) room) ∙ length-padding_of b std.size (b + length d) in
       omega (arith, length-append (back ++ d) (h.padding (length (back ++ d))), piece_fill b std.size (length d) small)
 
-  module _ (packet chain inner : List ℕ) (a : HashName) (keyed : Bool) (ends : List ℕ) (rest off len : ℕ) where
+  module _ (packet chain inner start : List ℕ) (a : HashName) (form : Form) (ends : List ℕ) (rest off len : ℕ) where
     abbrev e : HmacState
-    e = seen h packet rest chain inner a keyed ends off len
+    e = seen h packet rest chain inner start a form ends off len
 
     abbrev text : List ℕ
     text = inner_text h e
@@ -70,26 +89,34 @@ module _ (h : Chaining) (std : IsStandard h) where
 
     -- the rounds of the outer hash, and the blocks before the message
     abbrev o : ℕ
-    o = if keyed then 2 else 0
+    o = outer_rounds_of form
 
     abbrev f : ℕ
-    f = front_blocks keyed
+    f = front_blocks form
+
+    -- the bytes behind a stored state
+    abbrev p : ℕ
+    p = bytes_behind form b
 
     pub length-message : IsSound h ends e → length (message e) ≡ len
     length-message s = length-take-le len (drop off packet) (omega (arith, s.0, length-drop off packet))
 
     pub length-front : IsSound h ends e → length e.front ≡ b * f
-    length-front s = go keyed
+    length-front s = go form
       where
-        go : (k : Bool) → length (if k then take b ends else []) ≡ b * front_blocks k
-        go true = length-take-le b ends (omega (arith, s.4, (size_range b std.size).1)) ∙ omega arith
-        go false = omega arith
+        go : (k : Form) → length (if has_pads k then take b ends else []) ≡ b * front_blocks k
+        go Plain = omega arith
+        go Keyed = length-take-le b ends (omega (arith, s.4, (size_range b std.size).1)) ∙ omega arith
+        go States = omega arith
 
     pub length-text : IsSound h ends e → length text ≡ b * (f + w + t)
     length-text s =
         let fm : length (e.front ++ message e) ≡ b * f + len = omega (arith, length-append e.front (message e), length-front s, length-message s) in
-        let p : length (h.padding (length (e.front ++ message e))) ≡ 1 + fill b len + 8 = ap (λ n. length (h.padding n)) fm ∙ length-padding (b * f) len (front_bytes keyed) s.2 in
-        omega (arith, length-append (e.front ++ message e) (h.padding (length (e.front ++ message e))), split b std.size len, fill_is b std.size len)
+        let count : ℕ = counted form b (length (e.front ++ message e)) in
+        let sum : count ≡ p + b * f + len = counted_is form b (length (e.front ++ message e)) ∙ omega (arith, fm) in
+        let long : length (h.padding count) ≡ 1 + fill b len + 8 =
+        ap (λ n. length (h.padding n)) sum ∙ length-padding (p + b * f) len (front_bytes form) s.2 in
+        omega (arith, length-append (e.front ++ message e) (h.padding count), split b std.size len, fill_is b std.size len)
 
     -- how many blocks the inner hash reads
     text_blocks : IsSound h ends e → length text / b ≡ f + w + t
@@ -103,12 +130,12 @@ module _ (h : Chaining) (std : IsStandard h) where
         let j : (length text / b + o - r) * b ≡ b * f + b * q = ap (λ n. n * b) place ∙ omega arith in
         let before : q + 1 ≤ w = omega arith in
         let inside : b * q + b ≤ len = omega (arith, times_le b std.size (q + 1) w before, split b std.size len) in
-        let p : List ℕ = h.padding (length (e.front ++ message e)) in
+        let pad : List ℕ = h.padding (counted form b (length (e.front ++ message e))) in
         let lm : length (message e) ≡ len = length-message s in
-        let read : take b (drop (b * f + b * q) ((e.front ++ message e) ++ p)) ≡ take b (drop k packet) =
-        ap (λ t. take b (drop (b * f + b * q) t)) (append_assoc e.front (message e) p)
-        ∙ block_right b (b * f + b * q) (b * q) e.front (message e ++ p) (ap (λ n. n + b * q) (length-front s))
-        ∙ block_left b (b * q) (message e) p (omega arith)
+        let read : take b (drop (b * f + b * q) ((e.front ++ message e) ++ pad)) ≡ take b (drop k packet) =
+        ap (λ t. take b (drop (b * f + b * q) t)) (append_assoc e.front (message e) pad)
+        ∙ block_right b (b * f + b * q) (b * q) e.front (message e ++ pad) (ap (λ n. n + b * q) (length-front s))
+        ∙ block_left b (b * q) (message e) pad (omega arith)
         ∙ block_range b (b * q) off len packet inside
         ∙ ap (λ i. take b (drop i packet)) (sym ek) in
         rw (yes, j) (sym read)
@@ -140,7 +167,7 @@ module _ (h : Chaining) (std : IsStandard h) where
         let place : t + (o - r) ≡ q = omega arith in
         let i : length tail + (o - r) * b ≡ b * q = ap (λ n. n + (o - r) * b) (length-tail s) ∙ join t (o - r) ∙ ap (λ n. b * n) place in
         block_right b (b * q) ((o - r) * b) tail out i
-        ∙ ap (λ x. take b (drop ((o - r) * b) x)) (outer_is keyed (outer_text h e) (omega arith))
+        ∙ ap (λ x. take b (drop ((o - r) * b) x)) (outer_is form (outer_text h e) (omega arith))
         ∙ sym (rw no refl)
 
     -- a block behind the packet's whole blocks
@@ -153,17 +180,18 @@ module _ (h : Chaining) (std : IsStandard h) where
         ∙ sym (block_take b (b * q) (b * (t + o)) (drop b ends) inside) ∙ ap (λ x. take b (drop (b * q) x)) s.3 in
         read ∙ elim (cases_lt o r) [ inl lt ↦ inner_laid r q s lt at | inr le ↦ outer_laid r q s le some at ]
 
-  -- the first block is an HMAC's alone
-  pub first_laid : (packet chain inner : List ℕ) (a : HashName) (keyed : Bool) (ends : List ℕ) (rest off len r : ℕ)
-      → IsSound h ends (seen h packet rest chain inner a keyed ends off len) → r ≤ rest
-      → tail_blocks b len + (if keyed then 2 else 0) + whole_blocks b len < r
-      → take b ends ≡ block_before h (seen h packet rest chain inner a keyed ends off len) r
-  first_laid packet chain inner a true ends rest off len r s le lt =
-      let e : HmacState = seen h packet rest chain inner a true ends off len in
+  -- the first block is there under a key alone
+  pub first_laid : (packet chain inner start : List ℕ) (a : HashName) (form : Form) (ends : List ℕ) (rest off len r : ℕ)
+      → IsSound h ends (seen h packet rest chain inner start a form ends off len) → r ≤ rest
+      → tail_blocks b len + outer_rounds_of form + whole_blocks b len < r
+      → take b ends ≡ block_before h (seen h packet rest chain inner start a form ends off len) r
+  first_laid packet chain inner start a Keyed ends rest off len r s le lt =
+      let e : HmacState = seen h packet rest chain inner start a Keyed ends off len in
       let text : List ℕ = inner_text h e in
       let yes : nat_lt 2 r ≡ true = lt-ltb 2 r (omega arith) in
-      let place : length text / b + 2 - r ≡ 0 = omega (arith, text_blocks packet chain inner a true ends rest off len s, rounds_is b std.size len, s.1) in
+      let place : length text / b + 2 - r ≡ 0 = omega (arith, text_blocks packet chain inner start a Keyed ends rest off len s, rounds_is b std.size len, s.1) in
       let j : (length text / b + 2 - r) * b ≡ 0 = ap (λ n. n * b) place ∙ omega arith in
-      let lf : length (take b ends) ≡ b = length-front packet chain inner a true ends rest off len s ∙ omega arith in
+      let lf : length (take b ends) ≡ b = length-front packet chain inner start a Keyed ends rest off len s ∙ omega arith in
       rw (yes, j, append_assoc) (sym (take_at (take b ends) (message e ++ h.padding (length (take b ends ++ message e))) b lf))
-  first_laid packet chain inner a false ends rest off len r s le lt = absurd (omega (arith, rounds_is b std.size len, s.1))
+  first_laid packet chain inner start a Plain ends rest off len r s le lt = absurd (omega (arith, rounds_is b std.size len, s.1))
+  first_laid packet chain inner start a States ends rest off len r s le lt = absurd (omega (arith, rounds_is b std.size len, s.1))

@@ -1,13 +1,17 @@
 -- A new entry.
-use Rattle.std.proofs.Common.{◌≡◌, ℕ, ◌+◌, ◌-◌, ◌*◌, ◌^◌, ◌≤◌, ◌<◌, inr, List, [], ◌++◌, length, take, drop, true, false, refl, sym, ap, ap₂, ◌∙◌, arith, append-nil, length-append, length-drop}
+use Rattle.std.proofs.Common.{◌≡◌, ℕ, ◌+◌, ◌-◌, ◌*◌, ◌^◌, ◌≤◌, ◌<◌, inr, List, [], ◌++◌, length, take, drop, refl, sym, ap, ap₂, ◌∙◌, arith, append-nil, length-append, length-drop}
 use Rattle.std.proofs.lemmas.List.{length-take-le, take_at, take-take, drop-append-le, drop-take, drop-drop, append_assoc}
 use Rattle.std.proofs.Math.Seq.{drop-append-add, drop-append_seam}
 use Rattle.std.specs.Prelude.{replicate, IsTrue}
 use Rattle.mbj_types.specs.declared.class.HashName.{HashName}
-use Rattle.mbj_types.specs.Rounds.{hash_rounds, hmac_rounds}
-use Rattle.mbj_hmac.specs.Rounds.{Chaining, padded, started, started_plain}
-use Rattle.mbj_hmac.specs.Inside.Layout.{IsStandard, whole_blocks, tail_blocks, message_end, first_ends, seen, IsSound}
+use Rattle.mbj_types.specs.Rounds.{hash_rounds, hmac_rounds, states_rounds}
+use Rattle.mbj_hmac.specs.declared.form.Form.{Form}
+use Rattle.mbj_hmac.specs.declared.form.Form.TheVariants.{Plain, Keyed, States}
+use Rattle.mbj_hmac.specs.Forms.{counted}
+use Rattle.mbj_hmac.specs.Rounds.{Chaining, padded, padded_in, started, started_plain, started_states}
+use Rattle.mbj_hmac.specs.Inside.Layout.{IsStandard, whole_blocks, tail_blocks, message_end, digest_block, first_ends, seen, IsSound}
 use Rattle.mbj_hmac.proofs.Numbers.{times_le, split}
+use Rattle.mbj_hmac.proofs.Laid.{bytes_behind, counted_is}
 use Rattle.mbj_hmac.proofs.Texts.{block_right, block_take}
 use Rattle.mbj_hmac.proofs.FirstEnds.{text_end, length-message_end}
 
@@ -25,21 +29,22 @@ module _ (h : Chaining) (std : IsStandard h) (packet : List ℕ) (off len : ℕ)
   msg = take len (drop off packet)
 
   -- the end of the text that the first hash reads, where `front` stands before the message
-  text_tail : (front : List ℕ) → off + len ≤ length packet → drop (length front + b * w) (padded h (front ++ msg)) ≡ message_end h (length front) packet off len
-  text_tail front range =
+  text_tail : (form : Form) (before : ℕ) (front : List ℕ) → bytes_behind form b + length front ≡ before → off + len ≤ length packet
+      → drop (length front + b * w) (padded_in h form (front ++ msg)) ≡ message_end h before packet off len
+  text_tail form before front e range =
       let lm : length msg ≡ len = length-take-le len (drop off packet) (omega (arith, length-drop off packet)) in
-      let all : length (front ++ msg) ≡ length front + len = omega (arith, length-append front msg) in
-      let before : b * w ≤ len = omega (arith, split b std.size len) in
+      let all : counted form b (length (front ++ msg)) ≡ before + len = counted_is form b (length (front ++ msg)) ∙ omega (arith, length-append front msg) in
+      let inside : b * w ≤ len = omega (arith, split b std.size len) in
       let sum : b * w + (len - b * w) ≡ len = omega arith in
-      let p : List ℕ = h.padding (length front + len) in
-      let e : drop (b * w) msg ≡ text_end h std len packet off =
+      let p : List ℕ = h.padding (before + len) in
+      let last : drop (b * w) msg ≡ text_end h std len packet off =
       ap (λ k. drop (b * w) (take k (drop off packet))) (sym sum) ∙ drop-take (b * w) (len - b * w) (drop off packet)
       ∙ ap (take (len - b * w)) (drop-drop (b * w) off packet) in
-      ap (λ n. drop (length front + b * w) ((front ++ msg) ++ h.padding n)) all
+      ap (λ k. drop (length front + b * w) ((front ++ msg) ++ h.padding k)) all
       ∙ ap (drop (length front + b * w)) (append_assoc front msg p)
       ∙ drop-append-add front (msg ++ p) (b * w)
       ∙ drop-append-le (b * w) msg p (omega arith)
-      ∙ ap (λ x. x ++ p) e
+      ∙ ap (λ x. x ++ p) last
 
   -- an HMAC
   module _ (a : HashName) (ends front back zeros : List ℕ) where
@@ -94,31 +99,43 @@ module _ (h : Chaining) (std : IsStandard h) (packet : List ℕ) (off len : ℕ)
           ∙ block_right b (b * t) 0 middle (back ++ last) (omega (arith, length-middle))
           ∙ take_at back last b f.back_is
 
-      pub new_sound : (chain : List ℕ) (rest : ℕ) → rest ≡ hmac_rounds b len → IsSound h ends (seen h packet rest chain zeros a true ends off len)
-      new_sound chain rest r =
+      pub new_sound : (chain start : List ℕ) (rest : ℕ) → rest ≡ hmac_rounds b len → IsSound h ends (seen h packet rest chain zeros start a Keyed ends off len)
+      new_sound chain start rest r =
           let n : length (back ++ digest) ≡ b + length digest = length-append back digest ∙ ap (λ n. n + length digest) f.back_is in
           let o : back ++ last ≡ padded h (back ++ digest) =
           sym (append_assoc back digest (h.padding (b + length digest))) ∙ ap (λ k. (back ++ digest) ++ h.padding k) (sym n) in
           let inner : middle ≡ drop (length front + b * w) (padded h (front ++ msg)) =
-          ap (λ n. message_end h n packet off len) (sym f.front_is) ∙ sym (text_tail front f.range) in
+          ap (λ n. message_end h n packet off len) (sym f.front_is) ∙ sym (text_tail Keyed (length front) front (omega arith) f.range) in
           let laid : take (b * (t + 2)) (drop b ends) ≡ drop (length front + b * w) (padded h (front ++ msg)) ++ padded h (back ++ digest) =
           tail_laid ∙ ap₂ (λ x y. x ++ y) inner o in
           (f.range, omega (arith, r), f.small, rw (front_laid, back_laid) laid, f.whole, f.served)
 
       pub new_seen : (rest : ℕ) → rest ≡ hmac_rounds b len → zeros ≡ replicate h.words 0
-          → seen h packet rest (h.initial a) zeros a true ends off len ≡ started h a front back packet off len
+          → seen h packet rest (h.initial a) zeros (h.initial a) a Keyed ends off len ≡ started h a front back packet off len
       new_seen rest r z = rw (front_laid, back_laid, r, z) refl
 
   -- a digest
-  pub plain_sound : (a : HashName) (ends chain zeros : List ℕ) (rest : ℕ) → off + len ≤ length packet → len < 2 ^ 32 → length ends ≡ 5 * b → IsTrue (h.serves a)
+  pub plain_sound : (a : HashName) (ends chain zeros start : List ℕ) (rest : ℕ) → off + len ≤ length packet → len < 2 ^ 32 → length ends ≡ 5 * b → IsTrue (h.serves a)
       → take (b * t) (drop b ends) ≡ message_end h 0 packet off len → rest ≡ hash_rounds b len
-      → IsSound h ends (seen h packet rest chain zeros a false ends off len)
-  plain_sound a ends chain zeros rest range small whole served ends_are r =
+      → IsSound h ends (seen h packet rest chain zeros start a Plain ends off len)
+  plain_sound a ends chain zeros start rest range small whole served ends_are r =
       let none : t + 0 ≡ t = omega arith in
-      let laid = ap (λ (n : ℕ). take (b * n) (drop b ends)) none ∙ ends_are ∙ sym (text_tail [] range)
+      let laid = ap (λ (n : ℕ). take (b * n) (drop b ends)) none ∙ ends_are ∙ sym (text_tail Plain 0 [] refl range)
       ∙ sym (append-nil (drop (0 + b * w) (padded h msg))) in
       (range, omega (arith, r), small, laid, whole, served)
 
   pub plain_seen : (a : HashName) (ends zeros : List ℕ) (rest : ℕ) → rest ≡ hash_rounds b len → zeros ≡ replicate h.words 0
-      → seen h packet rest (h.initial a) zeros a false ends off len ≡ started_plain h a packet off len
+      → seen h packet rest (h.initial a) zeros zeros a Plain ends off len ≡ started_plain h a packet off len
   plain_seen a ends zeros rest r z = rw (r, z) refl
+
+  -- an HMAC from states
+  pub states_sound : (a : HashName) (ends chain zeros start : List ℕ) (rest : ℕ) → off + len ≤ length packet → len < 2 ^ 32 → length ends ≡ 5 * b → IsTrue (h.serves a)
+      → take (b * (t + 1)) (drop b ends) ≡ message_end h b packet off len ++ digest_block h a zeros → rest ≡ states_rounds b len
+      → IsSound h ends (seen h packet rest chain zeros start a States ends off len)
+  states_sound a ends chain zeros start rest range small whole served ends_are r =
+      let inner : message_end h b packet off len ≡ drop (0 + b * w) (padded_in h States msg) = sym (text_tail States b [] (omega arith) range) in
+      (range, omega (arith, r), small, ends_are ∙ ap (λ x. x ++ digest_block h a zeros) inner, whole, served)
+
+  pub states_seen : (a : HashName) (ends chain zeros start : List ℕ) (rest : ℕ) → rest ≡ states_rounds b len → zeros ≡ replicate h.words 0
+      → seen h packet rest chain zeros start a States ends off len ≡ started_states h a chain start packet off len
+  states_seen a ends chain zeros start rest r z = rw (r, z) refl

@@ -1,4 +1,4 @@
--- Entries that go on by blocks, the outer pad's being at most the first of them.
+-- Entries that go on by blocks, of which the outer hash's first is at most the first.
 use Rattle.std.proofs.Common.{◌≡◌, ℕ, zero, suc, ◌+◌, ◌-◌, ◌≤◌, ◌<◌, List, [], ◌∷◌, length, map, min, get_or, eqb, ◌&&◌, Bool, true, false, ◌⊎◌, inl, inr, refl, sym, ap, ap₂, ◌∙◌, arith, add-one}
 use Rattle.std.specs.Prelude.{nat_lt, if◌then◌else◌}
 use Rattle.std.proofs.lemmas.Bool.{cases_lt, lt-ltb, le-ltb, eqb-true}
@@ -7,7 +7,9 @@ use Rattle.mbj_lane.specs.Rounds.{after, least_from}
 use Rattle.mbj_lane.specs.Laws.{rest-after}
 use Rattle.mbj_lane.proofs.Led.{after-one_more, map-after-after, get_or-map, rests-after}
 use Rattle.mbj_lane.proofs.Least.{least_from-le, least_from-at}
-use Rattle.mbj_hmac.specs.Rounds.{Chaining, HmacState, block_before, advanced, outer_rounds, turned, round, rest_of}
+use Rattle.mbj_hmac.specs.declared.form.Form.{Form}
+use Rattle.mbj_hmac.specs.Forms.{outer_rounds_of}
+use Rattle.mbj_hmac.specs.Rounds.{Chaining, HmacState, block_before, advanced, is_turn, outer_rounds, turned, round, rest_of}
 use Rattle.mbj_hmac.specs.Inside.LaneEntry.{reach_of}
 use Rattle.mbj_hmac.specs.Laws.Falls.{turned_rest, falls}
 use Rattle.mbj_hmac.specs.Laws.Tests.{not_both}
@@ -41,7 +43,7 @@ module _ (o n : ℕ) where
   reach_some : 1 ≤ n → 0 < reach
   reach_some h = elim reach_is [ inl p ↦ omega arith | inr p ↦ omega arith ]
 
-  -- within its reach, and behind its first round, an entry doesn't come to the outer pad's round
+  -- within its reach, and behind its first round, an entry doesn't come to the outer hash's first round
   reach_before : (k : ℕ) → suc (suc k) ≤ reach → n - suc k ≡ o → ⊥
   reach_before k le e = elim reach_is [ inl p ↦ omega arith | inr p ↦ omega arith ]
 
@@ -57,38 +59,38 @@ second true y q = q
 second false y q = absurd (not_both q)
 
 module _ (h : Chaining) where
-  -- an entry whose outer pad isn't next isn't turned
+  -- an entry where the outer hash's first block isn't next isn't turned
   unturned : (e : HmacState) → (e.rest ≡ outer_rounds e → ⊥) → turned h e ≡ e
-  unturned e apart = go (e.keyed && eqb e.rest (outer_rounds e)) refl
+  unturned e apart = go (is_turn e) refl
     where
-      go : (b : Bool) → (e.keyed && eqb e.rest (outer_rounds e)) ≡ b → turned h e ≡ e
-      go true q = absurd (apart (eqb-true e.rest (outer_rounds e) (second e.keyed (eqb e.rest (outer_rounds e)) q)))
+      go : (b : Bool) → is_turn e ≡ b → turned h e ≡ e
+      go true q = absurd (apart (eqb-true e.rest (outer_rounds e) (second (nat_lt 0 (outer_rounds e)) (eqb e.rest (outer_rounds e)) q)))
       go false q = rw q refl
 
   -- what is turned is an HMAC or a digest as before
-  turned_keyed : (e : HmacState) → (turned h e).keyed ≡ e.keyed
-  turned_keyed e = go (e.keyed && eqb e.rest (outer_rounds e))
+  turned_form : (e : HmacState) → (turned h e).form ≡ e.form
+  turned_form e = go (is_turn e)
     where
-      go : (b : Bool) → (if b then record e { chain = h.initial e.hash; inner = e.chain } else e).keyed ≡ e.keyed
+      go : (b : Bool) → (if b then record e { chain = e.start; inner = e.chain } else e).form ≡ e.form
       go true = refl
       go false = refl
 
   -- and so is what is led
-  keyed_after : (k : ℕ) (e : HmacState) → (after (round h) k e).keyed ≡ e.keyed
-  keyed_after zero e = refl
-  keyed_after (suc k) e = keyed_after k (round h e) ∙ turned_keyed e
+  form_after : (k : ℕ) (e : HmacState) → (after (round h) k e).form ≡ e.form
+  form_after zero e = refl
+  form_after (suc k) e = form_after k (round h e) ∙ turned_form e
 
   -- a turn leaves the reach
   turned_reach : (e : HmacState) → reach_of (turned h e) ≡ reach_of e
-  turned_reach e = ap₂ (λ (k : Bool) (n : ℕ). reach (if k then 2 else 0) n) (turned_keyed e) (turned_rest h e)
+  turned_reach e = ap₂ (λ (f : Form) (n : ℕ). reach (outer_rounds_of f) n) (turned_form e) (turned_rest h e)
 
-  -- rounds are blocks, where no outer pad is among them but at first
+  -- rounds are blocks, where the outer hash's first is not among them but at first
   pub rounds_are_blocks : (k : ℕ) (e : HmacState) → suc k ≤ reach_of e → after (round h) (suc k) e ≡ after (advanced h) (suc k) (turned h e)
   rounds_are_blocks zero e le = refl
   rounds_are_blocks (suc k) e le =
       let x : HmacState = after (round h) (suc k) e in
       let xr : x.rest ≡ e.rest - suc k = rest-after (round h) rest_of (falls h) (suc k) e in
-      let xo : outer_rounds x ≡ outer_rounds e = ap (λ (b : Bool). if b then 2 else 0) (keyed_after (suc k) e) in
+      let xo : outer_rounds x ≡ outer_rounds e = ap (λ (f : Form). outer_rounds_of f) (form_after (suc k) e) in
       let stays : turned h x ≡ x = unturned x (λ q. reach_before (outer_rounds e) e.rest k le (sym xr ∙ q ∙ xo)) in
       ap (λ n. after (round h) n e) (sym (add-one (suc k))) ∙ sym (after-one_more (round h) (suc k) e)
       ∙ ap (advanced h) (stays ∙ rounds_are_blocks k e (omega arith))

@@ -42,6 +42,9 @@ sha1_chaining = record {
   words = 5;
   initial = sha1_initial;
   digest = sha1_digest;
+  state_bytes = 20;
+  stored = λ s. Sha1.digest_bytes s 5;
+  loaded = λ bytes. Sha1.first_words bytes 5;
 }
 
 -- ---- SHA-224 and SHA-256
@@ -77,6 +80,9 @@ sha256_chaining = record {
   words = 8;
   initial = sha256_initial;
   digest = sha256_digest;
+  state_bytes = 32;
+  stored = λ s. Sha256.digest_bytes s 8;
+  loaded = λ bytes. Sha256.first_words bytes 8;
 }
 
 -- ---- SHA-384 and SHA-512
@@ -112,4 +118,7 @@ sha512_chaining = record {
   words = 8;
   initial = sha512_initial;
   digest = sha512_digest;
+  state_bytes = 64;
+  stored = λ s. Sha512.digest_bytes s 8;
+  loaded = λ bytes. Sha512.first_words bytes 8;
 }

@@ -1,16 +1,15 @@
 // The ends of an entry: the blocks that don't stand whole in its packet. They are the inner pad, the message's end with the
-// padding, the outer pad, and the inner digest with its padding. A digest has the message's end alone, at the same place.
+// padding, the outer pad, and the inner digest with its padding. A digest has the message's end alone, at the same place, and an HMAC
+// from states has the inner digest right behind it.
 ghost use Rattle.std.specs.Prelude.{◌≡◌, ℕ, ◌+◌, ◌-◌, ◌*◌, ◌/◌, ◌^◌, ◌<◌, ◌≤◌, ◌∷◌, ◌++◌, ◌⊎◌, length, replicate, take, drop, IsTrue};
 ghost use Rattle.mbj_types.specs.Hmac.{padded_key, ipad, opad};
-ghost use Rattle.mbj_types.specs.Rounds.{hash_rounds, hmac_rounds};
-ghost use Rattle.mbj_hmac.specs.Inside.Layout.{fill, first_ends, message_end, tail_blocks};
+ghost use Rattle.mbj_types.specs.Rounds.{hash_rounds, hmac_rounds, states_rounds};
+ghost use Rattle.mbj_hmac.specs.Inside.Layout.{digest_block, fill, first_ends, message_end, tail_blocks};
 
+use crate::form::Form;
 use crate::key::{IPAD, MAX_BLOCK_BYTES, OPAD, padded};
 use crate::lane_hash::LaneHash;
 use mbj_types::HashName;
-
-/// The rounds of an HMAC's outer hash: the outer pad, and the block that holds the inner digest.
-pub(crate) const OUTER_ROUNDS: u32 = 2;
 
 /// The bytes of the length that ends the padding, as far as lengths of messages go.
 const LENGTH_BYTES: usize = 8;
@@ -60,7 +59,15 @@ pub(crate) fn rounds<H: LaneHash>(len: usize) -> u32
     requires { len < 2 ^ 32 }
     ensures { result ≡ hmac_rounds H.chaining.block_bytes len }
 {
-    1 + plain_rounds::<H>(len) + OUTER_ROUNDS
+    1 + plain_rounds::<H>(len) + Form::Keyed.outer_rounds()
+}
+
+/// The rounds of an HMAC from states over a message: those of the message, and that of the outer hash.
+pub(crate) fn states_rounds<H: LaneHash>(len: usize) -> u32
+    requires { len < 2 ^ 32 }
+    ensures { result ≡ states_rounds H.chaining.block_bytes len }
+{
+    plain_rounds::<H>(len) + Form::States.outer_rounds()
 }
 
 /// The zero bytes of a message's padding, up to its last 8 bytes.
@@ -132,7 +139,7 @@ fn put_end<H: LaneHash>(
     put_padding::<H>(ends, at, before, len)
 }
 
-/// Writes the block that holds the digest of a hash value, with the padding behind the outer pad and the digest.
+/// Writes the block that holds the digest of a hash value, with the padding behind a block and the digest.
 pub(crate) fn put_digest<H: LaneHash>(
     ends: &mut H::Ends,
     at: usize,
@@ -142,8 +149,7 @@ pub(crate) fn put_digest<H: LaneHash>(
     requires serves { IsTrue (H.chaining.serves hash) }
     requires room { at + H.chaining.block_bytes ≤ 5 * H.chaining.block_bytes }
     ensures written { take (at + H.chaining.block_bytes) (H.ends_bytes ends.new) ≡ take at (H.ends_bytes ends.old)
-        ++ (H.chaining.digest hash (H.words chain.now)
-        ++ H.chaining.padding (H.chaining.block_bytes + length (H.chaining.digest hash (H.words chain.now)))) }
+        ++ digest_block H.chaining hash (H.words chain.now) }
     ensures len { length (H.ends_bytes ends.new) ≡ 5 * H.chaining.block_bytes }
 {
     let digest = H::digest(hash, chain);
@@ -188,5 +194,26 @@ pub(crate) fn plain_ends<H: LaneHash>(packet: &[u8], off: usize, len: usize) -> 
 {
     let mut ends = H::blank_ends();
     put_end::<H>(&mut ends, 0, packet, off, len);
+    ends
+}
+
+/// The ends of a new HMAC from states: the end of the message and its padding, behind a block, and a digest and its padding. What stands
+/// before them is not looked at.
+pub(crate) fn states_ends<H: LaneHash>(
+    hash: HashName,
+    packet: &[u8],
+    off: usize,
+    len: usize,
+) -> H::Ends
+    requires serves { IsTrue (H.chaining.serves hash) }
+    requires small { len < 2 ^ 32 }
+    requires range { off + len ≤ length packet.now }
+    ensures value { take (H.chaining.block_bytes * (tail_blocks H.chaining.block_bytes len + 1)) (drop H.chaining.block_bytes (H.ends_bytes result))
+        ≡ message_end H.chaining H.chaining.block_bytes packet.now off len ++ digest_block H.chaining hash (replicate H.chaining.words 0) }
+    ensures length { length (H.ends_bytes result) ≡ 5 * H.chaining.block_bytes }
+{
+    let mut ends = H::blank_ends();
+    let at = put_end::<H>(&mut ends, H::block_bytes(), packet, off, len);
+    put_digest::<H>(&mut ends, at, hash, &H::zeros());
     ends
 }

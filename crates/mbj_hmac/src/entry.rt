@@ -1,15 +1,18 @@
-ghost use Rattle.std.specs.Prelude.{◌≡◌, ◌+◌, ◌-◌, ◌<◌, ◌≤◌, length, replicate, take, drop, IfSome, IsTrue};
-ghost use Rattle.mbj_types.specs.Auths.{hash_of, hash_of_name, plain_hash_of};
+ghost use Rattle.std.specs.Prelude.{◌≡◌, ◌+◌, ◌-◌, ◌*◌, ◌<◌, ◌≤◌, length, replicate, take, drop, IfSome, IsTrue};
+ghost use Rattle.mbj_types.specs.Auths.{compression_of_name, hash_of, hash_of_name, plain_hash_of, states_hash_of};
 ghost use Rattle.mbj_types.specs.Hmac.{block_key, padded_key, hmac, ipad, opad};
-ghost use Rattle.mbj_types.specs.Rounds.{hash_rounds, hmac_rounds};
+ghost use Rattle.mbj_types.specs.Rounds.{hash_rounds, hmac_rounds, states_rounds};
+ghost use Rattle.mbj_types.specs.States.{hmac_from_states};
 ghost use Rattle.mbj_lane.specs.Rounds.{end_of};
-ghost use Rattle.mbj_hmac.specs.Names.{name_of, plain_name_of, serves_auth, serves_plain};
-ghost use Rattle.mbj_hmac.specs.Rounds.{HmacState, block_before, outer_rounds, rest_of, round, started, started_plain, turned};
+ghost use Rattle.mbj_hmac.specs.Names.{name_of, plain_name_of, serves_auth, serves_plain, serves_states, states_name_of};
+ghost use Rattle.mbj_hmac.specs.Rounds.{HmacState, block_before, outer_rounds, rest_of, round, started, started_plain, started_states, turned};
 
 use crate::ends::{
-    OUTER_ROUNDS, first_ends, plain_ends, plain_rounds, put_digest, rounds, tail_blocks,
+    first_ends, plain_ends, plain_rounds, put_digest, rounds, states_ends, states_rounds,
+    tail_blocks,
 };
-use crate::key::{MAX_BLOCK_BYTES, hash_key, hash_name, plain_name};
+use crate::form::Form;
+use crate::key::{MAX_BLOCK_BYTES, hash_key, hash_name, plain_name, states_name};
 use crate::lane_hash::LaneHash;
 use mbj_types::{Auth, HashName, Tag};
 use std::marker::Model;
@@ -17,7 +20,8 @@ use std::marker::Model;
 /// A digest or an HMAC on its way, over a range of a packet. A round is one compression.
 ///
 /// The rounds of a digest are the blocks of the padded message (FIPS 180-4, 5). Those of an HMAC are, in order: the inner
-/// pad, the blocks of the padded message, the outer pad, and the block that holds the inner digest (RFC 2104, 2).
+/// pad, the blocks of the padded message, the outer pad, and the block that holds the inner digest (RFC 2104, 2). From stored states
+/// the two pads have none (RFC 2104, 4).
 #[derive(Drop)]
 pub struct HmacEntry<H: LaneHash> {
     /// The packet, as it was given.
@@ -28,9 +32,10 @@ pub struct HmacEntry<H: LaneHash> {
     pub chain: H::Chain,
     /// The hash value of an HMAC's inner hash, once that is done; zeros before, and in a digest.
     pub inner: H::Chain,
+    /// The hash value from which an HMAC's outer hash starts; zeros in a digest.
+    start: H::Chain,
     hash: HashName,
-    /// Whether it is an HMAC.
-    keyed: bool,
+    form: Form,
     ends: H::Ends,
     off: usize,
     len: usize,
@@ -42,10 +47,10 @@ impl<H: LaneHash> Model for HmacEntry<H> {
 
     ghost Value = { HmacState };
 
-    ghost view = { λ e. seen H.chaining e.packet.items e.rest (H.words e.chain) (H.words e.inner) e.hash e.keyed (H.ends_bytes e.ends) e.off e.len };
+    ghost view = { λ e. seen H.chaining e.packet.items e.rest (H.words e.chain) (H.words e.inner) (H.words e.start) e.hash e.form (H.ends_bytes e.ends) e.off e.len };
 
     ghost invariant = { λ e. IsSound H.chaining (H.ends_bytes e.ends)
-        (seen H.chaining e.packet.items e.rest (H.words e.chain) (H.words e.inner) e.hash e.keyed (H.ends_bytes e.ends) e.off e.len) };
+        (seen H.chaining e.packet.items e.rest (H.words e.chain) (H.words e.inner) (H.words e.start) e.hash e.form (H.ends_bytes e.ends) e.off e.len) };
 }
 
 impl<H: LaneHash> HmacEntry<H> {
@@ -91,8 +96,9 @@ impl<H: LaneHash> HmacEntry<H> {
             rest: rounds::<H>(len),
             chain: H::initial(hash),
             inner: H::zeros(),
+            start: H::initial(hash),
             hash,
-            keyed: true,
+            form: Form::Keyed,
             ends,
             off,
             len,
@@ -130,8 +136,67 @@ impl<H: LaneHash> HmacEntry<H> {
             rest: plain_rounds::<H>(len),
             chain: H::initial(hash),
             inner: H::zeros(),
+            start: H::zeros(),
             hash,
-            keyed: false,
+            form: Form::Plain,
+            ends,
+            off,
+            len,
+        }
+    }
+
+    /// An HMAC from states of which nothing is done, over `len` bytes of the packet from `off` on. The authentication is the HMAC from
+    /// states of a hash that the kernel serves, `states` is the inner state and the outer state behind it, and the range lies in the
+    /// packet. It takes no memory, and the packet moves into the entry.
+    ///
+    /// At its end the entry has the packet as it was given, and the digest of its hash value is the whole HMAC.
+    // Called and not inlined, as `new`.
+    #[inline(never)]
+    pub fn new_from_states(
+        auth: Auth,
+        states: &[u8],
+        packet: Vec<u8>,
+        off: u32,
+        len: u32,
+    ) -> HmacEntry<H>
+        requires auth { IsTrue (serves_states H.chaining auth) }
+        requires states { IfSome (states_hash_of auth) (λ c. length states.now ≡ 2 * c.state_bytes) }
+        requires range { off + len ≤ length packet.items }
+        ensures start { IfSome (states_name_of auth) (λ a. let c = compression_of_name a in
+            result ≡ started_states H.chaining a (c.loaded (take c.state_bytes states.now)) (c.loaded (drop c.state_bytes states.now)) packet.items off len) }
+        ensures rest { result.rest ≡ states_rounds H.chaining.block_bytes len }
+        ensures packet { (end_of (round H.chaining) rest_of result).packet ≡ packet.items }
+        ensures tag { let end = end_of (round H.chaining) rest_of result in
+            IfSome (states_hash_of auth) (λ c. H.chaining.digest end.hash end.chain ≡ hmac_from_states c states.now (take len (drop off packet.items))) }
+    {
+        let hash = states_name(auth);
+        let (inner, outer) = states.split_at(hash.state_bytes());
+        Self::started_states(hash, H::load(inner), H::load(outer), packet, off, len)
+    }
+
+    /// An HMAC from the hash values of its states, of which nothing is done.
+    fn started_states(
+        hash: HashName,
+        inner: H::Chain,
+        outer: H::Chain,
+        packet: Vec<u8>,
+        off: u32,
+        len: u32,
+    ) -> HmacEntry<H>
+        requires serves { IsTrue (H.chaining.serves hash) }
+        requires range { off + len ≤ length packet.items }
+        ensures { result ≡ started_states H.chaining hash (H.words inner) (H.words outer) packet.items off len }
+    {
+        let (off, len) = (off as usize, len as usize);
+        let ends = states_ends::<H>(hash, &packet, off, len);
+        HmacEntry {
+            packet,
+            rest: states_rounds::<H>(len),
+            chain: inner,
+            inner: H::zeros(),
+            start: outer,
+            hash,
+            form: Form::States,
             ends,
             off,
             len,
@@ -153,10 +218,10 @@ impl<H: LaneHash> HmacEntry<H> {
     pub(crate) fn outer_rounds(&self) -> u32
         ensures { result ≡ outer_rounds self.now }
     {
-        if self.keyed { OUTER_ROUNDS } else { 0 }
+        self.form.outer_rounds()
     }
 
-    /// The block of the round that comes after `done` others, of which the outer pad's is at most the first.
+    /// The block of the round that comes after `done` others, of which the outer hash's first is at most the first.
     #[inline(always)]
     pub(crate) fn block(&self, done: u32) -> &[u8]
         requires { done < self.now.rest }
@@ -187,15 +252,16 @@ impl<H: LaneHash> HmacEntry<H> {
         self.rest -= m;
     }
 
-    /// Where the round of an HMAC's outer pad is next, the hash value moves, and the outer hash starts.
+    /// Where the first round of an HMAC's outer hash is next, the hash value moves, and the outer hash starts.
     pub(crate) fn turn(&mut self)
         ensures { self.new ≡ turned H.chaining self.old }
     {
-        if self.rest == OUTER_ROUNDS && self.keyed {
-            let at = H::block_bytes() * (tail_blocks::<H>(self.len) + 2);
+        let outer = self.outer_rounds();
+        if outer > 0 && self.rest == outer {
+            let at = H::block_bytes() * (tail_blocks::<H>(self.len) + outer as usize);
             put_digest::<H>(&mut self.ends, at, self.hash, &self.chain);
             self.inner = self.chain;
-            self.chain = H::initial(self.hash);
+            self.chain = self.start;
         }
     }
 }

@@ -81,7 +81,7 @@ fn scattered<H: LaneHash>(entries: &mut [HmacEntry<H>], m: u32, states: &H::Stat
     }
 }
 
-/// All entries go on by the next `m` blocks, of which the outer pad's is at most the first.
+/// All entries go on by the next `m` blocks, of which the outer hash's first is at most the first.
 fn stretch<H: LaneHash>(entries: &mut [HmacEntry<H>], m: u32, schedule: &mut H::Schedule)
     requires some { 0 < length entries.old }
     requires few { length entries.old ≤ H.LANES }
@@ -93,7 +93,7 @@ fn stretch<H: LaneHash>(entries: &mut [HmacEntry<H>], m: u32, schedule: &mut H::
     scattered(entries, m, &states);
 }
 
-/// The outer hash starts in each HMAC whose outer pad is next.
+/// The outer hash starts in each HMAC where its first block is next.
 fn turn_all<H: LaneHash>(entries: &mut [HmacEntry<H>])
     ensures { entries.new ≡ map (turned H.chaining) entries.old }
 {
@@ -110,7 +110,7 @@ fn least(a: u32, b: u32) -> u32
     if a < b { a } else { b }
 }
 
-/// How many rounds an entry has before its outer pad's, or has at all.
+/// How many rounds an entry has before those of its outer hash, or has at all.
 #[inline(always)]
 fn reach<H: LaneHash>(entry: &HmacEntry<H>) -> u32
     ensures { result ≡ reach_of entry.now }

@@ -1,7 +1,7 @@
 ghost use Rattle.std.specs.Prelude.{◌≡◌, ℕ, ◌+◌, ◌*◌, ◌^◌, ◌<◌, ◌≤◌, List, ◌++◌, length, take, replicate, IsTrue};
-ghost use Rattle.mbj_types.specs.Auths.{hash_of_name};
+ghost use Rattle.mbj_types.specs.Auths.{compression_of_name, hash_of_name};
 ghost use Rattle.mbj_types.specs.declared.class.HashName.{HashName};
-ghost use Rattle.mbj_hmac.specs.Rounds.{Chaining, hashed};
+ghost use Rattle.mbj_hmac.specs.Rounds.{Chaining, compression, hashed};
 ghost use Rattle.mbj_hmac.specs.Inside.Layout.{IsStandard};
 
 use crate::view::Chains;
@@ -72,6 +72,16 @@ pub trait LaneHash {
         requires { IsTrue (chaining.serves hash) }
         ensures { result ≡ chaining.digest hash (words chain.now) };
 
+    /// The hash value that a stored state holds.
+    fn load(state: &[u8]) -> Self::Chain
+        requires { length state.now ≡ chaining.state_bytes }
+        ensures { words result ≡ chaining.loaded state.now };
+
+    /// Stores a hash value, whole.
+    fn store(state: &mut [u8], chain: &Self::Chain)
+        requires { length state.old ≡ chaining.state_bytes }
+        ensures { state.new ≡ chaining.stored (words chain.now) };
+
     /// The hash values as vectors, that of each lane.
     fn gathered<C: Chains<Self::Chain>>(chains: &C) -> Self::States
         requires words { (c : Self.Chain) → C.words c ≡ words c }
@@ -98,11 +108,14 @@ pub trait LaneHash {
     /// The lanes are counted by a `u32`.
     ghost few: { LANES < 2 ^ 32 };
 
-    /// Padding and digests are as FIPS 180-4 has them.
+    /// Padding, digests and stored states are as FIPS 180-4 has them.
     ghost standard: { IsStandard chaining };
 
     /// The hashes have these blocks.
     ghost blocks: { (a : HashName) → IsTrue (chaining.serves a) → (hash_of_name a).block_bytes ≡ chaining.block_bytes };
+
+    /// The hashes go on by blocks in this way.
+    ghost compressions: { (a : HashName) → IsTrue (chaining.serves a) → compression_of_name a ≡ compression chaining a };
 
     /// A hash is the digest of the hash value to which the blocks lead.
     ghost hashes: { (a : HashName) → IsTrue (chaining.serves a)

@@ -1,9 +1,10 @@
-//! The hashes of FIPS 180-4 and HMAC with them (RFC 2104): HMAC of one message, and digests and HMACs of many messages side by
-//! side in the lanes of a kernel.
+//! The hashes of FIPS 180-4 and HMAC with them (RFC 2104): HMAC of one message, digests and HMACs of many messages side by side in
+//! the lanes of a kernel, and the states of a key, from which HMACs go on.
 #![tactic(auto)]
 
 mod ends;
 mod entry;
+mod form;
 mod hasher;
 mod kernel;
 mod key;
@@ -12,7 +13,9 @@ mod plain;
 mod sha1_lanes;
 mod sha256_lanes;
 mod sha512_lanes;
+mod stored;
 mod view;
+mod words;
 
 pub use entry::HmacEntry;
 pub use kernel::HmacKernel;
@@ -22,6 +25,7 @@ pub use plain::hmac_plain;
 pub use sha1_lanes::Sha1Lanes;
 pub use sha256_lanes::Sha256Lanes;
 pub use sha512_lanes::Sha512Lanes;
+pub use stored::{MAX_STATE_BYTES, one_block, states};
 pub use view::Chains;
 
 /// A digest or an HMAC with SHA-1 on its way.

@@ -7,6 +7,7 @@ ghost use Rattle.mbj_hmac.specs.Chainings.{sha1_chaining};
 use crate::ends::put;
 use crate::lane_hash::LaneHash;
 use crate::view::Chains;
+use crate::words::word32;
 use mbj_sha_lanes::{Blocks, Load32};
 use mbj_sha1_lanes::{compress_lanes, gathered, scattered};
 use mbj_types::{HashName, SHA1_LANES, Sha1Word, Tag};
@@ -102,6 +103,20 @@ impl LaneHash for Sha1Lanes {
         }
     }
 
+    fn load(state: &[u8]) -> [u32; 5] {
+        [
+            word32(state, 0),
+            word32(state, 1),
+            word32(state, 2),
+            word32(state, 3),
+            word32(state, 4),
+        ]
+    }
+
+    fn store(state: &mut [u8], chain: &[u32; 5]) {
+        state.copy_from_slice(&bytes_of(chain));
+    }
+
     #[inline(always)]
     fn gathered<C: Chains<[u32; 5]>>(chains: &C) -> [Sha1Word; 5] {
         let mut states = [[0; 5]; SHA1_LANES];
@@ -125,7 +140,7 @@ impl LaneHash for Sha1Lanes {
     }
 
     ghost use Rattle.std.proofs.Common.{rules};
-    ghost use Rattle.mbj_hmac.specs.Laws.Sha1.{sha1_standard, sha1_blocks, sha1_hashes};
+    ghost use Rattle.mbj_hmac.specs.Laws.Sha1.{sha1_standard, sha1_blocks, sha1_compressions, sha1_hashes};
 
     ghost some = { Prim.search rules };
 
@@ -134,6 +149,8 @@ impl LaneHash for Sha1Lanes {
     ghost standard = { sha1_standard };
 
     ghost blocks = { sha1_blocks };
+
+    ghost compressions = { sha1_compressions };
 
     ghost hashes = { sha1_hashes };
 }

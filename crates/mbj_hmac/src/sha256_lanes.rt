@@ -7,6 +7,7 @@ ghost use Rattle.mbj_hmac.specs.Chainings.{sha256_chaining};
 use crate::ends::put;
 use crate::lane_hash::LaneHash;
 use crate::view::Chains;
+use crate::words::word32;
 use mbj_sha_lanes::{Blocks, Load32};
 use mbj_sha256_lanes::{ROUNDS, compress_scheduled, gathered, scattered};
 use mbj_types::{HashName, SHA256_LANES, Sha256Word, Tag};
@@ -122,6 +123,23 @@ impl LaneHash for Sha256Lanes {
         }
     }
 
+    fn load(state: &[u8]) -> [u32; 8] {
+        [
+            word32(state, 0),
+            word32(state, 1),
+            word32(state, 2),
+            word32(state, 3),
+            word32(state, 4),
+            word32(state, 5),
+            word32(state, 6),
+            word32(state, 7),
+        ]
+    }
+
+    fn store(state: &mut [u8], chain: &[u32; 8]) {
+        state.copy_from_slice(&bytes_of(chain));
+    }
+
     #[inline(always)]
     fn gathered<C: Chains<[u32; 8]>>(chains: &C) -> [Sha256Word; 8] {
         let mut states = [[0; 8]; SHA256_LANES];
@@ -152,7 +170,7 @@ impl LaneHash for Sha256Lanes {
     }
 
     ghost use Rattle.std.proofs.Common.{rules};
-    ghost use Rattle.mbj_hmac.specs.Laws.Sha256.{sha256_standard, sha256_blocks, sha256_hashes};
+    ghost use Rattle.mbj_hmac.specs.Laws.Sha256.{sha256_standard, sha256_blocks, sha256_compressions, sha256_hashes};
 
     ghost some = { Prim.search rules };
 
@@ -161,6 +179,8 @@ impl LaneHash for Sha256Lanes {
     ghost standard = { sha256_standard };
 
     ghost blocks = { sha256_blocks };
+
+    ghost compressions = { sha256_compressions };
 
     ghost hashes = { sha256_hashes };
 }

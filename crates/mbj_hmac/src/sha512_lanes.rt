@@ -8,6 +8,7 @@ ghost use Rattle.mbj_hmac.specs.Chainings.{sha512_chaining};
 use crate::ends::put;
 use crate::lane_hash::LaneHash;
 use crate::view::Chains;
+use crate::words::word64;
 use mbj_sha_lanes::{Blocks, Load64};
 use mbj_sha512_lanes::{ROUNDS, compress_scheduled, gathered, scattered};
 use mbj_types::{HashName, SHA512_LANES, Sha512Word, Tag};
@@ -125,6 +126,23 @@ impl LaneHash for Sha512Lanes {
         }
     }
 
+    fn load(state: &[u8]) -> [u64; 8] {
+        [
+            word64(state, 0),
+            word64(state, 1),
+            word64(state, 2),
+            word64(state, 3),
+            word64(state, 4),
+            word64(state, 5),
+            word64(state, 6),
+            word64(state, 7),
+        ]
+    }
+
+    fn store(state: &mut [u8], chain: &[u64; 8]) {
+        state.copy_from_slice(&bytes_of(chain));
+    }
+
     #[inline(always)]
     fn gathered<C: Chains<[u64; 8]>>(chains: &C) -> [Sha512Word; 8] {
         let mut states = [[0; 8]; SHA512_LANES];
@@ -155,7 +173,7 @@ impl LaneHash for Sha512Lanes {
     }
 
     ghost use Rattle.std.proofs.Common.{rules};
-    ghost use Rattle.mbj_hmac.specs.Laws.Sha512.{sha512_standard, sha512_blocks, sha512_hashes};
+    ghost use Rattle.mbj_hmac.specs.Laws.Sha512.{sha512_standard, sha512_blocks, sha512_compressions, sha512_hashes};
 
     ghost some = { Prim.search rules };
 
@@ -164,6 +182,8 @@ impl LaneHash for Sha512Lanes {
     ghost standard = { sha512_standard };
 
     ghost blocks = { sha512_blocks };
+
+    ghost compressions = { sha512_compressions };
 
     ghost hashes = { sha512_hashes };
 }

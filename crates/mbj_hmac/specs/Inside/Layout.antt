@@ -1,9 +1,11 @@
 -- How an entry lays out the blocks that don't stand whole in the packet: the inner pad, the end of the message with its padding,
--- the outer pad, and the inner digest with its padding. A digest has the end of the message alone, at the same place.
-use Rattle.std.specs.Prelude.{IsTrue, ◌≡◌, Bool, ℕ, ◌+◌, ◌-◌, ◌*◌, ◌/◌, ◌%◌, ◌≤◌, ◌<◌, ◌^◌, List, [], ◌∷◌, ◌++◌, ◌⊎◌, length, take, drop, replicate, if◌then◌else◌}
+-- the outer pad, and the inner digest with its padding. A digest has the end of the message alone, at the same place, and an HMAC from
+-- states has the inner digest right behind it.
+use Rattle.std.specs.Prelude.{IsTrue, ◌≡◌, ℕ, ◌+◌, ◌-◌, ◌*◌, ◌/◌, ◌%◌, ◌≤◌, ◌<◌, ◌^◌, nat_lt, List, [], ◌∷◌, ◌++◌, ◌⊎◌, length, take, drop, replicate, if◌then◌else◌}
 use Rattle.std.specs.Int.{w64, to_be_bytes}
 use Rattle.mbj_types.specs.declared.class.HashName.{HashName}
-use Rattle.mbj_types.specs.Rounds.{hash_rounds, hmac_rounds}
+use Rattle.mbj_hmac.specs.declared.form.Form.{Form}
+use Rattle.mbj_hmac.specs.Forms.{has_pads, rounds_in}
 use Rattle.mbj_hmac.specs.Rounds.{Chaining, HmacState, inner_text, outer_rounds, outer_text}
 
 module _ (b : ℕ) where
@@ -23,25 +25,28 @@ module _ (b : ℕ) where
   abbrev pub padding_of : ℕ → List ℕ
   padding_of n = 0x80 ∷ replicate (fill n) 0 ++ to_be_bytes w64 (n * 8)
 
--- what the layout takes for granted of a hash: its blocks have 64 or 128 bytes, its padding is that of FIPS 180-4, and behind its
--- digest a block has room for padding
+-- what the layout takes for granted of a hash: its blocks have 64 or 128 bytes, its padding is that of FIPS 180-4, behind its digest a
+-- block has room for padding, and a state is stored whole and with nothing lost
 pub record IsStandard (h : Chaining) : Type 0 where
   pub size : (h.block_bytes ≡ 64) ⊎ (h.block_bytes ≡ 128)
   pub pads : (n : ℕ) → n < 2 ^ 33 → h.padding n ≡ padding_of h.block_bytes n
   pub room : (a : HashName) (s : List ℕ) → length (h.digest a s) + 1 + h.block_bytes / 8 ≤ h.block_bytes
+  pub whole : (s : List ℕ) → length (h.stored s) ≡ h.state_bytes
+  pub kept : (s block : List ℕ) → h.loaded (h.stored (h.compress s block)) ≡ h.compress s block
 
 module _ (h : Chaining) where
   -- an entry as it is seen
-  abbrev pub seen : List ℕ → ℕ → List ℕ → List ℕ → HashName → Bool → List ℕ → ℕ → ℕ → HmacState
-  seen packet rest chain inner hash keyed ends off len = record {
+  abbrev pub seen : List ℕ → ℕ → List ℕ → List ℕ → List ℕ → HashName → Form → List ℕ → ℕ → ℕ → HmacState
+  seen packet rest chain inner start hash form ends off len = record {
     packet = packet;
     rest = rest;
     chain = chain;
     inner = inner;
+    start = start;
     hash = hash;
-    keyed = keyed;
-    front = if keyed then take h.block_bytes ends else [];
-    back = if keyed then take h.block_bytes (drop (h.block_bytes * (tail_blocks h.block_bytes len + 1)) ends) else [];
+    form = form;
+    front = if has_pads form then take h.block_bytes ends else [];
+    back = if has_pads form then take h.block_bytes (drop (h.block_bytes * (tail_blocks h.block_bytes len + 1)) ends) else [];
     off = off;
     len = len;
   }
@@ -52,19 +57,18 @@ module _ (h : Chaining) where
       let whole = h.block_bytes * whole_blocks h.block_bytes len in
       take (len - whole) (drop (off + whole) packet) ++ h.padding (before + len)
 
+  -- the block that holds the digest of a hash value, with its padding behind a block
+  abbrev pub digest_block : HashName → List ℕ → List ℕ
+  digest_block a s = h.digest a s ++ h.padding (h.block_bytes + length (h.digest a s))
+
   -- the ends of a new HMAC: the inner pad, the message's end and its padding, the outer pad, and a digest and its padding
   abbrev pub first_ends : HashName → List ℕ → List ℕ → List ℕ → List ℕ → ℕ → ℕ → List ℕ
   first_ends a front back zeros packet off len =
-      ((front ++ message_end h.block_bytes packet off len) ++ back)
-      ++ (h.digest a zeros ++ h.padding (h.block_bytes + length (h.digest a zeros)))
-
-  -- how many rounds there were
-  abbrev pub all_rounds : HmacState → ℕ
-  all_rounds e = if e.keyed then hmac_rounds h.block_bytes e.len else hash_rounds h.block_bytes e.len
+      ((front ++ message_end h.block_bytes packet off len) ++ back) ++ digest_block a zeros
 
   -- what the outer hash reads, of which a digest has none
   abbrev pub outer_part : HmacState → List ℕ
-  outer_part e = if e.keyed then outer_text h e else []
+  outer_part e = if nat_lt 0 (outer_rounds e) then outer_text h e else []
 
   -- the blocks behind the message's whole ones stand in the entry
   abbrev pub IsLaid : List ℕ → HmacState → Type 0
@@ -73,5 +77,5 @@ module _ (h : Chaining) where
 
   -- the range lies in the packet, the rounds are no more than there were, the blocks stand, and the hash is one of these
   abbrev pub IsSound : List ℕ → HmacState → Type 0
-  IsSound ends e = (e.off + e.len ≤ length e.packet) × (e.rest ≤ all_rounds e) × (e.len < 2 ^ 32)
+  IsSound ends e = (e.off + e.len ≤ length e.packet) × (e.rest ≤ rounds_in e.form h.block_bytes e.len) × (e.len < 2 ^ 32)
       × IsLaid ends e × (length ends ≡ 5 * h.block_bytes) × IsTrue (h.serves e.hash)

@@ -1,31 +1,30 @@
 -- SHA-224 and SHA-256 are as an entry takes them.
-use Rattle.std.proofs.Common.{◌≡◌, ℕ, zero, suc, ◌+◌, ◌*◌, ◌/◌, ◌≤◌, List, inl, length, take, drop, refl, sym, ap, arith, length-append, length-take}
-use Rattle.std.specs.Prelude.{IsTrue, slice_index}
-use Rattle.std.specs.Int.{w32, to_be_bytes}
-use Rattle.sha2.specs.Sha256.{sha224, sha256, hash_after, final_hash, padded_message, compress, digest_bytes}
+use Rattle.std.proofs.Common.{◌≡◌, ℕ, zero, suc, ◌+◌, ◌*◌, ◌/◌, ◌≤◌, List, inl, length, take, drop, refl, sym, ap, arith, length-take}
+use Rattle.std.specs.Prelude.{IsTrue}
+use Rattle.sha2.specs.Sha256.{sha224, sha256, hash_after, final_hash, padded_message, compress, digest_bytes, first_words, rounds, schedule}
 use Rattle.mbj_types.specs.declared.class.HashName.{HashName}
 use Rattle.mbj_types.specs.declared.class.HashName.TheVariants.{Sha1, Sha224, Sha256, Sha384, Sha512}
-use Rattle.mbj_types.specs.Auths.{hash_of_name}
-use Rattle.mbj_hmac.specs.Rounds.{chained, hashed}
+use Rattle.mbj_types.specs.Auths.{compression_of_name, hash_of_name}
+use Rattle.mbj_hmac.specs.Rounds.{chained, compression, hashed}
 use Rattle.mbj_hmac.specs.Chainings.{is_sha256, sha256_initial, sha256_digest, sha256_chaining}
+use Rattle.mbj_hmac.specs.Laws.Stored32.{sha256_kept, sha256_whole}
 use Rattle.mbj_hmac.specs.Laws.Padding64.{padding_is}
 use Rattle.mbj_hmac.specs.Laws.Tests.{not_both}
 use Rattle.mbj_hmac.specs.Inside.Layout.{IsStandard}
 
-length-digest_bytes : (s : List ℕ) (n : ℕ) → length (digest_bytes s n) ≡ 4 * n
-unfolding digest_bytes
-length-digest_bytes s zero = refl
-length-digest_bytes s (suc n) = omega (arith, length-append (digest_bytes s n) (to_be_bytes w32 (slice_index s n)), length-digest_bytes s n)
-
 room : (a : HashName) (s : List ℕ) → length (sha256_digest a s) + 1 + 8 ≤ 64
 room Sha1 s = omega arith
 room Sha224 s = omega (arith, length-take 28 (digest_bytes s 8))
-room Sha256 s = omega (arith, length-digest_bytes s 8)
+room Sha256 s = omega (arith, sha256_whole s 8)
 room Sha384 s = omega arith
 room Sha512 s = omega arith
 
+kept : (s block : List ℕ) → first_words (digest_bytes (compress s block) 8) 8 ≡ compress s block
+unfolding compress
+kept s block = sha256_kept s (rounds s (schedule block 48) 64)
+
 pub sha256_standard : IsStandard sha256_chaining
-sha256_standard = record { size = inl refl; pads = padding_is; room = room }
+sha256_standard = record { size = inl refl; pads = padding_is; room = room; whole = λ s. sha256_whole s 8; kept = kept }
 
 chained_is : (a : HashName) (p : List ℕ) (n : ℕ) → chained sha256_chaining a p n ≡ hash_after (sha256_initial a) p n
 unfolding hash_after
@@ -49,6 +48,13 @@ sha256_blocks Sha224 t = refl
 sha256_blocks Sha256 t = refl
 sha256_blocks Sha384 t = absurd (not_both t)
 sha256_blocks Sha512 t = absurd (not_both t)
+
+pub sha256_compressions : (a : HashName) → IsTrue (is_sha256 a) → compression_of_name a ≡ compression sha256_chaining a
+sha256_compressions Sha1 t = absurd (not_both t)
+sha256_compressions Sha224 t = refl
+sha256_compressions Sha256 t = refl
+sha256_compressions Sha384 t = absurd (not_both t)
+sha256_compressions Sha512 t = absurd (not_both t)
 
 pub sha256_hashes : (a : HashName) → IsTrue (is_sha256 a) → (m : List ℕ) → (hash_of_name a).digest m ≡ sha256_digest a (hashed sha256_chaining a m)
 sha256_hashes Sha1 t m = absurd (not_both t)

@@ -1,13 +1,14 @@
 -- SHA-384 and SHA-512 are as an entry takes them.
-use Rattle.std.proofs.Common.{◌≡◌, ℕ, zero, suc, ◌+◌, ◌-◌, ◌*◌, ◌/◌, ◌%◌, ◌^◌, ◌≤◌, ◌<◌, List, ◌∷◌, ◌++◌, inr, length, take, drop, refl, sym, ap, ◌∙◌, arith, length-append, length-take}
+use Rattle.std.proofs.Common.{◌≡◌, ℕ, zero, suc, ◌+◌, ◌-◌, ◌*◌, ◌/◌, ◌%◌, ◌^◌, ◌≤◌, ◌<◌, List, ◌∷◌, ◌++◌, inr, length, take, drop, refl, sym, ap, ap₂, ◌∙◌, arith, length-append, length-take}
 use Rattle.std.specs.Prelude.{IsTrue, replicate, slice_index}
 use Rattle.std.proofs.lemmas.List.{replicate-append-replicate, append_assoc}
+use Rattle.std.proofs.lemmas.Nat.{from_be_bytes-to_be_bytes_8}
 use Rattle.std.specs.Int.{w64, w128, to_be_bytes}
-use Rattle.sha2.specs.Sha512.{sha384, sha512, hash_after, final_hash, padded_message, compress, padding, digest_bytes}
+use Rattle.sha2.specs.Sha512.{sha384, sha512, hash_after, final_hash, padded_message, compress, padding, digest_bytes, add64, add_state, first_words, rounds, schedule}
 use Rattle.mbj_types.specs.declared.class.HashName.{HashName}
 use Rattle.mbj_types.specs.declared.class.HashName.TheVariants.{Sha1, Sha224, Sha256, Sha384, Sha512}
-use Rattle.mbj_types.specs.Auths.{hash_of_name}
-use Rattle.mbj_hmac.specs.Rounds.{chained, hashed}
+use Rattle.mbj_types.specs.Auths.{compression_of_name, hash_of_name}
+use Rattle.mbj_hmac.specs.Rounds.{chained, compression, hashed}
 use Rattle.mbj_hmac.specs.Chainings.{is_sha512, sha512_initial, sha512_digest, sha512_chaining}
 use Rattle.mbj_hmac.specs.Laws.Tests.{not_both}
 use Rattle.mbj_hmac.specs.Inside.Layout.{IsStandard, fill, tail_blocks, padding_of}
@@ -47,8 +48,27 @@ room Sha256 s = omega arith
 room Sha384 s = omega (arith, length-take 48 (digest_bytes s 8))
 room Sha512 s = omega (arith, length-digest_bytes s 8)
 
+-- a sum of words is a word, which its bytes hold
+word : (x y : ℕ) → add64 x y < 2 ^ 64
+word x y = omega arith
+
+before : (x y : ℕ) (xs ys : List ℕ) → x ≡ y → xs ≡ ys → x ∷ xs ≡ y ∷ ys
+before x y xs ys e f = ap₂ (λ z zs. z ∷ zs) e f
+
+kept_sum : (h v : List ℕ) → first_words (digest_bytes (add_state h v) 8) 8 ≡ add_state h v
+unfolding digest_bytes first_words
+kept_sum h v =
+    let sum : ℕ → ℕ = λ i. add64 (slice_index h i) (slice_index v i) in
+    let held : (i : ℕ) → _ = λ i. from_be_bytes-to_be_bytes_8 (sum i) (word (slice_index h i) (slice_index v i)) in
+    before _ _ _ _ (held 0) (before _ _ _ _ (held 1) (before _ _ _ _ (held 2) (before _ _ _ _ (held 3)
+    (before _ _ _ _ (held 4) (before _ _ _ _ (held 5) (before _ _ _ _ (held 6) (before _ _ _ _ (held 7) refl)))))))
+
+kept : (s block : List ℕ) → first_words (digest_bytes (compress s block) 8) 8 ≡ compress s block
+unfolding compress
+kept s block = kept_sum s (rounds s (schedule block 64) 80)
+
 pub sha512_standard : IsStandard sha512_chaining
-sha512_standard = record { size = inr refl; pads = pads; room = room }
+sha512_standard = record { size = inr refl; pads = pads; room = room; whole = λ s. length-digest_bytes s 8; kept = kept }
 
 chained_is : (a : HashName) (p : List ℕ) (n : ℕ) → chained sha512_chaining a p n ≡ hash_after (sha512_initial a) p n
 unfolding hash_after
@@ -72,6 +92,13 @@ sha512_blocks Sha224 t = absurd (not_both t)
 sha512_blocks Sha256 t = absurd (not_both t)
 sha512_blocks Sha384 t = refl
 sha512_blocks Sha512 t = refl
+
+pub sha512_compressions : (a : HashName) → IsTrue (is_sha512 a) → compression_of_name a ≡ compression sha512_chaining a
+sha512_compressions Sha1 t = absurd (not_both t)
+sha512_compressions Sha224 t = absurd (not_both t)
+sha512_compressions Sha256 t = absurd (not_both t)
+sha512_compressions Sha384 t = refl
+sha512_compressions Sha512 t = refl
 
 pub sha512_hashes : (a : HashName) → IsTrue (is_sha512 a) → (m : List ℕ) → (hash_of_name a).digest m ≡ sha512_digest a (hashed sha512_chaining a m)
 sha512_hashes Sha1 t m = absurd (not_both t)

@@ -1,5 +1,5 @@
 use Rattle.std.proofs.Common.{◌≡◌, ℕ, ◌+◌, ◌-◌, ◌*◌, ◌/◌, ◌≤◌, ◌<◌, ◌⊎◌, length, sym, ap, ◌∙◌, arith}
-use Rattle.std.specs.Prelude.{if◌then◌else◌}
+use Rattle.mbj_hmac.specs.Forms.{outer_rounds_of}
 use Rattle.mbj_hmac.specs.Rounds.{HmacState, block_before, outer_rounds}
 use Rattle.mbj_hmac.specs.Inside.Layout.{tail_blocks}
 use Rattle.mbj_hmac.proofs.Numbers.{size_range, tail_range, times_le}
@@ -14,7 +14,7 @@ overflow_add-behind g c =
       c.tail_blocks.ensures,
       (tail_range b g.met.H.LaneHash.standard.size c.self.inside.len).1,
       c.outer_rounds.ensures,
-      outer_few c.args.self.now.keyed,
+      outer_few c.args.self.now.form,
     )
 
 pub overflow_mul-at : goal.overflow_mul-at
@@ -27,7 +27,7 @@ overflow_mul-at g c =
       c.tail_blocks.ensures,
       (tail_range g.H.LaneHash.chaining.block_bytes g.met.H.LaneHash.standard.size c.self.inside.len).1,
       c.outer_rounds.ensures,
-      outer_few c.args.self.now.keyed,
+      outer_few c.args.self.now.form,
     ) in
     omega (arith, (size_range b size).1, times_le b size q 4 few)
 
@@ -41,7 +41,7 @@ overflow_add-at g c =
       c.tail_blocks.ensures,
       (tail_range g.H.LaneHash.chaining.block_bytes g.met.H.LaneHash.standard.size c.self.inside.len).1,
       c.outer_rounds.ensures,
-      outer_few c.args.self.now.keyed,
+      outer_few c.args.self.now.form,
     ) in
     omega (arith, (size_range b size).1, times_le b size q 4 few)
 
@@ -55,7 +55,7 @@ overflow_add-result g c =
       c.tail_blocks.ensures,
       (tail_range g.H.LaneHash.chaining.block_bytes g.met.H.LaneHash.standard.size c.self.inside.len).1,
       c.outer_rounds.ensures,
-      outer_few c.args.self.now.keyed,
+      outer_few c.args.self.now.form,
     ) in
     omega (arith, (size_range b size).1, times_le b size q 4 few)
 
@@ -72,7 +72,7 @@ slice_bounds-result-end g c =
       c.tail_blocks.ensures,
       (tail_range g.H.LaneHash.chaining.block_bytes g.met.H.LaneHash.standard.size c.self.inside.len).1,
       c.outer_rounds.ensures,
-      outer_few c.args.self.now.keyed,
+      outer_few c.args.self.now.form,
     ) in
     omega (arith, ap length c.ends.ensures, c.self.invariant.4, c.block_bytes-block.ensures, times_le b size q 3 few)
 
@@ -84,7 +84,7 @@ returns-then-rest-behind-clause-block g c =
     let b = h.block_bytes in
     let f = c.self.inside in
     let r : ℕ = f.rest - c.args.done in
-    let o : ℕ = if f.keyed then 2 else 0 in
+    let o : ℕ = outer_rounds_of f.form in
     let outer : c.outer_rounds.result ≡ o = c.outer_rounds.ensures ∙ ap (λ (e : HmacState). outer_rounds e) (sym c.self.view_is) in
     let q : ℕ = tail_blocks b f.len + o - r in
     let k : ℕ = b + b * q in
@@ -93,7 +93,7 @@ returns-then-rest-behind-clause-block g c =
     let some : 0 < r = omega (arith, rest_is, c.requires) in
     let at : r + q ≡ tail_blocks b f.len + o = omega (arith, c.if-rest-behind.true, c.tail_blocks.ensures, outer) in
     rw (c.block_bytes-block.ensures, c.tail_blocks.ensures, outer, n, c.ends.ensures)
-    (end_laid h g.met.H.LaneHash.standard f.packet.items (words f.chain) (words f.inner) f.hash f.keyed (bytes f.ends) f.rest f.off f.len r q k c.self.invariant some at (omega arith)
+    (end_laid h g.met.H.LaneHash.standard f.packet.items (words f.chain) (words f.inner) (words f.start) f.hash f.form (bytes f.ends) f.rest f.off f.len r q k c.self.invariant some at (omega arith)
     ∙ ap (λ e. block_before h e (e.rest - c.args.done)) c.self.view_is)
 
 pub returns-then-rest-behind-2-clause-block : goal.returns-then-rest-behind-2-clause-block
@@ -104,7 +104,7 @@ returns-then-rest-behind-2-clause-block g c =
     let b = h.block_bytes in
     let f = c.self.inside in
     let r : ℕ = f.rest - c.args.done in
-    let o : ℕ = if f.keyed then 2 else 0 in
+    let o : ℕ = outer_rounds_of f.form in
     let outer : c.outer_rounds.result ≡ o = c.outer_rounds.ensures ∙ ap (λ (e : HmacState). outer_rounds e) (sym c.self.view_is) in
     let q : ℕ = tail_blocks b f.len + o + f.len / b - r in
     let k : ℕ = f.off + b * q in
@@ -114,7 +114,7 @@ returns-then-rest-behind-2-clause-block g c =
     let le' = rw (c.block_bytes-block.ensures, c.tail_blocks.ensures, outer) at le in
     let at : r + q ≡ tail_blocks b f.len + o + f.len / b = omega (arith, le') in
     rw (c.block_bytes-block.ensures, c.tail_blocks.ensures, outer, n, c.deref.ensures.value)
-    (packet_laid h g.met.H.LaneHash.standard f.packet.items (words f.chain) (words f.inner) f.hash f.keyed (bytes f.ends) f.rest f.off f.len r q k c.self.invariant lt at (omega arith)
+    (packet_laid h g.met.H.LaneHash.standard f.packet.items (words f.chain) (words f.inner) (words f.start) f.hash f.form (bytes f.ends) f.rest f.off f.len r q k c.self.invariant lt at (omega arith)
     ∙ ap (λ e. block_before h e (e.rest - c.args.done)) c.self.view_is)
 
 pub returns-else-rest-behind-2-clause-block : goal.returns-else-rest-behind-2-clause-block
@@ -125,10 +125,10 @@ returns-else-rest-behind-2-clause-block g c =
     let b = h.block_bytes in
     let f = c.self.inside in
     let r : ℕ = f.rest - c.args.done in
-    let o : ℕ = if f.keyed then 2 else 0 in
+    let o : ℕ = outer_rounds_of f.form in
     let outer : c.outer_rounds.result ≡ o = c.outer_rounds.ensures ∙ ap (λ (e : HmacState). outer_rounds e) (sym c.self.view_is) in
     let lt : c.tail_blocks.result + c.outer_rounds.result + f.len / c.block_bytes-block.result < r = omega (arith, c.if-rest-behind-2.false) in
     let lt' = rw (c.block_bytes-block.ensures, c.tail_blocks.ensures, outer) at lt in
     rw (c.block_bytes-block.ensures, c.ends-else-rest-behind-2.ensures)
-    (first_laid h g.met.H.LaneHash.standard f.packet.items (words f.chain) (words f.inner) f.hash f.keyed (bytes f.ends) f.rest f.off f.len r c.self.invariant (omega arith) lt'
+    (first_laid h g.met.H.LaneHash.standard f.packet.items (words f.chain) (words f.inner) (words f.start) f.hash f.form (bytes f.ends) f.rest f.off f.len r c.self.invariant (omega arith) lt'
     ∙ ap (λ e. block_before h e (e.rest - c.args.done)) c.self.view_is)

@@ -1,5 +1,6 @@
-use Rattle.std.proofs.Common.{ℕ, List, take, true, ap, ap₂, sym, ◌∙◌}
+use Rattle.std.proofs.Common.{ℕ, List, take, ap₂, sym, ◌∙◌}
 use Rattle.mbj_types.specs.Hmac.{padded_key, ipad, opad}
+use Rattle.mbj_hmac.specs.declared.form.Form.TheVariants.{Keyed}
 use Rattle.mbj_hmac.specs.Inside.Layout.{first_ends, seen}
 use Rattle.mbj_hmac.proofs.FirstEnds.{length-pad}
 use Rattle.mbj_hmac.proofs.NewEntries.{Facts, new_sound, new_seen}
@@ -28,7 +29,7 @@ invariant_of-result g c =
       ends_are = ends;
       served = c.requires.serves;
     } in
-    new_sound h std packet off len a made front back zeros facts (g.H.LaneHash.words c.initial.result) c.rounds.result c.rounds.ensures
+    new_sound h std packet off len a made front back zeros facts (g.H.LaneHash.words c.initial.result) (g.H.LaneHash.words c.initial-2.result) c.rounds.result c.rounds.ensures
 
 pub returns-clause-start : goal.returns-clause-start
 returns-clause-start g c =
@@ -53,5 +54,5 @@ returns-clause-start g c =
       ends_are = ends;
       served = c.requires.serves;
     } in
-    ap (λ s. seen h packet c.rounds.result s zeros a true made off len) c.initial.ensures
+    ap₂ (λ s i. seen h packet c.rounds.result s zeros i a Keyed made off len) c.initial.ensures c.initial-2.ensures
     ∙ new_seen h std packet off len a made front back zeros facts c.rounds.result c.rounds.ensures c.zeros.ensures
