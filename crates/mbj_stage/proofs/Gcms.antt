@@ -29,6 +29,7 @@ only_gcm class.Gcm h = refl
 only_gcm class.Ccm h = absurd (cc)
 only_gcm (class.Plain hash) h = absurd (cc)
 only_gcm class.Gmac h = absurd (cc)
+only_gcm (class.States hash) h = absurd (cc)
 
 -- the one that is CCM
 pub ccm_both : (a : AuthClass) → is_ccm_auth a ≡ true → a ≡ class.Ccm
@@ -39,6 +40,7 @@ ccm_both class.Gcm h = absurd (cc)
 ccm_both class.Ccm h = refl
 ccm_both (class.Plain hash) h = absurd (cc)
 ccm_both class.Gmac h = absurd (cc)
+ccm_both (class.States hash) h = absurd (cc)
 
 not-true : (b : Bool) → not b ≡ true → b ≡ false
 not-true true h = absurd (cc)

@@ -25,6 +25,7 @@ gmac_auth class.Gcm h = absurd (cc)
 gmac_auth class.Ccm h = absurd (cc)
 gmac_auth (class.Plain hash) h = absurd (cc)
 gmac_auth class.Gmac h = refl
+gmac_auth (class.States hash) h = absurd (cc)
 
 -- over a packet of n bytes
 pub record IsGmac (j : Job) (n : ℕ) : Type 0 where

@@ -219,6 +219,7 @@ cmac-rounds class.Gcm key n count k h = absurd (cmac-auth class.Gcm n h)
 cmac-rounds class.Ccm key n count k h = absurd (cmac-auth class.Ccm n h)
 cmac-rounds (class.Plain hash) key n count k h = absurd (cmac-auth (class.Plain hash) n h)
 cmac-rounds class.Gmac key n count k h = absurd (cmac-auth class.Gmac n h)
+cmac-rounds (class.States hash) key n count k h = absurd (cmac-auth (class.States hash) n h)
 
 pub cmac-next : (j : Job) (p : List ℕ) (left : List Step) (out : Option ℕ) (m : Lengths) (n : ℕ) → (n ≡ 10) ⊎ (n ≡ 14) → IsSound j p left out m → out ≡ None
     → stage_at (record j { packet = p }) left ≡ cmac_stage n → IsCmacNext j p left n

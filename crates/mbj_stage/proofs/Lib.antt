@@ -11,3 +11,4 @@ pub mod Handings
 pub mod Masks
 pub mod Hashes
 pub mod Gmacs
+pub mod Schedules

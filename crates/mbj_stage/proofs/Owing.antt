@@ -63,6 +63,7 @@ after_auth class.Gcm j left e h = absurd (cc)
 after_auth class.Ccm j left e h = absurd (cc)
 after_auth (class.Plain hash) j left e h = refl
 after_auth class.Gmac j left e h = refl
+after_auth (class.States hash) j left e h = refl
 
 -- without GCM and CCM the packet that is authenticated goes by the order
 authenticated-ordered : (a : AuthClass) (j : Job) → is_ciphers a ≡ false → authenticated_by a j ≡ authenticated_in j.order j
@@ -73,6 +74,7 @@ authenticated-ordered class.Gcm j h = absurd (cc)
 authenticated-ordered class.Ccm j h = absurd (cc)
 authenticated-ordered (class.Plain hash) j h = refl
 authenticated-ordered class.Gmac j h = refl
+authenticated-ordered (class.States hash) j h = refl
 
 -- the steps of a job without GCM and CCM lead to its result
 ordered-led : (o : Order) (j : Job) → j.order ≡ o → makes_tag j.cipher ≡ false → is_ciphers (class_of j.auth) ≡ false

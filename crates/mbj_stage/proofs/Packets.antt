@@ -69,6 +69,7 @@ mac_by-packet class.Gcm j p q = refl
 mac_by-packet class.Ccm j p q = refl
 mac_by-packet (class.Plain hash) j p q = refl
 mac_by-packet class.Gmac j p q = refl
+mac_by-packet (class.States hash) j p q = refl
 
 pub tag_over-packet : (j : Job) (p q : List ℕ) → tag_over (record j { packet = q }) p ≡ tag_over j p
 unfolding tag_over

@@ -43,6 +43,7 @@ own_auth class.Gcm j e = All-nil (IsStepOf j)
 own_auth class.Ccm j e = All-nil (IsStepOf j)
 own_auth (class.Plain hash) j e = own_one j step.Auth e
 own_auth class.Gmac j e = own_one j step.Gmac e
+own_auth (class.States hash) j e = own_one j step.Auth e
 
 own_ordered : (o : Order) (j : Job) (ciphers auths : List Step) → All (IsStepOf j) ciphers → All (IsStepOf j) auths
     → All (IsStepOf j) (ordered o ciphers auths)

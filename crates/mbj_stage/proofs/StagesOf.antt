@@ -82,6 +82,7 @@ auth-left class.Gcm e = cc
 auth-left class.Ccm e = cc
 auth-left (class.Plain hash) e = cc
 auth-left class.Gmac e = cc
+auth-left (class.States hash) e = cc
 
 -- where the stage is finished no step is left
 pub finished-left : (j : Job) (left : List Step) → stage_at j left ≡ stage.Finished → left ≡ []
@@ -147,6 +148,7 @@ auth-step class.Gcm k h = absurd (cc)
 auth-step class.Ccm k h = absurd (cc)
 auth-step (class.Plain hash) k h = let e : hash_kind hash ≡ k = cc in hash-step hash ∙ ap step_of e
 auth-step class.Gmac k h = absurd (cc)
+auth-step (class.States hash) k h = let e : hash_kind hash ≡ k = cc in hash-step hash ∙ ap step_of e
 
 -- where a stage in a kind's lanes is next, its step is the first
 pub first-step : (j : Job) (left : List Step) (k : Kind) → stage_at j left ≡ stage.Lane k → IsNextStep (step_of k) left
@@ -213,3 +215,4 @@ cmac-auth class.Gcm n h = absurd (cc)
 cmac-auth class.Ccm n h = absurd (cc)
 cmac-auth (class.Plain hash) n h = absurd (let e : hash_kind hash ≡ cmac_lanes n = cc in hash-else hash n e)
 cmac-auth class.Gmac n h = absurd (cc)
+cmac-auth (class.States hash) n h = absurd (let e : hash_kind hash ≡ cmac_lanes n = cc in hash-else hash n e)

@@ -25,6 +25,7 @@ cmac_has_range class.Gcm h = absurd h
 cmac_has_range class.Ccm h = absurd h
 cmac_has_range (class.Plain hash) h = absurd h
 cmac_has_range class.Gmac h = absurd h
+cmac_has_range (class.States hash) h = absurd h
 
 -- its key is one of AES
 sized : (k : CmacKey) → IsKeySize (cmac_key_bytes k)
@@ -39,6 +40,7 @@ cmac_key class.Gcm n h k = absurd h
 cmac_key class.Ccm n h k = absurd h
 cmac_key (class.Plain hash) n h k = absurd h
 cmac_key class.Gmac n h k = absurd h
+cmac_key (class.States hash) n h k = absurd h
 
 -- the value of a CMAC
 pub cmac_is_mac : (a : AuthClass) (j : Job) (p : List ℕ) → IsCmac a → cmac (aes j.auth_key) (hash_range j p) ≡ mac_by a j p
@@ -49,6 +51,7 @@ cmac_is_mac class.Gcm j p h = absurd h
 cmac_is_mac class.Ccm j p h = absurd h
 cmac_is_mac (class.Plain hash) j p h = absurd h
 cmac_is_mac class.Gmac j p h = absurd h
+cmac_is_mac (class.States hash) j p h = absurd h
 
 -- ---- GCM
 

@@ -1,5 +1,6 @@
 pub mod Steps
 pub mod CourseState
+pub mod Keys
 pub mod Handing
 pub mod Ends
 pub mod Families

@@ -37,6 +37,7 @@ auth_steps class.Gcm = []
 auth_steps class.Ccm = []
 auth_steps (class.Plain h) = step.Auth ∷ []
 auth_steps class.Gmac = step.Gmac ∷ []
+auth_steps (class.States h) = step.Auth ∷ []
 
 abbrev pub ordered : Order → List Step → List Step → List Step
 ordered CipherHash ciphers auths = ciphers ++ auths
@@ -98,6 +99,7 @@ auth_stage_by class.Gcm = stage.Now
 auth_stage_by class.Ccm = stage.Now
 auth_stage_by (class.Plain h) = stage.Lane (hash_kind h)
 auth_stage_by class.Gmac = stage.Now
+auth_stage_by (class.States h) = stage.Lane (hash_kind h)
 
 -- when a job's cipher is done
 abbrev pub cipher_stage : Job → Stage

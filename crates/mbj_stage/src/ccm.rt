@@ -7,6 +7,7 @@ ghost use Rattle.mbj_types.specs.Ccm.{ccm_mask};
 ghost use Rattle.mbj_types.specs.Verdict.{verdict_at};
 ghost use Rattle.mbj_types.specs.Result.{ciphered};
 ghost use Rattle.mbj_types.specs.declared.job.Cipher.TheVariants as cipher;
+ghost use Rattle.mbj_keys.specs.Schedules.{IsScheduleOf};
 ghost use Rattle.mbj_stage.specs.CourseState.{with_mac, with_mask};
 
 use crate::tag::cut;
@@ -48,7 +49,8 @@ fn with_mask(job: &Job, mask: &[u8; 16], tag: &Tag) -> Tag
 
 /// Ciphers the cipher range of an accepted CCM job's packet, in either direction, and makes the mask: the cipher range changes, and
 /// nothing else of the packet.
-pub(crate) fn run(job: &Job, packet: &mut [u8], tag: &mut Tag)
+pub(crate) fn run(job: &Job, key: &Schedule, packet: &mut [u8], tag: &mut Tag)
+    requires key { IsScheduleOf job.now.key key.now }
     requires ccm { job.now.cipher ≡ cipher.Ccm }
     requires accepted { verdict_at job.now (length packet.old) ≡ None }
     ensures packet { packet.new ≡ ciphered job.now packet.old }
@@ -56,7 +58,6 @@ pub(crate) fn run(job: &Job, packet: &mut [u8], tag: &mut Tag)
 {
     let start = job.cipher_off as usize;
     let end = start + job.cipher_len as usize;
-    let key = Schedule::expand(job.key.as_slice());
-    let mask = apply_and_mask(&key, job.iv.as_slice(), &mut packet[start..end]);
+    let mask = apply_and_mask(key, job.iv.as_slice(), &mut packet[start..end]);
     *tag = with_mask(job, &mask, tag);
 }

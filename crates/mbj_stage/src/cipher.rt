@@ -5,7 +5,7 @@ ghost use Rattle.mbj_types.specs.Verdict.{verdict_at};
 ghost use Rattle.mbj_types.specs.Result.{ciphered};
 ghost use Rattle.mbj_types.specs.declared.job.Cipher.TheVariants as cipher;
 ghost use Rattle.mbj_types.specs.declared.job.Dir.TheVariants as dir;
-ghost use Rattle.mbj_aes.specs.Bytes.{IsKeySize};
+ghost use Rattle.mbj_keys.specs.Schedules.{IsScheduleOf};
 ghost use Rattle.mbj_stage.specs.declared.stage.Stage.TheVariants as stage;
 ghost use Rattle.mbj_stage.specs.declared.stage.Step.TheVariants as step;
 ghost use Rattle.mbj_stage.specs.Steps.{cipher_stage, cipher_steps};
@@ -24,31 +24,32 @@ pub(crate) fn iv_block(iv: &[u8]) -> [u8; 16]
     block
 }
 
-/// Decrypts a text in CBC, by a job's key and IV.
-fn decrypt(job: &Job, text: &mut [u8])
+/// Decrypts a text in CBC, by the schedule of a job's key and its IV.
+#[tactic(auto, using(crate::proofs::Schedules::deciphers))]
+fn decrypt(job: &Job, key: &Schedule, text: &mut [u8])
     requires dec { job.now.dir ≡ dir.Dec }
-    requires key { IsKeySize (length job.now.key) }
+    requires key { IsScheduleOf job.now.key key.now }
     requires iv { length job.now.iv ≡ 16 }
     requires whole { length text.old % 16 ≡ 0 }
     ensures { text.new ≡ other_text cipher.Cbc job.now.dir job.now text.old }
 {
-    let key = Schedule::expand(job.key.as_slice());
     let iv = iv_block(job.iv.as_slice());
-    mbj_cbc::decrypt_in_place(&key, &iv, text);
+    mbj_cbc::decrypt_in_place(key, &iv, text);
 }
 
-/// CTR on a text, by a job's key and IV.
-fn ctr(job: &Job, text: &mut [u8])
-    requires key { IsKeySize (length job.now.key) }
+/// CTR on a text, by the schedule of a job's key and its IV.
+#[tactic(auto, using(crate::proofs::Schedules::enciphers))]
+fn ctr(job: &Job, key: &Schedule, text: &mut [u8])
+    requires key { IsScheduleOf job.now.key key.now }
     requires iv { (length job.now.iv ≡ 12) ⊎ (length job.now.iv ≡ 16) }
     ensures { text.new ≡ other_text cipher.Ctr job.now.dir job.now text.old }
 {
-    let key = Schedule::expand(job.key.as_slice());
-    mbj_ctr::apply(&key, job.iv.as_slice(), text);
+    mbj_ctr::apply(key, job.iv.as_slice(), text);
 }
 
 /// Does the cipher of an accepted job on its packet, where it is done at once: the cipher range changes, and nothing else.
-pub(crate) fn run(job: &Job, packet: &mut [u8])
+pub(crate) fn run(job: &Job, key: &Schedule, packet: &mut [u8])
+    requires key { IsScheduleOf job.now.key key.now }
     requires step { cipher_steps job.now.cipher ≡ step.Cipher ∷ [] }
     requires now { cipher_stage job.now ≡ stage.Now }
     requires accepted { verdict_at job.now (length packet.old) ≡ None }
@@ -57,8 +58,8 @@ pub(crate) fn run(job: &Job, packet: &mut [u8])
     let start = job.cipher_off as usize;
     let end = start + job.cipher_len as usize;
     match job.cipher {
-        Cipher::Cbc => decrypt(job, &mut packet[start..end]),
-        Cipher::Ctr => ctr(job, &mut packet[start..end]),
+        Cipher::Cbc => decrypt(job, key, &mut packet[start..end]),
+        Cipher::Ctr => ctr(job, key, &mut packet[start..end]),
         Cipher::Null | Cipher::Gcm | Cipher::Ccm => unreachable!(),
     }
 }

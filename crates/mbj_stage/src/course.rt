@@ -1,11 +1,11 @@
-ghost use Rattle.std.specs.Prelude.{◌≡◌, ◌≤◌, ◌⊎◌, [], ◌∷◌, Some, None, drop, length, IsTrue};
+ghost use Rattle.std.specs.Prelude.{◌≡◌, ◌≤◌, ◌⊎◌, [], ◌∷◌, Some, None, false, drop, length, is_some, IfSome, IsTrue};
 ghost use Rattle.mbj_types.specs.declared.limits.TheConstants.{MAX_TAG_BYTES};
-ghost use Rattle.mbj_types.specs.Verdict.{verdict_at};
-ghost use Rattle.mbj_types.specs.Result.{result_of};
+ghost use Rattle.mbj_types.specs.Verdict.{is_null_cipher, verdict, verdict_at};
 ghost use Rattle.mbj_lane.specs.Rounds.{end_of};
 ghost use Rattle.mbj_types.specs.Rounds.{auth_rounds, cbc_rounds, cmac_rounds, rounds_of};
 ghost use Rattle.mbj_types.specs.Auths.{class_of};
 ghost use Rattle.mbj_aes.specs.Bytes.{IsRoundCount};
+ghost use Rattle.mbj_keys.specs.Schedules.{IsScheduleOf};
 ghost use Rattle.mbj_cbc.specs.Rounds.{round as cbc_round, rest_of as cbc_rest};
 ghost use Rattle.mbj_cmac.specs.Rounds.{round as cmac_round, rest_of as cmac_rest};
 ghost use Rattle.mbj_hmac.specs.Names.{serves_lanes};
@@ -13,7 +13,8 @@ ghost use Rattle.mbj_hmac.specs.Rounds.{round as hmac_round, rest_of as hmac_res
 ghost use Rattle.mbj_stage.specs.declared.stage.Stage.TheVariants as stage;
 ghost use Rattle.mbj_stage.specs.declared.stage.Step.TheVariants as step;
 ghost use Rattle.mbj_stage.specs.Steps.{stage_at, steps_in};
-ghost use Rattle.mbj_stage.specs.Inside.Kept.{IsNextStep, IsStepOf};
+ghost use Rattle.mbj_stage.specs.Inside.Kept.{HasSchedule, IsNextStep, IsStepOf};
+ghost use Rattle.mbj_stage.specs.Keys.{wants_schedule};
 ghost use Rattle.mbj_stage.specs.CourseState.{stage_of, begun, packet_after, tag_after, ran, sized, status_of, owed};
 ghost use Rattle.mbj_ccm.specs.Rounds.{round as ccm_round, rest_of as ccm_rest};
 ghost use Rattle.mbj_stage.specs.Handing.{BringsData, handed_out, taken_back, without_packet, owed_with};
@@ -21,11 +22,12 @@ ghost use Rattle.mbj_stage.specs.Ends.{cbc_end, ccm_end, cmac_end, hmac_end};
 ghost use Rattle.mbj_stage.specs.Families.{cbc_stage, ccm_lanes, ccm_stage, cmac_stage};
 
 use crate::entries::{cbc_entry, ccm_entry, cmac_entry, hmac_entry};
+use crate::keyed::at_hand;
 use crate::lengths::{Lengths, lengths_of};
 use crate::stage::{Stage, Step, Steps, stage_of_step, steps_by};
 use crate::tag::cut;
 use crate::{ccm, cipher, gcm, gmac};
-use mbj_args::check;
+use mbj_aes::Schedule;
 use mbj_cbc::CbcEntry;
 use mbj_ccm::CcmEntry;
 use mbj_cmac::CmacEntry;
@@ -42,9 +44,10 @@ use std::mem;
 /// tag; a text that is sealed is authenticated first, and one that is opened is deciphered first. A job that is refused has none.
 ///
 /// CBC encryption, CMAC, HMAC, digests and CCM's MAC are done in lanes: a call hands the packet out in an entry, and another one takes it
-/// back once the entry's rounds are done. All else `run_now` does.
+/// back once the entry's rounds are done. `run_now` does all else.
 ///
-/// No call takes memory, and each stage expands its key once.
+/// No call takes memory. The key of a cipher is expanded as the course begins, unless its schedule is found there, and the key of an
+/// authentication as its stage begins.
 #[derive(Drop)]
 pub struct Course {
     // Without its packet.
@@ -56,12 +59,14 @@ pub struct Course {
     // The length of the packet while it is out.
     out: Option<usize>,
     lengths: Lengths,
+    // Of the cipher's key, where the job is accepted and has a cipher.
+    schedule: Option<Schedule>,
 }
 
 impl Model for Course {
     ghost use Rattle.mbj_stage.specs.Steps.{steps_in};
     ghost use Rattle.mbj_stage.specs.CourseState.{CourseState};
-    ghost use Rattle.mbj_stage.specs.Inside.Kept.{IsSound};
+    ghost use Rattle.mbj_stage.specs.Inside.Kept.{IsKept};
 
     ghost Value = { CourseState };
 
@@ -74,11 +79,12 @@ impl Model for Course {
       lengths = c.lengths;
     } };
 
-    ghost invariant = { λ c. IsSound c.job c.packet.items (steps_in c.left) c.out c.lengths };
+    ghost invariant = { λ c. IsKept c.job c.packet.items c.reason (steps_in c.left) c.out c.lengths c.schedule };
 }
 
 /// Does a step of an accepted job that is done at once.
-fn run_step(step: Step, job: &Job, packet: &mut Vec<u8>, tag: &mut Tag)
+fn run_step(step: Step, job: &Job, schedule: &Option<Schedule>, packet: &mut Vec<u8>, tag: &mut Tag)
+    requires keyed { is_null_cipher job.now.cipher ≡ false → HasSchedule job.now schedule.now }
     requires own { IsStepOf job.now step }
     requires now { stage_at job.now (step ∷ []) ≡ stage.Now }
     requires accepted { verdict_at job.now (length packet.old.items) ≡ None }
@@ -87,11 +93,11 @@ fn run_step(step: Step, job: &Job, packet: &mut Vec<u8>, tag: &mut Tag)
     ensures tag { tag.new ≡ tag_after step job.now packet.old.items tag.old }
 {
     match step {
-        Step::Cipher => cipher::run(job, packet.as_mut_slice()),
+        Step::Cipher => cipher::run(job, at_hand(schedule, job), packet.as_mut_slice()),
         Step::Auth => unreachable!(),
-        Step::Gcm => *tag = gcm::run(job, packet.as_mut_slice()),
+        Step::Gcm => *tag = gcm::run(job, at_hand(schedule, job), packet.as_mut_slice()),
         Step::CcmMac => unreachable!(),
-        Step::CcmText => ccm::run(job, packet.as_mut_slice(), tag),
+        Step::CcmText => ccm::run(job, at_hand(schedule, job), packet.as_mut_slice(), tag),
         Step::Gmac => *tag = gmac::run(job, packet.as_slice()),
     }
 }
@@ -134,18 +140,14 @@ fn later(left: Steps) -> Steps
 }
 
 impl Course {
-    /// The course of a job, with nothing done.
-    pub fn begin(job: Job) -> Course
-        ensures begun { result ≡ begun job }
-        ensures owed { owed result ≡ result_of job }
-    {
-        Course::start(job)
-    }
-
-    fn start(mut job: Job) -> Course
+    /// The course of a job, with nothing done, which is refused for this reason or for none. The schedule of its key is there where
+    /// it is wanted.
+    pub(crate) fn start(mut job: Job, reason: Option<Reason>, schedule: Option<Schedule>) -> Course
+        requires reason { reason ≡ verdict job }
+        requires wanted { is_some schedule ≡ wants_schedule reason job.cipher }
+        requires schedule { IfSome schedule (IsScheduleOf job.key) }
         ensures { result ≡ begun job }
     {
-        let reason = check(&job);
         let left = steps_by(reason, &job);
         let lengths = lengths_of(&job);
         let packet = job.packet.into_vec();
@@ -159,7 +161,15 @@ impl Course {
             left,
             out: None,
             lengths,
+            schedule,
         }
+    }
+
+    /// Whether the course has the schedule of its job's key: it has where the job is accepted and has a cipher.
+    pub fn has_schedule(&self) -> bool
+        ensures { result ≡ wants_schedule self.now.reason self.now.job.cipher }
+    {
+        self.schedule.is_some()
     }
 
     /// What comes next: `Finished` exactly where no stage is left.
@@ -188,11 +198,23 @@ impl Course {
         match self.left {
             Steps::Done => unreachable!(),
             Steps::One(step) => {
-                run_step(step, &self.job, &mut self.packet, &mut self.tag);
+                run_step(
+                    step,
+                    &self.job,
+                    &self.schedule,
+                    &mut self.packet,
+                    &mut self.tag,
+                );
                 self.left = Steps::Done;
             }
             Steps::Two(step, later) => {
-                run_step(step, &self.job, &mut self.packet, &mut self.tag);
+                run_step(
+                    step,
+                    &self.job,
+                    &self.schedule,
+                    &mut self.packet,
+                    &mut self.tag,
+                );
                 self.left = Steps::One(later);
             }
         }
@@ -212,7 +234,8 @@ impl Course {
     {
         let packet = taken(&mut self.packet);
         self.out = Some(packet.len());
-        cbc_entry(&self.job, packet)
+        let schedule = *at_hand(&self.schedule, &self.job);
+        cbc_entry(&self.job, schedule, packet)
     }
 
     /// Takes back a packet that was ciphered.
@@ -290,7 +313,8 @@ impl Course {
         let alloc = *packet.allocator();
         let iv = taken_bytes(&mut self.job.iv, alloc);
         let aad = taken_bytes(&mut self.job.aad, alloc);
-        ccm_entry(&self.job, iv, aad, packet)
+        let schedule = *at_hand(&self.schedule, &self.job);
+        ccm_entry(&self.job, schedule, iv, aad, packet)
     }
 
     /// Takes back packet, nonce and additional data, with CCM's MAC.

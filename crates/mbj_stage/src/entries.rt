@@ -15,6 +15,7 @@ ghost use Rattle.mbj_cmac.specs.Rounds.{round as cmac_round, rest_of as cmac_res
 ghost use Rattle.mbj_hmac.specs.Names.{serves_lanes};
 ghost use Rattle.mbj_hmac.specs.Rounds.{round as hmac_round, rest_of as hmac_rest};
 ghost use Rattle.mbj_ccm.specs.Rounds.{round as ccm_round, rest_of as ccm_rest};
+ghost use Rattle.mbj_keys.specs.Schedules.{IsScheduleOf};
 ghost use Rattle.mbj_stage.specs.Ends.{ccm_end, cmac_end, hmac_end};
 
 use crate::cipher::iv_block;
@@ -25,8 +26,9 @@ use mbj_cmac::CmacEntry;
 use mbj_hmac::{HmacEntry, LaneHash};
 use mbj_types::{AuthClass, Job};
 
-/// The CBC encryption of a job whose key has `N` rounds.
-pub(crate) fn cbc_entry<const N: usize>(job: &Job, packet: Vec<u8>) -> CbcEntry<N>
+/// The CBC encryption of a job whose key has `N` rounds, by the key's schedule.
+pub(crate) fn cbc_entry<const N: usize>(job: &Job, key: Schedule, packet: Vec<u8>) -> CbcEntry<N>
+    requires key { IsScheduleOf job.now.key key }
     requires cbc { job.now.cipher ≡ cipher.Cbc }
     requires enc { job.now.dir ≡ dir.Enc }
     requires rounds { round_count job.now.key ≡ N }
@@ -35,7 +37,6 @@ pub(crate) fn cbc_entry<const N: usize>(job: &Job, packet: Vec<u8>) -> CbcEntry<
     ensures some { 1 ≤ result.rest }
     ensures packet { (end_of cbc_round cbc_rest result).packet ≡ ciphered job.now packet.items }
 {
-    let key = Schedule::expand(job.key.as_slice());
     let iv = iv_block(job.iv.as_slice());
     CbcEntry::new(key, iv, packet, job.cipher_off, job.cipher_len)
 }
@@ -53,8 +54,8 @@ pub(crate) fn cmac_entry<const N: usize>(job: &Job, packet: Vec<u8>) -> CmacEntr
     CmacEntry::new(key, packet, job.hash_off, job.hash_len)
 }
 
-/// The HMAC of a job whose hash is one of `H`, or the digest. An HMAC's key that is longer than a block is hashed as the entry is
-/// made.
+/// The HMAC of a job whose hash is one of `H`, under its key or from its states, or the digest. An HMAC's key that is longer than a
+/// block is hashed as the entry is made.
 pub(crate) fn hmac_entry<H: LaneHash>(job: &Job, packet: Vec<u8>) -> HmacEntry<H>
     requires serves { IsTrue (serves_lanes H.chaining job.now.auth) }
     requires accepted { verdict_at job.now (length packet.items) ≡ None }
@@ -67,19 +68,24 @@ pub(crate) fn hmac_entry<H: LaneHash>(job: &Job, packet: Vec<u8>) -> HmacEntry<H
     match auth.class() {
         AuthClass::Hmac(_) => HmacEntry::new(auth, job.auth_key.as_slice(), packet, off, len),
         AuthClass::Plain(_) => HmacEntry::new_plain(auth, packet, off, len),
+        AuthClass::States(_) => {
+            HmacEntry::new_from_states(auth, job.auth_key.as_slice(), packet, off, len)
+        }
         AuthClass::Null | AuthClass::Cmac(_) | AuthClass::Gcm | AuthClass::Ccm | AuthClass::Gmac =>
             unreachable!(),
     }
 }
 
-/// The MAC of a CCM job whose key has `N` rounds, over the cipher range, which is plaintext. IV and additional data are the job's,
-/// and go into the entry too.
+/// The MAC of a CCM job whose key has `N` rounds, by the key's schedule, over the cipher range, which is plaintext. IV and additional
+/// data are the job's, and go into the entry too.
 pub(crate) fn ccm_entry<const N: usize>(
     job: &Job,
+    key: Schedule,
     iv: Vec<u8>,
     aad: Vec<u8>,
     packet: Vec<u8>,
 ) -> CcmEntry<N>
+    requires key { IsScheduleOf job.now.key key }
     requires ccm { job.now.cipher ≡ cipher.Ccm }
     requires rounds { round_count job.now.key ≡ N }
     requires accepted { verdict_at (record job.now { iv = iv.items; aad = aad.items }) (length packet.items) ≡ None }
@@ -91,7 +97,6 @@ pub(crate) fn ccm_entry<const N: usize>(
     ensures mac { (ccm_end (end_of ccm_round ccm_rest result)).mac
         ≡ ccm_mac (aes job.now.key) iv.items aad.items (cipher_range job.now packet.items) job.now.tag_len }
 {
-    let key = Schedule::expand(job.key.as_slice());
     CcmEntry::new(
         key,
         iv,

@@ -4,7 +4,7 @@ ghost use Rattle.std.specs.Prelude.{◌≡◌, ◌<◌, ◌≤◌, [], ◌∷◌
 ghost use Rattle.mbj_types.specs.declared.limits.TheConstants.{MAX_IV_BYTES};
 ghost use Rattle.mbj_types.specs.Verdict.{verdict_at};
 ghost use Rattle.mbj_types.specs.Result.{ciphered, tag_over};
-ghost use Rattle.mbj_aes.specs.Bytes.{IsKeySize};
+ghost use Rattle.mbj_keys.specs.Schedules.{IsScheduleOf};
 ghost use Rattle.mbj_stage.specs.declared.stage.Step.TheVariants as step;
 ghost use Rattle.mbj_stage.specs.Steps.{cipher_steps};
 ghost use Rattle.mbj_stage.specs.Inside.Texts.{gcm_by};
@@ -14,24 +14,26 @@ use mbj_aes::Schedule;
 use mbj_gcm::{seal, unseal};
 use mbj_types::{Dir, Job, Tag};
 
-/// GCM on a text by a job's key, IV, additional data and direction: the text changes, and the answer is the whole tag.
-fn gcm(job: &Job, text: &mut [u8]) -> [u8; 16]
-    requires key { IsKeySize (length job.now.key) }
+/// GCM on a text by the schedule of a job's key, its IV, additional data and direction: the text changes, and the answer is the whole
+/// tag.
+#[tactic(auto, using(crate::proofs::Schedules::enciphers))]
+fn gcm(job: &Job, key: &Schedule, text: &mut [u8]) -> [u8; 16]
+    requires key { IsScheduleOf job.now.key key.now }
     requires iv_some { 0 < length job.now.iv }
     requires iv_most { length job.now.iv ≤ MAX_IV_BYTES }
     ensures text { text.new ≡ (gcm_by job.now text.old).0 }
     ensures tag { result ≡ (gcm_by job.now text.old).1 }
 {
-    let key = Schedule::expand(job.key.as_slice());
     match job.dir {
-        Dir::Enc => seal(&key, job.iv.as_slice(), job.aad.as_slice(), text),
-        Dir::Dec => unseal(&key, job.iv.as_slice(), job.aad.as_slice(), text),
+        Dir::Enc => seal(key, job.iv.as_slice(), job.aad.as_slice(), text),
+        Dir::Dec => unseal(key, job.iv.as_slice(), job.aad.as_slice(), text),
     }
 }
 
 /// Does cipher and authentication of an accepted GCM job on its packet: the cipher range changes, and nothing else.
 /// Answers the tag, cut to the job's length.
-pub(crate) fn run(job: &Job, packet: &mut [u8]) -> Tag
+pub(crate) fn run(job: &Job, key: &Schedule, packet: &mut [u8]) -> Tag
+    requires key { IsScheduleOf job.now.key key.now }
     requires step { cipher_steps job.now.cipher ≡ step.Gcm ∷ [] }
     requires accepted { verdict_at job.now (length packet.old) ≡ None }
     ensures packet { packet.new ≡ ciphered job.now packet.old }
@@ -39,6 +41,6 @@ pub(crate) fn run(job: &Job, packet: &mut [u8]) -> Tag
 {
     let start = job.cipher_off as usize;
     let end = start + job.cipher_len as usize;
-    let whole = gcm(job, &mut packet[start..end]);
+    let whole = gcm(job, key, &mut packet[start..end]);
     cut(&whole, job.tag_len)
 }

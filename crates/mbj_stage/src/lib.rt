@@ -1,6 +1,7 @@
 //! The course of one job: its cipher and its authentication, one after another, in the job's order.
 #![tactic(auto)]
 
+mod begin;
 mod ccm;
 mod cipher;
 mod course;
@@ -8,6 +9,7 @@ mod entries;
 mod feed;
 mod gcm;
 mod gmac;
+mod keyed;
 mod lanes;
 mod laws;
 mod lengths;

@@ -57,7 +57,9 @@ fn auth_step(auth: Auth) -> Option<Step>
 {
     match auth.class() {
         AuthClass::Null | AuthClass::Gcm | AuthClass::Ccm => None,
-        AuthClass::Hmac(_) | AuthClass::Cmac(_) | AuthClass::Plain(_) => Some(Step::Auth),
+        AuthClass::Hmac(_) | AuthClass::Cmac(_) | AuthClass::Plain(_) | AuthClass::States(_) => {
+            Some(Step::Auth)
+        }
         AuthClass::Gmac => Some(Step::Gmac),
     }
 }
@@ -96,7 +98,7 @@ fn all_steps(job: &Job) -> Steps
     }
 }
 
-/// The steps of a job by the reason for which it is refused: then there are none.
+/// The steps of a job that is refused for this reason, or for none. A refused job has none.
 pub(crate) fn steps_by(reason: Option<Reason>, job: &Job) -> Steps
     ensures { steps_in result ≡ steps_by reason job.now }
 {
@@ -133,7 +135,9 @@ fn auth_stage(job: &Job) -> Stage
     ensures { result ≡ auth_stage job.now }
 {
     match job.auth.class() {
-        AuthClass::Hmac(hash) | AuthClass::Plain(hash) => Stage::Lane(hash.kind()),
+        AuthClass::Hmac(hash) | AuthClass::Plain(hash) | AuthClass::States(hash) => {
+            Stage::Lane(hash.kind())
+        }
         AuthClass::Cmac(key) => Stage::Lane(key.kind()),
         AuthClass::Null | AuthClass::Gcm | AuthClass::Ccm | AuthClass::Gmac => Stage::Now,
     }

@@ -1,16 +1,19 @@
 -- What the fields of a course keep.
-use Rattle.std.specs.Prelude.{◌≡◌, ◌≢◌, ℕ, Bool, true, false, List, [], ◌∷◌, length, Option, Some, None}
+use Rattle.std.specs.Prelude.{◌≡◌, ◌≢◌, ℕ, Bool, true, false, List, [], ◌∷◌, length, Option, Some, None, IsSomeAnd, is_some}
 use Rattle.std.specs.List.{All}
 use Rattle.mbj_types.specs.Auths.{class_of}
-use Rattle.mbj_types.specs.Verdict.{verdict_at}
+use Rattle.mbj_types.specs.Verdict.{is_null_cipher, verdict_at}
 use Rattle.mbj_types.specs.declared.job.Job.{Job}
 use Rattle.mbj_types.specs.declared.job.Cipher.TheVariants as cipher
+use Rattle.mbj_types.specs.declared.reason.Reason.{Reason}
+use Rattle.mbj_keys.specs.Schedules.{IsScheduleOf}
 use Rattle.mbj_stage.specs.declared.lengths.Lengths.{Lengths}
 use Rattle.mbj_stage.specs.declared.stage.Stage.TheVariants as stage
 use Rattle.mbj_stage.specs.declared.stage.Step.{Step}
 use Rattle.mbj_stage.specs.declared.stage.Step.TheVariants as step
 use Rattle.mbj_stage.specs.Steps.{auth_steps, cipher_steps, stage_at}
 use Rattle.mbj_stage.specs.CourseState.{lengths_of, sized}
+use Rattle.mbj_stage.specs.Keys.{wants_schedule}
 
 -- the step is one of the job's
 abbrev pub IsStepOf : Job → Step → Type 0
@@ -43,3 +46,17 @@ pub record IsSound (j : Job) (p : List ℕ) (left : List Step) (out : Option ℕ
   pub own : All (IsStepOf j) left
   pub here : stage_at j left ≡ stage.Now → out ≡ None
   pub lengths : has_texts out left ≡ true → n ≡ lengths_of j
+
+-- the schedule of a job's key is at hand
+abbrev pub HasSchedule : Job → Option (List ℕ) → Type 0
+HasSchedule j schedule = IsSomeAnd schedule (IsScheduleOf j.key)
+
+-- where a step is left of a job with a cipher, the schedule of its key is at hand
+abbrev pub IsKeyed : Job → List Step → Option (List ℕ) → Type 0
+IsKeyed j left schedule = left ≢ [] → is_null_cipher j.cipher ≡ false → HasSchedule j schedule
+
+-- all that the fields keep: there is a schedule exactly where it is wanted of a job that is refused for this reason or for none
+pub record IsKept (j : Job) (p : List ℕ) (reason : Option Reason) (left : List Step) (out : Option ℕ) (n : Lengths) (schedule : Option (List ℕ)) : Type 0 where
+  pub sound : IsSound j p left out n
+  pub keyed : IsKeyed j left schedule
+  pub wanted : is_some schedule ≡ wants_schedule reason j.cipher

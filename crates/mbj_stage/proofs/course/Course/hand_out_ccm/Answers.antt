@@ -7,7 +7,7 @@ use Rattle.mbj_types.specs.Aes.{aes}
 use Rattle.mbj_types.specs.Ccm.{ccm_mac}
 use Rattle.mbj_types.specs.Result.{cipher_range}
 use Rattle.mbj_types.specs.Rounds.{ccm_rounds, rounds_of}
-use Rattle.mbj_types.specs.Verdict.{verdict_at}
+use Rattle.mbj_types.specs.Verdict.{is_null_cipher, verdict_at}
 use Rattle.mbj_lane.specs.Rounds.{end_of}
 use Rattle.mbj_ccm.specs.Rounds.{rest_of, round}
 use Rattle.mbj_stage.specs.declared.lengths.Lengths.{Lengths}
@@ -21,6 +21,7 @@ use Rattle.mbj_stage.specs.CourseState.{CourseState, ccm_mac_over, lengths_of, o
 use Rattle.mbj_stage.specs.Handing.{handed_out, owed_with, taken_back, without_packet}
 use Rattle.mbj_stage.specs.Ends.{ccm_end}
 use Rattle.mbj_stage.proofs.Handings.{IsCcmEnd, going, own-back}
+use Rattle.mbj_stage.proofs.Schedules.{next-some}
 use Rattle.mbj_stage.proofs.HandingOut.{ccm-is-out, ccm-next, ccm-out}
 use Rattle.mbj_stage.proofs.Soundness.{sound_texts_out}
 use Rattle.mbj_stage.proofs.StagesOf.{stage-packet}
@@ -33,25 +34,34 @@ rounds-are n l j =
     ap (λ (m : ℕ). ccm_rounds m j.cipher_len) (sym (length-replicate {A = ℕ} l.aad 0)) in
     each-by_rounds (λ k. ccm_rounds l.aad j.cipher_len ≡ rounds_of k (sized l j)) n kind.Ccm128 kind.Ccm192 kind.Ccm256 each each each
 
+pub at_hand-schedule-requires : goal.at_hand-schedule-requires
+at_hand-schedule-requires g c =
+    let f = c.self.inside in
+    let left = steps_in f.left in
+    let here : f.out ≡ None = subst (λ (v : CourseState). v.out ≡ None) (sym c.self.view_is) c.requires.here in
+    let is = ccm-next f.job f.packet.items left f.out f.lengths g.row.N c.requires.rounds c.self.invariant.sound here
+    (subst (λ (v : CourseState). stage_of v ≡ ccm_stage g.row.N) (sym c.self.view_is) c.requires.next) in
+    c.self.invariant.keyed (next-some step.CcmMac left is.first) (ap is_null_cipher is.ccm)
+
 pub ccm_entry-requires : goal.ccm_entry-requires
 ccm_entry-requires g c =
     let f = c.self.inside in
     let left = steps_in f.left in
     let here : f.out ≡ None = subst (λ (v : CourseState). v.out ≡ None) (sym c.self.view_is) c.requires.here in
-    let is = ccm-next f.job f.packet.items left f.out f.lengths g.row.N c.requires.rounds c.self.invariant here
+    let is = ccm-next f.job f.packet.items left f.out f.lengths g.row.N c.requires.rounds c.self.invariant.sound here
     (subst (λ (v : CourseState). stage_of v ≡ ccm_stage g.row.N) (sym c.self.view_is) c.requires.next) in
     let Accepted : List ℕ → List ℕ → List ℕ → Type 0 = λ iv aad q. verdict_at (record f.job { iv = iv; aad = aad }) (length q) ≡ None in
     let one = subst (λ (q : List ℕ). Accepted f.job.iv f.job.aad q) (sym c.taken-packet.ensures.taken) is.accepted in
     let two = subst (λ (iv : List ℕ). Accepted iv f.job.aad c.taken-packet.result.items) (sym c.taken_bytes-iv.ensures.taken) one in
     let three = subst (λ (aad : List ℕ). Accepted c.taken_bytes-iv.result.items aad c.taken-packet.result.items) (sym c.taken_bytes-aad.ensures.taken) two in
-    (omega arith, (is.ccm, (is.rounds, three)))
+    (omega arith, (c.at_hand-schedule.ensures, (is.ccm, (is.rounds, three))))
 
 pub invariant_of-self : goal.invariant_of-self
 invariant_of-self g c =
     let f = c.self.inside in
     let left = steps_in f.left in
     let here : f.out ≡ None = subst (λ (v : CourseState). v.out ≡ None) (sym c.self.view_is) c.requires.here in
-    let is = ccm-next f.job f.packet.items left f.out f.lengths g.row.N c.requires.rounds c.self.invariant here
+    let is = ccm-next f.job f.packet.items left f.out f.lengths g.row.N c.requires.rounds c.self.invariant.sound here
     (subst (λ (v : CourseState). stage_of v ≡ ccm_stage g.row.N) (sym c.self.view_is) c.requires.next) in
     let len : c.len.result ≡ length f.packet.items = omega (arith, c.len.ensures, c.taken-packet.result.ok) ∙ ap length c.taken-packet.ensures.taken in
     let iv : List ℕ = c.taken_bytes-iv.new.bytes in
@@ -61,16 +71,20 @@ invariant_of-self g c =
     sym (stage-packet f.job f.packet.items left) ∙ subst (λ (v : CourseState). stage_of v ≡ ccm_stage g.row.N) (sym c.self.view_is) c.requires.next in
     let lane : stage_at f.job left ≢ stage.Now = λ now. let e = sym at ∙ now in cc in
     let sound = sound_texts_out f.job f.packet.items iv aad left f.lengths
-    (subst (λ (o : Option ℕ). IsSound f.job f.packet.items left o f.lengths) here c.self.invariant) lane is.first in
-    subst (λ (q : List ℕ). IsSound j q left (Some c.len.result) f.lengths) (sym c.taken-packet.ensures.none)
-    (subst (λ (n : ℕ). IsSound j [] left (Some n) f.lengths) (sym len) sound)
+    (subst (λ (o : Option ℕ). IsSound f.job f.packet.items left o f.lengths) here c.self.invariant.sound) lane is.first in
+    record {
+      sound = subst (λ (q : List ℕ). IsSound j q left (Some c.len.result) f.lengths) (sym c.taken-packet.ensures.none)
+          (subst (λ (n : ℕ). IsSound j [] left (Some n) f.lengths) (sym len) sound);
+      keyed = c.self.invariant.keyed;
+      wanted = c.self.invariant.wanted;
+    }
 
 pub returns-clause-out : goal.returns-clause-out
 returns-clause-out g c =
     let f = c.self.inside in
     let left = steps_in f.left in
     let here : f.out ≡ None = subst (λ (v : CourseState). v.out ≡ None) (sym c.self.view_is) c.requires.here in
-    let is = ccm-next f.job f.packet.items left f.out f.lengths g.row.N c.requires.rounds c.self.invariant here
+    let is = ccm-next f.job f.packet.items left f.out f.lengths g.row.N c.requires.rounds c.self.invariant.sound here
     (subst (λ (v : CourseState). stage_of v ≡ ccm_stage g.row.N) (sym c.self.view_is) c.requires.next) in
     let len : c.len.result ≡ length f.packet.items = omega (arith, c.len.ensures, c.taken-packet.result.ok) ∙ ap length c.taken-packet.ensures.taken in
     let iv : List ℕ = c.taken_bytes-iv.new.bytes in
@@ -87,9 +101,9 @@ returns-clause-rest g c =
     let f = c.self.inside in
     let left = steps_in f.left in
     let here : f.out ≡ None = subst (λ (v : CourseState). v.out ≡ None) (sym c.self.view_is) c.requires.here in
-    let is = ccm-next f.job f.packet.items left f.out f.lengths g.row.N c.requires.rounds c.self.invariant here
+    let is = ccm-next f.job f.packet.items left f.out f.lengths g.row.N c.requires.rounds c.self.invariant.sound here
     (subst (λ (v : CourseState). stage_of v ≡ ccm_stage g.row.N) (sym c.self.view_is) c.requires.next) in
-    let lengths : f.lengths ≡ lengths_of f.job = c.self.invariant.lengths (ap (λ (o : Option ℕ). has_texts o left) here) in
+    let lengths : f.lengths ≡ lengths_of f.job = c.self.invariant.sound.lengths (ap (λ (o : Option ℕ). has_texts o left) here) in
     let size : length c.taken_bytes-aad.result.items ≡ f.lengths.aad =
     ap length c.taken_bytes-aad.ensures.taken ∙ sym (ap (λ (l : Lengths). l.aad) lengths) in
     subst (λ (v : CourseState). c.ccm_entry.result.rest ≡ rounds_of (ccm_lanes g.row.N) (sized v.lengths v.job)) c.self.view_is
@@ -100,7 +114,7 @@ returns-clause-owed g c =
     let f = c.self.inside in
     let left = steps_in f.left in
     let here : f.out ≡ None = subst (λ (v : CourseState). v.out ≡ None) (sym c.self.view_is) c.requires.here in
-    let is = ccm-next f.job f.packet.items left f.out f.lengths g.row.N c.requires.rounds c.self.invariant here
+    let is = ccm-next f.job f.packet.items left f.out f.lengths g.row.N c.requires.rounds c.self.invariant.sound here
     (subst (λ (v : CourseState). stage_of v ≡ ccm_stage g.row.N) (sym c.self.view_is) c.requires.next) in
     let len : c.len.result ≡ length f.packet.items = omega (arith, c.len.ensures, c.taken-packet.result.ok) ∙ ap length c.taken-packet.ensures.taken in
     let e = ccm_end (end_of round rest_of c.ccm_entry.result) in
@@ -128,7 +142,7 @@ returns-clause-job g c =
     let f = c.self.inside in
     let left = steps_in f.left in
     let here : f.out ≡ None = subst (λ (v : CourseState). v.out ≡ None) (sym c.self.view_is) c.requires.here in
-    let is = ccm-next f.job f.packet.items left f.out f.lengths g.row.N c.requires.rounds c.self.invariant here
+    let is = ccm-next f.job f.packet.items left f.out f.lengths g.row.N c.requires.rounds c.self.invariant.sound here
     (subst (λ (v : CourseState). stage_of v ≡ ccm_stage g.row.N) (sym c.self.view_is) c.requires.next) in
     let len : c.len.result ≡ length f.packet.items = omega (arith, c.len.ensures, c.taken-packet.result.ok) ∙ ap length c.taken-packet.ensures.taken in
     let e = ccm_end (end_of round rest_of c.ccm_entry.result) in
@@ -153,7 +167,7 @@ pub returns-clause-texts : goal.returns-clause-texts
 returns-clause-texts g c =
     let f = c.self.inside in
     let here : f.out ≡ None = subst (λ (v : CourseState). v.out ≡ None) (sym c.self.view_is) c.requires.here in
-    let lengths : f.lengths ≡ lengths_of f.job = c.self.invariant.lengths (ap (λ (o : Option ℕ). has_texts o (steps_in f.left)) here) in (
+    let lengths : f.lengths ≡ lengths_of f.job = c.self.invariant.sound.lengths (ap (λ (o : Option ℕ). has_texts o (steps_in f.left)) here) in (
       ap length (c.ccm_entry.ensures.iv ∙ c.taken_bytes-iv.ensures.taken) ∙ sym (ap (λ (l : Lengths). l.iv) lengths),
       ap length (c.ccm_entry.ensures.aad ∙ c.taken_bytes-aad.ensures.taken) ∙ sym (ap (λ (l : Lengths). l.aad) lengths),
     )

@@ -19,7 +19,7 @@ use Rattle.mbj_stage.proofs.course.Course.hand_out_cmac.Goals as goal
 is-next : (g : given.Over) (c : goal.After-cmac_entry-arg-1 g) → IsCmacNext c.self.inside.job c.self.inside.packet.items (steps_in c.self.inside.left) g.row.N
 is-next g c =
     let f = c.self.inside in
-    cmac-next f.job f.packet.items (steps_in f.left) f.out f.lengths g.row.N c.requires.rounds c.self.invariant
+    cmac-next f.job f.packet.items (steps_in f.left) f.out f.lengths g.row.N c.requires.rounds c.self.invariant.sound
     (subst (λ (v : CourseState). v.out ≡ None) (sym c.self.view_is) c.requires.here)
     (subst (λ (v : CourseState). stage_of v ≡ cmac_stage g.row.N) (sym c.self.view_is) c.requires.next)
 

@@ -29,9 +29,13 @@ invariant_of-self g c =
     let serves = subst (λ (v : CourseState). IsTrue (serves_lanes g.H.LaneHash.chaining v.job.auth)) (sym c.self.view_is) c.requires.serves in
     let lane : stage_at f.job left ≢ stage.Now =
     λ now. hash-in-lanes g.H.LaneHash.chaining (class_of f.job.auth) serves (sym (auth-first f.job left first) ∙ now) in
-    let sound = sound_out f.job f.packet.items left f.lengths (subst (λ (o : Option ℕ). IsSound f.job f.packet.items left o f.lengths) here c.self.invariant) lane in
-    subst (λ (q : List ℕ). IsSound f.job q left (Some c.len.result) f.lengths) (sym c.taken-packet.ensures.none)
-    (subst (λ (n : ℕ). IsSound f.job [] left (Some n) f.lengths) (sym (len ∙ ap length c.taken-packet.ensures.taken)) sound)
+    let sound = sound_out f.job f.packet.items left f.lengths (subst (λ (o : Option ℕ). IsSound f.job f.packet.items left o f.lengths) here c.self.invariant.sound) lane in
+    record {
+      sound = subst (λ (q : List ℕ). IsSound f.job q left (Some c.len.result) f.lengths) (sym c.taken-packet.ensures.none)
+          (subst (λ (n : ℕ). IsSound f.job [] left (Some n) f.lengths) (sym (len ∙ ap length c.taken-packet.ensures.taken)) sound);
+      keyed = c.self.invariant.keyed;
+      wanted = c.self.invariant.wanted;
+    }
 
 pub returns-clause-out : goal.returns-clause-out
 returns-clause-out g c =

@@ -1,8 +1,9 @@
 -- Each arm does the first step, and leaves what follows it.
-use Rattle.std.proofs.Common.{◌≡◌, ◌∙◌, [], ◌∷◌, Option, List, ℕ, length, ap, sym, subst}
+use Rattle.std.proofs.Common.{◌≡◌, ◌≢◌, ◌∙◌, [], ◌∷◌, Option, List, ℕ, length, ap, sym, subst}
 use Rattle.std.specs.List.{All}
 use Rattle.std.proofs.lemmas.List.Elements.{All-head}
 use Rattle.mbj_types.specs.declared.job.Job.{Job}
+use Rattle.mbj_stage.specs.declared.stage.Step.{Step}
 use Rattle.mbj_stage.specs.declared.stage.Steps.{Steps}
 use Rattle.mbj_stage.specs.Steps.{stage_at, steps_in}
 use Rattle.mbj_stage.specs.Inside.Kept.{IsStepOf, has_texts, packet_length, IsSound}
@@ -13,17 +14,27 @@ use Rattle.mbj_stage.proofs.Soundness.{sound_next}
 use Rattle.mbj_stage.proofs.Owing.{ran-step}
 use Rattle.mbj_stage.proofs.course.Course.run.Goals as goal
 
+some-left : (left : Steps) (s : Step) (later : List Step) → steps_in left ≡ s ∷ later → steps_in left ≢ []
+some-left left s later is none = let bad : s ∷ later ≡ [] = sym is ∙ none in cc
+
+pub run_step-requires-clause-keyed : goal.run_step-requires-clause-keyed
+run_step-requires-clause-keyed c ciphers = c.self.invariant.keyed (some-left c.self.inside.left c.in-One.step [] (ap steps_in c.in-One.is)) ciphers
+
+pub run_step-requires-in-Two-clause-keyed : goal.run_step-requires-in-Two-clause-keyed
+run_step-requires-in-Two-clause-keyed c ciphers =
+    c.self.invariant.keyed (some-left c.self.inside.left c.in-Two.step (c.in-Two.later ∷ []) (ap steps_in c.in-Two.is)) ciphers
+
 pub run_step-requires-clause-own : goal.run_step-requires-clause-own
 run_step-requires-clause-own c =
     let j : Job = c.self.inside.job in
     let Own : Steps → Type 0 = λ l. All (IsStepOf j) (steps_in l) in
-    All-head (IsStepOf j) c.in-One.step [] (subst Own c.in-One.is c.self.invariant.own)
+    All-head (IsStepOf j) c.in-One.step [] (subst Own c.in-One.is c.self.invariant.sound.own)
 
 pub run_step-requires-in-Two-clause-own : goal.run_step-requires-in-Two-clause-own
 run_step-requires-in-Two-clause-own c =
     let j : Job = c.self.inside.job in
     let Own : Steps → Type 0 = λ l. All (IsStepOf j) (steps_in l) in
-    All-head (IsStepOf j) c.in-Two.step (c.in-Two.later ∷ []) (subst Own c.in-Two.is c.self.invariant.own)
+    All-head (IsStepOf j) c.in-Two.step (c.in-Two.later ∷ []) (subst Own c.in-Two.is c.self.invariant.sound.own)
 
 pub run_step-requires-clause-now : goal.run_step-requires-clause-now
 run_step-requires-clause-now c =
@@ -54,10 +65,15 @@ invariant_of-self-in-Two c =
     let Sound : Steps → Type 0 = λ l. IsSound j p (steps_in l) out n in
     let Long : Option ℕ → Type 0 = λ o. length c.run_step-in-Two.new.packet.items ≡ packet_length o p in
     let Out : Option ℕ → Type 0 = λ o. IsSound j c.run_step-in-Two.new.packet.items (c.in-Two.later ∷ []) o n in
-    subst Out (sym (c.self.invariant.here now))
-    (sound_next j p c.run_step-in-Two.new.packet.items c.in-Two.step (c.in-Two.later ∷ []) out n
-    (subst Sound c.in-Two.is c.self.invariant) (c.self.invariant.lengths (ap (λ (o : Option ℕ). has_texts o (steps_in c.self.inside.left)) (c.self.invariant.here now)))
-    (subst Long (sym (c.self.invariant.here now)) c.run_step-in-Two.ensures.len))
+    record {
+      sound = subst Out (sym (c.self.invariant.sound.here now))
+          (sound_next j p c.run_step-in-Two.new.packet.items c.in-Two.step (c.in-Two.later ∷ []) out n
+          (subst Sound c.in-Two.is c.self.invariant.sound)
+          (c.self.invariant.sound.lengths (ap (λ (o : Option ℕ). has_texts o (steps_in c.self.inside.left)) (c.self.invariant.sound.here now)))
+          (subst Long (sym (c.self.invariant.sound.here now)) c.run_step-in-Two.ensures.len));
+      keyed = λ some ciphers. c.self.invariant.keyed (some-left c.self.inside.left c.in-Two.step (c.in-Two.later ∷ []) (ap steps_in c.in-Two.is)) ciphers;
+      wanted = c.self.invariant.wanted;
+    }
 
 pub returns-in-One : goal.returns-in-One
 returns-in-One c =

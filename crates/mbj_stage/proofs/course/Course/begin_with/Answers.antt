@@ -1,7 +1,7 @@
 use Rattle.std.proofs.Common.{◌∙◌, ap}
 use Rattle.mbj_stage.specs.CourseState.{owed}
 use Rattle.mbj_stage.proofs.Owing.{owed-begun}
-use Rattle.mbj_stage.proofs.course.Course.begin.Goals as goal
+use Rattle.mbj_stage.proofs.course.Course.begin_with.Goals as goal
 
 pub returns-clause-owed : goal.returns-clause-owed
-returns-clause-owed c = ap owed c.start.ensures ∙ owed-begun c.args.job
+returns-clause-owed c = ap owed c.start_with.ensures ∙ owed-begun c.args.job

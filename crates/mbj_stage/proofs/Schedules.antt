@@ -1,0 +1,64 @@
+-- The schedule of a job's key, and where it is at hand.
+use Rattle.std.proofs.Common.{◌≡◌, ◌≢◌, ℕ, List, [], ◌∷◌, drop, Bool, true, false, not, IsTrue, Option, Some, None, is_some, IfSome, length, refl, sym, ap, ◌∙◌, subst}
+use Rattle.std.proofs.Math.Path.{fun_ext}
+use Rattle.mbj_types.specs.declared.job.Job.{Job}
+use Rattle.mbj_types.specs.declared.job.Cipher.{Cipher}
+use Rattle.mbj_types.specs.declared.job.Cipher.TheVariants as cipher
+use Rattle.mbj_types.specs.declared.reason.Reason.{Reason}
+use Rattle.mbj_types.specs.Verdict.{is_null_cipher, takes_key, verdict}
+use Rattle.mbj_types.specs.Aes.{aes, aes_inverse, encipher, decipher}
+use Rattle.mbj_aes.specs.Bytes.{IsKeySize}
+use Rattle.mbj_aes.proofs.ExpandedKeys.{encipher-key_schedule, decipher-key_schedule}
+use Rattle.mbj_args.proofs.Accepted.{accepted}
+use Rattle.mbj_keys.specs.Schedules.{IsScheduleOf}
+use Rattle.mbj_stage.specs.declared.stage.Step.{Step}
+use Rattle.mbj_stage.specs.Steps.{cipher_steps, steps_by}
+use Rattle.mbj_stage.specs.Keys.{wants_schedule}
+use Rattle.mbj_stage.specs.Inside.Kept.{IsKeyed, IsNextStep, HasSchedule}
+
+-- a schedule enciphers as its key does
+pub enciphers : (key w : List ℕ) → IsScheduleOf key w → encipher w ≡ aes key
+enciphers key w is = fun_ext (λ b. ap (λ (s : List ℕ). encipher s b) is.expansion ∙ encipher-key_schedule key b)
+
+-- and deciphers
+pub deciphers : (key w : List ℕ) → IsScheduleOf key w → decipher w ≡ aes_inverse key
+deciphers key w is = fun_ext (λ b. ap (λ (s : List ℕ). decipher s b) is.expansion ∙ decipher-key_schedule key b)
+
+none-later : (left : List Step) → drop 1 left ≢ [] → left ≢ []
+none-later [] some is = some refl
+none-later (s ∷ left) some is = some (ap (drop 1) is)
+
+-- it is at hand as long as a step is left
+pub keyed-later : (j : Job) (left later : List Step) (schedule : Option (List ℕ)) → IsKeyed j left schedule → later ≡ drop 1 left → IsKeyed j later schedule
+keyed-later j left later schedule keyed is some ciphers = keyed (none-later left (λ none. some (is ∙ none))) ciphers
+
+-- at the start, when another packet stands in the job
+pub keyed-begun : (reason : Option Reason) (j : Job) (q : List ℕ) (left : List Step) (schedule : Option (List ℕ)) → left ≡ steps_by reason j
+    → is_some schedule ≡ wants_schedule reason j.cipher → IfSome schedule (IsScheduleOf j.key) → IsKeyed (record j { packet = q }) left schedule
+keyed-begun None j q left None steps wanted is some ciphers = let bad : false ≡ true = wanted ∙ ap not ciphers in cc
+keyed-begun None j q left (Some schedule) steps wanted is some ciphers = is
+keyed-begun (Some reason) j q left schedule steps wanted is some ciphers = absurd (some steps)
+
+takes-size : (c : Cipher) (n : ℕ) → is_null_cipher c ≡ false → takes_key c n ≡ true → IsKeySize n
+takes-size cipher.Null n some takes = cc
+takes-size cipher.Cbc n some takes = takes
+takes-size cipher.Ctr n some takes = takes
+takes-size cipher.Gcm n some takes = takes
+takes-size cipher.Ccm n some takes = takes
+
+-- the key of an accepted job with a cipher can be expanded
+pub key-size : (j : Job) → verdict j ≡ None → is_null_cipher j.cipher ≡ false → IsKeySize (length j.key)
+key-size j none some = takes-size j.cipher (length j.key) some (accepted j (length j.packet) none).key
+
+-- a cipher with a step is one
+pub step-ciphers : (c : Cipher) (s : Step) → cipher_steps c ≡ s ∷ [] → is_null_cipher c ≡ false
+step-ciphers cipher.Null s is = cc
+step-ciphers cipher.Cbc s is = refl
+step-ciphers cipher.Ctr s is = refl
+step-ciphers cipher.Gcm s is = refl
+step-ciphers cipher.Ccm s is = cc
+
+-- where a step is next, one is left
+pub next-some : (s : Step) (left : List Step) → IsNextStep s left → left ≢ []
+next-some s [] next none = next
+next-some s (t ∷ left) next none = cc
