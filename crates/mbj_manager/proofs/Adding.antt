@@ -182,7 +182,7 @@ module _ (r : RingState Cell) (v w : Cell) (vs : List Cell) (place : ℕ) (ls : 
   added-is : held r' (place ∷ []) ls ≡ added (job ∷ map job_in vs) (held r [] ls)
   added-is =
       same-state owed-then asked-then refl
-      (machine-then ∙ ap (λ (n : ℕ). machine_with (map pending (courses r) ++ pending (begun job) ∷ []) (n ∷ [])) same-number)
+      (machine-then ∙ ap (λ (n : ℕ). machine_with (map pending (courses r) ++ pending (begun job) ∷ []) (n ∷ [])) same-number) refl
 
 pub adds : (r : RingState Cell) (v w : Cell) (vs : List Cell) (place : ℕ) (ag : List ℕ) (ls : LaneQueues) (capacity : ℕ) → IsHeld r ag ls capacity → map (ring_number r) ag ≡ []
     → r.opened ≡ v ∷ vs → w ≡ cell.Going (begun (job_in v)) → length r.values < CELLS → place ≡ (r.first + length r.values) % CELLS

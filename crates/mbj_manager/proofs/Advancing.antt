@@ -232,7 +232,7 @@ module _ (r r1 : RingState Cell) (p : ℕ) (ag ag1 : List ℕ) (ls : LaneQueues)
       = sym (machine-then at ∙ ap (λ ps. goes_on at (ring_number r1 p) ps (machine_in r1 ag1 ls)) none) in
       let fits = y.fits in
       record {
-        is = same-state (sym owed-then) (sym asked-then) (ap (map job_in) same.opened) machine;
+        is = same-state (sym owed-then) (sym asked-then) (ap (map job_in) same.opened) machine refl;
         kept = record {
           ring = same.courses;
           is_open = subst (All IsOpen) (sym same.opened) y.is_open;
@@ -299,7 +299,7 @@ module _ (r r1 : RingState Cell) (p : ℕ) (ag ag1 : List ℕ) (ls : LaneQueues)
       let fits = y.fits in
       record {
         is = same-state (sym (owed-then ∙ owes.told ∙ ap (map owed) moved)) (sym (asked-then ∙ asks.told ∙ ap (map asked) moved))
-            (ap (map job_in) (then.opened ∙ same.opened)) machine;
+            (ap (map job_in) (then.opened ∙ same.opened)) machine refl;
         kept = record {
           ring = then.courses;
           is_open = subst (All IsOpen) (sym (then.opened ∙ same.opened)) y.is_open;

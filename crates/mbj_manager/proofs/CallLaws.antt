@@ -1,5 +1,5 @@
 -- What is given back over a list of calls.
-use Rattle.std.proofs.Common.{◌≡◌, ◌↔◌, ◌<◌, List, [], ◌∷◌, ◌++◌, drop, length, map, take, Some, None, option_to_list, slice_get, refl, ap, sym, ◌∙◌, append_assoc, append-nil, arith}
+use Rattle.std.proofs.Common.{◌≡◌, ◌↔◌, ◌<◌, Bool, false, List, [], ◌∷◌, ◌++◌, drop, length, map, take, Some, None, option_to_list, slice_get, refl, ap, sym, ◌∙◌, append_assoc, append-nil, arith}
 use Rattle.std.specs.Prelude.{◌==◌, if◌then◌else◌}
 use Rattle.std.proofs.lemmas.List.{map-append}
 use Rattle.mbj_types.specs.declared.job.Job.{Job}
@@ -10,8 +10,8 @@ use Rattle.mbj_manager.specs.Machine.Stages.{Pending}
 use Rattle.mbj_manager.specs.Machine.Course.{course}
 use Rattle.mbj_manager.specs.declared.lane.Cause.TheVariants as cause
 use Rattle.mbj_manager.specs.Inside.Added.{added}
-use Rattle.mbj_manager.specs.State.{ManagerState, IsEarliestFinished, after_get_completed, given_at, entered, entered_at, lent, after_submit, with_open}
-use Rattle.mbj_manager.specs.Calls.{Call, get_next, get_next_burst, write, submit, get_completed, flush, called, submitted_at, jobs_in, given_back, jobs_submitted, after_calls}
+use Rattle.mbj_manager.specs.State.{ManagerState, IsEarliestFinished, after_get_completed, given_at, counted, entered, entered_at, finds, lent, after_submit_by, with_open}
+use Rattle.mbj_manager.specs.Calls.{Call, get_next, get_next_burst, write, submit, submit_in, get_completed, flush, called, submitted_at, jobs_in, given_back, jobs_submitted, after_calls}
 
 given-order-at : (ds : List Done) (left : List (List Pending)) (h : ManagerState) → h.owed ≡ ds
     → option_to_list (given_at ds left h).0 ++ (given_at ds left h).1.owed ≡ ds
@@ -63,12 +63,12 @@ given-opened (d ∷ ds) ([] ∷ left) h = refl
 given-opened (d ∷ ds) ((p ∷ ps) ∷ left) h = refl
 
 -- the others stay open
-pub submitted-opened : (h : ManagerState) → (after_submit h).1.opened ≡ drop 1 h.opened
-submitted-opened h = given-opened (entered h).owed (entered h).machine.left (entered h) ∙ entered-opened h.opened h refl
+pub submitted-opened : (found : Bool) (h : ManagerState) → (after_submit_by found h).1.opened ≡ drop 1 h.opened
+submitted-opened found h = given-opened (entered h).owed (entered h).machine.left (counted found h (entered h)) ∙ entered-opened h.opened h refl
 
-pub submitted-order : (h : ManagerState)
-    → option_to_list (after_submit h).0 ++ (after_submit h).1.owed ≡ h.owed ++ map result_of (take 1 h.opened)
-submitted-order h = given-order (entered h) ∙ entered-owed h.opened h
+pub submitted-order : (found : Bool) (h : ManagerState)
+    → option_to_list (after_submit_by found h).0 ++ (after_submit_by found h).1.owed ≡ h.owed ++ map result_of (take 1 h.opened)
+submitted-order found h = given-order (counted found h (entered h)) ∙ entered-owed h.opened h
 
 -- what a call gives back, and then what is owed, are what was owed and the results of what the call submits
 abbrev pub Keeps : Call → ManagerState → Type 0
@@ -78,10 +78,10 @@ Keeps c h = option_to_list (called c h).0 ++ (called c h).1.owed ≡ h.owed ++ m
 abbrev pub opened_next : ManagerState → ManagerState
 opened_next h = if length h.owed == CELLS then h else with_open h (lent h)
 
-submit-keeps : (o : List Job) (h : ManagerState) → h.opened ≡ o
-    → option_to_list (submitted_at o h).0 ++ (submitted_at o h).1.owed ≡ h.owed ++ map result_of (take 1 o)
-submit-keeps [] h e = sym (append-nil h.owed)
-submit-keeps (j ∷ js) h e = submitted-order h ∙ ap (λ o. h.owed ++ map result_of (take 1 o)) e
+submit-keeps : (found : Bool) (o : List Job) (h : ManagerState) → h.opened ≡ o
+    → option_to_list (submitted_at found o h).0 ++ (submitted_at found o h).1.owed ≡ h.owed ++ map result_of (take 1 o)
+submit-keeps found [] h e = sym (append-nil h.owed)
+submit-keeps found (j ∷ js) h e = submitted-order found h ∙ ap (λ o. h.owed ++ map result_of (take 1 o)) e
 
 next-keeps : (h : ManagerState) → (opened_next h).owed ≡ h.owed
 next-keeps h = grind arith
@@ -90,7 +90,8 @@ pub keeps : (c : Call) (h : ManagerState) → Keeps c h
 keeps get_next h = next-keeps h ∙ sym (append-nil h.owed)
 keeps (get_next_burst n) h = sym (append-nil h.owed)
 keeps (write i j) h = sym (append-nil h.owed)
-keeps submit h = submit-keeps h.opened h refl
+keeps submit h = submit-keeps false h.opened h refl
+keeps (submit_in notes) h = submit-keeps (finds notes h.opened) h.opened h refl
 keeps get_completed h = given-order h ∙ sym (append-nil h.owed)
 keeps flush h = given-order (record h { machine = Rattle.mbj_manager.specs.Machine.Course.flushed h.machine }) ∙ sym (append-nil h.owed)
 

@@ -1,5 +1,5 @@
 -- Over each list of calls the machine is between two calls, with a job for each result owed.
-use Rattle.std.proofs.Common.{◌≡◌, ◌≢◌, ℕ, ◌+◌, ◌*◌, ◌%◌, ◌≤◌, ◌==◌, zero, suc, List, [], ◌∷◌, ◌++◌, length, drop, set, ◌<◌, Some, slice_get, refl, ap, sym, ◌∙◌, subst, arith}
+use Rattle.std.proofs.Common.{◌≡◌, ◌≢◌, Bool, false, ℕ, ◌+◌, ◌*◌, ◌%◌, ◌≤◌, ◌==◌, zero, suc, List, [], ◌∷◌, ◌++◌, length, drop, set, ◌<◌, Some, slice_get, refl, ap, sym, ◌∙◌, subst, arith}
 use Rattle.std.specs.Prelude.{All, IsSome}
 use Rattle.std.specs.Fn.{iterate}
 use Rattle.std.proofs.lemmas.Bool.{cond_both}
@@ -17,7 +17,7 @@ use Rattle.mbj_manager.specs.Machine.Stages.{Pending, pending}
 use Rattle.mbj_manager.specs.Machine.Queues.{Machine, queue_for, idle_queue, count_end}
 use Rattle.mbj_manager.specs.declared.lane.Cause.TheVariants as cause
 use Rattle.mbj_manager.specs.Machine.Course.{course, flushed, flush_step_at, stages_left}
-use Rattle.mbj_manager.specs.State.{ManagerState, entered, after_flush, after_get_completed, given_at, lent, new_manager, with_job, with_open, after_get_next_burst, entered_at}
+use Rattle.mbj_manager.specs.State.{ManagerState, counted, entered, finds, after_flush, after_get_completed, given_at, lent, new_manager, with_job, with_open, after_get_next_burst, entered_at}
 use Rattle.mbj_manager.specs.Calls as calls
 use Rattle.mbj_manager.specs.Calls.{Call, after_calls, called, submitted_at}
 use Rattle.mbj_manager.specs.Machine.Counts.{RisesUpTo}
@@ -132,11 +132,16 @@ pub added-settled : (o : List Job) (h : ManagerState) → 0 < length o → IsSet
 added-settled [] h some settled = absurd (omega arith)
 added-settled (j ∷ js) h some settled = with-job-settled j js h settled
 
+-- a count changes neither
+pub counted-settled : (found : Bool) (h g : ManagerState) → IsSettled g → IsSettled (counted found h g)
+counted-settled found h g settled = record { machine = settled.machine; jobs = settled.jobs; asked = settled.asked; two = settled.two }
+
 -- a submission of the first open job, if there is one, and what it gives back
-submit-settled : (o : List Job) (h : ManagerState) → h.opened ≡ o → IsSettled h → IsSettled (submitted_at o h).1
-submit-settled [] h is settled = settled
-submit-settled (j ∷ js) h is settled =
-    given-settled (entered h) (subst (λ o. IsSettled (entered_at o h)) (sym is) (with-job-settled j js h settled))
+submit-settled : (found : Bool) (o : List Job) (h : ManagerState) → h.opened ≡ o → IsSettled h → IsSettled (submitted_at found o h).1
+submit-settled found [] h is settled = settled
+submit-settled found (j ∷ js) h is settled =
+    given-settled (counted found h (entered h))
+    (counted-settled found h (entered h) (subst (λ o. IsSettled (entered_at o h)) (sym is) (with-job-settled j js h settled)))
 
 -- open jobs change neither
 pub opened-settled : (js : List Job) (h : ManagerState) → IsSettled h → IsSettled (record h { opened = js })
@@ -162,7 +167,8 @@ pub call-settled : (c : Call) (h : ManagerState) → IsSettled h → IsSettled (
 call-settled calls.get_next h settled = next-settled h settled
 call-settled (calls.get_next_burst n) h settled = opened-settled (after_get_next_burst n h).opened h settled
 call-settled (calls.write i j) h settled = opened-settled (set h.opened i j) h settled
-call-settled calls.submit h settled = submit-settled h.opened h refl settled
+call-settled calls.submit h settled = submit-settled false h.opened h refl settled
+call-settled (calls.submit_in notes) h settled = submit-settled (finds notes h.opened) h.opened h refl settled
 call-settled calls.get_completed h settled = given-settled h settled
 call-settled calls.flush h settled = given-settled (record h { machine = flushed h.machine }) (flush-settled h settled)
 

@@ -52,6 +52,7 @@ module _ (k : Kind) (cs : List CourseState) (agenda : List â„•) (lines : Kind â†
     jobs = map asked (restored_from 0 (find_in lines) cs);
     opened = opened;
     machine = machine_by cs agenda lines runs;
+    expansions = 0;
   }
 
   -- what f tells of the course w.0

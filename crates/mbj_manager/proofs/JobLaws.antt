@@ -1,5 +1,5 @@
 -- What is asked for the jobs that are owed, over a list of calls.
-use Rattle.std.proofs.Common.{◌≡◌, ℕ, ◌≤◌, ◌==◌, List, [], ◌∷◌, ◌++◌, length, map, drop, take, drop-drop, length-append, Option, option_to_list, refl, ap, ap₂, sym, ◌∙◌, append_assoc, append-nil, arith}
+use Rattle.std.proofs.Common.{◌≡◌, ℕ, Bool, false, ◌≤◌, ◌==◌, List, [], ◌∷◌, ◌++◌, length, map, drop, take, drop-drop, length-append, Option, option_to_list, refl, ap, ap₂, sym, ◌∙◌, append_assoc, append-nil, arith}
 use Rattle.std.proofs.lemmas.Bool.{cond_both}
 use Rattle.std.proofs.lemmas.List.{drop-append-le, length-map, map-append}
 use Rattle.mbj_types.specs.declared.job.Job.{Job}
@@ -9,7 +9,7 @@ use Rattle.mbj_ring.specs.declared.ring.TheConstants.{CELLS}
 use Rattle.mbj_stage.specs.Handing.{without_packet}
 use Rattle.mbj_manager.specs.Machine.Stages.{Pending}
 use Rattle.mbj_manager.specs.Machine.Course.{flushed}
-use Rattle.mbj_manager.specs.State.{ManagerState, after_get_completed, after_submit, entered, entered_at, given_at, lent, with_open}
+use Rattle.mbj_manager.specs.State.{ManagerState, after_get_completed, after_submit_by, counted, entered, entered_at, finds, given_at, lent, with_open}
 use Rattle.mbj_manager.specs.Calls as calls
 use Rattle.mbj_manager.specs.Calls.{Call, after_calls, called, given_back, jobs_in, jobs_submitted, submitted_at}
 use Rattle.mbj_manager.specs.Inside.Settled.{IsSettled}
@@ -38,11 +38,11 @@ entered-jobs (j ∷ js) h = refl
 abbrev KeepsJobs : Call → ManagerState → Type 0
 KeepsJobs c h = (called c h).1.jobs ≡ drop (count (called c h).0) (h.jobs ++ map without_packet (jobs_in c h))
 
-submit-jobs : (o : List Job) (h : ManagerState) → h.opened ≡ o
-    → (submitted_at o h).1.jobs ≡ drop (count (submitted_at o h).0) (h.jobs ++ map without_packet (take 1 o))
-submit-jobs [] h e = sym (append-nil h.jobs)
-submit-jobs (j ∷ js) h e =
-    given-jobs (entered h) ∙ ap (drop (count (after_submit h).0)) (entered-jobs h.opened h
+submit-jobs : (found : Bool) (o : List Job) (h : ManagerState) → h.opened ≡ o
+    → (submitted_at found o h).1.jobs ≡ drop (count (submitted_at found o h).0) (h.jobs ++ map without_packet (take 1 o))
+submit-jobs found [] h e = sym (append-nil h.jobs)
+submit-jobs found (j ∷ js) h e =
+    given-jobs (counted found h (entered h)) ∙ ap (drop (count (after_submit_by found h).0)) (entered-jobs h.opened h
     ∙ ap (λ (o : List Job). h.jobs ++ map without_packet (take 1 o)) e)
 
 next-jobs : (h : ManagerState) → (opened_next h).jobs ≡ h.jobs
@@ -52,7 +52,8 @@ keeps-jobs : (c : Call) (h : ManagerState) → KeepsJobs c h
 keeps-jobs calls.get_next h = next-jobs h ∙ sym (append-nil h.jobs)
 keeps-jobs (calls.get_next_burst n) h = sym (append-nil h.jobs)
 keeps-jobs (calls.write i j) h = sym (append-nil h.jobs)
-keeps-jobs calls.submit h = submit-jobs h.opened h refl
+keeps-jobs calls.submit h = submit-jobs false h.opened h refl
+keeps-jobs (calls.submit_in notes) h = submit-jobs (finds notes h.opened) h.opened h refl
 keeps-jobs calls.get_completed h = given-jobs h ∙ ap (drop (count (after_get_completed h).0)) (sym (append-nil h.jobs))
 keeps-jobs calls.flush h =
     let then : ManagerState = record h { machine = flushed h.machine } in

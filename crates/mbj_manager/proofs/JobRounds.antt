@@ -1,10 +1,9 @@
 -- Each stage in lanes of a job takes a round at least.
 use Rattle.std.proofs.Common.{◌≡◌, ℕ, ◌≤◌, List, [], ◌∷◌, length, Option, Some, None, refl, arith}
 use Rattle.std.specs.Prelude.{All}
-use Rattle.std.proofs.lemmas.Bool.{cond_both}
 use Rattle.std.proofs.lemmas.List.Elements.{All-append, All-cons, All-nil}
 use Rattle.mbj_types.specs.declared.job.Job.{Job}
-use Rattle.mbj_types.specs.Auths.{class_of, cmac_kind, hash_kind, is_plain}
+use Rattle.mbj_types.specs.Auths.{class_of, cmac_kind, hash_kind}
 use Rattle.mbj_types.specs.declared.class.AuthClass.{AuthClass}
 use Rattle.mbj_types.specs.declared.class.AuthClass.TheVariants as class
 use Rattle.mbj_types.specs.declared.class.CmacKey.{CmacKey}
@@ -17,13 +16,14 @@ use Rattle.mbj_types.specs.declared.job.Dir.{Dir}
 use Rattle.mbj_types.specs.declared.job.Dir.TheVariants.{Enc, Dec}
 use Rattle.mbj_types.specs.declared.kind.Kind.TheVariants as kind
 use Rattle.mbj_types.specs.declared.reason.Reason.{Reason}
-use Rattle.mbj_types.specs.Rounds.{auth_rounds, cbc_rounds, hash_rounds, hmac_rounds, rounds_of}
+use Rattle.mbj_types.specs.Rounds.{cbc_rounds, rounds_of}
 use Rattle.mbj_types.specs.Verdict.{verdict}
 use Rattle.mbj_stage.specs.declared.stage.Step.{Step}
 use Rattle.mbj_stage.specs.declared.stage.Step.TheVariants as step
 use Rattle.mbj_stage.specs.Steps.{auth_stage_by, cbc_kind, ccm_kind, cipher_stage_by, steps_by}
 use Rattle.mbj_stage.specs.CourseState.{begun, lengths_of, sized}
 use Rattle.mbj_stage.proofs.EntryEnds.{cbc-accepted}
+use Rattle.mbj_stage.proofs.Hashes.{auth-some}
 use Rattle.mbj_stage.proofs.StagesOf.{each-by_key}
 use Rattle.mbj_manager.specs.Machine.Stages.{Pending, in_lanes, pending, pending_at, pending_by}
 use Rattle.mbj_manager.specs.Machine.Between.{HasRounds}
@@ -48,10 +48,6 @@ cipher-rounds cipher.Ctr d n j h = one _ tt
 cipher-rounds cipher.Gcm d n j h = one _ tt
 cipher-rounds cipher.Ccm d n j h = one _ tt
 
--- a digest takes one for each block of the padded message, and an HMAC more
-auth-some : (c : AuthClass) (b n : ℕ) → 1 ≤ auth_rounds c b n
-auth-some c b n = cond_both (is_plain c) (hash_rounds b n) (hmac_rounds b n) (λ r. 1 ≤ r) (λ _. omega arith) (λ _. omega arith)
-
 hash-one : (h : HashName) (j : Job) → 1 ≤ rounds_of (hash_kind h) j
 hash-one Sha1 j = auth-some (class_of j.auth) 64 j.hash_len
 hash-one Sha224 j = auth-some (class_of j.auth) 64 j.hash_len
@@ -71,6 +67,7 @@ auth-rounds class.Gcm j = one _ tt
 auth-rounds class.Ccm j = one _ tt
 auth-rounds (class.Plain h) j = one (in_lanes (hash_kind h) (rounds_of (hash_kind h) j)) (hash-one h j)
 auth-rounds class.Gmac j = one _ tt
+auth-rounds (class.States h) j = one (in_lanes (hash_kind h) (rounds_of (hash_kind h) j)) (hash-one h j)
 
 steps-rounds : (j : Job) (steps : List Step) → (j.cipher ≡ cipher.Cbc → 1 ≤ cbc_rounds j.cipher_len) → All HasRounds (pending_at j steps)
 steps-rounds j [] h = All-nil HasRounds

@@ -49,6 +49,7 @@ auth-one class.Gcm = omega arith
 auth-one class.Ccm = omega arith
 auth-one (class.Plain h) = omega arith
 auth-one class.Gmac = omega arith
+auth-one (class.States h) = omega arith
 
 two-ordered : (o : Order) (xs ys : List Step) → length xs ≤ 1 → length ys ≤ 1 → length (ordered o xs ys) ≤ 2
 two-ordered CipherHash xs ys a b = omega (arith, length-append xs ys)

@@ -36,6 +36,7 @@ mod Shrinking
 mod JobStages
 mod FlushRuns
 mod CallsKeep
+pub mod Counted
 mod JobLaws
 mod Entries
 mod JobSteps

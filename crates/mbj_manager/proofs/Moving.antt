@@ -162,12 +162,12 @@ pub record IsStep (r r' : RingState Cell) (ag ag' : List ℕ) (ls ls' : LaneQueu
   pub is : held r' ag' ls' ≡ record (held r ag ls) { machine = m }
   pub kept : IsHeld r' ag' ls' capacity
 
-abbrev state : List Done → List Job → List Job → Machine → ManagerState
-state owed jobs opened machine = record { owed = owed; jobs = jobs; opened = opened; machine = machine }
+abbrev state : List Done → List Job → List Job → Machine → ℕ → ManagerState
+state owed jobs opened machine expansions = record { owed = owed; jobs = jobs; opened = opened; machine = machine; expansions = expansions }
 
-pub same-state : {a b : List Done} {i j : List Job} {o p : List Job} {m n : Machine} → a ≡ b → i ≡ j → o ≡ p → m ≡ n
-    → state a i o m ≡ state b j p n
-same-state owed jobs opened machine = rw (owed, jobs, opened, machine) refl
+pub same-state : {a b : List Done} {i j : List Job} {o p : List Job} {m n : Machine} {x y : ℕ} → a ≡ b → i ≡ j → o ≡ p → m ≡ n → x ≡ y
+    → state a i o m x ≡ state b j p n y
+same-state owed jobs opened machine expansions = rw (owed, jobs, opened, machine, expansions) refl
 
 -- how many may join or leave a list
 pub room-in : (k : Kind) (r : RingState Cell) (ag : List ℕ) (ls : LaneQueues) (capacity : ℕ) → IsHeld r ag ls capacity
@@ -200,7 +200,7 @@ runs-first k r r' ag ag' ls ls' capacity y idle first same others-are is =
     let fits = y.fits in
     let restored = sym (ran.restored ∙ moved-restored k r r' ag ag' ls ls' d same others-are is) in
     record {
-      is = same-state (ap (map owed) restored) (ap (map asked) restored) (ap (map job_in) same.opened) machine;
+      is = same-state (ap (map owed) restored) (ap (map asked) restored) (ap (map job_in) same.opened) machine refl;
       kept = record {
         ring = same.courses;
         is_open = subst (All IsOpen) (sym same.opened) y.is_open;

@@ -202,6 +202,7 @@ module _ (v : Cell) (vs : List Cell) (o : List Cell) (first : ℕ) (ls : LaneQue
       jobs = map asked (restored_from 1 (find_in lines) (map course_in vs));
       opened = (held r [] ls).opened;
       machine = without_earliest left_then (machine_in r [] ls);
+      expansions = 0;
     },
   )
 
@@ -214,7 +215,7 @@ module _ (v : Cell) (vs : List Cell) (o : List Cell) (first : ℕ) (ls : LaneQue
     result = ap (λ (c : CourseState). Some (owed c))
         (sym (finished-restored 0 (find_in lines) (course_in v).out (stage_of (course_in v)) (course_in v) done))
         ∙ sym (ap (λ (a : Option Done × ManagerState). a.0) given-is);
-    is = same-state (ap (map owed) (sym restored-then)) (ap (map asked) (sym restored-then)) refl machine-then
+    is = same-state (ap (map owed) (sym restored-then)) (ap (map asked) (sym restored-then)) refl machine-then refl
         ∙ sym (ap (λ (a : Option Done × ManagerState). a.1) given-is);
     kept = kept-then;
   }

@@ -1,5 +1,5 @@
 -- Submissions of the first open jobs, one after another.
-use Rattle.std.proofs.Common.{◌≡◌, ℕ, ◌++◌, zero, suc, List, [], ◌∷◌, drop, map, replicate, take, refl, ap, ap₂, ◌∙◌, append_assoc}
+use Rattle.std.proofs.Common.{◌≡◌, ℕ, false, ◌++◌, zero, suc, List, [], ◌∷◌, drop, map, replicate, take, refl, ap, ap₂, ◌∙◌, append_assoc}
 use Rattle.mbj_types.specs.declared.job.Job.{Job}
 use Rattle.mbj_types.specs.declared.done.Done.{Done}
 use Rattle.mbj_types.specs.Result.{result_of}
@@ -8,9 +8,9 @@ use Rattle.mbj_manager.specs.Calls as calls
 use Rattle.mbj_manager.specs.Calls.{after_calls, called, given_back, jobs_submitted, submitted_at}
 use Rattle.mbj_manager.proofs.CallLaws.{all-in-order, submitted-opened}
 
-submit-opened : (o : List Job) (h : ManagerState) → h.opened ≡ o → (submitted_at o h).1.opened ≡ drop 1 o
+submit-opened : (o : List Job) (h : ManagerState) → h.opened ≡ o → (submitted_at false o h).1.opened ≡ drop 1 o
 submit-opened [] h is = is
-submit-opened (j ∷ js) h is = submitted-opened h ∙ ap (drop 1) is
+submit-opened (j ∷ js) h is = submitted-opened false h ∙ ap (drop 1) is
 
 drop-next : (n : ℕ) (o : List Job) → drop n (drop 1 o) ≡ drop (suc n) o
 drop-next zero [] = refl

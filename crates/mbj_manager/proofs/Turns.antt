@@ -1,5 +1,5 @@
 -- Calls of one kind in turn, and blank jobs that are opened one by one.
-use Rattle.std.proofs.Common.{◌≡◌, ℕ, ◌+◌, ◌-◌, ◌≤◌, ◌<◌, ◌++◌, min, zero, suc, List, [], ◌∷◌, drop, length, replicate, Option, Some, None, refl, ap, ap₂, sym, ◌∙◌, subst, arith, append_assoc, append-nil, length-append}
+use Rattle.std.proofs.Common.{◌≡◌, ℕ, false, ◌+◌, ◌-◌, ◌≤◌, ◌<◌, ◌++◌, min, zero, suc, List, [], ◌∷◌, drop, length, replicate, Option, Some, None, refl, ap, ap₂, sym, ◌∙◌, subst, arith, append_assoc, append-nil, length-append}
 use Rattle.std.specs.Prelude.{option_to_list}
 use Rattle.mbj_types.specs.Blank.{blank}
 use Rattle.mbj_types.specs.declared.job.Job.{Job}
@@ -112,7 +112,7 @@ flushed-end h h1 h0 ds out out0 so is same =
     subst (λ (g : ManagerState). FlushesEach ds h0 g) (sym same) (subst (λ (es : List Done). FlushesEach es h0 h) (same-rest out0 so.given ds (sym so.is ∙ is)) so.each)
 
 -- what a submission gives back where a job is open
-pub submits : (os : List Job) (h : ManagerState) → 0 < length os → submitted_at os h ≡ after_submit h
+pub submits : (os : List Job) (h : ManagerState) → 0 < length os → submitted_at false os h ≡ after_submit h
 submits [] h some = absurd (omega (arith, some))
 submits (j ∷ os) h some = refl
 

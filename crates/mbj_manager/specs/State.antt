@@ -1,14 +1,16 @@
 -- What a contract sees of a manager, and what each call makes of it.
-use Rattle.std.specs.Prelude.{◌≡◌, ◌≢◌, ◌==◌, ◌-◌, List, [], ◌∷◌, ◌++◌, drop, length, map, Option, Some, None, slice_get, if◌then◌else◌, min, replicate, set, slice_index_or, ℕ}
+use Rattle.std.specs.Prelude.{◌≡◌, ◌≢◌, ◌==◌, ◌+◌, ◌-◌, ◌%◌, Bool, false, List, [], ◌∷◌, ◌++◌, drop, length, map, Option, Some, None, slice_get, if◌then◌else◌, min, replicate, set, slice_index_or, ℕ}
 use Rattle.mbj_types.specs.declared.job.Job.{Job}
 use Rattle.mbj_types.specs.declared.done.Done.{Done}
 use Rattle.mbj_types.specs.Blank.{blank}
 use Rattle.mbj_types.specs.Result.{result_of}
 use Rattle.mbj_ring.specs.declared.ring.TheConstants.{CELLS}
+use Rattle.mbj_keys.specs.Sessions.{Known, knows_key}
 use Rattle.mbj_stage.specs.CourseState.{begun}
+use Rattle.mbj_stage.specs.Keys.{expands}
 use Rattle.mbj_stage.specs.Handing.{without_packet}
 use Rattle.mbj_manager.specs.Machine.Stages.{Pending, pending}
-use Rattle.mbj_manager.specs.Machine.Queues.{Waiting, Queue, Machine, idle_queue, queue_for}
+use Rattle.mbj_manager.specs.Machine.Queues.{Waiting, Queue, Machine, count_end, idle_queue, queue_for}
 use Rattle.mbj_manager.specs.declared.lane.Cause.TheVariants as cause
 use Rattle.mbj_manager.specs.Machine.Course.{course, flushed}
 
@@ -21,10 +23,18 @@ pub record ManagerState : Type 0 where
   pub opened : List Job
   -- where the submitted jobs stand
   pub machine : Machine
+  -- how many keys of ciphers were expanded as jobs were submitted, modulo 2^64
+  pub expansions : ℕ
 
 -- a manager with no job and no open one, and with lanes in which no job waits and nothing ran
 abbrev pub new_manager : ManagerState
-new_manager = record { owed = []; jobs = []; opened = []; machine = record { left = []; lanes = λ k. idle_queue; agenda = []; flush_runs = 0 } }
+new_manager = record {
+  owed = [];
+  jobs = [];
+  opened = [];
+  machine = record { left = []; lanes = λ k. idle_queue; agenda = []; flush_runs = 0 };
+  expansions = 0;
+}
 
 -- ---- get_next
 
@@ -74,7 +84,7 @@ pub record IsEarliestFinished (h : ManagerState) : Type 0 where
 
 -- the job goes last among those that are submitted, and the course is followed from it; the jobs js stay open
 abbrev pub with_job : Job → List Job → ManagerState → ManagerState
-with_job j js h = record {
+with_job j js h = record h {
   owed = h.owed ++ result_of j ∷ [];
   jobs = h.jobs ++ without_packet j ∷ [];
   opened = js;
@@ -92,8 +102,30 @@ entered_at (j ∷ js) h = with_job j js h
 abbrev pub entered : ManagerState → ManagerState
 entered h = entered_at h.opened h
 
+-- how many keys are expanded for the first open job, whose schedule is found or isn't
+abbrev pub expanded_for : Bool → List Job → ℕ
+expanded_for found [] = 0
+expanded_for found (j ∷ js) = if expands found j then 1 else 0
+
+-- the state g, with the key of the job that was the first open one in h counted where it is expanded
+abbrev pub counted : Bool → ManagerState → ManagerState → ManagerState
+counted found h g = record g { expansions = (h.expansions + expanded_for found h.opened) % count_end }
+
+abbrev pub after_submit_by : Bool → ManagerState → Option Done × ManagerState
+after_submit_by found h = after_get_completed (counted found h (entered h))
+
+-- no entry of shared keys is at hand
 abbrev pub after_submit : ManagerState → Option Done × ManagerState
-after_submit h = after_get_completed (entered h)
+after_submit h = after_submit_by false h
+
+-- whether the notes know an entry of the first open job's session with the job's key
+abbrev pub finds : List Known → List Job → Bool
+finds notes [] = false
+finds notes (j ∷ js) = knows_key notes j.session j.key
+
+-- the notes are those of the submitting task
+abbrev pub after_submit_in : List Known → ManagerState → Option Done × ManagerState
+after_submit_in notes h = after_submit_by (finds notes h.opened) h
 
 -- ---- flush
 

@@ -11,7 +11,7 @@ pub struct Agenda {
 }
 
 impl Agenda {
-    /// An agenda with nobody in it, and room for `room` jobs.
+    /// An empty agenda, with room for `room` jobs.
     pub(crate) fn new(alloc: Global, room: usize) -> Result<Agenda, AllocError>
         ensures places { IfOk result (λ a. a.places.items ≡ []) }
         ensures room { IfOk result (λ a. room ≤ vec_capacity a.places) }

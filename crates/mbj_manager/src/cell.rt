@@ -1,7 +1,9 @@
-ghost use Rattle.std.specs.Prelude.{◌≡◌, ◌≢◌, ◌≤◌, None, Some, length};
+ghost use Rattle.std.specs.Prelude.{◌≡◌, ◌≢◌, ◌≤◌, None, Some, IfSome, is_some, length};
 ghost use Rattle.std.specs.Borrow.{sem};
 ghost use Rattle.mbj_lane.specs.Rounds.{end_of};
+ghost use Rattle.mbj_keys.specs.Schedules.{IsScheduleOf};
 ghost use Rattle.mbj_stage.specs.CourseState.{begun, owed, stage_of};
+ghost use Rattle.mbj_stage.specs.Keys.{expands};
 ghost use Rattle.mbj_stage.specs.Handing.{IsNext, IsOut, handed_out, taken_back};
 ghost use Rattle.mbj_stage.specs.declared.stage.Stage.TheVariants as stage;
 ghost use Rattle.mbj_manager.specs.Machine.Stages.{pending};
@@ -10,6 +12,7 @@ ghost use Rattle.mbj_manager.specs.Lending.{LendsJobIn};
 ghost use Rattle.mbj_manager.specs.Inside.Courses.{Follows, IsGoing, IsOpen, course_in, job_in};
 ghost use Rattle.mbj_manager.specs.Inside.Leaving.{Gives};
 
+use mbj_aes::Schedule;
 use mbj_stage::{Course, Feed, Stage};
 use mbj_types::{Done, Job};
 use std::alloc::Global;
@@ -52,14 +55,19 @@ impl Cell {
     }
 
     /// Begins the course of the job that was filled. It takes no memory: the allocator is that of a blank job.
-    pub(crate) fn begin(&mut self, alloc: Global)
-        requires { IsOpen self.old }
-        ensures { self.new ≡ Cell.Going (begun (job_in self.old)) }
+    ///
+    /// Answers whether the job's key was expanded: it is where its schedule is wanted and wasn't found.
+    pub(crate) fn begin(&mut self, alloc: Global, found: Option<&Schedule>) -> bool
+        requires is_open { IsOpen self.old }
+        requires schedule { IfSome found (λ s. IsScheduleOf (job_in self.old).key s.now) }
+        ensures begun { self.new ≡ Cell.Going (begun (job_in self.old)) }
+        ensures expands { result ≡ expands (is_some found.entry) (job_in self.old) }
     {
-        match mem::replace(self, Cell::Open(Job::blank(alloc))) {
-            Cell::Open(job) => *self = Cell::Going(Course::begin(job)),
-            Cell::Going(_) => unreachable!(),
-        }
+        let job = mem::replace(self.job_mut(), Job::blank(alloc));
+        let course = Course::begin_with(job, found);
+        let is_expanded = course.has_schedule() && found.is_none();
+        *self = Cell::Going(course);
+        is_expanded
     }
 
     /// What is next in the course.

@@ -67,7 +67,7 @@ fn take_back<K: Feed>(ring: &mut Ring<Cell>, place: u32, entry: K::Entry)
     cell.take_back::<K>(entry);
 }
 
-/// Those whose rounds are done go back to their courses, which join the agenda, in the order of the lane queue.
+/// Jobs whose rounds are done leave the lane queue, in its order: their entries go back to the courses, which join the agenda.
 fn leave<K: Feed>(queue: &mut LaneQueue<K>, ring: &mut Ring<Cell>, agenda: &mut Agenda)
     requires ring { AreCourses ring.old }
     requires listed { Listed K.kind (courses ring.old) (numbered (ring_number ring.old) queue.old.waiters) }

@@ -33,7 +33,7 @@ impl<K: Feed> Model for LaneQueue<K> {
 }
 
 impl<K: Feed> LaneQueue<K> {
-    /// A lane queue with nobody in it. It takes the memory for as many as the kind has lanes; no other call takes any.
+    /// An empty lane queue. It takes the memory for as many jobs as the kind has lanes; no other call takes any.
     pub(crate) fn new(alloc: Global) -> Result<LaneQueue<K>, AllocError>
         ensures { IfOk result (λ q. q ≡ no_queue) }
     {

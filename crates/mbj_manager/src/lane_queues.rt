@@ -57,7 +57,7 @@ macro_rules! at_kind {
 }
 
 impl LaneQueues {
-    /// LaneQueues with nobody in them, and counts of 0. It takes the memory of all lanes; no other call takes any.
+    /// Empty lane queues, with counts of 0. It takes the memory of all lanes; no other call takes any.
     pub(crate) fn new(alloc: Global) -> Result<LaneQueues, AllocError>
         ensures { IfOk result (λ l. l ≡ no_queues) }
     {

@@ -1,4 +1,4 @@
-ghost use Rattle.std.specs.Prelude.{◌≡◌, ◌↔◌, ◌*◌, ◌%◌, ◌<◌, ◌≤◌, ◌∷◌, ◌++◌, [], None, IfOk, OnOk, OnErr, IsSome, IsTrue, length, map, option_to_list, Some, drop, slice_get, take, ◌+◌};
+ghost use Rattle.std.specs.Prelude.{◌≡◌, ◌↔◌, ◌*◌, ◌%◌, ◌<◌, ◌≤◌, ◌∷◌, ◌++◌, [], None, IfOk, OnOk, OnErr, IsSome, IsTrue, length, map, option_to_list, Some, drop, slice_get, take, ◌+◌, IfSome, false, is_some};
 ghost use Rattle.std.specs.Bool.{OnFalse};
 ghost use Rattle.std.specs.Borrow.{sem};
 ghost use Rattle.mbj_types.specs.Result.{result_of};
@@ -8,12 +8,16 @@ ghost use Rattle.mbj_lane.specs.Rounds.{end_of};
 ghost use Rattle.mbj_manager.specs.Machine.Queues.{count_end, queue_for, rest_of};
 ghost use Rattle.mbj_manager.specs.Entries.{AreEntriesOf};
 ghost use Rattle.mbj_manager.specs.Machine.Counts.{RisesUpTo};
-ghost use Rattle.mbj_manager.specs.State.{IsEarliestFinished, entered, after_flush, after_get_completed, lent, new_manager, after_making_room, after_submit, with_open, after_get_next_burst};
+ghost use Rattle.mbj_keys.specs.Schedules.{IsScheduleOf};
+ghost use Rattle.mbj_keys.specs.Sessions.{AreOf};
+ghost use Rattle.mbj_manager.specs.State.{IsEarliestFinished, counted, entered, expanded_for, finds, after_flush, after_get_completed, lent, new_manager, after_making_room, after_submit, after_submit_by, after_submit_in, with_open, after_get_next_burst};
 ghost use Rattle.mbj_manager.specs.Lending.{LendsNext, LendsOpen};
 
 use crate::lane::Cause;
 use crate::queued::Queued;
 use crate::works::Works;
+use mbj_aes::Schedule;
+use mbj_keys::{Keys, Notes};
 use mbj_lane::Lanes;
 use mbj_ring::CELLS;
 use mbj_types::{Done, Job, Kind, RingFull};
@@ -31,6 +35,8 @@ use std::marker::Model;
 pub struct Manager {
     works: Works,
     alloc: Global,
+    // How many keys of ciphers were expanded as jobs were submitted, modulo 2^64.
+    expansions: u64,
 }
 
 impl Model for Manager {
@@ -43,7 +49,7 @@ impl Model for Manager {
 
     ghost coded = { state_code (Prim.hlevel codes) };
 
-    ghost view = { λ m. m.works };
+    ghost view = { λ m. record (m.works) { expansions = m.expansions } };
 
     // Between calls nobody stands between two stages, and no job has more than two left.
     ghost invariant = { λ m. IsSettled m.works };
@@ -57,7 +63,11 @@ impl Manager {
         ensures { IfOk result (λ m. m ≡ new_manager) }
     {
         let works = Works::new(alloc)?;
-        Ok(Manager { works, alloc })
+        Ok(Manager {
+            works,
+            alloc,
+            expansions: 0,
+        })
     }
 
     /// Lends the first open job, to be filled: a blank one where none was open, else that one as it was written. What is
@@ -127,21 +137,72 @@ impl Manager {
         self.works.open_job(i)
     }
 
-    /// Submits the first open job as it is: the results that are owed get its result, its stages are done, and then the earliest
-    /// job is given back where it is finished.
+    /// Submits the first open job as it is then. Its stages are done as far as lanes run for it; then the earliest job is given
+    /// back, where it is finished. The job's key is expanded where the job is accepted and has a cipher.
     ///
     /// Answers `None` exactly where, after that, the earliest job isn't finished.
     pub fn submit(&mut self) -> Option<Done>
         requires is_open { 0 < length self.old.opened }
         ensures result { result ≡ (after_submit self.old).0 }
         ensures state { self.new ≡ (after_submit self.old).1 }
+        ensures expansions { self.new.expansions ≡ (self.old.expansions + expanded_for false self.old.opened) % count_end }
         ensures none { (result ≡ None) ↔ ¬ IsEarliestFinished (entered self.old) }
         ensures some { IsEarliestFinished (entered self.old) → IsSome result }
         ensures order { option_to_list result ++ self.new.owed
             ≡ self.old.owed ++ map result_of (take 1 self.old.opened) }
         ensures others { self.new.opened ≡ drop 1 self.old.opened }
     {
-        self.enter();
+        self.submit_by(None)
+    }
+
+    /// Does what `submit` does. Where the notes know an entry of the job's session, and its key is the job's, the entry's schedule
+    /// is used; else the job's key is expanded. So no result depends on the session.
+    pub fn submit_in(&mut self, keys: &Keys, notes: &mut Notes) -> Option<Done>
+        requires is_open { 0 < length self.old.opened }
+        requires notes { AreOf keys.now notes.old }
+        ensures same { notes.new ≡ notes.old }
+        ensures result { result ≡ (after_submit_in notes.old self.old).0 }
+        ensures state { self.new ≡ (after_submit_in notes.old self.old).1 }
+        ensures expansions { self.new.expansions
+            ≡ (self.old.expansions + expanded_for (finds notes.old self.old.opened) self.old.opened) % count_end }
+        ensures none { (result ≡ None) ↔ ¬ IsEarliestFinished (entered self.old) }
+        ensures some { IsEarliestFinished (entered self.old) → IsSome result }
+        ensures order { option_to_list result ++ self.new.owed
+            ≡ self.old.owed ++ map result_of (take 1 self.old.opened) }
+        ensures others { self.new.opened ≡ drop 1 self.old.opened }
+    {
+        let found = self.find(keys, notes);
+        self.submit_by(found)
+    }
+
+    /// The schedule of the first open job's key, where the notes know an entry of the job's session with this key.
+    fn find<'a>(&mut self, keys: &'a Keys, notes: &mut Notes) -> Option<&'a Schedule>
+        requires is_open { 0 < length self.old.opened }
+        requires notes { AreOf keys.now notes.old }
+        ensures same { self.new ≡ self.old }
+        ensures same_notes { notes.new ≡ notes.old }
+        ensures found { is_some result ≡ finds notes.old self.old.opened }
+        ensures schedule { IfSome result (λ s. IfSome (slice_get self.old.opened 0) (λ j. IsScheduleOf j.key s.now)) }
+    {
+        let job = self.works.open_job(0);
+        keys.schedule_for(notes, job.session, job.key.as_slice())
+    }
+
+    /// Submits the first open job, whose key's schedule was found or wasn't.
+    fn submit_by(&mut self, found: Option<&Schedule>) -> Option<Done>
+        requires is_open { 0 < length self.old.opened }
+        requires schedule { IfSome found (λ s. IfSome (slice_get self.old.opened 0) (λ j. IsScheduleOf j.key s.now)) }
+        ensures result { result ≡ (after_submit_by (is_some found.entry) self.old).0 }
+        ensures state { self.new ≡ (after_submit_by (is_some found.entry) self.old).1 }
+        ensures expansions { self.new.expansions
+            ≡ (self.old.expansions + expanded_for (is_some found.entry) self.old.opened) % count_end }
+        ensures none { (result ≡ None) ↔ ¬ IsEarliestFinished (entered self.old) }
+        ensures some { IsEarliestFinished (entered self.old) → IsSome result }
+        ensures order { option_to_list result ++ self.new.owed
+            ≡ self.old.owed ++ map result_of (take 1 self.old.opened) }
+        ensures others { self.new.opened ≡ drop 1 self.old.opened }
+    {
+        self.enter(found);
         self.get_completed()
     }
 
@@ -159,13 +220,24 @@ impl Manager {
         self.submit()
     }
 
-    /// The first open job goes last among those that are submitted, and the course is followed from it.
-    fn enter(&mut self)
-        requires { 0 < length self.old.opened }
-        ensures { self.new ≡ entered self.old }
+    /// The first open job goes last among those that are submitted, its key is counted where it is expanded, and the course is
+    /// followed from it.
+    fn enter(&mut self, found: Option<&Schedule>)
+        requires is_open { 0 < length self.old.opened }
+        requires schedule { IfSome found (λ s. IfSome (slice_get self.old.opened 0) (λ j. IsScheduleOf j.key s.now)) }
+        ensures { self.new ≡ counted (is_some found.entry) self.old (entered self.old) }
     {
-        self.works.add(self.alloc);
+        let is_expanded = self.works.add(self.alloc, found);
+        self.expansions = self.expansions.wrapping_add(u64::from(is_expanded));
         self.works.settle(Cause::Submit);
+    }
+
+    /// How many keys of ciphers were expanded as jobs were submitted, modulo 2^64. A submission expands the key of an accepted job
+    /// that has a cipher, unless the schedule is that of an entry of shared keys.
+    pub fn expansions(&self) -> u64
+        ensures { result ≡ self.now.expansions }
+    {
+        self.expansions
     }
 
     /// Gives the earliest job back where it is finished, and runs nothing.
@@ -216,7 +288,7 @@ impl Manager {
 
     /// The entries of the jobs of K's kind that wait for lanes: as many entries as jobs, and in their order. An entry has as
     /// many rounds left as its job. The job's own course has it out, with the job's keys, IV, data and ranges and with the last
-    /// of its steps left; once the entry's rounds are done, it owes the result that the job is owed.
+    /// of its steps left. Once the entry's rounds are done and it is taken back, the course leads to the job's result.
     pub fn lanes<K: Queued>(&self) -> &Lanes<K>
         ensures rests { map K.rest_of result.now.entries.items ≡ map rest_of (queue_for K.kind self.now.machine).waiting }
         ensures entries { AreEntriesOf K.kind self.now (map (λ e. K.brings (end_of K.round K.rest_of e)) result.now.entries.items)

@@ -1,9 +1,11 @@
 ghost use Rattle.mbj_types.specs.Kinds.{lanes_of};
-ghost use Rattle.std.specs.Prelude.{◌≡◌, ◌≢◌, ◌↔◌, ◌*◌, ◌%◌, ◌<◌, ◌≤◌, [], ◌∷◌, ◌++◌, length, map, Option, Some, None, ◌+◌, IfOk, IsTrue, slice_get};
+ghost use Rattle.std.specs.Prelude.{◌≡◌, ◌≢◌, ◌↔◌, ◌*◌, ◌%◌, ◌<◌, ◌≤◌, [], ◌∷◌, ◌++◌, length, map, Option, Some, None, ◌+◌, IfOk, IfSome, IsTrue, is_some, slice_get};
 ghost use Rattle.std.specs.Borrow.{sem};
 ghost use Rattle.mbj_types.specs.Result.{result_of};
 ghost use Rattle.mbj_ring.specs.declared.ring.TheConstants.{CELLS};
+ghost use Rattle.mbj_keys.specs.Schedules.{IsScheduleOf};
 ghost use Rattle.mbj_stage.specs.CourseState.{begun, stage_of};
+ghost use Rattle.mbj_stage.specs.Keys.{expands};
 ghost use Rattle.mbj_stage.specs.declared.stage.Stage.TheVariants as stage;
 ghost use Rattle.mbj_manager.specs.Machine.Stages.{pending};
 ghost use Rattle.mbj_lane.specs.Rounds.{end_of};
@@ -22,6 +24,7 @@ use crate::cell::Cell;
 use crate::lane::{Cause, run_nows};
 use crate::lane_queues::LaneQueues;
 use crate::queued::Queued;
+use mbj_aes::Schedule;
 use mbj_lane::Lanes;
 use mbj_ring::{CELLS, Ring};
 use mbj_stage::Stage;
@@ -144,18 +147,23 @@ impl Works {
     }
 
     /// The first job that was filled goes last among those that are submitted, and stands in the agenda.
-    pub(crate) fn add(&mut self, alloc: Global)
+    ///
+    /// Answers whether its key was expanded: it is where its schedule is wanted and wasn't found.
+    pub(crate) fn add(&mut self, alloc: Global, found: Option<&Schedule>) -> bool
         requires some { 0 < length self.old.opened }
         requires idle { self.old.machine.agenda ≡ [] }
-        ensures { self.new ≡ added self.old.opened self.old }
+        requires schedule { IfSome found (λ s. IfSome (slice_get self.old.opened 0) (λ j. IsScheduleOf j.key s.now)) }
+        ensures added { self.new ≡ added self.old.opened self.old }
+        ensures expands { IfSome (slice_get self.old.opened 0) (λ j. result ≡ expands (is_some found.entry) j) }
     {
-        match self.ring.open_mut() {
-            Some(cell) => cell.begin(alloc),
+        let is_expanded = match self.ring.open_mut() {
+            Some(cell) => cell.begin(alloc, found),
             None => unreachable!(),
-        }
+        };
         prove!(self.ring.len() < CELLS);
         let place = self.ring.commit();
         self.agenda.push(place);
+        is_expanded
     }
 
     fn is_idle(&self) -> bool
@@ -181,7 +189,7 @@ impl Works {
         }
     }
 
-    /// Follows the course until nobody stands between two stages.
+    /// Goes on until no job stands between two stages.
     pub(crate) fn settle(&mut self, cause: Cause)
         ensures course { self.new ≡ record (self.old) { machine = course cause self.old.machine } }
         ensures idle { self.new.machine.agenda ≡ [] }

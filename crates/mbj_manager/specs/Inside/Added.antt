@@ -11,7 +11,7 @@ use Rattle.mbj_manager.specs.State.{ManagerState}
 -- the first job that was open goes last, and stands in the agenda
 abbrev pub added : List Job → ManagerState → ManagerState
 added [] h = h
-added (j ∷ js) h = record {
+added (j ∷ js) h = record h {
   owed = h.owed ++ result_of j ∷ [];
   jobs = h.jobs ++ without_packet j ∷ [];
   opened = js;

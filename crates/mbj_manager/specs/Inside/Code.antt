@@ -25,17 +25,18 @@ listed lanes = told idle_queue lanes
 
 -- a state with its lanes as a list, field by field
 abbrev pub Stored : Type 0
-Stored = List Done × (List Job × (List Job × (List (List Pending) × (List Queue × (List ℕ × ℕ)))))
+Stored = List Done × (List Job × (List Job × (List (List Pending) × (List Queue × (List ℕ × (ℕ × ℕ))))))
 
 abbrev stored : ManagerState → Stored
-stored h = (h.owed, (h.jobs, (h.opened, (h.machine.left, (map h.machine.lanes all_kinds, (h.machine.agenda, h.machine.flush_runs))))))
+stored h = (h.owed, (h.jobs, (h.opened, (h.machine.left, (map h.machine.lanes all_kinds, (h.machine.agenda, (h.machine.flush_runs, h.expansions)))))))
 
 abbrev state : Stored → ManagerState
 state s = record {
   owed = s.0;
   jobs = s.1.0;
   opened = s.1.1.0;
-  machine = record { left = s.1.1.1.0; lanes = listed s.1.1.1.1.0; agenda = s.1.1.1.1.1.0; flush_runs = s.1.1.1.1.1.1 };
+  machine = record { left = s.1.1.1.0; lanes = listed s.1.1.1.1.0; agenda = s.1.1.1.1.1.0; flush_runs = s.1.1.1.1.1.1.0 };
+  expansions = s.1.1.1.1.1.1.1;
 }
 
 -- a state is what it is stored as

@@ -64,7 +64,7 @@ restored_from n find (c ∷ cs) = restored n find c ∷ restored_from (suc n) fi
 abbrev pub find_in : (Kind → PlacedQueue) → Kind → ℕ → Option End
 find_in lines k n = found n (lines k).waiters
 
--- ---- the state
+-- ---- the state, in which no key is counted: the manager does that
 
 abbrev pub lines_in : RingState Cell → LaneQueues → Kind → PlacedQueue
 lines_in r ls k = numbered_queue (ring_number r) (placed_in k ls)
@@ -81,6 +81,7 @@ held r agenda ls = record {
   jobs = map asked (restored_in r ls);
   opened = map job_in r.opened;
   machine = machine_in r agenda ls;
+  expansions = 0;
 }
 
 abbrev pub IsHere : CourseState → Type 0

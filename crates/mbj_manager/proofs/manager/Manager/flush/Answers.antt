@@ -8,6 +8,7 @@ use Rattle.mbj_manager.specs.Machine.Counts.{RisesUpTo}
 use Rattle.mbj_manager.specs.Inside.Settled.{IsSettled}
 use Rattle.mbj_manager.proofs.CallLaws.{given-opened, given-order}
 use Rattle.mbj_manager.proofs.CallsKeep.{earliest-given, few-runs, flush-none, flush-settled, given-settled}
+use Rattle.mbj_manager.proofs.Counted.{with_count, given-first, given-then}
 use Rattle.mbj_manager.proofs.manager.Manager.flush.Goals as goal
 
 not-some : (o : Option Done) → o ≡ None → IsSome o → ⊥
@@ -22,14 +23,19 @@ none-owed (d ∷ ds) h is done none =
     absurd (not-some (given_at (d ∷ ds) h.machine.left h).0 given-none given-one)
 
 -- the state from which the earliest job is given back
-at-flushed : (c : goal.After-give) → c.flush_first.new.self ≡ record (c.args.self.now) { machine = flushed c.args.self.now.machine }
-at-flushed c = c.flush_first.ensures.flushed ∙ ap (λ (h : ManagerState). record h { machine = flushed h.machine }) c.self.view_is
+at-flushed : (c : goal.After-give)
+    → with_count c.self.inside.expansions c.flush_first.new.self ≡ record (c.args.self.now) { machine = flushed c.args.self.now.machine }
+at-flushed c = ap (with_count c.self.inside.expansions) c.flush_first.ensures.flushed ∙ ap (λ (h : ManagerState). record h { machine = flushed h.machine }) c.self.view_is
 
 pub returns-clause-result : goal.returns-clause-result
-returns-clause-result c = c.give.ensures.result ∙ ap (λ (h : ManagerState). (after_get_completed h).0) (at-flushed c)
+returns-clause-result c =
+    c.give.ensures.result ∙ given-first c.flush_first.new.self c.self.inside.expansions
+    ∙ ap (λ (h : ManagerState). (after_get_completed h).0) (at-flushed c)
 
 pub returns-clause-state : goal.returns-clause-state
-returns-clause-state c = c.give.ensures.state ∙ ap (λ (h : ManagerState). (after_get_completed h).1) (at-flushed c)
+returns-clause-state c =
+    ap (with_count c.self.inside.expansions) c.give.ensures.state ∙ given-then c.flush_first.new.self c.self.inside.expansions
+    ∙ ap (λ (h : ManagerState). (after_get_completed h).1) (at-flushed c)
 
 pub returns-clause-open_stays : goal.returns-clause-open_stays
 returns-clause-open_stays c =
@@ -70,5 +76,6 @@ returns-clause-none_stays c none =
     let owes : c.args.self.now.owed ≡ [] = (returns-clause-none c).0 none in
     let same : h.owed ≡ [] = ap (λ (h : ManagerState). h.owed) (at-flushed c) ∙ owes in
     let was : w.owed ≡ [] = ap (λ (h : ManagerState). h.owed) c.self.view_is ∙ owes in
-    c.give.ensures.state ∙ ap (λ (ds : List Done). (given_at ds h.machine.left h).1) same
-    ∙ c.flush_first.ensures.flushed ∙ flush-none w c.self.invariant was ∙ c.self.view_is
+    ap (with_count c.self.inside.expansions)
+    (c.give.ensures.state ∙ ap (λ (ds : List Done). (given_at ds h.machine.left h).1) same
+    ∙ c.flush_first.ensures.flushed ∙ flush-none w c.self.invariant was) ∙ c.self.view_is

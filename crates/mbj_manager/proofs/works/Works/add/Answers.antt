@@ -24,13 +24,13 @@ is-added c =
     let room : length r.values < CELLS = omega (arith, c.if-prove.false, c.len.ensures.len) in
     let first = first-open r.opened c.in-Some.cell.now (sym c.open_mut.ensures.value ∙ ap option_copied_mut c.in-Some.is) in
     subst (λ (x : RingState Cell). IsAdded r x w.agenda.places.items c.push.new.self.places.items w.lists capacity)
-    (sym (c.commit-place.ensures.values ∙ commit-one r r.opened c.in-Some.cell.now c.begin.new.self first))
-    (subst (λ (ag : List ℕ). IsAdded r (one_more r c.begin.new.self (drop 1 r.opened)) w.agenda.places.items ag w.lists capacity) (sym c.push.ensures.places)
-    (adds r c.in-Some.cell.now c.begin.new.self (drop 1 r.opened) c.commit-place.result w.agenda.places.items w.lists capacity c.self.invariant idle
-    first c.begin.ensures room c.commit-place.ensures.place))
+    (sym (c.commit-place.ensures.values ∙ commit-one r r.opened c.in-Some.cell.now c.begin-is_expanded.new.self first))
+    (subst (λ (ag : List ℕ). IsAdded r (one_more r c.begin-is_expanded.new.self (drop 1 r.opened)) w.agenda.places.items ag w.lists capacity) (sym c.push.ensures.places)
+    (adds r c.in-Some.cell.now c.begin-is_expanded.new.self (drop 1 r.opened) c.commit-place.result w.agenda.places.items w.lists capacity c.self.invariant idle
+    first c.begin-is_expanded.ensures.begun room c.commit-place.ensures.place))
 
-pub begin-requires : goal.begin-requires
-begin-requires c =
+pub begin-is_expanded-requires-clause-is_open : goal.begin-is_expanded-requires-clause-is_open
+begin-is_expanded-requires-clause-is_open c =
     open-at 0 c.self.inside.ring.opened c.in-Some.cell.now (sym c.open_mut.ensures.value ∙ ap option_copied_mut c.in-Some.is) c.self.invariant.is_open
 
 pub unreachable-requires : goal.unreachable-requires
@@ -42,13 +42,13 @@ pub prove-unreachable-requires : goal.prove-unreachable-requires
 prove-unreachable-requires c =
     let r = c.self.inside.ring in
     let first = first-open r.opened c.in-Some.cell.now (sym c.open_mut.ensures.value ∙ ap option_copied_mut c.in-Some.is) in
-    omega (arith, length-append r.values (set r.opened 0 c.begin.new.self), length-set r.opened 0 c.begin.new.self, ap length first, c.len.ensures.len, c.len.ensures.within.0)
+    omega (arith, length-append r.values (set r.opened 0 c.begin-is_expanded.new.self), length-set r.opened 0 c.begin-is_expanded.new.self, ap length first, c.len.ensures.len, c.len.ensures.within.0)
 
 pub commit-place-requires : goal.commit-place-requires
 commit-place-requires c =
     let r = c.self.inside.ring in
     let first = first-open r.opened c.in-Some.cell.now (sym c.open_mut.ensures.value ∙ ap option_copied_mut c.in-Some.is) in
-    record { is_open = omega (arith, length-set r.opened 0 c.begin.new.self, ap length first) }
+    record { is_open = omega (arith, length-set r.opened 0 c.begin-is_expanded.new.self, ap length first) }
 
 pub push-requires : goal.push-requires
 push-requires c =
@@ -62,7 +62,7 @@ push-requires c =
 pub invariant_of-self : goal.invariant_of-self
 invariant_of-self c = rw c.push.ensures.room (is-added c).kept
 
-pub returns : goal.returns
-returns c =
+pub returns-clause-added : goal.returns-clause-added
+returns-clause-added c =
     let new = held c.commit-place.new.self c.push.new.self.places.items c.self.inside.lists in
     subst (λ (h : ManagerState). new ≡ added h.opened h) c.self.view_is (is-added c).is

@@ -9,7 +9,7 @@ use Rattle.mbj_manager.proofs.Moving.{same-state}
 use Rattle.mbj_manager.proofs.works.Works.flush_first.Goals as goal
 
 pub flushing-init : goal.flushing-init
-flushing-init c = record { reaches = flush-start c.args.self.now.machine; owed_is = refl; jobs_are = refl; opened_is = refl; idle = c.requires }
+flushing-init c = record { reaches = flush-start c.args.self.now.machine; owed_is = refl; jobs_are = refl; opened_is = refl; count_is = refl; idle = c.requires }
 
 pub flushing-preserved : goal.flushing-preserved
 flushing-preserved c =
@@ -30,6 +30,8 @@ flushing-preserved c =
           ∙ ap (λ (h : ManagerState). h.jobs) c.first_kind.ensures.same ∙ c.flushing.invariant.jobs_are;
       opened_is = ap (λ (h : ManagerState). h.opened) settled ∙ ap (λ (h : ManagerState). h.opened) ran
           ∙ ap (λ (h : ManagerState). h.opened) c.first_kind.ensures.same ∙ c.flushing.invariant.opened_is;
+      count_is = ap (λ (h : ManagerState). h.expansions) settled ∙ ap (λ (h : ManagerState). h.expansions) ran
+          ∙ ap (λ (h : ManagerState). h.expansions) c.first_kind.ensures.same ∙ c.flushing.invariant.count_is;
       idle = c.settle.ensures.idle;
     }
 
@@ -38,7 +40,7 @@ returns-in-None-clause-flushed c =
     let m = c.flushing.self.machine in
     c.first_kind.ensures.same
     ∙ same-state c.flushing.invariant.owed_is c.flushing.invariant.jobs_are c.flushing.invariant.opened_is
-    (flush-end m (flushed c.args.self.now.machine) (sym c.first_kind.ensures.kind ∙ c.in-None.is) c.flushing.invariant.reaches)
+    (flush-end m (flushed c.args.self.now.machine) (sym c.first_kind.ensures.kind ∙ c.in-None.is) c.flushing.invariant.reaches) c.flushing.invariant.count_is
 
 pub returns-in-None-clause-done : goal.returns-in-None-clause-done
 returns-in-None-clause-done c owes =

@@ -10,6 +10,7 @@ invariant-flushing l = record {
   owed_is : l.self.owed ≡ l.initial.self.owed;
   jobs_are : l.self.jobs ≡ l.initial.self.jobs;
   opened_is : l.self.opened ≡ l.initial.self.opened;
+  count_is : l.self.expansions ≡ l.initial.self.expansions;
   idle : l.self.machine.agenda ≡ [];
 }
 

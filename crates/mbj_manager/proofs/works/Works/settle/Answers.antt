@@ -9,7 +9,7 @@ use Rattle.mbj_manager.specs.Inside.Steps.{steps_ahead}
 use Rattle.mbj_manager.proofs.works.Works.settle.Goals as goal
 
 pub settling-init : goal.settling-init
-settling-init c = record { reaches = reaches-start c.args.cause c.args.self.now.machine; owed_is = refl; jobs_are = refl; opened_is = refl; stages = omega arith }
+settling-init c = record { reaches = reaches-start c.args.cause c.args.self.now.machine; owed_is = refl; jobs_are = refl; opened_is = refl; count_is = refl; stages = omega arith }
 
 pub settling-preserved : goal.settling-preserved
 settling-preserved c =
@@ -24,6 +24,7 @@ settling-preserved c =
       owed_is = ap (λ (h : ManagerState). h.owed) step ∙ c.settling.invariant.owed_is;
       jobs_are = ap (λ (h : ManagerState). h.jobs) step ∙ c.settling.invariant.jobs_are;
       opened_is = ap (λ (h : ManagerState). h.opened) step ∙ c.settling.invariant.opened_is;
+      count_is = ap (λ (h : ManagerState). h.expansions) step ∙ c.settling.invariant.count_is;
       stages = omega (arith, c.advance.ensures.stages, c.settling.invariant.stages);
     }
 
@@ -33,4 +34,4 @@ returns-clause-course c =
     let m = c.settling.self.machine in
     let none : m.agenda ≡ [] = search rules in
     same-state c.settling.invariant.owed_is c.settling.invariant.jobs_are c.settling.invariant.opened_is
-    (reaches-end at m (course at c.args.self.now.machine) none c.settling.invariant.reaches)
+    (reaches-end at m (course at c.args.self.now.machine) none c.settling.invariant.reaches) c.settling.invariant.count_is

@@ -11,6 +11,7 @@ invariant-settling l = record {
   owed_is : l.self.owed ≡ l.initial.self.owed;
   jobs_are : l.self.jobs ≡ l.initial.self.jobs;
   opened_is : l.self.opened ≡ l.initial.self.opened;
+  count_is : l.self.expansions ≡ l.initial.self.expansions;
   stages : stages_left l.self.machine.left ≤ stages_left l.initial.self.machine.left;
 }
 
