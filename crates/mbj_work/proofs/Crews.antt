@@ -1,6 +1,7 @@
 -- The seats of a new front, and the results of all submitters.
-use Rattle.std.proofs.Common.{◌≡◌, ℕ, ◌+◌, List, [], ◌∷◌, ◌++◌, length, length-append, map, suc, sym, Some, None, Option, subst, IfSome, refl, ap, ◌∙◌, arith, Vec, Global}
+use Rattle.std.proofs.Common.{◌≡◌, ℕ, ◌+◌, All, false, List, [], ◌∷◌, ◌++◌, length, length-append, map, suc, sym, Some, None, Option, subst, IfSome, refl, ap, ◌∙◌, arith, Vec, Global}
 use Rattle.std.proofs.lemmas.List.{length-map, map-append}
+use Rattle.std.proofs.lemmas.List.Elements.{All-head, All-tail}
 use Rattle.std.specs.List.{AllZip}
 use Rattle.std.specs.Prelude.{slice_get}
 use Rattle.mbj_types.specs.declared.job.Job.{Job}
@@ -12,7 +13,7 @@ use Rattle.mbj_front.specs.declared.front.SharedFront.{SharedFront}
 use Rattle.mbj_front.specs.declared.standard.Standard.{Standard}
 use Rattle.mbj_front.specs.Seats.{view_of, IsOf, IsIssued}
 use Rattle.mbj_work.specs.declared.submitter.Submitter.{Submitter}
-use Rattle.mbj_work.specs.Inside.Runs.{AreSeatsFrom, HasResults}
+use Rattle.mbj_work.specs.Inside.Runs.{AreSeatsFrom, HasResults, IsDone}
 
 seats_after : (front : SharedFront Job Done Standard) (n : ℕ) (seats : List (PartySeat Job Done))
     → ((p : ℕ) (seat : PartySeat Job Done) → slice_get seats p ≡ Some seat → IsOf front seat × (view_of seat ≡ new_party (n + p))) → AreSeatsFrom front n seats
@@ -39,18 +40,19 @@ abbrev tail_of : {X : Type 0} → List (Option X) → List (Option X)
 tail_of [] = []
 tail_of (x ∷ xs) = xs
 
--- each submitter has the results of its list
+-- each submitter has the results of its list, where there was memory for all parties
 pub results_of_all : (olds news : List Submitter) (lists : List (Vec Job Global)) → map (λ s. s.jobs) olds ≡ map Some lists → AllZip HasResults olds news
-    → map (λ s. s.results.items) news ≡ map (λ l. map result_of l.items) lists
-results_of_all [] [] [] same each = refl
-results_of_all [] [] (l ∷ lists) same each = absurd (let z = ap length same in omega (arith, z))
-results_of_all [] (x ∷ news) lists same each = absurd each
-results_of_all (s ∷ olds) [] lists same each = absurd each
-results_of_all (s ∷ olds) (x ∷ news) [] same each = absurd (let z = ap length same in omega (arith, z))
-results_of_all (s ∷ olds) (x ∷ news) (l ∷ lists) same each =
+    → All IsDone news → map (λ s. s.results.items) news ≡ map (λ l. map result_of l.items) lists
+results_of_all [] [] [] same each done = refl
+results_of_all [] [] (l ∷ lists) same each done = absurd (let z = ap length same in omega (arith, z))
+results_of_all [] (x ∷ news) lists same each done = absurd each
+results_of_all (s ∷ olds) [] lists same each done = absurd each
+results_of_all (s ∷ olds) (x ∷ news) [] same each done = absurd (let z = ap length same in omega (arith, z))
+results_of_all (s ∷ olds) (x ∷ news) (l ∷ lists) same each done =
     let first : x.results.items ≡ map result_of l.items
-    = subst (λ (o : Option (Vec Job Global)). IfSome o (λ jobs. x.results.items ≡ map result_of jobs.items)) (ap head_of same) each.0 in
-    let more = results_of_all olds news lists (ap tail_of same) each.1 in
+    = subst (λ (o : Option (Vec Job Global)). IfSome o (λ jobs. x.is_refused ≡ false → x.results.items ≡ map result_of jobs.items)) (ap head_of same) each.0
+    (All-head IsDone x news done) in
+    let more = results_of_all olds news lists (ap tail_of same) each.1 (All-tail IsDone x news done) in
     (λ i. first i ∷ more i)
 
 -- and there are as many of them

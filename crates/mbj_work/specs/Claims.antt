@@ -9,7 +9,8 @@ use Rattle.mbj_front.specs.declared.standard.Standard.{Standard}
 use Rattle.mbj_front.specs.Moves.{Move, claiming, finishing, Led}
 use Rattle.mbj_front.specs.Seats.{submitters_of, workers_of}
 use Rattle.mbj_front.specs.Views.{after_claim, after_finish}
-use Rattle.mbj_manager.specs.State.{ManagerState, after_submit, with_open, after_flush}
+use Rattle.mbj_keys.specs.Sessions.{Known}
+use Rattle.mbj_manager.specs.State.{ManagerState, after_submit_in, with_open, after_flush}
 use Rattle.mbj_work.specs.declared.claimed.Claimed.{Claimed}
 use Rattle.mbj_work.specs.declared.claimed.Claimed.TheVariants.{Yes, Not}
 
@@ -40,13 +41,13 @@ module _ (front : SharedFront Job Done Standard) where
   abbrev pub FinishesGiven : Option Done → View Done → View Done → Type 0
   FinishesGiven given v w = MatchOption given (w ≡ v) (λ d. FinishesFirst d v w)
 
-  -- The job of the cell went to the end of the hand, and was submitted. Where that gave a result back, it is the first
-  -- pair's, which left the hand.
-  pub record ClaimsJob (cell : ℕ) (v : View Done) (manager : ManagerState) (w : View Done) (manager' : ManagerState) : Type 0 where
+  -- The job of the cell went to the end of the hand, and was submitted by what the notes know. Where that gave a result back, it
+  -- is the first pair's, which left the hand.
+  pub record ClaimsJob (cell : ℕ) (notes : List Known) (v : View Done) (manager : ManagerState) (w : View Done) (manager' : ManagerState) : Type 0 where
     pub job : Job
     pub claim : StepLed v (claiming cell job) (after_claim v cell (result_of job))
-    pub manager_is : manager' ≡ (after_submit (with_open manager job)).1
-    pub part : FinishesGiven (after_submit (with_open manager job)).0 (after_claim v cell (result_of job)) w
+    pub manager_is : manager' ≡ (after_submit_in notes (with_open manager job)).1
+    pub part : FinishesGiven (after_submit_in notes (with_open manager job)).0 (after_claim v cell (result_of job)) w
 
   -- one result was flushed, and it is the first pair's, which left the hand
   pub record Settles (v : View Done) (manager : ManagerState) (w : View Done) (manager' : ManagerState) : Type 0 where

@@ -1,5 +1,6 @@
 pub mod Dealing
 pub mod Feeding
+pub mod Knowing
 pub mod Parties
 pub mod Hunts
 pub mod Claims

@@ -12,7 +12,9 @@ use Rattle.mbj_front.specs.declared.words.TheConstants.{DONE}
 use Rattle.mbj_front.specs.Seats.{view_of, submitters_of, IsOf}
 use Rattle.mbj_front.specs.Views.{after_look, after_take, at_phase}
 use Rattle.mbj_manager.specs.State.{ManagerState}
+use Rattle.mbj_keys.specs.Sessions.{Known}
 use Rattle.mbj_work.specs.declared.party.Party.{Party}
+use Rattle.mbj_work.specs.Knowing.{notes_in}
 
 -- its seat, its part of the front, and its manager
 abbrev pub seat_of : Party → PartySeat Job Done
@@ -23,6 +25,10 @@ part_of party = view_of party.seat
 
 abbrev pub manager_of : Party → ManagerState
 manager_of party = party.manager
+
+-- what it knows of the keys that it shares
+abbrev pub notes_of : Party → List Known
+notes_of party = notes_in party.known
 
 -- the party belongs to the front
 abbrev pub IsPartyOf : SharedFront Job Done Standard → Party → Type 0

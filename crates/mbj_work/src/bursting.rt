@@ -43,7 +43,7 @@ fn finish_each(
     }
 }
 
-impl Party {
+impl<'k> Party<'k> {
     /// Settles as `settle` does until it answers false, `n` times at most. Answers how often it answered true.
     pub fn settle_burst(&mut self, front: &Front, n: u32) -> u32
         requires { IsPartyOf front.now self.old }

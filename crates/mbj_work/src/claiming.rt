@@ -8,12 +8,13 @@ ghost use Rattle.mbj_front.specs.Seats.{view_of, cells_of, IsFirst, IsOf};
 ghost use Rattle.mbj_front.specs.Views.{after_finish, after_look};
 ghost use Rattle.mbj_manager.specs.State.{after_get_completed};
 ghost use Rattle.mbj_work.specs.declared.party.TheConstants.{HAND_ROOM};
-ghost use Rattle.mbj_work.specs.Parties.{part_of, manager_of, IsPartyOf, KeepsDue};
+ghost use Rattle.mbj_work.specs.Parties.{part_of, manager_of, notes_of, IsPartyOf, KeepsDue};
 ghost use Rattle.mbj_work.specs.Claims.{MatchClaimed, IfNot, FinishesFirst, ClaimsJob, Settles};
 ghost use Rattle.mbj_work.specs.Inside.Holding.{cells_in};
 
 use crate::claimed::Claimed;
 use crate::gate::{Gate, Moment, OpenGate};
+use crate::known::submit_known;
 use crate::party::Party;
 use circular_buffer::HeapCircularBuffer;
 use mbj_front::{Front, Seat};
@@ -42,9 +43,10 @@ pub(crate) fn finish_first<G: Gate>(
     front.finish(seat, cell, done);
 }
 
-impl Party {
+impl<'k> Party<'k> {
     /// Claims the job of a cell, where the hand has room: the cell goes to the end of the hand, and the job is submitted to
-    /// the manager. A result that this gives back is that of the first cell in the hand, which is finished with it.
+    /// the manager, by the schedule of its session's entry where the party has learnt the session and the entry has the job's key.
+    /// A result that this gives back is that of the first cell in the hand, which is finished with it.
     /// Answers the cell's word exactly where this call's one look found another one than `READY`; then only the looks have
     /// grown.
     pub fn claim(&mut self, front: &Front, cell: u32) -> Claimed
@@ -54,9 +56,10 @@ impl Party {
         ensures front { IsPartyOf front.now self.new }
         ensures found { IfNot result (λ word. word ≢ READY) }
         ensures part { MatchClaimed result
-            (ClaimsJob front.now cell (part_of self.old) (manager_of self.old) (part_of self.new) (manager_of self.new))
+            (ClaimsJob front.now cell (notes_of self.old) (part_of self.old) (manager_of self.old) (part_of self.new) (manager_of self.new))
             (λ word. (part_of self.new ≡ after_look (part_of self.old) cell word) × (manager_of self.new ≡ manager_of self.old)) }
         ensures due { KeepsDue (part_of self.old) (part_of self.new) }
+        ensures notes { notes_of self.new ≡ notes_of self.old }
     {
         self.claim_at(front, cell, &OpenGate)
     }
@@ -70,16 +73,17 @@ impl Party {
         ensures front { IsPartyOf front.now self.new }
         ensures found { IfNot result (λ word. word ≢ READY) }
         ensures part { MatchClaimed result
-            (ClaimsJob front.now cell (part_of self.old) (manager_of self.old) (part_of self.new) (manager_of self.new))
+            (ClaimsJob front.now cell (notes_of self.old) (part_of self.old) (manager_of self.old) (part_of self.new) (manager_of self.new))
             (λ word. (part_of self.new ≡ after_look (part_of self.old) cell word) × (manager_of self.new ≡ manager_of self.old)) }
         ensures due { KeepsDue (part_of self.old) (part_of self.new) }
+        ensures notes { notes_of self.new ≡ notes_of self.old }
     {
         match front.try_claim(&mut self.seat, cell) {
             Err(word) => Claimed::Not(word),
             Ok(job) => {
                 self.cells.push_back(cell);
                 gate.pass(self.seat.party(), Moment::Claimed);
-                if let Some(done) = self.manager.submit_job(job) {
+                if let Some(done) = submit_known(&mut self.manager, &mut self.known, job) {
                     finish_first(front, &mut self.seat, &mut self.cells, done, gate);
                 }
                 Claimed::Yes
@@ -121,7 +125,7 @@ impl Party {
         true
     }
 
-    /// Finishes the first cell in the hand where its job is finished already. Answers whether it was. No list runs for it.
+    /// Finishes the first cell in the hand where its job is finished already. Returns whether it was. No lanes run for this.
     fn give_back<G: Gate>(&mut self, front: &Front, gate: &G) -> bool
         requires { IsPartyOf front.now self.old }
         ensures front { IsPartyOf front.now self.new }
@@ -138,8 +142,8 @@ impl Party {
         true
     }
 
-    /// Finishes cells in the hand, from the first on, as long as their jobs are finished already. No list runs for it. A
-    /// full list finishes many jobs at once, and nobody is to wait for their results until this party claims more.
+    /// Finishes cells in the hand, from the first on, as long as their jobs are finished already. No lanes run for this. A run
+    /// of full lanes finishes many jobs at once; without this call their results would wait until this party claims more.
     pub(crate) fn give_all_back<G: Gate>(&mut self, front: &Front, gate: &G)
         requires { IsPartyOf front.now self.old }
         ensures front { IsPartyOf front.now self.new }

@@ -2,14 +2,14 @@
 ghost use Rattle.std.specs.Prelude.{◌≡◌, ℕ, ◌≤◌, [], All, IfOk, OnOk, Some, length, map, vec_len};
 ghost use Rattle.std.specs.List.{AllZip};
 ghost use Rattle.std.specs.Thread.{IsSync};
-ghost use Rattle.mbj_core.specs.declared.party.Phase.TheVariants.{Rest};
-ghost use Rattle.mbj_front.specs.Seats.{view_of, submitters_of, IsOf};
+ghost use Rattle.mbj_front.specs.Seats.{submitters_of};
 ghost use Rattle.mbj_work.specs.Inside.Runs.{AreSeatsFrom, HasJobs, HasResults, MayServe};
 
 use crate::gate::Gate;
-use crate::party::Party;
 use crate::submitter::Submitter;
+use crate::worker::{Flags, Worker};
 use mbj_front::{Front, Seat};
+use mbj_keys::Keys;
 use mbj_types::Job;
 use std::alloc::{AllocError, Global};
 use std::collections::VecDeque;
@@ -46,44 +46,23 @@ pub(crate) fn make_submitters(
     Ok(submitters)
 }
 
-/// A party for a seat.
-///
-/// Answers `AllocError` for want of memory.
-#[tactic(auto, unfolding(crate::specs::Inside::Runs::MayServe))]
-fn worker(alloc: Global, _front: &Front, seat: Seat) -> Result<Party, AllocError>
-    requires front { IsOf _front.now seat }
-    requires rest { (view_of seat).phase ≡ Rest }
-    requires hand { (view_of seat).hand ≡ [] }
-    ensures { IfOk result (MayServe _front.now) }
-{
-    Party::new(alloc, seat)
-}
-
-/// A party for each seat that is left.
+/// A worker for each seat that is left.
 ///
 /// Answers `AllocError` for want of memory.
 pub(crate) fn make_workers(
     alloc: Global,
     front: &Front,
     mut seats: VecDeque<Seat>,
-) -> Result<Vec<Party>, AllocError>
+) -> Result<Vec<Worker>, AllocError>
     requires { (n : ℕ) × AreSeatsFrom front.now n seats.items }
     ensures { IfOk result (λ v. All (MayServe front.now) v.items) }
 {
     let mut workers = Vec::with_capacity(alloc, seats.len())?;
     while let Some(seat) = seats.pop_front() {
-        let party = worker(alloc, front, seat)?;
-        workers.push(party)?;
+        let worker = Worker::new(alloc, front, seat);
+        workers.push(worker)?;
     }
     Ok(workers)
-}
-
-/// A worker serves until the stop flag is set.
-#[tactic(auto, unfolding(crate::specs::Inside::Runs::MayServe))]
-fn serve<R: Wait, G: Gate>(rt: &R, front: &Front, gate: &G, mut party: Party, stop: &AtomicBool)
-    requires { MayServe front.now party }
-{
-    party.serve(rt, front, gate, stop);
 }
 
 /// Runs the last submitter in this thread, and each other in a thread of its own where one can be started. This thread
@@ -92,6 +71,7 @@ fn serve<R: Wait, G: Gate>(rt: &R, front: &Front, gate: &G, mut party: Party, st
 fn run_each<R: Threads + Wait + Sync, G: Gate + Sync>(
     rt: &R,
     front: &Front,
+    keys: &Keys,
     gate: &G,
     submitters: &mut [Submitter],
 )
@@ -102,7 +82,7 @@ fn run_each<R: Threads + Wait + Sync, G: Gate + Sync>(
         return;
     };
     if rest.is_empty() {
-        first.run(rt, front, gate);
+        first.run(rt, front, keys, gate);
         return;
     }
     join_mut(
@@ -110,48 +90,58 @@ fn run_each<R: Threads + Wait + Sync, G: Gate + Sync>(
         &mut ||
             requires { IsSync R.row × IsSync G.row × HasJobs front.now first.now }
             ensures { HasResults first.entry.now first.exit.now }
-        { first.run(rt, front, gate) },
+        { first.run(rt, front, keys, gate) },
         &mut ||
             requires { IsSync R.row × IsSync G.row × All (HasJobs front.now) rest.now }
             ensures { AllZip HasResults rest.entry.now rest.exit.now }
-        { run_each(rt, front, gate, rest) },
+        { run_each(rt, front, keys, gate, rest) },
     );
 }
 
 /// Runs the submitters beside the workers, and sets the workers' stop flag once all submitters are done. A worker whose
 /// thread can't be started is left out.
+///
+/// Answers `AllocError`, once all have returned, where there was no memory for a worker's party.
 pub(crate) fn run_beside<R: Threads + Wait + Sync, G: Gate + Sync>(
     rt: &R,
     front: &Front,
+    keys: &Keys,
     gate: &G,
     mut submitters: Vec<Submitter>,
-    workers: Vec<Party>,
-) -> Vec<Submitter>
+    workers: Vec<Worker>,
+) -> Result<Vec<Submitter>, AllocError>
     requires submitters { All (HasJobs front.now) submitters.items }
     requires workers { All (MayServe front.now) workers.items }
-    ensures { AllZip HasResults submitters.items result.items }
+    ensures { IfOk result (λ v. AllZip HasResults submitters.items v.items) }
 {
-    let stop = AtomicBool::new(false);
-    let flag = &stop;
-    thread::scope(
+    let flags = Flags {
+        stop: AtomicBool::new(false),
+        refused: AtomicBool::new(false),
+    };
+    let shared = &flags;
+    let done = thread::scope(
         thread::scope_env(),
         rt,
         |scope| -> Vec<Submitter>
             requires { All (HasJobs front.now) submitters.items × All (MayServe front.now) workers.items }
             ensures { AllZip HasResults submitters.items result.items }
         {
-            for party in workers {
+            for worker in workers {
                 let _refused = scope
                     .spawn(
                         move ||
-                            requires { MayServe front.now party }
-                        { serve(rt, front, gate, party, flag) },
+                            requires { MayServe front.now worker }
+                        { worker.serve(rt, front, keys, gate, shared) },
                     )
                     .is_err();
             }
-            run_each(rt, front, gate, submitters.as_mut_slice());
-            flag.store(true, SeqCst);
+            run_each(rt, front, keys, gate, submitters.as_mut_slice());
+            shared.stop.store(true, SeqCst);
             submitters
         },
-    )
+    );
+    if flags.refused.load(SeqCst) {
+        return Err(AllocError);
+    }
+    Ok(done)
 }

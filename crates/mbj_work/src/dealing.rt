@@ -7,6 +7,7 @@ ghost use Rattle.mbj_work.specs.Dealing.{AreDealt};
 use crate::gate::Gate;
 use crate::results::Results;
 use crate::shared::run_shared;
+use mbj_keys::Keys;
 use mbj_types::{Done, Job};
 use std::alloc::{AllocError, Global};
 use std::sync::Wait;
@@ -47,8 +48,9 @@ fn deal(alloc: Global, jobs: Vec<Job>, submitters: u32) -> Result<Vec<Vec<Job>>,
     Ok(lists)
 }
 
-/// Does jobs by one front: they are dealt to submitters by turns, and so many workers serve beside those. All parties but
-/// one submitter are in threads of their own, where these can be started. Answers the results in the order of the jobs.
+/// Does jobs by one front, whose parties share keys: the jobs are dealt to submitters by turns, and so many workers serve beside
+/// those. All parties but one submitter are in threads of their own, where these can be started. Answers the results in the order of
+/// the jobs.
 ///
 /// There are 1 to `MAX_SUBMITTERS` submitters, and at most `MAX_WORKERS` workers.
 ///
@@ -56,6 +58,7 @@ fn deal(alloc: Global, jobs: Vec<Job>, submitters: u32) -> Result<Vec<Vec<Job>>,
 pub fn do_jobs<R: Threads + Wait + Sync, G: Gate + Sync>(
     rt: &R,
     alloc: Global,
+    keys: &Keys,
     jobs: Vec<Job>,
     submitters: u32,
     workers: u32,
@@ -67,6 +70,6 @@ pub fn do_jobs<R: Threads + Wait + Sync, G: Gate + Sync>(
 {
     let count = jobs.len();
     let lists = deal(alloc, jobs, submitters)?;
-    let lists = run_shared(rt, alloc, lists, workers, gate)?;
+    let lists = run_shared(rt, alloc, keys, lists, workers, gate)?;
     Ok(Results::of(lists, count))
 }

@@ -20,7 +20,7 @@ use std::sync::Wait;
 /// that the queues fill up, and the workers find the other jobs.
 const CLAIMS: u32 = AES_LANES as u32;
 
-impl Party {
+impl<'k> Party<'k> {
     /// Collects until nothing of this submitter is out, and appends the results, for which there is room, in the order of
     /// the posts. While the earliest job that is out has no result it waits for others, and where the gate lets it help it
     /// claims those of its own jobs that are ready, and settles them. At return its hand is empty.

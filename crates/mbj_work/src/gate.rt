@@ -23,7 +23,7 @@ pub trait Gate {
     fn may_help(&self, party: u32) -> bool;
 }
 
-/// The gate that holds nobody up and always lets submitters help.
+/// The gate that never holds a party up and always lets submitters help.
 #[derive(Clone, Copy, Debug, PartialEq, Eq)]
 pub struct OpenGate;
 

@@ -6,7 +6,7 @@ ghost use Rattle.mbj_work.specs.Hunts.{FindsReady, FindsNone};
 use crate::party::Party;
 use mbj_front::{Front, READY};
 
-impl Party {
+impl<'k> Party<'k> {
     /// Looks at each cell once, from one on and round, and answers the first that has a job to be claimed. Answers `None`
     /// exactly where each of these looks found another word.
     pub fn hunt(&mut self, front: &Front, from: u32) -> Option<u32>

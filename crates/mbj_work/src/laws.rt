@@ -7,7 +7,7 @@ ghost use Rattle.mbj_work.specs.declared.party.TheConstants.{HAND_ROOM};
 
 use crate::party::Party;
 
-impl Party {
+impl<'k> Party<'k> {
     /// A law: between its calls a party is at rest, and its manager owes the results of the jobs in the hand, in the order
     /// of the claims.
     pub fn owes_the_results_of_its_hand(&self)

@@ -10,6 +10,7 @@ mod draining;
 mod feeding;
 mod gate;
 mod hunting;
+mod known;
 mod laws;
 mod making;
 mod party;
@@ -20,6 +21,7 @@ mod serving;
 mod shared;
 mod submitter;
 mod task;
+mod worker;
 
 pub use claimed::Claimed;
 pub use dealing::do_jobs;

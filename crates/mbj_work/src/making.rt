@@ -6,24 +6,56 @@ ghost use Rattle.mbj_core.specs.declared.party.Phase.TheVariants.{Rest};
 ghost use Rattle.mbj_front.specs.Seats.{view_of, IsSubmitter};
 ghost use Rattle.mbj_manager.specs.State.{new_manager};
 ghost use Rattle.mbj_work.specs.declared.party.TheConstants.{HAND_ROOM};
-ghost use Rattle.mbj_work.specs.Parties.{seat_of, part_of, manager_of};
+ghost use Rattle.mbj_work.specs.Knowing.{KnowsAll};
+ghost use Rattle.mbj_work.specs.Parties.{seat_of, part_of, manager_of, notes_of};
 
+use crate::known::KnownKeys;
 use crate::party::{HAND_ROOM, Party};
 use circular_buffer::HeapCircularBuffer;
 use mbj_front::Seat;
+use mbj_keys::Keys;
 use mbj_manager::Manager;
 use std::alloc::{AllocError, Global};
 
-impl Party {
-    /// A party with this seat, which is at rest and has an empty hand, and with a new manager. Only this call takes
-    /// memory.
+impl<'k> Party<'k> {
+    /// A party with this seat, which is at rest and has an empty hand, and with a new manager. It shares no keys.
     ///
     /// Answers `AllocError` for want of memory; the seat is then dropped.
-    pub fn new(alloc: Global, seat: Seat) -> Result<Party, AllocError>
+    pub fn new(alloc: Global, seat: Seat) -> Result<Party<'k>, AllocError>
         requires rest { (view_of seat).phase ≡ Rest }
         requires hand { (view_of seat).hand ≡ [] }
         ensures seat { IfOk result (λ party. seat_of party ≡ seat) }
         ensures manager { IfOk result (λ party. manager_of party ≡ new_manager) }
+        ensures notes { IfOk result (λ party. notes_of party ≡ []) }
+    {
+        Party::with(alloc, seat, None)
+    }
+
+    /// A party as `new` makes it, which shares keys with other parties: it has learnt all sessions, and claims by the schedules
+    /// of their entries. It doesn't wait for the others.
+    ///
+    /// Answers `AllocError` for want of memory; the seat is then dropped.
+    pub fn new_in(alloc: Global, seat: Seat, keys: &'k Keys) -> Result<Party<'k>, AllocError>
+        requires rest { (view_of seat).phase ≡ Rest }
+        requires hand { (view_of seat).hand ≡ [] }
+        ensures seat { IfOk result (λ party. seat_of party ≡ seat) }
+        ensures manager { IfOk result (λ party. manager_of party ≡ new_manager) }
+        ensures notes { IfOk result (λ party. KnowsAll keys.now (notes_of party)) }
+    {
+        let known = KnownKeys::learn(alloc, keys)?;
+        Party::with(alloc, seat, Some(known))
+    }
+
+    fn with(
+        alloc: Global,
+        seat: Seat,
+        known: Option<KnownKeys<'k>>,
+    ) -> Result<Party<'k>, AllocError>
+        requires rest { (view_of seat).phase ≡ Rest }
+        requires hand { (view_of seat).hand ≡ [] }
+        ensures seat { IfOk result (λ party. seat_of party ≡ seat) }
+        ensures manager { IfOk result (λ party. manager_of party ≡ new_manager) }
+        ensures known { IfOk result (λ party. party.known ≡ known.entry) }
     {
         let cells = HeapCircularBuffer::with_capacity(alloc, HAND_ROOM as usize)?;
         let manager = Manager::new(alloc)?;
@@ -32,6 +64,7 @@ impl Party {
             seat,
             manager,
             cells,
+            known,
             settled,
         })
     }

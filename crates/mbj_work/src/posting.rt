@@ -11,7 +11,7 @@ use mbj_core::SUBMITTER_CELLS;
 use mbj_front::Front;
 use mbj_types::{Done, Job, PostFull};
 
-impl Party {
+impl<'k> Party<'k> {
     /// Posts a job of a submitter, whose result is then due. Answers the job itself exactly where `SUBMITTER_CELLS` of
     /// this submitter are out; nothing changes then.
     pub fn post(&mut self, front: &Front, job: Job) -> Result<(), PostFull>

@@ -12,7 +12,7 @@ use std::sync::Wait;
 use std::sync::atomic::AtomicBool;
 use std::sync::atomic::Ordering::SeqCst;
 
-impl Party {
+impl<'k> Party<'k> {
     /// Hunts for jobs, claims and settles them in turn, and waits where there are none. After it has seen the stop flag,
     /// the first hunt that finds none is its last one. At return its hand is empty.
     pub fn serve<R: Wait, G: Gate>(&mut self, rt: &R, front: &Front, gate: &G, stop: &AtomicBool)
@@ -68,8 +68,8 @@ impl Party {
         self.claim_ready(front, cell, gate);
     }
 
-    /// Pauses, and settles the first cell in the hand once it has paused for a while: a list with few jobs takes as long
-    /// as a full one, and it may still fill up.
+    /// Pauses, and settles the first cell in the hand once it has paused for a while: a run with few lanes occupied takes as
+    /// long as a full one, and the lanes may still fill up.
     fn settle_or_pause<G: Gate>(&mut self, front: &Front, gate: &G, backoff: &Backoff)
         requires { IsPartyOf front.now self.old }
         ensures front { IsPartyOf front.now self.new }

@@ -1,11 +1,13 @@
-ghost use Rattle.std.specs.Prelude.{◌≡◌, ◌≤◌, [], IfOk, length, map, vec_capacity, vec_len};
+ghost use Rattle.std.specs.Prelude.{◌≡◌, ◌≤◌, [], All, IfOk, OnOk, length, map, vec_capacity, vec_len};
 ghost use Rattle.mbj_types.specs.Result.{result_of};
+ghost use Rattle.mbj_work.specs.Inside.Runs.{IsDone};
 ghost use Rattle.mbj_core.specs.declared.cells.TheConstants.{MAX_SUBMITTERS, MAX_WORKERS};
 
 use crate::crew::{make_submitters, make_workers, run_beside};
 use crate::gate::Gate;
 use crate::submitter::Submitter;
 use mbj_front::Front;
+use mbj_keys::Keys;
 use mbj_types::{Done, Job};
 use std::alloc::{AllocError, Global};
 use std::collections::VecDeque;
@@ -13,28 +15,36 @@ use std::sync::Wait;
 use std::thread::Threads;
 
 /// Puts the results of each submitter into a vector that has room for them.
-fn results_of(submitters: Vec<Submitter>, mut given: Vec<Vec<Done>>) -> Vec<Vec<Done>>
+///
+/// Answers `AllocError` where there was no memory for a submitter's party.
+fn results_of(
+    submitters: Vec<Submitter>,
+    mut given: Vec<Vec<Done>>,
+) -> Result<Vec<Vec<Done>>, AllocError>
     requires none { given.items ≡ [] }
     requires room { vec_len submitters ≤ vec_capacity given }
-    ensures { result.items ≡ map (λ s. s.results) submitters.items }
+    ensures results { IfOk result (λ v. v.items ≡ map (λ s. s.results) submitters.items) }
+    ensures done { OnOk result (All IsDone submitters.items) }
 {
     for submitter in submitters {
-        given.push_reserved(submitter.into_results());
+        let results = submitter.into_results()?;
+        given.push_reserved(results);
     }
-    given
+    Ok(given)
 }
 
-/// Does lists of jobs by one front: each list is that of a submitter, and so many workers serve beside them. The last
-/// submitter works in this thread, and each other party in a thread of its own where one can be started. Answers the results
-/// of each list, in order. All memory is taken before the first job is posted.
+/// Does lists of jobs by one front, whose parties share keys: each list is that of a submitter, and so many workers serve beside
+/// them. The last submitter works in this thread, and each other party in a thread of its own where one can be started. Answers the
+/// results of each list, in order. Each party takes all its memory before its first job.
 ///
 /// There are 1 to `MAX_SUBMITTERS` lists, and at most `MAX_WORKERS` workers. A worker whose thread can't be started is left
 /// out.
 ///
-/// Answers `AllocError` for want of memory.
+/// Answers `AllocError` for want of memory, once all parties have returned.
 pub fn run_shared<R: Threads + Wait + Sync, G: Gate + Sync>(
     rt: &R,
     alloc: Global,
+    keys: &Keys,
     lists: Vec<Vec<Job>>,
     workers: u32,
     gate: &G,
@@ -48,6 +58,6 @@ pub fn run_shared<R: Threads + Wait + Sync, G: Gate + Sync>(
     let mut seats = VecDeque::from(seats);
     let submitters = make_submitters(alloc, &front, lists, &mut seats)?;
     let workers = make_workers(alloc, &front, seats)?;
-    let done = run_beside(rt, &front, gate, submitters, workers);
-    Ok(results_of(done, given))
+    let done = run_beside(rt, &front, keys, gate, submitters, workers)?;
+    results_of(done, given)
 }

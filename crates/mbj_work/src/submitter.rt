@@ -1,4 +1,4 @@
-ghost use Rattle.std.specs.Prelude.{◌≡◌, ◌+◌, ◌-◌, ◌<◌, ◌≤◌, [], ◌∷◌, ◌++◌, IfOk, Some, length, map, vec_capacity, vec_len};
+ghost use Rattle.std.specs.Prelude.{◌≡◌, ◌+◌, ◌-◌, ◌<◌, ◌≤◌, [], ◌∷◌, ◌++◌, IfOk, OnOk, Some, false, length, map, vec_capacity, vec_len};
 ghost use Rattle.mbj_types.specs.Result.{result_of};
 ghost use Rattle.mbj_core.specs.declared.party.Phase.TheVariants.{Rest};
 ghost use Rattle.mbj_front.specs.Seats.{view_of, submitters_of, IsOf};
@@ -9,19 +9,24 @@ use crate::gate::Gate;
 use crate::party::Party;
 use mbj_core::SUBMITTER_CELLS;
 use mbj_front::{Front, Seat};
+use mbj_keys::Keys;
 use mbj_types::{Done, Job};
 use std::alloc::{AllocError, Global};
 use std::sync::Wait;
 
-/// A submitter of a run: its party, the jobs that it still has, and room for their results.
+/// A submitter of a run: the seat for its party, which it makes when it runs, its jobs, and room for their results.
 #[derive(Drop)]
 pub(crate) struct Submitter {
-    party: Party,
+    alloc: Global,
+    /// Its seat and its jobs, until it runs.
+    seat: Option<Seat>,
     jobs: Option<Vec<Job>>,
     results: Vec<Done>,
+    /// Whether there was no memory for its party.
+    is_refused: bool,
 }
 
-impl Party {
+impl<'k> Party<'k> {
     /// Posts a job. Where all cells of the submitter are in use it collects a result first, and leaves the other jobs out, so
     /// that the workers have some while it posts. So none of its posts finds the cells full.
     fn post_with_room<R: Wait, G: Gate>(
@@ -89,36 +94,40 @@ impl Submitter {
         ensures jobs { IfOk result (λ s. s.jobs ≡ Some jobs) }
     {
         let results = Vec::with_capacity(alloc, jobs.len())?;
-        let party = Party::new(alloc, seat)?;
         Ok(Submitter {
-            party,
+            alloc,
+            seat: Some(seat),
             jobs: Some(jobs),
             results,
+            is_refused: false,
         })
     }
 
-    /// Has all its jobs done.
+    /// Makes its party, which shares these keys, and has all its jobs done. Where there is no memory for the party it does nothing.
     #[tactic(auto, unfolding(crate::specs::Inside::Runs::HasJobs))]
-    pub(crate) fn run<R: Wait, G: Gate>(&mut self, rt: &R, front: &Front, gate: &G)
+    pub(crate) fn run<R: Wait, G: Gate>(&mut self, rt: &R, front: &Front, keys: &Keys, gate: &G)
         requires { HasJobs front.now self.old }
         ensures { HasResults self.old self.new }
     {
-        let Some(jobs) = self.jobs.take() else {
+        let (Some(seat), Some(jobs)) = (self.seat.take(), self.jobs.take()) else {
             unreachable!()
         };
-        self.party
-            .submit_all(rt, front, gate, jobs, &mut self.results);
+        match Party::new_in(self.alloc, seat, keys) {
+            Ok(mut party) => party.submit_all(rt, front, gate, jobs, &mut self.results),
+            Err(AllocError) => self.is_refused = true,
+        }
     }
 
     /// Its results.
-    pub(crate) fn into_results(self) -> Vec<Done>
-        ensures { result ≡ self.results }
+    ///
+    /// Answers `AllocError` where there was no memory for its party.
+    pub(crate) fn into_results(self) -> Result<Vec<Done>, AllocError>
+        ensures results { IfOk result (λ v. v ≡ self.results) }
+        ensures done { OnOk result (self.is_refused ≡ false) }
     {
-        let Submitter {
-            party: _,
-            jobs: _,
-            results,
-        } = self;
-        results
+        if self.is_refused {
+            return Err(AllocError);
+        }
+        Ok(self.results)
     }
 }

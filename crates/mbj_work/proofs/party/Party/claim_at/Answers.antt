@@ -15,7 +15,7 @@ use Rattle.mbj_work.proofs.party.Party.claim_at.Goals as goal
 
 pub finish_first-requires-clause-first : goal.finish_first-requires-clause-first
 finish_first-requires-clause-first g c = let v = view_of c.args.self.now.seat in let d = result_of c.in-Ok.job in
-    first_of (view_of c.try_claim.new.seat).hand c.in-Some.done c.submit_job.new.self.owed
+    first_of (view_of c.try_claim.new.seat).hand c.in-Some.done c.submit_known.new.manager.owed
     (c.in-Some.ensures.order ∙ ap (λ l. l ++ d ∷ []) c.args.self.now.holds.owed_is
     ∙ sym (results_with v.hand c.args.cell d) ∙ ap (λ w. results_in w.hand) (sym c.in-Ok.ensures.view))
 
@@ -24,7 +24,7 @@ invariant_of-self-in-Some g c = let v = view_of c.args.self.now.seat in let d = 
   holds = record {
     rest = ap (λ w. w.phase) left.part ∙ ap (λ w. w.phase) c.in-Ok.ensures.view ∙ c.args.self.now.holds.rest;
     cells_are = c.finish_first.ensures.cells;
-    owed_is = left_of (view_of c.try_claim.new.seat).hand left.more left.cell c.in-Some.done c.submit_job.new.self.owed
+    owed_is = left_of (view_of c.try_claim.new.seat).hand left.more left.cell c.in-Some.done c.submit_known.new.manager.owed
         (c.in-Some.ensures.order ∙ ap (λ l. l ++ d ∷ []) c.args.self.now.holds.owed_is
         ∙ sym (results_with v.hand c.args.cell d) ∙ ap (λ w. results_in w.hand) (sym c.in-Ok.ensures.view))
         left.first ∙ ap (λ w. results_in w.hand) (sym left.part);
@@ -55,9 +55,9 @@ returns-in_default-clause-part g c =
       job = c.in-Ok.job;
       claim = subst (λ (x : ℕ × ℕ × View Done). Led result_of x.0 x.1 v (claiming c.args.cell c.in-Ok.job) x.2)
           (λ i. (c.requires.front.1 i, c.requires.front.2 i, c.in-Ok.ensures.view i)) c.in-Ok.ensures.step;
-      manager_is = c.submit_job.ensures.state;
+      manager_is = c.submit_known.ensures.state;
       part = subst (λ (o : Option Done). FinishesGiven front o (after_claim v c.args.cell (result_of c.in-Ok.job)) w)
-          (sym c.in_default.is ∙ c.submit_job.ensures.result) c.in-Ok.ensures.view;
+          (sym c.in_default.is ∙ c.submit_known.ensures.result) c.in-Ok.ensures.view;
     }
 
 pub returns-in-Some-clause-part : goal.returns-in-Some-clause-part
@@ -66,9 +66,9 @@ returns-in-Some-clause-part g c =
       job = c.in-Ok.job;
       claim = subst (λ (x : ℕ × ℕ × View Done). Led result_of x.0 x.1 v (claiming c.args.cell c.in-Ok.job) x.2)
           (λ i. (c.requires.front.1 i, c.requires.front.2 i, c.in-Ok.ensures.view i)) c.in-Ok.ensures.step;
-      manager_is = c.submit_job.ensures.state;
+      manager_is = c.submit_known.ensures.state;
       part = subst (λ (o : Option Done). FinishesGiven front o (after_claim v c.args.cell (result_of c.in-Ok.job)) w)
-          (sym c.in-Some.is ∙ c.submit_job.ensures.result)
+          (sym c.in-Some.is ∙ c.submit_known.ensures.result)
           (subst (λ (x : View Done). FinishesFirst front c.in-Some.done x w) c.in-Ok.ensures.view c.finish_first.ensures.part);
     }
 
@@ -91,6 +91,6 @@ invariant_of-self-in_default g c = let v = view_of c.args.self.now.seat in let d
   room = c.args.self.now.room;
 }
 
-pub submit_job-requires : goal.submit_job-requires
-submit_job-requires g c =
+pub submit_known-requires : goal.submit_known-requires
+submit_known-requires g c =
     owed_below (view_of c.args.self.now.seat).hand c.args.self.now.manager.owed _ c.args.self.now.holds.owed_is c.requires.room
