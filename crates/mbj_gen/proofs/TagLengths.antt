@@ -30,6 +30,7 @@ tag-fits (class.Cmac k) n t = let few = within n 16 t in omega arith
 tag-fits class.Gcm n t = let few = within n 16 t in omega arith
 tag-fits (class.Plain h) n t = let few = within n (hash_of_name h).digest_bytes t in let all = hash-fits h in omega arith
 tag-fits class.Gmac n t = let few = within n 16 t in omega arith
+tag-fits (class.States h) n t = let few = within n (hash_of_name h).digest_bytes t in let all = hash-fits h in omega arith
 tag-fits class.Ccm n t =
     let within = and_parts (nat_le 4 n && nat_le n 16) (n % 2 == 0) t in
     let few = leb-true n 16 (and_parts (nat_le 4 n) (nat_le n 16) within.0).1 in omega arith

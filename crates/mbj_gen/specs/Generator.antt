@@ -1,6 +1,6 @@
 -- Jobs that are drawn from a state, a number of 64 bits. What draws answers what it drew, and the state after it.
 use Rattle.std.specs.Prelude.{◌+◌, ◌-◌, ◌*◌, ◌/◌, ◌%◌, ◌^◌, ◌==◌, ℕ, zero, suc, List, [], ◌∷◌, if◌then◌else◌, get_or}
-use Rattle.mbj_types.specs.Auths.{class_of, cmac_key_bytes}
+use Rattle.mbj_types.specs.Auths.{class_of, cmac_key_bytes, compression_of_name}
 use Rattle.mbj_types.specs.Blank.{blank}
 use Rattle.mbj_types.specs.declared.class.AuthClass.{AuthClass}
 use Rattle.mbj_types.specs.declared.class.AuthClass.TheVariants as class
@@ -109,6 +109,7 @@ with_auth_part class.Gcm n j x = with_aad j x
 with_auth_part class.Ccm n j x = with_aad j x
 with_auth_part (class.Plain h) n j x = with_hash_part 0 n j x
 with_auth_part class.Gmac n j x = with_hash_part 16 n j x
+with_auth_part (class.States h) n j x = with_hash_part (2 * (compression_of_name h).state_bytes) n j x
 
 -- ---- the job
 

@@ -198,6 +198,7 @@ fn draw_auth(draws: &mut Draws, alloc: Global, length: u32, job: &mut Job) -> Re
         AuthClass::Gcm | AuthClass::Ccm => draw_aad(draws, alloc, job),
         AuthClass::Plain(_) => draw_hash(draws, alloc, 0, length, job),
         AuthClass::Gmac => draw_hash(draws, alloc, GMAC_KEY_BYTES, length, job),
+        AuthClass::States(hash) => draw_hash(draws, alloc, 2 * hash.state_bytes(), length, job),
     }
 }
 

@@ -1,16 +1,17 @@
 -- A script line is read exactly as it is spelled.
-use Rattle.std.proofs.Common.{◌≡◌, ◌⊎◌, ◌∙◌, ◌==◌, inl, inr, ap, sym, subst, refl, ℕ, List, [], ◌∷◌, Option, Some, None, Result, Ok, Err, length, arith}
+use Rattle.std.proofs.Common.{◌≡◌, ◌⊎◌, ◌∙◌, ◌==◌, inl, inr, ap, sym, subst, refl, ℕ, List, [], ◌∷◌, Option, Some, None, Ok, Err, length, arith}
 use Rattle.std.specs.Option.{option_map_or}
 use Rattle.std.proofs.lemmas.List.Splits.{length-slice_split}
 use Rattle.mbj_text.specs.declared.command.Cmd.{Cmd}
 use Rattle.mbj_text.specs.declared.command.Cmd.TheVariants as command
 use Rattle.mbj_text.specs.declared.command.Verb.{Verb}
 use Rattle.mbj_text.specs.declared.command.Verb.TheVariants as verb
+use Rattle.mbj_text.specs.declared.fault.LineFault.TheVariants as line_fault
 use Rattle.mbj_text.specs.Cut.{cut}
 use Rattle.mbj_text.specs.Words.{verb_word}
 use Rattle.mbj_text.specs.Spelling.{Values, SpellsFields, fields_of}
 use Rattle.mbj_text.specs.Script.{number_forms, numbers, verb_of_command, SpellsCommand, HasVerb, IsBadCommand}
-use Rattle.mbj_text.specs.Inside.Reading.{◌>>=◌, Cursor, all_from, next_from, verb_of, command_with, command_of}
+use Rattle.mbj_text.specs.Inside.Reading.{◌>>=◌, Cursor, Read, bad_field, all_from, next_from, verb_of, command_with, command_of}
 use Rattle.mbj_text.proofs.WordLaws.{verb_read, verb_back}
 use Rattle.mbj_text.proofs.LineLaws.{all_back, all_fault_back, all_total}
 
@@ -39,14 +40,14 @@ spelled s w line verb.Collect texts vs is good = record { texts = texts; fields 
 -- ---- the line
 
 -- what a line with these fields is read as
-abbrev read_fields : ℕ → ℕ → List (List ℕ) → Result Cmd ℕ
+abbrev read_fields : ℕ → ℕ → List (List ℕ) → Read Cmd
 read_fields s w texts =
     next_from verb_of 0 texts >>= λ (x : Verb × Cursor). all_from (number_forms s w x.0) x.1 (command_with s w x.0)
 
 -- behind the first field, given what it is read as
-abbrev read_behind : ℕ → ℕ → List (List ℕ) → Option Verb → Result Cmd ℕ
+abbrev read_behind : ℕ → ℕ → List (List ℕ) → Option Verb → Read Cmd
 read_behind s w texts o =
-    option_map_or (λ v. Ok (v, record { taken = 1; left = texts })) o (Err 1)
+    option_map_or (λ v. Ok (v, record { taken = 1; left = texts })) o (bad_field 1)
     >>= λ (x : Verb × Cursor). all_from (number_forms s w x.0) x.1 (command_with s w x.0)
 
 -- a line that begins with a verb is read on behind it
@@ -71,7 +72,7 @@ no_verb t not = go (verb_of t) refl
     go (Some v) e = absurd (not v (verb_read t v e))
 
 -- a line with these fields that begins with no verb is refused at field 1
-first_refused : (s w : ℕ) (line : List ℕ) (texts : List (List ℕ)) → fields_of line ≡ texts → ¬ (HasVerb line) → command_of s w line ≡ Err 1
+first_refused : (s w : ℕ) (line : List ℕ) (texts : List (List ℕ)) → fields_of line ≡ texts → ¬ (HasVerb line) → command_of s w line ≡ bad_field 1
 unfolding command_of
 first_refused s w line [] is not = absurd (cut_some _ line is)
 first_refused s w line (t ∷ ts) is not =
@@ -79,8 +80,8 @@ first_refused s w line (t ∷ ts) is not =
     ap (read_fields s w) is ∙ ap (read_behind s w ts) none
 
 -- a fault is found
-pub command_fault_back : (s w : ℕ) (line : List ℕ) (f : ℕ) → IsBadCommand s w line f → command_of s w line ≡ Err f
-command_fault_back s w line f (inl (first, not)) = first_refused s w line (fields_of line) refl not ∙ ap (λ (k : ℕ). Err k) (sym first)
+pub command_fault_back : (s w : ℕ) (line : List ℕ) (f : ℕ) → IsBadCommand s w line f → command_of s w line ≡ bad_field f
+command_fault_back s w line f (inl (first, not)) = first_refused s w line (fields_of line) refl not ∙ ap (λ (k : ℕ). bad_field k) (sym first)
 command_fault_back s w line f (inr (begins, fault)) =
     behind_verb s w line begins.word begins.texts begins.fields
     ∙ all_fault_back 1 (number_forms s w begins.word) begins.texts f (command_with s w begins.word) fault
@@ -119,18 +120,25 @@ command_total s w line = by_fields (fields_of line) refl
 pub command_read : (s w : ℕ) (line : List ℕ) (c : Cmd) → command_of s w line ≡ Ok c → SpellsCommand s w line c
 command_read s w line c h = elim (command_total s w line) [
   | inl good ↦
-      let both : ◌≡◌ {A = Result Cmd ℕ} (Ok good.0) (Ok c) = sym (command_back s w line good.0 good.1) ∙ h in
+      let both : ◌≡◌ {A = Read Cmd} (Ok good.0) (Ok c) = sym (command_back s w line good.0 good.1) ∙ h in
       let same : good.0 ≡ c = cc in
       let P : Cmd → Type 0 = λ x. SpellsCommand s w line x in subst P same good.1
   | inr bad ↦ let both = sym (command_fault_back s w line bad.0 bad.1) ∙ h in cc
 ]
 
 -- a fault that is found is one
-pub command_fault_read : (s w : ℕ) (line : List ℕ) (f : ℕ) → command_of s w line ≡ Err f → IsBadCommand s w line f
+pub command_fault_read : (s w : ℕ) (line : List ℕ) (f : ℕ) → command_of s w line ≡ bad_field f → IsBadCommand s w line f
 command_fault_read s w line f h = elim (command_total s w line) [
   | inl good ↦ let both = sym (command_back s w line good.0 good.1) ∙ h in cc
   | inr bad ↦
-      let both : ◌≡◌ {A = Result Cmd ℕ} (Err bad.0) (Err f) = sym (command_fault_back s w line bad.0 bad.1) ∙ h in
+      let both : ◌≡◌ {A = Read Cmd} (bad_field bad.0) (bad_field f) = sym (command_fault_back s w line bad.0 bad.1) ∙ h in
       let same : bad.0 ≡ f = cc in
       let P : ℕ → Type 0 = λ k. IsBadCommand s w line k in subst P same bad.1
+]
+
+-- no script line is one too many
+pub command_unlimited : (s w : ℕ) (line : List ℕ) → command_of s w line ≡ Err line_fault.Limit → ⊥
+command_unlimited s w line h = elim (command_total s w line) [
+  | inl good ↦ let both = sym (command_back s w line good.0 good.1) ∙ h in cc
+  | inr bad ↦ let both = sym (command_fault_back s w line bad.0 bad.1) ∙ h in cc
 ]

@@ -2,10 +2,13 @@ pub mod Cutting
 pub mod LineLemmas
 pub mod WordLaws
 pub mod ValueLaws
+pub mod KeyLaws
 pub mod LineLaws
+pub mod EntryLaws
 pub mod CommandLaws
 pub mod AnswerLaws
 pub mod EachLine
+pub mod LimitLaws
 pub mod FileLaws
 pub mod Names
 pub mod ScriptLaws

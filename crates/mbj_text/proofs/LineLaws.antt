@@ -1,13 +1,14 @@
 -- A field is read exactly where it has its form, and a line where each of its fields has.
-use Rattle.std.proofs.Common.{◌≡◌, ◌⊎◌, ◌∙◌, ◌+◌, inl, inr, ap, sym, subst, refl, ℕ, suc, Bool, cond, List, [], ◌∷◌, Option, Some, None, Result, Ok, Err, length, arith, eq-eqb}
+use Rattle.std.proofs.Common.{◌≡◌, ◌⊎◌, ◌∙◌, ◌+◌, inl, inr, ap, sym, refl, ℕ, suc, Bool, cond, List, [], ◌∷◌, Option, Some, None, Ok, length, arith, eq-eqb}
 use Rattle.std.specs.Option.{option_map_or}
 use Rattle.std.proofs.lemmas.Bool.{ne_eqb}
 use Rattle.std.proofs.lemmas.Bool.Decides.{eqb_tells}
 use Rattle.mbj_types.specs.declared.job.Job.{Job}
-use Rattle.mbj_text.specs.Spelling.{Spells, Spelled, SpellsFields, Value, Values, values, HasForm, Form, CipherWord, DirWord, OrderWord, AuthWord, Hex, Number, Below, forms, fields_of, IsFirstBad, HasFault, IsBadLine}
-use Rattle.mbj_text.specs.Inside.Reading.{◌>>=◌, Cursor, value_of, fields_from, all_from, job_with, job_of}
+use Rattle.mbj_text.specs.Spelling.{Spells, Spelled, SpellsFields, Value, Values, values, HasForm, Form, CipherWord, DirWord, OrderWord, AuthWord, Hex, Key, CipherKey, Number, Below, forms, fields_of, IsFirstBad, HasFault, IsBadLine}
+use Rattle.mbj_text.specs.Inside.Reading.{◌>>=◌, Cursor, Read, bad_field, value_of, fields_from, all_from, job_with, job_of}
 use Rattle.mbj_text.proofs.WordLaws.{cipher_read, cipher_back, dir_read, dir_back, order_read, order_back, auth_read, auth_back}
-use Rattle.mbj_text.proofs.ValueLaws.{bytes_read, bytes_back, number_read, number_back, below_read, below_back}
+use Rattle.mbj_text.proofs.ValueLaws.{bytes_read, bytes_back, key_read, key_back, number_read, number_back, below_read, below_back}
+use Rattle.mbj_text.proofs.KeyLaws.{cipher_key_read, cipher_key_back}
 
 -- ---- fields
 
@@ -18,6 +19,8 @@ value_read DirWord t v h = dir_read t v h
 value_read OrderWord t v h = order_read t v h
 value_read AuthWord t v h = auth_read t v h
 value_read Hex t v h = bytes_read t v h
+value_read Key t v h = key_read t v h
+value_read (CipherKey keys) t v h = cipher_key_read keys t v h
 value_read Number t v h = number_read t v h
 value_read (Below limit) t v h = below_read limit t v h
 
@@ -28,6 +31,8 @@ value_back DirWord t v s = dir_back t v s
 value_back OrderWord t v s = order_back t v s
 value_back AuthWord t v s = auth_back t v s
 value_back Hex t v s = bytes_back t v s
+value_back Key t v s = key_back t v s
+value_back (CipherKey keys) t v s = cipher_key_back keys t v s
 value_back Number t v s = number_back t v s
 value_back (Below limit) t v s = below_back limit t v s
 
@@ -42,12 +47,12 @@ value_unread form t h = go (value_of form t) (λ v e. h (v, value_read form t v 
 -- ---- the fields of a line
 
 -- one field, and then the others
-abbrev step : {A : Type 0} (n : ℕ) (form : Form) (rest : List Form) (texts : List (List ℕ)) → (Values (form ∷ rest) → Result A ℕ) → Option (Value form) → Result A ℕ
+abbrev step : {A : Type 0} (n : ℕ) (form : Form) (rest : List Form) (texts : List (List ℕ)) → (Values (form ∷ rest) → Read A) → Option (Value form) → Read A
 step n form rest texts next o =
-    option_map_or (λ x. Ok (x, record { taken = n + 1; left = texts })) o (Err (n + 1)) >>= λ (x : Value form × Cursor). fields_from rest x.1 (λ vs. next (x.0, vs))
+    option_map_or (λ x. Ok (x, record { taken = n + 1; left = texts })) o (bad_field (n + 1)) >>= λ (x : Value form × Cursor). fields_from rest x.1 (λ vs. next (x.0, vs))
 
 -- each field spells its value: the values are read
-fields_back : {A : Type 0} (n : ℕ) (fs : List Form) (texts : List (List ℕ)) (vs : Values fs) (next : Values fs → Result A ℕ)
+fields_back : {A : Type 0} (n : ℕ) (fs : List Form) (texts : List (List ℕ)) (vs : Values fs) (next : Values fs → Read A)
     → SpellsFields fs texts vs → fields_from fs (record { taken = n; left = texts }) next ≡ next vs
 fields_back n [] [] vs next s = refl
 fields_back n [] (t ∷ ts) vs next s = absurd s
@@ -57,12 +62,12 @@ fields_back n (form ∷ rest) (t ∷ ts) vs next s =
     ∙ fields_back (n + 1) rest ts vs.1 (λ us. next (vs.0, us)) s.1
 
 -- a field isn't of its form: the first such is the fault
-first_bad_back : {A : Type 0} (n : ℕ) (fs : List Form) (texts : List (List ℕ)) (f : ℕ) (next : Values fs → Result A ℕ)
-    → IsFirstBad (n + 1) fs texts f → fields_from fs (record { taken = n; left = texts }) next ≡ Err f
+first_bad_back : {A : Type 0} (n : ℕ) (fs : List Form) (texts : List (List ℕ)) (f : ℕ) (next : Values fs → Read A)
+    → IsFirstBad (n + 1) fs texts f → fields_from fs (record { taken = n; left = texts }) next ≡ bad_field f
 first_bad_back n [] texts f next bad = absurd bad
 first_bad_back n (form ∷ rest) [] f next bad = absurd bad
 first_bad_back n (form ∷ rest) (t ∷ ts) f next (inl bad) =
-    ap (step n form rest ts next) (value_unread form t bad.1) ∙ ap (λ (k : ℕ). Err k) (sym bad.0)
+    ap (step n form rest ts next) (value_unread form t bad.1) ∙ ap (λ (k : ℕ). bad_field k) (sym bad.0)
 first_bad_back n (form ∷ rest) (t ∷ ts) f next (inr (good, bad)) =
     ap (step n form rest ts next) (value_back form t good.0 good.1)
     ∙ first_bad_back (n + 1) rest ts f (λ us. next (good.0, us)) bad
@@ -91,8 +96,8 @@ spelled_count (form ∷ rest) (t ∷ ts) vs s = ap suc (spelled_count rest ts vs
 -- ---- all fields that are left
 
 -- what they are read as, given the test of their number
-abbrev counted : {A : Type 0} → Bool → (fs : List Form) → Cursor → (Values fs → A) → Result A ℕ
-counted b fs cursor make = cond b (fields_from fs cursor (λ vs. Ok (make vs))) (Err 0)
+abbrev counted : {A : Type 0} → Bool → (fs : List Form) → Cursor → (Values fs → A) → Read A
+counted b fs cursor make = cond b (fields_from fs cursor (λ vs. Ok (make vs))) (bad_field 0)
 
 -- what is spelled is read
 pub all_back : {A : Type 0} (n : ℕ) (fs : List Form) (texts : List (List ℕ)) (vs : Values fs) (make : Values fs → A)
@@ -103,9 +108,9 @@ all_back n fs texts vs make s =
 
 -- a fault is found
 pub all_fault_back : {A : Type 0} (n : ℕ) (fs : List Form) (texts : List (List ℕ)) (f : ℕ) (make : Values fs → A)
-    → HasFault (n + 1) fs texts f → all_from fs (record { taken = n; left = texts }) make ≡ Err f
+    → HasFault (n + 1) fs texts f → all_from fs (record { taken = n; left = texts }) make ≡ bad_field f
 all_fault_back n fs texts f make (inl count) =
-    ap (λ b. counted b fs (record { taken = n; left = texts }) make) (ne_eqb (length texts) (length fs) count.1) ∙ ap (λ (k : ℕ). Err k) (sym count.0)
+    ap (λ b. counted b fs (record { taken = n; left = texts }) make) (ne_eqb (length texts) (length fs) count.1) ∙ ap (λ (k : ℕ). bad_field k) (sym count.0)
 all_fault_back n fs texts f make (inr (count, bad)) =
     ap (λ b. counted b fs (record { taken = n; left = texts }) make) (eq-eqb (length texts) (length fs) count)
     ∙ first_bad_back n fs texts f (λ vs. Ok (make vs)) bad
@@ -120,41 +125,21 @@ all_total n fs texts = elim (eqb_tells (length texts) (length fs)) [
   | inr other ↦ inr (0, inl (refl, other.1))
 ]
 
--- ---- the line
+-- ---- the line, behind sessions with these keys
 
 -- what is spelled is read
-pub job_back : (line : List ℕ) (j : Job) → Spells line j → job_of line ≡ Ok j
+pub job_back : (keys : List (List ℕ)) (line : List ℕ) (j : Job) → Spells keys line j → job_of keys line ≡ Ok j
 unfolding job_of
-job_back line j s = all_back 0 forms (fields_of line) (values j) job_with s
+job_back keys line j s = all_back 0 (forms keys) (fields_of line) (values keys j) job_with s
 
 -- a fault is found
-pub fault_back : (line : List ℕ) (f : ℕ) → IsBadLine line f → job_of line ≡ Err f
+pub fault_back : (keys : List (List ℕ)) (line : List ℕ) (f : ℕ) → IsBadLine keys line f → job_of keys line ≡ bad_field f
 unfolding job_of
-fault_back line f bad = all_fault_back 0 forms (fields_of line) f job_with bad
+fault_back keys line f bad = all_fault_back 0 (forms keys) (fields_of line) f job_with bad
 
 -- one of the two holds
-pub line_total : (line : List ℕ) → ((j : Job) × Spells line j) ⊎ ((f : ℕ) × IsBadLine line f)
-line_total line = elim (all_total 1 forms (fields_of line)) [
+pub line_total : (keys : List (List ℕ)) (line : List ℕ) → ((j : Job) × Spells keys line j) ⊎ ((f : ℕ) × IsBadLine keys line f)
+line_total keys line = elim (all_total 1 (forms keys) (fields_of line)) [
   | inl good ↦ inl (job_with good.0, good.1)
   | inr bad ↦ inr bad
-]
-
--- what is read is spelled
-pub job_read : (line : List ℕ) (j : Job) → job_of line ≡ Ok j → Spells line j
-job_read line j h = elim (line_total line) [
-  | inl good ↦
-      let both : ◌≡◌ {A = Result Job ℕ} (Ok good.0) (Ok j) = sym (job_back line good.0 good.1) ∙ h in
-      let same : good.0 ≡ j = cc in
-      let P : Job → Type 0 = λ x. Spells line x in subst P same good.1
-  | inr bad ↦ let both = sym (fault_back line bad.0 bad.1) ∙ h in cc
-]
-
--- a fault that is found is one
-pub fault_read : (line : List ℕ) (f : ℕ) → job_of line ≡ Err f → IsBadLine line f
-fault_read line f h = elim (line_total line) [
-  | inl good ↦ let both = sym (job_back line good.0 good.1) ∙ h in cc
-  | inr bad ↦
-      let both : ◌≡◌ {A = Result Job ℕ} (Err bad.0) (Err f) = sym (fault_back line bad.0 bad.1) ∙ h in
-      let same : bad.0 ≡ f = cc in
-      let P : ℕ → Type 0 = λ k. IsBadLine line k in subst P same bad.1
 ]

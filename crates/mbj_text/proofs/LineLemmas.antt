@@ -2,9 +2,9 @@
 use Rattle.std.proofs.Common.{◌≡◌, ◌∙◌, ◌+◌, ◌∷◌, ℕ, suc, Bool, true, false, not, cond, List, [], take, drop, ap, refl, arith}
 use Rattle.std.specs.List.{position_or_len, before_first, after_first}
 use Rattle.std.specs.Str.Lines.{strip_carriage_return}
-use Rattle.mbj_text.specs.declared.kept_lines.JobsEnd.{JobsEnd}
-use Rattle.mbj_text.specs.declared.kept_lines.JobsEnd.TheVariants as jobs_end
-use Rattle.mbj_text.specs.Inside.Reading.{ends_jobs, part_before, part_behind}
+use Rattle.mbj_text.specs.declared.kept_lines.EntriesEnd.{EntriesEnd}
+use Rattle.mbj_text.specs.declared.kept_lines.EntriesEnd.TheVariants as entries_end
+use Rattle.mbj_text.specs.Inside.Reading.{ends_entries, part_before, part_behind}
 use Rattle.mbj_text.specs.Cut.{is_skipped, is_mark, Numbered, kept_lines_from}
 
 -- no line is left
@@ -18,7 +18,7 @@ pub skip : (n : ℕ) (line : List ℕ) (lines : List (List ℕ)) → is_skipped 
 unfolding kept_lines_from
 skip n line lines h = ap (λ b. cond b (kept_lines_from (n + 1) lines) ((n, strip_carriage_return line) ∷ kept_lines_from (n + 1) lines)) h
 
--- a job line
+-- a line that isn't
 pub keep : (n : ℕ) (line : List ℕ) (lines : List (List ℕ)) → is_skipped (strip_carriage_return line) ≡ false
     → kept_lines_from n (line ∷ lines) ≡ (n, strip_carriage_return line) ∷ kept_lines_from (n + 1) lines
 unfolding kept_lines_from
@@ -48,18 +48,18 @@ first_fails p x xs h =
     (ap (λ b. before b k x xs) h ∙ ap (λ n. take n (x ∷ xs)) one, ap (λ b. after b k x xs) h ∙ ap (λ n. drop n (x ∷ xs)) two)
 
 -- no line is left
-pub no_part : (end : JobsEnd) → (part_before end [] ≡ []) × (part_behind end [] ≡ [])
-no_part jobs_end.File = (refl, refl)
-no_part jobs_end.Mark = (refl, refl)
+pub no_part : (end : EntriesEnd) → (part_before end [] ≡ []) × (part_behind end [] ≡ [])
+no_part entries_end.File = (refl, refl)
+no_part entries_end.Mark = (refl, refl)
 
--- the job lines end at this line
-pub part_ends : (end : JobsEnd) (n : ℕ) (line : List ℕ) (lines : List Numbered) → ends_jobs end line ≡ true
+-- the session lines and job lines end at this line
+pub part_ends : (end : EntriesEnd) (n : ℕ) (line : List ℕ) (lines : List Numbered) → ends_entries end line ≡ true
     → (part_before end ((n, line) ∷ lines) ≡ []) × (part_behind end ((n, line) ∷ lines) ≡ lines)
-part_ends jobs_end.File n line lines h = cc
-part_ends jobs_end.Mark n line lines h = first_passes (λ (l : Numbered). is_mark l.1) (n, line) lines h
+part_ends entries_end.File n line lines h = cc
+part_ends entries_end.Mark n line lines h = first_passes (λ (l : Numbered). is_mark l.1) (n, line) lines h
 
 -- this line is one of them
-pub part_goes_on : (end : JobsEnd) (n : ℕ) (line : List ℕ) (lines : List Numbered) → ends_jobs end line ≡ false
+pub part_goes_on : (end : EntriesEnd) (n : ℕ) (line : List ℕ) (lines : List Numbered) → ends_entries end line ≡ false
     → (part_before end ((n, line) ∷ lines) ≡ (n, line) ∷ part_before end lines) × (part_behind end ((n, line) ∷ lines) ≡ part_behind end lines)
-part_goes_on jobs_end.File n line lines h = (refl, refl)
-part_goes_on jobs_end.Mark n line lines h = first_fails (λ (l : Numbered). is_mark l.1) (n, line) lines h
+part_goes_on entries_end.File n line lines h = (refl, refl)
+part_goes_on entries_end.Mark n line lines h = first_fails (λ (l : Numbered). is_mark l.1) (n, line) lines h

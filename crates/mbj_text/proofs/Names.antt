@@ -2,8 +2,7 @@
 use Rattle.std.proofs.Common.{◌≡◌, ◌∙◌, ap, sym, subst, refl, drop, arith, ℕ, List, [], ◌∷◌}
 use Rattle.mbj_types.specs.declared.job.Job.{Job}
 use Rattle.std.specs.Prelude.{decimal}
-use Rattle.mbj_text.specs.Words.{auth_word}
-use Rattle.mbj_text.specs.Spelling.{Spells, SpellsFields, SpellsNumber, SpellsByName, Spelled, Value, Values, values, Form, CipherWord, DirWord, OrderWord, AuthWord, Hex, Number, Below, forms, fields_of}
+use Rattle.mbj_text.specs.Spelling.{Spells, SpellsFields, SpellsNumber, SpellsByName, Spelled, Value, Values, values, Form, CipherWord, DirWord, OrderWord, AuthWord, Hex, CipherKey, Number, Below, forms, fields_of}
 use Rattle.mbj_text.specs.File.{TableAndNamesAgree}
 
 -- the first field, and the others
@@ -30,34 +29,36 @@ ended [] s = refl
 ended (t ∷ ts) s = absurd s
 
 -- from the table to the names
-pub by_name : (line : List ℕ) (j : Job) → Spells line j → SpellsByName line j
-by_name line j s =
-    let f1 = next CipherWord (drop 1 forms) (fields_of line) j.cipher (values j).1 s in
-    let f2 = next DirWord (drop 2 forms) f1.left j.dir (values j).1.1 f1.more in
-    let f3 = next OrderWord (drop 3 forms) f2.left j.order (values j).1.1.1 f2.more in
-    let f4 = next Hex (drop 4 forms) f3.left j.key (values j).1.1.1.1 f3.more in
-    let f5 = next Hex (drop 5 forms) f4.left j.iv (values j).1.1.1.1.1 f4.more in
-    let f6 = next Number (drop 6 forms) f5.left j.cipher_off (values j).1.1.1.1.1.1 f5.more in
-    let f7 = next Number (drop 7 forms) f6.left j.cipher_len (values j).1.1.1.1.1.1.1 f6.more in
-    let f8 = next AuthWord (drop 8 forms) f7.left j.auth (values j).1.1.1.1.1.1.1.1 f7.more in
-    let f9 = next Hex (drop 9 forms) f8.left j.auth_key (values j).1.1.1.1.1.1.1.1.1 f8.more in
-    let f10 = next Hex (drop 10 forms) f9.left j.aad (values j).1.1.1.1.1.1.1.1.1.1 f9.more in
-    let f11 = next Number (drop 11 forms) f10.left j.hash_off (values j).1.1.1.1.1.1.1.1.1.1.1 f10.more in
-    let f12 = next Number (drop 12 forms) f11.left j.hash_len (values j).1.1.1.1.1.1.1.1.1.1.1.1 f11.more in
-    let f13 = next (Below 256) (drop 13 forms) f12.left j.tag_len (values j).1.1.1.1.1.1.1.1.1.1.1.1.1 f12.more in
-    let f14 = next Hex (drop 14 forms) f13.left j.packet (values j).1.1.1.1.1.1.1.1.1.1.1.1.1.1 f13.more in
+pub by_name : (keys : List (List ℕ)) (line : List ℕ) (j : Job) → Spells keys line j → SpellsByName keys line j
+by_name keys line j s =
+    let f1 = next CipherWord (drop 1 (forms keys)) (fields_of line) j.cipher (values keys j).1 s in
+    let f2 = next DirWord (drop 2 (forms keys)) f1.left j.dir (values keys j).1.1 f1.more in
+    let f3 = next OrderWord (drop 3 (forms keys)) f2.left j.order (values keys j).1.1.1 f2.more in
+    let f4 = next (CipherKey keys) (drop 4 (forms keys)) f3.left (j.key, j.session) (values keys j).1.1.1.1 f3.more in
+    let f5 = next Hex (drop 5 (forms keys)) f4.left j.iv (values keys j).1.1.1.1.1 f4.more in
+    let f6 = next Number (drop 6 (forms keys)) f5.left j.cipher_off (values keys j).1.1.1.1.1.1 f5.more in
+    let f7 = next Number (drop 7 (forms keys)) f6.left j.cipher_len (values keys j).1.1.1.1.1.1.1 f6.more in
+    let f8 = next AuthWord (drop 8 (forms keys)) f7.left j.auth (values keys j).1.1.1.1.1.1.1.1 f7.more in
+    let f9 = next Hex (drop 9 (forms keys)) f8.left j.auth_key (values keys j).1.1.1.1.1.1.1.1.1 f8.more in
+    let f10 = next Hex (drop 10 (forms keys)) f9.left j.aad (values keys j).1.1.1.1.1.1.1.1.1.1 f9.more in
+    let f11 = next Number (drop 11 (forms keys)) f10.left j.hash_off (values keys j).1.1.1.1.1.1.1.1.1.1.1 f10.more in
+    let f12 = next Number (drop 12 (forms keys)) f11.left j.hash_len (values keys j).1.1.1.1.1.1.1.1.1.1.1.1 f11.more in
+    let f13 = next (Below 256) (drop 13 (forms keys)) f12.left j.tag_len (values keys j).1.1.1.1.1.1.1.1.1.1.1.1.1 f12.more in
+    let f14 = next Hex (drop 14 (forms keys)) f13.left j.packet (values keys j).1.1.1.1.1.1.1.1.1.1.1.1.1.1 f13.more in
     record {
       key = f4.text;
       iv = f5.text;
+      auth = f8.text;
       auth_key = f9.text;
       aad = f10.text;
       packet = f14.text;
       fields =
           known f1 f1.is (known f2 f2.is (known f3 f3.is (known f4 refl (known f5 refl (known f6 f6.is.0 (known f7 f7.is.0
-          (known f8 f8.is (known f9 refl (known f10 refl (known f11 f11.is.0 (known f12 f12.is.0 (known f13 f13.is.0.0
+          (known f8 refl (known f9 refl (known f10 refl (known f11 f11.is.0 (known f12 f12.is.0 (known f13 f13.is.0.0
           (known f14 refl (ended f14.left f14.more))))))))))))));
       key_is = f4.is;
       iv_is = f5.is;
+      auth_is = f8.is;
       auth_key_is = f9.is;
       aad_is = f10.is;
       packet_is = f14.is;
@@ -69,18 +70,18 @@ by_name line j s =
     }
 
 -- from the names to the table
-by_table : (line : List ℕ) (j : Job) → SpellsByName line j → Spells line j
-by_table line j n =
-    let P : List (List ℕ) → Type 0 = λ texts. SpellsFields forms texts (values j) in
+by_table : (keys : List (List ℕ)) (line : List ℕ) (j : Job) → SpellsByName keys line j → Spells keys line j
+by_table keys line j n =
+    let P : List (List ℕ) → Type 0 = λ texts. SpellsFields (forms keys) texts (values keys j) in
     let tag : SpellsNumber (decimal j.tag_len) j.tag_len = (refl, omega (arith, n.tag_len_fits)) in
     let hash_texts : List (List ℕ) = decimal j.hash_off ∷ decimal j.hash_len ∷ decimal j.tag_len ∷ n.packet ∷ [] in
-    let hash_values : Values (drop 10 forms) = (j.hash_off, (j.hash_len, (j.tag_len, (j.packet, tt)))) in
-    let hash : SpellsFields (drop 10 forms) hash_texts hash_values =
+    let hash_values : Values (drop 10 (forms keys)) = (j.hash_off, (j.hash_len, (j.tag_len, (j.packet, tt)))) in
+    let hash : SpellsFields (drop 10 (forms keys)) hash_texts hash_values =
     ((refl, n.hash_off_fits), ((refl, n.hash_len_fits), ((tag, n.tag_len_fits), (n.packet_is, tt)))) in
-    let auth : SpellsFields (drop 7 forms) (auth_word j.auth ∷ n.auth_key ∷ n.aad ∷ hash_texts) (j.auth, (j.auth_key, (j.aad, hash_values))) =
-    (refl, (n.auth_key_is, (n.aad_is, hash))) in
+    let auth : SpellsFields (drop 7 (forms keys)) (n.auth ∷ n.auth_key ∷ n.aad ∷ hash_texts) (j.auth, (j.auth_key, (j.aad, hash_values))) =
+    (n.auth_is, (n.auth_key_is, (n.aad_is, hash))) in
     subst P (sym n.fields) (refl, (refl, (refl, (n.key_is, (n.iv_is, ((refl, n.cipher_off_fits), ((refl, n.cipher_len_fits), auth)))))))
 
 -- both ways
 pub same : TableAndNamesAgree
-same line j = (by_name line j, by_table line j)
+same keys line j = (by_name keys line j, by_table keys line j)

@@ -12,8 +12,9 @@ use Rattle.std.proofs.lemmas.Str.Parse.{IsNumeralModel, numerals_by_fold, digits
 use Rattle.std.proofs.lemmas.Fmt.{decimal-digits_value, digits_value-decimal, digits_decimal, decimal_nonempty, length-decimal-le, first_decimal}
 use Rattle.hex.specs.Hex.{decode_of}
 use Rattle.hex.specs.declared.error.FromHexError.{FromHexError}
-use Rattle.mbj_text.specs.Spelling.{SpellsBytes, SpellsNumber}
-use Rattle.mbj_text.specs.Inside.Reading.{bytes_of, spelled_number, below_of, digits_after, is_number_sized}
+use Rattle.mbj_types.specs.Aes.{is_key_size}
+use Rattle.mbj_text.specs.Spelling.{SpellsBytes, SpellsNumber, SpellsKey}
+use Rattle.mbj_text.specs.Inside.Reading.{bytes_of, key_of, spelled_number, below_of, digits_after, is_number_sized}
 
 -- ---- bytes
 
@@ -37,6 +38,31 @@ bytes_back t bytes (inr hex) = go (bytes_eq t (codes "-")) (length t == 0) (byte
     go true y p q = let bad : decode_of (codes "-") ≡ Ok bytes = ap decode_of (sym (p refl)) ∙ hex.1 in cc
     go false true p q = absurd (q refl)
     go false false p q = ap result_ok hex.1
+
+-- ---- keys of sessions
+
+-- the test of the size
+abbrev sized_key : Bool → List ℕ → Option (List ℕ)
+sized_key b key = cond b (Some key) None
+
+-- a key that is read is spelled
+pub key_read : (t key : List ℕ) → key_of t ≡ Some key → SpellsKey t key
+key_read t key h = go (bytes_of t) refl h
+  where
+    by_size : (k : List ℕ) (b : Bool) → is_key_size (length k) ≡ b → bytes_of t ≡ Some k → sized_key b k ≡ Some key → SpellsKey t key
+    by_size k true size is q =
+        let same : k ≡ key = cc in
+        (bytes_read t key (is ∙ ap (λ (l : List ℕ). Some l) same), ap (λ (l : List ℕ). is_key_size (length l)) (sym same) ∙ size)
+    by_size k false size is q = cc
+
+    go : (o : Option (List ℕ)) → bytes_of t ≡ o → option_and_then (λ k. sized_key (is_key_size (length k)) k) o ≡ Some key → SpellsKey t key
+    go None is q = cc
+    go (Some k) is q = by_size k (is_key_size (length k)) refl is q
+
+-- a key that is spelled is read
+pub key_back : (t key : List ℕ) → SpellsKey t key → key_of t ≡ Some key
+key_back t key s =
+    ap (option_and_then (λ k. sized_key (is_key_size (length k)) k)) (bytes_back t key s.0) ∙ ap (λ b. sized_key b key) s.1
 
 -- ---- numbers
 

@@ -39,11 +39,11 @@ kept_lines_from n (line ∷ lines) =
 abbrev pub kept_lines : List ℕ → List Numbered
 kept_lines bytes = kept_lines_from 1 (cut line_feed bytes)
 
--- a line that is exactly `%` ends the job lines of a replay
+-- a line that is exactly `%` ends the session lines and job lines of a replay
 abbrev pub is_mark : List ℕ → Bool
 is_mark line = bytes_eq line (codes "%")
 
--- the job lines of a replay: those before the first such line, or all where there is none
+-- the session lines and job lines of a replay: those before the first such line, or all where there is none
 abbrev pub job_part : List Numbered → List Numbered
 job_part lines = before_first (λ line. is_mark line.1) lines
 

@@ -1,48 +1,55 @@
 -- What a job file spells, where it is bad or too long, and that each file is exactly one of the three.
-use Rattle.std.specs.Prelude.{◌≡◌, ◌<◌, ◌≤◌, ◌↔◌, ℕ, List, length}
+use Rattle.std.specs.Prelude.{◌≡◌, ◌↔◌, ℕ, List}
 use Rattle.mbj_types.specs.declared.job.Job.{Job}
-use Rattle.mbj_text.specs.declared.limits.TheConstants.{JOB_LIMIT}
 use Rattle.mbj_text.specs.Cut.{Numbered, kept_lines}
-use Rattle.mbj_text.specs.Spelling.{Spells, SpellsByName, IsBadLine}
+use Rattle.mbj_text.specs.Spelling.{Spells, SpellsByName}
+use Rattle.mbj_text.specs.Entries.{Entry, keys_in, jobs_in, SpellsEntry, IsBadEntry, IsOverLimit}
 use Rattle.mbj_text.specs.Stops.{SpellEach, StopsAt}
 use Rattle.mbj_text.specs.Answer.{IsOneOf}
 
--- ---- job lines
+-- ---- session lines and job lines
 
--- there are at most JOB_LIMIT lines, and they spell the jobs
-pub record ReadsLines (lines : List Numbered) (jobs : List Job) : Type 0 where
-  pub count : length jobs ≤ JOB_LIMIT
-  pub each : SpellEach Spells lines jobs
+-- the lines spell the keys of sessions and jobs, each kind in its order
+pub record ReadsLines (lines : List Numbered) (keys : List (List ℕ)) (jobs : List Job) : Type 0 where
+  pub entries : List Entry
+  pub each : SpellEach SpellsEntry lines entries
+  pub keys_are : keys_in entries ≡ keys
+  pub jobs_are : jobs_in entries ≡ jobs
 
--- the line with this number is the first line that spells no job, and stands among the first JOB_LIMIT;
--- the field is its fault
+-- the line with this number is the first bad one, and comes before each job line that is one too many; the field is its
+-- fault
 abbrev pub BadLines : List Numbered → ℕ → ℕ → Type 0
-BadLines lines line field = StopsAt Spells (λ jobs text. (length jobs < JOB_LIMIT) × IsBadLine text field) lines line
+BadLines lines line field = StopsAt SpellsEntry (λ before text. IsBadEntry before text field) lines line
 
--- the first JOB_LIMIT lines spell jobs, and the line with this number is one more, whatever it says
+-- the lines before the one with this number are good, and it is one job line more than JOB_LIMIT, whatever it says
 abbrev pub OverLines : List Numbered → ℕ → Type 0
-OverLines lines line = StopsAt Spells (λ jobs text. length jobs ≡ JOB_LIMIT) lines line
+OverLines lines line = StopsAt SpellsEntry IsOverLimit lines line
 
--- ---- the three relations: each line of a job file that isn't skipped is a job line
+-- ---- the three relations: each line of a job file that isn't skipped is a session line or a job line
 
--- the file has at most JOB_LIMIT job lines, and they spell the jobs
-abbrev pub Reads : List ℕ → List Job → Type 0
-Reads bytes jobs = ReadsLines (kept_lines bytes) jobs
+-- the file has at most MAX_SESSIONS session lines, which spell the keys, and at most JOB_LIMIT job lines, which spell the
+-- jobs; in a job line `@N` stands for the key of session N, which is before it
+abbrev pub Reads : List ℕ → List (List ℕ) → List Job → Type 0
+Reads bytes keys jobs = ReadsLines (kept_lines bytes) keys jobs
 
--- this job line is the first bad one, and stands among the first JOB_LIMIT; the field is its fault
+-- this line is the first bad one, and comes before each job line that is one too many; the field is its fault
 abbrev pub Bad : List ℕ → ℕ → ℕ → Type 0
 Bad bytes line field = BadLines (kept_lines bytes) line field
 
--- this job line is one more than JOB_LIMIT good ones
+-- this job line is one more than JOB_LIMIT good ones, and each session line before it is good
 abbrev pub Over : List ℕ → ℕ → Type 0
 Over bytes line = OverLines (kept_lines bytes) line
 
 -- ---- laws
 
--- each file spells jobs, or has a first bad line, or has too many job lines: exactly one of these, and in one way
+-- each file spells sessions and jobs, or has a first bad line, or has too many job lines: exactly one of these, and in
+-- one way
 abbrev pub EachFileIsOne : Type 0
-EachFileIsOne = (bytes : List ℕ) → IsOneOf (Reads bytes) (Bad bytes) (Over bytes)
+EachFileIsOne = (bytes : List ℕ) → IsOneOf
+    (λ (r : List (List ℕ) × List Job). Reads bytes r.0 r.1)
+    (Bad bytes)
+    (Over bytes)
 
 -- a line spells a job by the table of the forms exactly where it does so field by field
 abbrev pub TableAndNamesAgree : Type 0
-TableAndNamesAgree = (line : List ℕ) (job : Job) → Spells line job ↔ SpellsByName line job
+TableAndNamesAgree = (keys : List (List ℕ)) (line : List ℕ) (job : Job) → Spells keys line job ↔ SpellsByName keys line job

@@ -2,6 +2,7 @@ pub mod Cut
 pub mod Words
 pub mod Spelling
 pub mod Stops
+pub mod Entries
 pub mod Script
 pub mod Answer
 pub mod File

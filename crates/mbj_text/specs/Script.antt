@@ -55,9 +55,9 @@ IsBadCommand submitters workers line f =
 
 -- there are as many commands as lines, and each line spells its command
 abbrev pub SpellScript : ℕ → ℕ → List Numbered → List Cmd → Type 0
-SpellScript submitters workers lines commands = SpellEach (SpellsCommand submitters workers) lines commands
+SpellScript submitters workers lines commands = SpellEach (λ before. SpellsCommand submitters workers) lines commands
 
 -- the line with this number is the first one that spells no command; the field is its fault
 abbrev pub BadScript : ℕ → ℕ → List Numbered → ℕ → ℕ → Type 0
 BadScript submitters workers lines line field =
-    StopsAt (SpellsCommand submitters workers) (λ commands text. IsBadCommand submitters workers text field) lines line
+    StopsAt (λ before. SpellsCommand submitters workers) (λ before text. IsBadCommand submitters workers text field) lines line

@@ -10,9 +10,9 @@ use std::fmt;
 /// Why a file isn't read. Lines are counted from 1.
 #[derive(Clone, Copy, Debug, PartialEq, Eq)]
 pub enum TextFault {
-    /// The line is the first one that spells no job, or behind the job lines no command. The field is
-    /// 0 where the line hasn't as many fields as it should, else the number, from 1 on, of the first
-    /// field that isn't of its form.
+    /// The line is the first one that spells no session and no job, or behind these lines no command. The
+    /// field is 0 where the line hasn't as many fields as it should, else the number, from 1 on, of the
+    /// first field that isn't of its form. It is 1 for a session line that is one more than a file may have.
     Line { line: u32, field: u32 },
     /// The line is one job line more than a file may have.
     Limit { line: u32 },
@@ -44,6 +44,8 @@ impl Error for TextFault {}
 pub(crate) enum LineFault {
     /// The field with this number, as in `TextFault`.
     Field(u32),
+    /// It is one job line more than a file may have.
+    Limit,
     /// There wasn't memory enough.
     Memory,
 }
@@ -55,6 +57,7 @@ impl LineFault {
     {
         match self {
             LineFault::Field(field) => TextFault::Line { line, field },
+            LineFault::Limit => TextFault::Limit { line },
             LineFault::Memory => TextFault::Memory,
         }
     }
@@ -65,6 +68,14 @@ impl<T: Drop> From<AllocFailed<T>> for TextFault {
 
     fn from(_e: AllocFailed<T>) -> TextFault {
         TextFault::Memory
+    }
+}
+
+impl<T: Drop> From<AllocFailed<T>> for LineFault {
+    ghost from_gives = { λ _ e. e ≡ line_fault.Memory };
+
+    fn from(_e: AllocFailed<T>) -> LineFault {
+        LineFault::Memory
     }
 }
 

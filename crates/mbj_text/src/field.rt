@@ -62,7 +62,7 @@ pub(crate) fn below(text: &[u8], limit: u32) -> Option<u32>
 }
 
 /// The number that 1 to 5 digits write, the first of them not `0` unless it is the only one.
-fn number(text: &[u8]) -> Option<u32>
+pub(crate) fn number(text: &[u8]) -> Option<u32>
     ensures { result ≡ spelled_number text.now }
 {
     match text {

@@ -1,10 +1,12 @@
-ghost use Rattle.std.specs.Prelude.{◌≡◌, ◌+◌, ◌<◌, [], ◌∷◌, OnOk, MatchResult};
-ghost use Rattle.mbj_text.specs.Inside.Reading.{ReadsNext, at_start, below_of};
+ghost use Rattle.std.specs.Prelude.{◌≡◌, ◌+◌, ◌<◌, [], ◌∷◌, OnOk, MatchResult, map};
+ghost use Rattle.mbj_text.specs.Inside.Reading.{ReadsNext, at_start, below_of, cipher_key_of, key_of};
 ghost use Rattle.mbj_text.specs.declared.fields.TheConstants.{MAX_FIELDS};
 
 use crate::fault::LineFault;
 use crate::field::{Field, below};
+use crate::key::{CipherKey, cipher_key, session_key};
 use crate::split::Split;
+use mbj_types::Bytes;
 use std::alloc::Global;
 use std::marker::Model;
 
@@ -58,8 +60,28 @@ impl<'a> Fields<'a> {
         below(text, limit).ok_or(LineFault::Field(self.taken))
     }
 
+    /// The next field, which is the key of a session.
+    pub(crate) fn read_key(&mut self) -> Result<Bytes, LineFault>
+        requires { self.old.taken < MAX_FIELDS }
+        ensures value { ReadsNext key_of self.old result self.new }
+        ensures counted { OnOk result (self.new.taken ≡ self.old.taken + 1) }
+    {
+        let text = self.next_text()?;
+        session_key(self.alloc, text)?.ok_or(LineFault::Field(self.taken))
+    }
+
+    /// The next field, which is the key of a cipher, behind sessions with these keys.
+    pub(crate) fn read_cipher_key(&mut self, keys: &[Vec<u8>]) -> Result<CipherKey, LineFault>
+        requires { self.old.taken < MAX_FIELDS }
+        ensures value { ReadsNext (cipher_key_of (map (λ k. k.items) keys.now)) self.old result self.new }
+        ensures counted { OnOk result (self.new.taken ≡ self.old.taken + 1) }
+    {
+        let text = self.next_text()?;
+        cipher_key(self.alloc, text, keys)?.ok_or(LineFault::Field(self.taken))
+    }
+
     /// The next field as it stands.
-    fn next_text(&mut self) -> Result<&'a [u8], LineFault>
+    pub(crate) fn next_text(&mut self) -> Result<&'a [u8], LineFault>
         requires { self.old.taken < MAX_FIELDS }
         ensures left { MatchResult result (λ text. self.old.left ≡ text.now ∷ self.new.left)
             (λ fault. (fault ≡ LineFault.Field 0) × (self.old.left ≡ [])) }

@@ -2,30 +2,30 @@ ghost use Rattle.std.specs.Prelude.{◌≡◌, ◌≤◌, ◌<◌, length, optio
 ghost use Rattle.std.specs.Str.Lines.{strip_carriage_return};
 ghost use Rattle.std.specs.Iterator.{YieldsFirstBy, item_count};
 ghost use Rattle.mbj_text.specs.Cut.{is_skipped, kept_lines};
-ghost use Rattle.mbj_text.specs.Inside.Reading.{ends_jobs, TakesJobLine};
+ghost use Rattle.mbj_text.specs.Inside.Reading.{ends_entries, TakesEntryLine};
 ghost use Rattle.mbj_text.specs.declared.limits.TheConstants.{INPUT_LIMIT};
 
 use crate::limits::INPUT_LIMIT;
 use crate::split::Split;
 use std::marker::Model;
 
-/// Where the job lines of a file end.
+/// Where the session lines and job lines of a file end.
 #[derive(Clone, Copy)]
-pub(crate) enum JobsEnd {
+pub(crate) enum EntriesEnd {
     /// At the end of the file.
     File,
     /// Before the first line that is exactly `%`, or at the end of the file.
     Mark,
 }
 
-impl JobsEnd {
-    /// Whether the job lines end at this line.
+impl EntriesEnd {
+    /// Whether they end at this line.
     fn is_at(self, line: &[u8]) -> bool
-        ensures { result ≡ ends_jobs self line.now }
+        ensures { result ≡ ends_entries self line.now }
     {
         match self {
-            JobsEnd::File => false,
-            JobsEnd::Mark => line == b"%".as_slice(),
+            EntriesEnd::File => false,
+            EntriesEnd::Mark => line == b"%".as_slice(),
         }
     }
 }
@@ -62,10 +62,10 @@ impl<'a> KeptLines<'a> {
         }
     }
 
-    /// The next job line, or none where the job lines end; the line that ends them is taken too.
+    /// The next session line or job line, or none where they end; the line that ends them is taken too.
     #[tactic(auto, using(crate::proofs::LineLemmas::no_part, crate::proofs::LineLemmas::part_ends, crate::proofs::LineLemmas::part_goes_on))]
-    pub(crate) fn next_job_line(&mut self, end: JobsEnd) -> Option<(u32, &'a [u8])>
-        ensures line { TakesJobLine end self.old result self.new }
+    pub(crate) fn next_entry_line(&mut self, end: EntriesEnd) -> Option<(u32, &'a [u8])>
+        ensures line { TakesEntryLine end self.old result self.new }
         ensures shorter { IfSome result (λ _. length self.new < length self.old) }
     {
         let (number, line) = self.next()?;

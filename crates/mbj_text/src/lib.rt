@@ -4,18 +4,20 @@
 
 mod command;
 mod done;
+mod entries;
 mod fault;
 mod field;
 mod fields;
 mod file;
 mod job;
-mod jobs;
 mod kept_lines;
+mod key;
 mod limits;
 mod line;
 mod piece;
 mod replay;
 mod script;
+mod session;
 mod split;
 mod text_line;
 mod words;
