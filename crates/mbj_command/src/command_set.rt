@@ -8,7 +8,7 @@ use crate::options::{JOBS, NumberOption, SEED, SIZE, SUBMITTERS, WORKERS, argume
 use clap::Command;
 use std::alloc::{AllocError, Global};
 
-const VERSION: &str = "0.1.0";
+const VERSION: &str = "0.2.0";
 
 /// A command without options. In its help the text `about` stands at the top, and the example at the end.
 fn bare_command<'a>(alloc: Global, name: &'a str, about: &'a str, example: &'a str) -> Command<'a>
@@ -101,7 +101,7 @@ fn program<'a>(alloc: Global) -> Command<'a>
     Command::new(alloc, "mbjobs")
         .about("Ciphers and authenticates the packets of many jobs at a time")
         .after_help(
-            "A job file is read from standard input. An IV has 16 bytes for cbc, 12 or 16 for ctr, 1 to 65535 for gcm and gmac, and 7 to 13 for ccm. Example: mbjobs run --submitters 1 --workers 0 < jobs.txt",
+            "A job file is read from standard input. An IV has 16 bytes for cbc, 12 or 16 for ctr, 1 to 65535 for gcm and gmac, and 7 to 13 for ccm. A line `session KEY` gives session 0, 1, .. its key, and `@N` in the key's field of a job stands for the key of session N. Example: mbjobs run --submitters 1 --workers 0 < jobs.txt",
         )
         .version(VERSION)
         .subcommand_required(true)

@@ -1,8 +1,13 @@
 -- How a command ends over a source that tells its bytes.
 use Rattle.std.proofs.Common.{◌≡◌, ◌⊎◌, ◌∙◌, ◌≤◌, ◌<◌, ◌++◌, ap, sym, subst, refl, inl, inr, ℕ, List, Option, None, Some, length, append-nil, length-append, arith}
 use Rattle.mbj_text.specs.declared.limits.TheConstants.{INPUT_LIMIT}
-use Rattle.mbj_text.proofs.FileLaws.{reads_not_bad, reads_not_over, bad_not_over}
-use Rattle.mbj_text.proofs.ReplayLaws.{replay_not_bad, replay_not_over, bad_replay_not_over}
+use Rattle.mbj_types.specs.declared.job.Job.{Job}
+use Rattle.mbj_text.specs.Answer.{IsOneOf}
+use Rattle.mbj_text.specs.File.{Reads, Bad, Over}
+use Rattle.mbj_text.specs.Replay.{ReadsReplay, BadReplay, OverReplay}
+use Rattle.mbj_text.specs.declared.command.Cmd.{Cmd}
+use Rattle.mbj_text.proofs.FileLaws as file
+use Rattle.mbj_text.proofs.ReplayLaws as replay
 use Rattle.mbjobs.specs.Message.{status_for}
 use Rattle.mbjobs.specs.Outcome.{AsksFor, Does, IsBadFor, IsOverFor, ReadsInput, Stands}
 use Rattle.mbj_io.specs.Streams.{Fails, Stream}
@@ -38,26 +43,67 @@ holds_of_told input told Holds tells r = subst Holds (read_is_told input told r.
 
 -- ---- an input is good, or has a bad line, or too many jobs
 
+module _ {A : Type 0} (Good : A → Type 0) (IsBad : ℕ → ℕ → Type 0) (IsOver : ℕ → Type 0) (one : IsOneOf Good IsBad IsOver) where
+  good_not_bad : (x : A) (line field : ℕ) → Good x → IsBad line field → ⊥
+  good_not_bad x line field good bad = elim one.one [
+    | inl is ↦ is.1 (line, field, bad)
+    | inr other ↦ elim other [
+      | inl is ↦ is.0 (x, good)
+      | inr is ↦ is.0 (x, good)
+    ]
+  ]
+
+  good_not_over : (x : A) (line : ℕ) → Good x → IsOver line → ⊥
+  good_not_over x line good over = elim one.one [
+    | inl is ↦ is.2 (line, over)
+    | inr other ↦ elim other [
+      | inl is ↦ is.0 (x, good)
+      | inr is ↦ is.0 (x, good)
+    ]
+  ]
+
+  bad_not_over : (line field at : ℕ) → IsBad line field → IsOver at → ⊥
+  bad_not_over line field at bad over = elim one.one [
+    | inl is ↦ is.1 (line, field, bad)
+    | inr other ↦ elim other [
+      | inl is ↦ is.2 (at, over)
+      | inr is ↦ is.1 (line, field, bad)
+    ]
+  ]
+
+-- the lists of a file, and those of a replay
+abbrev FileLists : Type 0
+FileLists = List (List ℕ) × List Job
+
+abbrev reads : List ℕ → FileLists → Type 0
+reads told r = Reads told r.0 r.1
+
+abbrev reads_replay : ℕ → ℕ → List ℕ → FileLists × List Cmd → Type 0
+reads_replay s w told r = ReadsReplay s w told r.0.0 r.0.1 r.1
+
 asks_not_bad : (c : Command) (told text : List ℕ) (line field : ℕ) → AsksFor c told text → IsBadFor c told line field → ⊥
-asks_not_bad (Run s w) told text line field a b = reads_not_bad told a.0 line field a.1 b
-asks_not_bad Trace told text line field a b = reads_not_bad told a.0 line field a.1 b
-asks_not_bad (Burst n) told text line field a b = reads_not_bad told a.0 line field a.1 b
+asks_not_bad (Run s w) told text line field a b = good_not_bad (reads told) (Bad told) (Over told) (file.one_of_three told) (a.0, a.1) line field a.2 b
+asks_not_bad Trace told text line field a b = good_not_bad (reads told) (Bad told) (Over told) (file.one_of_three told) (a.0, a.1) line field a.2 b
+asks_not_bad (Burst n) told text line field a b = good_not_bad (reads told) (Bad told) (Over told) (file.one_of_three told) (a.0, a.1) line field a.2 b
 asks_not_bad (Gen n m s w) told text line field a b = b
-asks_not_bad (Replay s w) told text line field a b = replay_not_bad s w told a.0 a.1 line field a.2 b
+asks_not_bad (Replay s w) told text line field a b =
+    good_not_bad (reads_replay s w told) (BadReplay s w told) (OverReplay told) (replay.one_of_three s w told) ((a.0, a.1), a.2) line field a.3 b
 
 asks_not_over : (c : Command) (told text : List ℕ) (line : ℕ) → AsksFor c told text → IsOverFor c told line → ⊥
-asks_not_over (Run s w) told text line a o = reads_not_over told a.0 line a.1 o
-asks_not_over Trace told text line a o = reads_not_over told a.0 line a.1 o
-asks_not_over (Burst n) told text line a o = reads_not_over told a.0 line a.1 o
+asks_not_over (Run s w) told text line a o = good_not_over (reads told) (Bad told) (Over told) (file.one_of_three told) (a.0, a.1) line a.2 o
+asks_not_over Trace told text line a o = good_not_over (reads told) (Bad told) (Over told) (file.one_of_three told) (a.0, a.1) line a.2 o
+asks_not_over (Burst n) told text line a o = good_not_over (reads told) (Bad told) (Over told) (file.one_of_three told) (a.0, a.1) line a.2 o
 asks_not_over (Gen n m s w) told text line a o = o
-asks_not_over (Replay s w) told text line a o = replay_not_over s w told a.0 a.1 line a.2 o
+asks_not_over (Replay s w) told text line a o =
+    good_not_over (reads_replay s w told) (BadReplay s w told) (OverReplay told) (replay.one_of_three s w told) ((a.0, a.1), a.2) line a.3 o
 
 bad_not_over_for : (c : Command) (told : List ℕ) (line field at : ℕ) → IsBadFor c told line field → IsOverFor c told at → ⊥
-bad_not_over_for (Run s w) told line field at b o = bad_not_over told line field at b o
-bad_not_over_for Trace told line field at b o = bad_not_over told line field at b o
-bad_not_over_for (Burst n) told line field at b o = bad_not_over told line field at b o
+bad_not_over_for (Run s w) told line field at b o = bad_not_over (reads told) (Bad told) (Over told) (file.one_of_three told) line field at b o
+bad_not_over_for Trace told line field at b o = bad_not_over (reads told) (Bad told) (Over told) (file.one_of_three told) line field at b o
+bad_not_over_for (Burst n) told line field at b o = bad_not_over (reads told) (Bad told) (Over told) (file.one_of_three told) line field at b o
 bad_not_over_for (Gen n m s w) told line field at b o = o
-bad_not_over_for (Replay s w) told line field at b o = bad_replay_not_over s w told line field at b o
+bad_not_over_for (Replay s w) told line field at b o =
+    bad_not_over (reads_replay s w told) (BadReplay s w told) (OverReplay told) (replay.one_of_three s w told) line field at b o
 
 -- what a command writes that reads its input, it was asked for
 abbrev pub Asked : Command → List ℕ → Type 0

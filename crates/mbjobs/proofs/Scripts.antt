@@ -1,8 +1,9 @@
 -- Each command that a script spells is for parties that there are.
-use Rattle.std.proofs.Common.{◌<◌, [], ◌∷◌, All, List, ℕ, zero, suc, arith, get_or, length}
+use Rattle.std.proofs.Common.{◌<◌, [], ◌∷◌, ◌++◌, All, List, ℕ, zero, suc, arith, get_or, length}
 use Rattle.mbj_text.specs.Cut.{Numbered}
-use Rattle.mbj_text.specs.Script.{SpellScript, number_forms, numbers, verb_of_command}
+use Rattle.mbj_text.specs.Script.{SpellsCommand, SpellScript, number_forms, numbers, verb_of_command}
 use Rattle.mbj_text.specs.Spelling.{SpellsFields}
+use Rattle.mbj_text.specs.Stops.{SpellBehind}
 use Rattle.mbj_text.specs.declared.command.Cmd.{Cmd}
 use Rattle.mbj_text.specs.declared.command.Cmd.TheVariants as command
 use Rattle.mbj_replay.specs.Replay.{IsFor}
@@ -27,8 +28,12 @@ all-more P c commands first rest = each
     each (suc k) d below = rest k d (omega (arith, below))
 
 -- each command of a script is for parties that there are
+each-for : (s w : ℕ) (before : List Cmd) (lines : List Numbered) (commands : List Cmd)
+    → SpellBehind (λ b. SpellsCommand s w) before lines commands → All (IsFor s w) commands
+each-for s w before lines [] spells = λ k d below. absurd (omega arith)
+each-for s w before [] (c ∷ commands) spells = absurd spells
+each-for s w before (line ∷ lines) (c ∷ commands) spells =
+    all-more (IsFor s w) c commands (spells-for s w c spells.0.texts spells.0.numbers_are) (each-for s w (before ++ c ∷ []) lines commands spells.1)
+
 pub script-for : (s w : ℕ) (lines : List Numbered) (commands : List Cmd) → SpellScript s w lines commands → All (IsFor s w) commands
-script-for s w lines [] spells = λ k d below. absurd (omega arith)
-script-for s w [] (c ∷ commands) spells = absurd spells
-script-for s w (line ∷ lines) (c ∷ commands) spells =
-    all-more (IsFor s w) c commands (spells-for s w c spells.0.texts spells.0.numbers_are) (script-for s w lines commands spells.1)
+script-for s w lines commands spells = each-for s w [] lines commands spells

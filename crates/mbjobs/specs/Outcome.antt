@@ -21,15 +21,16 @@ use Rattle.mbj_command.specs.declared.command.Command.TheVariants.{Run, Trace, B
 
 -- ---- what a command reads and writes
 
--- what the input of a command that reads one asks for: it spells jobs, or jobs and a script, and the output is made of them;
--- that of run is the text of the standards' results, a line for each job in order
+-- what the input of a command that reads one asks for: it spells keys of sessions and jobs, or these and a script, and the output is
+-- made of the jobs and the script; that of run is the text of the standards' results, a line for each job in order
 abbrev pub AsksFor : Command → List ℕ → List ℕ → Type 0
-AsksFor (Run s w) bytes output = (jobs : List Job) × Reads bytes jobs × (output ≡ text (map result_of jobs))
-AsksFor Trace bytes output = (jobs : List Job) × Reads bytes jobs × (output ≡ trace_text jobs)
-AsksFor (Burst n) bytes output = (jobs : List Job) × Reads bytes jobs × (output ≡ burst_text n jobs)
+AsksFor (Run s w) bytes output = (keys : List (List ℕ)) × (jobs : List Job) × Reads bytes keys jobs × (output ≡ text (map result_of jobs))
+AsksFor Trace bytes output = (keys : List (List ℕ)) × (jobs : List Job) × Reads bytes keys jobs × (output ≡ trace_text jobs)
+AsksFor (Burst n) bytes output = (keys : List (List ℕ)) × (jobs : List Job) × Reads bytes keys jobs × (output ≡ burst_text n jobs)
 AsksFor (Gen n m s w) bytes output = ⊥
 AsksFor (Replay s w) bytes output =
-    (jobs : List Job) × (commands : List Cmd) × ReadsReplay s w bytes jobs commands × (output ≡ replay_text jobs commands s w)
+    (keys : List (List ℕ)) × (jobs : List Job) × (commands : List Cmd) × ReadsReplay s w bytes keys jobs commands
+    × (output ≡ replay_text jobs commands s w)
 
 -- the line is the first bad one of the command's input, at this field
 abbrev pub IsBadFor : Command → List ℕ → ℕ → ℕ → Type 0

@@ -42,7 +42,7 @@ pub(crate) fn run_burst<S: Source, O: Sink>(
     ensures untouched { IfErr result (λ cause. cause ≢ Cause.Write
         → IsUntouched (stream O.held O.faults out.old out.new)) }
 {
-    let jobs = read_job_file(alloc, input)?;
+    let (_keys, jobs) = read_job_file(alloc, input)?;
     let told = tell_bursts(alloc, jobs, size)?;
     Ok(write_told(out, &told)?)
 }

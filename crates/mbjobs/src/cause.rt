@@ -15,8 +15,8 @@ pub enum Cause {
     Read,
     /// A write to standard output failed.
     Write,
-    /// The line is the first that spells no job; the field is 0 where its number of fields is wrong, else the first
-    /// that isn't of its form.
+    /// The first line that is no session line, job line or command. The field is 0 where the line has too few or too many
+    /// fields, else the first one that isn't as the file's format has it.
     Line { line: u32, field: u32 },
     /// The input is longer than 16,777,216 bytes.
     Bytes,

@@ -11,13 +11,14 @@ ghost use Rattle.mbj_gen.specs.declared.line_sink.TheConstants.{LINE_ROOM};
 use crate::cause::Cause;
 use mbj_gen::{Summary, SummaryLine, make_jobs};
 use mbj_io::Sink;
+use mbj_keys::Keys;
 use mbj_text::write_lines;
 use mbj_work::{Gate, Results, do_jobs};
 use std::alloc::Global;
 use std::sync::Wait;
 use std::thread::Threads;
 
-/// What results come to, whose lines are short.
+/// The lines of the summary of these results.
 fn summarize(results: &Results) -> [SummaryLine; 5]
     requires limit { length results.now ≤ JOB_LIMIT }
     requires lines { (n : ℕ) (done : Done) → slice_get results.now n ≡ Some done → length (done_line n done) < LINE_ROOM }
@@ -51,7 +52,8 @@ pub(crate) fn run_gen<R: Threads + Wait + Sync, O: Sink, G: Gate + Sync>(
         → IsUntouched (stream O.held O.faults out.old out.new)) }
 {
     let made = make_jobs(alloc, seed, jobs)?;
-    let results = do_jobs(rt, alloc, made, submitters, workers, gate)?;
+    let no_keys = Keys::new(alloc, Vec::new(alloc))?;
+    let results = do_jobs(rt, alloc, &no_keys, made, submitters, workers, gate)?;
     let lines = summarize(&results);
     Ok(write_lines(out, &lines)?)
 }

@@ -1,4 +1,7 @@
-ghost use Rattle.std.specs.Prelude.{◌≡◌, ◌≢◌, ◌≤◌, [], Err, IfErr, IfOk, IsErrOf, OnOk, length};
+ghost use Rattle.std.specs.Prelude.{◌≡◌, ◌≢◌, ◌≤◌, [], Err, IfErr, IfOk, IsErrOf, IsTrue, OnOk, length, map, vec_len};
+ghost use Rattle.std.specs.List.{All};
+ghost use Rattle.mbj_types.specs.Aes.{is_key_size};
+ghost use Rattle.mbj_types.specs.declared.limits.TheConstants.{MAX_SESSIONS};
 ghost use Rattle.mbj_text.specs.File.{Bad, Over, Reads};
 ghost use Rattle.mbj_text.specs.Replay.{BadReplay, OverReplay, ReadsReplay};
 ghost use Rattle.mbj_text.specs.declared.limits.TheConstants.{JOB_LIMIT};
@@ -88,11 +91,15 @@ pub(crate) fn read_all<S: Source>(alloc: Global, input: &mut S) -> Result<Vec<u8
     Ok(bytes)
 }
 
-/// Reads a job file to its end.
-pub(crate) fn read_job_file<S: Source>(alloc: Global, input: &mut S) -> Result<Vec<Job>, Cause>
-    ensures read { IfOk result (λ jobs. ReadsBytes (stream S.rest S.faults input.old input.new)
-        (λ bytes. Reads bytes jobs.items)) }
-    ensures count { IfOk result (λ jobs. length jobs.items ≤ JOB_LIMIT) }
+/// Reads a job file to its end: the keys of its sessions, and its jobs.
+pub(crate) fn read_job_file<S: Source>(
+    alloc: Global,
+    input: &mut S,
+) -> Result<(Vec<Vec<u8>>, Vec<Job>), Cause>
+    ensures read { IfOk result (λ r. ReadsBytes (stream S.rest S.faults input.old input.new)
+        (λ bytes. Reads bytes (map (λ k. k.items) r.0.items) r.1.items)) }
+    ensures sessions { IfOk result (λ r. (vec_len r.0 ≤ MAX_SESSIONS) × All (λ k. IsTrue (is_key_size (length k.items))) r.0.items) }
+    ensures count { IfOk result (λ r. length r.1.items ≤ JOB_LIMIT) }
     ensures stops { IfErr result (λ cause. StopsReading Bad Over cause (stream S.rest S.faults input.old input.new)) }
     ensures calm { result ≢ Err Cause.Read → S.faults input.new ≡ S.faults input.old }
 {
@@ -100,15 +107,16 @@ pub(crate) fn read_job_file<S: Source>(alloc: Global, input: &mut S) -> Result<V
     Ok(read_file(alloc, &bytes)?)
 }
 
-/// Reads the file of a replay to its end: its jobs, and the commands of its script.
+/// Reads the file of a replay to its end: the keys of its sessions, its jobs, and the commands of its script.
 pub(crate) fn read_replay_file<S: Source>(
     alloc: Global,
     input: &mut S,
     submitters: u32,
     workers: u32,
-) -> Result<(Vec<Job>, Vec<Cmd>), Cause>
+) -> Result<(Vec<Vec<u8>>, Vec<Job>, Vec<Cmd>), Cause>
     ensures read { IfOk result (λ r. ReadsBytes (stream S.rest S.faults input.old input.new)
-        (λ bytes. ReadsReplay submitters workers bytes r.0.items r.1.items)) }
+        (λ bytes. ReadsReplay submitters workers bytes (map (λ k. k.items) r.0.items) r.1.items r.2.items)) }
+    ensures count { IfOk result (λ r. length r.1.items ≤ JOB_LIMIT) }
     ensures stops { IfErr result (λ cause. StopsReading (BadReplay submitters workers) OverReplay cause
         (stream S.rest S.faults input.old input.new)) }
     ensures calm { result ≢ Err Cause.Read → S.faults input.new ≡ S.faults input.old }

@@ -28,7 +28,7 @@ pub(crate) fn run_replay<S: Source, O: Sink>(
     ensures untouched { IfErr result (λ cause. cause ≢ Cause.Write
         → IsUntouched (stream O.held O.faults out.old out.new)) }
 {
-    let (jobs, commands) = read_replay_file(alloc, input, submitters, workers)?;
+    let (_keys, jobs, commands) = read_replay_file(alloc, input, submitters, workers)?;
     let lines = replay_lines(alloc, jobs, commands, submitters, workers)?;
     Ok(write_lines(out, &lines)?)
 }

@@ -8,12 +8,14 @@ use crate::cause::Cause;
 use crate::reading::read_job_file;
 use crate::results::write_results;
 use mbj_io::{Sink, Source};
+use mbj_keys::Keys;
 use mbj_work::{Gate, do_jobs};
 use std::alloc::Global;
 use std::sync::Wait;
 use std::thread::Threads;
 
-/// Reads a job file, does its jobs, dealt to submitters beside whom so many workers serve, and writes their results in the order of the file.
+/// Reads a job file, does its jobs, dealt to submitters beside whom so many workers serve, and writes their results in the order of
+/// the file. The parties share the keys of the file's sessions.
 pub(crate) fn run<R: Threads + Wait + Sync, S: Source, O: Sink, G: Gate + Sync>(
     rt: &R,
     alloc: Global,
@@ -32,7 +34,8 @@ pub(crate) fn run<R: Threads + Wait + Sync, S: Source, O: Sink, G: Gate + Sync>(
     ensures untouched { IfErr result (λ cause. cause ≢ Cause.Write
         → IsUntouched (stream O.held O.faults out.old out.new)) }
 {
-    let jobs = read_job_file(alloc, input)?;
-    let results = do_jobs(rt, alloc, jobs, submitters, workers, gate)?;
+    let (keys, jobs) = read_job_file(alloc, input)?;
+    let keys = Keys::new(alloc, keys)?;
+    let results = do_jobs(rt, alloc, &keys, jobs, submitters, workers, gate)?;
     Ok(write_results(out, &results)?)
 }

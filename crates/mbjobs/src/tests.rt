@@ -15,6 +15,7 @@ mod replay;
 mod results;
 mod runs;
 mod seeded_replays;
+mod sessions;
 mod texts;
 mod told_gates;
 mod trace;

@@ -24,7 +24,7 @@ pub(crate) fn run_trace<S: Source, O: Sink>(
     ensures untouched { IfErr result (λ cause. cause ≢ Cause.Write
         → IsUntouched (stream O.held O.faults out.old out.new)) }
 {
-    let jobs = read_job_file(alloc, input)?;
+    let (_keys, jobs) = read_job_file(alloc, input)?;
     let lines = trace_lines(alloc, jobs)?;
     Ok(write_lines(out, &lines)?)
 }

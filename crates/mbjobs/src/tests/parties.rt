@@ -37,17 +37,39 @@ const AUTHS: [&str; 16] = [
     "gmac",
 ];
 
-/// Adds a job as a line of a job file.
-fn add_job(file: &mut MemSink, job: &Job) -> Result<(), Failed> {
+/// How a job's line tells the cipher's key: by its bytes, or by a session that has it.
+#[derive(Clone, Copy)]
+pub(super) enum Key {
+    Bytes,
+    Session(u64),
+}
+
+fn add_word(file: &mut MemSink, word: &'static str) -> Result<(), Failed> {
+    write_parts(file, &[Part::Words(word), Part::Words(" ")])
+}
+
+fn add_key(file: &mut MemSink, job: &Job, key: Key) -> Result<(), Failed> {
+    match key {
+        Key::Bytes => write_parts(file, &[Part::Hex(job.key.as_slice()), Part::Words(" ")]),
+        Key::Session(number) => write_parts(
+            file,
+            &[Part::Words("@"), Part::Number(number), Part::Words(" ")],
+        ),
+    }
+}
+
+/// The word of the job's authentication. HMACs from states, which no generated job has, have none.
+fn auth_word(job: &Job) -> &'static str {
+    AUTHS.get(job.auth as usize).copied().unwrap_or("")
+}
+
+/// Adds the fields behind the key.
+fn add_rest(file: &mut MemSink, job: &Job) -> Result<(), Failed> {
     let fields = [
-        Part::Words(CIPHERS[job.cipher as usize]),
-        Part::Words(DIRS[job.dir as usize]),
-        Part::Words(ORDERS[job.order as usize]),
-        Part::Hex(job.key.as_slice()),
         Part::Hex(job.iv.as_slice()),
         Part::Number(u64::from(job.cipher_off)),
         Part::Number(u64::from(job.cipher_len)),
-        Part::Words(AUTHS[job.auth as usize]),
+        Part::Words(auth_word(job)),
         Part::Hex(job.auth_key.as_slice()),
         Part::Hex(job.aad.as_slice()),
         Part::Number(u64::from(job.hash_off)),
@@ -58,6 +80,20 @@ fn add_job(file: &mut MemSink, job: &Job) -> Result<(), Failed> {
         write_parts(file, &[*field, Part::Words(" ")])?;
     }
     write_line(file, &[Part::Hex(job.packet.as_slice())])
+}
+
+/// Adds a job as a line of a job file, which tells the cipher's key so.
+pub(super) fn add_job_by(file: &mut MemSink, job: &Job, key: Key) -> Result<(), Failed> {
+    add_word(file, CIPHERS[job.cipher as usize])?;
+    add_word(file, DIRS[job.dir as usize])?;
+    add_word(file, ORDERS[job.order as usize])?;
+    add_key(file, job, key)?;
+    add_rest(file, job)
+}
+
+/// Adds a job as a line of a job file.
+pub(super) fn add_job(file: &mut MemSink, job: &Job) -> Result<(), Failed> {
+    add_job_by(file, job, Key::Bytes)
 }
 
 /// A file of generated jobs.

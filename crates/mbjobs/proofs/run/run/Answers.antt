@@ -14,22 +14,22 @@ use Rattle.mbj_command.specs.declared.command.Command.TheVariants.{Run}
 use Rattle.mbjobs.proofs.run.run.Goals as goal
 
 -- the jobs of the input are answered by the text of their results
-answered : (s w : ℕ) (input : Stream) (jobs : List Job) (results : List Done) (IsWritten : List ℕ → Type 0)
-    → ReadsBytes input (λ bytes. Reads bytes jobs) → results ≡ map result_of jobs → IsWritten (text results)
+answered : (s w : ℕ) (input : Stream) (keys : List (List ℕ)) (jobs : List Job) (results : List Done) (IsWritten : List ℕ → Type 0)
+    → ReadsBytes input (λ bytes. Reads bytes keys jobs) → results ≡ map result_of jobs → IsWritten (text results)
     → Does (Run s w) input IsWritten
-answered s w input jobs results IsWritten reads are written =
+answered s w input keys jobs results IsWritten reads are written =
     let is_written = subst IsWritten (ap (λ (ds : List Done). text ds) are) written in
-    (reads.0, reads.1, (text (map result_of jobs), (jobs, reads.2, refl), is_written))
+    (reads.0, reads.1, (text (map result_of jobs), (keys, jobs, reads.2, refl), is_written))
 
 pub write_results-requires : goal.write_results-requires
 write_results-requires g c =
-    omega (arith, ap length c.in_ok-results.ensures, length-map c.in_ok-jobs.jobs.items result_of, c.in_ok-jobs.ensures.count)
+    omega (arith, ap length c.in_ok-results.ensures, length-map c.in_ok-keys.jobs.items result_of, c.in_ok-keys.ensures.count)
 
 pub returns-clause-ok : goal.returns-clause-ok
 returns-clause-ok g c =
     answered c.args.submitters c.args.workers
-    (stream g.S.Source.rest g.S.Source.faults c.args.input.now c.read_job_file.new.input) c.in_ok-jobs.jobs.items _
-    (WritesAll (stream g.O.Sink.held g.O.Sink.faults c.args.out.now c.write_results.new.out)) c.in_ok-jobs.ensures.read
+    (stream g.S.Source.rest g.S.Source.faults c.args.input.now c.read_job_file.new.input) _ c.in_ok-keys.jobs.items _
+    (WritesAll (stream g.O.Sink.held g.O.Sink.faults c.args.out.now c.write_results.new.out)) c.in_ok-keys.ensures.read
     c.in_ok-results.ensures c.in_ok-write_results.ensures
 
 pub returns-in_err-write_results-clause-err : goal.returns-in_err-write_results-clause-err
@@ -39,7 +39,7 @@ returns-in_err-write_results-clause-err g c =
     rw (exit.1, exit.2) (
       c.in_err-write_results.ensures.failed,
       answered c.args.submitters c.args.workers
-          (stream g.S.Source.rest g.S.Source.faults c.args.input.now c.read_job_file.new.input) c.in_ok-jobs.jobs.items _
-          (λ t. GainsPrefix (g.O.Sink.held c.args.out.now) (g.O.Sink.held c.write_results.new.out) t) c.in_ok-jobs.ensures.read
+          (stream g.S.Source.rest g.S.Source.faults c.args.input.now c.read_job_file.new.input) _ c.in_ok-keys.jobs.items _
+          (λ t. GainsPrefix (g.O.Sink.held c.args.out.now) (g.O.Sink.held c.write_results.new.out) t) c.in_ok-keys.ensures.read
           c.in_ok-results.ensures c.in_err-write_results.ensures.front,
     )
