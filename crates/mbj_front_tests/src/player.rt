@@ -18,7 +18,7 @@ use std::collections::VecDeque;
 pub(crate) struct Player<'a> {
     pub(crate) front: &'a Front,
     number: u32,
-    pub(crate) party: Party,
+    pub(crate) party: Party<'a>,
     /// In a script the number of a submitter's next job, and the numbers of its jobs that are out or of those in a worker's
     /// hand, the earliest first.
     pub(crate) next: u32,

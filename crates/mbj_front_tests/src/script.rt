@@ -98,7 +98,7 @@ fn tell_of_file(alloc: Global, file: &str, submitters: u32) -> Result<Lines, Fai
     if file.len() > INPUT_LIMIT {
         return Err(Fail::from("the file is too long"));
     }
-    let (jobs, commands) = read_replay(alloc, file.as_bytes(), submitters, WORKERS)?;
+    let (_, jobs, commands) = read_replay(alloc, file.as_bytes(), submitters, WORKERS)?;
     Ok(tell(alloc, &jobs, &commands, submitters)?)
 }
 

@@ -1,5 +1,6 @@
 mod reading;
 mod replay;
+mod sessions;
 mod writing;
 
 use mbj_text::TextFault;

@@ -1,6 +1,7 @@
 ghost use Rattle.std.specs.Prelude.{◌≡◌, ◌≤◌, IfOk, length};
 ghost use Rattle.mbj_core.specs.declared.cells.TheConstants.{MAX_WORKERS};
 
+use mbj_keys::Keys;
 use mbj_types::{Auth, Bytes, Done, Job, Reason, Status};
 use mbj_work::{Gate, Moment, OpenGate, run_private, run_shared};
 use std::alloc::{AllocError, Global};
@@ -93,7 +94,8 @@ fn are_done_over_a_front<R: Threads + Wait + Sync>(
 ) -> Result<bool, AllocError>
     requires { workers ≤ MAX_WORKERS }
 {
-    let results = run_shared(rt, alloc, two_lists(alloc)?, workers, &OpenGate)?;
+    let keys = Keys::new(alloc, Vec::new(alloc))?;
+    let results = run_shared(rt, alloc, &keys, two_lists(alloc)?, workers, &OpenGate)?;
     Ok(are_results_of_two_lists(&results))
 }
 

@@ -126,27 +126,6 @@ fn lanes_under_two_keys_go_side_by_side(rt: HostRuntime) {
     check_pairs(&rt, &blocks, [PLAINTEXT, 0]);
 }
 
-/// New lanes, put one by one.
-fn put_one_by_one(key: &Schedule) -> LaneKeys
-    requires { length key.now ≡ 240 }
-    ensures { IsFull result }
-{
-    let mut keys = LaneKeys::new(14);
-    'lanes: for lane in 0..AES_LANES as u32 {
-        keys.put(lane, key);
-    }
-    keys
-}
-
-#[test]
-fn a_new_lane_is_put_before_it_is_used(rt: HostRuntime) {
-    let keys = put_one_by_one(&Schedule::expand(&COUNTING));
-    let mut blocks = [PLAINTEXT.to_be_bytes(); AES_LANES];
-    encrypt32(&keys, &mut blocks);
-    let wanted = 0x8ea2b7ca516745bfeafc49904b496089u128;
-    expect(&rt, "block", blocks[AES_LANES - 1], wanted.to_be_bytes());
-}
-
 #[test]
 fn a_block_is_xored_with_the_chain_and_enciphered(rt: HostRuntime) {
     let key = Schedule::expand(&[0; 16]);

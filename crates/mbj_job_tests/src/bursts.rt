@@ -29,7 +29,7 @@ const MAKES: [Make; 16] = [
     (Cipher::Null, 0, 0, Auth::Null, 0, 0),
     (Cipher::Cbc, 16, 16, Auth::HmacSha1, 20, 12),
     (Cipher::Cbc, 24, 16, Auth::Null, 0, 0),
-    (Cipher::Cbc, 32, 16, Auth::HmacSha256, 20, 16),
+    (Cipher::Cbc, 32, 16, Auth::HmacSha256States, 64, 16),
     (Cipher::Ctr, 16, 12, Auth::Cmac128, 16, 16),
     WAITING,
     (Cipher::Null, 0, 0, Auth::HmacSha512, 20, 32),

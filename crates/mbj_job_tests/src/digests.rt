@@ -1,7 +1,9 @@
-//! Digests of messages that end at each kind of place in a block, in one list with HMACs of the same hash.
+//! Digests of messages that end at each kind of place in a block, in one list with HMACs of the same hash under a key and from the states
+//! of that key.
 use crate::compare::expect;
 use crate::hmac::{Serving, expect_hex};
 use crate::lists::{Tried, case_of, expect_no_rest, packet_of, run_in_one_list};
+use crate::stored::entry_from_key;
 use mbj_hmac::{HmacEntry, HmacKernel, Sha1Lanes, Sha256Lanes, Sha512Lanes};
 use mbj_types::Auth;
 use std::alloc::{AllocError, Global};
@@ -11,8 +13,8 @@ use std::test::Fail;
 /// The lengths of the messages: those at which the padding of blocks of 64 and of 128 bytes changes.
 const LENGTHS: [usize; 12] = [0, 1, 55, 56, 63, 64, 111, 112, 119, 120, 127, 128];
 
-/// Four digests and an HMAC go into one list: SHA-512 has the fewest lanes, eight.
-const GROUP: usize = 5;
+/// Four digests and two HMACs go into one list: SHA-512 has the fewest lanes, eight.
+const GROUP: usize = 6;
 
 /// What the messages begin.
 const LETTERS: [u8; 128] = [0x61; 128];
@@ -24,6 +26,8 @@ const KEY: &[u8] = b"key";
 #[derive(Drop)]
 struct Letters {
     auth: Auth,
+    /// Whether the HMAC goes on from the states of the key.
+    stored: bool,
     len: usize,
     tag: &'static str,
 }
@@ -42,6 +46,9 @@ impl<H: Serving> Tried<Letters> for HmacKernel<H> {
         if H::takes_plain(auth) {
             return Ok(HmacEntry::new_plain(auth, packet, 1, len as u32));
         }
+        if case.stored {
+            return Ok(entry_from_key(rt, auth, KEY, packet, 1, len as u32));
+        }
         assert!(rt; H::takes(auth));
         Ok(HmacEntry::new(auth, KEY, packet, 1, len as u32))
     }
@@ -56,7 +63,7 @@ impl<H: Serving> Tried<Letters> for HmacKernel<H> {
     }
 }
 
-/// Runs the digests of a hash, in lists of four with an HMAC among them.
+/// Runs the digests of a hash, in lists of four with an HMAC under a key and from its states among them.
 fn run_mixed<H: Serving>(
     rt: &impl Abort,
     alloc: Global,
@@ -71,16 +78,20 @@ fn run_mixed<H: Serving>(
         assert!(rt; i < LENGTHS.len());
         cases.push(Letters {
             auth,
+            stored: false,
             len: LENGTHS[i],
             tag,
         })?;
         if i % 4 == 3 && i / 4 < hmacs.len() {
             let (len, tag) = hmacs[i / 4];
-            cases.push(Letters {
-                auth: keyed,
-                len,
-                tag,
-            })?;
+            for stored in [false, true] {
+                cases.push(Letters {
+                    auth: keyed,
+                    stored,
+                    len,
+                    tag,
+                })?;
+            }
         }
     }
     for group in cases.as_slice().chunks(GROUP) {

@@ -1,5 +1,5 @@
 ghost use Rattle.std.specs.Prelude.{◌≡◌};
-ghost use Rattle.mbj_hmac.specs.Names.{serves_auth, serves_plain};
+ghost use Rattle.mbj_hmac.specs.Names.{serves_auth, serves_plain, serves_states};
 
 use crate::compare::expect;
 use crate::lists::{Tried, case_of, expect_no_rest, packet_of, run_in_one_list};
@@ -22,7 +22,7 @@ const LARGER: &[u8] =
 const QUESTION: &[u8] = b"what do ya want for nothing?";
 
 /// A key and a message, and the tag that they have, in hex.
-type Case = (Auth, &'static [u8], &'static [u8], &'static str);
+pub(crate) type Case = (Auth, &'static [u8], &'static [u8], &'static str);
 
 /// Cases beside those of the lists.
 const PLAIN_CASES: [Case; 3] = [
@@ -63,7 +63,7 @@ fn plain_tag(rt: &impl Abort, case: &Case) -> Tag {
 }
 
 /// The tag is what the case has.
-fn check_tag(rt: &impl Abort, case: &Case, tag: &[u8]) {
+pub(crate) fn check_tag(rt: &impl Abort, case: &Case, tag: &[u8]) {
     expect_hex(rt, case.3, tag);
 }
 
@@ -108,6 +108,10 @@ pub(crate) trait Serving: LaneHash {
     /// Whether it is the digest of a hash that is served.
     fn takes_plain(auth: Auth) -> bool
         ensures { result ≡ serves_plain Self.chaining auth };
+
+    /// Whether it is the HMAC from states of a hash that is served.
+    fn takes_states(auth: Auth) -> bool
+        ensures { result ≡ serves_states Self.chaining auth };
 }
 
 impl Serving for Sha1Lanes {
@@ -117,6 +121,10 @@ impl Serving for Sha1Lanes {
 
     fn takes_plain(auth: Auth) -> bool {
         matches!(auth, Auth::Sha1)
+    }
+
+    fn takes_states(auth: Auth) -> bool {
+        matches!(auth, Auth::HmacSha1States)
     }
 }
 
@@ -128,6 +136,10 @@ impl Serving for Sha256Lanes {
     fn takes_plain(auth: Auth) -> bool {
         matches!(auth, Auth::Sha224 | Auth::Sha256)
     }
+
+    fn takes_states(auth: Auth) -> bool {
+        matches!(auth, Auth::HmacSha224States | Auth::HmacSha256States)
+    }
 }
 
 impl Serving for Sha512Lanes {
@@ -137,6 +149,10 @@ impl Serving for Sha512Lanes {
 
     fn takes_plain(auth: Auth) -> bool {
         matches!(auth, Auth::Sha384 | Auth::Sha512)
+    }
+
+    fn takes_states(auth: Auth) -> bool {
+        matches!(auth, Auth::HmacSha384States | Auth::HmacSha512States)
     }
 }
 
@@ -170,7 +186,7 @@ fn check_case(rt: &impl Abort, cases: &[Case], packet: &[u8], tag: &[u8]) {
     expect(rt, "tag without lanes", plain_tag(rt, case).bytes(), tag);
 }
 
-const SHA1_CASES: [Case; 6] = [
+pub(crate) const SHA1_CASES: [Case; 6] = [
     (
         Auth::HmacSha1,
         &[0x0b; 20],
@@ -214,7 +230,7 @@ fn one_list_of_sha1_serves_all_lengths(rt: HostRuntime) -> Result<(), Fail> {
     run_in_one_list::<Case, HmacKernel<Sha1Lanes>>(&rt, rt.alloc(), &SHA1_CASES)
 }
 
-const SHA256_CASES: [Case; 6] = [
+pub(crate) const SHA256_CASES: [Case; 6] = [
     (
         Auth::HmacSha256,
         &[0x0b; 20],
@@ -258,7 +274,7 @@ fn one_list_serves_sha224_and_sha256(rt: HostRuntime) -> Result<(), Fail> {
     run_in_one_list::<Case, HmacKernel<Sha256Lanes>>(&rt, rt.alloc(), &SHA256_CASES)
 }
 
-const SHA512_CASES: [Case; 8] = [
+pub(crate) const SHA512_CASES: [Case; 8] = [
     (
         Auth::HmacSha512,
         &[0x0b; 20],

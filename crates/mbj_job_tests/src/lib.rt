@@ -43,7 +43,11 @@ mod manager;
 #[cfg(test)]
 mod message;
 #[cfg(test)]
+mod own_keys;
+#[cfg(test)]
 mod ring;
+#[cfg(test)]
+mod sessions;
 #[cfg(test)]
 mod sha1_lanes;
 #[cfg(test)]
@@ -52,5 +56,7 @@ mod sha256_lanes;
 mod sha512_lanes;
 #[cfg(test)]
 mod stage;
+#[cfg(test)]
+mod stored;
 #[cfg(test)]
 mod types;

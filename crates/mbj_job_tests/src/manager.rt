@@ -16,7 +16,7 @@ const TAG: [u8; 20] = [
     0xf1, 0x46, 0xbe, 0x00,
 ];
 
-// The README quotes these two functions.
+// README.md quotes `authenticate`; tests/docs/run compares the two.
 fn fill(alloc: Global, job: &mut Job) -> Result<(), AllocError> {
     job.auth = Auth::HmacSha1;
     job.auth_key = Bytes::from_slice(alloc, &[0x0b; 20])?;

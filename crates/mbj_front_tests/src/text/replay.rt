@@ -13,7 +13,7 @@ const SUBMITTERS: u32 = 3;
 const WORKERS: u32 = 2;
 
 /// Files, where `@` stands for the good job line, with the number of their jobs and their commands.
-const GOOD: [(&str, usize, &[Cmd]); 10] = [
+const GOOD: [(&str, usize, &[Cmd]); 11] = [
     ("", 0, &[]),
     ("@\n@", 2, &[]),
     ("@\n%", 1, &[]),
@@ -32,10 +32,15 @@ const GOOD: [(&str, usize, &[Cmd]); 10] = [
     ),
     ("%\n#%\nflush 0", 0, &[Flush(0)]),
     ("@\n@\n%\ncollect 2\n", 2, &[Collect(2)]),
+    (
+        "session 2b7e151628aed2a6abf7158809cf4f3c\n%\npost 0\n",
+        0,
+        &[Post(0)],
+    ),
 ];
 
 /// Files, where `@` stands for the good job line, with the line and the field of their fault.
-const BAD: [(&str, u32, u32); 32] = [
+const BAD: [(&str, u32, u32); 36] = [
     ("@\n%\nclaim 2 0", 3, 2),
     ("@\n%\nclaim 1 3", 3, 3),
     ("@\n%\nclaim 2 3", 3, 2),
@@ -68,6 +73,10 @@ const BAD: [(&str, u32, u32); 32] = [
     ("@\n% \n", 2, 0),
     ("@\n%%\n", 2, 0),
     ("post 0\n", 1, 0),
+    ("%\nsession 2b7e151628aed2a6abf7158809cf4f3c\n", 2, 1),
+    ("@\n%\nsession\n", 3, 1),
+    ("session\n%\nwait", 1, 0),
+    ("@\nsession -\n%\nwait", 2, 2),
 ];
 
 /// Whether a file within the limit has so many jobs and these commands, or the line and the field of its fault.
@@ -76,7 +85,7 @@ fn has(alloc: Global, file: &str, count: usize, commands: &[Cmd]) -> Result<bool
         return Ok(false);
     }
     match read_replay(alloc, file.as_bytes(), SUBMITTERS, WORKERS) {
-        Ok((jobs, script)) => Ok(jobs.len() == count && script.as_slice() == commands),
+        Ok((_, jobs, script)) => Ok(jobs.len() == count && script.as_slice() == commands),
         Err(fault) => Err(place_of(fault)),
     }
 }

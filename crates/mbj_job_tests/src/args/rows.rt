@@ -5,8 +5,9 @@ use super::shape::Length::{
 };
 use super::shape::Row;
 use mbj_types::Auth::{
-    Ccm as CcmAuth, Cmac128, Cmac256, Gcm as GcmAuth, Gmac, HmacSha1, HmacSha224, HmacSha256,
-    HmacSha384, HmacSha512, Null as NoAuth, Sha1, Sha224, Sha256, Sha384, Sha512,
+    Ccm as CcmAuth, Cmac128, Cmac256, Gcm as GcmAuth, Gmac, HmacSha1, HmacSha1States, HmacSha224,
+    HmacSha224States, HmacSha256, HmacSha256States, HmacSha384, HmacSha384States, HmacSha512,
+    HmacSha512States, Null as NoAuth, Sha1, Sha224, Sha256, Sha384, Sha512,
 };
 use mbj_types::Cipher::{Cbc, Ccm, Ctr, Gcm, Null as Plain};
 use mbj_types::Reason::{
@@ -18,7 +19,7 @@ use mbj_types::Reason::{
 const MAX: u32 = u32::MAX;
 
 /// Jobs at the boundaries of each row up to the cipher's lengths, on both sides.
-pub(crate) const CIPHER_ROWS: [Row; 77] = [
+pub(crate) const CIPHER_ROWS: [Row; 79] = [
     (Plain, NoAuth, Packet, 16, Packet, 65_535, None),
     (Plain, NoAuth, Packet, 16, Packet, 65_536, Some(PacketLong)),
     (Plain, NoAuth, Packet, 16, Packet, 0, None),
@@ -37,6 +38,8 @@ pub(crate) const CIPHER_ROWS: [Row; 77] = [
     (Ctr, Sha224, Packet, 16, Packet, 16, None),
     (Gcm, Sha256, Packet, 16, Packet, 16, Some(GcmPair)),
     (Ccm, Sha384, Packet, 16, Packet, 16, Some(GcmPair)),
+    (Cbc, HmacSha1States, Packet, 16, Packet, 16, None),
+    (Gcm, HmacSha512States, Packet, 16, Packet, 16, Some(GcmPair)),
     (Plain, Gmac, Iv, 12, Packet, 16, None),
     (Cbc, Gmac, Packet, 16, Packet, 16, Some(GcmPair)),
     (Ctr, Gmac, Packet, 16, Packet, 16, Some(GcmPair)),
@@ -107,7 +110,7 @@ pub(crate) const CIPHER_ROWS: [Row; 77] = [
 ];
 
 /// Jobs at the boundaries of each row from the authentication's key on, on both sides.
-pub(crate) const AUTH_ROWS: [Row; 105] = [
+pub(crate) const AUTH_ROWS: [Row; 128] = [
     (Plain, HmacSha1, MacKey, 0, Packet, 16, None),
     (Plain, HmacSha1, MacKey, 1_024, Packet, 16, None),
     (Plain, HmacSha1, MacKey, 1_025, Packet, 16, Some(AuthKey)),
@@ -129,6 +132,66 @@ pub(crate) const AUTH_ROWS: [Row; 105] = [
     (Plain, Gmac, Iv, 12, MacKey, 24, None),
     (Plain, Gmac, Iv, 12, MacKey, 32, None),
     (Plain, Gmac, Iv, 12, MacKey, 33, Some(AuthKey)),
+    (Plain, HmacSha1States, MacKey, 39, Packet, 16, Some(AuthKey)),
+    (Plain, HmacSha1States, MacKey, 40, Packet, 16, None),
+    (Plain, HmacSha1States, MacKey, 41, Packet, 16, Some(AuthKey)),
+    (
+        Plain,
+        HmacSha224States,
+        MacKey,
+        56,
+        Packet,
+        16,
+        Some(AuthKey),
+    ),
+    (Plain, HmacSha224States, MacKey, 64, Packet, 16, None),
+    (
+        Plain,
+        HmacSha256States,
+        MacKey,
+        63,
+        Packet,
+        16,
+        Some(AuthKey),
+    ),
+    (Plain, HmacSha256States, MacKey, 64, Packet, 16, None),
+    (
+        Plain,
+        HmacSha256States,
+        MacKey,
+        128,
+        Packet,
+        16,
+        Some(AuthKey),
+    ),
+    (
+        Plain,
+        HmacSha384States,
+        MacKey,
+        96,
+        Packet,
+        16,
+        Some(AuthKey),
+    ),
+    (Plain, HmacSha384States, MacKey, 128, Packet, 16, None),
+    (
+        Plain,
+        HmacSha512States,
+        MacKey,
+        127,
+        Packet,
+        16,
+        Some(AuthKey),
+    ),
+    (
+        Plain,
+        HmacSha512States,
+        MacKey,
+        129,
+        Packet,
+        16,
+        Some(AuthKey),
+    ),
     (Plain, HmacSha1, HashOff, 16, HashLen, 0, None),
     (Plain, HmacSha1, HashOff, 17, HashLen, 0, Some(HashRange)),
     (Plain, HmacSha1, HashLen, 17, Packet, 16, Some(HashRange)),
@@ -138,6 +201,16 @@ pub(crate) const AUTH_ROWS: [Row; 105] = [
     (Plain, Cmac128, HashOff, 1, Packet, 16, Some(HashRange)),
     (Plain, Sha256, HashOff, 16, HashLen, 0, None),
     (Plain, Sha256, HashOff, 17, HashLen, 0, Some(HashRange)),
+    (Plain, HmacSha256States, HashOff, 16, HashLen, 0, None),
+    (
+        Plain,
+        HmacSha256States,
+        HashOff,
+        17,
+        HashLen,
+        0,
+        Some(HashRange),
+    ),
     (Plain, Gmac, Iv, 12, HashOff, 1, Some(HashRange)),
     (Plain, Gmac, Iv, 12, HashLen, 17, Some(HashRange)),
     (Plain, NoAuth, HashOff, 17, Packet, 16, None),
@@ -150,6 +223,55 @@ pub(crate) const AUTH_ROWS: [Row; 105] = [
     (Ccm, CcmAuth, Aad, 65_536, Packet, 16, Some(AadLong)),
     (Cbc, HmacSha1, Aad, 65_536, Packet, 16, None),
     (Plain, NoAuth, TagLen, 1, Packet, 16, Some(TagLength)),
+    (
+        Plain,
+        HmacSha1States,
+        TagLen,
+        0,
+        Packet,
+        16,
+        Some(TagLength),
+    ),
+    (Plain, HmacSha1States, TagLen, 20, Packet, 16, None),
+    (
+        Plain,
+        HmacSha1States,
+        TagLen,
+        21,
+        Packet,
+        16,
+        Some(TagLength),
+    ),
+    (Plain, HmacSha224States, TagLen, 28, Packet, 16, None),
+    (
+        Plain,
+        HmacSha224States,
+        TagLen,
+        29,
+        Packet,
+        16,
+        Some(TagLength),
+    ),
+    (Plain, HmacSha384States, TagLen, 48, Packet, 16, None),
+    (
+        Plain,
+        HmacSha384States,
+        TagLen,
+        49,
+        Packet,
+        16,
+        Some(TagLength),
+    ),
+    (Plain, HmacSha512States, TagLen, 64, Packet, 16, None),
+    (
+        Plain,
+        HmacSha512States,
+        TagLen,
+        65,
+        Packet,
+        16,
+        Some(TagLength),
+    ),
     (Plain, HmacSha1, TagLen, 0, Packet, 16, Some(TagLength)),
     (Plain, HmacSha1, TagLen, 1, Packet, 16, None),
     (Plain, HmacSha1, TagLen, 20, Packet, 16, None),

@@ -64,6 +64,24 @@ const AES_256: [Change; 3] = [
     (Length::TagLen, 16),
 ];
 
+const STATES_1: [Change; 3] = [
+    (Length::MacKey, 40),
+    (Length::HashLen, 16),
+    (Length::TagLen, 12),
+];
+
+const STATES_256: [Change; 3] = [
+    (Length::MacKey, 64),
+    (Length::HashLen, 16),
+    (Length::TagLen, 12),
+];
+
+const STATES_512: [Change; 3] = [
+    (Length::MacKey, 128),
+    (Length::HashLen, 16),
+    (Length::TagLen, 12),
+];
+
 const CIPHERS_TAG: [Change; 3] = [
     (Length::MacKey, 0),
     (Length::HashLen, 0),
@@ -86,6 +104,9 @@ fn lengths_of_auth(auth: Auth) -> &'static [Change; 3] {
         Auth::Cmac128 | Auth::Gmac => &AES_128,
         Auth::Cmac256 => &AES_256,
         Auth::Gcm | Auth::Ccm => &CIPHERS_TAG,
+        Auth::HmacSha1States => &STATES_1,
+        Auth::HmacSha224States | Auth::HmacSha256States => &STATES_256,
+        Auth::HmacSha384States | Auth::HmacSha512States => &STATES_512,
         _ => &HASH,
     }
 }
