@@ -23,7 +23,7 @@
  * shared library's name and for what pkg-config and CMake are told, and the proved code's own is compared when a manager is made. A change
  * of a struct or of a code, or of what an export means, makes a new major number, and with it a new soname. */
 #define MBJ_VERSION_MAJOR 0
-#define MBJ_VERSION_MINOR 1
+#define MBJ_VERSION_MINOR 2
 #define MBJ_VERSION_PATCH 0
 #define MBJ_VERSION_NUM (MBJ_VERSION_MAJOR * 65536 + MBJ_VERSION_MINOR * 256 + MBJ_VERSION_PATCH)
 #define MBJ_QUOTE_(number) #number
@@ -71,7 +71,8 @@ enum mbj_order { MBJ_ORDER_CIPHER_HASH, MBJ_ORDER_HASH_CIPHER };
 
 /* CMAC has keys of 128 or of 256 bits. MBJ_AUTH_GCM and MBJ_AUTH_AES_CCM are the tags of GCM and of CCM, and go with these ciphers.
  * MBJ_AUTH_AES_GMAC is GMAC by itself, over the hash range and under auth_key, with the job's IV; it goes with MBJ_CIPHER_NULL. From
- * MBJ_AUTH_SHA_1 on the tag is a digest, without a key. 16 to 20 are kept for HMAC from the states of its key. */
+ * MBJ_AUTH_SHA_1 on the tag is a digest, without a key. From MBJ_AUTH_HMAC_SHA_1_STATES on it is HMAC from stored states: auth_key is the
+ * inner state of the key and the outer state behind it, whole and big-endian, together 40, 64, 64, 128 or 128 bytes. */
 enum mbj_auth {
     MBJ_AUTH_NULL,
     MBJ_AUTH_HMAC_SHA_1,
@@ -89,8 +90,16 @@ enum mbj_auth {
     MBJ_AUTH_SHA_256,
     MBJ_AUTH_SHA_384,
     MBJ_AUTH_SHA_512,
+    MBJ_AUTH_HMAC_SHA_1_STATES,
+    MBJ_AUTH_HMAC_SHA_224_STATES,
+    MBJ_AUTH_HMAC_SHA_256_STATES,
+    MBJ_AUTH_HMAC_SHA_384_STATES,
+    MBJ_AUTH_HMAC_SHA_512_STATES,
     MBJ_AUTH_UNSET = 255
 };
+
+/* The hashes, where one is asked for by itself. */
+enum mbj_hash { MBJ_HASH_SHA_1, MBJ_HASH_SHA_224, MBJ_HASH_SHA_256, MBJ_HASH_SHA_384, MBJ_HASH_SHA_512 };
 
 /* The kinds of work that is done in lanes. HMAC-SHA-224 goes with SHA-256, and SHA-384 with SHA-512. A hash without a key goes with the
  * HMAC of that hash. */
@@ -113,15 +122,16 @@ enum mbj_kind {
 enum mbj_refusal {
     MBJ_ERR_NONE,        /* it isn't */
     MBJ_ERR_FULL,        /* MBJ_MAX_JOBS jobs are submitted and not given back */
-    MBJ_ERR_WORD,        /* a code is no cipher, direction, order or authentication; mbj_c_fill alone answers this */
+    MBJ_ERR_WORD,        /* a code is no cipher, direction, order, authentication or hash */
     MBJ_ERR_MEMORY,      /* there wasn't memory enough */
     MBJ_ERR_NO_MANAGER,  /* there is no manager */
     MBJ_ERR_NO_JOB,      /* no job is filled, or handed out, that could be submitted */
-    MBJ_ERR_NO_ROOM,     /* there is too little room for the result that is given back next */
+    MBJ_ERR_NO_ROOM,     /* there is too little room for the result that is given back next, or for what is written */
     MBJ_ERR_HAS_MANAGER, /* the handle has a manager already */
     MBJ_ERR_NULL,        /* mbj_init_mgr was given no memory */
     MBJ_ERR_VERSION,     /* the library has another major version than the header that the program was compiled with, or is older */
-    MBJ_ERR_PROCESSOR    /* the processor lacks a feature that the library was built for: mbj_c_missing_feature names it */
+    MBJ_ERR_PROCESSOR,   /* the processor lacks a feature that the library was built for: mbj_c_missing_feature names it */
+    MBJ_ERR_TEXT_LENGTH  /* the algorithm doesn't take a text of this length */
 };
 
 /* Why a job is refused: what is the matter with its arguments. mbj_reason_text has a text for each, docs/FORMAT.md the table of 1 to 10.
@@ -205,6 +215,18 @@ bool mbj_c_submit(struct mbj_handle *, struct mbj_raw_done *, uint32_t *refusal)
 bool mbj_c_get_completed(struct mbj_handle *, struct mbj_raw_done *, uint32_t *refusal);
 bool mbj_c_flush(struct mbj_handle *, struct mbj_raw_done *, uint32_t *refusal);
 
+/* The next two calls need no manager: they take no memory, and any threads may make them at once. Each answers MBJ_ERR_NONE, or a refusal,
+ * and then writes nothing: MBJ_ERR_WORD where the hash is none, MBJ_ERR_NO_ROOM where the room is shorter than what is written. Room that
+ * is longer stays as it was behind that. */
+
+/* Writes the states of a key for the authentications from MBJ_AUTH_HMAC_SHA_1_STATES on (RFC 2104, 4): the inner state and the outer state
+ * behind it, whole and big-endian, together 40, 64, 64, 128 or 128 bytes. The key may have any length. They are as secret as the key. */
+uint32_t mbj_hmac_states(uint32_t hash, struct mbj_bytes key, struct mbj_room out);
+
+/* Writes the state of a hash behind one block, whole and big-endian: 20, 32, 32, 64 or 64 bytes. MBJ_ERR_TEXT_LENGTH where the block hasn't
+ * 64 bytes, or 128 for SHA-384 and SHA-512. */
+uint32_t mbj_one_block(uint32_t hash, struct mbj_bytes block, struct mbj_room out);
+
 /* The library was built for this layout. */
 MBJ_ASSERT_(sizeof(void *) == 8 && sizeof(size_t) == 8 && sizeof(bool) == 1);
 MBJ_ASSERT_(sizeof(struct mbj_handle) == 8);
@@ -287,15 +309,16 @@ MBJ_API const char *mbj_refusal_text(uint32_t refusal) {
     switch (refusal) {
     case MBJ_ERR_NONE: return "not refused";
     case MBJ_ERR_FULL: return "MBJ_MAX_JOBS jobs are submitted and not given back";
-    case MBJ_ERR_WORD: return "a code is no cipher, direction, order or authentication";
+    case MBJ_ERR_WORD: return "a code is no cipher, direction, order, authentication or hash";
     case MBJ_ERR_MEMORY: return "out of memory";
     case MBJ_ERR_NO_MANAGER: return "there is no manager";
     case MBJ_ERR_NO_JOB: return "no job was handed out";
-    case MBJ_ERR_NO_ROOM: return "too little room for the next result";
+    case MBJ_ERR_NO_ROOM: return "too little room for what is written";
     case MBJ_ERR_HAS_MANAGER: return "the handle has a manager already";
     case MBJ_ERR_NULL: return "no memory was given for the manager";
     case MBJ_ERR_VERSION: return "the library has another major version than the header, or is older";
     case MBJ_ERR_PROCESSOR: return "the processor lacks a feature that the library was built for";
+    case MBJ_ERR_TEXT_LENGTH: return "the algorithm doesn't take a text of this length";
     default: return "no such refusal";
     }
 }
@@ -429,7 +452,8 @@ static inline bool mbj_has_aad_(const MBJ_JOB *job) {
 }
 
 static inline bool mbj_has_auth_key_(const MBJ_JOB *job) {
-    return (job->hash_alg >= MBJ_AUTH_HMAC_SHA_1 && job->hash_alg <= MBJ_AUTH_AES_CMAC_256) || job->hash_alg == MBJ_AUTH_AES_GMAC;
+    return (job->hash_alg >= MBJ_AUTH_HMAC_SHA_1 && job->hash_alg <= MBJ_AUTH_AES_CMAC_256) || job->hash_alg == MBJ_AUTH_AES_GMAC ||
+           job->hash_alg >= MBJ_AUTH_HMAC_SHA_1_STATES;
 }
 
 static inline bool mbj_has_tag_(const MBJ_JOB *job) {
@@ -453,7 +477,7 @@ static inline bool mbj_has_null_(const MBJ_JOB *job) {
 
 static inline bool mbj_has_bad_code_(const MBJ_JOB *job) {
     return job->cipher_mode > MBJ_CIPHER_CCM || job->cipher_direction > MBJ_DIR_DECRYPT || job->chain_order > MBJ_ORDER_HASH_CIPHER ||
-           job->hash_alg > MBJ_AUTH_SHA_512;
+           job->hash_alg > MBJ_AUTH_HMAC_SHA_512_STATES;
 }
 
 /* The job interface's own reason for which the job is refused, or 0. */

@@ -36,7 +36,7 @@ record Leaves (given : Option Given) (after : RangedState) (jobs : List Job) : T
 -- ---- one call
 
 manager-order : (c : Call) (m : ManagerState) → option_to_list (manager_step c m).0 ++ (manager_step c m).1.owed ≡ owed_in c m
-manager-order call.Submit m = submitted-order m
+manager-order call.Submit m = submitted-order false m
 manager-order call.Completed m = given-order m
 manager-order call.Flush m = given-order (record m { machine = flushed m.machine })
 

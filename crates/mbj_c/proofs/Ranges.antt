@@ -37,7 +37,7 @@ first-set (r ∷ ranges) range is =
 pub opened-after : (c : Call) (m : ManagerState) (filled : List CipherRange) → filled ≡ map given_range m.opened
     → filled_after c filled ≡ map given_range (manager_step c m).1.opened
 opened-after call.Submit m filled is =
-    ap (drop 1) is ∙ drop-map given_range 1 m.opened ∙ ap (map given_range) (sym (submitted-opened m))
+    ap (drop 1) is ∙ drop-map given_range 1 m.opened ∙ ap (map given_range) (sym (submitted-opened false m))
 opened-after call.Completed m filled is = is ∙ ap (map given_range) (sym (given-opened m.owed m.machine.left m))
 opened-after call.Flush m filled is =
     let after : ManagerState = record m { machine = flushed m.machine } in

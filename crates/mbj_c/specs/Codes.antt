@@ -4,7 +4,7 @@ use Rattle.mbj_types.specs.Reasons.{number_of}
 use Rattle.mbj_types.specs.declared.done.Status.{Status}
 use Rattle.mbj_types.specs.declared.done.Status.TheVariants as status
 use Rattle.mbj_c.specs.declared.refusal.Refusal.{Refusal}
-use Rattle.mbj_c.specs.declared.refusal.Refusal.TheVariants.{Full, Word, Memory, NoManager, NoJob, NoRoom, HasManager}
+use Rattle.mbj_c.specs.declared.refusal.Refusal.TheVariants.{Full, Word, Memory, NoManager, NoJob, NoRoom, HasManager, TextLength}
 
 abbrev pub refusal_code : Refusal → ℕ
 refusal_code Full = 1
@@ -14,6 +14,7 @@ refusal_code NoManager = 4
 refusal_code NoJob = 5
 refusal_code NoRoom = 6
 refusal_code HasManager = 7
+refusal_code TextLength = 11
 
 -- 0, or the code of the refusal
 abbrev pub code_of : {A : Type 0} → Result A Refusal → ℕ

@@ -39,6 +39,7 @@ job_with r w = record {
   hash_len = narrowed r.hash_len;
   tag_len = r.tag_len;
   packet = r.packet.now;
+  session = None;
 }
 
 -- the job that C's job says, where each code is a word

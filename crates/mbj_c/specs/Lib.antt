@@ -7,4 +7,5 @@ pub mod Counts
 pub mod Filling
 pub mod Giving
 pub mod Calls
+pub mod Stored
 pub mod Inside

@@ -61,7 +61,7 @@ impl Call {
 }
 
 /// Writes bytes to the front of their room.
-fn put_front(room: &mut [u8], bytes: &[u8])
+pub(crate) fn put_front(room: &mut [u8], bytes: &[u8])
     requires { length bytes.now ≤ length room.old }
     ensures { room.new ≡ bytes.now ++ drop (length bytes.now) room.old }
 {

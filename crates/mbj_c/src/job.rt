@@ -11,14 +11,14 @@ use std::alloc::{AllocError, Global};
 #[repr(C)]
 #[derive(Clone, Copy)]
 pub struct RawJob<'a> {
-    /// 0 none, 1 CBC, 2 CTR, 3 GCM.
+    /// 0 none, 1 CBC, 2 CTR, 3 GCM, 4 CCM.
     pub cipher: u32,
     /// 0 encryption, 1 decryption.
     pub dir: u32,
     /// 0 the cipher first, 1 the hash first.
     pub order: u32,
     /// 0 none; HMAC with 1 SHA-1, 2 SHA-224, 3 SHA-256, 4 SHA-384, 5 SHA-512; CMAC with a key of 6 128 bits, 7 256 bits;
-    /// 8 GCM.
+    /// 8 GCM, 9 GMAC, 10 CCM; a hash without a key, 11 SHA-1 to 15 SHA-512; HMAC from stored states, 16 SHA-1 to 20 SHA-512.
     pub auth: u32,
     pub key: &'a [u8],
     pub iv: &'a [u8],
@@ -39,7 +39,7 @@ fn bytes_of(alloc: Global, bytes: &[u8]) -> Result<Bytes, AllocError>
 }
 
 impl RawJob<'_> {
-    /// The words that the codes are. Answers `None` exactly where one of them is none.
+    /// The cipher, direction, order and authentication with these codes. Returns `None` exactly where a number is no code.
     pub(crate) fn words(&self) -> Option<Words>
         ensures { result ≡ words_said self.now }
     {
@@ -80,6 +80,7 @@ impl RawJob<'_> {
             hash_len: narrowed(self.hash_len),
             tag_len: self.tag_len,
             packet: bytes_of(alloc, self.packet)?,
+            session: None,
         })
     }
 }

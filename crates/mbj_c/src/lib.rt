@@ -16,6 +16,7 @@ ghost use Rattle.mbj_c.specs.Counts.{IsCounted, queue_size};
 ghost use Rattle.mbj_c.specs.Filling.{filled, made};
 ghost use Rattle.mbj_c.specs.Giving.{IsDrained, IsTold, answered};
 ghost use Rattle.mbj_c.specs.declared.giving.Call.TheVariants as call;
+ghost use Rattle.mbj_c.specs.Stored.{put_in, state_said, states_said};
 ghost use Rattle.mbj_c.specs.declared.refusal.Refusal.TheVariants.{Memory};
 
 mod calls;
@@ -28,6 +29,7 @@ mod range;
 mod ranged;
 mod raw_box;
 mod refusal;
+mod stored;
 #[cfg(test)]
 mod tests;
 mod version;
@@ -166,4 +168,34 @@ pub extern "C" fn mbj_c_flush(
     ensures drained { result ≡ false → refusal.new ≡ 0 → IsDrained handle.old.manager }
 {
     calls::give(alloc, handle, Call::Flush, out, refusal)
+}
+
+/// Writes the states of a key of HMAC to the front of `out`: the inner state and the outer state behind it, whole, as their
+/// words, the highest byte of each first (RFC 2104, 4): 40 bytes for SHA-1, 64 for SHA-224 and SHA-256, 128 for SHA-384 and
+/// SHA-512. A key longer than a block is hashed first. `hash` is 0 SHA-1, 1 SHA-224, 2 SHA-256, 3 SHA-384, 4 SHA-512. It needs
+/// no manager and takes no memory.
+///
+/// Answers 0, or the code of a refusal: `Word` exactly where the code is no hash; else `NoRoom` exactly where `out` is shorter
+/// than the states. A refused call writes nothing.
+#[unsafe(no_mangle)]
+pub extern "C" fn mbj_hmac_states(hash: u32, key: &[u8], out: &mut [u8]) -> u32
+    ensures answer { result ≡ code_of (put_in (states_said hash key.now) out.old).0 }
+    ensures written { out.new ≡ (put_in (states_said hash key.now) out.old).1 }
+{
+    code(stored::put_states(hash, key, out))
+}
+
+/// Writes the state of a hash behind one block to the front of `out`, whole, as its words, the highest byte of each first (FIPS
+/// 180-4, 6): 20 bytes for SHA-1, 32 for SHA-224 and SHA-256, 64 for SHA-384 and SHA-512. `hash` is as `mbj_hmac_states` has
+/// it. It needs no manager and takes no memory.
+///
+/// Answers 0, or the code of a refusal: `Word` exactly where the code is no hash; else `TextLength` exactly where the block
+/// hasn't 64 bytes, or 128 for SHA-384 and SHA-512; else `NoRoom` exactly where `out` is shorter than the state. A refused call
+/// writes nothing.
+#[unsafe(no_mangle)]
+pub extern "C" fn mbj_one_block(hash: u32, block: &[u8], out: &mut [u8]) -> u32
+    ensures answer { result ≡ code_of (put_in (state_said hash block.now) out.old).0 }
+    ensures written { out.new ≡ (put_in (state_said hash block.now) out.old).1 }
+{
+    code(stored::put_one_block(hash, block, out))
 }

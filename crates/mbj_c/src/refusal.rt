@@ -9,7 +9,7 @@ use std::alloc::AllocError;
 pub(crate) enum Refusal {
     /// `CELLS` jobs are submitted and not given back.
     Full,
-    /// A code is no cipher, direction, order or authentication.
+    /// A code is no cipher, direction, order, authentication or hash.
     Word,
     /// There wasn't memory enough.
     Memory,
@@ -17,10 +17,12 @@ pub(crate) enum Refusal {
     NoManager,
     /// No job is filled that could be submitted.
     NoJob,
-    /// There is too little room for the result.
+    /// There is too little room for what is written.
     NoRoom,
     /// The handle has a manager already.
     HasManager,
+    /// The algorithm doesn't take a text of this length.
+    TextLength,
 }
 
 impl Refusal {
@@ -36,6 +38,7 @@ impl Refusal {
             Refusal::NoJob => 5,
             Refusal::NoRoom => 6,
             Refusal::HasManager => 7,
+            Refusal::TextLength => 11,
         }
     }
 }

@@ -2,6 +2,7 @@
 
 mod refusals;
 mod results;
+mod stored;
 
 use super::*;
 use mbj_types::MAX_TAG_BYTES;

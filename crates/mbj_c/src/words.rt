@@ -1,10 +1,10 @@
-//! The words of a job, which C gives as small numbers.
+//! The words of a job and the names of hashes, which C gives as small numbers.
 
 ghost use Rattle.std.specs.Prelude.{◌≡◌, slice_get};
 ghost use Rattle.mbj_types.specs.Kinds.{all_kinds};
-ghost use Rattle.mbj_c.specs.Words.{ciphers, dirs, orders, auths};
+ghost use Rattle.mbj_c.specs.Words.{ciphers, dirs, orders, auths, hashes};
 
-use mbj_types::{Auth, Cipher, Dir, Kind, Order};
+use mbj_types::{Auth, Cipher, Dir, HashName, Kind, Order};
 
 /// The words of a job.
 #[derive(Clone, Copy)]
@@ -27,7 +27,7 @@ const DIRS: [Dir; 2] = [Dir::Enc, Dir::Dec];
 
 const ORDERS: [Order; 2] = [Order::CipherHash, Order::HashCipher];
 
-const AUTHS: [Auth; 16] = [
+const AUTHS: [Auth; 21] = [
     Auth::Null,
     Auth::HmacSha1,
     Auth::HmacSha224,
@@ -44,39 +44,66 @@ const AUTHS: [Auth; 16] = [
     Auth::Sha256,
     Auth::Sha384,
     Auth::Sha512,
+    Auth::HmacSha1States,
+    Auth::HmacSha224States,
+    Auth::HmacSha256States,
+    Auth::HmacSha384States,
+    Auth::HmacSha512States,
 ];
+
+const HASHES: [HashName; 5] = [
+    HashName::Sha1,
+    HashName::Sha224,
+    HashName::Sha256,
+    HashName::Sha384,
+    HashName::Sha512,
+];
+
+/// The word that stands at a code in its list. Answers `None` exactly where the code is none.
+fn word_at<T: Copy>(words: &[T], code: u32) -> Option<T>
+    ensures { result ≡ slice_get words.now code }
+{
+    words.get(code as usize).copied()
+}
 
 /// The cipher with this code. Answers `None` exactly where the code is none.
 pub(crate) fn cipher_at(code: u32) -> Option<Cipher>
     ensures { result ≡ slice_get ciphers code }
 {
-    CIPHERS.get(code as usize).copied()
+    word_at(&CIPHERS, code)
 }
 
 /// The direction with this code. Answers `None` exactly where the code is none.
 pub(crate) fn dir_at(code: u32) -> Option<Dir>
     ensures { result ≡ slice_get dirs code }
 {
-    DIRS.get(code as usize).copied()
+    word_at(&DIRS, code)
 }
 
 /// The order with this code. Answers `None` exactly where the code is none.
 pub(crate) fn order_at(code: u32) -> Option<Order>
     ensures { result ≡ slice_get orders code }
 {
-    ORDERS.get(code as usize).copied()
+    word_at(&ORDERS, code)
 }
 
 /// The authentication with this code. Answers `None` exactly where the code is none.
 pub(crate) fn auth_at(code: u32) -> Option<Auth>
     ensures { result ≡ slice_get auths code }
 {
-    AUTHS.get(code as usize).copied()
+    word_at(&AUTHS, code)
+}
+
+/// The hash with this code. Answers `None` exactly where the code is none.
+pub(crate) fn hash_at(code: u32) -> Option<HashName>
+    ensures { result ≡ slice_get hashes code }
+{
+    word_at(&HASHES, code)
 }
 
 /// The kind of lanes with this code. Answers `None` exactly where the code is none.
 pub(crate) fn kind_at(code: u32) -> Option<Kind>
     ensures { result ≡ slice_get all_kinds code }
 {
-    Kind::ALL.get(code as usize).copied()
+    word_at(&Kind::ALL, code)
 }

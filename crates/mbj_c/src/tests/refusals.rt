@@ -105,7 +105,7 @@ fn check_without_job(rt: &impl Abort, alloc: Global, handle: &mut Handle) {
         &mut [7; MAX_TAG_BYTES],
     );
     expect_told(rt, told, nothing(NO_JOB));
-    check_codes(rt, alloc, handle, [5, 2, 2, 16]);
+    check_codes(rt, alloc, handle, [5, 2, 2, 21]);
     check_codes(rt, alloc, handle, [255; 4]);
     check_codes(rt, alloc, handle, [u32::MAX; 4]);
 }

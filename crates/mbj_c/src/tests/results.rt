@@ -138,5 +138,5 @@ fn a_handle_crosses_threads(rt: HostRuntime) {
 
 #[test]
 fn the_version_is_told(rt: HostRuntime) {
-    expect_number(&rt, mbj_c_version(), 0x100);
+    expect_number(&rt, mbj_c_version(), 0x200);
 }
