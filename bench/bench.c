@@ -15,7 +15,8 @@ static const char usage[] =
     "--sizes     lengths of packets in bytes: 64,256,1500 where neither these nor drawn ones are given\n"
     "--drawn     lengths that are drawn for each packet from LEAST to MOST bytes\n"
     "--jobs      null, cbc, ctr, gcm, ccm, cmac, gmac, sha1, sha224, sha256, sha384, sha512, the same five with hmac- before\n"
-    "            them, or chained jobs as cbc+hmac-sha1, which are enciphered and then authenticated\n"
+    "            them, these with -states behind them, or chained jobs as cbc+hmac-sha1, which are enciphered and then\n"
+    "            authenticated\n"
     "--threads   how many threads run at once, each with a manager of its own: 1\n"
     "--passes    how often the 256 jobs of a row are done, of which the fastest time counts: 40\n";
 
@@ -30,15 +31,35 @@ const struct keys keys = {{1, 2, 3, 4, 5, 6, 7, 8, 9, 10, 11, 12, 13, 14, 15, 16
 
 static const char *const ciphers[] = {"", "cbc", "ctr", "gcm", "ccm"};
 
-static const char *const auths[] = {"",     "hmac-sha1", "hmac-sha224", "hmac-sha256", "hmac-sha384", "hmac-sha512", "cmac",
-                                    "gmac", "sha1",      "sha224",      "sha256",      "sha384",      "sha512"};
+static const char *const auths[] = {"",
+                                    "hmac-sha1",
+                                    "hmac-sha224",
+                                    "hmac-sha256",
+                                    "hmac-sha384",
+                                    "hmac-sha512",
+                                    "cmac",
+                                    "gmac",
+                                    "sha1",
+                                    "sha224",
+                                    "sha256",
+                                    "sha384",
+                                    "sha512",
+                                    "hmac-sha1-states",
+                                    "hmac-sha224-states",
+                                    "hmac-sha256-states",
+                                    "hmac-sha384-states",
+                                    "hmac-sha512-states"};
+
+bool has_states(enum auth auth) {
+    return auth >= HMAC_SHA_1_STATES && auth <= HMAC_SHA_512_STATES;
+}
 
 bool is_hmac(enum auth auth) {
-    return auth >= HMAC_SHA_1 && auth <= HMAC_SHA_512;
+    return (auth >= HMAC_SHA_1 && auth <= HMAC_SHA_512) || has_states(auth);
 }
 
 size_t tag_len(const struct work *work) {
-    static const size_t lens[] = {0, 20, 28, 32, 48, 64, 16, 16, 20, 28, 32, 48, 64, 16, 16};
+    static const size_t lens[] = {0, 20, 28, 32, 48, 64, 16, 16, 20, 28, 32, 48, 64, 20, 28, 32, 48, 64, 16, 16};
     return lens[work->auth];
 }
 
@@ -118,7 +139,8 @@ static void read_jobs(struct settings *s, char *at) {
 static void read_settings(struct settings *s, int argc, char **argv) {
     static const struct option options[] = {{"sizes", 1, NULL, 's'},   {"drawn", 1, NULL, 'd'},  {"jobs", 1, NULL, 'j'},
                                             {"threads", 1, NULL, 't'}, {"passes", 1, NULL, 'p'}, {NULL, 0, NULL, 0}};
-    static char sizes[] = "64,256,1500", jobs[] = "null,hmac-sha1,hmac-sha256,hmac-sha512,sha256,cbc,ctr,gcm,ccm,cmac,gmac,cbc+hmac-sha256";
+    static char sizes[] = "64,256,1500", jobs[] = "null,hmac-sha1,hmac-sha1-states,hmac-sha256,hmac-sha256-states,hmac-sha512,"
+                                                  "hmac-sha512-states,sha256,cbc,ctr,gcm,ccm,cmac,gmac,cbc+hmac-sha256";
     memset(s, 0, sizeof *s);
     s->threads = 1;
     s->passes = 40;

@@ -10,7 +10,7 @@ enum { BATCH = 256, MAX_LEN = 65535, TAG_ROOM = 64 };
 
 enum cipher { NO_CIPHER, CBC, CTR, GCM, CCM };
 
-/* The last two are the tags of GCM and CCM, which go with these ciphers. */
+/* Those with STATES are HMACs from stored states. The last two are the tags of GCM and CCM, which go with these ciphers. */
 enum auth {
     NO_AUTH,
     HMAC_SHA_1,
@@ -25,6 +25,11 @@ enum auth {
     SHA_256,
     SHA_384,
     SHA_512,
+    HMAC_SHA_1_STATES,
+    HMAC_SHA_224_STATES,
+    HMAC_SHA_256_STATES,
+    HMAC_SHA_384_STATES,
+    HMAC_SHA_512_STATES,
     GCM_TAG,
     CCM_TAG
 };
@@ -49,8 +54,11 @@ struct keys {
 
 extern const struct keys keys;
 
-/* Whether the authentication is an HMAC. */
+/* Whether the authentication is an HMAC, from a key or from states. */
 bool is_hmac(enum auth auth);
+
+/* Whether it is one from stored states. intel-ipsec-mb has no other ones. */
+bool has_states(enum auth auth);
 
 /* Bytes of the tag. */
 size_t tag_len(const struct work *work);

@@ -4,25 +4,66 @@
 
 static const uint32_t ciphers[] = {MBJ_CIPHER_NULL, MBJ_CIPHER_CBC, MBJ_CIPHER_CNTR, MBJ_CIPHER_GCM, MBJ_CIPHER_CCM};
 
-static const uint32_t auths[] = {MBJ_AUTH_NULL,         MBJ_AUTH_HMAC_SHA_1,   MBJ_AUTH_HMAC_SHA_224, MBJ_AUTH_HMAC_SHA_256,
-                                 MBJ_AUTH_HMAC_SHA_384, MBJ_AUTH_HMAC_SHA_512, MBJ_AUTH_AES_CMAC,     MBJ_AUTH_AES_GMAC,
-                                 MBJ_AUTH_SHA_1,        MBJ_AUTH_SHA_224,      MBJ_AUTH_SHA_256,      MBJ_AUTH_SHA_384,
-                                 MBJ_AUTH_SHA_512,      MBJ_AUTH_GCM,          MBJ_AUTH_AES_CCM};
+static const uint32_t auths[] = {MBJ_AUTH_NULL,
+                                 MBJ_AUTH_HMAC_SHA_1,
+                                 MBJ_AUTH_HMAC_SHA_224,
+                                 MBJ_AUTH_HMAC_SHA_256,
+                                 MBJ_AUTH_HMAC_SHA_384,
+                                 MBJ_AUTH_HMAC_SHA_512,
+                                 MBJ_AUTH_AES_CMAC,
+                                 MBJ_AUTH_AES_GMAC,
+                                 MBJ_AUTH_SHA_1,
+                                 MBJ_AUTH_SHA_224,
+                                 MBJ_AUTH_SHA_256,
+                                 MBJ_AUTH_SHA_384,
+                                 MBJ_AUTH_SHA_512,
+                                 MBJ_AUTH_HMAC_SHA_1_STATES,
+                                 MBJ_AUTH_HMAC_SHA_224_STATES,
+                                 MBJ_AUTH_HMAC_SHA_256_STATES,
+                                 MBJ_AUTH_HMAC_SHA_384_STATES,
+                                 MBJ_AUTH_HMAC_SHA_512_STATES,
+                                 MBJ_AUTH_GCM,
+                                 MBJ_AUTH_AES_CCM};
+
+/* A manager, and the states of the key, which are made before any job is timed. */
+struct started {
+    MBJ_MGR *m;
+    uint8_t states[2 * TAG_ROOM];
+    size_t states_len;
+};
+
+static void make_states(struct started *s, const struct work *work) {
+    static const size_t lens[] = {40, 64, 64, 128, 128};
+    uint32_t hash = (uint32_t)(work->auth - HMAC_SHA_1_STATES);
+    struct mbj_bytes key = {keys.hmac, tag_len(work)};
+    struct mbj_room room = {s->states, sizeof s->states};
+    s->states_len = lens[hash];
+    if (mbj_hmac_states(hash, key, room) != MBJ_ERR_NONE)
+        give_up("no states of the key");
+}
 
 static void *start(const struct library *library, const struct work *work) {
-    MBJ_MGR *m = mbj_alloc_mgr();
+    struct started *s = (struct started *)malloc(sizeof *s);
     (void)library;
-    (void)work;
-    if (m == NULL)
+    if (s == NULL || (s->m = mbj_alloc_mgr()) == NULL)
         give_up("no manager of this library");
-    return m;
+    if (has_states(work->auth))
+        make_states(s, work);
+    return s;
 }
 
 static void end(void *started) {
-    mbj_free_mgr((MBJ_MGR *)started);
+    mbj_free_mgr(((struct started *)started)->m);
+    free(started);
 }
 
-static void fill(MBJ_JOB *job, const struct work *work, struct batch *batch, size_t i) {
+static void fill_auth_key(MBJ_JOB *job, const struct started *s, const struct work *work) {
+    bool is_mac = is_hmac(work->auth);
+    job->auth_key = has_states(work->auth) ? s->states : is_mac ? keys.hmac : keys.aes;
+    job->auth_key_len_in_bytes = has_states(work->auth) ? s->states_len : is_mac ? tag_len(work) : sizeof keys.aes;
+}
+
+static void fill(MBJ_JOB *job, const struct started *s, const struct work *work, struct batch *batch, size_t i) {
     job->cipher_mode = ciphers[work->cipher];
     job->hash_alg = auths[work->auth];
     job->packet = batch->packets[i];
@@ -44,8 +85,7 @@ static void fill(MBJ_JOB *job, const struct work *work, struct batch *batch, siz
         job->aad_len_in_bytes = sizeof keys.aad;
         return;
     }
-    job->auth_key = is_hmac(work->auth) ? keys.hmac : keys.aes;
-    job->auth_key_len_in_bytes = is_hmac(work->auth) ? tag_len(work) : sizeof keys.aes;
+    fill_auth_key(job, s, work);
     job->msg_len_to_hash_in_bytes = batch->lens[i];
 }
 
@@ -56,11 +96,12 @@ static size_t take(const MBJ_JOB *done) {
 }
 
 static void pass(void *started, const struct work *work, struct batch *batch) {
-    MBJ_MGR *m = (MBJ_MGR *)started;
+    const struct started *s = (const struct started *)started;
+    MBJ_MGR *m = s->m;
     const MBJ_JOB *done;
     size_t given = 0;
     for (size_t i = 0; i < BATCH; i++) {
-        fill(mbj_get_next_job(m), work, batch, i);
+        fill(mbj_get_next_job(m), s, work, batch, i);
         for (done = mbj_submit_job(m); done != NULL; done = mbj_get_completed_job(m))
             given += take(done);
     }

@@ -21,7 +21,8 @@ static const IMB_CIPHER_MODE ciphers[] = {IMB_CIPHER_NULL, IMB_CIPHER_CBC, IMB_C
 static const IMB_HASH_ALG auths[] = {IMB_AUTH_NULL,         IMB_AUTH_HMAC_SHA_1,   IMB_AUTH_HMAC_SHA_224, IMB_AUTH_HMAC_SHA_256,
                                      IMB_AUTH_HMAC_SHA_384, IMB_AUTH_HMAC_SHA_512, IMB_AUTH_AES_CMAC,     IMB_AUTH_AES_GMAC_128,
                                      IMB_AUTH_SHA_1,        IMB_AUTH_SHA_224,      IMB_AUTH_SHA_256,      IMB_AUTH_SHA_384,
-                                     IMB_AUTH_SHA_512,      IMB_AUTH_AES_GMAC,     IMB_AUTH_AES_CCM};
+                                     IMB_AUTH_SHA_512,      IMB_AUTH_HMAC_SHA_1,   IMB_AUTH_HMAC_SHA_224, IMB_AUTH_HMAC_SHA_256,
+                                     IMB_AUTH_HMAC_SHA_384, IMB_AUTH_HMAC_SHA_512, IMB_AUTH_AES_GMAC,     IMB_AUTH_AES_CCM};
 
 /* A manager, and what its job interface wants of keys, which is made before any job is timed. */
 struct started {
@@ -44,11 +45,11 @@ static void hash_pad(IMB_MGR *m, const struct work *work, uint8_t pad, uint8_t *
     memset(block, pad, sizeof block);
     for (size_t i = 0; i < tag_len(work); i++)
         block[i] ^= keys.hmac[i];
-    switch (work->auth) {
-    case HMAC_SHA_1: IMB_SHA1_ONE_BLOCK(m, block, hash); return;
-    case HMAC_SHA_224: IMB_SHA224_ONE_BLOCK(m, block, hash); return;
-    case HMAC_SHA_256: IMB_SHA256_ONE_BLOCK(m, block, hash); return;
-    case HMAC_SHA_384: IMB_SHA384_ONE_BLOCK(m, block, hash); return;
+    switch (auths[work->auth]) {
+    case IMB_AUTH_HMAC_SHA_1: IMB_SHA1_ONE_BLOCK(m, block, hash); return;
+    case IMB_AUTH_HMAC_SHA_224: IMB_SHA224_ONE_BLOCK(m, block, hash); return;
+    case IMB_AUTH_HMAC_SHA_256: IMB_SHA256_ONE_BLOCK(m, block, hash); return;
+    case IMB_AUTH_HMAC_SHA_384: IMB_SHA384_ONE_BLOCK(m, block, hash); return;
     default: IMB_SHA512_ONE_BLOCK(m, block, hash); return;
     }
 }

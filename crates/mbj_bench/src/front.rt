@@ -7,6 +7,7 @@ use crate::clock::{fastest, nanos_since};
 use crate::kinds::{HMAC_KEY, IV, MOST_BYTES, aes_key};
 use crate::line::{hundredths, print_name, print_ratio};
 use crate::making::{null_job, put_auth, put_cipher};
+use mbj_keys::Keys;
 use mbj_types::{Auth, Cipher, Done, Job};
 use mbj_work::{OpenGate, run_private, run_shared};
 use std::alloc::{AllocError, Global};
@@ -130,7 +131,17 @@ fn run<R: Threads + Wait + Sync>(
     requires few { length lists.items ≤ MOST_PARTIES }
 {
     match crew.1 {
-        Some(workers) => run_shared(rt, alloc, lists, workers.min(MOST_PARTIES), &OpenGate),
+        Some(workers) => {
+            let keys = Keys::new(alloc, Vec::new(alloc))?;
+            run_shared(
+                rt,
+                alloc,
+                &keys,
+                lists,
+                workers.min(MOST_PARTIES),
+                &OpenGate,
+            )
+        }
         None => run_private(rt, alloc, lists),
     }
 }

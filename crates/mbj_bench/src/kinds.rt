@@ -9,7 +9,10 @@ use mbj_aes::Schedule;
 use mbj_cbc::{CbcEntry, CbcKernel, encrypt_in_place};
 use mbj_ccm::{CcmEntry, CcmKernel};
 use mbj_cmac::{CmacEntry, CmacKernel, cmac_plain};
-use mbj_hmac::{HmacEntry, HmacKernel, LaneHash, Sha1Lanes, Sha256Lanes, Sha512Lanes, hmac_plain};
+use mbj_hmac::{
+    HmacEntry, HmacKernel, LaneHash, MAX_BLOCK_BYTES, Sha1Lanes, Sha256Lanes, Sha512Lanes,
+    hmac_plain,
+};
 use mbj_lane::Kernel;
 use mbj_types::{Auth, BLOCK_BYTES};
 
@@ -135,11 +138,24 @@ pub trait TimedHash: LaneHash {
     fn auth() -> Auth
         ensures served { IsTrue (serves_auth Self.chaining result) }
         ensures hmac { IsHmac result };
+
+    /// An entry of the HMAC from states, which are the first of these bytes, over the first `len` bytes of the packet.
+    fn from_states(states: &[u8; MAX_BLOCK_BYTES], packet: Vec<u8>, len: u32) -> HmacEntry<Self>
+        requires { len ≤ length packet.items }
+        ensures { 1 ≤ result.rest };
 }
 
 impl TimedHash for Sha1Lanes {
     fn auth() -> Auth {
         Auth::HmacSha1
+    }
+
+    fn from_states(
+        states: &[u8; MAX_BLOCK_BYTES],
+        packet: Vec<u8>,
+        len: u32,
+    ) -> HmacEntry<Sha1Lanes> {
+        HmacEntry::new_from_states(Auth::HmacSha1States, &states[..40], packet, 0, len)
     }
 }
 
@@ -147,11 +163,27 @@ impl TimedHash for Sha256Lanes {
     fn auth() -> Auth {
         Auth::HmacSha256
     }
+
+    fn from_states(
+        states: &[u8; MAX_BLOCK_BYTES],
+        packet: Vec<u8>,
+        len: u32,
+    ) -> HmacEntry<Sha256Lanes> {
+        HmacEntry::new_from_states(Auth::HmacSha256States, &states[..64], packet, 0, len)
+    }
 }
 
 impl TimedHash for Sha512Lanes {
     fn auth() -> Auth {
         Auth::HmacSha512
+    }
+
+    fn from_states(
+        states: &[u8; MAX_BLOCK_BYTES],
+        packet: Vec<u8>,
+        len: u32,
+    ) -> HmacEntry<Sha512Lanes> {
+        HmacEntry::new_from_states(Auth::HmacSha512States, &states[..128], packet, 0, len)
     }
 }
 

@@ -1,5 +1,5 @@
 //! Full lists of entries, from their making to their packets' return, beside the plain functions on the same packets.
-ghost use Rattle.std.specs.Prelude.{◌≤◌, All};
+ghost use Rattle.std.specs.Prelude.{◌≤◌, All, IfSome};
 
 use crate::clock::{fastest, nanos_since};
 use crate::jobs::{SHARE, Work};
@@ -21,54 +21,60 @@ use std::{io, mem};
 pub const LENGTHS: [usize; 3] = [64, 256, MOST_BYTES];
 
 /// The bytes of one pass, and the passes of which the fastest counts.
-const PASS_BYTES: usize = 262_144;
+pub const PASS_BYTES: usize = 262_144;
 
-const PASSES: u32 = 40;
+pub const PASSES: u32 = 40;
 
 /// Entries in a list, each of which has a round left.
-struct Filled<K: Timed> {
+pub struct Filled<K: Timed> {
     lanes: Lanes<K>,
     ghost rests: { All (λ e. 1 ≤ K.rest_of e) lanes.entries.items },
 }
 
 impl<K: Timed> Filled<K> {
-    /// The entry of a packet, which moves into it, joins the list where a lane is free.
-    fn enter(&mut self, packet: Vec<u8>) {
+    pub fn new(alloc: Global) -> Result<Filled<K>, AllocError> {
+        Ok(Filled {
+            lanes: Lanes::<K>::new(alloc)?,
+        })
+    }
+
+    /// An entry joins the list where a lane is free.
+    pub fn enter(&mut self, entry: Option<K::Entry>)
+        requires { IfSome entry (λ e. 1 ≤ K.rest_of e) }
+    {
         if self.lanes.len() < K::LANES {
-            if let Some(entry) = K::entry(packet) {
+            if let Some(entry) = entry {
                 self.lanes.enter(entry);
             }
         }
     }
-}
 
-/// The packets go into the entries of a list; empty ones stand in their places.
-fn list_of<K: Timed>(alloc: Global, packets: &mut [Vec<u8>]) -> Result<Filled<K>, AllocError> {
-    let mut list = Filled {
-        lanes: Lanes::<K>::new(alloc)?,
-    };
-    for packet in packets.iter_mut() {
-        list.enter(mem::replace(packet, Vec::new(alloc)));
-    }
-    Ok(list)
-}
-
-/// Leads a full list to its end: all entries are over as many bytes, so that one run does. The packets come back, and the
-/// answer is a byte that the results depend on.
-fn run_list<K: Timed>(alloc: Global, packets: &mut [Vec<u8>]) -> Result<u8, AllocError> {
-    let Filled { mut lanes } = list_of::<K>(alloc, packets)?;
-    if lanes.len() > 0 {
-        lanes.run_shortest();
-    }
-    let mut sum = 0;
-    for packet in packets.iter_mut() {
-        if let Some(entry) = lanes.take_finished() {
-            let (back, byte) = K::ended(entry);
-            *packet = back;
-            sum ^= byte;
+    /// Leads the list to its end: all entries are over as many bytes, so that one run does. The packets come back, and the
+    /// answer is a byte that the results depend on.
+    pub fn end(self, packets: &mut [Vec<u8>]) -> u8 {
+        let Filled { mut lanes } = self;
+        if lanes.len() > 0 {
+            lanes.run_shortest();
         }
+        let mut sum = 0;
+        for packet in packets.iter_mut() {
+            if let Some(entry) = lanes.take_finished() {
+                let (back, byte) = K::ended(entry);
+                *packet = back;
+                sum ^= byte;
+            }
+        }
+        sum
     }
-    Ok(sum)
+}
+
+/// The packets go through the entries of a full list; empty ones stand in their places meanwhile.
+fn run_list<K: Timed>(alloc: Global, packets: &mut [Vec<u8>]) -> Result<u8, AllocError> {
+    let mut list = Filled::<K>::new(alloc)?;
+    for packet in packets.iter_mut() {
+        list.enter(K::entry(mem::replace(packet, Vec::new(alloc))));
+    }
+    Ok(list.end(packets))
 }
 
 /// The plain function on each packet.

@@ -15,6 +15,8 @@ mod kinds;
 mod line;
 mod lists;
 mod making;
+mod sessions;
+mod states;
 mod vector;
 
 use std::alloc::Global;
@@ -35,7 +37,9 @@ fn print_times<R: Threads + Wait + Sync + Clock + Print>(rt: &R, alloc: Global) 
     ghash::print_times(rt)?;
     aes::print_times(rt)?;
     lists::print_times(rt, alloc)?;
+    states::print_times(rt, alloc)?;
     jobs::print_times(rt, alloc)?;
+    sessions::print_times(rt, alloc)?;
     front::print_times(rt, alloc)?;
     idle::print_times(rt, alloc)
 }
