@@ -43,7 +43,7 @@ major := $(call number,MAJOR)
 version := $(major).$(call number,MINOR).$(call number,PATCH)
 
 # The functions that the header declares and doesn't define.
-exports := $(shell sed -n 's/^[a-z].*[ *]\(mbj_c_[a-z_]*\).*;$$/\1/p' include/mbj.h)
+exports := $(shell sed -n 's/^[a-z].*[ *]\(mbj_[a-z_]*\)(.*);$$/\1/p' include/mbj.h)
 
 static := libmbj_c.a
 shared := libmbj_c.so.$(major)
@@ -143,7 +143,7 @@ CMAKEDIR := $(LIBDIR)/cmake/mbj
 HWCAPSDIR := $(LIBDIR)/glibc-hwcaps/$(avx2)
 
 headers := include/mbj.h include/mbj_heap.h include/mbj_heap_pool.h include/mbj_selftest.h
-documents := README.md $(wildcard docs/*.md)
+documents := README.md CHANGELOG.md $(wildcard docs/*.md)
 examples := $(wildcard examples/c/*.c) $(wildcard include/mbj_heap*.c) include/mbj_symbols.c include/mbj_selftest.c
 described := $(LIBDIR)/pkgconfig/mbj.pc $(LIBDIR)/pkgconfig/mbj-static.pc $(CMAKEDIR)/mbjConfig.cmake $(CMAKEDIR)/mbjConfigVersion.cmake
 
@@ -153,7 +153,7 @@ $(call $(1),644,$(headers),$(INCLUDEDIR))
 $(call $(1),644,$(main)/$(static),$(LIBDIR))
 $(call $(1),755,$(main)/$(shared),$(LIBDIR))
 $(call $(1),755,$(beside:%=%/$(shared)),$(HWCAPSDIR))
-$(call $(1),644,docs/mbjobs.1,$(MANDIR)/man1)
+$(call $(1),644,man/mbjobs.1,$(MANDIR)/man1)
 $(call $(1),644,$(documents),$(DOCDIR))
 $(call $(1),644,$(examples),$(DOCDIR)/examples)
 endef
