@@ -202,6 +202,93 @@ static void a_hash_goes_with_a_cipher(MBJ_MGR *m) {
     }
 }
 
+struct states_answer {
+    const char *states, *tag;
+};
+
+/* The states of the key "Jefe", as OpenSSL's SHA_CTX, SHA256_CTX and SHA512_CTX hold them behind its two padded blocks, and the tags of RFC
+ * 2202 and RFC 4231, test case 2 of each. */
+static const struct states_answer states_answers[] = {
+    {"624d8ea73f2b18039554b9e428c065f5a9fcb98e2088372af50610a1f82f8b058e4bfe32280b4e35",
+     "effcdf6ae5eb2fa2d27416d5f184df9c259a7c79"},
+    {"2416bc4e891b2f075a8308bbf070325b57a449561ad88a5111b2f40d08f36dc31815cdb2f5dae633fca74429cbf26349ce1bbbda75fa80ba3b31cfd50cba3793",
+     "a30e01098bc6dbbf45690f3a7e9e6d0f8bbea2a39e6148008fd05e44"},
+    {"655da7facc434b375a1cd5cb0692ee0ea47a23d34c3af449dba21ae278c7500c0eafe3d513412e6c6a6a2feb2d375acc51a4fd476db095e823bfa18a52f141d5",
+     "5bdcc146bf60754e6a042426089575c75a003f089d2739839dec58b964ec3843"},
+    {"4c5a1477b96dac421d6b3e71995138ee0217c0bf8fd468eface9b9f66c4f636966fbef38997a43610a39452721baeaa20c4d56fa1845f2165c1a73d501367d0967ddf91bc4617ed0172844b4e9c60f49ff78d941b8d419c47f70323be6fabdf1e5660783a439c29089d97512293159a0d5f6e8dba8b7922c89df3f9f7b72595d",
+     "af45d2e376484031617f78d2b58a6b1b9c7ef464f5a01b47e42ec3736322445e8e2240ca5e69e2c78b3239ecfab21649"},
+    {"d54c8054e3fafc6e52d18d7d18db608cf31b9122d16aa4cb02a0806a364882bebff036bc022388dab407cb5e93ac39dd8fe17f83da82db3741387c0228cdd7b383d8dbc75ec49d77d535857580406c07bb10239361eb94ed9f7e08acb483074c323fc8bd79797b65d89aac55f50a9028c174b5c89503ead315e05f915d5ceb81",
+     "164b7a7bfcf819e2e395fbe73b56e0a387bd64222e831fd610270cd7ea2505549758bf75c05a994a6d034f65f8f0e6fdcaeab1a34d4a6b4b636e070a38bce737"},
+};
+
+static struct mbj_bytes bytes_at(const uint8_t *at, size_t len) {
+    struct mbj_bytes bytes = {at, len};
+    return bytes;
+}
+
+static struct mbj_room room_at(uint8_t *at, size_t len) {
+    struct mbj_room room = {at, len};
+    return room;
+}
+
+/* The states are made of the key, into room that just holds them; the room behind them stays, and too short room is refused. */
+static void states_are_made(void) {
+    static const uint8_t key[] = {'J', 'e', 'f', 'e'};
+    for (uint32_t hash = MBJ_HASH_SHA_1; hash <= MBJ_HASH_SHA_512; hash++) {
+        struct text states = bytes_of(states_answers[hash].states);
+        uint8_t out[ROOM];
+        for (size_t len = states.len; len <= ROOM; len += ROOM - states.len) {
+            memset(out, 0xee, sizeof out);
+            CHECK(mbj_hmac_states(hash, bytes_at(key, sizeof key), room_at(out, len)) == MBJ_ERR_NONE);
+            CHECK(is_same(out, &states) && is_all(out + states.len, sizeof out - states.len, 0xee));
+        }
+        memset(out, 0xee, sizeof out);
+        CHECK(mbj_hmac_states(hash, bytes_at(key, sizeof key), room_at(out, states.len - 1)) == MBJ_ERR_NO_ROOM);
+        CHECK(mbj_hmac_states(MBJ_HASH_SHA_512 + 1, bytes_at(key, sizeof key), room_at(out, ROOM)) == MBJ_ERR_WORD);
+        CHECK(is_all(out, sizeof out, 0xee));
+    }
+}
+
+/* The inner state is the one behind the key, filled with zero bytes to a block and xored with 0x36. */
+static void one_block_is_hashed(void) {
+    for (uint32_t hash = MBJ_HASH_SHA_1; hash <= MBJ_HASH_SHA_512; hash++) {
+        struct text states = bytes_of(states_answers[hash].states);
+        size_t block_len = hash <= MBJ_HASH_SHA_256 ? 64 : 128, state_len = states.len / 2;
+        uint8_t block[128 + 1] = {'J', 'e', 'f', 'e'}, out[ROOM];
+        for (size_t i = 0; i < sizeof block; i++)
+            block[i] ^= 0x36;
+        memset(out, 0xee, sizeof out);
+        for (size_t len = block_len - 1; len <= block_len + 1; len += 2)
+            CHECK(mbj_one_block(hash, bytes_at(block, len), room_at(out, ROOM)) == MBJ_ERR_TEXT_LENGTH);
+        CHECK(mbj_one_block(hash, bytes_at(block, block_len), room_at(out, state_len - 1)) == MBJ_ERR_NO_ROOM);
+        CHECK(mbj_one_block(MBJ_HASH_SHA_512 + 1, bytes_at(block, block_len), room_at(out, ROOM)) == MBJ_ERR_WORD);
+        CHECK(is_all(out, sizeof out, 0xee));
+        CHECK(mbj_one_block(hash, bytes_at(block, block_len), room_at(out, state_len)) == MBJ_ERR_NONE);
+        CHECK(memcmp(out, states.at, state_len) == 0 && is_all(out + state_len, sizeof out - state_len, 0xee));
+    }
+}
+
+static void states_answers_come_out(MBJ_MGR *m) {
+    static const char message[] = "what do ya want for nothing?";
+    for (uint32_t hash = MBJ_AUTH_HMAC_SHA_1_STATES; hash <= MBJ_AUTH_HMAC_SHA_512_STATES; hash++) {
+        const struct states_answer *answer = &states_answers[hash - MBJ_AUTH_HMAC_SHA_1_STATES];
+        struct text states = bytes_of(answer->states), wanted = bytes_of(answer->tag), packet = {{0xff}, sizeof message - 1 + 2};
+        memcpy(packet.at + 1, message, sizeof message - 1);
+        uint8_t tag[MBJ_MAX_TAG_BYTES];
+        for (size_t len = states.len - 1; len <= states.len + 1; len++) {
+            MBJ_JOB *job = mbj_get_next_job(m);
+            fill_hash(job, hash, packet.at, packet.len, tag, wanted.len);
+            job->auth_key = states.at;
+            job->auth_key_len_in_bytes = len;
+            CHECK(finish(m) == job);
+            if (len == states.len)
+                CHECK(is_done(job) && memcmp(tag, wanted.at, wanted.len) == 0);
+            else
+                CHECK(is_refused(job, MBJ_REASON_AUTH_KEY));
+        }
+    }
+}
+
 struct gmac_answer {
     const char *key, *iv, *text, *tag;
 };
@@ -385,6 +472,9 @@ int main(void) {
     ccm_is_sealed_in_lanes(m);
     digests_come_out(m);
     a_hash_goes_with_a_cipher(m);
+    states_answers_come_out(m);
+    states_are_made();
+    one_block_is_hashed();
     gmac_answers_come_out(m);
     ccm_is_refused(m);
     ccm_takes_its_longest_aad(m);

@@ -91,7 +91,7 @@ static void draw_pair(struct source *s, MBJ_JOB *job) {
 }
 
 static void draw_codes(struct source *s, MBJ_JOB *job) {
-    static const uint32_t bad[] = {MBJ_CIPHER_CCM + 1, MBJ_AUTH_SHA_512 + 1, 20, 255, 256, UINT32_MAX};
+    static const uint32_t bad[] = {MBJ_CIPHER_CCM + 1, MBJ_AUTH_HMAC_SHA_512_STATES + 1, 22, 255, 256, UINT32_MAX};
     draw_pair(s, job);
     job->cipher_direction = draw(s, 2);
     job->chain_order = draw(s, 2);

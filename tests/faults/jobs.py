@@ -11,6 +11,8 @@ HASHES = {**HMACS, **{digest: digest for digest in DIGESTS}}
 CMACS = {"cmac128": 16, "cmac256": 32}
 # Ciphers that make the tag too.
 AEADS = {"gcm": gcm, "ccm": ccm}
+KEY_SIZES = (16, 24, 32)
+MAX_SESSIONS = 256
 FIELDS = "cipher dir order key iv coff clen auth akey aad hoff hlen taglen packet".split()
 
 
@@ -30,11 +32,11 @@ def reason(job):
     rows = [
         length > 65535,
         any((cipher == aead) != (auth == aead) for aead in AEADS) or auth == "gmac" and cipher != "null",
-        cipher != "null" and len(job["key"]) not in (16, 24, 32),
+        cipher != "null" and len(job["key"]) not in KEY_SIZES,
         takes_iv != "null" and iv not in ivs[takes_iv],
         cipher != "null" and job["coff"] + text > length,
         cipher == "cbc" and (text == 0 or text % 16 != 0) or cipher == "ctr" and text == 0,
-        auth in CMACS and key != CMACS[auth] or auth in HMACS and key > 1024 or auth == "gmac" and key not in (16, 24, 32),
+        auth in CMACS and key != CMACS[auth] or auth in HMACS and key > 1024 or auth == "gmac" and key not in KEY_SIZES,
         hashes and job["hoff"] + job["hlen"] > length,
         cipher in AEADS and len(job["aad"]) > {"gcm": 65535, "ccm": 65279}[cipher],
         tag not in tags,
@@ -110,7 +112,22 @@ def bytes_of(field):
     return bytes.fromhex(field.decode()) if good else None
 
 
-def value_of(name, field):
+def session_key(line, fields, sessions):
+    """The key of a session line behind this many others."""
+    if sessions == MAX_SESSIONS:
+        raise BadLine(line, 1)
+    if len(fields) != 2:
+        raise BadLine(line, 0)
+    key = bytes_of(fields[1])
+    if key is None or len(key) not in KEY_SIZES:
+        raise BadLine(line, 2)
+    return key
+
+
+def value_of(name, field, keys):
+    if name == "key" and field.startswith(b"@"):
+        number = number_of(field[1:], len(keys) - 1)
+        return None if number is None else keys[number]
     if name in WORDS:
         return field.decode("latin-1") if field.decode("latin-1") in WORDS[name] else None
     if name in ("coff", "clen", "hoff", "hlen", "taglen"):
@@ -118,11 +135,10 @@ def value_of(name, field):
     return bytes_of(field)
 
 
-def job_of(line, content):
-    fields = content.split(b" ")
+def job_of(line, fields, keys):
     if len(fields) != 14:
         raise BadLine(line, 0)
-    values = [value_of(name, field) for name, field in zip(FIELDS, fields)]
+    values = [value_of(name, field, keys) for name, field in zip(FIELDS, fields)]
     if None in values:
         raise BadLine(line, values.index(None) + 1)
     return dict(zip(FIELDS, values))
@@ -146,7 +162,7 @@ def read(text, parties=None):
     """The jobs of a file, and the commands of its script, where it may have one."""
     pieces = text.split(b"\n")
     pieces = pieces if pieces[-1] else pieces[:-1]
-    jobs, commands, in_script = [], [], False
+    keys, jobs, commands, in_script = [], [], [], False
     for line, content in enumerate(pieces, 1):
         content = content[:-1] if content.endswith(b"\r") else content
         if not content or content.startswith(b"#"):
@@ -155,6 +171,8 @@ def read(text, parties=None):
             commands.append(command_of(line, content, *parties))
         elif parties and content == b"%":
             in_script = True
+        elif content.split(b" ")[0] == b"session":
+            keys.append(session_key(line, content.split(b" "), len(keys)))
         else:
-            jobs.append(job_of(line, content))
+            jobs.append(job_of(line, content.split(b" "), keys))
     return jobs, commands

@@ -74,8 +74,26 @@ def written(value):
     return value.hex() or "-" if isinstance(value, bytes) else str(value)
 
 
+def fields_of(job):
+    return [written(job[name]) for name in FIELDS]
+
+
 def file_of(jobs):
-    return "".join(" ".join(written(job[name]) for name in FIELDS) + "\n" for job in jobs).encode()
+    return "".join(" ".join(fields_of(job)) + "\n" for job in jobs).encode()
+
+
+def file_with_sessions(jobs, draws):
+    """The lines of the jobs. A part of those with a cipher name a session, and some of these have the line of a new session before them."""
+    keys, lines = [], []
+    for job in jobs:
+        fields, choice = fields_of(job), draws.byte() % 3
+        if job["cipher"] != "null" and choice > 0:
+            if choice == 1 or not keys:
+                keys.append(fields[3])
+                lines.append("session " + fields[3])
+            fields[3] = "@%d" % (draws.byte() % len(keys))
+        lines.append(" ".join(fields))
+    return "".join(line + "\n" for line in lines).encode()
 
 
 def gen_text(seed, count):
@@ -122,8 +140,16 @@ def edited_file(command, seed):
     """Three jobs, and behind those of a replay twelve commands, in which up to three bytes are replaced."""
     generator, draws = Draws(seed), Draws(seed + 1000)
     text = file_of([draw_job(generator) for _ in range(3)])
-    if command == "replay":
-        text += b"%\n" + "".join(" ".join(map(str, draw_command(draws))) + "\n" for _ in range(12)).encode()
+    return edited(text + script_for(command, draws), draws)
+
+
+def script_for(command, draws):
+    commands = [draw_command(draws) for _ in range(12)] if command == "replay" else []
+    return b"%\n" + "".join(" ".join(map(str, each)) + "\n" for each in commands).encode() if commands else b""
+
+
+def edited(text, draws):
+    """The text with up to three bytes replaced."""
     text = bytearray(text)
     for _ in range(draws.byte() % 4):
         place = (256 * draws.byte() + draws.byte()) % len(text)
@@ -131,13 +157,29 @@ def edited_file(command, seed):
     return bytes(text)
 
 
+def session_file(command, seed):
+    """Eight jobs, of which a part names sessions, in which up to three bytes are replaced."""
+    generator, draws = Draws(seed), Draws(seed + 2000)
+    text = file_with_sessions([draw_job(generator) for _ in range(8)], draws)
+    return edited(text + script_for(command, draws), draws)
+
+
+def cut_session_file(command, seed):
+    """The same file, cut off anywhere."""
+    text = session_file(command, seed)
+    draws = Draws(seed + 3000)
+    return text[:(65536 * draws.byte() + 256 * draws.byte() + draws.byte()) % (len(text) + 1)]
+
+
 def random():
     """For each command and kind of input, the digest of the statuses and texts of 64 inputs."""
     for command in ("run", "trace", "burst", "replay"):
-        for kind in (random_bytes, edited_file):
+        for kind in KINDS:
             endings = [ending(command, kind(command, seed)) for seed in range(64)]
             print(command, kind.__name__, digest("".join("%d\n%s%s" % each for each in endings)))
 
+
+KINDS = (random_bytes, edited_file, session_file, cut_session_file)
 
 ARGUMENTS = {
     "run": "run --submitters 2 --workers 2", "trace": "trace", "burst": "burst --size 2", "replay": "replay --submitters 3 --workers 2",
@@ -145,7 +187,7 @@ ARGUMENTS = {
 
 
 def compare(program, first, last):
-    inputs = [(command, kind, seed) for command in ARGUMENTS for kind in (random_bytes, edited_file) for seed in range(first, last)]
+    inputs = [(command, kind, seed) for command in ARGUMENTS for kind in KINDS for seed in range(first, last)]
     for command, kind, seed in inputs:
         done = subprocess.run([program, *ARGUMENTS[command].split()], input=kind(command, seed), capture_output=True, check=False)
         if (done.returncode, done.stdout.decode(), done.stderr.decode()) != ending(command, kind(command, seed)):
