@@ -143,7 +143,7 @@ CMAKEDIR := $(LIBDIR)/cmake/mbj
 HWCAPSDIR := $(LIBDIR)/glibc-hwcaps/$(avx2)
 
 headers := include/mbj.h include/mbj_heap.h include/mbj_heap_pool.h include/mbj_selftest.h
-documents := README.md CHANGELOG.md $(wildcard docs/*.md)
+documents := README.md CHANGELOG.md $(wildcard docs/*.md docs/*.svg)
 examples := $(wildcard examples/c/*.c) $(wildcard include/mbj_heap*.c) include/mbj_symbols.c include/mbj_selftest.c
 described := $(LIBDIR)/pkgconfig/mbj.pc $(LIBDIR)/pkgconfig/mbj-static.pc $(CMAKEDIR)/mbjConfig.cmake $(CMAKEDIR)/mbjConfigVersion.cmake
 

@@ -1,5 +1,5 @@
-# Prints 20,000 job lines over packets of 256 bytes: every cipher with every authentication, both directions, both
-# orders, and the three lengths of an AES key. Run it as: awk -f examples/mixed.awk
+# Prints 20,000 job lines over packets of 256 bytes: no cipher, CBC and CTR, each with each HMAC, each CMAC and no authentication, and GCM; in
+# both directions and orders, and with the three lengths of an AES key. Run it as: awk -f examples/mixed.awk
 BEGIN {
     split("null cbc ctr gcm", ciphers)
     split("hmac-sha1 hmac-sha224 hmac-sha256 hmac-sha384 hmac-sha512 cmac128 cmac256 null", auths)
