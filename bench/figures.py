@@ -81,11 +81,11 @@ READERS = {"default": read_time, "avx2": read_time, "c": read_calls, "c-avx2": r
 class Sitting:
     def __init__(self, folder):
         self.figures = {}
-        self.runs = 0
+        self.runs = {}
         for name, reader in READERS.items():
             self.figures[name] = Figures()
             files = sorted(folder.glob(name + ".*"))
-            self.runs = max(self.runs, len(files))
+            self.runs[name] = len(files)
             for file in files:
                 reader(self.figures[name], file.read_text())
         machine = folder / "machine"

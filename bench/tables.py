@@ -326,9 +326,15 @@ TABLES = {
 }
 
 
+BENCHES = {
+    "default": "`mbj_bench`", "avx2": "`mbj_bench` with AVX2", "c": "`bench`", "c-avx2": "`bench-avx2`",
+    "openssl": "`bench/openssl`", "program": "`bench/program.py`",
+}
+
+
 def sitting(s):
-    runs = {0: "?", 1: "One run", 2: "Two runs", 3: "Three runs"}.get(s.runs, f"{s.runs} runs")
-    return [f"{runs} of each bench, by `bench/sitting`:", "", *(f"- {line}" for line in s.machine.splitlines())]
+    runs = ", ".join(f"{s.runs[name] or UNKNOWN} of {bench}" for name, bench in BENCHES.items())
+    return [f"Runs: {runs}.", "", *(f"- {line}" for line in s.machine.splitlines())]
 
 
 def put(text, name, lines):
