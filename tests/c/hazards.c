@@ -177,7 +177,7 @@ static void lengths_beyond_every_limit(MBJ_MGR *m) {
 
 /* One past the last code, and numbers far beyond, in each of the four fields. */
 static void codes_that_are_none(MBJ_MGR *m) {
-    static const uint32_t last[4] = {MBJ_CIPHER_CCM, MBJ_DIR_DECRYPT, MBJ_ORDER_HASH_CIPHER, MBJ_AUTH_SHA_512};
+    static const uint32_t last[4] = {MBJ_CIPHER_CCM, MBJ_DIR_DECRYPT, MBJ_ORDER_HASH_CIPHER, MBJ_AUTH_HMAC_SHA_512_STATES};
     for (int field = 0; field < 4; field++) {
         const uint32_t codes[3] = {last[field] + 1, 255, UINT32_MAX};
         for (int i = 0; i < 3; i++) {
