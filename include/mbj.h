@@ -180,6 +180,13 @@ struct mbj_counts {
     uint32_t waiting;
 };
 
+/* What is told of a burst of calls that may give results back: how many of the calls weren't refused, how many results were given, and
+ * MBJ_ERR_NONE or the refusal of the last call. */
+struct mbj_raw_burst {
+    size_t made, given;
+    uint32_t refusal;
+};
+
 /* The name of a feature that the library was built for and this processor lacks, or NULL where it has them all. Only then may the proved
  * exports be called: the job interface asks before it makes a manager, and a program that calls them itself asks too. This function and the
  * next one aren't proved. */
@@ -205,7 +212,7 @@ uint32_t mbj_c_queue_size(struct mbj_handle *);
 bool mbj_c_count(struct mbj_handle *, uint32_t kind, struct mbj_counts *);
 
 /* Copies a job into the next cell, in place of one that was filled and not submitted, and answers MBJ_ERR_NONE, MBJ_ERR_NO_MANAGER,
- * MBJ_ERR_FULL, MBJ_ERR_WORD or MBJ_ERR_MEMORY. Only this call and mbj_c_new take memory. */
+ * MBJ_ERR_FULL, MBJ_ERR_WORD or MBJ_ERR_MEMORY. Only this call, its burst and mbj_c_new take memory. */
 uint32_t mbj_c_fill(struct mbj_handle *, const struct mbj_raw_job *);
 
 /* The three calls that may give the earliest job's result: true where one is given, which is then written whole, and false else,
@@ -214,6 +221,21 @@ uint32_t mbj_c_fill(struct mbj_handle *, const struct mbj_raw_job *);
 bool mbj_c_submit(struct mbj_handle *, struct mbj_raw_done *, uint32_t *refusal);
 bool mbj_c_get_completed(struct mbj_handle *, struct mbj_raw_done *, uint32_t *refusal);
 bool mbj_c_flush(struct mbj_handle *, struct mbj_raw_done *, uint32_t *refusal);
+
+/* Bursts: what so many single calls do, one after another, by one call. No array is at NULL, even where it has no element.
+ *
+ * Copies jobs into the next cells, one behind another, the first one in place of a job that was filled and not submitted. Answers how many
+ * are filled, and writes to each job's place in refusals what mbj_c_fill answers, MBJ_ERR_FULL where no cell is left behind those that the
+ * burst filled. A job that is refused takes no cell, and the jobs behind it are filled. As many jobs are looked at as there are places for
+ * refusals. This call takes memory as mbj_c_fill does. */
+uint32_t mbj_c_fill_burst(struct mbj_handle *, const struct mbj_raw_job *jobs, size_t jobs_len, uint32_t *refusals, size_t refusals_len);
+
+/* Makes the single call of the name as many times as there are rooms. The results that are given go to the rooms in order, and the rooms
+ * behind them stay as they were. Each call wants room for the result that comes next, as a single one does. No two rooms of a burst
+ * overlap. */
+void mbj_c_submit_burst(struct mbj_handle *, struct mbj_raw_done *rooms, size_t rooms_len, struct mbj_raw_burst *);
+void mbj_c_get_completed_burst(struct mbj_handle *, struct mbj_raw_done *rooms, size_t rooms_len, struct mbj_raw_burst *);
+void mbj_c_flush_burst(struct mbj_handle *, struct mbj_raw_done *rooms, size_t rooms_len, struct mbj_raw_burst *);
 
 /* The next two calls need no manager: they take no memory, and any threads may make them at once. Each answers MBJ_ERR_NONE, or a refusal,
  * and then writes nothing: MBJ_ERR_WORD where the hash is none, MBJ_ERR_NO_ROOM where the room is shorter than what is written. Room that
@@ -237,6 +259,7 @@ MBJ_ASSERT_(offsetof(struct mbj_raw_job, cipher_off) == 96 && offsetof(struct mb
 MBJ_ASSERT_(sizeof(struct mbj_raw_done) == 56 && offsetof(struct mbj_raw_done, dst_len) == 32);
 MBJ_ASSERT_(offsetof(struct mbj_raw_done, tag_len) == 40 && offsetof(struct mbj_raw_done, reason) == 48);
 MBJ_ASSERT_(sizeof(struct mbj_counts) == 32 && offsetof(struct mbj_counts, waiting) == 24);
+MBJ_ASSERT_(sizeof(struct mbj_raw_burst) == 24 && offsetof(struct mbj_raw_burst, refusal) == 16);
 
 /* ---- the job interface ---- */
 
@@ -285,11 +308,11 @@ struct mbj_slot {
     uint32_t reason; /* one of the job interface's own, or 0 */
 };
 
-/* A manager and its jobs: those from first on, below next, are submitted and not given back. */
+/* A manager and its jobs: those from first on, below next, are submitted and not given back, and so many from next on are handed out and
+ * not submitted. */
 typedef struct mbj_mgr {
     struct mbj_handle handle;
-    uint32_t first, next, error;
-    bool is_lent; /* the job at next was handed out and isn't submitted */
+    uint32_t first, next, error, lent;
     struct mbj_slot slots[MBJ_MAX_JOBS];
     MBJ_JOB jobs[MBJ_MAX_JOBS];
 } MBJ_MGR;
@@ -369,7 +392,7 @@ MBJ_API enum mbj_refusal mbj_init_mgr(MBJ_MGR *m) {
         return MBJ_ERR_NULL;
     m->handle.at = NULL;
     m->first = m->next = 0;
-    m->is_lent = false;
+    m->lent = 0;
     m->error = mbj_make_(&m->handle);
     return (enum mbj_refusal)m->error;
 }
@@ -422,21 +445,29 @@ static inline void mbj_make_blank_(MBJ_JOB *job) {
     job->reason = MBJ_REASON_NONE;
 }
 
-/* Hands out the next job: a blank one, or the one that was handed out and isn't submitted yet. NULL with MBJ_ERR_FULL where MBJ_MAX_JOBS jobs
- * are submitted and not given back: nothing is forced then, so flush one. */
-MBJ_API MBJ_JOB *mbj_get_next_job(MBJ_MGR *m) {
+/* Hands out up to n jobs, to be submitted in their order, and answers how many: first those that were handed out and aren't submitted yet,
+ * as they are, and then blank ones. They are fewer than n where fewer are left, and 0 with MBJ_ERR_FULL where MBJ_MAX_JOBS jobs are
+ * submitted and not given back: nothing is forced then, so flush some. */
+MBJ_API uint32_t mbj_get_next_burst(MBJ_MGR *m, uint32_t n, MBJ_JOB **jobs) {
     if (m == NULL)
-        return NULL;
-    if (m->next - m->first == MBJ_MAX_JOBS) {
-        m->error = MBJ_ERR_FULL;
-        return NULL;
+        return 0;
+    uint32_t left = MBJ_MAX_JOBS - (m->next - m->first), count = n < left ? n : left;
+    m->error = left == 0 ? MBJ_ERR_FULL : MBJ_ERR_NONE;
+    for (uint32_t i = 0; i < count; i++) {
+        jobs[i] = &m->jobs[(m->next + i) % MBJ_MAX_JOBS];
+        if (i >= m->lent)
+            mbj_make_blank_(jobs[i]);
     }
-    MBJ_JOB *job = &m->jobs[m->next % MBJ_MAX_JOBS];
-    m->error = MBJ_ERR_NONE;
-    if (!m->is_lent)
-        mbj_make_blank_(job);
-    m->is_lent = true;
-    return job;
+    if (count > m->lent)
+        m->lent = count;
+    return count;
+}
+
+/* Hands out the next job: a blank one, or the first one that was handed out and isn't submitted yet. NULL with MBJ_ERR_FULL where
+ * MBJ_MAX_JOBS jobs are submitted and not given back: nothing is forced then, so flush one. */
+MBJ_API MBJ_JOB *mbj_get_next_job(MBJ_MGR *m) {
+    MBJ_JOB *job = NULL;
+    return mbj_get_next_burst(m, 1, &job) == 0 ? NULL : job;
 }
 
 static inline bool mbj_has_cipher_(const MBJ_JOB *job) {
@@ -540,31 +571,45 @@ static inline void mbj_note_slot_(struct mbj_slot *slot, const MBJ_JOB *job, uin
     slot->reason = reason;
 }
 
-/* A result as it is given: its tag beside the job's own, since that may lie within what was ciphered. */
-struct mbj_given_ {
-    struct mbj_raw_done done;
-    uint8_t tag[MBJ_MAX_TAG_BYTES];
-    uint8_t none[1];
-};
+/* The job at this place as the library takes it, and where its result goes. */
+static inline void mbj_say_place_(struct mbj_raw_job *raw, MBJ_MGR *m, uint32_t place) {
+    const MBJ_JOB *job = &m->jobs[place];
+    uint32_t reason = mbj_own_reason_(job);
+    if (reason == MBJ_REASON_NONE)
+        mbj_say_(raw, job);
+    else
+        mbj_say_refused_(raw);
+    mbj_note_slot_(&m->slots[place], job, reason);
+}
 
-static inline void mbj_make_room_(struct mbj_given_ *given, const MBJ_MGR *m) {
-    const struct mbj_slot *slot = &m->slots[m->first % MBJ_MAX_JOBS];
-    given->done.dst.at = slot->dst_len != 0 ? slot->dst : given->none;
-    given->done.dst.len = slot->dst_len;
-    given->done.tag.at = given->tag;
-    given->done.tag.len = MBJ_MAX_TAG_BYTES;
+/* Room for the result that is given back behind so many others. Its tag goes beside the job's own first, since that may lie within what was
+ * ciphered. */
+static inline void mbj_make_room_(struct mbj_raw_done *done, uint8_t *tag, const MBJ_MGR *m, uint32_t behind) {
+    const struct mbj_slot *slot = &m->slots[(m->first + behind) % MBJ_MAX_JOBS];
+    done->dst.at = slot->dst_len != 0 ? slot->dst : tag;
+    done->dst.len = slot->dst_len;
+    done->tag.at = tag;
+    done->tag.len = MBJ_MAX_TAG_BYTES;
 }
 
 /* The job whose result was given: what was ciphered is written, and now its tag. */
-static inline MBJ_JOB *mbj_give_back_(MBJ_MGR *m, const struct mbj_given_ *given) {
+static inline MBJ_JOB *mbj_give_back_(MBJ_MGR *m, const struct mbj_raw_done *done) {
     uint32_t place = m->first++ % MBJ_MAX_JOBS;
     MBJ_JOB *job = &m->jobs[place];
     const struct mbj_slot *slot = &m->slots[place];
-    if (given->done.tag_len != 0 && given->done.tag_len <= slot->tag_len)
-        memcpy(slot->tag, given->tag, given->done.tag_len);
-    job->status = given->done.status == 0 ? MBJ_STATUS_COMPLETED : MBJ_STATUS_INVALID_ARGS;
-    job->reason = slot->reason != MBJ_REASON_NONE ? slot->reason : given->done.reason;
+    if (done->tag_len != 0 && done->tag_len <= slot->tag_len)
+        memcpy(slot->tag, done->tag.at, done->tag_len);
+    job->status = done->status == 0 ? MBJ_STATUS_COMPLETED : MBJ_STATUS_INVALID_ARGS;
+    job->reason = slot->reason != MBJ_REASON_NONE ? slot->reason : done->reason;
     return job;
+}
+
+/* The first n jobs that are handed out are submitted. */
+static inline void mbj_note_submitted_(MBJ_MGR *m, uint32_t n) {
+    for (uint32_t i = 0; i < n; i++)
+        m->jobs[(m->next + i) % MBJ_MAX_JOBS].status = MBJ_STATUS_BEING_PROCESSED;
+    m->next += n;
+    m->lent -= n;
 }
 
 /* The job stays handed out. */
@@ -574,14 +619,14 @@ static inline MBJ_JOB *mbj_not_submitted_(MBJ_MGR *m, MBJ_JOB *job, uint32_t ref
     return NULL;
 }
 
-/* Submits the job that was handed out, and gives the earliest job back where that is finished: with MBJ_STATUS_COMPLETED, or with
- * MBJ_STATUS_INVALID_ARGS where it was refused. NULL with MBJ_ERR_NONE where none is finished. Any other error says that no job was
- * submitted: MBJ_ERR_NO_MANAGER, MBJ_ERR_NO_JOB where none was handed out, or MBJ_ERR_MEMORY, after which the job may be submitted
- * again. */
+/* Submits the job that was handed out, the first one where there are several, and gives the earliest job back where that is finished: with
+ * MBJ_STATUS_COMPLETED, or with MBJ_STATUS_INVALID_ARGS where it was refused. NULL with MBJ_ERR_NONE where none is finished. Any other
+ * error says that no job was submitted: MBJ_ERR_NO_MANAGER, MBJ_ERR_NO_JOB where none was handed out, or MBJ_ERR_MEMORY, after which the
+ * job may be submitted again. */
 MBJ_API MBJ_JOB *mbj_submit_job(MBJ_MGR *m) {
     if (m == NULL)
         return NULL;
-    if (!m->is_lent) {
+    if (m->lent == 0) {
         m->error = MBJ_ERR_NO_JOB;
         return NULL;
     }
@@ -589,26 +634,20 @@ MBJ_API MBJ_JOB *mbj_submit_job(MBJ_MGR *m) {
     MBJ_JOB *job = &m->jobs[place];
     if (!mbj_is_made_(m))
         return mbj_not_submitted_(m, job, MBJ_ERR_NO_MANAGER);
-    uint32_t reason = mbj_own_reason_(job);
     struct mbj_raw_job raw;
-    if (reason == MBJ_REASON_NONE)
-        mbj_say_(&raw, job);
-    else
-        mbj_say_refused_(&raw);
+    mbj_say_place_(&raw, m, place);
     uint32_t refusal = mbj_c_fill(&m->handle, &raw);
     if (refusal != MBJ_ERR_NONE)
         return mbj_not_submitted_(m, job, refusal);
-    mbj_note_slot_(&m->slots[place], job, reason);
-    struct mbj_given_ given;
-    mbj_make_room_(&given, m);
-    bool is_given = mbj_c_submit(&m->handle, &given.done, &refusal);
+    struct mbj_raw_done done;
+    uint8_t tag[MBJ_MAX_TAG_BYTES];
+    mbj_make_room_(&done, tag, m, 0);
+    bool is_given = mbj_c_submit(&m->handle, &done, &refusal);
     if (refusal != MBJ_ERR_NONE)
         return mbj_not_submitted_(m, job, refusal);
-    job->status = MBJ_STATUS_BEING_PROCESSED;
     m->error = MBJ_ERR_NONE;
-    m->next++;
-    m->is_lent = false;
-    return is_given ? mbj_give_back_(m, &given) : NULL;
+    mbj_note_submitted_(m, 1);
+    return is_given ? mbj_give_back_(m, &done) : NULL;
 }
 
 /* Gives the earliest job back where it is finished, and runs nothing; NULL where none is. */
@@ -618,9 +657,10 @@ MBJ_API MBJ_JOB *mbj_get_completed_job(MBJ_MGR *m) {
     m->error = MBJ_ERR_NONE;
     if (m->next == m->first)
         return NULL;
-    struct mbj_given_ given;
-    mbj_make_room_(&given, m);
-    return mbj_c_get_completed(&m->handle, &given.done, &m->error) ? mbj_give_back_(m, &given) : NULL;
+    struct mbj_raw_done done;
+    uint8_t tag[MBJ_MAX_TAG_BYTES];
+    mbj_make_room_(&done, tag, m, 0);
+    return mbj_c_get_completed(&m->handle, &done, &m->error) ? mbj_give_back_(m, &done) : NULL;
 }
 
 /* Finishes the earliest job and gives it back; NULL where no job is submitted and not given back. */
@@ -630,9 +670,126 @@ MBJ_API MBJ_JOB *mbj_flush_job(MBJ_MGR *m) {
     m->error = MBJ_ERR_NONE;
     if (m->next == m->first)
         return NULL;
-    struct mbj_given_ given;
-    mbj_make_room_(&given, m);
-    return mbj_c_flush(&m->handle, &given.done, &m->error) ? mbj_give_back_(m, &given) : NULL;
+    struct mbj_raw_done done;
+    uint8_t tag[MBJ_MAX_TAG_BYTES];
+    mbj_make_room_(&done, tag, m, 0);
+    return mbj_c_flush(&m->handle, &done, &m->error) ? mbj_give_back_(m, &done) : NULL;
+}
+
+/* So many jobs go to the library at once; a longer burst is done in parts. */
+#define MBJ_PART_ 32
+
+static inline uint32_t mbj_part_of_(uint32_t n) {
+    return n < MBJ_PART_ ? n : MBJ_PART_;
+}
+
+/* Room for the results of a part. */
+struct mbj_rooms_ {
+    struct mbj_raw_done done[MBJ_PART_];
+    uint8_t tags[MBJ_PART_][MBJ_MAX_TAG_BYTES];
+};
+
+static inline void mbj_make_rooms_(struct mbj_rooms_ *rooms, const MBJ_MGR *m, uint32_t n) {
+    for (uint32_t i = 0; i < n; i++)
+        mbj_make_room_(&rooms->done[i], rooms->tags[i], m, i);
+}
+
+/* The jobs whose results were given, in order. */
+static inline uint32_t mbj_give_each_back_(MBJ_MGR *m, const struct mbj_rooms_ *rooms, const struct mbj_raw_burst *told, MBJ_JOB **done) {
+    for (size_t i = 0; i < told->given; i++)
+        done[i] = mbj_give_back_(m, &rooms->done[i]);
+    return (uint32_t)told->given;
+}
+
+/* Fills the first n jobs that are handed out, n not being 0, and answers how many there are before one that lacked memory. */
+static inline uint32_t mbj_fill_part_(MBJ_MGR *m, uint32_t n) {
+    struct mbj_raw_job raws[MBJ_PART_];
+    uint32_t refusals[MBJ_PART_], filled = 0, said = 0;
+    do
+        mbj_say_place_(&raws[said], m, (m->next + said) % MBJ_MAX_JOBS);
+    while (++said < n);
+    mbj_c_fill_burst(&m->handle, raws, n, refusals, n);
+    while (filled < n && refusals[filled] == MBJ_ERR_NONE)
+        filled++;
+    m->error = filled < n ? refusals[filled] : (uint32_t)MBJ_ERR_NONE;
+    return filled;
+}
+
+/* Submits the first n jobs that are handed out, which are filled. */
+static inline uint32_t mbj_submit_part_(MBJ_MGR *m, uint32_t n, MBJ_JOB **done) {
+    struct mbj_rooms_ rooms;
+    struct mbj_raw_burst told = {0, 0, MBJ_ERR_NONE};
+    mbj_make_rooms_(&rooms, m, n);
+    mbj_c_submit_burst(&m->handle, rooms.done, n, &told);
+    if (told.refusal != MBJ_ERR_NONE)
+        m->error = told.refusal;
+    mbj_note_submitted_(m, (uint32_t)told.made);
+    return mbj_give_each_back_(m, &rooms, &told, done);
+}
+
+/* Whether these are the first jobs that are handed out, in their order. */
+static inline bool mbj_are_lent_(MBJ_MGR *m, uint32_t n, MBJ_JOB *const *jobs) {
+    for (uint32_t i = 0; i < n && n <= m->lent; i++)
+        if (jobs[i] != &m->jobs[(m->next + i) % MBJ_MAX_JOBS])
+            return false;
+    return n <= m->lent;
+}
+
+/* Submits n jobs as mbj_submit_job does, one after another: the first ones that mbj_get_next_burst handed out, in its order. Writes the
+ * jobs that are given back to done, which has n places and may be jobs itself, and answers how many they are. With MBJ_ERR_NONE all n jobs
+ * were submitted; one whose arguments are refused comes back in its place. With MBJ_ERR_NO_MANAGER, or with MBJ_ERR_NO_JOB where the jobs
+ * aren't those, none was. With MBJ_ERR_MEMORY those with MBJ_STATUS_ERROR weren't: they stay handed out, and may be submitted again. Where
+ * two jobs are given back by one burst, nothing that is written for one overlaps what is written for the other. */
+MBJ_API uint32_t mbj_submit_burst(MBJ_MGR *m, uint32_t n, MBJ_JOB *const *jobs, MBJ_JOB **done) {
+    uint32_t given = 0;
+    if (m == NULL)
+        return 0;
+    if (!mbj_are_lent_(m, n, jobs)) {
+        m->error = MBJ_ERR_NO_JOB;
+        return 0;
+    }
+    uint32_t end = m->next + n;
+    m->error = mbj_is_made_(m) ? MBJ_ERR_NONE : MBJ_ERR_NO_MANAGER;
+    while (m->next != end && m->error == MBJ_ERR_NONE) {
+        uint32_t filled = mbj_fill_part_(m, mbj_part_of_(end - m->next));
+        given += mbj_submit_part_(m, filled, done + given);
+    }
+    for (uint32_t next = m->next; next != end; next++)
+        m->jobs[next % MBJ_MAX_JOBS].status = MBJ_STATUS_ERROR;
+    return given;
+}
+
+/* One of the exports that give the results of a burst. */
+typedef void (*mbj_giving_)(struct mbj_handle *, struct mbj_raw_done *, size_t, struct mbj_raw_burst *);
+
+static inline uint32_t mbj_give_burst_(MBJ_MGR *m, uint32_t n, mbj_giving_ call, MBJ_JOB **done) {
+    uint32_t given = 0, asked = 0;
+    if (m == NULL)
+        return 0;
+    m->error = MBJ_ERR_NONE;
+    while (given == asked && given < n && m->next != m->first) {
+        uint32_t owed = m->next - m->first, part = mbj_part_of_(n - given < owed ? n - given : owed);
+        struct mbj_rooms_ rooms;
+        struct mbj_raw_burst told = {0, 0, MBJ_ERR_NONE};
+        mbj_make_rooms_(&rooms, m, part);
+        call(&m->handle, rooms.done, part, &told);
+        m->error = told.refusal;
+        asked += part;
+        given += mbj_give_each_back_(m, &rooms, &told, done + given);
+    }
+    return given;
+}
+
+/* Gives back up to n jobs that are finished, as mbj_get_completed_job does, and answers how many. What is written for them doesn't
+ * overlap. */
+MBJ_API uint32_t mbj_get_completed_burst(MBJ_MGR *m, uint32_t n, MBJ_JOB **done) {
+    return mbj_give_burst_(m, n, mbj_c_get_completed_burst, done);
+}
+
+/* Finishes and gives back up to n jobs, as mbj_flush_job does, and answers how many: fewer than n where no more are submitted and not given
+ * back. What is written for them doesn't overlap. */
+MBJ_API uint32_t mbj_flush_burst(MBJ_MGR *m, uint32_t n, MBJ_JOB **done) {
+    return mbj_give_burst_(m, n, mbj_c_flush_burst, done);
 }
 
 #ifdef __cplusplus

@@ -1,5 +1,5 @@
 -- What an answer's code says, where memory may want.
-use Rattle.std.proofs.Common.{◌≡◌, ◌≢◌, ◌∙◌, Ok, Err, Result, refl, ap}
+use Rattle.std.proofs.Common.{◌≡◌, ◌≢◌, ◌∙◌, Ok, Err, Result, Some, refl, ap}
 use Rattle.mbj_c.specs.declared.refusal.Refusal.{Refusal}
 use Rattle.mbj_c.specs.Codes.{code_of, refusal_code}
 use Rattle.mbj_c.specs.Inside.Answers.{IsDoneAs}
@@ -24,3 +24,10 @@ pub state-kept : {A : Type 0} (want : Result Unit Refusal) (next before : A) (an
 state-kept (Ok u) next before (Ok v) after is kept memory = absurd (cc)
 state-kept (Ok u) next before (Err r) after is kept memory = is.1
 state-kept (Err q) next before answer after is kept memory = is.1 ∙ kept q refl
+
+-- what is done to a manager is done to the handle that has it
+pub done-some : {A : Type 0} (want : Result Unit Refusal) (next before : A) (answer : Result Unit Refusal) (after : A)
+    → IsDoneAs want next before answer after → IsDoneAs want (Some next) (Some before) answer (Some after)
+done-some (Ok u) next before (Ok v) after is = ap Some is
+done-some (Ok u) next before (Err r) after is = (is.0, ap Some is.1)
+done-some (Err q) next before answer after is = (is.0, ap Some is.1)

@@ -1,5 +1,5 @@
 -- What is given back over a list of C's calls.
-use Rattle.std.proofs.Common.{◌≡◌, ◌==◌, List, [], ◌∷◌, ◌++◌, drop, length, map, Option, Some, None, option_to_list, Err, refl, ap, sym, ◌∙◌, append_assoc, append-nil, true, false, Bool}
+use Rattle.std.proofs.Common.{◌≡◌, ◌+◌, nat_le, ℕ, List, [], ◌∷◌, ◌++◌, drop, length, map, Option, Some, None, option_to_list, Err, refl, ap, sym, ◌∙◌, append_assoc, append-nil, true, false, Bool}
 use Rattle.std.specs.Prelude.{if◌then◌else◌}
 use Rattle.std.proofs.lemmas.List.{map-append}
 use Rattle.mbj_types.specs.declared.job.Job.{Job}
@@ -15,11 +15,11 @@ use Rattle.mbj_c.specs.declared.giving.Given.{Given}
 use Rattle.mbj_c.specs.declared.refusal.Refusal.{Refusal}
 use Rattle.mbj_c.specs.declared.refusal.Refusal.TheVariants as refusal
 use Rattle.mbj_c.specs.Calls.{CallOfC, fills, gives, GivesInOrder, after_calls, called_of, given_back, given_in, given_of, jobs_by, jobs_in, jobs_submitted}
-use Rattle.mbj_c.specs.Filling.{filled_in, filled_with, job_said}
+use Rattle.mbj_c.specs.Filling.{filled_at, filled_with, job_said}
 use Rattle.mbj_c.specs.Giving.{called_by, given_with, job_entered, manager_step, owed_in, refusal_in, step}
 use Rattle.mbj_c.specs.Ranges.{given_range}
 use Rattle.mbj_c.specs.State.{RangedState, new_ranged}
-use Rattle.mbj_c.proofs.Ranges.{head_or, opened-after, opened-first, ranges-in, ranges-left, results-in, results-left}
+use Rattle.mbj_c.proofs.Ranges.{head_or, opened-after, opened-with, ranges-in, ranges-left, results-in, results-left}
 
 -- the state owes what these jobs are owed, and has the ranges of the open ones
 record Owes (k : RangedState) (jobs : List Job) : Type 0 where
@@ -75,20 +75,20 @@ called-leaves : (r : Option Refusal) (c : Call) (k : RangedState) (jobs : List J
 called-leaves None c k jobs owes = step-leaves c k jobs owes
 called-leaves (Some r) c k jobs owes = nothing-given k jobs owes
 
-said-owes : (said : Option Job) (k : RangedState) (jobs : List Job) → Owes k jobs → Owes (filled_with said k).1 jobs
-said-owes None k jobs owes = owes
-said-owes (Some j) k jobs owes =
-    record { results = owes.results; ranges = owes.ranges; filled = opened-first j k.manager.opened k.filled owes.filled }
+said-owes : (i : ℕ) (said : Option Job) (k : RangedState) (jobs : List Job) → Owes k jobs → Owes (filled_with i said k).1 jobs
+said-owes i None k jobs owes = owes
+said-owes i (Some j) k jobs owes =
+    record { results = owes.results; ranges = owes.ranges; filled = opened-with i j k.manager.opened k.filled owes.filled }
 
-filled-owes : (is_full : Bool) (said : Option Job) (k : RangedState) (jobs : List Job) → Owes k jobs
-    → Owes (if is_full then (Err refusal.Full, k) else filled_with said k).1 jobs
-filled-owes true said k jobs owes = owes
-filled-owes false said k jobs owes = said-owes said k jobs owes
+filled-owes : (is_full : Bool) (i : ℕ) (said : Option Job) (k : RangedState) (jobs : List Job) → Owes k jobs
+    → Owes (if is_full then (Err refusal.Full, k) else filled_with i said k).1 jobs
+filled-owes true i said k jobs owes = owes
+filled-owes false i said k jobs owes = said-owes i said k jobs owes
 
 call-leaves : (c : CallOfC) (k : RangedState) (jobs : List Job) → Owes k jobs
     → Leaves (called_of c k).0 (called_of c k).1 (jobs ++ jobs_in c k)
-call-leaves (fills r) k jobs owes =
-    nothing-given (filled_in r k).1 jobs (filled-owes (length k.manager.owed == CELLS) (job_said r) k jobs owes)
+call-leaves (fills i r) k jobs owes =
+    nothing-given (filled_at i r k).1 jobs (filled-owes (nat_le CELLS (length k.manager.owed + i)) i (job_said r) k jobs owes)
 call-leaves (gives c out) k jobs owes = called-leaves (refusal_in c k out) c k jobs owes
 
 -- ---- all calls

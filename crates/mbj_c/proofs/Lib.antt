@@ -6,3 +6,5 @@ mod Packets
 mod CallLaws
 mod Answered
 mod Refused
+mod Bursting
+mod Cells

@@ -1,5 +1,5 @@
 -- The ranges that are kept beside a manager once it made a call.
-use Rattle.std.proofs.Common.{set, slice_get, ◌≡◌, ◌<◌, ◌≤◌, ◌+◌, ◌++◌, ℕ, List, [], ◌∷◌, length, drop, take, map, Option, None, Some, refl, sym, ap, ◌∙◌, subst, arith}
+use Rattle.std.proofs.Common.{set, slice_get, ◌≡◌, ◌≤◌, ◌+◌, ◌++◌, ℕ, List, [], ◌∷◌, length, drop, take, map, Option, None, Some, refl, sym, ap, ◌∙◌, subst, arith}
 use Rattle.std.specs.Prelude.{false, option_to_list}
 use Rattle.std.proofs.lemmas.List.{append-nil, drop-map, length-map, map-append, take-map}
 use Rattle.mbj_types.specs.declared.job.Job.{Job}
@@ -10,7 +10,6 @@ use Rattle.mbj_types.specs.declared.reason.Reason.{Reason}
 use Rattle.mbj_types.specs.Result.{result_of}
 use Rattle.mbj_types.specs.Verdict.{verdict, is_null_cipher}
 use Rattle.mbj_args.proofs.Accepted as table
-use Rattle.mbj_ring.specs.declared.ring.TheConstants.{CELLS}
 use Rattle.mbj_ring.specs.Ring.{RingState}
 use Rattle.mbj_stage.proofs.PacketLengths.{length-result_of}
 use Rattle.mbj_manager.specs.State.{ManagerState}
@@ -19,6 +18,7 @@ use Rattle.mbj_manager.specs.Machine.Course.{flushed}
 use Rattle.mbj_c.specs.declared.giving.Call.{Call}
 use Rattle.mbj_c.specs.declared.giving.Call.TheVariants as call
 use Rattle.mbj_c.specs.declared.range.CipherRange.{CipherRange}
+use Rattle.mbj_c.specs.Filling.{put_at, with_cell}
 use Rattle.mbj_c.specs.Giving.{filled_after, given_with, job_entered, manager_step, owed_in, ranges_entered}
 use Rattle.mbj_c.specs.Inside.Ranges.{AreOfJobs, AreRanges}
 use Rattle.mbj_c.specs.Inside.Room.{IsWithin}
@@ -43,10 +43,14 @@ opened-after call.Flush m filled is =
     let after : ManagerState = record m { machine = flushed m.machine } in
     is ∙ ap (map given_range) (sym (given-opened after.owed after.machine.left after))
 
--- the range of the first open job is written over
-pub opened-first : (j : Job) (opened : List Job) (filled : List CipherRange) → filled ≡ map given_range opened
-    → given_range j ∷ drop 1 filled ≡ map given_range (j ∷ drop 1 opened)
-opened-first j opened filled is = ap (λ rs. given_range j ∷ rs) (ap (drop 1) is ∙ drop-map given_range 1 opened)
+-- the range of an open job is written over with that of the job that takes its place
+pub opened-with : (i : ℕ) (j : Job) (opened : List Job) (filled : List CipherRange) → filled ≡ map given_range opened
+    → put_at i (given_range j) filled ≡ map given_range (put_at i j opened)
+opened-with i j opened filled is =
+    ap (put_at i (given_range j)) is
+    ∙ ap (λ rs. rs ++ given_range j ∷ drop (i + 1) (map given_range opened)) (take-map given_range i opened)
+    ∙ ap (λ rs. map given_range (take i opened) ++ given_range j ∷ rs) (drop-map given_range (i + 1) opened)
+    ∙ sym (map-append given_range (take i opened) (j ∷ drop (i + 1) opened))
 
 -- ---- the jobs
 
@@ -131,13 +135,24 @@ of-jobs-left done after owed ranges order are = record {
   given = ranges-left done ranges are.jobs are.given;
 }
 
--- where a cell is left for a job, one is left for its range
-pub room-for-range : (m : ManagerState) (ranges : RingState CipherRange) → AreRanges m ranges → length m.owed < CELLS
-    → length ranges.values < CELLS
-room-for-range m ranges are few =
+-- as many ranges are kept as results are owed
+pub as-many-ranges : (m : ManagerState) (ranges : RingState CipherRange) → AreRanges m ranges → length ranges.values ≡ length m.owed
+as-many-ranges m ranges are =
     let owed : length m.owed ≡ length are.owed.jobs = ap length are.owed.results ∙ length-map are.owed.jobs result_of in
     let kept : length ranges.values ≡ length are.owed.jobs = ap length are.owed.given ∙ length-map are.owed.jobs given_range in
     omega arith
+
+-- and as many open ones as jobs are open
+pub as-many-open : (m : ManagerState) (ranges : RingState CipherRange) → AreRanges m ranges → length ranges.opened ≡ length m.opened
+as-many-open m ranges are = ap length are.opened ∙ length-map m.opened given_range
+
+-- the ranges after a job is filled
+pub ranges-filled : (i : ℕ) (j : Job) (m : ManagerState) (before ranges : RingState CipherRange) → AreRanges m before
+    → ranges.values ≡ before.values → ranges.opened ≡ put_at i (given_range j) before.opened → AreRanges (with_cell i j m) ranges
+ranges-filled i j m before ranges are values opened = record {
+  owed = subst (AreOfJobs m.owed) (sym values) are.owed;
+  opened = opened ∙ opened-with i j m.opened before.opened are.opened;
+}
 
 -- the range of what is given back
 pub given-range-within : (c : Call) (m : ManagerState) (done : Option Done) (after : List Done) (ranges filled : List CipherRange)

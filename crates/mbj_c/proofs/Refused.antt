@@ -1,23 +1,37 @@
 -- A filling that is refused changes nothing.
-use Rattle.std.proofs.Common.{◌≡◌, ◌==◌, Err, None, Option, Result, Some, ap, length, refl}
+use Rattle.std.proofs.Common.{◌≡◌, ◌≢◌, ◌+◌, ℕ, nat_le, Err, None, Option, Result, Some, ap, length, refl}
 use Rattle.std.proofs.lemmas.Bool.{cond_both}
 use Rattle.mbj_types.specs.declared.job.Job.{Job}
 use Rattle.mbj_ring.specs.declared.ring.TheConstants.{CELLS}
 use Rattle.mbj_c.specs.declared.job.RawJob.{RawJob}
 use Rattle.mbj_c.specs.declared.refusal.Refusal.{Refusal}
 use Rattle.mbj_c.specs.declared.refusal.Refusal.TheVariants as refusal
-use Rattle.mbj_c.specs.Filling.{filled, filled_in, filled_with, job_said}
+use Rattle.mbj_c.specs.Filling.{filled_at, filled_cell, filled_with, job_said}
 use Rattle.mbj_c.specs.State.{RangedState}
 
-said-refused : (said : Option Job) (k : RangedState) (q : Refusal) → (filled_with said k).0 ≡ Err q → (filled_with said k).1 ≡ k
-said-refused None k q is = refl
-said-refused (Some j) k q is = absurd (cc)
+said-refused : (i : ℕ) (said : Option Job) (k : RangedState) (q : Refusal) → (filled_with i said k).0 ≡ Err q → (filled_with i said k).1 ≡ k
+said-refused i None k q is = refl
+said-refused i (Some j) k q is = absurd (cc)
 
-in-refused : (r : RawJob) (k : RangedState) (q : Refusal) → (filled_in r k).0 ≡ Err q → (filled_in r k).1 ≡ k
-in-refused r k q =
-    cond_both (length k.manager.owed == CELLS) (Err refusal.Full, k) (filled_with (job_said r) k)
-    (λ (a : Result Unit Refusal × RangedState). a.0 ≡ Err q → a.1 ≡ k) (λ full is. refl) (λ room. said-refused (job_said r) k q)
+at-refused : (i : ℕ) (r : RawJob) (k : RangedState) (q : Refusal) → (filled_at i r k).0 ≡ Err q → (filled_at i r k).1 ≡ k
+at-refused i r k q =
+    cond_both (nat_le CELLS (length k.manager.owed + i)) (Err refusal.Full, k) (filled_with i (job_said r) k)
+    (λ (a : Result Unit Refusal × RangedState). a.0 ≡ Err q → a.1 ≡ k) (λ full is. refl) (λ room. said-refused i (job_said r) k q)
 
-pub refused-kept : (r : RawJob) (m : Option RangedState) (q : Refusal) → (filled r m).0 ≡ Err q → (filled r m).1 ≡ m
-refused-kept r None q is = refl
-refused-kept r (Some k) q is = ap Some (in-refused r k q is)
+pub refused-kept : (i : ℕ) (r : RawJob) (m : Option RangedState) (q : Refusal) → (filled_cell i r m).0 ≡ Err q → (filled_cell i r m).1 ≡ m
+refused-kept i r None q is = refl
+refused-kept i r (Some k) q is = ap Some (at-refused i r k q is)
+
+-- no filling is refused for want of memory where there is memory
+said-for-another : (i : ℕ) (said : Option Job) (k : RangedState) → (filled_with i said k).0 ≢ Err refusal.Memory
+said-for-another i None k is = absurd (cc)
+said-for-another i (Some j) k is = absurd (cc)
+
+at-for-another : (i : ℕ) (r : RawJob) (k : RangedState) → (filled_at i r k).0 ≢ Err refusal.Memory
+at-for-another i r k =
+    cond_both (nat_le CELLS (length k.manager.owed + i)) (Err refusal.Full, k) (filled_with i (job_said r) k)
+    (λ (a : Result Unit Refusal × RangedState). a.0 ≢ Err refusal.Memory) (λ full is. absurd (cc)) (λ room. said-for-another i (job_said r) k)
+
+pub refused-for-another : (i : ℕ) (r : RawJob) (m : Option RangedState) → (filled_cell i r m).0 ≢ Err refusal.Memory
+refused-for-another i r None is = absurd (cc)
+refused-for-another i r (Some k) is = at-for-another i r k is

@@ -1,5 +1,5 @@
 -- The calls of C one after another, and the law of what they give back.
-use Rattle.std.specs.Prelude.{◌≡◌, List, [], ◌∷◌, ◌++◌, map, Option, None, Some, option_to_list, Result, Ok, Err}
+use Rattle.std.specs.Prelude.{◌≡◌, ℕ, List, [], ◌∷◌, ◌++◌, map, Option, None, Some, option_to_list, Result, Ok, Err}
 use Rattle.mbj_types.specs.declared.job.Job.{Job}
 use Rattle.mbj_types.specs.Result.{result_of}
 use Rattle.mbj_c.specs.declared.giving.Call.{Call}
@@ -7,14 +7,15 @@ use Rattle.mbj_c.specs.declared.giving.Given.{Given}
 use Rattle.mbj_c.specs.declared.giving.RawDone.{RawDone}
 use Rattle.mbj_c.specs.declared.job.RawJob.{RawJob}
 use Rattle.mbj_c.specs.declared.refusal.Refusal.{Refusal}
-use Rattle.mbj_c.specs.Filling.{filled_in}
+use Rattle.mbj_c.specs.Filling.{filled_at}
 use Rattle.mbj_c.specs.Giving.{called_in, job_entered, refusal_in}
 use Rattle.mbj_c.specs.Ranges.{given_range}
 use Rattle.mbj_c.specs.State.{RangedState, new_ranged}
 
--- C fills the next job, for which there is memory, or makes a call with room for a result
+-- C fills an open cell, for whose job there is memory, or makes a call with room for a result. The single call fills the first open
+-- cell; a burst fills one behind another
 pub data CallOfC : Type 0 where
-  fills : RawJob → CallOfC
+  fills : ℕ → RawJob → CallOfC
   gives : Call → RawDone → CallOfC
 
 abbrev pub given_in : Result (Option Given) Refusal → Option Given
@@ -23,7 +24,7 @@ given_in (Err r) = None
 
 -- what a call gives back, and the state after it
 abbrev pub called_of : CallOfC → RangedState → Option Given × RangedState
-called_of (fills r) k = (None, (filled_in r k).1)
+called_of (fills i r) k = (None, (filled_at i r k).1)
 called_of (gives c out) k = (given_in (called_in c k out).0, (called_in c k out).1)
 
 -- a refused call submits none
@@ -32,7 +33,7 @@ jobs_by None c k = job_entered c k.manager.opened
 jobs_by (Some r) c k = []
 
 abbrev pub jobs_in : CallOfC → RangedState → List Job
-jobs_in (fills r) k = []
+jobs_in (fills i r) k = []
 jobs_in (gives c out) k = jobs_by (refusal_in c k out) c k
 
 -- what the calls give back, in order

@@ -1,12 +1,12 @@
 -- What C's job says, and what filling the next job with it comes to.
-use Rattle.std.specs.Prelude.{◌==◌, ◌∷◌, drop, length, Option, Some, None, Result, Ok, Err, slice_get, option_map, if◌then◌else◌}
+use Rattle.std.specs.Prelude.{ℕ, ◌+◌, nat_le, List, ◌∷◌, ◌++◌, take, drop, length, Option, Some, None, Result, Ok, Err, slice_get, option_map, if◌then◌else◌}
 use Rattle.mbj_types.specs.declared.job.Job.{Job}
 use Rattle.mbj_types.specs.declared.job.Cipher.{Cipher}
 use Rattle.mbj_types.specs.declared.job.Dir.{Dir}
 use Rattle.mbj_types.specs.declared.job.Order.{Order}
 use Rattle.mbj_types.specs.declared.job.Auth.{Auth}
 use Rattle.mbj_ring.specs.declared.ring.TheConstants.{CELLS}
-use Rattle.mbj_manager.specs.State.{with_open}
+use Rattle.mbj_manager.specs.State.{ManagerState}
 use Rattle.mbj_c.specs.declared.job.RawJob.{RawJob}
 use Rattle.mbj_c.specs.declared.words.Words.{Words}
 use Rattle.mbj_c.specs.declared.refusal.Refusal.{Refusal}
@@ -46,22 +46,33 @@ job_with r w = record {
 abbrev pub job_said : RawJob → Option Job
 job_said r = option_map (job_with r) (words_said r)
 
--- the job is the first open one
-abbrev pub with_job : Job → RangedState → RangedState
-with_job j k = record k { manager = with_open k.manager j; filled = given_range j ∷ drop 1 k.filled }
+-- the list with x for element i, and with x last where it has no more than i elements
+abbrev pub put_at : {A : Type 0} → ℕ → A → List A → List A
+put_at i x xs = take i xs ++ x ∷ drop (i + 1) xs
 
--- the job that is said is the first open one
-abbrev pub filled_with : Option Job → RangedState → Result Unit Refusal × RangedState
-filled_with None k = (Err refusal.Word, k)
-filled_with (Some j) k = (Ok tt, with_job j k)
+-- the job is in open cell i, in place of what was filled there
+abbrev pub with_cell : ℕ → Job → ManagerState → ManagerState
+with_cell i j m = record m { opened = put_at i j m.opened }
 
--- what filling comes to where there is memory: it is refused where no cell is left, and then where a code is none
-abbrev pub filled_in : RawJob → RangedState → Result Unit Refusal × RangedState
-filled_in r k = if length k.manager.owed == CELLS then (Err refusal.Full, k) else filled_with (job_said r) k
+abbrev pub with_job_at : ℕ → Job → RangedState → RangedState
+with_job_at i j k = record k { manager = with_cell i j k.manager; filled = put_at i (given_range j) k.filled }
 
+-- the job that is said is in open cell i
+abbrev pub filled_with : ℕ → Option Job → RangedState → Result Unit Refusal × RangedState
+filled_with i None k = (Err refusal.Word, k)
+filled_with i (Some j) k = (Ok tt, with_job_at i j k)
+
+-- what filling open cell i comes to where there is memory: it is refused where that cell isn't left, and then where a code is none
+abbrev pub filled_at : ℕ → RawJob → RangedState → Result Unit Refusal × RangedState
+filled_at i r k = if nat_le CELLS (length k.manager.owed + i) then (Err refusal.Full, k) else filled_with i (job_said r) k
+
+abbrev pub filled_cell : ℕ → RawJob → Option RangedState → Result Unit Refusal × Option RangedState
+filled_cell i r None = (Err refusal.NoManager, None)
+filled_cell i r (Some k) = ((filled_at i r k).0, Some (filled_at i r k).1)
+
+-- the single call fills the first open cell
 abbrev pub filled : RawJob → Option RangedState → Result Unit Refusal × Option RangedState
-filled r None = (Err refusal.NoManager, None)
-filled r (Some k) = ((filled_in r k).0, Some (filled_in r k).1)
+filled r m = filled_cell 0 r m
 
 -- what making a manager comes to where there is memory
 abbrev pub made : Option RangedState → Result Unit Refusal × Option RangedState

@@ -7,5 +7,6 @@ pub mod Counts
 pub mod Filling
 pub mod Giving
 pub mod Calls
+pub mod Bursts
 pub mod Stored
 pub mod Inside

@@ -1,8 +1,9 @@
 //! The calls of a handle, which the exports make.
 
-ghost use Rattle.std.specs.Prelude.{◌≡◌, IfOk, false};
+ghost use Rattle.std.specs.Prelude.{◌≡◌, ◌<◌, ◌≤◌, IfOk, IfSome, OnOk, false, length};
+ghost use Rattle.mbj_ring.specs.declared.ring.TheConstants.{CELLS};
 ghost use Rattle.mbj_c.specs.State.{new_ranged};
-ghost use Rattle.mbj_c.specs.Filling.{filled, made};
+ghost use Rattle.mbj_c.specs.Filling.{filled, filled_cell, made};
 ghost use Rattle.mbj_c.specs.Giving.{IsDrained, IsTold, answered};
 ghost use Rattle.mbj_c.specs.declared.giving.Call.TheVariants as calls;
 ghost use Rattle.mbj_c.specs.Counts.{IsCounted, queue_size};
@@ -37,16 +38,30 @@ pub(crate) fn make(alloc: Global, handle: &mut Handle) -> Result<(), Refusal>
     Ok(())
 }
 
-/// Fills the next job.
-pub(crate) fn fill(alloc: Global, handle: &mut Handle, raw: &RawJob<'_>) -> Result<(), Refusal>
-    ensures { IsDone (filled raw.now handle.old.manager) handle.old.manager result handle.new.manager }
+/// Fills an open cell, or the one behind those that are open.
+pub(crate) fn fill_cell(
+    alloc: Global,
+    handle: &mut Handle,
+    cell: u32,
+    raw: &RawJob<'_>,
+) -> Result<(), Refusal>
+    requires cell { IfSome handle.old.manager (λ k. cell ≤ length k.manager.opened) }
+    ensures done { IsDone (filled_cell cell raw.now handle.old.manager) handle.old.manager result handle.new.manager }
+    ensures within { OnOk result (cell < CELLS) }
 {
     let Some(mut manager) = handle.take(alloc) else {
         return Err(Refusal::NoManager);
     };
-    let answer = manager.fill(alloc, raw);
+    let answer = manager.fill(alloc, cell, raw);
     handle.put(manager);
     answer
+}
+
+/// Fills the first open cell.
+pub(crate) fn fill(alloc: Global, handle: &mut Handle, raw: &RawJob<'_>) -> Result<(), Refusal>
+    ensures { IsDone (filled raw.now handle.old.manager) handle.old.manager result handle.new.manager }
+{
+    fill_cell(alloc, handle, 0, raw)
 }
 
 /// Makes a call that may give a result back, and tells C of it.

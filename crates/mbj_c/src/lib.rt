@@ -10,7 +10,8 @@
 //! the word in a handle is null or was written by these calls.
 #![tactic(auto)]
 
-ghost use Rattle.std.specs.Prelude.{◌≡◌, ◌≢◌, None, Ok, false, is_some};
+ghost use Rattle.std.specs.Prelude.{◌≡◌, ◌≢◌, None, Ok, false, is_some, length};
+ghost use Rattle.mbj_c.specs.Bursts.{IsBurstFilled, IsBurstTold, after_giving};
 ghost use Rattle.mbj_c.specs.Codes.{code_of, refusal_code};
 ghost use Rattle.mbj_c.specs.Counts.{IsCounted, queue_size};
 ghost use Rattle.mbj_c.specs.Filling.{filled, made};
@@ -19,6 +20,7 @@ ghost use Rattle.mbj_c.specs.declared.giving.Call.TheVariants as call;
 ghost use Rattle.mbj_c.specs.Stored.{put_in, state_said, states_said};
 ghost use Rattle.mbj_c.specs.declared.refusal.Refusal.TheVariants.{Memory};
 
+mod bursts;
 mod calls;
 mod counts;
 mod giving;
@@ -37,6 +39,7 @@ mod words;
 
 use crate::giving::Call;
 use crate::refusal::code;
+pub use bursts::RawBurst;
 pub use counts::Counts;
 pub use giving::RawDone;
 pub use handle::Handle;
@@ -168,6 +171,65 @@ pub extern "C" fn mbj_c_flush(
     ensures drained { result ≡ false → refusal.new ≡ 0 → IsDrained handle.old.manager }
 {
     calls::give(alloc, handle, Call::Flush, out, refusal)
+}
+
+/// Fills jobs with copies of C's, one after another: the first open cell as `mbj_c_fill` does, and then the cells behind it. Answers
+/// how many are filled, and writes to each job's place among the refusals 0, or the code of a refusal, as `mbj_c_fill` answers it:
+/// `Full` exactly where no cell is left behind those that the burst filled. A job that is refused takes no cell, and the jobs behind it
+/// are filled. Where there are fewer places than jobs, the jobs without a place are left out.
+#[unsafe(no_mangle)]
+pub extern "C" fn mbj_c_fill_burst(
+    alloc: Global,
+    handle: &mut Handle,
+    jobs: &[RawJob<'_>],
+    refusals: &mut [u32],
+) -> u32
+    ensures { IsBurstFilled jobs.now refusals.old refusals.new handle.old.manager result handle.new.manager }
+{
+    bursts::fill(alloc, handle, jobs, refusals)
+}
+
+/// Makes `mbj_c_submit` as many times as there is room for a result, one after another. The results that are given go to the rooms in
+/// order, the first one to the first room; rooms behind them stay as they were.
+#[unsafe(no_mangle)]
+pub extern "C" fn mbj_c_submit_burst(
+    alloc: Global,
+    handle: &mut Handle,
+    outs: &mut [RawDone<'_>],
+    told: &mut RawBurst,
+)
+    ensures state { handle.new.manager ≡ (after_giving (length outs.old) call.Submit outs.old handle.old.manager).manager }
+    ensures told { IsBurstTold (after_giving (length outs.old) call.Submit outs.old handle.old.manager) told.new outs.old outs.new }
+{
+    bursts::give(alloc, handle, Call::Submit, outs, told);
+}
+
+/// Makes `mbj_c_get_completed` as many times as there is room for a result, and gives the results as `mbj_c_submit_burst` does.
+#[unsafe(no_mangle)]
+pub extern "C" fn mbj_c_get_completed_burst(
+    alloc: Global,
+    handle: &mut Handle,
+    outs: &mut [RawDone<'_>],
+    told: &mut RawBurst,
+)
+    ensures state { handle.new.manager ≡ (after_giving (length outs.old) call.Completed outs.old handle.old.manager).manager }
+    ensures told { IsBurstTold (after_giving (length outs.old) call.Completed outs.old handle.old.manager) told.new outs.old outs.new }
+{
+    bursts::give(alloc, handle, Call::Completed, outs, told);
+}
+
+/// Makes `mbj_c_flush` as many times as there is room for a result, and gives the results as `mbj_c_submit_burst` does.
+#[unsafe(no_mangle)]
+pub extern "C" fn mbj_c_flush_burst(
+    alloc: Global,
+    handle: &mut Handle,
+    outs: &mut [RawDone<'_>],
+    told: &mut RawBurst,
+)
+    ensures state { handle.new.manager ≡ (after_giving (length outs.old) call.Flush outs.old handle.old.manager).manager }
+    ensures told { IsBurstTold (after_giving (length outs.old) call.Flush outs.old handle.old.manager) told.new outs.old outs.new }
+{
+    bursts::give(alloc, handle, Call::Flush, outs, told);
 }
 
 /// Writes the states of a key of HMAC to the front of `out`: the inner state and the outer state behind it, whole, as their

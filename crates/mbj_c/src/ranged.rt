@@ -1,9 +1,9 @@
-ghost use Rattle.std.specs.Prelude.{◌≡◌, ◌<◌, ◌∷◌, ◌++◌, IfOk, Ok, None, [], drop, length, option_to_list, slice_get};
+ghost use Rattle.std.specs.Prelude.{◌≡◌, ◌+◌, ◌<◌, ◌≤◌, ◌++◌, IfOk, OnOk, Ok, None, [], drop, length, option_to_list, slice_get};
 ghost use Rattle.std.specs.Bool.{OnTrue};
 ghost use Rattle.mbj_ring.specs.declared.ring.TheConstants.{CELLS};
 ghost use Rattle.mbj_c.specs.declared.giving.Call.TheVariants as calls;
 ghost use Rattle.mbj_c.specs.Counts.{counts_of};
-ghost use Rattle.mbj_c.specs.Filling.{filled_in};
+ghost use Rattle.mbj_c.specs.Filling.{filled_at, put_at, with_cell};
 ghost use Rattle.mbj_c.specs.Giving.{called_in, filled_after, first_range, given_with, has_job, ranges_entered, step};
 ghost use Rattle.mbj_c.specs.Inside.Answers.{IsDone};
 ghost use Rattle.mbj_c.specs.Inside.Room.{HasJob, IsGivenRoom, IsWithin};
@@ -15,8 +15,8 @@ use crate::job::RawJob;
 use crate::range::CipherRange;
 use crate::refusal::Refusal;
 use mbj_manager::Manager;
-use mbj_ring::Ring;
-use mbj_types::{Done, Kind};
+use mbj_ring::{CELLS, Ring};
+use mbj_types::{Done, Job, Kind};
 use std::alloc::{AllocError, Global};
 use std::marker::Model;
 
@@ -44,17 +44,29 @@ impl Model for RangedManager {
     ghost invariant = { λ m. AreRanges m.manager m.ranges };
 }
 
-/// The range of the first open job is this one from now on.
-fn fill_first(ranges: &mut Ring<CipherRange>, range: CipherRange)
-    requires room { length ranges.old.values < CELLS }
+/// The range of the job in this open cell is this one from now on.
+#[tactic(auto, using(crate::proofs::Cells::put_last, crate::proofs::Cells::put_over))]
+fn fill_range(ranges: &mut Ring<CipherRange>, cell: u32, range: CipherRange)
+    requires cell { cell ≤ length ranges.old.opened }
+    requires room { length ranges.old.values + cell < CELLS }
     ensures values { ranges.new.values ≡ ranges.old.values }
-    ensures filled { ranges.new.opened ≡ range ∷ drop 1 ranges.old.opened }
+    ensures filled { ranges.new.opened ≡ put_at cell range ranges.old.opened }
 {
-    if ranges.open_len() == 0 {
+    if cell == ranges.open_len() {
         ranges.open_cell(range);
     } else {
-        *ranges.open_at(0) = range;
+        *ranges.open_at(cell) = range;
     }
+}
+
+/// The job goes into this open cell, or into the one behind those that are open.
+fn fill_job(manager: &mut Manager, cell: u32, job: Job)
+    requires cell { cell ≤ length manager.old.opened }
+    requires room { length manager.old.owed + cell < CELLS }
+    ensures { manager.new ≡ with_cell cell job manager.old }
+{
+    manager.get_next_burst(cell + 1);
+    *manager.burst_mut(cell) = job;
 }
 
 /// The range of the job that is submitted, where the call submits one, goes last.
@@ -129,19 +141,22 @@ impl RangedManager {
         }
     }
 
-    /// Fills the next job with a copy of C's. Where it answers a refusal, nothing changes.
-    pub(crate) fn fill(&mut self, alloc: Global, raw: &RawJob<'_>) -> Result<(), Refusal>
-        ensures { IsDone (filled_in raw.now self.old) self.old result self.new }
+    /// Fills an open cell, or the one behind those that are open, with a copy of C's job. Where it answers a refusal, nothing
+    /// changes.
+    pub(crate) fn fill(&mut self, alloc: Global, cell: u32, raw: &RawJob<'_>) -> Result<(), Refusal>
+        requires cell { cell ≤ length self.old.manager.opened }
+        ensures done { IsDone (filled_at cell raw.now self.old) self.old result self.new }
+        ensures within { OnOk result (cell < CELLS) }
     {
-        if self.manager.is_full() {
+        if cell >= CELLS - self.manager.queue_size() {
             return Err(Refusal::Full);
         }
         let Some(words) = raw.words() else {
             return Err(Refusal::Word);
         };
         let job = raw.copied(alloc, words)?;
-        fill_first(&mut self.ranges, CipherRange::given_by(&job));
-        self.manager.put_next(job);
+        fill_range(&mut self.ranges, cell, CipherRange::given_by(&job));
+        fill_job(&mut self.manager, cell, job);
         Ok(())
     }
 

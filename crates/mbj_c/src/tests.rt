@@ -1,5 +1,6 @@
 //! What the tests share: vectors of the standards, jobs, and calls whose answers are compared.
 
+mod bursts;
 mod refusals;
 mod results;
 mod stored;

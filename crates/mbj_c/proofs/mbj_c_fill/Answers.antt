@@ -19,5 +19,5 @@ pub returns-clause-unchanged : goal.returns-clause-unchanged
 returns-clause-unchanged c memory =
     let before = c.args.handle.now.manager in
     let want = filled c.args.raw.now before in
-    state-kept want.0 want.1 before c.fill.result c.fill.new.handle.manager c.fill.ensures (refused-kept c.args.raw.now before)
+    state-kept want.0 want.1 before c.fill.result c.fill.new.handle.manager c.fill.ensures (refused-kept 0 c.args.raw.now before)
     (subst (λ n. n ≡ 3) c.code.ensures memory)

@@ -1,0 +1,237 @@
+-- The calls of a burst, one after another.
+use Rattle.std.proofs.Common.{◌≡◌, ◌≢◌, ◌∙◌, ◌==◌, ◌++◌, ◌+◌, ◌<◌, ◌≤◌, ℕ, zero, suc, List, [], ◌∷◌, Bool, true, false, Option, None, Some, Result, Ok, Err, add-one, ap, arith, length, refl, set, slice_get, subst, sym, ⊎_elim, length-append}
+use Rattle.std.specs.Prelude.{IfSome, option_to_list, if◌then◌else◌}
+use Rattle.std.proofs.lemmas.Bool.{cases_eq}
+use Rattle.std.proofs.lemmas.List.{length-set}
+use Rattle.std.proofs.lemmas.Option.{slice_get_past, slice_get_within}
+use Rattle.mbj_c.specs.declared.bursts.RawBurst.{RawBurst}
+use Rattle.mbj_c.specs.declared.giving.Call.{Call}
+use Rattle.mbj_c.specs.declared.giving.Given.{Given}
+use Rattle.mbj_c.specs.declared.giving.RawDone.{RawDone}
+use Rattle.mbj_c.specs.declared.job.RawJob.{RawJob}
+use Rattle.mbj_c.specs.declared.refusal.Refusal.{Refusal}
+use Rattle.mbj_c.specs.declared.refusal.Refusal.TheVariants as refusal
+use Rattle.mbj_c.specs.declared.refusal.Refusal.TheVariants.{Memory}
+use Rattle.mbj_c.specs.Bursts.{FillBurst, GiveBurst, IsAnswer, IsBurstTold, IsRoomOf, IsTurnTold, after_filling, after_giving, count_of, fill_burst, filled_more, with_answer, with_call, with_told}
+use Rattle.mbj_c.specs.Calls.{given_in}
+use Rattle.mbj_c.specs.Codes.{code_of, refusal_code}
+use Rattle.mbj_c.specs.Giving.{answered}
+use Rattle.mbj_c.specs.Inside.Answers.{IsDoneAs}
+use Rattle.mbj_c.specs.State.{RangedState}
+
+-- ---- lists
+
+module _ {A : Type 0} where
+  pub set-here : (xs : List A) (i : ℕ) (x : A) → i < length xs → slice_get (set xs i x) i ≡ Some x
+  set-here [] i x few = absurd (omega arith)
+  set-here (y ∷ ys) zero x few = refl
+  set-here (y ∷ ys) (suc i) x few = set-here ys i x (omega arith)
+
+  pub set-beside : (xs : List A) (i j : ℕ) (x : A) → j ≢ i → slice_get (set xs i x) j ≡ slice_get xs j
+  set-beside [] i j x other = refl
+  set-beside (y ∷ ys) zero zero x other = absurd (other refl)
+  set-beside (y ∷ ys) zero (suc j) x other = refl
+  set-beside (y ∷ ys) (suc i) zero x other = refl
+  set-beside (y ∷ ys) (suc i) (suc j) x other = set-beside ys i j x (λ same. other (ap suc same))
+
+  -- what joins a list at its end is its next element, and the elements before stay
+  pub joined-here : (xs : List A) (o : Option A) → slice_get (xs ++ option_to_list o) (length xs) ≡ o
+  joined-here [] None = refl
+  joined-here [] (Some x) = refl
+  joined-here (y ∷ ys) o = joined-here ys o
+
+  pub joined-beside : (xs : List A) (o : Option A) (i : ℕ) → i ≢ length xs → slice_get (xs ++ option_to_list o) i ≡ slice_get xs i
+  joined-beside [] None i other = refl
+  joined-beside [] (Some x) zero other = absurd (other refl)
+  joined-beside [] (Some x) (suc i) other = refl
+  joined-beside (y ∷ ys) o zero other = refl
+  joined-beside (y ∷ ys) o (suc i) other = joined-beside ys o i (λ same. other (ap suc same))
+
+  at-most-one : (o : Option A) → length (option_to_list o) ≤ 1
+  at-most-one None = omega arith
+  at-most-one (Some x) = omega arith
+
+-- ---- filling
+
+-- the code of want of memory is that of no other refusal
+only-memory : (q : Refusal) → refusal_code q ≡ refusal_code Memory → q ≡ Memory
+only-memory refusal.Full is = absurd (cc)
+only-memory refusal.Word is = absurd (cc)
+only-memory refusal.Memory is = refl
+only-memory refusal.NoManager is = absurd (cc)
+only-memory refusal.NoJob is = absurd (cc)
+only-memory refusal.NoRoom is = absurd (cc)
+only-memory refusal.HasManager is = absurd (cc)
+only-memory refusal.TextLength is = absurd (cc)
+
+-- a job that isn't filled changes nothing
+pub unfilled-kept : (want : Result Unit Refusal) (next before after : Option RangedState) (reason : Refusal)
+    → IsDoneAs want next before (Err reason) after → ((q : Refusal) → want ≡ Err q → next ≡ before) → after ≡ before
+unfilled-kept (Ok u) next before after reason done kept = done.1
+unfilled-kept (Err q) next before after reason done kept = done.1 ∙ kept q refl
+
+-- and is told why
+pub unfilled-answer : (want : Result Unit Refusal) (next before after : Option RangedState) (reason : Refusal) (code : ℕ)
+    → code ≡ refusal_code reason → IsDoneAs want next before (Err reason) after → want ≢ Err Memory
+    → (code ≡ refusal_code Memory → want ≡ Ok tt) × (code ≢ refusal_code Memory → code ≡ code_of want)
+unfilled-answer (Ok u) next before after reason code is done another = ((λ memory. refl), (λ other. absurd (other (is ∙ ap refusal_code done.0))))
+unfilled-answer (Err q) next before after reason code is done another =
+    let same : reason ≡ q = cc in
+    ((λ memory. absurd (another (ap Err (only-memory q (sym (is ∙ ap refusal_code same) ∙ memory))))), (λ other. is ∙ ap refusal_code same))
+
+either-way : {A : Type 0} (b : Bool) (x : A) → (if b then x else x) ≡ x
+either-way true x = refl
+either-way false x = refl
+
+pub unfilled-state : (i : ℕ) (want : Result Unit Refusal) (next before after : Option RangedState) (reason : Refusal) (code : ℕ)
+    → code ≡ refusal_code reason → IsDoneAs want next before (Err reason) after → ((q : Refusal) → want ≡ Err q → next ≡ before)
+    → fill_burst i after ≡ (if code == refusal_code Memory then fill_burst i before else filled_more (want, next) (fill_burst i before))
+unfilled-state i (Ok u) next before after reason code is done kept =
+    ap (fill_burst i) done.1
+    ∙ ap (λ (n : ℕ). if n == refusal_code Memory then fill_burst i before else filled_more (Ok u, next) (fill_burst i before))
+    (sym (is ∙ ap refusal_code done.0))
+unfilled-state i (Err q) next before after reason code is done kept =
+    ap (fill_burst i) (done.1 ∙ kept q refl) ∙ sym (either-way (code == refusal_code Memory) (fill_burst i before))
+
+-- the first n jobs of a burst are filled or refused
+pub record AreFilled (n : ℕ) (jobs : List RawJob) (before codes : List ℕ) (m : Option RangedState) (filled : ℕ) (now : Option RangedState) : Type 0 where
+  pub each : (i : ℕ) → i < n → IsAnswer (slice_get jobs i) (slice_get codes i) (after_filling i jobs codes m)
+  pub others : (i : ℕ) → n ≤ i → slice_get codes i ≡ slice_get before i
+  pub state : fill_burst filled now ≡ after_filling n jobs codes m
+  pub size : length codes ≡ length before
+  pub cell : IfSome now (λ k. filled ≤ length k.manager.opened)
+
+-- a code that is written later changes nothing
+filling-before : (n i : ℕ) (jobs : List RawJob) (codes : List ℕ) (code : ℕ) (m : Option RangedState) → n ≤ i
+    → after_filling n jobs (set codes i code) m ≡ after_filling n jobs codes m
+unfolding after_filling
+filling-before zero i jobs codes code m earlier = refl
+filling-before (suc n) i jobs codes code m earlier =
+    let beside : n ≢ i = λ same. absurd (omega (arith, same)) in
+    ap (λ (told : Option ℕ). with_told (slice_get jobs n) told (after_filling n jobs (set codes i code) m)) (set-beside codes i n code beside)
+    ∙ ap (with_told (slice_get jobs n) (slice_get codes n)) (filling-before n i jobs codes code m (omega arith))
+
+filling-next : (n : ℕ) (jobs : List RawJob) (codes : List ℕ) (m : Option RangedState)
+    → after_filling (n + 1) jobs codes m ≡ with_told (slice_get jobs n) (slice_get codes n) (after_filling n jobs codes m)
+unfolding after_filling
+filling-next n jobs codes m = ap (λ (k : ℕ). after_filling k jobs codes m) (add-one n)
+
+pub filled-next : (n : ℕ) (jobs : List RawJob) (before codes : List ℕ) (m : Option RangedState) (filled next : ℕ) (now after : Option RangedState)
+    (raw : RawJob) (code : ℕ) → AreFilled n jobs before codes m filled now → slice_get jobs n ≡ Some raw → n < length codes
+    → IsAnswer (Some raw) (Some code) (fill_burst filled now)
+    → fill_burst next after ≡ with_told (Some raw) (Some code) (fill_burst filled now)
+    → IfSome after (λ k. next ≤ length k.manager.opened)
+    → AreFilled (n + 1) jobs before (set codes n code) m next after
+filled-next n jobs before codes m filled next now after raw code are job few answer state cell =
+    let written : List ℕ = set codes n code in
+    let told : slice_get written n ≡ Some code = set-here codes n code few in
+    let so_far : fill_burst filled now ≡ after_filling n jobs written m = are.state ∙ sym (filling-before n n jobs codes code m (omega arith)) in
+    let last : IsAnswer (slice_get jobs n) (slice_get written n) (after_filling n jobs written m) =
+    subst (λ (r : Option RawJob). IsAnswer r (slice_get written n) (after_filling n jobs written m)) (sym job)
+    (subst (λ (c : Option ℕ). IsAnswer (Some raw) c (after_filling n jobs written m)) (sym told)
+    (subst (λ (b : FillBurst). IsAnswer (Some raw) (Some code) b) so_far answer)) in
+    record {
+      each = λ i below. ⊎_elim (λ same. subst (λ (j : ℕ). IsAnswer (slice_get jobs j) (slice_get written j) (after_filling j jobs written m)) (sym same) last)
+          (λ other. subst (λ (c : Option ℕ). IsAnswer (slice_get jobs i) c (after_filling i jobs written m)) (sym (set-beside codes n i code other))
+          (subst (λ (b : FillBurst). IsAnswer (slice_get jobs i) (slice_get codes i) b) (sym (filling-before i n jobs codes code m (omega arith)))
+          (are.each i (omega (arith, other, below)))))
+          (cases_eq i n);
+      others = λ i past. set-beside codes n i code (λ same. absurd (omega (arith, same, past))) ∙ are.others i (omega arith);
+      state = state
+          ∙ ap (λ (b : FillBurst). with_told (Some raw) (Some code) b) so_far
+          ∙ ap (λ (c : Option ℕ). with_told (Some raw) c (after_filling n jobs written m)) (sym told)
+          ∙ ap (λ (r : Option RawJob). with_told r (slice_get written n) (after_filling n jobs written m)) (sym job)
+          ∙ sym (filling-next n jobs written m);
+      size = length-set codes n code ∙ are.size;
+      cell = cell;
+    }
+
+pub none-filled : (jobs : List RawJob) (codes : List ℕ) (m : Option RangedState) → AreFilled 0 jobs codes codes m 0 m
+unfolding after_filling
+none-filled jobs codes m = record {
+  each = λ i below. absurd (omega (arith, below));
+  others = λ i past. refl;
+  state = refl;
+  size = refl;
+  cell = nothing-open m;
+}
+  where
+    nothing-open : (k : Option RangedState) → IfSome k (λ k. 0 ≤ length k.manager.opened)
+    nothing-open None = tt
+    nothing-open (Some k) = omega arith
+
+-- ---- giving back
+
+-- n calls of a burst are made
+pub record AreGiven (n : ℕ) (c : Call) (before after : List RawDone) (m : Option RangedState) (told : RawBurst) (now : Option RangedState) : Type 0 where
+  pub state : now ≡ (after_giving n c before m).manager
+  pub is_told : IsBurstTold (after_giving n c before m) told before after
+  pub given : told.given ≤ n
+  pub made : told.made ≤ n
+  pub size : length after ≡ length before
+
+giving-next : (n : ℕ) (c : Call) (outs : List RawDone) (m : Option RangedState)
+    → after_giving (n + 1) c outs m ≡ with_call c (slice_get outs (length (after_giving n c outs m).given)) (after_giving n c outs m)
+unfolding after_giving
+giving-next n c outs m = ap (λ (k : ℕ). after_giving k c outs m) (add-one n)
+
+one-made : (a : Result (Option Given) Refusal) → count_of a ≤ 1
+one-made (Ok g) = omega arith
+one-made (Err r) = omega arith
+
+with-turn : (n : ℕ) (b : GiveBurst) (a : Result (Option Given) Refusal × Option RangedState) (told next : RawBurst) (before outs : List RawDone)
+    (out after : RawDone) → IsBurstTold b told before outs → slice_get outs told.given ≡ Some out
+    → IsTurnTold a.0 told next out after → IsBurstTold (with_answer a b) next before (set outs told.given after)
+with-turn n b a told next before outs out after is room turn =
+    let g : Option Given = given_in a.0 in
+    let place : told.given ≡ length b.given = is.given in
+    let few : told.given < length outs = slice_get_within outs told.given out room in
+    let none : slice_get b.given told.given ≡ None = slice_get_past b.given told.given (omega arith) in
+    let blank : slice_get outs told.given ≡ slice_get before told.given =
+    subst (λ (o : Option Given). IsRoomOf o (slice_get before told.given) (slice_get outs told.given)) none (is.rooms told.given) in
+    let here : IsRoomOf (slice_get (b.given ++ option_to_list g) told.given) (slice_get before told.given) (slice_get (set outs told.given after) told.given) =
+    subst (λ (o : Option RawDone). IsRoomOf (slice_get (b.given ++ option_to_list g) told.given) o (slice_get (set outs told.given after) told.given)) (sym room ∙ blank)
+    (subst (λ (o : Option RawDone). IsRoomOf (slice_get (b.given ++ option_to_list g) told.given) (Some out) o) (sym (set-here outs told.given after few))
+    (subst (λ (o : Option Given). IsRoomOf o (Some out) (Some after)) (sym (ap (slice_get (b.given ++ option_to_list g)) place ∙ joined-here b.given g)) turn.room)) in
+    record {
+      given = turn.given ∙ ap (λ i. i + length (option_to_list g)) place ∙ sym (length-append b.given (option_to_list g));
+      made = turn.made ∙ ap (λ i. i + count_of a.0) is.made;
+      refusal = turn.refusal;
+      rooms = λ i. ⊎_elim
+          (λ same. subst (λ (j : ℕ). IsRoomOf (slice_get (b.given ++ option_to_list g) j) (slice_get before j) (slice_get (set outs told.given after) j)) (sym same) here)
+          (λ other. subst (λ (o : Option RawDone). IsRoomOf (slice_get (b.given ++ option_to_list g) i) (slice_get before i) o) (sym (set-beside outs told.given i after other))
+          (subst (λ (o : Option Given). IsRoomOf o (slice_get before i) (slice_get outs i)) (sym (joined-beside b.given g i (λ same. other (same ∙ sym place)))) (is.rooms i)))
+          (cases_eq i told.given);
+    }
+
+pub given-next : (n : ℕ) (c : Call) (before outs : List RawDone) (m now after : Option RangedState) (told next : RawBurst) (out room : RawDone)
+    → AreGiven n c before outs m told now → slice_get outs told.given ≡ Some out → after ≡ (answered c now out).1
+    → IsTurnTold (answered c now out).0 told next out room → AreGiven (n + 1) c before (set outs told.given room) m next after
+given-next n c before outs m now after told next out room are there state turn =
+    let b : GiveBurst = after_giving n c before m in
+    let place : told.given ≡ length b.given = are.is_told.given in
+    let none : slice_get b.given told.given ≡ None = slice_get_past b.given told.given (omega arith) in
+    let blank : slice_get outs told.given ≡ slice_get before told.given =
+    subst (λ (o : Option Given). IsRoomOf o (slice_get before told.given) (slice_get outs told.given)) none (are.is_told.rooms told.given) in
+    let same : with_answer (answered c now out) b ≡ after_giving (n + 1) c before m =
+    ap (λ (k : Option RangedState). with_answer (answered c k out) b) are.state
+    ∙ ap (λ (o : Option RawDone). with_call c o b) (sym there ∙ blank ∙ ap (slice_get before) place)
+    ∙ sym (giving-next n c before m) in
+    record {
+      state = state ∙ ap (λ (d : GiveBurst). d.manager) same;
+      is_told = subst (λ (d : GiveBurst). IsBurstTold d next before (set outs told.given room)) same
+          (with-turn n b (answered c now out) told next before outs out room are.is_told there turn);
+      given = omega (arith, turn.given, are.given, at-most-one (given_in (answered c now out).0));
+      made = omega (arith, turn.made, are.made, one-made (answered c now out).0);
+      size = length-set outs told.given room ∙ are.size;
+    }
+
+pub none-given : (c : Call) (outs : List RawDone) (m : Option RangedState) → AreGiven 0 c outs outs m (record { made = 0; given = 0; refusal = 0 }) m
+unfolding after_giving
+none-given c outs m = record {
+  state = refl;
+  is_told = record { given = refl; made = refl; refusal = refl; rooms = λ i. refl };
+  given = omega arith;
+  made = omega arith;
+  size = refl;
+}

@@ -1,0 +1,15 @@
+-- Each call has the room of the place that the next result has.
+use Rattle.std.proofs.Common.{arith}
+use Rattle.std.proofs.lemmas.Option.{slice_get-get_or}
+use Rattle.mbj_c.proofs.Bursting.{given-next, none-given}
+use Rattle.mbj_c.proofs.bursts.give.Goals as goal
+
+pub calling-init : goal.calling-init
+calling-init c = none-given c.args.call c.args.outs.now c.args.handle.now.manager
+
+pub calling-preserved : goal.calling-preserved
+calling-preserved c =
+    given-next c.calling.turn c.args.call c.args.outs.now c.calling.outs c.args.handle.now.manager c.calling.handle.manager
+    c.give_next.new.handle.manager c.calling.told c.give_next.new.told _ c.give_next.new.out c.calling.invariant
+    (slice_get-get_or c.calling.outs c.calling.told.given _ (omega (arith, c.calling.invariant.given, c.calling-test.true, c.calling.auto.outs)))
+    c.give_next.ensures.state c.give_next.ensures.told
