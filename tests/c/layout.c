@@ -48,6 +48,10 @@ static void print_exported_structs(void) {
     FIELD(struct mbj_counts, blocks);
     FIELD(struct mbj_counts, flush_runs);
     FIELD(struct mbj_counts, waiting);
+    STRUCT(struct mbj_raw_burst);
+    FIELD(struct mbj_raw_burst, made);
+    FIELD(struct mbj_raw_burst, given);
+    FIELD(struct mbj_raw_burst, refusal);
 }
 
 static void print_job(void) {
@@ -91,7 +95,7 @@ static void print_manager(void) {
     FIELD(MBJ_MGR, first);
     FIELD(MBJ_MGR, next);
     FIELD(MBJ_MGR, error);
-    FIELD(MBJ_MGR, is_lent);
+    FIELD(MBJ_MGR, lent);
     FIELD(MBJ_MGR, slots);
     FIELD(MBJ_MGR, jobs);
 }
