@@ -16,7 +16,7 @@ static const char usage[] =
     "--drawn     lengths that are drawn for each packet from LEAST to MOST bytes\n"
     "--jobs      null, cbc, ctr, gcm, ccm, cmac, gmac, sha1, sha224, sha256, sha384, sha512, the same five with hmac- before\n"
     "            them, these with -states behind them, or chained jobs as cbc+hmac-sha1, which are enciphered and then\n"
-    "            authenticated\n"
+    "            authenticated; with -bursts behind its name, by bursts of 32 here\n"
     "--threads   how many threads run at once, each with a manager of its own: 1\n"
     "--passes    how often the 256 jobs of a row are done, of which the fastest time counts: 40\n";
 
@@ -77,15 +77,24 @@ static size_t place(const char *word, size_t len, const char *const *words, size
     return 0;
 }
 
-/* The kind of jobs with this name: null, a cipher, an authentication, or one of each with + between them. */
+/* Whether -bursts stands behind a name. */
+static bool is_by_bursts(const char *name) {
+    static const char suffix[] = "-bursts";
+    size_t len = strlen(name), suffix_len = sizeof suffix - 1;
+    return len > suffix_len && strcmp(name + len - suffix_len, suffix) == 0;
+}
+
+/* The kind of jobs with this name: null, a cipher, an authentication, or one of each with + between them, and -bursts behind it or not. */
 static struct work read_work(const char *name) {
-    struct work work = {NO_CIPHER, NO_AUTH};
-    size_t cipher_len = strcspn(name, "+");
+    struct work work = {NO_CIPHER, NO_AUTH, is_by_bursts(name)};
+    size_t len = strlen(name) - (work.by_bursts ? strlen("-bursts") : 0), plus = strcspn(name, "+");
+    size_t cipher_len = plus < len ? plus : len;
     const char *auth = name[cipher_len] == '+' ? name + cipher_len + 1 : name;
     work.cipher = (enum cipher)place(name, cipher_len, ciphers, sizeof ciphers / sizeof *ciphers);
-    work.auth = (enum auth)place(auth, strlen(auth), auths, sizeof auths / sizeof *auths);
+    work.auth = (enum auth)place(auth, (size_t)(name + len - auth), auths, sizeof auths / sizeof *auths);
     bool has_cipher = work.cipher != NO_CIPHER, has_auth = work.auth != NO_AUTH;
-    bool is_combined = work.cipher == GCM || work.cipher == CCM, is_one = has_cipher || has_auth || strcmp(name, "null") == 0;
+    bool is_combined = work.cipher == GCM || work.cipher == CCM;
+    bool is_one = has_cipher || has_auth || (len == strlen("null") && memcmp(name, "null", len) == 0);
     bool is_chain = has_cipher && has_auth && !is_combined && work.auth != GMAC;
     if (auth != name ? !is_chain : !is_one)
         give_up(usage);
@@ -139,7 +148,7 @@ static void read_jobs(struct settings *s, char *at) {
 static void read_settings(struct settings *s, int argc, char **argv) {
     static const struct option options[] = {{"sizes", 1, NULL, 's'},   {"drawn", 1, NULL, 'd'},  {"jobs", 1, NULL, 'j'},
                                             {"threads", 1, NULL, 't'}, {"passes", 1, NULL, 'p'}, {NULL, 0, NULL, 0}};
-    static char sizes[] = "64,256,1500", jobs[] = "null,hmac-sha1,hmac-sha1-states,hmac-sha256,hmac-sha256-states,hmac-sha512,"
+    static char sizes[] = "64,256,1500", jobs[] = "null,null-bursts,hmac-sha1,hmac-sha1-states,hmac-sha256,hmac-sha256-states,hmac-sha512,"
                                                   "hmac-sha512-states,sha256,cbc,ctr,gcm,ccm,cmac,gmac,cbc+hmac-sha256";
     memset(s, 0, sizeof *s);
     s->threads = 1;

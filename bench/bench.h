@@ -34,10 +34,12 @@ enum auth {
     CCM_TAG
 };
 
-/* A kind of jobs: a cipher, an authentication, or both, the packet being enciphered before it is authenticated. */
+/* A kind of jobs: a cipher, an authentication, or both, the packet being enciphered before it is authenticated. This library takes them by
+ * single calls, or by bursts of 32; the other one by single calls. */
 struct work {
     enum cipher cipher;
     enum auth auth;
+    bool by_bursts;
 };
 
 /* The packets of a pass, which are enciphered in place, and where their tags go. */

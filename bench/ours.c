@@ -95,18 +95,45 @@ static size_t take(const MBJ_JOB *done) {
     return 1;
 }
 
-static void pass(void *started, const struct work *work, struct batch *batch) {
-    const struct started *s = (const struct started *)started;
-    MBJ_MGR *m = s->m;
+static size_t take_each(MBJ_JOB *const *done, uint32_t count) {
+    for (uint32_t i = 0; i < count; i++)
+        take(done[i]);
+    return count;
+}
+
+static size_t pass_by_calls(const struct started *s, const struct work *work, struct batch *batch) {
     const MBJ_JOB *done;
     size_t given = 0;
     for (size_t i = 0; i < BATCH; i++) {
-        fill(mbj_get_next_job(m), s, work, batch, i);
-        for (done = mbj_submit_job(m); done != NULL; done = mbj_get_completed_job(m))
+        fill(mbj_get_next_job(s->m), s, work, batch, i);
+        for (done = mbj_submit_job(s->m); done != NULL; done = mbj_get_completed_job(s->m))
             given += take(done);
     }
-    while ((done = mbj_flush_job(m)) != NULL)
+    while ((done = mbj_flush_job(s->m)) != NULL)
         given += take(done);
+    return given;
+}
+
+static size_t pass_by_bursts(const struct started *s, const struct work *work, struct batch *batch) {
+    enum { BURST = 32 };
+    MBJ_JOB *jobs[BURST];
+    size_t given = 0;
+    for (size_t i = 0; i < BATCH; i += BURST) {
+        if (mbj_get_next_burst(s->m, BURST, jobs) != BURST)
+            give_up("this library lacks room");
+        for (size_t k = 0; k < BURST; k++)
+            fill(jobs[k], s, work, batch, i + k);
+        given += take_each(jobs, mbj_submit_burst(s->m, BURST, jobs, jobs));
+        given += take_each(jobs, mbj_get_completed_burst(s->m, BURST, jobs));
+    }
+    for (uint32_t count; (count = mbj_flush_burst(s->m, BURST, jobs)) != 0;)
+        given += take_each(jobs, count);
+    return given;
+}
+
+static void pass(void *started, const struct work *work, struct batch *batch) {
+    const struct started *s = (const struct started *)started;
+    size_t given = work->by_bursts ? pass_by_bursts(s, work, batch) : pass_by_calls(s, work, batch);
     if (given != BATCH)
         give_up("this library lacks jobs");
 }

@@ -1,5 +1,5 @@
-/* Seals and opens ESP packets (RFC 4303) as a gateway does, all through one manager. Reads lines from standard input, and prints a line for
- * each, in order, N from 0:
+/* Seals and opens ESP packets (RFC 4303) as a gateway does, by bursts through one manager. Reads lines from standard input, and prints a
+ * line for each, in order, N from 0:
  *
  *     seal SUITE KEY AKEY SPI SEQ IV NEXT PAYLOAD    ->  N PACKET
  *     open SUITE KEY AKEY PACKET                     ->  N NEXT PAYLOAD, or N drop
@@ -345,34 +345,78 @@ static int complain(const char *what) {
     return FAILED;
 }
 
-static int do_line(MBJ_MGR *m, uint8_t *line, size_t len, size_t number) {
+enum { BURST = 32 };
+
+/* The lines of a burst, in which its jobs have their keys until they are submitted. */
+struct lines {
+    char *at[BURST];
+    size_t room[BURST];
+};
+
+static void answer_each(MBJ_JOB *const *done, uint32_t count) {
+    for (uint32_t i = 0; i < count; i++)
+        answer(done[i]);
+}
+
+/* Jobs for a burst, one at least. */
+static uint32_t get_jobs(MBJ_MGR *m, MBJ_JOB **jobs) {
+    if (mbj_queue_size(m) == MBJ_MAX_JOBS)
+        answer_each(jobs, mbj_flush_burst(m, BURST, jobs));
+    return mbj_get_next_burst(m, BURST, jobs);
+}
+
+static int do_line(MBJ_JOB *job, uint8_t *line, size_t len, size_t number) {
     struct association sa;
     struct packet *p = &packets[number % MBJ_MAX_JOBS];
-    if (mbj_queue_size(m) == MBJ_MAX_JOBS)
-        answer(mbj_flush_job(m));
     p->number = number;
     const char *fault = read_line(line, len, &sa, p);
     if (fault != NULL) {
         fprintf(stderr, "esp: line %zu: %s\n", number + 1, fault);
         return BAD_LINE;
     }
-    fill_job(mbj_get_next_job(m), &sa, p);
-    for (const MBJ_JOB *done = mbj_submit_job(m); done != NULL; done = mbj_get_completed_job(m))
-        answer(done);
+    fill_job(job, &sa, p);
+    return 0;
+}
+
+/* Fills so many jobs from lines; how many before the last line, or before a bad one. */
+static uint32_t read_lines(struct lines *lines, MBJ_JOB *const *jobs, uint32_t count, size_t *number, int *status) {
+    for (uint32_t i = 0; i < count; i++) {
+        ssize_t len = getline(&lines->at[i], &lines->room[i], stdin);
+        if (len < 0)
+            return i;
+        char *line = lines->at[i];
+        *status = do_line(jobs[i], (uint8_t *)line, (size_t)(line[len - 1] == '\n' ? len - 1 : len), *number);
+        if (*status != 0)
+            return i;
+        ++*number;
+    }
+    return count;
+}
+
+/* Submits a burst, and answers what is finished then. */
+static int submit(MBJ_MGR *m, uint32_t count, MBJ_JOB **jobs) {
+    answer_each(jobs, mbj_submit_burst(m, count, jobs, jobs));
     enum mbj_refusal refusal = mbj_get_errno(m);
+    for (uint32_t done; (done = mbj_get_completed_burst(m, BURST, jobs)) != 0;)
+        answer_each(jobs, done);
     return refusal == MBJ_ERR_NONE ? 0 : complain(mbj_refusal_text(refusal));
 }
 
 static int run(MBJ_MGR *m) {
-    char *line = NULL;
-    size_t room = 0, number = 0;
-    ssize_t len;
+    static struct lines lines;
+    MBJ_JOB *jobs[BURST];
+    size_t number = 0;
     int status = 0;
-    while (status == 0 && (len = getline(&line, &room, stdin)) >= 0)
-        status = do_line(m, (uint8_t *)line, (size_t)(line[len - 1] == '\n' ? len - 1 : len), number++);
-    free(line);
-    for (const MBJ_JOB *done; (done = mbj_flush_job(m)) != NULL;)
-        answer(done);
+    for (bool is_last = false; status == 0 && !is_last;) {
+        uint32_t wanted = get_jobs(m, jobs), filled = read_lines(&lines, jobs, wanted, &number, &status);
+        int submitted = submit(m, filled, jobs);
+        status = status == 0 ? submitted : status;
+        is_last = filled < wanted;
+    }
+    for (uint32_t done; (done = mbj_flush_burst(m, BURST, jobs)) != 0;)
+        answer_each(jobs, done);
+    for (int i = 0; i < BURST; i++)
+        free(lines.at[i]);
     if (status == 0 && !feof(stdin))
         status = complain("reading failed");
     return status;
