@@ -28,8 +28,9 @@ pub fn doubled(block: &[u8; 16]) -> [u8; 16]
     doubled_number(u128::from_be_bytes(*block)).to_be_bytes()
 }
 
-// K1 (SP 800-38B, 6.1): the enciphered zero block, doubled.
-fn first_subkey(key: &Schedule) -> [u8; 16]
+/// The first subkey, K1 (SP 800-38B, 6.1): the enciphered zero block, doubled. It is as secret as the key. The second one, K2, is K1
+/// doubled.
+pub fn first_subkey(key: &Schedule) -> [u8; 16]
     ensures { result ≡ first_subkey (encipher key.now) }
 {
     let mut blocks = [[0; BLOCK_BYTES]];

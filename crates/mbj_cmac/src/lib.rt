@@ -6,6 +6,7 @@ mod entry;
 mod kernel;
 mod plain;
 
+pub use closing::{doubled, first_subkey};
 pub use entry::CmacEntry;
 pub use kernel::CmacKernel;
 pub use plain::cmac_plain;

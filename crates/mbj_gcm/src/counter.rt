@@ -33,8 +33,8 @@ const LEAD: usize = 2;
 /// The blocks of a text whose key stream goes through the lanes in the first pass.
 const FIRST_BLOCKS: usize = AES_LANES - LEAD;
 
-// The number rises by `by` modulo 2^32, and the bytes before it stay (SP 800-38D, 6.2).
-fn risen(block: &[u8; 16], by: u32) -> [u8; 16]
+/// A counter block whose number, its last 4 bytes, rises by `by` modulo 2^32; the bytes before it stay (SP 800-38D, 6.2).
+pub fn risen(block: &[u8; 16], by: u32) -> [u8; 16]
     ensures { result ≡ risen block.now by }
 {
     let mut number = [0; NUMBER_BYTES];
@@ -45,8 +45,8 @@ fn risen(block: &[u8; 16], by: u32) -> [u8; 16]
     risen
 }
 
-// Writes the counter blocks after `counter`, of which there are no more than lanes.
-fn put_counters_after(blocks: &mut [[u8; 16]], counter: &[u8; 16])
+/// Writes the counter blocks after `counter`, of which there are no more than lanes.
+pub fn put_counters_after(blocks: &mut [[u8; 16]], counter: &[u8; 16])
     requires { length blocks.old ≤ AES_LANES }
     ensures { (j : ℕ) → j < length blocks.old → slice_index_or blocks.new j [] ≡ risen counter.now (j + 1) }
 {

@@ -12,20 +12,21 @@ const BYTE_BITS: u64 = 8;
 // The bytes of a bit length.
 const BIT_LENGTH_BYTES: usize = 8;
 
-// The bit length of a part, modulo 2^64.
-fn bit_length(part: &[u8]) -> [u8; 8]
-    ensures { result ≡ bit_length (length part.now) }
+// The bit length of a part of so many bytes, modulo 2^64.
+fn bit_length(bytes: u64) -> [u8; 8]
+    ensures { result ≡ bit_length bytes }
 {
-    BYTE_BITS.wrapping_mul(part.len() as u64).to_be_bytes()
+    BYTE_BITS.wrapping_mul(bytes).to_be_bytes()
 }
 
-// The block of the two bit lengths, which is hashed last.
-fn lengths(aad: &[u8], ciphertext: &[u8]) -> [u8; 16]
-    ensures { result ≡ bit_length (length aad.now) ++ bit_length (length ciphertext.now) }
+/// The block that GHASH takes last: the bit lengths of the additional data and of the ciphertext, each modulo 2^64, by their
+/// lengths in bytes (SP 800-38D, 7.1, step 5).
+pub fn length_block(aad_bytes: u64, ciphertext_bytes: u64) -> [u8; 16]
+    ensures { result ≡ bit_length aad_bytes ++ bit_length ciphertext_bytes }
 {
     let mut block = [0; BLOCK_BYTES];
-    block[..BIT_LENGTH_BYTES].copy_from_slice(&bit_length(aad));
-    block[BIT_LENGTH_BYTES..].copy_from_slice(&bit_length(ciphertext));
+    block[..BIT_LENGTH_BYTES].copy_from_slice(&bit_length(aad_bytes));
+    block[BIT_LENGTH_BYTES..].copy_from_slice(&bit_length(ciphertext_bytes));
     block
 }
 
@@ -38,7 +39,7 @@ pub fn hash_of_parts(subkey: &[u8; 16], aad: &[u8], ciphertext: &[u8]) -> [u8; 1
     let mut hash = Ghash::new(*subkey);
     hash.update_padded(aad);
     hash.update_padded(ciphertext);
-    hash.update_block(&lengths(aad, ciphertext));
+    hash.update_block(&length_block(aad.len() as u64, ciphertext.len() as u64));
     hash.value()
 }
 

@@ -12,7 +12,7 @@ returns c =
     let ys : List (List ℕ) = filled_blocks c.args.ciphertext.now in
     let one : c.update_padded.new.self ≡ state_after h xs = c.update_padded.ensures.so_far h [] c.new-hash.ensures in
     let both : c.update_padded-2.new.self ≡ state_after h (xs ++ ys) = c.update_padded-2.ensures.so_far h xs one in
-    let all : c.update_block.new.self ≡ state_after h (xs ++ ys ++ c.lengths.result ∷ []) =
+    let all : c.update_block.new.self ≡ state_after h (xs ++ ys ++ c.length_block.result ∷ []) =
     c.update_block.ensures.so_far h (xs ++ ys) both in
-    c.value.ensures.so_far h (xs ++ ys ++ c.lengths.result ∷ []) all
-    ∙ ap (λ l. ghash h (xs ++ ys ++ l ∷ [])) c.lengths.ensures
+    c.value.ensures.so_far h (xs ++ ys ++ c.length_block.result ∷ []) all
+    ∙ ap (λ l. ghash h (xs ++ ys ++ l ∷ [])) c.length_block.ensures
