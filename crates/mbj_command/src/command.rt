@@ -33,8 +33,8 @@ pub enum Command {
         submitters: u32,
         workers: u32,
     },
-    /// `replay`: reads a job file with a script behind its jobs, drives one front by the script, and prints what each
-    /// command comes to.
+    /// `replay`: reads a job file with a script behind its jobs, carries the script out over one front, and prints the outcome
+    /// of each command.
     Replay {
         submitters: u32,
         workers: u32,
@@ -47,12 +47,12 @@ pub enum WordFault {
     /// The words are no command. The text is for people: what is wrong and the usage, or the help or the version that
     /// was asked for.
     Text(String),
-    /// There wasn't memory enough to tell.
+    /// There wasn't enough memory for the text.
     Memory,
 }
 
 impl WordFault {
-    /// The fault that a text tells.
+    /// The fault with this text.
     pub fn from_str(alloc: Global, text: &str) -> WordFault {
         String::from_str(alloc, text).map_or(WordFault::Memory, WordFault::Text)
     }
@@ -163,10 +163,18 @@ fn fault_of(alloc: Global, error: &clap::Error) -> WordFault
 
 /// The command that the words are, the first of which is the program's name.
 ///
-/// The words are read by clap's rules: options come in any order, once each, as `--NAME NUMBER` or `--NAME=NUMBER`, and
-/// a plus sign and zeros may stand before a number. Words that ask for help or for the version are no command.
+/// The words are read by clap's rules: options come in any order, once each, as `--NAME NUMBER` or `--NAME=NUMBER`. A number
+/// may have leading zeros and one leading plus sign. `--help`, `-h`, `help` and `--version` are no commands.
 ///
-/// Answers `Text` exactly where the words are no command, and `Memory` for want of memory.
+/// Returns `Text` exactly where the words are no command, and `Memory` for want of memory.
+///
+/// ```
+/// match read_command(alloc, &words) {
+///     Ok(command) => format!(in alloc; "{command:?}"),
+///     Err(WordFault::Text(text)) => Ok(text),
+///     Err(WordFault::Memory) => Err(AllocError),
+/// }
+/// ```
 pub fn read_command<'a>(alloc: Global, words: &'a [String]) -> Result<Command, WordFault>
     ensures found { IfOk result (λ c. command (map string_bytes words.now) ≡ Some c) }
     ensures range { IfOk result IsInRange }

@@ -4,6 +4,7 @@ ghost use Rattle.clap.specs.Simple.{new_app, new_shape, with_rule, with_subcomma
 ghost use Rattle.clap.specs.declared.builder.command.Command.TheViews.{out-Command as fields_of};
 ghost use Rattle.mbj_command.specs.Command.{app, jobs, rule, seed, shape, size, submitters, workers};
 
+use crate::help::AFTER_HELP;
 use crate::options::{JOBS, NumberOption, SEED, SIZE, SUBMITTERS, WORKERS, argument};
 use clap::Command;
 use std::alloc::{AllocError, Global};
@@ -87,7 +88,7 @@ fn replay_command<'a>(alloc: Global) -> Result<Command<'a>, AllocError>
     ensures local { IfOk result (λ c. (fields_of c).has_globals ≡ false) }
 {
     let about =
-        "Reads a job file with a script behind its jobs, and prints what each command of the script comes to";
+        "Reads a job file with a script behind its jobs, and prints the outcome of each command of the script";
     let example = "Example: mbjobs replay --submitters 1 --workers 2 < replay.txt";
     with_parties(alloc, bare_command(alloc, "replay", about, example))
 }
@@ -100,9 +101,7 @@ fn program<'a>(alloc: Global) -> Command<'a>
 {
     Command::new(alloc, "mbjobs")
         .about("Ciphers and authenticates the packets of many jobs at a time")
-        .after_help(
-            "A job file is read from standard input. An IV has 16 bytes for cbc, 12 or 16 for ctr, 1 to 65535 for gcm and gmac, and 7 to 13 for ccm. A line `session KEY` gives session 0, 1, .. its key, and `@N` in the key's field of a job stands for the key of session N. Example: mbjobs run --submitters 1 --workers 0 < jobs.txt",
-        )
+        .after_help(AFTER_HELP)
         .version(VERSION)
         .subcommand_required(true)
 }
@@ -119,9 +118,9 @@ fn with_command<'a>(
     program.subcommand(command?)
 }
 
-/// The program's commands and their options, as clap is told them.
+/// The program's commands and their options, for clap.
 ///
-/// Answers `AllocError` for want of memory.
+/// Returns `AllocError` for want of memory.
 pub(crate) fn command_set<'a>(alloc: Global) -> Result<Command<'a>, AllocError>
     ensures { IfOk result (λ c. app_of c ≡ app) }
 {

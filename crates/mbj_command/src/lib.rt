@@ -3,6 +3,7 @@
 
 mod command;
 mod command_set;
+mod help;
 mod options;
 
 pub use command::{Command, WordFault, read_command};

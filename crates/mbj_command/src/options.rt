@@ -22,7 +22,7 @@ pub(crate) struct NumberOption {
 pub(crate) const SUBMITTERS: NumberOption = NumberOption {
     name: "submitters",
     placeholder: "S",
-    help: "Submitters, which hand in jobs: 1 to 16, as in --submitters 1",
+    help: "Submitters, which post jobs and collect their results: 1 to 16, as in --submitters 1",
     least: 1,
     greatest: MAX_SUBMITTERS as u64,
 };
@@ -54,12 +54,12 @@ pub(crate) const JOBS: NumberOption = NumberOption {
 pub(crate) const SIZE: NumberOption = NumberOption {
     name: "size",
     placeholder: "B",
-    help: "Jobs to hand over in one burst: 1 to 512, as in --size 32",
+    help: "Jobs of a group, which are submitted by as few calls as possible: 1 to 512, as in --size 32",
     least: 1,
     greatest: CELLS as u64,
 };
 
-/// The option as clap is told it.
+/// The option for clap.
 pub(crate) fn argument<'a>(alloc: Global, option: &NumberOption) -> Arg<'a>
     ensures rule { rule_of result ≡ rule record { name = option.now.name.now; least = option.now.least; greatest = option.now.greatest } }
     ensures local { result.global ≡ false }
