@@ -199,7 +199,7 @@ const char *mbj_c_build_text(void);
  * but the lower 16 bits, is the same. */
 uint32_t mbj_c_version(void);
 
-/* Makes a manager, and answers MBJ_ERR_NONE, MBJ_ERR_HAS_MANAGER or MBJ_ERR_MEMORY. */
+/* Makes a manager, and returns MBJ_ERR_NONE, MBJ_ERR_HAS_MANAGER or MBJ_ERR_MEMORY. */
 uint32_t mbj_c_new(struct mbj_handle *);
 
 /* Frees the manager with its jobs; false where there is none. */
@@ -211,7 +211,7 @@ uint32_t mbj_c_queue_size(struct mbj_handle *);
 /* Tells the counts of a kind; false where there is no manager or no such kind, and nothing is written then. */
 bool mbj_c_count(struct mbj_handle *, uint32_t kind, struct mbj_counts *);
 
-/* Copies a job into the next cell, in place of one that was filled and not submitted, and answers MBJ_ERR_NONE, MBJ_ERR_NO_MANAGER,
+/* Copies a job into the next cell, in place of one that was filled and not submitted, and returns MBJ_ERR_NONE, MBJ_ERR_NO_MANAGER,
  * MBJ_ERR_FULL, MBJ_ERR_WORD or MBJ_ERR_MEMORY. Only this call, its burst and mbj_c_new take memory. */
 uint32_t mbj_c_fill(struct mbj_handle *, const struct mbj_raw_job *);
 
@@ -225,7 +225,7 @@ bool mbj_c_flush(struct mbj_handle *, struct mbj_raw_done *, uint32_t *refusal);
 /* Bursts: what so many single calls do, one after another, by one call. No array is at NULL, even where it has no element.
  *
  * Copies jobs into the next cells, one behind another, the first one in place of a job that was filled and not submitted. Answers how many
- * are filled, and writes to each job's place in refusals what mbj_c_fill answers, MBJ_ERR_FULL where no cell is left behind those that the
+ * are filled, and writes to each job's place in refusals what mbj_c_fill returns, MBJ_ERR_FULL where no cell is left behind those that the
  * burst filled. A job that is refused takes no cell, and the jobs behind it are filled. As many jobs are looked at as there are places for
  * refusals. This call takes memory as mbj_c_fill does. */
 uint32_t mbj_c_fill_burst(struct mbj_handle *, const struct mbj_raw_job *jobs, size_t jobs_len, uint32_t *refusals, size_t refusals_len);
@@ -237,7 +237,7 @@ void mbj_c_submit_burst(struct mbj_handle *, struct mbj_raw_done *rooms, size_t 
 void mbj_c_get_completed_burst(struct mbj_handle *, struct mbj_raw_done *rooms, size_t rooms_len, struct mbj_raw_burst *);
 void mbj_c_flush_burst(struct mbj_handle *, struct mbj_raw_done *rooms, size_t rooms_len, struct mbj_raw_burst *);
 
-/* The next two calls need no manager: they take no memory, and any threads may make them at once. Each answers MBJ_ERR_NONE, or a refusal,
+/* The next two calls need no manager: they take no memory, and any threads may make them at once. Each returns MBJ_ERR_NONE, or a refusal,
  * and then writes nothing: MBJ_ERR_WORD where the hash is none, MBJ_ERR_NO_ROOM where the room is shorter than what is written. Room that
  * is longer stays as it was behind that. */
 
@@ -419,7 +419,7 @@ MBJ_API void mbj_free_mgr(MBJ_MGR *m) {
     free(m);
 }
 
-/* Why the last call answered no job: MBJ_ERR_NONE where there was none to give, or the refusal. */
+/* Why the last call returned no job: MBJ_ERR_NONE where there was none to give, or the refusal. */
 MBJ_API enum mbj_refusal mbj_get_errno(const MBJ_MGR *m) {
     return m == NULL ? MBJ_ERR_NO_MANAGER : (enum mbj_refusal)m->error;
 }
@@ -445,7 +445,7 @@ static inline void mbj_make_blank_(MBJ_JOB *job) {
     job->reason = MBJ_REASON_NONE;
 }
 
-/* Hands out up to n jobs, to be submitted in their order, and answers how many: first those that were handed out and aren't submitted yet,
+/* Hands out up to n jobs, to be submitted in their order, and returns how many: first those that were handed out and aren't submitted yet,
  * as they are, and then blank ones. They are fewer than n where fewer are left, and 0 with MBJ_ERR_FULL where MBJ_MAX_JOBS jobs are
  * submitted and not given back: nothing is forced then, so flush some. */
 MBJ_API uint32_t mbj_get_next_burst(MBJ_MGR *m, uint32_t n, MBJ_JOB **jobs) {
@@ -701,7 +701,7 @@ static inline uint32_t mbj_give_each_back_(MBJ_MGR *m, const struct mbj_rooms_ *
     return (uint32_t)told->given;
 }
 
-/* Fills the first n jobs that are handed out, n not being 0, and answers how many there are before one that lacked memory. */
+/* Fills the first n jobs that are handed out, n not being 0, and returns how many there are before one that lacked memory. */
 static inline uint32_t mbj_fill_part_(MBJ_MGR *m, uint32_t n) {
     struct mbj_raw_job raws[MBJ_PART_];
     uint32_t refusals[MBJ_PART_], filled = 0, said = 0;
@@ -736,7 +736,7 @@ static inline bool mbj_are_lent_(MBJ_MGR *m, uint32_t n, MBJ_JOB *const *jobs) {
 }
 
 /* Submits n jobs as mbj_submit_job does, one after another: the first ones that mbj_get_next_burst handed out, in its order. Writes the
- * jobs that are given back to done, which has n places and may be jobs itself, and answers how many they are. With MBJ_ERR_NONE all n jobs
+ * jobs that are given back to done, which has n places and may be jobs itself, and returns how many they are. With MBJ_ERR_NONE all n jobs
  * were submitted; one whose arguments are refused comes back in its place. With MBJ_ERR_NO_MANAGER, or with MBJ_ERR_NO_JOB where the jobs
  * aren't those, none was. With MBJ_ERR_MEMORY those with MBJ_STATUS_ERROR weren't: they stay handed out, and may be submitted again. Where
  * two jobs are given back by one burst, nothing that is written for one overlaps what is written for the other. */
@@ -780,13 +780,13 @@ static inline uint32_t mbj_give_burst_(MBJ_MGR *m, uint32_t n, mbj_giving_ call,
     return given;
 }
 
-/* Gives back up to n jobs that are finished, as mbj_get_completed_job does, and answers how many. What is written for them doesn't
+/* Gives back up to n jobs that are finished, as mbj_get_completed_job does, and returns how many. What is written for them doesn't
  * overlap. */
 MBJ_API uint32_t mbj_get_completed_burst(MBJ_MGR *m, uint32_t n, MBJ_JOB **done) {
     return mbj_give_burst_(m, n, mbj_c_get_completed_burst, done);
 }
 
-/* Finishes and gives back up to n jobs, as mbj_flush_job does, and answers how many: fewer than n where no more are submitted and not given
+/* Finishes and gives back up to n jobs, as mbj_flush_job does, and returns how many: fewer than n where no more are submitted and not given
  * back. What is written for them doesn't overlap. */
 MBJ_API uint32_t mbj_flush_burst(MBJ_MGR *m, uint32_t n, MBJ_JOB **done) {
     return mbj_give_burst_(m, n, mbj_c_flush_burst, done);

@@ -26,14 +26,14 @@ struct mbj_block {
 
 /* A new block of len bytes or more, at a multiple of align, which is 1, 2, 4, 8 or 16. len is below 2^63, and may be 0: the block has an
  * address of its own then too. Its bytes may be anything. Nothing else uses them until it is freed. Where there is none, the call that
- * asked answers that memory wants, and changes nothing. */
+ * asked returns that memory wants, and changes nothing. */
 struct mbj_block rattle_alloc(size_t len, size_t align);
 
 /* Makes the block at old one of len bytes or more, which may be elsewhere. Its first kept bytes are as they were; kept is at most len, and
  * at most what the block was asked for. align is that of the old block. Where there is none, the old block is as it was. */
 struct mbj_block rattle_realloc(void *old, size_t kept, size_t len, size_t align);
 
-/* Frees a block that one of the two answered. It is freed once, and at isn't NULL. */
+/* Frees a block that one of the two returned. It is freed once, and at isn't NULL. */
 void rattle_dealloc(void *at);
 
 #ifdef __cplusplus

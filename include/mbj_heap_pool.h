@@ -20,7 +20,7 @@ struct mbj_pool;
  * where they are too few: less than 600 go for the pool itself. With overflow, what doesn't fit is taken from malloc, and returns there. */
 struct mbj_pool *mbj_pool_make(void *at, size_t len, bool has_overflow);
 
-/* Names the pool that this thread's next calls allocate from, and answers the one that was named before. Where a thread names none, or NULL,
+/* Names the pool that this thread's next calls allocate from, and returns the one that was named before. Where a thread names none, or NULL,
  * every block is refused. A block that grows stays with its own pool. */
 struct mbj_pool *mbj_pool_name(struct mbj_pool *pool);
 

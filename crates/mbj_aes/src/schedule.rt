@@ -38,6 +38,13 @@ impl Model for Schedule {
 
 impl Schedule {
     /// The schedule of a key of 16, 24 or 32 bytes: KEYEXPANSION (FIPS 197, 5.2). It takes no memory.
+    ///
+    /// ```
+    /// let schedule = Schedule::expand(&ROUND_KEYS[0].1.to_be_bytes());
+    /// for (round, key) in &ROUND_KEYS {
+    ///     assert!(rt; has_round_key(&schedule, *round, *key), "{round}");
+    /// }
+    /// ```
     pub fn expand(key: &[u8]) -> Schedule
         requires { IsKeySize (length key.now) }
         ensures schedule { result ≡ key_schedule key.now }

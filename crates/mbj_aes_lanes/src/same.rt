@@ -10,6 +10,18 @@ use mbj_types::{AES_LANES, BLOCK_BYTES};
 /// Encrypts at most `AES_LANES` blocks under one key: CIPHER (FIPS 197, 5.1). It takes no memory. At most `FEW_BLOCKS`
 /// take less time than more of them. Many blocks under one key are better served by a `TextKey`, since each call of this one
 /// transposes the key.
+///
+/// ```
+/// places.fill(plaintext.to_be_bytes());
+/// encrypt_same(key, places);
+/// for place in places.iter() {
+///     expect(rt, "encrypted", *place, ciphertext.to_be_bytes());
+/// }
+/// decrypt_same(key, places);
+/// for place in places.iter() {
+///     expect(rt, "decrypted", *place, plaintext.to_be_bytes());
+/// }
+/// ```
 pub fn encrypt_same(key: &Schedule, blocks: &mut [[u8; 16]])
     requires { length blocks.old ≤ AES_LANES }
     ensures each { blocks.new ≡ map (encipher key.now) blocks.old }

@@ -14,7 +14,7 @@ use mbj_types::{AES_LANES, AesWord, Lane8};
 use std::marker::Model;
 
 /// The schedule of a text's key, which every lane has, and which contracts see as the list of its bytes. It keeps 16 plane bytes
-/// for each round key, and a pass spreads them over the lanes as it comes to the round. It is a plain value of 260 bytes, and
+/// for each round key, and a pass spreads them over the lanes at that round. It is a plain value of 260 bytes, and
 /// owns no memory.
 #[derive(Drop)]
 pub struct TextKey {

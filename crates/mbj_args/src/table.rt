@@ -12,6 +12,17 @@ fn passes_end(off: u32, len: u32, packet_len: usize) -> bool
 }
 
 /// The reason for which a job is refused: that of the first row of the argument table that applies, or none.
+///
+/// ```
+/// job.cipher = *cipher;
+/// job.auth = *auth;
+/// put_all(alloc, job, &[SAME])?;
+/// put_all(alloc, job, lengths_of_cipher(*cipher))?;
+/// put_all(alloc, job, lengths_of_auth(*auth))?;
+/// put(alloc, job, *first, *one)?;
+/// put(alloc, job, *second, *two)?;
+/// Ok(check(job))
+/// ```
 pub fn check(job: &Job) -> Option<Reason>
     ensures { result ≡ verdict job.now }
 {

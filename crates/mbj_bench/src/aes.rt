@@ -189,7 +189,7 @@ fn cbc_decryption(text: &mut [u8], turns: u32)
     }
 }
 
-/// Runs the call for some turns, and answers a word that its result depends on.
+/// Runs the call for some turns, and returns a word that its result depends on.
 fn run(call: Call, texts: &mut Texts, turns: u32) -> u64 {
     match call {
         Call::Encrypt(rounds) => encrypt(rounds, &mut texts.blocks, turns),

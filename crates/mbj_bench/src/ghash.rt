@@ -55,7 +55,7 @@ pub fn print_digest(rt: &impl Print) -> io::Result<()> {
     print_bytes(rt, "ghash: ", &hash.value())
 }
 
-/// Does the work once, and answers a word that its result depends on. The subkey depends on `seed`.
+/// Does the work once, and returns a word that its result depends on. The subkey depends on `seed`.
 fn run(work: Work, key: &Schedule, seed: u64, text: &mut [u8]) -> u64 {
     match work {
         Work::Sha1 => Sha1::digest(text)[0] as u64,

@@ -47,7 +47,7 @@ fn post_and_claim(front: &Front, party: &mut Party, job: Job, cell: u32)
     }
 }
 
-/// Collects all results of a submitter, and answers how many there are.
+/// Collects all results of a submitter, and returns how many there are.
 fn collect_all<R: Wait>(
     rt: &R,
     alloc: Global,
@@ -62,7 +62,7 @@ fn collect_all<R: Wait>(
     Ok(results.len())
 }
 
-/// Posts a job into the cell and claims it, and before that collects all results where no cell is left. Answers how many
+/// Posts a job into the cell and claims it, and before that collects all results where no cell is left. Returns how many
 /// these are.
 fn work_one<R: Wait>(
     rt: &R,
@@ -83,7 +83,7 @@ fn work_one<R: Wait>(
     Ok(results)
 }
 
-/// Has jobs done by one submitter who claims each job that it posts. Answers how many results there are.
+/// Has jobs done by one submitter who claims each job that it posts. Returns how many results there are.
 fn work<R: Wait>(
     rt: &R,
     alloc: Global,

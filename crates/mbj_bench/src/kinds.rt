@@ -31,7 +31,7 @@ pub trait Timed: Kernel {
     fn entry(packet: Vec<u8>) -> Option<Self::Entry>
         ensures { IfSome result (λ e. 1 ≤ Self.rest_of e) };
 
-    /// The packet of an entry, and a byte of what it came to where no round is left.
+    /// The packet of an entry, and a byte of its result where no round is left.
     fn ended(entry: Self::Entry) -> (Vec<u8>, u8);
 
     /// The same by the plain function.

@@ -1,5 +1,11 @@
 //! The blocks of 16 bytes of a text, numbered from 0 on, of which the last may be shorter: reading one, putting one in
 //! its place, and xoring them with masks. No call takes memory.
+//!
+//! ```
+//! let mut text = [0x0f; 20];
+//! put_block(&mut text, 0, &[0xf0; BLOCK_BYTES]);
+//! expect(&rt, "put", block_at(&text, 0), [0xf0; BLOCK_BYTES]);
+//! ```
 #![tactic(auto)]
 
 mod masks;

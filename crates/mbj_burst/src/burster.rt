@@ -15,7 +15,7 @@ use mbj_types::{Done, Job};
 use std::alloc::{AllocError, Global};
 use std::vec::IntoIter;
 
-/// A manager whose bursts are told in lines.
+/// A manager, and the lines of its bursts.
 #[derive(Drop)]
 struct Burster {
     manager: Manager,
@@ -47,7 +47,7 @@ impl Burster {
         })
     }
 
-    /// Flushes `count` jobs at most, and tells it. Answers how many results came back.
+    /// Flushes `count` jobs at most, and tells it. Returns how many results came back.
     fn flush(&mut self, count: u32) -> Result<u32, AllocError>
         requires { HasRoom 0 self.old }
         ensures lines { OnOk result (self.new.lines.items
@@ -103,7 +103,7 @@ impl Burster {
         }
     }
 
-    /// Submits in one burst as many of the next `count` jobs as there are cells, and tells it. Answers how many.
+    /// Submits in one burst as many of the next `count` jobs as there are cells, and tells it. Returns how many.
     fn submit(&mut self, jobs: &mut IntoIter<Job>, count: u32) -> Result<u32, AllocError>
         requires closed { self.old.manager.opened ≡ [] }
         requires count { count ≤ length (into_iter_items jobs.old) }
@@ -196,7 +196,12 @@ impl Burster {
 /// The lines that tell how many results one manager gives back over the jobs of a file, which are handed over in groups of
 /// `size`, and the results.
 ///
-/// Answers `AllocError` for want of memory.
+/// Returns `AllocError` for want of memory.
+///
+/// ```
+/// let told = tell_bursts(alloc, jobs, size)?;
+/// Ok(write_told(out, &told)?)
+/// ```
 pub fn tell_bursts(alloc: Global, jobs: Vec<Job>, size: u32) -> Result<Told, AllocError>
     requires { 0 < size }
     ensures lines { IfOk result (λ told. told.lines.items ≡ (burst_told size jobs.items).0) }

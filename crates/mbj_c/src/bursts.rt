@@ -44,7 +44,7 @@ fn fill_next(
     }
 }
 
-/// Fills the jobs one after another, and writes to each one's place why it is refused, or 0. Answers how many are filled.
+/// Fills the jobs one after another, and writes to each one's place why it is refused, or 0. Returns how many are filled.
 pub(crate) fn fill(
     alloc: Global,
     handle: &mut Handle,

@@ -114,7 +114,7 @@ impl RawDone<'_> {
         self.reason = reason_of(given.done.status);
     }
 
-    /// Tells C of an answer: answers whether it has a result, which is written then, and writes its code.
+    /// Writes C's result: returns whether it has a result, which is written then, and writes its code.
     pub(crate) fn tell(&mut self, answer: Result<Option<Given>, Refusal>, refusal: &mut u32) -> bool
         requires { IsGivenRoom answer self.old }
         ensures { IsTold answer result refusal.new self.old self.new }

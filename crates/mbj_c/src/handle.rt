@@ -48,7 +48,7 @@ impl Handle {
         }
     }
 
-    /// The manager as its box's pointer. Answers `None` exactly where the handle has none.
+    /// The manager as its box's pointer. Returns `None` exactly where the handle has none.
     pub(crate) fn unseal(self) -> Option<RawBox<RangedManager, Global>>
         ensures { option_map (λ b. b.value) result ≡ self.manager }
     {
@@ -63,7 +63,7 @@ impl Handle {
         }
     }
 
-    /// The manager as a box. Answers `None` exactly where the handle has none.
+    /// The manager as a box. Returns `None` exactly where the handle has none.
     pub(crate) fn into_manager(self) -> Option<Box<RangedManager>>
         ensures { option_map (λ b. b.value) result ≡ self.manager }
     {
@@ -73,7 +73,7 @@ impl Handle {
         }
     }
 
-    /// Takes the manager out. Answers `None` exactly where there is none.
+    /// Takes the manager out. Returns `None` exactly where there is none.
     pub(crate) fn take(&mut self, alloc: Global) -> Option<Box<RangedManager>>
         ensures manager { option_map (λ b. b.value) result ≡ self.old.manager }
         ensures empty { self.new.manager ≡ None }

@@ -61,7 +61,7 @@ impl RawJob<'_> {
 
     /// The job with these words, its bytes in memory of their own.
     ///
-    /// Answers `AllocError` for want of memory.
+    /// Returns `AllocError` for want of memory.
     pub(crate) fn copied(&self, alloc: Global, words: Words) -> Result<Job, AllocError>
         ensures { IfOk result (λ j. j ≡ job_with self.now words) }
     {

@@ -55,7 +55,7 @@ use std::alloc::Global;
 pub use ranged::RangedManager;
 pub use version::VERSION;
 
-/// Answers the library's version. A program compares it with that of the header that it was compiled with.
+/// Returns the library's version. A program compares it with that of the header that it was compiled with.
 #[unsafe(no_mangle)]
 pub extern "C" fn mbj_c_version() -> u32
     ensures { result ≡ VERSION }
@@ -63,8 +63,14 @@ pub extern "C" fn mbj_c_version() -> u32
     VERSION
 }
 
-/// Makes a manager. Answers 0, or the code of a refusal: `HasManager` exactly where the handle has one already, else
+/// Makes a manager. Returns 0, or the code of a refusal: `HasManager` exactly where the handle has one already, else
 /// `Memory` for want of memory.
+///
+/// ```
+/// let mut handle = Handle::empty(alloc);
+/// expect_number(rt, mbj_c_new(alloc, &mut handle), 0);
+/// handle
+/// ```
 #[unsafe(no_mangle)]
 pub extern "C" fn mbj_c_new(alloc: Global, handle: &mut Handle) -> u32
     ensures want_of_memory { result ≡ refusal_code Memory → (made handle.old.manager).0 ≡ Ok tt }
@@ -75,7 +81,7 @@ pub extern "C" fn mbj_c_new(alloc: Global, handle: &mut Handle) -> u32
     code(calls::make(alloc, handle))
 }
 
-/// Frees the manager with all its jobs. Answers false exactly where there is none.
+/// Frees the manager with all its jobs. Returns false exactly where there is none.
 #[unsafe(no_mangle)]
 pub extern "C" fn mbj_c_free(alloc: Global, handle: &mut Handle) -> bool
     ensures freed { result ≡ is_some handle.old.manager }
@@ -93,7 +99,7 @@ pub extern "C" fn mbj_c_queue_size(alloc: Global, handle: &mut Handle) -> u32
     calls::queue_size(alloc, handle)
 }
 
-/// Tells what is counted of the lanes of a kind, whose code is its place in `Kind::ALL`, from 0 on. Answers false exactly
+/// Tells what is counted of the lanes of a kind, whose code is its place in `Kind::ALL`, from 0 on. Returns false exactly
 /// where there is no manager or no such kind; `out` then stays as it was.
 #[unsafe(no_mangle)]
 pub extern "C" fn mbj_c_count(
@@ -108,7 +114,7 @@ pub extern "C" fn mbj_c_count(
     calls::count(alloc, handle, kind, out)
 }
 
-/// Fills the next job with a copy of C's, in place of what was filled and not submitted. Answers 0, or the code of a
+/// Fills the next job with a copy of C's, in place of what was filled and not submitted. Returns 0, or the code of a
 /// refusal: `NoManager` exactly where there is no manager; else `Full` exactly where `CELLS` jobs are submitted and not given
 /// back; else `Word` exactly where a code is no cipher, direction, order or authentication; else `Memory` for want of
 /// memory. A refused call changes nothing. Whether the job's arguments are refused shows when its result is given back.
@@ -124,11 +130,11 @@ pub extern "C" fn mbj_c_fill(alloc: Global, handle: &mut Handle, raw: &RawJob<'_
 
 /// Submits the job that was filled, and gives the earliest job's result where that is finished.
 ///
-/// Answers true exactly where it gives one, which is then written whole; else `out` stays as it was. `refusal` is 0, or the
+/// Returns true exactly where it gives one, which is then written whole; else `out` stays as it was. `refusal` is 0, or the
 /// code of a refusal: `NoManager` exactly where there is no manager; else `NoJob` exactly where no job is filled; else
-/// `NoRoom` exactly where a result is owed and the room for bytes is shorter than the range of the job whose result is given
-/// back next, whether it is finished or not, or the room for the tag is under 64 bytes. A job without a cipher and one that is
-/// refused have a range of no byte.
+/// `NoRoom` exactly where a job is in the manager, or is submitted by this call, and the room for bytes is shorter than the range
+/// of the job whose result comes next, finished or not, or the room for the tag is under 64 bytes. A job without a cipher and one
+/// that is refused have an empty range.
 #[unsafe(no_mangle)]
 pub extern "C" fn mbj_c_submit(
     alloc: Global,
@@ -142,7 +148,7 @@ pub extern "C" fn mbj_c_submit(
     calls::give(alloc, handle, Call::Submit, out, refusal)
 }
 
-/// Gives the earliest job's result where that is finished, and runs nothing. It answers as `mbj_c_submit` does, but never
+/// Gives the earliest job's result where that is finished, and runs nothing. It returns as `mbj_c_submit` does, but never
 /// `NoJob`.
 #[unsafe(no_mangle)]
 pub extern "C" fn mbj_c_get_completed(
@@ -157,8 +163,8 @@ pub extern "C" fn mbj_c_get_completed(
     calls::give(alloc, handle, Call::Completed, out, refusal)
 }
 
-/// Finishes the earliest job, and gives its result. It answers as `mbj_c_get_completed` does; where it isn't refused, it
-/// answers false exactly where no job is submitted and not given back.
+/// Finishes the earliest job, and gives its result. It returns as `mbj_c_get_completed` does; where it isn't refused, it
+/// returns false exactly where no job is submitted and not given back.
 #[unsafe(no_mangle)]
 pub extern "C" fn mbj_c_flush(
     alloc: Global,
@@ -173,8 +179,8 @@ pub extern "C" fn mbj_c_flush(
     calls::give(alloc, handle, Call::Flush, out, refusal)
 }
 
-/// Fills jobs with copies of C's, one after another: the first open cell as `mbj_c_fill` does, and then the cells behind it. Answers
-/// how many are filled, and writes to each job's place among the refusals 0, or the code of a refusal, as `mbj_c_fill` answers it:
+/// Fills jobs with copies of C's, one after another: the first open cell as `mbj_c_fill` does, and then the cells behind it. Returns
+/// how many are filled, and writes to each job's place among the refusals 0, or the code of a refusal, as `mbj_c_fill` returns it:
 /// `Full` exactly where no cell is left behind those that the burst filled. A job that is refused takes no cell, and the jobs behind it
 /// are filled. Where there are fewer places than jobs, the jobs without a place are left out.
 #[unsafe(no_mangle)]
@@ -237,7 +243,7 @@ pub extern "C" fn mbj_c_flush_burst(
 /// SHA-512. A key longer than a block is hashed first. `hash` is 0 SHA-1, 1 SHA-224, 2 SHA-256, 3 SHA-384, 4 SHA-512. It needs
 /// no manager and takes no memory.
 ///
-/// Answers 0, or the code of a refusal: `Word` exactly where the code is no hash; else `NoRoom` exactly where `out` is shorter
+/// Returns 0, or the code of a refusal: `Word` exactly where the code is no hash; else `NoRoom` exactly where `out` is shorter
 /// than the states. A refused call writes nothing.
 #[unsafe(no_mangle)]
 pub extern "C" fn mbj_hmac_states(hash: u32, key: &[u8], out: &mut [u8]) -> u32
@@ -251,7 +257,7 @@ pub extern "C" fn mbj_hmac_states(hash: u32, key: &[u8], out: &mut [u8]) -> u32
 /// 180-4, 6): 20 bytes for SHA-1, 32 for SHA-224 and SHA-256, 64 for SHA-384 and SHA-512. `hash` is as `mbj_hmac_states` has
 /// it. It needs no manager and takes no memory.
 ///
-/// Answers 0, or the code of a refusal: `Word` exactly where the code is no hash; else `TextLength` exactly where the block
+/// Returns 0, or the code of a refusal: `Word` exactly where the code is no hash; else `TextLength` exactly where the block
 /// hasn't 64 bytes, or 128 for SHA-384 and SHA-512; else `NoRoom` exactly where `out` is shorter than the state. A refused call
 /// writes nothing.
 #[unsafe(no_mangle)]

@@ -115,7 +115,7 @@ fn leave(ranges: &mut Ring<CipherRange>, done: Option<Done>) -> Option<Given>
 impl RangedManager {
     /// A manager with no job. It takes all the memory that the manager and the ranges need.
     ///
-    /// Answers `AllocError` for want of memory.
+    /// Returns `AllocError` for want of memory.
     pub(crate) fn new(alloc: Global) -> Result<RangedManager, AllocError>
         ensures { IfOk result (λ m. m ≡ new_ranged) }
     {
@@ -141,7 +141,7 @@ impl RangedManager {
         }
     }
 
-    /// Fills an open cell, or the one behind those that are open, with a copy of C's job. Where it answers a refusal, nothing
+    /// Fills an open cell, or the one behind those that are open, with a copy of C's job. Where it returns a refusal, nothing
     /// changes.
     pub(crate) fn fill(&mut self, alloc: Global, cell: u32, raw: &RawJob<'_>) -> Result<(), Refusal>
         requires cell { cell ≤ length self.old.manager.opened }
@@ -184,7 +184,7 @@ impl RangedManager {
         call != Call::Submit || self.ranges.open_len() > 0
     }
 
-    /// The range that the first result that is owed gives back.
+    /// The range of the job whose result comes next.
     fn first_range(&mut self, call: Call) -> Option<CipherRange>
         ensures range { result ≡ first_range call self.old }
         ensures same { self.new ≡ self.old }

@@ -26,7 +26,7 @@ pub(crate) enum Refusal {
 }
 
 impl Refusal {
-    /// What C is told, which is not 0.
+    /// The number that C gets, which is not 0.
     pub(crate) fn code(self) -> u32
         ensures { result ≡ refusal_code self }
     {
@@ -51,7 +51,7 @@ impl From<AllocError> for Refusal {
     }
 }
 
-/// What C is told of an answer: 0, or the code of the refusal.
+/// The number that C gets of a result: 0, or the code of the refusal.
 pub(crate) fn code(answer: Result<(), Refusal>) -> u32
     ensures { result ≡ code_of answer }
 {

@@ -1,4 +1,4 @@
-//! What the tests share: vectors of the standards, jobs, and calls whose answers are compared.
+//! What the tests share: vectors of the standards, jobs, and calls whose results are compared.
 
 mod bursts;
 mod refusals;

@@ -59,49 +59,49 @@ const HASHES: [HashName; 5] = [
     HashName::Sha512,
 ];
 
-/// The word that stands at a code in its list. Answers `None` exactly where the code is none.
+/// The word that stands at a code in its list. Returns `None` exactly where the code is none.
 fn word_at<T: Copy>(words: &[T], code: u32) -> Option<T>
     ensures { result ≡ slice_get words.now code }
 {
     words.get(code as usize).copied()
 }
 
-/// The cipher with this code. Answers `None` exactly where the code is none.
+/// The cipher with this code. Returns `None` exactly where the code is none.
 pub(crate) fn cipher_at(code: u32) -> Option<Cipher>
     ensures { result ≡ slice_get ciphers code }
 {
     word_at(&CIPHERS, code)
 }
 
-/// The direction with this code. Answers `None` exactly where the code is none.
+/// The direction with this code. Returns `None` exactly where the code is none.
 pub(crate) fn dir_at(code: u32) -> Option<Dir>
     ensures { result ≡ slice_get dirs code }
 {
     word_at(&DIRS, code)
 }
 
-/// The order with this code. Answers `None` exactly where the code is none.
+/// The order with this code. Returns `None` exactly where the code is none.
 pub(crate) fn order_at(code: u32) -> Option<Order>
     ensures { result ≡ slice_get orders code }
 {
     word_at(&ORDERS, code)
 }
 
-/// The authentication with this code. Answers `None` exactly where the code is none.
+/// The authentication with this code. Returns `None` exactly where the code is none.
 pub(crate) fn auth_at(code: u32) -> Option<Auth>
     ensures { result ≡ slice_get auths code }
 {
     word_at(&AUTHS, code)
 }
 
-/// The hash with this code. Answers `None` exactly where the code is none.
+/// The hash with this code. Returns `None` exactly where the code is none.
 pub(crate) fn hash_at(code: u32) -> Option<HashName>
     ensures { result ≡ slice_get hashes code }
 {
     word_at(&HASHES, code)
 }
 
-/// The kind of lanes with this code. Answers `None` exactly where the code is none.
+/// The kind of lanes with this code. Returns `None` exactly where the code is none.
 pub(crate) fn kind_at(code: u32) -> Option<Kind>
     ensures { result ≡ slice_get all_kinds code }
 {

@@ -12,7 +12,7 @@ use mbj_blocks::block_from;
 use mbj_types::BLOCK_BYTES;
 use std::marker::Model;
 
-/// A CBC encryption on its way (SP 800-38A, 6.2), over a range of a packet, under a key of `N` rounds. A round encrypts
+/// An entry of a lane: a CBC encryption (SP 800-38A, 6.2) of a range of a packet, under a key of `N` rounds. A round encrypts
 /// one block, in place.
 #[derive(Drop)]
 pub struct CbcEntry<const N: usize> {

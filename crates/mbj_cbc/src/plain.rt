@@ -10,6 +10,14 @@ use mbj_types::BLOCK_BYTES;
 
 /// Encrypts a text in place by CBC (SP 800-38A, 6.2): each block of 16 bytes is xored with the ciphertext before it,
 /// the first one with the IV, and enciphered. The text's length is a multiple of 16 bytes, and may be 0.
+///
+/// ```
+/// let mut text = plaintext;
+/// encrypt_in_place(&key, &iv, &mut text);
+/// expect(&rt, "encrypted", text, ciphertext);
+/// decrypt_in_place(&key, &iv, &mut text);
+/// expect(&rt, "decrypted", text, plaintext);
+/// ```
 pub fn encrypt_in_place(key: &Schedule, iv: &[u8; 16], text: &mut [u8])
     requires { length text.old % 16 ≡ 0 }
     ensures { text.new ≡ cbc_text (encipher key.now) iv.now text.old }

@@ -39,8 +39,17 @@ pub fn mask(key: &Schedule, iv: &[u8]) -> [u8; 16]
     blocks[0]
 }
 
-/// What `apply` makes of a text, and what `mask` answers. The counter block of the mask goes through the lanes with the
+/// What `apply` makes of a text, and what `mask` returns. The counter block of the mask goes through the lanes with the
 /// first ones of the text, and takes a pass of its own only where there is no text. It takes no memory.
+///
+/// ```
+/// let mut tag = apply_and_mask(&key, nonce, text);
+/// expect(rt, "mask", mask(&key, nonce), tag);
+/// xor_in_place(&mut tag, mac);
+/// expect_end(rt, text, &case.ciphertext);
+/// assert!(rt; case.tag.len() <= tag.len());
+/// expect(rt, "tag", &tag[..case.tag.len()], case.tag.as_slice());
+/// ```
 pub fn apply_and_mask(key: &Schedule, iv: &[u8], text: &mut [u8]) -> [u8; 16]
     requires iv_least { 7 ≤ length iv.now }
     requires iv_most { length iv.now ≤ 13 }

@@ -12,7 +12,7 @@ use mbj_aes_lanes::Chaining;
 use mbj_types::{BLOCK_BYTES, MAX_CCM_AAD_BYTES, MAX_PACKET_BYTES};
 use std::marker::Model;
 
-/// The MAC of CCM on its way (SP 800-38C, 6.1, steps 1 to 3), over a nonce, additional data and the plaintext, which is
+/// An entry of a lane: the MAC of CCM (SP 800-38C, 6.1, steps 1 to 3) over a nonce, additional data and the plaintext, which is
 /// a range of a packet, under a key of `N` rounds. A round chains one block: the first one, those of the additional
 /// data, and those of the text.
 #[derive(Drop)]

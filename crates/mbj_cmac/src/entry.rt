@@ -15,9 +15,8 @@ use mbj_blocks::block_from;
 use mbj_types::BLOCK_BYTES;
 use std::marker::Model;
 
-/// A CMAC on its way (SP 800-38B, 6.2), over a range of a packet, under a key of `N` rounds. A round chains one block of
-/// the message. The last block waits to be closed until the first run, in which the subkeys of all entries are made at
-/// once.
+/// An entry of a lane: a CMAC (SP 800-38B, 6.2) over a range of a packet, under a key of `N` rounds. A round chains one block of
+/// the message. The last blocks of all entries get their subkeys at once, in the first run in which one of them reaches its last block.
 #[derive(Drop)]
 pub struct CmacEntry<const N: usize> {
     /// The packet, as it was given.

@@ -39,14 +39,14 @@ impl<const N: usize> Kernel for CmacKernel<N> {
     ghost falls = { λ e. refl };
 }
 
-/// Whether an entry comes to its last block within `m` rounds that isn't closed yet.
+/// Whether an entry reaches its last block within `m` rounds, and that block has no subkey yet.
 fn is_any_open<const N: usize>(entries: &[CmacEntry<N>], m: u32) -> bool {
     entries
         .iter()
         .any(|entry| !entry.is_closed() && entry.rest <= m)
 }
 
-/// Closes the last blocks of all messages, where an entry comes to one within `m` rounds that isn't closed yet. The zero block is
+/// Closes the last blocks of all messages, where an entry reaches one within `m` rounds that isn't closed yet. The zero block is
 /// enciphered under all keys at once.
 fn close_last<const N: usize>(entries: &mut [CmacEntry<N>], m: u32)
     requires { length entries.old ≤ AES_LANES }

@@ -11,6 +11,11 @@ use mbj_types::BLOCK_BYTES;
 
 /// The CMAC of a message of any length, which may be 0 (SP 800-38B, 6.2): its 16 bytes, of which a shorter tag is the
 /// leftmost ones.
+///
+/// ```
+/// let found = u128::from_be_bytes(cmac_plain(key, message));
+/// expect(rt, "mac", found, wanted);
+/// ```
 pub fn cmac_plain(key: &Schedule, message: &[u8]) -> [u8; 16]
     ensures { result ≡ cmac (encipher key.now) message.now }
 {

@@ -94,7 +94,7 @@ impl Slot {
 
 /// So many cells that hold nothing.
 ///
-/// Answers `AllocError` for want of memory.
+/// Returns `AllocError` for want of memory.
 pub(crate) fn free_cells(alloc: Global, count: usize) -> Result<Vec<Slot>, AllocError>
     ensures { IfOk result (λ v. v.items ≡ replicate count slot.Free) }
 {

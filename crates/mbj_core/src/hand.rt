@@ -29,7 +29,7 @@ impl Model for Hand {
 impl Hand {
     /// An empty hand. It takes the memory for all cells; no other call takes any.
     ///
-    /// Answers `AllocError` for want of memory.
+    /// Returns `AllocError` for want of memory.
     pub(crate) fn new(alloc: Global) -> Result<Hand, AllocError>
         ensures { IfOk result (λ h. h ≡ []) }
     {
@@ -55,7 +55,7 @@ impl Hand {
 
 /// So many empty hands.
 ///
-/// Answers `AllocError` for want of memory.
+/// Returns `AllocError` for want of memory.
 pub(crate) fn empty_hands(alloc: Global, count: usize) -> Result<Vec<Hand>, AllocError>
     ensures { IfOk result (λ v. v.items ≡ replicate count []) }
 {

@@ -7,8 +7,8 @@ pub fn events_keep_the_front_lawful()
     ensures { EventsKeepTheLaw result_of }
 {}
 
-/// A law: after each list of events from the new front on, the results that a submitter has collected are the first
-/// ones of those that its accepted posts are owed, each once, in the order of its posts.
+/// A law: after each list of events from the new front on, the results that a submitter has collected are the first ones of
+/// those of the jobs that it has posted, each once, in the order of its posts.
 pub fn results_come_in_the_order_of_posts()
     ensures { ResultsComeInOrder result_of }
 {}

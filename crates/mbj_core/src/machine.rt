@@ -31,6 +31,13 @@ pub(crate) struct JobsOut {
 /// number of submitters on a worker; every party may claim jobs and finish them.
 ///
 /// Only `new` takes memory.
+///
+/// ```
+/// match core.post(s, job(alloc, byte)?) {
+///     Ok(()) => Ok(None),
+///     Err(PostFull(job)) => Ok(byte_of(&job.packet)),
+/// }
+/// ```
 #[derive(Drop)]
 pub struct Core {
     submitters: u32,
@@ -57,7 +64,7 @@ impl Core {
 
     /// A core in which nothing is posted, for 1 to `MAX_SUBMITTERS` submitters and up to `MAX_WORKERS` workers.
     ///
-    /// Answers `AllocError` for want of memory.
+    /// Returns `AllocError` for want of memory.
     pub fn new(alloc: Global, submitters: u32, workers: u32) -> Result<Core, AllocError>
         requires submitters { (1 ≤ submitters) × (submitters ≤ MAX_SUBMITTERS) }
         requires workers { workers ≤ MAX_WORKERS }
@@ -107,7 +114,7 @@ impl Core {
         cell_at(s, self.outs[s as usize].first)
     }
 
-    /// Posts a job of a submitter. Answers the job itself exactly where `SUBMITTER_CELLS` of this submitter are
+    /// Posts a job of a submitter. Returns the job itself exactly where `SUBMITTER_CELLS` of this submitter are
     /// out; then nothing changes.
     pub fn post(&mut self, s: u32, job: Job) -> Result<(), PostFull>
         requires submitter { s < self.old.submitters }
@@ -157,7 +164,7 @@ impl Core {
     }
 
     /// Takes a cell out of a party's hand, and puts the result of its job there. The cell is in that hand, and the
-    /// result is the one that its job is owed.
+    /// result is that of its job.
     pub fn finish(&mut self, p: u32, cell: u32, done: Done)
         requires party { p < self.old.submitters + self.old.workers }
         requires held { HasHand self.old cell p done }

@@ -1,6 +1,6 @@
 use std::collections::LinkedList;
 
-/// What a submitter is in the midst of. A worker is always at rest.
+/// What a submitter is doing. A worker is always at rest.
 pub enum Phase {
     /// Nothing.
     Rest,
@@ -14,7 +14,7 @@ pub enum Phase {
 pub struct View<D> {
     /// The party's number.
     pub number: u64,
-    /// What it is in the midst of.
+    /// What it is doing.
     pub phase: Phase,
     /// The results of the jobs that it has posted, from the first one on, in the order of its posts.
     pub due: LinkedList<D>,

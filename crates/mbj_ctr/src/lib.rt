@@ -28,6 +28,16 @@ fn first_counter(iv: &[u8]) -> u128
 ///
 /// An IV of 16 bytes is the first counter. One of 12 bytes is followed by the block number 1 in 4 bytes. A counter
 /// is a number, its first byte being the highest, and the next one is 1 more modulo 2^128.
+///
+/// ```
+/// let mut text = texts.plaintext;
+/// let (front, behind) = text.split_at_mut(len);
+/// apply(&texts.key, &texts.iv, front);
+/// expect(rt, cut, &*front, &texts.ciphertext[..len]);
+/// expect(rt, cut, &*behind, &texts.plaintext[len..]);
+/// apply(&texts.key, &texts.iv, front);
+/// expect(rt, cut, text, texts.plaintext);
+/// ```
 pub fn apply(key: &Schedule, iv: &[u8], text: &mut [u8])
     requires { (length iv.now ≡ 12) ⊎ (length iv.now ≡ 16) }
     ensures { text.new ≡ ctr_text (encipher key.now) iv.now text.old }

@@ -22,7 +22,7 @@ type FrontTable<J, D, R> = Table<Slot<J, D>, Place<D>, Size, FrontRule<R>, Globa
 
 /// So many slots that hold nothing.
 ///
-/// Answers `AllocError` for want of memory.
+/// Returns `AllocError` for want of memory.
 fn blank_slots<J: Drop, D: Drop>(alloc: Global, count: usize) -> Result<Vec<Slot<J, D>>, AllocError>
     ensures { IfOk result (λ v. v.items ≡ replicate count Blank) }
 {
@@ -37,7 +37,7 @@ impl<J: Drop, D: Drop, R: Results<J, D>> SharedFront<J, D, R> {
     /// A front in which nothing is posted, for 1 to `MAX_SUBMITTERS` submitters and up to `MAX_WORKERS` workers, and
     /// the seats of its parties, in the order of their numbers. Only this call takes memory.
     ///
-    /// Answers `AllocError` for want of memory.
+    /// Returns `AllocError` for want of memory.
     pub fn new(
         alloc: Global,
         submitters: u32,

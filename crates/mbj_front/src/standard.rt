@@ -5,7 +5,7 @@ use crate::results::Results;
 use crate::seat::PartySeat;
 use mbj_types::{Done, Job};
 
-/// A job is owed the result that the standards give it.
+/// The result of a job is that of the standards.
 pub struct Standard;
 
 impl Results<Job, Done> for Standard {

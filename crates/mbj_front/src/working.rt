@@ -25,7 +25,7 @@ impl<J, D, R: Results<J, D>> SharedFront<J, D, R> {
         SUBMITTER_CELLS * self.submitters
     }
 
-    /// Looks at a cell, and answers its word.
+    /// Looks at a cell, and returns its word.
     pub fn scan(&self, seat: &mut PartySeat<J, D>, cell: u32) -> u64
         requires front { IsOf self.now seat.old }
         requires cell { cell < cells_of self.now }
@@ -38,7 +38,7 @@ impl<J, D, R: Results<J, D>> SharedFront<J, D, R> {
     }
 
     /// Claims the job of a cell for a party at rest: it goes to the end of the party's hand. One look is made, at that
-    /// cell. Answers the word that it found exactly where that isn't `READY`; then only the looks grow.
+    /// cell. Returns the word that it found exactly where that isn't `READY`; then only the looks grow.
     pub fn try_claim(&self, seat: &mut PartySeat<J, D>, cell: u32) -> Result<J, u64>
         requires front { IsOf self.now seat.old }
         requires rest { (view_of seat.old).phase ≡ Rest }
@@ -67,7 +67,7 @@ impl<J, D, R: Results<J, D>> SharedFront<J, D, R> {
     }
 
     /// The atomic step of a claim, which is allowed: where the word is `READY` it becomes that of the party's hand, and
-    /// the seat takes the slot. Answers the word that it found.
+    /// the seat takes the slot. Returns the word that it found.
     #[tactic(none)]
     fn claim_word(
         &self,

@@ -24,7 +24,7 @@ type Seat = PartySeat<u32, u32>;
 /// party, a second claim and an early take find once it is claimed, those after finish, take and free, and the result.
 type Seen = ([[u64; 3]; 3], u32);
 
-/// A submitter posts a job in its next cell. Answers the words of the cell at first and after open and publish, as a third
+/// A submitter posts a job in its next cell. Returns the words of the cell at first and after open and publish, as a third
 /// party finds them.
 fn post(front: &Numbers, owner: &mut Seat, third: &mut Seat, cell: u32, job: u32) -> [u64; 3]
     requires fronts { IsOf front.now owner.old × IsOf front.now third.old }
@@ -44,7 +44,7 @@ fn post(front: &Numbers, owner: &mut Seat, third: &mut Seat, cell: u32, job: u32
     [at_first, opened, published]
 }
 
-/// A helper claims the job of a cell. Then a third party tries to claim it and the owner to take its result, in vain. Answers
+/// A helper claims the job of a cell. Then a third party tries to claim it and the owner to take its result, in vain. Returns
 /// the job, the word that the third party finds in between, and those that the two find.
 fn claim(
     front: &Numbers,
@@ -71,7 +71,7 @@ fn claim(
     Some((job, [in_hand, missed_claim, missed_take]))
 }
 
-/// The helper finishes the cell, and the owner takes the result and frees the cell. Answers the result, and the word that a
+/// The helper finishes the cell, and the owner takes the result and frees the cell. Returns the result, and the word that a
 /// third party finds after each.
 fn finish(
     front: &Numbers,

@@ -114,7 +114,7 @@ impl Player<'_> {
         Some(cell_at(self.number, self.party.first_cell() + count))
     }
 
-    /// Tries the cells of a submitter that are out, the earliest first, until one is claimed. Answers the number of its
+    /// Tries the cells of a submitter that are out, the earliest first, until one is claimed. Returns the number of its
     /// job.
     pub(crate) fn claim_from(&mut self, submitter: &Player) -> Option<u32> {
         for count in 0..submitter.party.out() {

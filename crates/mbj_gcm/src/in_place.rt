@@ -7,9 +7,16 @@ use crate::hash::tag;
 use mbj_aes::Schedule;
 use mbj_aes_lanes::TextKey;
 
-/// Encrypts a text in place by GCM (SP 800-38D, 7.1) from an IV of 1 to 65,535 bytes, and answers the 16 bytes of tag
+/// Encrypts a text in place by GCM (SP 800-38D, 7.1) from an IV of 1 to 65,535 bytes, and returns the 16 bytes of tag
 /// over `aad` and the ciphertext, of which a shorter tag is the leftmost ones. The text and `aad` may have any number of
 /// bytes, and the hash counts their bits modulo 2^64.
+///
+/// ```
+/// let mut text = [0; 16];
+/// let tag = seal(&key, &[0; 12], &[], &mut text);
+/// expect_block(&rt, "text", text, 0x0388dace60b6a392f328c2b971b2fe78);
+/// expect_block(&rt, "tag", tag, 0xab6e47d42cec13bdf53a67b21257bddf);
+/// ```
 pub fn seal(key: &Schedule, iv: &[u8], aad: &[u8], text: &mut [u8]) -> [u8; 16]
     requires some_iv { 1 ≤ length iv.now }
     requires iv_fits { length iv.now ≤ 65535 }
@@ -23,7 +30,7 @@ pub fn seal(key: &Schedule, iv: &[u8], aad: &[u8], text: &mut [u8]) -> [u8; 16]
     tag(&masks[SUBKEY], &masks[TAG_MASK], aad, text)
 }
 
-/// Decrypts a text in place by GCM (SP 800-38D, 7.2, steps 2 to 7) from an IV of 1 to 65,535 bytes, and answers the 16
+/// Decrypts a text in place by GCM (SP 800-38D, 7.2, steps 2 to 7) from an IV of 1 to 65,535 bytes, and returns the 16
 /// bytes of tag over `aad` and the text as it was, the ciphertext. Nothing is compared: the text is decrypted whatever
 /// tag it came with, and the caller compares that tag with the leftmost bytes of the answer.
 pub fn unseal(key: &Schedule, iv: &[u8], aad: &[u8], text: &mut [u8]) -> [u8; 16]

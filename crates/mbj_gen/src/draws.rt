@@ -29,7 +29,7 @@ impl Draws {
 
     /// Draws `count` bytes.
     ///
-    /// Answers `AllocError` for want of memory; the state is then any.
+    /// Returns `AllocError` for want of memory; the state is then any.
     pub(crate) fn bytes(&mut self, alloc: Global, count: usize) -> Result<Bytes, AllocError>
         ensures { IfOk result (λ drawn. (drawn ≡ (draws byte count self.old.state).0)
             × (self.new.state ≡ (draws byte count self.old.state).1)) }

@@ -10,6 +10,13 @@ use std::marker::Model;
 /// Makes jobs from a seed, one after another: the same seed makes the same jobs.
 ///
 /// Contracts see its state, from which the next job is drawn.
+///
+/// ```
+/// let mut generator = Generator::new(seed);
+/// for job in jobs {
+///     assert!(rt; makes(alloc, &mut generator, *job)?, "seed {seed}: {job}");
+/// }
+/// ```
 #[derive(Debug, Drop)]
 pub struct Generator {
     state: u64,
@@ -263,7 +270,7 @@ impl Generator {
 
     /// Makes the next job.
     ///
-    /// Answers `AllocError` for want of memory; the generator is then as before the call.
+    /// Returns `AllocError` for want of memory; the generator is then as before the call.
     pub fn job(&mut self, alloc: Global) -> Result<Job, AllocError>
         ensures made { IfOk result (λ j. j ≡ (job self.old).0) }
         ensures state { OnOk result (self.new ≡ (job self.old).1) }

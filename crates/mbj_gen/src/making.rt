@@ -7,7 +7,7 @@ use std::alloc::{AllocError, Global};
 
 /// Makes so many jobs from a seed.
 ///
-/// Answers `AllocError` for want of memory.
+/// Returns `AllocError` for want of memory.
 #[tactic(auto, unfolding(crate::specs::Generator::draws))]
 pub fn make_jobs(alloc: Global, seed: u64, count: u32) -> Result<Vec<Job>, AllocError>
     ensures { IfOk result (λ jobs. jobs.items ≡ (draws job count seed).0) }

@@ -19,6 +19,15 @@ fn filled_block(part: &[u8]) -> [u8; 16]
 
 /// A hash that takes one block after another. Contracts see it as a `HashState`: the hash subkey and the value so
 /// far, as lists of 16 bytes. It owns no memory.
+///
+/// ```
+/// let mut hash = Ghash::new(SUBKEY.to_be_bytes());
+/// expect_value(&rt, "fresh", &hash, 0);
+/// hash.update_block(&0x0388dace60b6a392f328c2b971b2fe78u128.to_be_bytes());
+/// expect_value(&rt, "ciphertext", &hash, 0x5e2ec746917062882c85b0685353deb7);
+/// hash.update_block(&0x80u128.to_be_bytes());
+/// expect_value(&rt, "lengths", &hash, 0xf38cbb1ad69223dcc3457ae5b6b0f885);
+/// ```
 #[derive(Drop)]
 pub struct Ghash {
     subkey: [u8; 16],

@@ -88,7 +88,7 @@ fn padding_start(zeros: usize) -> &'static [u8]
     &PADDING[..zeros + 1]
 }
 
-/// Writes bytes, and answers the place behind them. What stands behind is not looked at.
+/// Writes bytes, and returns the place behind them. What stands behind is not looked at.
 pub(crate) fn put(ends: &mut [u8], at: usize, bytes: &[u8]) -> usize
     requires { at + length bytes.now ≤ length ends.old }
     ensures next { result ≡ at + length bytes.now }
@@ -114,7 +114,7 @@ fn put_padding<H: LaneHash>(ends: &mut H::Ends, at: usize, before: usize, len: u
     H::put(ends, at, &bits)
 }
 
-/// Writes the end of a message and the padding behind the first block, and answers the place behind them. So many bytes are
+/// Writes the end of a message and the padding behind the first block, and returns the place behind them. So many bytes are
 /// hashed before the message: a block of a pad, or none.
 fn put_end<H: LaneHash>(
     ends: &mut H::Ends,

@@ -17,7 +17,7 @@ use crate::lane_hash::LaneHash;
 use mbj_types::{Auth, HashName, Tag};
 use std::marker::Model;
 
-/// A digest or an HMAC on its way, over a range of a packet. A round is one compression.
+/// An entry of a lane: a digest or an HMAC over a range of a packet, part of which is done. A round is one compression.
 ///
 /// The rounds of a digest are the blocks of the padded message (FIPS 180-4, 5). Those of an HMAC are, in order: the inner
 /// pad, the blocks of the padded message, the outer pad, and the block that holds the inner digest (RFC 2104, 2). From stored states

@@ -60,7 +60,7 @@ pub trait LaneHash {
     fn ends(ends: &Self::Ends) -> &[u8]
         ensures { result.now ≡ ends_bytes ends.now };
 
-    /// Writes bytes, and answers the place behind them. What stands behind is not looked at.
+    /// Writes bytes, and returns the place behind them. What stands behind is not looked at.
     fn put(ends: &mut Self::Ends, at: usize, bytes: &[u8]) -> usize
         requires { at + length bytes.now ≤ 5 * chaining.block_bytes }
         ensures next { result ≡ at + length bytes.now }

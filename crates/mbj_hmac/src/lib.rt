@@ -28,13 +28,13 @@ pub use sha512_lanes::Sha512Lanes;
 pub use stored::{MAX_STATE_BYTES, one_block, states};
 pub use view::Chains;
 
-/// A digest or an HMAC with SHA-1 on its way.
+/// An entry of a digest or an HMAC with SHA-1.
 pub type Hmac1Entry = HmacEntry<Sha1Lanes>;
 
-/// A digest or an HMAC with SHA-224 or SHA-256 on its way.
+/// An entry of a digest or an HMAC with SHA-224 or SHA-256.
 pub type Hmac256Entry = HmacEntry<Sha256Lanes>;
 
-/// A digest or an HMAC with SHA-384 or SHA-512 on its way.
+/// An entry of a digest or an HMAC with SHA-384 or SHA-512.
 pub type Hmac512Entry = HmacEntry<Sha512Lanes>;
 
 /// Digests and HMACs with SHA-1 in lanes.

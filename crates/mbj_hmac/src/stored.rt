@@ -78,7 +78,7 @@ fn store_by_name(hash: HashName, block: &[u8], state: &mut [u8])
     }
 }
 
-/// Stores the state of a hash behind one block from a place on, and answers the place behind it.
+/// Stores the state of a hash behind one block from a place on, and returns the place behind it.
 fn put_state(states: &mut [u8], at: usize, hash: HashName, block: &[u8]) -> usize
     requires block { length block.now ≡ (hash_of_name hash).block_bytes }
     requires room { at + (compression_of_name hash).state_bytes ≤ length states.old }
@@ -95,6 +95,13 @@ fn put_state(states: &mut [u8], at: usize, hash: HashName, block: &[u8]) -> usiz
 
 /// The state of a hash behind one block of 64 or 128 bytes, as its words, the highest byte of each first (FIPS 180-4, 6). It is the
 /// first 20, 32 or 64 bytes, whole also for SHA-224 and SHA-384, and the bytes behind it are zero. It takes no memory.
+///
+/// ```
+/// let state = one_block(hash, &letters[..hash.block_bytes()]);
+/// assert!(rt; len <= MAX_STATE_BYTES);
+/// expect_hex_states(&rt, expected, &state[..len]);
+/// expect(&rt, "zeros", &state[len..], &[0; MAX_STATE_BYTES][len..]);
+/// ```
 pub fn one_block(hash: HashName, block: &[u8]) -> [u8; MAX_STATE_BYTES]
     requires { length block.now ≡ (hash_of_name hash).block_bytes }
     ensures { result ≡ block_state (compression_of_name hash) block.now
@@ -123,6 +130,14 @@ fn states_by_name(hash: HashName, key: &[u8]) -> [u8; MAX_BLOCK_BYTES]
 /// behind them are zero. A key longer than a block is hashed first. It takes no memory.
 ///
 /// From these states the HMAC of each message is that under the key (RFC 2104, 4). They are as secret as the key.
+///
+/// ```
+/// let states = states_of(&rt, auth, key);
+/// let len = expected.len() / 2;
+/// assert!(rt; len <= MAX_BLOCK_BYTES);
+/// expect_hex_states(&rt, expected, &states[..len]);
+/// expect(&rt, "zeros", &states[len..], &[0; MAX_BLOCK_BYTES][len..]);
+/// ```
 pub fn states(auth: Auth, key: &[u8]) -> [u8; MAX_BLOCK_BYTES]
     requires { IsHmac auth }
     ensures states { IfSome (name_of auth) (λ a. result ≡ key_states (hash_of_name a) (compression_of_name a) key.now

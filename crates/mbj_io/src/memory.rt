@@ -9,7 +9,7 @@ use crate::{Failed, Sink, Source};
 use std::alloc::{AllocError, Global};
 use std::marker::Model;
 
-/// A source in memory, which tells its bytes and fails at the calls that it is told to.
+/// A source in memory, whose bytes contracts see, and which fails at the calls that it is given.
 #[derive(Debug, Drop)]
 pub struct MemSource {
     content: Vec<u8>,
@@ -32,7 +32,7 @@ impl MemSource {
     /// A source of these bytes. A call gives at most `piece` of them (condition: at least 1), and
     /// the calls whose numbers, from 0, stand in `fails` fail. The numbers stop at 2^64 - 1.
     ///
-    /// Answers [`AllocError`] only for want of memory.
+    /// Returns [`AllocError`] only for want of memory.
     pub fn new(
         alloc: Global,
         content: &[u8],
@@ -96,8 +96,8 @@ impl Source for MemSource {
     }
 }
 
-/// A sink in memory, which tells its bytes and fails at the calls that it is told to. Its room is
-/// taken when it is made; a write that finds all of it used up is a fault, an empty one too.
+/// A sink in memory, whose bytes contracts see, and which fails at the calls that it is given. Its room is
+/// taken when it is made; a write to a full sink is a fault, even an empty write.
 #[derive(Debug, Drop)]
 pub struct MemSink {
     bytes: Vec<u8>,
@@ -122,7 +122,7 @@ impl MemSink {
     /// least 1), and the calls whose numbers, from 0, stand in `fails` fail. The numbers stop at
     /// 2^64 - 1.
     ///
-    /// Answers [`AllocError`] only for want of memory.
+    /// Returns [`AllocError`] only for want of memory.
     pub fn new(alloc: Global, room: usize, piece: u32, fails: &[u64]) -> Result<MemSink, AllocError>
         requires { 1 ≤ piece }
         ensures held { IfOk result (λ s. s.held ≡ []) }

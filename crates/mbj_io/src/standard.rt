@@ -57,7 +57,7 @@ impl<T: Read> Source for StdSource<T> {
 /// each `Err` of the writer is one, and so is a write that takes nothing of a piece that isn't
 /// empty.
 ///
-/// A writer that holds bytes back, as a `BufWriter`, may fail after `write` has answered `Ok`.
+/// A writer that holds bytes back, as a `BufWriter`, may fail after `write` has returned `Ok`.
 #[derive(Debug, Drop)]
 pub struct StdSink<T> {
     writer: T,

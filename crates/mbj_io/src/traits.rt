@@ -19,6 +19,13 @@ impl fmt::Display for Failed {
 impl Error for Failed {}
 
 /// Where bytes come from.
+///
+/// ```
+/// match source.read(buf) {
+///     Ok(count) => expected == Ok(&buf[..count]),
+///     Err(fault) => expected == Err(fault),
+/// }
+/// ```
 pub trait Source {
     /// The bytes that are not yet read, where the source tells them.
     ghost rest: { Self → Option (List ℕ) };
@@ -26,7 +33,7 @@ pub trait Source {
     /// How often the source has failed.
     ghost faults: { Self → ℕ };
 
-    /// Puts the next bytes into the front of `buf`, and answers how many: at most `buf.len()`.
+    /// Puts the next bytes into the front of `buf`, and returns how many: at most `buf.len()`.
     ///
     /// `Ok(0)` on a buffer that isn't empty means the end. [`Failed`] counts exactly one fault, unless
     /// the count stands at its last value, and nothing is taken then. Every other call leaves the
@@ -49,7 +56,7 @@ pub trait Sink {
     /// How often the sink has failed.
     ghost faults: { Self → ℕ };
 
-    /// Takes bytes off the front of `buf`, and answers how many: at most `buf.len()`, and at least
+    /// Takes bytes off the front of `buf`, and returns how many: at most `buf.len()`, and at least
     /// one where `buf` isn't empty.
     ///
     /// [`Failed`] comes only where the count of faults rose in this call, or stands at its last

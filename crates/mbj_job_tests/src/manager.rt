@@ -57,7 +57,7 @@ fn a_job_is_filled_submitted_and_taken_back(rt: HostRuntime) -> Result<(), Fail>
     check_taken_back(&rt, rt.alloc(), &mut Manager::new(rt.alloc())?)
 }
 
-/// Writes the tag's length into the open job, and answers what it was. A full ring is `u8::MAX`.
+/// Writes the tag's length into the open job, and returns what it was. A full ring is `u8::MAX`.
 pub(crate) fn write_tag_len(manager: &mut Manager, tag_len: u8) -> u8
     ensures { length manager.new.owed ≡ length manager.old.owed }
 {
@@ -126,7 +126,7 @@ fn a_refused_job_comes_back_in_its_place(rt: HostRuntime) -> Result<(), Fail> {
     refuse(&rt, rt.alloc(), &mut Manager::new(rt.alloc())?)
 }
 
-/// Submits an HMAC-SHA-512 under a key of 20 bytes 0b over zero bytes, with a tag of 64 bytes less `number`. Answers the
+/// Submits an HMAC-SHA-512 under a key of 20 bytes 0b over zero bytes, with a tag of 64 bytes less `number`. Returns the
 /// number of the job that comes back.
 fn submit_hmac(
     manager: &mut Manager,

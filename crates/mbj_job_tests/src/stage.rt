@@ -101,7 +101,7 @@ fn do_lane(course: &mut Course, kind: Kind)
     }
 }
 
-/// Does a job, stage after stage, and answers its result.
+/// Does a job, stage after stage, and returns its result.
 fn do_job(job: Job) -> Done
     ensures { result ≡ result_of job }
 {

@@ -22,7 +22,7 @@ pub struct KeyEntry {
 impl KeyEntry {
     /// The entry of a key of 16, 24 or 32 bytes.
     ///
-    /// Answers `AllocError` for want of memory.
+    /// Returns `AllocError` for want of memory.
     pub(crate) fn expand(alloc: Global, key: &[u8]) -> Result<KeyEntry, AllocError>
         requires { IsKeySize (length key.now) }
         ensures { IfOk result (λ e. e.key ≡ key.now) }

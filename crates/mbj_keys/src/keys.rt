@@ -18,6 +18,15 @@ use std::marker::Model;
 ///
 /// A session's entry is made by the tasks that learn it while its cell is empty, and each task uses the one that came
 /// first into the cell. A cell is set once.
+///
+/// ```
+/// let mut notes = Notes::new(alloc, &keys)?;
+/// assert!(rt; !notes.knows(0) && !notes.knows(1) && !notes.knows(2));
+/// keys.learn(alloc, &mut notes, 1)?;
+/// assert!(rt; !notes.knows(0) && notes.knows(1) && !notes.knows(2));
+/// assert!(rt; !notes.knows(3) && !notes.knows(u32::MAX));
+/// check_entry(&rt, keys.entry(&mut notes, 1), &KEY_192, &LAST_192);
+/// ```
 #[derive(Drop)]
 pub struct Keys {
     pub(crate) sessions: Vec<Session>,
@@ -38,7 +47,7 @@ impl Model for Keys {
 impl Keys {
     /// Sessions with these keys, at most `MAX_SESSIONS` of 16, 24 or 32 bytes each. None is expanded.
     ///
-    /// Answers `AllocError` for want of memory.
+    /// Returns `AllocError` for want of memory.
     pub fn new(alloc: Global, keys: Vec<Vec<u8>>) -> Result<Keys, AllocError>
         requires few { vec_len keys ≤ MAX_SESSIONS }
         requires sizes { All (λ k. IsKeySize (length k.items)) keys.items }
@@ -73,7 +82,7 @@ impl Keys {
     /// entry into the cell. It doesn't wait: tasks that race may each expand the key, and all learn the entry of one of
     /// them.
     ///
-    /// Answers `AllocError` for want of memory; the notes then know what they knew.
+    /// Returns `AllocError` for want of memory; the notes then know what they knew.
     pub fn learn(&self, alloc: Global, notes: &mut Notes, n: u32) -> Result<(), AllocError>
         requires within { n < length self.now }
         requires notes { AreOf self.now notes.old }
@@ -88,7 +97,7 @@ impl Keys {
 
     /// Learns each session.
     ///
-    /// Answers `AllocError` for want of memory.
+    /// Returns `AllocError` for want of memory.
     pub fn learn_all(&self, alloc: Global, notes: &mut Notes) -> Result<(), AllocError>
         requires { AreOf self.now notes.old }
         ensures notes { AreOf self.now notes.new }

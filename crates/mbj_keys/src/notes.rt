@@ -35,7 +35,7 @@ fn notes_of(alloc: Global, sessions: &[Session]) -> Result<Vec<SessionNote>, All
 impl Notes {
     /// Notes of these keys, in which no session is learnt.
     ///
-    /// Answers `AllocError` for want of memory.
+    /// Returns `AllocError` for want of memory.
     pub fn new(alloc: Global, keys: &Keys) -> Result<Notes, AllocError>
         ensures notes { IfOk result (λ n. AreOf keys.now n) }
         ensures none { IfOk result (λ n. (k : ℕ) → entry_of n k ≡ None) }

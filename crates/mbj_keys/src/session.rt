@@ -91,7 +91,7 @@ impl SessionNote {
 
     /// Learns the session's entry, and makes it where none is in its cell.
     ///
-    /// Answers `AllocError` for want of memory. It also does where the entry in the cell has another key: a cell can't
+    /// Returns `AllocError` for want of memory. It also does where the entry in the cell has another key: a cell can't
     /// promise that none has, so the keys are compared.
     pub(crate) fn learn(&mut self, alloc: Global, session: &Session) -> Result<(), AllocError>
         requires { IsOf session.now self.old }

@@ -6,7 +6,7 @@ ghost use Rattle.mbj_lane.specs.Laws.{rest-after, end-after};
 ///
 /// An entry has a number of rounds left, its rest. What it holds when its rest is 0 is its end.
 pub trait Kernel {
-    /// A piece of work on its way.
+    /// What a lane works on: an input, and what was computed of it so far.
     type Entry: Drop;
 
     /// How many entries run side by side.

@@ -8,6 +8,19 @@ use std::alloc::{AllocError, Global};
 
 /// The entries of one kind that wait for lanes, in the order in which they came. There are at most as many as the
 /// kind has lanes.
+///
+/// ```
+/// lanes.enter(Waiter { name: 1, turns: 5 });
+/// lanes.enter(Waiter { name: 2, turns: 3 });
+/// lanes.enter(Waiter { name: 3, turns: 3 });
+/// expect(rt, "none finished", name_of(lanes.take_finished()), None);
+/// expect(rt, "rounds", lanes.run_shortest(), 3);
+/// let names = [
+///     name_of(lanes.take_finished()),
+///     name_of(lanes.take_finished()),
+///     name_of(lanes.take_finished()),
+/// ];
+/// ```
 #[derive(Drop)]
 pub struct Lanes<K: Kernel> {
     entries: Vec<K::Entry>,
@@ -63,7 +76,7 @@ impl<K: Kernel> Lanes<K> {
         K::run(&mut self.entries, m);
     }
 
-    /// Leads all entries by the least rest among them, in one run of the kernel, and answers that number. The list
+    /// Leads all entries by the least rest among them, in one run of the kernel, and returns that number. The list
     /// isn't empty, and each entry has a round left. The entries keep their order and their ends.
     pub fn run_shortest(&mut self) -> u32
         requires some { 0 < length self.old.entries.items }
@@ -99,7 +112,7 @@ impl<K: Kernel> Lanes<K> {
         self.entries.remove(i)
     }
 
-    /// Takes out the first entry that has no round left, and answers None exactly where each has one. The others keep
+    /// Takes out the first entry that has no round left, and returns None exactly where each has one. The others keep
     /// their order.
     pub fn take_finished(&mut self) -> Option<K::Entry>
         ensures takes { option_map (λ e. (e, self.new.entries.items)) result ≡ taken K.rest_of self.old.entries.items }

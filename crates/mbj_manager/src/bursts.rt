@@ -8,7 +8,7 @@ use crate::manager::Manager;
 use mbj_types::Done;
 use std::alloc::Global;
 
-/// Puts what was given back, if anything was, last among the results. Answers how many that is.
+/// Puts what was given back, if anything was, last among the results. Returns how many that is.
 fn keep(out: &mut Vec<Done>, given: Option<Done>) -> u32
     requires { length out.old.items + length (option_to_list given) ≤ vec_capacity out.old }
     ensures results { out.new.items ≡ out.old.items ++ option_to_list given }
@@ -26,7 +26,7 @@ fn keep(out: &mut Vec<Done>, given: Option<Done>) -> u32
 
 impl Manager {
     /// Submits the first `n` open jobs as `submit` does, one after another, and puts what that gives back last in `out`,
-    /// which has room for `n` results more. Answers how many results that is. It takes no memory.
+    /// which has room for `n` results more. Returns how many results that is. It takes no memory.
     pub fn submit_burst(&mut self, n: u32, out: &mut Vec<Done>) -> u32
         requires are_open { n ≤ length self.old.opened }
         requires room { length out.old.items + n ≤ vec_capacity out.old }
@@ -45,8 +45,8 @@ impl Manager {
         count
     }
 
-    /// Flushes as `flush` does until it answers `None`, `n` times at most, and puts what that gives back last in `out`, which
-    /// has room for it. Answers how many results that is. It takes no memory.
+    /// Flushes as `flush` does until it returns `None`, `n` times at most, and puts what that gives back last in `out`, which
+    /// has room for it. Returns how many results that is. It takes no memory.
     pub fn flush_burst(&mut self, n: u32, out: &mut Vec<Done>) -> u32
         requires room { length out.old.items + min n (length self.old.owed) ≤ vec_capacity out.old }
         ensures state { self.new ≡ after_calls (replicate n calls.flush) self.old }

@@ -27,7 +27,7 @@ pub enum Cell {
     Going(Course),
 }
 
-/// Does the stages that finish at once. Answers what is next then.
+/// Does the stages that finish at once. Returns what is next then.
 fn run_nows(course: &mut Course) -> Stage
     requires { course.old.out ≡ None }
     ensures follows { Follows course.new course.old }
@@ -56,7 +56,7 @@ impl Cell {
 
     /// Begins the course of the job that was filled. It takes no memory: the allocator is that of a blank job.
     ///
-    /// Answers whether the job's key was expanded: it is where its schedule is wanted and wasn't found.
+    /// Returns whether the job's key was expanded: it is where its schedule is wanted and wasn't found.
     pub(crate) fn begin(&mut self, alloc: Global, found: Option<&Schedule>) -> bool
         requires is_open { IsOpen self.old }
         requires schedule { IfSome found (λ s. IsScheduleOf (job_in self.old).key s.now) }
@@ -81,7 +81,7 @@ impl Cell {
         }
     }
 
-    /// Does what finishes at once. Answers what is next then.
+    /// Does what finishes at once. Returns what is next then.
     pub(crate) fn run_nows(&mut self) -> Stage
         requires going { IsGoing self.old }
         requires here { (course_in self.old).out ≡ None }

@@ -26,7 +26,7 @@ pub enum Cause {
     Flush,
 }
 
-/// Does what finishes at once in the course at a place. Answers what is next then.
+/// Does what finishes at once in the course at a place. Returns what is next then.
 pub(crate) fn run_nows(ring: &mut Ring<Cell>, place: u32) -> Stage
     requires ring { AreCourses ring.old }
     requires place { place < CELLS }

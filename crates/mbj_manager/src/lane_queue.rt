@@ -97,7 +97,7 @@ impl<K: Feed> LaneQueue<K> {
         self.lanes.run_shortest()
     }
 
-    /// The first with no round left leaves; answers its place and its entry.
+    /// The first with no round left leaves; returns its place and its entry.
     pub(crate) fn take(&mut self) -> Option<(u32, K::Entry)>
         ensures place { MatchOption result (Unit {0}) (λ r. r.0 < CELLS) }
         ensures done { MatchOption result (Unit {0}) (λ r. K.rest_of r.1 ≡ 0) }

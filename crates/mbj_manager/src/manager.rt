@@ -31,6 +31,17 @@ use std::marker::Model;
 /// back in its place, as `Status::InvalidArgs`.
 ///
 /// `new` takes all the memory of the cells; no other call takes any. At most `CELLS` jobs are submitted and not given back.
+///
+/// ```
+/// match manager.get_next() {
+///     Ok(job) => fill(alloc, job)?,
+///     Err(RingFull) => return Ok(None),
+/// }
+/// match manager.submit() {
+///     Some(done) => Ok(Some(done)),
+///     None => Ok(manager.flush()),
+/// }
+/// ```
 #[derive(Drop)]
 pub struct Manager {
     works: Works,
@@ -58,7 +69,7 @@ impl Model for Manager {
 impl Manager {
     /// A manager with no job and no open cell, and with counts of 0.
     ///
-    /// Answers `AllocError` for want of memory.
+    /// Returns `AllocError` for want of memory.
     pub fn new(alloc: Global) -> Result<Manager, AllocError>
         ensures { IfOk result (λ m. m ≡ new_manager) }
     {
@@ -73,7 +84,7 @@ impl Manager {
     /// Lends the first open job, to be filled: a blank one where none was open, else that one as it was written. What is
     /// written there is the first open job.
     ///
-    /// Answers `RingFull` exactly where `CELLS` jobs are submitted and not given back; nothing changes then.
+    /// Returns `RingFull` exactly where `CELLS` jobs are submitted and not given back; nothing changes then.
     pub fn get_next(&mut self) -> Result<&mut Job, RingFull>
         ensures* lends { sem 𝓛 (LendsNext self.entry result) }
         ensures value { IfOk result (λ j. j.now ≡ lent self.old) }
@@ -97,7 +108,7 @@ impl Manager {
 
     /// Where no cell is left, flushes the earliest job and gives it back.
     ///
-    /// Answers `None` exactly where there is a cell; nothing changes then.
+    /// Returns `None` exactly where there is a cell; nothing changes then.
     pub fn make_room(&mut self) -> Option<Done>
         ensures result { result ≡ (after_making_room self.old).0 }
         ensures state { self.new ≡ (after_making_room self.old).1 }
@@ -119,7 +130,7 @@ impl Manager {
         }
     }
 
-    /// Opens blank cells until `n` are open, or there is no cell left, and closes none. Answers how many are open.
+    /// Opens blank cells until `n` are open, or there is no cell left, and closes none. Returns how many are open.
     pub fn get_next_burst(&mut self, n: u32) -> u32
         ensures state { self.new ≡ after_get_next_burst n self.old }
         ensures size { result ≡ length self.new.opened }
@@ -140,7 +151,7 @@ impl Manager {
     /// Submits the first open job as it is then. Its stages are done as far as lanes run for it; then the earliest job is given
     /// back, where it is finished. The job's key is expanded where the job is accepted and has a cipher.
     ///
-    /// Answers `None` exactly where, after that, the earliest job isn't finished.
+    /// Returns `None` exactly where, after that, the earliest job isn't finished.
     pub fn submit(&mut self) -> Option<Done>
         requires is_open { 0 < length self.old.opened }
         ensures result { result ≡ (after_submit self.old).0 }
@@ -208,7 +219,7 @@ impl Manager {
 
     /// Submits a job: it goes into the next cell, in the place of the first open job, and is submitted as it is. It takes no memory.
     ///
-    /// Answers `None` exactly where, after that, the earliest job isn't finished.
+    /// Returns `None` exactly where, after that, the earliest job isn't finished.
     pub fn submit_job(&mut self, job: Job) -> Option<Done>
         requires { length self.old.owed < CELLS }
         ensures result { result ≡ (after_submit (with_open self.old job)).0 }
@@ -220,8 +231,8 @@ impl Manager {
         self.submit()
     }
 
-    /// The first open job goes last among those that are submitted, its key is counted where it is expanded, and the course is
-    /// followed from it.
+    /// Submits the first open job: it is the last of those that are submitted, its key's expansion is counted, and all that can
+    /// be done without a flush is done.
     fn enter(&mut self, found: Option<&Schedule>)
         requires is_open { 0 < length self.old.opened }
         requires schedule { IfSome found (λ s. IfSome (slice_get self.old.opened 0) (λ j. IsScheduleOf j.key s.now)) }
@@ -242,7 +253,7 @@ impl Manager {
 
     /// Gives the earliest job back where it is finished, and runs nothing.
     ///
-    /// Answers `None` exactly where no job is submitted and not given back, or the earliest isn't finished; nothing
+    /// Returns `None` exactly where no job is submitted and not given back, or the earliest isn't finished; nothing
     /// changes then.
     pub fn get_completed(&mut self) -> Option<Done>
         ensures result { result ≡ (after_get_completed self.old).0 }
@@ -257,7 +268,7 @@ impl Manager {
     /// Finishes the earliest job, and gives it back. Open cells stay as they are. Lane queues run twice at most for each job that
     /// is submitted and not given back.
     ///
-    /// Answers `None` exactly where no job is submitted and not given back; nothing changes then.
+    /// Returns `None` exactly where no job is submitted and not given back; nothing changes then.
     pub fn flush(&mut self) -> Option<Done>
         ensures result { result ≡ (after_flush self.old).0 }
         ensures state { self.new ≡ (after_flush self.old).1 }

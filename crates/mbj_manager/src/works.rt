@@ -124,7 +124,7 @@ impl Works {
         }
     }
 
-    /// Opens cells with blank jobs until `n` are open, or there is no cell left. Answers how many are open.
+    /// Opens cells with blank jobs until `n` are open, or there is no cell left. Returns how many are open.
     pub(crate) fn open_burst(&mut self, n: u32, alloc: Global) -> u32
         ensures state { self.new ≡ after_get_next_burst n self.old }
         ensures size { result ≡ length self.new.opened }
@@ -148,7 +148,7 @@ impl Works {
 
     /// The first job that was filled goes last among those that are submitted, and stands in the agenda.
     ///
-    /// Answers whether its key was expanded: it is where its schedule is wanted and wasn't found.
+    /// Returns whether its key was expanded: it is where its schedule is wanted and wasn't found.
     pub(crate) fn add(&mut self, alloc: Global, found: Option<&Schedule>) -> bool
         requires some { 0 < length self.old.opened }
         requires idle { self.old.machine.agenda ≡ [] }

@@ -7,7 +7,7 @@ use mbj_io::{Failed, Sink};
 use mbj_text::{Part, TextLine, write_done, write_line, write_parts};
 use mbj_types::Done;
 
-/// A line of a replay. Submitters, workers and jobs are told by their numbers, from 0 on; a job's is that in the file.
+/// A line of a replay. It names submitters, workers and jobs by their numbers, from 0 on; a job's is that in the file.
 #[derive(Debug, Drop)]
 pub enum ReplayLine {
     /// A submitter posted this job.

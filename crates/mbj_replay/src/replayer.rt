@@ -97,7 +97,7 @@ fn unused_cells(alloc: Global, count: u32) -> Result<Vec<Posted>, AllocError>
     Ok(cells)
 }
 
-/// Posts a job of a submitter, which has a cell free, and answers its copy.
+/// Posts a job of a submitter, which has a cell free, and returns its copy.
 fn post_entry(core: &mut Core, s: u32, entry: &mut Option<Unposted>) -> Job
     requires entry { (job : Job) × (entry.old ≡ with_copy job) }
     requires submitter { s < core.old.submitters }
@@ -141,7 +141,7 @@ fn push_told(lines: &mut Vec<ReplayLine>, told: Told) -> Result<(), AllocError>
 impl Replayer {
     /// Takes the memory of the core, of the workers and of a copy of each job. The commands take none.
     ///
-    /// Answers `AllocError` for want of memory.
+    /// Returns `AllocError` for want of memory.
     fn new(
         alloc: Global,
         jobs: Vec<Job>,
@@ -295,7 +295,7 @@ impl Replayer {
         }
     }
 
-    /// Does what the commands say, and answers what they print.
+    /// Does what the commands say, and returns what they print.
     fn play(&mut self, alloc: Global, commands: Vec<Cmd>) -> Result<Vec<ReplayLine>, AllocError>
         ghost jobs: { List Job }
         requires playing { IsPlaying jobs self.old }
@@ -314,7 +314,14 @@ impl Replayer {
 
 /// The lines that tell what each command of a script comes to, over one front and a manager for each worker.
 ///
-/// Answers `AllocError` for want of memory.
+/// Returns `AllocError` for want of memory.
+///
+/// ```
+/// let mut jobs = Vec::new(alloc);
+/// jobs.push(Job::blank(alloc))?;
+/// jobs.push(Job::blank(alloc))?;
+/// replay_lines(alloc, jobs, Vec::from_slice(alloc, &COMMANDS)?, 1, 1)
+/// ```
 pub fn replay_lines(
     alloc: Global,
     jobs: Vec<Job>,

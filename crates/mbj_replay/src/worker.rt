@@ -35,7 +35,7 @@ impl Worker {
     /// A worker whose hand is empty. It takes the memory for all cells of its manager and its hand; no other call takes
     /// any.
     ///
-    /// Answers `AllocError` for want of memory.
+    /// Returns `AllocError` for want of memory.
     pub(crate) fn new(alloc: Global) -> Result<Worker, AllocError>
         ensures { IfOk result (λ w. (w.manager ≡ new_manager) × (w.hand.items ≡ [])) }
     {
@@ -52,7 +52,7 @@ impl Worker {
         self.manager.is_full()
     }
 
-    /// Takes a cell with its job into the hand, and submits the job. What the manager gives back is answered with the
+    /// Takes a cell with its job into the hand, and submits the job. What the manager gives back is returned with the
     /// first cell of the hand, which leaves it.
     pub(crate) fn submit(&mut self, cell: u32, job: Job) -> Option<(u32, Done)>
         requires { length self.old.hand.items < CELLS }
@@ -69,7 +69,7 @@ impl Worker {
         take_first(&mut self.hand, done)
     }
 
-    /// Flushes the manager. What it gives back is answered with the first cell of the hand, which leaves it.
+    /// Flushes the manager. What it gives back is returned with the first cell of the hand, which leaves it.
     pub(crate) fn flush(&mut self) -> Option<(u32, Done)>
         ensures finished { result ≡ first_with self.old.hand.items (after_flush self.old.manager).0 }
         ensures manager { self.new.manager ≡ (after_flush self.old.manager).1 }
@@ -84,7 +84,7 @@ impl Worker {
 
 /// So many workers whose hands are empty.
 ///
-/// Answers `AllocError` for want of memory.
+/// Returns `AllocError` for want of memory.
 pub(crate) fn idle_workers(alloc: Global, count: u32) -> Result<Vec<Worker>, AllocError>
     ensures managers { IfOk result (λ ws. map (λ w. w.manager) ws.items ≡ replicate count new_manager) }
     ensures hands { IfOk result (λ ws. map (λ w. w.hand.items) ws.items ≡ replicate count []) }

@@ -22,6 +22,11 @@ pub fn a_ring_has_these_cells()
 /// The number of a value's cell is its place. The committed values stand at places that follow each other, and after
 /// the last place comes 0; the open cells are the next ones, in the order in which they were opened. A cell holds a
 /// value exactly where the ring has one. A dropped ring drops its values, the open ones too.
+///
+/// ```
+/// ring.open_cell(value);
+/// ring.commit()
+/// ```
 pub struct Ring<T> {
     cells: Cells<T>,
     first: u32,
@@ -57,7 +62,7 @@ impl<T> Ring<T> {
 
     /// Returns a ring with nothing in it. It takes the memory of all cells; no other call takes any.
     ///
-    /// Answers `AllocError` for want of memory.
+    /// Returns `AllocError` for want of memory.
     pub fn new(alloc: Global) -> Result<Ring<T>, AllocError>
         ensures { IfOk result (λ r. r ≡ ring [] [] 0) }
     {

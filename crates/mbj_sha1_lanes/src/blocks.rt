@@ -9,6 +9,14 @@ use mbj_sha_lanes::Load32;
 use mbj_types::{SHA1_LANES, Sha1Word};
 
 /// Compresses each of `SHA1_LANES` blocks into the hash value of the same number.
+///
+/// ```
+/// let mut states = [INITIAL; SHA1_LANES];
+/// compress(&mut states, &letter_blocks());
+/// for i in 0..SHA1_LANES {
+///     expect(&rt, "digest", states[i], DIGESTS[i]);
+/// }
+/// ```
 pub fn compress(states: &mut [[u32; 5]; SHA1_LANES], blocks: &[[u8; 64]; SHA1_LANES])
     ensures { (i : ℕ) → i < SHA1_LANES → slice_index_or states.new i []
         ≡ compress (slice_index_or states.old i []) (slice_index_or blocks.now i []) }

@@ -9,6 +9,14 @@ use mbj_sha_lanes::Load32;
 use mbj_types::{SHA256_LANES, Sha256Word};
 
 /// Compresses each of `SHA256_LANES` blocks into the hash value of the same number.
+///
+/// ```
+/// let mut states = [INITIAL; SHA256_LANES];
+/// compress(&mut states, &letter_blocks());
+/// for i in 0..SHA256_LANES {
+///     expect(&rt, "digest", states[i], DIGESTS[i]);
+/// }
+/// ```
 pub fn compress(states: &mut [[u32; 8]; SHA256_LANES], blocks: &[[u8; 64]; SHA256_LANES])
     ensures { (i : ℕ) → i < SHA256_LANES → slice_index_or states.new i []
         ≡ compress (slice_index_or states.old i []) (slice_index_or blocks.now i []) }

@@ -9,6 +9,14 @@ use mbj_sha_lanes::Load64;
 use mbj_types::{SHA512_LANES, Sha512Word};
 
 /// Compresses each of `SHA512_LANES` blocks into the hash value of the same number.
+///
+/// ```
+/// let mut states = [INITIAL; SHA512_LANES];
+/// compress(&mut states, &letter_blocks());
+/// for i in 0..SHA512_LANES {
+///     expect(&rt, "digest", states[i], by_sha2(letters(i)));
+/// }
+/// ```
 pub fn compress(states: &mut [[u64; 8]; SHA512_LANES], blocks: &[[u8; 128]; SHA512_LANES])
     ensures { (i : ℕ) → i < SHA512_LANES → slice_index_or states.new i []
         ≡ compress (slice_index_or states.old i []) (slice_index_or blocks.now i []) }

@@ -1,4 +1,4 @@
-//! How the course of a job begins, and whence it has the schedule of the job's key.
+//! How the course of a job begins, and where it gets the schedule of the job's key.
 
 ghost use Rattle.std.specs.Prelude.{◌≡◌, IfSome};
 ghost use Rattle.mbj_types.specs.Result.{result_of};

@@ -48,6 +48,17 @@ use std::mem;
 ///
 /// No call takes memory. The key of a cipher is expanded as the course begins, unless its schedule is found there, and the key of an
 /// authentication as its stage begins.
+///
+/// ```
+/// let mut course = Course::begin(job);
+/// 'stages: loop {
+///     match course.next_stage() {
+///         Stage::Now => course.run_now(),
+///         Stage::Lane(kind) => do_lane(&mut course, kind),
+///         Stage::Finished => return course.into_done(),
+///     }
+/// }
+/// ```
 #[derive(Drop)]
 pub struct Course {
     // Without its packet.

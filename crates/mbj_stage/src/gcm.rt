@@ -31,7 +31,7 @@ fn gcm(job: &Job, key: &Schedule, text: &mut [u8]) -> [u8; 16]
 }
 
 /// Does cipher and authentication of an accepted GCM job on its packet: the cipher range changes, and nothing else.
-/// Answers the tag, cut to the job's length.
+/// Returns the tag, cut to the job's length.
 pub(crate) fn run(job: &Job, key: &Schedule, packet: &mut [u8]) -> Tag
     requires key { IsScheduleOf job.now.key key.now }
     requires step { cipher_steps job.now.cipher ≡ step.Gcm ∷ [] }

@@ -21,7 +21,7 @@ pub fn results_keep_length()
     ensures { (j : Job) → length (result_of j).packet ≡ length j.packet }
 {}
 
-/// A law: a course whose packet is out in a lane owes what it owed before, by what the lane's entry ends with.
+/// A law: a course whose packet is out in a lane leads to the same result as before, with what the lane's entry ends with.
 pub fn a_course_owes_the_same_while_it_is_out()
     ensures { (c : CourseState) → OwesTheSame c }
 {}

@@ -42,9 +42,17 @@ use std::alloc::Global;
 /// Bytes are `-` for none, or two hexadecimal digits of either case for each. A number has 1 to 5
 /// digits, the first of them not `0` unless it is the only one. `specs/Words.antt` has all words.
 ///
-/// It answers `Line` at the first line that isn't so, or is a session line behind `MAX_SESSIONS` others
+/// It returns `Line` at the first line that isn't so, or is a session line behind `MAX_SESSIONS` others
 /// (field 1); `Limit` at the job line behind `JOB_LIMIT` good ones, whatever it says; and `Memory` where
 /// there isn't memory enough.
+///
+/// ```
+/// let (_, jobs) = read_file(alloc, LINE.as_bytes())?;
+/// let [job] = jobs.as_slice() else {
+///     return Ok(false);
+/// };
+/// Ok(shown(alloc, job)?.as_str() == SHOWN && job.session == None)
+/// ```
 pub fn read_file(alloc: Global, bytes: &[u8]) -> Result<(Vec<Vec<u8>>, Vec<Job>), TextFault>
     requires { length bytes.now ≤ INPUT_LIMIT }
 

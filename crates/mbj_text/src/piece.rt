@@ -10,8 +10,8 @@ use std::marker::Model;
 /// How many bytes of text are offered to a sink at once.
 pub(crate) const PIECE_LEN: usize = 64;
 
-/// Text on its way to a sink, in pieces of [`PIECE_LEN`] bytes, the last one shorter. What a write
-/// leaves of a piece is offered again before the next piece. Contracts see the text that waits.
+/// A buffer before a sink, which gets pieces of [`PIECE_LEN`] bytes, the last one shorter. What a write
+/// leaves of a piece is offered again before the next piece. Contracts see the text that is held back.
 #[derive(Drop)]
 pub(crate) struct Piece {
     bytes: [u8; PIECE_LEN],

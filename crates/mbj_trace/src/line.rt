@@ -4,7 +4,7 @@ use mbj_io::{Failed, Sink};
 use mbj_text::{Part, TextLine, write_line};
 use mbj_types::Kind;
 
-/// A line of a trace. Jobs are told by their numbers in the file, from 0 on.
+/// A line of a trace. It names jobs by their numbers in the file, from 0 on.
 #[derive(Clone, Copy, Debug, PartialEq, Eq)]
 pub enum TraceLine {
     /// A job was submitted, and this one was given back, or none.

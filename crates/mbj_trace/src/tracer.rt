@@ -19,7 +19,7 @@ pub enum Taking {
     Flushed,
 }
 
-/// A manager whose calls are told in lines.
+/// A manager, and the lines of its calls.
 #[derive(Drop)]
 struct Tracer {
     manager: Manager,
@@ -41,7 +41,7 @@ impl Tracer {
         })
     }
 
-    /// Counts a job that was given back, and answers its number.
+    /// Counts a job that was given back, and returns its number.
     fn number(&mut self, done: Option<Done>) -> Option<u32>
         requires { self.old.given < MAX_GIVEN }
         ensures number { result ≡ option_map (λ _. self.old.given) done }
@@ -105,7 +105,7 @@ impl Tracer {
         Ok(())
     }
 
-    /// Takes a job back, and answers whether there was one.
+    /// Takes a job back, and returns whether there was one.
     fn take(&mut self, how: Taking) -> Result<bool, AllocError>
         requires { jobs_in (state_of self.old) ≤ JOB_LIMIT }
         ensures taken { IfOk result (λ taken. self.new.given ≡ (if taken then self.old.given + 1 else self.old.given)) }
@@ -183,7 +183,12 @@ impl Tracer {
 
 /// The lines that tell what each call of one manager gives back over the jobs of a file.
 ///
-/// Answers `AllocError` for want of memory.
+/// Returns `AllocError` for want of memory.
+///
+/// ```
+/// let lines = trace_lines(alloc, jobs)?;
+/// Ok(write_lines(out, &lines)?)
+/// ```
 pub fn trace_lines(alloc: Global, jobs: Vec<Job>) -> Result<Vec<TraceLine>, AllocError>
     requires { length jobs.items ≤ JOB_LIMIT }
     ensures { IfOk result (λ lines. lines.items ≡ trace_lines jobs.items) }

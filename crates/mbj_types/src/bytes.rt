@@ -4,6 +4,13 @@ use std::alloc::{AllocError, Global};
 use std::marker::Model;
 
 /// Bytes of a job or a result: a `Vec<u8>` that contracts see as the list of its bytes.
+///
+/// ```
+/// let bytes = Bytes::from_slice(rt.alloc(), b"packet")?;
+/// expect(&rt, "lent", bytes.as_slice(), b"packet");
+/// let vec = bytes.into_vec();
+/// expect(&rt, "taken out", vec.as_slice(), b"packet");
+/// ```
 #[derive(Debug, Drop)]
 pub struct Bytes {
     bytes: Vec<u8>,
@@ -27,7 +34,7 @@ impl Bytes {
 
     /// Equal bytes in memory of their own.
     ///
-    /// Answers `AllocError` for want of memory.
+    /// Returns `AllocError` for want of memory.
     pub fn from_slice(alloc: Global, bytes: &[u8]) -> Result<Bytes, AllocError>
         ensures { IfOk result (λ b. b ≡ bytes.now) }
     {
@@ -44,7 +51,7 @@ impl Bytes {
 
     /// Equal bytes in memory of their own.
     ///
-    /// Answers `AllocError` for want of memory.
+    /// Returns `AllocError` for want of memory.
     pub fn copy(&self, alloc: Global) -> Result<Bytes, AllocError>
         ensures { IfOk result (λ b. b ≡ self.now) }
     {

@@ -117,6 +117,14 @@ impl fmt::Display for Auth {
 ///
 /// A field that the chosen cipher and authentication don't use is ignored. GCM and CCM use `key`, `iv`, `aad` and the
 /// cipher range, and ignore `order`, `auth_key` and the hash range.
+///
+/// ```
+/// job.auth = Auth::HmacSha1;
+/// job.auth_key = Bytes::from_slice(alloc, &[0x0b; 20])?;
+/// job.packet = Bytes::from_slice(alloc, b"Hi There")?;
+/// job.hash_len = 8;
+/// job.tag_len = 20;
+/// ```
 #[derive(Debug, Drop)]
 pub struct Job {
     pub cipher: Cipher,
@@ -175,7 +183,7 @@ impl Job {
 
     /// An equal job in memory of its own.
     ///
-    /// Answers `AllocError` for want of memory.
+    /// Returns `AllocError` for want of memory.
     pub fn copy(&self, alloc: Global) -> Result<Job, AllocError>
         ensures { IfOk result (λ j. j ≡ self.now) }
     {

@@ -59,7 +59,7 @@ pub enum Kind {
 }
 
 impl Kind {
-    /// Every kind once, in the order in which they are told.
+    /// Every kind once, in the order in which `trace` prints them.
     pub const ALL: [Kind; 11] = [
         Kind::Cbc128,
         Kind::Cbc192,
@@ -115,12 +115,12 @@ impl fmt::Display for Kind {
     }
 }
 
-/// A law: `Kind::ALL` has every kind once, in the order in which they are told.
+/// A law: `Kind::ALL` has every kind once, in the order in which `trace` prints them.
 pub fn kinds_are_told_in_order()
     ensures { Kind.ALL ≡ all_kinds }
 {}
 
-/// A law, which answers true: each lane word has as many lanes as its constant says.
+/// A law, which returns true: each lane word has as many lanes as its constant says.
 pub fn lane_words_have_these_lanes() -> bool
     ensures { IsTrue result }
 {

@@ -44,7 +44,7 @@ fn finish_each(
 }
 
 impl<'k> Party<'k> {
-    /// Settles as `settle` does until it answers false, `n` times at most. Answers how often it answered true.
+    /// Settles as `settle` does until it returns false, `n` times at most. Returns how often it returned true.
     pub fn settle_burst(&mut self, front: &Front, n: u32) -> u32
         requires { IsPartyOf front.now self.old }
         ensures front { IsPartyOf front.now self.new }

@@ -1,4 +1,4 @@
-/// What a party answers that tried to claim a cell.
+/// What a party returns that tried to claim a cell.
 #[derive(Clone, Copy, Debug, PartialEq, Eq)]
 pub enum Claimed {
     /// The cell's job is in the hand.

@@ -47,7 +47,7 @@ impl<'k> Party<'k> {
     /// Claims the job of a cell, where the hand has room: the cell goes to the end of the hand, and the job is submitted to
     /// the manager, by the schedule of its session's entry where the party has learnt the session and the entry has the job's key.
     /// A result that this gives back is that of the first cell in the hand, which is finished with it.
-    /// Answers the cell's word exactly where this call's one look found another one than `READY`; then only the looks have
+    /// Returns the cell's word exactly where this call's one look found another one than `READY`; then only the looks have
     /// grown.
     pub fn claim(&mut self, front: &Front, cell: u32) -> Claimed
         requires front { IsPartyOf front.now self.old }
@@ -91,7 +91,7 @@ impl<'k> Party<'k> {
         }
     }
 
-    /// Flushes one result out of the manager, and finishes the first cell in the hand with it. Answers false exactly where
+    /// Flushes one result out of the manager, and finishes the first cell in the hand with it. Returns false exactly where
     /// the hand is empty; nothing changes then.
     pub fn settle(&mut self, front: &Front) -> bool
         requires { IsPartyOf front.now self.old }

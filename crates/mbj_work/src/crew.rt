@@ -21,7 +21,7 @@ use std::thread::{Threads, join_mut};
 
 /// A submitter for each list of jobs, with the first of the seats that are left.
 ///
-/// Answers `AllocError` for want of memory.
+/// Returns `AllocError` for want of memory.
 pub(crate) fn make_submitters(
     alloc: Global,
     front: &Front,
@@ -48,7 +48,7 @@ pub(crate) fn make_submitters(
 
 /// A worker for each seat that is left.
 ///
-/// Answers `AllocError` for want of memory.
+/// Returns `AllocError` for want of memory.
 pub(crate) fn make_workers(
     alloc: Global,
     front: &Front,
@@ -101,7 +101,7 @@ fn run_each<R: Threads + Wait + Sync, G: Gate + Sync>(
 /// Runs the submitters beside the workers, and sets the workers' stop flag once all submitters are done. A worker whose
 /// thread can't be started is left out.
 ///
-/// Answers `AllocError`, once all have returned, where there was no memory for a worker's party.
+/// Returns `AllocError`, once all have returned, where there was no memory for a worker's party.
 pub(crate) fn run_beside<R: Threads + Wait + Sync, G: Gate + Sync>(
     rt: &R,
     front: &Front,

@@ -15,7 +15,7 @@ use std::thread::Threads;
 
 /// A list for each submitter, without jobs as yet and with room for `capacity` of them.
 ///
-/// Answers `AllocError` for want of memory.
+/// Returns `AllocError` for want of memory.
 fn empty_lists(
     alloc: Global,
     submitters: usize,
@@ -35,7 +35,7 @@ fn empty_lists(
 
 /// Deals jobs to submitters by turns: job i is that of submitter i modulo their number.
 ///
-/// Answers `AllocError` for want of memory.
+/// Returns `AllocError` for want of memory.
 fn deal(alloc: Global, jobs: Vec<Job>, submitters: u32) -> Result<Vec<Vec<Job>>, AllocError>
     requires { 1 ≤ submitters }
     ensures { IfOk result (λ lists. AreDealt jobs.items submitters (map (λ list. list.items) lists.items)) }
@@ -49,12 +49,12 @@ fn deal(alloc: Global, jobs: Vec<Job>, submitters: u32) -> Result<Vec<Vec<Job>>,
 }
 
 /// Does jobs by one front, whose parties share keys: the jobs are dealt to submitters by turns, and so many workers serve beside
-/// those. All parties but one submitter are in threads of their own, where these can be started. Answers the results in the order of
+/// those. All parties but one submitter are in threads of their own, where these can be started. Returns the results in the order of
 /// the jobs.
 ///
 /// There are 1 to `MAX_SUBMITTERS` submitters, and at most `MAX_WORKERS` workers.
 ///
-/// Answers `AllocError` for want of memory.
+/// Returns `AllocError` for want of memory.
 pub fn do_jobs<R: Threads + Wait + Sync, G: Gate + Sync>(
     rt: &R,
     alloc: Global,

@@ -91,7 +91,7 @@ impl<'k> Party<'k> {
         }
     }
 
-    /// Claims some of its own jobs, or settles a cell in the hand where none of them is ready. Answers whether there was one.
+    /// Claims some of its own jobs, or settles a cell in the hand where none of them is ready. Returns whether there was one.
     /// All results that are finished then are handed back.
     ///
     /// Where another party has the earliest job, that party goes on with those that come next, and this one takes the last.
@@ -119,7 +119,7 @@ impl<'k> Party<'k> {
     }
 
     /// Claims some of its own jobs that are ready, `CLAIMS` at most, from the first one that is out on or from the last one
-    /// back. Answers whether it claimed any.
+    /// back. Returns whether it claimed any.
     fn claim_own<G: Gate>(&mut self, front: &Front, gate: &G, from_first: bool) -> bool
         requires front { IsPartyOf front.now self.old }
         requires submitter { Submits front.now self.old }
@@ -142,7 +142,7 @@ impl<'k> Party<'k> {
         claimed > 0
     }
 
-    /// Claims a cell that is ready, where the hand has room. Answers whether it did.
+    /// Claims a cell that is ready, where the hand has room. Returns whether it did.
     pub(crate) fn claim_ready<G: Gate>(&mut self, front: &Front, cell: u32, gate: &G) -> bool
         requires front { IsPartyOf front.now self.old }
         requires cell { cell < cells_of front.now }

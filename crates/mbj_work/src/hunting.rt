@@ -7,7 +7,7 @@ use crate::party::Party;
 use mbj_front::{Front, READY};
 
 impl<'k> Party<'k> {
-    /// Looks at each cell once, from one on and round, and answers the first that has a job to be claimed. Answers `None`
+    /// Looks at each cell once, from one on and round, and returns the first that has a job to be claimed. Returns `None`
     /// exactly where each of these looks found another word.
     pub fn hunt(&mut self, front: &Front, from: u32) -> Option<u32>
         requires front { IsPartyOf front.now self.old }

@@ -33,7 +33,7 @@ impl<'k> Model for KnownKeys<'k> {
 impl<'k> KnownKeys<'k> {
     /// Learns all sessions.
     ///
-    /// Answers `AllocError` for want of memory.
+    /// Returns `AllocError` for want of memory.
     pub(crate) fn learn(alloc: Global, keys: &'k Keys) -> Result<KnownKeys<'k>, AllocError>
         ensures { IfOk result (KnowsAll keys.now) }
     {

@@ -20,7 +20,7 @@ use std::alloc::{AllocError, Global};
 impl<'k> Party<'k> {
     /// A party with this seat, which is at rest and has an empty hand, and with a new manager. It shares no keys.
     ///
-    /// Answers `AllocError` for want of memory; the seat is then dropped.
+    /// Returns `AllocError` for want of memory; the seat is then dropped.
     pub fn new(alloc: Global, seat: Seat) -> Result<Party<'k>, AllocError>
         requires rest { (view_of seat).phase ≡ Rest }
         requires hand { (view_of seat).hand ≡ [] }
@@ -34,7 +34,7 @@ impl<'k> Party<'k> {
     /// A party as `new` makes it, which shares keys with other parties: it has learnt all sessions, and claims by the schedules
     /// of their entries. It doesn't wait for the others.
     ///
-    /// Answers `AllocError` for want of memory; the seat is then dropped.
+    /// Returns `AllocError` for want of memory; the seat is then dropped.
     pub fn new_in(alloc: Global, seat: Seat, keys: &'k Keys) -> Result<Party<'k>, AllocError>
         requires rest { (view_of seat).phase ≡ Rest }
         requires hand { (view_of seat).hand ≡ [] }

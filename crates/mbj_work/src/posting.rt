@@ -12,7 +12,7 @@ use mbj_front::Front;
 use mbj_types::{Done, Job, PostFull};
 
 impl<'k> Party<'k> {
-    /// Posts a job of a submitter, whose result is then due. Answers the job itself exactly where `SUBMITTER_CELLS` of
+    /// Posts a job of a submitter, whose result is then due. Returns the job itself exactly where `SUBMITTER_CELLS` of
     /// this submitter are out; nothing changes then.
     pub fn post(&mut self, front: &Front, job: Job) -> Result<(), PostFull>
         requires front { IsPartyOf front.now self.old }
@@ -47,7 +47,7 @@ impl<'k> Party<'k> {
         Ok(())
     }
 
-    /// Takes the result of a submitter's earliest job that is out. Answers `None` exactly where none is out, or where
+    /// Takes the result of a submitter's earliest job that is out. Returns `None` exactly where none is out, or where
     /// this call's one look, at the cell of that job, found another word than `DONE`; then only the looks have grown.
     pub fn collect(&mut self, front: &Front) -> Option<Done>
         requires { IsPartyOf front.now self.old }

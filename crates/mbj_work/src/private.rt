@@ -31,10 +31,10 @@ fn run_tasks<R: Threads + Sync>(rt: &R, tasks: Vec<Task>) -> Result<Vec<Vec<Done
     thread::map_vec(rt, tasks, &|task: Task| task.run())
 }
 
-/// Does each list of jobs by a manager of its own, in a thread of its own where one can be started, and answers the
+/// Does each list of jobs by a manager of its own, in a thread of its own where one can be started, and returns the
 /// results of each list, in order.
 ///
-/// Answers `AllocError` for want of memory.
+/// Returns `AllocError` for want of memory.
 pub fn run_private<R: Threads + Sync>(
     rt: &R,
     alloc: Global,

@@ -16,7 +16,7 @@ use std::thread::Threads;
 
 /// Puts the results of each submitter into a vector that has room for them.
 ///
-/// Answers `AllocError` where there was no memory for a submitter's party.
+/// Returns `AllocError` where there was no memory for a submitter's party.
 fn results_of(
     submitters: Vec<Submitter>,
     mut given: Vec<Vec<Done>>,
@@ -34,13 +34,19 @@ fn results_of(
 }
 
 /// Does lists of jobs by one front, whose parties share keys: each list is that of a submitter, and so many workers serve beside
-/// them. The last submitter works in this thread, and each other party in a thread of its own where one can be started. Answers the
+/// them. The last submitter works in this thread, and each other party in a thread of its own where one can be started. Returns the
 /// results of each list, in order. Each party takes all its memory before its first job.
 ///
 /// There are 1 to `MAX_SUBMITTERS` lists, and at most `MAX_WORKERS` workers. A worker whose thread can't be started is left
 /// out.
 ///
-/// Answers `AllocError` for want of memory, once all parties have returned.
+/// Returns `AllocError` for want of memory, once all parties have returned.
+///
+/// ```
+/// let keys = Keys::new(alloc, Vec::new(alloc))?;
+/// let results = run_shared(rt, alloc, &keys, two_lists(alloc)?, workers, &OpenGate)?;
+/// Ok(are_results_of_two_lists(&results))
+/// ```
 pub fn run_shared<R: Threads + Wait + Sync, G: Gate + Sync>(
     rt: &R,
     alloc: Global,

@@ -77,7 +77,7 @@ impl<'k> Party<'k> {
 impl Submitter {
     /// A submitter with its jobs. It takes the memory for their results.
     ///
-    /// Answers `AllocError` for want of memory.
+    /// Returns `AllocError` for want of memory.
     #[tactic(auto, unfolding(crate::specs::Inside::Runs::HasJobs))]
     pub(crate) fn new(
         alloc: Global,
@@ -120,7 +120,7 @@ impl Submitter {
 
     /// Its results.
     ///
-    /// Answers `AllocError` where there was no memory for its party.
+    /// Returns `AllocError` where there was no memory for its party.
     pub(crate) fn into_results(self) -> Result<Vec<Done>, AllocError>
         ensures results { IfOk result (λ v. v ≡ self.results) }
         ensures done { OnOk result (self.is_refused ≡ false) }

@@ -51,7 +51,7 @@ fn flush_all(manager: &mut Manager, results: &mut Vec<Done>)
 impl Task {
     /// Takes the memory for a manager and for the results of the jobs.
     ///
-    /// Answers `AllocError` for want of memory.
+    /// Returns `AllocError` for want of memory.
     pub(crate) fn new(alloc: Global, jobs: Vec<Job>) -> Result<Task, AllocError>
         ensures { IfOk result (λ t. t.jobs.items ≡ jobs.items) }
     {

@@ -26,7 +26,7 @@ use std::thread::Threads;
 /// The status where the words are no command.
 const BAD_WORDS: u8 = 2;
 
-/// Tells a cause, and answers its status.
+/// Writes the line of a cause, and returns its status.
 pub(crate) fn tell<E: Sink>(err: &mut E, cause: Cause) -> u8
     ensures status { result ≡ status_for cause }
     ensures told { Gains (stream E.held E.faults err.old err.new) (message_of cause) }
@@ -35,7 +35,7 @@ pub(crate) fn tell<E: Sink>(err: &mut E, cause: Cause) -> u8
     cause.status()
 }
 
-/// Tells why words gave no command, and answers the status.
+/// Writes why words are no command, and returns the status.
 pub(crate) fn refuse<E: Sink>(err: &mut E, fault: WordFault) -> u8
     ensures text { fault ≢ WordFault.Memory → (result ≡ 2)
         × ((text : List ℕ) × (text ≢ []) × Gains (stream E.held E.faults err.old err.new) text) }
@@ -90,14 +90,14 @@ fn carry_out<R: Threads + Wait + Sync, S: Source, O: Sink, G: Gate + Sync>(
     }
 }
 
-/// Does what the command line says, and answers the status that the program ends with.
+/// Carries the command line out, and returns the program's exit status.
 ///
 /// `words` are the command line, with the program's name first. `run` reads a job file from `input`, does its jobs and
 /// writes the line of each result to `out`; `trace` drives one manager with a job file and writes what each call gives
 /// back; `burst` hands the jobs of a file to one manager in groups and writes how many results each call gives back, and
-/// then the results; `gen` reads nothing, makes jobs from a seed and writes what they come to; `replay` reads a job file
-/// with a script behind its jobs, and writes what each command of the script comes to. Every status but 0 is told on
-/// `err`; a fault of `err` changes no status.
+/// then the results; `gen` reads nothing, makes jobs from a seed and writes a summary of their results; `replay` reads a job
+/// file with a script behind its jobs, and writes the outcome of each command of the script. With every status but 0 there is a
+/// line on `err`; a fault of `err` changes no status.
 ///
 /// | Status | Comes |
 /// |---|---|

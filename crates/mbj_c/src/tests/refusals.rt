@@ -14,7 +14,7 @@ const NO_ROOM: u32 = 6;
 
 const HAS_MANAGER: u32 = 7;
 
-/// Fills and submits the job, and answers for what filling is refused; 0 where it isn't.
+/// Fills and submits the job, and returns for what filling is refused; 0 where it isn't.
 fn fill_and_submit(alloc: Global, handle: &mut Handle, job: &RawJob<'_>) -> u32 {
     let refusal = mbj_c_fill(alloc, handle, job);
     if refusal == 0 {

@@ -30,7 +30,7 @@ struct Holding {
 }
 
 impl Holding {
-    /// Takes a turn, and answers whether the hold is over.
+    /// Takes a turn, and returns whether the hold is over.
     fn is_over(&self) -> bool {
         self.others.load(SeqCst) >= OTHER_MOMENTS || self.turns.fetch_add(1, SeqCst) >= MOST_TURNS
     }

@@ -154,7 +154,7 @@ fn words_of(alloc: Global, line: &str) -> Result<Vec<String>, AllocError> {
     Ok(words)
 }
 
-/// Runs the program by the words of a line, and answers its status.
+/// Runs the program by the words of a line, and returns its status.
 pub(super) fn run_on<R: Host, S: Source, G: Gate + Sync>(
     rt: &R,
     alloc: Global,

@@ -1,4 +1,4 @@
-// Files with sessions come to what the same files with the keys themselves come to.
+// Files with sessions give the same results as these files with the keys themselves.
 use super::compare;
 use super::parties::{Key, add_job, add_job_by};
 use super::runs::{Host, ROOM, Run};

@@ -22,7 +22,7 @@ impl BothAtWork {
         self.first.load(SeqCst) && self.second.load(SeqCst)
     }
 
-    /// Takes a turn, and answers whether the wait is over.
+    /// Takes a turn, and returns whether the wait is over.
     fn is_over(&self) -> bool {
         self.were_seen() || self.turns.fetch_add(1, SeqCst) >= MOST_TURNS
     }
