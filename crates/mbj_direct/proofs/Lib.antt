@@ -1,0 +1,10 @@
+mod Zeros
+mod KeyBytes
+mod InverseKeys
+mod InverseColumns
+mod Equivalent
+mod Streams
+mod BlockRuns
+mod Hashes
+mod States
+mod Taken

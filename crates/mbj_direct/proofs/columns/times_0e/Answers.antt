@@ -1,0 +1,11 @@
+-- At each byte.
+use Rattle.std.proofs.Common.{ℕ, bit_xor, refl, ap₂, ◌∙◌}
+use Rattle.mbj_types.specs.Aes.{xtime, times}
+use Rattle.mbj_aes.proofs.ByteCases.{same_at_each}
+use Rattle.mbj_direct.proofs.columns.times_0e.Goals as goal
+
+pub returns : goal.returns
+unfolding times
+returns c =
+    ap₂ bit_xor (ap₂ bit_xor c.doubled_thrice-two.ensures.eight c.doubled_thrice-two.ensures.four) c.doubled_thrice-two.ensures.two
+    ∙ same_at_each (λ (x : ℕ). bit_xor (bit_xor (xtime (xtime (xtime x))) (xtime (xtime x))) (xtime x)) (times 14) 256 c.args.a refl c.ranges.a.fits

@@ -1,0 +1,3 @@
+-- What a state of a text in parts holds, and what functions inside the crate compute.
+pub mod Stream
+pub mod Hashed

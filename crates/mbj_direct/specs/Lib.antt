@@ -1,0 +1,5 @@
+pub mod Schedules
+pub mod Equivalent
+pub mod Parts
+pub mod Laws
+pub mod Inside

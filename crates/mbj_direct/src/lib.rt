@@ -1,0 +1,22 @@
+//! Calls without a manager, for a program that wants one thing at once: a key's schedules, the subkeys of CMAC, a digest, a text by
+//! CCM, and a text by GCM in parts. A whole text by GCM is `seal` and `unseal` of `mbj_gcm`. Only the calls on CCM take memory.
+#![tactic(auto)]
+
+mod ccm;
+mod columns;
+mod counter;
+mod digest;
+mod hash;
+mod keys;
+mod laws;
+mod parts;
+mod subkeys;
+#[cfg(test)]
+mod tests;
+
+pub use ccm::{ccm_open, ccm_seal};
+pub use digest::digest_of;
+pub use keys::{MAX_SCHEDULE_BYTES, encryption_schedule, inverse_schedule};
+pub use laws::{any_cutting_gives_one_text, equivalent_cipher_deciphers};
+pub use parts::GcmState;
+pub use subkeys::{Subkeys, cmac_subkeys};
