@@ -6,6 +6,7 @@ use Rattle.mbj_types.specs.declared.job.Job.{Job}
 use Rattle.mbj_types.specs.declared.done.Done.{Done}
 use Rattle.mbj_types.specs.Result.{result_of}
 use Rattle.mbj_ring.specs.declared.ring.TheConstants.{CELLS}
+use Rattle.mbj_keys.specs.Sessions.{Known}
 use Rattle.mbj_manager.specs.Machine.Course.{flushed}
 use Rattle.mbj_manager.specs.State.{ManagerState}
 use Rattle.mbj_manager.proofs.CallLaws.{given-order, submitted-order}
@@ -14,9 +15,10 @@ use Rattle.mbj_c.specs.declared.giving.Call.TheVariants as call
 use Rattle.mbj_c.specs.declared.giving.Given.{Given}
 use Rattle.mbj_c.specs.declared.refusal.Refusal.{Refusal}
 use Rattle.mbj_c.specs.declared.refusal.Refusal.TheVariants as refusal
-use Rattle.mbj_c.specs.Calls.{CallOfC, fills, gives, GivesInOrder, after_calls, called_of, given_back, given_in, given_of, jobs_by, jobs_in, jobs_submitted}
+use Rattle.mbj_c.specs.Calls.{CallOfC, fills, gives, uses, GivesInOrder, after_calls, called_of, given_back, given_in, given_of, jobs_by, jobs_in, jobs_submitted}
 use Rattle.mbj_c.specs.Filling.{filled_at, filled_with, job_said}
-use Rattle.mbj_c.specs.Giving.{called_by, given_with, job_entered, manager_step, owed_in, refusal_in, step}
+use Rattle.mbj_c.specs.Giving.{called_by, found_by, given_with, job_entered, manager_step, owed_in, refusal_in, step}
+use Rattle.mbj_c.specs.KeySets.{using}
 use Rattle.mbj_c.specs.Ranges.{given_range}
 use Rattle.mbj_c.specs.State.{RangedState, new_ranged}
 use Rattle.mbj_c.proofs.Ranges.{head_or, opened-after, opened-with, ranges-in, ranges-left, results-in, results-left}
@@ -35,10 +37,11 @@ record Leaves (given : Option Given) (after : RangedState) (jobs : List Job) : T
 
 -- ---- one call
 
-manager-order : (c : Call) (m : ManagerState) → option_to_list (manager_step c m).0 ++ (manager_step c m).1.owed ≡ owed_in c m
-manager-order call.Submit m = submitted-order false m
-manager-order call.Completed m = given-order m
-manager-order call.Flush m = given-order (record m { machine = flushed m.machine })
+manager-order : (c : Call) (notes : Option (List Known)) (m : ManagerState)
+    → option_to_list (manager_step c notes m).0 ++ (manager_step c notes m).1.owed ≡ owed_in c m
+manager-order call.Submit notes m = submitted-order (found_by notes m.opened) m
+manager-order call.Completed notes m = given-order m
+manager-order call.Flush notes m = given-order (record m { machine = flushed m.machine })
 
 first-given : (done : Option Done) (after : List Done) (jobs : List Job) → option_to_list done ++ after ≡ map result_of jobs
     → option_to_list (given_with done (map given_range jobs)) ++ map given_of (drop (length (option_to_list done)) jobs) ≡ map given_of jobs
@@ -51,19 +54,19 @@ first-given (Some d) after (j ∷ jobs) order =
 step-leaves : (c : Call) (k : RangedState) (jobs : List Job) → Owes k jobs
     → Leaves (step c k).0 (step c k).1 (jobs ++ job_entered c k.manager.opened)
 step-leaves c k jobs owes =
-    let done = (manager_step c k.manager).0 in
+    let done = (manager_step c k.notes k.manager).0 in
     let all : List Job = jobs ++ job_entered c k.manager.opened in
     let results = results-in c k.manager jobs owes.results in
     let ranges = ranges-in c k.manager.opened k.ranges k.filled jobs owes.ranges owes.filled in
-    let order = manager-order c k.manager in
+    let order = manager-order c k.notes k.manager in
     record {
       left = drop (length (option_to_list done)) all;
       order = ap (λ rs. option_to_list (given_with done rs) ++ map given_of (drop (length (option_to_list done)) all)) ranges
-          ∙ first-given done (manager_step c k.manager).1.owed all (order ∙ results);
+          ∙ first-given done (manager_step c k.notes k.manager).1.owed all (order ∙ results);
       owes = record {
-        results = results-left done (manager_step c k.manager).1.owed (owed_in c k.manager) all order results;
+        results = results-left done (manager_step c k.notes k.manager).1.owed (owed_in c k.manager) all order results;
         ranges = ranges-left done _ all ranges;
-        filled = opened-after c k.manager k.filled owes.filled;
+        filled = opened-after c k.notes k.manager k.filled owes.filled;
       };
     }
 
@@ -90,6 +93,8 @@ call-leaves : (c : CallOfC) (k : RangedState) (jobs : List Job) → Owes k jobs
 call-leaves (fills i r) k jobs owes =
     nothing-given (filled_at i r k).1 jobs (filled-owes (nat_le CELLS (length k.manager.owed + i)) i (job_said r) k jobs owes)
 call-leaves (gives c out) k jobs owes = called-leaves (refusal_in c k out) c k jobs owes
+call-leaves (uses notes) k jobs owes =
+    nothing-given (using notes k) jobs (record { results = owes.results; ranges = owes.ranges; filled = owes.filled })
 
 -- ---- all calls
 

@@ -1,5 +1,8 @@
 mod RawBoxes
 mod Handles
+mod ManagerHandles
+mod KeyHandles
+mod KeyLists
 mod Crosses
 mod Ranges
 mod Packets

@@ -12,6 +12,7 @@ use Rattle.mbj_types.specs.Verdict.{verdict, is_null_cipher}
 use Rattle.mbj_args.proofs.Accepted as table
 use Rattle.mbj_ring.specs.Ring.{RingState}
 use Rattle.mbj_stage.proofs.PacketLengths.{length-result_of}
+use Rattle.mbj_keys.specs.Sessions.{Known}
 use Rattle.mbj_manager.specs.State.{ManagerState}
 use Rattle.mbj_manager.proofs.CallLaws.{given-opened, submitted-opened}
 use Rattle.mbj_manager.specs.Machine.Course.{flushed}
@@ -19,7 +20,7 @@ use Rattle.mbj_c.specs.declared.giving.Call.{Call}
 use Rattle.mbj_c.specs.declared.giving.Call.TheVariants as call
 use Rattle.mbj_c.specs.declared.range.CipherRange.{CipherRange}
 use Rattle.mbj_c.specs.Filling.{put_at, with_cell}
-use Rattle.mbj_c.specs.Giving.{filled_after, given_with, job_entered, manager_step, owed_in, ranges_entered}
+use Rattle.mbj_c.specs.Giving.{filled_after, found_by, given_with, job_entered, manager_step, owed_in, ranges_entered}
 use Rattle.mbj_c.specs.Inside.Ranges.{AreOfJobs, AreRanges}
 use Rattle.mbj_c.specs.Inside.Room.{IsWithin}
 use Rattle.mbj_c.specs.Ranges.{given_range, range_by, written_range}
@@ -34,12 +35,12 @@ first-set (r ∷ ranges) range is =
 -- ---- the open jobs
 
 -- the ranges of the open jobs that are left are those of the jobs that are open then
-pub opened-after : (c : Call) (m : ManagerState) (filled : List CipherRange) → filled ≡ map given_range m.opened
-    → filled_after c filled ≡ map given_range (manager_step c m).1.opened
-opened-after call.Submit m filled is =
-    ap (drop 1) is ∙ drop-map given_range 1 m.opened ∙ ap (map given_range) (sym (submitted-opened false m))
-opened-after call.Completed m filled is = is ∙ ap (map given_range) (sym (given-opened m.owed m.machine.left m))
-opened-after call.Flush m filled is =
+pub opened-after : (c : Call) (notes : Option (List Known)) (m : ManagerState) (filled : List CipherRange)
+    → filled ≡ map given_range m.opened → filled_after c filled ≡ map given_range (manager_step c notes m).1.opened
+opened-after call.Submit notes m filled is =
+    ap (drop 1) is ∙ drop-map given_range 1 m.opened ∙ ap (map given_range) (sym (submitted-opened (found_by notes m.opened) m))
+opened-after call.Completed notes m filled is = is ∙ ap (map given_range) (sym (given-opened m.owed m.machine.left m))
+opened-after call.Flush notes m filled is =
     let after : ManagerState = record m { machine = flushed m.machine } in
     is ∙ ap (map given_range) (sym (given-opened after.owed after.machine.left after))
 
@@ -164,13 +165,14 @@ given-range-within c m done after ranges filled are is order =
     (result-within done after those.jobs (order ∙ those.results))
 
 -- the ranges after a call
-pub ranges-after : (c : Call) (m after : ManagerState) (done : Option Done) (before ranges : RingState CipherRange)
-    → AreRanges m before → after ≡ (manager_step c m).1 → option_to_list done ++ after.owed ≡ owed_in c m
+pub ranges-after : (c : Call) (notes : Option (List Known)) (m after : ManagerState) (done : Option Done)
+    (before ranges : RingState CipherRange)
+    → AreRanges m before → after ≡ (manager_step c notes m).1 → option_to_list done ++ after.owed ≡ owed_in c m
     → ranges.values ≡ drop (length (option_to_list done)) (before.values ++ ranges_entered c before.opened)
     → ranges.opened ≡ filled_after c before.opened → AreRanges after ranges
-ranges-after c m after done before ranges are is order values kept = record {
+ranges-after c notes m after done before ranges are is order values kept = record {
   owed = subst (AreOfJobs after.owed) (sym values)
       (of-jobs-left done after.owed (owed_in c m) (before.values ++ ranges_entered c before.opened) order
       (of-jobs-in c m before.values before.opened are.owed are.opened));
-  opened = kept ∙ opened-after c m before.opened are.opened ∙ ap (λ n. map given_range n.opened) (sym is);
+  opened = kept ∙ opened-after c notes m before.opened are.opened ∙ ap (λ n. map given_range n.opened) (sym is);
 }

@@ -1,5 +1,6 @@
 -- The calls of C one after another, and the law of what they give back.
 use Rattle.std.specs.Prelude.{◌≡◌, ℕ, List, [], ◌∷◌, ◌++◌, map, Option, None, Some, option_to_list, Result, Ok, Err}
+use Rattle.mbj_keys.specs.Sessions.{Known}
 use Rattle.mbj_types.specs.declared.job.Job.{Job}
 use Rattle.mbj_types.specs.Result.{result_of}
 use Rattle.mbj_c.specs.declared.giving.Call.{Call}
@@ -9,14 +10,16 @@ use Rattle.mbj_c.specs.declared.job.RawJob.{RawJob}
 use Rattle.mbj_c.specs.declared.refusal.Refusal.{Refusal}
 use Rattle.mbj_c.specs.Filling.{filled_at}
 use Rattle.mbj_c.specs.Giving.{called_in, job_entered, refusal_in}
+use Rattle.mbj_c.specs.KeySets.{using}
 use Rattle.mbj_c.specs.Ranges.{given_range}
 use Rattle.mbj_c.specs.State.{RangedState, new_ranged}
 
--- C fills an open cell, for whose job there is memory, or makes a call with room for a result. The single call fills the first open
--- cell; a burst fills one behind another
+-- C fills an open cell, for whose job there is memory, or makes a call with room for a result, or has the manager use a set of key
+-- sessions. The single call fills the first open cell; a burst fills one behind another
 pub data CallOfC : Type 0 where
   fills : ℕ → RawJob → CallOfC
   gives : Call → RawDone → CallOfC
+  uses : List Known → CallOfC
 
 abbrev pub given_in : Result (Option Given) Refusal → Option Given
 given_in (Ok g) = g
@@ -26,6 +29,7 @@ given_in (Err r) = None
 abbrev pub called_of : CallOfC → RangedState → Option Given × RangedState
 called_of (fills i r) k = (None, (filled_at i r k).1)
 called_of (gives c out) k = (given_in (called_in c k out).0, (called_in c k out).1)
+called_of (uses notes) k = (None, using notes k)
 
 -- a refused call submits none
 abbrev pub jobs_by : Option Refusal → Call → RangedState → List Job
@@ -35,6 +39,7 @@ jobs_by (Some r) c k = []
 abbrev pub jobs_in : CallOfC → RangedState → List Job
 jobs_in (fills i r) k = []
 jobs_in (gives c out) k = jobs_by (refusal_in c k out) c k
+jobs_in (uses notes) k = []
 
 -- what the calls give back, in order
 unfoldable pub given_back : List CallOfC → RangedState → List Given

@@ -1,10 +1,10 @@
 -- The numbers that C is told.
-use Rattle.std.specs.Prelude.{ℕ, Result, Ok, Err}
+use Rattle.std.specs.Prelude.{ℕ, Option, None, Some, Result, Ok, Err}
 use Rattle.mbj_types.specs.Reasons.{number_of}
 use Rattle.mbj_types.specs.declared.done.Status.{Status}
 use Rattle.mbj_types.specs.declared.done.Status.TheVariants as status
 use Rattle.mbj_c.specs.declared.refusal.Refusal.{Refusal}
-use Rattle.mbj_c.specs.declared.refusal.Refusal.TheVariants.{Full, Word, Memory, NoManager, NoJob, NoRoom, HasManager, TextLength}
+use Rattle.mbj_c.specs.declared.refusal.Refusal.TheVariants.{Full, Word, Memory, NoManager, NoJob, NoRoom, HasManager, TextLength, KeyLength, IvLength, TagLength, AadLength, NoState, HasKeys, NoKeys, TooManyKeys}
 
 abbrev pub refusal_code : Refusal → ℕ
 refusal_code Full = 1
@@ -15,11 +15,24 @@ refusal_code NoJob = 5
 refusal_code NoRoom = 6
 refusal_code HasManager = 7
 refusal_code TextLength = 11
+refusal_code KeyLength = 12
+refusal_code IvLength = 13
+refusal_code TagLength = 14
+refusal_code AadLength = 15
+refusal_code NoState = 16
+refusal_code HasKeys = 17
+refusal_code NoKeys = 18
+refusal_code TooManyKeys = 19
 
 -- 0, or the code of the refusal
 abbrev pub code_of : {A : Type 0} → Result A Refusal → ℕ
 code_of (Ok x) = 0
 code_of (Err r) = refusal_code r
+
+-- the code where nothing speaks against a call, and where something does
+abbrev pub code_by : Option Refusal → ℕ
+code_by None = 0
+code_by (Some r) = refusal_code r
 
 -- 0 for a job that was done, 1 for one that was refused
 abbrev pub status_code : Status → ℕ

@@ -1,5 +1,5 @@
 -- What C's job says, and what filling the next job with it comes to.
-use Rattle.std.specs.Prelude.{ℕ, ◌+◌, nat_le, List, ◌∷◌, ◌++◌, take, drop, length, Option, Some, None, Result, Ok, Err, slice_get, option_map, if◌then◌else◌}
+use Rattle.std.specs.Prelude.{ℕ, ◌+◌, ◌-◌, ◌^◌, ◌==◌, nat_le, List, ◌∷◌, ◌++◌, take, drop, length, Option, Some, None, Result, Ok, Err, slice_get, option_map, if◌then◌else◌}
 use Rattle.mbj_types.specs.declared.job.Job.{Job}
 use Rattle.mbj_types.specs.declared.job.Cipher.{Cipher}
 use Rattle.mbj_types.specs.declared.job.Dir.{Dir}
@@ -23,6 +23,10 @@ words_of c d o a = None
 abbrev pub words_said : RawJob → Option Words
 words_said r = words_of (slice_get ciphers r.cipher) (slice_get dirs r.dir) (slice_get orders r.order) (slice_get auths r.auth)
 
+-- the greatest number of 32 bits names no session
+abbrev pub session_said : ℕ → Option ℕ
+session_said n = if n == 2 ^ 32 - 1 then None else Some n
+
 abbrev pub job_with : RawJob → Words → Job
 job_with r w = record {
   cipher = w.cipher;
@@ -39,7 +43,7 @@ job_with r w = record {
   hash_len = narrowed r.hash_len;
   tag_len = r.tag_len;
   packet = r.packet.now;
-  session = None;
+  session = session_said r.session;
 }
 
 -- the job that C's job says, where each code is a word

@@ -4,7 +4,8 @@ use Rattle.mbj_types.specs.declared.done.Done.{Done}
 use Rattle.mbj_types.specs.declared.job.Job.{Job}
 use Rattle.mbj_types.specs.declared.limits.TheConstants.{MAX_TAG_BYTES}
 use Rattle.mbj_types.specs.Result.{result_of}
-use Rattle.mbj_manager.specs.State.{ManagerState, after_submit, after_get_completed, after_flush}
+use Rattle.mbj_keys.specs.Sessions.{Known}
+use Rattle.mbj_manager.specs.State.{ManagerState, after_submit_by, after_get_completed, after_flush, finds}
 use Rattle.mbj_c.specs.declared.giving.Call.{Call}
 use Rattle.mbj_c.specs.declared.giving.Call.TheVariants as call
 use Rattle.mbj_c.specs.declared.giving.Given.{Given}
@@ -18,11 +19,16 @@ use Rattle.mbj_c.specs.State.{RangedState}
 
 -- ---- the manager
 
+-- whether the schedule of the first open job's key is found: a set of key sessions is used, and the job names one with its key
+abbrev pub found_by : Option (List Known) → List Job → Bool
+found_by None opened = false
+found_by (Some notes) opened = finds notes opened
+
 -- what the call gives back, and what it makes of the manager
-abbrev pub manager_step : Call → ManagerState → Option Done × ManagerState
-manager_step call.Submit m = after_submit m
-manager_step call.Completed m = after_get_completed m
-manager_step call.Flush m = after_flush m
+abbrev pub manager_step : Call → Option (List Known) → ManagerState → Option Done × ManagerState
+manager_step call.Submit notes m = after_submit_by (found_by notes m.opened) m
+manager_step call.Completed notes m = after_get_completed m
+manager_step call.Flush notes m = after_flush m
 
 -- the results that are owed once the call's job, where it has one, is submitted: the first one is the one that may be given back
 abbrev pub owed_in : Call → ManagerState → List Done
@@ -67,12 +73,13 @@ given_with (Some d) rs = option_map (λ r. record { done = d; range = r }) (slic
 -- what the call gives back, and what it makes of the state: a range goes with its result
 abbrev pub step : Call → RangedState → Option Given × RangedState
 step c k =
-    let done = (manager_step c k.manager).0 in (
+    let done = (manager_step c k.notes k.manager).0 in (
       given_with done (ranges_in c k),
       record {
-        manager = (manager_step c k.manager).1;
+        manager = (manager_step c k.notes k.manager).1;
         ranges = drop (length (option_to_list done)) (ranges_in c k);
         filled = filled_after c k.filled;
+        notes = k.notes;
       },
     )
 

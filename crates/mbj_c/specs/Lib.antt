@@ -6,7 +6,9 @@ pub mod Code
 pub mod Counts
 pub mod Filling
 pub mod Giving
+pub mod KeySets
 pub mod Calls
 pub mod Bursts
 pub mod Stored
+pub mod Direct
 pub mod Inside

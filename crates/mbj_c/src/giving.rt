@@ -8,6 +8,7 @@ ghost use Rattle.mbj_c.specs.Codes.{reason_code, status_code};
 
 use crate::range::CipherRange;
 use crate::refusal::Refusal;
+use crate::sessions::{Sessions, submit};
 use mbj_manager::Manager;
 use mbj_types::{Done, MAX_TAG_BYTES, Status};
 
@@ -44,16 +45,17 @@ pub(crate) enum Call {
 }
 
 impl Call {
-    /// Makes the call.
-    pub(crate) fn make(self, manager: &mut Manager) -> Option<Done>
+    /// Makes the call. Where it submits a job, the key sessions are used that there are.
+    pub(crate) fn make(self, manager: &mut Manager, sessions: &mut Option<Sessions>) -> Option<Done>
         requires { HasJob self manager.old }
-        ensures result { result ≡ (manager_step self manager.old).0 }
-        ensures state { manager.new ≡ (manager_step self manager.old).1 }
+        ensures same { sessions.new ≡ sessions.old }
+        ensures result { result ≡ (manager_step self sessions.old manager.old).0 }
+        ensures state { manager.new ≡ (manager_step self sessions.old manager.old).1 }
         ensures order { option_to_list result ++ manager.new.owed ≡ owed_in self manager.old }
         ensures drained { self ≡ call.Flush → result ≡ None → manager.old.owed ≡ [] }
     {
         match self {
-            Call::Submit => manager.submit(),
+            Call::Submit => submit(manager, sessions),
             Call::Completed => manager.get_completed(),
             Call::Flush => manager.flush(),
         }

@@ -21,8 +21,9 @@ pub struct Handle {
 
 impl Model for Handle {
     ghost use Rattle.mbj_c.specs.Inside.Held.{owned_at};
+    ghost use Rattle.mbj_c.specs.contracts.ranged.RangedManager.{the_row};
 
-    ghost also_owns = { λ h. owned_at h.alloc h.at h.manager };
+    ghost also_owns = { λ h. owned_at the_row h.alloc h.at h.manager };
 }
 
 unsafe impl Send for Handle {}

@@ -1,5 +1,5 @@
 ghost use Rattle.std.specs.Prelude.{◌≡◌, IfOk, IfErr, Some, option_map};
-ghost use Rattle.mbj_c.specs.Filling.{job_said, job_with, words_said};
+ghost use Rattle.mbj_c.specs.Filling.{job_said, job_with, session_said, words_said};
 
 use crate::range::narrowed;
 use crate::words::{Words, auth_at, cipher_at, dir_at, order_at};
@@ -30,6 +30,22 @@ pub struct RawJob<'a> {
     pub hash_off: u64,
     pub hash_len: u64,
     pub tag_len: u8,
+    /// The key session, or `u32::MAX` for none.
+    pub session: u32,
+}
+
+/// The number that names no session.
+const NO_SESSION: u32 = u32::MAX;
+
+/// The session with this number. Returns `None` exactly where it names none.
+fn session_at(number: u32) -> Option<u32>
+    ensures { result ≡ session_said number }
+{
+    if number == NO_SESSION {
+        None
+    } else {
+        Some(number)
+    }
 }
 
 fn bytes_of(alloc: Global, bytes: &[u8]) -> Result<Bytes, AllocError>
@@ -80,7 +96,7 @@ impl RawJob<'_> {
             hash_len: narrowed(self.hash_len),
             tag_len: self.tag_len,
             packet: bytes_of(alloc, self.packet)?,
-            session: None,
+            session: session_at(self.session),
         })
     }
 }

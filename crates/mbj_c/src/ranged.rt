@@ -6,6 +6,7 @@ ghost use Rattle.mbj_c.specs.Counts.{counts_of};
 ghost use Rattle.mbj_c.specs.Filling.{filled_at, put_at, with_cell};
 ghost use Rattle.mbj_c.specs.Giving.{called_in, filled_after, first_range, given_with, has_job, ranges_entered, step};
 ghost use Rattle.mbj_c.specs.Inside.Answers.{IsDone};
+ghost use Rattle.mbj_c.specs.KeySets.{using};
 ghost use Rattle.mbj_c.specs.Inside.Room.{HasJob, IsGivenRoom, IsWithin};
 ghost use Rattle.mbj_c.specs.State.{new_ranged};
 
@@ -14,6 +15,7 @@ use crate::giving::{Call, Given, RawDone};
 use crate::job::RawJob;
 use crate::range::CipherRange;
 use crate::refusal::Refusal;
+use crate::sessions::Sessions;
 use mbj_manager::Manager;
 use mbj_ring::{CELLS, Ring};
 use mbj_types::{Done, Job, Kind};
@@ -21,11 +23,13 @@ use std::alloc::{AllocError, Global};
 use std::marker::Model;
 
 /// A manager, with the ranges that the jobs whose results it owes give back, and those of its open jobs. So the room for a result
-/// can be looked at before the result is taken, and only its range is given back.
+/// can be looked at before the result is taken, and only its range is given back. Where it uses a set of key sessions, it knows their
+/// schedules.
 #[derive(Drop)]
 pub struct RangedManager {
     manager: Manager,
     ranges: Ring<CipherRange>,
+    sessions: Option<Sessions>,
 }
 
 impl Model for RangedManager {
@@ -39,7 +43,7 @@ impl Model for RangedManager {
 
     ghost coded = { ranged_code (state_code (Prim.hlevel codes)) (Prim.hlevel codes) };
 
-    ghost view = { λ m. record { manager = m.manager; ranges = m.ranges.values; filled = m.ranges.opened } };
+    ghost view = { λ m. record { manager = m.manager; ranges = m.ranges.values; filled = m.ranges.opened; notes = m.sessions } };
 
     ghost invariant = { λ m. AreRanges m.manager m.ranges };
 }
@@ -121,7 +125,18 @@ impl RangedManager {
     {
         let ranges = Ring::new(alloc)?;
         let manager = Manager::new(alloc)?;
-        Ok(RangedManager { manager, ranges })
+        Ok(RangedManager {
+            manager,
+            ranges,
+            sessions: None,
+        })
+    }
+
+    /// Uses these key sessions from now on, in place of those that it used.
+    pub(crate) fn use_sessions(&mut self, sessions: Sessions)
+        ensures { self.new ≡ using sessions self.old }
+    {
+        self.sessions = Some(sessions);
     }
 
     pub(crate) fn queue_size(&self) -> u32
@@ -207,7 +222,7 @@ impl RangedManager {
         ensures drained { call ≡ calls.Flush → result ≡ None → self.old.manager.owed ≡ [] }
     {
         enter(&mut self.ranges, call);
-        let done = call.make(&mut self.manager);
+        let done = call.make(&mut self.manager, &mut self.sessions);
         leave(&mut self.ranges, done)
     }
 }

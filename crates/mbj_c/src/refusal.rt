@@ -23,6 +23,22 @@ pub(crate) enum Refusal {
     HasManager,
     /// The algorithm doesn't take a text of this length.
     TextLength,
+    /// The algorithm doesn't take a key of this length.
+    KeyLength,
+    /// The algorithm doesn't take an IV, or a nonce, of this length.
+    IvLength,
+    /// The algorithm doesn't give a tag of this length.
+    TagLength,
+    /// The additional data is too long.
+    AadLength,
+    /// The bytes are no state of a text that could go on.
+    NoState,
+    /// The handle has a set of key sessions already.
+    HasKeys,
+    /// The handle has no set of key sessions.
+    NoKeys,
+    /// There are more keys than a set has sessions.
+    TooManyKeys,
 }
 
 impl Refusal {
@@ -39,6 +55,14 @@ impl Refusal {
             Refusal::NoRoom => 6,
             Refusal::HasManager => 7,
             Refusal::TextLength => 11,
+            Refusal::KeyLength => 12,
+            Refusal::IvLength => 13,
+            Refusal::TagLength => 14,
+            Refusal::AadLength => 15,
+            Refusal::NoState => 16,
+            Refusal::HasKeys => 17,
+            Refusal::NoKeys => 18,
+            Refusal::TooManyKeys => 19,
         }
     }
 }

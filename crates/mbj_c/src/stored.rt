@@ -25,7 +25,7 @@ fn hmac_with(hash: HashName) -> Auth
 }
 
 /// Puts bytes at the front of their room. Returns `NoRoom` exactly where that is shorter; nothing is written then.
-fn put(bytes: &[u8], room: &mut [u8]) -> Result<(), Refusal>
+pub(crate) fn put(bytes: &[u8], room: &mut [u8]) -> Result<(), Refusal>
     ensures answer { result ≡ (put_in (Ok bytes.now) room.old).0 }
     ensures written { room.new ≡ (put_in (Ok bytes.now) room.old).1 }
 {

@@ -1,6 +1,8 @@
 //! What the tests share: vectors of the standards, jobs, and calls whose results are compared.
 
 mod bursts;
+mod direct;
+mod keys;
 mod refusals;
 mod results;
 mod stored;
@@ -60,6 +62,7 @@ fn null_job(packet: &[u8]) -> RawJob<'_> {
         hash_off: 0,
         hash_len: 0,
         tag_len: 0,
+        session: u32::MAX,
     }
 }
 

@@ -1,17 +1,19 @@
 -- What a handle owns.
 use Rattle.std.specs.Prelude.{◌≡◌, Option, None, Some}
 use Rattle.std.specs.Box.Ownership.{box_owns}
+use denote.RattleType.{RattleType}
 use denote.RawPtr.{Ptr, null_ptr}
 use base.Fml.{Fml, ftrue, fex}
 use Rattle.std_heap.specs.declared.Global.{Global}
 use Rattle.std_heap.specs.contracts.GlobalAllocator.TheImpl.{ghosts}
-use Rattle.mbj_c.specs.contracts.ranged.RangedManager.{the_row}
 
--- the manager at the pointer, and the right to free its block
-abbrev pub boxed_at : Global → Ptr → the_row.Denot → Fml
-boxed_at alloc = box_owns (ghosts.dealloc_token alloc) the_row
+-- R is the row of what stands at the pointer
+module _ (R : RattleType) where
+  -- the value at the pointer, and the right to free its block
+  abbrev pub boxed_at : Global → Ptr → R.Denot → Fml
+  boxed_at alloc = box_owns (ghosts.dealloc_token alloc) R
 
--- the pointer is null exactly where there is no manager
-abbrev pub owned_at : Global → Ptr → Option the_row.Denot → Fml
-owned_at alloc p None = fex (p ≡ null_ptr) (λ e. ftrue)
-owned_at alloc p (Some m) = boxed_at alloc p m
+  -- the pointer is null exactly where there is no value
+  abbrev pub owned_at : Global → Ptr → Option R.Denot → Fml
+  owned_at alloc p None = fex (p ≡ null_ptr) (λ e. ftrue)
+  owned_at alloc p (Some m) = boxed_at alloc p m

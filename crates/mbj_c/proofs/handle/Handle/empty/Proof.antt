@@ -22,7 +22,8 @@ use Rattle.std.proofs.raw_atomic.Walks.{proved_at, leaves}
 use Rattle.std.specs.Prelude.{None}
 use Rattle.std_alloc.proofs.ResultValues.{and_tt}
 use Rattle.mbj_c.proofs.RawBoxes.{pair_of}
-use Rattle.mbj_c.proofs.Handles.{Z, allocator, put_together}
+use Rattle.mbj_c.proofs.Handles.{Z, allocator}
+use Rattle.mbj_c.proofs.ManagerHandles.{put_together}
 use Rattle.mbj_c.specs.contracts.handle.Handle.empty.{ended, clauses}
 use Rattle.mbj_c.specs.contracts.handle.Handle.empty.Key.{name as key}
 use Rattle.mbj_c.proofs.handle.Handle.empty.Statement.{statement}

@@ -20,7 +20,8 @@ use Rattle.std.proofs.raw_atomic.Walks.{proved_at, leaves}
 use Rattle.std.specs.Prelude.{Some}
 use Rattle.std_heap.specs.contracts.GlobalAllocator.TheImpl.{ghosts}
 use Rattle.mbj_c.proofs.RawBoxes as boxes
-use Rattle.mbj_c.proofs.Handles.{R, Z, Z_laws, put_together}
+use Rattle.mbj_c.proofs.Handles.{Z, Z_laws}
+use Rattle.mbj_c.proofs.ManagerHandles.{R, put_together}
 use Rattle.mbj_c.specs.contracts.handle.Handle.seal.{ended, clauses}
 use Rattle.mbj_c.specs.contracts.handle.Handle.seal.Key.{name as key}
 use Rattle.mbj_c.proofs.handle.Handle.seal.Statement.{statement}

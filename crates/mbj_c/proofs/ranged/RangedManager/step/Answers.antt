@@ -7,7 +7,7 @@ use Rattle.mbj_c.proofs.ranged.RangedManager.step.Goals as goal
 
 pub invariant_of-self : goal.invariant_of-self
 invariant_of-self c =
-    ranges-after c.args.call c.self.inside.manager c.make-done.new.manager c.make-done.result c.self.inside.ranges c.leave.new.ranges
+    ranges-after c.args.call c.self.inside.sessions c.self.inside.manager c.make-done.new.manager c.make-done.result c.self.inside.ranges c.leave.new.ranges
     c.self.invariant c.make-done.ensures.state c.make-done.ensures.order
     (c.leave.ensures.values ∙ ap (drop (length (option_to_list c.make-done.result))) c.enter.ensures.values)
     (c.leave.ensures.same ∙ c.enter.ensures.filled)

@@ -1,0 +1,137 @@
+-- What the calls without a manager give, where C's arguments are accepted.
+use Rattle.std.specs.Prelude.{ℕ, ◌%◌, nat_eq, nat_le, ◌==◌, ◌&&◌, ◌||◌, Bool, true, false, List, ◌++◌, length, take, drop, Option, None, Some, Result, Ok, Err, slice_get, if◌then◌else◌}
+use Rattle.mbj_types.specs.declared.class.HashName.{HashName}
+use Rattle.mbj_types.specs.declared.job.Dir.{Dir}
+use Rattle.mbj_types.specs.declared.limits.TheConstants.{MAX_IV_BYTES, MAX_CCM_AAD_BYTES, MAX_PACKET_BYTES}
+use Rattle.mbj_types.specs.Aes.{aes, is_key_size, key_schedule}
+use Rattle.mbj_types.specs.Auths.{hash_of_name}
+use Rattle.mbj_types.specs.Ccm.{ccm}
+use Rattle.mbj_types.specs.Cmac.{first_subkey, second_subkey}
+use Rattle.mbj_types.specs.Gcm.{gcm}
+use Rattle.mbj_direct.specs.declared.parts.GcmState.{GcmState}
+use Rattle.mbj_direct.specs.Parts.{is_gcm_state}
+use Rattle.mbj_direct.specs.Schedules.{inverse_schedule}
+use Rattle.mbj_c.specs.declared.refusal.Refusal.{Refusal}
+use Rattle.mbj_c.specs.declared.refusal.Refusal.TheVariants.{AadLength, IvLength, KeyLength, NoRoom, NoState, TagLength, TextLength, Word}
+use Rattle.mbj_c.specs.Words.{dirs, hashes}
+
+-- a test, or why a call is refused
+abbrev pub wants : Bool → Refusal → Result Unit Refusal
+wants true r = Ok tt
+wants false r = Err r
+
+-- one test after another: the first that fails refuses the call
+abbrev pub and_then : {A : Type 0} → Result Unit Refusal → Result A Refusal → Result A Refusal
+and_then (Err r) next = Err r
+and_then (Ok u) next = next
+
+-- two things that are made
+abbrev pub Pair : Type 0
+Pair = List ℕ × List ℕ
+
+-- ---- two lists of bytes, each put at the front of a room of its own
+
+abbrev pub put_in_front : List ℕ → List ℕ → List ℕ
+put_in_front bytes room = bytes ++ drop (length bytes) room
+
+-- both are written, or none where a room is too short
+abbrev pub put_both : Result Pair Refusal → Pair → Result Unit Refusal × Pair
+put_both (Err r) rooms = (Err r, rooms)
+put_both (Ok made) rooms =
+    if nat_le (length made.0) (length rooms.0) && nat_le (length made.1) (length rooms.1)
+    then (Ok tt, (put_in_front made.0 rooms.0, put_in_front made.1 rooms.1))
+    else (Err NoRoom, rooms)
+
+-- the schedules of a key
+abbrev pub schedules_said : List ℕ → Result Pair Refusal
+schedules_said key = and_then (wants (is_key_size (length key)) KeyLength) (Ok (key_schedule key, inverse_schedule (key_schedule key)))
+
+-- a key of CMAC has 16 bytes, or 32
+abbrev pub is_cmac_key : ℕ → Bool
+is_cmac_key n = n == 16 || n == 32
+
+-- the subkeys of a key of CMAC
+abbrev pub subkeys_said : List ℕ → Result Pair Refusal
+subkeys_said key =
+    and_then (wants (is_cmac_key (length key)) KeyLength) (Ok (first_subkey (aes key), second_subkey (aes key)))
+
+-- ---- the digest of a text
+
+abbrev pub digest_by : Option HashName → List ℕ → Result (List ℕ) Refusal
+digest_by None text = Err Word
+digest_by (Some h) text = Ok ((hash_of_name h).digest text)
+
+abbrev pub digest_said : ℕ → List ℕ → Result (List ℕ) Refusal
+digest_said code text = digest_by (slice_get hashes code) text
+
+-- ---- a text that changes in place, and the room of its tag
+
+-- both change, or none
+abbrev pub changed : Result Pair Refusal → Pair → Result Unit Refusal × Pair
+changed (Err r) old = (Err r, old)
+changed (Ok new) old = (Ok tt, new)
+
+-- the other text, and the tag cut to n bytes
+abbrev pub cut_to : ℕ → Pair → Pair
+cut_to n whole = (whole.0, take n whole.1)
+
+-- an IV of GCM has 1 to MAX_IV_BYTES bytes
+abbrev pub is_gcm_iv : ℕ → Bool
+is_gcm_iv n = nat_le 1 n && nat_le n MAX_IV_BYTES
+
+-- a tag of GCM has 1 to 16
+abbrev pub is_gcm_tag : ℕ → Bool
+is_gcm_tag n = nat_le 1 n && nat_le n 16
+
+-- a key and an IV of GCM
+abbrev pub gcm_accepts : List ℕ → List ℕ → Result Unit Refusal
+gcm_accepts key iv = and_then (wants (is_key_size (length key)) KeyLength) (wants (is_gcm_iv (length iv)) IvLength)
+
+-- a whole text by GCM, and a tag as long as its room
+abbrev pub gcm_said : List ℕ → List ℕ → List ℕ → Bool → Pair → Result Pair Refusal
+gcm_said key iv aad sealing old =
+    and_then (gcm_accepts key iv)
+    (and_then (wants (is_gcm_tag (length old.1)) TagLength) (Ok (cut_to (length old.1) (gcm (aes key) iv aad old.0 sealing))))
+
+-- a nonce of CCM has 7 to 13 bytes, and a tag an even number of them from 4 to 16
+abbrev pub is_ccm_nonce : ℕ → Bool
+is_ccm_nonce n = nat_le 7 n && nat_le n 13
+
+abbrev pub is_ccm_tag : ℕ → Bool
+is_ccm_tag n = nat_le 4 n && (nat_le n 16 && nat_eq (n % 2) 0)
+
+-- the lengths of a key, a nonce, additional data, a text and a tag of CCM
+abbrev pub ccm_accepts : ℕ → ℕ → ℕ → ℕ → ℕ → Result Unit Refusal
+ccm_accepts key nonce aad text tag =
+    and_then (wants (is_key_size key) KeyLength)
+    (and_then (wants (is_ccm_nonce nonce) IvLength)
+    (and_then (wants (nat_le aad MAX_CCM_AAD_BYTES) AadLength)
+    (and_then (wants (nat_le text MAX_PACKET_BYTES) TextLength) (wants (is_ccm_tag tag) TagLength))))
+
+-- a text by CCM, and a tag as long as its room
+abbrev pub ccm_said : List ℕ → List ℕ → List ℕ → Bool → Pair → Result Pair Refusal
+ccm_said key nonce aad sealing old =
+    and_then (ccm_accepts (length key) (length nonce) (length aad) (length old.0) (length old.1))
+    (Ok (cut_to (length old.1) (ccm (aes key) nonce aad old.0 (length old.1) sealing)))
+
+-- ---- a text by GCM in parts
+
+abbrev pub dir_by : Option Dir → Result Dir Refusal
+dir_by None = Err Word
+dir_by (Some d) = Ok d
+
+-- how a text is begun: its direction, where that is one and GCM takes the key and the IV
+abbrev pub begun_by : Result Dir Refusal → List ℕ → List ℕ → Result Dir Refusal
+begun_by (Err r) key iv = Err r
+begun_by (Ok d) key iv = and_then (gcm_accepts key iv) (Ok d)
+
+abbrev pub begun_said : ℕ → List ℕ → List ℕ → Result Dir Refusal
+begun_said code key iv = begun_by (dir_by (slice_get dirs code)) key iv
+
+-- whether a text goes on from a state
+abbrev pub goes_on : GcmState → Result Unit Refusal
+goes_on s = wants (is_gcm_state s) NoState
+
+-- whether it ends there with a tag of n bytes
+abbrev pub ends : GcmState → ℕ → Result Unit Refusal
+ends s n = and_then (goes_on s) (wants (is_gcm_tag n) TagLength)
