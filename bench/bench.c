@@ -16,7 +16,7 @@ static const char usage[] =
     "--drawn     lengths that are drawn for each packet from LEAST to MOST bytes\n"
     "--jobs      null, cbc, ctr, gcm, ccm, cmac, gmac, sha1, sha224, sha256, sha384, sha512, the same five with hmac- before\n"
     "            them, these with -states behind them, or chained jobs as cbc+hmac-sha1, which are enciphered and then\n"
-    "            authenticated; with -bursts behind its name, by bursts of 32 here\n"
+    "            authenticated; here by bursts of 32 with -bursts behind the name, or with -session in a key session\n"
     "--threads   how many threads run at once, each with a manager of its own: 1\n"
     "--passes    how often the 256 jobs of a row are done, of which the fastest time counts: 40\n";
 
@@ -77,17 +77,22 @@ static size_t place(const char *word, size_t len, const char *const *words, size
     return 0;
 }
 
-/* Whether -bursts stands behind a name. */
-static bool is_by_bursts(const char *name) {
-    static const char suffix[] = "-bursts";
-    size_t len = strlen(name), suffix_len = sizeof suffix - 1;
-    return len > suffix_len && strcmp(name + len - suffix_len, suffix) == 0;
+/* The length of a name before this suffix, where it has one. */
+static bool has_suffix(const char *name, size_t *len, const char *suffix) {
+    size_t before = *len - strlen(suffix);
+    bool has = *len > strlen(suffix) && memcmp(name + before, suffix, strlen(suffix)) == 0;
+    if (has)
+        *len = before;
+    return has;
 }
 
-/* The kind of jobs with this name: null, a cipher, an authentication, or one of each with + between them, and -bursts behind it or not. */
+/* The kind of jobs with this name: null, a cipher, an authentication, or one of each with + between them, and behind it -bursts, -session
+ * or nothing. */
 static struct work read_work(const char *name) {
-    struct work work = {NO_CIPHER, NO_AUTH, is_by_bursts(name)};
-    size_t len = strlen(name) - (work.by_bursts ? strlen("-bursts") : 0), plus = strcspn(name, "+");
+    size_t len = strlen(name), plus = strcspn(name, "+");
+    struct work work = {NO_CIPHER, NO_AUTH, false, false};
+    work.by_bursts = has_suffix(name, &len, "-bursts");
+    work.in_session = !work.by_bursts && has_suffix(name, &len, "-session");
     size_t cipher_len = plus < len ? plus : len;
     const char *auth = name[cipher_len] == '+' ? name + cipher_len + 1 : name;
     work.cipher = (enum cipher)place(name, cipher_len, ciphers, sizeof ciphers / sizeof *ciphers);
@@ -96,7 +101,7 @@ static struct work read_work(const char *name) {
     bool is_combined = work.cipher == GCM || work.cipher == CCM;
     bool is_one = has_cipher || has_auth || (len == strlen("null") && memcmp(name, "null", len) == 0);
     bool is_chain = has_cipher && has_auth && !is_combined && work.auth != GMAC;
-    if (auth != name ? !is_chain : !is_one)
+    if ((auth != name ? !is_chain : !is_one) || (work.in_session && !has_cipher))
         give_up(usage);
     if (is_combined)
         work.auth = work.cipher == GCM ? GCM_TAG : CCM_TAG;
@@ -149,7 +154,7 @@ static void read_settings(struct settings *s, int argc, char **argv) {
     static const struct option options[] = {{"sizes", 1, NULL, 's'},   {"drawn", 1, NULL, 'd'},  {"jobs", 1, NULL, 'j'},
                                             {"threads", 1, NULL, 't'}, {"passes", 1, NULL, 'p'}, {NULL, 0, NULL, 0}};
     static char sizes[] = "64,256,1500", jobs[] = "null,null-bursts,hmac-sha1,hmac-sha1-states,hmac-sha256,hmac-sha256-states,hmac-sha512,"
-                                                  "hmac-sha512-states,sha256,cbc,ctr,gcm,ccm,cmac,gmac,cbc+hmac-sha256";
+                                                  "hmac-sha512-states,sha256,cbc,cbc-session,ctr,gcm,gcm-session,ccm,cmac,gmac,cbc+hmac-sha256";
     memset(s, 0, sizeof *s);
     s->threads = 1;
     s->passes = 40;

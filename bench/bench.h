@@ -35,11 +35,12 @@ enum auth {
 };
 
 /* A kind of jobs: a cipher, an authentication, or both, the packet being enciphered before it is authenticated. This library takes them by
- * single calls, or by bursts of 32; the other one by single calls. */
+ * single calls or by bursts of 32, and expands the cipher's key for each job, or once where all jobs name a key session; the other one
+ * takes them by single calls, and its keys are expanded before any job is timed. */
 struct work {
     enum cipher cipher;
     enum auth auth;
-    bool by_bursts;
+    bool by_bursts, in_session;
 };
 
 /* The packets of a pass, which are enciphered in place, and where their tags go. */

@@ -42,6 +42,15 @@ static void make_states(struct started *s, const struct work *work) {
         give_up("no states of the key");
 }
 
+/* One key session, which has the key of all jobs. */
+static void use_session(struct started *s) {
+    struct mbj_keys set = MBJ_KEYS_INIT;
+    struct mbj_bytes key = {keys.aes, sizeof keys.aes};
+    if (mbj_keys_new(&set, &key, 1) != MBJ_ERR_NONE || mbj_use_keys(s->m, &set) != MBJ_ERR_NONE)
+        give_up("no key session");
+    mbj_keys_free(&set);
+}
+
 static void *start(const struct library *library, const struct work *work) {
     struct started *s = (struct started *)malloc(sizeof *s);
     (void)library;
@@ -49,6 +58,8 @@ static void *start(const struct library *library, const struct work *work) {
         give_up("no manager of this library");
     if (has_states(work->auth))
         make_states(s, work);
+    if (work->in_session)
+        use_session(s);
     return s;
 }
 
@@ -70,6 +81,8 @@ static void fill(MBJ_JOB *job, const struct started *s, const struct work *work,
     job->packet_len_in_bytes = batch->lens[i];
     job->iv = keys.iv;
     job->iv_len_in_bytes = iv_len(work);
+    if (work->in_session)
+        job->session = 0;
     if (work->cipher != NO_CIPHER) {
         job->key = keys.aes;
         job->key_len_in_bytes = sizeof keys.aes;

@@ -50,6 +50,14 @@ struct mbj_handle {
 
 #define MBJ_HANDLE_INIT {NULL}
 
+/* A set of key sessions, or none: MBJ_KEYS_INIT at first, and then written by the exports alone. A handle may be moved, and never copied:
+ * mbj_keys_share makes another one of the same set. No handle is in two calls at once, so each thread has its own. */
+struct mbj_keys {
+    void *at;
+};
+
+#define MBJ_KEYS_INIT {NULL}
+
 /* Bytes that are read. at isn't NULL, even where len is 0. */
 struct mbj_bytes {
     const uint8_t *at;
@@ -131,7 +139,15 @@ enum mbj_refusal {
     MBJ_ERR_NULL,        /* mbj_init_mgr was given no memory */
     MBJ_ERR_VERSION,     /* the library has another major version than the header that the program was compiled with, or is older */
     MBJ_ERR_PROCESSOR,   /* the processor lacks a feature that the library was built for: mbj_c_missing_feature names it */
-    MBJ_ERR_TEXT_LENGTH  /* the algorithm doesn't take a text of this length */
+    MBJ_ERR_TEXT_LENGTH, /* the algorithm doesn't take a text of this length */
+    MBJ_ERR_KEY_LENGTH,  /* the algorithm doesn't take a key of this length */
+    MBJ_ERR_IV_LENGTH,   /* the algorithm doesn't take an IV, or a nonce, of this length */
+    MBJ_ERR_TAG_LENGTH,  /* the algorithm doesn't give a tag of this length */
+    MBJ_ERR_AAD_LENGTH,  /* the additional data is too long */
+    MBJ_ERR_NO_STATE,    /* the bytes are no state of a text that could go on */
+    MBJ_ERR_HAS_KEYS,    /* the handle has a set of key sessions already */
+    MBJ_ERR_NO_KEYS,     /* the handle has no set of key sessions */
+    MBJ_ERR_MANY_KEYS    /* there are more than MBJ_MAX_SESSIONS keys */
 };
 
 /* Why a job is refused: what is the matter with its arguments. mbj_reason_text has a text for each, docs/FORMAT.md the table of 1 to 10.
@@ -160,7 +176,10 @@ struct mbj_raw_job {
     struct mbj_bytes key, iv, auth_key, aad, packet;
     uint64_t cipher_off, cipher_len, hash_off, hash_len;
     uint8_t tag_len;
+    uint32_t session; /* beside the key, which decides: a session of the set that the manager uses, or MBJ_NO_SESSION */
 };
+
+#define MBJ_NO_SESSION UINT32_MAX
 
 #define MBJ_MAX_TAG_BYTES 64
 
@@ -212,7 +231,8 @@ uint32_t mbj_c_queue_size(struct mbj_handle *);
 bool mbj_c_count(struct mbj_handle *, uint32_t kind, struct mbj_counts *);
 
 /* Copies a job into the next cell, in place of one that was filled and not submitted, and returns MBJ_ERR_NONE, MBJ_ERR_NO_MANAGER,
- * MBJ_ERR_FULL, MBJ_ERR_WORD or MBJ_ERR_MEMORY. Only this call, its burst and mbj_c_new take memory. */
+ * MBJ_ERR_FULL, MBJ_ERR_WORD or MBJ_ERR_MEMORY. Of the calls on a manager only this one, its burst, mbj_c_new and mbj_c_use_keys
+ * take memory. */
 uint32_t mbj_c_fill(struct mbj_handle *, const struct mbj_raw_job *);
 
 /* The three calls that may give the earliest job's result: true where one is given, which is then written whole, and false else,
@@ -224,7 +244,7 @@ bool mbj_c_flush(struct mbj_handle *, struct mbj_raw_done *, uint32_t *refusal);
 
 /* Bursts: what so many single calls do, one after another, by one call. No array is at NULL, even where it has no element.
  *
- * Copies jobs into the next cells, one behind another, the first one in place of a job that was filled and not submitted. Answers how many
+ * Copies jobs into the next cells, one behind another, the first one in place of a job that was filled and not submitted. Returns how many
  * are filled, and writes to each job's place in refusals what mbj_c_fill returns, MBJ_ERR_FULL where no cell is left behind those that the
  * burst filled. A job that is refused takes no cell, and the jobs behind it are filled. As many jobs are looked at as there are places for
  * refusals. This call takes memory as mbj_c_fill does. */
@@ -237,9 +257,29 @@ void mbj_c_submit_burst(struct mbj_handle *, struct mbj_raw_done *rooms, size_t 
 void mbj_c_get_completed_burst(struct mbj_handle *, struct mbj_raw_done *rooms, size_t rooms_len, struct mbj_raw_burst *);
 void mbj_c_flush_burst(struct mbj_handle *, struct mbj_raw_done *rooms, size_t rooms_len, struct mbj_raw_burst *);
 
-/* The next two calls need no manager: they take no memory, and any threads may make them at once. Each returns MBJ_ERR_NONE, or a refusal,
- * and then writes nothing: MBJ_ERR_WORD where the hash is none, MBJ_ERR_NO_ROOM where the room is shorter than what is written. Room that
- * is longer stays as it was behind that. */
+/* Key sessions: keys of AES that many jobs share, on any threads, and that are expanded once. */
+
+#define MBJ_MAX_SESSIONS 256
+
+/* Makes a set of copies of these keys, numbered from 0: of at most MBJ_MAX_SESSIONS, each of 16, 24 or 32 bytes. Returns MBJ_ERR_NONE,
+ * MBJ_ERR_HAS_KEYS, MBJ_ERR_MANY_KEYS, MBJ_ERR_KEY_LENGTH or MBJ_ERR_MEMORY. keys isn't NULL. */
+uint32_t mbj_keys_new(struct mbj_keys *, const struct mbj_bytes *keys, size_t keys_len);
+
+/* Empties the handle; false where it has no set. The set is freed with its last handle and the last manager that uses it. */
+bool mbj_keys_free(struct mbj_keys *);
+
+/* Makes another handle of the same set. Returns MBJ_ERR_NONE, MBJ_ERR_NO_KEYS where from has none, MBJ_ERR_HAS_KEYS where to has one, or
+ * MBJ_ERR_MEMORY. */
+uint32_t mbj_keys_share(struct mbj_keys *from, struct mbj_keys *to);
+
+/* Has the manager use the set from now on, in place of the one that it used. A key that no manager of the set has expanded is expanded now,
+ * so this call takes memory, and a submission takes none for it. Returns MBJ_ERR_NONE, MBJ_ERR_NO_MANAGER, MBJ_ERR_NO_KEYS or
+ * MBJ_ERR_MEMORY. */
+uint32_t mbj_c_use_keys(struct mbj_handle *, struct mbj_keys *);
+
+/* The calls from here on need no manager, and any threads may make them at once. But for mbj_ccm_seal and mbj_ccm_open they take no memory.
+ * Each returns MBJ_ERR_NONE, or a refusal, and then writes nothing: MBJ_ERR_WORD where a hash or a direction is none, MBJ_ERR_NO_ROOM where
+ * a room is shorter than what is written. Room that is longer stays as it was behind that, but for a tag's: a tag is as long as its room. */
 
 /* Writes the states of a key for the authentications from MBJ_AUTH_HMAC_SHA_1_STATES on (RFC 2104, 4): the inner state and the outer state
  * behind it, whole and big-endian, together 40, 64, 64, 128 or 128 bytes. The key may have any length. They are as secret as the key. */
@@ -249,6 +289,45 @@ uint32_t mbj_hmac_states(uint32_t hash, struct mbj_bytes key, struct mbj_room ou
  * 64 bytes, or 128 for SHA-384 and SHA-512. */
 uint32_t mbj_one_block(uint32_t hash, struct mbj_bytes block, struct mbj_room out);
 
+/* Writes the schedules of an AES key of 16, 24 or 32 bytes: 176, 208 or 240 bytes each. encryption is that of FIPS 197, 5.2, and
+ * decryption that of the equivalent inverse cipher (5.3.5), in the order in which it takes the round keys, from the last round down: as
+ * intel-ipsec-mb has both. MBJ_ERR_KEY_LENGTH where the key has another length. */
+uint32_t mbj_aes_keys(struct mbj_bytes key, struct mbj_room encryption, struct mbj_room decryption);
+
+/* Writes the subkeys of a key of CMAC of 16 or 32 bytes, K1 and K2 (SP 800-38B, 6.1): 16 bytes each. MBJ_ERR_KEY_LENGTH where the key has
+ * another length. */
+uint32_t mbj_cmac_subkeys(struct mbj_bytes key, struct mbj_room first, struct mbj_room second);
+
+/* Writes the digest of a text: 20, 28, 32, 48 or 64 bytes by the hash. */
+uint32_t mbj_digest(uint32_t hash, struct mbj_bytes text, struct mbj_room out);
+
+/* Seal and open a text in place by GCM (SP 800-38D), and fill tag with the first bytes of its tag: MBJ_ERR_KEY_LENGTH where the key hasn't
+ * 16, 24 or 32 bytes, MBJ_ERR_IV_LENGTH where the IV hasn't 1 to 65,535, MBJ_ERR_TAG_LENGTH where tag hasn't 1 to 16. mbj_gcm_open compares
+ * nothing: the caller compares the tag that came with the text, in constant time. */
+uint32_t mbj_gcm_seal(struct mbj_bytes key, struct mbj_bytes iv, struct mbj_bytes aad, struct mbj_room text, struct mbj_room tag);
+uint32_t mbj_gcm_open(struct mbj_bytes key, struct mbj_bytes iv, struct mbj_bytes aad, struct mbj_room text, struct mbj_room tag);
+
+/* A text by GCM of which the parts so far were sealed or opened. It holds the key, and is as secret. Only the next three calls write it;
+ * bytes that others wrote are refused, or give any text and any tag. */
+struct mbj_gcm_state {
+    uint64_t words[15];
+};
+
+/* mbj_gcm_init begins a text that is sealed (MBJ_DIR_ENCRYPT) or opened; mbj_gcm_update does its next part in place, of any length; and
+ * mbj_gcm_finish fills tag with the first bytes of its tag, and clears the state. However a text is cut into parts, they become what the
+ * whole text becomes, and the tag is the same. Refusals are those of mbj_gcm_seal, and MBJ_ERR_NO_STATE where the state is none, as one that
+ * was finished. Each update expands the key anew, so few long parts take less time than many short ones. */
+uint32_t mbj_gcm_init(struct mbj_gcm_state *, uint32_t dir, struct mbj_bytes key, struct mbj_bytes iv, struct mbj_bytes aad);
+uint32_t mbj_gcm_update(struct mbj_gcm_state *, struct mbj_room part);
+uint32_t mbj_gcm_finish(struct mbj_gcm_state *, struct mbj_room tag);
+
+/* Seal and open a text of at most 65,535 bytes in place by CCM (SP 800-38C), and fill tag with its tag, which is as long as tag. They copy
+ * the nonce, the additional data and the text, and return MBJ_ERR_MEMORY for want of memory. MBJ_ERR_KEY_LENGTH where the key hasn't 16, 24
+ * or 32 bytes, MBJ_ERR_IV_LENGTH where the nonce hasn't 7 to 13, MBJ_ERR_AAD_LENGTH where aad has more than 65,279, MBJ_ERR_TEXT_LENGTH
+ * where the text is longer, MBJ_ERR_TAG_LENGTH where tag hasn't 4, 6, 8, 10, 12, 14 or 16. mbj_ccm_open compares nothing. */
+uint32_t mbj_ccm_seal(struct mbj_bytes key, struct mbj_bytes nonce, struct mbj_bytes aad, struct mbj_room text, struct mbj_room tag);
+uint32_t mbj_ccm_open(struct mbj_bytes key, struct mbj_bytes nonce, struct mbj_bytes aad, struct mbj_room text, struct mbj_room tag);
+
 /* The library was built for this layout. */
 MBJ_ASSERT_(sizeof(void *) == 8 && sizeof(size_t) == 8 && sizeof(bool) == 1);
 MBJ_ASSERT_(sizeof(struct mbj_handle) == 8);
@@ -256,8 +335,10 @@ MBJ_ASSERT_(sizeof(struct mbj_bytes) == 16 && offsetof(struct mbj_bytes, len) ==
 MBJ_ASSERT_(sizeof(struct mbj_room) == 16 && offsetof(struct mbj_room, len) == 8);
 MBJ_ASSERT_(sizeof(struct mbj_raw_job) == 136 && offsetof(struct mbj_raw_job, key) == 16);
 MBJ_ASSERT_(offsetof(struct mbj_raw_job, cipher_off) == 96 && offsetof(struct mbj_raw_job, tag_len) == 128);
+MBJ_ASSERT_(offsetof(struct mbj_raw_job, session) == 132 && sizeof(struct mbj_keys) == 8);
 MBJ_ASSERT_(sizeof(struct mbj_raw_done) == 56 && offsetof(struct mbj_raw_done, dst_len) == 32);
 MBJ_ASSERT_(offsetof(struct mbj_raw_done, tag_len) == 40 && offsetof(struct mbj_raw_done, reason) == 48);
+MBJ_ASSERT_(sizeof(struct mbj_gcm_state) == 120);
 MBJ_ASSERT_(sizeof(struct mbj_counts) == 32 && offsetof(struct mbj_counts, waiting) == 24);
 MBJ_ASSERT_(sizeof(struct mbj_raw_burst) == 24 && offsetof(struct mbj_raw_burst, refusal) == 16);
 
@@ -296,7 +377,8 @@ typedef struct mbj_job {
     size_t auth_tag_output_len_in_bytes;
     void *user_data, *user_data2;
     enum mbj_status status;
-    uint32_t reason; /* enum mbj_reason: why the job was refused */
+    uint32_t reason;  /* enum mbj_reason: why the job was refused */
+    uint32_t session; /* of the set that the manager uses; MBJ_NO_SESSION in a blank job. No result depends on it */
 } MBJ_JOB;
 
 #define MBJ_MAX_JOBS 512
@@ -317,8 +399,9 @@ typedef struct mbj_mgr {
     MBJ_JOB jobs[MBJ_MAX_JOBS];
 } MBJ_MGR;
 
-MBJ_ASSERT_(sizeof(MBJ_JOB) == 176 && offsetof(MBJ_JOB, key) == 16 && offsetof(MBJ_JOB, packet) == 80 && offsetof(MBJ_JOB, dst) == 96);
+MBJ_ASSERT_(sizeof(MBJ_JOB) == 184 && offsetof(MBJ_JOB, key) == 16 && offsetof(MBJ_JOB, packet) == 80 && offsetof(MBJ_JOB, dst) == 96);
 MBJ_ASSERT_(offsetof(MBJ_JOB, auth_tag_output) == 136 && offsetof(MBJ_JOB, user_data) == 152 && offsetof(MBJ_JOB, status) == 168);
+MBJ_ASSERT_(offsetof(MBJ_JOB, session) == 176);
 MBJ_ASSERT_(sizeof(struct mbj_slot) == 40 && offsetof(struct mbj_slot, reason) == 32);
 MBJ_ASSERT_(offsetof(MBJ_MGR, slots) == 24 && sizeof(MBJ_MGR) == 24 + MBJ_MAX_JOBS * (40 + sizeof(MBJ_JOB)));
 
@@ -342,6 +425,14 @@ MBJ_API const char *mbj_refusal_text(uint32_t refusal) {
     case MBJ_ERR_VERSION: return "the library has another major version than the header, or is older";
     case MBJ_ERR_PROCESSOR: return "the processor lacks a feature that the library was built for";
     case MBJ_ERR_TEXT_LENGTH: return "the algorithm doesn't take a text of this length";
+    case MBJ_ERR_KEY_LENGTH: return "the algorithm doesn't take a key of this length";
+    case MBJ_ERR_IV_LENGTH: return "the algorithm doesn't take an IV or a nonce of this length";
+    case MBJ_ERR_TAG_LENGTH: return "the algorithm doesn't give a tag of this length";
+    case MBJ_ERR_AAD_LENGTH: return "the additional data is too long";
+    case MBJ_ERR_NO_STATE: return "the bytes are no state of a text that could go on";
+    case MBJ_ERR_HAS_KEYS: return "the handle has a set of key sessions already";
+    case MBJ_ERR_NO_KEYS: return "the handle has no set of key sessions";
+    case MBJ_ERR_MANY_KEYS: return "there are more keys than a set has sessions";
     default: return "no such refusal";
     }
 }
@@ -384,7 +475,7 @@ static inline uint32_t mbj_make_(struct mbj_handle *handle) {
     return mbj_goes_with_(mbj_c_version()) ? mbj_c_new(handle) : (uint32_t)MBJ_ERR_VERSION;
 }
 
-/* Makes a manager in the caller's memory, which then stays where it is until mbj_end_mgr. Answers MBJ_ERR_NONE, or why there is no
+/* Makes a manager in the caller's memory, which then stays where it is until mbj_end_mgr. Returns MBJ_ERR_NONE, or why there is no
  * manager: MBJ_ERR_NULL, MBJ_ERR_PROCESSOR, MBJ_ERR_VERSION or MBJ_ERR_MEMORY. A submission is then refused with MBJ_ERR_NO_MANAGER, and
  * mbj_end_mgr does nothing. */
 MBJ_API enum mbj_refusal mbj_init_mgr(MBJ_MGR *m) {
@@ -424,6 +515,16 @@ MBJ_API enum mbj_refusal mbj_get_errno(const MBJ_MGR *m) {
     return m == NULL ? MBJ_ERR_NO_MANAGER : (enum mbj_refusal)m->error;
 }
 
+/* Has the manager use these key sessions from now on: a job that names one in its field session, and has its key, isn't expanded anew. Jobs
+ * that were submitted keep the schedule that they have. Returns MBJ_ERR_NONE, MBJ_ERR_NO_MANAGER, MBJ_ERR_NO_KEYS or MBJ_ERR_MEMORY. The
+ * manager keeps the set until it uses another one or ends; the handle may be freed before. */
+MBJ_API enum mbj_refusal mbj_use_keys(MBJ_MGR *m, struct mbj_keys *keys) {
+    if (m == NULL || keys == NULL)
+        return m == NULL ? MBJ_ERR_NO_MANAGER : MBJ_ERR_NO_KEYS;
+    m->error = mbj_is_made_(m) ? mbj_c_use_keys(&m->handle, keys) : (uint32_t)MBJ_ERR_NO_MANAGER;
+    return (enum mbj_refusal)m->error;
+}
+
 /* How many jobs are submitted and not given back. */
 MBJ_API uint32_t mbj_queue_size(MBJ_MGR *m) {
     return mbj_is_made_(m) ? mbj_c_queue_size(&m->handle) : 0;
@@ -443,6 +544,7 @@ static inline void mbj_make_blank_(MBJ_JOB *job) {
     job->user_data = job->user_data2 = NULL;
     job->status = MBJ_STATUS_BEING_PROCESSED;
     job->reason = MBJ_REASON_NONE;
+    job->session = MBJ_NO_SESSION;
 }
 
 /* Hands out up to n jobs, to be submitted in their order, and returns how many: first those that were handed out and aren't submitted yet,
@@ -543,6 +645,7 @@ static inline void mbj_say_(struct mbj_raw_job *raw, const MBJ_JOB *job) {
     raw->hash_off = job->hash_start_src_offset_in_bytes;
     raw->hash_len = job->msg_len_to_hash_in_bytes;
     raw->tag_len = (uint8_t)(job->auth_tag_output_len_in_bytes < 255 ? job->auth_tag_output_len_in_bytes : 255);
+    raw->session = job->session;
 }
 
 /* A job that the library refuses, so that it comes back in its place: CBC with a key of no byte. */
@@ -558,6 +661,7 @@ static inline void mbj_say_refused_(struct mbj_raw_job *raw) {
     mbj_say_bytes_(&raw->packet, false, NULL, 0);
     raw->cipher_off = raw->cipher_len = raw->hash_off = raw->hash_len = 0;
     raw->tag_len = 0;
+    raw->session = MBJ_NO_SESSION;
 }
 
 /* Notes where the job's result goes. A cipher range that passes the packet's end is refused, and wants no room. */

@@ -309,10 +309,10 @@ static void the_version_is_told(void) {
 /* Each number of a refusal and of a reason has a text of its own, and other numbers have none. */
 static void numbers_have_texts(void) {
     const char *none = mbj_refusal_text(UINT32_MAX);
-    for (uint32_t i = 0; i <= MBJ_ERR_TEXT_LENGTH; i++)
+    for (uint32_t i = 0; i <= MBJ_ERR_MANY_KEYS; i++)
         for (uint32_t j = 0; j < i; j++)
             CHECK(strcmp(mbj_refusal_text(i), none) != 0 && strcmp(mbj_refusal_text(i), mbj_refusal_text(j)) != 0);
-    CHECK(mbj_refusal_text(MBJ_ERR_TEXT_LENGTH + 1) == none);
+    CHECK(mbj_refusal_text(MBJ_ERR_MANY_KEYS + 1) == none);
     none = mbj_reason_text(UINT32_MAX);
     for (uint32_t i = 0; i <= MBJ_REASON_NULL; i++)
         CHECK((mbj_reason_text(i) == none) == (i > MBJ_REASON_TAG_LENGTH && i < MBJ_REASON_CODE));

@@ -24,11 +24,14 @@ static void print_raw_job(void) {
     FIELD(struct mbj_raw_job, hash_off);
     FIELD(struct mbj_raw_job, hash_len);
     FIELD(struct mbj_raw_job, tag_len);
+    FIELD(struct mbj_raw_job, session);
 }
 
 static void print_exported_structs(void) {
     STRUCT(struct mbj_handle);
     FIELD(struct mbj_handle, at);
+    STRUCT(struct mbj_keys);
+    FIELD(struct mbj_keys, at);
     STRUCT(struct mbj_bytes);
     FIELD(struct mbj_bytes, at);
     FIELD(struct mbj_bytes, len);
@@ -52,6 +55,8 @@ static void print_exported_structs(void) {
     FIELD(struct mbj_raw_burst, made);
     FIELD(struct mbj_raw_burst, given);
     FIELD(struct mbj_raw_burst, refusal);
+    STRUCT(struct mbj_gcm_state);
+    FIELD(struct mbj_gcm_state, words);
 }
 
 static void print_job(void) {
@@ -81,6 +86,7 @@ static void print_job(void) {
     FIELD(MBJ_JOB, user_data2);
     FIELD(MBJ_JOB, status);
     FIELD(MBJ_JOB, reason);
+    FIELD(MBJ_JOB, session);
 }
 
 static void print_manager(void) {
@@ -168,6 +174,14 @@ static void print_answers(void) {
     NUMBER(MBJ_ERR_VERSION);
     NUMBER(MBJ_ERR_PROCESSOR);
     NUMBER(MBJ_ERR_TEXT_LENGTH);
+    NUMBER(MBJ_ERR_KEY_LENGTH);
+    NUMBER(MBJ_ERR_IV_LENGTH);
+    NUMBER(MBJ_ERR_TAG_LENGTH);
+    NUMBER(MBJ_ERR_AAD_LENGTH);
+    NUMBER(MBJ_ERR_NO_STATE);
+    NUMBER(MBJ_ERR_HAS_KEYS);
+    NUMBER(MBJ_ERR_NO_KEYS);
+    NUMBER(MBJ_ERR_MANY_KEYS);
     NUMBER(MBJ_REASON_NONE);
     NUMBER(MBJ_REASON_PACKET_LONG);
     NUMBER(MBJ_REASON_PAIR);
@@ -184,6 +198,8 @@ static void print_answers(void) {
     NUMBER(MBJ_REASON_NULL);
     NUMBER(MBJ_MAX_JOBS);
     NUMBER(MBJ_MAX_TAG_BYTES);
+    NUMBER(MBJ_MAX_SESSIONS);
+    NUMBER(MBJ_NO_SESSION);
     NUMBER(MBJ_VERSION_NUM);
 }
 

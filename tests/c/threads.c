@@ -1,5 +1,6 @@
 /* Hands a manager from thread to thread in the three ways that docs/C.md names: by a thread's start and its end, by a lock, and by a
- * sequentially consistent atomic. Built with ThreadSanitizer, which sees the C code alone. */
+ * sequentially consistent atomic; and has two threads use one set of key sessions, each by a handle of its own. Built with
+ * ThreadSanitizer, which sees the C code alone. */
 #include "check.h"
 
 #include <pthread.h>
@@ -93,6 +94,33 @@ static void by_atomic(struct hand *hand) {
     end(thread);
 }
 
+/* What a thread has of its own: a handle of the set, which it frees. */
+static void *use_set(void *at) {
+    struct mbj_keys *keys = (struct mbj_keys *)at;
+    MBJ_MGR *m = mbj_alloc_mgr();
+    CHECK(mbj_use_keys(m, keys) == MBJ_ERR_NONE);
+    for (int turn = 0; turn < TURNS; turn++) {
+        uint8_t dst[CBC_BYTES] = {0};
+        MBJ_JOB *job = mbj_get_next_job(m);
+        fill_cbc(job, cbc_text, sizeof cbc_text, 0, dst);
+        job->session = (uint32_t)turn % 2;
+        CHECK(is_done(finish(m)) && memcmp(dst, cbc_ciphertext, sizeof dst) == 0);
+    }
+    CHECK(mbj_keys_free(keys));
+    mbj_free_mgr(m);
+    return NULL;
+}
+
+static void by_two_handles(void) {
+    static const struct mbj_bytes keys[] = {{cbc_key, sizeof cbc_key}, {mac_key, 16}};
+    struct mbj_keys one = MBJ_KEYS_INIT, other = MBJ_KEYS_INIT;
+    pthread_t first, second;
+    CHECK(mbj_keys_new(&one, keys, 2) == MBJ_ERR_NONE && mbj_keys_share(&one, &other) == MBJ_ERR_NONE);
+    CHECK(pthread_create(&first, NULL, use_set, &one) == 0 && pthread_create(&second, NULL, use_set, &other) == 0);
+    end(first);
+    end(second);
+}
+
 int main(void) {
     static struct hand hand;
     CHECK(pthread_mutex_init(&hand.lock, NULL) == 0);
@@ -101,5 +129,6 @@ int main(void) {
     by_start_and_end(&hand);
     by_lock(&hand);
     by_atomic(&hand);
+    by_two_handles();
     return 0;
 }
