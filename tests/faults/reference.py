@@ -5,6 +5,7 @@ the crates. It made the digests with which tests of mbjobs and mbj_work compare 
     tests/faults/reference.py summary SEED JOBS    what gen prints, with the digest of what run prints
     tests/faults/reference.py replays              the table of the seeded replays
     tests/faults/reference.py random               the table of the random inputs
+    tests/faults/reference.py results FILE         the result lines of a file of jobs, of which there may be any number
     tests/faults/reference.py compare PROGRAM FIRST LAST
                                                    runs the built program on the random inputs from seed FIRST up to LAST
 """
@@ -103,6 +104,11 @@ def gen_text(seed, count):
     return "jobs %d\nok %d\ninvalid %d\nbytes %d\nsha256 %s\n" % (count, count - bad, bad, len(text), digest(text))
 
 
+def results_of(path):
+    with open(path, "rb") as file:
+        return run_text(read(file.read())[0])
+
+
 def digest(text):
     return hashlib.sha256(text.encode()).hexdigest()
 
@@ -199,6 +205,8 @@ if __name__ == "__main__":
     name, *words = sys.argv[1:]
     if name == "summary":
         print(gen_text(*map(int, words)), end="")
+    elif name == "results":
+        print(results_of(words[0]), end="")
     elif name == "compare":
         compare(words[0], *map(int, words[1:]))
     else:
