@@ -109,7 +109,8 @@ static const struct gcm_case gcm_cases[] = {
 
 static void seal_and_open(const struct gcm_case *c) {
     uint8_t key[16], iv[60], aad[20], text[60], tag[TAG_BYTES];
-    struct mbj_bytes k = bytes_at(key, read_hex(key, gcm_key_4)), n = bytes_at(iv, read_hex(iv, c->iv)), a = bytes_at(aad, read_hex(aad, gcm_aad_4));
+    struct mbj_bytes k = bytes_at(key, read_hex(key, gcm_key_4)), n = bytes_at(iv, read_hex(iv, c->iv));
+    struct mbj_bytes a = bytes_at(aad, read_hex(aad, gcm_aad_4));
     size_t len = read_hex(text, gcm_text_4);
     CHECK(mbj_gcm_seal(k, n, a, room_at(text, len), room_at(tag, TAG_BYTES)) == MBJ_ERR_NONE);
     CHECK(is_hex(text, c->ciphertext) && is_hex(tag, c->tag));

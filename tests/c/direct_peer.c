@@ -117,7 +117,8 @@ static void compare_parts(const struct sealing *s, uint32_t dir, const size_t *e
     size_t start = 0;
     peer_gcm(s, wanted, wanted_tag);
     memcpy(text, dir == MBJ_DIR_ENCRYPT ? s->text : wanted, s->len);
-    CHECK(mbj_gcm_init(&state, dir, bytes_at(s->key, s->key_len), bytes_at(s->iv, s->iv_len), bytes_at(s->aad, s->aad_len)) == MBJ_ERR_NONE);
+    struct mbj_bytes key = bytes_at(s->key, s->key_len), iv = bytes_at(s->iv, s->iv_len), aad = bytes_at(s->aad, s->aad_len);
+    CHECK(mbj_gcm_init(&state, dir, key, iv, aad) == MBJ_ERR_NONE);
     for (size_t i = 0; i <= many; i++) {
         size_t end = i < many ? ends[i] : s->len;
         CHECK(mbj_gcm_update(&state, room_at(text + start, end - start)) == MBJ_ERR_NONE);
