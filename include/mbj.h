@@ -279,7 +279,8 @@ uint32_t mbj_c_use_keys(struct mbj_handle *, struct mbj_keys *);
 
 /* The calls from here on need no manager, and any threads may make them at once. But for mbj_ccm_seal and mbj_ccm_open they take no memory.
  * Each returns MBJ_ERR_NONE, or a refusal, and then writes nothing: MBJ_ERR_WORD where a hash or a direction is none, MBJ_ERR_NO_ROOM where
- * a room is shorter than what is written. Room that is longer stays as it was behind that, but for a tag's: a tag is as long as its room. */
+ * a room is shorter than what is written. Room that is longer stays as it was behind that; a tag is as long as its room. No pointer is NULL,
+ * also with a length of 0. */
 
 /* Writes the states of a key for the authentications from MBJ_AUTH_HMAC_SHA_1_STATES on (RFC 2104, 4): the inner state and the outer state
  * behind it, whole and big-endian, together 40, 64, 64, 128 or 128 bytes. The key may have any length. They are as secret as the key. */
@@ -307,16 +308,16 @@ uint32_t mbj_digest(uint32_t hash, struct mbj_bytes text, struct mbj_room out);
 uint32_t mbj_gcm_seal(struct mbj_bytes key, struct mbj_bytes iv, struct mbj_bytes aad, struct mbj_room text, struct mbj_room tag);
 uint32_t mbj_gcm_open(struct mbj_bytes key, struct mbj_bytes iv, struct mbj_bytes aad, struct mbj_room text, struct mbj_room tag);
 
-/* A text by GCM of which the parts so far were sealed or opened. It holds the key, and is as secret. Only the next three calls write it;
- * bytes that others wrote are refused, or give any text and any tag. */
+/* A text by GCM of which the parts so far were sealed or opened. It holds the key, and is as secret: in its first four words, 32 bytes, and
+ * any bytes behind a shorter key. Only the next three calls write it; bytes that others wrote are refused, or give any text and any tag. */
 struct mbj_gcm_state {
     uint64_t words[15];
 };
 
 /* mbj_gcm_init begins a text that is sealed (MBJ_DIR_ENCRYPT) or opened; mbj_gcm_update does its next part in place, of any length; and
  * mbj_gcm_finish fills tag with the first bytes of its tag, and clears the state. However a text is cut into parts, they become what the
- * whole text becomes, and the tag is the same. Refusals are those of mbj_gcm_seal, and MBJ_ERR_NO_STATE where the state is none, as one that
- * was finished. Each update expands the key anew, so few long parts take less time than many short ones. */
+ * whole text becomes, and the tag is the same. Refusals are those of mbj_gcm_seal, and MBJ_ERR_NO_STATE where the state is none, as after
+ * mbj_gcm_finish. Each update expands the key anew, so few long parts take less time than many short ones. */
 uint32_t mbj_gcm_init(struct mbj_gcm_state *, uint32_t dir, struct mbj_bytes key, struct mbj_bytes iv, struct mbj_bytes aad);
 uint32_t mbj_gcm_update(struct mbj_gcm_state *, struct mbj_room part);
 uint32_t mbj_gcm_finish(struct mbj_gcm_state *, struct mbj_room tag);
