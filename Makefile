@@ -21,6 +21,11 @@ make install     copies what was built to PREFIX=/usr/local, below DESTDIR= wher
                  LIBDIR= INCLUDEDIR= BINDIR= MANDIR= DOCDIR= may be given too
 make uninstall   removes what was installed, with the same settings
 make mbjobs      builds the program mbjobs, having proved it; make install copies that too
+make dropin      builds a library that stands in for Intel's libIPSec_MB.so.1, in a folder of its own. It wants the header of
+                 intel-ipsec-mb 1.3 (Debian's libipsec-mb-dev), and holds a build for AVX2 too
+make install-dropin PREFIX=FOLDER
+                 copies it to DROPINDIR=PREFIX/lib/mbj-dropin, and touches no other library. A program runs over it with
+                 LD_LIBRARY_PATH=DROPINDIR (docs/FROM_IPSEC_MB.md)
 make clean       removes what was built
 
 RT=COMMAND       the toolchain's command, where rt isn't on the path
@@ -54,7 +59,7 @@ main := $(BUILD)/$(CPU)
 beside := $(if $(filter-out $(avx2),$(CPU)),$(BUILD)/$(avx2))
 program := $(or $(MBJOBS),$(if $(ARCHIVE),,$(BUILD)/mbjobs))
 
-goals := $(filter-out help install uninstall clean,$(or $(MAKECMDGOALS),all))
+goals := $(filter-out help install uninstall install-dropin clean,$(or $(MAKECMDGOALS),all))
 ifneq ($(goals),)
 ifeq ($(filter x86-64-v2 $(avx2),$(CPU)),)
 $(error CPU is x86-64-v2 or $(avx2))
@@ -129,6 +134,41 @@ $(BUILD)/%/$(shared): $(BUILD)/%/$(static) $(BUILD)/exports.map $(BUILD)/setting
 	$(CC) $(CFLAGS) $(LDFLAGS) -shared -Wl,-soname,$(shared) -Wl,--version-script=$(BUILD)/exports.map -Wl,--no-undefined-version \
 	    -Wl,-z,text -Wl,-z,defs -o $@ -Wl,--whole-archive $< -Wl,--no-whole-archive
 
+# ---- in place of Intel's library ----
+
+DROPINDIR ?= $(PREFIX)/lib/mbj-dropin
+
+dropin := $(BUILD)/dropin/libIPSec_MB.so.1
+dropin-sources := $(wildcard compat/*.c) include/mbj_heap_pool.c
+dropin-objects := $(patsubst %.c,$(BUILD)/dropin/%.o,$(notdir $(dropin-sources)))
+dropin-builds := $(foreach cpu,$(cpus),$(BUILD)/$(cpu)/renamed.o)
+
+# The manager names its pool in each thread, so that name is at a fixed place.
+compile-dropin = $(CC) -std=c11 -D_DEFAULT_SOURCE -Wall -Wextra $(CPPFLAGS) $(CFLAGS) -march=x86-64 -fPIC -fvisibility=hidden \
+    -ftls-model=initial-exec -Iinclude -Icompat -ffile-prefix-map=$(CURDIR)=. $(if $(filter $(avx2),$(cpus)),-DCOMPAT_HAS_AVX2) -c -o $@ $<
+
+$(BUILD)/dropin/%.o: compat/%.c $(wildcard compat/*.h) include/mbj.h $(BUILD)/settings
+	@mkdir -p $(@D)
+	$(compile-dropin)
+
+$(BUILD)/dropin/mbj_heap_pool.o: include/mbj_heap_pool.c include/mbj_heap_pool.h $(BUILD)/settings
+	@mkdir -p $(@D)
+	$(compile-dropin)
+
+# A build whose exports end in its level, and whose other names are local, so that a library may hold both.
+$(BUILD)/%/renamed.o: $(BUILD)/%/proved.a $(BUILD)/%/mbj_processor.o packaging/renamed include/mbj.h
+	AR='$(AR)' packaging/renamed _$(*:x86-64-%=%) $@ $(BUILD)/$*/proved.a $(BUILD)/$*/mbj_processor.o $(exports)
+
+dropin: $(dropin)
+
+$(dropin): $(dropin-objects) $(dropin-builds) packaging/dropin.map
+	$(CC) $(CFLAGS) $(LDFLAGS) -shared -Wl,-soname,libIPSec_MB.so.1 -Wl,--version-script=packaging/dropin.map -Wl,-z,text -Wl,-z,defs \
+	    -o $@ $(filter %.o,$^)
+
+install-dropin:
+	@[ -f $(dropin) ] || { echo 'nothing is built: run make dropin first' >&2; exit 1; }
+	$(INSTALL) -D -m 755 -t '$(DESTDIR)$(DROPINDIR)' $(dropin)
+
 # ---- tests ----
 
 # The examples' texts are compared with those of mbjobs. Without that program known answers alone are compared.
@@ -186,7 +226,7 @@ help:
 clean:
 	rm -rf $(BUILD)
 
-.PHONY: all check install uninstall mbjobs help clean FORCE
+.PHONY: all check install uninstall mbjobs dropin install-dropin help clean FORCE
 .DELETE_ON_ERROR:
 .SECONDARY:
 # rt works in one folder, one call after another.

@@ -1,0 +1,91 @@
+#include "algorithms.h"
+
+static const struct cipher ciphers[IMB_CIPHER_NUM] = {
+    [IMB_CIPHER_NULL] = {.kind = CIPHER_NONE, .code = MBJ_CIPHER_NULL},
+    [IMB_CIPHER_CBC] = {.kind = CIPHER_CBC, .code = MBJ_CIPHER_CBC},
+    [IMB_CIPHER_CNTR] = {.kind = CIPHER_CTR, .code = MBJ_CIPHER_CNTR, .uses_encryption = true},
+    [IMB_CIPHER_CNTR_BITLEN] = {.kind = CIPHER_CTR, .code = MBJ_CIPHER_CNTR, .uses_encryption = true, .is_in_bits = true},
+    [IMB_CIPHER_GCM] = {.kind = CIPHER_GCM, .code = MBJ_CIPHER_GCM, .partner = IMB_AUTH_AES_GMAC},
+    [IMB_CIPHER_GCM_SGL] = {.kind = CIPHER_GCM, .code = MBJ_CIPHER_GCM, .partner = IMB_AUTH_GCM_SGL, .is_in_parts = true},
+    [IMB_CIPHER_CCM] = {.kind = CIPHER_CCM, .code = MBJ_CIPHER_CCM, .partner = IMB_AUTH_AES_CCM, .uses_encryption = true},
+    [IMB_CIPHER_CUSTOM] = {.kind = CIPHER_CUSTOM},
+};
+
+#define HMAC(bits, state, bytes, long_tag, short_tag)                                                                                        \
+    [IMB_AUTH_HMAC_SHA_##bits] = {.kind = HASH_HMAC,                                                                                         \
+                                  .code = MBJ_AUTH_HMAC_SHA_##bits##_STATES,                                                                 \
+                                  .key = state,                                                                                              \
+                                  .word = bytes,                                                                                             \
+                                  .longest = long_tag,                                                                                       \
+                                  .truncated = short_tag}
+#define SHA(bits, digest)                                                                                                                    \
+    [IMB_AUTH_SHA_##bits] = {                                                                                                                \
+        .kind = HASH_SHA, .code = MBJ_AUTH_SHA_##bits, .hash = MBJ_HASH_SHA_##bits, .longest = digest, .truncated = digest}
+#define GMAC(bits) [IMB_AUTH_AES_GMAC_##bits] = {.kind = HASH_GMAC, .code = MBJ_AUTH_AES_GMAC, .key = bits / 8, .longest = 16}
+
+/* The shorter tags of HMAC are those of IPsec (RFC 2404, 2; RFC 4868, 2.6), and for SHA-224 14 bytes: intel-ipsec-mb 1.3 takes these. */
+static const struct hash hashes[IMB_AUTH_NUM] = {
+    [IMB_AUTH_NULL] = {.kind = HASH_NONE, .code = MBJ_AUTH_NULL},
+    HMAC(1, 20, 4, 20, 12),
+    HMAC(224, 32, 4, 28, 14),
+    HMAC(256, 32, 4, 32, 16),
+    HMAC(384, 64, 8, 48, 24),
+    HMAC(512, 64, 8, 64, 32),
+    SHA(1, 20),
+    SHA(224, 28),
+    SHA(256, 32),
+    SHA(384, 48),
+    SHA(512, 64),
+    [IMB_AUTH_AES_CMAC] = {.kind = HASH_CMAC, .code = MBJ_AUTH_AES_CMAC, .key = 16, .longest = 16},
+    [IMB_AUTH_AES_CMAC_BITLEN] = {.kind = HASH_CMAC, .code = MBJ_AUTH_AES_CMAC, .key = 16, .longest = 16, .is_in_bits = true},
+    [IMB_AUTH_AES_CMAC_256] = {.kind = HASH_CMAC, .code = MBJ_AUTH_AES_CMAC_256, .key = 32, .longest = 16},
+    GMAC(128),
+    GMAC(192),
+    GMAC(256),
+    [IMB_AUTH_AES_GMAC] = {.kind = HASH_OF_GCM, .code = MBJ_AUTH_GCM, .longest = 16},
+    [IMB_AUTH_GCM_SGL] = {.kind = HASH_OF_GCM, .code = MBJ_AUTH_GCM, .longest = 16},
+    [IMB_AUTH_AES_CCM] = {.kind = HASH_OF_CCM, .code = MBJ_AUTH_AES_CCM, .longest = 16},
+    [IMB_AUTH_CUSTOM] = {.kind = HASH_CUSTOM},
+};
+
+const struct cipher *cipher_of(const IMB_JOB *job) {
+    return &ciphers[(unsigned)job->cipher_mode < IMB_CIPHER_NUM ? job->cipher_mode : 0];
+}
+
+const struct hash *hash_of(const IMB_JOB *job) {
+    return &hashes[(unsigned)job->hash_alg < IMB_AUTH_NUM ? job->hash_alg : 0];
+}
+
+static uint64_t bytes_of_bits(uint64_t bits) {
+    return bits / 8 + (bits % 8 != 0);
+}
+
+uint64_t cipher_bytes(const IMB_JOB *job) {
+    const struct cipher *cipher = cipher_of(job);
+    if (cipher->kind == CIPHER_NONE)
+        return 0;
+    return cipher->is_in_bits ? bytes_of_bits(job->msg_len_to_cipher_in_bits) : job->msg_len_to_cipher_in_bytes;
+}
+
+uint64_t hash_bytes(const IMB_JOB *job) {
+    const struct hash *hash = hash_of(job);
+    if (hash->kind == HASH_NONE)
+        return 0;
+    return hash->is_in_bits ? bytes_of_bits(job->msg_len_to_hash_in_bits) : job->msg_len_to_hash_in_bytes;
+}
+
+unsigned cipher_open_bits(const IMB_JOB *job) {
+    return cipher_of(job)->is_in_bits ? job->msg_len_to_cipher_in_bits % 8 : 0;
+}
+
+unsigned hash_open_bits(const IMB_JOB *job) {
+    return hash_of(job)->is_in_bits ? job->msg_len_to_hash_in_bits % 8 : 0;
+}
+
+const uint8_t *cipher_start(const IMB_JOB *job) {
+    return (const uint8_t *)((uintptr_t)job->src + job->cipher_start_src_offset_in_bytes);
+}
+
+const uint8_t *hash_start(const IMB_JOB *job) {
+    return (const uint8_t *)((uintptr_t)job->src + job->hash_start_src_offset_in_bytes);
+}

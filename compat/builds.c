@@ -1,0 +1,55 @@
+#include "builds.h"
+
+#ifdef COMPAT_HAS_AVX2
+#define DECLARE(name) extern __typeof__(name) name##_v2, name##_v3;
+#else
+#define DECLARE(name) extern __typeof__(name) name##_v2;
+#endif
+#define FOR_V2(name) .name = name##_v2,
+#define FOR_V3(name) .name = name##_v3,
+
+COMPAT_EXPORTS(DECLARE)
+
+static const struct build builds[] = {
+#ifdef COMPAT_HAS_AVX2
+    {COMPAT_EXPORTS(FOR_V3)},
+#endif
+    {COMPAT_EXPORTS(FOR_V2)},
+};
+
+struct build proved;
+static bool has_one;
+
+/* Stands for each export where there is no build. On x86-64 (System V ABI, 3.2.3) a function that takes nothing may be called with any
+ * arguments, and a result of 32 bits is in the register that a pointer or a bool is taken from. */
+static uint32_t refuse(void) {
+    return MBJ_ERR_PROCESSOR;
+}
+
+#define REFUSE(name) proved.name = (__typeof__(proved.name))(void (*)(void))refuse;
+
+__attribute__((constructor)) static void choose(void) {
+    for (size_t i = 0; i < sizeof builds / sizeof *builds; i++)
+        if (builds[i].mbj_c_missing_feature() == NULL) {
+            proved = builds[i];
+            has_one = true;
+            return;
+        }
+    COMPAT_EXPORTS(REFUSE)
+}
+
+bool has_build(void) {
+    return has_one;
+}
+
+static uint8_t nowhere[1];
+
+struct mbj_bytes bytes_at(const void *at, size_t len) {
+    bool is_some = at != NULL && len != 0;
+    return (struct mbj_bytes){is_some ? (const uint8_t *)at : nowhere, is_some ? len : 0};
+}
+
+struct mbj_room room_at(void *at, size_t len) {
+    bool is_some = at != NULL && len != 0;
+    return (struct mbj_room){is_some ? (uint8_t *)at : nowhere, is_some ? len : 0};
+}

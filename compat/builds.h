@@ -1,0 +1,45 @@
+/* The proved code, of which the drop-in holds up to two builds: one for each x86-64-v2, and one for AVX2. The Makefile gives the exports of
+ * each build an ending of their own, and keeps all its other names local. All calls go by `proved`, which is the build that this processor
+ * runs. */
+#ifndef COMPAT_BUILDS_H
+#define COMPAT_BUILDS_H
+
+#include "mbj.h"
+
+/* The exports of mbj.h that the drop-in calls. */
+#define COMPAT_EXPORTS(EXPORT)                                                                                                               \
+    EXPORT(mbj_c_missing_feature)                                                                                                            \
+    EXPORT(mbj_c_new)                                                                                                                        \
+    EXPORT(mbj_c_free)                                                                                                                       \
+    EXPORT(mbj_c_fill)                                                                                                                       \
+    EXPORT(mbj_c_submit)                                                                                                                     \
+    EXPORT(mbj_c_get_completed)                                                                                                              \
+    EXPORT(mbj_c_flush)                                                                                                                      \
+    EXPORT(mbj_one_block)                                                                                                                    \
+    EXPORT(mbj_digest)                                                                                                                       \
+    EXPORT(mbj_aes_keys)                                                                                                                     \
+    EXPORT(mbj_cmac_subkeys)                                                                                                                 \
+    EXPORT(mbj_gcm_seal)                                                                                                                     \
+    EXPORT(mbj_gcm_open)                                                                                                                     \
+    EXPORT(mbj_gcm_init)                                                                                                                     \
+    EXPORT(mbj_gcm_update)                                                                                                                   \
+    EXPORT(mbj_gcm_finish)
+
+#define COMPAT_FIELD(name) __typeof__(&name) name;
+
+struct build {
+    COMPAT_EXPORTS(COMPAT_FIELD)
+};
+
+/* It is set when the library is loaded, and never changed. Where the processor runs no build, each call is refused with
+ * MBJ_ERR_PROCESSOR and writes nothing. */
+extern struct build proved;
+
+/* Whether the processor runs a build. */
+bool has_build(void);
+
+/* Bytes that are read or written, as the exports want them: not at NULL, also where there are none. */
+struct mbj_bytes bytes_at(const void *at, size_t len);
+struct mbj_room room_at(void *at, size_t len);
+
+#endif

@@ -1,0 +1,210 @@
+/* Bursts: of jobs in the manager's own array, and of an array of the application's, whose jobs are all done when the call returns. */
+#include "check.h"
+#include "errors.h"
+#include "ring.h"
+
+/* ---- of the manager's array ---- */
+
+static uint32_t places_left(IMB_MGR *m) {
+    struct dropin *d = m->aes128_ooo;
+    return IMB_MAX_JOBS - queue_len(&d->ring);
+}
+
+/* With no job out, the next one is the first of the array. */
+static void restart(IMB_MGR *m) {
+    if (m->earliest_job < 0)
+        m->next_job = 0;
+}
+
+static uint32_t next_burst(IMB_MGR *m, const uint32_t n, IMB_JOB **jobs) {
+    uint32_t count = 0;
+    if (dropin_of(m) == NULL)
+        return 0;
+    if (jobs == NULL || n > IMB_MAX_BURST_SIZE) {
+        set_error(m, jobs == NULL ? IMB_ERR_NULL_BURST : IMB_ERR_BURST_SIZE);
+        return 0;
+    }
+    for (int offset = m->next_job; count < n && count < places_left(m); offset = offset_behind(offset))
+        jobs[count++] = job_at(m, offset);
+    return count;
+}
+
+/* Why a job of a burst can't be submitted, or 0. It is the first one of the array then. */
+static int check_place(IMB_MGR *m, IMB_JOB **jobs, IMB_JOB *job, int offset, bool is_checked) {
+    if (job == NULL)
+        return IMB_ERR_NULL_JOB;
+    int error = job != job_at(m, offset) ? IMB_ERR_BURST_OOO : is_checked ? check_job(job, true) : 0;
+    if (error != 0) {
+        job->status = IMB_STATUS_INVALID_ARGS;
+        jobs[0] = job;
+    }
+    return error;
+}
+
+static int check_burst(IMB_MGR *m, uint32_t n, IMB_JOB **jobs, bool is_checked) {
+    int error = 0, offset = m->next_job;
+    if (jobs == NULL)
+        return IMB_ERR_NULL_BURST;
+    if (n > IMB_MAX_BURST_SIZE)
+        return IMB_ERR_BURST_SIZE;
+    if (n > places_left(m))
+        return IMB_ERR_QUEUE_SPACE;
+    for (uint32_t i = 0; i < n && error == 0; i++, offset = offset_behind(offset))
+        error = check_place(m, jobs, jobs[i], offset, is_checked);
+    return error;
+}
+
+static uint32_t submit(IMB_MGR *m, uint32_t n, IMB_JOB **jobs, bool is_checked) {
+    uint32_t given = 0;
+    int error = dropin_of(m) == NULL ? IMB_ERR_NULL_MBMGR : check_burst(m, n, jobs, is_checked);
+    if (error != 0) {
+        set_error(m, error);
+        return 0;
+    }
+    for (uint32_t i = 0; i < n; i++) {
+        IMB_JOB *job = ring_submit(m, is_checked);
+        if (job != NULL)
+            jobs[given++] = job;
+    }
+    for (IMB_JOB *job; given < n && (job = ring_completed(m)) != NULL;)
+        jobs[given++] = job;
+    restart(m);
+    return given;
+}
+
+static uint32_t submit_burst(IMB_MGR *m, const uint32_t n, IMB_JOB **jobs) {
+    return submit(m, n, jobs, true);
+}
+
+static uint32_t submit_unchecked_burst(IMB_MGR *m, const uint32_t n, IMB_JOB **jobs) {
+    return submit(m, n, jobs, false);
+}
+
+static uint32_t flush_burst(IMB_MGR *m, const uint32_t n, IMB_JOB **jobs) {
+    uint32_t given = 0;
+    if (dropin_of(m) == NULL)
+        return 0;
+    if (jobs == NULL) {
+        set_error(m, IMB_ERR_NULL_BURST);
+        return 0;
+    }
+    for (IMB_JOB *job; given < n && (job = ring_flush(m)) != NULL;)
+        jobs[given++] = job;
+    restart(m);
+    return given;
+}
+
+/* ---- of the application's array ---- */
+
+/* The algorithms of a burst, which the call tells and its jobs needn't. */
+struct told {
+    IMB_CIPHER_MODE cipher;
+    IMB_CIPHER_DIRECTION dir;
+    IMB_KEY_SIZE_BYTES key_len;
+    IMB_HASH_ALG hash;
+    IMB_CHAIN_ORDER order;
+};
+
+static IMB_JOB job_told(const IMB_JOB *job, const struct told *told) {
+    IMB_JOB copy = *job;
+    copy.cipher_mode = told->cipher;
+    copy.hash_alg = told->hash;
+    copy.chain_order = told->order;
+    if (told->cipher != IMB_CIPHER_NULL) {
+        copy.cipher_direction = told->dir;
+        copy.key_len_in_bytes = told->key_len;
+    }
+    return copy;
+}
+
+/* A wrong job of a checked burst: none is done then. */
+static bool has_wrong_job(IMB_MGR *m, IMB_JOB *jobs, uint32_t n, const struct told *told) {
+    for (uint32_t i = 0; i < n; i++) {
+        IMB_JOB job = job_told(&jobs[i], told);
+        int error = check_job(&job, true);
+        if (error != 0) {
+            set_error(m, error);
+            jobs[i].status = IMB_STATUS_INVALID_ARGS;
+            return true;
+        }
+    }
+    return false;
+}
+
+static uint32_t is_done(const IMB_JOB *job) {
+    return job != NULL && job->status == IMB_STATUS_COMPLETED;
+}
+
+static uint32_t do_burst(IMB_MGR *m, IMB_JOB *jobs, uint32_t n, const struct told *told, bool is_checked) {
+    struct dropin *d = m->aes128_ooo;
+    struct queue *queue = &d->burst;
+    uint32_t done = 0;
+    if (jobs == NULL) {
+        set_error(m, IMB_ERR_NULL_BURST);
+        return 0;
+    }
+    if (is_checked && has_wrong_job(m, jobs, n, told))
+        return 0;
+    finish_all(d);
+    for (uint32_t i = 0; i < n; i++) {
+        IMB_JOB job = job_told(&jobs[i], told);
+        if (queue_len(queue) == IMB_MAX_JOBS)
+            done += is_done(queue_flush(d, queue));
+        done += is_done(queue_submit(m, queue, &job, &jobs[i], is_checked));
+    }
+    for (IMB_JOB *job; (job = queue_flush(d, queue)) != NULL;)
+        done += is_done(job);
+    return done;
+}
+
+static uint32_t cipher_burst(IMB_MGR *m, IMB_JOB *jobs, uint32_t n, const struct told *told, bool is_checked) {
+    if (dropin_of(m) == NULL)
+        return 0;
+    if (jobs != NULL && told->cipher != IMB_CIPHER_CBC && told->cipher != IMB_CIPHER_CNTR) {
+        set_error(m, IMB_ERR_CIPH_MODE);
+        return 0;
+    }
+    return do_burst(m, jobs, n, told, is_checked);
+}
+
+static uint32_t submit_cipher_burst(IMB_MGR *m, IMB_JOB *jobs, const uint32_t n, const IMB_CIPHER_MODE cipher, const IMB_CIPHER_DIRECTION dir,
+                                    const IMB_KEY_SIZE_BYTES key_len) {
+    struct told told = {cipher, dir, key_len, IMB_AUTH_NULL, IMB_ORDER_CIPHER_HASH};
+    return cipher_burst(m, jobs, n, &told, true);
+}
+
+static uint32_t submit_unchecked_cipher_burst(IMB_MGR *m, IMB_JOB *jobs, const uint32_t n, const IMB_CIPHER_MODE cipher,
+                                              const IMB_CIPHER_DIRECTION dir, const IMB_KEY_SIZE_BYTES key_len) {
+    struct told told = {cipher, dir, key_len, IMB_AUTH_NULL, IMB_ORDER_CIPHER_HASH};
+    return cipher_burst(m, jobs, n, &told, false);
+}
+
+static uint32_t hash_burst(IMB_MGR *m, IMB_JOB *jobs, uint32_t n, IMB_HASH_ALG hash, bool is_checked) {
+    struct told told = {IMB_CIPHER_NULL, IMB_DIR_ENCRYPT, IMB_KEY_128_BYTES, hash, IMB_ORDER_HASH_CIPHER};
+    if (dropin_of(m) == NULL)
+        return 0;
+    if (jobs != NULL && (hash < IMB_AUTH_HMAC_SHA_1 || hash > IMB_AUTH_HMAC_SHA_512)) {
+        set_error(m, IMB_ERR_HASH_ALGO);
+        return 0;
+    }
+    return do_burst(m, jobs, n, &told, is_checked);
+}
+
+static uint32_t submit_hash_burst(IMB_MGR *m, IMB_JOB *jobs, const uint32_t n, const IMB_HASH_ALG hash) {
+    return hash_burst(m, jobs, n, hash, true);
+}
+
+static uint32_t submit_unchecked_hash_burst(IMB_MGR *m, IMB_JOB *jobs, const uint32_t n, const IMB_HASH_ALG hash) {
+    return hash_burst(m, jobs, n, hash, false);
+}
+
+void set_burst_functions(IMB_MGR *m) {
+    m->get_next_burst = next_burst;
+    m->submit_burst = submit_burst;
+    m->submit_burst_nocheck = submit_unchecked_burst;
+    m->flush_burst = flush_burst;
+    m->submit_cipher_burst = submit_cipher_burst;
+    m->submit_cipher_burst_nocheck = submit_unchecked_cipher_burst;
+    m->submit_hash_burst = submit_hash_burst;
+    m->submit_hash_burst_nocheck = submit_unchecked_hash_burst;
+}

@@ -1,0 +1,54 @@
+/* A manager of intel-ipsec-mb, and what stands behind it in the application's memory: the manager of the proved code with all that it
+ * allocates, and where the results of its jobs go. */
+#ifndef COMPAT_MANAGER_H
+#define COMPAT_MANAGER_H
+
+#include "builds.h"
+#include "imb.h"
+#include "keys.h"
+
+#include "mbj_heap_pool.h"
+
+/* The longest packet of the proved code. A longer text is done in parts, outside the lanes. */
+enum { PACKET_BYTES = 65535 };
+
+/* Where the result of a submitted job goes. */
+struct slot {
+    IMB_JOB *job;
+    uint8_t *dst, *tag;
+    size_t dst_len;
+    bool has_ended;    /* it isn't in the proved manager, or no longer */
+    uint8_t kept;      /* the bits of the last byte of dst that stay as they were, where a length in bits ends within that byte */
+    uint8_t last_byte; /* what that byte was */
+};
+
+/* Jobs in the order of their submission: those from first on aren't given back, and those from waiting on haven't all ended. The numbers
+ * count modulo 2^32. */
+struct queue {
+    uint32_t first, waiting, next;
+    struct slot slots[IMB_MAX_JOBS];
+};
+
+/* A key of 24 or 32 bytes, and the last two round keys of its schedule of decryption, from which it was found; len is 0 where there is
+ * none. */
+struct found_key {
+    uint64_t len;
+    uint8_t round_keys[32], key[32];
+};
+
+enum { FOUND_KEYS = 64 };
+
+struct dropin {
+    uint64_t mark;            /* DROPIN_MARK where a manager was made */
+    struct mbj_handle handle; /* its jobs are all of one of the queues */
+    struct mbj_pool *pool;
+    struct queue ring;  /* jobs of IMB_MGR's own array */
+    struct queue burst; /* jobs of an application's array, all done when the call returns */
+    struct found_key found[FOUND_KEYS];
+    uint8_t gathered[PACKET_BYTES + 1]; /* a packet on its way to the proved code */
+};
+
+/* What stands behind a manager, or NULL where none was made in this memory. It sets the errors to none, or to that. */
+struct dropin *dropin_of(IMB_MGR *m);
+
+#endif

@@ -1,0 +1,124 @@
+#include "say.h"
+#include "algorithms.h"
+#include "raw_key.h"
+
+#include <string.h>
+
+void say_nothing(struct said *said) {
+    struct mbj_raw_job *raw = &said->raw;
+    raw->cipher = MBJ_CIPHER_NULL;
+    raw->dir = MBJ_DIR_ENCRYPT;
+    raw->order = MBJ_ORDER_CIPHER_HASH;
+    raw->auth = MBJ_AUTH_NULL;
+    raw->key = raw->iv = raw->auth_key = raw->aad = raw->packet = bytes_at(NULL, 0);
+    raw->cipher_off = raw->cipher_len = raw->hash_off = raw->hash_len = 0;
+    raw->tag_len = 0;
+}
+
+static void say_codes(struct mbj_raw_job *raw, const IMB_JOB *job) {
+    raw->cipher = cipher_of(job)->code;
+    raw->dir = is_encryption(job) ? MBJ_DIR_ENCRYPT : MBJ_DIR_DECRYPT;
+    raw->order = is_hash_first(job) ? MBJ_ORDER_HASH_CIPHER : MBJ_ORDER_CIPHER_HASH;
+}
+
+/* A schedule of encryption, and the data of a key of GCM with it, begins with the key (FIPS 197, 5.2). */
+static struct mbj_bytes key_of(struct dropin *d, struct said *said, const IMB_JOB *job) {
+    const struct cipher *cipher = cipher_of(job);
+    size_t len = job->key_len_in_bytes;
+    if (cipher->kind != CIPHER_CBC || is_encryption(job))
+        return bytes_at(cipher_keys(cipher, job), len);
+    key_of_decryption(d, job->dec_keys, len, said->key);
+    return bytes_at(said->key, len);
+}
+
+void say_cipher(struct dropin *d, struct said *said, const IMB_JOB *job) {
+    say_codes(&said->raw, job);
+    if (cipher_of(job)->kind == CIPHER_NONE)
+        return;
+    said->raw.key = key_of(d, said, job);
+    said->raw.iv = bytes_at(job->iv, job->iv_len_in_bytes);
+}
+
+static void say_states(struct said *said, const struct hash *hash, const IMB_JOB *job) {
+    turn_words(said->states, job->u.HMAC._hashed_auth_key_xor_ipad, hash->key, hash->word);
+    turn_words(said->states + hash->key, job->u.HMAC._hashed_auth_key_xor_opad, hash->key, hash->word);
+    said->raw.auth_key = bytes_at(said->states, 2 * hash->key);
+}
+
+void say_hash(struct said *said, const IMB_JOB *job) {
+    const struct hash *hash = hash_of(job);
+    said->raw.auth = hash->code;
+    said->raw.tag_len = hash->kind == HASH_NONE ? 0 : (uint8_t)job->auth_tag_output_len_in_bytes;
+    if (hash->kind == HASH_HMAC)
+        say_states(said, hash, job);
+    if (hash->kind == HASH_CMAC)
+        said->raw.auth_key = bytes_at(job->u.CMAC._key_expanded, hash->key);
+    if (hash->kind == HASH_GMAC) {
+        said->raw.auth_key = bytes_at(job->u.GMAC._key->expanded_keys, hash->key);
+        said->raw.iv = bytes_at(job->u.GMAC._iv, job->u.GMAC.iv_len_in_bytes);
+    }
+}
+
+void say_aead(struct said *said, const IMB_JOB *job) {
+    bool is_ccm = cipher_of(job)->kind == CIPHER_CCM;
+    const void *aad = is_ccm ? job->u.CCM.aad : job->u.GCM.aad;
+    say_codes(&said->raw, job);
+    said->raw.key = bytes_at(cipher_keys(cipher_of(job), job), job->key_len_in_bytes);
+    said->raw.iv = bytes_at(job->iv, job->iv_len_in_bytes);
+    said->raw.auth = hash_of(job)->code;
+    said->raw.tag_len = (uint8_t)job->auth_tag_output_len_in_bytes;
+    said->raw.aad = bytes_at(aad, is_ccm ? job->u.CCM.aad_len_in_bytes : job->u.GCM.aad_len_in_bytes);
+    said->raw.packet = bytes_at(cipher_start(job), job->msg_len_to_cipher_in_bytes);
+    said->raw.cipher_len = job->msg_len_to_cipher_in_bytes;
+}
+
+bool overlap(const void *a, uint64_t a_len, const void *b, uint64_t b_len) {
+    uintptr_t x = (uintptr_t)a, y = (uintptr_t)b;
+    return a_len != 0 && b_len != 0 && (x < y ? y - x < a_len : x - y < b_len);
+}
+
+/* One packet of two ranges that overlap: the bytes as they lie, or a copy, where the cipher's come from elsewhere. */
+static bool say_span(struct dropin *d, struct mbj_raw_job *raw, const IMB_JOB *job, const uint8_t *ciphered) {
+    const uint8_t *hashed = hash_start(job), *start = ciphered < hashed ? ciphered : hashed;
+    const uint8_t *end = ciphered + raw->cipher_len, *hash_end = hashed + raw->hash_len;
+    size_t len = (size_t)((end > hash_end ? end : hash_end) - start);
+    if (len > PACKET_BYTES)
+        return false;
+    raw->cipher_off = (uint64_t)(ciphered - start);
+    raw->hash_off = (uint64_t)(hashed - start);
+    raw->packet = bytes_at(start, len);
+    if (ciphered != cipher_start(job)) {
+        memcpy(d->gathered, start, len);
+        memcpy(d->gathered + raw->cipher_off, cipher_start(job), raw->cipher_len);
+        raw->packet = bytes_at(d->gathered, len);
+    }
+    return true;
+}
+
+static bool say_both(struct dropin *d, struct mbj_raw_job *raw, const IMB_JOB *job) {
+    if (raw->cipher_len + raw->hash_len > PACKET_BYTES)
+        return false;
+    memcpy(d->gathered, cipher_start(job), raw->cipher_len);
+    memcpy(d->gathered + raw->cipher_len, hash_start(job), raw->hash_len);
+    raw->hash_off = raw->cipher_len;
+    raw->packet = bytes_at(d->gathered, raw->cipher_len + raw->hash_len);
+    return true;
+}
+
+/* What is hashed is what lies in the range when the cipher has written, or before it has: so the bytes that are ciphered stand in the packet
+ * where the destination is, or where the source is. */
+bool say_ranges(struct dropin *d, struct said *said, const IMB_JOB *job) {
+    struct mbj_raw_job *raw = &said->raw;
+    raw->cipher_len = cipher_bytes(job);
+    raw->hash_len = hash_bytes(job);
+    if (raw->cipher_len > PACKET_BYTES || raw->hash_len > PACKET_BYTES)
+        return false;
+    if (raw->cipher == MBJ_CIPHER_NULL || raw->auth == MBJ_AUTH_NULL) {
+        raw->packet = raw->cipher == MBJ_CIPHER_NULL ? bytes_at(hash_start(job), raw->hash_len) : bytes_at(cipher_start(job), raw->cipher_len);
+        return true;
+    }
+    const uint8_t *ciphered = is_hash_first(job) ? cipher_start(job) : job->dst;
+    if (overlap(ciphered, raw->cipher_len, hash_start(job), raw->hash_len))
+        return say_span(d, raw, job, ciphered);
+    return say_both(d, raw, job);
+}

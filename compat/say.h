@@ -1,0 +1,27 @@
+/* A job as the proved code takes it. */
+#ifndef COMPAT_SAY_H
+#define COMPAT_SAY_H
+
+#include "manager.h"
+
+/* The bytes that a job's description points to, where they aren't the application's own. */
+struct said {
+    struct mbj_raw_job raw;
+    uint8_t key[LONGEST_KEY], states[LONGEST_STATES];
+};
+
+/* A job that does nothing. */
+void say_nothing(struct said *said);
+
+/* Say the cipher, the authentication or an AEAD of a job, and not yet the packet. */
+void say_cipher(struct dropin *d, struct said *said, const IMB_JOB *job);
+void say_hash(struct said *said, const IMB_JOB *job);
+void say_aead(struct said *said, const IMB_JOB *job);
+
+/* Says the packet of a job that isn't one of an AEAD. False where its ranges don't fit into one. */
+bool say_ranges(struct dropin *d, struct said *said, const IMB_JOB *job);
+
+/* Whether two ranges have a byte in common. */
+bool overlap(const void *a, uint64_t a_len, const void *b, uint64_t b_len);
+
+#endif
