@@ -23,6 +23,7 @@ make uninstall   removes what was installed, with the same settings
 make mbjobs      builds the program mbjobs, having proved it; make install copies that too
 make dropin      builds a library that stands in for Intel's libIPSec_MB.so.1, in a folder of its own. It wants the header of
                  intel-ipsec-mb 1.3 (Debian's libipsec-mb-dev), and holds a build for AVX2 too
+make check-dropin builds and tests that library, beside Intel's and with DPDK where they are installed
 make install-dropin PREFIX=FOLDER
                  copies it to DROPINDIR=PREFIX/lib/mbj-dropin, and touches no other library. A program runs over it with
                  LD_LIBRARY_PATH=DROPINDIR (docs/FROM_IPSEC_MB.md)
@@ -175,6 +176,9 @@ install-dropin:
 check: all $(program)
 	BUILD='$(abspath $(BUILD))' MBJOBS='$(abspath $(program))' CPU=$(CPU) CC='$(CC)' tests/c/$(if $(program),run,known)
 
+check-dropin: all $(dropin)
+	BUILD='$(abspath $(BUILD))' CPU=$(CPU) CC='$(CC)' tests/c/dropin
+
 # ---- installing ----
 
 override PREFIX := $(abspath $(PREFIX))
@@ -226,7 +230,7 @@ help:
 clean:
 	rm -rf $(BUILD)
 
-.PHONY: all check install uninstall mbjobs dropin install-dropin help clean FORCE
+.PHONY: all check check-dropin install uninstall mbjobs dropin install-dropin help clean FORCE
 .DELETE_ON_ERROR:
 .SECONDARY:
 # rt works in one folder, one call after another.

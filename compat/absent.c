@@ -62,18 +62,18 @@ IMB_DLL_EXPORT int snow3g_f9_iv_gen(const uint32_t count, const uint32_t fresh, 
     return absent_schedule();
 }
 
-#define ABSENT(arch)                                                                                                                         \
-    IMB_DLL_EXPORT void aes_cfb_128_one_##arch(void *out, const void *in, const void *iv, const void *keys, uint64_t len) {                  \
-        (void)out, (void)in, (void)iv, (void)keys, (void)len;                                                                                \
-        direct_error(ENOTSUP);                                                                                                               \
-    }                                                                                                                                        \
-    IMB_DLL_EXPORT void aes_xcbc_expand_key_##arch(const void *key, void *first, void *second, void *third) {                                \
-        (void)key, (void)first, (void)second, (void)third;                                                                                   \
-        direct_error(ENOTSUP);                                                                                                               \
-    }                                                                                                                                        \
-    IMB_DLL_EXPORT void md5_one_block_##arch(const void *block, void *state) {                                                               \
-        (void)block, (void)state;                                                                                                            \
-        direct_error(ENOTSUP);                                                                                                               \
+#define ABSENT(arch)                                                                                                                       \
+    IMB_DLL_EXPORT void aes_cfb_128_one_##arch(void *out, const void *in, const void *iv, const void *keys, uint64_t len) {                \
+        (void)out, (void)in, (void)iv, (void)keys, (void)len;                                                                              \
+        direct_error(ENOTSUP);                                                                                                             \
+    }                                                                                                                                      \
+    IMB_DLL_EXPORT void aes_xcbc_expand_key_##arch(const void *key, void *first, void *second, void *third) {                              \
+        (void)key, (void)first, (void)second, (void)third;                                                                                 \
+        direct_error(ENOTSUP);                                                                                                             \
+    }                                                                                                                                      \
+    IMB_DLL_EXPORT void md5_one_block_##arch(const void *block, void *state) {                                                             \
+        (void)block, (void)state;                                                                                                          \
+        direct_error(ENOTSUP);                                                                                                             \
     }
 ABSENT(sse)
 ABSENT(avx)

@@ -11,15 +11,15 @@ static const struct cipher ciphers[IMB_CIPHER_NUM] = {
     [IMB_CIPHER_CUSTOM] = {.kind = CIPHER_CUSTOM},
 };
 
-#define HMAC(bits, state, bytes, long_tag, short_tag)                                                                                        \
-    [IMB_AUTH_HMAC_SHA_##bits] = {.kind = HASH_HMAC,                                                                                         \
-                                  .code = MBJ_AUTH_HMAC_SHA_##bits##_STATES,                                                                 \
-                                  .key = state,                                                                                              \
-                                  .word = bytes,                                                                                             \
-                                  .longest = long_tag,                                                                                       \
+#define HMAC(bits, state, bytes, long_tag, short_tag)                                                                                      \
+    [IMB_AUTH_HMAC_SHA_##bits] = {.kind = HASH_HMAC,                                                                                       \
+                                  .code = MBJ_AUTH_HMAC_SHA_##bits##_STATES,                                                               \
+                                  .key = state,                                                                                            \
+                                  .word = bytes,                                                                                           \
+                                  .longest = long_tag,                                                                                     \
                                   .truncated = short_tag}
-#define SHA(bits, digest)                                                                                                                    \
-    [IMB_AUTH_SHA_##bits] = {                                                                                                                \
+#define SHA(bits, digest)                                                                                                                  \
+    [IMB_AUTH_SHA_##bits] = {                                                                                                              \
         .kind = HASH_SHA, .code = MBJ_AUTH_SHA_##bits, .hash = MBJ_HASH_SHA_##bits, .longest = digest, .truncated = digest}
 #define GMAC(bits) [IMB_AUTH_AES_GMAC_##bits] = {.kind = HASH_GMAC, .code = MBJ_AUTH_AES_GMAC, .key = bits / 8, .longest = 16}
 

@@ -12,7 +12,8 @@
 /* The tag is written before the cipher, over bytes that it reads or writes. */
 static bool is_tag_ciphered(const IMB_JOB *job) {
     uint64_t tag_len = job->auth_tag_output_len_in_bytes, len = cipher_bytes(job);
-    return is_hash_first(job) && (overlap(job->auth_tag_output, tag_len, cipher_start(job), len) || overlap(job->auth_tag_output, tag_len, job->dst, len));
+    const uint8_t *tag = job->auth_tag_output;
+    return is_hash_first(job) && (overlap(tag, tag_len, cipher_start(job), len) || overlap(tag, tag_len, job->dst, len));
 }
 
 static bool is_long_aead(const IMB_JOB *job) {
@@ -53,6 +54,12 @@ static IMB_STATUS do_cipher(IMB_MGR *m, struct dropin *d, const IMB_JOB *job, IM
     }
 }
 
+static uint32_t put_gmac(const struct hash *hash, const IMB_JOB *job, struct mbj_bytes text, struct mbj_room tag) {
+    struct mbj_bytes key = bytes_at(job->u.GMAC._key->expanded_keys, hash->key);
+    struct mbj_bytes iv = bytes_at(job->u.GMAC._iv, job->u.GMAC.iv_len_in_bytes);
+    return proved.mbj_gcm_seal(key, iv, text, room_at(NULL, 0), tag);
+}
+
 /* A digest, or GMAC, of a text that is longer than a packet. */
 static IMB_STATUS do_long_hash(IMB_MGR *m, const struct hash *hash, const IMB_JOB *job) {
     uint8_t whole[MBJ_MAX_TAG_BYTES];
@@ -62,8 +69,7 @@ static IMB_STATUS do_long_hash(IMB_MGR *m, const struct hash *hash, const IMB_JO
     if (hash->kind == HASH_SHA)
         refusal = proved.mbj_digest(hash->hash, text, tag);
     if (hash->kind == HASH_GMAC)
-        refusal = proved.mbj_gcm_seal(bytes_at(job->u.GMAC._key->expanded_keys, hash->key), bytes_at(job->u.GMAC._iv, job->u.GMAC.iv_len_in_bytes),
-                                      text, room_at(NULL, 0), tag);
+        refusal = put_gmac(hash, job, text, tag);
     if (refusal == MBJ_ERR_NONE)
         memcpy(job->auth_tag_output, whole, job->auth_tag_output_len_in_bytes);
     return status_of_refusal(m, refusal);

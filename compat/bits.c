@@ -1,6 +1,6 @@
-/* CMAC (SP 800-38B, 6.2) adds the first subkey to a last block that is whole, and the second one to a last block that was padded. The proved
- * code has CMAC of whole bytes. So the last block is padded here, within its byte, and what the proved code will add to it is exchanged: it
- * is added the sum of both subkeys before. */
+/* CMAC (SP 800-38B, 6.2) adds the first subkey to a last block that is whole, and the second one to a last block that was padded. The
+ * proved code has CMAC of whole bytes, and adds the first subkey to the block that is padded here. So the sum of both is added before: the
+ * second one is left. */
 #include "bits.h"
 #include "algorithms.h"
 

@@ -7,22 +7,22 @@
 #include "mbj.h"
 
 /* The exports of mbj.h that the drop-in calls. */
-#define COMPAT_EXPORTS(EXPORT)                                                                                                               \
-    EXPORT(mbj_c_missing_feature)                                                                                                            \
-    EXPORT(mbj_c_new)                                                                                                                        \
-    EXPORT(mbj_c_free)                                                                                                                       \
-    EXPORT(mbj_c_fill)                                                                                                                       \
-    EXPORT(mbj_c_submit)                                                                                                                     \
-    EXPORT(mbj_c_get_completed)                                                                                                              \
-    EXPORT(mbj_c_flush)                                                                                                                      \
-    EXPORT(mbj_one_block)                                                                                                                    \
-    EXPORT(mbj_digest)                                                                                                                       \
-    EXPORT(mbj_aes_keys)                                                                                                                     \
-    EXPORT(mbj_cmac_subkeys)                                                                                                                 \
-    EXPORT(mbj_gcm_seal)                                                                                                                     \
-    EXPORT(mbj_gcm_open)                                                                                                                     \
-    EXPORT(mbj_gcm_init)                                                                                                                     \
-    EXPORT(mbj_gcm_update)                                                                                                                   \
+#define COMPAT_EXPORTS(EXPORT)                                                                                                             \
+    EXPORT(mbj_c_missing_feature)                                                                                                          \
+    EXPORT(mbj_c_new)                                                                                                                      \
+    EXPORT(mbj_c_free)                                                                                                                     \
+    EXPORT(mbj_c_fill)                                                                                                                     \
+    EXPORT(mbj_c_submit)                                                                                                                   \
+    EXPORT(mbj_c_get_completed)                                                                                                            \
+    EXPORT(mbj_c_flush)                                                                                                                    \
+    EXPORT(mbj_one_block)                                                                                                                  \
+    EXPORT(mbj_digest)                                                                                                                     \
+    EXPORT(mbj_aes_keys)                                                                                                                   \
+    EXPORT(mbj_cmac_subkeys)                                                                                                               \
+    EXPORT(mbj_gcm_seal)                                                                                                                   \
+    EXPORT(mbj_gcm_open)                                                                                                                   \
+    EXPORT(mbj_gcm_init)                                                                                                                   \
+    EXPORT(mbj_gcm_update)                                                                                                                 \
     EXPORT(mbj_gcm_finish)
 
 #define COMPAT_FIELD(name) __typeof__(&name) name;

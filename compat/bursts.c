@@ -167,8 +167,8 @@ static uint32_t cipher_burst(IMB_MGR *m, IMB_JOB *jobs, uint32_t n, const struct
     return do_burst(m, jobs, n, told, is_checked);
 }
 
-static uint32_t submit_cipher_burst(IMB_MGR *m, IMB_JOB *jobs, const uint32_t n, const IMB_CIPHER_MODE cipher, const IMB_CIPHER_DIRECTION dir,
-                                    const IMB_KEY_SIZE_BYTES key_len) {
+static uint32_t submit_cipher_burst(IMB_MGR *m, IMB_JOB *jobs, const uint32_t n, const IMB_CIPHER_MODE cipher,
+                                    const IMB_CIPHER_DIRECTION dir, const IMB_KEY_SIZE_BYTES key_len) {
     struct told told = {cipher, dir, key_len, IMB_AUTH_NULL, IMB_ORDER_CIPHER_HASH};
     return cipher_burst(m, jobs, n, &told, true);
 }

@@ -107,7 +107,8 @@ static int check_gmac(const IMB_JOB *job) {
 
 /* The first job of a text in parts has its additional data, and the last one its tag. */
 static int check_gcm(const IMB_JOB *job) {
-    bool is_in_parts = cipher_of(job)->is_in_parts, has_aad = !is_in_parts || job->sgl_state == IMB_SGL_INIT || job->sgl_state == IMB_SGL_ALL;
+    bool is_in_parts = cipher_of(job)->is_in_parts;
+    bool has_aad = !is_in_parts || job->sgl_state == IMB_SGL_INIT || job->sgl_state == IMB_SGL_ALL;
     if ((unsigned)job->hash_alg != cipher_of(job)->partner)
         return IMB_ERR_CIPH_MODE;
     if (is_in_parts && job->u.GCM.ctx == NULL)

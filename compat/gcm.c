@@ -89,7 +89,8 @@ static void store(struct gcm_context_data *context, struct parts *parts) {
     wipe(parts, sizeof *parts);
 }
 
-uint32_t gcm_begin(struct gcm_context_data *context, const struct gcm_key_data *key, size_t key_len, struct mbj_bytes iv, struct mbj_bytes aad) {
+uint32_t gcm_begin(struct gcm_context_data *context, const struct gcm_key_data *key, size_t key_len, struct mbj_bytes iv,
+                   struct mbj_bytes aad) {
     struct mbj_gcm_state state;
     struct parts parts;
     uint32_t refusal = proved.mbj_gcm_init(&state, MBJ_DIR_ENCRYPT, bytes_at(key->expanded_keys, key_len), iv, aad);

@@ -26,7 +26,8 @@ uint32_t gcm_job_in_parts(const struct gcm_key_data *key, const IMB_JOB *job);
 
 /* The parts of a text under a key of so many bytes. A context holds what the exports need between the parts, but for the key, which each
  * call is given again. Each returns the refusal. */
-uint32_t gcm_begin(struct gcm_context_data *context, const struct gcm_key_data *key, size_t key_len, struct mbj_bytes iv, struct mbj_bytes aad);
+uint32_t gcm_begin(struct gcm_context_data *context, const struct gcm_key_data *key, size_t key_len, struct mbj_bytes iv,
+                   struct mbj_bytes aad);
 uint32_t gcm_part(struct gcm_context_data *context, const struct gcm_key_data *key, size_t key_len, uint32_t dir, uint8_t *out,
                   const uint8_t *in, uint64_t len);
 uint32_t gcm_end(struct gcm_context_data *context, const struct gcm_key_data *key, size_t key_len, uint8_t *tag, size_t tag_len);
@@ -34,10 +35,5 @@ uint32_t gcm_end(struct gcm_context_data *context, const struct gcm_key_data *ke
 /* Sets the functions of gcm_calls.c and of gmac.c in the manager's table. */
 void set_gcm_functions(IMB_MGR *m);
 void set_gmac_functions(IMB_MGR *m);
-
-#define COMPAT_DECLARE_GCM(bits)                                                                                                             \
-    void gcm_key_##bits(const void *key, struct gcm_key_data *data);                                                                         \
-    void gcm_precompute_##bits(struct gcm_key_data *data);
-COMPAT_KEY_SIZES(COMPAT_DECLARE_GCM)
 
 #endif

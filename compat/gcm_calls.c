@@ -45,13 +45,14 @@ static void put_key(const void *key, size_t len, struct gcm_key_data *data) {
 }
 
 static void whole(uint32_t dir, size_t key_len, const struct gcm_key_data *key, struct gcm_context_data *context, uint8_t *out,
-                  const uint8_t *in, uint64_t len, const uint8_t *iv, const uint8_t *aad, uint64_t aad_len, uint8_t *tag, uint64_t tag_len) {
+                  const uint8_t *in, uint64_t len, const uint8_t *iv, const uint8_t *aad, uint64_t aad_len, uint8_t *tag,
+                  uint64_t tag_len) {
     int error = first_error(null_of_context(key, context), null_of_text(out, in, len), null_of_begin(iv, IMB_GCM_IV_DATA_LEN, aad, aad_len),
                             null_of_tag(tag, tag_len));
     if (!direct_error(error))
         return;
-    struct gcm_text text = {dir, bytes_at(key->expanded_keys, key_len), bytes_at(iv, IMB_GCM_IV_DATA_LEN), bytes_at(aad, aad_len), out, in, len,
-                            tag, tag_len};
+    struct mbj_bytes key_bytes = bytes_at(key->expanded_keys, key_len), iv_bytes = bytes_at(iv, IMB_GCM_IV_DATA_LEN);
+    struct gcm_text text = {dir, key_bytes, iv_bytes, bytes_at(aad, aad_len), out, in, len, tag, tag_len};
     direct_error(error_of_refusal(gcm_whole(&text)));
 }
 
@@ -75,52 +76,67 @@ static void finish(size_t key_len, const struct gcm_key_data *key, struct gcm_co
 /* ---- the calls ---- */
 
 /* The tables of hash keys in gcm_key_data aren't used, and aren't filled. */
-#define CALLS(bits)                                                                                                                          \
-    void gcm_key_##bits(const void *key, struct gcm_key_data *data) {                                                                        \
-        put_key(key, bits / 8, data);                                                                                                        \
-    }                                                                                                                                        \
-    void gcm_precompute_##bits(struct gcm_key_data *data) {                                                                                  \
-        direct_error(data == NULL ? IMB_ERR_NULL_EXP_KEY : 0);                                                                               \
-    }                                                                                                                                        \
-    static void seal_##bits(const struct gcm_key_data *key, struct gcm_context_data *context, uint8_t *out, const uint8_t *in, uint64_t len,  \
-                            const uint8_t *iv, const uint8_t *aad, uint64_t aad_len, uint8_t *tag, uint64_t tag_len) {                       \
-        whole(MBJ_DIR_ENCRYPT, bits / 8, key, context, out, in, len, iv, aad, aad_len, tag, tag_len);                                        \
-    }                                                                                                                                        \
-    static void open_##bits(const struct gcm_key_data *key, struct gcm_context_data *context, uint8_t *out, const uint8_t *in, uint64_t len,  \
-                            const uint8_t *iv, const uint8_t *aad, uint64_t aad_len, uint8_t *tag, uint64_t tag_len) {                       \
-        whole(MBJ_DIR_DECRYPT, bits / 8, key, context, out, in, len, iv, aad, aad_len, tag, tag_len);                                        \
-    }                                                                                                                                        \
-    static void begin_##bits(const struct gcm_key_data *key, struct gcm_context_data *context, const uint8_t *iv, const uint8_t *aad,         \
-                             uint64_t aad_len) {                                                                                             \
-        begin(bits / 8, key, context, iv, IMB_GCM_IV_DATA_LEN, aad, aad_len);                                                                \
-    }                                                                                                                                        \
-    static void begin_with_iv_##bits(const struct gcm_key_data *key, struct gcm_context_data *context, const uint8_t *iv,                    \
-                                     const uint64_t iv_len, const uint8_t *aad, const uint64_t aad_len) {                                    \
-        begin(bits / 8, key, context, iv, iv_len, aad, aad_len);                                                                             \
-    }                                                                                                                                        \
-    static void seal_part_##bits(const struct gcm_key_data *key, struct gcm_context_data *context, uint8_t *out, const uint8_t *in,           \
-                                 uint64_t len) {                                                                                             \
-        part(MBJ_DIR_ENCRYPT, bits / 8, key, context, out, in, len);                                                                         \
-    }                                                                                                                                        \
-    static void open_part_##bits(const struct gcm_key_data *key, struct gcm_context_data *context, uint8_t *out, const uint8_t *in,           \
-                                 uint64_t len) {                                                                                             \
-        part(MBJ_DIR_DECRYPT, bits / 8, key, context, out, in, len);                                                                         \
-    }                                                                                                                                        \
-    static void finish_##bits(const struct gcm_key_data *key, struct gcm_context_data *context, uint8_t *tag, uint64_t tag_len) {             \
-        finish(bits / 8, key, context, tag, tag_len);                                                                                        \
+#define CALLS(bits)                                                                                                                        \
+    static void gcm_key_##bits(const void *key, struct gcm_key_data *data) {                                                               \
+        put_key(key, bits / 8, data);                                                                                                      \
+    }                                                                                                                                      \
+    static void gcm_precompute_##bits(struct gcm_key_data *data) {                                                                         \
+        direct_error(data == NULL ? IMB_ERR_NULL_EXP_KEY : 0);                                                                             \
+    }                                                                                                                                      \
+    static void seal_##bits(const struct gcm_key_data *key, struct gcm_context_data *context, uint8_t *out, const uint8_t *in,             \
+                            uint64_t len, const uint8_t *iv, const uint8_t *aad, uint64_t aad_len, uint8_t *tag, uint64_t tag_len) {       \
+        whole(MBJ_DIR_ENCRYPT, bits / 8, key, context, out, in, len, iv, aad, aad_len, tag, tag_len);                                      \
+    }                                                                                                                                      \
+    static void open_##bits(const struct gcm_key_data *key, struct gcm_context_data *context, uint8_t *out, const uint8_t *in,             \
+                            uint64_t len, const uint8_t *iv, const uint8_t *aad, uint64_t aad_len, uint8_t *tag, uint64_t tag_len) {       \
+        whole(MBJ_DIR_DECRYPT, bits / 8, key, context, out, in, len, iv, aad, aad_len, tag, tag_len);                                      \
+    }                                                                                                                                      \
+    static void begin_##bits(const struct gcm_key_data *key, struct gcm_context_data *context, const uint8_t *iv, const uint8_t *aad,      \
+                             uint64_t aad_len) {                                                                                           \
+        begin(bits / 8, key, context, iv, IMB_GCM_IV_DATA_LEN, aad, aad_len);                                                              \
+    }                                                                                                                                      \
+    static void begin_with_iv_##bits(const struct gcm_key_data *key, struct gcm_context_data *context, const uint8_t *iv,                  \
+                                     const uint64_t iv_len, const uint8_t *aad, const uint64_t aad_len) {                                  \
+        begin(bits / 8, key, context, iv, iv_len, aad, aad_len);                                                                           \
+    }                                                                                                                                      \
+    static void seal_part_##bits(const struct gcm_key_data *key, struct gcm_context_data *context, uint8_t *out,                           \
+                                 const uint8_t *in, uint64_t len) {                                                                        \
+        part(MBJ_DIR_ENCRYPT, bits / 8, key, context, out, in, len);                                                                       \
+    }                                                                                                                                      \
+    static void open_part_##bits(const struct gcm_key_data *key, struct gcm_context_data *context, uint8_t *out,                           \
+                                 const uint8_t *in, uint64_t len) {                                                                        \
+        part(MBJ_DIR_DECRYPT, bits / 8, key, context, out, in, len);                                                                       \
+    }                                                                                                                                      \
+    static void finish_##bits(const struct gcm_key_data *key, struct gcm_context_data *context, uint8_t *tag, uint64_t tag_len) {          \
+        finish(bits / 8, key, context, tag, tag_len);                                                                                      \
     }
 COMPAT_KEY_SIZES(CALLS)
 
-#define SET(bits)                                                                                                                            \
-    m->gcm##bits##_pre = gcm_key_##bits;                                                                                                     \
-    m->gcm##bits##_precomp = gcm_precompute_##bits;                                                                                          \
-    m->gcm##bits##_enc = seal_##bits;                                                                                                        \
-    m->gcm##bits##_dec = open_##bits;                                                                                                        \
-    m->gcm##bits##_init = begin_##bits;                                                                                                      \
-    m->gcm##bits##_init_var_iv = begin_with_iv_##bits;                                                                                       \
-    m->gcm##bits##_enc_update = seal_part_##bits;                                                                                            \
-    m->gcm##bits##_dec_update = open_part_##bits;                                                                                            \
-    m->gcm##bits##_enc_finalize = finish_##bits;                                                                                             \
+/* The header declares these by name too, for three architectures, which all do the same. */
+#define NAME(theirs, ours) IMB_DLL_EXPORT __typeof__(ours) theirs __attribute__((alias(#ours)));
+#define NAMES(bits, arch)                                                                                                                  \
+    NAME(aes_gcm_pre_##bits##_##arch, gcm_key_##bits)                                                                                      \
+    NAME(aes_gcm_precomp_##bits##_##arch, gcm_precompute_##bits)                                                                           \
+    NAME(aes_gcm_enc_##bits##_##arch, seal_##bits)                                                                                         \
+    NAME(aes_gcm_dec_##bits##_##arch, open_##bits)                                                                                         \
+    NAME(aes_gcm_init_##bits##_##arch, begin_##bits)                                                                                       \
+    NAME(aes_gcm_enc_##bits##_update_##arch, seal_part_##bits)                                                                             \
+    NAME(aes_gcm_dec_##bits##_update_##arch, open_part_##bits)                                                                             \
+    NAME(aes_gcm_enc_##bits##_finalize_##arch, finish_##bits)                                                                              \
+    NAME(aes_gcm_dec_##bits##_finalize_##arch, finish_##bits)
+#define ALL_NAMES(bits) NAMES(bits, sse) NAMES(bits, avx_gen2) NAMES(bits, avx_gen4)
+COMPAT_KEY_SIZES(ALL_NAMES)
+
+#define SET(bits)                                                                                                                          \
+    m->gcm##bits##_pre = gcm_key_##bits;                                                                                                   \
+    m->gcm##bits##_precomp = gcm_precompute_##bits;                                                                                        \
+    m->gcm##bits##_enc = seal_##bits;                                                                                                      \
+    m->gcm##bits##_dec = open_##bits;                                                                                                      \
+    m->gcm##bits##_init = begin_##bits;                                                                                                    \
+    m->gcm##bits##_init_var_iv = begin_with_iv_##bits;                                                                                     \
+    m->gcm##bits##_enc_update = seal_part_##bits;                                                                                          \
+    m->gcm##bits##_dec_update = open_part_##bits;                                                                                          \
+    m->gcm##bits##_enc_finalize = finish_##bits;                                                                                           \
     m->gcm##bits##_dec_finalize = finish_##bits;
 
 void set_gcm_functions(IMB_MGR *m) {

@@ -1,6 +1,6 @@
 /* GMAC of a text that comes in parts. The exports take the additional data, which is what GMAC authenticates, as a whole: so the parts are
- * gathered on the process's heap, and the context points there. The last call does the whole and frees it. A context that is begun and never
- * ended keeps its memory. */
+ * gathered on the process's heap, and the context points there. The last call does the whole and frees it. A context that is begun and
+ * never ended keeps its memory. */
 #include "errors.h"
 #include "gcm.h"
 
@@ -51,12 +51,20 @@ static struct gathered *grown(struct gathered *old, uint64_t more) {
 
 /* ---- what each call does, for a key of so many bytes ---- */
 
+/* Which of the pointers is NULL, or 0; the last one is told by this error. */
+static int null_of(const void *key, const void *context, const void *last, int error_of_last) {
+    if (key == NULL)
+        return IMB_ERR_NULL_EXP_KEY;
+    if (context == NULL)
+        return IMB_ERR_NULL_CTX;
+    return last == NULL ? error_of_last : 0;
+}
+
 static void begin(const struct gcm_key_data *key, struct gcm_context_data *context, const uint8_t *iv, uint64_t iv_len) {
     enum { FIRST_ROOM = 2048, MOST_IV = 65535 };
-    int error = key == NULL       ? IMB_ERR_NULL_EXP_KEY
-                : context == NULL ? IMB_ERR_NULL_CTX
-                : iv == NULL      ? IMB_ERR_NULL_IV
-                                  : iv_len == 0 || iv_len > MOST_IV ? IMB_ERR_IV_LEN : 0;
+    int error = null_of(key, context, iv, IMB_ERR_NULL_IV);
+    if (error == 0 && (iv_len == 0 || iv_len > MOST_IV))
+        error = IMB_ERR_IV_LEN;
     if (!direct_error(error))
         return;
     struct gathered *made = malloc(sizeof *made + iv_len + FIRST_ROOM);
@@ -74,8 +82,7 @@ static void begin(const struct gcm_key_data *key, struct gcm_context_data *conte
 
 /* Where memory wants, the context is none from then on: the last call is refused, and gives no tag. */
 static void part(const struct gcm_key_data *key, struct gcm_context_data *context, const uint8_t *in, uint64_t len) {
-    int error = key == NULL ? IMB_ERR_NULL_EXP_KEY : context == NULL ? IMB_ERR_NULL_CTX : in == NULL && len != 0 ? IMB_ERR_NULL_SRC : 0;
-    if (!direct_error(error))
+    if (!direct_error(null_of(key, context, len == 0 ? (const void *)&len : in, IMB_ERR_NULL_SRC)))
         return;
     struct gathered *old = gathered_of(context), *at = old == NULL ? NULL : grown(old, len);
     if (at == NULL) {
@@ -91,10 +98,9 @@ static void part(const struct gcm_key_data *key, struct gcm_context_data *contex
 }
 
 static void finish(size_t key_len, const struct gcm_key_data *key, struct gcm_context_data *context, uint8_t *tag, uint64_t tag_len) {
-    int error = key == NULL       ? IMB_ERR_NULL_EXP_KEY
-                : context == NULL ? IMB_ERR_NULL_CTX
-                : tag == NULL     ? IMB_ERR_NULL_AUTH
-                                  : tag_len == 0 || tag_len > IMB_MAX_TAG_LEN ? IMB_ERR_AUTH_TAG_LEN : 0;
+    int error = null_of(key, context, tag, IMB_ERR_NULL_AUTH);
+    if (error == 0 && (tag_len == 0 || tag_len > IMB_MAX_TAG_LEN))
+        error = IMB_ERR_AUTH_TAG_LEN;
     struct gathered *at = error == 0 ? gathered_of(context) : NULL;
     if (at == NULL) {
         direct_error(error != 0 ? error : EINVAL);
@@ -108,15 +114,15 @@ static void finish(size_t key_len, const struct gcm_key_data *key, struct gcm_co
     free(at);
 }
 
-#define CALLS(bits)                                                                                                                          \
-    static void finish_##bits(const struct gcm_key_data *key, struct gcm_context_data *context, uint8_t *tag, const uint64_t tag_len) {      \
-        finish(bits / 8, key, context, tag, tag_len);                                                                                        \
+#define CALLS(bits)                                                                                                                        \
+    static void finish_##bits(const struct gcm_key_data *key, struct gcm_context_data *context, uint8_t *tag, const uint64_t tag_len) {    \
+        finish(bits / 8, key, context, tag, tag_len);                                                                                      \
     }
 COMPAT_KEY_SIZES(CALLS)
 
-#define SET(bits)                                                                                                                            \
-    m->gmac##bits##_init = begin;                                                                                                            \
-    m->gmac##bits##_update = part;                                                                                                           \
+#define SET(bits)                                                                                                                          \
+    m->gmac##bits##_init = begin;                                                                                                          \
+    m->gmac##bits##_update = part;                                                                                                         \
     m->gmac##bits##_finalize = finish_##bits;
 
 void set_gmac_functions(IMB_MGR *m) {

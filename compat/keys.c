@@ -41,12 +41,12 @@ static void expand(const void *key, size_t len, void *encryption, void *decrypti
     direct_error(error != 0 ? error : error_of_refusal(put_schedules(key, len, encryption, decryption)));
 }
 
-#define EXPAND(bits)                                                                                                                         \
-    void expand_##bits(const void *key, void *encryption, void *decryption) {                                                                \
-        expand(key, bits / 8, encryption, decryption, true);                                                                                 \
-    }                                                                                                                                        \
-    void expand_for_encryption_##bits(const void *key, void *encryption) {                                                                   \
-        expand(key, bits / 8, encryption, NULL, false);                                                                                      \
+#define EXPAND(bits)                                                                                                                       \
+    void expand_##bits(const void *key, void *encryption, void *decryption) {                                                              \
+        expand(key, bits / 8, encryption, decryption, true);                                                                               \
+    }                                                                                                                                      \
+    void expand_for_encryption_##bits(const void *key, void *encryption) {                                                                 \
+        expand(key, bits / 8, encryption, NULL, false);                                                                                    \
     }
 COMPAT_KEY_SIZES(EXPAND)
 
@@ -128,18 +128,18 @@ static void put_digest(uint32_t hash, const void *text, uint64_t len, void *dige
         memcpy(digest, bytes, sizes[hash].digest);
 }
 
-#define HASH(name, hash)                                                                                                                     \
-    void name##_state(const void *block, void *state) {                                                                                      \
-        put_state(hash, block, state);                                                                                                       \
-    }                                                                                                                                        \
-    void name##_digest(const void *text, const uint64_t len, void *digest) {                                                                 \
-        put_digest(hash, text, len, digest);                                                                                                 \
+#define HASH(name, hash)                                                                                                                   \
+    void name##_state(const void *block, void *state) {                                                                                    \
+        put_state(hash, block, state);                                                                                                     \
+    }                                                                                                                                      \
+    void name##_digest(const void *text, const uint64_t len, void *digest) {                                                               \
+        put_digest(hash, text, len, digest);                                                                                               \
     }
 COMPAT_HASHES(HASH)
 
 #define SET_SIZE(bits) m->keyexp_##bits = expand_##bits;
-#define SET_HASH(name, hash)                                                                                                                 \
-    m->name##_one_block = name##_state;                                                                                                      \
+#define SET_HASH(name, hash)                                                                                                               \
+    m->name##_one_block = name##_state;                                                                                                    \
     m->name = name##_digest;
 
 void set_key_functions(IMB_MGR *m) {

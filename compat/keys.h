@@ -22,18 +22,23 @@ void set_key_functions(IMB_MGR *m);
 
 /* The calls by the header's names; what ends the names isn't told to them. */
 #define COMPAT_KEY_SIZES(SIZE) SIZE(128) SIZE(192) SIZE(256)
-#define COMPAT_HASHES(HASH) HASH(sha1, MBJ_HASH_SHA_1) HASH(sha224, MBJ_HASH_SHA_224) HASH(sha256, MBJ_HASH_SHA_256) HASH(sha384, MBJ_HASH_SHA_384) HASH(sha512, MBJ_HASH_SHA_512)
+#define COMPAT_HASHES(HASH)                                                                                                                \
+    HASH(sha1, MBJ_HASH_SHA_1)                                                                                                             \
+    HASH(sha224, MBJ_HASH_SHA_224)                                                                                                         \
+    HASH(sha256, MBJ_HASH_SHA_256)                                                                                                         \
+    HASH(sha384, MBJ_HASH_SHA_384)                                                                                                         \
+    HASH(sha512, MBJ_HASH_SHA_512)
 
-#define COMPAT_DECLARE_SIZE(bits)                                                                                                            \
-    void expand_##bits(const void *key, void *encryption, void *decryption);                                                                 \
+#define COMPAT_DECLARE_SIZE(bits)                                                                                                          \
+    void expand_##bits(const void *key, void *encryption, void *decryption);                                                               \
     void expand_for_encryption_##bits(const void *key, void *encryption);
 COMPAT_KEY_SIZES(COMPAT_DECLARE_SIZE)
 
 void cmac_subkeys_128(const void *schedule, void *first, void *second);
 void cmac_subkeys_256(const void *schedule, void *first, void *second);
 
-#define COMPAT_DECLARE_HASH(name, hash)                                                                                                      \
-    void name##_state(const void *block, void *state);                                                                                       \
+#define COMPAT_DECLARE_HASH(name, hash)                                                                                                    \
+    void name##_state(const void *block, void *state);                                                                                     \
     void name##_digest(const void *text, const uint64_t len, void *digest);
 COMPAT_HASHES(COMPAT_DECLARE_HASH)
 

@@ -1,83 +1,65 @@
 /* Calls that the header declares by name too, with an architecture at the end. All architectures do the same: what runs is the build that
- * the processor was found to run when the library was loaded. */
-#include "gcm.h"
+ * the processor was found to run when the library was loaded. gcm_calls.c has those of GCM. */
 #include "keys.h"
 #include "ring.h"
 
-#define JOBS(arch)                                                                                                                           \
-    IMB_DLL_EXPORT IMB_JOB *get_next_job_##arch(IMB_MGR *m) {                                                                                \
-        return next_job(m);                                                                                                                  \
-    }                                                                                                                                        \
-    IMB_DLL_EXPORT IMB_JOB *submit_job_##arch(IMB_MGR *m) {                                                                                  \
-        return submit_checked(m);                                                                                                            \
-    }                                                                                                                                        \
-    IMB_DLL_EXPORT IMB_JOB *submit_job_nocheck_##arch(IMB_MGR *m) {                                                                          \
-        return submit_unchecked(m);                                                                                                          \
-    }                                                                                                                                        \
-    IMB_DLL_EXPORT IMB_JOB *get_completed_job_##arch(IMB_MGR *m) {                                                                           \
-        return completed_job(m);                                                                                                             \
-    }                                                                                                                                        \
-    IMB_DLL_EXPORT IMB_JOB *flush_job_##arch(IMB_MGR *m) {                                                                                   \
-        return flushed_job(m);                                                                                                               \
-    }                                                                                                                                        \
-    IMB_DLL_EXPORT uint32_t queue_size_##arch(IMB_MGR *m) {                                                                                  \
-        return jobs_out(m);                                                                                                                  \
+#define JOBS(arch)                                                                                                                         \
+    IMB_DLL_EXPORT IMB_JOB *get_next_job_##arch(IMB_MGR *m) {                                                                              \
+        return next_job(m);                                                                                                                \
+    }                                                                                                                                      \
+    IMB_DLL_EXPORT IMB_JOB *submit_job_##arch(IMB_MGR *m) {                                                                                \
+        return submit_checked(m);                                                                                                          \
+    }                                                                                                                                      \
+    IMB_DLL_EXPORT IMB_JOB *submit_job_nocheck_##arch(IMB_MGR *m) {                                                                        \
+        return submit_unchecked(m);                                                                                                        \
+    }                                                                                                                                      \
+    IMB_DLL_EXPORT IMB_JOB *get_completed_job_##arch(IMB_MGR *m) {                                                                         \
+        return completed_job(m);                                                                                                           \
+    }                                                                                                                                      \
+    IMB_DLL_EXPORT IMB_JOB *flush_job_##arch(IMB_MGR *m) {                                                                                 \
+        return flushed_job(m);                                                                                                             \
+    }                                                                                                                                      \
+    IMB_DLL_EXPORT uint32_t queue_size_##arch(IMB_MGR *m) {                                                                                \
+        return jobs_out(m);                                                                                                                \
     }
 
-#define KEY_SIZE(arch, bits)                                                                                                                 \
-    IMB_DLL_EXPORT void aes_keyexp_##bits##_##arch(const void *key, void *encryption, void *decryption) {                                    \
-        expand_##bits(key, encryption, decryption);                                                                                          \
-    }                                                                                                                                        \
-    IMB_DLL_EXPORT void aes_keyexp_##bits##_enc_##arch(const void *key, void *encryption) {                                                  \
-        expand_for_encryption_##bits(key, encryption);                                                                                       \
+#define KEY_SIZE(arch, bits)                                                                                                               \
+    IMB_DLL_EXPORT void aes_keyexp_##bits##_##arch(const void *key, void *encryption, void *decryption) {                                  \
+        expand_##bits(key, encryption, decryption);                                                                                        \
+    }                                                                                                                                      \
+    IMB_DLL_EXPORT void aes_keyexp_##bits##_enc_##arch(const void *key, void *encryption) {                                                \
+        expand_for_encryption_##bits(key, encryption);                                                                                     \
     }
 
-#define KEYS(arch)                                                                                                                           \
-    KEY_SIZE(arch, 128)                                                                                                                      \
-    KEY_SIZE(arch, 192)                                                                                                                      \
-    KEY_SIZE(arch, 256)                                                                                                                      \
-    IMB_DLL_EXPORT void aes_cmac_subkey_gen_##arch(const void *schedule, void *first, void *second) {                                        \
-        cmac_subkeys_128(schedule, first, second);                                                                                           \
+#define KEYS(arch)                                                                                                                         \
+    KEY_SIZE(arch, 128)                                                                                                                    \
+    KEY_SIZE(arch, 192)                                                                                                                    \
+    KEY_SIZE(arch, 256)                                                                                                                    \
+    IMB_DLL_EXPORT void aes_cmac_subkey_gen_##arch(const void *schedule, void *first, void *second) {                                      \
+        cmac_subkeys_128(schedule, first, second);                                                                                         \
     }
 
-#define HASH(arch, name)                                                                                                                     \
-    IMB_DLL_EXPORT void name##_##arch(const void *text, const uint64_t len, void *digest) {                                                  \
-        name##_digest(text, len, digest);                                                                                                    \
-    }                                                                                                                                        \
-    IMB_DLL_EXPORT void name##_one_block_##arch(const void *block, void *state) {                                                            \
-        name##_state(block, state);                                                                                                          \
+#define HASH(arch, name)                                                                                                                   \
+    IMB_DLL_EXPORT void name##_##arch(const void *text, const uint64_t len, void *digest) {                                                \
+        name##_digest(text, len, digest);                                                                                                  \
+    }                                                                                                                                      \
+    IMB_DLL_EXPORT void name##_one_block_##arch(const void *block, void *state) {                                                          \
+        name##_state(block, state);                                                                                                        \
     }
 
-#define HASHES(arch)                                                                                                                         \
-    HASH(arch, sha1)                                                                                                                         \
-    HASH(arch, sha224)                                                                                                                       \
-    HASH(arch, sha256)                                                                                                                       \
-    HASH(arch, sha384)                                                                                                                       \
+#define HASHES(arch)                                                                                                                       \
+    HASH(arch, sha1)                                                                                                                       \
+    HASH(arch, sha224)                                                                                                                     \
+    HASH(arch, sha256)                                                                                                                     \
+    HASH(arch, sha384)                                                                                                                     \
     HASH(arch, sha512)
 
-#define ALL(arch)                                                                                                                            \
-    JOBS(arch)                                                                                                                               \
-    KEYS(arch)                                                                                                                               \
+#define ALL(arch)                                                                                                                          \
+    JOBS(arch)                                                                                                                             \
+    KEYS(arch)                                                                                                                             \
     HASHES(arch)
 
 ALL(sse)
 ALL(avx)
 ALL(avx2)
 ALL(avx512)
-
-#define GCM_KEY(arch, bits)                                                                                                                  \
-    IMB_DLL_EXPORT void aes_gcm_pre_##bits##_##arch(const void *key, struct gcm_key_data *data) {                                            \
-        gcm_key_##bits(key, data);                                                                                                           \
-    }                                                                                                                                        \
-    IMB_DLL_EXPORT void aes_gcm_precomp_##bits##_##arch(struct gcm_key_data *data) {                                                         \
-        gcm_precompute_##bits(data);                                                                                                         \
-    }
-
-#define GCM(arch)                                                                                                                            \
-    GCM_KEY(arch, 128)                                                                                                                       \
-    GCM_KEY(arch, 192)                                                                                                                       \
-    GCM_KEY(arch, 256)
-
-GCM(sse)
-GCM(avx_gen2)
-GCM(avx_gen4)

@@ -59,7 +59,9 @@ static uint64_t blocks_of(uint64_t len) {
 }
 
 bool counter_wraps(const IMB_JOB *job) {
-    return cipher_of(job)->kind == CIPHER_CTR && job->iv_len_in_bytes == BLOCK && blocks_of(cipher_bytes(job)) > blocks_to_wrap(job, job->iv);
+    if (cipher_of(job)->kind != CIPHER_CTR || job->iv_len_in_bytes != BLOCK)
+        return false;
+    return blocks_of(cipher_bytes(job)) > blocks_to_wrap(job, job->iv);
 }
 
 /* ---- pieces ---- */

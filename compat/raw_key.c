@@ -1,7 +1,8 @@
-/* The schedule of decryption has the round keys from the last one down to the first, and those between went through INVMIXCOLUMNS (FIPS 197,
- * 5.3.5). The key is the first round key, and with 24 or 32 bytes half or all of the second one: so INVMIXCOLUMNS has to be undone for that.
- * It is its own inverse when it is applied four times, and no part of AES stands in C: so the second half of a key of 32 bytes is put
- * through the export that expands keys, three times. The keys that were found are kept in the manager's memory. */
+/* The schedule of decryption has the round keys from the last one down to the first, and those between went through INVMIXCOLUMNS (FIPS
+ * 197, 5.3.5). The key is the first round key, and with 24 or 32 bytes half or all of the second one: so INVMIXCOLUMNS has to be undone for
+ * that. Applied four times it gives what it was given, since the fourth power of its polynomial is 1 modulo x^4 + 1; and no part of AES
+ * stands in C. So the round key is put three times more through the export that expands keys, as the second half of a key of 32 bytes. The
+ * keys that were found are kept in the manager's memory. */
 #include "raw_key.h"
 
 #include <string.h>

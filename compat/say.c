@@ -105,18 +105,17 @@ static bool say_both(struct dropin *d, struct mbj_raw_job *raw, const IMB_JOB *j
     return true;
 }
 
-/* What is hashed is what lies in the range when the cipher has written, or before it has: so the bytes that are ciphered stand in the packet
- * where the destination is, or where the source is. */
+/* What is hashed is what lies in the range when the cipher has written, or before it has: so the bytes that are ciphered stand in the
+ * packet where the destination is, or where the source is. */
 bool say_ranges(struct dropin *d, struct said *said, const IMB_JOB *job) {
     struct mbj_raw_job *raw = &said->raw;
     raw->cipher_len = cipher_bytes(job);
     raw->hash_len = hash_bytes(job);
     if (raw->cipher_len > PACKET_BYTES || raw->hash_len > PACKET_BYTES)
         return false;
-    if (raw->cipher == MBJ_CIPHER_NULL || raw->auth == MBJ_AUTH_NULL) {
-        raw->packet = raw->cipher == MBJ_CIPHER_NULL ? bytes_at(hash_start(job), raw->hash_len) : bytes_at(cipher_start(job), raw->cipher_len);
+    raw->packet = raw->cipher == MBJ_CIPHER_NULL ? bytes_at(hash_start(job), raw->hash_len) : bytes_at(cipher_start(job), raw->cipher_len);
+    if (raw->cipher == MBJ_CIPHER_NULL || raw->auth == MBJ_AUTH_NULL)
         return true;
-    }
     const uint8_t *ciphered = is_hash_first(job) ? cipher_start(job) : job->dst;
     if (overlap(ciphered, raw->cipher_len, hash_start(job), raw->hash_len))
         return say_span(d, raw, job, ciphered);

@@ -1,5 +1,5 @@
-/* direct OTHER DROPIN [ROUNDS [SEED]]: makes the same direct calls of two libraries, and compares what they write and which errors they set.
- * Then each call is made with each of its pointers NULL. */
+/* direct OTHER DROPIN [ROUNDS [SEED]]: makes the same direct calls of two libraries, and compares what they write and which errors they
+ * set. Then each call is made with each of its pointers NULL. */
 #include "library.h"
 
 #include <stddef.h>
@@ -48,7 +48,8 @@ static void compare_hashes(void) {
     draw_bytes(text, sizeof text);
     for (int i = 0; i < 2; i++) {
         const IMB_MGR *m = libraries[i].m;
-        hash_one_block_t const block[] = {m->sha1_one_block, m->sha224_one_block, m->sha256_one_block, m->sha384_one_block, m->sha512_one_block};
+        hash_one_block_t const block[] = {m->sha1_one_block, m->sha224_one_block, m->sha256_one_block, m->sha384_one_block,
+                                          m->sha512_one_block};
         hash_fn_t const digest[] = {m->sha1, m->sha224, m->sha256, m->sha384, m->sha512};
         for (int k = 0; k < 5; k++) {
             block[k](text, out[i][2 * k]);
@@ -72,11 +73,11 @@ struct gcm_calls {
     aes_gmac_finalize_t gmac_finalize;
 };
 
-#define CALLS(bits)                                                                                                                          \
-    {                                                                                                                                        \
-        m->gcm##bits##_pre, {m->gcm##bits##_enc, m->gcm##bits##_dec}, m->gcm##bits##_init, m->gcm##bits##_init_var_iv,                       \
-            {m->gcm##bits##_enc_update, m->gcm##bits##_dec_update}, {m->gcm##bits##_enc_finalize, m->gcm##bits##_dec_finalize},              \
-            m->gmac##bits##_init, m->gmac##bits##_update, m->gmac##bits##_finalize                                                           \
+#define CALLS(bits)                                                                                                                        \
+    {                                                                                                                                      \
+        m->gcm##bits##_pre, {m->gcm##bits##_enc, m->gcm##bits##_dec}, m->gcm##bits##_init, m->gcm##bits##_init_var_iv,                     \
+            {m->gcm##bits##_enc_update, m->gcm##bits##_dec_update}, {m->gcm##bits##_enc_finalize, m->gcm##bits##_dec_finalize},            \
+            m->gmac##bits##_init, m->gmac##bits##_update, m->gmac##bits##_finalize                                                         \
     }
 
 static struct gcm_calls calls_of(const IMB_MGR *m, unsigned size) {
@@ -179,18 +180,19 @@ static struct gcm_context_data gcm_context;
 
 #define NOT(place, at) (argument == (place) ? NULL : (at))
 
-/* Makes a call, without its argument of that number, by both libraries. */
-#define WITHOUT(call, arguments, ...)                                                                                                        \
-    for (int argument = 0; argument <= (arguments); argument++) {                                                                            \
-        int errors[2];                                                                                                                       \
-        for (int i = 0; i < 2; i++) {                                                                                                        \
-            IMB_MGR *m = libraries[i].m;                                                                                                     \
-            m->gcm128_pre(bytes[3], &gcm_key);                                                                                               \
-            m->gcm128_init(&gcm_key, &gcm_context, bytes[0], bytes[1], 16);                                                                  \
-            m->call(__VA_ARGS__);                                                                                                            \
-            errors[i] = libraries[i].error(NULL);                                                                                            \
-        }                                                                                                                                    \
-        compare_errors(#call, argument, errors);                                                                                             \
+/* Makes a call, without its argument of that number, by both libraries: first right, and then wrong. */
+#define WITHOUT(call, arguments, ...) EACH(call, 0, arguments, __VA_ARGS__)
+#define EACH(call, first, arguments, ...)                                                                                                  \
+    for (int argument = (first); argument <= (arguments); argument++) {                                                                    \
+        int errors[2];                                                                                                                     \
+        for (int i = 0; i < 2; i++) {                                                                                                      \
+            IMB_MGR *m = libraries[i].m;                                                                                                   \
+            m->gcm128_pre(bytes[3], &gcm_key);                                                                                             \
+            m->gcm128_init(&gcm_key, &gcm_context, bytes[0], bytes[1], 16);                                                                \
+            m->call(__VA_ARGS__);                                                                                                          \
+            errors[i] = libraries[i].error(NULL);                                                                                          \
+        }                                                                                                                                  \
+        compare_errors(#call, argument, errors);                                                                                           \
     }
 
 static void compare_wrong_calls(void) {
@@ -204,16 +206,16 @@ static void compare_wrong_calls(void) {
     WITHOUT(sha384, 2, NOT(1, bytes[0]), 0, NOT(2, bytes[1]))
     WITHOUT(gcm128_pre, 2, NOT(1, bytes[0]), NOT(2, &gcm_key))
     WITHOUT(gcm128_precomp, 1, NOT(1, &gcm_key))
-    WITHOUT(gcm128_enc, 7, NOT(1, &gcm_key), NOT(2, &gcm_context), NOT(3, bytes[0]), NOT(4, bytes[0]), 16, NOT(5, bytes[1]), NOT(6, bytes[2]),
-            16, NOT(7, bytes[3]), 16)
-    WITHOUT(gcm128_dec, 7, NOT(1, &gcm_key), NOT(2, &gcm_context), NOT(3, bytes[0]), NOT(4, bytes[0]), 16, NOT(5, bytes[1]), NOT(6, bytes[2]),
-            16, NOT(7, bytes[3]), (uint64_t)(argument == 0 ? 17 : 16))
+    WITHOUT(gcm128_enc, 7, NOT(1, &gcm_key), NOT(2, &gcm_context), NOT(3, bytes[0]), NOT(4, bytes[0]), 16, NOT(5, bytes[1]),
+            NOT(6, bytes[2]), 16, NOT(7, bytes[3]), 16)
+    WITHOUT(gcm128_dec, 7, NOT(1, &gcm_key), NOT(2, &gcm_context), NOT(3, bytes[0]), NOT(4, bytes[0]), 16, NOT(5, bytes[1]),
+            NOT(6, bytes[2]), 16, NOT(7, bytes[3]), (uint64_t)(argument == 0 ? 17 : 16))
     WITHOUT(gcm128_init, 4, NOT(1, &gcm_key), NOT(2, &gcm_context), NOT(3, bytes[0]), NOT(4, bytes[1]), 16)
     WITHOUT(gcm128_init_var_iv, 4, NOT(1, &gcm_key), NOT(2, &gcm_context), NOT(3, bytes[0]), (uint64_t)(argument == 0 ? 0 : 16),
             NOT(4, bytes[1]), 16)
     WITHOUT(gcm128_enc_update, 4, NOT(1, &gcm_key), NOT(2, &gcm_context), NOT(3, bytes[0]), NOT(4, bytes[0]), 16)
     WITHOUT(gcm128_dec_finalize, 3, NOT(1, &gcm_key), NOT(2, &gcm_context), NOT(3, bytes[0]), (uint64_t)(argument == 0 ? 0 : 16))
-    WITHOUT(gmac128_init, 3, NOT(1, &gcm_key), NOT(2, &gcm_context), NOT(3, bytes[0]), 12)
+    EACH(gmac128_init, 1, 3, NOT(1, &gcm_key), NOT(2, &gcm_context), NOT(3, bytes[0]), 12)
 }
 
 /* No pointer of the table is NULL, and what isn't here says so. */

@@ -155,17 +155,17 @@ static void compare(const struct algorithms *a, int dir, const char *field, uint
 }
 
 /* Right jobs of both libraries with each of these values in a field. */
-#define CHANGE(field, ...)                                                                                                                   \
-    do {                                                                                                                                     \
-        static const uint64_t values[] = {__VA_ARGS__};                                                                                      \
-        for (size_t k = 0; k < sizeof values / sizeof *values; k++) {                                                                        \
-            IMB_JOB jobs[2];                                                                                                                 \
-            for (int i = 0; i < 2; i++) {                                                                                                    \
-                jobs[i] = right_job(keys[i], a, dir);                                                                                        \
-                jobs[i].field = (__typeof__(jobs[i].field))values[k];                                                                        \
-            }                                                                                                                                \
-            compare(a, dir, #field, values[k], jobs);                                                                                        \
-        }                                                                                                                                    \
+#define CHANGE(field, ...)                                                                                                                 \
+    do {                                                                                                                                   \
+        static const uint64_t values[] = {__VA_ARGS__};                                                                                    \
+        for (size_t k = 0; k < sizeof values / sizeof *values; k++) {                                                                      \
+            IMB_JOB jobs[2];                                                                                                               \
+            for (int i = 0; i < 2; i++) {                                                                                                  \
+                jobs[i] = right_job(keys[i], a, dir);                                                                                      \
+                jobs[i].field = (__typeof__(jobs[i].field))values[k];                                                                      \
+            }                                                                                                                              \
+            compare(a, dir, #field, values[k], jobs);                                                                                      \
+        }                                                                                                                                  \
     } while (0)
 
 static void change_lengths(const struct algorithms *a, int dir) {

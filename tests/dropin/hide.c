@@ -1,6 +1,6 @@
 /* Preloaded beside DPDK's test program: tells it that the device hasn't the algorithms that the library hasn't, so that it skips their
- * cases. Without that some of them use an operation that is NULL, and the program ends. What the driver itself tells was settled when it was
- * compiled for all of intel-ipsec-mb. */
+ * cases. Without that some of them use an operation that is NULL, and the program ends. What the driver itself tells was settled when it
+ * was compiled for all of intel-ipsec-mb. */
 #define _GNU_SOURCE
 #include <dlfcn.h>
 #include <rte_cryptodev.h>

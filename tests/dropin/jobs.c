@@ -95,8 +95,9 @@ static void draw_round(int n, bool by_bursts) {
 }
 
 static bool keys_differ(const struct keys *a, const struct keys *b) {
-    return memcmp(a->encryption, b->encryption, sizeof a->encryption) != 0 || memcmp(a->decryption, b->decryption, sizeof a->decryption) != 0 ||
-           memcmp(a->states, b->states, sizeof a->states) != 0 || memcmp(a->subkeys, b->subkeys, sizeof a->subkeys) != 0;
+    return memcmp(a->encryption, b->encryption, sizeof a->encryption) != 0 ||
+           memcmp(a->decryption, b->decryption, sizeof a->decryption) != 0 || memcmp(a->states, b->states, sizeof a->states) != 0 ||
+           memcmp(a->subkeys, b->subkeys, sizeof a->subkeys) != 0;
 }
 
 static const char *difference(int i, int n, bool by_bursts) {
@@ -151,7 +152,7 @@ int main(int argc, char **argv) {
         if (differing != 0)
             printf("seed %lu\n", seed + round);
     }
-    printf("%u jobs, %u differ; faulty %u, longer than a packet %u, out of place %u, near the counter's end %u, tag among the ciphered bytes %u\n",
+    printf("%u jobs, %u differ; faulty %u, longer than a packet %u, out of place %u, near the counter's end %u, ciphered tags %u\n",
            drawn.jobs, differing, drawn.faulty, drawn.long_ones, drawn.elsewhere, drawn.wrapping, drawn.ciphered_tags);
     for (int side = 0; side < 2; side++)
         sides[side]->library.release(sides[side]->library.m);

@@ -208,7 +208,8 @@ static void expand(IMB_MGR *m, const uint8_t *key, size_t len, void *encryption,
 }
 
 static void fill_hmac(IMB_MGR *m, IMB_JOB *job, struct keys *keys, const struct sample *sample) {
-    hash_one_block_t const state_of[] = {m->sha1_one_block, m->sha224_one_block, m->sha256_one_block, m->sha384_one_block, m->sha512_one_block};
+    hash_one_block_t const state_of[] = {m->sha1_one_block, m->sha224_one_block, m->sha256_one_block, m->sha384_one_block,
+                                         m->sha512_one_block};
     static const uint8_t pads[2] = {0x36, 0x5c}; /* RFC 2104, 2 */
     uint8_t padded[128];
     for (int side = 0; side < 2; side++) {
@@ -284,7 +285,7 @@ void fill_job(IMB_MGR *m, IMB_JOB *job, struct keys *keys, const struct sample *
 }
 
 void print_sample(const struct sample *s) {
-    printf("cipher %d dir %d hash %d order %d key %zu src %zu+%zu len %lu dst %zu hash %ld len %lu tag %zu len %zu iv %zu aad %zu memory %zu\n",
-           s->cipher, s->dir, s->hash, s->order, s->key_len, s->src, s->cipher_off, s->cipher_len, s->dst, (long)s->hash_off, s->hash_len, s->tag,
-           s->tag_len, s->iv_len, s->aad_len, s->memory);
+    printf("cipher %d dir %d order %d key %zu iv %zu aad %zu src %zu+%zu len %lu dst %zu; ", s->cipher, s->dir, s->order, s->key_len,
+           s->iv_len, s->aad_len, s->src, s->cipher_off, s->cipher_len, s->dst);
+    printf("hash %d at %ld len %lu tag %zu len %zu; memory %zu\n", s->hash, (long)s->hash_off, s->hash_len, s->tag, s->tag_len, s->memory);
 }
