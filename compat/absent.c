@@ -12,20 +12,27 @@ static uint64_t absent(void) {
     return 0;
 }
 
+/* Of those that tell whether they did it. */
+static int absent_schedule(void) {
+    direct_error(ENOTSUP);
+    return -1;
+}
+
+#define SET_SCHEDULE(name) m->name = (__typeof__(m->name))(void (*)(void))absent_schedule
+
 /* The table's functions stand from get_next_job to earliest_job, by the header. */
 void set_absent_functions(IMB_MGR *m) {
     typedef uint64_t (*function)(void);
     function *functions = (function *)(void *)((char *)m + offsetof(IMB_MGR, get_next_job));
     for (size_t i = 0; i < (offsetof(IMB_MGR, earliest_job) - offsetof(IMB_MGR, get_next_job)) / sizeof *functions; i++)
         functions[i] = absent;
+    SET_SCHEDULE(des_key_sched);
+    SET_SCHEDULE(kasumi_init_f8_key_sched);
+    SET_SCHEDULE(kasumi_init_f9_key_sched);
+    SET_SCHEDULE(snow3g_init_key_sched);
 }
 
 /* ---- by name ---- */
-
-static int absent_schedule(void) {
-    direct_error(ENOTSUP);
-    return -1;
-}
 
 IMB_DLL_EXPORT int des_key_schedule(uint64_t *schedule, const void *key) {
     (void)schedule, (void)key;

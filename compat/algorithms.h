@@ -41,6 +41,9 @@ uint64_t hash_bytes(const IMB_JOB *job);
 unsigned cipher_open_bits(const IMB_JOB *job);
 unsigned hash_open_bits(const IMB_JOB *job);
 
+/* A text of GCM has fewer than 2^39 - 256 bits (SP 800-38D, 5.2.1.1). intel-ipsec-mb 1.3 takes fewer bytes than that, by its replies. */
+#define MOST_GCM_BYTES ((UINT64_C(1) << 39) - 256 - 1)
+
 /* Where the ranges begin. That of the hash counts modulo 2^64, so that it reaches another buffer than the source, too. */
 const uint8_t *cipher_start(const IMB_JOB *job);
 const uint8_t *hash_start(const IMB_JOB *job);

@@ -1,10 +1,9 @@
 #include "check.h"
 #include "algorithms.h"
 
-/* The limits that intel-ipsec-mb 1.3 has, by its header and its replies: texts in lanes have fewer than 2^16 - 1 bytes, and one of GCM has
- * fewer than 2^39 - 256 bits (SP 800-38D, 5.2.1.1), which it counts as bytes. The additional data of CCM has at most 46 bytes there. */
+/* The limits that intel-ipsec-mb 1.3 has, by its replies: texts in lanes have fewer than 2^16 - 1 bytes, and the additional data of CCM has
+ * at most 46 bytes. */
 #define MOST_LANE_BYTES UINT64_C(65534)
-#define MOST_GCM_BYTES ((UINT64_C(1) << 39) - 256 - 1)
 #define MOST_CCM_AAD_BYTES 46
 
 /* ---- ciphers ---- */

@@ -1,4 +1,5 @@
 /* The direct calls of GCM in the manager's table. */
+#include "algorithms.h"
 #include "errors.h"
 #include "gcm.h"
 
@@ -6,19 +7,21 @@
 
 /* ---- what each call does, for a key of so many bytes ---- */
 
-static int null_of_text(const void *out, const void *in, uint64_t len) {
+static int error_of_text(const void *out, const void *in, uint64_t len) {
     if (len != 0 && out == NULL)
         return IMB_ERR_NULL_DST;
-    return len != 0 && in == NULL ? IMB_ERR_NULL_SRC : 0;
+    if (len != 0 && in == NULL)
+        return IMB_ERR_NULL_SRC;
+    return len > MOST_GCM_BYTES ? IMB_ERR_CIPH_LEN : 0;
 }
 
-static int null_of_context(const struct gcm_key_data *key, const struct gcm_context_data *context) {
+static int error_of_context(const struct gcm_key_data *key, const struct gcm_context_data *context) {
     if (key == NULL)
         return IMB_ERR_NULL_EXP_KEY;
     return context == NULL ? IMB_ERR_NULL_CTX : 0;
 }
 
-static int null_of_begin(const uint8_t *iv, uint64_t iv_len, const uint8_t *aad, uint64_t aad_len) {
+static int error_of_begin(const uint8_t *iv, uint64_t iv_len, const uint8_t *aad, uint64_t aad_len) {
     if (iv == NULL)
         return IMB_ERR_NULL_IV;
     if (iv_len == 0)
@@ -26,7 +29,7 @@ static int null_of_begin(const uint8_t *iv, uint64_t iv_len, const uint8_t *aad,
     return aad == NULL && aad_len != 0 ? IMB_ERR_NULL_AAD : 0;
 }
 
-static int null_of_tag(const uint8_t *tag, uint64_t tag_len) {
+static int error_of_tag(const uint8_t *tag, uint64_t tag_len) {
     if (tag == NULL)
         return IMB_ERR_NULL_AUTH;
     return tag_len == 0 || tag_len > IMB_MAX_TAG_LEN ? IMB_ERR_AUTH_TAG_LEN : 0;
@@ -47,8 +50,8 @@ static void put_key(const void *key, size_t len, struct gcm_key_data *data) {
 static void whole(uint32_t dir, size_t key_len, const struct gcm_key_data *key, struct gcm_context_data *context, uint8_t *out,
                   const uint8_t *in, uint64_t len, const uint8_t *iv, const uint8_t *aad, uint64_t aad_len, uint8_t *tag,
                   uint64_t tag_len) {
-    int error = first_error(null_of_context(key, context), null_of_text(out, in, len), null_of_begin(iv, IMB_GCM_IV_DATA_LEN, aad, aad_len),
-                            null_of_tag(tag, tag_len));
+    int error = first_error(error_of_context(key, context), error_of_text(out, in, len),
+                            error_of_begin(iv, IMB_GCM_IV_DATA_LEN, aad, aad_len), error_of_tag(tag, tag_len));
     if (!direct_error(error))
         return;
     struct mbj_bytes key_bytes = bytes_at(key->expanded_keys, key_len), iv_bytes = bytes_at(iv, IMB_GCM_IV_DATA_LEN);
@@ -58,18 +61,18 @@ static void whole(uint32_t dir, size_t key_len, const struct gcm_key_data *key, 
 
 static void begin(size_t key_len, const struct gcm_key_data *key, struct gcm_context_data *context, const uint8_t *iv, uint64_t iv_len,
                   const uint8_t *aad, uint64_t aad_len) {
-    if (direct_error(first_error(null_of_context(key, context), null_of_begin(iv, iv_len, aad, aad_len), 0, 0)))
+    if (direct_error(first_error(error_of_context(key, context), error_of_begin(iv, iv_len, aad, aad_len), 0, 0)))
         direct_error(error_of_refusal(gcm_begin(context, key, key_len, bytes_at(iv, iv_len), bytes_at(aad, aad_len))));
 }
 
 static void part(uint32_t dir, size_t key_len, const struct gcm_key_data *key, struct gcm_context_data *context, uint8_t *out,
                  const uint8_t *in, uint64_t len) {
-    if (direct_error(first_error(null_of_context(key, context), null_of_text(out, in, len), 0, 0)))
+    if (direct_error(first_error(error_of_context(key, context), error_of_text(out, in, len), 0, 0)))
         direct_error(error_of_refusal(gcm_part(context, key, key_len, dir, out, in, len)));
 }
 
 static void finish(size_t key_len, const struct gcm_key_data *key, struct gcm_context_data *context, uint8_t *tag, uint64_t tag_len) {
-    if (direct_error(first_error(null_of_context(key, context), null_of_tag(tag, tag_len), 0, 0)))
+    if (direct_error(first_error(error_of_context(key, context), error_of_tag(tag, tag_len), 0, 0)))
         direct_error(error_of_refusal(gcm_end(context, key, key_len, tag, tag_len)));
 }
 
