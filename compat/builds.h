@@ -38,6 +38,10 @@ extern struct build proved;
 /* Whether the processor runs a build. */
 bool has_build(void);
 
+/* A local of a function that calls the proved code. Its vectors of 32 bytes lie on the stack from where the caller's frame ends: so that
+ * they don't cross cache lines the frame is aligned, which is some 10 % of the time of CBC and CTR by AVX2. */
+#define COMPAT_ALIGNED_FRAME _Alignas(64)
+
 /* Bytes that are read or written, as the exports want them: not at NULL, also where there are none. */
 struct mbj_bytes bytes_at(const void *at, size_t len);
 struct mbj_room room_at(void *at, size_t len);

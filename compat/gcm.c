@@ -21,7 +21,7 @@ static uint32_t change_apart(const struct gcm_text *text, uint8_t *tag) {
 
 /* The additional data may lie where the text goes: it is read before. */
 static uint32_t change_in_parts(const struct gcm_text *text, uint8_t *tag) {
-    struct mbj_gcm_state state;
+    COMPAT_ALIGNED_FRAME struct mbj_gcm_state state;
     uint32_t refusal = proved.mbj_gcm_init(&state, text->dir, text->key, text->iv, text->aad);
     if (refusal != MBJ_ERR_NONE)
         return refusal;
@@ -42,7 +42,7 @@ static uint32_t refusal_of(const struct gcm_text *text) {
 }
 
 uint32_t gcm_whole(const struct gcm_text *text) {
-    uint8_t tag[IMB_MAX_TAG_LEN];
+    COMPAT_ALIGNED_FRAME uint8_t tag[IMB_MAX_TAG_LEN];
     uint32_t refusal = has_build() ? refusal_of(text) : (uint32_t)MBJ_ERR_PROCESSOR;
     if (refusal == MBJ_ERR_NONE)
         refusal = is_apart(text) ? change_apart(text, tag) : change_in_parts(text, tag);
@@ -91,7 +91,7 @@ static void store(struct gcm_context_data *context, struct parts *parts) {
 
 uint32_t gcm_begin(struct gcm_context_data *context, const struct gcm_key_data *key, size_t key_len, struct mbj_bytes iv,
                    struct mbj_bytes aad) {
-    struct mbj_gcm_state state;
+    COMPAT_ALIGNED_FRAME struct mbj_gcm_state state;
     struct parts parts;
     uint32_t refusal = proved.mbj_gcm_init(&state, MBJ_DIR_ENCRYPT, bytes_at(key->expanded_keys, key_len), iv, aad);
     if (refusal != MBJ_ERR_NONE) {
@@ -108,7 +108,7 @@ uint32_t gcm_begin(struct gcm_context_data *context, const struct gcm_key_data *
  * without one. */
 uint32_t gcm_part(struct gcm_context_data *context, const struct gcm_key_data *key, size_t key_len, uint32_t dir, uint8_t *out,
                   const uint8_t *in, uint64_t len) {
-    struct mbj_gcm_state state;
+    COMPAT_ALIGNED_FRAME struct mbj_gcm_state state;
     struct parts parts;
     load(&parts, context, key, key_len);
     if (parts.key_len != key_len)
@@ -125,7 +125,7 @@ uint32_t gcm_part(struct gcm_context_data *context, const struct gcm_key_data *k
 }
 
 uint32_t gcm_end(struct gcm_context_data *context, const struct gcm_key_data *key, size_t key_len, uint8_t *tag, size_t tag_len) {
-    struct mbj_gcm_state state;
+    COMPAT_ALIGNED_FRAME struct mbj_gcm_state state;
     struct parts parts;
     uint8_t whole[IMB_MAX_TAG_LEN];
     load(&parts, context, key, key_len);

@@ -7,7 +7,7 @@
 enum { BLOCK = 16, MOST_PIECE = PACKET_BYTES / BLOCK * BLOCK };
 
 IMB_STATUS do_alone(IMB_MGR *m, struct dropin *d, const struct said *said, uint8_t *dst, uint8_t *tag) {
-    uint8_t whole_tag[MBJ_MAX_TAG_BYTES];
+    COMPAT_ALIGNED_FRAME uint8_t whole_tag[MBJ_MAX_TAG_BYTES];
     struct mbj_raw_done done;
     memset(&done, 0, sizeof done);
     done.dst = room_at(dst, said->raw.cipher == MBJ_CIPHER_NULL ? 0 : said->raw.cipher_len);

@@ -63,7 +63,7 @@ static void take(struct queue *queue, const struct mbj_raw_done *done) {
 
 static void take_completed(struct dropin *d, struct queue *queue) {
     struct mbj_raw_done done;
-    uint8_t tag[MBJ_MAX_TAG_BYTES];
+    COMPAT_ALIGNED_FRAME uint8_t tag[MBJ_MAX_TAG_BYTES];
     uint32_t refusal;
     make_room(&done, tag, queue);
     if (proved.mbj_c_get_completed(&d->handle, &done, &refusal))
@@ -73,7 +73,7 @@ static void take_completed(struct dropin *d, struct queue *queue) {
 /* A flush gives a result wherever a job waits. If it didn't, the job would come back as one that failed: none is lost. */
 static void take_flushed(struct dropin *d, struct queue *queue) {
     struct mbj_raw_done done;
-    uint8_t tag[MBJ_MAX_TAG_BYTES];
+    COMPAT_ALIGNED_FRAME uint8_t tag[MBJ_MAX_TAG_BYTES];
     uint32_t refusal;
     make_room(&done, tag, queue);
     if (proved.mbj_c_flush(&d->handle, &done, &refusal)) {
@@ -136,7 +136,7 @@ static bool say(struct dropin *d, struct said *said, const IMB_JOB *job) {
 static void hand_over(IMB_MGR *m, struct dropin *d, struct queue *queue, const IMB_JOB *job, const struct said *said) {
     struct slot *slot = slot_at(queue, queue->next);
     struct mbj_raw_done done;
-    uint8_t tag[MBJ_MAX_TAG_BYTES];
+    COMPAT_ALIGNED_FRAME uint8_t tag[MBJ_MAX_TAG_BYTES];
     (void)mbj_pool_name(d->pool);
     uint32_t refusal = proved.mbj_c_fill(&d->handle, &said->raw);
     if (refusal != MBJ_ERR_NONE) {

@@ -18,7 +18,7 @@ enum { LEAST_ORDER = 6, ORDERS = 48 };
 
 enum state { IS_FREE, IS_USED, IS_OVERFLOW };
 
-/* The front of each block, behind which the bytes are that were asked for. It has 16 bytes, so these are aligned to 16. */
+/* It stands at the front of each block, and once more before the bytes that were asked for. It has 16 bytes, so these are aligned to 16. */
 struct head {
     struct mbj_pool *pool;
     uint32_t order; /* the block has 2^order bytes, with its head */
@@ -80,8 +80,22 @@ static uint32_t order_for(size_t len) {
     return order;
 }
 
-/* A block of the order, halved from the least one that is free; NULL where none is. */
-static struct head *take(struct mbj_pool *pool, uint32_t order) {
+/* How far behind the block's front the bytes begin, beside its head. Blocks begin at multiples of a power of two, and bytes that all began
+ * there would share few sets of a cache: so blocks beside each other have theirs at different lines, as far as there is room. */
+static size_t shift_of(size_t off, uint32_t order, size_t len) {
+    size_t lines = (length_of(order) - sizeof(struct head) - len) / length_of(LEAST_ORDER);
+    return off / length_of(order) % (lines + 1) * length_of(LEAST_ORDER);
+}
+
+static struct head *put_head(struct head *front, size_t shift) {
+    struct head *head = (struct head *)(void *)((unsigned char *)front + shift);
+    *head = *front;
+    return head;
+}
+
+/* A block for so many bytes, halved from the least one that is free; NULL where none is. */
+static struct head *take(struct mbj_pool *pool, size_t len) {
+    uint32_t order = order_for(len);
     uint64_t large_enough = order < ORDERS ? pool->orders >> order << order : 0;
     if (large_enough == 0)
         return NULL;
@@ -99,7 +113,7 @@ static struct head *take(struct mbj_pool *pool, uint32_t order) {
     pool->counts.bytes += length_of(order);
     if (pool->counts.bytes > pool->counts.most_bytes)
         pool->counts.most_bytes = pool->counts.bytes;
-    return &block->head;
+    return put_head(&block->head, shift_of(off, order, len));
 }
 
 /* The other half of what the block was halved from, where that is free as a whole; else NULL. */
@@ -112,8 +126,8 @@ static struct free_block *free_buddy(const struct mbj_pool *pool, size_t off, ui
 }
 
 static void give(struct mbj_pool *pool, struct head *head) {
-    size_t off = (size_t)((unsigned char *)head - pool->first);
     uint32_t order = head->order;
+    size_t off = (size_t)((unsigned char *)head - pool->first) / length_of(order) * length_of(order);
     struct free_block *buddy;
     pool->counts.blocks--;
     pool->counts.bytes -= length_of(order);
@@ -153,7 +167,7 @@ static struct mbj_block block_behind(struct head *head) {
 }
 
 static struct mbj_block take_from(struct mbj_pool *pool, size_t len) {
-    struct head *head = pool == NULL ? NULL : take(pool, order_for(len));
+    struct head *head = pool == NULL ? NULL : take(pool, len);
     if (head == NULL && pool != NULL && pool->has_overflow)
         head = take_overflow(pool, len);
     return block_behind(head);
@@ -164,10 +178,16 @@ struct mbj_block rattle_alloc(size_t len, size_t align) {
     return take_from(named, len);
 }
 
+/* How many bytes there are behind the head of a block of its pool. */
+static size_t room_behind(const struct head *head) {
+    size_t off = (size_t)((const unsigned char *)(head + 1) - head->pool->first), len = length_of(head->order);
+    return len - off % len;
+}
+
 struct mbj_block rattle_realloc(void *old, size_t kept, size_t len, size_t align) {
     struct head *head = head_of(old);
     (void)align;
-    if (head->state == IS_USED && len <= length_of(head->order) - sizeof *head)
+    if (head->state == IS_USED && len <= room_behind(head))
         return block_behind(head);
     struct mbj_block block = take_from(head->pool, len);
     if (block.is_there) {
