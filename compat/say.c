@@ -13,6 +13,7 @@ void say_nothing(struct said *said) {
     raw->key = raw->iv = raw->auth_key = raw->aad = raw->packet = bytes_at(NULL, 0);
     raw->cipher_off = raw->cipher_len = raw->hash_off = raw->hash_len = 0;
     raw->tag_len = 0;
+    raw->session = MBJ_NO_SESSION;
 }
 
 static void say_codes(struct mbj_raw_job *raw, const IMB_JOB *job) {
