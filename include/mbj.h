@@ -308,8 +308,9 @@ uint32_t mbj_digest(uint32_t hash, struct mbj_bytes text, struct mbj_room out);
 uint32_t mbj_gcm_seal(struct mbj_bytes key, struct mbj_bytes iv, struct mbj_bytes aad, struct mbj_room text, struct mbj_room tag);
 uint32_t mbj_gcm_open(struct mbj_bytes key, struct mbj_bytes iv, struct mbj_bytes aad, struct mbj_room text, struct mbj_room tag);
 
-/* A text by GCM of which the parts so far were sealed or opened. It holds the key, and is as secret: in its first four words, 32 bytes, and
- * any bytes behind a shorter key. Only the next three calls write it; bytes that others wrote are refused, or give any text and any tag. */
+/* A text by GCM of which the parts so far were sealed or opened. It holds the key, and is as secret. Only the next three calls write it;
+ * bytes that others wrote are refused, or give any text and any tag. In front are 32 bytes for the key, its length and the direction, both
+ * uint32_t: who stores a state may leave the key out and put it back, and set another direction before the first part. */
 struct mbj_gcm_state {
     uint64_t words[15];
 };
