@@ -22,8 +22,11 @@ void *__libc_malloc(size_t len);
 void __libc_free(void *at);
 
 static size_t blocks;
+static bool is_heap_empty;
 
 void *malloc(size_t len) {
+    if (is_heap_empty)
+        return NULL;
     blocks++;
     return __libc_malloc(len);
 }
@@ -155,6 +158,23 @@ static void check_overflow(void) {
     unmap_zone(zone, 0);
 }
 
+/* Where the heap is empty too, a job comes back in its place as one that failed, and none is lost. */
+static void check_want_of_memory(void) {
+    uint8_t *zone = map_zone(0);
+    IMB_MGR *m = make(zone);
+    unsigned back = 0, failed = 0;
+    is_heap_empty = true;
+    unsigned done = submit(m, JOBS - 1, sizeof texts[0]);
+    for (IMB_JOB *job; (job = IMB_FLUSH_JOB(m)) != NULL; back++) {
+        failed += job->status == IMB_STATUS_INTERNAL_ERROR;
+        done += job->status == IMB_STATUS_COMPLETED;
+    }
+    is_heap_empty = false;
+    expect(back == JOBS - 1 && failed > 0 && done > 0 && done + failed == back, "jobs for which memory wants come back as failed");
+    expect(submit(m, 5, 64) + flush(m) == 5, "the manager goes on after that");
+    unmap_zone(zone, 0);
+}
+
 /* A manager that is set up again has no job, and the jobs that were out write nothing. */
 static void check_set_up_again(void) {
     uint8_t *zone = map_zone(0);
@@ -203,6 +223,7 @@ int main(void) {
     check_zone(0);
     check_zone(16);
     check_overflow();
+    check_want_of_memory();
     check_set_up_again();
     check_second_process();
     check_no_manager();
