@@ -111,14 +111,20 @@ static void *use_set(void *at) {
     return NULL;
 }
 
+/* ThreadSanitizer sees none of the library's atomics, by which threads find a key expanded and the last owner frees the set. So the keys are
+ * expanded here before the threads begin, and this thread's handle is the last one. */
 static void by_two_handles(void) {
     static const struct mbj_bytes keys[] = {{cbc_key, sizeof cbc_key}, {mac_key, 16}};
-    struct mbj_keys one = MBJ_KEYS_INIT, other = MBJ_KEYS_INIT;
+    struct mbj_keys set = MBJ_KEYS_INIT, one = MBJ_KEYS_INIT, other = MBJ_KEYS_INIT;
     pthread_t first, second;
-    CHECK(mbj_keys_new(&one, keys, 2) == MBJ_ERR_NONE && mbj_keys_share(&one, &other) == MBJ_ERR_NONE);
+    MBJ_MGR *m = mbj_alloc_mgr();
+    CHECK(mbj_keys_new(&set, keys, 2) == MBJ_ERR_NONE && mbj_use_keys(m, &set) == MBJ_ERR_NONE);
+    CHECK(mbj_keys_share(&set, &one) == MBJ_ERR_NONE && mbj_keys_share(&set, &other) == MBJ_ERR_NONE);
     CHECK(pthread_create(&first, NULL, use_set, &one) == 0 && pthread_create(&second, NULL, use_set, &other) == 0);
     end(first);
     end(second);
+    mbj_free_mgr(m);
+    CHECK(mbj_keys_free(&set));
 }
 
 int main(void) {
