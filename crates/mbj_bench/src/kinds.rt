@@ -13,7 +13,7 @@ use mbj_hmac::{
     HmacEntry, HmacKernel, LaneHash, MAX_BLOCK_BYTES, Sha1Lanes, Sha256Lanes, Sha512Lanes,
     hmac_plain,
 };
-use mbj_lane::Kernel;
+use mbj_lane::SlotKernel;
 use mbj_types::{Auth, BLOCK_BYTES};
 
 /// The key of HMACs.
@@ -26,7 +26,7 @@ const AES_KEY: &[u8; 32] = &[0x2b; 32];
 pub const IV: [u8; 16] = [0x0f; 16];
 
 /// A kernel whose entries are timed beside its plain function.
-pub trait Timed: Kernel {
+pub trait Timed: SlotKernel {
     /// An entry over the whole blocks of a packet, where it has any, with its key expanded or its pads made.
     fn entry(packet: Vec<u8>) -> Option<Self::Entry>
         ensures { IfSome result (λ e. 1 ≤ Self.rest_of e) };

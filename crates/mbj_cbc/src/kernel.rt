@@ -4,7 +4,7 @@ ghost use Rattle.mbj_types.specs.declared.kind.TheConstants.{AES_LANES};
 
 use crate::entry::CbcEntry;
 use mbj_aes_lanes::lead_all;
-use mbj_lane::Kernel;
+use mbj_lane::{Gathered, Kernel};
 use mbj_types::AES_LANES;
 
 /// CBC encryption in `AES_LANES` lanes, under keys of `N` rounds: 10, 12 or 14.
@@ -37,3 +37,5 @@ impl<const N: usize> Kernel for CbcKernel<N> {
 
     ghost falls = { λ e. refl };
 }
+
+impl<const N: usize> Gathered for CbcKernel<N> {}

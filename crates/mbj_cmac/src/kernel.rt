@@ -4,7 +4,7 @@ ghost use Rattle.mbj_types.specs.declared.kind.TheConstants.{AES_LANES};
 
 use crate::entry::CmacEntry;
 use mbj_aes_lanes::{encrypt_each, lead_all};
-use mbj_lane::Kernel;
+use mbj_lane::{Gathered, Kernel};
 use mbj_types::{AES_LANES, BLOCK_BYTES};
 
 /// CMACs in `AES_LANES` lanes, under keys of `N` rounds: 10, 12 or 14.
@@ -38,6 +38,8 @@ impl<const N: usize> Kernel for CmacKernel<N> {
 
     ghost falls = { λ e. refl };
 }
+
+impl<const N: usize> Gathered for CmacKernel<N> {}
 
 /// Whether an entry reaches its last block within `m` rounds, and that block has no subkey yet.
 fn is_any_open<const N: usize>(entries: &[CmacEntry<N>], m: u32) -> bool {

@@ -6,7 +6,7 @@ ghost use Rattle.mbj_hmac.specs.Inside.LaneEntry.{lane_entry, reach_of};
 use crate::entry::HmacEntry;
 use crate::lane_hash::LaneHash;
 use crate::view::LaneEntries;
-use mbj_lane::Kernel;
+use mbj_lane::{Gathered, Kernel};
 use std::marker::PhantomData;
 
 /// Digests and HMACs in the lanes of a hash.
@@ -41,6 +41,8 @@ impl<H: LaneHash> Kernel for HmacKernel<H> {
 
     ghost falls = { falls H.chaining };
 }
+
+impl<H: LaneHash> Gathered for HmacKernel<H> {}
 
 /// The hash values of all lanes.
 fn gathered<H: LaneHash>(entries: &[HmacEntry<H>]) -> H::States

@@ -1,7 +1,7 @@
 ghost use Rattle.std.specs.Prelude.{◌≡◌, ℕ, ◌-◌, ◌≤◌, [], All, map};
 
 use crate::compare::expect;
-use mbj_lane::{Kernel, Lanes};
+use mbj_lane::{Gathered, Kernel, Lanes};
 use std::process::Abort;
 use std::test::*;
 
@@ -45,13 +45,15 @@ impl Kernel for Waiting {
     ghost falls = { λ w. refl };
 }
 
+impl Gathered for Waiting {}
+
 fn name_of(taken: Option<Waiter>) -> Option<u8> {
     taken.map(|waiter| waiter.name)
 }
 
 /// The first entry leaves for its rest, and the others for theirs. The list is empty at first.
 fn check_order(rt: &impl Abort, lanes: &mut Lanes<Waiting>)
-    requires { lanes.old.entries.items ≡ [] }
+    requires { lanes.old ≡ [] }
 {
     lanes.enter(Waiter { name: 1, turns: 5 });
     lanes.enter(Waiter { name: 2, turns: 3 });

@@ -3,7 +3,7 @@ ghost use Rattle.std.specs.Prelude.{◌≡◌, ◌≤◌, IfOk};
 
 use crate::compare::expect;
 use mbj_aes::Schedule;
-use mbj_lane::{Kernel, Lanes};
+use mbj_lane::{Lanes, SlotKernel};
 use std::alloc::{AllocError, Global};
 use std::process::Abort;
 use std::test::Fail;
@@ -12,7 +12,7 @@ use std::test::Fail;
 const MOST_CASES: usize = 16;
 
 /// A kernel with cases, each of which tells what goes into a lane and what has to leave it.
-pub(crate) trait Tried<C>: Kernel {
+pub(crate) trait Tried<C>: SlotKernel {
     /// The case's entry. The bytes around the text in its packet are the case's number.
     fn entry(
         rt: &impl Abort,

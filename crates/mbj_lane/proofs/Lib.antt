@@ -1,4 +1,6 @@
+pub mod Gathering
 pub mod Halfway
 pub mod Least
 pub mod Led
+pub mod Listing
 pub mod Taken

@@ -1,8 +1,12 @@
 //! Lanes: pieces of work of one kind that wait for each other, and are then led on together, round by round.
 #![tactic(auto)]
 
+mod gathered;
 mod kernel;
 mod lanes;
+mod slot_kernel;
 
+pub use gathered::{Gathered, GatheredSlots};
 pub use kernel::Kernel;
 pub use lanes::Lanes;
+pub use slot_kernel::SlotKernel;

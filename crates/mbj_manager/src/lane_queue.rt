@@ -26,9 +26,9 @@ impl<K: Feed> Model for LaneQueue<K> {
 
     ghost Value = { PlacedQueue };
 
-    ghost view = { λ q. placed_queue (seated K.round K.rest_of K.brings q.places.items q.lanes.entries.items) q.rounds q.blocks };
+    ghost view = { λ q. placed_queue (seated K.round K.rest_of K.brings q.places.items q.lanes) q.rounds q.blocks };
 
-    ghost invariant = { λ q. (length q.places.items ≡ length q.lanes.entries.items) × (K.LANES ≤ vec_capacity q.places)
+    ghost invariant = { λ q. (length q.places.items ≡ length q.lanes) × (K.LANES ≤ vec_capacity q.places)
         × All (λ p. p < CELLS) q.places.items };
 }
 
@@ -70,8 +70,8 @@ impl<K: Feed> LaneQueue<K> {
 
     /// The entries.
     pub(crate) fn lanes(&self) -> &Lanes<K>
-        ensures rests { map K.rest_of result.now.entries.items ≡ map (pair_rest rounds_in) self.now.waiters }
-        ensures ends { map (λ e. K.brings (end_of K.round K.rest_of e)) result.now.entries.items ≡ map (λ w. w.1.brings) self.now.waiters }
+        ensures rests { map K.rest_of result.now ≡ map (pair_rest rounds_in) self.now.waiters }
+        ensures ends { map (λ e. K.brings (end_of K.round K.rest_of e)) result.now ≡ map (λ w. w.1.brings) self.now.waiters }
     {
         &self.lanes
     }

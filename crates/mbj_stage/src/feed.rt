@@ -21,10 +21,10 @@ use mbj_cbc::{CbcEntry, CbcKernel};
 use mbj_ccm::{CcmEntry, CcmKernel};
 use mbj_cmac::{CmacEntry, CmacKernel};
 use mbj_hmac::{HmacEntry, HmacKernel, LaneHash, Sha1Lanes, Sha256Lanes, Sha512Lanes};
-use mbj_lane::Kernel;
+use mbj_lane::SlotKernel;
 
 /// A kernel whose entries courses hand out: the lanes of a kind.
-pub trait Feed: Kernel {
+pub trait Feed: SlotKernel {
     /// The kind.
     ghost kind: { Kind };
 

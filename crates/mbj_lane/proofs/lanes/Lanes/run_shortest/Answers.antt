@@ -1,21 +1,43 @@
+use Rattle.std.proofs.Common.{◌∙◌, ap}
+use Rattle.mbj_lane.specs.Rounds.{after, least}
 use Rattle.mbj_lane.proofs.Least.{least-at}
 use Rattle.mbj_lane.proofs.Led.{map-rests, map-ends}
+use Rattle.mbj_lane.proofs.Listing.{some-busy, all-led, listed-led, least-listed}
 use Rattle.mbj_lane.proofs.lanes.Lanes.run_shortest.Goals as goal
 
-pub run-requires : goal.run-requires
-run-requires g c = rw c.shortest-m.ensures (least-at g.K.Kernel.rest_of c.args.self.now.entries.items)
+pub least-m-requires : goal.least-m-requires
+least-m-requires g c =
+    let l = c.self.inside in
+    some-busy g.K.Kernel.LANES (g.K.SlotKernel.slot l.slots) l.order.items c.self.invariant.0.busy (rw c.self.view_is c.requires.some)
+
+pub invariant_of-self : goal.invariant_of-self
+invariant_of-self g c =
+    let l = c.self.inside in (
+      all-led g.K.Kernel.LANES (g.K.SlotKernel.slot l.slots) (g.K.SlotKernel.slot c.run_all.new.slots) (after g.K.Kernel.round c.least-m.result)
+          c.run_all.ensures l.order.items l.idle.items c.self.invariant.0,
+      c.self.invariant.1,
+      c.self.invariant.2,
+    )
+
+pub returns-clause-least : goal.returns-clause-least
+returns-clause-least g c =
+    let l = c.self.inside in
+    least-listed g.K.Kernel.LANES g.K.Kernel.rest_of (g.K.SlotKernel.slot l.slots) c.least-m.result l.order.items l.idle.items c.self.invariant.0
+    (rw c.self.view_is c.requires.some) c.least-m.ensures
+    ∙ ap (least g.K.Kernel.rest_of) c.self.view_is
+
+pub returns-clause-led : goal.returns-clause-led
+returns-clause-led g c =
+    let l = c.self.inside in
+    rw (← c.self.view_is) (listed-led g.K.Kernel.LANES (g.K.SlotKernel.slot l.slots) (g.K.SlotKernel.slot c.run_all.new.slots) (after g.K.Kernel.round c.least-m.result)
+    c.run_all.ensures l.order.items c.self.invariant.0.busy)
 
 pub returns-clause-rests : goal.returns-clause-rests
-returns-clause-rests g c = rw c.run.ensures (map-rests g.K.Kernel.round g.K.Kernel.rest_of g.met.K.Kernel.falls c.shortest-m.result c.args.self.now.entries.items)
+returns-clause-rests g c =
+    rw (returns-clause-led g c) (map-rests g.K.Kernel.round g.K.Kernel.rest_of g.met.K.Kernel.falls c.least-m.result c.args.self.now)
 
 pub returns-clause-ends : goal.returns-clause-ends
 returns-clause-ends g c =
     let rest = g.K.Kernel.rest_of in
-    let es = c.args.self.now.entries.items in
-    rw c.run.ensures (map-ends g.K.Kernel.round rest g.met.K.Kernel.falls c.shortest-m.result es (rw c.shortest-m.ensures (least-at rest es)))
-
-pub returns-clause-least : goal.returns-clause-least
-returns-clause-least g c = c.shortest-m.ensures
-
-pub returns-clause-led : goal.returns-clause-led
-returns-clause-led g c = c.run.ensures
+    let es = c.args.self.now in
+    rw (returns-clause-led g c) (map-ends g.K.Kernel.round rest g.met.K.Kernel.falls c.least-m.result es (rw (returns-clause-least g c) (least-at rest es)))

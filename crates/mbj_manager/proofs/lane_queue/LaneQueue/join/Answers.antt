@@ -14,7 +14,7 @@ enter-requires-clause-free g c =
       arith,
       c.requires.free,
       ap (λ (l : PlacedQueue). length l.waiters) c.self.view_is,
-      seated-length g.K.Kernel.round g.K.Kernel.rest_of g.K.Feed.brings q.places.items q.lanes.entries.items c.self.invariant.0,
+      seated-length g.K.Kernel.round g.K.Kernel.rest_of g.K.Feed.brings q.places.items q.lanes c.self.invariant.0,
     )
 
 pub push_reserved-requires : goal.push_reserved-requires
@@ -25,14 +25,14 @@ push_reserved-requires g c =
       c.requires.free,
       c.self.invariant.1,
       ap (λ (l : PlacedQueue). length l.waiters) c.self.view_is,
-      seated-length g.K.Kernel.round g.K.Kernel.rest_of g.K.Feed.brings q.places.items q.lanes.entries.items c.self.invariant.0,
+      seated-length g.K.Kernel.round g.K.Kernel.rest_of g.K.Feed.brings q.places.items q.lanes c.self.invariant.0,
     )
 
 pub invariant_of-self : goal.invariant_of-self
 invariant_of-self g c =
     let q = c.self.inside in (
-      (let same : length q.places.items ≡ length q.lanes.entries.items = c.self.invariant.0 in
-          rw (c.enter.ensures, c.push_reserved.ensures.items) (omega (arith, length-append q.places.items (c.args.place ∷ []), length-append q.lanes.entries.items (c.args.entry ∷ [])))),
+      (let same : length q.places.items ≡ length q.lanes = c.self.invariant.0 in
+          rw (c.enter.ensures, c.push_reserved.ensures.items) (omega (arith, length-append q.places.items (c.args.place ∷ []), length-append q.lanes (c.args.entry ∷ [])))),
       subst (λ (n : ℕ). g.K.Kernel.LANES ≤ n) (sym c.push_reserved.ensures.capacity) c.self.invariant.1,
       subst (λ (ps : List ℕ). All (λ p. p < CELLS) ps) (sym c.push_reserved.ensures.items)
           (All-append (λ p. p < CELLS) q.places.items _ c.self.invariant.2 (All-cons (λ p. p < CELLS) _ [] c.requires.place (All-nil (λ p. p < CELLS)))),
@@ -44,4 +44,4 @@ returns g c =
     let a = ahead g.K.Kernel.round g.K.Kernel.rest_of g.K.Feed.brings c.args.entry in
     rw (c.push_reserved.ensures.items, c.enter.ensures, ← c.self.view_is)
     (ap (λ ws. placed_queue ws q.rounds q.blocks)
-    (seated-join g.K.Kernel.round g.K.Kernel.rest_of g.K.Feed.brings q.places.items q.lanes.entries.items c.args.place c.args.entry c.self.invariant.0))
+    (seated-join g.K.Kernel.round g.K.Kernel.rest_of g.K.Feed.brings q.places.items q.lanes c.args.place c.args.entry c.self.invariant.0))

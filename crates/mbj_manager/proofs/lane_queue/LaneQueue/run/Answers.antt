@@ -14,19 +14,19 @@ run_shortest-requires-clause-some g c =
       arith,
       c.requires.some,
       ap (λ (l : PlacedQueue). length l.waiters) c.self.view_is,
-      seated-length g.K.Kernel.round g.K.Kernel.rest_of g.K.Feed.brings q.places.items q.lanes.entries.items c.self.invariant.0,
+      seated-length g.K.Kernel.round g.K.Kernel.rest_of g.K.Feed.brings q.places.items q.lanes c.self.invariant.0,
     )
 
 pub run_shortest-requires-clause-rests : goal.run_shortest-requires-clause-rests
 run_shortest-requires-clause-rests g c =
     let q = c.self.inside in
-    seated-some g.K.Kernel.round g.K.Kernel.rest_of g.K.Feed.brings q.places.items q.lanes.entries.items c.self.invariant.0
+    seated-some g.K.Kernel.round g.K.Kernel.rest_of g.K.Feed.brings q.places.items q.lanes c.self.invariant.0
     (subst (λ (l : PlacedQueue). All HasRest l.waiters) (sym c.self.view_is) c.requires.rests)
 
 pub invariant_of-self : goal.invariant_of-self
 invariant_of-self g c =
     let q = c.self.inside in (
-      c.self.invariant.0 ∙ sym (ap length c.run_shortest.ensures.led ∙ length-map q.lanes.entries.items (after g.K.Kernel.round c.run_shortest.result)),
+      c.self.invariant.0 ∙ sym (ap length c.run_shortest.ensures.led ∙ length-map q.lanes (after g.K.Kernel.round c.run_shortest.result)),
       c.self.invariant.1,
       c.self.invariant.2,
     )
@@ -35,7 +35,7 @@ pub returns-clause-least : goal.returns-clause-least
 returns-clause-least g c =
     let q = c.self.inside in
     c.run_shortest.ensures.least
-    ∙ sym (seated-least g.K.Kernel.round g.K.Kernel.rest_of g.K.Feed.brings q.places.items q.lanes.entries.items c.self.invariant.0)
+    ∙ sym (seated-least g.K.Kernel.round g.K.Kernel.rest_of g.K.Feed.brings q.places.items q.lanes c.self.invariant.0)
     ∙ ap (λ (l : PlacedQueue). least (pair_rest rounds_in) l.waiters) c.self.view_is
 
 pub returns-clause-led : goal.returns-clause-led
@@ -44,5 +44,5 @@ returns-clause-led g c =
     let m = c.run_shortest.result in
     rw (c.run_shortest.ensures.led, ← c.self.view_is)
     (ap (λ ws. placed_queue ws q.rounds q.blocks)
-    (seated-led g.K.Kernel.round g.K.Kernel.rest_of g.K.Feed.brings m q.places.items q.lanes.entries.items g.met.K.Kernel.falls
-    (λ k d l. rw c.run_shortest.ensures.least (least-at g.K.Kernel.rest_of q.lanes.entries.items k d l))))
+    (seated-led g.K.Kernel.round g.K.Kernel.rest_of g.K.Feed.brings m q.places.items q.lanes g.met.K.Kernel.falls
+    (λ k d l. rw c.run_shortest.ensures.least (least-at g.K.Kernel.rest_of q.lanes k d l))))

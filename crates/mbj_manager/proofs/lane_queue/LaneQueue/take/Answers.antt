@@ -14,7 +14,7 @@ invariant_of-self g c =
     let inside = c.in-Some.ensures.inside in
     let here : i < length q.places.items = omega (arith, y.0) in (
       rw (c.remove.ensures.items, c.remove-in-Some.ensures.others)
-          (omega (arith, y.0, length-removed q.places.items i here, length-removed q.lanes.entries.items i inside)),
+          (omega (arith, y.0, length-removed q.places.items i here, length-removed q.lanes i inside)),
       subst (λ (n : ℕ). g.K.Kernel.LANES ≤ n) (sym c.remove.ensures.capacity) y.1,
       subst (λ (ps : List ℕ). All (λ p. p < CELLS) ps) (sym c.remove.ensures.items) (all-removed (λ p. p < CELLS) q.places.items i here y.2),
     )
@@ -24,7 +24,7 @@ returns-in-None-clause-takes g c =
     let q = c.self.inside in
     record {
       none = ap (λ (l : PlacedQueue). taken (pair_rest rounds_in) l.waiters) (sym c.self.view_is)
-          ∙ seated-none g.K.Kernel.round g.K.Kernel.rest_of g.K.Feed.brings q.places.items q.lanes.entries.items c.in-None.ensures;
+          ∙ seated-none g.K.Kernel.round g.K.Kernel.rest_of g.K.Feed.brings q.places.items q.lanes c.in-None.ensures;
       same = refl;
     }
 
@@ -34,7 +34,7 @@ returns-in-Some-clause-takes g c =
     let see = seated g.K.Kernel.round g.K.Kernel.rest_of g.K.Feed.brings in
     record {
       first = ap (λ (l : PlacedQueue). taken (pair_rest rounds_in) l.waiters) (sym c.self.view_is)
-          ∙ seated-take g.K.Kernel.round g.K.Kernel.rest_of g.K.Feed.brings q.places.items q.lanes.entries.items c.in-Some.i c.remove.result
+          ∙ seated-take g.K.Kernel.round g.K.Kernel.rest_of g.K.Feed.brings q.places.items q.lanes c.in-Some.i c.remove.result
           c.remove-in-Some.result c.self.invariant.0 c.in-Some.ensures c.remove.ensures.value c.remove-in-Some.ensures.entry
           ∙ (λ j. Some ((c.remove.result, ended (g.K.Feed.brings c.remove-in-Some.result)), see (sym c.remove.ensures.items j) (sym c.remove-in-Some.ensures.others j)));
       same = rw (← c.self.view_is) refl;

@@ -1,8 +1,7 @@
-use Rattle.std.proofs.Common.{◌≡◌, ◌∙◌, ap, min, arith}
-use Rattle.mbj_lane.specs.Rounds.{least}
+use Rattle.std.proofs.Common.{◌≡◌, min, arith}
 use Rattle.mbj_lane.proofs.Least.{least-next, least-end}
-use Rattle.mbj_lane.proofs.lanes.Lanes.shortest.Goals as goal
-use Rattle.mbj_lane.proofs.lanes.Lanes.shortest.Goals.{then-rest-least, else-rest-least}
+use Rattle.mbj_lane.proofs.gathered.shortest.Goals as goal
+use Rattle.mbj_lane.proofs.gathered.shortest.Goals.{then-rest-least, else-rest-least}
 
 pub rests-preserved : goal.rests-preserved
 rests-preserved g c =
@@ -14,4 +13,4 @@ rests-preserved g c =
 pub returns : goal.returns
 returns g c =
     let rest = g.K.Kernel.rest_of in
-    least-end rest c.rests.least c.rests.entry-index _ c.rests-test.false c.rests.invariant ∙ ap (least rest) c.deref-entry-items.ensures.value
+    least-end rest c.rests.least c.rests.entry-index c.args.entries.now c.rests-test.false c.rests.invariant

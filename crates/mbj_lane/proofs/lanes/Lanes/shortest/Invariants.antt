@@ -1,6 +1,0 @@
-use Rattle.std.proofs.Common.{◌≡◌, drop}
-use Rattle.mbj_lane.specs.Rounds.{least, least_from}
-use Rattle.mbj_lane.proofs.lanes.Lanes.shortest.Given as goal
-
-abbrev pub invariant-rests : goal.invariant-rests
-invariant-rests g l = least_from g.K.Kernel.rest_of l.least (drop l.entry-index l.entry-items) ≡ least g.K.Kernel.rest_of l.entry-items
