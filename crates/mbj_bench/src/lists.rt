@@ -28,7 +28,7 @@ pub const PASSES: u32 = 40;
 /// Entries in a list, each of which has a round left.
 pub struct Filled<K: Timed> {
     lanes: Lanes<K>,
-    ghost rests: { All (λ e. 1 ≤ K.rest_of e) lanes },
+    ghost rests: { All (λ e. 1 ≤ K.rest_of e) lanes.entries },
 }
 
 impl<K: Timed> Filled<K> {

@@ -53,7 +53,7 @@ fn name_of(taken: Option<Waiter>) -> Option<u8> {
 
 /// The first entry leaves for its rest, and the others for theirs. The list is empty at first.
 fn check_order(rt: &impl Abort, lanes: &mut Lanes<Waiting>)
-    requires { lanes.old ≡ [] }
+    requires { lanes.old.entries ≡ [] }
 {
     lanes.enter(Waiter { name: 1, turns: 5 });
     lanes.enter(Waiter { name: 2, turns: 3 });

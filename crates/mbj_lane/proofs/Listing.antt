@@ -69,6 +69,23 @@ length-removed k [] lt = absurd (omega arith)
 length-removed zero (x ∷ is) lt = omega arith
 length-removed (suc k) (x ∷ is) lt = let lt' : k < length is = omega arith in omega (arith, length-removed k is lt')
 
+-- what is read of each element
+module _ {A B : Type 0} (f : A → B) where
+  pub map-push : (xs : List A) (x : A) → map f (xs ++ x ∷ []) ≡ map f xs ++ f x ∷ []
+  map-push [] x = refl
+  map-push (y ∷ xs) x = ap (λ ys. f y ∷ ys) (map-push xs x)
+
+  pub map-remove : (xs : List A) (k : ℕ) → map f (remove xs k) ≡ remove (map f xs) k
+  map-remove [] zero = refl
+  map-remove [] (suc k) = refl
+  map-remove (x ∷ xs) zero = refl
+  map-remove (x ∷ xs) (suc k) = ap (λ ys. f x ∷ ys) (map-remove xs k)
+
+  pub map-at : (xs : List A) (k : ℕ) (x : A) → k < length xs → x ≡ get_or xs k x → f x ≡ get_or (map f xs) k (f x)
+  map-at [] k x lt at = absurd (omega arith)
+  map-at (y ∷ xs) zero x lt at = ap f at
+  map-at (y ∷ xs) (suc k) x lt at = let lt' : k < length xs = omega arith in map-at xs k x lt' at
+
 module _ {E : Type 0} (lanes : ℕ) where
   -- there are as many entries as slots
   pub length-listed : (f : ℕ → Option E) (is : List ℕ) → AreBusy f lanes is → length (listed f is) ≡ length is

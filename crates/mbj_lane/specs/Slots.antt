@@ -1,5 +1,5 @@
 -- Entries that stand in slots, and an order of slots. A function says what stands in each slot.
-use Rattle.std.specs.Prelude.{◌≡◌, ℕ, ◌+◌, ◌<◌, ◌≤◌, ◌⊎◌, List, [], ◌∷◌, length, Option, Some, None}
+use Rattle.std.specs.Prelude.{◌≡◌, ℕ, ◌+◌, ◌<◌, ◌≤◌, ◌⊎◌, List, [], ◌∷◌, length, map, Option, Some, None}
 
 -- an entry before others, if there is one
 abbrev pub joined : {E : Type 0} → Option E → List E → List E
@@ -10,6 +10,25 @@ joined (Some e) es = e ∷ es
 abbrev pub listed : {E : Type 0} → (ℕ → Option E) → List ℕ → List E
 listed f [] = []
 listed f (i ∷ is) = joined (f i) (listed f is)
+
+-- slots, each with a label
+abbrev pub slots_of : List (ℕ × ℕ) → List ℕ
+slots_of order = map (λ (s : ℕ × ℕ). s.0) order
+
+abbrev pub labels_of : List (ℕ × ℕ) → List ℕ
+labels_of order = map (λ (s : ℕ × ℕ). s.1) order
+
+-- entries in their order, and the label of each
+pub record Labelled (E : Type 0) : Type 0 where
+  pub entries : List E
+  pub labels : List ℕ
+
+abbrev pub no_entries : {E : Type 0} → Labelled E
+no_entries = record { entries = []; labels = [] }
+
+-- what stands in slots with labels, in their order
+abbrev pub labelled : {E : Type 0} → (ℕ → Option E) → List (ℕ × ℕ) → Labelled E
+labelled f order = record { entries = listed f (slots_of order); labels = labels_of order }
 
 -- an entry stands in a slot
 abbrev pub IsBusy : {E : Type 0} → (ℕ → Option E) → ℕ → Type 0

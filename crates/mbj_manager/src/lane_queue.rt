@@ -13,23 +13,22 @@ use std::marker::Model;
 /// and what the full runs of the kind came to, modulo 2^64.
 #[derive(Drop)]
 pub struct LaneQueue<K: Feed> {
+    /// The entries, each with the place of its job as its label.
     lanes: Lanes<K>,
-    places: Vec<u32>,
     rounds: u64,
     blocks: u64,
 }
 
 impl<K: Feed> Model for LaneQueue<K> {
-    ghost use Rattle.std.specs.Prelude.{◌≡◌, ◌≤◌, ◌<◌, length, All, vec_capacity};
+    ghost use Rattle.std.specs.Prelude.{◌≡◌, ◌<◌, length, All};
     ghost use Rattle.mbj_ring.specs.declared.ring.TheConstants.{CELLS};
     ghost use Rattle.mbj_manager.specs.Inside.PlacedQueue.{PlacedQueue, placed_queue, seated};
 
     ghost Value = { PlacedQueue };
 
-    ghost view = { λ q. placed_queue (seated K.round K.rest_of K.brings q.places.items q.lanes) q.rounds q.blocks };
+    ghost view = { λ q. placed_queue (seated K.round K.rest_of K.brings q.lanes.labels q.lanes.entries) q.rounds q.blocks };
 
-    ghost invariant = { λ q. (length q.places.items ≡ length q.lanes) × (K.LANES ≤ vec_capacity q.places)
-        × All (λ p. p < CELLS) q.places.items };
+    ghost invariant = { λ q. (length q.lanes.labels ≡ length q.lanes.entries) × All (λ p. p < CELLS) q.lanes.labels };
 }
 
 impl<K: Feed> LaneQueue<K> {
@@ -37,11 +36,8 @@ impl<K: Feed> LaneQueue<K> {
     pub(crate) fn new(alloc: Global) -> Result<LaneQueue<K>, AllocError>
         ensures { IfOk result (λ q. q ≡ no_queue) }
     {
-        let lanes = Lanes::new(alloc)?;
-        let places = Vec::with_capacity(alloc, K::LANES as usize)?;
         Ok(LaneQueue {
-            lanes,
-            places,
+            lanes: Lanes::new(alloc)?,
             rounds: 0,
             blocks: 0,
         })
@@ -70,8 +66,8 @@ impl<K: Feed> LaneQueue<K> {
 
     /// The entries.
     pub(crate) fn lanes(&self) -> &Lanes<K>
-        ensures rests { map K.rest_of result.now ≡ map (pair_rest rounds_in) self.now.waiters }
-        ensures ends { map (λ e. K.brings (end_of K.round K.rest_of e)) result.now ≡ map (λ w. w.1.brings) self.now.waiters }
+        ensures rests { map K.rest_of result.now.entries ≡ map (pair_rest rounds_in) self.now.waiters }
+        ensures ends { map (λ e. K.brings (end_of K.round K.rest_of e)) result.now.entries ≡ map (λ w. w.1.brings) self.now.waiters }
     {
         &self.lanes
     }
@@ -83,8 +79,7 @@ impl<K: Feed> LaneQueue<K> {
         requires some { 1 ≤ K.rest_of entry }
         ensures { self.new ≡ with_waiter place (ahead K.round K.rest_of K.brings entry) self.old }
     {
-        self.lanes.enter(entry);
-        self.places.push_reserved(place);
+        self.lanes.enter_as(place, entry);
     }
 
     /// All run for the least rest among them, which is the answer.
@@ -105,7 +100,7 @@ impl<K: Feed> LaneQueue<K> {
     {
         match self.lanes.first_finished() {
             None => None,
-            Some(i) => Some((self.places.remove(i), self.lanes.remove(i))),
+            Some(i) => Some(self.lanes.remove(i)),
         }
     }
 

@@ -301,8 +301,8 @@ impl Manager {
     /// many rounds left as its job. The job's own course has it out, with the job's keys, IV, data and ranges and with the last
     /// of its steps left. Once the entry's rounds are done and it is taken back, the course leads to the job's result.
     pub fn lanes<K: Queued>(&self) -> &Lanes<K>
-        ensures rests { map K.rest_of result.now ≡ map rest_of (queue_for K.kind self.now.machine).waiting }
-        ensures entries { AreEntriesOf K.kind self.now (map (λ e. K.brings (end_of K.round K.rest_of e)) result.now)
+        ensures rests { map K.rest_of result.now.entries ≡ map rest_of (queue_for K.kind self.now.machine).waiting }
+        ensures entries { AreEntriesOf K.kind self.now (map (λ e. K.brings (end_of K.round K.rest_of e)) result.now.entries)
             (queue_for K.kind self.now.machine).waiting }
     {
         self.works.lanes::<K>()

@@ -279,8 +279,8 @@ impl Works {
     }
 
     pub(crate) fn lanes<K: Queued>(&self) -> &Lanes<K>
-        ensures rests { map K.rest_of result.now ≡ map rest_of (queue_for K.kind self.now.machine).waiting }
-        ensures entries { AreEntriesOf K.kind self.now (map (λ e. K.brings (end_of K.round K.rest_of e)) result.now)
+        ensures rests { map K.rest_of result.now.entries ≡ map rest_of (queue_for K.kind self.now.machine).waiting }
+        ensures entries { AreEntriesOf K.kind self.now (map (λ e. K.brings (end_of K.round K.rest_of e)) result.now.entries)
             (queue_for K.kind self.now.machine).waiting }
     {
         K::queue(&self.lists).lanes()

@@ -1,5 +1,6 @@
-use Rattle.std.proofs.Common.{◌∙◌, ap}
+use Rattle.std.proofs.Common.{◌∙◌, length, ap, arith}
 use Rattle.mbj_lane.specs.Rounds.{after, least}
+use Rattle.mbj_lane.specs.Slots.{Labelled, slots_of}
 use Rattle.mbj_lane.proofs.Least.{least-at}
 use Rattle.mbj_lane.proofs.Led.{map-rests, map-ends}
 use Rattle.mbj_lane.proofs.Listing.{some-busy, all-led, listed-led, least-listed}
@@ -8,13 +9,15 @@ use Rattle.mbj_lane.proofs.lanes.Lanes.run_shortest.Goals as goal
 pub least-m-requires : goal.least-m-requires
 least-m-requires g c =
     let l = c.self.inside in
-    some-busy g.K.Kernel.LANES (g.K.SlotKernel.slot l.slots) l.order.items c.self.invariant.0.busy (rw c.self.view_is c.requires.some)
+    let same = ap (λ (v : Labelled g.row.K-Entry.Denot). length v.entries) c.self.view_is in
+    let some = c.requires.some in
+    some-busy g.K.Kernel.LANES (g.K.SlotKernel.slot l.slots) (slots_of l.order.items) c.self.invariant.0.busy (omega (arith, same, some))
 
 pub invariant_of-self : goal.invariant_of-self
 invariant_of-self g c =
     let l = c.self.inside in (
       all-led g.K.Kernel.LANES (g.K.SlotKernel.slot l.slots) (g.K.SlotKernel.slot c.run_all.new.slots) (after g.K.Kernel.round c.least-m.result)
-          c.run_all.ensures l.order.items l.idle.items c.self.invariant.0,
+          c.run_all.ensures (slots_of l.order.items) l.idle.items c.self.invariant.0,
       c.self.invariant.1,
       c.self.invariant.2,
     )
@@ -22,22 +25,27 @@ invariant_of-self g c =
 pub returns-clause-least : goal.returns-clause-least
 returns-clause-least g c =
     let l = c.self.inside in
-    least-listed g.K.Kernel.LANES g.K.Kernel.rest_of (g.K.SlotKernel.slot l.slots) c.least-m.result l.order.items l.idle.items c.self.invariant.0
-    (rw c.self.view_is c.requires.some) c.least-m.ensures
-    ∙ ap (least g.K.Kernel.rest_of) c.self.view_is
+    let same = ap (λ (v : Labelled g.row.K-Entry.Denot). length v.entries) c.self.view_is in
+    let some = c.requires.some in
+    least-listed g.K.Kernel.LANES g.K.Kernel.rest_of (g.K.SlotKernel.slot l.slots) c.least-m.result (slots_of l.order.items) l.idle.items c.self.invariant.0
+    (omega (arith, same, some)) c.least-m.ensures
+    ∙ ap (λ (v : Labelled g.row.K-Entry.Denot). least g.K.Kernel.rest_of v.entries) c.self.view_is
 
 pub returns-clause-led : goal.returns-clause-led
 returns-clause-led g c =
     let l = c.self.inside in
     rw (← c.self.view_is) (listed-led g.K.Kernel.LANES (g.K.SlotKernel.slot l.slots) (g.K.SlotKernel.slot c.run_all.new.slots) (after g.K.Kernel.round c.least-m.result)
-    c.run_all.ensures l.order.items c.self.invariant.0.busy)
+    c.run_all.ensures (slots_of l.order.items) c.self.invariant.0.busy)
 
 pub returns-clause-rests : goal.returns-clause-rests
 returns-clause-rests g c =
-    rw (returns-clause-led g c) (map-rests g.K.Kernel.round g.K.Kernel.rest_of g.met.K.Kernel.falls c.least-m.result c.args.self.now)
+    rw (returns-clause-led g c) (map-rests g.K.Kernel.round g.K.Kernel.rest_of g.met.K.Kernel.falls c.least-m.result c.args.self.now.entries)
 
 pub returns-clause-ends : goal.returns-clause-ends
 returns-clause-ends g c =
     let rest = g.K.Kernel.rest_of in
-    let es = c.args.self.now in
+    let es = c.args.self.now.entries in
     rw (returns-clause-led g c) (map-ends g.K.Kernel.round rest g.met.K.Kernel.falls c.least-m.result es (rw (returns-clause-least g c) (least-at rest es)))
+
+pub returns-clause-labels : goal.returns-clause-labels
+returns-clause-labels g c = ap (λ (v : Labelled g.row.K-Entry.Denot). v.labels) c.self.view_is

@@ -28,7 +28,7 @@ returns-clause-entries g c =
     let k = g.K.Feed.kind in
     let lines = lines_in w.ring w.lists in
     let state = held w.ring w.agenda.places.items w.lists in
-    let ends : List End = map (λ e. g.K.Feed.brings (end_of g.K.Kernel.round g.K.Kernel.rest_of e)) c.lanes.result.now in
+    let ends : List End = map (λ e. g.K.Feed.brings (end_of g.K.Kernel.round g.K.Kernel.rest_of e)) c.lanes.result.now.entries in
     let seen : map (λ (x : Waiter). x.1.brings) (lines k).waiters ≡ ends
     = numbered-ends f (placed_in k w.lists).waiters ∙ ap (λ (l : PlacedQueue). map (λ (x : Waiter). x.1.brings) l.waiters) (sym c.queue.ensures) ∙ sym c.lanes.ensures.ends in
     subst (λ (h : ManagerState). AreEntriesOf k h ends (queue_for k h.machine).waiting) c.self.view_is
