@@ -8,6 +8,7 @@ at_slot [] es i = None
 at_slot (p ∷ ps) [] i = None
 at_slot (p ∷ ps) (e ∷ es) i = if i == p then Some e else at_slot ps es i
 
+-- each entry has a slot of its own
 pub record AreGathered {E : Type 0} (lanes : ℕ) (places : List ℕ) (entries : List E) : Type 0 where
   pub same : length places ≡ length entries
   pub apart : AreApart places

@@ -8,7 +8,7 @@ use crate::slot_kernel::SlotKernel;
 use std::alloc::{AllocError, Global};
 use std::marker::Model;
 
-/// A kernel that keeps nothing in its lanes between runs.
+/// A kernel that keeps nothing in its lanes between runs. Its slots gather their entries for each run.
 pub trait Gathered: Kernel {}
 
 /// Slots whose entries stand side by side, so that each run is one of the kernel over all of them.

@@ -25,8 +25,8 @@ returns-clause-taken g c =
     let inside = rw c.deref.ensures.value at c.place_of-k.ensures.within in
     let is = rw c.deref.ensures.value at c.place_of-k.ensures.is in
     rw (← c.slots.view_is) (
-      at-hit s.places.items s.entries.items c.place_of-k.result c.args.i c.remove-2.result c.slots.invariant.0.apart c.slots.invariant.0.same inside is
-          ∙ ap Some (sym c.remove-2.ensures.value))
+    at-hit s.places.items s.entries.items c.place_of-k.result c.args.i c.remove-2.result c.slots.invariant.0.apart c.slots.invariant.0.same inside is
+    ∙ ap Some (sym c.remove-2.ensures.value))
 
 pub returns-clause-idle : goal.returns-clause-idle
 returns-clause-idle g c =

@@ -14,7 +14,7 @@ rest_at-requires-clause-lane g c =
     let lt : k < length order = omega arith in
     let lt' : k < length (slots_of order) = omega (arith, length-map order (λ (s : ℕ × ℕ). s.0)) in
     (busy-at g.K.Kernel.LANES (g.K.SlotKernel.slot c.self.inside.slots) (slots_of order) k s.0 c.self.invariant.0.busy lt'
-        (map-at (λ (s : ℕ × ℕ). s.0) order k s lt c.index.ensures)).0
+    (map-at (λ (s : ℕ × ℕ). s.0) order k s lt c.index.ensures)).0
 
 pub rest_at-requires-clause-busy : goal.rest_at-requires-clause-busy
 rest_at-requires-clause-busy g c =
@@ -22,7 +22,7 @@ rest_at-requires-clause-busy g c =
     let lt : k < length order = omega arith in
     let lt' : k < length (slots_of order) = omega (arith, length-map order (λ (s : ℕ × ℕ). s.0)) in
     (busy-at g.K.Kernel.LANES (g.K.SlotKernel.slot c.self.inside.slots) (slots_of order) k s.0 c.self.invariant.0.busy lt'
-        (map-at (λ (s : ℕ × ℕ). s.0) order k s lt c.index.ensures)).1
+    (map-at (λ (s : ℕ × ℕ). s.0) order k s lt c.index.ensures)).1
 
 pub places-preserved : goal.places-preserved
 places-preserved g c =

@@ -55,7 +55,7 @@ take-requires-clause-done g c =
     let lt' : c.args.k < length order = omega (arith, lt, len) in
     let at = map-at (λ (s : ℕ × ℕ). s.0) order c.args.k c.remove-i.result lt' c.remove-i.ensures.value in
     λ e there. ap g.K.Kernel.rest_of (entry-at g.K.Kernel.LANES f (slots_of order) c.args.k c.remove-i.result.0 e c.args.self.now.entries listed.busy same lt at
-        there) ∙ c.requires.done e
+    there) ∙ c.requires.done e
 
 pub invariant_of-self : goal.invariant_of-self
 invariant_of-self g c =
@@ -104,5 +104,5 @@ returns-clause-others g c =
     let lt' : c.args.k < length order = omega (arith, lt, len) in
     let at = map-at (λ (s : ℕ × ℕ). s.0) order c.args.k c.remove-i.result lt' c.remove-i.ensures.value in
     let now = listed-left g.K.Kernel.LANES f (g.K.SlotKernel.slot c.take.new.slots) (slots_of order) c.self.inside.idle.items c.args.k c.remove-i.result.0
-        c.take.result listed lt at c.take.ensures.taken c.take.ensures.idle in
+    c.take.result listed lt at c.take.ensures.taken c.take.ensures.idle in
     rw (c.remove-i.ensures.items, map-remove (λ (s : ℕ × ℕ). s.0) order c.args.k, ← c.self.view_is) now
