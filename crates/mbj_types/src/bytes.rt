@@ -1,7 +1,8 @@
-ghost use Rattle.std.specs.Prelude.{◌≡◌, ℕ, List, IfOk};
+ghost use Rattle.std.specs.Prelude.{◌≡◌, ℕ, [], List, IfOk};
 
 use std::alloc::{AllocError, Global};
 use std::marker::Model;
+use std::mem;
 
 /// Bytes of a job or a result: a `Vec<u8>` that contracts see as the list of its bytes.
 ///
@@ -56,6 +57,46 @@ impl Bytes {
         ensures { IfOk result (λ b. b ≡ self.now) }
     {
         Bytes::from_slice(alloc, self.as_slice())
+    }
+
+    /// Takes the bytes out of their place, in which none are left. It takes no memory.
+    pub fn take(&mut self) -> Vec<u8>
+        ensures taken { result.items ≡ self.old }
+        ensures none { self.new ≡ [] }
+    {
+        let alloc = *self.bytes.allocator();
+        mem::replace(&mut self.bytes, Vec::new(alloc))
+    }
+
+    /// These bytes, in place of those that it has: in the same memory where they fit, else in new memory.
+    ///
+    /// Returns `AllocError` for want of memory.
+    pub fn refill(&mut self, alloc: Global, bytes: &[u8]) -> Result<(), AllocError>
+        ensures { IfOk result (λ _. self.new ≡ bytes.now) }
+    {
+        if self.bytes.capacity() < bytes.len() {
+            self.bytes = Vec::from_slice(alloc, bytes)?;
+            return Ok(());
+        }
+        self.bytes.clear();
+        self.bytes.extend_from_slice(bytes)
+    }
+
+    /// No bytes, in place of those that it has. Memory of at most `most` bytes stays with it; longer memory is freed.
+    pub fn clear(&mut self, most: usize)
+        ensures { self.new ≡ [] }
+    {
+        if self.bytes.capacity() > most {
+            let alloc = *self.bytes.allocator();
+            self.bytes = Vec::new(alloc);
+            return;
+        }
+        self.bytes.clear();
+    }
+
+    /// How many bytes of memory it has.
+    pub fn capacity(&self) -> usize {
+        self.bytes.capacity()
     }
 
     /// The bytes as a slice.

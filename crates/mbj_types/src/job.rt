@@ -181,6 +181,37 @@ impl Job {
         }
     }
 
+    /// Makes it a blank job. Of its bytes, memory of at most `most` bytes stays with each; longer memory is freed.
+    pub fn clear(&mut self, most: usize)
+        ensures { self.new ≡ blank }
+    {
+        self.cipher = Cipher::Null;
+        self.dir = Dir::Enc;
+        self.order = Order::CipherHash;
+        self.key.clear(most);
+        self.iv.clear(most);
+        self.cipher_off = 0;
+        self.cipher_len = 0;
+        self.auth = Auth::Null;
+        self.auth_key.clear(most);
+        self.aad.clear(most);
+        self.hash_off = 0;
+        self.hash_len = 0;
+        self.tag_len = 0;
+        self.packet.clear(most);
+        self.session = None;
+    }
+
+    /// How many bytes of memory its bytes have.
+    pub fn capacity(&self) -> usize {
+        self.key
+            .capacity()
+            .saturating_add(self.iv.capacity())
+            .saturating_add(self.auth_key.capacity())
+            .saturating_add(self.aad.capacity())
+            .saturating_add(self.packet.capacity())
+    }
+
     /// An equal job in memory of its own.
     ///
     /// Returns `AllocError` for want of memory.

@@ -1,4 +1,4 @@
-ghost use Rattle.std.specs.Prelude.{◌≡◌, ℕ, ◌≤◌, List, length, take};
+ghost use Rattle.std.specs.Prelude.{◌≡◌, ℕ, ◌≤◌, [], List, length, take};
 ghost use Rattle.mbj_types.specs.declared.limits.TheConstants.{MAX_TAG_BYTES};
 
 use crate::limits::MAX_TAG_BYTES;
@@ -34,6 +34,13 @@ impl Tag {
             bytes: all,
             len: bytes.len(),
         }
+    }
+
+    /// No bytes, in place of those that it has.
+    pub fn clear(&mut self)
+        ensures { self.new ≡ [] }
+    {
+        self.len = 0;
     }
 
     /// The bytes of the tag.
