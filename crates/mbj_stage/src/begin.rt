@@ -58,4 +58,22 @@ impl Course {
         };
         Course::start(job, reason, Some(schedule))
     }
+
+    /// The course of a job, with nothing done, in place of what it was. It takes the job, and leaves another one in its place. The
+    /// schedule of the cipher's key is the one that was found; where none was, the key is expanded.
+    pub fn begin_in_place(&mut self, job: &mut Job, found: Option<&Schedule>)
+        requires { IfSome found (λ s. IsScheduleOf job.old.key s.now) }
+        ensures begun { self.new ≡ begun job.old }
+        ensures owed { owed self.new ≡ result_of job.old }
+    {
+        self.begin_over(job, found);
+    }
+
+    fn begin_over(&mut self, job: &mut Job, found: Option<&Schedule>)
+        requires { IfSome found (λ s. IsScheduleOf job.old.key s.now) }
+        ensures { self.new ≡ begun job.old }
+    {
+        let reason = check(job);
+        self.restart(job, reason, found);
+    }
 }

@@ -1,39 +1,21 @@
-ghost use Rattle.std.specs.Prelude.{◌≡◌, ◌≤◌, ◌⊎◌, [], ◌∷◌, Some, None, false, drop, length, is_some, IfSome, IsTrue};
-ghost use Rattle.mbj_types.specs.declared.limits.TheConstants.{MAX_TAG_BYTES};
+ghost use Rattle.std.specs.Prelude.{◌≡◌, [], ◌∷◌, None, false, length, is_some, IfSome};
+ghost use Rattle.mbj_types.specs.Blank.{blank};
 ghost use Rattle.mbj_types.specs.Verdict.{is_null_cipher, verdict, verdict_at};
-ghost use Rattle.mbj_lane.specs.Rounds.{end_of};
-ghost use Rattle.mbj_types.specs.Rounds.{auth_rounds, cbc_rounds, cmac_rounds, rounds_of};
-ghost use Rattle.mbj_types.specs.Auths.{class_of};
-ghost use Rattle.mbj_aes.specs.Bytes.{IsRoundCount};
 ghost use Rattle.mbj_keys.specs.Schedules.{IsScheduleOf};
-ghost use Rattle.mbj_cbc.specs.Rounds.{round as cbc_round, rest_of as cbc_rest};
-ghost use Rattle.mbj_cmac.specs.Rounds.{round as cmac_round, rest_of as cmac_rest};
-ghost use Rattle.mbj_hmac.specs.Names.{serves_lanes};
-ghost use Rattle.mbj_hmac.specs.Rounds.{round as hmac_round, rest_of as hmac_rest};
 ghost use Rattle.mbj_stage.specs.declared.stage.Stage.TheVariants as stage;
-ghost use Rattle.mbj_stage.specs.declared.stage.Step.TheVariants as step;
 ghost use Rattle.mbj_stage.specs.Steps.{stage_at, steps_in};
-ghost use Rattle.mbj_stage.specs.Inside.Kept.{HasSchedule, IsNextStep, IsStepOf};
+ghost use Rattle.mbj_stage.specs.Inside.Kept.{HasSchedule, IsStepOf};
 ghost use Rattle.mbj_stage.specs.Keys.{wants_schedule};
-ghost use Rattle.mbj_stage.specs.CourseState.{stage_of, begun, packet_after, tag_after, ran, sized, status_of, owed};
-ghost use Rattle.mbj_ccm.specs.Rounds.{round as ccm_round, rest_of as ccm_rest};
-ghost use Rattle.mbj_stage.specs.Handing.{BringsData, handed_out, taken_back, without_packet, owed_with};
-ghost use Rattle.mbj_stage.specs.Ends.{cbc_end, ccm_end, cmac_end, hmac_end};
-ghost use Rattle.mbj_stage.specs.Families.{cbc_stage, ccm_lanes, ccm_stage, cmac_stage};
+ghost use Rattle.mbj_stage.specs.CourseState.{stage_of, begun, packet_after, tag_after, ran, status_of, owed};
 
-use crate::entries::{cbc_entry, ccm_entry, cmac_entry, hmac_entry};
-use crate::keyed::at_hand;
+mod handing;
+
+use crate::keyed::{at_hand, expanded, wants_schedule};
 use crate::lengths::{Lengths, lengths_of};
 use crate::stage::{Stage, Step, Steps, stage_of_step, steps_by};
-use crate::tag::cut;
 use crate::{ccm, cipher, gcm, gmac};
 use mbj_aes::Schedule;
-use mbj_cbc::CbcEntry;
-use mbj_ccm::CcmEntry;
-use mbj_cmac::CmacEntry;
-use mbj_hmac::{HmacEntry, LaneHash};
 use mbj_types::{Bytes, Done, Job, Reason, Status, Tag};
-use std::alloc::Global;
 use std::marker::Model;
 use std::mem;
 
@@ -123,6 +105,37 @@ fn status(reason: Option<Reason>) -> Status
     }
 }
 
+/// Keeps the schedule of a job's key, where it is wanted: the one that was found, or the expanded key where none was.
+fn keep_schedule(
+    kept: &mut Option<Schedule>,
+    job: &Job,
+    reason: Option<Reason>,
+    found: Option<&Schedule>,
+)
+    requires reason { reason ≡ verdict job.now }
+    requires found { IfSome found (λ s. IsScheduleOf job.now.key s.now) }
+    ensures wanted { is_some kept.new ≡ wants_schedule reason job.now.cipher }
+    ensures schedule { IfSome kept.new (IsScheduleOf job.now.key) }
+{
+    if !wants_schedule(reason, job) {
+        forget(kept);
+        return;
+    }
+    *kept = Some(match found {
+        Some(schedule) => *schedule,
+        None => expanded(job.key.as_slice()),
+    });
+}
+
+/// Keeps no schedule. Nothing is written where there is none.
+fn forget(kept: &mut Option<Schedule>)
+    ensures { kept.new ≡ None }
+{
+    if kept.is_some() {
+        *kept = None;
+    }
+}
+
 /// Takes a packet out of its place, in which none is left. It takes no memory.
 fn taken(packet: &mut Vec<u8>) -> Vec<u8>
     ensures taken { result.items ≡ packet.old.items }
@@ -130,24 +143,6 @@ fn taken(packet: &mut Vec<u8>) -> Vec<u8>
 {
     let alloc = *packet.allocator();
     mem::replace(packet, Vec::new(alloc))
-}
-
-/// Takes bytes out of their place, in which none are left. It takes no memory.
-fn taken_bytes(bytes: &mut Bytes, alloc: Global) -> Vec<u8>
-    ensures taken { result.items ≡ bytes.old }
-    ensures none { bytes.new ≡ [] }
-{
-    mem::replace(bytes, Bytes::from_vec(Vec::new(alloc))).into_vec()
-}
-
-/// The steps after the first of those that are left.
-fn later(left: Steps) -> Steps
-    ensures { steps_in result ≡ drop 1 (steps_in left) }
-{
-    match left {
-        Steps::Done | Steps::One(_) => Steps::Done,
-        Steps::Two(_, step) => Steps::One(step),
-    }
 }
 
 impl Course {
@@ -174,6 +169,45 @@ impl Course {
             lengths,
             schedule,
         }
+    }
+
+    /// The course of a job, with nothing done, in place of what it was, where the job is refused for this reason or for none. It takes the
+    /// job, and leaves another one in its place. The schedule of the cipher's key, where it is wanted, is the one that was found; where
+    /// none was, the key is expanded.
+    pub(crate) fn restart(
+        &mut self,
+        job: &mut Job,
+        reason: Option<Reason>,
+        found: Option<&Schedule>,
+    )
+        requires reason { reason ≡ verdict job.old }
+        requires found { IfSome found (λ s. IsScheduleOf job.old.key s.now) }
+        ensures { self.new ≡ begun job.old }
+    {
+        keep_schedule(&mut self.schedule, job, reason, found);
+        self.left = steps_by(reason, job);
+        self.lengths = lengths_of(job);
+        mem::swap(&mut self.job, job);
+        self.packet = self.job.packet.take();
+        self.tag.clear();
+        self.reason = reason;
+        self.out = None;
+    }
+
+    /// Ends the course, and makes the job a blank one, which has the memory of the course's job: at most `most` bytes with each of
+    /// its bytes.
+    pub fn end(&mut self, job: &mut Job, most: usize)
+        ensures { job.new ≡ blank }
+    {
+        mem::swap(&mut self.job, job);
+        job.packet = Bytes::from_vec(taken(&mut self.packet));
+        job.clear(most);
+        self.job.clear(0);
+        self.lengths = lengths_of(&self.job);
+        self.reason = None;
+        self.left = Steps::Done;
+        self.out = None;
+        forget(&mut self.schedule);
     }
 
     /// Whether the course has the schedule of its job's key: it has where the job is accepted and has a cipher.
@@ -231,117 +265,40 @@ impl Course {
         }
     }
 
-    /// Hands the packet out in an entry of CBC encryption with `N` rounds.
-    pub(crate) fn hand_out_cbc<const N: usize>(&mut self) -> CbcEntry<N>
-        requires rounds { IsRoundCount N }
-        requires next { stage_of self.old ≡ cbc_stage N }
-        requires here { self.old.out ≡ None }
-        ensures out { self.new ≡ handed_out self.old }
-        ensures rest { result.rest ≡ cbc_rounds self.old.job.cipher_len }
-        ensures some { 1 ≤ result.rest }
-        ensures owed { owed_with (cbc_end (end_of cbc_round cbc_rest result)) self.new ≡ owed self.old }
-        ensures job { without_packet (taken_back (cbc_end (end_of cbc_round cbc_rest result)) self.new).job ≡ without_packet self.old.job }
-        ensures length { self.new.out ≡ Some (length (cbc_end (end_of cbc_round cbc_rest result)).packet) }
+    /// How the job ended whose stages are all done.
+    pub fn status(&self) -> Status
+        requires { stage_of self.now ≡ stage.Finished }
+        ensures { result ≡ (owed self.now).status }
     {
-        let packet = taken(&mut self.packet);
-        self.out = Some(packet.len());
-        let schedule = *at_hand(&self.schedule, &self.job);
-        cbc_entry(&self.job, schedule, packet)
+        status(self.reason)
     }
 
-    /// Takes back a packet that was ciphered.
-    pub(crate) fn take_text(&mut self, packet: Vec<u8>)
-        requires next { IsNextStep step.Cipher self.old.left }
-        requires length { self.old.out ≡ Some (length packet.items) }
-        ensures { self.new ≡ taken_back (record { packet = packet.items; mac = []; iv = []; aad = [] }) self.old }
+    /// The packet of a job whose stages are all done.
+    pub fn packet(&self) -> &[u8]
+        requires { stage_of self.now ≡ stage.Finished }
+        ensures { result.now ≡ (owed self.now).packet }
     {
-        self.packet = packet;
-        self.out = None;
-        self.left = later(self.left);
+        self.packet.as_slice()
     }
 
-    /// Takes back a packet that was authenticated, with its whole tag.
-    pub(crate) fn take_mac(&mut self, packet: Vec<u8>, mac: &[u8])
-        requires next { IsNextStep step.Auth self.old.left }
-        requires length { self.old.out ≡ Some (length packet.items) }
-        requires fits { length mac.now ≤ MAX_TAG_BYTES }
-        ensures { self.new ≡ taken_back (record { packet = packet.items; mac = mac.now; iv = []; aad = [] }) self.old }
+    /// The tag of a job whose stages are all done.
+    pub fn tag(&self) -> &Tag
+        requires { stage_of self.now ≡ stage.Finished }
+        ensures { result.now ≡ (owed self.now).tag }
     {
-        self.packet = packet;
-        self.tag = cut(mac, self.job.tag_len);
-        self.out = None;
-        self.left = later(self.left);
+        &self.tag
     }
 
-    /// Hands the packet out in an entry of CMAC with `N` rounds.
-    pub(crate) fn hand_out_cmac<const N: usize>(&mut self) -> CmacEntry<N>
-        requires rounds { (N ≡ 10) ⊎ (N ≡ 14) }
-        requires next { stage_of self.old ≡ cmac_stage N }
-        requires here { self.old.out ≡ None }
-        ensures out { self.new ≡ handed_out self.old }
-        ensures rest { result.rest ≡ cmac_rounds self.old.job.hash_len }
-        ensures owed { owed_with (cmac_end (end_of cmac_round cmac_rest result)) self.new ≡ owed self.old }
-        ensures job { without_packet (taken_back (cmac_end (end_of cmac_round cmac_rest result)) self.new).job ≡ without_packet self.old.job }
-        ensures length { self.new.out ≡ Some (length (cmac_end (end_of cmac_round cmac_rest result)).packet) }
+    /// Takes the result of a job whose stages are all done.
+    pub fn take_done(&mut self) -> Done
+        requires { stage_of self.old ≡ stage.Finished }
+        ensures { result ≡ owed self.old }
     {
-        let packet = taken(&mut self.packet);
-        self.out = Some(packet.len());
-        cmac_entry(&self.job, packet)
-    }
-
-    /// Hands the packet out in an entry of a digest by a hash of `H`, or of its HMAC.
-    pub(crate) fn hand_out_hmac<H: LaneHash>(&mut self) -> HmacEntry<H>
-        requires next { IsNextStep step.Auth self.old.left }
-        requires serves { IsTrue (serves_lanes H.chaining self.old.job.auth) }
-        requires here { self.old.out ≡ None }
-        ensures out { self.new ≡ handed_out self.old }
-        ensures rest { result.rest ≡ auth_rounds (class_of self.old.job.auth) H.chaining.block_bytes self.old.job.hash_len }
-        ensures some { 1 ≤ result.rest }
-        ensures owed { owed_with (hmac_end H.chaining (end_of (hmac_round H.chaining) hmac_rest result)) self.new ≡ owed self.old }
-        ensures job { without_packet (taken_back (hmac_end H.chaining (end_of (hmac_round H.chaining) hmac_rest result)) self.new).job ≡ without_packet self.old.job }
-        ensures length { self.new.out ≡ Some (length (hmac_end H.chaining (end_of (hmac_round H.chaining) hmac_rest result)).packet) }
-    {
-        let packet = taken(&mut self.packet);
-        self.out = Some(packet.len());
-        hmac_entry(&self.job, packet)
-    }
-
-    /// Hands packet, nonce and additional data out in an entry of CCM's MAC with `N` rounds.
-    pub(crate) fn hand_out_ccm<const N: usize>(&mut self) -> CcmEntry<N>
-        requires rounds { IsRoundCount N }
-        requires next { stage_of self.old ≡ ccm_stage N }
-        requires here { self.old.out ≡ None }
-        ensures out { self.new ≡ handed_out self.old }
-        ensures rest { result.rest ≡ rounds_of (ccm_lanes N) (sized self.old.lengths self.old.job) }
-        ensures some { 1 ≤ result.rest }
-        ensures owed { owed_with (ccm_end (end_of ccm_round ccm_rest result)) self.new ≡ owed self.old }
-        ensures job { without_packet (taken_back (ccm_end (end_of ccm_round ccm_rest result)) self.new).job ≡ without_packet self.old.job }
-        ensures length { self.new.out ≡ Some (length (ccm_end (end_of ccm_round ccm_rest result)).packet) }
-        ensures texts { BringsData step.CcmMac self.new.lengths (ccm_end (end_of ccm_round ccm_rest result)) }
-    {
-        let packet = taken(&mut self.packet);
-        self.out = Some(packet.len());
-        let alloc = *packet.allocator();
-        let iv = taken_bytes(&mut self.job.iv, alloc);
-        let aad = taken_bytes(&mut self.job.aad, alloc);
-        let schedule = *at_hand(&self.schedule, &self.job);
-        ccm_entry(&self.job, schedule, iv, aad, packet)
-    }
-
-    /// Takes back packet, nonce and additional data, with CCM's MAC.
-    pub(crate) fn take_ccm(&mut self, packet: Vec<u8>, iv: Vec<u8>, aad: Vec<u8>, mac: &[u8; 16])
-        requires next { IsNextStep step.CcmMac self.old.left }
-        requires length { self.old.out ≡ Some (length packet.items) }
-        requires iv { length iv.items ≡ self.old.lengths.iv }
-        requires aad { length aad.items ≡ self.old.lengths.aad }
-        ensures { self.new ≡ taken_back (record { packet = packet.items; mac = mac.now; iv = iv.items; aad = aad.items }) self.old }
-    {
-        self.packet = packet;
-        self.job.iv = Bytes::from_vec(iv);
-        self.job.aad = Bytes::from_vec(aad);
-        self.tag = ccm::with_mac(&self.job, mac, &self.tag);
-        self.out = None;
-        self.left = later(self.left);
+        Done {
+            status: status(self.reason),
+            packet: Bytes::from_vec(taken(&mut self.packet)),
+            tag: mem::replace(&mut self.tag, Tag::from_slice(&[])),
+        }
     }
 
     /// The result of a job whose stages are all done.

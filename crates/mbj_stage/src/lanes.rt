@@ -112,7 +112,8 @@ impl Course {
     /// Hands the packet out in an entry of a digest by SHA-1, or of HMAC with it.
     pub fn hand_out_hmac_sha1(&mut self) -> Hmac1Entry
         requires { IsNext kind.HmacSha1 self.old }
-        ensures { IsHandedOut kind.HmacSha1 result.rest (hmac_end sha1_chaining (end_of (hmac_round sha1_chaining) hmac_rest result)) self.new self.old }
+        ensures { IsHandedOut kind.HmacSha1 result.rest (hmac_end sha1_chaining (end_of (hmac_round sha1_chaining) hmac_rest result))
+            self.new self.old }
     {
         Hmac1Kernel::hand_out(self)
     }
@@ -129,7 +130,8 @@ impl Course {
     /// Hands the packet out in an entry of a digest by SHA-224 or SHA-256, or of HMAC with one of them.
     pub fn hand_out_hmac_sha256(&mut self) -> Hmac256Entry
         requires { IsNext kind.HmacSha256 self.old }
-        ensures { IsHandedOut kind.HmacSha256 result.rest (hmac_end sha256_chaining (end_of (hmac_round sha256_chaining) hmac_rest result)) self.new self.old }
+        ensures { IsHandedOut kind.HmacSha256 result.rest (hmac_end sha256_chaining (end_of (hmac_round sha256_chaining) hmac_rest result))
+            self.new self.old }
     {
         Hmac256Kernel::hand_out(self)
     }
@@ -146,7 +148,8 @@ impl Course {
     /// Hands the packet out in an entry of a digest by SHA-384 or SHA-512, or of HMAC with one of them.
     pub fn hand_out_hmac_sha512(&mut self) -> Hmac512Entry
         requires { IsNext kind.HmacSha512 self.old }
-        ensures { IsHandedOut kind.HmacSha512 result.rest (hmac_end sha512_chaining (end_of (hmac_round sha512_chaining) hmac_rest result)) self.new self.old }
+        ensures { IsHandedOut kind.HmacSha512 result.rest (hmac_end sha512_chaining (end_of (hmac_round sha512_chaining) hmac_rest result))
+            self.new self.old }
     {
         Hmac512Kernel::hand_out(self)
     }
