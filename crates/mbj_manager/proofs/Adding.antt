@@ -18,10 +18,10 @@ use Rattle.mbj_stage.proofs.Owing.{owed-begun}
 use Rattle.mbj_manager.specs.Machine.Stages.{Pending, pending}
 use Rattle.mbj_manager.specs.Machine.Queues.{Machine}
 use Rattle.mbj_manager.specs.Machine.Between.{with_stages}
-use Rattle.mbj_manager.specs.declared.cell.Cell.{Cell}
-use Rattle.mbj_manager.specs.declared.cell.Cell.TheVariants as cell
+use Rattle.mbj_manager.specs.Cells.{Cell, IsGoing, course_in, job_in, IsOpen}
+use Rattle.mbj_manager.specs.Cells as cell
 use Rattle.mbj_manager.specs.Inside.Added.{added}
-use Rattle.mbj_manager.specs.Inside.Courses.{IsGoing, KeepsSteps, asked, course_in, courses, job_in, number, ring_number, IsOpen}
+use Rattle.mbj_manager.specs.Inside.Courses.{KeepsSteps, asked, courses, number, ring_number}
 use Rattle.mbj_manager.specs.Inside.Leaving.{At}
 use Rattle.mbj_manager.specs.Inside.Desk.{Listed}
 use Rattle.mbj_manager.specs.Inside.LaneQueues.{placed_in, total, waiting_in}

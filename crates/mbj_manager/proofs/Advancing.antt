@@ -17,8 +17,8 @@ use Rattle.mbj_manager.specs.declared.lane.Cause.{Cause}
 use Rattle.mbj_manager.specs.declared.lane.Cause.TheVariants as cause
 use Rattle.mbj_manager.specs.Machine.Course.{goes_on, in_lanes_next, joined, stages_left, stepped, stepped_at}
 use Rattle.mbj_manager.specs.Machine.Between.{times_in}
-use Rattle.mbj_manager.specs.declared.cell.Cell.{Cell}
-use Rattle.mbj_manager.specs.Inside.Courses.{Follows, IsSameRing, asked, courses, job_in, number, ring_number, IsOpen}
+use Rattle.mbj_manager.specs.Cells.{Cell, job_in, IsOpen}
+use Rattle.mbj_manager.specs.Inside.Courses.{Follows, IsSameRing, asked, courses, number, ring_number}
 use Rattle.mbj_manager.specs.Inside.Leaving.{At, Gives, IsAbsent, finishers, numbers, others, returned}
 use Rattle.mbj_stage.specs.Handing.{End, IsNext, handed_out, taken_back}
 use Rattle.mbj_manager.specs.Inside.Desk.{Desk, Enters, MayEnter, desk, joined_by, led_all, ran_at, ran_if_full}

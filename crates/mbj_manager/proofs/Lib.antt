@@ -42,3 +42,4 @@ mod Entries
 mod JobSteps
 mod Turns
 mod Submissions
+pub mod NoneOwed

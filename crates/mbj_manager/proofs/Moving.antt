@@ -13,9 +13,9 @@ use Rattle.mbj_manager.specs.Machine.Queues.{Queue, Machine, put, run_within}
 use Rattle.mbj_manager.specs.declared.lane.Cause.{Cause}
 use Rattle.mbj_manager.specs.declared.lane.Cause.TheVariants as cause
 use Rattle.mbj_manager.specs.State.{ManagerState}
-use Rattle.mbj_manager.specs.declared.cell.Cell.{Cell}
+use Rattle.mbj_manager.specs.Cells.{Cell, job_in, IsOpen}
 use Rattle.mbj_manager.specs.Inside.Added.{first_lane}
-use Rattle.mbj_manager.specs.Inside.Courses.{IsSameRing, asked, courses, job_in, number, ring_number, IsOpen}
+use Rattle.mbj_manager.specs.Inside.Courses.{IsSameRing, asked, courses, number, ring_number}
 use Rattle.mbj_manager.specs.Inside.Leaving.{finishers, numbers, others}
 use Rattle.mbj_manager.specs.Inside.Desk.{Desk, IsReady, desk, led_all, ran_at}
 use Rattle.mbj_manager.specs.Inside.LaneQueues.{desk_of, placed_in, total, with_placed}

@@ -15,8 +15,10 @@ use Rattle.mbj_manager.specs.Machine.Stages.{Pending, pending}
 use Rattle.mbj_manager.specs.Machine.Queues.{Queue, Machine, Waiting, queue_for}
 use Rattle.mbj_manager.specs.Machine.Between.{IsBetweenCalls}
 use Rattle.mbj_manager.specs.State.{ManagerState, after_get_completed, given_at, renumbered}
-use Rattle.mbj_manager.specs.declared.cell.Cell.{Cell}
-use Rattle.mbj_manager.specs.Inside.Courses.{IsGoing, KeepsSteps, asked, course_in, courses, number, ring_number}
+use Rattle.mbj_manager.specs.Cells as cell
+use Rattle.mbj_manager.specs.Cells.{Cell, IsFinished, IsGoing, course_in}
+use Rattle.mbj_manager.proofs.RingCourses.{each-at}
+use Rattle.mbj_manager.specs.Inside.Courses.{KeepsSteps, asked, courses, number, ring_number}
 use Rattle.mbj_manager.specs.Inside.Leaving.{At, IsAbsent}
 use Rattle.mbj_manager.specs.Inside.Desk.{Listed}
 use Rattle.mbj_manager.specs.Inside.LaneQueues.{placed_in}
@@ -254,3 +256,41 @@ not-given-at (d ∷ ds) ((p ∷ ps) ∷ left) h n = refl
 -- where the earliest job isn't finished nothing is given back
 pub not-given : (h : ManagerState) → slice_get h.machine.left 0 ≢ Some [] → after_get_completed h ≡ (None, h)
 not-given h n = not-given-at h.owed h.machine.left h n
+
+-- ---- the cell of the earliest job, where that job is finished
+
+there-is : (vs : List Cell) → slice_get (map pending (map course_in vs)) 0 ≡ Some [] → (v : Cell) × (slice_get vs 0 ≡ Some v)
+there-is [] done = cc
+there-is (v ∷ vs) done = (v, refl)
+
+some-first : (vs : List Cell) (v : Cell) → slice_get vs 0 ≡ Some v → 0 < length vs
+some-first [] v e = cc
+some-first (x ∷ vs) v e = omega arith
+
+finished-going : (v : Cell) → IsGoing v → stage_of (course_in v) ≡ stage.Finished → IsFinished v
+finished-going (cell.Open j) going done = absurd going
+finished-going (cell.Going c) going done = done
+
+-- the first cell of the ring, which holds the earliest job, and what giving it back comes to
+pub record IsFirst (r : RingState Cell) (ag : List ℕ) (ls : LaneQueues) (capacity : ℕ) : Type 0 where
+  pub first : Cell
+  pub is : slice_get r.values 0 ≡ Some first
+  pub some : 0 < length r.values
+  pub finished : IsFinished first
+  pub given : IsGiven r first ag ls capacity
+
+pub first-of : (h : ManagerState) (r : RingState Cell) (ag : List ℕ) (ls : LaneQueues) (capacity : ℕ) → held r ag ls ≡ h → IsHeld r ag ls capacity
+    → h.machine.agenda ≡ [] → slice_get h.machine.left 0 ≡ Some [] → IsFirst r ag ls capacity
+first-of h r ag ls capacity is y idle done =
+    let there = there-is r.values (subst (λ (h : ManagerState). slice_get h.machine.left 0 ≡ Some []) (sym is) done) in
+    let given = pops-of h r there.0 (slice_get r.values 0) ag ls capacity is y idle done refl there.1 in
+    record {
+      first = there.0;
+      is = there.1;
+      some = some-first r.values there.0 there.1;
+      finished = finished-going there.0 (each-at IsGoing 0 r.values there.0 there.1 y.ring.going) given.finished;
+      given = given;
+    }
+
+pub same-first : (vs : List Cell) (v w : Cell) → slice_get vs 0 ≡ Some v → slice_get vs 0 ≡ Some w → v ≡ w
+same-first vs v w e f = let both : Some v ≡ Some w = sym e ∙ f in cc

@@ -11,9 +11,9 @@ use Rattle.mbj_manager.specs.State.{with_open_at}
 use Rattle.mbj_manager.specs.Inside.Held.{IsHeld, held}
 use Rattle.mbj_types.specs.declared.job.Job.{Job}
 use Rattle.mbj_manager.specs.declared.lane_queues.LaneQueues.{LaneQueues}
-use Rattle.mbj_manager.specs.declared.cell.Cell.{Cell}
-use Rattle.mbj_manager.specs.declared.cell.Cell.TheVariants as cell
-use Rattle.mbj_manager.specs.Inside.Courses.{AreCourses, IsGoing, IsSameRing, KeepsSteps, course_in, courses, first_stage, ring_number, IsOpen, job_in}
+use Rattle.mbj_manager.specs.Cells.{Cell, IsGoing, course_in, IsOpen, job_in}
+use Rattle.mbj_manager.specs.Cells as cell
+use Rattle.mbj_manager.specs.Inside.Courses.{AreCourses, IsSameRing, KeepsSteps, courses, first_stage, ring_number}
 use Rattle.mbj_manager.specs.Inside.Leaving.{At}
 
 pub at-below : {A : Type 0} (P : A → Type 0) (n : ℕ) (xs : List A) → At P n xs → n < length xs

@@ -10,3 +10,5 @@ pub mod Added
 pub mod Settled
 pub mod Code
 pub mod RunsFew
+pub mod Stock
+pub mod CellRingLends

@@ -5,15 +5,8 @@ use Rattle.mbj_types.specs.declared.job.Job.{Job}
 use Rattle.mbj_types.specs.declared.refusal.RingFull.{RingFull}
 use Rattle.mbj_types.specs.contracts.job.Job.{the_row as job_row}
 use Rattle.mbj_manager.specs.State.{ManagerState, with_open, with_open_at}
-use Rattle.mbj_manager.specs.declared.cell.Cell.{Cell}
-use Rattle.mbj_manager.specs.declared.cell.Cell.TheVariants as cell
-use Rattle.mbj_manager.specs.contracts.cell.Cell.{the_row as cell_row}
 use Rattle.mbj_manager.specs.contracts.works.Works.{the_row as works_row}
 use Rattle.mbj_manager.specs.contracts.manager.Manager.{the_row}
-
--- the cell holds the job that was last written through r
-abbrev pub LendsJobIn : MutBor Cell → MutBor Job → Fml
-LendsJobIn c r = Lends cell_row job_row c r (λ j. cell.Open j)
 
 -- open job i of the works is what was last written through r
 abbrev pub LendsOpenJob : MutBor ManagerState → ℕ → MutBor Job → Fml

@@ -1,4 +1,6 @@
 pub mod Machine
+pub mod Cells
+pub mod CellLends
 pub mod State
 pub mod Calls
 pub mod Kept

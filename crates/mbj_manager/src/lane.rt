@@ -14,9 +14,8 @@ ghost use Rattle.mbj_manager.specs.Inside.Desk.{Enters, IsReady, Listed, MayEnte
 ghost use Rattle.mbj_stage.specs.CourseState.{CourseState};
 
 use crate::agenda::Agenda;
-use crate::cell::Cell;
+use crate::cell_ring::CellRing;
 use crate::lane_queue::LaneQueue;
-use mbj_ring::Ring;
 use mbj_stage::{Feed, Stage};
 
 /// The call within which a lane queue runs.
@@ -27,7 +26,7 @@ pub enum Cause {
 }
 
 /// Does what finishes at once in the course at a place. Returns what is next then.
-pub(crate) fn run_nows(ring: &mut Ring<Cell>, place: u32) -> Stage
+pub(crate) fn run_nows(ring: &mut CellRing, place: u32) -> Stage
     requires ring { AreCourses ring.old }
     requires place { place < CELLS }
     requires here { At (λ c. c.out ≡ None) (ring_number ring.old place) (courses ring.old) }
@@ -40,14 +39,15 @@ pub(crate) fn run_nows(ring: &mut Ring<Cell>, place: u32) -> Stage
 }
 
 /// Hands an entry out of the course at a place.
-fn hand_out<K: Feed>(ring: &mut Ring<Cell>, place: u32) -> K::Entry
+fn hand_out<K: Feed>(ring: &mut CellRing, place: u32) -> K::Entry
     requires fits { K.fits }
     requires ring { AreCourses ring.old }
     requires place { place < CELLS }
     requires next { At (IsNext K.kind) (ring_number ring.old place) (courses ring.old) }
     ensures ring { IsSameRing ring.new ring.old }
     ensures out { courses ring.new ≡ changed handed_out (ring_number ring.old place) (courses ring.old) }
-    ensures gives { At (Gives K.kind (K.rest_of result) (K.brings (end_of K.round K.rest_of result))) (ring_number ring.old place) (courses ring.old) }
+    ensures gives { At (Gives K.kind (K.rest_of result) (K.brings (end_of K.round K.rest_of result)))
+        (ring_number ring.old place) (courses ring.old) }
     ensures some { 1 ≤ K.rest_of result }
 {
     let cell = ring.at_mut(place);
@@ -55,7 +55,7 @@ fn hand_out<K: Feed>(ring: &mut Ring<Cell>, place: u32) -> K::Entry
 }
 
 /// Takes an entry back into the course at a place.
-fn take_back<K: Feed>(ring: &mut Ring<Cell>, place: u32, entry: K::Entry)
+fn take_back<K: Feed>(ring: &mut CellRing, place: u32, entry: K::Entry)
     requires ring { AreCourses ring.old }
     requires place { place < CELLS }
     requires out { At (IsOut K.kind (K.brings entry)) (ring_number ring.old place) (courses ring.old) }
@@ -68,7 +68,7 @@ fn take_back<K: Feed>(ring: &mut Ring<Cell>, place: u32, entry: K::Entry)
 }
 
 /// Jobs whose rounds are done leave the lane queue, in its order: their entries go back to the courses, which join the agenda.
-fn leave<K: Feed>(queue: &mut LaneQueue<K>, ring: &mut Ring<Cell>, agenda: &mut Agenda)
+fn leave<K: Feed>(queue: &mut LaneQueue<K>, ring: &mut CellRing, agenda: &mut Agenda)
     requires ring { AreCourses ring.old }
     requires listed { Listed K.kind (courses ring.old) (numbered (ring_number ring.old) queue.old.waiters) }
     requires room { length agenda.old.places.items + length queue.old.waiters ≤ vec_capacity agenda.old.places }
@@ -94,7 +94,7 @@ pub(crate) fn run_within<K: Feed>(
     cause: Cause,
     queue: &mut LaneQueue<K>,
     flush_runs: &mut u64,
-    ring: &mut Ring<Cell>,
+    ring: &mut CellRing,
     agenda: &mut Agenda,
 )
     requires ring { AreCourses ring.old }
@@ -119,7 +119,7 @@ pub(crate) fn enter<K: Feed>(
     cause: Cause,
     queue: &mut LaneQueue<K>,
     flush_runs: &mut u64,
-    ring: &mut Ring<Cell>,
+    ring: &mut CellRing,
     agenda: &mut Agenda,
     place: u32,
 )

@@ -5,17 +5,18 @@ ghost use Rattle.mbj_types.specs.Kinds.{lanes_of};
 ghost use Rattle.mbj_ring.specs.declared.ring.TheConstants.{CELLS};
 ghost use Rattle.mbj_manager.specs.Inside.Courses.{AreCourses, IsSameRing, courses, ring_number};
 ghost use Rattle.mbj_manager.specs.Inside.Desk.{Enters, IsReady, MayEnter, ran_at};
+ghost use Rattle.mbj_manager.specs.Inside.PlacedQueue.{no_queue};
 ghost use Rattle.mbj_manager.specs.Inside.LaneQueues.{desk_of, placed_in, no_queues, waiting_in, with_placed};
 
 use crate::agenda::Agenda;
-use crate::cell::Cell;
+use crate::cell_ring::CellRing;
 use crate::lane::{Cause, enter, run_within};
 use crate::lane_queue::LaneQueue;
 use mbj_cbc::CbcKernel;
 use mbj_ccm::CcmKernel;
 use mbj_cmac::CmacKernel;
 use mbj_hmac::{Hmac1Kernel, Hmac256Kernel, Hmac512Kernel};
-use mbj_ring::Ring;
+use mbj_stage::Feed;
 use mbj_types::Kind;
 use std::alloc::{AllocError, Global};
 
@@ -56,23 +57,44 @@ macro_rules! at_kind {
     };
 }
 
+/// Three lane queues.
+type Three<A, B, C> = (LaneQueue<A>, LaneQueue<B>, LaneQueue<C>);
+
+/// Three empty lane queues.
+fn three<A: Feed, B: Feed, C: Feed>(alloc: Global) -> Result<Three<A, B, C>, AllocError>
+    ensures first { IfOk result (λ q. q.0 ≡ no_queue) }
+    ensures second { IfOk result (λ q. q.1 ≡ no_queue) }
+    ensures third { IfOk result (λ q. q.2 ≡ no_queue) }
+{
+    Ok((
+        LaneQueue::new(alloc)?,
+        LaneQueue::new(alloc)?,
+        LaneQueue::new(alloc)?,
+    ))
+}
+
 impl LaneQueues {
     /// Empty lane queues, with counts of 0. It takes the memory of all lanes; no other call takes any.
     pub(crate) fn new(alloc: Global) -> Result<LaneQueues, AllocError>
         ensures { IfOk result (λ l. l ≡ no_queues) }
     {
+        let cbc = three(alloc)?;
+        let cmac128 = LaneQueue::new(alloc)?;
+        let cmac256 = LaneQueue::new(alloc)?;
+        let hmac = three(alloc)?;
+        let ccm = three(alloc)?;
         Ok(LaneQueues {
-            cbc128: LaneQueue::new(alloc)?,
-            cbc192: LaneQueue::new(alloc)?,
-            cbc256: LaneQueue::new(alloc)?,
-            cmac128: LaneQueue::new(alloc)?,
-            cmac256: LaneQueue::new(alloc)?,
-            hmac_sha1: LaneQueue::new(alloc)?,
-            hmac_sha256: LaneQueue::new(alloc)?,
-            hmac_sha512: LaneQueue::new(alloc)?,
-            ccm128: LaneQueue::new(alloc)?,
-            ccm192: LaneQueue::new(alloc)?,
-            ccm256: LaneQueue::new(alloc)?,
+            cbc128: cbc.0,
+            cbc192: cbc.1,
+            cbc256: cbc.2,
+            cmac128,
+            cmac256,
+            hmac_sha1: hmac.0,
+            hmac_sha256: hmac.1,
+            hmac_sha512: hmac.2,
+            ccm128: ccm.0,
+            ccm192: ccm.1,
+            ccm256: ccm.2,
             flush_runs: 0,
         })
     }
@@ -82,7 +104,7 @@ impl LaneQueues {
         &mut self,
         kind: Kind,
         cause: Cause,
-        ring: &mut Ring<Cell>,
+        ring: &mut CellRing,
         agenda: &mut Agenda,
         place: u32,
     )
@@ -106,7 +128,7 @@ impl LaneQueues {
     }
 
     /// The lane queue of a kind runs within a flush.
-    pub(crate) fn run(&mut self, kind: Kind, ring: &mut Ring<Cell>, agenda: &mut Agenda)
+    pub(crate) fn run(&mut self, kind: Kind, ring: &mut CellRing, agenda: &mut Agenda)
         requires ring { AreCourses ring.old }
         requires ready { IsReady kind (desk_of kind (ring_number ring.old) (courses ring.old) agenda.old.places.items self.old)
             (vec_capacity agenda.old.places) }

@@ -7,6 +7,7 @@ mod between;
 mod bursts;
 mod calls;
 mod cell;
+mod cell_ring;
 mod counts;
 mod lane;
 mod lane_queue;
@@ -22,8 +23,11 @@ pub use calls::results_come_back_in_order;
 // A crate can name a manager in a contract only if the types of its fields are exported.
 #[doc(hidden)]
 pub use agenda::Agenda;
-#[doc(hidden)]
 pub use cell::Cell;
+#[doc(hidden)]
+pub use cell::Seat;
+#[doc(hidden)]
+pub use cell_ring::CellRing;
 pub use counts::counts_are_kept_apart;
 #[doc(hidden)]
 pub use lane::Cause;
@@ -31,7 +35,7 @@ pub use lane::Cause;
 pub use lane_queue::LaneQueue;
 #[doc(hidden)]
 pub use lane_queues::LaneQueues;
-pub use manager::Manager;
+pub use manager::{KEPT_BYTES, Manager};
 pub use queued::Queued;
 #[doc(hidden)]
 pub use works::Works;

@@ -13,6 +13,8 @@ ghost use Rattle.mbj_keys.specs.Sessions.{AreOf};
 ghost use Rattle.mbj_manager.specs.State.{IsEarliestFinished, counted, entered, expanded_for, finds, after_flush, after_get_completed, lent, new_manager, after_making_room, after_submit, after_submit_by, after_submit_in, with_open, after_get_next_burst};
 ghost use Rattle.mbj_manager.specs.Lending.{LendsNext, LendsOpen};
 
+mod in_cells;
+
 use crate::lane::Cause;
 use crate::queued::Queued;
 use crate::works::Works;
@@ -23,6 +25,9 @@ use mbj_ring::CELLS;
 use mbj_types::{Done, Job, Kind, RingFull};
 use std::alloc::{AllocError, Global};
 use std::marker::Model;
+
+/// How many bytes of memory a cell keeps at most with each of a job's bytes, where it keeps any.
+pub const KEPT_BYTES: usize = 2048;
 
 /// A manager of jobs for one thread.
 ///
@@ -45,7 +50,6 @@ use std::marker::Model;
 #[derive(Drop)]
 pub struct Manager {
     works: Works,
-    alloc: Global,
     // How many keys of ciphers were expanded as jobs were submitted, modulo 2^64.
     expansions: u64,
 }
@@ -73,10 +77,24 @@ impl Manager {
     pub fn new(alloc: Global) -> Result<Manager, AllocError>
         ensures { IfOk result (λ m. m ≡ new_manager) }
     {
-        let works = Works::new(alloc)?;
+        Manager::with_most(alloc, 0)
+    }
+
+    /// A manager as `new` makes it, whose cells keep memory: at most `KEPT_BYTES` with each of a job's bytes, which later jobs use.
+    ///
+    /// Returns `AllocError` for want of memory.
+    pub fn keeping(alloc: Global) -> Result<Manager, AllocError>
+        ensures { IfOk result (λ m. m ≡ new_manager) }
+    {
+        Manager::with_most(alloc, KEPT_BYTES)
+    }
+
+    fn with_most(alloc: Global, most: usize) -> Result<Manager, AllocError>
+        ensures { IfOk result (λ m. m ≡ new_manager) }
+    {
+        let works = Works::new(alloc, most)?;
         Ok(Manager {
             works,
-            alloc,
             expansions: 0,
         })
     }
@@ -94,7 +112,7 @@ impl Manager {
         if self.is_full() {
             return Err(RingFull);
         }
-        self.works.open_first(self.alloc);
+        self.works.open_first();
         Ok(self.burst_mut(0))
     }
 
@@ -136,7 +154,7 @@ impl Manager {
         ensures size { result ≡ length self.new.opened }
         ensures within { length self.new.owed + result ≤ CELLS }
     {
-        self.works.open_burst(n, self.alloc)
+        self.works.open_burst(n)
     }
 
     /// Lends the job in open cell `i`, the first opened being 0, to be filled. What is written there is that open job.
@@ -238,9 +256,21 @@ impl Manager {
         requires schedule { IfSome found (λ s. IfSome (slice_get self.old.opened 0) (λ j. IsScheduleOf j.key s.now)) }
         ensures { self.new ≡ counted (is_some found.entry) self.old (entered self.old) }
     {
-        let is_expanded = self.works.add(self.alloc, found);
+        let is_expanded = self.works.add(found);
         self.expansions = self.expansions.wrapping_add(u64::from(is_expanded));
         self.works.settle(Cause::Submit);
+    }
+
+    /// How many bytes of memory the idle cells keep.
+    pub fn held(&self) -> usize {
+        self.works.held()
+    }
+
+    /// Frees the memory that the idle cells keep.
+    pub fn trim(&mut self)
+        ensures { self.new ≡ self.old }
+    {
+        self.works.trim();
     }
 
     /// How many keys of ciphers were expanded as jobs were submitted, modulo 2^64. A submission expands the key of an accepted job

@@ -1,10 +1,12 @@
 ghost use Rattle.mbj_types.specs.Kinds.{lanes_of};
 ghost use Rattle.std.specs.Prelude.{◌≡◌, ◌≢◌, ◌↔◌, ◌*◌, ◌%◌, ◌<◌, ◌≤◌, [], ◌∷◌, ◌++◌, length, map, Option, Some, None, ◌+◌, IfOk, IfSome, IsTrue, is_some, slice_get};
+ghost use Rattle.std.specs.Bool.{OnFalse, OnTrue};
 ghost use Rattle.std.specs.Borrow.{sem};
+ghost use Rattle.mbj_types.specs.Blank.{blank};
 ghost use Rattle.mbj_types.specs.Result.{result_of};
 ghost use Rattle.mbj_ring.specs.declared.ring.TheConstants.{CELLS};
 ghost use Rattle.mbj_keys.specs.Schedules.{IsScheduleOf};
-ghost use Rattle.mbj_stage.specs.CourseState.{begun, stage_of};
+ghost use Rattle.mbj_stage.specs.CourseState.{begun, owed, stage_of};
 ghost use Rattle.mbj_stage.specs.Keys.{expands};
 ghost use Rattle.mbj_stage.specs.declared.stage.Stage.TheVariants as stage;
 ghost use Rattle.mbj_manager.specs.Machine.Stages.{pending};
@@ -12,7 +14,9 @@ ghost use Rattle.mbj_lane.specs.Rounds.{end_of};
 ghost use Rattle.mbj_manager.specs.Machine.Queues.{count_end, queue_for, rest_of, run_within};
 ghost use Rattle.mbj_manager.specs.Entries.{AreEntriesOf};
 ghost use Rattle.mbj_manager.specs.Machine.Course.{course, flushed, stages_left, stepped};
-ghost use Rattle.mbj_manager.specs.State.{after_get_completed, lent, new_manager, with_open, after_get_next_burst, with_blanks};
+ghost use Rattle.mbj_manager.specs.State.{after_get_completed, lent, new_manager, with_open, with_open_at, after_get_next_burst, with_blanks};
+ghost use Rattle.mbj_manager.specs.Cells as cell;
+ghost use Rattle.mbj_manager.specs.Cells.{IsFinished, IsOpen, course_in, given_by, job_in};
 ghost use Rattle.mbj_manager.specs.Lending.{LendsOpenJob};
 ghost use Rattle.mbj_manager.specs.Inside.Added.{added, first_lane};
 ghost use Rattle.mbj_manager.specs.Inside.Courses.{AreCourses, courses, first_stage};
@@ -21,12 +25,13 @@ ghost use Rattle.mbj_manager.specs.Inside.Steps.{steps_ahead};
 
 use crate::agenda::Agenda;
 use crate::cell::Cell;
+use crate::cell_ring::CellRing;
 use crate::lane::{Cause, run_nows};
 use crate::lane_queues::LaneQueues;
 use crate::queued::Queued;
 use mbj_aes::Schedule;
 use mbj_lane::Lanes;
-use mbj_ring::{CELLS, Ring};
+use mbj_ring::CELLS;
 use mbj_stage::Stage;
 use mbj_types::{Done, Job, Kind};
 use std::alloc::{AllocError, Global};
@@ -46,7 +51,7 @@ fn agenda_room() -> usize
 /// The courses of the jobs, those that stand between two stages, and those that wait for lanes.
 #[derive(Drop)]
 pub struct Works {
-    ring: Ring<Cell>,
+    ring: CellRing,
     agenda: Agenda,
     lists: LaneQueues,
 }
@@ -68,7 +73,7 @@ impl Model for Works {
 }
 
 /// What is next in the earliest course.
-fn next_of_first(ring: &mut Ring<Cell>) -> Option<Stage>
+fn next_of_first(ring: &mut CellRing) -> Option<Stage>
     requires { AreCourses ring.old }
     ensures same { ring.new ≡ ring.old }
     ensures stage { result ≡ first_stage (courses ring.old) }
@@ -80,11 +85,11 @@ fn next_of_first(ring: &mut Ring<Cell>) -> Option<Stage>
 }
 
 impl Works {
-    pub(crate) fn new(alloc: Global) -> Result<Works, AllocError>
+    pub(crate) fn new(alloc: Global, most: usize) -> Result<Works, AllocError>
         ensures { IfOk result (λ w. w ≡ new_manager) }
     {
         Ok(Works {
-            ring: Ring::new(alloc)?,
+            ring: CellRing::new(alloc, most)?,
             agenda: Agenda::new(alloc, agenda_room())?,
             lists: LaneQueues::new(alloc)?,
         })
@@ -107,32 +112,32 @@ impl Works {
     }
 
     /// Opens a cell with a blank job, behind those that are open.
-    pub(crate) fn open_cell(&mut self, alloc: Global)
+    pub(crate) fn open_cell(&mut self)
         requires { length self.old.owed + length self.old.opened < CELLS }
         ensures { self.new ≡ with_blanks 1 self.old }
     {
-        self.ring.open_cell(Cell::Open(Job::blank(alloc)));
+        self.ring.open_cell();
     }
 
     /// Opens a cell with a blank job, where none is open.
-    pub(crate) fn open_first(&mut self, alloc: Global)
+    pub(crate) fn open_first(&mut self)
         requires { length self.old.owed < CELLS }
         ensures { self.new ≡ with_open self.old (lent self.old) }
     {
         if self.open_len() == 0 {
-            self.open_cell(alloc);
+            self.open_cell();
         }
     }
 
     /// Opens cells with blank jobs until `n` are open, or there is no cell left. Returns how many are open.
-    pub(crate) fn open_burst(&mut self, n: u32, alloc: Global) -> u32
+    pub(crate) fn open_burst(&mut self, n: u32) -> u32
         ensures state { self.new ≡ after_get_next_burst n self.old }
         ensures size { result ≡ length self.new.opened }
         ensures within { length self.new.owed + result ≤ CELLS }
     {
         let wanted = n.min(CELLS - self.len());
         'opening: while self.open_len() < wanted {
-            self.open_cell(alloc);
+            self.open_cell();
         }
         self.open_len()
     }
@@ -149,7 +154,7 @@ impl Works {
     /// The first job that was filled goes last among those that are submitted, and stands in the agenda.
     ///
     /// Returns whether its key was expanded: it is where its schedule is wanted and wasn't found.
-    pub(crate) fn add(&mut self, alloc: Global, found: Option<&Schedule>) -> bool
+    pub(crate) fn add(&mut self, found: Option<&Schedule>) -> bool
         requires some { 0 < length self.old.opened }
         requires idle { self.old.machine.agenda ≡ [] }
         requires schedule { IfSome found (λ s. IfSome (slice_get self.old.opened 0) (λ j. IsScheduleOf j.key s.now)) }
@@ -157,7 +162,7 @@ impl Works {
         ensures expands { IfSome (slice_get self.old.opened 0) (λ j. result ≡ expands (is_some found.entry) j) }
     {
         let is_expanded = match self.ring.open_mut() {
-            Some(cell) => cell.begin(alloc, found),
+            Some(cell) => cell.begin(found),
             None => unreachable!(),
         };
         prove!(self.ring.len() < CELLS);
@@ -272,10 +277,56 @@ impl Works {
         ensures result { Some result ≡ (after_get_completed self.old).0 }
         ensures state { self.new ≡ (after_get_completed self.old).1 }
     {
-        match self.ring.pop() {
-            Some(cell) => cell.into_done(),
-            None => unreachable!(),
+        self.ring.pop()
+    }
+
+    /// Gives the earliest job back where it is finished: its cell changes places with a blank one. Returns whether it is.
+    pub(crate) fn give_into(&mut self, given: &mut Cell) -> bool
+        requires idle { self.old.machine.agenda ≡ [] }
+        requires blank { given.old ≡ cell.Open blank }
+        ensures result { given_by result given.new ≡ (after_get_completed self.old).0 }
+        ensures finished { OnTrue result (IsFinished given.new) }
+        ensures blank { OnFalse result (given.new ≡ cell.Open blank) }
+        ensures state { self.new ≡ (after_get_completed self.old).1 }
+    {
+        if !self.has_finished() {
+            return false;
         }
+        self.pop_into(given);
+        true
+    }
+
+    /// Gives the earliest job back, which is finished: its cell changes places with a blank one.
+    fn pop_into(&mut self, given: &mut Cell)
+        requires idle { self.old.machine.agenda ≡ [] }
+        requires done { slice_get self.old.machine.left 0 ≡ Some [] }
+        requires blank { given.old ≡ cell.Open blank }
+        ensures result { Some (owed (course_in given.new)) ≡ (after_get_completed self.old).0 }
+        ensures finished { IsFinished given.new }
+        ensures state { self.new ≡ (after_get_completed self.old).1 }
+    {
+        self.ring.give(given);
+    }
+
+    /// The job in a cell is open job `index` from now on. The cell has the job then that was there.
+    pub(crate) fn exchange(&mut self, index: u32, other: &mut Cell)
+        requires index { index < length self.old.opened }
+        requires is_open { IsOpen other.old }
+        ensures { self.new ≡ with_open_at self.old index (job_in other.old) }
+    {
+        self.ring.exchange(index, other);
+    }
+
+    /// How many bytes of memory the idle cells keep.
+    pub(crate) fn held(&self) -> usize {
+        self.ring.held()
+    }
+
+    /// Frees the memory that the idle cells keep.
+    pub(crate) fn trim(&mut self)
+        ensures { self.new ≡ self.old }
+    {
+        self.ring.trim();
     }
 
     pub(crate) fn lanes<K: Queued>(&self) -> &Lanes<K>

@@ -10,26 +10,7 @@ use Rattle.mbj_ring.specs.Ring.{RingState}
 use Rattle.mbj_manager.specs.Machine.Stages.{pending}
 use Rattle.mbj_manager.specs.Machine.Course.{in_lanes_next}
 use Rattle.mbj_manager.specs.Entries.{HasJobSteps}
-use Rattle.mbj_manager.specs.declared.cell.Cell.{Cell}
-use Rattle.mbj_manager.specs.declared.cell.Cell.TheVariants as cell
-
--- the job in a cell
-abbrev pub job_in : Cell → Job
-job_in (cell.Open j) = j
-job_in (cell.Going c) = c.job
-
--- the course in a cell; a job that is being filled has nothing done
-abbrev pub course_in : Cell → CourseState
-course_in (cell.Open j) = begun j
-course_in (cell.Going c) = c
-
-abbrev pub IsOpen : Cell → Type 0
-IsOpen (cell.Open j) = Unit {0}
-IsOpen (cell.Going c) = ⊥
-
-abbrev pub IsGoing : Cell → Type 0
-IsGoing (cell.Open j) = ⊥
-IsGoing (cell.Going c) = Unit {0}
+use Rattle.mbj_manager.specs.Cells.{Cell, IsGoing, course_in}
 
 abbrev pub courses : RingState Cell → List CourseState
 courses r = map course_in r.values

@@ -10,8 +10,8 @@ use Rattle.mbj_stage.specs.declared.stage.Stage.TheVariants as stage
 use Rattle.mbj_manager.specs.Machine.Stages.{pending}
 use Rattle.mbj_manager.specs.Machine.Queues.{Waiting, Queue, Machine}
 use Rattle.mbj_manager.specs.State.{ManagerState}
-use Rattle.mbj_manager.specs.declared.cell.Cell.{Cell}
-use Rattle.mbj_manager.specs.Inside.Courses.{AreCourses, IsOpen, asked, courses, job_in, ring_number}
+use Rattle.mbj_manager.specs.Cells.{Cell, IsOpen, job_in}
+use Rattle.mbj_manager.specs.Inside.Courses.{AreCourses, asked, courses, ring_number}
 use Rattle.mbj_manager.specs.Inside.Leaving.{At, IsAbsent}
 use Rattle.mbj_manager.specs.Inside.Desk.{Listed}
 use Rattle.mbj_manager.specs.Inside.LaneQueues.{placed_in, total}

@@ -2,7 +2,8 @@
 use Rattle.std.proofs.Common.{sym, subst}
 use Rattle.mbj_lane.specs.Rounds.{end_of}
 use Rattle.mbj_stage.specs.Handing.{IsNext, handed_out}
-use Rattle.mbj_manager.specs.Inside.Courses.{IsGoing, KeepsSteps, course_in, ring_number}
+use Rattle.mbj_manager.specs.Cells.{IsGoing, course_in}
+use Rattle.mbj_manager.specs.Inside.Courses.{KeepsSteps, ring_number}
 use Rattle.mbj_manager.specs.Entries.{HasJobSteps}
 use Rattle.mbj_manager.specs.Inside.Leaving.{Gives}
 use Rattle.mbj_manager.proofs.JobSteps.{out-steps}

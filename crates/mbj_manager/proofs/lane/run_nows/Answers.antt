@@ -1,7 +1,8 @@
 -- The course at the place changes, and no other.
 use Rattle.std.proofs.Common.{◌≡◌, None, refl}
 use Rattle.mbj_stage.specs.CourseState.{CourseState}
-use Rattle.mbj_manager.specs.Inside.Courses.{Follows, IsGoing, KeepsSteps, course_in, ring_number}
+use Rattle.mbj_manager.specs.Cells.{IsGoing, course_in}
+use Rattle.mbj_manager.specs.Inside.Courses.{Follows, KeepsSteps, ring_number}
 use Rattle.mbj_manager.proofs.RingCourses.{at-cell, cell-at, courses-set, each-at, live, same-ring}
 use Rattle.mbj_manager.proofs.lane.run_nows.Goals as goal
 

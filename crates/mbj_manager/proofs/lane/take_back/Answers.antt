@@ -2,7 +2,8 @@
 use Rattle.std.proofs.Common.{sym, subst}
 use Rattle.mbj_stage.specs.Handing.{IsOut, taken_back}
 use Rattle.mbj_manager.specs.Entries.{HasJobSteps}
-use Rattle.mbj_manager.specs.Inside.Courses.{IsGoing, KeepsSteps, course_in, ring_number}
+use Rattle.mbj_manager.specs.Cells.{IsGoing, course_in}
+use Rattle.mbj_manager.specs.Inside.Courses.{KeepsSteps, ring_number}
 use Rattle.mbj_manager.proofs.JobSteps.{back-steps}
 use Rattle.mbj_manager.proofs.RingCourses.{at-cell, courses-set, each-at, live, same-ring}
 use Rattle.mbj_manager.proofs.lane.take_back.Goals as goal

@@ -1,5 +1,5 @@
 -- Where there is a job the earliest is finished then, after two runs at most for each job.
-use Rattle.std.proofs.Common.{◌≡◌, ◌≢◌, ◌*◌, ◌++◌, ◌∙◌, List, [], ◌∷◌, length, Option, None, Some, IsSome, slice_get, refl, ap, ap₂, sym, subst}
+use Rattle.std.proofs.Common.{◌≡◌, ◌*◌, ◌++◌, ◌∙◌, List, [], length, Option, None, ap, ap₂, sym, subst}
 use Rattle.std.specs.Prelude.{option_to_list}
 use Rattle.mbj_types.specs.declared.done.Done.{Done}
 use Rattle.mbj_manager.specs.Machine.Course.{flushed}
@@ -7,20 +7,10 @@ use Rattle.mbj_manager.specs.State.{ManagerState, after_get_completed, given_at}
 use Rattle.mbj_manager.specs.Machine.Counts.{RisesUpTo}
 use Rattle.mbj_manager.specs.Inside.Settled.{IsSettled}
 use Rattle.mbj_manager.proofs.CallLaws.{given-opened, given-order}
-use Rattle.mbj_manager.proofs.CallsKeep.{earliest-given, few-runs, flush-none, flush-settled, given-settled}
+use Rattle.mbj_manager.proofs.CallsKeep.{few-runs, flush-none, flush-settled, given-settled}
 use Rattle.mbj_manager.proofs.Counted.{with_count, given-first, given-then}
+use Rattle.mbj_manager.proofs.NoneOwed.{none-owed}
 use Rattle.mbj_manager.proofs.manager.Manager.flush.Goals as goal
-
-not-some : (o : Option Done) → o ≡ None → IsSome o → ⊥
-not-some None none some = cc
-not-some (Some d) none some = cc
-
-none-owed : (ds : List Done) (h : ManagerState) → h.owed ≡ ds → (ds ≢ [] → slice_get h.machine.left 0 ≡ Some []) → (after_get_completed h).0 ≡ None → ds ≡ []
-none-owed [] h is done none = refl
-none-owed (d ∷ ds) h is done none =
-    let given-one : IsSome (given_at (d ∷ ds) h.machine.left h).0 = earliest-given (d ∷ ds) h.machine.left h (λ e. cc) (done (λ e. cc)) in
-    let given-none : (given_at (d ∷ ds) h.machine.left h).0 ≡ None = sym (ap (λ (l : List Done). (given_at l h.machine.left h).0) is) ∙ none in
-    absurd (not-some (given_at (d ∷ ds) h.machine.left h).0 given-none given-one)
 
 -- the state from which the earliest job is given back
 at-flushed : (c : goal.After-give)

@@ -5,7 +5,7 @@ use Rattle.std.proofs.lemmas.List.{length-map}
 use Rattle.mbj_ring.specs.declared.ring.TheConstants.{CELLS}
 use Rattle.mbj_ring.specs.Ring.{RingState}
 use Rattle.mbj_manager.specs.State.{ManagerState}
-use Rattle.mbj_manager.specs.declared.cell.Cell.{Cell}
+use Rattle.mbj_manager.specs.Cells.{Cell}
 use Rattle.mbj_manager.specs.Inside.Courses.{ring_number}
 use Rattle.mbj_manager.specs.Inside.Added.{added}
 use Rattle.mbj_manager.specs.Inside.Held.{held}

@@ -6,7 +6,8 @@ use Rattle.mbj_stage.specs.Handing.{End}
 use Rattle.mbj_manager.specs.Machine.Queues.{queue_for, rest_of}
 use Rattle.mbj_manager.specs.State.{ManagerState}
 use Rattle.mbj_manager.specs.Entries.{AreEntriesOf, HasJobSteps}
-use Rattle.mbj_manager.specs.Inside.Courses.{course_in, courses, job_in, ring_number}
+use Rattle.mbj_manager.specs.Cells.{course_in, job_in}
+use Rattle.mbj_manager.specs.Inside.Courses.{courses, ring_number}
 use Rattle.mbj_manager.specs.Inside.Held.{held, lines_in, waiting}
 use Rattle.mbj_manager.specs.Inside.PlacedQueue.{PlacedQueue, Waiter, pair_rest, rounds_in}
 use Rattle.mbj_manager.specs.Inside.LaneQueues.{placed_in}

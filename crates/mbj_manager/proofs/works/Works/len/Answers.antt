@@ -3,7 +3,8 @@ use Rattle.std.proofs.Common.{◌∙◌, length, ap, sym}
 use Rattle.std.proofs.lemmas.List.{length-map}
 use Rattle.mbj_stage.specs.CourseState.{owed}
 use Rattle.mbj_manager.specs.State.{ManagerState}
-use Rattle.mbj_manager.specs.Inside.Courses.{course_in, courses}
+use Rattle.mbj_manager.specs.Cells.{course_in}
+use Rattle.mbj_manager.specs.Inside.Courses.{courses}
 use Rattle.mbj_manager.specs.Inside.Held.{find_in, lines_in, restored_in}
 use Rattle.mbj_manager.proofs.Restoring.{restored-length}
 use Rattle.mbj_manager.proofs.works.Works.len.Goals as goal

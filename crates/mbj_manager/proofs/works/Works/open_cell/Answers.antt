@@ -2,15 +2,16 @@
 use Rattle.std.proofs.Common.{◌+◌, ◌<◌, ◌++◌, ◌∷◌, [], List, length, length-append, map, vec_capacity, ap, sym, ◌∙◌, subst, arith}
 use Rattle.std.proofs.lemmas.List.{length-map, map_push}
 use Rattle.std.proofs.lemmas.List.Elements.{All-push}
+use Rattle.mbj_types.specs.Blank.{blank}
 use Rattle.mbj_types.specs.declared.job.Job.{Job}
 use Rattle.mbj_ring.specs.declared.ring.TheConstants.{CELLS}
 use Rattle.mbj_stage.specs.CourseState.{owed}
 use Rattle.mbj_manager.specs.State.{ManagerState, with_blanks}
-use Rattle.mbj_manager.specs.Inside.Courses.{course_in, courses, IsOpen, job_in}
+use Rattle.mbj_manager.specs.Cells.{course_in, IsOpen, job_in, Cell}
+use Rattle.mbj_manager.specs.Inside.Courses.{courses}
 use Rattle.mbj_manager.specs.Inside.Held.{find_in, lines_in, restored_in, IsHeld, held}
 use Rattle.mbj_manager.proofs.Restoring.{restored-length}
-use Rattle.mbj_manager.specs.declared.cell.Cell.{Cell}
-use Rattle.mbj_manager.specs.declared.cell.Cell.TheVariants as cell
+use Rattle.mbj_manager.specs.Cells as cell
 use Rattle.mbj_manager.proofs.RingCourses.{open-held}
 use Rattle.mbj_ring.specs.Ring.{RingState}
 use Rattle.mbj_manager.proofs.works.Works.open_cell.Goals as goal
@@ -33,13 +34,13 @@ pub invariant_of-self : goal.invariant_of-self
 invariant_of-self c =
     let w = c.self.inside in
     subst (λ (x : RingState Cell). IsHeld x w.agenda.places.items w.lists (vec_capacity w.agenda.places)) (sym c.open_cell.ensures)
-    (open-held w.ring (w.ring.opened ++ cell.Open c.blank.result ∷ []) w.agenda.places.items w.lists (vec_capacity w.agenda.places)
-    (All-push IsOpen w.ring.opened (cell.Open c.blank.result) c.self.invariant.is_open tt) c.self.invariant)
+    (open-held w.ring (w.ring.opened ++ cell.Open blank ∷ []) w.agenda.places.items w.lists (vec_capacity w.agenda.places)
+    (All-push IsOpen w.ring.opened (cell.Open blank) c.self.invariant.is_open tt) c.self.invariant)
 
 pub returns : goal.returns
 returns c =
     let w = c.self.inside in
     ap (λ (x : RingState Cell). held x w.agenda.places.items w.lists) c.open_cell.ensures
     ∙ ap (λ (js : List Job). record (held w.ring w.agenda.places.items w.lists) { opened = js })
-    (map_push job_in w.ring.opened (cell.Open c.blank.result) ∙ ap (λ (j : Job). map job_in w.ring.opened ++ j ∷ []) c.blank.ensures)
+    (map_push job_in w.ring.opened (cell.Open blank))
     ∙ ap (with_blanks 1) c.self.view_is

@@ -2,7 +2,7 @@
 use Rattle.std.proofs.Common.{◌<◌, length, refl, sym, subst, arith}
 use Rattle.std.proofs.lemmas.List.{length-map}
 use Rattle.mbj_manager.specs.State.{ManagerState}
-use Rattle.mbj_manager.specs.Inside.Courses.{job_in}
+use Rattle.mbj_manager.specs.Cells.{job_in}
 use Rattle.mbj_manager.proofs.RingCourses.{job-at, open-at, written-open}
 use Rattle.mbj_manager.proofs.works.Works.open_job.Goals as goal
 

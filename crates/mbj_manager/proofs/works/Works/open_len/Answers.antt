@@ -3,7 +3,8 @@ use Rattle.std.proofs.Common.{◌≤◌, ◌+◌, ◌∙◌, length, length-appe
 use Rattle.std.proofs.lemmas.List.{length-map}
 use Rattle.mbj_ring.specs.declared.ring.TheConstants.{CELLS}
 use Rattle.mbj_manager.specs.State.{ManagerState}
-use Rattle.mbj_manager.specs.Inside.Courses.{course_in, courses, job_in}
+use Rattle.mbj_manager.specs.Cells.{course_in, job_in}
+use Rattle.mbj_manager.specs.Inside.Courses.{courses}
 use Rattle.mbj_stage.specs.CourseState.{owed}
 use Rattle.mbj_manager.specs.Inside.Held.{find_in, lines_in, restored_in}
 use Rattle.mbj_manager.proofs.Restoring.{restored-length}

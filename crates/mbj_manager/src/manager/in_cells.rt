@@ -1,0 +1,101 @@
+//! Jobs that come and go in a cell of the caller's: the cell changes places with one of the manager's, and no job is moved.
+
+ghost use Rattle.std.specs.Prelude.{◌≡◌, ◌<◌, ◌++◌, [], length, map, option_to_list, slice_get, take, IfSome, false, is_some};
+ghost use Rattle.std.specs.Bool.{OnFalse, OnTrue};
+ghost use Rattle.mbj_types.specs.Blank.{blank};
+ghost use Rattle.mbj_types.specs.Result.{result_of};
+ghost use Rattle.mbj_keys.specs.Schedules.{IsScheduleOf};
+ghost use Rattle.mbj_keys.specs.Sessions.{AreOf};
+ghost use Rattle.mbj_manager.specs.State.{after_flush, after_get_completed, after_submit_by, after_submit_in, with_open_at};
+ghost use Rattle.mbj_manager.specs.Cells as cell;
+ghost use Rattle.mbj_manager.specs.Cells.{IsFinished, IsOpen, given_by, job_in};
+
+use super::Manager;
+use crate::cell::Cell;
+use mbj_aes::Schedule;
+use mbj_keys::{Keys, Notes};
+
+impl Manager {
+    /// The job in a cell is open job `i` from now on. The cell has the job then that was there. No job is moved.
+    pub fn exchange(&mut self, i: u32, other: &mut Cell)
+        requires index { i < length self.old.opened }
+        requires is_open { IsOpen other.old }
+        ensures state { self.new ≡ with_open_at self.old i (job_in other.old) }
+    {
+        self.works.exchange(i, other);
+    }
+
+    /// Does what `submit` does, and gives a job back in a cell: that of the job changes places with a blank one. Returns whether it gives
+    /// one back. No result is moved.
+    pub fn submit_into(&mut self, given: &mut Cell) -> bool
+        requires is_open { 0 < length self.old.opened }
+        requires blank { given.old ≡ cell.Open blank }
+        ensures result { given_by result given.new ≡ (after_submit_by false self.old).0 }
+        ensures finished { OnTrue result (IsFinished given.new) }
+        ensures blank { OnFalse result (given.new ≡ cell.Open blank) }
+        ensures state { self.new ≡ (after_submit_by false self.old).1 }
+        ensures order { option_to_list (given_by result given.new) ++ self.new.owed
+            ≡ self.old.owed ++ map result_of (take 1 self.old.opened) }
+    {
+        self.submit_by_into(None, given)
+    }
+
+    /// Does what `submit_in` does, and gives a job back as `submit_into` does.
+    pub fn submit_in_into(&mut self, keys: &Keys, notes: &mut Notes, given: &mut Cell) -> bool
+        requires is_open { 0 < length self.old.opened }
+        requires notes { AreOf keys.now notes.old }
+        requires blank { given.old ≡ cell.Open blank }
+        ensures same { notes.new ≡ notes.old }
+        ensures result { given_by result given.new ≡ (after_submit_in notes.old self.old).0 }
+        ensures finished { OnTrue result (IsFinished given.new) }
+        ensures blank { OnFalse result (given.new ≡ cell.Open blank) }
+        ensures state { self.new ≡ (after_submit_in notes.old self.old).1 }
+        ensures order { option_to_list (given_by result given.new) ++ self.new.owed
+            ≡ self.old.owed ++ map result_of (take 1 self.old.opened) }
+    {
+        let found = self.find(keys, notes);
+        self.submit_by_into(found, given)
+    }
+
+    /// Submits the first open job, whose key's schedule was found or wasn't, and gives a job back as `submit_into` does.
+    fn submit_by_into(&mut self, found: Option<&Schedule>, given: &mut Cell) -> bool
+        requires is_open { 0 < length self.old.opened }
+        requires schedule { IfSome found (λ s. IfSome (slice_get self.old.opened 0) (λ j. IsScheduleOf j.key s.now)) }
+        requires blank { given.old ≡ cell.Open blank }
+        ensures result { given_by result given.new ≡ (after_submit_by (is_some found.entry) self.old).0 }
+        ensures finished { OnTrue result (IsFinished given.new) }
+        ensures blank { OnFalse result (given.new ≡ cell.Open blank) }
+        ensures state { self.new ≡ (after_submit_by (is_some found.entry) self.old).1 }
+        ensures order { option_to_list (given_by result given.new) ++ self.new.owed
+            ≡ self.old.owed ++ map result_of (take 1 self.old.opened) }
+    {
+        self.enter(found);
+        self.give_into(given)
+    }
+
+    /// Does what `flush` does, and gives the job back as `submit_into` does.
+    pub fn flush_into(&mut self, given: &mut Cell) -> bool
+        requires blank { given.old ≡ cell.Open blank }
+        ensures result { given_by result given.new ≡ (after_flush self.old).0 }
+        ensures finished { OnTrue result (IsFinished given.new) }
+        ensures blank { OnFalse result (given.new ≡ cell.Open blank) }
+        ensures state { self.new ≡ (after_flush self.old).1 }
+        ensures none { OnFalse result (self.old.owed ≡ []) }
+        ensures order { option_to_list (given_by result given.new) ++ self.new.owed ≡ self.old.owed }
+    {
+        self.works.flush_first();
+        self.works.give_into(given)
+    }
+
+    /// Does what `get_completed` does, and gives the job back as `submit_into` does.
+    pub fn give_into(&mut self, given: &mut Cell) -> bool
+        requires blank { given.old ≡ cell.Open blank }
+        ensures result { given_by result given.new ≡ (after_get_completed self.old).0 }
+        ensures finished { OnTrue result (IsFinished given.new) }
+        ensures blank { OnFalse result (given.new ≡ cell.Open blank) }
+        ensures state { self.new ≡ (after_get_completed self.old).1 }
+        ensures order { option_to_list (given_by result given.new) ++ self.new.owed ≡ self.old.owed }
+    {
+        self.works.give_into(given)
+    }
+}
