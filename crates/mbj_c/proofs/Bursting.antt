@@ -6,7 +6,7 @@ use Rattle.std.proofs.lemmas.List.{length-set}
 use Rattle.std.proofs.lemmas.Option.{slice_get_past, slice_get_within}
 use Rattle.mbj_c.specs.declared.bursts.RawBurst.{RawBurst}
 use Rattle.mbj_c.specs.declared.giving.Call.{Call}
-use Rattle.mbj_c.specs.declared.giving.Given.{Given}
+use Rattle.mbj_c.specs.Given.{Given}
 use Rattle.mbj_c.specs.declared.giving.RawDone.{RawDone}
 use Rattle.mbj_c.specs.declared.job.RawJob.{RawJob}
 use Rattle.mbj_c.specs.declared.refusal.Refusal.{Refusal}

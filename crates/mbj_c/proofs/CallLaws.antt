@@ -12,7 +12,7 @@ use Rattle.mbj_manager.specs.State.{ManagerState}
 use Rattle.mbj_manager.proofs.CallLaws.{given-order, submitted-order}
 use Rattle.mbj_c.specs.declared.giving.Call.{Call}
 use Rattle.mbj_c.specs.declared.giving.Call.TheVariants as call
-use Rattle.mbj_c.specs.declared.giving.Given.{Given}
+use Rattle.mbj_c.specs.Given.{Given}
 use Rattle.mbj_c.specs.declared.refusal.Refusal.{Refusal}
 use Rattle.mbj_c.specs.declared.refusal.Refusal.TheVariants as refusal
 use Rattle.mbj_c.specs.Calls.{CallOfC, fills, gives, uses, GivesInOrder, after_calls, called_of, given_back, given_in, given_of, jobs_by, jobs_in, jobs_submitted}

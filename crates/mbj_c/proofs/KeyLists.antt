@@ -1,7 +1,6 @@
 -- The keys of a set, looked at one after another.
-use Rattle.std.proofs.Common.{◌≡◌, ◌∙◌, ◌<◌, ◌≤◌, ◌+◌, ℕ, List, [], ◌∷◌, ◌++◌, length, map, drop, take, get_or, slice_index_or, ap, refl, sym, arith, true, false, Bool}
+use Rattle.std.proofs.Common.{◌≡◌, ◌∙◌, ◌<◌, ◌≤◌, ◌+◌, ℕ, List, [], ◌∷◌, ◌++◌, length, map, drop, take, slice_index_or, ap, refl, sym, true, false, Bool}
 use Rattle.std.specs.Prelude.{◌&&◌}
-use Rattle.std.specs.List.{All}
 use Rattle.std.proofs.Math.ListN.{drop_of_length-le}
 use Rattle.std.proofs.lemmas.List.{drop_more, map-append, take_more}
 use Rattle.mbj_aes.specs.Bytes.{IsKeySize}

@@ -1,12 +1,14 @@
 -- The ranges that are kept beside a manager once it made a call.
 use Rattle.std.proofs.Common.{set, slice_get, ◌≡◌, ◌≤◌, ◌+◌, ◌++◌, ℕ, List, [], ◌∷◌, length, drop, take, map, Option, None, Some, refl, sym, ap, ◌∙◌, subst, arith}
-use Rattle.std.specs.Prelude.{false, option_to_list}
+use Rattle.std.specs.Prelude.{false, nat_le, option_to_list, true}
+use Rattle.std.proofs.lemmas.Bool.{and_parts, leb-true}
 use Rattle.std.proofs.lemmas.List.{append-nil, drop-map, length-map, map-append, take-map}
 use Rattle.mbj_types.specs.declared.job.Job.{Job}
 use Rattle.mbj_types.specs.declared.job.Cipher.{Cipher}
 use Rattle.mbj_types.specs.declared.job.Cipher.TheVariants as cipher
 use Rattle.mbj_types.specs.declared.done.Done.{Done}
 use Rattle.mbj_types.specs.declared.reason.Reason.{Reason}
+use Rattle.mbj_types.specs.declared.limits.TheConstants.{MAX_TAG_BYTES}
 use Rattle.mbj_types.specs.Result.{result_of}
 use Rattle.mbj_types.specs.Verdict.{verdict, is_null_cipher}
 use Rattle.mbj_args.proofs.Accepted as table
@@ -18,11 +20,12 @@ use Rattle.mbj_manager.proofs.CallLaws.{given-opened, submitted-opened}
 use Rattle.mbj_manager.specs.Machine.Course.{flushed}
 use Rattle.mbj_c.specs.declared.giving.Call.{Call}
 use Rattle.mbj_c.specs.declared.giving.Call.TheVariants as call
+use Rattle.mbj_c.specs.declared.giving.RawDone.{RawDone}
 use Rattle.mbj_c.specs.declared.range.CipherRange.{CipherRange}
 use Rattle.mbj_c.specs.Filling.{put_at, with_cell}
-use Rattle.mbj_c.specs.Giving.{filled_after, found_by, given_with, job_entered, manager_step, owed_in, ranges_entered}
+use Rattle.mbj_c.specs.Giving.{filled_after, found_by, has_room_for, job_entered, manager_step, owed_in, ranges_entered}
 use Rattle.mbj_c.specs.Inside.Ranges.{AreOfJobs, AreRanges}
-use Rattle.mbj_c.specs.Inside.Room.{IsWithin}
+use Rattle.mbj_c.specs.Inside.Room.{Fits}
 use Rattle.mbj_c.specs.Ranges.{given_range, range_by, written_range}
 
 -- the first range, written back as it was read
@@ -110,12 +113,18 @@ abbrev pub head_or : Done → List Done → Done
 head_or d [] = d
 head_or d (e ∷ es) = e
 
-pub result-within : (done : Option Done) (after : List Done) (jobs : List Job) → option_to_list done ++ after ≡ map result_of jobs
-    → IsWithin (given_with done (map given_range jobs))
-result-within None after jobs order = tt
-result-within (Some d) after [] order = absurd (cc)
-result-within (Some d) after (j ∷ jobs) order =
-    subst (λ (e : Done). (given_range j).off + (given_range j).len ≤ length e.packet) (sym (ap (head_or d) order)) (given-within j)
+-- it fits with its range, where there is room for that and any tag
+pub result-fits : (d : Done) (after : List Done) (jobs : List Job) (out : RawDone) → d ∷ after ≡ map result_of jobs
+    → has_room_for (slice_get (map given_range jobs) 0) out ≡ true → Fits d (map given_range jobs) out
+result-fits d after [] out order room = absurd (cc)
+result-fits d after (j ∷ jobs) out order room =
+    let r : CipherRange = given_range j in
+    let parts = and_parts (nat_le r.len (length out.dst.now)) (nat_le MAX_TAG_BYTES (length out.tag.now)) room in
+    record {
+      range = subst (λ (e : Done). r.off + r.len ≤ length e.packet) (sym (ap (head_or d) order)) (given-within j);
+      dst = leb-true r.len (length out.dst.now) parts.0;
+      tag = leb-true MAX_TAG_BYTES (length out.tag.now) parts.1;
+    }
 
 -- ---- a call
 
@@ -155,14 +164,15 @@ ranges-filled i j m before ranges are values opened = record {
   opened = opened ∙ opened-with i j m.opened before.opened are.opened;
 }
 
--- the range of what is given back
-pub given-range-within : (c : Call) (m : ManagerState) (done : Option Done) (after : List Done) (ranges filled : List CipherRange)
-    → AreOfJobs m.owed ranges → filled ≡ map given_range m.opened → option_to_list done ++ after ≡ owed_in c m
-    → IsWithin (given_with done (ranges ++ ranges_entered c filled))
-given-range-within c m done after ranges filled are is order =
+-- what is given back fits with the first range
+pub given-fits : (c : Call) (m : ManagerState) (d : Done) (after : List Done) (ranges filled : List CipherRange) (out : RawDone)
+    → AreOfJobs m.owed ranges → filled ≡ map given_range m.opened → d ∷ after ≡ owed_in c m
+    → has_room_for (slice_get (ranges ++ ranges_entered c filled) 0) out ≡ true → Fits d (ranges ++ ranges_entered c filled) out
+given-fits c m d after ranges filled out are is order room =
     let those = of-jobs-in c m ranges filled are is in
-    subst (λ (rs : List CipherRange). IsWithin (given_with done rs)) (sym those.given)
-    (result-within done after those.jobs (order ∙ those.results))
+    subst (λ (rs : List CipherRange). Fits d rs out) (sym those.given)
+    (result-fits d after those.jobs out (order ∙ those.results)
+    (subst (λ (rs : List CipherRange). has_room_for (slice_get rs 0) out ≡ true) those.given room))
 
 -- the ranges after a call
 pub ranges-after : (c : Call) (notes : Option (List Known)) (m after : ManagerState) (done : Option Done)

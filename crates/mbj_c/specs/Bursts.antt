@@ -2,7 +2,7 @@
 use Rattle.std.specs.Prelude.{◌≡◌, ◌≢◌, ◌==◌, ℕ, zero, suc, ◌+◌, ◌<◌, ◌≤◌, List, [], ◌++◌, length, min, Option, Some, None, option_to_list, slice_get, Result, Ok, Err, if◌then◌else◌}
 use Rattle.mbj_c.specs.declared.bursts.RawBurst.{RawBurst}
 use Rattle.mbj_c.specs.declared.giving.Call.{Call}
-use Rattle.mbj_c.specs.declared.giving.Given.{Given}
+use Rattle.mbj_c.specs.Given.{Given}
 use Rattle.mbj_c.specs.declared.giving.RawDone.{RawDone}
 use Rattle.mbj_c.specs.declared.job.RawJob.{RawJob}
 use Rattle.mbj_c.specs.declared.refusal.Refusal.{Refusal}

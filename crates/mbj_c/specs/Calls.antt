@@ -4,7 +4,7 @@ use Rattle.mbj_keys.specs.Sessions.{Known}
 use Rattle.mbj_types.specs.declared.job.Job.{Job}
 use Rattle.mbj_types.specs.Result.{result_of}
 use Rattle.mbj_c.specs.declared.giving.Call.{Call}
-use Rattle.mbj_c.specs.declared.giving.Given.{Given}
+use Rattle.mbj_c.specs.Given.{Given}
 use Rattle.mbj_c.specs.declared.giving.RawDone.{RawDone}
 use Rattle.mbj_c.specs.declared.job.RawJob.{RawJob}
 use Rattle.mbj_c.specs.declared.refusal.Refusal.{Refusal}

@@ -8,7 +8,7 @@ use Rattle.mbj_keys.specs.Sessions.{Known}
 use Rattle.mbj_manager.specs.State.{ManagerState, after_submit_by, after_get_completed, after_flush, finds}
 use Rattle.mbj_c.specs.declared.giving.Call.{Call}
 use Rattle.mbj_c.specs.declared.giving.Call.TheVariants as call
-use Rattle.mbj_c.specs.declared.giving.Given.{Given}
+use Rattle.mbj_c.specs.Given.{Given}
 use Rattle.mbj_c.specs.declared.giving.RawDone.{RawDone}
 use Rattle.mbj_c.specs.declared.range.CipherRange.{CipherRange}
 use Rattle.mbj_c.specs.declared.refusal.Refusal.{Refusal}

@@ -1,5 +1,5 @@
 -- Sets of key sessions, and a manager that uses one.
-use Rattle.std.specs.Prelude.{◌≡◌, ℕ, ◌<◌, nat_lt, Bool, true, false, ◌&&◌, List, [], ◌∷◌, length, map, Option, Some, None, IsSome, if◌then◌else◌}
+use Rattle.std.specs.Prelude.{◌≡◌, ℕ, ◌<◌, nat_lt, Bool, true, ◌&&◌, List, [], ◌∷◌, length, map, Option, Some, None, IsSome, if◌then◌else◌}
 use Rattle.mbj_types.specs.Aes.{is_key_size}
 use Rattle.mbj_types.specs.declared.limits.TheConstants.{MAX_SESSIONS}
 use Rattle.mbj_keys.specs.Sessions.{AreOf, Known, Session, entry_of, keys_of}

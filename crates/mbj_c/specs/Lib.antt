@@ -5,6 +5,7 @@ pub mod State
 pub mod Code
 pub mod Counts
 pub mod Filling
+pub mod Given
 pub mod Giving
 pub mod KeySets
 pub mod Calls

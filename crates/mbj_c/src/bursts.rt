@@ -32,7 +32,8 @@ fn fill_next(
 )
     requires cell { IfSome handle.old.manager (λ k. filled.old ≤ length k.manager.opened) }
     ensures answer { IsAnswer (Some raw.now) (Some refusal.new) (fill_burst filled.old handle.old.manager) }
-    ensures state { fill_burst filled.new handle.new.manager ≡ with_told (Some raw.now) (Some refusal.new) (fill_burst filled.old handle.old.manager) }
+    ensures state { fill_burst filled.new handle.new.manager
+        ≡ with_told (Some raw.now) (Some refusal.new) (fill_burst filled.old handle.old.manager) }
     ensures cell { IfSome handle.new.manager (λ k. filled.new ≤ length k.manager.opened) }
 {
     match calls::fill_cell(alloc, handle, *filled, raw) {

@@ -19,22 +19,22 @@ use crate::words::kind_at;
 use std::alloc::{AllocError, Global};
 
 /// A new manager on the heap.
-fn boxed(alloc: Global) -> Result<Box<RangedManager>, AllocError>
+fn boxed(alloc: Global, keeps: bool) -> Result<Box<RangedManager>, AllocError>
     ensures { IfOk result (λ b. b.value ≡ new_ranged) }
 {
-    let manager = RangedManager::new(alloc)?;
+    let manager = RangedManager::new(alloc, keeps)?;
     Ok(Box::new(alloc, manager)?)
 }
 
 /// Makes a manager, where the handle has none.
-pub(crate) fn make(alloc: Global, handle: &mut Handle) -> Result<(), Refusal>
+pub(crate) fn make(alloc: Global, handle: &mut Handle, keeps: bool) -> Result<(), Refusal>
     ensures { IsDone (made handle.old.manager) handle.old.manager result handle.new.manager }
 {
     if let Some(manager) = handle.take(alloc) {
         handle.put(manager);
         return Err(Refusal::HasManager);
     }
-    handle.put(boxed(alloc)?);
+    handle.put(boxed(alloc, keeps)?);
     Ok(())
 }
 
@@ -76,15 +76,17 @@ pub(crate) fn give(
     ensures told { IsTold (answered call handle.old.manager out.old).0 result refusal.new out.old out.new }
     ensures drained { call ≡ calls.Flush → result ≡ false → refusal.new ≡ 0 → IsDrained handle.old.manager }
 {
-    let answer = match handle.take(alloc) {
+    match handle.take(alloc) {
         Some(mut manager) => {
-            let answer = manager.give(call, out);
+            let is_given = manager.give(call, out, refusal);
             handle.put(manager);
-            answer
+            is_given
         }
-        None => Err(Refusal::NoManager),
-    };
-    out.tell(answer, refusal)
+        None => {
+            *refusal = Refusal::NoManager.code();
+            false
+        }
+    }
 }
 
 /// How many jobs are submitted and not given back: none, where there is no manager.
@@ -116,4 +118,28 @@ pub(crate) fn count(alloc: Global, handle: &mut Handle, kind: u32, out: &mut Cou
     *out = manager.counts(kind);
     handle.put(manager);
     true
+}
+
+/// How many bytes the idle cells keep.
+pub(crate) fn held(alloc: Global, handle: &mut Handle) -> usize
+    ensures same { handle.new.manager ≡ handle.old.manager }
+{
+    match handle.take(alloc) {
+        Some(manager) => {
+            let held = manager.held();
+            handle.put(manager);
+            held
+        }
+        None => 0,
+    }
+}
+
+/// Frees what the idle cells keep.
+pub(crate) fn trim(alloc: Global, handle: &mut Handle)
+    ensures same { handle.new.manager ≡ handle.old.manager }
+{
+    if let Some(mut manager) = handle.take(alloc) {
+        manager.trim();
+        handle.put(manager);
+    }
 }

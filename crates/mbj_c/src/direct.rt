@@ -265,11 +265,14 @@ pub(crate) fn ccm_change(
     text: &mut [u8],
     tag: &mut [u8],
 ) -> Result<(), Refusal>
-    ensures want_of_memory { result ≡ Err Memory → (changed (ccm_said key.now nonce.now aad.now (is_enc dir) (text.old, tag.old)) (text.old, tag.old)).0 ≡ Ok tt }
+    ensures want_of_memory { result ≡ Err Memory
+        → (changed (ccm_said key.now nonce.now aad.now (is_enc dir) (text.old, tag.old)) (text.old, tag.old)).0 ≡ Ok tt }
     ensures unchanged { result ≡ Err Memory → text.new ≡ text.old }
     ensures unchanged_tag { result ≡ Err Memory → tag.new ≡ tag.old }
-    ensures answer { result ≢ Err Memory → result ≡ (changed (ccm_said key.now nonce.now aad.now (is_enc dir) (text.old, tag.old)) (text.old, tag.old)).0 }
-    ensures written { result ≢ Err Memory → (text.new, tag.new) ≡ (changed (ccm_said key.now nonce.now aad.now (is_enc dir) (text.old, tag.old)) (text.old, tag.old)).1 }
+    ensures answer { result ≢ Err Memory
+        → result ≡ (changed (ccm_said key.now nonce.now aad.now (is_enc dir) (text.old, tag.old)) (text.old, tag.old)).0 }
+    ensures written { result ≢ Err Memory
+        → (text.new, tag.new) ≡ (changed (ccm_said key.now nonce.now aad.now (is_enc dir) (text.old, tag.old)) (text.old, tag.old)).1 }
 {
     ccm_takes(key, nonce, aad, text.len(), tag.len())?;
     let schedule = Schedule::expand(key);

@@ -1,16 +1,21 @@
 //! The calls that may give a result back.
 
-ghost use Rattle.std.specs.Prelude.{◌≡◌, ◌++◌, ◌+◌, ◌≤◌, [], None, drop, length, option_to_list};
-ghost use Rattle.mbj_c.specs.Inside.Room.{HasJob, IsGivenRoom};
-ghost use Rattle.mbj_c.specs.Giving.{IsTold, IsWritten, has_room_for, manager_step, owed_in};
+ghost use Rattle.std.specs.Prelude.{◌≡◌, ◌++◌, ◌+◌, ◌≤◌, [], drop, false, length, option_to_list};
+ghost use Rattle.std.specs.Bool.{OnFalse, OnTrue};
+ghost use Rattle.mbj_types.specs.Blank.{blank};
+ghost use Rattle.mbj_types.specs.declared.limits.TheConstants.{MAX_TAG_BYTES};
+ghost use Rattle.mbj_stage.specs.CourseState.{owed};
+ghost use Rattle.mbj_manager.specs.Cells as cells;
+ghost use Rattle.mbj_manager.specs.Cells.{IsFinished, course_in, given_by};
+ghost use Rattle.mbj_c.specs.Inside.Room.{HasJob};
+ghost use Rattle.mbj_c.specs.Giving.{IsWritten, has_room_for, manager_step, owed_in};
 ghost use Rattle.mbj_c.specs.declared.giving.Call.TheVariants as call;
 ghost use Rattle.mbj_c.specs.Codes.{reason_code, status_code};
 
 use crate::range::CipherRange;
-use crate::refusal::Refusal;
 use crate::sessions::{Sessions, submit};
-use mbj_manager::Manager;
-use mbj_types::{Done, MAX_TAG_BYTES, Status};
+use mbj_manager::{Cell, Manager};
+use mbj_types::{MAX_TAG_BYTES, Status};
 
 /// Where a result goes.
 #[repr(C)]
@@ -29,13 +34,6 @@ pub struct RawDone<'a> {
     pub reason: u32,
 }
 
-/// A result, and the range of its packet that is given back.
-#[derive(Drop)]
-pub(crate) struct Given {
-    pub(crate) done: Done,
-    pub(crate) range: CipherRange,
-}
-
 /// A call that may give a result back.
 #[derive(Clone, Copy, Debug, PartialEq, Eq)]
 pub(crate) enum Call {
@@ -45,19 +43,28 @@ pub(crate) enum Call {
 }
 
 impl Call {
-    /// Makes the call. Where it submits a job, the key sessions are used that there are.
-    pub(crate) fn make(self, manager: &mut Manager, sessions: &mut Option<Sessions>) -> Option<Done>
-        requires { HasJob self manager.old }
+    /// Makes the call, which gives a job back in the cell, or none. Returns whether it gives one. Where it submits a job, the key
+    /// sessions are used that there are.
+    pub(crate) fn make(
+        self,
+        manager: &mut Manager,
+        sessions: &mut Option<Sessions>,
+        given: &mut Cell,
+    ) -> bool
+        requires job { HasJob self manager.old }
+        requires blank { given.old ≡ cells.Open blank }
         ensures same { sessions.new ≡ sessions.old }
-        ensures result { result ≡ (manager_step self sessions.old manager.old).0 }
+        ensures result { given_by result given.new ≡ (manager_step self sessions.old manager.old).0 }
+        ensures finished { OnTrue result (IsFinished given.new) }
+        ensures blank { OnFalse result (given.new ≡ cells.Open blank) }
         ensures state { manager.new ≡ (manager_step self sessions.old manager.old).1 }
-        ensures order { option_to_list result ++ manager.new.owed ≡ owed_in self manager.old }
-        ensures drained { self ≡ call.Flush → result ≡ None → manager.old.owed ≡ [] }
+        ensures order { option_to_list (given_by result given.new) ++ manager.new.owed ≡ owed_in self manager.old }
+        ensures drained { self ≡ call.Flush → result ≡ false → manager.old.owed ≡ [] }
     {
         match self {
-            Call::Submit => submit(manager, sessions),
-            Call::Completed => manager.get_completed(),
-            Call::Flush => manager.flush(),
+            Call::Submit => submit(manager, sessions, given),
+            Call::Completed => manager.give_into(given),
+            Call::Flush => manager.flush_into(given),
         }
     }
 }
@@ -99,42 +106,22 @@ impl RawDone<'_> {
         }
     }
 
-    fn write(&mut self, given: Given)
-        requires range { given.range.off + given.range.len ≤ length given.done.packet }
-        requires dst { given.range.len ≤ length self.old.dst.now }
-        requires tag { length given.done.tag ≤ length self.old.tag.now }
-        ensures { IsWritten given self.old self.new }
+    /// Writes the result of a job that is finished: of its packet the range.
+    pub(crate) fn write(&mut self, given: &Cell, range: CipherRange)
+        requires finished { IsFinished given.now }
+        requires range { range.off + range.len ≤ length (owed (course_in given.now)).packet }
+        requires dst { range.len ≤ length self.old.dst.now }
+        requires tag { MAX_TAG_BYTES ≤ length self.old.tag.now }
+        ensures { IsWritten (record { done = owed (course_in given.now); range = range }) self.old self.new }
     {
-        let (start, len) = (given.range.off as usize, given.range.len as usize);
-        let bytes = &given.done.packet.as_slice()[start..][..len];
+        let (start, len) = (range.off as usize, range.len as usize);
+        let bytes = &given.packet()[start..][..len];
         put_front(self.dst, bytes);
         self.dst_len = bytes.len();
-        let tag = given.done.tag.bytes();
+        let tag = given.tag().bytes();
         put_front(self.tag, tag);
         self.tag_len = tag.len() as u32;
-        self.status = status_of(given.done.status);
-        self.reason = reason_of(given.done.status);
-    }
-
-    /// Writes C's result: returns whether it has a result, which is written then, and writes its code.
-    pub(crate) fn tell(&mut self, answer: Result<Option<Given>, Refusal>, refusal: &mut u32) -> bool
-        requires { IsGivenRoom answer self.old }
-        ensures { IsTold answer result refusal.new self.old self.new }
-    {
-        match answer {
-            Ok(Some(given)) => {
-                *refusal = 0;
-                self.write(given);
-                true
-            }
-            Ok(None) => {
-                *refusal = 0;
-                false
-            }
-            Err(reason) => {
-                *refusal = reason.code();
-                false
-            }
-        }
+        self.status = status_of(given.status());
+        self.reason = reason_of(given.status());
     }
 }

@@ -3,7 +3,7 @@ ghost use Rattle.mbj_c.specs.Filling.{job_said, job_with, session_said, words_sa
 
 use crate::range::narrowed;
 use crate::words::{Words, auth_at, cipher_at, dir_at, order_at};
-use mbj_types::{Bytes, Job};
+use mbj_types::Job;
 use std::alloc::{AllocError, Global};
 
 /// A job as C fills it. Bytes are a pointer, which isn't null, and a length. Offsets and lengths of ranges are in bytes; one that 32
@@ -48,12 +48,6 @@ fn session_at(number: u32) -> Option<u32>
     }
 }
 
-fn bytes_of(alloc: Global, bytes: &[u8]) -> Result<Bytes, AllocError>
-    ensures { IfOk result (λ b. b ≡ bytes.now) }
-{
-    Ok(Bytes::from_vec(Vec::from_slice(alloc, bytes)?))
-}
-
 impl RawJob<'_> {
     /// The cipher, direction, order and authentication with these codes. Returns `None` exactly where a number is no code.
     pub(crate) fn words(&self) -> Option<Words>
@@ -75,28 +69,32 @@ impl RawJob<'_> {
         })
     }
 
-    /// The job with these words, its bytes in memory of their own.
+    /// Makes `job` the job with these words, its bytes in the memory that `job` has, where they fit there.
     ///
     /// Returns `AllocError` for want of memory.
-    pub(crate) fn copied(&self, alloc: Global, words: Words) -> Result<Job, AllocError>
-        ensures { IfOk result (λ j. j ≡ job_with self.now words) }
+    pub(crate) fn refill(
+        &self,
+        alloc: Global,
+        words: Words,
+        job: &mut Job,
+    ) -> Result<(), AllocError>
+        ensures { IfOk result (λ _. job.new ≡ job_with self.now words) }
     {
-        Ok(Job {
-            cipher: words.cipher,
-            dir: words.dir,
-            order: words.order,
-            key: bytes_of(alloc, self.key)?,
-            iv: bytes_of(alloc, self.iv)?,
-            cipher_off: narrowed(self.cipher_off),
-            cipher_len: narrowed(self.cipher_len),
-            auth: words.auth,
-            auth_key: bytes_of(alloc, self.auth_key)?,
-            aad: bytes_of(alloc, self.aad)?,
-            hash_off: narrowed(self.hash_off),
-            hash_len: narrowed(self.hash_len),
-            tag_len: self.tag_len,
-            packet: bytes_of(alloc, self.packet)?,
-            session: session_at(self.session),
-        })
+        job.cipher = words.cipher;
+        job.dir = words.dir;
+        job.order = words.order;
+        job.key.refill(alloc, self.key)?;
+        job.iv.refill(alloc, self.iv)?;
+        job.cipher_off = narrowed(self.cipher_off);
+        job.cipher_len = narrowed(self.cipher_len);
+        job.auth = words.auth;
+        job.auth_key.refill(alloc, self.auth_key)?;
+        job.aad.refill(alloc, self.aad)?;
+        job.hash_off = narrowed(self.hash_off);
+        job.hash_len = narrowed(self.hash_len);
+        job.tag_len = self.tag_len;
+        job.packet.refill(alloc, self.packet)?;
+        job.session = session_at(self.session);
+        Ok(())
     }
 }

@@ -1,24 +1,30 @@
-ghost use Rattle.std.specs.Prelude.{◌≡◌, ◌+◌, ◌<◌, ◌≤◌, ◌++◌, IfOk, OnOk, Ok, None, [], drop, length, option_to_list, slice_get};
+ghost use Rattle.std.specs.Prelude.{◌≡◌, ◌+◌, ◌<◌, ◌≤◌, ◌++◌, IfOk, IsTrue, OnOk, Ok, Some, [], drop, false, length, slice_get, true};
 ghost use Rattle.std.specs.Bool.{OnTrue};
 ghost use Rattle.mbj_ring.specs.declared.ring.TheConstants.{CELLS};
 ghost use Rattle.mbj_c.specs.declared.giving.Call.TheVariants as calls;
 ghost use Rattle.mbj_c.specs.Counts.{counts_of};
-ghost use Rattle.mbj_c.specs.Filling.{filled_at, put_at, with_cell};
-ghost use Rattle.mbj_c.specs.Giving.{called_in, filled_after, first_range, given_with, has_job, ranges_entered, step};
+ghost use Rattle.mbj_c.specs.Filling.{filled_at, job_with, put_at, with_cell};
+ghost use Rattle.mbj_c.specs.Giving.{IsTold, IsToldAt, called_in, filled_after, first_range, given_with, has_job, has_room_for, ranges_entered, step};
 ghost use Rattle.mbj_c.specs.Inside.Answers.{IsDone};
 ghost use Rattle.mbj_c.specs.KeySets.{using};
-ghost use Rattle.mbj_c.specs.Inside.Room.{HasJob, IsGivenRoom, IsWithin};
+ghost use Rattle.mbj_c.specs.Inside.Room.{Fits, HasJob};
+ghost use Rattle.mbj_c.specs.Ranges.{given_range};
+ghost use Rattle.mbj_manager.specs.Cells as cells;
+ghost use Rattle.mbj_manager.specs.Cells.{IsFinished, IsOpen, course_in, job_in};
+ghost use Rattle.mbj_manager.specs.State.{new_manager};
+ghost use Rattle.mbj_stage.specs.CourseState.{owed};
 ghost use Rattle.mbj_c.specs.State.{new_ranged};
 
 use crate::counts::Counts;
-use crate::giving::{Call, Given, RawDone};
+use crate::giving::{Call, RawDone};
 use crate::job::RawJob;
 use crate::range::CipherRange;
 use crate::refusal::Refusal;
 use crate::sessions::Sessions;
-use mbj_manager::Manager;
+use crate::words::Words;
+use mbj_manager::{Cell, KEPT_BYTES, Manager};
 use mbj_ring::{CELLS, Ring};
-use mbj_types::{Done, Job, Kind};
+use mbj_types::Kind;
 use std::alloc::{AllocError, Global};
 use std::marker::Model;
 
@@ -30,6 +36,10 @@ pub struct RangedManager {
     manager: Manager,
     ranges: Ring<CipherRange>,
     sessions: Option<Sessions>,
+    // A blank cell beside the manager's own: C's next job is filled in it, and a result is written out of it.
+    spare: Cell,
+    // How many bytes of memory it keeps with each of its job's bytes, at most.
+    most: usize,
 }
 
 impl Model for RangedManager {
@@ -37,7 +47,7 @@ impl Model for RangedManager {
     ghost use Rattle.mbj_manager.specs.Inside.Code.{state_code};
     ghost use Rattle.mbj_c.specs.State.{RangedState};
     ghost use Rattle.mbj_c.specs.Code.{ranged_code};
-    ghost use Rattle.mbj_c.specs.Inside.Ranges.{AreRanges};
+    ghost use Rattle.mbj_c.specs.Inside.Ranges.{IsRanged};
 
     ghost Value = { RangedState };
 
@@ -45,7 +55,25 @@ impl Model for RangedManager {
 
     ghost view = { λ m. record { manager = m.manager; ranges = m.ranges.values; filled = m.ranges.opened; notes = m.sessions } };
 
-    ghost invariant = { λ m. AreRanges m.manager m.ranges };
+    ghost invariant = { λ m. IsRanged m.manager m.ranges m.spare };
+}
+
+/// A manager with no job.
+///
+/// Returns `AllocError` for want of memory.
+fn manager(alloc: Global, keeps: bool) -> Result<Manager, AllocError>
+    ensures { IfOk result (λ m. m ≡ new_manager) }
+{
+    if keeps {
+        Manager::keeping(alloc)
+    } else {
+        Manager::new(alloc)
+    }
+}
+
+/// How many bytes a cell keeps with each of a job's bytes, at most.
+fn most_kept(keeps: bool) -> usize {
+    if keeps { KEPT_BYTES } else { 0 }
 }
 
 /// The range of the job in this open cell is this one from now on.
@@ -63,14 +91,33 @@ fn fill_range(ranges: &mut Ring<CipherRange>, cell: u32, range: CipherRange)
     }
 }
 
-/// The job goes into this open cell, or into the one behind those that are open.
-fn fill_job(manager: &mut Manager, cell: u32, job: Job)
+/// The job in a cell goes into this open cell, or into the one behind those that are open. The cell has the job then that was there.
+fn fill_cell(manager: &mut Manager, cell: u32, filled: &mut Cell)
     requires cell { cell ≤ length manager.old.opened }
     requires room { length manager.old.owed + cell < CELLS }
-    ensures { manager.new ≡ with_cell cell job manager.old }
+    requires is_open { IsOpen filled.old }
+    ensures { manager.new ≡ with_cell cell (job_in filled.old) manager.old }
 {
     manager.get_next_burst(cell + 1);
-    *manager.burst_mut(cell) = job;
+    manager.exchange(cell, filled);
+}
+
+/// Fills a cell with C's job. Returns the range that the job gives back.
+///
+/// Returns `AllocError` for want of memory.
+fn fill_spare(
+    alloc: Global,
+    raw: &RawJob<'_>,
+    words: Words,
+    spare: &mut Cell,
+) -> Result<CipherRange, AllocError>
+    requires is_open { IsOpen spare.old }
+    ensures filled { IfOk result (λ _. spare.new ≡ cells.Open (job_with raw.now words)) }
+    ensures range { IfOk result (λ r. r ≡ given_range (job_with raw.now words)) }
+{
+    let job = spare.job_mut();
+    raw.refill(alloc, words, job)?;
+    Ok(CipherRange::given_by(job))
 }
 
 /// The range of the job that is submitted, where the call submits one, goes last.
@@ -105,30 +152,37 @@ fn first_filled(ranges: &mut Ring<CipherRange>) -> Option<CipherRange>
     }
 }
 
-/// The first range goes with a result that is given back.
-fn leave(ranges: &mut Ring<CipherRange>, done: Option<Done>) -> Option<Given>
-    ensures given { result ≡ given_with done ranges.old.values }
-    ensures values { ranges.new.values ≡ drop (length (option_to_list done)) ranges.old.values }
+/// Writes the result of a job that is finished, of its packet the first range, which leaves.
+fn write_first(given: &Cell, ranges: &mut Ring<CipherRange>, out: &mut RawDone<'_>)
+    requires finished { IsFinished given.now }
+    requires fits { Fits (owed (course_in given.now)) ranges.old.values out.old }
+    ensures told { IsToldAt (Ok (given_with (Some (owed (course_in given.now))) ranges.old.values)) true out.old out.new }
+    ensures values { ranges.new.values ≡ drop 1 ranges.old.values }
     ensures same { ranges.new.opened ≡ ranges.old.opened }
 {
-    let done = done?;
-    let range = ranges.pop()?;
-    Some(Given { done, range })
+    match ranges.pop() {
+        Some(range) => out.write(given, range),
+        None => unreachable!(),
+    }
 }
 
 impl RangedManager {
-    /// A manager with no job. It takes all the memory that the manager and the ranges need.
+    /// A manager with no job, whose cells keep memory of the jobs that were given back, or keep none. It takes all the memory that the
+    /// manager and the ranges need.
     ///
     /// Returns `AllocError` for want of memory.
-    pub(crate) fn new(alloc: Global) -> Result<RangedManager, AllocError>
+    pub(crate) fn new(alloc: Global, keeps: bool) -> Result<RangedManager, AllocError>
         ensures { IfOk result (λ m. m ≡ new_ranged) }
     {
         let ranges = Ring::new(alloc)?;
-        let manager = Manager::new(alloc)?;
+        let manager = manager(alloc, keeps)?;
+        let spare = Cell::blank(alloc)?;
         Ok(RangedManager {
             manager,
             ranges,
             sessions: None,
+            spare,
+            most: most_kept(keeps),
         })
     }
 
@@ -169,26 +223,67 @@ impl RangedManager {
         let Some(words) = raw.words() else {
             return Err(Refusal::Word);
         };
-        let job = raw.copied(alloc, words)?;
-        fill_range(&mut self.ranges, cell, CipherRange::given_by(&job));
-        fill_job(&mut self.manager, cell, job);
-        Ok(())
+        match fill_spare(alloc, raw, words, &mut self.spare) {
+            Ok(range) => {
+                fill_range(&mut self.ranges, cell, range);
+                fill_cell(&mut self.manager, cell, &mut self.spare);
+                self.spare.clear(self.most);
+                Ok(())
+            }
+            Err(AllocError) => {
+                self.spare.clear(self.most);
+                Err(Refusal::Memory)
+            }
+        }
     }
 
-    /// Makes the call, where it isn't refused.
-    pub(crate) fn give(&mut self, call: Call, out: &RawDone<'_>) -> Result<Option<Given>, Refusal>
-        ensures answer { result ≡ (called_in call self.old out.now).0 }
-        ensures state { self.new ≡ (called_in call self.old out.now).1 }
-        ensures room { IsGivenRoom result out.now }
-        ensures drained { call ≡ calls.Flush → result ≡ Ok None → self.old.manager.owed ≡ [] }
+    /// Makes the call, where it isn't refused, and tells C of it: returns whether a result is given back, which is written then, and
+    /// writes the code.
+    pub(crate) fn give(&mut self, call: Call, out: &mut RawDone<'_>, refusal: &mut u32) -> bool
+        ensures state { self.new ≡ (called_in call self.old out.old).1 }
+        ensures told { IsTold (called_in call self.old out.old).0 result refusal.new out.old out.new }
+        ensures drained { call ≡ calls.Flush → result ≡ false → refusal.new ≡ 0 → self.old.manager.owed ≡ [] }
     {
         if !self.has_job(call) {
-            return Err(Refusal::NoJob);
+            *refusal = Refusal::NoJob.code();
+            return false;
         }
         if !out.has_room(self.first_range(call)) {
-            return Err(Refusal::NoRoom);
+            *refusal = Refusal::NoRoom.code();
+            return false;
         }
-        Ok(self.step(call))
+        *refusal = 0;
+        self.step(call, out)
+    }
+
+    /// Makes the call, and keeps the ranges with it. The result that it gives back, if any, is written. Returns whether there is one.
+    fn step(&mut self, call: Call, out: &mut RawDone<'_>) -> bool
+        requires job { HasJob call self.old.manager }
+        requires room { IsTrue (has_room_for (first_range call self.old) out.old) }
+        ensures told { IsToldAt (Ok (step call self.old).0) result out.old out.new }
+        ensures state { self.new ≡ (step call self.old).1 }
+        ensures drained { call ≡ calls.Flush → result ≡ false → self.old.manager.owed ≡ [] }
+    {
+        enter(&mut self.ranges, call);
+        if !call.make(&mut self.manager, &mut self.sessions, &mut self.spare) {
+            return false;
+        }
+        write_first(&self.spare, &mut self.ranges, out);
+        self.spare.clear(self.most);
+        true
+    }
+
+    /// How many bytes the idle cells keep.
+    pub(crate) fn held(&self) -> usize {
+        self.manager.held().saturating_add(self.spare.capacity())
+    }
+
+    /// Frees what the idle cells keep.
+    pub(crate) fn trim(&mut self)
+        ensures { self.new ≡ self.old }
+    {
+        self.manager.trim();
+        self.spare.clear(0);
     }
 
     /// Whether a job is open where the call submits it.
@@ -211,18 +306,5 @@ impl RangedManager {
                 Call::Completed | Call::Flush => None,
             },
         }
-    }
-
-    /// Makes the call, and keeps the ranges with it.
-    fn step(&mut self, call: Call) -> Option<Given>
-        requires { HasJob call self.old.manager }
-        ensures result { result ≡ (step call self.old).0 }
-        ensures state { self.new ≡ (step call self.old).1 }
-        ensures range { IsWithin result }
-        ensures drained { call ≡ calls.Flush → result ≡ None → self.old.manager.owed ≡ [] }
-    {
-        enter(&mut self.ranges, call);
-        let done = call.make(&mut self.manager, &mut self.sessions);
-        leave(&mut self.ranges, done)
     }
 }

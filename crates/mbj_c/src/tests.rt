@@ -8,7 +8,9 @@ mod results;
 mod stored;
 
 use super::*;
+use mbj_direct::GcmState;
 use mbj_types::MAX_TAG_BYTES;
+use std::alloc::Global;
 use std::process::Abort;
 
 /// The numbers of ciphers and authentications, as C gives them.

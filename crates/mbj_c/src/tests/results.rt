@@ -25,6 +25,27 @@ fn a_mac_is_given_back(rt: HostRuntime) {
     close(&rt, alloc, handle);
 }
 
+fn expect_held(rt: &impl Abort, alloc: Global, handle: &mut Handle, is_held: bool) {
+    let held = mbj_c_held_bytes(alloc, handle);
+    assert!(rt; (held > 0) == is_held);
+}
+
+// Without a manager there is nothing to keep or to free.
+#[test]
+fn a_manager_keeps_memory_until_it_is_trimmed(rt: HostRuntime) {
+    let alloc = rt.alloc();
+    let mut handle = Handle::empty(alloc);
+    mbj_c_trim(alloc, &mut handle);
+    expect_held(&rt, alloc, &mut handle, false);
+    expect_number(&rt, mbj_c_new_keeping(alloc, &mut handle), 0);
+    expect_held(&rt, alloc, &mut handle, false);
+    check_mac(&rt, alloc, &mut handle);
+    expect_held(&rt, alloc, &mut handle, true);
+    mbj_c_trim(alloc, &mut handle);
+    expect_held(&rt, alloc, &mut handle, false);
+    close(&rt, alloc, handle);
+}
+
 /// A packet with a byte before the range and two behind it.
 fn packet_round_text() -> [u8; 19] {
     let mut packet = [0xaa; 19];

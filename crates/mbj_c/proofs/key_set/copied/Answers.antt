@@ -1,5 +1,5 @@
 -- One more key is copied.
-use Rattle.std.proofs.Common.{◌≡◌, ◌<◌, ◌∙◌, ◌+◌, ◌++◌, ◌∷◌, [], ℕ, Global, Vec, ap, arith, length, length-append, subst, sym}
+use Rattle.std.proofs.Common.{◌<◌, ◌∙◌, ℕ, Global, Vec, ap, arith, length, length-append, subst, sym}
 use Rattle.std.specs.List.{All}
 use Rattle.std.proofs.lemmas.List.Elements.{All-push}
 use Rattle.mbj_aes.specs.Bytes.{IsKeySize}

@@ -2,7 +2,7 @@ use Rattle.std.proofs.Common.{◌≡◌, ◌≢◌, ◌∙◌, subst}
 use Rattle.mbj_c.specs.Filling.{filled}
 use Rattle.mbj_c.proofs.Answered.{code-wanted, state-kept, state-wanted}
 use Rattle.mbj_c.proofs.Refused.{refused-kept}
-use Rattle.mbj_c.proofs.mbj_c_fill.Goals as goal
+use Rattle.mbj_c.proofs.exports.jobs.mbj_c_fill.Goals as goal
 
 pub returns-clause-answer : goal.returns-clause-answer
 returns-clause-answer c other =

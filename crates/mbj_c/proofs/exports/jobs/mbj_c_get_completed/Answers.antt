@@ -1,4 +1,4 @@
-use Rattle.mbj_c.proofs.mbj_c_get_completed.Goals as goal
+use Rattle.mbj_c.proofs.exports.jobs.mbj_c_get_completed.Goals as goal
 
 pub returns-clause-state : goal.returns-clause-state
 returns-clause-state c = c.give.ensures.state

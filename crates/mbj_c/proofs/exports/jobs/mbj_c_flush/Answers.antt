@@ -1,5 +1,5 @@
 use Rattle.std.proofs.Common.{refl}
-use Rattle.mbj_c.proofs.mbj_c_flush.Goals as goal
+use Rattle.mbj_c.proofs.exports.jobs.mbj_c_flush.Goals as goal
 
 pub returns-clause-state : goal.returns-clause-state
 returns-clause-state c = c.give.ensures.state

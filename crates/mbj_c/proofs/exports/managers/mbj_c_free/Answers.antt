@@ -1,7 +1,7 @@
 -- What was taken is there exactly where the handle had a manager.
 use Rattle.std.proofs.Common.{◌≡◌, ◌∙◌, Option, None, Some, ap, option_map, refl, sym}
 use Rattle.std.specs.Prelude.{is_some}
-use Rattle.mbj_c.proofs.mbj_c_free.Goals as goal
+use Rattle.mbj_c.proofs.exports.managers.mbj_c_free.Goals as goal
 
 is_some-map : {A B : Type 0} (f : A → B) (o : Option A) → is_some (option_map f o) ≡ is_some o
 is_some-map f None = refl

@@ -1,0 +1,7 @@
+//! What C calls: each export is a line over a call of its own, which has the proof.
+
+pub mod jobs;
+pub mod keys;
+pub mod managers;
+pub mod tables;
+pub mod texts;
