@@ -221,6 +221,16 @@ uint32_t mbj_c_version(void);
 /* Makes a manager, and returns MBJ_ERR_NONE, MBJ_ERR_HAS_MANAGER or MBJ_ERR_MEMORY. */
 uint32_t mbj_c_new(struct mbj_handle *);
 
+/* The same, and its cells keep the memory of a job's bytes for later jobs once the job is given back: at most 2,048 bytes each for key, IV,
+ * authentication key, additional data and packet. Longer memory is freed. */
+uint32_t mbj_c_new_keeping(struct mbj_handle *);
+
+/* How many bytes the cells keep that have no job; 0 where there is no manager. */
+size_t mbj_c_held_bytes(struct mbj_handle *);
+
+/* Frees what those cells keep. */
+void mbj_c_trim(struct mbj_handle *);
+
 /* Frees the manager with its jobs; false where there is none. */
 bool mbj_c_free(struct mbj_handle *);
 
@@ -471,23 +481,35 @@ static inline bool mbj_goes_with_(uint32_t version) {
 }
 
 /* Makes a manager, having asked the processor before any proved export is called. */
-static inline uint32_t mbj_make_(struct mbj_handle *handle) {
+static inline uint32_t mbj_make_(struct mbj_handle *handle, bool keeps) {
     if (mbj_c_missing_feature() != NULL)
         return MBJ_ERR_PROCESSOR;
-    return mbj_goes_with_(mbj_c_version()) ? mbj_c_new(handle) : (uint32_t)MBJ_ERR_VERSION;
+    if (!mbj_goes_with_(mbj_c_version()))
+        return MBJ_ERR_VERSION;
+    return keeps ? mbj_c_new_keeping(handle) : mbj_c_new(handle);
+}
+
+static inline enum mbj_refusal mbj_init_(MBJ_MGR *m, bool keeps) {
+    if (m == NULL)
+        return MBJ_ERR_NULL;
+    m->handle.at = NULL;
+    m->first = m->next = 0;
+    m->lent = 0;
+    m->error = mbj_make_(&m->handle, keeps);
+    return (enum mbj_refusal)m->error;
 }
 
 /* Makes a manager in the caller's memory, which then stays where it is until mbj_end_mgr. Returns MBJ_ERR_NONE, or why there is no
  * manager: MBJ_ERR_NULL, MBJ_ERR_PROCESSOR, MBJ_ERR_VERSION or MBJ_ERR_MEMORY. A submission is then refused with MBJ_ERR_NO_MANAGER, and
  * mbj_end_mgr does nothing. */
 MBJ_API enum mbj_refusal mbj_init_mgr(MBJ_MGR *m) {
-    if (m == NULL)
-        return MBJ_ERR_NULL;
-    m->handle.at = NULL;
-    m->first = m->next = 0;
-    m->lent = 0;
-    m->error = mbj_make_(&m->handle);
-    return (enum mbj_refusal)m->error;
+    return mbj_init_(m, false);
+}
+
+/* Makes a manager as mbj_init_mgr does, which keeps the memory of jobs that were given back for later ones. Then most jobs take no memory,
+ * and keys lie longer in it: see mbj_held_bytes and mbj_trim. */
+MBJ_API enum mbj_refusal mbj_init_mgr_keeping(MBJ_MGR *m) {
+    return mbj_init_(m, true);
 }
 
 /* Frees what mbj_init_mgr took, and neither the caller's memory nor the bytes of jobs. NULL is left alone. */
@@ -525,6 +547,17 @@ MBJ_API enum mbj_refusal mbj_use_keys(MBJ_MGR *m, struct mbj_keys *keys) {
         return m == NULL ? MBJ_ERR_NO_MANAGER : MBJ_ERR_NO_KEYS;
     m->error = mbj_is_made_(m) ? mbj_c_use_keys(&m->handle, keys) : (uint32_t)MBJ_ERR_NO_MANAGER;
     return (enum mbj_refusal)m->error;
+}
+
+/* How many bytes a manager of mbj_init_mgr_keeping keeps for later jobs: 0 where there is no manager, and for one of mbj_init_mgr. */
+MBJ_API size_t mbj_held_bytes(MBJ_MGR *m) {
+    return mbj_is_made_(m) ? mbj_c_held_bytes(&m->handle) : 0;
+}
+
+/* Frees what the manager keeps for later jobs. Jobs that are submitted keep theirs. */
+MBJ_API void mbj_trim(MBJ_MGR *m) {
+    if (mbj_is_made_(m))
+        mbj_c_trim(&m->handle);
 }
 
 /* How many jobs are submitted and not given back. */

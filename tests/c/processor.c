@@ -91,6 +91,19 @@ uint32_t mbj_c_new(struct mbj_handle *handle) {
     return MBJ_ERR_NONE;
 }
 
+uint32_t mbj_c_new_keeping(struct mbj_handle *handle) {
+    return mbj_c_new(handle);
+}
+
+size_t mbj_c_held_bytes(struct mbj_handle *handle) {
+    calls += handle != NULL;
+    return 0;
+}
+
+void mbj_c_trim(struct mbj_handle *handle) {
+    calls += handle != NULL;
+}
+
 bool mbj_c_free(struct mbj_handle *handle) {
     calls++;
     handle->at = NULL;
@@ -138,6 +151,8 @@ static void nothing_is_called_without(const char *name) {
     calls = 0;
     CHECK(mbj_c_missing_feature() != NULL && strcmp(mbj_c_missing_feature(), name) == 0);
     CHECK(mbj_init_mgr(&m) == MBJ_ERR_PROCESSOR && mbj_get_errno(&m) == MBJ_ERR_PROCESSOR && mbj_alloc_mgr() == NULL);
+    CHECK(mbj_init_mgr_keeping(&m) == MBJ_ERR_PROCESSOR && mbj_held_bytes(&m) == 0);
+    mbj_trim(&m);
     CHECK(mbj_get_next_job(&m) != NULL && mbj_submit_job(&m) == NULL && mbj_get_errno(&m) == MBJ_ERR_NO_MANAGER);
     CHECK(mbj_get_completed_job(&m) == NULL && mbj_flush_job(&m) == NULL && mbj_queue_size(&m) == 0);
     mbj_end_mgr(&m);
