@@ -17,6 +17,8 @@ mod cbc;
 #[cfg(test)]
 mod ccm;
 #[cfg(test)]
+mod cells;
+#[cfg(test)]
 mod cmac;
 #[cfg(test)]
 mod compare;

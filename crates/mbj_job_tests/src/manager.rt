@@ -11,13 +11,13 @@ use std::process::Abort;
 use std::test::Fail;
 
 /// RFC 2202, section 3, test case 1: the tag of "Hi There" under a key of 20 bytes 0b.
-const TAG: [u8; 20] = [
+pub(crate) const TAG: [u8; 20] = [
     0xb6, 0x17, 0x31, 0x86, 0x55, 0x05, 0x72, 0x64, 0xe2, 0x8b, 0xc0, 0xb6, 0xfb, 0x37, 0x8c, 0x8e,
     0xf1, 0x46, 0xbe, 0x00,
 ];
 
 // README.md quotes `authenticate`; tests/docs/run compares the two.
-fn fill(alloc: Global, job: &mut Job) -> Result<(), AllocError> {
+pub(crate) fn fill(alloc: Global, job: &mut Job) -> Result<(), AllocError> {
     job.auth = Auth::HmacSha1;
     job.auth_key = Bytes::from_slice(alloc, &[0x0b; 20])?;
     job.packet = Bytes::from_slice(alloc, b"Hi There")?;
@@ -44,7 +44,11 @@ fn check_authenticated(rt: &impl Abort, done: &Done) {
     expect(rt, "tag", done.tag.bytes(), &TAG);
 }
 
-fn check_taken_back(rt: &impl Abort, alloc: Global, manager: &mut Manager) -> Result<(), Fail> {
+pub(crate) fn check_taken_back(
+    rt: &impl Abort,
+    alloc: Global,
+    manager: &mut Manager,
+) -> Result<(), Fail> {
     match authenticate(alloc, manager)? {
         Some(done) => check_authenticated(rt, &done),
         None => assert!(rt; false),
