@@ -4,7 +4,8 @@
  *     sequences SEED COUNT FILE
  *
  * Jobs stay in lanes from one sequence to the next one, so that lanes which were left are used again. HMAC from stored states stands in the
- * file as HMAC from the key. tests/faults/reference.py says what has to be printed for the file. */
+ * file as HMAC from the key. tests/faults/reference.py says what has to be printed for the file. crates/mbj_sequence_tests draws the same
+ * jobs and calls as this does with seed 1. */
 #include "check.h"
 
 #include <inttypes.h>
@@ -21,7 +22,10 @@ static uint32_t draw_byte(void) {
 }
 
 static uint32_t draw(uint32_t below) {
-    return (draw_byte() * 65536 + draw_byte() * 256 + draw_byte()) % below;
+    uint32_t drawn = draw_byte();
+    drawn = drawn << 8 | draw_byte();
+    drawn = drawn << 8 | draw_byte();
+    return drawn % below;
 }
 
 static void draw_bytes(uint8_t *at, size_t len) {
@@ -76,7 +80,9 @@ struct kind {
 };
 
 static struct kind draw_kind(void) {
-    struct kind kind = {draw(MBJ_CIPHER_CCM + 1), &auths[draw(AUTHS)]};
+    struct kind kind;
+    kind.cipher = draw(MBJ_CIPHER_CCM + 1);
+    kind.auth = &auths[draw(AUTHS)];
     if (kind.cipher == MBJ_CIPHER_GCM)
         kind.auth = &of_gcm;
     if (kind.cipher == MBJ_CIPHER_CCM)
