@@ -1,6 +1,7 @@
 /* The heap of mbj_heap_pool.h, to be compiled into a program in place of mbj_heap.c: a buddy allocator. A block's length is a power of two,
  * and it begins at a multiple of that, counted from the first block. A free block is halved until its length is the one that is wanted, and
- * is joined with its other half as soon as both are free. */
+ * is joined with its other half once both are free. Short blocks that are given back lie ready for the next ones of their length, since jobs
+ * have much the same lengths, and are joined only when no block is left that is long enough. */
 #include "mbj_heap_pool.h"
 #include "mbj_heap.h"
 
@@ -13,10 +14,10 @@
 #define MBJ_THREAD_LOCAL _Thread_local
 #endif
 
-/* The least block has 2^6 bytes, a cache line. */
-enum { LEAST_ORDER = 6, ORDERS = 48 };
+/* The least block has 2^6 bytes, a cache line. The longest that lies ready has 2^12, with room for a packet of 1,500 bytes. */
+enum { LEAST_ORDER = 6, LONGEST_READY_ORDER = 12, ORDERS = 48 };
 
-enum state { IS_FREE, IS_USED, IS_OVERFLOW };
+enum state { IS_FREE, IS_USED, IS_READY, IS_OVERFLOW };
 
 /* It stands at the front of each block, and once more before the bytes that were asked for. It has 16 bytes, so these are aligned to 16. */
 struct head {
@@ -25,10 +26,10 @@ struct head {
     uint32_t state;
 };
 
-/* A free block is in the list of its order. */
+/* A block that is free or ready is in a list of its order. */
 struct free_block {
     struct head head;
-    struct free_block *next, **link; /* link is what points to it */
+    struct free_block *next, **link; /* link is what points to a free one */
 };
 
 struct mbj_pool {
@@ -38,6 +39,7 @@ struct mbj_pool {
     struct mbj_pool_counts counts;
     uint64_t orders; /* bit i is set where the list of order i isn't empty */
     struct free_block *lists[ORDERS];
+    struct free_block *ready[LONGEST_READY_ORDER - LEAST_ORDER + 1]; /* from the least order on */
 };
 
 static MBJ_THREAD_LOCAL struct mbj_pool *named;
@@ -83,8 +85,8 @@ static uint32_t order_for(size_t len) {
 /* How far behind the block's front the bytes begin, beside its head. Blocks begin at multiples of a power of two, and bytes that all began
  * there would share few sets of a cache: so blocks beside each other have theirs at different lines, as far as there is room. */
 static size_t shift_of(size_t off, uint32_t order, size_t len) {
-    size_t lines = (length_of(order) - sizeof(struct head) - len) / length_of(LEAST_ORDER);
-    return off / length_of(order) % (lines + 1) * length_of(LEAST_ORDER);
+    size_t lines = (length_of(order) - sizeof(struct head) - len) >> LEAST_ORDER;
+    return lines == 0 ? 0 : (off >> order) % (lines + 1) << LEAST_ORDER;
 }
 
 static struct head *put_head(struct head *front, size_t shift) {
@@ -93,27 +95,8 @@ static struct head *put_head(struct head *front, size_t shift) {
     return head;
 }
 
-/* A block for so many bytes, halved from the least one that is free; NULL where none is. */
-static struct head *take(struct mbj_pool *pool, size_t len) {
-    uint32_t order = order_for(len);
-    uint64_t large_enough = order < ORDERS ? pool->orders >> order << order : 0;
-    if (large_enough == 0)
-        return NULL;
-    uint32_t found = (uint32_t)__builtin_ctzll(large_enough);
-    struct free_block *block = pool->lists[found];
-    size_t off = (size_t)((unsigned char *)block - pool->first);
-    take_out(pool, block);
-    while (found > order) {
-        found--;
-        put_in(pool, off + length_of(found), found);
-    }
-    block->head.order = order;
-    block->head.state = IS_USED;
-    pool->counts.blocks++;
-    pool->counts.bytes += length_of(order);
-    if (pool->counts.bytes > pool->counts.most_bytes)
-        pool->counts.most_bytes = pool->counts.bytes;
-    return put_head(&block->head, shift_of(off, order, len));
+static size_t offset_of(const struct mbj_pool *pool, const void *block) {
+    return (size_t)((const unsigned char *)block - pool->first);
 }
 
 /* The other half of what the block was halved from, where that is free as a whole; else NULL. */
@@ -125,17 +108,91 @@ static struct free_block *free_buddy(const struct mbj_pool *pool, size_t off, ui
     return block->head.state == IS_FREE && block->head.order == order ? block : NULL;
 }
 
-static void give(struct mbj_pool *pool, struct head *head) {
-    uint32_t order = head->order;
-    size_t off = (size_t)((unsigned char *)head - pool->first) / length_of(order) * length_of(order);
+static void join(struct mbj_pool *pool, size_t off, uint32_t order) {
     struct free_block *buddy;
-    pool->counts.blocks--;
-    pool->counts.bytes -= length_of(order);
     while ((buddy = free_buddy(pool, off, order)) != NULL) {
         take_out(pool, buddy);
         off &= ~length_of(order++);
     }
     put_in(pool, off, order);
+}
+
+/* ---- blocks that lie ready ---- */
+
+static void put_ready(struct mbj_pool *pool, struct free_block *block, uint32_t order) {
+    struct free_block **ready = &pool->ready[order - LEAST_ORDER];
+    block->head.state = IS_READY;
+    block->next = *ready;
+    *ready = block;
+}
+
+static struct free_block *take_ready(struct mbj_pool *pool, uint32_t order) {
+    if (order > LONGEST_READY_ORDER)
+        return NULL;
+    struct free_block **ready = &pool->ready[order - LEAST_ORDER], *block = *ready;
+    if (block != NULL)
+        *ready = block->next;
+    return block;
+}
+
+static void join_ready(struct mbj_pool *pool) {
+    for (uint32_t order = LEAST_ORDER; order <= LONGEST_READY_ORDER; order++)
+        for (struct free_block *block; (block = take_ready(pool, order)) != NULL;)
+            join(pool, offset_of(pool, block), order);
+}
+
+/* ---- taking and giving ---- */
+
+/* A block of an order, halved from the least one that is free; NULL where none is. */
+static struct free_block *take_halved(struct mbj_pool *pool, uint32_t order) {
+    uint64_t large_enough = order < ORDERS ? pool->orders >> order << order : 0;
+    if (large_enough == 0)
+        return NULL;
+    uint32_t found = (uint32_t)__builtin_ctzll(large_enough);
+    struct free_block *block = pool->lists[found];
+    take_out(pool, block);
+    while (found > order) {
+        found--;
+        put_in(pool, offset_of(pool, block) + length_of(found), found);
+    }
+    return block;
+}
+
+static struct free_block *take_order(struct mbj_pool *pool, uint32_t order) {
+    struct free_block *block = take_ready(pool, order);
+    if (block == NULL)
+        block = take_halved(pool, order);
+    if (block != NULL || order >= ORDERS)
+        return block;
+    join_ready(pool);
+    return take_halved(pool, order);
+}
+
+/* A block for so many bytes; NULL where none is left. */
+static struct head *take(struct mbj_pool *pool, size_t len) {
+    uint32_t order = order_for(len);
+    struct free_block *block = take_order(pool, order);
+    if (block == NULL)
+        return NULL;
+    block->head.pool = pool;
+    block->head.order = order;
+    block->head.state = IS_USED;
+    pool->counts.blocks++;
+    pool->counts.bytes += length_of(order);
+    if (pool->counts.bytes > pool->counts.most_bytes)
+        pool->counts.most_bytes = pool->counts.bytes;
+    return put_head(&block->head, shift_of(offset_of(pool, block), order, len));
+}
+
+static void give(struct mbj_pool *pool, struct head *head) {
+    uint32_t order = head->order;
+    size_t off = offset_of(pool, head) >> order << order;
+    pool->counts.blocks--;
+    pool->counts.bytes -= length_of(order);
+    if (order <= LONGEST_READY_ORDER)
+        put_ready(pool, (struct free_block *)(void *)(pool->first + off), order);
+    else
+        join(pool, off, order);
 }
 
 /* ---- blocks of malloc ---- */
@@ -180,7 +237,7 @@ struct mbj_block rattle_alloc(size_t len, size_t align) {
 
 /* How many bytes there are behind the head of a block of its pool. */
 static size_t room_behind(const struct head *head) {
-    size_t off = (size_t)((const unsigned char *)(head + 1) - head->pool->first), len = length_of(head->order);
+    size_t off = offset_of(head->pool, head + 1), len = length_of(head->order);
     return len - off % len;
 }
 
