@@ -1,6 +1,6 @@
 #include "algorithms.h"
 
-static const struct cipher ciphers[IMB_CIPHER_NUM] = {
+const struct cipher ciphers[IMB_CIPHER_NUM] = {
     [IMB_CIPHER_NULL] = {.kind = CIPHER_NONE, .code = MBJ_CIPHER_NULL},
     [IMB_CIPHER_CBC] = {.kind = CIPHER_CBC, .code = MBJ_CIPHER_CBC},
     [IMB_CIPHER_CNTR] = {.kind = CIPHER_CTR, .code = MBJ_CIPHER_CNTR, .uses_encryption = true},
@@ -24,7 +24,7 @@ static const struct cipher ciphers[IMB_CIPHER_NUM] = {
 #define GMAC(bits) [IMB_AUTH_AES_GMAC_##bits] = {.kind = HASH_GMAC, .code = MBJ_AUTH_AES_GMAC, .key = bits / 8, .longest = 16}
 
 /* The shorter tags of HMAC are those of IPsec (RFC 2404, 2; RFC 4868, 2.6), and for SHA-224 14 bytes: intel-ipsec-mb 1.3 takes these. */
-static const struct hash hashes[IMB_AUTH_NUM] = {
+const struct hash hashes[IMB_AUTH_NUM] = {
     [IMB_AUTH_NULL] = {.kind = HASH_NONE, .code = MBJ_AUTH_NULL},
     HMAC(1, 20, 4, 20, 12),
     HMAC(224, 32, 4, 28, 14),
@@ -47,45 +47,3 @@ static const struct hash hashes[IMB_AUTH_NUM] = {
     [IMB_AUTH_AES_CCM] = {.kind = HASH_OF_CCM, .code = MBJ_AUTH_AES_CCM, .longest = 16},
     [IMB_AUTH_CUSTOM] = {.kind = HASH_CUSTOM},
 };
-
-const struct cipher *cipher_of(const IMB_JOB *job) {
-    return &ciphers[(unsigned)job->cipher_mode < IMB_CIPHER_NUM ? job->cipher_mode : 0];
-}
-
-const struct hash *hash_of(const IMB_JOB *job) {
-    return &hashes[(unsigned)job->hash_alg < IMB_AUTH_NUM ? job->hash_alg : 0];
-}
-
-static uint64_t bytes_of_bits(uint64_t bits) {
-    return bits / 8 + (bits % 8 != 0);
-}
-
-uint64_t cipher_bytes(const IMB_JOB *job) {
-    const struct cipher *cipher = cipher_of(job);
-    if (cipher->kind == CIPHER_NONE)
-        return 0;
-    return cipher->is_in_bits ? bytes_of_bits(job->msg_len_to_cipher_in_bits) : job->msg_len_to_cipher_in_bytes;
-}
-
-uint64_t hash_bytes(const IMB_JOB *job) {
-    const struct hash *hash = hash_of(job);
-    if (hash->kind == HASH_NONE)
-        return 0;
-    return hash->is_in_bits ? bytes_of_bits(job->msg_len_to_hash_in_bits) : job->msg_len_to_hash_in_bytes;
-}
-
-unsigned cipher_open_bits(const IMB_JOB *job) {
-    return cipher_of(job)->is_in_bits ? job->msg_len_to_cipher_in_bits % 8 : 0;
-}
-
-unsigned hash_open_bits(const IMB_JOB *job) {
-    return hash_of(job)->is_in_bits ? job->msg_len_to_hash_in_bits % 8 : 0;
-}
-
-const uint8_t *cipher_start(const IMB_JOB *job) {
-    return (const uint8_t *)((uintptr_t)job->src + job->cipher_start_src_offset_in_bytes);
-}
-
-const uint8_t *hash_start(const IMB_JOB *job) {
-    return (const uint8_t *)((uintptr_t)job->src + job->hash_start_src_offset_in_bytes);
-}

@@ -1,4 +1,5 @@
-/* What is known of each cipher and each authentication of intel-ipsec-mb 1.3, in one table each. */
+/* What is known of each cipher and each authentication of intel-ipsec-mb 1.3, in one table each, and of a job by these. Each job looks it
+ * up many times: so the functions are inline. */
 #ifndef COMPAT_ALGORITHMS_H
 #define COMPAT_ALGORITHMS_H
 
@@ -29,24 +30,57 @@ struct hash {
     uint8_t truncated; /* those of the other tag that a checked job may have, 0 where any length does */
 };
 
+extern const struct cipher ciphers[IMB_CIPHER_NUM];
+extern const struct hash hashes[IMB_AUTH_NUM];
+
 /* What is known of a code, or of one that is none: that it is absent. */
-const struct cipher *cipher_of(const IMB_JOB *job);
-const struct hash *hash_of(const IMB_JOB *job);
+static inline const struct cipher *cipher_of(const IMB_JOB *job) {
+    return &ciphers[(unsigned)job->cipher_mode < IMB_CIPHER_NUM ? job->cipher_mode : 0];
+}
+
+static inline const struct hash *hash_of(const IMB_JOB *job) {
+    return &hashes[(unsigned)job->hash_alg < IMB_AUTH_NUM ? job->hash_alg : 0];
+}
+
+static inline uint64_t bytes_of_bits(uint64_t bits) {
+    return bits / 8 + (bits % 8 != 0);
+}
 
 /* The ranges of a job, in bytes: 0 without a cipher or an authentication. The last byte of a length in bits is counted as a whole one. */
-uint64_t cipher_bytes(const IMB_JOB *job);
-uint64_t hash_bytes(const IMB_JOB *job);
+static inline uint64_t cipher_bytes(const IMB_JOB *job) {
+    const struct cipher *cipher = cipher_of(job);
+    if (cipher->kind == CIPHER_NONE)
+        return 0;
+    return cipher->is_in_bits ? bytes_of_bits(job->msg_len_to_cipher_in_bits) : job->msg_len_to_cipher_in_bytes;
+}
+
+static inline uint64_t hash_bytes(const IMB_JOB *job) {
+    const struct hash *hash = hash_of(job);
+    if (hash->kind == HASH_NONE)
+        return 0;
+    return hash->is_in_bits ? bytes_of_bits(job->msg_len_to_hash_in_bits) : job->msg_len_to_hash_in_bytes;
+}
 
 /* How many bits of the last byte are in the range, or 0 where all are. */
-unsigned cipher_open_bits(const IMB_JOB *job);
-unsigned hash_open_bits(const IMB_JOB *job);
+static inline unsigned cipher_open_bits(const IMB_JOB *job) {
+    return cipher_of(job)->is_in_bits ? job->msg_len_to_cipher_in_bits % 8 : 0;
+}
+
+static inline unsigned hash_open_bits(const IMB_JOB *job) {
+    return hash_of(job)->is_in_bits ? job->msg_len_to_hash_in_bits % 8 : 0;
+}
 
 /* A text of GCM has fewer than 2^39 - 256 bits (SP 800-38D, 5.2.1.1). intel-ipsec-mb 1.3 takes fewer bytes than that, by its replies. */
 #define MOST_GCM_BYTES ((UINT64_C(1) << 39) - 256 - 1)
 
 /* Where the ranges begin. That of the hash counts modulo 2^64, so that it reaches another buffer than the source, too. */
-const uint8_t *cipher_start(const IMB_JOB *job);
-const uint8_t *hash_start(const IMB_JOB *job);
+static inline const uint8_t *cipher_start(const IMB_JOB *job) {
+    return (const uint8_t *)((uintptr_t)job->src + job->cipher_start_src_offset_in_bytes);
+}
+
+static inline const uint8_t *hash_start(const IMB_JOB *job) {
+    return (const uint8_t *)((uintptr_t)job->src + job->hash_start_src_offset_in_bytes);
+}
 
 static inline bool is_encryption(const IMB_JOB *job) {
     return job->cipher_direction == IMB_DIR_ENCRYPT;

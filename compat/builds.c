@@ -42,14 +42,4 @@ bool has_build(void) {
     return has_one;
 }
 
-static uint8_t nowhere[1];
-
-struct mbj_bytes bytes_at(const void *at, size_t len) {
-    bool is_some = at != NULL && len != 0;
-    return (struct mbj_bytes){is_some ? (const uint8_t *)at : nowhere, is_some ? len : 0};
-}
-
-struct mbj_room room_at(void *at, size_t len) {
-    bool is_some = at != NULL && len != 0;
-    return (struct mbj_room){is_some ? (uint8_t *)at : nowhere, is_some ? len : 0};
-}
+uint8_t nowhere[1];

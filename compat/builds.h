@@ -43,7 +43,16 @@ bool has_build(void);
 #define COMPAT_ALIGNED_FRAME _Alignas(64)
 
 /* Bytes that are read or written, as the exports want them: not at NULL, also where there are none. */
-struct mbj_bytes bytes_at(const void *at, size_t len);
-struct mbj_room room_at(void *at, size_t len);
+extern uint8_t nowhere[1];
+
+static inline struct mbj_bytes bytes_at(const void *at, size_t len) {
+    bool is_some = at != NULL && len != 0;
+    return (struct mbj_bytes){is_some ? (const uint8_t *)at : nowhere, is_some ? len : 0};
+}
+
+static inline struct mbj_room room_at(void *at, size_t len) {
+    bool is_some = at != NULL && len != 0;
+    return (struct mbj_room){is_some ? (uint8_t *)at : nowhere, is_some ? len : 0};
+}
 
 #endif
