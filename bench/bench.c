@@ -10,7 +10,7 @@
 #include <string.h>
 
 static const char usage[] =
-    "bench [--sizes N,..] [--drawn LEAST-MOST,..] [--jobs NAME,..] [--threads N] [--passes N]\n"
+    "bench [--sizes N,..] [--drawn LEAST-MOST,..] [--jobs NAME,..] [--threads N] [--passes N] [--keeping]\n"
     "\n"
     "--sizes     lengths of packets in bytes: 64,256,1500 where neither these nor drawn ones are given\n"
     "--drawn     lengths that are drawn for each packet from LEAST to MOST bytes\n"
@@ -18,7 +18,8 @@ static const char usage[] =
     "            them, these with -states behind them, or chained jobs as cbc+hmac-sha1, which are enciphered and then\n"
     "            authenticated; here by bursts of 32 with -bursts behind the name, or with -session in a key session\n"
     "--threads   how many threads run at once, each with a manager of its own: 1\n"
-    "--passes    how often the 256 jobs of a row are done, of which the fastest time counts: 40\n";
+    "--passes    how often the 256 jobs of a row are done, of which the fastest time counts: 40\n"
+    "--keeping   here by managers that keep the memory of jobs for later ones\n";
 
 void give_up(const char *why) {
     fprintf(stderr, "bench: %s\n", why);
@@ -90,7 +91,7 @@ static bool has_suffix(const char *name, size_t *len, const char *suffix) {
  * or nothing. */
 static struct work read_work(const char *name) {
     size_t len = strlen(name), plus = strcspn(name, "+");
-    struct work work = {NO_CIPHER, NO_AUTH, false, false};
+    struct work work = {NO_CIPHER, NO_AUTH, false, false, false};
     work.by_bursts = has_suffix(name, &len, "-bursts");
     work.in_session = !work.by_bursts && has_suffix(name, &len, "-session");
     size_t cipher_len = plus < len ? plus : len;
@@ -116,6 +117,7 @@ struct settings {
     const char *jobs[MOST];
     struct lengths lengths[MOST];
     size_t job_count, length_count, threads;
+    bool keeps;
     int passes;
 };
 
@@ -152,7 +154,8 @@ static void read_jobs(struct settings *s, char *at) {
 
 static void read_settings(struct settings *s, int argc, char **argv) {
     static const struct option options[] = {{"sizes", 1, NULL, 's'},   {"drawn", 1, NULL, 'd'},  {"jobs", 1, NULL, 'j'},
-                                            {"threads", 1, NULL, 't'}, {"passes", 1, NULL, 'p'}, {NULL, 0, NULL, 0}};
+                                            {"threads", 1, NULL, 't'}, {"passes", 1, NULL, 'p'}, {"keeping", 0, NULL, 'k'},
+                                            {NULL, 0, NULL, 0}};
     static char sizes[] = "64,256,1500", jobs[] = "null,null-bursts,hmac-sha1,hmac-sha1-states,hmac-sha256,hmac-sha256-states,hmac-sha512,"
                                                   "hmac-sha512-states,sha256,cbc,cbc-session,ctr,gcm,gcm-session,ccm,cmac,gmac,cbc+hmac-sha256";
     memset(s, 0, sizeof *s);
@@ -166,6 +169,7 @@ static void read_settings(struct settings *s, int argc, char **argv) {
         case 'j': read_jobs(s, at); break;
         case 't': s->threads = read_number(&at, 1, MOST_THREADS, '\0'); break;
         case 'p': s->passes = (int)read_number(&at, 1, MOST_PASSES, '\0'); break;
+        case 'k': s->keeps = true; break;
         default: give_up(usage);
         }
     }
@@ -193,6 +197,7 @@ static void print_head(const struct library *others, size_t count) {
 static void print_row(const struct settings *s, const char *name, struct lengths lengths, const struct library *others, size_t count) {
     struct work work = read_work(name);
     char bytes[32];
+    work.keeps = s->keeps;
     struct timed own = time_library(&ours, &work, lengths, s->threads, s->passes);
     if (lengths.least == lengths.most)
         snprintf(bytes, sizeof bytes, "%.0f", own.bytes);

@@ -41,6 +41,7 @@ struct work {
     enum cipher cipher;
     enum auth auth;
     bool by_bursts, in_session;
+    bool keeps; /* the manager here keeps the memory of jobs */
 };
 
 /* The packets of a pass, which are enciphered in place, and where their tags go. */

@@ -51,10 +51,17 @@ static void use_session(struct started *s) {
     mbj_keys_free(&set);
 }
 
+static MBJ_MGR *make_manager(const struct work *work) {
+    if (!work->keeps)
+        return mbj_alloc_mgr();
+    MBJ_MGR *m = (MBJ_MGR *)malloc(sizeof *m);
+    return m != NULL && mbj_init_mgr_keeping(m) == MBJ_ERR_NONE ? m : NULL;
+}
+
 static void *start(const struct library *library, const struct work *work) {
     struct started *s = (struct started *)malloc(sizeof *s);
     (void)library;
-    if (s == NULL || (s->m = mbj_alloc_mgr()) == NULL)
+    if (s == NULL || (s->m = make_manager(work)) == NULL)
         give_up("no manager of this library");
     if (has_states(work->auth))
         make_states(s, work);
