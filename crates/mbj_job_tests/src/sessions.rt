@@ -1,13 +1,8 @@
 // Submissions by shared keys. The job is that of SP 800-38A, F.2.1: its first block.
-ghost use Rattle.std.specs.Prelude.{◌≡◌};
-ghost use Rattle.std.specs.Bool.{OnTrue};
-ghost use Rattle.mbj_types.specs.Blank.{blank};
 ghost use Rattle.mbj_keys.specs.Sessions.{AreOf};
-ghost use Rattle.mbj_manager.specs.Cells as cells;
-ghost use Rattle.mbj_manager.specs.Cells.{IsFinished};
 
 use mbj_keys::{Keys, Notes};
-use mbj_manager::{Cell, Manager};
+use mbj_manager::Manager;
 use mbj_types::{Bytes, Cipher, Done, Job};
 use std::alloc::{AllocError, Global};
 use std::test::Fail;
@@ -92,19 +87,6 @@ impl<'k> Known<'k> {
             None => manager.flush(),
         }
     }
-
-    /// Does the same, and gives the job back in a blank cell. Returns whether there is one.
-    fn done_in(&mut self, manager: &mut Manager, job: Job, cell: &mut Cell) -> bool
-        requires { cell.old ≡ cells.Open blank }
-        ensures { OnTrue result (IsFinished cell.new) }
-    {
-        let _flushed = manager.make_room();
-        manager.put_next(job);
-        if manager.submit_in_into(self.keys, &mut self.notes, cell) {
-            return true;
-        }
-        manager.flush_into(cell)
-    }
 }
 
 #[test]
@@ -134,20 +116,5 @@ fn sessions_change_no_result(rt: HostRuntime) -> Result<(), Fail> {
         assert!(rt; is_right && manager.expansions() == expansions);
         known.learn(alloc)?;
     }
-    Ok(())
-}
-
-#[test]
-fn a_learnt_key_serves_a_job_in_a_cell(rt: HostRuntime) -> Result<(), Fail> {
-    let alloc = rt.alloc();
-    let keys = one_session(alloc)?;
-    let mut known = Known::nothing(alloc, &keys)?;
-    known.learn(alloc)?;
-    let mut manager = Manager::new(alloc)?;
-    let mut cell = Cell::blank(alloc)?;
-    let job = job(alloc, Cipher::Cbc, 16, &KEY, Some(0))?;
-    let is_given = known.done_in(&mut manager, job, &mut cell);
-    assert!(rt; is_given);
-    assert!(rt; cell.packet() == CIPHERED.as_slice() && manager.expansions() == 0);
     Ok(())
 }
