@@ -8,7 +8,7 @@ use Rattle.mbj_hmac.specs.declared.form.Form.{Form}
 use Rattle.mbj_hmac.specs.declared.form.Form.TheVariants.{Plain, Keyed, States}
 use Rattle.mbj_hmac.specs.Forms.{counted, has_pads, outer_rounds_of}
 use Rattle.mbj_hmac.specs.Rounds.{Chaining, HmacState, padded, message, inner_text, outer_text, block_before}
-use Rattle.mbj_hmac.specs.Inside.Layout.{IsStandard, whole_blocks, tail_blocks, fill, seen, outer_part, IsSound}
+use Rattle.mbj_hmac.specs.Inside.Layout.{IsStandard, whole_blocks, tail_blocks, fill, seen, outer_part, IsKept, IsSound}
 use Rattle.mbj_hmac.proofs.Numbers.{size_range, before_range, split, rounds_is, fill_is, fill_on, piece_fill, length-padding_of, times_le, blocks}
 use Rattle.mbj_hmac.proofs.Texts.{block_left, block_right, block_take, block_drop, block_range}
 
@@ -28,6 +28,10 @@ pub counted_is : (form : Form) (b n : ℕ) → counted form b n ≡ bytes_behind
 counted_is Plain b n = omega arith
 counted_is Keyed b n = omega arith
 counted_is States b n = refl
+
+-- what is sound is kept
+pub kept : (h : Chaining) (ends : List ℕ) (e : HmacState) → IsSound h ends e → IsKept h ends e
+kept h ends e s = ((λ left. s), s.2, s.5)
 
 -- a text of the outer hash is an HMAC's
 pub outer_is : (form : Form) (x : List ℕ) → 0 < outer_rounds_of form → (if nat_lt 0 (outer_rounds_of form) then x else []) ≡ x

@@ -9,9 +9,9 @@ use Rattle.mbj_hmac.specs.declared.form.Form.{Form}
 use Rattle.mbj_hmac.specs.declared.form.Form.TheVariants.{Plain, Keyed, States}
 use Rattle.mbj_hmac.specs.Forms.{counted}
 use Rattle.mbj_hmac.specs.Rounds.{Chaining, padded, padded_in, started, started_plain, started_states}
-use Rattle.mbj_hmac.specs.Inside.Layout.{IsStandard, whole_blocks, tail_blocks, message_end, digest_block, first_ends, seen, IsSound}
+use Rattle.mbj_hmac.specs.Inside.Layout.{IsStandard, whole_blocks, tail_blocks, message_end, digest_block, first_ends, seen, IsKept}
 use Rattle.mbj_hmac.proofs.Numbers.{times_le, split}
-use Rattle.mbj_hmac.proofs.Laid.{bytes_behind, counted_is}
+use Rattle.mbj_hmac.proofs.Laid.{bytes_behind, counted_is, kept}
 use Rattle.mbj_hmac.proofs.Texts.{block_right, block_take}
 use Rattle.mbj_hmac.proofs.FirstEnds.{text_end, length-message_end}
 
@@ -99,7 +99,7 @@ module _ (h : Chaining) (std : IsStandard h) (packet : List ℕ) (off len : ℕ)
           ∙ block_right b (b * t) 0 middle (back ++ last) (omega (arith, length-middle))
           ∙ take_at back last b f.back_is
 
-      pub new_sound : (chain start : List ℕ) (rest : ℕ) → rest ≡ hmac_rounds b len → IsSound h ends (seen h packet rest chain zeros start a Keyed ends off len)
+      pub new_sound : (chain start : List ℕ) (rest : ℕ) → rest ≡ hmac_rounds b len → IsKept h ends (seen h packet rest chain zeros start a Keyed ends off len)
       new_sound chain start rest r =
           let n : length (back ++ digest) ≡ b + length digest = length-append back digest ∙ ap (λ n. n + length digest) f.back_is in
           let o : back ++ last ≡ padded h (back ++ digest) =
@@ -108,6 +108,7 @@ module _ (h : Chaining) (std : IsStandard h) (packet : List ℕ) (off len : ℕ)
           ap (λ n. message_end h n packet off len) (sym f.front_is) ∙ sym (text_tail Keyed (length front) front (omega arith) f.range) in
           let laid : take (b * (t + 2)) (drop b ends) ≡ drop (length front + b * w) (padded h (front ++ msg)) ++ padded h (back ++ digest) =
           tail_laid ∙ ap₂ (λ x y. x ++ y) inner o in
+          kept h ends (seen h packet rest chain zeros start a Keyed ends off len)
           (f.range, omega (arith, r), f.small, rw (front_laid, back_laid) laid, f.whole, f.served)
 
       pub new_seen : (rest : ℕ) → rest ≡ hmac_rounds b len → zeros ≡ replicate h.words 0
@@ -117,11 +118,12 @@ module _ (h : Chaining) (std : IsStandard h) (packet : List ℕ) (off len : ℕ)
   -- a digest
   pub plain_sound : (a : HashName) (ends chain zeros start : List ℕ) (rest : ℕ) → off + len ≤ length packet → len < 2 ^ 32 → length ends ≡ 5 * b → IsTrue (h.serves a)
       → take (b * t) (drop b ends) ≡ message_end h 0 packet off len → rest ≡ hash_rounds b len
-      → IsSound h ends (seen h packet rest chain zeros start a Plain ends off len)
+      → IsKept h ends (seen h packet rest chain zeros start a Plain ends off len)
   plain_sound a ends chain zeros start rest range small whole served ends_are r =
       let none : t + 0 ≡ t = omega arith in
       let laid = ap (λ (n : ℕ). take (b * n) (drop b ends)) none ∙ ends_are ∙ sym (text_tail Plain 0 [] refl range)
       ∙ sym (append-nil (drop (0 + b * w) (padded h msg))) in
+      kept h ends (seen h packet rest chain zeros start a Plain ends off len)
       (range, omega (arith, r), small, laid, whole, served)
 
   pub plain_seen : (a : HashName) (ends zeros : List ℕ) (rest : ℕ) → rest ≡ hash_rounds b len → zeros ≡ replicate h.words 0
@@ -131,9 +133,10 @@ module _ (h : Chaining) (std : IsStandard h) (packet : List ℕ) (off len : ℕ)
   -- an HMAC from states
   pub states_sound : (a : HashName) (ends chain zeros start : List ℕ) (rest : ℕ) → off + len ≤ length packet → len < 2 ^ 32 → length ends ≡ 5 * b → IsTrue (h.serves a)
       → take (b * (t + 1)) (drop b ends) ≡ message_end h b packet off len ++ digest_block h a zeros → rest ≡ states_rounds b len
-      → IsSound h ends (seen h packet rest chain zeros start a States ends off len)
+      → IsKept h ends (seen h packet rest chain zeros start a States ends off len)
   states_sound a ends chain zeros start rest range small whole served ends_are r =
       let inner : message_end h b packet off len ≡ drop (0 + b * w) (padded_in h States msg) = sym (text_tail States b [] (omega arith) range) in
+      kept h ends (seen h packet rest chain zeros start a States ends off len)
       (range, omega (arith, r), small, ends_are ∙ ap (λ x. x ++ digest_block h a zeros) inner, whole, served)
 
   pub states_seen : (a : HashName) (ends chain zeros start : List ℕ) (rest : ℕ) → rest ≡ states_rounds b len → zeros ≡ replicate h.words 0

@@ -1,12 +1,10 @@
 -- Entries that go on by blocks, of which the outer hash's first is at most the first.
-use Rattle.std.proofs.Common.{◌≡◌, ℕ, zero, suc, ◌+◌, ◌-◌, ◌≤◌, ◌<◌, List, [], ◌∷◌, length, map, min, get_or, eqb, ◌&&◌, Bool, true, false, ◌⊎◌, inl, inr, refl, sym, ap, ap₂, ◌∙◌, arith, add-one}
+use Rattle.std.proofs.Common.{◌≡◌, ℕ, zero, suc, ◌+◌, ◌-◌, ◌≤◌, ◌<◌, List, eqb, ◌&&◌, Bool, true, false, ◌⊎◌, inl, inr, refl, sym, ap, ap₂, ◌∙◌, arith, add-one}
 use Rattle.std.specs.Prelude.{nat_lt, if◌then◌else◌}
 use Rattle.std.proofs.lemmas.Bool.{cases_lt, lt-ltb, le-ltb, eqb-true}
-use Rattle.std.proofs.lemmas.List.{length-map}
-use Rattle.mbj_lane.specs.Rounds.{after, least_from}
+use Rattle.mbj_lane.specs.Rounds.{after}
 use Rattle.mbj_lane.specs.Laws.{rest-after}
-use Rattle.mbj_lane.proofs.Led.{after-one_more, map-after-after, get_or-map, rests-after}
-use Rattle.mbj_lane.proofs.Least.{least_from-le, least_from-at}
+use Rattle.mbj_lane.proofs.Led.{after-one_more}
 use Rattle.mbj_hmac.specs.declared.form.Form.{Form}
 use Rattle.mbj_hmac.specs.Forms.{outer_rounds_of}
 use Rattle.mbj_hmac.specs.Rounds.{Chaining, HmacState, block_before, advanced, is_turn, outer_rounds, turned, round, rest_of}
@@ -47,12 +45,6 @@ module _ (o n : ℕ) where
   reach_before : (k : ℕ) → suc (suc k) ≤ reach → n - suc k ≡ o → ⊥
   reach_before k le e = elim reach_is [ inl p ↦ omega arith | inr p ↦ omega arith ]
 
-pub least_from-some : (f : HmacState → ℕ) (n : ℕ) (es : List HmacState) → 0 < n → ((j : ℕ) (d : HmacState) → j < length es → 0 < f (get_or es j d)) → 0 < least_from f n es
-least_from-some f n [] h le = h
-least_from-some f n (e ∷ es) h le =
-    let first : 0 < f e = le 0 e (omega arith) in
-    least_from-some f (min n (f e)) es (omega arith) (λ j d lt. le (suc j) d (omega arith))
-
 -- what holds with another holds
 second : (x y : Bool) → (x && y) ≡ true → y ≡ true
 second true y q = q
@@ -68,7 +60,7 @@ module _ (h : Chaining) where
       go false q = rw q refl
 
   -- what is turned is an HMAC or a digest as before
-  turned_form : (e : HmacState) → (turned h e).form ≡ e.form
+  pub turned_form : (e : HmacState) → (turned h e).form ≡ e.form
   turned_form e = go (is_turn e)
     where
       go : (b : Bool) → (if b then record e { chain = e.start; inner = e.chain } else e).form ≡ e.form
@@ -95,59 +87,3 @@ module _ (h : Chaining) where
       ap (λ n. after (round h) n e) (sym (add-one (suc k))) ∙ sym (after-one_more (round h) (suc k) e)
       ∙ ap (advanced h) (stays ∙ rounds_are_blocks k e (omega arith))
       ∙ after-one_more (advanced h) (suc k) (turned h e) ∙ ap (λ n. after (advanced h) n (turned h e)) (add-one (suc k))
-
-  pub all_blocks : (k : ℕ) (es : List HmacState) → ((j : ℕ) (d : HmacState) → j < length es → suc k ≤ reach_of (get_or es j d))
-      → map (after (advanced h) (suc k)) (map (turned h) es) ≡ map (after (round h) (suc k)) es
-  all_blocks k [] le = refl
-  all_blocks k (e ∷ es) le =
-      ap₂ (λ x xs. x ∷ xs) (sym (rounds_are_blocks k e (le 0 e (omega arith)))) (all_blocks k es (λ j d lt. le (suc j) d (omega arith)))
-
--- a stretch of a run by m rounds: `left` of them are left, the entries were `es` and are `now`, `turns` once they are turned, and
--- all go on by k blocks
-module _ (h : Chaining) (es now turns : List HmacState) (m left k : ℕ) where
-  abbrev pub Facts : Type 0
-  Facts = (left ≤ m) × (now ≡ map (after (round h) (m - left)) es) × (turns ≡ map (turned h) now) × (k ≡ least_from reach_of left turns)
-      × (0 < left) × ((j : ℕ) (d : HmacState) → j < length es → m ≤ (get_or es j d).rest)
-
-  lengths : Facts → length turns ≡ length now
-  lengths f = ap length f.2 ∙ length-map now (turned h)
-
-  rest_same : Facts → (j : ℕ) (d : HmacState) → j < length now → (get_or turns j d).rest ≡ (get_or now j d).rest
-  rest_same f j d lt = ap (λ (xs : List HmacState). (get_or xs j d).rest) f.2 ∙ ap (λ (x : HmacState). x.rest) (get_or-map (turned h) now j d lt) ∙ turned_rest h (get_or now j d)
-
-  some_left : Facts → (j : ℕ) (d : HmacState) → j < length now → 1 ≤ (get_or now j d).rest
-  some_left f j d lt =
-      let lt' : j < length (map (after (round h) (m - left)) es) = rw f.1 at lt in
-      rw f.1 (rests-after (round h) rest_of (falls h) m (m - left) es f.5 (omega (arith, f.0, f.4)) j d lt')
-
-  pub k_le : Facts → k ≤ left
-  k_le f = rw f.3 (least_from-le reach_of left turns)
-
-  reach_same : Facts → (j : ℕ) (d : HmacState) → j < length now → reach_of (get_or turns j d) ≡ reach_of (get_or now j d)
-  reach_same f j d lt = ap (λ (xs : List HmacState). reach_of (get_or xs j d)) f.2 ∙ ap reach_of (get_or-map (turned h) now j d lt) ∙ turned_reach h (get_or now j d)
-
-  k_reach : Facts → (j : ℕ) (d : HmacState) → j < length turns → k ≤ reach_of (get_or turns j d)
-  k_reach f j d lt = rw f.3 (least_from-at reach_of left turns j d lt)
-
-  pub k_some : Facts → 0 < k
-  k_some f = rw f.3 (least_from-some reach_of left turns f.4 (λ j d lt.
-      let lt' : j < length now = omega (arith, lengths f) in
-      reach_some (outer_rounds (get_or turns j d)) (get_or turns j d).rest (rw (rest_same f j d lt') (some_left f j d lt'))))
-
-  pub k_rests : Facts → (j : ℕ) (d : HmacState) → j < length turns → k ≤ (get_or turns j d).rest
-  k_rests f j d lt = omega (arith, k_reach f j d lt, reach_le (outer_rounds (get_or turns j d)) (get_or turns j d).rest)
-
-  pub led : Facts → map (after (advanced h) k) turns ≡ map (after (round h) (m - (left - k))) es
-  led f = go k refl
-    where
-      go : (n : ℕ) → n ≡ k → map (after (advanced h) k) turns ≡ map (after (round h) (m - (left - k))) es
-      go zero q = absurd (omega (arith, k_some f))
-      go (suc n) q =
-          let sum : (m - left) + suc n ≡ m - (left - k) = omega (arith, k_le f, f.0) in
-          let all : (j : ℕ) (d : HmacState) → j < length now → suc n ≤ reach_of (get_or now j d) = λ j d lt.
-          let lt' : j < length turns = omega (arith, lengths f) in omega (arith, q, reach_same f j d lt, k_reach f j d lt') in
-          ap₂ (λ i xs. map (after (advanced h) i) xs) (sym q) f.2
-          ∙ all_blocks h n now all
-          ∙ ap (map (after (round h) (suc n))) f.1
-          ∙ map-after-after (round h) (m - left) (suc n) es
-          ∙ ap (λ i. map (after (round h) i) es) sum

@@ -1,2 +1,3 @@
 pub mod LaneEntry
 pub mod Layout
+pub mod InLanes

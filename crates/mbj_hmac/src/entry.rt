@@ -5,6 +5,7 @@ ghost use Rattle.mbj_types.specs.Rounds.{hash_rounds, hmac_rounds, states_rounds
 ghost use Rattle.mbj_types.specs.States.{hmac_from_states};
 ghost use Rattle.mbj_lane.specs.Rounds.{end_of};
 ghost use Rattle.mbj_hmac.specs.Names.{name_of, plain_name_of, serves_auth, serves_plain, serves_states, states_name_of};
+ghost use Rattle.mbj_hmac.specs.Inside.InLanes.{idle, moved, turn_of, with_chain};
 ghost use Rattle.mbj_hmac.specs.Rounds.{HmacState, block_before, outer_rounds, rest_of, round, started, started_plain, started_states, turned};
 
 use crate::ends::{
@@ -15,7 +16,9 @@ use crate::form::Form;
 use crate::key::{MAX_BLOCK_BYTES, hash_key, hash_name, plain_name, states_name};
 use crate::lane_hash::LaneHash;
 use mbj_types::{Auth, HashName, Tag};
+use std::alloc::Global;
 use std::marker::Model;
+use std::mem;
 
 /// An entry of a lane: a digest or an HMAC over a range of a packet, part of which is done. A round is one compression.
 ///
@@ -43,17 +46,35 @@ pub struct HmacEntry<H: LaneHash> {
 
 impl<H: LaneHash> Model for HmacEntry<H> {
     ghost use Rattle.mbj_hmac.specs.Rounds.{HmacState};
-    ghost use Rattle.mbj_hmac.specs.Inside.Layout.{seen, IsSound};
+    ghost use Rattle.mbj_hmac.specs.Inside.Layout.{seen, IsKept};
 
     ghost Value = { HmacState };
 
     ghost view = { λ e. seen H.chaining e.packet.items e.rest (H.words e.chain) (H.words e.inner) (H.words e.start) e.hash e.form (H.ends_bytes e.ends) e.off e.len };
 
-    ghost invariant = { λ e. IsSound H.chaining (H.ends_bytes e.ends)
+    ghost invariant = { λ e. IsKept H.chaining (H.ends_bytes e.ends)
         (seen H.chaining e.packet.items e.rest (H.words e.chain) (H.words e.inner) (H.words e.start) e.hash e.form (H.ends_bytes e.ends) e.off e.len) };
 }
 
 impl<H: LaneHash> HmacEntry<H> {
+    /// An entry that has no round left, and no packet: it stands where there is none.
+    pub(crate) fn blank(alloc: Global) -> HmacEntry<H>
+        ensures { result.rest ≡ 0 }
+    {
+        HmacEntry {
+            packet: Vec::new(alloc),
+            rest: 0,
+            chain: H::zeros(),
+            inner: H::zeros(),
+            start: H::zeros(),
+            hash: H::served(),
+            form: Form::Plain,
+            ends: H::blank_ends(),
+            off: 0,
+            len: 0,
+        }
+    }
+
     /// An HMAC of which nothing is done, over `len` bytes of the packet from `off` on. The authentication is the HMAC
     /// of a hash that the kernel serves, and the range lies in the packet. It takes no memory, and the packet moves into the entry.
     ///
@@ -243,13 +264,60 @@ impl<H: LaneHash> HmacEntry<H> {
         }
     }
 
-    /// The hash value is led to another, m rounds further.
-    pub(crate) fn lead(&mut self, chain: H::Chain, m: u32)
-        requires { m ≤ self.old.rest }
-        ensures { self.new ≡ record (self.old) { chain = H.words chain; rest = self.old.rest - m } }
+    /// How many rounds are left.
+    #[inline(always)]
+    pub(crate) fn left(&self) -> u32
+        ensures rest { result ≡ self.now.rest }
+        ensures few { result < idle }
+    {
+        self.rest
+    }
+
+    /// With how many rounds left the outer hash starts. No rest comes to that of a digest, which has none.
+    #[inline(always)]
+    pub(crate) fn turn_rest(&self) -> u32
+        ensures { result ≡ turn_of self.now }
+    {
+        let outer = self.outer_rounds();
+        if outer > 0 { outer } else { u32::MAX }
+    }
+
+    /// The entry gets the hash value of its lane.
+    #[inline(always)]
+    pub(crate) fn set_chain(&mut self, chain: H::Chain)
+        ensures { self.new ≡ with_chain (H.words chain) self.old }
     {
         self.chain = chain;
-        self.rest -= m;
+    }
+
+    /// The rest falls by `m`, where so many rounds are left.
+    #[inline(always)]
+    pub(crate) fn go_on(&mut self, m: u32)
+        ensures { self.new ≡ moved m self.old }
+    {
+        self.rest = self.rest.saturating_sub(m);
+    }
+
+    /// The entry moves out with the hash value of its lane, and leaves its place without a packet. No round is left.
+    #[inline(always)]
+    pub(crate) fn end(&mut self, chain: H::Chain) -> HmacEntry<H>
+        requires { self.old.rest ≡ 0 }
+        ensures taken { result ≡ with_chain (H.words chain) self.old }
+        ensures rest { self.new.rest ≡ 0 }
+    {
+        let alloc = *self.packet.allocator();
+        HmacEntry {
+            packet: mem::replace(&mut self.packet, Vec::new(alloc)),
+            rest: self.rest,
+            chain,
+            inner: self.inner,
+            start: self.start,
+            hash: self.hash,
+            form: self.form,
+            ends: self.ends,
+            off: self.off,
+            len: self.len,
+        }
     }
 
     /// Where the first round of an HMAC's outer hash is next, the hash value moves, and the outer hash starts.

@@ -2,6 +2,7 @@ ghost use Rattle.std.specs.Prelude.{◌≡◌, ℕ, ◌+◌, ◌*◌, ◌^◌, �
 ghost use Rattle.mbj_types.specs.Auths.{compression_of_name, hash_of_name};
 ghost use Rattle.mbj_types.specs.declared.class.HashName.{HashName};
 ghost use Rattle.mbj_hmac.specs.Rounds.{Chaining, compression, hashed};
+ghost use Rattle.mbj_hmac.specs.Inside.InLanes.{most_lanes};
 ghost use Rattle.mbj_hmac.specs.Inside.Layout.{IsStandard};
 
 use crate::view::Chains;
@@ -20,7 +21,7 @@ pub trait LaneHash {
     type Schedule: Drop;
 
     /// Five blocks, which an entry holds beside its packet.
-    type Ends: Drop;
+    type Ends: Copy + Drop;
 
     /// How many hash values are compressed at once.
     const LANES: u32;
@@ -42,6 +43,10 @@ pub trait LaneHash {
     /// The length of a block, in bytes.
     fn block_bytes() -> usize
         ensures { result ≡ chaining.block_bytes };
+
+    /// One of the hashes that are served.
+    fn served() -> HashName
+        ensures { IsTrue (chaining.serves result) };
 
     /// The initial hash value of a hash that is served.
     fn initial(hash: HashName) -> Self::Chain
@@ -102,11 +107,23 @@ pub trait LaneHash {
         requires lent { (i : ℕ) → i < LANES → B.lends blocks.now i }
         ensures { (i : ℕ) → i < LANES → lane states.new i ≡ chaining.compress (lane states.old i) (B.block blocks.now i) };
 
+    /// Hash values of lanes that have none, which are not looked at.
+    fn blank_states() -> Self::States;
+
+    /// A lane gets another hash value.
+    fn set_lane(states: &mut Self::States, i: usize, chain: &Self::Chain)
+        requires { i < LANES }
+        ensures here { lane states.new i ≡ words chain.now }
+        ensures others { (j : ℕ) → j < LANES → (j ≡ i → ⊥) → lane states.new j ≡ lane states.old j };
+
     /// There is a lane.
     ghost some: { 0 < LANES };
 
     /// The lanes are counted by a `u32`.
     ghost few: { LANES < 2 ^ 32 };
+
+    /// The rests of all lanes stand in one vector.
+    ghost narrow: { LANES ≤ most_lanes };
 
     /// Padding, digests and stored states are as FIPS 180-4 has them.
     ghost standard: { IsStandard chaining };

@@ -6,6 +6,7 @@ ghost use Rattle.mbj_hmac.specs.Chainings.{sha1_chaining};
 
 use crate::ends::put;
 use crate::lane_hash::LaneHash;
+use crate::rests::with_word32;
 use crate::view::Chains;
 use crate::words::word32;
 use mbj_sha_lanes::{Blocks, Load32};
@@ -70,6 +71,10 @@ impl LaneHash for Sha1Lanes {
         BLOCK_BYTES
     }
 
+    fn served() -> HashName {
+        HashName::Sha1
+    }
+
     fn initial(hash: HashName) -> [u32; 5] {
         match hash {
             HashName::Sha1 => INITIAL,
@@ -131,6 +136,18 @@ impl LaneHash for Sha1Lanes {
         scattered(states, i)
     }
 
+    #[inline(always)]
+    fn blank_states() -> [Sha1Word; 5] {
+        [Sha1Word::splat(0); 5]
+    }
+
+    #[inline(always)]
+    fn set_lane(states: &mut [Sha1Word; 5], i: usize, chain: &[u32; 5]) {
+        'words: for k in 0..5 {
+            states[k] = with_word32(states[k], i, chain[k]);
+        }
+    }
+
     fn blank_schedule() {}
 
     #[inline(always)]
@@ -145,6 +162,8 @@ impl LaneHash for Sha1Lanes {
     ghost some = { Prim.search rules };
 
     ghost few = { Prim.search rules };
+
+    ghost narrow = { Prim.search rules };
 
     ghost standard = { sha1_standard };
 

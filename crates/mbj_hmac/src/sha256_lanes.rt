@@ -6,6 +6,7 @@ ghost use Rattle.mbj_hmac.specs.Chainings.{sha256_chaining};
 
 use crate::ends::put;
 use crate::lane_hash::LaneHash;
+use crate::rests::with_word32;
 use crate::view::Chains;
 use crate::words::word32;
 use mbj_sha_lanes::{Blocks, Load32};
@@ -89,6 +90,10 @@ impl LaneHash for Sha256Lanes {
         BLOCK_BYTES
     }
 
+    fn served() -> HashName {
+        HashName::Sha256
+    }
+
     fn initial(hash: HashName) -> [u32; 8] {
         match hash {
             HashName::Sha224 => INITIAL_224,
@@ -155,6 +160,18 @@ impl LaneHash for Sha256Lanes {
     }
 
     #[inline(always)]
+    fn blank_states() -> [Sha256Word; 8] {
+        [Sha256Word::splat(0); 8]
+    }
+
+    #[inline(always)]
+    fn set_lane(states: &mut [Sha256Word; 8], i: usize, chain: &[u32; 8]) {
+        'words: for k in 0..8 {
+            states[k] = with_word32(states[k], i, chain[k]);
+        }
+    }
+
+    #[inline(always)]
     fn blank_schedule() -> [Sha256Word; ROUNDS] {
         [Sha256Word::splat(0); ROUNDS]
     }
@@ -175,6 +192,8 @@ impl LaneHash for Sha256Lanes {
     ghost some = { Prim.search rules };
 
     ghost few = { Prim.search rules };
+
+    ghost narrow = { Prim.search rules };
 
     ghost standard = { sha256_standard };
 

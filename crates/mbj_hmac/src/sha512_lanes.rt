@@ -7,6 +7,7 @@ ghost use Rattle.mbj_hmac.specs.Chainings.{sha512_chaining};
 
 use crate::ends::put;
 use crate::lane_hash::LaneHash;
+use crate::rests::with_word64;
 use crate::view::Chains;
 use crate::words::word64;
 use mbj_sha_lanes::{Blocks, Load64};
@@ -92,6 +93,10 @@ impl LaneHash for Sha512Lanes {
         BLOCK_BYTES
     }
 
+    fn served() -> HashName {
+        HashName::Sha512
+    }
+
     fn initial(hash: HashName) -> [u64; 8] {
         match hash {
             HashName::Sha384 => INITIAL_384,
@@ -158,6 +163,18 @@ impl LaneHash for Sha512Lanes {
     }
 
     #[inline(always)]
+    fn blank_states() -> [Sha512Word; 8] {
+        [Sha512Word::splat(0); 8]
+    }
+
+    #[inline(always)]
+    fn set_lane(states: &mut [Sha512Word; 8], i: usize, chain: &[u64; 8]) {
+        'words: for k in 0..8 {
+            states[k] = with_word64(states[k], i, chain[k]);
+        }
+    }
+
+    #[inline(always)]
     fn blank_schedule() -> [Sha512Word; ROUNDS] {
         [Sha512Word::splat(0); ROUNDS]
     }
@@ -178,6 +195,8 @@ impl LaneHash for Sha512Lanes {
     ghost some = { Prim.search rules };
 
     ghost few = { Prim.search rules };
+
+    ghost narrow = { Prim.search rules };
 
     ghost standard = { sha512_standard };
 

@@ -1,8 +1,9 @@
-ghost use Rattle.std.specs.Prelude.{◌≡◌, ℕ, ◌-◌, ◌<◌, List, length};
-ghost use Rattle.mbj_hmac.specs.Rounds.{block_before};
-ghost use Rattle.mbj_hmac.specs.Inside.LaneEntry.{lane_entry};
+ghost use Rattle.std.specs.Prelude.{◌≡◌, ℕ, ◌-◌, ◌<◌, List, length, nat_lt, replicate, if◌then◌else◌};
+ghost use Rattle.mbj_hmac.specs.Rounds.{HmacState, block_before};
+ghost use Rattle.mbj_hmac.specs.Inside.InLanes.{block_in, entry_in};
 
 use crate::entry::HmacEntry;
+use crate::key::MAX_BLOCK_BYTES;
 use crate::lane_hash::LaneHash;
 use mbj_sha_lanes::Blocks;
 
@@ -23,30 +24,43 @@ pub trait Chains<T> {
         ensures { words result.now ≡ chain self.now i };
 }
 
-/// The entries of a run as its lanes read them: the block that comes after `done` others, and the hash value.
-/// Idle lanes go with the last entry.
+/// The entries of a run as its lanes read them: the block that comes after `done` others. A lane whose entry has no round left, or that
+/// has none, reads a block of zeros.
 #[derive(Clone, Copy)]
 pub(crate) struct LaneEntries<'a, H: LaneHash> {
     pub(crate) entries: &'a [HmacEntry<H>],
     pub(crate) done: u32,
 }
 
-/// The entry of a lane.
+/// The block that is read where none is next.
+const BLANK: [u8; MAX_BLOCK_BYTES] = [0; MAX_BLOCK_BYTES];
+
+/// A block of zeros.
 #[inline(always)]
-fn lane_entry<H: LaneHash>(entries: &[HmacEntry<H>], i: usize) -> &HmacEntry<H>
-    requires { 0 < length entries.now }
-    ensures { result.now ≡ lane_entry entries.now i }
+fn blank_block<H: LaneHash>() -> &'static [u8]
+    ensures block { result.now ≡ replicate H.chaining.block_bytes 0 }
+    ensures length { length result.now ≡ H.chaining.block_bytes }
 {
-    if i < entries.len() {
-        &entries[i]
+    &BLANK[..H::block_bytes()]
+}
+
+/// The block of an entry that comes after `done` others, or one of zeros where no round is left.
+#[inline(always)]
+fn block_of<H: LaneHash>(entry: &HmacEntry<H>, done: u32) -> &[u8]
+    requires { 0 < entry.now.rest → done < entry.now.rest }
+    ensures block { result.now ≡ block_in H.chaining entry.now done }
+    ensures length { length result.now ≡ H.chaining.block_bytes }
+{
+    if entry.left() > 0 {
+        entry.block(done)
     } else {
-        &entries[entries.len() - 1]
+        blank_block::<H>()
     }
 }
 
 /// The hash value of an entry.
 #[inline(always)]
-fn chain_of<H: LaneHash>(entry: &HmacEntry<H>) -> &H::Chain
+pub(crate) fn chain_of<H: LaneHash>(entry: &HmacEntry<H>) -> &H::Chain
     ensures { H.words result.now ≡ entry.now.chain }
 {
     &entry.chain
@@ -55,25 +69,16 @@ fn chain_of<H: LaneHash>(entry: &HmacEntry<H>) -> &H::Chain
 impl<'a, H: LaneHash> Blocks for LaneEntries<'a, H> {
     ghost block_bytes = { H.chaining.block_bytes };
 
-    ghost lends = { λ v i. (0 < length v.entries.now) × (v.done < (lane_entry v.entries.now i).rest) };
+    ghost lends = { λ v i. 0 < (entry_in v.entries.now i).rest → v.done < (entry_in v.entries.now i).rest };
 
-    ghost block = { λ v i. block_before H.chaining (lane_entry v.entries.now i) ((lane_entry v.entries.now i).rest - v.done) };
+    ghost block = { λ v i. block_in H.chaining (entry_in v.entries.now i) v.done };
 
     #[inline(always)]
     fn block(&self, i: usize) -> &[u8] {
-        lane_entry(self.entries, i).block(self.done)
-    }
-}
-
-impl<'a, H: LaneHash> Chains<H::Chain> for LaneEntries<'a, H> {
-    ghost words = { H.words };
-
-    ghost lends = { λ v i. 0 < length v.entries.now };
-
-    ghost chain = { λ v i. (lane_entry v.entries.now i).chain };
-
-    #[inline(always)]
-    fn chain(&self, i: usize) -> &H::Chain {
-        chain_of(lane_entry(self.entries, i))
+        if i < self.entries.len() {
+            block_of(&self.entries[i], self.done)
+        } else {
+            blank_block::<H>()
+        }
     }
 }

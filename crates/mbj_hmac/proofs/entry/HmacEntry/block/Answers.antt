@@ -74,7 +74,7 @@ slice_bounds-result-end g c =
       c.outer_rounds.ensures,
       outer_few c.args.self.now.form,
     ) in
-    omega (arith, ap length c.ends.ensures, c.self.invariant.4, c.block_bytes-block.ensures, times_le b size q 3 few)
+    omega (arith, ap length c.ends.ensures, (c.self.invariant.0 (omega (arith, ap (λ (e : HmacState). e.rest) c.self.view_is, c.requires))).4, c.block_bytes-block.ensures, times_le b size q 3 few)
 
 pub returns-then-rest-behind-clause-block : goal.returns-then-rest-behind-clause-block
 returns-then-rest-behind-clause-block g c =
@@ -93,7 +93,7 @@ returns-then-rest-behind-clause-block g c =
     let some : 0 < r = omega (arith, rest_is, c.requires) in
     let at : r + q ≡ tail_blocks b f.len + o = omega (arith, c.if-rest-behind.true, c.tail_blocks.ensures, outer) in
     rw (c.block_bytes-block.ensures, c.tail_blocks.ensures, outer, n, c.ends.ensures)
-    (end_laid h g.met.H.LaneHash.standard f.packet.items (words f.chain) (words f.inner) (words f.start) f.hash f.form (bytes f.ends) f.rest f.off f.len r q k c.self.invariant some at (omega arith)
+    (end_laid h g.met.H.LaneHash.standard f.packet.items (words f.chain) (words f.inner) (words f.start) f.hash f.form (bytes f.ends) f.rest f.off f.len r q k (c.self.invariant.0 (omega (arith, ap (λ (e : HmacState). e.rest) c.self.view_is, c.requires))) some at (omega arith)
     ∙ ap (λ e. block_before h e (e.rest - c.args.done)) c.self.view_is)
 
 pub returns-then-rest-behind-2-clause-block : goal.returns-then-rest-behind-2-clause-block
@@ -114,7 +114,7 @@ returns-then-rest-behind-2-clause-block g c =
     let le' = rw (c.block_bytes-block.ensures, c.tail_blocks.ensures, outer) at le in
     let at : r + q ≡ tail_blocks b f.len + o + f.len / b = omega (arith, le') in
     rw (c.block_bytes-block.ensures, c.tail_blocks.ensures, outer, n, c.deref.ensures.value)
-    (packet_laid h g.met.H.LaneHash.standard f.packet.items (words f.chain) (words f.inner) (words f.start) f.hash f.form (bytes f.ends) f.rest f.off f.len r q k c.self.invariant lt at (omega arith)
+    (packet_laid h g.met.H.LaneHash.standard f.packet.items (words f.chain) (words f.inner) (words f.start) f.hash f.form (bytes f.ends) f.rest f.off f.len r q k (c.self.invariant.0 (omega (arith, ap (λ (e : HmacState). e.rest) c.self.view_is, c.requires))) lt at (omega arith)
     ∙ ap (λ e. block_before h e (e.rest - c.args.done)) c.self.view_is)
 
 pub returns-else-rest-behind-2-clause-block : goal.returns-else-rest-behind-2-clause-block
@@ -130,5 +130,5 @@ returns-else-rest-behind-2-clause-block g c =
     let lt : c.tail_blocks.result + c.outer_rounds.result + f.len / c.block_bytes-block.result < r = omega (arith, c.if-rest-behind-2.false) in
     let lt' = rw (c.block_bytes-block.ensures, c.tail_blocks.ensures, outer) at lt in
     rw (c.block_bytes-block.ensures, c.ends-else-rest-behind-2.ensures)
-    (first_laid h g.met.H.LaneHash.standard f.packet.items (words f.chain) (words f.inner) (words f.start) f.hash f.form (bytes f.ends) f.rest f.off f.len r c.self.invariant (omega arith) lt'
+    (first_laid h g.met.H.LaneHash.standard f.packet.items (words f.chain) (words f.inner) (words f.start) f.hash f.form (bytes f.ends) f.rest f.off f.len r (c.self.invariant.0 (omega (arith, ap (λ (e : HmacState). e.rest) c.self.view_is, c.requires))) (omega arith) lt'
     ∙ ap (λ e. block_before h e (e.rest - c.args.done)) c.self.view_is)

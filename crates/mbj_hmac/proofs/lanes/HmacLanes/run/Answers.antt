@@ -1,0 +1,84 @@
+use Rattle.std.proofs.Common.{◌≡◌, ℕ, ◌-◌, ◌<◌, ◌≤◌, ◌∙◌, List, refl, sym, ap, arith}
+use Rattle.mbj_types.specs.Lanes.{lane_at}
+use Rattle.mbj_lane.specs.Rounds.{after}
+use Rattle.mbj_hmac.specs.Rounds.{round}
+use Rattle.mbj_hmac.specs.Inside.InLanes.{entry_in, idle, lowered, most_lanes, reach_at, seen_at}
+use Rattle.mbj_hmac.proofs.InLanes.{all_left, led_on, lowered_next, lowered_none, reach_le, still_busy, tied_le, tied_reach}
+use Rattle.mbj_hmac.proofs.lanes.HmacLanes.run.Goals as goal
+
+pub loop-left-init : goal.loop-left-init
+loop-left-init g c =
+    let none : c.args.m - c.args.m ≡ 0 = omega arith in
+    record {
+      within = omega arith;
+      tied = c.requires.tied;
+      rests = λ i h. rw none (sym (lowered_none (lane_at 32 c.args.self.now.rests.left i)));
+      led = λ i h busy. rw none refl;
+    }
+
+pub stretch-requires-clause-rests : goal.stretch-requires-clause-rests
+stretch-requires-clause-rests g c i h busy =
+    let rests = c.turn_due.new.self.rests in
+    omega (arith, c.reach-len.ensures.reach i h, reach_le (lane_at 32 rests.left i) (lane_at 32 rests.turns i))
+
+pub stretch-requires-clause-some : goal.stretch-requires-clause-some
+stretch-requires-clause-some g c =
+    let inv = c.loop-left.invariant in
+    let first = c.args.self.now.rests in
+    c.reach-len.ensures.some (omega arith)
+    (rw c.turn_due.ensures.rests (all_left c.args.m c.loop-left.left first.left c.loop-left.self.rests.left first.turns c.args.entries.now c.requires.tied inv.within inv.rests c.requires.rests (omega arith)))
+
+pub loop-left-smaller : goal.loop-left-smaller
+loop-left-smaller g c =
+    let inv = c.loop-left.invariant in
+    let first = c.args.self.now.rests in
+    let some = c.reach-len.ensures.some c.loop-left-test.true
+    (rw c.turn_due.ensures.rests (all_left c.args.m c.loop-left.left first.left c.loop-left.self.rests.left first.turns c.args.entries.now c.requires.tied inv.within inv.rests c.requires.rests c.loop-left-test.true)) in
+    omega (arith, some, c.reach-len.ensures.within)
+
+pub loop-left-preserved : goal.loop-left-preserved
+loop-left-preserved g c =
+    let h = g.H.LaneHash.chaining in
+    let lane = g.H.LaneHash.lane in
+    let m = c.args.m in
+    let left = c.loop-left.left in
+    let len = c.reach-len.result in
+    let first = c.args.self.now in
+    let now = c.loop-left.self in
+    let turns = c.turn_due.new.self in
+    let inv = c.loop-left.invariant in
+    let within = c.reach-len.ensures.within in
+    let smaller = loop-left-smaller g c in
+    let some : 0 < len = omega (arith, smaller) in
+    let same : (i : ℕ) → lane_at 32 turns.rests.left i ≡ lane_at 32 now.rests.left i = λ i. ap (λ (v : List ℕ). lane_at 32 v i) c.turn_due.ensures.rests in
+    let le : (i : ℕ) → i < most_lanes → lane_at 32 first.rests.left i ≤ idle =
+    λ i l. tied_le (lane_at 32 first.rests.left i) (lane_at 32 first.rests.turns i) (entry_in c.args.entries.now i) (c.requires.tied.tied i l) in
+    record {
+      within = omega (arith, inv.within);
+      tied = c.stretch.ensures.tied;
+      rests = λ i l.
+          c.stretch.ensures.rests i l ∙ ap (lowered len) (same i)
+          ∙ lowered_next m left (lane_at 32 first.rests.left i) (lane_at 32 now.rests.left i) (le i l) inv.within (inv.rests i l) (c.requires.rests i l) len within;
+      led = λ i l busy.
+          let r : ℕ = lane_at 32 now.rests.left i in
+          let t : ℕ = lane_at 32 now.rests.turns i in
+          let busy' : r < idle = still_busy m left (lane_at 32 first.rests.left i) r (le i l) inv.within (inv.rests i l) (c.requires.rests i l) busy in
+          let turn : lane_at 32 turns.rests.left i < idle = rw (same i) busy' in
+          let reach' = rw (c.turn_due.ensures.rests, c.turn_due.ensures.turns) at c.reach-len.ensures.reach i l in
+          let reach : len ≤ reach_at r t = reach' in
+          let far = tied_reach r t (entry_in c.loop-left.entries i) (inv.tied.tied i l) busy' in
+          led_on h m left len (seen_at (lane first.states) c.args.entries.now i) (seen_at (lane now.states) c.loop-left.entries i)
+          (seen_at (lane turns.states) c.turn_due.new.entries i) (seen_at (lane c.stretch.new.self.states) c.stretch.new.entries i)
+          inv.within some within (inv.led i l busy) (c.turn_due.ensures.turned i l busy') (c.stretch.ensures.led i l turn) (omega (arith, reach, far));
+    }
+
+pub returns-clause-led : goal.returns-clause-led
+returns-clause-led g c i h busy =
+    let all : c.args.m - c.loop-left.left ≡ c.args.m = omega arith in
+    c.loop-left.invariant.led i h busy
+    ∙ ap (λ n. after (round g.H.LaneHash.chaining) n (seen_at (g.H.LaneHash.lane c.args.self.now.states) c.args.entries.now i)) all
+
+pub returns-clause-rests : goal.returns-clause-rests
+returns-clause-rests g c i h =
+    let all : c.args.m - c.loop-left.left ≡ c.args.m = omega arith in
+    c.loop-left.invariant.rests i h ∙ ap (λ n. lowered n (lane_at 32 c.args.self.now.rests.left i)) all

@@ -1,0 +1,109 @@
+// The rests of all lanes in vectors.
+ghost use Rattle.std.specs.Prelude.{◌≡◌, ℕ, ◌<◌, ◌≤◌, ◌^◌, ◌==◌, if◌then◌else◌, false, min, take, drop};
+ghost use Rattle.std.specs.Simd.Lanes.{zip2};
+ghost use Rattle.mbj_types.specs.Lanes.{lane_at};
+ghost use Rattle.mbj_hmac.specs.Inside.InLanes.{idle, lowered, most_lanes, reach_at};
+
+use std::simd::{u32x4, u32x8, u32x16, u64x8};
+
+/// As many lanes as any of the hashes has.
+pub(crate) const MOST_LANES: usize = 16;
+
+/// The rest of an idle lane. No entry has so many rounds.
+pub(crate) const IDLE: u32 = 0x8000_0000;
+
+/// The numbers of the lanes.
+const NUMBERS_32: [u32; 16] = [0, 1, 2, 3, 4, 5, 6, 7, 8, 9, 10, 11, 12, 13, 14, 15];
+
+const NUMBERS_64: [u64; 8] = [0, 1, 2, 3, 4, 5, 6, 7];
+
+/// A vector with another word in a lane. It is blended, since a word that is written into a vector in memory delays its next load.
+#[inline(always)]
+pub(crate) fn with_word32(words: u32x16, i: usize, word: u32) -> u32x16
+    requires { i < 16 }
+    ensures { (j : ℕ) → j < 16 → lane_at 32 result j ≡ if j == i then word else lane_at 32 words j }
+{
+    u32x16::from_array(NUMBERS_32)
+        .simd_eq(u32x16::splat(i as u32))
+        .select(u32x16::splat(word), words)
+}
+
+/// A vector with another word in a lane, blended too.
+#[inline(always)]
+pub(crate) fn with_word64(words: u64x8, i: usize, word: u64) -> u64x8
+    requires { i < 8 }
+    ensures { (j : ℕ) → j < 8 → lane_at 64 result j ≡ if j == i then word else lane_at 64 words j }
+{
+    u64x8::from_array(NUMBERS_64)
+        .simd_eq(u64x8::splat(i as u64))
+        .select(u64x8::splat(word), words)
+}
+
+/// The word of a lane.
+#[inline(always)]
+pub(crate) fn word_of(words: &u32x16, i: usize) -> u32
+    requires { i < 16 }
+    ensures { result ≡ lane_at 32 words.now i }
+{
+    words.as_array()[i]
+}
+
+/// The lesser number.
+#[inline(always)]
+pub(crate) fn least(a: u32, b: u32) -> u32
+    ensures { result ≡ min a b }
+{
+    if a < b { a } else { b }
+}
+
+/// The lesser lanes of both halves.
+#[inline(always)]
+fn lesser_half(words: u32x16) -> u32x8
+    ensures { result ≡ zip2 min (take 8 words) (drop 8 words) }
+{
+    words.extract::<0, 8>().simd_min(words.extract::<8, 8>())
+}
+
+/// The lesser lanes of both halves.
+#[inline(always)]
+fn lesser_quarter(words: u32x8) -> u32x4
+    ensures { result ≡ zip2 min (take 4 words) (drop 4 words) }
+{
+    words.extract::<0, 4>().simd_min(words.extract::<4, 4>())
+}
+
+/// The least lane.
+#[inline(always)]
+pub(crate) fn least_lane(words: u32x16) -> u32
+    ensures below { (i : ℕ) → i < most_lanes → result ≤ lane_at 32 words i }
+    ensures met { (i : ℕ) × (i < most_lanes) × (result ≡ lane_at 32 words i) }
+{
+    let [a, b, c, d] = lesser_quarter(lesser_half(words)).to_array();
+    least(least(a, b), least(c, d))
+}
+
+/// The rests after `m` rounds.
+#[inline(always)]
+pub(crate) fn lowered(rests: u32x16, m: u32) -> u32x16
+    requires { (i : ℕ) → i < most_lanes → lane_at 32 rests i < idle → m ≤ lane_at 32 rests i }
+    ensures { (i : ℕ) → i < most_lanes → lane_at 32 rests i ≤ idle → lane_at 32 result i ≡ lowered m (lane_at 32 rests i) }
+{
+    let is_idle = rests.simd_eq(u32x16::splat(IDLE));
+    is_idle.select(rests, rests - u32x16::splat(m))
+}
+
+/// How many rounds each lane has before its outer hash starts, or has at all.
+#[inline(always)]
+pub(crate) fn reaches(rests: u32x16, turns: u32x16) -> u32x16
+    ensures { (i : ℕ) → i < most_lanes → lane_at 32 result i ≡ reach_at (lane_at 32 rests i) (lane_at 32 turns i) }
+{
+    rests.simd_gt(turns).select(rests - turns, rests)
+}
+
+/// Whether an outer hash starts.
+#[inline(always)]
+pub(crate) fn is_turn(rests: u32x16, turns: u32x16) -> bool
+    ensures { result ≡ false → (i : ℕ) → i < most_lanes → lane_at 32 rests i ≡ lane_at 32 turns i → ⊥ }
+{
+    rests.simd_eq(turns).any()
+}

@@ -1,0 +1,103 @@
+// Slots of digests and HMACs.
+ghost use Rattle.std.specs.Prelude.{◌≡◌, ℕ, ◌<◌, ◌≤◌, Some, None, IfOk};
+ghost use Rattle.std.specs.Option.{option_map};
+ghost use Rattle.mbj_lane.specs.Rounds.{after};
+ghost use Rattle.mbj_lane.specs.Slots.{IsBusy, IsLeast, IsWritten};
+ghost use Rattle.mbj_hmac.specs.Rounds.{HmacState, rest_of, round};
+ghost use Rattle.mbj_hmac.specs.Inside.InLanes.{slot_in};
+
+use crate::entry::HmacEntry;
+use crate::lane_hash::LaneHash;
+use crate::lanes::HmacLanes;
+use crate::rests::{least_lane, word_of};
+use std::alloc::{AllocError, Global};
+use std::marker::Model;
+
+/// The slots of a hash. Slot i is lane i for good: the hash value of its entry stays in the vectors of all lanes between runs.
+#[derive(Drop)]
+pub struct HmacSlots<H: LaneHash> {
+    lanes: HmacLanes<H>,
+    /// The entries, but for their hash values. One without a round left stands in an idle slot.
+    entries: Vec<HmacEntry<H>>,
+}
+
+impl<H: LaneHash> Model for HmacSlots<H> {
+    ghost use Rattle.std.specs.Prelude.{◌≡◌, List, Option, length};
+    ghost use Rattle.mbj_hmac.specs.Rounds.{HmacState};
+    ghost use Rattle.mbj_hmac.specs.Inside.InLanes.{AreTied, slot_at, slots_of};
+
+    ghost Value = { List (Option HmacState) };
+
+    ghost view = { λ s. slots_of H.LANES (slot_at (H.lane s.lanes.states) s.lanes.rests.left s.entries.items) };
+
+    ghost invariant = { λ s. AreTied s.lanes.rests.left s.lanes.rests.turns s.entries.items × (length s.entries.items ≡ H.LANES) };
+}
+
+impl<H: LaneHash> HmacSlots<H> {
+    /// Idle slots.
+    pub(crate) fn new(alloc: Global) -> Result<HmacSlots<H>, AllocError>
+        ensures { IfOk result (λ s. (i : ℕ) → i < H.LANES → slot_in s i ≡ None) }
+    {
+        let mut entries = Vec::with_capacity(alloc, H::LANES as usize)?;
+        'slots: for _i in 0..H::LANES {
+            entries.push_reserved(HmacEntry::blank(alloc));
+        }
+        Ok(HmacSlots {
+            lanes: HmacLanes::new(),
+            entries,
+        })
+    }
+
+    /// An entry with a round left takes an idle slot, and its lane gets its hash value.
+    #[inline(always)]
+    pub(crate) fn put(&mut self, i: usize, entry: HmacEntry<H>)
+        requires lane { i < H.LANES }
+        requires rest { 1 ≤ entry.rest }
+        ensures { IsWritten H.LANES i (Some entry) (slot_in self.old) (slot_in self.new) }
+    {
+        self.lanes.enter(i, &entry);
+        self.entries[i] = entry;
+    }
+
+    /// How many rounds the entry of a slot has left.
+    #[inline(always)]
+    pub(crate) fn rest_at(&self, i: usize) -> u32
+        requires lane { i < H.LANES }
+        requires busy { IsBusy (slot_in self.now) i }
+        ensures { (e : HmacState) → slot_in self.now i ≡ Some e → result ≡ e.rest }
+    {
+        word_of(&self.lanes.rests.left, i)
+    }
+
+    /// The least rest of all slots, of which one has an entry.
+    #[inline(always)]
+    pub(crate) fn least(&self) -> u32
+        requires { (i : ℕ) × (i < H.LANES) × IsBusy (slot_in self.now) i }
+        ensures { IsLeast rest_of H.LANES (slot_in self.now) result }
+    {
+        least_lane(self.lanes.rests.left)
+    }
+
+    /// Leads the entry of each slot by `m` rounds, which each has left.
+    pub(crate) fn run_all(&mut self, m: u32)
+        requires { (i : ℕ) (e : HmacState) → i < H.LANES → slot_in self.old i ≡ Some e → m ≤ e.rest }
+        ensures { (i : ℕ) → i < H.LANES → slot_in self.new i ≡ option_map (after (round H.chaining) m) (slot_in self.old i) }
+    {
+        self.lanes.run(&mut self.entries, m);
+    }
+
+    /// Takes an entry that has no round left out of its slot, with its lane's hash value.
+    #[inline(always)]
+    pub(crate) fn take(&mut self, i: usize) -> HmacEntry<H>
+        requires lane { i < H.LANES }
+        requires busy { IsBusy (slot_in self.old) i }
+        requires done { (e : HmacState) → slot_in self.old i ≡ Some e → e.rest ≡ 0 }
+        ensures taken { slot_in self.old i ≡ Some result }
+        ensures idle { IsWritten H.LANES i None (slot_in self.old) (slot_in self.new) }
+    {
+        self.lanes.leave(i);
+        let chain = H::scattered(&self.lanes.states, i);
+        let entry = &mut self.entries[i];
+        entry.end(chain)
+    }
+}
