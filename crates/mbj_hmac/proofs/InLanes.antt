@@ -15,8 +15,7 @@ use Rattle.mbj_hmac.specs.Forms.{outer_rounds_of}
 use Rattle.mbj_hmac.specs.Rounds.{Chaining, HmacState, advanced, block_before, is_turn, outer_rounds, rest_of, round, turned}
 use Rattle.mbj_hmac.specs.Laws.Falls.{turned_rest}
 use Rattle.mbj_hmac.specs.Laws.Tests.{not_both}
-use Rattle.mbj_hmac.specs.Inside.LaneEntry.{blank, reach_of}
-use Rattle.mbj_hmac.specs.Inside.InLanes.{AreTied, IsTied, block_in, entry_in, idle, lowered, most_lanes, moved, reach_at, seen_at, slot_at, slot_in, slots_of, turn_of, with_chain}
+use Rattle.mbj_hmac.specs.Inside.InLanes.{AreTied, IsTied, blank, block_in, entry_in, idle, lowered, most_lanes, moved, reach_at, reach_of, seen_at, slot_at, slot_in, slots_of, turn_of, with_chain}
 use Rattle.mbj_hmac.proofs.Passes.{after_moved, chain_next, rounds_are_blocks, turned_form}
 
 -- ---- places

@@ -1,5 +1,5 @@
 -- Entries that go on by blocks, of which the outer hash's first is at most the first.
-use Rattle.std.proofs.Common.{◌≡◌, ℕ, zero, suc, ◌+◌, ◌-◌, ◌≤◌, ◌<◌, List, eqb, ◌&&◌, Bool, true, false, ◌⊎◌, inl, inr, refl, sym, ap, ap₂, ◌∙◌, arith, add-one}
+use Rattle.std.proofs.Common.{◌≡◌, ℕ, zero, suc, ◌+◌, ◌-◌, ◌≤◌, ◌<◌, List, eqb, ◌&&◌, Bool, true, false, ◌⊎◌, inl, inr, refl, sym, ap, ◌∙◌, arith, add-one}
 use Rattle.std.specs.Prelude.{nat_lt, if◌then◌else◌}
 use Rattle.std.proofs.lemmas.Bool.{cases_lt, lt-ltb, le-ltb, eqb-true}
 use Rattle.mbj_lane.specs.Rounds.{after}
@@ -8,8 +8,8 @@ use Rattle.mbj_lane.proofs.Led.{after-one_more}
 use Rattle.mbj_hmac.specs.declared.form.Form.{Form}
 use Rattle.mbj_hmac.specs.Forms.{outer_rounds_of}
 use Rattle.mbj_hmac.specs.Rounds.{Chaining, HmacState, block_before, advanced, is_turn, outer_rounds, turned, round, rest_of}
-use Rattle.mbj_hmac.specs.Inside.LaneEntry.{reach_of}
-use Rattle.mbj_hmac.specs.Laws.Falls.{turned_rest, falls}
+use Rattle.mbj_hmac.specs.Inside.InLanes.{reach_at, reach_of}
+use Rattle.mbj_hmac.specs.Laws.Falls.{falls}
 use Rattle.mbj_hmac.specs.Laws.Tests.{not_both}
 
 module _ (h : Chaining) where
@@ -29,20 +29,11 @@ module _ (h : Chaining) where
 
 -- how far an entry goes, by its rest and the rounds of its outer hash
 module _ (o n : ℕ) where
-  abbrev reach : ℕ
-  reach = if nat_lt o n then n - o else n
-
-  reach_is : ((o < n) × (reach ≡ n - o)) ⊎ ((n ≤ o) × (reach ≡ n))
+  reach_is : ((o < n) × (reach_at n o ≡ n - o)) ⊎ ((n ≤ o) × (reach_at n o ≡ n))
   reach_is = elim (cases_lt o n) [ inl lt ↦ inl (lt, rw (lt-ltb o n lt) refl) | inr le ↦ inr (le, rw (le-ltb o n le) refl) ]
 
-  reach_le : reach ≤ n
-  reach_le = elim reach_is [ inl p ↦ omega arith | inr p ↦ omega arith ]
-
-  reach_some : 1 ≤ n → 0 < reach
-  reach_some h = elim reach_is [ inl p ↦ omega arith | inr p ↦ omega arith ]
-
   -- within its reach, and behind its first round, an entry doesn't come to the outer hash's first round
-  reach_before : (k : ℕ) → suc (suc k) ≤ reach → n - suc k ≡ o → ⊥
+  reach_before : (k : ℕ) → suc (suc k) ≤ reach_at n o → n - suc k ≡ o → ⊥
   reach_before k le e = elim reach_is [ inl p ↦ omega arith | inr p ↦ omega arith ]
 
 -- what holds with another holds
@@ -71,10 +62,6 @@ module _ (h : Chaining) where
   form_after : (k : ℕ) (e : HmacState) → (after (round h) k e).form ≡ e.form
   form_after zero e = refl
   form_after (suc k) e = form_after k (round h e) ∙ turned_form e
-
-  -- a turn leaves the reach
-  turned_reach : (e : HmacState) → reach_of (turned h e) ≡ reach_of e
-  turned_reach e = ap₂ (λ (f : Form) (n : ℕ). reach (outer_rounds_of f) n) (turned_form e) (turned_rest h e)
 
   -- rounds are blocks, where the outer hash's first is not among them but at first
   pub rounds_are_blocks : (k : ℕ) (e : HmacState) → suc k ≤ reach_of e → after (round h) (suc k) e ≡ after (advanced h) (suc k) (turned h e)

@@ -1,3 +1,2 @@
-pub mod LaneEntry
 pub mod Layout
 pub mod InLanes

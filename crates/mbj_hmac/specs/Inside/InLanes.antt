@@ -1,10 +1,15 @@
 -- Entries in lanes. The lanes have the hash values of their entries, and two vectors say how many rounds each has left, and with how many
 -- left its outer hash starts.
-use Rattle.std.specs.Prelude.{◌≡◌, ℕ, ◌-◌, ◌<◌, ◌≤◌, ◌^◌, ◌==◌, ◌⊎◌, nat_lt, List, length, map, replicate, Option, Some, None, slice_index_or, if◌then◌else◌}
+use Rattle.std.specs.Prelude.{◌≡◌, ℕ, ◌-◌, ◌<◌, ◌≤◌, ◌^◌, ◌==◌, ◌⊎◌, nat_lt, List, [], length, map, replicate, Option, Some, None, slice_index_or, if◌then◌else◌}
 use Rattle.std.specs.List.{range_with_len}
 use Rattle.mbj_types.specs.Lanes.{lane_at}
+use Rattle.mbj_types.specs.declared.class.HashName.TheVariants.{Sha1}
+use Rattle.mbj_hmac.specs.declared.form.Form.TheVariants.{Plain}
 use Rattle.mbj_hmac.specs.Rounds.{Chaining, HmacState, block_before, outer_rounds}
-use Rattle.mbj_hmac.specs.Inside.LaneEntry.{blank}
+
+-- an entry that is none
+abbrev pub blank : HmacState
+blank = record { packet = []; rest = 0; chain = []; inner = []; start = []; hash = Sha1; form = Plain; front = []; back = []; off = 0; len = 0 }
 
 -- as many lanes as any of the hashes has
 abbrev pub most_lanes : ℕ
@@ -25,6 +30,9 @@ turn_of e = if nat_lt 0 (outer_rounds e) then outer_rounds e else 2 ^ 32 - 1
 -- how many rounds a lane has before those of its outer hash, or has at all
 abbrev pub reach_at : ℕ → ℕ → ℕ
 reach_at rest turn = if nat_lt turn rest then rest - turn else rest
+
+abbrev pub reach_of : HmacState → ℕ
+reach_of e = reach_at e.rest (outer_rounds e)
 
 -- an entry with the hash value of its lane
 abbrev pub with_chain : List ℕ → HmacState → HmacState

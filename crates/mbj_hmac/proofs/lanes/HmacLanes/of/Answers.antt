@@ -2,8 +2,7 @@ use Rattle.std.proofs.Common.{◌≡◌, ◌<◌, ◌∙◌, length, inl, inr, a
 use Rattle.std.proofs.lemmas.Bool.{cases_eq, cases_lt}
 use Rattle.std.proofs.lemmas.List.{get_or_default}
 use Rattle.mbj_hmac.specs.Rounds.{HmacState}
-use Rattle.mbj_hmac.specs.Inside.LaneEntry.{blank}
-use Rattle.mbj_hmac.specs.Inside.InLanes.{entry_in, most_lanes, turn_of}
+use Rattle.mbj_hmac.specs.Inside.InLanes.{blank, entry_in, most_lanes, turn_of}
 use Rattle.mbj_hmac.proofs.InLanes.{entry_in-past}
 use Rattle.mbj_hmac.proofs.lanes.HmacLanes.of.Goals as goal
 

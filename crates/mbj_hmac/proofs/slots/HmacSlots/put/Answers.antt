@@ -1,6 +1,5 @@
 use Rattle.std.proofs.Common.{◌<◌, ◌∙◌, Some, inr, length, length-set, set, get_or-set_same, sym, ap, ap₂, arith}
-use Rattle.mbj_hmac.specs.Inside.LaneEntry.{blank}
-use Rattle.mbj_hmac.specs.Inside.InLanes.{slot_at, with_chain}
+use Rattle.mbj_hmac.specs.Inside.InLanes.{blank, slot_at, with_chain}
 use Rattle.mbj_hmac.proofs.InLanes.{slot_busy, slot_here, slot_is, slot_same, tied_set}
 use Rattle.mbj_hmac.proofs.slots.HmacSlots.put.Goals as goal
 

@@ -2,8 +2,7 @@ use Rattle.std.proofs.Common.{◌≡◌, ◌<◌, ◌∙◌, ℕ, List, Some, in
 use Rattle.std.proofs.lemmas.List.{get_or_default}
 use Rattle.mbj_types.specs.Lanes.{lane_at}
 use Rattle.mbj_hmac.specs.Rounds.{HmacState}
-use Rattle.mbj_hmac.specs.Inside.LaneEntry.{blank}
-use Rattle.mbj_hmac.specs.Inside.InLanes.{entry_in, slot_at, with_chain}
+use Rattle.mbj_hmac.specs.Inside.InLanes.{blank, entry_in, slot_at, with_chain}
 use Rattle.mbj_hmac.proofs.InLanes.{slot_busy, slot_entry, slot_here, slot_idle, slot_is, slot_same, tied_set}
 use Rattle.mbj_hmac.proofs.slots.HmacSlots.take.Goals as goal
 
