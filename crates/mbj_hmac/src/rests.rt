@@ -6,9 +6,6 @@ ghost use Rattle.mbj_hmac.specs.Inside.InLanes.{idle, lowered, most_lanes, reach
 
 use std::simd::{u32x4, u32x8, u32x16, u64x8};
 
-/// As many lanes as any of the hashes has.
-pub(crate) const MOST_LANES: usize = 16;
-
 /// The rest of an idle lane. No entry has so many rounds.
 pub(crate) const IDLE: u32 = 0x8000_0000;
 
