@@ -1,17 +1,15 @@
-ghost use Rattle.std.specs.Prelude.{◌≡◌, ℕ, ◌<◌, length, slice_index_or};
-ghost use Rattle.mbj_lane.specs.Rounds.{least};
-ghost use Rattle.mbj_lane.specs.Slots.{IsIn};
+ghost use Rattle.std.specs.Prelude.{◌≡◌, ℕ, ◌<◌, ◌≤◌, length, slice_index_or, Option, Some, None, IfOk};
+ghost use Rattle.std.specs.Option.{option_map};
+ghost use Rattle.mbj_lane.specs.Rounds.{after, least};
+ghost use Rattle.mbj_lane.specs.Slots.{IsBusy, IsIn, IsLeast, IsWritten};
 ghost use Rattle.mbj_lane.specs.Gathered.{at_slot};
 
 use crate::kernel::Kernel;
-use crate::slot_kernel::SlotKernel;
 use std::alloc::{AllocError, Global};
 use std::marker::Model;
 
-/// A kernel that keeps nothing in its lanes between runs. Its slots gather their entries for each run.
-pub trait Gathered: Kernel {}
-
-/// Slots whose entries stand side by side, so that each run is one of the kernel over all of them.
+/// The slots of a kernel that keeps nothing in its lanes between runs. The entries stand side by side, so that each run
+/// is one of the kernel over all of them.
 #[derive(Drop)]
 pub struct GatheredSlots<K: Kernel> {
     entries: Vec<K::Entry>,
@@ -31,12 +29,11 @@ impl<K: Kernel> Model for GatheredSlots<K> {
         × (K.LANES ≤ vec_capacity s.places) × (K.LANES ≤ vec_capacity s.entries) };
 }
 
-impl<K: Gathered> SlotKernel for K {
-    type Slots = GatheredSlots<K>;
-
-    ghost slot = { λ s. at_slot s.0 s.1 };
-
-    fn new_slots(alloc: Global) -> Result<GatheredSlots<K>, AllocError> {
+impl<K: Kernel> GatheredSlots<K> {
+    /// As many slots as lanes, all of them idle. No other call takes memory.
+    pub fn new(alloc: Global) -> Result<GatheredSlots<K>, AllocError>
+        ensures { IfOk result (λ s. (i : ℕ) → i < K.LANES → at_slot s.0 s.1 i ≡ None) }
+    {
         let lanes = K::LANES as usize;
         Ok(GatheredSlots {
             entries: Vec::with_capacity(alloc, lanes)?,
@@ -44,27 +41,51 @@ impl<K: Gathered> SlotKernel for K {
         })
     }
 
-    fn put(slots: &mut GatheredSlots<K>, i: usize, entry: K::Entry) {
-        slots.places.push_reserved(i);
-        slots.entries.push_reserved(entry);
+    /// An entry with a round left takes an idle slot.
+    pub fn put(&mut self, i: usize, entry: K::Entry)
+        requires lane { i < K.LANES }
+        requires idle { at_slot self.old.0 self.old.1 i ≡ None }
+        ensures { IsWritten K.LANES i (Some entry) (at_slot self.old.0 self.old.1) (at_slot self.new.0 self.new.1) }
+    {
+        self.places.push_reserved(i);
+        self.entries.push_reserved(entry);
     }
 
-    fn rest_at(slots: &GatheredSlots<K>, i: usize) -> u32 {
-        K::rest(&slots.entries[place_of(&slots.places, i)])
+    /// How many rounds the entry of a slot has left.
+    pub fn rest_at(&self, i: usize) -> u32
+        requires { IsBusy (at_slot self.now.0 self.now.1) i }
+        ensures { (e : K.Entry) → at_slot self.now.0 self.now.1 i ≡ Some e → result ≡ K.rest_of e }
+    {
+        K::rest(&self.entries[place_of(&self.places, i)])
     }
 
-    fn least(slots: &GatheredSlots<K>) -> u32 {
-        shortest::<K>(&slots.entries)
+    /// The least rest of all slots, of which one has an entry.
+    pub fn least(&self) -> u32
+        requires { (i : ℕ) × (i < K.LANES) × IsBusy (at_slot self.now.0 self.now.1) i }
+        ensures { IsLeast K.rest_of K.LANES (at_slot self.now.0 self.now.1) result }
+    {
+        shortest::<K>(&self.entries)
     }
 
-    fn run_all(slots: &mut GatheredSlots<K>, m: u32) {
-        K::run(&mut slots.entries, m);
+    /// Leads the entry of each slot by `m` rounds, which each has left.
+    pub fn run_all(&mut self, m: u32)
+        requires { (i : ℕ) (e : K.Entry) → i < K.LANES → at_slot self.old.0 self.old.1 i ≡ Some e → m ≤ K.rest_of e }
+        ensures { (i : ℕ) → i < K.LANES
+            → at_slot self.new.0 self.new.1 i ≡ option_map (after K.round m) (at_slot self.old.0 self.old.1 i) }
+    {
+        K::run(&mut self.entries, m);
     }
 
-    fn take(slots: &mut GatheredSlots<K>, i: usize) -> K::Entry {
-        let k = place_of(&slots.places, i);
-        slots.places.remove(k);
-        slots.entries.remove(k)
+    /// Takes an entry out of its slot, which is idle then.
+    pub fn take(&mut self, i: usize) -> K::Entry
+        requires lane { i < K.LANES }
+        requires busy { IsBusy (at_slot self.old.0 self.old.1) i }
+        ensures taken { at_slot self.old.0 self.old.1 i ≡ Some result }
+        ensures idle { IsWritten K.LANES i None (at_slot self.old.0 self.old.1) (at_slot self.new.0 self.new.1) }
+    {
+        let k = place_of(&self.places, i);
+        self.places.remove(k);
+        self.entries.remove(k)
     }
 }
 

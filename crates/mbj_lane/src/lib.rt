@@ -6,7 +6,7 @@ mod kernel;
 mod lanes;
 mod slot_kernel;
 
-pub use gathered::{Gathered, GatheredSlots};
+pub use gathered::GatheredSlots;
 pub use kernel::Kernel;
 pub use lanes::Lanes;
 pub use slot_kernel::SlotKernel;
