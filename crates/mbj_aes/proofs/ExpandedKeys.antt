@@ -1,10 +1,13 @@
 -- What key expansion leaves in the array of a schedule.
-use Rattle.std.proofs.Common.{◌≡◌, ℕ, ◌+◌, ◌-◌, ◌*◌, ◌/◌, ◌<◌, List, ◌++◌, length, take, replicate, refl, ◌∙◌, arith, inl, inr}
+use Rattle.std.proofs.Common.{◌≡◌, ℕ, zero, suc, ◌+◌, ◌-◌, ◌*◌, ◌/◌, ◌<◌, ◌≤◌, List, ◌++◌, length, take, replicate, refl, ap, ap₂, sym, ◌∙◌, arith, inl, inr}
 use Rattle.std.proofs.lemmas.List.Elements.{All-append, All-replicate, All-same}
-use Rattle.mbj_types.specs.Aes.{round_count, key_schedule, encipher, decipher, aes, aes_inverse}
+use Rattle.std.proofs.lemmas.List.{take_all, take-append-le}
+use Rattle.mbj_types.specs.Blocks.{xor_lists}
+use Rattle.mbj_types.specs.Aes.{word, schedule_term, schedule, round_count, key_schedule, encipher, decipher, aes, aes_inverse}
 use Rattle.mbj_aes.specs.Bytes.{IsBytes, IsKey, IsKeySize, IsRoundCount}
 use Rattle.mbj_aes.specs.Inside.Padding.{IsPadded}
-use Rattle.mbj_aes.proofs.KeyLists.{IsSchedule, IsSchedule-key_schedule}
+use Rattle.mbj_aes.specs.Inside.FirstKeys.{IsExpanded}
+use Rattle.mbj_aes.proofs.KeyLists.{IsSchedule, IsSchedule-schedule, IsSchedule-key_schedule}
 use Rattle.mbj_aes.proofs.KeySizes.{key_sizes}
 use Rattle.mbj_aes.proofs.Padding.{take-padded, IsPadded-zeros}
 
@@ -64,3 +67,27 @@ encipher-key_schedule key b = refl
 pub decipher-key_schedule : (key b : List ℕ) → decipher (key_schedule key) b ≡ aes_inverse key b
 unfolding aes_inverse
 decipher-key_schedule key b = refl
+
+-- a schedule begins with the key
+take-schedule : (nk : ℕ) (key : List ℕ) (n : ℕ) → 1 ≤ nk → length key ≡ 4 * nk → IsBytes key → take (4 * nk) (schedule nk key n) ≡ key
+unfolding schedule
+take-schedule nk key zero some size bytes = take_all (4 * nk) key (omega arith)
+take-schedule nk key (suc n) some size bytes =
+    let w : List ℕ = schedule nk key n in
+    let before : IsSchedule (nk + n) w = IsSchedule-schedule nk key n some size bytes in
+    take-append-le (4 * nk) w (xor_lists (word w n) (schedule_term nk w (nk + n))) (omega (arith, before.size))
+    ∙ take-schedule nk key n some size bytes
+
+-- so the key stands in the array
+pub IsExpanded-expansion : (key bytes : List ℕ) (rounds : ℕ) → IsExpansion key bytes rounds → IsExpanded rounds bytes
+IsExpanded-expansion key bytes rounds h =
+    let sizes = key_sizes (length key) h.of_key.size in
+    let nk : ℕ = length key / 4 in
+    let zeros : ℕ = 240 - 16 * (round_count key + 1) in
+    let long : length (key_schedule key) ≡ 16 * (round_count key + 1) = length-key_schedule key h.of_key in
+    let size : 4 * (rounds - 6) ≡ 4 * nk = omega (arith, h.count) in
+    let first : take (4 * (rounds - 6)) bytes ≡ key =
+    ap₂ (λ n xs. take n xs) size h.array
+    ∙ take-append-le (4 * nk) (key_schedule key) (replicate zeros 0) (omega arith)
+    ∙ take-schedule nk key (4 * (round_count key + 1) - nk) (omega arith) (omega arith) h.of_key.bytes in
+    ap key_schedule first ∙ sym (take-expansion key bytes rounds h)

@@ -1,3 +1,4 @@
 pub mod Padding
 pub mod Circuit
 pub mod Turns
+pub mod FirstKeys

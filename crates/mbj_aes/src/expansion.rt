@@ -30,6 +30,15 @@ pub fn round_count(key_bytes: usize) -> usize
     key_bytes / WORD_BYTES + EXTRA_ROUNDS
 }
 
+/// The bytes of a key for so many rounds, which are 10, 12 or 14.
+pub fn key_size(rounds: usize) -> usize
+    requires least { 6 ≤ rounds }
+    requires most { rounds ≤ 14 }
+    ensures { result ≡ 4 * (rounds - 6) }
+{
+    WORD_BYTES * (rounds - EXTRA_ROUNDS)
+}
+
 // ROTWORD (FIPS 197, 5.2).
 fn rot_word(word: &[u8; 4]) -> [u8; 4]
     ensures { result ≡ rot_word word.now }
@@ -37,8 +46,8 @@ fn rot_word(word: &[u8; 4]) -> [u8; 4]
     [word[1], word[2], word[3], word[0]]
 }
 
-// Rcon[j] (FIPS 197, 5.2).
-fn round_constant(j: usize) -> [u8; 4]
+/// Rcon[j] (FIPS 197, 5.2), from j = 1 to 10.
+pub fn round_constant(j: usize) -> [u8; 4]
     requires least { 1 ≤ j }
     requires most { j ≤ 10 }
     ensures { result ≡ rcon j }

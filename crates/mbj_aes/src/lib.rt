@@ -11,6 +11,7 @@ mod octet;
 mod schedule;
 mod substitution;
 
+pub use expansion::round_constant;
 pub use laws::{blocks_stay_blocks, each_undoes_the_other, examples_of_the_standard};
 pub use octet::{Octet, SBOX_CONSTANT};
-pub use schedule::Schedule;
+pub use schedule::{MAX_KEY_BYTES, Schedule};

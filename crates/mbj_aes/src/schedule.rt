@@ -1,10 +1,13 @@
-ghost use Rattle.std.specs.Prelude.{◌≡◌, ℕ, ◌+◌, ◌-◌, ◌*◌, ◌/◌, ◌≤◌, List, length};
+ghost use Rattle.std.specs.Prelude.{◌≡◌, ℕ, ◌+◌, ◌-◌, ◌*◌, ◌/◌, ◌≤◌, List, ◌++◌, length, take, replicate};
 ghost use Rattle.mbj_types.specs.Aes.{key_schedule, round_count, round_key, encipher, decipher, aes, aes_inverse};
 ghost use Rattle.mbj_aes.specs.Bytes.{IsBytes, IsKeySize, IsRoundCount};
 
-use crate::expansion::{MAX_SCHEDULE_BYTES, expanded_key, round_count};
+use crate::expansion::{MAX_SCHEDULE_BYTES, expanded_key, key_size, round_count};
 use mbj_types::BLOCK_BYTES;
 use std::marker::Model;
+
+/// The bytes of the longest key.
+pub const MAX_KEY_BYTES: usize = 32;
 
 /// The round keys of an AES key (FIPS 197, 5.2), which contracts see as the list of their bytes, 16 for each of
 /// 10, 12 or 14 rounds and 16 more. It is a plain value of 244 bytes, `Copy`, and owns no memory.
@@ -21,6 +24,7 @@ impl Model for Schedule {
     ghost use Rattle.std.specs.Prelude.{ℕ, ◌+◌, ◌-◌, ◌*◌, ◌/◌, List, length, take, ◌++◌, replicate};
     ghost use Rattle.mbj_aes.specs.Bytes.{IsBytes, IsRoundCount};
     ghost use Rattle.mbj_aes.specs.Inside.Padding.{IsPadded};
+    ghost use Rattle.mbj_aes.specs.Inside.FirstKeys.{IsExpanded};
     ghost use Rattle.mbj_aes.specs.declared.expansion.TheConstants.{MAX_SCHEDULE_BYTES};
 
     ghost Value = { List ℕ };
@@ -28,7 +32,7 @@ impl Model for Schedule {
     ghost view = { λ s. take (16 * (s.rounds + 1)) s.bytes };
 
     ghost invariant = { λ s. IsRoundCount s.rounds × IsBytes s.bytes
-        × IsPadded MAX_SCHEDULE_BYTES (16 * (s.rounds + 1)) s.bytes };
+        × IsPadded MAX_SCHEDULE_BYTES (16 * (s.rounds + 1)) s.bytes × IsExpanded s.rounds s.bytes };
 
     ghost inverse = { λ w. record {
       bytes = w ++ replicate (MAX_SCHEDULE_BYTES - length w) 0;
@@ -79,6 +83,17 @@ impl Schedule {
         let start = BLOCK_BYTES * r as usize;
         let mut key = [0; BLOCK_BYTES];
         key.copy_from_slice(&self.bytes[start..start + BLOCK_BYTES]);
+        key
+    }
+
+    /// The key of which this is the schedule: 16, 24 or 32 bytes, and zeros behind them.
+    pub fn key(&self) -> [u8; MAX_KEY_BYTES]
+        ensures expansion { key_schedule (take (length self.now / 4 - 28) result) ≡ self.now }
+        ensures padded { result ≡ take (length self.now / 4 - 28) result ++ replicate (60 - length self.now / 4) 0 }
+    {
+        let size = key_size(self.rounds as usize);
+        let mut key = [0; MAX_KEY_BYTES];
+        key[..size].copy_from_slice(&self.bytes[..size]);
         key
     }
 }

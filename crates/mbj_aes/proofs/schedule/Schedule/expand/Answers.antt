@@ -1,7 +1,7 @@
 -- The array is the schedule of the key and zeros, and the view is the schedule.
 use Rattle.std.proofs.Common.{◌≡◌, ◌+◌, ◌*◌, take, ap, length, ◌∙◌, arith}
 use Rattle.mbj_types.specs.Aes.{key_schedule, encipher, decipher}
-use Rattle.mbj_aes.proofs.ExpandedKeys.{IsExpansion, IsRoundCount-round_count, IsBytes-expansion, IsPadded-expansion, take-expansion, length-key_schedule, encipher-key_schedule, decipher-key_schedule}
+use Rattle.mbj_aes.proofs.ExpandedKeys.{IsExpansion, IsRoundCount-round_count, IsBytes-expansion, IsPadded-expansion, IsExpanded-expansion, take-expansion, length-key_schedule, encipher-key_schedule, decipher-key_schedule}
 use Rattle.mbj_aes.proofs.States.{IsBytes-told}
 use Rattle.mbj_aes.proofs.schedule.Schedule.expand.Goals as goal
 
@@ -21,6 +21,7 @@ invariant_of-result c = (
   IsRoundCount-round_count (length c.args.key.now) c.round_count.result c.requires c.round_count.ensures,
   IsBytes-expansion c.args.key.now c.expanded_key.result c.round_count.result (expansion c),
   IsPadded-expansion c.args.key.now c.expanded_key.result c.round_count.result (expansion c),
+  IsExpanded-expansion c.args.key.now c.expanded_key.result c.round_count.result (expansion c),
 )
 
 pub returns-clause-schedule : goal.returns-clause-schedule
