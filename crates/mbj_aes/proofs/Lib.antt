@@ -21,3 +21,4 @@ pub mod RoundConstants
 pub mod LowestBits
 mod VectorLanes
 mod Turns
+mod Differences

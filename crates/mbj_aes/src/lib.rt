@@ -3,6 +3,7 @@
 #![tactic(auto)]
 
 pub mod circuit;
+mod compare;
 mod expansion;
 pub mod gates;
 pub mod inverse_circuit;
@@ -11,6 +12,7 @@ mod octet;
 mod schedule;
 mod substitution;
 
+pub use compare::are_equal;
 pub use expansion::round_constant;
 pub use laws::{blocks_stay_blocks, each_undoes_the_other, examples_of_the_standard};
 pub use octet::{Octet, SBOX_CONSTANT};

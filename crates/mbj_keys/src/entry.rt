@@ -2,8 +2,7 @@ ghost use Rattle.std.specs.Prelude.{◌≡◌, ◌↔◌, IfOk, IsTrue, length};
 ghost use Rattle.mbj_aes.specs.Bytes.{IsKeySize};
 ghost use Rattle.mbj_keys.specs.Schedules.{IsScheduleOf};
 
-use crate::compare::are_equal;
-use mbj_aes::Schedule;
+use mbj_aes::{Schedule, are_equal};
 use mbj_types::Bytes;
 use std::alloc::{AllocError, Global};
 

@@ -2,7 +2,6 @@
 //! the session's cell, or expands it and puts it there; all tasks then use the schedule of the first. No call waits.
 #![tactic(auto)]
 
-mod compare;
 mod entry;
 mod keys;
 mod laws;

@@ -1,6 +1,6 @@
 use Rattle.std.proofs.Common.{ap, arith, length}
-use Rattle.mbj_keys.proofs.Differences.{says_on}
-use Rattle.mbj_keys.proofs.compare.differences.Goals as goal
+use Rattle.mbj_aes.proofs.Differences.{says_on}
+use Rattle.mbj_aes.proofs.compare.differences.Goals as goal
 
 pub loop-a-preserved : goal.loop-a-preserved
 loop-a-preserved c =

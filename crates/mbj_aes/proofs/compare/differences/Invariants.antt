@@ -1,6 +1,6 @@
 -- No bit is set and what is left is equal exactly where the slices are equal; as much is left of both.
 use Rattle.std.proofs.Common.{◌≡◌, ◌↔◌, length}
-use Rattle.mbj_keys.proofs.compare.differences.Given as goal
+use Rattle.mbj_aes.proofs.compare.differences.Given as goal
 
 abbrev pub invariant-loop-a : goal.invariant-loop-a
 invariant-loop-a l = record {

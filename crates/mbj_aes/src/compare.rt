@@ -1,15 +1,15 @@
-//! The comparison of secret bytes.
+//! The comparison of keys.
 ghost use Rattle.std.specs.Prelude.{◌≡◌, ◌↔◌, IsTrue, length};
 
 /// Whether two slices have the same bytes. Where they are of one length every byte of both is looked at, and neither a
 /// branch nor an index depends on one.
-pub(crate) fn are_equal(one: &[u8], other: &[u8]) -> bool
+pub fn are_equal(one: &[u8], other: &[u8]) -> bool
     ensures { IsTrue result ↔ (one.now ≡ other.now) }
 {
     one.len() == other.len() && differences(one, other) == 0
 }
 
-/// The bits in which some byte differs from the one at its place.
+// The bits in which some byte differs from the one at its place.
 fn differences(one: &[u8], other: &[u8]) -> u8
     requires { length one.now ≡ length other.now }
     ensures { (result ≡ 0) ↔ (one.now ≡ other.now) }
