@@ -19,6 +19,7 @@ pub mod PlaneColumns
 pub mod PlaneSchedules
 pub mod RoundKeys
 pub mod RoundPairs
+pub mod ScheduleWords
 pub mod SameKeys
 pub mod XorSums
 pub mod ShiftedRows

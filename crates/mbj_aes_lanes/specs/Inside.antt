@@ -6,3 +6,4 @@ pub mod Rounds
 pub mod Keys
 pub mod Matrix
 pub mod KeyStream
+pub mod Expansion

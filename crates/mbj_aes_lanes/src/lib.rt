@@ -10,6 +10,7 @@ mod chaining;
 mod columns;
 mod counters;
 mod entry_blocks;
+mod expansion;
 mod key_planes;
 mod lane_blocks;
 mod lane_keys;

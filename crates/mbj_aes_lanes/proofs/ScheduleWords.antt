@@ -1,0 +1,65 @@
+-- The words of schedules in lanes, read and written.
+use Rattle.std.proofs.Common.{◌≡◌, ℕ, ◌+◌, ◌-◌, ◌*◌, ◌/◌, ◌<◌, ◌≤◌, List, [], ◌∷◌, ◌++◌, length, map, take, drop, get_or, slice_index, slice_set, refl, sym, ap, ap₂, ◌∙◌, arith, append_assoc, length-drop}
+use borrow.Rule.Slice.PartMut.{put_mid}
+use Rattle.std.proofs.lemmas.List.{get_or-drop, get_or-take, length-take-le, map-append, take-map, drop-map, drop-drop}
+use Rattle.mbj_types.specs.Aes.{word, schedule, key_schedule}
+use Rattle.mbj_types.specs.Lanes.{lane_of}
+use Rattle.mbj_aes_lanes.specs.declared.expansion.Word.{Word}
+use Rattle.mbj_aes_lanes.specs.Inside.Expansion.{word_lane}
+
+-- four bytes, one by one
+pub four : (a b c d x y z w : ℕ) → a ≡ x → b ≡ y → c ≡ z → d ≡ w → (a ∷ b ∷ c ∷ d ∷ []) ≡ (x ∷ y ∷ z ∷ w ∷ [])
+four a b c d x y z w p q r s = rw (p, q, r, s) refl
+
+four-all : (s : List ℕ) → length s ≡ 4 → slice_index s 0 ∷ slice_index s 1 ∷ slice_index s 2 ∷ slice_index s 3 ∷ [] ≡ s
+four-all (a ∷ b ∷ c ∷ d ∷ []) h = refl
+four-all s h = absurd (omega arith)
+
+-- byte k of the word at `at`
+slice_index-word : (ys : List ℕ) (at k : ℕ) → k < 4 → slice_index ys (at + k) ≡ slice_index (take 4 (drop at ys)) k
+slice_index-word ys at k h = sym (get_or-drop at ys k 0) ∙ sym (get_or-take 4 (drop at ys) k 0 h)
+
+-- a word is its four bytes
+pub word-read : (ys : List ℕ) (i : ℕ) → 4 * i + 4 ≤ length ys
+    → slice_index ys (4 * i) ∷ slice_index ys (4 * i + 1) ∷ slice_index ys (4 * i + 2) ∷ slice_index ys (4 * i + 3) ∷ [] ≡ word ys i
+word-read ys i h =
+    let at : ℕ = 4 * i in
+    let first : at ≡ at + 0 = omega arith in
+    let size : length (take 4 (drop at ys)) ≡ 4 = length-take-le 4 (drop at ys) (omega (arith, length-drop at ys)) in
+    four (slice_index ys at) (slice_index ys (at + 1)) (slice_index ys (at + 2)) (slice_index ys (at + 3)) _ _ _ _
+    (ap (slice_index ys) first ∙ slice_index-word ys at 0 (omega arith)) (slice_index-word ys at 1 (omega arith))
+    (slice_index-word ys at 2 (omega arith)) (slice_index-word ys at 3 (omega arith))
+    ∙ four-all (take 4 (drop at ys)) size
+
+module _ {V : Type 0} (lane : V → ℕ → ℕ) where
+  four-written : (xs : List V) (w : Word V) → length xs ≡ 4
+      → slice_set (slice_set (slice_set (slice_set xs 0 w.b0) 1 w.b1) 2 w.b2) 3 w.b3 ≡ w.b0 ∷ w.b1 ∷ w.b2 ∷ w.b3 ∷ []
+  four-written (a ∷ b ∷ c ∷ d ∷ []) w h = refl
+  four-written xs w h = absurd (omega arith)
+
+  lane_of-put4 : (words : List V) (at : ℕ) (w : Word V) (k : ℕ) → at + 4 ≤ length words
+      → lane_of lane (take at words ++ (slice_set (slice_set (slice_set (slice_set (take 4 (drop at words)) 0 w.b0) 1 w.b1) 2 w.b2) 3 w.b3 ++ drop 4 (drop at words))) k
+      ≡ take at (lane_of lane words k) ++ (word_lane lane w k ++ drop (at + 4) (lane_of lane words k))
+  lane_of-put4 words at w k h =
+      let f : V → ℕ = λ v. lane v k in
+      let size : length (take 4 (drop at words)) ≡ 4 = length-take-le 4 (drop at words) (omega (arith, length-drop at words)) in
+      ap (λ xs. map f (take at words ++ (xs ++ drop 4 (drop at words)))) (four-written (take 4 (drop at words)) w size)
+      ∙ map-append f (take at words) ((w.b0 ∷ w.b1 ∷ w.b2 ∷ w.b3 ∷ []) ++ drop 4 (drop at words))
+      ∙ ap₂ (λ xs ys. xs ++ (word_lane lane w k ++ ys)) (sym (take-map f at words))
+      (ap (map f) (drop-drop 4 at words) ∙ sym (drop-map f (at + 4) words))
+
+  -- four lane words that are written are a word in each lane
+  pub lane_of-put : (words : List V) (at n : ℕ) (w : Word V) (k : ℕ) → n ≡ 4 → at + 4 ≤ length words
+      → lane_of lane (put_mid at n words (slice_set (slice_set (slice_set (slice_set (take n (drop at words)) 0 w.b0) 1 w.b1) 2 w.b2) 3 w.b3)) k
+      ≡ take at (lane_of lane words k) ++ word_lane lane w k ++ drop (at + 4) (lane_of lane words k)
+  lane_of-put words at n w k e h =
+      ap (λ (m : ℕ). lane_of lane (put_mid at m words (slice_set (slice_set (slice_set (slice_set (take m (drop at words)) 0 w.b0) 1 w.b1) 2 w.b2) 3 w.b3)) k) e
+      ∙ lane_of-put4 words at w k h
+      ∙ sym (append_assoc (take at (lane_of lane words k)) (word_lane lane w k) (drop (at + 4) (lane_of lane words k)))
+
+-- the schedule of a key of nk words
+pub key_schedule-words : (nk : ℕ) (key : List ℕ) → length key ≡ 4 * nk → schedule nk key (4 * (nk + 7) - nk) ≡ key_schedule key
+key_schedule-words nk key size =
+    let words : length key / 4 ≡ nk = omega arith in
+    let count : 4 * (nk + 7) ≡ 4 * (nk + 6 + 1) = omega arith in
+    rw (words, count) refl
