@@ -1,8 +1,8 @@
 -- The words of schedules in lanes, read and written.
 use Rattle.std.proofs.Common.{◌≡◌, ℕ, ◌+◌, ◌-◌, ◌*◌, ◌/◌, ◌<◌, ◌≤◌, List, [], ◌∷◌, ◌++◌, length, map, take, drop, get_or, slice_index, slice_set, refl, sym, ap, ap₂, ◌∙◌, arith, append_assoc, length-drop}
 use borrow.Rule.Slice.PartMut.{put_mid}
-use Rattle.std.proofs.lemmas.List.{get_or-drop, get_or-take, length-take-le, map-append, take-map, drop-map, drop-drop}
-use Rattle.mbj_types.specs.Aes.{word, schedule, key_schedule}
+use Rattle.std.proofs.lemmas.List.{get_or-drop, get_or-take, length-take-le, map-append, take-map, drop-map, drop-drop, drop-take, take-take}
+use Rattle.mbj_types.specs.Aes.{word, schedule, key_schedule, round_key}
 use Rattle.mbj_types.specs.Lanes.{lane_of}
 use Rattle.mbj_aes_lanes.specs.declared.expansion.Word.{Word}
 use Rattle.mbj_aes_lanes.specs.Inside.Expansion.{word_lane}
@@ -63,3 +63,11 @@ key_schedule-words nk key size =
     let words : length key / 4 ≡ nk = omega arith in
     let count : 4 * (nk + 7) ≡ 4 * (nk + 6 + 1) = omega arith in
     rw (words, count) refl
+
+-- a round key of the first of some
+pub round_key-take : (m r : ℕ) (ys : List ℕ) → r < m → round_key (take (16 * m) ys) r ≡ take 16 (drop (16 * r) ys)
+round_key-take m r ys lt =
+    let whole : 16 * m ≡ 16 * r + (16 * (m - r)) = omega arith in
+    ap (λ n. take 16 (drop (16 * r) (take n ys))) whole
+    ∙ ap (take 16) (drop-take (16 * r) (16 * (m - r)) ys)
+    ∙ take-take 16 (16 * (m - r)) (drop (16 * r) ys) (omega arith)

@@ -12,13 +12,14 @@ keys-init c = record { here = λ k d lt. absurd (omega arith); elsewhere = λ i 
 pub keys-preserved : goal.keys-preserved
 keys-preserved c =
     let r : ℕ = c.keys.r in
-    let key = c.blended_state.result in
+    let key = c.chosen_state.result in
     let inside : r < length c.keys.keys = omega arith in record {
       here = λ k d lt. elim (cases_eq k r) [
         | inl same ↦
             rw same
             (ap (λ s. slots (lane_at 8) s c.args.lane) (get_or-set_same c.keys.keys r key d inside)
-            ∙ c.blended_state.ensures.under c.args.lane c.requires.lane c.lane_mask-mask.ensures.here)
+            ∙ c.chosen_state.ensures.under c.args.lane c.requires.lane c.lane_mask-mask.ensures.here
+            ∙ c.key_of.ensures c.args.lane c.requires.lane)
         | inr ne ↦
             ap (λ s. slots (lane_at 8) s c.args.lane) (get_or-set_other c.keys.keys r k key d ne) ∙ c.keys.invariant.here k d (omega arith)
       ];
@@ -26,7 +27,7 @@ keys-preserved c =
         | inl same ↦
             rw same
             (ap (λ s. slots (lane_at 8) s i) (get_or-set_same c.keys.keys r key d inside)
-            ∙ c.blended_state.ensures.beside i h (c.lane_mask-mask.ensures.elsewhere i h ne_lane)
+            ∙ c.chosen_state.ensures.beside i h (c.lane_mask-mask.ensures.elsewhere i h ne_lane)
             ∙ ap (λ s. slots (lane_at 8) s i) (sym (get_or_default c.keys.keys r d _ inside))
             ∙ c.keys.invariant.elsewhere i r d h ne_lane)
         | inr ne ↦
