@@ -1,11 +1,14 @@
 -- The words of schedules in lanes, read and written.
-use Rattle.std.proofs.Common.{◌≡◌, ℕ, ◌+◌, ◌-◌, ◌*◌, ◌/◌, ◌<◌, ◌≤◌, List, [], ◌∷◌, ◌++◌, length, map, take, drop, get_or, slice_index, slice_set, refl, sym, ap, ap₂, ◌∙◌, arith, append_assoc, length-drop}
+use Rattle.std.proofs.Common.{◌≡◌, ℕ, ◌+◌, ◌-◌, ◌*◌, ◌/◌, ◌<◌, ◌≤◌, List, [], ◌∷◌, ◌++◌, length, map, take, drop, replicate, get_or, slice_index, slice_set, refl, sym, ap, ap₂, ◌∙◌, arith, append_assoc, length-drop}
 use borrow.Rule.Slice.PartMut.{put_mid}
-use Rattle.std.proofs.lemmas.List.{get_or-drop, get_or-take, length-take-le, map-append, take-map, drop-map, drop-drop, drop-take, take-take}
+use Rattle.std.proofs.lemmas.List.{get_or-drop, get_or-take, length-take-le, map-append, take-map, drop-map, drop-drop, drop-take, take-take, take_at, take_all, take-append-drop, drop-replicate, replicate-append-replicate}
+use Rattle.std.proofs.lemmas.List.Elements.{All-take}
+use Rattle.std.proofs.Math.Seq.{drop-append-add}
 use Rattle.mbj_types.specs.Aes.{word, schedule, key_schedule, round_key}
 use Rattle.mbj_types.specs.Lanes.{lane_of}
+use Rattle.mbj_aes.specs.Bytes.{IsBytes}
 use Rattle.mbj_aes_lanes.specs.declared.expansion.Word.{Word}
-use Rattle.mbj_aes_lanes.specs.Inside.Expansion.{word_lane}
+use Rattle.mbj_aes_lanes.specs.Inside.Expansion.{word_lane, IsLaneKey}
 
 -- four bytes, one by one
 pub four : (a b c d x y z w : ℕ) → a ≡ x → b ≡ y → c ≡ z → d ≡ w → (a ∷ b ∷ c ∷ d ∷ []) ≡ (x ∷ y ∷ z ∷ w ∷ [])
@@ -71,3 +74,55 @@ round_key-take m r ys lt =
     ap (λ n. take 16 (drop (16 * r) (take n ys))) whole
     ∙ ap (take 16) (drop-take (16 * r) (16 * (m - r)) ys)
     ∙ take-take 16 (16 * (m - r)) (drop (16 * r) ys) (omega arith)
+
+-- ---- keys that are put into words
+
+module _ {V : Type 0} (lane : V → ℕ → ℕ) where
+  -- words that are written in the midst of others
+  pub lane_of-mid : (words new : List V) (at n : ℕ) (k : ℕ) (b : List ℕ) → n ≡ 16 → lane_of lane new k ≡ b
+      → lane_of lane (put_mid at n words new) k ≡ take at (lane_of lane words k) ++ b ++ drop (at + 16) (lane_of lane words k)
+  lane_of-mid words new at n k b e is =
+      let f : V → ℕ = λ v. lane v k in
+      ap (λ (m : ℕ). lane_of lane (put_mid at m words new) k) e
+      ∙ map-append f (take at words) (new ++ drop 16 (drop at words))
+      ∙ ap₂ (λ xs ys. xs ++ ys) (sym (take-map f at words))
+      (map-append f new (drop 16 (drop at words))
+      ∙ ap₂ (λ xs ys. xs ++ ys) is (ap (map f) (drop-drop 16 at words) ∙ sym (drop-map f (at + 16) words)))
+      ∙ sym (append_assoc (take at (lane_of lane words k)) b (drop (at + 16) (lane_of lane words k)))
+
+-- both halves of a key over zeros
+pub both-halves : (b ys first : List ℕ) (zeros : ℕ) → length b ≡ 32 → ys ≡ replicate (zeros + 32) 0
+    → first ≡ take 0 ys ++ take 16 (drop 0 b) ++ drop 16 ys
+    → take 16 first ++ take 16 (drop 16 b) ++ drop 32 first ≡ b ++ replicate zeros 0
+both-halves b ys first zeros size e made =
+    let low : List ℕ = take 16 b in
+    let rest : List ℕ = drop 16 ys in
+    let zero : ℕ = 0 in
+    let short : length low ≡ 16 = length-take-le 16 b (omega arith) in
+    let behind : 32 ≡ length low + 16 = omega arith in
+    let left : zeros + 32 - 16 - 16 ≡ zeros = omega arith in
+    let tail : drop 16 rest ≡ replicate zeros zero =
+    ap (drop 16) (ap (drop 16) e ∙ drop-replicate 16 (zeros + 32) zero) ∙ drop-replicate 16 (zeros + 32 - 16) zero
+    ∙ ap (λ (n : ℕ). replicate n zero) left in
+    rw made
+    (ap₂ (λ xs ys. xs ++ take 16 (drop 16 b) ++ ys) (take_at low rest 16 short)
+    (ap (λ (n : ℕ). drop n (low ++ rest)) behind ∙ drop-append-add low rest 16 ∙ tail)
+    ∙ ap (λ xs. xs ++ replicate zeros zero)
+    (ap (λ xs. low ++ xs) (take_all 16 (drop 16 b) (omega (arith, length-drop 16 b))) ∙ take-append-drop 16 b))
+
+-- the words of a key in an array, and zeros
+pub IsLaneKey-array : (nk : ℕ) (b ys : List ℕ) → nk ≤ 8 → length b ≡ 32 → IsBytes b
+    → b ≡ take (4 * nk) b ++ replicate (32 - 4 * nk) 0 → ys ≡ b ++ replicate 208 0 → IsLaneKey nk (take (4 * nk) b) ys
+IsLaneKey-array nk b ys few size bytes zeros made =
+    let key : List ℕ = take (4 * nk) b in
+    let zero : ℕ = 0 in
+    let count : 32 - 4 * nk + 208 ≡ 240 - 4 * nk = omega arith in
+    record {
+      size = length-take-le (4 * nk) b (omega arith);
+      bytes = All-take (λ x. x < 256) (4 * nk) b bytes;
+      zeros =
+          made
+          ∙ ap (λ xs. xs ++ replicate 208 zero) zeros
+          ∙ append_assoc key (replicate (32 - 4 * nk) zero) (replicate 208 zero)
+          ∙ ap (λ xs. key ++ xs) (replicate-append-replicate (32 - 4 * nk) 208 zero ∙ ap (λ (n : ℕ). replicate n zero) count);
+    }

@@ -23,8 +23,8 @@ const WORD_BYTES: usize = 4;
 // The words of the round key of one round.
 const ROUND_WORDS: usize = 4;
 
-// How many round keys there are more than words of the key.
-const EXTRA_KEYS: usize = 7;
+/// How many round keys there are more than words of the key.
+pub const EXTRA_KEYS: usize = 7;
 
 // The words of a key that has one substitution more, between two round constants, and where.
 const LONG_KEY_WORDS: usize = 8;

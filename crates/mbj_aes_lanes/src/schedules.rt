@@ -1,12 +1,20 @@
-//! Schedules that stand in lane words, as round keys in planes.
-ghost use Rattle.std.specs.Prelude.{◌≡◌, ℕ, ◌-◌, ◌*◌, ◌<◌, ◌≤◌, length, take};
+//! Keys in lanes, whose schedules are made in lane words and become round keys in planes.
+ghost use Rattle.std.specs.Prelude.{◌≡◌, ℕ, ◌+◌, ◌-◌, ◌*◌, ◌<◌, ◌≤◌, [], length, take, drop, ◌++◌, replicate, slice_index_or};
+ghost use Rattle.mbj_types.specs.Aes.{key_schedule};
 ghost use Rattle.mbj_types.specs.Lanes.{lane_of};
+ghost use Rattle.mbj_types.specs.declared.kind.TheConstants.{AES_LANES};
+ghost use Rattle.mbj_aes.specs.Bytes.{IsRoundCount};
+ghost use Rattle.mbj_aes_lanes.specs.KeyBytes.{IsKeyArray};
 ghost use Rattle.mbj_aes_lanes.specs.Inside.Keys.{schedule_in};
 
+use crate::block_states::PassWord;
+use crate::blocks::words_of;
+use crate::expansion::{EXTRA_KEYS, MAX_SCHEDULE_WORDS, expand_words};
+use crate::lane_blocks::LaneBlocks;
 use crate::masks::chosen_state;
 use crate::round_keys::key_at;
 use crate::state::State;
-use mbj_types::{BLOCK_BYTES, Lane8};
+use mbj_types::{AES_LANES, BLOCK_BYTES, Lane8};
 
 /// Writes the round keys of the schedules, 16 lane words for each, into the lanes under the mask, of which all bits are set. Those of
 /// the other lanes stay, of which no bit is set.
@@ -22,4 +30,74 @@ pub fn write_schedules<V: Lane8>(keys: &mut [State<V>], words: &[V], mask: V)
         let key = key_at(words, BLOCK_BYTES * r, r, keys.len() - 1);
         keys[r] = chosen_state(keys[r], key, mask);
     }
+}
+
+// Half of the bytes of each key, from `start` on.
+#[derive(Drop)]
+struct KeyHalves<'a> {
+    keys: &'a [[u8; 32]; AES_LANES],
+    start: usize,
+    ghost within: { start + 16 ≤ 32 },
+}
+
+impl LaneBlocks for KeyHalves<'_> {
+    ghost lanes_of = { λ h. AES_LANES };
+
+    ghost block_in = { λ h i. take 16 (drop h.start (slice_index_or h.keys.now i [])) };
+
+    #[inline(always)]
+    fn block(&self, lane: usize) -> [u8; 16] {
+        let mut block = [0; BLOCK_BYTES];
+        block.copy_from_slice(&self.keys[lane][self.start..self.start + BLOCK_BYTES]);
+        block
+    }
+}
+
+// The half of each key that begins at `start` goes into the words from there on.
+#[inline(always)]
+fn load_half<V: PassWord>(words: &mut [V], bytes: &[[u8; 32]; AES_LANES], start: usize)
+    requires within { start + 16 ≤ 32 }
+    requires room { start + 16 ≤ length words.old }
+    ensures { (i : ℕ) → i < V.LANES → lane_of V.lane words.new i
+        ≡ take start (lane_of V.lane words.old i) ++ take 16 (drop start (slice_index_or bytes.now i []))
+        ++ drop (start + 16) (lane_of V.lane words.old i) }
+{
+    let half = KeyHalves { keys: bytes, start };
+    words_of(&mut words[start..start + BLOCK_BYTES], &half);
+}
+
+// The keys go into the first words, which are zeros.
+#[inline(always)]
+fn load_keys<V: PassWord>(words: &mut [V], bytes: &[[u8; 32]; AES_LANES])
+    requires room { length words.old ≡ MAX_SCHEDULE_WORDS }
+    requires zeros { (i : ℕ) → i < V.LANES → lane_of V.lane words.old i ≡ replicate MAX_SCHEDULE_WORDS 0 }
+    ensures { (i : ℕ) → i < V.LANES → length (slice_index_or bytes.now i []) ≡ 32
+        → lane_of V.lane words.new i ≡ slice_index_or bytes.now i [] ++ replicate (MAX_SCHEDULE_WORDS - 32) 0 }
+{
+    load_half(words, bytes, 0);
+    load_half(words, bytes, BLOCK_BYTES);
+}
+
+/// Writes the round keys of the keys in the lanes under the mask, of which all bits are set. Those of the other lanes stay, of
+/// which no bit is set. The words, which are zeros, take the schedules.
+#[inline(always)]
+pub fn expand_keys<V: PassWord>(
+    keys: &mut [State<V>],
+    bytes: &[[u8; 32]; AES_LANES],
+    mask: V,
+    words: &mut [V],
+)
+    requires rounds { IsRoundCount (length keys.old - 1) }
+    requires room { length words.old ≡ MAX_SCHEDULE_WORDS }
+    requires zeros { (i : ℕ) → i < V.LANES → lane_of V.lane words.old i ≡ replicate MAX_SCHEDULE_WORDS 0 }
+    ensures under { (i : ℕ) → i < V.LANES → V.lane mask i ≡ 0xff
+        → IsKeyArray (length keys.old - 1) (slice_index_or bytes.now i [])
+        → schedule_in V.lane (length keys.old - 1) keys.new i
+        ≡ key_schedule (take (4 * (length keys.old - 7)) (slice_index_or bytes.now i [])) }
+    ensures beside { (i : ℕ) → i < V.LANES → V.lane mask i ≡ 0
+        → schedule_in V.lane (length keys.old - 1) keys.new i ≡ schedule_in V.lane (length keys.old - 1) keys.old i }
+{
+    load_keys(words, bytes);
+    expand_words(words, keys.len() - EXTRA_KEYS);
+    write_schedules(keys, words, mask);
 }
