@@ -9,6 +9,7 @@ pub mod FullLanes
 pub mod HeldKeys
 pub mod KeyLayouts
 pub mod KeySchedules
+pub mod KeySizes
 pub mod KeyStreams
 pub mod LaneWords
 pub mod LayoutTables

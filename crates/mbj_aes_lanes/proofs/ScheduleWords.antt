@@ -1,5 +1,5 @@
 -- The words of schedules in lanes, read and written.
-use Rattle.std.proofs.Common.{◌≡◌, ℕ, ◌+◌, ◌-◌, ◌*◌, ◌/◌, ◌<◌, ◌≤◌, List, [], ◌∷◌, ◌++◌, length, map, take, drop, replicate, get_or, slice_index, slice_set, refl, sym, ap, ap₂, ◌∙◌, arith, append_assoc, length-drop}
+use Rattle.std.proofs.Common.{◌≡◌, ℕ, zero, suc, ◌+◌, ◌-◌, ◌*◌, ◌/◌, ◌<◌, ◌≤◌, List, [], ◌∷◌, ◌++◌, length, map, take, drop, replicate, slice_index, slice_set, refl, sym, ap, ap₂, ◌∙◌, arith, append_assoc, length-drop}
 use borrow.Rule.Slice.PartMut.{put_mid}
 use Rattle.std.proofs.lemmas.List.{get_or-drop, get_or-take, length-take-le, map-append, take-map, drop-map, drop-drop, drop-take, take-take, take_at, take_all, take-append-drop, drop-replicate, replicate-append-replicate}
 use Rattle.std.proofs.lemmas.List.Elements.{All-take}
@@ -126,3 +126,8 @@ IsLaneKey-array nk b ys few size bytes zeros made =
           ∙ append_assoc key (replicate (32 - 4 * nk) zero) (replicate 208 zero)
           ∙ ap (λ xs. key ++ xs) (replicate-append-replicate (32 - 4 * nk) 208 zero ∙ ap (λ (n : ℕ). replicate n zero) count);
     }
+
+-- what is read of each of some copies
+pub map-copies : {V : Type 0} (f : V → ℕ) (n : ℕ) (v : V) → map f (replicate n v) ≡ replicate n (f v)
+map-copies f zero v = refl
+map-copies f (suc n) v = ap (λ xs. f v ∷ xs) (map-copies f n v)

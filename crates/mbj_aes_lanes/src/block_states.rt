@@ -2,13 +2,11 @@
 ghost use Rattle.std.specs.Prelude.{◌≡◌, ℕ, ◌<◌, ◌≤◌, [], length, slice_index_or};
 ghost use Rattle.mbj_types.specs.declared.kind.TheConstants.{AES_LANES};
 ghost use Rattle.mbj_aes_lanes.specs.Inside.State.{reading};
-ghost use Rattle.mbj_aes_lanes.specs.Inside.Keys.{key_in};
 
 use crate::block_row::BlockRow;
 use crate::blocks::{put_blocks, words_of};
 use crate::lane_blocks::LaneBlocks;
 use crate::layout::Layout;
-use crate::round_keys::key_at;
 use crate::state::State;
 use crate::words::{put_state, state_at};
 use mbj_types::{AesWord, BLOCK_BYTES};
@@ -26,11 +24,6 @@ pub trait PassWord: BlockRow {
     fn load<B: LaneBlocks>(blocks: &B, layout: Layout) -> State<Self>
         requires { Self.LANES ≤ B.lanes_of blocks.now }
         ensures { (i : ℕ) → i < Self.LANES → reading layout Self.lane result i ≡ B.block_in blocks.now i };
-
-    /// Round key `r` of so many rounds, which is the block in each lane.
-    fn load_key<B: LaneBlocks>(blocks: &B, r: usize, rounds: usize) -> State<Self>
-        requires { Self.LANES ≤ B.lanes_of blocks.now }
-        ensures { (i : ℕ) → i < Self.LANES → key_in Self.lane rounds r result i ≡ B.block_in blocks.now i };
 
     /// Writes the block in each lane, of which this is the state in a layout.
     fn store(to: &mut [[u8; 16]], s: &State<Self>, layout: Layout)
@@ -52,13 +45,6 @@ impl PassWord for FewWord {
     }
 
     #[inline(always)]
-    fn load_key<B: LaneBlocks>(blocks: &B, r: usize, rounds: usize) -> State<Self> {
-        let mut words = [FewWord::splat(0); BLOCK_BYTES];
-        words_of(&mut words, blocks);
-        key_at(&words, 0, r, rounds)
-    }
-
-    #[inline(always)]
     fn store(to: &mut [[u8; 16]], s: &State<Self>, layout: Layout) {
         let mut words = [FewWord::splat(0); BLOCK_BYTES];
         put_state(&mut words, *s, layout);
@@ -76,13 +62,6 @@ impl PassWord for AesWord {
         let mut words = [AesWord::splat(0); BLOCK_BYTES];
         words_of(&mut words, blocks);
         state_at(&words, 0, layout)
-    }
-
-    #[inline(always)]
-    fn load_key<B: LaneBlocks>(blocks: &B, r: usize, rounds: usize) -> State<Self> {
-        let mut words = [AesWord::splat(0); BLOCK_BYTES];
-        words_of(&mut words, blocks);
-        key_at(&words, 0, r, rounds)
     }
 
     #[inline(always)]

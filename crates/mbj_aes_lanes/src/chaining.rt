@@ -1,6 +1,8 @@
-ghost use Rattle.std.specs.Prelude.{◌≡◌, ℕ, ◌+◌, ◌-◌, ◌*◌, ◌<◌, ◌≤◌, List, length, min};
-
-use mbj_aes::Schedule;
+ghost use Rattle.std.specs.Prelude.{◌≡◌, ℕ, ◌-◌, ◌<◌, ◌≤◌, List, min};
+ghost use Rattle.mbj_types.specs.Aes.{encipher, key_schedule};
+ghost use Rattle.mbj_types.specs.Blocks.{zero_block};
+ghost use Rattle.mbj_aes.specs.Bytes.{IsRoundCount};
+ghost use Rattle.mbj_aes_lanes.specs.KeyBytes.{IsKeyArray, key_of_array};
 
 /// Blocks that are chained under a key (SP 800-38A, 6.2): the next block is xored with the chaining value and
 /// enciphered, which gives the next chaining value. The keys of all entries of a type have as many rounds.
@@ -28,10 +30,30 @@ pub trait Chaining: Drop {
     /// An entry with another chaining value.
     ghost kept: { Self → List ℕ → Self };
 
-    /// The schedule of the key.
-    fn key(&self) -> &Schedule
-        ensures key { result.now ≡ key_of self.now }
-        ensures length { length result.now ≡ 16 * (key_rounds + 1) };
+    /// The rounds of the key: 10, 12 or 14.
+    fn rounds(&self) -> usize
+        ensures value { result ≡ key_rounds }
+        ensures count { IsRoundCount key_rounds };
+
+    /// The bytes of the key, and zeros behind them.
+    fn key_bytes(&self) -> &[u8; 32]
+        ensures array { IsKeyArray key_rounds result.now }
+        ensures schedule { key_schedule (key_of_array key_rounds result.now) ≡ key_of self.now };
+
+    /// The session in which the key was learnt, if there is one.
+    fn session(&self) -> Option<u32>;
+
+    /// How many blocks are left.
+    fn rest(&self) -> u32
+        ensures { result ≡ rest_of self.now };
+
+    /// Whether the zero block enciphered under the key is wanted before the next `m` blocks.
+    fn wants_zero(&self, m: u32) -> bool;
+
+    /// Takes the zero block enciphered under the key. What contracts see of the entry stays.
+    fn take_zero(&mut self, zero: &[u8; 16])
+        requires { zero.now ≡ encipher (key_of self.old) zero_block }
+        ensures { self.new ≡ self.old };
 
     /// The next block.
     fn block(&self) -> [u8; 16]

@@ -1,6 +1,6 @@
 //! KEYEXPANSION (FIPS 197, 5.2) of a key in each lane, all at once. A word of the schedules is four lane words, one for each of
 //! its bytes, and the S-box of a word goes through bit planes.
-ghost use Rattle.std.specs.Prelude.{◌≡◌, ℕ, ◌+◌, ◌-◌, ◌*◌, ◌<◌, ◌≤◌, List, ◌++◌, length, take, drop, replicate};
+ghost use Rattle.std.specs.Prelude.{◌≡◌, ℕ, ◌+◌, ◌-◌, ◌*◌, ◌<◌, ◌≤◌, List, ◌++◌, length, take, drop};
 ghost use Rattle.mbj_types.specs.Aes.{word, sub_byte, sub_bytes, rot_word, rcon, schedule_term, key_schedule};
 ghost use Rattle.mbj_types.specs.Blocks.{xor_lists};
 ghost use Rattle.mbj_types.specs.Lanes.{lane_of};
@@ -17,8 +17,8 @@ use mbj_types::Lane8;
 /// The lane words of the longest schedules.
 pub const MAX_SCHEDULE_WORDS: usize = 240;
 
-// The bytes of a word of a schedule.
-const WORD_BYTES: usize = 4;
+/// The bytes of a word of a schedule.
+pub const WORD_BYTES: usize = 4;
 
 // The words of the round key of one round.
 const ROUND_WORDS: usize = 4;

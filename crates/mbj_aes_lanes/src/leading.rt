@@ -1,23 +1,29 @@
 //! Blocks of many entries chained side by side, each under its own key: few entries in narrow passes, more in wide ones.
-ghost use Rattle.std.specs.Prelude.{◌≡◌, ℕ, ◌+◌, ◌-◌, ◌*◌, ◌%◌, ◌<◌, ◌≤◌, All, [], length, map, slice_index_or};
-ghost use Rattle.mbj_types.specs.Aes.{encipher};
+ghost use Rattle.std.specs.Prelude.{◌≡◌, ℕ, ◌+◌, ◌-◌, ◌*◌, ◌%◌, ◌<◌, ◌≤◌, All, [], length, map, replicate, slice_index_or};
+ghost use Rattle.mbj_types.specs.Aes.{encipher, key_schedule};
 ghost use Rattle.mbj_types.specs.Blocks.{xor_lists};
+ghost use Rattle.mbj_types.specs.Lanes.{lane_of};
+ghost use Rattle.mbj_aes.specs.Bytes.{IsRoundCount};
+ghost use Rattle.mbj_aes_lanes.specs.KeyBytes.{IsKeyArray, key_of_array};
 ghost use Rattle.mbj_lane.specs.Rounds.{after};
 ghost use Rattle.mbj_aes_lanes.specs.Chaining.{in_lane, chained_once};
 ghost use Rattle.mbj_aes_lanes.specs.Inside.Keys.{schedule_in};
 ghost use Rattle.mbj_aes_lanes.specs.Inside.State.{plain_bytes};
 
 use crate::block_states::{FEW_BLOCKS, FewWord, PassWord};
-use crate::chaining::Chaining;
-use crate::entry_blocks::{Chains, NextBlocks, RoundKeys};
+use crate::chaining::{Chaining, place_of};
+use crate::entry_blocks::{Chains, NextBlocks};
+use crate::expansion::MAX_SCHEDULE_WORDS;
 use crate::key_planes::MAX_ROUND_KEYS;
-use crate::lane_blocks::Blocks;
+use crate::lane_blocks::LaneBlocks;
 use crate::lane_schedules::RoundStates;
 use crate::layout::Layout;
 use crate::moves::move_to_plain;
 use crate::rounds::encrypt;
+use crate::schedules::{expand_keys, zero_words};
 use crate::state::{State, zero_state};
 use crate::undone_columns::add_round_key;
+use mbj_aes::MAX_KEY_BYTES;
 use mbj_types::{AES_LANES, AesWord, BLOCK_BYTES};
 
 // The rounds of the keys, of which each has as many.
@@ -25,41 +31,44 @@ use mbj_types::{AES_LANES, AesWord, BLOCK_BYTES};
 fn rounds_of<E: Chaining>(entries: &[E]) -> usize
     requires { 0 < length entries.now }
     ensures value { result ≡ E.key_rounds }
-    ensures least { 10 ≤ result }
-    ensures most { result ≤ 14 }
-    ensures even { result % 2 ≡ 0 }
-    ensures lengths { All (λ e. length (E.key_of e) ≡ 16 * (E.key_rounds + 1)) entries.now }
+    ensures count { IsRoundCount E.key_rounds }
 {
-    let mut rounds = 10;
-    'entries: for i in 0..entries.len() {
-        rounds = entries[i].key().rounds();
-    }
-    rounds as usize
+    let entry = &entries[0];
+    entry.rounds()
 }
 
-// Writes the round keys of each lane's key. Those of all lanes are transposed at once, round key by round key.
+// The bytes of the key in each lane.
 #[inline(always)]
-fn write_keys<V: PassWord, E: Chaining>(keys: &mut [State<V>], entries: &[E])
+fn bytes_of<E: Chaining>(entries: &[E]) -> [[u8; 32]; AES_LANES]
+    requires { 0 < length entries.now }
+    ensures arrays { (i : ℕ) → i < AES_LANES → IsKeyArray E.key_rounds (slice_index_or result i []) }
+    ensures keys { (i : ℕ) → i < AES_LANES
+        → key_schedule (key_of_array E.key_rounds (slice_index_or result i [])) ≡ in_lane (map E.key_of entries.now) i }
+{
+    let mut bytes = [[0; MAX_KEY_BYTES]; AES_LANES];
+    'lanes: for i in 0..AES_LANES {
+        let entry = &entries[place_of(i, entries.len())];
+        bytes[i] = *entry.key_bytes();
+    }
+    bytes
+}
+
+// Writes the round keys of each lane's key. The words, which are zeros, take the schedules.
+#[inline(always)]
+fn write_keys<V: PassWord, E: Chaining>(keys: &mut [State<V>], entries: &[E], words: &mut [V])
     requires some { 0 < length entries.now }
     requires rounds { length keys.old ≡ E.key_rounds + 1 }
-    requires least { 1 ≤ E.key_rounds }
-    requires few { E.key_rounds ≤ 14 }
-    requires lengths { All (λ e. length (E.key_of e) ≡ 16 * (E.key_rounds + 1)) entries.now }
+    requires count { IsRoundCount E.key_rounds }
+    requires room { length words.old ≡ MAX_SCHEDULE_WORDS }
+    requires zeros { (i : ℕ) → i < V.LANES → lane_of V.lane words.old i ≡ replicate MAX_SCHEDULE_WORDS 0 }
     ensures { (i : ℕ) → i < V.LANES → schedule_in V.lane E.key_rounds keys.new i ≡ in_lane (map E.key_of entries.now) i }
 {
-    let rounds = keys.len() - 1;
-    'keys: for r in 0..keys.len() {
-        let round_keys = RoundKeys {
-            entries,
-            r: r as u32,
-        };
-        keys[r] = V::load_key(&round_keys, r, rounds);
-    }
+    expand_keys(keys, &bytes_of(entries), V::splat(0xff), words);
 }
 
-// The blocks of which this is the state, in as many lanes as there are.
+/// The blocks of which this is the state, in as many lanes as there are.
 #[inline(always)]
-fn blocks_of<V: PassWord>(s: &State<V>) -> [[u8; 16]; AES_LANES]
+pub fn blocks_of<V: PassWord>(s: &State<V>) -> [[u8; 16]; AES_LANES]
     ensures { (i : ℕ) → i < V.LANES → slice_index_or result i [] ≡ plain_bytes V.lane s.now i }
 {
     let mut blocks = [[0; BLOCK_BYTES]; AES_LANES];
@@ -67,7 +76,24 @@ fn blocks_of<V: PassWord>(s: &State<V>) -> [[u8; 16]; AES_LANES]
     blocks
 }
 
-// The chaining value of each lane, which is in `chains`, becomes the next one.
+/// The chaining value of each lane, which is in `chains`, becomes the next one: the block of the lane is chained, under its round
+/// keys.
+#[inline(always)]
+pub fn chain_lanes<V: PassWord, B: LaneBlocks>(keys: &[State<V>], blocks: &B, chains: &mut State<V>)
+    requires lanes { V.LANES ≤ B.lanes_of blocks.now }
+    requires least { 3 ≤ length keys.now }
+    requires even { length keys.now % 2 ≡ 1 }
+    ensures { (i : ℕ) → i < V.LANES → plain_bytes V.lane chains.new i
+        ≡ encipher (schedule_in V.lane (length keys.now - 1) keys.now i)
+        (xor_lists (B.block_in blocks.now i) (plain_bytes V.lane chains.old i)) }
+{
+    let blocks = V::load(blocks, Layout::Plain);
+    *chains = add_round_key(blocks, *chains);
+    encrypt(&RoundStates { keys }, chains);
+    move_to_plain(chains);
+}
+
+// The chaining value of each lane becomes the next one of its entry.
 #[inline(always)]
 fn next_chains<V: PassWord, E: Chaining>(entries: &[E], keys: &[State<V>], chains: &mut State<V>)
     requires some { 0 < length entries.now }
@@ -79,10 +105,7 @@ fn next_chains<V: PassWord, E: Chaining>(entries: &[E], keys: &[State<V>], chain
         ≡ encipher (in_lane (map E.key_of entries.now) i)
         (xor_lists (in_lane (map E.block_of entries.now) i) (plain_bytes V.lane chains.old i)) }
 {
-    let blocks = V::load(&NextBlocks { entries }, Layout::Plain);
-    *chains = add_round_key(blocks, *chains);
-    encrypt(&RoundStates { keys }, chains);
-    move_to_plain(chains);
+    chain_lanes(keys, &NextBlocks { entries }, chains);
 }
 
 // Each entry is led by the chaining value of its lane.
@@ -149,55 +172,20 @@ fn lead_by<V: PassWord, E: Chaining>(entries: &mut [E], m: u32, keys: &[State<V>
     keep_each(entries, &blocks_of(&chains));
 }
 
-// Leads each entry by `m` blocks. `room` takes the round keys.
+// Leads each entry by `m` blocks. `room` takes the round keys, and the words, which are zeros, the schedules.
 #[inline(always)]
-fn run<V: PassWord, E: Chaining>(entries: &mut [E], m: u32, room: &mut [State<V>])
+fn run<V: PassWord, E: Chaining>(entries: &mut [E], m: u32, room: &mut [State<V>], words: &mut [V])
     requires some { 0 < length entries.old }
     requires few { length entries.old ≤ V.LANES }
     requires rests { All (λ e. m ≤ E.rest_of e) entries.old }
     requires room { length room.old ≡ MAX_ROUND_KEYS }
+    requires words { length words.old ≡ MAX_SCHEDULE_WORDS }
+    requires zeros { (i : ℕ) → i < V.LANES → lane_of V.lane words.old i ≡ replicate MAX_SCHEDULE_WORDS 0 }
     ensures { entries.new ≡ map (after (chained_once E.key_of E.block_of E.chain_of E.led E.kept) m) entries.old }
 {
     let keys = &mut room[..rounds_of(entries) + 1];
-    write_keys(keys, entries);
+    write_keys(keys, entries, words);
     lead_by(entries, m, keys);
-}
-
-// Encrypts a block in each lane under the key of its entry. `room` takes the round keys.
-#[inline(always)]
-fn encrypt_pass<V: PassWord, E: Chaining>(
-    entries: &[E],
-    room: &mut [State<V>],
-    blocks: &mut [[u8; 16]],
-)
-    requires some { 0 < length entries.now }
-    requires room { length room.old ≡ MAX_ROUND_KEYS }
-    requires lanes { length blocks.old ≡ V.LANES }
-    ensures each { (i : ℕ) → i < V.LANES → slice_index_or blocks.new i []
-        ≡ encipher (in_lane (map E.key_of entries.now) i) (slice_index_or blocks.old i []) }
-    ensures lengths { (i : ℕ) → i < V.LANES → length (slice_index_or blocks.new i []) ≡ 16 }
-{
-    let keys = &mut room[..rounds_of(entries) + 1];
-    write_keys(keys, entries);
-    let mut state = V::load(&Blocks { blocks }, Layout::Plain);
-    encrypt(&RoundStates { keys }, &mut state);
-    V::store(blocks, &state, Layout::Last);
-}
-
-/// Encrypts a block in the lane of each entry, under its key. The blocks in idle lanes become any. It takes no memory.
-pub fn encrypt_each<E: Chaining>(entries: &[E], blocks: &mut [[u8; 16]; AES_LANES])
-    requires { 0 < length entries.now }
-    ensures each { (i : ℕ) → i < AES_LANES → i < length entries.now → slice_index_or blocks.new i []
-        ≡ encipher (in_lane (map E.key_of entries.now) i) (slice_index_or blocks.old i []) }
-    ensures lengths { (i : ℕ) → i < AES_LANES → i < length entries.now → length (slice_index_or blocks.new i []) ≡ 16 }
-{
-    if entries.len() <= FEW_BLOCKS {
-        let mut room = [zero_state(); MAX_ROUND_KEYS];
-        encrypt_pass::<FewWord, E>(entries, &mut room, &mut blocks[..FEW_BLOCKS]);
-    } else {
-        let mut room = [zero_state(); MAX_ROUND_KEYS];
-        encrypt_pass::<AesWord, E>(entries, &mut room, blocks);
-    }
 }
 
 /// Leads each of at most `AES_LANES` entries by `m` blocks, of which each has that many left. In each of `m` passes one
@@ -212,9 +200,11 @@ pub fn lead_all<E: Chaining>(entries: &mut [E], m: u32)
     }
     if entries.len() <= FEW_BLOCKS {
         let mut room = [zero_state(); MAX_ROUND_KEYS];
-        run::<FewWord, E>(entries, m, &mut room);
+        let mut words = [FewWord::splat(0); MAX_SCHEDULE_WORDS];
+        run::<FewWord, E>(entries, m, &mut room, &mut words);
     } else {
         let mut room = [zero_state(); MAX_ROUND_KEYS];
-        run::<AesWord, E>(entries, m, &mut room);
+        let mut words = zero_words();
+        run::<AesWord, E>(entries, m, &mut room, &mut words);
     }
 }

@@ -1,7 +1,7 @@
 //! Keys in lanes, whose schedules are made in lane words and become round keys in planes.
 ghost use Rattle.std.specs.Prelude.{◌≡◌, ℕ, ◌+◌, ◌-◌, ◌*◌, ◌<◌, ◌≤◌, [], length, take, drop, ◌++◌, replicate, slice_index_or};
 ghost use Rattle.mbj_types.specs.Aes.{key_schedule};
-ghost use Rattle.mbj_types.specs.Lanes.{lane_of};
+ghost use Rattle.mbj_types.specs.Lanes.{lane_at, lane_of};
 ghost use Rattle.mbj_types.specs.declared.kind.TheConstants.{AES_LANES};
 ghost use Rattle.mbj_aes.specs.Bytes.{IsRoundCount};
 ghost use Rattle.mbj_aes_lanes.specs.KeyBytes.{IsKeyArray};
@@ -14,7 +14,7 @@ use crate::lane_blocks::LaneBlocks;
 use crate::masks::chosen_state;
 use crate::round_keys::key_at;
 use crate::state::State;
-use mbj_types::{AES_LANES, BLOCK_BYTES, Lane8};
+use mbj_types::{AES_LANES, AesWord, BLOCK_BYTES, Lane8};
 
 /// Writes the round keys of the schedules, 16 lane words for each, into the lanes under the mask, of which all bits are set. Those of
 /// the other lanes stay, of which no bit is set.
@@ -30,6 +30,15 @@ pub fn write_schedules<V: Lane8>(keys: &mut [State<V>], words: &[V], mask: V)
         let key = key_at(words, BLOCK_BYTES * r, r, keys.len() - 1);
         keys[r] = chosen_state(keys[r], key, mask);
     }
+}
+
+/// Words of zeros, which take schedules in a wide pass.
+#[inline(always)]
+pub fn zero_words() -> [AesWord; MAX_SCHEDULE_WORDS]
+    ensures length { length result ≡ MAX_SCHEDULE_WORDS }
+    ensures zeros { (i : ℕ) → i < AES_LANES → lane_of (lane_at 8) result i ≡ replicate MAX_SCHEDULE_WORDS 0 }
+{
+    [<AesWord as Lane8>::splat(0); MAX_SCHEDULE_WORDS]
 }
 
 // Half of the bytes of each key, from `start` on.

@@ -1,7 +1,7 @@
 -- One word more is that of each schedule in each turn.
-use Rattle.std.proofs.Common.{◌≡◌, ℕ, List, ◌+◌, ◌-◌, ◌*◌, ◌<◌, ◌≤◌, ◌++◌, take, drop, replicate, ap, ◌∙◌, sym, arith, inl, inr}
+use Rattle.std.proofs.Common.{◌≡◌, ℕ, List, ◌+◌, ◌-◌, ◌*◌, ◌<◌, ◌≤◌, ◌++◌, take, drop, replicate, ap, ◌∙◌, sym, arith}
 use Rattle.std.proofs.lemmas.List.{take_at}
-use Rattle.mbj_types.specs.Aes.{schedule, key_schedule}
+use Rattle.mbj_types.specs.Aes.{schedule}
 use Rattle.mbj_types.specs.Lanes.{lane_of}
 use Rattle.mbj_aes.proofs.KeyLists.{IsSchedule, IsSchedule-schedule}
 use Rattle.mbj_aes.proofs.KeyWords.{schedule-next, schedule-none}

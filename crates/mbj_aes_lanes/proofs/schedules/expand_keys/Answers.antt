@@ -1,5 +1,5 @@
 -- The words are the bytes of the keys, and zeros.
-use Rattle.std.proofs.Common.{◌≡◌, ℕ, ◌+◌, ◌-◌, ◌*◌, List, [], ◌++◌, replicate, length, take, slice_index_or, sym, ap, ◌∙◌, arith}
+use Rattle.std.proofs.Common.{◌≡◌, ℕ, ◌+◌, ◌-◌, ◌*◌, List, [], ◌++◌, replicate, length, take, slice_index_or, ap, ◌∙◌, arith}
 use Rattle.mbj_types.specs.Lanes.{lane_of}
 use Rattle.mbj_aes_lanes.proofs.ScheduleWords.{IsLaneKey-array}
 use Rattle.mbj_aes_lanes.proofs.schedules.expand_keys.Goals as goal

@@ -1,6 +1,5 @@
 -- The words are the half of each key.
-use Rattle.std.proofs.Common.{◌+◌, ◌-◌, sym, arith}
-use Rattle.std.proofs.lemmas.List.{length-take-le}
+use Rattle.std.proofs.Common.{◌+◌, ◌-◌, arith}
 use Rattle.mbj_aes_lanes.proofs.ScheduleWords.{lane_of-mid}
 use Rattle.mbj_aes_lanes.proofs.schedules.load_half.Goals as goal
 
