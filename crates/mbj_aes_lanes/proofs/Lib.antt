@@ -10,6 +10,7 @@ pub mod HeldKeys
 pub mod KeyLayouts
 pub mod KeySchedules
 pub mod KeySizes
+pub mod KeptKeys
 pub mod KeyStreams
 pub mod LaneWords
 pub mod LayoutTables
@@ -25,5 +26,6 @@ pub mod SameKeys
 pub mod XorSums
 pub mod ShiftedRows
 pub mod SlotLists
+pub mod SlotFacts
 pub mod StatePlanes
 pub mod MovedSlots

@@ -7,3 +7,5 @@ pub mod Keys
 pub mod Matrix
 pub mod KeyStream
 pub mod Expansion
+pub mod Slots
+pub mod Kept

@@ -1,6 +1,6 @@
-//! Round keys in planes written into one lane of states, beside the keys in the others. No product calls it: `LaneKeys::put`
-//! does, by which tests give each lane a key of its own.
-ghost use Rattle.std.specs.Prelude.{◌≡◌, ◌≢◌, ℕ, ◌+◌, ◌<◌, ◌≤◌, List, [], length, slice_index_or};
+//! Round keys in planes written into one lane of states, beside the keys in the others: slots give a lane a new key so, and
+//! `LaneKeys::put`, which only tests call.
+ghost use Rattle.std.specs.Prelude.{◌≡◌, ◌≢◌, ℕ, ◌<◌, ◌≤◌, List, [], length, slice_index_or};
 ghost use Rattle.mbj_types.specs.Lanes.{lane_at};
 ghost use Rattle.mbj_aes_lanes.specs.declared.state.State.{State};
 ghost use Rattle.mbj_aes_lanes.specs.Inside.State.{slots};
