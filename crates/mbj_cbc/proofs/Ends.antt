@@ -2,10 +2,13 @@
 use Rattle.std.proofs.Common.{◌≡◌, ℕ, zero, suc, ◌+◌, ◌-◌, ◌*◌, ◌/◌, ◌%◌, ◌≤◌, List, [], ◌∷◌, ◌++◌, length, take, drop, sym, ap, ap₂, ◌∙◌, arith, length-append, length-drop}
 use Rattle.std.specs.List.{concat}
 use Rattle.std.proofs.lemmas.List.{append_assoc, drop-drop, take-append-drop, take_at, drop_at, length-take-le}
-use Rattle.mbj_types.specs.Aes.{encipher}
+use Rattle.std.proofs.Math.Path.{fun_ext}
+use Rattle.mbj_types.specs.Aes.{aes, encipher, key_schedule}
 use Rattle.mbj_types.specs.Blocks.{xor_lists}
 use Rattle.mbj_types.specs.Modes.{cbc, cbc_text}
 use Rattle.mbj_types.specs.Result.{range}
+use Rattle.mbj_aes.specs.Bytes.{IsKey}
+use Rattle.mbj_aes.proofs.ExpandedKeys.{encipher-key_schedule, length-key_schedule}
 use Rattle.mbj_aes.proofs.Rounds.{length-encipher}
 use Rattle.mbj_lane.specs.Rounds.{after, end_of}
 use Rattle.mbj_blocks.proofs.Blocks.{blocks-nil, blocks-cons}
@@ -74,3 +77,12 @@ module _ (key : List ℕ) (off len : ℕ) (long : 16 ≤ length key) where
       let size : length text ≡ len = length-take-le len (drop off packet) (omega (arith, length-drop off packet)) in
       ap (λ p. (after round (len / 16) (state p (len / 16) iv)).packet) cut
       ∙ all_rounds (len / 16) (take off packet) text behind iv (omega arith) (omega arith)
+
+-- under the schedule of a key it is encrypted under the key
+pub encrypted_end-key : (key : List ℕ) (off len : ℕ) (iv packet : List ℕ) → IsKey key → off + len ≤ length packet → len % 16 ≡ 0
+    → (end_of round rest_of (started (key_schedule key) iv packet off len)).packet
+    ≡ take off packet ++ cbc_text (aes key) iv (range off len packet) ++ drop (off + len) packet
+encrypted_end-key key off len iv packet is h whole =
+    encrypted_end (key_schedule key) off len (omega (arith, length-key_schedule key is)) iv packet h whole
+    ∙ ap (λ (e : List ℕ → List ℕ). take off packet ++ cbc_text e iv (range off len packet) ++ drop (off + len) packet)
+    (fun_ext (encipher-key_schedule key))

@@ -1,13 +1,15 @@
 ghost use Rattle.std.specs.Prelude.{◌≡◌, ℕ, ◌+◌, ◌*◌, ◌%◌, ◌<◌, ◌≤◌, ◌++◌, length, take, drop, refl};
-ghost use Rattle.mbj_types.specs.Aes.{encipher};
+ghost use Rattle.mbj_types.specs.Aes.{aes, encipher, key_schedule, round_count};
 ghost use Rattle.mbj_types.specs.Modes.{cbc_text};
 ghost use Rattle.mbj_types.specs.Result.{range};
 ghost use Rattle.mbj_types.specs.Rounds.{cbc_rounds};
+ghost use Rattle.mbj_aes.specs.Bytes.{IsKeySize, IsRoundCount};
+ghost use Rattle.mbj_aes_lanes.specs.KeyBytes.{IsKeyArray, key_of_array};
 ghost use Rattle.mbj_lane.specs.Rounds.{end_of};
 ghost use Rattle.mbj_cbc.specs.Rounds.{CbcState, key_of, rest_of, block_of, chain_of, led, kept, next_block_at, round, started};
 
 use mbj_aes::Schedule;
-use mbj_aes_lanes::Chaining;
+use mbj_aes_lanes::{Chaining, bytes_of_key, bytes_of_schedule};
 use mbj_blocks::block_from;
 use mbj_types::BLOCK_BYTES;
 use std::marker::Model;
@@ -22,13 +24,17 @@ pub struct CbcEntry<const N: usize> {
     pub rest: u32,
     /// The chaining value: the last block of ciphertext, and the IV at the start.
     pub chain: [u8; 16],
-    key: Schedule,
+    key: [u8; 32],
+    session: Option<u32>,
     off: usize,
     len: usize,
 }
 
 impl<const N: usize> Model for CbcEntry<N> {
     ghost use Rattle.std.specs.Prelude.{◌≡◌, ◌+◌, ◌*◌, ◌^◌, ◌<◌, ◌≤◌, length};
+    ghost use Rattle.mbj_types.specs.Aes.{key_schedule};
+    ghost use Rattle.mbj_aes.specs.Bytes.{IsRoundCount};
+    ghost use Rattle.mbj_aes_lanes.specs.KeyBytes.{IsKeyArray, key_of_array};
     ghost use Rattle.mbj_cbc.specs.Rounds.{CbcState};
 
     ghost Value = { CbcState };
@@ -37,12 +43,12 @@ impl<const N: usize> Model for CbcEntry<N> {
       packet = e.packet.items;
       rest = e.rest;
       chain = e.chain;
-      key = e.key;
+      key = key_schedule (key_of_array N e.key);
       off = e.off;
       len = e.len;
     } };
 
-    ghost invariant = { λ e. (length e.key ≡ 16 * (N + 1)) × (length e.chain ≡ 16)
+    ghost invariant = { λ e. IsRoundCount N × IsKeyArray N e.key × (length e.chain ≡ 16)
         × (e.off + e.len ≤ length e.packet.items) × (16 * e.rest ≤ e.len) × (e.len < 2 ^ 32) };
 }
 
@@ -62,15 +68,50 @@ impl<const N: usize> CbcEntry<N> {
         ensures packet { (end_of round rest_of result).packet
             ≡ take off packet.items ++ cbc_text (encipher key) iv (range off len packet.items) ++ drop (off + len) packet.items }
     {
-        let rest = len / BLOCK_BYTES as u32;
+        let key = bytes_of_schedule(&key);
+        CbcEntry::of_bytes(key, iv, packet, off, len)
+    }
+
+    /// The same by the bytes of the key, which the lanes expand.
+    pub fn new_by_key(key: &[u8], iv: [u8; 16], packet: Vec<u8>, off: u32, len: u32) -> CbcEntry<N>
+        requires size { IsKeySize (length key.now) }
+        requires rounds { round_count key.now ≡ N }
+        requires range { off + len ≤ length packet.items }
+        requires some { 0 < len }
+        requires whole { len % 16 ≡ 0 }
+        ensures start { result ≡ started (key_schedule key.now) iv packet.items off len }
+        ensures rest { result.rest ≡ cbc_rounds len }
+        ensures packet { (end_of round rest_of result).packet
+            ≡ take off packet.items ++ cbc_text (aes key.now) iv (range off len packet.items) ++ drop (off + len) packet.items }
+    {
+        CbcEntry::of_bytes(bytes_of_key(key), iv, packet, off, len)
+    }
+
+    /// The same by an array of 32 bytes, which begins with the key.
+    fn of_bytes(key: [u8; 32], iv: [u8; 16], packet: Vec<u8>, off: u32, len: u32) -> CbcEntry<N>
+        requires rounds { IsRoundCount N }
+        requires key { IsKeyArray N key }
+        requires range { off + len ≤ length packet.items }
+        requires whole { len % 16 ≡ 0 }
+        ensures { result ≡ started (key_schedule (key_of_array N key)) iv packet.items off len }
+    {
         CbcEntry {
             packet,
-            rest,
+            rest: len / BLOCK_BYTES as u32,
             chain: iv,
             key,
+            session: None,
             off: off as usize,
             len: len as usize,
         }
+    }
+
+    /// The same entry, whose key was learnt in this session, or in none. A lane whose last entry had the same key in the same
+    /// session keeps its round keys.
+    pub fn in_session(self, session: Option<u32>) -> CbcEntry<N>
+        ensures { result ≡ self.entry }
+    {
+        CbcEntry { session, ..self }
     }
 
     /// The packet, whose range is encrypted. No round is left.
@@ -106,9 +147,34 @@ impl<const N: usize> Chaining for CbcEntry<N> {
     ghost kept = { kept };
 
     #[inline(always)]
-    fn key(&self) -> &Schedule {
+    fn rounds(&self) -> usize {
+        // Where a field is read, it is known what holds inside an entry: N is 10, 12 or 14.
+        let _ = &self.key;
+        N
+    }
+
+    #[inline(always)]
+    fn key_bytes(&self) -> &[u8; 32] {
         &self.key
     }
+
+    #[inline(always)]
+    fn session(&self) -> Option<u32> {
+        self.session
+    }
+
+    #[inline(always)]
+    fn rest(&self) -> u32 {
+        self.rest
+    }
+
+    #[inline(always)]
+    fn wants_zero(&self, _m: u32) -> bool {
+        false
+    }
+
+    #[inline(always)]
+    fn take_zero(&mut self, _zero: &[u8; 16]) {}
 
     #[inline(always)]
     fn block(&self) -> [u8; 16] {

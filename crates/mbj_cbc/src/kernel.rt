@@ -1,11 +1,13 @@
 ghost use Rattle.std.specs.Prelude.{refl};
 ghost use Rattle.mbj_cbc.specs.Rounds.{rest_of, round};
 ghost use Rattle.mbj_types.specs.declared.kind.TheConstants.{AES_LANES};
+ghost use Rattle.mbj_aes_lanes.specs.Slots.{slot_at};
 
 use crate::entry::CbcEntry;
-use mbj_aes_lanes::lead_all;
-use mbj_lane::{Gathered, Kernel};
+use mbj_aes_lanes::{ChainedSlots, lead_all};
+use mbj_lane::{Kernel, SlotKernel};
 use mbj_types::AES_LANES;
+use std::alloc::{AllocError, Global};
 
 /// CBC encryption in `AES_LANES` lanes, under keys of `N` rounds: 10, 12 or 14.
 pub struct CbcKernel<const N: usize>;
@@ -38,4 +40,32 @@ impl<const N: usize> Kernel for CbcKernel<N> {
     ghost falls = { λ e. refl };
 }
 
-impl<const N: usize> Gathered for CbcKernel<N> {}
+impl<const N: usize> SlotKernel for CbcKernel<N> {
+    type Slots = ChainedSlots<CbcEntry<N>>;
+
+    ghost slot = { slot_at };
+
+    fn new_slots(alloc: Global) -> Result<ChainedSlots<CbcEntry<N>>, AllocError> {
+        ChainedSlots::new(alloc)
+    }
+
+    fn put(slots: &mut ChainedSlots<CbcEntry<N>>, i: usize, entry: CbcEntry<N>) {
+        slots.put(i, entry);
+    }
+
+    fn rest_at(slots: &ChainedSlots<CbcEntry<N>>, i: usize) -> u32 {
+        slots.rest_at(i)
+    }
+
+    fn least(slots: &ChainedSlots<CbcEntry<N>>) -> u32 {
+        slots.least()
+    }
+
+    fn run_all(slots: &mut ChainedSlots<CbcEntry<N>>, m: u32) {
+        slots.run_all(m);
+    }
+
+    fn take(slots: &mut ChainedSlots<CbcEntry<N>>, i: usize) -> CbcEntry<N> {
+        slots.take(i)
+    }
+}
