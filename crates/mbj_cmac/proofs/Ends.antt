@@ -1,13 +1,15 @@
 -- The blocks of a message by their numbers, and what a CMAC comes to by its rounds.
 use Rattle.std.proofs.Common.{◌≡◌, ℕ, zero, suc, ◌+◌, ◌-◌, ◌*◌, ◌<◌, ◌≤◌, List, [], ◌∷◌, length, take, drop, get_or, refl, sym, ap, ap₂, ◌∙◌, arith, length-drop}
 use Rattle.std.proofs.lemmas.List.{drop-drop, drop-take, take-take, get_or-drop}
-use Rattle.mbj_types.specs.Aes.{encipher}
+use Rattle.std.proofs.Math.Path.{fun_ext}
+use Rattle.mbj_types.specs.Aes.{aes, encipher, key_schedule}
 use Rattle.mbj_types.specs.Blocks.{xor_lists, zero_block}
 use Rattle.mbj_types.specs.Cmac.{closed, closed_block, message_blocks, cmac}
 use Rattle.mbj_types.specs.Result.{range}
 use Rattle.mbj_types.specs.Rounds.{cmac_rounds}
+use Rattle.mbj_aes.proofs.ExpandedKeys.{encipher-key_schedule}
 use Rattle.mbj_lane.specs.Rounds.{end_of}
-use Rattle.mbj_aes_lanes.proofs.ChainedEnds.{chain_end}
+use Rattle.mbj_aes_lanes.proofs.ChainedEnds.{chain_end, same-after}
 use Rattle.mbj_blocks.specs.Places.{block_of}
 use Rattle.mbj_blocks.proofs.Blocks.{length-blocks}
 use Rattle.mbj_blocks.proofs.Ranges.{length-range}
@@ -106,3 +108,14 @@ module _ (key packet : List ℕ) (off len : ℕ) (h : off + len ≤ length packe
   -- at the end the chaining value is the CMAC
   pub mac_end : (end_of round rest_of (started key packet off len)).chain ≡ cmac (encipher key) (range off len packet)
   mac_end = chain_end round chain_of state (encipher key) parts (λ n c. refl) led (cmac_rounds len) zero_block (sym many)
+
+  -- and the packet is as it was given
+  pub packet_end : (end_of round rest_of (started key packet off len)).packet ≡ packet
+  packet_end = same-after round (λ (e : CmacState). e.packet) (λ e. refl) (cmac_rounds len) (started key packet off len)
+
+-- under the schedule of a key it is the CMAC under the key
+pub mac_end-key : (key packet : List ℕ) (off len : ℕ) → off + len ≤ length packet
+    → (end_of round rest_of (started (key_schedule key) packet off len)).chain ≡ cmac (aes key) (range off len packet)
+mac_end-key key packet off len h =
+    mac_end (key_schedule key) packet off len h
+    ∙ ap (λ (e : List ℕ → List ℕ). cmac e (range off len packet)) (fun_ext (encipher-key_schedule key))

@@ -1,22 +1,25 @@
 ghost use Rattle.std.specs.Prelude.{◌≡◌, ℕ, ◌+◌, ◌-◌, ◌*◌, ◌^◌, ◌<◌, ◌≤◌, length, drop, refl};
-ghost use Rattle.mbj_types.specs.Aes.{encipher};
+ghost use Rattle.mbj_types.specs.Aes.{aes, encipher, key_schedule, round_count};
 ghost use Rattle.mbj_types.specs.Blocks.{zero_block};
 ghost use Rattle.mbj_types.specs.Cmac.{closed_block, cmac};
 ghost use Rattle.mbj_types.specs.Result.{range};
 ghost use Rattle.mbj_types.specs.Rounds.{cmac_rounds};
+ghost use Rattle.mbj_aes.specs.Bytes.{IsKeySize, IsRoundCount};
+ghost use Rattle.mbj_aes_lanes.specs.KeyBytes.{IsKeyArray, key_of_array};
 ghost use Rattle.mbj_lane.specs.Rounds.{end_of};
 ghost use Rattle.mbj_cmac.specs.Inside.Sound.{last_part};
 ghost use Rattle.mbj_cmac.specs.Rounds.{CmacState, key_of, rest_of, block_of, chain_of, led, kept, round, started};
 
 use crate::closing::{closed_block, closed_by, doubled};
 use mbj_aes::Schedule;
-use mbj_aes_lanes::Chaining;
+use mbj_aes_lanes::{Chaining, bytes_of_key, bytes_of_schedule, schedule_of_bytes};
 use mbj_blocks::block_from;
 use mbj_types::BLOCK_BYTES;
 use std::marker::Model;
 
 /// An entry of a lane: a CMAC (SP 800-38B, 6.2) over a range of a packet, under a key of `N` rounds. A round chains one block of
-/// the message. The last blocks of all entries get their subkeys at once, in the first run in which one of them reaches its last block.
+/// the message. In slots the last blocks of all entries are closed at once, in the first run in which one of them reaches its last block;
+/// a block that isn't closed by then is closed when it is read.
 #[derive(Drop)]
 pub struct CmacEntry<const N: usize> {
     /// The packet, as it was given.
@@ -25,7 +28,7 @@ pub struct CmacEntry<const N: usize> {
     pub rest: u32,
     /// The chaining value, of zeros at the start.
     pub chain: [u8; 16],
-    key: Schedule,
+    key: [u8; 32],
     // the last block, once it is closed
     last: [u8; 16],
     is_closed: bool,
@@ -34,6 +37,9 @@ pub struct CmacEntry<const N: usize> {
 }
 
 impl<const N: usize> Model for CmacEntry<N> {
+    ghost use Rattle.mbj_types.specs.Aes.{key_schedule};
+    ghost use Rattle.mbj_aes.specs.Bytes.{IsRoundCount};
+    ghost use Rattle.mbj_aes_lanes.specs.KeyBytes.{IsKeyArray, key_of_array};
     ghost use Rattle.mbj_cmac.specs.Rounds.{CmacState};
     ghost use Rattle.mbj_cmac.specs.Inside.Sound.{IsSound};
 
@@ -43,16 +49,16 @@ impl<const N: usize> Model for CmacEntry<N> {
       packet = e.packet.items;
       rest = e.rest;
       chain = e.chain;
-      key = e.key;
+      key = key_schedule (key_of_array N e.key);
       off = e.off;
       len = e.len;
     } };
 
-    ghost invariant = { λ e. IsSound N e.is_closed e.last (record {
+    ghost invariant = { λ e. IsRoundCount N × IsKeyArray N e.key × IsSound e.is_closed e.last (record {
       packet = e.packet.items;
       rest = e.rest;
       chain = e.chain;
-      key = e.key;
+      key = key_schedule (key_of_array N e.key);
       off = e.off;
       len = e.len;
     }) };
@@ -84,6 +90,29 @@ impl<const N: usize> CmacEntry<N> {
         ensures packet { (end_of round rest_of result).packet ≡ packet.items }
         ensures mac { (end_of round rest_of result).chain ≡ cmac (encipher key) (range off len packet.items) }
     {
+        CmacEntry::of_bytes(bytes_of_schedule(&key), packet, off, len)
+    }
+
+    /// The same by the bytes of the key, which the lanes expand.
+    pub fn new_by_key(key: &[u8], packet: Vec<u8>, off: u32, len: u32) -> CmacEntry<N>
+        requires size { IsKeySize (length key.now) }
+        requires rounds { round_count key.now ≡ N }
+        requires range { off + len ≤ length packet.items }
+        ensures start { result ≡ started (key_schedule key.now) packet.items off len }
+        ensures rest { result.rest ≡ cmac_rounds len }
+        ensures packet { (end_of round rest_of result).packet ≡ packet.items }
+        ensures mac { (end_of round rest_of result).chain ≡ cmac (aes key.now) (range off len packet.items) }
+    {
+        CmacEntry::of_bytes(bytes_of_key(key), packet, off, len)
+    }
+
+    /// The same by an array of 32 bytes, which begins with the key.
+    fn of_bytes(key: [u8; 32], packet: Vec<u8>, off: u32, len: u32) -> CmacEntry<N>
+        requires rounds { IsRoundCount N }
+        requires key { IsKeyArray N key }
+        requires range { off + len ≤ length packet.items }
+        ensures { result ≡ started (key_schedule (key_of_array N key)) packet.items off len }
+    {
         let (off, len) = (off as usize, len as usize);
         CmacEntry {
             packet,
@@ -107,12 +136,6 @@ impl<const N: usize> CmacEntry<N> {
         (self.packet, chain)
     }
 
-    /// Whether the last block of the message was closed.
-    #[inline(always)]
-    pub(crate) fn is_closed(&self) -> bool {
-        self.is_closed
-    }
-
     /// The last block of the message, as it is before it is closed.
     #[inline(always)]
     fn last_part(&self) -> &[u8]
@@ -131,18 +154,8 @@ impl<const N: usize> CmacEntry<N> {
         if self.is_closed {
             self.last
         } else {
-            closed_block(&self.key, self.last_part())
+            closed_block(&schedule_of_bytes(&self.key, N), self.last_part())
         }
-    }
-
-    /// Closes the last block, by the enciphered zero block.
-    pub(crate) fn close(&mut self, zero: &[u8; 16])
-        requires { zero.now ≡ encipher self.old.key zero_block }
-        ensures { self.new ≡ self.old }
-    {
-        let last = closed_by(&doubled(zero), self.last_part());
-        self.last = last;
-        self.is_closed = true;
     }
 }
 
@@ -162,8 +175,40 @@ impl<const N: usize> Chaining for CmacEntry<N> {
     ghost kept = { kept };
 
     #[inline(always)]
-    fn key(&self) -> &Schedule {
+    fn rounds(&self) -> usize {
+        // Where a field is read, it is known what holds inside an entry: N is 10, 12 or 14.
+        let _ = &self.key;
+        N
+    }
+
+    #[inline(always)]
+    fn key_bytes(&self) -> &[u8; 32] {
         &self.key
+    }
+
+    #[inline(always)]
+    fn session(&self) -> Option<u32> {
+        None
+    }
+
+    #[inline(always)]
+    fn rest(&self) -> u32 {
+        self.rest
+    }
+
+    #[inline(always)]
+    fn wants_zero(&self, m: u32) -> bool {
+        !self.is_closed && self.rest <= m
+    }
+
+    #[inline(always)]
+    fn take_zero(&mut self, zero: &[u8; 16]) {
+        if self.is_closed {
+            return;
+        }
+        let last = closed_by(&doubled(zero), self.last_part());
+        self.last = last;
+        self.is_closed = true;
     }
 
     #[inline(always)]

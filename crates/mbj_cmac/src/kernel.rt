@@ -1,11 +1,13 @@
-ghost use Rattle.std.specs.Prelude.{◌≡◌, ◌≤◌, length, refl};
+ghost use Rattle.std.specs.Prelude.{refl};
 ghost use Rattle.mbj_cmac.specs.Rounds.{rest_of, round};
 ghost use Rattle.mbj_types.specs.declared.kind.TheConstants.{AES_LANES};
+ghost use Rattle.mbj_aes_lanes.specs.Slots.{slot_at};
 
 use crate::entry::CmacEntry;
-use mbj_aes_lanes::{encrypt_each, lead_all};
-use mbj_lane::{Gathered, Kernel};
-use mbj_types::{AES_LANES, BLOCK_BYTES};
+use mbj_aes_lanes::{ChainedSlots, lead_all};
+use mbj_lane::{Kernel, SlotKernel};
+use mbj_types::AES_LANES;
+use std::alloc::{AllocError, Global};
 
 /// CMACs in `AES_LANES` lanes, under keys of `N` rounds: 10, 12 or 14.
 pub struct CmacKernel<const N: usize>;
@@ -26,7 +28,6 @@ impl<const N: usize> Kernel for CmacKernel<N> {
     }
 
     fn run(entries: &mut [CmacEntry<N>], m: u32) {
-        close_last(entries, m);
         lead_all(entries, m);
     }
 
@@ -39,28 +40,32 @@ impl<const N: usize> Kernel for CmacKernel<N> {
     ghost falls = { λ e. refl };
 }
 
-impl<const N: usize> Gathered for CmacKernel<N> {}
+impl<const N: usize> SlotKernel for CmacKernel<N> {
+    type Slots = ChainedSlots<CmacEntry<N>>;
 
-/// Whether an entry reaches its last block within `m` rounds, and that block has no subkey yet.
-fn is_any_open<const N: usize>(entries: &[CmacEntry<N>], m: u32) -> bool {
-    entries
-        .iter()
-        .any(|entry| !entry.is_closed() && entry.rest <= m)
-}
+    ghost slot = { slot_at };
 
-/// Closes the last blocks of all messages, where an entry reaches one within `m` rounds that isn't closed yet. The zero block is
-/// enciphered under all keys at once.
-fn close_last<const N: usize>(entries: &mut [CmacEntry<N>], m: u32)
-    requires { length entries.old ≤ AES_LANES }
-    ensures { entries.new ≡ entries.old }
-{
-    if entries.is_empty() || !is_any_open(entries, m) {
-        return;
+    fn new_slots(alloc: Global) -> Result<ChainedSlots<CmacEntry<N>>, AllocError> {
+        ChainedSlots::new(alloc)
     }
-    let mut zeros = [[0; BLOCK_BYTES]; AES_LANES];
-    encrypt_each(entries, &mut zeros);
-    'closing: for i in 0..entries.len() {
-        let entry = &mut entries[i];
-        entry.close(&zeros[i]);
+
+    fn put(slots: &mut ChainedSlots<CmacEntry<N>>, i: usize, entry: CmacEntry<N>) {
+        slots.put(i, entry);
+    }
+
+    fn rest_at(slots: &ChainedSlots<CmacEntry<N>>, i: usize) -> u32 {
+        slots.rest_at(i)
+    }
+
+    fn least(slots: &ChainedSlots<CmacEntry<N>>) -> u32 {
+        slots.least()
+    }
+
+    fn run_all(slots: &mut ChainedSlots<CmacEntry<N>>, m: u32) {
+        slots.run_all(m);
+    }
+
+    fn take(slots: &mut ChainedSlots<CmacEntry<N>>, i: usize) -> CmacEntry<N> {
+        slots.take(i)
     }
 }

@@ -10,9 +10,8 @@ use Rattle.mbj_cmac.specs.Rounds.{CmacState}
 abbrev pub last_part : CmacState → List ℕ
 last_part e = drop (16 * (cmac_rounds e.len - 1)) (range e.off e.len e.packet)
 
--- the key has n rounds, the range lies in the packet, and where the last block was closed, it is `last`
-pub record IsSound (n : ℕ) (is_closed : Bool) (last : List ℕ) (e : CmacState) : Type 0 where
-  pub key : length e.key ≡ 16 * (n + 1)
+-- the range lies in the packet, and where the last block was closed, it is `last`
+pub record IsSound (is_closed : Bool) (last : List ℕ) (e : CmacState) : Type 0 where
   pub chain : length e.chain ≡ 16
   pub range : e.off + e.len ≤ length e.packet
   pub small : e.len < 2 ^ 32
