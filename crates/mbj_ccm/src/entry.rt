@@ -8,7 +8,7 @@ ghost use Rattle.mbj_ccm.specs.Rounds.{CcmState, key_of, rest_of, chain_of, bloc
 
 use crate::format::{data_block, data_rounds, filled_from, first_block};
 use mbj_aes::Schedule;
-use mbj_aes_lanes::Chaining;
+use mbj_aes_lanes::{Chaining, bytes_of_schedule};
 use mbj_types::{BLOCK_BYTES, MAX_CCM_AAD_BYTES, MAX_PACKET_BYTES};
 use std::marker::Model;
 
@@ -25,13 +25,17 @@ pub struct CcmEntry<const N: usize> {
     pub chain: [u8; 16],
     iv: Vec<u8>,
     aad: Vec<u8>,
-    key: Schedule,
+    key: [u8; 32],
+    session: Option<u32>,
     off: usize,
     len: usize,
     tag_len: u8,
 }
 
 impl<const N: usize> Model for CcmEntry<N> {
+    ghost use Rattle.mbj_types.specs.Aes.{key_schedule};
+    ghost use Rattle.mbj_aes.specs.Bytes.{IsRoundCount};
+    ghost use Rattle.mbj_aes_lanes.specs.KeyBytes.{IsKeyArray, key_of_array};
     ghost use Rattle.mbj_ccm.specs.Rounds.{CcmState};
     ghost use Rattle.mbj_ccm.specs.Inside.Sound.{IsSound};
 
@@ -44,19 +48,19 @@ impl<const N: usize> Model for CcmEntry<N> {
       tag_len = e.tag_len;
       rest = e.rest;
       chain = e.chain;
-      key = e.key;
+      key = key_schedule (key_of_array N e.key);
       off = e.off;
       len = e.len;
     } };
 
-    ghost invariant = { λ e. IsSound N (record {
+    ghost invariant = { λ e. IsRoundCount N × IsKeyArray N e.key × IsSound (record {
       packet = e.packet.items;
       iv = e.iv.items;
       aad = e.aad.items;
       tag_len = e.tag_len;
       rest = e.rest;
       chain = e.chain;
-      key = e.key;
+      key = key_schedule (key_of_array N e.key);
       off = e.off;
       len = e.len;
     }) };
@@ -108,6 +112,7 @@ impl<const N: usize> CcmEntry<N> {
     {
         let (off, len) = (off as usize, len as usize);
         let rest = rounds(aad.len(), len);
+        let key = bytes_of_schedule(&key);
         CcmEntry {
             packet,
             rest,
@@ -115,10 +120,19 @@ impl<const N: usize> CcmEntry<N> {
             iv,
             aad,
             key,
+            session: None,
             off,
             len,
             tag_len,
         }
+    }
+
+    /// The same entry, whose key was learnt in this session, or in none. A lane whose last entry had the same key in the same
+    /// session keeps its round keys.
+    pub fn in_session(self, session: Option<u32>) -> CcmEntry<N>
+        ensures { result ≡ self.entry }
+    {
+        CcmEntry { session, ..self }
     }
 
     /// The packet, the nonce, the additional data, and the MAC: its 16 bytes, which the mask of the tag is xored with.
@@ -176,9 +190,34 @@ impl<const N: usize> Chaining for CcmEntry<N> {
     ghost kept = { kept };
 
     #[inline(always)]
-    fn key(&self) -> &Schedule {
+    fn rounds(&self) -> usize {
+        // Where a field is read, it is known what holds inside an entry: N is 10, 12 or 14.
+        let _ = &self.key;
+        N
+    }
+
+    #[inline(always)]
+    fn key_bytes(&self) -> &[u8; 32] {
         &self.key
     }
+
+    #[inline(always)]
+    fn session(&self) -> Option<u32> {
+        self.session
+    }
+
+    #[inline(always)]
+    fn rest(&self) -> u32 {
+        self.rest
+    }
+
+    #[inline(always)]
+    fn wants_zero(&self, _m: u32) -> bool {
+        false
+    }
+
+    #[inline(always)]
+    fn take_zero(&mut self, _zero: &[u8; 16]) {}
 
     #[inline(always)]
     fn block(&self) -> [u8; 16] {

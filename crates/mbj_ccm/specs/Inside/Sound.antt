@@ -1,12 +1,11 @@
 -- What holds inside an entry, between calls.
-use Rattle.std.specs.Prelude.{◌≡◌, ℕ, ◌+◌, ◌*◌, ◌≤◌, length}
+use Rattle.std.specs.Prelude.{◌≡◌, ◌+◌, ◌≤◌, length}
 use Rattle.mbj_types.specs.declared.limits.TheConstants.{MAX_PACKET_BYTES, MAX_CCM_AAD_BYTES}
 use Rattle.mbj_types.specs.Rounds.{ccm_rounds}
 use Rattle.mbj_ccm.specs.Rounds.{CcmState}
 
--- the key has n rounds, nonce, additional data, packet and tag are as long as CCM takes them, and the range lies in the packet
-pub record IsSound (n : ℕ) (e : CcmState) : Type 0 where
-  pub key : length e.key ≡ 16 * (n + 1)
+-- nonce, additional data, packet and tag are as long as CCM takes them, and the range lies in the packet
+pub record IsSound (e : CcmState) : Type 0 where
   pub chain : length e.chain ≡ 16
   pub nonce : length e.iv ≤ 13
   pub aad : length e.aad ≤ MAX_CCM_AAD_BYTES

@@ -41,5 +41,5 @@ returns-else-left-of_data g c =
     (c.first_block.ensures
     ∙ ap₂ (λ xs ys. first_block xs ys f.len f.tag_len) c.deref-else-left-of_data.ensures.value
     c.deref-else-left-of_data-2.ensures.value
-    ∙ ap (λ (k : ℕ). first_block iv aad k f.tag_len) (sym (length-range f.off f.len f.packet.items c.self.invariant.range))
+    ∙ ap (λ (k : ℕ). first_block iv aad k f.tag_len) (sym (length-range f.off f.len f.packet.items c.self.invariant.2.range))
     ∙ ap (λ (i : ℕ). get_or (ccm_blocks iv aad text f.tag_len) i []) place)

@@ -13,7 +13,7 @@ returns g c =
     let f = c.self.inside in
     let text : List ℕ = range f.off f.len f.packet.items in
     let i : ℕ = c.args.i in
-    let size : length text ≡ f.len = length-range f.off f.len f.packet.items c.self.invariant.range in
+    let size : length text ≡ f.len = length-range f.off f.len f.packet.items c.self.invariant.2.range in
     let len : f.len ≡ c.args.self.now.len = ap (λ (e : CcmState). e.len) c.self.view_is in
     let here : f.off + f.len - f.off ≡ f.len = omega arith in
     rw (← c.self.view_is)
