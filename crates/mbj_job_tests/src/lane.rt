@@ -1,7 +1,9 @@
 ghost use Rattle.std.specs.Prelude.{◌≡◌, ℕ, ◌-◌, ◌≤◌, [], All, map};
+ghost use Rattle.mbj_lane.specs.Gathered.{at_slot};
 
 use crate::compare::expect;
-use mbj_lane::{Gathered, Kernel, Lanes};
+use mbj_lane::{GatheredSlots, Kernel, Lanes, SlotKernel};
+use std::alloc::{AllocError, Global};
 use std::process::Abort;
 use std::test::*;
 
@@ -45,7 +47,35 @@ impl Kernel for Waiting {
     ghost falls = { λ w. refl };
 }
 
-impl Gathered for Waiting {}
+impl SlotKernel for Waiting {
+    type Slots = GatheredSlots<Waiting>;
+
+    ghost slot = { λ s. at_slot s.0 s.1 };
+
+    fn new_slots(alloc: Global) -> Result<GatheredSlots<Waiting>, AllocError> {
+        GatheredSlots::new(alloc)
+    }
+
+    fn put(slots: &mut GatheredSlots<Waiting>, i: usize, entry: Waiter) {
+        slots.put(i, entry);
+    }
+
+    fn rest_at(slots: &GatheredSlots<Waiting>, i: usize) -> u32 {
+        slots.rest_at(i)
+    }
+
+    fn least(slots: &GatheredSlots<Waiting>) -> u32 {
+        slots.least()
+    }
+
+    fn run_all(slots: &mut GatheredSlots<Waiting>, m: u32) {
+        slots.run_all(m);
+    }
+
+    fn take(slots: &mut GatheredSlots<Waiting>, i: usize) -> Waiter {
+        slots.take(i)
+    }
+}
 
 fn name_of(taken: Option<Waiter>) -> Option<u8> {
     taken.map(|waiter| waiter.name)
