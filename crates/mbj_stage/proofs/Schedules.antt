@@ -1,5 +1,5 @@
 -- The schedule of a job's key, and where it is at hand.
-use Rattle.std.proofs.Common.{◌≡◌, ◌≢◌, ℕ, List, [], ◌∷◌, drop, Bool, true, false, not, IsTrue, Option, Some, None, is_some, IfSome, length, refl, sym, ap, ◌∙◌, subst}
+use Rattle.std.proofs.Common.{◌≡◌, ◌≢◌, ℕ, List, [], ◌∷◌, drop, true, false, not, Option, Some, None, is_some, IfSome, length, refl, ap, ◌∙◌}
 use Rattle.std.proofs.Math.Path.{fun_ext}
 use Rattle.mbj_types.specs.declared.job.Job.{Job}
 use Rattle.mbj_types.specs.declared.job.Cipher.{Cipher}
@@ -14,7 +14,7 @@ use Rattle.mbj_keys.specs.Schedules.{IsScheduleOf}
 use Rattle.mbj_stage.specs.declared.stage.Step.{Step}
 use Rattle.mbj_stage.specs.Steps.{cipher_steps, steps_by}
 use Rattle.mbj_stage.specs.Keys.{wants_schedule}
-use Rattle.mbj_stage.specs.Inside.Kept.{IsKeyed, IsNextStep, HasSchedule}
+use Rattle.mbj_stage.specs.Inside.Kept.{IsKeyed, IsNextStep}
 
 -- a schedule enciphers as its key does
 pub enciphers : (key w : List ℕ) → IsScheduleOf key w → encipher w ≡ aes key

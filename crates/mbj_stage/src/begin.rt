@@ -6,7 +6,7 @@ ghost use Rattle.mbj_keys.specs.Schedules.{IsScheduleOf};
 ghost use Rattle.mbj_keys.specs.Sessions.{AreOf};
 ghost use Rattle.mbj_stage.specs.CourseState.{begun, owed};
 
-use crate::course::Course;
+use crate::course::{Course, session_of};
 use crate::keyed::{expanded, wants_schedule};
 use mbj_aes::Schedule;
 use mbj_args::check;
@@ -50,13 +50,14 @@ impl Course {
     {
         let reason = check(&job);
         if !wants_schedule(reason, &job) {
-            return Course::start(job, reason, None);
+            return Course::start(job, reason, None, None);
         }
         let schedule = match found {
             Some(schedule) => *schedule,
             None => expanded(job.key.as_slice()),
         };
-        Course::start(job, reason, Some(schedule))
+        let session = session_of(&job, found);
+        Course::start(job, reason, Some(schedule), session)
     }
 
     /// The course of a job, with nothing done, in place of what it was. It takes the job, and leaves another one in its place. The

@@ -28,8 +28,8 @@ use std::mem;
 /// CBC encryption, CMAC, HMAC, digests and CCM's MAC are done in lanes: a call hands the packet out in an entry, and another one takes it
 /// back once the entry's rounds are done. `run_now` does all else.
 ///
-/// No call takes memory. The key of a cipher is expanded as the course begins, unless its schedule is found there, and the key of an
-/// authentication as its stage begins.
+/// No call takes memory. The key of a cipher is expanded as the course begins, unless its schedule is found there. The key of a CMAC
+/// is expanded in its lane, and that of another authentication is prepared as its stage begins.
 ///
 /// ```
 /// let mut course = Course::begin(job);
@@ -54,6 +54,8 @@ pub struct Course {
     lengths: Lengths,
     // Of the cipher's key, where the job is accepted and has a cipher.
     schedule: Option<Schedule>,
+    // The session in which the key was learnt, if there is one.
+    session: Option<u32>,
 }
 
 impl Model for Course {
@@ -127,6 +129,14 @@ fn keep_schedule(
     });
 }
 
+/// The session in which a job's key was learnt: the job's own, where the schedule was found.
+pub(crate) fn session_of(job: &Job, found: Option<&Schedule>) -> Option<u32> {
+    match found {
+        Some(_) => job.session,
+        None => None,
+    }
+}
+
 /// Keeps no schedule. Nothing is written where there is none.
 fn forget(kept: &mut Option<Schedule>)
     ensures { kept.new ≡ None }
@@ -147,8 +157,13 @@ fn taken(packet: &mut Vec<u8>) -> Vec<u8>
 
 impl Course {
     /// The course of a job, with nothing done, which is refused for this reason or for none. The schedule of its key is there where
-    /// it is wanted.
-    pub(crate) fn start(mut job: Job, reason: Option<Reason>, schedule: Option<Schedule>) -> Course
+    /// it is wanted, and the session in which the key was learnt, if there is one.
+    pub(crate) fn start(
+        mut job: Job,
+        reason: Option<Reason>,
+        schedule: Option<Schedule>,
+        session: Option<u32>,
+    ) -> Course
         requires reason { reason ≡ verdict job }
         requires wanted { is_some schedule ≡ wants_schedule reason job.cipher }
         requires schedule { IfSome schedule (IsScheduleOf job.key) }
@@ -168,6 +183,7 @@ impl Course {
             out: None,
             lengths,
             schedule,
+            session,
         }
     }
 
@@ -185,6 +201,7 @@ impl Course {
         ensures { self.new ≡ begun job.old }
     {
         keep_schedule(&mut self.schedule, job, reason, found);
+        self.session = session_of(job, found);
         self.left = steps_by(reason, job);
         self.lengths = lengths_of(job);
         mem::swap(&mut self.job, job);
@@ -208,6 +225,7 @@ impl Course {
         self.left = Steps::Done;
         self.out = None;
         forget(&mut self.schedule);
+        self.session = None;
     }
 
     /// Whether the course has the schedule of its job's key: it has where the job is accepted and has a cipher.

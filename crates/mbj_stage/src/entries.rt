@@ -26,8 +26,13 @@ use mbj_cmac::CmacEntry;
 use mbj_hmac::{HmacEntry, LaneHash};
 use mbj_types::{AuthClass, Job};
 
-/// The CBC encryption of a job whose key has `N` rounds, by the key's schedule.
-pub(crate) fn cbc_entry<const N: usize>(job: &Job, key: Schedule, packet: Vec<u8>) -> CbcEntry<N>
+/// The CBC encryption of a job whose key has `N` rounds, by the key's schedule. The key was learnt in this session, or in none.
+pub(crate) fn cbc_entry<const N: usize>(
+    job: &Job,
+    key: Schedule,
+    session: Option<u32>,
+    packet: Vec<u8>,
+) -> CbcEntry<N>
     requires key { IsScheduleOf job.now.key key }
     requires cbc { job.now.cipher ≡ cipher.Cbc }
     requires enc { job.now.dir ≡ dir.Enc }
@@ -38,7 +43,8 @@ pub(crate) fn cbc_entry<const N: usize>(job: &Job, key: Schedule, packet: Vec<u8
     ensures packet { (end_of cbc_round cbc_rest result).packet ≡ ciphered job.now packet.items }
 {
     let iv = iv_block(job.iv.as_slice());
-    CbcEntry::new(key, iv, packet, job.cipher_off, job.cipher_len)
+    let entry = CbcEntry::new(key, iv, packet, job.cipher_off, job.cipher_len);
+    entry.in_session(session)
 }
 
 /// The CMAC of a job whose key has `N` rounds.
@@ -50,8 +56,8 @@ pub(crate) fn cmac_entry<const N: usize>(job: &Job, packet: Vec<u8>) -> CmacEntr
     ensures packet { (cmac_end (end_of cmac_round cmac_rest result)).packet ≡ packet.items }
     ensures mac { (cmac_end (end_of cmac_round cmac_rest result)).mac ≡ mac_by (class_of job.now.auth) job.now packet.items }
 {
-    let key = Schedule::expand(job.auth_key.as_slice());
-    CmacEntry::new(key, packet, job.hash_off, job.hash_len)
+    let key = job.auth_key.as_slice();
+    CmacEntry::new_by_key(key, packet, job.hash_off, job.hash_len)
 }
 
 /// The HMAC of a job whose hash is one of `H`, under its key or from its states, or the digest. An HMAC's key that is longer than a
@@ -76,11 +82,12 @@ pub(crate) fn hmac_entry<H: LaneHash>(job: &Job, packet: Vec<u8>) -> HmacEntry<H
     }
 }
 
-/// The MAC of a CCM job whose key has `N` rounds, by the key's schedule, over the cipher range, which is plaintext. IV and additional
-/// data are the job's, and go into the entry too.
+/// The MAC of a CCM job whose key has `N` rounds, by the key's schedule, over the cipher range, which is plaintext. The key was learnt
+/// in this session, or in none. IV and additional data are the job's, and go into the entry too.
 pub(crate) fn ccm_entry<const N: usize>(
     job: &Job,
     key: Schedule,
+    session: Option<u32>,
     iv: Vec<u8>,
     aad: Vec<u8>,
     packet: Vec<u8>,
@@ -97,13 +104,7 @@ pub(crate) fn ccm_entry<const N: usize>(
     ensures mac { (ccm_end (end_of ccm_round ccm_rest result)).mac
         ≡ ccm_mac (aes job.now.key) iv.items aad.items (cipher_range job.now packet.items) job.now.tag_len }
 {
-    CcmEntry::new(
-        key,
-        iv,
-        aad,
-        packet,
-        job.cipher_off,
-        job.cipher_len,
-        job.tag_len,
-    )
+    let (off, len) = (job.cipher_off, job.cipher_len);
+    let entry = CcmEntry::new(key, iv, aad, packet, off, len, job.tag_len);
+    entry.in_session(session)
 }
