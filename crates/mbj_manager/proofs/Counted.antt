@@ -9,7 +9,7 @@ use Rattle.mbj_stage.specs.Handing.{End}
 use Rattle.mbj_manager.specs.Machine.Stages.{Pending}
 use Rattle.mbj_manager.specs.Machine.Queues.{Waiting}
 use Rattle.mbj_manager.specs.Entries.{AreEntriesOf}
-use Rattle.mbj_manager.specs.State.{ManagerState, IsEarliestFinished, after_get_completed, counted, entered_at, expanded_for, given_at}
+use Rattle.mbj_manager.specs.State.{ManagerState, IsEarliestFinished, after_get_completed, entered_at, expanded_for, given_at}
 
 -- the state with another count
 abbrev pub with_count : ℕ → ManagerState → ManagerState

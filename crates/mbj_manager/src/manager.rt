@@ -274,7 +274,7 @@ impl Manager {
     }
 
     /// How many keys of ciphers were expanded as jobs were submitted, modulo 2^64. A submission expands the key of an accepted job
-    /// that has a cipher, unless the schedule is that of an entry of shared keys.
+    /// that has a cipher, unless the schedule is that of an entry of shared keys. What lanes expand for themselves isn't counted.
     pub fn expansions(&self) -> u64
         ensures { result ≡ self.now.expansions }
     {

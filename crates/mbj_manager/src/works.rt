@@ -53,7 +53,8 @@ fn agenda_room() -> usize
 pub struct Works {
     ring: CellRing,
     agenda: Agenda,
-    lists: LaneQueues,
+    /// In a box, so that a caller's proof that a manager is freed doesn't look into each list.
+    lists: Box<LaneQueues>,
 }
 
 impl Model for Works {
@@ -67,9 +68,9 @@ impl Model for Works {
 
     ghost coded = { state_code (Prim.hlevel codes) };
 
-    ghost view = { λ w. held w.ring w.agenda.places.items w.lists };
+    ghost view = { λ w. held w.ring w.agenda.places.items w.lists.value };
 
-    ghost invariant = { λ w. IsHeld w.ring w.agenda.places.items w.lists (vec_capacity w.agenda.places) };
+    ghost invariant = { λ w. IsHeld w.ring w.agenda.places.items w.lists.value (vec_capacity w.agenda.places) };
 }
 
 /// What is next in the earliest course.
@@ -91,7 +92,7 @@ impl Works {
         Ok(Works {
             ring: CellRing::new(alloc, most)?,
             agenda: Agenda::new(alloc, agenda_room())?,
-            lists: LaneQueues::new(alloc)?,
+            lists: Box::new(alloc, LaneQueues::new(alloc)?)?,
         })
     }
 

@@ -1,7 +1,7 @@
 -- The courses in a manager's ring.
 use Rattle.std.specs.Prelude.{◌≡◌, ◌≢◌, ℕ, ◌+◌, ◌-◌, ◌%◌, ◌<◌, ◌≤◌, List, [], ◌∷◌, length, map, All, Option, Some, None}
 use Rattle.mbj_types.specs.declared.job.Job.{Job}
-use Rattle.mbj_stage.specs.CourseState.{CourseState, begun, stage_of, owed}
+use Rattle.mbj_stage.specs.CourseState.{CourseState, stage_of, owed}
 use Rattle.mbj_stage.specs.declared.stage.Stage.{Stage}
 use Rattle.mbj_stage.specs.declared.stage.Stage.TheVariants as stage
 use Rattle.mbj_stage.specs.Handing.{without_packet}

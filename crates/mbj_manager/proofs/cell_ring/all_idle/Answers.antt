@@ -1,4 +1,4 @@
-use Rattle.std.proofs.Common.{◌∷◌, [], length, length-append, All, vec_capacity, sym, subst, ap, ◌∙◌, arith}
+use Rattle.std.proofs.Common.{◌∷◌, [], length, length-append, All, sym, subst, ap, ◌∙◌, arith}
 use Rattle.std.proofs.lemmas.List.Elements.{All-push}
 use Rattle.mbj_manager.specs.Inside.Stock.{IsBlank}
 use Rattle.mbj_manager.proofs.cell_ring.all_idle.Goals as goal

@@ -14,7 +14,7 @@ use Rattle.mbj_manager.proofs.RingCourses.{first-open, none-open, open-at}
 use Rattle.mbj_manager.proofs.works.Works.add.Goals as goal
 
 is-added : (c : goal.After-push)
-    → IsAdded c.self.inside.ring c.commit-place.new.self c.self.inside.agenda.places.items c.push.new.self.places.items c.self.inside.lists
+    → IsAdded c.self.inside.ring c.commit-place.new.self c.self.inside.agenda.places.items c.push.new.self.places.items c.self.inside.lists.value
     (vec_capacity c.self.inside.agenda.places)
 is-added c =
     let w = c.self.inside in
@@ -23,10 +23,10 @@ is-added c =
     let idle = subst (λ (h : ManagerState). h.machine.agenda ≡ []) (sym c.self.view_is) c.requires.idle in
     let room : length r.values < CELLS = omega (arith, c.if-prove.false, c.len.ensures.len) in
     let first = first-open r.opened c.in-Some.cell.now (sym c.open_mut.ensures.value ∙ ap option_copied_mut c.in-Some.is) in
-    subst (λ (x : RingState Cell). IsAdded r x w.agenda.places.items c.push.new.self.places.items w.lists capacity)
+    subst (λ (x : RingState Cell). IsAdded r x w.agenda.places.items c.push.new.self.places.items w.lists.value capacity)
     (sym (c.commit-place.ensures.values ∙ commit-one r r.opened c.in-Some.cell.now c.begin-is_expanded.new.self first))
-    (subst (λ (ag : List ℕ). IsAdded r (one_more r c.begin-is_expanded.new.self (drop 1 r.opened)) w.agenda.places.items ag w.lists capacity) (sym c.push.ensures.places)
-    (adds r c.in-Some.cell.now c.begin-is_expanded.new.self (drop 1 r.opened) c.commit-place.result w.agenda.places.items w.lists capacity c.self.invariant idle
+    (subst (λ (ag : List ℕ). IsAdded r (one_more r c.begin-is_expanded.new.self (drop 1 r.opened)) w.agenda.places.items ag w.lists.value capacity) (sym c.push.ensures.places)
+    (adds r c.in-Some.cell.now c.begin-is_expanded.new.self (drop 1 r.opened) c.commit-place.result w.agenda.places.items w.lists.value capacity c.self.invariant idle
     first c.begin-is_expanded.ensures.begun room c.commit-place.ensures.place))
 
 pub begin-is_expanded-requires-clause-is_open : goal.begin-is_expanded-requires-clause-is_open
@@ -64,5 +64,5 @@ invariant_of-self c = rw c.push.ensures.room (is-added c).kept
 
 pub returns-clause-added : goal.returns-clause-added
 returns-clause-added c =
-    let new = held c.commit-place.new.self c.push.new.self.places.items c.self.inside.lists in
+    let new = held c.commit-place.new.self c.push.new.self.places.items c.self.inside.lists.value in
     subst (λ (h : ManagerState). new ≡ added h.opened h) c.self.view_is (is-added c).is

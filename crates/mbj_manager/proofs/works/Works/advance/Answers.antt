@@ -15,15 +15,15 @@ run_nows-requires-clause-here c =
     let y = c.self.invariant in
     let f = ring_number w.ring in
     first-here (f c.take_first-place.result) (map f c.take_first-place.new.self.places.items) (courses w.ring) (map f w.agenda.places.items)
-    (lines_in w.ring w.lists) w.lists.flush_runs (ap (map f) c.take_first-place.ensures.first) y.within y.tied
+    (lines_in w.ring w.lists.value) w.lists.value.flush_runs (ap (map f) c.take_first-place.ensures.first) y.within y.tied
 
 pub enter-requires-clause-may : goal.enter-requires-clause-may
 enter-requires-clause-may c =
     let w = c.self.inside in
     let t = c.take_first-place in
     let e = c.in-Lane.ensures in
-    rw t.ensures.room
-    (may-enter w.ring c.run_nows.new.ring t.result w.agenda.places.items t.new.self.places.items w.lists (vec_capacity w.agenda.places) e.follows.0
+    rw (c.deref_mut.ensures.value, t.ensures.room)
+    (may-enter w.ring c.run_nows.new.ring t.result w.agenda.places.items t.new.self.places.items w.lists.value (vec_capacity w.agenda.places) e.follows.0
     c.self.invariant t.ensures.first e.ring e.follows.1.0 e.follows.1.1.1 c.in-Lane.kind (sym e.follows.1.1.0))
 
 pub invariant_of-self : goal.invariant_of-self
@@ -31,10 +31,12 @@ invariant_of-self c =
     let w = c.self.inside in
     let t = c.take_first-place in
     let e = c.in-Lane.ensures in
+    let others = rw c.deref_mut.ensures.value at c.enter.ensures.others in
+    let entered = rw c.deref_mut.ensures.value at c.enter.ensures.entered in
     rw (c.enter.ensures.room, t.ensures.room)
-    (enters w.ring c.run_nows.new.ring t.result w.agenda.places.items t.new.self.places.items w.lists (vec_capacity w.agenda.places) e.follows.0
+    (enters w.ring c.run_nows.new.ring t.result w.agenda.places.items t.new.self.places.items w.lists.value (vec_capacity w.agenda.places) e.follows.0
     c.self.invariant t.ensures.first e.ring e.follows.1.0 e.follows.1.1.1 c.args.cause c.in-Lane.kind c.enter.new.ring c.enter.new.agenda.places.items c.enter.new.self
-    (sym e.follows.1.1.0) c.enter.ensures.ring c.enter.ensures.others c.enter.ensures.entered).kept
+    (sym e.follows.1.1.0) c.enter.ensures.ring others entered).kept
 
 pub returns-in-Lane-clause-step : goal.returns-in-Lane-clause-step
 returns-in-Lane-clause-step c =
@@ -42,10 +44,12 @@ returns-in-Lane-clause-step c =
     let t = c.take_first-place in
     let e = c.in-Lane.ensures in
     let new = held c.enter.new.ring c.enter.new.agenda.places.items c.enter.new.self in
+    let others = rw c.deref_mut.ensures.value at c.enter.ensures.others in
+    let entered = rw c.deref_mut.ensures.value at c.enter.ensures.entered in
     subst (λ (h : ManagerState). new ≡ record h { machine = stepped c.args.cause h.machine }) c.self.view_is
-    (enters w.ring c.run_nows.new.ring t.result w.agenda.places.items t.new.self.places.items w.lists (vec_capacity w.agenda.places) e.follows.0
+    (enters w.ring c.run_nows.new.ring t.result w.agenda.places.items t.new.self.places.items w.lists.value (vec_capacity w.agenda.places) e.follows.0
     c.self.invariant t.ensures.first e.ring e.follows.1.0 e.follows.1.1.1 c.args.cause c.in-Lane.kind c.enter.new.ring c.enter.new.agenda.places.items c.enter.new.self
-    (sym e.follows.1.1.0) c.enter.ensures.ring c.enter.ensures.others c.enter.ensures.entered).is
+    (sym e.follows.1.1.0) c.enter.ensures.ring others entered).is
 
 pub invariant_of-self-in-Now : goal.invariant_of-self-in-Now
 invariant_of-self-in-Now c =
@@ -54,7 +58,7 @@ invariant_of-self-in-Now c =
     let e = c.run_nows.ensures in
     let n = ring_number w.ring t.result in
     rw t.ensures.room
-    (finishes w.ring c.run_nows.new.ring t.result w.agenda.places.items t.new.self.places.items w.lists (vec_capacity w.agenda.places) e.follows.0
+    (finishes w.ring c.run_nows.new.ring t.result w.agenda.places.items t.new.self.places.items w.lists.value (vec_capacity w.agenda.places) e.follows.0
     c.self.invariant t.ensures.first e.ring e.follows.1.0 e.follows.1.1.1 c.args.cause
     (none-pending e.follows.0 n (courses w.ring) c.run_nows.result e.follows.1.1.1 e.follows.1.1.0 c.in-Now.is)).kept
 
@@ -64,9 +68,9 @@ returns-in-Now-clause-step c =
     let t = c.take_first-place in
     let e = c.run_nows.ensures in
     let n = ring_number w.ring t.result in
-    let new = held c.run_nows.new.ring t.new.self.places.items w.lists in
+    let new = held c.run_nows.new.ring t.new.self.places.items w.lists.value in
     subst (λ (h : ManagerState). new ≡ record h { machine = stepped c.args.cause h.machine }) c.self.view_is
-    (finishes w.ring c.run_nows.new.ring t.result w.agenda.places.items t.new.self.places.items w.lists (vec_capacity w.agenda.places) e.follows.0
+    (finishes w.ring c.run_nows.new.ring t.result w.agenda.places.items t.new.self.places.items w.lists.value (vec_capacity w.agenda.places) e.follows.0
     c.self.invariant t.ensures.first e.ring e.follows.1.0 e.follows.1.1.1 c.args.cause
     (none-pending e.follows.0 n (courses w.ring) c.run_nows.result e.follows.1.1.1 e.follows.1.1.0 c.in-Now.is)).is
 
@@ -79,7 +83,7 @@ returns-in-Lane-clause-fewer c =
     let step = returns-in-Lane-clause-step c in
     subst (λ (m : Machine). steps_ahead m < steps_ahead c.args.self.now.machine) (sym (ap (λ (h : ManagerState). h.machine) step))
     (subst (λ (h : ManagerState). steps_ahead (stepped c.args.cause h.machine) < steps_ahead h.machine) c.self.view_is
-    (fewer-then w.ring c.run_nows.new.ring t.result w.agenda.places.items t.new.self.places.items w.lists (vec_capacity w.agenda.places) e.follows.0
+    (fewer-then w.ring c.run_nows.new.ring t.result w.agenda.places.items t.new.self.places.items w.lists.value (vec_capacity w.agenda.places) e.follows.0
     c.self.invariant t.ensures.first e.ring e.follows.1.0 e.follows.1.1.1 c.args.cause))
 
 pub returns-in-Now-clause-fewer : goal.returns-in-Now-clause-fewer
@@ -87,11 +91,11 @@ returns-in-Now-clause-fewer c =
     let w = c.self.inside in
     let t = c.take_first-place in
     let e = c.run_nows.ensures in
-    let new = held c.run_nows.new.ring t.new.self.places.items w.lists in
+    let new = held c.run_nows.new.ring t.new.self.places.items w.lists.value in
     let step = returns-in-Now-clause-step c in
     subst (λ (m : Machine). steps_ahead m < steps_ahead c.args.self.now.machine) (sym (ap (λ (h : ManagerState). h.machine) step))
     (subst (λ (h : ManagerState). steps_ahead (stepped c.args.cause h.machine) < steps_ahead h.machine) c.self.view_is
-    (fewer-then w.ring c.run_nows.new.ring t.result w.agenda.places.items t.new.self.places.items w.lists (vec_capacity w.agenda.places) e.follows.0
+    (fewer-then w.ring c.run_nows.new.ring t.result w.agenda.places.items t.new.self.places.items w.lists.value (vec_capacity w.agenda.places) e.follows.0
     c.self.invariant t.ensures.first e.ring e.follows.1.0 e.follows.1.1.1 c.args.cause))
 
 pub returns-in-Lane-clause-stages : goal.returns-in-Lane-clause-stages
@@ -102,7 +106,7 @@ returns-in-Lane-clause-stages c =
     let step = returns-in-Lane-clause-step c in
     subst (λ (m : Machine). stages_left m.left ≤ stages_left c.args.self.now.machine.left) (sym (ap (λ (h : ManagerState). h.machine) step))
     (subst (λ (h : ManagerState). stages_left (stepped c.args.cause h.machine).left ≤ stages_left h.machine.left) c.self.view_is
-    (no-more-then w.ring c.run_nows.new.ring t.result w.agenda.places.items t.new.self.places.items w.lists (vec_capacity w.agenda.places) e.follows.0
+    (no-more-then w.ring c.run_nows.new.ring t.result w.agenda.places.items t.new.self.places.items w.lists.value (vec_capacity w.agenda.places) e.follows.0
     c.self.invariant t.ensures.first e.ring e.follows.1.0 e.follows.1.1.1 c.args.cause))
 
 pub returns-in-Now-clause-stages : goal.returns-in-Now-clause-stages
@@ -113,5 +117,5 @@ returns-in-Now-clause-stages c =
     let step = returns-in-Now-clause-step c in
     subst (λ (m : Machine). stages_left m.left ≤ stages_left c.args.self.now.machine.left) (sym (ap (λ (h : ManagerState). h.machine) step))
     (subst (λ (h : ManagerState). stages_left (stepped c.args.cause h.machine).left ≤ stages_left h.machine.left) c.self.view_is
-    (no-more-then w.ring c.run_nows.new.ring t.result w.agenda.places.items t.new.self.places.items w.lists (vec_capacity w.agenda.places) e.follows.0
+    (no-more-then w.ring c.run_nows.new.ring t.result w.agenda.places.items t.new.self.places.items w.lists.value (vec_capacity w.agenda.places) e.follows.0
     c.self.invariant t.ensures.first e.ring e.follows.1.0 e.follows.1.1.1 c.args.cause))

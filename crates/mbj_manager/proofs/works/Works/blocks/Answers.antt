@@ -8,5 +8,6 @@ use Rattle.mbj_manager.proofs.works.Works.blocks.Goals as goal
 pub returns-clause-full : goal.returns-clause-full
 returns-clause-full c =
     let k = c.args.kind in
-    c.blocks-2.ensures ∙ (c.self.invariant.within.lanes k).blocks
+    let blocks = rw c.deref.ensures at c.blocks-2.ensures in
+    blocks ∙ (c.self.invariant.within.lanes k).blocks
     ∙ ap (λ (h : ManagerState). (lanes_of k * (queue_for k h.machine).rounds) % count_end) c.self.view_is
