@@ -29,6 +29,10 @@ void *__wrap_malloc(size_t len) {
     return is_refused() ? NULL : counted(__real_malloc(len));
 }
 
+void *__wrap_aligned_alloc(size_t alignment, size_t len) {
+    return is_refused() ? NULL : counted(__real_aligned_alloc(alignment, len));
+}
+
 void *__wrap_calloc(size_t count, size_t len) {
     return is_refused() ? NULL : counted(__real_calloc(count, len));
 }

@@ -21,6 +21,8 @@ extern const char *faked_missing_feature;
 /* The linker puts the first of each pair in the place of the function, which is the second. */
 void *__wrap_malloc(size_t len);
 void *__real_malloc(size_t len);
+void *__wrap_aligned_alloc(size_t alignment, size_t len);
+void *__real_aligned_alloc(size_t alignment, size_t len);
 void *__wrap_calloc(size_t count, size_t len);
 void *__real_calloc(size_t count, size_t len);
 void *__wrap_realloc(void *old, size_t len);
