@@ -24,6 +24,10 @@ struct mbj_block {
     void *at;
 };
 
+/* A manager's lanes keep vectors in long blocks, and one that crosses a cache line takes longer to load. So a heap does well to begin blocks
+ * from MBJ_HEAP_LONG bytes on at a multiple of MBJ_HEAP_LINE; it need not. A packet of 1,500 bytes isn't in a long block. */
+enum { MBJ_HEAP_LONG = 4096, MBJ_HEAP_LINE = 64 };
+
 /* A new block of len bytes or more, at a multiple of align, which is 1, 2, 4, 8 or 16. len is below 2^63, and may be 0: the block has an
  * address of its own then too. Its bytes may be anything. Nothing else uses them until it is freed. Where there is none, the call that
  * asked returns that memory wants, and changes nothing. */

@@ -74,10 +74,15 @@ static void take_out(struct mbj_pool *pool, struct free_block *block) {
 
 /* ---- blocks of a pool ---- */
 
+/* How many bytes of a block stand before those that were asked for. The head of a long block fills a cache line. */
+static size_t head_room(size_t len) {
+    return len >= MBJ_HEAP_LONG ? (size_t)MBJ_HEAP_LINE : sizeof(struct head);
+}
+
 /* The order of the least block that has room for so many bytes and its head; ORDERS where no order has. */
 static uint32_t order_for(size_t len) {
     uint32_t order = LEAST_ORDER;
-    while (order < ORDERS && length_of(order) - sizeof(struct head) < len)
+    while (order < ORDERS && length_of(order) - head_room(len) < len)
         order++;
     return order;
 }
@@ -85,8 +90,9 @@ static uint32_t order_for(size_t len) {
 /* How far behind the block's front the bytes begin, beside its head. Blocks begin at multiples of a power of two, and bytes that all began
  * there would share few sets of a cache: so blocks beside each other have theirs at different lines, as far as there is room. */
 static size_t shift_of(size_t off, uint32_t order, size_t len) {
-    size_t lines = (length_of(order) - sizeof(struct head) - len) >> LEAST_ORDER;
-    return lines == 0 ? 0 : (off >> order) % (lines + 1) << LEAST_ORDER;
+    size_t lines = (length_of(order) - head_room(len) - len) >> LEAST_ORDER;
+    size_t shift = lines == 0 ? 0 : (off >> order) % (lines + 1) << LEAST_ORDER;
+    return shift + head_room(len) - sizeof(struct head);
 }
 
 static struct head *put_head(struct head *front, size_t shift) {

@@ -25,7 +25,8 @@ struct mbj_pool *mbj_pool_make(void *at, size_t len, bool has_overflow);
 struct mbj_pool *mbj_pool_name(struct mbj_pool *pool);
 
 /* How much of a pool is in use now, and the most that ever was: to see how long it has to be. A block is counted with all that it takes,
- * which is what was asked for and 16 bytes, rounded up to a power of two from 64 on. What malloc gave isn't counted among these bytes. */
+ * which is what was asked for and 16 bytes, or 64 where that was MBJ_HEAP_LONG or more, rounded up to a power of two from 64 on. What malloc
+ * gave isn't counted among these bytes. */
 struct mbj_pool_counts {
     size_t bytes, most_bytes, blocks, overflow_blocks, most_overflow_blocks;
 };

@@ -94,9 +94,21 @@ static void all_of_the_memory_is_used(void) {
 /* Once all is free a block of half the memory is there again. */
 static void halves_are_joined(struct mbj_pool *pool) {
     struct filled half;
-    CHECK(is_unused(pool) && fill_new(&half, LONG / 2 - 16, 9));
+    CHECK(is_unused(pool) && fill_new(&half, LONG / 2 - MBJ_HEAP_LINE, 9));
     CHECK(mbj_pool_count(pool).bytes == LONG / 2 && mbj_pool_count(pool).most_bytes >= LONG / 2);
     free_filled(&half);
+}
+
+static void long_blocks_begin_at_a_line(struct mbj_pool *pool) {
+    static const size_t lens[] = {MBJ_HEAP_LONG, 5000, 7680, 8192 - MBJ_HEAP_LINE, 8192, 16385};
+    for (size_t i = 0; i < sizeof lens / sizeof *lens; i++) {
+        struct filled one, other;
+        CHECK(fill_new(&one, lens[i], 1) && fill_new(&other, lens[i], 2));
+        CHECK((uintptr_t)one.at % MBJ_HEAP_LINE == 0 && (uintptr_t)other.at % MBJ_HEAP_LINE == 0);
+        free_filled(&one);
+        free_filled(&other);
+    }
+    CHECK(is_unused(pool));
 }
 
 static void a_block_grows(struct mbj_pool *pool) {
@@ -177,6 +189,7 @@ static void blocks_of_a_pool(void) {
     mbj_pool_name(pool);
     too_long_a_block_is_refused(pool);
     a_block_grows(pool);
+    long_blocks_begin_at_a_line(pool);
     halves_are_joined(pool);
     CHECK(drawn_calls() > 0);
     halves_are_joined(pool);
