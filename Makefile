@@ -21,7 +21,7 @@ make install     copies what was built to PREFIX=/usr/local, below DESTDIR= wher
                  LIBDIR= INCLUDEDIR= BINDIR= MANDIR= DOCDIR= may be given too
 make uninstall   removes what was installed, with the same settings
 make mbjobs      builds the program mbjobs, having proved it; make install copies that too
-make dropin      builds a library that stands in for Intel's libIPSec_MB.so.1, in a folder of its own. It wants the header of
+make dropin      builds a library that stands in for Intel's libIPSec_MB.so.1, in a folder of its own. It needs the header of
                  intel-ipsec-mb 1.3 (Debian's libipsec-mb-dev), and holds a build for AVX2 too
 make check-dropin builds and tests that library, beside Intel's and with DPDK where they are installed
 make install-dropin PREFIX=FOLDER

@@ -24,7 +24,7 @@ static const IMB_HASH_ALG auths[] = {IMB_AUTH_NULL,         IMB_AUTH_HMAC_SHA_1,
                                      IMB_AUTH_SHA_512,      IMB_AUTH_HMAC_SHA_1,   IMB_AUTH_HMAC_SHA_224, IMB_AUTH_HMAC_SHA_256,
                                      IMB_AUTH_HMAC_SHA_384, IMB_AUTH_HMAC_SHA_512, IMB_AUTH_AES_GMAC,     IMB_AUTH_AES_CCM};
 
-/* A manager, and what its job interface wants of keys, which is made before any job is timed. */
+/* A manager, and what its job interface needs of keys, which is made before any job is timed. */
 struct started {
     DECLARE_ALIGNED(uint32_t enc[60], 16);
     DECLARE_ALIGNED(uint32_t dec[60], 16);

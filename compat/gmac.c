@@ -80,7 +80,7 @@ static void begin(const struct gcm_key_data *key, struct gcm_context_data *conte
     set_gathered(context, made);
 }
 
-/* Where memory wants, the context is none from then on: the last call is refused, and gives no tag. */
+/* Where memory runs out, the context is none from then on: the last call is refused, and gives no tag. */
 static void part(const struct gcm_key_data *key, struct gcm_context_data *context, const uint8_t *in, uint64_t len) {
     if (!direct_error(null_of(key, context, len == 0 ? (const void *)&len : in, IMB_ERR_NULL_SRC)))
         return;

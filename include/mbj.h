@@ -261,7 +261,7 @@ bool mbj_c_flush(struct mbj_handle *, struct mbj_raw_done *, uint32_t *refusal);
 uint32_t mbj_c_fill_burst(struct mbj_handle *, const struct mbj_raw_job *jobs, size_t jobs_len, uint32_t *refusals, size_t refusals_len);
 
 /* Makes the single call of the name as many times as there are rooms. The results that are given go to the rooms in order, and the rooms
- * behind them stay as they were. Each call wants room for the result that comes next, as a single one does. No two rooms of a burst
+ * behind them stay as they were. Each call needs room for the result that comes next, as a single one does. No two rooms of a burst
  * overlap. */
 void mbj_c_submit_burst(struct mbj_handle *, struct mbj_raw_done *rooms, size_t rooms_len, struct mbj_raw_burst *);
 void mbj_c_get_completed_burst(struct mbj_handle *, struct mbj_raw_done *rooms, size_t rooms_len, struct mbj_raw_burst *);
@@ -334,9 +334,10 @@ uint32_t mbj_gcm_update(struct mbj_gcm_state *, struct mbj_room part);
 uint32_t mbj_gcm_finish(struct mbj_gcm_state *, struct mbj_room tag);
 
 /* Seal and open a text of at most 65,535 bytes in place by CCM (SP 800-38C), and fill tag with its tag, which is as long as tag. They copy
- * the nonce, the additional data and the text, and return MBJ_ERR_MEMORY for want of memory. MBJ_ERR_KEY_LENGTH where the key hasn't 16, 24
- * or 32 bytes, MBJ_ERR_IV_LENGTH where the nonce hasn't 7 to 13, MBJ_ERR_AAD_LENGTH where aad has more than 65,279, MBJ_ERR_TEXT_LENGTH
- * where the text is longer, MBJ_ERR_TAG_LENGTH where tag hasn't 4, 6, 8, 10, 12, 14 or 16. mbj_ccm_open compares nothing. */
+ * the nonce, the additional data and the text, and return MBJ_ERR_MEMORY where memory runs out. MBJ_ERR_KEY_LENGTH where the key hasn't
+ * 16, 24 or 32 bytes, MBJ_ERR_IV_LENGTH where the nonce hasn't 7 to 13, MBJ_ERR_AAD_LENGTH where aad has more than 65,279,
+ * MBJ_ERR_TEXT_LENGTH where the text is longer, MBJ_ERR_TAG_LENGTH where tag hasn't 4, 6, 8, 10, 12, 14 or 16. mbj_ccm_open compares
+ * nothing. */
 uint32_t mbj_ccm_seal(struct mbj_bytes key, struct mbj_bytes nonce, struct mbj_bytes aad, struct mbj_room text, struct mbj_room tag);
 uint32_t mbj_ccm_open(struct mbj_bytes key, struct mbj_bytes nonce, struct mbj_bytes aad, struct mbj_room text, struct mbj_room tag);
 
@@ -699,7 +700,7 @@ static inline void mbj_say_refused_(struct mbj_raw_job *raw) {
     raw->session = MBJ_NO_SESSION;
 }
 
-/* Notes where the job's result goes. A cipher range that passes the packet's end is refused, and wants no room. */
+/* Notes where the job's result goes. A cipher range that passes the packet's end is refused, and needs no room. */
 static inline void mbj_note_slot_(struct mbj_slot *slot, const MBJ_JOB *job, uint32_t reason) {
     uint64_t off = job->cipher_start_src_offset_in_bytes, len = job->msg_len_to_cipher_in_bytes, end = job->packet_len_in_bytes;
     bool is_written = reason == MBJ_REASON_NONE && mbj_has_cipher_(job) && off <= end && len <= end - off;

@@ -30,7 +30,7 @@ enum { MBJ_HEAP_LONG = 4096, MBJ_HEAP_LINE = 64 };
 
 /* A new block of len bytes or more, at a multiple of align, which is 1, 2, 4, 8 or 16. len is below 2^63, and may be 0: the block has an
  * address of its own then too. Its bytes may be anything. Nothing else uses them until it is freed. Where there is none, the call that
- * asked returns that memory wants, and changes nothing. */
+ * asked returns that memory ran out, and changes nothing. */
 struct mbj_block rattle_alloc(size_t len, size_t align);
 
 /* Makes the block at old one of len bytes or more, which may be elsewhere. Its first kept bytes are as they were; kept is at most len, and

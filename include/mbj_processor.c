@@ -1,5 +1,5 @@
 /* What an archive was built for, and whether the processor has it. `make` compiles this file into each archive, for every x86-64. It
- * wants MBJ_LEVEL, 2 or 3, the level of x86-64 that the archive was built for, and MBJ_TOOLCHAIN, the line of the toolchain that made it.
+ * needs MBJ_LEVEL, 2 or 3, the level of x86-64 that the archive was built for, and MBJ_TOOLCHAIN, the line of the toolchain that made it.
  *
  * The levels are those of the System V ABI, AMD64 supplement, 3.1.1. */
 #include "mbj.h"

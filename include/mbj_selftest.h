@@ -1,4 +1,4 @@
-/* Known answers at start, for a program that wants them: jobs whose results the standards have, through a manager of the library. They see
+/* Known answers at start, for a program that checks them: jobs whose results the standards have, through a manager of the library. They see
  * that the library, as it was linked and loaded here, still computes what was proved. Compile mbj_selftest.c into the program. */
 #ifndef MBJ_SELFTEST_H
 #define MBJ_SELFTEST_H

@@ -118,7 +118,7 @@ static void bursts_without_a_manager(void) {
     CHECK(mbj_get_errno(&own) == MBJ_ERR_NO_MANAGER && jobs[1]->status == MBJ_STATUS_ERROR && mbj_flush_burst(&own, 2, done) == 0);
 }
 
-/* Where memory wants in the middle of a burst, the jobs before are submitted; the rest stay handed out, and are submitted then. */
+/* Where memory runs out in the middle of a burst, the jobs before are submitted; the rest stay handed out, and are submitted then. */
 static bool a_burst_goes_on_where_memory_wanted(MBJ_MGR *m, long at) {
     enum { SIZE = 40 };
     MBJ_JOB *jobs[SIZE], *done[SIZE];

@@ -92,7 +92,7 @@ static void what_was_read_is_used_anew(MBJ_MGR *m) {
     CHECK(mbj_flush_job(m) == job && is_done(job) && memcmp(dst, cbc_ciphertext, CBC_BYTES) == 0);
 }
 
-/* No pointer wants an alignment. */
+/* No pointer needs an alignment. */
 static void odd_addresses(MBJ_MGR *m) {
     enum { ROOM = 64 };
     static uint64_t words[6][ROOM / 8];

@@ -63,7 +63,7 @@ static const struct {
 
 enum { BITS = sizeof bits / sizeof *bits };
 
-/* Exactly what the level wants. */
+/* Exactly what the level needs. */
 static void make_processor(void) {
     memset(&processor, 0, sizeof processor);
     processor.last_leaf = 7;

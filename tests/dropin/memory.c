@@ -170,7 +170,7 @@ static void check_want_of_memory(void) {
         done += job->status == IMB_STATUS_COMPLETED;
     }
     is_heap_empty = false;
-    expect(back == JOBS - 1 && failed > 0 && done > 0 && done + failed == back, "jobs for which memory wants come back as failed");
+    expect(back == JOBS - 1 && failed > 0 && done > 0 && done + failed == back, "jobs for which memory runs out come back as failed");
     expect(submit(m, 5, 64) + flush(m) == 5, "the manager goes on after that");
     unmap_zone(zone, 0);
 }

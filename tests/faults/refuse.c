@@ -1,5 +1,5 @@
 /* Refuses one allocation of the program that it is preloaded to: that with the number in MBJ_REFUSE, from 1 on, of all that are asked
-   for in any thread. When it does, it makes the file that MBJ_TOLD names, since a program may end without a call of its own. It wants
+   for in any thread. When it does, it makes the file that MBJ_TOLD names, since a program may end without a call of its own. It needs
    glibc. */
 #include <errno.h>
 #include <fcntl.h>
