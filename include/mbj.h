@@ -267,7 +267,7 @@ void mbj_c_submit_burst(struct mbj_handle *, struct mbj_raw_done *rooms, size_t 
 void mbj_c_get_completed_burst(struct mbj_handle *, struct mbj_raw_done *rooms, size_t rooms_len, struct mbj_raw_burst *);
 void mbj_c_flush_burst(struct mbj_handle *, struct mbj_raw_done *rooms, size_t rooms_len, struct mbj_raw_burst *);
 
-/* Key sessions: keys of AES that many jobs share, on any threads, and that are expanded once. */
+/* Key sessions: keys of AES that many jobs share, on any threads, and that their submissions expand once. */
 
 #define MBJ_MAX_SESSIONS 256
 
