@@ -28,6 +28,15 @@ const DIRECTIONS: u32 = 2;
 ///
 /// Each pattern of these bytes is a value. `is_state` tells those that a text can go on from, which `begin` makes; all zero bytes are
 /// none.
+///
+/// A text in three parts, and its tag:
+///
+/// ```
+/// state.update(first);
+/// state.update(second);
+/// state.update(third);
+/// let found = state.finish();
+/// ```
 #[repr(C)]
 #[derive(Clone, Copy)]
 pub struct GcmState {
