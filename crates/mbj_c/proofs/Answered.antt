@@ -1,4 +1,4 @@
--- What an answer's code says, where memory may want.
+-- What an answer's code says, where memory may run out.
 use Rattle.std.proofs.Common.{◌≡◌, ◌≢◌, ◌∙◌, Ok, Err, Result, Some, refl, ap}
 use Rattle.mbj_c.specs.declared.refusal.Refusal.{Refusal}
 use Rattle.mbj_c.specs.Codes.{code_of, refusal_code}

@@ -128,7 +128,7 @@ fn front(alloc: Global, states: [u8; MAX_BLOCK_BYTES], len: usize) -> Result<Byt
     Bytes::from_slice(alloc, &states[..len])
 }
 
-/// The states of a key, where the authentication wants these, or else the key itself.
+/// The states of a key, where the authentication takes these, or else the key itself.
 fn auth_key(alloc: Global, auth: Auth, key: Vec<u8>) -> Result<Bytes, AllocError> {
     match auth {
         Auth::HmacSha1States => front(alloc, states(Auth::HmacSha1, &key), 40),

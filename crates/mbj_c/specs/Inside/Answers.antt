@@ -12,7 +12,7 @@ IsDoneAs (Err q) next before answer after = (answer ≡ Err q) × (after ≡ nex
 abbrev pub IsDone : {A : Type 0} → Result Unit Refusal × A → A → Result Unit Refusal → A → Type 0
 IsDone want before answer after = IsDoneAs want.0 want.1 before answer after
 
--- a call that something speaks against is refused for it; another one is done, unless memory wants
+-- a call that something speaks against is refused for it; another one is done, unless memory runs out
 abbrev pub IsAnswerTo : {A : Type 0} → Option Refusal → Result A Refusal → Type 0
 IsAnswerTo (Some r) answer = answer ≡ Err r
 IsAnswerTo None (Ok x) = Unit {0}

@@ -1,4 +1,4 @@
--- What a call wants before it is made, and before its result is written.
+-- What a call needs before it is made, and before its result is written.
 use Rattle.std.specs.Prelude.{◌+◌, ◌<◌, ◌≤◌, List, [], ◌∷◌, length}
 use Rattle.mbj_types.specs.declared.done.Done.{Done}
 use Rattle.mbj_types.specs.declared.limits.TheConstants.{MAX_TAG_BYTES}

@@ -72,7 +72,7 @@ fn the_ciphered_range_alone_is_given_back(rt: HostRuntime) {
     close(&rt, alloc, handle);
 }
 
-/// Submits a job that the table refuses: its result wants no room for bytes, and has a reason.
+/// Submits a job that the table refuses: its result needs no room for bytes, and has a reason.
 fn check_refused_job(
     rt: &impl Abort,
     alloc: Global,

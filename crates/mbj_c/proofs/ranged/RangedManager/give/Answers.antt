@@ -1,4 +1,4 @@
--- A call with a job, where it wants one, and with room for the first result that is owed isn't refused.
+-- A call with a job, where it takes one, and with room for the first result that is owed isn't refused.
 use Rattle.std.proofs.Common.{◌≡◌, ◌∙◌, Bool, None, Ok, Option, Result, Some, ap, false, refl, subst, sym, true}
 use Rattle.std.specs.Prelude.{if◌then◌else◌}
 use Rattle.mbj_c.specs.Given.{Given}
