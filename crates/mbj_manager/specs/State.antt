@@ -23,7 +23,7 @@ pub record ManagerState : Type 0 where
   pub opened : List Job
   -- where the submitted jobs stand
   pub machine : Machine
-  -- how many keys of ciphers were expanded as jobs were submitted, modulo 2^64
+  -- for how many submitted jobs the key of the cipher is expanded, modulo 2^64
   pub expansions : ℕ
 
 -- a manager with no job and no open one, and with lanes in which no job waits and nothing ran

@@ -31,7 +31,7 @@ pub struct Seat {
 }
 
 impl Seat {
-    /// Begins the course of the job that was filled. Returns whether the job's key was expanded.
+    /// Begins the course of the job that was filled. Returns whether the job's key is expanded for it alone.
     fn begin(&mut self, found: Option<&Schedule>) -> bool
         requires schedule { IfSome found (λ s. IsScheduleOf self.old.job.key s.now) }
         ensures course { self.new.course ≡ begun self.old.job }
@@ -40,7 +40,7 @@ impl Seat {
     {
         self.course.begin_in_place(&mut self.job, found);
         self.is_going = true;
-        self.course.has_schedule() && found.is_none()
+        self.course.uses_key() && found.is_none()
     }
 }
 
@@ -122,7 +122,7 @@ impl Cell {
 
     /// Begins the course of the job that was filled. It takes no memory.
     ///
-    /// Returns whether the job's key was expanded: it is where its schedule is wanted and wasn't found.
+    /// Returns whether the job's key is expanded for it alone: it is where the key is used and its schedule wasn't found.
     pub(crate) fn begin(&mut self, found: Option<&Schedule>) -> bool
         requires is_open { IsOpen self.old }
         requires schedule { IfSome found (λ s. IsScheduleOf (job_in self.old).key s.now) }

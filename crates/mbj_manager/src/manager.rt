@@ -50,7 +50,7 @@ pub const KEPT_BYTES: usize = 2048;
 #[derive(Drop)]
 pub struct Manager {
     works: Works,
-    // How many keys of ciphers were expanded as jobs were submitted, modulo 2^64.
+    // For how many submitted jobs the key of the cipher is expanded, modulo 2^64.
     expansions: u64,
 }
 
@@ -273,8 +273,9 @@ impl Manager {
         self.works.trim();
     }
 
-    /// How many keys of ciphers were expanded as jobs were submitted, modulo 2^64. A submission expands the key of an accepted job
-    /// that has a cipher, unless the schedule is that of an entry of shared keys. What lanes expand for themselves isn't counted.
+    /// For how many submitted jobs the key of the cipher is expanded, modulo 2^64: each job that is accepted and has a cipher, unless the
+    /// schedule is that of an entry of shared keys. A key of CBC encryption counts as the job is submitted, and is expanded when its lanes
+    /// run next. What lanes expand besides isn't counted.
     pub fn expansions(&self) -> u64
         ensures { result ≡ self.now.expansions }
     {

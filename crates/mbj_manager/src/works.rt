@@ -154,7 +154,7 @@ impl Works {
 
     /// The first job that was filled goes last among those that are submitted, and stands in the agenda.
     ///
-    /// Returns whether its key was expanded: it is where its schedule is wanted and wasn't found.
+    /// Returns whether its key is expanded for it alone: it is where the key is used and its schedule wasn't found.
     pub(crate) fn add(&mut self, found: Option<&Schedule>) -> bool
         requires some { 0 < length self.old.opened }
         requires idle { self.old.machine.agenda ≡ [] }

@@ -22,6 +22,7 @@ use Rattle.mbj_stage.proofs.Gcms.{ccm_both}
 
 -- what the argument table tells of CBC over a packet of n bytes
 pub record IsCbc (j : Job) (n : ℕ) : Type 0 where
+  pub key : IsKeySize (length j.key)
   pub range : j.cipher_off + j.cipher_len ≤ n
   pub some : 0 < j.cipher_len
   pub whole : j.cipher_len % 16 ≡ 0
@@ -31,6 +32,7 @@ cbc-accepted j n none cbc =
     let a = accepted j n none in
     let len = and_parts (nat_lt 0 j.cipher_len) (j.cipher_len % 16 == 0) (ap (λ (c : Cipher). takes_range c j.cipher_len) (sym cbc) ∙ a.cipher_len) in
     record {
+      key = ap (λ (c : Cipher). takes_key c (length j.key)) (sym cbc) ∙ a.key;
       range = a.cipher_range (ap is_null_cipher cbc);
       some = ltb-true 0 j.cipher_len len.0;
       whole = eqb-true (j.cipher_len % 16) 0 len.1;

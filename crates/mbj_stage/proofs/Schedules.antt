@@ -1,19 +1,22 @@
 -- The schedule of a job's key, and where it is at hand.
-use Rattle.std.proofs.Common.{◌≡◌, ◌≢◌, ℕ, List, [], ◌∷◌, drop, true, false, not, Option, Some, None, is_some, IfSome, length, refl, ap, ◌∙◌}
+use Rattle.std.proofs.Common.{◌≡◌, ◌≢◌, ℕ, List, [], ◌∷◌, drop, true, false, Option, Some, None, is_some, IfSome, length, refl, ap, ◌∙◌}
 use Rattle.std.proofs.Math.Path.{fun_ext}
 use Rattle.mbj_types.specs.declared.job.Job.{Job}
 use Rattle.mbj_types.specs.declared.job.Cipher.{Cipher}
 use Rattle.mbj_types.specs.declared.job.Cipher.TheVariants as cipher
+use Rattle.mbj_types.specs.declared.job.Dir.{Dir}
+use Rattle.mbj_types.specs.declared.job.Dir.TheVariants.{Enc, Dec}
 use Rattle.mbj_types.specs.declared.reason.Reason.{Reason}
-use Rattle.mbj_types.specs.Verdict.{is_null_cipher, takes_key, verdict}
+use Rattle.mbj_types.specs.Verdict.{takes_key, verdict}
 use Rattle.mbj_types.specs.Aes.{aes, aes_inverse, encipher, decipher}
 use Rattle.mbj_aes.specs.Bytes.{IsKeySize}
 use Rattle.mbj_aes.proofs.ExpandedKeys.{encipher-key_schedule, decipher-key_schedule}
 use Rattle.mbj_args.proofs.Accepted.{accepted}
 use Rattle.mbj_keys.specs.Schedules.{IsScheduleOf}
 use Rattle.mbj_stage.specs.declared.stage.Step.{Step}
-use Rattle.mbj_stage.specs.Steps.{cipher_steps, steps_by}
-use Rattle.mbj_stage.specs.Keys.{wants_schedule}
+use Rattle.mbj_stage.specs.declared.stage.Stage.TheVariants as stage
+use Rattle.mbj_stage.specs.Steps.{cipher_stage_by, cipher_steps, steps_by}
+use Rattle.mbj_stage.specs.Keys.{needs_schedule, wants_schedule}
 use Rattle.mbj_stage.specs.Inside.Kept.{IsKeyed, IsNextStep}
 
 -- a schedule enciphers as its key does
@@ -30,33 +33,34 @@ none-later (s ∷ left) some is = some (ap (drop 1) is)
 
 -- it is at hand as long as a step is left
 pub keyed-later : (j : Job) (left later : List Step) (schedule : Option (List ℕ)) → IsKeyed j left schedule → later ≡ drop 1 left → IsKeyed j later schedule
-keyed-later j left later schedule keyed is some ciphers = keyed (none-later left (λ none. some (is ∙ none))) ciphers
+keyed-later j left later schedule keyed is some needs = keyed (none-later left (λ none. some (is ∙ none))) needs
 
 -- at the start, when another packet stands in the job
 pub keyed-begun : (reason : Option Reason) (j : Job) (q : List ℕ) (left : List Step) (schedule : Option (List ℕ)) → left ≡ steps_by reason j
-    → is_some schedule ≡ wants_schedule reason j.cipher → IfSome schedule (IsScheduleOf j.key) → IsKeyed (record j { packet = q }) left schedule
-keyed-begun None j q left None steps wanted is some ciphers = let bad : false ≡ true = wanted ∙ ap not ciphers in cc
-keyed-begun None j q left (Some schedule) steps wanted is some ciphers = is
-keyed-begun (Some reason) j q left schedule steps wanted is some ciphers = absurd (some steps)
+    → is_some schedule ≡ wants_schedule reason j.cipher j.dir → IfSome schedule (IsScheduleOf j.key) → IsKeyed (record j { packet = q }) left schedule
+keyed-begun None j q left None steps wanted is some needs = let bad : false ≡ true = wanted ∙ needs in cc
+keyed-begun None j q left (Some schedule) steps wanted is some needs = is
+keyed-begun (Some reason) j q left schedule steps wanted is some needs = absurd (some steps)
 
-takes-size : (c : Cipher) (n : ℕ) → is_null_cipher c ≡ false → takes_key c n ≡ true → IsKeySize n
-takes-size cipher.Null n some takes = cc
-takes-size cipher.Cbc n some takes = takes
-takes-size cipher.Ctr n some takes = takes
-takes-size cipher.Gcm n some takes = takes
-takes-size cipher.Ccm n some takes = takes
+takes-size : (c : Cipher) (d : Dir) (n : ℕ) → needs_schedule c d ≡ true → takes_key c n ≡ true → IsKeySize n
+takes-size cipher.Null d n needs takes = cc
+takes-size cipher.Cbc d n needs takes = takes
+takes-size cipher.Ctr d n needs takes = takes
+takes-size cipher.Gcm d n needs takes = takes
+takes-size cipher.Ccm d n needs takes = takes
 
--- the key of an accepted job with a cipher can be expanded
-pub key-size : (j : Job) → verdict j ≡ None → is_null_cipher j.cipher ≡ false → IsKeySize (length j.key)
-key-size j none some = takes-size j.cipher (length j.key) some (accepted j (length j.packet) none).key
+-- the key of an accepted job that needs its schedule can be expanded
+pub key-size : (j : Job) → verdict j ≡ None → needs_schedule j.cipher j.dir ≡ true → IsKeySize (length j.key)
+key-size j none needs = takes-size j.cipher j.dir (length j.key) needs (accepted j (length j.packet) none).key
 
--- a cipher with a step is one
-pub step-ciphers : (c : Cipher) (s : Step) → cipher_steps c ≡ s ∷ [] → is_null_cipher c ≡ false
-step-ciphers cipher.Null s is = cc
-step-ciphers cipher.Cbc s is = refl
-step-ciphers cipher.Ctr s is = refl
-step-ciphers cipher.Gcm s is = refl
-step-ciphers cipher.Ccm s is = cc
+-- a cipher that is done at once needs the schedule
+pub step-needs : (c : Cipher) (d : Dir) (n : ℕ) (s : Step) → cipher_steps c ≡ s ∷ [] → cipher_stage_by c d n ≡ stage.Now → needs_schedule c d ≡ true
+step-needs cipher.Null d n s is now = cc
+step-needs cipher.Cbc Enc n s is now = cc
+step-needs cipher.Cbc Dec n s is now = refl
+step-needs cipher.Ctr d n s is now = refl
+step-needs cipher.Gcm d n s is now = refl
+step-needs cipher.Ccm d n s is now = cc
 
 -- where a step is next, one is left
 pub next-some : (s : Step) (left : List Step) → IsNextStep s left → left ≢ []

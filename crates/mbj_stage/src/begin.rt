@@ -14,7 +14,8 @@ use mbj_keys::{Keys, Notes};
 use mbj_types::Job;
 
 impl Course {
-    /// The course of a job, with nothing done. The key of a job that is accepted and has a cipher is expanded.
+    /// The course of a job, with nothing done. The key of a job that is accepted and has a cipher is expanded, but for CBC encryption,
+    /// whose lanes expand it.
     pub fn begin(job: Job) -> Course
         ensures begun { result ≡ begun job }
         ensures owed { owed result ≡ result_of job }
@@ -49,14 +50,14 @@ impl Course {
         ensures { result ≡ begun job }
     {
         let reason = check(&job);
+        let session = session_of(&job, found);
         if !wants_schedule(reason, &job) {
-            return Course::start(job, reason, None, None);
+            return Course::start(job, reason, None, session);
         }
         let schedule = match found {
             Some(schedule) => *schedule,
             None => expanded(job.key.as_slice()),
         };
-        let session = session_of(&job, found);
         Course::start(job, reason, Some(schedule), session)
     }
 

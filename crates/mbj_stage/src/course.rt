@@ -1,16 +1,16 @@
-ghost use Rattle.std.specs.Prelude.{◌≡◌, [], ◌∷◌, None, false, length, is_some, IfSome};
+ghost use Rattle.std.specs.Prelude.{◌≡◌, [], ◌∷◌, None, true, length, is_some, IfSome};
 ghost use Rattle.mbj_types.specs.Blank.{blank};
-ghost use Rattle.mbj_types.specs.Verdict.{is_null_cipher, verdict, verdict_at};
+ghost use Rattle.mbj_types.specs.Verdict.{verdict, verdict_at};
 ghost use Rattle.mbj_keys.specs.Schedules.{IsScheduleOf};
 ghost use Rattle.mbj_stage.specs.declared.stage.Stage.TheVariants as stage;
 ghost use Rattle.mbj_stage.specs.Steps.{stage_at, steps_in};
 ghost use Rattle.mbj_stage.specs.Inside.Kept.{HasSchedule, IsStepOf};
-ghost use Rattle.mbj_stage.specs.Keys.{wants_schedule};
+ghost use Rattle.mbj_stage.specs.Keys.{needs_schedule, uses_key, wants_schedule};
 ghost use Rattle.mbj_stage.specs.CourseState.{stage_of, begun, packet_after, tag_after, ran, status_of, owed};
 
 mod handing;
 
-use crate::keyed::{at_hand, expanded, wants_schedule};
+use crate::keyed::{at_hand, expanded, uses_key, wants_schedule};
 use crate::lengths::{Lengths, lengths_of};
 use crate::stage::{Stage, Step, Steps, stage_of_step, steps_by};
 use crate::{ccm, cipher, gcm, gmac};
@@ -28,8 +28,8 @@ use std::mem;
 /// CBC encryption, CMAC, HMAC, digests and CCM's MAC are done in lanes: a call hands the packet out in an entry, and another one takes it
 /// back once the entry's rounds are done. `run_now` does all else.
 ///
-/// No call takes memory. The key of a cipher is expanded as the course begins, unless its schedule is found there. The key of a CMAC
-/// is expanded in its lane, and that of another authentication is prepared as its stage begins.
+/// No call takes memory. The key of a cipher is expanded as the course begins, unless its schedule is found there. The keys of CBC
+/// encryption and of CMAC are expanded in their lanes, and that of another authentication is prepared as its stage begins.
 ///
 /// ```
 /// let mut course = Course::begin(job);
@@ -52,7 +52,7 @@ pub struct Course {
     // The length of the packet while it is out.
     out: Option<usize>,
     lengths: Lengths,
-    // Of the cipher's key, where the job is accepted and has a cipher.
+    // Of the cipher's key, where the job is accepted and has a cipher, but for CBC encryption.
     schedule: Option<Schedule>,
     // The session in which the key was learnt, if there is one.
     session: Option<u32>,
@@ -79,7 +79,7 @@ impl Model for Course {
 
 /// Does a step of an accepted job that is done at once.
 fn run_step(step: Step, job: &Job, schedule: &Option<Schedule>, packet: &mut Vec<u8>, tag: &mut Tag)
-    requires keyed { is_null_cipher job.now.cipher ≡ false → HasSchedule job.now schedule.now }
+    requires keyed { needs_schedule job.now.cipher job.now.dir ≡ true → HasSchedule job.now schedule.now }
     requires own { IsStepOf job.now step }
     requires now { stage_at job.now (step ∷ []) ≡ stage.Now }
     requires accepted { verdict_at job.now (length packet.old.items) ≡ None }
@@ -116,7 +116,7 @@ fn keep_schedule(
 )
     requires reason { reason ≡ verdict job.now }
     requires found { IfSome found (λ s. IsScheduleOf job.now.key s.now) }
-    ensures wanted { is_some kept.new ≡ wants_schedule reason job.now.cipher }
+    ensures wanted { is_some kept.new ≡ wants_schedule reason job.now.cipher job.now.dir }
     ensures schedule { IfSome kept.new (IsScheduleOf job.now.key) }
 {
     if !wants_schedule(reason, job) {
@@ -165,7 +165,7 @@ impl Course {
         session: Option<u32>,
     ) -> Course
         requires reason { reason ≡ verdict job }
-        requires wanted { is_some schedule ≡ wants_schedule reason job.cipher }
+        requires wanted { is_some schedule ≡ wants_schedule reason job.cipher job.dir }
         requires schedule { IfSome schedule (IsScheduleOf job.key) }
         ensures { result ≡ begun job }
     {
@@ -228,11 +228,11 @@ impl Course {
         self.session = None;
     }
 
-    /// Whether the course has the schedule of its job's key: it has where the job is accepted and has a cipher.
-    pub fn has_schedule(&self) -> bool
-        ensures { result ≡ wants_schedule self.now.reason self.now.job.cipher }
+    /// Whether the key of the job's cipher is used: it is where the job is accepted and has a cipher.
+    pub fn uses_key(&self) -> bool
+        ensures { result ≡ uses_key self.now.reason self.now.job.cipher }
     {
-        self.schedule.is_some()
+        uses_key(self.reason, &self.job)
     }
 
     /// What comes next: `Finished` exactly where no stage is left.

@@ -26,14 +26,12 @@ use mbj_cmac::CmacEntry;
 use mbj_hmac::{HmacEntry, LaneHash};
 use mbj_types::{AuthClass, Job};
 
-/// The CBC encryption of a job whose key has `N` rounds, by the key's schedule. The key was learnt in this session, or in none.
+/// The CBC encryption of a job whose key has `N` rounds. The key was learnt in this session, or in none.
 pub(crate) fn cbc_entry<const N: usize>(
     job: &Job,
-    key: Schedule,
     session: Option<u32>,
     packet: Vec<u8>,
 ) -> CbcEntry<N>
-    requires key { IsScheduleOf job.now.key key }
     requires cbc { job.now.cipher ≡ cipher.Cbc }
     requires enc { job.now.dir ≡ dir.Enc }
     requires rounds { round_count job.now.key ≡ N }
@@ -42,8 +40,9 @@ pub(crate) fn cbc_entry<const N: usize>(
     ensures some { 1 ≤ result.rest }
     ensures packet { (end_of cbc_round cbc_rest result).packet ≡ ciphered job.now packet.items }
 {
+    let key = job.key.as_slice();
     let iv = iv_block(job.iv.as_slice());
-    let entry = CbcEntry::new(key, iv, packet, job.cipher_off, job.cipher_len);
+    let entry = CbcEntry::new_by_key(key, iv, packet, job.cipher_off, job.cipher_len);
     entry.in_session(session)
 }
 

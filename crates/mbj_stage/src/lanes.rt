@@ -1,9 +1,9 @@
 //! The calls that hand the packet of a course out in an entry of each kernel, and that take it back.
 //!
 //! Before it is handed out, a packet is in the course and the stage in that kernel's lanes is next. The entry has at least one
-//! round left. The course with the entry's end leads to the same result as before. A call expands the key, and takes no
-//! memory. An entry that is taken back has no round left and a packet as long as the one that went out; that of CCM has a nonce and
-//! additional data as long as those that went out too. That stage is done then.
+//! round left. The course with the entry's end leads to the same result as before. A call takes no memory. An entry that is taken
+//! back has no round left and a packet as long as the one that went out; that of CCM has a nonce and additional data as long as
+//! those that went out too. That stage is done then.
 
 ghost use Rattle.std.specs.Prelude.{◌≡◌};
 ghost use Rattle.mbj_types.specs.declared.kind.Kind.TheVariants as kind;

@@ -2,7 +2,7 @@
 use Rattle.std.specs.Prelude.{◌≡◌, ◌≢◌, ℕ, Bool, true, false, List, [], ◌∷◌, length, Option, Some, None, IsSomeAnd, is_some}
 use Rattle.std.specs.List.{All}
 use Rattle.mbj_types.specs.Auths.{class_of}
-use Rattle.mbj_types.specs.Verdict.{is_null_cipher, verdict_at}
+use Rattle.mbj_types.specs.Verdict.{verdict_at}
 use Rattle.mbj_types.specs.declared.job.Job.{Job}
 use Rattle.mbj_types.specs.declared.job.Cipher.TheVariants as cipher
 use Rattle.mbj_types.specs.declared.reason.Reason.{Reason}
@@ -13,7 +13,7 @@ use Rattle.mbj_stage.specs.declared.stage.Step.{Step}
 use Rattle.mbj_stage.specs.declared.stage.Step.TheVariants as step
 use Rattle.mbj_stage.specs.Steps.{auth_steps, cipher_steps, stage_at}
 use Rattle.mbj_stage.specs.CourseState.{lengths_of, sized}
-use Rattle.mbj_stage.specs.Keys.{wants_schedule}
+use Rattle.mbj_stage.specs.Keys.{needs_schedule, wants_schedule}
 
 -- the step is one of the job's
 abbrev pub IsStepOf : Job → Step → Type 0
@@ -51,12 +51,12 @@ pub record IsSound (j : Job) (p : List ℕ) (left : List Step) (out : Option ℕ
 abbrev pub HasSchedule : Job → Option (List ℕ) → Type 0
 HasSchedule j schedule = IsSomeAnd schedule (IsScheduleOf j.key)
 
--- where a step is left of a job with a cipher, the schedule of its key is at hand
+-- where a step is left of a job that needs the schedule of its key, the schedule is at hand
 abbrev pub IsKeyed : Job → List Step → Option (List ℕ) → Type 0
-IsKeyed j left schedule = left ≢ [] → is_null_cipher j.cipher ≡ false → HasSchedule j schedule
+IsKeyed j left schedule = left ≢ [] → needs_schedule j.cipher j.dir ≡ true → HasSchedule j schedule
 
 -- all that the fields keep: there is a schedule exactly where it is wanted of a job that is refused for this reason or for none
 pub record IsKept (j : Job) (p : List ℕ) (reason : Option Reason) (left : List Step) (out : Option ℕ) (n : Lengths) (schedule : Option (List ℕ)) : Type 0 where
   pub sound : IsSound j p left out n
   pub keyed : IsKeyed j left schedule
-  pub wanted : is_some schedule ≡ wants_schedule reason j.cipher
+  pub wanted : is_some schedule ≡ wants_schedule reason j.cipher j.dir

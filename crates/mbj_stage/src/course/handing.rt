@@ -66,8 +66,7 @@ impl Course {
     {
         let packet = taken(&mut self.packet);
         self.out = Some(packet.len());
-        let schedule = *at_hand(&self.schedule, &self.job);
-        cbc_entry(&self.job, schedule, self.session, packet)
+        cbc_entry(&self.job, self.session, packet)
     }
 
     /// Takes back a packet that was ciphered.

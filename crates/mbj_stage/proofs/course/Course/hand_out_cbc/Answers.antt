@@ -1,7 +1,7 @@
 -- The packet goes out into an entry that ends with the ciphered packet.
 use Rattle.std.proofs.Common.{◌≡◌, ◌∙◌, List, ℕ, length, Some, None, sym, ap, subst, arith}
 use Rattle.mbj_types.specs.Result.{ciphered}
-use Rattle.mbj_types.specs.Verdict.{is_null_cipher, verdict_at}
+use Rattle.mbj_types.specs.Verdict.{verdict_at}
 use Rattle.mbj_lane.specs.Rounds.{end_of}
 use Rattle.mbj_cbc.specs.Rounds.{rest_of, round}
 use Rattle.mbj_stage.specs.Steps.{steps_in}
@@ -11,7 +11,6 @@ use Rattle.mbj_stage.specs.declared.stage.Step.TheVariants as step
 use Rattle.mbj_stage.specs.Handing.{handed_out, owed_with, taken_back, without_packet}
 use Rattle.mbj_stage.specs.Ends.{cbc_end}
 use Rattle.mbj_stage.proofs.Handings.{going, own-back}
-use Rattle.mbj_stage.proofs.Schedules.{next-some}
 use Rattle.mbj_stage.proofs.HandingOut.{IsCbcNext, cbc-next, ciphered-long, text-is-out, text-out}
 use Rattle.mbj_stage.proofs.course.Course.hand_out_cbc.Given as given
 use Rattle.mbj_stage.proofs.course.Course.hand_out_cbc.Goals as goal
@@ -23,19 +22,11 @@ is-next g c =
     (subst (λ (v : CourseState). v.out ≡ None) (sym c.self.view_is) c.requires.here)
     (subst (λ (v : CourseState). stage_of v ≡ cbc_stage g.row.N) (sym c.self.view_is) c.requires.next)
 
-pub at_hand-schedule-requires : goal.at_hand-schedule-requires
-at_hand-schedule-requires g c =
-    let f = c.self.inside in
-    let is = cbc-next f.job f.packet.items (steps_in f.left) f.out f.lengths g.row.N c.requires.rounds c.self.invariant.sound
-    (subst (λ (v : CourseState). v.out ≡ None) (sym c.self.view_is) c.requires.here)
-    (subst (λ (v : CourseState). stage_of v ≡ cbc_stage g.row.N) (sym c.self.view_is) c.requires.next) in
-    c.self.invariant.keyed (next-some step.Cipher (steps_in f.left) is.first) (ap is_null_cipher is.cbc)
-
 pub cbc_entry-requires : goal.cbc_entry-requires
 cbc_entry-requires g c =
     let f = c.self.inside in
     let is = is-next g c in
-    (omega arith, (c.at_hand-schedule.ensures, (is.cbc, (is.enc, (is.rounds, subst (λ (q : List ℕ). verdict_at f.job (length q) ≡ None) (sym c.taken-packet.ensures.taken) is.accepted)))))
+    (omega arith, (is.cbc, (is.enc, (is.rounds, subst (λ (q : List ℕ). verdict_at f.job (length q) ≡ None) (sym c.taken-packet.ensures.taken) is.accepted))))
 
 pub returns-clause-out : goal.returns-clause-out
 returns-clause-out g c =

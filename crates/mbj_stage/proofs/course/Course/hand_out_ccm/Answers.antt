@@ -1,19 +1,21 @@
 -- Packet, nonce and data go out into an entry that ends with the job's MAC.
 use Rattle.std.proofs.Common.{◌≡◌, ◌≢◌, ◌∙◌, List, ℕ, [], length, Option, Some, None, sym, ap, ap₂, subst, arith}
 use Rattle.std.proofs.lemmas.List.{length-replicate}
+use Rattle.mbj_types.specs.declared.job.Cipher.{Cipher}
 use Rattle.mbj_types.specs.declared.job.Job.{Job}
 use Rattle.mbj_types.specs.declared.kind.Kind.TheVariants as kind
 use Rattle.mbj_types.specs.Aes.{aes}
 use Rattle.mbj_types.specs.Ccm.{ccm_mac}
 use Rattle.mbj_types.specs.Result.{cipher_range}
 use Rattle.mbj_types.specs.Rounds.{ccm_rounds, rounds_of}
-use Rattle.mbj_types.specs.Verdict.{is_null_cipher, verdict_at}
+use Rattle.mbj_types.specs.Verdict.{verdict_at}
 use Rattle.mbj_lane.specs.Rounds.{end_of}
 use Rattle.mbj_ccm.specs.Rounds.{rest_of, round}
 use Rattle.mbj_stage.specs.declared.lengths.Lengths.{Lengths}
 use Rattle.mbj_stage.specs.declared.stage.Stage.TheVariants as stage
 use Rattle.mbj_stage.specs.declared.stage.Step.TheVariants as step
 use Rattle.mbj_stage.specs.Steps.{stage_at, steps_in}
+use Rattle.mbj_stage.specs.Keys.{needs_schedule}
 use Rattle.mbj_stage.specs.Families.{ccm_lanes, ccm_stage}
 use Rattle.mbj_stage.specs.Laws.{each-by_rounds}
 use Rattle.mbj_stage.specs.Inside.Kept.{IsSound, has_texts}
@@ -41,7 +43,7 @@ at_hand-schedule-requires g c =
     let here : f.out ≡ None = subst (λ (v : CourseState). v.out ≡ None) (sym c.self.view_is) c.requires.here in
     let is = ccm-next f.job f.packet.items left f.out f.lengths g.row.N c.requires.rounds c.self.invariant.sound here
     (subst (λ (v : CourseState). stage_of v ≡ ccm_stage g.row.N) (sym c.self.view_is) c.requires.next) in
-    c.self.invariant.keyed (next-some step.CcmMac left is.first) (ap is_null_cipher is.ccm)
+    c.self.invariant.keyed (next-some step.CcmMac left is.first) (ap (λ (x : Cipher). needs_schedule x f.job.dir) is.ccm)
 
 pub ccm_entry-requires : goal.ccm_entry-requires
 ccm_entry-requires g c =
