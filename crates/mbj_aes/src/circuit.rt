@@ -1,8 +1,7 @@
-//! The S-box without its constant on bit planes, as a circuit of 113 gates (J. Boyar, R. Peralta and Ç. Çalık). Its bits
-//! have the names of J. Boyar and R. Peralta, A New Combinational Logic Minimization Technique with Applications to
-//! Cryptology, 2010, which numbers the bits of a byte from the highest on. It looks nothing up, and takes the same steps
-//! whatever the bytes are. The gates stand in an order in which few of their bits are wanted at a time, so that the registers
-//! hold most of them.
+//! The S-box without its constant on bit planes, as a circuit of 113 gates (J. Boyar, R. Peralta and Ç. Çalık). Its bits have the names of
+//! J. Boyar and R. Peralta, A New Combinational Logic Minimization Technique with Applications to Cryptology, 2010, which numbers the bits
+//! of a byte from the highest on. It looks nothing up, and takes the same steps whatever the bytes are. The gates stand in an order in
+//! which few of their bits are needed at a time, so that the registers hold most of them.
 ghost use Rattle.std.specs.Prelude.{◌≡◌, ℕ, ◌<◌, bit_xor};
 ghost use Rattle.mbj_types.specs.Aes.{sub_byte};
 ghost use Rattle.mbj_aes.specs.declared.octet.TheConstants.{SBOX_CONSTANT};

@@ -23,14 +23,14 @@ const ROUND_CONSTANTS: [u8; 10] = [0x01, 0x02, 0x04, 0x08, 0x10, 0x20, 0x40, 0x8
 // How many rounds there are more than words of the key.
 const EXTRA_ROUNDS: usize = 6;
 
-/// The number of rounds for a key of so many bytes, which are 16, 24 or 32 (FIPS 197, 5).
+/// The number of rounds for a key of `key_bytes` bytes, which are 16, 24 or 32 (FIPS 197, 5).
 pub fn round_count(key_bytes: usize) -> usize
     ensures { result ≡ key_bytes / 4 + 6 }
 {
     key_bytes / WORD_BYTES + EXTRA_ROUNDS
 }
 
-/// The bytes of a key for so many rounds, which are 10, 12 or 14.
+/// The bytes of a key for `rounds` rounds, which are 10, 12 or 14.
 pub fn key_size(rounds: usize) -> usize
     requires least { 6 ≤ rounds }
     requires most { rounds ≤ 14 }

@@ -10,7 +10,8 @@ use crate::layout::Layout;
 use crate::rounds::{decrypt, encrypt};
 use mbj_types::{AES_LANES, AesWord};
 
-/// Encrypts the block in each lane under the schedule that was put there: CIPHER (FIPS 197, 5.1). It takes no memory.
+/// Encrypts the block in each lane under the schedule that was put there: CIPHER (FIPS 197, 5.1). It takes no memory. Only tests and the
+/// bench use it.
 pub fn encrypt32(keys: &LaneKeys, blocks: &mut [[u8; 16]; AES_LANES])
     requires { IsFull keys.now }
     ensures each { (i : ℕ) → i < AES_LANES → slice_index_or blocks.new i []
@@ -25,7 +26,8 @@ pub fn encrypt32(keys: &LaneKeys, blocks: &mut [[u8; 16]; AES_LANES])
     AesWord::store(blocks, &state, Layout::Last);
 }
 
-/// Decrypts the block in each lane by the schedule that was put there: INVCIPHER (FIPS 197, 5.3). It takes no memory.
+/// Decrypts the block in each lane by the schedule that was put there: INVCIPHER (FIPS 197, 5.3). It takes no memory. Only tests and the
+/// bench use it.
 pub fn decrypt32(keys: &LaneKeys, blocks: &mut [[u8; 16]; AES_LANES])
     requires { IsFull keys.now }
     ensures each { (i : ℕ) → i < AES_LANES → slice_index_or blocks.new i []

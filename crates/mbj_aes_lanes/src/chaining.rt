@@ -47,7 +47,7 @@ pub trait Chaining: Drop {
     fn rest(&self) -> u32
         ensures { result ≡ rest_of self.now };
 
-    /// Whether the zero block enciphered under the key is wanted before the next `m` blocks.
+    /// Whether the zero block enciphered under the key is needed before the next `m` blocks.
     fn wants_zero(&self, m: u32) -> bool;
 
     /// Takes the zero block enciphered under the key. What contracts see of the entry stays.

@@ -152,9 +152,8 @@ pub fn xor_counters(key: &Schedule, counter: u128, text: &mut [u8])
     }
 }
 
-/// Enciphers `counter`, and xors a text from the counter after it on, as `xor_counters` does. The enciphered counter,
-/// which is the answer, goes through the lanes with the first blocks of the text, and takes a pass of its own only
-/// where there is no text. It takes no memory.
+/// Enciphers `counter`, and xors a text from the counter after it on, as `xor_counters` does. The enciphered counter is returned. It goes
+/// through the lanes with the first blocks of the text, and takes a pass of its own only where there is no text. It takes no memory.
 pub fn xor_counters_after(key: &Schedule, counter: u128, text: &mut [u8]) -> [u8; 16]
     ensures mask { result ≡ encipher key.now (to_be_bytes w128 counter) }
     ensures text { text.new ≡ concat (ctr_blocks (encipher key.now) ((counter + 1) % 2 ^ 128) (blocks text.old)) }

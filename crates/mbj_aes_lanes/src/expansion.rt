@@ -185,8 +185,7 @@ fn next_word<V: Lane8>(words: &[V], key_words: usize, i: usize) -> Word<V>
     xor_words(before, schedule_term(words, key_words, i))
 }
 
-/// The schedules of keys of `key_words` words, which are the first lane words, with zeros behind them. The schedules are the first
-/// ones then.
+/// Expands keys of `key_words` words, which are the first lane words and have zeros behind them. The schedules take their place.
 #[inline(always)]
 pub fn expand_words<V: Lane8>(words: &mut [V], key_words: usize)
     requires key { IsKeyWords key_words }

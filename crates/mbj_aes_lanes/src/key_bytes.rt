@@ -33,7 +33,7 @@ pub fn bytes_of_schedule(key: &Schedule) -> [u8; 32]
     bytes_of_key(&bytes[..size])
 }
 
-/// The schedule of the key of so many rounds with which an array begins.
+/// The schedule of the key of `rounds` rounds with which an array begins.
 pub fn schedule_of_bytes(bytes: &[u8; 32], rounds: usize) -> Schedule
     requires rounds { IsRoundCount rounds }
     requires array { IsKeyArray rounds bytes.now }

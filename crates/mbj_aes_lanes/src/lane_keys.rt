@@ -11,10 +11,9 @@ use mbj_aes::Schedule;
 use mbj_types::{AES_LANES, AesWord};
 use std::marker::Model;
 
-/// The schedules of keys side by side, one for each lane, of 10, 12 or 14 rounds each, which contracts see as the number of rounds
-/// and, for each lane, the schedule that was put there, or none. It keeps the round keys in bit planes, as encryption
-/// and decryption take them, so a key is transposed once, when it is put. It is a plain value of 7,716 bytes, and owns
-/// no memory.
+/// The schedules of keys side by side, one for each lane, of 10, 12 or 14 rounds each, which contracts see as the number of rounds and, for
+/// each lane, the schedule that was put there, or none. It keeps the round keys in bit planes, as encryption and decryption take them, so a
+/// key is transposed once, when it is put. It is a plain value of 7,716 bytes, and owns no memory. Only tests and the bench use it.
 #[derive(Drop)]
 pub struct LaneKeys {
     round_keys: [State<AesWord>; MAX_ROUND_KEYS],
@@ -74,8 +73,8 @@ impl LaneKeys {
         self.put = [true; AES_LANES];
     }
 
-    /// Puts a schedule in a lane below `AES_LANES`, in place of the one that was there. It has as many rounds as the others. It
-    /// takes no memory. No product calls it.
+    /// Puts a schedule in a lane below `AES_LANES`, in place of the one that was there. It has as many rounds as the others. It takes no
+    /// memory.
     pub fn put(&mut self, lane: u32, key: &Schedule)
         requires lane { lane < AES_LANES }
         requires rounds { length key.now ≡ 16 * (self.old.rounds + 1) }

@@ -10,7 +10,7 @@ use crate::state::State;
 use mbj_aes::Octet;
 use mbj_types::Lane8;
 
-/// A plane of the odd rows in the next layout: where ShiftRows and MixColumns want it.
+/// A plane of the odd rows in the next layout: where ShiftRows and MixColumns need it.
 #[inline(always)]
 pub fn moved<V: Lane8>(x: V) -> V
     ensures { (i t : ℕ) → i < V.LANES → t < 8

@@ -1,5 +1,5 @@
-//! Round keys in planes written into one lane of states, beside the keys in the others: slots give a lane a new key so, and
-//! `LaneKeys::put`, which only tests call.
+//! Round keys in planes written into one lane of states, beside the keys in the others: slots give a lane a new key this way, and so does
+//! `LaneKeys::put`, which only tests and the bench call.
 ghost use Rattle.std.specs.Prelude.{◌≡◌, ◌≢◌, ℕ, ◌<◌, ◌≤◌, List, [], length, slice_index_or};
 ghost use Rattle.mbj_types.specs.Lanes.{lane_at};
 ghost use Rattle.mbj_aes_lanes.specs.declared.state.State.{State};

@@ -42,7 +42,7 @@ fn state_with_constant<V: Lane8>(s: State<V>) -> State<V>
     }
 }
 
-/// Round key `r` of so many rounds in each lane, whose bytes are the 16 lane words from `start` on.
+/// Round key `r` of `rounds` rounds in each lane, whose bytes are the 16 lane words from `start` on.
 #[inline(always)]
 pub fn key_at<V: Lane8>(words: &[V], start: usize, r: usize, rounds: usize) -> State<V>
     requires { start + 16 ≤ length words.now }
@@ -77,7 +77,7 @@ fn bytes_with_constant(bytes: u8x16) -> u8x16
     bytes ^ u8x16::splat(SBOX_CONSTANT)
 }
 
-/// The bytes of round key `r` of so many rounds, slot by slot.
+/// The bytes of round key `r` of `rounds` rounds, slot by slot.
 #[inline(always)]
 pub fn key_in_slots(key: &[u8; 16], r: usize, rounds: usize) -> [u8; 16]
     ensures { key_from rounds r result ≡ key.now }

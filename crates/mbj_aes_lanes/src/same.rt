@@ -34,8 +34,8 @@ pub fn encrypt_same(key: &Schedule, blocks: &mut [[u8; 16]])
     blocks.copy_from_slice(&lanes[..many]);
 }
 
-/// Decrypts at most `AES_LANES` blocks by one key: INVCIPHER (FIPS 197, 5.3). It takes no memory. At most `FEW_BLOCKS` take
-/// less time than more of them. Many blocks by one key are better served by a `TextKey`.
+/// Decrypts at most `AES_LANES` blocks by one key: INVCIPHER (FIPS 197, 5.3). It takes no memory. At most `FEW_BLOCKS` take less time than
+/// more of them. Many blocks by one key are better served by a `TextKey`. Only tests use it.
 pub fn decrypt_same(key: &Schedule, blocks: &mut [[u8; 16]])
     requires { length blocks.old ≤ AES_LANES }
     ensures each { blocks.new ≡ map (decipher key.now) blocks.old }

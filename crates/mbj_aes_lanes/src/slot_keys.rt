@@ -14,7 +14,7 @@ use crate::schedules::{expand_keys, zero_words};
 use crate::state::State;
 use mbj_types::{AES_LANES, AesWord};
 
-// So many new keys are expanded each for itself. More of them take less time all at once.
+// Up to this many new keys are expanded one by one; more take less time together.
 const FEW_KEYS: usize = 3;
 
 // In how many lanes the key is a new one.
@@ -114,7 +114,7 @@ fn refresh(keys: &mut [State<AesWord>], bytes: &[[u8; 32]; AES_LANES], stale: &[
     }
 }
 
-// The same in the first states, which the round keys of so many rounds are kept in. The states behind them stay.
+// The same in the first states, which keep the round keys of `rounds` rounds. The states behind them stay.
 #[inline(always)]
 fn refresh_front(
     states: &mut [State<AesWord>],
@@ -137,8 +137,8 @@ fn refresh_front(
     refresh(keys, bytes, stale);
 }
 
-/// The round keys of the new keys, in the lanes of which all bits of `stale` are set. The other lanes, of which none is set, stay.
-/// The round keys of so many rounds are kept in the first states.
+/// The round keys of the new keys, in the lanes of which all bits of `stale` are set. The other lanes, of which none is set, stay. The
+/// round keys of `rounds` rounds are kept in the first states.
 #[inline(always)]
 pub fn refresh_first(
     states: &mut Vec<State<AesWord>>,

@@ -154,7 +154,7 @@ fn lead_slots<E: Chaining>(
     keep_each_slot(entries, &blocks_of(chains));
 }
 
-// Whether an entry wants the zero block enciphered, before it goes on by `m` blocks.
+// Whether an entry needs the zero block enciphered, before it goes on by `m` blocks.
 #[inline(always)]
 fn is_zero_wanted<E: Chaining>(entries: &[Option<E>], m: u32) -> bool {
     let mut is_wanted = false;
@@ -192,7 +192,7 @@ fn give_zero<E: Chaining>(slot: &mut Option<E>, zero: &[u8; 16])
     }
 }
 
-// Gives each entry the enciphered zero block, where one wants it before it goes on by `m` blocks.
+// Gives each entry the enciphered zero block, where one needs it before it goes on by `m` blocks.
 #[inline(always)]
 fn give_zeros<E: Chaining>(entries: &mut [Option<E>], m: u32, keys: &[State<AesWord>])
     requires size { length entries.old ≡ AES_LANES }
@@ -210,7 +210,7 @@ fn give_zeros<E: Chaining>(entries: &mut [Option<E>], m: u32, keys: &[State<AesW
     }
 }
 
-/// Leads each entry by `m` blocks, under the round keys of its lane, once it has the enciphered zero block if it wants that.
+/// Leads each entry by `m` blocks, under the round keys of its lane, after giving each the enciphered zero block where one needs it.
 /// `chains` takes the chaining values of the lanes.
 #[inline(always)]
 pub fn lead_entries<E: Chaining>(

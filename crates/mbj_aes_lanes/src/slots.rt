@@ -30,11 +30,11 @@ pub struct ChainedSlots<E: Chaining> {
     round_keys: Vec<State<AesWord>>,
     // One state, of the chaining values of a run.
     chains: Vec<State<AesWord>>,
-    // The bytes of the key that each lane was given last,
+    // The bytes of the key that each lane was given last.
     keys: [[u8; 32]; AES_LANES],
-    // and the session in which it was learnt.
+    // The session in which that key was learnt, if there is one.
     sessions: [Option<u32>; AES_LANES],
-    // All bits of the lanes that haven't the round keys of their key yet, and none of the others.
+    // 0xff for a lane that doesn't have the round keys of its key yet, else 0.
     stale: [u8; AES_LANES],
     entries: Vec<Option<E>>,
 }
@@ -79,7 +79,7 @@ fn take_key(
     }
 }
 
-// So many states of zeros.
+// This many states of zeros.
 fn zero_states(alloc: Global, many: usize) -> Result<Vec<State<AesWord>>, AllocError>
     ensures { IfOk result (λ v. length v.items ≡ many) }
 {
@@ -118,6 +118,8 @@ fn rounds_in<E: Chaining>(entries: &[Option<E>]) -> Option<usize>
 
 impl<E: Chaining> ChainedSlots<E> {
     /// As many idle slots as there are lanes. No other call takes memory.
+    ///
+    /// Returns `AllocError` for want of memory.
     pub fn new(alloc: Global) -> Result<ChainedSlots<E>, AllocError>
         ensures { IfOk result (λ s. (i : ℕ) → i < AES_LANES → slot_at s i ≡ None) }
     {

@@ -1,6 +1,6 @@
-//! SUBBYTES and its inverse (FIPS 197, 5.1.1 and 5.3.2) on bit planes, but for the constant of the S-box, which the round keys
-//! have. The S-box of eight bytes a lane is called, and not inlined: two of them side by side want more registers than there
-//! are with vectors of 128 bits.
+//! SUBBYTES and its inverse (FIPS 197, 5.1.1 and 5.3.2) on bit planes, but for the constant of the S-box, which the round keys have. The
+//! S-box of eight bytes a lane is called, and not inlined: two of them side by side need more registers than there are with vectors of 128
+//! bits.
 ghost use Rattle.std.specs.Prelude.{◌≡◌, ℕ, ◌<◌, map};
 ghost use Rattle.mbj_aes.specs.Planes.Bytes.{byte_at};
 ghost use Rattle.mbj_aes_lanes.specs.Inside.State.{reading};

@@ -93,8 +93,8 @@ impl TextKey {
         }
     }
 
-    /// Encrypts the first `many` blocks, which are at most `AES_LANES`, in one pass: CIPHER (FIPS 197, 5.1). At most `FEW_BLOCKS`
-    /// take less time than more of them. The blocks behind them become any. It takes no memory.
+    /// Encrypts the first `many` blocks, which are at most `AES_LANES`, in one pass: CIPHER (FIPS 197, 5.1). At most `FEW_BLOCKS` take less
+    /// time than more of them. The blocks behind them are unspecified afterwards. It takes no memory.
     pub fn encrypt_first(&self, blocks: &mut [[u8; 16]; AES_LANES], many: usize)
         requires { many ≤ AES_LANES }
         ensures each { (i : ℕ) → i < many
@@ -108,8 +108,8 @@ impl TextKey {
         }
     }
 
-    /// Decrypts the first `many` blocks, which are at most `AES_LANES`, in one pass: INVCIPHER (FIPS 197, 5.3). At most
-    /// `FEW_BLOCKS` take less time than more of them. The blocks behind them become any. It takes no memory.
+    /// Decrypts the first `many` blocks, which are at most `AES_LANES`, in one pass: INVCIPHER (FIPS 197, 5.3). At most `FEW_BLOCKS` take
+    /// less time than more of them. The blocks behind them are unspecified afterwards. It takes no memory.
     pub fn decrypt_first(&self, blocks: &mut [[u8; 16]; AES_LANES], many: usize)
         requires { many ≤ AES_LANES }
         ensures each { (i : ℕ) → i < many

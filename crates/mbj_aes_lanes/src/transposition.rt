@@ -62,7 +62,7 @@ fn mirrored<V: Lane8>(x: Octet<V>) -> Octet<V>
     }
 }
 
-/// Of bytes in eight lane words the planes, in which lane word t is byte t of each lane; and of planes those bytes.
+/// The planes of the bytes in eight lane words, of which word t has byte t of each lane; or the bytes of such planes.
 #[inline(always)]
 pub fn transposed<V: Lane8>(x: Octet<V>) -> Octet<V>
     ensures planes { (i t : ℕ) → i < V.LANES → t < 8

@@ -11,7 +11,7 @@ use crate::transposition::transposed;
 use mbj_aes::Octet;
 use mbj_types::Lane8;
 
-// Of the 16 lane words from `start` on those in eight slots, from slot `first` on.
+// The lane words in eight slots, from slot `first` on, of the 16 from `start` on.
 #[inline(always)]
 fn octet_in<V: Lane8>(words: &[V], start: usize, layout: Layout, first: usize) -> Octet<V>
     requires words { start + 16 ≤ length words.now }

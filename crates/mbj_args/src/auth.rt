@@ -65,7 +65,7 @@ pub(crate) fn has_hash_range(class: AuthClass) -> bool
     }
 }
 
-/// Initialization vectors of this many bytes: 1 to 65,535 for GMAC; the other authentications have none.
+/// Whether the authentication takes initialization vectors of this many bytes: 1 to 65,535 for GMAC; the others have none.
 pub(crate) fn takes_iv(class: AuthClass, len: usize) -> bool
     ensures { result ≡ takes_auth_iv class len }
 {
@@ -81,8 +81,8 @@ pub(crate) fn takes_iv(class: AuthClass, len: usize) -> bool
     }
 }
 
-/// Authentication keys of this many bytes: a digest doesn't look at one, and an HMAC from states takes the inner state and the outer
-/// state, together 40 bytes for SHA-1, 64 for SHA-224 and SHA-256, and 128 for SHA-384 and SHA-512.
+/// Whether the authentication takes keys of this many bytes: a digest doesn't look at one, and an HMAC from states takes the inner state
+/// and the outer state, together 40 bytes for SHA-1, 64 for SHA-224 and SHA-256, and 128 for SHA-384 and SHA-512.
 pub(crate) fn takes_key(class: AuthClass, len: usize) -> bool
     ensures { result ≡ takes_auth_key class len }
 {
@@ -95,8 +95,8 @@ pub(crate) fn takes_key(class: AuthClass, len: usize) -> bool
     }
 }
 
-/// Tags of this many bytes: up to a hash's digest for it and its HMACs, and up to a block for CMAC, GCM and GMAC. CCM's have an even number of
-/// them, 4 at least (SP 800-38C, A.1).
+/// Whether the authentication takes tags of this many bytes: up to a hash's digest for it and its HMACs, and up to a block for CMAC, GCM
+/// and GMAC. CCM's have an even number of them, 4 at least (SP 800-38C, A.1).
 pub(crate) fn takes_tag(class: AuthClass, len: u8) -> bool
     ensures { result ≡ takes_tag class len }
 {

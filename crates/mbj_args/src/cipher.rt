@@ -38,14 +38,14 @@ pub(crate) fn is_aes_key(len: usize) -> bool
     len == 16 || len == 24 || len == 32
 }
 
-/// Keys of this many bytes.
+/// Whether the cipher takes keys of this many bytes.
 pub(crate) fn takes_key(cipher: Cipher, len: usize) -> bool
     ensures { result ≡ takes_key cipher len }
 {
     is_null(cipher) || is_aes_key(len)
 }
 
-/// Initialization vectors of this many bytes: 16 for CBC, 12 or 16 for CTR, 1 to 65,535 for GCM, 7 to 13 for CCM
+/// Whether the cipher takes initialization vectors of this many bytes: 16 for CBC, 12 or 16 for CTR, 1 to 65,535 for GCM, 7 to 13 for CCM
 /// (SP 800-38C, A.1).
 pub(crate) fn takes_iv(cipher: Cipher, len: usize) -> bool
     ensures { result ≡ takes_iv cipher len }
@@ -59,7 +59,7 @@ pub(crate) fn takes_iv(cipher: Cipher, len: usize) -> bool
     }
 }
 
-/// Cipher ranges of this many bytes.
+/// Whether the cipher takes ranges of this many bytes.
 pub(crate) fn takes_range(cipher: Cipher, len: u32) -> bool
     ensures { result ≡ takes_range cipher len }
 {
@@ -70,7 +70,7 @@ pub(crate) fn takes_range(cipher: Cipher, len: u32) -> bool
     }
 }
 
-/// Additional data of this many bytes: ciphers without a tag of their own don't look at it.
+/// Whether the cipher takes additional data of this many bytes: ciphers without a tag of their own don't look at it.
 pub(crate) fn takes_aad(cipher: Cipher, len: usize) -> bool
     ensures { result ≡ takes_aad cipher len }
 {

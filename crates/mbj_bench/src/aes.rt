@@ -44,14 +44,14 @@ const PASSES: u32 = 50;
 /// A call, and how many rounds or bytes of text.
 #[derive(Clone, Copy)]
 enum Call {
-    /// A block in each lane, under one key of so many rounds.
+    /// A block in each lane, under one key of this many rounds.
     Encrypt(u32),
     Decrypt(u32),
     /// A schedule of 10 rounds put in one lane.
     Put,
     /// A schedule of 10 rounds made of its key.
     Expand,
-    /// A text of so many bytes, its key of 10 rounds expanded once.
+    /// A text of this many bytes, its key of 10 rounds expanded once.
     Ctr(usize),
     CbcDecryption(usize),
     /// The plain crate for SHA-1.
@@ -129,7 +129,7 @@ fn schedule(rounds: u32) -> Schedule {
     }
 }
 
-/// Enciphers the blocks by turns, under one key of so many rounds.
+/// Enciphers the blocks by turns, under one key of this many rounds.
 fn encrypt(rounds: u32, blocks: &mut [[u8; 16]; AES_LANES], turns: u32) {
     let keys = LaneKeys::all(&schedule(rounds));
     for _ in 0..turns {
@@ -245,7 +245,7 @@ fn pass_nanos(rt: &impl Clock, call: Call, texts: &mut Texts, sum: &mut u64) -> 
     nanos_since(rt, start)
 }
 
-/// KB/s of a pass of the call in so many nanoseconds.
+/// KB/s of a pass of the call in this many nanoseconds.
 fn rate(call: Call, nanos: u128) -> u128 {
     (call.turns() as u128)
         .saturating_mul(call.bytes() as u128)

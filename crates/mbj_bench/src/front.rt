@@ -86,7 +86,7 @@ fn job(alloc: Global, work: Work, number: u32) -> Result<Job, AllocError> {
     Ok(job)
 }
 
-/// The jobs of the work that are dealt to one of so many submitters.
+/// The jobs of the work that are dealt to one of `submitters` submitters.
 pub fn list(
     alloc: Global,
     work: Work,

@@ -38,8 +38,8 @@ const PASS_BYTES: u128 = TURN_BYTES as u128 * TURNS as u128;
 
 const PASSES: u32 = 100;
 
-/// A hash whose compression is timed. A form of it leads the initial hash value in each lane through a block of its own by
-/// so many calls, and returns the hash value of one lane.
+/// A hash whose compression is timed. A form of it leads the initial hash value in each lane through a block of its own by `calls` calls,
+/// and returns the hash value of one lane.
 pub trait Hash {
     /// As many blocks as the arrays have.
     type Blocks: Copy;
@@ -118,8 +118,8 @@ pub fn widened<const N: usize>(words: &[u32; N]) -> [u64; 8] {
     wide
 }
 
-/// Runs a form of a hash for some turns, and returns a word that its result depends on. A vector has a half or a quarter of
-/// the lanes that the arrays fill, and so many more calls a turn.
+/// Runs a form of a hash for some turns, and returns a word that its result depends on. A vector has a half or a quarter of the lanes that
+/// the arrays fill, and so two or four times as many calls a turn.
 fn run<H: Hash>(form: Form, turns: u32) -> u64 {
     match form {
         Form::Plain => H::plain(turns),

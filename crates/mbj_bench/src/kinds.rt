@@ -27,7 +27,7 @@ pub const IV: [u8; 16] = [0x0f; 16];
 
 /// A kernel whose entries are timed beside its plain function.
 pub trait Timed: SlotKernel {
-    /// An entry over the whole blocks of a packet, where it has any, with its key expanded or its pads made.
+    /// An entry over a packet, or, for CBC, over its whole blocks, where it has any, ready to join a list.
     fn entry(packet: Vec<u8>) -> Option<Self::Entry>
         ensures { IfSome result (λ e. 1 ≤ Self.rest_of e) };
 
@@ -50,7 +50,7 @@ pub fn whole(packet: &[u8]) -> usize
     packet.len().min(MOST_BYTES) / BLOCK_BYTES * BLOCK_BYTES
 }
 
-/// A key of AES for so many rounds, or else for 14.
+/// A key of AES for this many rounds, or else for 14.
 pub fn aes_key(rounds: usize) -> &'static [u8]
     ensures { IsKeySize (length result.now) }
 {

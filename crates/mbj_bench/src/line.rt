@@ -10,7 +10,7 @@ pub fn print_bytes(rt: &impl Print, label: &str, bytes: &[u8]) -> io::Result<()>
     println!(rt)
 }
 
-/// Ends a line with words of so many hexadecimal digits.
+/// Ends a line with words of `digits` hexadecimal digits.
 pub fn print_words(rt: &impl Print, words: &[u64], digits: usize) -> io::Result<()> {
     for word in words {
         print!(rt; "{word:0digits$x}")?;
@@ -18,12 +18,12 @@ pub fn print_words(rt: &impl Print, words: &[u64], digits: usize) -> io::Result<
     println!(rt)
 }
 
-/// Prints a name in a column of so many characters.
+/// Prints a name in a column of `width` characters.
 pub fn print_name(rt: &impl Print, name: &str, width: usize) -> io::Result<()> {
     print!(rt; "{name:<width$}")
 }
 
-/// Prints a name in a column of so many characters, and a length.
+/// Prints a name in a column of `width` characters, and a length.
 pub fn print_length(rt: &impl Print, name: &str, width: usize, len: usize) -> io::Result<()> {
     print!(rt; "{name:<width$}{len:>6} bytes")
 }
@@ -33,12 +33,12 @@ pub fn hundredths(time: u128, other: u128) -> u128 {
     time.saturating_mul(100).checked_div(other).unwrap_or(0)
 }
 
-/// MB/s of so many bytes in so many nanoseconds.
+/// MB/s of this many bytes in this many nanoseconds.
 pub fn megabytes(bytes: u128, nanos: u128) -> u128 {
     bytes.saturating_mul(1000).checked_div(nanos).unwrap_or(0)
 }
 
-/// Prints hundredths with a point, their whole part in a column of so many characters.
+/// Prints hundredths with a point, their whole part in a column of `width` characters.
 pub fn print_ratio(rt: &impl Print, hundredths: u128, width: usize) -> io::Result<()> {
     print!(rt; "{:>width$}.{:02}", hundredths / 100, hundredths % 100)
 }

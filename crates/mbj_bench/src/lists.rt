@@ -49,8 +49,8 @@ impl<K: Timed> Filled<K> {
         }
     }
 
-    /// Leads the list to its end: all entries are over as many bytes, so that one run does. The packets come back, and the
-    /// answer is a byte that the results depend on.
+    /// Leads the list to its end: all entries are over as many bytes, so that one run does. The packets come back, and a byte that depends
+    /// on the results is returned.
     pub fn end(self, packets: &mut [Vec<u8>]) -> u8 {
         let Filled { mut lanes } = self;
         if lanes.len() > 0 {
@@ -146,8 +146,7 @@ fn run_work(
     Ok(sum)
 }
 
-/// How long so many turns of the work take on packets of no jobs. What is computed goes into `sum`, so that none of it is
-/// left out.
+/// How long `turns` turns of the work take on packets of no jobs. What is computed goes into `sum`, so that none of it is left out.
 pub fn nanos_of_packets(
     rt: &impl Clock,
     alloc: Global,
@@ -164,7 +163,7 @@ pub fn nanos_of_packets(
     nanos_since(rt, start)
 }
 
-/// Prints MB/s of a full list over packets of so many bytes, and in how many times less time than the plain function it ran.
+/// Prints MB/s of a full list over packets of `len` bytes, and in how many times less time than the plain function it ran.
 fn print_list(
     rt: &(impl Print + Clock),
     alloc: Global,

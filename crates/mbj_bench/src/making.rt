@@ -12,7 +12,7 @@ fn packet(alloc: Global, len: usize) -> Result<Vec<u8>, AllocError> {
     Ok(packet)
 }
 
-/// So many packets of `len` bytes.
+/// `count` packets of `len` bytes.
 pub fn packets(alloc: Global, count: u32, len: usize) -> Result<Vec<Vec<u8>>, AllocError> {
     let mut packets = Vec::new(alloc);
     for _ in 0..count {

@@ -46,7 +46,7 @@ fn run_list<H: TimedHash>(
     Ok(list.end(packets))
 }
 
-/// How long so many lists take. What is computed goes into `sum`, so that none of it is left out.
+/// How long `turns` lists take. What is computed goes into `sum`, so that none of it is left out.
 fn nanos_of_lists<H: TimedHash>(
     rt: &impl Clock,
     alloc: Global,
@@ -62,7 +62,7 @@ fn nanos_of_lists<H: TimedHash>(
     nanos_since(rt, start)
 }
 
-/// Prints MB/s of a full list from states over packets of so many bytes, and in how many times less time than from the key it ran.
+/// Prints MB/s of a full list from states over packets of `len` bytes, and in how many times less time than from the key it ran.
 fn print_list<H: TimedHash>(
     rt: &(impl Print + Clock),
     alloc: Global,

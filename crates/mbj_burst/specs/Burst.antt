@@ -51,7 +51,7 @@ group_told size (suc bursts) (j ∷ js) b =
     then_told (room_told size b)
     (λ b. then_told (submit_told (take (cells_left b) (j ∷ js)) b) (group_told size bursts (drop (cells_left b) (j ∷ js))))
 
--- the jobs in groups of so many, the last of which may have fewer
+-- the jobs in groups of this many, the last of which may have fewer
 abbrev pub groups_told : ℕ → ℕ → List Job → Bursting → Told BurstLine Bursting
 groups_told size zero js b = ([], b)
 groups_told size (suc groups) [] b = ([], b)
@@ -60,7 +60,7 @@ groups_told size (suc groups) (j ∷ js) b =
 
 -- ---- taking back
 
--- one flush of all cells after another, until one gives nothing back; where so many jobs are owed, so many give one back at most
+-- one flush of all cells after another, until one gives nothing back; at most as many give one back as jobs are owed
 abbrev pub flushes_told : ℕ → Bursting → Told BurstLine Bursting
 flushes_told zero b = calls_told line.Flush (replicate CELLS calls.flush) b
 flushes_told (suc jobs) b =

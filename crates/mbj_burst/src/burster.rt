@@ -24,15 +24,17 @@ struct Burster {
     lines: Vec<BurstLine>,
 }
 
-/// What bursts over the jobs of a file come to: a line for each call, and the jobs' results in order.
+/// The outcome of bursts over the jobs of a file: a line for each call, and the jobs' results in order.
 #[derive(Drop)]
 pub struct Told {
+    /// A line for each call.
     pub lines: Vec<BurstLine>,
+    /// The jobs' results, in the order of the file.
     pub results: Vec<Done>,
 }
 
 impl Burster {
-    /// A new manager, no lines, and room for the results of so many jobs.
+    /// A new manager, no lines, and room for the results of `jobs` jobs.
     fn new(alloc: Global, jobs: usize) -> Result<Burster, AllocError>
         ensures state { IfOk result (λ b. state_of b ≡ new_bursting) }
         ensures lines { IfOk result (λ b. b.lines.items ≡ []) }

@@ -6,11 +6,11 @@ use mbj_text::{Part, TextLine, write_line};
 /// A line of a burst.
 #[derive(Clone, Copy, Debug, PartialEq, Eq)]
 pub enum BurstLine {
-    /// So many jobs were submitted, and so many results were given back.
+    /// This many jobs were submitted, and this many results were given back.
     Submit { jobs: u32, given: u32 },
     /// No cell was left for the next job.
     Full,
-    /// A flush gave back so many results.
+    /// A flush gave back this many results.
     Flush(u32),
 }
 

@@ -29,7 +29,7 @@ use Rattle.mbj_c.specs.Ranges.{bytes_in, given_range, narrowed, no_range, range_
 abbrev IsInRange : CipherRange → List ℕ → List ℕ → Type 0
 IsInRange r p q = q ≡ with_bytes r (bytes_in r q) p
 
--- a text stands where it was put, behind so many bytes
+-- a text stands where it was put, behind this many bytes
 seam : (n k : ℕ) (front text rest : List ℕ) → length front ≡ n → length text ≡ k → take k (drop n (front ++ text ++ rest)) ≡ text
 seam n k front text rest front_is text_is =
     ap (λ i. take k (drop i (front ++ text ++ rest))) (sym front_is)

@@ -23,35 +23,35 @@ use mbj_gcm::{seal, unseal};
 use mbj_types::{BLOCK_BYTES, Dir, MAX_CCM_AAD_BYTES, MAX_IV_BYTES, MAX_PACKET_BYTES};
 use std::alloc::Global;
 
-/// Whether a key of CMAC has so many bytes here.
+/// Whether a key of CMAC has this many bytes here.
 fn is_cmac_key(len: usize) -> bool
     ensures { result ≡ is_cmac_key len }
 {
     len == 16 || len == 32
 }
 
-/// Whether GCM takes an IV of so many bytes here.
+/// Whether GCM takes an IV of this many bytes here.
 fn is_gcm_iv(len: usize) -> bool
     ensures { result ≡ is_gcm_iv len }
 {
     1 <= len && len <= MAX_IV_BYTES
 }
 
-/// Whether GCM gives a tag of so many bytes here.
+/// Whether GCM gives a tag of this many bytes here.
 fn is_gcm_tag(len: usize) -> bool
     ensures { result ≡ is_gcm_tag len }
 {
     1 <= len && len <= BLOCK_BYTES
 }
 
-/// Whether CCM takes a nonce of so many bytes (SP 800-38C, A.1).
+/// Whether CCM takes a nonce of this many bytes (SP 800-38C, A.1).
 fn is_ccm_nonce(len: usize) -> bool
     ensures { result ≡ is_ccm_nonce len }
 {
     7 <= len && len <= 13
 }
 
-/// Whether CCM gives a tag of so many bytes (SP 800-38C, A.1).
+/// Whether CCM gives a tag of this many bytes (SP 800-38C, A.1).
 fn is_ccm_tag(len: usize) -> bool
     ensures { result ≡ is_ccm_tag len }
 {

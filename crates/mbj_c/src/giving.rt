@@ -27,6 +27,7 @@ pub struct RawDone<'a> {
     pub tag: &'a mut [u8],
     /// How many bytes were ciphered: 0 where the job has no cipher or was refused.
     pub dst_len: usize,
+    /// The length of the tag, in bytes: 0 where the job has no authentication or was refused.
     pub tag_len: u32,
     /// 0 where the job was done, 1 where it was refused.
     pub status: u32,
@@ -43,8 +44,8 @@ pub(crate) enum Call {
 }
 
 impl Call {
-    /// Makes the call, which gives a job back in the cell, or none. Returns whether it gives one. Where it submits a job, the key
-    /// sessions are used that there are.
+    /// Makes the call, which gives a job back in the cell, or none. Returns whether it gives one. Where it submits a job, it uses
+    /// the key sessions, if there are any.
     pub(crate) fn make(
         self,
         manager: &mut Manager,
@@ -106,7 +107,7 @@ impl RawDone<'_> {
         }
     }
 
-    /// Writes the result of a job that is finished: of its packet the range.
+    /// Writes the result of a job that is finished, with only this range of its packet.
     pub(crate) fn write(&mut self, given: &Cell, range: CipherRange)
         requires finished { IsFinished given.now }
         requires range { range.off + range.len ≤ length (owed (course_in given.now)).packet }

@@ -20,15 +20,26 @@ pub struct RawJob<'a> {
     /// 0 none; HMAC with 1 SHA-1, 2 SHA-224, 3 SHA-256, 4 SHA-384, 5 SHA-512; CMAC with a key of 6 128 bits, 7 256 bits;
     /// 8 GCM, 9 GMAC, 10 CCM; a hash without a key, 11 SHA-1 to 15 SHA-512; HMAC from stored states, 16 SHA-1 to 20 SHA-512.
     pub auth: u32,
+    /// The cipher's key: 16, 24 or 32 bytes.
     pub key: &'a [u8],
+    /// The initialization vector of the cipher, or of GMAC: 16 bytes for CBC, 12 or 16 for CTR, 1 to 65,535 for GCM and GMAC. For CCM it is
+    /// the nonce, of 7 to 13 bytes.
     pub iv: &'a [u8],
+    /// The key of an HMAC, a CMAC or GMAC, or the stored states of an HMAC: 40, 64 or 128 bytes.
     pub auth_key: &'a [u8],
+    /// The additional authenticated data of GCM, of at most 65,535 bytes, or of CCM, of at most 65,279.
     pub aad: &'a [u8],
+    /// The packet, of at most 65,535 bytes.
     pub packet: &'a [u8],
+    /// Where the range of the packet that is ciphered begins, in bytes.
     pub cipher_off: u64,
+    /// The length of that range, in bytes.
     pub cipher_len: u64,
+    /// Where the range that the authentication is over begins, in bytes. GCM and CCM have none.
     pub hash_off: u64,
+    /// The length of that range, in bytes.
     pub hash_len: u64,
+    /// The length of the tag, in bytes.
     pub tag_len: u8,
     /// The key session, or `u32::MAX` for none.
     pub session: u32,

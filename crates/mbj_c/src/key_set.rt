@@ -19,6 +19,7 @@ use std::sync::Arc;
 #[repr(C)]
 #[derive(Clone, Copy)]
 pub struct RawBytes<'a> {
+    /// A pointer, which isn't null, and a length in bytes.
     pub bytes: &'a [u8],
 }
 

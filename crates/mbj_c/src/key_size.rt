@@ -1,7 +1,7 @@
 ghost use Rattle.std.specs.Prelude.{◌≡◌};
 ghost use Rattle.mbj_types.specs.Aes.{is_key_size};
 
-/// Whether AES has keys of so many bytes (FIPS 197, 5).
+/// Whether AES has keys of this many bytes (FIPS 197, 5).
 pub(crate) fn is_key_size(len: usize) -> bool
     ensures { result ≡ is_key_size len }
 {

@@ -23,7 +23,7 @@ pub fn accepted_ranges_are_within_their_packets()
         → r.hash_off + r.hash_len ≤ length r.packet.now }
 {}
 
-/// A law: over every list of C's calls on a new manager, what is given back is a front of the results of the jobs that were
+/// A law: over every list of C's calls on a new manager, what is given back is a prefix of the results of the jobs that were
 /// submitted, in their order and each once, and each with the range of its own job.
 pub fn results_come_back_with_their_ranges()
     ensures { (calls : List CallOfC) → GivesInOrder calls }

@@ -2,8 +2,9 @@
 //!
 //! A handle holds a manager, or none: C keeps it as one pointer, which is null at first. `mbj_c_new` makes a manager,
 //! `mbj_c_free` frees it. `mbj_c_fill` copies a job of C's into the next cell, and `mbj_c_submit` submits it.
-//! `mbj_c_submit`, `mbj_c_get_completed` and `mbj_c_flush` give results back in the order of submission: of a packet the
-//! ciphered range alone. Other calls need no manager. Only making a manager, filling a job and a text by CCM take memory.
+//! `mbj_c_submit`, `mbj_c_get_completed` and `mbj_c_flush` give results back in the order of submission: of a packet only
+//! the ciphered range. Other calls need no manager. Only making a manager, filling a job, making, sharing and using key
+//! sessions, and a text by CCM take memory.
 //!
 //! A call that is refused says so and changes nothing. What a call can't look at is promised by C: that pointers point to
 //! what their types say, that no two of the things that are written overlap each other or anything that is read, and that

@@ -9,7 +9,9 @@ use mbj_types::{Cipher, Job};
 /// A range of a packet: `len` bytes from `off` on.
 #[derive(Clone, Copy, Debug, PartialEq, Eq)]
 pub struct CipherRange {
+    /// Where it begins in the packet, in bytes.
     pub off: u32,
+    /// Its length, in bytes.
     pub len: u32,
 }
 

@@ -38,7 +38,7 @@ pub struct RangedManager {
     sessions: Option<Sessions>,
     // A blank cell beside the manager's own: C's next job is filled in it, and a result is written out of it.
     spare: Cell,
-    // How many bytes of memory it keeps with each of its job's bytes, at most.
+    // At most how many bytes of memory it keeps for each field of its job.
     most: usize,
 }
 
@@ -71,12 +71,12 @@ fn manager(alloc: Global, keeps: bool) -> Result<Manager, AllocError>
     }
 }
 
-/// How many bytes a cell keeps with each of a job's bytes, at most.
+/// At most how many bytes a cell keeps for each field of a job.
 fn most_kept(keeps: bool) -> usize {
     if keeps { KEPT_BYTES } else { 0 }
 }
 
-/// The range of the job in this open cell is this one from now on.
+/// Sets the range of the job in this open cell.
 #[tactic(auto, using(crate::proofs::Cells::put_last, crate::proofs::Cells::put_over))]
 fn fill_range(ranges: &mut Ring<CipherRange>, cell: u32, range: CipherRange)
     requires cell { cell ≤ length ranges.old.opened }
@@ -91,7 +91,8 @@ fn fill_range(ranges: &mut Ring<CipherRange>, cell: u32, range: CipherRange)
     }
 }
 
-/// The job in a cell goes into this open cell, or into the one behind those that are open. The cell has the job then that was there.
+/// Exchanges the job in `filled` with that in open cell `cell`, the first opened being 0. Where there are `cell` open cells, one more is
+/// opened before.
 fn fill_cell(manager: &mut Manager, cell: u32, filled: &mut Cell)
     requires cell { cell ≤ length manager.old.opened }
     requires room { length manager.old.owed + cell < CELLS }
@@ -152,7 +153,7 @@ fn first_filled(ranges: &mut Ring<CipherRange>) -> Option<CipherRange>
     }
 }
 
-/// Writes the result of a job that is finished, of its packet the first range, which leaves.
+/// Writes the result of a job that is finished, with only the first range of its packet. That range is then removed.
 fn write_first(given: &Cell, ranges: &mut Ring<CipherRange>, out: &mut RawDone<'_>)
     requires finished { IsFinished given.now }
     requires fits { Fits (owed (course_in given.now)) ranges.old.values out.old }

@@ -46,7 +46,7 @@ impl Sessions {
         Ok(Sessions { set, notes })
     }
 
-    /// Submits the first open job, by the schedule of its session's entry where that has the job's key.
+    /// Submits the first open job, with the entry of its session where that has the job's key.
     fn submit(&mut self, manager: &mut Manager, given: &mut Cell) -> bool
         requires is_open { 0 < length manager.old.opened }
         requires blank { given.old ≡ cells.Open blank }

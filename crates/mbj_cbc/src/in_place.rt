@@ -19,8 +19,8 @@ fn copy_blocks(text: &[u8], first: usize, blocks: &mut [[u8; 16]])
     }
 }
 
-// Xors deciphered blocks, each with the ciphertext before it, and puts them in the text from block `first` on. `chain` is
-// the ciphertext before the first of them, and the answer is the last one's.
+// Xors deciphered blocks, each with the ciphertext before it, and puts them in the text from block `first` on. `chain` is the ciphertext
+// before the first of them, and that of the last one is returned.
 fn put_opened(text: &mut [u8], first: usize, opened: &[[u8; 16]], chain: &[u8; 16]) -> [u8; 16]
     requires { 16 * (first + length opened.now) ≤ length text.old }
     ensures { (d : List ℕ → List ℕ) (whole : List ℕ)

@@ -1,5 +1,5 @@
-//! CBC with AES (SP 800-38A, 6.2): on a text in place, and encryption of ranges of many packets side by side in lanes; and
-//! the law that decryption undoes encryption. No call takes memory.
+//! CBC with AES (SP 800-38A, 6.2): on a text in place, and encryption of ranges of many packets side by side in lanes; and the law that
+//! decryption undoes encryption. Only `new_slots` takes memory.
 #![tactic(auto)]
 
 mod entry;

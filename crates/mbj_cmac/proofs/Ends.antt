@@ -75,7 +75,7 @@ range-block off len i packet h =
     ∙ ap (take 16) (sym (drop-take (16 * i) (len - 16 * i) (drop off packet)))
     ∙ ap (λ (n : ℕ). take 16 (drop (16 * i) (take n (drop off packet)))) whole
 
--- what is left of a range behind so many bytes
+-- what is left of a range behind this many bytes
 pub range-rest : (off len at : ℕ) (packet : List ℕ) → at ≤ len
     → take (off + len - (off + at)) (drop (off + at) packet) ≡ drop at (range off len packet)
 range-rest off len at packet h =

@@ -1,4 +1,4 @@
-//! CMAC with AES (SP 800-38B): of one message, and of many messages side by side in lanes. No call takes memory.
+//! CMAC with AES (SP 800-38B): of one message, and of many messages side by side in lanes. Only `new_slots` takes memory.
 #![tactic(auto)]
 
 mod closing;

@@ -85,7 +85,7 @@ commands =
 
 -- ---- the words
 
--- the program, which has a version and wants one of the commands
+-- the program, which has a version and needs one of the commands
 abbrev pub app : App
 app = record {
   top = record (new_shape (codes "mbjobs")) { is_leaf = false; has_version = true; subcommand_required = true };

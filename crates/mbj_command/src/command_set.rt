@@ -9,6 +9,7 @@ use crate::options::{JOBS, NumberOption, SEED, SIZE, SUBMITTERS, WORKERS, argume
 use clap::Command;
 use std::alloc::{AllocError, Global};
 
+/// The program's version, which `--version` prints.
 const VERSION: &str = "0.2.0";
 
 /// A command without options. In its help the text `about` stands at the top, and the example at the end.

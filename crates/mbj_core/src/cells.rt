@@ -92,7 +92,7 @@ impl Slot {
     }
 }
 
-/// So many cells that hold nothing.
+/// This many cells that hold nothing.
 ///
 /// Returns `AllocError` for want of memory.
 pub(crate) fn free_cells(alloc: Global, count: usize) -> Result<Vec<Slot>, AllocError>

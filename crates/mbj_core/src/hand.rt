@@ -53,7 +53,7 @@ impl Hand {
     }
 }
 
-/// So many empty hands.
+/// This many empty hands.
 ///
 /// Returns `AllocError` for want of memory.
 pub(crate) fn empty_hands(alloc: Global, count: usize) -> Result<Vec<Hand>, AllocError>

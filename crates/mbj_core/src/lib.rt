@@ -1,6 +1,6 @@
 //! The core of the shared front: submitters that post jobs and collect their results in order, and parties that
 //! claim any job and finish it, as one pure machine. Its contracts name the events of the front, over states in
-//! which a later front with threads can be seen too, and its laws hold of every list of events.
+//! which the front with threads (`mbj_front`) is seen too, and its laws hold of every list of events.
 #![tactic(auto)]
 
 mod cells;

@@ -50,14 +50,14 @@ fn xor_within(key: &TextKey, counter: &[u8; 16], used: usize, bytes: &mut [u8])
     xor_in_place(bytes, &mask[used..]);
 }
 
-// The number of blocks that a text of so many bytes begins, modulo 2^32.
+// The number of blocks that a text of this many bytes begins, modulo 2^32.
 fn begun_blocks(bytes: u64) -> u32
     ensures { result ≡ (bytes + 15) / 16 % 2 ^ 32 }
 {
     (bytes.div_ceil(BLOCK_BYTES as u64) % (1 << u32::BITS)) as u32
 }
 
-/// How many bytes a block lacks that a text of so many bytes leaves open: none where it ends with a whole one.
+/// How many bytes a block lacks that a text of this many bytes leaves open: none where it ends with a whole one.
 pub(crate) fn open_room(bytes: u64) -> usize
     ensures { result ≡ (16 - bytes % 16) % 16 }
 {

@@ -1,5 +1,5 @@
-//! Calls without a manager, for a program that wants one thing at once: a key's schedules, the subkeys of CMAC, a digest, a text by
-//! CCM, and a text by GCM in parts. A whole text by GCM is `seal` and `unseal` of `mbj_gcm`. Only the calls on CCM take memory.
+//! Calls without a manager, for a program that needs one result at a time: a key's schedules, the subkeys of CMAC, a digest, a text
+//! by CCM, and a text by GCM in parts. A whole text by GCM is `seal` and `unseal` of `mbj_gcm`. Only the calls on CCM take memory.
 #![tactic(auto)]
 
 mod ccm;

@@ -26,8 +26,8 @@ const DIRECTIONS: u32 = 2;
 /// A text by GCM of which the parts so far were sealed or opened. It is a plain value of 120 bytes, in the order of C's, and owns no
 /// memory. It holds the key, and is as secret.
 ///
-/// Each pattern of these bytes is a value. `is_state` tells those that a text can go on from, which `begin` makes; all zero bytes are
-/// none.
+/// Each pattern of these bytes is a value. `is_state` tells those that a text can go on from, which `begin` makes; all zero bytes are no
+/// state.
 ///
 /// A text in three parts, and its tag:
 ///
@@ -139,7 +139,7 @@ impl GcmState {
     /// The 16 bytes of tag over the additional data and the ciphertext, of which a shorter tag is the leftmost ones. Nothing is
     /// compared: a caller that opens a text compares its tag with the leftmost bytes of this one. It takes no memory.
     ///
-    /// The state becomes all zero bytes, which are none.
+    /// The state becomes all zero bytes, which are no state.
     pub fn finish(&mut self) -> [u8; 16]
         requires { IsTrue (is_gcm_state self.old) }
         ensures cleared { self.new ≡ blank_state }

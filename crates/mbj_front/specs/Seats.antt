@@ -27,7 +27,7 @@ module _ {J D : Type 0} where
   abbrev pub Did : (J → D) → PartySeat J D → Move J D → PartySeat J D → Type 0
   Did owed old move new = Led owed old.inner.me.0.submitters old.inner.me.0.workers (view_of old) move (view_of new)
 
--- what holds of a table is the rule of so many submitters and workers
+-- what holds of a table is the rule of this many submitters and workers
 abbrev pub HasRule : {J D : Type 0} → (J → D) → ℕ → ℕ → (State (Slot J D) (Place D) → Type 0) → Type 0
 HasRule {J} {D} owed submitters workers holds = (table : State (Slot J D) (Place D)) → holds table ↔ Rule owed submitters workers table
 

@@ -20,7 +20,7 @@ use std::alloc::{AllocError, Global};
 /// The words and slots of a front's cells, and what its seats know of it.
 type FrontTable<J, D, R> = Table<Slot<J, D>, Place<D>, Size, FrontRule<R>, Global>;
 
-/// So many slots that hold nothing.
+/// This many slots that hold nothing.
 ///
 /// Returns `AllocError` for want of memory.
 fn blank_slots<J: Drop, D: Drop>(alloc: Global, count: usize) -> Result<Vec<Slot<J, D>>, AllocError>
@@ -86,7 +86,7 @@ impl<J: Drop, D: Drop, R: Results<J, D>> SharedFront<J, D, R> {
         }
     }
 
-    /// The seats of so many parties, cut from the root's, in the order of their numbers.
+    /// The seats of this many parties, cut from the root's, in the order of their numbers.
     fn cut_seats(
         &self,
         alloc: Global,

@@ -52,8 +52,8 @@ impl<J, D, R: Results<J, D>> SharedFront<J, D, R> {
         }
     }
 
-    /// Takes the result of the submitter's earliest job that is out; it then empties that cell. One look is made, at
-    /// that cell. Returns the word that it found exactly where that isn't `DONE`; then only the looks grow.
+    /// Takes the result of the submitter's earliest job that is out; it then empties that cell. Returns the cell's word
+    /// exactly where that isn't `DONE`; then nothing changes but that the look is recorded.
     pub fn try_take(&self, seat: &mut PartySeat<J, D>) -> Result<D, u64>
         requires front { IsOf self.now seat.old }
         requires rest { (view_of seat.old).phase ≡ Rest }

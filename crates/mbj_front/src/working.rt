@@ -37,8 +37,8 @@ impl<J, D, R: Results<J, D>> SharedFront<J, D, R> {
         table.load::<Scan<R>>(&mut seat.inner, cell as usize)
     }
 
-    /// Claims the job of a cell for a party at rest: it goes to the end of the party's hand. One look is made, at that
-    /// cell. Returns the word that it found exactly where that isn't `READY`; then only the looks grow.
+    /// Claims the job of a cell for a party at rest: it goes to the end of the party's hand. Returns the cell's word
+    /// exactly where that isn't `READY`; then nothing changes but that the look is recorded.
     pub fn try_claim(&self, seat: &mut PartySeat<J, D>, cell: u32) -> Result<J, u64>
         requires front { IsOf self.now seat.old }
         requires rest { (view_of seat.old).phase ≡ Rest }

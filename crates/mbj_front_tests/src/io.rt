@@ -24,7 +24,7 @@ pub(super) fn gives<S: Source>(
     }
 }
 
-/// Whether a write of the piece takes so many of its bytes, or fails.
+/// Whether a write of the piece takes this many of its bytes, or fails.
 pub(super) fn takes<O: Sink>(sink: &mut O, piece: &[u8], expected: Result<usize, Failed>) -> bool {
     sink.write(piece) == expected
 }

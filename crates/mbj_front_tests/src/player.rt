@@ -104,7 +104,7 @@ impl Player<'_> {
         self.party.post(self.front, job).is_ok()
     }
 
-    /// The cell of a submitter's job that is so many behind its earliest one that is out.
+    /// The cell of a submitter's job that is `count` behind its earliest one that is out.
     fn cell_behind(&self, count: u32) -> Option<u32>
         requires { count < SUBMITTER_CELLS }
     {

@@ -86,7 +86,7 @@ fn are_done_apart<R: Threads + Sync>(rt: &R, alloc: Global) -> Result<bool, Allo
     Ok(are_results_of_two_lists(&results))
 }
 
-/// Whether they get them over a front with so many workers.
+/// Whether they get them over a front with this many workers.
 fn are_done_over_a_front<R: Threads + Wait + Sync>(
     rt: &R,
     alloc: Global,

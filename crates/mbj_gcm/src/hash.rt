@@ -12,7 +12,7 @@ const BYTE_BITS: u64 = 8;
 // The bytes of a bit length.
 const BIT_LENGTH_BYTES: usize = 8;
 
-// The bit length of a part of so many bytes, modulo 2^64.
+// The bit length of a part of this many bytes, modulo 2^64.
 fn bit_length(bytes: u64) -> [u8; 8]
     ensures { result ≡ bit_length bytes }
 {

@@ -30,9 +30,9 @@ pub fn seal(key: &Schedule, iv: &[u8], aad: &[u8], text: &mut [u8]) -> [u8; 16]
     tag(&masks[SUBKEY], &masks[TAG_MASK], aad, text)
 }
 
-/// Decrypts a text in place by GCM (SP 800-38D, 7.2, steps 2 to 7) from an IV of 1 to 65,535 bytes, and returns the 16
-/// bytes of tag over `aad` and the text as it was, the ciphertext. Nothing is compared: the text is decrypted whatever
-/// tag it came with, and the caller compares that tag with the leftmost bytes of the answer.
+/// Decrypts a text in place by GCM (SP 800-38D, 7.2, steps 2 to 7) from an IV of 1 to 65,535 bytes, and returns the 16 bytes of tag over
+/// `aad` and the text as it was, the ciphertext. Nothing is compared: the text is decrypted whatever tag it came with, and the caller
+/// compares that tag with the leftmost bytes of the result.
 pub fn unseal(key: &Schedule, iv: &[u8], aad: &[u8], text: &mut [u8]) -> [u8; 16]
     requires some_iv { 1 ≤ length iv.now }
     requires iv_fits { length iv.now ≤ 65535 }

@@ -4,7 +4,7 @@ ghost use Rattle.mbj_gen.specs.Generator.{byte, draws, drawn_length};
 use mbj_types::Bytes;
 use std::alloc::{AllocError, Global};
 
-/// Draws bytes: a linear congruential generator of 64 bits, of whose states each shows its highest byte.
+/// Draws bytes by a linear congruential generator of 64 bits: each draw is the highest byte of the next state.
 #[derive(Drop)]
 pub(crate) struct Draws {
     pub(crate) state: u64,
@@ -29,7 +29,7 @@ impl Draws {
 
     /// Draws `count` bytes.
     ///
-    /// Returns `AllocError` for want of memory; the state is then any.
+    /// Returns `AllocError` for want of memory; the state is then unspecified.
     pub(crate) fn bytes(&mut self, alloc: Global, count: usize) -> Result<Bytes, AllocError>
         ensures { IfOk result (λ drawn. (drawn ≡ (draws byte count self.old.state).0)
             × (self.new.state ≡ (draws byte count self.old.state).1)) }

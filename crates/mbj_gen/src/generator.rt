@@ -154,7 +154,7 @@ fn draw_cipher(
     }
 }
 
-/// Draws a key of `key_bytes` bytes and a range for a job with an HMAC or a CMAC.
+/// Draws a key of `key_bytes` bytes and a range for a job whose authentication has a range of its own.
 #[tactic(auto, unfolding(crate::specs::Generator::with_hash_part))]
 fn draw_hash(
     draws: &mut Draws,
@@ -248,7 +248,7 @@ fn draw_parts(
     Ok(())
 }
 
-/// Draws a job. After `AllocError` the state is any.
+/// Draws a job. After `AllocError` the state is unspecified.
 #[tactic(auto, unfolding(crate::specs::Generator::job))]
 fn draw_job(draws: &mut Draws, alloc: Global) -> Result<Job, AllocError>
     ensures { IfOk result (λ j. (j ≡ (job draws.old.state).0) × (draws.new.state ≡ (job draws.old.state).1)) }

@@ -1,4 +1,4 @@
-//! Jobs that are made from a seed, and what their results come to.
+//! Jobs that are made from a seed, and a summary of their results.
 #![tactic(auto)]
 
 mod draws;

@@ -13,7 +13,7 @@ use mbj_types::{Done, MAX_TAG_BYTES};
 /// The longest packet of a job that is made from a seed, in bytes.
 const MOST_PACKET_BYTES: usize = 512;
 
-/// What a line has beside the digits of packet and tag, in bytes: fewer than these.
+/// More bytes than a line has beside the digits of packet and tag.
 const MOST_OTHER_BYTES: usize = 32;
 
 /// The room of a [`LineSink`], in bytes: more than any line has whose packet has at most `MOST_PACKET_BYTES` bytes.

@@ -5,7 +5,7 @@ use crate::generator::Generator;
 use mbj_types::Job;
 use std::alloc::{AllocError, Global};
 
-/// Makes so many jobs from a seed.
+/// Makes `count` jobs from a seed.
 ///
 /// Returns `AllocError` for want of memory.
 #[tactic(auto, unfolding(crate::specs::Generator::draws))]

@@ -4,8 +4,8 @@ ghost use Rattle.mbj_gen.specs.declared.line_sink.TheConstants.{LINE_ROOM};
 
 use sha2::Sha256;
 
-/// What results come to, which are added one after another. Their text is made line by line, and not kept: each line has
-/// less than [`LINE_ROOM`] bytes.
+/// A summary of results, which are added one by one. Their text is made line by line, and not kept: each line has less than
+/// [`LINE_ROOM`] bytes.
 ///
 /// [`LINE_ROOM`]: crate::line_sink::LINE_ROOM
 #[derive(Drop)]

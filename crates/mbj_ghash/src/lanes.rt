@@ -141,6 +141,7 @@ pub struct Lanes128 {
 }
 
 impl Lanes128 {
+    /// The numbers `a` to `d`, in lanes 0 to 3.
     #[inline(always)]
     pub fn new(a: u128, b: u128, c: u128, d: u128) -> Lanes128
         ensures first { wide_lane result 0 ≡ a }

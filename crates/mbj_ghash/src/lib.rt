@@ -1,6 +1,5 @@
-//! GHASH (SP 800-38D, 6.4), the hash over the blocks of a message that GCM makes its tag from. No call takes memory.
-//! The code has no table, and no index and no branch depends on the subkey or on what is hashed: this is read in it, and
-//! no clause says so.
+//! GHASH (SP 800-38D, 6.4), the hash over the blocks of a message that GCM makes its tag from. No call takes memory. The code has no table,
+//! and no index and no branch depends on the subkey or on what is hashed: this is seen in the code; no clause states it.
 #![tactic(auto)]
 
 mod field;

@@ -1,6 +1,7 @@
 //! The two words of 64 bits of a number of 128 bits.
 ghost use Rattle.std.specs.Prelude.{◌≡◌, ◌+◌, ◌*◌, ◌/◌, ◌%◌, ◌^◌};
 
+/// The low 64 bits.
 #[inline(always)]
 pub fn low_word(x: u128) -> u64
     ensures { result ≡ x % 2 ^ 64 }
@@ -8,6 +9,7 @@ pub fn low_word(x: u128) -> u64
     (x & 0xffff_ffff_ffff_ffff) as u64
 }
 
+/// The high 64 bits.
 #[inline(always)]
 pub fn high_word(x: u128) -> u64
     ensures { result ≡ x / 2 ^ 64 }

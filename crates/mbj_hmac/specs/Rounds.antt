@@ -9,7 +9,7 @@ use Rattle.mbj_hmac.specs.declared.form.Form.TheVariants as form
 use Rattle.mbj_hmac.specs.Forms.{counted, outer_rounds_of}
 
 -- how hashes that share a compression work (FIPS 180-4, 5 and 6): which they are, the bytes of a block, the padding behind a
--- message of so many bytes, the compression of a block into a hash value, and how many words a hash value has; by the hash the
+-- message of this many bytes, the compression of a block into a hash value, and how many words a hash value has; by the hash the
 -- initial hash value and the digest that a hash value gives; and of a stored state how many bytes it has, the bytes of a hash value,
 -- and the hash value that such bytes hold
 pub record Chaining : Type 0 where

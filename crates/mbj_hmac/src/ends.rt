@@ -11,7 +11,7 @@ use crate::key::{IPAD, MAX_BLOCK_BYTES, OPAD, padded};
 use crate::lane_hash::LaneHash;
 use mbj_types::HashName;
 
-/// The bytes of the length that ends the padding, as far as lengths of messages go.
+/// The bytes of a message's length at the end of the padding. The higher bytes of the length of SHA-384 and SHA-512 are zeros.
 const LENGTH_BYTES: usize = 8;
 
 /// A bit 1 and zeros: the longest start of a padding.
@@ -80,7 +80,7 @@ fn fill<H: LaneHash>(len: usize) -> usize
     block * tail_blocks::<H>(len) - len % block - 1 - LENGTH_BYTES
 }
 
-/// A bit 1 and so many zero bytes.
+/// A bit 1 and `zeros` zero bytes.
 fn padding_start(zeros: usize) -> &'static [u8]
     requires { zeros < 144 }
     ensures { result.now ≡ 0x80 ∷ replicate zeros 0 }
@@ -99,7 +99,7 @@ pub(crate) fn put(ends: &mut [u8], at: usize, bytes: &[u8]) -> usize
     at + bytes.len()
 }
 
-/// Writes the padding behind a message of `len` bytes. So many bytes are hashed before the message: a block of a pad, or none.
+/// Writes the padding behind a message of `len` bytes. Before the message `before` bytes are hashed: a block of a pad, or none.
 fn put_padding<H: LaneHash>(ends: &mut H::Ends, at: usize, before: usize, len: usize) -> usize
     requires small { len < 2 ^ 32 }
     requires before { (before ≡ 0) ⊎ (before ≡ H.chaining.block_bytes) }
@@ -114,8 +114,8 @@ fn put_padding<H: LaneHash>(ends: &mut H::Ends, at: usize, before: usize, len: u
     H::put(ends, at, &bits)
 }
 
-/// Writes the end of a message and the padding behind the first block, and returns the place behind them. So many bytes are
-/// hashed before the message: a block of a pad, or none.
+/// Writes the end of a message and the padding behind the first block, and returns the place behind them. Before the message `before` bytes
+/// are hashed: a block of a pad, or none.
 fn put_end<H: LaneHash>(
     ends: &mut H::Ends,
     before: usize,

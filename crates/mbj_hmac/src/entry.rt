@@ -57,7 +57,7 @@ impl<H: LaneHash> Model for HmacEntry<H> {
 }
 
 impl<H: LaneHash> HmacEntry<H> {
-    /// An entry that has no round left, and no packet: it stands where there is none.
+    /// An entry that has no round left, and no packet, for an idle slot.
     pub(crate) fn blank(alloc: Global) -> HmacEntry<H>
         ensures { result.rest ≡ 0 }
     {
@@ -242,7 +242,7 @@ impl<H: LaneHash> HmacEntry<H> {
         self.form.outer_rounds()
     }
 
-    /// The block of the round that comes after `done` others, of which the outer hash's first is at most the first.
+    /// The block of the round after `done` others. The outer hash starts with the first of these rounds, or with none of them.
     #[inline(always)]
     pub(crate) fn block(&self, done: u32) -> &[u8]
         requires { done < self.now.rest }
@@ -273,7 +273,7 @@ impl<H: LaneHash> HmacEntry<H> {
         self.rest
     }
 
-    /// With how many rounds left the outer hash starts. No rest comes to that of a digest, which has none.
+    /// How many rounds are left when the outer hash starts: 2^32 - 1 for a digest, which has none.
     #[inline(always)]
     pub(crate) fn turn_rest(&self) -> u32
         ensures { result ≡ turn_of self.now }
@@ -290,7 +290,7 @@ impl<H: LaneHash> HmacEntry<H> {
         self.chain = chain;
     }
 
-    /// The rest falls by `m`, where so many rounds are left.
+    /// The rest falls by `m`, or to 0 where fewer rounds are left.
     #[inline(always)]
     pub(crate) fn go_on(&mut self, m: u32)
         ensures { self.new ≡ moved m self.old }

@@ -129,7 +129,7 @@ impl<H: LaneHash> HmacLanes<H> {
         }
     }
 
-    /// All entries go on by the next `m` blocks, of which the outer hash's first is at most the first.
+    /// All entries go on by the next `m` blocks. An outer hash starts with the first of them, or with none of them.
     #[inline(never)]
     fn stretch(&mut self, entries: &mut [HmacEntry<H>], m: u32, schedule: &mut H::Schedule)
         requires few { length entries.old ≤ H.LANES }
@@ -220,7 +220,7 @@ fn compressed<H: LaneHash>(
     }
 }
 
-/// The rests fall by `m`, where so many are left.
+/// The rests fall by `m`, or to 0 where fewer rounds are left.
 fn go_on<H: LaneHash>(entries: &mut [HmacEntry<H>], m: u32)
     ensures { entries.new ≡ map (moved m) entries.old }
 {

@@ -6,7 +6,7 @@ ghost use Rattle.mbj_hmac.specs.Inside.InLanes.{idle, lowered, most_lanes, reach
 
 use std::simd::{u32x4, u32x8, u32x16, u64x8};
 
-/// The rest of an idle lane. No entry has so many rounds.
+/// The rest of an idle lane. No entry has this many rounds.
 pub(crate) const IDLE: u32 = 0x8000_0000;
 
 /// The numbers of the lanes.

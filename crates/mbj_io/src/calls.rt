@@ -32,6 +32,9 @@ impl Model for Calls {
 }
 
 impl Calls {
+    /// Calls that move at most `piece` bytes each. Those whose numbers, from 0 on, are in `fails` fail.
+    ///
+    /// Returns `AllocError` for want of memory.
     pub fn new(alloc: Global, piece: u32, fails: &[u64]) -> Result<Calls, AllocError>
         requires { 1 ≤ piece }
         ensures { IfOk result (λ c. c ≡ first_calls piece fails.now) }
@@ -52,6 +55,7 @@ impl Calls {
         self.piece as usize
     }
 
+    /// How many calls failed.
     pub fn faults(&self) -> u64
         ensures { result ≡ self.now.faults }
     {

@@ -18,7 +18,7 @@ const STEPS: u32 = 8;
 /// A burst has fewer jobs.
 const MOST: u32 = 40;
 
-/// So many jobs one after another are made in two ways alone, so that they fill lists.
+/// This many jobs one after another are made in two ways alone, so that they fill lists.
 const ALIKE: u32 = 128;
 
 /// A cipher, the bytes of its key and of its IV, an authentication, the bytes of its key, and those of the tag.
@@ -206,7 +206,7 @@ impl Pair {
         })
     }
 
-    /// Opens cells until so many are open, and fills the new ones. A single call opens a cell as it submits the job.
+    /// Opens cells until `n` are open, and fills the new ones. A single call opens a cell as it submits the job.
     fn open(&mut self, rt: &impl Abort, alloc: Global, n: u32) -> Result<Given, AllocError> {
         let open = self.bursts.get_next_burst(n);
         for i in self.filled..open {

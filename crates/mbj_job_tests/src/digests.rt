@@ -22,7 +22,7 @@ const LETTERS: [u8; 128] = [0x61; 128];
 /// The key of the HMACs.
 const KEY: &[u8] = b"key";
 
-/// A message of so many letters, and its digest, or its HMAC under the key, in hex.
+/// A message of `len` letters, and its digest, or its HMAC under the key, in hex.
 #[derive(Drop)]
 struct Letters {
     auth: Auth,

@@ -149,8 +149,8 @@ fn texts_are_sealed_from_ivs_of_8_12_and_60_bytes_as_in_the_gcm_specification(rt
     unsealing_undoes_sealing();
 }
 
-// The key, the IV and the additional data of test case 4. No standard has a text of so many blocks, more than go at once; the
-// tag is OpenSSL's.
+// The key, the IV and the additional data of test case 4. No standard has a text of this many blocks, more than go at once; the tag is
+// OpenSSL's.
 #[test]
 fn a_text_of_more_blocks_than_lanes_is_sealed(rt: HostRuntime) {
     let key = Schedule::expand(&KEY[..16]);

@@ -5,7 +5,7 @@ use std::process::Abort;
 // The enciphered zero block under the zero key, as in test cases 1 and 2 of the GCM specification.
 const SUBKEY: u128 = 0x66e94bd4ef8a2c3b884cfa59ca342b2e;
 
-// GHASH under that subkey of so many first blocks of the text, by another program.
+// GHASH under that subkey of this many first blocks of the text, by another program.
 const AFTER_BLOCKS: [(usize, u128); 8] = [
     (0, 0x00000000000000000000000000000000),
     (1, 0xcd9a157e625ae9d70b5a799c41371df3),
@@ -17,7 +17,7 @@ const AFTER_BLOCKS: [(usize, u128); 8] = [
     (19, 0xee2cf673cb2f5b116e2351ca55eae247),
 ];
 
-// GHASH of the first block of the text and a part of so many bytes behind it, by another program.
+// GHASH of the first block of the text and a part of this many bytes behind it, by another program.
 const AFTER_PARTS: [(usize, u128); 6] = [
     (0, 0xcd9a157e625ae9d70b5a799c41371df3),
     (1, 0x8dd86d1a83d4255754be4b7b1b54c3b6),

@@ -26,7 +26,7 @@ fn fill_gmac(alloc: Global, job: &mut Job, key: u128, iv: Bytes) -> Result<(), A
     put_block(alloc, &mut job.packet, DATA)
 }
 
-/// GMAC over so many bytes of the vector's data from a place on is this tag.
+/// GMAC over `len` bytes of the vector's data from `off` on is this tag.
 fn check_range(rt: &impl Abort, alloc: Global, off: u32, len: u32, tag: u128) -> Result<(), Fail> {
     let mut job = Job::blank(alloc);
     fill_gmac(alloc, &mut job, KEY, Bytes::from_slice(alloc, &IV)?)?;
@@ -43,7 +43,7 @@ fn gmac_is_over_the_hash_range(rt: HostRuntime) -> Result<(), Fail> {
     check_range(&rt, rt.alloc(), 3, 9, 0xa49f991d4f53f55d4d6997a360b0a167)
 }
 
-/// Lengths of IVs, and the tag of the data under an IV of so many letters `a` and the key of FIPS 197, C.1: by OpenSSL, and that of
+/// Lengths of IVs, and the tag of the data under an IV of this many letters `a` and the key of FIPS 197, C.1: by OpenSSL, and that of
 /// 65,535 bytes by pycryptodome.
 const TAGS: [(usize, u128); 4] = [
     (1, 0x2f1316698884cf3aa78d83270b83a54f),

@@ -74,7 +74,7 @@ fn enter<C, K: Tried<C>>(
     Ok(())
 }
 
-/// Puts cases in so many lanes, by turns.
+/// Puts cases in this many lanes, by turns.
 fn enter_by_turns<C, K: Tried<C>>(
     rt: &impl Abort,
     alloc: Global,
@@ -103,7 +103,7 @@ fn step<C, K: Tried<C>>(rt: &impl Abort, cases: &[C], lanes: &mut Lanes<K>) {
     }
 }
 
-/// Runs so many entries of the cases in an empty list, and looks at what leaves it.
+/// Runs this many entries of the cases in an empty list, and looks at what leaves it.
 fn run_in<C, K: Tried<C>>(
     rt: &impl Abort,
     alloc: Global,

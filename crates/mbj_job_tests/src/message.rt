@@ -13,7 +13,7 @@ fn padded<const BLOCK: usize>(message: &[u8]) -> [u8; BLOCK]
     block
 }
 
-/// The message of so many letters: nothing, "a", "ab" and so on.
+/// The message of `len` letters: nothing, "a", "ab" and so on.
 pub(crate) fn letters(len: usize) -> &'static [u8]
     requires { len < 16 }
     ensures { length result.now ≡ len }

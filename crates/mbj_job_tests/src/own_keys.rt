@@ -127,7 +127,7 @@ fn key_of(lane: u8) -> [u8; 32] {
     key
 }
 
-/// The schedule of a lane's key of so many bytes.
+/// The schedule of a lane's key of `key_bytes` bytes.
 fn schedule_of(lane: u8, key_bytes: usize) -> Schedule
     requires { IsKeySize key_bytes }
     ensures { length result ≡ 16 * (key_bytes / 4 + 7) }
@@ -135,7 +135,7 @@ fn schedule_of(lane: u8, key_bytes: usize) -> Schedule
     Schedule::expand(&key_of(lane)[..key_bytes])
 }
 
-/// Lanes whose keys have so many bytes, each with its own.
+/// Lanes whose keys have `key_bytes` bytes, each with its own.
 fn own_keys(key_bytes: usize) -> LaneKeys
     requires { IsKeySize key_bytes }
     ensures { IsFull result }

@@ -23,8 +23,8 @@ const CIPHERED: [u8; 16] = [
     0x76, 0x49, 0xab, 0xac, 0x81, 0x19, 0xb2, 0x46, 0xce, 0xe9, 0x8e, 0x9b, 0x12, 0xe9, 0x19, 0x7d,
 ];
 
-/// Jobs where session 0, whose key is `KEY`, is learnt: cipher, length of the cipher range, key, and session; and how many keys are
-/// expanded for them.
+/// Jobs where session 0, whose key is `KEY`, is learnt: cipher, length of the cipher range, key, and session; and how many keys are counted
+/// as expanded.
 const JOBS: [(Cipher, u32, [u8; 16], Option<u32>, u64); 6] = [
     (Cipher::Cbc, 16, KEY, Some(0), 0),
     (Cipher::Cbc, 16, OTHER_KEY, Some(0), 1),
@@ -109,7 +109,7 @@ fn sessions_change_no_result(rt: HostRuntime) -> Result<(), Fail> {
     let keys = one_session(alloc)?;
     let mut known = Known::nothing(alloc, &keys)?;
     let mut manager = Manager::new(alloc)?;
-    // First by the job's own expansion, and then by the entry of the session.
+    // First without the session's entry, and then with it.
     for expansions in [1, 1] {
         let given = known.done(&mut manager, job(alloc, Cipher::Cbc, 16, &KEY, Some(0))?);
         let is_right = given.is_some_and(|done| done.packet.as_slice() == CIPHERED.as_slice());

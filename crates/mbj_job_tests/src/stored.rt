@@ -151,7 +151,7 @@ fn stored(auth: Auth) -> (Auth, usize) {
     }
 }
 
-/// Whether so many bytes are the states of an HMAC from states.
+/// Whether this many bytes are the states of an HMAC from states.
 fn are_states(auth: Auth, len: usize) -> bool
     ensures { IsTrue result → IfSome (states_hash_of auth) (λ c. len ≡ 2 * c.state_bytes) }
 {

@@ -13,11 +13,11 @@ use mbj_types::MAX_SESSIONS;
 use std::alloc::{AllocError, Global};
 use std::marker::Model;
 
-/// Keys that tasks share, one for each session. Contracts see each session's key, and the name of the cell in which the
-/// key's entry is put.
+/// Keys that threads share, one for each session. Contracts see each session's key, and the name of the cell in which
+/// the key's entry is put.
 ///
-/// A session's entry is made by the tasks that learn it while its cell is empty, and each task uses the one that came
-/// first into the cell. A cell is set once.
+/// A session's entry is made by the threads that learn it while its cell is empty, and each thread uses the one that
+/// came first into the cell. A cell is set once.
 ///
 /// ```
 /// let mut notes = Notes::new(alloc, &keys)?;
@@ -78,8 +78,8 @@ impl Keys {
         self.sessions[n as usize].key()
     }
 
-    /// Learns the entry of session `n`, which is below the count. The session's key is expanded where no task has put its
-    /// entry into the cell. It doesn't wait: tasks that race may each expand the key, and all learn the entry of one of
+    /// Learns the entry of session `n`, which is below the count. The session's key is expanded where no thread has put its
+    /// entry into the cell. It doesn't wait: threads that race may each expand the key, and all learn the entry of one of
     /// them.
     ///
     /// Returns `AllocError` for want of memory; the notes then know what they knew.

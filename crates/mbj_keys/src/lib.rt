@@ -1,5 +1,6 @@
-//! Keys that tasks share, in sessions that are numbered from 0. A task that learns a session finds its key expanded in
-//! the session's cell, or expands it and puts it there; all tasks then use the schedule of the first. No call waits.
+//! Keys that threads share, in sessions that are numbered from 0. A thread that learns a session finds its key expanded
+//! in the session's cell, or expands it and puts it there; all threads then use the schedule of the first. No call
+//! waits.
 #![tactic(auto)]
 
 mod entry;

@@ -6,8 +6,8 @@ use crate::session::{Session, SessionNote};
 use std::alloc::{AllocError, Global};
 use std::marker::Model;
 
-/// What one task has learned of keys that it shares with others: a note for each session. Contracts see what each note
-/// knows.
+/// What one thread has learned of keys that it shares with others: a note for each session. Contracts see what each
+/// note knows.
 #[derive(Drop)]
 pub struct Notes {
     pub(crate) notes: Vec<SessionNote>,

@@ -9,7 +9,7 @@ use once_cell::race::{Note, OnceBox};
 use std::alloc::{AllocError, Global};
 use std::marker::Model;
 
-/// A key, and the cell in which the first task that expands it puts its entry.
+/// A key, and the cell in which the first thread that expands it puts its entry.
 #[derive(Drop)]
 pub struct Session {
     key: Bytes,
@@ -50,7 +50,7 @@ impl Session {
     }
 }
 
-/// What one task has learned of one session.
+/// What one thread has learned of one session.
 ///
 /// The note may have seen an entry that isn't learnt: one that has another key, which no call of this crate puts into a
 /// cell.

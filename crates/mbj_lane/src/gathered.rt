@@ -31,6 +31,8 @@ impl<K: Kernel> Model for GatheredSlots<K> {
 
 impl<K: Kernel> GatheredSlots<K> {
     /// As many slots as lanes, all of them idle. No other call takes memory.
+    ///
+    /// Returns `AllocError` for want of memory.
     pub fn new(alloc: Global) -> Result<GatheredSlots<K>, AllocError>
         ensures { IfOk result (λ s. (i : ℕ) → i < K.LANES → at_slot s.0 s.1 i ≡ None) }
     {

@@ -47,6 +47,8 @@ impl<K: SlotKernel> Model for Lanes<K> {
 
 impl<K: SlotKernel> Lanes<K> {
     /// A list with no entry. It takes the memory for as many entries as the kind has lanes; no other call takes any.
+    ///
+    /// Returns `AllocError` for want of memory.
     pub fn new(alloc: Global) -> Result<Lanes<K>, AllocError>
         ensures { IfOk result (λ l. l ≡ no_entries) }
     {
@@ -110,7 +112,9 @@ impl<K: SlotKernel> Lanes<K> {
         m
     }
 
-    /// Where the first entry stands that has no round left.
+    /// The place of the first entry that has no round left, from 0 in the order of the list.
+    ///
+    /// Returns `None` exactly where each entry has one.
     pub fn first_finished(&self) -> Option<usize>
         ensures { MatchOption result (All (λ e. 1 ≤ K.rest_of e) self.now.entries) (λ i. IsFirst K.rest_of i self.now.entries) }
     {
@@ -122,7 +126,7 @@ impl<K: SlotKernel> Lanes<K> {
         None
     }
 
-    /// Takes out an entry that has no round left, and its label. The others keep their order.
+    /// Takes out the entry at place `k`, which has no round left, and its label. The others keep their order.
     pub fn remove(&mut self, k: usize) -> (u32, K::Entry)
         requires place { k < length self.old.entries }
         requires done { (d : K.Entry) → K.rest_of (slice_index_or self.old.entries k d) ≡ 0 }

@@ -16,6 +16,8 @@ pub trait SlotKernel: Kernel {
     ghost slot: { Self.Slots → ℕ → Option Self.Entry };
 
     /// As many slots as lanes, all of them idle. No other call takes memory.
+    ///
+    /// Returns `AllocError` for want of memory.
     fn new_slots(alloc: Global) -> Result<Self::Slots, AllocError>
         ensures { IfOk result (λ s. (i : ℕ) → i < Self.LANES → slot s i ≡ None) };
 

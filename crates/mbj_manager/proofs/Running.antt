@@ -68,7 +68,7 @@ idle-keeps k m ready =
     (record { few = few-stay k m ready; rests = stayers-rest (shortened (queue_for k m).waiting); blocks = ready.lane.blocks }) in
     record { within = run.within; fewer = run.fewer; ahead = run.ahead }
 
--- so many rounds more of a full lane queue
+-- this many rounds more of a full lane queue
 counted-blocks : (lanes rounds more end : ℕ) → ((lanes * rounds) % end + more * lanes) % end ≡ (lanes * ((rounds + more) % end)) % end
 counted-blocks lanes rounds more end =
     let sum : lanes * rounds + more * lanes ≡ lanes * (rounds + more) = omega arith in

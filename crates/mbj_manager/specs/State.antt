@@ -123,7 +123,7 @@ abbrev pub finds : List Known → List Job → Bool
 finds notes [] = false
 finds notes (j ∷ js) = knows_key notes j.session j.key
 
--- the notes are those of the submitting task
+-- the notes are those of the submitting thread
 abbrev pub after_submit_in : List Known → ManagerState → Option Done × ManagerState
 after_submit_in notes h = after_submit_by (finds notes h.opened) h
 

@@ -6,6 +6,7 @@ use std::alloc::{AllocError, Global};
 /// The jobs that stand between two stages, by their places in the ring: those that go on next.
 #[derive(Drop)]
 pub struct Agenda {
+    /// The places of the jobs in the ring, that of the job that goes on next first.
     pub places: Vec<u32>,
     ghost in_ring: { All (λ p. p < CELLS) places.items },
 }

@@ -18,8 +18,8 @@ pub fn calls_keep_the_machine()
     ensures { (calls : List Call) → AreKept calls }
 {}
 
-/// A law: by which number a course and a flush iterate doesn't matter. Every number of steps after which the agenda is empty
-/// gives the same machine, and so does every number of flush steps after which the earliest job is finished.
+/// A law: it doesn't matter how often a course and a flush iterate, where it is often enough. Every number of steps after which the agenda
+/// is empty gives the same machine, and so does every number of flush steps after which the earliest job is finished.
 pub fn enough_steps_give_one_machine()
     ensures { (m : Machine) → StepsEndAlike m }
 {}

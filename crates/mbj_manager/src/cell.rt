@@ -208,7 +208,7 @@ impl Cell {
         self.course_mut().take_done()
     }
 
-    /// Makes it a cell with a blank job, whatever it held. Memory of at most `most` bytes stays with each of the job's bytes, and longer
+    /// Makes it a cell with a blank job, whatever it held. Memory of at most `most` bytes is kept for each field of the job, and longer
     /// memory is freed.
     pub fn clear(&mut self, most: usize)
         ensures { self.new ≡ cell.Open blank }

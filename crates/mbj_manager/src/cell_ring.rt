@@ -18,13 +18,13 @@ use std::alloc::{AllocError, Global};
 use std::marker::Model;
 use std::mem;
 
-/// A ring of cells, which contracts see as a `Ring`, and beside it the cells that are in no use: together they are `CELLS`. A cell goes
+/// A ring of cells, which contracts see as a `Ring`, and beside it the cells that aren't in use: together they are `CELLS`. A cell goes
 /// from one to the other as a pointer, and the idle cell that came last is used first.
 #[derive(Drop)]
 pub struct CellRing {
     ring: Ring<Cell>,
     idle: Vec<Cell>,
-    // How many bytes of memory an idle cell keeps with each of its job's bytes, at most.
+    // How many bytes of memory an idle cell keeps at most for each field of its job.
     most: usize,
 }
 
@@ -58,8 +58,8 @@ fn all_idle(alloc: Global) -> Result<Vec<Cell>, AllocError>
 impl CellRing {
     ghost use Rattle.mbj_manager.specs.Inside.CellRingLends.{LendsOpen, LendsOpenAt, LendsFront, LendsAt};
 
-    /// A ring with no cell in use, whose idle cells keep at most `most` bytes of memory with each of a job's bytes. It takes the memory
-    /// of all cells.
+    /// A ring with no cell in use, whose idle cells keep at most `most` bytes of memory for each field of a job. It takes the memory of all
+    /// cells.
     ///
     /// Returns `AllocError` for want of memory.
     pub(crate) fn new(alloc: Global, most: usize) -> Result<CellRing, AllocError>

@@ -88,8 +88,8 @@ fn leave<K: Feed>(queue: &mut LaneQueue<K>, ring: &mut CellRing, agenda: &mut Ag
     }
 }
 
-/// The lane queue runs for its least rest, within a submit, where all its lanes are in use, or within a flush; and those whose rounds
-/// are done leave. The run goes into the counts of that call.
+/// The lane queue runs for its least rest, within a submit, where all its lanes are occupied, or within a flush; and those whose rounds are
+/// done leave. The run goes into the counts of that call.
 pub(crate) fn run_within<K: Feed>(
     cause: Cause,
     queue: &mut LaneQueue<K>,

@@ -9,8 +9,8 @@ use mbj_stage::Feed;
 use std::alloc::{AllocError, Global};
 use std::marker::Model;
 
-/// The jobs of a kind that wait for lanes, each by its place in the ring and with its entry, in the order in which they came;
-/// and what the full runs of the kind came to, modulo 2^64.
+/// The jobs of a kind that wait for lanes, each by its place in the ring and with its entry, in the order in which they came; and how many
+/// rounds and blocks the kind's full runs took, modulo 2^64.
 #[derive(Drop)]
 pub struct LaneQueue<K: Feed> {
     /// The entries, each with the place of its job as its label.
@@ -82,7 +82,7 @@ impl<K: Feed> LaneQueue<K> {
         self.lanes.enter_as(place, entry);
     }
 
-    /// All run for the least rest among them, which is the answer.
+    /// All run for the least rest among them, and it returns that number.
     pub(crate) fn run(&mut self) -> u32
         requires some { 0 < length self.old.waiters }
         requires rests { All HasRest self.old.waiters }

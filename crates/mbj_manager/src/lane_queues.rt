@@ -23,16 +23,27 @@ use std::alloc::{AllocError, Global};
 /// The jobs that wait for lanes, kind by kind.
 #[derive(Drop)]
 pub struct LaneQueues {
+    /// CBC encryption with keys of 128 bits.
     pub cbc128: LaneQueue<CbcKernel<10>>,
+    /// CBC encryption with keys of 192 bits.
     pub cbc192: LaneQueue<CbcKernel<12>>,
+    /// CBC encryption with keys of 256 bits.
     pub cbc256: LaneQueue<CbcKernel<14>>,
+    /// CMAC with keys of 128 bits.
     pub cmac128: LaneQueue<CmacKernel<10>>,
+    /// CMAC with keys of 256 bits.
     pub cmac256: LaneQueue<CmacKernel<14>>,
+    /// Digests and HMACs of SHA-1.
     pub hmac_sha1: LaneQueue<Hmac1Kernel>,
+    /// Digests and HMACs of SHA-224 and SHA-256.
     pub hmac_sha256: LaneQueue<Hmac256Kernel>,
+    /// Digests and HMACs of SHA-384 and SHA-512.
     pub hmac_sha512: LaneQueue<Hmac512Kernel>,
+    /// The MAC of CCM with keys of 128 bits.
     pub ccm128: LaneQueue<CcmKernel<10>>,
+    /// The MAC of CCM with keys of 192 bits.
     pub ccm192: LaneQueue<CcmKernel<12>>,
+    /// The MAC of CCM with keys of 256 bits.
     pub ccm256: LaneQueue<CcmKernel<14>>,
     /// How many runs there were within a flush, modulo 2^64.
     pub flush_runs: u64,

@@ -26,7 +26,7 @@ use mbj_types::{Done, Job, Kind, RingFull};
 use std::alloc::{AllocError, Global};
 use std::marker::Model;
 
-/// How many bytes of memory a cell keeps at most with each of a job's bytes, where it keeps any.
+/// How many bytes of memory a cell that keeps memory keeps at most, each for key, IV, authentication key, additional data and packet.
 pub const KEPT_BYTES: usize = 2048;
 
 /// A manager of jobs for one thread.
@@ -35,7 +35,8 @@ pub const KEPT_BYTES: usize = 2048;
 /// `get_completed` and `flush` give finished jobs back, always in the order of submission. A job that is refused comes
 /// back in its place, as `Status::InvalidArgs`.
 ///
-/// `new` takes all the memory of the cells; no other call takes any. At most `CELLS` jobs are submitted and not given back.
+/// `new` and `keeping` take all the memory of cells and lanes; no other call takes any. At most `CELLS` jobs are submitted and not given
+/// back.
 ///
 /// ```
 /// match manager.get_next() {
@@ -66,7 +67,7 @@ impl Model for Manager {
 
     ghost view = { λ m. record (m.works) { expansions = m.expansions } };
 
-    // Between calls nobody stands between two stages, and no job has more than two left.
+    // Between calls no job is between two stages, and none has more than two left.
     ghost invariant = { λ m. IsSettled m.works };
 }
 
@@ -80,7 +81,7 @@ impl Manager {
         Manager::with_most(alloc, 0)
     }
 
-    /// A manager as `new` makes it, whose cells keep memory: at most `KEPT_BYTES` with each of a job's bytes, which later jobs use.
+    /// A manager as `new` makes it, whose cells keep memory that later jobs use: at most `KEPT_BYTES` for each field of a job.
     ///
     /// Returns `AllocError` for want of memory.
     pub fn keeping(alloc: Global) -> Result<Manager, AllocError>
@@ -137,7 +138,7 @@ impl Manager {
         if self.is_full() { self.flush() } else { None }
     }
 
-    /// Puts a job into the next cell, where it is the first open job. It takes no memory.
+    /// Puts a job into the next cell, where it is the first open job, in place of one that was open there. It takes no memory.
     pub fn put_next(&mut self, job: Job)
         requires { length self.old.owed < CELLS }
         ensures { self.new ≡ with_open self.old job }
@@ -166,8 +167,8 @@ impl Manager {
         self.works.open_job(i)
     }
 
-    /// Submits the first open job as it is then. Its stages are done as far as lanes run for it; then the earliest job is given
-    /// back, where it is finished. The job's key is expanded where the job is accepted and has a cipher.
+    /// Submits the first open job as it is then. Its stages are done as far as lanes run for it; then the earliest job is given back, where
+    /// it is finished. The job's key is expanded, or, for CBC encryption, counted as expanded, where the job is accepted and has a cipher.
     ///
     /// Returns `None` exactly where, after that, the earliest job isn't finished.
     pub fn submit(&mut self) -> Option<Done>
@@ -184,8 +185,8 @@ impl Manager {
         self.submit_by(None)
     }
 
-    /// Does what `submit` does. Where the notes know an entry of the job's session, and its key is the job's, the entry's schedule
-    /// is used; else the job's key is expanded. So no result depends on the session.
+    /// Does what `submit` does. Where the notes know an entry of the job's session, and its key is the job's, the job's key isn't expanded
+    /// for it alone; else all is as by `submit`. So no result depends on the session.
     pub fn submit_in(&mut self, keys: &Keys, notes: &mut Notes) -> Option<Done>
         requires is_open { 0 < length self.old.opened }
         requires notes { AreOf keys.now notes.old }
@@ -328,9 +329,9 @@ impl Manager {
         self.works.waiting(kind)
     }
 
-    /// The entries of the jobs of K's kind that wait for lanes: as many entries as jobs, and in their order. An entry has as
-    /// many rounds left as its job. The job's own course has it out, with the job's keys, IV, data and ranges and with the last
-    /// of its steps left. Once the entry's rounds are done and it is taken back, the course leads to the job's result.
+    /// The entries of the jobs of K's kind that wait for lanes: as many entries as jobs, and in their order. An entry has as many rounds
+    /// left as its job. The job's own course has its packet out, with the job's keys, IV, data and ranges and with the last of its steps
+    /// left. Once the entry's rounds are done and it is taken back, the course leads to the job's result.
     pub fn lanes<K: Queued>(&self) -> &Lanes<K>
         ensures rests { map K.rest_of result.now.entries ≡ map rest_of (queue_for K.kind self.now.machine).waiting }
         ensures entries { AreEntriesOf K.kind self.now (map (λ e. K.brings (end_of K.round K.rest_of e)) result.now.entries)

@@ -53,7 +53,7 @@ fn agenda_room() -> usize
 pub struct Works {
     ring: CellRing,
     agenda: Agenda,
-    /// In a box, so that a caller's proof that a manager is freed doesn't look into each list.
+    /// In a box, so that a caller's proof that a manager is freed doesn't look into each lane queue.
     lists: Box<LaneQueues>,
 }
 
@@ -96,7 +96,7 @@ impl Works {
         })
     }
 
-    /// How many jobs there are, and not those that are being filled.
+    /// How many jobs are submitted and not given back.
     pub(crate) fn len(&self) -> u32
         ensures size { result ≡ length self.now.owed }
         ensures within { result ≤ CELLS }
@@ -309,7 +309,7 @@ impl Works {
         self.ring.give(given);
     }
 
-    /// The job in a cell is open job `index` from now on. The cell has the job then that was there.
+    /// Exchanges the job in a cell with open job `index`, the first opened being 0.
     pub(crate) fn exchange(&mut self, index: u32, other: &mut Cell)
         requires index { index < length self.old.opened }
         requires is_open { IsOpen other.old }

@@ -37,7 +37,7 @@ Tells jobs submitters (line.Collect s n d) (Some (collect t, collected e)) = (t 
 Tells jobs submitters (line.CollectNone s) (Some (collect t, nothing)) = t ≡ s
 Tells jobs submitters l e = ⊥
 
--- The events that the lines of each replay of commands for so many submitters and workers tell of, one after another, lead
+-- The events that the lines of each replay of commands for this many submitters and workers tell of, one after another, lead
 -- from the new front to one that the replay's core stands for after the commands.
 abbrev pub ReplaysAreOfEvents : Type 0
 ReplaysAreOfEvents =

@@ -111,7 +111,7 @@ collect_of s _ r = (line.CollectNone s ∷ [], r)
 
 -- ---- the whole
 
--- the submitter and the worker of a command are among so many
+-- the submitter and the worker of a command are among this many
 abbrev pub IsFor : ℕ → ℕ → Cmd → Type 0
 IsFor submitters workers (command.Post s) = s < submitters
 IsFor submitters workers (command.Claim w s) = (w < workers) × (s < submitters)

@@ -23,7 +23,7 @@ pub(crate) fn party_of(core: &Core, w: u32) -> u32
     core.submitters() + w
 }
 
-/// The cell of a submitter's job that is so many behind its earliest one that is out.
+/// The cell of a submitter's job that is `count` behind its earliest one that is out.
 pub(crate) fn cell_behind(core: &Core, s: u32, count: u32) -> u32
     requires submitter { s < core.now.submitters }
     requires count { count ≤ SUBMITTER_CELLS }

@@ -1,4 +1,4 @@
-//! A script of commands over one front, with a manager for each worker, and the lines that tell what each command comes to.
+//! A script of commands over one front, with a manager for each worker, and the lines that tell the outcome of each command.
 #![tactic(auto)]
 
 mod claiming;

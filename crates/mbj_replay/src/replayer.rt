@@ -47,7 +47,7 @@ impl Posted {
 /// What a command prints: a line, and, where a claim led to a finish, the line of that.
 type Told = (ReplayLine, Option<ReplayLine>);
 
-/// A front, a worker for each manager, and the jobs of a file, which the commands of a script drive.
+/// A front, a manager for each worker, and the jobs of a file, which the commands of a script drive.
 #[derive(Drop)]
 pub(crate) struct Replayer {
     core: Core,
@@ -83,7 +83,7 @@ fn numbers_below(alloc: Global, count: u32) -> Result<Vec<u32>, AllocError>
     Ok(numbers)
 }
 
-/// So many cells in which nothing was posted.
+/// This many cells in which nothing was posted.
 fn unused_cells(alloc: Global, count: u32) -> Result<Vec<Posted>, AllocError>
     ensures { IfOk result (λ cells. map (λ x. x.number) cells.items ≡ replicate count 0) }
 {
@@ -312,7 +312,7 @@ impl Replayer {
     }
 }
 
-/// The lines that tell what each command of a script comes to, over one front and a manager for each worker.
+/// The lines that tell the outcome of each command of a script, over one front and a manager for each worker.
 ///
 /// Returns `AllocError` for want of memory.
 ///

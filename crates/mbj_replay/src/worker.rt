@@ -82,7 +82,7 @@ impl Worker {
     }
 }
 
-/// So many workers whose hands are empty.
+/// This many workers whose hands are empty.
 ///
 /// Returns `AllocError` for want of memory.
 pub(crate) fn idle_workers(alloc: Global, count: u32) -> Result<Vec<Worker>, AllocError>

@@ -2,7 +2,7 @@ ghost use Rattle.std.specs.Prelude.{◌<◌};
 
 use std::alloc::{AllocError, Global};
 
-/// Draws from a linear congruential generator of 64 bits, of whose states each shows its highest byte.
+/// Draws from a linear congruential generator of 64 bits: each byte is the highest one of the next state.
 #[derive(Drop)]
 pub(crate) struct Draws {
     state: u64,

@@ -36,9 +36,8 @@ fn all_rounds<V: Lane32>(words: &mut [V], start: Working<V>) -> Working<V>
     four_steps(words, v, 76)
 }
 
-/// Compresses one block into one hash value in each lane. `states` has 5 lane words, the words of the
-/// hash values; `words` has 16, the words of the blocks, and is used up: what it holds afterwards is
-/// not said.
+/// Compresses one block into one hash value in each lane. `states` has 5 lane words, the words of the hash values; `words` has 16, the
+/// words of the blocks, and is used up: its contents are unspecified afterwards.
 pub fn compress_lanes<V: Lane32>(states: &mut [V], words: &mut [V])
     requires states { length states.old ≡ 5 }
     requires words { length words.old ≡ 16 }

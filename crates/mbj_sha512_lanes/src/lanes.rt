@@ -8,9 +8,8 @@ use crate::functions::Sha512;
 use mbj_sha_lanes::compress_windowed;
 use mbj_types::Lane64;
 
-/// Compresses one block into one hash value in each lane. `states` has 8 lane words, the words of the
-/// hash values; `words` has 16, the words of the blocks, and is used up: what it holds afterwards is
-/// not said.
+/// Compresses one block into one hash value in each lane. `states` has 8 lane words, the words of the hash values; `words` has 16, the
+/// words of the blocks, and is used up: its contents are unspecified afterwards.
 pub fn compress_lanes<V: Lane64>(states: &mut [V], words: &mut [V])
     requires states { length states.old ≡ 8 }
     requires words { length words.old ≡ 16 }

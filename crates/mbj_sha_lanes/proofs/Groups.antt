@@ -14,7 +14,7 @@ module _ (bits n : ℕ) where
   second_lane : (xs ys : List ℕ) (i : ℕ) → length xs ≡ n → lane_at bits (xs ++ ys) (n + i) ≡ lane_at bits ys i
   second_lane xs ys i l = ap (λ (x : ℕ). x % 2 ^ bits) (ap (λ m. get_or (xs ++ ys) (m + i) 0) (sym l) ∙ get_or-append-add xs ys i 0)
 
-  -- so many vectors, each of n lanes, and the vectors of both groups
+  -- this many vectors, each of n lanes, and the vectors of both groups
   module _ (count : ℕ) (ws low high : List (List ℕ))
       (size : length ws ≡ count) (low_size : length low ≡ count) (high_size : length high ≡ count)
       (width : Each1 (λ v. length v ≡ n) low)

@@ -15,7 +15,7 @@ pub record Sha2Functions : Type 0 where
   -- how many rounds there are, and their constants
   pub count : ℕ
   pub constants : List ℕ
-  -- the words of a block, those of its schedule, and the working variables after so many rounds from a hash value on
+  -- the words of a block, those of its schedule, and the working variables after this many rounds from a hash value on
   pub first_words : List ℕ → List ℕ
   pub schedule : List ℕ → List ℕ
   pub rounds : List ℕ → List ℕ → ℕ → List ℕ

@@ -114,8 +114,8 @@ fn all_rounds<V: Copy, H: Sha2<V>>(words: &mut [V], start: Working<V>) -> Workin
     v
 }
 
-/// Compresses one block into one hash value in each lane. `states` has 8 lane words, the words of the hash values;
-/// `words` has 16, the words of the blocks, and is used up: what it holds afterwards is not said.
+/// Compresses one block into one hash value in each lane. `states` has 8 lane words, the words of the hash values; `words` has 16, the
+/// words of the blocks, and is used up: its contents are unspecified afterwards.
 #[inline(always)]
 pub fn compress_windowed<V: Copy, H: Sha2<V>>(states: &mut [V], words: &mut [V])
     requires states { length states.old ≡ 8 }

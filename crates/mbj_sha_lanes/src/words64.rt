@@ -23,8 +23,8 @@ pub fn choice<V: Lane64>(x: V, y: V, z: V) -> V
     z.xored(x.anded(y.xored(z)))
 }
 
-/// Maj (FIPS 180-4, 4.1). The words that differ between x and y are those that differ between y
-/// and z a round later, so a kernel computes them once.
+/// Maj (FIPS 180-4, 4.1). In SHA-2 the bits in which x and y differ are those in which y and z differ a round later, so they are computed
+/// once.
 #[inline(always)]
 pub fn majority<V: Lane64>(x: V, y: V, z: V) -> V
     ensures { (i : ℕ) → i < V.LANES → V.lane result i ≡ maj (V.lane x i) (V.lane y i) (V.lane z i) }

@@ -33,7 +33,7 @@ ccm_lanes n = by_rounds n kind.Ccm128 kind.Ccm192 kind.Ccm256
 abbrev pub ccm_stage : ℕ → Stage
 ccm_stage n = stage.Lane (ccm_lanes n)
 
--- the kind k is that of the kernel, with so many lanes, and these are the rounds of its jobs
+-- the kind k is that of the kernel, with this many lanes, and these are the rounds of its jobs
 pub record IsServed (k kernel_kind : Kind) (kernel_lanes : ℕ) (lanes : ℕ) (rounds : Job → ℕ) : Type 0 where
   pub kind : kernel_kind ≡ k
   pub kernel : kernel_lanes ≡ lanes

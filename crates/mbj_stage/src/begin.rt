@@ -23,8 +23,8 @@ impl Course {
         Course::begin_with(job, None)
     }
 
-    /// The course of a job, with nothing done. The schedule of the cipher's key is that of the entry of the job's session, where
-    /// the notes know it and its key is the job's; else the key is expanded.
+    /// The course of a job, with nothing done. Where the job is accepted and needs the schedule of its key, the schedule is that of the
+    /// entry of the job's session, where the notes know it and its key is the job's; else the key is expanded.
     pub fn begin_in(job: Job, keys: &Keys, notes: &mut Notes) -> Course
         requires { AreOf keys.now notes.old }
         ensures same { notes.new ≡ notes.old }
@@ -35,8 +35,8 @@ impl Course {
         Course::begin_with(job, found)
     }
 
-    /// The course of a job, with nothing done. The schedule of the cipher's key is the one that was found; where none was, the
-    /// key is expanded.
+    /// The course of a job, with nothing done. Where the job is accepted and needs the schedule of its key, the schedule is the one that
+    /// was found; where none was, the key is expanded.
     pub fn begin_with(job: Job, found: Option<&Schedule>) -> Course
         requires { IfSome found (λ s. IsScheduleOf job.key s.now) }
         ensures begun { result ≡ begun job }
@@ -61,8 +61,8 @@ impl Course {
         Course::start(job, reason, Some(schedule), session)
     }
 
-    /// The course of a job, with nothing done, in place of what it was. It takes the job, and leaves another one in its place. The
-    /// schedule of the cipher's key is the one that was found; where none was, the key is expanded.
+    /// The course of a job, with nothing done, in place of what it was. It takes the job, and leaves another one in its place. Where the
+    /// job is accepted and needs the schedule of its key, the schedule is the one that was found; where none was, the key is expanded.
     pub fn begin_in_place(&mut self, job: &mut Job, found: Option<&Schedule>)
         requires { IfSome found (λ s. IsScheduleOf job.old.key s.now) }
         ensures begun { self.new ≡ begun job.old }

@@ -107,7 +107,7 @@ fn status(reason: Option<Reason>) -> Status
     }
 }
 
-/// Keeps the schedule of a job's key, where it is wanted: the one that was found, or the expanded key where none was.
+/// Keeps the schedule of a job's key, where the job needs one: the one that was found, or the expanded key where none was.
 fn keep_schedule(
     kept: &mut Option<Schedule>,
     job: &Job,
@@ -156,8 +156,8 @@ fn taken(packet: &mut Vec<u8>) -> Vec<u8>
 }
 
 impl Course {
-    /// The course of a job, with nothing done, which is refused for this reason or for none. The schedule of its key is there where
-    /// it is wanted, and the session in which the key was learnt, if there is one.
+    /// The course of a job, with nothing done, which is refused for this reason or for none. The schedule of its key is there where the job
+    /// needs one, and the session in which the key was learnt, if there is one.
     pub(crate) fn start(
         mut job: Job,
         reason: Option<Reason>,
@@ -188,8 +188,8 @@ impl Course {
     }
 
     /// The course of a job, with nothing done, in place of what it was, where the job is refused for this reason or for none. It takes the
-    /// job, and leaves another one in its place. The schedule of the cipher's key, where it is wanted, is the one that was found; where
-    /// none was, the key is expanded.
+    /// job, and leaves another one in its place. The schedule of the cipher's key, where the job needs one, is the one that was found;
+    /// where none was, the key is expanded.
     pub(crate) fn restart(
         &mut self,
         job: &mut Job,
@@ -211,8 +211,8 @@ impl Course {
         self.out = None;
     }
 
-    /// Ends the course, and makes the job a blank one, which has the memory of the course's job: at most `most` bytes with each of
-    /// its bytes.
+    /// Ends the course, and makes the job a blank one, which has the memory of the course's job: at most `most` bytes for each field of the
+    /// job.
     pub fn end(&mut self, job: &mut Job, most: usize)
         ensures { job.new ≡ blank }
     {

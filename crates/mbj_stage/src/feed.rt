@@ -28,7 +28,7 @@ pub trait Feed: SlotKernel {
     /// The kind.
     ghost kind: { Kind };
 
-    /// The kernel does the work of that kind: one of AES has a number of rounds that keys have.
+    /// The kernel does the work of that kind: a kernel of AES has the round count of a key.
     ghost fits: { Type 0 };
 
     /// What an entry with no round left brings back to its course.
@@ -120,7 +120,7 @@ pub trait HashKind: LaneHash {
     /// The kind has these lanes.
     ghost lanes: { Self.LANES ≡ lanes_of kind };
 
-    /// It is one of authentications.
+    /// The kind is an authentication's.
     ghost authenticates: { step_of kind ≡ step.Auth };
 
     /// An authentication whose stage is in these lanes is the digest of one of the hashes, or its HMAC.

@@ -14,8 +14,7 @@ use mbj_aes::Schedule;
 use mbj_gcm::{seal, unseal};
 use mbj_types::{Dir, Job, Tag};
 
-/// GCM on a text by the schedule of a job's key, its IV, additional data and direction: the text changes, and the answer is the whole
-/// tag.
+/// GCM on a text by the schedule of a job's key, its IV, additional data and direction: the text changes, and the whole tag is returned.
 #[tactic(auto, using(crate::proofs::Schedules::enciphers))]
 fn gcm(job: &Job, key: &Schedule, text: &mut [u8]) -> [u8; 16]
     requires key { IsScheduleOf job.now.key key.now }

@@ -31,7 +31,7 @@ fn needs_schedule(job: &Job) -> bool
     }
 }
 
-/// Whether the schedule is wanted, where the job is refused for this reason or for none.
+/// Whether the job needs the schedule, where it is refused for this reason or for none.
 pub(crate) fn wants_schedule(reason: Option<Reason>, job: &Job) -> bool
     requires { reason ≡ verdict job.now }
     ensures wants { result ≡ wants_schedule reason job.now.cipher job.now.dir }

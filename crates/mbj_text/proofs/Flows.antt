@@ -16,7 +16,7 @@ fronts : (text left last front next : List ℕ)
 fronts text left last front next first second =
     first ∙ ap (λ (l : List ℕ). front ++ l) second ∙ sym (append_assoc front next last)
 
--- a front of a text is a front of a longer one
+-- a prefix of a text is a prefix of a longer one
 front_more : (text left more front : List ℕ)
     → text ≡ front ++ left → text ++ more ≡ front ++ (left ++ more)
 front_more text left more front is =
@@ -130,7 +130,7 @@ gains_then {a} {b} {c} {text} {left} f g = record {
   written = Appends-trans a b c f.front g.front f.written g.written;
 }
 
--- a flow, and then a front of what it left
+-- a flow, and then a prefix of what it left
 pub front_then : {a b c : Option (List ℕ)} {i j k : ℕ} {text left : List ℕ}
     → FlowsOn (between a b i j) text left → WritesFront (between b c j k) left → WritesFront (between a c i k) text
 front_then {a} {b} {c} {i} {j} {k} f g = record {
@@ -139,12 +139,12 @@ front_then {a} {b} {c} {i} {j} {k} f g = record {
   never_falls = subst (λ n. n ≤ k) f.calm g.never_falls;
 }
 
--- a front of bytes is a front of the text that they are
+-- a prefix of bytes is a prefix of the text that they are
 pub front_whole : {s : Stream} {text : List ℕ} (n : ℕ) (bytes : List ℕ)
     → length bytes ≤ n → take n bytes ≡ text → WritesFront s bytes → WritesFront s text
 front_whole {s} n bytes fits is w = subst (WritesFront s) (sym (take_all n bytes fits) ∙ is) w
 
--- a front of a text is a front of it with more behind
+-- a prefix of a text is a prefix of it with more behind
 pub front_with : {s : Stream} {text : List ℕ} (more : List ℕ) → WritesFront s text → WritesFront s (text ++ more)
 front_with {s} {text} more g = record {
   front = record {
@@ -157,7 +157,7 @@ front_with {s} {text} more g = record {
   never_falls = g.never_falls;
 }
 
--- a front of what waits together with the next part of what is left
+-- a prefix of what waits together with the next part of what is left
 pub front_part : {a b c : Option (List ℕ)} {i j k : ℕ} {text : List ℕ} (waits part more : List ℕ)
     → FlowsOn (between a b i j) text (waits ++ (part ++ more))
     → WritesFront (between b c j k) (waits ++ part) → WritesFront (between a c i k) text
@@ -165,7 +165,7 @@ front_part {a} {b} {c} {i} {j} {k} {text} waits part more f g =
     let Next : List ℕ → Type 0 = λ l. WritesFront (between b c j k) l in
     front_then f (subst Next (append_assoc waits part more) (front_with more g))
 
--- a flow, and then a front of the next line of what it left
+-- a flow, and then a prefix of the next line of what it left
 pub front_line : {a b c : Option (List ℕ)} {i j k : ℕ} {text left line : List ℕ} (rest : List ℕ)
     → FlowsOn (between a b i j) text left → left ≡ line ++ rest → WritesFront (between b c j k) line
     → WritesFront (between a c i k) text

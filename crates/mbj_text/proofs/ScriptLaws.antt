@@ -13,7 +13,7 @@ use Rattle.mbj_text.specs.Inside.Reading.{Answers, command_of, Fails, fault_at}
 use Rattle.mbj_text.proofs.EachLine.{ReadSoFar, none_read, each_read, more_read, stops_next, outcome, good_give, stop_gives}
 use Rattle.mbj_text.proofs.CommandLaws.{command_back, command_fault_back, command_fault_read, command_total, command_unlimited}
 
--- ---- line after line, for so many submitters and workers
+-- ---- line after line, for this many submitters and workers
 
 -- the script lines before those that are left spell the commands
 abbrev pub ScriptSoFar : ℕ → ℕ → List Numbered → List Numbered → List Cmd → Type 0

@@ -4,7 +4,7 @@ use Rattle.std.specs.Io.KnownBytes.{Appends}
 use Rattle.mbj_io.specs.Streams.{Stream, Fails}
 use Rattle.mbj_io.specs.declared.traits.Failed.{Failed}
 
--- a front of the text was appended to what was held
+-- a prefix of the text was appended to what was held
 pub record GainsPrefix (old new : Option (List ℕ)) (text : List ℕ) : Type 0 where
   pub front : List ℕ
   pub rest : List ℕ
@@ -16,7 +16,7 @@ pub record WritesAll (s : Stream) (text : List ℕ) : Type 0 where
   pub written : Appends s.before s.after text
   pub calm : s.faults_after ≡ s.faults_before
 
--- a front of the text was appended, and then a write failed
+-- a prefix of the text was appended, and then a write failed
 pub record WritesFront (s : Stream) (text : List ℕ) : Type 0 where
   pub front : GainsPrefix s.before s.after text
   pub failed : Fails s

@@ -9,8 +9,8 @@ use mbj_types::{Done, Status};
 /// Writes the line of result n: `N ok PACKET TAG` of a job that was done, `N invalid-args R` of one
 /// that was refused. Bytes are in lower-case hexadecimal, `-` for none, and R is the reason's number.
 ///
-/// [`Failed`] comes only where the sink's faults rose; the sink has then taken a front of the line.
-/// It takes no memory.
+/// [`Failed`] comes only where the sink's faults rose; the sink has then taken a prefix of the
+/// line. It takes no memory.
 pub fn write_done<O: Sink>(sink: &mut O, n: u32, done: &Done) -> Result<(), Failed>
     ensures { Writes result (stream O.held O.faults sink.old sink.new) (done_line n done.now) }
 {

@@ -56,7 +56,7 @@ use std::alloc::Global;
 pub fn read_file(alloc: Global, bytes: &[u8]) -> Result<(Vec<Vec<u8>>, Vec<Job>), TextFault>
     requires { length bytes.now ≤ INPUT_LIMIT }
 
-    // Each answer but `Memory` is right.
+    // Each result but `Memory` is right.
     ensures reads { IfOk result (λ r. Reads bytes.now (map (λ k. k.items) r.0.items) r.1.items) }
     ensures bad { (line field : ℕ) → result ≡ Err (TextFault.Line line field)
         → Bad bytes.now line field }
@@ -67,7 +67,7 @@ pub fn read_file(alloc: Global, bytes: &[u8]) -> Result<(Vec<Vec<u8>>, Vec<Job>)
         × All (λ k. IsTrue (is_key_size (length k.items))) r.0.items) }
     ensures count { IfOk result (λ r. length r.1.items ≤ JOB_LIMIT) }
 
-    // What is right is answered, unless there isn't memory enough.
+    // What is right is returned, unless there isn't memory enough.
     ensures only_reads { (keys : List (List ℕ)) (jobs : List Job) → Reads bytes.now keys jobs
         → IsOkOnly result (λ r. (map (λ k. k.items) r.0.items ≡ keys) × (r.1.items ≡ jobs)) }
     ensures only_bad { (line field : ℕ) → Bad bytes.now line field

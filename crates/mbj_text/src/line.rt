@@ -80,7 +80,7 @@ fn put_parts<O: Sink>(piece: &mut Piece, sink: &mut O, parts: &[Part]) -> Result
 
 /// Writes the parts one after another, and nothing behind them. It takes no memory.
 ///
-/// [`Failed`] comes only where the sink's faults rose; the sink has then taken a front of their text.
+/// [`Failed`] comes only where the sink's faults rose; the sink has then taken a prefix of their text.
 pub fn write_parts<O: Sink>(sink: &mut O, parts: &[Part]) -> Result<(), Failed>
     ensures { Writes result (stream O.held O.faults sink.old sink.new) (text_before parts.now []) }
 {
@@ -91,7 +91,7 @@ pub fn write_parts<O: Sink>(sink: &mut O, parts: &[Part]) -> Result<(), Failed>
 
 /// Writes the parts one after another, and LF. It takes no memory.
 ///
-/// [`Failed`] comes only where the sink's faults rose; the sink has then taken a front of the line.
+/// [`Failed`] comes only where the sink's faults rose; the sink has then taken a prefix of the line.
 pub fn write_line<O: Sink>(sink: &mut O, parts: &[Part]) -> Result<(), Failed>
     ensures { Writes result (stream O.held O.faults sink.old sink.new) (line_of parts.now) }
 {

@@ -35,11 +35,10 @@ use std::alloc::Global;
 ///
 /// S is below `submitters`, and W is below `workers`.
 ///
-/// It returns `Line` at the first bad line, `Limit` at the job line behind `JOB_LIMIT` good ones,
-/// whatever it says, and `Memory` where there isn't memory enough. Of a bad session or job line the
-/// field is that of `read_file`. Of a bad script line it is 1 where the first field is no such word, else 0
-/// where the number of fields isn't that of the command, else the number of the first field that is
-/// no number below its limit. A job line that is bad or one too many, or a bad session line, comes before all script lines.
+/// It returns `Line` at the first bad line, `Limit` at the job line behind `JOB_LIMIT` good ones, whatever it says, and `Memory` where
+/// there isn't memory enough. Of a bad session or job line the field is that of `read_file`. Of a bad script line it is 1 where the first
+/// field is no such word, else 0 where the number of fields isn't that of the command, else the number of the first field that is no number
+/// below its limit. A job line that is bad or one too many, or a bad session line, is reported before any bad script line.
 pub fn read_replay(
     alloc: Global,
     bytes: &[u8],
@@ -48,7 +47,7 @@ pub fn read_replay(
 ) -> Result<(Vec<Vec<u8>>, Vec<Job>, Vec<Cmd>), TextFault>
     requires { length bytes.now ≤ INPUT_LIMIT }
 
-    // Each answer but `Memory` is right.
+    // Each result but `Memory` is right.
     ensures reads { IfOk result (λ r.
         ReadsReplay submitters workers bytes.now (map (λ k. k.items) r.0.items) r.1.items r.2.items) }
     ensures bad { (line field : ℕ) → result ≡ Err (TextFault.Line line field)
@@ -60,7 +59,7 @@ pub fn read_replay(
         × All (λ k. IsTrue (is_key_size (length k.items))) r.0.items) }
     ensures count { IfOk result (λ r. length r.1.items ≤ JOB_LIMIT) }
 
-    // What is right is answered, unless there isn't memory enough.
+    // What is right is returned, unless there isn't memory enough.
     ensures only_reads { (keys : List (List ℕ)) (jobs : List Job) (commands : List Cmd)
         → ReadsReplay submitters workers bytes.now keys jobs commands
         → IsOkOnly result (λ r. (map (λ k. k.items) r.0.items ≡ keys) × (r.1.items ≡ jobs) × (r.2.items ≡ commands)) }

@@ -11,14 +11,14 @@ pub trait TextLine {
 
     /// Writes the line. It takes no memory.
     ///
-    /// [`Failed`] comes only where the sink's faults rose; the sink has then taken a front of the line.
+    /// [`Failed`] comes only where the sink's faults rose; the sink has then taken a prefix of the line.
     fn write<O: Sink>(&self, sink: &mut O) -> Result<(), Failed>
         ensures { Writes result (stream O.held O.faults sink.old sink.new) (text self.now) };
 }
 
 /// Writes lines one after another. It takes no memory.
 ///
-/// [`Failed`] comes only where the sink's faults rose; the sink has then taken a front of their text.
+/// [`Failed`] comes only where the sink's faults rose; the sink has then taken a prefix of their text.
 pub fn write_lines<L: TextLine, O: Sink>(sink: &mut O, lines: &[L]) -> Result<(), Failed>
     ensures { Writes result (stream O.held O.faults sink.old sink.new) (flat_map L.text lines.now) }
 {

@@ -53,7 +53,7 @@ abbrev pub take_told : Taking → Tracing → Traced
 take_told taking.Completed t = call_told line.Completed after_get_completed t
 take_told taking.Flushed t = call_told line.Flush after_flush t
 
--- one call after another until one gives nothing back; where so many jobs are owed, so many calls give one back at most
+-- one call after another until one gives nothing back; at most as many calls give one back as jobs are owed
 abbrev pub takes_told : Taking → ℕ → Tracing → Traced
 takes_told how zero t = take_told how t
 takes_told how (suc jobs) t =

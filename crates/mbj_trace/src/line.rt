@@ -18,7 +18,7 @@ pub enum TraceLine {
     Completed(Option<u32>),
     /// A job was flushed, or there was none.
     Flush(Option<u32>),
-    /// What the full runs of a kind came to.
+    /// How many rounds and blocks the full runs of a kind took.
     Rounds {
         kind: Kind,
         rounds: u64,

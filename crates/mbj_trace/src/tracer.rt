@@ -137,7 +137,7 @@ impl Tracer {
         Ok(())
     }
 
-    /// Tells what the full runs of a kind came to, where there were any.
+    /// Tells how many rounds and blocks the full runs of a kind took, where there were any.
     fn count_kind(&mut self, kind: Kind) -> Result<(), AllocError>
         ensures lines { OnOk result (self.new.lines.items
             ≡ self.old.lines.items ++ count_lines self.old.manager.machine kind) }
@@ -155,7 +155,7 @@ impl Tracer {
         Ok(())
     }
 
-    /// Tells what the full runs of each kind came to.
+    /// Tells how many rounds and blocks the full runs of each kind took.
     fn count(&mut self) -> Result<(), AllocError>
         ensures { OnOk result (self.new.lines.items
             ≡ self.old.lines.items ++ flat_map (count_lines self.old.manager.machine) all_kinds) }

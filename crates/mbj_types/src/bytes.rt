@@ -70,7 +70,7 @@ impl Bytes {
 
     /// These bytes, in place of those that it has: in the same memory where they fit, else in new memory.
     ///
-    /// Returns `AllocError` for want of memory.
+    /// Returns `AllocError` for want of memory; the bytes are then as they were.
     pub fn refill(&mut self, alloc: Global, bytes: &[u8]) -> Result<(), AllocError>
         ensures { IfOk result (λ _. self.new ≡ bytes.now) }
     {

@@ -24,7 +24,10 @@ impl fmt::Display for Status {
 /// The result of a job.
 #[derive(Debug, Drop)]
 pub struct Done {
+    /// Whether the job is done, or why it is refused.
     pub status: Status,
+    /// The packet, with its cipher range ciphered; that of a refused job is as it came.
     pub packet: Bytes,
+    /// The tag, as long as the job asked for; that of a refused job has no bytes.
     pub tag: Tag,
 }

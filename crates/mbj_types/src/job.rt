@@ -127,8 +127,11 @@ impl fmt::Display for Auth {
 /// ```
 #[derive(Debug, Drop)]
 pub struct Job {
+    /// The cipher, or `Null`.
     pub cipher: Cipher,
+    /// Whether the cipher encrypts or decrypts.
     pub dir: Dir,
+    /// Whether the cipher or the authentication is done first.
     pub order: Order,
     /// The cipher's key: 16, 24 or 32 bytes.
     pub key: Bytes,
@@ -139,6 +142,7 @@ pub struct Job {
     pub cipher_off: u32,
     /// The length of that range, in bytes.
     pub cipher_len: u32,
+    /// The authentication, or `Null`.
     pub auth: Auth,
     /// The key of an HMAC, a CMAC or GMAC. For an HMAC from states it is the inner state and the outer state behind it, each a whole
     /// hash value as its words, big-endian: 40 bytes for SHA-1, 64 for SHA-224 and SHA-256, 128 for SHA-384 and SHA-512.
@@ -149,8 +153,10 @@ pub struct Job {
     pub hash_off: u32,
     /// The length of that range, in bytes.
     pub hash_len: u32,
-    /// The length of the tag, in bytes. CCM's tag has 4, 6, 8, 10, 12, 14 or 16.
+    /// The length of the tag, in bytes: 0 without an authentication, 1 to the length of the digest for a digest and an HMAC, 1 to 16 for
+    /// CMAC, GCM and GMAC, and 4, 6, 8, 10, 12, 14 or 16 for CCM.
     pub tag_len: u8,
+    /// What is ciphered in place and authenticated: at most 65,535 bytes.
     pub packet: Bytes,
     /// The number of the shared session whose key is `key`, if there is one. It says only where an expanded key may be found:
     /// `key` decides, and no result depends on the number.
@@ -181,7 +187,7 @@ impl Job {
         }
     }
 
-    /// Makes it a blank job. Of its bytes, memory of at most `most` bytes stays with each; longer memory is freed.
+    /// Makes it a blank job. Memory of at most `most` bytes is kept for each field; longer memory is freed.
     pub fn clear(&mut self, most: usize)
         ensures { self.new ≡ blank }
     {

@@ -67,7 +67,7 @@ all_collected [] = []
 all_collected (c ∷ cs) = collected_by c ++ all_collected cs
 
 -- What a party collected, and then what is still due, are the results of the jobs that it posted, in the order of its posts and
--- each once. So what it collected is a front of them.
+-- each once. So what it collected is a prefix of them.
 abbrev pub CollectsInOrder : Type 0
 CollectsInOrder =
     (calls : List PartyCall) (number : ℕ) (v : View Done) → MakeAll calls (new_party number) v

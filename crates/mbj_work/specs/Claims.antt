@@ -61,7 +61,7 @@ module _ (front : SharedFront Job Done Standard) where
   FinishesEach [] v w = w ≡ v
   FinishesEach (d ∷ ds) v w = (u : View Done) × FinishesFirst d v u × FinishesEach ds u w
 
-  -- so many settles, one after another
+  -- this many settles, one after another
   abbrev pub SettlesInTurn : ℕ → View Done → ManagerState → View Done → ManagerState → Type 0
   SettlesInTurn zero v manager w manager' = (w ≡ v) × (manager' ≡ manager)
   SettlesInTurn (suc n) v manager w manager' =

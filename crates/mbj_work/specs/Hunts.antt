@@ -14,7 +14,7 @@ module _ {D : Type 0} where
   abbrev pub after_looks : View D → List (ℕ × ℕ) → View D
   after_looks v looks = view v.number v.phase v.due v.handed v.hand (v.looks ++ looks)
 
-  -- it looked once at each of so many cells, from `at` round, and none was ready
+  -- it looked once at each of this many cells, from `at` round, and none was ready
   abbrev pub FindsNone : ℕ → ℕ → View D → View D → Type 0
   FindsNone cells at v w =
       (words : List ℕ) × (length words ≡ cells) × All (λ word. word ≢ READY) words

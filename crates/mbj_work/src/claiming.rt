@@ -44,11 +44,10 @@ pub(crate) fn finish_first<G: Gate>(
 }
 
 impl<'k> Party<'k> {
-    /// Claims the job of a cell, where the hand has room: the cell goes to the end of the hand, and the job is submitted to
-    /// the manager, by the schedule of its session's entry where the party has learnt the session and the entry has the job's key.
-    /// A result that this gives back is that of the first cell in the hand, which is finished with it.
-    /// Returns the cell's word exactly where this call's one look found another one than `READY`; then only the looks have
-    /// grown.
+    /// Claims the job of a cell, where the hand has room: the cell goes to the end of the hand, and the job is submitted to the manager,
+    /// with the entry of its session where the party has learnt the session and the entry has the job's key. A result that this gives back
+    /// is that of the first cell in the hand, which is finished with it. Returns `Not` with the cell's word exactly where that isn't
+    /// `READY`; then nothing changes but that the look is recorded.
     pub fn claim(&mut self, front: &Front, cell: u32) -> Claimed
         requires front { IsPartyOf front.now self.old }
         requires room { length (part_of self.old).hand < HAND_ROOM }

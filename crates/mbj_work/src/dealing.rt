@@ -48,7 +48,7 @@ fn deal(alloc: Global, jobs: Vec<Job>, submitters: u32) -> Result<Vec<Vec<Job>>,
     Ok(lists)
 }
 
-/// Does jobs by one front, whose parties share keys: the jobs are dealt to submitters by turns, and so many workers serve beside
+/// Does jobs by one front, whose parties share keys: the jobs are dealt to submitters by turns, and `workers` workers serve beside
 /// those. All parties but one submitter are in threads of their own, where these can be started. Returns the results in the order of
 /// the jobs.
 ///

@@ -46,8 +46,8 @@ impl<'k> Party<'k> {
         self.settle_all(front, gate);
     }
 
-    /// Collects until at most so many of this submitter are out, and appends the results, for which there is room. While
-    /// the earliest job that is out has no result it waits for others, and helps where the gate lets it.
+    /// Collects until at most `left` jobs of this submitter are out, and appends the results, for which there is room.
+    /// While the earliest job that is out has no result it waits for others, and helps where the gate lets it.
     pub(crate) fn collect_down_to<R: Wait, G: Gate>(
         &mut self,
         rt: &R,
@@ -107,7 +107,7 @@ impl<'k> Party<'k> {
         helped
     }
 
-    /// Whether nobody else works on the earliest job that is out: it is ready, or first in this hand.
+    /// Whether no other party works on the earliest job that is out: it is ready, or first in this hand.
     fn has_first(&mut self, front: &Front) -> bool
         requires front { IsPartyOf front.now self.old }
         requires submitter { Submits front.now self.old }

@@ -42,7 +42,7 @@ impl<'k> KnownKeys<'k> {
         Ok(KnownKeys { keys, notes })
     }
 
-    /// Submits a job to a manager, by the schedule of its session's entry where that has the job's key.
+    /// Submits a job to a manager, with the entry of its session where that has the job's key.
     fn submit_job(&mut self, manager: &mut Manager, job: Job) -> Option<Done>
         requires { length manager.old.owed < CELLS }
         ensures same { self.new ≡ self.old }

@@ -24,7 +24,7 @@ pub fn a_hand_holds_a_ring()
 {}
 
 /// A law: over every list of calls of one party, in any order and with any outcome that the calls' own clauses allow, what it
-/// collected is a front of the results of the jobs that it posted, in the order of its posts and each once; and after a drain it
+/// collected is a prefix of the results of the jobs that it posted, in the order of its posts and each once; and after a drain it
 /// is all of them.
 pub fn results_are_collected_in_order()
     ensures order { CollectsInOrder }

@@ -31,8 +31,8 @@ impl<'k> Party<'k> {
         Party::with(alloc, seat, None)
     }
 
-    /// A party as `new` makes it, which shares keys with other parties: it has learnt all sessions, and claims by the schedules
-    /// of their entries. It doesn't wait for the others.
+    /// A party as `new` makes it, which shares keys with other parties: it has learnt all sessions, and submits the jobs that it
+    /// claims with their entries. It doesn't wait for the others.
     ///
     /// Returns `AllocError` for want of memory; the seat is then dropped.
     pub fn new_in(alloc: Global, seat: Seat, keys: &'k Keys) -> Result<Party<'k>, AllocError>

@@ -48,7 +48,7 @@ impl<'k> Party<'k> {
     }
 
     /// Takes the result of a submitter's earliest job that is out. Returns `None` exactly where none is out, or where
-    /// this call's one look, at the cell of that job, found another word than `DONE`; then only the looks have grown.
+    /// the word of that job's cell isn't `DONE`; then nothing changes but that the look at it is recorded.
     pub fn collect(&mut self, front: &Front) -> Option<Done>
         requires { IsPartyOf front.now self.old }
         ensures front { IsPartyOf front.now self.new }

@@ -29,7 +29,7 @@ impl Model for Results {
 }
 
 impl Results {
-    /// So many results, which were dealt to these lists.
+    /// The `count` results of these lists, to which they were dealt by turns.
     pub(crate) fn of(lists: Vec<Vec<Done>>, count: usize) -> Results
         requires dealt { let dealt = map (λ l. l.items) lists.items in
             AreDealt (gathered count 0 (length lists.items) dealt) (length lists.items) dealt }

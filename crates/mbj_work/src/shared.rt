@@ -33,7 +33,7 @@ fn results_of(
     Ok(given)
 }
 
-/// Does lists of jobs by one front, whose parties share keys: each list is that of a submitter, and so many workers serve beside
+/// Does lists of jobs by one front, whose parties share keys: each list is that of a submitter, and `workers` workers serve beside
 /// them. The last submitter works in this thread, and each other party in a thread of its own where one can be started. Returns the
 /// results of each list, in order. Each party takes all its memory before its first job.
 ///

@@ -59,7 +59,7 @@ Does c input IsWritten = ReadsBytes input (λ bytes. (output : List ℕ) × Asks
 abbrev pub Completes : Command → Stream → Stream → Type 0
 Completes c input out = Does c input (WritesAll out)
 
--- out gained a front of the command's text
+-- out gained a prefix of the command's text
 abbrev pub BreaksOff : Command → Stream → Stream → Type 0
 BreaksOff c input out = Does c input (GainsPrefix out.before out.after)
 
@@ -74,6 +74,6 @@ Stands c cause.Bytes input out = ReadsInput c × ReadsTooMuch input.before input
 Stands c (cause.Jobs line) input out = ReadsBytes input (λ bytes. IsOverFor c bytes line)
 Stands c cause.Memory input out = Unit {0}
 
--- the sink gained the text, or, where its faults rose, a front of it
+-- the sink gained the text, or, where its faults rose, a prefix of it
 abbrev pub Gains : Stream → List ℕ → Type 0
 Gains err text = Appends err.before err.after text ⊎ (Fails err × GainsPrefix err.before err.after text)

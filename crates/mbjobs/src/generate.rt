@@ -31,7 +31,7 @@ fn summarize(results: &Results) -> [SummaryLine; 5]
     summary.lines()
 }
 
-/// Makes jobs from a seed, does them, dealt to submitters beside whom so many workers serve, and writes what they come to.
+/// Makes jobs from a seed, does them, dealt to submitters beside whom `workers` workers serve, and writes a summary of their results.
 pub(crate) fn run_gen<R: Threads + Wait + Sync, O: Sink, G: Gate + Sync>(
     rt: &R,
     alloc: Global,

@@ -11,7 +11,7 @@ use mbj_replay::replay_lines;
 use mbj_text::write_lines;
 use std::alloc::Global;
 
-/// Reads the file of a replay, and writes what each command of its script comes to.
+/// Reads the file of a replay, and writes the outcome of each command of its script.
 pub(crate) fn run_replay<S: Source, O: Sink>(
     alloc: Global,
     submitters: u32,

@@ -14,8 +14,8 @@ use std::alloc::Global;
 use std::sync::Wait;
 use std::thread::Threads;
 
-/// Reads a job file, does its jobs, dealt to submitters beside whom so many workers serve, and writes their results in the order of
-/// the file. The parties share the keys of the file's sessions.
+/// Reads a job file, does its jobs, dealt to submitters beside whom `workers` workers serve, and writes their results in the order
+/// of the file. The parties share the keys of the file's sessions.
 pub(crate) fn run<R: Threads + Wait + Sync, S: Source, O: Sink, G: Gate + Sync>(
     rt: &R,
     alloc: Global,

@@ -104,7 +104,7 @@ fn carry_out<R: Threads + Wait + Sync, S: Source, O: Sink, G: Gate + Sync>(
 /// | 0 | all was read, done and written |
 /// | 2 | exactly where the words are no command; nothing is read |
 /// | 3 | only where a read of `input` failed, which then is the last one |
-/// | 4 | only where a write to `out` failed; `out` then has a front of the text |
+/// | 4 | only where a write to `out` failed; `out` then has a prefix of the text |
 /// | 5 | exactly where the input has a first bad line and no limit comes before it |
 /// | 6 | exactly where the input has over 16,777,216 bytes, or a 65,537th job line before any bad line |
 /// | 7 | for want of memory |

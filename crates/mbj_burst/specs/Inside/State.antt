@@ -12,6 +12,6 @@ state_of b = record { manager = b.manager; results = b.results.items }
 abbrev pub HasResults : List Job → Bursting → Type 0
 HasResults js b = b.results ++ b.manager.owed ≡ map result_of js
 
--- there is room for what is owed, and for the results of so many jobs more
+-- there is room for what is owed, and for the results of this many jobs more
 abbrev pub HasRoom : ℕ → Burster → Type 0
 HasRoom more b = length b.results.items + length b.manager.owed + more ≤ vec_capacity b.results

@@ -39,8 +39,8 @@ pub extern "C" fn mbj_c_new(alloc: Global, handle: &mut Handle) -> u32
     code(calls::make(alloc, handle, false))
 }
 
-/// Makes a manager as `mbj_c_new` does, whose cells keep memory of the jobs that were given back for later ones: for a job's packet,
-/// and for each other of its bytes, 2,048 bytes at most.
+/// Makes a manager as `mbj_c_new` does, whose cells keep memory of the jobs that were given back for later ones: at most 2,048 bytes
+/// for each field of the job. Returns what `mbj_c_new` does.
 #[unsafe(no_mangle)]
 pub extern "C" fn mbj_c_new_keeping(alloc: Global, handle: &mut Handle) -> u32
     ensures want_of_memory { result ≡ refusal_code Memory → (made handle.old.manager).0 ≡ Ok tt }

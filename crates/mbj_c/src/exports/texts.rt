@@ -90,7 +90,7 @@ pub extern "C" fn mbj_gcm_update(state: &mut GcmState, part: &mut [u8]) -> u32
 }
 
 /// Ends a text that came in parts, and fills `tag` with the first bytes of its tag, as many as it has. Nothing is compared: a caller
-/// that opened the text compares. The state becomes all zero bytes, which are none. It needs no manager and takes no memory.
+/// that opened the text compares. The state becomes all zero bytes, which are no state. It needs no manager and takes no memory.
 ///
 /// Returns 0, or the code of a refusal: `NoState` as `mbj_gcm_update` does; else `TagLength` exactly where `tag` hasn't 1 to 16 bytes.
 /// A refused call writes nothing.
@@ -135,7 +135,7 @@ pub extern "C" fn mbj_ccm_seal(
 }
 
 /// Decrypts a text in place by CCM (SP 800-38C, 6.2), and fills `tag` with the tag that the text should have come with, whose length is
-/// that of `tag`. Nothing is compared: the text is decrypted whatever tag it came with, and the caller compares. It answers as
+/// that of `tag`. Nothing is compared: the text is decrypted whatever tag it came with, and the caller compares. It returns as
 /// `mbj_ccm_seal` does, and takes memory as that does.
 #[unsafe(no_mangle)]
 pub extern "C" fn mbj_ccm_open(

@@ -23,7 +23,7 @@ module _ {J D : Type 0} where
   abbrev pub slots_of : View D → List (ℕ × Slot J D)
   slots_of v = slots_at v.phase v
 
-  -- a seat of a table with so many words, and the numbers that it keeps
+  -- a seat of a table with this many words, and the numbers that it keeps
   pub record Keeps (words : ℕ) (me : Mine J D) (party first out : ℕ) : Type 0 where
     pub cut : me.0.root ≡ false
     pub few_submitters : me.0.submitters ≤ MAX_SUBMITTERS

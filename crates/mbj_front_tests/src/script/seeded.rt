@@ -39,7 +39,7 @@ const REPLAYS: [&str; 16] = [
 ];
 
 /// Draws a number below the bound from a state as the generator of the jobs does: by a linear congruential generator of 64
-/// bits, of whose states each shows its highest byte.
+/// bits, each draw being the highest byte of the next state.
 fn draw(state: &mut u64, bound: u32) -> u32
     requires { 0 < bound }
 {

@@ -79,7 +79,7 @@ const BAD: [(&str, u32, u32); 36] = [
     ("@\nsession -\n%\nwait", 2, 2),
 ];
 
-/// Whether a file within the limit has so many jobs and these commands, or the line and the field of its fault.
+/// Whether a file within the limit has `count` jobs and these commands, or the line and the field of its fault.
 fn has(alloc: Global, file: &str, count: usize, commands: &[Cmd]) -> Result<bool, (u32, u32)> {
     if file.len() > INPUT_LIMIT {
         return Ok(false);

@@ -52,7 +52,7 @@ fn results_are_written_whole(rt: HostRuntime) -> Result<(), Fail> {
 }
 
 /// Whether the line of a result with this number is cut off behind this text, by the call of this number, from 0, of those
-/// that each take so many bytes at most.
+/// that each take `bytes` bytes at most.
 fn stops(alloc: Global, number: u32, text: &[u8], call: u64, bytes: u32) -> Result<bool, AllocError>
     requires { 1 ≤ bytes }
 {

@@ -51,7 +51,7 @@ module _ (h : Chaining) where
     len = len;
   }
 
-  -- the end of a message behind its whole blocks, and the padding; so many bytes are hashed before the message
+  -- the end of a message behind its whole blocks, and the padding; this many bytes are hashed before the message
   abbrev pub message_end : ℕ → List ℕ → ℕ → ℕ → List ℕ
   message_end before packet off len =
       let whole = h.block_bytes * whole_blocks h.block_bytes len in

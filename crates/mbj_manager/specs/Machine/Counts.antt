@@ -16,7 +16,7 @@ pub record CountsApart (m : Machine) : Type 0 where
   -- a lane queue that fills as jobs go on within a flush is no full run
   pub flushing : (k : Kind) → full_runs k (flushed m) ≡ full_runs k m
 
--- a count, which is kept modulo its end, rises by so many at most
+-- a count, which is kept modulo its end, rises by this many at most
 pub record RisesUpTo (most old new : ℕ) : Type 0 where
   pub by : ℕ
   pub few : by ≤ most

@@ -39,7 +39,7 @@ stepped at m = stepped_at at m.agenda m
 abbrev pub stages_left : List (List Pending) → ℕ
 stages_left left = sum_by length left
 
--- the course: the agenda's first is taken until the agenda is empty, as it is after so many steps, since each takes from this number
+-- the course: the agenda's first is taken until the agenda is empty, as it is after as many steps as this number, since each step lowers it
 unfoldable pub course : Cause → Machine → Machine
 course at m = iterate (stepped at) (2 * stages_left m.left + length m.agenda) m
 

@@ -16,7 +16,7 @@ use mbj_aes::Schedule;
 use mbj_keys::{Keys, Notes};
 
 impl Manager {
-    /// The job in a cell is open job `i` from now on. The cell has the job then that was there. No job is moved.
+    /// Exchanges the job in a cell with open job `i`, the first opened being 0. No job is moved.
     pub fn exchange(&mut self, i: u32, other: &mut Cell)
         requires index { i < length self.old.opened }
         requires is_open { IsOpen other.old }
@@ -25,8 +25,8 @@ impl Manager {
         self.works.exchange(i, other);
     }
 
-    /// Does what `submit` does, and gives a job back in a cell: that of the job changes places with a blank one. Returns whether it gives
-    /// one back. No result is moved.
+    /// Does what `submit` does, but gives a job back in its cell, which changes places with the blank cell `given`. Returns whether it
+    /// gives one; else `given` stays blank. No result is moved.
     pub fn submit_into(&mut self, given: &mut Cell) -> bool
         requires is_open { 0 < length self.old.opened }
         requires blank { given.old ≡ cell.Open blank }

@@ -29,7 +29,7 @@ pub record Holds (x : Worker) (hand : List (ℕ × Done)) : Type 0 where
   pub cells : x.hand.items ≡ map (λ e. e.0) hand
   pub owed : x.manager.owed ≡ map (λ e. e.1) hand
 
--- each worker holds its hand in f; before the workers, so many submitters are parties
+-- each worker holds its hand in f; before the workers, this many submitters are parties
 abbrev pub EachHolds : ℕ → List Worker → FrontState Job Done → Type 0
 EachHolds submitters workers f =
     (w : ℕ) (x : Worker) → slice_get workers w ≡ Some x → Holds x (f.seats (submitters + w)).hand

@@ -55,7 +55,7 @@ HasSchedule j schedule = IsSomeAnd schedule (IsScheduleOf j.key)
 abbrev pub IsKeyed : Job → List Step → Option (List ℕ) → Type 0
 IsKeyed j left schedule = left ≢ [] → needs_schedule j.cipher j.dir ≡ true → HasSchedule j schedule
 
--- all that the fields keep: there is a schedule exactly where it is wanted of a job that is refused for this reason or for none
+-- all that the fields keep: there is a schedule exactly where the job needs one, which is refused for this reason or for none
 pub record IsKept (j : Job) (p : List ℕ) (reason : Option Reason) (left : List Step) (out : Option ℕ) (n : Lengths) (schedule : Option (List ℕ)) : Type 0 where
   pub sound : IsSound j p left out n
   pub keyed : IsKeyed j left schedule

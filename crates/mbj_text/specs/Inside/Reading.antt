@@ -212,7 +212,7 @@ abbrev pub begins_session : List (List ℕ) → Bool
 begins_session [] = false
 begins_session (first ∷ rest) = bytes_eq first session_word
 
--- the entry of a line behind sessions with these keys and so many jobs, or its fault
+-- the entry of a line behind sessions with these keys and this many jobs, or its fault
 unfoldable pub entry_of : List (List ℕ) → ℕ → List ℕ → Read Entry
 entry_of keys job_count line =
     if begins_session (fields_of line)

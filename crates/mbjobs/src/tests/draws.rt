@@ -14,7 +14,7 @@ const WORKERS: u8 = 2;
 
 pub(super) const REPLAY: &str = "mbjobs replay --submitters 3 --workers 2";
 
-/// Draws bytes as `gen` does: a linear congruential generator of 64 bits, of whose states each shows its highest byte.
+/// Draws bytes as `gen` does: by a linear congruential generator of 64 bits, each draw being the highest byte of the next state.
 #[derive(Clone, Copy)]
 pub(super) struct Draws {
     pub(super) state: u64,
@@ -59,7 +59,7 @@ impl Draws {
         }
     }
 
-    /// Draws a script of so many commands, and adds it behind the line before it.
+    /// Draws a script of `count` commands, and adds it behind the line before it.
     pub(super) fn add_script(&mut self, file: &mut MemSink, count: u32) -> Result<(), Failed> {
         write_line(file, &[Part::Words("%")])?;
         for _ in 0..count {

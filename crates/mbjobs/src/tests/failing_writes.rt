@@ -26,7 +26,7 @@ const CASES: [Case; 5] = [
 /// How many bytes a write takes at most, and how many writes the 63 bytes of the first result take.
 const WRITES: [(u32, u64); 4] = [(7, 9), (1, 63), (62, 2), (63, 1)];
 
-/// Sees that a run wrote a front of the text, and returns its length: the status and a fault of the sink tell where it
+/// Sees that a run wrote a prefix of the text, and returns its length: the status and a fault of the sink tell where it
 /// isn't the whole text.
 fn front_of<R: Abort>(rt: &R, ending: &Ending, text: &[u8]) -> usize {
     let held = ending.out.held();
@@ -40,7 +40,8 @@ fn front_of<R: Abort>(rt: &R, ending: &Ending, text: &[u8]) -> usize {
     held.len()
 }
 
-/// Runs a command by such writes into a sink of so much room, and returns how many bytes of its text that holds.
+/// Runs a command by such writes into a sink with room for `room` bytes, and returns how many bytes of its text that
+/// holds.
 fn written<R: Host>(rt: &R, alloc: Global, case: &Case, room: usize, writes: Calls<'_>) -> usize {
     let (words, input, text) = case;
     let mut run = Run::by(words, input.as_bytes(), (64, &[]), writes);
@@ -48,7 +49,7 @@ fn written<R: Host>(rt: &R, alloc: Global, case: &Case, room: usize, writes: Cal
     front_of(rt, &run.end(rt, alloc), text.as_bytes())
 }
 
-/// Fails each of so many writes of the first case by pieces of a length, and two that it doesn't come to.
+/// Fails each of the `writes` writes of the first case by pieces of a length, and two that it doesn't come to.
 fn compare_writes<R: Host>(rt: &R, alloc: Global, piece: u32, writes: u64) {
     for number in 0..writes.saturating_add(2) {
         let taken = (piece as usize).saturating_mul(number as usize);

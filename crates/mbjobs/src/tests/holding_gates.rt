@@ -19,7 +19,7 @@ const WORKER: u32 = 2;
 
 const SUBMITTER: u32 = 0;
 
-/// Holds one party at its first moment of a kind, until others have passed so many moments, and lets nobody help before.
+/// Holds one party at its first moment of a kind, until others have passed `OTHER_MOMENTS` moments, and lets nobody help before.
 #[derive(Drop)]
 struct Holding {
     party: u32,

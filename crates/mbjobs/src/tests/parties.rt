@@ -111,7 +111,7 @@ pub(super) fn generated_file<R: Abort>(
     Box::new(alloc, file).expect(rt, "memory")
 }
 
-/// The words of a command with so many submitters and workers.
+/// The words of a command with this many submitters and workers.
 pub(super) fn words_with(
     alloc: Global,
     command: &str,

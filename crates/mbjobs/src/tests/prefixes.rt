@@ -4,7 +4,7 @@ use super::{FIRST_JOB, FIRST_RESULT, RUN};
 /// How long the first job's line is. The packet's 16 digits begin after 80 bytes, and LF is the last byte.
 const LINE_BYTES: usize = 97;
 
-/// The status and the text of the run of so many bytes of the line.
+/// The status and the text of the run of the line's first `length` bytes.
 fn told_of(length: usize) -> (u8, &'static str) {
     match length {
         0 => (0, ""),

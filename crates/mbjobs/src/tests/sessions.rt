@@ -116,7 +116,7 @@ fn session_lines_are_read(rt: HostRuntime) {
 /// How long the session's line is. Its key begins after 8 bytes, and LF is the last byte.
 const SESSION_BYTES: usize = 41;
 
-/// The status and the text of the run of so many bytes of it.
+/// The status and the text of the run of its first `length` bytes.
 fn told_of(length: usize) -> (u8, &'static str) {
     match length {
         0 => (0, ""),

@@ -46,7 +46,7 @@ impl Gate for Yielding {
     }
 }
 
-/// Runs a file from so many seeds of the gate, and compares the digest of each text.
+/// Runs a file from `SEEDS` seeds of the gate, and compares the digest of each text.
 fn compare<R: Host>(rt: &R, alloc: Global, words: &str, file: &[u8]) {
     for seed in 0..SEEDS {
         let gate = Yielding {
