@@ -241,23 +241,23 @@ uint32_t mbj_c_queue_size(struct mbj_handle *);
 bool mbj_c_count(struct mbj_handle *, uint32_t kind, struct mbj_counts *);
 
 /* Copies a job into the next cell, in place of one that was filled and not submitted, and returns MBJ_ERR_NONE, MBJ_ERR_NO_MANAGER,
- * MBJ_ERR_FULL, MBJ_ERR_WORD or MBJ_ERR_MEMORY. Of the calls on a manager only this one, its burst, mbj_c_new and mbj_c_use_keys
- * take memory. */
+ * MBJ_ERR_FULL, MBJ_ERR_WORD or MBJ_ERR_MEMORY. Of the calls on a manager only this one, its burst, mbj_c_new, mbj_c_new_keeping
+ * and mbj_c_use_keys take memory. */
 uint32_t mbj_c_fill(struct mbj_handle *, const struct mbj_raw_job *);
 
-/* The three calls that may give the earliest job's result: true where one is given, which is then written whole, and false else,
- * where nothing is written but the last argument: MBJ_ERR_NONE, MBJ_ERR_NO_MANAGER, MBJ_ERR_NO_ROOM, or MBJ_ERR_NO_JOB by the
- * first. There must be room for the result that comes next, also while it isn't finished. */
+/* The three calls that may give the earliest job's result: true where one is given, which is written whole; else false, and only
+ * refusal is written: MBJ_ERR_NONE, MBJ_ERR_NO_MANAGER, MBJ_ERR_NO_ROOM or, from mbj_c_submit, MBJ_ERR_NO_JOB. There must be room
+ * for the result that comes next, also while it isn't finished. */
 bool mbj_c_submit(struct mbj_handle *, struct mbj_raw_done *, uint32_t *refusal);
 bool mbj_c_get_completed(struct mbj_handle *, struct mbj_raw_done *, uint32_t *refusal);
 bool mbj_c_flush(struct mbj_handle *, struct mbj_raw_done *, uint32_t *refusal);
 
-/* Bursts: what so many single calls do, one after another, by one call. No array is at NULL, even where it has no element.
+/* Bursts: what several single calls do, one after another, by one call. No array is at NULL, even where it has no element.
  *
  * Copies jobs into the next cells, one behind another, the first one in place of a job that was filled and not submitted. Returns how many
  * are filled, and writes to each job's place in refusals what mbj_c_fill returns, MBJ_ERR_FULL where no cell is left behind those that the
- * burst filled. A job that is refused takes no cell, and the jobs behind it are filled. As many jobs are looked at as there are places for
- * refusals. This call takes memory as mbj_c_fill does. */
+ * burst filled. A job that is refused takes no cell, and the jobs behind it are filled. Only the first refusals_len jobs are looked at
+ * where jobs_len is more. This call takes memory as mbj_c_fill does. */
 uint32_t mbj_c_fill_burst(struct mbj_handle *, const struct mbj_raw_job *jobs, size_t jobs_len, uint32_t *refusals, size_t refusals_len);
 
 /* Makes the single call of the name as many times as there are rooms. The results that are given go to the rooms in order, and the rooms
@@ -267,7 +267,7 @@ void mbj_c_submit_burst(struct mbj_handle *, struct mbj_raw_done *rooms, size_t 
 void mbj_c_get_completed_burst(struct mbj_handle *, struct mbj_raw_done *rooms, size_t rooms_len, struct mbj_raw_burst *);
 void mbj_c_flush_burst(struct mbj_handle *, struct mbj_raw_done *rooms, size_t rooms_len, struct mbj_raw_burst *);
 
-/* Key sessions: keys of AES that many jobs share, on any threads, and that their submissions expand once. */
+/* Key sessions: keys of AES that many jobs share, on any threads, and that mbj_c_use_keys expands for all of them. */
 
 #define MBJ_MAX_SESSIONS 256
 
@@ -403,8 +403,8 @@ struct mbj_slot {
     uint32_t reason; /* one of the job interface's own, or 0 */
 };
 
-/* A manager and its jobs: those from first on, below next, are submitted and not given back, and so many from next on are handed out and
- * not submitted. */
+/* A manager and its jobs: those from first on, below next, are submitted and not given back, and as many as lent says, from next on, are
+ * handed out and not submitted. */
 typedef struct mbj_mgr {
     struct mbj_handle handle;
     uint32_t first, next, error, lent;
@@ -540,9 +540,9 @@ MBJ_API enum mbj_refusal mbj_get_errno(const MBJ_MGR *m) {
     return m == NULL ? MBJ_ERR_NO_MANAGER : (enum mbj_refusal)m->error;
 }
 
-/* Has the manager use these key sessions from now on: a job that names one in its field session, and has its key, isn't expanded anew. Jobs
- * that were submitted keep the schedule that they have. Returns MBJ_ERR_NONE, MBJ_ERR_NO_MANAGER, MBJ_ERR_NO_KEYS or MBJ_ERR_MEMORY. The
- * manager keeps the set until it uses another one or ends; the handle may be freed before. */
+/* Has the manager use these key sessions from now on: a job that names one in its field session, and has its key, takes the session's
+ * schedule where it needs one. Jobs that were submitted are done with their own key. Returns MBJ_ERR_NONE, MBJ_ERR_NO_MANAGER,
+ * MBJ_ERR_NO_KEYS or MBJ_ERR_MEMORY. The manager keeps the set until it uses another one or ends; the handle may be freed before. */
 MBJ_API enum mbj_refusal mbj_use_keys(MBJ_MGR *m, struct mbj_keys *keys) {
     if (m == NULL || keys == NULL)
         return m == NULL ? MBJ_ERR_NO_MANAGER : MBJ_ERR_NO_KEYS;
@@ -654,7 +654,7 @@ static inline uint32_t mbj_own_reason_(const MBJ_JOB *job) {
     return mbj_has_bad_code_(job) ? MBJ_REASON_CODE : mbj_has_null_(job) ? MBJ_REASON_NULL : MBJ_REASON_NONE;
 }
 
-/* No job takes so many bytes of anything: more are refused as so many are. */
+/* No job takes this many bytes of anything: a longer length is passed as this one, and is refused. */
 #define MBJ_TOO_LONG_ 65536
 
 /* The bytes of a job, or none where it doesn't use them. */
@@ -722,8 +722,8 @@ static inline void mbj_say_place_(struct mbj_raw_job *raw, MBJ_MGR *m, uint32_t 
     mbj_note_slot_(&m->slots[place], job, reason);
 }
 
-/* Room for the result that is given back behind so many others. Its tag goes beside the job's own first, since that may lie within what was
- * ciphered. */
+/* Room for the result that is given back behind this many others. Its tag goes beside the job's own first, since that may lie within what
+ * was ciphered. */
 static inline void mbj_make_room_(struct mbj_raw_done *done, uint8_t *tag, const MBJ_MGR *m, uint32_t behind) {
     const struct mbj_slot *slot = &m->slots[(m->first + behind) % MBJ_MAX_JOBS];
     done->dst.at = slot->dst_len != 0 ? slot->dst : tag;
@@ -816,7 +816,7 @@ MBJ_API MBJ_JOB *mbj_flush_job(MBJ_MGR *m) {
     return mbj_c_flush(&m->handle, &done, &m->error) ? mbj_give_back_(m, &done) : NULL;
 }
 
-/* So many jobs go to the library at once; a longer burst is done in parts. */
+/* How many jobs go to the library at once; a longer burst is done in parts. */
 #define MBJ_PART_ 32
 
 static inline uint32_t mbj_part_of_(uint32_t n) {

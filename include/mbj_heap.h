@@ -4,10 +4,12 @@
  *
  * That a heap does what is said here is trusted: every proof about the library stands on it.
  *
- * The library calls them in the thread that called it, and only within a call: mbj_c_new and mbj_c_fill take blocks, and every call but
- * mbj_c_queue_size, mbj_c_count and mbj_c_version may free some. So two threads, each with a manager of its own, call them at the same
- * time; and a block may be freed in another thread than the one that it was asked for in, where a manager was handed over, in the order
- * that docs/C.md says. They don't call the library, and they return: no exception and no longjmp leaves them. */
+ * The library calls them in the thread that called it, and only within a call: mbj_c_new, mbj_c_new_keeping, mbj_c_fill, mbj_c_fill_burst,
+ * mbj_keys_new, mbj_keys_share, mbj_c_use_keys, mbj_ccm_seal and mbj_ccm_open take blocks; these and every other call on a manager or on
+ * keys may free some, but for mbj_c_queue_size, mbj_c_count and mbj_c_held_bytes. So two threads, each with a manager of its own, call them
+ * at the same time; and a block may be freed in another thread than the one that it was asked for in, where a manager was handed over, in
+ * the order that docs/C.md says, or where it is part of a set of keys that threads share, which the last of them frees. They don't call the
+ * library, and they return: no exception and no longjmp leaves them. */
 #ifndef MBJ_HEAP_H
 #define MBJ_HEAP_H
 

@@ -1,7 +1,7 @@
 /* The heap of mbj_heap_pool.h, to be compiled into a program in place of mbj_heap.c: a buddy allocator. A block's length is a power of two,
- * and it begins at a multiple of that, counted from the first block. A free block is halved until its length is the one that is wanted, and
- * is joined with its other half once both are free. Short blocks that are given back lie ready for the next ones of their length, since jobs
- * have much the same lengths, and are joined only when no block is left that is long enough. */
+ * and it begins at a multiple of that, counted from the first block. A free block is halved until its length is the one that is needed, and
+ * is joined with its other half once both are free. Short blocks that are given back lie ready for the next ones of their length, since
+ * jobs have much the same lengths, and are joined only when no block is left that is long enough. */
 #include "mbj_heap_pool.h"
 #include "mbj_heap.h"
 
@@ -79,7 +79,7 @@ static size_t head_room(size_t len) {
     return len >= MBJ_HEAP_LONG ? (size_t)MBJ_HEAP_LINE : sizeof(struct head);
 }
 
-/* The order of the least block that has room for so many bytes and its head; ORDERS where no order has. */
+/* The order of the least block that has room for this many bytes and its head; ORDERS where no order has. */
 static uint32_t order_for(size_t len) {
     uint32_t order = LEAST_ORDER;
     while (order < ORDERS && length_of(order) - head_room(len) < len)
@@ -174,7 +174,7 @@ static struct free_block *take_order(struct mbj_pool *pool, uint32_t order) {
     return take_halved(pool, order);
 }
 
-/* A block for so many bytes; NULL where none is left. */
+/* A block for this many bytes; NULL where none is left. */
 static struct head *take(struct mbj_pool *pool, size_t len) {
     uint32_t order = order_for(len);
     struct free_block *block = take_order(pool, order);

@@ -3,7 +3,8 @@
  *
  * A thread names the pool that its next calls allocate from. Each block knows its pool, so it goes back there from every thread. A pool is
  * used by one thread at a time, and is handed over in the same order as its manager is: so a manager has a pool of its own, or shares one
- * with managers of the same thread, and a thread that a manager is handed to names that manager's pool. */
+ * with managers of the same thread, and a thread that a manager is handed to names that manager's pool. The thread that frees a shared set
+ * of keys last may give blocks back to pools of other threads, so none of these pools may be in use then. */
 #ifndef MBJ_HEAP_POOL_H
 #define MBJ_HEAP_POOL_H
 

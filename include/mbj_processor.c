@@ -74,7 +74,7 @@ static uint32_t xgetbv(void) {
 }
 #endif
 
-/* A leaf of CPUID, or zeros where the processor hasn't so many. Leaf 0 tells the last one, and 0x80000000 that of those from there on. */
+/* A leaf of CPUID, or zeros where the processor doesn't have it. Leaf 0 tells the last one, and 0x80000000 that of those from there on. */
 static struct registers leaf(uint32_t number) {
     static const struct registers none = {0, 0, 0, 0};
     uint32_t last = cpuid(number & UINT32_C(0x80000000)).eax;

@@ -52,7 +52,7 @@ static const struct answer answers[] = {
      "98e7247c07f0fe411c267e4384b0f600", "2ff58d80033927ab8ef4d4587514f0fb"},
     {"AES-GCM-256", MBJ_CIPHER_GCM, MBJ_AUTH_GCM, ZERO_BLOCK ZERO_BLOCK, ZERO_IV, "", ZERO_BLOCK,
      "cea7403d4d606b6e074ec5d3baf39d18", "d0d1c8a799996bf0265b98b5d48ab919"},
-    /* SP 800-38C, example 1, which has no longer keys: OpenSSL 3.0 */
+    /* SP 800-38C, example 1; the longer keys, which it doesn't have, by OpenSSL 3.0 */
     {"AES-CCM-128", MBJ_CIPHER_CCM, MBJ_AUTH_AES_CCM, CCM_KEY, CCM_NONCE, CCM_AAD, CCM_TEXT, "7162015b", "4dac255d"},
     {"AES-CCM-192", MBJ_CIPHER_CCM, MBJ_AUTH_AES_CCM, CCM_KEY "5051525354555657", CCM_NONCE, CCM_AAD, CCM_TEXT, "18ee1730", "c8c326d5"},
     {"AES-CCM-256", MBJ_CIPHER_CCM, MBJ_AUTH_AES_CCM, CCM_KEY "505152535455565758595a5b5c5d5e5f", CCM_NONCE, CCM_AAD, CCM_TEXT,

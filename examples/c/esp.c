@@ -118,7 +118,7 @@ static bool take_apart(struct packet *p, struct bytes wire) {
     return (p->len - text_at(p)) % p->suite->align == 0;
 }
 
-/* How many bytes the payload of a text has, which ends in padding 1, 2, 3, .., its length and NEXT; SIZE_MAX where it doesn't. */
+/* Returns how many bytes the payload of a text has that ends in padding 1, 2, 3, .., its length and NEXT; SIZE_MAX where it doesn't. */
 static size_t payload_len(const uint8_t *text, size_t len) {
     size_t pad = text[len - 2];
     if (pad > len - TRAILER)
@@ -273,7 +273,7 @@ static bool read_suite(struct bytes field, struct association *sa) {
     return false;
 }
 
-/* The packet of the fields SPI SEQ IV NEXT PAYLOAD, as it is before it is enciphered; what is wrong with them, or NULL. */
+/* Makes the packet of the fields SPI SEQ IV NEXT PAYLOAD, as it is before it is enciphered. Returns what is wrong with them, or NULL. */
 static const char *put_together(struct packet *p, struct bytes *f) {
     uint64_t spi, seq, next;
     if (!read_number(f[0], 16, UINT32_MAX, &spi))
@@ -301,7 +301,7 @@ static const char *put_together(struct packet *p, struct bytes *f) {
     return NULL;
 }
 
-/* Cuts a line at its single spaces; how many fields it has, or one more than fit. */
+/* Cuts a line at its single spaces; returns how many fields it has, or one more than fit. */
 static size_t split(uint8_t *line, size_t len, struct bytes *fields) {
     size_t count = 0, start = 0;
     for (size_t i = 0; i <= len && count < SEAL_FIELDS; i++)
@@ -378,7 +378,7 @@ static int do_line(MBJ_JOB *job, uint8_t *line, size_t len, size_t number) {
     return 0;
 }
 
-/* Fills so many jobs from lines; how many before the last line, or before a bad one. */
+/* Fills count jobs from lines. Returns how many it filled: fewer where the lines end, or before a bad one. */
 static uint32_t read_lines(struct lines *lines, MBJ_JOB *const *jobs, uint32_t count, size_t *number, int *status) {
     for (uint32_t i = 0; i < count; i++) {
         ssize_t len = getline(&lines->at[i], &lines->room[i], stdin);
@@ -393,7 +393,7 @@ static uint32_t read_lines(struct lines *lines, MBJ_JOB *const *jobs, uint32_t c
     return count;
 }
 
-/* Submits a burst, and answers what is finished then. */
+/* Submits a burst, and prints the results of the jobs that are finished then. */
 static int submit(MBJ_MGR *m, uint32_t count, MBJ_JOB **jobs) {
     answer_each(jobs, mbj_submit_burst(m, count, jobs, jobs));
     enum mbj_refusal refusal = mbj_get_errno(m);

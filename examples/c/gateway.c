@@ -1,6 +1,6 @@
 /* Reads a job file without session lines from standard input (docs/FORMAT.md), does its jobs by one manager, and prints the text of `mbjobs
  * run`. The statuses are those of `mbjobs run` too: 3 a failed read, 4 a failed write, 5 a bad line, 6 a file that is too long, 7 want of
- * memory. Behind a status other than 0 standard output has a front of the text. */
+ * memory. Behind a status other than 0 standard output has a prefix of the text. */
 #include "mbj.h"
 
 #include <stdio.h>

@@ -14,7 +14,7 @@ static uint8_t digit_value(char digit) {
     return (uint8_t)(digit <= '9' ? digit - '0' : digit - 'a' + 10);
 }
 
-/* The bytes of so many pairs of hexadecimal digits in lower case. */
+/* The bytes of pairs of hexadecimal digits in lower case. */
 static struct text bytes_of(const char *digits) {
     struct text text = {{0}, strlen(digits) / 2};
     CHECK(text.len <= ROOM);

@@ -1,4 +1,4 @@
-/* Tests bursts, which do what so many single calls do, and may be mixed with them. Link with refuse.c. */
+/* Tests bursts, which do what several single calls do, and may be mixed with them. Link with refuse.c. */
 #include "check.h"
 #include "refuse.h"
 

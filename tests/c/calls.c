@@ -44,7 +44,7 @@ static void a_job_is_submitted_again_where_memory_wanted(MBJ_MGR *m) {
     CHECK(finish(m) == job && is_done(job) && memcmp(tag, mac, sizeof mac) == 0);
 }
 
-/* Submits the job, which takes so many blocks and no more, and all of them are free once it is given back. */
+/* Submits the job, which takes this many blocks and no more, and all of them are free once it is given back. */
 static void submit_for_blocks(MBJ_MGR *m, long expected) {
     long before = blocks;
     allocations = 0;
@@ -166,7 +166,7 @@ static void exports_without_a_manager(struct mbj_handle *handle, const struct mb
     CHECK(!mbj_c_flush(handle, done, &refusal) && refusal == MBJ_ERR_NO_MANAGER);
 }
 
-/* Room is wanted for the range alone, and no call from the filling on takes memory. */
+/* Room is needed for the range alone, and no call from the filling on takes memory. */
 static void exports_give_the_range_back(struct mbj_handle *handle, struct mbj_raw_done *done) {
     uint32_t refusal = 9;
     allocations = 0;

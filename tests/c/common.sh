@@ -61,8 +61,8 @@ layout() {
     diff "$tests/layout.txt" "$room/layout"
 }
 
-# each_refused STATUS PROGRAM FILE: with each allocation refused in turn the program ends with the status and says that memory ran out, having
-# printed a front of the text, until a run takes fewer allocations.
+# each_refused STATUS PROGRAM FILE: with each allocation refused in turn the program ends with the status and says that memory ran out,
+# having printed a prefix of the text, until a run takes fewer allocations.
 each_refused() {
     "$2" < "$3" > "$room/want" || return 1
     for number in $(seq 1 2000); do

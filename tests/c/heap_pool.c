@@ -67,8 +67,8 @@ static void too_little_memory(void) {
     CHECK(mbj_pool_make(memory[0], 500, false) == NULL && mbj_pool_make(memory[0], 700, false) != NULL);
 }
 
-/* Of so many bytes at an address all are used: blocks of the least length fill them, but for the pool itself and less than a block. The
- * memory ends there, so that ASan sees an access beyond it. */
+/* All of len bytes at an address are used: blocks of the least length fill them, but for the pool itself and less than a block. The memory
+ * ends there, so that ASan sees an access beyond it. */
 static void fill_pool(size_t skipped, size_t len) {
     static struct filled all[SHORT / 64];
     uint8_t *own = (uint8_t *)malloc(skipped + len);
@@ -131,7 +131,7 @@ static uint32_t draw(uint32_t below) {
     return (uint32_t)(((uint64_t)state * below) >> 32);
 }
 
-/* Blocks that are asked for, grown and freed as it is drawn keep their bytes. Answers how often there was none. */
+/* Blocks that are asked for, grown and freed as it is drawn keep their bytes. Returns how often there was none. */
 static long drawn_calls(void) {
     enum { BLOCKS = 400, CALLS = 200000 };
     static struct filled drawn[BLOCKS];

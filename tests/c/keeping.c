@@ -7,7 +7,7 @@ enum { KEPT_BYTES = 2048, LONG_BYTES = KEPT_BYTES + 1 };
 
 static uint8_t packet[LONG_BYTES];
 
-/* Submits an HMAC over so many bytes of the packet, and finishes it. Returns how many blocks that took. */
+/* Submits an HMAC over this many bytes of the packet, and finishes it. Returns how many blocks that took. */
 static long run_mac(MBJ_MGR *m, size_t len) {
     uint8_t tag[MAC_BYTES];
     MBJ_JOB *job = mbj_get_next_job(m);

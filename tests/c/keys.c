@@ -71,7 +71,8 @@ static void the_key_decides(void) {
     CHECK(blocks == 0);
 }
 
-/* Keys are changed while a job waits for lanes: it keeps the schedule that it has, and the next one has the new set's. */
+/* Keys are changed while a job waits for lanes: it is done with its own key, and so is the next one, whose session has another key in the
+ * new set. */
 static void keys_are_changed_in_flight(void) {
     struct mbj_keys old = MBJ_KEYS_INIT, next = MBJ_KEYS_INIT;
     uint8_t first[CBC_BYTES] = {0}, second[CBC_BYTES] = {0};

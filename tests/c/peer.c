@@ -8,7 +8,7 @@ enum { BLOCK = 16 };
 
 static const char *const key_names[3] = {"128", "192", "256"};
 
-/* The cipher of OpenSSL with this name and keys of so many bytes. */
+/* The cipher of OpenSSL with this name and keys of this many bytes. */
 static EVP_CIPHER *cipher_of(const char *mode, size_t key_len) {
     char name[16] = "AES-";
     strcat(name, key_names[key_len / 8 - 2]);
@@ -69,7 +69,7 @@ static bool combined_agrees(const MBJ_JOB *job, const uint8_t *packet, const uin
 
 static const char *const hashes[] = {"SHA1", "SHA224", "SHA256", "SHA384", "SHA512"};
 
-/* A digest of the range; how many bytes it has, or 0. */
+/* Writes a digest of the range; returns how many bytes it has, or 0. */
 static size_t hash_range(const MBJ_JOB *job, const uint8_t *range, uint8_t *tag) {
     EVP_MD *md = EVP_MD_fetch(NULL, hashes[job->hash_alg - MBJ_AUTH_SHA_1], NULL);
     unsigned len = 0;
@@ -99,7 +99,7 @@ static struct mac_name name_mac(const MBJ_JOB *job) {
     return name;
 }
 
-/* HMAC, CMAC or GMAC of the range; how many bytes it has, or 0. */
+/* Writes HMAC, CMAC or GMAC of the range; returns how many bytes it has, or 0. */
 static size_t mac_range(const MBJ_JOB *job, const uint8_t *range, uint8_t *tag) {
     static const uint8_t no_key[1] = {0};
     struct mac_name name = name_mac(job);

@@ -7,7 +7,7 @@
 
 /* ---- the processor ---- */
 
-/* A processor with so many leaves, and what is set in the words that are looked at. */
+/* A processor with leaves up to these, and what is set in the words that are looked at. */
 struct processor {
     uint32_t last_leaf, last_extended_leaf, words[WORDS];
 };

@@ -96,7 +96,7 @@ static unsigned flush(IMB_MGR *m) {
     return back;
 }
 
-/* A zone with a margin on both sides, which begins so many bytes behind a page. */
+/* A zone with a margin on both sides, which begins this many bytes behind a page. */
 static uint8_t *map_zone(size_t off) {
     size_t len = imb_get_mb_mgr_size() + 2 * MARGIN + off;
     uint8_t *at = mmap(NULL, len, PROT_READ | PROT_WRITE, MAP_SHARED | MAP_ANONYMOUS, -1, 0);
