@@ -10,13 +10,14 @@
 #include <string.h>
 
 static const char usage[] =
-    "bench [--sizes N,..] [--drawn LEAST-MOST,..] [--jobs NAME,..] [--threads N] [--passes N] [--keeping]\n"
+    "bench [--sizes N,..] [--drawn LEAST-MOST,..] [--jobs NAME,..] [--flush N] [--threads N] [--passes N] [--keeping]\n"
     "\n"
     "--sizes     lengths of packets in bytes: 64,256,1500 where neither these nor drawn ones are given\n"
     "--drawn     lengths that are drawn for each packet from LEAST to MOST bytes\n"
     "--jobs      null, cbc, ctr, gcm, ccm, cmac, gmac, sha1, sha224, sha256, sha384, sha512, the same five with hmac- before\n"
     "            them, these with -states behind them, or chained jobs as cbc+hmac-sha1, which are enciphered and then\n"
     "            authenticated; here by bursts of 32 with -bursts behind the name, or with -session in a key session\n"
+    "--flush     after how many single calls all jobs that wait are flushed: 256\n"
     "--threads   how many threads run at once, each with a manager of its own: 1\n"
     "--passes    how often the 256 jobs of a row are done, of which the fastest time counts: 40\n"
     "--keeping   here by managers that keep the memory of jobs for later ones\n";
@@ -91,7 +92,7 @@ static bool has_suffix(const char *name, size_t *len, const char *suffix) {
  * or nothing. */
 static struct work read_work(const char *name) {
     size_t len = strlen(name), plus = strcspn(name, "+");
-    struct work work = {NO_CIPHER, NO_AUTH, false, false, false};
+    struct work work = {NO_CIPHER, NO_AUTH, false, false, false, BATCH};
     work.by_bursts = has_suffix(name, &len, "-bursts");
     work.in_session = !work.by_bursts && has_suffix(name, &len, "-session");
     size_t cipher_len = plus < len ? plus : len;
@@ -116,7 +117,7 @@ enum { MOST = 64, MOST_THREADS = 1024, MOST_PASSES = 1000000 };
 struct settings {
     const char *jobs[MOST];
     struct lengths lengths[MOST];
-    size_t job_count, length_count, threads;
+    size_t job_count, length_count, threads, flush_after;
     bool keeps;
     int passes;
 };
@@ -153,13 +154,14 @@ static void read_jobs(struct settings *s, char *at) {
 }
 
 static void read_settings(struct settings *s, int argc, char **argv) {
-    static const struct option options[] = {{"sizes", 1, NULL, 's'},   {"drawn", 1, NULL, 'd'},  {"jobs", 1, NULL, 'j'},
-                                            {"threads", 1, NULL, 't'}, {"passes", 1, NULL, 'p'}, {"keeping", 0, NULL, 'k'},
-                                            {NULL, 0, NULL, 0}};
+    static const struct option options[] = {{"sizes", 1, NULL, 's'},  {"drawn", 1, NULL, 'd'},   {"jobs", 1, NULL, 'j'},
+                                            {"flush", 1, NULL, 'f'},  {"threads", 1, NULL, 't'}, {"passes", 1, NULL, 'p'},
+                                            {"keeping", 0, NULL, 'k'}, {NULL, 0, NULL, 0}};
     static char sizes[] = "64,256,1500", jobs[] = "null,null-bursts,hmac-sha1,hmac-sha1-states,hmac-sha256,hmac-sha256-states,hmac-sha512,"
                                                   "hmac-sha512-states,sha256,cbc,cbc-session,ctr,gcm,gcm-session,ccm,cmac,gmac,cbc+hmac-sha256";
     memset(s, 0, sizeof *s);
     s->threads = 1;
+    s->flush_after = BATCH;
     s->passes = 40;
     for (int option; (option = getopt_long(argc, argv, "", options, NULL)) != -1;) {
         char *at = optarg;
@@ -167,6 +169,7 @@ static void read_settings(struct settings *s, int argc, char **argv) {
         case 's': read_lengths(s, at, false); break;
         case 'd': read_lengths(s, at, true); break;
         case 'j': read_jobs(s, at); break;
+        case 'f': s->flush_after = read_number(&at, 1, BATCH, '\0'); break;
         case 't': s->threads = read_number(&at, 1, MOST_THREADS, '\0'); break;
         case 'p': s->passes = (int)read_number(&at, 1, MOST_PASSES, '\0'); break;
         case 'k': s->keeps = true; break;
@@ -198,6 +201,7 @@ static void print_row(const struct settings *s, const char *name, struct lengths
     struct work work = read_work(name);
     char bytes[32];
     work.keeps = s->keeps;
+    work.flush_after = s->flush_after;
     struct timed own = time_library(&ours, &work, lengths, s->threads, s->passes);
     if (lengths.least == lengths.most)
         snprintf(bytes, sizeof bytes, "%.0f", own.bytes);

@@ -35,13 +35,14 @@ enum auth {
 };
 
 /* A kind of jobs: a cipher, an authentication, or both, the packet being enciphered before it is authenticated. This library takes them by
- * single calls or by bursts of 32, and expands the cipher's key for each job, or once where all jobs name a key session; the other one
- * takes them by single calls, and its keys are expanded before any job is timed. */
+ * single calls or by bursts of 32, and expands the cipher's key for each job, or far less often where all jobs name a key session; the
+ * other one takes them by single calls, and its keys are expanded before any job is timed. */
 struct work {
     enum cipher cipher;
     enum auth auth;
     bool by_bursts, in_session;
     bool keeps; /* the manager here keeps the memory of jobs */
+    size_t flush_after; /* all jobs that wait are flushed after this many single calls */
 };
 
 /* The packets of a pass, which are enciphered in place, and where their tags go. */

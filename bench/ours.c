@@ -121,17 +121,23 @@ static size_t take_each(MBJ_JOB *const *done, uint32_t count) {
     return count;
 }
 
+static size_t flush_all(const struct started *s) {
+    size_t given = 0;
+    for (const MBJ_JOB *done; (done = mbj_flush_job(s->m)) != NULL;)
+        given += take(done);
+    return given;
+}
+
 static size_t pass_by_calls(const struct started *s, const struct work *work, struct batch *batch) {
-    const MBJ_JOB *done;
     size_t given = 0;
     for (size_t i = 0; i < BATCH; i++) {
         fill(mbj_get_next_job(s->m), s, work, batch, i);
-        for (done = mbj_submit_job(s->m); done != NULL; done = mbj_get_completed_job(s->m))
+        for (const MBJ_JOB *done = mbj_submit_job(s->m); done != NULL; done = mbj_get_completed_job(s->m))
             given += take(done);
+        if ((i + 1) % work->flush_after == 0)
+            given += flush_all(s);
     }
-    while ((done = mbj_flush_job(s->m)) != NULL)
-        given += take(done);
-    return given;
+    return given + flush_all(s);
 }
 
 static size_t pass_by_bursts(const struct started *s, const struct work *work, struct batch *batch) {

@@ -161,18 +161,24 @@ static size_t take(const IMB_JOB *done) {
     return 1;
 }
 
+static size_t flush_all(const struct started *s) {
+    size_t given = 0;
+    for (const IMB_JOB *done; (done = IMB_FLUSH_JOB(s->m)) != NULL;)
+        given += take(done);
+    return given;
+}
+
 static void pass(void *started, const struct work *work, struct batch *batch) {
     const struct started *s = (const struct started *)started;
-    const IMB_JOB *done;
     size_t given = 0;
     for (size_t i = 0; i < BATCH; i++) {
         fill(IMB_GET_NEXT_JOB(s->m), s, work, batch, i);
-        for (done = IMB_SUBMIT_JOB(s->m); done != NULL; done = IMB_GET_COMPLETED_JOB(s->m))
+        for (const IMB_JOB *done = IMB_SUBMIT_JOB(s->m); done != NULL; done = IMB_GET_COMPLETED_JOB(s->m))
             given += take(done);
+        if ((i + 1) % work->flush_after == 0)
+            given += flush_all(s);
     }
-    while ((done = IMB_FLUSH_JOB(s->m)) != NULL)
-        given += take(done);
-    if (given != BATCH)
+    if (given + flush_all(s) != BATCH)
         give_up("intel-ipsec-mb lacks jobs");
 }
 

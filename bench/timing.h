@@ -14,8 +14,8 @@ struct timed {
     double ns, bytes;
 };
 
-/* Each of so many threads puts the same batch through a manager of its own, again and again, all starting each pass together. Of each the
- * fastest pass counts, and the mean of these is answered. */
+/* Each of this many threads puts the same batch through a manager of its own, again and again, all starting each pass together. Of each the
+ * fastest pass counts, and the mean of these is returned. */
 struct timed time_library(const struct library *library, const struct work *work, struct lengths lengths, size_t threads, int passes);
 
 /* Gives up where the two libraries' results differ. */
