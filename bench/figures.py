@@ -69,13 +69,37 @@ def read_calls(figures, text):
 
 
 def read_rows(figures, text):
-    """The rows of bench/program.py: names and a figure, with tabs between them."""
+    """The rows of bench/program.py and bench/shares.py: names and a figure, with tabs between them."""
     for line in text.splitlines():
         *name, figure = line.split("\t")
         figures.add(tuple(name), figure)
 
 
-READERS = {"default": read_time, "avx2": read_time, "c": read_calls, "c-avx2": read_calls, "openssl": read_calls, "program": read_rows}
+def read_dropin(figures, text):
+    """The table of bench/dropin.py: jobs, bytes, and nanoseconds by mbj.h, through the drop-in, the difference, and by Intel's library."""
+    for line in text.splitlines()[1:]:
+        jobs, length, *rest = line.split()
+        if length.isdigit():
+            own, through, _, theirs, *_ = rest
+            for way, ns in (("own", own), ("dropin", through), ("intel", theirs)):
+                figures.add((way, jobs, length), ns)
+
+
+READERS = {
+    "default": read_time,
+    "avx2": read_time,
+    "c": read_calls,
+    "c-avx2": read_calls,
+    "drawn": read_calls,
+    "keeping": read_calls,
+    "few-1": read_calls,
+    "few-8": read_calls,
+    "few-32": read_calls,
+    "shares": read_rows,
+    "dropin": read_dropin,
+    "openssl": read_calls,
+    "program": read_rows,
+}
 
 
 class Sitting:
@@ -84,7 +108,7 @@ class Sitting:
         self.runs = {}
         for name, reader in READERS.items():
             self.figures[name] = Figures()
-            files = sorted(folder.glob(name + ".*"))
+            files = sorted(folder.glob(name + ".[0-9]*"))
             self.runs[name] = len(files)
             for file in files:
                 reader(self.figures[name], file.read_text())

@@ -4,7 +4,7 @@
     bench/program.py [PROGRAM]    by default build/mbjobs
 
 Of `once` the figures are milliseconds of processor time and the most memory in MB, on one thread; of `gen` and `run` the milliseconds from
-start to end, by the numbers of submitters and workers. The least of so many runs counts. It needs python3 and awk.
+start to end, by the numbers of submitters and workers. The least of several runs counts. It needs python3 and awk.
 """
 import os
 import pathlib
