@@ -4,7 +4,8 @@
     bench/shares.py [PROGRAM]    by default bench/bench-avx2
 
 What the bench itself takes, intel-ipsec-mb and the kernel is left out: the shares of a row are of this library's time, with what it calls
-of the C library. A function counts to the part whose pattern is found first in its name. It needs python3 and perf (Debian's linux-perf).
+of the C library. A function counts toward the part whose pattern is found first in its name. It needs python3 and perf (Debian's
+linux-perf).
 """
 import collections
 import pathlib
@@ -40,7 +41,8 @@ LINE = re.compile(r"\s*([\d.]+)%\s+(\S+)\s+\[(.)\]\s+(.*)")
 
 def symbols(words, file):
     """The symbols that perf found while this command ran, with their part of the samples."""
-    subprocess.run(["perf", "record", "-o", file, "-e", "cpu-clock", "-F", "3000", *words], check=True, stdout=subprocess.DEVNULL, stderr=subprocess.DEVNULL)
+    record = ["perf", "record", "-o", file, "-e", "cpu-clock", "-F", "3000", *words]
+    subprocess.run(record, check=True, stdout=subprocess.DEVNULL, stderr=subprocess.DEVNULL)
     report = ["perf", "report", "-i", file, "--no-children", "-F", "overhead,dso,symbol", "--percent-limit", "0.05", "--stdio"]
     printed = subprocess.run(report, check=True, stdout=subprocess.PIPE, stderr=subprocess.DEVNULL, text=True).stdout
     for found in filter(None, map(LINE.match, printed.splitlines())):
