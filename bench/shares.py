@@ -36,6 +36,9 @@ PARTS = [
     ("calls", re.compile("")),
 ]
 
+# The function that runs a lane queue. With CBC the chaining of blocks is in it.
+RUNS_A_LANE_QUEUE = re.compile(r"mbj_manager::lane::run_within")
+
 LINE = re.compile(r"\s*([\d.]+)%\s+(\S+)\s+\[(.)\]\s+(.*)")
 
 
@@ -51,6 +54,12 @@ def symbols(words, file):
             yield symbol, float(percent)
 
 
+def part_of(symbol, jobs):
+    if jobs == "cbc" and RUNS_A_LANE_QUEUE.search(symbol):
+        return "aes"
+    return next(part for part, pattern in PARTS if pattern.search(symbol))
+
+
 def main():
     program = sys.argv[1] if len(sys.argv) > 1 else TOP / "bench/bench-avx2"
     for jobs, lengths, passes in ROWS:
@@ -58,7 +67,7 @@ def main():
         shares = collections.Counter()
         with tempfile.NamedTemporaryFile() as file:
             for symbol, percent in symbols(words, file.name):
-                shares[next(part for part, pattern in PARTS if pattern.search(symbol))] += percent
+                shares[part_of(symbol, jobs)] += percent
         for part, _ in PARTS:
             print(jobs, lengths, part, f"{100 * shares[part] / shares.total():.0f}", sep="\t", flush=True)
 
