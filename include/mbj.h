@@ -4,8 +4,8 @@
  * job interface that a user of intel-ipsec-mb knows, as inline C over these exports, which is tested. docs/C.md says how to build, what each
  * pointer must stand for and until when, and what differs.
  *
- * One thread at a time uses a manager. Nothing here is called from a signal handler, or in the child of a process with threads that
- * forked.
+ * One thread at a time uses a manager. Nothing here is called from a signal handler. In the child of a process that had threads when it
+ * forked, no handle is used that was made before.
  *
  * The functions of the second part are static and inline. A C file that defines MBJ_API as nothing before it includes this header makes
  * real symbols of them, for a program in another language.
@@ -19,8 +19,8 @@
 #include <stdlib.h>
 #include <string.h>
 
-/* The version of this header, which is that of the library that it goes with. It stands here alone for C: the Makefile reads it for the
- * shared library's name and for what pkg-config and CMake are told, and the proved code's own is compared when a manager is made. A change
+/* The version of this header and of the library that it belongs to. For C it is defined only here: the Makefile reads it for the shared
+ * library's name, for pkg-config and for CMake. The proved code has a number of its own; both are compared when a manager is made. A change
  * of a struct or of a code, or of what an export means, makes a new major number, and with it a new soname. */
 #define MBJ_VERSION_MAJOR 0
 #define MBJ_VERSION_MINOR 2
@@ -214,8 +214,8 @@ const char *mbj_c_missing_feature(void);
 /* The library's version, the processors that it was built for, and the line of the toolchain that proved it, as text. */
 const char *mbj_c_build_text(void);
 
-/* The version of the library, to be compared with MBJ_VERSION_NUM: a later one goes with the header too, as long as its major number, all
- * but the lower 16 bits, is the same. */
+/* The version of the library, to be compared with MBJ_VERSION_NUM. A later library works with this header too, as long as the major number,
+ * the bits above the lower 16, is the same. */
 uint32_t mbj_c_version(void);
 
 /* Makes a manager, and returns MBJ_ERR_NONE, MBJ_ERR_HAS_MANAGER or MBJ_ERR_MEMORY. */
@@ -288,9 +288,9 @@ uint32_t mbj_keys_share(struct mbj_keys *from, struct mbj_keys *to);
 uint32_t mbj_c_use_keys(struct mbj_handle *, struct mbj_keys *);
 
 /* The calls from here on need no manager, and any threads may make them at once. But for mbj_ccm_seal and mbj_ccm_open they take no memory.
- * Each returns MBJ_ERR_NONE, or a refusal, and then writes nothing: MBJ_ERR_WORD where a hash or a direction is none, MBJ_ERR_NO_ROOM where
- * a room is shorter than what is written. Room that is longer stays as it was behind that; a tag is as long as its room. No pointer is NULL,
- * also with a length of 0. */
+ * Each returns MBJ_ERR_NONE or a refusal; a refused call writes nothing. MBJ_ERR_WORD: a number is no hash or no direction.
+ * MBJ_ERR_NO_ROOM: a room is shorter than what is written. In a longer room the rest stays as it was; but a tag fills its room. No pointer
+ * is NULL, also with a length of 0. */
 
 /* Writes the states of a key for the authentications from MBJ_AUTH_HMAC_SHA_1_STATES on (RFC 2104, 4): the inner state and the outer state
  * behind it, whole and big-endian, together 40, 64, 64, 128 or 128 bytes. The key may have any length. They are as secret as the key. */
@@ -318,9 +318,9 @@ uint32_t mbj_digest(uint32_t hash, struct mbj_bytes text, struct mbj_room out);
 uint32_t mbj_gcm_seal(struct mbj_bytes key, struct mbj_bytes iv, struct mbj_bytes aad, struct mbj_room text, struct mbj_room tag);
 uint32_t mbj_gcm_open(struct mbj_bytes key, struct mbj_bytes iv, struct mbj_bytes aad, struct mbj_room text, struct mbj_room tag);
 
-/* A text by GCM of which the parts so far were sealed or opened. It holds the key, and is as secret. Only the next three calls write it;
- * bytes that others wrote are refused, or give any text and any tag. In front are 32 bytes for the key, its length and the direction, both
- * uint32_t: who stores a state may leave the key out and put it back, and set another direction before the first part. */
+/* The state of a text by GCM that comes in parts. It holds the key, and is as secret. Only the next three calls write it. If other code
+ * did, they refuse it, or compute a wrong text and a wrong tag. In front are 32 bytes for the key, its length and the direction, both
+ * uint32_t. A program that stores a state may leave the key out and put it back, and may set the direction before the first part. */
 struct mbj_gcm_state {
     uint64_t words[15];
 };
@@ -375,7 +375,7 @@ typedef struct mbj_job {
     size_t key_len_in_bytes;
     const uint8_t *iv; /* the cipher's or GMAC's; CCM's nonce */
     size_t iv_len_in_bytes;
-    const uint8_t *auth_key; /* of HMAC, CMAC or GMAC, raw */
+    const uint8_t *auth_key; /* of HMAC, CMAC or GMAC, raw; or the stored states of HMAC */
     size_t auth_key_len_in_bytes;
     const uint8_t *aad; /* of GCM or CCM */
     size_t aad_len_in_bytes;
@@ -519,7 +519,7 @@ MBJ_API void mbj_end_mgr(MBJ_MGR *m) {
         mbj_c_free(&m->handle);
 }
 
-/* Makes a manager; NULL where mbj_init_mgr would refuse. */
+/* Makes a manager; NULL where malloc has no memory for it, or mbj_init_mgr would refuse. */
 MBJ_API MBJ_MGR *mbj_alloc_mgr(void) {
     MBJ_MGR *m = (MBJ_MGR *)malloc(sizeof *m);
     if (m != NULL && mbj_init_mgr(m) != MBJ_ERR_NONE) {
@@ -879,7 +879,8 @@ static inline bool mbj_are_lent_(MBJ_MGR *m, uint32_t n, MBJ_JOB *const *jobs) {
  * jobs that are given back to done, which has n places and may be jobs itself, and returns how many they are. With MBJ_ERR_NONE all n jobs
  * were submitted; one whose arguments are refused comes back in its place. With MBJ_ERR_NO_MANAGER, or with MBJ_ERR_NO_JOB where the jobs
  * aren't those, none was. With MBJ_ERR_MEMORY those with MBJ_STATUS_ERROR weren't: they stay handed out, and may be submitted again. Where
- * two jobs are given back by one burst, nothing that is written for one overlaps what is written for the other. */
+ * two jobs are given back by one burst, nothing that is written for one overlaps what is written for the other. Up to 32 jobs are copied
+ * before a result is written: no job of a burst reads what is written for a job that comes back by the same call. */
 MBJ_API uint32_t mbj_submit_burst(MBJ_MGR *m, uint32_t n, MBJ_JOB *const *jobs, MBJ_JOB **done) {
     uint32_t given = 0;
     if (m == NULL)

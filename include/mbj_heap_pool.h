@@ -1,5 +1,6 @@
 /* The heap of mbj_heap_pool.c: pools of memory that the program has, as a gateway has huge pages. Making a pool and all that is done with it
- * take no other memory, unless the pool is made with overflow. The steps of a call grow with the logarithm of the pool's length at most.
+ * take no other memory, unless the pool is made with overflow. The steps of a call grow with the logarithm of the pool's length at most,
+ * but for an allocation that finds no block: it first joins all short blocks that lie ready, however many they are.
  *
  * A thread names the pool that its next calls allocate from. Each block knows its pool, so it goes back there from every thread. A pool is
  * used by one thread at a time, and is handed over in the same order as its manager is: so a manager has a pool of its own, or shares one

@@ -67,7 +67,7 @@ static const struct answer answers[] = {
      "afd03944d84895626b0825f4ab46907f15f9dadbe4101ec682aa034c7cebc59cfaea9ea9076ede7f4af152e8b2fa9cb6"},
     {"HMAC-SHA-512", MBJ_CIPHER_NULL, MBJ_AUTH_HMAC_SHA_512, HMAC_KEY, "", "", HI_THERE, "",
      "87aa7cdea5ef619d4ff0b4241a1d6cb02379f4e2ce4ec2787ad0b30545e17cdedaa833b7d6b8a702038b274eaea3f4e4be9d914eeb61f1702e696c203a126854"},
-    /* SP 800-38B, D.1 and D.3, example 2 */
+    /* SP 800-38B, D.1 and D.3, over one block */
     {"AES-CMAC-128", MBJ_CIPHER_NULL, MBJ_AUTH_AES_CMAC, KEY_128, "", "", BLOCK, "", "070a16b46b4d4144f79bdd9dd04a287c"},
     {"AES-CMAC-256", MBJ_CIPHER_NULL, MBJ_AUTH_AES_CMAC_256, KEY_256, "", "", BLOCK, "", "28a7023f452e8f82bd4bf28d8c37c35c"},
     /* OpenSSL 3.0: GMAC of the first block of SP 800-38A */

@@ -1,5 +1,5 @@
-/* Known answers at start, for a program that checks them: jobs whose results the standards have, through a manager of the library. They see
- * that the library, as it was linked and loaded here, still computes what was proved. Compile mbj_selftest.c into the program. */
+/* Known answers at start, for a program that checks them: jobs with known results, most of them those of the standards, through a manager.
+ * They show whether the library, as it was linked and loaded here, computes these. Compile mbj_selftest.c into the program. */
 #ifndef MBJ_SELFTEST_H
 #define MBJ_SELFTEST_H
 
@@ -9,9 +9,9 @@
 extern "C" {
 #endif
 
-/* Makes a manager in this memory, where none is, does a job for each cipher and each authentication with each length of an AES key, and the
- * ciphers in both directions, and ends the manager again. NULL where every result is as known. Else the name of the first that isn't, as
- * "HMAC-SHA-1", or the refusal's text where there is no manager or a job can't be submitted. */
+/* Makes a manager in this memory, where none is, does a job for each cipher and each authentication but HMAC from states, with each length
+ * of an AES key, and the ciphers in both directions, and ends the manager again. NULL where every result is as known. Else the name of the
+ * first that isn't, as "HMAC-SHA-1", or the refusal's text where there is no manager or a job can't be submitted. */
 const char *mbj_selftest(MBJ_MGR *m);
 
 #ifdef __cplusplus

@@ -4,7 +4,7 @@
  *     seal SUITE KEY AKEY SPI SEQ IV NEXT PAYLOAD    ->  N PACKET
  *     open SUITE KEY AKEY PACKET                     ->  N NEXT PAYLOAD, or N drop
  *
- * Bytes and SPI are hexadecimal, `-` for none; SEQ and NEXT are decimal. KEY has the suite's salt at its end. PACKET is SPI, SEQ, IV, text
+ * Bytes and SPI are hexadecimal, SEQ and NEXT decimal; `-` is no bytes. KEY has the suite's salt at its end. PACKET is SPI, SEQ, IV, text
  * with padding, its length and NEXT, and the tag. A suite's name with `-esn` behind it has extended sequence numbers: SEQ has 64 bits then,
  * also in PACKET. On the wire only its low half goes, and a receiver knows the high half by its window.
  *
@@ -69,8 +69,8 @@ static bool has_keys(const struct association *sa) {
 
 enum task { SEAL, OPEN, DROP };
 
-/* A packet: SPI, the low half of SEQ, IV and text, which end at len, and room for what stands behind: the high half of SEQ while it is
- * authenticated, and then the tag. The tag that was received and the one that is computed are apart. */
+/* A packet: SPI, the low half of SEQ, IV and text, which end at len, and room behind them for the high half of SEQ while it is
+ * authenticated. The tag that was received and the one that is computed have buffers of their own. */
 struct packet {
     const struct suite *suite;
     enum task task;
@@ -184,8 +184,7 @@ static size_t put_aad(struct packet *p) {
     return (size_t)(put(end, p->bytes + SPI, SEQ) - p->aad);
 }
 
-/* Else all from SPI to the text's end is authenticated, and behind it the high half of SEQ (RFC 4303, section 2.2.1), which the tag
- * overwrites later. */
+/* Else all from SPI to the text's end is authenticated, and behind it the high half of SEQ (RFC 4303, section 2.2.1), which isn't sent. */
 static size_t put_hashed(struct packet *p) {
     return (size_t)(put(p->bytes + p->len, p->seq_high, p->is_esn ? SEQ : 0) - p->bytes);
 }

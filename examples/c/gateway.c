@@ -204,7 +204,7 @@ static int read_jobs(struct file *file) {
     return 0;
 }
 
-/* Reads all of standard input, one byte more than a file may have at most. */
+/* Reads all of standard input, until it is longer than a file may be. */
 static int read_text(struct file *file) {
     size_t room = 0;
     for (;;) {
