@@ -83,7 +83,7 @@ def states(s):
 def jobs(s):
     head = ["64 / 256 / 1,500 bytes"]
     for title in ("default", "AVX2"):
-        head += [f"{title}, ns a job", "of full lists", "times plain"]
+        head += [f"{title}, ns a job", "of full lanes", "times plain"]
     rows = []
     for name, title in [("null", "null"), *KINDS, ("a mix", "all kinds by turns")]:
         row = [title]
