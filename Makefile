@@ -111,7 +111,7 @@ mbjobs: $(program)
 compile = $(CC) -std=c11 -Wall -Wextra $(CPPFLAGS) $(CFLAGS) -march=x86-64 -fPIC -ffile-prefix-map=$(CURDIR)=. -c -o $@ $<
 
 # What was last built with. Where that changes, what depends on it is built anew.
-settings = $(TOOLCHAIN) $(CC) $(CPPFLAGS) $(CFLAGS) $(LDFLAGS)
+settings = $(TOOLCHAIN) $(CC) $(CPPFLAGS) $(CFLAGS) $(LDFLAGS) $(cpus)
 
 $(BUILD)/settings: FORCE
 	@mkdir -p $(@D) && printf '%s\n' '$(subst ','\'',$(settings))' > $@.now && { cmp -s $@.now $@ || cp $@.now $@; }
@@ -146,7 +146,7 @@ dropin-builds := $(foreach cpu,$(cpus),$(BUILD)/$(cpu)/renamed.o)
 
 # The manager names its pool in each thread, so that name is at a fixed place.
 compile-dropin = $(CC) -std=c11 -D_DEFAULT_SOURCE -Wall -Wextra $(CPPFLAGS) $(CFLAGS) -march=x86-64 -fPIC -fvisibility=hidden \
-    -ftls-model=initial-exec -Iinclude -Icompat -ffile-prefix-map=$(CURDIR)=. $(if $(filter $(avx2),$(cpus)),-DCOMPAT_HAS_AVX2) -c -o $@ $<
+    -ftls-model=initial-exec -Iinclude -Icompat -ffile-prefix-map=$(CURDIR)=. $(cpus:x86-64-v%=-DCOMPAT_HAS_V%) -c -o $@ $<
 
 $(BUILD)/dropin/%.o: compat/%.c $(wildcard compat/*.h) include/mbj.h $(BUILD)/settings
 	@mkdir -p $(@D)

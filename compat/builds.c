@@ -1,20 +1,25 @@
 #include "builds.h"
 
-#ifdef COMPAT_HAS_AVX2
-#define DECLARE(name) extern __typeof__(name) name##_v2, name##_v3;
-#else
-#define DECLARE(name) extern __typeof__(name) name##_v2;
-#endif
+#define DECLARE_V2(name) extern __typeof__(name) name##_v2;
+#define DECLARE_V3(name) extern __typeof__(name) name##_v3;
 #define FOR_V2(name) .name = name##_v2,
 #define FOR_V3(name) .name = name##_v3,
 
-COMPAT_EXPORTS(DECLARE)
+#ifdef COMPAT_HAS_V2
+COMPAT_EXPORTS(DECLARE_V2)
+#endif
+#ifdef COMPAT_HAS_V3
+COMPAT_EXPORTS(DECLARE_V3)
+#endif
 
+/* The build with the longer vectors comes first. */
 static const struct build builds[] = {
-#ifdef COMPAT_HAS_AVX2
+#ifdef COMPAT_HAS_V3
     {COMPAT_EXPORTS(FOR_V3)},
 #endif
+#ifdef COMPAT_HAS_V2
     {COMPAT_EXPORTS(FOR_V2)},
+#endif
 };
 
 struct build proved;
