@@ -34,10 +34,18 @@ static bool is_word(struct field field, const char *word) {
     return field.len == strlen(word) && memcmp(field.at, word, field.len) == 0;
 }
 
-/* The place of the field among these words, of which there are count; false where it is none of them. */
-static bool read_word(struct field field, const char *const *words, int count, int *place) {
-    for (*place = 0; *place < count; ++*place)
-        if (is_word(field, words[*place]))
+/* The words of fields, in the order of their codes. */
+static const char *const ciphers[] = {"null", "cbc", "ctr", "gcm", "ccm"};
+static const char *const dirs[] = {"enc", "dec"};
+static const char *const orders[] = {"ch", "hc"};
+static const char *const auths[] = {"null",    "hmac-sha1", "hmac-sha224", "hmac-sha256", "hmac-sha384", "hmac-sha512",
+                                    "cmac128", "cmac256",   "gcm",         "gmac",        "ccm",         "sha1",
+                                    "sha224",  "sha256",    "sha384",      "sha512"};
+
+/* The code of the field, by its place among these words, of which there are count; false where it is none of them. */
+static bool read_word(struct field field, const char *const *words, uint32_t count, uint32_t *code) {
+    for (*code = 0; *code < count; ++*code)
+        if (is_word(field, words[*code]))
             return true;
     return false;
 }
@@ -66,8 +74,9 @@ static int digit_value(char digit) {
 }
 
 /* Pairs of hexadecimal digits, or `-` for none: the bytes are written over the digits. */
-static bool read_bytes(struct field field, uint8_t **bytes, size_t *len) {
-    *bytes = (uint8_t *)field.at;
+static bool read_bytes(struct field field, const uint8_t **bytes, size_t *len) {
+    uint8_t *out = (uint8_t *)field.at;
+    *bytes = out;
     *len = 0;
     if (is_word(field, "-"))
         return true;
@@ -77,7 +86,7 @@ static bool read_bytes(struct field field, uint8_t **bytes, size_t *len) {
         int high = digit_value(field.at[i]), low = digit_value(field.at[i + 1]);
         if (high < 0 || low < 0)
             return false;
-        (*bytes)[(*len)++] = (uint8_t)(high * 16 + low);
+        out[(*len)++] = (uint8_t)(high * 16 + low);
     }
     return true;
 }
@@ -104,60 +113,43 @@ static uint8_t *range_in(uint8_t *packet, const MBJ_JOB *job) {
 }
 
 /* Reads a job line. Returns 0 and fills the job, or the number of the first field that isn't of its form, or -1 for a wrong number of
- * fields. Words stand in the order of the codes. */
+ * fields. */
 static int read_job(char *line, size_t len, struct file_job *into) {
-    static const char *const ciphers[] = {"null", "cbc", "ctr", "gcm", "ccm"};
-    static const char *const dirs[] = {"enc", "dec"};
-    static const char *const orders[] = {"ch", "hc"};
-    static const char *const auths[] = {"null",    "hmac-sha1", "hmac-sha224", "hmac-sha256", "hmac-sha384", "hmac-sha512",
-                                        "cmac128", "cmac256",   "gcm",         "gmac",        "ccm",         "sha1",
-                                        "sha224",  "sha256",    "sha384",      "sha512"};
     struct field f[FIELDS];
     MBJ_JOB *job = &into->job;
-    int cipher, dir, order, auth;
     uint64_t tag_len;
-    uint8_t *key, *iv, *auth_key, *aad, *packet;
     memset(into, 0, sizeof *into);
     if (!split_line(line, len, f))
         return -1;
-    if (!read_word(f[0], ciphers, MBJ_CIPHER_CCM + 1, &cipher))
+    if (!read_word(f[0], ciphers, MBJ_CIPHER_CCM + 1, &job->cipher_mode))
         return 1;
-    if (!read_word(f[1], dirs, 2, &dir))
+    if (!read_word(f[1], dirs, MBJ_DIR_DECRYPT + 1, &job->cipher_direction))
         return 2;
-    if (!read_word(f[2], orders, 2, &order))
+    if (!read_word(f[2], orders, MBJ_ORDER_HASH_CIPHER + 1, &job->chain_order))
         return 3;
-    if (!read_bytes(f[3], &key, &job->key_len_in_bytes))
+    if (!read_bytes(f[3], &job->key, &job->key_len_in_bytes))
         return 4;
-    if (!read_bytes(f[4], &iv, &job->iv_len_in_bytes))
+    if (!read_bytes(f[4], &job->iv, &job->iv_len_in_bytes))
         return 5;
     if (!read_number(f[5], &job->cipher_start_src_offset_in_bytes))
         return 6;
     if (!read_number(f[6], &job->msg_len_to_cipher_in_bytes))
         return 7;
-    if (!read_word(f[7], auths, MBJ_AUTH_SHA_512 + 1, &auth))
+    if (!read_word(f[7], auths, MBJ_AUTH_SHA_512 + 1, &job->hash_alg))
         return 8;
-    if (!read_bytes(f[8], &auth_key, &job->auth_key_len_in_bytes))
+    if (!read_bytes(f[8], &job->auth_key, &job->auth_key_len_in_bytes))
         return 9;
-    if (!read_bytes(f[9], &aad, &job->aad_len_in_bytes))
+    if (!read_bytes(f[9], &job->aad, &job->aad_len_in_bytes))
         return 10;
     if (!read_number(f[10], &job->hash_start_src_offset_in_bytes))
         return 11;
     if (!read_number(f[11], &job->msg_len_to_hash_in_bytes))
         return 12;
-    if (!read_number(f[12], &tag_len) || tag_len > 255)
+    if (!read_number(f[12], &tag_len) || tag_len > UINT8_MAX)
         return 13;
-    if (!read_bytes(f[13], &packet, &job->packet_len_in_bytes))
+    if (!read_bytes(f[13], &job->packet, &job->packet_len_in_bytes))
         return 14;
-    job->cipher_mode = (uint32_t)cipher;
-    job->cipher_direction = (uint32_t)dir;
-    job->chain_order = (uint32_t)order;
-    job->hash_alg = (uint32_t)auth;
-    job->key = key;
-    job->iv = iv;
-    job->auth_key = auth_key;
-    job->aad = aad;
-    job->packet = packet;
-    job->dst = range_in(packet, job); /* in place */
+    job->dst = range_in((uint8_t *)f[13].at, job); /* in place */
     job->auth_tag_output_len_in_bytes = (size_t)tag_len;
     return 0;
 }
