@@ -3,8 +3,7 @@
 ghost use Rattle.std.specs.Prelude.{◌≡◌};
 ghost use Rattle.mbj_types.specs.Verdict.{is_gcm_auth, is_ccm_auth, is_gmac, has_hash_range, takes_auth_iv, takes_auth_key, takes_tag};
 
-use crate::cipher::is_aes_key;
-use mbj_types::{AuthClass, BLOCK_BYTES, MAX_HMAC_KEY_BYTES, MAX_IV_BYTES};
+use mbj_types::{AuthClass, BLOCK_BYTES, MAX_HMAC_KEY_BYTES, MAX_IV_BYTES, is_key_size};
 
 pub(crate) fn is_gcm(class: AuthClass) -> bool
     ensures { result ≡ is_gcm_auth class }
@@ -90,7 +89,7 @@ pub(crate) fn takes_key(class: AuthClass, len: usize) -> bool
         AuthClass::Null | AuthClass::Gcm | AuthClass::Ccm | AuthClass::Plain(_) => true,
         AuthClass::Hmac(_) => len <= MAX_HMAC_KEY_BYTES,
         AuthClass::Cmac(key) => len == key.bytes(),
-        AuthClass::Gmac => is_aes_key(len),
+        AuthClass::Gmac => is_key_size(len),
         AuthClass::States(hash) => len == 2 * hash.state_bytes(),
     }
 }

@@ -1,11 +1,10 @@
 //! What a cipher takes.
 
 ghost use Rattle.std.specs.Prelude.{◌≡◌, length, not};
-ghost use Rattle.mbj_types.specs.Aes.{is_key_size};
 ghost use Rattle.mbj_types.specs.Verdict.{is_null_cipher, goes_with, takes_key, takes_iv, takes_range, takes_aad};
 
 use crate::auth;
-use mbj_types::{AuthClass, Cipher, MAX_AAD_BYTES, MAX_CCM_AAD_BYTES, MAX_IV_BYTES};
+use mbj_types::{AuthClass, Cipher, MAX_AAD_BYTES, MAX_CCM_AAD_BYTES, MAX_IV_BYTES, is_key_size};
 
 pub(crate) fn is_null(cipher: Cipher) -> bool
     ensures { result ≡ is_null_cipher cipher }
@@ -31,18 +30,11 @@ pub(crate) fn goes_with(cipher: Cipher, class: AuthClass) -> bool
     }
 }
 
-/// Whether AES has keys of this many bytes (FIPS 197, 5).
-pub(crate) fn is_aes_key(len: usize) -> bool
-    ensures { result ≡ is_key_size len }
-{
-    len == 16 || len == 24 || len == 32
-}
-
 /// Whether the cipher takes keys of this many bytes.
 pub(crate) fn takes_key(cipher: Cipher, len: usize) -> bool
     ensures { result ≡ takes_key cipher len }
 {
-    is_null(cipher) || is_aes_key(len)
+    is_null(cipher) || is_key_size(len)
 }
 
 /// Whether the cipher takes initialization vectors of this many bytes: 16 for CBC, 12 or 16 for CTR, 1 to 65,535 for GCM, 7 to 13 for CCM

@@ -11,7 +11,6 @@ ghost use Rattle.mbj_c.specs.Stored.{put_in};
 ghost use Rattle.mbj_c.specs.declared.refusal.Refusal.TheVariants.{Memory};
 
 use crate::giving::put_front;
-use crate::key_size::is_key_size;
 use crate::refusal::Refusal;
 use crate::stored::put;
 use crate::words::{dir_at, hash_at};
@@ -20,7 +19,7 @@ use mbj_direct::{
     GcmState, ccm_open, ccm_seal, cmac_subkeys, digest_of, encryption_schedule, inverse_schedule,
 };
 use mbj_gcm::{seal, unseal};
-use mbj_types::{BLOCK_BYTES, Dir, MAX_CCM_AAD_BYTES, MAX_IV_BYTES, MAX_PACKET_BYTES};
+use mbj_types::{BLOCK_BYTES, Dir, MAX_CCM_AAD_BYTES, MAX_IV_BYTES, MAX_PACKET_BYTES, is_key_size};
 use std::alloc::Global;
 
 /// Whether a key of CMAC has this many bytes here.

@@ -7,10 +7,9 @@ ghost use Rattle.mbj_keys.specs.Sessions.{keys_of};
 ghost use Rattle.mbj_c.specs.KeySets.{are_keys, bytes_each, keys_refusal};
 ghost use Rattle.mbj_c.specs.Inside.Answers.{IsAnswerTo};
 
-use crate::key_size::is_key_size;
 use crate::refusal::Refusal;
 use mbj_keys::Keys;
-use mbj_types::MAX_SESSIONS;
+use mbj_types::{MAX_SESSIONS, is_key_size};
 use std::alloc::{AllocError, Global};
 use std::marker::Model;
 use std::sync::Arc;

@@ -22,7 +22,6 @@ mod job;
 mod key_calls;
 mod key_handle;
 mod key_set;
-mod key_size;
 mod laws;
 mod range;
 mod ranged;

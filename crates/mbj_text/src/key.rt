@@ -1,9 +1,8 @@
 ghost use Rattle.std.specs.Prelude.{◌≡◌, IfOk, map};
-ghost use Rattle.mbj_types.specs.Aes.{is_key_size};
 ghost use Rattle.mbj_text.specs.Inside.Reading.{key_of, key_at, cipher_key_of};
 
 use crate::field::{Field, number};
-use mbj_types::Bytes;
+use mbj_types::{Bytes, is_key_size};
 use std::alloc::{AllocError, Global};
 use std::marker::Model;
 
@@ -26,7 +25,7 @@ impl Model for CipherKey {
 pub(crate) fn session_key(alloc: Global, text: &[u8]) -> Result<Option<Bytes>, AllocError>
     ensures { IfOk result (λ key. key ≡ key_of text.now) }
 {
-    Ok(Bytes::read(alloc, text)?.filter(|key| is_aes_key(key.as_slice().len())))
+    Ok(Bytes::read(alloc, text)?.filter(|key| is_key_size(key.as_slice().len())))
 }
 
 /// The key of a cipher: bytes, or `@N` for the key of session N among these.
@@ -57,11 +56,4 @@ fn copy_of(alloc: Global, n: u32, keys: &[Vec<u8>]) -> Result<Option<CipherKey>,
         })),
         None => Ok(None),
     }
-}
-
-/// Whether AES has keys of this many bytes (FIPS 197, 5).
-fn is_aes_key(len: usize) -> bool
-    ensures { result ≡ is_key_size len }
-{
-    len == 16 || len == 24 || len == 32
 }

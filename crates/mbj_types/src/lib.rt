@@ -7,6 +7,7 @@ mod bytes;
 mod class;
 mod done;
 mod job;
+mod key_size;
 mod kind;
 mod lane32;
 mod lane64;
@@ -21,6 +22,7 @@ pub use bytes::Bytes;
 pub use class::{AuthClass, CmacKey, HashName};
 pub use done::{Done, Status};
 pub use job::{Auth, Cipher, Dir, Job, Order};
+pub use key_size::is_key_size;
 pub use kind::{
     AES_LANES, AesWord, Kind, SHA1_LANES, SHA256_LANES, SHA512_LANES, Sha1Word, Sha256Word,
     Sha512Word, kinds_are_told_in_order, lane_words_have_these_lanes,
