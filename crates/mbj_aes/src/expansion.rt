@@ -11,11 +11,11 @@ use mbj_types::xor_in_place;
 /// The bytes of the longest schedule, that of a key of 32 bytes: 16 for each of its 14 rounds, and 16 more.
 pub const MAX_SCHEDULE_BYTES: usize = 240;
 
-// The bytes of a word of a schedule.
-const WORD_BYTES: usize = 4;
+/// The bytes of a word of a schedule.
+pub const WORD_BYTES: usize = 4;
 
-// The words of the round key of one round.
-const ROUND_WORDS: usize = 4;
+/// The words of the round key of one round.
+pub const ROUND_WORDS: usize = 4;
 
 // The first byte of each round constant, from Rcon[1] on (FIPS 197, 5.2).
 const ROUND_CONSTANTS: [u8; 10] = [0x01, 0x02, 0x04, 0x08, 0x10, 0x20, 0x40, 0x80, 0x1b, 0x36];

@@ -13,7 +13,7 @@ mod schedule;
 mod substitution;
 
 pub use compare::are_equal;
-pub use expansion::round_constant;
+pub use expansion::{MAX_SCHEDULE_BYTES, ROUND_WORDS, WORD_BYTES, key_size, round_constant};
 pub use laws::{blocks_stay_blocks, each_undoes_the_other, examples_of_the_standard};
 pub use octet::{Octet, SBOX_CONSTANT};
 pub use schedule::{MAX_KEY_BYTES, Schedule};

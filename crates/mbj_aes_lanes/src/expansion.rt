@@ -11,17 +11,11 @@ ghost use Rattle.mbj_aes_lanes.specs.Inside.Expansion.{word_lane, IsLaneKey};
 
 use crate::transposition::transposed;
 use mbj_aes::circuit::sub_planes;
-use mbj_aes::{Octet, SBOX_CONSTANT, round_constant};
+use mbj_aes::{Octet, ROUND_WORDS, SBOX_CONSTANT, WORD_BYTES, round_constant};
 use mbj_types::Lane8;
 
 /// The lane words of the longest schedules.
 pub const MAX_SCHEDULE_WORDS: usize = 240;
-
-/// The bytes of a word of a schedule.
-pub const WORD_BYTES: usize = 4;
-
-// The words of the round key of one round.
-const ROUND_WORDS: usize = 4;
 
 /// How many round keys there are more than words of the key.
 pub const EXTRA_KEYS: usize = 7;

@@ -4,11 +4,7 @@ ghost use Rattle.mbj_types.specs.Aes.{key_schedule, round_count};
 ghost use Rattle.mbj_aes.specs.Bytes.{IsKeySize, IsRoundCount};
 ghost use Rattle.mbj_aes_lanes.specs.KeyBytes.{IsKeyArray, key_of_array};
 
-use crate::expansion::WORD_BYTES;
-use mbj_aes::{MAX_KEY_BYTES, Schedule};
-
-// How many rounds there are more than words of the key.
-const EXTRA_ROUNDS: usize = 6;
+use mbj_aes::{MAX_KEY_BYTES, Schedule, key_size};
 
 /// The bytes of a key of 16, 24 or 32 bytes, and zeros behind them.
 pub fn bytes_of_key(key: &[u8]) -> [u8; 32]
@@ -28,7 +24,7 @@ pub fn bytes_of_schedule(key: &Schedule) -> [u8; 32]
     ensures array { IsKeyArray (length key.now / 16 - 1) result }
     ensures schedule { key_schedule (key_of_array (length key.now / 16 - 1) result) ≡ key.now }
 {
-    let size = WORD_BYTES * (key.rounds() as usize - EXTRA_ROUNDS);
+    let size = key_size(key.rounds() as usize);
     let bytes = key.key();
     bytes_of_key(&bytes[..size])
 }
@@ -40,6 +36,6 @@ pub fn schedule_of_bytes(bytes: &[u8; 32], rounds: usize) -> Schedule
     ensures schedule { result ≡ key_schedule (key_of_array rounds bytes.now) }
     ensures length { length result ≡ 16 * (rounds + 1) }
 {
-    let size = WORD_BYTES * (rounds - EXTRA_ROUNDS);
+    let size = key_size(rounds);
     Schedule::expand(&bytes[..size])
 }

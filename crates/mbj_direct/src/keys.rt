@@ -1,14 +1,12 @@
 //! The schedules of a key, for a program that keeps them.
 ghost use Rattle.std.specs.Prelude.{◌≡◌, ◌-◌, ◌/◌, ◌≤◌, ◌++◌, length, replicate};
+ghost use Rattle.mbj_aes.specs.declared.expansion.TheConstants.{MAX_SCHEDULE_BYTES};
 ghost use Rattle.mbj_direct.specs.Schedules.{inverse_round_key, inverse_schedule};
 
 use crate::columns::inv_mix_columns;
-use mbj_aes::Schedule;
+use mbj_aes::{MAX_SCHEDULE_BYTES, Schedule};
 use mbj_blocks::put_block;
 use mbj_types::BLOCK_BYTES;
-
-/// The bytes of the longest schedule, that of a key of 32 bytes: 16 for each of its 14 rounds, and 16 more.
-pub const MAX_SCHEDULE_BYTES: usize = 240;
 
 /// The round keys for encryption one after another, from that of round 0 on (FIPS 197, 5.2), and zero bytes behind them: 176, 208
 /// or 240 bytes for a key of 16, 24 or 32. They are as secret as the key. It takes no memory.

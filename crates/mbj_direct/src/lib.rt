@@ -16,7 +16,7 @@ mod tests;
 
 pub use ccm::{ccm_open, ccm_seal};
 pub use digest::digest_of;
-pub use keys::{MAX_SCHEDULE_BYTES, encryption_schedule, inverse_schedule};
+pub use keys::{encryption_schedule, inverse_schedule};
 pub use laws::{any_cutting_gives_one_text, equivalent_cipher_deciphers};
 pub use parts::GcmState;
 pub use subkeys::{Subkeys, cmac_subkeys};

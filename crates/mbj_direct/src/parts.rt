@@ -8,13 +8,10 @@ ghost use Rattle.mbj_direct.specs.Parts.{HasTaken, blank_state, dir_number, is_g
 
 use crate::counter::{enciphered, xor_part};
 use crate::hash::PartHash;
-use mbj_aes::Schedule;
+use mbj_aes::{MAX_KEY_BYTES, Schedule};
 use mbj_aes_lanes::TextKey;
 use mbj_gcm::pre_counter_block;
-use mbj_types::{BLOCK_BYTES, Dir, xor_in_place};
-
-// The bytes of the longest key.
-const MAX_KEY_BYTES: usize = 32;
+use mbj_types::{BLOCK_BYTES, Dir, is_key_size, xor_in_place};
 
 // The numbers of directions.
 const SEALS: u32 = 0;
@@ -100,8 +97,7 @@ impl GcmState {
     pub fn is_state(&self) -> bool
         ensures { result ≡ is_gcm_state self.now }
     {
-        let size = self.key_bytes;
-        (size == 16 || (size == 24 || size == 32)) && self.dir < DIRECTIONS
+        is_key_size(self.key_bytes as usize) && self.dir < DIRECTIONS
     }
 
     // The key that it holds, expanded.

@@ -3,7 +3,7 @@ ghost use Rattle.mbj_types.specs.Auths.{class_of};
 ghost use Rattle.mbj_gen.specs.Generator.{with_auth_part, bare, byte, cipher_length, with_cipher_part, draws as drawn, with_hash_part, hmac_keyed, iv_length, job, keyed, recipe_of, with_aad};
 
 use crate::draws::Draws;
-use mbj_types::{Auth, AuthClass, Cipher, Dir, Job, Order};
+use mbj_types::{Auth, AuthClass, BLOCK_BYTES, Cipher, Dir, Job, Order};
 use std::alloc::{AllocError, Global};
 use std::marker::Model;
 
@@ -29,9 +29,6 @@ impl Model for Generator {
 
     ghost view = { λ g. g.state };
 }
-
-/// The length of AES's block and of the longer IVs, in bytes.
-const BLOCK_BYTES: usize = 16;
 
 /// The length of GMAC's keys, in bytes.
 const GMAC_KEY_BYTES: usize = 16;

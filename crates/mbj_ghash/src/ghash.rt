@@ -1,21 +1,12 @@
 ghost use Rattle.std.specs.Prelude.{◌≡◌, ℕ, ◌≤◌, List, [], ◌∷◌, ◌++◌, length};
-ghost use Rattle.mbj_types.specs.Blocks.{xor_lists, filled_block, filled_blocks};
+ghost use Rattle.mbj_types.specs.Blocks.{xor_lists, filled_blocks};
 ghost use Rattle.mbj_types.specs.Ghash.{block_product, ghash, ghash_from};
 ghost use Rattle.mbj_ghash.specs.State.{HashState, state_after};
 
 use crate::horner::{after_block, after_blocks};
+use mbj_blocks::filled_block;
 use mbj_types::BLOCK_BYTES;
 use std::marker::Model;
-
-// A block that isn't whole, with zero bytes behind it.
-fn filled_block(part: &[u8]) -> [u8; 16]
-    requires { length part.now ≤ 16 }
-    ensures { result ≡ filled_block part.now }
-{
-    let mut block = [0; BLOCK_BYTES];
-    block[..part.len()].copy_from_slice(part);
-    block
-}
 
 /// A hash that takes one block after another. Contracts see it as a `HashState`: the hash subkey and the value so
 /// far, as lists of 16 bytes. It owns no memory.
