@@ -92,13 +92,13 @@ $(BUILD)/%/proved.a: $(BUILD)/%/rt-lib.a FORCE
 	$(call copy,$<)
 
 $(BUILD)/%/rt-lib.a: $(sources)
-	@echo 'rt lib proves mbj_c and the crates below it, and then builds it for $*: on a new machine about an hour, later minutes'
+	@echo 'rt lib proves mbj_c and the crates below it, and then builds it for $*: on a new machine half an hour to an hour, later minutes'
 	@mkdir -p $(@D)
 	cd crates/mbj_c && $(RT) lib --cpu $*
 	cp crates/mbj_c/out/$(static) $@
 
 $(BUILD)/mbjobs: $(sources)
-	@echo 'rt run proves mbjobs and the crates below it, and then builds it: on a new machine about an hour, later minutes'
+	@echo 'rt run proves mbjobs and the crates below it, and then builds it: on a new machine half an hour to an hour, later minutes'
 	@mkdir -p $(@D)
 	cd crates/mbjobs && $(RT) run -- run --submitters 1 --workers 0 < stdin
 	cp crates/mbjobs/out/mbjobs $@
