@@ -1,6 +1,6 @@
-ghost use Rattle.std.specs.Prelude.{◌≡◌, ℕ, ◌+◌, ◌*◌, ◌/◌, ◌%◌, ◌^◌, ◌<◌, bit_and, bit_xor};
+ghost use Rattle.std.specs.Prelude.{◌≡◌, ℕ, ◌+◌, ◌*◌, ◌/◌, ◌%◌, ◌^◌, ◌<◌, slice_index, bit_and, bit_xor};
 ghost use Rattle.std.specs.Int.{w8, bit_not};
-ghost use Rattle.mbj_types.specs.Lanes.{lane_at, lane_at-lt};
+ghost use Rattle.mbj_types.specs.Lanes.{lane_at, lane_at-lt, IsTableIndex, table_byte};
 
 use std::simd::{u8x16, u8x32};
 
@@ -44,6 +44,12 @@ pub trait Lane8: Copy {
     fn shr(self, by: u32) -> Self
         requires { by < 8 }
         ensures { (i : ℕ) → i < LANES → lane result i ≡ lane self i / 2 ^ by };
+
+    /// The byte of a table at the byte of each lane, which is below 16, and 0 where it is 128 or more. The table stands in a register: no
+    /// address depends on a lane.
+    fn looked_up(self, table: &[u8; 16]) -> Self
+        requires { (i : ℕ) → i < LANES → IsTableIndex (lane self i) }
+        ensures { (i : ℕ) → i < LANES → lane result i ≡ table_byte table.now (lane self i) };
 
     // a lane holds a byte
     ghost fits: { (x : Self) (i : ℕ) → lane x i < 2 ^ 8 };
@@ -92,6 +98,22 @@ impl Lane8 for u8x16 {
     fn shr(self, by: u32) -> Self {
         self >> u8x16::splat(by as u8)
     }
+
+    #[inline(always)]
+    fn looked_up(self, table: &[u8; 16]) -> Self {
+        u8x16::from_array(*table).swizzle_dyn_within::<16>(self)
+    }
+}
+
+// A table in each half of a vector.
+#[inline(always)]
+fn in_each_half(table: &[u8; 16]) -> u8x32
+    ensures { (i : ℕ) → i < 32 → slice_index result i ≡ slice_index table.now (i % 16) }
+{
+    u8x16::from_array(*table).swizzle([
+        0, 1, 2, 3, 4, 5, 6, 7, 8, 9, 10, 11, 12, 13, 14, 15, 0, 1, 2, 3, 4, 5, 6, 7, 8, 9, 10, 11,
+        12, 13, 14, 15,
+    ])
 }
 
 impl Lane8 for u8x32 {
@@ -136,5 +158,10 @@ impl Lane8 for u8x32 {
     #[inline(always)]
     fn shr(self, by: u32) -> Self {
         self >> u8x32::splat(by as u8)
+    }
+
+    #[inline(always)]
+    fn looked_up(self, table: &[u8; 16]) -> Self {
+        in_each_half(table).swizzle_dyn_within::<16>(self)
     }
 }
