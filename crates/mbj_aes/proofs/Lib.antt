@@ -13,12 +13,9 @@ pub mod Padding
 pub mod ExpandedKeys
 pub mod Rounds
 pub mod AesLaws
-pub mod Bits
-pub mod Octets
-pub mod SBoxCircuit
-pub mod SBoxRows
+pub mod TowerCases
+pub mod DecryptionCases
+pub mod BlockWords
 pub mod RoundConstants
-pub mod LowestBits
-mod VectorLanes
 mod Turns
 mod Differences

@@ -1,4 +1,3 @@
 pub mod Padding
-pub mod Circuit
 pub mod Turns
 pub mod FirstKeys

@@ -1,5 +1,6 @@
 pub mod Bytes
 pub mod Laws
 pub mod Examples
-pub mod Planes
+pub mod Tower
+pub mod BlockWords
 pub mod Inside

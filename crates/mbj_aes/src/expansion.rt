@@ -11,6 +11,9 @@ use mbj_types::xor_in_place;
 /// The bytes of the longest schedule, that of a key of 32 bytes: 16 for each of its 14 rounds, and 16 more.
 pub const MAX_SCHEDULE_BYTES: usize = 240;
 
+/// The round keys of the longest schedule: one for each of its 14 rounds, and one more.
+pub const MAX_ROUND_KEYS: usize = 15;
+
 /// The bytes of a word of a schedule.
 pub const WORD_BYTES: usize = 4;
 

@@ -1,6 +1,8 @@
-ghost use Rattle.std.specs.Prelude.{◌≡◌};
-ghost use Rattle.mbj_types.specs.Aes.{aes, aes_inverse, sub_byte, inv_sub_byte};
+ghost use Rattle.std.specs.Prelude.{◌≡◌, ℕ, ◌<◌, ◌≤◌, slice_index};
+ghost use Rattle.mbj_types.specs.Aes.{aes, aes_inverse, times, power, sub_byte, inv_sub_byte};
 ghost use Rattle.mbj_aes.specs.Laws.{Undoes, KeepsBlocks};
+ghost use Rattle.mbj_aes.specs.Tower.{by_halves, from_tower, from_decryption, element, linear_part};
+ghost use Rattle.mbj_aes.specs.declared.tables.TheConstants.{TO_TOWER_LOW, TO_TOWER_HIGH, INVERSES, SCALED_INVERSES, SUB_PLAIN_FIRST, SUB_PLAIN_SECOND, TO_DECRYPTION_LOW, TO_DECRYPTION_HIGH, INV_SUB_PLAIN_FIRST, INV_SUB_PLAIN_SECOND};
 ghost use Rattle.mbj_aes.specs.Examples.{plaintext, key_128, key_192, key_256, ciphertext_128, ciphertext_192, ciphertext_256};
 
 /// A law: under each key, decryption brings back each block that was encrypted, and encryption each block that
@@ -29,4 +31,22 @@ pub fn examples_of_the_standard()
     ensures aes_128_inverse { aes_inverse key_128 ciphertext_128 ≡ plaintext }
     ensures aes_192_inverse { aes_inverse key_192 ciphertext_192 ≡ plaintext }
     ensures aes_256_inverse { aes_inverse key_256 ciphertext_256 ≡ plaintext }
+{}
+
+/// A law: the tables are what their comments say. Half a byte stands for an element of the subfield of 16 elements; the other clauses
+/// speak of all such halves, of those but 0, or of all bytes.
+pub fn tables_are_of_the_field()
+    ensures subfield { (n : ℕ) → n < 16 → power (element n) 16 ≡ element n }
+    ensures tower { (n : ℕ) → n < 16 → from_tower n ≡ times 0x12 (element n) }
+    ensures to_tower { (x : ℕ) → x < 256 → from_tower (by_halves TO_TOWER_LOW TO_TOWER_HIGH x) ≡ x }
+    ensures inverses { (n : ℕ) → 1 ≤ n → n < 16 → times (element n) (element (slice_index INVERSES n)) ≡ 1 }
+    ensures scaled { (n : ℕ) → 1 ≤ n → n < 16 → times (element n) (element (slice_index SCALED_INVERSES n)) ≡ 0xe1 }
+
+    ensures first { (n : ℕ) → 1 ≤ n → n < 16 → times (element n) (slice_index INV_SUB_PLAIN_FIRST n) ≡ 0x1f }
+    ensures second { (n : ℕ) → 1 ≤ n → n < 16 → times (element n) (slice_index INV_SUB_PLAIN_SECOND n) ≡ 0x1e }
+    ensures sub_first { (n : ℕ) → n < 16 → slice_index SUB_PLAIN_FIRST n ≡ linear_part (slice_index INV_SUB_PLAIN_FIRST n) }
+    ensures sub_second { (n : ℕ) → n < 16 → slice_index SUB_PLAIN_SECOND n ≡ linear_part (slice_index INV_SUB_PLAIN_SECOND n) }
+
+    ensures decryption { (x : ℕ) → x < 256 → from_decryption x ≡ linear_part (from_tower x) }
+    ensures to_decryption { (x : ℕ) → x < 256 → from_decryption (by_halves TO_DECRYPTION_LOW TO_DECRYPTION_HIGH x) ≡ x }
 {}

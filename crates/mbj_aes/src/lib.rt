@@ -1,19 +1,24 @@
-//! What AES (FIPS 197) on many blocks stands on: the schedule of a key, the S-box as a circuit of gates on bit planes, and
-//! the laws that encryption and decryption undo each other. No call takes memory.
+//! What AES (FIPS 197) on many blocks stands on: the schedule of a key, SBOX and its inverse by lookups in registers, registers of whole
+//! blocks, and the laws that encryption and decryption undo each other. No call takes memory.
 #![tactic(auto)]
 
-pub mod circuit;
 mod compare;
 mod expansion;
-pub mod gates;
-pub mod inverse_circuit;
+pub mod inverse_substitution;
 mod laws;
-mod octet;
+pub mod lookups;
+mod register;
 mod schedule;
-mod substitution;
+pub mod substitution;
+pub mod tables;
 
 pub use compare::are_equal;
-pub use expansion::{MAX_SCHEDULE_BYTES, ROUND_WORDS, WORD_BYTES, key_size, round_constant};
-pub use laws::{blocks_stay_blocks, each_undoes_the_other, examples_of_the_standard};
-pub use octet::{Octet, SBOX_CONSTANT};
+pub use expansion::{
+    MAX_ROUND_KEYS, MAX_SCHEDULE_BYTES, ROUND_WORDS, WORD_BYTES, key_size, round_constant,
+};
+pub use laws::{
+    blocks_stay_blocks, each_undoes_the_other, examples_of_the_standard, tables_are_of_the_field,
+};
+pub use register::BlockWord;
 pub use schedule::{MAX_KEY_BYTES, Schedule};
+pub use tables::SBOX_CONSTANT;

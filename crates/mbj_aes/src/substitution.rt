@@ -1,117 +1,53 @@
-//! SBOX (FIPS 197, 5.1.1) of a byte in each lane, by the rows of the standard's table: each row is looked up in every lane, and the
-//! lanes of that row keep what it gives. So no address and no branch depends on a byte.
-ghost use Rattle.std.specs.Prelude.{◌≡◌, ℕ, ◌%◌, ◌^◌, ◌<◌, slice_index, nat_eq, if◌then◌else◌};
-ghost use Rattle.mbj_types.specs.Aes.{sub_byte, sub_bytes};
+//! SBOX (FIPS 197, 5.1.1) of the byte in each lane, by lookups in registers.
+ghost use Rattle.std.specs.Prelude.{◌≡◌, ℕ, ◌<◌};
+ghost use Rattle.mbj_types.specs.Aes.{times, sub_byte, sub_bytes};
 ghost use Rattle.mbj_types.specs.Lanes.{lane_at, lane_list};
+ghost use Rattle.mbj_aes.specs.Tower.{from_tower, bare_sub_byte};
 
+use crate::lookups::{by_halves, by_quotients, quotients_of};
+use crate::tables::{
+    SBOX_CONSTANT, SUB_FIRST, SUB_PLAIN_FIRST, SUB_PLAIN_SECOND, SUB_SECOND, SUB_TWICE_FIRST,
+    SUB_TWICE_SECOND, TO_TOWER_HIGH, TO_TOWER_LOW,
+};
 use mbj_types::Lane8;
 use std::simd::u8x16;
 
-// SBOX of the byte xy in row x and column y (FIPS 197, table 4).
-const ROWS: [[u8; 16]; 16] = [
-    [
-        0x63, 0x7c, 0x77, 0x7b, 0xf2, 0x6b, 0x6f, 0xc5, 0x30, 0x01, 0x67, 0x2b, 0xfe, 0xd7, 0xab,
-        0x76,
-    ],
-    [
-        0xca, 0x82, 0xc9, 0x7d, 0xfa, 0x59, 0x47, 0xf0, 0xad, 0xd4, 0xa2, 0xaf, 0x9c, 0xa4, 0x72,
-        0xc0,
-    ],
-    [
-        0xb7, 0xfd, 0x93, 0x26, 0x36, 0x3f, 0xf7, 0xcc, 0x34, 0xa5, 0xe5, 0xf1, 0x71, 0xd8, 0x31,
-        0x15,
-    ],
-    [
-        0x04, 0xc7, 0x23, 0xc3, 0x18, 0x96, 0x05, 0x9a, 0x07, 0x12, 0x80, 0xe2, 0xeb, 0x27, 0xb2,
-        0x75,
-    ],
-    [
-        0x09, 0x83, 0x2c, 0x1a, 0x1b, 0x6e, 0x5a, 0xa0, 0x52, 0x3b, 0xd6, 0xb3, 0x29, 0xe3, 0x2f,
-        0x84,
-    ],
-    [
-        0x53, 0xd1, 0x00, 0xed, 0x20, 0xfc, 0xb1, 0x5b, 0x6a, 0xcb, 0xbe, 0x39, 0x4a, 0x4c, 0x58,
-        0xcf,
-    ],
-    [
-        0xd0, 0xef, 0xaa, 0xfb, 0x43, 0x4d, 0x33, 0x85, 0x45, 0xf9, 0x02, 0x7f, 0x50, 0x3c, 0x9f,
-        0xa8,
-    ],
-    [
-        0x51, 0xa3, 0x40, 0x8f, 0x92, 0x9d, 0x38, 0xf5, 0xbc, 0xb6, 0xda, 0x21, 0x10, 0xff, 0xf3,
-        0xd2,
-    ],
-    [
-        0xcd, 0x0c, 0x13, 0xec, 0x5f, 0x97, 0x44, 0x17, 0xc4, 0xa7, 0x7e, 0x3d, 0x64, 0x5d, 0x19,
-        0x73,
-    ],
-    [
-        0x60, 0x81, 0x4f, 0xdc, 0x22, 0x2a, 0x90, 0x88, 0x46, 0xee, 0xb8, 0x14, 0xde, 0x5e, 0x0b,
-        0xdb,
-    ],
-    [
-        0xe0, 0x32, 0x3a, 0x0a, 0x49, 0x06, 0x24, 0x5c, 0xc2, 0xd3, 0xac, 0x62, 0x91, 0x95, 0xe4,
-        0x79,
-    ],
-    [
-        0xe7, 0xc8, 0x37, 0x6d, 0x8d, 0xd5, 0x4e, 0xa9, 0x6c, 0x56, 0xf4, 0xea, 0x65, 0x7a, 0xae,
-        0x08,
-    ],
-    [
-        0xba, 0x78, 0x25, 0x2e, 0x1c, 0xa6, 0xb4, 0xc6, 0xe8, 0xdd, 0x74, 0x1f, 0x4b, 0xbd, 0x8b,
-        0x8a,
-    ],
-    [
-        0x70, 0x3e, 0xb5, 0x66, 0x48, 0x03, 0xf6, 0x0e, 0x61, 0x35, 0x57, 0xb9, 0x86, 0xc1, 0x1d,
-        0x9e,
-    ],
-    [
-        0xe1, 0xf8, 0x98, 0x11, 0x69, 0xd9, 0x8e, 0x94, 0x9b, 0x1e, 0x87, 0xe9, 0xce, 0x55, 0x28,
-        0xdf,
-    ],
-    [
-        0x8c, 0xa1, 0x89, 0x0d, 0xbf, 0xe6, 0x42, 0x68, 0x41, 0x99, 0x2d, 0x0f, 0xb0, 0x54, 0xbb,
-        0x16,
-    ],
-];
-
-// The bits of a byte that are its column.
-const COLUMN: u8 = 0x0f;
-
-// How far the bits of its row stand above them.
-const ROW_SHIFT: u32 = 4;
-
-// The byte of a row in the column of each lane.
-#[inline(always)]
-fn looked_up(row: &[u8; 16], columns: u8x16) -> u8x16
-    requires { (i : ℕ) → i < 16 → lane_at 8 columns i < 16 }
-    ensures { (i : ℕ) → i < 16 → lane_at 8 result i ≡ slice_index row.now (lane_at 8 columns i) % 2 ^ 8 }
-{
-    u8x16::from_array(*row).swizzle_dyn(columns)
+/// What SBOX gives without its constant, and twice as much in the field.
+#[derive(Clone, Copy)]
+pub struct WithDouble<V> {
+    pub once: V,
+    pub twice: V,
 }
 
-// The bytes in the lanes of row `row`, and 0 in the others.
+/// SBOX without its constant of each byte, and twice as much, from the tower's basis to the tower's basis.
 #[inline(always)]
-fn kept(bytes: u8x16, rows: u8x16, row: u8) -> u8x16
-    ensures { (i : ℕ) → i < 16 → lane_at 8 result i ≡ if nat_eq (lane_at 8 rows i) row then lane_at 8 bytes i else 0 }
+pub fn substituted_in_tower<V: Lane8>(x: V) -> WithDouble<V>
+    ensures once { (i : ℕ) → i < V.LANES → from_tower (V.lane result.once i) ≡ bare_sub_byte (from_tower (V.lane x i)) }
+    ensures twice { (i : ℕ) → i < V.LANES
+        → from_tower (V.lane result.twice i) ≡ times 2 (bare_sub_byte (from_tower (V.lane x i))) }
 {
-    rows.simd_eq(u8x16::splat(row))
-        .select(bytes, u8x16::splat(0))
-}
-
-// SBOX of the byte in each lane.
-#[inline(always)]
-fn substituted(x: u8x16) -> u8x16
-    ensures { (i : ℕ) → i < 16 → lane_at 8 result i ≡ sub_byte (lane_at 8 x i) }
-{
-    let columns = x.anded(<u8x16 as Lane8>::splat(COLUMN));
-    let rows = x.shr(ROW_SHIFT);
-    let mut found = <u8x16 as Lane8>::splat(0);
-    'rows: for row in 0..ROWS.len() {
-        let bytes = looked_up(&ROWS[row], columns);
-        found = found.xored(kept(bytes, rows, row as u8));
+    let quotients = quotients_of(x);
+    WithDouble {
+        once: by_quotients(&SUB_FIRST, &SUB_SECOND, quotients),
+        twice: by_quotients(&SUB_TWICE_FIRST, &SUB_TWICE_SECOND, quotients),
     }
-    found
+}
+
+/// SBOX without its constant of each byte, from the tower's basis to plain bytes.
+#[inline(always)]
+pub fn substituted_from_tower<V: Lane8>(x: V) -> V
+    ensures { (i : ℕ) → i < V.LANES → V.lane result i ≡ bare_sub_byte (from_tower (V.lane x i)) }
+{
+    by_quotients(&SUB_PLAIN_FIRST, &SUB_PLAIN_SECOND, quotients_of(x))
+}
+
+/// SBOX of each byte.
+#[inline(always)]
+pub fn substituted<V: Lane8>(x: V) -> V
+    ensures { (i : ℕ) → i < V.LANES → V.lane result i ≡ sub_byte (V.lane x i) }
+{
+    let bare = substituted_from_tower(by_halves(&TO_TOWER_LOW, &TO_TOWER_HIGH, x));
+    bare.xored(V::splat(SBOX_CONSTANT))
 }
 
 // The lanes of a vector.

@@ -1,11 +1,10 @@
--- States and round keys in bit planes. Clauses of private functions alone cite these.
-pub mod Exchange
-pub mod State
-pub mod Moves
-pub mod Rounds
-pub mod Keys
+-- States and round keys in lanes and in registers. Clauses of private functions alone cite these.
 pub mod Matrix
-pub mod KeyStream
-pub mod Expansion
 pub mod Slots
-pub mod Kept
+pub mod Busy
+pub mod BusyKeys
+pub mod Wide
+pub mod WideKeys
+pub mod LaidKeys
+pub mod Layouts
+pub mod KeyStream

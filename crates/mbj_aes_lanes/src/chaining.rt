@@ -40,9 +40,6 @@ pub trait Chaining: Drop {
         ensures array { IsKeyArray key_rounds result.now }
         ensures schedule { key_schedule (key_of_array key_rounds result.now) ≡ key_of self.now };
 
-    /// The session in which the key was learnt, if there is one.
-    fn session(&self) -> Option<u32>;
-
     /// How many blocks are left.
     fn rest(&self) -> u32
         ensures { result ≡ rest_of self.now };

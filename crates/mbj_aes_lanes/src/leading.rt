@@ -1,4 +1,4 @@
-//! Blocks of many entries chained side by side, each under its own key: few entries in narrow passes, more in wide ones.
+//! Blocks of many entries chained side by side, each under its own key in its lane.
 ghost use Rattle.std.specs.Prelude.{◌≡◌, ℕ, ◌+◌, ◌-◌, ◌*◌, ◌%◌, ◌<◌, ◌≤◌, All, [], length, map, replicate, slice_index_or};
 ghost use Rattle.mbj_types.specs.Aes.{encipher, key_schedule};
 ghost use Rattle.mbj_types.specs.Blocks.{xor_lists};
@@ -7,23 +7,19 @@ ghost use Rattle.mbj_aes.specs.Bytes.{IsRoundCount};
 ghost use Rattle.mbj_aes_lanes.specs.KeyBytes.{IsKeyArray, key_of_array};
 ghost use Rattle.mbj_lane.specs.Rounds.{after};
 ghost use Rattle.mbj_aes_lanes.specs.Chaining.{in_lane, chained_once};
-ghost use Rattle.mbj_aes_lanes.specs.Inside.Keys.{schedule_in};
-ghost use Rattle.mbj_aes_lanes.specs.Inside.State.{plain_bytes};
+ghost use Rattle.mbj_aes_lanes.specs.Inside.Wide.{state_lane};
+ghost use Rattle.mbj_aes_lanes.specs.Inside.WideKeys.{schedule_in};
 
-use crate::block_states::{FEW_BLOCKS, FewWord, PassWord};
 use crate::chaining::{Chaining, place_of};
 use crate::entry_blocks::{Chains, NextBlocks};
-use crate::expansion::MAX_SCHEDULE_WORDS;
-use crate::key_planes::MAX_ROUND_KEYS;
 use crate::lane_blocks::LaneBlocks;
-use crate::lane_schedules::RoundStates;
-use crate::layout::Layout;
-use crate::moves::move_to_plain;
-use crate::rounds::encrypt;
-use crate::schedules::{expand_keys, zero_words};
-use crate::state::{State, zero_state};
-use crate::undone_columns::add_round_key;
-use mbj_aes::MAX_KEY_BYTES;
+use crate::wide::lane_schedules::RoundStates;
+use crate::wide::pass_word::PassWord;
+use crate::wide::rounds::encrypt;
+use crate::wide::schedules::{expand_keys, zero_words};
+use crate::wide::state::{State, add_round_key, zero_state};
+use crate::wide::words::MAX_SCHEDULE_WORDS;
+use mbj_aes::{MAX_KEY_BYTES, MAX_ROUND_KEYS};
 use mbj_types::{AES_LANES, AesWord, BLOCK_BYTES};
 
 // The rounds of the keys, of which each has as many.
@@ -63,16 +59,16 @@ fn write_keys<V: PassWord, E: Chaining>(keys: &mut [State<V>], entries: &[E], wo
     requires zeros { (i : ℕ) → i < V.LANES → lane_of V.lane words.old i ≡ replicate MAX_SCHEDULE_WORDS 0 }
     ensures { (i : ℕ) → i < V.LANES → schedule_in V.lane E.key_rounds keys.new i ≡ in_lane (map E.key_of entries.now) i }
 {
-    expand_keys(keys, &bytes_of(entries), V::splat(0xff), words);
+    expand_keys(keys, &bytes_of(entries), words);
 }
 
 /// The blocks of which this is the state, in as many lanes as there are.
 #[inline(always)]
 pub fn blocks_of<V: PassWord>(s: &State<V>) -> [[u8; 16]; AES_LANES]
-    ensures { (i : ℕ) → i < V.LANES → slice_index_or result i [] ≡ plain_bytes V.lane s.now i }
+    ensures { (i : ℕ) → i < V.LANES → slice_index_or result i [] ≡ state_lane V.lane s.now i }
 {
     let mut blocks = [[0; BLOCK_BYTES]; AES_LANES];
-    V::store(&mut blocks[..V::LANES as usize], s, Layout::Plain);
+    V::store(&mut blocks[..V::LANES as usize], s);
     blocks
 }
 
@@ -83,14 +79,13 @@ pub fn chain_lanes<V: PassWord, B: LaneBlocks>(keys: &[State<V>], blocks: &B, ch
     requires lanes { V.LANES ≤ B.lanes_of blocks.now }
     requires least { 3 ≤ length keys.now }
     requires even { length keys.now % 2 ≡ 1 }
-    ensures { (i : ℕ) → i < V.LANES → plain_bytes V.lane chains.new i
+    ensures { (i : ℕ) → i < V.LANES → state_lane V.lane chains.new i
         ≡ encipher (schedule_in V.lane (length keys.now - 1) keys.now i)
-        (xor_lists (B.block_in blocks.now i) (plain_bytes V.lane chains.old i)) }
+        (xor_lists (B.block_in blocks.now i) (state_lane V.lane chains.old i)) }
 {
-    let blocks = V::load(blocks, Layout::Plain);
+    let blocks = V::load(blocks);
     *chains = add_round_key(blocks, *chains);
     encrypt(&RoundStates { keys }, chains);
-    move_to_plain(chains);
 }
 
 // The chaining value of each lane becomes the next one of its entry.
@@ -101,9 +96,9 @@ fn next_chains<V: PassWord, E: Chaining>(entries: &[E], keys: &[State<V>], chain
     requires least { 3 ≤ length keys.now }
     requires even { length keys.now % 2 ≡ 1 }
     requires keys { (i : ℕ) → i < V.LANES → schedule_in V.lane (length keys.now - 1) keys.now i ≡ in_lane (map E.key_of entries.now) i }
-    ensures { (i : ℕ) → i < V.LANES → plain_bytes V.lane chains.new i
+    ensures { (i : ℕ) → i < V.LANES → state_lane V.lane chains.new i
         ≡ encipher (in_lane (map E.key_of entries.now) i)
-        (xor_lists (in_lane (map E.block_of entries.now) i) (plain_bytes V.lane chains.old i)) }
+        (xor_lists (in_lane (map E.block_of entries.now) i) (state_lane V.lane chains.old i)) }
 {
     chain_lanes(keys, &NextBlocks { entries }, chains);
 }
@@ -144,11 +139,11 @@ fn pass<V: PassWord, E: Chaining>(entries: &mut [E], keys: &[State<V>], chains: 
     requires least { 3 ≤ length keys.now }
     requires even { length keys.now % 2 ≡ 1 }
     requires keys { (i : ℕ) → i < V.LANES → schedule_in V.lane (length keys.now - 1) keys.now i ≡ in_lane (map E.key_of entries.old) i }
-    ensures chains { (i : ℕ) → i < V.LANES → plain_bytes V.lane chains.new i
+    ensures chains { (i : ℕ) → i < V.LANES → state_lane V.lane chains.new i
         ≡ encipher (in_lane (map E.key_of entries.old) i)
-        (xor_lists (in_lane (map E.block_of entries.old) i) (plain_bytes V.lane chains.old i)) }
+        (xor_lists (in_lane (map E.block_of entries.old) i) (state_lane V.lane chains.old i)) }
     ensures entries { (i : ℕ) (e : E) → i < length entries.old → slice_index_or entries.new i e
-        ≡ E.led (slice_index_or entries.old i e) (plain_bytes V.lane chains.new i) }
+        ≡ E.led (slice_index_or entries.old i e) (state_lane V.lane chains.new i) }
 {
     next_chains(entries, keys, chains);
     lead_each(entries, &blocks_of(chains));
@@ -165,7 +160,7 @@ fn lead_by<V: PassWord, E: Chaining>(entries: &mut [E], m: u32, keys: &[State<V>
     requires keys { (i : ℕ) → i < V.LANES → schedule_in V.lane (length keys.now - 1) keys.now i ≡ in_lane (map E.key_of entries.old) i }
     ensures { entries.new ≡ map (after (chained_once E.key_of E.block_of E.chain_of E.led E.kept) m) entries.old }
 {
-    let mut chains = V::load(&Chains { entries }, Layout::Plain);
+    let mut chains = V::load(&Chains { entries });
     'passes: for done in 0..m {
         pass(entries, keys, &mut chains);
     }
@@ -198,13 +193,7 @@ pub fn lead_all<E: Chaining>(entries: &mut [E], m: u32)
     if entries.len() == 0 {
         return;
     }
-    if entries.len() <= FEW_BLOCKS {
-        let mut room = [zero_state(); MAX_ROUND_KEYS];
-        let mut words = [FewWord::splat(0); MAX_SCHEDULE_WORDS];
-        run::<FewWord, E>(entries, m, &mut room, &mut words);
-    } else {
-        let mut room = [zero_state(); MAX_ROUND_KEYS];
-        let mut words = zero_words();
-        run::<AesWord, E>(entries, m, &mut room, &mut words);
-    }
+    let mut room = [zero_state(); MAX_ROUND_KEYS];
+    let mut words = zero_words();
+    run::<AesWord, E>(entries, m, &mut room, &mut words);
 }

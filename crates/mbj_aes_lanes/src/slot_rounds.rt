@@ -7,18 +7,17 @@ ghost use Rattle.mbj_types.specs.Lanes.{lane_at};
 ghost use Rattle.mbj_types.specs.declared.kind.TheConstants.{AES_LANES};
 ghost use Rattle.mbj_lane.specs.Rounds.{after};
 ghost use Rattle.mbj_aes_lanes.specs.Chaining.{chained_once};
-ghost use Rattle.mbj_aes_lanes.specs.Inside.State.{plain_bytes};
-ghost use Rattle.mbj_aes_lanes.specs.Inside.Keys.{schedule_in};
+ghost use Rattle.mbj_aes_lanes.specs.Inside.Wide.{state_lane};
+ghost use Rattle.mbj_aes_lanes.specs.Inside.WideKeys.{schedule_in};
 ghost use Rattle.mbj_aes_lanes.specs.Inside.Slots.{of_slot, HasRounds, HaveRounds, AreKeyed, IsZeroOf};
 
-use crate::block_states::PassWord;
 use crate::chaining::Chaining;
 use crate::lane_blocks::{Blocks, LaneBlocks};
-use crate::lane_schedules::RoundStates;
-use crate::layout::Layout;
 use crate::leading::{blocks_of, chain_lanes};
-use crate::rounds::encrypt;
-use crate::state::State;
+use crate::wide::lane_schedules::RoundStates;
+use crate::wide::pass_word::PassWord;
+use crate::wide::rounds::encrypt;
+use crate::wide::state::State;
 use mbj_types::{AES_LANES, AesWord, BLOCK_BYTES};
 
 // The next block of each entry, and zeros in idle lanes.
@@ -66,7 +65,7 @@ impl<E: Chaining> LaneBlocks for SlotChains<'_, E> {
 
 // The entry of a slot is led by a chaining value.
 #[inline(always)]
-fn lead_slot<E: Chaining>(slot: &mut Option<E>, chain: &[u8; 16])
+pub fn lead_slot<E: Chaining>(slot: &mut Option<E>, chain: &[u8; 16])
     requires { HasRounds E.rest_of 1 slot.old }
     ensures { slot.new ≡ option_map (λ e. E.led e chain.now) slot.old }
 {
@@ -90,7 +89,7 @@ fn lead_each_slot<E: Chaining>(entries: &mut [Option<E>], chains: &[[u8; 16]; AE
 
 // The entry of a slot keeps a chaining value.
 #[inline(always)]
-fn keep_slot<E: Chaining>(slot: &mut Option<E>, chain: &[u8; 16])
+pub fn keep_slot<E: Chaining>(slot: &mut Option<E>, chain: &[u8; 16])
     ensures { slot.new ≡ option_map (λ e. E.kept e chain.now) slot.old }
 {
     if let Some(entry) = slot {
@@ -121,11 +120,11 @@ fn pass_slots<E: Chaining>(
     requires rests { HaveRounds E.rest_of 1 entries.old }
     requires least { 3 ≤ length keys.now }
     requires even { length keys.now % 2 ≡ 1 }
-    ensures chains { (i : ℕ) → i < AES_LANES → plain_bytes (lane_at 8) chains.new i
+    ensures chains { (i : ℕ) → i < AES_LANES → state_lane (lane_at 8) chains.new i
         ≡ encipher (schedule_in (lane_at 8) (length keys.now - 1) keys.now i)
-        (xor_lists (of_slot E.block_of (slice_index_or entries.old i None)) (plain_bytes (lane_at 8) chains.old i)) }
+        (xor_lists (of_slot E.block_of (slice_index_or entries.old i None)) (state_lane (lane_at 8) chains.old i)) }
     ensures entries { (i : ℕ) → i < AES_LANES → slice_index_or entries.new i None
-        ≡ option_map (λ e. E.led e (plain_bytes (lane_at 8) chains.new i)) (slice_index_or entries.old i None) }
+        ≡ option_map (λ e. E.led e (state_lane (lane_at 8) chains.new i)) (slice_index_or entries.old i None) }
 {
     chain_lanes(keys, &SlotBlocks { entries }, chains);
     lead_each_slot(entries, &blocks_of(chains));
@@ -147,7 +146,7 @@ fn lead_slots<E: Chaining>(
     ensures { (i : ℕ) → i < AES_LANES → slice_index_or entries.new i None
         ≡ option_map (after (chained_once E.key_of E.block_of E.chain_of E.led E.kept) m) (slice_index_or entries.old i None) }
 {
-    *chains = AesWord::load(&SlotChains { entries }, Layout::Plain);
+    *chains = AesWord::load(&SlotChains { entries });
     'passes: for done in 0..m {
         pass_slots(entries, keys, chains);
     }
@@ -156,7 +155,7 @@ fn lead_slots<E: Chaining>(
 
 // Whether an entry needs the zero block enciphered, before it goes on by `m` blocks.
 #[inline(always)]
-fn is_zero_wanted<E: Chaining>(entries: &[Option<E>], m: u32) -> bool {
+pub fn is_zero_wanted<E: Chaining>(entries: &[Option<E>], m: u32) -> bool {
     let mut is_wanted = false;
     'slots: for slot in entries {
         if let Some(entry) = slot {
@@ -175,15 +174,15 @@ fn zeros_of(keys: &[State<AesWord>]) -> [[u8; 16]; AES_LANES]
         → slice_index_or result i [] ≡ encipher (schedule_in (lane_at 8) (length keys.now - 1) keys.now i) zero_block }
 {
     let mut blocks = [[0; BLOCK_BYTES]; AES_LANES];
-    let mut state = AesWord::load(&Blocks { blocks: &blocks }, Layout::Plain);
+    let mut state = AesWord::load(&Blocks { blocks: &blocks });
     encrypt(&RoundStates { keys }, &mut state);
-    AesWord::store(&mut blocks, &state, Layout::Last);
+    AesWord::store(&mut blocks, &state);
     blocks
 }
 
 // The entry of a slot takes the zero block enciphered under its key.
 #[inline(always)]
-fn give_zero<E: Chaining>(slot: &mut Option<E>, zero: &[u8; 16])
+pub fn give_zero<E: Chaining>(slot: &mut Option<E>, zero: &[u8; 16])
     requires { IsZeroOf E.key_of zero.now slot.old }
     ensures { slot.new ≡ slot.old }
 {

@@ -1,5 +1,4 @@
-//! Slots of blocks that are chained, one for each lane. The round keys of all lanes stay in planes between runs, so that a lane
-//! whose next entry has the same key in the same session keeps them.
+//! Slots of blocks that are chained, one for each lane. A run makes the round keys of its lanes anew, and nothing is kept for the next one.
 ghost use Rattle.std.specs.Prelude.{◌≡◌, ℕ, ◌^◌, ◌<◌, ◌≤◌, Some, None, IfOk, MatchOption, ◌⊎◌, ◌≢◌, [], length, slice_index, slice_index_or};
 ghost use Rattle.std.specs.Option.{option_map};
 ghost use Rattle.mbj_types.specs.declared.kind.TheConstants.{AES_LANES};
@@ -10,73 +9,38 @@ ghost use Rattle.mbj_aes_lanes.specs.Chaining.{chained_once};
 ghost use Rattle.mbj_aes_lanes.specs.Slots.{slot_at};
 
 use crate::chaining::Chaining;
-use crate::key_planes::MAX_ROUND_KEYS;
-use crate::slot_keys::refresh_first;
+use crate::few_keys::FEW_LANES;
+use crate::few_lanes::{busy_lanes, lead_few};
+use crate::slot_keys::expand_slots;
 use crate::slot_rounds::lead_entries;
-use crate::state::{State, zero_state};
-use mbj_aes::{MAX_KEY_BYTES, are_equal};
+use crate::wide::state::{State, zero_state};
+use mbj_aes::MAX_ROUND_KEYS;
 use mbj_types::{AES_LANES, AesWord};
 use std::alloc::{AllocError, Global};
 use std::marker::Model;
 use std::mem;
 
-// All bits of a lane.
-const STALE: u8 = 0xff;
-
 /// Slots of entries, which contracts see as the list of what stands in each.
 #[derive(Drop)]
 pub struct ChainedSlots<E: Chaining> {
-    // The round keys of all lanes. These and the chaining values have memory of their own, which may be aligned to vectors.
+    // What a run over many lanes takes: the round keys of all lanes, and one state of their chaining values. They have memory of their
+    // own, which may be aligned to vectors.
     round_keys: Vec<State<AesWord>>,
-    // One state, of the chaining values of a run.
     chains: Vec<State<AesWord>>,
-    // The bytes of the key that each lane was given last.
-    keys: [[u8; 32]; AES_LANES],
-    // The session in which that key was learnt, if there is one.
-    sessions: [Option<u32>; AES_LANES],
-    // 0xff for a lane that doesn't have the round keys of its key yet, else 0.
-    stale: [u8; AES_LANES],
     entries: Vec<Option<E>>,
 }
 
 impl<E: Chaining> Model for ChainedSlots<E> {
     ghost use Rattle.std.specs.Prelude.{◌≡◌, List, Option, length};
-    ghost use Rattle.mbj_aes_lanes.specs.Inside.Kept.{AreKept};
+    ghost use Rattle.mbj_types.specs.declared.kind.TheConstants.{AES_LANES};
+    ghost use Rattle.mbj_aes.specs.declared.expansion.TheConstants.{MAX_ROUND_KEYS};
 
     ghost Value = { List (Option E) };
 
     ghost view = { λ s. s.entries.items };
 
-    ghost invariant = { λ s. AreKept E.key_rounds E.key_of s.round_keys.items s.keys s.sessions s.stale s.entries.items
-        × (length s.chains.items ≡ 1) };
-}
-
-// The lane takes the bytes of a key, which stay where the key before was learnt in the same session and is equal. Keys that were
-// learnt in no session aren't compared.
-fn take_key(
-    keys: &mut [[u8; 32]; AES_LANES],
-    sessions: &mut [Option<u32>; AES_LANES],
-    stale: &mut [u8; AES_LANES],
-    i: usize,
-    session: Option<u32>,
-    bytes: &[u8; 32],
-)
-    requires { i < AES_LANES }
-    ensures here { slice_index_or keys.new i [] ≡ bytes.now }
-    ensures stale { (slice_index stale.new i ≡ STALE) ⊎ (slice_index stale.new i ≡ slice_index stale.old i) }
-    ensures kept { slice_index stale.new i ≢ STALE → slice_index_or keys.old i [] ≡ bytes.now }
-    ensures keys { length keys.new ≡ AES_LANES }
-    ensures sessions { length sessions.new ≡ AES_LANES }
-    ensures lanes { length stale.new ≡ AES_LANES }
-    ensures other_keys { (j : ℕ) → j ≢ i → slice_index_or keys.new j [] ≡ slice_index_or keys.old j [] }
-    ensures other_lanes { (j : ℕ) → j ≢ i → slice_index stale.new j ≡ slice_index stale.old j }
-{
-    let is_known = session.is_some() && session == sessions[i] && are_equal(bytes, &keys[i]);
-    if !is_known {
-        keys[i] = *bytes;
-        sessions[i] = session;
-        stale[i] = STALE;
-    }
+    ghost invariant = { λ s. (length s.round_keys.items ≡ MAX_ROUND_KEYS) × (length s.chains.items ≡ 1)
+        × (length s.entries.items ≡ AES_LANES) };
 }
 
 // This many states of zeros.
@@ -132,29 +96,16 @@ impl<E: Chaining> ChainedSlots<E> {
         Ok(ChainedSlots {
             round_keys,
             chains,
-            keys: [[0; MAX_KEY_BYTES]; AES_LANES],
-            sessions: [None; AES_LANES],
-            stale: [STALE; AES_LANES],
             entries,
         })
     }
 
-    /// An entry takes an idle slot. Its lane keeps its round keys where the entry before was of the same session and had the
-    /// same key; keys that were learnt in no session aren't compared.
+    /// An entry takes an idle slot.
     pub fn put(&mut self, i: usize, entry: E)
         requires lane { i < AES_LANES }
         requires idle { slot_at self.old i ≡ None }
         ensures { IsWritten AES_LANES i (Some entry) (slot_at self.old) (slot_at self.new) }
     {
-        let bytes = *entry.key_bytes();
-        take_key(
-            &mut self.keys,
-            &mut self.sessions,
-            &mut self.stale,
-            i,
-            entry.session(),
-            &bytes,
-        );
         self.entries[i] = Some(entry);
     }
 
@@ -189,11 +140,39 @@ impl<E: Chaining> ChainedSlots<E> {
             ≡ option_map (after (chained_once E.key_of E.block_of E.chain_of E.led E.kept) m) (slot_at self.old i) }
     {
         if let Some(rounds) = rounds_in(&self.entries) {
-            refresh_first(&mut self.round_keys, rounds, &self.keys, &self.stale);
-            self.stale = [0; AES_LANES];
-            let keys = &self.round_keys[..rounds + 1];
-            lead_entries(&mut self.entries, m, keys, &mut self.chains[0]);
+            self.run_rounds(m, rounds);
         }
+    }
+
+    // The same, where the keys have this many rounds.
+    #[inline(always)]
+    fn run_rounds(&mut self, m: u32, rounds: usize)
+        requires rests { (i : ℕ) (e : E) → i < AES_LANES → slot_at self.old i ≡ Some e → m ≤ E.rest_of e }
+        requires value { rounds ≡ E.key_rounds }
+        requires rounds { IsRoundCount rounds }
+        ensures { (i : ℕ) → i < AES_LANES → slot_at self.new i
+            ≡ option_map (after (chained_once E.key_of E.block_of E.chain_of E.led E.kept) m) (slot_at self.old i) }
+    {
+        let busy = busy_lanes(&self.entries);
+        if busy.many <= FEW_LANES {
+            lead_few(&mut self.entries, &busy, m, rounds);
+        } else {
+            self.run_wide(m, rounds);
+        }
+    }
+
+    // The same in all lanes at once, however many are busy.
+    #[inline(always)]
+    fn run_wide(&mut self, m: u32, rounds: usize)
+        requires rests { (i : ℕ) (e : E) → i < AES_LANES → slot_at self.old i ≡ Some e → m ≤ E.rest_of e }
+        requires value { rounds ≡ E.key_rounds }
+        requires rounds { IsRoundCount rounds }
+        ensures { (i : ℕ) → i < AES_LANES → slot_at self.new i
+            ≡ option_map (after (chained_once E.key_of E.block_of E.chain_of E.led E.kept) m) (slot_at self.old i) }
+    {
+        expand_slots(&mut self.round_keys, rounds, &self.entries);
+        let keys = &self.round_keys[..rounds + 1];
+        lead_entries(&mut self.entries, m, keys, &mut self.chains[0]);
     }
 
     /// Takes an entry out of its slot, which is idle then.

@@ -25,7 +25,6 @@ pub struct CbcEntry<const N: usize> {
     /// The chaining value: the last block of ciphertext, and the IV at the start.
     pub chain: [u8; 16],
     key: [u8; 32],
-    session: Option<u32>,
     off: usize,
     len: usize,
 }
@@ -100,18 +99,9 @@ impl<const N: usize> CbcEntry<N> {
             rest: len / BLOCK_BYTES as u32,
             chain: iv,
             key,
-            session: None,
             off: off as usize,
             len: len as usize,
         }
-    }
-
-    /// The same entry, whose key was learnt in this session, or in none. A lane whose last entry had the same key in the same
-    /// session keeps its round keys.
-    pub fn in_session(self, session: Option<u32>) -> CbcEntry<N>
-        ensures { result ≡ self.entry }
-    {
-        CbcEntry { session, ..self }
     }
 
     /// The packet, whose range is encrypted. No round is left.
@@ -156,11 +146,6 @@ impl<const N: usize> Chaining for CbcEntry<N> {
     #[inline(always)]
     fn key_bytes(&self) -> &[u8; 32] {
         &self.key
-    }
-
-    #[inline(always)]
-    fn session(&self) -> Option<u32> {
-        self.session
     }
 
     #[inline(always)]

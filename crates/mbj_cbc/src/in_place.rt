@@ -5,9 +5,9 @@ ghost use Rattle.mbj_blocks.specs.Places.{block_of};
 ghost use Rattle.mbj_blocks.specs.Walked.{Walked};
 
 use mbj_aes::Schedule;
-use mbj_aes_lanes::TextKey;
+use mbj_aes_lanes::{BATCH_BLOCKS, DecryptionKey};
 use mbj_blocks::{block_at, put_block};
-use mbj_types::{AES_LANES, BLOCK_BYTES, xor_in_place};
+use mbj_types::{BLOCK_BYTES, xor_in_place};
 
 // Copies blocks of a text, from block `first` on.
 fn copy_blocks(text: &[u8], first: usize, blocks: &mut [[u8; 16]])
@@ -17,6 +17,26 @@ fn copy_blocks(text: &[u8], first: usize, blocks: &mut [[u8; 16]])
     'each: for j in 0..blocks.len() {
         blocks[j] = block_at(text, first + j);
     }
+}
+
+// The deciphered blocks of a text from block `first` on, `many` of them, which are at most `BATCH_BLOCKS`.
+#[inline(always)]
+fn opened_blocks(
+    key: &DecryptionKey,
+    text: &[u8],
+    first: usize,
+    many: usize,
+) -> [[u8; 16]; BATCH_BLOCKS]
+    requires batch { many ≤ BATCH_BLOCKS }
+    requires inside { 16 * (first + many) ≤ length text.now }
+    ensures length { length result ≡ BATCH_BLOCKS }
+    ensures opened { (j : ℕ) → j < many → slice_index_or result j [] ≡ decipher key.now (block_of text.now (first + j)) }
+{
+    let mut opened = [[0; BLOCK_BYTES]; BATCH_BLOCKS];
+    let blocks = &mut opened[..many];
+    copy_blocks(text, first, blocks);
+    key.decrypt(blocks);
+    opened
 }
 
 // Xors deciphered blocks, each with the ciphertext before it, and puts them in the text from block `first` on. `chain` is the ciphertext
@@ -44,15 +64,13 @@ pub fn decrypt_in_place(key: &Schedule, iv: &[u8; 16], text: &mut [u8])
     requires { length text.old % 16 ≡ 0 }
     ensures { text.new ≡ uncbc_text (decipher key.now) iv.now text.old }
 {
-    let key = TextKey::new(key);
+    let key = DecryptionKey::new(key);
     let many = text.len() / BLOCK_BYTES;
     let mut chain = *iv;
-    'batches: for b in 0..many.div_ceil(AES_LANES) {
-        let first = AES_LANES * b;
-        let here = (many - first).min(AES_LANES);
-        let mut opened = [[0; BLOCK_BYTES]; AES_LANES];
-        copy_blocks(text, first, &mut opened[..here]);
-        key.decrypt_first(&mut opened, here);
+    'batches: for b in 0..many.div_ceil(BATCH_BLOCKS) {
+        let first = BATCH_BLOCKS * b;
+        let here = (many - first).min(BATCH_BLOCKS);
+        let opened = opened_blocks(&key, text, first, here);
         chain = put_opened(text, first, &opened[..here], &chain);
     }
 }

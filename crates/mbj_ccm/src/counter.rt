@@ -39,8 +39,8 @@ pub fn mask(key: &Schedule, iv: &[u8]) -> [u8; 16]
     blocks[0]
 }
 
-/// What `apply` makes of a text, and what `mask` returns. The counter block of the mask goes through the lanes with the
-/// first ones of the text, and takes a pass of its own only where there is no text. It takes no memory.
+/// What `apply` makes of a text, and what `mask` returns. The counter block of the mask is enciphered with the first ones of the text.
+/// It takes no memory.
 ///
 /// ```
 /// let mut tag = apply_and_mask(&key, nonce, text);

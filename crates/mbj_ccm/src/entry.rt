@@ -26,7 +26,6 @@ pub struct CcmEntry<const N: usize> {
     iv: Vec<u8>,
     aad: Vec<u8>,
     key: [u8; 32],
-    session: Option<u32>,
     off: usize,
     len: usize,
     tag_len: u8,
@@ -120,19 +119,10 @@ impl<const N: usize> CcmEntry<N> {
             iv,
             aad,
             key,
-            session: None,
             off,
             len,
             tag_len,
         }
-    }
-
-    /// The same entry, whose key was learnt in this session, or in none. A lane whose last entry had the same key in the same
-    /// session keeps its round keys.
-    pub fn in_session(self, session: Option<u32>) -> CcmEntry<N>
-        ensures { result ≡ self.entry }
-    {
-        CcmEntry { session, ..self }
     }
 
     /// The packet, the nonce, the additional data, and the MAC: its 16 bytes, which the mask of the tag is xored with.
@@ -199,11 +189,6 @@ impl<const N: usize> Chaining for CcmEntry<N> {
     #[inline(always)]
     fn key_bytes(&self) -> &[u8; 32] {
         &self.key
-    }
-
-    #[inline(always)]
-    fn session(&self) -> Option<u32> {
-        self.session
     }
 
     #[inline(always)]

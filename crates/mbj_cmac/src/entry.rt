@@ -187,11 +187,6 @@ impl<const N: usize> Chaining for CmacEntry<N> {
     }
 
     #[inline(always)]
-    fn session(&self) -> Option<u32> {
-        None
-    }
-
-    #[inline(always)]
     fn rest(&self) -> u32 {
         self.rest
     }

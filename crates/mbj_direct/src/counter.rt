@@ -7,10 +7,10 @@ ghost use Rattle.mbj_types.specs.Blocks.{blocks, xor_lists};
 ghost use Rattle.mbj_types.specs.Gcm.{gctr, inc32};
 ghost use Rattle.mbj_direct.specs.Inside.Stream.{streamed};
 
-use mbj_aes_lanes::TextKey;
+use mbj_aes_lanes::{BATCH_BLOCKS, TextKey};
 use mbj_blocks::xor_blocks;
-use mbj_gcm::{put_counters_after, risen};
-use mbj_types::{AES_LANES, BLOCK_BYTES, xor_in_place};
+use mbj_gcm::{masks_after, risen};
+use mbj_types::{BLOCK_BYTES, xor_in_place};
 
 // Xors the blocks of a text from the counter block after `before` on.
 fn xor_after(key: &TextKey, before: &[u8; 16], text: &mut [u8])
@@ -18,13 +18,11 @@ fn xor_after(key: &TextKey, before: &[u8; 16], text: &mut [u8])
 {
     let many = text.len().div_ceil(BLOCK_BYTES);
     let mut counter = *before;
-    'batches: for b in 0..many.div_ceil(AES_LANES) {
-        let here = (many - AES_LANES * b).min(AES_LANES);
-        let mut masks = [[0; BLOCK_BYTES]; AES_LANES];
-        put_counters_after(&mut masks, &counter);
-        key.encrypt_first(&mut masks, here);
-        xor_blocks(text, AES_LANES * b, &masks[..here]);
-        counter = risen(&counter, AES_LANES as u32);
+    'batches: for b in 0..many.div_ceil(BATCH_BLOCKS) {
+        let here = (many - BATCH_BLOCKS * b).min(BATCH_BLOCKS);
+        let masks = masks_after(key, &counter, here);
+        xor_blocks(text, BATCH_BLOCKS * b, &masks[..here]);
+        counter = risen(&counter, BATCH_BLOCKS as u32);
     }
 }
 
@@ -32,9 +30,8 @@ fn xor_after(key: &TextKey, before: &[u8; 16], text: &mut [u8])
 pub(crate) fn enciphered(key: &TextKey, block: &[u8; 16]) -> [u8; 16]
     ensures { result ≡ encipher key.now block.now }
 {
-    let mut blocks = [[0; BLOCK_BYTES]; AES_LANES];
-    blocks[0] = *block;
-    key.encrypt_first(&mut blocks, 1);
+    let mut blocks = [*block];
+    key.encrypt(&mut blocks);
     blocks[0]
 }
 

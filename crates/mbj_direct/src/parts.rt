@@ -112,7 +112,7 @@ impl GcmState {
     /// Seals or opens the next part of the text, of any length, in place. It takes no memory.
     ///
     /// However a text is cut into parts, they become what the whole text becomes. Each call expands the key anew, and a part that
-    /// goes on within a block takes a pass of its own for that block: parts of whole blocks, and long ones, take the least time.
+    /// goes on within a block enciphers that block once more: parts of whole blocks, and long ones, take the least time.
     pub fn update(&mut self, part: &mut [u8])
         requires { IsTrue (is_gcm_state self.old) }
         ensures state { IsTrue (is_gcm_state self.new) }

@@ -1,4 +1,4 @@
--- The tag by what the first pass gave.
+-- The tag by what the first batch gave.
 use Rattle.std.proofs.Common.{◌≡◌, ℕ, List, [], ◌∷◌, ◌++◌, length, get_or, ap, ap₂, ◌∙◌}
 use Rattle.mbj_types.specs.Aes.{encipher}
 use Rattle.mbj_types.specs.Blocks.{xor_lists, zero_block, filled_blocks}

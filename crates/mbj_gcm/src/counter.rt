@@ -9,7 +9,7 @@ ghost use Rattle.mbj_gcm.specs.Inside.First.{AreFirst};
 ghost use Rattle.mbj_gcm.specs.Inside.Risen.{risen};
 
 use crate::hash::hash_of_parts;
-use mbj_aes_lanes::TextKey;
+use mbj_aes_lanes::{BATCH_BLOCKS, TextKey};
 use mbj_blocks::xor_blocks;
 use mbj_types::{AES_LANES, BLOCK_BYTES};
 
@@ -22,7 +22,7 @@ const NUMBER_BYTES: usize = 4;
 // The number of the counter block before the first one of the text.
 const PRE_COUNTER_NUMBER: u8 = 1;
 
-/// The places of the hash subkey and of the tag's mask in the first pass; the key stream of the text stands behind them.
+/// The places of the hash subkey and of the tag's mask in the first batch; the key stream of the text stands behind them.
 pub const SUBKEY: usize = 0;
 
 /// See `SUBKEY`.
@@ -30,8 +30,8 @@ pub const TAG_MASK: usize = 1;
 
 const LEAD: usize = 2;
 
-/// The blocks of a text whose key stream goes through the lanes in the first pass.
-const FIRST_BLOCKS: usize = AES_LANES - LEAD;
+/// The blocks of a text whose key stream is made in the first batch.
+const FIRST_BLOCKS: usize = BATCH_BLOCKS - LEAD;
 
 /// A counter block whose number, its last 4 bytes, rises by `by` modulo 2^32; the bytes before it stay (SP 800-38D, 6.2).
 pub fn risen(block: &[u8; 16], by: u32) -> [u8; 16]
@@ -75,17 +75,17 @@ fn hashed_iv(subkey: &[u8; 16], iv: &[u8]) -> [u8; 16]
     hash_of_parts(subkey, &[], iv)
 }
 
-// The hash subkey, H (SP 800-38D, 7.1, step 1): the enciphered zero block, in a pass of its own.
+// The hash subkey, H (SP 800-38D, 7.1, step 1): the enciphered zero block.
 fn hash_subkey(key: &TextKey) -> [u8; 16]
     ensures { result ≡ encipher key.now zero_block }
 {
-    let mut blocks = [[0; BLOCK_BYTES]; AES_LANES];
-    key.encrypt_first(&mut blocks, 1);
+    let mut blocks = [[0; BLOCK_BYTES]];
+    key.encrypt(&mut blocks);
     blocks[SUBKEY]
 }
 
 /// The counter block before the first one of the text, J0 (SP 800-38D, 7.1, step 2), which masks the tag. An IV of another
-/// length than 12 bytes takes a pass of its own, for the hash subkey.
+/// length than 12 bytes takes a block more, for the hash subkey.
 #[tactic(auto, unfolding(mbj_types::specs::Gcm::pre_counter_block))]
 pub fn pre_counter_block(key: &TextKey, iv: &[u8]) -> [u8; 16]
     ensures { result ≡ pre_counter_block (encipher key.now zero_block) iv.now }
@@ -97,43 +97,55 @@ pub fn pre_counter_block(key: &TextKey, iv: &[u8]) -> [u8; 16]
     }
 }
 
-/// The first pass for a text of `len` bytes: the hash subkey, the mask of the tag, and the key stream of the first blocks. Few
-/// blocks take a narrow pass.
-pub fn first_pass(key: &TextKey, pre_counter: &[u8; 16], len: usize) -> [[u8; 16]; AES_LANES]
+/// The first batch for a text of `len` bytes: the hash subkey, the mask of the tag, and the key stream of the first blocks, as far as
+/// there are any.
+pub fn first_batch(key: &TextKey, pre_counter: &[u8; 16], len: usize) -> [[u8; 16]; BATCH_BLOCKS]
     ensures { AreFirst (encipher key.now) pre_counter.now len result }
 {
     let many = len.div_ceil(BLOCK_BYTES).min(FIRST_BLOCKS);
-    let mut masks = [[0; BLOCK_BYTES]; AES_LANES];
+    let mut masks = [[0; BLOCK_BYTES]; BATCH_BLOCKS];
     masks[TAG_MASK] = *pre_counter;
     put_counters_after(&mut masks[LEAD..many + LEAD], pre_counter);
-    key.encrypt_first(&mut masks, many + LEAD);
+    key.encrypt(&mut masks[..many + LEAD]);
     masks
 }
 
-// The blocks of a text from block `first` on, in wide passes. `before` is the counter block before that of block `first`.
+/// The key stream of the counter blocks after `counter`, of `many` blocks, which are at most `BATCH_BLOCKS`.
+#[inline(always)]
+pub fn masks_after(key: &TextKey, counter: &[u8; 16], many: usize) -> [[u8; 16]; BATCH_BLOCKS]
+    requires { many ≤ BATCH_BLOCKS }
+    ensures length { length result ≡ BATCH_BLOCKS }
+    ensures masks { (j : ℕ) → j < many → slice_index_or result j [] ≡ encipher key.now (risen counter.now (j + 1)) }
+{
+    let mut masks = [[0; BLOCK_BYTES]; BATCH_BLOCKS];
+    let first = &mut masks[..many];
+    put_counters_after(first, counter);
+    key.encrypt(first);
+    masks
+}
+
+// The blocks of a text from block `first` on. `before` is the counter block before that of block `first`.
 fn xor_from(key: &TextKey, before: &[u8; 16], text: &mut [u8], first: usize)
     requires { first ≤ (length text.old + 15) / 16 }
     ensures { (whole : List ℕ) → Walked (gctr (encipher key.now) (inc32 before.now)) text.old first whole → text.new ≡ whole }
 {
     let left = text.len().div_ceil(BLOCK_BYTES) - first;
     let mut counter = *before;
-    'batches: for b in 0..left.div_ceil(AES_LANES) {
-        let here = (left - AES_LANES * b).min(AES_LANES);
-        let mut masks = [[0; BLOCK_BYTES]; AES_LANES];
-        put_counters_after(&mut masks, &counter);
-        key.encrypt_first(&mut masks, AES_LANES);
-        xor_blocks(text, first + AES_LANES * b, &masks[..here]);
-        counter = risen(&counter, AES_LANES as u32);
+    'batches: for b in 0..left.div_ceil(BATCH_BLOCKS) {
+        let here = (left - BATCH_BLOCKS * b).min(BATCH_BLOCKS);
+        let masks = masks_after(key, &counter, here);
+        xor_blocks(text, first + BATCH_BLOCKS * b, &masks[..here]);
+        counter = risen(&counter, BATCH_BLOCKS as u32);
     }
 }
 
 /// Encrypts or decrypts a text in place, which is the same map (SP 800-38D, 7.1, step 3): each block of 16 bytes is
 /// xored with its enciphered counter block, and the last one, which may be shorter, with as many bytes of it. The first
-/// counter block is the one after `pre_counter`, and `masks` are those of the text's first pass.
+/// counter block is the one after `pre_counter`, and `masks` are those of the text's first batch.
 pub fn xor_key_stream(
     key: &TextKey,
     pre_counter: &[u8; 16],
-    masks: &[[u8; 16]; AES_LANES],
+    masks: &[[u8; 16]; BATCH_BLOCKS],
     text: &mut [u8],
 )
     requires { AreFirst (encipher key.now) pre_counter.now (length text.old) masks.now }

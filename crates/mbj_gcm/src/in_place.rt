@@ -2,7 +2,7 @@ ghost use Rattle.std.specs.Prelude.{◌≡◌, ◌≤◌, true, false, length};
 ghost use Rattle.mbj_types.specs.Aes.{encipher};
 ghost use Rattle.mbj_types.specs.Gcm.{gcm};
 
-use crate::counter::{SUBKEY, TAG_MASK, first_pass, pre_counter_block, xor_key_stream};
+use crate::counter::{SUBKEY, TAG_MASK, first_batch, pre_counter_block, xor_key_stream};
 use crate::hash::tag;
 use mbj_aes::Schedule;
 use mbj_aes_lanes::TextKey;
@@ -25,7 +25,7 @@ pub fn seal(key: &Schedule, iv: &[u8], aad: &[u8], text: &mut [u8]) -> [u8; 16]
 {
     let key = TextKey::new(key);
     let pre_counter = pre_counter_block(&key, iv);
-    let masks = first_pass(&key, &pre_counter, text.len());
+    let masks = first_batch(&key, &pre_counter, text.len());
     xor_key_stream(&key, &pre_counter, &masks, text);
     tag(&masks[SUBKEY], &masks[TAG_MASK], aad, text)
 }
@@ -41,7 +41,7 @@ pub fn unseal(key: &Schedule, iv: &[u8], aad: &[u8], text: &mut [u8]) -> [u8; 16
 {
     let key = TextKey::new(key);
     let pre_counter = pre_counter_block(&key, iv);
-    let masks = first_pass(&key, &pre_counter, text.len());
+    let masks = first_batch(&key, &pre_counter, text.len());
     let computed = tag(&masks[SUBKEY], &masks[TAG_MASK], aad, text);
     xor_key_stream(&key, &pre_counter, &masks, text);
     computed

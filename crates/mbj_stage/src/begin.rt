@@ -6,7 +6,7 @@ ghost use Rattle.mbj_keys.specs.Schedules.{IsScheduleOf};
 ghost use Rattle.mbj_keys.specs.Sessions.{AreOf};
 ghost use Rattle.mbj_stage.specs.CourseState.{begun, owed};
 
-use crate::course::{Course, session_of};
+use crate::course::Course;
 use crate::keyed::{expanded, wants_schedule};
 use mbj_aes::Schedule;
 use mbj_args::check;
@@ -50,15 +50,14 @@ impl Course {
         ensures { result ≡ begun job }
     {
         let reason = check(&job);
-        let session = session_of(&job, found);
         if !wants_schedule(reason, &job) {
-            return Course::start(job, reason, None, session);
+            return Course::start(job, reason, None);
         }
         let schedule = match found {
             Some(schedule) => *schedule,
             None => expanded(job.key.as_slice()),
         };
-        Course::start(job, reason, Some(schedule), session)
+        Course::start(job, reason, Some(schedule))
     }
 
     /// The course of a job, with nothing done, in place of what it was. It takes the job, and leaves another one in its place. Where the

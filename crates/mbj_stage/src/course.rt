@@ -54,8 +54,6 @@ pub struct Course {
     lengths: Lengths,
     // Of the cipher's key, where the job is accepted and has a cipher, but for CBC encryption.
     schedule: Option<Schedule>,
-    // The session in which the key was learnt, if there is one.
-    session: Option<u32>,
 }
 
 impl Model for Course {
@@ -129,14 +127,6 @@ fn keep_schedule(
     });
 }
 
-/// The session in which a job's key was learnt: the job's own, where the schedule was found.
-pub(crate) fn session_of(job: &Job, found: Option<&Schedule>) -> Option<u32> {
-    match found {
-        Some(_) => job.session,
-        None => None,
-    }
-}
-
 /// Keeps no schedule. Nothing is written where there is none.
 fn forget(kept: &mut Option<Schedule>)
     ensures { kept.new ≡ None }
@@ -157,13 +147,8 @@ fn taken(packet: &mut Vec<u8>) -> Vec<u8>
 
 impl Course {
     /// The course of a job, with nothing done, which is refused for this reason or for none. The schedule of its key is there where the job
-    /// needs one, and the session in which the key was learnt, if there is one.
-    pub(crate) fn start(
-        mut job: Job,
-        reason: Option<Reason>,
-        schedule: Option<Schedule>,
-        session: Option<u32>,
-    ) -> Course
+    /// needs one.
+    pub(crate) fn start(mut job: Job, reason: Option<Reason>, schedule: Option<Schedule>) -> Course
         requires reason { reason ≡ verdict job }
         requires wanted { is_some schedule ≡ wants_schedule reason job.cipher job.dir }
         requires schedule { IfSome schedule (IsScheduleOf job.key) }
@@ -183,7 +168,6 @@ impl Course {
             out: None,
             lengths,
             schedule,
-            session,
         }
     }
 
@@ -201,7 +185,6 @@ impl Course {
         ensures { self.new ≡ begun job.old }
     {
         keep_schedule(&mut self.schedule, job, reason, found);
-        self.session = session_of(job, found);
         self.left = steps_by(reason, job);
         self.lengths = lengths_of(job);
         mem::swap(&mut self.job, job);
@@ -225,7 +208,6 @@ impl Course {
         self.left = Steps::Done;
         self.out = None;
         forget(&mut self.schedule);
-        self.session = None;
     }
 
     /// Whether the key of the job's cipher is used: it is where the job is accepted and has a cipher.

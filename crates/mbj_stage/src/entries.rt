@@ -26,12 +26,8 @@ use mbj_cmac::CmacEntry;
 use mbj_hmac::{HmacEntry, LaneHash};
 use mbj_types::{AuthClass, Job};
 
-/// The CBC encryption of a job whose key has `N` rounds. The key was learnt in this session, or in none.
-pub(crate) fn cbc_entry<const N: usize>(
-    job: &Job,
-    session: Option<u32>,
-    packet: Vec<u8>,
-) -> CbcEntry<N>
+/// The CBC encryption of a job whose key has `N` rounds.
+pub(crate) fn cbc_entry<const N: usize>(job: &Job, packet: Vec<u8>) -> CbcEntry<N>
     requires cbc { job.now.cipher ≡ cipher.Cbc }
     requires enc { job.now.dir ≡ dir.Enc }
     requires rounds { round_count job.now.key ≡ N }
@@ -42,8 +38,7 @@ pub(crate) fn cbc_entry<const N: usize>(
 {
     let key = job.key.as_slice();
     let iv = iv_block(job.iv.as_slice());
-    let entry = CbcEntry::new_by_key(key, iv, packet, job.cipher_off, job.cipher_len);
-    entry.in_session(session)
+    CbcEntry::new_by_key(key, iv, packet, job.cipher_off, job.cipher_len)
 }
 
 /// The CMAC of a job whose key has `N` rounds.
@@ -81,12 +76,10 @@ pub(crate) fn hmac_entry<H: LaneHash>(job: &Job, packet: Vec<u8>) -> HmacEntry<H
     }
 }
 
-/// The MAC of a CCM job whose key has `N` rounds, by the key's schedule, over the cipher range, which is plaintext. The key was learnt
-/// in this session, or in none. IV and additional data are the job's, and go into the entry too.
+/// The MAC of a CCM job whose key has `N` rounds, by the key's schedule, over the cipher range, which is plaintext. IV and additional data are the job's, and go into the entry too.
 pub(crate) fn ccm_entry<const N: usize>(
     job: &Job,
     key: Schedule,
-    session: Option<u32>,
     iv: Vec<u8>,
     aad: Vec<u8>,
     packet: Vec<u8>,
@@ -104,6 +97,5 @@ pub(crate) fn ccm_entry<const N: usize>(
         ≡ ccm_mac (aes job.now.key) iv.items aad.items (cipher_range job.now packet.items) job.now.tag_len }
 {
     let (off, len) = (job.cipher_off, job.cipher_len);
-    let entry = CcmEntry::new(key, iv, aad, packet, off, len, job.tag_len);
-    entry.in_session(session)
+    CcmEntry::new(key, iv, aad, packet, off, len, job.tag_len)
 }

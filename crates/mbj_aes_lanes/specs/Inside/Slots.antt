@@ -4,8 +4,8 @@ use Rattle.mbj_types.specs.Aes.{encipher}
 use Rattle.mbj_types.specs.Blocks.{zero_block}
 use Rattle.mbj_types.specs.Lanes.{lane_at}
 use Rattle.mbj_types.specs.declared.kind.TheConstants.{AES_LANES}
-use Rattle.mbj_aes_lanes.specs.declared.state.State.{State}
-use Rattle.mbj_aes_lanes.specs.Inside.Keys.{schedule_in}
+use Rattle.mbj_aes_lanes.specs.declared.wide.state.State.{State}
+use Rattle.mbj_aes_lanes.specs.Inside.WideKeys.{schedule_in}
 
 -- what a lane takes of its slot: of an idle one a block of zeros
 abbrev pub of_slot : {E : Type 0} → (E → List ℕ) → Option E → List ℕ

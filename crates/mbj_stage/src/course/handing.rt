@@ -66,7 +66,7 @@ impl Course {
     {
         let packet = taken(&mut self.packet);
         self.out = Some(packet.len());
-        cbc_entry(&self.job, self.session, packet)
+        cbc_entry(&self.job, packet)
     }
 
     /// Takes back a packet that was ciphered.
@@ -147,7 +147,7 @@ impl Course {
         let iv = taken_bytes(&mut self.job.iv, alloc);
         let aad = taken_bytes(&mut self.job.aad, alloc);
         let schedule = *at_hand(&self.schedule, &self.job);
-        ccm_entry(&self.job, schedule, self.session, iv, aad, packet)
+        ccm_entry(&self.job, schedule, iv, aad, packet)
     }
 
     /// Takes back packet, nonce and additional data, with CCM's MAC.

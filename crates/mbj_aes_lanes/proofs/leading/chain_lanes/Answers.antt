@@ -2,15 +2,13 @@
 use Rattle.std.proofs.Common.{ap, ◌-◌, length, ◌∙◌}
 use Rattle.mbj_types.specs.Blocks.{xor_lists}
 use Rattle.mbj_types.specs.Aes.{encipher}
-use Rattle.mbj_aes_lanes.specs.declared.layout.Layout.TheVariants.{Plain}
-use Rattle.mbj_aes_lanes.specs.Inside.State.{plain_bytes}
-use Rattle.mbj_aes_lanes.specs.Inside.Keys.{schedule_in}
+use Rattle.mbj_aes_lanes.specs.Inside.Wide.{state_lane}
+use Rattle.mbj_aes_lanes.specs.Inside.WideKeys.{schedule_in}
 use Rattle.mbj_aes_lanes.proofs.leading.chain_lanes.Goals as goal
 
 pub returns : goal.returns
 returns g c i h =
     let lane = g.V.Lane8.lane in
-    c.move_to_plain.ensures i h
-    ∙ c.encrypt.ensures i h
+    c.encrypt.ensures i h
     ∙ ap (encipher (schedule_in lane (length c.args.keys.now - 1) c.args.keys.now i))
-    (c.add_round_key.ensures i Plain h ∙ ap (λ b. xor_lists b (plain_bytes lane c.args.chains.now i)) (c.load-blocks.ensures i h))
+    (c.add_round_key.ensures i h ∙ ap (λ b. xor_lists b (state_lane lane c.args.chains.now i)) (c.load-blocks.ensures i h))

@@ -6,7 +6,7 @@ use Rattle.mbj_types.specs.Aes.{encipher}
 use Rattle.mbj_lane.specs.Rounds.{after}
 use Rattle.mbj_lane.proofs.Led.{map-after-none, rests-after}
 use Rattle.mbj_aes_lanes.specs.Chaining.{chained_once, in_lane, next_in_lane}
-use Rattle.mbj_aes_lanes.specs.Inside.State.{plain_bytes}
+use Rattle.mbj_aes_lanes.specs.Inside.Wide.{state_lane}
 use Rattle.mbj_aes_lanes.proofs.Chains.{ChainLaws, in_lane-map, map-after-more, once-falls, keys-after, keys-bare, blocks-bare, length-bare, rests-bare, bare-led, kept-all, next_in_lane-at, in_lane-chained}
 use Rattle.mbj_aes_lanes.proofs.leading.lead_by.Given as given
 use Rattle.mbj_aes_lanes.proofs.leading.lead_by.Goals as goal
@@ -69,7 +69,7 @@ passes-preserved g c =
     length-bare e.key_of e.block_of e.chain_of e.rest_of e.led e.kept (laws g) before done same in
     let many : length done ≡ length es = length-map es (after once c.passes.done) in
     let next : (i : ℕ) → i < g.V.Lane8.LANES
-    → plain_bytes lane c.pass.new.chains i ≡ next_in_lane e.key_of e.block_of e.chain_of done i = λ i h.
+    → state_lane lane c.pass.new.chains i ≡ next_in_lane e.key_of e.block_of e.chain_of done i = λ i h.
     c.pass.ensures.chains i h
     ∙ ap₂ encipher
     (ap (λ ks. in_lane ks i) (keys-bare e.key_of e.block_of e.chain_of e.rest_of e.led e.kept (laws g) before done same))

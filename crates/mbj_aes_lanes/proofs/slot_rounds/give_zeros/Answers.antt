@@ -2,7 +2,7 @@
 use Rattle.std.proofs.Common.{ℕ, [], None, ◌-◌, length, get_or, ap, sym, subst, ◌∙◌, arith}
 use Rattle.std.proofs.lemmas.List.{get_or_default}
 use Rattle.mbj_types.specs.Lanes.{lane_at}
-use Rattle.mbj_aes_lanes.specs.Inside.Keys.{schedule_in}
+use Rattle.mbj_aes_lanes.specs.Inside.WideKeys.{schedule_in}
 use Rattle.mbj_aes_lanes.specs.Inside.Slots.{IsZeroOf}
 use Rattle.mbj_aes_lanes.proofs.SlotFacts.{zero-of}
 use Rattle.mbj_aes_lanes.proofs.slot_rounds.give_zeros.Goals as goal

@@ -4,8 +4,8 @@ use Rattle.std.specs.Option.{option_map}
 use Rattle.mbj_types.specs.Lanes.{lane_at}
 use Rattle.mbj_lane.specs.Rounds.{after}
 use Rattle.mbj_aes_lanes.specs.Chaining.{chained_once}
-use Rattle.mbj_aes_lanes.specs.Inside.State.{plain_bytes}
-use Rattle.mbj_aes_lanes.specs.Inside.Keys.{schedule_in}
+use Rattle.mbj_aes_lanes.specs.Inside.Wide.{state_lane}
+use Rattle.mbj_aes_lanes.specs.Inside.WideKeys.{schedule_in}
 use Rattle.mbj_aes_lanes.proofs.Chains.{ChainLaws, IsLed, led-none, led-rest, led-more, led-kept}
 use Rattle.mbj_aes_lanes.proofs.SlotFacts.{has-rounds, rounds-of}
 use Rattle.mbj_aes_lanes.proofs.slot_rounds.lead_slots.Given as given
@@ -29,7 +29,7 @@ laws g =
 pub passes-init : goal.passes-init
 passes-init g c i h =
     let e = g.E.Chaining in
-    led-none e.key_of e.block_of e.chain_of e.rest_of e.led e.kept (laws g) (plain_bytes (lane_at 8) c.load.result i)
+    led-none e.key_of e.block_of e.chain_of e.rest_of e.led e.kept (laws g) (state_lane (lane_at 8) c.load.result i)
     (get_or c.args.entries.now i None) (c.load.ensures i h)
 
 pub pass_slots-requires-clause-rests : goal.pass_slots-requires-clause-rests
@@ -38,7 +38,7 @@ pass_slots-requires-clause-rests g c i x h is =
     let o = get_or c.args.entries.now i None in
     let now = get_or c.passes.entries i None in
     rounds-of e.rest_of 1 now x
-    (led-rest e.key_of e.block_of e.chain_of e.rest_of e.led e.kept (laws g) c.passes.done c.args.m (plain_bytes (lane_at 8) c.passes.chains i)
+    (led-rest e.key_of e.block_of e.chain_of e.rest_of e.led e.kept (laws g) c.passes.done c.args.m (state_lane (lane_at 8) c.passes.chains i)
     o now (omega arith) (has-rounds e.rest_of c.args.m o (λ y has. c.requires.rests i y h has)) (c.passes.invariant i h))
     is
 
@@ -47,10 +47,10 @@ passes-preserved g c i h =
     let e = g.E.Chaining in
     let o = get_or c.args.entries.now i None in
     let now = get_or c.passes.entries i None in
-    let next = plain_bytes (lane_at 8) c.pass_slots.new.chains i in
+    let next = state_lane (lane_at 8) c.pass_slots.new.chains i in
     let w = schedule_in (lane_at 8) (length c.args.keys.now - 1) c.args.keys.now i in
     subst (IsLed e.key_of e.block_of e.chain_of e.led e.kept (c.passes.done + 1) next o) (sym (c.pass_slots.ensures.entries i h))
-    (led-more e.key_of e.block_of e.chain_of e.rest_of e.led e.kept (laws g) c.passes.done (plain_bytes (lane_at 8) c.passes.chains i) next w o now
+    (led-more e.key_of e.block_of e.chain_of e.rest_of e.led e.kept (laws g) c.passes.done (state_lane (lane_at 8) c.passes.chains i) next w o now
     (c.requires.keys i h) (c.pass_slots.ensures.chains i h) (c.passes.invariant i h))
 
 pub returns : goal.returns
@@ -59,7 +59,7 @@ returns g c i h =
     let once = chained_once e.key_of e.block_of e.chain_of e.led e.kept in
     let o = get_or c.args.entries.now i None in
     let now = get_or c.passes.entries i None in
-    let ends = plain_bytes (lane_at 8) c.passes.chains i in
+    let ends = state_lane (lane_at 8) c.passes.chains i in
     let all : c.passes.done ≡ c.args.m = omega arith in
     c.keep_each_slot.ensures i h
     ∙ ap (λ x. option_map (λ y. e.kept y x) now) (c.blocks_of.ensures i h)

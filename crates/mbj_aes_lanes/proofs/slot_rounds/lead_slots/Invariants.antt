@@ -2,7 +2,7 @@
 use Rattle.std.proofs.Common.{ℕ, ◌<◌, None, get_or}
 use Rattle.mbj_types.specs.Lanes.{lane_at}
 use Rattle.mbj_types.specs.declared.kind.TheConstants.{AES_LANES}
-use Rattle.mbj_aes_lanes.specs.Inside.State.{plain_bytes}
+use Rattle.mbj_aes_lanes.specs.Inside.Wide.{state_lane}
 use Rattle.mbj_aes_lanes.proofs.Chains.{IsLed}
 use Rattle.mbj_aes_lanes.proofs.slot_rounds.lead_slots.Given as goal
 
@@ -10,4 +10,4 @@ abbrev pub invariant-passes : goal.invariant-passes
 invariant-passes g l =
     let e = g.E.Chaining in
     (i : ℕ) → i < AES_LANES
-    → IsLed e.key_of e.block_of e.chain_of e.led e.kept l.done (plain_bytes (lane_at 8) l.chains i) (get_or l.initial.entries i None) (get_or l.entries i None)
+    → IsLed e.key_of e.block_of e.chain_of e.led e.kept l.done (state_lane (lane_at 8) l.chains i) (get_or l.initial.entries i None) (get_or l.entries i None)

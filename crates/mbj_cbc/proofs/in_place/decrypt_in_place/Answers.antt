@@ -1,8 +1,8 @@
 -- One batch more is decrypted in each turn, and at the end all are.
-use Rattle.std.proofs.Common.{◌≡◌, ℕ, ◌+◌, ◌*◌, ◌<◌, List, [], length, drop, replicate, take, get_or, inl, inr, refl, ap₂, ◌∙◌, arith}
+use Rattle.std.proofs.Common.{◌≡◌, ℕ, ◌+◌, ◌*◌, ◌<◌, List, [], length, take, get_or, inl, inr, refl, ap, ◌∙◌, arith}
 use Rattle.std.proofs.lemmas.Bool.{cases_lt}
-use Rattle.std.proofs.lemmas.List.{get_or_append_left, get_or-take, length-take-le}
-use Rattle.mbj_types.specs.declared.kind.TheConstants.{AES_LANES}
+use Rattle.std.proofs.lemmas.List.{get_or-take, length-take-le}
+use Rattle.mbj_aes_lanes.specs.declared.narrow.by_fours.TheConstants.{BATCH_BLOCKS}
 use Rattle.mbj_types.specs.Aes.{decipher}
 use Rattle.mbj_types.specs.Modes.{uncbc, uncbc_text}
 use Rattle.mbj_blocks.specs.Places.{block_of}
@@ -16,30 +16,26 @@ batches-preserved c =
     let b : ℕ = c.batches.b in
     let here : ℕ = c.min-here.result in
     let whole : List ℕ = uncbc_text d c.args.iv.now c.args.text.now in
-    let zero : ℕ = 0 in
-    let room : List (List ℕ) = replicate AES_LANES (replicate 16 zero) in
-    let few : length (take here room) ≡ here = length-take-le here room (omega arith) in
-    let copied : length c.copy_blocks.new.blocks ≡ here = c.copy_blocks.auto.blocks ∙ few in
-    let opened : List (List ℕ) = take here c.decrypt_first.new.blocks in
-    let many : length opened ≡ here = length-take-le here c.decrypt_first.new.blocks (omega (arith, c.decrypt_first.array_long)) in
-    let known : (j : ℕ) → j < length opened → get_or opened j [] ≡ d (block_of c.batches.text (AES_LANES * b + j)) = λ j lt.
-    get_or-take here c.decrypt_first.new.blocks j [] (omega arith)
-    ∙ c.decrypt_first.ensures.each j (omega arith)
-    ∙ ap₂ decipher c.new-key.ensures
-    (get_or_append_left c.copy_blocks.new.blocks (drop here room) [] j (omega arith) ∙ c.copy_blocks.ensures j (omega arith)) in
+    let all : List (List ℕ) = c.opened_blocks-opened.result in
+    let opened : List (List ℕ) = take here all in
+    let many : length opened ≡ here = length-take-le here all (omega (arith, c.opened_blocks-opened.ensures.length)) in
+    let known : (j : ℕ) → j < length opened → get_or opened j [] ≡ d (block_of c.batches.text (BATCH_BLOCKS * b + j)) = λ j lt.
+    get_or-take here all j [] (omega arith)
+    ∙ c.opened_blocks-opened.ensures.opened j (omega arith)
+    ∙ ap (λ w. decipher w (block_of c.batches.text (BATCH_BLOCKS * b + j))) c.new-key.ensures in
     let text : List ℕ = c.put_opened-chain.new.text in
     let rest = uncbc d c.put_opened-chain.result in
-    let now : Walked rest text (AES_LANES * b + length opened) whole =
+    let now : Walked rest text (BATCH_BLOCKS * b + length opened) whole =
     c.put_opened-chain.ensures d whole known c.batches.invariant in
-    elim (cases_lt here AES_LANES) [
+    elim (cases_lt here BATCH_BLOCKS) [
       | inl fewer ↦
-          walk_over rest rest text whole (AES_LANES * b + length opened) (AES_LANES * (b + 1)) refl refl (omega arith) (omega arith) now
+          walk_over rest rest text whole (BATCH_BLOCKS * b + length opened) (BATCH_BLOCKS * (b + 1)) refl refl (omega arith) (omega arith) now
       | inr all ↦
-          let next : AES_LANES * b + length opened ≡ AES_LANES * (b + 1) = omega arith in
+          let next : BATCH_BLOCKS * b + length opened ≡ BATCH_BLOCKS * (b + 1) = omega arith in
           rw next at now
     ]
 
 pub returns : goal.returns
 returns c =
-    walk_end (uncbc (decipher c.args.key.now) c.batches.chain) c.batches.text _ (AES_LANES * c.batches.b) refl (omega arith)
+    walk_end (uncbc (decipher c.args.key.now) c.batches.chain) c.batches.text _ (BATCH_BLOCKS * c.batches.b) refl (omega arith)
     c.batches.invariant

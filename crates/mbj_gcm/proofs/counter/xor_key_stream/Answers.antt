@@ -1,4 +1,4 @@
--- The first blocks take the masks of the first pass, and the rest follows.
+-- The first blocks take the masks of the first batch, and the rest follows.
 use Rattle.std.proofs.Common.{◌≡◌, ℕ, ◌+◌, ◌-◌, ◌<◌, List, [], length, take, drop, get_or, inl, inr, refl, subst, ap, ◌∙◌, arith, length-drop}
 use Rattle.std.specs.List.{concat}
 use Rattle.std.proofs.lemmas.Bool.{cases_lt}
@@ -33,16 +33,16 @@ returns c =
     let walked : Walked (stream_from e t (length masks)) now (0 + length masks) whole =
     c.xor_blocks.ensures (stream_from e t) whole (stream_from-cons e t masks c.told-pre_counter known)
     (ap (λ k. concat (gctr e k (blocks text))) (risen-1 t)) in
-    let after : inc32 c.risen.result ≡ risen t 31 = ap inc32 c.risen.ensures ∙ inc32-risen t 30 c.told-pre_counter in
+    let after : inc32 c.risen.result ≡ risen t 3 = ap inc32 c.risen.ensures ∙ inc32-risen t 2 c.told-pre_counter in
     c.xor_from.ensures whole
     (rw after
-    (elim (cases_lt here 30) [
+    (elim (cases_lt here 2) [
       | inl fewer ↦
-          walk_over (stream_from e t (length masks)) (stream_from e t 30) now whole (0 + length masks) here refl refl
+          walk_over (stream_from e t (length masks)) (stream_from e t 2) now whole (0 + length masks) here refl refl
           (omega (arith, c.xor_blocks.auto.text)) (omega (arith, c.xor_blocks.auto.text)) walked
       | inr full ↦
           let place : 0 + length masks ≡ here = omega arith in
-          let next : length masks ≡ 30 = omega arith in
+          let next : length masks ≡ 2 = omega arith in
           let P : ℕ → ℕ → Type 0 = λ k i. Walked (stream_from e t k) now i whole in
-          subst (λ (i : ℕ). P 30 i) place (subst (λ (k : ℕ). P k (0 + length masks)) next walked)
+          subst (λ (i : ℕ). P 2 i) place (subst (λ (k : ℕ). P k (0 + length masks)) next walked)
     ]))

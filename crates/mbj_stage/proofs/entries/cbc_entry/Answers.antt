@@ -10,8 +10,8 @@ use Rattle.mbj_cbc.specs.Rounds.{CbcState, rest_of, round}
 use Rattle.mbj_stage.proofs.EntryEnds.{cbc-accepted, ciphered-cbc}
 use Rattle.mbj_stage.proofs.entries.cbc_entry.Goals as goal
 
-pub new_by_key-entry-requires : goal.new_by_key-entry-requires
-new_by_key-entry-requires g c =
+pub new_by_key-requires : goal.new_by_key-requires
+new_by_key-requires g c =
     let j : Job = c.args.job.now in
     let a = cbc-accepted j (length c.args.packet.items) c.requires.accepted c.requires.cbc in
     let key = sym c.as_slice-key.ensures in
@@ -23,8 +23,7 @@ pub returns-clause-packet : goal.returns-clause-packet
 returns-clause-packet g c =
     let j : Job = c.args.job.now in
     let p : List ℕ = c.args.packet.items in
-    ap (λ (e : CbcState). (end_of round rest_of e).packet) c.in_session.ensures
-    ∙ c.new_by_key-entry.ensures.packet
+    c.new_by_key.ensures.packet
     ∙ ap₂ (λ (k iv : List ℕ). take j.cipher_off p ++ cbc_text (aes k) iv (range j.cipher_off j.cipher_len p) ++ drop (j.cipher_off + j.cipher_len) p)
     c.as_slice-key.ensures (c.iv_block-iv.ensures ∙ c.as_slice.ensures)
     ∙ ciphered-cbc j p c.requires.cbc c.requires.enc

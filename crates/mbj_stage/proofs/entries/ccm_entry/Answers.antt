@@ -9,8 +9,8 @@ use Rattle.mbj_stage.proofs.EntryEnds.{ccm-accepted}
 use Rattle.mbj_stage.proofs.Schedules.{enciphers}
 use Rattle.mbj_stage.proofs.entries.ccm_entry.Goals as goal
 
-pub new-entry-requires : goal.new-entry-requires
-new-entry-requires g c =
+pub new-requires : goal.new-requires
+new-requires g c =
     let j : Job = record c.args.job.now { iv = c.args.iv.items; aad = c.args.aad.items } in
     let a = ccm-accepted j (length c.args.packet.items) c.requires.accepted c.requires.ccm in
     let rounds = c.requires.key.size ∙ ap (λ (n : ℕ). 16 * (n + 1)) c.requires.rounds in
@@ -19,7 +19,6 @@ new-entry-requires g c =
 pub returns-clause-mac : goal.returns-clause-mac
 returns-clause-mac g c =
     let j : Job = c.args.job.now in
-    ap (λ (e : CcmState). (end_of round rest_of e).chain) c.in_session.ensures
-    ∙ c.new-entry.ensures.mac
+    c.new.ensures.mac
     ∙ ap (λ (e : List ℕ → List ℕ). ccm_mac e c.args.iv.items c.args.aad.items (cipher_range j c.args.packet.items) j.tag_len)
     (enciphers j.key c.args.key c.requires.key)

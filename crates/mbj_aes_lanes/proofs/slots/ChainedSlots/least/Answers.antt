@@ -9,7 +9,7 @@ at : (g : _) (c : goal.After-lesser-least g) → c.index.result.now ≡ get_or c
 at g c =
     let es = c.self.inside.entries.items in
     c.index.ensures
-    ∙ get_or_default es c.slots.i c.index.result.now None (omega (arith, c.self.invariant.0.entries))
+    ∙ get_or_default es c.slots.i c.index.result.now None (omega (arith, c.self.invariant.2))
     ∙ ap (λ xs. get_or xs c.slots.i None) c.self.view_is
 
 pub slots-preserved : goal.slots-preserved

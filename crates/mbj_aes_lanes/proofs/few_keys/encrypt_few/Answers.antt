@@ -1,0 +1,17 @@
+-- The block at place p is block p % 2 of register p / 2.
+use Rattle.std.proofs.Common.{◌≡◌, ℕ, ◌+◌, ◌*◌, ◌/◌, ◌%◌, List, [], get_or, subst, ap, ◌∙◌, arith}
+use Rattle.mbj_types.specs.Aes.{encipher}
+use Rattle.mbj_aes_lanes.specs.Inside.BusyKeys.{few_schedule}
+use Rattle.mbj_aes_lanes.proofs.few_keys.encrypt_few.Goals as goal
+
+pub returns : goal.returns
+returns g c p h =
+    let i : ℕ = p / 2 in
+    let b : ℕ = p % 2 in
+    let none : List ℕ = [] in
+    let rows = c.args.rows.now in
+    let place : 2 * i + b ≡ p = omega arith in
+    subst (λ (q : ℕ). get_or c.store_all.new.blocks q [] ≡ encipher (few_schedule rows q) (get_or c.args.blocks.now q [])) place
+    (c.store_all.ensures i b none (omega arith) (omega arith)
+    ∙ c.encrypt_all.ensures i b none (omega arith) (omega arith)
+    ∙ ap (encipher (few_schedule rows (2 * i + b))) (c.load_all.ensures i b none (omega arith) (omega arith)))

@@ -1,0 +1,14 @@
+-- The busy lanes before the next one have their round keys.
+use Rattle.std.proofs.Common.{◌≡◌, ℕ, ◌<◌, length}
+use Rattle.mbj_aes.specs.declared.expansion.TheConstants.{MAX_ROUND_KEYS}
+use Rattle.mbj_aes_lanes.specs.Inside.Busy.{busy_slot}
+use Rattle.mbj_aes_lanes.specs.Inside.BusyKeys.{column}
+use Rattle.mbj_aes_lanes.specs.Inside.LaidKeys.{laid_schedule}
+use Rattle.mbj_aes_lanes.specs.Inside.Slots.{IsKeyOf}
+use Rattle.mbj_aes_lanes.proofs.few_keys.keys_of_busy.Given as goal
+
+abbrev pub invariant-busy : goal.invariant-busy
+invariant-busy g l = record {
+  size : length l.rows ≡ MAX_ROUND_KEYS;
+  keys : (p : ℕ) → p < l.p → IsKeyOf g.E.Chaining.key_of (laid_schedule g.E.Chaining.key_rounds (column l.rows p)) (busy_slot l.entries l.busy.lanes p);
+}

@@ -1,0 +1,14 @@
+-- The registers below i are done.
+use Rattle.std.proofs.Common.{◌≡◌, ℕ, ◌<◌, ◌-◌}
+use Rattle.mbj_types.specs.Blocks.{xor_lists}
+use Rattle.mbj_types.specs.Aes.{round_key, shift_rows, sub_bytes}
+use Rattle.mbj_aes.specs.BlockWords.{block_byte, block_at}
+use Rattle.mbj_aes_lanes.specs.Inside.Layouts.{tower_state}
+use Rattle.mbj_aes_lanes.proofs.EachRegister.{AreDone}
+use Rattle.mbj_aes_lanes.proofs.narrow.cipher.last_rounds.Given as goal
+
+abbrev pub invariant-registers : goal.invariant-registers
+invariant-registers g l =
+    let lane = g.V.Lane8.lane in
+    AreDone (λ k old new. (b : ℕ) → b < g.V.BlockWord.BLOCKS → block_at lane new b
+    ≡ xor_lists (shift_rows (sub_bytes (tower_state (l.r - 1) (block_byte lane old b)))) (round_key (g.K.Schedules.schedule_of l.keys k b) l.r)) l.fn.s l.s l.i

@@ -1,0 +1,71 @@
+-- The first mask is the answer, the first blocks take the others of its batch, and the rest follows.
+use Rattle.std.proofs.Common.{◌≡◌, ℕ, ◌+◌, ◌-◌, ◌%◌, ◌^◌, ◌<◌, ◌≤◌, List, [], length, take, drop, inl, inr, refl, sym, subst, ap, ◌∙◌, arith, length-drop}
+use Rattle.std.specs.List.{concat}
+use Rattle.std.specs.Int.{w128, to_be_bytes}
+use Rattle.std.proofs.lemmas.Bool.{cases_lt}
+use Rattle.std.proofs.lemmas.List.{get_or-take, get_or-drop, length-take-le}
+use Rattle.mbj_types.specs.Aes.{encipher}
+use Rattle.mbj_types.specs.Blocks.{blocks}
+use Rattle.mbj_types.specs.Modes.{ctr_blocks}
+use Rattle.mbj_blocks.specs.Walked.{Walked}
+use Rattle.mbj_blocks.proofs.Walk.{walk_over}
+use Rattle.mbj_aes_lanes.specs.declared.narrow.by_fours.TheConstants.{BATCH_BLOCKS}
+use Rattle.mbj_aes_lanes.specs.Inside.KeyStream.{IsKeyStream}
+use Rattle.mbj_aes_lanes.proofs.KeyStreams.{stream_from, stream_from-cons}
+use Rattle.mbj_aes_lanes.proofs.narrow.counters.xor_counters_after.Goals as goal
+
+-- the masks behind the first of n + 1, which are the key stream of the next counters
+behind_first : (e : List ℕ → List ℕ) (t n m : ℕ) (masks : List (List ℕ)) → m ≡ n → n + 1 ≤ length masks → IsKeyStream e t (take (n + 1) masks)
+    → IsKeyStream e ((t + 1) % 2 ^ 128) (take m (drop 1 masks))
+behind_first e t n m masks same long all j lt =
+    let inside : j < n = omega (arith, length-take-le m (drop 1 masks) (omega (arith, length-drop 1 masks))) in
+    let place : (t + (1 + j)) % 2 ^ 128 ≡ ((t + 1) % 2 ^ 128 + j) % 2 ^ 128 = omega arith in
+    get_or-take m (drop 1 masks) j [] (omega arith)
+    ∙ get_or-drop 1 masks j []
+    ∙ sym (get_or-take (n + 1) masks (1 + j) [] (omega arith))
+    ∙ all (1 + j) (omega (arith, length-take-le (n + 1) masks long))
+    ∙ ap (λ (u : ℕ). e (to_be_bytes w128 u)) place
+
+pub returns-clause-mask : goal.returns-clause-mask
+returns-clause-mask c =
+    let n : ℕ = c.min-here.result + 1 in
+    let masks : List (List ℕ) = c.masks_of-masks.result in
+    let long : n ≤ length masks = omega (arith, c.masks_of-masks.ensures.length) in
+    let first : (c.args.counter + 0) % 2 ^ 128 ≡ c.args.counter = omega (arith, c.ranges.counter.fits) in
+    sym (get_or-take n masks 0 [] (omega arith))
+    ∙ c.masks_of-masks.ensures.masks 0 (omega (arith, length-take-le n masks long))
+    ∙ ap (λ (u : ℕ). encipher c.new-key.result (to_be_bytes w128 u)) first
+    ∙ ap (λ w. encipher w (to_be_bytes w128 c.args.counter)) c.new-key.ensures
+
+pub returns-clause-text : goal.returns-clause-text
+returns-clause-text c =
+    let e : List ℕ → List ℕ = encipher c.args.key.now in
+    let t : ℕ = (c.args.counter + 1) % 2 ^ 128 in
+    let text : List ℕ = c.args.text.now in
+    let now : List ℕ = c.xor_blocks.new.text in
+    let here : ℕ = c.min-here.result in
+    let all : List (List ℕ) = c.masks_of-masks.result in
+    let n : ℕ = here + 1 - 1 in
+    let masks : List (List ℕ) = take n (drop 1 all) in
+    let long : here + 1 ≤ length all = omega (arith, c.masks_of-masks.ensures.length) in
+    let many : length masks ≡ here = length-take-le n (drop 1 all) (omega (arith, length-drop 1 all, long)) ∙ omega arith in
+    let stream = rw c.new-key.ensures at c.masks_of-masks.ensures.masks in
+    let known : IsKeyStream e t masks = behind_first e c.args.counter here n all (omega arith) long stream in
+    let whole : List ℕ = concat (ctr_blocks e t (blocks text)) in
+    let first : (t + 0) % 2 ^ 128 ≡ t = omega arith in
+    let walked : Walked (stream_from e t (length masks)) now (0 + length masks) whole =
+    c.xor_blocks.ensures (stream_from e t) whole (stream_from-cons e t masks known)
+    (ap (λ (u : ℕ). concat (ctr_blocks e u (blocks text))) first) in
+    let counter : ℕ = (c.args.counter + BATCH_BLOCKS) % 2 ^ 128 in
+    let P : List ℕ → Type 0 = λ w. Walked (ctr_blocks (encipher w) counter) now here whole in
+    c.xor_from.ensures whole
+    (subst P (sym c.new-key.ensures) (elim (cases_lt here (BATCH_BLOCKS - 1)) [
+      | inl fewer ↦
+          walk_over (stream_from e t (length masks)) (ctr_blocks e counter) now whole (0 + length masks) here refl refl
+          (omega (arith, c.xor_blocks.auto.text)) (omega (arith, c.xor_blocks.auto.text)) walked
+      | inr full ↦
+          let place : 0 + length masks ≡ here = omega arith in
+          let next : (t + length masks) % 2 ^ 128 ≡ counter = omega arith in
+          let Q : ℕ → ℕ → Type 0 = λ u i. Walked (ctr_blocks e u) now i whole in
+          subst (λ (i : ℕ). Q counter i) place (subst (λ (u : ℕ). Q u (0 + length masks)) next walked)
+    ]))

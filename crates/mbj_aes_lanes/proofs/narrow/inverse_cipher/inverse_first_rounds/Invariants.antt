@@ -1,0 +1,14 @@
+-- The registers below i are done.
+use Rattle.std.proofs.Common.{◌≡◌, ℕ, ◌<◌}
+use Rattle.mbj_types.specs.Blocks.{xor_lists}
+use Rattle.mbj_types.specs.Aes.{round_key}
+use Rattle.mbj_aes.specs.BlockWords.{block_byte, block_at}
+use Rattle.mbj_aes_lanes.specs.Inside.Layouts.{inverse_state}
+use Rattle.mbj_aes_lanes.proofs.EachRegister.{AreDone}
+use Rattle.mbj_aes_lanes.proofs.narrow.inverse_cipher.inverse_first_rounds.Given as goal
+
+abbrev pub invariant-registers : goal.invariant-registers
+invariant-registers g l =
+    let lane = g.V.Lane8.lane in
+    AreDone (λ k old new. (b : ℕ) → b < g.V.BlockWord.BLOCKS → block_at lane new b
+    ≡ xor_lists (inverse_state 0 (block_byte lane old b)) (round_key l.key 0)) l.fn.s l.s l.i

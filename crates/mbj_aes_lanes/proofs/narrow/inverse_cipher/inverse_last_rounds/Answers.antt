@@ -1,0 +1,23 @@
+use Rattle.std.proofs.Common.{◌-◌, ◌/◌, get_or, length, refl, sym, ap, ◌∙◌, arith}
+use Rattle.mbj_types.specs.Blocks.{xor_lists}
+use Rattle.mbj_types.specs.Aes.{inv_shift_rows, inv_sub_bytes}
+use Rattle.mbj_aes.specs.BlockWords.{block_byte, block_at}
+use Rattle.mbj_aes_lanes.proofs.EachRegister.{none_done, one_more}
+use Rattle.mbj_aes_lanes.proofs.LaidSchedules.{inverse_laid_key-last}
+use Rattle.mbj_aes_lanes.proofs.narrow.inverse_cipher.inverse_last_rounds.Goals as goal
+
+pub registers-init : goal.registers-init
+registers-init g c = none_done _ c.args.s.now c.args.s.now 0 refl refl
+
+pub registers-preserved : goal.registers-preserved
+registers-preserved g c =
+    let lane = g.V.Lane8.lane in
+    one_more _ c.args.s.now c.registers.s c.registers.i c.index-s-i.result c.inverse_last_round.result (omega arith)
+    (λ b h. c.inverse_last_round.ensures b h
+    ∙ ap (λ k. inv_sub_bytes (inv_shift_rows (xor_lists (block_at lane (get_or c.registers.s c.registers.i c.index-s-i.result) b) k)))
+    (sym (inverse_laid_key-last (length c.args.key.now / 16 - 1) c.args.n (block_byte lane c.round_key-last.result b) c.requires.first c.requires.last)
+    ∙ c.round_key-last.ensures b h))
+    c.registers.invariant
+
+pub returns : goal.returns
+returns g c i b d h k = c.registers.invariant.done i d (omega arith) b k

@@ -1,0 +1,24 @@
+use Rattle.std.proofs.Common.{ℕ, ◌-◌, ◌/◌, get_or, length, refl, sym, ap, ◌∙◌, arith}
+use Rattle.mbj_types.specs.Aes.{undone_round}
+use Rattle.mbj_aes.specs.BlockWords.{block_byte}
+use Rattle.mbj_aes_lanes.specs.Inside.Layouts.{inverse_state}
+use Rattle.mbj_aes_lanes.proofs.EachRegister.{none_done, one_more}
+use Rattle.mbj_aes_lanes.proofs.LaidSchedules.{inverse_laid_key-between}
+use Rattle.mbj_aes_lanes.proofs.narrow.inverse_cipher.inverse_rounds.Goals as goal
+
+pub registers-init : goal.registers-init
+registers-init g c = none_done _ c.args.s.now c.args.s.now 0 refl refl
+
+pub registers-preserved : goal.registers-preserved
+registers-preserved g c =
+    let lane = g.V.Lane8.lane in
+    let r : ℕ = c.args.r in
+    one_more _ c.args.s.now c.registers.s c.registers.i c.index-s-i.result c.inverse_round.result (omega arith)
+    (λ b h. c.inverse_round.ensures b h
+    ∙ ap (undone_round (inverse_state r (block_byte lane (get_or c.registers.s c.registers.i c.index-s-i.result) b)))
+    (sym (inverse_laid_key-between (length c.args.key.now / 16 - 1) r (block_byte lane c.round_key-round_key.result b) c.requires.first c.requires.last)
+    ∙ c.round_key-round_key.ensures b h))
+    c.registers.invariant
+
+pub returns : goal.returns
+returns g c i b d h k = c.registers.invariant.done i d (omega arith) b k

@@ -1,0 +1,27 @@
+-- The key of a round is stored as it was made.
+use Rattle.std.proofs.Common.{◌∙◌, arith}
+use Rattle.mbj_types.specs.Lanes.{lane_at}
+use Rattle.mbj_aes.specs.BlockWords.{block_byte}
+use Rattle.mbj_aes_lanes.proofs.LaidSchedules.{laid_key-stored, laid_key-first, laid_key-last, laid_key-between}
+use Rattle.mbj_aes_lanes.proofs.narrow.laid_keys.laid_key.Goals as goal
+
+pub returns-then-r-eq0 : goal.returns-then-r-eq0
+returns-then-r-eq0 c =
+    let f = block_byte (lane_at 8) c.first_key.result 0 in
+    laid_key-stored c.args.rounds c.args.r f c.block_of.result c.block_of.ensures
+    ∙ laid_key-first c.args.rounds c.args.r f (omega arith)
+    ∙ c.first_key.ensures 0 (omega arith) ∙ c.register_of-key.ensures
+
+pub returns-then-r-rounds : goal.returns-then-r-rounds
+returns-then-r-rounds c =
+    let f = block_byte (lane_at 8) c.last_key.result 0 in
+    laid_key-stored c.args.rounds c.args.r f c.block_of-then-r-rounds.result c.block_of-then-r-rounds.ensures
+    ∙ laid_key-last c.args.rounds c.args.r f (omega arith) (omega arith)
+    ∙ c.last_key.ensures 0 (omega arith) ∙ c.register_of-key.ensures
+
+pub returns-else-r-rounds : goal.returns-else-r-rounds
+returns-else-r-rounds c =
+    let f = block_byte (lane_at 8) c.key_between.result 0 in
+    laid_key-stored c.args.rounds c.args.r f c.block_of-else-r-rounds.result c.block_of-else-r-rounds.ensures
+    ∙ laid_key-between c.args.rounds c.args.r f (omega arith) (omega arith)
+    ∙ c.key_between.ensures 0 (omega arith) ∙ c.register_of-key.ensures

@@ -1,0 +1,16 @@
+-- A lane that was put holds its schedule.
+use Rattle.std.proofs.Common.{◌≡◌, ℕ, ◌+◌, ◌-◌, length, take, ap, ◌∙◌, arith}
+use Rattle.std.proofs.lemmas.List.{length-take-le}
+use Rattle.mbj_types.specs.Lanes.{lane_at}
+use Rattle.mbj_aes_lanes.specs.Inside.WideKeys.{schedule_in}
+use Rattle.mbj_aes_lanes.proofs.WideHeldKeys.{held_schedule}
+use Rattle.mbj_aes_lanes.proofs.wide.lane_keys.LaneKeys.round_keys.Goals as goal
+
+pub returns-clause-schedules : goal.returns-clause-schedules
+returns-clause-schedules c =
+    let keys = take (c.self.inside.rounds + 1) c.self.inside.round_keys in
+    let count : length keys - 1 ≡ c.self.inside.rounds = omega (arith, length-take-le (c.self.inside.rounds + 1) c.self.inside.round_keys (omega arith)) in
+    rw (← c.self.view_is)
+    (λ i h some.
+    ap (λ (n : ℕ). schedule_in (lane_at 8) n keys i) count
+    ∙ held_schedule c.self.inside.rounds c.self.inside.round_keys c.self.inside.put i h some)

@@ -1,0 +1,62 @@
+-- Each byte of the column by the law of one.
+use Rattle.std.proofs.Common.{◌≡◌, ℕ, ◌<◌, [], ◌∷◌, bit_xor, ap, ap₂, ◌∙◌}
+use Rattle.mbj_types.specs.Aes.{sub_byte}
+use Rattle.mbj_aes.specs.Tower.{from_tower}
+use Rattle.mbj_aes.proofs.ByteMaps.{sub_byte_small}
+use Rattle.mbj_aes.proofs.Sums.{sum4, sum4-turned}
+use Rattle.mbj_aes_lanes.proofs.WideColumns.{IsSubstituted, sum-tower, mixed_byte-tower}
+use Rattle.mbj_aes_lanes.proofs.wide.rounds.full_column.Goals as goal
+
+pub returns : goal.returns
+returns g c i h =
+    let lane = g.V.Lane8.lane in
+    let fits = g.met.V.Lane8.fits in
+    let box : _ → ℕ = λ v. sub_byte (from_tower (lane v i)) in
+    let w = c.args.column in
+    let key = c.args.key in
+    let s0 = c.substituted_in_tower-s0.result in
+    let s1 = c.substituted_in_tower-s1.result in
+    let s2 = c.substituted_in_tower-s2.result in
+    let s3 = c.substituted_in_tower-s3.result in
+    let is0 : IsSubstituted (box w.b0) (lane s0.once i) (lane s0.twice i) = record {
+      small = sub_byte_small (from_tower (lane w.b0 i));
+      once_small = fits s0.once i;
+      twice_small = fits s0.twice i;
+      once_is = c.substituted_in_tower-s0.ensures.once i h;
+      twice_is = c.substituted_in_tower-s0.ensures.twice i h;
+    } in
+    let is1 : IsSubstituted (box w.b1) (lane s1.once i) (lane s1.twice i) = record {
+      small = sub_byte_small (from_tower (lane w.b1 i));
+      once_small = fits s1.once i;
+      twice_small = fits s1.twice i;
+      once_is = c.substituted_in_tower-s1.ensures.once i h;
+      twice_is = c.substituted_in_tower-s1.ensures.twice i h;
+    } in
+    let is2 : IsSubstituted (box w.b2) (lane s2.once i) (lane s2.twice i) = record {
+      small = sub_byte_small (from_tower (lane w.b2 i));
+      once_small = fits s2.once i;
+      twice_small = fits s2.twice i;
+      once_is = c.substituted_in_tower-s2.ensures.once i h;
+      twice_is = c.substituted_in_tower-s2.ensures.twice i h;
+    } in
+    let is3 : IsSubstituted (box w.b3) (lane s3.once i) (lane s3.twice i) = record {
+      small = sub_byte_small (from_tower (lane w.b3 i));
+      once_small = fits s3.once i;
+      twice_small = fits s3.twice i;
+      once_is = c.substituted_in_tower-s3.ensures.once i h;
+      twice_is = c.substituted_in_tower-s3.ensures.twice i h;
+    } in
+    let all : ℕ = lane c.xored-all.result i in
+    let small : all < 256 = fits c.xored-all.result i in
+    let sums : all ≡ bit_xor (bit_xor (lane s0.once i) (lane s1.once i)) (bit_xor (lane s2.once i) (lane s3.once i)) =
+    c.xored-all.ensures i h ∙ ap₂ bit_xor (c.xored.ensures i h) (c.xored-2.ensures i h) in
+    let sum : from_tower all ≡ sum4 (box w.b0) (box w.b1) (box w.b2) (box w.b3) =
+    ap from_tower sums ∙ sum-tower _ _ _ _ _ _ _ _ _ _ _ _ is0 is1 is2 is3 in
+    let sum3 : from_tower all ≡ sum4 (box w.b3) (box w.b0) (box w.b1) (box w.b2) = sum ∙ sum4-turned (box w.b0) (box w.b1) (box w.b2) (box w.b3) in
+    let sum2 : from_tower all ≡ sum4 (box w.b2) (box w.b3) (box w.b0) (box w.b1) = sum3 ∙ sum4-turned (box w.b3) (box w.b0) (box w.b1) (box w.b2) in
+    let sum1 : from_tower all ≡ sum4 (box w.b1) (box w.b2) (box w.b3) (box w.b0) = sum2 ∙ sum4-turned (box w.b2) (box w.b3) (box w.b0) (box w.b1) in
+    let byte0 = ap from_tower (c.mixed_byte.ensures i h) ∙ mixed_byte-tower all _ _ _ _ _ _ _ _ (lane key.b0 i) small sum is0 is1 (fits key.b0 i) in
+    let byte1 = ap from_tower (c.mixed_byte-2.ensures i h) ∙ mixed_byte-tower all _ _ _ _ _ _ _ _ (lane key.b1 i) small sum1 is1 is2 (fits key.b1 i) in
+    let byte2 = ap from_tower (c.mixed_byte-3.ensures i h) ∙ mixed_byte-tower all _ _ _ _ _ _ _ _ (lane key.b2 i) small sum2 is2 is3 (fits key.b2 i) in
+    let byte3 = ap from_tower (c.mixed_byte-4.ensures i h) ∙ mixed_byte-tower all _ _ _ _ _ _ _ _ (lane key.b3 i) small sum3 is3 is0 (fits key.b3 i) in
+    λ j. byte0 j ∷ byte1 j ∷ byte2 j ∷ byte3 j ∷ []

@@ -1,0 +1,22 @@
+-- Column by column, each of the rows as shifted.
+use Rattle.std.proofs.Common.{ℕ, List, ◌++◌, take, drop, map, ap, ◌∙◌}
+use Rattle.mbj_types.specs.Blocks.{xor_lists}
+use Rattle.mbj_types.specs.Aes.{sub_bytes}
+use Rattle.mbj_aes.specs.Tower.{from_tower}
+use Rattle.mbj_aes_lanes.specs.declared.wide.state.Word.{Word}
+use Rattle.mbj_aes_lanes.specs.Inside.Wide.{state_lane, word_lane}
+use Rattle.mbj_aes_lanes.specs.Inside.WideKeys.{with_constant}
+use Rattle.mbj_aes_lanes.proofs.wide.rounds.last_round.Goals as goal
+
+pub returns : goal.returns
+unfolding state_lane
+returns g c i h =
+    let lane = g.V.Lane8.lane in
+    let key = c.args.key.now in
+    let of : Word g.row.V.Denot → List ℕ → List ℕ = λ k ys. xor_lists (sub_bytes (map from_tower ys)) (with_constant (word_lane lane k i)) in
+    let shifted = c.shifted_rows-shifted.ensures i in
+    let c0 = c.last_column.ensures i h ∙ ap (of key.c0) (ap (take 4) shifted) in
+    let c1 = c.last_column-2.ensures i h ∙ ap (of key.c1) (ap (λ ys. take 4 (drop 4 ys)) shifted) in
+    let c2 = c.last_column-3.ensures i h ∙ ap (of key.c2) (ap (λ ys. take 4 (drop 8 ys)) shifted) in
+    let c3 = c.last_column-4.ensures i h ∙ ap (of key.c3) (ap (λ ys. take 4 (drop 12 ys)) shifted) in
+    λ j. c0 j ++ c1 j ++ c2 j ++ c3 j

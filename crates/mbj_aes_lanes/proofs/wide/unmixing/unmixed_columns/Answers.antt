@@ -1,0 +1,13 @@
+-- Column by column.
+use Rattle.std.proofs.Common.{◌++◌}
+use Rattle.mbj_aes_lanes.specs.Inside.Wide.{state_lane}
+use Rattle.mbj_aes_lanes.proofs.wide.unmixing.unmixed_columns.Goals as goal
+
+pub returns : goal.returns
+unfolding state_lane
+returns g c i h =
+    let c0 = c.unmixed_column.ensures i h in
+    let c1 = c.unmixed_column-2.ensures i h in
+    let c2 = c.unmixed_column-3.ensures i h in
+    let c3 = c.unmixed_column-4.ensures i h in
+    λ j. c0 j ++ c1 j ++ c2 j ++ c3 j

@@ -1,0 +1,49 @@
+-- Round keys as the rounds of wide states take them.
+use Rattle.std.specs.Prelude.{◌≡◌, ℕ, ◌+◌, ◌-◌, ◌*◌, nat_eq, Bool, false, List, [], ◌∷◌, ◌++◌, length, map, replicate, slice_index_or, take, Option, Some, None, bit_xor, if◌then◌else◌}
+use Rattle.std.specs.List.{range_with_len}
+use Rattle.mbj_types.specs.declared.kind.TheConstants.{AES_LANES}
+use Rattle.mbj_types.specs.Lanes.{lane_at}
+use Rattle.mbj_aes.specs.declared.tables.TheConstants.{SBOX_CONSTANT}
+use Rattle.mbj_aes.specs.Bytes.{IsBytes}
+use Rattle.mbj_aes.specs.Tower.{from_tower}
+use Rattle.mbj_aes_lanes.specs.declared.wide.state.State.{State}
+use Rattle.mbj_aes_lanes.specs.declared.wide.words.TheConstants.{MAX_SCHEDULE_WORDS}
+use Rattle.mbj_aes_lanes.specs.Inside.Wide.{state_lane}
+
+-- the constant of the S-box added to each byte
+abbrev pub with_constant : List ℕ → List ℕ
+with_constant b = map (λ x. bit_xor x SBOX_CONSTANT) b
+
+-- the round key r of n rounds that the bytes b stand for: all but the last are in the tower's basis, and all but the first have the
+-- constant added, since the S-box leaves it out
+abbrev pub key_from : ℕ → ℕ → List ℕ → List ℕ
+key_from n r b = if nat_eq r 0 then map from_tower b else with_constant (if nat_eq r n then b else map from_tower b)
+
+-- the one that a state stands for in lane i
+unfoldable pub key_in : {V : Type 0} → (V → ℕ → ℕ) → ℕ → ℕ → State V → ℕ → List ℕ
+key_in lane n r key i = key_from n r (state_lane lane key i)
+
+-- the round keys from r on
+abbrev pub keys_from : {V : Type 0} → (V → ℕ → ℕ) → ℕ → ℕ → List (State V) → ℕ → List ℕ
+keys_from lane n r [] i = []
+keys_from lane n r (key ∷ keys) i = key_in lane n r key i ++ keys_from lane n (r + 1) keys i
+
+-- the schedule of n rounds in lane i of a list of round keys
+unfoldable pub schedule_in : {V : Type 0} → (V → ℕ → ℕ) → ℕ → List (State V) → ℕ → List ℕ
+schedule_in lane n keys i = keys_from lane n 0 keys i
+
+-- the bytes of a lane are a key of nk words, and zeros
+pub record IsLaneKey (nk : ℕ) (key xs : List ℕ) : Type 0 where
+  pub size : length key ≡ 4 * nk
+  pub bytes : IsBytes key
+  pub zeros : xs ≡ key ++ replicate (MAX_SCHEDULE_WORDS - 4 * nk) 0
+
+-- ---- what the lanes hold of which some were put
+
+-- the schedule in lane i, where it was put
+abbrev pub held_lane : ℕ → List (State (List ℕ)) → List Bool → ℕ → Option (List ℕ)
+held_lane rounds keys put i =
+    if slice_index_or put i false then Some (schedule_in (lane_at 8) rounds (take (rounds + 1) keys) i) else None
+
+unfoldable pub held_lanes : ℕ → List (State (List ℕ)) → List Bool → List (Option (List ℕ))
+held_lanes rounds keys put = map (held_lane rounds keys put) (range_with_len 0 AES_LANES)

@@ -1,0 +1,103 @@
+//! Keys in lanes, whose schedules are made in lane words and become round keys as states.
+ghost use Rattle.std.specs.Prelude.{◌≡◌, ℕ, ◌+◌, ◌-◌, ◌*◌, ◌<◌, ◌≤◌, [], length, take, drop, ◌++◌, replicate, slice_index_or};
+ghost use Rattle.mbj_types.specs.Aes.{key_schedule};
+ghost use Rattle.mbj_types.specs.Lanes.{lane_at, lane_of};
+ghost use Rattle.mbj_types.specs.declared.kind.TheConstants.{AES_LANES};
+ghost use Rattle.mbj_aes.specs.Bytes.{IsRoundCount};
+ghost use Rattle.mbj_aes_lanes.specs.KeyBytes.{IsKeyArray, key_of_array};
+ghost use Rattle.mbj_aes_lanes.specs.Inside.WideKeys.{schedule_in};
+
+use crate::blocks::words_of;
+use crate::lane_blocks::LaneBlocks;
+use crate::wide::expansion::{EXTRA_KEYS, expand_words};
+use crate::wide::key_states::key_at;
+use crate::wide::pass_word::PassWord;
+use crate::wide::state::State;
+use crate::wide::words::MAX_SCHEDULE_WORDS;
+use mbj_types::{AES_LANES, AesWord, BLOCK_BYTES, Lane8};
+
+/// Writes the round keys of the schedules, 16 lane words for each.
+#[inline(always)]
+pub fn write_schedules<V: Lane8>(keys: &mut [State<V>], words: &[V])
+    requires { 16 * length keys.old ≤ length words.now }
+    ensures { (i : ℕ) → i < V.LANES
+        → schedule_in V.lane (length keys.old - 1) keys.new i ≡ take (16 * length keys.old) (lane_of V.lane words.now i) }
+{
+    'keys: for r in 0..keys.len() {
+        keys[r] = key_at(words, r, keys.len() - 1);
+    }
+}
+
+/// Words of zeros, which take schedules in a wide pass.
+#[inline(always)]
+pub fn zero_words() -> [AesWord; MAX_SCHEDULE_WORDS]
+    ensures length { length result ≡ MAX_SCHEDULE_WORDS }
+    ensures zeros { (i : ℕ) → i < AES_LANES → lane_of (lane_at 8) result i ≡ replicate MAX_SCHEDULE_WORDS 0 }
+{
+    [<AesWord as Lane8>::splat(0); MAX_SCHEDULE_WORDS]
+}
+
+// Half of the bytes of each key, from `start` on.
+#[derive(Drop)]
+struct KeyHalves<'a> {
+    keys: &'a [[u8; 32]; AES_LANES],
+    start: usize,
+    ghost within: { start + 16 ≤ 32 },
+}
+
+impl LaneBlocks for KeyHalves<'_> {
+    ghost lanes_of = { λ h. AES_LANES };
+
+    ghost block_in = { λ h i. take 16 (drop h.start (slice_index_or h.keys.now i [])) };
+
+    #[inline(always)]
+    fn block(&self, lane: usize) -> [u8; 16] {
+        let mut block = [0; BLOCK_BYTES];
+        block.copy_from_slice(&self.keys[lane][self.start..self.start + BLOCK_BYTES]);
+        block
+    }
+}
+
+// The half of each key that begins at `start` goes into the words from there on.
+#[inline(always)]
+fn load_half<V: PassWord>(words: &mut [V], bytes: &[[u8; 32]; AES_LANES], start: usize)
+    requires within { start + 16 ≤ 32 }
+    requires room { start + 16 ≤ length words.old }
+    ensures { (i : ℕ) → i < V.LANES → lane_of V.lane words.new i
+        ≡ take start (lane_of V.lane words.old i) ++ take 16 (drop start (slice_index_or bytes.now i []))
+        ++ drop (start + 16) (lane_of V.lane words.old i) }
+{
+    let half = KeyHalves { keys: bytes, start };
+    words_of(&mut words[start..start + BLOCK_BYTES], &half);
+}
+
+// The keys go into the first words, which are zeros.
+#[inline(always)]
+fn load_keys<V: PassWord>(words: &mut [V], bytes: &[[u8; 32]; AES_LANES])
+    requires room { length words.old ≡ MAX_SCHEDULE_WORDS }
+    requires zeros { (i : ℕ) → i < V.LANES → lane_of V.lane words.old i ≡ replicate MAX_SCHEDULE_WORDS 0 }
+    ensures { (i : ℕ) → i < V.LANES → length (slice_index_or bytes.now i []) ≡ 32
+        → lane_of V.lane words.new i ≡ slice_index_or bytes.now i [] ++ replicate (MAX_SCHEDULE_WORDS - 32) 0 }
+{
+    load_half(words, bytes, 0);
+    load_half(words, bytes, BLOCK_BYTES);
+}
+
+/// Writes the round keys of the key in each lane. The words, which are zeros, take the schedules.
+#[inline(always)]
+pub fn expand_keys<V: PassWord>(
+    keys: &mut [State<V>],
+    bytes: &[[u8; 32]; AES_LANES],
+    words: &mut [V],
+)
+    requires rounds { IsRoundCount (length keys.old - 1) }
+    requires room { length words.old ≡ MAX_SCHEDULE_WORDS }
+    requires zeros { (i : ℕ) → i < V.LANES → lane_of V.lane words.old i ≡ replicate MAX_SCHEDULE_WORDS 0 }
+    ensures { (i : ℕ) → i < V.LANES → IsKeyArray (length keys.old - 1) (slice_index_or bytes.now i [])
+        → schedule_in V.lane (length keys.old - 1) keys.new i
+        ≡ key_schedule (key_of_array (length keys.old - 1) (slice_index_or bytes.now i [])) }
+{
+    load_keys(words, bytes);
+    expand_words(words, keys.len() - EXTRA_KEYS);
+    write_schedules(keys, words);
+}

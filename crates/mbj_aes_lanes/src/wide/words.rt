@@ -1,0 +1,97 @@
+//! Words and states in slices of lane words, byte j of each list of bytes in lane word j.
+ghost use Rattle.std.specs.Prelude.{◌≡◌, ℕ, ◌+◌, ◌*◌, ◌<◌, ◌≤◌, ◌++◌, length, take, drop};
+ghost use Rattle.mbj_types.specs.Aes.{word, round_key};
+ghost use Rattle.mbj_types.specs.Lanes.{lane_of};
+ghost use Rattle.mbj_aes_lanes.specs.Inside.Wide.{word_lane, state_lane};
+
+use crate::wide::state::{State, Word};
+use mbj_aes::{ROUND_WORDS, WORD_BYTES};
+use mbj_types::Lane8;
+
+/// The lane words of the longest schedules.
+pub const MAX_SCHEDULE_WORDS: usize = 240;
+
+/// Word `i` of the lists in the lanes.
+#[inline(always)]
+pub fn word_at<V: Lane8>(words: &[V], i: usize) -> Word<V>
+    requires { 4 * i + 4 ≤ length words.now }
+    ensures { (k : ℕ) → word_lane V.lane result k ≡ word (lane_of V.lane words.now k) i }
+{
+    let at = WORD_BYTES * i;
+    Word {
+        b0: words[at],
+        b1: words[at + 1],
+        b2: words[at + 2],
+        b3: words[at + 3],
+    }
+}
+
+/// Writes word `i` of the lists in the lanes.
+#[inline(always)]
+pub fn put_word<V: Lane8>(words: &mut [V], i: usize, word: Word<V>)
+    requires { 4 * i + 4 ≤ length words.old }
+    ensures { (k : ℕ) → lane_of V.lane words.new k
+        ≡ take (4 * i) (lane_of V.lane words.old k) ++ word_lane V.lane word k ++ drop (4 * i + 4) (lane_of V.lane words.old k) }
+{
+    let at = WORD_BYTES * i;
+    let here = &mut words[at..at + WORD_BYTES];
+    here[0] = word.b0;
+    here[1] = word.b1;
+    here[2] = word.b2;
+    here[3] = word.b3;
+}
+
+/// The four words of the lists in the lanes that round key `r` has in a schedule, as a state.
+#[inline(always)]
+pub fn state_at<V: Lane8>(words: &[V], r: usize) -> State<V>
+    requires { 16 * r + 16 ≤ length words.now }
+    ensures { (i : ℕ) → state_lane V.lane result i ≡ round_key (lane_of V.lane words.now i) r }
+{
+    let first = ROUND_WORDS * r;
+    State {
+        c0: word_at(words, first),
+        c1: word_at(words, first + 1),
+        c2: word_at(words, first + 2),
+        c3: word_at(words, first + 3),
+    }
+}
+
+// The same word in every lane, the word `c` of a block.
+#[inline(always)]
+fn splat_word<V: Lane8>(block: &[u8; 16], c: usize) -> Word<V>
+    requires { c < 4 }
+    ensures { (i : ℕ) → i < V.LANES → word_lane V.lane result i ≡ word block.now c }
+{
+    let at = WORD_BYTES * c;
+    Word {
+        b0: V::splat(block[at]),
+        b1: V::splat(block[at + 1]),
+        b2: V::splat(block[at + 2]),
+        b3: V::splat(block[at + 3]),
+    }
+}
+
+/// The same block in every lane.
+#[inline(always)]
+pub fn splat_block<V: Lane8>(block: &[u8; 16]) -> State<V>
+    ensures { (i : ℕ) → i < V.LANES → state_lane V.lane result i ≡ block.now }
+{
+    State {
+        c0: splat_word(block, 0),
+        c1: splat_word(block, 1),
+        c2: splat_word(block, 2),
+        c3: splat_word(block, 3),
+    }
+}
+
+/// Writes the block of which this is the state into 16 lane words.
+#[inline(always)]
+pub fn put_state<V: Lane8>(words: &mut [V], s: &State<V>)
+    requires { length words.old ≡ 16 }
+    ensures { (i : ℕ) → lane_of V.lane words.new i ≡ state_lane V.lane s.now i }
+{
+    put_word(words, 0, s.c0);
+    put_word(words, 1, s.c1);
+    put_word(words, 2, s.c2);
+    put_word(words, 3, s.c3);
+}
