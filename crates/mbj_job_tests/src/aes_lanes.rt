@@ -1,8 +1,9 @@
 ghost use Rattle.std.specs.Prelude.{◌≡◌, ◌≤◌, length};
 ghost use Rattle.mbj_aes_lanes.specs.KeyLanes.{IsFull};
+ghost use Rattle.mbj_aes_lanes.specs.Lanes.{IsScheduleSize};
 
 use crate::compare::expect;
-use mbj_aes::Schedule;
+use mbj_aes::{MAX_ROUND_KEYS, Schedule};
 use mbj_aes_lanes::{
     LaneKeys, chained, decrypt_lanes, decrypt_same, decrypt32, encrypt_lanes, encrypt_same,
     encrypt32,
@@ -48,13 +49,15 @@ fn check_places(
     }
 }
 
-/// A block under the key in five places, in every place and in every lane. The place behind the five stays.
+/// A block under the key in one to seven places, in every place and in every lane. The place behind them stays.
 fn check_key(rt: &impl Abort, key: &[u8], plaintext: u128, ciphertext: u128) {
     assert!(rt; matches!(key.len(), 16 | 24 | 32));
     let schedule = Schedule::expand(key);
     let mut blocks = [[0; 16]; AES_LANES];
-    check_places(rt, &schedule, &mut blocks[..5], plaintext, ciphertext);
-    expect(rt, "behind", blocks[5], [0; 16]);
+    for many in 1..8usize {
+        check_places(rt, &schedule, &mut blocks[..many], plaintext, ciphertext);
+        expect(rt, "behind", blocks[many], [0; 16]);
+    }
     check_places(
         rt,
         &schedule,
@@ -63,13 +66,21 @@ fn check_key(rt: &impl Abort, key: &[u8], plaintext: u128, ciphertext: u128) {
         ciphertext,
     );
     check_places(rt, &schedule, &mut [], plaintext, ciphertext);
-    let mut blocks = [ciphertext.to_be_bytes(); AES_LANES];
-    decrypt32(&LaneKeys::all(&schedule), &mut blocks);
+    let keys = LaneKeys::all(&schedule);
+    let mut blocks = [plaintext.to_be_bytes(); AES_LANES];
+    encrypt32(&keys, &mut blocks);
+    expect(
+        rt,
+        "encrypted",
+        blocks,
+        [ciphertext.to_be_bytes(); AES_LANES],
+    );
+    decrypt32(&keys, &mut blocks);
     expect(
         rt,
         "decrypted",
-        blocks[AES_LANES - 1],
-        plaintext.to_be_bytes(),
+        blocks,
+        [plaintext.to_be_bytes(); AES_LANES],
     );
 }
 
@@ -142,13 +153,11 @@ fn spread<V: Lane8>(vectors: &mut [V], bytes: &[u8])
     }
 }
 
-/// The round keys of a schedule of 10 rounds.
-fn round_keys(key: &Schedule) -> [[u8; 16]; 11]
-    requires { length key.now ≡ 176 }
-{
-    let mut keys = [[0; 16]; 11];
-    for r in 0..11usize {
-        keys[r] = key.round_key(r as u32);
+/// The round keys of a schedule, and zeros behind them.
+fn round_keys(key: &Schedule) -> [[u8; 16]; MAX_ROUND_KEYS] {
+    let mut keys = [[0; 16]; MAX_ROUND_KEYS];
+    for r in 0..key.rounds() + 1 {
+        keys[r as usize] = key.round_key(r);
     }
     keys
 }
@@ -167,11 +176,16 @@ fn expect_in_every_lane<V: Lane8 + PartialEq + Debug + Drop>(
 }
 
 /// The plaintext in every lane is encrypted, and decrypted.
-fn check_lanes<V: Lane8 + PartialEq + Debug + Drop>(rt: &impl Abort, keys: &[V], state: &mut [V])
-    requires keys { length keys.now ≡ 176 }
+fn check_lanes<V: Lane8 + PartialEq + Debug + Drop>(
+    rt: &impl Abort,
+    keys: &[V],
+    state: &mut [V],
+    ciphertext: u128,
+)
+    requires keys { IsScheduleSize (length keys.now) }
     requires state { length state.old ≡ 16 }
 {
-    let (plaintext, ciphertext) = (PLAINTEXT.to_be_bytes(), CIPHERTEXT.to_be_bytes());
+    let (plaintext, ciphertext) = (PLAINTEXT.to_be_bytes(), ciphertext.to_be_bytes());
     spread(state, &plaintext);
     encrypt_lanes(keys, state);
     expect_in_every_lane(rt, state, &ciphertext);
@@ -179,14 +193,23 @@ fn check_lanes<V: Lane8 + PartialEq + Debug + Drop>(rt: &impl Abort, keys: &[V],
     expect_in_every_lane(rt, state, &plaintext);
 }
 
-// The same key and the same block in every lane of 16, and of 32.
+/// The same key and the same block in every lane of 16, and of 32. The schedule has `N` bytes.
+fn check_widths<const N: usize>(rt: &impl Abort, key: &[u8], ciphertext: u128)
+    requires { IsScheduleSize N }
+{
+    assert!(rt; matches!(key.len(), 16 | 24 | 32));
+    let keys = round_keys(&Schedule::expand(key));
+    let mut narrow = [u8x16::splat(0); N];
+    spread(&mut narrow, keys.as_flattened());
+    check_lanes(rt, &narrow, &mut [u8x16::splat(0); 16], ciphertext);
+    let mut wide = [u8x32::splat(0); N];
+    spread(&mut wide, keys.as_flattened());
+    check_lanes(rt, &wide, &mut [u8x32::splat(0); 16], ciphertext);
+}
+
 #[test]
 fn lanes_of_every_width_are_served(rt: HostRuntime) {
-    let keys = round_keys(&Schedule::expand(&COUNTING[..16]));
-    let mut narrow = [u8x16::splat(0); 176];
-    spread(&mut narrow, keys.as_flattened());
-    check_lanes(&rt, &narrow, &mut [u8x16::splat(0); 16]);
-    let mut wide = [u8x32::splat(0); 176];
-    spread(&mut wide, keys.as_flattened());
-    check_lanes(&rt, &wide, &mut [u8x32::splat(0); 16]);
+    check_widths::<176>(&rt, &COUNTING[..16], CIPHERTEXT);
+    check_widths::<208>(&rt, &COUNTING[..24], 0xdda97ca4864cdfe06eaf70a0ec0d7191);
+    check_widths::<240>(&rt, &COUNTING, 0x8ea2b7ca516745bfeafc49904b496089);
 }

@@ -5,6 +5,7 @@
 #[cfg(test)]
 mod aes;
 #[cfg(test)]
+mod aes_bytes;
 mod aes_lanes;
 #[cfg(test)]
 mod args;

@@ -1,4 +1,4 @@
-//! Every vector as a lane word: all seven calls, through the bound, on lanes that differ.
+//! Every vector as a lane word: all calls, through the bound, on lanes that differ.
 use crate::compare::expect;
 use mbj_types::{Lane8, Lane32, Lane64};
 use std::simd::{u8x16, u8x32, u32x4, u32x8, u32x16, u64x2, u64x4, u64x8};
@@ -37,6 +37,31 @@ fn every_call_of_a_lane8_works_lane_by_lane(rt: HostRuntime) {
         u8x32::from_slice(&RIGHT8[..32]),
     );
     expect(&rt, "u8x32", mixed.to_array().as_slice(), &MIXED8[..32]);
+}
+
+// A table, places of it and beyond it, and what is found there.
+const TABLE: [u8; 16] = [
+    0x52, 0xf2, 0x26, 0x65, 0xa6, 0x0c, 0x12, 0xd2, 0x89, 0x18, 0x5d, 0x95, 0x0e, 0xe8, 0x81, 0x36,
+];
+
+const AT: [u8; 16] = [15, 0, 128, 1, 7, 255, 8, 14, 2, 13, 3, 12, 200, 4, 11, 5];
+
+const FOUND: [u8; 16] = [
+    0x36, 0x52, 0x00, 0xf2, 0xd2, 0x00, 0x89, 0x81, 0x26, 0xe8, 0x65, 0x0e, 0x00, 0xa6, 0x95, 0x0c,
+];
+
+#[test]
+fn a_table_is_looked_up_in_every_lane(rt: HostRuntime) {
+    let found = u8x16::from_array(AT).looked_up(&TABLE);
+    expect(&rt, "u8x16", found.to_array(), FOUND);
+    let both = u8x32::from_slice([AT, AT].as_flattened());
+    let found = both.looked_up(&TABLE).to_array();
+    expect(
+        &rt,
+        "u8x32",
+        found.as_slice(),
+        [FOUND, FOUND].as_flattened(),
+    );
 }
 
 const LEFT32: [u32; 16] = [
