@@ -14,9 +14,10 @@ static const char usage[] =
     "\n"
     "--sizes     lengths of packets in bytes: 64,256,1500 where neither these nor drawn ones are given\n"
     "--drawn     lengths that are drawn for each packet from LEAST to MOST bytes\n"
-    "--jobs      null, cbc, ctr, gcm, ccm, cmac, gmac, sha1, sha224, sha256, sha384, sha512, the same five with hmac- before\n"
-    "            them, these with -states behind them, or chained jobs as cbc+hmac-sha1, which are enciphered and then\n"
-    "            authenticated; here by bursts of 32 with -bursts behind the name, or with -session in a key session\n"
+    "--jobs      null, cbc, cbc-dec (decryption), ctr, gcm, ccm, cmac, gmac, sha1, sha224, sha256, sha384, sha512, the same\n"
+    "            five with hmac- before them, these with -states behind them, or chained jobs as cbc+hmac-sha1, which are\n"
+    "            enciphered and then authenticated; here by bursts of 32 with -bursts behind the name, or with -session in a key\n"
+    "            session\n"
     "--flush     after how many single calls all jobs that wait are flushed: 256\n"
     "--threads   how many threads run at once, each with a manager of its own: 1\n"
     "--passes    how often the 256 jobs of a row are done, of which the fastest time counts: 40\n"
@@ -31,7 +32,7 @@ void give_up(const char *why) {
 
 const struct keys keys = {{1, 2, 3, 4, 5, 6, 7, 8, 9, 10, 11, 12, 13, 14, 15, 16}, {1, 2, 3, 5, 7, 11, 13, 17, 19, 23}, {1}, {2}};
 
-static const char *const ciphers[] = {"", "cbc", "ctr", "gcm", "ccm"};
+static const char *const ciphers[] = {"", "cbc", "ctr", "gcm", "ccm", "cbc-dec"};
 
 static const char *const auths[] = {"",
                                     "hmac-sha1",
@@ -67,7 +68,7 @@ size_t tag_len(const struct work *work) {
 
 /* CCM has 11 bytes, as in ESP (RFC 4309, section 4). */
 size_t iv_len(const struct work *work) {
-    static const size_t lens[] = {0, 16, 12, 12, 11};
+    static const size_t lens[] = {0, 16, 12, 12, 11, 16};
     return work->auth == GMAC ? 12 : lens[work->cipher];
 }
 
@@ -158,7 +159,7 @@ static void read_settings(struct settings *s, int argc, char **argv) {
                                             {"flush", 1, NULL, 'f'},  {"threads", 1, NULL, 't'}, {"passes", 1, NULL, 'p'},
                                             {"keeping", 0, NULL, 'k'}, {NULL, 0, NULL, 0}};
     static char sizes[] = "64,256,1500", jobs[] = "null,null-bursts,hmac-sha1,hmac-sha1-states,hmac-sha256,hmac-sha256-states,hmac-sha512,"
-                                                  "hmac-sha512-states,sha256,cbc,cbc-session,ctr,gcm,gcm-session,ccm,cmac,gmac,cbc+hmac-sha256";
+                                                  "hmac-sha512-states,sha256,cbc,cbc-session,cbc-dec,ctr,gcm,gcm-session,ccm,cmac,gmac,cbc+hmac-sha256";
     memset(s, 0, sizeof *s);
     s->threads = 1;
     s->flush_after = BATCH;

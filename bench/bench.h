@@ -8,7 +8,8 @@
 
 enum { BATCH = 256, MAX_LEN = 65535, TAG_ROOM = 64 };
 
-enum cipher { NO_CIPHER, CBC, CTR, GCM, CCM };
+/* All encrypt but CBC_DEC. */
+enum cipher { NO_CIPHER, CBC, CTR, GCM, CCM, CBC_DEC };
 
 /* Those with STATES are HMACs from stored states. The last two are the tags of GCM and CCM, which go with these ciphers. */
 enum auth {

@@ -2,7 +2,7 @@
 #include "bench.h"
 #include "mbj.h"
 
-static const uint32_t ciphers[] = {MBJ_CIPHER_NULL, MBJ_CIPHER_CBC, MBJ_CIPHER_CNTR, MBJ_CIPHER_GCM, MBJ_CIPHER_CCM};
+static const uint32_t ciphers[] = {MBJ_CIPHER_NULL, MBJ_CIPHER_CBC, MBJ_CIPHER_CNTR, MBJ_CIPHER_GCM, MBJ_CIPHER_CCM, MBJ_CIPHER_CBC};
 
 static const uint32_t auths[] = {MBJ_AUTH_NULL,
                                  MBJ_AUTH_HMAC_SHA_1,
@@ -91,6 +91,7 @@ static void fill(MBJ_JOB *job, const struct started *s, const struct work *work,
     if (work->in_session)
         job->session = 0;
     if (work->cipher != NO_CIPHER) {
+        job->cipher_direction = work->cipher == CBC_DEC ? MBJ_DIR_DECRYPT : MBJ_DIR_ENCRYPT;
         job->key = keys.aes;
         job->key_len_in_bytes = sizeof keys.aes;
         job->msg_len_to_cipher_in_bytes = batch->lens[i];

@@ -16,7 +16,7 @@ const struct library *theirs(size_t *count) {
 #include <stdlib.h>
 #include <string.h>
 
-static const IMB_CIPHER_MODE ciphers[] = {IMB_CIPHER_NULL, IMB_CIPHER_CBC, IMB_CIPHER_CNTR, IMB_CIPHER_GCM, IMB_CIPHER_CCM};
+static const IMB_CIPHER_MODE ciphers[] = {IMB_CIPHER_NULL, IMB_CIPHER_CBC, IMB_CIPHER_CNTR, IMB_CIPHER_GCM, IMB_CIPHER_CCM, IMB_CIPHER_CBC};
 
 static const IMB_HASH_ALG auths[] = {IMB_AUTH_NULL,         IMB_AUTH_HMAC_SHA_1,   IMB_AUTH_HMAC_SHA_224, IMB_AUTH_HMAC_SHA_256,
                                      IMB_AUTH_HMAC_SHA_384, IMB_AUTH_HMAC_SHA_512, IMB_AUTH_AES_CMAC,     IMB_AUTH_AES_GMAC_128,
@@ -139,7 +139,7 @@ static void fill(IMB_JOB *job, const struct started *s, const struct work *work,
     job->dst = batch->packets[i];
     job->cipher_mode = ciphers[work->cipher];
     job->hash_alg = auths[work->auth];
-    job->cipher_direction = IMB_DIR_ENCRYPT;
+    job->cipher_direction = work->cipher == CBC_DEC ? IMB_DIR_DECRYPT : IMB_DIR_ENCRYPT;
     job->chain_order = work->cipher == CCM ? IMB_ORDER_HASH_CIPHER : IMB_ORDER_CIPHER_HASH; /* CCM's tag is over the text in clear */
     job->cipher_start_src_offset_in_bytes = 0;
     job->hash_start_src_offset_in_bytes = 0;

@@ -12,7 +12,7 @@ enum { BLOCK = 16 };
 
 /* CBC takes whole blocks, and one at least. */
 static size_t length_for(const struct work *work, size_t len) {
-    if (work->cipher != CBC)
+    if (work->cipher != CBC && work->cipher != CBC_DEC)
         return len;
     return len < BLOCK ? BLOCK : len / BLOCK * BLOCK;
 }
