@@ -218,7 +218,7 @@ static void compare_wrong_calls(void) {
     EACH(gmac128_init, 1, 3, NOT(1, &gcm_key), NOT(2, &gcm_context), NOT(3, bytes[0]), 12)
 }
 
-/* No pointer of the table is NULL, and what isn't here says so. */
+/* No pointer of the table is NULL: absent.c has what isn't here. */
 static void check_table(void) {
     IMB_MGR *m = libraries[1].m;
     void *const *functions = (void *const *)(const void *)&m->get_next_job;
@@ -227,11 +227,6 @@ static void check_table(void) {
             printf("function %zu of the table is NULL\n", i);
             differing++;
         }
-    m->md5_one_block(bytes[0], bytes[1]);
-    if (libraries[1].error(NULL) != ENOTSUP || m->hec_32(bytes[0]) != 0 || m->des_key_sched((uint64_t *)(void *)bytes[0], bytes[1]) != -1) {
-        printf("a call that isn't here doesn't say so\n");
-        differing++;
-    }
 }
 
 int main(int argc, char **argv) {
