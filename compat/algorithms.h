@@ -82,12 +82,14 @@ static inline const uint8_t *hash_start(const IMB_JOB *job) {
     return (const uint8_t *)((uintptr_t)job->src + job->hash_start_src_offset_in_bytes);
 }
 
+/* Of codes that are none, intel-ipsec-mb 1.3 takes a direction for the one to decipher, where nothing has checked it, and an order for the
+ * one with the hash first. */
 static inline bool is_encryption(const IMB_JOB *job) {
     return job->cipher_direction == IMB_DIR_ENCRYPT;
 }
 
 static inline bool is_hash_first(const IMB_JOB *job) {
-    return job->chain_order == IMB_ORDER_HASH_CIPHER;
+    return job->chain_order != IMB_ORDER_CIPHER_HASH;
 }
 
 /* What enc_keys or dec_keys has, whichever the cipher uses. */

@@ -167,23 +167,33 @@ static uint32_t cipher_burst(IMB_MGR *m, IMB_JOB *jobs, uint32_t n, const struct
     return do_burst(m, jobs, n, told, is_checked);
 }
 
+/* What a burst's direction is taken for, checked or not: CTR has one, and CBC deciphers by each code but the one to encipher. */
+static IMB_CIPHER_DIRECTION dir_as_taken(IMB_CIPHER_MODE cipher, IMB_CIPHER_DIRECTION dir) {
+    return cipher == IMB_CIPHER_CNTR || dir == IMB_DIR_ENCRYPT ? IMB_DIR_ENCRYPT : IMB_DIR_DECRYPT;
+}
+
 static uint32_t submit_cipher_burst(IMB_MGR *m, IMB_JOB *jobs, const uint32_t n, const IMB_CIPHER_MODE cipher,
                                     const IMB_CIPHER_DIRECTION dir, const IMB_KEY_SIZE_BYTES key_len) {
-    struct told told = {cipher, dir, key_len, IMB_AUTH_NULL, IMB_ORDER_CIPHER_HASH};
+    struct told told = {cipher, dir_as_taken(cipher, dir), key_len, IMB_AUTH_NULL, IMB_ORDER_CIPHER_HASH};
     return cipher_burst(m, jobs, n, &told, true);
 }
 
 static uint32_t submit_unchecked_cipher_burst(IMB_MGR *m, IMB_JOB *jobs, const uint32_t n, const IMB_CIPHER_MODE cipher,
                                               const IMB_CIPHER_DIRECTION dir, const IMB_KEY_SIZE_BYTES key_len) {
-    struct told told = {cipher, dir, key_len, IMB_AUTH_NULL, IMB_ORDER_CIPHER_HASH};
+    struct told told = {cipher, dir_as_taken(cipher, dir), key_len, IMB_AUTH_NULL, IMB_ORDER_CIPHER_HASH};
     return cipher_burst(m, jobs, n, &told, false);
 }
 
+/* Without an array intel-ipsec-mb 1.3 sets the error of the process alone. */
 static uint32_t hash_burst(IMB_MGR *m, IMB_JOB *jobs, uint32_t n, IMB_HASH_ALG hash, bool is_checked) {
     struct told told = {IMB_CIPHER_NULL, IMB_DIR_ENCRYPT, IMB_KEY_128_BYTES, hash, IMB_ORDER_HASH_CIPHER};
     if (dropin_of(m) == NULL)
         return 0;
-    if (jobs != NULL && (hash < IMB_AUTH_HMAC_SHA_1 || hash > IMB_AUTH_HMAC_SHA_512)) {
+    if (jobs == NULL) {
+        set_error(NULL, IMB_ERR_NULL_JOB);
+        return 0;
+    }
+    if (hash < IMB_AUTH_HMAC_SHA_1 || hash > IMB_AUTH_HMAC_SHA_512) {
         set_error(m, IMB_ERR_HASH_ALGO);
         return 0;
     }

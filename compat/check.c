@@ -8,8 +8,8 @@
 
 /* ---- ciphers ---- */
 
-static bool is_key_length(const struct cipher *cipher, uint64_t len, bool is_checked) {
-    return len == 16 || len == 32 || (len == 24 && !(cipher->kind == CIPHER_CCM && is_checked));
+static bool is_key_length(const struct cipher *cipher, uint64_t len) {
+    return len == 16 || len == 32 || (len == 24 && cipher->kind != CIPHER_CCM);
 }
 
 static bool is_iv_length(const struct cipher *cipher, uint64_t len) {
@@ -43,11 +43,15 @@ static int check_places(const struct cipher *cipher, const IMB_JOB *job) {
     return cipher_keys(cipher, job) == NULL ? IMB_ERR_JOB_NULL_KEY : 0;
 }
 
+static bool is_direction(const IMB_JOB *job) {
+    return job->cipher_direction == IMB_DIR_ENCRYPT || job->cipher_direction == IMB_DIR_DECRYPT;
+}
+
 static int check_cipher(const IMB_JOB *job, bool is_checked) {
     const struct cipher *cipher = cipher_of(job);
     if (cipher->kind == CIPHER_NONE)
         return 0;
-    if (!is_encryption(job) && job->cipher_direction != IMB_DIR_DECRYPT)
+    if ((is_checked || cipher->kind == CIPHER_CCM) && !is_direction(job))
         return IMB_ERR_JOB_CIPH_DIR;
     if (cipher->kind == CIPHER_ABSENT)
         return IMB_ERR_CIPH_MODE;
@@ -56,7 +60,7 @@ static int check_cipher(const IMB_JOB *job, bool is_checked) {
     int error = check_places(cipher, job);
     if (error != 0)
         return error;
-    if (!is_key_length(cipher, job->key_len_in_bytes, is_checked))
+    if (!is_key_length(cipher, job->key_len_in_bytes))
         return IMB_ERR_JOB_KEY_LEN;
     if (!is_iv_length(cipher, job->iv_len_in_bytes))
         return IMB_ERR_JOB_IV_LEN;
@@ -115,11 +119,11 @@ static int check_gcm(const IMB_JOB *job) {
     return has_aad && job->u.GCM.aad == NULL && job->u.GCM.aad_len_in_bytes != 0 ? IMB_ERR_JOB_NULL_AAD : 0;
 }
 
-static int check_ccm(const IMB_JOB *job, bool is_checked) {
+static int check_ccm(const IMB_JOB *job) {
     uint64_t aad_len = job->u.CCM.aad_len_in_bytes;
     if (job->msg_len_to_hash_in_bytes > MOST_LANE_BYTES)
         return IMB_ERR_JOB_AUTH_LEN;
-    if (aad_len > MOST_CCM_AAD_BYTES && is_checked)
+    if (aad_len > MOST_CCM_AAD_BYTES)
         return IMB_ERR_JOB_AAD_LEN;
     if (aad_len != 0 && job->u.CCM.aad == NULL)
         return IMB_ERR_JOB_NULL_AAD;
@@ -137,7 +141,7 @@ static int check_own(const struct hash *hash, const IMB_JOB *job, bool is_checke
     case HASH_CMAC: return check_cmac(job);
     case HASH_GMAC: return check_gmac(job);
     case HASH_OF_GCM: return check_gcm(job);
-    default: return check_ccm(job, is_checked);
+    default: return check_ccm(job);
     }
 }
 

@@ -5,6 +5,7 @@
 #include "check.h"
 #include "errors.h"
 #include "say.h"
+#include "unchecked.h"
 
 #include <string.h>
 
@@ -150,9 +151,11 @@ static void hand_over(IMB_MGR *m, struct dropin *d, struct queue *queue, const I
         take(queue, &done);
 }
 
-static void start(IMB_MGR *m, struct dropin *d, struct queue *queue, const IMB_JOB *job, bool is_checked) {
+static void start(IMB_MGR *m, struct dropin *d, struct queue *queue, const IMB_JOB *given, bool is_checked) {
     struct slot *slot = slot_at(queue, queue->next);
     struct said said;
+    IMB_JOB copy;
+    const IMB_JOB *job = is_checked ? given : job_as_taken(given, &copy);
     int error = check_job(job, is_checked);
     if (error != 0) {
         set_error(m, error);
