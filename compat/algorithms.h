@@ -92,6 +92,11 @@ static inline bool is_hash_first(const IMB_JOB *job) {
     return job->chain_order != IMB_ORDER_CIPHER_HASH;
 }
 
+/* Whether a job in parts does a whole text, by a list of segments: intel-ipsec-mb 1.3 takes each state for that but the three of parts. */
+static inline bool has_segments(const IMB_JOB *job) {
+    return job->sgl_state != IMB_SGL_INIT && job->sgl_state != IMB_SGL_UPDATE && job->sgl_state != IMB_SGL_COMPLETE;
+}
+
 /* What enc_keys or dec_keys has, whichever the cipher uses. */
 static inline const void *cipher_keys(const struct cipher *cipher, const IMB_JOB *job) {
     return is_encryption(job) || cipher->uses_encryption ? job->enc_keys : job->dec_keys;

@@ -108,15 +108,42 @@ static int check_gmac(const IMB_JOB *job) {
     return job->u.GMAC.iv_len_in_bytes == 0 ? IMB_ERR_JOB_IV_LEN : 0;
 }
 
+/* A segment has what a direct call of it would need. */
+static int check_segment(const struct IMB_SGL_IOV *segment) {
+    if (segment->len != 0 && segment->out == NULL)
+        return IMB_ERR_JOB_NULL_DST;
+    if (segment->len != 0 && segment->in == NULL)
+        return IMB_ERR_JOB_NULL_SRC;
+    return segment->len > MOST_GCM_BYTES ? IMB_ERR_JOB_CIPH_LEN : 0;
+}
+
+/* All segments are looked at before the first one is done: a list is refused as a whole. */
+static int check_segments(const IMB_JOB *job) {
+    uint64_t left = MOST_GCM_BYTES;
+    if (job->sgl_io_segs == NULL && job->num_sgl_io_segs != 0)
+        return IMB_ERR_JOB_NULL_SRC;
+    for (uint64_t i = 0; i < job->num_sgl_io_segs; i++) {
+        int error = check_segment(&job->sgl_io_segs[i]);
+        if (error != 0)
+            return error;
+        if (job->sgl_io_segs[i].len > left)
+            return IMB_ERR_JOB_CIPH_LEN;
+        left -= job->sgl_io_segs[i].len;
+    }
+    return 0;
+}
+
 /* The first job of a text in parts has its additional data, and the last one its tag. */
 static int check_gcm(const IMB_JOB *job) {
     bool is_in_parts = cipher_of(job)->is_in_parts;
-    bool has_aad = !is_in_parts || job->sgl_state == IMB_SGL_INIT || job->sgl_state == IMB_SGL_ALL;
+    bool has_aad = !is_in_parts || job->sgl_state == IMB_SGL_INIT || has_segments(job);
     if ((unsigned)job->hash_alg != cipher_of(job)->partner)
         return IMB_ERR_CIPH_MODE;
     if (is_in_parts && job->u.GCM.ctx == NULL)
         return IMB_ERR_JOB_NULL_SGL_CTX;
-    return has_aad && job->u.GCM.aad == NULL && job->u.GCM.aad_len_in_bytes != 0 ? IMB_ERR_JOB_NULL_AAD : 0;
+    if (has_aad && job->u.GCM.aad == NULL && job->u.GCM.aad_len_in_bytes != 0)
+        return IMB_ERR_JOB_NULL_AAD;
+    return is_in_parts && has_segments(job) ? check_segments(job) : 0;
 }
 
 static int check_ccm(const IMB_JOB *job) {
@@ -154,7 +181,7 @@ static bool reads_source(const struct hash *hash, const IMB_JOB *job) {
 
 static bool has_tag(const struct hash *hash, const IMB_JOB *job) {
     bool is_in_parts = hash->kind == HASH_OF_GCM && cipher_of(job)->is_in_parts;
-    return !is_in_parts || job->sgl_state == IMB_SGL_COMPLETE || job->sgl_state == IMB_SGL_ALL;
+    return !is_in_parts || job->sgl_state == IMB_SGL_COMPLETE || has_segments(job);
 }
 
 static int check_hash(const IMB_JOB *job, bool is_checked) {

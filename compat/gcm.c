@@ -78,10 +78,14 @@ struct parts {
 _Static_assert(sizeof(struct parts) == sizeof(struct mbj_gcm_state), "mbj.h says where the key stands in a state");
 _Static_assert(sizeof(struct parts) - LONGEST_KEY == sizeof(struct gcm_context_data), "a context has room for a state without its key");
 
-static void load(struct parts *parts, const struct gcm_context_data *context, const struct gcm_key_data *key, size_t key_len) {
+/* False where the context is none of a key of this length: then no key is copied. */
+static bool load(struct parts *parts, const struct gcm_context_data *context, const struct gcm_key_data *key, size_t key_len) {
+    memcpy(&parts->key_len, context, sizeof *context);
+    if (parts->key_len != key_len)
+        return false;
     memset(parts->key, 0, sizeof parts->key);
     memcpy(parts->key, key->expanded_keys, key_len);
-    memcpy(&parts->key_len, context, sizeof *context);
+    return true;
 }
 
 static void store(struct gcm_context_data *context, struct parts *parts) {
@@ -104,20 +108,21 @@ uint32_t gcm_begin(struct gcm_context_data *context, const struct gcm_key_data *
     return MBJ_ERR_NONE;
 }
 
-/* What is given a state that is none, or of a key of another length, does nothing. The direction is that of the call: a context is begun
- * without one. */
+/* What is given a state that is none, or of a key of another length, is refused. The direction is that of the call: a context is begun
+ * without one. A text that was moved isn't left where it was to be changed. */
 uint32_t gcm_part(struct gcm_context_data *context, const struct gcm_key_data *key, size_t key_len, uint32_t dir, uint8_t *out,
                   const uint8_t *in, uint64_t len) {
     COMPAT_ALIGNED_FRAME struct mbj_gcm_state state;
     struct parts parts;
-    load(&parts, context, key, key_len);
-    if (parts.key_len != key_len)
+    if (!load(&parts, context, key, key_len))
         return MBJ_ERR_NO_STATE;
     parts.dir = dir;
     memcpy(&state, &parts, sizeof state);
     if (out != in && len != 0)
         memmove(out, in, len);
     uint32_t refusal = proved.mbj_gcm_update(&state, room_at(out, len));
+    if (refusal != MBJ_ERR_NONE && out != in && len != 0)
+        memset(out, 0, len);
     memcpy(&parts, &state, sizeof parts);
     store(context, &parts);
     wipe(&state, sizeof state);
@@ -128,9 +133,8 @@ uint32_t gcm_end(struct gcm_context_data *context, const struct gcm_key_data *ke
     COMPAT_ALIGNED_FRAME struct mbj_gcm_state state;
     struct parts parts;
     uint8_t whole[IMB_MAX_TAG_LEN];
-    load(&parts, context, key, key_len);
-    if (parts.key_len != key_len || tag_len > sizeof whole)
-        return parts.key_len != key_len ? MBJ_ERR_NO_STATE : MBJ_ERR_TAG_LENGTH;
+    if (tag_len > sizeof whole || !load(&parts, context, key, key_len))
+        return tag_len > sizeof whole ? MBJ_ERR_TAG_LENGTH : MBJ_ERR_NO_STATE;
     memcpy(&state, &parts, sizeof state);
     wipe(&parts, sizeof parts);
     uint32_t refusal = proved.mbj_gcm_finish(&state, room_at(whole, tag_len));
@@ -158,13 +162,13 @@ uint32_t gcm_job_in_parts(const struct gcm_key_data *key, const IMB_JOB *job) {
     struct mbj_bytes iv = bytes_at(job->iv, job->iv_len_in_bytes), aad = bytes_at(job->u.GCM.aad, job->u.GCM.aad_len_in_bytes);
     uint32_t dir = is_encryption(job) ? MBJ_DIR_ENCRYPT : MBJ_DIR_DECRYPT, refusal = MBJ_ERR_NONE;
     size_t key_len = job->key_len_in_bytes;
-    if (job->sgl_state == IMB_SGL_INIT || job->sgl_state == IMB_SGL_ALL)
+    if (job->sgl_state == IMB_SGL_INIT || has_segments(job))
         refusal = gcm_begin(context, key, key_len, iv, aad);
     if (job->sgl_state == IMB_SGL_UPDATE)
         refusal = gcm_part(context, key, key_len, dir, job->dst, job->src, job->msg_len_to_cipher_in_bytes);
-    if (job->sgl_state == IMB_SGL_ALL && refusal == MBJ_ERR_NONE)
+    if (has_segments(job) && refusal == MBJ_ERR_NONE)
         refusal = do_segments(key, job, dir);
-    if ((job->sgl_state == IMB_SGL_COMPLETE || job->sgl_state == IMB_SGL_ALL) && refusal == MBJ_ERR_NONE)
+    if ((job->sgl_state == IMB_SGL_COMPLETE || has_segments(job)) && refusal == MBJ_ERR_NONE)
         refusal = gcm_end(context, key, key_len, job->auth_tag_output, job->auth_tag_output_len_in_bytes);
     return refusal;
 }

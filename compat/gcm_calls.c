@@ -7,6 +7,9 @@
 
 /* ---- what each call does, for a key of so many bytes ---- */
 
+/* The calls return nothing. So a text that is refused by the proved code, as with a context that wasn't begun, isn't left as it was, but
+ * filled with zeros. */
+
 static int error_of_text(const void *out, const void *in, uint64_t len) {
     if (len != 0 && out == NULL)
         return IMB_ERR_NULL_DST;
@@ -56,7 +59,8 @@ static void whole(uint32_t dir, size_t key_len, const struct gcm_key_data *key, 
         return;
     struct mbj_bytes key_bytes = bytes_at(key->expanded_keys, key_len), iv_bytes = bytes_at(iv, IMB_GCM_IV_DATA_LEN);
     struct gcm_text text = {dir, key_bytes, iv_bytes, bytes_at(aad, aad_len), out, in, len, tag, tag_len};
-    direct_error(error_of_refusal(gcm_whole(&text)));
+    if (!direct_error(error_of_refusal(gcm_whole(&text))) && len != 0)
+        memset(out, 0, len);
 }
 
 static void begin(size_t key_len, const struct gcm_key_data *key, struct gcm_context_data *context, const uint8_t *iv, uint64_t iv_len,
@@ -67,8 +71,10 @@ static void begin(size_t key_len, const struct gcm_key_data *key, struct gcm_con
 
 static void part(uint32_t dir, size_t key_len, const struct gcm_key_data *key, struct gcm_context_data *context, uint8_t *out,
                  const uint8_t *in, uint64_t len) {
-    if (direct_error(first_error(error_of_context(key, context), error_of_text(out, in, len), 0, 0)))
-        direct_error(error_of_refusal(gcm_part(context, key, key_len, dir, out, in, len)));
+    if (!direct_error(first_error(error_of_context(key, context), error_of_text(out, in, len), 0, 0)))
+        return;
+    if (!direct_error(error_of_refusal(gcm_part(context, key, key_len, dir, out, in, len))) && len != 0)
+        memset(out, 0, len);
 }
 
 static void finish(size_t key_len, const struct gcm_key_data *key, struct gcm_context_data *context, uint8_t *tag, uint64_t tag_len) {

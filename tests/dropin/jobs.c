@@ -188,9 +188,10 @@ int main(int argc, char **argv) {
         if (differing != 0)
             printf("seed %lu\n", seed + round);
     }
-    printf("%u jobs, %u differ; faulty %u, longer than a packet %u, out of place %u, near the counter's end %u, ciphered tags %u, ", drawn.jobs,
-           differing, drawn.faulty, drawn.long_ones, drawn.elsewhere, drawn.wrapping, drawn.ciphered_tags);
-    printf("unchecked with an odd field %u, of which refused %u\n", odd_ones, refused_ones);
+    printf("%u jobs, %u differ; faulty %u, longer than a packet %u, out of place %u, near the counter's end %u, ciphered tags %u, "
+           "unchecked with an odd field %u, of which refused %u\n",
+           drawn.jobs, differing, drawn.faulty, drawn.long_ones, drawn.elsewhere, drawn.wrapping, drawn.ciphered_tags, odd_ones,
+           refused_ones);
     for (int side = 0; side < 2; side++)
         sides[side]->library.release(sides[side]->library.m);
     return differing != 0;
