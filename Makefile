@@ -108,17 +108,25 @@ mbjobs: $(program)
 
 # ---- the libraries ----
 
-compile = $(CC) -std=c11 -Wall -Wextra $(CPPFLAGS) $(CFLAGS) -march=x86-64 -fPIC -ffile-prefix-map=$(CURDIR)=. -c -o $@ $<
+# A word for the shell, whatever characters it has; and for a string of C within that.
+quoted = '$(subst ','\'',$(1))'
+in-string = $(subst ",\",$(subst \,\\,$(1)))
+
+# The objects are renamed and joined by binutils, which reads no code that is left to the linker to make.
+plain = $(CFLAGS) -fno-lto
+here = $(call quoted,-ffile-prefix-map=$(CURDIR)=.)
+
+compile = $(CC) -std=c11 -Wall -Wextra $(CPPFLAGS) $(plain) -march=x86-64 -fPIC $(here) -c -o $@ $<
 
 # What was last built with. Where that changes, what depends on it is built anew.
 settings = $(TOOLCHAIN) $(CC) $(CPPFLAGS) $(CFLAGS) $(LDFLAGS) $(cpus)
 
 $(BUILD)/settings: FORCE
-	@mkdir -p $(@D) && printf '%s\n' '$(subst ','\'',$(settings))' > $@.now && { cmp -s $@.now $@ || cp $@.now $@; }
+	@mkdir -p $(@D) && printf '%s\n' $(call quoted,$(settings)) > $@.now && { cmp -s $@.now $@ || cp $@.now $@; }
 
 $(BUILD)/%/mbj_processor.o: include/mbj_processor.c include/mbj.h $(BUILD)/settings
 	@mkdir -p $(@D)
-	$(compile) -DMBJ_LEVEL=$(*:x86-64-v%=%) '-DMBJ_TOOLCHAIN="$(TOOLCHAIN)"'
+	$(compile) -DMBJ_LEVEL=$(*:x86-64-v%=%) $(call quoted,-DMBJ_TOOLCHAIN="$(call in-string,$(TOOLCHAIN))")
 
 $(BUILD)/mbj_heap.o: include/mbj_heap.c include/mbj_heap.h $(BUILD)/settings
 	@mkdir -p $(@D)
@@ -132,7 +140,7 @@ $(BUILD)/exports.map: include/mbj.h
 	@printf '%s\n' 'MBJ_$(major) {' 'global:' $(exports:%='    %;') 'local:' '    *;' '};' > $@
 
 $(BUILD)/%/$(shared): $(BUILD)/%/$(static) $(BUILD)/exports.map $(BUILD)/settings
-	$(CC) $(CFLAGS) $(LDFLAGS) -shared -Wl,-soname,$(shared) -Wl,--version-script=$(BUILD)/exports.map -Wl,--no-undefined-version \
+	$(CC) $(plain) $(LDFLAGS) -shared -Wl,-soname,$(shared) -Wl,--version-script=$(BUILD)/exports.map -Wl,--no-undefined-version \
 	    -Wl,-z,text -Wl,-z,defs -o $@ -Wl,--whole-archive $< -Wl,--no-whole-archive
 
 # ---- in place of Intel's library ----
@@ -145,10 +153,10 @@ dropin-objects := $(patsubst %.c,$(BUILD)/dropin/%.o,$(notdir $(dropin-sources))
 dropin-builds := $(foreach cpu,$(cpus),$(BUILD)/$(cpu)/renamed.o)
 
 # The manager names its pool in each thread, so that name is at a fixed place.
-compile-dropin = $(CC) -std=c11 -D_DEFAULT_SOURCE -Wall -Wextra $(CPPFLAGS) $(CFLAGS) -march=x86-64 -fPIC -fvisibility=hidden \
-    -ftls-model=initial-exec -Iinclude -Icompat -ffile-prefix-map=$(CURDIR)=. $(cpus:x86-64-v%=-DCOMPAT_HAS_V%) -c -o $@ $<
+compile-dropin = $(CC) -std=c11 -D_DEFAULT_SOURCE -Wall -Wextra $(CPPFLAGS) $(plain) -march=x86-64 -fPIC -fvisibility=hidden \
+    -ftls-model=initial-exec -Iinclude -Icompat $(here) $(cpus:x86-64-v%=-DCOMPAT_HAS_V%) -c -o $@ $<
 
-$(BUILD)/dropin/%.o: compat/%.c $(wildcard compat/*.h) include/mbj.h $(BUILD)/settings
+$(BUILD)/dropin/%.o: compat/%.c $(wildcard compat/*.h) include/mbj.h include/mbj_selftest.h $(BUILD)/settings
 	@mkdir -p $(@D)
 	$(compile-dropin)
 
@@ -156,28 +164,35 @@ $(BUILD)/dropin/mbj_heap_pool.o: include/mbj_heap_pool.c include/mbj_heap_pool.h
 	@mkdir -p $(@D)
 	$(compile-dropin)
 
+# Not among the objects of the drop-in: each build has its own.
+$(BUILD)/mbj_selftest.o: include/mbj_selftest.c include/mbj_selftest.h include/mbj.h $(BUILD)/settings
+	@mkdir -p $(@D)
+	$(compile)
+
 # A build whose exports end in its level, and whose other names are local, so that a library may hold both.
-$(BUILD)/%/renamed.o: $(BUILD)/%/proved.a $(BUILD)/%/mbj_processor.o packaging/renamed include/mbj.h
-	AR='$(AR)' packaging/renamed _$(*:x86-64-%=%) $@ $(BUILD)/$*/proved.a $(BUILD)/$*/mbj_processor.o $(exports)
+$(BUILD)/%/renamed.o: $(BUILD)/%/proved.a $(BUILD)/%/mbj_processor.o $(BUILD)/mbj_selftest.o packaging/renamed include/mbj.h
+	AR='$(AR)' packaging/renamed _$(*:x86-64-%=%) $@ $(BUILD)/$*/proved.a $(BUILD)/$*/mbj_processor.o $(BUILD)/mbj_selftest.o \
+	    $(exports) mbj_selftest
 
 dropin: $(dropin)
 
 $(dropin): $(dropin-objects) $(dropin-builds) packaging/dropin.map
-	$(CC) $(CFLAGS) $(LDFLAGS) -shared -Wl,-soname,libIPSec_MB.so.1 -Wl,--version-script=packaging/dropin.map -Wl,-z,text -Wl,-z,defs \
+	$(CC) $(plain) $(LDFLAGS) -shared -Wl,-soname,libIPSec_MB.so.1 -Wl,--version-script=packaging/dropin.map -Wl,-z,text -Wl,-z,defs \
 	    -o $@ $(filter %.o,$^)
 
 install-dropin:
 	@[ -f $(dropin) ] || { echo 'nothing is built: run make dropin first' >&2; exit 1; }
-	$(INSTALL) -D -m 755 -t '$(DESTDIR)$(DROPINDIR)' $(dropin)
+	$(INSTALL) -D -m 755 -t $(call quoted,$(DESTDIR)$(DROPINDIR)) $(dropin)
 
 # ---- tests ----
 
 # The examples' texts are compared with those of mbjobs. Without that program known answers alone are compared.
 check: all $(program)
-	BUILD='$(abspath $(BUILD))' MBJOBS='$(abspath $(program))' CPU=$(CPU) CC='$(CC)' tests/c/$(if $(program),run,known)
+	BUILD=$(call quoted,$(abspath $(BUILD))) MBJOBS=$(call quoted,$(abspath $(program))) CPU=$(CPU) CC='$(CC)' \
+	    tests/c/$(if $(program),run,known)
 
 check-dropin: all $(dropin)
-	BUILD='$(abspath $(BUILD))' CPU=$(CPU) CC='$(CC)' tests/c/dropin
+	BUILD=$(call quoted,$(abspath $(BUILD))) CPU=$(CPU) CC='$(CC)' tests/c/dropin
 
 # ---- installing ----
 
@@ -202,25 +217,26 @@ $(call $(1),644,$(documents),$(DOCDIR))
 $(call $(1),644,$(examples),$(DOCDIR)/examples)
 endef
 
-put = $(if $(wildcard $(2)),$(INSTALL) -D -m $(1) -t '$(DESTDIR)$(3)' $(wildcard $(2)))
-drop = rm -f $(patsubst %,'$(DESTDIR)$(3)/%',$(notdir $(2)))
+put = $(if $(wildcard $(2)),$(INSTALL) -D -m $(1) -t $(call quoted,$(DESTDIR)$(3)) $(wildcard $(2)))
+drop = rm -f $(foreach file,$(notdir $(2)),$(call quoted,$(DESTDIR)$(3)/$(file)))
 
-fill = sed -e 's|@PREFIX@|$(PREFIX)|; s|@LIBDIR@|$(LIBDIR:$(PREFIX)/%=$${prefix}/%)|' \
-    -e 's|@INCLUDEDIR@|$(INCLUDEDIR:$(PREFIX)/%=$${prefix}/%)|; s|@VERSION@|$(version)|; s|@MAJOR@|$(major)|' \
-    -e "s|@TO_INCLUDEDIR@|$$(realpath -ms --relative-to='$(CMAKEDIR)' '$(INCLUDEDIR)')|"
+fill = sed -e $(call quoted,s|@PREFIX@|$(PREFIX)|; s|@LIBDIR@|$(LIBDIR:$(PREFIX)/%=$${prefix}/%)|) \
+    -e $(call quoted,s|@INCLUDEDIR@|$(INCLUDEDIR:$(PREFIX)/%=$${prefix}/%)|; s|@VERSION@|$(version)|; s|@MAJOR@|$(major)|) \
+    -e "s|@TO_INCLUDEDIR@|$$(realpath -ms --relative-to=$(call quoted,$(CMAKEDIR)) $(call quoted,$(INCLUDEDIR)))|"
 
 install:
 	@[ -f $(main)/$(shared) ] || { echo 'nothing is built for $(CPU): run make first' >&2; exit 1; }
-	rm -f '$(DESTDIR)$(HWCAPSDIR)/$(shared)'
+	rm -f $(call quoted,$(DESTDIR)$(HWCAPSDIR)/$(shared))
 	$(call files,put)
-	$(if $(wildcard $(program)),$(INSTALL) -D -m 755 $(program) '$(DESTDIR)$(BINDIR)/mbjobs')
-	ln -sf $(shared) '$(DESTDIR)$(LIBDIR)/libmbj_c.so'
-	@$(foreach file,$(described),$(INSTALL) -d '$(DESTDIR)$(dir $(file))' && $(fill) packaging/$(notdir $(file)).in > '$(DESTDIR)$(file)' && ):
+	$(if $(wildcard $(program)),$(INSTALL) -D -m 755 $(program) $(call quoted,$(DESTDIR)$(BINDIR)/mbjobs))
+	ln -sf $(shared) $(call quoted,$(DESTDIR)$(LIBDIR)/libmbj_c.so)
+	@$(foreach file,$(described),$(INSTALL) -d $(call quoted,$(DESTDIR)$(dir $(file))) && \
+	    $(fill) packaging/$(notdir $(file)).in > $(call quoted,$(DESTDIR)$(file)) && ):
 
 uninstall:
 	$(call files,drop)
-	rm -f '$(DESTDIR)$(BINDIR)/mbjobs' '$(DESTDIR)$(LIBDIR)/libmbj_c.so' $(described:%='$(DESTDIR)%')
-	rmdir $(patsubst %,'$(DESTDIR)%',$(DOCDIR)/examples $(DOCDIR) $(CMAKEDIR) $(HWCAPSDIR)) 2>/dev/null || true
+	rm -f $(foreach file,$(BINDIR)/mbjobs $(LIBDIR)/libmbj_c.so $(described),$(call quoted,$(DESTDIR)$(file)))
+	rmdir $(foreach folder,$(DOCDIR)/examples $(DOCDIR) $(CMAKEDIR) $(HWCAPSDIR),$(call quoted,$(DESTDIR)$(folder))) 2>/dev/null || true
 
 # ---- the rest ----
 

@@ -33,7 +33,7 @@ static uint32_t refuse(void) {
 
 #define REFUSE(name) proved.name = (__typeof__(proved.name))(void (*)(void))refuse;
 
-__attribute__((constructor)) static void choose(void) {
+__attribute__((constructor(COMPAT_FIRST))) static void choose(void) {
     for (size_t i = 0; i < sizeof builds / sizeof *builds; i++)
         if (builds[i].mbj_c_missing_feature() == NULL) {
             proved = builds[i];

@@ -5,8 +5,9 @@
 #define COMPAT_BUILDS_H
 
 #include "mbj.h"
+#include "mbj_selftest.h"
 
-/* The exports of mbj.h that the drop-in calls. */
+/* The exports of mbj.h that the drop-in calls, and the known answers, of which each build has its own. */
 #define COMPAT_EXPORTS(EXPORT)                                                                                                             \
     EXPORT(mbj_c_missing_feature)                                                                                                          \
     EXPORT(mbj_c_new)                                                                                                                      \
@@ -23,7 +24,8 @@
     EXPORT(mbj_gcm_open)                                                                                                                   \
     EXPORT(mbj_gcm_init)                                                                                                                   \
     EXPORT(mbj_gcm_update)                                                                                                                 \
-    EXPORT(mbj_gcm_finish)
+    EXPORT(mbj_gcm_finish)                                                                                                                 \
+    EXPORT(mbj_selftest)
 
 #define COMPAT_FIELD(name) __typeof__(&name) name;
 
@@ -34,6 +36,9 @@ struct build {
 /* It is set when the library is loaded, and never changed. Where the processor runs no build, each call is refused with
  * MBJ_ERR_PROCESSOR and writes nothing. */
 extern struct build proved;
+
+/* When the library is loaded a build is chosen first, and then its known answers are tried. */
+enum { COMPAT_FIRST = 101, COMPAT_SECOND };
 
 /* Whether the processor runs a build. */
 bool has_build(void);

@@ -5,6 +5,7 @@
 #include "gcm.h"
 #include "queue.h"
 #include "ring.h"
+#include "selftest.h"
 
 #include <string.h>
 
@@ -21,6 +22,10 @@ static size_t lines(size_t len) {
 
 static struct dropin *behind(IMB_MGR *m) {
     return (struct dropin *)(void *)((char *)m + lines(sizeof *m));
+}
+
+IMB_MGR *manager_of(struct dropin *d) {
+    return (IMB_MGR *)(void *)((char *)d - lines(sizeof(IMB_MGR)));
 }
 
 static void *pool_memory(struct dropin *d) {
@@ -84,7 +89,8 @@ static uint32_t make(struct dropin *d) {
     return refusal;
 }
 
-/* Without a reset the manager is one that another process made in the same memory: only the addresses of functions are set anew. */
+/* Without a reset the manager is one that another process made in the same memory: only the addresses of functions are set anew. Those of a
+ * manager that was never set up are NULL, as with intel-ipsec-mb 1.3. */
 IMB_DLL_EXPORT IMB_MGR *imb_set_pointers_mb_mgr(void *memory, const uint64_t flags, const unsigned reset) {
     IMB_MGR *m = memory;
     if (m == NULL || (flags & IMB_FLAG_AESNI_OFF) != 0) {
@@ -104,7 +110,10 @@ IMB_DLL_EXPORT IMB_MGR *imb_set_pointers_mb_mgr(void *memory, const uint64_t fla
     m->flags = flags;
     m->features = imb_get_feature_flags();
     set_pointers(m);
-    set_functions(m);
+    if (m->used_arch != IMB_ARCH_NONE) {
+        m->features |= selftest_features();
+        set_functions(m);
+    }
     return m;
 }
 
@@ -154,8 +163,10 @@ static void set_up(IMB_MGR *m, IMB_ARCH arch, uint64_t wanted) {
         set_error(m, IMB_ERR_MISSING_CPUFLAGS_INIT_MGR);
         return;
     }
-    set_error(m, error_of_refusal(forget_jobs(d)));
+    int error = error_of_refusal(forget_jobs(d));
+    set_error(m, error == 0 && !has_passed_selftest() ? IMB_ERR_SELFTEST : error);
     set_functions(m);
+    m->features |= selftest_features();
     m->used_arch = arch;
     m->earliest_job = -1;
     m->next_job = 0;
@@ -177,10 +188,10 @@ IMB_DLL_EXPORT void init_mb_mgr_avx512(IMB_MGR *m) {
     set_up(m, IMB_ARCH_AVX512, IMB_CPUFLAGS_AVX512);
 }
 
-/* AVX2 is the most that a build is for. */
+/* AVX2 is the most that a build is for. Without a manager nothing is written, as by intel-ipsec-mb 1.3. */
 IMB_DLL_EXPORT void init_mb_mgr_auto(IMB_MGR *m, IMB_ARCH *arch) {
     IMB_ARCH best = (imb_get_feature_flags() & IMB_CPUFLAGS_AVX2) == IMB_CPUFLAGS_AVX2 ? IMB_ARCH_AVX2 : IMB_ARCH_SSE;
     set_up(m, best, 0);
-    if (arch != NULL)
-        *arch = m != NULL && m->imb_errno == 0 ? best : IMB_ARCH_NONE;
+    if (arch != NULL && m != NULL)
+        *arch = m->imb_errno == 0 || m->imb_errno == IMB_ERR_SELFTEST ? best : IMB_ARCH_NONE;
 }

@@ -48,6 +48,9 @@ struct dropin {
     uint8_t gathered[PACKET_BYTES + 1]; /* a packet on its way to the proved code */
 };
 
+/* The manager that it stands behind. */
+IMB_MGR *manager_of(struct dropin *d);
+
 /* What stands behind a manager, or NULL where none was made in this memory. It sets the errors to none, or to that. */
 struct dropin *dropin_of(IMB_MGR *m);
 

@@ -221,6 +221,7 @@ static void check_no_manager(void) {
 int main(void) {
     printf("%s\n", imb_get_version_str()); /* the stream's own memory is there then */
     check_zone(0);
+    check_zone(8);
     check_zone(16);
     check_overflow();
     check_want_of_memory();
