@@ -4,13 +4,15 @@
 #include <stdatomic.h>
 #include <string.h>
 
-/* Any thread may set it: which one's error is read by another thread isn't told. */
+/* Any thread may set it: which one's error is read by another thread isn't told. Nearly every call sets it to 0: so it is written only
+ * where it differs, and its cache line stays with all threads. */
 static atomic_int error_of_process;
 
 void set_error(IMB_MGR *m, int error) {
     if (m != NULL)
         m->imb_errno = error;
-    atomic_store_explicit(&error_of_process, error, memory_order_relaxed);
+    if (atomic_load_explicit(&error_of_process, memory_order_relaxed) != error)
+        atomic_store_explicit(&error_of_process, error, memory_order_relaxed);
 }
 
 bool direct_error(int error) {
@@ -28,6 +30,18 @@ int error_of_refusal(uint32_t refusal) {
     case MBJ_ERR_IV_LENGTH: return IMB_ERR_IV_LEN;
     case MBJ_ERR_TAG_LENGTH: return IMB_ERR_AUTH_TAG_LEN;
     case MBJ_ERR_AAD_LENGTH: return IMB_ERR_AAD_LEN;
+    default: return EINVAL;
+    }
+}
+
+int error_of_reason(uint32_t reason) {
+    switch (reason) {
+    case MBJ_REASON_CIPHER_KEY:
+    case MBJ_REASON_AUTH_KEY: return IMB_ERR_JOB_KEY_LEN;
+    case MBJ_REASON_IV_LENGTH: return IMB_ERR_JOB_IV_LEN;
+    case MBJ_REASON_CIPHER_LENGTH: return IMB_ERR_JOB_CIPH_LEN;
+    case MBJ_REASON_AAD_LONG: return IMB_ERR_JOB_AAD_LEN;
+    case MBJ_REASON_TAG_LENGTH: return IMB_ERR_JOB_AUTH_TAG_LEN;
     default: return EINVAL;
     }
 }

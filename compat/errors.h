@@ -15,4 +15,7 @@ bool direct_error(int error);
 /* The error that a refusal of an export, enum mbj_refusal, is told as by a direct call. */
 int error_of_refusal(uint32_t refusal);
 
+/* The error of a job that the proved code refused, by the number of its enum mbj_reason. */
+int error_of_reason(uint32_t reason);
+
 #endif

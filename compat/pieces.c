@@ -20,8 +20,10 @@ IMB_STATUS do_alone(IMB_MGR *m, struct dropin *d, const struct said *said, uint8
     }
     if (!proved.mbj_c_submit(&d->handle, &done, &refusal) && !proved.mbj_c_flush(&d->handle, &done, &refusal))
         return IMB_STATUS_INTERNAL_ERROR;
-    if (done.status != 0)
+    if (done.status != 0) {
+        set_error(m, error_of_reason(done.reason));
         return IMB_STATUS_INVALID_ARGS;
+    }
     if (done.tag_len != 0 && done.tag_len <= said->raw.tag_len)
         memcpy(tag, whole_tag, done.tag_len);
     return IMB_STATUS_COMPLETED;

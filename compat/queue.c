@@ -50,8 +50,10 @@ static void make_room(struct mbj_raw_done *done, uint8_t *tag, struct queue *que
     done->tag = room_at(tag, MBJ_MAX_TAG_BYTES);
 }
 
-static void take(struct queue *queue, const struct mbj_raw_done *done) {
+static void take(struct dropin *d, struct queue *queue, const struct mbj_raw_done *done) {
     struct slot *slot = slot_at(queue, queue->waiting);
+    if (done->status != 0)
+        set_error(manager_of(d), error_of_reason(done->reason));
     if (done->status == 0 && done->tag_len != 0)
         memcpy(slot->tag, done->tag.at, done->tag_len);
     if (done->status == 0 && slot->kept != 0) {
@@ -68,7 +70,7 @@ static void take_completed(struct dropin *d, struct queue *queue) {
     uint32_t refusal;
     make_room(&done, tag, queue);
     if (proved.mbj_c_get_completed(&d->handle, &done, &refusal))
-        take(queue, &done);
+        take(d, queue, &done);
 }
 
 /* A flush gives a result wherever a job waits. If it didn't, the job would come back as one that failed: none is lost. */
@@ -78,7 +80,7 @@ static void take_flushed(struct dropin *d, struct queue *queue) {
     uint32_t refusal;
     make_room(&done, tag, queue);
     if (proved.mbj_c_flush(&d->handle, &done, &refusal)) {
-        take(queue, &done);
+        take(d, queue, &done);
     } else {
         end(slot_at(queue, queue->waiting), IMB_STATUS_INTERNAL_ERROR);
         skip_ended(queue);
@@ -148,7 +150,7 @@ static void hand_over(IMB_MGR *m, struct dropin *d, struct queue *queue, const I
     note(slot, job);
     make_room(&done, tag, queue);
     if (proved.mbj_c_submit(&d->handle, &done, &refusal))
-        take(queue, &done);
+        take(d, queue, &done);
 }
 
 static void start(IMB_MGR *m, struct dropin *d, struct queue *queue, const IMB_JOB *given, bool is_checked) {

@@ -1,7 +1,8 @@
-/* faults OTHER DROPIN: gives two libraries right jobs of each algorithm in which one field was changed, and compares with which status they
- * come back and which error they leave. */
+/* faults OTHER DROPIN [DRAWN [SEED]]: gives two libraries right jobs of each algorithm in which one field was changed, and compares with
+ * which status they come back and which error they leave. Then the same with drawn pairs of algorithms and up to three changes at once. */
 #include "library.h"
 
+#include <stddef.h>
 #include <stdio.h>
 #include <string.h>
 
@@ -178,7 +179,8 @@ static void change_lengths(const struct algorithms *a, int dir) {
     CHANGE(hash_start_src_offset_in_bytes, 0, 1, 16);
 }
 
-/* intel-ipsec-mb 1.3 makes the context of GCM in parts from enc_keys in either direction, and this library from dec_keys to decipher. */
+/* intel-ipsec-mb 1.3 makes the context of GCM in parts from enc_keys in either direction, and this library from dec_keys to decipher: so
+ * both are the same where they are drawn. */
 static void change_places(const struct algorithms *a, int dir) {
     CHANGE(cipher_direction, 0, 3);
     CHANGE(chain_order, IMB_ORDER_CIPHER_HASH, IMB_ORDER_HASH_CIPHER);
@@ -232,9 +234,77 @@ static void change_functions(const struct algorithms *a, int dir) {
     }
 }
 
+/* ---- more than one thing that is wrong ---- */
+
+struct change {
+    size_t off, len;
+    unsigned values;
+    uint64_t value[12];
+};
+
+#define FIELD(field, n, ...) {offsetof(IMB_JOB, field), sizeof(((IMB_JOB *)0)->field), n, {__VA_ARGS__}}
+
+static const struct change changes[] = {
+    FIELD(cipher_direction, 4, 0, 1, 2, 3),
+    FIELD(chain_order, 4, 0, 1, 2, 3),
+    FIELD(key_len_in_bytes, 6, 0, 15, 16, 17, 24, 32),
+    FIELD(iv_len_in_bytes, 9, 0, 6, 7, 12, 13, 14, 16, 17, 25),
+    FIELD(msg_len_to_cipher_in_bytes, 8, 0, 1, 16, 17, 64, 65534, 65535, 65536),
+    FIELD(msg_len_to_hash_in_bytes, 8, 0, 1, 16, 17, 64, 65534, 65535, 65536),
+    FIELD(auth_tag_output_len_in_bytes, 11, 0, 1, 4, 5, 12, 16, 17, 20, 32, 64, 65),
+    FIELD(cipher_start_src_offset_in_bytes, 2, 0, 1),
+    FIELD(hash_start_src_offset_in_bytes, 2, 0, 1),
+    FIELD(src, 1, 0),
+    FIELD(dst, 1, 0),
+    FIELD(iv, 1, 0),
+    FIELD(auth_tag_output, 1, 0),
+    FIELD(enc_keys, 1, 0),
+    FIELD(dec_keys, 1, 0),
+    FIELD(u.HMAC._hashed_auth_key_xor_ipad, 1, 0),
+    FIELD(u.HMAC._hashed_auth_key_xor_opad, 1, 0),
+    FIELD(u.CMAC._skey2, 1, 0),
+    FIELD(u.GCM.ctx, 1, 0),
+    FIELD(cipher_func, 1, 0),
+    FIELD(hash_func, 1, 0),
+};
+
+static void draw_changes(IMB_JOB jobs[2]) {
+    for (unsigned n = 1 + (unsigned)draw_below(3); n > 0; n--) {
+        const struct change *change = &changes[draw_below(sizeof changes / sizeof *changes)];
+        uint64_t value = change->value[draw_below(change->values)];
+        for (int i = 0; i < 2; i++)
+            memcpy((char *)&jobs[i] + change->off, &value, change->len);
+    }
+}
+
+static bool has_own_functions(const struct algorithms *a) {
+    return a->cipher == IMB_CIPHER_CUSTOM;
+}
+
+/* The cipher of one case, and the authentication of another one. Beside a function of the application's own, intel-ipsec-mb 1.3 submits a
+ * job that waits for a lane again and again, and ends in memory that isn't there. */
+static void compare_drawn(void) {
+    const struct algorithms *one = &cases[draw_below(sizeof cases / sizeof *cases)];
+    const struct algorithms *other = draw_below(2) == 0 ? one : &cases[draw_below(sizeof cases / sizeof *cases)];
+    if (has_own_functions(one) || has_own_functions(other))
+        other = one;
+    struct algorithms both = {other->name, one->cipher, other->hash, one->iv_len, other->tag_len};
+    int dir = draw_below(2) == 0 ? IMB_DIR_ENCRYPT : IMB_DIR_DECRYPT;
+    IMB_JOB jobs[2];
+    for (int i = 0; i < 2; i++)
+        jobs[i] = right_job(keys[i], &both, dir);
+    draw_changes(jobs);
+    if (one->cipher == IMB_CIPHER_GCM_SGL)
+        for (int i = 0; i < 2; i++)
+            jobs[i].enc_keys = jobs[i].dec_keys;
+    compare(&both, dir, one->name, 0, jobs);
+}
+
 int main(int argc, char **argv) {
+    int drawn_ones = argc > 3 ? atoi(argv[3]) : 20000;
     if (argc < 3)
         return 2;
+    start_drawing(argc > 4 ? strtoull(argv[4], NULL, 0) : 1);
     for (int i = 0; i < 2; i++) {
         load_library(&libraries[i], argv[1 + i]);
         if (posix_memalign((void **)&keys[i], 64, sizeof *keys[i]) != 0)
@@ -251,6 +321,8 @@ int main(int argc, char **argv) {
             change_own(&cases[n], dir);
             change_functions(&cases[n], dir);
         }
+    for (int i = 0; i < drawn_ones; i++)
+        compare_drawn();
     printf("%u jobs, %u differ\n", compared, differing);
     for (int i = 0; i < 2; i++) {
         libraries[i].release(libraries[i].m);

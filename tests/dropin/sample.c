@@ -44,7 +44,7 @@ static void draw_codes(struct sample *sample) {
     sample->cipher = ANY_OF(ciphers);
     sample->hash = ANY_OF(hashes);
     sample->dir = IMB_DIR_ENCRYPT + (int)draw_below(2);
-    sample->order = IMB_ORDER_CIPHER_HASH + (int)draw_below(2);
+    sample->order = draw_below(8) == 0 ? (int)draw_below(5) : IMB_ORDER_CIPHER_HASH + (int)draw_below(2);
     sample->key_len = 16 + 8 * draw_below(3);
     if (sample->cipher == IMB_CIPHER_GCM)
         sample->hash = IMB_AUTH_AES_GMAC;
