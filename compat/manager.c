@@ -82,6 +82,7 @@ static void set_pointers(IMB_MGR *m) {
 static uint32_t make(struct dropin *d) {
     memset(d, 0, offsetof(struct dropin, gathered));
     d->pool = mbj_pool_make(pool_memory(d), POOL_BYTES, true);
+    mbj_pool_wipe(d->pool);
     (void)mbj_pool_name(d->pool);
     uint32_t refusal = proved.mbj_c_new(&d->handle);
     if (refusal == MBJ_ERR_NONE)
@@ -130,7 +131,7 @@ IMB_DLL_EXPORT IMB_MGR *alloc_mb_mgr(uint64_t flags) {
     return m;
 }
 
-/* The keys that were given don't stay in memory that is freed. */
+/* The keys that were given don't stay in memory that is freed: the pool wipes what it took from the process's heap. */
 IMB_DLL_EXPORT void free_mb_mgr(IMB_MGR *m) {
     if (m == NULL)
         return;
@@ -149,6 +150,7 @@ static uint32_t forget_jobs(struct dropin *d) {
         (void)mbj_pool_name(d->pool);
         proved.mbj_c_free(&d->handle);
         refusal = proved.mbj_c_new(&d->handle);
+        wipe(d->found, sizeof d->found);
     }
     queue_empty(&d->ring);
     queue_empty(&d->burst);

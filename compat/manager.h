@@ -17,6 +17,7 @@ struct slot {
     IMB_JOB *job;
     uint8_t *dst, *tag;
     size_t dst_len;
+    uint16_t found;    /* the number of the key that was found for it, or 0 */
     bool has_ended;    /* it isn't in the proved manager, or no longer */
     uint8_t kept;      /* the bits of the last byte of dst that stay as they were, where a length in bits ends within that byte */
     uint8_t last_byte; /* what that byte was */
@@ -29,14 +30,16 @@ struct queue {
     struct slot slots[IMB_MAX_JOBS];
 };
 
-/* A key of 24 or 32 bytes, and the last two round keys of its schedule of decryption, from which it was found; len is 0 where there is
- * none. */
+/* A key of 24 or 32 bytes, and the last two round keys of its schedule of decryption, from which it was found. It is kept while jobs use
+ * it, and is all zeros where none does. At most IMB_MAX_JOBS use keys at once, so half of the places are free. */
 struct found_key {
-    uint64_t len;
+    uint32_t users, len;
     uint8_t round_keys[32], key[32];
 };
 
-enum { FOUND_KEYS = 64 };
+enum { FOUND_KEY_BITS = 9, FOUND_KEYS = 1 << FOUND_KEY_BITS };
+
+_Static_assert(FOUND_KEYS >= 2 * IMB_MAX_JOBS, "half of the places are free");
 
 struct dropin {
     uint64_t mark;            /* DROPIN_MARK where a manager was made */

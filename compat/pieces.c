@@ -1,12 +1,13 @@
 #include "pieces.h"
 #include "algorithms.h"
 #include "errors.h"
+#include "raw_key.h"
 
 #include <string.h>
 
 enum { BLOCK = 16, MOST_PIECE = PACKET_BYTES / BLOCK * BLOCK };
 
-IMB_STATUS do_alone(IMB_MGR *m, struct dropin *d, const struct said *said, uint8_t *dst, uint8_t *tag) {
+IMB_STATUS do_alone(IMB_MGR *m, struct dropin *d, struct said *said, uint8_t *dst, uint8_t *tag) {
     COMPAT_ALIGNED_FRAME uint8_t whole_tag[MBJ_MAX_TAG_BYTES];
     struct mbj_raw_done done;
     memset(&done, 0, sizeof done);
@@ -14,6 +15,8 @@ IMB_STATUS do_alone(IMB_MGR *m, struct dropin *d, const struct said *said, uint8
     done.tag = room_at(whole_tag, sizeof whole_tag);
     (void)mbj_pool_name(d->pool);
     uint32_t refusal = proved.mbj_c_fill(&d->handle, &said->raw);
+    forget_said(d, said);
+    leave_key(d, said->found);
     if (refusal != MBJ_ERR_NONE) {
         set_error(m, error_of_refusal(refusal));
         return IMB_STATUS_INTERNAL_ERROR;

@@ -4,6 +4,7 @@
 #include "bits.h"
 #include "check.h"
 #include "errors.h"
+#include "raw_key.h"
 #include "say.h"
 #include "unchecked.h"
 
@@ -35,9 +36,11 @@ static void note(struct slot *slot, const IMB_JOB *job) {
     slot->last_byte = open_bits != 0 ? job->dst[len - 1] : 0;
 }
 
-static void end(struct slot *slot, IMB_STATUS status) {
+static void end(struct dropin *d, struct slot *slot, IMB_STATUS status) {
     slot->job->status = status;
     slot->has_ended = true;
+    leave_key(d, slot->found);
+    slot->found = 0;
 }
 
 /* ---- results ---- */
@@ -60,7 +63,7 @@ static void take(struct dropin *d, struct queue *queue, const struct mbj_raw_don
         uint8_t *last = slot->dst + slot->dst_len - 1;
         *last = (uint8_t)((*last & ~slot->kept) | (slot->last_byte & slot->kept));
     }
-    end(slot, done->status == 0 ? IMB_STATUS_COMPLETED : IMB_STATUS_INVALID_ARGS);
+    end(d, slot, done->status == 0 ? IMB_STATUS_COMPLETED : IMB_STATUS_INVALID_ARGS);
     skip_ended(queue);
 }
 
@@ -82,7 +85,7 @@ static void take_flushed(struct dropin *d, struct queue *queue) {
     if (proved.mbj_c_flush(&d->handle, &done, &refusal)) {
         take(d, queue, &done);
     } else {
-        end(slot_at(queue, queue->waiting), IMB_STATUS_INTERNAL_ERROR);
+        end(d, slot_at(queue, queue->waiting), IMB_STATUS_INTERNAL_ERROR);
         skip_ended(queue);
     }
 }
@@ -128,23 +131,28 @@ static bool say(struct dropin *d, struct said *said, const IMB_JOB *job) {
     }
     say_cipher(d, said, job);
     say_hash(said, job);
-    if (!say_ranges(d, said, job))
+    if (!say_ranges(d, said, job)) {
+        forget_said(d, said);
+        leave_key(d, said->found);
         return false;
+    }
     if (hash_open_bits(job) != 0)
         say_padded(d, said, job);
     return true;
 }
 
 /* The slot is that behind the queue's jobs: where these have all ended, the job's own result comes next. */
-static void hand_over(IMB_MGR *m, struct dropin *d, struct queue *queue, const IMB_JOB *job, const struct said *said) {
+static void hand_over(IMB_MGR *m, struct dropin *d, struct queue *queue, const IMB_JOB *job, struct said *said) {
     struct slot *slot = slot_at(queue, queue->next);
     struct mbj_raw_done done;
     COMPAT_ALIGNED_FRAME uint8_t tag[MBJ_MAX_TAG_BYTES];
     (void)mbj_pool_name(d->pool);
     uint32_t refusal = proved.mbj_c_fill(&d->handle, &said->raw);
+    slot->found = said->found;
+    forget_said(d, said);
     if (refusal != MBJ_ERR_NONE) {
         set_error(m, error_of_refusal(refusal));
-        end(slot, IMB_STATUS_INTERNAL_ERROR);
+        end(d, slot, IMB_STATUS_INTERNAL_ERROR);
         return;
     }
     note(slot, job);
@@ -161,12 +169,12 @@ static void start(IMB_MGR *m, struct dropin *d, struct queue *queue, const IMB_J
     int error = check_job(job, is_checked);
     if (error != 0) {
         set_error(m, error);
-        end(slot, IMB_STATUS_INVALID_ARGS);
+        end(d, slot, IMB_STATUS_INVALID_ARGS);
     } else if (say(d, &said, job)) {
         hand_over(m, d, queue, job, &said);
     } else {
         finish_all(d);
-        end(slot, do_at_once(m, d, job, slot->job));
+        end(d, slot, do_at_once(m, d, job, slot->job));
     }
 }
 
@@ -174,6 +182,7 @@ IMB_JOB *queue_submit(IMB_MGR *m, struct queue *queue, const IMB_JOB *job, IMB_J
     struct dropin *d = m->aes128_ooo;
     struct slot *slot = slot_at(queue, queue->next);
     slot->job = given;
+    slot->found = 0;
     slot->has_ended = false;
     given->status = IMB_STATUS_BEING_PROCESSED;
     start(m, d, queue, job, is_checked);

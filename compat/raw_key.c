@@ -1,8 +1,8 @@
 /* The schedule of decryption has the round keys from the last one down to the first, and those between went through INVMIXCOLUMNS (FIPS
  * 197, 5.3.5). The key is the first round key, and with 24 or 32 bytes half or all of the second one: so INVMIXCOLUMNS has to be undone for
  * that. Applied four times it gives what it was given, since the fourth power of its polynomial is 1 modulo x^4 + 1; and no part of AES
- * stands in C. So the round key is put three times more through the export that expands keys, as the second half of a key of 32 bytes. The
- * keys that were found are kept in the manager's memory. */
+ * stands in C. So the round key is put three times more through the export that expands keys, as the second half of a key of 32 bytes. A
+ * key that was found is kept in the manager's memory as long as a job uses it. */
 #include "raw_key.h"
 
 #include <string.h>
@@ -37,23 +37,38 @@ static bool are_same(const uint8_t *a, const uint8_t *b, size_t len) {
     return differing == 0;
 }
 
-/* The place depends on where the schedule is, and not on the key. */
-static struct found_key *place_of(struct dropin *d, const void *schedule) {
-    return &d->found[(uintptr_t)schedule / ROUND_KEY % FOUND_KEYS];
+/* The first place depends on where the schedule is, and not on the key: on all bits of its address, by the golden ratio of 2^64 (Knuth, The
+ * Art of Computer Programming, 6.4), since sessions often lie a power of two apart. */
+static size_t first_place(const void *schedule) {
+    return (size_t)(((uintptr_t)schedule * UINT64_C(0x9e3779b97f4a7c15)) >> (64 - FOUND_KEY_BITS));
 }
 
-void key_of_decryption(struct dropin *d, const void *schedule, size_t len, uint8_t *key) {
+/* The place of these round keys, or a free one, from the first one on. */
+static struct found_key *place_of(struct dropin *d, const void *schedule, const uint8_t *round_keys, size_t len) {
+    struct found_key *found = &d->found[first_place(schedule)];
+    while (found->users != 0 && !(found->len == len && are_same(found->round_keys, round_keys, sizeof found->round_keys)))
+        found = found == &d->found[FOUND_KEYS - 1] ? d->found : found + 1;
+    return found;
+}
+
+uint16_t use_key_of_decryption(struct dropin *d, const void *schedule, size_t len, uint8_t *key) {
     const uint8_t *last = (const uint8_t *)schedule + ROUND_KEY * (len / 4 + 6), *round_keys = last - ROUND_KEY;
-    struct found_key *found = place_of(d, schedule);
     if (len == ROUND_KEY) {
         memcpy(key, last, ROUND_KEY);
-        return;
+        return 0;
     }
-    if (found->len != len || !are_same(found->round_keys, round_keys, sizeof found->round_keys)) {
+    struct found_key *found = place_of(d, schedule, round_keys, len);
+    if (found->users++ == 0) {
         memcpy(found->round_keys, round_keys, sizeof found->round_keys);
         memcpy(found->key, last, ROUND_KEY);
         find(round_keys, len, found->key + ROUND_KEY);
-        found->len = len;
+        found->len = (uint32_t)len;
     }
     memcpy(key, found->key, len);
+    return (uint16_t)(found - d->found + 1);
+}
+
+void leave_key(struct dropin *d, uint16_t number) {
+    if (number != 0 && --d->found[number - 1].users == 0)
+        wipe(&d->found[number - 1], sizeof d->found[number - 1]);
 }

@@ -14,6 +14,7 @@ void say_nothing(struct said *said) {
     raw->cipher_off = raw->cipher_len = raw->hash_off = raw->hash_len = 0;
     raw->tag_len = 0;
     raw->session = MBJ_NO_SESSION;
+    said->found = 0;
 }
 
 static void say_codes(struct mbj_raw_job *raw, const IMB_JOB *job) {
@@ -28,7 +29,7 @@ static struct mbj_bytes key_of(struct dropin *d, struct said *said, const IMB_JO
     size_t len = job->key_len_in_bytes;
     if (cipher->kind != CIPHER_CBC || is_encryption(job))
         return bytes_at(cipher_keys(cipher, job), len);
-    key_of_decryption(d, job->dec_keys, len, said->key);
+    said->found = use_key_of_decryption(d, job->dec_keys, len, said->key);
     return bytes_at(said->key, len);
 }
 
@@ -71,6 +72,15 @@ void say_aead(struct said *said, const IMB_JOB *job) {
     said->raw.aad = bytes_at(aad, is_ccm ? job->u.CCM.aad_len_in_bytes : job->u.GCM.aad_len_in_bytes);
     said->raw.packet = bytes_at(cipher_start(job), job->msg_len_to_cipher_in_bytes);
     said->raw.cipher_len = job->msg_len_to_cipher_in_bytes;
+}
+
+void forget_said(struct dropin *d, struct said *said) {
+    if (said->raw.key.at == said->key)
+        wipe(said->key, sizeof said->key);
+    if (said->raw.auth_key.at == said->states)
+        wipe(said->states, sizeof said->states);
+    if (said->raw.packet.at == d->gathered)
+        wipe(d->gathered, said->raw.packet.len);
 }
 
 bool overlap(const void *a, uint64_t a_len, const void *b, uint64_t b_len) {

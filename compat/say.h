@@ -7,6 +7,7 @@
 /* The bytes that a job's description points to, where they aren't the application's own. */
 struct said {
     struct mbj_raw_job raw;
+    uint16_t found; /* the number of a key that was found, which is left once the job is back */
     uint8_t key[LONGEST_KEY], states[LONGEST_STATES];
 };
 
@@ -20,6 +21,9 @@ void say_aead(struct said *said, const IMB_JOB *job);
 
 /* Says the packet of a job that isn't one of an AEAD. False where its ranges don't fit into one. */
 bool say_ranges(struct dropin *d, struct said *said, const IMB_JOB *job);
+
+/* The proved code has copied what was said, or refused it: of keys, states and a packet nothing stays here. */
+void forget_said(struct dropin *d, struct said *said);
 
 /* Whether two ranges have a byte in common. */
 bool overlap(const void *a, uint64_t a_len, const void *b, uint64_t b_len);

@@ -19,10 +19,13 @@ enum { LEAST_ORDER = 6, LONGEST_READY_ORDER = 12, ORDERS = 48 };
 
 enum state { IS_FREE, IS_USED, IS_READY, IS_OVERFLOW };
 
+/* The length of a block of malloc is counted in these, and such a block has at most 2^32 - 1. */
+#define UNIT sizeof(struct head)
+
 /* It stands at the front of each block, and once more before the bytes that were asked for. It has 16 bytes, so these are aligned to 16. */
 struct head {
     struct mbj_pool *pool;
-    uint32_t order; /* the block has 2^order bytes, with its head */
+    uint32_t order; /* the block has 2^order bytes, with its head; one of malloc has so many units behind its head */
     uint32_t state;
 };
 
@@ -35,7 +38,7 @@ struct free_block {
 struct mbj_pool {
     unsigned char *first;
     size_t len;
-    bool has_overflow;
+    bool has_overflow, wipes;
     struct mbj_pool_counts counts;
     uint64_t orders; /* bit i is set where the list of order i isn't empty */
     struct free_block *lists[ORDERS];
@@ -204,11 +207,12 @@ static void give(struct mbj_pool *pool, struct head *head) {
 /* ---- blocks of malloc ---- */
 
 static struct head *take_overflow(struct mbj_pool *pool, size_t len) {
-    struct head *head = len <= SIZE_MAX - sizeof *head ? (struct head *)malloc(sizeof *head + len) : NULL;
+    size_t units = len / UNIT + (len % UNIT != 0);
+    struct head *head = units <= UINT32_MAX ? (struct head *)malloc(sizeof *head + units * UNIT) : NULL;
     if (head == NULL)
         return NULL;
     head->pool = pool;
-    head->order = 0;
+    head->order = (uint32_t)units;
     head->state = IS_OVERFLOW;
     if (++pool->counts.overflow_blocks > pool->counts.most_overflow_blocks)
         pool->counts.most_overflow_blocks = pool->counts.overflow_blocks;
@@ -260,8 +264,16 @@ struct mbj_block rattle_realloc(void *old, size_t kept, size_t len, size_t align
     return block;
 }
 
+/* The compiler can't leave this out: for all it knows the bytes are looked at. */
+static void wipe(void *at, size_t len) {
+    memset(at, 0, len);
+    __asm__ volatile("" : : "r"(at) : "memory");
+}
+
 void rattle_dealloc(void *at) {
     struct head *head = head_of(at);
+    if (head->pool->wipes)
+        wipe(at, head->state == IS_OVERFLOW ? head->order * UNIT : room_behind(head));
     if (head->state == IS_OVERFLOW) {
         head->pool->counts.overflow_blocks--;
         free(head);
@@ -291,6 +303,10 @@ struct mbj_pool *mbj_pool_make(void *at, size_t len, bool has_overflow) {
         off += length_of(order);
     }
     return pool;
+}
+
+void mbj_pool_wipe(struct mbj_pool *pool) {
+    pool->wipes = true;
 }
 
 struct mbj_pool *mbj_pool_name(struct mbj_pool *pool) {

@@ -22,6 +22,10 @@ struct mbj_pool;
  * where they are too few: less than 600 go for the pool itself. With overflow, what doesn't fit is taken from malloc, and returns there. */
 struct mbj_pool *mbj_pool_make(void *at, size_t len, bool has_overflow);
 
+/* From here on each block of the pool, and of malloc, is filled with zeros as it is given back: copies of keys and packets don't outlive
+ * their blocks. That takes the time of writing as many bytes. */
+void mbj_pool_wipe(struct mbj_pool *pool);
+
 /* Names the pool that this thread's next calls allocate from, and returns the one that was named before. Where a thread names none, or NULL,
  * every block is refused. A block that grows stays with its own pool. */
 struct mbj_pool *mbj_pool_name(struct mbj_pool *pool);

@@ -172,6 +172,26 @@ static void overflow(void) {
     mbj_pool_name(NULL);
 }
 
+/* What was in a block isn't in its pool once it is given back, or has moved; what the pool notes of the block is. */
+static void blocks_are_wiped(void) {
+    const size_t lens[] = {1, 17, 48, 49, 1500, 4000, 5000};
+    memset(memory[0], 0, sizeof memory[0]);
+    struct mbj_pool *pool = mbj_pool_make(memory[0], LONG, true);
+    struct filled filled;
+    mbj_pool_wipe(pool);
+    mbj_pool_name(pool);
+    for (size_t i = 0; i < sizeof lens / sizeof *lens; i++) {
+        CHECK(fill_new(&filled, lens[i], 0xa7) && grow(&filled, 4 * lens[i]));
+        free_filled(&filled);
+    }
+    CHECK(fill_new(&filled, 2 * LONG, 0xa7) && grow(&filled, 3 * LONG));
+    free_filled(&filled);
+    for (size_t i = 0; i < sizeof memory[0] / sizeof *memory[0]; i++)
+        CHECK(memory[0][i] != UINT64_C(0xa7a7a7a7a7a7a7a7));
+    CHECK(is_unused(pool));
+    mbj_pool_name(NULL);
+}
+
 /* A block goes back to its own pool, whichever is named. */
 static void blocks_know_their_pools(void) {
     struct mbj_pool *first = mbj_pool_make(memory[0], LONG, false), *second = mbj_pool_make(memory[1], LONG, false);
@@ -334,6 +354,7 @@ int main(void) {
     blocks_of_a_pool();
     blocks_know_their_pools();
     overflow();
+    blocks_are_wiped();
     a_manager_needs_no_malloc();
     a_pool_is_used_up();
     a_manager_is_handed_over();
