@@ -48,8 +48,9 @@ number = $(shell sed -n 's/^.define MBJ_VERSION_$(1) //p' include/mbj.h)
 major := $(call number,MAJOR)
 version := $(major).$(call number,MINOR).$(call number,PATCH)
 
-# The functions that the header declares and doesn't define.
-exports := $(shell sed -n 's/^[a-z].*[ *]\(mbj_[a-z_]*\)(.*);$$/\1/p' include/mbj.h)
+# The headers, and the functions that they declare and don't define.
+interface := $(addprefix include/,mbj.h mbj_fill.h mbj_inline.h mbj_inline_bursts.h mbj_inline_texts.h mbj_raw.h mbj_direct.h)
+exports := $(shell sed -n 's/^[a-z].*[ *]\(mbj_[a-z_]*\)(.*);$$/\1/p' $(interface))
 
 static := libmbj_c.a
 shared := libmbj_c.so.$(major)
@@ -124,7 +125,7 @@ settings = $(TOOLCHAIN) $(CC) $(CPPFLAGS) $(CFLAGS) $(LDFLAGS) $(cpus)
 $(BUILD)/settings: FORCE
 	@mkdir -p $(@D) && printf '%s\n' $(call quoted,$(settings)) > $@.now && { cmp -s $@.now $@ || cp $@.now $@; }
 
-$(BUILD)/%/mbj_processor.o: include/mbj_processor.c include/mbj.h $(BUILD)/settings
+$(BUILD)/%/mbj_processor.o: include/mbj_processor.c $(interface) $(BUILD)/settings
 	@mkdir -p $(@D)
 	$(compile) -DMBJ_LEVEL=$(*:x86-64-v%=%) $(call quoted,-DMBJ_TOOLCHAIN="$(call in-string,$(TOOLCHAIN))")
 
@@ -135,7 +136,7 @@ $(BUILD)/mbj_heap.o: include/mbj_heap.c include/mbj_heap.h $(BUILD)/settings
 $(BUILD)/%/$(static): $(BUILD)/%/proved.a $(BUILD)/%/mbj_processor.o $(BUILD)/mbj_heap.o packaging/archive
 	AR='$(AR)' packaging/archive $* $@ $(filter-out packaging/archive,$^)
 
-$(BUILD)/exports.map: include/mbj.h
+$(BUILD)/exports.map: $(interface)
 	@mkdir -p $(@D)
 	@printf '%s\n' 'MBJ_$(major) {' 'global:' $(exports:%='    %;') 'local:' '    *;' '};' > $@
 
@@ -156,7 +157,7 @@ dropin-builds := $(foreach cpu,$(cpus),$(BUILD)/$(cpu)/renamed.o)
 compile-dropin = $(CC) -std=c11 -D_DEFAULT_SOURCE -Wall -Wextra $(CPPFLAGS) $(plain) -march=x86-64 -fPIC -fvisibility=hidden \
     -ftls-model=initial-exec -Iinclude -Icompat $(here) $(cpus:x86-64-v%=-DCOMPAT_HAS_V%) -c -o $@ $<
 
-$(BUILD)/dropin/%.o: compat/%.c $(wildcard compat/*.h) include/mbj.h include/mbj_selftest.h $(BUILD)/settings
+$(BUILD)/dropin/%.o: compat/%.c $(wildcard compat/*.h) $(interface) include/mbj_selftest.h $(BUILD)/settings
 	@mkdir -p $(@D)
 	$(compile-dropin)
 
@@ -165,12 +166,12 @@ $(BUILD)/dropin/mbj_heap_pool.o: include/mbj_heap_pool.c include/mbj_heap_pool.h
 	$(compile-dropin)
 
 # Not among the objects of the drop-in: each build has its own.
-$(BUILD)/mbj_selftest.o: include/mbj_selftest.c include/mbj_selftest.h include/mbj.h $(BUILD)/settings
+$(BUILD)/mbj_selftest.o: include/mbj_selftest.c include/mbj_selftest.h $(interface) $(BUILD)/settings
 	@mkdir -p $(@D)
 	$(compile)
 
 # A build whose exports end in its level, and whose other names are local, so that a library may hold both.
-$(BUILD)/%/renamed.o: $(BUILD)/%/proved.a $(BUILD)/%/mbj_processor.o $(BUILD)/mbj_selftest.o packaging/renamed include/mbj.h
+$(BUILD)/%/renamed.o: $(BUILD)/%/proved.a $(BUILD)/%/mbj_processor.o $(BUILD)/mbj_selftest.o packaging/renamed $(interface)
 	AR='$(AR)' packaging/renamed _$(*:x86-64-%=%) $@ $(BUILD)/$*/proved.a $(BUILD)/$*/mbj_processor.o $(BUILD)/mbj_selftest.o \
 	    $(exports) mbj_selftest
 
@@ -201,7 +202,7 @@ override PREFIX := $(abspath $(PREFIX))
 CMAKEDIR := $(LIBDIR)/cmake/mbj
 HWCAPSDIR := $(LIBDIR)/glibc-hwcaps/$(avx2)
 
-headers := include/mbj.h include/mbj_heap.h include/mbj_heap_pool.h include/mbj_selftest.h
+headers := $(interface) include/mbj_heap.h include/mbj_heap_pool.h include/mbj_selftest.h
 documents := README.md CHANGELOG.md $(wildcard docs/*.md docs/*.svg)
 examples := $(wildcard examples/c/*.c) $(wildcard include/mbj_heap*.c) include/mbj_symbols.c include/mbj_selftest.c
 described := $(LIBDIR)/pkgconfig/mbj.pc $(LIBDIR)/pkgconfig/mbj-static.pc $(CMAKEDIR)/mbjConfig.cmake $(CMAKEDIR)/mbjConfigVersion.cmake

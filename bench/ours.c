@@ -1,6 +1,6 @@
 /* This library, by the job calls of mbj.h. */
 #include "bench.h"
-#include "mbj.h"
+#include "mbj_direct.h"
 
 static const uint32_t ciphers[] = {MBJ_CIPHER_NULL, MBJ_CIPHER_CBC, MBJ_CIPHER_CNTR, MBJ_CIPHER_GCM, MBJ_CIPHER_CCM, MBJ_CIPHER_CBC};
 

@@ -4,7 +4,8 @@
 #ifndef COMPAT_BUILDS_H
 #define COMPAT_BUILDS_H
 
-#include "mbj.h"
+#include "mbj_direct.h"
+#include "mbj_raw.h"
 #include "mbj_selftest.h"
 
 /* The exports of mbj.h that the drop-in calls, and the known answers, of which each build has its own. */

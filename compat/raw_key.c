@@ -9,12 +9,14 @@
 
 enum { ROUND_KEY = 16 };
 
-/* INVMIXCOLUMNS of a round key, in place: that of the second round key in a schedule of decryption of 15 round keys. */
+/* INVMIXCOLUMNS of a round key, in place: that of the second round key in a schedule of decryption of 15 round keys. A key of that length
+ * isn't refused. */
 static void mix_inversely(uint8_t *round_key) {
     uint8_t key[LONGEST_KEY] = {0}, encryption[LONGEST_SCHEDULE], decryption[LONGEST_SCHEDULE];
     memcpy(key + ROUND_KEY, round_key, ROUND_KEY);
-    proved.mbj_aes_keys(bytes_at(key, sizeof key), room_at(encryption, sizeof encryption), room_at(decryption, sizeof decryption));
-    memcpy(round_key, decryption + LONGEST_SCHEDULE - 2 * ROUND_KEY, ROUND_KEY);
+    if (proved.mbj_aes_keys(bytes_at(key, sizeof key), room_at(encryption, sizeof encryption), room_at(decryption, sizeof decryption)) ==
+        MBJ_ERR_NONE)
+        memcpy(round_key, decryption + LONGEST_SCHEDULE - 2 * ROUND_KEY, ROUND_KEY);
     wipe(key, sizeof key);
     wipe(encryption, sizeof encryption);
     wipe(decryption, sizeof decryption);

@@ -15,7 +15,7 @@
 #include <stdio.h>
 #include <sys/types.h>
 
-enum { SPI = 4, SEQ = 4, HEADER = SPI + SEQ, TRAILER = 2, MAX_IV = 16, MAX_TAG = 32, MAX_PACKET = 65535, MAX_HMAC_KEY = 1024 };
+enum { SPI = 4, SEQ = 4, HEADER = SPI + SEQ, TRAILER = 2, MAX_IV = 16, MAX_TAG = 32, MAX_PACKET = MBJ_MAX_PACKET_BYTES };
 
 enum { BAD_LINE = 1, FAILED = 2 };
 
@@ -61,7 +61,7 @@ static bool has_keys(const struct association *sa) {
     bool is_aes_key = len == 16 || len == 24 || len == 32;
     if (is_combined(sa->suite))
         return is_aes_key && akey == 0;
-    bool is_akey = sa->suite->auth == MBJ_AUTH_AES_CMAC ? akey == 16 : akey >= 1 && akey <= MAX_HMAC_KEY;
+    bool is_akey = sa->suite->auth == MBJ_AUTH_AES_CMAC ? akey == 16 : akey >= 1 && akey <= MBJ_MAX_HMAC_KEY_BYTES;
     return is_akey && (sa->suite->cipher == MBJ_CIPHER_NULL ? len == 0 : is_aes_key);
 }
 
@@ -177,6 +177,12 @@ static void answer(const MBJ_JOB *done) {
 
 /* ---- jobs ---- */
 
+/* The salt, and the IV of the packet behind it. */
+static size_t put_iv(struct packet *p, const uint8_t *salt) {
+    uint8_t *end = put(p->iv, salt, p->suite->salt_len);
+    return (size_t)(put(end, p->bytes + HEADER, p->suite->iv_len) - p->iv);
+}
+
 /* A combined mode authenticates SPI and SEQ, with its high half between them, as additional data (RFC 4106, section 5; RFC 4309,
  * section 5). */
 static size_t put_aad(struct packet *p) {
@@ -189,34 +195,31 @@ static size_t put_hashed(struct packet *p) {
     return (size_t)(put(p->bytes + p->len, p->seq_high, p->is_esn ? SEQ : 0) - p->bytes);
 }
 
+static void fill_suite(MBJ_JOB *job, const struct association *sa, struct packet *p) {
+    const struct suite *suite = p->suite;
+    const uint8_t *key = sa->key.at;
+    uint32_t dir = p->task == SEAL ? MBJ_DIR_ENCRYPT : MBJ_DIR_DECRYPT;
+    size_t key_len = sa->key.len - suite->salt_len, iv_len = put_iv(p, key + key_len), at = text_at(p), len = p->len - at;
+    size_t aad_len = put_aad(p), hashed = put_hashed(p);
+    uint8_t *text = p->bytes + at; /* in place */
+    if (suite->cipher == MBJ_CIPHER_GCM)
+        mbj_job_gcm(job, dir, key, key_len, p->iv, iv_len, p->aad, aad_len, p->bytes, hashed, at, len, text, p->tag, suite->tag_len);
+    else if (suite->cipher == MBJ_CIPHER_CCM)
+        mbj_job_ccm(job, dir, key, key_len, p->iv, iv_len, p->aad, aad_len, p->bytes, hashed, at, len, text, p->tag, suite->tag_len);
+    else if (suite->cipher == MBJ_CIPHER_NULL)
+        mbj_job_auth(job, suite->auth, sa->akey.at, sa->akey.len, p->bytes, hashed, 0, hashed, p->tag, suite->tag_len);
+    else
+        mbj_job_cipher_auth(job, suite->cipher, suite->auth, dir, key, key_len, p->iv, iv_len, sa->akey.at, sa->akey.len, p->bytes, hashed,
+                            at, len, text, 0, hashed, p->tag, suite->tag_len);
+}
+
 /* A packet that is none goes through the manager as a job that does nothing, so that its answer comes in its turn. */
 static void fill_job(MBJ_JOB *job, const struct association *sa, struct packet *p) {
-    const struct suite *suite = p->suite;
-    size_t key_len = sa->key.len - suite->salt_len;
-    bool is_sealed = p->task == SEAL;
-    job->user_data = p;
-    job->cipher_mode = p->task == DROP ? (uint32_t)MBJ_CIPHER_NULL : suite->cipher;
-    job->hash_alg = p->task == DROP ? (uint32_t)MBJ_AUTH_NULL : suite->auth;
     if (p->task == DROP)
-        return;
-    job->cipher_direction = is_sealed ? MBJ_DIR_ENCRYPT : MBJ_DIR_DECRYPT;
-    job->chain_order = is_sealed ? MBJ_ORDER_CIPHER_HASH : MBJ_ORDER_HASH_CIPHER;
-    job->key = sa->key.at;
-    job->key_len_in_bytes = key_len;
-    job->iv = p->iv;
-    uint8_t *salt_end = put(p->iv, sa->key.at + key_len, suite->salt_len);
-    job->iv_len_in_bytes = (size_t)(put(salt_end, p->bytes + HEADER, suite->iv_len) - p->iv);
-    job->cipher_start_src_offset_in_bytes = text_at(p);
-    job->msg_len_to_cipher_in_bytes = p->len - text_at(p);
-    job->dst = p->bytes + text_at(p); /* in place */
-    job->auth_key = sa->akey.at;
-    job->auth_key_len_in_bytes = sa->akey.len;
-    job->aad = p->aad;
-    job->aad_len_in_bytes = put_aad(p);
-    job->packet = p->bytes;
-    job->packet_len_in_bytes = job->msg_len_to_hash_in_bytes = put_hashed(p);
-    job->auth_tag_output = p->tag;
-    job->auth_tag_output_len_in_bytes = suite->tag_len;
+        mbj_job_nothing(job);
+    else
+        fill_suite(job, sa, p);
+    job->user_data = p;
 }
 
 /* ---- lines ---- */

@@ -118,7 +118,7 @@ static int read_job(char *line, size_t len, struct file_job *into) {
     struct field f[FIELDS];
     MBJ_JOB *job = &into->job;
     uint64_t tag_len;
-    memset(into, 0, sizeof *into);
+    mbj_job_blank(job);
     if (!split_line(line, len, f))
         return -1;
     if (!read_word(f[0], ciphers, MBJ_CIPHER_CCM + 1, &job->cipher_mode))

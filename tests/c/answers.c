@@ -1,5 +1,6 @@
 /* Tests CCM, GMAC and hashes without a key: the answers that the standards have, which fields a job ignores, and why one is refused. */
 #include "check.h"
+#include "mbj_direct.h"
 
 enum { ROOM = 256 };
 

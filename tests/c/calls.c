@@ -236,11 +236,10 @@ static void every_block_is_freed(void) {
         bool is_made = m != NULL;
         if (is_made) {
             fill_mac(mbj_get_next_job(m), mac_text, sizeof mac_text, tag);
-            mbj_submit_job(m);
+            CHECK(mbj_submit_job(m) == NULL);
             fill_cbc(mbj_get_next_job(m), cbc_text, sizeof cbc_text, 0, dst);
             make_ccm(mbj_get_next_job(m), tag);
-            mbj_submit_job(m);
-            CHECK(mbj_queue_size(m) == 2);
+            CHECK(mbj_submit_job(m) == NULL && mbj_queue_size(m) == 2);
             mbj_get_next_job(m);
         }
         mbj_free_mgr(m);

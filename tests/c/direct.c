@@ -1,5 +1,6 @@
 /* Tests the calls without a manager: vectors of the standards, and each refusal, which writes nothing. Link with refuse.c. */
 #include "check.h"
+#include "mbj_direct.h"
 #include "refuse.h"
 
 enum { SCHEDULE_BYTES = 176, TAG_BYTES = 16, ROOM = 256 };

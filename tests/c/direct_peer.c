@@ -1,6 +1,7 @@
 /* Compares the calls without a manager with OpenSSL: digests, texts by GCM whole and cut at every place, and texts by CCM. Link with
  * -lcrypto. */
 #include "check.h"
+#include "mbj_direct.h"
 
 #include <openssl/evp.h>
 

@@ -1,6 +1,7 @@
 /* Prints the size of each struct of the header, the offset and the size of each field, and the number of each name, to be compared with
  * layout.txt: a program that was compiled with an earlier header relies on them. */
 #include "mbj.h"
+#include "mbj_direct.h"
 
 #include <stdio.h>
 
@@ -185,7 +186,6 @@ static void print_answers(void) {
     NUMBER(MBJ_REASON_NONE);
     NUMBER(MBJ_REASON_PACKET_LONG);
     NUMBER(MBJ_REASON_PAIR);
-    NUMBER(MBJ_REASON_GCM_PAIR);
     NUMBER(MBJ_REASON_CIPHER_KEY);
     NUMBER(MBJ_REASON_IV_LENGTH);
     NUMBER(MBJ_REASON_CIPHER_RANGE);
@@ -197,6 +197,11 @@ static void print_answers(void) {
     NUMBER(MBJ_REASON_CODE);
     NUMBER(MBJ_REASON_NULL);
     NUMBER(MBJ_MAX_JOBS);
+    NUMBER(MBJ_MAX_PACKET_BYTES);
+    NUMBER(MBJ_MAX_IV_BYTES);
+    NUMBER(MBJ_MAX_GCM_AAD_BYTES);
+    NUMBER(MBJ_MAX_CCM_AAD_BYTES);
+    NUMBER(MBJ_MAX_HMAC_KEY_BYTES);
     NUMBER(MBJ_MAX_TAG_BYTES);
     NUMBER(MBJ_MAX_SESSIONS);
     NUMBER(MBJ_NO_SESSION);

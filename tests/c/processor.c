@@ -96,12 +96,14 @@ uint32_t mbj_c_new_keeping(struct mbj_handle *handle) {
 }
 
 size_t mbj_c_held_bytes(struct mbj_handle *handle) {
-    calls += handle != NULL;
+    (void)handle;
+    calls++;
     return 0;
 }
 
 void mbj_c_trim(struct mbj_handle *handle) {
-    calls += handle != NULL;
+    (void)handle;
+    calls++;
 }
 
 bool mbj_c_free(struct mbj_handle *handle) {
@@ -111,17 +113,20 @@ bool mbj_c_free(struct mbj_handle *handle) {
 }
 
 uint32_t mbj_c_queue_size(struct mbj_handle *handle) {
-    calls += handle != NULL;
+    (void)handle;
+    calls++;
     return 0;
 }
 
 uint32_t mbj_c_fill(struct mbj_handle *handle, const struct mbj_raw_job *raw) {
-    calls += handle != NULL && raw != NULL;
+    (void)handle, (void)raw;
+    calls++;
     return MBJ_ERR_MEMORY;
 }
 
 static bool give_none(struct mbj_handle *handle, struct mbj_raw_done *done, uint32_t *refusal) {
-    calls += handle != NULL && done != NULL;
+    (void)handle, (void)done;
+    calls++;
     *refusal = MBJ_ERR_NONE;
     return false;
 }

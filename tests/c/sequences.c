@@ -7,6 +7,7 @@
  * file as HMAC from the key. tests/faults/reference.py says what has to be printed for the file. crates/mbj_sequence_tests draws the same
  * jobs and calls as this does with seed 1. */
 #include "check.h"
+#include "mbj_direct.h"
 
 #include <inttypes.h>
 

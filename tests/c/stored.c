@@ -1,6 +1,7 @@
 /* Compares the states of keys, and the state behind one block, with those of OpenSSL. Link with -lcrypto. */
 #define OPENSSL_SUPPRESS_DEPRECATED
 #include "check.h"
+#include "mbj_direct.h"
 
 #include <openssl/sha.h>
 
