@@ -15,7 +15,7 @@ use Rattle.mbj_stage.proofs.HandingOut.{IsCbcNext, cbc-next, ciphered-long, text
 use Rattle.mbj_stage.proofs.course.Course.hand_out_cbc.Given as given
 use Rattle.mbj_stage.proofs.course.Course.hand_out_cbc.Goals as goal
 
-is-next : (g : given.Over) (c : goal.After-cbc_entry-arg-2-1 g) → IsCbcNext c.self.inside.job c.self.inside.packet.items (steps_in c.self.inside.left) g.row.N
+is-next : (g : given.Over) (c : goal.After-cbc_entry-arg-1 g) → IsCbcNext c.self.inside.job c.self.inside.packet.items (steps_in c.self.inside.left) g.row.N
 is-next g c =
     let f = c.self.inside in
     cbc-next f.job f.packet.items (steps_in f.left) f.out f.lengths g.row.N c.requires.rounds c.self.invariant.sound
