@@ -6,6 +6,7 @@
 mod aes;
 #[cfg(test)]
 mod aes_bytes;
+#[cfg(test)]
 mod aes_lanes;
 #[cfg(test)]
 mod args;
