@@ -31,7 +31,7 @@ BENCH = re.compile(r"^(pass|fill|fill_bytes|make_batch|time_library|compare|main
 PARTS = [
     ("heap", re.compile(r"malloc|free|realloc|aligned_alloc|_int_|consolidate|mbj_heap|rattle_(de)?alloc")),
     ("hash", re.compile(r"sha(1|256|512)?_lanes|mbj_hmac|HmacLanes|compress|ghash")),
-    ("keys", re.compile(r"Schedule|key_planes|put_key|expansion|schedules")),
+    ("keys", re.compile(r"Schedule|expan|schedules|laid_keys|Key::new|put_key")),
     ("aes", re.compile(r"aes_lanes|mbj_(ctr|cbc|gcm|ccm|cmac)\b|substitution|rounds::")),
     ("calls", re.compile("")),
 ]
