@@ -38,7 +38,7 @@ static void draw_burst(struct burst *burst) {
     burst->cipher = draw_below(2) == 0 ? IMB_CIPHER_CBC : IMB_CIPHER_CNTR;
     burst->hash = IMB_AUTH_HMAC_SHA_1 + (int)draw_below(5);
     burst->dir = IMB_DIR_ENCRYPT + (int)draw_below(2);
-    burst->told_dir = burst->dir == IMB_DIR_DECRYPT && draw_below(4) == 0 ? 3 + (int)draw_below(100) : burst->dir;
+    burst->told_dir = burst->dir == IMB_DIR_DECRYPT && draw_below(2) == 0 ? 3 + (int)draw_below(100) : burst->dir;
     burst->key_len = 16 + 8 * draw_below(3);
     burst->told_key_len = burst->key_len;
     if (burst->key_len == 32 && !burst->is_checked && draw_below(4) == 0)

@@ -1,5 +1,6 @@
-/* strides OTHER DROPIN: sessions of CBC whose schedules lie some bytes apart, powers of two among them, all with a job in flight at once.
- * Two libraries decipher the same; and the time of a job by the second one doesn't depend on how far apart the sessions are. */
+/* strides OTHER DROPIN [untimed]: sessions of CBC whose schedules lie some bytes apart, powers of two among them, all with a job in flight
+ * at once. Two libraries decipher the same; and, but with `untimed`, the time of a job by the second one doesn't depend on how far apart the
+ * sessions are. */
 #include "library.h"
 
 #include <stdio.h>
@@ -115,7 +116,7 @@ int main(int argc, char **argv) {
     start_drawing(1);
     for (size_t k = 0; k < sizeof strides / sizeof *strides; k++)
         differing += compare(strides[k]);
-    if (!costs_the_same())
+    if (argc < 4 && !costs_the_same())
         differing++;
     for (int i = 0; i < 2; i++)
         libraries[i].release(libraries[i].m);
