@@ -1,4 +1,5 @@
-/* Key expansions whose machine code `expand` must refuse: by a table, by a branch, and by a division. */
+/* Functions whose machine code `secrets` must refuse: by a table in memory, by a branch, by a division, and by a sum where lookups in
+ * registers are wanted. */
 #include <stdint.h>
 #include <string.h>
 
@@ -22,4 +23,9 @@ void by_branch(uint8_t *schedule, const uint8_t *key, size_t len) {
 void by_division(uint8_t *schedule, const uint8_t *key, size_t len) {
     for (size_t i = 1; i < len; i++)
         schedule[i] = (uint8_t)(key[i] / (key[i - 1] | 1));
+}
+
+void by_sum(uint8_t *schedule, const uint8_t *key, size_t len) {
+    for (size_t i = 0; i < len; i++)
+        schedule[i] = key[i] ^ 0x63;
 }
