@@ -196,7 +196,7 @@ enum mbj_status {
  *     cipher CNTR         key 16, 24, 32   iv 12, 16     cipher range, 1 byte or more       dst
  *     cipher GCM          key 16, 24, 32   iv 1 or more  cipher range   aad   dst   tag 1 to 16
  *     cipher CCM          key 16, 24, 32   iv 7 to 13    cipher range   aad   dst   tag 4, 6, .. 16
- *     HMAC                auth_key 1 to 1,024            hash range     tag 1 to the whole
+ *     HMAC                auth_key up to 1,024           hash range     tag 1 to the whole
  *     HMAC from states    auth_key, both states          hash range     tag 1 to the whole
  *     CMAC, CMAC_256      auth_key 16; 32                hash range     tag 1 to 16
  *     GMAC                auth_key 16, 24, 32   iv       hash range     tag 1 to 16
