@@ -7,10 +7,10 @@
 #include <string.h>
 #include <time.h>
 
-enum { SESSIONS = 200, LEN = 64, SCHEDULE = 240, LONGEST_STRIDE = 16384, ROUNDS = 30, TIMED_JOBS = 512, TIMED_SESSIONS = 32, TRIES = 5 };
+enum { SESSIONS = 120, LEN = 64, SCHEDULE = 240, LONGEST_STRIDE = 16384, ROUNDS = 30, TIMED_JOBS = 512, TIMED_SESSIONS = 32, TRIES = 5 };
 
 static struct library libraries[2];
-static uint8_t *schedules, texts[2][SESSIONS][LEN], cipher_text[LEN];
+static uint8_t *schedules, others[SESSIONS][SCHEDULE], texts[2][2 * SESSIONS][LEN], cipher_text[LEN];
 static size_t key_lens[SESSIONS];
 static const size_t strides[] = {240, 256, 512, 960, 1024, 2048, 4096, LONGEST_STRIDE};
 
@@ -22,6 +22,8 @@ static void make_sessions(IMB_MGR *m, size_t stride, bool is_long) {
         draw_bytes(key, sizeof key);
         keyexp_t const expand = key_lens[i] == 16 ? m->keyexp_128 : key_lens[i] == 24 ? m->keyexp_192 : m->keyexp_256;
         expand(key, unused, schedules + stride * i);
+        draw_bytes(key, sizeof key);
+        expand(key, unused, others[i]);
     }
 }
 
@@ -41,11 +43,36 @@ static void fill(IMB_JOB *job, const void *schedule, size_t key_len, uint8_t *ds
     job->msg_len_to_cipher_in_bytes = LEN;
 }
 
-/* A job of each session, and after some of them the session at the same place has another key. */
+static void submit(IMB_MGR *m, size_t stride, size_t i, uint8_t *to) {
+    fill(IMB_GET_NEXT_JOB(m), schedules + stride * i, key_lens[i], to);
+    IMB_SUBMIT_JOB(m);
+}
+
+/* A job that waits for lanes: those behind it aren't given back meanwhile. */
+static void submit_waiting(IMB_MGR *m) {
+    static uint8_t tag[64];
+    IMB_JOB *job = IMB_GET_NEXT_JOB(m);
+    memset(job, 0, sizeof *job);
+    job->cipher_mode = IMB_CIPHER_NULL;
+    job->hash_alg = IMB_AUTH_SHA_512;
+    job->src = cipher_text;
+    job->msg_len_to_hash_in_bytes = LEN;
+    job->auth_tag_output = tag;
+    job->auth_tag_output_len_in_bytes = sizeof tag;
+    IMB_SUBMIT_JOB(m);
+}
+
+/* A job of each session, and while it is in flight one of another session at the same place. */
 static void decipher(struct library *library, size_t stride, uint8_t (*to)[LEN]) {
+    uint8_t kept[SCHEDULE];
+    submit_waiting(library->m);
     for (size_t i = 0; i < SESSIONS; i++) {
-        fill(IMB_GET_NEXT_JOB(library->m), schedules + stride * i, key_lens[i], to[i]);
-        IMB_SUBMIT_JOB(library->m);
+        uint8_t *place = schedules + stride * i;
+        submit(library->m, stride, i, to[2 * i]);
+        memcpy(kept, place, SCHEDULE);
+        memcpy(place, others[i], SCHEDULE);
+        submit(library->m, stride, i, to[2 * i + 1]);
+        memcpy(place, kept, SCHEDULE);
     }
     while (IMB_FLUSH_JOB(library->m) != NULL)
         ;
