@@ -49,6 +49,25 @@ fn check_places(
     }
 }
 
+/// The block in every lane under one schedule, encrypted and decrypted.
+fn check_full_lanes(rt: &impl Abort, schedule: &Schedule, plaintext: u128, ciphertext: u128) {
+    let mut blocks = [plaintext.to_be_bytes(); AES_LANES];
+    encrypt32(&LaneKeys::all(schedule), &mut blocks);
+    expect(
+        rt,
+        "encrypted",
+        blocks,
+        [ciphertext.to_be_bytes(); AES_LANES],
+    );
+    decrypt32(&LaneKeys::all(schedule), &mut blocks);
+    expect(
+        rt,
+        "decrypted",
+        blocks,
+        [plaintext.to_be_bytes(); AES_LANES],
+    );
+}
+
 /// A block under the key in one to seven places, in every place and in every lane. The place behind them stays.
 fn check_key(rt: &impl Abort, key: &[u8], plaintext: u128, ciphertext: u128) {
     assert!(rt; matches!(key.len(), 16 | 24 | 32));
@@ -66,22 +85,7 @@ fn check_key(rt: &impl Abort, key: &[u8], plaintext: u128, ciphertext: u128) {
         ciphertext,
     );
     check_places(rt, &schedule, &mut [], plaintext, ciphertext);
-    let keys = LaneKeys::all(&schedule);
-    let mut blocks = [plaintext.to_be_bytes(); AES_LANES];
-    encrypt32(&keys, &mut blocks);
-    expect(
-        rt,
-        "encrypted",
-        blocks,
-        [ciphertext.to_be_bytes(); AES_LANES],
-    );
-    decrypt32(&keys, &mut blocks);
-    expect(
-        rt,
-        "decrypted",
-        blocks,
-        [plaintext.to_be_bytes(); AES_LANES],
-    );
+    check_full_lanes(rt, &schedule, plaintext, ciphertext);
 }
 
 #[test]

@@ -50,18 +50,23 @@ const FOUND: [u8; 16] = [
     0x36, 0x52, 0x00, 0xf2, 0xd2, 0x00, 0x89, 0x81, 0x26, 0xe8, 0x65, 0x0e, 0x00, 0xa6, 0x95, 0x0c,
 ];
 
+// Other places in the second half.
+const AT_TWICE: [u8; 32] = [
+    15, 0, 128, 1, 7, 255, 8, 14, 2, 13, 3, 12, 200, 4, 11, 5, 9, 10, 6, 129, 5, 11, 4, 200, 12, 3,
+    13, 2, 14, 8, 255, 7,
+];
+
+const FOUND_TWICE: [u8; 32] = [
+    0x36, 0x52, 0x00, 0xf2, 0xd2, 0x00, 0x89, 0x81, 0x26, 0xe8, 0x65, 0x0e, 0x00, 0xa6, 0x95, 0x0c,
+    0x18, 0x5d, 0x12, 0x00, 0x0c, 0x95, 0xa6, 0x00, 0x0e, 0x65, 0xe8, 0x26, 0x81, 0x89, 0x00, 0xd2,
+];
+
 #[test]
 fn a_table_is_looked_up_in_every_lane(rt: HostRuntime) {
     let found = u8x16::from_array(AT).looked_up(&TABLE);
     expect(&rt, "u8x16", found.to_array(), FOUND);
-    let both = u8x32::from_slice([AT, AT].as_flattened());
-    let found = both.looked_up(&TABLE).to_array();
-    expect(
-        &rt,
-        "u8x32",
-        found.as_slice(),
-        [FOUND, FOUND].as_flattened(),
-    );
+    let found = u8x32::from_array(AT_TWICE).looked_up(&TABLE);
+    expect(&rt, "u8x32", found.to_array(), FOUND_TWICE);
 }
 
 const LEFT32: [u32; 16] = [
