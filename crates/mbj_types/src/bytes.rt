@@ -71,18 +71,34 @@ impl Bytes {
     /// These bytes, in place of those that it has: in the same memory where they fit, else in new memory.
     ///
     /// Returns `AllocError` for want of memory; the bytes are then as they were.
+    #[inline(always)]
     pub fn refill(&mut self, alloc: Global, bytes: &[u8]) -> Result<(), AllocError>
         ensures { IfOk result (λ _. self.new ≡ bytes.now) }
     {
         if self.bytes.capacity() < bytes.len() {
-            self.bytes = Vec::from_slice(alloc, bytes)?;
-            return Ok(());
+            return self.renew(alloc, bytes);
         }
         self.bytes.clear();
+        if bytes.is_empty() {
+            return Ok(());
+        }
         self.bytes.extend_from_slice(bytes)
     }
 
-    /// No bytes, in place of those that it has. Memory of at most `most` bytes stays with it; longer memory is freed.
+    /// These bytes in new memory, in place of those that it has. It stays out of line, so that filling memory that is long enough is short.
+    ///
+    /// Returns `AllocError` for want of memory; the bytes are then as they were.
+    #[inline(never)]
+    fn renew(&mut self, alloc: Global, bytes: &[u8]) -> Result<(), AllocError>
+        ensures { IfOk result (λ _. self.new ≡ bytes.now) }
+    {
+        self.bytes = Vec::from_slice(alloc, bytes)?;
+        Ok(())
+    }
+
+    /// No bytes, in place of those that it has. Memory of at most `most` bytes stays with it, with zeros in place of the bytes; longer
+    /// memory is freed.
+    #[inline(always)]
     pub fn clear(&mut self, most: usize)
         ensures { self.new ≡ [] }
     {
@@ -90,6 +106,9 @@ impl Bytes {
             let alloc = *self.bytes.allocator();
             self.bytes = Vec::new(alloc);
             return;
+        }
+        if !self.bytes.is_empty() {
+            self.bytes.as_mut_slice().fill(0);
         }
         self.bytes.clear();
     }
