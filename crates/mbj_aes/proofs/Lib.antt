@@ -16,6 +16,7 @@ pub mod AesLaws
 pub mod TowerCases
 pub mod DecryptionCases
 pub mod BlockWords
+pub mod MovedBytes
 pub mod RoundConstants
 mod Turns
 mod Differences

@@ -7,6 +7,7 @@ mod expansion;
 pub mod inverse_substitution;
 mod laws;
 pub mod lookups;
+pub mod moves;
 mod register;
 mod schedule;
 pub mod substitution;
