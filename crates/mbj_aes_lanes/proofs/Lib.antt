@@ -6,7 +6,8 @@ pub mod FullLanes
 pub mod KeySizes
 pub mod LaneWords
 pub mod SlotFacts
-pub mod WideColumns
+pub mod TowerWords
+mod WideColumns
 pub mod WideKeys
 pub mod WideWords
 pub mod BusySlots

@@ -2,12 +2,11 @@
 ghost use Rattle.std.specs.Prelude.{◌≡◌, ℕ, ◌+◌, ◌-◌, ◌*◌, ◌%◌, ◌<◌, ◌≤◌, All, [], length, map, replicate, slice_index_or};
 ghost use Rattle.mbj_types.specs.Aes.{encipher, key_schedule};
 ghost use Rattle.mbj_types.specs.Blocks.{xor_lists};
-ghost use Rattle.mbj_types.specs.Lanes.{lane_of};
 ghost use Rattle.mbj_aes.specs.Bytes.{IsRoundCount};
 ghost use Rattle.mbj_aes_lanes.specs.KeyBytes.{IsKeyArray, key_of_array};
 ghost use Rattle.mbj_lane.specs.Rounds.{after};
 ghost use Rattle.mbj_aes_lanes.specs.Chaining.{in_lane, chained_once};
-ghost use Rattle.mbj_aes_lanes.specs.Inside.Wide.{state_lane};
+ghost use Rattle.mbj_aes_lanes.specs.Inside.Wide.{state_lane, tower_lane};
 ghost use Rattle.mbj_aes_lanes.specs.Inside.WideKeys.{schedule_in};
 
 use crate::chaining::{Chaining, place_of};
@@ -56,7 +55,7 @@ fn write_keys<V: PassWord, E: Chaining>(keys: &mut [State<V>], entries: &[E], wo
     requires rounds { length keys.old ≡ E.key_rounds + 1 }
     requires count { IsRoundCount E.key_rounds }
     requires room { length words.old ≡ MAX_SCHEDULE_WORDS }
-    requires zeros { (i : ℕ) → i < V.LANES → lane_of V.lane words.old i ≡ replicate MAX_SCHEDULE_WORDS 0 }
+    requires zeros { (i : ℕ) → i < V.LANES → tower_lane V.lane words.old i ≡ replicate MAX_SCHEDULE_WORDS 0 }
     ensures { (i : ℕ) → i < V.LANES → schedule_in V.lane E.key_rounds keys.new i ≡ in_lane (map E.key_of entries.now) i }
 {
     expand_keys(keys, &bytes_of(entries), words);
@@ -175,7 +174,7 @@ fn run<V: PassWord, E: Chaining>(entries: &mut [E], m: u32, room: &mut [State<V>
     requires rests { All (λ e. m ≤ E.rest_of e) entries.old }
     requires room { length room.old ≡ MAX_ROUND_KEYS }
     requires words { length words.old ≡ MAX_SCHEDULE_WORDS }
-    requires zeros { (i : ℕ) → i < V.LANES → lane_of V.lane words.old i ≡ replicate MAX_SCHEDULE_WORDS 0 }
+    requires zeros { (i : ℕ) → i < V.LANES → tower_lane V.lane words.old i ≡ replicate MAX_SCHEDULE_WORDS 0 }
     ensures { entries.new ≡ map (after (chained_once E.key_of E.block_of E.chain_of E.led E.kept) m) entries.old }
 {
     let keys = &mut room[..rounds_of(entries) + 1];

@@ -1,5 +1,6 @@
 -- The state of AES (FIPS 197, 3.4) of the block in each lane, a vector for each of its bytes.
 use Rattle.std.specs.Prelude.{ℕ, List, [], ◌∷◌, ◌++◌, map}
+use Rattle.mbj_types.specs.Lanes.{lane_of}
 use Rattle.mbj_aes.specs.Tower.{from_tower}
 use Rattle.mbj_aes_lanes.specs.declared.wide.state.Word.{Word}
 use Rattle.mbj_aes_lanes.specs.declared.wide.state.State.{State}
@@ -19,3 +20,7 @@ module _ {V : Type 0} (lane : V → ℕ → ℕ) where
 
   abbrev pub tower_block : State V → ℕ → List ℕ
   tower_block s i = map from_tower (state_lane s i)
+
+  -- the bytes that stand in lane i of lane words in the tower's basis
+  abbrev pub tower_lane : List V → ℕ → List ℕ
+  tower_lane words i = map from_tower (lane_of lane words i)

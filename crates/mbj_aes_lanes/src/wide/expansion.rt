@@ -1,15 +1,16 @@
-//! KEYEXPANSION (FIPS 197, 5.2) of a key in each lane, all at once, word by word.
+//! KEYEXPANSION (FIPS 197, 5.2) of a key in each lane, all at once, word by word. All words are in the tower's basis.
 ghost use Rattle.std.specs.Prelude.{◌≡◌, ℕ, ◌+◌, ◌-◌, ◌*◌, ◌<◌, ◌≤◌, List, length, take};
-ghost use Rattle.mbj_types.specs.Aes.{word, sub_bytes, rot_word, rcon, schedule_term, key_schedule};
+ghost use Rattle.mbj_types.specs.Aes.{word, sub_byte, sub_bytes, rot_word, rcon, schedule_term, key_schedule};
 ghost use Rattle.mbj_types.specs.Blocks.{xor_lists};
-ghost use Rattle.mbj_types.specs.Lanes.{lane_of};
 ghost use Rattle.mbj_aes.specs.Bytes.{IsKeyWords};
-ghost use Rattle.mbj_aes_lanes.specs.Inside.Wide.{word_lane};
+ghost use Rattle.mbj_aes.specs.Tower.{from_tower};
+ghost use Rattle.mbj_aes_lanes.specs.Inside.Wide.{tower_word, tower_lane};
 ghost use Rattle.mbj_aes_lanes.specs.Inside.WideKeys.{IsLaneKey};
 
+use crate::wide::key_states::{SBOX_CONSTANT_IN_TOWER, to_tower_byte};
 use crate::wide::state::{Word, xor_words};
 use crate::wide::words::{MAX_SCHEDULE_WORDS, put_word, word_at};
-use mbj_aes::substitution::substituted;
+use mbj_aes::substitution::substituted_in_tower;
 use mbj_aes::{ROUND_WORDS, round_constant};
 use mbj_types::Lane8;
 
@@ -21,10 +22,20 @@ const LONG_KEY_WORDS: usize = 8;
 
 const MIDDLE_WORD: usize = 4;
 
+// SBOX of each byte.
+#[inline(always)]
+fn substituted<V: Lane8>(x: V) -> V
+    ensures { (i : ℕ) → i < V.LANES → from_tower (V.lane result i) ≡ sub_byte (from_tower (V.lane x i)) }
+{
+    substituted_in_tower(x)
+        .once
+        .xored(V::splat(SBOX_CONSTANT_IN_TOWER))
+}
+
 // SUBWORD.
 #[inline(always)]
 fn sub_word<V: Lane8>(word: Word<V>) -> Word<V>
-    ensures { (i : ℕ) → i < V.LANES → word_lane V.lane result i ≡ sub_bytes (word_lane V.lane word i) }
+    ensures { (i : ℕ) → i < V.LANES → tower_word V.lane result i ≡ sub_bytes (tower_word V.lane word i) }
 {
     Word {
         b0: substituted(word.b0),
@@ -37,7 +48,7 @@ fn sub_word<V: Lane8>(word: Word<V>) -> Word<V>
 // ROTWORD.
 #[inline(always)]
 fn rot_word<V: Lane8>(word: Word<V>) -> Word<V>
-    ensures { (i : ℕ) → word_lane V.lane result i ≡ rot_word (word_lane V.lane word i) }
+    ensures { (i : ℕ) → tower_word V.lane result i ≡ rot_word (tower_word V.lane word i) }
 {
     Word {
         b0: word.b1,
@@ -47,19 +58,36 @@ fn rot_word<V: Lane8>(word: Word<V>) -> Word<V>
     }
 }
 
+// The sum of two words, byte by byte.
+#[inline(always)]
+fn sum<V: Lane8>(a: Word<V>, b: Word<V>) -> Word<V>
+    ensures { (i : ℕ) → i < V.LANES → tower_word V.lane result i ≡ xor_lists (tower_word V.lane a i) (tower_word V.lane b i) }
+{
+    xor_words(a, b)
+}
+
+// Word `i` of the lists in the lanes.
+#[inline(always)]
+fn word_in<V: Lane8>(words: &[V], i: usize) -> Word<V>
+    requires { 4 * i + 4 ≤ length words.now }
+    ensures { (k : ℕ) → tower_word V.lane result k ≡ word (tower_lane V.lane words.now k) i }
+{
+    word_at(words, i)
+}
+
 // Rcon[j], in every lane.
 #[inline(always)]
 fn constant_word<V: Lane8>(j: usize) -> Word<V>
     requires least { 1 ≤ j }
     requires most { j ≤ 10 }
-    ensures { (i : ℕ) → i < V.LANES → word_lane V.lane result i ≡ rcon j }
+    ensures { (i : ℕ) → i < V.LANES → tower_word V.lane result i ≡ rcon j }
 {
-    let [b0, b1, b2, b3] = round_constant(j);
+    let [first, ..] = round_constant(j);
     Word {
-        b0: V::splat(b0),
-        b1: V::splat(b1),
-        b2: V::splat(b2),
-        b3: V::splat(b3),
+        b0: to_tower_byte(V::splat(first)),
+        b1: V::splat(0),
+        b2: V::splat(0),
+        b3: V::splat(0),
     }
 }
 
@@ -70,11 +98,11 @@ fn schedule_term<V: Lane8>(words: &[V], key_words: usize, i: usize) -> Word<V>
     requires first { key_words ≤ i }
     requires last { i < 4 * (key_words + 7) }
     requires written { 4 * i ≤ length words.now }
-    ensures { (k : ℕ) → k < V.LANES → word_lane V.lane result k ≡ schedule_term key_words (lane_of V.lane words.now k) i }
+    ensures { (k : ℕ) → k < V.LANES → tower_word V.lane result k ≡ schedule_term key_words (tower_lane V.lane words.now k) i }
 {
-    let last = word_at(words, i - 1);
+    let last = word_in(words, i - 1);
     if i % key_words == 0 {
-        xor_words(sub_word(rot_word(last)), constant_word(i / key_words))
+        sum(sub_word(rot_word(last)), constant_word(i / key_words))
     } else if key_words == LONG_KEY_WORDS && i % LONG_KEY_WORDS == MIDDLE_WORD {
         sub_word(last)
     } else {
@@ -89,11 +117,11 @@ fn next_word<V: Lane8>(words: &[V], key_words: usize, i: usize) -> Word<V>
     requires first { key_words ≤ i }
     requires last { i < 4 * (key_words + 7) }
     requires written { 4 * i ≤ length words.now }
-    ensures { (k : ℕ) → k < V.LANES → word_lane V.lane result k
-        ≡ xor_lists (word (lane_of V.lane words.now k) (i - key_words)) (schedule_term key_words (lane_of V.lane words.now k) i) }
+    ensures { (k : ℕ) → k < V.LANES → tower_word V.lane result k
+        ≡ xor_lists (word (tower_lane V.lane words.now k) (i - key_words)) (schedule_term key_words (tower_lane V.lane words.now k) i) }
 {
-    let before = word_at(words, i - key_words);
-    xor_words(before, schedule_term(words, key_words, i))
+    let before = word_in(words, i - key_words);
+    sum(before, schedule_term(words, key_words, i))
 }
 
 /// Expands keys of `key_words` words, which are the first lane words and have zeros behind them. The schedules take their place.
@@ -101,8 +129,8 @@ fn next_word<V: Lane8>(words: &[V], key_words: usize, i: usize) -> Word<V>
 pub fn expand_words<V: Lane8>(words: &mut [V], key_words: usize)
     requires key { IsKeyWords key_words }
     requires room { length words.old ≡ MAX_SCHEDULE_WORDS }
-    ensures { (k : ℕ) (key : List ℕ) → k < V.LANES → IsLaneKey key_words key (lane_of V.lane words.old k)
-        → take (16 * (key_words + 7)) (lane_of V.lane words.new k) ≡ key_schedule key }
+    ensures { (k : ℕ) (key : List ℕ) → k < V.LANES → IsLaneKey key_words key (tower_lane V.lane words.old k)
+        → take (16 * (key_words + 7)) (tower_lane V.lane words.new k) ≡ key_schedule key }
 {
     'words: for i in key_words..ROUND_WORDS * (key_words + EXTRA_KEYS) {
         let word = next_word(words, key_words, i);

@@ -3,7 +3,8 @@
 ghost use Rattle.std.specs.Prelude.{◌≡◌, ℕ, ◌+◌, ◌*◌, ◌<◌, ◌≤◌, length};
 ghost use Rattle.mbj_types.specs.Aes.{round_key};
 ghost use Rattle.mbj_types.specs.Lanes.{lane_of};
-ghost use Rattle.mbj_aes_lanes.specs.Inside.Wide.{word_lane, state_lane, tower_word, tower_block};
+ghost use Rattle.mbj_aes.specs.Tower.{from_tower};
+ghost use Rattle.mbj_aes_lanes.specs.Inside.Wide.{word_lane, state_lane, tower_word, tower_block, tower_lane};
 ghost use Rattle.mbj_aes_lanes.specs.Inside.WideKeys.{with_constant, key_in};
 
 use crate::wide::state::{State, Word, add_round_key, splat_state};
@@ -13,15 +14,26 @@ use mbj_aes::lookups::by_halves;
 use mbj_aes::tables::{FROM_TOWER_HIGH, FROM_TOWER_LOW, TO_TOWER_HIGH, TO_TOWER_LOW};
 use mbj_types::Lane8;
 
+/// `SBOX_CONSTANT` in the tower's basis.
+pub const SBOX_CONSTANT_IN_TOWER: u8 = 0xf8;
+
+/// Each byte in the tower's basis.
+#[inline(always)]
+pub fn to_tower_byte<V: Lane8>(x: V) -> V
+    ensures { (i : ℕ) → i < V.LANES → from_tower (V.lane result i) ≡ V.lane x i }
+{
+    by_halves(&TO_TOWER_LOW, &TO_TOWER_HIGH, x)
+}
+
 #[inline(always)]
 fn word_to_tower<V: Lane8>(word: Word<V>) -> Word<V>
     ensures { (i : ℕ) → i < V.LANES → tower_word V.lane result i ≡ word_lane V.lane word i }
 {
     Word {
-        b0: by_halves(&TO_TOWER_LOW, &TO_TOWER_HIGH, word.b0),
-        b1: by_halves(&TO_TOWER_LOW, &TO_TOWER_HIGH, word.b1),
-        b2: by_halves(&TO_TOWER_LOW, &TO_TOWER_HIGH, word.b2),
-        b3: by_halves(&TO_TOWER_LOW, &TO_TOWER_HIGH, word.b3),
+        b0: to_tower_byte(word.b0),
+        b1: to_tower_byte(word.b1),
+        b2: to_tower_byte(word.b2),
+        b3: to_tower_byte(word.b3),
     }
 }
 
@@ -46,18 +58,27 @@ fn with_constant<V: Lane8>(s: State<V>) -> State<V>
     add_round_key(s, splat_state(SBOX_CONSTANT))
 }
 
+// Round key `r` of `rounds` rounds, whose bytes are those of a state in the tower's basis.
+#[inline(always)]
+fn key_of_tower<V: Lane8>(key: State<V>, r: usize, rounds: usize) -> State<V>
+    ensures { (i : ℕ) → i < V.LANES → key_in V.lane rounds r result i ≡ tower_block V.lane key i }
+{
+    if r == 0 {
+        key
+    } else if r == rounds {
+        let plain = from_tower(key);
+        with_constant(plain)
+    } else {
+        add_round_key(key, splat_state(SBOX_CONSTANT_IN_TOWER))
+    }
+}
+
 /// Round key `r` of `rounds` rounds, whose bytes are those of a state.
 #[inline(always)]
 pub fn key_of<V: Lane8>(key: State<V>, r: usize, rounds: usize) -> State<V>
     ensures { (i : ℕ) → i < V.LANES → key_in V.lane rounds r result i ≡ state_lane V.lane key i }
 {
-    if r == 0 {
-        to_tower(key)
-    } else if r == rounds {
-        with_constant(key)
-    } else {
-        to_tower(with_constant(key))
-    }
+    key_of_tower(to_tower(key), r, rounds)
 }
 
 /// Round key `r` of `rounds` rounds in each lane, whose schedules are the lane words.
@@ -67,6 +88,15 @@ pub fn key_at<V: Lane8>(words: &[V], r: usize, rounds: usize) -> State<V>
     ensures { (i : ℕ) → i < V.LANES → key_in V.lane rounds r result i ≡ round_key (lane_of V.lane words.now i) r }
 {
     key_of(state_at(words, r), r, rounds)
+}
+
+/// Round key `r` of `rounds` rounds in each lane, whose schedules are the lane words, in the tower's basis.
+#[inline(always)]
+pub fn key_at_tower<V: Lane8>(words: &[V], r: usize, rounds: usize) -> State<V>
+    requires { 16 * r + 16 ≤ length words.now }
+    ensures { (i : ℕ) → i < V.LANES → key_in V.lane rounds r result i ≡ round_key (tower_lane V.lane words.now i) r }
+{
+    key_of_tower(state_at(words, r), r, rounds)
 }
 
 #[inline(always)]

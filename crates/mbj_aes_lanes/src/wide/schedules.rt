@@ -1,30 +1,31 @@
 //! Keys in lanes, whose schedules are made in lane words and become round keys as states.
 ghost use Rattle.std.specs.Prelude.{◌≡◌, ℕ, ◌+◌, ◌-◌, ◌*◌, ◌<◌, ◌≤◌, [], length, take, drop, ◌++◌, replicate, slice_index_or};
 ghost use Rattle.mbj_types.specs.Aes.{key_schedule};
-ghost use Rattle.mbj_types.specs.Lanes.{lane_at, lane_of};
+ghost use Rattle.mbj_types.specs.Lanes.{lane_at};
 ghost use Rattle.mbj_types.specs.declared.kind.TheConstants.{AES_LANES};
 ghost use Rattle.mbj_aes.specs.Bytes.{IsRoundCount};
 ghost use Rattle.mbj_aes_lanes.specs.KeyBytes.{IsKeyArray, key_of_array};
+ghost use Rattle.mbj_aes_lanes.specs.Inside.Wide.{tower_lane};
 ghost use Rattle.mbj_aes_lanes.specs.Inside.WideKeys.{schedule_in};
 
 use crate::blocks::words_of;
 use crate::lane_blocks::LaneBlocks;
 use crate::wide::expansion::{EXTRA_KEYS, expand_words};
-use crate::wide::key_states::key_at;
+use crate::wide::key_states::{key_at_tower, to_tower};
 use crate::wide::pass_word::PassWord;
 use crate::wide::state::State;
-use crate::wide::words::MAX_SCHEDULE_WORDS;
+use crate::wide::words::{MAX_SCHEDULE_WORDS, put_state, state_at};
 use mbj_types::{AES_LANES, AesWord, BLOCK_BYTES, Lane8};
 
-/// Writes the round keys of the schedules, 16 lane words for each.
+/// Writes the round keys of the schedules, 16 lane words for each, which are in the tower's basis.
 #[inline(always)]
 pub fn write_schedules<V: Lane8>(keys: &mut [State<V>], words: &[V])
     requires { 16 * length keys.old ≤ length words.now }
     ensures { (i : ℕ) → i < V.LANES
-        → schedule_in V.lane (length keys.old - 1) keys.new i ≡ take (16 * length keys.old) (lane_of V.lane words.now i) }
+        → schedule_in V.lane (length keys.old - 1) keys.new i ≡ take (16 * length keys.old) (tower_lane V.lane words.now i) }
 {
     'keys: for r in 0..keys.len() {
-        keys[r] = key_at(words, r, keys.len() - 1);
+        keys[r] = key_at_tower(words, r, keys.len() - 1);
     }
 }
 
@@ -32,7 +33,7 @@ pub fn write_schedules<V: Lane8>(keys: &mut [State<V>], words: &[V])
 #[inline(always)]
 pub fn zero_words() -> [AesWord; MAX_SCHEDULE_WORDS]
     ensures length { length result ≡ MAX_SCHEDULE_WORDS }
-    ensures zeros { (i : ℕ) → i < AES_LANES → lane_of (lane_at 8) result i ≡ replicate MAX_SCHEDULE_WORDS 0 }
+    ensures zeros { (i : ℕ) → i < AES_LANES → tower_lane (lane_at 8) result i ≡ replicate MAX_SCHEDULE_WORDS 0 }
 {
     [<AesWord as Lane8>::splat(0); MAX_SCHEDULE_WORDS]
 }
@@ -58,26 +59,38 @@ impl LaneBlocks for KeyHalves<'_> {
     }
 }
 
-// The half of each key that begins at `start` goes into the words from there on.
+// The block of each lane, in the tower's basis.
+#[inline(always)]
+fn put_in_tower<V: PassWord, B: LaneBlocks>(words: &mut [V], blocks: &B)
+    requires room { length words.old ≡ 16 }
+    requires lanes { V.LANES ≤ B.lanes_of blocks.now }
+    ensures { (i : ℕ) → i < V.LANES → tower_lane V.lane words.new i ≡ B.block_in blocks.now i }
+{
+    words_of(words, blocks);
+    let state = to_tower(state_at(words, 0));
+    put_state(words, &state);
+}
+
+// The half of each key that begins at `start` goes into the words from there on, in the tower's basis.
 #[inline(always)]
 fn load_half<V: PassWord>(words: &mut [V], bytes: &[[u8; 32]; AES_LANES], start: usize)
     requires within { start + 16 ≤ 32 }
     requires room { start + 16 ≤ length words.old }
-    ensures { (i : ℕ) → i < V.LANES → lane_of V.lane words.new i
-        ≡ take start (lane_of V.lane words.old i) ++ take 16 (drop start (slice_index_or bytes.now i []))
-        ++ drop (start + 16) (lane_of V.lane words.old i) }
+    ensures { (i : ℕ) → i < V.LANES → tower_lane V.lane words.new i
+        ≡ take start (tower_lane V.lane words.old i) ++ take 16 (drop start (slice_index_or bytes.now i []))
+        ++ drop (start + 16) (tower_lane V.lane words.old i) }
 {
     let half = KeyHalves { keys: bytes, start };
-    words_of(&mut words[start..start + BLOCK_BYTES], &half);
+    put_in_tower(&mut words[start..start + BLOCK_BYTES], &half);
 }
 
-// The keys go into the first words, which are zeros.
+// The keys go into the first words, which are zeros, in the tower's basis.
 #[inline(always)]
 fn load_keys<V: PassWord>(words: &mut [V], bytes: &[[u8; 32]; AES_LANES])
     requires room { length words.old ≡ MAX_SCHEDULE_WORDS }
-    requires zeros { (i : ℕ) → i < V.LANES → lane_of V.lane words.old i ≡ replicate MAX_SCHEDULE_WORDS 0 }
+    requires zeros { (i : ℕ) → i < V.LANES → tower_lane V.lane words.old i ≡ replicate MAX_SCHEDULE_WORDS 0 }
     ensures { (i : ℕ) → i < V.LANES → length (slice_index_or bytes.now i []) ≡ 32
-        → lane_of V.lane words.new i ≡ slice_index_or bytes.now i [] ++ replicate (MAX_SCHEDULE_WORDS - 32) 0 }
+        → tower_lane V.lane words.new i ≡ slice_index_or bytes.now i [] ++ replicate (MAX_SCHEDULE_WORDS - 32) 0 }
 {
     load_half(words, bytes, 0);
     load_half(words, bytes, BLOCK_BYTES);
@@ -92,7 +105,7 @@ pub fn expand_keys<V: PassWord>(
 )
     requires rounds { IsRoundCount (length keys.old - 1) }
     requires room { length words.old ≡ MAX_SCHEDULE_WORDS }
-    requires zeros { (i : ℕ) → i < V.LANES → lane_of V.lane words.old i ≡ replicate MAX_SCHEDULE_WORDS 0 }
+    requires zeros { (i : ℕ) → i < V.LANES → tower_lane V.lane words.old i ≡ replicate MAX_SCHEDULE_WORDS 0 }
     ensures { (i : ℕ) → i < V.LANES → IsKeyArray (length keys.old - 1) (slice_index_or bytes.now i [])
         → schedule_in V.lane (length keys.old - 1) keys.new i
         ≡ key_schedule (key_of_array (length keys.old - 1) (slice_index_or bytes.now i [])) }

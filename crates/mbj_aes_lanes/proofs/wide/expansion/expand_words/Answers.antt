@@ -1,10 +1,13 @@
 -- One word more is that of each schedule in each turn.
-use Rattle.std.proofs.Common.{◌≡◌, ℕ, List, ◌+◌, ◌-◌, ◌*◌, ◌<◌, ◌≤◌, ◌++◌, take, drop, replicate, ap, ◌∙◌, sym, arith}
+use Rattle.std.proofs.Common.{◌≡◌, ℕ, List, ◌+◌, ◌-◌, ◌*◌, ◌<◌, ◌≤◌, ◌++◌, map, take, drop, replicate, ap, ◌∙◌, sym, arith}
 use Rattle.std.proofs.lemmas.List.{take_at}
 use Rattle.mbj_types.specs.Aes.{schedule}
 use Rattle.mbj_types.specs.Lanes.{lane_of}
 use Rattle.mbj_aes.proofs.KeyLists.{IsSchedule, IsSchedule-schedule}
 use Rattle.mbj_aes.proofs.KeyWords.{schedule-next, schedule-none}
+use Rattle.mbj_aes.specs.Tower.{from_tower}
+use Rattle.mbj_aes_lanes.specs.Inside.Wide.{word_lane, tower_lane}
+use Rattle.mbj_aes_lanes.proofs.TowerWords.{map-mid}
 use Rattle.mbj_aes_lanes.proofs.WideWords.{key_schedule-words}
 use Rattle.mbj_aes_lanes.proofs.wide.expansion.expand_words.Goals as goal
 
@@ -16,11 +19,12 @@ pub words-preserved : goal.words-preserved
 words-preserved g c k key h is =
     let nk : ℕ = c.args.key_words in
     let i : ℕ = c.words.i in
-    let ys : List ℕ = lane_of g.V.Lane8.lane c.words.words k in
+    let ys : List ℕ = tower_lane g.V.Lane8.lane c.words.words k in
     let fewer : 240 - 4 * i - 4 ≡ 240 - 4 * (i + 1) = omega arith in
     let some : 1 ≤ nk = grind (arith, c.requires.key) in
     let last : i < 4 * (nk + 7) = omega (arith, c.words-test.true) in
-    c.put_word.ensures k
+    ap (map from_tower) (c.put_word.ensures k)
+    ∙ map-mid from_tower (4 * i) (4 * i + 4) (lane_of g.V.Lane8.lane c.words.words k) (word_lane g.V.Lane8.lane c.next_word-word.result k)
     ∙ ap (λ x. take (4 * i) ys ++ x ++ drop (4 * i + 4) ys) (c.next_word-word.ensures k h)
     ∙ schedule-next nk i (240 - 4 * i) key ys some (omega arith) is.size is.bytes (c.words.invariant k key h is)
     ∙ ap (λ n. schedule nk key (i + 1 - nk) ++ replicate n 0) fewer

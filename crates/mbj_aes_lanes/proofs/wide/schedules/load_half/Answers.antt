@@ -1,9 +1,17 @@
 -- The words are the half of each key.
-use Rattle.std.proofs.Common.{◌+◌, ◌-◌, arith}
+use Rattle.std.proofs.Common.{◌+◌, ◌-◌, List, ℕ, ◌++◌, take, drop, map, refl, ap, ◌∙◌, arith}
+use Rattle.mbj_types.specs.Lanes.{lane_of}
+use Rattle.mbj_aes.specs.Tower.{from_tower}
+use Rattle.mbj_aes_lanes.proofs.TowerWords.{map-mid}
 use Rattle.mbj_aes_lanes.proofs.WideWords.{lane_of-mid}
 use Rattle.mbj_aes_lanes.proofs.wide.schedules.load_half.Goals as goal
 
 pub returns : goal.returns
 returns g c i h =
-    lane_of-mid g.V.Lane8.lane c.args.words.now c.words_of.new.words c.args.start (c.args.start + 16 - c.args.start) i _ (omega arith)
-    (c.words_of.ensures i h)
+    let lane = g.V.Lane8.lane in
+    let start : ℕ = c.args.start in
+    let ys : List ℕ = lane_of lane c.args.words.now i in
+    let half : List ℕ = lane_of lane c.put_in_tower.new.words i in
+    ap (map from_tower) (lane_of-mid lane c.args.words.now c.put_in_tower.new.words start (start + 16 - start) i half (omega arith) refl)
+    ∙ map-mid from_tower start (start + 16) ys half
+    ∙ ap (λ b. take start (map from_tower ys) ++ b ++ drop (start + 16) (map from_tower ys)) (c.put_in_tower.ensures i h)

@@ -1,11 +1,11 @@
 -- One half is loaded after the other.
 use Rattle.std.proofs.Common.{[], slice_index_or, ◌∙◌}
-use Rattle.mbj_types.specs.Lanes.{lane_of}
+use Rattle.mbj_aes_lanes.specs.Inside.Wide.{tower_lane}
 use Rattle.mbj_aes_lanes.proofs.WideWords.{both-halves}
 use Rattle.mbj_aes_lanes.proofs.wide.schedules.load_keys.Goals as goal
 
 pub returns : goal.returns
 returns g c i h size =
     c.load_half-2.ensures i h
-    ∙ both-halves (slice_index_or c.args.bytes.now i []) (lane_of g.V.Lane8.lane c.args.words.now i) (lane_of g.V.Lane8.lane c.load_half.new.words i) 208
+    ∙ both-halves (slice_index_or c.args.bytes.now i []) (tower_lane g.V.Lane8.lane c.args.words.now i) (tower_lane g.V.Lane8.lane c.load_half.new.words i) 208
     size (c.requires.zeros i h) (c.load_half.ensures i h)
