@@ -65,15 +65,15 @@ none_set (true ∷ ms) zero none t = absurd (omega arith)
 none_set (false ∷ ms) zero none t = not_both t
 none_set (b ∷ ms) (suc i) none t = let none' : mask_l ms ≡ 0 = omega arith in none_set ms i none' t
 
--- where no bit of a comparison is set, no lanes are equal
-pub none_equal : (xs ys : List ℕ) (i : ℕ) → length xs ≡ 16 → length ys ≡ 16 → i < 16
-    → mask_l (map (top 31) (zip2 (λ a b. cond (eqb a b) (2 ^ 32 - 1) 0) xs ys)) % 2 ^ 64 ≡ 0 → get_or xs i 0 ≡ get_or ys i 0 → ⊥
-none_equal xs ys i sx sy h clear same =
-    let ms : List Bool = zip2 eqb xs ys in
-    let many : length ms ≡ 16 = length-zip2 eqb xs ys (sx ∙ sym sy) ∙ sx in
+-- where no bit of a comparison by t is set, it holds of no lanes
+pub none_told : (t : ℕ → ℕ → Bool) (xs ys : List ℕ) (n i : ℕ) → n ≤ 16 → length xs ≡ n → length ys ≡ n → i < n
+    → mask_l (map (top 31) (zip2 (λ a b. cond (t a b) (2 ^ 32 - 1) 0) xs ys)) % 2 ^ 64 ≡ 0 → t (get_or xs i 0) (get_or ys i 0) ≡ true → ⊥
+none_told t xs ys n i few sx sy h clear holds =
+    let ms : List Bool = zip2 t xs ys in
+    let many : length ms ≡ n = length-zip2 t xs ys (sx ∙ sym sy) ∙ sx in
     let none : mask_l ms ≡ 0 =
-    sym (mask_l-mod ms 64 (omega (arith, many))) ∙ ap (λ (ms : List Bool). mask_l ms % 2 ^ 64) (sym (tops_compared w32 eqb xs ys)) ∙ clear in
-    none_set ms i none (get_or-zip2 eqb xs ys i 0 0 false (omega arith) (omega arith) ∙ eq-eqb (get_or xs i 0) (get_or ys i 0) same)
+    sym (mask_l-mod ms 64 (omega (arith, many))) ∙ ap (λ (ms : List Bool). mask_l ms % 2 ^ 64) (sym (tops_compared w32 t xs ys)) ∙ clear in
+    none_set ms i none (get_or-zip2 t xs ys i 0 0 false (omega arith) (omega arith) ∙ holds)
 
 -- n is the least of some numbers
 pub record IsLeastOf (n : ℕ) (xs : List ℕ) : Type 0 where

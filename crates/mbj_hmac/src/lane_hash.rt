@@ -1,12 +1,13 @@
 ghost use Rattle.std.specs.Prelude.{◌≡◌, ℕ, ◌+◌, ◌*◌, ◌^◌, ◌<◌, ◌≤◌, List, ◌++◌, length, take, replicate, IsTrue};
 ghost use Rattle.mbj_types.specs.Auths.{compression_of_name, hash_of_name};
 ghost use Rattle.mbj_types.specs.declared.class.HashName.{HashName};
+ghost use Rattle.mbj_sha_lanes.specs.Halves.{IsWithin};
 ghost use Rattle.mbj_hmac.specs.Rounds.{Chaining, compression, hashed};
 ghost use Rattle.mbj_hmac.specs.Inside.InLanes.{most_lanes};
 ghost use Rattle.mbj_hmac.specs.Inside.Layout.{IsStandard};
 
 use crate::view::Chains;
-use mbj_sha_lanes::Blocks;
+use mbj_sha_lanes::{Blocks, Half};
 use mbj_types::{HashName, Tag};
 
 /// Hashes of FIPS 180-4 that share a compression, which is done in lanes.
@@ -101,11 +102,18 @@ pub trait LaneHash {
     /// Room for a schedule, whose words are not looked at.
     fn blank_schedule() -> Self::Schedule;
 
-    /// Compresses a block into the hash value of each lane. The schedule is made in the room that is lent.
-    fn compress<B: Blocks>(states: &mut Self::States, schedule: &mut Self::Schedule, blocks: &B)
+    /// Compresses a block into the hash value of each lane, or of each in the half that is named; what the others hold then is not
+    /// looked at. The schedule is made in the room that is lent.
+    fn compress<B: Blocks>(
+        states: &mut Self::States,
+        schedule: &mut Self::Schedule,
+        blocks: &B,
+        half: Option<Half>,
+    )
         requires size { B.block_bytes ≡ chaining.block_bytes }
         requires lent { (i : ℕ) → i < LANES → B.lends blocks.now i }
-        ensures { (i : ℕ) → i < LANES → lane states.new i ≡ chaining.compress (lane states.old i) (B.block blocks.now i) };
+        ensures { (i : ℕ) → i < LANES → IsWithin half i
+            → lane states.new i ≡ chaining.compress (lane states.old i) (B.block blocks.now i) };
 
     /// Hash values of lanes that have none, which are not looked at.
     fn blank_states() -> Self::States;

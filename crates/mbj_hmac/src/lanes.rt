@@ -2,13 +2,17 @@
 ghost use Rattle.std.specs.Prelude.{◌≡◌, ℕ, ◌-◌, ◌<◌, ◌≤◌, length, map};
 ghost use Rattle.mbj_types.specs.Lanes.{lane_at};
 ghost use Rattle.mbj_lane.specs.Rounds.{after};
+ghost use Rattle.mbj_sha_lanes.specs.Halves.{IsWithin};
 ghost use Rattle.mbj_hmac.specs.Rounds.{advanced, round, turned};
 ghost use Rattle.mbj_hmac.specs.Inside.InLanes.{AreTied, IsTied, entry_in, idle, lowered, most_lanes, moved, reach_at, seen_at, turn_of, with_chain};
 
 use crate::entry::HmacEntry;
 use crate::lane_hash::LaneHash;
-use crate::rests::{IDLE, is_turn, least, least_lane, lowered, reaches, with_word32, word_of};
+use crate::rests::{
+    IDLE, busy_half, is_turn, least, least_lane, lowered, reaches, with_word32, word_of,
+};
 use crate::view::{LaneEntries, chain_of};
+use mbj_sha_lanes::Half;
 use std::simd::u32x16;
 
 /// How many rounds the entries of all lanes have left.
@@ -141,7 +145,8 @@ impl<H: LaneHash> HmacLanes<H> {
         ensures tied { AreTied self.new.rests.left self.new.rests.turns entries.new }
         ensures rests { (i : ℕ) → i < most_lanes → lane_at 32 self.new.rests.left i ≡ lowered m (lane_at 32 self.old.rests.left i) }
     {
-        compressed::<H>(entries, m, &mut self.states, schedule);
+        let half = busy_half(self.rests.left);
+        compressed::<H>(entries, m, half, &mut self.states, schedule);
         go_on(entries, m);
         self.rests.left = lowered(self.rests.left, m);
     }
@@ -204,19 +209,21 @@ impl<H: LaneHash> HmacLanes<H> {
     }
 }
 
-/// The hash values are led through the next `m` blocks of the entries that have rounds left.
+/// The hash values are led through the next `m` blocks of the entries that have rounds left, all of which are in the half that is named.
 fn compressed<H: LaneHash>(
     entries: &[HmacEntry<H>],
     m: u32,
+    half: Option<Half>,
     states: &mut H::States,
     schedule: &mut H::Schedule,
 )
-    requires { (i : ℕ) → 0 < (entry_in entries.now i).rest → m ≤ (entry_in entries.now i).rest }
+    requires rests { (i : ℕ) → 0 < (entry_in entries.now i).rest → m ≤ (entry_in entries.now i).rest }
+    requires half { (i : ℕ) → i < H.LANES → 0 < (entry_in entries.now i).rest → IsWithin half i }
     ensures { (i : ℕ) → i < H.LANES → 0 < (entry_in entries.now i).rest
         → H.lane states.new i ≡ (after (advanced H.chaining) m (seen_at (H.lane states.old) entries.now i)).chain }
 {
     'passes: for done in 0..m {
-        H::compress(states, schedule, &LaneEntries { entries, done });
+        H::compress(states, schedule, &LaneEntries { entries, done }, half);
     }
 }
 

@@ -2,8 +2,10 @@
 ghost use Rattle.std.specs.Prelude.{◌≡◌, ℕ, ◌<◌, ◌≤◌, ◌^◌, ◌==◌, if◌then◌else◌, false, min, take, drop};
 ghost use Rattle.std.specs.Simd.Lanes.{zip2};
 ghost use Rattle.mbj_types.specs.Lanes.{lane_at};
+ghost use Rattle.mbj_sha_lanes.specs.Halves.{IsWithin};
 ghost use Rattle.mbj_hmac.specs.Inside.InLanes.{idle, lowered, most_lanes, reach_at};
 
+use mbj_sha_lanes::{Half, part_of};
 use std::simd::{u32x4, u32x8, u32x16, u64x8};
 
 /// The rest of an idle lane. No entry has this many rounds.
@@ -103,4 +105,26 @@ pub(crate) fn is_turn(rests: u32x16, turns: u32x16) -> bool
     ensures { result ≡ false → (i : ℕ) → i < most_lanes → lane_at 32 rests i ≡ lane_at 32 turns i → ⊥ }
 {
     rests.simd_eq(turns).any()
+}
+
+/// Whether one of eight lanes is busy.
+#[inline(always)]
+fn has_busy(rests: u32x8) -> bool
+    ensures { result ≡ false → (i : ℕ) → i < 8 → lane_at 32 rests i < idle → ⊥ }
+{
+    rests.simd_lt(u32x8::splat(IDLE)).any()
+}
+
+/// The half that has every busy lane, where one has.
+#[inline(always)]
+pub(crate) fn busy_half(rests: u32x16) -> Option<Half>
+    ensures { (i : ℕ) → i < most_lanes → lane_at 32 rests i < idle → IsWithin result i }
+{
+    if !has_busy(part_of(rests, Half::Upper)) {
+        Some(Half::Lower)
+    } else if !has_busy(part_of(rests, Half::Lower)) {
+        Some(Half::Upper)
+    } else {
+        None
+    }
 }

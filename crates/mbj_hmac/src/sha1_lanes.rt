@@ -1,7 +1,8 @@
 ghost use Rattle.std.specs.Prelude.{◌≡◌, ℕ, ◌<◌, ◌≤◌, ◌*◌, ◌+◌, ◌++◌, List, length, take};
-ghost use Rattle.sha1.specs.Sha1.{digest_bytes};
+ghost use Rattle.sha1.specs.Sha1.{compress, digest_bytes};
 ghost use Rattle.mbj_types.specs.Lanes.{lane_at, lane_of};
 ghost use Rattle.mbj_types.specs.declared.kind.TheConstants.{SHA1_LANES};
+ghost use Rattle.mbj_sha_lanes.specs.Halves.{IsIn};
 ghost use Rattle.mbj_hmac.specs.Chainings.{sha1_chaining};
 
 use crate::ends::put;
@@ -9,9 +10,10 @@ use crate::lane_hash::LaneHash;
 use crate::rests::with_word32;
 use crate::view::Chains;
 use crate::words::word32;
-use mbj_sha_lanes::{Blocks, Load32};
+use mbj_sha_lanes::{Blocks, Half, Load32, half_words, put_half, take_half};
 use mbj_sha1_lanes::{compress_lanes, gathered, scattered};
 use mbj_types::{HashName, SHA1_LANES, Sha1Word, Tag};
+use std::simd::u32x8;
 
 /// SHA-1 in lanes.
 pub struct Sha1Lanes;
@@ -43,6 +45,21 @@ fn bytes_of(chain: &[u32; 5]) -> [u8; 20]
     [
         a0, a1, a2, a3, b0, b1, b2, b3, c0, c1, c2, c3, d0, d1, d2, d3, e0, e1, e2, e3,
     ]
+}
+
+/// Compresses a block into the hash value of each lane of one half.
+#[inline(never)]
+fn compress_half<B: Blocks>(states: &mut [Sha1Word; 5], half: Half, blocks: &B)
+    requires size { B.block_bytes ≡ BLOCK_BYTES }
+    requires lent { (i : ℕ) → i < SHA1_LANES → B.lends blocks.now i }
+    ensures { (i : ℕ) → IsIn half i
+        → lane_of (lane_at 32) states.new i ≡ compress (lane_of (lane_at 32) states.old i) (B.block blocks.now i) }
+{
+    let mut words = half_words(blocks, half);
+    let mut lanes = [u32x8::splat(0); 5];
+    take_half(&mut lanes, states, half);
+    compress_lanes(&mut lanes, &mut words);
+    put_half(states, half, &lanes);
 }
 
 impl LaneHash for Sha1Lanes {
@@ -151,9 +168,19 @@ impl LaneHash for Sha1Lanes {
     fn blank_schedule() {}
 
     #[inline(always)]
-    fn compress<B: Blocks>(states: &mut [Sha1Word; 5], _schedule: &mut (), blocks: &B) {
-        let mut words = Sha1Word::block_words(blocks);
-        compress_lanes(states, &mut words);
+    fn compress<B: Blocks>(
+        states: &mut [Sha1Word; 5],
+        _schedule: &mut (),
+        blocks: &B,
+        half: Option<Half>,
+    ) {
+        match half {
+            Some(half) => compress_half(states, half, blocks),
+            None => {
+                let mut words = Sha1Word::block_words(blocks);
+                compress_lanes(states, &mut words);
+            }
+        }
     }
 
     ghost use Rattle.std.proofs.Common.{rules};

@@ -1,7 +1,8 @@
 ghost use Rattle.std.specs.Prelude.{◌≡◌, ℕ, ◌<◌, ◌≤◌, ◌*◌, ◌+◌, ◌++◌, List, length, take};
-ghost use Rattle.sha2.specs.Sha256.{digest_bytes};
+ghost use Rattle.sha2.specs.Sha256.{compress, digest_bytes};
 ghost use Rattle.mbj_types.specs.Lanes.{lane_at, lane_of};
 ghost use Rattle.mbj_types.specs.declared.kind.TheConstants.{SHA256_LANES};
+ghost use Rattle.mbj_sha_lanes.specs.Halves.{IsIn};
 ghost use Rattle.mbj_hmac.specs.Chainings.{sha256_chaining};
 
 use crate::ends::put;
@@ -9,9 +10,10 @@ use crate::lane_hash::LaneHash;
 use crate::rests::with_word32;
 use crate::view::Chains;
 use crate::words::word32;
-use mbj_sha_lanes::{Blocks, Load32};
-use mbj_sha256_lanes::{ROUNDS, compress_scheduled, gathered, scattered};
+use mbj_sha_lanes::{Blocks, Half, Load32, half_words, put_half, take_half};
+use mbj_sha256_lanes::{ROUNDS, compress_lanes, compress_scheduled, gathered, scattered};
 use mbj_types::{HashName, SHA256_LANES, Sha256Word, Tag};
+use std::simd::u32x8;
 
 /// SHA-224 and SHA-256 in lanes.
 pub struct Sha256Lanes;
@@ -63,6 +65,21 @@ fn bytes_of(chain: &[u32; 8]) -> [u8; 32]
         a0, a1, a2, a3, b0, b1, b2, b3, c0, c1, c2, c3, d0, d1, d2, d3, e0, e1, e2, e3, f0, f1, f2,
         f3, g0, g1, g2, g3, h0, h1, h2, h3,
     ]
+}
+
+/// Compresses a block into the hash value of each lane of one half.
+#[inline(never)]
+fn compress_half<B: Blocks>(states: &mut [Sha256Word; 8], half: Half, blocks: &B)
+    requires size { B.block_bytes ≡ BLOCK_BYTES }
+    requires lent { (i : ℕ) → i < SHA256_LANES → B.lends blocks.now i }
+    ensures { (i : ℕ) → IsIn half i
+        → lane_of (lane_at 32) states.new i ≡ compress (lane_of (lane_at 32) states.old i) (B.block blocks.now i) }
+{
+    let mut words = half_words(blocks, half);
+    let mut lanes = [u32x8::splat(0); 8];
+    take_half(&mut lanes, states, half);
+    compress_lanes(&mut lanes, &mut words);
+    put_half(states, half, &lanes);
 }
 
 impl LaneHash for Sha256Lanes {
@@ -181,9 +198,15 @@ impl LaneHash for Sha256Lanes {
         states: &mut [Sha256Word; 8],
         schedule: &mut [Sha256Word; ROUNDS],
         blocks: &B,
+        half: Option<Half>,
     ) {
-        let words = Sha256Word::block_words(blocks);
-        compress_scheduled(states, &words, schedule);
+        match half {
+            Some(half) => compress_half(states, half, blocks),
+            None => {
+                let words = Sha256Word::block_words(blocks);
+                compress_scheduled(states, &words, schedule);
+            }
+        }
     }
 
     ghost use Rattle.std.proofs.Common.{rules};

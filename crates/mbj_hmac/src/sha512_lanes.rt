@@ -10,7 +10,7 @@ use crate::lane_hash::LaneHash;
 use crate::rests::with_word64;
 use crate::view::Chains;
 use crate::words::word64;
-use mbj_sha_lanes::{Blocks, Load64};
+use mbj_sha_lanes::{Blocks, Half, Load64};
 use mbj_sha512_lanes::{ROUNDS, compress_scheduled, gathered, scattered};
 use mbj_types::{HashName, SHA512_LANES, Sha512Word, Tag};
 
@@ -184,6 +184,7 @@ impl LaneHash for Sha512Lanes {
         states: &mut [Sha512Word; 8],
         schedule: &mut [Sha512Word; ROUNDS],
         blocks: &B,
+        _half: Option<Half>,
     ) {
         let words = Sha512Word::block_words(blocks);
         compress_scheduled(states, &words, schedule);

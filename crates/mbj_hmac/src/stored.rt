@@ -11,7 +11,7 @@ use crate::sha1_lanes::Sha1Lanes;
 use crate::sha256_lanes::Sha256Lanes;
 use crate::sha512_lanes::Sha512Lanes;
 use crate::view::Chains;
-use mbj_sha_lanes::Blocks;
+use mbj_sha_lanes::{Blocks, Half};
 use mbj_types::{Auth, HashName};
 
 /// The longest state, in bytes: that of SHA-384 and SHA-512.
@@ -48,7 +48,7 @@ impl<'a, H: LaneHash> Chains<H::Chain> for EachLane<'a, H> {
     }
 }
 
-/// Stores the state behind one block, which is compressed in every lane.
+/// Stores the state behind one block, which is compressed in each lane of one half.
 fn store_state<H: LaneHash>(hash: HashName, block: &[u8], state: &mut [u8])
     requires serves { IsTrue (H.chaining.serves hash) }
     requires block { length block.now ≡ (hash_of_name hash).block_bytes }
@@ -61,7 +61,12 @@ fn store_state<H: LaneHash>(hash: HashName, block: &[u8], state: &mut [u8])
         block,
     };
     let mut states = H::gathered(&lanes);
-    H::compress(&mut states, &mut H::blank_schedule(), &lanes);
+    H::compress(
+        &mut states,
+        &mut H::blank_schedule(),
+        &lanes,
+        Some(Half::Lower),
+    );
     H::store(state, &H::scattered(&states, 0));
 }
 

@@ -1,5 +1,5 @@
-//! The compression in lanes of any number, with its schedule made in a window. No product calls it: the kernel of HMAC has the
-//! whole schedule made first.
+//! The compression in lanes of any number, with its schedule made in a window. The kernel of HMAC calls it for one half of its lanes,
+//! and has the whole schedule made first for all of them.
 ghost use Rattle.std.specs.Prelude.{◌≡◌, ℕ, ◌<◌, List, length};
 ghost use Rattle.sha2.specs.Sha256.{compress, first_words};
 ghost use Rattle.mbj_types.specs.Lanes.{lane_of};

@@ -7,11 +7,24 @@ use Rattle.std.proofs.lemmas.List.{get_or_append_left, get_or-append-add}
 use Rattle.mbj_types.specs.Lanes.{lane_at, lane_of}
 use Rattle.mbj_types.proofs.LaneLists.{length-lane_of, slice_index-lane_of}
 
+-- vectors whose words in a lane are those of others in theirs
+pub same_lanes : (bits : ℕ) (xs ys : List (List ℕ)) (i j : ℕ) → length xs ≡ length ys
+    → ((k : ℕ) → k < length xs → lane_at bits (slice_index_or xs k []) i ≡ lane_at bits (slice_index_or ys k []) j)
+    → lane_of (lane_at bits) xs i ≡ lane_of (lane_at bits) ys j
+same_lanes bits xs ys i j size each =
+    let lane = lane_at bits in
+    same_number_lists (lane_of lane xs i) (lane_of lane ys j) (length-lane_of lane xs i ∙ size ∙ sym (length-lane_of lane ys j))
+    (λ k h.
+    let inside : k < length xs = omega (arith, length-lane_of lane xs i) in
+    slice_index-lane_of lane xs i k [] inside
+    ∙ each k inside
+    ∙ sym (slice_index-lane_of lane ys j k [] (omega (arith, size))))
+
 module _ (bits n : ℕ) where
-  first_lane : (xs ys : List ℕ) (i : ℕ) → length xs ≡ n → i < n → lane_at bits (xs ++ ys) i ≡ lane_at bits xs i
+  pub first_lane : (xs ys : List ℕ) (i : ℕ) → length xs ≡ n → i < n → lane_at bits (xs ++ ys) i ≡ lane_at bits xs i
   first_lane xs ys i l lt = ap (λ (x : ℕ). x % 2 ^ bits) (get_or_append_left xs ys 0 i (omega arith))
 
-  second_lane : (xs ys : List ℕ) (i : ℕ) → length xs ≡ n → lane_at bits (xs ++ ys) (n + i) ≡ lane_at bits ys i
+  pub second_lane : (xs ys : List ℕ) (i : ℕ) → length xs ≡ n → lane_at bits (xs ++ ys) (n + i) ≡ lane_at bits ys i
   second_lane xs ys i l = ap (λ (x : ℕ). x % 2 ^ bits) (ap (λ m. get_or (xs ++ ys) (m + i) 0) (sym l) ∙ get_or-append-add xs ys i 0)
 
   -- this many vectors, each of n lanes, and the vectors of both groups
@@ -21,28 +34,14 @@ module _ (bits n : ℕ) where
       (joined : (k : ℕ) → k < count → slice_index_or ws k [] ≡ slice_index_or low k [] ++ slice_index_or high k []) where
     pub first_lanes : (i : ℕ) → i < n → lane_of (lane_at bits) ws i ≡ lane_of (lane_at bits) low i
     first_lanes i lt =
-        let lane = lane_at bits in
-        let same : length (lane_of lane ws i) ≡ length (lane_of lane low i) =
-        length-lane_of lane ws i ∙ size ∙ sym low_size ∙ sym (length-lane_of lane low i) in
-        same_number_lists (lane_of lane ws i) (lane_of lane low i) same
+        same_lanes bits ws low i i (size ∙ sym low_size)
         (λ k h.
-        let inside : k < count = omega (arith, length-lane_of lane ws i, size) in
-        let wide = Each1-get_or (λ (v : List ℕ). length v ≡ n) low k [] (omega (arith, low_size)) width in
-        slice_index-lane_of lane ws i k [] (omega (arith, size))
-        ∙ ap (λ v. lane v i) (joined k inside)
-        ∙ first_lane (slice_index_or low k []) (slice_index_or high k []) i wide lt
-        ∙ sym (slice_index-lane_of lane low i k [] (omega (arith, low_size))))
+        let wide = Each1-get_or (λ (v : List ℕ). length v ≡ n) low k [] (omega (arith, size, low_size)) width in
+        ap (λ v. lane_at bits v i) (joined k (omega (arith, size))) ∙ first_lane (slice_index_or low k []) (slice_index_or high k []) i wide lt)
 
     pub second_lanes : (i : ℕ) → lane_of (lane_at bits) ws (n + i) ≡ lane_of (lane_at bits) high i
     second_lanes i =
-        let lane = lane_at bits in
-        let same : length (lane_of lane ws (n + i)) ≡ length (lane_of lane high i) =
-        length-lane_of lane ws (n + i) ∙ size ∙ sym high_size ∙ sym (length-lane_of lane high i) in
-        same_number_lists (lane_of lane ws (n + i)) (lane_of lane high i) same
+        same_lanes bits ws high (n + i) i (size ∙ sym high_size)
         (λ k h.
-        let inside : k < count = omega (arith, length-lane_of lane ws (n + i), size) in
-        let wide = Each1-get_or (λ (v : List ℕ). length v ≡ n) low k [] (omega (arith, low_size)) width in
-        slice_index-lane_of lane ws (n + i) k [] (omega (arith, size))
-        ∙ ap (λ v. lane v (n + i)) (joined k inside)
-        ∙ second_lane (slice_index_or low k []) (slice_index_or high k []) i wide
-        ∙ sym (slice_index-lane_of lane high i k [] (omega (arith, high_size))))
+        let wide = Each1-get_or (λ (v : List ℕ). length v ≡ n) low k [] (omega (arith, size, low_size)) width in
+        ap (λ v. lane_at bits v (n + i)) (joined k (omega (arith, size))) ∙ second_lane (slice_index_or low k []) (slice_index_or high k []) i wide)

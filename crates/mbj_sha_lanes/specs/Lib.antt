@@ -1,3 +1,4 @@
+pub mod Halves
 pub mod Sha2
 pub mod Words
 pub mod Inside

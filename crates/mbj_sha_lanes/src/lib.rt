@@ -11,6 +11,7 @@
 #![tactic(auto)]
 
 mod blocks;
+mod halves;
 pub mod load32;
 pub mod load64;
 mod scheduled;
@@ -23,6 +24,7 @@ pub mod words64;
 mod working;
 
 pub use blocks::Blocks;
+pub use halves::{Half, half_words, part_of, put_half, take_half};
 pub use load32::Load32;
 pub use load64::Load64;
 pub use scheduled::compress_scheduled;

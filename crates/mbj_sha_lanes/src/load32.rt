@@ -96,7 +96,7 @@ fn transposed(a: u32x8, b: u32x8, c: u32x8, d: u32x8) -> [u32x8; 4]
 
 /// The 16 words of each block of a group: the eight from lane `first` on.
 #[inline(always)]
-fn group_words<B: Blocks>(blocks: &B, first: usize) -> [u32x8; 16]
+pub(crate) fn group_words<B: Blocks>(blocks: &B, first: usize) -> [u32x8; 16]
     requires size { B.block_bytes ≡ 64 }
     requires small { first < 2 ^ 32 }
     requires lent { (i : ℕ) → i < 8 → B.lends blocks.now (first + i) }
@@ -139,7 +139,7 @@ fn group_words<B: Blocks>(blocks: &B, first: usize) -> [u32x8; 16]
 
 /// Two vectors side by side.
 #[inline(always)]
-fn both(low: u32x8, high: u32x8) -> u32x16
+pub(crate) fn both(low: u32x8, high: u32x8) -> u32x16
     requires low { length low ≡ 8 }
     requires high { length high ≡ 8 }
     ensures { result ≡ low ++ high }

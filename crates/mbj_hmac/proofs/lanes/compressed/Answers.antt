@@ -6,4 +6,4 @@ pub passes-preserved : goal.passes-preserved
 passes-preserved g c i lt some =
     let lane = g.H.LaneHash.lane in
     pass_led g.H.LaneHash.chaining c.passes.done (lane c.args.states.now i) (lane c.passes.states i) (lane c.compress.new.states i) (entry_in c.args.entries.now i)
-    some (c.passes.invariant i lt some) (c.compress.ensures i lt)
+    some (c.passes.invariant i lt some) (c.compress.ensures i lt (c.requires.half i lt some))

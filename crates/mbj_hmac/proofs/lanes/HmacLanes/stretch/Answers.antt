@@ -6,8 +6,8 @@ use Rattle.mbj_hmac.specs.Inside.InLanes.{entry_in, most_lanes}
 use Rattle.mbj_hmac.proofs.InLanes.{all_moved, entry_in-moved, entry_in-past, has_entry, lane_led, tied_le, tied_rest}
 use Rattle.mbj_hmac.proofs.lanes.HmacLanes.stretch.Goals as goal
 
-pub compressed-requires : goal.compressed-requires
-compressed-requires g c i some =
+pub compressed-requires-clause-rests : goal.compressed-requires-clause-rests
+compressed-requires-clause-rests g c i some =
     let rests = c.args.self.now.rests in
     let es = c.args.entries.now in
     elim (cases_lt i most_lanes) [
@@ -18,6 +18,15 @@ compressed-requires g c i some =
       | inr ge ↦
           let none : (entry_in es i).rest ≡ 0 = ap (λ (e : HmacState). e.rest) (entry_in-past es i (omega (arith, c.requires.few, g.met.H.LaneHash.narrow))) in
           absurd (omega (arith, none))
+    ]
+
+-- a lane whose entry has rounds left is busy
+pub compressed-requires-clause-half : goal.compressed-requires-clause-half
+compressed-requires-clause-half g c i lt some =
+    let inside : i < most_lanes = omega (arith, g.met.H.LaneHash.narrow) in
+    elim (c.requires.tied.tied i inside) [
+      | inl p ↦ absurd (omega (arith, p.1))
+      | inr p ↦ c.busy_half-half.ensures i inside p.0
     ]
 
 pub returns-clause-rests : goal.returns-clause-rests
