@@ -257,8 +257,8 @@ typedef struct mbj_mgr {
  * mbj_end_mgr does nothing. */
 MBJ_CHECKED MBJ_API enum mbj_refusal mbj_init_mgr(MBJ_MGR *m);
 
-/* Makes a manager as mbj_init_mgr does, which keeps the memory of jobs that were given back for later ones. Then most jobs take no memory,
- * and keys lie longer in it: see mbj_held_bytes and mbj_trim. */
+/* Makes a manager as mbj_init_mgr does, which keeps more memory of jobs that were given back for later ones: blocks of at most 2,048 bytes,
+ * where mbj_init_mgr's keeps those of at most 256. Then most jobs take no memory: see mbj_held_bytes and mbj_trim. */
 MBJ_CHECKED MBJ_API enum mbj_refusal mbj_init_mgr_keeping(MBJ_MGR *m);
 
 /* Frees what mbj_init_mgr took, and neither the caller's memory nor the bytes of jobs. NULL is left alone. */
@@ -275,7 +275,7 @@ MBJ_API void mbj_free_mgr(MBJ_MGR *m);
  * MBJ_ERR_NO_KEYS or MBJ_ERR_MEMORY. The manager keeps the set until it uses another one or ends; the handle may be freed before. */
 MBJ_CHECKED MBJ_API enum mbj_refusal mbj_use_keys(MBJ_MGR *m, struct mbj_keys *keys);
 
-/* How many bytes a manager of mbj_init_mgr_keeping keeps for later jobs: 0 where there is no manager, and for one of mbj_init_mgr. */
+/* How many bytes a manager keeps for later jobs: 0 where there is no manager. */
 MBJ_API size_t mbj_held_bytes(MBJ_MGR *m);
 
 /* Frees what the manager keeps for later jobs. Jobs that are submitted keep theirs. */

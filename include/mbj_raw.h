@@ -75,7 +75,7 @@ uint32_t mbj_c_version(void);
 MBJ_CHECKED MBJ_NONNULL
 uint32_t mbj_c_new(struct mbj_handle *handle);
 
-/* The same, and its cells keep the memory of a job's bytes for later jobs once the job is given back: at most 2,048 bytes each for key, IV,
+/* The same, and its cells keep more of the memory of a job's bytes once the job is given back: at most 2,048 bytes each, not 256, for key, IV,
  * authentication key, additional data and packet. Longer memory is freed. */
 MBJ_CHECKED MBJ_NONNULL
 uint32_t mbj_c_new_keeping(struct mbj_handle *handle);

@@ -36,6 +36,7 @@ static void a_job_is_submitted_again_where_memory_wanted(MBJ_MGR *m) {
     uint8_t tag[MAC_BYTES];
     MBJ_JOB *job = mbj_get_next_job(m);
     fill_mac(job, mac_text, sizeof mac_text, tag);
+    mbj_trim(m);
     allocations = 0;
     refuse_at = 1;
     CHECK(mbj_submit_job(m) == NULL && mbj_get_errno(m) == MBJ_ERR_MEMORY && job->status == MBJ_STATUS_ERROR);
@@ -44,15 +45,19 @@ static void a_job_is_submitted_again_where_memory_wanted(MBJ_MGR *m) {
     CHECK(finish(m) == job && is_done(job) && memcmp(tag, mac, sizeof mac) == 0);
 }
 
-/* Submits the job, which takes this many blocks and no more, and all of them are free once it is given back. */
+/* Submits the job, which takes this many blocks and no more where the manager keeps none, and all of them are free once it is given back
+ * and the manager trimmed. */
 static void submit_for_blocks(MBJ_MGR *m, long expected) {
+    mbj_trim(m);
     long before = blocks;
     allocations = 0;
     const MBJ_JOB *done = mbj_submit_job(m);
     CHECK(mbj_get_errno(m) == MBJ_ERR_NONE && (done != NULL || blocks == before + expected));
     if (done == NULL)
         done = mbj_flush_job(m);
-    CHECK(done != NULL && is_done(done) && allocations == expected && blocks == before);
+    CHECK(done != NULL && is_done(done) && allocations == expected);
+    mbj_trim(m);
+    CHECK(blocks == before);
 }
 
 /* A block for each of keys, IV, additional data and packet that the job uses and that has bytes. */

@@ -1,11 +1,19 @@
-/* Tests managers that keep memory: what they hold, what trimming frees, that results stay the same, and that nothing is kept without the
- * call for it. Link with refuse.c. */
+/* Tests what managers keep: how much, what trimming frees, that results stay the same, and that nothing of a job is left in it. Link with
+ * refuse.c. */
 #include "check.h"
 #include "refuse.h"
 
-enum { KEPT_BYTES = 2048, LONG_BYTES = KEPT_BYTES + 1 };
+enum { SMALL_BYTES = 256, KEPT_BYTES = 2048 };
 
-static uint8_t packet[LONG_BYTES];
+/* Each way to make a manager, and how long a block it keeps at most. */
+static const struct {
+    enum mbj_refusal (*init)(MBJ_MGR *m);
+    size_t most;
+} makings[] = {{mbj_init_mgr, SMALL_BYTES}, {mbj_init_mgr_keeping, KEPT_BYTES}};
+
+enum { MAKINGS = sizeof makings / sizeof *makings };
+
+static uint8_t packet[KEPT_BYTES + 1];
 
 /* Submits an HMAC over this many bytes of the packet, and finishes it. Returns how many blocks that took. */
 static long run_mac(MBJ_MGR *m, size_t len) {
@@ -18,18 +26,10 @@ static long run_mac(MBJ_MGR *m, size_t len) {
     return allocations;
 }
 
-static void a_manager_keeps_nothing_by_itself(void) {
-    MBJ_MGR m;
-    CHECK(mbj_init_mgr(&m) == MBJ_ERR_NONE && mbj_held_bytes(&m) == 0);
-    for (int turn = 0; turn < 3; turn++)
-        CHECK(run_mac(&m, 64) == 2 && mbj_held_bytes(&m) == 0);
-    mbj_end_mgr(&m);
-}
-
 /* The second job of a cell takes no block, and a shorter one neither. */
-static void a_cell_is_used_again(void) {
+static void a_cell_is_used_again(int making) {
     MBJ_MGR m;
-    CHECK(mbj_init_mgr_keeping(&m) == MBJ_ERR_NONE && mbj_held_bytes(&m) == 0);
+    CHECK(makings[making].init(&m) == MBJ_ERR_NONE && mbj_held_bytes(&m) == 0);
     CHECK(run_mac(&m, 64) == 2 && mbj_held_bytes(&m) == 64 + sizeof mac_key);
     while (run_mac(&m, 64) != 0)
         CHECK(mbj_held_bytes(&m) <= 513 * (64 + sizeof mac_key));
@@ -41,20 +41,21 @@ static void a_cell_is_used_again(void) {
     mbj_end_mgr(&m);
 }
 
-/* A packet of 2,048 bytes stays, a longer one doesn't; the key of the HMAC does. */
-static void a_long_packet_is_freed(void) {
+/* The longest packet stays, a longer one doesn't; the key of the HMAC does. */
+static void a_long_packet_is_freed(int making) {
     MBJ_MGR m;
-    CHECK(mbj_init_mgr_keeping(&m) == MBJ_ERR_NONE);
-    CHECK(run_mac(&m, LONG_BYTES) == 2 && mbj_held_bytes(&m) == sizeof mac_key);
+    size_t most = makings[making].most;
+    CHECK(makings[making].init(&m) == MBJ_ERR_NONE);
+    CHECK(run_mac(&m, most + 1) == 2 && mbj_held_bytes(&m) == sizeof mac_key);
     mbj_trim(&m);
-    CHECK(run_mac(&m, KEPT_BYTES) == 2 && mbj_held_bytes(&m) == KEPT_BYTES + sizeof mac_key);
+    CHECK(run_mac(&m, most) == 2 && mbj_held_bytes(&m) == most + sizeof mac_key);
     mbj_end_mgr(&m);
 }
 
 /* RFC 2202, 3: the tag is the same in memory that another job left. */
-static void results_stay_the_same(void) {
+static void results_stay_the_same(int making) {
     MBJ_MGR m;
-    CHECK(mbj_init_mgr_keeping(&m) == MBJ_ERR_NONE);
+    CHECK(makings[making].init(&m) == MBJ_ERR_NONE);
     for (int turn = 0; turn < 5; turn++) {
         uint8_t tag[MAC_BYTES];
         run_mac(&m, 1500);
@@ -66,9 +67,9 @@ static void results_stay_the_same(void) {
 }
 
 /* A submission without memory is refused, leaves nothing behind, and is done the next time. */
-static void a_job_without_memory_is_refused(void) {
+static void a_job_without_memory_is_refused(int making) {
     MBJ_MGR m;
-    CHECK(mbj_init_mgr_keeping(&m) == MBJ_ERR_NONE);
+    CHECK(makings[making].init(&m) == MBJ_ERR_NONE);
     for (long at = 1; at <= 2; at++) {
         uint8_t tag[MAC_BYTES];
         MBJ_JOB *job = mbj_get_next_job(&m);
@@ -91,11 +92,12 @@ static void no_manager_holds_nothing(void) {
 int main(void) {
     long before = blocks;
     no_manager_holds_nothing();
-    a_manager_keeps_nothing_by_itself();
-    a_cell_is_used_again();
-    a_long_packet_is_freed();
-    results_stay_the_same();
-    a_job_without_memory_is_refused();
+    for (int making = 0; making < MAKINGS; making++) {
+        a_cell_is_used_again(making);
+        a_long_packet_is_freed(making);
+        results_stay_the_same(making);
+        a_job_without_memory_is_refused(making);
+    }
     CHECK(blocks == before);
     return 0;
 }

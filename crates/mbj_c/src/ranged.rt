@@ -22,7 +22,7 @@ use crate::range::CipherRange;
 use crate::refusal::Refusal;
 use crate::sessions::Sessions;
 use crate::words::Words;
-use mbj_manager::{Cell, KEPT_BYTES, Manager};
+use mbj_manager::{Cell, KEPT_BYTES, Manager, SMALL_BYTES};
 use mbj_ring::{CELLS, Ring};
 use mbj_types::Kind;
 use std::alloc::{AllocError, Global};
@@ -73,7 +73,7 @@ fn manager(alloc: Global, keeps: bool) -> Result<Manager, AllocError>
 
 /// At most how many bytes a cell keeps for each field of a job.
 fn most_kept(keeps: bool) -> usize {
-    if keeps { KEPT_BYTES } else { 0 }
+    if keeps { KEPT_BYTES } else { SMALL_BYTES }
 }
 
 /// Sets the range of the job in this open cell.

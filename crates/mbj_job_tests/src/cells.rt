@@ -65,23 +65,30 @@ fn a_job_comes_and_goes_in_a_cell(rt: HostRuntime) -> Result<(), Fail> {
     Ok(())
 }
 
-#[test]
-fn a_manager_keeps_memory_until_it_is_trimmed(rt: HostRuntime) -> Result<(), Fail> {
-    let alloc = rt.alloc();
-    let mut manager = Manager::keeping(alloc)?;
-    expect(&rt, "new", manager.held(), 0);
-    check_taken_back(&rt, alloc, &mut manager)?;
+fn check_kept(rt: &impl Abort, alloc: Global, mut manager: Manager) -> Result<(), Fail> {
+    expect(rt, "new", manager.held(), 0);
+    check_taken_back(rt, alloc, &mut manager)?;
     let held = manager.held();
     assert!(rt; held > 0);
     manager.trim();
-    expect(&rt, "trimmed", manager.held(), 0);
+    expect(rt, "trimmed", manager.held(), 0);
     Ok(())
+}
+
+#[test]
+fn a_manager_keeps_short_memory_until_it_is_trimmed(rt: HostRuntime) -> Result<(), Fail> {
+    check_kept(&rt, rt.alloc(), Manager::new(rt.alloc())?)
+}
+
+#[test]
+fn a_keeping_manager_keeps_memory_until_it_is_trimmed(rt: HostRuntime) -> Result<(), Fail> {
+    check_kept(&rt, rt.alloc(), Manager::keeping(rt.alloc())?)
 }
 
 #[test]
 fn another_manager_keeps_none(rt: HostRuntime) -> Result<(), Fail> {
     let alloc = rt.alloc();
-    let mut manager = Manager::new(alloc)?;
+    let mut manager = Manager::keeping_none(alloc)?;
     check_taken_back(&rt, alloc, &mut manager)?;
     expect(&rt, "held", manager.held(), 0);
     Ok(())

@@ -35,7 +35,7 @@ pub use lane::Cause;
 pub use lane_queue::LaneQueue;
 #[doc(hidden)]
 pub use lane_queues::LaneQueues;
-pub use manager::{KEPT_BYTES, Manager};
+pub use manager::{KEPT_BYTES, Manager, SMALL_BYTES};
 pub use queued::Queued;
 #[doc(hidden)]
 pub use works::Works;

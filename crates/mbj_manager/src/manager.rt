@@ -26,7 +26,10 @@ use mbj_types::{Done, Job, Kind, RingFull};
 use std::alloc::{AllocError, Global};
 use std::marker::Model;
 
-/// How many bytes of memory a cell that keeps memory keeps at most, each for key, IV, authentication key, additional data and packet.
+/// How many bytes of memory a cell of `Manager::new` keeps at most, each for key, IV, authentication key, additional data and packet.
+pub const SMALL_BYTES: usize = 256;
+
+/// How many bytes of memory a cell of `Manager::keeping` keeps at most, each for these.
 pub const KEPT_BYTES: usize = 2048;
 
 /// A manager of jobs for one thread.
@@ -35,7 +38,7 @@ pub const KEPT_BYTES: usize = 2048;
 /// `get_completed` and `flush` give finished jobs back, always in the order of submission. A job that is refused comes
 /// back in its place, as `Status::InvalidArgs`.
 ///
-/// `new` and `keeping` take all the memory of cells and lanes; no other call takes any. At most `CELLS` jobs are submitted and not given
+/// `new`, `keeping` and `keeping_none` take all the memory of cells and lanes; no other call takes any. At most `CELLS` jobs are submitted and not given
 /// back.
 ///
 /// ```
@@ -72,22 +75,32 @@ impl Model for Manager {
 }
 
 impl Manager {
-    /// A manager with no job and no open cell, and with counts of 0.
+    /// A manager with no job and no open cell, and with counts of 0. Its cells keep memory that later jobs use: at most `SMALL_BYTES` for
+    /// each field of a job, with zeros written over the bytes.
     ///
     /// Returns `AllocError` for want of memory.
     pub fn new(alloc: Global) -> Result<Manager, AllocError>
         ensures { IfOk result (λ m. m ≡ new_manager) }
     {
-        Manager::with_most(alloc, 0)
+        Manager::with_most(alloc, SMALL_BYTES)
     }
 
-    /// A manager as `new` makes it, whose cells keep memory that later jobs use: at most `KEPT_BYTES` for each field of a job.
+    /// A manager as `new` makes it, whose cells keep more memory: at most `KEPT_BYTES` for each field of a job.
     ///
     /// Returns `AllocError` for want of memory.
     pub fn keeping(alloc: Global) -> Result<Manager, AllocError>
         ensures { IfOk result (λ m. m ≡ new_manager) }
     {
         Manager::with_most(alloc, KEPT_BYTES)
+    }
+
+    /// A manager as `new` makes it, whose cells keep no memory: what a job took is freed, or goes away with its cell.
+    ///
+    /// Returns `AllocError` for want of memory.
+    pub fn keeping_none(alloc: Global) -> Result<Manager, AllocError>
+        ensures { IfOk result (λ m. m ≡ new_manager) }
+    {
+        Manager::with_most(alloc, 0)
     }
 
     fn with_most(alloc: Global, most: usize) -> Result<Manager, AllocError>

@@ -58,7 +58,7 @@ impl<'k> Party<'k> {
         ensures known { IfOk result (λ party. party.known ≡ known.entry) }
     {
         let cells = HeapCircularBuffer::with_capacity(alloc, HAND_ROOM as usize)?;
-        let manager = Manager::new(alloc)?;
+        let manager = Manager::keeping_none(alloc)?;
         let settled = Vec::with_capacity(alloc, HAND_ROOM as usize)?;
         Ok(Party {
             seat,

@@ -55,7 +55,7 @@ impl Task {
     pub(crate) fn new(alloc: Global, jobs: Vec<Job>) -> Result<Task, AllocError>
         ensures { IfOk result (λ t. t.jobs.items ≡ jobs.items) }
     {
-        let manager = Manager::new(alloc)?;
+        let manager = Manager::keeping_none(alloc)?;
         let results = Vec::with_capacity(alloc, jobs.len())?;
         Ok(Task {
             manager,

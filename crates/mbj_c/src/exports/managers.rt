@@ -39,8 +39,8 @@ pub extern "C" fn mbj_c_new(alloc: Global, handle: &mut Handle) -> u32
     code(calls::make(alloc, handle, false))
 }
 
-/// Makes a manager as `mbj_c_new` does, whose cells keep memory of the jobs that were given back for later ones: at most 2,048 bytes
-/// for each field of the job. Returns what `mbj_c_new` does.
+/// Makes a manager as `mbj_c_new` does, whose cells keep more memory of the jobs that were given back: at most `KEPT_BYTES` for each field of
+/// the job, where those of `mbj_c_new` keep `SMALL_BYTES`. Returns what `mbj_c_new` does.
 #[unsafe(no_mangle)]
 pub extern "C" fn mbj_c_new_keeping(alloc: Global, handle: &mut Handle) -> u32
     ensures want_of_memory { result ≡ refusal_code Memory → (made handle.old.manager).0 ≡ Ok tt }
@@ -51,7 +51,7 @@ pub extern "C" fn mbj_c_new_keeping(alloc: Global, handle: &mut Handle) -> u32
     code(calls::make(alloc, handle, true))
 }
 
-/// How many bytes of memory the manager keeps for jobs to come: 0 where there is no manager, or its cells keep none.
+/// How many bytes of memory the manager keeps for jobs to come: 0 where there is no manager.
 #[unsafe(no_mangle)]
 pub extern "C" fn mbj_c_held_bytes(alloc: Global, handle: &mut Handle) -> usize
     ensures same { handle.new.manager ≡ handle.old.manager }

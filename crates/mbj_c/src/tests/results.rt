@@ -32,18 +32,35 @@ fn expect_held(rt: &impl Abort, alloc: Global, handle: &mut Handle, is_held: boo
 
 // Without a manager there is nothing to keep or to free.
 #[test]
-fn a_manager_keeps_memory_until_it_is_trimmed(rt: HostRuntime) {
+fn no_manager_keeps_nothing(rt: HostRuntime) {
     let alloc = rt.alloc();
     let mut handle = Handle::empty(alloc);
     mbj_c_trim(alloc, &mut handle);
     expect_held(&rt, alloc, &mut handle, false);
-    expect_number(&rt, mbj_c_new_keeping(alloc, &mut handle), 0);
-    expect_held(&rt, alloc, &mut handle, false);
-    check_mac(&rt, alloc, &mut handle);
-    expect_held(&rt, alloc, &mut handle, true);
+}
+
+// The blocks of a short job stay until the manager is trimmed.
+fn check_kept(rt: &impl Abort, alloc: Global, mut handle: Handle) {
+    expect_held(rt, alloc, &mut handle, false);
+    check_mac(rt, alloc, &mut handle);
+    expect_held(rt, alloc, &mut handle, true);
     mbj_c_trim(alloc, &mut handle);
-    expect_held(&rt, alloc, &mut handle, false);
-    close(&rt, alloc, handle);
+    expect_held(rt, alloc, &mut handle, false);
+    close(rt, alloc, handle);
+}
+
+#[test]
+fn a_manager_keeps_short_blocks_until_it_is_trimmed(rt: HostRuntime) {
+    let alloc = rt.alloc();
+    check_kept(&rt, alloc, opened(&rt, alloc));
+}
+
+#[test]
+fn a_keeping_manager_keeps_blocks_until_it_is_trimmed(rt: HostRuntime) {
+    let alloc = rt.alloc();
+    let mut handle = Handle::empty(alloc);
+    expect_number(&rt, mbj_c_new_keeping(alloc, &mut handle), 0);
+    check_kept(&rt, alloc, handle);
 }
 
 /// A packet with a byte before the range and two behind it.
