@@ -75,7 +75,9 @@ pub(crate) fn put_front(room: &mut [u8], bytes: &[u8])
     requires { length bytes.now ≤ length room.old }
     ensures { room.new ≡ bytes.now ++ drop (length bytes.now) room.old }
 {
-    room[..bytes.len()].copy_from_slice(bytes);
+    if !bytes.is_empty() {
+        room[..bytes.len()].copy_from_slice(bytes);
+    }
 }
 
 fn status_of(status: Status) -> u32

@@ -12,15 +12,15 @@ ghost use Rattle.mbj_stage.specs.Steps.{cipher_stage, cipher_steps};
 ghost use Rattle.mbj_stage.specs.Inside.Texts.{other_text};
 
 use mbj_aes::Schedule;
-use mbj_types::{Cipher, Job};
+use mbj_types::{BLOCK_BYTES, Cipher, Job};
 
 /// The IV of a CBC job, a block.
 pub(crate) fn iv_block(iv: &[u8]) -> [u8; 16]
     requires { length iv.now ≡ 16 }
     ensures { result ≡ iv.now }
 {
-    let mut block = [0; 16];
-    block.copy_from_slice(iv);
+    let mut block = [0; BLOCK_BYTES];
+    block.copy_from_slice(&iv[..BLOCK_BYTES]);
     block
 }
 
