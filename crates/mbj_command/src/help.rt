@@ -9,8 +9,9 @@ A job file is read from standard input. A job is a line of fourteen fields with 
   5       IV: 16 bytes for cbc, 12 or 16 for ctr, 1 to 65535 for gcm and gmac, and 7 to 13 for ccm
   6, 7    cipher range: where it begins in the packet, and its length in bytes
   8       authentication: null, hmac-sha1, hmac-sha224, hmac-sha256, hmac-sha384, hmac-sha512, sha1, sha224,
-          sha256, sha384, sha512, cmac128, cmac256, gmac, gcm, ccm
-  9       the authentication's key: bytes
+          sha256, sha384, sha512, cmac128, cmac256, gmac, gcm, ccm; HMAC from stored states: hmac-sha1-states,
+          hmac-sha224-states, hmac-sha256-states, hmac-sha384-states, hmac-sha512-states
+  9       the authentication's key: bytes; for an HMAC from stored states the inner state, then the outer state
   10      additional data of gcm and ccm: bytes
   11, 12  hash range: where it begins in the packet, and its length in bytes
   13      tag length in bytes

@@ -2,6 +2,7 @@
 use Rattle.std.proofs.Common.{◌≡◌, ◌∙◌, ap, sym, subst, refl, drop, arith, ℕ, List, [], ◌∷◌}
 use Rattle.mbj_types.specs.declared.job.Job.{Job}
 use Rattle.std.specs.Prelude.{decimal}
+use Rattle.mbj_text.specs.Words.{auth_word}
 use Rattle.mbj_text.specs.Spelling.{Spells, SpellsFields, SpellsNumber, SpellsByName, Spelled, Value, Values, values, Form, CipherWord, DirWord, OrderWord, AuthWord, Hex, CipherKey, Number, Below, forms, fields_of}
 use Rattle.mbj_text.specs.File.{TableAndNamesAgree}
 
@@ -48,17 +49,15 @@ by_name keys line j s =
     record {
       key = f4.text;
       iv = f5.text;
-      auth = f8.text;
       auth_key = f9.text;
       aad = f10.text;
       packet = f14.text;
       fields =
           known f1 f1.is (known f2 f2.is (known f3 f3.is (known f4 refl (known f5 refl (known f6 f6.is.0 (known f7 f7.is.0
-          (known f8 refl (known f9 refl (known f10 refl (known f11 f11.is.0 (known f12 f12.is.0 (known f13 f13.is.0.0
+          (known f8 f8.is (known f9 refl (known f10 refl (known f11 f11.is.0 (known f12 f12.is.0 (known f13 f13.is.0.0
           (known f14 refl (ended f14.left f14.more))))))))))))));
       key_is = f4.is;
       iv_is = f5.is;
-      auth_is = f8.is;
       auth_key_is = f9.is;
       aad_is = f10.is;
       packet_is = f14.is;
@@ -78,8 +77,8 @@ by_table keys line j n =
     let hash_values : Values (drop 10 (forms keys)) = (j.hash_off, (j.hash_len, (j.tag_len, (j.packet, tt)))) in
     let hash : SpellsFields (drop 10 (forms keys)) hash_texts hash_values =
     ((refl, n.hash_off_fits), ((refl, n.hash_len_fits), ((tag, n.tag_len_fits), (n.packet_is, tt)))) in
-    let auth : SpellsFields (drop 7 (forms keys)) (n.auth ∷ n.auth_key ∷ n.aad ∷ hash_texts) (j.auth, (j.auth_key, (j.aad, hash_values))) =
-    (n.auth_is, (n.auth_key_is, (n.aad_is, hash))) in
+    let auth : SpellsFields (drop 7 (forms keys)) (auth_word j.auth ∷ n.auth_key ∷ n.aad ∷ hash_texts) (j.auth, (j.auth_key, (j.aad, hash_values))) =
+    (refl, (n.auth_key_is, (n.aad_is, hash))) in
     subst P (sym n.fields) (refl, (refl, (refl, (n.key_is, (n.iv_is, ((refl, n.cipher_off_fits), ((refl, n.cipher_len_fits), auth)))))))
 
 -- both ways

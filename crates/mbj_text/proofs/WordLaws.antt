@@ -1,7 +1,6 @@
 -- A word is read exactly where it is that of a value.
 use Rattle.std.proofs.Common.{◌≡◌, ◌∙◌, ap, sym, refl, ℕ, Bool, true, false, cond, List, [], ◌∷◌, map, Option, Some, None}
 use Rattle.std.specs.Prelude.{codes, find, option_map}
-use Rattle.std.specs.Option.{option_map_or}
 use denote.Ref.{Bor}
 use Rattle.std.specs.Str.{bytes_eq}
 use Rattle.std.proofs.lemmas.Slice.Eq.{bytes_eq-Decides}
@@ -16,7 +15,7 @@ use Rattle.mbj_types.specs.declared.job.Auth.TheVariants as auth
 use Rattle.mbj_text.specs.declared.command.Verb.{Verb}
 use Rattle.mbj_text.specs.declared.command.Verb.TheVariants.{Post, Claim, Flush, Collect}
 use Rattle.mbj_text.specs.Words.{cipher_word, dir_word, order_word, auth_word, verb_word}
-use Rattle.mbj_text.specs.Inside.Reading.{lookup, rows_of, worded_rows, ciphers, auths, verbs, cipher_of, dir_of, order_of, auth_of, verb_of}
+use Rattle.mbj_text.specs.Inside.Reading.{lookup, rows_of, ciphers, auths, verbs, cipher_of, dir_of, order_of, auth_of, verb_of}
 
 -- looking up as a search among the rows
 pub find_is_lookup : {A : Type 0} (rows : List (Bor (List ℕ) × A)) (t : List ℕ)
@@ -39,22 +38,6 @@ lookup_finds word (w ∷ ws) t v h = go (bytes_eq (word w) t) (bytes_eq-Decides 
     go true p q more = let same : w ≡ v = cc in sym (p refl) ∙ ap word same
     go false p q more = more q
 
--- where some values have none
-worded_finds : {A : Type 0} (word : A → Option (List ℕ)) (vs : List A) (t : List ℕ) (v : A) → lookup (worded_rows word vs) t ≡ Some v → word v ≡ Some t
-unfolding lookup
-worded_finds word [] t v h = cc
-worded_finds word (w ∷ ws) t v h = go (word w) refl h (worded_finds word ws t v)
-  where
-    found : (text : List ℕ) (x : Bool) → word w ≡ Some text → (x ≡ true → text ≡ t) → cond x (Some w) (lookup (worded_rows word ws) t) ≡ Some v
-        → (lookup (worded_rows word ws) t ≡ Some v → word v ≡ Some t) → word v ≡ Some t
-    found text true e p q more = let same : v ≡ w = cc in ap word same ∙ e ∙ ap Some (p refl)
-    found text false e p q more = more q
-
-    go : (o : Option (List ℕ)) → word w ≡ o → lookup (option_map_or (λ text. (text, w) ∷ worded_rows word ws) o (worded_rows word ws)) t ≡ Some v
-        → (lookup (worded_rows word ws) t ≡ Some v → word v ≡ Some t) → word v ≡ Some t
-    go None e q more = more q
-    go (Some text) e q more = found text (bytes_eq text t) e (bytes_eq-Decides text t).0 q more
-
 -- ---- a word is read exactly where it is spelled
 
 -- what is read is spelled
@@ -71,37 +54,33 @@ cipher_back t cipher.Gcm e = ap cipher_of e
 cipher_back t cipher.Ccm e = ap cipher_of e
 
 -- what is read is spelled
-pub auth_read : (t : List ℕ) (a : Auth) → auth_of t ≡ Some a → auth_word a ≡ Some t
-auth_read t a h = worded_finds auth_word auths t a h
-
--- the text that has this word
-spelled : (word t : List ℕ) → Some word ≡ Some t → t ≡ word
-spelled word t e = cc
+pub auth_read : (t : List ℕ) (a : Auth) → auth_of t ≡ Some a → t ≡ auth_word a
+auth_read t a h = lookup_finds auth_word auths t a h
 
 -- what is spelled is read
-pub auth_back : (t : List ℕ) (a : Auth) → auth_word a ≡ Some t → auth_of t ≡ Some a
+pub auth_back : (t : List ℕ) (a : Auth) → t ≡ auth_word a → auth_of t ≡ Some a
 unfolding lookup
-auth_back t auth.Null e = ap auth_of (spelled (codes "null") t e)
-auth_back t auth.HmacSha1 e = ap auth_of (spelled (codes "hmac-sha1") t e)
-auth_back t auth.HmacSha224 e = ap auth_of (spelled (codes "hmac-sha224") t e)
-auth_back t auth.HmacSha256 e = ap auth_of (spelled (codes "hmac-sha256") t e)
-auth_back t auth.HmacSha384 e = ap auth_of (spelled (codes "hmac-sha384") t e)
-auth_back t auth.HmacSha512 e = ap auth_of (spelled (codes "hmac-sha512") t e)
-auth_back t auth.Cmac128 e = ap auth_of (spelled (codes "cmac128") t e)
-auth_back t auth.Cmac256 e = ap auth_of (spelled (codes "cmac256") t e)
-auth_back t auth.Gcm e = ap auth_of (spelled (codes "gcm") t e)
-auth_back t auth.Ccm e = ap auth_of (spelled (codes "ccm") t e)
-auth_back t auth.Sha1 e = ap auth_of (spelled (codes "sha1") t e)
-auth_back t auth.Sha224 e = ap auth_of (spelled (codes "sha224") t e)
-auth_back t auth.Sha256 e = ap auth_of (spelled (codes "sha256") t e)
-auth_back t auth.Sha384 e = ap auth_of (spelled (codes "sha384") t e)
-auth_back t auth.Sha512 e = ap auth_of (spelled (codes "sha512") t e)
-auth_back t auth.Gmac e = ap auth_of (spelled (codes "gmac") t e)
-auth_back t auth.HmacSha1States e = absurd (cc)
-auth_back t auth.HmacSha224States e = absurd (cc)
-auth_back t auth.HmacSha256States e = absurd (cc)
-auth_back t auth.HmacSha384States e = absurd (cc)
-auth_back t auth.HmacSha512States e = absurd (cc)
+auth_back t auth.Null e = ap auth_of e
+auth_back t auth.HmacSha1 e = ap auth_of e
+auth_back t auth.HmacSha224 e = ap auth_of e
+auth_back t auth.HmacSha256 e = ap auth_of e
+auth_back t auth.HmacSha384 e = ap auth_of e
+auth_back t auth.HmacSha512 e = ap auth_of e
+auth_back t auth.Cmac128 e = ap auth_of e
+auth_back t auth.Cmac256 e = ap auth_of e
+auth_back t auth.Gcm e = ap auth_of e
+auth_back t auth.Ccm e = ap auth_of e
+auth_back t auth.Sha1 e = ap auth_of e
+auth_back t auth.Sha224 e = ap auth_of e
+auth_back t auth.Sha256 e = ap auth_of e
+auth_back t auth.Sha384 e = ap auth_of e
+auth_back t auth.Sha512 e = ap auth_of e
+auth_back t auth.Gmac e = ap auth_of e
+auth_back t auth.HmacSha1States e = ap auth_of e
+auth_back t auth.HmacSha224States e = ap auth_of e
+auth_back t auth.HmacSha256States e = ap auth_of e
+auth_back t auth.HmacSha384States e = ap auth_of e
+auth_back t auth.HmacSha512States e = ap auth_of e
 
 -- what is read is spelled
 pub dir_read : (t : List ℕ) (d : Dir) → dir_of t ≡ Some d → t ≡ dir_word d

@@ -60,7 +60,7 @@ abbrev pub Spelled : (form : Form) → List ℕ → Value form → Type 0
 Spelled CipherWord text c = text ≡ cipher_word c
 Spelled DirWord text d = text ≡ dir_word d
 Spelled OrderWord text o = text ≡ order_word o
-Spelled AuthWord text a = auth_word a ≡ Some text
+Spelled AuthWord text a = text ≡ auth_word a
 Spelled Hex text bytes = SpellsBytes text bytes
 Spelled Key text key = SpellsKey text key
 Spelled (CipherKey keys) text key = SpellsCipherKey keys text key
@@ -129,16 +129,14 @@ IsBadLine keys line f = HasFault 1 (forms keys) (fields_of line) f
 pub record SpellsByName (keys : List (List ℕ)) (line : List ℕ) (j : Job) : Type 0 where
   pub key : List ℕ
   pub iv : List ℕ
-  pub auth : List ℕ
   pub auth_key : List ℕ
   pub aad : List ℕ
   pub packet : List ℕ
   pub fields : fields_of line
       ≡ cipher_word j.cipher ∷ dir_word j.dir ∷ order_word j.order ∷ key ∷ iv ∷ decimal j.cipher_off ∷ decimal j.cipher_len
-      ∷ auth ∷ auth_key ∷ aad ∷ decimal j.hash_off ∷ decimal j.hash_len ∷ decimal j.tag_len ∷ packet ∷ []
+      ∷ auth_word j.auth ∷ auth_key ∷ aad ∷ decimal j.hash_off ∷ decimal j.hash_len ∷ decimal j.tag_len ∷ packet ∷ []
   pub key_is : SpellsCipherKey keys key (j.key, j.session)
   pub iv_is : SpellsBytes iv j.iv
-  pub auth_is : auth_word j.auth ≡ Some auth
   pub auth_key_is : SpellsBytes auth_key j.auth_key
   pub aad_is : SpellsBytes aad j.aad
   pub packet_is : SpellsBytes packet j.packet

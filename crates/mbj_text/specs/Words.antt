@@ -1,5 +1,5 @@
 -- The words of job lines and script lines.
-use Rattle.std.specs.Prelude.{ℕ, List, Option, Some, None, codes}
+use Rattle.std.specs.Prelude.{ℕ, List, codes}
 use Rattle.mbj_types.specs.declared.job.Cipher.{Cipher}
 use Rattle.mbj_types.specs.declared.job.Cipher.TheVariants as cipher
 use Rattle.mbj_types.specs.declared.job.Dir.{Dir}
@@ -26,29 +26,28 @@ abbrev pub order_word : Order → List ℕ
 order_word CipherHash = codes "ch"
 order_word HashCipher = codes "hc"
 
--- an HMAC from states has none
-abbrev pub auth_word : Auth → Option (List ℕ)
-auth_word auth.Null = Some (codes "null")
-auth_word auth.HmacSha1 = Some (codes "hmac-sha1")
-auth_word auth.HmacSha224 = Some (codes "hmac-sha224")
-auth_word auth.HmacSha256 = Some (codes "hmac-sha256")
-auth_word auth.HmacSha384 = Some (codes "hmac-sha384")
-auth_word auth.HmacSha512 = Some (codes "hmac-sha512")
-auth_word auth.Cmac128 = Some (codes "cmac128")
-auth_word auth.Cmac256 = Some (codes "cmac256")
-auth_word auth.Gcm = Some (codes "gcm")
-auth_word auth.Ccm = Some (codes "ccm")
-auth_word auth.Sha1 = Some (codes "sha1")
-auth_word auth.Sha224 = Some (codes "sha224")
-auth_word auth.Sha256 = Some (codes "sha256")
-auth_word auth.Sha384 = Some (codes "sha384")
-auth_word auth.Sha512 = Some (codes "sha512")
-auth_word auth.Gmac = Some (codes "gmac")
-auth_word auth.HmacSha1States = None
-auth_word auth.HmacSha224States = None
-auth_word auth.HmacSha256States = None
-auth_word auth.HmacSha384States = None
-auth_word auth.HmacSha512States = None
+abbrev pub auth_word : Auth → List ℕ
+auth_word auth.Null = codes "null"
+auth_word auth.HmacSha1 = codes "hmac-sha1"
+auth_word auth.HmacSha224 = codes "hmac-sha224"
+auth_word auth.HmacSha256 = codes "hmac-sha256"
+auth_word auth.HmacSha384 = codes "hmac-sha384"
+auth_word auth.HmacSha512 = codes "hmac-sha512"
+auth_word auth.Cmac128 = codes "cmac128"
+auth_word auth.Cmac256 = codes "cmac256"
+auth_word auth.Gcm = codes "gcm"
+auth_word auth.Ccm = codes "ccm"
+auth_word auth.Sha1 = codes "sha1"
+auth_word auth.Sha224 = codes "sha224"
+auth_word auth.Sha256 = codes "sha256"
+auth_word auth.Sha384 = codes "sha384"
+auth_word auth.Sha512 = codes "sha512"
+auth_word auth.Gmac = codes "gmac"
+auth_word auth.HmacSha1States = codes "hmac-sha1-states"
+auth_word auth.HmacSha224States = codes "hmac-sha224-states"
+auth_word auth.HmacSha256States = codes "hmac-sha256-states"
+auth_word auth.HmacSha384States = codes "hmac-sha384-states"
+auth_word auth.HmacSha512States = codes "hmac-sha512-states"
 
 -- the word of a session line
 abbrev pub session_word : List ℕ

@@ -21,7 +21,7 @@ const DIRS: [(&[u8], Dir); 2] = [(b"enc", Dir::Enc), (b"dec", Dir::Dec)];
 const ORDERS: [(&[u8], Order); 2] = [(b"ch", Order::CipherHash), (b"hc", Order::HashCipher)];
 
 /// The authentications, each with its word.
-const AUTHS: [(&[u8], Auth); 16] = [
+const AUTHS: [(&[u8], Auth); 21] = [
     (b"null", Auth::Null),
     (b"hmac-sha1", Auth::HmacSha1),
     (b"hmac-sha224", Auth::HmacSha224),
@@ -38,6 +38,11 @@ const AUTHS: [(&[u8], Auth); 16] = [
     (b"sha384", Auth::Sha384),
     (b"sha512", Auth::Sha512),
     (b"gmac", Auth::Gmac),
+    (b"hmac-sha1-states", Auth::HmacSha1States),
+    (b"hmac-sha224-states", Auth::HmacSha224States),
+    (b"hmac-sha256-states", Auth::HmacSha256States),
+    (b"hmac-sha384-states", Auth::HmacSha384States),
+    (b"hmac-sha512-states", Auth::HmacSha512States),
 ];
 
 const VERBS: [(&[u8], Verb); 4] = [

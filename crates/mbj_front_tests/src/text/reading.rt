@@ -26,7 +26,11 @@ const FORMS: [(u32, &[&str], &[&str]); 16] = [
     (6, &[], &["+1", "1a"]),
     (7, &["null", "hmac-sha384", "cmac256", "ccm"], &[]),
     (7, &[], &["hmac-md5", "hmac", "cmac192"]),
-    (7, &[], &["", "hmac-sha1-states", "hmac-sha512-states"]),
+    (
+        7,
+        &["hmac-sha1-states", "hmac-sha512-states"],
+        &["", "hmac-states", "sha1-states"],
+    ),
     (8, &[], &["\t0b", "0b0"]),
     (9, &[], &["zz"]),
     (10, &["0"], &["-"]),

@@ -45,12 +45,7 @@ lookup (row ∷ rows) text = if bytes_eq row.0 text then Some row.1 else lookup 
 abbrev pub rows_of : {A : Type 0} → (A → List ℕ) → List A → List (List ℕ × A)
 rows_of word values = map (λ v. (word v, v)) values
 
--- a row for each value that has a word
-abbrev pub worded_rows : {A : Type 0} → (A → Option (List ℕ)) → List A → List (List ℕ × A)
-worded_rows word [] = []
-worded_rows word (v ∷ vs) = option_map_or (λ text. (text, v) ∷ worded_rows word vs) (word v) (worded_rows word vs)
-
--- all ciphers, all authentications with a word, and all verbs
+-- all ciphers, all authentications, and all verbs
 abbrev pub ciphers : List Cipher
 ciphers = cipher.Null ∷ cipher.Cbc ∷ cipher.Ctr ∷ cipher.Gcm ∷ cipher.Ccm ∷ []
 
@@ -58,7 +53,8 @@ abbrev pub auths : List Auth
 auths =
     auth.Null ∷ auth.HmacSha1 ∷ auth.HmacSha224 ∷ auth.HmacSha256 ∷ auth.HmacSha384 ∷ auth.HmacSha512
     ∷ auth.Cmac128 ∷ auth.Cmac256 ∷ auth.Gcm ∷ auth.Ccm
-    ∷ auth.Sha1 ∷ auth.Sha224 ∷ auth.Sha256 ∷ auth.Sha384 ∷ auth.Sha512 ∷ auth.Gmac ∷ []
+    ∷ auth.Sha1 ∷ auth.Sha224 ∷ auth.Sha256 ∷ auth.Sha384 ∷ auth.Sha512 ∷ auth.Gmac
+    ∷ auth.HmacSha1States ∷ auth.HmacSha224States ∷ auth.HmacSha256States ∷ auth.HmacSha384States ∷ auth.HmacSha512States ∷ []
 
 abbrev pub verbs : List Verb
 verbs = verb.Post ∷ verb.Claim ∷ verb.Flush ∷ verb.Collect ∷ []
@@ -73,7 +69,7 @@ abbrev pub order_of : List ℕ → Option Order
 order_of text = lookup (rows_of order_word (CipherHash ∷ HashCipher ∷ [])) text
 
 abbrev pub auth_of : List ℕ → Option Auth
-auth_of text = lookup (worded_rows auth_word auths) text
+auth_of text = lookup (rows_of auth_word auths) text
 
 abbrev pub verb_of : List ℕ → Option Verb
 verb_of text = lookup (rows_of verb_word verbs) text
