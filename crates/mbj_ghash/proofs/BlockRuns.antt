@@ -22,9 +22,6 @@ ghash_from-next h y xs i d now l e =
 
 -- ---- fours of blocks
 
-fours : List (List (List ℕ)) → List (List ℕ)
-fours = flat_map (λ four. four)
-
 -- a list of four
 four_items : (xs : List (List ℕ)) (d : List ℕ) → length xs ≡ 4
     → slice_index_or xs 0 d ∷ slice_index_or xs 1 d ∷ slice_index_or xs 2 d ∷ slice_index_or xs 3 d ∷ [] ≡ xs

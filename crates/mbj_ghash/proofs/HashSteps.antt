@@ -1,88 +1,62 @@
--- The value of a hash after one block more, and after four.
-use Rattle.std.proofs.Common.{◌≡◌, ℕ, ◌^◌, ◌<◌, Bool, List, [], ◌∷◌, length, bit_xor, sym, ap, ◌∙◌}
-use Rattle.std.specs.Int.{w128, to_be_bytes, from_be_bytes}
+-- The value of a hash after four blocks more, by the powers of the subkey.
+use Rattle.std.proofs.Common.{◌≡◌, ℕ, Bool, List, [], ◌∷◌, length, slice_index, sym, ap, ap₂, ◌∙◌, arith}
+use Rattle.std.specs.Int.{w128, from_be_bytes}
 use Rattle.mbj_types.specs.Blocks.{xor_lists}
-use Rattle.mbj_types.specs.Field.{add, bits, number, product}
-use Rattle.mbj_types.specs.Ghash.{block_product, ghash_from}
-use Rattle.mbj_ghash.proofs.Elements.{length-bits, bits-xor, element-number, element-lt}
+use Rattle.mbj_types.specs.Field.{add, zeros, product}
+use Rattle.mbj_types.specs.Ghash.{element, block_product, ghash_from}
+use Rattle.mbj_ghash.specs.Inside.Powers.{square, cube}
+use Rattle.mbj_ghash.specs.Inside.Sums.{IsBlock}
+use Rattle.mbj_ghash.proofs.Sums.{add_comm, add_assoc, zeros_add}
+use Rattle.mbj_ghash.proofs.Elements.{length-bits}
 use Rattle.mbj_ghash.proofs.FieldLaws.{length-product, four_steps}
-use Rattle.mbj_ghash.proofs.Numbers.{IsBlock, IsBlock-to_be_bytes, round_trip, from_be_bytes-xor, block_product-bytes}
+use Rattle.mbj_ghash.proofs.Numbers.{xored_byte, IsBlock-xor_lists, IsBlock-block_product, block_product-is, element-block_product}
+use Rattle.mbj_ghash.proofs.ByteSums.{bytes-same, bytes-xor, element-bytes}
 
--- one block more
-pub next_bytes : (v n : ℕ) (xs h : List ℕ) → v < 2 ^ 128 → n < 2 ^ 128 → IsBlock xs
-    → bits 128 n ≡ product (bits 128 (bit_xor v (from_be_bytes w128 xs))) (bits 128 (from_be_bytes w128 h))
-    → to_be_bytes w128 n ≡ block_product (xor_lists (to_be_bytes w128 v) xs) h
-next_bytes v n xs h l k b e =
-    let value : IsBlock (to_be_bytes w128 v) = IsBlock-to_be_bytes v in
-    block_product-bytes (xor_lists (to_be_bytes w128 v) xs) h (bit_xor v (from_be_bytes w128 xs)) n
-    (from_be_bytes-xor (to_be_bytes w128 v) xs value.bytes b.bytes value.size b.size
-    ∙ ap (λ (t : ℕ). bit_xor t (from_be_bytes w128 xs)) (round_trip v l)) k e
+-- a block has 128 coefficients
+pub long-element : (xs : List ℕ) → length (element xs) ≡ 128
+long-element xs = length-bits 128 (from_be_bytes w128 xs)
 
-module _ (h : List ℕ) where
-  key : List Bool
-  key = bits 128 (from_be_bytes w128 h)
+element-xor_lists : (xs ys : List ℕ) → IsBlock xs → IsBlock ys → element (xor_lists xs ys) ≡ add (element xs) (element ys)
+element-xor_lists xs ys b d =
+    element-bytes (xor_lists xs ys) (IsBlock-xor_lists xs ys b d).bytes
+    ∙ bytes-same _ _ 16 (xored_byte xs ys b d) ∙ bytes-xor (slice_index xs) (slice_index ys) 16
+    ∙ sym (ap₂ add (element-bytes xs b.bytes) (element-bytes ys d.bytes))
 
-  -- the product of the subkey and the number v with a block added
-  next : ℕ → List ℕ → List Bool
-  next v xs = product (bits 128 (bit_xor v (from_be_bytes w128 xs))) key
+-- the empty sum adds nothing
+pub none_added : (x h : List ℕ) → add (zeros 128) (product (element x) (element h)) ≡ product (element x) (element h)
+none_added x h =
+    zeros_add 128 (product (element x) (element h))
+    (omega (arith, length-product (element x) (element h) (long-element x) (long-element h)))
 
-  length-next : (v : ℕ) (xs : List ℕ) → length (next v xs) ≡ 128
-  unfolding key next
-  length-next v xs =
-      length-product (bits 128 (bit_xor v (from_be_bytes w128 xs))) key
-      (length-bits 128 (bit_xor v (from_be_bytes w128 xs)))
-      (length-bits 128 (from_be_bytes w128 h))
+-- four summands, the last one first
+turned : (p q r s : List Bool) → add (add (add s r) q) p ≡ add (add (add p q) r) s
+turned p q r s =
+    add_comm (add (add s r) q) p ∙ ap (add p) (add_comm (add s r) q ∙ ap (add q) (add_comm s r))
+    ∙ sym (add_assoc p q (add r s)) ∙ sym (add_assoc (add p q) r s)
 
-  next_number : ℕ → List ℕ → ℕ
-  next_number v xs = number (next v xs)
-
-  bits-next_number : (v : ℕ) (xs : List ℕ) → bits 128 (next_number v xs) ≡ next v xs
-  unfolding next_number
-  bits-next_number v xs = element-number (next v xs) (length-next v xs)
-
-  next_number-lt : (v : ℕ) (xs : List ℕ) → next_number v xs < 2 ^ 128
-  unfolding next_number
-  next_number-lt v xs = element-lt (next v xs) (length-next v xs)
-
-  -- its bytes are the value after the block
-  next_number-bytes : (v : ℕ) (xs : List ℕ) → v < 2 ^ 128 → IsBlock xs
-      → to_be_bytes w128 (next_number v xs) ≡ block_product (xor_lists (to_be_bytes w128 v) xs) h
-  unfolding key next
-  next_number-bytes v xs l b = next_bytes v (next_number v xs) xs h l (next_number-lt v xs) b (bits-next_number v xs)
-
-  -- four blocks more, by the powers of the subkey
-  pub four_bytes : (v r h2 h3 h4 : ℕ) (a b c d : List ℕ) → v < 2 ^ 128 → r < 2 ^ 128
-      → IsBlock a → IsBlock b → IsBlock c → IsBlock d
-      → let k : ℕ = from_be_bytes w128 h in
-      bits 128 h2 ≡ product (bits 128 k) (bits 128 k) → bits 128 h3 ≡ product (bits 128 h2) (bits 128 k)
-      → bits 128 h4 ≡ product (bits 128 h3) (bits 128 k)
-      → bits 128 r ≡ add (add (add (product (bits 128 (bit_xor v (from_be_bytes w128 a))) (bits 128 h4))
-      (product (bits 128 (from_be_bytes w128 b)) (bits 128 h3)))
-      (product (bits 128 (from_be_bytes w128 c)) (bits 128 h2)))
-      (product (bits 128 (from_be_bytes w128 d)) (bits 128 k))
-      → to_be_bytes w128 r ≡ ghash_from h (to_be_bytes w128 v) (a ∷ b ∷ c ∷ d ∷ [])
-  unfolding key next
-  four_bytes v r h2 h3 h4 a b c d lv lr ba bb bc bd e2 e3 e4 e =
-      let n1 : ℕ = next_number v a in
-      let n2 : ℕ = next_number n1 b in
-      let n3 : ℕ = next_number n2 c in
-      let y : List Bool = bits 128 (bit_xor v (from_be_bytes w128 a)) in
-      let xb : List Bool = bits 128 (from_be_bytes w128 b) in
-      let xc : List Bool = bits 128 (from_be_bytes w128 c) in
-      let xd : List Bool = bits 128 (from_be_bytes w128 d) in
-      let long : (n : ℕ) → length (bits 128 n) ≡ 128 = length-bits 128 in
-      let added : (n : ℕ) (x : List ℕ) (p : List Bool) → bits 128 n ≡ p
-      → bits 128 (bit_xor n (from_be_bytes w128 x)) ≡ add p (bits 128 (from_be_bytes w128 x)) =
-      λ n x p f. bits-xor 128 n (from_be_bytes w128 x) ∙ ap (λ q. add q (bits 128 (from_be_bytes w128 x))) f in
-      let all : bits 128 r ≡ next n3 d =
-      e ∙ sym (four_steps key (bits 128 h2) (bits 128 h3) (bits 128 h4) (long (from_be_bytes w128 h)) e2 e3 e4
-      y xb xc xd (long (bit_xor v (from_be_bytes w128 a))) (long (from_be_bytes w128 b)) (long (from_be_bytes w128 c))
-      (long (from_be_bytes w128 d)))
-      ∙ sym (ap (λ p. product p key) (added n3 d _ (bits-next_number n2 c
-      ∙ ap (λ p. product p key) (added n2 c _ (bits-next_number n1 b
-      ∙ ap (λ p. product p key) (added n1 b _ (bits-next_number v a))))))) in
-      let after : List ℕ → List ℕ → List ℕ = λ t x. block_product (xor_lists t x) h in
-      next_bytes n3 r d h (next_number-lt n2 c) lr bd all
-      ∙ ap (λ t. after t d) (next_number-bytes n2 c (next_number-lt n1 b) bc
-      ∙ ap (λ t. after t c) (next_number-bytes n1 b (next_number-lt v a) bb
-      ∙ ap (λ t. after t b) (next_number-bytes v a lv ba)))
+pub four_blocks : (h v a b c d r : List ℕ) → IsBlock v → IsBlock a → IsBlock b → IsBlock c → IsBlock d → IsBlock r
+    → let times : List ℕ → List ℕ → List Bool = λ x y. product (element x) (element y) in
+    element r ≡ add (add (add (add (zeros 128) (times d h)) (times c (square h))) (times b (cube h)))
+    (times (xor_lists v a) (block_product (cube h) h))
+    → r ≡ ghash_from h v (a ∷ b ∷ c ∷ d ∷ [])
+four_blocks h v a b c d r bv ba bb bc bd br e =
+    let k : List Bool = element h in
+    let times : List ℕ → List ℕ → List Bool = λ x y. product (element x) (element y) in
+    let next : List ℕ → List ℕ → List ℕ = λ y x. block_product (xor_lists y x) h in
+    let v1 : List ℕ = next v a in
+    let v2 : List ℕ = next v1 b in
+    let v3 : List ℕ = next v2 c in
+    let step : (y x : List ℕ) → IsBlock x
+    → element (xor_lists (block_product y h) x) ≡ add (product (element y) k) (element x) =
+    λ y x bx. element-xor_lists (block_product y h) x (IsBlock-block_product y h) bx
+    ∙ ap (λ p. add p (element x)) (element-block_product y h) in
+    block_product-is r (xor_lists v3 d) h br
+    (e ∙ ap (λ p. add (add (add p (times c (square h))) (times b (cube h))) (times (xor_lists v a) (block_product (cube h) h))) (none_added d h)
+    ∙ turned (times (xor_lists v a) (block_product (cube h) h)) (times b (cube h)) (times c (square h)) (times d h)
+    ∙ sym (four_steps k (element (square h)) (element (cube h)) (element (block_product (cube h) h)) (long-element h)
+    (element-block_product h h) (element-block_product (square h) h) (element-block_product (cube h) h)
+    (element (xor_lists v a)) (element b) (element c) (element d) (long-element (xor_lists v a)) (long-element b)
+    (long-element c) (long-element d))
+    ∙ sym (ap (λ p. product p k) (step (xor_lists v2 c) d bd
+    ∙ ap (λ p. add (product p k) (element d)) (step (xor_lists v1 b) c bc
+    ∙ ap (λ p. add (product p k) (element c)) (step (xor_lists v a) b bb)))))

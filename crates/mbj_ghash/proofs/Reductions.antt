@@ -2,7 +2,7 @@
 use Rattle.std.proofs.Common.{◌≡◌, ℕ, zero, suc, ◌+◌, ◌≤◌, Bool, true, false, List, [], ◌∷◌, ◌++◌, length, take, refl, sym, ap, ap₂, ◌∙◌, arith, length-append}
 use Rattle.std.proofs.lemmas.List.{length-replicate, length-take-le, append_assoc, append-nil, take-replicate}
 use Rattle.mbj_types.specs.Field.{plus, add, scale, mul, zeros, tail, coefficient, fold_top, reduce, product}
-use Rattle.mbj_ghash.proofs.Multiples.{times_x, multiple}
+use Rattle.mbj_ghash.specs.Inside.Multiples.{times_x, multiple}
 use Rattle.mbj_ghash.proofs.Sums.{plus_comm, zeros_add, add_zeros, add_swap, append-add, length-add, length-scale, scale_true, scale_false}
 use Rattle.mbj_ghash.proofs.Multiples.{length-times_x, times_x-add, times_x-multiple}
 
@@ -39,7 +39,7 @@ reduced-add (a ∷ p) (b ∷ q) =
 
 -- of zeros
 reduced-zeros : (n : ℕ) → reduced (zeros n) ≡ zeros 128
-unfolding reduced
+unfolding reduced times_x
 reduced-zeros zero = refl
 reduced-zeros (suc n) = ap (λ x. add (zeros 128) (times_x x)) (reduced-zeros n)
 
@@ -84,6 +84,7 @@ length-padded p n m h = length-append p (zeros n) ∙ omega (arith, length-repli
 
 -- the product by x, where there is room for it
 times_x-padded : (p : List Bool) (n : ℕ) → length p + n ≡ 127 → times_x (p ++ zeros (suc n)) ≡ false ∷ (p ++ zeros n)
+unfolding times_x
 times_x-padded p n h =
     let l : length (false ∷ (p ++ zeros n)) ≡ 128 = omega (arith, length-padded p n 127 h) in
     ap₂ add (ap (λ x. false ∷ x) (take-padded p n 127 h))
@@ -114,7 +115,7 @@ reduced-shift (suc n) p q e =
 
 -- the coefficient of x^128 alone
 reduced-x_128 : (c : Bool) → reduced (zeros 128 ++ c ∷ []) ≡ reduced (scale c tail)
-unfolding reduced
+unfolding reduced times_x
 reduced-x_128 true = refl
 reduced-x_128 false = refl
 

@@ -1,4 +1,5 @@
 -- What the functions inside the crate compute. No public clause cites it.
-pub mod Carryless
-pub mod Lanes
+pub mod Multiples
+pub mod Sums
+pub mod Rows
 pub mod Powers

@@ -4,6 +4,7 @@ ghost use Rattle.mbj_types.specs.Ghash.{block_product, ghash, ghash_from};
 ghost use Rattle.mbj_ghash.specs.State.{HashState, state_after};
 
 use crate::horner::{after_block, after_blocks};
+use crate::rows::Rows;
 use mbj_blocks::filled_block;
 use mbj_types::BLOCK_BYTES;
 use std::marker::Model;
@@ -22,16 +23,19 @@ use std::marker::Model;
 #[derive(Drop)]
 pub struct Ghash {
     subkey: [u8; 16],
-    value: u128,
+    rows: Rows,
+    value: [u8; 16],
 }
 
 impl Model for Ghash {
-    ghost use Rattle.std.specs.Int.{w128, to_be_bytes};
     ghost use Rattle.mbj_ghash.specs.State.{HashState};
+    ghost use Rattle.mbj_ghash.specs.Inside.Rows.{AreRowsOf};
 
     ghost Value = { HashState };
 
-    ghost view = { λ g. record { subkey = g.subkey; value = to_be_bytes w128 g.value } };
+    ghost view = { λ g. record { subkey = g.subkey; value = g.value } };
+
+    ghost invariant = { λ g. AreRowsOf g.subkey g.rows };
 }
 
 impl Ghash {
@@ -42,7 +46,8 @@ impl Ghash {
     {
         Ghash {
             subkey: h,
-            value: 0,
+            rows: Rows::new(&h),
+            value: [0; BLOCK_BYTES],
         }
     }
 
@@ -55,7 +60,7 @@ impl Ghash {
         ensures so_far { (h : List ℕ) (xs : List (List ℕ)) → self.old ≡ state_after h xs
             → self.new ≡ state_after h (xs ++ block.now ∷ []) }
     {
-        self.value = after_block(self.value, &self.subkey, block);
+        self.value = after_block(&self.value, &self.rows, block);
     }
 
     /// Takes blocks, the first one first, as `update_block` takes each (SP 800-38D, 6.4, step 3). Of many blocks four
@@ -67,7 +72,7 @@ impl Ghash {
         ensures so_far { (h : List ℕ) (xs : List (List ℕ)) → self.old ≡ state_after h xs
             → self.new ≡ state_after h (xs ++ blocks.now) }
     {
-        self.value = after_blocks(self.value, &self.subkey, blocks);
+        self.value = after_blocks(&self.value, &self.subkey, &self.rows, blocks);
     }
 
     /// Takes the blocks of a part, the last one filled with zero bytes to 16, as GCM hashes its parts (SP 800-38D, 7.1,
@@ -92,6 +97,6 @@ impl Ghash {
         ensures so_far { (h : List ℕ) (xs : List (List ℕ)) → self.now ≡ state_after h xs
             → result ≡ ghash h xs }
     {
-        self.value.to_be_bytes()
+        self.value
     }
 }

@@ -1,14 +1,14 @@
-//! GHASH (SP 800-38D, 6.4), the hash over the blocks of a message that GCM makes its tag from. No call takes memory. The code has no table,
-//! and no index and no branch depends on the subkey or on what is hashed: this is seen in the code; no clause states it.
+//! GHASH (SP 800-38D, 6.4), the hash over the blocks of a message that GCM makes its tag from, by lookups in tables that stand in registers.
+//! No call takes memory. No address and no branch depends on the subkey or on what is hashed: this is seen in the code; no clause states it.
 #![tactic(auto)]
 
-mod field;
+mod fold;
 mod ghash;
 mod horner;
-mod lanes;
 mod laws;
-mod polynomial;
-mod words;
+mod product_sum;
+mod rows;
+mod tables;
 
 pub use ghash::Ghash;
 pub use laws::examples_of_the_gcm_specification;

@@ -1,23 +1,21 @@
 -- The sum of the products by the powers is the value after the four blocks.
-use Rattle.std.proofs.Common.{ℕ, Bool, List, bit_xor, ap, ap₂, ◌∙◌}
-use Rattle.mbj_types.specs.Field.{add, bits, product}
-use Rattle.mbj_ghash.specs.Inside.Lanes.{wide_lane}
-use Rattle.mbj_ghash.proofs.HashSteps.{four_bytes}
+use Rattle.std.proofs.Common.{ℕ, Bool, List, ap, ap₂, ◌∙◌}
+use Rattle.mbj_types.specs.Field.{add, product}
+use Rattle.mbj_types.specs.Ghash.{element, block_product}
+use Rattle.mbj_ghash.specs.Inside.Powers.{square, cube}
+use Rattle.mbj_ghash.proofs.HashSteps.{four_blocks}
 use Rattle.mbj_ghash.proofs.horner.after_four.Goals as goal
 
 pub returns : goal.returns
-returns c h p =
-    let s = c.new-factors.ensures in
-    let at : ℕ → ℕ = wide_lane c.args.powers in
-    let times : ℕ → ℕ → List Bool = λ x y. product (bits 128 x) (bits 128 y) in
-    four_bytes h c.args.value c.sum_of_products.result (at 2) (at 1)
-    (at 0) c.args.a.now c.args.b.now c.args.c.now c.args.d.now
-    c.ranges.value.fits c.sum_of_products.type_inv
-    (record { size = c.told-a; bytes = c.fits-a }) (record { size = c.told-b; bytes = c.fits-b })
-    (record { size = c.told-c; bytes = c.fits-c }) (record { size = c.told-d; bytes = c.fits-d })
-    p.second p.third p.fourth
-    (c.sum_of_products.ensures
-    ∙ ap₂ add (ap₂ add (ap₂ add (ap (λ x. times x (at 0)) (s.first ∙ ap (bit_xor c.args.value) c.from_be_bytes.ensures))
-    (ap (λ x. times x (at 1)) (s.second ∙ c.from_be_bytes-2.ensures)))
-    (ap (λ x. times x (at 2)) (s.third ∙ c.from_be_bytes-3.ensures)))
-    (ap₂ times (s.fourth ∙ c.from_be_bytes-4.ensures) p.first))
+returns x h are powers =
+    let times : List ℕ → List ℕ → List Bool = λ x y. product (element x) (element y) in
+    four_blocks h x.args.value.now x.args.a.now x.args.b.now x.args.c.now x.args.d.now x.reduced.result
+    (record { size = x.told-value; bytes = λ i l. x.fits-value i }) (record { size = x.told-a; bytes = λ i l. x.fits-a i })
+    (record { size = x.told-b; bytes = λ i l. x.fits-b i }) (record { size = x.told-c; bytes = λ i l. x.fits-c i })
+    (record { size = x.told-d; bytes = λ i l. x.fits-d i }) x.reduced.ensures.block
+    (x.reduced.ensures.sum ∙ x.add-4.ensures (block_product (cube h) h) powers.fourth
+    ∙ ap₂ add (x.add-3.ensures (cube h) powers.third
+    ∙ ap (λ p. add p (times x.args.b.now (cube h))) (x.add-2.ensures (square h) powers.second
+    ∙ ap (λ p. add p (times x.args.c.now (square h))) (x.add.ensures h are
+    ∙ ap (λ p. add p (times x.args.d.now h)) x.new-sum.ensures)))
+    (ap (λ y. times y (block_product (cube h) h)) x.xored.ensures))

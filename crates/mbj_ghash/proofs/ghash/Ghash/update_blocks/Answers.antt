@@ -8,4 +8,4 @@ pub returns-clause-so_far : goal.returns-clause-so_far
 returns-clause-so_far c h xs e =
     let with_value : List ℕ → HashState = λ y. record { subkey = c.self.inside.subkey; value = y } in
     state_after-more c.args.self.now _ h xs c.args.blocks.now e
-    (rw (← c.self.view_is) (ap with_value c.after_blocks-self-inside.ensures))
+    (rw (← c.self.view_is) (ap with_value (c.after_blocks-self-inside.ensures c.self.invariant)))
