@@ -27,13 +27,49 @@ const AFTER_PARTS: [(usize, u128); 6] = [
     (200, 0x02ec2342dcf81ff66cade12512f4a4bf),
 ];
 
+// Hash subkeys: that one, and elements that are small or have ends of ones.
+const SUBKEYS: [u128; 4] = [
+    SUBKEY,
+    1,
+    1 << 127,
+    0xff00_0000_0000_0000_0000_0000_0000_00ff,
+];
+
+// The most blocks that are hashed: some are taken one by one, more by fours, and some behind fours.
+const MOST_BLOCKS: usize = 40;
+
+// `R` of the standard: 11100001 and 120 bits 0 (SP 800-38D, 6.3).
+const R: u128 = 0xe1 << 120;
+
 // Byte `i` is 7 times `i`, modulo 251.
-fn text() -> [u8; 320] {
-    let mut bytes = [0; 320];
+fn text() -> [u8; 16 * MOST_BLOCKS] {
+    let mut bytes = [0; 16 * MOST_BLOCKS];
     for (i, byte) in bytes.iter_mut().enumerate() {
         *byte = (7 * i % 251) as u8;
     }
     bytes
+}
+
+// The product of two blocks (SP 800-38D, 6.3, algorithm 1): bit 0 is the highest.
+fn product(x: u128, y: u128) -> u128 {
+    let mut z = 0;
+    let mut v = y;
+    for i in 0..128 {
+        if x >> (127 - i) & 1 == 1 {
+            z ^= v;
+        }
+        v = if v & 1 == 0 { v >> 1 } else { v >> 1 ^ R };
+    }
+    z
+}
+
+// GHASH under `h` of blocks (SP 800-38D, 6.4, algorithm 2).
+fn hash_by_definition(h: u128, blocks: &[[u8; 16]]) -> u128 {
+    let mut y = 0;
+    for block in blocks {
+        y = product(y ^ u128::from_be_bytes(*block), h);
+    }
+    y
 }
 
 /// Compares the value of a hash.
@@ -52,11 +88,11 @@ fn values_are_those_of_the_gcm_specification(rt: HostRuntime) {
     expect_value(&rt, "lengths", &hash, 0xf38cbb1ad69223dcc3457ae5b6b0f885);
 }
 
-/// The blocks have this value, hashed together and one by one.
-fn check_blocks(rt: &impl Abort, blocks: &[[u8; 16]], value: u128) {
-    let mut together = Ghash::new(SUBKEY.to_be_bytes());
+/// The blocks have this value under the subkey `h`, hashed together and one by one.
+fn check_blocks(rt: &impl Abort, h: u128, blocks: &[[u8; 16]], value: u128) {
+    let mut together = Ghash::new(h.to_be_bytes());
     together.update_blocks(blocks);
-    let mut one_by_one = Ghash::new(SUBKEY.to_be_bytes());
+    let mut one_by_one = Ghash::new(h.to_be_bytes());
     for block in blocks {
         one_by_one.update_block(block);
     }
@@ -69,7 +105,19 @@ fn blocks_are_hashed_together_as_one_by_one(rt: HostRuntime) {
     let bytes = text();
     let blocks = bytes.as_chunks::<16>().0;
     for (count, value) in AFTER_BLOCKS {
-        check_blocks(&rt, &blocks[..count.min(blocks.len())], value);
+        check_blocks(&rt, SUBKEY, &blocks[..count.min(blocks.len())], value);
+    }
+}
+
+#[test]
+fn values_are_those_of_the_definition(rt: HostRuntime) {
+    let bytes = text();
+    let blocks = bytes.as_chunks::<16>().0;
+    for h in SUBKEYS {
+        for count in 0..=MOST_BLOCKS {
+            let some = &blocks[..count.min(blocks.len())];
+            check_blocks(&rt, h, some, hash_by_definition(h, some));
+        }
     }
 }
 
