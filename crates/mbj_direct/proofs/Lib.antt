@@ -8,3 +8,4 @@ mod BlockRuns
 mod Hashes
 mod States
 mod Taken
+mod Cuttings

@@ -1,5 +1,6 @@
 pub mod Schedules
 pub mod Equivalent
 pub mod Parts
+pub mod Gmac
 pub mod Laws
 pub mod Inside

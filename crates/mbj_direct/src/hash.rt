@@ -1,4 +1,5 @@
-//! GHASH (SP 800-38D, 6.4) over additional data and a ciphertext that comes in parts, and the block of their lengths.
+//! GHASH (SP 800-38D, 6.4) over additional data and a ciphertext that comes in parts, or over data alone that does, and the block of
+//! their lengths.
 ghost use Rattle.std.specs.Prelude.{◌≡◌, ℕ, ◌+◌, ◌-◌, ◌/◌, ◌%◌, ◌^◌, ◌≤◌, List, [], ◌∷◌, ◌++◌, length, take, drop};
 ghost use Rattle.mbj_types.specs.Blocks.{xor_lists, filled_blocks, first_blocks, zero_block};
 ghost use Rattle.mbj_types.specs.Ghash.{block_product, ghash, ghash_from};
@@ -166,5 +167,14 @@ impl PartHash {
             &self.closed(),
             &length_block(aad_bytes, self.bytes),
         )
+    }
+
+    /// The same where all bytes that were taken are additional data, as GMAC has it, and there is no ciphertext.
+    pub(crate) fn value_of_data(&self) -> [u8; 16]
+        ensures { (aad : List ℕ) → IsHashed [] aad self.now
+            → result ≡ ghash self.now.subkey (filled_blocks aad ++ (bit_length (length aad) ++ bit_length 0) ∷ []) }
+    {
+        let closed = self.closed();
+        after_block(&self.subkey, &closed, &length_block(self.bytes, 0))
     }
 }

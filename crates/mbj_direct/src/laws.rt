@@ -1,4 +1,4 @@
-ghost use Rattle.mbj_direct.specs.Laws.{AnyCuttingGivesOneText, EquivalentCipherDeciphers};
+ghost use Rattle.mbj_direct.specs.Laws.{AnyCuttingGivesOneTag, AnyCuttingGivesOneText, EquivalentCipherDeciphers};
 
 /// A law: under each key, the equivalent inverse cipher (FIPS 197, 5.3.5) by the round keys of `inverse_schedule` deciphers each
 /// block.
@@ -10,4 +10,9 @@ pub fn equivalent_cipher_deciphers()
 /// becomes.
 pub fn any_cutting_gives_one_text()
     ensures { AnyCuttingGivesOneText }
+{}
+
+/// A law: under each key and with each IV, data whose GMAC is made in parts, however it is cut, gets the tag of the whole.
+pub fn any_cutting_gives_one_tag()
+    ensures { AnyCuttingGivesOneTag }
 {}

@@ -1,4 +1,5 @@
 //! Vectors of the standards, and cuts at every place of a text.
+mod gmac;
 mod schedules;
 mod texts;
 
