@@ -6,21 +6,21 @@ use Rattle.mbj_c.specs.Inside.Answers.{IsDoneAs}
 
 -- where it isn't that of want of memory, it is the wanted one
 pub code-wanted : {A : Type 0} (want : Result Unit Refusal) (next before : A) (answer : Result Unit Refusal) (after : A)
-    → IsDoneAs want next before answer after → code_of answer ≢ 3 → code_of answer ≡ code_of want
+    → IsDoneAs want next before answer after → code_of answer ≢ 23 → code_of answer ≡ code_of want
 code-wanted (Ok u) next before (Ok v) after is other = refl
 code-wanted (Ok u) next before (Err r) after is other = absurd (other (ap refusal_code is.0))
 code-wanted (Err q) next before answer after is other = ap code_of is.0
 
 -- and so is the state
 pub state-wanted : {A : Type 0} (want : Result Unit Refusal) (next before : A) (answer : Result Unit Refusal) (after : A)
-    → IsDoneAs want next before answer after → code_of answer ≢ 3 → after ≡ next
+    → IsDoneAs want next before answer after → code_of answer ≢ 23 → after ≡ next
 state-wanted (Ok u) next before (Ok v) after is other = is
 state-wanted (Ok u) next before (Err r) after is other = absurd (other (ap refusal_code is.0))
 state-wanted (Err q) next before answer after is other = is.1
 
 -- where it is that of want of memory, the state is the one before, as with each refusal that is wanted
 pub state-kept : {A : Type 0} (want : Result Unit Refusal) (next before : A) (answer : Result Unit Refusal) (after : A)
-    → IsDoneAs want next before answer after → ((q : Refusal) → want ≡ Err q → next ≡ before) → code_of answer ≡ 3 → after ≡ before
+    → IsDoneAs want next before answer after → ((q : Refusal) → want ≡ Err q → next ≡ before) → code_of answer ≡ 23 → after ≡ before
 state-kept (Ok u) next before (Ok v) after is kept memory = absurd (cc)
 state-kept (Ok u) next before (Err r) after is kept memory = is.1
 state-kept (Err q) next before answer after is kept memory = is.1 ∙ kept q refl

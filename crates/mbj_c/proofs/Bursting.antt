@@ -71,6 +71,7 @@ only-memory refusal.NoState is = absurd (cc)
 only-memory refusal.HasKeys is = absurd (cc)
 only-memory refusal.NoKeys is = absurd (cc)
 only-memory refusal.TooManyKeys is = absurd (cc)
+only-memory refusal.WrongTag is = absurd (cc)
 
 -- a job that isn't filled changes nothing
 pub unfilled-kept : (want : Result Unit Refusal) (next before after : Option RangedState) (reason : Refusal)

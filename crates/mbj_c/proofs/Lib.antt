@@ -11,3 +11,4 @@ mod Answered
 mod Refused
 mod Bursting
 mod Cells
+mod Openings

@@ -1,19 +1,12 @@
--- The numbers that C is told.
+-- The numbers that C is told. Those of refusals stand behind the reasons for which a job is refused, which are 1 to 10.
 use Rattle.std.specs.Prelude.{ℕ, Option, None, Some, Result, Ok, Err}
 use Rattle.mbj_types.specs.Reasons.{number_of}
 use Rattle.mbj_types.specs.declared.done.Status.{Status}
 use Rattle.mbj_types.specs.declared.done.Status.TheVariants as status
 use Rattle.mbj_c.specs.declared.refusal.Refusal.{Refusal}
-use Rattle.mbj_c.specs.declared.refusal.Refusal.TheVariants.{Full, Word, Memory, NoManager, NoJob, NoRoom, HasManager, TextLength, KeyLength, IvLength, TagLength, AadLength, NoState, HasKeys, NoKeys, TooManyKeys}
+use Rattle.mbj_c.specs.declared.refusal.Refusal.TheVariants.{TextLength, KeyLength, IvLength, TagLength, AadLength, NoState, HasKeys, NoKeys, TooManyKeys, WrongTag, Full, Word, Memory, NoManager, NoJob, NoRoom, HasManager}
 
 abbrev pub refusal_code : Refusal → ℕ
-refusal_code Full = 1
-refusal_code Word = 2
-refusal_code Memory = 3
-refusal_code NoManager = 4
-refusal_code NoJob = 5
-refusal_code NoRoom = 6
-refusal_code HasManager = 7
 refusal_code TextLength = 11
 refusal_code KeyLength = 12
 refusal_code IvLength = 13
@@ -23,6 +16,14 @@ refusal_code NoState = 16
 refusal_code HasKeys = 17
 refusal_code NoKeys = 18
 refusal_code TooManyKeys = 19
+refusal_code WrongTag = 20
+refusal_code Full = 21
+refusal_code Word = 22
+refusal_code Memory = 23
+refusal_code NoManager = 24
+refusal_code NoJob = 25
+refusal_code NoRoom = 26
+refusal_code HasManager = 27
 
 -- 0, or the code of the refusal
 abbrev pub code_of : {A : Type 0} → Result A Refusal → ℕ

@@ -1,5 +1,5 @@
 -- What the calls without a manager give, where C's arguments are accepted.
-use Rattle.std.specs.Prelude.{ℕ, ◌%◌, nat_eq, nat_le, ◌==◌, ◌&&◌, ◌||◌, Bool, true, false, List, ◌++◌, length, take, drop, Option, None, Some, Result, Ok, Err, slice_get, if◌then◌else◌}
+use Rattle.std.specs.Prelude.{ℕ, ◌%◌, nat_eq, nat_le, ◌==◌, ◌&&◌, ◌||◌, Bool, true, false, List, ◌++◌, length, take, drop, replicate, bytes_eq, Option, None, Some, Result, Ok, Err, slice_get, if◌then◌else◌}
 use Rattle.mbj_types.specs.declared.class.HashName.{HashName}
 use Rattle.mbj_types.specs.declared.job.Dir.{Dir}
 use Rattle.mbj_types.specs.declared.limits.TheConstants.{MAX_IV_BYTES, MAX_CCM_AAD_BYTES, MAX_PACKET_BYTES}
@@ -9,10 +9,12 @@ use Rattle.mbj_types.specs.Ccm.{ccm}
 use Rattle.mbj_types.specs.Cmac.{first_subkey, second_subkey}
 use Rattle.mbj_types.specs.Gcm.{gcm}
 use Rattle.mbj_direct.specs.declared.parts.GcmState.{GcmState}
+use Rattle.mbj_direct.specs.declared.gmac.GmacState.{GmacState}
+use Rattle.mbj_direct.specs.Gmac.{is_gmac_state}
 use Rattle.mbj_direct.specs.Parts.{is_gcm_state}
 use Rattle.mbj_direct.specs.Schedules.{inverse_schedule}
 use Rattle.mbj_c.specs.declared.refusal.Refusal.{Refusal}
-use Rattle.mbj_c.specs.declared.refusal.Refusal.TheVariants.{AadLength, IvLength, KeyLength, NoRoom, NoState, TagLength, TextLength, Word}
+use Rattle.mbj_c.specs.declared.refusal.Refusal.TheVariants.{AadLength, IvLength, KeyLength, NoRoom, NoState, TagLength, TextLength, Word, WrongTag}
 use Rattle.mbj_c.specs.Words.{dirs, hashes}
 
 -- a test, or why a call is refused
@@ -114,6 +116,23 @@ ccm_said key nonce aad sealing old =
     and_then (ccm_accepts (length key) (length nonce) (length aad) (length old.0) (length old.1))
     (Ok (cut_to (length old.1) (ccm (aes key) nonce aad old.0 (length old.1) sealing)))
 
+-- ---- a text that is opened, and the tag that came with it
+
+-- where that is the tag that it should have come with, it becomes the plaintext, else zeros
+abbrev pub verified : Pair → List ℕ → List ℕ → Result Unit Refusal × List ℕ
+verified made tag text = if bytes_eq made.1 tag then (Ok tt, made.0) else (Err WrongTag, replicate (length text) 0)
+
+-- it stays as it is where it isn't looked at
+abbrev pub opened_by : Result Pair Refusal → List ℕ → List ℕ → Result Unit Refusal × List ℕ
+opened_by (Err r) tag text = (Err r, text)
+opened_by (Ok made) tag text = verified made tag text
+
+abbrev pub gcm_opened : List ℕ → List ℕ → List ℕ → List ℕ → List ℕ → Result Unit Refusal × List ℕ
+gcm_opened key iv aad text tag = opened_by (gcm_said key iv aad false (text, tag)) tag text
+
+abbrev pub ccm_opened : List ℕ → List ℕ → List ℕ → List ℕ → List ℕ → Result Unit Refusal × List ℕ
+ccm_opened key nonce aad text tag = opened_by (ccm_said key nonce aad false (text, tag)) tag text
+
 -- ---- a text by GCM in parts
 
 abbrev pub dir_by : Option Dir → Result Dir Refusal
@@ -135,3 +154,13 @@ goes_on s = wants (is_gcm_state s) NoState
 -- whether it ends there with a tag of n bytes
 abbrev pub ends : GcmState → ℕ → Result Unit Refusal
 ends s n = and_then (goes_on s) (wants (is_gcm_tag n) TagLength)
+
+-- ---- GMAC in parts
+
+-- whether data goes on from a state
+abbrev pub data_goes_on : GmacState → Result Unit Refusal
+data_goes_on s = wants (is_gmac_state s) NoState
+
+-- whether it ends there with a tag of n bytes
+abbrev pub data_ends : GmacState → ℕ → Result Unit Refusal
+data_ends s n = and_then (data_goes_on s) (wants (is_gcm_tag n) TagLength)

@@ -12,4 +12,5 @@ pub mod Calls
 pub mod Bursts
 pub mod Stored
 pub mod Direct
+pub mod Opened
 pub mod Inside

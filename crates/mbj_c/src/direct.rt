@@ -37,7 +37,7 @@ fn is_gcm_iv(len: usize) -> bool
 }
 
 /// Whether GCM gives a tag of this many bytes here.
-fn is_gcm_tag(len: usize) -> bool
+pub(crate) fn is_gcm_tag(len: usize) -> bool
     ensures { result ≡ is_gcm_tag len }
 {
     1 <= len && len <= BLOCK_BYTES
@@ -117,7 +117,7 @@ pub(crate) fn put_digest(hash: u32, text: &[u8], room: &mut [u8]) -> Result<(), 
 }
 
 /// Returns why GCM doesn't take a key or an IV, if it doesn't.
-fn gcm_takes(key: &[u8], iv: &[u8]) -> Result<(), Refusal>
+pub(crate) fn gcm_takes(key: &[u8], iv: &[u8]) -> Result<(), Refusal>
     ensures { result ≡ gcm_accepts key.now iv.now }
 {
     if !is_key_size(key.len()) {
@@ -149,8 +149,8 @@ pub(crate) fn gcm_seal(
     Ok(())
 }
 
-/// Opens a text in place by GCM, and fills the room of the tag that it should have come with.
-pub(crate) fn gcm_open(
+/// Decrypts a text in place by GCM, and fills the room of the tag that it should have come with.
+pub(crate) fn gcm_decrypt_unverified(
     key: &[u8],
     iv: &[u8],
     aad: &[u8],
@@ -227,7 +227,7 @@ pub(crate) fn gcm_finish(state: &mut GcmState, tag: &mut [u8]) -> Result<(), Ref
 }
 
 /// Returns why CCM doesn't take a key, a nonce or any other length, if it doesn't.
-fn ccm_takes(
+pub(crate) fn ccm_takes(
     key: &[u8],
     nonce: &[u8],
     aad: &[u8],

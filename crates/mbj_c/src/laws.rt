@@ -7,6 +7,7 @@ ghost use Rattle.mbj_c.specs.declared.job.RawJob.{RawJob};
 ghost use Rattle.mbj_c.specs.declared.words.Words.{Words};
 ghost use Rattle.mbj_c.specs.Calls.{CallOfC, GivesInOrder};
 ghost use Rattle.mbj_c.specs.Filling.{job_with};
+ghost use Rattle.mbj_c.specs.Opened.{CcmOpensByTags, GcmOpensByTags};
 ghost use Rattle.mbj_c.specs.Ranges.{bytes_in, given_range, with_bytes};
 
 /// A law: a result's packet is the packet of its job with the bytes that are given back in their range.
@@ -27,4 +28,11 @@ pub fn accepted_ranges_are_within_their_packets()
 /// submitted, in their order and each once, and each with the range of its own job.
 pub fn results_come_back_with_their_ranges()
     ensures { (calls : List CallOfC) → GivesInOrder calls }
+{}
+
+/// A law: a text whose lengths are accepted is opened exactly where it came with the tag that the standard gives it, and becomes the
+/// plaintext then; with any other tag it becomes zeros, and the answer is `WrongTag`.
+pub fn texts_are_opened_by_their_tags()
+    ensures gcm { GcmOpensByTags }
+    ensures ccm { CcmOpensByTags }
 {}

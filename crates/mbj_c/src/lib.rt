@@ -6,9 +6,9 @@
 //! the ciphered range. Other calls need no manager. Only making a manager, filling a job, making, sharing and using key
 //! sessions, and a text by CCM take memory.
 //!
-//! A call that is refused says so and changes nothing. What a call can't look at is promised by C: that pointers point to
-//! what their types say, that no two of the things that are written overlap each other or anything that is read, and that
-//! the word in a handle is null or was written by these calls.
+//! A call that is refused says so and changes nothing, but for a text whose tag is wrong, which is cleared. What a call
+//! can't look at is promised by C: that pointers point to what their types say, that no two of the things that are written
+//! overlap each other or anything that is read, and that the word in a handle is null or was written by these calls.
 #![tactic(auto)]
 
 mod bursts;
@@ -17,12 +17,14 @@ mod counts;
 mod direct;
 mod exports;
 mod giving;
+mod gmac_parts;
 mod handle;
 mod job;
 mod key_calls;
 mod key_handle;
 mod key_set;
 mod laws;
+mod opening;
 mod range;
 mod ranged;
 mod raw_box;
@@ -36,6 +38,8 @@ mod words;
 
 pub use bursts::RawBurst;
 pub use counts::Counts;
+pub use exports::bytes::{mbj_c_is_same_tag, mbj_c_wipe};
+pub use exports::gmac::{mbj_gmac_finish, mbj_gmac_init, mbj_gmac_update};
 pub use exports::jobs::{
     mbj_c_fill, mbj_c_fill_burst, mbj_c_flush, mbj_c_flush_burst, mbj_c_get_completed,
     mbj_c_get_completed_burst, mbj_c_submit, mbj_c_submit_burst,
@@ -49,8 +53,8 @@ pub use exports::tables::{
     mbj_aes_keys, mbj_cmac_subkeys, mbj_digest, mbj_hmac_states, mbj_one_block,
 };
 pub use exports::texts::{
-    mbj_ccm_open, mbj_ccm_seal, mbj_gcm_finish, mbj_gcm_init, mbj_gcm_open, mbj_gcm_seal,
-    mbj_gcm_update,
+    mbj_ccm_decrypt_unverified, mbj_ccm_open, mbj_ccm_seal, mbj_gcm_decrypt_unverified,
+    mbj_gcm_finish, mbj_gcm_init, mbj_gcm_open, mbj_gcm_seal, mbj_gcm_update,
 };
 pub use giving::RawDone;
 pub use handle::Handle;
@@ -59,7 +63,7 @@ pub use key_handle::KeysHandle;
 pub use key_set::RawBytes;
 pub use laws::{
     accepted_ranges_are_within_their_packets, packets_change_in_their_range_alone,
-    results_come_back_with_their_ranges,
+    results_come_back_with_their_ranges, texts_are_opened_by_their_tags,
 };
 pub use range::CipherRange;
 // C holds a handle to it; an exported type names it in its contract.

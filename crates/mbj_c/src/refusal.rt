@@ -4,23 +4,9 @@ ghost use Rattle.mbj_c.specs.declared.refusal.Refusal.TheVariants.{Memory};
 
 use std::alloc::AllocError;
 
-/// Why a call is refused. It then changes nothing.
+/// Why a call is refused. It then changes nothing, but for `WrongTag`, where the text is cleared.
 #[derive(Clone, Copy, Debug, PartialEq, Eq)]
 pub(crate) enum Refusal {
-    /// `CELLS` jobs are submitted and not given back.
-    Full,
-    /// A code is no cipher, direction, order, authentication or hash.
-    Word,
-    /// There wasn't memory enough.
-    Memory,
-    /// The handle has no manager.
-    NoManager,
-    /// No job is filled that could be submitted.
-    NoJob,
-    /// There is too little room for what is written.
-    NoRoom,
-    /// The handle has a manager already.
-    HasManager,
     /// The algorithm doesn't take a text of this length.
     TextLength,
     /// The algorithm doesn't take a key of this length.
@@ -39,21 +25,30 @@ pub(crate) enum Refusal {
     NoKeys,
     /// There are more keys than a set has sessions.
     TooManyKeys,
+    /// The tag that came with a text isn't that of the text.
+    WrongTag,
+    /// `CELLS` jobs are submitted and not given back.
+    Full,
+    /// A code is no cipher, direction, order, authentication or hash.
+    Word,
+    /// There wasn't memory enough.
+    Memory,
+    /// The handle has no manager.
+    NoManager,
+    /// No job is filled that could be submitted.
+    NoJob,
+    /// There is too little room for what is written.
+    NoRoom,
+    /// The handle has a manager already.
+    HasManager,
 }
 
 impl Refusal {
-    /// The number that C gets, which is not 0.
+    /// The number that C gets. It is none of those of a job's reasons, which are 0 to 10.
     pub(crate) fn code(self) -> u32
         ensures { result ≡ refusal_code self }
     {
         match self {
-            Refusal::Full => 1,
-            Refusal::Word => 2,
-            Refusal::Memory => 3,
-            Refusal::NoManager => 4,
-            Refusal::NoJob => 5,
-            Refusal::NoRoom => 6,
-            Refusal::HasManager => 7,
             Refusal::TextLength => 11,
             Refusal::KeyLength => 12,
             Refusal::IvLength => 13,
@@ -63,6 +58,14 @@ impl Refusal {
             Refusal::HasKeys => 17,
             Refusal::NoKeys => 18,
             Refusal::TooManyKeys => 19,
+            Refusal::WrongTag => 20,
+            Refusal::Full => 21,
+            Refusal::Word => 22,
+            Refusal::Memory => 23,
+            Refusal::NoManager => 24,
+            Refusal::NoJob => 25,
+            Refusal::NoRoom => 26,
+            Refusal::HasManager => 27,
         }
     }
 }

@@ -6,9 +6,10 @@ mod keys;
 mod refusals;
 mod results;
 mod stored;
+mod verified;
 
 use super::*;
-use mbj_direct::GcmState;
+use mbj_direct::{GcmState, GmacState};
 use mbj_types::MAX_TAG_BYTES;
 use std::alloc::Global;
 use std::process::Abort;

@@ -10,7 +10,7 @@ use clap::Command;
 use std::alloc::{AllocError, Global};
 
 /// The program's version, which `--version` prints.
-const VERSION: &str = "0.2.0";
+const VERSION: &str = "1.0.0";
 
 /// A command without options. In its help the text `about` stands at the top, and the example at the end.
 fn bare_command<'a>(alloc: Global, name: &'a str, about: &'a str, example: &'a str) -> Command<'a>

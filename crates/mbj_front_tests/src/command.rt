@@ -69,7 +69,7 @@ const TOLD: [&str; 9] = [
     "mbjobs burst --help => Usage: mbjobs burst|--size <B>|1 to 512|mbjobs burst --size",
     "mbjobs gen --help => Usage: mbjobs gen|--seed <N>|--jobs <M>|0 to 65536|--submitters <S>|--workers <W>",
     "mbjobs replay --help => Usage: mbjobs replay|--submitters <S>|--workers <W>|0 to 16",
-    "mbjobs --version => mbjobs 0.2.0",
+    "mbjobs --version => mbjobs 1.0.0",
     "mbjobs run --submitters 17 --workers 0 => '17'|'--submitters <S>'|--help",
     "mbjobs => Usage: mbjobs|run|trace|burst|gen|replay|--help",
 ];

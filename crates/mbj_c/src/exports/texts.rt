@@ -2,15 +2,15 @@
 
 ghost use Rattle.std.specs.Prelude.{◌≡◌, ◌≢◌, ℕ, Bool, List, [], ◌++◌, length, take, drop, IfOk, Ok, true, false};
 ghost use Rattle.mbj_c.specs.Codes.{code_of, refusal_code};
-ghost use Rattle.mbj_c.specs.Direct.{begun_said, ccm_said, changed, ends, gcm_said, goes_on};
+ghost use Rattle.mbj_c.specs.Direct.{begun_said, ccm_accepts, ccm_opened, ccm_said, changed, ends, gcm_opened, gcm_said, goes_on};
 ghost use Rattle.mbj_direct.specs.Parts.{HasTaken, blank_state};
 ghost use Rattle.mbj_types.specs.Aes.{aes};
 ghost use Rattle.mbj_types.specs.Gcm.{gcm, gcm_text};
 ghost use Rattle.mbj_types.specs.Result.{is_enc};
 ghost use Rattle.mbj_c.specs.declared.refusal.Refusal.TheVariants.{Memory};
 
-use crate::direct;
 use crate::refusal::code;
+use crate::{direct, opening};
 use mbj_direct::GcmState;
 use mbj_types::Dir;
 use std::alloc::Global;
@@ -34,11 +34,30 @@ pub extern "C" fn mbj_gcm_seal(
     code(direct::gcm_seal(key, iv, aad, text, tag))
 }
 
+/// Decrypts a text in place by GCM (SP 800-38D, 7.2) that came with the tag `tag`, and compares all bytes of that with as many of the tag
+/// that the text should have come with. It needs no manager and takes no memory.
+///
+/// Returns 0 exactly where both are equal: the text is the plaintext then. Else returns `WrongTag`, and the text is all zeros, or the code
+/// of a refusal as `mbj_gcm_seal` does, and nothing is written.
+#[unsafe(no_mangle)]
+pub extern "C" fn mbj_gcm_open(
+    key: &[u8],
+    iv: &[u8],
+    aad: &[u8],
+    text: &mut [u8],
+    tag: &[u8],
+) -> u32
+    ensures answer { result ≡ code_of (gcm_opened key.now iv.now aad.now text.old tag.now).0 }
+    ensures written { text.new ≡ (gcm_opened key.now iv.now aad.now text.old tag.now).1 }
+{
+    code(opening::gcm_open(key, iv, aad, text, tag))
+}
+
 /// Decrypts a text in place by GCM (SP 800-38D, 7.2), and fills `tag` with the first bytes of the tag that the text should have come
 /// with, as many as it has. Nothing is compared: the text is decrypted whatever tag it came with, and the caller compares. It returns
 /// as `mbj_gcm_seal` does. It needs no manager and takes no memory.
 #[unsafe(no_mangle)]
-pub extern "C" fn mbj_gcm_open(
+pub extern "C" fn mbj_gcm_decrypt_unverified(
     key: &[u8],
     iv: &[u8],
     aad: &[u8],
@@ -48,7 +67,7 @@ pub extern "C" fn mbj_gcm_open(
     ensures answer { result ≡ code_of (changed (gcm_said key.now iv.now aad.now false (text.old, tag.old)) (text.old, tag.old)).0 }
     ensures written { (text.new, tag.new) ≡ (changed (gcm_said key.now iv.now aad.now false (text.old, tag.old)) (text.old, tag.old)).1 }
 {
-    code(direct::gcm_open(key, iv, aad, text, tag))
+    code(direct::gcm_decrypt_unverified(key, iv, aad, text, tag))
 }
 
 /// Begins a text by GCM that comes in parts, in a state of the caller's: `dir` is 0 to seal it, 1 to open it. The state holds the key,
@@ -134,11 +153,34 @@ pub extern "C" fn mbj_ccm_seal(
     code(direct::ccm_change(alloc, Dir::Enc, key, nonce, aad, text, tag))
 }
 
+/// Decrypts a text in place by CCM (SP 800-38C, 6.2) that came with the tag `tag`, and compares all bytes of that with the tag of this
+/// length that the text should have come with. It takes memory as `mbj_ccm_seal` does.
+///
+/// Returns 0 exactly where both are equal: the text is the plaintext then. Else returns `WrongTag`, and the text is all zeros, or the code
+/// of a refusal as `mbj_ccm_seal` does, and nothing is written.
+#[unsafe(no_mangle)]
+pub extern "C" fn mbj_ccm_open(
+    alloc: Global,
+    key: &[u8],
+    nonce: &[u8],
+    aad: &[u8],
+    text: &mut [u8],
+    tag: &[u8],
+) -> u32
+    ensures want_of_memory { result ≡ refusal_code Memory
+        → ccm_accepts (length key.now) (length nonce.now) (length aad.now) (length text.old) (length tag.now) ≡ Ok tt }
+    ensures unchanged { result ≡ refusal_code Memory → text.new ≡ text.old }
+    ensures answer { result ≢ refusal_code Memory → result ≡ code_of (ccm_opened key.now nonce.now aad.now text.old tag.now).0 }
+    ensures written { result ≢ refusal_code Memory → text.new ≡ (ccm_opened key.now nonce.now aad.now text.old tag.now).1 }
+{
+    code(opening::ccm_open(alloc, key, nonce, aad, text, tag))
+}
+
 /// Decrypts a text in place by CCM (SP 800-38C, 6.2), and fills `tag` with the tag that the text should have come with, whose length is
 /// that of `tag`. Nothing is compared: the text is decrypted whatever tag it came with, and the caller compares. It returns as
 /// `mbj_ccm_seal` does, and takes memory as that does.
 #[unsafe(no_mangle)]
-pub extern "C" fn mbj_ccm_open(
+pub extern "C" fn mbj_ccm_decrypt_unverified(
     alloc: Global,
     key: &[u8],
     nonce: &[u8],

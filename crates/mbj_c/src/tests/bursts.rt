@@ -4,13 +4,13 @@ ghost use Rattle.mbj_types.specs.declared.limits.TheConstants.{MAX_TAG_BYTES};
 use super::*;
 
 /// The codes of refusals, as C is told them.
-const WORD: u32 = 2;
+const WORD: u32 = 22;
 
-const NO_MANAGER: u32 = 4;
+const NO_MANAGER: u32 = 24;
 
-const NO_JOB: u32 = 5;
+const NO_JOB: u32 = 25;
 
-const NO_ROOM: u32 = 6;
+const NO_ROOM: u32 = 26;
 
 /// What is told before a burst.
 const UNTOLD: RawBurst = RawBurst {

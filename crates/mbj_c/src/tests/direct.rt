@@ -10,9 +10,9 @@ const NO_HASH: u32 = 5;
 const NO_DIR: u32 = 2;
 
 /// The codes of refusals, as C is told them.
-const WORD: u32 = 2;
+const WORD: u32 = 22;
 
-const NO_ROOM: u32 = 6;
+const NO_ROOM: u32 = 26;
 
 const KEY_LENGTH: u32 = 12;
 
@@ -51,11 +51,11 @@ fn subkeys_go_to_the_fronts_of_their_rooms(rt: HostRuntime) {
 }
 
 /// Test case 2 of the GCM specification (McGrew and Viega, appendix B): a block of zeros under the zero key.
-const ZEROS_SEALED: [u8; 16] = [
+pub(super) const ZEROS_SEALED: [u8; 16] = [
     0x03, 0x88, 0xda, 0xce, 0x60, 0xb6, 0xa3, 0x92, 0xf3, 0x28, 0xc2, 0xb9, 0x71, 0xb2, 0xfe, 0x78,
 ];
 
-const ZEROS_TAG: [u8; 16] = [
+pub(super) const ZEROS_TAG: [u8; 16] = [
     0xab, 0x6e, 0x47, 0xd4, 0x2c, 0xec, 0x13, 0xbd, 0xf5, 0x3a, 0x67, 0xb2, 0x12, 0x57, 0xbd, 0xdf,
 ];
 
@@ -70,8 +70,8 @@ fn a_text_is_sealed_and_opened(rt: HostRuntime) {
     expect_bytes(&rt, &text, &ZEROS_SEALED);
     expect_bytes(&rt, &tag, &ZEROS_TAG);
     let mut front = [0xee; 4];
-    let opened = mbj_gcm_open(&[0; 16], &[0; 12], &NOTHING, &mut text, &mut front);
-    expect_number(&rt, opened, 0);
+    let found = mbj_gcm_decrypt_unverified(&[0; 16], &[0; 12], &NOTHING, &mut text, &mut front);
+    expect_number(&rt, found, 0);
     expect_bytes(&rt, &text, &[0; 16]);
     expect_bytes(&rt, &front, &ZEROS_TAG[..4]);
 }
@@ -97,7 +97,7 @@ fn texts_of_gcm_are_refused(rt: HostRuntime) {
     let mut state = GcmState::blank();
     let code = mbj_gcm_seal(&[0; 15], &[0; 12], &NOTHING, &mut text, &mut tag);
     expect_number(&rt, code, KEY_LENGTH);
-    let code = mbj_gcm_open(&[0; 16], &NOTHING, &NOTHING, &mut text, &mut tag);
+    let code = mbj_gcm_open(&[0; 16], &NOTHING, &NOTHING, &mut text, &tag);
     expect_number(&rt, code, IV_LENGTH);
     let code = mbj_gcm_seal(&[0; 16], &[0; 12], &NOTHING, &mut text, &mut tag);
     expect_number(&rt, code, TAG_LENGTH);
@@ -144,19 +144,19 @@ fn a_digest_goes_to_the_front_of_its_room(rt: HostRuntime) {
 }
 
 /// SP 800-38C, appendix C, example 1.
-const CCM_KEY: [u8; 16] = [
+pub(super) const CCM_KEY: [u8; 16] = [
     0x40, 0x41, 0x42, 0x43, 0x44, 0x45, 0x46, 0x47, 0x48, 0x49, 0x4a, 0x4b, 0x4c, 0x4d, 0x4e, 0x4f,
 ];
 
-const NONCE: [u8; 7] = [0x10, 0x11, 0x12, 0x13, 0x14, 0x15, 0x16];
+pub(super) const NONCE: [u8; 7] = [0x10, 0x11, 0x12, 0x13, 0x14, 0x15, 0x16];
 
-const AAD: [u8; 8] = [0, 1, 2, 3, 4, 5, 6, 7];
+pub(super) const AAD: [u8; 8] = [0, 1, 2, 3, 4, 5, 6, 7];
 
-const PLAINTEXT: [u8; 4] = [0x20, 0x21, 0x22, 0x23];
+pub(super) const PLAINTEXT: [u8; 4] = [0x20, 0x21, 0x22, 0x23];
 
-const CIPHERTEXT: [u8; 4] = [0x71, 0x62, 0x01, 0x5b];
+pub(super) const CIPHERTEXT: [u8; 4] = [0x71, 0x62, 0x01, 0x5b];
 
-const CCM_TAG: [u8; 4] = [0x4d, 0xac, 0x25, 0x5d];
+pub(super) const CCM_TAG: [u8; 4] = [0x4d, 0xac, 0x25, 0x5d];
 
 #[test]
 fn a_text_is_sealed_and_opened_by_ccm(rt: HostRuntime) {
@@ -167,8 +167,8 @@ fn a_text_is_sealed_and_opened_by_ccm(rt: HostRuntime) {
     expect_bytes(&rt, &text, &CIPHERTEXT);
     expect_bytes(&rt, &tag, &CCM_TAG);
     let mut again = [0xee; 4];
-    let opened = mbj_ccm_open(alloc, &CCM_KEY, &NONCE, &AAD, &mut text, &mut again);
-    expect_number(&rt, opened, 0);
+    let found = mbj_ccm_decrypt_unverified(alloc, &CCM_KEY, &NONCE, &AAD, &mut text, &mut again);
+    expect_number(&rt, found, 0);
     expect_bytes(&rt, &text, &PLAINTEXT);
     expect_bytes(&rt, &again, &CCM_TAG);
 }
@@ -181,9 +181,9 @@ fn texts_of_ccm_are_refused(rt: HostRuntime) {
     expect_number(&rt, key, KEY_LENGTH);
     let nonce = mbj_ccm_seal(alloc, &CCM_KEY, &NONCE[1..], &AAD, &mut text, &mut tag);
     expect_number(&rt, nonce, IV_LENGTH);
-    let aad = mbj_ccm_open(alloc, &CCM_KEY, &NONCE, &[0; 65280], &mut text, &mut tag);
+    let aad = mbj_ccm_open(alloc, &CCM_KEY, &NONCE, &[0; 65280], &mut text, &tag);
     expect_number(&rt, aad, AAD_LENGTH);
-    let odd = mbj_ccm_open(alloc, &CCM_KEY, &NONCE, &AAD, &mut text, &mut tag);
+    let odd = mbj_ccm_open(alloc, &CCM_KEY, &NONCE, &AAD, &mut text, &tag);
     expect_number(&rt, odd, TAG_LENGTH);
     expect_bytes(&rt, &text, &PLAINTEXT);
     expect_bytes(&rt, &tag, &[0xee; 5]);

@@ -13,7 +13,7 @@ const KEY_256: [u8; 32] = [
 ];
 
 /// The codes of refusals that calls of key sessions have of their own, and two that they share.
-const NO_MANAGER: u32 = 4;
+const NO_MANAGER: u32 = 24;
 
 const KEY_LENGTH: u32 = 12;
 

@@ -2,17 +2,17 @@ use super::*;
 use mbj_ring::CELLS;
 
 /// The codes of refusals, as C is told them.
-const FULL: u32 = 1;
+const FULL: u32 = 21;
 
-const WORD: u32 = 2;
+const WORD: u32 = 22;
 
-const NO_MANAGER: u32 = 4;
+const NO_MANAGER: u32 = 24;
 
-const NO_JOB: u32 = 5;
+const NO_JOB: u32 = 25;
 
-const NO_ROOM: u32 = 6;
+const NO_ROOM: u32 = 26;
 
-const HAS_MANAGER: u32 = 7;
+const HAS_MANAGER: u32 = 27;
 
 /// Fills and submits the job, and returns for what filling is refused; 0 where it isn't.
 fn fill_and_submit(alloc: Global, handle: &mut Handle, job: &RawJob<'_>) -> u32 {

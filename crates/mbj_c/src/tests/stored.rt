@@ -6,9 +6,9 @@ const SHA1: u32 = 0;
 const NO_HASH: u32 = 5;
 
 /// The codes of refusals, as C is told them.
-const WORD: u32 = 2;
+const WORD: u32 = 22;
 
-const NO_ROOM: u32 = 6;
+const NO_ROOM: u32 = 26;
 
 const TEXT_LENGTH: u32 = 11;
 

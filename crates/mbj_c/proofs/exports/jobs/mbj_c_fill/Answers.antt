@@ -8,16 +8,16 @@ pub returns-clause-answer : goal.returns-clause-answer
 returns-clause-answer c other =
     let want = filled c.args.raw.now c.args.handle.now.manager in
     c.code.ensures
-    ∙ code-wanted want.0 want.1 c.args.handle.now.manager c.fill.result c.fill.new.handle.manager c.fill.ensures (subst (λ n. n ≢ 3) c.code.ensures other)
+    ∙ code-wanted want.0 want.1 c.args.handle.now.manager c.fill.result c.fill.new.handle.manager c.fill.ensures (subst (λ n. n ≢ 23) c.code.ensures other)
 
 pub returns-clause-state : goal.returns-clause-state
 returns-clause-state c other =
     let want = filled c.args.raw.now c.args.handle.now.manager in
-    state-wanted want.0 want.1 c.args.handle.now.manager c.fill.result c.fill.new.handle.manager c.fill.ensures (subst (λ n. n ≢ 3) c.code.ensures other)
+    state-wanted want.0 want.1 c.args.handle.now.manager c.fill.result c.fill.new.handle.manager c.fill.ensures (subst (λ n. n ≢ 23) c.code.ensures other)
 
 pub returns-clause-unchanged : goal.returns-clause-unchanged
 returns-clause-unchanged c memory =
     let before = c.args.handle.now.manager in
     let want = filled c.args.raw.now before in
     state-kept want.0 want.1 before c.fill.result c.fill.new.handle.manager c.fill.ensures (refused-kept 0 c.args.raw.now before)
-    (subst (λ n. n ≡ 3) c.code.ensures memory)
+    (subst (λ n. n ≡ 23) c.code.ensures memory)
