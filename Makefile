@@ -49,8 +49,8 @@ major := $(call number,MAJOR)
 version := $(major).$(call number,MINOR).$(call number,PATCH)
 
 # The headers, and the functions that they declare and don't define.
-interface := $(addprefix include/,mbj.h mbj_fill.h mbj_inline.h mbj_inline_bursts.h mbj_inline_texts.h mbj_raw.h mbj_direct.h)
-exports := $(shell sed -n 's/^[a-z].*[ *]\(mbj_[a-z_]*\)(.*);$$/\1/p' $(interface))
+interface := $(addprefix include/,mbj.h mbj_fill.h mbj_inline.h mbj_inline_bursts.h mbj_inline_texts.h mbj_raw.h mbj_direct.h mbj_heap.h mbj_heap_pool.h)
+exports := $(shell sed -n ':again; /^[a-z].*,$$/{N; s/\n */ /; b again}; s/^[a-z].*[ *]\(mbj_[a-z_]*\)(.*);$$/\1/p' $(interface))
 
 static := libmbj_c.a
 shared := libmbj_c.so.$(major)
@@ -129,11 +129,14 @@ $(BUILD)/%/mbj_processor.o: include/mbj_processor.c $(interface) $(BUILD)/settin
 	@mkdir -p $(@D)
 	$(compile) -DMBJ_LEVEL=$(*:x86-64-v%=%) $(call quoted,-DMBJ_TOOLCHAIN="$(call in-string,$(TOOLCHAIN))")
 
-$(BUILD)/mbj_heap.o: include/mbj_heap.c include/mbj_heap.h $(BUILD)/settings
-	@mkdir -p $(@D)
-	$(compile)
+# The heaps that a manager may have. Which one a thread names is an object by itself, and so is what the proved code asks.
+heaps := $(addprefix $(BUILD)/,mbj_heap.o mbj_heap_choice.o mbj_heap_pool.o)
 
-$(BUILD)/%/$(static): $(BUILD)/%/proved.a $(BUILD)/%/mbj_processor.o $(BUILD)/mbj_heap.o packaging/archive
+$(heaps): $(BUILD)/%.o: include/%.c include/mbj_heap_choice.h $(interface) $(BUILD)/settings
+	@mkdir -p $(@D)
+	$(compile) -DMBJ_POOLS_ALONE
+
+$(BUILD)/%/$(static): $(BUILD)/%/proved.a $(BUILD)/%/mbj_processor.o $(heaps) packaging/archive
 	AR='$(AR)' packaging/archive $* $@ $(filter-out packaging/archive,$^)
 
 $(BUILD)/exports.map: $(interface)
@@ -171,9 +174,9 @@ $(BUILD)/mbj_selftest.o: include/mbj_selftest.c include/mbj_selftest.h $(interfa
 	$(compile)
 
 # A build whose exports end in its level, and whose other names are local, so that a library may hold both.
-$(BUILD)/%/renamed.o: $(BUILD)/%/proved.a $(BUILD)/%/mbj_processor.o $(BUILD)/mbj_selftest.o packaging/renamed $(interface)
+$(BUILD)/%/renamed.o: $(BUILD)/%/proved.a $(BUILD)/%/mbj_processor.o $(BUILD)/mbj_selftest.o $(BUILD)/mbj_heap_choice.o packaging/renamed
 	AR='$(AR)' packaging/renamed _$(*:x86-64-%=%) $@ $(BUILD)/$*/proved.a $(BUILD)/$*/mbj_processor.o $(BUILD)/mbj_selftest.o \
-	    $(exports) mbj_selftest
+	    $(BUILD)/mbj_heap_choice.o $(exports) mbj_selftest
 
 dropin: $(dropin)
 
@@ -202,9 +205,9 @@ override PREFIX := $(abspath $(PREFIX))
 CMAKEDIR := $(LIBDIR)/cmake/mbj
 HWCAPSDIR := $(LIBDIR)/glibc-hwcaps/$(avx2)
 
-headers := $(interface) include/mbj_heap.h include/mbj_heap_pool.h include/mbj_selftest.h
+headers := $(interface) include/mbj_selftest.h
 documents := README.md CHANGELOG.md $(wildcard docs/*.md docs/*.svg)
-examples := $(wildcard examples/c/*.c) $(wildcard include/mbj_heap*.c) include/mbj_symbols.c include/mbj_selftest.c
+examples := $(wildcard examples/c/*.c) include/mbj_heap.c include/mbj_heap_pool.c include/mbj_heap_wiping.c include/mbj_symbols.c include/mbj_selftest.c
 described := $(LIBDIR)/pkgconfig/mbj.pc $(LIBDIR)/pkgconfig/mbj-static.pc $(CMAKEDIR)/mbjConfig.cmake $(CMAKEDIR)/mbjConfigVersion.cmake
 
 # What goes where, by what is done with it. Files that aren't there are left out.

@@ -112,7 +112,7 @@ static void fill(MBJ_JOB *job, const struct started *s, const struct work *work,
 
 static size_t take(const MBJ_JOB *done) {
     if (done->status != MBJ_STATUS_COMPLETED)
-        give_up(mbj_reason_text(done->reason));
+        give_up(mbj_err_text(done->reason));
     return 1;
 }
 

@@ -9,13 +9,13 @@
  *     job->user_data = packet;
  *     done = mbj_submit_job(m);
  *     if (done == NULL && mbj_get_errno(m) != MBJ_ERR_NONE)
- *         puts(mbj_refusal_text(mbj_get_errno(m)));
+ *         puts(mbj_err_text(mbj_get_errno(m)));
  *     if (done == NULL)
  *         done = mbj_flush_job(m);
  *     if (done != NULL && done->status == MBJ_STATUS_COMPLETED)
  *         send_on(done->user_data, done->auth_tag_output);
  *     else if (done != NULL)
- *         puts(mbj_reason_text(done->reason));
+ *         puts(mbj_err_text(done->reason));
  *     mbj_free_mgr(m);
  *
  * One thread at a time uses a manager. Nothing here is called from a signal handler. In the child of a process that had threads when it
@@ -36,8 +36,8 @@
 /* The version of this header and of the library that it belongs to. For C it is defined only here: the Makefile reads it for the shared
  * library's name, for pkg-config and for CMake. The proved code has a number of its own; both are compared when a manager is made. A change
  * of a struct or of a code, or of what an export means, makes a new major number, and with it a new soname. */
-#define MBJ_VERSION_MAJOR 0
-#define MBJ_VERSION_MINOR 2
+#define MBJ_VERSION_MAJOR 1
+#define MBJ_VERSION_MINOR 0
 #define MBJ_VERSION_PATCH 0
 #define MBJ_VERSION_NUM (MBJ_VERSION_MAJOR * 65536 + MBJ_VERSION_MINOR * 256 + MBJ_VERSION_PATCH)
 #define MBJ_QUOTE_(number) #number
@@ -112,34 +112,10 @@ enum mbj_auth {
 /* The hashes, where one is asked for by itself. */
 enum mbj_hash { MBJ_HASH_SHA_1, MBJ_HASH_SHA_224, MBJ_HASH_SHA_256, MBJ_HASH_SHA_384, MBJ_HASH_SHA_512 };
 
-/* Why a call is refused. A refused call changes nothing. mbj_refusal_text has a text for each. */
-enum mbj_refusal {
-    MBJ_ERR_NONE,        /* it isn't */
-    MBJ_ERR_FULL,        /* MBJ_MAX_JOBS jobs are submitted and not given back */
-    MBJ_ERR_WORD,        /* a code is no cipher, direction, order, authentication or hash */
-    MBJ_ERR_MEMORY,      /* there wasn't memory enough */
-    MBJ_ERR_NO_MANAGER,  /* there is no manager */
-    MBJ_ERR_NO_JOB,      /* no job is filled, or handed out, that could be submitted */
-    MBJ_ERR_NO_ROOM,     /* there is too little room for the result that is given back next, or for what is written */
-    MBJ_ERR_HAS_MANAGER, /* the handle has a manager already */
-    MBJ_ERR_NULL,        /* mbj_init_mgr was given no memory */
-    MBJ_ERR_VERSION,     /* the library has another major version than the header that the program was compiled with, or is older */
-    MBJ_ERR_PROCESSOR,   /* the processor lacks a feature that the library was built for: mbj_c_missing_feature names it */
-    MBJ_ERR_TEXT_LENGTH, /* the algorithm doesn't take a text of this length */
-    MBJ_ERR_KEY_LENGTH,  /* the algorithm doesn't take a key of this length */
-    MBJ_ERR_IV_LENGTH,   /* the algorithm doesn't take an IV, or a nonce, of this length */
-    MBJ_ERR_TAG_LENGTH,  /* the algorithm doesn't give a tag of this length */
-    MBJ_ERR_AAD_LENGTH,  /* the additional data is too long */
-    MBJ_ERR_NO_STATE,    /* the bytes are no state of a text that could go on */
-    MBJ_ERR_HAS_KEYS,    /* the handle has a set of key sessions already */
-    MBJ_ERR_NO_KEYS,     /* the handle has no set of key sessions */
-    MBJ_ERR_MANY_KEYS    /* there are more than MBJ_MAX_SESSIONS keys */
-};
-
-/* Why a job is refused: what is the matter with its arguments. mbj_reason_text has a text for each, docs/FORMAT.md the table of 1 to 10.
- * From 100 on the reasons are those of the job interface. */
-enum mbj_reason {
-    MBJ_REASON_NONE,          /* it isn't */
+/* Why a job or a call is refused: each number has one meaning, and a text by mbj_err_text. 1 to 10, and 100 on, are the reasons of jobs
+ * (docs/FORMAT.md has a table of the first); the others are those of calls. A refused call changes nothing, but for MBJ_ERR_TAG. */
+typedef enum mbj_err {
+    MBJ_ERR_NONE,             /* it isn't */
     MBJ_REASON_PACKET_LONG,   /* the packet is longer than 65,535 bytes */
     MBJ_REASON_PAIR,          /* exactly one of cipher and authentication is GCM, exactly one is CCM, or GMAC stands beside a cipher */
     MBJ_REASON_CIPHER_KEY,    /* the cipher's key has neither 16, 24 nor 32 bytes */
@@ -150,11 +126,36 @@ enum mbj_reason {
     MBJ_REASON_HASH_RANGE,    /* the hash range passes the packet's end */
     MBJ_REASON_AAD_LONG,      /* the additional data is longer than 65,535 bytes for GCM, or 65,279 for CCM */
     MBJ_REASON_TAG_LENGTH,    /* the authentication doesn't give a tag of this length */
+    MBJ_ERR_TEXT_LENGTH,      /* the algorithm doesn't take a text of this length */
+    MBJ_ERR_KEY_LENGTH,       /* the algorithm doesn't take a key of this length */
+    MBJ_ERR_IV_LENGTH,        /* the algorithm doesn't take an IV, or a nonce, of this length */
+    MBJ_ERR_TAG_LENGTH,       /* the algorithm doesn't give a tag of this length */
+    MBJ_ERR_AAD_LENGTH,       /* the additional data is too long */
+    MBJ_ERR_NO_STATE,         /* the bytes are no state that could go on */
+    MBJ_ERR_HAS_KEYS,         /* the handle has a set of key sessions already */
+    MBJ_ERR_NO_KEYS,          /* the handle has no set of key sessions */
+    MBJ_ERR_MANY_KEYS,        /* there are more than MBJ_MAX_SESSIONS keys */
+    MBJ_ERR_TAG,              /* the tag that came with the text isn't that of the text, which was cleared; of jobs too */
+    MBJ_ERR_FULL,             /* MBJ_MAX_JOBS jobs are submitted and not given back */
+    MBJ_ERR_WORD,             /* a code is no cipher, direction, order, authentication or hash */
+    MBJ_ERR_MEMORY,           /* there wasn't memory enough */
+    MBJ_ERR_NO_MANAGER,       /* there is no manager */
+    MBJ_ERR_NO_JOB,           /* no job is filled, or handed out, that could be submitted */
+    MBJ_ERR_NO_ROOM,          /* there is too little room for the result that is given back next, or for what is written */
+    MBJ_ERR_HAS_MANAGER,      /* the handle has a manager already */
+    MBJ_ERR_NULL,             /* mbj_init_mgr was given no memory */
+    MBJ_ERR_VERSION,          /* the library has another major version than the header that the program was compiled with, or is older */
+    MBJ_ERR_PROCESSOR,        /* the processor lacks a feature that the library was built for: mbj_c_missing_feature names it */
+    MBJ_ERR_HEAP,             /* no heap can be chosen, since the program was linked with one of its own */
     MBJ_REASON_CODE = 100,    /* a code is no cipher, direction, order or authentication, as in a job whose cipher was never set */
-    MBJ_REASON_NULL           /* bytes that the job uses are at NULL */
-};
+    MBJ_REASON_NULL,          /* bytes that the job uses are at NULL */
+    MBJ_REASON_NO_TAG,        /* a tag is expected of a job without an authentication */
+    MBJ_REASON_NONE = MBJ_ERR_NONE
+} mbj_err;
 
 /* ---- jobs and managers ---- */
+
+struct mbj_heap; /* of mbj_heap.h */
 
 /* A manager, or none: MBJ_HANDLE_INIT at first, and then written by the exports alone. A handle may be moved, and never copied. */
 struct mbj_handle {
@@ -187,7 +188,8 @@ enum mbj_status {
     MBJ_STATUS_BEING_PROCESSED,
     MBJ_STATUS_COMPLETED,
     MBJ_STATUS_INVALID_ARGS, /* the job was refused, for the reason in its field */
-    MBJ_STATUS_ERROR         /* the job wasn't submitted: mbj_get_errno says why */
+    MBJ_STATUS_ERROR,        /* the job wasn't submitted: mbj_get_errno says why */
+    MBJ_STATUS_WRONG_TAG     /* the job was done, its tag isn't expected_tag, and what it wrote to dst was cleared */
 };
 
 /* Which fields a job reads beside its codes, packet, user_data and session. All others are ignored.
@@ -202,10 +204,12 @@ enum mbj_status {
  *     GMAC                auth_key 16, 24, 32   iv       hash range     tag 1 to 16
  *     SHA                                                hash range     tag 1 to the whole
  *
- * With a cipher and another authentication than that of GCM or CCM chain_order counts. */
+ * With a cipher and another authentication than that of GCM or CCM chain_order counts. A job with a tag may have expected_tag. */
 
 /* A job. Its bytes and its keys are copied when it is submitted, and never written: all that it reads may be used anew then. What was
- * ciphered goes to dst and the tag to auth_tag_output when the job is given back, first the one and then the other. */
+ * ciphered goes to dst and the tag to auth_tag_output when the job is given back, first the one and then the other. With expected_tag the
+ * tag is compared first, in constant time: where it differs the status is MBJ_STATUS_WRONG_TAG and the reason MBJ_ERR_TAG, zeros are at
+ * dst, and no tag is written. */
 typedef struct mbj_job {
     uint32_t cipher_mode;      /* enum mbj_cipher; MBJ_CIPHER_UNSET in a blank job */
     uint32_t cipher_direction; /* enum mbj_dir */
@@ -226,25 +230,29 @@ typedef struct mbj_job {
     uint64_t msg_len_to_cipher_in_bytes;
     uint64_t hash_start_src_offset_in_bytes;
     uint64_t msg_len_to_hash_in_bytes;
-    uint8_t *auth_tag_output;
+    uint8_t *auth_tag_output; /* may be NULL where expected_tag isn't */
     size_t auth_tag_output_len_in_bytes;
     void *user_data, *user_data2;
     enum mbj_status status;
-    uint32_t reason;  /* enum mbj_reason: why the job was refused */
+    uint32_t reason;  /* enum mbj_err: why the job was refused */
     uint32_t session; /* of the set that the manager uses; MBJ_NO_SESSION in a blank job. No result depends on it */
+    const uint8_t *expected_tag; /* the tag that came with the packet, auth_tag_output_len_in_bytes long; NULL where none is compared */
 } MBJ_JOB;
 
-/* Where the result of a submitted job goes. */
+/* Where the result of a submitted job goes, and the tag that is expected of it. */
 struct mbj_slot {
     uint8_t *dst, *tag;
     size_t dst_len, tag_len;
-    uint32_t reason; /* one of the job interface's own, or 0 */
+    uint32_t reason;  /* one of the job interface's own, or 0 */
+    bool is_expected; /* whether a tag is */
+    uint8_t expected[MBJ_MAX_TAG_BYTES];
 };
 
 /* A manager and its jobs: those from first on, below next, are submitted and not given back, and as many as lent says, from next on, are
  * handed out and not submitted. */
 typedef struct mbj_mgr {
     struct mbj_handle handle;
+    const struct mbj_heap *heap; /* what its calls take memory from, or NULL for what the thread names */
     uint32_t first, next, error, lent;
     struct mbj_slot slots[MBJ_MAX_JOBS];
     MBJ_JOB jobs[MBJ_MAX_JOBS];
@@ -255,11 +263,28 @@ typedef struct mbj_mgr {
 /* Makes a manager in the caller's memory, which then stays where it is until mbj_end_mgr. Returns MBJ_ERR_NONE, or why there is no
  * manager: MBJ_ERR_NULL, MBJ_ERR_PROCESSOR, MBJ_ERR_VERSION or MBJ_ERR_MEMORY. A submission is then refused with MBJ_ERR_NO_MANAGER, and
  * mbj_end_mgr does nothing. */
-MBJ_CHECKED MBJ_API enum mbj_refusal mbj_init_mgr(MBJ_MGR *m);
+MBJ_CHECKED MBJ_API mbj_err mbj_init_mgr(MBJ_MGR *m);
+
+/* Whether a manager keeps the memory of jobs that were given back for later ones. */
+enum mbj_keeping {
+    MBJ_KEEPS_DEFAULT, /* as one of mbj_init_mgr */
+    MBJ_KEEPS_MORE     /* as one of mbj_init_mgr_keeping */
+};
+
+/* How a manager takes memory: from a heap of mbj_heap.h, or, where that is NULL, from the one that the thread names at each call. */
+struct mbj_options {
+    const struct mbj_heap *heap;
+    uint32_t keeping; /* enum mbj_keeping */
+};
+
+/* Makes a manager as mbj_init_mgr does, with these options; NULL for the defaults, which are all zero. Returns MBJ_ERR_WORD where keeping
+ * is none, and MBJ_ERR_HEAP where a heap is given and the program was linked with one of its own. The heap stays valid until its last block
+ * is freed. */
+MBJ_CHECKED MBJ_API mbj_err mbj_init_mgr_with(MBJ_MGR *m, const struct mbj_options *options);
 
 /* Makes a manager as mbj_init_mgr does, which keeps more memory of jobs that were given back for later ones: blocks of at most 2,048 bytes,
  * where mbj_init_mgr's keeps those of at most 256. Then most jobs take no memory: see mbj_held_bytes and mbj_trim. */
-MBJ_CHECKED MBJ_API enum mbj_refusal mbj_init_mgr_keeping(MBJ_MGR *m);
+MBJ_CHECKED MBJ_API mbj_err mbj_init_mgr_keeping(MBJ_MGR *m);
 
 /* Frees what mbj_init_mgr took, and neither the caller's memory nor the bytes of jobs. NULL is left alone. */
 MBJ_API void mbj_end_mgr(MBJ_MGR *m);
@@ -273,7 +298,7 @@ MBJ_API void mbj_free_mgr(MBJ_MGR *m);
 /* Has the manager use these key sessions from now on: a job that names one in its field session, and has its key, takes the session's
  * schedule where it needs one. Jobs that were submitted are done with their own key. Returns MBJ_ERR_NONE, MBJ_ERR_NO_MANAGER,
  * MBJ_ERR_NO_KEYS or MBJ_ERR_MEMORY. The manager keeps the set until it uses another one or ends; the handle may be freed before. */
-MBJ_CHECKED MBJ_API enum mbj_refusal mbj_use_keys(MBJ_MGR *m, struct mbj_keys *keys);
+MBJ_CHECKED MBJ_API mbj_err mbj_use_keys(MBJ_MGR *m, struct mbj_keys *keys);
 
 /* How many bytes a manager keeps for later jobs: 0 where there is no manager. */
 MBJ_API size_t mbj_held_bytes(MBJ_MGR *m);
@@ -303,7 +328,7 @@ MBJ_API MBJ_JOB *mbj_get_completed_job(MBJ_MGR *m);
 MBJ_API MBJ_JOB *mbj_flush_job(MBJ_MGR *m);
 
 /* Why the last call returned no job: MBJ_ERR_NONE where there was none to give, or the refusal. */
-MBJ_API enum mbj_refusal mbj_get_errno(const MBJ_MGR *m);
+MBJ_API mbj_err mbj_get_errno(const MBJ_MGR *m);
 
 /* ---- bursts ---- */
 
@@ -333,7 +358,7 @@ MBJ_API uint32_t mbj_flush_burst(MBJ_MGR *m, uint32_t n, MBJ_JOB **done);
 /* Makes a set of copies of these keys, numbered from 0: of at most MBJ_MAX_SESSIONS, each of 16, 24 or 32 bytes. Returns MBJ_ERR_NONE,
  * MBJ_ERR_HAS_KEYS, MBJ_ERR_MANY_KEYS, MBJ_ERR_KEY_LENGTH or MBJ_ERR_MEMORY. keys isn't NULL. */
 MBJ_CHECKED MBJ_NONNULL
-uint32_t mbj_keys_new(struct mbj_keys *made, const struct mbj_bytes *keys, size_t keys_len);
+mbj_err mbj_keys_new(struct mbj_keys *made, const struct mbj_bytes *keys, size_t keys_len);
 
 /* Empties the handle; false where it has no set. The set is freed with its last handle and the last manager that uses it. */
 MBJ_NONNULL
@@ -342,18 +367,23 @@ bool mbj_keys_free(struct mbj_keys *keys);
 /* Makes another handle of the same set. Returns MBJ_ERR_NONE, MBJ_ERR_NO_KEYS where from has none, MBJ_ERR_HAS_KEYS where to has one, or
  * MBJ_ERR_MEMORY. */
 MBJ_CHECKED MBJ_NONNULL
-uint32_t mbj_keys_share(struct mbj_keys *from, struct mbj_keys *to);
+mbj_err mbj_keys_share(struct mbj_keys *from, struct mbj_keys *to);
+
+/* ---- tags and secrets ---- */
+
+/* Whether two tags of so many bytes are the same, in a time that depends on the length alone. No manager is needed. */
+MBJ_CHECKED MBJ_API bool mbj_is_same_tag(const void *one, const void *other, size_t len);
+
+/* Fills so many bytes with zeros, which no compiler leaves out. */
+MBJ_API void mbj_wipe(void *at, size_t len);
 
 /* ---- texts ---- */
 
 /* The library's version, what it was built for and by which toolchain, as text. That of this header is MBJ_VERSION_STR. */
 MBJ_API const char *mbj_version_text(void);
 
-/* A refusal as text. */
-MBJ_API const char *mbj_refusal_text(uint32_t refusal);
-
-/* The reason for which a job was refused, as text. */
-MBJ_API const char *mbj_reason_text(uint32_t reason);
+/* An error as text: why a call or a job was refused. */
+MBJ_API const char *mbj_err_text(uint32_t err);
 
 #ifdef __cplusplus
 }

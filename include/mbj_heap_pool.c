@@ -1,9 +1,11 @@
-/* The heap of mbj_heap_pool.h, to be compiled into a program in place of mbj_heap.c: a buddy allocator. A block's length is a power of two,
- * and it begins at a multiple of that, counted from the first block. A free block is halved until its length is the one that is needed, and
+/* The pools of mbj_heap_pool.h: a buddy allocator. It is in both libraries, with MBJ_POOLS_ALONE; compiled into a program without that, it
+ * takes the place of mbj_heap.c, and pools are all that the program's managers take memory from. A block's length is a power of two, and it
+ * begins at a multiple of that, counted from the first block. A free block is halved until its length is the one that is needed, and
  * is joined with its other half once both are free. Short blocks that are given back lie ready for the next ones of their length, since
  * jobs have much the same lengths, and are joined only when no block is left that is long enough. */
 #include "mbj_heap_pool.h"
 #include "mbj_heap.h"
+#include "mbj_raw.h"
 
 #include <stdlib.h>
 #include <string.h>
@@ -39,13 +41,12 @@ struct mbj_pool {
     unsigned char *first;
     size_t len;
     bool has_overflow, wipes;
+    struct mbj_heap heap;
     struct mbj_pool_counts counts;
     uint64_t orders; /* bit i is set where the list of order i isn't empty */
     struct free_block *lists[ORDERS];
     struct free_block *ready[LONGEST_READY_ORDER - LEAST_ORDER + 1]; /* from the least order on */
 };
-
-static MBJ_THREAD_LOCAL struct mbj_pool *named;
 
 /* ---- lists ---- */
 
@@ -240,28 +241,10 @@ static struct mbj_block take_from(struct mbj_pool *pool, size_t len) {
     return block_behind(head);
 }
 
-struct mbj_block rattle_alloc(size_t len, size_t align) {
-    (void)align;
-    return take_from(named, len);
-}
-
 /* How many bytes there are behind the head of a block of its pool. */
 static size_t room_behind(const struct head *head) {
     size_t off = offset_of(head->pool, head + 1), len = length_of(head->order);
     return len - off % len;
-}
-
-struct mbj_block rattle_realloc(void *old, size_t kept, size_t len, size_t align) {
-    struct head *head = head_of(old);
-    (void)align;
-    if (head->state == IS_USED && len <= room_behind(head))
-        return block_behind(head);
-    struct mbj_block block = take_from(head->pool, len);
-    if (block.is_there) {
-        memcpy(block.at, old, kept);
-        rattle_dealloc(old);
-    }
-    return block;
 }
 
 /* The compiler can't leave this out: for all it knows the bytes are looked at. */
@@ -270,7 +253,7 @@ static void wipe(void *at, size_t len) {
     __asm__ volatile("" : : "r"(at) : "memory");
 }
 
-void rattle_dealloc(void *at) {
+static void give_back(void *at) {
     struct head *head = head_of(at);
     if (head->pool->wipes)
         wipe(at, head->state == IS_OVERFLOW ? head->order * UNIT : room_behind(head));
@@ -281,6 +264,66 @@ void rattle_dealloc(void *at) {
         give(head->pool, head);
     }
 }
+
+static struct mbj_block moved(void *old, size_t kept, size_t len) {
+    struct head *head = head_of(old);
+    if (head->state == IS_USED && len <= room_behind(head))
+        return block_behind(head);
+    struct mbj_block block = take_from(head->pool, len);
+    if (block.is_there) {
+        memcpy(block.at, old, kept);
+        give_back(old);
+    }
+    return block;
+}
+
+static void *found(struct mbj_block block) {
+    return block.is_there ? block.at : NULL;
+}
+
+static void *alloc_from(void *pool, size_t len) {
+    return found(take_from((struct mbj_pool *)pool, len));
+}
+
+static void *realloc_from(void *pool, void *old, size_t old_len, size_t len) {
+    (void)pool;
+    return found(moved(old, old_len < len ? old_len : len, len));
+}
+
+static void free_to(void *pool, void *at, size_t len) {
+    (void)pool;
+    (void)len;
+    give_back(at);
+}
+
+#ifdef MBJ_POOLS_ALONE
+static struct mbj_pool *name(struct mbj_pool *pool) {
+    const struct mbj_heap *before = mbj_c_name_heap(pool != NULL ? &pool->heap : NULL);
+    return before != NULL && before->alloc == alloc_from ? (struct mbj_pool *)before->opaque : NULL;
+}
+#else
+static MBJ_THREAD_LOCAL struct mbj_pool *named;
+
+static struct mbj_pool *name(struct mbj_pool *pool) {
+    struct mbj_pool *before = named;
+    named = pool;
+    return before;
+}
+
+struct mbj_block rattle_alloc(size_t len, size_t align) {
+    (void)align;
+    return take_from(named, len);
+}
+
+struct mbj_block rattle_realloc(void *old, size_t kept, size_t len, size_t align) {
+    (void)align;
+    return moved(old, kept, len);
+}
+
+void rattle_dealloc(void *at) {
+    give_back(at);
+}
+#endif
 
 /* ---- pools ---- */
 
@@ -295,6 +338,10 @@ struct mbj_pool *mbj_pool_make(void *at, size_t len, bool has_overflow) {
     pool->first = (unsigned char *)pool + own;
     pool->len = (len - front - own) / least * least;
     pool->has_overflow = has_overflow;
+    pool->heap.alloc = alloc_from;
+    pool->heap.realloc = realloc_from;
+    pool->heap.free = free_to;
+    pool->heap.opaque = pool;
     for (size_t off = 0; off < pool->len;) {
         uint32_t order = LEAST_ORDER;
         while (order + 1 < ORDERS && off % length_of(order + 1) == 0 && length_of(order + 1) <= pool->len - off)
@@ -309,10 +356,12 @@ void mbj_pool_wipe(struct mbj_pool *pool) {
     pool->wipes = true;
 }
 
+const struct mbj_heap *mbj_pool_heap(struct mbj_pool *pool) {
+    return &pool->heap;
+}
+
 struct mbj_pool *mbj_pool_name(struct mbj_pool *pool) {
-    struct mbj_pool *before = named;
-    named = pool;
-    return before;
+    return name(pool);
 }
 
 struct mbj_pool_counts mbj_pool_count(const struct mbj_pool *pool) {

@@ -13,11 +13,11 @@ extern "C" {
 #endif
 
 /* A struct of the job interface is part of each program. */
-MBJ_ASSERT_(sizeof(MBJ_JOB) == 184 && offsetof(MBJ_JOB, key) == 16 && offsetof(MBJ_JOB, packet) == 80 && offsetof(MBJ_JOB, dst) == 96);
+MBJ_ASSERT_(sizeof(MBJ_JOB) == 192 && offsetof(MBJ_JOB, key) == 16 && offsetof(MBJ_JOB, packet) == 80 && offsetof(MBJ_JOB, dst) == 96);
 MBJ_ASSERT_(offsetof(MBJ_JOB, auth_tag_output) == 136 && offsetof(MBJ_JOB, user_data) == 152 && offsetof(MBJ_JOB, status) == 168);
-MBJ_ASSERT_(offsetof(MBJ_JOB, session) == 176);
-MBJ_ASSERT_(sizeof(struct mbj_slot) == 40 && offsetof(struct mbj_slot, reason) == 32);
-MBJ_ASSERT_(offsetof(MBJ_MGR, slots) == 24 && sizeof(MBJ_MGR) == 24 + MBJ_MAX_JOBS * (40 + sizeof(MBJ_JOB)));
+MBJ_ASSERT_(offsetof(MBJ_JOB, session) == 176 && offsetof(MBJ_JOB, expected_tag) == 184);
+MBJ_ASSERT_(sizeof(struct mbj_slot) == 104 && offsetof(struct mbj_slot, reason) == 32 && offsetof(struct mbj_slot, expected) == 37);
+MBJ_ASSERT_(offsetof(MBJ_MGR, slots) == 32 && sizeof(MBJ_MGR) == 32 + MBJ_MAX_JOBS * (104 + sizeof(MBJ_JOB)));
 
 /* Whether there is a manager. Where none was ever made no proved export is called: the processor may be one that they don't run on. */
 static inline bool mbj_is_made_(const MBJ_MGR *m) {
@@ -37,22 +37,41 @@ static inline uint32_t mbj_make_(struct mbj_handle *handle, bool keeps) {
     return keeps ? mbj_c_new_keeping(handle) : mbj_c_new(handle);
 }
 
-static inline enum mbj_refusal mbj_init_(MBJ_MGR *m, bool keeps) {
+/* Names the manager's heap for the calls of this thread, and the one that was named before again. Only calls that take memory need that,
+ * since blocks know where they go back to. */
+static inline const struct mbj_heap *mbj_enter_(const struct mbj_heap *heap) {
+    return heap != NULL ? mbj_c_name_heap(heap) : NULL;
+}
+
+static inline void mbj_leave_(const struct mbj_heap *heap, const struct mbj_heap *before) {
+    if (heap != NULL)
+        mbj_c_name_heap(before);
+}
+
+MBJ_API mbj_err mbj_init_mgr_with(MBJ_MGR *m, const struct mbj_options *options) {
+    uint32_t keeping = options != NULL ? options->keeping : (uint32_t)MBJ_KEEPS_DEFAULT;
     if (m == NULL)
         return MBJ_ERR_NULL;
     m->handle.at = NULL;
+    m->heap = options != NULL ? options->heap : NULL;
     m->first = m->next = 0;
     m->lent = 0;
-    m->error = mbj_make_(&m->handle, keeps);
-    return (enum mbj_refusal)m->error;
+    m->error = keeping > MBJ_KEEPS_MORE ? MBJ_ERR_WORD : m->heap != NULL && !mbj_c_has_heaps() ? MBJ_ERR_HEAP : MBJ_ERR_NONE;
+    if (m->error == MBJ_ERR_NONE) {
+        const struct mbj_heap *before = mbj_enter_(m->heap);
+        m->error = mbj_make_(&m->handle, keeping == MBJ_KEEPS_MORE);
+        mbj_leave_(m->heap, before);
+    }
+    return (mbj_err)m->error;
 }
 
-MBJ_API enum mbj_refusal mbj_init_mgr(MBJ_MGR *m) {
-    return mbj_init_(m, false);
+MBJ_API mbj_err mbj_init_mgr(MBJ_MGR *m) {
+    return mbj_init_mgr_with(m, NULL);
 }
 
-MBJ_API enum mbj_refusal mbj_init_mgr_keeping(MBJ_MGR *m) {
-    return mbj_init_(m, true);
+MBJ_API mbj_err mbj_init_mgr_keeping(MBJ_MGR *m) {
+    struct mbj_options options = {NULL, MBJ_KEEPS_MORE};
+    return mbj_init_mgr_with(m, &options);
 }
 
 MBJ_API void mbj_end_mgr(MBJ_MGR *m) {
@@ -74,15 +93,17 @@ MBJ_API void mbj_free_mgr(MBJ_MGR *m) {
     free(m);
 }
 
-MBJ_API enum mbj_refusal mbj_get_errno(const MBJ_MGR *m) {
-    return m == NULL ? MBJ_ERR_NO_MANAGER : (enum mbj_refusal)m->error;
+MBJ_API mbj_err mbj_get_errno(const MBJ_MGR *m) {
+    return m == NULL ? MBJ_ERR_NO_MANAGER : (mbj_err)m->error;
 }
 
-MBJ_API enum mbj_refusal mbj_use_keys(MBJ_MGR *m, struct mbj_keys *keys) {
+MBJ_API mbj_err mbj_use_keys(MBJ_MGR *m, struct mbj_keys *keys) {
     if (m == NULL || keys == NULL)
         return m == NULL ? MBJ_ERR_NO_MANAGER : MBJ_ERR_NO_KEYS;
-    m->error = mbj_is_made_(m) ? mbj_c_use_keys(&m->handle, keys) : (uint32_t)MBJ_ERR_NO_MANAGER;
-    return (enum mbj_refusal)m->error;
+    const struct mbj_heap *before = mbj_enter_(m->heap);
+    m->error = mbj_is_made_(m) ? mbj_c_use_keys(&m->handle, keys) : MBJ_ERR_NO_MANAGER;
+    mbj_leave_(m->heap, before);
+    return (mbj_err)m->error;
 }
 
 MBJ_API size_t mbj_held_bytes(MBJ_MGR *m) {
@@ -113,6 +134,7 @@ static inline void mbj_make_blank_(MBJ_JOB *job) {
     job->status = MBJ_STATUS_BEING_PROCESSED;
     job->reason = MBJ_REASON_NONE;
     job->session = MBJ_NO_SESSION;
+    job->expected_tag = NULL;
 }
 
 MBJ_API uint32_t mbj_get_next_burst(MBJ_MGR *m, uint32_t n, MBJ_JOB **jobs) {
@@ -168,7 +190,7 @@ static inline bool mbj_has_null_(const MBJ_JOB *job) {
            mbj_is_null_(mbj_has_cipher_(job), job->dst, job->msg_len_to_cipher_in_bytes) ||
            mbj_is_null_(mbj_has_aad_(job), job->aad, job->aad_len_in_bytes) ||
            mbj_is_null_(mbj_has_auth_key_(job), job->auth_key, job->auth_key_len_in_bytes) ||
-           mbj_is_null_(mbj_has_tag_(job), job->auth_tag_output, job->auth_tag_output_len_in_bytes);
+           mbj_is_null_(mbj_has_tag_(job) && job->expected_tag == NULL, job->auth_tag_output, job->auth_tag_output_len_in_bytes);
 }
 
 static inline bool mbj_has_bad_code_(const MBJ_JOB *job) {
@@ -178,7 +200,11 @@ static inline bool mbj_has_bad_code_(const MBJ_JOB *job) {
 
 /* The job interface's own reason for which the job is refused, or 0. */
 static inline uint32_t mbj_own_reason_(const MBJ_JOB *job) {
-    return mbj_has_bad_code_(job) ? MBJ_REASON_CODE : mbj_has_null_(job) ? MBJ_REASON_NULL : MBJ_REASON_NONE;
+    if (mbj_has_bad_code_(job))
+        return MBJ_REASON_CODE;
+    if (job->expected_tag != NULL && !mbj_has_tag_(job))
+        return MBJ_REASON_NO_TAG;
+    return mbj_has_null_(job) ? MBJ_REASON_NULL : MBJ_REASON_NONE;
 }
 
 /* No job takes this many bytes of anything: a longer length is passed as this one, and is refused. */
@@ -236,6 +262,9 @@ static inline void mbj_note_slot_(struct mbj_slot *slot, const MBJ_JOB *job, uin
     slot->tag = job->auth_tag_output;
     slot->tag_len = reason == MBJ_REASON_NONE && mbj_has_tag_(job) ? job->auth_tag_output_len_in_bytes : 0;
     slot->reason = reason;
+    slot->is_expected = job->expected_tag != NULL;
+    if (slot->is_expected && slot->tag_len <= MBJ_MAX_TAG_BYTES)
+        memcpy(slot->expected, job->expected_tag, slot->tag_len);
 }
 
 /* The job at this place as the library takes it, and where its result goes. */
@@ -259,15 +288,25 @@ static inline void mbj_make_room_(struct mbj_raw_done *done, uint8_t *tag, const
     done->tag.len = MBJ_MAX_TAG_BYTES;
 }
 
-/* The job whose result was given: what was ciphered is written, and now its tag. */
+/* Whether a job that was done has another tag than the one that was expected. */
+static inline bool mbj_is_wrong_(const struct mbj_slot *slot, const struct mbj_raw_done *done) {
+    return slot->is_expected && (done->tag_len != slot->tag_len || !mbj_is_same_tag(done->tag.at, slot->expected, slot->tag_len));
+}
+
+/* The job whose result was given: what was ciphered is written, and now its tag, unless that is wrong. */
 static inline MBJ_JOB *mbj_give_back_(MBJ_MGR *m, const struct mbj_raw_done *done) {
     uint32_t place = m->first++ % MBJ_MAX_JOBS;
     MBJ_JOB *job = &m->jobs[place];
     const struct mbj_slot *slot = &m->slots[place];
-    if (done->tag_len != 0 && done->tag_len <= slot->tag_len)
-        memcpy(slot->tag, done->tag.at, done->tag_len);
     job->status = done->status == 0 ? MBJ_STATUS_COMPLETED : MBJ_STATUS_INVALID_ARGS;
     job->reason = slot->reason != MBJ_REASON_NONE ? slot->reason : done->reason;
+    if (done->status == 0 && mbj_is_wrong_(slot, done)) {
+        mbj_wipe(slot->dst, slot->dst_len);
+        job->status = MBJ_STATUS_WRONG_TAG;
+        job->reason = MBJ_ERR_TAG;
+    } else if (slot->tag != NULL && done->tag_len != 0 && done->tag_len <= slot->tag_len) {
+        memcpy(slot->tag, done->tag.at, done->tag_len);
+    }
     return job;
 }
 
@@ -299,7 +338,9 @@ MBJ_API MBJ_JOB *mbj_submit_job(MBJ_MGR *m) {
         return mbj_not_submitted_(m, job, MBJ_ERR_NO_MANAGER);
     struct mbj_raw_job raw;
     mbj_say_place_(&raw, m, place);
+    const struct mbj_heap *before = mbj_enter_(m->heap);
     uint32_t refusal = mbj_c_fill(&m->handle, &raw);
+    mbj_leave_(m->heap, before);
     if (refusal != MBJ_ERR_NONE)
         return mbj_not_submitted_(m, job, refusal);
     struct mbj_raw_done done;

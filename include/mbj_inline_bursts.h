@@ -42,7 +42,9 @@ static inline uint32_t mbj_fill_part_(MBJ_MGR *m, uint32_t n) {
     do
         mbj_say_place_(&raws[said], m, (m->next + said) % MBJ_MAX_JOBS);
     while (++said < n);
+    const struct mbj_heap *before = mbj_enter_(m->heap);
     mbj_c_fill_burst(&m->handle, raws, n, refusals, n);
+    mbj_leave_(m->heap, before);
     while (filled < n && refusals[filled] == MBJ_ERR_NONE)
         filled++;
     m->error = filled < n ? refusals[filled] : (uint32_t)MBJ_ERR_NONE;

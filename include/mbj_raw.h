@@ -1,5 +1,6 @@
 /* What the library exports of managers and jobs, for programs in other languages, and for mbj_inline.h. It is proved but for two functions
- * that tell of the build. No pointer is NULL. Codes, errors and bytes are those of mbj.h, which is included first and includes this. */
+ * that tell of the build and two that choose a heap. No pointer is NULL. Codes, errors and bytes are those of mbj.h, which is included
+ * first and includes this. */
 #include "mbj.h"
 
 #ifndef MBJ_RAW_H
@@ -73,12 +74,12 @@ uint32_t mbj_c_version(void);
 
 /* Makes a manager, and returns MBJ_ERR_NONE, MBJ_ERR_HAS_MANAGER or MBJ_ERR_MEMORY. */
 MBJ_CHECKED MBJ_NONNULL
-uint32_t mbj_c_new(struct mbj_handle *handle);
+mbj_err mbj_c_new(struct mbj_handle *handle);
 
 /* The same, and its cells keep more of the memory of a job's bytes once the job is given back: at most 2,048 bytes each, not 256, for key, IV,
  * authentication key, additional data and packet. Longer memory is freed. */
 MBJ_CHECKED MBJ_NONNULL
-uint32_t mbj_c_new_keeping(struct mbj_handle *handle);
+mbj_err mbj_c_new_keeping(struct mbj_handle *handle);
 
 /* How many bytes the cells keep that have no job; 0 where there is no manager. */
 MBJ_NONNULL
@@ -104,7 +105,7 @@ bool mbj_c_count(struct mbj_handle *handle, uint32_t kind, struct mbj_counts *co
  * MBJ_ERR_FULL, MBJ_ERR_WORD or MBJ_ERR_MEMORY. Of the calls on a manager only this one, its burst, mbj_c_new, mbj_c_new_keeping
  * and mbj_c_use_keys take memory. */
 MBJ_CHECKED MBJ_NONNULL
-uint32_t mbj_c_fill(struct mbj_handle *handle, const struct mbj_raw_job *job);
+mbj_err mbj_c_fill(struct mbj_handle *handle, const struct mbj_raw_job *job);
 
 /* The three calls that may give the earliest job's result: true where one is given, which is written whole; else false, and only
  * refusal is written: MBJ_ERR_NONE, MBJ_ERR_NO_MANAGER, MBJ_ERR_NO_ROOM or, from mbj_c_submit, MBJ_ERR_NO_JOB. There must be room
@@ -139,7 +140,21 @@ void mbj_c_flush_burst(struct mbj_handle *handle, struct mbj_raw_done *rooms, si
  * so this call takes memory, and a submission takes none for it. Returns MBJ_ERR_NONE, MBJ_ERR_NO_MANAGER, MBJ_ERR_NO_KEYS or
  * MBJ_ERR_MEMORY. */
 MBJ_CHECKED MBJ_NONNULL
-uint32_t mbj_c_use_keys(struct mbj_handle *handle, struct mbj_keys *keys);
+mbj_err mbj_c_use_keys(struct mbj_handle *handle, struct mbj_keys *keys);
+
+/* 1 where both have the same bytes, 0 where they differ, as tags of two lengths do. All bytes are looked at where the lengths are equal,
+ * and no branch depends on one. */
+MBJ_CHECKED
+uint32_t mbj_c_is_same_tag(struct mbj_bytes one, struct mbj_bytes other);
+
+/* Fills the room with zeros. */
+void mbj_c_wipe(struct mbj_room room);
+
+/* Names the heap that this thread's next calls take memory from, NULL for malloc, and returns the one that was named before. A block goes
+ * back to the heap that it came from, whatever is named. Where the program was linked with a heap of its own, nothing is asked of heaps
+ * that are named: mbj_c_has_heaps is false then. These two functions aren't proved. */
+const struct mbj_heap *mbj_c_name_heap(const struct mbj_heap *heap);
+bool mbj_c_has_heaps(void);
 
 /* The library was built for this layout. */
 MBJ_ASSERT_(sizeof(void *) == 8 && sizeof(size_t) == 8 && sizeof(bool) == 1);

@@ -155,7 +155,7 @@ static const char *fault_of(MBJ_MGR *m, const struct answer *answer, uint32_t di
     if (done == NULL && mbj_get_errno(m) == MBJ_ERR_NONE)
         done = mbj_flush_job(m);
     if (mbj_get_errno(m) != MBJ_ERR_NONE)
-        return mbj_refusal_text(mbj_get_errno(m));
+        return mbj_err_text(mbj_get_errno(m));
     bool is_right = done != NULL && done->status == MBJ_STATUS_COMPLETED && is_same(&trial.want_dst, &trial.dst) &&
                     is_same(&trial.want_tag, &trial.tag);
     return is_right ? NULL : answer->name;
@@ -168,8 +168,8 @@ static const char *fault_in(MBJ_MGR *m, const struct answer *answer) {
 }
 
 const char *mbj_selftest(MBJ_MGR *m) {
-    enum mbj_refusal refusal = mbj_init_mgr(m);
-    const char *fault = refusal != MBJ_ERR_NONE ? mbj_refusal_text(refusal) : NULL;
+    mbj_err refusal = mbj_init_mgr(m);
+    const char *fault = refusal != MBJ_ERR_NONE ? mbj_err_text(refusal) : NULL;
     for (size_t i = 0; i < sizeof answers / sizeof *answers && fault == NULL; i++)
         fault = fault_in(m, &answers[i]);
     mbj_end_mgr(m);

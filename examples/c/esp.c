@@ -98,14 +98,6 @@ static void put_number(uint8_t *to, uint64_t number, size_t len) {
         to[--len] = (uint8_t)number;
 }
 
-/* Whether the tags are the same, in a time that doesn't depend on where they differ. */
-static bool is_same_tag(const uint8_t *a, const uint8_t *b, size_t len) {
-    volatile uint8_t differ = 0;
-    for (size_t i = 0; i < len; i++)
-        differ = (uint8_t)(differ | (a[i] ^ b[i]));
-    return differ == 0;
-}
-
 /* Takes a received packet apart; false where it is none. */
 static bool take_apart(struct packet *p, struct bytes wire) {
     size_t tag_len = p->suite->tag_len, high = p->is_esn ? SEQ : 0;
@@ -148,12 +140,9 @@ static void print_sealed(const struct packet *p) {
     putchar('\n');
 }
 
-/* Nothing of the text is looked at before the tags are the same. */
 static void print_opened(const struct packet *p) {
     const uint8_t *text = p->bytes + text_at(p);
-    size_t len = p->len - text_at(p), payload = SIZE_MAX;
-    if (is_same_tag(p->received, p->tag, p->suite->tag_len))
-        payload = payload_len(text, len);
+    size_t len = p->len - text_at(p), payload = payload_len(text, len);
     if (payload == SIZE_MAX) {
         printf("%zu drop\n", p->number);
         return;
@@ -165,6 +154,7 @@ static void print_opened(const struct packet *p) {
     putchar('\n');
 }
 
+/* A packet whose tag is wrong has another status, and its text was cleared. */
 static void answer(const MBJ_JOB *done) {
     const struct packet *p = (const struct packet *)done->user_data;
     if (p->task == DROP || done->status != MBJ_STATUS_COMPLETED)
@@ -219,6 +209,8 @@ static void fill_job(MBJ_JOB *job, const struct association *sa, struct packet *
         mbj_job_nothing(job);
     else
         fill_suite(job, sa, p);
+    if (p->task == OPEN)
+        job->expected_tag = p->received;
     job->user_data = p;
 }
 
@@ -398,10 +390,10 @@ static uint32_t read_lines(struct lines *lines, MBJ_JOB *const *jobs, uint32_t c
 /* Submits a burst, and prints the results of the jobs that are finished then. */
 static int submit(MBJ_MGR *m, uint32_t count, MBJ_JOB **jobs) {
     answer_each(jobs, mbj_submit_burst(m, count, jobs, jobs));
-    enum mbj_refusal refusal = mbj_get_errno(m);
+    mbj_err refusal = mbj_get_errno(m);
     for (uint32_t done; (done = mbj_get_completed_burst(m, BURST, jobs)) != 0;)
         answer_each(jobs, done);
-    return refusal == MBJ_ERR_NONE ? 0 : complain(mbj_refusal_text(refusal));
+    return refusal == MBJ_ERR_NONE ? 0 : complain(mbj_err_text(refusal));
 }
 
 static int run(MBJ_MGR *m) {
@@ -426,9 +418,9 @@ static int run(MBJ_MGR *m) {
 
 int main(void) {
     static MBJ_MGR m;
-    enum mbj_refusal refusal = mbj_init_mgr(&m);
+    mbj_err refusal = mbj_init_mgr(&m);
     if (refusal != MBJ_ERR_NONE)
-        return complain(mbj_refusal_text(refusal));
+        return complain(mbj_err_text(refusal));
     int status = run(&m);
     mbj_end_mgr(&m);
     if ((fflush(stdout) != 0 || ferror(stdout)) && status == 0)

@@ -33,7 +33,7 @@ int main(void) {
         done = mbj_flush_job(manager);
     int status = 0;
     if (done == NULL) {
-        fprintf(stderr, "first: %s\n", mbj_refusal_text(mbj_get_errno(manager)));
+        fprintf(stderr, "first: %s\n", mbj_err_text(mbj_get_errno(manager)));
         status = 7;
     } else if (done->status == MBJ_STATUS_COMPLETED) {
         printf("0 ok ");

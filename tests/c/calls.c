@@ -310,17 +310,15 @@ static void the_version_is_told(void) {
     CHECK(strncmp(text, MBJ_VERSION_STR " for x86-64-v", strlen(MBJ_VERSION_STR " for x86-64-v")) == 0 && text == mbj_c_build_text());
 }
 
-/* Each number of a refusal and of a reason has a text of its own, and other numbers have none. */
+/* Each number of an error has a text of its own, and other numbers have none. */
 static void numbers_have_texts(void) {
-    const char *none = mbj_refusal_text(UINT32_MAX);
-    for (uint32_t i = 0; i <= MBJ_ERR_MANY_KEYS; i++)
-        for (uint32_t j = 0; j < i; j++)
-            CHECK(strcmp(mbj_refusal_text(i), none) != 0 && strcmp(mbj_refusal_text(i), mbj_refusal_text(j)) != 0);
-    CHECK(mbj_refusal_text(MBJ_ERR_MANY_KEYS + 1) == none);
-    none = mbj_reason_text(UINT32_MAX);
-    for (uint32_t i = 0; i <= MBJ_REASON_NULL; i++)
-        CHECK((mbj_reason_text(i) == none) == (i > MBJ_REASON_TAG_LENGTH && i < MBJ_REASON_CODE));
-    CHECK(mbj_reason_text(MBJ_REASON_NULL + 1) == none);
+    const char *none = mbj_err_text(UINT32_MAX);
+    for (uint32_t i = 0; i <= MBJ_REASON_NO_TAG + 1; i++) {
+        bool is_error = i <= MBJ_ERR_HEAP || (i >= MBJ_REASON_CODE && i <= MBJ_REASON_NO_TAG);
+        CHECK((mbj_err_text(i) != none) == is_error);
+        for (uint32_t j = 0; is_error && j < i; j++)
+            CHECK(strcmp(mbj_err_text(i), mbj_err_text(j)) != 0);
+    }
 }
 
 int main(void) {

@@ -116,7 +116,7 @@ static void seal_and_open(const struct gcm_case *c) {
     CHECK(mbj_gcm_seal(k, n, a, room_at(text, len), room_at(tag, TAG_BYTES)) == MBJ_ERR_NONE);
     CHECK(is_hex(text, c->ciphertext) && is_hex(tag, c->tag));
     memset(tag, 0, TAG_BYTES);
-    CHECK(mbj_gcm_open(k, n, a, room_at(text, len), room_at(tag, TAG_BYTES)) == MBJ_ERR_NONE);
+    CHECK(mbj_gcm_decrypt_unverified(k, n, a, room_at(text, len), room_at(tag, TAG_BYTES)) == MBJ_ERR_NONE);
     CHECK(is_hex(text, gcm_text_4) && is_hex(tag, c->tag));
     for (size_t cut = 0; cut <= len; cut++) {
         struct mbj_gcm_state state;
@@ -138,9 +138,11 @@ static void gcm_refuses(void) {
     memset(tag, 0xee, sizeof tag);
     memset(&state, 0xff, sizeof state);
     CHECK(mbj_gcm_seal(bytes_at(cbc_key, 15), iv, none, room_at(text, 3), room_at(tag, 16)) == MBJ_ERR_KEY_LENGTH);
-    CHECK(mbj_gcm_open(key, none, none, room_at(text, 3), room_at(tag, 16)) == MBJ_ERR_IV_LENGTH);
+    CHECK(mbj_gcm_open(key, none, none, room_at(text, 3), bytes_at(tag, 16)) == MBJ_ERR_IV_LENGTH);
+    CHECK(mbj_gcm_decrypt_unverified(key, none, none, room_at(text, 3), room_at(tag, 16)) == MBJ_ERR_IV_LENGTH);
     CHECK(mbj_gcm_seal(key, iv, none, room_at(text, 3), room_at(tag, 0)) == MBJ_ERR_TAG_LENGTH);
-    CHECK(mbj_gcm_open(key, iv, none, room_at(text, 3), room_at(tag, 17)) == MBJ_ERR_TAG_LENGTH);
+    CHECK(mbj_gcm_open(key, iv, none, room_at(text, 3), bytes_at(tag, 17)) == MBJ_ERR_TAG_LENGTH);
+    CHECK(mbj_gcm_decrypt_unverified(key, iv, none, room_at(text, 3), room_at(tag, 17)) == MBJ_ERR_TAG_LENGTH);
     CHECK(mbj_gcm_init(&state, 2, key, iv, none) == MBJ_ERR_WORD);
     CHECK(mbj_gcm_init(&state, MBJ_DIR_ENCRYPT, bytes_at(cbc_key, 15), iv, none) == MBJ_ERR_KEY_LENGTH);
     CHECK(mbj_gcm_init(&state, MBJ_DIR_ENCRYPT, key, none, none) == MBJ_ERR_IV_LENGTH);
@@ -159,25 +161,28 @@ static void ccm_seals_and_opens(void) {
     struct mbj_bytes k = bytes_at(key, read_hex(key, "404142434445464748494a4b4c4d4e4f"));
     struct mbj_bytes n = bytes_at(nonce, read_hex(nonce, "10111213141516")), a = bytes_at(aad, read_hex(aad, "0001020304050607"));
     CHECK(mbj_ccm_seal(k, n, a, room_at(text, 4), room_at(tag, 4)) == MBJ_ERR_NONE && is_hex(text, "7162015b") && is_hex(tag, "4dac255d"));
-    CHECK(mbj_ccm_open(k, n, a, room_at(text, 4), room_at(tag, 4)) == MBJ_ERR_NONE && is_hex(text, "20212223") && is_hex(tag, "4dac255d"));
+    memset(tag, 0xee, sizeof tag);
+    CHECK(mbj_ccm_decrypt_unverified(k, n, a, room_at(text, 4), room_at(tag, 4)) == MBJ_ERR_NONE);
+    CHECK(is_hex(text, "20212223") && is_hex(tag, "4dac255dee"));
     CHECK(mbj_ccm_seal(bytes_at(key, 8), n, a, room_at(text, 4), room_at(tag, 4)) == MBJ_ERR_KEY_LENGTH);
     CHECK(mbj_ccm_seal(k, bytes_at(nonce, 6), a, room_at(text, 4), room_at(tag, 4)) == MBJ_ERR_IV_LENGTH);
-    CHECK(mbj_ccm_open(k, n, a, room_at(text, 4), room_at(tag, 5)) == MBJ_ERR_TAG_LENGTH);
+    CHECK(mbj_ccm_open(k, n, a, room_at(text, 4), bytes_at(tag, 5)) == MBJ_ERR_TAG_LENGTH);
+    CHECK(mbj_ccm_decrypt_unverified(k, n, a, room_at(text, 4), room_at(tag, 5)) == MBJ_ERR_TAG_LENGTH);
     CHECK(is_hex(text, "20212223") && is_hex(tag, "4dac255d"));
 }
 
 /* A text and additional data that are too long. */
 static void ccm_refuses_long_ones(void) {
     static uint8_t bytes[65536];
-    uint8_t tag[4];
+    uint8_t tag[4] = {0};
     struct mbj_bytes k = bytes_at(cbc_key, 16), n = bytes_at(cbc_iv, 13);
     CHECK(mbj_ccm_seal(k, n, bytes_at(bytes, 65280), room_at(bytes, 0), room_at(tag, 4)) == MBJ_ERR_AAD_LENGTH);
-    CHECK(mbj_ccm_open(k, n, bytes_at(tag, 0), room_at(bytes, 65536), room_at(tag, 4)) == MBJ_ERR_TEXT_LENGTH);
+    CHECK(mbj_ccm_open(k, n, bytes_at(tag, 0), room_at(bytes, 65536), bytes_at(tag, 4)) == MBJ_ERR_TEXT_LENGTH);
     CHECK(is_all(bytes, sizeof bytes, 0));
 }
 
 /* Where memory runs out, the text and the room of the tag stay as they were, and every block is freed. */
-static void ccm_is_refused_memory(uint32_t (*ccm)(struct mbj_bytes, struct mbj_bytes, struct mbj_bytes, struct mbj_room, struct mbj_room)) {
+static void ccm_is_refused_memory(mbj_err (*ccm)(struct mbj_bytes, struct mbj_bytes, struct mbj_bytes, struct mbj_room, struct mbj_room)) {
     uint8_t text[40], tag[8];
     struct mbj_bytes k = bytes_at(cbc_key, 16), n = bytes_at(cbc_iv, 13), a = bytes_at(cbc_iv, 16);
     uint32_t code = MBJ_ERR_MEMORY;
@@ -205,6 +210,6 @@ int main(void) {
     ccm_seals_and_opens();
     ccm_refuses_long_ones();
     ccm_is_refused_memory(mbj_ccm_seal);
-    ccm_is_refused_memory(mbj_ccm_open);
+    ccm_is_refused_memory(mbj_ccm_decrypt_unverified);
     return 0;
 }

@@ -73,6 +73,17 @@ static void peer_gcm(const struct sealing *s, uint8_t *out, uint8_t *tag) {
     EVP_CIPHER_CTX_free(c);
 }
 
+static void peer_gmac(const struct sealing *s, const uint8_t *bytes, size_t bytes_len, uint8_t *tag) {
+    EVP_CIPHER_CTX *c = EVP_CIPHER_CTX_new();
+    uint8_t none[TAG_BYTES];
+    int len;
+    CHECK(c != NULL && EVP_EncryptInit_ex(c, gcm_of(s->key_len), NULL, NULL, NULL));
+    CHECK(EVP_CIPHER_CTX_ctrl(c, EVP_CTRL_GCM_SET_IVLEN, (int)s->iv_len, NULL) && EVP_EncryptInit_ex(c, NULL, NULL, s->key, s->iv));
+    CHECK(EVP_EncryptUpdate(c, NULL, &len, bytes, (int)bytes_len) && EVP_EncryptFinal_ex(c, none, &len));
+    CHECK(EVP_CIPHER_CTX_ctrl(c, EVP_CTRL_GCM_GET_TAG, TAG_BYTES, tag));
+    EVP_CIPHER_CTX_free(c);
+}
+
 static void peer_ccm(const struct sealing *s, size_t tag_len, uint8_t *out, uint8_t *tag) {
     EVP_CIPHER_CTX *c = EVP_CIPHER_CTX_new();
     int len;
@@ -107,8 +118,14 @@ static void compare_gcm(size_t iv_len, size_t len) {
     memcpy(text, s.text, len);
     CHECK(mbj_gcm_seal(key, iv, aad, room_at(text, len), room_at(tag, tag_len)) == MBJ_ERR_NONE);
     CHECK(memcmp(text, wanted, len) == 0 && memcmp(tag, wanted_tag, tag_len) == 0);
-    CHECK(mbj_gcm_open(key, iv, aad, room_at(text, len), room_at(tag, tag_len)) == MBJ_ERR_NONE);
+    CHECK(mbj_gcm_decrypt_unverified(key, iv, aad, room_at(text, len), room_at(tag, tag_len)) == MBJ_ERR_NONE);
     CHECK(memcmp(text, s.text, len) == 0 && memcmp(tag, wanted_tag, tag_len) == 0);
+    memcpy(text, wanted, len);
+    CHECK(mbj_gcm_open(key, iv, aad, room_at(text, len), bytes_at(wanted_tag, tag_len)) == MBJ_ERR_NONE);
+    CHECK(memcmp(text, s.text, len) == 0);
+    memcpy(text, wanted, len);
+    wanted_tag[draw_below(tag_len)] ^= (uint8_t)(1u << draw_below(8));
+    CHECK(mbj_gcm_open(key, iv, aad, room_at(text, len), bytes_at(wanted_tag, tag_len)) == MBJ_ERR_TAG && is_all(text, len, 0));
 }
 
 /* The parts end at these places, and the last one at the end. */
@@ -161,8 +178,30 @@ static void compare_ccm(size_t len) {
     memcpy(text, s.text, len);
     CHECK(mbj_ccm_seal(key, nonce, aad, room_at(text, len), room_at(tag, tag_len)) == MBJ_ERR_NONE);
     CHECK(memcmp(text, wanted, len) == 0 && memcmp(tag, wanted_tag, tag_len) == 0);
-    CHECK(mbj_ccm_open(key, nonce, aad, room_at(text, len), room_at(tag, tag_len)) == MBJ_ERR_NONE);
+    CHECK(mbj_ccm_decrypt_unverified(key, nonce, aad, room_at(text, len), room_at(tag, tag_len)) == MBJ_ERR_NONE);
     CHECK(memcmp(text, s.text, len) == 0 && memcmp(tag, wanted_tag, tag_len) == 0);
+    memcpy(text, wanted, len);
+    CHECK(mbj_ccm_open(key, nonce, aad, room_at(text, len), bytes_at(wanted_tag, tag_len)) == MBJ_ERR_NONE);
+    CHECK(memcmp(text, s.text, len) == 0);
+    memcpy(text, wanted, len);
+    wanted_tag[draw_below(tag_len)] ^= (uint8_t)(1u << draw_below(8));
+    CHECK(mbj_ccm_open(key, nonce, aad, room_at(text, len), bytes_at(wanted_tag, tag_len)) == MBJ_ERR_TAG && is_all(text, len, 0));
+}
+
+/* GMAC is GCM of no text: data in parts, which end where it falls. */
+static void compare_gmac(size_t len) {
+    struct sealing s = draw_sealing(1 + draw_below(60), 0);
+    uint8_t bytes[TEXT_ROOM], wanted[TAG_BYTES], tag[TAG_BYTES];
+    struct mbj_gmac_state state;
+    draw_bytes(bytes, len);
+    CHECK(mbj_gmac_init(&state, bytes_at(s.key, s.key_len), bytes_at(s.iv, s.iv_len)) == MBJ_ERR_NONE);
+    for (size_t start = 0, part; start < len; start += part) {
+        part = 1 + draw_below(len - start);
+        CHECK(mbj_gmac_update(&state, bytes_at(bytes + start, part)) == MBJ_ERR_NONE);
+    }
+    CHECK(mbj_gmac_finish(&state, room_at(tag, TAG_BYTES)) == MBJ_ERR_NONE);
+    peer_gmac(&s, bytes, len, wanted);
+    CHECK(memcmp(tag, wanted, TAG_BYTES) == 0 && mbj_gmac_update(&state, bytes_at(bytes, len)) == MBJ_ERR_NO_STATE);
 }
 
 int main(void) {
@@ -178,6 +217,7 @@ int main(void) {
         cut_anywhere(MBJ_DIR_ENCRYPT);
         cut_anywhere(MBJ_DIR_DECRYPT);
         compare_ccm(1 + draw_below(TEXT_ROOM - 1));
+        compare_gmac(draw_below(TEXT_ROOM));
     }
     return 0;
 }

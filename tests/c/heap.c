@@ -1,5 +1,5 @@
 /* A program with a heap of its own, which defines the three functions of include/mbj_heap.c itself: the archive is linked without that
- * member. Blocks come from an array, and are never used again. */
+ * member, and no heap can be chosen. Blocks come from an array, and are never used again. */
 #include "check.h"
 #include "mbj_heap.h"
 
@@ -42,6 +42,12 @@ void rattle_dealloc(void *at) {
 int main(void) {
     static MBJ_MGR manager;
     uint8_t tag[MAC_BYTES];
+    struct mbj_options options = {mbj_c_name_heap(NULL), MBJ_KEEPS_DEFAULT};
+    const struct mbj_heap other = {NULL, NULL, NULL, NULL};
+    CHECK(!mbj_c_has_heaps() && mbj_init_mgr_with(&manager, &options) == MBJ_ERR_NONE && blocks > 0);
+    mbj_end_mgr(&manager);
+    options.heap = &other;
+    CHECK(mbj_init_mgr_with(&manager, &options) == MBJ_ERR_HEAP && blocks == 0);
     CHECK(mbj_init_mgr(&manager) == MBJ_ERR_NONE && blocks > 0);
     MBJ_JOB *job = mbj_get_next_job(&manager);
     fill_mac(job, mac_text, sizeof mac_text, tag);

@@ -96,9 +96,9 @@ static void keys_are_changed_in_flight(void) {
 /* Whether a set was made, shared and used, where an allocation may be refused; else nothing stays of it. */
 static bool goes_well(MBJ_MGR *m) {
     struct mbj_keys one = MBJ_KEYS_INIT, other = MBJ_KEYS_INIT;
-    uint32_t made = mbj_keys_new(&one, three_keys, KEYS);
-    uint32_t shared = made == MBJ_ERR_NONE ? mbj_keys_share(&one, &other) : made;
-    uint32_t used = shared == MBJ_ERR_NONE ? (uint32_t)mbj_use_keys(m, &other) : shared;
+    mbj_err made = mbj_keys_new(&one, three_keys, KEYS);
+    mbj_err shared = made == MBJ_ERR_NONE ? mbj_keys_share(&one, &other) : made;
+    mbj_err used = shared == MBJ_ERR_NONE ? mbj_use_keys(m, &other) : shared;
     CHECK(used == MBJ_ERR_NONE || used == MBJ_ERR_MEMORY);
     CHECK(mbj_keys_free(&one) == (made == MBJ_ERR_NONE) && mbj_keys_free(&other) == (shared == MBJ_ERR_NONE));
     return used == MBJ_ERR_NONE;

@@ -2,6 +2,7 @@
  * layout.txt: a program that was compiled with an earlier header relies on them. */
 #include "mbj.h"
 #include "mbj_direct.h"
+#include "mbj_heap.h"
 
 #include <stdio.h>
 
@@ -58,6 +59,13 @@ static void print_exported_structs(void) {
     FIELD(struct mbj_raw_burst, refusal);
     STRUCT(struct mbj_gcm_state);
     FIELD(struct mbj_gcm_state, words);
+    STRUCT(struct mbj_gmac_state);
+    FIELD(struct mbj_gmac_state, words);
+    STRUCT(struct mbj_heap);
+    FIELD(struct mbj_heap, alloc);
+    FIELD(struct mbj_heap, realloc);
+    FIELD(struct mbj_heap, free);
+    FIELD(struct mbj_heap, opaque);
 }
 
 static void print_job(void) {
@@ -88,6 +96,7 @@ static void print_job(void) {
     FIELD(MBJ_JOB, status);
     FIELD(MBJ_JOB, reason);
     FIELD(MBJ_JOB, session);
+    FIELD(MBJ_JOB, expected_tag);
 }
 
 static void print_manager(void) {
@@ -97,8 +106,14 @@ static void print_manager(void) {
     FIELD(struct mbj_slot, dst_len);
     FIELD(struct mbj_slot, tag_len);
     FIELD(struct mbj_slot, reason);
+    FIELD(struct mbj_slot, is_expected);
+    FIELD(struct mbj_slot, expected);
+    STRUCT(struct mbj_options);
+    FIELD(struct mbj_options, heap);
+    FIELD(struct mbj_options, keeping);
     STRUCT(MBJ_MGR);
     FIELD(MBJ_MGR, handle);
+    FIELD(MBJ_MGR, heap);
     FIELD(MBJ_MGR, first);
     FIELD(MBJ_MGR, next);
     FIELD(MBJ_MGR, error);
@@ -156,6 +171,8 @@ static void print_codes(void) {
     NUMBER(MBJ_KIND_CCM_128);
     NUMBER(MBJ_KIND_CCM_192);
     NUMBER(MBJ_KIND_CCM_256);
+    NUMBER(MBJ_KEEPS_DEFAULT);
+    NUMBER(MBJ_KEEPS_MORE);
 }
 
 static void print_answers(void) {
@@ -163,26 +180,8 @@ static void print_answers(void) {
     NUMBER(MBJ_STATUS_COMPLETED);
     NUMBER(MBJ_STATUS_INVALID_ARGS);
     NUMBER(MBJ_STATUS_ERROR);
+    NUMBER(MBJ_STATUS_WRONG_TAG);
     NUMBER(MBJ_ERR_NONE);
-    NUMBER(MBJ_ERR_FULL);
-    NUMBER(MBJ_ERR_WORD);
-    NUMBER(MBJ_ERR_MEMORY);
-    NUMBER(MBJ_ERR_NO_MANAGER);
-    NUMBER(MBJ_ERR_NO_JOB);
-    NUMBER(MBJ_ERR_NO_ROOM);
-    NUMBER(MBJ_ERR_HAS_MANAGER);
-    NUMBER(MBJ_ERR_NULL);
-    NUMBER(MBJ_ERR_VERSION);
-    NUMBER(MBJ_ERR_PROCESSOR);
-    NUMBER(MBJ_ERR_TEXT_LENGTH);
-    NUMBER(MBJ_ERR_KEY_LENGTH);
-    NUMBER(MBJ_ERR_IV_LENGTH);
-    NUMBER(MBJ_ERR_TAG_LENGTH);
-    NUMBER(MBJ_ERR_AAD_LENGTH);
-    NUMBER(MBJ_ERR_NO_STATE);
-    NUMBER(MBJ_ERR_HAS_KEYS);
-    NUMBER(MBJ_ERR_NO_KEYS);
-    NUMBER(MBJ_ERR_MANY_KEYS);
     NUMBER(MBJ_REASON_NONE);
     NUMBER(MBJ_REASON_PACKET_LONG);
     NUMBER(MBJ_REASON_PAIR);
@@ -194,8 +193,30 @@ static void print_answers(void) {
     NUMBER(MBJ_REASON_HASH_RANGE);
     NUMBER(MBJ_REASON_AAD_LONG);
     NUMBER(MBJ_REASON_TAG_LENGTH);
+    NUMBER(MBJ_ERR_TEXT_LENGTH);
+    NUMBER(MBJ_ERR_KEY_LENGTH);
+    NUMBER(MBJ_ERR_IV_LENGTH);
+    NUMBER(MBJ_ERR_TAG_LENGTH);
+    NUMBER(MBJ_ERR_AAD_LENGTH);
+    NUMBER(MBJ_ERR_NO_STATE);
+    NUMBER(MBJ_ERR_HAS_KEYS);
+    NUMBER(MBJ_ERR_NO_KEYS);
+    NUMBER(MBJ_ERR_MANY_KEYS);
+    NUMBER(MBJ_ERR_TAG);
+    NUMBER(MBJ_ERR_FULL);
+    NUMBER(MBJ_ERR_WORD);
+    NUMBER(MBJ_ERR_MEMORY);
+    NUMBER(MBJ_ERR_NO_MANAGER);
+    NUMBER(MBJ_ERR_NO_JOB);
+    NUMBER(MBJ_ERR_NO_ROOM);
+    NUMBER(MBJ_ERR_HAS_MANAGER);
+    NUMBER(MBJ_ERR_NULL);
+    NUMBER(MBJ_ERR_VERSION);
+    NUMBER(MBJ_ERR_PROCESSOR);
+    NUMBER(MBJ_ERR_HEAP);
     NUMBER(MBJ_REASON_CODE);
     NUMBER(MBJ_REASON_NULL);
+    NUMBER(MBJ_REASON_NO_TAG);
     NUMBER(MBJ_MAX_JOBS);
     NUMBER(MBJ_MAX_PACKET_BYTES);
     NUMBER(MBJ_MAX_IV_BYTES);

@@ -85,14 +85,33 @@ uint32_t mbj_c_version(void) {
     return MBJ_VERSION_NUM;
 }
 
-uint32_t mbj_c_new(struct mbj_handle *handle) {
+mbj_err mbj_c_new(struct mbj_handle *handle) {
     calls++;
     handle->at = &calls;
     return MBJ_ERR_NONE;
 }
 
-uint32_t mbj_c_new_keeping(struct mbj_handle *handle) {
+mbj_err mbj_c_new_keeping(struct mbj_handle *handle) {
     return mbj_c_new(handle);
+}
+
+const struct mbj_heap *mbj_c_name_heap(const struct mbj_heap *heap) {
+    return heap;
+}
+
+bool mbj_c_has_heaps(void) {
+    return true;
+}
+
+uint32_t mbj_c_is_same_tag(struct mbj_bytes one, struct mbj_bytes other) {
+    (void)one, (void)other;
+    calls++;
+    return 0;
+}
+
+void mbj_c_wipe(struct mbj_room room) {
+    (void)room;
+    calls++;
 }
 
 size_t mbj_c_held_bytes(struct mbj_handle *handle) {
@@ -118,7 +137,7 @@ uint32_t mbj_c_queue_size(struct mbj_handle *handle) {
     return 0;
 }
 
-uint32_t mbj_c_fill(struct mbj_handle *handle, const struct mbj_raw_job *raw) {
+mbj_err mbj_c_fill(struct mbj_handle *handle, const struct mbj_raw_job *raw) {
     (void)handle, (void)raw;
     calls++;
     return MBJ_ERR_MEMORY;

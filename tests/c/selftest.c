@@ -117,18 +117,18 @@ static void want_of_memory_is_told(void) {
             CHECK(at > JOBS);
             return;
         }
-        CHECK(strcmp(fault, mbj_refusal_text(MBJ_ERR_MEMORY)) == 0);
+        CHECK(strcmp(fault, mbj_err_text(MBJ_ERR_MEMORY)) == 0);
     }
 }
 
 static void refusals_are_told(void) {
     faked_version = UINT32_MAX;
-    CHECK(strcmp(run_test(), mbj_refusal_text(MBJ_ERR_VERSION)) == 0 && given == 0);
+    CHECK(strcmp(run_test(), mbj_err_text(MBJ_ERR_VERSION)) == 0 && given == 0);
     faked_version = 0;
     faked_missing_feature = "avx2";
-    CHECK(strcmp(run_test(), mbj_refusal_text(MBJ_ERR_PROCESSOR)) == 0 && given == 0);
+    CHECK(strcmp(run_test(), mbj_err_text(MBJ_ERR_PROCESSOR)) == 0 && given == 0);
     faked_missing_feature = NULL;
-    CHECK(strcmp(mbj_selftest(NULL), mbj_refusal_text(MBJ_ERR_NULL)) == 0);
+    CHECK(strcmp(mbj_selftest(NULL), mbj_err_text(MBJ_ERR_NULL)) == 0);
 }
 
 int main(void) {

@@ -7,8 +7,8 @@
 int main(void) {
     static MBJ_MGR manager;
     const char *missing = mbj_c_missing_feature();
-    enum mbj_refusal refusal = mbj_init_mgr(&manager);
+    mbj_err refusal = mbj_init_mgr(&manager);
     mbj_end_mgr(&manager);
-    printf("%s: %s%s%s\n", mbj_version_text(), mbj_refusal_text(refusal), missing != NULL ? ": " : "", missing != NULL ? missing : "");
+    printf("%s: %s%s%s\n", mbj_version_text(), mbj_err_text(refusal), missing != NULL ? ": " : "", missing != NULL ? missing : "");
     return refusal == MBJ_ERR_NONE ? 0 : refusal == MBJ_ERR_PROCESSOR ? 1 : 2;
 }
