@@ -22,10 +22,13 @@
     EXPORT(mbj_aes_keys)                                                                                                                   \
     EXPORT(mbj_cmac_subkeys)                                                                                                               \
     EXPORT(mbj_gcm_seal)                                                                                                                   \
-    EXPORT(mbj_gcm_open)                                                                                                                   \
+    EXPORT(mbj_gcm_decrypt_unverified)                                                                                                     \
     EXPORT(mbj_gcm_init)                                                                                                                   \
     EXPORT(mbj_gcm_update)                                                                                                                 \
     EXPORT(mbj_gcm_finish)                                                                                                                 \
+    EXPORT(mbj_gmac_init)                                                                                                                  \
+    EXPORT(mbj_gmac_update)                                                                                                                \
+    EXPORT(mbj_gmac_finish)                                                                                                                \
     EXPORT(mbj_selftest)
 
 #define COMPAT_FIELD(name) __typeof__(&name) name;

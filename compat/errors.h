@@ -12,10 +12,10 @@ void set_error(IMB_MGR *m, int error);
 /* Sets the error of a direct call, which has no manager. Returns whether it is none. */
 bool direct_error(int error);
 
-/* The error that a refusal of an export, enum mbj_refusal, is told as by a direct call. */
+/* The error that a refusal of an export, mbj_err, is told as by a direct call. */
 int error_of_refusal(uint32_t refusal);
 
-/* The error of a job that the proved code refused, by the number of its enum mbj_reason. */
+/* The error of a job that the proved code refused, by the number of its mbj_err. */
 int error_of_reason(uint32_t reason);
 
 #endif

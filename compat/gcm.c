@@ -13,7 +13,7 @@ static bool is_apart(const struct gcm_text *text) {
 }
 
 static uint32_t change_apart(const struct gcm_text *text, uint8_t *tag) {
-    __typeof__(proved.mbj_gcm_seal) change = text->dir == MBJ_DIR_ENCRYPT ? proved.mbj_gcm_seal : proved.mbj_gcm_open;
+    __typeof__(proved.mbj_gcm_seal) change = text->dir == MBJ_DIR_ENCRYPT ? proved.mbj_gcm_seal : proved.mbj_gcm_decrypt_unverified;
     if (text->out != text->in && text->len != 0)
         memmove(text->out, text->in, text->len);
     return change(text->key, text->iv, text->aad, room_at(text->out, text->len), room_at(tag, text->tag_len));
