@@ -11,9 +11,7 @@ use Rattle.mbj_aes.specs.BlockWords.{block_byte, block_at}
 use Rattle.mbj_aes.specs.Moves.{byte_or_zero}
 use Rattle.mbj_ghash.specs.declared.rows.Register.{Register}
 use Rattle.mbj_ghash.specs.declared.rows.Rows.{Rows}
-use Rattle.mbj_ghash.specs.Inside.Multiples.{times_power, multiple}
-use Rattle.mbj_ghash.specs.Inside.Rows.{AreRows, AreRowsOf}
-use Rattle.mbj_ghash.specs.Inside.Sums.{register, weighted, sum_of}
+use Rattle.mbj_ghash.specs.Inside.{times_power, multiple, AreRows, AreRowsOf, register, weighted, sum_of}
 use Rattle.mbj_ghash.proofs.Sums.{add_comm}
 use Rattle.mbj_ghash.proofs.Multiples.{multiple-append}
 use Rattle.mbj_ghash.proofs.Elements.{length-bits, bits-append, bits-low}

@@ -12,8 +12,7 @@ use Rattle.mbj_aes.specs.Tower.{by_halves}
 use Rattle.mbj_aes.proofs.BlockWords.{slice_index-block_with}
 use Rattle.mbj_aes.proofs.ByteCases.{each_below, same_at_each}
 use Rattle.mbj_ghash.specs.declared.tables.TheConstants.{FOLD_LOW, FOLD_HIGH, FOLD_NEXT_LOW, FOLD_NEXT_HIGH}
-use Rattle.mbj_ghash.specs.Inside.Multiples.{times_x, times_power, multiple}
-use Rattle.mbj_ghash.specs.Inside.Sums.{weighted}
+use Rattle.mbj_ghash.specs.Inside.{times_x, times_power, multiple, weighted}
 use Rattle.mbj_ghash.proofs.Sums.{zeros_add, add_zeros}
 use Rattle.mbj_ghash.proofs.Multiples.{multiple-append, long-power, times_power-add}
 use Rattle.mbj_ghash.proofs.Elements.{length-bits, bits-xor, bits-append, bits-low, element-number}

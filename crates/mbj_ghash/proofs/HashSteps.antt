@@ -4,8 +4,7 @@ use Rattle.std.specs.Int.{w128, from_be_bytes}
 use Rattle.mbj_types.specs.Blocks.{xor_lists}
 use Rattle.mbj_types.specs.Field.{add, zeros, product}
 use Rattle.mbj_types.specs.Ghash.{element, block_product, ghash_from}
-use Rattle.mbj_ghash.specs.Inside.Powers.{square, cube}
-use Rattle.mbj_ghash.specs.Inside.Sums.{IsBlock}
+use Rattle.mbj_ghash.specs.Inside.{square, cube, IsBlock}
 use Rattle.mbj_ghash.proofs.Sums.{add_comm, add_assoc, zeros_add}
 use Rattle.mbj_ghash.proofs.Elements.{length-bits}
 use Rattle.mbj_ghash.proofs.FieldLaws.{length-product, four_steps}

@@ -4,8 +4,7 @@ ghost use Rattle.mbj_types.specs.Field.{add};
 ghost use Rattle.mbj_types.specs.Ghash.{element};
 ghost use Rattle.mbj_types.specs.Lanes.{lane_at};
 ghost use Rattle.mbj_aes.specs.BlockWords.{block_byte, block_at};
-ghost use Rattle.mbj_ghash.specs.Inside.Multiples.{times_power};
-ghost use Rattle.mbj_ghash.specs.Inside.Sums.{IsBlock};
+ghost use Rattle.mbj_ghash.specs.Inside.{times_power, IsBlock};
 
 use crate::tables::{FOLD_HIGH, FOLD_LOW, FOLD_NEXT_HIGH, FOLD_NEXT_LOW};
 use mbj_aes::BlockWord;

@@ -29,7 +29,7 @@ pub struct Ghash {
 
 impl Model for Ghash {
     ghost use Rattle.mbj_ghash.specs.State.{HashState};
-    ghost use Rattle.mbj_ghash.specs.Inside.Rows.{AreRowsOf};
+    ghost use Rattle.mbj_ghash.specs.Inside.{AreRowsOf};
 
     ghost Value = { HashState };
 

@@ -5,8 +5,7 @@ ghost use Rattle.std.specs.Prelude.{◌≡◌, ℕ, List, [], ◌∷◌};
 ghost use Rattle.std.specs.List.{flat_map};
 ghost use Rattle.mbj_types.specs.Blocks.{xor_lists};
 ghost use Rattle.mbj_types.specs.Ghash.{block_product, ghash_from};
-ghost use Rattle.mbj_ghash.specs.Inside.Rows.{AreRowsOf};
-ghost use Rattle.mbj_ghash.specs.Inside.Powers.{ArePowers};
+ghost use Rattle.mbj_ghash.specs.Inside.{AreRowsOf, ArePowers};
 
 use crate::product_sum::Sum;
 use crate::rows::Rows;

@@ -4,9 +4,7 @@ ghost use Rattle.mbj_types.specs.Field.{add, zeros, product};
 ghost use Rattle.mbj_types.specs.Ghash.{element};
 ghost use Rattle.mbj_types.specs.Lanes.{lane_at};
 ghost use Rattle.mbj_aes.specs.BlockWords.{block_byte, block_at};
-ghost use Rattle.mbj_ghash.specs.Inside.Multiples.{times_power};
-ghost use Rattle.mbj_ghash.specs.Inside.Rows.{AreRowsOf};
-ghost use Rattle.mbj_ghash.specs.Inside.Sums.{IsBlock, register, weighted, sum_of};
+ghost use Rattle.mbj_ghash.specs.Inside.{times_power, AreRowsOf, IsBlock, register, weighted, sum_of};
 
 use crate::fold::folded;
 use crate::rows::{Register, Rows};

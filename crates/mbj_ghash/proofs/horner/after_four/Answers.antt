@@ -2,7 +2,7 @@
 use Rattle.std.proofs.Common.{ℕ, Bool, List, ap, ap₂, ◌∙◌}
 use Rattle.mbj_types.specs.Field.{add, product}
 use Rattle.mbj_types.specs.Ghash.{element, block_product}
-use Rattle.mbj_ghash.specs.Inside.Powers.{square, cube}
+use Rattle.mbj_ghash.specs.Inside.{square, cube}
 use Rattle.mbj_ghash.proofs.HashSteps.{four_blocks}
 use Rattle.mbj_ghash.proofs.horner.after_four.Goals as goal
 

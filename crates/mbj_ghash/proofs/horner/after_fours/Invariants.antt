@@ -1,7 +1,7 @@
 use Rattle.std.proofs.Common.{◌≡◌, take}
 use Rattle.std.specs.List.{flat_map}
 use Rattle.mbj_types.specs.Ghash.{ghash_from}
-use Rattle.mbj_ghash.specs.Inside.Rows.{AreRowsOf}
+use Rattle.mbj_ghash.specs.Inside.{AreRowsOf}
 use Rattle.mbj_ghash.proofs.horner.after_fours.Given as goal
 
 abbrev pub invariant-loop-four : goal.invariant-loop-four

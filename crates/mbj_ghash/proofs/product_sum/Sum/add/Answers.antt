@@ -7,7 +7,7 @@ use Rattle.mbj_aes.specs.BlockWords.{block_byte, block_at}
 use Rattle.mbj_aes.specs.Moves.{byte_or_zero}
 use Rattle.mbj_ghash.specs.declared.rows.Register.{Register}
 use Rattle.mbj_ghash.specs.declared.rows.Rows.{Rows}
-use Rattle.mbj_ghash.specs.Inside.Sums.{register, sum_of}
+use Rattle.mbj_ghash.specs.Inside.{register, sum_of}
 use Rattle.mbj_ghash.proofs.WeightedSums.{weighted-same, weighted-add}
 use Rattle.mbj_ghash.proofs.ByteSums.{bytes, element-at, bytes-xor}
 use Rattle.mbj_ghash.proofs.BlockSums.{element-told, row_byte, table_product, byte-here}

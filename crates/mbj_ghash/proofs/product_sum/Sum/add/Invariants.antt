@@ -3,7 +3,7 @@ use Rattle.std.proofs.Common.{◌≡◌, ℕ, ◌<◌, ◌≤◌, length, bit_xo
 use Rattle.mbj_types.specs.Lanes.{lane_at}
 use Rattle.mbj_aes.specs.BlockWords.{block_byte}
 use Rattle.mbj_aes.specs.Moves.{byte_or_zero}
-use Rattle.mbj_ghash.specs.Inside.Sums.{register}
+use Rattle.mbj_ghash.specs.Inside.{register}
 use Rattle.mbj_ghash.proofs.product_sum.Sum.add.Given as goal
 
 abbrev pub invariant-loop-d : goal.invariant-loop-d

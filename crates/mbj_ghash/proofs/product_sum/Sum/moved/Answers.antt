@@ -7,8 +7,7 @@ use Rattle.mbj_types.specs.Lanes.{lane_at}
 use Rattle.mbj_types.proofs.Vectors.{replicate_at}
 use Rattle.mbj_aes.specs.BlockWords.{block_byte, block_at}
 use Rattle.mbj_aes.specs.Moves.{moved_up, moved_out}
-use Rattle.mbj_ghash.specs.Inside.Multiples.{times_power}
-use Rattle.mbj_ghash.specs.Inside.Sums.{register, weighted}
+use Rattle.mbj_ghash.specs.Inside.{times_power, register, weighted}
 use Rattle.mbj_ghash.proofs.Sums.{add_swap}
 use Rattle.mbj_ghash.proofs.Multiples.{times_power-add}
 use Rattle.mbj_ghash.proofs.WeightedSums.{power-zeros}

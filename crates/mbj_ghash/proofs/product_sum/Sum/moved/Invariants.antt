@@ -4,8 +4,7 @@ use Rattle.mbj_types.specs.Field.{add}
 use Rattle.mbj_types.specs.Ghash.{element}
 use Rattle.mbj_types.specs.Lanes.{lane_at}
 use Rattle.mbj_aes.specs.BlockWords.{block_byte, block_at}
-use Rattle.mbj_ghash.specs.Inside.Multiples.{times_power}
-use Rattle.mbj_ghash.specs.Inside.Sums.{register, weighted}
+use Rattle.mbj_ghash.specs.Inside.{times_power, register, weighted}
 use Rattle.mbj_ghash.proofs.product_sum.Sum.moved.Given as goal
 
 abbrev pub invariant-loop-d : goal.invariant-loop-d
