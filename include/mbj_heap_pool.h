@@ -21,7 +21,7 @@ struct mbj_heap;
 struct mbj_pool;
 
 /* Makes a pool of these bytes, which are its own until no block is left in it and no thread names it; there is nothing to free then. NULL
- * where they are too few: less than 600 go for the pool itself. With overflow, what doesn't fit is taken from malloc, and returns there. */
+ * where they are too few: less than 640 go for the pool itself. With overflow, what doesn't fit is taken from malloc, and returns there. */
 struct mbj_pool *mbj_pool_make(void *at, size_t len, bool has_overflow);
 
 /* From here on each block of the pool, and of malloc, is filled with zeros as it is given back: copies of keys and packets don't outlive

@@ -78,7 +78,7 @@ static void fill_pool(size_t skipped, size_t len) {
     CHECK(pool != NULL && mbj_pool_name(pool) == NULL);
     while (fill_new(&all[count], 48, (uint8_t)count))
         count++;
-    CHECK(count * 64 <= len && count * 64 + 600 + 64 > len && mbj_pool_count(pool).bytes == count * 64);
+    CHECK(count * 64 <= len && count * 64 + 640 + 64 > len && mbj_pool_count(pool).bytes == count * 64);
     while (count > 0)
         free_filled(&all[--count]);
     CHECK(is_unused(pool) && mbj_pool_name(NULL) == pool);

@@ -7,7 +7,7 @@ enum { SMALL_BYTES = 256, KEPT_BYTES = 2048 };
 
 /* Each way to make a manager, and how long a block it keeps at most. */
 static const struct {
-    enum mbj_refusal (*init)(MBJ_MGR *m);
+    mbj_err (*init)(MBJ_MGR *m);
     size_t most;
 } makings[] = {{mbj_init_mgr, SMALL_BYTES}, {mbj_init_mgr_keeping, KEPT_BYTES}};
 

@@ -198,11 +198,13 @@ static void bursts_expect_their_tags(MBJ_MGR *m) {
         jobs[i]->expected_tag = tags[i];
         jobs[i]->user_data = packets[i];
     }
-    for (given = mbj_submit_burst(m, MANY, jobs, jobs); given != 0; given = mbj_flush_burst(m, MANY, jobs))
+    given = mbj_submit_burst(m, MANY, jobs, jobs);
+    do
         for (uint32_t i = 0; i < given; i++, seen++) {
             CHECK(jobs[i]->user_data == packets[seen]);
             CHECK(jobs[i]->status == (seen % 2 == 0 ? MBJ_STATUS_COMPLETED : MBJ_STATUS_WRONG_TAG));
         }
+    while ((given = mbj_flush_burst(m, MANY, jobs)) != 0);
     CHECK(seen == MANY);
 }
 
