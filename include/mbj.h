@@ -265,10 +265,11 @@ typedef struct mbj_mgr {
  * mbj_end_mgr does nothing. */
 MBJ_CHECKED MBJ_API mbj_err mbj_init_mgr(MBJ_MGR *m);
 
-/* Whether a manager keeps the memory of jobs that were given back for later ones. */
+/* Which blocks of jobs that were given back a manager keeps for later ones, with zeros in them. */
 enum mbj_keeping {
-    MBJ_KEEPS_DEFAULT, /* as one of mbj_init_mgr */
-    MBJ_KEEPS_MORE     /* as one of mbj_init_mgr_keeping */
+    MBJ_KEEPS_SHORT, /* those of at most 256 bytes, as one of mbj_init_mgr */
+    MBJ_KEEPS_LONG,  /* those of at most 2,048, as one of mbj_init_mgr_keeping */
+    MBJ_KEEPS_NONE
 };
 
 /* How a manager takes memory: from a heap of mbj_heap.h, or, where that is NULL, from the one that the thread names at each call. */

@@ -29,12 +29,14 @@ static inline bool mbj_goes_with_(uint32_t version) {
 }
 
 /* Makes a manager, having asked the processor before any proved export is called. */
-static inline uint32_t mbj_make_(struct mbj_handle *handle, bool keeps) {
+static inline uint32_t mbj_make_(struct mbj_handle *handle, uint32_t keeping) {
     if (mbj_c_missing_feature() != NULL)
         return MBJ_ERR_PROCESSOR;
     if (!mbj_goes_with_(mbj_c_version()))
         return MBJ_ERR_VERSION;
-    return keeps ? mbj_c_new_keeping(handle) : mbj_c_new(handle);
+    if (keeping == MBJ_KEEPS_NONE)
+        return mbj_c_new_keeping_none(handle);
+    return keeping == MBJ_KEEPS_LONG ? mbj_c_new_keeping(handle) : mbj_c_new(handle);
 }
 
 /* Names the manager's heap for the calls of this thread, and the one that was named before again. Only calls that take memory need that,
@@ -49,17 +51,17 @@ static inline void mbj_leave_(const struct mbj_heap *heap, const struct mbj_heap
 }
 
 MBJ_API mbj_err mbj_init_mgr_with(MBJ_MGR *m, const struct mbj_options *options) {
-    uint32_t keeping = options != NULL ? options->keeping : (uint32_t)MBJ_KEEPS_DEFAULT;
+    uint32_t keeping = options != NULL ? options->keeping : (uint32_t)MBJ_KEEPS_SHORT;
     if (m == NULL)
         return MBJ_ERR_NULL;
     m->handle.at = NULL;
     m->heap = options != NULL ? options->heap : NULL;
     m->first = m->next = 0;
     m->lent = 0;
-    m->error = keeping > MBJ_KEEPS_MORE ? MBJ_ERR_WORD : m->heap != NULL && !mbj_c_has_heaps() ? MBJ_ERR_HEAP : MBJ_ERR_NONE;
+    m->error = keeping > MBJ_KEEPS_NONE ? MBJ_ERR_WORD : m->heap != NULL && !mbj_c_has_heaps() ? MBJ_ERR_HEAP : MBJ_ERR_NONE;
     if (m->error == MBJ_ERR_NONE) {
         const struct mbj_heap *before = mbj_enter_(m->heap);
-        m->error = mbj_make_(&m->handle, keeping == MBJ_KEEPS_MORE);
+        m->error = mbj_make_(&m->handle, keeping);
         mbj_leave_(m->heap, before);
     }
     return (mbj_err)m->error;
@@ -70,7 +72,7 @@ MBJ_API mbj_err mbj_init_mgr(MBJ_MGR *m) {
 }
 
 MBJ_API mbj_err mbj_init_mgr_keeping(MBJ_MGR *m) {
-    struct mbj_options options = {NULL, MBJ_KEEPS_MORE};
+    struct mbj_options options = {NULL, MBJ_KEEPS_LONG};
     return mbj_init_mgr_with(m, &options);
 }
 

@@ -76,10 +76,14 @@ uint32_t mbj_c_version(void);
 MBJ_CHECKED MBJ_NONNULL
 mbj_err mbj_c_new(struct mbj_handle *handle);
 
-/* The same, and its cells keep more of the memory of a job's bytes once the job is given back: at most 2,048 bytes each, not 256, for key, IV,
- * authentication key, additional data and packet. Longer memory is freed. */
+/* The same, and its cells keep more of the memory of a job's bytes once the job is given back: at most 2,048 bytes each, not 256, for key,
+ * IV, authentication key, additional data and packet. Longer memory is freed. */
 MBJ_CHECKED MBJ_NONNULL
 mbj_err mbj_c_new_keeping(struct mbj_handle *handle);
+
+/* The same, and its cells keep no memory. */
+MBJ_CHECKED MBJ_NONNULL
+mbj_err mbj_c_new_keeping_none(struct mbj_handle *handle);
 
 /* How many bytes the cells keep that have no job; 0 where there is no manager. */
 MBJ_NONNULL
@@ -102,8 +106,8 @@ MBJ_NONNULL
 bool mbj_c_count(struct mbj_handle *handle, uint32_t kind, struct mbj_counts *counts);
 
 /* Copies a job into the next cell, in place of one that was filled and not submitted, and returns MBJ_ERR_NONE, MBJ_ERR_NO_MANAGER,
- * MBJ_ERR_FULL, MBJ_ERR_WORD or MBJ_ERR_MEMORY. Of the calls on a manager only this one, its burst, mbj_c_new, mbj_c_new_keeping
- * and mbj_c_use_keys take memory. */
+ * MBJ_ERR_FULL, MBJ_ERR_WORD or MBJ_ERR_MEMORY. Of the calls on a manager only this one, its burst, mbj_c_new, mbj_c_new_keeping,
+ * mbj_c_new_keeping_none and mbj_c_use_keys take memory. */
 MBJ_CHECKED MBJ_NONNULL
 mbj_err mbj_c_fill(struct mbj_handle *handle, const struct mbj_raw_job *job);
 

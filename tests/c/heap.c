@@ -42,7 +42,7 @@ void rattle_dealloc(void *at) {
 int main(void) {
     static MBJ_MGR manager;
     uint8_t tag[MAC_BYTES];
-    struct mbj_options options = {mbj_c_name_heap(NULL), MBJ_KEEPS_DEFAULT};
+    struct mbj_options options = {mbj_c_name_heap(NULL), MBJ_KEEPS_SHORT};
     const struct mbj_heap other = {NULL, NULL, NULL, NULL};
     CHECK(!mbj_c_has_heaps() && mbj_init_mgr_with(&manager, &options) == MBJ_ERR_NONE && blocks > 0);
     mbj_end_mgr(&manager);

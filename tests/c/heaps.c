@@ -121,8 +121,8 @@ static void two_heaps(void) {
     struct counter named = {0, 0, 0, 0, false};
     const struct mbj_heap third = {count_alloc, NULL, count_free, &named};
     CHECK(mbj_c_name_heap(&third) == NULL);
-    begin(&m[0], &own[0], MBJ_KEEPS_DEFAULT);
-    begin(&m[1], &own[1], MBJ_KEEPS_MORE);
+    begin(&m[0], &own[0], MBJ_KEEPS_SHORT);
+    begin(&m[1], &own[1], MBJ_KEEPS_LONG);
     for (int i = 0; i < 10; i++) {
         long taken = counters[1].taken;
         use(&m[0]);
@@ -149,7 +149,7 @@ static void a_set_is_shared(int last) {
     struct mbj_bytes raw = {cbc_key, sizeof cbc_key};
     CHECK(mbj_keys_new(&keys, &raw, 1) == MBJ_ERR_NONE);
     for (int i = 0; i < 2; i++) {
-        begin(&m[i], &own[i], MBJ_KEEPS_DEFAULT);
+        begin(&m[i], &own[i], MBJ_KEEPS_SHORT);
         CHECK(mbj_use_keys(&m[i], &keys) == MBJ_ERR_NONE);
     }
     CHECK(mbj_keys_free(&keys));
@@ -164,7 +164,7 @@ static void a_set_is_shared(int last) {
 /* Where a heap refuses a block, so does the call, and nothing is lost. */
 static void a_heap_refuses(void) {
     static MBJ_MGR m;
-    struct mbj_options options = {&own[0], MBJ_KEEPS_DEFAULT};
+    struct mbj_options options = {&own[0], MBJ_KEEPS_SHORT};
     mbj_err err = MBJ_ERR_MEMORY;
     for (long at = 1; err == MBJ_ERR_MEMORY; at++) {
         counters[0].refuse_at = counters[0].taken + at;
@@ -184,14 +184,14 @@ static void a_heap_refuses(void) {
 
 static void options_are_looked_at(void) {
     static MBJ_MGR m;
-    struct mbj_options options = {NULL, MBJ_KEEPS_MORE + 1};
+    struct mbj_options options = {NULL, MBJ_KEEPS_NONE + 1};
     CHECK(mbj_init_mgr_with(NULL, &options) == MBJ_ERR_NULL && mbj_init_mgr_with(&m, &options) == MBJ_ERR_WORD);
     CHECK(mbj_get_next_job(&m) != NULL && mbj_submit_job(&m) == NULL && mbj_get_errno(&m) == MBJ_ERR_NO_MANAGER);
     CHECK(mbj_c_has_heaps());
 }
 
 int main(void) {
-    for (uint32_t keeping = MBJ_KEEPS_DEFAULT; keeping <= MBJ_KEEPS_MORE; keeping++) {
+    for (uint32_t keeping = MBJ_KEEPS_SHORT; keeping <= MBJ_KEEPS_NONE; keeping++) {
         a_managers_blocks_come_from_its_heap(keeping);
         heaps_of_the_library(keeping);
     }

@@ -171,8 +171,9 @@ static void print_codes(void) {
     NUMBER(MBJ_KIND_CCM_128);
     NUMBER(MBJ_KIND_CCM_192);
     NUMBER(MBJ_KIND_CCM_256);
-    NUMBER(MBJ_KEEPS_DEFAULT);
-    NUMBER(MBJ_KEEPS_MORE);
+    NUMBER(MBJ_KEEPS_SHORT);
+    NUMBER(MBJ_KEEPS_LONG);
+    NUMBER(MBJ_KEEPS_NONE);
 }
 
 static void print_answers(void) {

@@ -114,6 +114,10 @@ void mbj_c_wipe(struct mbj_room room) {
     calls++;
 }
 
+mbj_err mbj_c_new_keeping_none(struct mbj_handle *handle) {
+    return mbj_c_new(handle);
+}
+
 size_t mbj_c_held_bytes(struct mbj_handle *handle) {
     (void)handle;
     calls++;

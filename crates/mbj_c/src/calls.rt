@@ -13,28 +13,28 @@ use crate::counts::Counts;
 use crate::giving::{Call, RawDone};
 use crate::handle::Handle;
 use crate::job::RawJob;
-use crate::ranged::RangedManager;
+use crate::ranged::{Keeping, RangedManager};
 use crate::refusal::Refusal;
 use crate::words::kind_at;
 use std::alloc::{AllocError, Global};
 
 /// A new manager on the heap.
-fn boxed(alloc: Global, keeps: bool) -> Result<Box<RangedManager>, AllocError>
+fn boxed(alloc: Global, keeping: Keeping) -> Result<Box<RangedManager>, AllocError>
     ensures { IfOk result (λ b. b.value ≡ new_ranged) }
 {
-    let manager = RangedManager::new(alloc, keeps)?;
+    let manager = RangedManager::new(alloc, keeping)?;
     Ok(Box::new(alloc, manager)?)
 }
 
 /// Makes a manager, where the handle has none.
-pub(crate) fn make(alloc: Global, handle: &mut Handle, keeps: bool) -> Result<(), Refusal>
+pub(crate) fn make(alloc: Global, handle: &mut Handle, keeping: Keeping) -> Result<(), Refusal>
     ensures { IsDone (made handle.old.manager) handle.old.manager result handle.new.manager }
 {
     if let Some(manager) = handle.take(alloc) {
         handle.put(manager);
         return Err(Refusal::HasManager);
     }
-    handle.put(boxed(alloc, keeps)?);
+    handle.put(boxed(alloc, keeping)?);
     Ok(())
 }
 

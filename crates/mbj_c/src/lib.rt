@@ -46,8 +46,8 @@ pub use exports::jobs::{
 };
 pub use exports::keys::{mbj_c_use_keys, mbj_keys_free, mbj_keys_new, mbj_keys_share};
 pub use exports::managers::{
-    mbj_c_count, mbj_c_free, mbj_c_held_bytes, mbj_c_new, mbj_c_new_keeping, mbj_c_queue_size,
-    mbj_c_trim, mbj_c_version,
+    mbj_c_count, mbj_c_free, mbj_c_held_bytes, mbj_c_new, mbj_c_new_keeping,
+    mbj_c_new_keeping_none, mbj_c_queue_size, mbj_c_trim, mbj_c_version,
 };
 pub use exports::tables::{
     mbj_aes_keys, mbj_cmac_subkeys, mbj_digest, mbj_hmac_states, mbj_one_block,

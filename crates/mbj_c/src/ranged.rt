@@ -58,22 +58,37 @@ impl Model for RangedManager {
     ghost invariant = { λ m. IsRanged m.manager m.ranges m.spare };
 }
 
+/// Which blocks of jobs that were given back the cells of a manager keep for later ones.
+#[derive(Clone, Copy)]
+pub(crate) enum Keeping {
+    /// Those of at most `SMALL_BYTES`.
+    Short,
+    /// Those of at most `KEPT_BYTES`.
+    Long,
+    /// None.
+    Nothing,
+}
+
 /// A manager with no job.
 ///
 /// Returns `AllocError` for want of memory.
-fn manager(alloc: Global, keeps: bool) -> Result<Manager, AllocError>
+fn manager(alloc: Global, keeping: Keeping) -> Result<Manager, AllocError>
     ensures { IfOk result (λ m. m ≡ new_manager) }
 {
-    if keeps {
-        Manager::keeping(alloc)
-    } else {
-        Manager::new(alloc)
+    match keeping {
+        Keeping::Short => Manager::new(alloc),
+        Keeping::Long => Manager::keeping(alloc),
+        Keeping::Nothing => Manager::keeping_none(alloc),
     }
 }
 
 /// At most how many bytes a cell keeps for each field of a job.
-fn most_kept(keeps: bool) -> usize {
-    if keeps { KEPT_BYTES } else { SMALL_BYTES }
+fn most_kept(keeping: Keeping) -> usize {
+    match keeping {
+        Keeping::Short => SMALL_BYTES,
+        Keeping::Long => KEPT_BYTES,
+        Keeping::Nothing => 0,
+    }
 }
 
 /// Sets the range of the job in this open cell.
@@ -172,18 +187,18 @@ impl RangedManager {
     /// manager and the ranges need.
     ///
     /// Returns `AllocError` for want of memory.
-    pub(crate) fn new(alloc: Global, keeps: bool) -> Result<RangedManager, AllocError>
+    pub(crate) fn new(alloc: Global, keeping: Keeping) -> Result<RangedManager, AllocError>
         ensures { IfOk result (λ m. m ≡ new_ranged) }
     {
         let ranges = Ring::new(alloc)?;
-        let manager = manager(alloc, keeps)?;
+        let manager = manager(alloc, keeping)?;
         let spare = Cell::blank(alloc)?;
         Ok(RangedManager {
             manager,
             ranges,
             sessions: None,
             spare,
-            most: most_kept(keeps),
+            most: most_kept(keeping),
         })
     }
 

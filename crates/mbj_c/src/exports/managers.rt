@@ -9,6 +9,7 @@ ghost use Rattle.mbj_c.specs.declared.refusal.Refusal.TheVariants.{Memory};
 use crate::calls;
 use crate::counts::Counts;
 use crate::handle::Handle;
+use crate::ranged::Keeping;
 use crate::refusal::code;
 use crate::version::VERSION;
 use std::alloc::Global;
@@ -36,7 +37,7 @@ pub extern "C" fn mbj_c_new(alloc: Global, handle: &mut Handle) -> u32
     ensures answer { result ≢ refusal_code Memory → result ≡ code_of (made handle.old.manager).0 }
     ensures state { result ≢ refusal_code Memory → handle.new.manager ≡ (made handle.old.manager).1 }
 {
-    code(calls::make(alloc, handle, false))
+    code(calls::make(alloc, handle, Keeping::Short))
 }
 
 /// Makes a manager as `mbj_c_new` does, whose cells keep more memory of the jobs that were given back: at most `KEPT_BYTES` for each field of
@@ -48,7 +49,18 @@ pub extern "C" fn mbj_c_new_keeping(alloc: Global, handle: &mut Handle) -> u32
     ensures answer { result ≢ refusal_code Memory → result ≡ code_of (made handle.old.manager).0 }
     ensures state { result ≢ refusal_code Memory → handle.new.manager ≡ (made handle.old.manager).1 }
 {
-    code(calls::make(alloc, handle, true))
+    code(calls::make(alloc, handle, Keeping::Long))
+}
+
+/// Makes a manager as `mbj_c_new` does, whose cells keep no memory of the jobs that were given back. Returns what `mbj_c_new` does.
+#[unsafe(no_mangle)]
+pub extern "C" fn mbj_c_new_keeping_none(alloc: Global, handle: &mut Handle) -> u32
+    ensures want_of_memory { result ≡ refusal_code Memory → (made handle.old.manager).0 ≡ Ok tt }
+    ensures unchanged { result ≡ refusal_code Memory → handle.new.manager ≡ handle.old.manager }
+    ensures answer { result ≢ refusal_code Memory → result ≡ code_of (made handle.old.manager).0 }
+    ensures state { result ≢ refusal_code Memory → handle.new.manager ≡ (made handle.old.manager).1 }
+{
+    code(calls::make(alloc, handle, Keeping::Nothing))
 }
 
 /// How many bytes of memory the manager keeps for jobs to come: 0 where there is no manager.

@@ -37,6 +37,7 @@ fn no_manager_keeps_nothing(rt: HostRuntime) {
     let mut handle = Handle::empty(alloc);
     mbj_c_trim(alloc, &mut handle);
     expect_held(&rt, alloc, &mut handle, false);
+    assert!(rt; handle.into_manager().is_none());
 }
 
 // The blocks of a short job stay until the manager is trimmed.
@@ -61,6 +62,16 @@ fn a_keeping_manager_keeps_blocks_until_it_is_trimmed(rt: HostRuntime) {
     let mut handle = Handle::empty(alloc);
     expect_number(&rt, mbj_c_new_keeping(alloc, &mut handle), 0);
     check_kept(&rt, alloc, handle);
+}
+
+#[test]
+fn a_manager_may_keep_nothing(rt: HostRuntime) {
+    let alloc = rt.alloc();
+    let mut handle = Handle::empty(alloc);
+    expect_number(&rt, mbj_c_new_keeping_none(alloc, &mut handle), 0);
+    check_mac(&rt, alloc, &mut handle);
+    expect_held(&rt, alloc, &mut handle, false);
+    close(&rt, alloc, handle);
 }
 
 /// A packet with a byte before the range and two behind it.
@@ -176,5 +187,5 @@ fn a_handle_crosses_threads(rt: HostRuntime) {
 
 #[test]
 fn the_version_is_told(rt: HostRuntime) {
-    expect_number(&rt, mbj_c_version(), 0x200);
+    expect_number(&rt, mbj_c_version(), 0x1_0000);
 }
