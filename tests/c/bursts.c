@@ -126,6 +126,7 @@ static bool a_burst_goes_on_where_memory_wanted(MBJ_MGR *m, long at) {
     CHECK(mbj_get_next_burst(m, SIZE, jobs) == SIZE);
     for (uint32_t i = 0; i < SIZE; i++)
         fill_kind(jobs[i], i);
+    mbj_trim(m);
     allocations = 0;
     refuse_at = at;
     take(mbj_submit_burst(m, SIZE, jobs, done), done);
