@@ -11,7 +11,7 @@
 /* The exports of mbj.h that the drop-in calls, and the known answers, of which each build has its own. */
 #define COMPAT_EXPORTS(EXPORT)                                                                                                             \
     EXPORT(mbj_c_missing_feature)                                                                                                          \
-    EXPORT(mbj_c_new)                                                                                                                      \
+    EXPORT(mbj_c_new_keeping_none)                                                                                                         \
     EXPORT(mbj_c_free)                                                                                                                     \
     EXPORT(mbj_c_fill)                                                                                                                     \
     EXPORT(mbj_c_submit)                                                                                                                   \

@@ -79,12 +79,14 @@ static void set_pointers(IMB_MGR *m) {
         *pointer = behind(m);
 }
 
+/* The proved manager keeps no memory of jobs that are back: a program frees the memory of a manager without a call, and what had been taken
+ * from the process's heap and kept would be lost. */
 static uint32_t make(struct dropin *d) {
     memset(d, 0, offsetof(struct dropin, gathered));
     d->pool = mbj_pool_make(pool_memory(d), POOL_BYTES, true);
     mbj_pool_wipe(d->pool);
     (void)mbj_pool_name(d->pool);
-    uint32_t refusal = proved.mbj_c_new(&d->handle);
+    uint32_t refusal = proved.mbj_c_new_keeping_none(&d->handle);
     if (refusal == MBJ_ERR_NONE)
         d->mark = DROPIN_MARK;
     return refusal;
@@ -149,7 +151,7 @@ static uint32_t forget_jobs(struct dropin *d) {
     if (queue_len(&d->ring) != 0) {
         (void)mbj_pool_name(d->pool);
         proved.mbj_c_free(&d->handle);
-        refusal = proved.mbj_c_new(&d->handle);
+        refusal = proved.mbj_c_new_keeping_none(&d->handle);
         wipe(d->found, sizeof d->found);
     }
     queue_empty(&d->ring);
