@@ -54,7 +54,7 @@ fn text() -> [u8; 16 * MOST_BLOCKS] {
 fn product(x: u128, y: u128) -> u128 {
     let mut z = 0;
     let mut v = y;
-    for i in 0..128 {
+    for i in 0..128u32 {
         if x >> (127 - i) & 1 == 1 {
             z ^= v;
         }
