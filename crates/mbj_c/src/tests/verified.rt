@@ -74,20 +74,41 @@ const TAG_LENGTH: u32 = 14;
 
 const NO_STATE: u32 = 16;
 
+/// A state that has taken no data.
+fn begun_state(rt: &impl Abort) -> GmacState {
+    let mut state = GmacState::blank();
+    expect_number(rt, mbj_gmac_init(&mut state, &[0; 16], &[0; 12]), 0);
+    expect_number(rt, mbj_gmac_update(&mut state, &NOTHING), 0);
+    state
+}
+
+/// Ends with the first bytes of the tag of no data, 16 at most.
+fn expect_end(rt: &impl Abort, state: &mut GmacState, len: usize) {
+    let mut tag = [0xee; 16];
+    let len = len.min(16);
+    expect_number(rt, mbj_gmac_finish(state, &mut tag[..len]), 0);
+    expect_bytes(rt, &tag[..len], &TAG_OF_NOTHING[..len]);
+}
+
 #[test]
 fn gmac_is_made_in_parts(rt: HostRuntime) {
-    let (mut state, mut tag) = (GmacState::blank(), [0xee; 17]);
-    expect_number(&rt, mbj_gmac_update(&mut state, &AAD), NO_STATE);
-    let begun = mbj_gmac_init(&mut state, &[0; 16], &NOTHING);
-    expect_number(&rt, begun, IV_LENGTH);
-    expect_number(&rt, mbj_gmac_init(&mut state, &[0; 16], &[0; 12]), 0);
-    expect_number(&rt, mbj_gmac_update(&mut state, &NOTHING), 0);
+    let mut state = begun_state(&rt);
     let mut copy = state;
-    expect_number(&rt, mbj_gmac_finish(&mut state, &mut tag), TAG_LENGTH);
+    expect_end(&rt, &mut state, 16);
+    expect_end(&rt, &mut copy, 4);
+    let mut tag = [0xee; 16];
+    expect_number(&rt, mbj_gmac_finish(&mut state, &mut tag), NO_STATE);
+    expect_bytes(&rt, &tag, &[0xee; 16]);
+}
+
+#[test]
+fn gmac_refuses_what_is_no_state_iv_or_tag(rt: HostRuntime) {
+    let mut state = GmacState::blank();
+    expect_number(&rt, mbj_gmac_update(&mut state, &AAD), NO_STATE);
+    let code = mbj_gmac_init(&mut state, &[0; 16], &NOTHING);
+    expect_number(&rt, code, IV_LENGTH);
+    let mut begun = begun_state(&rt);
+    let mut tag = [0xee; 17];
+    expect_number(&rt, mbj_gmac_finish(&mut begun, &mut tag), TAG_LENGTH);
     expect_bytes(&rt, &tag, &[0xee; 17]);
-    expect_number(&rt, mbj_gmac_finish(&mut state, &mut tag[..16]), 0);
-    expect_bytes(&rt, &tag[..16], &TAG_OF_NOTHING);
-    expect_number(&rt, mbj_gmac_finish(&mut state, &mut tag[..16]), NO_STATE);
-    expect_number(&rt, mbj_gmac_finish(&mut copy, &mut tag[..4]), 0);
-    expect_bytes(&rt, &tag[..4], &TAG_OF_NOTHING[..4]);
 }
