@@ -27,6 +27,11 @@ make check-dropin builds and tests that library, beside Intel's and with DPDK wh
 make install-dropin PREFIX=FOLDER
                  copies it to DROPINDIR=PREFIX/lib/mbj-dropin, and touches no other library. A program runs over it with
                  LD_LIBRARY_PATH=DROPINDIR (docs/FROM_IPSEC_MB.md)
+make shadow      builds a checker under load, in a folder of its own: a library that stands between a program and Intel's
+                 libIPSec_MB.so.1, and compares a share of the results with the proved ones. It needs what make dropin needs
+make check-shadow builds and tests the checker, with DPDK where that is installed
+make install-shadow PREFIX=FOLDER
+                 copies it to SHADOWDIR=PREFIX/lib/mbj-shadow, and the header of its counters (docs/SHADOW.md)
 make clean       removes what was built
 
 RT=COMMAND       the toolchain's command, where rt isn't on the path
@@ -61,7 +66,7 @@ main := $(BUILD)/$(CPU)
 beside := $(if $(filter-out $(avx2),$(CPU)),$(BUILD)/$(avx2))
 program := $(or $(MBJOBS),$(if $(ARCHIVE),,$(BUILD)/mbjobs))
 
-goals := $(filter-out help install uninstall install-dropin clean,$(or $(MAKECMDGOALS),all))
+goals := $(filter-out help install uninstall install-dropin install-shadow clean,$(or $(MAKECMDGOALS),all))
 ifneq ($(goals),)
 ifeq ($(filter x86-64-v2 $(avx2),$(CPU)),)
 $(error CPU is x86-64-v2 or $(avx2))
@@ -184,6 +189,45 @@ $(dropin): $(dropin-objects) $(dropin-builds) packaging/dropin.map
 	$(CC) $(plain) $(LDFLAGS) -shared -Wl,-soname,libIPSec_MB.so.1 -Wl,--version-script=packaging/dropin.map -Wl,-z,text -Wl,-z,defs \
 	    -o $@ $(filter %.o,$^)
 
+# The checker holds the drop-in's functions under other names, and a jump for each function of Intel's library that it hasn't itself.
+SHADOWDIR ?= $(PREFIX)/lib/mbj-shadow
+IPSEC_MB ?= $(shell $(CC) -print-file-name=libIPSec_MB.so)
+
+shadow := $(BUILD)/shadow/libIPSec_MB.so.1
+shadow-objects := $(patsubst compat/shadow/%.c,$(BUILD)/shadow/%.o,$(wildcard compat/shadow/*.c))
+compile-shadow = $(CC) -std=c11 -D_GNU_SOURCE -Wall -Wextra $(CPPFLAGS) $(plain) -march=x86-64 -fPIC -fvisibility=hidden \
+    -Iinclude -Icompat -Icompat/shadow -I$(BUILD)/shadow $(here) -c -o $@ $<
+
+$(BUILD)/shadow/%.o: compat/shadow/%.c $(wildcard compat/*.h compat/shadow/*.h) include/mbj_shadow.h $(interface) $(BUILD)/settings
+	@mkdir -p $(@D)
+	$(compile-shadow)
+
+$(BUILD)/shadow/codes.inc: packaging/codes $(BUILD)/settings
+	@mkdir -p $(@D)
+	CC='$(CC)' packaging/codes > $@
+
+$(BUILD)/shadow/code_names.o: $(BUILD)/shadow/codes.inc
+
+$(BUILD)/shadow/forward.S: $(shadow-objects) packaging/forwarded
+	CC='$(CC)' packaging/forwarded '$(IPSEC_MB)' $(shadow-objects) > $@
+
+$(BUILD)/shadow/forward.o: $(BUILD)/shadow/forward.S
+	$(CC) -c -o $@ $<
+
+$(BUILD)/shadow/dropin.o: $(dropin-objects) $(dropin-builds) packaging/inside
+	packaging/inside '$(IPSEC_MB)' proved_ $@ $(filter %.o,$^)
+
+shadow: $(shadow)
+
+$(shadow): $(shadow-objects) $(BUILD)/shadow/forward.o $(BUILD)/shadow/dropin.o packaging/shadow.map
+	$(CC) $(plain) $(LDFLAGS) -shared -pthread -Wl,-soname,libIPSec_MB.so.1 -Wl,--version-script=packaging/shadow.map -Wl,-z,text \
+	    -Wl,-z,defs -Wl,-z,nodelete -o $@ $(filter %.o,$^) -ldl
+
+install-shadow:
+	@[ -f $(shadow) ] || { echo 'nothing is built: run make shadow first' >&2; exit 1; }
+	$(INSTALL) -D -m 755 -t $(call quoted,$(DESTDIR)$(SHADOWDIR)) $(shadow)
+	$(INSTALL) -D -m 644 -t $(call quoted,$(DESTDIR)$(INCLUDEDIR)) include/mbj_shadow.h
+
 install-dropin:
 	@[ -f $(dropin) ] || { echo 'nothing is built: run make dropin first' >&2; exit 1; }
 	$(INSTALL) -D -m 755 -t $(call quoted,$(DESTDIR)$(DROPINDIR)) $(dropin)
@@ -197,6 +241,9 @@ check: all $(program)
 
 check-dropin: all $(dropin)
 	BUILD=$(call quoted,$(abspath $(BUILD))) CPU=$(CPU) CC='$(CC)' tests/c/dropin
+
+check-shadow: all $(shadow)
+	BUILD=$(call quoted,$(abspath $(BUILD))) CPU=$(CPU) CC='$(CC)' MBJOBS=$(call quoted,$(MBJOBS)) tests/shadow/run
 
 # ---- installing ----
 
@@ -250,7 +297,7 @@ help:
 clean:
 	rm -rf $(BUILD)
 
-.PHONY: all check check-dropin install uninstall mbjobs dropin install-dropin help clean FORCE
+.PHONY: all check check-dropin check-shadow install uninstall mbjobs dropin install-dropin shadow install-shadow help clean FORCE
 .DELETE_ON_ERROR:
 .SECONDARY:
 # rt works in one folder, one call after another.
