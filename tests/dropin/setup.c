@@ -44,6 +44,16 @@ static void note_setting_up(struct facts *facts, const struct library *library) 
     note(facts, "its error", library->error(NULL));
 }
 
+/* What an error is called: the texts of two libraries are two places in memory, so they are compared by what they say. */
+static unsigned differing_texts(void) {
+    enum { BEFORE_ERRORS = -3, AFTER_ERRORS = IMB_ERR_MAX + 3 };
+    unsigned differing = 0;
+    for (int error = BEFORE_ERRORS; error < AFTER_ERRORS; error++)
+        if (strcmp(libraries[0].text(error), libraries[1].text(error)) != 0 && differing++ < 20)
+            printf("error %d: \"%s\" and \"%s\"\n", error, libraries[0].text(error), libraries[1].text(error));
+    return differing;
+}
+
 /* ---- the ring ---- */
 
 static void fill(IMB_JOB *job) {
@@ -186,7 +196,7 @@ int main(int argc, char **argv) {
     for (unsigned i = 0; i < facts[0].count; i++)
         if (facts[0].value[i] != facts[1].value[i] && differing++ < 20)
             printf("%s: %ld and %ld\n", facts[0].what[i], facts[0].value[i], facts[1].value[i]);
-    differing += check_long_ivs();
+    differing += differing_texts() + check_long_ivs();
     printf("%u facts, %u differ\n", facts[0].count, differing);
     for (int i = 0; i < 2; i++)
         libraries[i].release(libraries[i].m);
