@@ -41,6 +41,7 @@ ARCHIVE=FILE     an archive that was built elsewhere, in place of the toolchain.
                  MBJOBS=FILE          the program
 CPU=x86-64-v3    builds for processors with AVX2 alone. By default, x86-64-v2, the libraries run wherever SSE4.2 is, and a
                  second shared library for AVX2 stands where the loader finds it
+IPSEC_MB=FILE    Intel's library, for make shadow, where the compiler doesn't find it
 BUILD=FOLDER     where things are built, and installed from: build
 CC= CPPFLAGS= CFLAGS= LDFLAGS=
                  for the library's C code and its linking
@@ -208,7 +209,7 @@ $(BUILD)/shadow/codes.inc: packaging/codes $(BUILD)/settings
 
 $(BUILD)/shadow/code_names.o: $(BUILD)/shadow/codes.inc
 
-$(BUILD)/shadow/forward.S: $(shadow-objects) packaging/forwarded
+$(BUILD)/shadow/forward.S: $(shadow-objects) $(wildcard $(IPSEC_MB)) packaging/forwarded
 	CC='$(CC)' packaging/forwarded '$(IPSEC_MB)' $(shadow-objects) > $@
 
 $(BUILD)/shadow/forward.o: $(BUILD)/shadow/forward.S

@@ -3,11 +3,13 @@ import hashlib
 import hmac
 
 from ciphers import cbc, ccm, cmac, ctr, gcm, schedule
+from states import SIZES, hmac_from
 
 DIGESTS = ["sha1", "sha224", "sha256", "sha384", "sha512"]
 HMACS = {"hmac-" + digest: digest for digest in DIGESTS}
+HMACS_FROM_STATES = {"hmac-" + digest + "-states": digest for digest in DIGESTS}
 # The hash of each authentication that is over one.
-HASHES = {**HMACS, **{digest: digest for digest in DIGESTS}}
+HASHES = {**HMACS, **HMACS_FROM_STATES, **{digest: digest for digest in DIGESTS}}
 CMACS = {"cmac128": 16, "cmac256": 32}
 # Ciphers that make the tag too.
 AEADS = {"gcm": gcm, "ccm": ccm}
@@ -36,7 +38,8 @@ def reason(job):
         takes_iv != "null" and iv not in ivs[takes_iv],
         cipher != "null" and job["coff"] + text > length,
         cipher == "cbc" and (text == 0 or text % 16 != 0) or cipher == "ctr" and text == 0,
-        auth in CMACS and key != CMACS[auth] or auth in HMACS and key > 1024 or auth == "gmac" and key not in KEY_SIZES,
+        auth in CMACS and key != CMACS[auth] or auth in HMACS and key > 1024 or auth == "gmac" and key not in KEY_SIZES
+        or auth in HMACS_FROM_STATES and key != 2 * SIZES[HASHES[auth]][1],
         hashes and job["hoff"] + job["hlen"] > length,
         cipher in AEADS and len(job["aad"]) > {"gcm": 65535, "ccm": 65279}[cipher],
         tag not in tags,
@@ -57,6 +60,8 @@ def authenticated(job, packet):
     message = packet[job["hoff"]:job["hoff"] + job["hlen"]]
     if job["auth"] in HMACS:
         return hmac.new(job["akey"], message, HMACS[job["auth"]]).digest()
+    if job["auth"] in HMACS_FROM_STATES:
+        return hmac_from(HASHES[job["auth"]], job["akey"], message)
     if job["auth"] in DIGESTS:
         return hashlib.new(job["auth"], message).digest()
     if job["auth"] == "gmac":

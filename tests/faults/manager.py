@@ -1,5 +1,5 @@
 """Which job a manager gives back when, and what traces, bursts and replays tell of it."""
-from jobs import CMACS, HASHES, HMACS, reason, result_line, run_text
+from jobs import CMACS, HASHES, HMACS, HMACS_FROM_STATES, reason, result_line, run_text
 
 # Kinds in the order in which a trace tells them, with their lanes.
 LANES = {"cbc128": 32, "cbc192": 32, "cbc256": 32, "cmac128": 32, "cmac256": 32, "hmac-sha1": 16, "hmac-sha256": 16, "hmac-sha512": 8,
@@ -22,7 +22,7 @@ def auth_stage(job):
         digest = HASHES[job["auth"]]
         wide = digest in ("sha384", "sha512")
         kind = "hmac-sha512" if wide else "hmac-sha1" if digest == "sha1" else "hmac-sha256"
-        pads = 3 if job["auth"] in HMACS else 0
+        pads = 3 if job["auth"] in HMACS else 1 if job["auth"] in HMACS_FROM_STATES else 0
         return [(kind, 1 + pads + ((job["hlen"] + 16) // 128 if wide else (job["hlen"] + 8) // 64))]
     return []
 

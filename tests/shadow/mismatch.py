@@ -40,17 +40,21 @@ assert len(jobs) == (1 if has_line else 0), "the job's line"
 if has_line:
     fields = jobs[0].split(" ")
     assert len(fields) == 14, "the fields"
-    # The independent program of the tests has no HMAC from states.
-    program = [sys.argv[4], "run", "--submitters", "1", "--workers", "0"] if len(sys.argv) > 4 else None
-    if program is None and not fields[7].endswith("-states"):
-        program = [sys.executable, os.path.join(os.path.dirname(__file__), "..", "faults", "reference.py"), "results", "/dev/stdin"]
-    if program is not None:
-        done = subprocess.run(program, input=open(path, "rb").read(), capture_output=True, check=True).stdout.decode().split()
-        start, length = int(fields[5]), int(fields[6])
-        packet = bytes.fromhex(done[2].replace("-", ""))
-        assert done[:2] == ["0", "ok"], done[:2]
-        if fields[0] != "null":
-            assert packet[start:start + length].hex() == proved[1].replace("-", ""), "the text of the line"
-        # A digest by a direct call is told as a text.
-        tag = proved[1] if fields[0] == "null" and proved[2] == "-" else proved[2]
-        assert done[3] == tag, "the tag of the line"
+    program = [sys.executable, os.path.join(os.path.dirname(__file__), "..", "faults", "reference.py"), "results", "/dev/stdin"]
+    if len(sys.argv) > 4:
+        program = [sys.argv[4], "run", "--submitters", "1", "--workers", "0"]
+    done = subprocess.run(program, input=open(path, "rb").read(), capture_output=True, check=True).stdout.decode().split()
+    start, length = int(fields[5]), int(fields[6])
+    packet = bytes.fromhex(done[2].replace("-", ""))
+    assert done[:2] == ["0", "ok"], done[:2]
+    addresses = next(line for line in lines if line.startswith("# addresses: "))
+    dst, place = (int(at, 16) for at in re.search(r"destination (\S+), tag (\S+)$", addresses.replace("(nil)", "0x0")).groups())
+    if fields[0] != "null":
+        text, want = bytearray(packet[start:start + length]), bytes.fromhex(proved[1].replace("-", ""))
+        for i in range(length):
+            if place <= dst + i < place + int(fields[12]):
+                text[i] = want[i]  # a tag in the text is written over it, which a job file doesn't say
+        assert text == want, "the text of the line"
+    # A digest by a direct call is told as a text.
+    tag = proved[1] if fields[0] == "null" and proved[2] == "-" else proved[2]
+    assert done[3] == tag, "the tag of the line"
