@@ -62,7 +62,8 @@ const GOOD: [&str; 15] = [
 /// Words that are no command, and behind the arrow what the text that tells it has, between bars.
 const TOLD: [&str; 9] = [
     "mbjobs --help => Usage: mbjobs|run|trace|burst|gen|replay|--version|1 to 65535 for gcm and gmac, and 7 to 13 for ccm\
-        |\n  11, 12  hash range|\n  14      packet|gmac, gcm, ccm\n|\n  9 additional data too long      10 tag length\n\
+        |gmac, gcm, ccm; HMAC from stored states|hmac-sha512-states\n|\n  11, 12  hash range|\n  14      packet\
+        |\n  9 additional data too long      10 tag length\n\
         |\n  0 done |6 file too long             7 out of memory\n",
     "mbjobs run --help => Usage: mbjobs run|--submitters <S>|1 to 16|--workers <W>",
     "mbjobs trace --help => Usage: mbjobs trace|mbjobs trace",
