@@ -290,7 +290,7 @@ static void a_manager_needs_no_malloc(void) {
     CHECK(allocations == 0);
 }
 
-/* Where the pool is used up, jobs aren't submitted, and are again once others were given back. */
+/* Where the pool is used up, jobs aren't submitted, and are again once others were given back and what the manager keeps is freed. */
 static void a_pool_is_used_up(void) {
     struct gateway *g = &gateways[0];
     struct mbj_block rest[4096];
@@ -304,6 +304,7 @@ static void a_pool_is_used_up(void) {
     fill_mac(job, mac_text, sizeof mac_text, g->tag);
     CHECK(mbj_submit_job(&g->m) == NULL && mbj_get_errno(&g->m) == MBJ_ERR_MEMORY && job->status == MBJ_STATUS_ERROR);
     finish_jobs(g);
+    mbj_trim(&g->m);
     CHECK(finish(&g->m) == job && is_done(job) && memcmp(g->tag, mac, sizeof mac) == 0);
     while (count > 0)
         rattle_dealloc(rest[--count].at);

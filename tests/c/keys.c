@@ -115,6 +115,7 @@ static void each_allocation_is_refused(void) {
             CHECK(number > KEYS + 3);
             break;
         }
+        mbj_trim(m);
         CHECK(blocks == before);
         check_block(m, 0);
     }
