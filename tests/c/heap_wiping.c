@@ -76,7 +76,7 @@ static void a_refusal_leaves_the_block(void) {
     CHECK(count == 0);
 }
 
-/* A job's copies are wiped when it is given back, and all that is left with the manager. */
+/* A job's copies are wiped when what the manager keeps is freed, and all that is left with the manager. */
 static void a_managers_blocks_are_wiped(void) {
     static MBJ_MGR m;
     uint8_t tag[MAC_BYTES], dst[CBC_BYTES];
@@ -86,6 +86,7 @@ static void a_managers_blocks_are_wiped(void) {
     CHECK(finish(&m) != NULL && memcmp(tag, mac, sizeof mac) == 0);
     fill_cbc(mbj_get_next_job(&m), cbc_text, sizeof cbc_text, 0, dst);
     CHECK(finish(&m) != NULL && memcmp(dst, cbc_ciphertext, sizeof dst) == 0);
+    mbj_trim(&m);
     CHECK(freed > before + sizeof mac_key + sizeof mac_text + sizeof cbc_key + sizeof cbc_text && count == of_manager);
     fill_mac(mbj_get_next_job(&m), mac_text, sizeof mac_text, tag);
     CHECK(mbj_submit_job(&m) == NULL);
