@@ -44,13 +44,17 @@ static void note_setting_up(struct facts *facts, const struct library *library) 
     note(facts, "its error", library->error(NULL));
 }
 
-/* What an error is called: the texts of two libraries are two places in memory, so they are compared by what they say. */
+/* What an error is called. The first text is copied, since both libraries may ask strerror, whose text lasts until it is asked again. */
 static unsigned differing_texts(void) {
-    enum { BEFORE_ERRORS = -3, AFTER_ERRORS = IMB_ERR_MAX + 3 };
+    enum { BEFORE_ERRORS = -3, AFTER_ERRORS = IMB_ERR_MAX + 3, LONGEST_TEXT = 200 };
     unsigned differing = 0;
-    for (int error = BEFORE_ERRORS; error < AFTER_ERRORS; error++)
-        if (strcmp(libraries[0].text(error), libraries[1].text(error)) != 0 && differing++ < 20)
-            printf("error %d: \"%s\" and \"%s\"\n", error, libraries[0].text(error), libraries[1].text(error));
+    for (int error = BEFORE_ERRORS; error < AFTER_ERRORS; error++) {
+        char theirs[LONGEST_TEXT];
+        snprintf(theirs, sizeof theirs, "%s", libraries[0].text(error));
+        const char *ours = libraries[1].text(error);
+        if (strcmp(theirs, ours) != 0 && differing++ < 20)
+            printf("error %d: \"%s\" and \"%s\"\n", error, theirs, ours);
+    }
     return differing;
 }
 
