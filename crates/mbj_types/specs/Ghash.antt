@@ -12,6 +12,13 @@ element b = bits 128 (from_be_bytes w128 b)
 unfoldable pub block_product : List ℕ → List ℕ → List ℕ
 block_product x h = to_be_bytes w128 (number (product (element x) (element h)))
 
+-- powers of a hash subkey
+abbrev pub square : List ℕ → List ℕ
+square h = block_product h h
+
+abbrev pub cube : List ℕ → List ℕ
+cube h = block_product (square h) h
+
 -- 6.4, steps 2 and 3, from the value y on
 abbrev pub ghash_from : List ℕ → List ℕ → List (List ℕ) → List ℕ
 ghash_from h y [] = y

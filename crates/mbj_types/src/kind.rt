@@ -120,6 +120,14 @@ pub fn kinds_are_told_in_order()
     ensures { Kind.ALL ≡ all_kinds }
 {}
 
+/// A law: a run of AES serves 32 jobs, one of SHA-1, SHA-224 or SHA-256 serves 16, and one of SHA-384 or SHA-512 serves 8.
+pub fn lanes_are_these_numbers()
+    ensures aes { AES_LANES ≡ 32 }
+    ensures sha1 { SHA1_LANES ≡ 16 }
+    ensures sha256 { SHA256_LANES ≡ 16 }
+    ensures sha512 { SHA512_LANES ≡ 8 }
+{}
+
 /// A law, which returns true: each lane word has as many lanes as its constant says.
 pub fn lane_words_have_these_lanes() -> bool
     ensures { IsTrue result }
