@@ -3,7 +3,7 @@ use Rattle.std.proofs.Common.{◌≡◌, ℕ, ◌+◌, ◌*◌, ◌/◌, ◌%◌
 use Rattle.std.specs.Int.{w128, from_be_bytes}
 use Rattle.std.proofs.lemmas.Bool.Decides.{nat_tests}
 use Rattle.std.proofs.lemmas.Simd.{get_or-replicate}
-use Rattle.mbj_types.specs.Field.{add, zeros, bits, product}
+use Rattle.mbj_types.specs.Field.{add, zeros, bits, product, times_power, multiple, weighted}
 use Rattle.mbj_types.specs.Ghash.{element}
 use Rattle.mbj_types.specs.Lanes.{lane_at, lane_at-lt}
 use Rattle.mbj_types.proofs.Vectors.{replicate_at}
@@ -11,7 +11,7 @@ use Rattle.mbj_aes.specs.BlockWords.{block_byte, block_at}
 use Rattle.mbj_aes.specs.Moves.{byte_or_zero}
 use Rattle.mbj_ghash.specs.declared.rows.Register.{Register}
 use Rattle.mbj_ghash.specs.declared.rows.Rows.{Rows}
-use Rattle.mbj_ghash.specs.Inside.{times_power, multiple, AreRows, AreRowsOf, register, weighted, sum_of}
+use Rattle.mbj_ghash.specs.Inside.{AreRows, AreRowsOf, register, sum_of}
 use Rattle.mbj_ghash.proofs.Sums.{add_comm}
 use Rattle.mbj_ghash.proofs.Multiples.{multiple-append}
 use Rattle.mbj_ghash.proofs.Elements.{length-bits, bits-append, bits-low}

@@ -3,7 +3,7 @@ use Rattle.std.proofs.Common.{◌≡◌, ℕ, zero, suc, ◌+◌, ◌-◌, ◌*�
 use Rattle.std.specs.Int.{w128, from_be_bytes}
 use Rattle.std.proofs.lemmas.Bool.{cases_lt}
 use Rattle.std.proofs.lemmas.Bool.Decides.{nat_tests}
-use Rattle.mbj_types.specs.Field.{add, zeros, bits, number, product}
+use Rattle.mbj_types.specs.Field.{add, zeros, bits, number, product, times_x, times_power, multiple, weighted}
 use Rattle.mbj_types.specs.Ghash.{element}
 use Rattle.mbj_types.specs.Lanes.{lane_at, lane_at-lt}
 use Rattle.mbj_aes.specs.BlockWords.{block_with, block_byte, block_at}
@@ -12,7 +12,6 @@ use Rattle.mbj_aes.specs.Tower.{by_halves}
 use Rattle.mbj_aes.proofs.BlockWords.{slice_index-block_with}
 use Rattle.mbj_aes.proofs.ByteCases.{each_below, same_at_each}
 use Rattle.mbj_ghash.specs.declared.tables.TheConstants.{FOLD_LOW, FOLD_HIGH, FOLD_NEXT_LOW, FOLD_NEXT_HIGH}
-use Rattle.mbj_ghash.specs.Inside.{times_x, times_power, multiple, weighted}
 use Rattle.mbj_ghash.proofs.Sums.{zeros_add, add_zeros}
 use Rattle.mbj_ghash.proofs.Multiples.{multiple-append, long-power, times_power-add}
 use Rattle.mbj_ghash.proofs.Elements.{length-bits, bits-xor, bits-append, bits-low, element-number}

@@ -1,7 +1,6 @@
 -- The product of elements is commutative, associative and over a sum.
 use Rattle.std.proofs.Common.{◌≡◌, Bool, true, false, List, [], ◌∷◌, length, refl, sym, ap, ap₂, ◌∙◌, arith}
-use Rattle.mbj_types.specs.Field.{add, scale, zeros, product}
-use Rattle.mbj_ghash.specs.Inside.{times_x, multiple}
+use Rattle.mbj_types.specs.Field.{add, scale, zeros, product, times_x, multiple}
 use Rattle.mbj_ghash.proofs.Sums.{length-add, scale_true, scale_false}
 use Rattle.mbj_ghash.proofs.Multiples.{length-times_x, length-multiple, times_x-multiple}
 use Rattle.mbj_ghash.proofs.Reductions.{reduced-whole, product-multiple}

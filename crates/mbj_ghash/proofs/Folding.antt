@@ -1,7 +1,6 @@
 -- The product of polynomials, reduced: its 128 highest coefficients are folded back by way of x^128.
 use Rattle.std.proofs.Common.{◌≡◌, ℕ, zero, suc, ◌+◌, Bool, true, false, List, [], ◌∷◌, ◌++◌, length, refl, sym, ap, ap₂, ◌∙◌, arith}
-use Rattle.mbj_types.specs.Field.{add, scale, zeros}
-use Rattle.mbj_ghash.specs.Inside.{times_x, times_power, multiple}
+use Rattle.mbj_types.specs.Field.{add, scale, zeros, times_x, times_power, multiple}
 use Rattle.mbj_ghash.proofs.Sums.{add_swap, scale_true}
 use Rattle.mbj_ghash.proofs.Multiples.{length-times_x, times_x-add, times_x-multiple}
 use Rattle.mbj_ghash.proofs.Reductions.{reduced, reduced-false, reduced-whole}

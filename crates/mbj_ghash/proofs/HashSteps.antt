@@ -3,8 +3,9 @@ use Rattle.std.proofs.Common.{◌≡◌, ℕ, Bool, List, [], ◌∷◌, length,
 use Rattle.std.specs.Int.{w128, from_be_bytes}
 use Rattle.mbj_types.specs.Blocks.{xor_lists}
 use Rattle.mbj_types.specs.Field.{add, zeros, product}
-use Rattle.mbj_types.specs.Ghash.{element, block_product, ghash_from}
-use Rattle.mbj_ghash.specs.Inside.{square, cube, IsBlock}
+use Rattle.mbj_types.specs.Ghash.{element, block_product, square, cube, ghash_from}
+use Rattle.mbj_aes.specs.Bytes.{IsBlock}
+use Rattle.mbj_aes.proofs.States.{IsBlock-byte}
 use Rattle.mbj_ghash.proofs.Sums.{add_comm, add_assoc, zeros_add}
 use Rattle.mbj_ghash.proofs.Elements.{length-bits}
 use Rattle.mbj_ghash.proofs.FieldLaws.{length-product, four_steps}
@@ -17,9 +18,9 @@ long-element xs = length-bits 128 (from_be_bytes w128 xs)
 
 element-xor_lists : (xs ys : List ℕ) → IsBlock xs → IsBlock ys → element (xor_lists xs ys) ≡ add (element xs) (element ys)
 element-xor_lists xs ys b d =
-    element-bytes (xor_lists xs ys) (IsBlock-xor_lists xs ys b d).bytes
+    element-bytes (xor_lists xs ys) (IsBlock-byte (xor_lists xs ys) (IsBlock-xor_lists xs ys b d))
     ∙ bytes-same _ _ 16 (xored_byte xs ys b d) ∙ bytes-xor (slice_index xs) (slice_index ys) 16
-    ∙ sym (ap₂ add (element-bytes xs b.bytes) (element-bytes ys d.bytes))
+    ∙ sym (ap₂ add (element-bytes xs (IsBlock-byte xs b)) (element-bytes ys (IsBlock-byte ys d)))
 
 -- the empty sum adds nothing
 pub none_added : (x h : List ℕ) → add (zeros 128) (product (element x) (element h)) ≡ product (element x) (element h)

@@ -1,8 +1,7 @@
 -- The schoolbook product, reduced, is a multiple by one coefficient after another.
 use Rattle.std.proofs.Common.{◌≡◌, ℕ, zero, suc, ◌+◌, ◌≤◌, Bool, true, false, List, [], ◌∷◌, ◌++◌, length, take, refl, sym, ap, ap₂, ◌∙◌, arith, length-append}
 use Rattle.std.proofs.lemmas.List.{length-replicate, length-take-le, append_assoc, append-nil, take-replicate}
-use Rattle.mbj_types.specs.Field.{plus, add, scale, mul, zeros, tail, coefficient, fold_top, reduce, product}
-use Rattle.mbj_ghash.specs.Inside.{times_x, multiple}
+use Rattle.mbj_types.specs.Field.{plus, add, scale, mul, zeros, tail, coefficient, fold_top, reduce, product, times_x, multiple}
 use Rattle.mbj_ghash.proofs.Sums.{plus_comm, zeros_add, add_zeros, add_swap, append-add, length-add, length-scale, scale_true, scale_false}
 use Rattle.mbj_ghash.proofs.Multiples.{length-times_x, times_x-add, times_x-multiple}
 

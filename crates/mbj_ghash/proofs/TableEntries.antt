@@ -4,14 +4,14 @@ use Rattle.std.specs.Int.{w8, w128, bit_not, to_be_bytes}
 use Rattle.std.specs.Int.Bits.{xor_zero_r}
 use Rattle.std.proofs.lemmas.Bool.{ltb-true}
 use Rattle.std.proofs.lemmas.Bool.Decides.{nat_tests}
-use Rattle.mbj_types.specs.Field.{add, scale, zeros, bits, number}
+use Rattle.mbj_types.specs.Field.{add, scale, zeros, bits, number, times_x, multiple}
 use Rattle.mbj_types.specs.Lanes.{lane_at, IsTableIndex}
 use Rattle.mbj_aes.specs.BlockWords.{block_byte, block_at}
 use Rattle.mbj_aes.specs.Moves.{byte_or_zero, moved_up, moved_out}
 use Rattle.mbj_aes.proofs.BlockWords.{slice_index-block_with}
 use Rattle.mbj_aes.proofs.ByteCases.{at_each, same_at_each}
 use Rattle.mbj_ghash.specs.declared.tables.TheConstants.{BEFORE, CARRIED, ODD, LAST_TWO, LOW_PAIR, HIGH_PAIR}
-use Rattle.mbj_ghash.specs.Inside.{times_x, multiple, IsInBoth}
+use Rattle.mbj_ghash.specs.Inside.{IsInBoth}
 use Rattle.mbj_ghash.proofs.Sums.{add_comm, add_assoc, add_zeros, length-scale, scale_true, scale_false}
 use Rattle.mbj_ghash.proofs.Multiples.{length-times_x}
 use Rattle.mbj_ghash.proofs.Numbers.{block-element, IsBlock-in_register}

@@ -1,7 +1,6 @@
 -- Sums of elements, the terms of which count by powers of x^8.
 use Rattle.std.proofs.Common.{◌≡◌, ℕ, zero, suc, ◌+◌, ◌*◌, ◌<◌, ◌≤◌, Bool, List, length, refl, sym, ap, ap₂, ◌∙◌, arith}
-use Rattle.mbj_types.specs.Field.{add, zeros}
-use Rattle.mbj_ghash.specs.Inside.{times_x, times_power, weighted}
+use Rattle.mbj_types.specs.Field.{add, zeros, times_x, times_power, weighted}
 use Rattle.mbj_ghash.proofs.Sums.{add_assoc, add_swap, add_zeros, length-add}
 use Rattle.mbj_ghash.proofs.Multiples.{times_power-add}
 use Rattle.mbj_ghash.proofs.Folding.{times_power-plus}

@@ -1,10 +1,10 @@
 //! What passes x^127 in a product, folded back.
 ghost use Rattle.std.specs.Prelude.{◌≡◌, ℕ};
-ghost use Rattle.mbj_types.specs.Field.{add};
+ghost use Rattle.mbj_types.specs.Field.{add, times_power};
 ghost use Rattle.mbj_types.specs.Ghash.{element};
 ghost use Rattle.mbj_types.specs.Lanes.{lane_at};
 ghost use Rattle.mbj_aes.specs.BlockWords.{block_byte, block_at};
-ghost use Rattle.mbj_ghash.specs.Inside.{times_power, IsBlock};
+ghost use Rattle.mbj_aes.specs.Bytes.{IsBlock};
 
 use crate::tables::{FOLD_HIGH, FOLD_LOW, FOLD_NEXT_HIGH, FOLD_NEXT_LOW};
 use mbj_aes::BlockWord;

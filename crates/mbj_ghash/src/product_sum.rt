@@ -1,10 +1,11 @@
 //! Sums of products of blocks with elements, not yet reduced.
 ghost use Rattle.std.specs.Prelude.{◌≡◌, ℕ, ◌<◌, ◌≤◌, List};
-ghost use Rattle.mbj_types.specs.Field.{add, zeros, product};
+ghost use Rattle.mbj_types.specs.Field.{add, zeros, product, times_power, weighted};
 ghost use Rattle.mbj_types.specs.Ghash.{element};
 ghost use Rattle.mbj_types.specs.Lanes.{lane_at};
 ghost use Rattle.mbj_aes.specs.BlockWords.{block_byte, block_at};
-ghost use Rattle.mbj_ghash.specs.Inside.{times_power, AreRowsOf, IsBlock, register, weighted, sum_of};
+ghost use Rattle.mbj_ghash.specs.Inside.{AreRowsOf, register, sum_of};
+ghost use Rattle.mbj_aes.specs.Bytes.{IsBlock};
 
 use crate::fold::folded;
 use crate::rows::{Register, Rows};

@@ -2,7 +2,8 @@
 ghost use Rattle.std.specs.Prelude.{◌≡◌, ℕ, ◌+◌, ◌*◌, ◌/◌, ◌%◌, ◌<◌, ◌≤◌, List, Bool, bit_xor};
 ghost use Rattle.mbj_types.specs.Lanes.{lane_at};
 ghost use Rattle.mbj_aes.specs.BlockWords.{block_byte};
-ghost use Rattle.mbj_ghash.specs.Inside.{times_x, times_power, IsInBoth, AreRows, AreRowsOf};
+ghost use Rattle.mbj_types.specs.Field.{times_x, times_power};
+ghost use Rattle.mbj_ghash.specs.Inside.{IsInBoth, AreRows, AreRowsOf};
 
 use crate::tables::{BEFORE, CARRIED, HIGH_PAIR, LAST_TWO, LOW_PAIR, ODD};
 use mbj_aes::BlockWord;

@@ -1,11 +1,10 @@
 -- What passes x^127 is folded back byte by byte.
 use Rattle.std.proofs.Common.{◌≡◌, ℕ, ◌+◌, ◌*◌, ◌<◌, bit_xor, ap, ap₂, ◌∙◌, sym, arith}
-use Rattle.mbj_types.specs.Field.{add}
+use Rattle.mbj_types.specs.Field.{add, times_power}
 use Rattle.mbj_types.specs.Ghash.{element}
 use Rattle.mbj_types.specs.Lanes.{lane_at, lane_at-lt}
 use Rattle.mbj_aes.specs.BlockWords.{block_byte}
 use Rattle.mbj_aes.specs.Moves.{moved_up}
-use Rattle.mbj_ghash.specs.Inside.{times_power}
 use Rattle.mbj_ghash.proofs.Sums.{add_assoc}
 use Rattle.mbj_ghash.proofs.Numbers.{IsBlock-in_register}
 use Rattle.mbj_ghash.proofs.ByteSums.{bytes, element-at, bytes-same, bytes-xor, moved-same, bytes_folded, first, next}

@@ -4,7 +4,8 @@ use Rattle.std.specs.Int.{w128, from_be_bytes}
 use Rattle.mbj_types.specs.Lanes.{lane_at, lane_at-lt}
 use Rattle.mbj_aes.specs.BlockWords.{block_byte, block_at}
 use Rattle.mbj_ghash.specs.declared.rows.Register.{Register}
-use Rattle.mbj_ghash.specs.Inside.{times_power, register}
+use Rattle.mbj_types.specs.Field.{times_power}
+use Rattle.mbj_ghash.specs.Inside.{register}
 use Rattle.mbj_ghash.proofs.Elements.{length-bits}
 use Rattle.mbj_ghash.proofs.ByteSums.{element-with, bytes-same}
 use Rattle.mbj_ghash.proofs.TableEntries.{each_of_eight, row_entry, taken_sum, both_bytes, multiple-bytes}

@@ -6,7 +6,7 @@ use Rattle.mbj_types.proofs.Vectors.{replicate_at}
 use Rattle.mbj_aes.specs.BlockWords.{block_byte}
 use Rattle.mbj_aes.specs.Moves.{moved_up, moved_out}
 use Rattle.mbj_ghash.specs.declared.tables.TheConstants.{BEFORE}
-use Rattle.mbj_ghash.specs.Inside.{times_x}
+use Rattle.mbj_types.specs.Field.{times_x}
 use Rattle.mbj_ghash.proofs.ByteSums.{element-at, bytes-same, bytes_halved, first, lowest}
 use Rattle.mbj_ghash.proofs.TableEntries.{all_or_none, before-lt, carried_byte}
 use Rattle.mbj_ghash.proofs.rows.times_x.Goals as goal

@@ -1,7 +1,7 @@
 -- Each power is the one before it times the subkey.
 use Rattle.std.proofs.Common.{◌≡◌, ap, ◌∙◌, subst, List, ℕ}
-use Rattle.mbj_types.specs.Ghash.{block_product}
-use Rattle.mbj_ghash.specs.Inside.{square, cube, AreRowsOf}
+use Rattle.mbj_types.specs.Ghash.{block_product, square, cube}
+use Rattle.mbj_ghash.specs.Inside.{AreRowsOf}
 use Rattle.mbj_ghash.proofs.horner.Powers.new.Goals as goal
 
 pub returns : goal.returns

@@ -1,13 +1,13 @@
 -- One place more is moved and added.
 use Rattle.std.proofs.Common.{◌≡◌, ℕ, suc, ◌+◌, ◌*◌, ◌≤◌, List, Bool, bit_xor, ap, ap₂, ◌∙◌, sym, arith}
 use Rattle.std.proofs.lemmas.Bool.Decides.{nat_tests}
-use Rattle.mbj_types.specs.Field.{add, zeros}
+use Rattle.mbj_types.specs.Field.{add, zeros, times_power, weighted}
 use Rattle.mbj_types.specs.Ghash.{element}
 use Rattle.mbj_types.specs.Lanes.{lane_at}
 use Rattle.mbj_types.proofs.Vectors.{replicate_at}
 use Rattle.mbj_aes.specs.BlockWords.{block_byte, block_at}
 use Rattle.mbj_aes.specs.Moves.{moved_up, moved_out}
-use Rattle.mbj_ghash.specs.Inside.{times_power, register, weighted}
+use Rattle.mbj_ghash.specs.Inside.{register}
 use Rattle.mbj_ghash.proofs.Sums.{add_swap}
 use Rattle.mbj_ghash.proofs.Multiples.{times_power-add}
 use Rattle.mbj_ghash.proofs.WeightedSums.{power-zeros}

@@ -1,10 +1,10 @@
 -- The places before the next one are moved and added.
 use Rattle.std.proofs.Common.{◌≡◌, ℕ, ◌<◌, ◌≤◌}
-use Rattle.mbj_types.specs.Field.{add}
+use Rattle.mbj_types.specs.Field.{add, times_power, weighted}
 use Rattle.mbj_types.specs.Ghash.{element}
 use Rattle.mbj_types.specs.Lanes.{lane_at}
 use Rattle.mbj_aes.specs.BlockWords.{block_byte, block_at}
-use Rattle.mbj_ghash.specs.Inside.{times_power, register, weighted}
+use Rattle.mbj_ghash.specs.Inside.{register}
 use Rattle.mbj_ghash.proofs.product_sum.Sum.moved.Given as goal
 
 abbrev pub invariant-loop-d : goal.invariant-loop-d

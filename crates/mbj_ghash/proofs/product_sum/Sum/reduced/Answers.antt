@@ -1,12 +1,12 @@
 -- The halves are added, and what passes x^127 is folded back.
 use Rattle.std.proofs.Common.{◌≡◌, ℕ, ◌+◌, ◌-◌, ◌/◌, ◌%◌, Bool, List, bit_xor, ap, ap₂, ◌∙◌, sym, arith}
-use Rattle.mbj_types.specs.Field.{add}
+use Rattle.mbj_types.specs.Field.{add, times_power, weighted}
 use Rattle.mbj_types.specs.Ghash.{element}
 use Rattle.mbj_types.specs.Lanes.{lane_at}
 use Rattle.mbj_aes.specs.BlockWords.{block_byte, block_at}
 use Rattle.mbj_aes.specs.Moves.{moved_up, moved_out}
 use Rattle.mbj_ghash.specs.declared.rows.Register.{Register}
-use Rattle.mbj_ghash.specs.Inside.{times_power, register, weighted}
+use Rattle.mbj_ghash.specs.Inside.{register}
 use Rattle.mbj_ghash.proofs.Sums.{add_assoc, add_swap}
 use Rattle.mbj_ghash.proofs.Multiples.{times_power-add}
 use Rattle.mbj_ghash.proofs.WeightedSums.{weighted-same, weighted-split, power-swap}

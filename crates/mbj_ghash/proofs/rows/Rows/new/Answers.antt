@@ -4,7 +4,8 @@ use Rattle.mbj_types.specs.Ghash.{element}
 use Rattle.mbj_types.specs.Lanes.{lane_at}
 use Rattle.mbj_aes.specs.BlockWords.{block_byte}
 use Rattle.mbj_aes.proofs.BlockWords.{block_with-each}
-use Rattle.mbj_ghash.specs.Inside.{times_power, IsInBoth}
+use Rattle.mbj_types.specs.Field.{times_power}
+use Rattle.mbj_ghash.specs.Inside.{IsInBoth}
 use Rattle.mbj_ghash.proofs.rows.Rows.new.Goals as goal
 
 pub returns : goal.returns
