@@ -106,7 +106,3 @@ IsBytes-inv_sub_bytes s = All-map (λ x. x < 256) inv_sub_byte s (λ k d below. 
 -- SUBBYTES of a block
 pub IsBlock-sub_bytes : (s : List ℕ) → IsBlock s → IsBlock (sub_bytes s)
 IsBlock-sub_bytes s h = record { size = length-map s sub_byte ∙ h.size; bytes = IsBytes-sub_bytes s }
-
--- INVSUBBYTES of a block
-pub IsBlock-inv_sub_bytes : (s : List ℕ) → IsBlock s → IsBlock (inv_sub_bytes s)
-IsBlock-inv_sub_bytes s h = record { size = length-map s inv_sub_byte ∙ h.size; bytes = IsBytes-inv_sub_bytes s }

@@ -3,7 +3,7 @@ use Rattle.std.proofs.Common.{◌≡◌, ℕ, ◌+◌, ◌<◌, List, [], ◌∷
 use Rattle.std.proofs.lemmas.List.Elements.{All-cons, All-nil, All-append}
 use Rattle.mbj_types.specs.Aes.{mixed_byte, inv_mixed_byte, mix_columns, inv_mix_columns}
 use Rattle.mbj_aes.specs.Bytes.{IsBytes, IsBlock}
-use Rattle.mbj_aes.proofs.Circulants.{IsColumn, turned, after, mixed_byte_small, inv_mixed_byte_small, unmixed_byte, remixed_byte, spread_byte, mixed_after_spread}
+use Rattle.mbj_aes.proofs.Circulants.{IsColumn, turned, after, mixed_byte_small, inv_mixed_byte_small, unmixed_byte, remixed_byte}
 use Rattle.mbj_aes.proofs.States.{picked-all}
 
 -- ---- columns changed alike
@@ -63,10 +63,6 @@ unmixed_columns s h =
 pub remixed_columns : (s : List ℕ) → IsBlock s → mix_columns (inv_mix_columns s) ≡ s
 remixed_columns s h =
     columns-same (after mixed_byte inv_mixed_byte) (λ a b c d. a) remixed_byte s h ∙ picked-all s h.size
-
--- INVMIXCOLUMNS as the code makes it
-pub mix_columns-spread : (s : List ℕ) → IsBlock s → mix_columns (columns spread_byte s) ≡ inv_mix_columns s
-mix_columns-spread s h = columns-same (after mixed_byte spread_byte) inv_mixed_byte mixed_after_spread s h
 
 -- ---- blocks stay blocks
 

@@ -11,9 +11,15 @@ use Rattle.mbj_aes.specs.Bytes.{IsBytes, IsBlock}
 pub IsBytes-told : (xs : List ℕ) → ((i : ℕ) → slice_index xs i < 256) → IsBytes xs
 IsBytes-told xs h = All-from_get_or (λ x. x < 256) xs 0 (λ i below. h i)
 
--- what is told of an array of 16 bytes
-pub IsBlock-told : (s : List ℕ) → length s ≡ 16 → ((i : ℕ) → slice_index s i < 256) → IsBlock s
-IsBlock-told s size h = record { size = size; bytes = IsBytes-told s h }
+-- 16 bytes by their places, and back
+pub IsBlock-told : (s : List ℕ) → length s ≡ 16 → ((i : ℕ) → i < 16 → slice_index s i < 256) → IsBlock s
+IsBlock-told s size h =
+    record { size = size; bytes = All-from_get_or (λ x. x < 256) s 0 (λ i below. h i (omega (arith, size))) }
+
+pub IsBlock-byte : (s : List ℕ) → IsBlock s → (i : ℕ) → i < 16 → slice_index s i < 256
+IsBlock-byte s b i h =
+    let size : length s ≡ 16 = b.size in
+    b.bytes i 0 (omega arith)
 
 -- ---- bytes by their places
 

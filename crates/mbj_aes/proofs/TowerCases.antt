@@ -52,10 +52,6 @@ pub from_tower-to_tower : (x : ℕ) → x < 256 → from_tower (by_halves TO_TOW
 unfolding from_tower
 from_tower-to_tower x h = same_at_each (λ x. from_tower (by_halves TO_TOWER_LOW TO_TOWER_HIGH x)) (λ x. x) 256 x refl h
 
-pub to_tower-lt : (x : ℕ) → x < 256 → by_halves TO_TOWER_LOW TO_TOWER_HIGH x < 256
-to_tower-lt x h =
-    ltb-true (by_halves TO_TOWER_LOW TO_TOWER_HIGH x) 256 (at_each (λ x. nat_lt (by_halves TO_TOWER_LOW TO_TOWER_HIGH x) 256) 256 x refl h)
-
 pub same_pairs : (f g : ℕ → ℕ → ℕ) (n x y : ℕ) → each_below (λ x. each_below (λ y. f x y == g x y) n) n ≡ true → x < n → y < n → f x y ≡ g x y
 same_pairs f g n x y e h k = same_at_each (f x) (g x) n y (at_each (λ x. each_below (λ y. f x y == g x y) n) n x e h) k
 

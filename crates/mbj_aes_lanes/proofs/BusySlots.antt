@@ -1,12 +1,13 @@
--- The slots of busy lanes are changed one after another.
-use Rattle.std.proofs.Common.{◌≡◌, ◌≢◌, ℕ, ◌+◌, ◌<◌, ◌≤◌, List, length, slice_index, slice_set, get_or, Option, Some, None, inl, inr, refl, sym, ap, ◌∙◌, arith, get_or-set_same, get_or-set_other, length-set}
+-- Entries in lanes are changed one after another.
+use Rattle.std.proofs.Common.{◌≡◌, ◌≢◌, ℕ, ◌+◌, ◌<◌, ◌≤◌, List, length, slice_index, slice_set, Option, Some, None, inl, inr, refl, sym, subst, ap, ◌∙◌, arith, get_or-set_same, get_or-set_other, length-set}
 use Rattle.std.proofs.lemmas.Bool.{cases_eq, cases_lt}
 use Rattle.mbj_types.specs.declared.kind.TheConstants.{AES_LANES}
-use Rattle.mbj_aes_lanes.specs.Inside.Busy.{AreRising, AreBusy, AreGiven, busy_slot}
+use Rattle.mbj_lane.specs.Slots.{IsWritten}
+use Rattle.mbj_aes_lanes.specs.Inside.Busy.{AreRising, AreBusy, AreGiven, in_own_lane}
 
 -- no lane is there twice
-pub other_lane : (lanes : List ℕ) (n p q : ℕ) → AreRising lanes n → p < n → q < n → p ≢ q → slice_index lanes p ≢ slice_index lanes q
-other_lane lanes n p q order h k ne same =
+other_lane : (lane : ℕ → ℕ) (n p q : ℕ) → AreRising lane n → p < n → q < n → p ≢ q → lane p ≢ lane q
+other_lane lane n p q order h k ne same =
     elim (cases_lt p q) [
       | inl below ↦ absurd (omega (arith, order.rising p q below k, same))
       | inr not_below ↦
@@ -17,63 +18,60 @@ other_lane lanes n p q order h k ne same =
     ne_below : (p q : ℕ) → p ≢ q → q ≤ p → q < p
     ne_below p q ne le = elim (cases_eq p q) [ inl e ↦ absurd (ne e) | inr other ↦ omega arith ]
 
-module _ {E : Type 0} (change : ℕ → Option E → Option E) (lanes : List ℕ) (n : ℕ) (order : AreRising lanes n) where
+-- all lanes in their order
+pub own_lanes : AreRising in_own_lane AES_LANES
+own_lanes = record { most = omega arith; inside = λ p h. h; rising = λ p q lt h. lt }
+
+module _ {E : Type 0} (change : ℕ → Option E → Option E) (lane : ℕ → ℕ) (n : ℕ) (order : AreRising lane n) where
   -- none of them
-  pub given-none : (es : List (Option E)) → AreGiven change lanes n 0 es es
+  pub given-none : (es : ℕ → Option E) → AreGiven change lane n 0 es es
   given-none es = record {
-    size = refl;
     given = λ p h. absurd (omega arith);
     left = λ p h k. refl;
-    idle = λ i none. none;
+    idle = λ i h none. none;
   }
 
   -- one more
-  pub given-more : (done : ℕ) (old now : List (Option E)) (value : Option E) → done < n
-      → ((p : ℕ) → p < n → slice_index lanes p < length old)
-      → change done None ≡ None → value ≡ change done (busy_slot now lanes done)
-      → AreGiven change lanes n done old now → AreGiven change lanes n (done + 1) old (slice_set now (slice_index lanes done) value)
-  given-more done old now value h inside none is before =
-      let here : ℕ = slice_index lanes done in
-      let none_here : Option E = None in
-      let within : here < length now = omega (arith, inside done h, before.size) in
-      let same : get_or (slice_set now here value) here none_here ≡ value = get_or-set_same now here value none_here within in record {
-        size = length-set now here value ∙ before.size;
-        given = λ p lt. elim (cases_eq p done) [
-          | inl last ↦ rw last (same ∙ is ∙ ap (change done) (before.left done (omega arith) h))
-          | inr ne ↦
-              let earlier : p < done = omega arith in
-              let inside : p < n = omega arith in
-              get_or-set_other now here (slice_index lanes p) value none_here (other_lane lanes n p done order inside h ne) ∙ before.given p earlier
-        ];
-        left = λ p le lt.
-            let ne : p ≢ done = λ e. absurd (omega (arith, e)) in
-            get_or-set_other now here (slice_index lanes p) value none_here (other_lane lanes n p done order lt h ne) ∙ before.left p (omega arith) lt;
-        idle = λ i was. elim (cases_eq i here) [
-          | inl at ↦ rw at (same ∙ is ∙ ap (change done) (ap (λ (k : ℕ). get_or now k none_here) (sym at) ∙ before.idle i was) ∙ none)
-          | inr ne ↦ get_or-set_other now here i value none_here ne ∙ before.idle i was
-        ];
-      }
+  pub given-more : (done : ℕ) (old now next : ℕ → Option E) → done < n → change done None ≡ None
+      → IsWritten AES_LANES (lane done) (change done (now (lane done))) now next
+      → AreGiven change lane n done old now → AreGiven change lane n (done + 1) old next
+  given-more done old now next h none put before = record {
+    given = λ p lt. elim (cases_eq p done) [
+      | inl last ↦ rw last (put.here ∙ ap (change done) (before.left done (omega arith) h))
+      | inr ne ↦
+          let earlier : p < done = omega arith in
+          let within : p < n = omega arith in
+          put.others (lane p) (order.inside p within) (other_lane lane n p done order within h ne) ∙ before.given p earlier
+    ];
+    left = λ p le lt.
+        let ne : p ≢ done = λ e. absurd (omega (arith, e)) in
+        put.others (lane p) (order.inside p lt) (other_lane lane n p done order lt h ne) ∙ before.left p (omega arith) lt;
+    idle = λ i lt was. elim (cases_eq i (lane done)) [
+      | inl at ↦ rw at (put.here ∙ ap (change done) (ap now (sym at) ∙ before.idle i lt was) ∙ none)
+      | inr ne ↦ put.others i lt ne ∙ before.idle i lt was
+    ];
+  }
 
 -- ---- the busy lanes are listed
 
--- the first n of the numbers are the lanes of the entries before slot i
-pub record AreListed {E : Type 0} (es : List (Option E)) (i : ℕ) (lanes : List ℕ) (n : ℕ) : Type 0 where
+-- the first n of the numbers are the lanes of the entries before lane i
+pub record AreListed {E : Type 0} (es : ℕ → Option E) (i : ℕ) (lanes : List ℕ) (n : ℕ) : Type 0 where
   pub size : length lanes ≡ AES_LANES
   pub most : n ≤ i
   pub inside : (p : ℕ) → p < n → slice_index lanes p < i
   pub rising : (p q : ℕ) → p < q → q < n → slice_index lanes p < slice_index lanes q
-  pub all : (k : ℕ) (e : E) → k < i → get_or es k None ≡ Some e → (p : ℕ) × (p < n) × (slice_index lanes p ≡ k)
+  pub all : (k : ℕ) (e : E) → k < i → es k ≡ Some e → (p : ℕ) × (p < n) × (slice_index lanes p ≡ k)
 
-module _ {E : Type 0} (es : List (Option E)) (i : ℕ) (lanes : List ℕ) (n : ℕ) (before : AreListed es i lanes n) where
-  -- slot i is idle
-  pub listed-idle : get_or es i None ≡ None → AreListed es (i + 1) lanes n
+module _ {E : Type 0} (es : ℕ → Option E) (i : ℕ) (lanes : List ℕ) (n : ℕ) (before : AreListed es i lanes n) where
+  -- lane i is idle
+  pub listed-idle : es i ≡ None → AreListed es (i + 1) lanes n
   listed-idle idle = record {
     size = before.size;
     most = omega (arith, before.most);
     inside = λ p h. omega (arith, before.inside p h);
     rising = before.rising;
     all = λ k e h is. elim (cases_eq k i) [
-      | inl same ↦ absurd (none_is_none (sym idle ∙ ap (λ (j : ℕ). get_or es j None) (sym same) ∙ is))
+      | inl same ↦ absurd (none_is_none (sym idle ∙ ap es (sym same) ∙ is))
       | inr ne ↦ before.all k e (omega arith) is
     ];
   }
@@ -112,18 +110,16 @@ module _ {E : Type 0} (es : List (Option E)) (i : ℕ) (lanes : List ℕ) (n : �
         ];
       }
 
--- all slots were looked at
-pub listed-end : {E : Type 0} (es : List (Option E)) (lanes : List ℕ) (n : ℕ) → AreListed es AES_LANES lanes n → AreBusy es lanes n
+-- all lanes were looked at
+pub listed-end : {E : Type 0} (es : ℕ → Option E) (lanes : List ℕ) (n : ℕ) → AreListed es AES_LANES lanes n → AreBusy es (slice_index lanes) n
 listed-end es lanes n all = record { in_order = record { most = all.most; inside = all.inside; rising = all.rising }; all = all.all }
 
--- what holds of the slots of all busy lanes, and of idle ones, holds of each slot
-pub each_slot : {E : Type 0} (f : Option E → Option E) (lanes : List ℕ) (n : ℕ) (old now : List (Option E)) → AreBusy old lanes n → f None ≡ None
-    → ((i : ℕ) → get_or old i None ≡ None → get_or now i None ≡ None) → ((p : ℕ) → p < n → busy_slot now lanes p ≡ f (busy_slot old lanes p))
-    → (i : ℕ) → i < AES_LANES → get_or now i None ≡ f (get_or old i None)
-each_slot {E} f lanes n old now busy none idle each i h = by_slot (get_or old i None) refl
+-- what holds of all busy lanes, and of idle ones, holds of each lane
+pub each_lane : {E : Type 0} (f : Option E → Option E) (lane : ℕ → ℕ) (n : ℕ) (old now : ℕ → Option E) → AreBusy old lane n → f None ≡ None
+    → ((i : ℕ) → i < AES_LANES → old i ≡ None → now i ≡ None) → ((p : ℕ) → p < n → now (lane p) ≡ f (old (lane p)))
+    → (i : ℕ) → i < AES_LANES → now i ≡ f (old i)
+each_lane {E} f lane n old now busy none idle each i h = by_entry (old i) refl
   where
-    by_slot : (o : Option E) → get_or old i None ≡ o → get_or now i None ≡ f (get_or old i None)
-    by_slot None is = idle i is ∙ sym none ∙ ap f (sym is)
-    by_slot (Some x) is =
-        let found = busy.all i x h is in
-        ap (λ (k : ℕ). get_or now k None) (sym found.2) ∙ each found.0 found.1 ∙ ap (λ (k : ℕ). f (get_or old k None)) found.2
+    by_entry : (o : Option E) → old i ≡ o → now i ≡ f (old i)
+    by_entry None is = idle i h is ∙ sym none ∙ ap f (sym is)
+    by_entry (Some x) is = let found = busy.all i x h is in subst (λ (k : ℕ). now k ≡ f (old k)) found.2 (each found.0 found.1)

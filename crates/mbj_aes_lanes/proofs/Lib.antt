@@ -1,10 +1,7 @@
 pub mod ByteMatrices
 pub mod ChainedEnds
 pub mod Chains
-pub mod EachPlace
 pub mod FullLanes
-pub mod KeySizes
-pub mod LaneWords
 pub mod SlotFacts
 pub mod TowerWords
 mod WideColumns
@@ -23,6 +20,4 @@ pub mod LaidSchedules
 pub mod EachRegister
 pub mod CipherRounds
 pub mod ListParts
-pub mod FewSchedules
 pub mod KeyStreams
-pub mod Blends

@@ -51,13 +51,6 @@ held_lanes-all rounds keys w each =
     ∙ ap Some (sym (each i h))
     ∙ sym (held_lane-put rounds keys (replicate AES_LANES true) i (get_or-replicate AES_LANES i true false h))))
 
--- each lane was put
-pub held_lanes-each : (rounds : ℕ) (keys : List (State (List ℕ))) (i : ℕ) → i < AES_LANES
-    → get_or (held_lanes rounds keys (replicate AES_LANES true)) i no_schedule ≡ Some (schedule_in (lane_at 8) rounds (take (rounds + 1) keys) i)
-held_lanes-each rounds keys i h =
-    held_lanes-at rounds keys (replicate AES_LANES true) i h
-    ∙ held_lane-put rounds keys (replicate AES_LANES true) i (get_or-replicate AES_LANES i true false h)
-
 -- one lane more was put
 pub held_lanes-put : (rounds : ℕ) (old now : List (State (List ℕ))) (put : List Bool) (lane : ℕ) (w : List ℕ) → length put ≡ AES_LANES
     → lane < AES_LANES → schedule_in (lane_at 8) rounds (take (rounds + 1) now) lane ≡ w

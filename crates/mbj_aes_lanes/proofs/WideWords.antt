@@ -1,7 +1,7 @@
 -- The words of schedules in lanes, read and written.
-use Rattle.std.proofs.Common.{◌≡◌, ℕ, zero, suc, ◌+◌, ◌-◌, ◌*◌, ◌/◌, ◌<◌, ◌≤◌, List, [], ◌∷◌, ◌++◌, length, map, take, drop, replicate, slice_index, slice_set, refl, sym, ap, ap₂, ◌∙◌, arith, append_assoc, length-drop}
+use Rattle.std.proofs.Common.{◌≡◌, ℕ, ◌+◌, ◌-◌, ◌*◌, ◌/◌, ◌<◌, ◌≤◌, List, [], ◌∷◌, ◌++◌, length, map, take, drop, slice_index, slice_set, refl, sym, ap, ap₂, ◌∙◌, arith, append_assoc, length-drop}
 use borrow.Rule.Slice.PartMut.{put_mid}
-use Rattle.std.proofs.lemmas.List.{get_or-drop, get_or-take, length-take-le, map-append, take-map, drop-map, drop-drop, drop-take, take-take, take_at, take_all, take-append-drop, drop-replicate, replicate-append-replicate}
+use Rattle.std.proofs.lemmas.List.{get_or-drop, get_or-take, length-take-le, map-append, take-map, drop-map, drop-drop, drop-take, take-take, take_at, take_all, take-append-drop, take-append-le}
 use Rattle.std.proofs.lemmas.List.Elements.{All-take}
 use Rattle.std.proofs.Math.Seq.{take-add, drop-append-add}
 use Rattle.mbj_types.specs.Aes.{word, schedule, key_schedule, round_key}
@@ -119,44 +119,25 @@ module _ {V : Type 0} (lane : V → ℕ → ℕ) where
       ∙ ap₂ (λ xs ys. xs ++ ys) is (ap (map f) (drop-drop 16 at words) ∙ sym (drop-map f (at + 16) words)))
       ∙ sym (append_assoc (take at (lane_of lane words k)) b (drop (at + 16) (lane_of lane words k)))
 
--- both halves of a key over zeros
-pub both-halves : (b ys first : List ℕ) (zeros : ℕ) → length b ≡ 32 → ys ≡ replicate (zeros + 32) 0
-    → first ≡ take 0 ys ++ take 16 (drop 0 b) ++ drop 16 ys
-    → take 16 first ++ take 16 (drop 16 b) ++ drop 32 first ≡ b ++ replicate zeros 0
-both-halves b ys first zeros size e made =
+-- both halves of a key over the first 32 bytes
+pub both-halves : (b ys first : List ℕ) → length b ≡ 32 → first ≡ take 0 ys ++ take 16 (drop 0 b) ++ drop 16 ys
+    → take 16 first ++ take 16 (drop 16 b) ++ drop 32 first ≡ b ++ drop 32 ys
+both-halves b ys first size made =
     let low : List ℕ = take 16 b in
     let rest : List ℕ = drop 16 ys in
-    let zero : ℕ = 0 in
     let short : length low ≡ 16 = length-take-le 16 b (omega arith) in
     let behind : 32 ≡ length low + 16 = omega arith in
-    let left : zeros + 32 - 16 - 16 ≡ zeros = omega arith in
-    let tail : drop 16 rest ≡ replicate zeros zero =
-    ap (drop 16) (ap (drop 16) e ∙ drop-replicate 16 (zeros + 32) zero) ∙ drop-replicate 16 (zeros + 32 - 16) zero
-    ∙ ap (λ (n : ℕ). replicate n zero) left in
     rw made
-    (ap₂ (λ xs ys. xs ++ take 16 (drop 16 b) ++ ys) (take_at low rest 16 short)
-    (ap (λ (n : ℕ). drop n (low ++ rest)) behind ∙ drop-append-add low rest 16 ∙ tail)
-    ∙ ap (λ xs. xs ++ replicate zeros zero)
+    (ap₂ (λ xs zs. xs ++ take 16 (drop 16 b) ++ zs) (take_at low rest 16 short)
+    (ap (λ (n : ℕ). drop n (low ++ rest)) behind ∙ drop-append-add low rest 16 ∙ drop-drop 16 16 ys)
+    ∙ ap (λ xs. xs ++ drop 32 ys)
     (ap (λ xs. low ++ xs) (take_all 16 (drop 16 b) (omega (arith, length-drop 16 b))) ∙ take-append-drop 16 b))
 
--- the words of a key in an array, and zeros
-pub IsLaneKey-array : (nk : ℕ) (b ys : List ℕ) → nk ≤ 8 → length b ≡ 32 → IsBytes b
-    → b ≡ take (4 * nk) b ++ replicate (32 - 4 * nk) 0 → ys ≡ b ++ replicate 208 0 → IsLaneKey nk (take (4 * nk) b) ys
-IsLaneKey-array nk b ys few size bytes zeros made =
-    let key : List ℕ = take (4 * nk) b in
-    let zero : ℕ = 0 in
-    let count : 32 - 4 * nk + 208 ≡ 240 - 4 * nk = omega arith in
+-- the words of a key in an array, before others
+pub IsLaneKey-array : (nk : ℕ) (b rest ys : List ℕ) → nk ≤ 8 → length b ≡ 32 → IsBytes b → ys ≡ b ++ rest → IsLaneKey nk (take (4 * nk) b) ys
+IsLaneKey-array nk b rest ys few size bytes made =
     record {
       size = length-take-le (4 * nk) b (omega arith);
       bytes = All-take (λ x. x < 256) (4 * nk) b bytes;
-      zeros =
-          made
-          ∙ ap (λ xs. xs ++ replicate 208 zero) zeros
-          ∙ append_assoc key (replicate (32 - 4 * nk) zero) (replicate 208 zero)
-          ∙ ap (λ xs. key ++ xs) (replicate-append-replicate (32 - 4 * nk) 208 zero ∙ ap (λ (n : ℕ). replicate n zero) count);
+      first = ap (take (4 * nk)) made ∙ take-append-le (4 * nk) b rest (omega arith);
     }
-
--- what is read of each of some copies
-pub map-copies : {V : Type 0} (f : V → ℕ) (n : ℕ) (v : V) → map f (replicate n v) ≡ replicate n (f v)
-map-copies f zero v = refl
-map-copies f (suc n) v = ap (λ xs. f v ∷ xs) (map-copies f n v)

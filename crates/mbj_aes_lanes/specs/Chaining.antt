@@ -1,11 +1,7 @@
 -- Blocks that are chained under a key of their own in each lane (SP 800-38A, 6.2).
-use Rattle.std.specs.Prelude.{ℕ, ◌-◌, min, List, [], length, map, slice_index_or}
+use Rattle.std.specs.Prelude.{ℕ, List}
 use Rattle.mbj_types.specs.Aes.{encipher}
 use Rattle.mbj_types.specs.Blocks.{xor_lists}
-
--- what lane i takes of a list; idle lanes take the last
-abbrev pub in_lane : List (List ℕ) → ℕ → List ℕ
-in_lane xs i = slice_index_or xs (min i (length xs - 1)) []
 
 module _ {E : Type 0} where
   -- the input block: the next block xored with the chaining value
@@ -15,11 +11,6 @@ module _ {E : Type 0} where
   -- the next chaining value
   abbrev pub next_chain : (E → List ℕ) → (E → List ℕ) → (E → List ℕ) → E → List ℕ
   next_chain key block chain e = encipher (key e) (input_of block chain e)
-
-  -- the next chaining value in lane i
-  abbrev pub next_in_lane : (E → List ℕ) → (E → List ℕ) → (E → List ℕ) → List E → ℕ → List ℕ
-  next_in_lane key block chain es i =
-      encipher (in_lane (map key es) i) (xor_lists (in_lane (map block es) i) (in_lane (map chain es) i))
 
   -- the next block is chained: `led` says what an entry is once its next block gave a chaining value, and `kept` what it is with
   -- that one

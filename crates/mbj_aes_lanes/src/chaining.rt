@@ -1,4 +1,4 @@
-ghost use Rattle.std.specs.Prelude.{◌≡◌, ℕ, ◌-◌, ◌<◌, ◌≤◌, List, min};
+ghost use Rattle.std.specs.Prelude.{◌≡◌, ℕ, ◌-◌, ◌≤◌, List};
 ghost use Rattle.mbj_types.specs.Aes.{encipher, key_schedule};
 ghost use Rattle.mbj_types.specs.Blocks.{zero_block};
 ghost use Rattle.mbj_aes.specs.Bytes.{IsRoundCount};
@@ -93,14 +93,4 @@ pub trait Chaining: Drop {
 
     /// One block fewer is left.
     ghost falls: { (e : Self) (chain : List ℕ) → rest_of (led e chain) ≡ rest_of e - 1 };
-}
-
-/// The place of the entry that a lane takes; idle lanes take the last one.
-#[inline(always)]
-pub(crate) fn place_of(lane: usize, many: usize) -> usize
-    requires { 0 < many }
-    ensures value { result ≡ min lane (many - 1) }
-    ensures within { result < many }
-{
-    if lane < many { lane } else { many - 1 }
 }

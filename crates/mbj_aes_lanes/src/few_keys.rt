@@ -1,5 +1,5 @@
 //! The round keys of few lanes, for blocks side by side in registers.
-ghost use Rattle.std.specs.Prelude.{◌≡◌, ◌≢◌, ℕ, ◌+◌, ◌*◌, ◌<◌, ◌≤◌, List, [], length, take, slice_index_or};
+ghost use Rattle.std.specs.Prelude.{◌≡◌, ◌≢◌, ℕ, ◌+◌, ◌*◌, ◌<◌, ◌≤◌, List, [], length, take, slice_index, slice_index_or};
 ghost use Rattle.mbj_types.specs.Aes.{encipher};
 ghost use Rattle.mbj_types.specs.declared.kind.TheConstants.{AES_LANES};
 ghost use Rattle.mbj_aes.specs.Bytes.{IsRoundCount};
@@ -15,6 +15,7 @@ use crate::key_bytes::schedule_of_bytes;
 use crate::narrow::cipher::encrypt_all;
 use crate::narrow::laid_keys::laid_keys;
 use crate::narrow::schedules::EachKeys;
+use crate::slot::Slot;
 use mbj_aes::{BlockWord, MAX_ROUND_KEYS};
 use mbj_types::{BLOCK_BYTES, Lane8};
 use std::simd::u8x32;
@@ -25,13 +26,16 @@ pub const FEW_LANES: usize = 8;
 // How many blocks a register has.
 const BLOCKS: usize = 2;
 
-// The laid out round keys of a slot's entry, and zeros for an idle slot.
+// The laid out round keys of a lane's entry, and zeros for an idle lane.
 #[inline(always)]
-fn keys_in_slot<E: Chaining>(slot: &Option<E>) -> [[u8; 16]; MAX_ROUND_KEYS]
+fn keys_in<E: Chaining, S: Slot<E>>(slots: &[S], lane: usize) -> [[u8; 16]; MAX_ROUND_KEYS]
+    requires lane { lane < AES_LANES }
+    requires lanes { S.least ≤ length slots.now }
+    requires most { length slots.now ≤ AES_LANES }
     ensures size { length result ≡ MAX_ROUND_KEYS }
-    ensures key { IsKeyOf E.key_of (laid_schedule E.key_rounds result) slot.now }
+    ensures key { IsKeyOf E.key_of (laid_schedule E.key_rounds result) (S.in_lane slots.now lane) }
 {
-    match slot {
+    match S::entry(slots, lane) {
         Some(entry) => laid_keys(&schedule_of_bytes(entry.key_bytes(), entry.rounds())),
         None => [[0; BLOCK_BYTES]; MAX_ROUND_KEYS],
     }
@@ -65,23 +69,23 @@ fn put_keys(
 
 /// The round keys of the entries in the busy lanes, whose keys have this many rounds: of each round a row with the key of each lane, laid
 /// out.
-pub fn keys_of_busy<E: Chaining>(
-    entries: &[Option<E>],
+pub fn keys_of_busy<E: Chaining, S: Slot<E>>(
+    slots: &[S],
     busy: &BusyLanes,
     rounds: usize,
 ) -> [[[u8; 16]; FEW_LANES]; MAX_ROUND_KEYS]
-    requires size { length entries.now ≡ AES_LANES }
-    requires lanes { AreRising busy.now.lanes busy.now.many }
+    requires lanes { S.least ≤ length slots.now }
+    requires most { length slots.now ≤ AES_LANES }
+    requires busy { AreRising (slice_index busy.now.lanes) busy.now.many }
     requires few { busy.now.many ≤ FEW_LANES }
     requires value { rounds ≡ E.key_rounds }
     requires rounds { IsRoundCount rounds }
     ensures size { length result ≡ MAX_ROUND_KEYS }
-    ensures keys { AreBusyKeys E.key_of entries.now busy.now.lanes busy.now.many (take (rounds + 1) result) }
+    ensures keys { AreBusyKeys E.key_of (S.in_lane slots.now) (slice_index busy.now.lanes) busy.now.many (take (rounds + 1) result) }
 {
     let mut rows = [[[0; BLOCK_BYTES]; FEW_LANES]; MAX_ROUND_KEYS];
     'busy: for p in 0..busy.many {
-        let lane = busy.lanes[p];
-        put_keys(&mut rows, p, &keys_in_slot(&entries[lane]));
+        put_keys(&mut rows, p, &keys_in::<E, S>(slots, busy.lanes[p]));
     }
     rows
 }

@@ -5,13 +5,13 @@
 mod block_row;
 mod blocks;
 mod chaining;
-mod entry_blocks;
 mod few_keys;
 mod few_lanes;
 mod key_bytes;
 mod lane_blocks;
 mod leading;
 mod narrow;
+mod slot;
 mod slot_keys;
 mod slot_rounds;
 mod slots;

@@ -1,5 +1,5 @@
-//! Rounds of the entries that stand in slots, each in the lane of its slot. A slot without an entry takes nothing from its lane.
-ghost use Rattle.std.specs.Prelude.{◌≡◌, ℕ, ◌-◌, ◌%◌, ◌<◌, ◌≤◌, [], Some, None, length, slice_index_or};
+//! Rounds of entries in all lanes at once, each under its own key. A lane without an entry takes zeros, and nothing is taken from it.
+ghost use Rattle.std.specs.Prelude.{◌≡◌, ℕ, ◌-◌, ◌%◌, ◌<◌, ◌≤◌, [], length, slice_index_or};
 ghost use Rattle.std.specs.Option.{option_map};
 ghost use Rattle.mbj_types.specs.Aes.{encipher};
 ghost use Rattle.mbj_types.specs.Blocks.{xor_lists, zero_block};
@@ -7,162 +7,166 @@ ghost use Rattle.mbj_types.specs.Lanes.{lane_at};
 ghost use Rattle.mbj_types.specs.declared.kind.TheConstants.{AES_LANES};
 ghost use Rattle.mbj_lane.specs.Rounds.{after};
 ghost use Rattle.mbj_aes_lanes.specs.Chaining.{chained_once};
+ghost use Rattle.mbj_aes_lanes.specs.Inside.Busy.{AreGiven, in_own_lane};
+ghost use Rattle.mbj_aes_lanes.specs.Inside.Slots.{of_slot, HaveRounds, AreKeyed};
 ghost use Rattle.mbj_aes_lanes.specs.Inside.Wide.{state_lane};
 ghost use Rattle.mbj_aes_lanes.specs.Inside.WideKeys.{schedule_in};
-ghost use Rattle.mbj_aes_lanes.specs.Inside.Slots.{of_slot, HasRounds, HaveRounds, AreKeyed, IsZeroOf};
 
 use crate::chaining::Chaining;
 use crate::lane_blocks::{Blocks, LaneBlocks};
-use crate::leading::{blocks_of, chain_lanes};
+use crate::slot::{Slot, block_in, chain_in, is_zero_wanted};
 use crate::wide::lane_schedules::RoundStates;
 use crate::wide::pass_word::PassWord;
 use crate::wide::rounds::encrypt;
-use crate::wide::state::State;
+use crate::wide::state::{State, add_round_key};
 use mbj_types::{AES_LANES, AesWord, BLOCK_BYTES};
+use std::marker::PhantomData;
 
-// The next block of each entry, and zeros in idle lanes.
+// The next block of each entry.
 #[derive(Drop)]
-struct SlotBlocks<'a, E: Chaining> {
-    entries: &'a [Option<E>],
-    ghost size: { length entries.now ≡ AES_LANES },
-    ghost rests: { HaveRounds E.rest_of 1 entries.now },
+struct NextBlocks<'a, E: Chaining, S: Slot<E>> {
+    slots: &'a [S],
+    of: PhantomData<E>,
+    ghost least: { S.least ≤ length slots.now },
+    ghost most: { length slots.now ≤ AES_LANES },
+    ghost rests: { HaveRounds E.rest_of 1 (S.in_lane slots.now) },
 }
 
-impl<E: Chaining> LaneBlocks for SlotBlocks<'_, E> {
+impl<E: Chaining, S: Slot<E>> LaneBlocks for NextBlocks<'_, E, S> {
     ghost lanes_of = { λ b. AES_LANES };
 
-    ghost block_in = { λ b i. of_slot E.block_of (slice_index_or b.entries.now i None) };
+    ghost block_in = { λ b i. of_slot E.block_of (S.in_lane b.slots.now i) };
 
     #[inline(always)]
     fn block(&self, lane: usize) -> [u8; 16] {
-        match &self.entries[lane] {
-            Some(entry) => entry.block(),
-            None => [0; BLOCK_BYTES],
-        }
+        block_in::<E, S>(self.slots, lane)
     }
 }
 
-// The chaining value of each entry, and zeros in idle lanes.
+// The chaining value of each entry.
 #[derive(Drop)]
-struct SlotChains<'a, E: Chaining> {
-    entries: &'a [Option<E>],
-    ghost size: { length entries.now ≡ AES_LANES },
+struct Chains<'a, E: Chaining, S: Slot<E>> {
+    slots: &'a [S],
+    of: PhantomData<E>,
+    ghost least: { S.least ≤ length slots.now },
+    ghost most: { length slots.now ≤ AES_LANES },
 }
 
-impl<E: Chaining> LaneBlocks for SlotChains<'_, E> {
+impl<E: Chaining, S: Slot<E>> LaneBlocks for Chains<'_, E, S> {
     ghost lanes_of = { λ b. AES_LANES };
 
-    ghost block_in = { λ b i. of_slot E.chain_of (slice_index_or b.entries.now i None) };
+    ghost block_in = { λ b i. of_slot E.chain_of (S.in_lane b.slots.now i) };
 
     #[inline(always)]
     fn block(&self, lane: usize) -> [u8; 16] {
-        match &self.entries[lane] {
-            Some(entry) => *entry.chain(),
-            None => [0; BLOCK_BYTES],
-        }
+        chain_in::<E, S>(self.slots, lane)
     }
 }
 
-// The entry of a slot is led by a chaining value.
+// The blocks of which this is the state.
 #[inline(always)]
-pub fn lead_slot<E: Chaining>(slot: &mut Option<E>, chain: &[u8; 16])
-    requires { HasRounds E.rest_of 1 slot.old }
-    ensures { slot.new ≡ option_map (λ e. E.led e chain.now) slot.old }
+fn blocks_of(s: &State<AesWord>) -> [[u8; 16]; AES_LANES]
+    ensures { (i : ℕ) → i < AES_LANES → slice_index_or result i [] ≡ state_lane (lane_at 8) s.now i }
 {
-    if let Some(entry) = slot {
-        entry.lead(chain);
-    }
+    let mut blocks = [[0; BLOCK_BYTES]; AES_LANES];
+    AesWord::store(&mut blocks, s);
+    blocks
 }
 
 // Each entry is led by the chaining value of its lane.
 #[inline(always)]
-fn lead_each_slot<E: Chaining>(entries: &mut [Option<E>], chains: &[[u8; 16]; AES_LANES])
-    requires size { length entries.old ≡ AES_LANES }
-    requires rests { HaveRounds E.rest_of 1 entries.old }
-    ensures { (i : ℕ) → i < AES_LANES → slice_index_or entries.new i None
-        ≡ option_map (λ e. E.led e (slice_index_or chains.now i [])) (slice_index_or entries.old i None) }
+fn lead_each<E: Chaining, S: Slot<E>>(slots: &mut [S], chains: &[[u8; 16]; AES_LANES])
+    requires lanes { S.least ≤ length slots.old }
+    requires most { length slots.old ≤ AES_LANES }
+    requires rests { HaveRounds E.rest_of 1 (S.in_lane slots.old) }
+    ensures { AreGiven (λ i. option_map (λ e. E.led e (slice_index_or chains.now i []))) in_own_lane AES_LANES AES_LANES (S.in_lane slots.old) (S.in_lane slots.new) }
 {
-    'slots: for i in 0..AES_LANES {
-        lead_slot(&mut entries[i], &chains[i]);
-    }
-}
-
-// The entry of a slot keeps a chaining value.
-#[inline(always)]
-pub fn keep_slot<E: Chaining>(slot: &mut Option<E>, chain: &[u8; 16])
-    ensures { slot.new ≡ option_map (λ e. E.kept e chain.now) slot.old }
-{
-    if let Some(entry) = slot {
-        entry.keep(chain);
+    'lanes: for i in 0..AES_LANES {
+        S::lead(slots, i, &chains[i]);
     }
 }
 
 // Each entry keeps the chaining value of its lane.
 #[inline(always)]
-fn keep_each_slot<E: Chaining>(entries: &mut [Option<E>], chains: &[[u8; 16]; AES_LANES])
-    requires { length entries.old ≡ AES_LANES }
-    ensures { (i : ℕ) → i < AES_LANES → slice_index_or entries.new i None
-        ≡ option_map (λ e. E.kept e (slice_index_or chains.now i [])) (slice_index_or entries.old i None) }
+fn keep_each<E: Chaining, S: Slot<E>>(slots: &mut [S], chains: &[[u8; 16]; AES_LANES])
+    requires lanes { S.least ≤ length slots.old }
+    requires most { length slots.old ≤ AES_LANES }
+    ensures { AreGiven (λ i. option_map (λ e. E.kept e (slice_index_or chains.now i []))) in_own_lane AES_LANES AES_LANES (S.in_lane slots.old) (S.in_lane slots.new) }
 {
-    'slots: for i in 0..AES_LANES {
-        keep_slot(&mut entries[i], &chains[i]);
+    'lanes: for i in 0..AES_LANES {
+        S::keep(slots, i, &chains[i]);
     }
+}
+
+// The chaining value of each lane becomes the next one: the block of the lane is chained, under its round keys.
+#[inline(always)]
+fn chain_lanes<B: LaneBlocks>(keys: &[State<AesWord>], blocks: &B, chains: &mut State<AesWord>)
+    requires lanes { AES_LANES ≤ B.lanes_of blocks.now }
+    requires least { 3 ≤ length keys.now }
+    requires even { length keys.now % 2 ≡ 1 }
+    ensures { (i : ℕ) → i < AES_LANES → state_lane (lane_at 8) chains.new i
+        ≡ encipher (schedule_in (lane_at 8) (length keys.now - 1) keys.now i)
+        (xor_lists (B.block_in blocks.now i) (state_lane (lane_at 8) chains.old i)) }
+{
+    let blocks = AesWord::load(blocks);
+    *chains = add_round_key(blocks, *chains);
+    encrypt(&RoundStates { keys }, chains);
 }
 
 // The next block of each entry is chained, all at once. `chains` has the chaining value of each lane, and no entry keeps it.
 #[inline(always)]
-fn pass_slots<E: Chaining>(
-    entries: &mut [Option<E>],
+fn pass<E: Chaining, S: Slot<E>>(
+    slots: &mut [S],
     keys: &[State<AesWord>],
     chains: &mut State<AesWord>,
 )
-    requires size { length entries.old ≡ AES_LANES }
-    requires rests { HaveRounds E.rest_of 1 entries.old }
+    requires lanes { S.least ≤ length slots.old }
+    requires most { length slots.old ≤ AES_LANES }
+    requires rests { HaveRounds E.rest_of 1 (S.in_lane slots.old) }
     requires least { 3 ≤ length keys.now }
     requires even { length keys.now % 2 ≡ 1 }
     ensures chains { (i : ℕ) → i < AES_LANES → state_lane (lane_at 8) chains.new i
         ≡ encipher (schedule_in (lane_at 8) (length keys.now - 1) keys.now i)
-        (xor_lists (of_slot E.block_of (slice_index_or entries.old i None)) (state_lane (lane_at 8) chains.old i)) }
-    ensures entries { (i : ℕ) → i < AES_LANES → slice_index_or entries.new i None
-        ≡ option_map (λ e. E.led e (state_lane (lane_at 8) chains.new i)) (slice_index_or entries.old i None) }
+        (xor_lists (of_slot E.block_of (S.in_lane slots.old i)) (state_lane (lane_at 8) chains.old i)) }
+    ensures led { (i : ℕ) → i < AES_LANES → S.in_lane slots.new i
+        ≡ option_map (λ e. E.led e (state_lane (lane_at 8) chains.new i)) (S.in_lane slots.old i) }
 {
-    chain_lanes(keys, &SlotBlocks { entries }, chains);
-    lead_each_slot(entries, &blocks_of(chains));
+    chain_lanes(
+        keys,
+        &NextBlocks::<E, S> {
+            slots,
+            of: PhantomData,
+        },
+        chains,
+    );
+    lead_each::<E, S>(slots, &blocks_of(chains));
 }
 
 // Leads each entry by `m` blocks, under the round keys of its lane. `chains` takes the chaining values of the lanes.
 #[inline(always)]
-fn lead_slots<E: Chaining>(
-    entries: &mut [Option<E>],
+fn lead_by<E: Chaining, S: Slot<E>>(
+    slots: &mut [S],
     m: u32,
     keys: &[State<AesWord>],
     chains: &mut State<AesWord>,
 )
-    requires size { length entries.old ≡ AES_LANES }
-    requires rests { HaveRounds E.rest_of m entries.old }
+    requires lanes { S.least ≤ length slots.old }
+    requires most { length slots.old ≤ AES_LANES }
+    requires rests { HaveRounds E.rest_of m (S.in_lane slots.old) }
     requires least { 3 ≤ length keys.now }
     requires even { length keys.now % 2 ≡ 1 }
-    requires keys { AreKeyed E.key_of entries.old keys.now }
-    ensures { (i : ℕ) → i < AES_LANES → slice_index_or entries.new i None
-        ≡ option_map (after (chained_once E.key_of E.block_of E.chain_of E.led E.kept) m) (slice_index_or entries.old i None) }
+    requires keys { AreKeyed E.key_of (S.in_lane slots.old) keys.now }
+    ensures { (i : ℕ) → i < AES_LANES → S.in_lane slots.new i
+        ≡ option_map (after (chained_once E.key_of E.block_of E.chain_of E.led E.kept) m) (S.in_lane slots.old i) }
 {
-    *chains = AesWord::load(&SlotChains { entries });
+    *chains = AesWord::load(&Chains::<E, S> {
+        slots,
+        of: PhantomData,
+    });
     'passes: for done in 0..m {
-        pass_slots(entries, keys, chains);
+        pass::<E, S>(slots, keys, chains);
     }
-    keep_each_slot(entries, &blocks_of(chains));
-}
-
-// Whether an entry needs the zero block enciphered, before it goes on by `m` blocks.
-#[inline(always)]
-pub fn is_zero_wanted<E: Chaining>(entries: &[Option<E>], m: u32) -> bool {
-    let mut is_wanted = false;
-    'slots: for slot in entries {
-        if let Some(entry) = slot {
-            is_wanted |= entry.wants_zero(m);
-        }
-    }
-    is_wanted
+    keep_each::<E, S>(slots, &blocks_of(chains));
 }
 
 // The zero block enciphered under the key of each lane.
@@ -180,54 +184,43 @@ fn zeros_of(keys: &[State<AesWord>]) -> [[u8; 16]; AES_LANES]
     blocks
 }
 
-// The entry of a slot takes the zero block enciphered under its key.
-#[inline(always)]
-pub fn give_zero<E: Chaining>(slot: &mut Option<E>, zero: &[u8; 16])
-    requires { IsZeroOf E.key_of zero.now slot.old }
-    ensures { slot.new ≡ slot.old }
-{
-    if let Some(entry) = slot {
-        entry.take_zero(zero);
-    }
-}
-
 // Gives each entry the enciphered zero block, where one needs it before it goes on by `m` blocks.
 #[inline(always)]
-fn give_zeros<E: Chaining>(entries: &mut [Option<E>], m: u32, keys: &[State<AesWord>])
-    requires size { length entries.old ≡ AES_LANES }
+fn give_zeros<E: Chaining, S: Slot<E>>(slots: &mut [S], m: u32, keys: &[State<AesWord>])
+    requires lanes { S.least ≤ length slots.old }
+    requires most { length slots.old ≤ AES_LANES }
     requires least { 3 ≤ length keys.now }
     requires even { length keys.now % 2 ≡ 1 }
-    requires keys { AreKeyed E.key_of entries.old keys.now }
-    ensures { entries.new ≡ entries.old }
+    requires keys { AreKeyed E.key_of (S.in_lane slots.old) keys.now }
+    ensures { slots.new ≡ slots.old }
 {
-    if !is_zero_wanted(entries, m) {
+    if !is_zero_wanted::<E, S>(slots, m) {
         return;
     }
     let zeros = zeros_of(keys);
-    'slots: for i in 0..AES_LANES {
-        give_zero(&mut entries[i], &zeros[i]);
+    'lanes: for i in 0..AES_LANES {
+        S::take_zero(slots, i, &zeros[i]);
     }
 }
 
 /// Leads each entry by `m` blocks, under the round keys of its lane, after giving each the enciphered zero block where one needs it.
 /// `chains` takes the chaining values of the lanes.
 #[inline(always)]
-pub fn lead_entries<E: Chaining>(
-    entries: &mut Vec<Option<E>>,
+pub fn lead_lanes<E: Chaining, S: Slot<E>>(
+    slots: &mut [S],
     m: u32,
     keys: &[State<AesWord>],
     chains: &mut State<AesWord>,
 )
-    requires size { length entries.old.items ≡ AES_LANES }
-    requires rests { HaveRounds E.rest_of m entries.old.items }
+    requires lanes { S.least ≤ length slots.old }
+    requires most { length slots.old ≤ AES_LANES }
+    requires rests { HaveRounds E.rest_of m (S.in_lane slots.old) }
     requires least { 3 ≤ length keys.now }
     requires even { length keys.now % 2 ≡ 1 }
-    requires keys { AreKeyed E.key_of entries.old.items keys.now }
-    ensures size { length entries.new.items ≡ AES_LANES }
-    ensures led { (i : ℕ) → i < AES_LANES → slice_index_or entries.new.items i None
-        ≡ option_map (after (chained_once E.key_of E.block_of E.chain_of E.led E.kept) m) (slice_index_or entries.old.items i None) }
+    requires keys { AreKeyed E.key_of (S.in_lane slots.old) keys.now }
+    ensures { (i : ℕ) → i < AES_LANES → S.in_lane slots.new i
+        ≡ option_map (after (chained_once E.key_of E.block_of E.chain_of E.led E.kept) m) (S.in_lane slots.old i) }
 {
-    let slots = entries.as_mut_slice();
-    give_zeros(slots, m, keys);
-    lead_slots(slots, m, keys, chains);
+    give_zeros::<E, S>(slots, m, keys);
+    lead_by::<E, S>(slots, m, keys, chains);
 }

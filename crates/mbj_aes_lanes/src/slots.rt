@@ -2,20 +2,20 @@
 ghost use Rattle.std.specs.Prelude.{◌≡◌, ℕ, ◌^◌, ◌<◌, ◌≤◌, Some, None, IfOk, MatchOption, ◌⊎◌, ◌≢◌, [], length, slice_index, slice_index_or};
 ghost use Rattle.std.specs.Option.{option_map};
 ghost use Rattle.mbj_types.specs.declared.kind.TheConstants.{AES_LANES};
-ghost use Rattle.mbj_aes.specs.Bytes.{IsRoundCount};
+ghost use Rattle.mbj_aes.specs.declared.expansion.TheConstants.{MAX_ROUND_KEYS};
+ghost use Rattle.mbj_aes_lanes.specs.declared.wide.words.TheConstants.{MAX_SCHEDULE_WORDS};
 ghost use Rattle.mbj_lane.specs.Rounds.{after};
 ghost use Rattle.mbj_lane.specs.Slots.{IsBusy, IsLeast, IsWritten};
 ghost use Rattle.mbj_aes_lanes.specs.Chaining.{chained_once};
+ghost use Rattle.mbj_aes_lanes.specs.Inside.Slots.{HaveRounds};
 ghost use Rattle.mbj_aes_lanes.specs.Slots.{slot_at};
 
 use crate::chaining::Chaining;
-use crate::few_keys::FEW_LANES;
-use crate::few_lanes::{busy_lanes, lead_few};
-use crate::slot_keys::expand_slots;
-use crate::slot_rounds::lead_entries;
+use crate::leading::lead;
 use crate::wide::state::{State, zero_state};
+use crate::wide::words::MAX_SCHEDULE_WORDS;
 use mbj_aes::MAX_ROUND_KEYS;
-use mbj_types::{AES_LANES, AesWord};
+use mbj_types::{AES_LANES, AesWord, Lane8};
 use std::alloc::{AllocError, Global};
 use std::marker::Model;
 use std::mem;
@@ -23,9 +23,10 @@ use std::mem;
 /// Slots of entries, which contracts see as the list of what stands in each.
 #[derive(Drop)]
 pub struct ChainedSlots<E: Chaining> {
-    // What a run over many lanes takes: the round keys of all lanes, and one state of their chaining values. They have memory of their
-    // own, which may be aligned to vectors.
+    // What a run over many lanes takes: the round keys of all lanes, the words of the schedules from which they are made, and one state of
+    // the chaining values. They have memory of their own, which may be aligned to vectors.
     round_keys: Vec<State<AesWord>>,
+    words: Vec<AesWord>,
     chains: Vec<State<AesWord>>,
     entries: Vec<Option<E>>,
 }
@@ -34,24 +35,25 @@ impl<E: Chaining> Model for ChainedSlots<E> {
     ghost use Rattle.std.specs.Prelude.{◌≡◌, List, Option, length};
     ghost use Rattle.mbj_types.specs.declared.kind.TheConstants.{AES_LANES};
     ghost use Rattle.mbj_aes.specs.declared.expansion.TheConstants.{MAX_ROUND_KEYS};
+    ghost use Rattle.mbj_aes_lanes.specs.declared.wide.words.TheConstants.{MAX_SCHEDULE_WORDS};
 
     ghost Value = { List (Option E) };
 
     ghost view = { λ s. s.entries.items };
 
-    ghost invariant = { λ s. (length s.round_keys.items ≡ MAX_ROUND_KEYS) × (length s.chains.items ≡ 1)
-        × (length s.entries.items ≡ AES_LANES) };
+    ghost invariant = { λ s. (length s.round_keys.items ≡ MAX_ROUND_KEYS) × (length s.words.items ≡ MAX_SCHEDULE_WORDS)
+        × (length s.chains.items ≡ 1) × (length s.entries.items ≡ AES_LANES) };
 }
 
-// This many states of zeros.
-fn zero_states(alloc: Global, many: usize) -> Result<Vec<State<AesWord>>, AllocError>
+// This many copies of a value.
+fn copies<T: Copy>(alloc: Global, many: usize, value: T) -> Result<Vec<T>, AllocError>
     ensures { IfOk result (λ v. length v.items ≡ many) }
 {
-    let mut states = Vec::with_capacity(alloc, many)?;
-    'states: for _s in 0..many {
-        states.push_reserved(zero_state());
+    let mut copies = Vec::with_capacity(alloc, many)?;
+    'copies: for _i in 0..many {
+        copies.push_reserved(value);
     }
-    Ok(states)
+    Ok(copies)
 }
 
 // The lesser of a number and the rest of an entry, if there is one.
@@ -67,17 +69,32 @@ fn lesser<E: Chaining>(slot: &Option<E>, least: u32) -> u32
     }
 }
 
-// The rounds of the key of an entry, if there is one.
-fn rounds_in<E: Chaining>(entries: &[Option<E>]) -> Option<usize>
-    ensures { MatchOption result ((i : ℕ) → i < length entries.now → slice_index_or entries.now i None ≡ None)
-        (λ n. (n ≡ E.key_rounds) × IsRoundCount n) }
+// Leads each entry by `m` blocks.
+#[inline(always)]
+fn lead_slots<E: Chaining>(
+    entries: &mut Vec<Option<E>>,
+    m: u32,
+    room: &mut Vec<State<AesWord>>,
+    words: &mut Vec<AesWord>,
+    chains: &mut State<AesWord>,
+)
+    requires size { length entries.old.items ≡ AES_LANES }
+    requires rests { HaveRounds E.rest_of m (slot_at entries.old.items) }
+    requires room { length room.old.items ≡ MAX_ROUND_KEYS }
+    requires words { length words.old.items ≡ MAX_SCHEDULE_WORDS }
+    ensures size { length entries.new.items ≡ AES_LANES }
+    ensures room { length room.new.items ≡ MAX_ROUND_KEYS }
+    ensures words { length words.new.items ≡ MAX_SCHEDULE_WORDS }
+    ensures led { (i : ℕ) → i < AES_LANES → slot_at entries.new.items i
+        ≡ option_map (after (chained_once E.key_of E.block_of E.chain_of E.led E.kept) m) (slot_at entries.old.items i) }
 {
-    'slots: for i in 0..entries.len() {
-        if let Some(entry) = &entries[i] {
-            return Some(entry.rounds());
-        }
-    }
-    None
+    lead::<E, Option<E>>(
+        entries.as_mut_slice(),
+        m,
+        room.as_mut_slice(),
+        words.as_mut_slice(),
+        chains,
+    );
 }
 
 impl<E: Chaining> ChainedSlots<E> {
@@ -87,14 +104,16 @@ impl<E: Chaining> ChainedSlots<E> {
     pub fn new(alloc: Global) -> Result<ChainedSlots<E>, AllocError>
         ensures { IfOk result (λ s. (i : ℕ) → i < AES_LANES → slot_at s i ≡ None) }
     {
-        let round_keys = zero_states(alloc, MAX_ROUND_KEYS)?;
-        let chains = zero_states(alloc, 1)?;
+        let round_keys = copies(alloc, MAX_ROUND_KEYS, zero_state())?;
+        let words = copies(alloc, MAX_SCHEDULE_WORDS, <AesWord as Lane8>::splat(0))?;
+        let chains = copies(alloc, 1, zero_state())?;
         let mut entries = Vec::with_capacity(alloc, AES_LANES)?;
         'slots: for _i in 0..AES_LANES {
             entries.push_reserved(None);
         }
         Ok(ChainedSlots {
             round_keys,
+            words,
             chains,
             entries,
         })
@@ -139,40 +158,13 @@ impl<E: Chaining> ChainedSlots<E> {
         ensures { (i : ℕ) → i < AES_LANES → slot_at self.new i
             ≡ option_map (after (chained_once E.key_of E.block_of E.chain_of E.led E.kept) m) (slot_at self.old i) }
     {
-        if let Some(rounds) = rounds_in(&self.entries) {
-            self.run_rounds(m, rounds);
-        }
-    }
-
-    // The same, where the keys have this many rounds.
-    #[inline(always)]
-    fn run_rounds(&mut self, m: u32, rounds: usize)
-        requires rests { (i : ℕ) (e : E) → i < AES_LANES → slot_at self.old i ≡ Some e → m ≤ E.rest_of e }
-        requires value { rounds ≡ E.key_rounds }
-        requires rounds { IsRoundCount rounds }
-        ensures { (i : ℕ) → i < AES_LANES → slot_at self.new i
-            ≡ option_map (after (chained_once E.key_of E.block_of E.chain_of E.led E.kept) m) (slot_at self.old i) }
-    {
-        let busy = busy_lanes(&self.entries);
-        if busy.many <= FEW_LANES {
-            lead_few(&mut self.entries, &busy, m, rounds);
-        } else {
-            self.run_wide(m, rounds);
-        }
-    }
-
-    // The same in all lanes at once, however many are busy.
-    #[inline(always)]
-    fn run_wide(&mut self, m: u32, rounds: usize)
-        requires rests { (i : ℕ) (e : E) → i < AES_LANES → slot_at self.old i ≡ Some e → m ≤ E.rest_of e }
-        requires value { rounds ≡ E.key_rounds }
-        requires rounds { IsRoundCount rounds }
-        ensures { (i : ℕ) → i < AES_LANES → slot_at self.new i
-            ≡ option_map (after (chained_once E.key_of E.block_of E.chain_of E.led E.kept) m) (slot_at self.old i) }
-    {
-        expand_slots(&mut self.round_keys, rounds, &self.entries);
-        let keys = &self.round_keys[..rounds + 1];
-        lead_entries(&mut self.entries, m, keys, &mut self.chains[0]);
+        lead_slots(
+            &mut self.entries,
+            m,
+            &mut self.round_keys,
+            &mut self.words,
+            &mut self.chains[0],
+        );
     }
 
     /// Takes an entry out of its slot, which is idle then.

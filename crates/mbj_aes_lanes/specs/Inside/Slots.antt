@@ -1,5 +1,5 @@
--- Entries in slots, each in the lane of its slot. An idle slot has none.
-use Rattle.std.specs.Prelude.{◌≡◌, ℕ, ◌-◌, ◌<◌, ◌≤◌, List, length, slice_index_or, Option, Some, None}
+-- Entries in lanes. A function says what stands in each lane; an idle one has no entry.
+use Rattle.std.specs.Prelude.{◌≡◌, ℕ, ◌-◌, ◌<◌, ◌≤◌, List, length, Option, Some, None}
 use Rattle.mbj_types.specs.Aes.{encipher}
 use Rattle.mbj_types.specs.Blocks.{zero_block}
 use Rattle.mbj_types.specs.Lanes.{lane_at}
@@ -7,30 +7,31 @@ use Rattle.mbj_types.specs.declared.kind.TheConstants.{AES_LANES}
 use Rattle.mbj_aes_lanes.specs.declared.wide.state.State.{State}
 use Rattle.mbj_aes_lanes.specs.Inside.WideKeys.{schedule_in}
 
--- what a lane takes of its slot: of an idle one a block of zeros
-abbrev pub of_slot : {E : Type 0} → (E → List ℕ) → Option E → List ℕ
-of_slot f None = zero_block
-of_slot f (Some e) = f e
+module _ {E : Type 0} where
+  -- what a lane takes of its entry: an idle one a block of zeros
+  abbrev pub of_slot : (E → List ℕ) → Option E → List ℕ
+  of_slot f None = zero_block
+  of_slot f (Some e) = f e
 
--- an entry has at least m rounds left
-abbrev pub HasRounds : {E : Type 0} → (E → ℕ) → ℕ → Option E → Type 0
-HasRounds rest m None = Unit {0}
-HasRounds rest m (Some e) = m ≤ rest e
+  -- an entry has at least m rounds left
+  abbrev pub HasRounds : (E → ℕ) → ℕ → Option E → Type 0
+  HasRounds rest m None = Unit {0}
+  HasRounds rest m (Some e) = m ≤ rest e
 
--- each entry has
-abbrev pub HaveRounds : {E : Type 0} → (E → ℕ) → ℕ → List (Option E) → Type 0
-HaveRounds {E} rest m es = (i : ℕ) (e : E) → i < AES_LANES → slice_index_or es i None ≡ Some e → m ≤ rest e
+  -- each entry has
+  abbrev pub HaveRounds : (E → ℕ) → ℕ → (ℕ → Option E) → Type 0
+  HaveRounds rest m es = (i : ℕ) (e : E) → i < AES_LANES → es i ≡ Some e → m ≤ rest e
 
--- w is the schedule of an entry
-abbrev pub IsKeyOf : {E : Type 0} → (E → List ℕ) → List ℕ → Option E → Type 0
-IsKeyOf key w None = Unit {0}
-IsKeyOf key w (Some e) = w ≡ key e
+  -- w is the schedule of an entry
+  abbrev pub IsKeyOf : (E → List ℕ) → List ℕ → Option E → Type 0
+  IsKeyOf key w None = Unit {0}
+  IsKeyOf key w (Some e) = w ≡ key e
 
--- each entry's lane has the round keys of its key
-abbrev pub AreKeyed : {E : Type 0} → (E → List ℕ) → List (Option E) → List (State (List ℕ)) → Type 0
-AreKeyed key es keys = (i : ℕ) → i < AES_LANES → IsKeyOf key (schedule_in (lane_at 8) (length keys - 1) keys i) (slice_index_or es i None)
+  -- each entry's lane has the round keys of its key
+  abbrev pub AreKeyed : (E → List ℕ) → (ℕ → Option E) → List (State (List ℕ)) → Type 0
+  AreKeyed key es keys = (i : ℕ) → i < AES_LANES → IsKeyOf key (schedule_in (lane_at 8) (length keys - 1) keys i) (es i)
 
--- the zero block enciphered under an entry's key
-abbrev pub IsZeroOf : {E : Type 0} → (E → List ℕ) → List ℕ → Option E → Type 0
-IsZeroOf key zero None = Unit {0}
-IsZeroOf key zero (Some e) = zero ≡ encipher (key e) zero_block
+  -- the zero block enciphered under an entry's key
+  abbrev pub IsZeroOf : (E → List ℕ) → List ℕ → Option E → Type 0
+  IsZeroOf key zero None = Unit {0}
+  IsZeroOf key zero (Some e) = zero ≡ encipher (key e) zero_block

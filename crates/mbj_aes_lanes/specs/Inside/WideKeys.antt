@@ -1,5 +1,5 @@
 -- Round keys as the rounds of wide states take them.
-use Rattle.std.specs.Prelude.{◌≡◌, ℕ, ◌+◌, ◌-◌, ◌*◌, nat_eq, Bool, false, List, [], ◌∷◌, ◌++◌, length, map, replicate, slice_index_or, take, Option, Some, None, bit_xor, if◌then◌else◌}
+use Rattle.std.specs.Prelude.{◌≡◌, ℕ, ◌+◌, ◌*◌, nat_eq, Bool, false, List, [], ◌∷◌, ◌++◌, length, map, slice_index_or, take, Option, Some, None, bit_xor, if◌then◌else◌}
 use Rattle.std.specs.List.{range_with_len}
 use Rattle.mbj_types.specs.declared.kind.TheConstants.{AES_LANES}
 use Rattle.mbj_types.specs.Lanes.{lane_at}
@@ -7,7 +7,6 @@ use Rattle.mbj_aes.specs.declared.tables.TheConstants.{SBOX_CONSTANT}
 use Rattle.mbj_aes.specs.Bytes.{IsBytes}
 use Rattle.mbj_aes.specs.Tower.{from_tower}
 use Rattle.mbj_aes_lanes.specs.declared.wide.state.State.{State}
-use Rattle.mbj_aes_lanes.specs.declared.wide.words.TheConstants.{MAX_SCHEDULE_WORDS}
 use Rattle.mbj_aes_lanes.specs.Inside.Wide.{state_lane}
 
 -- the constant of the S-box added to each byte
@@ -32,11 +31,11 @@ keys_from lane n r (key ∷ keys) i = key_in lane n r key i ++ keys_from lane n 
 unfoldable pub schedule_in : {V : Type 0} → (V → ℕ → ℕ) → ℕ → List (State V) → ℕ → List ℕ
 schedule_in lane n keys i = keys_from lane n 0 keys i
 
--- the bytes of a lane are a key of nk words, and zeros
+-- the bytes of a lane begin with a key of nk words
 pub record IsLaneKey (nk : ℕ) (key xs : List ℕ) : Type 0 where
   pub size : length key ≡ 4 * nk
   pub bytes : IsBytes key
-  pub zeros : xs ≡ key ++ replicate (MAX_SCHEDULE_WORDS - 4 * nk) 0
+  pub first : take (4 * nk) xs ≡ key
 
 -- ---- what the lanes hold of which some were put
 

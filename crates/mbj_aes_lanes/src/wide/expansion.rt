@@ -124,7 +124,8 @@ fn next_word<V: Lane8>(words: &[V], key_words: usize, i: usize) -> Word<V>
     sum(before, schedule_term(words, key_words, i))
 }
 
-/// Expands keys of `key_words` words, which are the first lane words and have zeros behind them. The schedules take their place.
+/// Expands keys of `key_words` words, which are the first lane words. The schedules take their place, and that of as many words behind
+/// them as they have.
 #[inline(always)]
 pub fn expand_words<V: Lane8>(words: &mut [V], key_words: usize)
     requires key { IsKeyWords key_words }

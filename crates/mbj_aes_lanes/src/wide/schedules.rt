@@ -1,7 +1,6 @@
 //! Keys in lanes, whose schedules are made in lane words and become round keys as states.
-ghost use Rattle.std.specs.Prelude.{◌≡◌, ℕ, ◌+◌, ◌-◌, ◌*◌, ◌<◌, ◌≤◌, [], length, take, drop, ◌++◌, replicate, slice_index_or};
+ghost use Rattle.std.specs.Prelude.{◌≡◌, ℕ, ◌+◌, ◌-◌, ◌*◌, ◌<◌, ◌≤◌, [], length, take, drop, ◌++◌, slice_index_or};
 ghost use Rattle.mbj_types.specs.Aes.{key_schedule};
-ghost use Rattle.mbj_types.specs.Lanes.{lane_at};
 ghost use Rattle.mbj_types.specs.declared.kind.TheConstants.{AES_LANES};
 ghost use Rattle.mbj_aes.specs.Bytes.{IsRoundCount};
 ghost use Rattle.mbj_aes_lanes.specs.KeyBytes.{IsKeyArray, key_of_array};
@@ -15,7 +14,7 @@ use crate::wide::key_states::{key_at_tower, to_tower};
 use crate::wide::pass_word::PassWord;
 use crate::wide::state::State;
 use crate::wide::words::{MAX_SCHEDULE_WORDS, put_state, state_at};
-use mbj_types::{AES_LANES, AesWord, BLOCK_BYTES, Lane8};
+use mbj_types::{AES_LANES, BLOCK_BYTES, Lane8};
 
 /// Writes the round keys of the schedules, 16 lane words for each, which are in the tower's basis.
 #[inline(always)]
@@ -27,15 +26,6 @@ pub fn write_schedules<V: Lane8>(keys: &mut [State<V>], words: &[V])
     'keys: for r in 0..keys.len() {
         keys[r] = key_at_tower(words, r, keys.len() - 1);
     }
-}
-
-/// Words of zeros, which take schedules in a wide pass.
-#[inline(always)]
-pub fn zero_words() -> [AesWord; MAX_SCHEDULE_WORDS]
-    ensures length { length result ≡ MAX_SCHEDULE_WORDS }
-    ensures zeros { (i : ℕ) → i < AES_LANES → tower_lane (lane_at 8) result i ≡ replicate MAX_SCHEDULE_WORDS 0 }
-{
-    [<AesWord as Lane8>::splat(0); MAX_SCHEDULE_WORDS]
 }
 
 // Half of the bytes of each key, from `start` on.
@@ -84,19 +74,18 @@ fn load_half<V: PassWord>(words: &mut [V], bytes: &[[u8; 32]; AES_LANES], start:
     put_in_tower(&mut words[start..start + BLOCK_BYTES], &half);
 }
 
-// The keys go into the first words, which are zeros, in the tower's basis.
+// The keys go into the first words, in the tower's basis.
 #[inline(always)]
 fn load_keys<V: PassWord>(words: &mut [V], bytes: &[[u8; 32]; AES_LANES])
-    requires room { length words.old ≡ MAX_SCHEDULE_WORDS }
-    requires zeros { (i : ℕ) → i < V.LANES → tower_lane V.lane words.old i ≡ replicate MAX_SCHEDULE_WORDS 0 }
+    requires { length words.old ≡ MAX_SCHEDULE_WORDS }
     ensures { (i : ℕ) → i < V.LANES → length (slice_index_or bytes.now i []) ≡ 32
-        → tower_lane V.lane words.new i ≡ slice_index_or bytes.now i [] ++ replicate (MAX_SCHEDULE_WORDS - 32) 0 }
+        → tower_lane V.lane words.new i ≡ slice_index_or bytes.now i [] ++ drop 32 (tower_lane V.lane words.old i) }
 {
     load_half(words, bytes, 0);
     load_half(words, bytes, BLOCK_BYTES);
 }
 
-/// Writes the round keys of the key in each lane. The words, which are zeros, take the schedules.
+/// Writes the round keys of the key in each lane. The words take the schedules, and what stands there isn't looked at.
 #[inline(always)]
 pub fn expand_keys<V: PassWord>(
     keys: &mut [State<V>],
@@ -105,7 +94,6 @@ pub fn expand_keys<V: PassWord>(
 )
     requires rounds { IsRoundCount (length keys.old - 1) }
     requires room { length words.old ≡ MAX_SCHEDULE_WORDS }
-    requires zeros { (i : ℕ) → i < V.LANES → tower_lane V.lane words.old i ≡ replicate MAX_SCHEDULE_WORDS 0 }
     ensures { (i : ℕ) → i < V.LANES → IsKeyArray (length keys.old - 1) (slice_index_or bytes.now i [])
         → schedule_in V.lane (length keys.old - 1) keys.new i
         ≡ key_schedule (key_of_array (length keys.old - 1) (slice_index_or bytes.now i [])) }

@@ -1,5 +1,6 @@
 -- One word more is that of the schedule in each turn.
 use Rattle.std.proofs.Common.{◌≡◌, ℕ, List, ◌+◌, ◌-◌, ◌*◌, ◌/◌, ◌++◌, length, take, drop, replicate, ap, ap₂, ◌∙◌, sym, arith}
+use Rattle.std.proofs.lemmas.List.{drop-replicate}
 use Rattle.mbj_types.specs.Aes.{schedule}
 use Rattle.mbj_aes.proofs.KeySizes.{key_sizes, key_words}
 use Rattle.mbj_aes.proofs.KeyWords.{schedule-next, schedule-none}
@@ -25,14 +26,16 @@ words-preserved c =
     let nk : ℕ = length c.args.key.now / 4 in
     let fewer : 240 - 4 * c.words.i - 4 ≡ 240 - 4 * (c.words.i + 1) = omega arith in
     let bytes : List ℕ = c.words.bytes in
+    let zero : ℕ = 0 in
     let key_bytes = IsBytes-told c.args.key.now (λ k. omega (arith, c.type_inv.key k)) in
     let turn = c.words.invariant.turn in record {
       bytes =
           c.put_word.ensures
           ∙ ap (λ x. take (4 * c.words.i) bytes ++ x ++ drop (4 * c.words.i + 4) bytes) c.next_word-word.ensures
-          ∙ schedule-next nk c.words.i (240 - 4 * c.words.i) c.args.key.now bytes
+          ∙ schedule-next nk c.words.i c.args.key.now bytes (replicate (240 - 4 * c.words.i) 0)
           (omega arith) (omega arith) (omega arith) key_bytes c.words.invariant.bytes
-          ∙ ap (λ n. schedule nk c.args.key.now (c.words.i + 1 - nk) ++ replicate n 0) fewer;
+          ∙ ap (λ xs. schedule nk c.args.key.now (c.words.i + 1 - nk) ++ xs)
+          (drop-replicate 4 (240 - 4 * c.words.i) zero ∙ ap (λ (n : ℕ). replicate n zero) fewer);
       turn = record {
         place = c.next_turn-turn.ensures.place ∙ place-next nk c.words.i c.words.turn.place words turn.place;
         number =

@@ -1,12 +1,11 @@
 -- The busy lanes before the next one have their chaining values.
-use Rattle.std.proofs.Common.{◌≡◌, ℕ, ◌<◌, [], length, get_or}
+use Rattle.std.proofs.Common.{◌≡◌, ℕ, ◌<◌, [], length, get_or, slice_index}
 use Rattle.mbj_aes_lanes.specs.declared.few_keys.TheConstants.{FEW_LANES}
-use Rattle.mbj_aes_lanes.specs.Inside.Busy.{busy_slot}
 use Rattle.mbj_aes_lanes.specs.Inside.Slots.{of_slot}
 use Rattle.mbj_aes_lanes.proofs.few_lanes.chains_of.Given as goal
 
 abbrev pub invariant-busy : goal.invariant-busy
 invariant-busy g l = record {
   size : length l.chains ≡ FEW_LANES;
-  each : (p : ℕ) → p < l.p → get_or l.chains p [] ≡ of_slot g.E.Chaining.chain_of (busy_slot l.entries l.busy.lanes p);
+  each : (p : ℕ) → p < l.p → get_or l.chains p [] ≡ of_slot g.E.Chaining.chain_of (g.S.Slot.in_lane l.slots (slice_index l.busy.lanes p));
 }

@@ -1,29 +1,27 @@
 -- Each entry is given the zero block under its own key.
-use Rattle.std.proofs.Common.{ℕ, ◌*◌, ◌<◌, [], None, get_or, slice_index, ap, sym, subst, ◌∙◌, arith}
-use Rattle.std.proofs.lemmas.List.{get_or_default}
+use Rattle.std.proofs.Common.{ℕ, ◌*◌, ◌<◌, [], get_or, slice_index, ap, sym, subst, ◌∙◌, arith}
 use Rattle.std.proofs.lemmas.Simd.{get_or-replicate}
 use Rattle.mbj_types.specs.Aes.{encipher}
 use Rattle.mbj_types.specs.Blocks.{zero_block}
 use Rattle.mbj_aes_lanes.specs.declared.few_keys.TheConstants.{FEW_LANES}
-use Rattle.mbj_aes_lanes.specs.Inside.Busy.{busy_slot}
 use Rattle.mbj_aes_lanes.specs.Inside.BusyKeys.{few_schedule}
 use Rattle.mbj_aes_lanes.specs.Inside.Slots.{IsZeroOf}
 use Rattle.mbj_aes_lanes.proofs.SlotFacts.{zero-of}
 use Rattle.mbj_aes_lanes.proofs.few_lanes.give_busy_zeros.Goals as goal
 
-pub give_zero-requires : goal.give_zero-requires
-give_zero-requires g c =
+pub take_zero-requires-clause-lane : goal.take_zero-requires-clause-lane
+take_zero-requires-clause-lane g c = c.requires.busy.inside c.busy.p c.busy-test.true
+
+pub take_zero-requires-clause-zero : goal.take_zero-requires-clause-zero
+take_zero-requires-clause-zero g c =
     let e = g.E.Chaining in
-    let es = c.args.entries.now in
-    let lanes = c.args.busy.now.lanes in
+    let at = g.S.Slot.in_lane in
     let p : ℕ = c.busy.p in
-    let lane : ℕ = slice_index lanes p in
-    let here = c.index-entries-lane.result in
+    let lane : ℕ = slice_index c.args.busy.now.lanes p in
     let zero = get_or c.encrypt_few.new.blocks p [] in
     let w = few_schedule c.args.keys.now p in
     let served : p < 2 * g.row.N = omega (arith, c.requires.few, c.busy-test.true) in
     let inside : p < FEW_LANES = omega (arith, c.requires.registers, served) in
     let is = c.encrypt_few.ensures p served ∙ ap (encipher w) (get_or-replicate FEW_LANES p zero_block [] inside) in
-    subst (IsZeroOf e.key_of zero)
-    (get_or_default es lane None here (omega (arith, c.requires.lanes.inside p c.busy-test.true, c.requires.size)) ∙ ap (λ xs. get_or xs lane here) (sym c.busy.invariant))
-    (zero-of e.key_of w zero (busy_slot es lanes p) (c.requires.keys p c.busy-test.true) is)
+    subst (λ es. IsZeroOf e.key_of zero (at es lane)) (sym c.busy.invariant)
+    (zero-of e.key_of w zero (at c.args.slots.now lane) (c.requires.keys p c.busy-test.true) is)

@@ -3,4 +3,4 @@ use Rattle.std.proofs.Common.{◌≡◌}
 use Rattle.mbj_aes_lanes.proofs.few_lanes.give_busy_zeros.Given as goal
 
 abbrev pub invariant-busy : goal.invariant-busy
-invariant-busy g l = l.entries ≡ l.initial.entries
+invariant-busy g l = l.slots ≡ l.initial.slots

@@ -1,21 +1,18 @@
 -- One entry more is given its chaining value in each turn.
-use Rattle.std.proofs.Common.{ℕ, [], None, get_or, slice_index, refl, ap, ◌∙◌, arith}
+use Rattle.std.proofs.Common.{[], get_or, slice_index, refl, arith}
 use Rattle.std.specs.Option.{option_map}
-use Rattle.std.proofs.lemmas.List.{get_or_default}
-use Rattle.mbj_aes_lanes.proofs.BusySlots.{given-more}
+use Rattle.mbj_aes_lanes.proofs.BusySlots.{given-none, given-more}
 use Rattle.mbj_aes_lanes.proofs.few_lanes.lead_busy.Goals as goal
+
+pub busy-init : goal.busy-init
+busy-init g c =
+    let busy = c.args.busy.now in
+    given-none (λ p. option_map (λ x. g.E.Chaining.led x (get_or c.args.chains.now p []))) (slice_index busy.lanes) busy.many c.requires.busy
+    (g.S.Slot.in_lane c.args.slots.now)
 
 pub busy-preserved : goal.busy-preserved
 busy-preserved g c =
-    let e = g.E.Chaining in
+    let at = g.S.Slot.in_lane in
     let busy = c.args.busy.now in
-    let p : ℕ = c.busy.p in
-    let here = c.index-entries-lane.result in
-    let lane : ℕ = slice_index busy.lanes p in
-    given-more (λ q. option_map (λ x. e.led x (get_or c.args.chains.now q []))) busy.lanes busy.many c.requires.lanes p c.args.entries.now c.busy.entries
-    c.lead_slot.new.slot (omega arith)
-    (λ q h. omega (arith, c.requires.lanes.inside q h, c.requires.size)) refl
-    (c.lead_slot.ensures
-    ∙ ap (option_map (λ x. e.led x (get_or c.args.chains.now p [])))
-    (get_or_default c.busy.entries lane here None (omega (arith, c.requires.lanes.inside p c.busy-test.true, c.requires.size, c.busy.invariant.size))))
-    c.busy.invariant
+    given-more (λ p. option_map (λ x. g.E.Chaining.led x (get_or c.args.chains.now p []))) (slice_index busy.lanes) busy.many c.requires.busy c.busy.p
+    (at c.args.slots.now) (at c.busy.slots) (at c.lead.new.slots) (omega arith) refl c.lead.ensures c.busy.invariant

@@ -2,5 +2,5 @@
 use Rattle.std.proofs.Common.{◌≡◌}
 use Rattle.mbj_aes_lanes.proofs.slot_rounds.give_zeros.Given as goal
 
-abbrev pub invariant-slots : goal.invariant-slots
-invariant-slots g l = l.entries ≡ l.initial.entries
+abbrev pub invariant-lanes : goal.invariant-lanes
+invariant-lanes g l = l.slots ≡ l.initial.slots

@@ -7,5 +7,5 @@ use Rattle.mbj_aes_lanes.proofs.wide.schedules.load_keys.Goals as goal
 pub returns : goal.returns
 returns g c i h size =
     c.load_half-2.ensures i h
-    ∙ both-halves (slice_index_or c.args.bytes.now i []) (tower_lane g.V.Lane8.lane c.args.words.now i) (tower_lane g.V.Lane8.lane c.load_half.new.words i) 208
-    size (c.requires.zeros i h) (c.load_half.ensures i h)
+    ∙ both-halves (slice_index_or c.args.bytes.now i []) (tower_lane g.V.Lane8.lane c.args.words.now i) (tower_lane g.V.Lane8.lane c.load_half.new.words i)
+    size (c.load_half.ensures i h)

@@ -1,0 +1,67 @@
+-- One round of each entry more is done in each pass, and at the end each entry keeps the chaining value of its lane.
+use Rattle.std.proofs.Common.{◌≡◌, ℕ, ◌+◌, ◌-◌, length, sym, ap, subst, ◌∙◌, arith}
+use Rattle.std.specs.Option.{option_map}
+use Rattle.mbj_types.specs.Lanes.{lane_at}
+use Rattle.mbj_lane.specs.Rounds.{after}
+use Rattle.mbj_aes_lanes.specs.Chaining.{chained_once}
+use Rattle.mbj_aes_lanes.specs.Inside.Wide.{state_lane}
+use Rattle.mbj_aes_lanes.specs.Inside.WideKeys.{schedule_in}
+use Rattle.mbj_aes_lanes.proofs.Chains.{ChainLaws, IsLed, led-none, led-rest, led-more, led-kept}
+use Rattle.mbj_aes_lanes.proofs.SlotFacts.{has-rounds, rounds-of}
+use Rattle.mbj_aes_lanes.proofs.slot_rounds.lead_by.Given as given
+use Rattle.mbj_aes_lanes.proofs.slot_rounds.lead_by.Goals as goal
+
+laws : (g : given.Over)
+    → ChainLaws g.E.Chaining.key_of g.E.Chaining.block_of g.E.Chaining.chain_of g.E.Chaining.rest_of g.E.Chaining.led g.E.Chaining.kept
+laws g =
+    let met = g.met.E.Chaining in record {
+      takes = met.takes;
+      keeps_own = met.keeps_own;
+      keeps_last = met.keeps_last;
+      leads_rest = met.leads_rest;
+      keeps_key = met.keeps_key;
+      keeps_block = met.keeps_block;
+      keeps_rest = met.keeps_rest;
+      leads_key = met.leads_key;
+      falls = met.falls;
+    }
+
+pub passes-init : goal.passes-init
+passes-init g c i h =
+    let e = g.E.Chaining in
+    led-none e.key_of e.block_of e.chain_of e.rest_of e.led e.kept (laws g) (state_lane (lane_at 8) c.load.result i)
+    (g.S.Slot.in_lane c.args.slots.now i) (c.load.ensures i h)
+
+pub pass-requires-clause-rests : goal.pass-requires-clause-rests
+pass-requires-clause-rests g c i x h is =
+    let e = g.E.Chaining in
+    let o = g.S.Slot.in_lane c.args.slots.now i in
+    let now = g.S.Slot.in_lane c.passes.slots i in
+    rounds-of e.rest_of 1 now x
+    (led-rest e.key_of e.block_of e.chain_of e.rest_of e.led e.kept (laws g) c.passes.done c.args.m (state_lane (lane_at 8) c.passes.chains i)
+    o now (omega arith) (has-rounds e.rest_of c.args.m o (λ y has. c.requires.rests i y h has)) (c.passes.invariant i h))
+    is
+
+pub passes-preserved : goal.passes-preserved
+passes-preserved g c i h =
+    let e = g.E.Chaining in
+    let o = g.S.Slot.in_lane c.args.slots.now i in
+    let now = g.S.Slot.in_lane c.passes.slots i in
+    let next = state_lane (lane_at 8) c.pass.new.chains i in
+    let w = schedule_in (lane_at 8) (length c.args.keys.now - 1) c.args.keys.now i in
+    subst (IsLed e.key_of e.block_of e.chain_of e.led e.kept (c.passes.done + 1) next o) (sym (c.pass.ensures.led i h))
+    (led-more e.key_of e.block_of e.chain_of e.rest_of e.led e.kept (laws g) c.passes.done (state_lane (lane_at 8) c.passes.chains i) next w o now
+    (c.requires.keys i h) (c.pass.ensures.chains i h) (c.passes.invariant i h))
+
+pub returns : goal.returns
+returns g c i h =
+    let e = g.E.Chaining in
+    let once = chained_once e.key_of e.block_of e.chain_of e.led e.kept in
+    let o = g.S.Slot.in_lane c.args.slots.now i in
+    let now = g.S.Slot.in_lane c.passes.slots i in
+    let ends = state_lane (lane_at 8) c.passes.chains i in
+    let all : c.passes.done ≡ c.args.m = omega arith in
+    c.keep_each.ensures.given i h
+    ∙ ap (λ x. option_map (λ y. e.kept y x) now) (c.blocks_of.ensures i h)
+    ∙ led-kept e.key_of e.block_of e.chain_of e.rest_of e.led e.kept (laws g) c.passes.done ends o now (c.passes.invariant i h)
+    ∙ ap (λ (n : ℕ). option_map (after once n) o) all
