@@ -161,8 +161,7 @@ module _ {E : Type 0} (lanes : ℕ) where
       let lt' : k < length is = omega arith in rw b.1.1 (ap (λ es. b.1.0 ∷ es) (listed-remove f is k b.2 lt'))
 
   -- an entry takes a slot
-  module _ (f g : ℕ → Option E) (order free front : List ℕ) (i : ℕ) (e : E)
-      (before : AreListed lanes f order free) (last : free ≡ front ++ i ∷ []) where
+  module _ (f : ℕ → Option E) (order free front : List ℕ) (i : ℕ) (before : AreListed lanes f order free) (last : free ≡ front ++ i ∷ []) where
     idle-all : AreIdle f lanes (front ++ i ∷ [])
     idle-all = rw (← last) before.idle
 
@@ -175,7 +174,7 @@ module _ {E : Type 0} (lanes : ℕ) where
     not_in_order : IsIn i order → ⊥
     not_in_order h = let s = busy-in f order i before.busy h in let n = enters-lane.1 in let s' = s.1.1 in cc
 
-    module _ (put : IsWritten lanes i (Some e) f g) where
+    module _ (g : ℕ → Option E) (e : E) (put : IsWritten lanes i (Some e) f g) where
       order-stays : (j : ℕ) → j < lanes → IsIn j order → g j ≡ f j
       order-stays j lt h = put.others j lt (λ same. not_in_order (subst (λ (x : ℕ). IsIn x order) same h))
 

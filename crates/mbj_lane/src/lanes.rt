@@ -4,6 +4,7 @@ ghost use Rattle.std.specs.Option.{option_map};
 ghost use Rattle.mbj_lane.specs.Rounds.{IsFirst, after, end_of, least, taken};
 ghost use Rattle.mbj_lane.specs.Slots.{no_entries};
 
+use crate::host::Host;
 use crate::slot_kernel::SlotKernel;
 use std::alloc::{AllocError, Global};
 use std::marker::Model;
@@ -86,6 +87,23 @@ impl<K: SlotKernel> Lanes<K> {
         }
     }
 
+    /// An entry of a host joins the end of the list with a label. A lane is free.
+    #[inline(always)]
+    pub fn enter_from<G: Host<K>>(&mut self, label: u32, host: &mut G)
+        requires free { length self.old.entries < K.LANES }
+        requires may { G.may_give host.old }
+        ensures entry { (e : K.Entry) × (self.new.entries ≡ self.old.entries ++ e ∷ []) × (1 ≤ K.rest_of e) × G.gives host.old e host.new }
+        ensures labels { self.new.labels ≡ self.old.labels ++ label ∷ [] }
+    {
+        match self.idle.pop() {
+            Some(slot) => {
+                host.give(&mut self.slots, slot);
+                self.order.push_reserved((slot, label));
+            }
+            None => unreachable!(),
+        }
+    }
+
     /// The entry joins the end of the list with the label 0. A lane is free, and the entry has a round left.
     pub fn enter(&mut self, entry: K::Entry)
         requires free { length self.old.entries < K.LANES }
@@ -138,6 +156,30 @@ impl<K: SlotKernel> Lanes<K> {
         let (i, label) = self.order.remove(k);
         self.idle.push_reserved(i);
         (label, K::take(&mut self.slots, i))
+    }
+
+    /// The label of the entry at place `k`.
+    #[inline(always)]
+    pub fn label_at(&self, k: usize) -> u32
+        requires { k < length self.now.entries }
+        ensures { result ≡ slice_index_or self.now.labels k result }
+    {
+        self.order[k].1
+    }
+
+    /// The entry at place `k`, which has no round left, goes back to its host. The others keep their order.
+    #[inline(always)]
+    pub fn leave_to<G: Host<K>>(&mut self, k: usize, host: &mut G)
+        requires place { k < length self.old.entries }
+        requires done { (d : K.Entry) → K.rest_of (slice_index_or self.old.entries k d) ≡ 0 }
+        requires may { (d : K.Entry) → G.may_take (slice_index_or self.old.entries k d) host.old }
+        ensures back { (d : K.Entry) → G.takes host.old (slice_index_or self.old.entries k d) host.new }
+        ensures labels { self.new.labels ≡ remove self.old.labels k }
+        ensures others { self.new.entries ≡ remove self.old.entries k }
+    {
+        let (slot, _) = self.order.remove(k);
+        self.idle.push_reserved(slot);
+        host.take(&mut self.slots, slot);
     }
 
     /// Takes out the first entry that has no round left, and returns None exactly where each has one. The others keep

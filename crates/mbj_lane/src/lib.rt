@@ -2,11 +2,13 @@
 #![tactic(auto)]
 
 mod gathered;
+mod host;
 mod kernel;
 mod lanes;
 mod slot_kernel;
 
 pub use gathered::GatheredSlots;
+pub use host::Host;
 pub use kernel::Kernel;
 pub use lanes::Lanes;
 pub use slot_kernel::SlotKernel;

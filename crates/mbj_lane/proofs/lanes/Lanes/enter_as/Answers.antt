@@ -8,14 +8,14 @@ pub put-requires-clause-lane : goal.put-requires-clause-lane
 put-requires-clause-lane g c =
     let l = c.self.inside in
     let f = g.K.SlotKernel.slot l.slots in
-    (enters-lane g.K.Kernel.LANES f f (slots_of l.order.items) l.idle.items c.pop.new.self.items c.in-Some.i c.args.entry c.self.invariant.0
+    (enters-lane g.K.Kernel.LANES f (slots_of l.order.items) l.idle.items c.pop.new.self.items c.in-Some.i c.self.invariant.0
     c.in-Some.ensures.items).0
 
 pub put-requires-clause-idle : goal.put-requires-clause-idle
 put-requires-clause-idle g c =
     let l = c.self.inside in
     let f = g.K.SlotKernel.slot l.slots in
-    (enters-lane g.K.Kernel.LANES f f (slots_of l.order.items) l.idle.items c.pop.new.self.items c.in-Some.i c.args.entry c.self.invariant.0
+    (enters-lane g.K.Kernel.LANES f (slots_of l.order.items) l.idle.items c.pop.new.self.items c.in-Some.i c.self.invariant.0
     c.in-Some.ensures.items).1
 
 pub push_reserved-requires : goal.push_reserved-requires
@@ -31,8 +31,8 @@ invariant_of-self g c =
     let l = c.self.inside in
     let f = g.K.SlotKernel.slot l.slots in
     let f' = g.K.SlotKernel.slot c.put.new.slots in
-    let now = entered g.K.Kernel.LANES f f' (slots_of l.order.items) l.idle.items c.pop.new.self.items c.in-Some.i c.args.entry c.self.invariant.0
-    c.in-Some.ensures.items c.put.ensures in
+    let now = entered g.K.Kernel.LANES f (slots_of l.order.items) l.idle.items c.pop.new.self.items c.in-Some.i c.self.invariant.0
+    c.in-Some.ensures.items f' c.args.entry c.put.ensures in
     rw (c.push_reserved.ensures.items, map-push (λ (s : ℕ × ℕ). s.0) l.order.items (c.in-Some.i, c.args.label)) (now, omega arith, omega arith)
 
 pub unreachable-requires : goal.unreachable-requires
@@ -49,8 +49,8 @@ returns-clause-entries g c =
     let l = c.self.inside in
     let f = g.K.SlotKernel.slot l.slots in
     let f' = g.K.SlotKernel.slot c.put.new.slots in
-    let now = listed-entered g.K.Kernel.LANES f f' (slots_of l.order.items) l.idle.items c.pop.new.self.items c.in-Some.i c.args.entry c.self.invariant.0
-    c.in-Some.ensures.items c.put.ensures in
+    let now = listed-entered g.K.Kernel.LANES f (slots_of l.order.items) l.idle.items c.pop.new.self.items c.in-Some.i c.self.invariant.0
+    c.in-Some.ensures.items f' c.args.entry c.put.ensures in
     rw (c.push_reserved.ensures.items, map-push (λ (s : ℕ × ℕ). s.0) l.order.items (c.in-Some.i, c.args.label), ← c.self.view_is) now
 
 pub returns-clause-labels : goal.returns-clause-labels
