@@ -31,7 +31,7 @@ counted_is States b n = refl
 
 -- what is sound is kept
 pub kept : (h : Chaining) (ends : List ℕ) (e : HmacState) → IsSound h ends e → IsKept h ends e
-kept h ends e s = ((λ left. s), s.2, s.5)
+kept h ends e s = ((λ left. s), s.2, s.5, s.4)
 
 -- a text of the outer hash is an HMAC's
 pub outer_is : (form : Form) (x : List ℕ) → 0 < outer_rounds_of form → (if nat_lt 0 (outer_rounds_of form) then x else []) ≡ x

@@ -158,62 +158,60 @@ pub(crate) fn put_digest<H: LaneHash>(
     put_padding::<H>(ends, at, H::block_bytes(), bytes.len());
 }
 
-/// The ends of a new HMAC.
-pub(crate) fn first_ends<H: LaneHash>(
+/// Writes the ends of a new HMAC.
+pub(crate) fn put_first_ends<H: LaneHash>(
+    ends: &mut H::Ends,
     hash: HashName,
     key: &[u8; MAX_BLOCK_BYTES],
     packet: &[u8],
     off: usize,
     len: usize,
-) -> H::Ends
+)
     requires serves { IsTrue (H.chaining.serves hash) }
     requires small { len < 2 ^ 32 }
     requires range { off + len ≤ length packet.now }
-    ensures value { take (H.chaining.block_bytes * (tail_blocks H.chaining.block_bytes len + 3)) (H.ends_bytes result)
+    ensures value { take (H.chaining.block_bytes * (tail_blocks H.chaining.block_bytes len + 3)) (H.ends_bytes ends.new)
         ≡ first_ends H.chaining hash (take H.chaining.block_bytes (padded_key ipad key.now)) (take H.chaining.block_bytes (padded_key opad key.now))
         (replicate H.chaining.words 0) packet.now off len }
-    ensures length { length (H.ends_bytes result) ≡ 5 * H.chaining.block_bytes }
+    ensures length { length (H.ends_bytes ends.new) ≡ 5 * H.chaining.block_bytes }
     ensures pads { length key.now ≡ MAX_BLOCK_BYTES }
 {
     let block = H::block_bytes();
-    let mut ends = H::blank_ends();
-    H::put(&mut ends, 0, &padded(key, IPAD)[..block]);
-    let at = put_end::<H>(&mut ends, block, packet, off, len);
-    let at = H::put(&mut ends, at, &padded(key, OPAD)[..block]);
-    put_digest::<H>(&mut ends, at, hash, &H::zeros());
-    ends
+    H::put(ends, 0, &padded(key, IPAD)[..block]);
+    let at = put_end::<H>(ends, block, packet, off, len);
+    let at = H::put(ends, at, &padded(key, OPAD)[..block]);
+    put_digest::<H>(ends, at, hash, &H::zeros());
 }
 
-/// The ends of a new digest: the end of the message and its padding. What stands around them is not looked at.
-pub(crate) fn plain_ends<H: LaneHash>(packet: &[u8], off: usize, len: usize) -> H::Ends
+/// Writes the ends of a new digest: the end of the message and its padding. What stands around them is not looked at.
+pub(crate) fn put_plain_ends<H: LaneHash>(ends: &mut H::Ends, packet: &[u8], off: usize, len: usize)
     requires small { len < 2 ^ 32 }
     requires range { off + len ≤ length packet.now }
-    ensures value { take (H.chaining.block_bytes * tail_blocks H.chaining.block_bytes len) (drop H.chaining.block_bytes (H.ends_bytes result))
+    requires whole { length (H.ends_bytes ends.old) ≡ 5 * H.chaining.block_bytes }
+    ensures value { take (H.chaining.block_bytes * tail_blocks H.chaining.block_bytes len) (drop H.chaining.block_bytes (H.ends_bytes ends.new))
         ≡ message_end H.chaining 0 packet.now off len }
-    ensures length { length (H.ends_bytes result) ≡ 5 * H.chaining.block_bytes }
+    ensures length { length (H.ends_bytes ends.new) ≡ 5 * H.chaining.block_bytes }
 {
-    let mut ends = H::blank_ends();
-    put_end::<H>(&mut ends, 0, packet, off, len);
-    ends
+    put_end::<H>(ends, 0, packet, off, len);
 }
 
-/// The ends of a new HMAC from states: the end of the message and its padding, behind a block, and a digest and its padding. What stands
-/// before them is not looked at.
-pub(crate) fn states_ends<H: LaneHash>(
+/// Writes the ends of a new HMAC from states: the end of the message and its padding, behind a block, and a digest and its padding. What
+/// stands before them is not looked at.
+pub(crate) fn put_states_ends<H: LaneHash>(
+    ends: &mut H::Ends,
     hash: HashName,
     packet: &[u8],
     off: usize,
     len: usize,
-) -> H::Ends
+)
     requires serves { IsTrue (H.chaining.serves hash) }
     requires small { len < 2 ^ 32 }
     requires range { off + len ≤ length packet.now }
-    ensures value { take (H.chaining.block_bytes * (tail_blocks H.chaining.block_bytes len + 1)) (drop H.chaining.block_bytes (H.ends_bytes result))
+    requires whole { length (H.ends_bytes ends.old) ≡ 5 * H.chaining.block_bytes }
+    ensures value { take (H.chaining.block_bytes * (tail_blocks H.chaining.block_bytes len + 1)) (drop H.chaining.block_bytes (H.ends_bytes ends.new))
         ≡ message_end H.chaining H.chaining.block_bytes packet.now off len ++ digest_block H.chaining hash (replicate H.chaining.words 0) }
-    ensures length { length (H.ends_bytes result) ≡ 5 * H.chaining.block_bytes }
+    ensures length { length (H.ends_bytes ends.new) ≡ 5 * H.chaining.block_bytes }
 {
-    let mut ends = H::blank_ends();
-    let at = put_end::<H>(&mut ends, H::block_bytes(), packet, off, len);
-    put_digest::<H>(&mut ends, at, hash, &H::zeros());
-    ends
+    let at = put_end::<H>(ends, H::block_bytes(), packet, off, len);
+    put_digest::<H>(ends, at, hash, &H::zeros());
 }

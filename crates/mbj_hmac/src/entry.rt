@@ -1,21 +1,22 @@
 ghost use Rattle.std.specs.Prelude.{◌≡◌, ◌+◌, ◌-◌, ◌*◌, ◌<◌, ◌≤◌, length, replicate, take, drop, IfSome, IsTrue};
-ghost use Rattle.mbj_types.specs.Auths.{compression_of_name, hash_of, hash_of_name, plain_hash_of, states_hash_of};
+ghost use Rattle.mbj_types.specs.Auths.{class_of, compression_of_name, hash_of, hash_of_name, plain_hash_of, states_hash_of};
 ghost use Rattle.mbj_types.specs.Hmac.{block_key, padded_key, hmac, ipad, opad};
 ghost use Rattle.mbj_types.specs.Rounds.{hash_rounds, hmac_rounds, states_rounds};
 ghost use Rattle.mbj_types.specs.States.{hmac_from_states};
 ghost use Rattle.mbj_lane.specs.Rounds.{end_of};
-ghost use Rattle.mbj_hmac.specs.Names.{name_of, plain_name_of, serves_auth, serves_plain, serves_states, states_name_of};
+ghost use Rattle.mbj_hmac.specs.Names.{name_of, plain_name_of, serves_auth, serves_lanes, serves_plain, serves_states, states_name_of};
+ghost use Rattle.mbj_hmac.specs.Begun.{begun};
 ghost use Rattle.mbj_hmac.specs.Inside.InLanes.{idle, moved, turn_of, with_chain};
 ghost use Rattle.mbj_hmac.specs.Rounds.{HmacState, block_before, outer_rounds, rest_of, round, started, started_plain, started_states, turned};
 
 use crate::ends::{
-    first_ends, plain_ends, plain_rounds, put_digest, rounds, states_ends, states_rounds,
-    tail_blocks,
+    plain_rounds, put_digest, put_first_ends, put_plain_ends, put_states_ends, rounds,
+    states_rounds, tail_blocks,
 };
 use crate::form::Form;
-use crate::key::{MAX_BLOCK_BYTES, hash_key, hash_name, plain_name, states_name};
+use crate::key::{MAX_BLOCK_BYTES, hash_key};
 use crate::lane_hash::LaneHash;
-use mbj_types::{Auth, HashName, Tag};
+use mbj_types::{Auth, AuthClass, HashName, Tag};
 use std::alloc::Global;
 use std::marker::Model;
 use std::mem;
@@ -91,39 +92,9 @@ impl<H: LaneHash> HmacEntry<H> {
         ensures tag { let end = end_of (round H.chaining) rest_of result in
             IfSome (hash_of auth) (λ h. H.chaining.digest end.hash end.chain ≡ hmac h key.now (take len (drop off packet.items))) }
     {
-        let hash = hash_name(auth);
-        let key = hash_key(hash, key);
-        Self::started(hash, &key, packet, off, len)
-    }
-
-    /// An HMAC of which nothing is done, by the key of a block.
-    fn started(
-        hash: HashName,
-        key: &[u8; MAX_BLOCK_BYTES],
-        packet: Vec<u8>,
-        off: u32,
-        len: u32,
-    ) -> HmacEntry<H>
-        requires serves { IsTrue (H.chaining.serves hash) }
-        requires range { off + len ≤ length packet.items }
-        ensures start { result ≡ started H.chaining hash (take H.chaining.block_bytes (padded_key ipad key.now))
-            (take H.chaining.block_bytes (padded_key opad key.now)) packet.items off len }
-        ensures pads { length key.now ≡ MAX_BLOCK_BYTES }
-    {
-        let (off, len) = (off as usize, len as usize);
-        let ends = first_ends::<H>(hash, key, &packet, off, len);
-        HmacEntry {
-            packet,
-            rest: rounds::<H>(len),
-            chain: H::initial(hash),
-            inner: H::zeros(),
-            start: H::initial(hash),
-            hash,
-            form: Form::Keyed,
-            ends,
-            off,
-            len,
-        }
+        let mut entry = HmacEntry::blank(*packet.allocator());
+        entry.refill(auth, key, packet, off, len);
+        entry
     }
 
     /// A digest of which nothing is done, over `len` bytes of the packet from `off` on. The authentication is the digest
@@ -141,29 +112,9 @@ impl<H: LaneHash> HmacEntry<H> {
         ensures digest { let end = end_of (round H.chaining) rest_of result in
             IfSome (plain_hash_of auth) (λ h. H.chaining.digest end.hash end.chain ≡ h.digest (take len (drop off packet.items))) }
     {
-        Self::started_plain(plain_name(auth), packet, off, len)
-    }
-
-    /// A digest of which nothing is done, by its hash.
-    fn started_plain(hash: HashName, packet: Vec<u8>, off: u32, len: u32) -> HmacEntry<H>
-        requires serves { IsTrue (H.chaining.serves hash) }
-        requires range { off + len ≤ length packet.items }
-        ensures { result ≡ started_plain H.chaining hash packet.items off len }
-    {
-        let (off, len) = (off as usize, len as usize);
-        let ends = plain_ends::<H>(&packet, off, len);
-        HmacEntry {
-            packet,
-            rest: plain_rounds::<H>(len),
-            chain: H::initial(hash),
-            inner: H::zeros(),
-            start: H::zeros(),
-            hash,
-            form: Form::Plain,
-            ends,
-            off,
-            len,
-        }
+        let mut entry = HmacEntry::blank(*packet.allocator());
+        entry.refill(auth, &[], packet, off, len);
+        entry
     }
 
     /// An HMAC from states of which nothing is done, over `len` bytes of the packet from `off` on. The authentication is the HMAC from
@@ -190,38 +141,110 @@ impl<H: LaneHash> HmacEntry<H> {
         ensures tag { let end = end_of (round H.chaining) rest_of result in
             IfSome (states_hash_of auth) (λ c. H.chaining.digest end.hash end.chain ≡ hmac_from_states c states.now (take len (drop off packet.items))) }
     {
-        let hash = states_name(auth);
-        let (inner, outer) = states.split_at(hash.state_bytes());
-        Self::started_states(hash, H::load(inner), H::load(outer), packet, off, len)
+        let mut entry = HmacEntry::blank(*packet.allocator());
+        entry.refill(auth, states, packet, off, len);
+        entry
     }
 
-    /// An HMAC from the hash values of its states, of which nothing is done.
-    fn started_states(
+    /// Becomes a digest, an HMAC or an HMAC from states of which nothing is done, over `len` bytes of the packet from `off` on. The
+    /// authentication is one that the kernel serves. The key is that of an HMAC, or the two states of one from states; a digest looks at
+    /// none. The range lies in the packet, which moves into the entry. What the entry was is not looked at.
+    pub(crate) fn refill(&mut self, auth: Auth, key: &[u8], packet: Vec<u8>, off: u32, len: u32)
+        requires serves { IsTrue (serves_lanes H.chaining auth) }
+        requires states { IfSome (states_hash_of auth) (λ c. length key.now ≡ 2 * c.state_bytes) }
+        requires range { off + len ≤ length packet.items }
+        ensures { self.new ≡ begun H.chaining (class_of auth) key.now packet.items off len }
+    {
+        match auth.class() {
+            AuthClass::Hmac(hash) => {
+                let key = hash_key(hash, key);
+                self.start_keyed(hash, &key, packet, off, len);
+            }
+            AuthClass::Plain(hash) => self.start_plain(hash, packet, off, len),
+            AuthClass::States(hash) => {
+                let (inner, outer) = key.split_at(hash.state_bytes());
+                self.start_states(hash, H::load(inner), H::load(outer), packet, off, len);
+            }
+            AuthClass::Null
+            | AuthClass::Cmac(_)
+            | AuthClass::Gcm
+            | AuthClass::Ccm
+            | AuthClass::Gmac => unreachable!(),
+        }
+    }
+
+    /// Becomes an HMAC of which nothing is done, by the key of a block.
+    fn start_keyed(
+        &mut self,
+        hash: HashName,
+        key: &[u8; MAX_BLOCK_BYTES],
+        packet: Vec<u8>,
+        off: u32,
+        len: u32,
+    )
+        requires serves { IsTrue (H.chaining.serves hash) }
+        requires range { off + len ≤ length packet.items }
+        ensures start { self.new ≡ started H.chaining hash (take H.chaining.block_bytes (padded_key ipad key.now))
+            (take H.chaining.block_bytes (padded_key opad key.now)) packet.items off len }
+        ensures pads { length key.now ≡ MAX_BLOCK_BYTES }
+    {
+        let (off, len) = (off as usize, len as usize);
+        put_first_ends::<H>(&mut self.ends, hash, key, &packet, off, len);
+        self.packet = packet;
+        self.rest = rounds::<H>(len);
+        self.chain = H::initial(hash);
+        self.inner = H::zeros();
+        self.start = H::initial(hash);
+        self.hash = hash;
+        self.form = Form::Keyed;
+        self.off = off;
+        self.len = len;
+    }
+
+    /// Becomes a digest of which nothing is done, by its hash.
+    fn start_plain(&mut self, hash: HashName, packet: Vec<u8>, off: u32, len: u32)
+        requires serves { IsTrue (H.chaining.serves hash) }
+        requires range { off + len ≤ length packet.items }
+        ensures { self.new ≡ started_plain H.chaining hash packet.items off len }
+    {
+        let (off, len) = (off as usize, len as usize);
+        put_plain_ends::<H>(&mut self.ends, &packet, off, len);
+        self.packet = packet;
+        self.rest = plain_rounds::<H>(len);
+        self.chain = H::initial(hash);
+        self.inner = H::zeros();
+        self.start = H::zeros();
+        self.hash = hash;
+        self.form = Form::Plain;
+        self.off = off;
+        self.len = len;
+    }
+
+    /// Becomes an HMAC from the hash values of its states, of which nothing is done.
+    fn start_states(
+        &mut self,
         hash: HashName,
         inner: H::Chain,
         outer: H::Chain,
         packet: Vec<u8>,
         off: u32,
         len: u32,
-    ) -> HmacEntry<H>
+    )
         requires serves { IsTrue (H.chaining.serves hash) }
         requires range { off + len ≤ length packet.items }
-        ensures { result ≡ started_states H.chaining hash (H.words inner) (H.words outer) packet.items off len }
+        ensures { self.new ≡ started_states H.chaining hash (H.words inner) (H.words outer) packet.items off len }
     {
         let (off, len) = (off as usize, len as usize);
-        let ends = states_ends::<H>(hash, &packet, off, len);
-        HmacEntry {
-            packet,
-            rest: states_rounds::<H>(len),
-            chain: inner,
-            inner: H::zeros(),
-            start: outer,
-            hash,
-            form: Form::States,
-            ends,
-            off,
-            len,
-        }
+        put_states_ends::<H>(&mut self.ends, hash, &packet, off, len);
+        self.packet = packet;
+        self.rest = states_rounds::<H>(len);
+        self.chain = inner;
+        self.inner = H::zeros();
+        self.start = outer;
+        self.hash = hash;
+        self.form = Form::States;
+        self.off = off;
+        self.len = len;
     }
 
     /// The packet, and the digest or HMAC in full. No round is left.
@@ -318,6 +341,19 @@ impl<H: LaneHash> HmacEntry<H> {
             off: self.off,
             len: self.len,
         }
+    }
+
+    /// The packet moves out, with the digest or HMAC in full by the hash value of the lane. No round is left.
+    #[inline(always)]
+    pub(crate) fn end_parts(&mut self, chain: &H::Chain) -> (Vec<u8>, Tag)
+        requires { self.old.rest ≡ 0 }
+        ensures packet { result.0.items ≡ self.old.packet }
+        ensures tag { result.1 ≡ H.chaining.digest self.old.hash (H.words chain.now) }
+        ensures rest { self.new.rest ≡ 0 }
+    {
+        let alloc = *self.packet.allocator();
+        let packet = mem::replace(&mut self.packet, Vec::new(alloc));
+        (packet, H::digest(self.hash, chain))
     }
 
     /// Where the first round of an HMAC's outer hash is next, the hash value moves, and the outer hash starts.

@@ -1,5 +1,5 @@
-ghost use Rattle.std.specs.Prelude.{◌≡◌, ◌-◌, ◌≤◌, ◌++◌, length, replicate, IfSome, IsSome};
-ghost use Rattle.mbj_types.specs.Auths.{IsHmac, class_of, hash_of, hash_of_name, plain_hash_of, states_hash_of};
+ghost use Rattle.std.specs.Prelude.{◌≡◌, ◌-◌, ◌≤◌, ◌++◌, length, replicate, IfSome};
+ghost use Rattle.mbj_types.specs.Auths.{IsHmac, class_of, hash_of, hash_of_name};
 ghost use Rattle.mbj_types.specs.Hmac.{block_key, padded_key};
 
 use crate::hasher::Hasher;
@@ -30,40 +30,6 @@ pub(crate) fn hash_name(auth: Auth) -> HashName
         | AuthClass::Plain(_)
         | AuthClass::Gmac
         | AuthClass::States(_) => unreachable!(),
-    }
-}
-
-/// The hash of a digest.
-pub(crate) fn plain_name(auth: Auth) -> HashName
-    requires { IsSome (plain_hash_of auth) }
-    ensures { class_of auth ≡ AuthClass.Plain result }
-{
-    match auth.class() {
-        AuthClass::Plain(hash) => hash,
-        AuthClass::Null
-        | AuthClass::Hmac(_)
-        | AuthClass::Cmac(_)
-        | AuthClass::Gcm
-        | AuthClass::Ccm
-        | AuthClass::Gmac
-        | AuthClass::States(_) => unreachable!(),
-    }
-}
-
-/// The hash of an HMAC from states.
-pub(crate) fn states_name(auth: Auth) -> HashName
-    requires { IsSome (states_hash_of auth) }
-    ensures { class_of auth ≡ AuthClass.States result }
-{
-    match auth.class() {
-        AuthClass::States(hash) => hash,
-        AuthClass::Null
-        | AuthClass::Hmac(_)
-        | AuthClass::Cmac(_)
-        | AuthClass::Gcm
-        | AuthClass::Ccm
-        | AuthClass::Plain(_)
-        | AuthClass::Gmac => unreachable!(),
     }
 }
 

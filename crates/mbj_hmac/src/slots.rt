@@ -1,15 +1,19 @@
 // Slots of digests and HMACs.
-ghost use Rattle.std.specs.Prelude.{◌≡◌, ℕ, ◌<◌, ◌≤◌, Some, None, IfOk};
+ghost use Rattle.std.specs.Prelude.{◌≡◌, ℕ, ◌+◌, ◌*◌, ◌<◌, ◌≤◌, Some, None, IfOk, IfSome, IsTrue, length};
 ghost use Rattle.std.specs.Option.{option_map};
+ghost use Rattle.mbj_types.specs.Auths.{class_of, states_hash_of};
 ghost use Rattle.mbj_lane.specs.Rounds.{after};
 ghost use Rattle.mbj_lane.specs.Slots.{IsBusy, IsLeast, IsWritten};
 ghost use Rattle.mbj_hmac.specs.Rounds.{HmacState, rest_of, round};
+ghost use Rattle.mbj_hmac.specs.Names.{serves_lanes};
+ghost use Rattle.mbj_hmac.specs.Begun.{Begins, begun};
 ghost use Rattle.mbj_hmac.specs.Inside.InLanes.{slot_in};
 
 use crate::entry::HmacEntry;
 use crate::lane_hash::LaneHash;
 use crate::lanes::HmacLanes;
 use crate::rests::{least_lane, word_of};
+use mbj_types::{Auth, Tag};
 use std::alloc::{AllocError, Global};
 use std::marker::Model;
 
@@ -59,6 +63,25 @@ impl<H: LaneHash> HmacSlots<H> {
         self.entries[i] = entry;
     }
 
+    /// A job of which nothing is done takes an idle slot: a digest, an HMAC or an HMAC from states over `len` bytes of the packet from
+    /// `off` on. The authentication is one that the kernel serves. The key is that of an HMAC, or the two states of one from states; a
+    /// digest looks at none. The packet moves into the slot.
+    ///
+    /// At its end the entry has the packet as it was given, and the digest of its hash value is the digest or the whole HMAC.
+    #[inline(always)]
+    pub fn put_job(&mut self, i: usize, auth: Auth, key: &[u8], packet: Vec<u8>, off: u32, len: u32)
+        requires lane { i < H.LANES }
+        requires serves { IsTrue (serves_lanes H.chaining auth) }
+        requires states { IfSome (states_hash_of auth) (λ c. length key.now ≡ 2 * c.state_bytes) }
+        requires range { off + len ≤ length packet.items }
+        ensures put { IsWritten H.LANES i (Some (begun H.chaining (class_of auth) key.now packet.items off len)) (slot_in self.old) (slot_in self.new) }
+        ensures begins { Begins H.chaining (class_of auth) key.now packet.items off len (begun H.chaining (class_of auth) key.now packet.items off len) }
+    {
+        let entry = &mut self.entries[i];
+        entry.refill(auth, key, packet, off, len);
+        self.lanes.enter(i, entry);
+    }
+
     /// How many rounds the entry of a slot has left.
     #[inline(always)]
     pub(crate) fn rest_at(&self, i: usize) -> u32
@@ -99,5 +122,21 @@ impl<H: LaneHash> HmacSlots<H> {
         let chain = H::scattered(&self.lanes.states, i);
         let entry = &mut self.entries[i];
         entry.end(chain)
+    }
+
+    /// Takes the packet out of the slot of an entry that has no round left, with the digest or HMAC in full. The slot is idle then.
+    #[inline(always)]
+    pub fn take_parts(&mut self, i: usize) -> (Vec<u8>, Tag)
+        requires lane { i < H.LANES }
+        requires busy { IsBusy (slot_in self.old) i }
+        requires done { (e : HmacState) → slot_in self.old i ≡ Some e → e.rest ≡ 0 }
+        ensures packet { (e : HmacState) → slot_in self.old i ≡ Some e → result.0.items ≡ e.packet }
+        ensures tag { (e : HmacState) → slot_in self.old i ≡ Some e → result.1 ≡ H.chaining.digest e.hash e.chain }
+        ensures idle { IsWritten H.LANES i None (slot_in self.old) (slot_in self.new) }
+    {
+        self.lanes.leave(i);
+        let chain = H::scattered(&self.lanes.states, i);
+        let entry = &mut self.entries[i];
+        entry.end_parts(&chain)
     }
 }

@@ -80,6 +80,6 @@ module _ (h : Chaining) where
   IsSound ends e = (e.off + e.len ≤ length e.packet) × (e.rest ≤ rounds_in e.form h.block_bytes e.len) × (e.len < 2 ^ 32)
       × IsLaid ends e × (length ends ≡ 5 * h.block_bytes) × IsTrue (h.serves e.hash)
 
-  -- as long as a round is left; the hash is one of these behind the last too
+  -- as long as a round is left; the hash is one of these behind the last too, and there are five blocks
   abbrev pub IsKept : List ℕ → HmacState → Type 0
-  IsKept ends e = (0 < e.rest → IsSound ends e) × (e.len < 2 ^ 32) × IsTrue (h.serves e.hash)
+  IsKept ends e = (0 < e.rest → IsSound ends e) × (e.len < 2 ^ 32) × IsTrue (h.serves e.hash) × (length ends ≡ 5 * h.block_bytes)

@@ -1,68 +1,61 @@
-use Rattle.std.proofs.Common.{◌≡◌, List, ℕ, ap, ap₂, ◌∙◌, take, drop}
-use Rattle.mbj_types.specs.Auths.{hash_of_name}
-use Rattle.mbj_types.specs.Hmac.{Hash, block_key, padded_key, hmac, ipad, opad}
-use Rattle.mbj_types.specs.declared.class.HashName.{HashName}
+use Rattle.std.proofs.Common.{◌≡◌, List, ℕ, ◌+◌, ◌*◌, ap, ◌∙◌, length, take, drop, subst, sym}
+use Rattle.std.specs.Prelude.{IfSome}
+use Rattle.mbj_types.specs.Auths.{class_of, states_hash_in}
+use Rattle.mbj_types.specs.declared.class.AuthClass.{AuthClass}
+use Rattle.mbj_types.specs.Hmac.{hmac}
 use Rattle.mbj_lane.specs.Rounds.{end_of}
-use Rattle.mbj_hmac.specs.Rounds.{HmacState, round, rest_of, started}
-use Rattle.mbj_hmac.proofs.FirstEnds.{length-pad}
-use Rattle.mbj_hmac.proofs.Hmacs.{hmac_end, packet_end}
-use Rattle.mbj_hmac.proofs.Pads.{pad_of}
-use Rattle.mbj_hmac.proofs.Served.{of_hash, of_name, served_hmac, served_name}
+use Rattle.mbj_hmac.specs.Begun.{begun, begun_keyed}
+use Rattle.mbj_hmac.specs.Rounds.{HmacState, rest_of, round}
+use Rattle.mbj_hmac.proofs.Beginnings.{keyed_begins, keyed_name, keyed_serves}
+use Rattle.mbj_hmac.proofs.Served.{of_hash, of_name}
 use Rattle.mbj_hmac.proofs.entry.HmacEntry.new.Goals as goal
 
-pub hash_name-hash-requires : goal.hash_name-hash-requires
-hash_name-hash-requires g c = served_hmac g.H.LaneHash.chaining c.args.auth c.requires.auth
+pub refill-requires-clause-serves : goal.refill-requires-clause-serves
+refill-requires-clause-serves g c =
+    let h = g.H.LaneHash.chaining in
+    let k = keyed_name h (class_of c.args.auth) c.requires.auth in
+    keyed_serves h k.0 k.2 (class_of c.args.auth) k.1
 
-pub started-requires-clause-serves : goal.started-requires-clause-serves
-started-requires-clause-serves g c =
-    served_name c.args.auth c.hash_name-hash.result c.hash_name-hash.ensures g.H.LaneHash.chaining c.requires.auth
+pub refill-requires-clause-states : goal.refill-requires-clause-states
+refill-requires-clause-states g c =
+    let k = keyed_name g.H.LaneHash.chaining (class_of c.args.auth) c.requires.auth in
+    subst (λ (x : AuthClass). IfSome (states_hash_in x) (λ n. length c.args.key.now ≡ 2 * n.state_bytes)) (sym k.1) tt
 
 pub returns-clause-start : goal.returns-clause-start
 returns-clause-start g c =
     let h = g.H.LaneHash.chaining in
-    let std = g.met.H.LaneHash.standard in
-    let a : HashName = c.hash_name-hash.result in
-    let hash : Hash = hash_of_name a in
     let key : List ℕ = c.args.key.now in
     let packet : List ℕ = c.args.packet.items in
-    let served = served_name c.args.auth a c.hash_name-hash.ensures h c.requires.auth in
-    let is = g.met.H.LaneHash.hashes a served in
-    let size = g.met.H.LaneHash.blocks a served in
-    let x = c.hash_key-key.result in
-    of_name c.args.auth a c.hash_name-hash.ensures
-    (λ n. c.started.result ≡ started h n (padded_key ipad (block_key (hash_of_name n) key)) (padded_key opad (block_key (hash_of_name n) key)) packet c.args.off c.args.len)
-    (c.started.ensures.start ∙ ap₂ (λ f b. started h a f b packet c.args.off c.args.len)
-    (pad_of h std a hash key x ipad _ is size c.hash_key-key.ensures) (pad_of h std a hash key x opad _ is size c.hash_key-key.ensures))
+    let k = keyed_name h (class_of c.args.auth) c.requires.auth in
+    of_name c.args.auth k.0 k.1 (λ a. c.refill.new.self ≡ begun_keyed h a key packet c.args.off c.args.len)
+    (c.refill.ensures ∙ ap (λ (x : AuthClass). begun h x key packet c.args.off c.args.len) k.1)
+
+pub returns-clause-rest : goal.returns-clause-rest
+returns-clause-rest g c =
+    let h = g.H.LaneHash.chaining in
+    let key : List ℕ = c.args.key.now in
+    let k = keyed_name h (class_of c.args.auth) c.requires.auth in
+    ap (λ (e : HmacState). e.rest) (c.refill.ensures ∙ ap (λ (x : AuthClass). begun h x key c.args.packet.items c.args.off c.args.len) k.1)
 
 pub returns-clause-packet : goal.returns-clause-packet
 returns-clause-packet g c =
     let h = g.H.LaneHash.chaining in
-    let std = g.met.H.LaneHash.standard in
-    let x = c.hash_key-key.result in
-    let packet = c.args.packet.items in
-    let off = c.args.off in
-    let len = c.args.len in
-    ap (λ (e : HmacState). (end_of (round h) rest_of e).packet) c.started.ensures.start
-    ∙ packet_end h std c.hash_name-hash.result _ _ packet off len (length-pad h std x ipad c.started.ensures.pads) c.requires.range c.ranges.len.fits
+    let hash = g.met.H.LaneHash in
+    let key : List ℕ = c.args.key.now in
+    let packet : List ℕ = c.args.packet.items in
+    let k = keyed_name h (class_of c.args.auth) c.requires.auth in
+    let begins = keyed_begins h hash.standard hash.hashes hash.blocks hash.compressions key packet c.args.off c.args.len c.requires.range c.ranges.len.fits k.0 k.2 in
+    ap (λ (e : HmacState). (end_of (round h) rest_of e).packet) (c.refill.ensures ∙ ap (λ (x : AuthClass). begun h x key packet c.args.off c.args.len) k.1)
+    ∙ begins.packet_is
 
 pub returns-clause-tag : goal.returns-clause-tag
 returns-clause-tag g c =
     let h = g.H.LaneHash.chaining in
-    let std = g.met.H.LaneHash.standard in
-    let a : HashName = c.hash_name-hash.result in
-    let hash : Hash = hash_of_name a in
+    let hash = g.met.H.LaneHash in
     let key : List ℕ = c.args.key.now in
     let packet : List ℕ = c.args.packet.items in
-    let off = c.args.off in
-    let len = c.args.len in
-    let served = served_name c.args.auth a c.hash_name-hash.ensures h c.requires.auth in
-    let is = g.met.H.LaneHash.hashes a served in
-    let size = g.met.H.LaneHash.blocks a served in
-    let x = c.hash_key-key.result in
+    let k = keyed_name h (class_of c.args.auth) c.requires.auth in
+    let begins = keyed_begins h hash.standard hash.hashes hash.blocks hash.compressions key packet c.args.off c.args.len c.requires.range c.ranges.len.fits k.0 k.2 in
     let digest : HmacState → List ℕ = λ e. let end : HmacState = end_of (round h) rest_of e in h.digest end.hash end.chain in
-    of_hash c.args.auth a c.hash_name-hash.ensures (λ k. digest c.started.result ≡ hmac k key (take len (drop off packet)))
-    (ap digest c.started.ensures.start
-    ∙ hmac_end h std a _ _ packet off len hash key is
-    (pad_of h std a hash key x ipad _ is size c.hash_key-key.ensures) (pad_of h std a hash key x opad _ is size c.hash_key-key.ensures)
-    (length-pad h std x ipad c.started.ensures.pads) (length-pad h std x opad c.started.ensures.pads)
-    c.requires.range c.ranges.len.fits)
+    of_hash c.args.auth k.0 k.1 (λ x. digest c.refill.new.self ≡ hmac x key (take c.args.len (drop c.args.off packet)))
+    (ap digest (c.refill.ensures ∙ ap (λ (x : AuthClass). begun h x key packet c.args.off c.args.len) k.1) ∙ begins.value)

@@ -1,36 +1,61 @@
-use Rattle.std.proofs.Common.{◌≡◌, List, ℕ, ap, ◌∙◌, take, drop}
-use Rattle.mbj_types.specs.Auths.{hash_of_name}
-use Rattle.mbj_types.specs.declared.class.HashName.{HashName}
+use Rattle.std.proofs.Common.{◌≡◌, List, [], ℕ, ◌+◌, ◌*◌, ap, ◌∙◌, length, take, drop, subst, sym}
+use Rattle.std.specs.Prelude.{IfSome}
+use Rattle.mbj_types.specs.Auths.{class_of, states_hash_in}
+use Rattle.mbj_types.specs.declared.class.AuthClass.{AuthClass}
 use Rattle.mbj_lane.specs.Rounds.{end_of}
-use Rattle.mbj_hmac.specs.Rounds.{HmacState, round, rest_of, started_plain}
-use Rattle.mbj_hmac.proofs.Hmacs.{plain_end, plain_packet_end}
-use Rattle.mbj_hmac.proofs.Served.{of_plain_hash, of_plain_name, served_plain, served_plain_name}
+use Rattle.mbj_hmac.specs.Begun.{begun}
+use Rattle.mbj_hmac.specs.Rounds.{HmacState, rest_of, round, started_plain}
+use Rattle.mbj_hmac.proofs.Beginnings.{plain_begins, plain_name, plain_serves}
+use Rattle.mbj_hmac.proofs.Served.{of_plain_hash, of_plain_name}
 use Rattle.mbj_hmac.proofs.entry.HmacEntry.new_plain.Goals as goal
 
-pub plain_name-requires : goal.plain_name-requires
-plain_name-requires g c = served_plain g.H.LaneHash.chaining c.args.auth c.requires.auth
+pub refill-requires-clause-serves : goal.refill-requires-clause-serves
+refill-requires-clause-serves g c =
+    let h = g.H.LaneHash.chaining in
+    let k = plain_name h (class_of c.args.auth) c.requires.auth in
+    plain_serves h k.0 k.2 (class_of c.args.auth) k.1
 
-pub started_plain-requires-clause-serves : goal.started_plain-requires-clause-serves
-started_plain-requires-clause-serves g c = served_plain_name c.args.auth c.plain_name.result c.plain_name.ensures g.H.LaneHash.chaining c.requires.auth
+pub refill-requires-clause-states : goal.refill-requires-clause-states
+refill-requires-clause-states g c =
+    let k = plain_name g.H.LaneHash.chaining (class_of c.args.auth) c.requires.auth in
+    let none : List ℕ = [] in
+    subst (λ (x : AuthClass). IfSome (states_hash_in x) (λ n. length none ≡ 2 * n.state_bytes)) (sym k.1) tt
 
 pub returns-clause-start : goal.returns-clause-start
 returns-clause-start g c =
-    of_plain_name c.args.auth c.plain_name.result c.plain_name.ensures
-    (λ n. c.started_plain.result ≡ started_plain g.H.LaneHash.chaining n c.args.packet.items c.args.off c.args.len) c.started_plain.ensures
+    let h = g.H.LaneHash.chaining in
+    let key : List ℕ = [] in
+    let packet : List ℕ = c.args.packet.items in
+    let k = plain_name h (class_of c.args.auth) c.requires.auth in
+    of_plain_name c.args.auth k.0 k.1 (λ a. c.refill.new.self ≡ started_plain h a packet c.args.off c.args.len)
+    (c.refill.ensures ∙ ap (λ (x : AuthClass). begun h x key packet c.args.off c.args.len) k.1)
+
+pub returns-clause-rest : goal.returns-clause-rest
+returns-clause-rest g c =
+    let h = g.H.LaneHash.chaining in
+    let key : List ℕ = [] in
+    let k = plain_name h (class_of c.args.auth) c.requires.auth in
+    ap (λ (e : HmacState). e.rest) (c.refill.ensures ∙ ap (λ (x : AuthClass). begun h x key c.args.packet.items c.args.off c.args.len) k.1)
 
 pub returns-clause-packet : goal.returns-clause-packet
 returns-clause-packet g c =
     let h = g.H.LaneHash.chaining in
-    ap (λ (e : HmacState). (end_of (round h) rest_of e).packet) c.started_plain.ensures
-    ∙ plain_packet_end h g.met.H.LaneHash.standard c.plain_name.result c.args.packet.items c.args.off c.args.len c.requires.range c.ranges.len.fits
+    let hash = g.met.H.LaneHash in
+    let key : List ℕ = [] in
+    let packet : List ℕ = c.args.packet.items in
+    let k = plain_name h (class_of c.args.auth) c.requires.auth in
+    let begins = plain_begins h hash.standard hash.hashes hash.blocks hash.compressions key packet c.args.off c.args.len c.requires.range c.ranges.len.fits k.0 k.2 in
+    ap (λ (e : HmacState). (end_of (round h) rest_of e).packet) (c.refill.ensures ∙ ap (λ (x : AuthClass). begun h x key packet c.args.off c.args.len) k.1)
+    ∙ begins.packet_is
 
 pub returns-clause-digest : goal.returns-clause-digest
 returns-clause-digest g c =
     let h = g.H.LaneHash.chaining in
-    let a : HashName = c.plain_name.result in
+    let hash = g.met.H.LaneHash in
+    let key : List ℕ = [] in
     let packet : List ℕ = c.args.packet.items in
-    let served = served_plain_name c.args.auth a c.plain_name.ensures h c.requires.auth in
+    let k = plain_name h (class_of c.args.auth) c.requires.auth in
+    let begins = plain_begins h hash.standard hash.hashes hash.blocks hash.compressions key packet c.args.off c.args.len c.requires.range c.ranges.len.fits k.0 k.2 in
     let digest : HmacState → List ℕ = λ e. let end : HmacState = end_of (round h) rest_of e in h.digest end.hash end.chain in
-    of_plain_hash c.args.auth a c.plain_name.ensures (λ k. digest c.started_plain.result ≡ k.digest (take c.args.len (drop c.args.off packet)))
-    (ap digest c.started_plain.ensures
-    ∙ plain_end h g.met.H.LaneHash.standard a packet c.args.off c.args.len (hash_of_name a) (g.met.H.LaneHash.hashes a served) c.requires.range c.ranges.len.fits)
+    of_plain_hash c.args.auth k.0 k.1 (λ x. digest c.refill.new.self ≡ x.digest (take c.args.len (drop c.args.off packet)))
+    (ap digest (c.refill.ensures ∙ ap (λ (x : AuthClass). begun h x key packet c.args.off c.args.len) k.1) ∙ begins.value)

@@ -3,7 +3,7 @@ use Rattle.mbj_types.specs.Hmac.{ipad, opad}
 use Rattle.mbj_hmac.specs.Inside.Layout.{message_end, tail_blocks}
 use Rattle.mbj_hmac.proofs.Writes.{grown}
 use Rattle.mbj_hmac.proofs.FirstEnds.{ends_fit, ends_made, pad_fills, pad_is}
-use Rattle.mbj_hmac.proofs.ends.first_ends.Goals as goal
+use Rattle.mbj_hmac.proofs.ends.put_first_ends.Goals as goal
 
 pub put-at-requires : goal.put-at-requires
 put-at-requires g c =

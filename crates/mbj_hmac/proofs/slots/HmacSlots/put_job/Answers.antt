@@ -1,0 +1,50 @@
+use Rattle.std.proofs.Common.{◌<◌, ◌∙◌, Some, inr, length, length-set, set, get_or-set_same, sym, ap, ap₂, arith}
+use Rattle.mbj_types.specs.Auths.{class_of}
+use Rattle.mbj_hmac.specs.Inside.InLanes.{blank, slot_at, with_chain}
+use Rattle.mbj_hmac.proofs.Beginnings.{begins}
+use Rattle.mbj_hmac.proofs.InLanes.{slot_busy, slot_here, slot_is, slot_same, tied_set}
+use Rattle.mbj_hmac.proofs.slots.HmacSlots.put_job.Goals as goal
+
+pub invariant_of-self : goal.invariant_of-self
+invariant_of-self g c =
+    let s = c.self.inside in
+    let old = s.lanes.rests in
+    let new = c.enter.new.self.rests in
+    let in_ = c.enter.ensures in
+    let es = s.entries.items in
+    let i = c.args.i in
+    let e = c.refill.new.self in
+    let lt : i < length es = omega (arith, c.requires.lane, c.self.invariant.1) in
+    let few = in_.few in (
+      tied_set old.left old.turns new.left new.turns es i e lt in_.rests in_.turns c.self.invariant.0 (inr (omega (arith, in_.rest, few), in_.rest, in_.turn)),
+      length-set es i e ∙ c.self.invariant.1,
+    )
+
+pub returns-clause-put : goal.returns-clause-put
+returns-clause-put g c =
+    let n = g.H.LaneHash.LANES in
+    let s = c.self.inside in
+    let old = s.lanes.rests in
+    let new = c.enter.new.self.rests in
+    let lane = g.H.LaneHash.lane s.lanes.states in
+    let led = g.H.LaneHash.lane c.enter.new.self.states in
+    let in_ = c.enter.ensures in
+    let es = s.entries.items in
+    let i = c.args.i in
+    let e = c.refill.new.self in
+    let lt : i < length es = omega (arith, c.requires.lane, c.self.invariant.1) in
+    let few = in_.few in
+    let slots = slot_at led new.left (set es i e) in
+    record {
+      here = slot_is n slots i c.requires.lane ∙ slot_busy led new.left (set es i e) i (omega (arith, in_.rest, few))
+          ∙ ap Some (ap₂ with_chain in_.chain (get_or-set_same es i e blank lt) ∙ c.refill.ensures);
+      others = λ j l apart.
+          slot_is n slots j l ∙ slot_same lane led old.left new.left es e i j apart (in_.rests j (omega (arith, g.met.H.LaneHash.narrow)) apart) (in_.chains j l apart)
+          ∙ sym (slot_here n lane old.left old.turns es c.args.self.now c.self.view_is c.self.invariant.0 c.self.invariant.1 g.met.H.LaneHash.narrow j l);
+    }
+
+pub returns-clause-begins : goal.returns-clause-begins
+returns-clause-begins g c =
+    let hash = g.met.H.LaneHash in
+    begins g.H.LaneHash.chaining hash.standard hash.hashes hash.blocks hash.compressions c.args.key.now c.args.packet.items c.args.off c.args.len
+    c.requires.range c.ranges.len.fits (class_of c.args.auth) c.requires.serves
