@@ -13,6 +13,7 @@ mod place;
 mod plays;
 mod posting;
 mod results;
+mod returned;
 mod rule;
 mod seat;
 mod seat_numbers;
@@ -28,6 +29,7 @@ pub use laws::{
     steps_keep_the_front_lawful, the_core_sees_lawful_states,
 };
 pub use results::Results;
+pub use returned::Returned;
 pub use seat::PartySeat;
 pub use standard::{Front, Seat, Standard};
 pub use words::{DONE, FREE, READY};

@@ -10,6 +10,7 @@ ghost use Rattle.mbj_front.specs.Seats.{view_of, submitters_of, IsOf, Did};
 use crate::front::SharedFront;
 use crate::plays::{Free, Open, Publish, Take};
 use crate::results::Results;
+use crate::returned::Returned;
 use crate::seat::PartySeat;
 use crate::slot::Slot;
 use crate::words::{DONE, FREE, READY, open_word, take_word};
@@ -52,9 +53,8 @@ impl<J, D, R: Results<J, D>> SharedFront<J, D, R> {
         }
     }
 
-    /// Takes the result of the submitter's earliest job that is out; it then empties that cell. Returns the cell's word
-    /// exactly where that isn't `DONE`; then nothing changes but that the look is recorded.
-    pub fn try_take(&self, seat: &mut PartySeat<J, D>) -> Result<D, u64>
+    /// `try_take`, which gives the result with its job, where that came back too.
+    pub fn try_take_returned(&self, seat: &mut PartySeat<J, D>) -> Result<Returned<J, D>, u64>
         requires front { IsOf self.now seat.old }
         requires rest { (view_of seat.old).phase ≡ Rest }
         requires out { (view_of seat.old).handed < length (view_of seat.old).due }
@@ -77,7 +77,7 @@ impl<J, D, R: Results<J, D>> SharedFront<J, D, R> {
         seat.first = (seat.first + 1) % SUBMITTER_CELLS;
         seat.out -= 1;
         match slot {
-            Slot::Made(done) => Ok(done),
+            Slot::Made(returned) => Ok(returned),
             _ => unreachable!(),
         }
     }
@@ -94,5 +94,27 @@ impl<J, D, R: Results<J, D>> SharedFront<J, D, R> {
         let take = take_word(seat.party);
         let table = &self.table.shared;
         table.compare_exchange::<Free<R>>(&mut seat.inner, at, take, FREE);
+    }
+}
+
+impl<J: Drop, D, R: Results<J, D>> SharedFront<J, D, R> {
+    /// Takes the result of the submitter's earliest job that is out; it then empties that cell. Returns the cell's word
+    /// exactly where that isn't `DONE`; then nothing changes but that the look is recorded.
+    pub fn try_take(&self, seat: &mut PartySeat<J, D>) -> Result<D, u64>
+        requires front { IsOf self.now seat.old }
+        requires rest { (view_of seat.old).phase ≡ Rest }
+        requires out { (view_of seat.old).handed < length (view_of seat.old).due }
+        ensures front { IsOf self.now seat.new }
+        ensures result { IfOk result (λ d. slice_get (view_of seat.old).due (view_of seat.old).handed ≡ Some d) }
+        ensures found { IfErr result (λ word. word ≢ DONE) }
+        ensures view { let v = view_of seat.old in let cell = cell_of v.number v.handed in
+            MatchResult result (λ _. view_of seat.new ≡ after_take v cell) (λ word. view_of seat.new ≡ after_look v cell word) }
+        ensures step { let v = view_of seat.old in let cell = cell_of v.number v.handed in
+            MatchResult result (λ d. Did R.owed seat.old (taking d) seat.new) (λ word. Did R.owed seat.old (looking cell word) seat.new) }
+    {
+        match self.try_take_returned(seat) {
+            Ok(returned) => Ok(returned.into_result()),
+            Err(word) => Err(word),
+        }
     }
 }

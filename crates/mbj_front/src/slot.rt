@@ -1,3 +1,5 @@
+use crate::returned::Returned;
+
 /// What stands beside the word of a cell.
 #[derive(Drop)]
 pub enum Slot<J, D> {
@@ -6,5 +8,5 @@ pub enum Slot<J, D> {
     /// A job.
     Task(J),
     /// A result.
-    Made(D),
+    Made(Returned<J, D>),
 }

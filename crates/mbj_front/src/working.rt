@@ -11,6 +11,7 @@ use crate::front::SharedFront;
 use crate::place::Place;
 use crate::plays::{Claim, Finish, Scan};
 use crate::results::Results;
+use crate::returned::Returned;
 use crate::seat::PartySeat;
 use crate::slot::Slot;
 use crate::words::{DONE, READY, hand_word};
@@ -97,10 +98,23 @@ impl<J, D, R: Results<J, D>> SharedFront<J, D, R> {
         ensures view { view_of seat.new ≡ after_finish (view_of seat.old) (view_of seat.new).hand }
         ensures step { Did R.owed seat.old (finishing cell done) seat.new }
     {
+        self.finish_returned(seat, cell, Returned::new(done, None));
+    }
+
+    /// `finish` with a result that may have its job beside it, which then goes back to the submitter.
+    pub fn finish_returned(&self, seat: &mut PartySeat<J, D>, cell: u32, returned: Returned<J, D>)
+        requires front { IsOf self.now seat.old }
+        requires rest { (view_of seat.old).phase ≡ Rest }
+        requires first { IsFirst cell returned (view_of seat.old).hand }
+        ensures front { IsOf self.now seat.new }
+        ensures hand { (view_of seat.old).hand ≡ (cell, returned) ∷ (view_of seat.new).hand }
+        ensures view { view_of seat.new ≡ after_finish (view_of seat.old) (view_of seat.new).hand }
+        ensures step { Did R.owed seat.old (finishing cell returned) seat.new }
+    {
         let at = cell as usize;
         let hand = hand_word(seat.party);
         let table = &self.table.shared;
-        let old = table.exchange(&mut seat.inner, at, Slot::Made(done));
+        let old = table.exchange(&mut seat.inner, at, Slot::Made(returned));
         table.compare_exchange::<Finish<R>>(&mut seat.inner, at, hand, DONE);
         match old {
             Slot::Blank => {}

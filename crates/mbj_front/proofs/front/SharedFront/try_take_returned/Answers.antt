@@ -12,7 +12,7 @@ use Rattle.mbj_front.specs.Inside.Keeps.{Keeps}
 use Rattle.mbj_front.proofs.Allowed.{tries_take}
 use Rattle.mbj_front.proofs.Kept.{kept_looked, kept_taken}
 use Rattle.mbj_front.proofs.Slots.{same_slot, same_result}
-use Rattle.mbj_front.proofs.front.SharedFront.try_take.Goals as goal
+use Rattle.mbj_front.proofs.front.SharedFront.try_take_returned.Goals as goal
 
 -- a party with one out is a submitter
 owner : {J D : Type 0} (words party first out : ℕ) (me : Mine J D) → Keeps words me party first out → me.0.view.handed < length me.0.view.due → party < me.0.submitters
@@ -57,7 +57,7 @@ returns-clause-front g c = let front = c.requires.front in let told = c.compare_
 
 pub returns-clause-result : goal.returns-clause-result
 returns-clause-result g c = let did = c.compare_exchange-word.ensures.2.0 c.if-word-ne-DONE.false in
-    did.1 ∙ ap Some (same_result did.0 c.in-Made.done (same_slot _ _ _ _ _ _ _ (ap (λ m. m.1) did.2.0) c.exchange-slot.ensures.2 ∙ c.in-Made.is))
+    did.1 ∙ ap Some (same_result did.0 c.in-Made.returned (same_slot _ _ _ _ _ _ _ (ap (λ m. m.1) did.2.0) c.exchange-slot.ensures.2 ∙ c.in-Made.is))
 
 pub returns-clause-view : goal.returns-clause-view
 returns-clause-view g c = let seat = c.args.seat.now in let k = seat.keeps in let v = seat.inner.me.0.view in
@@ -66,7 +66,7 @@ returns-clause-view g c = let seat = c.args.seat.now in let k = seat.keeps in le
 
 pub returns-clause-step : goal.returns-clause-step
 returns-clause-step g c = let me = c.args.seat.now.inner.me.0 in let did = c.compare_exchange-word.ensures.2.0 c.if-word-ne-DONE.false in let put = c.exchange-slot.ensures in
-    let same = same_result did.0 c.in-Made.done (same_slot _ _ _ _ _ _ _ (ap (λ m. m.1) did.2.0) put.2 ∙ c.in-Made.is) in
+    let same = same_result did.0 c.in-Made.returned (same_slot _ _ _ _ _ _ _ (ap (λ m. m.1) did.2.0) put.2 ∙ c.in-Made.is) in
     subst (λ (x : g.row.D.Denot × View g.row.D.Denot). Led g.R.Results.owed me.submitters me.workers me.view (taking x.0) x.1)
     (λ i. (same i, sym (ap (λ m. m.0.view) put.3 ∙ ap (λ m. m.0.view) did.2.0) i)) did.2.1
 
