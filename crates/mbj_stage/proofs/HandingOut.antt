@@ -17,7 +17,7 @@ use Rattle.mbj_types.specs.declared.reason.Reason.{Reason}
 use Rattle.mbj_types.specs.Aes.{round_count}
 use Rattle.mbj_types.specs.Auths.{IsCmac, class_of, cmac_key_bytes, cmac_kind}
 use Rattle.mbj_types.specs.Result.{ciphered, mac_by}
-use Rattle.mbj_types.specs.Verdict.{takes_auth_key, takes_key, verdict_at}
+use Rattle.mbj_types.specs.Verdict.{takes_auth_key, takes_key, verdict, verdict_at}
 use Rattle.mbj_aes.specs.Bytes.{IsKeySize, IsRoundCount}
 use Rattle.mbj_aes.proofs.KeySizes.{key_sizes}
 use Rattle.mbj_args.proofs.Accepted.{accepted}
@@ -35,7 +35,7 @@ use Rattle.mbj_stage.proofs.Handings.{IsCcmEnd, going, owes-ccm, owes-text, owes
 use Rattle.mbj_stage.proofs.PacketLengths.{length-ciphered}
 use Rattle.mbj_stage.proofs.Soundness.{verdict-sized}
 use Rattle.mbj_stage.proofs.Packets.{ciphered-packet, mac_by-packet}
-use Rattle.mbj_stage.proofs.StagesOf.{auth-first, ccm-first, cipher-first, cipher-lane, cmac-auth, first-some, first-step, stage-packet}
+use Rattle.mbj_stage.proofs.StagesOf.{auth-first, ccm-first, cipher-first, cipher-lane, cmac-auth, first-some, first-step}
 
 -- ---- what is owed
 
@@ -68,57 +68,57 @@ left-ccm j (step.CcmText ∷ left) h = absurd (cc)
 left-ccm j (step.Gmac ∷ left) h = absurd (cc)
 
 -- a course by its fields once its packet went out
-out-is : (n : Lengths) (j : Job) (p q tag : List ℕ) (reason : Option Reason) (left : List Step) (out : Option ℕ) (m : ℕ) → q ≡ [] → m ≡ length p
-    → left_behind left (record j { packet = p }) ≡ record j { packet = [] }
-    → going n j q tag reason left (Some m) ≡ handed_out (going n j p tag reason left out)
-out-is n j p q tag reason left out m none len behind =
-    ap₂ (λ (x : List ℕ) (l : ℕ). going n j x tag reason left (Some l)) none len
-    ∙ ap (λ (x : Job). record { job = x; tag = tag; reason = reason; left = left; out = Some (length p); lengths = n }) (sym behind)
+out-is : (n : Lengths) (j : Job) (q tag : List ℕ) (reason : Option Reason) (left : List Step) (out : Option ℕ) (m : ℕ) → q ≡ [] → m ≡ length j.packet
+    → left_behind left j ≡ record j { packet = [] }
+    → going n (record j { packet = q }) tag reason left (Some m) ≡ handed_out (going n j tag reason left out)
+out-is n j q tag reason left out m none len behind =
+    ap₂ (λ (x : List ℕ) (l : ℕ). going n (record j { packet = x }) tag reason left (Some l)) none len
+    ∙ ap (λ (x : Job). going n x tag reason left (Some (length j.packet))) (sym behind)
 
-pub text-is-out : (n : Lengths) (j : Job) (p q tag : List ℕ) (reason : Option Reason) (left : List Step) (out : Option ℕ) (m : ℕ) → q ≡ [] → m ≡ length p
-    → IsNextStep step.Cipher left → going n j q tag reason left (Some m) ≡ handed_out (going n j p tag reason left out)
-text-is-out n j p q tag reason left out m none len first = out-is n j p q tag reason left out m none len (left-cipher (record j { packet = p }) left first)
+pub text-is-out : (n : Lengths) (j : Job) (q tag : List ℕ) (reason : Option Reason) (left : List Step) (out : Option ℕ) (m : ℕ) → q ≡ [] → m ≡ length j.packet
+    → IsNextStep step.Cipher left → going n (record j { packet = q }) tag reason left (Some m) ≡ handed_out (going n j tag reason left out)
+text-is-out n j q tag reason left out m none len first = out-is n j q tag reason left out m none len (left-cipher j left first)
 
-pub mac-is-out : (n : Lengths) (j : Job) (p q tag : List ℕ) (reason : Option Reason) (left : List Step) (out : Option ℕ) (m : ℕ) → q ≡ [] → m ≡ length p
-    → IsNextStep step.Auth left → going n j q tag reason left (Some m) ≡ handed_out (going n j p tag reason left out)
-mac-is-out n j p q tag reason left out m none len first = out-is n j p q tag reason left out m none len (left-auth (record j { packet = p }) left first)
+pub mac-is-out : (n : Lengths) (j : Job) (q tag : List ℕ) (reason : Option Reason) (left : List Step) (out : Option ℕ) (m : ℕ) → q ≡ [] → m ≡ length j.packet
+    → IsNextStep step.Auth left → going n (record j { packet = q }) tag reason left (Some m) ≡ handed_out (going n j tag reason left out)
+mac-is-out n j q tag reason left out m none len first = out-is n j q tag reason left out m none len (left-auth j left first)
 
-pub ccm-is-out : (n : Lengths) (j : Job) (p q iv aad tag : List ℕ) (reason : Option Reason) (left : List Step) (out : Option ℕ) (m : ℕ) → q ≡ [] → iv ≡ [] → aad ≡ []
-    → m ≡ length p → IsNextStep step.CcmMac left
-    → going n (record j { iv = iv; aad = aad }) q tag reason left (Some m) ≡ handed_out (going n j p tag reason left out)
-ccm-is-out n j p q iv aad tag reason left out m none no_iv no_aad len first =
-    ap₂ (λ (x y : List ℕ). going n (record j { iv = x; aad = y }) q tag reason left (Some m)) no_iv no_aad
-    ∙ ap₂ (λ (x : List ℕ) (l : ℕ). going n (record j { iv = []; aad = [] }) x tag reason left (Some l)) none len
-    ∙ ap (λ (x : Job). record { job = x; tag = tag; reason = reason; left = left; out = Some (length p); lengths = n })
-    (sym (left-ccm (record j { packet = p }) left first))
+pub ccm-is-out : (n : Lengths) (j : Job) (q iv aad tag : List ℕ) (reason : Option Reason) (left : List Step) (out : Option ℕ) (m : ℕ) → q ≡ [] → iv ≡ [] → aad ≡ []
+    → m ≡ length j.packet → IsNextStep step.CcmMac left
+    → going n (record j { packet = q; iv = iv; aad = aad }) tag reason left (Some m) ≡ handed_out (going n j tag reason left out)
+ccm-is-out n j q iv aad tag reason left out m none no_iv no_aad len first =
+    ap₂ (λ (x y : List ℕ). going n (record j { packet = q; iv = x; aad = y }) tag reason left (Some m)) no_iv no_aad
+    ∙ ap₂ (λ (x : List ℕ) (l : ℕ). going n (record j { packet = x; iv = []; aad = [] }) tag reason left (Some l)) none len
+    ∙ ap (λ (x : Job). going n x tag reason left (Some (length j.packet))) (sym (left-ccm j left first))
 
 -- with a packet out that is ciphered
-pub text-out : (n : Lengths) (j : Job) (p q tag : List ℕ) (reason : Option Reason) (left : List Step) (out : Option ℕ) (m : ℕ) (e : End) → q ≡ [] → m ≡ length p
-    → IsNextStep step.Cipher left → e.packet ≡ ciphered j p
-    → owed_with e (going n j q tag reason left (Some m)) ≡ owed (going n j p tag reason left out)
-text-out n j p q tag reason left out m e none len first is =
-    ap (owed_with e) (text-is-out n j p q tag reason left out m none len first)
-    ∙ owes-text (going n j p tag reason left out) e first (is ∙ sym (ciphered-packet j p p))
+pub text-out : (n : Lengths) (j : Job) (q tag : List ℕ) (reason : Option Reason) (left : List Step) (out : Option ℕ) (m : ℕ) (e : End) → q ≡ []
+    → m ≡ length j.packet → IsNextStep step.Cipher left → e.packet ≡ ciphered (record j { packet = q }) j.packet
+    → owed_with e (going n (record j { packet = q }) tag reason left (Some m)) ≡ owed (going n j tag reason left out)
+text-out n j q tag reason left out m e none len first is =
+    ap (owed_with e) (text-is-out n j q tag reason left out m none len first)
+    ∙ owes-text (going n j tag reason left out) e first (is ∙ ciphered-packet j j.packet q)
 
 -- with a packet out that is authenticated
-pub mac-out : (n : Lengths) (j : Job) (p q tag : List ℕ) (reason : Option Reason) (left : List Step) (out : Option ℕ) (m : ℕ) (e : End) → q ≡ [] → m ≡ length p
-    → IsNextStep step.Auth left → e.packet ≡ p → e.mac ≡ mac_by (class_of j.auth) j p
-    → owed_with e (going n j q tag reason left (Some m)) ≡ owed (going n j p tag reason left out)
-mac-out n j p q tag reason left out m e none len first is mac =
-    ap (owed_with e) (mac-is-out n j p q tag reason left out m none len first)
-    ∙ owes-mac (going n j p tag reason left out) e first is (mac ∙ sym (mac_by-packet (class_of j.auth) j p p))
+pub mac-out : (n : Lengths) (j : Job) (q tag : List ℕ) (reason : Option Reason) (left : List Step) (out : Option ℕ) (m : ℕ) (e : End) → q ≡ []
+    → m ≡ length j.packet → IsNextStep step.Auth left → e.packet ≡ j.packet
+    → e.mac ≡ mac_by (class_of j.auth) (record j { packet = q }) j.packet
+    → owed_with e (going n (record j { packet = q }) tag reason left (Some m)) ≡ owed (going n j tag reason left out)
+mac-out n j q tag reason left out m e none len first is mac =
+    ap (owed_with e) (mac-is-out n j q tag reason left out m none len first)
+    ∙ owes-mac (going n j tag reason left out) e first is (mac ∙ mac_by-packet (class_of j.auth) j j.packet q)
 
 -- with a packet out over which CCM's MAC is made
-pub ccm-out : (n : Lengths) (j : Job) (p q iv aad tag : List ℕ) (reason : Option Reason) (left : List Step) (out : Option ℕ) (m : ℕ) (e : End) → q ≡ [] → iv ≡ [] → aad ≡ []
-    → m ≡ length p → IsNextStep step.CcmMac left → IsCcmEnd (record j { packet = p }) e
-    → owed_with e (going n (record j { iv = iv; aad = aad }) q tag reason left (Some m)) ≡ owed (going n j p tag reason left out)
-ccm-out n j p q iv aad tag reason left out m e none no_iv no_aad len first is =
-    ap (owed_with e) (ccm-is-out n j p q iv aad tag reason left out m none no_iv no_aad len first)
-    ∙ owes-ccm (going n j p tag reason left out) e first is
+pub ccm-out : (n : Lengths) (j : Job) (q iv aad tag : List ℕ) (reason : Option Reason) (left : List Step) (out : Option ℕ) (m : ℕ) (e : End) → q ≡ [] → iv ≡ [] → aad ≡ []
+    → m ≡ length j.packet → IsNextStep step.CcmMac left → IsCcmEnd j e
+    → owed_with e (going n (record j { packet = q; iv = iv; aad = aad }) tag reason left (Some m)) ≡ owed (going n j tag reason left out)
+ccm-out n j q iv aad tag reason left out m e none no_iv no_aad len first is =
+    ap (owed_with e) (ccm-is-out n j q iv aad tag reason left out m none no_iv no_aad len first)
+    ∙ owes-ccm (going n j tag reason left out) e first is
 
 -- the ciphered packet is as long
-pub ciphered-long : (j : Job) (p : List ℕ) → verdict_at j (length p) ≡ None → length (ciphered j p) ≡ length p
-ciphered-long j p none = ap length (sym (ciphered-packet j p p)) ∙ length-ciphered (record j { packet = p }) none
+pub ciphered-long : (j : Job) (q : List ℕ) → verdict j ≡ None → length (ciphered (record j { packet = q }) j.packet) ≡ length j.packet
+ciphered-long j q none = ap length (ciphered-packet j j.packet q) ∙ length-ciphered j none
 
 -- ---- the keys of AES
 
@@ -154,31 +154,31 @@ ccm-three = record { first = λ e. cc; second = λ e. cc; third = λ e. cc }
 
 -- ---- a course whose next stage is CBC encryption with keys of n rounds
 
-pub record IsCbcNext (j : Job) (p : List ℕ) (left : List Step) (n : ℕ) : Type 0 where
+pub record IsCbcNext (j : Job) (left : List Step) (n : ℕ) : Type 0 where
   pub first : IsNextStep step.Cipher left
   pub cbc : j.cipher ≡ cipher.Cbc
   pub enc : j.dir ≡ Enc
   pub rounds : round_count j.key ≡ n
-  pub accepted : verdict_at j (length p) ≡ None
+  pub accepted : verdict j ≡ None
 
 pub cbc-kinds : (n : ℕ) → step_of (cbc_lanes n) ≡ step.Cipher
 cbc-kinds n = each-by_rounds (λ k. step_of k ≡ step.Cipher) n kind.Cbc128 kind.Cbc192 kind.Cbc256 refl refl refl
 
 -- an accepted job whose packet is there
-here-accepted : (j : Job) (p : List ℕ) (left : List Step) (out : Option ℕ) (m : Lengths) → IsSound j p left out m → out ≡ None → left ≢ []
-    → verdict_at j (length p) ≡ None
-here-accepted j p left out m sound here some =
-    sym (verdict-sized j m (length p) (sound.lengths (ap (λ (o : Option ℕ). has_texts o left) here))) ∙ ap (λ (o : Option ℕ). verdict_at (sized m j) (packet_length o p)) (sym here) ∙ sound.accepted some
+pub here-accepted : (j : Job) (left : List Step) (out : Option ℕ) (m : Lengths) → IsSound j left out m → out ≡ None → left ≢ [] → verdict j ≡ None
+here-accepted j left out m sound here some =
+    sym (verdict-sized j m (length j.packet) (sound.lengths some (ap (λ (o : Option ℕ). has_texts o left) here)))
+    ∙ ap (λ (o : Option ℕ). verdict_at (sized m j) (packet_length o j.packet)) (sym here)
+    ∙ sound.accepted some
 
-pub cbc-next : (j : Job) (p : List ℕ) (left : List Step) (out : Option ℕ) (m : Lengths) (n : ℕ) → IsRoundCount n → IsSound j p left out m → out ≡ None
-    → stage_at (record j { packet = p }) left ≡ cbc_stage n → IsCbcNext j p left n
-cbc-next j p left out m n count sound here next =
-    let at : stage_at j left ≡ cbc_stage n = sym (stage-packet j p left) ∙ next in
-    let first = subst (λ (s : Step). IsNextStep s left) (cbc-kinds n) (first-step j left _ at) in
-    let lane = sym (cipher-first j left first) ∙ at in
+pub cbc-next : (j : Job) (left : List Step) (out : Option ℕ) (m : Lengths) (n : ℕ) → IsRoundCount n → IsSound j left out m → out ≡ None
+    → stage_at j left ≡ cbc_stage n → IsCbcNext j left n
+cbc-next j left out m n count sound here next =
+    let first = subst (λ (s : Step). IsNextStep s left) (cbc-kinds n) (first-step j left _ next) in
+    let lane = sym (cipher-first j left first) ∙ next in
     let is = cipher-lane j.cipher j.dir (length j.key) _ lane in
-    let none = here-accepted j p left out m sound here (first-some step.Cipher left first) in
-    let key : IsKeySize (length j.key) = ap (λ (c : Cipher). takes_key c (length j.key)) (sym is.cbc) ∙ (accepted j (length p) none).key in
+    let none = here-accepted j left out m sound here (first-some step.Cipher left first) in
+    let key : IsKeySize (length j.key) = ap (λ (c : Cipher). takes_key c (length j.key)) (sym is.cbc) ∙ (accepted j (length j.packet) none).key in
     record {
       first = first;
       cbc = is.cbc;
@@ -189,17 +189,17 @@ cbc-next j p left out m n count sound here next =
 
 -- ---- a course whose next stage is HMAC
 
-pub hmac-accepted : (j : Job) (p : List ℕ) (left : List Step) (out : Option ℕ) (m : Lengths) → IsSound j p left out m → out ≡ None
-    → IsNextStep step.Auth left → verdict_at j (length p) ≡ None
-hmac-accepted j p left out m sound here first = here-accepted j p left out m sound here (first-some step.Auth left first)
+pub hmac-accepted : (j : Job) (left : List Step) (out : Option ℕ) (m : Lengths) → IsSound j left out m → out ≡ None
+    → IsNextStep step.Auth left → verdict j ≡ None
+hmac-accepted j left out m sound here first = here-accepted j left out m sound here (first-some step.Auth left first)
 
 -- ---- a course whose next stage is CMAC with keys of n rounds
 
-pub record IsCmacNext (j : Job) (p : List ℕ) (left : List Step) (n : ℕ) : Type 0 where
+pub record IsCmacNext (j : Job) (left : List Step) (n : ℕ) : Type 0 where
   pub first : IsNextStep step.Auth left
   pub cmac : IsCmac (class_of j.auth)
   pub rounds : round_count j.auth_key ≡ n
-  pub accepted : verdict_at j (length p) ≡ None
+  pub accepted : verdict j ≡ None
 
 pub cmac-kinds : (n : ℕ) → step_of (cmac_lanes n) ≡ step.Auth
 cmac-kinds n = cond_both (n == 10) kind.Cmac128 kind.Cmac256 (λ k. step_of k ≡ step.Auth) (λ _. refl) (λ _. refl)
@@ -221,27 +221,26 @@ cmac-rounds (class.Plain hash) key n count k h = absurd (cmac-auth (class.Plain 
 cmac-rounds class.Gmac key n count k h = absurd (cmac-auth class.Gmac n h)
 cmac-rounds (class.States hash) key n count k h = absurd (cmac-auth (class.States hash) n h)
 
-pub cmac-next : (j : Job) (p : List ℕ) (left : List Step) (out : Option ℕ) (m : Lengths) (n : ℕ) → (n ≡ 10) ⊎ (n ≡ 14) → IsSound j p left out m → out ≡ None
-    → stage_at (record j { packet = p }) left ≡ cmac_stage n → IsCmacNext j p left n
-cmac-next j p left out m n count sound here next =
-    let at : stage_at j left ≡ cmac_stage n = sym (stage-packet j p left) ∙ next in
-    let first = subst (λ (s : Step). IsNextStep s left) (cmac-kinds n) (first-step j left _ at) in
-    let lane = sym (auth-first j left first) ∙ at in
-    let none = here-accepted j p left out m sound here (first-some step.Auth left first) in
+pub cmac-next : (j : Job) (left : List Step) (out : Option ℕ) (m : Lengths) (n : ℕ) → (n ≡ 10) ⊎ (n ≡ 14) → IsSound j left out m → out ≡ None
+    → stage_at j left ≡ cmac_stage n → IsCmacNext j left n
+cmac-next j left out m n count sound here next =
+    let first = subst (λ (s : Step). IsNextStep s left) (cmac-kinds n) (first-step j left _ next) in
+    let lane = sym (auth-first j left first) ∙ next in
+    let none = here-accepted j left out m sound here (first-some step.Auth left first) in
     record {
       first = first;
       cmac = cmac-auth (class_of j.auth) n lane;
-      rounds = cmac-rounds (class_of j.auth) (length j.auth_key) n count (accepted j (length p) none).auth_key lane;
+      rounds = cmac-rounds (class_of j.auth) (length j.auth_key) n count (accepted j (length j.packet) none).auth_key lane;
       accepted = none;
     }
 
 -- ---- a course whose next stage is CCM's MAC with keys of n rounds
 
-pub record IsCcmNext (j : Job) (p : List ℕ) (left : List Step) (n : ℕ) : Type 0 where
+pub record IsCcmNext (j : Job) (left : List Step) (n : ℕ) : Type 0 where
   pub first : IsNextStep step.CcmMac left
   pub ccm : j.cipher ≡ cipher.Ccm
   pub rounds : round_count j.key ≡ n
-  pub accepted : verdict_at j (length p) ≡ None
+  pub accepted : verdict j ≡ None
 
 pub ccm-kinds : (n : ℕ) → step_of (ccm_lanes n) ≡ step.CcmMac
 ccm-kinds n = each-by_rounds (λ k. step_of k ≡ step.CcmMac) n kind.Ccm128 kind.Ccm192 kind.Ccm256 refl refl refl
@@ -256,15 +255,14 @@ own-first j (step.CcmMac ∷ left) own h = All-head (IsStepOf j) step.CcmMac lef
 own-first j (step.CcmText ∷ left) own h = absurd (cc)
 own-first j (step.Gmac ∷ left) own h = absurd (cc)
 
-pub ccm-next : (j : Job) (p : List ℕ) (left : List Step) (out : Option ℕ) (m : Lengths) (n : ℕ) → IsRoundCount n → IsSound j p left out m → out ≡ None
-    → stage_at (record j { packet = p }) left ≡ ccm_stage n → IsCcmNext j p left n
-ccm-next j p left out m n count sound here next =
-    let at : stage_at j left ≡ ccm_stage n = sym (stage-packet j p left) ∙ next in
-    let first = subst (λ (s : Step). IsNextStep s left) (ccm-kinds n) (first-step j left _ at) in
-    let lane : stage.Lane (ccm_kind (length j.key)) ≡ ccm_stage n = sym (ccm-first j left first) ∙ at in
-    let none = here-accepted j p left out m sound here (first-some step.CcmMac left first) in
+pub ccm-next : (j : Job) (left : List Step) (out : Option ℕ) (m : Lengths) (n : ℕ) → IsRoundCount n → IsSound j left out m → out ≡ None
+    → stage_at j left ≡ ccm_stage n → IsCcmNext j left n
+ccm-next j left out m n count sound here next =
+    let first = subst (λ (s : Step). IsNextStep s left) (ccm-kinds n) (first-step j left _ next) in
+    let lane : stage.Lane (ccm_kind (length j.key)) ≡ ccm_stage n = sym (ccm-first j left first) ∙ next in
+    let none = here-accepted j left out m sound here (first-some step.CcmMac left first) in
     let ccm = own-first j left sound.own first in
-    let key : IsKeySize (length j.key) = ap (λ (c : Cipher). takes_key c (length j.key)) (sym ccm) ∙ (accepted j (length p) none).key in
+    let key : IsKeySize (length j.key) = ap (λ (c : Cipher). takes_key c (length j.key)) (sym ccm) ∙ (accepted j (length j.packet) none).key in
     record {
       first = first;
       ccm = ccm;

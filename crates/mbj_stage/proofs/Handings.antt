@@ -130,57 +130,57 @@ own-back c d e s is h own = ap (λ (x : CourseState). without_packet (taken_back
 -- ---- the course whose packet came back
 
 -- a course by its fields
-abbrev pub going : Lengths → Job → List ℕ → List ℕ → Option Reason → List Step → Option ℕ → CourseState
-going n j p tag reason left out = record { job = record j { packet = p }; tag = tag; reason = reason; left = left; out = out; lengths = n }
+abbrev pub going : Lengths → Job → List ℕ → Option Reason → List Step → Option ℕ → CourseState
+going n j tag reason left out = record { job = j; tag = tag; reason = reason; left = left; out = out; lengths = n }
 
-back-text : (n : Lengths) (all : List Step) (j : Job) (p tag : List ℕ) (e : End) (reason : Option Reason) (out : Option ℕ) → IsNextStep step.Cipher all
-    → going n j e.packet tag reason (drop 1 all) None ≡ taken_back_at all e (going n j p tag reason all out)
-back-text n [] j p tag e reason out h = absurd h
-back-text n (step.Cipher ∷ left) j p tag e reason out h = refl
-back-text n (step.Auth ∷ left) j p tag e reason out h = absurd (cc)
-back-text n (step.Gcm ∷ left) j p tag e reason out h = absurd (cc)
-back-text n (step.CcmMac ∷ left) j p tag e reason out h = absurd (cc)
-back-text n (step.CcmText ∷ left) j p tag e reason out h = absurd (cc)
-back-text n (step.Gmac ∷ left) j p tag e reason out h = absurd (cc)
+back-text : (n : Lengths) (all : List Step) (j : Job) (tag : List ℕ) (e : End) (reason : Option Reason) (out : Option ℕ) → IsNextStep step.Cipher all
+    → going n (record j { packet = e.packet }) tag reason (drop 1 all) None ≡ taken_back_at all e (going n j tag reason all out)
+back-text n [] j tag e reason out h = absurd h
+back-text n (step.Cipher ∷ left) j tag e reason out h = refl
+back-text n (step.Auth ∷ left) j tag e reason out h = absurd (cc)
+back-text n (step.Gcm ∷ left) j tag e reason out h = absurd (cc)
+back-text n (step.CcmMac ∷ left) j tag e reason out h = absurd (cc)
+back-text n (step.CcmText ∷ left) j tag e reason out h = absurd (cc)
+back-text n (step.Gmac ∷ left) j tag e reason out h = absurd (cc)
 
-pub text-back : (n : Lengths) (j : Job) (p tag : List ℕ) (e : End) (reason : Option Reason) (all left : List Step) (out : Option ℕ) → IsNextStep step.Cipher all
-    → left ≡ drop 1 all → going n j e.packet tag reason left None ≡ taken_back e (going n j p tag reason all out)
-text-back n j p tag e reason all left out h is =
-    ap (λ (l : List Step). going n j e.packet tag reason l None) is ∙ back-text n all j p tag e reason out h
+pub text-back : (n : Lengths) (j : Job) (tag : List ℕ) (e : End) (reason : Option Reason) (all left : List Step) (out : Option ℕ) → IsNextStep step.Cipher all
+    → left ≡ drop 1 all → going n (record j { packet = e.packet }) tag reason left None ≡ taken_back e (going n j tag reason all out)
+text-back n j tag e reason all left out h is =
+    ap (λ (l : List Step). going n (record j { packet = e.packet }) tag reason l None) is ∙ back-text n all j tag e reason out h
 
-back-mac : (n : Lengths) (all : List Step) (j : Job) (p tag : List ℕ) (e : End) (reason : Option Reason) (out : Option ℕ) → IsNextStep step.Auth all
-    → going n j e.packet (take j.tag_len e.mac) reason (drop 1 all) None ≡ taken_back_at all e (going n j p tag reason all out)
-back-mac n [] j p tag e reason out h = absurd h
-back-mac n (step.Cipher ∷ left) j p tag e reason out h = absurd (cc)
-back-mac n (step.Auth ∷ left) j p tag e reason out h = refl
-back-mac n (step.Gcm ∷ left) j p tag e reason out h = absurd (cc)
-back-mac n (step.CcmMac ∷ left) j p tag e reason out h = absurd (cc)
-back-mac n (step.CcmText ∷ left) j p tag e reason out h = absurd (cc)
-back-mac n (step.Gmac ∷ left) j p tag e reason out h = absurd (cc)
+back-mac : (n : Lengths) (all : List Step) (j : Job) (tag : List ℕ) (e : End) (reason : Option Reason) (out : Option ℕ) → IsNextStep step.Auth all
+    → going n (record j { packet = e.packet }) (take j.tag_len e.mac) reason (drop 1 all) None ≡ taken_back_at all e (going n j tag reason all out)
+back-mac n [] j tag e reason out h = absurd h
+back-mac n (step.Cipher ∷ left) j tag e reason out h = absurd (cc)
+back-mac n (step.Auth ∷ left) j tag e reason out h = refl
+back-mac n (step.Gcm ∷ left) j tag e reason out h = absurd (cc)
+back-mac n (step.CcmMac ∷ left) j tag e reason out h = absurd (cc)
+back-mac n (step.CcmText ∷ left) j tag e reason out h = absurd (cc)
+back-mac n (step.Gmac ∷ left) j tag e reason out h = absurd (cc)
 
-pub mac-back : (n : Lengths) (j : Job) (p tag t : List ℕ) (e : End) (reason : Option Reason) (all left : List Step) (out : Option ℕ) → IsNextStep step.Auth all
+pub mac-back : (n : Lengths) (j : Job) (tag t : List ℕ) (e : End) (reason : Option Reason) (all left : List Step) (out : Option ℕ) → IsNextStep step.Auth all
     → left ≡ drop 1 all → t ≡ take j.tag_len e.mac
-    → going n j e.packet t reason left None ≡ taken_back e (going n j p tag reason all out)
-mac-back n j p tag t e reason all left out h is of =
-    ap₂ (λ (l : List Step) (u : List ℕ). going n j e.packet u reason l None) is of ∙ back-mac n all j p tag e reason out h
+    → going n (record j { packet = e.packet }) t reason left None ≡ taken_back e (going n j tag reason all out)
+mac-back n j tag t e reason all left out h is of =
+    ap₂ (λ (l : List Step) (u : List ℕ). going n (record j { packet = e.packet }) u reason l None) is of ∙ back-mac n all j tag e reason out h
 
-back-ccm : (n : Lengths) (all : List Step) (j : Job) (p tag : List ℕ) (e : End) (reason : Option Reason) (out : Option ℕ) → IsNextStep step.CcmMac all
-    → going n (record j { iv = e.iv; aad = e.aad }) e.packet (with_mac j.tag_len e.mac j.dir tag) reason (drop 1 all) None
-    ≡ taken_back_at all e (going n j p tag reason all out)
-back-ccm n [] j p tag e reason out h = absurd h
-back-ccm n (step.Cipher ∷ left) j p tag e reason out h = absurd (cc)
-back-ccm n (step.Auth ∷ left) j p tag e reason out h = absurd (cc)
-back-ccm n (step.Gcm ∷ left) j p tag e reason out h = absurd (cc)
-back-ccm n (step.CcmMac ∷ left) j p tag e reason out h = refl
-back-ccm n (step.CcmText ∷ left) j p tag e reason out h = absurd (cc)
-back-ccm n (step.Gmac ∷ left) j p tag e reason out h = absurd (cc)
+back-ccm : (n : Lengths) (all : List Step) (j : Job) (tag : List ℕ) (e : End) (reason : Option Reason) (out : Option ℕ) → IsNextStep step.CcmMac all
+    → going n (record j { packet = e.packet; iv = e.iv; aad = e.aad }) (with_mac j.tag_len e.mac j.dir tag) reason (drop 1 all) None
+    ≡ taken_back_at all e (going n j tag reason all out)
+back-ccm n [] j tag e reason out h = absurd h
+back-ccm n (step.Cipher ∷ left) j tag e reason out h = absurd (cc)
+back-ccm n (step.Auth ∷ left) j tag e reason out h = absurd (cc)
+back-ccm n (step.Gcm ∷ left) j tag e reason out h = absurd (cc)
+back-ccm n (step.CcmMac ∷ left) j tag e reason out h = refl
+back-ccm n (step.CcmText ∷ left) j tag e reason out h = absurd (cc)
+back-ccm n (step.Gmac ∷ left) j tag e reason out h = absurd (cc)
 
-pub ccm-back : (n : Lengths) (j : Job) (p tag t : List ℕ) (e : End) (reason : Option Reason) (all left : List Step) (out : Option ℕ) → IsNextStep step.CcmMac all
+pub ccm-back : (n : Lengths) (j : Job) (tag t : List ℕ) (e : End) (reason : Option Reason) (all left : List Step) (out : Option ℕ) → IsNextStep step.CcmMac all
     → left ≡ drop 1 all → t ≡ with_mac j.tag_len e.mac j.dir tag
-    → going n (record j { iv = e.iv; aad = e.aad }) e.packet t reason left None ≡ taken_back e (going n j p tag reason all out)
-ccm-back n j p tag t e reason all left out h is of =
-    ap₂ (λ (l : List Step) (u : List ℕ). going n (record j { iv = e.iv; aad = e.aad }) e.packet u reason l None) is of
-    ∙ back-ccm n all j p tag e reason out h
+    → going n (record j { packet = e.packet; iv = e.iv; aad = e.aad }) t reason left None ≡ taken_back e (going n j tag reason all out)
+ccm-back n j tag t e reason all left out h is of =
+    ap₂ (λ (l : List Step) (u : List ℕ). going n (record j { packet = e.packet; iv = e.iv; aad = e.aad }) u reason l None) is of
+    ∙ back-ccm n all j tag e reason out h
 
 -- ---- the stages of a course whose packet is out
 

@@ -6,13 +6,14 @@ use Rattle.mbj_types.specs.Auths.{compression_of_name, hash_in, is_from_states, 
 use Rattle.mbj_types.specs.Hmac.{hmac}
 use Rattle.mbj_types.specs.States.{hmac_from_states}
 use Rattle.mbj_types.specs.Result.{hash_range, mac_by}
-use Rattle.mbj_types.specs.Verdict.{takes_auth_key}
+use Rattle.mbj_types.specs.Verdict.{has_hash_range, takes_auth_key}
 use Rattle.mbj_types.specs.Rounds.{auth_rounds, hash_rounds, hmac_rounds, states_rounds}
 use Rattle.mbj_types.specs.declared.class.AuthClass.{AuthClass}
 use Rattle.mbj_types.specs.declared.class.AuthClass.TheVariants as class
 use Rattle.mbj_types.specs.declared.class.HashName.{HashName}
 use Rattle.mbj_types.specs.declared.job.Job.{Job}
 use Rattle.mbj_hmac.specs.Names.{serves_class, serves_plain_class, serves_states_class, serves_lanes_class}
+use Rattle.mbj_hmac.specs.Begun.{value_of}
 use Rattle.mbj_hmac.specs.Rounds.{Chaining}
 use Rattle.mbj_stage.specs.declared.stage.Stage.TheVariants as stage
 use Rattle.mbj_stage.specs.Steps.{auth_stage_by}
@@ -89,3 +90,38 @@ pub states-length : (a : AuthClass) (n : HashName) (len : ℕ) → a ≡ class.S
 states-length a n len e t =
     let OfStates : AuthClass → Type 0 = λ b. IfSome (states_hash_in b) (λ c. len ≡ 2 * c.state_bytes) in
     subst OfStates (sym e) (eqb-true len (2 * (compression_of_name n).state_bytes) (sym (ap (λ (b : AuthClass). takes_auth_key b len) e) ∙ t))
+
+-- ---- by the class of what is served
+
+pub served-length : (a : AuthClass) (len : ℕ) → takes_auth_key a len ≡ true → IfSome (states_hash_in a) (λ c. len ≡ 2 * c.state_bytes)
+served-length class.Null len t = tt
+served-length (class.Hmac n) len t = tt
+served-length (class.Cmac k) len t = tt
+served-length class.Gcm len t = tt
+served-length class.Ccm len t = tt
+served-length (class.Plain n) len t = tt
+served-length class.Gmac len t = tt
+served-length (class.States n) len t = eqb-true len (2 * (compression_of_name n).state_bytes) t
+
+module _ (h : Chaining) where
+  -- it has a range that is hashed
+  pub served-range : (a : AuthClass) → IsTrue (serves_lanes_class h a) → has_hash_range a ≡ true
+  served-range class.Null t = absurd (cc)
+  served-range (class.Hmac n) t = refl
+  served-range (class.Cmac k) t = absurd (cc)
+  served-range class.Gcm t = absurd (cc)
+  served-range class.Ccm t = absurd (cc)
+  served-range (class.Plain n) t = refl
+  served-range class.Gmac t = absurd (cc)
+  served-range (class.States n) t = refl
+
+  -- its value is that of the job's authentication
+  pub value_is_mac : (a : AuthClass) (j : Job) (p : List ℕ) → IsTrue (serves_lanes_class h a) → value_of a j.auth_key (hash_range j p) ≡ mac_by a j p
+  value_is_mac class.Null j p t = absurd (cc)
+  value_is_mac (class.Hmac n) j p t = refl
+  value_is_mac (class.Cmac k) j p t = absurd (cc)
+  value_is_mac class.Gcm j p t = absurd (cc)
+  value_is_mac class.Ccm j p t = absurd (cc)
+  value_is_mac (class.Plain n) j p t = refl
+  value_is_mac class.Gmac j p t = absurd (cc)
+  value_is_mac (class.States n) j p t = refl

@@ -31,7 +31,7 @@ use Rattle.mbj_stage.proofs.Gcms.{Pair, both_gcm, both_ccm, neither, makes_tag, 
 use Rattle.mbj_stage.proofs.Handings.{going}
 use Rattle.mbj_stage.proofs.PacketLengths.{ccm-range}
 use Rattle.mbj_stage.proofs.StagesOf.{finished-left}
-use Rattle.mbj_stage.proofs.Packets.{packet_after-packet, tag_after-packet, tag_over-packet}
+use Rattle.mbj_stage.proofs.Packets.{tag_over-packet}
 
 -- ---- at the start
 
@@ -185,11 +185,12 @@ unfolding owed
 owed-ran c h = led_to-ran c c.left h
 
 -- a course by its fields, when the first step has changed packet and tag
-pub ran-step : (n : Lengths) (j : Job) (p q tag t : List ℕ) (reason : Option Reason) (s : Step) (left all : List Step) (out : Option ℕ) → all ≡ s ∷ left
-    → q ≡ packet_after s j p → t ≡ tag_after s j p tag → going n j q t reason left out ≡ ran (going n j p tag reason all out)
-ran-step n j p q tag t reason s left all out is packet_is tag_is =
-    ap₂ (λ (x y : List ℕ). going n j x y reason left out) (packet_is ∙ sym (packet_after-packet s j p p)) (tag_is ∙ sym (tag_after-packet s j p p tag))
-    ∙ ap (λ (steps : List Step). ran (going n j p tag reason steps out)) (sym is)
+pub ran-step : (n : Lengths) (j k : Job) (tag t : List ℕ) (reason : Option Reason) (s : Step) (left all : List Step) (out : Option ℕ) → all ≡ s ∷ left
+    → k ≡ record j { packet = packet_after s j j.packet } → t ≡ tag_after s j j.packet tag
+    → going n k t reason left out ≡ ran (going n j tag reason all out)
+ran-step n j k tag t reason s left all out is job_is tag_is =
+    ap₂ (λ (x : Job) (y : List ℕ). going n x y reason left out) job_is tag_is
+    ∙ ap (λ (steps : List Step). ran (going n j tag reason steps out)) (sym is)
 
 -- ---- at the end
 

@@ -35,12 +35,12 @@ none-later (s ∷ left) some is = some (ap (drop 1) is)
 pub keyed-later : (j : Job) (left later : List Step) (schedule : Option (List ℕ)) → IsKeyed j left schedule → later ≡ drop 1 left → IsKeyed j later schedule
 keyed-later j left later schedule keyed is some needs = keyed (none-later left (λ none. some (is ∙ none))) needs
 
--- at the start, when another packet stands in the job
-pub keyed-begun : (reason : Option Reason) (j : Job) (q : List ℕ) (left : List Step) (schedule : Option (List ℕ)) → left ≡ steps_by reason j
-    → is_some schedule ≡ wants_schedule reason j.cipher j.dir → IfSome schedule (IsScheduleOf j.key) → IsKeyed (record j { packet = q }) left schedule
-keyed-begun None j q left None steps wanted is some needs = let bad : false ≡ true = wanted ∙ needs in cc
-keyed-begun None j q left (Some schedule) steps wanted is some needs = is
-keyed-begun (Some reason) j q left schedule steps wanted is some needs = absurd (some steps)
+-- at the start
+pub keyed-begun : (reason : Option Reason) (j : Job) (left : List Step) (schedule : Option (List ℕ)) → left ≡ steps_by reason j
+    → is_some schedule ≡ wants_schedule reason j.cipher j.dir → IfSome schedule (IsScheduleOf j.key) → IsKeyed j left schedule
+keyed-begun None j left None steps wanted is some needs = let bad : false ≡ true = wanted ∙ needs in cc
+keyed-begun None j left (Some schedule) steps wanted is some needs = is
+keyed-begun (Some reason) j left schedule steps wanted is some needs = absurd (some steps)
 
 takes-size : (c : Cipher) (d : Dir) (n : ℕ) → needs_schedule c d ≡ true → takes_key c n ≡ true → IsKeySize n
 takes-size cipher.Null d n needs takes = cc

@@ -14,7 +14,7 @@ use Rattle.mbj_types.specs.declared.reason.Reason.{Reason}
 use Rattle.mbj_types.specs.Auths.{class_of}
 use Rattle.mbj_types.specs.declared.class.AuthClass.{AuthClass}
 use Rattle.mbj_types.specs.declared.class.AuthClass.TheVariants as class
-use Rattle.mbj_types.specs.Verdict.{verdict_at}
+use Rattle.mbj_types.specs.Verdict.{verdict, verdict_at}
 use Rattle.mbj_stage.specs.declared.lengths.Lengths.{Lengths}
 use Rattle.mbj_stage.specs.declared.stage.Step.{Step}
 use Rattle.mbj_stage.specs.declared.stage.Step.TheVariants as step
@@ -22,7 +22,7 @@ use Rattle.mbj_stage.specs.Steps.{ccm_steps, cipher_steps, auth_steps, ordered, 
 use Rattle.mbj_stage.specs.Inside.Kept.{IsNextStep, IsStepOf, has_texts, packet_length, IsSound}
 use Rattle.mbj_stage.specs.declared.stage.Stage.TheVariants as stage
 use Rattle.mbj_stage.specs.CourseState.{lengths_of, sized}
-use Rattle.mbj_stage.proofs.StagesOf.{stage-texts}
+use Rattle.mbj_stage.proofs.StagesOf.{stage-packet, stage-texts}
 
 -- the one step of a list is a job's where it is so
 own_one : (j : Job) (s : Step) → IsStepOf j s → All (IsStepOf j) (s ∷ [])
@@ -58,69 +58,82 @@ own_both : (c : Cipher) (j : Job) → j.cipher ≡ c → All (IsStepOf j) (order
 own_both c j e =
     own_ordered j.order j (cipher_steps c) (auth_steps (class_of j.auth)) (own_cipher c j (ap cipher_steps e)) (own_auth (class_of j.auth) j refl)
 
--- the steps of a job are its own, whatever packet it has
-own_packet_with : (c : Cipher) (j : Job) (q : List ℕ) → j.cipher ≡ c → All (IsStepOf (record j { packet = q })) (steps_with c j)
-own_packet_with cipher.Null j q e = own_both cipher.Null (record j { packet = q }) e
-own_packet_with cipher.Cbc j q e = own_both cipher.Cbc (record j { packet = q }) e
-own_packet_with cipher.Ctr j q e = own_both cipher.Ctr (record j { packet = q }) e
-own_packet_with cipher.Gcm j q e = own_both cipher.Gcm (record j { packet = q }) e
-own_packet_with cipher.Ccm j q e = own_ccm j.dir (record j { packet = q }) e
+-- the steps of a job are its own
+own_with : (c : Cipher) (j : Job) → j.cipher ≡ c → All (IsStepOf j) (steps_with c j)
+own_with cipher.Null j e = own_both cipher.Null j e
+own_with cipher.Cbc j e = own_both cipher.Cbc j e
+own_with cipher.Ctr j e = own_both cipher.Ctr j e
+own_with cipher.Gcm j e = own_both cipher.Gcm j e
+own_with cipher.Ccm j e = own_ccm j.dir j e
 
-own-packet : (j : Job) (q : List ℕ) → All (IsStepOf (record j { packet = q })) (steps_of j)
-own-packet j q = own_packet_with j.cipher j q refl
+own_steps : (j : Job) → All (IsStepOf j) (steps_of j)
+own_steps j = own_with j.cipher j refl
 
--- a job with another nonce and other data has the same steps
-own_texts : (j : Job) (iv aad : List ℕ) (s : Step) → IsStepOf j s → IsStepOf (record j { iv = iv; aad = aad }) s
-own_texts j iv aad step.Cipher h = h
-own_texts j iv aad step.Auth h = h
-own_texts j iv aad step.Gcm h = h
-own_texts j iv aad step.CcmMac h = h
-own_texts j iv aad step.CcmText h = h
-own_texts j iv aad step.Gmac h = h
+-- a job with another packet, another nonce and other data has the same steps
+pub own_parts : (j : Job) (q iv aad : List ℕ) (s : Step) → IsStepOf j s → IsStepOf (record j { packet = q; iv = iv; aad = aad }) s
+own_parts j q iv aad step.Cipher h = h
+own_parts j q iv aad step.Auth h = h
+own_parts j q iv aad step.Gcm h = h
+own_parts j q iv aad step.CcmMac h = h
+own_parts j q iv aad step.CcmText h = h
+own_parts j q iv aad step.Gmac h = h
 
-all_own_texts : (j : Job) (iv aad : List ℕ) (left : List Step) → All (IsStepOf j) left → All (IsStepOf (record j { iv = iv; aad = aad })) left
-all_own_texts j iv aad left h = λ k s lt. own_texts j iv aad _ (h k s lt)
+all_own_parts : (j : Job) (q iv aad : List ℕ) (left : List Step) → All (IsStepOf j) left
+    → All (IsStepOf (record j { packet = q; iv = iv; aad = aad })) left
+all_own_parts j q iv aad left h = λ k s lt. own_parts j q iv aad _ (h k s lt)
+
+all_own_packet : (j : Job) (q : List ℕ) (left : List Step) → All (IsStepOf j) left → All (IsStepOf (record j { packet = q })) left
+all_own_packet j q left h = all_own_parts j q j.iv j.aad left h
 
 -- zero bytes have the verdict of a nonce and data as long
 pub verdict-sized : (j : Job) (n : Lengths) (m : ℕ) → n ≡ lengths_of j → verdict_at (sized n j) m ≡ verdict_at j m
 verdict-sized j n m is =
     ap (λ (l : Lengths). verdict_at (sized l j) m) is ∙ rw (length-replicate {A = ℕ} (length j.iv) 0, length-replicate {A = ℕ} (length j.aad) 0) refl
 
--- at the start, when another packet stands in the job
-pub sound_begun : (reason : Option Reason) (j : Job) (p q : List ℕ) (left : List Step)
-    → verdict_at j (length j.packet) ≡ reason → p ≡ j.packet → left ≡ steps_by reason j
-    → IsSound (record j { packet = q }) p left None (lengths_of j)
-sound_begun None j p q left e is steps = record {
-  accepted = λ _. verdict-sized j (lengths_of j) (length p) refl ∙ ap (λ (x : List ℕ). verdict_at j (length x)) is ∙ e;
-  own = subst (All (IsStepOf (record j { packet = q }))) (sym steps) (own-packet j q);
+-- at the start
+pub sound_begun : (reason : Option Reason) (j : Job) (left : List Step) → verdict j ≡ reason → left ≡ steps_by reason j
+    → IsSound j left None (lengths_of j)
+sound_begun None j left e steps = record {
+  accepted = λ _. verdict-sized j (lengths_of j) (length j.packet) refl ∙ e;
+  own = subst (All (IsStepOf j)) (sym steps) (own_steps j);
   here = λ _. refl;
-  lengths = λ _. refl;
+  lengths = λ _ _. refl;
 }
-sound_begun (Some r) j p q left e is steps = record {
+sound_begun (Some r) j left e steps = record {
   accepted = λ some. absurd (some steps);
-  own = subst (All (IsStepOf (record j { packet = q }))) (sym steps) (All-nil (IsStepOf (record j { packet = q })));
+  own = subst (All (IsStepOf j)) (sym steps) (All-nil (IsStepOf j));
   here = λ _. refl;
-  lengths = λ _. refl;
+  lengths = λ _ _. refl;
+}
+
+-- with any job, where no step is left
+pub sound_finished : (j : Job) (left : List Step) (out : Option ℕ) (n : Lengths) → left ≡ [] → IsSound j left out n
+sound_finished j left out n none = record {
+  accepted = λ some. absurd (some none);
+  own = subst (All (IsStepOf j)) (sym none) (All-nil (IsStepOf j));
+  here = λ now. let bad : stage.Finished ≡ stage.Now = ap (stage_at j) (sym none) ∙ now in cc;
+  lengths = λ some _. absurd (some none);
 }
 
 -- when a step is done, which keeps the packet's length
-pub sound_next : (j : Job) (p q : List ℕ) (s : Step) (left : List Step) (out : Option ℕ) (n : Lengths) → IsSound j p (s ∷ left) out n
-    → n ≡ lengths_of j → length q ≡ packet_length out p → IsSound j q left None n
-sound_next j p q s left out n h is len = record {
+pub sound_next : (j : Job) (q : List ℕ) (s : Step) (left : List Step) (out : Option ℕ) (n : Lengths) → IsSound j (s ∷ left) out n
+    → n ≡ lengths_of j → length q ≡ packet_length out j.packet → IsSound (record j { packet = q }) left None n
+sound_next j q s left out n h is len = record {
   accepted = λ _. ap (verdict_at (sized n j)) len ∙ h.accepted (λ none. cc);
-  own = All-tail (IsStepOf j) s left h.own;
+  own = all_own_packet j q left (All-tail (IsStepOf j) s left h.own);
   here = λ _. refl;
-  lengths = λ _. is;
+  lengths = λ _ _. is;
 }
 
 -- when nonce and data come back with the packet
-pub sound_texts_back : (j : Job) (p q iv aad : List ℕ) (s : Step) (left : List Step) (out : Option ℕ) (n : Lengths) → IsSound j p (s ∷ left) out n
-    → length iv ≡ n.iv → length aad ≡ n.aad → length q ≡ packet_length out p → IsSound (record j { iv = iv; aad = aad }) q left None n
-sound_texts_back j p q iv aad s left out n h i a len = record {
+pub sound_texts_back : (j : Job) (q iv aad : List ℕ) (s : Step) (left : List Step) (out : Option ℕ) (n : Lengths) → IsSound j (s ∷ left) out n
+    → length iv ≡ n.iv → length aad ≡ n.aad → length q ≡ packet_length out j.packet
+    → IsSound (record j { packet = q; iv = iv; aad = aad }) left None n
+sound_texts_back j q iv aad s left out n h i a len = record {
   accepted = λ _. ap (verdict_at (sized n j)) len ∙ h.accepted (λ none. cc);
-  own = all_own_texts j iv aad left (All-tail (IsStepOf j) s left h.own);
+  own = all_own_parts j q iv aad left (All-tail (IsStepOf j) s left h.own);
   here = λ _. refl;
-  lengths = λ _. ap₂ (λ (x y : ℕ). record { iv = x; aad = y }) (sym i) (sym a);
+  lengths = λ _ _. ap₂ (λ (x y : ℕ). record { iv = x; aad = y }) (sym i) (sym a);
 }
 
 -- a step whose entry has the packet alone
@@ -137,31 +150,32 @@ texts-kept m step.CcmText left h = refl
 texts-kept m step.Gmac left h = refl
 
 -- when such an entry is taken back
-pub sound_taken : (j : Job) (p q : List ℕ) (s : Step) (all left : List Step) (out : Option ℕ) (n : Lengths) → IsSound j p all out n
-    → IsNextStep s all → KeepsTexts s → out ≡ Some (length q) → left ≡ drop 1 all → IsSound j q left None n
-sound_taken j p q s [] left out n h next keeps is e = absurd next
-sound_taken j p q s (t ∷ rest) left out n h next keeps is e =
+pub sound_taken : (j : Job) (q : List ℕ) (s : Step) (all left : List Step) (out : Option ℕ) (n : Lengths) → IsSound j all out n
+    → IsNextStep s all → KeepsTexts s → out ≡ Some (length q) → left ≡ drop 1 all → IsSound (record j { packet = q }) left None n
+sound_taken j q s [] left out n h next keeps is e = absurd next
+sound_taken j q s (t ∷ rest) left out n h next keeps is e =
     let has = texts-kept (length q) t rest (subst KeepsTexts (sym next) keeps) in
-    subst (λ (l : List Step). IsSound j q l None n) (sym e)
-    (sound_next j p q t rest out n h (h.lengths (ap (λ (o : Option ℕ). has_texts o (t ∷ rest)) is ∙ has)) (sym (ap (λ (o : Option ℕ). packet_length o p) is)))
+    subst (λ (l : List Step). IsSound (record j { packet = q }) l None n) (sym e)
+    (sound_next j q t rest out n h (h.lengths (λ none. cc) (ap (λ (o : Option ℕ). has_texts o (t ∷ rest)) is ∙ has))
+    (sym (ap (λ (o : Option ℕ). packet_length o j.packet) is)))
 
 -- when an entry with nonce and data is taken back
-pub sound_ccm_taken : (j : Job) (p q iv aad : List ℕ) (all left : List Step) (out : Option ℕ) (n : Lengths) → IsSound j p all out n
+pub sound_ccm_taken : (j : Job) (q iv aad : List ℕ) (all left : List Step) (out : Option ℕ) (n : Lengths) → IsSound j all out n
     → IsNextStep step.CcmMac all → out ≡ Some (length q) → length iv ≡ n.iv → length aad ≡ n.aad → left ≡ drop 1 all
-    → IsSound (record j { iv = iv; aad = aad }) q left None n
-sound_ccm_taken j p q iv aad [] left out n h next is i a e = absurd next
-sound_ccm_taken j p q iv aad (t ∷ rest) left out n h next is i a e =
-    subst (λ (l : List Step). IsSound (record j { iv = iv; aad = aad }) q l None n) (sym e)
-    (sound_texts_back j p q iv aad t rest out n h i a (sym (ap (λ (o : Option ℕ). packet_length o p) is)))
+    → IsSound (record j { packet = q; iv = iv; aad = aad }) left None n
+sound_ccm_taken j q iv aad [] left out n h next is i a e = absurd next
+sound_ccm_taken j q iv aad (t ∷ rest) left out n h next is i a e =
+    subst (λ (l : List Step). IsSound (record j { packet = q; iv = iv; aad = aad }) l None n) (sym e)
+    (sound_texts_back j q iv aad t rest out n h i a (sym (ap (λ (o : Option ℕ). packet_length o j.packet) is)))
 
 -- while the packet is out
-pub sound_out : (j : Job) (p : List ℕ) (left : List Step) (n : Lengths) → IsSound j p left None n → stage_at j left ≢ stage.Now
-    → IsSound j [] left (Some (length p)) n
-sound_out j p left n h lane = record {
-  accepted = h.accepted;
-  own = h.own;
-  here = λ now. absurd (lane now);
-  lengths = λ _. h.lengths refl;
+pub sound_out : (j : Job) (q : List ℕ) (left : List Step) (out : Option ℕ) (n : Lengths) (m : ℕ) → IsSound j left out n → out ≡ None
+    → m ≡ length j.packet → stage_at j left ≢ stage.Now → IsSound (record j { packet = q }) left (Some m) n
+sound_out j q left out n m h none len lane = record {
+  accepted = λ some. ap (verdict_at (sized n j)) (len ∙ ap (λ (o : Option ℕ). packet_length o j.packet) (sym none)) ∙ h.accepted some;
+  own = all_own_packet j q left h.own;
+  here = λ now. absurd (lane (sym (stage-packet j q left) ∙ now));
+  lengths = λ some _. h.lengths some (ap (λ (o : Option ℕ). has_texts o left) none);
 }
 
 no-texts : (m : ℕ) (left : List Step) → IsNextStep step.CcmMac left → has_texts (Some m) left ≢ true
@@ -174,11 +188,12 @@ no-texts m (step.CcmText ∷ left) h = absurd (cc)
 no-texts m (step.Gmac ∷ left) h = absurd (cc)
 
 -- and nonce and data with it
-pub sound_texts_out : (j : Job) (p iv aad : List ℕ) (left : List Step) (n : Lengths) → IsSound j p left None n → stage_at j left ≢ stage.Now
-    → IsNextStep step.CcmMac left → IsSound (record j { iv = iv; aad = aad }) [] left (Some (length p)) n
-sound_texts_out j p iv aad left n h lane first = record {
-  accepted = h.accepted;
-  own = all_own_texts j iv aad left h.own;
-  here = λ now. absurd (lane (sym (stage-texts j iv aad left) ∙ now));
-  lengths = λ has. absurd (no-texts (length p) left first has);
+pub sound_texts_out : (j : Job) (q iv aad : List ℕ) (left : List Step) (out : Option ℕ) (n : Lengths) (m : ℕ) → IsSound j left out n → out ≡ None
+    → m ≡ length j.packet → stage_at j left ≢ stage.Now → IsNextStep step.CcmMac left
+    → IsSound (record j { packet = q; iv = iv; aad = aad }) left (Some m) n
+sound_texts_out j q iv aad left out n m h none len lane first = record {
+  accepted = λ some. ap (verdict_at (sized n j)) (len ∙ ap (λ (o : Option ℕ). packet_length o j.packet) (sym none)) ∙ h.accepted some;
+  own = all_own_parts j q iv aad left h.own;
+  here = λ now. absurd (lane (sym (stage-packet j q left) ∙ sym (stage-texts (record j { packet = q }) iv aad left) ∙ now));
+  lengths = λ _ has. absurd (no-texts m left first has);
 }

@@ -1,5 +1,5 @@
 -- The course of a job: what contracts see of it, how it goes on, and the result to which it leads.
-use Rattle.std.specs.Prelude.{ℕ, List, [], ◌∷◌, length, replicate, take, Option, Some, None}
+use Rattle.std.specs.Prelude.{◌≡◌, ℕ, List, [], ◌∷◌, length, replicate, take, Option, Some, None, IsSome}
 use Rattle.mbj_types.specs.Verdict.{verdict}
 use Rattle.mbj_types.specs.Aes.{aes}
 use Rattle.mbj_types.specs.Blocks.{xor_lists}
@@ -32,6 +32,12 @@ pub record CourseState : Type 0 where
   pub out : Option ℕ
   -- how long the job's IV and data are, also while they are out
   pub lengths : Lengths
+
+-- a course whose job isn't begun, and is any job: no step is left, as in the course of a job that is refused
+pub record IsIdle (c : CourseState) : Type 0 where
+  pub nothing : c.left ≡ []
+  pub refused : IsSome c.reason
+  pub here : c.out ≡ None
 
 -- the lengths of a job's IV and data
 abbrev pub lengths_of : Job → Lengths

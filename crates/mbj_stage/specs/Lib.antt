@@ -1,5 +1,6 @@
 pub mod Steps
 pub mod CourseState
+pub mod CourseLends
 pub mod Keys
 pub mod Handing
 pub mod Ends

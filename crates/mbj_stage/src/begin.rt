@@ -60,21 +60,21 @@ impl Course {
         Course::start(job, reason, Some(schedule))
     }
 
-    /// The course of a job, with nothing done, in place of what it was. It takes the job, and leaves another one in its place. Where the
-    /// job is accepted and needs the schedule of its key, the schedule is the one that was found; where none was, the key is expanded.
-    pub fn begin_in_place(&mut self, job: &mut Job, found: Option<&Schedule>)
-        requires { IfSome found (λ s. IsScheduleOf job.old.key s.now) }
-        ensures begun { self.new ≡ begun job.old }
-        ensures owed { owed self.new ≡ result_of job.old }
+    /// Begins the course of its own job, whatever was done of it. Where the job is accepted and needs the schedule of its key, the schedule
+    /// is the one that was found; where none was, the key is expanded.
+    pub fn begin_in_place(&mut self, found: Option<&Schedule>)
+        requires { IfSome found (λ s. IsScheduleOf self.old.job.key s.now) }
+        ensures begun { self.new ≡ begun self.old.job }
+        ensures owed { owed self.new ≡ result_of self.old.job }
     {
-        self.begin_over(job, found);
+        self.begin_over(found);
     }
 
-    fn begin_over(&mut self, job: &mut Job, found: Option<&Schedule>)
-        requires { IfSome found (λ s. IsScheduleOf job.old.key s.now) }
-        ensures { self.new ≡ begun job.old }
+    fn begin_over(&mut self, found: Option<&Schedule>)
+        requires { IfSome found (λ s. IsScheduleOf self.old.job.key s.now) }
+        ensures { self.new ≡ begun self.old.job }
     {
-        let reason = check(job);
-        self.restart(job, reason, found);
+        let reason = check(self.job());
+        self.restart(reason, found);
     }
 }

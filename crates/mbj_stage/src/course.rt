@@ -1,4 +1,5 @@
 ghost use Rattle.std.specs.Prelude.{◌≡◌, [], ◌∷◌, None, true, length, is_some, IfSome};
+ghost use Rattle.std.specs.Borrow.{sem};
 ghost use Rattle.mbj_types.specs.Blank.{blank};
 ghost use Rattle.mbj_types.specs.Verdict.{verdict, verdict_at};
 ghost use Rattle.mbj_keys.specs.Schedules.{IsScheduleOf};
@@ -6,7 +7,7 @@ ghost use Rattle.mbj_stage.specs.declared.stage.Stage.TheVariants as stage;
 ghost use Rattle.mbj_stage.specs.Steps.{stage_at, steps_in};
 ghost use Rattle.mbj_stage.specs.Inside.Kept.{HasSchedule, IsStepOf};
 ghost use Rattle.mbj_stage.specs.Keys.{needs_schedule, uses_key, wants_schedule};
-ghost use Rattle.mbj_stage.specs.CourseState.{stage_of, begun, packet_after, tag_after, ran, status_of, owed};
+ghost use Rattle.mbj_stage.specs.CourseState.{IsIdle, stage_of, begun, packet_after, tag_after, ran, status_of, owed};
 
 mod handing;
 
@@ -16,8 +17,12 @@ use crate::stage::{Stage, Step, Steps, stage_of_step, steps_by};
 use crate::{ccm, cipher, gcm, gmac};
 use mbj_aes::Schedule;
 use mbj_types::{Bytes, Done, Job, Reason, Status, Tag};
+use std::alloc::Global;
 use std::marker::Model;
 use std::mem;
+
+/// The reason that stands in an idle course, of which no stage is left, as in the course of a job that is refused.
+const IDLE: Reason = Reason::PacketLong;
 
 /// The course of one job: its stages one after another, each of which is done once.
 ///
@@ -31,6 +36,9 @@ use std::mem;
 /// No call takes memory. The key of a cipher is expanded as the course begins, unless its schedule is found there. The keys of CBC
 /// encryption and of CMAC are expanded in their lanes, and that of another authentication is prepared as its stage begins.
 ///
+/// A course may be used for one job after another. While it is idle its job can be filled, and has no stage; `begin_in_place` begins the
+/// course of that job, and `end` makes it idle again.
+///
 /// ```
 /// let mut course = Course::begin(job);
 /// 'stages: loop {
@@ -43,10 +51,9 @@ use std::mem;
 /// ```
 #[derive(Drop)]
 pub struct Course {
-    // Without its packet.
     job: Job,
-    packet: Vec<u8>,
     tag: Tag,
+    // Why the job is refused; in a course that is idle IDLE, whatever the job is.
     reason: Option<Reason>,
     left: Steps,
     // The length of the packet while it is out.
@@ -64,7 +71,7 @@ impl Model for Course {
     ghost Value = { CourseState };
 
     ghost view = { λ c. record {
-      job = record c.job { packet = c.packet.items };
+      job = c.job;
       tag = c.tag;
       reason = c.reason;
       left = steps_in c.left;
@@ -72,7 +79,7 @@ impl Model for Course {
       lengths = c.lengths;
     } };
 
-    ghost invariant = { λ c. IsKept c.job c.packet.items c.reason (steps_in c.left) c.out c.lengths c.schedule };
+    ghost invariant = { λ c. IsKept c.job c.reason (steps_in c.left) c.out c.lengths c.schedule };
 }
 
 /// Does a step of an accepted job that is done at once.
@@ -93,6 +100,21 @@ fn run_step(step: Step, job: &Job, schedule: &Option<Schedule>, packet: &mut Vec
         Step::CcmText => ccm::run(job, at_hand(schedule, job), packet.as_mut_slice(), tag),
         Step::Gmac => *tag = gmac::run(job, packet.as_slice()),
     }
+}
+
+/// Does a step of an accepted job that is done at once, on the job's own packet.
+fn run_step_in(step: Step, job: &mut Job, schedule: &Option<Schedule>, tag: &mut Tag)
+    requires keyed { needs_schedule job.old.cipher job.old.dir ≡ true → HasSchedule job.old schedule.now }
+    requires own { IsStepOf job.old step }
+    requires now { stage_at job.old (step ∷ []) ≡ stage.Now }
+    requires accepted { verdict job.old ≡ None }
+    ensures job { job.new ≡ record job.old { packet = packet_after step job.old job.old.packet } }
+    ensures len { length job.new.packet ≡ length job.old.packet }
+    ensures tag { tag.new ≡ tag_after step job.old job.old.packet tag.old }
+{
+    let mut packet = job.packet.take();
+    run_step(step, job, schedule, &mut packet, tag);
+    job.packet = Bytes::from_vec(packet);
 }
 
 /// How a job ends that is refused for this reason, or for none.
@@ -136,19 +158,30 @@ fn forget(kept: &mut Option<Schedule>)
     }
 }
 
-/// Takes a packet out of its place, in which none is left. It takes no memory.
-fn taken(packet: &mut Vec<u8>) -> Vec<u8>
-    ensures taken { result.items ≡ packet.old.items }
-    ensures none { packet.new.items ≡ [] }
-{
-    let alloc = *packet.allocator();
-    mem::replace(packet, Vec::new(alloc))
-}
-
 impl Course {
+    ghost use Rattle.mbj_stage.specs.CourseLends.{LendsJob};
+
+    /// An idle course with a blank job. It takes no memory: the allocator is that of the job's empty bytes.
+    pub fn blank(alloc: Global) -> Course
+        ensures idle { IsIdle result }
+        ensures job { result.job ≡ blank }
+    {
+        let job = Job::blank(alloc);
+        let lengths = lengths_of(&job);
+        Course {
+            job,
+            tag: Tag::from_slice(&[]),
+            reason: Some(IDLE),
+            left: Steps::Done,
+            out: None,
+            lengths,
+            schedule: None,
+        }
+    }
+
     /// The course of a job, with nothing done, which is refused for this reason or for none. The schedule of its key is there where the job
     /// needs one.
-    pub(crate) fn start(mut job: Job, reason: Option<Reason>, schedule: Option<Schedule>) -> Course
+    pub(crate) fn start(job: Job, reason: Option<Reason>, schedule: Option<Schedule>) -> Course
         requires reason { reason ≡ verdict job }
         requires wanted { is_some schedule ≡ wants_schedule reason job.cipher job.dir }
         requires schedule { IfSome schedule (IsScheduleOf job.key) }
@@ -156,12 +189,8 @@ impl Course {
     {
         let left = steps_by(reason, &job);
         let lengths = lengths_of(&job);
-        let packet = job.packet.into_vec();
-        let alloc = *packet.allocator();
-        job.packet = Bytes::from_vec(Vec::new(alloc));
         Course {
             job,
-            packet,
             tag: Tag::from_slice(&[]),
             reason,
             left,
@@ -171,43 +200,66 @@ impl Course {
         }
     }
 
-    /// The course of a job, with nothing done, in place of what it was, where the job is refused for this reason or for none. It takes the
-    /// job, and leaves another one in its place. The schedule of the cipher's key, where the job needs one, is the one that was found;
-    /// where none was, the key is expanded.
-    pub(crate) fn restart(
-        &mut self,
-        job: &mut Job,
-        reason: Option<Reason>,
-        found: Option<&Schedule>,
-    )
-        requires reason { reason ≡ verdict job.old }
-        requires found { IfSome found (λ s. IsScheduleOf job.old.key s.now) }
-        ensures { self.new ≡ begun job.old }
+    /// The course of its own job, with nothing done, where the job is refused for this reason or for none. The schedule of the cipher's
+    /// key, where the job needs one, is the one that was found; where none was, the key is expanded.
+    pub(crate) fn restart(&mut self, reason: Option<Reason>, found: Option<&Schedule>)
+        requires reason { reason ≡ verdict self.old.job }
+        requires found { IfSome found (λ s. IsScheduleOf self.old.job.key s.now) }
+        ensures { self.new ≡ begun self.old.job }
     {
-        keep_schedule(&mut self.schedule, job, reason, found);
-        self.left = steps_by(reason, job);
-        self.lengths = lengths_of(job);
-        mem::swap(&mut self.job, job);
-        self.packet = self.job.packet.take();
+        keep_schedule(&mut self.schedule, &self.job, reason, found);
+        self.left = steps_by(reason, &self.job);
+        self.lengths = lengths_of(&self.job);
         self.tag.clear();
         self.reason = reason;
         self.out = None;
     }
 
-    /// Ends the course, and makes the job a blank one, which has the memory of the course's job: at most `most` bytes for each field of the
-    /// job.
-    pub fn end(&mut self, job: &mut Job, most: usize)
-        ensures { job.new ≡ blank }
+    /// Ends the course, which is idle then, and makes its job a blank one. Memory of at most `most` bytes is kept for each field of the
+    /// job; longer memory is freed.
+    pub fn end(&mut self, most: usize)
+        ensures idle { IsIdle self.new }
+        ensures job { self.new.job ≡ blank }
     {
-        mem::swap(&mut self.job, job);
-        job.packet = Bytes::from_vec(taken(&mut self.packet));
-        job.clear(most);
-        self.job.clear(0);
-        self.lengths = lengths_of(&self.job);
-        self.reason = None;
+        self.make_idle();
+        self.job.clear(most);
+    }
+
+    /// Ends the course, which is idle then, and gives its job away; a blank one stands in its place. It takes no memory: the allocator
+    /// is that of the blank job's empty bytes.
+    pub fn end_giving(&mut self, alloc: Global) -> Job
+        ensures idle { IsIdle self.new }
+        ensures job { self.new.job ≡ blank }
+        ensures given { result ≡ self.old.job }
+    {
+        self.make_idle();
+        mem::replace(&mut self.job, Job::blank(alloc))
+    }
+
+    fn make_idle(&mut self)
+        ensures idle { IsIdle self.new }
+        ensures job { self.new.job ≡ self.old.job }
+    {
+        self.reason = Some(IDLE);
         self.left = Steps::Done;
         self.out = None;
         forget(&mut self.schedule);
+    }
+
+    /// The job. While its packet is out in an entry it has no packet, and while that is one of CCM's MAC no IV and data.
+    pub fn job(&self) -> &Job
+        ensures { result.now ≡ self.now.job }
+    {
+        &self.job
+    }
+
+    /// Lends the job of an idle course, to fill it. The course stays idle.
+    pub fn job_mut(&mut self) -> &mut Job
+        requires { IsIdle self.old }
+        ensures* lends { sem 𝓛 (LendsJob self.entry result) }
+        ensures value { result.now ≡ self.old.job }
+    {
+        &mut self.job
     }
 
     /// Whether the key of the job's cipher is used: it is where the job is accepted and has a cipher.
@@ -243,23 +295,11 @@ impl Course {
         match self.left {
             Steps::Done => unreachable!(),
             Steps::One(step) => {
-                run_step(
-                    step,
-                    &self.job,
-                    &self.schedule,
-                    &mut self.packet,
-                    &mut self.tag,
-                );
+                run_step_in(step, &mut self.job, &self.schedule, &mut self.tag);
                 self.left = Steps::Done;
             }
             Steps::Two(step, later) => {
-                run_step(
-                    step,
-                    &self.job,
-                    &self.schedule,
-                    &mut self.packet,
-                    &mut self.tag,
-                );
+                run_step_in(step, &mut self.job, &self.schedule, &mut self.tag);
                 self.left = Steps::One(later);
             }
         }
@@ -278,7 +318,7 @@ impl Course {
         requires { stage_of self.now ≡ stage.Finished }
         ensures { result.now ≡ (owed self.now).packet }
     {
-        self.packet.as_slice()
+        self.job.packet.as_slice()
     }
 
     /// The tag of a job whose stages are all done.
@@ -296,20 +336,16 @@ impl Course {
     {
         Done {
             status: status(self.reason),
-            packet: Bytes::from_vec(taken(&mut self.packet)),
+            packet: Bytes::from_vec(self.job.packet.take()),
             tag: mem::replace(&mut self.tag, Tag::from_slice(&[])),
         }
     }
 
     /// The result of a job whose stages are all done.
-    pub fn into_done(self) -> Done
+    pub fn into_done(mut self) -> Done
         requires { stage_of self ≡ stage.Finished }
         ensures { result ≡ owed self }
     {
-        Done {
-            status: status(self.reason),
-            packet: Bytes::from_vec(self.packet),
-            tag: self.tag,
-        }
+        self.take_done()
     }
 }

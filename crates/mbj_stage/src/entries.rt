@@ -1,6 +1,6 @@
 //! The entries in which the stages of an accepted job are done in lanes, over the job's packet.
 
-ghost use Rattle.std.specs.Prelude.{◌≡◌, ◌≤◌, ◌⊎◌, None, length, IsTrue};
+ghost use Rattle.std.specs.Prelude.{◌≡◌, ◌<◌, ◌≤◌, ◌⊎◌, Some, None, length, IsTrue};
 ghost use Rattle.mbj_types.specs.Aes.{aes, round_count};
 ghost use Rattle.mbj_types.specs.Auths.{class_of, IsCmac};
 ghost use Rattle.mbj_types.specs.Ccm.{ccm_mac};
@@ -10,20 +10,22 @@ ghost use Rattle.mbj_types.specs.Verdict.{verdict_at};
 ghost use Rattle.mbj_types.specs.declared.job.Cipher.TheVariants as cipher;
 ghost use Rattle.mbj_types.specs.declared.job.Dir.TheVariants as dir;
 ghost use Rattle.mbj_lane.specs.Rounds.{end_of};
+ghost use Rattle.mbj_lane.specs.Slots.{IsWritten};
 ghost use Rattle.mbj_cbc.specs.Rounds.{round as cbc_round, rest_of as cbc_rest};
 ghost use Rattle.mbj_cmac.specs.Rounds.{round as cmac_round, rest_of as cmac_rest};
 ghost use Rattle.mbj_hmac.specs.Names.{serves_lanes};
+ghost use Rattle.mbj_hmac.specs.Inside.InLanes.{slot_in};
 ghost use Rattle.mbj_hmac.specs.Rounds.{round as hmac_round, rest_of as hmac_rest};
 ghost use Rattle.mbj_ccm.specs.Rounds.{round as ccm_round, rest_of as ccm_rest};
 ghost use Rattle.mbj_keys.specs.Schedules.{IsScheduleOf};
-ghost use Rattle.mbj_stage.specs.Ends.{ccm_end, cmac_end, hmac_end};
+ghost use Rattle.mbj_stage.specs.Ends.{begun_over, ccm_end, cmac_end, hmac_end};
 
 use crate::cipher::iv_block;
 use mbj_aes::Schedule;
 use mbj_cbc::CbcEntry;
 use mbj_ccm::CcmEntry;
 use mbj_cmac::CmacEntry;
-use mbj_hmac::{HmacEntry, LaneHash};
+use mbj_hmac::{HmacEntry, HmacSlots, LaneHash};
 use mbj_types::{AuthClass, Job};
 
 /// The CBC encryption of a job whose key has `N` rounds.
@@ -74,6 +76,22 @@ pub(crate) fn hmac_entry<H: LaneHash>(job: &Job, packet: Vec<u8>) -> HmacEntry<H
         AuthClass::Null | AuthClass::Cmac(_) | AuthClass::Gcm | AuthClass::Ccm | AuthClass::Gmac =>
             unreachable!(),
     }
+}
+
+/// The same entry, right in an idle slot.
+pub(crate) fn put_hmac<H: LaneHash>(job: &Job, packet: Vec<u8>, slots: &mut HmacSlots<H>, i: usize)
+    requires lane { i < H.LANES }
+    requires serves { IsTrue (serves_lanes H.chaining job.now.auth) }
+    requires accepted { verdict_at job.now (length packet.items) ≡ None }
+    ensures put { IsWritten H.LANES i (Some (begun_over H.chaining job.now packet.items)) (slot_in slots.old) (slot_in slots.new) }
+    ensures rest { (begun_over H.chaining job.now packet.items).rest ≡ auth_rounds (class_of job.now.auth) H.chaining.block_bytes job.now.hash_len }
+    ensures packet { (hmac_end H.chaining (end_of (hmac_round H.chaining) hmac_rest (begun_over H.chaining job.now packet.items))).packet
+        ≡ packet.items }
+    ensures mac { (hmac_end H.chaining (end_of (hmac_round H.chaining) hmac_rest (begun_over H.chaining job.now packet.items))).mac
+        ≡ mac_by (class_of job.now.auth) job.now packet.items }
+{
+    let secret = job.auth_key.as_slice();
+    slots.put_job(i, job.auth, secret, packet, job.hash_off, job.hash_len);
 }
 
 /// The MAC of a CCM job whose key has `N` rounds, by the key's schedule, over the cipher range, which is plaintext. IV and additional data are the job's, and go into the entry too.

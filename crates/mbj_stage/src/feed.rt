@@ -1,4 +1,4 @@
-ghost use Rattle.std.specs.Prelude.{◌≡◌, ◌⊎◌, IsTrue};
+ghost use Rattle.std.specs.Prelude.{◌≡◌, ◌⊎◌, ◌<◌, Some, None, IsTrue};
 ghost use Rattle.mbj_types.specs.Kinds.{lanes_of};
 ghost use Rattle.mbj_types.specs.Auths.{class_of};
 ghost use Rattle.mbj_types.specs.Rounds.{auth_rounds, rounds_of};
@@ -9,6 +9,7 @@ ghost use Rattle.mbj_types.specs.declared.kind.Kind.TheVariants as kind;
 ghost use Rattle.mbj_aes.specs.Bytes.{IsRoundCount};
 ghost use Rattle.mbj_hmac.specs.Names.{serves_lanes_class};
 ghost use Rattle.mbj_lane.specs.Rounds.{end_of};
+ghost use Rattle.mbj_lane.specs.Slots.{IsBusy, IsWritten};
 ghost use Rattle.mbj_stage.specs.declared.stage.Stage.TheVariants as stage;
 ghost use Rattle.mbj_stage.specs.declared.stage.Step.TheVariants as step;
 ghost use Rattle.mbj_stage.specs.Steps.{auth_stage_by, step_of};
@@ -20,8 +21,8 @@ use crate::course::Course;
 use mbj_cbc::{CbcEntry, CbcKernel};
 use mbj_ccm::{CcmEntry, CcmKernel};
 use mbj_cmac::{CmacEntry, CmacKernel};
-use mbj_hmac::{HmacEntry, HmacKernel, LaneHash, Sha1Lanes, Sha256Lanes, Sha512Lanes};
-use mbj_lane::SlotKernel;
+use mbj_hmac::{HmacEntry, HmacKernel, HmacSlots, LaneHash, Sha1Lanes, Sha256Lanes, Sha512Lanes};
+use mbj_lane::{Host, SlotKernel};
 
 /// A kernel whose entries courses hand out: the lanes of a kind.
 pub trait Feed: SlotKernel {
@@ -46,8 +47,56 @@ pub trait Feed: SlotKernel {
         requires done { Self.rest_of entry ≡ 0 }
         ensures { course.new ≡ taken_back (brings entry) course.old };
 
+    /// Hands the packet of a course out into an idle slot, where the next stage is in these lanes.
+    #[inline(always)]
+    fn hand_into(course: &mut Course, slots: &mut Self::Slots, i: usize)
+        requires fits { fits }
+        requires next { IsNext kind course.old }
+        requires lane { i < Self.LANES }
+        requires idle { Self.slot slots.old i ≡ None }
+        ensures { (e : Self.Entry) × IsWritten Self.LANES i (Some e) (Self.slot slots.old) (Self.slot slots.new)
+            × IsHandedOut kind (Self.rest_of e) (brings (end_of Self.round Self.rest_of e)) course.new course.old }
+    {
+        let entry = Self::hand_out(course);
+        Self::put(slots, i, entry);
+    }
+
+    /// Takes an entry that has no round left back out of its slot, which is idle then.
+    #[inline(always)]
+    fn take_from(course: &mut Course, slots: &mut Self::Slots, i: usize)
+        requires lane { i < Self.LANES }
+        requires busy { IsBusy (Self.slot slots.old) i }
+        requires done { (e : Self.Entry) → Self.slot slots.old i ≡ Some e → Self.rest_of e ≡ 0 }
+        requires out { (e : Self.Entry) → Self.slot slots.old i ≡ Some e → IsOut kind (brings e) course.old }
+        ensures idle { IsWritten Self.LANES i None (Self.slot slots.old) (Self.slot slots.new) }
+        ensures back { (e : Self.Entry) → Self.slot slots.old i ≡ Some e → course.new ≡ taken_back (brings e) course.old }
+    {
+        let entry = Self::take(slots, i);
+        Self::take_back(course, entry);
+    }
+
     /// The kind has these lanes.
     ghost lanes: { Self.LANES ≡ lanes_of kind };
+}
+
+impl<K: Feed> Host<K> for Course {
+    ghost may_give = { λ c. K.fits × IsNext K.kind c };
+
+    ghost gives = { λ old e new. IsHandedOut K.kind (K.rest_of e) (K.brings (end_of K.round K.rest_of e)) new old };
+
+    ghost may_take = { λ e c. IsOut K.kind (K.brings e) c };
+
+    ghost takes = { λ old e new. new ≡ taken_back (K.brings e) old };
+
+    #[inline(always)]
+    fn give(&mut self, slots: &mut K::Slots, i: usize) {
+        K::hand_into(self, slots, i);
+    }
+
+    #[inline(always)]
+    fn take(&mut self, slots: &mut K::Slots, i: usize) {
+        K::take_from(self, slots, i);
+    }
 }
 
 impl<const N: usize> Feed for CbcKernel<N> {
@@ -188,6 +237,17 @@ impl<H: HashKind> Feed for HmacKernel<H> {
 
     fn take_back(course: &mut Course, entry: HmacEntry<H>) {
         let (packet, mac) = entry.into_parts();
+        course.take_mac(packet, mac.bytes());
+    }
+
+    #[inline(always)]
+    fn hand_into(course: &mut Course, slots: &mut HmacSlots<H>, i: usize) {
+        course.hand_into_hmac(slots, i);
+    }
+
+    #[inline(always)]
+    fn take_from(course: &mut Course, slots: &mut HmacSlots<H>, i: usize) {
+        let (packet, mac) = slots.take_parts(i);
         course.take_mac(packet, mac.bytes());
     }
 

@@ -39,13 +39,13 @@ abbrev pub has_texts : Option ℕ → List Step → Bool
 has_texts (Some m) (step.CcmMac ∷ left) = false
 has_texts out left = true
 
--- where a step is left no row of the argument table applies, each step left is one of the job's, a packet is out only while the first
--- of them is done in lanes, and n has the lengths of IV and data
-pub record IsSound (j : Job) (p : List ℕ) (left : List Step) (out : Option ℕ) (n : Lengths) : Type 0 where
-  pub accepted : left ≢ [] → verdict_at (sized n j) (packet_length out p) ≡ None
+-- each step left is one of the job's, a packet is out only while the first of them is done in lanes, and where a step is left no row of
+-- the argument table applies and n has the lengths of IV and data
+pub record IsSound (j : Job) (left : List Step) (out : Option ℕ) (n : Lengths) : Type 0 where
+  pub accepted : left ≢ [] → verdict_at (sized n j) (packet_length out j.packet) ≡ None
   pub own : All (IsStepOf j) left
   pub here : stage_at j left ≡ stage.Now → out ≡ None
-  pub lengths : has_texts out left ≡ true → n ≡ lengths_of j
+  pub lengths : left ≢ [] → has_texts out left ≡ true → n ≡ lengths_of j
 
 -- the schedule of a job's key is at hand
 abbrev pub HasSchedule : Job → Option (List ℕ) → Type 0
@@ -56,7 +56,7 @@ abbrev pub IsKeyed : Job → List Step → Option (List ℕ) → Type 0
 IsKeyed j left schedule = left ≢ [] → needs_schedule j.cipher j.dir ≡ true → HasSchedule j schedule
 
 -- all that the fields keep: there is a schedule exactly where the job needs one, which is refused for this reason or for none
-pub record IsKept (j : Job) (p : List ℕ) (reason : Option Reason) (left : List Step) (out : Option ℕ) (n : Lengths) (schedule : Option (List ℕ)) : Type 0 where
-  pub sound : IsSound j p left out n
+pub record IsKept (j : Job) (reason : Option Reason) (left : List Step) (out : Option ℕ) (n : Lengths) (schedule : Option (List ℕ)) : Type 0 where
+  pub sound : IsSound j left out n
   pub keyed : IsKeyed j left schedule
   pub wanted : is_some schedule ≡ wants_schedule reason j.cipher j.dir

@@ -1,14 +1,16 @@
 //! How a packet goes out to lanes, and comes back.
 
-ghost use Rattle.std.specs.Prelude.{◌≡◌, ◌≤◌, ◌⊎◌, [], Some, None, drop, length, IsTrue};
+ghost use Rattle.std.specs.Prelude.{◌≡◌, ◌<◌, ◌≤◌, ◌⊎◌, [], Some, None, drop, length, IsTrue};
 ghost use Rattle.mbj_types.specs.declared.limits.TheConstants.{MAX_TAG_BYTES};
 ghost use Rattle.mbj_lane.specs.Rounds.{end_of};
+ghost use Rattle.mbj_lane.specs.Slots.{IsWritten};
 ghost use Rattle.mbj_types.specs.Rounds.{auth_rounds, cbc_rounds, cmac_rounds, rounds_of};
 ghost use Rattle.mbj_types.specs.Auths.{class_of};
 ghost use Rattle.mbj_aes.specs.Bytes.{IsRoundCount};
 ghost use Rattle.mbj_cbc.specs.Rounds.{round as cbc_round, rest_of as cbc_rest};
 ghost use Rattle.mbj_cmac.specs.Rounds.{round as cmac_round, rest_of as cmac_rest};
 ghost use Rattle.mbj_hmac.specs.Names.{serves_lanes};
+ghost use Rattle.mbj_hmac.specs.Inside.InLanes.{slot_in};
 ghost use Rattle.mbj_hmac.specs.Rounds.{round as hmac_round, rest_of as hmac_rest};
 ghost use Rattle.mbj_stage.specs.declared.stage.Step.TheVariants as step;
 ghost use Rattle.mbj_stage.specs.Steps.{steps_in};
@@ -16,30 +18,20 @@ ghost use Rattle.mbj_stage.specs.Inside.Kept.{IsNextStep};
 ghost use Rattle.mbj_stage.specs.CourseState.{stage_of, sized, owed};
 ghost use Rattle.mbj_ccm.specs.Rounds.{round as ccm_round, rest_of as ccm_rest};
 ghost use Rattle.mbj_stage.specs.Handing.{BringsData, handed_out, taken_back, without_packet, owed_with};
-ghost use Rattle.mbj_stage.specs.Ends.{cbc_end, ccm_end, cmac_end, hmac_end};
+ghost use Rattle.mbj_stage.specs.Ends.{GoesOut, begun_over, cbc_end, ccm_end, cmac_end, hmac_end};
 ghost use Rattle.mbj_stage.specs.Families.{cbc_stage, ccm_lanes, ccm_stage, cmac_stage};
 
-use super::{Course, taken};
+use super::Course;
 use crate::ccm;
-use crate::entries::{cbc_entry, ccm_entry, cmac_entry, hmac_entry};
+use crate::entries::{cbc_entry, ccm_entry, cmac_entry, hmac_entry, put_hmac};
 use crate::keyed::at_hand;
 use crate::stage::Steps;
 use crate::tag::cut;
 use mbj_cbc::CbcEntry;
 use mbj_ccm::CcmEntry;
 use mbj_cmac::CmacEntry;
-use mbj_hmac::{HmacEntry, LaneHash};
+use mbj_hmac::{HmacEntry, HmacSlots, LaneHash};
 use mbj_types::Bytes;
-use std::alloc::Global;
-use std::mem;
-
-/// Takes bytes out of their place, in which none are left. It takes no memory.
-fn taken_bytes(bytes: &mut Bytes, alloc: Global) -> Vec<u8>
-    ensures taken { result.items ≡ bytes.old }
-    ensures none { bytes.new ≡ [] }
-{
-    mem::replace(bytes, Bytes::from_vec(Vec::new(alloc))).into_vec()
-}
 
 /// The steps after the first of those that are left.
 fn later(left: Steps) -> Steps
@@ -64,7 +56,7 @@ impl Course {
         ensures job { without_packet (taken_back (cbc_end (end_of cbc_round cbc_rest result)) self.new).job ≡ without_packet self.old.job }
         ensures length { self.new.out ≡ Some (length (cbc_end (end_of cbc_round cbc_rest result)).packet) }
     {
-        let packet = taken(&mut self.packet);
+        let packet = self.job.packet.take();
         self.out = Some(packet.len());
         cbc_entry(&self.job, packet)
     }
@@ -75,7 +67,7 @@ impl Course {
         requires length { self.old.out ≡ Some (length packet.items) }
         ensures { self.new ≡ taken_back (record { packet = packet.items; mac = []; iv = []; aad = [] }) self.old }
     {
-        self.packet = packet;
+        self.job.packet = Bytes::from_vec(packet);
         self.out = None;
         self.left = later(self.left);
     }
@@ -87,7 +79,7 @@ impl Course {
         requires fits { length mac.now ≤ MAX_TAG_BYTES }
         ensures { self.new ≡ taken_back (record { packet = packet.items; mac = mac.now; iv = []; aad = [] }) self.old }
     {
-        self.packet = packet;
+        self.job.packet = Bytes::from_vec(packet);
         self.tag = cut(mac, self.job.tag_len);
         self.out = None;
         self.left = later(self.left);
@@ -105,7 +97,7 @@ impl Course {
             ≡ without_packet self.old.job }
         ensures length { self.new.out ≡ Some (length (cmac_end (end_of cmac_round cmac_rest result)).packet) }
     {
-        let packet = taken(&mut self.packet);
+        let packet = self.job.packet.take();
         self.out = Some(packet.len());
         cmac_entry(&self.job, packet)
     }
@@ -123,9 +115,24 @@ impl Course {
             ≡ without_packet self.old.job }
         ensures length { self.new.out ≡ Some (length (hmac_end H.chaining (end_of (hmac_round H.chaining) hmac_rest result)).packet) }
     {
-        let packet = taken(&mut self.packet);
+        let packet = self.job.packet.take();
         self.out = Some(packet.len());
         hmac_entry(&self.job, packet)
+    }
+
+    /// Hands the packet out into an idle slot of a hash of `H`, in the entry of a digest or of its HMAC.
+    pub(crate) fn hand_into_hmac<H: LaneHash>(&mut self, slots: &mut HmacSlots<H>, i: usize)
+        requires lane { i < H.LANES }
+        requires next { IsNextStep step.Auth self.old.left }
+        requires serves { IsTrue (serves_lanes H.chaining self.old.job.auth) }
+        requires here { self.old.out ≡ None }
+        ensures out { self.new ≡ handed_out self.old }
+        ensures put { IsWritten H.LANES i (Some (begun_over H.chaining self.old.job self.old.job.packet)) (slot_in slots.old) (slot_in slots.new) }
+        ensures given { GoesOut H.chaining (begun_over H.chaining self.old.job self.old.job.packet) self.new self.old }
+    {
+        let packet = self.job.packet.take();
+        self.out = Some(packet.len());
+        put_hmac(&self.job, packet, slots, i);
     }
 
     /// Hands packet, nonce and additional data out in an entry of CCM's MAC with `N` rounds.
@@ -141,11 +148,10 @@ impl Course {
         ensures length { self.new.out ≡ Some (length (ccm_end (end_of ccm_round ccm_rest result)).packet) }
         ensures texts { BringsData step.CcmMac self.new.lengths (ccm_end (end_of ccm_round ccm_rest result)) }
     {
-        let packet = taken(&mut self.packet);
+        let packet = self.job.packet.take();
         self.out = Some(packet.len());
-        let alloc = *packet.allocator();
-        let iv = taken_bytes(&mut self.job.iv, alloc);
-        let aad = taken_bytes(&mut self.job.aad, alloc);
+        let iv = self.job.iv.take();
+        let aad = self.job.aad.take();
         let schedule = *at_hand(&self.schedule, &self.job);
         ccm_entry(&self.job, schedule, iv, aad, packet)
     }
@@ -158,7 +164,7 @@ impl Course {
         requires aad { length aad.items ≡ self.old.lengths.aad }
         ensures { self.new ≡ taken_back (record { packet = packet.items; mac = mac.now; iv = iv.items; aad = aad.items }) self.old }
     {
-        self.packet = packet;
+        self.job.packet = Bytes::from_vec(packet);
         self.job.iv = Bytes::from_vec(iv);
         self.job.aad = Bytes::from_vec(aad);
         self.tag = ccm::with_mac(&self.job, mac, &self.tag);

@@ -1,10 +1,12 @@
 -- The packet goes out into an entry that ends with the ciphered packet.
-use Rattle.std.proofs.Common.{◌≡◌, ◌∙◌, List, ℕ, length, Some, None, sym, ap, subst, arith}
+use Rattle.std.proofs.Common.{◌≡◌, ◌≢◌, ◌∙◌, List, ℕ, length, Some, None, sym, ap, subst, arith}
 use Rattle.mbj_types.specs.Result.{ciphered}
 use Rattle.mbj_types.specs.Verdict.{verdict_at}
 use Rattle.mbj_lane.specs.Rounds.{end_of}
 use Rattle.mbj_cbc.specs.Rounds.{rest_of, round}
-use Rattle.mbj_stage.specs.Steps.{steps_in}
+use Rattle.mbj_stage.specs.Steps.{stage_at, steps_in}
+use Rattle.mbj_stage.specs.declared.stage.Stage.TheVariants as stage
+use Rattle.mbj_stage.proofs.Soundness.{sound_out}
 use Rattle.mbj_stage.specs.Families.{cbc_stage}
 use Rattle.mbj_stage.specs.CourseState.{CourseState, owed, stage_of}
 use Rattle.mbj_stage.specs.declared.stage.Step.TheVariants as step
@@ -15,57 +17,72 @@ use Rattle.mbj_stage.proofs.HandingOut.{IsCbcNext, cbc-next, ciphered-long, text
 use Rattle.mbj_stage.proofs.course.Course.hand_out_cbc.Given as given
 use Rattle.mbj_stage.proofs.course.Course.hand_out_cbc.Goals as goal
 
-is-next : (g : given.Over) (c : goal.After-cbc_entry-arg-1 g) → IsCbcNext c.self.inside.job c.self.inside.packet.items (steps_in c.self.inside.left) g.row.N
+is-next : (g : given.Over) (c : goal.After-cbc_entry-arg-1 g) → IsCbcNext c.self.inside.job (steps_in c.self.inside.left) g.row.N
 is-next g c =
     let f = c.self.inside in
-    cbc-next f.job f.packet.items (steps_in f.left) f.out f.lengths g.row.N c.requires.rounds c.self.invariant.sound
+    cbc-next f.job (steps_in f.left) f.out f.lengths g.row.N c.requires.rounds c.self.invariant.sound
     (subst (λ (v : CourseState). v.out ≡ None) (sym c.self.view_is) c.requires.here)
     (subst (λ (v : CourseState). stage_of v ≡ cbc_stage g.row.N) (sym c.self.view_is) c.requires.next)
+
+pub invariant_of-self : goal.invariant_of-self
+invariant_of-self g c =
+    let f = c.self.inside in
+    let left = steps_in f.left in
+    let len : c.len.result ≡ length c.take-packet.result.items = omega (arith, c.len.ensures, c.take-packet.result.ok) in
+    let here : f.out ≡ None = subst (λ (v : CourseState). v.out ≡ None) (sym c.self.view_is) c.requires.here in
+    let next : stage_at f.job left ≡ cbc_stage g.row.N =
+    subst (λ (v : CourseState). stage_of v ≡ cbc_stage g.row.N) (sym c.self.view_is) c.requires.next in
+    let lane : stage_at f.job left ≢ stage.Now = λ now. let e = sym next ∙ now in cc in
+    record {
+      sound = sound_out f.job c.take-packet.new.self left f.out f.lengths c.len.result c.self.invariant.sound here (len ∙ ap length c.take-packet.ensures.taken) lane;
+      keyed = c.self.invariant.keyed;
+      wanted = c.self.invariant.wanted;
+    }
 
 pub cbc_entry-requires : goal.cbc_entry-requires
 cbc_entry-requires g c =
     let f = c.self.inside in
     let is = is-next g c in
-    (omega arith, (is.cbc, (is.enc, (is.rounds, subst (λ (q : List ℕ). verdict_at f.job (length q) ≡ None) (sym c.taken-packet.ensures.taken) is.accepted))))
+    (omega arith, (is.cbc, (is.enc, (is.rounds, subst (λ (q : List ℕ). verdict_at f.job (length q) ≡ None) (sym c.take-packet.ensures.taken) is.accepted))))
 
 pub returns-clause-out : goal.returns-clause-out
 returns-clause-out g c =
     let f = c.self.inside in
-    let len : c.len.result ≡ length c.taken-packet.result.items = omega (arith, c.len.ensures, c.taken-packet.result.ok) in
-    let out : CourseState = going f.lengths f.job c.taken-packet.new.packet.items f.tag f.reason (steps_in f.left) (Some c.len.result) in
+    let len : c.len.result ≡ length c.take-packet.result.items = omega (arith, c.len.ensures, c.take-packet.result.ok) in
+    let out : CourseState = going f.lengths (record f.job { packet = c.take-packet.new.self }) f.tag f.reason (steps_in f.left) (Some c.len.result) in
     subst (λ (v : CourseState). out ≡ handed_out v) c.self.view_is
-    (text-is-out f.lengths f.job f.packet.items c.taken-packet.new.packet.items f.tag f.reason (steps_in f.left) f.out c.len.result c.taken-packet.ensures.none
-    (len ∙ ap length c.taken-packet.ensures.taken) (is-next g c.before).first)
+    (text-is-out f.lengths f.job c.take-packet.new.self f.tag f.reason (steps_in f.left) f.out c.len.result c.take-packet.ensures.none
+    (len ∙ ap length c.take-packet.ensures.taken) (is-next g c.before).first)
 
 pub returns-clause-owed : goal.returns-clause-owed
 returns-clause-owed g c =
     let f = c.self.inside in
     let is = is-next g c.before in
-    let len : c.len.result ≡ length c.taken-packet.result.items = omega (arith, c.len.ensures, c.taken-packet.result.ok) in
+    let len : c.len.result ≡ length c.take-packet.result.items = omega (arith, c.len.ensures, c.take-packet.result.ok) in
     let e = cbc_end (end_of round rest_of c.cbc_entry.result) in
-    let out : CourseState = going f.lengths f.job c.taken-packet.new.packet.items f.tag f.reason (steps_in f.left) (Some c.len.result) in
+    let out : CourseState = going f.lengths (record f.job { packet = c.take-packet.new.self }) f.tag f.reason (steps_in f.left) (Some c.len.result) in
     subst (λ (v : CourseState). owed_with e out ≡ owed v) c.self.view_is
-    (text-out f.lengths f.job f.packet.items c.taken-packet.new.packet.items f.tag f.reason (steps_in f.left) f.out c.len.result e c.taken-packet.ensures.none
-    (len ∙ ap length c.taken-packet.ensures.taken) is.first
-    (c.cbc_entry.ensures.packet ∙ ap (ciphered f.job) c.taken-packet.ensures.taken))
+    (text-out f.lengths f.job c.take-packet.new.self f.tag f.reason (steps_in f.left) f.out c.len.result e c.take-packet.ensures.none
+    (len ∙ ap length c.take-packet.ensures.taken) is.first
+    (c.cbc_entry.ensures.packet ∙ ap (ciphered (record f.job { packet = c.take-packet.new.self })) c.take-packet.ensures.taken))
 
 pub returns-clause-length : goal.returns-clause-length
 returns-clause-length g c =
     let f = c.self.inside in
     let is = is-next g c.before in
-    let len : c.len.result ≡ length c.taken-packet.result.items = omega (arith, c.len.ensures, c.taken-packet.result.ok) in
+    let len : c.len.result ≡ length c.take-packet.result.items = omega (arith, c.len.ensures, c.take-packet.result.ok) in
     ap (λ (n : ℕ). Some n)
-    (len ∙ ap length c.taken-packet.ensures.taken ∙ sym (ciphered-long f.job f.packet.items is.accepted)
-    ∙ sym (ap length (c.cbc_entry.ensures.packet ∙ ap (ciphered f.job) c.taken-packet.ensures.taken)))
+    (len ∙ ap length c.take-packet.ensures.taken ∙ sym (ciphered-long f.job c.take-packet.new.self is.accepted)
+    ∙ sym (ap length (c.cbc_entry.ensures.packet ∙ ap (ciphered (record f.job { packet = c.take-packet.new.self })) c.take-packet.ensures.taken)))
 
 pub returns-clause-job : goal.returns-clause-job
 returns-clause-job g c =
     let f = c.self.inside in
-    let len : c.len.result ≡ length c.taken-packet.result.items = omega (arith, c.len.ensures, c.taken-packet.result.ok) in
+    let len : c.len.result ≡ length c.take-packet.result.items = omega (arith, c.len.ensures, c.take-packet.result.ok) in
     let first = (is-next g c.before).first in
     let e = cbc_end (end_of round rest_of c.cbc_entry.result) in
-    let out : CourseState = going f.lengths f.job c.taken-packet.new.packet.items f.tag f.reason (steps_in f.left) (Some c.len.result) in
+    let out : CourseState = going f.lengths (record f.job { packet = c.take-packet.new.self }) f.tag f.reason (steps_in f.left) (Some c.len.result) in
     subst (λ (v : CourseState). without_packet (taken_back e out).job ≡ without_packet v.job) c.self.view_is
-    (own-back (going f.lengths f.job f.packet.items f.tag f.reason (steps_in f.left) f.out) out e step.Cipher
-    (text-is-out f.lengths f.job f.packet.items c.taken-packet.new.packet.items f.tag f.reason (steps_in f.left) f.out c.len.result c.taken-packet.ensures.none
-    (len ∙ ap length c.taken-packet.ensures.taken) first) first tt)
+    (own-back (going f.lengths f.job f.tag f.reason (steps_in f.left) f.out) out e step.Cipher
+    (text-is-out f.lengths f.job c.take-packet.new.self f.tag f.reason (steps_in f.left) f.out c.len.result c.take-packet.ensures.none
+    (len ∙ ap length c.take-packet.ensures.taken) first) first tt)

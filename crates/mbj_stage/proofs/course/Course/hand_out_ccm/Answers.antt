@@ -1,5 +1,5 @@
 -- Packet, nonce and data go out into an entry that ends with the job's MAC.
-use Rattle.std.proofs.Common.{◌≡◌, ◌≢◌, ◌∙◌, List, ℕ, [], length, Option, Some, None, sym, ap, ap₂, subst, arith}
+use Rattle.std.proofs.Common.{◌≡◌, ◌≢◌, ◌∙◌, List, ℕ, length, Option, Some, None, sym, ap, ap₂, subst, arith}
 use Rattle.std.proofs.lemmas.List.{length-replicate}
 use Rattle.mbj_types.specs.declared.job.Cipher.{Cipher}
 use Rattle.mbj_types.specs.declared.job.Job.{Job}
@@ -18,7 +18,7 @@ use Rattle.mbj_stage.specs.Steps.{stage_at, steps_in}
 use Rattle.mbj_stage.specs.Keys.{needs_schedule}
 use Rattle.mbj_stage.specs.Families.{ccm_lanes, ccm_stage}
 use Rattle.mbj_stage.specs.Laws.{each-by_rounds}
-use Rattle.mbj_stage.specs.Inside.Kept.{IsSound, has_texts}
+use Rattle.mbj_stage.specs.Inside.Kept.{has_texts}
 use Rattle.mbj_stage.specs.CourseState.{CourseState, ccm_mac_over, lengths_of, owed, sized, stage_of}
 use Rattle.mbj_stage.specs.Handing.{handed_out, owed_with, taken_back, without_packet}
 use Rattle.mbj_stage.specs.Ends.{ccm_end}
@@ -26,7 +26,6 @@ use Rattle.mbj_stage.proofs.Handings.{IsCcmEnd, going, own-back}
 use Rattle.mbj_stage.proofs.Schedules.{next-some}
 use Rattle.mbj_stage.proofs.HandingOut.{ccm-is-out, ccm-next, ccm-out}
 use Rattle.mbj_stage.proofs.Soundness.{sound_texts_out}
-use Rattle.mbj_stage.proofs.StagesOf.{stage-packet}
 use Rattle.mbj_stage.proofs.course.Course.hand_out_ccm.Goals as goal
 
 -- the rounds by the lengths that the course keeps
@@ -41,7 +40,7 @@ at_hand-schedule-requires g c =
     let f = c.self.inside in
     let left = steps_in f.left in
     let here : f.out ≡ None = subst (λ (v : CourseState). v.out ≡ None) (sym c.self.view_is) c.requires.here in
-    let is = ccm-next f.job f.packet.items left f.out f.lengths g.row.N c.requires.rounds c.self.invariant.sound here
+    let is = ccm-next f.job left f.out f.lengths g.row.N c.requires.rounds c.self.invariant.sound here
     (subst (λ (v : CourseState). stage_of v ≡ ccm_stage g.row.N) (sym c.self.view_is) c.requires.next) in
     c.self.invariant.keyed (next-some step.CcmMac left is.first) (ap (λ (x : Cipher). needs_schedule x f.job.dir) is.ccm)
 
@@ -50,12 +49,12 @@ ccm_entry-requires g c =
     let f = c.self.inside in
     let left = steps_in f.left in
     let here : f.out ≡ None = subst (λ (v : CourseState). v.out ≡ None) (sym c.self.view_is) c.requires.here in
-    let is = ccm-next f.job f.packet.items left f.out f.lengths g.row.N c.requires.rounds c.self.invariant.sound here
+    let is = ccm-next f.job left f.out f.lengths g.row.N c.requires.rounds c.self.invariant.sound here
     (subst (λ (v : CourseState). stage_of v ≡ ccm_stage g.row.N) (sym c.self.view_is) c.requires.next) in
     let Accepted : List ℕ → List ℕ → List ℕ → Type 0 = λ iv aad q. verdict_at (record f.job { iv = iv; aad = aad }) (length q) ≡ None in
-    let one = subst (λ (q : List ℕ). Accepted f.job.iv f.job.aad q) (sym c.taken-packet.ensures.taken) is.accepted in
-    let two = subst (λ (iv : List ℕ). Accepted iv f.job.aad c.taken-packet.result.items) (sym c.taken_bytes-iv.ensures.taken) one in
-    let three = subst (λ (aad : List ℕ). Accepted c.taken_bytes-iv.result.items aad c.taken-packet.result.items) (sym c.taken_bytes-aad.ensures.taken) two in
+    let one = subst (λ (q : List ℕ). Accepted f.job.iv f.job.aad q) (sym c.take-packet.ensures.taken) is.accepted in
+    let two = subst (λ (iv : List ℕ). Accepted iv f.job.aad c.take-packet.result.items) (sym c.take-iv.ensures.taken) one in
+    let three = subst (λ (aad : List ℕ). Accepted c.take-iv.result.items aad c.take-packet.result.items) (sym c.take-aad.ensures.taken) two in
     (omega arith, (c.at_hand-schedule.ensures, (is.ccm, (is.rounds, three))))
 
 pub invariant_of-self : goal.invariant_of-self
@@ -63,20 +62,15 @@ invariant_of-self g c =
     let f = c.self.inside in
     let left = steps_in f.left in
     let here : f.out ≡ None = subst (λ (v : CourseState). v.out ≡ None) (sym c.self.view_is) c.requires.here in
-    let is = ccm-next f.job f.packet.items left f.out f.lengths g.row.N c.requires.rounds c.self.invariant.sound here
+    let is = ccm-next f.job left f.out f.lengths g.row.N c.requires.rounds c.self.invariant.sound here
     (subst (λ (v : CourseState). stage_of v ≡ ccm_stage g.row.N) (sym c.self.view_is) c.requires.next) in
-    let len : c.len.result ≡ length f.packet.items = omega (arith, c.len.ensures, c.taken-packet.result.ok) ∙ ap length c.taken-packet.ensures.taken in
-    let iv : List ℕ = c.taken_bytes-iv.new.bytes in
-    let aad : List ℕ = c.taken_bytes-aad.new.bytes in
-    let j : Job = record f.job { iv = iv; aad = aad } in
-    let at : stage_at f.job left ≡ ccm_stage g.row.N =
-    sym (stage-packet f.job f.packet.items left) ∙ subst (λ (v : CourseState). stage_of v ≡ ccm_stage g.row.N) (sym c.self.view_is) c.requires.next in
-    let lane : stage_at f.job left ≢ stage.Now = λ now. let e = sym at ∙ now in cc in
-    let sound = sound_texts_out f.job f.packet.items iv aad left f.lengths
-    (subst (λ (o : Option ℕ). IsSound f.job f.packet.items left o f.lengths) here c.self.invariant.sound) lane is.first in
+    let len : c.len.result ≡ length f.job.packet = omega (arith, c.len.ensures, c.take-packet.result.ok) ∙ ap length c.take-packet.ensures.taken in
+    let next : stage_at f.job left ≡ ccm_stage g.row.N =
+    subst (λ (v : CourseState). stage_of v ≡ ccm_stage g.row.N) (sym c.self.view_is) c.requires.next in
+    let lane : stage_at f.job left ≢ stage.Now = λ now. let e = sym next ∙ now in cc in
     record {
-      sound = subst (λ (q : List ℕ). IsSound j q left (Some c.len.result) f.lengths) (sym c.taken-packet.ensures.none)
-          (subst (λ (n : ℕ). IsSound j [] left (Some n) f.lengths) (sym len) sound);
+      sound = sound_texts_out f.job c.take-packet.new.self c.take-iv.new.self c.take-aad.new.self left f.out f.lengths c.len.result
+          c.self.invariant.sound here len lane is.first;
       keyed = c.self.invariant.keyed;
       wanted = c.self.invariant.wanted;
     }
@@ -86,16 +80,16 @@ returns-clause-out g c =
     let f = c.self.inside in
     let left = steps_in f.left in
     let here : f.out ≡ None = subst (λ (v : CourseState). v.out ≡ None) (sym c.self.view_is) c.requires.here in
-    let is = ccm-next f.job f.packet.items left f.out f.lengths g.row.N c.requires.rounds c.self.invariant.sound here
+    let is = ccm-next f.job left f.out f.lengths g.row.N c.requires.rounds c.self.invariant.sound here
     (subst (λ (v : CourseState). stage_of v ≡ ccm_stage g.row.N) (sym c.self.view_is) c.requires.next) in
-    let len : c.len.result ≡ length f.packet.items = omega (arith, c.len.ensures, c.taken-packet.result.ok) ∙ ap length c.taken-packet.ensures.taken in
-    let iv : List ℕ = c.taken_bytes-iv.new.bytes in
-    let aad : List ℕ = c.taken_bytes-aad.new.bytes in
-    let out : CourseState = going f.lengths (record f.job { iv = iv; aad = aad }) c.taken-packet.new.packet.items f.tag f.reason left (Some c.len.result) in
-    let old : CourseState = going f.lengths f.job f.packet.items f.tag f.reason left f.out in
+    let len : c.len.result ≡ length f.job.packet = omega (arith, c.len.ensures, c.take-packet.result.ok) ∙ ap length c.take-packet.ensures.taken in
+    let iv : List ℕ = c.take-iv.new.self in
+    let aad : List ℕ = c.take-aad.new.self in
+    let out : CourseState = going f.lengths (record f.job { packet = c.take-packet.new.self; iv = iv; aad = aad }) f.tag f.reason left (Some c.len.result) in
+    let old : CourseState = going f.lengths f.job f.tag f.reason left f.out in
     let went : out ≡ handed_out old =
-    ccm-is-out f.lengths f.job f.packet.items c.taken-packet.new.packet.items iv aad f.tag f.reason left f.out c.len.result
-    c.taken-packet.ensures.none c.taken_bytes-iv.ensures.none c.taken_bytes-aad.ensures.none len is.first in
+    ccm-is-out f.lengths f.job c.take-packet.new.self iv aad f.tag f.reason left f.out c.len.result
+    c.take-packet.ensures.none c.take-iv.ensures.none c.take-aad.ensures.none len is.first in
     subst (λ (v : CourseState). out ≡ handed_out v) c.self.view_is went
 
 pub returns-clause-rest : goal.returns-clause-rest
@@ -103,73 +97,78 @@ returns-clause-rest g c =
     let f = c.self.inside in
     let left = steps_in f.left in
     let here : f.out ≡ None = subst (λ (v : CourseState). v.out ≡ None) (sym c.self.view_is) c.requires.here in
-    let is = ccm-next f.job f.packet.items left f.out f.lengths g.row.N c.requires.rounds c.self.invariant.sound here
+    let is = ccm-next f.job left f.out f.lengths g.row.N c.requires.rounds c.self.invariant.sound here
     (subst (λ (v : CourseState). stage_of v ≡ ccm_stage g.row.N) (sym c.self.view_is) c.requires.next) in
-    let lengths : f.lengths ≡ lengths_of f.job = c.self.invariant.sound.lengths (ap (λ (o : Option ℕ). has_texts o left) here) in
-    let size : length c.taken_bytes-aad.result.items ≡ f.lengths.aad =
-    ap length c.taken_bytes-aad.ensures.taken ∙ sym (ap (λ (l : Lengths). l.aad) lengths) in
+    let lengths : f.lengths ≡ lengths_of f.job =
+    c.self.invariant.sound.lengths (next-some step.CcmMac left is.first) (ap (λ (o : Option ℕ). has_texts o left) here) in
+    let size : length c.take-aad.result.items ≡ f.lengths.aad =
+    ap length c.take-aad.ensures.taken ∙ sym (ap (λ (l : Lengths). l.aad) lengths) in
     subst (λ (v : CourseState). c.ccm_entry.result.rest ≡ rounds_of (ccm_lanes g.row.N) (sized v.lengths v.job)) c.self.view_is
-    (c.ccm_entry.ensures.rest ∙ ap (λ (n : ℕ). ccm_rounds n f.job.cipher_len) size ∙ rounds-are g.row.N f.lengths (record f.job { packet = f.packet.items }))
+    (c.ccm_entry.ensures.rest ∙ ap (λ (n : ℕ). ccm_rounds n f.job.cipher_len) size ∙ rounds-are g.row.N f.lengths f.job)
 
 pub returns-clause-owed : goal.returns-clause-owed
 returns-clause-owed g c =
     let f = c.self.inside in
     let left = steps_in f.left in
     let here : f.out ≡ None = subst (λ (v : CourseState). v.out ≡ None) (sym c.self.view_is) c.requires.here in
-    let is = ccm-next f.job f.packet.items left f.out f.lengths g.row.N c.requires.rounds c.self.invariant.sound here
+    let is = ccm-next f.job left f.out f.lengths g.row.N c.requires.rounds c.self.invariant.sound here
     (subst (λ (v : CourseState). stage_of v ≡ ccm_stage g.row.N) (sym c.self.view_is) c.requires.next) in
-    let len : c.len.result ≡ length f.packet.items = omega (arith, c.len.ensures, c.taken-packet.result.ok) ∙ ap length c.taken-packet.ensures.taken in
+    let len : c.len.result ≡ length f.job.packet = omega (arith, c.len.ensures, c.take-packet.result.ok) ∙ ap length c.take-packet.ensures.taken in
     let e = ccm_end (end_of round rest_of c.ccm_entry.result) in
-    let iv : List ℕ = c.taken_bytes-iv.new.bytes in
-    let aad : List ℕ = c.taken_bytes-aad.new.bytes in
-    let out : CourseState = going f.lengths (record f.job { iv = iv; aad = aad }) c.taken-packet.new.packet.items f.tag f.reason left (Some c.len.result) in
-    let old : CourseState = going f.lengths f.job f.packet.items f.tag f.reason left f.out in
-    let mac : e.mac ≡ ccm_mac_over f.job f.packet.items =
+    let iv : List ℕ = c.take-iv.new.self in
+    let aad : List ℕ = c.take-aad.new.self in
+    let out : CourseState = going f.lengths (record f.job { packet = c.take-packet.new.self; iv = iv; aad = aad }) f.tag f.reason left (Some c.len.result) in
+    let old : CourseState = going f.lengths f.job f.tag f.reason left f.out in
+    let mac : e.mac ≡ ccm_mac_over f.job f.job.packet =
     c.ccm_entry.ensures.mac
-    ∙ ap₂ (λ (x y : List ℕ). ccm_mac (aes f.job.key) x y (cipher_range f.job c.taken-packet.result.items) f.job.tag_len)
-    c.taken_bytes-iv.ensures.taken c.taken_bytes-aad.ensures.taken
-    ∙ ap (ccm_mac_over f.job) c.taken-packet.ensures.taken in
-    let ended : IsCcmEnd (record f.job { packet = f.packet.items }) e = record {
-      packet = c.ccm_entry.ensures.packet ∙ c.taken-packet.ensures.taken;
-      iv = c.ccm_entry.ensures.iv ∙ c.taken_bytes-iv.ensures.taken;
-      aad = c.ccm_entry.ensures.aad ∙ c.taken_bytes-aad.ensures.taken;
+    ∙ ap₂ (λ (x y : List ℕ). ccm_mac (aes f.job.key) x y (cipher_range f.job c.take-packet.result.items) f.job.tag_len)
+    c.take-iv.ensures.taken c.take-aad.ensures.taken
+    ∙ ap (ccm_mac_over f.job) c.take-packet.ensures.taken in
+    let ended : IsCcmEnd f.job e = record {
+      packet = c.ccm_entry.ensures.packet ∙ c.take-packet.ensures.taken;
+      iv = c.ccm_entry.ensures.iv ∙ c.take-iv.ensures.taken;
+      aad = c.ccm_entry.ensures.aad ∙ c.take-aad.ensures.taken;
       mac = mac;
     } in
     subst (λ (v : CourseState). owed_with e out ≡ owed v) c.self.view_is
-    (ccm-out f.lengths f.job f.packet.items c.taken-packet.new.packet.items iv aad f.tag f.reason left f.out c.len.result e
-    c.taken-packet.ensures.none c.taken_bytes-iv.ensures.none c.taken_bytes-aad.ensures.none len is.first ended)
+    (ccm-out f.lengths f.job c.take-packet.new.self iv aad f.tag f.reason left f.out c.len.result e
+    c.take-packet.ensures.none c.take-iv.ensures.none c.take-aad.ensures.none len is.first ended)
 
 pub returns-clause-job : goal.returns-clause-job
 returns-clause-job g c =
     let f = c.self.inside in
     let left = steps_in f.left in
     let here : f.out ≡ None = subst (λ (v : CourseState). v.out ≡ None) (sym c.self.view_is) c.requires.here in
-    let is = ccm-next f.job f.packet.items left f.out f.lengths g.row.N c.requires.rounds c.self.invariant.sound here
+    let is = ccm-next f.job left f.out f.lengths g.row.N c.requires.rounds c.self.invariant.sound here
     (subst (λ (v : CourseState). stage_of v ≡ ccm_stage g.row.N) (sym c.self.view_is) c.requires.next) in
-    let len : c.len.result ≡ length f.packet.items = omega (arith, c.len.ensures, c.taken-packet.result.ok) ∙ ap length c.taken-packet.ensures.taken in
+    let len : c.len.result ≡ length f.job.packet = omega (arith, c.len.ensures, c.take-packet.result.ok) ∙ ap length c.take-packet.ensures.taken in
     let e = ccm_end (end_of round rest_of c.ccm_entry.result) in
-    let iv : List ℕ = c.taken_bytes-iv.new.bytes in
-    let aad : List ℕ = c.taken_bytes-aad.new.bytes in
-    let out : CourseState = going f.lengths (record f.job { iv = iv; aad = aad }) c.taken-packet.new.packet.items f.tag f.reason left (Some c.len.result) in
-    let old : CourseState = going f.lengths f.job f.packet.items f.tag f.reason left f.out in
+    let iv : List ℕ = c.take-iv.new.self in
+    let aad : List ℕ = c.take-aad.new.self in
+    let out : CourseState = going f.lengths (record f.job { packet = c.take-packet.new.self; iv = iv; aad = aad }) f.tag f.reason left (Some c.len.result) in
+    let old : CourseState = going f.lengths f.job f.tag f.reason left f.out in
     let went : out ≡ handed_out old =
-    ccm-is-out f.lengths f.job f.packet.items c.taken-packet.new.packet.items iv aad f.tag f.reason left f.out c.len.result
-    c.taken-packet.ensures.none c.taken_bytes-iv.ensures.none c.taken_bytes-aad.ensures.none len is.first in
+    ccm-is-out f.lengths f.job c.take-packet.new.self iv aad f.tag f.reason left f.out c.len.result
+    c.take-packet.ensures.none c.take-iv.ensures.none c.take-aad.ensures.none len is.first in
     subst (λ (v : CourseState). without_packet (taken_back e out).job ≡ without_packet v.job) c.self.view_is
     (own-back old out e step.CcmMac went is.first
-    (c.ccm_entry.ensures.iv ∙ c.taken_bytes-iv.ensures.taken, c.ccm_entry.ensures.aad ∙ c.taken_bytes-aad.ensures.taken))
+    (c.ccm_entry.ensures.iv ∙ c.take-iv.ensures.taken, c.ccm_entry.ensures.aad ∙ c.take-aad.ensures.taken))
 
 pub returns-clause-length : goal.returns-clause-length
 returns-clause-length g c =
     let f = c.self.inside in
-    let len : c.len.result ≡ length f.packet.items = omega (arith, c.len.ensures, c.taken-packet.result.ok) ∙ ap length c.taken-packet.ensures.taken in
-    ap (λ (n : ℕ). Some n) (len ∙ sym (ap length (c.ccm_entry.ensures.packet ∙ c.taken-packet.ensures.taken)))
+    let len : c.len.result ≡ length f.job.packet = omega (arith, c.len.ensures, c.take-packet.result.ok) ∙ ap length c.take-packet.ensures.taken in
+    ap (λ (n : ℕ). Some n) (len ∙ sym (ap length (c.ccm_entry.ensures.packet ∙ c.take-packet.ensures.taken)))
 
 pub returns-clause-texts : goal.returns-clause-texts
 returns-clause-texts g c =
     let f = c.self.inside in
     let here : f.out ≡ None = subst (λ (v : CourseState). v.out ≡ None) (sym c.self.view_is) c.requires.here in
-    let lengths : f.lengths ≡ lengths_of f.job = c.self.invariant.sound.lengths (ap (λ (o : Option ℕ). has_texts o (steps_in f.left)) here) in (
-      ap length (c.ccm_entry.ensures.iv ∙ c.taken_bytes-iv.ensures.taken) ∙ sym (ap (λ (l : Lengths). l.iv) lengths),
-      ap length (c.ccm_entry.ensures.aad ∙ c.taken_bytes-aad.ensures.taken) ∙ sym (ap (λ (l : Lengths). l.aad) lengths),
+    let left = steps_in f.left in
+    let is = ccm-next f.job left f.out f.lengths g.row.N c.requires.rounds c.self.invariant.sound here
+    (subst (λ (v : CourseState). stage_of v ≡ ccm_stage g.row.N) (sym c.self.view_is) c.requires.next) in
+    let lengths : f.lengths ≡ lengths_of f.job =
+    c.self.invariant.sound.lengths (next-some step.CcmMac left is.first) (ap (λ (o : Option ℕ). has_texts o left) here) in (
+      ap length (c.ccm_entry.ensures.iv ∙ c.take-iv.ensures.taken) ∙ sym (ap (λ (l : Lengths). l.iv) lengths),
+      ap length (c.ccm_entry.ensures.aad ∙ c.take-aad.ensures.taken) ∙ sym (ap (λ (l : Lengths). l.aad) lengths),
     )

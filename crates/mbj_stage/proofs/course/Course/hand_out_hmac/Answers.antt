@@ -1,5 +1,5 @@
 -- The packet goes out into an entry that ends with the job's digest or HMAC.
-use Rattle.std.proofs.Common.{◌≡◌, ◌≢◌, ◌∙◌, List, ℕ, [], length, Option, IsTrue, Some, None, sym, ap, subst, arith}
+use Rattle.std.proofs.Common.{◌≡◌, ◌≢◌, ◌∙◌, length, IsTrue, Some, None, sym, ap, subst, arith}
 use Rattle.mbj_types.specs.Auths.{class_of}
 use Rattle.mbj_types.specs.Result.{mac_by}
 use Rattle.mbj_lane.specs.Rounds.{end_of}
@@ -8,7 +8,7 @@ use Rattle.mbj_hmac.specs.Rounds.{rest_of, round}
 use Rattle.mbj_stage.specs.declared.stage.Stage.TheVariants as stage
 use Rattle.mbj_stage.specs.declared.stage.Step.TheVariants as step
 use Rattle.mbj_stage.specs.Steps.{stage_at, steps_in}
-use Rattle.mbj_stage.specs.Inside.Kept.{IsNextStep, IsSound}
+use Rattle.mbj_stage.specs.Inside.Kept.{IsNextStep}
 use Rattle.mbj_stage.specs.CourseState.{CourseState, owed}
 use Rattle.mbj_stage.specs.Handing.{handed_out, owed_with, taken_back, without_packet}
 use Rattle.mbj_stage.specs.Ends.{hmac_end}
@@ -22,17 +22,15 @@ use Rattle.mbj_stage.proofs.course.Course.hand_out_hmac.Goals as goal
 pub invariant_of-self : goal.invariant_of-self
 invariant_of-self g c =
     let f = c.self.inside in
-    let len : c.len.result ≡ length c.taken-packet.result.items = omega (arith, c.len.ensures, c.taken-packet.result.ok) in
+    let len : c.len.result ≡ length c.take-packet.result.items = omega (arith, c.len.ensures, c.take-packet.result.ok) in
     let left = steps_in f.left in
     let here : f.out ≡ None = subst (λ (v : CourseState). v.out ≡ None) (sym c.self.view_is) c.requires.here in
     let first : IsNextStep step.Auth left = subst (λ (v : CourseState). IsNextStep step.Auth v.left) (sym c.self.view_is) c.requires.next in
     let serves = subst (λ (v : CourseState). IsTrue (serves_lanes g.H.LaneHash.chaining v.job.auth)) (sym c.self.view_is) c.requires.serves in
     let lane : stage_at f.job left ≢ stage.Now =
     λ now. hash-in-lanes g.H.LaneHash.chaining (class_of f.job.auth) serves (sym (auth-first f.job left first) ∙ now) in
-    let sound = sound_out f.job f.packet.items left f.lengths (subst (λ (o : Option ℕ). IsSound f.job f.packet.items left o f.lengths) here c.self.invariant.sound) lane in
     record {
-      sound = subst (λ (q : List ℕ). IsSound f.job q left (Some c.len.result) f.lengths) (sym c.taken-packet.ensures.none)
-          (subst (λ (n : ℕ). IsSound f.job [] left (Some n) f.lengths) (sym (len ∙ ap length c.taken-packet.ensures.taken)) sound);
+      sound = sound_out f.job c.take-packet.new.self left f.out f.lengths c.len.result c.self.invariant.sound here (len ∙ ap length c.take-packet.ensures.taken) lane;
       keyed = c.self.invariant.keyed;
       wanted = c.self.invariant.wanted;
     }
@@ -40,12 +38,12 @@ invariant_of-self g c =
 pub returns-clause-out : goal.returns-clause-out
 returns-clause-out g c =
     let f = c.self.inside in
-    let len : c.len.result ≡ length c.taken-packet.result.items = omega (arith, c.len.ensures, c.taken-packet.result.ok) in
+    let len : c.len.result ≡ length c.take-packet.result.items = omega (arith, c.len.ensures, c.take-packet.result.ok) in
     let first : IsNextStep step.Auth (steps_in f.left) = subst (λ (v : CourseState). IsNextStep step.Auth v.left) (sym c.self.view_is) c.requires.next in
-    let out : CourseState = going f.lengths f.job c.taken-packet.new.packet.items f.tag f.reason (steps_in f.left) (Some c.len.result) in
+    let out : CourseState = going f.lengths (record f.job { packet = c.take-packet.new.self }) f.tag f.reason (steps_in f.left) (Some c.len.result) in
     subst (λ (v : CourseState). out ≡ handed_out v) c.self.view_is
-    (mac-is-out f.lengths f.job f.packet.items c.taken-packet.new.packet.items f.tag f.reason (steps_in f.left) f.out c.len.result c.taken-packet.ensures.none
-    (len ∙ ap length c.taken-packet.ensures.taken) first)
+    (mac-is-out f.lengths f.job c.take-packet.new.self f.tag f.reason (steps_in f.left) f.out c.len.result c.take-packet.ensures.none
+    (len ∙ ap length c.take-packet.ensures.taken) first)
 
 pub returns-clause-some : goal.returns-clause-some
 returns-clause-some g c =
@@ -55,23 +53,24 @@ returns-clause-some g c =
 pub returns-clause-owed : goal.returns-clause-owed
 returns-clause-owed g c =
     let f = c.self.inside in
-    let len : c.len.result ≡ length c.taken-packet.result.items = omega (arith, c.len.ensures, c.taken-packet.result.ok) in
+    let len : c.len.result ≡ length c.take-packet.result.items = omega (arith, c.len.ensures, c.take-packet.result.ok) in
     let first : IsNextStep step.Auth (steps_in f.left) = subst (λ (v : CourseState). IsNextStep step.Auth v.left) (sym c.self.view_is) c.requires.next in
     let e = hmac_end g.H.LaneHash.chaining (end_of (round g.H.LaneHash.chaining) rest_of c.hmac_entry.result) in
-    let out : CourseState = going f.lengths f.job c.taken-packet.new.packet.items f.tag f.reason (steps_in f.left) (Some c.len.result) in
+    let out : CourseState = going f.lengths (record f.job { packet = c.take-packet.new.self }) f.tag f.reason (steps_in f.left) (Some c.len.result) in
     subst (λ (v : CourseState). owed_with e out ≡ owed v) c.self.view_is
-    (mac-out f.lengths f.job f.packet.items c.taken-packet.new.packet.items f.tag f.reason (steps_in f.left) f.out c.len.result e c.taken-packet.ensures.none
-    (len ∙ ap length c.taken-packet.ensures.taken) first (c.hmac_entry.ensures.packet ∙ c.taken-packet.ensures.taken)
-    (c.hmac_entry.ensures.mac ∙ ap (λ (q : List ℕ). mac_by (class_of f.job.auth) f.job q) c.taken-packet.ensures.taken))
+    (mac-out f.lengths f.job c.take-packet.new.self f.tag f.reason (steps_in f.left) f.out c.len.result e c.take-packet.ensures.none
+    (len ∙ ap length c.take-packet.ensures.taken) first (c.hmac_entry.ensures.packet ∙ c.take-packet.ensures.taken)
+    (c.hmac_entry.ensures.mac
+    ∙ ap (mac_by (class_of f.job.auth) (record f.job { packet = c.take-packet.new.self })) c.take-packet.ensures.taken))
 
 pub returns-clause-job : goal.returns-clause-job
 returns-clause-job g c =
     let f = c.self.inside in
-    let len : c.len.result ≡ length c.taken-packet.result.items = omega (arith, c.len.ensures, c.taken-packet.result.ok) in
+    let len : c.len.result ≡ length c.take-packet.result.items = omega (arith, c.len.ensures, c.take-packet.result.ok) in
     let first : IsNextStep step.Auth (steps_in f.left) = subst (λ (v : CourseState). IsNextStep step.Auth v.left) (sym c.self.view_is) c.requires.next in
     let e = hmac_end g.H.LaneHash.chaining (end_of (round g.H.LaneHash.chaining) rest_of c.hmac_entry.result) in
-    let out : CourseState = going f.lengths f.job c.taken-packet.new.packet.items f.tag f.reason (steps_in f.left) (Some c.len.result) in
+    let out : CourseState = going f.lengths (record f.job { packet = c.take-packet.new.self }) f.tag f.reason (steps_in f.left) (Some c.len.result) in
     subst (λ (v : CourseState). without_packet (taken_back e out).job ≡ without_packet v.job) c.self.view_is
-    (own-back (going f.lengths f.job f.packet.items f.tag f.reason (steps_in f.left) f.out) out e step.Auth
-    (mac-is-out f.lengths f.job f.packet.items c.taken-packet.new.packet.items f.tag f.reason (steps_in f.left) f.out c.len.result c.taken-packet.ensures.none
-    (len ∙ ap length c.taken-packet.ensures.taken) first) first tt)
+    (own-back (going f.lengths f.job f.tag f.reason (steps_in f.left) f.out) out e step.Auth
+    (mac-is-out f.lengths f.job c.take-packet.new.self f.tag f.reason (steps_in f.left) f.out c.len.result c.take-packet.ensures.none
+    (len ∙ ap length c.take-packet.ensures.taken) first) first tt)

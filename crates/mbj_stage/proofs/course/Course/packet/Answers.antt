@@ -7,5 +7,5 @@ use Rattle.mbj_stage.proofs.course.Course.packet.Goals as goal
 
 pub returns : goal.returns
 returns c =
-    let Owed : CourseState → Type 0 = λ v. stage_of v ≡ stage.Finished → c.self.inside.packet.items ≡ (owed v).packet in
-    c.as_slice.ensures.value ∙ subst Owed c.self.view_is (λ h. ap (λ (d : Done). d.packet) (owed-finished _ h)) c.requires
+    let Owed : CourseState → Type 0 = λ v. stage_of v ≡ stage.Finished → c.self.inside.job.packet ≡ (owed v).packet in
+    c.as_slice.ensures ∙ subst Owed c.self.view_is (λ h. ap (λ (d : Done). d.packet) (owed-finished _ h)) c.requires

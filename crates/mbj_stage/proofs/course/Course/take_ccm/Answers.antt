@@ -1,5 +1,5 @@
 -- Packet, nonce and data are as long as those that went out.
-use Rattle.std.proofs.Common.{◌≡◌, ◌∙◌, Some, length, ap, subst, sym}
+use Rattle.std.proofs.Common.{◌≡◌, ◌∙◌, List, ℕ, Some, length, ap, subst, sym}
 use Rattle.mbj_stage.specs.declared.stage.Step.TheVariants as step
 use Rattle.mbj_stage.specs.Steps.{steps_in}
 use Rattle.mbj_stage.specs.Inside.Kept.{IsNextStep}
@@ -18,8 +18,9 @@ invariant_of-self c =
     let iv : length c.args.iv.items ≡ f.lengths.iv = subst (λ (v : CourseState). length c.args.iv.items ≡ v.lengths.iv) (sym c.self.view_is) c.requires.iv in
     let aad : length c.args.aad.items ≡ f.lengths.aad = subst (λ (v : CourseState). length c.args.aad.items ≡ v.lengths.aad) (sym c.self.view_is) c.requires.aad in
     record {
-      sound = sound_ccm_taken f.job f.packet.items c.args.packet.items c.from_vec.result c.from_vec-2.result left later f.out f.lengths c.self.invariant.sound
-          next out (ap length c.from_vec.ensures ∙ iv) (ap length c.from_vec-2.ensures ∙ aad) c.later-self-inside.ensures;
+      sound = sound_ccm_taken f.job c.from_vec.result c.from_vec-2.result c.from_vec-3.result left later f.out f.lengths c.self.invariant.sound next
+          (out ∙ ap (λ (q : List ℕ). Some (length q)) (sym c.from_vec.ensures))
+          (ap length c.from_vec-2.ensures ∙ iv) (ap length c.from_vec-3.ensures ∙ aad) c.later-self-inside.ensures;
       keyed = keyed-later f.job left later f.schedule c.self.invariant.keyed c.later-self-inside.ensures;
       wanted = c.self.invariant.wanted;
     }
