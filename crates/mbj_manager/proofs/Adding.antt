@@ -1,5 +1,5 @@
--- The job that was open goes last, and stands in the agenda.
-use Rattle.std.proofs.Common.{◌≡◌, ℕ, zero, suc, ◌+◌, ◌-◌, ◌%◌, ◌≤◌, ◌<◌, List, [], ◌∷◌, ◌++◌, length, map, sum_by, Option, None, inl, inr, refl, ap, ap₂, sym, ◌∙◌, subst, arith, drop, set, take}
+-- The job that was open goes last, as if it stood in the agenda.
+use Rattle.std.proofs.Common.{◌≡◌, ℕ, zero, suc, ◌+◌, ◌-◌, ◌%◌, ◌≤◌, ◌<◌, List, [], ◌∷◌, ◌++◌, length, map, sum_by, Option, None, Some, inl, inr, refl, ap, ap₂, sym, ◌∙◌, subst, arith, drop, set, slice_get, take}
 use Rattle.std.specs.Prelude.{All}
 use Rattle.std.proofs.lemmas.Bool.{cases_eq}
 use Rattle.std.proofs.lemmas.List.{length-map, length_push, map_push}
@@ -35,6 +35,7 @@ use Rattle.mbj_manager.proofs.JobRounds.{pending-rounds}
 use Rattle.mbj_manager.proofs.JobSteps.{begun-steps}
 use Rattle.mbj_manager.proofs.Moving.{same-state}
 use Rattle.mbj_manager.proofs.Restoring.{restored-length}
+use Rattle.mbj_manager.proofs.RingCourses.{first-open}
 
 -- ---- one course more
 
@@ -103,11 +104,11 @@ pub record IsAdded (r r' : RingState Cell) (ag ag' : List ℕ) (ls : LaneQueues)
   pub is : held r' ag' ls ≡ added (held r ag ls).opened (held r ag ls)
   pub kept : IsHeld r' ag' ls capacity
 
-abbrev pub one_more : RingState Cell → Cell → List Cell → RingState Cell
+abbrev one_more : RingState Cell → Cell → List Cell → RingState Cell
 one_more r w vs = ring (r.values ++ w ∷ []) vs r.first
 
 -- where the first open cell was written over and committed
-pub commit-one : (r : RingState Cell) (os : List Cell) (v w : Cell) → os ≡ v ∷ drop 1 os
+commit-one : (r : RingState Cell) (os : List Cell) (v w : Cell) → os ≡ v ∷ drop 1 os
     → ring (r.values ++ take 1 (set os 0 w)) (drop 1 (set os 0 w)) r.first ≡ one_more r w (drop 1 os)
 commit-one r [] v w e = cc
 commit-one r (x ∷ os) v w e = refl
@@ -184,14 +185,24 @@ module _ (r : RingState Cell) (v w : Cell) (vs : List Cell) (place : ℕ) (ls : 
       same-state owed-then asked-then refl
       (machine-then ∙ ap (λ (n : ℕ). machine_with (map pending (courses r) ++ pending (begun job) ∷ []) (n ∷ [])) same-number) refl
 
-pub adds : (r : RingState Cell) (v w : Cell) (vs : List Cell) (place : ℕ) (ag : List ℕ) (ls : LaneQueues) (capacity : ℕ) → IsHeld r ag ls capacity → map (ring_number r) ag ≡ []
+adds : (r : RingState Cell) (v w : Cell) (vs : List Cell) (place : ℕ) (ag : List ℕ) (ls : LaneQueues) (capacity : ℕ) → IsHeld r ag ls capacity → map (ring_number r) ag ≡ []
     → r.opened ≡ v ∷ vs → w ≡ cell.Going (begun (job_in v)) → length r.values < CELLS → place ≡ (r.first + length r.values) % CELLS
-    → IsAdded r (one_more r w vs) ag (ag ++ place ∷ []) ls capacity
+    → IsAdded r (one_more r w vs) ag (place ∷ ag) ls capacity
 adds r v w vs place ag ls capacity y idle opened began room last =
     let others = All-tail IsOpen v vs (subst (All IsOpen) opened y.is_open) in
-    subst (λ (a : List ℕ). IsHeld r a ls capacity → IsAdded r (one_more r w vs) a (a ++ place ∷ []) ls capacity) (sym (map-nil (ring_number r) ag idle))
+    subst (λ (a : List ℕ). IsHeld r a ls capacity → IsAdded r (one_more r w vs) a (place ∷ a) ls capacity) (sym (map-nil (ring_number r) ag idle))
     (λ z. record {
       is = subst (λ (o : List Cell). held (one_more r w vs) (place ∷ []) ls ≡ added (map job_in o) (held r [] ls)) (sym opened)
           (added-is r v w vs place ls capacity z others began room last);
       kept = added-kept r v w vs place ls capacity z others began room last;
     }) y
+
+-- where the first open cell was begun and committed
+pub adds-committed : (r new : RingState Cell) (v w : Cell) (place : ℕ) (ag : List ℕ) (ls : LaneQueues) (capacity : ℕ) → IsHeld r ag ls capacity
+    → map (ring_number r) ag ≡ [] → slice_get r.opened 0 ≡ Some v → w ≡ cell.Going (begun (job_in v)) → length r.values < CELLS
+    → place ≡ (r.first + length r.values) % CELLS → new ≡ ring (r.values ++ take 1 (set r.opened 0 w)) (drop 1 (set r.opened 0 w)) r.first
+    → IsAdded r new ag (place ∷ ag) ls capacity
+adds-committed r new v w place ag ls capacity y idle opened began room last is =
+    let first = first-open r.opened v opened in
+    subst (λ (x : RingState Cell). IsAdded r x ag (place ∷ ag) ls capacity) (sym (is ∙ commit-one r r.opened v w first))
+    (adds r v w (drop 1 r.opened) place ag ls capacity y idle first began room last)

@@ -15,7 +15,7 @@ use Rattle.mbj_manager.specs.Machine.Stages.{Pending, pending}
 use Rattle.mbj_manager.specs.Machine.Queues.{Queue, Waiting, changed, put}
 use Rattle.mbj_manager.specs.declared.lane.Cause.{Cause}
 use Rattle.mbj_manager.specs.declared.lane.Cause.TheVariants as cause
-use Rattle.mbj_manager.specs.Machine.Course.{goes_on, in_lanes_next, joined, stages_left, stepped, stepped_at}
+use Rattle.mbj_manager.specs.Machine.Course.{goes_on, in_lanes_next, joined, stepped, stepped_at}
 use Rattle.mbj_manager.specs.Machine.Between.{times_in}
 use Rattle.mbj_manager.specs.Cells.{Cell, job_in, IsOpen}
 use Rattle.mbj_manager.specs.Inside.Courses.{Follows, IsSameRing, asked, courses, number, ring_number}
@@ -36,7 +36,6 @@ use Rattle.mbj_manager.proofs.Restoring.{restored-follow, restored-same}
 use Rattle.mbj_manager.proofs.Seeing.{by-desk, enters-seen}
 use Rattle.mbj_manager.proofs.Stepping.{first-off, steps}
 use Rattle.mbj_manager.proofs.Tying.{at-new, put-twice, ran-list, restored-join, tied-follow, tied-join, tied-same}
-use Rattle.mbj_manager.specs.Inside.Steps.{steps_ahead}
 
 -- ---- the agenda's first job has its packet
 
@@ -214,16 +213,6 @@ module _ (r r1 : RingState Cell) (p : ℕ) (ag ag1 : List ℕ) (ls : LaneQueues)
   within-then at =
       subst (λ (a : List ℕ). IsInCourse (stepped_at at a (machine_in r ag ls))) (sym numbers-first)
       (steps at (ring_number r p) (map (ring_number r) ag1) (machine_in r ag ls) numbers-first y.within).within
-
-  pub fewer-then : (at : Cause) → steps_ahead (stepped at (machine_in r ag ls)) < steps_ahead (machine_in r ag ls)
-  fewer-then at =
-      subst (λ (a : List ℕ). steps_ahead (stepped_at at a (machine_in r ag ls)) < steps_ahead (machine_in r ag ls)) (sym numbers-first)
-      (steps at (ring_number r p) (map (ring_number r) ag1) (machine_in r ag ls) numbers-first y.within).ahead
-
-  pub no-more-then : (at : Cause) → stages_left (stepped at (machine_in r ag ls)).left ≤ stages_left (machine_in r ag ls).left
-  no-more-then at =
-      subst (λ (a : List ℕ). stages_left (stepped_at at a (machine_in r ag ls)).left ≤ stages_left (machine_in r ag ls).left) (sym numbers-first)
-      (steps at (ring_number r p) (map (ring_number r) ag1) (machine_in r ag ls) numbers-first y.within).fewer
 
   -- a finished job
   pub finishes : (at : Cause) → pending x ≡ [] → IsStep r r1 ag ag1 ls ls (stepped at (machine_in r ag ls)) capacity

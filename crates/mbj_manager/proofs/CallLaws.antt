@@ -7,11 +7,14 @@ use Rattle.mbj_types.specs.declared.done.Done.{Done}
 use Rattle.mbj_types.specs.Result.{result_of}
 use Rattle.mbj_ring.specs.declared.ring.TheConstants.{CELLS}
 use Rattle.mbj_manager.specs.Machine.Stages.{Pending}
-use Rattle.mbj_manager.specs.Machine.Course.{course}
+use Rattle.mbj_manager.specs.Machine.Course.{course, stepped}
+use Rattle.mbj_manager.specs.Machine.Queues.{Machine}
 use Rattle.mbj_manager.specs.declared.lane.Cause.TheVariants as cause
 use Rattle.mbj_manager.specs.Inside.Added.{added}
+use Rattle.mbj_manager.specs.Inside.Standing.{IsInCourse}
 use Rattle.mbj_manager.specs.State.{ManagerState, IsEarliestFinished, after_get_completed, given_at, counted, entered, entered_at, finds, lent, after_submit_by, with_open}
 use Rattle.mbj_manager.specs.Calls.{Call, get_next, get_next_burst, write, submit, submit_in, get_completed, flush, called, submitted_at, jobs_in, given_back, jobs_submitted, after_calls}
+use Rattle.mbj_manager.proofs.CourseEnds.{course-stepped}
 
 given-order-at : (ds : List Done) (left : List (List Pending)) (h : ManagerState) → h.owed ≡ ds
     → option_to_list (given_at ds left h).0 ++ (given_at ds left h).1.owed ≡ ds
@@ -42,10 +45,12 @@ none-if (d ∷ ds) ((p ∷ ps) ∷ left) h e f n = refl
 pub none-where : (h : ManagerState) → ((after_get_completed h).0 ≡ None) ↔ ¬ IsEarliestFinished h
 none-where h = (none-then h.owed h.machine.left h refl refl, none-if h.owed h.machine.left h refl refl)
 
--- the first open job goes last, and then the course is followed
-pub entered-added : (o : List Job) (h : ManagerState) → 0 < length o → record (added o h) { machine = course cause.Submit (added o h).machine } ≡ entered_at o h
-entered-added [] h some = absurd (omega arith)
-entered-added (j ∷ js) h some = refl
+-- the first open job goes last and goes on once, and then the course is followed
+pub entered-stepped : (o : List Job) (h : ManagerState) → 0 < length o → IsInCourse (added o h).machine
+    → record (added o h) { machine = course cause.Submit (stepped cause.Submit (added o h).machine) } ≡ entered_at o h
+entered-stepped [] h some within = absurd (omega arith)
+entered-stepped (j ∷ js) h some within =
+    ap (λ (m : Machine). record (added (j ∷ js) h) { machine = m }) (course-stepped cause.Submit (added (j ∷ js) h).machine (λ none. cc) within)
 
 entered-owed : (o : List Job) (h : ManagerState) → (entered_at o h).owed ≡ h.owed ++ map result_of (take 1 o)
 entered-owed [] h = sym (append-nil h.owed)

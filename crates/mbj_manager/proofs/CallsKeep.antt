@@ -127,10 +127,9 @@ with-job-settled j js h settled =
     }
 
 -- the course of the first job that was open
-pub added-settled : (o : List Job) (h : ManagerState) → 0 < length o → IsSettled h
-    → IsSettled (record (added o h) { machine = course cause.Submit (added o h).machine })
-added-settled [] h some settled = absurd (omega arith)
-added-settled (j ∷ js) h some settled = with-job-settled j js h settled
+pub entered-settled : (o : List Job) (h : ManagerState) → IsSettled h → IsSettled (entered_at o h)
+entered-settled [] h settled = settled
+entered-settled (j ∷ js) h settled = with-job-settled j js h settled
 
 -- a count changes neither
 pub counted-settled : (found : Bool) (h g : ManagerState) → IsSettled g → IsSettled (counted found h g)

@@ -1,5 +1,5 @@
 -- A course ends: nothing is left in the agenda, and the machine is between two calls.
-use Rattle.std.proofs.Common.{◌≡◌, ℕ, ◌≤◌, zero, suc, List, [], ◌∷◌, length, inl, inr, refl, ap, sym, subst, arith}
+use Rattle.std.proofs.Common.{◌≡◌, ◌≢◌, ◌∙◌, ℕ, ◌≤◌, zero, suc, List, [], ◌∷◌, length, inl, inr, refl, ap, sym, subst, arith}
 use Rattle.std.specs.Prelude.{All}
 use Rattle.std.proofs.lemmas.Bool.{cases_lt}
 use Rattle.std.proofs.lemmas.List.{get_or_past}
@@ -11,7 +11,8 @@ use Rattle.mbj_manager.specs.declared.lane.Cause.{Cause}
 use Rattle.mbj_manager.specs.Machine.Course.{course, stages_left, stepped, stepped_at}
 use Rattle.mbj_manager.specs.Machine.Between.{HasRounds, IsBetweenCalls}
 use Rattle.mbj_manager.specs.Inside.Standing.{IsLane, IsInCourse, left_at, times}
-use Rattle.mbj_manager.proofs.Resting.{rests}
+use Rattle.mbj_manager.proofs.Reaching.{reaches-start, reaches-step}
+use Rattle.mbj_manager.proofs.Resting.{rests, steps-end-alike}
 use Rattle.mbj_manager.proofs.Stepping.{IsStep, steps}
 use Rattle.mbj_manager.specs.Inside.Steps.{steps_ahead}
 use Rattle.mbj_manager.proofs.Steps.{after_steps}
@@ -61,7 +62,22 @@ enough-steps at (suc count) (n ∷ agenda) m is within enough =
     let fewer-then = end.fewer in
     record { between = end.between; fewer = omega arith }
 
+-- a step of the agenda's first job
+pub step-of : (at : Cause) (agenda : List ℕ) (m : Machine) → m.agenda ≡ agenda → agenda ≢ [] → IsInCourse m → IsStep (stepped at m) m
+step-of at [] m is some within = absurd (some refl)
+step-of at (n ∷ agenda) m is some within = subst (λ a. IsStep (stepped_at at a m) m) (sym is) (steps at n agenda m is within)
+
 -- a course from a machine between two steps
 pub course-ends : (at : Cause) (m : Machine) → IsInCourse m → Ends (course at m) m
 unfolding course
 course-ends at m within = enough-steps at (steps_ahead m) m.agenda m refl within (omega arith)
+
+-- it goes where it goes from the machine after a step
+pub course-stepped : (at : Cause) (m : Machine) → m.agenda ≢ [] → IsInCourse m → course at (stepped at m) ≡ course at m
+unfolding course
+course-stepped at m some within =
+    let step = step-of at m.agenda m refl some within in
+    let r = reaches-step at m (course at m) step.ahead (reaches-start at m) in
+    let ended : (course at m).agenda ≡ [] = (course-ends at m within).between.agenda in
+    let next-ended : (course at (stepped at m)).agenda ≡ [] = (course-ends at (stepped at m) step.within).between.agenda in
+    (steps-end-alike (stepped at m)).course at (steps_ahead (stepped at m)) r.count next-ended (ap (λ (x : Machine). x.agenda) r.is ∙ ended) ∙ r.is

@@ -42,4 +42,5 @@ mod Entries
 mod JobSteps
 mod Turns
 mod Submissions
+mod Writing
 pub mod NoneOwed

@@ -100,6 +100,12 @@ module _ {E : Type 0} (round : E → E) (rest : E → ℕ) (brings : E → End) 
 
 -- ---- one taken out of a list
 
+-- there is an element at a place
+pub entry-there : {A : Type 0} (xs : List A) (i : ℕ) → i < length xs → (x : A) × (x ≡ get_or xs i x)
+entry-there [] i h = absurd (omega arith)
+entry-there (x ∷ xs) zero h = (x, refl)
+entry-there (x ∷ xs) (suc i) h = let h' : i < length xs = omega arith in entry-there xs i h'
+
 pub length-removed : {A : Type 0} (xs : List A) (i : ℕ) → i < length xs → length (remove xs i) + 1 ≡ length xs
 length-removed [] i h = absurd (omega arith)
 length-removed (x ∷ xs) zero h = omega arith

@@ -1,6 +1,8 @@
 pub mod PlacedQueue
 pub mod Leaving
+pub mod Joining
 pub mod Courses
+pub mod Seats
 pub mod Desk
 pub mod LaneQueues
 pub mod Steps

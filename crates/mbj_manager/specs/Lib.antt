@@ -2,6 +2,7 @@ pub mod Machine
 pub mod Cells
 pub mod CellLends
 pub mod State
+pub mod Written
 pub mod Calls
 pub mod Kept
 pub mod Entries

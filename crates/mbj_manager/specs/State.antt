@@ -50,6 +50,10 @@ with_open h j = record h { opened = j ∷ drop 1 h.opened }
 abbrev pub with_open_at : ManagerState → ℕ → Job → ManagerState
 with_open_at h i j = record h { opened = set h.opened i j }
 
+-- the job is open behind the others
+abbrev pub with_open_last : ManagerState → Job → ManagerState
+with_open_last h j = record h { opened = h.opened ++ j ∷ [] }
+
 -- ---- get_next_burst
 
 -- n more blank jobs are open, behind the others

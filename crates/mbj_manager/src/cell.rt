@@ -9,6 +9,7 @@ ghost use Rattle.mbj_stage.specs.Handing.{IsNext, IsOut, handed_out, taken_back}
 ghost use Rattle.mbj_stage.specs.declared.stage.Stage.TheVariants as stage;
 ghost use Rattle.mbj_manager.specs.Cells as cell;
 ghost use Rattle.mbj_manager.specs.Cells.{IsFinished, IsGoing, IsOpen, course_in, job_in};
+ghost use Rattle.mbj_manager.specs.Written.{range_in};
 ghost use Rattle.mbj_manager.specs.Machine.Stages.{pending};
 ghost use Rattle.mbj_manager.specs.Machine.Course.{in_lanes_next};
 ghost use Rattle.mbj_manager.specs.Inside.Courses.{Follows};
@@ -23,9 +24,7 @@ use std::marker::Model;
 /// What a cell holds, in memory of its own.
 #[derive(Drop)]
 pub struct Seat {
-    // The job that is being filled, where it isn't submitted.
-    pub(crate) job: Job,
-    // Its course, where it is submitted.
+    // The course, with its job, which is filled in it while the course is idle.
     pub(crate) course: Course,
     pub(crate) is_going: bool,
 }
@@ -33,12 +32,12 @@ pub struct Seat {
 impl Seat {
     /// Begins the course of the job that was filled. Returns whether the job's key is expanded for it alone.
     fn begin(&mut self, found: Option<&Schedule>) -> bool
-        requires schedule { IfSome found (λ s. IsScheduleOf self.old.job.key s.now) }
-        ensures course { self.new.course ≡ begun self.old.job }
+        requires schedule { IfSome found (λ s. IsScheduleOf self.old.course.job.key s.now) }
+        ensures course { self.new.course ≡ begun self.old.course.job }
         ensures going { self.new.is_going ≡ true }
-        ensures expands { result ≡ expands (is_some found.entry) self.old.job }
+        ensures expands { result ≡ expands (is_some found.entry) self.old.course.job }
     {
-        self.course.begin_in_place(&mut self.job, found);
+        self.course.begin_in_place(found);
         self.is_going = true;
         self.course.uses_key() && found.is_none()
     }
@@ -53,10 +52,13 @@ pub struct Cell {
 
 impl Model for Cell {
     ghost use Rattle.mbj_manager.specs.Cells.{Cell as CellState, cell_by};
+    ghost use Rattle.mbj_manager.specs.Inside.Seats.{IsIdleWhileOpen};
 
     ghost Value = { CellState };
 
-    ghost view = { λ c. cell_by c.seat.value.is_going c.seat.value.job c.seat.value.course };
+    ghost view = { λ c. cell_by c.seat.value.is_going c.seat.value.course.job c.seat.value.course };
+
+    ghost invariant = { λ c. IsIdleWhileOpen c.seat.value.is_going c.seat.value.course };
 }
 
 /// Does the stages that finish at once. Returns what is next then.
@@ -83,8 +85,7 @@ impl Cell {
         ensures { IfOk result (λ c. c ≡ cell.Open blank) }
     {
         let seat = Seat {
-            job: Job::blank(alloc),
-            course: Course::begin(Job::blank(alloc)),
+            course: Course::blank(alloc),
             is_going: false,
         };
         Ok(Cell {
@@ -99,11 +100,11 @@ impl Cell {
         ensures value { cell.Open result.now ≡ self.old }
     {
         let seat = &mut *self.seat;
-        &mut seat.job
+        seat.course.job_mut()
     }
 
     /// Lends the course of the job that is submitted.
-    fn course_mut(&mut self) -> &mut Course
+    pub(crate) fn course_mut(&mut self) -> &mut Course
         requires { IsGoing self.old }
         ensures* lends { sem 𝓛 (LendsCourseIn self.entry result) }
         ensures value { cell.Going result.now ≡ self.old }
@@ -152,28 +153,17 @@ impl Cell {
         run_nows(self.course_mut())
     }
 
-    /// Hands the packet of the course out.
-    pub(crate) fn hand_out<K: Feed>(&mut self) -> K::Entry
-        requires fits { K.fits }
-        requires going { IsGoing self.old }
-        requires next { IsNext K.kind (course_in self.old) }
-        ensures going { IsGoing self.new }
-        ensures out { course_in self.new ≡ handed_out (course_in self.old) }
-        ensures gives { Gives K.kind (K.rest_of result) (K.brings (end_of K.round K.rest_of result)) (course_in self.old) }
-        ensures some { 1 ≤ K.rest_of result }
+    /// The range of the packet that the job's cipher writes, as its offset and its length: empty where the job is refused or has no cipher.
+    pub(crate) fn range(&self) -> (u32, u32)
+        requires { IsGoing self.now }
+        ensures { result ≡ range_in (course_in self.now) }
     {
-        K::hand_out(self.course_mut())
-    }
-
-    /// Takes an entry back that has no round left.
-    pub(crate) fn take_back<K: Feed>(&mut self, entry: K::Entry)
-        requires going { IsGoing self.old }
-        requires out { IsOut K.kind (K.brings entry) (course_in self.old) }
-        requires done { K.rest_of entry ≡ 0 }
-        ensures going { IsGoing self.new }
-        ensures back { course_in self.new ≡ taken_back (K.brings entry) (course_in self.old) }
-    {
-        K::take_back(self.course_mut(), entry)
+        let course = self.course();
+        if !course.uses_key() {
+            return (0, 0);
+        }
+        let job = course.job();
+        (job.cipher_off, job.cipher_len)
     }
 
     /// How the job ended, which is finished.
@@ -208,22 +198,29 @@ impl Cell {
         self.course_mut().take_done()
     }
 
+    /// Takes the result of a job that is finished, and the job itself, which has no packet then. It is a cell with a blank job then.
+    pub fn take_parts(&mut self, alloc: Global) -> (Done, Job)
+        requires { IsFinished self.old }
+        ensures result { result.0 ≡ owed (course_in self.old) }
+        ensures blank { self.new ≡ cell.Open blank }
+    {
+        let seat = &mut *self.seat;
+        seat.is_going = false;
+        (seat.course.take_done(), seat.course.end_giving(alloc))
+    }
+
     /// Makes it a cell with a blank job, whatever it held. Memory of at most `most` bytes is kept for each field of the job, and longer
     /// memory is freed.
     pub fn clear(&mut self, most: usize)
         ensures { self.new ≡ cell.Open blank }
     {
         let seat = &mut *self.seat;
-        if seat.is_going {
-            seat.course.end(&mut seat.job, most);
-        } else {
-            seat.job.clear(most);
-        }
+        seat.course.end(most);
         seat.is_going = false;
     }
 
-    /// How many bytes of memory the job that is being filled has.
+    /// How many bytes of memory its job has. A packet that is out in a lane isn't counted.
     pub fn capacity(&self) -> usize {
-        self.seat.job.capacity()
+        self.seat.course.job().capacity()
     }
 }

@@ -99,6 +99,18 @@ impl CellRing {
         }
     }
 
+    /// A cell goes behind those that are open, and changes places with an idle one, which is blank.
+    pub(crate) fn open_with(&mut self, filled: &mut Cell)
+        requires { length (all_values self.old) < CELLS }
+        ensures blank { filled.new ≡ cell.Open blank }
+        ensures opened { self.new ≡ with_open_last self.old filled.old }
+    {
+        match self.idle.pop() {
+            Some(idle) => self.ring.open_cell(mem::replace(filled, idle)),
+            None => unreachable!(),
+        }
+    }
+
     /// Lends the first open cell. `None` exactly where no cell is open.
     pub(crate) fn open_mut(&mut self) -> Option<&mut Cell>
         ensures* writes_back { sem 𝓛 (LendsOpen self.entry result) }

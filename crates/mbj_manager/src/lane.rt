@@ -2,13 +2,11 @@
 
 ghost use Rattle.std.specs.Prelude.{◌≡◌, ◌+◌, ◌<◌, ◌≤◌, length, vec_capacity};
 ghost use Rattle.mbj_types.specs.Kinds.{lanes_of};
-ghost use Rattle.mbj_lane.specs.Rounds.{end_of};
 ghost use Rattle.mbj_ring.specs.declared.ring.TheConstants.{CELLS};
 ghost use Rattle.mbj_stage.specs.CourseState.{stage_of};
-ghost use Rattle.mbj_stage.specs.Handing.{IsNext, IsOut, handed_out, taken_back};
 ghost use Rattle.mbj_manager.specs.Machine.Queues.{changed};
 ghost use Rattle.mbj_manager.specs.Inside.Courses.{AreCourses, Follows, IsSameRing, courses, ring_number};
-ghost use Rattle.mbj_manager.specs.Inside.Leaving.{At, Gives};
+ghost use Rattle.mbj_manager.specs.Inside.Leaving.{At};
 ghost use Rattle.mbj_manager.specs.Inside.PlacedQueue.{numbered};
 ghost use Rattle.mbj_manager.specs.Inside.Desk.{Enters, IsReady, Listed, MayEnter, desk_at, left_now, ran_at};
 ghost use Rattle.mbj_stage.specs.CourseState.{CourseState};
@@ -38,35 +36,6 @@ pub(crate) fn run_nows(ring: &mut CellRing, place: u32) -> Stage
     cell.run_nows()
 }
 
-/// Hands an entry out of the course at a place.
-fn hand_out<K: Feed>(ring: &mut CellRing, place: u32) -> K::Entry
-    requires fits { K.fits }
-    requires ring { AreCourses ring.old }
-    requires place { place < CELLS }
-    requires next { At (IsNext K.kind) (ring_number ring.old place) (courses ring.old) }
-    ensures ring { IsSameRing ring.new ring.old }
-    ensures out { courses ring.new ≡ changed handed_out (ring_number ring.old place) (courses ring.old) }
-    ensures gives { At (Gives K.kind (K.rest_of result) (K.brings (end_of K.round K.rest_of result)))
-        (ring_number ring.old place) (courses ring.old) }
-    ensures some { 1 ≤ K.rest_of result }
-{
-    let cell = ring.at_mut(place);
-    cell.hand_out::<K>()
-}
-
-/// Takes an entry back into the course at a place.
-fn take_back<K: Feed>(ring: &mut CellRing, place: u32, entry: K::Entry)
-    requires ring { AreCourses ring.old }
-    requires place { place < CELLS }
-    requires out { At (IsOut K.kind (K.brings entry)) (ring_number ring.old place) (courses ring.old) }
-    requires done { K.rest_of entry ≡ 0 }
-    ensures ring { IsSameRing ring.new ring.old }
-    ensures back { courses ring.new ≡ changed (taken_back (K.brings entry)) (ring_number ring.old place) (courses ring.old) }
-{
-    let cell = ring.at_mut(place);
-    cell.take_back::<K>(entry);
-}
-
 /// Jobs whose rounds are done leave the lane queue, in its order: their entries go back to the courses, which join the agenda.
 fn leave<K: Feed>(queue: &mut LaneQueue<K>, ring: &mut CellRing, agenda: &mut Agenda)
     requires ring { AreCourses ring.old }
@@ -78,10 +47,9 @@ fn leave<K: Feed>(queue: &mut LaneQueue<K>, ring: &mut CellRing, agenda: &mut Ag
         ≡ left_now (desk_at (ring_number ring.old) (courses ring.old) agenda.old.places.items queue.old 0) }
 {
     'leaving: loop {
-        match queue.take() {
+        match queue.leave(ring) {
             None => return,
-            Some((place, entry)) => {
-                take_back::<K>(ring, place, entry);
+            Some(place) => {
                 agenda.push(place);
             }
         }
@@ -134,8 +102,7 @@ pub(crate) fn enter<K: Feed>(
         (desk_at (ring_number ring.old) (courses ring.old) agenda.old.places.items queue.old flush_runs.old)
         (desk_at (ring_number ring.old) (courses ring.new) agenda.new.places.items queue.new flush_runs.new) }
 {
-    let entry = hand_out::<K>(ring, place);
-    queue.join(place, entry);
+    queue.join(ring, place);
     if queue.len() == K::LANES {
         run_within(cause, queue, flush_runs, ring, agenda);
     }

@@ -1,9 +1,17 @@
-ghost use Rattle.std.specs.Prelude.{◌≡◌, ◌+◌, ◌*◌, ◌%◌, ◌<◌, ◌≤◌, ◌∷◌, [], ◌++◌, length, map, All, IfOk, MatchOption};
-ghost use Rattle.mbj_lane.specs.Rounds.{end_of, least};
+ghost use Rattle.std.specs.Prelude.{◌≡◌, ℕ, ◌+◌, ◌*◌, ◌%◌, ◌<◌, ◌≤◌, List, ◌∷◌, [], ◌++◌, Some, length, map, slice_index_or, All, IfOk, MatchOption};
+ghost use Rattle.std.specs.List.{remove};
+ghost use Rattle.mbj_lane.specs.Rounds.{end_of, least, taken};
 ghost use Rattle.mbj_ring.specs.declared.ring.TheConstants.{CELLS};
-ghost use Rattle.mbj_manager.specs.Machine.Queues.{count_end};
-ghost use Rattle.mbj_manager.specs.Inside.PlacedQueue.{HasRest, Takes, Waits, ahead, brings_in, ended, led_queue, no_queue, pair_rest, rounds_in, with_waiter};
+ghost use Rattle.mbj_stage.specs.Handing.{End, IsNext, IsOut, handed_out, taken_back};
+ghost use Rattle.mbj_manager.specs.Cells.{IsGoing, course_in};
+ghost use Rattle.mbj_manager.specs.Machine.Queues.{changed, count_end};
+ghost use Rattle.mbj_manager.specs.Inside.Courses.{AreCourses, IsSameRing, courses, ring_number};
+ghost use Rattle.mbj_manager.specs.Inside.Leaving.{At, Gives};
+ghost use Rattle.mbj_manager.specs.Inside.Joining.{Joins};
+ghost use Rattle.mbj_manager.specs.Inside.PlacedQueue.{HasRest, Takes, Waiter, Waits, ended, led_queue, no_queue, pair_rest, rounds_in};
 
+use crate::cell::Cell;
+use crate::cell_ring::CellRing;
 use mbj_lane::Lanes;
 use mbj_stage::Feed;
 use std::alloc::{AllocError, Global};
@@ -72,14 +80,20 @@ impl<K: Feed> LaneQueue<K> {
         &self.lanes
     }
 
-    /// The job at a place joins the end with its entry.
-    pub(crate) fn join(&mut self, place: u32, entry: K::Entry)
+    /// The course at a place joins the end: its packet goes out into a slot.
+    #[inline(always)]
+    pub(crate) fn join(&mut self, ring: &mut CellRing, place: u32)
+        requires fits { K.fits }
+        requires ring { AreCourses ring.old }
         requires place { place < CELLS }
         requires free { length self.old.waiters < K.LANES }
-        requires some { 1 ≤ K.rest_of entry }
-        ensures { self.new ≡ with_waiter place (ahead K.round K.rest_of K.brings entry) self.old }
+        requires next { At (IsNext K.kind) (ring_number ring.old place) (courses ring.old) }
+        ensures ring { IsSameRing ring.new ring.old }
+        ensures out { courses ring.new ≡ changed handed_out (ring_number ring.old place) (courses ring.old) }
+        ensures joins { Joins K.kind place (ring_number ring.old place) (courses ring.old) self.old self.new }
     {
-        self.lanes.enter_as(place, entry);
+        let cell = ring.at_mut(place);
+        join_from(&mut self.lanes, place, cell);
     }
 
     /// All run for the least rest among them, and it returns that number.
@@ -92,15 +106,26 @@ impl<K: Feed> LaneQueue<K> {
         self.lanes.run_shortest()
     }
 
-    /// The first with no round left leaves; returns its place and its entry.
-    pub(crate) fn take(&mut self) -> Option<(u32, K::Entry)>
-        ensures place { MatchOption result (Unit {0}) (λ r. r.0 < CELLS) }
-        ensures done { MatchOption result (Unit {0}) (λ r. K.rest_of r.1 ≡ 0) }
-        ensures takes { MatchOption result (Waits self.old self.new) (λ r. Takes r.0 (K.brings r.1) self.old self.new) }
+    /// The first with no round left leaves: its entry goes back to its course. Returns its place.
+    #[inline(always)]
+    pub(crate) fn leave(&mut self, ring: &mut CellRing) -> Option<u32>
+        requires ring { AreCourses ring.old }
+        requires out { (place : ℕ) (e : End) (ws : List Waiter) → taken (pair_rest rounds_in) self.old.waiters ≡ Some ((place, ended e), ws)
+            → At (IsOut K.kind e) (ring_number ring.old place) (courses ring.old) }
+        ensures ring { IsSameRing ring.new ring.old }
+        ensures place { MatchOption result (Unit {0}) (λ p. p < CELLS) }
+        ensures takes { MatchOption result (Waits self.old self.new × (courses ring.new ≡ courses ring.old))
+            (λ p. (e : End) × Takes p e self.old self.new
+            × (courses ring.new ≡ changed (taken_back e) (ring_number ring.old p) (courses ring.old))) }
     {
         match self.lanes.first_finished() {
             None => None,
-            Some(i) => Some(self.lanes.remove(i)),
+            Some(k) => {
+                let place = self.lanes.label_at(k);
+                let cell = ring.at_mut(place);
+                leave_to(&mut self.lanes, k, cell);
+                Some(place)
+            }
         }
     }
 
@@ -115,4 +140,35 @@ impl<K: Feed> LaneQueue<K> {
         self.rounds = self.rounds.wrapping_add(m);
         self.blocks = self.blocks.wrapping_add(m * K::LANES as u64);
     }
+}
+
+/// The packet of the course in a cell goes out into a slot.
+#[inline(always)]
+fn join_from<K: Feed>(lanes: &mut Lanes<K>, label: u32, cell: &mut Cell)
+    requires fits { K.fits }
+    requires going { IsGoing cell.old }
+    requires free { length lanes.old.entries < K.LANES }
+    requires next { IsNext K.kind (course_in cell.old) }
+    ensures going { IsGoing cell.new }
+    ensures out { course_in cell.new ≡ handed_out (course_in cell.old) }
+    ensures entry { (e : K.Entry) × (lanes.new.entries ≡ lanes.old.entries ++ e ∷ []) × (1 ≤ K.rest_of e)
+        × Gives K.kind (K.rest_of e) (K.brings (end_of K.round K.rest_of e)) (course_in cell.old) }
+    ensures labels { lanes.new.labels ≡ lanes.old.labels ++ label ∷ [] }
+{
+    lanes.enter_from(label, cell.course_mut());
+}
+
+/// The entry at place `k` of the lanes goes back to the course in a cell.
+#[inline(always)]
+fn leave_to<K: Feed>(lanes: &mut Lanes<K>, k: usize, cell: &mut Cell)
+    requires going { IsGoing cell.old }
+    requires place { k < length lanes.old.entries }
+    requires done { (d : K.Entry) → K.rest_of (slice_index_or lanes.old.entries k d) ≡ 0 }
+    requires out { (d : K.Entry) → IsOut K.kind (K.brings (slice_index_or lanes.old.entries k d)) (course_in cell.old) }
+    ensures going { IsGoing cell.new }
+    ensures back { (d : K.Entry) → course_in cell.new ≡ taken_back (K.brings (slice_index_or lanes.old.entries k d)) (course_in cell.old) }
+    ensures labels { lanes.new.labels ≡ remove lanes.old.labels k }
+    ensures others { lanes.new.entries ≡ remove lanes.old.entries k }
+{
+    lanes.leave_to(k, cell.course_mut());
 }

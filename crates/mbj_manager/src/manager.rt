@@ -15,7 +15,6 @@ ghost use Rattle.mbj_manager.specs.Lending.{LendsNext, LendsOpen};
 
 mod in_cells;
 
-use crate::lane::Cause;
 use crate::queued::Queued;
 use crate::works::Works;
 use mbj_aes::Schedule;
@@ -263,16 +262,15 @@ impl Manager {
         self.submit()
     }
 
-    /// Submits the first open job: it is the last of those that are submitted, its key's expansion is counted, and all that can
-    /// be done without a flush is done.
-    fn enter(&mut self, found: Option<&Schedule>)
+    /// Submits the first open job, whose key's schedule was found or wasn't, and gives nothing back: the job is the last of those that are
+    /// submitted, its key's expansion is counted, and all that can be done without a flush is done.
+    pub fn enter(&mut self, found: Option<&Schedule>)
         requires is_open { 0 < length self.old.opened }
         requires schedule { IfSome found (λ s. IfSome (slice_get self.old.opened 0) (λ j. IsScheduleOf j.key s.now)) }
         ensures { self.new ≡ counted (is_some found.entry) self.old (entered self.old) }
     {
-        let is_expanded = self.works.add(found);
+        let is_expanded = self.works.enter(found);
         self.expansions = self.expansions.wrapping_add(u64::from(is_expanded));
-        self.works.settle(Cause::Submit);
     }
 
     /// How many bytes of memory the idle cells keep.

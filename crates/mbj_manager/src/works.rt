@@ -1,5 +1,5 @@
 ghost use Rattle.mbj_types.specs.Kinds.{lanes_of};
-ghost use Rattle.std.specs.Prelude.{◌≡◌, ◌≢◌, ◌↔◌, ◌*◌, ◌%◌, ◌<◌, ◌≤◌, [], ◌∷◌, ◌++◌, length, map, Option, Some, None, ◌+◌, IfOk, IfSome, IsTrue, is_some, slice_get};
+ghost use Rattle.std.specs.Prelude.{◌≡◌, ◌≢◌, ◌↔◌, ◌*◌, ◌%◌, ◌<◌, ◌≤◌, [], ◌∷◌, ◌++◌, length, map, Option, Some, None, ◌+◌, IfOk, IfSome, IsTrue, is_some, slice_get, vec_capacity};
 ghost use Rattle.std.specs.Bool.{OnFalse, OnTrue};
 ghost use Rattle.std.specs.Borrow.{sem};
 ghost use Rattle.mbj_types.specs.Blank.{blank};
@@ -14,13 +14,14 @@ ghost use Rattle.mbj_lane.specs.Rounds.{end_of};
 ghost use Rattle.mbj_manager.specs.Machine.Queues.{count_end, queue_for, rest_of, run_within};
 ghost use Rattle.mbj_manager.specs.Entries.{AreEntriesOf};
 ghost use Rattle.mbj_manager.specs.Machine.Course.{course, flushed, stages_left, stepped};
-ghost use Rattle.mbj_manager.specs.State.{after_get_completed, lent, new_manager, with_open, with_open_at, after_get_next_burst, with_blanks};
+ghost use Rattle.mbj_manager.specs.State.{after_get_completed, entered, lent, new_manager, with_open, with_open_at, after_get_next_burst, with_blanks, with_open_last};
 ghost use Rattle.mbj_manager.specs.Cells as cell;
 ghost use Rattle.mbj_manager.specs.Cells.{IsFinished, IsOpen, course_in, given_by, job_in};
+ghost use Rattle.mbj_manager.specs.Written.{first_range, first_range_in};
 ghost use Rattle.mbj_manager.specs.Lending.{LendsOpenJob};
-ghost use Rattle.mbj_manager.specs.Inside.Added.{added, first_lane};
+ghost use Rattle.mbj_manager.specs.Inside.Added.{first_lane, with_step};
 ghost use Rattle.mbj_manager.specs.Inside.Courses.{AreCourses, courses, first_stage};
-ghost use Rattle.mbj_manager.specs.Inside.Held.{agenda_room};
+ghost use Rattle.mbj_manager.specs.Inside.Held.{IsHeld, agenda_room, held};
 ghost use Rattle.mbj_manager.specs.Inside.Steps.{steps_ahead};
 
 use crate::agenda::Agenda;
@@ -85,6 +86,34 @@ fn next_of_first(ring: &mut CellRing) -> Option<Stage>
     }
 }
 
+/// The range that the cipher of the earliest job writes.
+fn range_of_first(ring: &mut CellRing) -> Option<(u32, u32)>
+    requires { AreCourses ring.old }
+    ensures same { ring.new ≡ ring.old }
+    ensures range { result ≡ first_range_in (courses ring.old) }
+{
+    match ring.front_mut() {
+        Some(cell) => Some(cell.range()),
+        None => None,
+    }
+}
+
+/// Does what finishes at once in the course at a place, and goes on: the course joins the lane queue of its next stage, which runs where it
+/// is full then. The job stands in no agenda meanwhile.
+fn go_on(ring: &mut CellRing, lists: &mut LaneQueues, agenda: &mut Agenda, place: u32, cause: Cause)
+    requires place { place < CELLS }
+    requires held { IsHeld ring.old (place ∷ agenda.old.places.items) lists.old (vec_capacity agenda.old.places) }
+    ensures room { vec_capacity agenda.new.places ≡ vec_capacity agenda.old.places }
+    ensures kept { IsHeld ring.new agenda.new.places.items lists.new (vec_capacity agenda.old.places) }
+    ensures step { held ring.new agenda.new.places.items lists.new
+        ≡ with_step cause (held ring.old (place ∷ agenda.old.places.items) lists.old) }
+{
+    match run_nows(ring, place) {
+        Stage::Lane(kind) => lists.enter(kind, cause, ring, agenda, place),
+        Stage::Now | Stage::Finished => {}
+    }
+}
+
 impl Works {
     pub(crate) fn new(alloc: Global, most: usize) -> Result<Works, AllocError>
         ensures { IfOk result (λ w. w ≡ new_manager) }
@@ -120,6 +149,17 @@ impl Works {
         self.ring.open_cell();
     }
 
+    /// Opens a cell with the job in a cell of the caller's, behind those that are open. The cells change places, so that the caller's is
+    /// blank then.
+    pub(crate) fn open_with(&mut self, filled: &mut Cell)
+        requires room { length self.old.owed + length self.old.opened < CELLS }
+        requires is_open { IsOpen filled.old }
+        ensures blank { filled.new ≡ cell.Open blank }
+        ensures state { self.new ≡ with_open_last self.old (job_in filled.old) }
+    {
+        self.ring.open_with(filled);
+    }
+
     /// Opens a cell with a blank job, where none is open.
     pub(crate) fn open_first(&mut self)
         requires { length self.old.owed < CELLS }
@@ -152,14 +192,15 @@ impl Works {
         self.ring.open_at(index).job_mut()
     }
 
-    /// The first job that was filled goes last among those that are submitted, and stands in the agenda.
+    /// Submits the first job that was filled: it goes last among those that are submitted, and all is done that can be done without a
+    /// flush. It doesn't go through the agenda, in which are only jobs that a run of lanes put there.
     ///
     /// Returns whether its key is expanded for it alone: it is where the key is used and its schedule wasn't found.
-    pub(crate) fn add(&mut self, found: Option<&Schedule>) -> bool
+    pub(crate) fn enter(&mut self, found: Option<&Schedule>) -> bool
         requires some { 0 < length self.old.opened }
         requires idle { self.old.machine.agenda ≡ [] }
         requires schedule { IfSome found (λ s. IfSome (slice_get self.old.opened 0) (λ j. IsScheduleOf j.key s.now)) }
-        ensures added { self.new ≡ added self.old.opened self.old }
+        ensures entered { self.new ≡ entered self.old }
         ensures expands { IfSome (slice_get self.old.opened 0) (λ j. result ≡ expands (is_some found.entry) j) }
     {
         let is_expanded = match self.ring.open_mut() {
@@ -168,7 +209,9 @@ impl Works {
         };
         prove!(self.ring.len() < CELLS);
         let place = self.ring.commit();
-        self.agenda.push(place);
+        let (ring, agenda) = (&mut self.ring, &mut self.agenda);
+        go_on(ring, &mut self.lists, agenda, place, Cause::Submit);
+        self.settle(Cause::Submit);
         is_expanded
     }
 
@@ -186,13 +229,8 @@ impl Works {
         ensures stages { stages_left self.new.machine.left ≤ stages_left self.old.machine.left }
     {
         let place = self.agenda.take_first();
-        match run_nows(&mut self.ring, place) {
-            Stage::Lane(kind) => {
-                self.lists
-                    .enter(kind, cause, &mut self.ring, &mut self.agenda, place)
-            }
-            Stage::Now | Stage::Finished => {}
-        }
+        let (ring, agenda) = (&mut self.ring, &mut self.agenda);
+        go_on(ring, &mut self.lists, agenda, place, cause);
     }
 
     /// Goes on until no job stands between two stages.
@@ -256,6 +294,14 @@ impl Works {
             Some(Stage::Finished) => true,
             Some(Stage::Now) | Some(Stage::Lane(_)) | None => false,
         }
+    }
+
+    /// The range that the cipher of the earliest job writes, as its offset and its length.
+    pub(crate) fn first_range(&mut self) -> Option<(u32, u32)>
+        ensures same { self.new ≡ self.old }
+        ensures range { result ≡ first_range self.old }
+    {
+        range_of_first(&mut self.ring)
     }
 
     /// Gives the earliest job back where it is finished.

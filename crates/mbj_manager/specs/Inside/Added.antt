@@ -6,7 +6,9 @@ use Rattle.mbj_types.specs.Result.{result_of}
 use Rattle.mbj_stage.specs.CourseState.{begun}
 use Rattle.mbj_stage.specs.Handing.{without_packet}
 use Rattle.mbj_manager.specs.Machine.Stages.{Pending, at_once, in_lanes, pending}
+use Rattle.mbj_manager.specs.Machine.Course.{stepped}
 use Rattle.mbj_manager.specs.State.{ManagerState}
+use Rattle.mbj_manager.specs.declared.lane.Cause.{Cause}
 
 -- the first job that was open goes last, and stands in the agenda
 abbrev pub added : List Job → ManagerState → ManagerState
@@ -17,6 +19,10 @@ added (j ∷ js) h = record h {
   opened = js;
   machine = record h.machine { left = h.machine.left ++ pending (begun j) ∷ []; agenda = length h.owed ∷ [] };
 }
+
+-- the agenda's first job is taken and goes on
+abbrev pub with_step : Cause → ManagerState → ManagerState
+with_step at h = record h { machine = stepped at h.machine }
 
 -- the kind in whose lanes the earliest job waits
 abbrev pub first_lane : List (List Pending) → Option Kind

@@ -22,38 +22,32 @@ leaving-init g c = record {
   left = refl;
 }
 
-pub take_back-requires-clause-ring : goal.take_back-requires-clause-ring
-take_back-requires-clause-ring g c = c.leaving.invariant.ring.courses
+pub leave-requires-clause-ring : goal.leave-requires-clause-ring
+leave-requires-clause-ring g c = c.leaving.invariant.ring.courses
 
-pub take_back-requires-clause-place : goal.take_back-requires-clause-place
-take_back-requires-clause-place g c = c.in-Some.ensures.place
-
-pub take_back-requires-clause-out : goal.take_back-requires-clause-out
-take_back-requires-clause-out g c =
-    let t = leaves g.K.Feed.kind (ring_number c.args.ring.now) (courses c.leaving.ring) c.leaving.queue.waiters c.take.new.self.waiters c.in-Some.place
-    (g.K.Feed.brings c.in-Some.entry) c.in-Some.ensures.takes.first c.leaving.invariant.listed in
-    subst (λ (n : ℕ). At (IsOut g.K.Feed.kind (g.K.Feed.brings c.in-Some.entry)) (number n c.in-Some.place) (courses c.leaving.ring))
-    (sym c.leaving.invariant.ring.first) t.out
-
-pub take_back-requires-clause-done : goal.take_back-requires-clause-done
-take_back-requires-clause-done g c = c.in-Some.ensures.done
+pub leave-requires-clause-out : goal.leave-requires-clause-out
+leave-requires-clause-out g c = λ p e ws first.
+    let t = leaves g.K.Feed.kind (ring_number c.args.ring.now) (courses c.leaving.ring) c.leaving.queue.waiters ws p e first c.leaving.invariant.listed in
+    subst (λ (n : ℕ). At (IsOut g.K.Feed.kind e) (number n p) (courses c.leaving.ring)) (sym c.leaving.invariant.ring.first) t.out
 
 pub push-requires : goal.push-requires
 push-requires g c =
     let f = ring_number c.args.ring.now in
-    let t = leaves g.K.Feed.kind (ring_number c.args.ring.now) (courses c.leaving.ring) c.leaving.queue.waiters c.take.new.self.waiters c.in-Some.place
-    (g.K.Feed.brings c.in-Some.entry) c.in-Some.ensures.takes.first c.leaving.invariant.listed in
+    let e = c.in-Some.ensures.takes.0 in
+    let t = leaves g.K.Feed.kind (ring_number c.args.ring.now) (courses c.leaving.ring) c.leaving.queue.waiters c.leave.new.self.waiters c.in-Some.place
+    e c.in-Some.ensures.takes.1.first c.leaving.invariant.listed in
     record {
       place = c.in-Some.ensures.place;
-      room = omega (arith, t.shorter, numbered-length f c.leaving.queue.waiters, numbered-length f c.take.new.self.waiters, c.leaving.invariant.room);
+      room = omega (arith, t.shorter, numbered-length f c.leaving.queue.waiters, numbered-length f c.leave.new.self.waiters, c.leaving.invariant.room);
     }
 
 pub leaving-smaller : goal.leaving-smaller
 leaving-smaller g c =
     let f = ring_number c.args.ring.now in
-    let t = leaves g.K.Feed.kind (ring_number c.args.ring.now) (courses c.leaving.ring) c.leaving.queue.waiters c.take.new.self.waiters c.in-Some.place
-    (g.K.Feed.brings c.in-Some.entry) c.in-Some.ensures.takes.first c.leaving.invariant.listed in
-    omega (arith, t.shorter, numbered-length f c.leaving.queue.waiters, numbered-length f c.take.new.self.waiters)
+    let e = c.in-Some.ensures.takes.0 in
+    let t = leaves g.K.Feed.kind (ring_number c.args.ring.now) (courses c.leaving.ring) c.leaving.queue.waiters c.leave.new.self.waiters c.in-Some.place
+    e c.in-Some.ensures.takes.1.first c.leaving.invariant.listed in
+    omega (arith, t.shorter, numbered-length f c.leaving.queue.waiters, numbered-length f c.leave.new.self.waiters)
 
 pub leaving-preserved : goal.leaving-preserved
 leaving-preserved g c =
@@ -62,26 +56,30 @@ leaving-preserved g c =
     let cs = courses c.leaving.ring in
     let old = c.leaving.agenda.places.items in
     let q = c.leaving.queue in
-    let vs = numbered f c.take.new.self.waiters in
+    let vs = numbered f c.leave.new.self.waiters in
     let p = c.in-Some.place in
-    let b = taken_back (g.K.Feed.brings c.in-Some.entry) in
-    let t = leaves g.K.Feed.kind (ring_number c.args.ring.now) (courses c.leaving.ring) c.leaving.queue.waiters c.take.new.self.waiters c.in-Some.place
-    (g.K.Feed.brings c.in-Some.entry) c.in-Some.ensures.takes.first c.leaving.invariant.listed in
-    let same = c.in-Some.ensures.takes.same in
-    let back : courses c.take_back.new.ring ≡ changed b (f p) cs
-    = c.take_back.ensures.back ∙ ap (λ (n : ℕ). changed b (number n p) cs) i.ring.first in
+    let b = taken_back c.in-Some.ensures.takes.0 in
+    let e = c.in-Some.ensures.takes.0 in
+    let t = leaves g.K.Feed.kind (ring_number c.args.ring.now) (courses c.leaving.ring) c.leaving.queue.waiters c.leave.new.self.waiters c.in-Some.place
+    e c.in-Some.ensures.takes.1.first c.leaving.invariant.listed in
+    let same = c.in-Some.ensures.takes.1.same in
+    let back : courses c.leave.new.ring ≡ changed b (f p) cs
+    = c.in-Some.ensures.takes.2 ∙ ap (λ (n : ℕ). changed b (number n p) cs) i.ring.first in
     record {
-      ring = record { first = c.take_back.ensures.ring.first ∙ i.ring.first; opened = c.take_back.ensures.ring.opened ∙ i.ring.opened; courses = c.take_back.ensures.ring.courses };
+      ring = record { first = c.leave.ensures.ring.first ∙ i.ring.first; opened = c.leave.ensures.ring.opened ∙ i.ring.opened; courses = c.leave.ensures.ring.courses };
       listed = subst (λ (x : List CourseState). Listed g.K.Feed.kind x vs) (sym back) (listed-changed g.K.Feed.kind b (f p) cs vs t.absent t.listed);
       room = rw c.push.ensures.room
-          (omega (arith, t.shorter, numbered-length f q.waiters, numbered-length f c.take.new.self.waiters, i.room, ap length c.push.ensures.places, length-append old (p ∷ [])));
+          (omega (arith, t.shorter, numbered-length f q.waiters, numbered-length f c.leave.new.self.waiters, i.room, ap length c.push.ensures.places, length-append old (p ∷ [])));
       capacity = c.push.ensures.room ∙ i.capacity;
       left = rw (back, ap (map f) c.push.ensures.places ∙ map-append f old (p ∷ []), ap (λ (l : PlacedQueue). l.rounds) same, ap (λ (l : PlacedQueue). l.blocks) same)
           (took-left g.K.Feed.kind cs (map f old) (numbered f q.waiters) _ vs q.rounds q.blocks 0 t) ∙ i.left;
     }
 
 pub returns-in-None-clause-ring : goal.returns-in-None-clause-ring
-returns-in-None-clause-ring g c = c.leaving.invariant.ring
+returns-in-None-clause-ring g c =
+    let i = c.leaving.invariant in
+    let r = c.leave.ensures.ring in
+    record { first = r.first ∙ i.ring.first; opened = r.opened ∙ i.ring.opened; courses = r.courses }
 
 pub returns-in-None-clause-room : goal.returns-in-None-clause-room
 returns-in-None-clause-room g c = c.leaving.invariant.capacity
@@ -90,6 +88,7 @@ pub returns-in-None-clause-left : goal.returns-in-None-clause-left
 returns-in-None-clause-left g c =
     let f = ring_number c.args.ring.now in
     let q = c.leaving.queue in
-    rw c.in-None.ensures.takes.same
+    let waits = c.in-None.ensures.takes in
+    rw (waits.0.same, waits.1)
     (sym (none-left-now (courses c.leaving.ring) (map f c.leaving.agenda.places.items) (numbered f q.waiters) q.rounds q.blocks 0
-    (numbered-taken f q.waiters ∙ ap (option_map (numbered_split f)) c.in-None.ensures.takes.none)) ∙ c.leaving.invariant.left)
+    (numbered-taken f q.waiters ∙ ap (option_map (numbered_split f)) waits.0.none)) ∙ c.leaving.invariant.left)

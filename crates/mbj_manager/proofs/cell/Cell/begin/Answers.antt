@@ -25,11 +25,13 @@ pub returns-clause-begun : goal.returns-clause-begun
 returns-clause-begun c =
     let was = c.self.inside.seat.value in
     let s = c.begin.new.self in
-    let job = ap (λ x. x.job) c.deref_mut-seat.ensures.value ∙ job-is was.is_going was.job was.course c.args.self.now c.self.view_is c.requires.is_open in
-    going-by s.is_going s.job s.course (begun (job_in c.args.self.now)) c.begin.ensures.going (c.begin.ensures.course ∙ ap begun job)
+    let job = ap (λ x. x.course.job) c.deref_mut-seat.ensures.value
+    ∙ job-is was.is_going was.course.job was.course c.args.self.now c.self.view_is c.requires.is_open in
+    going-by s.is_going s.course.job s.course (begun (job_in c.args.self.now)) c.begin.ensures.going (c.begin.ensures.course ∙ ap begun job)
 
 pub returns-clause-expands : goal.returns-clause-expands
 returns-clause-expands c =
     let was = c.self.inside.seat.value in
-    let job = ap (λ x. x.job) c.deref_mut-seat.ensures.value ∙ job-is was.is_going was.job was.course c.args.self.now c.self.view_is c.requires.is_open in
+    let job = ap (λ x. x.course.job) c.deref_mut-seat.ensures.value
+    ∙ job-is was.is_going was.course.job was.course c.args.self.now c.self.view_is c.requires.is_open in
     c.begin.ensures.expands ∙ ap (expands (is_some c.args.found)) job
