@@ -1,5 +1,6 @@
 -- What is due stays as it is from one step of a party to another.
-use Rattle.std.proofs.Common.{◌≡◌, ℕ, List, [], ◌++◌, refl, sym, ap, ◌∙◌, append-nil, append_assoc}
+use Rattle.std.proofs.Common.{◌≡◌, ℕ, Bool, true, false, List, [], ◌++◌, refl, sym, ap, ◌∙◌, append-nil, append_assoc}
+use Rattle.std.specs.Bool.{OnTrue}
 use Rattle.mbj_core.specs.declared.party.View.{View}
 use Rattle.mbj_core.specs.declared.party.Phase.TheVariants.{Rest}
 use Rattle.mbj_front.specs.Views.{after_claim, after_finish}
@@ -36,3 +37,20 @@ keeps_finishing v w hand rest is =
 pub ends_unfound : {D : Type 0} (cells at : ℕ) (u v w : View D) → KeepsDue u v → FindsNone cells at v w → EndsUnfound cells u w
 ends_unfound cells at u v w kept none =
     (kept.4.0, at, none.0, none.1, none.2, ap (λ x. x.looks) none.3 ∙ ap (λ l. l ++ looks_round cells at none.0) kept.4.1)
+
+-- and it stays the last where no look is made
+pub unfound_still : {D : Type 0} (found_none : Bool) (cells : ℕ) (v w u : View D) → u.looks ≡ w.looks → OnTrue found_none (EndsUnfound cells v w)
+    → OnTrue found_none (EndsUnfound cells v u)
+unfound_still true cells v w u same e = (e.0, e.1, e.2, e.3, e.4, same ∙ e.5)
+unfound_still false cells v w u same e = tt
+
+-- a stretch before it
+pub unfound_later : {D : Type 0} (cells : ℕ) (u v w : View D) → KeepsDue u v → EndsUnfound cells v w → EndsUnfound cells u w
+unfound_later cells u v w kept e = (
+  kept.4.0 ++ e.0,
+  e.1,
+  e.2,
+  e.3,
+  e.4,
+  e.5 ∙ ap (λ l. (l ++ e.0) ++ looks_round cells e.1 e.2) kept.4.1 ∙ ap (λ l. l ++ looks_round cells e.1 e.2) (append_assoc u.looks kept.4.0 e.0),
+)

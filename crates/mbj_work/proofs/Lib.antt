@@ -3,6 +3,7 @@ pub mod Endless
 mod Lists
 mod PartyCalls
 pub mod Hands
+pub mod HandTurns
 pub mod Keeping
 pub mod Rounds
 pub mod Collecting

@@ -16,7 +16,7 @@ pub data PartyCall : Type 0 where
   -- a collect gave a result, or none
   collected : Done → PartyCall
   not_yet : PartyCall
-  -- a claim, a settle, a hunt or a serve, whatever came of it
+  -- a claim, a settle, a burst of settles, a hunt, a turn or a serve, whatever came of it
   worked : PartyCall
   -- a drain gave these results
   drained : List Done → PartyCall

@@ -3,6 +3,7 @@ pub mod Feeding
 pub mod Knowing
 pub mod Parties
 pub mod Hunts
+pub mod Turns
 pub mod Claims
 pub mod Calls
 pub mod Inside

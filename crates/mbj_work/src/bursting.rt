@@ -5,7 +5,8 @@ ghost use Rattle.mbj_types.specs.declared.done.Done.{Done};
 ghost use Rattle.mbj_core.specs.declared.party.Phase.TheVariants.{Rest};
 ghost use Rattle.mbj_front.specs.Seats.{view_of, IsOf};
 ghost use Rattle.mbj_work.specs.declared.party.TheConstants.{HAND_ROOM};
-ghost use Rattle.mbj_work.specs.Parties.{part_of, manager_of, IsPartyOf, KeepsDue};
+ghost use Rattle.mbj_work.specs.Calls.{worked, Makes};
+ghost use Rattle.mbj_work.specs.Parties.{part_of, manager_of, IsPartyOf};
 ghost use Rattle.mbj_work.specs.Claims.{FinishesEach, SettlesInTurn};
 ghost use Rattle.mbj_work.specs.Inside.Holding.{cells_in, results_in};
 
@@ -13,7 +14,7 @@ use crate::claiming::finish_first;
 use crate::gate::OpenGate;
 use crate::party::Party;
 use circular_buffer::HeapCircularBuffer;
-use mbj_front::{Front, Seat};
+use mbj_front::{Front, Returned, Seat};
 use mbj_types::Done;
 use std::alloc::Global;
 
@@ -37,7 +38,7 @@ fn finish_each(
     settled.reverse();
     'finishing: loop {
         match settled.pop() {
-            Some(done) => finish_first(front, seat, cells, done, &OpenGate),
+            Some(done) => { finish_first(front, seat, cells, Returned::new(done, None), &OpenGate) }
             None => return,
         }
     }
@@ -50,7 +51,7 @@ impl<'k> Party<'k> {
         ensures front { IsPartyOf front.now self.new }
         ensures count { result ≡ min n (length (part_of self.old).hand) }
         ensures part { SettlesInTurn front.now result (part_of self.old) (manager_of self.old) (part_of self.new) (manager_of self.new) }
-        ensures due { KeepsDue (part_of self.old) (part_of self.new) }
+        ensures due { Makes worked (part_of self.old) (part_of self.new) }
         ensures looks { (part_of self.new).looks ≡ (part_of self.old).looks }
     {
         let wanted = n.min(self.hand());

@@ -8,39 +8,41 @@ ghost use Rattle.mbj_front.specs.Seats.{view_of, cells_of, IsFirst, IsOf};
 ghost use Rattle.mbj_front.specs.Views.{after_finish, after_look};
 ghost use Rattle.mbj_manager.specs.State.{after_get_completed};
 ghost use Rattle.mbj_work.specs.declared.party.TheConstants.{HAND_ROOM};
-ghost use Rattle.mbj_work.specs.Parties.{part_of, manager_of, notes_of, IsPartyOf, KeepsDue};
+ghost use Rattle.mbj_work.specs.Calls.{worked, Makes};
+ghost use Rattle.mbj_work.specs.Parties.{part_of, manager_of, notes_of, IsPartyOf};
 ghost use Rattle.mbj_work.specs.Claims.{MatchClaimed, IfNot, FinishesFirst, ClaimsJob, Settles};
+ghost use Rattle.mbj_work.specs.Turns.{GivesBack};
 ghost use Rattle.mbj_work.specs.Inside.Holding.{cells_in};
 
 use crate::claimed::Claimed;
 use crate::gate::{Gate, Moment, OpenGate};
+use crate::giving::{ReturnedJob, completed, flushed};
 use crate::known::submit_known;
 use crate::party::Party;
 use circular_buffer::HeapCircularBuffer;
 use mbj_front::{Front, Seat};
-use mbj_types::Done;
 
-/// Finishes the first cell in the hand with its result, after the gate is passed.
+/// Finishes the first cell in the hand with its result, after the gate is passed. Its job goes home with it.
 pub(crate) fn finish_first<G: Gate>(
     front: &Front,
     seat: &mut Seat,
     cells: &mut HeapCircularBuffer<u32>,
-    done: Done,
+    returned: ReturnedJob,
     gate: &G,
 )
     requires front { IsOf front.now seat.old }
     requires rest { (view_of seat.old).phase ≡ Rest }
-    requires first { (cell : ℕ) × IsFirst cell done (view_of seat.old).hand }
+    requires first { (cell : ℕ) × IsFirst cell returned (view_of seat.old).hand }
     requires cells { cells.old ≡ buffer (cells_in (view_of seat.old).hand) HAND_ROOM }
     ensures front { IsOf front.now seat.new }
-    ensures part { FinishesFirst front.now done (view_of seat.old) (view_of seat.new) }
+    ensures part { FinishesFirst front.now returned (view_of seat.old) (view_of seat.new) }
     ensures cells { cells.new ≡ buffer (cells_in (view_of seat.new).hand) HAND_ROOM }
 {
     gate.pass(seat.party(), Moment::Finishing);
     let Some(cell) = cells.pop_front() else {
         unreachable!()
     };
-    front.finish(seat, cell, done);
+    front.finish_returned(seat, cell, returned);
 }
 
 impl<'k> Party<'k> {
@@ -57,7 +59,7 @@ impl<'k> Party<'k> {
         ensures part { MatchClaimed result
             (ClaimsJob front.now cell (notes_of self.old) (part_of self.old) (manager_of self.old) (part_of self.new) (manager_of self.new))
             (λ word. (part_of self.new ≡ after_look (part_of self.old) cell word) × (manager_of self.new ≡ manager_of self.old)) }
-        ensures due { KeepsDue (part_of self.old) (part_of self.new) }
+        ensures due { Makes worked (part_of self.old) (part_of self.new) }
         ensures notes { notes_of self.new ≡ notes_of self.old }
     {
         self.claim_at(front, cell, &OpenGate)
@@ -74,7 +76,7 @@ impl<'k> Party<'k> {
         ensures part { MatchClaimed result
             (ClaimsJob front.now cell (notes_of self.old) (part_of self.old) (manager_of self.old) (part_of self.new) (manager_of self.new))
             (λ word. (part_of self.new ≡ after_look (part_of self.old) cell word) × (manager_of self.new ≡ manager_of self.old)) }
-        ensures due { KeepsDue (part_of self.old) (part_of self.new) }
+        ensures due { Makes worked (part_of self.old) (part_of self.new) }
         ensures notes { notes_of self.new ≡ notes_of self.old }
     {
         match front.try_claim(&mut self.seat, cell) {
@@ -82,7 +84,13 @@ impl<'k> Party<'k> {
             Ok(job) => {
                 self.cells.push_back(cell);
                 gate.pass(self.seat.party(), Moment::Claimed);
-                if let Some(done) = submit_known(&mut self.manager, &mut self.known, job) {
+                if let Some(done) = submit_known(
+                    self.alloc,
+                    &mut self.manager,
+                    &mut self.known,
+                    job,
+                    &mut self.given,
+                ) {
                     finish_first(front, &mut self.seat, &mut self.cells, done, gate);
                 }
                 Claimed::Yes
@@ -98,8 +106,9 @@ impl<'k> Party<'k> {
         ensures part { MatchBool result
             (Settles front.now (part_of self.old) (manager_of self.old) (part_of self.new) (manager_of self.new))
             (((part_of self.old).hand ≡ []) × (self.new ≡ self.old)) }
-        ensures due { KeepsDue (part_of self.old) (part_of self.new) }
+        ensures due { Makes worked (part_of self.old) (part_of self.new) }
         ensures looks { (part_of self.new).looks ≡ (part_of self.old).looks }
+        ensures hand { GivesBack (part_of self.old).hand (part_of self.new).hand }
     {
         self.settle_at(front, &OpenGate)
     }
@@ -111,13 +120,14 @@ impl<'k> Party<'k> {
         ensures part { MatchBool result
             (Settles front.now (part_of self.old) (manager_of self.old) (part_of self.new) (manager_of self.new))
             (((part_of self.old).hand ≡ []) × (self.new ≡ self.old)) }
-        ensures due { KeepsDue (part_of self.old) (part_of self.new) }
+        ensures due { Makes worked (part_of self.old) (part_of self.new) }
         ensures looks { (part_of self.new).looks ≡ (part_of self.old).looks }
+        ensures hand { GivesBack (part_of self.old).hand (part_of self.new).hand }
     {
         if self.cells.is_empty() {
             return false;
         }
-        let Some(done) = self.manager.flush() else {
+        let Some(done) = flushed(self.alloc, &mut self.manager, &mut self.given) else {
             unreachable!()
         };
         finish_first(front, &mut self.seat, &mut self.cells, done, gate);
@@ -134,7 +144,7 @@ impl<'k> Party<'k> {
             (((after_get_completed (manager_of self.old)).0 ≡ None) × (part_of self.new ≡ part_of self.old)) }
         ensures manager { manager_of self.new ≡ (after_get_completed (manager_of self.old)).1 }
     {
-        let Some(done) = self.manager.get_completed() else {
+        let Some(done) = completed(self.alloc, &mut self.manager, &mut self.given) else {
             return false;
         };
         finish_first(front, &mut self.seat, &mut self.cells, done, gate);
@@ -147,6 +157,7 @@ impl<'k> Party<'k> {
         requires { IsPartyOf front.now self.old }
         ensures front { IsPartyOf front.now self.new }
         ensures part { part_of self.new ≡ after_finish (part_of self.old) (part_of self.new).hand }
+        ensures hand { GivesBack (part_of self.old).hand (part_of self.new).hand }
         ensures none { (after_get_completed (manager_of self.new)).0 ≡ None }
     {
         while self.give_back(front, gate) {}

@@ -3,22 +3,20 @@ ghost use Rattle.std.specs.Prelude.{◌≡◌, ◌+◌, ◌-◌, ◌<◌, ◌≤
 ghost use Rattle.mbj_front.specs.Seats.{cells_of};
 ghost use Rattle.mbj_front.specs.Views.{after_finish};
 ghost use Rattle.mbj_work.specs.Parties.{part_of, IsPartyOf, Submits, KeepsDue};
-ghost use Rattle.mbj_work.specs.Calls.{Drains};
+ghost use Rattle.mbj_work.specs.Calls.{drained, worked, Makes};
+ghost use Rattle.std.specs.Int.{from_bool};
+ghost use Rattle.mbj_work.specs.Turns.{ClaimsInTurn};
 ghost use Rattle.mbj_work.specs.Inside.Runs.{with_due};
 ghost use Rattle.mbj_types.specs.declared.done.Done.{Done};
 
 use crate::claimed::Claimed;
-use crate::gate::Gate;
-use crate::party::{HAND_ROOM, Party};
+use crate::gate::{Gate, OpenGate};
+use crate::party::{CLAIMS, HAND_ROOM, Party};
 use crossbeam_utils::Backoff;
 use mbj_core::cell_at;
 use mbj_front::{Front, READY};
-use mbj_types::{AES_LANES, Done};
+use mbj_types::Done;
 use std::sync::Wait;
-
-/// How many of its own jobs a submitter claims at once where it helps: as many as the longest lane queue holds, so
-/// that the queues fill up, and the workers find the other jobs.
-const CLAIMS: u32 = AES_LANES as u32;
 
 impl<'k> Party<'k> {
     /// Collects until nothing of this submitter is out, and appends the results, for which there is room, in the order of
@@ -39,11 +37,11 @@ impl<'k> Party<'k> {
         ensures handed { (part_of self.new).handed ≡ length (part_of self.old).due }
         ensures hand { (part_of self.new).hand ≡ [] }
         ensures results { results.new.items ≡ results.old.items ++ drop (part_of self.old).handed (part_of self.old).due }
-        ensures call { (ds : List Done) × ((results.new.items ≡ results.old.items ++ ds) × Drains ds (part_of self.old) (part_of self.new)) }
+        ensures call { (ds : List Done) × ((results.new.items ≡ results.old.items ++ ds) × Makes (drained ds) (part_of self.old) (part_of self.new)) }
         ensures room { vec_capacity results.new ≡ vec_capacity results.old }
     {
         self.collect_down_to(rt, front, gate, results, 0);
-        self.settle_all(front, gate);
+        self.settle_all_at(front, gate);
     }
 
     /// Collects until at most `left` jobs of this submitter are out, and appends the results, for which there is room.
@@ -147,16 +145,33 @@ impl<'k> Party<'k> {
         requires front { IsPartyOf front.now self.old }
         requires cell { cell < cells_of front.now }
         ensures front { IsPartyOf front.now self.new }
+        ensures hand { ClaimsInTurn (from_bool result) (part_of self.old).hand (part_of self.new).hand }
         ensures due { KeepsDue (part_of self.old) (part_of self.new) }
     {
-        if self.hand() == HAND_ROOM || front.scan(&mut self.seat, cell) != READY {
+        if self.hand() == HAND_ROOM {
             return false;
         }
-        self.claim_at(front, cell, gate) == Claimed::Yes
+        if front.scan(&mut self.seat, cell) != READY {
+            return false;
+        }
+        match self.claim_at(front, cell, gate) {
+            Claimed::Yes => true,
+            Claimed::Not(_) => false,
+        }
+    }
+
+    /// Settles as `settle` does until it returns false.
+    pub fn settle_all(&mut self, front: &Front)
+        requires { IsPartyOf front.now self.old }
+        ensures front { IsPartyOf front.now self.new }
+        ensures part { part_of self.new ≡ after_finish (part_of self.old) [] }
+        ensures due { Makes worked (part_of self.old) (part_of self.new) }
+    {
+        self.settle_all_at(front, &OpenGate);
     }
 
     /// Settles until the hand is empty.
-    pub(crate) fn settle_all<G: Gate>(&mut self, front: &Front, gate: &G)
+    pub(crate) fn settle_all_at<G: Gate>(&mut self, front: &Front, gate: &G)
         requires { IsPartyOf front.now self.old }
         ensures front { IsPartyOf front.now self.new }
         ensures part { part_of self.new ≡ after_finish (part_of self.old) [] }

@@ -1,6 +1,7 @@
 ghost use Rattle.std.specs.Prelude.{◌≡◌, ◌<◌, IfSome, MatchOption};
 ghost use Rattle.mbj_front.specs.Seats.{cells_of};
-ghost use Rattle.mbj_work.specs.Parties.{part_of, manager_of, IsPartyOf, KeepsDue};
+ghost use Rattle.mbj_work.specs.Calls.{worked, Makes};
+ghost use Rattle.mbj_work.specs.Parties.{part_of, manager_of, IsPartyOf};
 ghost use Rattle.mbj_work.specs.Hunts.{FindsReady, FindsNone};
 
 use crate::party::Party;
@@ -17,7 +18,7 @@ impl<'k> Party<'k> {
         ensures part { MatchOption result
             (FindsNone (cells_of front.now) from (part_of self.old) (part_of self.new))
             (λ c. FindsReady (cells_of front.now) from c (part_of self.old) (part_of self.new)) }
-        ensures due { KeepsDue (part_of self.old) (part_of self.new) }
+        ensures due { Makes worked (part_of self.old) (part_of self.new) }
         ensures manager { manager_of self.new ≡ manager_of self.old }
     {
         let cells = front.cells();

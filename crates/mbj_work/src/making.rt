@@ -1,5 +1,6 @@
 // How a party is made, and the numbers that it tells.
 ghost use Rattle.std.specs.Prelude.{◌≡◌, ◌⊎◌, ◌+◌, ◌≤◌, [], length, IfOk};
+ghost use Rattle.std.specs.Arc.{arc_value};
 ghost use Rattle.mbj_core.specs.Cells.{cell_of};
 ghost use Rattle.mbj_core.specs.declared.cells.TheConstants.{SUBMITTER_CELLS};
 ghost use Rattle.mbj_core.specs.declared.party.Phase.TheVariants.{Rest};
@@ -10,12 +11,14 @@ ghost use Rattle.mbj_work.specs.Knowing.{KnowsAll};
 ghost use Rattle.mbj_work.specs.Parties.{seat_of, part_of, manager_of, notes_of};
 
 use crate::known::KnownKeys;
+use crate::lender::Lender;
 use crate::party::{HAND_ROOM, Party};
 use circular_buffer::HeapCircularBuffer;
 use mbj_front::Seat;
 use mbj_keys::Keys;
-use mbj_manager::Manager;
+use mbj_manager::{Cell, Manager};
 use std::alloc::{AllocError, Global};
+use std::sync::Arc;
 
 impl<'k> Party<'k> {
     /// A party with this seat, which is at rest and has an empty hand, and with a new manager. It shares no keys.
@@ -42,7 +45,21 @@ impl<'k> Party<'k> {
         ensures manager { IfOk result (λ party. manager_of party ≡ new_manager) }
         ensures notes { IfOk result (λ party. KnowsAll keys.now (notes_of party)) }
     {
-        let known = KnownKeys::learn(alloc, keys)?;
+        let known = KnownKeys::learn(alloc, Lender::Owner(keys))?;
+        Party::with(alloc, seat, Some(known))
+    }
+
+    /// A party as `new_in` makes it, which owns a share of the keys. So it may outlive their other owners.
+    ///
+    /// Returns `AllocError` for want of memory; the seat and the share are then dropped.
+    pub fn new_owning(alloc: Global, seat: Seat, keys: Arc<Keys>) -> Result<Party<'k>, AllocError>
+        requires rest { (view_of seat).phase ≡ Rest }
+        requires hand { (view_of seat).hand ≡ [] }
+        ensures seat { IfOk result (λ party. seat_of party ≡ seat) }
+        ensures manager { IfOk result (λ party. manager_of party ≡ new_manager) }
+        ensures notes { IfOk result (λ party. KnowsAll (arc_value keys) (notes_of party)) }
+    {
+        let known = KnownKeys::learn(alloc, Lender::Share(keys))?;
         Party::with(alloc, seat, Some(known))
     }
 
@@ -60,11 +77,14 @@ impl<'k> Party<'k> {
         let cells = HeapCircularBuffer::with_capacity(alloc, HAND_ROOM as usize)?;
         let manager = Manager::keeping_none(alloc)?;
         let settled = Vec::with_capacity(alloc, HAND_ROOM as usize)?;
+        let given = Cell::blank(alloc)?;
         Ok(Party {
+            alloc,
             seat,
             manager,
             cells,
             known,
+            given,
             settled,
         })
     }

@@ -1,11 +1,13 @@
 // What a submitter does with its own jobs: it posts them, and collects their results in the order of its posts.
-ghost use Rattle.std.specs.Prelude.{◌≡◌, ◌+◌, ◌<◌, length, slice_get, Some, IfErr, IfSome, OnErr, OnOk, MatchOption};
+ghost use Rattle.std.specs.Prelude.{◌≡◌, ◌+◌, ◌<◌, length, slice_get, Some, IfErr, IfSome, OnErr, OnOk, MatchOption, MatchResult};
 ghost use Rattle.mbj_types.specs.Result.{result_of};
 ghost use Rattle.mbj_core.specs.declared.cells.TheConstants.{SUBMITTER_CELLS};
 ghost use Rattle.mbj_front.specs.Views.{after_publish};
+ghost use Rattle.mbj_work.specs.Calls.{posted, post_full, collected, not_yet, Makes};
 ghost use Rattle.mbj_work.specs.Parties.{part_of, manager_of, IsPartyOf, Submits, after_collect, CollectsNothing};
 
 use crate::gate::{Gate, Moment, OpenGate};
+use crate::giving::ReturnedJob;
 use crate::party::Party;
 use mbj_core::SUBMITTER_CELLS;
 use mbj_front::Front;
@@ -23,6 +25,8 @@ impl<'k> Party<'k> {
         ensures back { IfErr result (λ full. (full.0 ≡ job) × (self.new ≡ self.old)) }
         ensures room { OnOk result (length (part_of self.old).due < (part_of self.old).handed + SUBMITTER_CELLS) }
         ensures full { OnErr result (length (part_of self.old).due ≡ (part_of self.old).handed + SUBMITTER_CELLS) }
+        ensures call { MatchResult result (λ _. Makes (posted job) (part_of self.old) (part_of self.new))
+            (λ _. Makes post_full (part_of self.old) (part_of self.new)) }
     {
         self.post_at(front, job, &OpenGate)
     }
@@ -37,6 +41,8 @@ impl<'k> Party<'k> {
         ensures back { IfErr result (λ full. (full.0 ≡ job) × (self.new ≡ self.old)) }
         ensures room { OnOk result (length (part_of self.old).due < (part_of self.old).handed + SUBMITTER_CELLS) }
         ensures full { OnErr result (length (part_of self.old).due ≡ (part_of self.old).handed + SUBMITTER_CELLS) }
+        ensures call { MatchResult result (λ _. Makes (posted job) (part_of self.old) (part_of self.new))
+            (λ _. Makes post_full (part_of self.old) (part_of self.new)) }
     {
         if self.seat.out() == SUBMITTER_CELLS {
             return Err(PostFull(job));
@@ -56,6 +62,9 @@ impl<'k> Party<'k> {
         ensures part { MatchOption result
             (CollectsNothing (part_of self.old) (part_of self.new))
             (λ _. part_of self.new ≡ after_collect (part_of self.old)) }
+        ensures call { MatchOption result
+            (Makes not_yet (part_of self.old) (part_of self.new))
+            (λ d. Makes (collected d) (part_of self.old) (part_of self.new)) }
         ensures manager { manager_of self.new ≡ manager_of self.old }
     {
         self.collect_at(front, &OpenGate)
@@ -69,16 +78,38 @@ impl<'k> Party<'k> {
         ensures part { MatchOption result
             (CollectsNothing (part_of self.old) (part_of self.new))
             (λ _. part_of self.new ≡ after_collect (part_of self.old)) }
+        ensures call { MatchOption result
+            (Makes not_yet (part_of self.old) (part_of self.new))
+            (λ d. Makes (collected d) (part_of self.old) (part_of self.new)) }
+        ensures manager { manager_of self.new ≡ manager_of self.old }
+    {
+        match self.collect_returned(front, gate) {
+            Some(returned) => Some(returned.into_result()),
+            None => None,
+        }
+    }
+
+    /// `collect_at`, which gives the result with its job, where that came back.
+    pub fn collect_returned<G: Gate>(&mut self, front: &Front, gate: &G) -> Option<ReturnedJob>
+        requires { IsPartyOf front.now self.old }
+        ensures front { IsPartyOf front.now self.new }
+        ensures result { IfSome result (λ d. slice_get (part_of self.old).due (part_of self.old).handed ≡ Some d) }
+        ensures part { MatchOption result
+            (CollectsNothing (part_of self.old) (part_of self.new))
+            (λ _. part_of self.new ≡ after_collect (part_of self.old)) }
+        ensures call { MatchOption result
+            (Makes not_yet (part_of self.old) (part_of self.new))
+            (λ d. Makes (collected d) (part_of self.old) (part_of self.new)) }
         ensures manager { manager_of self.new ≡ manager_of self.old }
     {
         if self.seat.out() == 0 {
             return None;
         }
-        match front.try_take(&mut self.seat) {
-            Ok(done) => {
+        match front.try_take_returned(&mut self.seat) {
+            Ok(returned) => {
                 front.free(&mut self.seat);
                 gate.pass(self.seat.party(), Moment::Collected);
-                Some(done)
+                Some(returned)
             }
             Err(_) => None,
         }

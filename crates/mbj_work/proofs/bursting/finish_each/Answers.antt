@@ -1,10 +1,10 @@
 -- The last of the list that was turned round is the first that is left.
-use Rattle.std.proofs.Common.{◌≡◌, ◌++◌, List, [], reverse, refl, ap, sym, subst, ◌∙◌}
+use Rattle.std.proofs.Common.{◌≡◌, ◌++◌, ℕ, List, [], reverse, refl, ap, sym, subst, ◌∙◌}
 use Rattle.std.proofs.lemmas.List.{nil_from_length, reverse-reverse}
 use Rattle.mbj_types.specs.declared.done.Done.{Done}
 use Rattle.mbj_core.specs.declared.party.View.{View}
-use Rattle.mbj_front.specs.Seats.{view_of}
-use Rattle.mbj_work.specs.Claims.{FinishesEach}
+use Rattle.mbj_front.specs.Seats.{view_of, IsFirst}
+use Rattle.mbj_work.specs.Claims.{FinishesEach, FinishesFirst}
 use Rattle.mbj_work.specs.Inside.Holding.{results_in}
 use Rattle.mbj_work.proofs.Hands.{first_of, left_of}
 use Rattle.mbj_work.proofs.Settling.{last-first}
@@ -26,8 +26,9 @@ pub finish_first-requires-clause-first : goal.finish_first-requires-clause-first
 finish_first-requires-clause-first c =
     let i = c.finishing.invariant in
     let turned = last-first c.finishing.settled.items c.pop.new.self.items c.in-Some.done c.in-Some.ensures.items in
-    first_of (view_of c.finishing.seat).hand c.in-Some.done (reverse c.pop.new.self.items ++ i.first.0)
-    (sym (ap (λ (ds : List Done). ds ++ i.first.0) turned) ∙ i.first.1)
+    subst (λ (d : Done). (cell : ℕ) × IsFirst cell d (view_of c.finishing.seat).hand) (sym c.new.ensures)
+    (first_of (view_of c.finishing.seat).hand c.in-Some.done (reverse c.pop.new.self.items ++ i.first.0)
+    (sym (ap (λ (ds : List Done). ds ++ i.first.0) turned) ∙ i.first.1))
 
 pub finishing-preserved : goal.finishing-preserved
 finishing-preserved c =
@@ -37,7 +38,7 @@ finishing-preserved c =
     let d = c.in-Some.done in
     let turned = last-first c.finishing.settled.items ds d c.in-Some.ensures.items in
     let was = sym (ap (λ (es : List Done). es ++ i.first.0) turned) ∙ i.first.1 in
-    let step = c.finish_first.ensures.part in
+    let step = subst (λ (d : Done). FinishesFirst c.args.front.now d v (view_of c.finish_first.new.seat)) c.new.ensures c.finish_first.ensures.part in
     record {
       front = c.finish_first.ensures.front;
       rest = ap (λ (u : View Done). u.phase) step.part ∙ i.rest;

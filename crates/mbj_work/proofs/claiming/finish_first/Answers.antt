@@ -7,13 +7,13 @@ use Rattle.mbj_work.proofs.claiming.finish_first.Goals as goal
 
 pub unreachable-requires : goal.unreachable-requires
 unreachable-requires g c =
-    popped_some (view_of c.args.seat.now).hand c.args.done HAND_ROOM c.args.cells.now c.requires.first c.requires.cells c.in_default.ensures.value
+    popped_some (view_of c.args.seat.now).hand c.args.returned HAND_ROOM c.args.cells.now c.requires.first c.requires.cells c.in_default.ensures.value
 
-pub finish-requires-clause-first : goal.finish-requires-clause-first
-finish-requires-clause-first g c =
-    popped_first (view_of c.args.seat.now).hand c.args.done HAND_ROOM c.args.cells.now c.in-Some.cell c.requires.first c.requires.cells c.in-Some.ensures.value
+pub finish_returned-requires-clause-first : goal.finish_returned-requires-clause-first
+finish_returned-requires-clause-first g c =
+    popped_first (view_of c.args.seat.now).hand c.args.returned HAND_ROOM c.args.cells.now c.in-Some.cell c.requires.first c.requires.cells c.in-Some.ensures.value
 
 pub returns-clause-cells : goal.returns-clause-cells
 returns-clause-cells g c =
     c.in-Some.ensures.items
-    ∙ popped_rest (view_of c.args.seat.now).hand (view_of c.finish.new.seat).hand c.in-Some.cell c.args.done HAND_ROOM c.args.cells.now c.requires.cells c.finish.ensures.hand
+    ∙ popped_rest (view_of c.args.seat.now).hand (view_of c.finish_returned.new.seat).hand c.in-Some.cell c.args.returned HAND_ROOM c.args.cells.now c.requires.cells c.finish_returned.ensures.hand

@@ -29,6 +29,7 @@ invariant_of-self-in-Some g c = let v = view_of c.args.self.now.seat in let d = 
         ∙ sym (results_with v.hand c.args.cell d) ∙ ap (λ w. results_in w.hand) (sym c.in-Ok.ensures.view))
         left.first ∙ ap (λ w. results_in w.hand) (sym left.part);
   };
+  blank_given = c.submit_known.ensures.blank;
   room = c.args.self.now.room;
 }
 
@@ -88,9 +89,10 @@ invariant_of-self-in_default g c = let v = view_of c.args.self.now.seat in let d
     owed_is = c.in_default.ensures.order ∙ ap (λ l. l ++ d ∷ []) c.args.self.now.holds.owed_is
         ∙ sym (results_with v.hand c.args.cell d) ∙ ap (λ w. results_in w.hand) (sym c.in-Ok.ensures.view);
   };
+  blank_given = c.submit_known.ensures.blank;
   room = c.args.self.now.room;
 }
 
-pub submit_known-requires : goal.submit_known-requires
-submit_known-requires g c =
+pub submit_known-requires-clause-room : goal.submit_known-requires-clause-room
+submit_known-requires-clause-room g c =
     owed_below (view_of c.args.self.now.seat).hand c.args.self.now.manager.owed _ c.args.self.now.holds.owed_is c.requires.room

@@ -2,7 +2,7 @@
 use Rattle.std.proofs.Common.{◌≡◌, length}
 use Rattle.mbj_front.specs.Seats.{view_of, IsOf}
 use Rattle.mbj_front.specs.Views.{after_finish}
-use Rattle.mbj_work.proofs.party.Party.settle_all.Given as goal
+use Rattle.mbj_work.proofs.party.Party.settle_all_at.Given as goal
 
 abbrev pub invariant-loop : goal.invariant-loop
 invariant-loop g l = record {
