@@ -290,6 +290,17 @@ static inline void mbj_make_room_(struct mbj_raw_done *done, uint8_t *tag, const
     done->tag.len = MBJ_MAX_TAG_BYTES;
 }
 
+static inline bool mbj_meets_(const struct mbj_room *room, const struct mbj_bytes *bytes) {
+    uintptr_t room_at = (uintptr_t)room->at, at = (uintptr_t)bytes->at;
+    return room_at < at + bytes->len && at < room_at + room->len;
+}
+
+/* Whether the job reads bytes of the room. A call doesn't write what it reads, and one that did both is made as two then. */
+static inline bool mbj_reads_room_(const struct mbj_raw_job *raw, const struct mbj_room *room) {
+    return room->len != 0 && (mbj_meets_(room, &raw->packet) || mbj_meets_(room, &raw->key) || mbj_meets_(room, &raw->iv) ||
+                              mbj_meets_(room, &raw->auth_key) || mbj_meets_(room, &raw->aad));
+}
+
 /* Whether a job that was done has another tag than the one that was expected. */
 static inline bool mbj_is_wrong_(const struct mbj_slot *slot, const struct mbj_raw_done *done) {
     return slot->is_expected && (done->tag_len != slot->tag_len || !mbj_is_same_tag(done->tag.at, slot->expected, slot->tag_len));
@@ -339,16 +350,20 @@ MBJ_API MBJ_JOB *mbj_submit_job(MBJ_MGR *m) {
     if (!mbj_is_made_(m))
         return mbj_not_submitted_(m, job, MBJ_ERR_NO_MANAGER);
     struct mbj_raw_job raw;
-    mbj_say_place_(&raw, m, place);
-    const struct mbj_heap *before = mbj_enter_(m->heap);
-    uint32_t refusal = mbj_c_fill(&m->handle, &raw);
-    mbj_leave_(m->heap, before);
-    if (refusal != MBJ_ERR_NONE)
-        return mbj_not_submitted_(m, job, refusal);
     struct mbj_raw_done done;
     uint8_t tag[MBJ_MAX_TAG_BYTES];
+    uint32_t refusal;
+    bool is_given;
+    mbj_say_place_(&raw, m, place);
     mbj_make_room_(&done, tag, m, 0);
-    bool is_given = mbj_c_submit(&m->handle, &done, &refusal);
+    const struct mbj_heap *before = mbj_enter_(m->heap);
+    if (!mbj_reads_room_(&raw, &done.dst)) {
+        is_given = mbj_c_submit_job(&m->handle, &raw, &done, &refusal);
+    } else {
+        refusal = mbj_c_fill(&m->handle, &raw);
+        is_given = refusal == MBJ_ERR_NONE && mbj_c_submit(&m->handle, &done, &refusal);
+    }
+    mbj_leave_(m->heap, before);
     if (refusal != MBJ_ERR_NONE)
         return mbj_not_submitted_(m, job, refusal);
     m->error = MBJ_ERR_NONE;

@@ -106,8 +106,8 @@ MBJ_NONNULL
 bool mbj_c_count(struct mbj_handle *handle, uint32_t kind, struct mbj_counts *counts);
 
 /* Copies a job into the next cell, in place of one that was filled and not submitted, and returns MBJ_ERR_NONE, MBJ_ERR_NO_MANAGER,
- * MBJ_ERR_FULL, MBJ_ERR_WORD or MBJ_ERR_MEMORY. Of the calls on a manager only this one, its burst, mbj_c_new, mbj_c_new_keeping,
- * mbj_c_new_keeping_none and mbj_c_use_keys take memory. */
+ * MBJ_ERR_FULL, MBJ_ERR_WORD or MBJ_ERR_MEMORY. Of the calls on a manager only this one, its burst, mbj_c_submit_job, mbj_c_new,
+ * mbj_c_new_keeping, mbj_c_new_keeping_none and mbj_c_use_keys take memory. */
 MBJ_CHECKED MBJ_NONNULL
 mbj_err mbj_c_fill(struct mbj_handle *handle, const struct mbj_raw_job *job);
 
@@ -120,6 +120,12 @@ MBJ_NONNULL
 bool mbj_c_get_completed(struct mbj_handle *handle, struct mbj_raw_done *done, uint32_t *refusal);
 MBJ_NONNULL
 bool mbj_c_flush(struct mbj_handle *handle, struct mbj_raw_done *done, uint32_t *refusal);
+
+/* Makes mbj_c_fill with the job, and, where that isn't refused, mbj_c_submit: it returns and writes what that does, and else false and the
+ * refusal of mbj_c_fill. After MBJ_ERR_NO_ROOM the job is filled and not submitted. No byte that done has room for may be one that the job
+ * points to; where they meet, make the two calls. */
+MBJ_NONNULL
+bool mbj_c_submit_job(struct mbj_handle *handle, const struct mbj_raw_job *job, struct mbj_raw_done *done, uint32_t *refusal);
 
 /* Bursts: what several single calls do, one after another, by one call. No array is at NULL, even where it has no element.
  *

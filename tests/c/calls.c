@@ -169,6 +169,8 @@ static void exports_without_a_manager(struct mbj_handle *handle, const struct mb
     CHECK(!mbj_c_free(handle) && mbj_c_queue_size(handle) == 0 && !mbj_c_count(handle, 0, &counts));
     CHECK(mbj_c_fill(handle, raw) == MBJ_ERR_NO_MANAGER);
     CHECK(!mbj_c_flush(handle, done, &refusal) && refusal == MBJ_ERR_NO_MANAGER);
+    refusal = 9;
+    CHECK(!mbj_c_submit_job(handle, raw, done, &refusal) && refusal == MBJ_ERR_NO_MANAGER);
 }
 
 /* Room is needed for the range alone, and no call from the filling on takes memory. */
@@ -187,6 +189,23 @@ static void exports_give_the_range_back(struct mbj_handle *handle, struct mbj_ra
     CHECK(done->tag_len == 0 && done->status == 0 && done->reason == MBJ_REASON_NONE);
     CHECK(!mbj_c_get_completed(handle, done, &refusal) && !mbj_c_flush(handle, done, &refusal) && mbj_c_queue_size(handle) == 0);
     CHECK(allocations == 0);
+}
+
+/* One call does what filling and submitting do. Without room for the result its job stays filled, and the next call replaces it. */
+static void one_export_fills_and_submits(struct mbj_handle *handle, const struct mbj_raw_job *raw, struct mbj_raw_done *done) {
+    uint32_t refusal = 9;
+    struct mbj_raw_job unknown = *raw;
+    unknown.order = MBJ_ORDER_HASH_CIPHER + 1;
+    done->dst_len = 9;
+    CHECK(!mbj_c_submit_job(handle, &unknown, done, &refusal) && refusal == MBJ_ERR_WORD);
+    CHECK(!mbj_c_submit(handle, done, &refusal) && refusal == MBJ_ERR_NO_JOB);
+    done->dst.len = CBC_BYTES - 1;
+    CHECK(!mbj_c_submit_job(handle, raw, done, &refusal) && refusal == MBJ_ERR_NO_ROOM && mbj_c_queue_size(handle) == 0);
+    CHECK(done->dst_len == 9);
+    done->dst.len = CBC_BYTES;
+    bool is_given = mbj_c_submit_job(handle, raw, done, &refusal);
+    CHECK(refusal == MBJ_ERR_NONE && (is_given || mbj_c_flush(handle, done, &refusal)));
+    CHECK(done->dst_len == CBC_BYTES && memcmp(done->dst.at, cbc_ciphertext, CBC_BYTES) == 0 && mbj_c_queue_size(handle) == 0);
 }
 
 static void exports_want_no_room_for_a_refused_job(struct mbj_handle *handle, struct mbj_raw_job *raw, struct mbj_raw_done *done) {
@@ -217,6 +236,7 @@ static void exports(void) {
     raw.cipher = MBJ_CIPHER_CBC;
     CHECK(mbj_c_fill(&handle, &raw) == MBJ_ERR_NONE);
     exports_give_the_range_back(&handle, &done);
+    one_export_fills_and_submits(&handle, &raw, &done);
     exports_want_no_room_for_a_refused_job(&handle, &raw, &done);
     CHECK(mbj_c_count(&handle, MBJ_KIND_CBC_128, &counts) && counts.waiting == 0 && !mbj_c_count(&handle, MBJ_KINDS, &counts));
     CHECK(mbj_c_free(&handle) && handle.at == NULL && !mbj_c_free(&handle));

@@ -1,9 +1,38 @@
 /* Tests what an engineer may fall into: packets that can't be written or are shared, lengths beyond 32 bits, codes that are none,
- * pointers that are NULL, overlap or lie at odd addresses, and a fork. */
+ * pointers that are NULL, overlap or lie at odd addresses, and a fork. Link with -Wl,--wrap for mbj_c_submit_job, whose rooms are looked
+ * at here. */
 #include "check.h"
 
 #include <sys/wait.h>
 #include <unistd.h>
+
+#ifdef __cplusplus
+extern "C" {
+#endif
+
+/* The linker puts the first in the place of the function, which is the second. */
+bool __wrap_mbj_c_submit_job(struct mbj_handle *handle, const struct mbj_raw_job *job, struct mbj_raw_done *done, uint32_t *refusal);
+bool __real_mbj_c_submit_job(struct mbj_handle *handle, const struct mbj_raw_job *job, struct mbj_raw_done *done, uint32_t *refusal);
+
+static long submitted_by_one_call;
+
+static bool is_within(const struct mbj_room *room, const uint8_t *at) {
+    return (uintptr_t)at >= (uintptr_t)room->at && (uintptr_t)at - (uintptr_t)room->at < room->len;
+}
+
+/* No byte that the call reads is one that it may write. */
+bool __wrap_mbj_c_submit_job(struct mbj_handle *handle, const struct mbj_raw_job *job, struct mbj_raw_done *done, uint32_t *refusal) {
+    const struct mbj_bytes read[] = {job->key, job->iv, job->auth_key, job->aad, job->packet};
+    for (size_t i = 0; i < sizeof read / sizeof *read; i++)
+        for (size_t j = 0; j < read[i].len; j++)
+            CHECK(!is_within(&done->dst, read[i].at + j) && !is_within(&done->tag, read[i].at + j));
+    submitted_by_one_call++;
+    return __real_mbj_c_submit_job(handle, job, done, refusal);
+}
+
+#ifdef __cplusplus
+}
+#endif
 
 /* ---- packets are read and never written ---- */
 
@@ -301,6 +330,7 @@ int main(void) {
     forgotten_codes(m);
     pointers_that_are_null(m);
     no_job_is_lost_by_the_usual_loop(m);
+    CHECK(submitted_by_one_call > 0);
     mbj_free_mgr(m);
     return 0;
 }

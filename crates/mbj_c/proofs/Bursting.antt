@@ -54,7 +54,7 @@ module _ {A : Type 0} where
 -- ---- filling
 
 -- the code of want of memory is that of no other refusal
-only-memory : (q : Refusal) → refusal_code q ≡ refusal_code Memory → q ≡ Memory
+pub only-memory : (q : Refusal) → refusal_code q ≡ refusal_code Memory → q ≡ Memory
 only-memory refusal.Full is = absurd (omega arith)
 only-memory refusal.Word is = absurd (omega arith)
 only-memory refusal.Memory is = refl

@@ -1,5 +1,5 @@
 -- What is given back over a list of C's calls.
-use Rattle.std.proofs.Common.{◌≡◌, ◌+◌, nat_le, ℕ, List, [], ◌∷◌, ◌++◌, drop, length, map, Option, Some, None, option_to_list, Err, refl, ap, sym, ◌∙◌, append_assoc, append-nil, true, false, Bool}
+use Rattle.std.proofs.Common.{◌≡◌, ◌+◌, nat_le, ℕ, List, [], ◌∷◌, ◌++◌, drop, length, map, Option, Some, None, option_to_list, Result, Ok, Err, refl, ap, sym, ◌∙◌, append_assoc, append-nil, true, false, Bool}
 use Rattle.std.specs.Prelude.{if◌then◌else◌}
 use Rattle.std.proofs.lemmas.List.{map-append}
 use Rattle.mbj_types.specs.declared.job.Job.{Job}
@@ -12,15 +12,17 @@ use Rattle.mbj_manager.specs.State.{ManagerState}
 use Rattle.mbj_manager.proofs.CallLaws.{given-order, submitted-order}
 use Rattle.mbj_c.specs.declared.giving.Call.{Call}
 use Rattle.mbj_c.specs.declared.giving.Call.TheVariants as call
+use Rattle.mbj_c.specs.declared.giving.RawDone.{RawDone}
 use Rattle.mbj_c.specs.Given.{Given}
 use Rattle.mbj_c.specs.declared.refusal.Refusal.{Refusal}
 use Rattle.mbj_c.specs.declared.refusal.Refusal.TheVariants as refusal
-use Rattle.mbj_c.specs.Calls.{CallOfC, fills, gives, uses, GivesInOrder, after_calls, called_of, given_back, given_in, given_of, jobs_by, jobs_in, jobs_submitted}
+use Rattle.mbj_c.specs.Calls.{CallOfC, fills, gives, submits, uses, GivesInOrder, after_calls, called_of, given_back, given_in, given_of, jobs_by, jobs_filled, jobs_in, jobs_submitted}
 use Rattle.mbj_c.specs.Filling.{filled_at, filled_with, job_said}
 use Rattle.mbj_c.specs.Giving.{called_by, found_by, given_with, job_entered, manager_step, owed_in, refusal_in, step}
 use Rattle.mbj_c.specs.KeySets.{using}
 use Rattle.mbj_c.specs.Ranges.{given_range}
 use Rattle.mbj_c.specs.State.{RangedState, new_ranged}
+use Rattle.mbj_c.specs.Submitting.{submitted_by}
 use Rattle.mbj_c.proofs.Ranges.{head_or, opened-after, opened-with, ranges-in, ranges-left, results-in, results-left}
 
 -- the state owes what these jobs are owed, and has the ranges of the open ones
@@ -88,11 +90,18 @@ filled-owes : (is_full : Bool) (i : ℕ) (said : Option Job) (k : RangedState) (
 filled-owes true i said k jobs owes = owes
 filled-owes false i said k jobs owes = said-owes i said k jobs owes
 
+submitted-leaves : (filling : Result Unit Refusal) (k : RangedState) (out : RawDone) (jobs : List Job) → Owes k jobs
+    → Leaves (given_in (submitted_by filling k out).0) (submitted_by filling k out).1 (jobs ++ jobs_filled filling k out)
+submitted-leaves (Ok u) k out jobs owes = called-leaves (refusal_in call.Submit k out) call.Submit k jobs owes
+submitted-leaves (Err r) k out jobs owes = nothing-given k jobs owes
+
 call-leaves : (c : CallOfC) (k : RangedState) (jobs : List Job) → Owes k jobs
     → Leaves (called_of c k).0 (called_of c k).1 (jobs ++ jobs_in c k)
 call-leaves (fills i r) k jobs owes =
     nothing-given (filled_at i r k).1 jobs (filled-owes (nat_le CELLS (length k.manager.owed + i)) i (job_said r) k jobs owes)
 call-leaves (gives c out) k jobs owes = called-leaves (refusal_in c k out) c k jobs owes
+call-leaves (submits r out) k jobs owes =
+    submitted-leaves (filled_at 0 r k).0 (filled_at 0 r k).1 out jobs (filled-owes (nat_le CELLS (length k.manager.owed + 0)) 0 (job_said r) k jobs owes)
 call-leaves (uses notes) k jobs owes =
     nothing-given (using notes k) jobs (record { results = owes.results; ranges = owes.ranges; filled = owes.filled })
 

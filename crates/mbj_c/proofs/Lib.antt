@@ -9,6 +9,8 @@ mod Packets
 mod CallLaws
 mod Answered
 mod Refused
+mod Called
+mod Submitting
 mod Bursting
 mod Cells
 mod Openings

@@ -1,39 +1,38 @@
--- The ranges that are kept beside a manager once it made a call.
-use Rattle.std.proofs.Common.{set, slice_get, ◌≡◌, ◌≤◌, ◌+◌, ◌++◌, ℕ, List, [], ◌∷◌, length, drop, take, map, Option, None, Some, refl, sym, ap, ◌∙◌, subst, arith}
-use Rattle.std.specs.Prelude.{false, nat_le, option_to_list, true}
-use Rattle.std.proofs.lemmas.Bool.{and_parts, leb-true}
+-- The ranges of a manager's jobs, once it made a call.
+use Rattle.std.proofs.Common.{set, slice_get, ◌≡◌, ◌≢◌, ◌≤◌, ◌+◌, ◌++◌, ◌&&◌, ℕ, Bool, List, [], ◌∷◌, length, drop, take, map, not, Option, None, Some, refl, sym, ap, ap₂, ◌∙◌, subst, arith}
+use Rattle.std.specs.Prelude.{false, nat_le, option_map, option_to_list, true}
+use Rattle.std.specs.Option.{option_map_or}
+use Rattle.std.proofs.lemmas.Bool.{and_from, and_parts, le-leb, leb-true}
 use Rattle.std.proofs.lemmas.List.{append-nil, drop-map, length-map, map-append, take-map}
 use Rattle.mbj_types.specs.declared.job.Job.{Job}
 use Rattle.mbj_types.specs.declared.job.Cipher.{Cipher}
 use Rattle.mbj_types.specs.declared.job.Cipher.TheVariants as cipher
 use Rattle.mbj_types.specs.declared.done.Done.{Done}
+use Rattle.mbj_types.specs.declared.done.Status.{Status}
+use Rattle.mbj_types.specs.declared.done.Status.TheVariants as status
 use Rattle.mbj_types.specs.declared.reason.Reason.{Reason}
 use Rattle.mbj_types.specs.declared.limits.TheConstants.{MAX_TAG_BYTES}
-use Rattle.mbj_types.specs.Result.{result_of}
+use Rattle.mbj_types.specs.Result.{accepted, refused, result_of}
 use Rattle.mbj_types.specs.Verdict.{verdict, is_null_cipher}
 use Rattle.mbj_args.proofs.Accepted as table
-use Rattle.mbj_ring.specs.Ring.{RingState}
 use Rattle.mbj_stage.proofs.PacketLengths.{length-result_of}
+use Rattle.mbj_stage.specs.Handing.{without_packet}
 use Rattle.mbj_keys.specs.Sessions.{Known}
-use Rattle.mbj_manager.specs.State.{ManagerState}
-use Rattle.mbj_manager.proofs.CallLaws.{given-opened, submitted-opened}
+use Rattle.mbj_manager.specs.Machine.Stages.{Pending}
+use Rattle.mbj_manager.specs.State.{ManagerState, after_get_completed, entered_at, given_at}
+use Rattle.mbj_manager.specs.Written.{first_range, first_range_at, range_if, written_by}
+use Rattle.mbj_manager.proofs.CallLaws.{given-opened, given-order, submitted-opened}
 use Rattle.mbj_manager.specs.Machine.Course.{flushed}
 use Rattle.mbj_c.specs.declared.giving.Call.{Call}
 use Rattle.mbj_c.specs.declared.giving.Call.TheVariants as call
 use Rattle.mbj_c.specs.declared.giving.RawDone.{RawDone}
 use Rattle.mbj_c.specs.declared.range.CipherRange.{CipherRange}
-use Rattle.mbj_c.specs.Filling.{put_at, with_cell}
-use Rattle.mbj_c.specs.Giving.{filled_after, found_by, has_room_for, job_entered, manager_step, owed_in, ranges_entered}
-use Rattle.mbj_c.specs.Inside.Ranges.{AreOfJobs, AreRanges}
+use Rattle.mbj_c.specs.Filling.{put_at, with_cell, with_job_at}
+use Rattle.mbj_c.specs.Giving.{filled_after, found_by, given_first, gone, has_room_for, job_entered, made_by, manager_step, owed_in, ranges_entered, step}
+use Rattle.mbj_c.specs.Inside.Ranges.{AreOfJobs}
 use Rattle.mbj_c.specs.Inside.Room.{Fits}
-use Rattle.mbj_c.specs.Ranges.{given_range, range_by, written_range}
-
--- the first range, written back as it was read
-pub first-set : (ranges : List CipherRange) (range : CipherRange) → slice_get ranges 0 ≡ Some range → set ranges 0 range ≡ ranges
-first-set [] range is = refl
-first-set (r ∷ ranges) range is =
-    let same : range ≡ r = cc in
-    ap (λ s. s ∷ ranges) same
+use Rattle.mbj_c.specs.Ranges.{given_range, range_by, range_owed, ranges_owed, written_range}
+use Rattle.mbj_c.specs.State.{RangedState, ranged}
 
 -- ---- the open jobs
 
@@ -126,63 +125,213 @@ result-fits d after (j ∷ jobs) out order room =
       tag = leb-true MAX_TAG_BYTES (length out.tag.now) parts.1;
     }
 
--- ---- a call
+-- ---- the ranges by results and jobs
 
--- the results that are owed and the ranges, once a call's job is submitted
-pub of-jobs-in : (c : Call) (m : ManagerState) (ranges filled : List CipherRange)
-    → AreOfJobs m.owed ranges → filled ≡ map given_range m.opened → AreOfJobs (owed_in c m) (ranges ++ ranges_entered c filled)
-of-jobs-in c m ranges filled are is = record {
+without-its-packet : (c : Cipher) (j : Job) → written_range c (without_packet j) ≡ written_range c j
+without-its-packet cipher.Null j = refl
+without-its-packet cipher.Cbc j = refl
+without-its-packet cipher.Ctr j = refl
+without-its-packet cipher.Gcm j = refl
+without-its-packet cipher.Ccm j = refl
+
+by-verdict : (reason : Option Reason) (j : Job)
+    → range_owed (option_map_or (refused j) reason (accepted j)).status (without_packet j) ≡ range_by reason j
+by-verdict None j = without-its-packet j.cipher j
+by-verdict (Some reason) j = refl
+
+range-owed : (j : Job) → range_owed (result_of j).status (without_packet j) ≡ given_range j
+unfolding result_of
+range-owed j = by-verdict (verdict j) j
+
+ranges-of : (js : List Job) → ranges_owed (map result_of js) (map without_packet js) ≡ map given_range js
+ranges-of [] = refl
+ranges-of (j ∷ js) = ap₂ (λ (r : CipherRange) (rs : List CipherRange). r ∷ rs) (range-owed j) (ranges-of js)
+
+-- the ranges of the results that are owed are those of their jobs
+pub ranges-are : (m : ManagerState) (are : AreOfJobs m) → ranges_owed m.owed m.jobs ≡ map given_range are.jobs
+ranges-are m are =
+    ap₂ (λ (ds : List Done) (js : List Job). ranges_owed ds js) are.results are.asked ∙ ranges-of are.jobs
+
+-- a job that is filled brings its range
+pub filled-ranged : (i : ℕ) (j : Job) (notes : Option (List Known)) (m : ManagerState)
+    → ranged (with_cell i j m) notes ≡ with_job_at i j (ranged m notes)
+filled-ranged i j notes m =
+    ap (λ (fs : List CipherRange). record { manager = with_cell i j m; ranges = ranges_owed m.owed m.jobs; filled = fs; notes = notes })
+    (sym (opened-with i j m.opened (map given_range m.opened) refl))
+
+-- ---- a call, but for giving back
+
+entered-owed : (o : List Job) (m : ManagerState) → (entered_at o m).owed ≡ m.owed ++ map result_of (take 1 o)
+entered-owed [] m = sym (append-nil m.owed)
+entered-owed (j ∷ js) m = refl
+
+entered-asked : (o : List Job) (m : ManagerState) → (entered_at o m).jobs ≡ m.jobs ++ map without_packet (take 1 o)
+entered-asked [] m = sym (append-nil m.jobs)
+entered-asked (j ∷ js) m = refl
+
+entered-opened : (o : List Job) (m : ManagerState) → m.opened ≡ o → (entered_at o m).opened ≡ drop 1 o
+entered-opened [] m is = is
+entered-opened (j ∷ js) m is = refl
+
+made-owed : (c : Call) (notes : Option (List Known)) (m : ManagerState) → (made_by c notes m).owed ≡ owed_in c m
+made-owed call.Submit notes m = entered-owed m.opened m
+made-owed call.Completed notes m = refl
+made-owed call.Flush notes m = refl
+
+made-asked : (c : Call) (notes : Option (List Known)) (m : ManagerState) (jobs : List Job) → m.jobs ≡ map without_packet jobs
+    → (made_by c notes m).jobs ≡ map without_packet (jobs ++ job_entered c m.opened)
+made-asked call.Submit notes m jobs are =
+    entered-asked m.opened m ∙ ap (λ (js : List Job). js ++ map without_packet (take 1 m.opened)) are
+    ∙ sym (map-append without_packet jobs (take 1 m.opened))
+made-asked call.Completed notes m jobs are = are ∙ ap (map without_packet) (sym (append-nil jobs))
+made-asked call.Flush notes m jobs are = are ∙ ap (map without_packet) (sym (append-nil jobs))
+
+made-opened : (c : Call) (notes : Option (List Known)) (m : ManagerState)
+    → map given_range (made_by c notes m).opened ≡ filled_after c (map given_range m.opened)
+made-opened call.Submit notes m =
+    ap (map given_range) (entered-opened m.opened m refl) ∙ sym (drop-map given_range 1 m.opened)
+made-opened call.Completed notes m = refl
+made-opened call.Flush notes m = refl
+
+pub made-of-jobs : (c : Call) (notes : Option (List Known)) (m : ManagerState) → AreOfJobs m → AreOfJobs (made_by c notes m)
+made-of-jobs c notes m are = record {
   jobs = are.jobs ++ job_entered c m.opened;
-  results = results-in c m are.jobs are.results;
-  given = ranges-in c m.opened ranges filled are.jobs are.given is;
+  results = made-owed c notes m ∙ results-in c m are.jobs are.results;
+  asked = made-asked c notes m are.jobs are.asked;
 }
 
-of-jobs-left : (done : Option Done) (after owed : List Done) (ranges : List CipherRange) → option_to_list done ++ after ≡ owed
-    → AreOfJobs owed ranges → AreOfJobs after (drop (length (option_to_list done)) ranges)
-of-jobs-left done after owed ranges order are = record {
-  jobs = drop (length (option_to_list done)) are.jobs;
-  results = results-left done after owed are.jobs order are.results;
-  given = ranges-left done ranges are.jobs are.given;
-}
+pub made-ranged : (c : Call) (notes : Option (List Known)) (m : ManagerState) → AreOfJobs m
+    → ranged (made_by c notes m) notes ≡ gone c (ranged m notes)
+unfolding made-of-jobs
+made-ranged c notes m are =
+    ap₂ (λ (rs : List CipherRange) (fs : List CipherRange). record { manager = made_by c notes m; ranges = rs; filled = fs; notes = notes })
+    (ranges-are (made_by c notes m) (made-of-jobs c notes m are)
+    ∙ sym (ranges-in c m.opened (ranges_owed m.owed m.jobs) (map given_range m.opened) are.jobs (ranges-are m are) refl))
+    (made-opened c notes m)
 
--- as many ranges are kept as results are owed
-pub as-many-ranges : (m : ManagerState) (ranges : RingState CipherRange) → AreRanges m ranges → length ranges.values ≡ length m.owed
-as-many-ranges m ranges are =
-    let owed : length m.owed ≡ length are.owed.jobs = ap length are.owed.results ∙ length-map are.owed.jobs result_of in
-    let kept : length ranges.values ≡ length are.owed.jobs = ap length are.owed.given ∙ length-map are.owed.jobs given_range in
-    omega arith
+-- ---- giving back
 
--- and as many open ones as jobs are open
-pub as-many-open : (m : ManagerState) (ranges : RingState CipherRange) → AreRanges m ranges → length ranges.opened ≡ length m.opened
-as-many-open m ranges are = ap length are.opened ∙ length-map m.opened given_range
+given-asked : (ds : List Done) (left : List (List Pending)) (m : ManagerState)
+    → (given_at ds left m).1.jobs ≡ drop (length (option_to_list (given_at ds left m).0)) m.jobs
+given-asked [] left m = refl
+given-asked (d ∷ ds) [] m = refl
+given-asked (d ∷ ds) ([] ∷ left) m = refl
+given-asked (d ∷ ds) ((p ∷ ps) ∷ left) m = refl
 
--- the ranges after a job is filled
-pub ranges-filled : (i : ℕ) (j : Job) (m : ManagerState) (before ranges : RingState CipherRange) → AreRanges m before
-    → ranges.values ≡ before.values → ranges.opened ≡ put_at i (given_range j) before.opened → AreRanges (with_cell i j m) ranges
-ranges-filled i j m before ranges are values opened = record {
-  owed = subst (AreOfJobs m.owed) (sym values) are.owed;
-  opened = opened ∙ opened-with i j m.opened before.opened are.opened;
-}
+pub given-of-jobs : (m : ManagerState) → AreOfJobs m → AreOfJobs (after_get_completed m).1
+given-of-jobs m are =
+    let done = (after_get_completed m).0 in
+    record {
+      jobs = drop (length (option_to_list done)) are.jobs;
+      results = results-left done (after_get_completed m).1.owed m.owed are.jobs (given-order m) are.results;
+      asked = given-asked m.owed m.machine.left m ∙ ap (drop (length (option_to_list done))) are.asked
+          ∙ drop-map without_packet (length (option_to_list done)) are.jobs;
+    }
 
--- what is given back fits with the first range
-pub given-fits : (c : Call) (m : ManagerState) (d : Done) (after : List Done) (ranges filled : List CipherRange) (out : RawDone)
-    → AreOfJobs m.owed ranges → filled ≡ map given_range m.opened → d ∷ after ≡ owed_in c m
-    → has_room_for (slice_get (ranges ++ ranges_entered c filled) 0) out ≡ true → Fits d (ranges ++ ranges_entered c filled) out
-given-fits c m d after ranges filled out are is order room =
-    let those = of-jobs-in c m ranges filled are is in
-    subst (λ (rs : List CipherRange). Fits d rs out) (sym those.given)
-    (result-fits d after those.jobs out (order ∙ those.results)
-    (subst (λ (rs : List CipherRange). has_room_for (slice_get rs 0) out ≡ true) those.given room))
+pub given-ranged : (notes : Option (List Known)) (m : ManagerState) → AreOfJobs m
+    → ranged (after_get_completed m).1 notes ≡ (given_first (ranged m notes)).1
+unfolding given-of-jobs
+given-ranged notes m are =
+    let done = (after_get_completed m).0 in
+    let after : ManagerState = (after_get_completed m).1 in
+    ap₂ (λ (rs : List CipherRange) (fs : List CipherRange). record { manager = after; ranges = rs; filled = fs; notes = notes })
+    (ranges-are after (given-of-jobs m are) ∙ sym (ranges-left done (ranges_owed m.owed m.jobs) are.jobs (ranges-are m are)))
+    (ap (map given_range) (given-opened m.owed m.machine.left m))
 
--- the ranges after a call
-pub ranges-after : (c : Call) (notes : Option (List Known)) (m after : ManagerState) (done : Option Done)
-    (before ranges : RingState CipherRange)
-    → AreRanges m before → after ≡ (manager_step c notes m).1 → option_to_list done ++ after.owed ≡ owed_in c m
-    → ranges.values ≡ drop (length (option_to_list done)) (before.values ++ ranges_entered c before.opened)
-    → ranges.opened ≡ filled_after c before.opened → AreRanges after ranges
-ranges-after c notes m after done before ranges are is order values kept = record {
-  owed = subst (AreOfJobs after.owed) (sym values)
-      (of-jobs-left done after.owed (owed_in c m) (before.values ++ ranges_entered c before.opened) order
-      (of-jobs-in c m before.values before.opened are.owed are.opened));
-  opened = kept ∙ opened-after c notes m before.opened are.opened ∙ ap (λ n. map given_range n.opened) (sym is);
-}
+-- a whole call is the two
+pub step-gone : (c : Call) (k : RangedState) → step c k ≡ given_first (gone c k)
+step-gone call.Submit k = refl
+step-gone call.Completed k = refl
+step-gone call.Flush k = refl
+
+-- ---- the first range
+
+-- as the manager tells it
+abbrev pub as_range : ℕ × ℕ → CipherRange
+as_range r = record { off = r.0; len = r.1 }
+
+as-written : (c : Cipher) (j : Job) → written_range c j ≡ as_range (range_if (not (is_null_cipher c)) j)
+as-written cipher.Null j = refl
+as-written cipher.Cbc j = refl
+as-written cipher.Ctr j = refl
+as-written cipher.Gcm j = refl
+as-written cipher.Ccm j = refl
+
+as-owed : (s : Status) (j : Job) → range_owed s j ≡ as_range (written_by s j)
+as-owed status.Ok j = as-written j.cipher j
+as-owed (status.InvalidArgs reason) j = refl
+
+first-owed : (ds : List Done) (js : List Job) → slice_get (ranges_owed ds js) 0 ≡ option_map as_range (first_range_at ds js)
+first-owed [] js = refl
+first-owed (d ∷ ds) [] = refl
+first-owed (d ∷ ds) (j ∷ js) = ap Some (as-owed d.status j)
+
+pub first-of : (m : ManagerState) → slice_get (ranges_owed m.owed m.jobs) 0 ≡ option_map as_range (first_range m)
+first-of m = first-owed m.owed m.jobs
+
+-- the first of these results is given back: its range is the one that is told, and is within its packet
+first-result : (jobs : List Job) (d : Done) (after : List Done) (r : CipherRange) → d ∷ after ≡ map result_of jobs
+    → slice_get (map given_range jobs) 0 ≡ Some r → r.off + r.len ≤ length d.packet
+first-result [] d after r order is = cc
+first-result (j ∷ js) d after r order is =
+    let same : given_range j ≡ r = cc in
+    let first : result_of j ≡ d = sym (ap (head_or d) order) in
+    subst (λ (x : CipherRange). x.off + x.len ≤ length d.packet) same
+    (subst (λ (e : Done). (given_range j).off + (given_range j).len ≤ length e.packet) first (given-within j))
+
+some-result : (jobs : List Job) (d : Done) (after : List Done) → d ∷ after ≡ map result_of jobs → slice_get (map given_range jobs) 0 ≢ None
+some-result [] d after order is = cc
+some-result (j ∷ js) d after order is = cc
+
+pub first-within : (m : ManagerState) (d : Done) (after : List Done) (off len : ℕ) → AreOfJobs m → d ∷ after ≡ m.owed → first_range m ≡ Some (off, len)
+    → off + len ≤ length d.packet
+first-within m d after off len are order is =
+    first-result are.jobs d after (as_range (off, len)) (order ∙ are.results)
+    (ap (λ (rs : List CipherRange). slice_get rs 0) (sym (ranges-are m are)) ∙ first-of m ∙ ap (option_map as_range) is)
+
+pub first-told : (m : ManagerState) (d : Done) (after : List Done) → AreOfJobs m → d ∷ after ≡ m.owed → first_range m ≢ None
+first-told m d after are order is =
+    some-result are.jobs d after (order ∙ are.results)
+    (ap (λ (rs : List CipherRange). slice_get rs 0) (sym (ranges-are m are)) ∙ first-of m ∙ ap (option_map as_range) is)
+
+module _ {A : Type 0} where
+  pub first-some : (xs ys : List A) (x : A) → slice_get xs 0 ≡ Some x → slice_get (xs ++ ys) 0 ≡ Some x
+  first-some [] ys x is = cc
+  first-some (z ∷ xs) ys x is = is
+
+  pub first-none : (xs ys : List A) → slice_get xs 0 ≡ None → slice_get (xs ++ ys) 0 ≡ slice_get ys 0
+  first-none [] ys is = refl
+  first-none (z ∷ xs) ys is = cc
+
+  pub first-taken : (xs : List A) → slice_get (take 1 xs) 0 ≡ slice_get xs 0
+  first-taken [] = refl
+  first-taken (z ∷ xs) = refl
+
+  pub first-mapped : {B : Type 0} (f : A → B) (xs : List A) (x : A) → slice_get xs 0 ≡ Some x → slice_get (map f xs) 0 ≡ Some (f x)
+  first-mapped f [] x is = cc
+  first-mapped f (z ∷ xs) x is = let same : z ≡ x = cc in ap (λ (y : A). Some (f y)) same
+
+  pub first-same : (xs : List A) (x : A) → slice_get xs 0 ≡ Some x → set xs 0 x ≡ xs
+  first-same [] x is = refl
+  first-same (z ∷ xs) x is = let same : z ≡ x = cc in ap (λ (y : A). y ∷ xs) (sym same)
+
+-- ---- room
+
+shorter : (c : Cipher) (j : Job) → (written_range c j).len ≤ j.cipher_len
+shorter cipher.Null j = omega arith
+shorter cipher.Cbc j = omega arith
+shorter cipher.Ctr j = omega arith
+shorter cipher.Gcm j = omega arith
+shorter cipher.Ccm j = omega arith
+
+given-shorter : (reason : Option Reason) (j : Job) → (range_by reason j).len ≤ j.cipher_len
+given-shorter None j = shorter j.cipher j
+given-shorter (Some reason) j = omega arith
+
+-- where there is room for the range that a job says, there is for the one that it gives back
+pub shorter-fits : (j : Job) (room : ℕ) (tag : Bool) → (nat_le j.cipher_len room && tag) ≡ true → (nat_le (given_range j).len room && tag) ≡ true
+shorter-fits j room tag fits =
+    let parts = and_parts (nat_le j.cipher_len room) tag fits in
+    let within : j.cipher_len ≤ room = leb-true j.cipher_len room parts.0 in
+    let less = given-shorter (verdict j) j in
+    and_from (nat_le (given_range j).len room) tag (le-leb (given_range j).len room (omega arith)) parts.1

@@ -1,12 +1,14 @@
 -- A filling that is refused changes nothing.
-use Rattle.std.proofs.Common.{◌≡◌, ◌≢◌, ◌+◌, ℕ, nat_le, Err, None, Option, Result, Some, ap, length, refl}
-use Rattle.std.proofs.lemmas.Bool.{cond_both}
+use Rattle.std.proofs.Common.{◌≡◌, ◌≢◌, ◌+◌, ◌<◌, ◌∙◌, ℕ, nat_le, Bool, Err, None, Ok, Option, Result, Some, ap, length, refl}
+use Rattle.std.specs.Prelude.{option_map, if◌then◌else◌}
+use Rattle.std.proofs.lemmas.Bool.{cond_both, lt-leb}
 use Rattle.mbj_types.specs.declared.job.Job.{Job}
 use Rattle.mbj_ring.specs.declared.ring.TheConstants.{CELLS}
 use Rattle.mbj_c.specs.declared.job.RawJob.{RawJob}
+use Rattle.mbj_c.specs.declared.words.Words.{Words}
 use Rattle.mbj_c.specs.declared.refusal.Refusal.{Refusal}
 use Rattle.mbj_c.specs.declared.refusal.Refusal.TheVariants as refusal
-use Rattle.mbj_c.specs.Filling.{filled_at, filled_cell, filled_with, job_said}
+use Rattle.mbj_c.specs.Filling.{filled_at, filled_cell, filled_with, job_said, job_with, with_job_at, words_said}
 use Rattle.mbj_c.specs.State.{RangedState}
 
 said-refused : (i : ℕ) (said : Option Job) (k : RangedState) (q : Refusal) → (filled_with i said k).0 ≡ Err q → (filled_with i said k).1 ≡ k
@@ -27,7 +29,7 @@ said-for-another : (i : ℕ) (said : Option Job) (k : RangedState) → (filled_w
 said-for-another i None k is = absurd (cc)
 said-for-another i (Some j) k is = absurd (cc)
 
-at-for-another : (i : ℕ) (r : RawJob) (k : RangedState) → (filled_at i r k).0 ≢ Err refusal.Memory
+pub at-for-another : (i : ℕ) (r : RawJob) (k : RangedState) → (filled_at i r k).0 ≢ Err refusal.Memory
 at-for-another i r k =
     cond_both (nat_le CELLS (length k.manager.owed + i)) (Err refusal.Full, k) (filled_with i (job_said r) k)
     (λ (a : Result Unit Refusal × RangedState). a.0 ≢ Err refusal.Memory) (λ full is. absurd (cc)) (λ room. said-for-another i (job_said r) k)
@@ -35,3 +37,10 @@ at-for-another i r k =
 pub refused-for-another : (i : ℕ) (r : RawJob) (m : Option RangedState) → (filled_cell i r m).0 ≢ Err refusal.Memory
 refused-for-another i r None is = absurd (cc)
 refused-for-another i r (Some k) is = at-for-another i r k is
+
+-- a filling that nothing speaks against
+pub filled-is : (i : ℕ) (r : RawJob) (w : Words) (k : RangedState) → length k.manager.owed + i < CELLS → words_said r ≡ Some w
+    → filled_at i r k ≡ (Ok tt, with_job_at i (job_with r w) k)
+filled-is i r w k room said =
+    ap (λ (b : Bool). if b then (Err refusal.Full, k) else filled_with i (job_said r) k) (lt-leb CELLS (length k.manager.owed + i) room)
+    ∙ ap (λ (o : Option Words). filled_with i (option_map (job_with r) o) k) said

@@ -5,7 +5,8 @@ use Rattle.mbj_types.specs.declared.job.Job.{Job}
 use Rattle.mbj_types.specs.declared.limits.TheConstants.{MAX_TAG_BYTES}
 use Rattle.mbj_types.specs.Result.{result_of}
 use Rattle.mbj_keys.specs.Sessions.{Known}
-use Rattle.mbj_manager.specs.State.{ManagerState, after_submit_by, after_get_completed, after_flush, finds}
+use Rattle.mbj_manager.specs.Machine.Course.{flushed}
+use Rattle.mbj_manager.specs.State.{ManagerState, after_submit_by, after_get_completed, after_flush, counted, entered, finds}
 use Rattle.mbj_c.specs.declared.giving.Call.{Call}
 use Rattle.mbj_c.specs.declared.giving.Call.TheVariants as call
 use Rattle.mbj_c.specs.Given.{Given}
@@ -29,6 +30,12 @@ abbrev pub manager_step : Call → Option (List Known) → ManagerState → Opti
 manager_step call.Submit notes m = after_submit_by (found_by notes m.opened) m
 manager_step call.Completed notes m = after_get_completed m
 manager_step call.Flush notes m = after_flush m
+
+-- the manager once the call is made, but for giving back
+abbrev pub made_by : Call → Option (List Known) → ManagerState → ManagerState
+made_by call.Submit notes m = counted (found_by notes m.opened) m (entered m)
+made_by call.Completed notes m = m
+made_by call.Flush notes m = record m { machine = flushed m.machine }
 
 -- the results that are owed once the call's job, where it has one, is submitted: the first one is the one that may be given back
 abbrev pub owed_in : Call → ManagerState → List Done
@@ -79,6 +86,28 @@ step c k =
         manager = (manager_step c k.notes k.manager).1;
         ranges = drop (length (option_to_list done)) (ranges_in c k);
         filled = filled_after c k.filled;
+        notes = k.notes;
+      },
+    )
+
+-- the state once the call is made, but for giving back
+abbrev pub gone : Call → RangedState → RangedState
+gone c k = record {
+  manager = made_by c k.notes k.manager;
+  ranges = ranges_in c k;
+  filled = filled_after c k.filled;
+  notes = k.notes;
+}
+
+-- the first result is given back where it is finished
+abbrev pub given_first : RangedState → Option Given × RangedState
+given_first k =
+    let done = (after_get_completed k.manager).0 in (
+      given_with done k.ranges,
+      record {
+        manager = (after_get_completed k.manager).1;
+        ranges = drop (length (option_to_list done)) k.ranges;
+        filled = k.filled;
         notes = k.notes;
       },
     )

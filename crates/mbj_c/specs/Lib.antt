@@ -7,6 +7,7 @@ pub mod Counts
 pub mod Filling
 pub mod Given
 pub mod Giving
+pub mod Submitting
 pub mod KeySets
 pub mod Calls
 pub mod Bursts

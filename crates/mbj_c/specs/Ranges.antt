@@ -1,5 +1,8 @@
 -- Which bytes of its packet a job gives back.
-use Rattle.std.specs.Prelude.{ℕ, ◌+◌, ◌^◌, ◌-◌, List, ◌++◌, take, drop, nat_lt, Option, Some, None, if◌then◌else◌}
+use Rattle.std.specs.Prelude.{ℕ, ◌+◌, ◌^◌, ◌-◌, List, [], ◌∷◌, ◌++◌, take, drop, nat_lt, Option, Some, None, if◌then◌else◌}
+use Rattle.mbj_types.specs.declared.done.Done.{Done}
+use Rattle.mbj_types.specs.declared.done.Status.{Status}
+use Rattle.mbj_types.specs.declared.done.Status.TheVariants as status
 use Rattle.mbj_types.specs.declared.job.Cipher.{Cipher}
 use Rattle.mbj_types.specs.declared.job.Cipher.TheVariants as cipher
 use Rattle.mbj_types.specs.declared.job.Job.{Job}
@@ -25,6 +28,15 @@ range_by (Some r) j = no_range
 
 abbrev pub given_range : Job → CipherRange
 given_range j = range_by (verdict j) j
+
+-- that of a job by the status of its result and by what is asked for, which is the job without its packet
+abbrev pub range_owed : Status → Job → CipherRange
+range_owed status.Ok j = written_range j.cipher j
+range_owed (status.InvalidArgs reason) j = no_range
+
+abbrev pub ranges_owed : List Done → List Job → List CipherRange
+ranges_owed (d ∷ ds) (j ∷ js) = range_owed d.status j ∷ ranges_owed ds js
+ranges_owed ds js = []
 
 -- the bytes of the packet p in a range
 abbrev pub bytes_in : CipherRange → List ℕ → List ℕ

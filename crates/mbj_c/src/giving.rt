@@ -1,20 +1,14 @@
 //! The calls that may give a result back.
 
-ghost use Rattle.std.specs.Prelude.{◌≡◌, ◌++◌, ◌+◌, ◌≤◌, [], drop, false, length, option_to_list};
-ghost use Rattle.std.specs.Bool.{OnFalse, OnTrue};
-ghost use Rattle.mbj_types.specs.Blank.{blank};
+ghost use Rattle.std.specs.Prelude.{◌≡◌, ◌++◌, ◌+◌, ◌≤◌, ◌&&◌, nat_le, drop, length};
 ghost use Rattle.mbj_types.specs.declared.limits.TheConstants.{MAX_TAG_BYTES};
 ghost use Rattle.mbj_stage.specs.CourseState.{owed};
-ghost use Rattle.mbj_manager.specs.Cells as cells;
-ghost use Rattle.mbj_manager.specs.Cells.{IsFinished, course_in, given_by};
-ghost use Rattle.mbj_c.specs.Inside.Room.{HasJob};
-ghost use Rattle.mbj_c.specs.Giving.{IsWritten, has_room_for, manager_step, owed_in};
-ghost use Rattle.mbj_c.specs.declared.giving.Call.TheVariants as call;
+ghost use Rattle.mbj_manager.specs.Cells.{IsFinished, course_in};
+ghost use Rattle.mbj_c.specs.Giving.{IsWritten};
 ghost use Rattle.mbj_c.specs.Codes.{reason_code, status_code};
 
 use crate::range::CipherRange;
-use crate::sessions::{Sessions, submit};
-use mbj_manager::{Cell, Manager};
+use mbj_manager::Cell;
 use mbj_types::{MAX_TAG_BYTES, Status};
 
 /// Where a result goes.
@@ -41,33 +35,6 @@ pub(crate) enum Call {
     Submit,
     Completed,
     Flush,
-}
-
-impl Call {
-    /// Makes the call, which gives a job back in the cell, or none. Returns whether it gives one. Where it submits a job, it uses
-    /// the key sessions, if there are any.
-    pub(crate) fn make(
-        self,
-        manager: &mut Manager,
-        sessions: &mut Option<Sessions>,
-        given: &mut Cell,
-    ) -> bool
-        requires job { HasJob self manager.old }
-        requires blank { given.old ≡ cells.Open blank }
-        ensures same { sessions.new ≡ sessions.old }
-        ensures result { given_by result given.new ≡ (manager_step self sessions.old manager.old).0 }
-        ensures finished { OnTrue result (IsFinished given.new) }
-        ensures blank { OnFalse result (given.new ≡ cells.Open blank) }
-        ensures state { manager.new ≡ (manager_step self sessions.old manager.old).1 }
-        ensures order { option_to_list (given_by result given.new) ++ manager.new.owed ≡ owed_in self manager.old }
-        ensures drained { self ≡ call.Flush → result ≡ false → manager.old.owed ≡ [] }
-    {
-        match self {
-            Call::Submit => submit(manager, sessions, given),
-            Call::Completed => manager.give_into(given),
-            Call::Flush => manager.flush_into(given),
-        }
-    }
 }
 
 /// Writes bytes to the front of their room.
@@ -99,14 +66,11 @@ fn reason_of(status: Status) -> u32
 }
 
 impl RawDone<'_> {
-    /// Whether there is room for this range, where there is one, and any tag.
-    pub(crate) fn has_room(&self, range: Option<CipherRange>) -> bool
-        ensures { result ≡ has_room_for range self.now }
+    /// Whether there is room for a range of this length, and any tag.
+    pub(crate) fn has_room(&self, len: u32) -> bool
+        ensures { result ≡ (nat_le len (length self.now.dst.now) && nat_le MAX_TAG_BYTES (length self.now.tag.now)) }
     {
-        match range {
-            Some(range) => range.len as usize <= self.dst.len() && MAX_TAG_BYTES <= self.tag.len(),
-            None => true,
-        }
+        len as usize <= self.dst.len() && MAX_TAG_BYTES <= self.tag.len()
     }
 
     /// Writes the result of a job that is finished, with only this range of its packet.

@@ -1,14 +1,15 @@
 //! The manager for C programs, as a static library.
 //!
 //! A handle holds a manager, or none: C keeps it as one pointer, which is null at first. `mbj_c_new` makes a manager,
-//! `mbj_c_free` frees it. `mbj_c_fill` copies a job of C's into the next cell, and `mbj_c_submit` submits it.
-//! `mbj_c_submit`, `mbj_c_get_completed` and `mbj_c_flush` give results back in the order of submission: of a packet only
-//! the ciphered range. Other calls need no manager. Only making a manager, filling a job, making, sharing and using key
-//! sessions, and a text by CCM take memory.
+//! `mbj_c_free` frees it. `mbj_c_fill` copies a job of C's into the next cell, and `mbj_c_submit` submits it;
+//! `mbj_c_submit_job` does both. `mbj_c_submit`, `mbj_c_submit_job`, `mbj_c_get_completed` and `mbj_c_flush` give results back
+//! in the order of submission: of a packet only the ciphered range. Other calls need no manager. Only making a manager, filling
+//! a job, making, sharing and using key sessions, and a text by CCM take memory.
 //!
-//! A call that is refused says so and changes nothing, but for a text whose tag is wrong, which is cleared. What a call
-//! can't look at is promised by C: that pointers point to what their types say, that no two of the things that are written
-//! overlap each other or anything that is read, and that the word in a handle is null or was written by these calls.
+//! A call that is refused says so and changes nothing, but for a text whose tag is wrong, which is cleared, and for a job that
+//! `mbj_c_submit_job` filled where it lacks room, which stays filled. What a call can't look at is promised by C: that pointers
+//! point to what their types say, that no two of the things that are written overlap each other or anything that is read, and
+//! that the word in a handle is null or was written by these calls.
 #![tactic(auto)]
 
 mod bursts;
@@ -42,7 +43,7 @@ pub use exports::bytes::{mbj_c_is_same_tag, mbj_c_wipe};
 pub use exports::gmac::{mbj_gmac_finish, mbj_gmac_init, mbj_gmac_update};
 pub use exports::jobs::{
     mbj_c_fill, mbj_c_fill_burst, mbj_c_flush, mbj_c_flush_burst, mbj_c_get_completed,
-    mbj_c_get_completed_burst, mbj_c_submit, mbj_c_submit_burst,
+    mbj_c_get_completed_burst, mbj_c_submit, mbj_c_submit_burst, mbj_c_submit_job,
 };
 pub use exports::keys::{mbj_c_use_keys, mbj_keys_free, mbj_keys_new, mbj_keys_share};
 pub use exports::managers::{

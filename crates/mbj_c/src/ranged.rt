@@ -1,19 +1,20 @@
-ghost use Rattle.std.specs.Prelude.{◌≡◌, ◌+◌, ◌<◌, ◌≤◌, ◌++◌, IfOk, IsTrue, OnOk, Ok, Some, [], drop, false, length, slice_get, true};
+ghost use Rattle.std.specs.Prelude.{◌≡◌, ◌≢◌, ◌+◌, ◌<◌, ◌≤◌, IfOk, IsTrue, OnOk, None, Ok, Some, [], false, length, map, slice_get};
 ghost use Rattle.std.specs.Bool.{OnTrue};
+ghost use Rattle.mbj_types.specs.Blank.{blank};
 ghost use Rattle.mbj_ring.specs.declared.ring.TheConstants.{CELLS};
 ghost use Rattle.mbj_c.specs.declared.giving.Call.TheVariants as calls;
 ghost use Rattle.mbj_c.specs.Counts.{counts_of};
-ghost use Rattle.mbj_c.specs.Filling.{filled_at, job_with, put_at, with_cell};
-ghost use Rattle.mbj_c.specs.Giving.{IsTold, IsToldAt, called_in, filled_after, first_range, given_with, has_job, has_room_for, ranges_entered, step};
+ghost use Rattle.mbj_c.specs.Filling.{filled_at, job_with, with_cell};
+ghost use Rattle.mbj_c.specs.Giving.{IsTold, IsToldAt, called_in, first_range, given_first, gone, has_job, has_room_for};
 ghost use Rattle.mbj_c.specs.Inside.Answers.{IsDone};
 ghost use Rattle.mbj_c.specs.KeySets.{using};
-ghost use Rattle.mbj_c.specs.Inside.Room.{Fits, HasJob};
+ghost use Rattle.mbj_c.specs.Inside.Room.{HasJob};
 ghost use Rattle.mbj_c.specs.Ranges.{given_range};
 ghost use Rattle.mbj_manager.specs.Cells as cells;
-ghost use Rattle.mbj_manager.specs.Cells.{IsFinished, IsOpen, course_in, job_in};
-ghost use Rattle.mbj_manager.specs.State.{new_manager};
-ghost use Rattle.mbj_stage.specs.CourseState.{owed};
+ghost use Rattle.mbj_manager.specs.Cells.{IsOpen, job_in};
+ghost use Rattle.mbj_manager.specs.State.{after_get_completed, new_manager};
 ghost use Rattle.mbj_c.specs.State.{new_ranged};
+ghost use Rattle.mbj_c.specs.Submitting.{IsSubmittedAs, submitted_in};
 
 use crate::counts::Counts;
 use crate::giving::{Call, RawDone};
@@ -23,18 +24,16 @@ use crate::refusal::Refusal;
 use crate::sessions::Sessions;
 use crate::words::Words;
 use mbj_manager::{Cell, KEPT_BYTES, Manager, SMALL_BYTES};
-use mbj_ring::{CELLS, Ring};
-use mbj_types::Kind;
+use mbj_ring::CELLS;
+use mbj_types::{Job, Kind};
 use std::alloc::{AllocError, Global};
 use std::marker::Model;
 
-/// A manager, with the ranges that the jobs whose results it owes give back, and those of its open jobs. So the room for a result
-/// can be looked at before the result is taken, and only its range is given back. Where it uses a set of key sessions, it knows their
-/// schedules.
+/// A manager, and a blank cell beside its own. The range that the earliest job gives back is read off its cell, so that the room for a
+/// result can be looked at before the result is taken. Where the manager uses a set of key sessions, it knows their schedules.
 #[derive(Drop)]
 pub struct RangedManager {
     manager: Manager,
-    ranges: Ring<CipherRange>,
     sessions: Option<Sessions>,
     // A blank cell beside the manager's own: C's next job is filled in it, and a result is written out of it.
     spare: Cell,
@@ -45,7 +44,7 @@ pub struct RangedManager {
 impl Model for RangedManager {
     ghost use Rattle.std.specs.Coded.{codes};
     ghost use Rattle.mbj_manager.specs.Inside.Code.{state_code};
-    ghost use Rattle.mbj_c.specs.State.{RangedState};
+    ghost use Rattle.mbj_c.specs.State.{RangedState, ranged};
     ghost use Rattle.mbj_c.specs.Code.{ranged_code};
     ghost use Rattle.mbj_c.specs.Inside.Ranges.{IsRanged};
 
@@ -53,9 +52,9 @@ impl Model for RangedManager {
 
     ghost coded = { ranged_code (state_code (Prim.hlevel codes)) (Prim.hlevel codes) };
 
-    ghost view = { λ m. record { manager = m.manager; ranges = m.ranges.values; filled = m.ranges.opened; notes = m.sessions } };
+    ghost view = { λ m. ranged m.manager m.sessions };
 
-    ghost invariant = { λ m. IsRanged m.manager m.ranges m.spare };
+    ghost invariant = { λ m. IsRanged m.manager m.spare };
 }
 
 /// Which blocks of jobs that were given back the cells of a manager keep for later ones.
@@ -91,34 +90,24 @@ fn most_kept(keeping: Keeping) -> usize {
     }
 }
 
-/// Sets the range of the job in this open cell.
-#[tactic(auto, using(crate::proofs::Cells::put_last, crate::proofs::Cells::put_over))]
-fn fill_range(ranges: &mut Ring<CipherRange>, cell: u32, range: CipherRange)
-    requires cell { cell ≤ length ranges.old.opened }
-    requires room { length ranges.old.values + cell < CELLS }
-    ensures values { ranges.new.values ≡ ranges.old.values }
-    ensures filled { ranges.new.opened ≡ put_at cell range ranges.old.opened }
-{
-    if cell == ranges.open_len() {
-        ranges.open_cell(range);
-    } else {
-        *ranges.open_at(cell) = range;
-    }
-}
-
-/// Exchanges the job in `filled` with that in open cell `cell`, the first opened being 0. Where there are `cell` open cells, one more is
-/// opened before.
-fn fill_cell(manager: &mut Manager, cell: u32, filled: &mut Cell)
+/// The job in `filled` takes the place of that in open cell `cell`, the first opened being 0, or goes behind the open ones where there are
+/// `cell` of them. `filled` is blank then, and keeps memory of at most `most` bytes for each field of a job.
+fn fill_cell(manager: &mut Manager, cell: u32, filled: &mut Cell, most: usize)
     requires cell { cell ≤ length manager.old.opened }
     requires room { length manager.old.owed + cell < CELLS }
     requires is_open { IsOpen filled.old }
-    ensures { manager.new ≡ with_cell cell (job_in filled.old) manager.old }
+    ensures state { manager.new ≡ with_cell cell (job_in filled.old) manager.old }
+    ensures blank { filled.new ≡ cells.Open blank }
 {
-    manager.get_next_burst(cell + 1);
-    manager.exchange(cell, filled);
+    if cell == manager.open_len() {
+        manager.open_with(filled);
+    } else {
+        manager.exchange(cell, filled);
+        filled.clear(most);
+    }
 }
 
-/// Fills a cell with C's job. Returns the range that the job gives back.
+/// Fills a cell with C's job.
 ///
 /// Returns `AllocError` for want of memory.
 fn fill_spare(
@@ -126,76 +115,44 @@ fn fill_spare(
     raw: &RawJob<'_>,
     words: Words,
     spare: &mut Cell,
-) -> Result<CipherRange, AllocError>
+) -> Result<(), AllocError>
     requires is_open { IsOpen spare.old }
-    ensures filled { IfOk result (λ _. spare.new ≡ cells.Open (job_with raw.now words)) }
-    ensures range { IfOk result (λ r. r ≡ given_range (job_with raw.now words)) }
+    ensures { IfOk result (λ _. spare.new ≡ cells.Open (job_with raw.now words)) }
 {
     let job = spare.job_mut();
-    raw.refill(alloc, words, job)?;
-    Ok(CipherRange::given_by(job))
+    raw.refill(alloc, words, job)
 }
 
-/// The range of the job that is submitted, where the call submits one, goes last.
-fn enter(ranges: &mut Ring<CipherRange>, call: Call)
-    ensures values { ranges.new.values ≡ ranges.old.values ++ ranges_entered call ranges.old.opened }
-    ensures filled { ranges.new.opened ≡ filled_after call ranges.old.opened }
+/// Whether there is room for the range that a job gives back. There is where it is for the one that the job says: else its arguments are
+/// checked.
+fn fits(job: &Job, out: &RawDone<'_>) -> bool
+    ensures { result ≡ has_room_for (Some (given_range job.now)) out.now }
 {
-    if call == Call::Submit && ranges.open_len() > 0 {
-        ranges.commit();
-    }
+    out.has_room(job.cipher_len) || out.has_room(CipherRange::given_by(job).len)
 }
 
-/// The first range, which stays.
-fn first_of(ranges: &mut Ring<CipherRange>) -> Option<CipherRange>
-    ensures first { result ≡ slice_get ranges.old.values 0 }
-    ensures same { ranges.new ≡ ranges.old }
+/// Whether there is room for the range that the first open job gives back.
+fn open_fits(manager: &mut Manager, out: &RawDone<'_>) -> bool
+    requires { 0 < length manager.old.opened }
+    ensures room { result ≡ has_room_for (slice_get (map given_range manager.old.opened) 0) out.now }
+    ensures same { manager.new ≡ manager.old }
 {
-    match ranges.front_mut() {
-        Some(range) => Some(*range),
-        None => None,
-    }
-}
-
-/// The range of the first open job, which stays.
-fn first_filled(ranges: &mut Ring<CipherRange>) -> Option<CipherRange>
-    ensures first { result ≡ slice_get ranges.old.opened 0 }
-    ensures same { ranges.new ≡ ranges.old }
-{
-    match ranges.open_mut() {
-        Some(range) => Some(*range),
-        None => None,
-    }
-}
-
-/// Writes the result of a job that is finished, with only the first range of its packet. That range is then removed.
-fn write_first(given: &Cell, ranges: &mut Ring<CipherRange>, out: &mut RawDone<'_>)
-    requires finished { IsFinished given.now }
-    requires fits { Fits (owed (course_in given.now)) ranges.old.values out.old }
-    ensures told { IsToldAt (Ok (given_with (Some (owed (course_in given.now))) ranges.old.values)) true out.old out.new }
-    ensures values { ranges.new.values ≡ drop 1 ranges.old.values }
-    ensures same { ranges.new.opened ≡ ranges.old.opened }
-{
-    match ranges.pop() {
-        Some(range) => out.write(given, range),
-        None => unreachable!(),
-    }
+    let job = manager.burst_mut(0);
+    fits(job, out)
 }
 
 impl RangedManager {
     /// A manager with no job, whose cells keep memory of the jobs that were given back, or keep none. It takes all the memory that the
-    /// manager and the ranges need.
+    /// manager needs.
     ///
     /// Returns `AllocError` for want of memory.
     pub(crate) fn new(alloc: Global, keeping: Keeping) -> Result<RangedManager, AllocError>
         ensures { IfOk result (λ m. m ≡ new_ranged) }
     {
-        let ranges = Ring::new(alloc)?;
         let manager = manager(alloc, keeping)?;
         let spare = Cell::blank(alloc)?;
         Ok(RangedManager {
             manager,
-            ranges,
             sessions: None,
             spare,
             most: most_kept(keeping),
@@ -232,6 +189,7 @@ impl RangedManager {
         requires cell { cell ≤ length self.old.manager.opened }
         ensures done { IsDone (filled_at cell raw.now self.old) self.old result self.new }
         ensures within { OnOk result (cell < CELLS) }
+        ensures open { OnOk result (cell < length self.new.manager.opened) }
     {
         if cell >= CELLS - self.manager.queue_size() {
             return Err(Refusal::Full);
@@ -240,10 +198,8 @@ impl RangedManager {
             return Err(Refusal::Word);
         };
         match fill_spare(alloc, raw, words, &mut self.spare) {
-            Ok(range) => {
-                fill_range(&mut self.ranges, cell, range);
-                fill_cell(&mut self.manager, cell, &mut self.spare);
-                self.spare.clear(self.most);
+            Ok(()) => {
+                fill_cell(&mut self.manager, cell, &mut self.spare, self.most);
                 Ok(())
             }
             Err(AllocError) => {
@@ -264,27 +220,73 @@ impl RangedManager {
             *refusal = Refusal::NoJob.code();
             return false;
         }
-        if !out.has_room(self.first_range(call)) {
+        if !self.has_room(call, out) {
             *refusal = Refusal::NoRoom.code();
             return false;
         }
         *refusal = 0;
-        self.step(call, out)
+        self.make(call);
+        self.give_first(out)
     }
 
-    /// Makes the call, and keeps the ranges with it. The result that it gives back, if any, is written. Returns whether there is one.
-    fn step(&mut self, call: Call, out: &mut RawDone<'_>) -> bool
-        requires job { HasJob call self.old.manager }
-        requires room { IsTrue (has_room_for (first_range call self.old) out.old) }
-        ensures told { IsToldAt (Ok (step call self.old).0) result out.old out.new }
-        ensures state { self.new ≡ (step call self.old).1 }
-        ensures drained { call ≡ calls.Flush → result ≡ false → self.old.manager.owed ≡ [] }
+    /// Fills the first open cell with a copy of C's job and submits it, where neither is refused, and tells C of it as `give` does.
+    pub(crate) fn submit_job(
+        &mut self,
+        alloc: Global,
+        raw: &RawJob<'_>,
+        out: &mut RawDone<'_>,
+        refusal: &mut u32,
+    ) -> bool
+        ensures { IsSubmittedAs (filled_at 0 raw.now self.old).0 (submitted_in raw.now self.old out.old) self.old
+            result refusal.new out.old out.new self.new }
     {
-        enter(&mut self.ranges, call);
-        if !call.make(&mut self.manager, &mut self.sessions, &mut self.spare) {
+        match self.fill(alloc, 0, raw) {
+            Ok(()) => {}
+            Err(why) => {
+                *refusal = why.code();
+                return false;
+            }
+        }
+        if !self.has_room(Call::Submit, out) {
+            *refusal = Refusal::NoRoom.code();
             return false;
         }
-        write_first(&self.spare, &mut self.ranges, out);
+        *refusal = 0;
+        self.make(Call::Submit);
+        self.give_first(out)
+    }
+
+    /// Makes the call, but for giving back.
+    fn make(&mut self, call: Call)
+        requires { HasJob call self.old.manager }
+        ensures state { self.new ≡ gone call self.old }
+        ensures done { call ≡ calls.Flush → self.old.manager.owed ≢ [] → slice_get self.new.manager.machine.left 0 ≡ Some [] }
+    {
+        match call {
+            Call::Submit => match &mut self.sessions {
+                Some(sessions) => sessions.submit(&mut self.manager),
+                None => self.manager.enter(None),
+            },
+            Call::Completed => {}
+            Call::Flush => self.manager.finish_first(),
+        }
+    }
+
+    /// Gives the first result back where it is finished, and writes it, with only its range of the packet. Returns whether it is.
+    fn give_first(&mut self, out: &mut RawDone<'_>) -> bool
+        requires room { IsTrue (has_room_for (slice_get self.old.ranges 0) out.old) }
+        ensures told { IsToldAt (Ok (given_first self.old).0) result out.old out.new }
+        ensures state { self.new ≡ (given_first self.old).1 }
+        ensures none { result ≡ false → (after_get_completed self.old.manager).0 ≡ None }
+    {
+        let range = self.manager.first_range();
+        if !self.manager.give_into(&mut self.spare) {
+            return false;
+        }
+        match range {
+            Some((off, len)) => out.write(&self.spare, CipherRange { off, len }),
+            None => unreachable!(),
+        }
         self.spare.clear(self.most);
         true
     }
@@ -307,20 +309,18 @@ impl RangedManager {
         ensures has { result ≡ has_job call self.now.manager }
         ensures job { OnTrue result (HasJob call self.now.manager) }
     {
-        call != Call::Submit || self.ranges.open_len() > 0
+        call != Call::Submit || self.manager.open_len() > 0
     }
 
-    /// The range of the job whose result comes next.
-    fn first_range(&mut self, call: Call) -> Option<CipherRange>
-        ensures range { result ≡ first_range call self.old }
+    /// Whether there is room for the result that comes next.
+    fn has_room(&mut self, call: Call, out: &RawDone<'_>) -> bool
+        requires { HasJob call self.old.manager }
+        ensures room { result ≡ has_room_for (first_range call self.old) out.now }
         ensures same { self.new ≡ self.old }
     {
-        match first_of(&mut self.ranges) {
-            Some(range) => Some(range),
-            None => match call {
-                Call::Submit => first_filled(&mut self.ranges),
-                Call::Completed | Call::Flush => None,
-            },
+        match self.manager.first_range() {
+            Some((_, len)) => out.has_room(len),
+            None => call != Call::Submit || open_fits(&mut self.manager, out),
         }
     }
 }

@@ -4,7 +4,8 @@ ghost use Rattle.mbj_c.specs.declared.refusal.Refusal.TheVariants.{Memory};
 
 use std::alloc::AllocError;
 
-/// Why a call is refused. It then changes nothing, but for `WrongTag`, where the text is cleared.
+/// Why a call is refused. It then changes nothing, but for `WrongTag`, where the text is cleared, and for `NoRoom` of a call that filled its
+/// job before, which stays filled.
 #[derive(Clone, Copy, Debug, PartialEq, Eq)]
 pub(crate) enum Refusal {
     /// The algorithm doesn't take a text of this length.

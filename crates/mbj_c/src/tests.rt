@@ -6,6 +6,7 @@ mod keys;
 mod refusals;
 mod results;
 mod stored;
+mod submitting;
 mod verified;
 
 use super::*;

@@ -5,6 +5,7 @@ ghost use Rattle.mbj_c.specs.Bursts.{IsBurstFilled, IsBurstTold, after_giving};
 ghost use Rattle.mbj_c.specs.Codes.{code_of, refusal_code};
 ghost use Rattle.mbj_c.specs.Filling.{filled};
 ghost use Rattle.mbj_c.specs.Giving.{IsDrained, IsTold, answered};
+ghost use Rattle.mbj_c.specs.Submitting.{IsSubmitted};
 ghost use Rattle.mbj_c.specs.declared.giving.Call.TheVariants as call;
 ghost use Rattle.mbj_c.specs.declared.refusal.Refusal.TheVariants.{Memory};
 
@@ -48,6 +49,23 @@ pub extern "C" fn mbj_c_submit(
     ensures told { IsTold (answered call.Submit handle.old.manager out.old).0 result refusal.new out.old out.new }
 {
     calls::give(alloc, handle, Call::Submit, out, refusal)
+}
+
+/// Fills the next job with a copy of C's as `mbj_c_fill` does, and submits it as `mbj_c_submit` does, where it is filled.
+///
+/// It returns as `mbj_c_submit` does. `refusal` is 0, or the code of a refusal: that which `mbj_c_fill` returns, and then no job is filled;
+/// else `NoRoom` exactly where `mbj_c_submit` refuses the job for that, which is filled then and not submitted.
+#[unsafe(no_mangle)]
+pub extern "C" fn mbj_c_submit_job(
+    alloc: Global,
+    handle: &mut Handle,
+    raw: &RawJob<'_>,
+    out: &mut RawDone<'_>,
+    refusal: &mut u32,
+) -> bool
+    ensures { IsSubmitted raw.now handle.old.manager result refusal.new out.old out.new handle.new.manager }
+{
+    calls::submit_job(alloc, handle, raw, out, refusal)
 }
 
 /// Gives the earliest job's result where that is finished, and runs nothing. It returns as `mbj_c_submit` does, but never
