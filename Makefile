@@ -21,14 +21,17 @@ make install     copies what was built to PREFIX=/usr/local, below DESTDIR= wher
                  LIBDIR= INCLUDEDIR= BINDIR= MANDIR= DOCDIR= may be given too
 make uninstall   removes what was installed, with the same settings
 make mbjobs      builds the program mbjobs, having proved it; make install copies that too
-make dropin      builds a library that stands in for Intel's libIPSec_MB.so.1, in a folder of its own. It needs the header of
-                 intel-ipsec-mb 1.3 (Debian's libipsec-mb-dev), and holds a build for AVX2 too
-make check-dropin builds and tests that library, beside Intel's and with DPDK where they are installed
+make dropin      builds a library that stands in for Intel's libIPSec_MB.so, in a folder of its own. It needs the header of
+                 intel-ipsec-mb 1.3 or 2.0 (Debian's libipsec-mb-dev), by whose version its name ends in .1 or .2, and holds a
+                 build for AVX2 too. HEADERS=FOLDER names the folder of another header than the system's
+make check-dropin builds and tests that library, beside Intel's and with DPDK where they are installed. DEBIAN13=FOLDER names a
+                 root of Debian 13, with which 2.0 is tested after 1.3
 make install-dropin PREFIX=FOLDER
                  copies it to DROPINDIR=PREFIX/lib/mbj-dropin, and touches no other library. A program runs over it with
                  LD_LIBRARY_PATH=DROPINDIR (docs/FROM_IPSEC_MB.md)
 make shadow      builds a checker under load, in a folder of its own: a library that stands between a program and Intel's
-                 libIPSec_MB.so.1, and compares a share of the results with the proved ones. It needs what make dropin needs
+                 libIPSec_MB.so.1, and compares a share of the results with the proved ones. It needs what make dropin needs,
+                 of version 1.3
 make check-shadow builds and tests the checker, with DPDK where that is installed
 make install-shadow PREFIX=FOLDER
                  copies it to SHADOWDIR=PREFIX/lib/mbj-shadow, and the header of its counters (docs/SHADOW.md)
@@ -157,16 +160,50 @@ $(BUILD)/%/$(shared): $(BUILD)/%/$(static) $(BUILD)/exports.map $(BUILD)/setting
 
 DROPINDIR ?= $(PREFIX)/lib/mbj-dropin
 
-dropin := $(BUILD)/dropin/libIPSec_MB.so.1
-dropin-sources := $(wildcard compat/*.c) include/mbj_heap_pool.c
+# The ABI is that of the header: a version has the one of its first number, and files of its own in compat. Of a given folder the header
+# alone is taken: the folder may have all of another system's.
+intel-header := $(if $(HEADERS),$(BUILD)/dropin/include/intel-ipsec-mb.h)
+intel-headers := $(if $(HEADERS),-I$(BUILD)/dropin/include)
+intel-goals := $(filter dropin check-dropin shadow check-shadow,$(goals))
+intel-given := $(call quoted,$(if $(HEADERS),$(HEADERS)/)intel-ipsec-mb.h)
+intel-version := $(if $(intel-goals),$(shell $(CC) $(CPPFLAGS) -E -dM -include $(intel-given) -xc /dev/null 2>&1 | \
+    sed -n 's/^.define IMB_VERSION_STR "\(.*\)"/\1/p'))
+built-dropin = $(wildcard $(BUILD)/dropin/libIPSec_MB.so.*)
+intel-abis := 1.3.% 2.0.%
+
+ifneq ($(intel-goals),)
+ifeq ($(intel-version),)
+$(error no intel-ipsec-mb.h: install it (Debian's libipsec-mb-dev), or give its folder by HEADERS=)
+endif
+ifeq ($(filter $(intel-abis),$(intel-version)),)
+$(error intel-ipsec-mb.h is of version $(intel-version): the drop-in has the ABIs of 1.3 and 2.0 alone)
+endif
+ifneq ($(filter %shadow,$(intel-goals)),)
+ifeq ($(filter 1.3.%,$(intel-version)),)
+$(error intel-ipsec-mb.h is of version $(intel-version): the checker under load is there for 1.3 alone)
+endif
+endif
+endif
+
+abi := $(firstword $(subst ., ,$(intel-version)))
+dropin := $(BUILD)/dropin/libIPSec_MB.so.$(abi)
+dropin-sources := $(filter-out compat/version_%,$(wildcard compat/*.c)) compat/version_$(abi).c include/mbj_heap_pool.c
 dropin-objects := $(patsubst %.c,$(BUILD)/dropin/%.o,$(notdir $(dropin-sources)))
 dropin-builds := $(foreach cpu,$(cpus),$(BUILD)/$(cpu)/renamed.o)
 
 # The manager names its pool in each thread, so that name is at a fixed place.
 compile-dropin = $(CC) -std=c11 -D_DEFAULT_SOURCE -Wall -Wextra $(CPPFLAGS) $(plain) -march=x86-64 -fPIC -fvisibility=hidden \
-    -ftls-model=initial-exec -Iinclude -Icompat $(here) $(cpus:x86-64-v%=-DCOMPAT_HAS_V%) -c -o $@ $<
+    -ftls-model=initial-exec -Iinclude -Icompat $(intel-headers) $(here) $(cpus:x86-64-v%=-DCOMPAT_HAS_V%) -c -o $@ $<
 
-$(BUILD)/dropin/%.o: compat/%.c $(wildcard compat/*.h) $(interface) include/mbj_selftest.h $(BUILD)/settings
+# What it was last built for.
+$(BUILD)/dropin/settings: FORCE
+	@mkdir -p $(@D) && printf '%s\n' $(call quoted,$(intel-version) $(HEADERS)) > $@.now && { cmp -s $@.now $@ || cp $@.now $@; }
+
+$(BUILD)/dropin/include/intel-ipsec-mb.h: FORCE
+	@mkdir -p $(@D) && { cmp -s $(intel-given) $@ || cp $(intel-given) $@; }
+
+$(BUILD)/dropin/%.o: compat/%.c $(wildcard compat/*.h) $(interface) include/mbj_selftest.h $(BUILD)/settings $(BUILD)/dropin/settings \
+    $(intel-header)
 	@mkdir -p $(@D)
 	$(compile-dropin)
 
@@ -186,8 +223,10 @@ $(BUILD)/%/renamed.o: $(BUILD)/%/proved.a $(BUILD)/%/mbj_processor.o $(BUILD)/mb
 
 dropin: $(dropin)
 
+# What an earlier call built for the other version isn't left to be installed.
 $(dropin): $(dropin-objects) $(dropin-builds) packaging/dropin.map
-	$(CC) $(plain) $(LDFLAGS) -shared -Wl,-soname,libIPSec_MB.so.1 -Wl,--version-script=packaging/dropin.map -Wl,-z,text -Wl,-z,defs \
+	@rm -f $(filter-out $@ $(dropin-objects),$(wildcard $(BUILD)/dropin/libIPSec_MB.so.* $(BUILD)/dropin/version_*.o))
+	$(CC) $(plain) $(LDFLAGS) -shared -Wl,-soname,$(@F) -Wl,--version-script=packaging/dropin.map -Wl,-z,text -Wl,-z,defs \
 	    -o $@ $(filter %.o,$^)
 
 # The checker holds the drop-in's functions under other names, and a jump for each function of Intel's library that it hasn't itself.
@@ -230,8 +269,8 @@ install-shadow:
 	$(INSTALL) -D -m 644 -t $(call quoted,$(DESTDIR)$(INCLUDEDIR)) include/mbj_shadow.h
 
 install-dropin:
-	@[ -f $(dropin) ] || { echo 'nothing is built: run make dropin first' >&2; exit 1; }
-	$(INSTALL) -D -m 755 -t $(call quoted,$(DESTDIR)$(DROPINDIR)) $(dropin)
+	@[ -n '$(built-dropin)' ] || { echo 'nothing is built: run make dropin first' >&2; exit 1; }
+	$(INSTALL) -D -m 755 -t $(call quoted,$(DESTDIR)$(DROPINDIR)) $(built-dropin)
 
 # ---- tests ----
 
@@ -241,7 +280,7 @@ check: all $(program)
 	    tests/c/$(if $(program),run,known)
 
 check-dropin: all $(dropin)
-	BUILD=$(call quoted,$(abspath $(BUILD))) CPU=$(CPU) CC='$(CC)' tests/c/dropin
+	BUILD=$(call quoted,$(abspath $(BUILD))) CPU=$(CPU) CC='$(CC)' HEADERS=$(call quoted,$(HEADERS)) tests/c/dropin
 
 check-shadow: all $(shadow)
 	BUILD=$(call quoted,$(abspath $(BUILD))) CPU=$(CPU) CC='$(CC)' MBJOBS=$(call quoted,$(MBJOBS)) tests/shadow/run

@@ -17,21 +17,18 @@ __attribute__((constructor)) static void read_setting(void) {
     goes_on = setting != NULL && strcmp(setting, "continue") == 0;
 }
 
-/* A call that would have written a text, a tag, a digest or a key stream, most of which return nothing: were it to come back, the program
- * would take its old bytes for the result. */
-static uint64_t absent_result(const char *name) {
+/* Most of these calls return nothing: were one to come back, the program would take its old bytes for the result. */
+uint64_t absent_result(const char *name) {
     static atomic_flag is_told = ATOMIC_FLAG_INIT;
     direct_error(ENOTSUP);
     if (goes_on)
         return 0;
     if (!atomic_flag_test_and_set(&is_told))
-        fprintf(stderr, "libIPSec_MB.so.1 of mbj: %s isn't here, and gives no result. MBJ_DROPIN_ABSENT=continue goes on without it\n",
-                name);
+        fprintf(stderr, COMPAT_SONAME " of mbj: %s isn't here, and gives no result. MBJ_DROPIN_ABSENT=continue goes on without it\n", name);
     abort();
 }
 
-/* A call that makes a key, a schedule or a size alone: the job that uses it is refused. */
-static uint64_t absent_key(void) {
+uint64_t absent_key(void) {
     direct_error(ENOTSUP);
     return 0;
 }
@@ -87,7 +84,8 @@ static int absent_schedule(void) {
     CALL(crc10_iuup_data)                                                                                                                  \
     CALL(crc6_iuup_header)                                                                                                                 \
     CALL(crc32_wimax_ofdma_data)                                                                                                           \
-    CALL(crc8_wimax_ofdma_hcs)
+    CALL(crc8_wimax_ofdma_hcs)                                                                                                             \
+    COMPAT_ABSENT_RESULTS(CALL)
 
 /* On x86-64 (System V ABI, 3.2.3) a function that takes nothing may be called with any arguments, and a result of 64 bits is in the
  * register that an int or a shorter one is taken from. */
@@ -150,20 +148,16 @@ IMB_DLL_EXPORT int snow3g_f9_iv_gen(const uint32_t count, const uint32_t fresh, 
     return absent_schedule();
 }
 
-#define ABSENT(arch)                                                                                                                       \
-    IMB_DLL_EXPORT void aes_cfb_128_one_##arch(void *out, const void *in, const void *iv, const void *keys, uint64_t len) {                \
-        (void)out, (void)in, (void)iv, (void)keys, (void)len;                                                                              \
-        absent_result("aes_cfb_128_one_" #arch);                                                                                           \
-    }                                                                                                                                      \
+#define XCBC(arch)                                                                                                                         \
     IMB_DLL_EXPORT void aes_xcbc_expand_key_##arch(const void *key, void *first, void *second, void *third) {                              \
         (void)key, (void)first, (void)second, (void)third;                                                                                 \
         absent_key();                                                                                                                      \
-    }                                                                                                                                      \
+    }
+COMPAT_KEY_ARCHITECTURES(XCBC)
+
+#define MD5(arch)                                                                                                                          \
     IMB_DLL_EXPORT void md5_one_block_##arch(const void *block, void *state) {                                                             \
         (void)block, (void)state;                                                                                                          \
         absent_key();                                                                                                                      \
     }
-ABSENT(sse)
-ABSENT(avx)
-ABSENT(avx2)
-ABSENT(avx512)
+COMPAT_ARCHITECTURES(MD5)

@@ -10,4 +10,10 @@
  * MBJ_DROPIN_ABSENT=continue. */
 void set_absent_functions(IMB_MGR *m);
 
+/* Of a call by name that would have written a text, a tag, a digest or a key stream. */
+uint64_t absent_result(const char *name);
+
+/* Of one that makes a key, a schedule or a size alone: the job that uses it is refused. */
+uint64_t absent_key(void);
+
 #endif

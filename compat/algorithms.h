@@ -1,5 +1,5 @@
-/* What is known of each cipher and each authentication of intel-ipsec-mb 1.3, in one table each, and of a job by these. Each job looks it
- * up many times: so the functions are inline. */
+/* What is known of each cipher and each authentication of intel-ipsec-mb, in one table each, and of a job by these. Each job looks it up
+ * many times: so the functions are inline. */
 #ifndef COMPAT_ALGORITHMS_H
 #define COMPAT_ALGORITHMS_H
 
@@ -82,17 +82,17 @@ static inline const uint8_t *hash_start(const IMB_JOB *job) {
     return (const uint8_t *)((uintptr_t)job->src + job->hash_start_src_offset_in_bytes);
 }
 
-/* Of codes that are none, intel-ipsec-mb 1.3 takes a direction for the one to decipher, where nothing has checked it, and an order for the
- * one with the hash first. */
+/* Of codes that are none, where nothing has checked them, each version takes a direction in its own way, and both an order for the one with
+ * the hash first. */
 static inline bool is_encryption(const IMB_JOB *job) {
-    return job->cipher_direction == IMB_DIR_ENCRYPT;
+    return COMPAT_IS_ENCRYPTION(job->cipher_direction);
 }
 
 static inline bool is_hash_first(const IMB_JOB *job) {
     return job->chain_order != IMB_ORDER_CIPHER_HASH;
 }
 
-/* Whether a job in parts does a whole text, by a list of segments: intel-ipsec-mb 1.3 takes each state for that but the three of parts. */
+/* Whether a job in parts does a whole text, by a list of segments: intel-ipsec-mb takes each state for that but the three of parts. */
 static inline bool has_segments(const IMB_JOB *job) {
     return job->sgl_state != IMB_SGL_INIT && job->sgl_state != IMB_SGL_UPDATE && job->sgl_state != IMB_SGL_COMPLETE;
 }

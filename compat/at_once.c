@@ -29,7 +29,7 @@ bool is_done_at_once(const IMB_JOB *job) {
     if (cipher->kind == CIPHER_CUSTOM || hash->kind == HASH_CUSTOM || counter_wraps(job))
         return true;
     if (cipher->kind == CIPHER_NONE || hash->kind == HASH_NONE)
-        return cipher_bytes(job) > PACKET_BYTES || hash_bytes(job) > PACKET_BYTES;
+        return cipher_bytes(job) > PACKET_BYTES || hash_bytes(job) > PACKET_BYTES || is_padded_long(job);
     return hash->kind == HASH_GMAC || cipher_open_bits(job) != 0 || hash_open_bits(job) != 0 || is_tag_ciphered(job);
 }
 
@@ -84,6 +84,8 @@ static IMB_STATUS do_hash(IMB_MGR *m, struct dropin *d, const IMB_JOB *job, IMB_
         return custom(job->hash_func, given);
     if (hash_bytes(job) > PACKET_BYTES)
         return do_long_hash(m, hash, job);
+    if (is_padded_long(job))
+        return do_padded_long(m, d, job);
     say_nothing(&said);
     say_hash(&said, job);
     said.raw.packet = bytes_at(hash_start(job), hash_bytes(job));

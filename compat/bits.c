@@ -3,21 +3,69 @@
  * second one is left. */
 #include "bits.h"
 #include "algorithms.h"
+#include "keys.h"
+#include "pieces.h"
 
 #include <string.h>
 
-enum { BLOCK = 16 };
+enum { BLOCK = 16, HEAD = 32768 };
 
-void say_padded(struct dropin *d, struct said *said, const IMB_JOB *job) {
-    uint64_t len = hash_bytes(job), blocks = (len + BLOCK - 1) / BLOCK;
-    unsigned bits = hash_open_bits(job);
-    uint8_t *copy = d->gathered, *last = copy + BLOCK * (blocks - 1);
-    const uint8_t *first_subkey = job->u.CMAC._skey1, *second_subkey = job->u.CMAC._skey2;
-    memset(last, 0, BLOCK);
-    memcpy(copy, hash_start(job), len);
-    copy[len - 1] = (uint8_t)((copy[len - 1] & ~(0xff >> bits)) | 0x80 >> bits);
+static void add(uint8_t *block, const uint8_t *other) {
     for (unsigned i = 0; i < BLOCK; i++)
-        last[i] ^= first_subkey[i] ^ second_subkey[i];
+        block[i] ^= other[i];
+}
+
+/* Says the text from an offset on, padded to whole blocks. */
+static void say_padded_from(struct dropin *d, struct said *said, const IMB_JOB *job, uint64_t off) {
+    uint64_t len = hash_bytes(job) - off, blocks = (len + BLOCK - 1) / BLOCK;
+    unsigned bits = hash_open_bits(job);
+    uint8_t *copy = d->gathered + said->gathered, *last = copy + BLOCK * (blocks - 1);
+    memset(last, 0, BLOCK);
+    memcpy(copy, hash_start(job) + off, len);
+    copy[len - 1] = (uint8_t)((copy[len - 1] & ~(0xff >> bits)) | 0x80 >> bits);
+    add(last, job->u.CMAC._skey1);
+    add(last, job->u.CMAC._skey2);
     said->raw.packet = bytes_at(copy, BLOCK * blocks);
     said->raw.hash_len = BLOCK * blocks;
+}
+
+void say_padded(struct dropin *d, struct said *said, const IMB_JOB *job) {
+    say_padded_from(d, said, job, 0);
+}
+
+/* ---- a text whose blocks don't fit into a packet ---- */
+
+bool is_padded_long(const IMB_JOB *job) {
+    return hash_open_bits(job) != 0 && hash_bytes(job) > PACKET_BYTES / BLOCK * BLOCK;
+}
+
+/* The chain of CMAC behind the first bytes of the text is the last block of their CBC encryption from zeros. */
+static IMB_STATUS put_chain(IMB_MGR *m, struct dropin *d, const IMB_JOB *job, uint8_t *chain) {
+    static const uint8_t zeros[BLOCK];
+    struct said said;
+    say_nothing(&said);
+    said.raw.cipher = MBJ_CIPHER_CBC;
+    said.raw.key = bytes_at(job->u.CMAC._key_expanded, hash_of(job)->key);
+    said.raw.iv = bytes_at(zeros, BLOCK);
+    said.raw.packet = bytes_at(hash_start(job), HEAD);
+    said.raw.cipher_len = HEAD;
+    IMB_STATUS status = do_alone(m, d, &said, d->gathered, NULL);
+    memcpy(chain, d->gathered + HEAD - BLOCK, BLOCK);
+    wipe(d->gathered, HEAD);
+    return status;
+}
+
+IMB_STATUS do_padded_long(IMB_MGR *m, struct dropin *d, const IMB_JOB *job) {
+    uint8_t chain[BLOCK];
+    struct said said;
+    IMB_STATUS status = put_chain(m, d, job, chain);
+    if (status == IMB_STATUS_COMPLETED) {
+        say_nothing(&said);
+        say_hash(&said, job);
+        say_padded_from(d, &said, job, HEAD);
+        add(d->gathered, chain);
+        status = do_alone(m, d, &said, NULL, job->auth_tag_output);
+    }
+    wipe(chain, sizeof chain);
+    return status;
 }

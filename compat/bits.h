@@ -7,4 +7,8 @@
 /* Says the packet of such a job without a cipher, whose authentication is said. */
 void say_padded(struct dropin *d, struct said *said, const IMB_JOB *job);
 
+/* Whether a text has more whole blocks than a packet, once it is padded: then its authentication is done by itself. */
+bool is_padded_long(const IMB_JOB *job);
+IMB_STATUS do_padded_long(IMB_MGR *m, struct dropin *d, const IMB_JOB *job);
+
 #endif

@@ -17,7 +17,12 @@
     EXPORT(mbj_c_submit)                                                                                                                   \
     EXPORT(mbj_c_get_completed)                                                                                                            \
     EXPORT(mbj_c_flush)                                                                                                                    \
+    EXPORT(mbj_c_fill_burst)                                                                                                               \
+    EXPORT(mbj_c_submit_burst)                                                                                                             \
+    EXPORT(mbj_c_get_completed_burst)                                                                                                      \
+    EXPORT(mbj_c_flush_burst)                                                                                                              \
     EXPORT(mbj_one_block)                                                                                                                  \
+    EXPORT(mbj_hmac_states)                                                                                                                \
     EXPORT(mbj_digest)                                                                                                                     \
     EXPORT(mbj_aes_keys)                                                                                                                   \
     EXPORT(mbj_cmac_subkeys)                                                                                                               \

@@ -1,7 +1,9 @@
 /* Bursts: of jobs in the manager's own array, and of an array of the application's, whose jobs are all done when the call returns. */
 #include "check.h"
 #include "errors.h"
+#include "parts.h"
 #include "ring.h"
+#include "version.h"
 
 /* ---- of the manager's array ---- */
 
@@ -29,11 +31,16 @@ static uint32_t next_burst(IMB_MGR *m, const uint32_t n, IMB_JOB **jobs) {
     return count;
 }
 
+static int check_job_of_burst(const IMB_JOB *job) {
+    int error = check_job(job, true);
+    return error != 0 ? error : check_in_burst(job);
+}
+
 /* Why a job of a burst can't be submitted, or 0. It is the first one of the array then. */
 static int check_place(IMB_MGR *m, IMB_JOB **jobs, IMB_JOB *job, int offset, bool is_checked) {
     if (job == NULL)
         return IMB_ERR_NULL_JOB;
-    int error = job != job_at(m, offset) ? IMB_ERR_BURST_OOO : is_checked ? check_job(job, true) : 0;
+    int error = job != job_at(m, offset) ? IMB_ERR_BURST_OOO : is_checked ? check_job_of_burst(job) : 0;
     if (error != 0) {
         job->status = IMB_STATUS_INVALID_ARGS;
         jobs[0] = job;
@@ -55,19 +62,13 @@ static int check_burst(IMB_MGR *m, uint32_t n, IMB_JOB **jobs, bool is_checked) 
 }
 
 static uint32_t submit(IMB_MGR *m, uint32_t n, IMB_JOB **jobs, bool is_checked) {
-    uint32_t given = 0;
     int error = dropin_of(m) == NULL ? IMB_ERR_NULL_MBMGR : check_burst(m, n, jobs, is_checked);
     if (error != 0) {
         set_error(m, error);
         return 0;
     }
-    for (uint32_t i = 0; i < n; i++) {
-        IMB_JOB *job = ring_submit(m, is_checked);
-        if (job != NULL)
-            jobs[given++] = job;
-    }
-    for (IMB_JOB *job; given < n && (job = ring_completed(m)) != NULL;)
-        jobs[given++] = job;
+    ring_submit_burst(m, n, is_checked);
+    uint32_t given = ring_completed_burst(m, n, jobs);
     restart(m);
     return given;
 }
@@ -81,15 +82,13 @@ static uint32_t submit_unchecked_burst(IMB_MGR *m, const uint32_t n, IMB_JOB **j
 }
 
 static uint32_t flush_burst(IMB_MGR *m, const uint32_t n, IMB_JOB **jobs) {
-    uint32_t given = 0;
     if (dropin_of(m) == NULL)
         return 0;
     if (jobs == NULL) {
         set_error(m, IMB_ERR_NULL_BURST);
         return 0;
     }
-    for (IMB_JOB *job; given < n && (job = ring_flush(m)) != NULL;)
-        jobs[given++] = job;
+    uint32_t given = ring_flush_burst(m, n, jobs);
     restart(m);
     return given;
 }
@@ -131,13 +130,16 @@ static bool has_wrong_job(IMB_MGR *m, IMB_JOB *jobs, uint32_t n, const struct to
     return false;
 }
 
-static uint32_t is_done(const IMB_JOB *job) {
-    return job != NULL && job->status == IMB_STATUS_COMPLETED;
+/* The queue is full: the earliest jobs are finished. */
+static void make_place(IMB_MGR *m, struct queue *queue, struct part *part) {
+    IMB_JOB *given[MOST_IN_PART];
+    part_hand_over(m, queue, part);
+    (void)queue_flush_burst(m->aes128_ooo, queue, MOST_IN_PART, given);
 }
 
 static uint32_t do_burst(IMB_MGR *m, IMB_JOB *jobs, uint32_t n, const struct told *told, bool is_checked) {
     struct dropin *d = m->aes128_ooo;
-    struct queue *queue = &d->burst;
+    struct part part;
     uint32_t done = 0;
     if (jobs == NULL) {
         set_error(m, IMB_ERR_NULL_BURST);
@@ -146,14 +148,18 @@ static uint32_t do_burst(IMB_MGR *m, IMB_JOB *jobs, uint32_t n, const struct tol
     if (is_checked && has_wrong_job(m, jobs, n, told))
         return 0;
     finish_all(d);
+    part_begin(&part);
     for (uint32_t i = 0; i < n; i++) {
         IMB_JOB job = job_told(&jobs[i], told);
-        if (queue_len(queue) == IMB_MAX_JOBS)
-            done += is_done(queue_flush(d, queue));
-        done += is_done(queue_submit(m, queue, &job, &jobs[i], is_checked));
+        if (queue_len(&d->burst) == IMB_MAX_JOBS)
+            make_place(m, &d->burst, &part);
+        part_add(m, &d->burst, &part, &job, &jobs[i], is_checked);
     }
-    for (IMB_JOB *job; (job = queue_flush(d, queue)) != NULL;)
-        done += is_done(job);
+    part_hand_over(m, &d->burst, &part);
+    queue_finish(d, &d->burst);
+    queue_empty(&d->burst);
+    for (uint32_t i = 0; i < n; i++)
+        done += jobs[i].status == IMB_STATUS_COMPLETED;
     return done;
 }
 
@@ -193,7 +199,7 @@ static uint32_t hash_burst(IMB_MGR *m, IMB_JOB *jobs, uint32_t n, IMB_HASH_ALG h
         set_error(NULL, IMB_ERR_NULL_JOB);
         return 0;
     }
-    if (hash < IMB_AUTH_HMAC_SHA_1 || hash > IMB_AUTH_HMAC_SHA_512) {
+    if (!COMPAT_IS_BURST_HASH(hash)) {
         set_error(m, IMB_ERR_HASH_ALGO);
         return 0;
     }
@@ -206,6 +212,19 @@ static uint32_t submit_hash_burst(IMB_MGR *m, IMB_JOB *jobs, const uint32_t n, c
 
 static uint32_t submit_unchecked_hash_burst(IMB_MGR *m, IMB_JOB *jobs, const uint32_t n, const IMB_HASH_ALG hash) {
     return hash_burst(m, jobs, n, hash, false);
+}
+
+/* CCM alone has such bursts. */
+uint32_t aead_burst(IMB_MGR *m, IMB_JOB *jobs, uint32_t n, IMB_CIPHER_MODE cipher, IMB_CIPHER_DIRECTION dir, IMB_KEY_SIZE_BYTES key_len,
+                    bool is_checked) {
+    struct told told = {cipher, dir, key_len, IMB_AUTH_AES_CCM, IMB_ORDER_HASH_CIPHER};
+    if (dropin_of(m) == NULL)
+        return 0;
+    if (jobs != NULL && cipher != IMB_CIPHER_CCM) {
+        set_error(m, IMB_ERR_CIPH_MODE);
+        return 0;
+    }
+    return do_burst(m, jobs, n, &told, is_checked);
 }
 
 void set_burst_functions(IMB_MGR *m) {

@@ -1,8 +1,9 @@
 #include "check.h"
-#include "algorithms.h"
+#include "version.h"
 
-/* What intel-ipsec-mb 1.3 finds wrong, in the order in which it looks, by its source: so the same error is told where two things are wrong.
- * Its limits are these: texts in lanes have fewer than 2^16 - 1 bytes, and the additional data of CCM has at most 46 bytes. */
+/* What intel-ipsec-mb finds wrong, in the order in which it looks, by the source of 1.3: so the same error is told where two things are
+ * wrong. 2.0 looks in the same order but at parts of a text (version_2.c). Their limits are these: texts in lanes have fewer than 2^16 - 1
+ * bytes, and the additional data of CCM has at most 46 bytes. */
 #define MOST_LANE_BYTES UINT64_C(65534)
 #define MOST_CCM_AAD_BYTES 46
 
@@ -26,16 +27,22 @@ static int check_text(const IMB_JOB *job) {
 }
 
 /* An AEAD takes a text of no byte, and then no place for it. */
-static int check_text_of_aead(const IMB_JOB *job) {
+int check_text_of_aead(const IMB_JOB *job) {
     return job->msg_len_to_cipher_in_bytes != 0 ? check_text(job) : 0;
 }
 
-static int check_iv_and_key(const struct cipher *cipher, const IMB_JOB *job) {
-    if (job->iv == NULL)
-        return IMB_ERR_JOB_NULL_IV;
+int check_key(const struct cipher *cipher, const IMB_JOB *job) {
     if (cipher_keys(cipher, job) == NULL)
         return IMB_ERR_JOB_NULL_KEY;
     return is_key_length(cipher, job->key_len_in_bytes) ? 0 : IMB_ERR_JOB_KEY_LEN;
+}
+
+static int check_iv_and_key(const struct cipher *cipher, const IMB_JOB *job) {
+    return job->iv == NULL ? IMB_ERR_JOB_NULL_IV : check_key(cipher, job);
+}
+
+int check_iv_len_of_gcm(const IMB_JOB *job) {
+    return job->iv_len_in_bytes == 0 || job->iv_len_in_bytes > MOST_IV_BYTES ? IMB_ERR_JOB_IV_LEN : 0;
 }
 
 static int check_cbc(const struct cipher *cipher, const IMB_JOB *job) {
@@ -61,15 +68,13 @@ static int check_ctr(const struct cipher *cipher, const IMB_JOB *job) {
     return job->msg_len_to_cipher_in_bytes == 0 ? IMB_ERR_JOB_CIPH_LEN : 0;
 }
 
-static int check_gcm(const struct cipher *cipher, const IMB_JOB *job) {
+int check_gcm(const struct cipher *cipher, const IMB_JOB *job) {
     if (job->msg_len_to_cipher_in_bytes > MOST_GCM_BYTES)
         return IMB_ERR_JOB_CIPH_LEN;
     int error = check_text_of_aead(job);
     if (error == 0)
         error = check_iv_and_key(cipher, job);
-    if (error != 0)
-        return error;
-    return job->iv_len_in_bytes == 0 || job->iv_len_in_bytes > MOST_IV_BYTES ? IMB_ERR_JOB_IV_LEN : 0;
+    return error != 0 ? error : check_iv_len_of_gcm(job);
 }
 
 static int check_ccm(const struct cipher *cipher, const IMB_JOB *job) {
@@ -83,11 +88,11 @@ static int check_ccm(const struct cipher *cipher, const IMB_JOB *job) {
     return job->iv_len_in_bytes < 7 || job->iv_len_in_bytes > 13 ? IMB_ERR_JOB_IV_LEN : 0;
 }
 
-static int check_own_of_cipher(const struct cipher *cipher, const IMB_JOB *job) {
+static int check_own_of_cipher(const struct cipher *cipher, const IMB_JOB *job, bool is_checked) {
     switch (cipher->kind) {
     case CIPHER_CBC: return check_cbc(cipher, job);
     case CIPHER_CTR: return check_ctr(cipher, job);
-    case CIPHER_GCM: return check_gcm(cipher, job);
+    case CIPHER_GCM: return cipher->is_in_parts ? check_gcm_in_parts(cipher, job, is_checked) : check_gcm(cipher, job);
     case CIPHER_CCM: return check_ccm(cipher, job);
     case CIPHER_CUSTOM: return job->cipher_func == NULL ? EFAULT : 0;
     default: return IMB_ERR_CIPH_MODE;
@@ -100,7 +105,7 @@ static int check_cipher(const IMB_JOB *job, bool is_checked) {
         return 0;
     if ((is_checked || cipher->kind == CIPHER_CCM) && !is_direction(job))
         return IMB_ERR_JOB_CIPH_DIR;
-    int error = check_own_of_cipher(cipher, job);
+    int error = check_own_of_cipher(cipher, job, is_checked);
     if (error != 0)
         return error;
     return cipher->partner != 0 && (unsigned)job->hash_alg != cipher->partner ? IMB_ERR_HASH_ALGO : 0;
@@ -157,7 +162,8 @@ static int check_cmac(const struct hash *hash, const IMB_JOB *job, bool is_check
     int error = check_tag_length(hash, job, is_checked);
     if (error == 0)
         error = check_tag_place(job);
-    return error == 0 && job->msg_len_to_hash_in_bytes > MOST_LANE_BYTES ? IMB_ERR_JOB_AUTH_LEN : error;
+    uint64_t most = hash->is_in_bits ? COMPAT_MOST_CMAC_BITS : MOST_LANE_BYTES;
+    return error == 0 && job->msg_len_to_hash_in_bytes > most ? IMB_ERR_JOB_AUTH_LEN : error;
 }
 
 static int check_gmac(const struct hash *hash, const IMB_JOB *job, bool is_checked) {
@@ -190,31 +196,6 @@ static int check_tag_of_gcm(const struct hash *hash, const IMB_JOB *job) {
     return error != 0 ? error : check_tag_place(job);
 }
 
-/* A segment has what a direct call of it would need. */
-static int check_segment(const struct IMB_SGL_IOV *segment) {
-    if (segment->len != 0 && segment->out == NULL)
-        return IMB_ERR_JOB_NULL_DST;
-    if (segment->len != 0 && segment->in == NULL)
-        return IMB_ERR_JOB_NULL_SRC;
-    return segment->len > MOST_GCM_BYTES ? IMB_ERR_JOB_CIPH_LEN : 0;
-}
-
-/* All segments are looked at before the first one is done: a list is refused as a whole. */
-static int check_segments(const IMB_JOB *job) {
-    uint64_t left = MOST_GCM_BYTES;
-    if (job->sgl_io_segs == NULL && job->num_sgl_io_segs != 0)
-        return IMB_ERR_JOB_NULL_SRC;
-    for (uint64_t i = 0; i < job->num_sgl_io_segs; i++) {
-        int error = check_segment(&job->sgl_io_segs[i]);
-        if (error != 0)
-            return error;
-        if (job->sgl_io_segs[i].len > left)
-            return IMB_ERR_JOB_CIPH_LEN;
-        left -= job->sgl_io_segs[i].len;
-    }
-    return 0;
-}
-
 /* The first job of a text in parts has its additional data, and the last one its tag. One by a list of segments has all. */
 static int check_part_of_gcm(const struct hash *hash, const IMB_JOB *job) {
     int error = cipher_of(job)->partner != (unsigned)job->hash_alg ? IMB_ERR_CIPH_MODE : 0;
@@ -226,7 +207,7 @@ static int check_part_of_gcm(const struct hash *hash, const IMB_JOB *job) {
         error = check_tag_place(job);
     if (error == 0 && (job->sgl_state == IMB_SGL_INIT || has_segments(job)))
         error = check_aad_of_gcm(job);
-    return error == 0 && has_segments(job) ? check_segments(job) : error;
+    return error == 0 && has_segments(job) ? check_segments_behind(job) : error;
 }
 
 static int check_aad_of_ccm(const IMB_JOB *job) {

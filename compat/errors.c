@@ -91,7 +91,6 @@ static const char *const texts[IMB_ERR_MAX - IMB_ERR_MIN] = {
     [IMB_ERR_SRC_OFFSET - IMB_ERR_MIN] = "Invalid source offset (direct API)",
     [IMB_ERR_NULL_AUTH_KEY - IMB_ERR_MIN] = "Null pointer to authentication key (direct API)",
     [IMB_ERR_NULL_CTX - IMB_ERR_MIN] = "Null pointer to context (direct API)",
-    [IMB_ERR_NO_AESNI_EMU - IMB_ERR_MIN] = "No AESNI emulation support",
     [IMB_ERR_JOB_NULL_HMAC_OPAD - IMB_ERR_MIN] = "Null pointer to HMAC OPAD",
     [IMB_ERR_JOB_NULL_HMAC_IPAD - IMB_ERR_MIN] = "Null pointer to HMAC IPAD",
     [IMB_ERR_JOB_NULL_XCBC_K1_EXP - IMB_ERR_MIN] = "Null pointer to XCBC K1 expanded",
@@ -106,6 +105,7 @@ static const char *const texts[IMB_ERR_MAX - IMB_ERR_MIN] = {
     [IMB_ERR_BURST_SIZE - IMB_ERR_MIN] = "Invalid burst size",
     [IMB_ERR_BURST_OOO - IMB_ERR_MIN] = "Burst jobs out of order",
     [IMB_ERR_SELFTEST - IMB_ERR_MIN] = "Self-test failed",
+    COMPAT_ERROR_TEXTS
 };
 
 IMB_DLL_EXPORT const char *imb_get_strerror(int error) {

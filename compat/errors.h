@@ -1,4 +1,4 @@
-/* Errors as intel-ipsec-mb 1.3 tells them: a number in the manager, where the call has one, and one of the process. Each call sets both. */
+/* Errors as intel-ipsec-mb tells them: a number in the manager, where the call has one, and one of the process. Each call sets both. */
 #ifndef COMPAT_ERRORS_H
 #define COMPAT_ERRORS_H
 

@@ -38,11 +38,11 @@ static uint32_t change_in_parts(const struct gcm_text *text, uint8_t *tag) {
 static uint32_t refusal_of(const struct gcm_text *text) {
     if (text->iv.len == 0 || text->iv.len > PACKET_BYTES)
         return MBJ_ERR_IV_LENGTH;
-    return text->tag_len == 0 || text->tag_len > IMB_MAX_TAG_LEN ? MBJ_ERR_TAG_LENGTH : MBJ_ERR_NONE;
+    return text->tag_len == 0 || text->tag_len > GCM_TAG_BYTES ? MBJ_ERR_TAG_LENGTH : MBJ_ERR_NONE;
 }
 
 uint32_t gcm_whole(const struct gcm_text *text) {
-    COMPAT_ALIGNED_FRAME uint8_t tag[IMB_MAX_TAG_LEN];
+    COMPAT_ALIGNED_FRAME uint8_t tag[GCM_TAG_BYTES];
     uint32_t refusal = has_build() ? refusal_of(text) : (uint32_t)MBJ_ERR_PROCESSOR;
     if (refusal == MBJ_ERR_NONE)
         refusal = is_apart(text) ? change_apart(text, tag) : change_in_parts(text, tag);
@@ -132,7 +132,7 @@ uint32_t gcm_part(struct gcm_context_data *context, const struct gcm_key_data *k
 uint32_t gcm_end(struct gcm_context_data *context, const struct gcm_key_data *key, size_t key_len, uint8_t *tag, size_t tag_len) {
     COMPAT_ALIGNED_FRAME struct mbj_gcm_state state;
     struct parts parts;
-    uint8_t whole[IMB_MAX_TAG_LEN];
+    uint8_t whole[GCM_TAG_BYTES];
     if (tag_len > sizeof whole || !load(&parts, context, key, key_len))
         return tag_len > sizeof whole ? MBJ_ERR_TAG_LENGTH : MBJ_ERR_NO_STATE;
     memcpy(&state, &parts, sizeof state);

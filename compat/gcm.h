@@ -6,6 +6,9 @@
 #include "imb.h"
 #include "keys.h"
 
+/* The bytes of a whole tag (SP 800-38D, 5.2.1.2). */
+enum { GCM_TAG_BYTES = 16 };
+
 /* A text that is sealed or opened from one place to another, and its tag. */
 struct gcm_text {
     uint32_t dir; /* enum mbj_dir */

@@ -35,7 +35,7 @@ static int error_of_begin(const uint8_t *iv, uint64_t iv_len, const uint8_t *aad
 static int error_of_tag(const uint8_t *tag, uint64_t tag_len) {
     if (tag == NULL)
         return IMB_ERR_NULL_AUTH;
-    return tag_len == 0 || tag_len > IMB_MAX_TAG_LEN ? IMB_ERR_AUTH_TAG_LEN : 0;
+    return tag_len == 0 || tag_len > GCM_TAG_BYTES ? IMB_ERR_AUTH_TAG_LEN : 0;
 }
 
 /* The first of errors that isn't 0. */
@@ -121,7 +121,7 @@ static void finish(size_t key_len, const struct gcm_key_data *key, struct gcm_co
     }
 COMPAT_KEY_SIZES(CALLS)
 
-/* The header declares these by name too, for three architectures, which all do the same. */
+/* The header declares these by name too, for some architectures, which all do the same. */
 #define NAME(theirs, ours) IMB_DLL_EXPORT __typeof__(ours) theirs __attribute__((alias(#ours)));
 #define NAMES(bits, arch)                                                                                                                  \
     NAME(aes_gcm_pre_##bits##_##arch, gcm_key_##bits)                                                                                      \
@@ -133,7 +133,7 @@ COMPAT_KEY_SIZES(CALLS)
     NAME(aes_gcm_dec_##bits##_update_##arch, open_part_##bits)                                                                             \
     NAME(aes_gcm_enc_##bits##_finalize_##arch, finish_##bits)                                                                              \
     NAME(aes_gcm_dec_##bits##_finalize_##arch, finish_##bits)
-#define ALL_NAMES(bits) NAMES(bits, sse) NAMES(bits, avx_gen2) NAMES(bits, avx_gen4)
+#define ALL_NAMES(bits) COMPAT_GCM_ARCHITECTURES(NAMES, bits)
 COMPAT_KEY_SIZES(ALL_NAMES)
 
 #define SET(bits)                                                                                                                          \

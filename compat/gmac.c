@@ -53,9 +53,9 @@ static void part(const struct gcm_key_data *key, struct gcm_context_data *contex
 
 static void finish(const struct gcm_key_data *key, struct gcm_context_data *context, uint8_t *tag, uint64_t tag_len) {
     COMPAT_ALIGNED_FRAME struct mbj_gmac_state state;
-    uint8_t whole[IMB_MAX_TAG_LEN];
+    uint8_t whole[GCM_TAG_BYTES];
     int error = null_of(key, context, tag, IMB_ERR_NULL_AUTH);
-    if (error == 0 && (tag_len == 0 || tag_len > IMB_MAX_TAG_LEN))
+    if (error == 0 && (tag_len == 0 || tag_len > GCM_TAG_BYTES))
         error = IMB_ERR_AUTH_TAG_LEN;
     if (!direct_error(error))
         return;

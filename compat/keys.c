@@ -118,6 +118,18 @@ static void put_state(uint32_t hash, const void *block, void *state) {
     wipe(words, sizeof words);
 }
 
+uint32_t put_hmac_states(uint32_t hash, const void *key, size_t len, void *inner, void *outer) {
+    const struct hash_size *size = &sizes[hash];
+    uint8_t states[LONGEST_STATES];
+    uint32_t refusal = proved.mbj_hmac_states(hash, bytes_at(key, len), room_at(states, 2u * size->state));
+    if (refusal == MBJ_ERR_NONE && inner != NULL)
+        turn_words(inner, states, size->state, size->word);
+    if (refusal == MBJ_ERR_NONE && outer != NULL)
+        turn_words(outer, states + size->state, size->state, size->word);
+    wipe(states, sizeof states);
+    return refusal;
+}
+
 static void put_digest(uint32_t hash, const void *text, uint64_t len, void *digest) {
     uint8_t bytes[64];
     if ((text == NULL && len != 0) || digest == NULL) {

@@ -14,6 +14,10 @@ uint32_t put_schedules(const void *key, size_t len, void *encryption, void *decr
 /* Copies a state as intel-ipsec-mb has it, in words of the machine's order, to one in big-endian words, or back. */
 void turn_words(uint8_t *to, const uint8_t *from, size_t len, size_t word);
 
+/* Puts the inner and the outer state of HMAC (RFC 2104, 4), as intel-ipsec-mb has them, for a key of any length; either may be NULL. Returns
+ * the refusal. */
+uint32_t put_hmac_states(uint32_t hash, const void *key, size_t len, void *inner, void *outer);
+
 /* Overwrites what was secret, also where nothing reads it again. */
 void wipe(void *at, size_t len);
 

@@ -6,6 +6,7 @@
 #include "queue.h"
 #include "ring.h"
 #include "selftest.h"
+#include "version.h"
 
 #include <string.h>
 
@@ -59,7 +60,7 @@ IMB_DLL_EXPORT uint64_t imb_get_feature_flags(void) {
     return IMB_FEATURE_CMOV | IMB_FEATURE_SAFE_PARAM | HAS("aes", IMB_FEATURE_AESNI) | HAS("pclmul", IMB_FEATURE_PCLMULQDQ) |
            HAS("sse4.2", IMB_FEATURE_SSE4_2) | HAS("avx", IMB_FEATURE_AVX) | HAS("avx2", IMB_FEATURE_AVX2) | HAS("bmi2", IMB_FEATURE_BMI2) |
            HAS("avx512f", IMB_FEATURE_AVX512F) | HAS("avx512dq", IMB_FEATURE_AVX512DQ) | HAS("avx512cd", IMB_FEATURE_AVX512CD) |
-           HAS("avx512bw", IMB_FEATURE_AVX512BW) | HAS("avx512vl", IMB_FEATURE_AVX512VL);
+           HAS("avx512bw", IMB_FEATURE_AVX512BW) | HAS("avx512vl", IMB_FEATURE_AVX512VL) | version_features();
 }
 
 /* ---- making ---- */
@@ -71,6 +72,7 @@ static void set_functions(IMB_MGR *m) {
     set_key_functions(m);
     set_gcm_functions(m);
     set_gmac_functions(m);
+    set_version_functions(m);
 }
 
 /* The pointers to the managers of the algorithms, by the header from aes128_ooo to end_ooo. */
@@ -96,8 +98,8 @@ static uint32_t make(struct dropin *d) {
  * manager that was never set up are NULL, as with intel-ipsec-mb 1.3. */
 IMB_DLL_EXPORT IMB_MGR *imb_set_pointers_mb_mgr(void *memory, const uint64_t flags, const unsigned reset) {
     IMB_MGR *m = memory;
-    if (m == NULL || (flags & IMB_FLAG_AESNI_OFF) != 0) {
-        set_error(m, m == NULL ? ENOMEM : IMB_ERR_NO_AESNI_EMU);
+    if (m == NULL || (flags & COMPAT_REFUSED_FLAGS) != 0) {
+        set_error(m, m == NULL ? ENOMEM : COMPAT_REFUSED_FLAGS_ERROR);
         return NULL;
     }
     if (reset != 0) {
@@ -114,7 +116,7 @@ IMB_DLL_EXPORT IMB_MGR *imb_set_pointers_mb_mgr(void *memory, const uint64_t fla
     m->features = imb_get_feature_flags();
     set_pointers(m);
     if (m->used_arch != IMB_ARCH_NONE) {
-        m->features |= selftest_features();
+        m->features |= selftest_features(has_passed_selftest());
         set_functions(m);
     }
     return m;
@@ -159,7 +161,7 @@ static uint32_t forget_jobs(struct dropin *d) {
     return refusal;
 }
 
-static void set_up(IMB_MGR *m, IMB_ARCH arch, uint64_t wanted) {
+void set_up_manager(IMB_MGR *m, IMB_ARCH arch, uint64_t wanted) {
     struct dropin *d = dropin_of(m);
     if (d == NULL)
         return;
@@ -168,34 +170,32 @@ static void set_up(IMB_MGR *m, IMB_ARCH arch, uint64_t wanted) {
         return;
     }
     int error = error_of_refusal(forget_jobs(d));
-    set_error(m, error == 0 && !has_passed_selftest() ? IMB_ERR_SELFTEST : error);
+    bool has_passed = passes_at_set_up(m);
+    set_error(m, error == 0 && !has_passed ? IMB_ERR_SELFTEST : error);
     set_functions(m);
-    m->features |= selftest_features();
+    m->features = (m->features & ~IMB_FEATURE_SELF_TEST_PASS) | selftest_features(has_passed);
     m->used_arch = arch;
+    note_architecture(m);
     m->earliest_job = -1;
     m->next_job = 0;
 }
 
 IMB_DLL_EXPORT void init_mb_mgr_sse(IMB_MGR *m) {
-    set_up(m, IMB_ARCH_SSE, IMB_CPUFLAGS_SSE);
-}
-
-IMB_DLL_EXPORT void init_mb_mgr_avx(IMB_MGR *m) {
-    set_up(m, IMB_ARCH_AVX, IMB_CPUFLAGS_AVX);
+    set_up_manager(m, IMB_ARCH_SSE, IMB_CPUFLAGS_SSE);
 }
 
 IMB_DLL_EXPORT void init_mb_mgr_avx2(IMB_MGR *m) {
-    set_up(m, IMB_ARCH_AVX2, IMB_CPUFLAGS_AVX2);
+    set_up_manager(m, IMB_ARCH_AVX2, IMB_CPUFLAGS_AVX2);
 }
 
 IMB_DLL_EXPORT void init_mb_mgr_avx512(IMB_MGR *m) {
-    set_up(m, IMB_ARCH_AVX512, IMB_CPUFLAGS_AVX512);
+    set_up_manager(m, IMB_ARCH_AVX512, IMB_CPUFLAGS_AVX512);
 }
 
 /* AVX2 is the most that a build is for. Without a manager nothing is written, as by intel-ipsec-mb 1.3. */
 IMB_DLL_EXPORT void init_mb_mgr_auto(IMB_MGR *m, IMB_ARCH *arch) {
     IMB_ARCH best = (imb_get_feature_flags() & IMB_CPUFLAGS_AVX2) == IMB_CPUFLAGS_AVX2 ? IMB_ARCH_AVX2 : IMB_ARCH_SSE;
-    set_up(m, best, 0);
+    set_up_manager(m, best, 0);
     if (arch != NULL && m != NULL)
         *arch = m->imb_errno == 0 || m->imb_errno == IMB_ERR_SELFTEST ? best : IMB_ARCH_NONE;
 }

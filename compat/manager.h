@@ -57,4 +57,7 @@ IMB_MGR *manager_of(struct dropin *d);
 /* What stands behind a manager, or NULL where none was made in this memory. It sets the errors to none, or to that. */
 struct dropin *dropin_of(IMB_MGR *m);
 
+/* Sets a manager up for an architecture, where the processor has the features that are wanted; an error says why not. */
+void set_up_manager(IMB_MGR *m, IMB_ARCH arch, uint64_t wanted);
+
 #endif

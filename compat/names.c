@@ -39,27 +39,5 @@
         cmac_subkeys_128(schedule, first, second);                                                                                         \
     }
 
-#define HASH(arch, name)                                                                                                                   \
-    IMB_DLL_EXPORT void name##_##arch(const void *text, const uint64_t len, void *digest) {                                                \
-        name##_digest(text, len, digest);                                                                                                  \
-    }                                                                                                                                      \
-    IMB_DLL_EXPORT void name##_one_block_##arch(const void *block, void *state) {                                                          \
-        name##_state(block, state);                                                                                                        \
-    }
-
-#define HASHES(arch)                                                                                                                       \
-    HASH(arch, sha1)                                                                                                                       \
-    HASH(arch, sha224)                                                                                                                     \
-    HASH(arch, sha256)                                                                                                                     \
-    HASH(arch, sha384)                                                                                                                     \
-    HASH(arch, sha512)
-
-#define ALL(arch)                                                                                                                          \
-    JOBS(arch)                                                                                                                             \
-    KEYS(arch)                                                                                                                             \
-    HASHES(arch)
-
-ALL(sse)
-ALL(avx)
-ALL(avx2)
-ALL(avx512)
+COMPAT_ARCHITECTURES(JOBS)
+COMPAT_KEY_ARCHITECTURES(KEYS)

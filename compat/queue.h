@@ -4,9 +4,8 @@
 
 #include "manager.h"
 
-/* Submits a job as the next one of the queue, which isn't full. The job's arguments are those of `job`, and `given` is what is given back.
- * Returns the queue's earliest job where that has ended. */
-IMB_JOB *queue_submit(IMB_MGR *m, struct queue *queue, const IMB_JOB *job, IMB_JOB *given, bool is_checked);
+/* Submits a job as the next one of the queue, which isn't full. Returns the queue's earliest job where that has ended. */
+IMB_JOB *queue_submit(IMB_MGR *m, struct queue *queue, IMB_JOB *job, bool is_checked);
 
 /* Gives the earliest job back where it has ended; NULL where it hasn't, or none is there. */
 IMB_JOB *queue_completed(struct dropin *d, struct queue *queue);

@@ -3,6 +3,7 @@
  * submission that fills the ring finishes the earliest job. */
 #include "ring.h"
 #include "errors.h"
+#include "parts.h"
 
 int offset_behind(int offset) {
     int next = offset + (int)sizeof(IMB_JOB);
@@ -25,22 +26,50 @@ static IMB_JOB *note_given(IMB_MGR *m, IMB_JOB *job) {
     return job;
 }
 
-IMB_JOB *ring_completed(IMB_MGR *m) {
+static IMB_JOB *ring_completed(IMB_MGR *m) {
     return note_given(m, queue_completed(m->aes128_ooo, ring_of(m)));
 }
 
-IMB_JOB *ring_flush(IMB_MGR *m) {
+static IMB_JOB *ring_flush(IMB_MGR *m) {
     return note_given(m, queue_flush(m->aes128_ooo, ring_of(m)));
 }
 
-IMB_JOB *ring_submit(IMB_MGR *m, bool is_checked) {
+static IMB_JOB *ring_submit(IMB_MGR *m, bool is_checked) {
     if (queue_len(ring_of(m)) == IMB_MAX_JOBS)
         return NULL;
     IMB_JOB *job = job_at(m, m->next_job);
     if (m->earliest_job < 0)
         m->earliest_job = m->next_job;
     m->next_job = offset_behind(m->next_job);
-    return note_given(m, queue_submit(m, ring_of(m), job, job, is_checked));
+    return note_given(m, queue_submit(m, ring_of(m), job, is_checked));
+}
+
+void ring_submit_burst(IMB_MGR *m, uint32_t n, bool is_checked) {
+    struct part part;
+    part_begin(&part);
+    for (uint32_t i = 0; i < n; i++) {
+        IMB_JOB *job = job_at(m, m->next_job);
+        if (m->earliest_job < 0)
+            m->earliest_job = m->next_job;
+        m->next_job = offset_behind(m->next_job);
+        part_add(m, ring_of(m), &part, job, job, is_checked);
+    }
+    part_hand_over(m, ring_of(m), &part);
+}
+
+/* The jobs were given back, which is noted by the last one. */
+static uint32_t note_burst(IMB_MGR *m, IMB_JOB **jobs, uint32_t n) {
+    if (n != 0)
+        (void)note_given(m, jobs[n - 1]);
+    return n;
+}
+
+uint32_t ring_completed_burst(IMB_MGR *m, uint32_t n, IMB_JOB **jobs) {
+    return note_burst(m, jobs, queue_completed_burst(m->aes128_ooo, ring_of(m), n, jobs));
+}
+
+uint32_t ring_flush_burst(IMB_MGR *m, uint32_t n, IMB_JOB **jobs) {
+    return note_burst(m, jobs, queue_flush_burst(m->aes128_ooo, ring_of(m), n, jobs));
 }
 
 /* ---- the calls ---- */

@@ -15,12 +15,16 @@ uint32_t jobs_out(IMB_MGR *m);
 int offset_behind(int offset);
 IMB_JOB *job_at(IMB_MGR *m, int offset);
 
-/* Submits the next job of the array, where one is left, and gives the earliest job back where that has ended. */
-IMB_JOB *ring_submit(IMB_MGR *m, bool is_checked);
+/* Submits the next n jobs of the array, where as many are left. */
+void ring_submit_burst(IMB_MGR *m, uint32_t n, bool is_checked);
 
-/* Gives the earliest job back where it has ended, or after finishing it; NULL where none is there. */
-IMB_JOB *ring_completed(IMB_MGR *m);
-IMB_JOB *ring_flush(IMB_MGR *m);
+/* Give up to n jobs back, the earliest ones, where these have ended, or after finishing them. Return how many. */
+uint32_t ring_completed_burst(IMB_MGR *m, uint32_t n, IMB_JOB **jobs);
+uint32_t ring_flush_burst(IMB_MGR *m, uint32_t n, IMB_JOB **jobs);
+
+/* A burst of an array of the application's by an AEAD, all of whose jobs are done when it returns: how many are. */
+uint32_t aead_burst(IMB_MGR *m, IMB_JOB *jobs, uint32_t n, IMB_CIPHER_MODE cipher, IMB_CIPHER_DIRECTION dir, IMB_KEY_SIZE_BYTES key_len,
+                    bool is_checked);
 
 /* Sets the functions of jobs, and of bursts.c, in the manager's table. */
 void set_job_functions(IMB_MGR *m);

@@ -1,5 +1,6 @@
 #include "say.h"
 #include "algorithms.h"
+#include "bits.h"
 #include "raw_key.h"
 
 #include <string.h>
@@ -15,6 +16,7 @@ void say_nothing(struct said *said) {
     raw->tag_len = 0;
     raw->session = MBJ_NO_SESSION;
     said->found = 0;
+    said->gathered = 0;
 }
 
 static void say_codes(struct mbj_raw_job *raw, const IMB_JOB *job) {
@@ -79,8 +81,8 @@ void forget_said(struct dropin *d, struct said *said) {
         wipe(said->key, sizeof said->key);
     if (said->raw.auth_key.at == said->states)
         wipe(said->states, sizeof said->states);
-    if (said->raw.packet.at == d->gathered)
-        wipe(d->gathered, said->raw.packet.len);
+    if (said->raw.packet.at == d->gathered + said->gathered)
+        wipe(d->gathered + said->gathered, said->raw.packet.len);
 }
 
 bool overlap(const void *a, uint64_t a_len, const void *b, uint64_t b_len) {
@@ -89,7 +91,7 @@ bool overlap(const void *a, uint64_t a_len, const void *b, uint64_t b_len) {
 }
 
 /* One packet of two ranges that overlap: the bytes as they lie, or a copy, where the cipher's come from elsewhere. */
-static bool say_span(struct dropin *d, struct mbj_raw_job *raw, const IMB_JOB *job, const uint8_t *ciphered) {
+static bool say_span(struct mbj_raw_job *raw, const IMB_JOB *job, const uint8_t *ciphered, uint8_t *gathered) {
     const uint8_t *hashed = hash_start(job), *start = ciphered < hashed ? ciphered : hashed;
     const uint8_t *end = ciphered + raw->cipher_len, *hash_end = hashed + raw->hash_len;
     size_t len = (size_t)((end > hash_end ? end : hash_end) - start);
@@ -99,20 +101,20 @@ static bool say_span(struct dropin *d, struct mbj_raw_job *raw, const IMB_JOB *j
     raw->hash_off = (uint64_t)(hashed - start);
     raw->packet = bytes_at(start, len);
     if (ciphered != cipher_start(job)) {
-        memcpy(d->gathered, start, len);
-        memcpy(d->gathered + raw->cipher_off, cipher_start(job), raw->cipher_len);
-        raw->packet = bytes_at(d->gathered, len);
+        memcpy(gathered, start, len);
+        memcpy(gathered + raw->cipher_off, cipher_start(job), raw->cipher_len);
+        raw->packet = bytes_at(gathered, len);
     }
     return true;
 }
 
-static bool say_both(struct dropin *d, struct mbj_raw_job *raw, const IMB_JOB *job) {
+static bool say_both(struct mbj_raw_job *raw, const IMB_JOB *job, uint8_t *gathered) {
     if (raw->cipher_len + raw->hash_len > PACKET_BYTES)
         return false;
-    memcpy(d->gathered, cipher_start(job), raw->cipher_len);
-    memcpy(d->gathered + raw->cipher_len, hash_start(job), raw->hash_len);
+    memcpy(gathered, cipher_start(job), raw->cipher_len);
+    memcpy(gathered + raw->cipher_len, hash_start(job), raw->hash_len);
     raw->hash_off = raw->cipher_len;
-    raw->packet = bytes_at(d->gathered, raw->cipher_len + raw->hash_len);
+    raw->packet = bytes_at(gathered, raw->cipher_len + raw->hash_len);
     return true;
 }
 
@@ -129,6 +131,30 @@ bool say_ranges(struct dropin *d, struct said *said, const IMB_JOB *job) {
         return true;
     const uint8_t *ciphered = is_hash_first(job) ? cipher_start(job) : job->dst;
     if (overlap(ciphered, raw->cipher_len, hash_start(job), raw->hash_len))
-        return say_span(d, raw, job, ciphered);
-    return say_both(d, raw, job);
+        return say_span(raw, job, ciphered, d->gathered + said->gathered);
+    return say_both(raw, job, d->gathered + said->gathered);
+}
+
+bool say_job(struct dropin *d, struct said *said, const IMB_JOB *job, size_t gathered) {
+    say_nothing(said);
+    said->gathered = gathered;
+    if (cipher_of(job)->partner != 0) {
+        say_aead(said, job);
+        return true;
+    }
+    say_cipher(d, said, job);
+    say_hash(said, job);
+    if (!say_ranges(d, said, job)) {
+        forget_said(d, said);
+        leave_key(d, said->found);
+        return false;
+    }
+    if (hash_open_bits(job) != 0)
+        say_padded(d, said, job);
+    return true;
+}
+
+/* Of both ranges, which are no longer than a packet, or of the hash's in whole blocks. */
+size_t most_gathered(const IMB_JOB *job) {
+    return cipher_of(job)->partner != 0 ? 0 : cipher_bytes(job) + hash_bytes(job) + 16;
 }

@@ -1,15 +1,9 @@
-/* By its source, intel-ipsec-mb 1.3 takes some values of a job that nothing has checked for others, of which docs/FROM_IPSEC_MB.md has a
- * table. The same is done here, where that reads no more than the least right value needs that isn't below the given one. */
+/* intel-ipsec-mb takes some values of a job that nothing has checked for others, of which docs/FROM_IPSEC_MB.md has a table. The same is done
+ * here, where that reads no more than the least right value needs that isn't below the given one. */
 #include "unchecked.h"
-#include "algorithms.h"
+#include "version.h"
 
-enum { BLOCK = 16, SHORT_IV = 12, LEAST_KEY = 16, MIDDLE_KEY = 24, MOST_KEY = 32 };
-
-/* A key that has none of the shorter lengths is taken for the longest one. CCM has no key of 24 bytes. */
-static uint64_t key_len_as_taken(const struct cipher *cipher, uint64_t len) {
-    uint64_t shorter = cipher->kind == CIPHER_CCM ? LEAST_KEY : MIDDLE_KEY;
-    return len > shorter && len < MOST_KEY ? MOST_KEY : len;
-}
+enum { BLOCK = 16, SHORT_IV = 12 };
 
 /* CBC, and CTR with a length in bits, read a block whatever the length is. CTR reads a block where bit 4 of the length is set. */
 static uint64_t iv_len_as_taken(const struct cipher *cipher, uint64_t len) {

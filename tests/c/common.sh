@@ -16,7 +16,8 @@ sanitizers='-fsanitize=address,undefined -fno-sanitize-recover=all'
 export ASAN_OPTIONS=exitcode=23 UBSAN_OPTIONS=halt_on_error=1 TSAN_OPTIONS=halt_on_error=1
 wraps='-Wl,--wrap=malloc,--wrap=aligned_alloc,--wrap=calloc,--wrap=realloc,--wrap=free,--wrap=mbj_c_version,--wrap=mbj_c_missing_feature'
 selftest="$tests/selftest.c $top/include/mbj_selftest.c $tests/refuse.c"
-spoils="$wraps,--wrap=mbj_c_submit,--wrap=mbj_c_flush"
+looks='-Wl,--wrap=mbj_c_submit_job'
+spoils="$wraps,--wrap=mbj_c_submit,--wrap=mbj_c_submit_job,--wrap=mbj_c_flush"
 
 # check NAME COMMAND..: runs the command, and ends the script where it fails.
 check() {

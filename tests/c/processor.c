@@ -158,6 +158,11 @@ bool mbj_c_submit(struct mbj_handle *handle, struct mbj_raw_done *done, uint32_t
     return give_none(handle, done, refusal);
 }
 
+bool mbj_c_submit_job(struct mbj_handle *handle, const struct mbj_raw_job *raw, struct mbj_raw_done *done, uint32_t *refusal) {
+    (void)raw;
+    return give_none(handle, done, refusal);
+}
+
 bool mbj_c_get_completed(struct mbj_handle *handle, struct mbj_raw_done *done, uint32_t *refusal) {
     return give_none(handle, done, refusal);
 }

@@ -1,5 +1,5 @@
 /* Tests include/mbj_selftest.c: no fault is found where there is none, every result that is spoiled is found and named, and a refusal is
- * told. Link with that file, with refuse.c, and with -Wl,--wrap for mbj_c_submit and mbj_c_flush, whose results are spoiled here. */
+ * told. Link with that file, with refuse.c, and with -Wl,--wrap for mbj_c_submit, mbj_c_submit_job and mbj_c_flush, whose results are spoiled here. */
 #include "check.h"
 #include "mbj_selftest.h"
 #include "refuse.h"
@@ -11,6 +11,8 @@ extern "C" {
 /* The linker puts the first of each pair in the place of the function, which is the second. */
 bool __wrap_mbj_c_submit(struct mbj_handle *handle, struct mbj_raw_done *done, uint32_t *refusal);
 bool __real_mbj_c_submit(struct mbj_handle *handle, struct mbj_raw_done *done, uint32_t *refusal);
+bool __wrap_mbj_c_submit_job(struct mbj_handle *handle, const struct mbj_raw_job *job, struct mbj_raw_done *done, uint32_t *refusal);
+bool __real_mbj_c_submit_job(struct mbj_handle *handle, const struct mbj_raw_job *job, struct mbj_raw_done *done, uint32_t *refusal);
 bool __wrap_mbj_c_flush(struct mbj_handle *handle, struct mbj_raw_done *done, uint32_t *refusal);
 bool __real_mbj_c_flush(struct mbj_handle *handle, struct mbj_raw_done *done, uint32_t *refusal);
 
@@ -46,6 +48,10 @@ static bool look_at(bool is_given, struct mbj_raw_done *done) {
 
 bool __wrap_mbj_c_submit(struct mbj_handle *handle, struct mbj_raw_done *done, uint32_t *refusal) {
     return look_at(__real_mbj_c_submit(handle, done, refusal), done);
+}
+
+bool __wrap_mbj_c_submit_job(struct mbj_handle *handle, const struct mbj_raw_job *job, struct mbj_raw_done *done, uint32_t *refusal) {
+    return look_at(__real_mbj_c_submit_job(handle, job, done, refusal), done);
 }
 
 bool __wrap_mbj_c_flush(struct mbj_handle *handle, struct mbj_raw_done *done, uint32_t *refusal) {

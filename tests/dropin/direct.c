@@ -218,12 +218,21 @@ static void compare_wrong_calls(void) {
     EACH(gmac128_init, 1, 3, NOT(1, &gcm_key), NOT(2, &gcm_context), NOT(3, bytes[0]), 12)
 }
 
-/* No pointer of the table is NULL: absent.c has what isn't here. */
+/* Whether a pointer of the table is one of the application's. */
+static bool is_given(const IMB_MGR *m, void *const *pointer) {
+#if IS_VERSION_2
+    return pointer == (const void *)&m->self_test_cb_fn || pointer == (const void *)&m->self_test_cb_arg;
+#else
+    return m == NULL || pointer == NULL;
+#endif
+}
+
+/* No other pointer of the table is NULL: absent.c has what isn't here. */
 static void check_table(void) {
     IMB_MGR *m = libraries[1].m;
     void *const *functions = (void *const *)(const void *)&m->get_next_job;
     for (size_t i = 0; i < (offsetof(IMB_MGR, earliest_job) - offsetof(IMB_MGR, get_next_job)) / sizeof *functions; i++)
-        if (functions[i] == NULL) {
+        if (functions[i] == NULL && !is_given(m, &functions[i])) {
             printf("function %zu of the table is NULL\n", i);
             differing++;
         }

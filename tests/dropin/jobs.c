@@ -1,7 +1,8 @@
 /* jobs OTHER DROPIN [JOBS [SEED]]: gives the same drawn jobs to two libraries, and compares what they write, with which status and error
  * each comes back, the order in which they do, and the keys that were expanded. Half of the rounds are of jobs that nothing checks, many
- * of which have a field that a checked job can't have. Half of these go by bursts, but for the first library: the bursts of intel-ipsec-mb
- * 1.3 take a ring that is full for one that is empty. */
+ * of which have a field that a checked job can't have. Half of the rounds go by bursts, but for the first library: the bursts of
+ * intel-ipsec-mb 1.3 take a ring that is full for one that is empty. In 2.0 each job of a checked burst has a session, and half of those
+ * that are submitted singly. */
 #include "odd.h"
 
 #include <stdio.h>
@@ -17,12 +18,12 @@ struct side {
 };
 
 /* How the jobs of a round are submitted. */
-enum way { CHECKED, UNCHECKED, IN_BURSTS };
+enum way { CHECKED, UNCHECKED, CHECKED_IN_BURSTS, IN_BURSTS, WAYS };
 
 static struct side *sides[2];
 static struct sample samples[MOST];
 static struct odd odds[MOST];
-static unsigned odd_ones, refused_ones;
+static unsigned odd_ones, refused_ones, sessions, without_session;
 
 static void note_given(struct side *side, const IMB_JOB *job) {
     int i = (int)(intptr_t)job->user_data;
@@ -31,9 +32,21 @@ static void note_given(struct side *side, const IMB_JOB *job) {
     side->status[i] = (int)job->status;
 }
 
+/* The session isn't told of a field that a checked job can't have. A faulty job may have none. */
+static void set_session(struct side *side, IMB_JOB *job, int i) {
+    bool has_session = side->library.set_session(side->library.m, job) != 0;
+    sessions += has_session && side == sides[1];
+    if (!has_session && !samples[i].is_faulty && without_session++ < 4) {
+        printf("job %d has no session in %s: ", i, side->library.path);
+        print_sample(&samples[i]);
+    }
+}
+
 /* A job that the drop-in has to refuse is one that does nothing for the first library. */
-static void fill(struct side *side, IMB_JOB *job, int i) {
+static void fill(struct side *side, IMB_JOB *job, int i, bool has_session) {
     fill_job(side->library.m, job, &side->keys[i], &samples[i], side->memory[i]);
+    if (IS_VERSION_2 && has_session)
+        set_session(side, job, i);
     make_odd(job, &odds[i]);
     if (odds[i].is_refused && side == sides[0]) {
         job->cipher_mode = IMB_CIPHER_NULL;
@@ -51,7 +64,7 @@ static unsigned flushes_after(int i, uint64_t seed) {
 static void submit_singly(struct side *side, int n, uint64_t seed, bool is_checked) {
     IMB_MGR *m = side->library.m;
     for (int i = 0; i < n; i++) {
-        fill(side, IMB_GET_NEXT_JOB(m), i);
+        fill(side, IMB_GET_NEXT_JOB(m), i, i % 2 == 0);
         IMB_JOB *job = is_checked ? IMB_SUBMIT_JOB(m) : IMB_SUBMIT_JOB_NOCHECK(m);
         side->error[i] = m->imb_errno;
         for (; job != NULL; job = IMB_GET_COMPLETED_JOB(m))
@@ -66,7 +79,7 @@ static void note_burst(struct side *side, IMB_JOB **jobs, uint32_t n) {
         note_given(side, jobs[k]);
 }
 
-static void submit_in_bursts(struct side *side, int n, uint64_t seed) {
+static void submit_in_bursts(struct side *side, int n, uint64_t seed, bool is_checked) {
     IMB_MGR *m = side->library.m;
     IMB_JOB *jobs[IMB_MAX_BURST_SIZE];
     for (int i = 0; i < n;) {
@@ -75,9 +88,9 @@ static void submit_in_bursts(struct side *side, int n, uint64_t seed) {
             wanted = (uint32_t)(n - i);
         uint32_t have = IMB_GET_NEXT_BURST(m, wanted, jobs);
         for (uint32_t k = 0; k < have; k++)
-            fill(side, jobs[k], i + (int)k);
+            fill(side, jobs[k], i + (int)k, is_checked || seed % 3 != 0);
         i += (int)have;
-        note_burst(side, jobs, IMB_SUBMIT_BURST_NOCHECK(m, have, jobs));
+        note_burst(side, jobs, is_checked ? IMB_SUBMIT_BURST(m, have, jobs) : IMB_SUBMIT_BURST_NOCHECK(m, have, jobs));
         if (have < wanted)
             note_burst(side, jobs, IMB_FLUSH_BURST(m, 64, jobs));
     }
@@ -85,10 +98,10 @@ static void submit_in_bursts(struct side *side, int n, uint64_t seed) {
 
 static void drive(struct side *side, int n, uint64_t seed, enum way way) {
     side->given = 0;
-    if (way == IN_BURSTS && side == sides[1])
-        submit_in_bursts(side, n, seed);
+    if (way >= CHECKED_IN_BURSTS && side == sides[1])
+        submit_in_bursts(side, n, seed, way == CHECKED_IN_BURSTS);
     else
-        submit_singly(side, n, seed, way == CHECKED);
+        submit_singly(side, n, seed, way == CHECKED || way == CHECKED_IN_BURSTS);
     for (IMB_JOB *job; (job = IMB_FLUSH_JOB(side->library.m)) != NULL;)
         note_given(side, job);
 }
@@ -99,7 +112,7 @@ static void draw_round(int n, enum way way) {
             draw_sample(&samples[i]);
         while (way != CHECKED && samples[i].is_faulty);
         odds[i] = (struct odd){.field = ODD_NONE, .own_tag_len = samples[i].tag_len};
-        if (way != CHECKED && draw_below(2) == 0)
+        if ((way == UNCHECKED || way == IN_BURSTS) && draw_below(2) == 0)
             draw_odd(&odds[i], &samples[i]);
         odd_ones += odds[i].field != ODD_NONE;
         refused_ones += odds[i].is_refused;
@@ -178,20 +191,20 @@ int main(int argc, char **argv) {
         load_library(&sides[side]->library, argv[1 + side]);
     }
     for (unsigned round = 0; drawn.jobs < wanted && differing == 0; round++) {
-        enum way way = round % 2 == 0 ? CHECKED : round % 4 == 1 ? UNCHECKED : IN_BURSTS;
+        enum way way = (enum way)(round % WAYS);
         start_drawing(seed + round);
         int n = 1 + (int)draw_below(MOST);
         draw_round(n, way);
         for (int side = 0; side < 2; side++)
             drive(sides[side], n, seed + round, way);
-        differing += compare_round(n, way);
+        differing += compare_round(n, way) + without_session;
         if (differing != 0)
             printf("seed %lu\n", seed + round);
     }
     printf("%u jobs, %u differ; faulty %u, longer than a packet %u, out of place %u, near the counter's end %u, ciphered tags %u, "
-           "unchecked with an odd field %u, of which refused %u\n",
+           "unchecked with an odd field %u, of which refused %u; with a session %u\n",
            drawn.jobs, differing, drawn.faulty, drawn.long_ones, drawn.elsewhere, drawn.wrapping, drawn.ciphered_tags, odd_ones,
-           refused_ones);
+           refused_ones, sessions);
     for (int side = 0; side < 2; side++)
         sides[side]->library.release(sides[side]->library.m);
     return differing != 0;

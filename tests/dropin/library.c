@@ -27,6 +27,7 @@ void load_library(struct library *library, const char *path) {
     *(void **)&library->manager_size = find(library, "imb_get_mb_mgr_size");
     *(void **)&library->error = find(library, "imb_get_errno");
     *(void **)&library->text = find(library, "imb_get_strerror");
+    *(void **)&library->set_session = IS_VERSION_2 ? find(library, "imb_set_session") : NULL;
     library->m = library->alloc(0);
     if (library->m == NULL) {
         fprintf(stderr, "%s: %s\n", path, library->text(library->error(NULL)));

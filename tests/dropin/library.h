@@ -1,11 +1,14 @@
-/* A library with the ABI of intel-ipsec-mb 1.3, loaded by its path, so that a program has two of them beside each other; and numbers that
- * are drawn. */
+/* A library with the ABI of the intel-ipsec-mb whose header is included, 1.3 or 2.0, loaded by its path, so that a program has two of them
+ * beside each other; and numbers that are drawn. */
 #ifndef DROPIN_LIBRARY_H
 #define DROPIN_LIBRARY_H
 
 #define NO_COMPAT_IMB_API_053
 #include <intel-ipsec-mb.h>
 #include <stdbool.h>
+
+/* What the tests draw or ask by the version: 2.0 has sessions. */
+#define IS_VERSION_2 (IMB_VERSION_NUM >= IMB_VERSION(2, 0, 0))
 
 struct library {
     const char *path;
@@ -18,6 +21,7 @@ struct library {
     size_t (*manager_size)(void);
     int (*error)(IMB_MGR *);
     const char *(*text)(int);
+    uint32_t (*set_session)(IMB_MGR *, IMB_JOB *); /* NULL in 1.3 */
 };
 
 /* Loads a library and makes a manager. Ends the program where it can't. */

@@ -214,7 +214,9 @@ static void check_no_manager(void) {
     IMB_MGR *m = make(zone);
     expect(m->get_next_job(&none) == NULL && imb_get_errno(&none) == IMB_ERR_NULL_MBMGR, "memory without a manager is refused");
     expect(m->submit_job(NULL) == NULL && imb_get_errno(NULL) == IMB_ERR_NULL_MBMGR, "NULL is refused");
+#ifdef IMB_FLAG_AESNI_OFF
     expect(alloc_mb_mgr(IMB_FLAG_AESNI_OFF) == NULL && imb_get_errno(NULL) == IMB_ERR_NO_AESNI_EMU, "emulation of AES is refused");
+#endif
     unmap_zone(zone, 0);
 }
 

@@ -1,6 +1,6 @@
 #include "odd.h"
 
-/* What intel-ipsec-mb 1.3 makes of each value is in docs/FROM_IPSEC_MB.md. Where it takes the value for a right one, both libraries have to
+/* What intel-ipsec-mb makes of each value is in docs/FROM_IPSEC_MB.md. Where it takes the value for a right one, both libraries have to
  * write the same bytes. Where it would read or write what the job hasn't, the drop-in has to refuse. */
 
 static bool is_cipher(const struct sample *sample, int cipher) {
@@ -38,25 +38,33 @@ static uint64_t draw_no_code(void) {
     return draw_below(4) == 0 ? 0 : 3 + draw_below(1000);
 }
 
+/* 2.0 takes odd numbers for the direction to encipher, and 1.3 none but its code. */
+static bool is_taken_as(uint64_t dir, const struct sample *sample) {
+    return sample->dir == (IS_VERSION_2 && dir % 2 == 1 ? IMB_DIR_ENCRYPT : IMB_DIR_DECRYPT);
+}
+
 static void draw_code(struct odd *odd, const struct sample *sample) {
     bool is_dir = has_cipher(sample) && draw_below(2) == 0;
     odd->value = draw_no_code();
-    if (is_dir && sample->dir == IMB_DIR_DECRYPT)
+    if (is_dir && is_taken_as(odd->value, sample))
         odd->field = ODD_DIR;
     odd->is_refused = odd->field == ODD_DIR && is_cipher(sample, IMB_CIPHER_CCM);
     if (!is_dir && sample->order == IMB_ORDER_HASH_CIPHER)
         odd->field = ODD_ORDER;
 }
 
+/* 2.0 takes a length for the next one that has whole words of 8 bytes, but for the longest key alone by CCM. 1.3 takes those above the key
+ * before the longest one for that. */
 static void draw_key_len(struct odd *odd, const struct sample *sample) {
-    uint64_t below = is_cipher(sample, IMB_CIPHER_CCM) ? 16 : 24;
+    bool is_ccm = is_cipher(sample, IMB_CIPHER_CCM);
+    uint64_t below = IS_VERSION_2 ? sample->key_len - 8 : is_ccm ? 16 : 24, above = IS_VERSION_2 ? sample->key_len : 32;
     if (!has_cipher(sample))
         return;
     odd->field = ODD_KEY_LEN;
-    odd->is_refused = sample->key_len != 32 || draw_below(3) == 0;
-    odd->value = below + 1 + draw_below(31 - below);
+    odd->is_refused = (sample->key_len != 32 && (!IS_VERSION_2 || is_ccm)) || draw_below(3) == 0;
+    odd->value = below + 1 + draw_below(above - below - 1);
     if (odd->is_refused)
-        odd->value = draw_below(3) == 0 ? 33 + draw_below(1000) : draw_below(16);
+        odd->value = draw_below(3) == 0 ? 33 + draw_below(1000) : draw_below(IS_VERSION_2 ? 9 : 16);
 }
 
 static void draw_iv_len(struct odd *odd, const struct sample *sample) {

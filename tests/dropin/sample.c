@@ -12,6 +12,9 @@ static const int hashes[] = {
     IMB_AUTH_SHA_1,      IMB_AUTH_SHA_224,    IMB_AUTH_SHA_256,         IMB_AUTH_SHA_384,      IMB_AUTH_SHA_512,      IMB_AUTH_AES_CMAC,
     IMB_AUTH_AES_CMAC_256, IMB_AUTH_AES_CMAC_BITLEN, IMB_AUTH_AES_GMAC_128, IMB_AUTH_AES_GMAC_192, IMB_AUTH_AES_GMAC_256};
 
+/* A text of CMAC with a length in bits has up to 65,534 bits in 1.3, and as many bytes in 2.0, where the longest ones are drawn too. */
+enum { MOST_CMAC_BYTES = IS_VERSION_2 ? 65000 : 8000 };
+
 #define ANY_OF(array) array[draw_below(sizeof array / sizeof *array)]
 
 static bool is_hmac(int hash) {
@@ -109,8 +112,10 @@ static void draw_hash(struct sample *sample, size_t most) {
     sample->tag_len = tag_len_of(sample->hash);
     if (sample->hash == IMB_AUTH_AES_CCM)
         sample->hash_len = sample->cipher_len;
+    else if (sample->hash == IMB_AUTH_AES_CMAC_BITLEN && IS_VERSION_2 && draw_below(16) == 0)
+        sample->hash_len = 8 * 65534 - draw_below(8 * 40);
     else if (sample->hash == IMB_AUTH_AES_CMAC_BITLEN)
-        sample->hash_len = 1 + draw_below(8 * (most < 8000 ? most : 8000));
+        sample->hash_len = 1 + draw_below(8 * (most < MOST_CMAC_BYTES ? most : MOST_CMAC_BYTES));
     else if (sample->hash != IMB_AUTH_NULL && !is_aead(sample))
         sample->hash_len = (is_hmac(sample->hash) ? 1 : 0) + draw_below(most);
 }

@@ -1,5 +1,6 @@
 /* setup OTHER DROPIN: compares what two libraries do while a manager is set up and its ring of jobs is filled: pointers, features, errors
- * and what comes back. Then jobs with an IV beyond the limit of the second library, which the other one doesn't have, are refused there. */
+ * and what comes back. Then jobs with an IV beyond the limit of the second library, which the other one doesn't have, are refused there, and
+ * jobs of a burst write over one place in their order. */
 #include "library.h"
 
 #include <stdio.h>
@@ -40,8 +41,10 @@ static void note_setting_up(struct facts *facts, const struct library *library) 
     library->init(NULL, &arch);
     note(facts, "the architecture without a manager", arch);
     note(facts, "the error without a manager", library->error(NULL));
+#ifdef IMB_FLAG_AESNI_OFF
     note(facts, "a manager without AES instructions", library->alloc(IMB_FLAG_AESNI_OFF) != NULL);
     note(facts, "its error", library->error(NULL));
+#endif
 }
 
 /* What an error is called. The first text is copied, since both libraries may ask strerror, whose text lasts until it is asked again. */
@@ -185,6 +188,45 @@ static unsigned check_long_ivs(void) {
     return wrong;
 }
 
+/* ---- jobs of a burst with one place, by the drop-in ---- */
+
+static void fill_ctr(IMB_JOB *job, const uint8_t *schedule, const uint8_t *own_iv, uint8_t *dst) {
+    fill(job);
+    job->cipher_mode = IMB_CIPHER_CNTR;
+    job->hash_alg = IMB_AUTH_NULL;
+    job->cipher_direction = IMB_DIR_ENCRYPT;
+    job->enc_keys = job->dec_keys = schedule;
+    job->key_len_in_bytes = 16;
+    job->dst = dst;
+    job->msg_len_to_cipher_in_bytes = 40;
+    job->iv = own_iv;
+    job->iv_len_in_bytes = 16;
+}
+
+/* Results are written in the order of the jobs: where their places overlap the last one stays. */
+static unsigned check_one_place(void) {
+    enum { JOBS = 40 };
+    DECLARE_ALIGNED(static uint8_t schedules[2][240], 16);
+    static uint8_t ivs[JOBS][16], single[64], shared[128];
+    IMB_MGR *m = libraries[1].m;
+    IMB_JOB *jobs[JOBS];
+    IMB_AES_KEYEXP_128(m, iv, schedules[0], schedules[1]);
+    IMB_GET_NEXT_BURST(m, JOBS, jobs);
+    for (unsigned i = 0; i < JOBS; i++) {
+        ivs[i][0] = (uint8_t)i;
+        fill_ctr(jobs[i], schedules[0], ivs[i], shared + i % 3);
+    }
+    uint32_t given = IMB_SUBMIT_BURST_NOCHECK(m, JOBS, jobs);
+    given += IMB_FLUSH_BURST(m, JOBS - given, jobs);
+    fill_ctr(IMB_GET_NEXT_JOB(m), schedules[0], ivs[JOBS - 1], single);
+    if (IMB_SUBMIT_JOB(m) == NULL)
+        IMB_FLUSH_JOB(m);
+    if (given == JOBS && memcmp(single, shared + (JOBS - 1) % 3, 40) == 0)
+        return 0;
+    printf("jobs of a burst with one place: %u came back, or the last one's bytes aren't there\n", given);
+    return 1;
+}
+
 int main(int argc, char **argv) {
     static struct facts facts[2];
     unsigned differing = 0;
@@ -200,7 +242,7 @@ int main(int argc, char **argv) {
     for (unsigned i = 0; i < facts[0].count; i++)
         if (facts[0].value[i] != facts[1].value[i] && differing++ < 20)
             printf("%s: %ld and %ld\n", facts[0].what[i], facts[0].value[i], facts[1].value[i]);
-    differing += differing_texts() + check_long_ivs();
+    differing += differing_texts() + check_long_ivs() + check_one_place();
     printf("%u facts, %u differ\n", facts[0].count, differing);
     for (int i = 0; i < 2; i++)
         libraries[i].release(libraries[i].m);

@@ -1,12 +1,14 @@
-/* Threads over one library, which this program is linked to: each has a manager of its own, all make keys at once, a manager goes from
- * thread to thread, and one makes sessions that the others use. Prints how many jobs came back wrong. */
+/* Threads over one library, which this program is linked to: each has a manager of its own, to which jobs go singly or in bursts, all make
+ * keys at once, and in 2.0 numbers of sessions, a manager goes from thread to thread, and one makes sessions that the others use. Prints
+ * how many jobs came back wrong. */
 #define NO_COMPAT_IMB_API_053
 #include <intel-ipsec-mb.h>
 #include <pthread.h>
+#include <stdbool.h>
 #include <stdio.h>
 #include <string.h>
 
-enum { THREADS = 6, SESSIONS = 64, JOBS = 200, ROUNDS = 20, LEN = 256, TAG = 20 };
+enum { THREADS = 6, SESSIONS = 64, JOBS = 200, ROUNDS = 20, LEN = 256, TAG = 20, BURST = 32 };
 
 struct session {
     DECLARE_ALIGNED(uint8_t encryption[240], 16);
@@ -66,11 +68,9 @@ static unsigned is_wrong(const IMB_JOB *job) {
     return job->status != IMB_STATUS_COMPLETED || memcmp(job->auth_tag_output, session->wanted, TAG) != 0;
 }
 
-/* Jobs of a manager that this thread alone has, and now and then keys that others make, too. */
-static void own_manager(unsigned thread, unsigned round) {
-    IMB_MGR *m = alloc_mb_mgr(0);
+/* Each returns how many jobs came back. Now and then keys are made that others make, too. */
+static unsigned submit_singly(IMB_MGR *m, unsigned thread, unsigned round) {
     unsigned back = 0;
-    init_mb_mgr_auto(m, NULL);
     for (unsigned i = 0; i < JOBS; i++) {
         struct session again;
         if (i % 16 == 0)
@@ -79,6 +79,39 @@ static void own_manager(unsigned thread, unsigned round) {
         for (IMB_JOB *job = IMB_SUBMIT_JOB(m); job != NULL; job = IMB_GET_COMPLETED_JOB(m), back++)
             wrong[thread] += is_wrong(job);
     }
+    return back;
+}
+
+static bool has_session(IMB_MGR *m, IMB_JOB *job) {
+#if IMB_VERSION_NUM >= IMB_VERSION(2, 0, 0)
+    return imb_set_session(m, job) != 0;
+#else
+    return m != NULL && job != NULL;
+#endif
+}
+
+static unsigned submit_in_bursts(IMB_MGR *m, unsigned thread, unsigned round) {
+    IMB_JOB *jobs[BURST];
+    unsigned back = 0;
+    for (uint32_t i = 0, n; i < JOBS; i += n) {
+        n = IMB_GET_NEXT_BURST(m, JOBS - i < BURST ? JOBS - i : BURST, jobs);
+        for (uint32_t k = 0; k < n; k++) {
+            fill(jobs[k], &sessions[(i + k + round) % SESSIONS], &places[thread][i + k]);
+            wrong[thread] += !has_session(m, jobs[k]);
+        }
+        uint32_t given = IMB_SUBMIT_BURST(m, n, jobs);
+        for (uint32_t k = 0; k < given; k++)
+            wrong[thread] += is_wrong(jobs[k]);
+        back += given;
+    }
+    return back;
+}
+
+/* Jobs of a manager that this thread alone has. */
+static void own_manager(unsigned thread, unsigned round) {
+    IMB_MGR *m = alloc_mb_mgr(0);
+    init_mb_mgr_auto(m, NULL);
+    unsigned back = round % 2 == 0 ? submit_singly(m, thread, round) : submit_in_bursts(m, thread, round);
     for (IMB_JOB *job; (job = IMB_FLUSH_JOB(m)) != NULL; back++)
         wrong[thread] += is_wrong(job);
     wrong[thread] += back != JOBS;

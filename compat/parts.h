@@ -1,0 +1,38 @@
+/* Jobs that go to the proved manager together, and results that come from it together. */
+#ifndef COMPAT_PARTS_H
+#define COMPAT_PARTS_H
+
+#include "queue.h"
+#include "say.h"
+
+/* How many go at once; a longer burst goes in parts. */
+enum { MOST_IN_PART = 32 };
+
+/* Jobs of a queue, the last ones, that are said and aren't handed over yet. */
+struct part {
+    uint32_t count;
+    size_t gathered; /* the bytes of their packets that were gathered */
+    struct said said[MOST_IN_PART];
+    struct slot *slots[MOST_IN_PART];
+};
+
+static inline void part_begin(struct part *part) {
+    part->count = 0;
+    part->gathered = 0;
+}
+
+/* Adds a job to the queue, which isn't full. The job's arguments are those of `job`, and `given` is what is given back. A part that is
+ * full, or before a job that is done at once, is handed over. */
+void part_add(IMB_MGR *m, struct queue *queue, struct part *part, const IMB_JOB *job, IMB_JOB *given, bool is_checked);
+
+/* Hands over what was added. */
+void part_hand_over(IMB_MGR *m, struct queue *queue, struct part *part);
+
+/* Give up to n jobs back, the earliest ones, where these have ended, or after finishing them. Return how many. */
+uint32_t queue_completed_burst(struct dropin *d, struct queue *queue, uint32_t n, IMB_JOB **jobs);
+uint32_t queue_flush_burst(struct dropin *d, struct queue *queue, uint32_t n, IMB_JOB **jobs);
+
+/* Finishes all jobs of a queue, and gives none back. */
+void queue_finish(struct dropin *d, struct queue *queue);
+
+#endif

@@ -1,0 +1,116 @@
+/* burst_cost OTHER DROPIN: what a job costs through the second library, submitted by itself and in a burst of 32, by turns in one process.
+ * A burst may not cost a job more than a submission by itself does. */
+#include "library.h"
+
+#include <stdio.h>
+#include <string.h>
+#include <time.h>
+
+enum { BURST = 32, BATCH = 512, ROUNDS = 40, TRIES = 8, MOST_LEN = 1536, KINDS = 6 };
+
+static const char *const names[KINDS] = {"nothing", "HMAC-SHA-1", "CBC encryption", "CTR", "GCM", "CBC encryption and HMAC-SHA-1"};
+
+static struct library library;
+static uint8_t text[BATCH][MOST_LEN], tags[BATCH][64], pads[2][64], iv[16], aad[16];
+DECLARE_ALIGNED(static uint8_t schedules[2][240], 16);
+DECLARE_ALIGNED(static struct gcm_key_data gcm, 64);
+
+/* As a driver does it: of a slot that has been used, the places and lengths alone are new. */
+static void fill(IMB_JOB *job, int kind, size_t len, size_t number) {
+    static const IMB_CIPHER_MODE ciphers[KINDS] = {IMB_CIPHER_NULL, IMB_CIPHER_NULL, IMB_CIPHER_CBC,
+                                                   IMB_CIPHER_CNTR, IMB_CIPHER_GCM,  IMB_CIPHER_CBC};
+    static const IMB_HASH_ALG hashes[KINDS] = {IMB_AUTH_NULL, IMB_AUTH_HMAC_SHA_1, IMB_AUTH_NULL,
+                                               IMB_AUTH_NULL, IMB_AUTH_AES_GMAC,   IMB_AUTH_HMAC_SHA_1};
+    job->cipher_mode = ciphers[kind];
+    job->hash_alg = hashes[kind];
+    job->cipher_direction = IMB_DIR_ENCRYPT;
+    job->chain_order = IMB_ORDER_CIPHER_HASH;
+    job->enc_keys = kind == 4 ? (const void *)&gcm : schedules[0];
+    job->dec_keys = kind == 4 ? (const void *)&gcm : schedules[1];
+    job->key_len_in_bytes = 16;
+    job->src = job->dst = text[number];
+    job->cipher_start_src_offset_in_bytes = job->hash_start_src_offset_in_bytes = 0;
+    job->msg_len_to_cipher_in_bytes = kind == 3 || kind == 4 ? len : len / 16 * 16;
+    job->msg_len_to_hash_in_bytes = len;
+    job->iv = iv;
+    job->iv_len_in_bytes = kind == 4 ? 12 : 16;
+    job->auth_tag_output = tags[number];
+    job->auth_tag_output_len_in_bytes = 12;
+    if (kind == 4) {
+        job->u.GCM.aad = aad;
+        job->u.GCM.aad_len_in_bytes = 8;
+    } else {
+        job->u.HMAC._hashed_auth_key_xor_ipad = pads[0];
+        job->u.HMAC._hashed_auth_key_xor_opad = pads[1];
+    }
+}
+
+static double now(void) {
+    struct timespec t;
+    clock_gettime(CLOCK_THREAD_CPUTIME_ID, &t);
+    return (double)t.tv_sec * 1e9 + (double)t.tv_nsec;
+}
+
+static void flush(void) {
+    while (IMB_FLUSH_JOB(library.m) != NULL)
+        ;
+}
+
+static double time_of_singles(int kind, size_t len) {
+    IMB_MGR *m = library.m;
+    double start = now();
+    for (size_t i = 0; i < BATCH; i++) {
+        fill(IMB_GET_NEXT_JOB(m), kind, len, i);
+        for (const IMB_JOB *job = IMB_SUBMIT_JOB_NOCHECK(m); job != NULL; job = IMB_GET_COMPLETED_JOB(m))
+            ;
+    }
+    double took = (now() - start) / BATCH;
+    flush();
+    return took;
+}
+
+static double time_of_bursts(int kind, size_t len) {
+    IMB_MGR *m = library.m;
+    IMB_JOB *jobs[BURST];
+    double start = now();
+    for (size_t i = 0; i < BATCH; i += BURST) {
+        if (IMB_GET_NEXT_BURST(m, BURST, jobs) != BURST)
+            return 1e18;
+        for (size_t k = 0; k < BURST; k++)
+            fill(jobs[k], kind, len, i + k);
+        IMB_SUBMIT_BURST_NOCHECK(m, BURST, jobs);
+    }
+    double took = (now() - start) / BATCH;
+    flush();
+    return took;
+}
+
+/* Another program may take the processor at any time: one try of a few is enough. */
+static bool costs_no_more(int kind, size_t len) {
+    double single = 0, burst = 1e18;
+    for (int try = 0; try < TRIES && burst > single; try++) {
+        single = burst = 1e18;
+        for (int round = 0; round < ROUNDS; round++) {
+            double one = time_of_singles(kind, len), other = time_of_bursts(kind, len);
+            single = one < single ? one : single;
+            burst = other < burst ? other : burst;
+        }
+    }
+    printf("%-30s %5zu bytes: %6.0f ns by itself, %6.0f in a burst\n", names[kind], len, single, burst);
+    return burst <= single;
+}
+
+int main(int argc, char **argv) {
+    static const size_t lens[] = {64, 256, 1500};
+    unsigned dearer = 0;
+    if (argc < 3)
+        return 2;
+    load_library(&library, argv[2]);
+    IMB_AES_KEYEXP_128(library.m, iv, schedules[0], schedules[1]);
+    IMB_AES128_GCM_PRE(library.m, iv, &gcm);
+    for (int kind = 0; kind < KINDS; kind++)
+        for (size_t k = 0; k < sizeof lens / sizeof *lens; k++)
+            dearer += !costs_no_more(kind, lens[k]);
+    library.release(library.m);
+    return dearer != 0;
+}
