@@ -2,6 +2,8 @@ mod RawBoxes
 mod Handles
 mod ManagerHandles
 mod KeyHandles
+mod SeatHandles
+mod SeatLaws
 mod KeyLists
 mod Crosses
 mod Ranges
@@ -14,3 +16,6 @@ mod Submitting
 mod Bursting
 mod Cells
 mod Openings
+mod SeatRanges
+mod SeatPlaces
+mod PostRefused

@@ -4,7 +4,7 @@ use Rattle.mbj_types.specs.Reasons.{number_of}
 use Rattle.mbj_types.specs.declared.done.Status.{Status}
 use Rattle.mbj_types.specs.declared.done.Status.TheVariants as status
 use Rattle.mbj_c.specs.declared.refusal.Refusal.{Refusal}
-use Rattle.mbj_c.specs.declared.refusal.Refusal.TheVariants.{TextLength, KeyLength, IvLength, TagLength, AadLength, NoState, HasKeys, NoKeys, TooManyKeys, WrongTag, Full, Word, Memory, NoManager, NoJob, NoRoom, HasManager}
+use Rattle.mbj_c.specs.declared.refusal.Refusal.TheVariants.{TextLength, KeyLength, IvLength, TagLength, AadLength, NoState, HasKeys, NoKeys, TooManyKeys, WrongTag, Full, Word, Memory, NoManager, NoJob, NoRoom, HasManager, NoSeat, HasSeat, SeatCount, NotSubmitter}
 
 abbrev pub refusal_code : Refusal → ℕ
 refusal_code TextLength = 11
@@ -24,6 +24,10 @@ refusal_code NoManager = 24
 refusal_code NoJob = 25
 refusal_code NoRoom = 26
 refusal_code HasManager = 27
+refusal_code NoSeat = 32
+refusal_code HasSeat = 33
+refusal_code SeatCount = 34
+refusal_code NotSubmitter = 35
 
 -- 0, or the code of the refusal
 abbrev pub code_of : {A : Type 0} → Result A Refusal → ℕ

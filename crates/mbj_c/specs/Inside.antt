@@ -1,4 +1,5 @@
 pub mod Held
 pub mod Ranges
+pub mod Seated
 pub mod Answers
 pub mod Room

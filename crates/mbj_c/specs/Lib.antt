@@ -1,6 +1,8 @@
 pub mod Codes
 pub mod Words
 pub mod Ranges
+pub mod Seats
+pub mod SeatCode
 pub mod State
 pub mod Code
 pub mod Counts
@@ -10,8 +12,10 @@ pub mod Giving
 pub mod Submitting
 pub mod KeySets
 pub mod Calls
+pub mod SeatCalls
 pub mod Bursts
 pub mod Stored
 pub mod Direct
 pub mod Opened
 pub mod Inside
+pub mod Places

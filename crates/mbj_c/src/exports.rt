@@ -5,5 +5,6 @@ pub mod gmac;
 pub mod jobs;
 pub mod keys;
 pub mod managers;
+pub mod seats;
 pub mod tables;
 pub mod texts;

@@ -9,7 +9,7 @@ ghost use Rattle.mbj_c.specs.Codes.{reason_code, status_code};
 
 use crate::range::CipherRange;
 use mbj_manager::Cell;
-use mbj_types::{MAX_TAG_BYTES, Status};
+use mbj_types::{Done, MAX_TAG_BYTES, Status, Tag};
 
 /// Where a result goes.
 #[repr(C)]
@@ -81,14 +81,33 @@ impl RawDone<'_> {
         requires tag { MAX_TAG_BYTES ≤ length self.old.tag.now }
         ensures { IsWritten (record { done = owed (course_in given.now); range = range }) self.old self.new }
     {
+        self.write_parts(given.status(), given.packet(), given.tag(), range);
+    }
+
+    /// Writes a result, with only this range of its packet.
+    pub(crate) fn write_done(&mut self, done: &Done, range: CipherRange)
+        requires range { range.off + range.len ≤ length done.now.packet }
+        requires dst { range.len ≤ length self.old.dst.now }
+        requires tag { MAX_TAG_BYTES ≤ length self.old.tag.now }
+        ensures { IsWritten (record { done = done.now; range = range }) self.old self.new }
+    {
+        self.write_parts(done.status, done.packet.as_slice(), &done.tag, range);
+    }
+
+    fn write_parts(&mut self, status: Status, packet: &[u8], tag: &Tag, range: CipherRange)
+        requires range { range.off + range.len ≤ length packet.now }
+        requires dst { range.len ≤ length self.old.dst.now }
+        requires tag { MAX_TAG_BYTES ≤ length self.old.tag.now }
+        ensures { IsWritten (record { done = record { status = status; packet = packet.now; tag = tag.now }; range = range }) self.old self.new }
+    {
         let (start, len) = (range.off as usize, range.len as usize);
-        let bytes = &given.packet()[start..][..len];
+        let bytes = &packet[start..][..len];
         put_front(self.dst, bytes);
         self.dst_len = bytes.len();
-        let tag = given.tag().bytes();
+        let tag = tag.bytes();
         put_front(self.tag, tag);
         self.tag_len = tag.len() as u32;
-        self.status = status_of(given.status());
-        self.reason = reason_of(given.status());
+        self.status = status_of(status);
+        self.reason = reason_of(status);
     }
 }

@@ -104,6 +104,13 @@ impl KeySet {
         })
     }
 
+    /// The share of the keys itself.
+    pub(crate) fn into_keys(self) -> Arc<Keys>
+        ensures { arc_value result ≡ self }
+    {
+        self.keys
+    }
+
     /// The set's keys.
     pub(crate) fn keys(&self) -> &Keys
         ensures { result.now ≡ self.now }

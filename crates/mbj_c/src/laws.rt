@@ -9,6 +9,7 @@ ghost use Rattle.mbj_c.specs.Calls.{CallOfC, GivesInOrder};
 ghost use Rattle.mbj_c.specs.Filling.{job_with};
 ghost use Rattle.mbj_c.specs.Opened.{CcmOpensByTags, GcmOpensByTags};
 ghost use Rattle.mbj_c.specs.Ranges.{bytes_in, given_range, with_bytes};
+ghost use Rattle.mbj_c.specs.SeatCalls.{SeatsCollectAll, SeatsCollectInOrder};
 
 /// A law: a result's packet is the packet of its job with the bytes that are given back in their range.
 pub fn packets_change_in_their_range_alone()
@@ -28,6 +29,14 @@ pub fn accepted_ranges_are_within_their_packets()
 /// submitted, in their order and each once, and each with the range of its own job.
 pub fn results_come_back_with_their_ranges()
     ensures { (calls : List CallOfC) → GivesInOrder calls }
+{}
+
+/// A law: over every list of calls of a submitter's seat, in any order and whatever the other seats do, what it collected is a prefix of
+/// the results of the jobs that it posted, in the order of its posts, each once and with the range of its own packet; and it is all of
+/// them once none is out.
+pub fn seats_collect_their_own_results_in_order()
+    ensures order { SeatsCollectInOrder }
+    ensures all { SeatsCollectAll }
 {}
 
 /// A law: a text whose lengths are accepted is opened exactly where it came with the tag that the standard gives it, and becomes the

@@ -17,6 +17,7 @@ mod calls;
 mod counts;
 mod direct;
 mod exports;
+mod fronts;
 mod giving;
 mod gmac_parts;
 mod handle;
@@ -30,6 +31,9 @@ mod range;
 mod ranged;
 mod raw_box;
 mod refusal;
+mod seat_calls;
+mod seat_handle;
+mod seated;
 mod sessions;
 mod stored;
 #[cfg(test)]
@@ -50,6 +54,10 @@ pub use exports::managers::{
     mbj_c_count, mbj_c_free, mbj_c_held_bytes, mbj_c_new, mbj_c_new_keeping,
     mbj_c_new_keeping_none, mbj_c_queue_size, mbj_c_trim, mbj_c_version,
 };
+pub use exports::seats::{
+    mbj_c_collect, mbj_c_front_new, mbj_c_hand, mbj_c_out, mbj_c_post, mbj_c_seat_free,
+    mbj_c_settle, mbj_c_turn,
+};
 pub use exports::tables::{
     mbj_aes_keys, mbj_cmac_subkeys, mbj_digest, mbj_hmac_states, mbj_one_block,
 };
@@ -64,14 +72,18 @@ pub use key_handle::KeysHandle;
 pub use key_set::RawBytes;
 pub use laws::{
     accepted_ranges_are_within_their_packets, packets_change_in_their_range_alone,
-    results_come_back_with_their_ranges, texts_are_opened_by_their_tags,
+    results_come_back_with_their_ranges, seats_collect_their_own_results_in_order,
+    texts_are_opened_by_their_tags,
 };
 pub use range::CipherRange;
+pub use seat_handle::SeatHandle;
 // C holds a handle to it; an exported type names it in its contract.
 #[doc(hidden)]
 pub use key_set::KeySet;
 #[doc(hidden)]
 pub use ranged::RangedManager;
+#[doc(hidden)]
+pub use seated::Seated;
 #[doc(hidden)]
 pub use sessions::Sessions;
 pub use version::VERSION;

@@ -42,6 +42,14 @@ pub(crate) enum Refusal {
     NoRoom,
     /// The handle has a manager already.
     HasManager,
+    /// The handle has no seat.
+    NoSeat,
+    /// A handle has a seat already.
+    HasSeat,
+    /// A front has 1 to 16 submitters and at most 16 workers.
+    SeatCount,
+    /// The seat is a worker's, which has no jobs of its own.
+    NotSubmitter,
 }
 
 impl Refusal {
@@ -67,6 +75,10 @@ impl Refusal {
             Refusal::NoJob => 25,
             Refusal::NoRoom => 26,
             Refusal::HasManager => 27,
+            Refusal::NoSeat => 32,
+            Refusal::HasSeat => 33,
+            Refusal::SeatCount => 34,
+            Refusal::NotSubmitter => 35,
         }
     }
 }
