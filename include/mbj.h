@@ -147,6 +147,10 @@ typedef enum mbj_err {
     MBJ_ERR_VERSION,          /* the library has another major version than the header that the program was compiled with, or is older */
     MBJ_ERR_PROCESSOR,        /* the processor lacks a feature that the library was built for: mbj_c_missing_feature names it */
     MBJ_ERR_HEAP,             /* no heap can be chosen, since the program was linked with one of its own */
+    MBJ_ERR_NO_SEAT,          /* there is no seat */
+    MBJ_ERR_HAS_SEAT,         /* a place has a seat already */
+    MBJ_ERR_SEAT_COUNT,       /* a front has 1 to 16 submitters and at most 16 workers */
+    MBJ_ERR_NOT_SUBMITTER,    /* the seat is a worker's, which posts and collects nothing */
     MBJ_REASON_CODE = 100,    /* a code is no cipher, direction, order or authentication, as in a job whose cipher was never set */
     MBJ_REASON_NULL,          /* bytes that the job uses are at NULL */
     MBJ_REASON_NO_TAG,        /* a tag is expected of a job without an authentication */

@@ -306,11 +306,8 @@ static inline bool mbj_is_wrong_(const struct mbj_slot *slot, const struct mbj_r
     return slot->is_expected && (done->tag_len != slot->tag_len || !mbj_is_same_tag(done->tag.at, slot->expected, slot->tag_len));
 }
 
-/* The job whose result was given: what was ciphered is written, and now its tag, unless that is wrong. */
-static inline MBJ_JOB *mbj_give_back_(MBJ_MGR *m, const struct mbj_raw_done *done) {
-    uint32_t place = m->first++ % MBJ_MAX_JOBS;
-    MBJ_JOB *job = &m->jobs[place];
-    const struct mbj_slot *slot = &m->slots[place];
+/* Ends the job whose result was given: what was ciphered is written, and now its tag, unless that is wrong. */
+static inline void mbj_end_job_(MBJ_JOB *job, const struct mbj_slot *slot, const struct mbj_raw_done *done) {
     job->status = done->status == 0 ? MBJ_STATUS_COMPLETED : MBJ_STATUS_INVALID_ARGS;
     job->reason = slot->reason != MBJ_REASON_NONE ? slot->reason : done->reason;
     if (done->status == 0 && mbj_is_wrong_(slot, done)) {
@@ -320,7 +317,13 @@ static inline MBJ_JOB *mbj_give_back_(MBJ_MGR *m, const struct mbj_raw_done *don
     } else if (slot->tag != NULL && done->tag_len != 0 && done->tag_len <= slot->tag_len) {
         memcpy(slot->tag, done->tag.at, done->tag_len);
     }
-    return job;
+}
+
+/* The earliest job, whose result was given. */
+static inline MBJ_JOB *mbj_give_back_(MBJ_MGR *m, const struct mbj_raw_done *done) {
+    uint32_t place = m->first++ % MBJ_MAX_JOBS;
+    mbj_end_job_(&m->jobs[place], &m->slots[place], done);
+    return &m->jobs[place];
 }
 
 /* The first n jobs that are handed out are submitted. */

@@ -61,6 +61,10 @@ MBJ_API const char *mbj_err_text(uint32_t err) {
     case MBJ_ERR_VERSION: return "the library has another major version than the header, or is older";
     case MBJ_ERR_PROCESSOR: return "the processor lacks a feature that the library was built for";
     case MBJ_ERR_HEAP: return "no heap can be chosen, since the program was linked with one of its own";
+    case MBJ_ERR_NO_SEAT: return "there is no seat";
+    case MBJ_ERR_HAS_SEAT: return "a place has a seat already";
+    case MBJ_ERR_SEAT_COUNT: return "a front has 1 to 16 submitters and at most 16 workers";
+    case MBJ_ERR_NOT_SUBMITTER: return "the seat is a worker's, which posts and collects nothing";
     case MBJ_REASON_CODE: return "a code is no cipher, direction, order or authentication";
     case MBJ_REASON_NULL: return "bytes that the job uses are at NULL";
     case MBJ_REASON_NO_TAG: return "a tag is expected of a job without an authentication";

@@ -2,3 +2,4 @@
  * it once, and link it beside the library. */
 #define MBJ_API
 #include "mbj.h"
+#include "mbj_seat.h"

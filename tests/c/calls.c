@@ -334,7 +334,7 @@ static void the_version_is_told(void) {
 static void numbers_have_texts(void) {
     const char *none = mbj_err_text(UINT32_MAX);
     for (uint32_t i = 0; i <= MBJ_REASON_NO_TAG + 1; i++) {
-        bool is_error = i <= MBJ_ERR_HEAP || (i >= MBJ_REASON_CODE && i <= MBJ_REASON_NO_TAG);
+        bool is_error = i <= MBJ_ERR_NOT_SUBMITTER || (i >= MBJ_REASON_CODE && i <= MBJ_REASON_NO_TAG);
         CHECK((mbj_err_text(i) != none) == is_error);
         for (uint32_t j = 0; is_error && j < i; j++)
             CHECK(strcmp(mbj_err_text(i), mbj_err_text(j)) != 0);

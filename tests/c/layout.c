@@ -2,6 +2,7 @@
  * layout.txt: a program that was compiled with an earlier header relies on them. */
 #include "mbj.h"
 #include "mbj_direct.h"
+#include "mbj_seat.h"
 #include "mbj_heap.h"
 
 #include <stdio.h>
@@ -215,6 +216,10 @@ static void print_answers(void) {
     NUMBER(MBJ_ERR_VERSION);
     NUMBER(MBJ_ERR_PROCESSOR);
     NUMBER(MBJ_ERR_HEAP);
+    NUMBER(MBJ_ERR_NO_SEAT);
+    NUMBER(MBJ_ERR_HAS_SEAT);
+    NUMBER(MBJ_ERR_SEAT_COUNT);
+    NUMBER(MBJ_ERR_NOT_SUBMITTER);
     NUMBER(MBJ_REASON_CODE);
     NUMBER(MBJ_REASON_NULL);
     NUMBER(MBJ_REASON_NO_TAG);
