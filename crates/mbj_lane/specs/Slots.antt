@@ -11,24 +11,24 @@ abbrev pub listed : {E : Type 0} → (ℕ → Option E) → List ℕ → List E
 listed f [] = []
 listed f (i ∷ is) = joined (f i) (listed f is)
 
--- slots, each with a label
+-- slots, each with the place of a job in the ring of whoever has these entries
 abbrev pub slots_of : List (ℕ × ℕ) → List ℕ
 slots_of order = map (λ (s : ℕ × ℕ). s.0) order
 
-abbrev pub labels_of : List (ℕ × ℕ) → List ℕ
-labels_of order = map (λ (s : ℕ × ℕ). s.1) order
+abbrev pub places_of : List (ℕ × ℕ) → List ℕ
+places_of order = map (λ (s : ℕ × ℕ). s.1) order
 
--- entries in their order, and the label of each
-pub record Labelled (E : Type 0) : Type 0 where
+-- entries in their order, and the place of each
+pub record Placed (E : Type 0) : Type 0 where
   pub entries : List E
-  pub labels : List ℕ
+  pub places : List ℕ
 
-abbrev pub no_entries : {E : Type 0} → Labelled E
-no_entries = record { entries = []; labels = [] }
+abbrev pub no_entries : {E : Type 0} → Placed E
+no_entries = record { entries = []; places = [] }
 
--- what stands in slots with labels, in their order
-abbrev pub labelled : {E : Type 0} → (ℕ → Option E) → List (ℕ × ℕ) → Labelled E
-labelled f order = record { entries = listed f (slots_of order); labels = labels_of order }
+-- what stands in slots with places, in their order
+abbrev pub placed : {E : Type 0} → (ℕ → Option E) → List (ℕ × ℕ) → Placed E
+placed f order = record { entries = listed f (slots_of order); places = places_of order }
 
 -- an entry stands in a slot
 abbrev pub IsBusy : {E : Type 0} → (ℕ → Option E) → ℕ → Type 0

@@ -5,7 +5,7 @@ ghost use Rattle.std.specs.Option.{option_copied_mut};
 ghost use Rattle.std.specs.Borrow.{sem};
 ghost use Rattle.mbj_types.specs.Blank.{blank};
 ghost use Rattle.mbj_ring.specs.declared.ring.TheConstants.{CELLS};
-ghost use Rattle.mbj_ring.specs.Ring.{ring, all_values, place_of, index_at, IsLive, IsWithin, with_committed, with_open_at, with_open_last, without_first};
+ghost use Rattle.mbj_ring.specs.Ring.{ring, all_values, place_of, number_at, IsLive, IsWithin, with_committed, with_open_at, with_open_last, without_first};
 ghost use Rattle.mbj_stage.specs.CourseState.{owed};
 ghost use Rattle.mbj_manager.specs.Cells as cell;
 ghost use Rattle.mbj_manager.specs.Cells.{IsFinished, course_in};
@@ -119,13 +119,13 @@ impl CellRing {
         self.ring.open_mut()
     }
 
-    /// Lends open cell `index`, the first opened being 0.
-    pub(crate) fn open_at(&mut self, index: u32) -> &mut Cell
-        requires { index < length self.old.opened }
-        ensures* writes_back { sem 𝓛 (LendsOpenAt self.entry index result) }
-        ensures value { slice_get self.old.opened index ≡ Some result.now }
+    /// Lends open cell `number`, the first opened being 0.
+    pub(crate) fn open_at(&mut self, number: u32) -> &mut Cell
+        requires { number < length self.old.opened }
+        ensures* writes_back { sem 𝓛 (LendsOpenAt self.entry number result) }
+        ensures value { slice_get self.old.opened number ≡ Some result.now }
     {
-        self.ring.open_at(index)
+        self.ring.open_at(number)
     }
 
     /// The first open cell goes last among those that are submitted. Returns its place.
@@ -149,7 +149,7 @@ impl CellRing {
     pub(crate) fn at_mut(&mut self, place: u32) -> &mut Cell
         requires { IsLive self.old place }
         ensures* writes_back { sem 𝓛 (LendsAt self.entry place result) }
-        ensures value { slice_get self.old.values (index_at self.old place) ≡ Some result.now }
+        ensures value { slice_get self.old.values (number_at self.old place) ≡ Some result.now }
     {
         self.ring.at_mut(place)
     }
@@ -186,12 +186,12 @@ impl CellRing {
     }
 
     /// An open cell changes places with another one.
-    pub(crate) fn exchange(&mut self, index: u32, other: &mut Cell)
-        requires { index < length self.old.opened }
-        ensures other { slice_get self.old.opened index ≡ Some other.new }
-        ensures rest { self.new ≡ with_open_at self.old index other.old }
+    pub(crate) fn exchange(&mut self, number: u32, other: &mut Cell)
+        requires { number < length self.old.opened }
+        ensures other { slice_get self.old.opened number ≡ Some other.new }
+        ensures rest { self.new ≡ with_open_at self.old number other.old }
     {
-        mem::swap(self.ring.open_at(index), other);
+        mem::swap(self.ring.open_at(number), other);
     }
 
     /// How many bytes of memory the idle cells keep.

@@ -21,7 +21,7 @@ use std::marker::Model;
 /// rounds and blocks the kind's full runs took, modulo 2^64.
 #[derive(Drop)]
 pub struct LaneQueue<K: Feed> {
-    /// The entries, each with the place of its job as its label.
+    /// The entries, each with the place of its job.
     lanes: Lanes<K>,
     rounds: u64,
     blocks: u64,
@@ -34,9 +34,9 @@ impl<K: Feed> Model for LaneQueue<K> {
 
     ghost Value = { PlacedQueue };
 
-    ghost view = { λ q. placed_queue (seated K.round K.rest_of K.brings q.lanes.labels q.lanes.entries) q.rounds q.blocks };
+    ghost view = { λ q. placed_queue (seated K.round K.rest_of K.brings q.lanes.places q.lanes.entries) q.rounds q.blocks };
 
-    ghost invariant = { λ q. (length q.lanes.labels ≡ length q.lanes.entries) × All (λ p. p < CELLS) q.lanes.labels };
+    ghost invariant = { λ q. (length q.lanes.places ≡ length q.lanes.entries) × All (λ p. p < CELLS) q.lanes.places };
 }
 
 impl<K: Feed> LaneQueue<K> {
@@ -121,7 +121,7 @@ impl<K: Feed> LaneQueue<K> {
         match self.lanes.first_finished() {
             None => None,
             Some(k) => {
-                let place = self.lanes.label_at(k);
+                let place = self.lanes.place_at(k);
                 let cell = ring.at_mut(place);
                 leave_to(&mut self.lanes, k, cell);
                 Some(place)
@@ -144,7 +144,7 @@ impl<K: Feed> LaneQueue<K> {
 
 /// The packet of the course in a cell goes out into a slot.
 #[inline(always)]
-fn join_from<K: Feed>(lanes: &mut Lanes<K>, label: u32, cell: &mut Cell)
+fn join_from<K: Feed>(lanes: &mut Lanes<K>, place: u32, cell: &mut Cell)
     requires fits { K.fits }
     requires going { IsGoing cell.old }
     requires free { length lanes.old.entries < K.LANES }
@@ -153,21 +153,21 @@ fn join_from<K: Feed>(lanes: &mut Lanes<K>, label: u32, cell: &mut Cell)
     ensures out { course_in cell.new ≡ handed_out (course_in cell.old) }
     ensures entry { (e : K.Entry) × (lanes.new.entries ≡ lanes.old.entries ++ e ∷ []) × (1 ≤ K.rest_of e)
         × Gives K.kind (K.rest_of e) (K.brings (end_of K.round K.rest_of e)) (course_in cell.old) }
-    ensures labels { lanes.new.labels ≡ lanes.old.labels ++ label ∷ [] }
+    ensures places { lanes.new.places ≡ lanes.old.places ++ place ∷ [] }
 {
-    lanes.enter_from(label, cell.course_mut());
+    lanes.enter_from(place, cell.course_mut());
 }
 
-/// The entry at place `k` of the lanes goes back to the course in a cell.
+/// The entry at position `k` of the lanes goes back to the course in a cell.
 #[inline(always)]
 fn leave_to<K: Feed>(lanes: &mut Lanes<K>, k: usize, cell: &mut Cell)
     requires going { IsGoing cell.old }
-    requires place { k < length lanes.old.entries }
+    requires position { k < length lanes.old.entries }
     requires done { (d : K.Entry) → K.rest_of (slice_index_or lanes.old.entries k d) ≡ 0 }
     requires out { (d : K.Entry) → IsOut K.kind (K.brings (slice_index_or lanes.old.entries k d)) (course_in cell.old) }
     ensures going { IsGoing cell.new }
     ensures back { (d : K.Entry) → course_in cell.new ≡ taken_back (K.brings (slice_index_or lanes.old.entries k d)) (course_in cell.old) }
-    ensures labels { lanes.new.labels ≡ remove lanes.old.labels k }
+    ensures places { lanes.new.places ≡ remove lanes.old.places k }
     ensures others { lanes.new.entries ≡ remove lanes.old.entries k }
 {
     lanes.leave_to(k, cell.course_mut());

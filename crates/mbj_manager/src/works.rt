@@ -183,13 +183,13 @@ impl Works {
         self.open_len()
     }
 
-    /// Lends the job in open cell `index`, the first opened being 0.
-    pub(crate) fn open_job(&mut self, index: u32) -> &mut Job
-        requires { index < length self.old.opened }
-        ensures* lends { sem 𝓛 (LendsOpenJob self.entry index result) }
-        ensures value { slice_get self.old.opened index ≡ Some result.now }
+    /// Lends the job in open cell `number`, the first opened being 0.
+    pub(crate) fn open_job(&mut self, number: u32) -> &mut Job
+        requires { number < length self.old.opened }
+        ensures* lends { sem 𝓛 (LendsOpenJob self.entry number result) }
+        ensures value { slice_get self.old.opened number ≡ Some result.now }
     {
-        self.ring.open_at(index).job_mut()
+        self.ring.open_at(number).job_mut()
     }
 
     /// Submits the first job that was filled: it goes last among those that are submitted, and all is done that can be done without a
@@ -355,13 +355,13 @@ impl Works {
         self.ring.give(given);
     }
 
-    /// Exchanges the job in a cell with open job `index`, the first opened being 0.
-    pub(crate) fn exchange(&mut self, index: u32, other: &mut Cell)
-        requires index { index < length self.old.opened }
+    /// Exchanges the job in a cell with open job `number`, the first opened being 0.
+    pub(crate) fn exchange(&mut self, number: u32, other: &mut Cell)
+        requires number { number < length self.old.opened }
         requires is_open { IsOpen other.old }
-        ensures { self.new ≡ with_open_at self.old index (job_in other.old) }
+        ensures { self.new ≡ with_open_at self.old number (job_in other.old) }
     {
-        self.ring.exchange(index, other);
+        self.ring.exchange(number, other);
     }
 
     /// How many bytes of memory the idle cells keep.

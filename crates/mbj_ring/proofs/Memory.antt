@@ -82,7 +82,7 @@ module _ (E : El) where
   pub block_align : (k : ℕ) → capped (align (array_of (R E) k)) ≡ capped (align (elτ E))
   block_align k = ap capped (align-raw (ty_array (elτ E) k))
 
-  -- all cells but the one at the index
+  -- all cells but the one at the place
   abbrev pub others : ℕ → ℕ → List Held → ℕ → Fml
   others b o [] i = ftrue
   others b o (c ∷ cs) zero = cells (R E) b (o + bytes) cs
@@ -139,7 +139,7 @@ module _ (E : El) where
   abbrev pub stored : ℕ → ℕ → List Val
   stored b' o' = vstruct (vcons (vptr b' o') vnil) ∷ []
 
-  -- what the owner has beside the cell at the index: the other cells, the right to free the block, and its fields
+  -- what the owner has beside the cell at the place: the other cells, the right to free the block, and its fields
   abbrev pub Beside : (Owner E).Denot → ℕ → ℕ → ℕ → Fml
   Beside d i b' o' =
       fsep (others E b' o' d.held i) (fsep (may_free (array_of (R E) (length d.held)) (block_ptr b' o')) ((Struct (shape (C.the_type (R E)))).own_val (d.base, tt) (stored b' o')))

@@ -1,4 +1,4 @@
--- How lists read from an index on, and cells that begin with values, follow a write, a read and a step of the index.
+-- How lists read from a place on, and cells that begin with values, follow a write, a read and a step of the place.
 use Rattle.std.proofs.Common.{◌≡◌, ℕ, zero, suc, ◌+◌, ◌-◌, ◌%◌, ◌<◌, ◌≤◌, ◌⊎◌, List, [], ◌∷◌, ◌++◌, map, length, take, drop, set, replicate, get_or, slice_get, Option, Some, None, refl, sym, ap, ◌∙◌, inl, inr, arith, append_assoc, append-nil, length-append, length-drop, length-set, take_all, get_or-drop, get_or-take, drop-set-lt, mod-eq_of_lt, ext_get_or}
 use Rattle.std.proofs.lemmas.List.{drop-set-add, take-set-le, set-append_left, set-append_right, get_or_append_left, get_or-append_right, drop_more, take_more, drop_all, map-append, map-set, length-map, length-replicate, replicate-append-replicate}
 use Rattle.std.proofs.Math.Seq.{take-set-lt, set-append_seam}
@@ -21,7 +21,7 @@ wraps p i n pn ni = elim (below_or_not (p + i) n) [
       let is : (p + i) % n ≡ k = ap (λ j. j % n) sum ∙ add-mod_left n k ∙ mod-eq_of_lt (omega arith) in (omega arith, inr (omega arith))
 ]
 
--- a list of n elements, read from the index p on
+-- a list of n elements, read from the place p on
 module _ {X : Type 0} (xs : List X) (n p : ℕ) (long : length xs ≡ n) (pn : p < n) where
   pub from_on-set : (i q : ℕ) (x : X) → i < n → Wraps p i n q → from_on p (set xs q x) ≡ set (from_on p xs) i x
   from_on-set i q x ni w = let qn = w.0 in let rest = length-drop p xs in elim w.1 [
@@ -114,7 +114,7 @@ module _ {X : Type 0} where
       let k = n - length (x ∷ xs) in let more : k + 1 ≡ n - length xs = omega arith in
       append_assoc (map some xs) (empty k) (empty 1) ∙ ap (λ l. map some xs ++ l) (replicate-append-replicate k 1 None) ∙ ap (λ j. map some xs ++ empty j) more
 
-  -- cells that read as empty ones from an index on are empty
+  -- cells that read as empty ones from a place on are empty
   pub all_empty : (cs : List (Option X)) (n p : ℕ) → length cs ≡ n → p < n → from_on p cs ≡ filled [] n → cs ≡ replicate n None
   all_empty cs n p long pn e =
       ext_get_or None cs (empty n) (long ∙ sym (length-replicate n None)) (λ q lt.
@@ -129,9 +129,9 @@ module _ {X : Type 0} where
   unfolding filled
   from_start_empty n = let all : n - 0 ≡ n = omega arith in append-nil (empty n) ∙ ap empty (sym all)
 
--- the index at which a place stands leads back to the place
-pub index_place : (n p q : ℕ) → p < n → q < n → ((n + q - p) % n < n) × ((p + (n + q - p) % n) % n ≡ q)
-index_place n p q pn qn = elim (below_or_not q p) [
+-- the number of a place leads back to the place
+pub number_place : (n p q : ℕ) → p < n → q < n → ((n + q - p) % n < n) × ((p + (n + q - p) % n) % n ≡ q)
+number_place n p q pn qn = elim (below_or_not q p) [
   | inl before ↦ let is : (n + q - p) % n ≡ n + q - p = mod-eq_of_lt (omega arith) in let sum : p + (n + q - p) ≡ n + q = omega arith in
       (omega arith, ap (λ i. (p + i) % n) is ∙ ap (λ k. k % n) sum ∙ add-mod_left n q ∙ mod-eq_of_lt qn)
   | inr after ↦ let far : n + q - p ≡ n + (q - p) = omega arith in

@@ -44,7 +44,7 @@ module _ {X : Type 0} (r : Inside X) (h : IsRing r) where
   pub least : r.len ≤ length xs
   least = omega (arith, h.count)
 
-  -- the cell at the place of the index holds what the list has there
+  -- the cell at the place of a number holds what the list has there
   pub reads : (i : ℕ) → i < CELLS → get_or r.cells.held (place i) None ≡ slice_get xs i
   reads i lt = sym (from_on-get r.cells.held CELLS r.first h.cells first i (place i) None lt (wraps r.first i CELLS first lt)) ∙ ap (λ l. get_or l i None) h.laid ∙ get-filled xs CELLS i
 

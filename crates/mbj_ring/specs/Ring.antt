@@ -26,12 +26,12 @@ module _ {X : Type 0} where
   place_of r i = (r.first + i) % CELLS
 
   -- the i for which the place is that of value i
-  abbrev pub index_at : RingState X → ℕ → ℕ
-  index_at r p = (CELLS + p - r.first) % CELLS
+  abbrev pub number_at : RingState X → ℕ → ℕ
+  number_at r p = (CELLS + p - r.first) % CELLS
 
   -- a committed value stands at the place
   abbrev pub IsLive : RingState X → ℕ → Type 0
-  IsLive r p = (p < CELLS) × (index_at r p < length r.values)
+  IsLive r p = (p < CELLS) × (number_at r p < length r.values)
 
   -- the ring with one more open value
   abbrev pub with_open_last : RingState X → X → RingState X

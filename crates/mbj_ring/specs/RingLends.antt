@@ -1,7 +1,7 @@
 -- What a ring ends as, once a `&mut` into it has ended.
 use Rattle.std.specs.Prelude.{ℕ, Option}
 use Rattle.std.specs.Borrow.{Fml, RattleType, MutBor, Lends, LendsIf}
-use Rattle.mbj_ring.specs.Ring.{RingState, index_at, with_open_at, with_value_at}
+use Rattle.mbj_ring.specs.Ring.{RingState, number_at, with_open_at, with_value_at}
 use Rattle.mbj_ring.specs.contracts.ring.Ring.{the_row}
 
 module _ (R : RattleType) (b : MutBor (RingState R.Denot)) where
@@ -19,4 +19,4 @@ module _ (R : RattleType) (b : MutBor (RingState R.Denot)) where
 
   -- the value at the place is the last one written through r
   abbrev pub LendsAt : ℕ → MutBor R.Denot → Fml
-  LendsAt p r = Lends (the_row R) R b r (with_value_at b.now (index_at b.now p))
+  LendsAt p r = Lends (the_row R) R b r (with_value_at b.now (number_at b.now p))

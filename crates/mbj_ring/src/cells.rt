@@ -55,28 +55,28 @@ impl<T> Cells<T> {
     }
 
     /// Moves `value` into an empty cell.
-    pub(crate) fn write(&mut self, index: usize, value: T)
-        requires { IsEmpty self.old.held index }
-        ensures { self.new.held ≡ set self.old.held index (Some value) }
+    pub(crate) fn write(&mut self, place: usize, value: T)
+        requires { IsEmpty self.old.held place }
+        ensures { self.new.held ≡ set self.old.held place (Some value) }
     {
-        unsafe { self.base.add(index).write(value) }
+        unsafe { self.base.add(place).write(value) }
     }
 
     /// Moves the value out of a cell, which is empty then.
-    pub(crate) fn read(&mut self, index: usize) -> T
-        requires { IsFilled self.old.held index }
-        ensures value { get_or self.old.held index None ≡ Some result }
-        ensures held { self.new.held ≡ set self.old.held index None }
+    pub(crate) fn read(&mut self, place: usize) -> T
+        requires { IsFilled self.old.held place }
+        ensures value { get_or self.old.held place None ≡ Some result }
+        ensures held { self.new.held ≡ set self.old.held place None }
     {
-        unsafe { self.base.add(index).read() }
+        unsafe { self.base.add(place).read() }
     }
 
     /// Lends the value in a cell.
-    pub(crate) fn get_mut(&mut self, index: usize) -> &mut T
-        requires { IsFilled self.old.held index }
-        ensures* writes_back { sem 𝓛 (LendsCell T.row self.entry index result) }
-        ensures value { get_or self.old.held index None ≡ Some result.now }
+    pub(crate) fn get_mut(&mut self, place: usize) -> &mut T
+        requires { IsFilled self.old.held place }
+        ensures* writes_back { sem 𝓛 (LendsCell T.row self.entry place result) }
+        ensures value { get_or self.old.held place None ≡ Some result.now }
     {
-        unsafe { &mut *self.base.add(index) }
+        unsafe { &mut *self.base.add(place) }
     }
 }

@@ -3,7 +3,7 @@
 ghost use Rattle.std.specs.Prelude.{◌≡◌, ◌+◌, ◌%◌, ◌<◌, ◌≤◌, [], length, slice_get, Some, IfOk};
 ghost use Rattle.std.specs.Option.{option_copied_mut, MatchOption};
 ghost use Rattle.std.specs.Borrow.{sem};
-ghost use Rattle.mbj_ring.specs.Ring.{ring, all_values, place_of, index_at, IsLive, IsWithin, with_committed, with_open_last, without_first};
+ghost use Rattle.mbj_ring.specs.Ring.{ring, all_values, place_of, number_at, IsLive, IsWithin, with_committed, with_open_last, without_first};
 
 use crate::cells::Cells;
 use std::alloc::{AllocError, Global};
@@ -47,13 +47,13 @@ impl<T> Model for Ring<T> {
     ghost invariant = { IsRing };
 }
 
-/// The place that is `index` cells after `first`, round the end.
-fn place_after(first: u32, index: u32) -> u32
+/// The place that is `distance` cells after `first`, round the end.
+fn place_after(first: u32, distance: u32) -> u32
     requires first { first < CELLS }
-    requires index { index ≤ CELLS }
-    ensures { result ≡ (first + index) % CELLS }
+    requires distance { distance ≤ CELLS }
+    ensures { result ≡ (first + distance) % CELLS }
 {
-    let unwrapped = first + index;
+    let unwrapped = first + distance;
     unwrapped % CELLS
 }
 
@@ -115,13 +115,13 @@ impl<T> Ring<T> {
         Some(self.cells.get_mut(next as usize))
     }
 
-    /// Lends the value of open cell `index`, which is below `open_len`; the first opened is 0.
-    pub fn open_at(&mut self, index: u32) -> &mut T
-        requires { index < length self.old.opened }
-        ensures* writes_back { sem 𝓛 (LendsOpenAt T.row self.entry index result) }
-        ensures value { slice_get self.old.opened index ≡ Some result.now }
+    /// Lends the value of open cell `number`, which is below `open_len`; the first opened is 0.
+    pub fn open_at(&mut self, number: u32) -> &mut T
+        requires { number < length self.old.opened }
+        ensures* writes_back { sem 𝓛 (LendsOpenAt T.row self.entry number result) }
+        ensures value { slice_get self.old.opened number ≡ Some result.now }
     {
-        let next = place_after(self.first, self.len + index);
+        let next = place_after(self.first, self.len + number);
         self.cells.get_mut(next as usize)
     }
 
@@ -161,7 +161,7 @@ impl<T> Ring<T> {
     pub fn at_mut(&mut self, place: u32) -> &mut T
         requires { IsLive self.old place }
         ensures* writes_back { sem 𝓛 (LendsAt T.row self.entry place result) }
-        ensures value { slice_get self.old.values (index_at self.old place) ≡ Some result.now }
+        ensures value { slice_get self.old.values (number_at self.old place) ≡ Some result.now }
     {
         self.cells.get_mut(place as usize)
     }

@@ -1,7 +1,7 @@
 -- What a ring of cells ends as, once a `&mut` into it has ended.
 use Rattle.std.specs.Prelude.{ℕ, Option}
 use Rattle.std.specs.Borrow.{Fml, Lends, LendsIf, MutBor}
-use Rattle.mbj_ring.specs.Ring.{RingState, index_at, with_open_at, with_value_at}
+use Rattle.mbj_ring.specs.Ring.{RingState, number_at, with_open_at, with_value_at}
 use Rattle.mbj_manager.specs.Cells.{Cell}
 use Rattle.mbj_manager.specs.contracts.cell.Cell.{the_row as cell_row}
 use Rattle.mbj_manager.specs.contracts.cell_ring.CellRing.{the_row}
@@ -20,4 +20,4 @@ LendsFront b r = LendsIf the_row cell_row b r (with_value_at b.now 0) b.now
 
 -- the cell at the place is the last one written through r
 abbrev pub LendsAt : MutBor (RingState Cell) → ℕ → MutBor Cell → Fml
-LendsAt b p r = Lends the_row cell_row b r (with_value_at b.now (index_at b.now p))
+LendsAt b p r = Lends the_row cell_row b r (with_value_at b.now (number_at b.now p))

@@ -21,7 +21,7 @@ use mbj_keys::{Keys, Notes};
 impl Manager {
     /// Exchanges the job in a cell with open job `i`, the first opened being 0. No job is moved.
     pub fn exchange(&mut self, i: u32, other: &mut Cell)
-        requires index { i < length self.old.opened }
+        requires number { i < length self.old.opened }
         requires is_open { IsOpen other.old }
         ensures state { self.new ≡ with_open_at self.old i (job_in other.old) }
     {

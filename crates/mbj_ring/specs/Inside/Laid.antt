@@ -5,7 +5,7 @@ use Rattle.mbj_ring.specs.declared.ring.Ring.TheInside.{Inside}
 use Rattle.mbj_ring.specs.Ring.{RingState, ring, IsWithin}
 
 module _ {X : Type 0} where
-  -- the list read from the index on, and round its end
+  -- the list read from the place on, and round its end
   abbrev pub from_on : ℕ → List X → List X
   from_on p xs = drop p xs ++ take p xs
 

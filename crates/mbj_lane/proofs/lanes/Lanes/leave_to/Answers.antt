@@ -1,27 +1,27 @@
 use Rattle.std.proofs.Common.{ℕ, ◌<◌, ◌∙◌, length, ap, sym, subst, arith}
 use Rattle.std.proofs.lemmas.List.{get_or_default, length-map}
-use Rattle.mbj_lane.specs.Slots.{Labelled, slots_of}
+use Rattle.mbj_lane.specs.Slots.{Placed, slots_of}
 use Rattle.mbj_lane.proofs.Listing.{busy-at, entry-at, length-same, left, listed-left, map-at, map-remove}
 use Rattle.mbj_lane.proofs.lanes.Lanes.leave_to.Goals as goal
 
 pub remove-slot-requires : goal.remove-slot-requires
 remove-slot-requires g c =
     let order = c.self.inside.order.items in
-    let same = ap (λ (v : Labelled g.row.K-Entry.Denot). v.entries) c.self.view_is in
+    let same = ap (λ (v : Placed g.row.K-Entry.Denot). v.entries) c.self.view_is in
     omega (
       arith,
       length-same g.K.Kernel.LANES (g.K.SlotKernel.slot c.self.inside.slots) (slots_of order) c.args.self.now.entries c.self.invariant.0.busy same,
       length-map order (λ (s : ℕ × ℕ). s.0),
       c.self.inside.order.ok.0,
-      c.requires.place,
+      c.requires.position,
     )
 
 pub push_reserved-requires : goal.push_reserved-requires
 push_reserved-requires g c =
     let order = c.self.inside.order.items in let f = g.K.SlotKernel.slot c.self.inside.slots in let listed = c.self.invariant.0 in
-    let same = ap (λ (v : Labelled g.row.K-Entry.Denot). v.entries) c.self.view_is in
+    let same = ap (λ (v : Placed g.row.K-Entry.Denot). v.entries) c.self.view_is in
     let len = length-map order (λ (s : ℕ × ℕ). s.0) in
-    let lt : c.args.k < length (slots_of order) = omega (arith, length-same g.K.Kernel.LANES f (slots_of order) c.args.self.now.entries listed.busy same, c.requires.place) in
+    let lt : c.args.k < length (slots_of order) = omega (arith, length-same g.K.Kernel.LANES f (slots_of order) c.args.self.now.entries listed.busy same, c.requires.position) in
     let lt' : c.args.k < length order = omega (arith, lt, len) in
     let count = listed.count in
     omega (arith, lt, count, c.self.inside.idle.ok.0, c.self.invariant.2)
@@ -29,9 +29,9 @@ push_reserved-requires g c =
 pub take-requires-clause-lane : goal.take-requires-clause-lane
 take-requires-clause-lane g c =
     let order = c.self.inside.order.items in let f = g.K.SlotKernel.slot c.self.inside.slots in let listed = c.self.invariant.0 in
-    let same = ap (λ (v : Labelled g.row.K-Entry.Denot). v.entries) c.self.view_is in
+    let same = ap (λ (v : Placed g.row.K-Entry.Denot). v.entries) c.self.view_is in
     let len = length-map order (λ (s : ℕ × ℕ). s.0) in
-    let lt : c.args.k < length (slots_of order) = omega (arith, length-same g.K.Kernel.LANES f (slots_of order) c.args.self.now.entries listed.busy same, c.requires.place) in
+    let lt : c.args.k < length (slots_of order) = omega (arith, length-same g.K.Kernel.LANES f (slots_of order) c.args.self.now.entries listed.busy same, c.requires.position) in
     let lt' : c.args.k < length order = omega (arith, lt, len) in
     let at = map-at (λ (s : ℕ × ℕ). s.0) order c.args.k c.remove-slot.result lt' c.remove-slot.ensures.value in
     (busy-at g.K.Kernel.LANES f (slots_of order) c.args.k c.remove-slot.result.0 listed.busy lt at).0
@@ -39,9 +39,9 @@ take-requires-clause-lane g c =
 pub take-requires-clause-busy : goal.take-requires-clause-busy
 take-requires-clause-busy g c =
     let order = c.self.inside.order.items in let f = g.K.SlotKernel.slot c.self.inside.slots in let listed = c.self.invariant.0 in
-    let same = ap (λ (v : Labelled g.row.K-Entry.Denot). v.entries) c.self.view_is in
+    let same = ap (λ (v : Placed g.row.K-Entry.Denot). v.entries) c.self.view_is in
     let len = length-map order (λ (s : ℕ × ℕ). s.0) in
-    let lt : c.args.k < length (slots_of order) = omega (arith, length-same g.K.Kernel.LANES f (slots_of order) c.args.self.now.entries listed.busy same, c.requires.place) in
+    let lt : c.args.k < length (slots_of order) = omega (arith, length-same g.K.Kernel.LANES f (slots_of order) c.args.self.now.entries listed.busy same, c.requires.position) in
     let lt' : c.args.k < length order = omega (arith, lt, len) in
     let at = map-at (λ (s : ℕ × ℕ). s.0) order c.args.k c.remove-slot.result lt' c.remove-slot.ensures.value in
     (busy-at g.K.Kernel.LANES f (slots_of order) c.args.k c.remove-slot.result.0 listed.busy lt at).1
@@ -49,9 +49,9 @@ take-requires-clause-busy g c =
 pub take-requires-clause-done : goal.take-requires-clause-done
 take-requires-clause-done g c =
     let order = c.self.inside.order.items in let f = g.K.SlotKernel.slot c.self.inside.slots in let listed = c.self.invariant.0 in
-    let same = ap (λ (v : Labelled g.row.K-Entry.Denot). v.entries) c.self.view_is in
+    let same = ap (λ (v : Placed g.row.K-Entry.Denot). v.entries) c.self.view_is in
     let len = length-map order (λ (s : ℕ × ℕ). s.0) in
-    let lt : c.args.k < length (slots_of order) = omega (arith, length-same g.K.Kernel.LANES f (slots_of order) c.args.self.now.entries listed.busy same, c.requires.place) in
+    let lt : c.args.k < length (slots_of order) = omega (arith, length-same g.K.Kernel.LANES f (slots_of order) c.args.self.now.entries listed.busy same, c.requires.position) in
     let lt' : c.args.k < length order = omega (arith, lt, len) in
     let at = map-at (λ (s : ℕ × ℕ). s.0) order c.args.k c.remove-slot.result lt' c.remove-slot.ensures.value in
     λ e there. ap g.K.Kernel.rest_of (entry-at g.K.Kernel.LANES f (slots_of order) c.args.k c.remove-slot.result.0 e c.args.self.now.entries listed.busy same lt at
@@ -60,9 +60,9 @@ take-requires-clause-done g c =
 pub take-requires-clause-may : goal.take-requires-clause-may
 take-requires-clause-may g c =
     let order = c.self.inside.order.items in let f = g.K.SlotKernel.slot c.self.inside.slots in let listed = c.self.invariant.0 in
-    let same = ap (λ (v : Labelled g.row.K-Entry.Denot). v.entries) c.self.view_is in
+    let same = ap (λ (v : Placed g.row.K-Entry.Denot). v.entries) c.self.view_is in
     let len = length-map order (λ (s : ℕ × ℕ). s.0) in
-    let lt : c.args.k < length (slots_of order) = omega (arith, length-same g.K.Kernel.LANES f (slots_of order) c.args.self.now.entries listed.busy same, c.requires.place) in
+    let lt : c.args.k < length (slots_of order) = omega (arith, length-same g.K.Kernel.LANES f (slots_of order) c.args.self.now.entries listed.busy same, c.requires.position) in
     let lt' : c.args.k < length order = omega (arith, lt, len) in
     let at = map-at (λ (s : ℕ × ℕ). s.0) order c.args.k c.remove-slot.result lt' c.remove-slot.ensures.value in
     let May : g.row.K-Entry.Denot → Type 0 = λ e. g.G.Host.may_take e c.args.host.now in
@@ -71,9 +71,9 @@ take-requires-clause-may g c =
 pub invariant_of-self : goal.invariant_of-self
 invariant_of-self g c =
     let order = c.self.inside.order.items in let f = g.K.SlotKernel.slot c.self.inside.slots in let listed = c.self.invariant.0 in
-    let same = ap (λ (v : Labelled g.row.K-Entry.Denot). v.entries) c.self.view_is in
+    let same = ap (λ (v : Placed g.row.K-Entry.Denot). v.entries) c.self.view_is in
     let len = length-map order (λ (s : ℕ × ℕ). s.0) in
-    let lt : c.args.k < length (slots_of order) = omega (arith, length-same g.K.Kernel.LANES f (slots_of order) c.args.self.now.entries listed.busy same, c.requires.place) in
+    let lt : c.args.k < length (slots_of order) = omega (arith, length-same g.K.Kernel.LANES f (slots_of order) c.args.self.now.entries listed.busy same, c.requires.position) in
     let lt' : c.args.k < length order = omega (arith, lt, len) in
     let at = map-at (λ (s : ℕ × ℕ). s.0) order c.args.k c.remove-slot.result lt' c.remove-slot.ensures.value in
     let there = (busy-at g.K.Kernel.LANES f (slots_of order) c.args.k c.remove-slot.result.0 listed.busy lt at).1 in
@@ -87,28 +87,28 @@ invariant_of-self g c =
 pub returns-clause-back : goal.returns-clause-back
 returns-clause-back g c =
     let order = c.self.inside.order.items in let f = g.K.SlotKernel.slot c.self.inside.slots in let listed = c.self.invariant.0 in
-    let same = ap (λ (v : Labelled g.row.K-Entry.Denot). v.entries) c.self.view_is in
+    let same = ap (λ (v : Placed g.row.K-Entry.Denot). v.entries) c.self.view_is in
     let len = length-map order (λ (s : ℕ × ℕ). s.0) in
-    let lt : c.args.k < length (slots_of order) = omega (arith, length-same g.K.Kernel.LANES f (slots_of order) c.args.self.now.entries listed.busy same, c.requires.place) in
+    let lt : c.args.k < length (slots_of order) = omega (arith, length-same g.K.Kernel.LANES f (slots_of order) c.args.self.now.entries listed.busy same, c.requires.position) in
     let lt' : c.args.k < length order = omega (arith, lt, len) in
     let at = map-at (λ (s : ℕ × ℕ). s.0) order c.args.k c.remove-slot.result lt' c.remove-slot.ensures.value in
     let there = (busy-at g.K.Kernel.LANES f (slots_of order) c.args.k c.remove-slot.result.0 listed.busy lt at).1 in
     let es = c.args.self.now.entries in
     let is = entry-at g.K.Kernel.LANES f (slots_of order) c.args.k c.remove-slot.result.0 there.0 es listed.busy same lt at there.1 in
-    let inside : c.args.k < length es = c.requires.place in
+    let inside : c.args.k < length es = c.requires.position in
     let Back : g.row.K-Entry.Denot → Type 0 = λ e. g.G.Host.takes c.args.host.now e c.take.new.self in
     λ d. subst Back (is ∙ get_or_default es c.args.k there.0 d inside) (c.take.ensures.back there.0 there.1)
 
-pub returns-clause-labels : goal.returns-clause-labels
-returns-clause-labels g c =
+pub returns-clause-places : goal.returns-clause-places
+returns-clause-places g c =
     rw (c.remove-slot.ensures.items, ← c.self.view_is) (map-remove (λ (s : ℕ × ℕ). s.1) c.self.inside.order.items c.args.k)
 
 pub returns-clause-others : goal.returns-clause-others
 returns-clause-others g c =
     let order = c.self.inside.order.items in let f = g.K.SlotKernel.slot c.self.inside.slots in let listed = c.self.invariant.0 in
-    let same = ap (λ (v : Labelled g.row.K-Entry.Denot). v.entries) c.self.view_is in
+    let same = ap (λ (v : Placed g.row.K-Entry.Denot). v.entries) c.self.view_is in
     let len = length-map order (λ (s : ℕ × ℕ). s.0) in
-    let lt : c.args.k < length (slots_of order) = omega (arith, length-same g.K.Kernel.LANES f (slots_of order) c.args.self.now.entries listed.busy same, c.requires.place) in
+    let lt : c.args.k < length (slots_of order) = omega (arith, length-same g.K.Kernel.LANES f (slots_of order) c.args.self.now.entries listed.busy same, c.requires.position) in
     let lt' : c.args.k < length order = omega (arith, lt, len) in
     let at = map-at (λ (s : ℕ × ℕ). s.0) order c.args.k c.remove-slot.result lt' c.remove-slot.ensures.value in
     let there = (busy-at g.K.Kernel.LANES f (slots_of order) c.args.k c.remove-slot.result.0 listed.busy lt at).1 in

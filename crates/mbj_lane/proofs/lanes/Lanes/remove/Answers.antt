@@ -1,27 +1,27 @@
 use Rattle.std.proofs.Common.{ℕ, ◌<◌, ◌∙◌, length, ap, arith}
 use Rattle.std.proofs.lemmas.List.{length-map}
-use Rattle.mbj_lane.specs.Slots.{Labelled, slots_of}
+use Rattle.mbj_lane.specs.Slots.{Placed, slots_of}
 use Rattle.mbj_lane.proofs.Listing.{busy-at, entry-at, length-same, left, listed-left, map-at, map-remove}
 use Rattle.mbj_lane.proofs.lanes.Lanes.remove.Goals as goal
 
 pub remove-i-requires : goal.remove-i-requires
 remove-i-requires g c =
     let order = c.self.inside.order.items in
-    let same = ap (λ (v : Labelled g.row.K-Entry.Denot). v.entries) c.self.view_is in
+    let same = ap (λ (v : Placed g.row.K-Entry.Denot). v.entries) c.self.view_is in
     omega (
       arith,
       length-same g.K.Kernel.LANES (g.K.SlotKernel.slot c.self.inside.slots) (slots_of order) c.args.self.now.entries c.self.invariant.0.busy same,
       length-map order (λ (s : ℕ × ℕ). s.0),
       c.self.inside.order.ok.0,
-      c.requires.place,
+      c.requires.position,
     )
 
 pub push_reserved-requires : goal.push_reserved-requires
 push_reserved-requires g c =
     let order = c.self.inside.order.items in let f = g.K.SlotKernel.slot c.self.inside.slots in let listed = c.self.invariant.0 in
-    let same = ap (λ (v : Labelled g.row.K-Entry.Denot). v.entries) c.self.view_is in
+    let same = ap (λ (v : Placed g.row.K-Entry.Denot). v.entries) c.self.view_is in
     let len = length-map order (λ (s : ℕ × ℕ). s.0) in
-    let lt : c.args.k < length (slots_of order) = omega (arith, length-same g.K.Kernel.LANES f (slots_of order) c.args.self.now.entries listed.busy same, c.requires.place) in
+    let lt : c.args.k < length (slots_of order) = omega (arith, length-same g.K.Kernel.LANES f (slots_of order) c.args.self.now.entries listed.busy same, c.requires.position) in
     let lt' : c.args.k < length order = omega (arith, lt, len) in
     let count = listed.count in
     omega (arith, lt, count, c.self.inside.idle.ok.0, c.self.invariant.2)
@@ -29,9 +29,9 @@ push_reserved-requires g c =
 pub take-requires-clause-lane : goal.take-requires-clause-lane
 take-requires-clause-lane g c =
     let order = c.self.inside.order.items in let f = g.K.SlotKernel.slot c.self.inside.slots in let listed = c.self.invariant.0 in
-    let same = ap (λ (v : Labelled g.row.K-Entry.Denot). v.entries) c.self.view_is in
+    let same = ap (λ (v : Placed g.row.K-Entry.Denot). v.entries) c.self.view_is in
     let len = length-map order (λ (s : ℕ × ℕ). s.0) in
-    let lt : c.args.k < length (slots_of order) = omega (arith, length-same g.K.Kernel.LANES f (slots_of order) c.args.self.now.entries listed.busy same, c.requires.place) in
+    let lt : c.args.k < length (slots_of order) = omega (arith, length-same g.K.Kernel.LANES f (slots_of order) c.args.self.now.entries listed.busy same, c.requires.position) in
     let lt' : c.args.k < length order = omega (arith, lt, len) in
     let at = map-at (λ (s : ℕ × ℕ). s.0) order c.args.k c.remove-i.result lt' c.remove-i.ensures.value in
     (busy-at g.K.Kernel.LANES f (slots_of order) c.args.k c.remove-i.result.0 listed.busy lt at).0
@@ -39,9 +39,9 @@ take-requires-clause-lane g c =
 pub take-requires-clause-busy : goal.take-requires-clause-busy
 take-requires-clause-busy g c =
     let order = c.self.inside.order.items in let f = g.K.SlotKernel.slot c.self.inside.slots in let listed = c.self.invariant.0 in
-    let same = ap (λ (v : Labelled g.row.K-Entry.Denot). v.entries) c.self.view_is in
+    let same = ap (λ (v : Placed g.row.K-Entry.Denot). v.entries) c.self.view_is in
     let len = length-map order (λ (s : ℕ × ℕ). s.0) in
-    let lt : c.args.k < length (slots_of order) = omega (arith, length-same g.K.Kernel.LANES f (slots_of order) c.args.self.now.entries listed.busy same, c.requires.place) in
+    let lt : c.args.k < length (slots_of order) = omega (arith, length-same g.K.Kernel.LANES f (slots_of order) c.args.self.now.entries listed.busy same, c.requires.position) in
     let lt' : c.args.k < length order = omega (arith, lt, len) in
     let at = map-at (λ (s : ℕ × ℕ). s.0) order c.args.k c.remove-i.result lt' c.remove-i.ensures.value in
     (busy-at g.K.Kernel.LANES f (slots_of order) c.args.k c.remove-i.result.0 listed.busy lt at).1
@@ -49,9 +49,9 @@ take-requires-clause-busy g c =
 pub take-requires-clause-done : goal.take-requires-clause-done
 take-requires-clause-done g c =
     let order = c.self.inside.order.items in let f = g.K.SlotKernel.slot c.self.inside.slots in let listed = c.self.invariant.0 in
-    let same = ap (λ (v : Labelled g.row.K-Entry.Denot). v.entries) c.self.view_is in
+    let same = ap (λ (v : Placed g.row.K-Entry.Denot). v.entries) c.self.view_is in
     let len = length-map order (λ (s : ℕ × ℕ). s.0) in
-    let lt : c.args.k < length (slots_of order) = omega (arith, length-same g.K.Kernel.LANES f (slots_of order) c.args.self.now.entries listed.busy same, c.requires.place) in
+    let lt : c.args.k < length (slots_of order) = omega (arith, length-same g.K.Kernel.LANES f (slots_of order) c.args.self.now.entries listed.busy same, c.requires.position) in
     let lt' : c.args.k < length order = omega (arith, lt, len) in
     let at = map-at (λ (s : ℕ × ℕ). s.0) order c.args.k c.remove-i.result lt' c.remove-i.ensures.value in
     λ e there. ap g.K.Kernel.rest_of (entry-at g.K.Kernel.LANES f (slots_of order) c.args.k c.remove-i.result.0 e c.args.self.now.entries listed.busy same lt at
@@ -60,9 +60,9 @@ take-requires-clause-done g c =
 pub invariant_of-self : goal.invariant_of-self
 invariant_of-self g c =
     let order = c.self.inside.order.items in let f = g.K.SlotKernel.slot c.self.inside.slots in let listed = c.self.invariant.0 in
-    let same = ap (λ (v : Labelled g.row.K-Entry.Denot). v.entries) c.self.view_is in
+    let same = ap (λ (v : Placed g.row.K-Entry.Denot). v.entries) c.self.view_is in
     let len = length-map order (λ (s : ℕ × ℕ). s.0) in
-    let lt : c.args.k < length (slots_of order) = omega (arith, length-same g.K.Kernel.LANES f (slots_of order) c.args.self.now.entries listed.busy same, c.requires.place) in
+    let lt : c.args.k < length (slots_of order) = omega (arith, length-same g.K.Kernel.LANES f (slots_of order) c.args.self.now.entries listed.busy same, c.requires.position) in
     let lt' : c.args.k < length order = omega (arith, lt, len) in
     let at = map-at (λ (s : ℕ × ℕ). s.0) order c.args.k c.remove-i.result lt' c.remove-i.ensures.value in
     rw (c.remove-i.ensures.items, c.push_reserved.ensures.items, map-remove (λ (s : ℕ × ℕ). s.0) order c.args.k) (
@@ -72,35 +72,35 @@ invariant_of-self g c =
       omega (arith, c.self.invariant.2),
     )
 
-pub returns-clause-label : goal.returns-clause-label
-returns-clause-label g c =
+pub returns-clause-place : goal.returns-clause-place
+returns-clause-place g c =
     let order = c.self.inside.order.items in let f = g.K.SlotKernel.slot c.self.inside.slots in let listed = c.self.invariant.0 in
-    let same = ap (λ (v : Labelled g.row.K-Entry.Denot). v.entries) c.self.view_is in
+    let same = ap (λ (v : Placed g.row.K-Entry.Denot). v.entries) c.self.view_is in
     let len = length-map order (λ (s : ℕ × ℕ). s.0) in
-    let lt : c.args.k < length (slots_of order) = omega (arith, length-same g.K.Kernel.LANES f (slots_of order) c.args.self.now.entries listed.busy same, c.requires.place) in
+    let lt : c.args.k < length (slots_of order) = omega (arith, length-same g.K.Kernel.LANES f (slots_of order) c.args.self.now.entries listed.busy same, c.requires.position) in
     let lt' : c.args.k < length order = omega (arith, lt, len) in
     rw (← c.self.view_is) (map-at (λ (s : ℕ × ℕ). s.1) order c.args.k c.remove-i.result lt' c.remove-i.ensures.value)
 
 pub returns-clause-entry : goal.returns-clause-entry
 returns-clause-entry g c =
     let order = c.self.inside.order.items in let f = g.K.SlotKernel.slot c.self.inside.slots in let listed = c.self.invariant.0 in
-    let same = ap (λ (v : Labelled g.row.K-Entry.Denot). v.entries) c.self.view_is in
+    let same = ap (λ (v : Placed g.row.K-Entry.Denot). v.entries) c.self.view_is in
     let len = length-map order (λ (s : ℕ × ℕ). s.0) in
-    let lt : c.args.k < length (slots_of order) = omega (arith, length-same g.K.Kernel.LANES f (slots_of order) c.args.self.now.entries listed.busy same, c.requires.place) in
+    let lt : c.args.k < length (slots_of order) = omega (arith, length-same g.K.Kernel.LANES f (slots_of order) c.args.self.now.entries listed.busy same, c.requires.position) in
     let lt' : c.args.k < length order = omega (arith, lt, len) in
     let at = map-at (λ (s : ℕ × ℕ). s.0) order c.args.k c.remove-i.result lt' c.remove-i.ensures.value in
     entry-at g.K.Kernel.LANES f (slots_of order) c.args.k c.remove-i.result.0 c.take.result c.args.self.now.entries listed.busy same lt at c.take.ensures.taken
 
-pub returns-clause-labels : goal.returns-clause-labels
-returns-clause-labels g c =
+pub returns-clause-places : goal.returns-clause-places
+returns-clause-places g c =
     rw (c.remove-i.ensures.items, ← c.self.view_is) (map-remove (λ (s : ℕ × ℕ). s.1) c.self.inside.order.items c.args.k)
 
 pub returns-clause-others : goal.returns-clause-others
 returns-clause-others g c =
     let order = c.self.inside.order.items in let f = g.K.SlotKernel.slot c.self.inside.slots in let listed = c.self.invariant.0 in
-    let same = ap (λ (v : Labelled g.row.K-Entry.Denot). v.entries) c.self.view_is in
+    let same = ap (λ (v : Placed g.row.K-Entry.Denot). v.entries) c.self.view_is in
     let len = length-map order (λ (s : ℕ × ℕ). s.0) in
-    let lt : c.args.k < length (slots_of order) = omega (arith, length-same g.K.Kernel.LANES f (slots_of order) c.args.self.now.entries listed.busy same, c.requires.place) in
+    let lt : c.args.k < length (slots_of order) = omega (arith, length-same g.K.Kernel.LANES f (slots_of order) c.args.self.now.entries listed.busy same, c.requires.position) in
     let lt' : c.args.k < length order = omega (arith, lt, len) in
     let at = map-at (λ (s : ℕ × ℕ). s.0) order c.args.k c.remove-i.result lt' c.remove-i.ensures.value in
     let now = listed-left g.K.Kernel.LANES f (g.K.SlotKernel.slot c.take.new.slots) (slots_of order) c.self.inside.idle.items c.args.k c.remove-i.result.0

@@ -1,6 +1,6 @@
 use Rattle.std.proofs.Common.{◌∙◌, length, ap, arith}
 use Rattle.mbj_lane.specs.Rounds.{after, least}
-use Rattle.mbj_lane.specs.Slots.{Labelled, slots_of}
+use Rattle.mbj_lane.specs.Slots.{Placed, slots_of}
 use Rattle.mbj_lane.proofs.Least.{least-at}
 use Rattle.mbj_lane.proofs.Led.{map-rests, map-ends}
 use Rattle.mbj_lane.proofs.Listing.{some-busy, all-led, listed-led, least-listed}
@@ -9,7 +9,7 @@ use Rattle.mbj_lane.proofs.lanes.Lanes.run_shortest.Goals as goal
 pub least-m-requires : goal.least-m-requires
 least-m-requires g c =
     let l = c.self.inside in
-    let same = ap (λ (v : Labelled g.row.K-Entry.Denot). length v.entries) c.self.view_is in
+    let same = ap (λ (v : Placed g.row.K-Entry.Denot). length v.entries) c.self.view_is in
     let some = c.requires.some in
     some-busy g.K.Kernel.LANES (g.K.SlotKernel.slot l.slots) (slots_of l.order.items) c.self.invariant.0.busy (omega (arith, same, some))
 
@@ -25,11 +25,11 @@ invariant_of-self g c =
 pub returns-clause-least : goal.returns-clause-least
 returns-clause-least g c =
     let l = c.self.inside in
-    let same = ap (λ (v : Labelled g.row.K-Entry.Denot). length v.entries) c.self.view_is in
+    let same = ap (λ (v : Placed g.row.K-Entry.Denot). length v.entries) c.self.view_is in
     let some = c.requires.some in
     least-listed g.K.Kernel.LANES g.K.Kernel.rest_of (g.K.SlotKernel.slot l.slots) c.least-m.result (slots_of l.order.items) l.idle.items c.self.invariant.0
     (omega (arith, same, some)) c.least-m.ensures
-    ∙ ap (λ (v : Labelled g.row.K-Entry.Denot). least g.K.Kernel.rest_of v.entries) c.self.view_is
+    ∙ ap (λ (v : Placed g.row.K-Entry.Denot). least g.K.Kernel.rest_of v.entries) c.self.view_is
 
 pub returns-clause-led : goal.returns-clause-led
 returns-clause-led g c =
@@ -47,5 +47,5 @@ returns-clause-ends g c =
     let es = c.args.self.now.entries in
     rw (returns-clause-led g c) (map-ends g.K.Kernel.round rest g.met.K.Kernel.falls c.least-m.result es (rw (returns-clause-least g c) (least-at rest es)))
 
-pub returns-clause-labels : goal.returns-clause-labels
-returns-clause-labels g c = ap (λ (v : Labelled g.row.K-Entry.Denot). v.labels) c.self.view_is
+pub returns-clause-places : goal.returns-clause-places
+returns-clause-places g c = ap (λ (v : Placed g.row.K-Entry.Denot). v.places) c.self.view_is

@@ -35,17 +35,17 @@ join_from-requires-clause-free g c =
       arith,
       c.requires.free,
       ap (λ (l : PlacedQueue). length l.waiters) c.self.view_is,
-      seated-length g.K.Kernel.round g.K.Kernel.rest_of g.K.Feed.brings q.lanes.labels q.lanes.entries c.self.invariant.0,
+      seated-length g.K.Kernel.round g.K.Kernel.rest_of g.K.Feed.brings q.lanes.places q.lanes.entries c.self.invariant.0,
     )
 
 pub invariant_of-self : goal.invariant_of-self
 invariant_of-self g c =
     let q = c.self.inside in
     let e = c.join_from.ensures.entry.0 in (
-      (let same : length q.lanes.labels ≡ length q.lanes.entries = c.self.invariant.0 in
-          rw (c.join_from.ensures.entry.1, c.join_from.ensures.labels) (omega (arith, length-append q.lanes.labels (c.args.place ∷ []), length-append q.lanes.entries (e ∷ [])))),
-      subst (λ (ps : List ℕ). All (λ p. p < CELLS) ps) (sym c.join_from.ensures.labels)
-          (All-append (λ p. p < CELLS) q.lanes.labels _ c.self.invariant.1 (All-cons (λ p. p < CELLS) _ [] c.requires.place (All-nil (λ p. p < CELLS)))),
+      (let same : length q.lanes.places ≡ length q.lanes.entries = c.self.invariant.0 in
+          rw (c.join_from.ensures.entry.1, c.join_from.ensures.places) (omega (arith, length-append q.lanes.places (c.args.place ∷ []), length-append q.lanes.entries (e ∷ [])))),
+      subst (λ (ps : List ℕ). All (λ p. p < CELLS) ps) (sym c.join_from.ensures.places)
+          (All-append (λ p. p < CELLS) q.lanes.places _ c.self.invariant.1 (All-cons (λ p. p < CELLS) _ [] c.requires.place (All-nil (λ p. p < CELLS)))),
     )
 
 pub returns-clause-ring : goal.returns-clause-ring
@@ -72,7 +72,7 @@ returns-clause-joins g c =
       some = c.join_from.ensures.entry.2;
       gives = cell-at (Gives g.K.Feed.kind (g.K.Kernel.rest_of e) (g.K.Feed.brings (end_of g.K.Kernel.round g.K.Kernel.rest_of e)))
           (ring_number r c.args.place) r.values c.at_mut-cell.result.now c.at_mut-cell.ensures.value c.join_from.ensures.entry.3;
-      is = rw (c.join_from.ensures.labels, c.join_from.ensures.entry.1, ← c.self.view_is)
+      is = rw (c.join_from.ensures.places, c.join_from.ensures.entry.1, ← c.self.view_is)
           (ap (λ ws. placed_queue ws q.rounds q.blocks)
-          (seated-join g.K.Kernel.round g.K.Kernel.rest_of g.K.Feed.brings q.lanes.labels q.lanes.entries c.args.place e c.self.invariant.0));
+          (seated-join g.K.Kernel.round g.K.Kernel.rest_of g.K.Feed.brings q.lanes.places q.lanes.entries c.args.place e c.self.invariant.0));
     }

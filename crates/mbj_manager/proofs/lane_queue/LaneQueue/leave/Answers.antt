@@ -13,30 +13,30 @@ use Rattle.mbj_manager.proofs.RingCourses.{at-cell, courses-set, each-at, live, 
 use Rattle.mbj_manager.proofs.Seated.{all-removed, entry-there, length-removed, seated-none, seated-take}
 use Rattle.mbj_manager.proofs.lane_queue.LaneQueue.leave.Goals as goal
 
-pub label_at-place-requires : goal.label_at-place-requires
-label_at-place-requires g c = c.in-Some.ensures.inside
+pub place_at-place-requires : goal.place_at-place-requires
+place_at-place-requires g c = c.in-Some.ensures.inside
 
 pub at_mut-cell-requires : goal.at_mut-cell-requires
 at_mut-cell-requires g c =
     let q = c.self.inside in
     let r = c.args.ring.now in
     let k = c.in-Some.k in
-    let p = c.label_at-place.result in
+    let p = c.place_at-place.result in
     let inside = c.in-Some.ensures.inside in
     let there = entry-there q.lanes.entries k inside in
     let e = there.0 in
     let is : e ≡ get_or q.lanes.entries k e = there.1 in
     let first = ap (λ (l : PlacedQueue). taken (pair_rest rounds_in) l.waiters) (sym c.self.view_is)
-    ∙ seated-take g.K.Kernel.round g.K.Kernel.rest_of g.K.Feed.brings q.lanes.labels q.lanes.entries k p e c.self.invariant.0 c.in-Some.ensures c.label_at-place.ensures is in
+    ∙ seated-take g.K.Kernel.round g.K.Kernel.rest_of g.K.Feed.brings q.lanes.places q.lanes.entries k p e c.self.invariant.0 c.in-Some.ensures c.place_at-place.ensures is in
     let out = c.requires.out p (g.K.Feed.brings e) _ first in
-    let here : k < length q.lanes.labels = omega (arith, c.self.invariant.0, inside) in
-    let lt : p < CELLS = rw c.label_at-place.ensures (c.self.invariant.1 k p here) in
+    let here : k < length q.lanes.places = omega (arith, c.self.invariant.0, inside) in
+    let lt : p < CELLS = rw c.place_at-place.ensures (c.self.invariant.1 k p here) in
     live (IsOut g.K.Feed.kind (g.K.Feed.brings e)) r p lt out
 
 pub leave_to-requires-clause-going : goal.leave_to-requires-clause-going
 leave_to-requires-clause-going g c =
     let r = c.args.ring.now in
-    each-at IsGoing (ring_number r c.label_at-place.result) r.values c.at_mut-cell.result.now c.at_mut-cell.ensures.value c.requires.ring.going
+    each-at IsGoing (ring_number r c.place_at-place.result) r.values c.at_mut-cell.result.now c.at_mut-cell.ensures.value c.requires.ring.going
 
 pub leave_to-requires-clause-place : goal.leave_to-requires-clause-place
 leave_to-requires-clause-place g c = c.in-Some.ensures.inside
@@ -49,13 +49,13 @@ leave_to-requires-clause-out g c =
     let q = c.self.inside in
     let r = c.args.ring.now in
     let k = c.in-Some.k in
-    let p = c.label_at-place.result in
+    let p = c.place_at-place.result in
     let inside = c.in-Some.ensures.inside in
     let there = entry-there q.lanes.entries k inside in
     let e = there.0 in
     let is : e ≡ get_or q.lanes.entries k e = there.1 in
     let first = ap (λ (l : PlacedQueue). taken (pair_rest rounds_in) l.waiters) (sym c.self.view_is)
-    ∙ seated-take g.K.Kernel.round g.K.Kernel.rest_of g.K.Feed.brings q.lanes.labels q.lanes.entries k p e c.self.invariant.0 c.in-Some.ensures c.label_at-place.ensures is in
+    ∙ seated-take g.K.Kernel.round g.K.Kernel.rest_of g.K.Feed.brings q.lanes.places q.lanes.entries k p e c.self.invariant.0 c.in-Some.ensures c.place_at-place.ensures is in
     let out = c.requires.out p (g.K.Feed.brings e) _ first in
     let cell = c.at_mut-cell.result.now in
     let IsOutWith : g.row.K-Entry.Denot → Type 0 = λ x. IsOut g.K.Feed.kind (g.K.Feed.brings x) (course_in cell) in
@@ -68,10 +68,10 @@ invariant_of-self g c =
     let y = c.self.invariant in
     let k = c.in-Some.k in
     let inside = c.in-Some.ensures.inside in
-    let here : k < length q.lanes.labels = omega (arith, y.0, inside) in (
-      rw (c.leave_to.ensures.labels, c.leave_to.ensures.others)
-          (omega (arith, y.0, length-removed q.lanes.labels k here, length-removed q.lanes.entries k inside)),
-      subst (λ (ps : List ℕ). All (λ p. p < CELLS) ps) (sym c.leave_to.ensures.labels) (all-removed (λ p. p < CELLS) q.lanes.labels k here y.1),
+    let here : k < length q.lanes.places = omega (arith, y.0, inside) in (
+      rw (c.leave_to.ensures.places, c.leave_to.ensures.others)
+          (omega (arith, y.0, length-removed q.lanes.places k here, length-removed q.lanes.entries k inside)),
+      subst (λ (ps : List ℕ). All (λ p. p < CELLS) ps) (sym c.leave_to.ensures.places) (all-removed (λ p. p < CELLS) q.lanes.places k here y.1),
     )
 
 pub returns-in-None-clause-ring : goal.returns-in-None-clause-ring
@@ -82,7 +82,7 @@ returns-in-None-clause-takes g c =
     let q = c.self.inside in (
       record {
         none = ap (λ (l : PlacedQueue). taken (pair_rest rounds_in) l.waiters) (sym c.self.view_is)
-            ∙ seated-none g.K.Kernel.round g.K.Kernel.rest_of g.K.Feed.brings q.lanes.labels q.lanes.entries c.in-None.ensures;
+            ∙ seated-none g.K.Kernel.round g.K.Kernel.rest_of g.K.Feed.brings q.lanes.places q.lanes.entries c.in-None.ensures;
         same = refl;
       },
       refl,
@@ -93,13 +93,13 @@ returns-in-Some-clause-ring g c =
     let q = c.self.inside in
     let r = c.args.ring.now in
     let k = c.in-Some.k in
-    let p = c.label_at-place.result in
+    let p = c.place_at-place.result in
     let inside = c.in-Some.ensures.inside in
     let there = entry-there q.lanes.entries k inside in
     let e = there.0 in
     let is : e ≡ get_or q.lanes.entries k e = there.1 in
     let first = ap (λ (l : PlacedQueue). taken (pair_rest rounds_in) l.waiters) (sym c.self.view_is)
-    ∙ seated-take g.K.Kernel.round g.K.Kernel.rest_of g.K.Feed.brings q.lanes.labels q.lanes.entries k p e c.self.invariant.0 c.in-Some.ensures c.label_at-place.ensures is in
+    ∙ seated-take g.K.Kernel.round g.K.Kernel.rest_of g.K.Feed.brings q.lanes.places q.lanes.entries k p e c.self.invariant.0 c.in-Some.ensures c.place_at-place.ensures is in
     let out = c.requires.out p (g.K.Feed.brings e) _ first in
     let cell = c.at_mut-cell.result.now in
     same-ring r (ring_number r p) c.leave_to.new.cell c.requires.ring c.leave_to.ensures.going
@@ -109,28 +109,28 @@ returns-in-Some-clause-ring g c =
 pub returns-in-Some-clause-place : goal.returns-in-Some-clause-place
 returns-in-Some-clause-place g c =
     let q = c.self.inside in
-    let here : c.in-Some.k < length q.lanes.labels = omega (arith, c.self.invariant.0, c.in-Some.ensures.inside) in
-    rw c.label_at-place.ensures (c.self.invariant.1 c.in-Some.k c.label_at-place.result here)
+    let here : c.in-Some.k < length q.lanes.places = omega (arith, c.self.invariant.0, c.in-Some.ensures.inside) in
+    rw c.place_at-place.ensures (c.self.invariant.1 c.in-Some.k c.place_at-place.result here)
 
 pub returns-in-Some-clause-takes : goal.returns-in-Some-clause-takes
 returns-in-Some-clause-takes g c =
     let q = c.self.inside in
     let r = c.args.ring.now in
     let k = c.in-Some.k in
-    let p = c.label_at-place.result in
+    let p = c.place_at-place.result in
     let inside = c.in-Some.ensures.inside in
     let there = entry-there q.lanes.entries k inside in
     let e = there.0 in
     let is : e ≡ get_or q.lanes.entries k e = there.1 in
     let first = ap (λ (l : PlacedQueue). taken (pair_rest rounds_in) l.waiters) (sym c.self.view_is)
-    ∙ seated-take g.K.Kernel.round g.K.Kernel.rest_of g.K.Feed.brings q.lanes.labels q.lanes.entries k p e c.self.invariant.0 c.in-Some.ensures c.label_at-place.ensures is in
+    ∙ seated-take g.K.Kernel.round g.K.Kernel.rest_of g.K.Feed.brings q.lanes.places q.lanes.entries k p e c.self.invariant.0 c.in-Some.ensures c.place_at-place.ensures is in
     let out = c.requires.out p (g.K.Feed.brings e) _ first in
     let see = seated g.K.Kernel.round g.K.Kernel.rest_of g.K.Feed.brings in
     let cell = c.at_mut-cell.result.now in
     let back = c.leave_to.ensures.back e ∙ ap (λ x. taken_back (g.K.Feed.brings x) (course_in cell)) (sym is) in (
       g.K.Feed.brings e,
       record {
-        first = first ∙ (λ j. Some ((p, ended (g.K.Feed.brings e)), see (sym c.leave_to.ensures.labels j) (sym c.leave_to.ensures.others j)));
+        first = first ∙ (λ j. Some ((p, ended (g.K.Feed.brings e)), see (sym c.leave_to.ensures.places j) (sym c.leave_to.ensures.others j)));
         same = rw (← c.self.view_is) refl;
       },
       courses-set (taken_back (g.K.Feed.brings e)) (ring_number r p) r.values cell c.leave_to.new.cell c.at_mut-cell.ensures.value back,

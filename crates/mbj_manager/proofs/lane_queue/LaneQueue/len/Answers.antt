@@ -6,5 +6,5 @@ use Rattle.mbj_manager.proofs.lane_queue.LaneQueue.len.Goals as goal
 pub returns : goal.returns
 returns g c =
     let q = c.self.inside in
-    c.len.ensures.entries ∙ sym (seated-length g.K.Kernel.round g.K.Kernel.rest_of g.K.Feed.brings q.lanes.labels q.lanes.entries c.self.invariant.0)
+    c.len.ensures.entries ∙ sym (seated-length g.K.Kernel.round g.K.Kernel.rest_of g.K.Feed.brings q.lanes.places q.lanes.entries c.self.invariant.0)
     ∙ ap (λ (l : PlacedQueue). length l.waiters) c.self.view_is

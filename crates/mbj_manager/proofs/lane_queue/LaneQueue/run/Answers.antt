@@ -15,35 +15,35 @@ run_shortest-requires-clause-some g c =
       arith,
       c.requires.some,
       ap (λ (l : PlacedQueue). length l.waiters) c.self.view_is,
-      seated-length g.K.Kernel.round g.K.Kernel.rest_of g.K.Feed.brings q.lanes.labels q.lanes.entries c.self.invariant.0,
+      seated-length g.K.Kernel.round g.K.Kernel.rest_of g.K.Feed.brings q.lanes.places q.lanes.entries c.self.invariant.0,
     )
 
 pub run_shortest-requires-clause-rests : goal.run_shortest-requires-clause-rests
 run_shortest-requires-clause-rests g c =
     let q = c.self.inside in
-    seated-some g.K.Kernel.round g.K.Kernel.rest_of g.K.Feed.brings q.lanes.labels q.lanes.entries c.self.invariant.0
+    seated-some g.K.Kernel.round g.K.Kernel.rest_of g.K.Feed.brings q.lanes.places q.lanes.entries c.self.invariant.0
     (subst (λ (l : PlacedQueue). All HasRest l.waiters) (sym c.self.view_is) c.requires.rests)
 
 pub invariant_of-self : goal.invariant_of-self
 invariant_of-self g c =
     let q = c.self.inside in (
-      ap length c.run_shortest.ensures.labels ∙ c.self.invariant.0
+      ap length c.run_shortest.ensures.places ∙ c.self.invariant.0
           ∙ sym (ap length c.run_shortest.ensures.led ∙ length-map q.lanes.entries (after g.K.Kernel.round c.run_shortest.result)),
-      subst (λ (ps : List ℕ). All (λ p. p < CELLS) ps) (sym c.run_shortest.ensures.labels) c.self.invariant.1,
+      subst (λ (ps : List ℕ). All (λ p. p < CELLS) ps) (sym c.run_shortest.ensures.places) c.self.invariant.1,
     )
 
 pub returns-clause-least : goal.returns-clause-least
 returns-clause-least g c =
     let q = c.self.inside in
     c.run_shortest.ensures.least
-    ∙ sym (seated-least g.K.Kernel.round g.K.Kernel.rest_of g.K.Feed.brings q.lanes.labels q.lanes.entries c.self.invariant.0)
+    ∙ sym (seated-least g.K.Kernel.round g.K.Kernel.rest_of g.K.Feed.brings q.lanes.places q.lanes.entries c.self.invariant.0)
     ∙ ap (λ (l : PlacedQueue). least (pair_rest rounds_in) l.waiters) c.self.view_is
 
 pub returns-clause-led : goal.returns-clause-led
 returns-clause-led g c =
     let q = c.self.inside in
     let m = c.run_shortest.result in
-    rw (c.run_shortest.ensures.led, c.run_shortest.ensures.labels, ← c.self.view_is)
+    rw (c.run_shortest.ensures.led, c.run_shortest.ensures.places, ← c.self.view_is)
     (ap (λ ws. placed_queue ws q.rounds q.blocks)
-    (seated-led g.K.Kernel.round g.K.Kernel.rest_of g.K.Feed.brings m q.lanes.labels q.lanes.entries g.met.K.Kernel.falls
+    (seated-led g.K.Kernel.round g.K.Kernel.rest_of g.K.Feed.brings m q.lanes.places q.lanes.entries g.met.K.Kernel.falls
     (λ k d l. rw c.run_shortest.ensures.least (least-at g.K.Kernel.rest_of q.lanes.entries k d l))))

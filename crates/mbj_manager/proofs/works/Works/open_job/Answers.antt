@@ -8,16 +8,16 @@ use Rattle.mbj_manager.proofs.works.Works.open_job.Goals as goal
 
 pub open_at-requires : goal.open_at-requires
 open_at-requires c =
-    let some = subst (λ (h : ManagerState). c.args.index < length h.opened) (sym c.self.view_is) c.requires in
+    let some = subst (λ (h : ManagerState). c.args.number < length h.opened) (sym c.self.view_is) c.requires in
     omega (arith, some, length-map c.self.inside.ring.opened job_in)
 
 pub job_mut-requires : goal.job_mut-requires
-job_mut-requires c = open-at c.args.index c.self.inside.ring.opened c.open_at.result.now c.open_at.ensures.value c.self.invariant.is_open
+job_mut-requires c = open-at c.args.number c.self.inside.ring.opened c.open_at.result.now c.open_at.ensures.value c.self.invariant.is_open
 
 pub returns : goal.returns
 returns c =
     let w = c.self.inside in
     rw (← c.self.view_is) (
-      (refl, λ j i. written-open w.ring c.args.index j w.agenda.places.items w.lists.value i),
-      record { lends = tt; value = job-at c.args.index w.ring.opened c.open_at.result.now c.job_mut.result.now c.open_at.ensures.value c.job_mut.ensures.value },
+      (refl, λ j i. written-open w.ring c.args.number j w.agenda.places.items w.lists.value i),
+      record { lends = tt; value = job-at c.args.number w.ring.opened c.open_at.result.now c.job_mut.result.now c.open_at.ensures.value c.job_mut.ensures.value },
     )

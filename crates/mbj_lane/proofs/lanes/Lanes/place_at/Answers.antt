@@ -1,13 +1,13 @@
 use Rattle.std.proofs.Common.{ℕ, length, ap, arith}
 use Rattle.std.proofs.lemmas.List.{length-map}
-use Rattle.mbj_lane.specs.Slots.{Labelled, slots_of}
+use Rattle.mbj_lane.specs.Slots.{Placed, slots_of}
 use Rattle.mbj_lane.proofs.Listing.{length-same}
-use Rattle.mbj_lane.proofs.lanes.Lanes.label_at.Goals as goal
+use Rattle.mbj_lane.proofs.lanes.Lanes.place_at.Goals as goal
 
 pub index-requires : goal.index-requires
 index-requires g c =
     let order = c.self.inside.order.items in
-    let same = ap (λ (v : Labelled g.row.K-Entry.Denot). v.entries) c.self.view_is in
+    let same = ap (λ (v : Placed g.row.K-Entry.Denot). v.entries) c.self.view_is in
     omega (
       arith,
       length-same g.K.Kernel.LANES (g.K.SlotKernel.slot c.self.inside.slots) (slots_of order) c.args.self.now.entries c.self.invariant.0.busy same,
