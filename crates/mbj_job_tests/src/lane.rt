@@ -1,8 +1,9 @@
 ghost use Rattle.std.specs.Prelude.{◌≡◌, ℕ, ◌-◌, ◌≤◌, [], All, map};
-ghost use Rattle.mbj_lane.specs.Gathered.{at_slot};
+ghost use Rattle.mbj_job_tests.specs.Gathered.{at_slot};
 
 use crate::compare::expect;
-use mbj_lane::{GatheredSlots, Kernel, Lanes, SlotKernel};
+use crate::gathered::GatheredSlots;
+use mbj_lane::{Kernel, Lanes, SlotKernel};
 use std::alloc::{AllocError, Global};
 use std::process::Abort;
 use std::test::*;

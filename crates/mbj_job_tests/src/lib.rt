@@ -30,6 +30,7 @@ mod ctr;
 mod digests;
 #[cfg(test)]
 mod fill;
+mod gathered;
 #[cfg(test)]
 mod gcm;
 #[cfg(test)]

@@ -1,4 +1,3 @@
-pub mod Gathering
 pub mod Halfway
 pub mod Least
 pub mod Led

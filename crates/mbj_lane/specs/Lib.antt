@@ -1,4 +1,3 @@
 pub mod Rounds
 pub mod Laws
 pub mod Slots
-pub mod Gathered

@@ -1,13 +1,11 @@
 //! Lanes: pieces of work of one kind that wait for each other, and are then led on together, round by round.
 #![tactic(auto)]
 
-mod gathered;
 mod host;
 mod kernel;
 mod lanes;
 mod slot_kernel;
 
-pub use gathered::GatheredSlots;
 pub use host::Host;
 pub use kernel::Kernel;
 pub use lanes::Lanes;

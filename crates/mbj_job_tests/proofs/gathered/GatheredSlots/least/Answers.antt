@@ -1,7 +1,7 @@
 use Rattle.std.proofs.Common.{◌∙◌, ap, arith}
 use Rattle.mbj_lane.specs.Rounds.{least}
-use Rattle.mbj_lane.proofs.Gathering.{is-least, at-in}
-use Rattle.mbj_lane.proofs.gathered.GatheredSlots.least.Goals as goal
+use Rattle.mbj_job_tests.proofs.Gathering.{is-least, at-in}
+use Rattle.mbj_job_tests.proofs.gathered.GatheredSlots.least.Goals as goal
 
 pub shortest-requires : goal.shortest-requires
 shortest-requires g c =

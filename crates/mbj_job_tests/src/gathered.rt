@@ -2,9 +2,9 @@ ghost use Rattle.std.specs.Prelude.{◌≡◌, ℕ, ◌<◌, ◌≤◌, length, 
 ghost use Rattle.std.specs.Option.{option_map};
 ghost use Rattle.mbj_lane.specs.Rounds.{after, least};
 ghost use Rattle.mbj_lane.specs.Slots.{IsBusy, IsIn, IsLeast, IsWritten};
-ghost use Rattle.mbj_lane.specs.Gathered.{at_slot};
+ghost use Rattle.mbj_job_tests.specs.Gathered.{at_slot};
 
-use crate::kernel::Kernel;
+use mbj_lane::Kernel;
 use std::alloc::{AllocError, Global};
 use std::marker::Model;
 
@@ -19,7 +19,7 @@ pub struct GatheredSlots<K: Kernel> {
 
 impl<K: Kernel> Model for GatheredSlots<K> {
     ghost use Rattle.std.specs.Prelude.{List, ℕ, ◌≤◌, vec_capacity};
-    ghost use Rattle.mbj_lane.specs.Gathered.{AreGathered};
+    ghost use Rattle.mbj_job_tests.specs.Gathered.{AreGathered};
 
     ghost Value = { List ℕ × List K.Entry };
 

@@ -1,6 +1,6 @@
 use Rattle.std.proofs.Common.{◌∙◌, ap}
-use Rattle.mbj_lane.proofs.Gathering.{busy-is-in, hit-is}
-use Rattle.mbj_lane.proofs.gathered.GatheredSlots.rest_at.Goals as goal
+use Rattle.mbj_job_tests.proofs.Gathering.{busy-is-in, hit-is}
+use Rattle.mbj_job_tests.proofs.gathered.GatheredSlots.rest_at.Goals as goal
 
 pub place_of-requires : goal.place_of-requires
 place_of-requires g c =

@@ -1,6 +1,6 @@
 use Rattle.std.proofs.Common.{◌∙◌, ap, sym, Some, arith}
-use Rattle.mbj_lane.proofs.Gathering.{busy-is-in, take-gathered, take-written, at-hit}
-use Rattle.mbj_lane.proofs.gathered.GatheredSlots.take.Goals as goal
+use Rattle.mbj_job_tests.proofs.Gathering.{busy-is-in, take-gathered, take-written, at-hit}
+use Rattle.mbj_job_tests.proofs.gathered.GatheredSlots.take.Goals as goal
 
 pub place_of-k-requires : goal.place_of-k-requires
 place_of-k-requires g c =

@@ -1,6 +1,6 @@
 use Rattle.std.proofs.Common.{inl, inr, arith}
-use Rattle.mbj_lane.proofs.Gathering.{is-in}
-use Rattle.mbj_lane.proofs.gathered.place_of.Goals as goal
+use Rattle.mbj_job_tests.proofs.Gathering.{is-in}
+use Rattle.mbj_job_tests.proofs.gathered.place_of.Goals as goal
 
 pub unreachable-requires : goal.unreachable-requires
 unreachable-requires c =

@@ -1,6 +1,6 @@
 use Rattle.std.proofs.Common.{arith}
-use Rattle.mbj_lane.proofs.Gathering.{room-left, put-gathered, put-written}
-use Rattle.mbj_lane.proofs.gathered.GatheredSlots.put.Goals as goal
+use Rattle.mbj_job_tests.proofs.Gathering.{room-left, put-gathered, put-written}
+use Rattle.mbj_job_tests.proofs.gathered.GatheredSlots.put.Goals as goal
 
 pub push_reserved-requires : goal.push_reserved-requires
 push_reserved-requires g c =

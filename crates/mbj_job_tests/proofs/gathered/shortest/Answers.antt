@@ -1,7 +1,7 @@
 use Rattle.std.proofs.Common.{◌≡◌, min, arith}
 use Rattle.mbj_lane.proofs.Least.{least-next, least-end}
-use Rattle.mbj_lane.proofs.gathered.shortest.Goals as goal
-use Rattle.mbj_lane.proofs.gathered.shortest.Goals.{then-rest-least, else-rest-least}
+use Rattle.mbj_job_tests.proofs.gathered.shortest.Goals as goal
+use Rattle.mbj_job_tests.proofs.gathered.shortest.Goals.{then-rest-least, else-rest-least}
 
 pub rests-preserved : goal.rests-preserved
 rests-preserved g c =

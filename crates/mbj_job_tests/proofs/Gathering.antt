@@ -9,7 +9,7 @@ use Rattle.mbj_lane.specs.Rounds.{least, least_from}
 use Rattle.mbj_lane.proofs.Least.{least-at}
 use Rattle.mbj_lane.proofs.Listing.{of-push, apart-push, apart-remove, of-remove, in-at, gone, length-removed}
 use Rattle.mbj_lane.specs.Slots.{IsIn, AreApart, IsWritten, IsLeast}
-use Rattle.mbj_lane.specs.Gathered.{at_slot, AreGathered}
+use Rattle.mbj_job_tests.specs.Gathered.{at_slot, AreGathered}
 
 -- numbers below n, none twice, are at most n
 pub is-in : (i : ℕ) (is : List ℕ) → (IsIn i is → ⊥) ⊎ ((k : ℕ) × (k < length is) × (i ≡ get_or is k i))

@@ -1,8 +1,8 @@
 use Rattle.std.proofs.Common.{arith}
 use Rattle.mbj_lane.specs.Rounds.{after}
 use Rattle.mbj_lane.proofs.Led.{written-back}
-use Rattle.mbj_lane.proofs.Gathering.{few-entries, slot-of, at-map}
-use Rattle.mbj_lane.proofs.gathered.GatheredSlots.run_all.Goals as goal
+use Rattle.mbj_job_tests.proofs.Gathering.{few-entries, slot-of, at-map}
+use Rattle.mbj_job_tests.proofs.gathered.GatheredSlots.run_all.Goals as goal
 
 pub run-requires-clause-lanes : goal.run-requires-clause-lanes
 run-requires-clause-lanes g c =
