@@ -43,7 +43,7 @@ pub struct RangedManager {
 
 impl Model for RangedManager {
     ghost use Rattle.std.specs.Coded.{codes};
-    ghost use Rattle.mbj_manager.specs.Inside.Code.{state_code};
+    ghost use Rattle.mbj_manager.specs.StateCode.{state_code};
     ghost use Rattle.mbj_c.specs.State.{RangedState, ranged};
     ghost use Rattle.mbj_c.specs.Code.{ranged_code};
     ghost use Rattle.mbj_c.specs.Inside.Ranges.{IsRanged};

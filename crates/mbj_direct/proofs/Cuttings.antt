@@ -7,7 +7,7 @@ use Rattle.mbj_types.specs.Gcm.{bit_length, gmac}
 use Rattle.mbj_types.specs.Ghash.{ghash}
 use Rattle.mbj_direct.specs.declared.gmac.GmacState.{GmacState}
 use Rattle.mbj_direct.specs.Gmac.{HasTakenData, TakesParts}
-use Rattle.mbj_direct.specs.Inside.Hashed.{IsHashed}
+use Rattle.mbj_direct.specs.Hashed.{IsHashed}
 use Rattle.mbj_direct.specs.Laws.{AnyCuttingGivesOneTag}
 use Rattle.mbj_direct.proofs.States.{filled_blocks-none}
 

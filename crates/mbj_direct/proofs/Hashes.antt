@@ -3,7 +3,7 @@ use Rattle.std.proofs.Common.{◌≡◌, ℕ, ◌+◌, ◌%◌, ◌^◌, List, �
 use Rattle.mbj_types.specs.Blocks.{zero_block}
 use Rattle.mbj_types.specs.Ghash.{ghash, ghash_from}
 use Rattle.mbj_direct.specs.declared.hash.PartHash.{PartHash}
-use Rattle.mbj_direct.specs.Inside.Hashed.{IsHashed}
+use Rattle.mbj_direct.specs.Hashed.{IsHashed}
 use Rattle.mbj_direct.proofs.BlockRuns.{whole_blocks, behind, open_part, ghash_from-append, whole_blocks-append, behind-append}
 
 -- the bytes of the open block, and the part p

@@ -7,7 +7,7 @@ use Rattle.std.proofs.lemmas.List.{drop_at, drop_more, length-take, length-take-
 use Rattle.mbj_types.specs.Blocks.{xor_lists, blocks, zero_block}
 use Rattle.mbj_types.specs.Gcm.{inc32, gctr, gcm_text, pre_counter_block}
 use Rattle.mbj_blocks.proofs.Blocks.{blocks-nil, blocks-cons}
-use Rattle.mbj_gcm.specs.Inside.Risen.{risen}
+use Rattle.mbj_gcm.specs.Risen.{risen}
 use Rattle.mbj_gcm.proofs.RisenCounters.{risen-1, inc32-risen}
 use Rattle.mbj_direct.specs.Inside.Stream.{stream_byte, streamed}
 

@@ -8,7 +8,7 @@ use Rattle.mbj_types.specs.Gcm.{bit_length, gcm, gcm_text, pre_counter_block}
 use Rattle.mbj_aes.proofs.Rounds.{length-encipher}
 use Rattle.mbj_direct.specs.declared.hash.PartHash.{PartHash}
 use Rattle.mbj_direct.specs.declared.parts.GcmState.{GcmState}
-use Rattle.mbj_direct.specs.Inside.Hashed.{IsHashed}
+use Rattle.mbj_direct.specs.Hashed.{IsHashed}
 use Rattle.mbj_direct.specs.Inside.Stream.{streamed}
 use Rattle.mbj_direct.specs.Parts.{HasTaken, key_of}
 use Rattle.mbj_direct.proofs.States.{enciphers, length-pre_counter_block}

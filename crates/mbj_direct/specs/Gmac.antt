@@ -4,7 +4,7 @@ use Rattle.mbj_types.specs.Aes.{aes}
 use Rattle.mbj_types.specs.Blocks.{zero_block}
 use Rattle.mbj_types.specs.Gcm.{gmac, pre_counter_block}
 use Rattle.mbj_direct.specs.declared.gmac.GmacState.{GmacState}
-use Rattle.mbj_direct.specs.Inside.Hashed.{IsHashed}
+use Rattle.mbj_direct.specs.Hashed.{IsHashed}
 
 -- whether data can go on from it
 abbrev pub is_gmac_state : GmacState → Bool

@@ -4,3 +4,4 @@ pub mod Parts
 pub mod Gmac
 pub mod Laws
 pub mod Inside
+pub mod Hashed

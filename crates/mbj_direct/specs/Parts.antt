@@ -4,7 +4,7 @@ use Rattle.mbj_types.specs.Aes.{aes, is_key_size}
 use Rattle.mbj_types.specs.Blocks.{zero_block, filled_blocks}
 use Rattle.mbj_types.specs.Gcm.{gcm_text, pre_counter_block}
 use Rattle.mbj_direct.specs.declared.parts.GcmState.{GcmState}
-use Rattle.mbj_direct.specs.Inside.Hashed.{IsHashed}
+use Rattle.mbj_direct.specs.Hashed.{IsHashed}
 
 -- the key that a state holds
 abbrev pub key_of : GcmState → List ℕ

@@ -5,7 +5,7 @@ ghost use Rattle.mbj_types.specs.Blocks.{xor_lists, filled_blocks, first_blocks,
 ghost use Rattle.mbj_types.specs.Ghash.{block_product, ghash, ghash_from};
 ghost use Rattle.mbj_types.specs.Gcm.{bit_length};
 ghost use Rattle.mbj_ghash.specs.State.{HashState};
-ghost use Rattle.mbj_direct.specs.Inside.Hashed.{IsHashed};
+ghost use Rattle.mbj_direct.specs.Hashed.{IsHashed};
 
 use crate::counter::open_room;
 use mbj_blocks::filled_block;

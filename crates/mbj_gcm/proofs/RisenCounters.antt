@@ -5,7 +5,7 @@ use Rattle.std.proofs.lemmas.List.{length-take-le, take_at, drop_at}
 use Rattle.std.proofs.lemmas.Nat.{from_be_bytes-to_be_bytes_4}
 use Rattle.mbj_types.specs.Blocks.{xor_lists}
 use Rattle.mbj_types.specs.Gcm.{inc32, gctr}
-use Rattle.mbj_gcm.specs.Inside.Risen.{risen}
+use Rattle.mbj_gcm.specs.Risen.{risen}
 
 -- one step
 pub risen-1 : (b : List ℕ) → risen b 1 ≡ inc32 b

@@ -1,3 +1,2 @@
 -- What functions that make counter blocks and passes cite.
 pub mod First
-pub mod Risen

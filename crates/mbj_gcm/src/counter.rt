@@ -6,7 +6,7 @@ ghost use Rattle.mbj_types.specs.Ghash.{ghash};
 ghost use Rattle.mbj_types.specs.Gcm.{bit_length, gctr, inc32, pre_counter_block};
 ghost use Rattle.mbj_blocks.specs.Walked.{Walked};
 ghost use Rattle.mbj_gcm.specs.Inside.First.{AreFirst};
-ghost use Rattle.mbj_gcm.specs.Inside.Risen.{risen};
+ghost use Rattle.mbj_gcm.specs.Risen.{risen};
 
 use crate::hash::hash_of_parts;
 use mbj_aes_lanes::{BATCH_BLOCKS, TextKey};

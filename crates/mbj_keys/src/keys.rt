@@ -97,11 +97,12 @@ impl Keys {
 
     /// Learns each session.
     ///
-    /// Returns `AllocError` for want of memory.
+    /// Returns `AllocError` for want of memory; the notes then know at least what they knew.
     pub fn learn_all(&self, alloc: Global, notes: &mut Notes) -> Result<(), AllocError>
         requires { AreOf self.now notes.old }
         ensures notes { AreOf self.now notes.new }
         ensures learnt { OnOk result ((n : ℕ) → n < length self.now → IsSome (entry_of notes.new n)) }
+        ensures kept { (n : ℕ) → IfSome (entry_of notes.old n) (λ e. entry_of notes.new n ≡ Some e) }
     {
         for n in 0..self.count() {
             self.learn(alloc, notes, n)?;

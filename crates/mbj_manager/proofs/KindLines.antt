@@ -4,7 +4,7 @@ use Rattle.std.proofs.lemmas.Bool.{cases_eq, eq-eqb, ne_eqb}
 use Rattle.mbj_types.specs.Kinds.{all_kinds, index_of}
 use Rattle.mbj_types.specs.declared.kind.Kind.{Kind}
 use Rattle.mbj_types.specs.declared.kind.Kind.TheVariants as kind
-use Rattle.mbj_manager.specs.Inside.Code.{told-kinds}
+use Rattle.mbj_manager.specs.StateCode.{told-kinds}
 use Rattle.mbj_manager.specs.Machine.Queues.{put}
 
 same-index : (j k : Kind) → index_of j ≡ index_of k → j ≡ k

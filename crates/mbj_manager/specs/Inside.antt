@@ -10,7 +10,6 @@ pub mod Standing
 pub mod Held
 pub mod Added
 pub mod Settled
-pub mod Code
 pub mod RunsFew
 pub mod Stock
 pub mod CellRingLends

@@ -8,3 +8,4 @@ pub mod Kept
 pub mod Entries
 pub mod Inside
 pub mod Lending
+pub mod StateCode

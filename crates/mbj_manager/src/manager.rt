@@ -60,7 +60,7 @@ pub struct Manager {
 impl Model for Manager {
     ghost use Rattle.mbj_manager.specs.State.{ManagerState};
     ghost use Rattle.std.specs.Coded.{codes};
-    ghost use Rattle.mbj_manager.specs.Inside.Code.{state_code};
+    ghost use Rattle.mbj_manager.specs.StateCode.{state_code};
     ghost use Rattle.mbj_manager.specs.Inside.Settled.{IsSettled};
 
     ghost Value = { ManagerState };

@@ -62,7 +62,7 @@ impl Model for Works {
     ghost use Rattle.std.specs.Prelude.{vec_capacity};
     ghost use Rattle.mbj_manager.specs.State.{ManagerState};
     ghost use Rattle.std.specs.Coded.{codes};
-    ghost use Rattle.mbj_manager.specs.Inside.Code.{state_code};
+    ghost use Rattle.mbj_manager.specs.StateCode.{state_code};
     ghost use Rattle.mbj_manager.specs.Inside.Held.{held, IsHeld};
 
     ghost Value = { ManagerState };

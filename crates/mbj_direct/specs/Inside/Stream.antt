@@ -1,6 +1,6 @@
 -- The key stream of GCM, byte by byte.
 use Rattle.std.specs.Prelude.{ℕ, ◌+◌, ◌/◌, ◌%◌, List, [], ◌∷◌, bit_xor, slice_index_or}
-use Rattle.mbj_gcm.specs.Inside.Risen.{risen}
+use Rattle.mbj_gcm.specs.Risen.{risen}
 
 -- its byte n, where e enciphers and j is the counter block before the first one
 abbrev pub stream_byte : (List ℕ → List ℕ) → List ℕ → ℕ → ℕ

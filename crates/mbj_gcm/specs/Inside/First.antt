@@ -2,7 +2,7 @@
 use Rattle.std.specs.Prelude.{◌≡◌, ℕ, ◌+◌, ◌/◌, ◌<◌, List, [], slice_index_or}
 use Rattle.mbj_types.specs.Blocks.{zero_block}
 use Rattle.mbj_aes_lanes.specs.declared.narrow.by_fours.TheConstants.{BATCH_BLOCKS}
-use Rattle.mbj_gcm.specs.Inside.Risen.{risen}
+use Rattle.mbj_gcm.specs.Risen.{risen}
 
 -- the masks that e enciphers for a text of len bytes, t being the counter block before its first one
 pub record AreFirst (e : List ℕ → List ℕ) (t : List ℕ) (len : ℕ) (masks : List (List ℕ)) : Type 0 where

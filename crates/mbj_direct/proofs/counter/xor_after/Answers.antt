@@ -9,7 +9,7 @@ use Rattle.mbj_types.specs.Blocks.{blocks}
 use Rattle.mbj_types.specs.Gcm.{inc32, gctr}
 use Rattle.mbj_blocks.specs.Walked.{Walked}
 use Rattle.mbj_blocks.proofs.Walk.{walk_end, walk_over}
-use Rattle.mbj_gcm.specs.Inside.Risen.{risen}
+use Rattle.mbj_gcm.specs.Risen.{risen}
 use Rattle.mbj_gcm.proofs.RisenCounters.{risen-1, inc32-risen, stream_from, stream_from-cons}
 use Rattle.mbj_direct.proofs.counter.xor_after.Goals as goal
 

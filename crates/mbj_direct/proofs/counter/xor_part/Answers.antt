@@ -6,7 +6,7 @@ use Rattle.mbj_types.specs.Aes.{encipher}
 use Rattle.mbj_types.specs.Blocks.{blocks, xor_lists}
 use Rattle.mbj_types.specs.Gcm.{gctr, inc32}
 use Rattle.mbj_aes.proofs.Rounds.{length-encipher}
-use Rattle.mbj_gcm.specs.Inside.Risen.{risen}
+use Rattle.mbj_gcm.specs.Risen.{risen}
 use Rattle.mbj_direct.specs.Inside.Stream.{streamed}
 use Rattle.mbj_direct.proofs.Streams.{risen-mod, gctr-streamed, streamed-open, streamed-part}
 use Rattle.mbj_direct.proofs.counter.xor_part.Goals as goal

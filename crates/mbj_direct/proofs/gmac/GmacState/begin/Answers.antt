@@ -3,7 +3,7 @@ use Rattle.std.proofs.Common.{◌≡◌, ℕ, List, [], ap, ap₂, ◌∙◌, su
 use Rattle.mbj_types.specs.Aes.{aes, encipher}
 use Rattle.mbj_types.specs.Blocks.{zero_block}
 use Rattle.mbj_types.specs.Gcm.{pre_counter_block}
-use Rattle.mbj_direct.specs.Inside.Hashed.{IsHashed}
+use Rattle.mbj_direct.specs.Hashed.{IsHashed}
 use Rattle.mbj_direct.proofs.States.{enciphers, filled_blocks-none}
 use Rattle.mbj_direct.proofs.gmac.GmacState.begin.Goals as goal
 

@@ -2,7 +2,7 @@
 use Rattle.std.proofs.Common.{◌≡◌, ℕ, List, [], ◌++◌, length, take, drop, sym, ap, ap₂, ◌∙◌, subst, append-nil, append_assoc}
 use Rattle.std.proofs.lemmas.Bool.{eqb-true}
 use Rattle.std.proofs.lemmas.List.{take-append-drop, nil_from_length}
-use Rattle.mbj_direct.specs.Inside.Hashed.{IsHashed}
+use Rattle.mbj_direct.specs.Hashed.{IsHashed}
 use Rattle.mbj_direct.proofs.hash.PartHash.take.Goals as goal
 
 pub returns-then-is_empty-clause-hashed : goal.returns-then-is_empty-clause-hashed

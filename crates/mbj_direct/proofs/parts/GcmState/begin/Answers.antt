@@ -4,7 +4,7 @@ use Rattle.mbj_types.specs.Aes.{aes, encipher}
 use Rattle.mbj_types.specs.Blocks.{zero_block, filled_blocks}
 use Rattle.mbj_types.specs.Gcm.{pre_counter_block}
 use Rattle.mbj_types.specs.Result.{is_enc}
-use Rattle.mbj_direct.specs.Inside.Hashed.{IsHashed}
+use Rattle.mbj_direct.specs.Hashed.{IsHashed}
 use Rattle.mbj_direct.proofs.States.{state_made, nothing_yet}
 use Rattle.mbj_direct.proofs.parts.GcmState.begin.Goals as goal
 
