@@ -1,6 +1,6 @@
 mod Resting
 mod JobRounds
-mod Seated
+mod WaitersOf
 pub mod RingCourses
 mod Finishing
 mod Joining

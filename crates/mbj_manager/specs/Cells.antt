@@ -10,7 +10,7 @@ pub data Cell : Type 0 where
   Open : Job → Cell
   Going : CourseState → Cell
 
--- what the fields of a seat hold
+-- what the fields of a cell's contents say
 abbrev pub cell_by : Bool → Job → CourseState → Cell
 cell_by false j c = Open j
 cell_by true j c = Going c

@@ -2,7 +2,7 @@ pub mod PlacedQueue
 pub mod Leaving
 pub mod Joining
 pub mod Courses
-pub mod Seats
+pub mod Contents
 pub mod Desk
 pub mod LaneQueues
 pub mod Steps

@@ -23,13 +23,13 @@ use std::marker::Model;
 
 /// What a cell holds, in memory of its own.
 #[derive(Drop)]
-pub struct Seat {
+pub struct CellContents {
     // The course, with its job, which is filled in it while the course is idle.
     pub(crate) course: Course,
     pub(crate) is_going: bool,
 }
 
-impl Seat {
+impl CellContents {
     /// Begins the course of the job that was filled. Returns whether the job's key is expanded for it alone.
     fn begin(&mut self, found: Option<&Schedule>) -> bool
         requires schedule { IfSome found (λ s. IsScheduleOf self.old.course.job.key s.now) }
@@ -47,18 +47,18 @@ impl Seat {
 /// another. Where a cell is moved, its job stays where it is.
 #[derive(Drop)]
 pub struct Cell {
-    seat: Box<Seat>,
+    contents: Box<CellContents>,
 }
 
 impl Model for Cell {
     ghost use Rattle.mbj_manager.specs.Cells.{Cell as CellState, cell_by};
-    ghost use Rattle.mbj_manager.specs.Inside.Seats.{IsIdleWhileOpen};
+    ghost use Rattle.mbj_manager.specs.Inside.Contents.{IsIdleWhileOpen};
 
     ghost Value = { CellState };
 
-    ghost view = { λ c. cell_by c.seat.value.is_going c.seat.value.course.job c.seat.value.course };
+    ghost view = { λ c. cell_by c.contents.value.is_going c.contents.value.course.job c.contents.value.course };
 
-    ghost invariant = { λ c. IsIdleWhileOpen c.seat.value.is_going c.seat.value.course };
+    ghost invariant = { λ c. IsIdleWhileOpen c.contents.value.is_going c.contents.value.course };
 }
 
 /// Does the stages that finish at once. Returns what is next then.
@@ -84,12 +84,12 @@ impl Cell {
     pub fn blank(alloc: Global) -> Result<Cell, AllocError>
         ensures { IfOk result (λ c. c ≡ cell.Open blank) }
     {
-        let seat = Seat {
+        let contents = CellContents {
             course: Course::blank(alloc),
             is_going: false,
         };
         Ok(Cell {
-            seat: Box::new(alloc, seat)?,
+            contents: Box::new(alloc, contents)?,
         })
     }
 
@@ -99,8 +99,8 @@ impl Cell {
         ensures* lends { sem 𝓛 (LendsJobIn self.entry result) }
         ensures value { cell.Open result.now ≡ self.old }
     {
-        let seat = &mut *self.seat;
-        seat.course.job_mut()
+        let contents = &mut *self.contents;
+        contents.course.job_mut()
     }
 
     /// Lends the course of the job that is submitted.
@@ -109,8 +109,8 @@ impl Cell {
         ensures* lends { sem 𝓛 (LendsCourseIn self.entry result) }
         ensures value { cell.Going result.now ≡ self.old }
     {
-        let seat = &mut *self.seat;
-        &mut seat.course
+        let contents = &mut *self.contents;
+        &mut contents.course
     }
 
     /// The course of the job that is submitted.
@@ -118,7 +118,7 @@ impl Cell {
         requires { IsGoing self.now }
         ensures { cell.Going result.now ≡ self.now }
     {
-        &self.seat.course
+        &self.contents.course
     }
 
     /// Begins the course of the job that was filled. It takes no memory.
@@ -130,8 +130,8 @@ impl Cell {
         ensures begun { self.new ≡ cell.Going (begun (job_in self.old)) }
         ensures expands { result ≡ expands (is_some found.entry) (job_in self.old) }
     {
-        let seat = &mut *self.seat;
-        seat.begin(found)
+        let contents = &mut *self.contents;
+        contents.begin(found)
     }
 
     /// What is next in the course.
@@ -204,9 +204,9 @@ impl Cell {
         ensures result { result.0 ≡ owed (course_in self.old) }
         ensures blank { self.new ≡ cell.Open blank }
     {
-        let seat = &mut *self.seat;
-        seat.is_going = false;
-        (seat.course.take_done(), seat.course.end_giving(alloc))
+        let contents = &mut *self.contents;
+        contents.is_going = false;
+        (contents.course.take_done(), contents.course.end_giving(alloc))
     }
 
     /// Makes it a cell with a blank job, whatever it held. Memory of at most `most` bytes is kept for each field of the job, and longer
@@ -214,13 +214,13 @@ impl Cell {
     pub fn clear(&mut self, most: usize)
         ensures { self.new ≡ cell.Open blank }
     {
-        let seat = &mut *self.seat;
-        seat.course.end(most);
-        seat.is_going = false;
+        let contents = &mut *self.contents;
+        contents.course.end(most);
+        contents.is_going = false;
     }
 
     /// How many bytes of memory its job has. A packet that is out in a lane isn't counted.
     pub fn capacity(&self) -> usize {
-        self.seat.course.job().capacity()
+        self.contents.course.job().capacity()
     }
 }

@@ -30,11 +30,11 @@ pub struct LaneQueue<K: Feed> {
 impl<K: Feed> Model for LaneQueue<K> {
     ghost use Rattle.std.specs.Prelude.{◌≡◌, ◌<◌, length, All};
     ghost use Rattle.mbj_ring.specs.declared.ring.TheConstants.{CELLS};
-    ghost use Rattle.mbj_manager.specs.Inside.PlacedQueue.{PlacedQueue, placed_queue, seated};
+    ghost use Rattle.mbj_manager.specs.Inside.PlacedQueue.{PlacedQueue, placed_queue, waiters_of};
 
     ghost Value = { PlacedQueue };
 
-    ghost view = { λ q. placed_queue (seated K.round K.rest_of K.brings q.lanes.places q.lanes.entries) q.rounds q.blocks };
+    ghost view = { λ q. placed_queue (waiters_of K.round K.rest_of K.brings q.lanes.places q.lanes.entries) q.rounds q.blocks };
 
     ghost invariant = { λ q. (length q.lanes.places ≡ length q.lanes.entries) × All (λ p. p < CELLS) q.lanes.places };
 }

@@ -25,7 +25,7 @@ pub use calls::results_come_back_in_order;
 pub use agenda::Agenda;
 pub use cell::Cell;
 #[doc(hidden)]
-pub use cell::Seat;
+pub use cell::CellContents;
 #[doc(hidden)]
 pub use cell_ring::CellRing;
 pub use counts::counts_are_kept_apart;

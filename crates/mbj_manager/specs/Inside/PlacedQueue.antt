@@ -36,10 +36,10 @@ abbrev pub led_waiter : ℕ → Waiter → Waiter
 led_waiter m w = (w.0, record { rounds = w.1.rounds - m; brings = w.1.brings })
 
 -- the entries, each with its job's place
-abbrev pub seated : {E : Type 0} → (E → E) → (E → ℕ) → (E → End) → List ℕ → List E → List Waiter
-seated round rest brings [] es = []
-seated round rest brings (p ∷ ps) [] = []
-seated round rest brings (p ∷ ps) (e ∷ es) = (p, ahead round rest brings e) ∷ seated round rest brings ps es
+abbrev pub waiters_of : {E : Type 0} → (E → E) → (E → ℕ) → (E → End) → List ℕ → List E → List Waiter
+waiters_of round rest brings [] es = []
+waiters_of round rest brings (p ∷ ps) [] = []
+waiters_of round rest brings (p ∷ ps) (e ∷ es) = (p, ahead round rest brings e) ∷ waiters_of round rest brings ps es
 
 -- the lane queue of a kind, and the counts of its full runs
 pub record PlacedQueue : Type 0 where

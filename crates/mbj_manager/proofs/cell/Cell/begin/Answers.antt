@@ -1,4 +1,4 @@
--- The seat has the job that is being filled, and its course then.
+-- The contents have the job that is being filled, and its course then.
 use Rattle.std.proofs.Common.{◌≡◌, ◌∙◌, Bool, true, false, refl, ap, subst, sym}
 use Rattle.std.specs.Prelude.{is_some}
 use Rattle.mbj_types.specs.declared.job.Job.{Job}
@@ -16,22 +16,22 @@ going-by : (b : Bool) (j : Job) (v w : CourseState) → b ≡ true → v ≡ w �
 going-by true j v w is same = ap (λ (x : CourseState). cell.Going x) same
 going-by false j v w is same = cc
 
--- the job that is being filled is the seat's
+-- the job that is being filled is that of the contents
 job-is : (b : Bool) (j : Job) (v : CourseState) (x : Cell) → cell_by b j v ≡ x → IsOpen x → j ≡ job_in x
 job-is b j v x is filling =
     subst (λ (y : Cell). IsOpen y → j ≡ job_in y) is (λ there. sym (open-job b j v there)) filling
 
 pub returns-clause-begun : goal.returns-clause-begun
 returns-clause-begun c =
-    let was = c.self.inside.seat.value in
+    let was = c.self.inside.contents.value in
     let s = c.begin.new.self in
-    let job = ap (λ x. x.course.job) c.deref_mut-seat.ensures.value
+    let job = ap (λ x. x.course.job) c.deref_mut-contents.ensures.value
     ∙ job-is was.is_going was.course.job was.course c.args.self.now c.self.view_is c.requires.is_open in
     going-by s.is_going s.course.job s.course (begun (job_in c.args.self.now)) c.begin.ensures.going (c.begin.ensures.course ∙ ap begun job)
 
 pub returns-clause-expands : goal.returns-clause-expands
 returns-clause-expands c =
-    let was = c.self.inside.seat.value in
-    let job = ap (λ x. x.course.job) c.deref_mut-seat.ensures.value
+    let was = c.self.inside.contents.value in
+    let job = ap (λ x. x.course.job) c.deref_mut-contents.ensures.value
     ∙ job-is was.is_going was.course.job was.course c.args.self.now c.self.view_is c.requires.is_open in
     c.begin.ensures.expands ∙ ap (expands (is_some c.args.found)) job

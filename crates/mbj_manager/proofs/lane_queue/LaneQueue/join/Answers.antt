@@ -12,7 +12,7 @@ use Rattle.mbj_manager.specs.Inside.Leaving.{Gives}
 use Rattle.mbj_manager.specs.Inside.PlacedQueue.{PlacedQueue, ahead, placed_queue}
 use Rattle.mbj_manager.proofs.JobSteps.{out-steps}
 use Rattle.mbj_manager.proofs.RingCourses.{at-cell, cell-at, courses-set, each-at, live, same-ring}
-use Rattle.mbj_manager.proofs.Seated.{seated-join, seated-length}
+use Rattle.mbj_manager.proofs.WaitersOf.{waiters_of-join, waiters_of-length}
 use Rattle.mbj_manager.proofs.lane_queue.LaneQueue.join.Goals as goal
 
 pub at_mut-cell-requires : goal.at_mut-cell-requires
@@ -35,7 +35,7 @@ join_from-requires-clause-free g c =
       arith,
       c.requires.free,
       ap (λ (l : PlacedQueue). length l.waiters) c.self.view_is,
-      seated-length g.K.Kernel.round g.K.Kernel.rest_of g.K.Feed.brings q.lanes.places q.lanes.entries c.self.invariant.0,
+      waiters_of-length g.K.Kernel.round g.K.Kernel.rest_of g.K.Feed.brings q.lanes.places q.lanes.entries c.self.invariant.0,
     )
 
 pub invariant_of-self : goal.invariant_of-self
@@ -74,5 +74,5 @@ returns-clause-joins g c =
           (ring_number r c.args.place) r.values c.at_mut-cell.result.now c.at_mut-cell.ensures.value c.join_from.ensures.entry.3;
       is = rw (c.join_from.ensures.places, c.join_from.ensures.entry.1, ← c.self.view_is)
           (ap (λ ws. placed_queue ws q.rounds q.blocks)
-          (seated-join g.K.Kernel.round g.K.Kernel.rest_of g.K.Feed.brings q.lanes.places q.lanes.entries c.args.place e c.self.invariant.0));
+          (waiters_of-join g.K.Kernel.round g.K.Kernel.rest_of g.K.Feed.brings q.lanes.places q.lanes.entries c.args.place e c.self.invariant.0));
     }

@@ -7,10 +7,10 @@ use Rattle.mbj_stage.specs.Handing.{IsOut, taken_back}
 use Rattle.mbj_manager.specs.Cells.{IsGoing, course_in}
 use Rattle.mbj_manager.specs.Entries.{HasJobSteps}
 use Rattle.mbj_manager.specs.Inside.Courses.{KeepsSteps, ring_number}
-use Rattle.mbj_manager.specs.Inside.PlacedQueue.{PlacedQueue, ended, pair_rest, rounds_in, seated}
+use Rattle.mbj_manager.specs.Inside.PlacedQueue.{PlacedQueue, ended, pair_rest, rounds_in, waiters_of}
 use Rattle.mbj_manager.proofs.JobSteps.{back-steps}
 use Rattle.mbj_manager.proofs.RingCourses.{at-cell, courses-set, each-at, live, same-ring}
-use Rattle.mbj_manager.proofs.Seated.{all-removed, entry-there, length-removed, seated-none, seated-take}
+use Rattle.mbj_manager.proofs.WaitersOf.{all-removed, entry-there, length-removed, waiters_of-none, waiters_of-take}
 use Rattle.mbj_manager.proofs.lane_queue.LaneQueue.leave.Goals as goal
 
 pub place_at-place-requires : goal.place_at-place-requires
@@ -27,7 +27,7 @@ at_mut-cell-requires g c =
     let e = there.0 in
     let is : e ≡ get_or q.lanes.entries k e = there.1 in
     let first = ap (λ (l : PlacedQueue). taken (pair_rest rounds_in) l.waiters) (sym c.self.view_is)
-    ∙ seated-take g.K.Kernel.round g.K.Kernel.rest_of g.K.Feed.brings q.lanes.places q.lanes.entries k p e c.self.invariant.0 c.in-Some.ensures c.place_at-place.ensures is in
+    ∙ waiters_of-take g.K.Kernel.round g.K.Kernel.rest_of g.K.Feed.brings q.lanes.places q.lanes.entries k p e c.self.invariant.0 c.in-Some.ensures c.place_at-place.ensures is in
     let out = c.requires.out p (g.K.Feed.brings e) _ first in
     let here : k < length q.lanes.places = omega (arith, c.self.invariant.0, inside) in
     let lt : p < CELLS = rw c.place_at-place.ensures (c.self.invariant.1 k p here) in
@@ -55,7 +55,7 @@ leave_to-requires-clause-out g c =
     let e = there.0 in
     let is : e ≡ get_or q.lanes.entries k e = there.1 in
     let first = ap (λ (l : PlacedQueue). taken (pair_rest rounds_in) l.waiters) (sym c.self.view_is)
-    ∙ seated-take g.K.Kernel.round g.K.Kernel.rest_of g.K.Feed.brings q.lanes.places q.lanes.entries k p e c.self.invariant.0 c.in-Some.ensures c.place_at-place.ensures is in
+    ∙ waiters_of-take g.K.Kernel.round g.K.Kernel.rest_of g.K.Feed.brings q.lanes.places q.lanes.entries k p e c.self.invariant.0 c.in-Some.ensures c.place_at-place.ensures is in
     let out = c.requires.out p (g.K.Feed.brings e) _ first in
     let cell = c.at_mut-cell.result.now in
     let IsOutWith : g.row.K-Entry.Denot → Type 0 = λ x. IsOut g.K.Feed.kind (g.K.Feed.brings x) (course_in cell) in
@@ -82,7 +82,7 @@ returns-in-None-clause-takes g c =
     let q = c.self.inside in (
       record {
         none = ap (λ (l : PlacedQueue). taken (pair_rest rounds_in) l.waiters) (sym c.self.view_is)
-            ∙ seated-none g.K.Kernel.round g.K.Kernel.rest_of g.K.Feed.brings q.lanes.places q.lanes.entries c.in-None.ensures;
+            ∙ waiters_of-none g.K.Kernel.round g.K.Kernel.rest_of g.K.Feed.brings q.lanes.places q.lanes.entries c.in-None.ensures;
         same = refl;
       },
       refl,
@@ -99,7 +99,7 @@ returns-in-Some-clause-ring g c =
     let e = there.0 in
     let is : e ≡ get_or q.lanes.entries k e = there.1 in
     let first = ap (λ (l : PlacedQueue). taken (pair_rest rounds_in) l.waiters) (sym c.self.view_is)
-    ∙ seated-take g.K.Kernel.round g.K.Kernel.rest_of g.K.Feed.brings q.lanes.places q.lanes.entries k p e c.self.invariant.0 c.in-Some.ensures c.place_at-place.ensures is in
+    ∙ waiters_of-take g.K.Kernel.round g.K.Kernel.rest_of g.K.Feed.brings q.lanes.places q.lanes.entries k p e c.self.invariant.0 c.in-Some.ensures c.place_at-place.ensures is in
     let out = c.requires.out p (g.K.Feed.brings e) _ first in
     let cell = c.at_mut-cell.result.now in
     same-ring r (ring_number r p) c.leave_to.new.cell c.requires.ring c.leave_to.ensures.going
@@ -123,9 +123,9 @@ returns-in-Some-clause-takes g c =
     let e = there.0 in
     let is : e ≡ get_or q.lanes.entries k e = there.1 in
     let first = ap (λ (l : PlacedQueue). taken (pair_rest rounds_in) l.waiters) (sym c.self.view_is)
-    ∙ seated-take g.K.Kernel.round g.K.Kernel.rest_of g.K.Feed.brings q.lanes.places q.lanes.entries k p e c.self.invariant.0 c.in-Some.ensures c.place_at-place.ensures is in
+    ∙ waiters_of-take g.K.Kernel.round g.K.Kernel.rest_of g.K.Feed.brings q.lanes.places q.lanes.entries k p e c.self.invariant.0 c.in-Some.ensures c.place_at-place.ensures is in
     let out = c.requires.out p (g.K.Feed.brings e) _ first in
-    let see = seated g.K.Kernel.round g.K.Kernel.rest_of g.K.Feed.brings in
+    let see = waiters_of g.K.Kernel.round g.K.Kernel.rest_of g.K.Feed.brings in
     let cell = c.at_mut-cell.result.now in
     let back = c.leave_to.ensures.back e ∙ ap (λ x. taken_back (g.K.Feed.brings x) (course_in cell)) (sym is) in (
       g.K.Feed.brings e,

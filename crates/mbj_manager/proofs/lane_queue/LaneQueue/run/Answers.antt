@@ -5,7 +5,7 @@ use Rattle.mbj_lane.specs.Rounds.{after, least}
 use Rattle.mbj_lane.proofs.Least.{least-at}
 use Rattle.mbj_ring.specs.declared.ring.TheConstants.{CELLS}
 use Rattle.mbj_manager.specs.Inside.PlacedQueue.{HasRest, PlacedQueue, placed_queue, pair_rest, rounds_in}
-use Rattle.mbj_manager.proofs.Seated.{seated-least, seated-led, seated-length, seated-some}
+use Rattle.mbj_manager.proofs.WaitersOf.{waiters_of-least, waiters_of-led, waiters_of-length, waiters_of-some}
 use Rattle.mbj_manager.proofs.lane_queue.LaneQueue.run.Goals as goal
 
 pub run_shortest-requires-clause-some : goal.run_shortest-requires-clause-some
@@ -15,13 +15,13 @@ run_shortest-requires-clause-some g c =
       arith,
       c.requires.some,
       ap (λ (l : PlacedQueue). length l.waiters) c.self.view_is,
-      seated-length g.K.Kernel.round g.K.Kernel.rest_of g.K.Feed.brings q.lanes.places q.lanes.entries c.self.invariant.0,
+      waiters_of-length g.K.Kernel.round g.K.Kernel.rest_of g.K.Feed.brings q.lanes.places q.lanes.entries c.self.invariant.0,
     )
 
 pub run_shortest-requires-clause-rests : goal.run_shortest-requires-clause-rests
 run_shortest-requires-clause-rests g c =
     let q = c.self.inside in
-    seated-some g.K.Kernel.round g.K.Kernel.rest_of g.K.Feed.brings q.lanes.places q.lanes.entries c.self.invariant.0
+    waiters_of-some g.K.Kernel.round g.K.Kernel.rest_of g.K.Feed.brings q.lanes.places q.lanes.entries c.self.invariant.0
     (subst (λ (l : PlacedQueue). All HasRest l.waiters) (sym c.self.view_is) c.requires.rests)
 
 pub invariant_of-self : goal.invariant_of-self
@@ -36,7 +36,7 @@ pub returns-clause-least : goal.returns-clause-least
 returns-clause-least g c =
     let q = c.self.inside in
     c.run_shortest.ensures.least
-    ∙ sym (seated-least g.K.Kernel.round g.K.Kernel.rest_of g.K.Feed.brings q.lanes.places q.lanes.entries c.self.invariant.0)
+    ∙ sym (waiters_of-least g.K.Kernel.round g.K.Kernel.rest_of g.K.Feed.brings q.lanes.places q.lanes.entries c.self.invariant.0)
     ∙ ap (λ (l : PlacedQueue). least (pair_rest rounds_in) l.waiters) c.self.view_is
 
 pub returns-clause-led : goal.returns-clause-led
@@ -45,5 +45,5 @@ returns-clause-led g c =
     let m = c.run_shortest.result in
     rw (c.run_shortest.ensures.led, c.run_shortest.ensures.places, ← c.self.view_is)
     (ap (λ ws. placed_queue ws q.rounds q.blocks)
-    (seated-led g.K.Kernel.round g.K.Kernel.rest_of g.K.Feed.brings m q.lanes.places q.lanes.entries g.met.K.Kernel.falls
+    (waiters_of-led g.K.Kernel.round g.K.Kernel.rest_of g.K.Feed.brings m q.lanes.places q.lanes.entries g.met.K.Kernel.falls
     (λ k d l. rw c.run_shortest.ensures.least (least-at g.K.Kernel.rest_of q.lanes.entries k d l))))

@@ -1,4 +1,4 @@
--- What the fields of a cell keep.
+-- What the fields of a cell's contents keep.
 use Rattle.std.specs.Prelude.{◌≡◌, Bool, false}
 use Rattle.mbj_stage.specs.CourseState.{CourseState, IsIdle}
 
