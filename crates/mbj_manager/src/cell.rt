@@ -206,7 +206,10 @@ impl Cell {
     {
         let contents = &mut *self.contents;
         contents.is_going = false;
-        (contents.course.take_done(), contents.course.end_giving(alloc))
+        (
+            contents.course.take_done(),
+            contents.course.end_giving(alloc),
+        )
     }
 
     /// Makes it a cell with a blank job, whatever it held. Memory of at most `most` bytes is kept for each field of the job, and longer

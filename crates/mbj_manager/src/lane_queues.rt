@@ -131,8 +131,8 @@ impl LaneQueues {
         ensures others { self.new ≡ with_placed kind (placed_in kind self.new) self.new.flush_runs self.old }
     {
         macro_rules! enter_at {
-            ($list:ident) => {
-                enter(cause, &mut self.$list, &mut self.flush_runs, ring, agenda, place)
+            ($queue:ident) => {
+                enter(cause, &mut self.$queue, &mut self.flush_runs, ring, agenda, place)
             };
         }
         at_kind!(kind, enter_at)
@@ -150,8 +150,8 @@ impl LaneQueues {
         ensures others { self.new ≡ with_placed kind (placed_in kind self.new) self.new.flush_runs self.old }
     {
         macro_rules! run_at {
-            ($list:ident) => {
-                run_within(Cause::Flush, &mut self.$list, &mut self.flush_runs, ring, agenda)
+            ($queue:ident) => {
+                run_within(Cause::Flush, &mut self.$queue, &mut self.flush_runs, ring, agenda)
             };
         }
         at_kind!(kind, run_at)
@@ -162,8 +162,8 @@ impl LaneQueues {
         ensures { result ≡ waiting_in self.now kind }
     {
         macro_rules! len_at {
-            ($list:ident) => {
-                self.$list.len()
+            ($queue:ident) => {
+                self.$queue.len()
             };
         }
         at_kind!(kind, len_at)
@@ -174,8 +174,8 @@ impl LaneQueues {
         ensures { result ≡ (placed_in kind self.now).rounds }
     {
         macro_rules! rounds_at {
-            ($list:ident) => {
-                self.$list.rounds()
+            ($queue:ident) => {
+                self.$queue.rounds()
             };
         }
         at_kind!(kind, rounds_at)
@@ -186,8 +186,8 @@ impl LaneQueues {
         ensures { result ≡ (placed_in kind self.now).blocks }
     {
         macro_rules! blocks_at {
-            ($list:ident) => {
-                self.$list.blocks()
+            ($queue:ident) => {
+                self.$queue.blocks()
             };
         }
         at_kind!(kind, blocks_at)

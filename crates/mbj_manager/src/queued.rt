@@ -14,72 +14,72 @@ use mbj_stage::Feed;
 /// The kernel of a kind, whose lane queue is one of a manager's.
 pub trait Queued: Feed {
     /// The lane queue of the kind.
-    fn queue(lists: &LaneQueues) -> &LaneQueue<Self>
-        ensures { result.now ≡ placed_in Self.kind lists.now };
+    fn queue(queues: &LaneQueues) -> &LaneQueue<Self>
+        ensures { result.now ≡ placed_in Self.kind queues.now };
 }
 
 impl Queued for CbcKernel<10> {
-    fn queue(lists: &LaneQueues) -> &LaneQueue<Self> {
-        &lists.cbc128
+    fn queue(queues: &LaneQueues) -> &LaneQueue<Self> {
+        &queues.cbc128
     }
 }
 
 impl Queued for CbcKernel<12> {
-    fn queue(lists: &LaneQueues) -> &LaneQueue<Self> {
-        &lists.cbc192
+    fn queue(queues: &LaneQueues) -> &LaneQueue<Self> {
+        &queues.cbc192
     }
 }
 
 impl Queued for CbcKernel<14> {
-    fn queue(lists: &LaneQueues) -> &LaneQueue<Self> {
-        &lists.cbc256
+    fn queue(queues: &LaneQueues) -> &LaneQueue<Self> {
+        &queues.cbc256
     }
 }
 
 impl Queued for CmacKernel<10> {
-    fn queue(lists: &LaneQueues) -> &LaneQueue<Self> {
-        &lists.cmac128
+    fn queue(queues: &LaneQueues) -> &LaneQueue<Self> {
+        &queues.cmac128
     }
 }
 
 impl Queued for CmacKernel<14> {
-    fn queue(lists: &LaneQueues) -> &LaneQueue<Self> {
-        &lists.cmac256
+    fn queue(queues: &LaneQueues) -> &LaneQueue<Self> {
+        &queues.cmac256
     }
 }
 
 impl Queued for Hmac1Kernel {
-    fn queue(lists: &LaneQueues) -> &LaneQueue<Self> {
-        &lists.hmac_sha1
+    fn queue(queues: &LaneQueues) -> &LaneQueue<Self> {
+        &queues.hmac_sha1
     }
 }
 
 impl Queued for Hmac256Kernel {
-    fn queue(lists: &LaneQueues) -> &LaneQueue<Self> {
-        &lists.hmac_sha256
+    fn queue(queues: &LaneQueues) -> &LaneQueue<Self> {
+        &queues.hmac_sha256
     }
 }
 
 impl Queued for Hmac512Kernel {
-    fn queue(lists: &LaneQueues) -> &LaneQueue<Self> {
-        &lists.hmac_sha512
+    fn queue(queues: &LaneQueues) -> &LaneQueue<Self> {
+        &queues.hmac_sha512
     }
 }
 
 impl Queued for CcmKernel<10> {
-    fn queue(lists: &LaneQueues) -> &LaneQueue<Self> {
-        &lists.ccm128
+    fn queue(queues: &LaneQueues) -> &LaneQueue<Self> {
+        &queues.ccm128
     }
 }
 
 impl Queued for CcmKernel<12> {
-    fn queue(lists: &LaneQueues) -> &LaneQueue<Self> {
-        &lists.ccm192
+    fn queue(queues: &LaneQueues) -> &LaneQueue<Self> {
+        &queues.ccm192
     }
 }
 
 impl Queued for CcmKernel<14> {
-    fn queue(lists: &LaneQueues) -> &LaneQueue<Self> {
-        &lists.ccm256
+    fn queue(queues: &LaneQueues) -> &LaneQueue<Self> {
+        &queues.ccm256
     }
 }

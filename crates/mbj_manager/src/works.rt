@@ -55,7 +55,7 @@ pub struct Works {
     ring: CellRing,
     agenda: Agenda,
     /// In a box, so that a caller's proof that a manager is freed doesn't look into each lane queue.
-    lists: Box<LaneQueues>,
+    queues: Box<LaneQueues>,
 }
 
 impl Model for Works {
@@ -69,9 +69,9 @@ impl Model for Works {
 
     ghost coded = { state_code (Prim.hlevel codes) };
 
-    ghost view = { λ w. held w.ring w.agenda.places.items w.lists.value };
+    ghost view = { λ w. held w.ring w.agenda.places.items w.queues.value };
 
-    ghost invariant = { λ w. IsHeld w.ring w.agenda.places.items w.lists.value (vec_capacity w.agenda.places) };
+    ghost invariant = { λ w. IsHeld w.ring w.agenda.places.items w.queues.value (vec_capacity w.agenda.places) };
 }
 
 /// What is next in the earliest course.
@@ -100,16 +100,22 @@ fn range_of_first(ring: &mut CellRing) -> Option<(u32, u32)>
 
 /// Does what finishes at once in the course at a place, and goes on: the course joins the lane queue of its next stage, which runs where it
 /// is full then. The job stands in no agenda meanwhile.
-fn go_on(ring: &mut CellRing, lists: &mut LaneQueues, agenda: &mut Agenda, place: u32, cause: Cause)
+fn go_on(
+    ring: &mut CellRing,
+    queues: &mut LaneQueues,
+    agenda: &mut Agenda,
+    place: u32,
+    cause: Cause,
+)
     requires place { place < CELLS }
-    requires held { IsHeld ring.old (place ∷ agenda.old.places.items) lists.old (vec_capacity agenda.old.places) }
+    requires held { IsHeld ring.old (place ∷ agenda.old.places.items) queues.old (vec_capacity agenda.old.places) }
     ensures room { vec_capacity agenda.new.places ≡ vec_capacity agenda.old.places }
-    ensures kept { IsHeld ring.new agenda.new.places.items lists.new (vec_capacity agenda.old.places) }
-    ensures step { held ring.new agenda.new.places.items lists.new
-        ≡ with_step cause (held ring.old (place ∷ agenda.old.places.items) lists.old) }
+    ensures kept { IsHeld ring.new agenda.new.places.items queues.new (vec_capacity agenda.old.places) }
+    ensures step { held ring.new agenda.new.places.items queues.new
+        ≡ with_step cause (held ring.old (place ∷ agenda.old.places.items) queues.old) }
 {
     match run_nows(ring, place) {
-        Stage::Lane(kind) => lists.enter(kind, cause, ring, agenda, place),
+        Stage::Lane(kind) => queues.enter(kind, cause, ring, agenda, place),
         Stage::Now | Stage::Finished => {}
     }
 }
@@ -121,7 +127,7 @@ impl Works {
         Ok(Works {
             ring: CellRing::new(alloc, most)?,
             agenda: Agenda::new(alloc, agenda_room())?,
-            lists: Box::new(alloc, LaneQueues::new(alloc)?)?,
+            queues: Box::new(alloc, LaneQueues::new(alloc)?)?,
         })
     }
 
@@ -210,7 +216,7 @@ impl Works {
         prove!(self.ring.len() < CELLS);
         let place = self.ring.commit();
         let (ring, agenda) = (&mut self.ring, &mut self.agenda);
-        go_on(ring, &mut self.lists, agenda, place, Cause::Submit);
+        go_on(ring, &mut self.queues, agenda, place, Cause::Submit);
         self.settle(Cause::Submit);
         is_expanded
     }
@@ -230,7 +236,7 @@ impl Works {
     {
         let place = self.agenda.take_first();
         let (ring, agenda) = (&mut self.ring, &mut self.agenda);
-        go_on(ring, &mut self.lists, agenda, place, cause);
+        go_on(ring, &mut self.queues, agenda, place, cause);
     }
 
     /// Goes on until no job stands between two stages.
@@ -264,7 +270,7 @@ impl Works {
         ensures ran { self.new ≡ record (self.old) { machine = run_within Cause.Flush kind self.old.machine } }
         ensures stages { stages_left self.new.machine.left < stages_left self.old.machine.left }
     {
-        self.lists.run(kind, &mut self.ring, &mut self.agenda);
+        self.queues.run(kind, &mut self.ring, &mut self.agenda);
     }
 
     /// Follows flush steps until the earliest job is finished.
@@ -381,31 +387,31 @@ impl Works {
         ensures entries { AreEntriesOf K.kind self.now (map (λ e. K.brings (end_of K.round K.rest_of e)) result.now.entries)
             (queue_for K.kind self.now.machine).waiting }
     {
-        K::queue(&self.lists).lanes()
+        K::queue(&self.queues).lanes()
     }
 
     pub(crate) fn waiting(&self, kind: Kind) -> u32
         ensures { result ≡ length (queue_for kind self.now.machine).waiting }
     {
-        self.lists.len(kind)
+        self.queues.len(kind)
     }
 
     pub(crate) fn rounds(&self, kind: Kind) -> u64
         ensures { result ≡ (queue_for kind self.now.machine).rounds }
     {
-        self.lists.rounds(kind)
+        self.queues.rounds(kind)
     }
 
     pub(crate) fn blocks(&self, kind: Kind) -> u64
         ensures blocks { result ≡ (queue_for kind self.now.machine).blocks }
         ensures full { result ≡ (lanes_of kind * (queue_for kind self.now.machine).rounds) % count_end }
     {
-        self.lists.blocks(kind)
+        self.queues.blocks(kind)
     }
 
     pub(crate) fn flush_runs(&self) -> u64
         ensures { result ≡ self.now.machine.flush_runs }
     {
-        self.lists.flush_runs()
+        self.queues.flush_runs()
     }
 }

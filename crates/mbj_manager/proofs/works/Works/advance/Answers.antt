@@ -15,7 +15,7 @@ go_on-requires-clause-held c =
     let w = c.self.inside in
     let t = c.take_first-place in
     rw (c.deref_mut.ensures.value, t.ensures.room)
-    (subst (λ (agenda : List ℕ). IsHeld w.ring agenda w.lists.value (vec_capacity w.agenda.places)) t.ensures.first c.self.invariant)
+    (subst (λ (agenda : List ℕ). IsHeld w.ring agenda w.queues.value (vec_capacity w.agenda.places)) t.ensures.first c.self.invariant)
 
 pub invariant_of-self : goal.invariant_of-self
 invariant_of-self c = rw c.go_on.ensures.room c.go_on.ensures.kept
@@ -25,7 +25,7 @@ returns-clause-step c =
     let w = c.self.inside in
     let step = rw c.deref_mut.ensures.value at c.go_on.ensures.step in
     step
-    ∙ ap (λ (agenda : List ℕ). with_step c.args.cause (held w.ring agenda w.lists.value)) (sym c.take_first-place.ensures.first)
+    ∙ ap (λ (agenda : List ℕ). with_step c.args.cause (held w.ring agenda w.queues.value)) (sym c.take_first-place.ensures.first)
     ∙ ap (with_step c.args.cause) c.self.view_is
 
 pub returns-clause-fewer : goal.returns-clause-fewer

@@ -43,7 +43,7 @@ go_on-requires-clause-held c =
     let idle = subst (λ (h : ManagerState). h.machine.agenda ≡ []) (sym c.self.view_is) c.requires.idle in
     let room : length w.ring.values < CELLS = omega (arith, c.if-prove.false, c.len.ensures.len) in
     rw c.deref_mut.ensures.value
-    (adds-committed w.ring c.commit-place.new.self c.in-Some.cell.now c.begin-is_expanded.new.self c.commit-place.result w.agenda.places.items w.lists.value
+    (adds-committed w.ring c.commit-place.new.self c.in-Some.cell.now c.begin-is_expanded.new.self c.commit-place.result w.agenda.places.items w.queues.value
     (vec_capacity w.agenda.places) c.self.invariant idle (sym c.open_mut.ensures.value ∙ ap option_copied_mut c.in-Some.is) c.begin-is_expanded.ensures.begun
     room c.commit-place.ensures.place c.commit-place.ensures.values).kept
 
@@ -53,15 +53,15 @@ invariant_of-self c = rw c.go_on.ensures.room c.go_on.ensures.kept
 pub returns-clause-entered : goal.returns-clause-entered
 returns-clause-entered c =
     let w = c.self.inside in
-    let h : ManagerState = held w.ring w.agenda.places.items w.lists.value in
+    let h : ManagerState = held w.ring w.agenda.places.items w.queues.value in
     let idle = subst (λ (g : ManagerState). g.machine.agenda ≡ []) (sym c.self.view_is) c.requires.idle in
     let room : length w.ring.values < CELLS = omega (arith, c.if-prove.false, c.len.ensures.len) in
-    let is = adds-committed w.ring c.commit-place.new.self c.in-Some.cell.now c.begin-is_expanded.new.self c.commit-place.result w.agenda.places.items w.lists.value
+    let is = adds-committed w.ring c.commit-place.new.self c.in-Some.cell.now c.begin-is_expanded.new.self c.commit-place.result w.agenda.places.items w.queues.value
     (vec_capacity w.agenda.places) c.self.invariant idle (sym c.open_mut.ensures.value ∙ ap option_copied_mut c.in-Some.is) c.begin-is_expanded.ensures.begun
     room c.commit-place.ensures.place c.commit-place.ensures.values in
     let some = subst (λ (g : ManagerState). 0 < length g.opened) (sym c.self.view_is) c.requires.some in
     let went = rw c.deref_mut.ensures.value at c.go_on.ensures.step in
-    let new : ManagerState = held c.go_on.new.ring c.go_on.new.agenda.places.items c.go_on.new.lists in
+    let new : ManagerState = held c.go_on.new.ring c.go_on.new.agenda.places.items c.go_on.new.queues in
     let step : new ≡ with_step cause.Submit (added h.opened h) = went ∙ ap (with_step cause.Submit) is.is in
     c.settle.ensures.course ∙ ap (λ (g : ManagerState). record g { machine = course cause.Submit g.machine }) step
     ∙ entered-stepped h.opened h some (subst (λ (g : ManagerState). IsInCourse g.machine) is.is is.kept.within)

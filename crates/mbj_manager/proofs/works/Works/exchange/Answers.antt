@@ -18,14 +18,14 @@ exchange-requires c =
 pub invariant_of-self : goal.invariant_of-self
 invariant_of-self c =
     let w = c.self.inside in
-    subst (λ (r : RingState Cell). IsHeld r w.agenda.places.items w.lists.value (vec_capacity w.agenda.places)) (sym c.exchange.ensures.rest)
-    (open-held w.ring (set w.ring.opened c.args.number c.args.other.now) w.agenda.places.items w.lists.value (vec_capacity w.agenda.places)
+    subst (λ (r : RingState Cell). IsHeld r w.agenda.places.items w.queues.value (vec_capacity w.agenda.places)) (sym c.exchange.ensures.rest)
+    (open-held w.ring (set w.ring.opened c.args.number c.args.other.now) w.agenda.places.items w.queues.value (vec_capacity w.agenda.places)
     (All-set IsOpen w.ring.opened c.args.number c.args.other.now c.requires.is_open c.self.invariant.is_open) c.self.invariant)
 
 pub returns : goal.returns
 returns c =
     let w = c.self.inside in
-    ap (λ (r : RingState Cell). held r w.agenda.places.items w.lists.value) c.exchange.ensures.rest
-    ∙ ap (λ (js : List Job). record (held w.ring w.agenda.places.items w.lists.value) { opened = js })
+    ap (λ (r : RingState Cell). held r w.agenda.places.items w.queues.value) c.exchange.ensures.rest
+    ∙ ap (λ (js : List Job). record (held w.ring w.agenda.places.items w.queues.value) { opened = js })
     (map-set job_in w.ring.opened c.args.number c.args.other.now)
     ∙ ap (λ (h : ManagerState). with_open_at h c.args.number (job_in c.args.other.now)) c.self.view_is

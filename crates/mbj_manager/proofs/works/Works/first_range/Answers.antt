@@ -11,16 +11,16 @@ use Rattle.mbj_manager.proofs.works.Works.first_range.Goals as goal
 pub invariant_of-self : goal.invariant_of-self
 invariant_of-self c =
     let w = c.self.inside in
-    subst (λ (r : RingState Cell). IsHeld r w.agenda.places.items w.lists.value (vec_capacity w.agenda.places)) (sym c.range_of_first.ensures.same)
+    subst (λ (r : RingState Cell). IsHeld r w.agenda.places.items w.queues.value (vec_capacity w.agenda.places)) (sym c.range_of_first.ensures.same)
     c.self.invariant
 
 pub returns-clause-same : goal.returns-clause-same
 returns-clause-same c =
     let w = c.self.inside in
-    ap (λ (r : RingState Cell). held r w.agenda.places.items w.lists.value) c.range_of_first.ensures.same ∙ c.self.view_is
+    ap (λ (r : RingState Cell). held r w.agenda.places.items w.queues.value) c.range_of_first.ensures.same ∙ c.self.view_is
 
 pub returns-clause-range : goal.returns-clause-range
 returns-clause-range c =
     let w = c.self.inside in
-    c.range_of_first.ensures.range ∙ sym (first-range-held 0 (find_in (lines_in w.ring w.lists.value)) (courses w.ring))
+    c.range_of_first.ensures.range ∙ sym (first-range-held 0 (find_in (lines_in w.ring w.queues.value)) (courses w.ring))
     ∙ ap first_range c.self.view_is

@@ -20,7 +20,7 @@ returns-clause-rests g c =
     let f = ring_number w.ring in
     let queue = rw c.deref.ensures at c.queue.ensures in
     c.lanes.ensures.rests ∙ ap (λ (l : PlacedQueue). map (pair_rest rounds_in) l.waiters) queue
-    ∙ sym (numbered-rests f (placed_in g.K.Feed.kind w.lists.value).waiters)
+    ∙ sym (numbered-rests f (placed_in g.K.Feed.kind w.queues.value).waiters)
     ∙ ap (λ (h : ManagerState). map rest_of (queue_for g.K.Feed.kind h.machine).waiting) c.self.view_is
 
 pub returns-clause-entries : goal.returns-clause-entries
@@ -29,12 +29,12 @@ returns-clause-entries g c =
     let f = ring_number w.ring in
     let k = g.K.Feed.kind in
     let queue = rw c.deref.ensures at c.queue.ensures in
-    let lines = lines_in w.ring w.lists.value in
-    let state = held w.ring w.agenda.places.items w.lists.value in
+    let lines = lines_in w.ring w.queues.value in
+    let state = held w.ring w.agenda.places.items w.queues.value in
     let ends : List End = map (λ e. g.K.Feed.brings (end_of g.K.Kernel.round g.K.Kernel.rest_of e)) c.lanes.result.now.entries in
     let seen : map (λ (x : Waiter). x.1.brings) (lines k).waiters ≡ ends
-    = numbered-ends f (placed_in k w.lists.value).waiters ∙ ap (λ (l : PlacedQueue). map (λ (x : Waiter). x.1.brings) l.waiters) (sym queue) ∙ sym c.lanes.ensures.ends in
+    = numbered-ends f (placed_in k w.queues.value).waiters ∙ ap (λ (l : PlacedQueue). map (λ (x : Waiter). x.1.brings) l.waiters) (sym queue) ∙ sym c.lanes.ensures.ends in
     subst (λ (h : ManagerState). AreEntriesOf k h ends (queue_for k h.machine).waiting) c.self.view_is
     (subst (λ (es : List End). AreEntriesOf k state es (map waiting (lines k).waiters)) seen
-    (all-entries k (courses w.ring) (map f w.agenda.places.items) lines w.lists.value.flush_runs (map job_in w.ring.opened)
+    (all-entries k (courses w.ring) (map f w.agenda.places.items) lines w.queues.value.flush_runs (map job_in w.ring.opened)
     (All-map HasJobSteps course_in w.ring.values c.self.invariant.ring.steps) (c.self.invariant.tied.listed k)))

@@ -12,6 +12,6 @@ use Rattle.mbj_manager.proofs.works.Works.len.Goals as goal
 pub returns-clause-size : goal.returns-clause-size
 returns-clause-size c =
     let f = c.self.inside in
-    c.len.ensures.len ∙ sym (length-map f.ring.values course_in) ∙ sym (restored-length 0 (find_in (lines_in f.ring f.lists.value)) (courses f.ring))
-    ∙ sym (length-map (restored_in f.ring f.lists.value) owed)
+    c.len.ensures.len ∙ sym (length-map f.ring.values course_in) ∙ sym (restored-length 0 (find_in (lines_in f.ring f.queues.value)) (courses f.ring))
+    ∙ sym (length-map (restored_in f.ring f.queues.value) owed)
     ∙ ap (λ (h : ManagerState). length h.owed) c.self.view_is

@@ -18,6 +18,6 @@ pub returns : goal.returns
 returns c =
     let w = c.self.inside in
     rw (← c.self.view_is) (
-      (refl, λ j i. written-open w.ring c.args.number j w.agenda.places.items w.lists.value i),
+      (refl, λ j i. written-open w.ring c.args.number j w.agenda.places.items w.queues.value i),
       record { lends = tt; value = job-at c.args.number w.ring.opened c.open_at.result.now c.job_mut.result.now c.open_at.ensures.value c.job_mut.ensures.value },
     )

@@ -23,6 +23,6 @@ returns-clause-within c =
       c.open_len.ensures.len,
       length-append f.ring.values f.ring.opened,
       length-map f.ring.values course_in,
-      restored-length 0 (find_in (lines_in f.ring f.lists.value)) (courses f.ring),
-      length-map (restored_in f.ring f.lists.value) owed,
+      restored-length 0 (find_in (lines_in f.ring f.queues.value)) (courses f.ring),
+      length-map (restored_in f.ring f.queues.value) owed,
     ))

@@ -24,21 +24,21 @@ open_with-requires c =
       length-map f.ring.values course_in,
       length-map f.ring.opened job_in,
       length-append f.ring.values f.ring.opened,
-      restored-length 0 (find_in (lines_in f.ring f.lists.value)) (courses f.ring),
-      length-map (restored_in f.ring f.lists.value) owed,
+      restored-length 0 (find_in (lines_in f.ring f.queues.value)) (courses f.ring),
+      length-map (restored_in f.ring f.queues.value) owed,
     )
 
 pub invariant_of-self : goal.invariant_of-self
 invariant_of-self c =
     let w = c.self.inside in
-    subst (λ (x : RingState Cell). IsHeld x w.agenda.places.items w.lists.value (vec_capacity w.agenda.places)) (sym c.open_with.ensures.opened)
-    (open-held w.ring (w.ring.opened ++ c.args.filled.now ∷ []) w.agenda.places.items w.lists.value (vec_capacity w.agenda.places)
+    subst (λ (x : RingState Cell). IsHeld x w.agenda.places.items w.queues.value (vec_capacity w.agenda.places)) (sym c.open_with.ensures.opened)
+    (open-held w.ring (w.ring.opened ++ c.args.filled.now ∷ []) w.agenda.places.items w.queues.value (vec_capacity w.agenda.places)
     (All-push IsOpen w.ring.opened c.args.filled.now c.self.invariant.is_open c.requires.is_open) c.self.invariant)
 
 pub returns-clause-state : goal.returns-clause-state
 returns-clause-state c =
     let w = c.self.inside in
-    ap (λ (x : RingState Cell). held x w.agenda.places.items w.lists.value) c.open_with.ensures.opened
-    ∙ ap (λ (js : List Job). record (held w.ring w.agenda.places.items w.lists.value) { opened = js })
+    ap (λ (x : RingState Cell). held x w.agenda.places.items w.queues.value) c.open_with.ensures.opened
+    ∙ ap (λ (js : List Job). record (held w.ring w.agenda.places.items w.queues.value) { opened = js })
     (map_push job_in w.ring.opened c.args.filled.now)
     ∙ ap (λ (h : ManagerState). with_open_last h (job_in c.args.filled.now)) c.self.view_is

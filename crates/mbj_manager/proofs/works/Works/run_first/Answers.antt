@@ -18,9 +18,9 @@ run-requires-clause-ready c =
     let y = c.self.invariant in
     let idle = subst (λ (h : ManagerState). h.machine.agenda ≡ []) (sym c.self.view_is) c.requires.idle in
     let first = subst (λ (h : ManagerState). first_lane h.machine.left ≡ Some c.args.kind) (sym c.self.view_is) c.requires.first in
-    rw c.deref_mut.ensures.value (first-ready c.args.kind (courses w.ring) (map (ring_number w.ring) w.agenda.places.items) (lines_in w.ring w.lists.value)
-    w.lists.value.flush_runs (vec_capacity w.agenda.places) idle first y.within y.tied
-    (room-in c.args.kind w.ring w.agenda.places.items w.lists.value (vec_capacity w.agenda.places) y))
+    rw c.deref_mut.ensures.value (first-ready c.args.kind (courses w.ring) (map (ring_number w.ring) w.agenda.places.items) (lines_in w.ring w.queues.value)
+    w.queues.value.flush_runs (vec_capacity w.agenda.places) idle first y.within y.tied
+    (room-in c.args.kind w.ring w.agenda.places.items w.queues.value (vec_capacity w.agenda.places) y))
 
 pub invariant_of-self : goal.invariant_of-self
 invariant_of-self c =
@@ -31,7 +31,7 @@ invariant_of-self c =
     let others = rw c.deref_mut.ensures.value at c.run.ensures.others in
     let ran = rw c.deref_mut.ensures.value at c.run.ensures.ran in
     rw c.run.ensures.room
-    (runs-first c.args.kind w.ring c.run.new.ring w.agenda.places.items c.run.new.agenda.places.items w.lists.value c.run.new.self (vec_capacity w.agenda.places) y
+    (runs-first c.args.kind w.ring c.run.new.ring w.agenda.places.items c.run.new.agenda.places.items w.queues.value c.run.new.self (vec_capacity w.agenda.places) y
     idle first c.run.ensures.ring others ran).kept
 
 pub returns-clause-ran : goal.returns-clause-ran
@@ -44,7 +44,7 @@ returns-clause-ran c =
     let ran = rw c.deref_mut.ensures.value at c.run.ensures.ran in
     let new = held c.run.new.ring c.run.new.agenda.places.items c.run.new.self in
     subst (λ (h : ManagerState). new ≡ record h { machine = run_within cause.Flush c.args.kind h.machine }) c.self.view_is
-    (runs-first c.args.kind w.ring c.run.new.ring w.agenda.places.items c.run.new.agenda.places.items w.lists.value c.run.new.self (vec_capacity w.agenda.places) y
+    (runs-first c.args.kind w.ring c.run.new.ring w.agenda.places.items c.run.new.agenda.places.items w.queues.value c.run.new.self (vec_capacity w.agenda.places) y
     idle first c.run.ensures.ring others ran).is
 
 pub returns-clause-stages : goal.returns-clause-stages
