@@ -117,7 +117,7 @@ enum mbj_hash { MBJ_HASH_SHA_1, MBJ_HASH_SHA_224, MBJ_HASH_SHA_256, MBJ_HASH_SHA
 typedef enum mbj_err {
     MBJ_ERR_NONE,             /* it isn't */
     MBJ_REASON_PACKET_LONG,   /* the packet is longer than 65,535 bytes */
-    MBJ_REASON_PAIR,          /* exactly one of cipher and authentication is GCM, exactly one is CCM, or GMAC stands beside a cipher */
+    MBJ_REASON_PAIR,          /* GCM and CCM need their own authentication and no other; GMAC needs MBJ_CIPHER_NULL */
     MBJ_REASON_CIPHER_KEY,    /* the cipher's key has neither 16, 24 nor 32 bytes */
     MBJ_REASON_IV_LENGTH,     /* the cipher, or GMAC, doesn't take an IV of this length */
     MBJ_REASON_CIPHER_RANGE,  /* the cipher range passes the packet's end */
@@ -131,7 +131,7 @@ typedef enum mbj_err {
     MBJ_ERR_IV_LENGTH,        /* the algorithm doesn't take an IV, or a nonce, of this length */
     MBJ_ERR_TAG_LENGTH,       /* the algorithm doesn't give a tag of this length */
     MBJ_ERR_AAD_LENGTH,       /* the additional data is too long */
-    MBJ_ERR_NO_STATE,         /* the bytes are no state that could go on */
+    MBJ_ERR_NO_STATE,         /* the bytes are no state of a text in parts, or of one that is finished */
     MBJ_ERR_HAS_KEYS,         /* the handle has a set of key sessions already */
     MBJ_ERR_NO_KEYS,          /* the handle has no set of key sessions */
     MBJ_ERR_MANY_KEYS,        /* there are more than MBJ_MAX_SESSIONS keys */
@@ -317,7 +317,7 @@ MBJ_API uint32_t mbj_queue_size(MBJ_MGR *m);
 /* ---- single jobs ---- */
 
 /* Hands out the next job: a blank one, or the first one that was handed out and isn't submitted yet. NULL with MBJ_ERR_FULL where
- * MBJ_MAX_JOBS jobs are submitted and not given back: nothing is forced then, so flush one. */
+ * MBJ_MAX_JOBS jobs are submitted and not given back: unlike intel-ipsec-mb it doesn't flush one for you. */
 MBJ_API MBJ_JOB *mbj_get_next_job(MBJ_MGR *m);
 
 /* Submits the job that was handed out, the first one where there are several, and gives the earliest job back where that is finished: with
@@ -339,7 +339,7 @@ MBJ_API mbj_err mbj_get_errno(const MBJ_MGR *m);
 
 /* Hands out up to n jobs, to be submitted in their order, and returns how many: first those that were handed out and aren't submitted yet,
  * as they are, and then blank ones. They are fewer than n where fewer are left, and 0 with MBJ_ERR_FULL where MBJ_MAX_JOBS jobs are
- * submitted and not given back: nothing is forced then, so flush some. */
+ * submitted and not given back: unlike intel-ipsec-mb it doesn't flush for you. */
 MBJ_API uint32_t mbj_get_next_burst(MBJ_MGR *m, uint32_t n, MBJ_JOB **jobs);
 
 /* Submits n jobs as mbj_submit_job does, one after another: the first ones that mbj_get_next_burst handed out, in its order. Writes the
