@@ -101,7 +101,7 @@ fn fill_blank(alloc: Global, number: Option<u32>, job: &mut Job) -> Result<(), A
 }
 
 /// Fills the job in an open cell.
-fn fill_at(
+pub(crate) fn fill_at(
     rt: &impl Abort,
     alloc: Global,
     manager: &mut Manager,

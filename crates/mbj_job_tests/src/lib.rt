@@ -46,6 +46,8 @@ mod lists;
 #[cfg(test)]
 mod manager;
 #[cfg(test)]
+mod memory;
+#[cfg(test)]
 mod message;
 #[cfg(test)]
 mod own_keys;

@@ -5,6 +5,7 @@ use mbj_keys::{Keys, Notes};
 use mbj_manager::Manager;
 use mbj_types::{Bytes, Cipher, Done, Job};
 use std::alloc::{AllocError, Global};
+use std::process::Abort;
 use std::test::Fail;
 
 const KEY: [u8; 16] = [
@@ -52,7 +53,7 @@ fn job(
     Ok(job)
 }
 
-fn one_session(alloc: Global) -> Result<Keys, AllocError> {
+pub(crate) fn one_session(alloc: Global) -> Result<Keys, AllocError> {
     let key = KEY.to_vec(alloc)?;
     let mut list = Vec::new(alloc);
     list.push(key)?;
@@ -61,21 +62,27 @@ fn one_session(alloc: Global) -> Result<Keys, AllocError> {
 
 /// Keys, and what is known of them.
 #[derive(Drop)]
-struct Known<'k> {
+pub(crate) struct Known<'k> {
     keys: &'k Keys,
     notes: Notes,
     ghost of: { AreOf keys.now notes },
 }
 
 impl<'k> Known<'k> {
-    fn nothing(alloc: Global, keys: &'k Keys) -> Result<Known<'k>, AllocError> {
+    pub(crate) fn nothing(alloc: Global, keys: &'k Keys) -> Result<Known<'k>, AllocError> {
         let notes = Notes::new(alloc, keys)?;
         Ok(Known { keys, notes })
     }
 
     /// Learns all sessions.
-    fn learn(&mut self, alloc: Global) -> Result<(), AllocError> {
+    pub(crate) fn learn(&mut self, alloc: Global) -> Result<(), AllocError> {
         self.keys.learn_all(alloc, &mut self.notes)
+    }
+
+    /// Submits the first open job by what is known.
+    pub(crate) fn submit(&mut self, rt: &impl Abort, manager: &mut Manager) -> Option<Done> {
+        assert!(rt; manager.get_next_burst(0) > 0);
+        manager.submit_in(self.keys, &mut self.notes)
     }
 
     /// Submits a job by what is known, and gives the earliest back.
