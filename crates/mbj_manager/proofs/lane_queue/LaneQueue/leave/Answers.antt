@@ -38,8 +38,8 @@ leave_to-requires-clause-going g c =
     let r = c.args.ring.now in
     each-at IsGoing (ring_number r c.place_at-place.result) r.values c.at_mut-cell.result.now c.at_mut-cell.ensures.value c.requires.ring.going
 
-pub leave_to-requires-clause-place : goal.leave_to-requires-clause-place
-leave_to-requires-clause-place g c = c.in-Some.ensures.inside
+pub leave_to-requires-clause-position : goal.leave_to-requires-clause-position
+leave_to-requires-clause-position g c = c.in-Some.ensures.inside
 
 pub leave_to-requires-clause-done : goal.leave_to-requires-clause-done
 leave_to-requires-clause-done g c = c.in-Some.ensures.done
