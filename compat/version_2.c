@@ -15,9 +15,8 @@
 #include <sys/random.h>
 
 uint64_t version_features(void) {
-    unsigned eax, ebx, ecx, edx;
-    if (__get_cpuid(1, &eax, &ebx, &ecx, &edx) == 0)
-        return 0;
+    unsigned eax, ebx, ecx = 0, edx;
+    (void)__get_cpuid(1, &eax, &ebx, &ecx, &edx);
     return ((ecx & bit_XSAVE) != 0 ? IMB_FEATURE_XSAVE : 0) | ((ecx & bit_OSXSAVE) != 0 ? IMB_FEATURE_OSXSAVE : 0);
 }
 
@@ -202,27 +201,27 @@ IMB_DLL_EXPORT void imb_hmac_ipad_opad(IMB_MGR *m, const IMB_HASH_ALG alg, const
 /* The jobs that fill the lanes of the proved code, in either build (docs/LANES.md). */
 enum { LANES_OF_WORDS = 16, LANES_OF_LONG_WORDS = 8, LANES_OF_AES = 32 };
 
-IMB_DLL_EXPORT int imb_hash_burst_get_size(const IMB_MGR *m, const IMB_HASH_ALG alg, unsigned *size) {
-    if (m == NULL || size == NULL)
+/* Writes the size, where there is a place for it, and returns this error where it is 0. */
+static int put_size(const IMB_MGR *m, unsigned *place, unsigned size, int error_of_none) {
+    if (m == NULL || place == NULL)
         return m == NULL ? IMB_ERR_NULL_MBMGR : IMB_ERR_NULL_BURST;
+    *place = size;
+    return size == 0 ? error_of_none : 0;
+}
+
+IMB_DLL_EXPORT int imb_hash_burst_get_size(const IMB_MGR *m, const IMB_HASH_ALG alg, unsigned *size) {
     bool is_long = alg == IMB_AUTH_HMAC_SHA_384 || alg == IMB_AUTH_HMAC_SHA_512 || alg == IMB_AUTH_SHA_384 || alg == IMB_AUTH_SHA_512;
     bool is_cmac = alg == IMB_AUTH_AES_CMAC || alg == IMB_AUTH_AES_CMAC_BITLEN || alg == IMB_AUTH_AES_CMAC_256;
-    *size = !COMPAT_IS_BURST_HASH(alg) ? 0 : is_cmac ? LANES_OF_AES : is_long ? LANES_OF_LONG_WORDS : LANES_OF_WORDS;
-    return *size == 0 ? IMB_ERR_HASH_ALGO : 0;
+    unsigned lanes = is_cmac ? LANES_OF_AES : is_long ? LANES_OF_LONG_WORDS : LANES_OF_WORDS;
+    return put_size(m, size, COMPAT_IS_BURST_HASH(alg) ? lanes : 0, IMB_ERR_HASH_ALGO);
 }
 
 IMB_DLL_EXPORT int imb_cipher_burst_get_size(const IMB_MGR *m, const IMB_CIPHER_MODE cipher, unsigned *size) {
-    if (m == NULL || size == NULL)
-        return m == NULL ? IMB_ERR_NULL_MBMGR : IMB_ERR_NULL_BURST;
-    *size = cipher == IMB_CIPHER_CBC ? LANES_OF_AES : cipher == IMB_CIPHER_CNTR ? 1 : 0;
-    return *size == 0 ? IMB_ERR_CIPH_MODE : 0;
+    return put_size(m, size, cipher == IMB_CIPHER_CBC ? LANES_OF_AES : cipher == IMB_CIPHER_CNTR ? 1 : 0, IMB_ERR_CIPH_MODE);
 }
 
 IMB_DLL_EXPORT int imb_aead_burst_get_size(const IMB_MGR *m, const IMB_CIPHER_MODE cipher, unsigned *size) {
-    if (m == NULL || size == NULL)
-        return m == NULL ? IMB_ERR_NULL_MBMGR : IMB_ERR_NULL_BURST;
-    *size = cipher == IMB_CIPHER_CCM ? LANES_OF_AES : 0;
-    return *size == 0 ? IMB_ERR_CIPH_MODE : 0;
+    return put_size(m, size, cipher == IMB_CIPHER_CCM ? LANES_OF_AES : 0, IMB_ERR_CIPH_MODE);
 }
 
 static uint32_t submit_aead_burst(IMB_MGR *m, IMB_JOB *jobs, const uint32_t n, const IMB_CIPHER_MODE cipher, const IMB_CIPHER_DIRECTION dir,
@@ -257,13 +256,12 @@ IMB_DLL_EXPORT int imb_self_test_get_cb(IMB_MGR *m, imb_self_test_cb_t *function
 
 /* With a function to tell, all are tried again, as one test. None is given wrong data on purpose: there is no phase CORRUPT. */
 bool passes_at_set_up(const IMB_MGR *m) {
-    IMB_SELF_TEST_CALLBACK_DATA start = {IMB_SELF_TEST_PHASE_START, "KAT", "all algorithms"}, end = {IMB_SELF_TEST_PHASE_FAIL, NULL, NULL};
+    IMB_SELF_TEST_CALLBACK_DATA start = {IMB_SELF_TEST_PHASE_START, "KAT", "all algorithms"};
     if (m->self_test_cb_fn == NULL)
         return has_passed_selftest();
     (void)m->self_test_cb_fn(m->self_test_cb_arg, &start);
     bool passes = passes_selftest();
-    if (passes)
-        end.phase = IMB_SELF_TEST_PHASE_PASS;
+    IMB_SELF_TEST_CALLBACK_DATA end = {passes ? IMB_SELF_TEST_PHASE_PASS : IMB_SELF_TEST_PHASE_FAIL, NULL, NULL};
     (void)m->self_test_cb_fn(m->self_test_cb_arg, &end);
     return passes;
 }
