@@ -1,14 +1,14 @@
 /* A front that threads share: submitters post jobs and take their results back in the order of their posts, and every thread's turns do
- * jobs of all. So a thread with much work is helped by those with little. docs/LANES.md says when that is better than a manager for each
- * thread, docs/C.md what a program promises. The exports at the head are proved; what is below them is inline C over them, and tested.
+ * jobs of all. So a thread with much work is helped by those with little. docs/C.md says when that is better than a manager for each
+ * thread, and what a program promises. The exports at the head are proved; what is below them is inline C over them, and tested.
  *
  *     struct mbj_seat places[2] = {MBJ_SEAT_INIT, MBJ_SEAT_INIT};
  *     if (mbj_front_new(1, 1, NULL, places, 2) != MBJ_ERR_NONE)
  *         return;
  *
  *     a submitter's thread                                        a worker's thread
- *     mbj_take_seat(seat, &places[0]);                            mbj_serve(&places[1], &stop, NULL);
- *     job = mbj_seat_get_next_job(seat);                          mbj_seat_free(&places[1]);
+ *     mbj_take_seat(seat, &places[0]);                            mbj_serve(&places[1], &stop, NULL, NULL);
+ *     job = mbj_seat_get_next_job(seat);                          mbj_c_seat_free(&places[1]);
  *     mbj_job_gcm(job, ..);
  *     if (mbj_post_job(seat) != MBJ_ERR_NONE) ..
  *     while ((job = mbj_drain(seat)) != NULL) ..

@@ -1,13 +1,15 @@
 /* Threads over one front, each with a seat of its own: what each submitter collects is what a manager alone gives for its jobs, in their
  * order and with their own ranges, for drawn numbers of jobs, seats and pauses; refusals change nothing; and a seat that is freed with jobs
- * in its hand loses none of them. Usage: seats [RUNS]. Built with ThreadSanitizer, which sees the C code alone. */
+ * in its hand loses none of them. Usage: seats [RUNS [SEED]]. Built with ThreadSanitizer, which sees the C code alone. */
+#define _POSIX_C_SOURCE 200809L
 #include "check.h"
 #include "mbj_seat.h"
 
 #include <pthread.h>
 #include <sched.h>
+#include <time.h>
 
-enum { MOST_JOBS = 700, PACKET_BYTES = 96, SEATS = MBJ_MAX_SUBMITTERS + MBJ_MAX_WORKERS };
+enum { MOST_JOBS = 700, FEW_JOBS = 40, PACKET_BYTES = 96, SEATS = MBJ_MAX_SUBMITTERS + MBJ_MAX_WORKERS };
 
 /* ---- drawn jobs ---- */
 
@@ -86,11 +88,18 @@ struct submitter {
     struct text texts[MOST_JOBS], wanted[MOST_JOBS];
 };
 
+/* A worker goes away after so many turns, whatever is in its hand then; or where that is 0, when it is told to. */
 struct worker {
     struct mbj_seat *seat;
     const bool *stop;
+    uint32_t turns;
     pthread_t thread;
 };
+
+static void rest(uint32_t micros) {
+    struct timespec time = {0, (long)micros * 1000};
+    nanosleep(&time, NULL);
+}
 
 /* Each result is that of the next job, whose text is the next one. */
 static void take(struct submitter *s, const MBJ_JOB *done) {
@@ -119,11 +128,12 @@ static void *submit_all(void *at) {
             take(s, mbj_drain(&s->seat));
         draw_job(job, &s->texts[i], s->seed + i);
         CHECK(mbj_post_job(&s->seat) == MBJ_ERR_NONE);
-        switch (draw(&state, 8)) {
+        switch (draw(&state, 10)) {
         case 0: sched_yield(); break;
-        case 1: mbj_c_turn(&s->seat.seat); break;
-        case 2: mbj_c_settle(&s->seat.seat); break;
-        case 3: take_all(s); break;
+        case 1: rest(draw(&state, 200)); break;
+        case 2: mbj_c_turn(&s->seat.seat); break;
+        case 3: mbj_c_settle(&s->seat.seat); break;
+        case 4: take_all(s); break;
         default: break;
         }
     }
@@ -134,10 +144,21 @@ static void *submit_all(void *at) {
     return NULL;
 }
 
+static void yield(void *unused) {
+    (void)unused;
+    sched_yield();
+}
+
 static void *serve(void *at) {
     struct worker *w = (struct worker *)at;
-    mbj_serve(w->seat, w->stop, NULL, NULL);
-    CHECK(mbj_c_hand(w->seat) == 0 && mbj_c_seat_free(w->seat));
+    for (uint32_t i = 0; i < w->turns; i++)
+        if (mbj_c_turn(w->seat) == 0)
+            rest(20);
+    if (w->turns == 0) {
+        mbj_serve(w->seat, w->stop, yield, NULL);
+        CHECK(mbj_c_hand(w->seat) == 0);
+    }
+    CHECK(mbj_c_seat_free(w->seat));
     return NULL;
 }
 
@@ -159,6 +180,7 @@ static void run(uint32_t submitters, uint32_t workers, uint32_t most, uint32_t *
     for (uint32_t i = 0; i < workers; i++) {
         crew[i].seat = &places[submitters + i];
         crew[i].stop = &stop;
+        crew[i].turns = draw(state, 3) == 0 ? 1 + draw(state, 20) : 0;
         CHECK(pthread_create(&crew[i].thread, NULL, serve, &crew[i]) == 0);
     }
     for (uint32_t i = 0; i < submitters; i++)
@@ -232,14 +254,14 @@ static void a_full_hand(void) {
 }
 
 int main(int argc, char **argv) {
-    uint32_t runs = argc > 1 ? (uint32_t)strtoul(argv[1], NULL, 10) : 200, state = 1;
+    uint32_t runs = argc > 1 ? (uint32_t)strtoul(argv[1], NULL, 10) : 50, state = argc > 2 ? (uint32_t)strtoul(argv[2], NULL, 10) : 1;
     refusals();
     a_full_hand();
     run(MBJ_MAX_SUBMITTERS, MBJ_MAX_WORKERS, MOST_JOBS, &state);
     run(1, 0, MOST_JOBS, &state);
     for (uint32_t i = 0; i < runs; i++) {
-        uint32_t submitters = 1 + draw(&state, 5), workers = draw(&state, 4);
-        run(submitters, workers, 40, &state);
+        uint32_t submitters = 1 + draw(&state, MBJ_MAX_SUBMITTERS), workers = draw(&state, MBJ_MAX_WORKERS + 1);
+        run(submitters, workers, draw(&state, 16) == 0 ? MOST_JOBS : FEW_JOBS, &state);
     }
     return 0;
 }
