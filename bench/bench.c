@@ -2,6 +2,7 @@
  * process. Prints a row for each kind of jobs and each length of packets: nanoseconds a job and Gbit/s, both of one core, and for each
  * architecture that ipsec-mb offers here also how many times as long this library takes. Results are compared before they are timed. */
 #include "bench.h"
+#include "front.h"
 #include "timing.h"
 
 #include <getopt.h>
@@ -11,6 +12,7 @@
 
 static const char usage[] =
     "bench [--sizes N,..] [--drawn LEAST-MOST,..] [--jobs NAME,..] [--flush N] [--threads N] [--passes N] [--keeping]\n"
+    "bench --front [--passes N]\n"
     "\n"
     "--sizes     lengths of packets in bytes: 64,256,1500 where neither these nor drawn ones are given\n"
     "--drawn     lengths that are drawn for each packet from LEAST to MOST bytes\n"
@@ -21,7 +23,8 @@ static const char usage[] =
     "--flush     after how many single calls all jobs that wait are flushed: 256\n"
     "--threads   how many threads run at once, each with a manager of its own: 1\n"
     "--passes    how often the 256 jobs of a row are done, of which the fastest time counts: 40\n"
-    "--keeping   here by managers that keep the memory of jobs for later ones\n";
+    "--keeping   here by managers that keep the memory of jobs for later ones\n"
+    "--front     four threads, of which one has much to do, by one front beside a manager each, and likewise with an even load\n";
 
 void give_up(const char *why) {
     fprintf(stderr, "bench: %s\n", why);
@@ -119,7 +122,7 @@ struct settings {
     const char *jobs[MOST];
     struct lengths lengths[MOST];
     size_t job_count, length_count, threads, flush_after;
-    bool keeps;
+    bool keeps, by_front;
     int passes;
 };
 
@@ -157,7 +160,7 @@ static void read_jobs(struct settings *s, char *at) {
 static void read_settings(struct settings *s, int argc, char **argv) {
     static const struct option options[] = {{"sizes", 1, NULL, 's'},  {"drawn", 1, NULL, 'd'},   {"jobs", 1, NULL, 'j'},
                                             {"flush", 1, NULL, 'f'},  {"threads", 1, NULL, 't'}, {"passes", 1, NULL, 'p'},
-                                            {"keeping", 0, NULL, 'k'}, {NULL, 0, NULL, 0}};
+                                            {"keeping", 0, NULL, 'k'}, {"front", 0, NULL, 'r'},   {NULL, 0, NULL, 0}};
     static char sizes[] = "64,256,1500", jobs[] = "null,null-bursts,hmac-sha1,hmac-sha1-states,hmac-sha256,hmac-sha256-states,hmac-sha512,"
                                                   "hmac-sha512-states,sha256,cbc,cbc-session,cbc-dec,ctr,gcm,gcm-session,ccm,cmac,gmac,cbc+hmac-sha256";
     memset(s, 0, sizeof *s);
@@ -174,6 +177,7 @@ static void read_settings(struct settings *s, int argc, char **argv) {
         case 't': s->threads = read_number(&at, 1, MOST_THREADS, '\0'); break;
         case 'p': s->passes = (int)read_number(&at, 1, MOST_PASSES, '\0'); break;
         case 'k': s->keeps = true; break;
+        case 'r': s->by_front = true; break;
         default: give_up(usage);
         }
     }
@@ -222,6 +226,10 @@ int main(int argc, char **argv) {
     struct settings settings;
     size_t count;
     read_settings(&settings, argc, argv);
+    if (settings.by_front) {
+        time_front(settings.passes);
+        return 0;
+    }
     const struct library *others = theirs(&count);
     print_head(others, count);
     for (size_t i = 0; i < settings.job_count; i++)
