@@ -197,7 +197,8 @@ static inline void mbj_pause_(void (*pause)(void *), void *with) {
 }
 
 /* Gives the seat's earliest job back once it is finished, and does jobs of any seat meanwhile; NULL where none is out. It waits for other
- * threads, and pauses where it finds nothing to do. */
+ * threads, and pauses where it finds nothing to do. Jobs of others may be in the hand when it returns: a thread that has no more jobs leaves
+ * its seat, or serves on. */
 MBJ_API MBJ_JOB *mbj_drain(MBJ_SEAT *s) {
     MBJ_JOB *job = mbj_collect_job(s);
     while (job == NULL && s->next != s->first && s->error == MBJ_ERR_NONE) {

@@ -74,8 +74,6 @@ static MBJ_JOB *next_job(struct receiver *r) {
 static bool post(struct receiver *r, struct file_job *given) {
     MBJ_JOB *job = next_job(r);
     *job = given->job;
-    job->auth_tag_output = given->tag;
-    job->user_data = given;
     r->posted[r->seat->next % MBJ_MAX_JOBS] = micros_now();
     return mbj_post_job(r->seat) == MBJ_ERR_NONE;
 }
@@ -91,6 +89,7 @@ static void work(struct receiver *r) {
         mbj_c_settle(&r->seat->seat);
 }
 
+/* At the end it leaves its seat at once: others may wait for jobs that are in its hand. */
 static void *receive(void *self) {
     struct receiver *r = (struct receiver *)self;
     const struct file *file = &r->crew->file;
@@ -106,6 +105,7 @@ static void *receive(void *self) {
     }
     while ((done = mbj_drain(r->seat)) != NULL)
         note(done);
+    mbj_leave_seat(r->seat);
     return NULL;
 }
 
@@ -138,7 +138,7 @@ static void print_all(const struct crew *crew, const struct receiver *receivers)
                 print_result(&crew->file.jobs[i].job, crew->file.jobs);
 }
 
-/* Makes the front, has the jobs done, and frees all seats. */
+/* Makes the front, has the jobs done, and frees the workers' seats: the receivers have left theirs. */
 static int run_over(struct crew *crew, struct mbj_seat *places, MBJ_SEAT *seats, struct receiver *receivers, struct worker *workers) {
     int status = 0;
     if (mbj_front_new(crew->receivers, crew->workers, NULL, places, crew->receivers + crew->workers) != MBJ_ERR_NONE)
@@ -156,10 +156,8 @@ static int run_over(struct crew *crew, struct mbj_seat *places, MBJ_SEAT *seats,
     work_together(crew, receivers, workers);
     for (uint32_t i = 0; i < crew->workers; i++)
         mbj_c_seat_free(workers[i].seat);
-    for (uint32_t i = 0; i < crew->receivers; i++) {
-        mbj_leave_seat(&seats[i]);
+    for (uint32_t i = 0; i < crew->receivers; i++)
         status = receivers[i].status != 0 ? receivers[i].status : status;
-    }
     if (status == 0)
         print_all(crew, receivers);
     return status;
