@@ -196,9 +196,8 @@ static inline void mbj_pause_(void (*pause)(void *), void *with) {
         __builtin_ia32_pause();
 }
 
-/* Gives the seat's earliest job back once it is finished, and does jobs of any seat meanwhile; NULL where none is out. It waits for other
- * threads, and pauses where it finds nothing to do. Jobs of others may be in the hand when it returns: a thread that has no more jobs leaves
- * its seat, or serves on. */
+/* Gives the seat's earliest job back once it is finished, and does jobs of any seat meanwhile. It waits for other threads, and pauses where
+ * it finds nothing to do. Where none is out it returns NULL, and has finished all jobs in its hand: no other submitter waits for them. */
 MBJ_API MBJ_JOB *mbj_drain(MBJ_SEAT *s) {
     MBJ_JOB *job = mbj_collect_job(s);
     while (job == NULL && s->next != s->first && s->error == MBJ_ERR_NONE) {
@@ -206,6 +205,8 @@ MBJ_API MBJ_JOB *mbj_drain(MBJ_SEAT *s) {
             mbj_pause_(s->pause, s->pause_with);
         job = mbj_collect_job(s);
     }
+    while (job == NULL && mbj_c_settle(&s->seat))
+        ;
     return job;
 }
 

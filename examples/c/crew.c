@@ -89,7 +89,6 @@ static void work(struct receiver *r) {
         mbj_c_settle(&r->seat->seat);
 }
 
-/* At the end it leaves its seat at once: others may wait for jobs that are in its hand. */
 static void *receive(void *self) {
     struct receiver *r = (struct receiver *)self;
     const struct file *file = &r->crew->file;

@@ -139,7 +139,7 @@ static void *submit_all(void *at) {
     }
     while ((done = mbj_drain(&s->seat)) != NULL)
         take(s, done);
-    CHECK(s->next == s->count && mbj_c_out(&s->seat.seat) == 0);
+    CHECK(s->next == s->count && mbj_c_out(&s->seat.seat) == 0 && mbj_c_hand(&s->seat.seat) == 0);
     mbj_leave_seat(&s->seat);
     return NULL;
 }

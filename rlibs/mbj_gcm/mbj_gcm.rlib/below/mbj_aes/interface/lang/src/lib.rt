@@ -1,0 +1,4 @@
+pub use register :: BlockWord ;
+pub use schedule :: Schedule ;
+mod register ;
+mod schedule ;

@@ -1,0 +1,2 @@
+pub use narrow :: text_key :: TextKey ;
+mod narrow ;

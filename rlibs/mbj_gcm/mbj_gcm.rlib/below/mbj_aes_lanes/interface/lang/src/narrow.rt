@@ -1,0 +1,3 @@
+pub mod by_fours ;
+pub mod schedules ;
+pub mod text_key ;

@@ -1,0 +1,2 @@
+pub use lane8 :: Lane8 ;
+mod lane8 ;

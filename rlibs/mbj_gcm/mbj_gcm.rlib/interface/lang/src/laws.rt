@@ -1,0 +1,2 @@
+pub fn unsealing_undoes_sealing ( )
+    ensures { } ;

@@ -1,0 +1,11 @@
+mod counter ;
+mod hash ;
+mod in_place ;
+mod laws ;
+pub use counter :: masks_after ;
+pub use counter :: pre_counter_block ;
+pub use counter :: risen ;
+pub use hash :: length_block ;
+pub use in_place :: seal ;
+pub use in_place :: unseal ;
+pub use laws :: unsealing_undoes_sealing ;

@@ -1,0 +1,3 @@
+mod Undoing
+pub mod RisenCounters
+pub mod Tags

@@ -1,0 +1,2 @@
+-- What functions that make counter blocks and passes cite.
+pub mod First

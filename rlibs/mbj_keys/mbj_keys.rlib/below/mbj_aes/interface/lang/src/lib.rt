@@ -1,0 +1,2 @@
+pub use schedule :: Schedule ;
+mod schedule ;

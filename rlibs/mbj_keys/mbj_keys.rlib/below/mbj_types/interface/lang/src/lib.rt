@@ -1,0 +1,2 @@
+pub use bytes :: Bytes ;
+mod bytes ;

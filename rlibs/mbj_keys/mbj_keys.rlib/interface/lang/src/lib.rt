@@ -1,0 +1,12 @@
+mod entry ;
+mod keys ;
+mod laws ;
+mod notes ;
+mod session ;
+pub use entry :: KeyEntry ;
+pub use keys :: Keys ;
+pub use laws :: agree ;
+pub use laws :: keys_cross_threads ;
+pub use notes :: Notes ;
+# [ doc ( hidden ) ] pub use session :: Session ;
+# [ doc ( hidden ) ] pub use session :: SessionNote ;

@@ -1,0 +1,10 @@
+mod entry ;
+mod keys ;
+mod laws ;
+mod notes ;
+mod session ;
+pub use entry :: KeyEntry ;
+pub use keys :: Keys ;
+pub use laws :: { agree , keys_cross_threads } ;
+pub use notes :: Notes ;
+# [ doc ( hidden ) ] pub use session :: { Session , SessionNote } ;

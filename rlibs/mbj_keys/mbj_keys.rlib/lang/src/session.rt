@@ -1,0 +1,58 @@
+ghost use Rattle.std.specs.Prelude.{◌≡◌, ◌↔◌, None, Some, IfOk, IfSome, IsSome, IsTrue, OnErr, OnOk, length};
+ghost use Rattle.mbj_aes.specs.Bytes.{IsKeySize};
+ghost use Rattle.mbj_keys.specs.Sessions.{IsOf, unlearnt};
+use crate :: entry :: KeyEntry ;
+use mbj_types :: Bytes ;
+use once_cell :: race :: { Note , OnceBox } ;
+use std :: alloc :: { AllocError , Global } ;
+use std :: marker :: Model ;
+# [ derive ( Drop ) ] pub struct Session { key : Bytes , cell : OnceBox < KeyEntry > , }
+impl Model for Session {
+    ghost use Rattle.std.specs.Prelude.{length};
+    ghost use Rattle.mbj_aes.specs.Bytes.{IsKeySize};
+    ghost use Rattle.once_cell.specs.Once.{cell_name};
+    ghost use Rattle.mbj_keys.specs.Sessions.{Session as Seen};
+    ghost Value = { Seen };
+    ghost view = { λ s. record { key = s.key; cell = cell_name s.cell } };
+    ghost invariant = { λ s. IsKeySize (length s.key) };
+}
+impl Session {
+pub ( crate ) fn new ( alloc : Global , key : Vec < u8 > ) -> Session
+        requires { IsKeySize (length key.items) }
+        ensures { result.key ≡ key.items } ;
+pub ( crate ) fn key ( & self ) -> & [ u8 ]
+        ensures key { result.now ≡ self.now.key }
+        ensures size { IsKeySize (length result.now) } ;
+}
+# [ derive ( Drop ) ] pub struct SessionNote { note : Note < KeyEntry > , is_learnt : bool , }
+impl Model for SessionNote {
+    ghost use Rattle.std.specs.Prelude.{None, IsSome, IsTrue, if◌then◌else◌};
+    ghost use Rattle.mbj_keys.specs.Sessions.{Known};
+    ghost Value = { Known };
+    ghost view = { λ n. record { cell = n.note.cell; entry = (if n.is_learnt then n.note.known else None) } };
+    ghost invariant = { λ n. IsTrue n.is_learnt → IsSome n.note.known };
+}
+impl SessionNote {
+pub ( crate ) fn of ( session : & Session ) -> SessionNote
+        ensures { result ≡ unlearnt session.now } ;
+pub ( crate ) fn is_learnt ( & self ) -> bool
+        ensures { IsTrue result ↔ IsSome self.now.entry } ;
+pub ( crate ) fn learn ( & mut self , alloc : Global , session : & Session ) -> Result < ( ) , AllocError >
+        requires { IsOf session.now self.old }
+        ensures is_of { IsOf session.now self.new }
+        ensures learnt { OnOk result (IsSome self.new.entry) }
+        ensures kept { IfSome self.old.entry (λ e. self.new.entry ≡ Some e) }
+        ensures err { OnErr result (self.new ≡ self.old) } ;
+pub ( crate ) fn entry < 'a > ( & mut self , session : & 'a Session ) -> & 'a KeyEntry
+        requires cell { self.old.cell ≡ session.now.cell }
+        requires learnt { IsSome self.old.entry }
+        ensures same { self.new ≡ self.old }
+        ensures entry { self.old.entry ≡ Some result.now } ;
+pub ( crate ) fn agree ( & mut self , other : & mut SessionNote )
+        requires cell { other.old.cell ≡ self.old.cell }
+        requires learnt { IsSome self.old.entry }
+        requires other_learnt { IsSome other.old.entry }
+        ensures same { self.new ≡ self.old }
+        ensures other_same { other.new ≡ other.old }
+        ensures agree { self.old.entry ≡ other.old.entry } ;
+}
