@@ -1,4 +1,0 @@
-pub use register :: BlockWord ;
-pub use schedule :: Schedule ;
-mod register ;
-mod schedule ;

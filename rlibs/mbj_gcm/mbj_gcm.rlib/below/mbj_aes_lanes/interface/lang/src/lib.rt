@@ -1,2 +1,0 @@
-pub use narrow :: text_key :: TextKey ;
-mod narrow ;

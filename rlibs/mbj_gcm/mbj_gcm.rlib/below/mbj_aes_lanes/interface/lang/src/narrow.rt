@@ -1,3 +1,0 @@
-pub mod by_fours ;
-pub mod schedules ;
-pub mod text_key ;

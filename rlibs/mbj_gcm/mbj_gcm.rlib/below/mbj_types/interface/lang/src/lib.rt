@@ -1,2 +1,0 @@
-pub use lane8 :: Lane8 ;
-mod lane8 ;

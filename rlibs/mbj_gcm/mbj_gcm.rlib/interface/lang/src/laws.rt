@@ -1,2 +1,0 @@
-pub fn unsealing_undoes_sealing ( )
-    ensures { } ;

@@ -1,3 +1,0 @@
-mod Undoing
-pub mod RisenCounters
-pub mod Tags

@@ -1,2 +1,0 @@
--- What functions that make counter blocks and passes cite.
-pub mod First

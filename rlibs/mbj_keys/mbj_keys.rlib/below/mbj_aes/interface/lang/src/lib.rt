@@ -1,2 +1,0 @@
-pub use schedule :: Schedule ;
-mod schedule ;

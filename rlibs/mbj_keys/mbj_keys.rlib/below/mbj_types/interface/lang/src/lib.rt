@@ -1,2 +1,0 @@
-pub use bytes :: Bytes ;
-mod bytes ;
