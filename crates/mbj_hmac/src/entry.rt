@@ -16,6 +16,7 @@ use crate::ends::{
 use crate::form::Form;
 use crate::key::{MAX_BLOCK_BYTES, hash_key};
 use crate::lane_hash::LaneHash;
+use crate::places::{Places, source};
 use mbj_types::{Auth, AuthClass, HashName, Tag};
 use std::alloc::Global;
 use std::marker::Model;
@@ -43,18 +44,20 @@ pub struct HmacEntry<H: LaneHash> {
     ends: H::Ends,
     off: usize,
     len: usize,
+    places: Places,
 }
 
 impl<H: LaneHash> Model for HmacEntry<H> {
     ghost use Rattle.mbj_hmac.specs.Rounds.{HmacState};
-    ghost use Rattle.mbj_hmac.specs.Inside.Layout.{seen, IsKept};
+    ghost use Rattle.mbj_hmac.specs.Inside.Layout.{seen, IsKept, IsPlaced};
 
     ghost Value = { HmacState };
 
     ghost view = { λ e. seen H.chaining e.packet.items e.rest (H.words e.chain) (H.words e.inner) (H.words e.start) e.hash e.form (H.ends_bytes e.ends) e.off e.len };
 
     ghost invariant = { λ e. IsKept H.chaining (H.ends_bytes e.ends)
-        (seen H.chaining e.packet.items e.rest (H.words e.chain) (H.words e.inner) (H.words e.start) e.hash e.form (H.ends_bytes e.ends) e.off e.len) };
+        (seen H.chaining e.packet.items e.rest (H.words e.chain) (H.words e.inner) (H.words e.start) e.hash e.form (H.ends_bytes e.ends) e.off e.len)
+        × IsPlaced H.chaining.block_bytes e.form e.len e.places };
 }
 
 impl<H: LaneHash> HmacEntry<H> {
@@ -73,6 +76,7 @@ impl<H: LaneHash> HmacEntry<H> {
             ends: H::blank_ends(),
             off: 0,
             len: 0,
+            places: Places::of::<H>(Form::Plain, 0),
         }
     }
 
@@ -199,6 +203,7 @@ impl<H: LaneHash> HmacEntry<H> {
         self.form = Form::Keyed;
         self.off = off;
         self.len = len;
+        self.places = Places::of::<H>(Form::Keyed, len);
     }
 
     /// Becomes a digest of which nothing is done, by its hash.
@@ -218,6 +223,7 @@ impl<H: LaneHash> HmacEntry<H> {
         self.form = Form::Plain;
         self.off = off;
         self.len = len;
+        self.places = Places::of::<H>(Form::Plain, len);
     }
 
     /// Becomes an HMAC from the hash values of its states, of which nothing is done.
@@ -245,6 +251,7 @@ impl<H: LaneHash> HmacEntry<H> {
         self.form = Form::States;
         self.off = off;
         self.len = len;
+        self.places = Places::of::<H>(Form::States, len);
     }
 
     /// The packet, and the digest or HMAC in full. No round is left.
@@ -273,18 +280,14 @@ impl<H: LaneHash> HmacEntry<H> {
         ensures length { length result.now ≡ H.chaining.block_bytes }
     {
         let block = H::block_bytes();
-        let rest = (self.rest - done) as usize;
-        let whole = self.len / block;
-        let behind = tail_blocks::<H>(self.len) + self.outer_rounds() as usize;
-        if rest <= behind {
-            let at = block + block * (behind - rest);
-            &H::ends(&self.ends)[at..at + block]
-        } else if rest <= behind + whole {
-            let at = self.off + block * (behind + whole - rest);
-            &self.packet[at..at + block]
-        } else {
-            &H::ends(&self.ends)[..block]
-        }
+        let rest = self.rest - done;
+        let at = self.places.place(rest, self.off, block);
+        let source = source(
+            self.places.is_in_packet(rest),
+            &self.packet,
+            H::ends(&self.ends),
+        );
+        &source[at..at + block]
     }
 
     /// How many rounds are left.
@@ -340,6 +343,7 @@ impl<H: LaneHash> HmacEntry<H> {
             ends: self.ends,
             off: self.off,
             len: self.len,
+            places: self.places,
         }
     }
 

@@ -10,6 +10,7 @@ mod kernel;
 mod key;
 mod lane_hash;
 mod lanes;
+mod places;
 mod plain;
 mod rests;
 mod sha1_lanes;

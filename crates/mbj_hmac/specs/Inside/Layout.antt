@@ -1,11 +1,12 @@
 -- How an entry lays out the blocks that don't stand whole in the packet: the inner pad, the end of the message with its padding,
 -- the outer pad, and the inner digest with its padding. A digest has the end of the message alone, at the same place, and an HMAC from
 -- states has the inner digest right behind it.
-use Rattle.std.specs.Prelude.{IsTrue, ◌≡◌, ℕ, ◌+◌, ◌-◌, ◌*◌, ◌/◌, ◌%◌, ◌≤◌, ◌<◌, ◌^◌, nat_lt, List, [], ◌∷◌, ◌++◌, ◌⊎◌, length, take, drop, replicate, if◌then◌else◌}
+use Rattle.std.specs.Prelude.{IsTrue, Bool, false, ◌≡◌, ℕ, ◌+◌, ◌-◌, ◌*◌, ◌/◌, ◌%◌, ◌≤◌, ◌<◌, ◌^◌, nat_lt, List, [], ◌∷◌, ◌++◌, ◌⊎◌, length, take, drop, replicate, if◌then◌else◌}
 use Rattle.std.specs.Int.{w64, to_be_bytes}
 use Rattle.mbj_types.specs.declared.class.HashName.{HashName}
 use Rattle.mbj_hmac.specs.declared.form.Form.{Form}
-use Rattle.mbj_hmac.specs.Forms.{has_pads, rounds_in}
+use Rattle.mbj_hmac.specs.declared.places.Places.{Places}
+use Rattle.mbj_hmac.specs.Forms.{has_pads, outer_rounds_of, rounds_in}
 use Rattle.mbj_hmac.specs.Rounds.{Chaining, HmacState, inner_text, outer_rounds, outer_text}
 
 module _ (b : ℕ) where
@@ -24,6 +25,22 @@ module _ (b : ℕ) where
   -- the padding of a message of n bytes
   abbrev pub padding_of : ℕ → List ℕ
   padding_of n = 0x80 ∷ replicate (fill n) 0 ++ to_be_bytes w64 (n * 8)
+
+-- up to which rest an entry's blocks stand behind its first one, and up to which, above that, they are the message's whole ones
+pub record IsPlaced (b : ℕ) (form : Form) (len : ℕ) (p : Places) : Type 0 where
+  pub behind : p.behind ≡ tail_blocks b len + outer_rounds_of form
+  pub high : p.high ≡ p.behind + whole_blocks b len
+
+-- the block with this rest stands in the packet
+abbrev pub is_in_packet : Places → ℕ → Bool
+is_in_packet p rest = if nat_lt p.high rest then false else nat_lt p.behind rest
+
+-- where it begins, for blocks of b bytes and a message from `off` on
+abbrev pub place_at : ℕ → Places → ℕ → ℕ → ℕ
+place_at b p rest off =
+    if nat_lt p.high rest then 0
+    else if nat_lt p.behind rest then off + b * (p.high - rest)
+    else b + b * (p.behind - rest)
 
 -- what the layout takes for granted of a hash: its blocks have 64 or 128 bytes, its padding is that of FIPS 180-4, behind its digest a
 -- block has room for padding, and a state is stored whole and with nothing lost

@@ -28,8 +28,10 @@ invariant_of-self g c =
       whole = c.put_first_ends.ensures.length;
       ends_are = ends;
       served = c.requires.serves;
-    } in
-    new_sound h std packet off len a made front back zeros facts (g.H.LaneHash.words c.initial-self-inside.result) (g.H.LaneHash.words c.initial-self-inside-2.result) c.rounds-self-inside.result c.rounds-self-inside.ensures
+    } in (
+      new_sound h std packet off len a made front back zeros facts (g.H.LaneHash.words c.initial-self-inside.result) (g.H.LaneHash.words c.initial-self-inside-2.result) c.rounds-self-inside.result c.rounds-self-inside.ensures,
+      c.of-self-inside.ensures,
+    )
 
 pub returns-clause-start : goal.returns-clause-start
 returns-clause-start g c =

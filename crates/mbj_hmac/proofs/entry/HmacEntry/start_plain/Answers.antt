@@ -5,7 +5,7 @@ use Rattle.mbj_hmac.proofs.NewEntries.{plain_sound, plain_seen}
 use Rattle.mbj_hmac.proofs.entry.HmacEntry.start_plain.Goals as goal
 
 pub put_plain_ends-requires-clause-whole : goal.put_plain_ends-requires-clause-whole
-put_plain_ends-requires-clause-whole g c = c.self.invariant.3
+put_plain_ends-requires-clause-whole g c = c.self.invariant.0.3
 
 pub invariant_of-self : goal.invariant_of-self
 invariant_of-self g c =
@@ -14,9 +14,11 @@ invariant_of-self g c =
     let off = c.args.off in
     let len = c.args.len in
     let words = g.H.LaneHash.words in
-    let ends = c.put_plain_ends.ensures.value ∙ ap (λ (p : List ℕ). message_end h 0 p off len) c.deref.ensures.value in
-    plain_sound h g.met.H.LaneHash.standard packet off len c.args.hash (g.H.LaneHash.ends_bytes c.put_plain_ends.new.ends) (words c.initial-self-inside.result) (words c.zeros-self-inside.result) (words c.zeros-self-inside-2.result)
-    c.plain_rounds-self-inside.result c.requires.range c.ranges.len.fits c.put_plain_ends.ensures.length c.requires.serves ends c.plain_rounds-self-inside.ensures.value
+    let ends = c.put_plain_ends.ensures.value ∙ ap (λ (p : List ℕ). message_end h 0 p off len) c.deref.ensures.value in (
+      plain_sound h g.met.H.LaneHash.standard packet off len c.args.hash (g.H.LaneHash.ends_bytes c.put_plain_ends.new.ends) (words c.initial-self-inside.result) (words c.zeros-self-inside.result) (words c.zeros-self-inside-2.result)
+          c.plain_rounds-self-inside.result c.requires.range c.ranges.len.fits c.put_plain_ends.ensures.length c.requires.serves ends c.plain_rounds-self-inside.ensures.value,
+      c.of-self-inside.ensures,
+    )
 
 pub returns : goal.returns
 returns g c =

@@ -4,7 +4,7 @@ use Rattle.mbj_hmac.proofs.NewEntries.{states_sound, states_seen}
 use Rattle.mbj_hmac.proofs.entry.HmacEntry.start_states.Goals as goal
 
 pub put_states_ends-requires-clause-whole : goal.put_states_ends-requires-clause-whole
-put_states_ends-requires-clause-whole g c = c.self.invariant.3
+put_states_ends-requires-clause-whole g c = c.self.invariant.0.3
 
 pub invariant_of-self : goal.invariant_of-self
 invariant_of-self g c =
@@ -14,9 +14,11 @@ invariant_of-self g c =
     let len = c.args.len in
     let hash = c.args.hash in
     let ends = c.put_states_ends.ensures.value
-    ∙ ap₂ (λ (p s : List ℕ). message_end h h.block_bytes p off len ++ digest_block h hash s) c.deref.ensures.value (sym c.zeros-self-inside.ensures) in
-    states_sound h g.met.H.LaneHash.standard c.args.packet.items off len hash (g.H.LaneHash.ends_bytes c.put_states_ends.new.ends) (words c.args.inner) (words c.zeros-self-inside.result)
-    (words c.args.outer) c.states_rounds-self-inside.result c.requires.range c.ranges.len.fits c.put_states_ends.ensures.length c.requires.serves ends c.states_rounds-self-inside.ensures
+    ∙ ap₂ (λ (p s : List ℕ). message_end h h.block_bytes p off len ++ digest_block h hash s) c.deref.ensures.value (sym c.zeros-self-inside.ensures) in (
+      states_sound h g.met.H.LaneHash.standard c.args.packet.items off len hash (g.H.LaneHash.ends_bytes c.put_states_ends.new.ends) (words c.args.inner) (words c.zeros-self-inside.result)
+          (words c.args.outer) c.states_rounds-self-inside.result c.requires.range c.ranges.len.fits c.put_states_ends.ensures.length c.requires.serves ends c.states_rounds-self-inside.ensures,
+      c.of-self-inside.ensures,
+    )
 
 pub returns : goal.returns
 returns g c =

@@ -38,10 +38,12 @@ invariant_of-self g c =
     let outer : c.outer_rounds-outer.result ≡ outer_rounds_of f.form = c.outer_rounds-outer.ensures ∙ ap (λ (e : HmacState). outer_rounds e) (sym c.self.view_is) in
     let some : 0 < outer_rounds_of f.form = omega (arith, outer, c.if-outer-gt0.true) in
     let next : f.rest ≡ outer_rounds_of f.form = omega (arith, outer, c.if-self-outer.true) in
-    let written = rw (c.block_bytes.ensures, c.tail_blocks.ensures, outer) at c.put_digest.ensures.written in
-    kept h (bytes c.put_digest.new.ends) (seen h f.packet.items f.rest (words f.start) (words f.chain) (words f.start) f.hash f.form (bytes c.put_digest.new.ends) f.off f.len)
-    (turned_sound h g.met.H.LaneHash.standard f.packet.items (words f.chain) (words f.inner) (words f.start) f.hash f.form some (bytes f.ends) (bytes c.put_digest.new.ends)
-    f.rest f.off f.len (c.self.invariant.0 (omega (arith, some, next))) written c.put_digest.ensures.len)
+    let written = rw (c.block_bytes.ensures, c.tail_blocks.ensures, outer) at c.put_digest.ensures.written in (
+      kept h (bytes c.put_digest.new.ends) (seen h f.packet.items f.rest (words f.start) (words f.chain) (words f.start) f.hash f.form (bytes c.put_digest.new.ends) f.off f.len)
+          (turned_sound h g.met.H.LaneHash.standard f.packet.items (words f.chain) (words f.inner) (words f.start) f.hash f.form some (bytes f.ends) (bytes c.put_digest.new.ends)
+          f.rest f.off f.len (c.self.invariant.0.0 (omega (arith, some, next))) written c.put_digest.ensures.len),
+      c.self.invariant.1,
+    )
 
 pub returns-then-self-outer : goal.returns-then-self-outer
 returns-then-self-outer g c =
@@ -54,5 +56,5 @@ returns-then-self-outer g c =
     let next : f.rest ≡ outer_rounds_of f.form = omega (arith, outer, c.if-self-outer.true) in
     let written = rw (c.block_bytes.ensures, c.tail_blocks.ensures, outer) at c.put_digest.ensures.written in
     turned_seen h g.met.H.LaneHash.standard f.packet.items (words f.chain) (words f.inner) (words f.start) f.hash f.form some (bytes f.ends) (bytes c.put_digest.new.ends)
-    f.rest f.off f.len (c.self.invariant.0 (omega (arith, some, next))) written (turn_is f.form f.rest some next)
+    f.rest f.off f.len (c.self.invariant.0.0 (omega (arith, some, next))) written (turn_is f.form f.rest some next)
     ∙ ap (turned h) c.self.view_is

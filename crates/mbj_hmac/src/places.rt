@@ -1,0 +1,64 @@
+// Where the blocks of an entry stand, by the rounds that are left.
+ghost use Rattle.std.specs.Prelude.{◌≡◌, ◌+◌, ◌*◌, ◌^◌, ◌<◌, ◌≤◌, false, nat_lt, if◌then◌else◌};
+ghost use Rattle.mbj_hmac.specs.Inside.Layout.{IsPlaced, is_in_packet, place_at};
+
+use crate::ends::tail_blocks;
+use crate::form::Form;
+use crate::lane_hash::LaneHash;
+
+/// Where the blocks of an entry stand. They are counted from the last one, which has the least number of rounds left.
+#[derive(Clone, Copy)]
+pub(crate) struct Places {
+    /// Up to this rest they stand in the entry, behind its first block.
+    behind: u32,
+    /// Above that, and up to this rest, they stand in the packet. Above this there is the first block of the entry.
+    high: u32,
+}
+
+impl Places {
+    /// Those of an entry over `len` bytes.
+    #[inline(always)]
+    pub(crate) fn of<H: LaneHash>(form: Form, len: usize) -> Places
+        requires { len < 2 ^ 32 }
+        ensures { IsPlaced H.chaining.block_bytes form len result }
+    {
+        let behind = tail_blocks::<H>(len) as u32 + form.outer_rounds();
+        Places {
+            behind,
+            high: behind + (len / H::block_bytes()) as u32,
+        }
+    }
+
+    /// The block stands in the packet.
+    #[inline(always)]
+    pub(crate) fn is_in_packet(self, rest: u32) -> bool
+        ensures { result ≡ is_in_packet self rest }
+    {
+        self.behind < rest && rest <= self.high
+    }
+
+    /// Where the block begins, in the packet or in the entry. The message is in the packet from `off` on.
+    #[inline(always)]
+    pub(crate) fn place(self, rest: u32, off: usize, block: usize) -> usize
+        requires off { off < 2 ^ 63 }
+        requires block { block ≤ 128 }
+        ensures place { result ≡ place_at block self rest off }
+        ensures few { result < 2 ^ 63 + 2 ^ 40 }
+    {
+        if rest > self.high {
+            0
+        } else if rest > self.behind {
+            off + block * (self.high - rest) as usize
+        } else {
+            block + block * (self.behind - rest) as usize
+        }
+    }
+}
+
+/// The bytes in which a block stands.
+#[inline(always)]
+pub(crate) fn source<'a>(is_in_packet: bool, packet: &'a [u8], ends: &'a [u8]) -> &'a [u8]
+    ensures { result.now ≡ if is_in_packet then packet.now else ends.now }
+{
+    if is_in_packet { packet } else { ends }
+}
