@@ -1,12 +1,12 @@
 -- An entry of which nothing is done, by its authentication.
-use Rattle.std.proofs.Common.{◌≡◌, Bool, ℕ, ◌+◌, ◌*◌, ◌^◌, ◌≤◌, ◌<◌, List, length, take, drop, refl, sym, ap, subst, ◌∙◌, arith, true, false, ◌||◌}
+use Rattle.std.proofs.Common.{◌≡◌, Bool, ℕ, ◌+◌, ◌^◌, ◌≤◌, ◌<◌, List, length, take, drop, refl, sym, ap, subst, ◌∙◌, arith, true, false, ◌||◌}
 use Rattle.std.proofs.lemmas.List.{length-map}
 use Rattle.std.specs.Prelude.{IsTrue, bit_xor}
 use Rattle.mbj_types.specs.declared.class.AuthClass.{AuthClass}
 use Rattle.mbj_types.specs.declared.class.AuthClass.TheVariants as class
 use Rattle.mbj_types.specs.declared.class.HashName.{HashName}
 use Rattle.mbj_types.specs.Auths.{compression_of_name, hash_of_name}
-use Rattle.mbj_types.specs.Hmac.{Hash, block_key, hmac, ipad, opad, padded_key}
+use Rattle.mbj_types.specs.Hmac.{Hash, block_key, ipad, opad, padded_key}
 use Rattle.mbj_types.specs.States.{Compression, hmac_from_states}
 use Rattle.mbj_lane.specs.Rounds.{end_of}
 use Rattle.mbj_hmac.specs.Names.{serves_class, serves_lanes_class, serves_plain_class, serves_states_class}

@@ -3,7 +3,6 @@ use Rattle.std.proofs.Common.{◌≡◌, ℕ, ◌+◌, ◌-◌, ◌*◌, ◌^◌
 use Rattle.std.proofs.lemmas.List.{length-take-le, length-map, drop-take}
 use Rattle.std.proofs.Math.Seq.{drop-append_seam}
 use Rattle.std.specs.Prelude.{bit_xor}
-use Rattle.mbj_types.specs.declared.class.HashName.{HashName}
 use Rattle.mbj_types.specs.Hmac.{padded_key, ipad, opad}
 use Rattle.mbj_hmac.specs.Rounds.{Chaining}
 use Rattle.mbj_hmac.specs.Inside.Layout.{IsStandard, whole_blocks, tail_blocks, message_end, first_ends}
@@ -15,7 +14,7 @@ module _ (h : Chaining) (std : IsStandard h) where
   b = h.block_bytes
 
   -- what is written behind the first block
-  pub behind_first : (t : ℕ) (xs old x : List ℕ) → length old ≡ 5 * b → take (b * (t + 1)) xs ≡ take b old ++ x → take (b * t) (drop b xs) ≡ x
+  pub behind_first : (t : ℕ) (xs old x : List ℕ) → length old ≡ 4 * b → take (b * (t + 1)) xs ≡ take b old ++ x → take (b * t) (drop b xs) ≡ x
   behind_first t xs old x whole written =
       let i : b * (t + 1) ≡ b + b * t = omega arith in
       let l : length (take b old) ≡ b = length-take-le b old (omega (arith, (size_range b std.size).1)) in
@@ -27,19 +26,11 @@ module _ (h : Chaining) (std : IsStandard h) where
     t = tail_blocks b len
 
     -- all of it fits
-    pub ends_fit : b * (t + 3) ≤ 5 * b
-    ends_fit = omega (arith, times_le b std.size (t + 3) 5 (omega (arith, (tail_range b std.size len).1)))
+    pub ends_fit : b * (t + 2) ≤ 4 * b
+    ends_fit = omega (arith, times_le b std.size (t + 2) 4 (omega (arith, (tail_range b std.size len).1)))
 
-    pub end_fits : b * (t + 1) ≤ 5 * b
-    end_fits = omega (arith, times_le b std.size (t + 1) 5 (omega (arith, (tail_range b std.size len).1)))
-
-    -- what is written behind the message's end
-    pub both_behind : (old mid xs x y : List ℕ) (at : ℕ) → length old ≡ 5 * b → at ≡ b * (t + 1) → take (b * (t + 1)) mid ≡ take b old ++ x
-        → take (at + b) xs ≡ take at mid ++ y → take (b * (t + 1)) (drop b xs) ≡ x ++ y
-    both_behind old mid xs x y at whole e first second =
-        let n : b * (t + 1 + 1) ≡ at + b = omega (arith, e) in
-        behind_first (t + 1) xs old (x ++ y) whole
-        (ap (λ k. take k xs) n ∙ second ∙ ap (λ k. take k mid ++ y) e ∙ ap (λ l. l ++ y) first ∙ append_assoc (take b old) x y)
+    pub end_fits : b * (t + 1) ≤ 4 * b
+    end_fits = omega (arith, times_le b std.size (t + 1) 4 (omega (arith, (tail_range b std.size len).1)))
 
     -- the end of a message
     module _ (packet : List ℕ) (off : ℕ) where
@@ -86,8 +77,7 @@ module _ (h : Chaining) (std : IsStandard h) where
     pub pad_fills : (pad : ℕ) (x : List ℕ) → length key ≡ 128 → x ≡ pad_block pad → length x ≡ b
     pad_fills pad x l is = ap length is ∙ length-pad pad l
 
-    -- the pieces, and the digest of a hash value s behind them
-    pub ends_made : (packet : List ℕ) (off len : ℕ) (a : HashName) (blk : ℕ) (s zeros x y : List ℕ) → blk ≡ b → s ≡ zeros → x ≡ pad_block ipad → y ≡ pad_block opad
-        → ((x ++ message_end h blk packet off len) ++ y) ++ (h.digest a s ++ h.padding (b + length (h.digest a s)))
-        ≡ first_ends h a (pad_block ipad) (pad_block opad) zeros packet off len
-    ends_made packet off len a blk s zeros x y eb es ex ey = rw (eb, es, ex, ey) refl
+    -- the pieces
+    pub ends_made : (packet : List ℕ) (off len : ℕ) (blk : ℕ) (x y : List ℕ) → blk ≡ b → x ≡ pad_block ipad → y ≡ pad_block opad
+        → (x ++ message_end h blk packet off len) ++ y ≡ first_ends h (pad_block ipad) (pad_block opad) packet off len
+    ends_made packet off len blk x y eb ex ey = rw (eb, ex, ey) refl

@@ -1,22 +1,19 @@
 -- Entries in lanes, as the lanes go on.
-use Rattle.std.proofs.Common.{◌≡◌, ◌∙◌, ℕ, zero, suc, ◌+◌, ◌-◌, ◌≤◌, ◌<◌, ◌^◌, ◌&&◌, Bool, true, false, eqb, inl, inr, List, [], ◌∷◌, ◌++◌, length, length-set, map, set, get_or, Option, Some, None, get_or-set_same, get_or-set_other, refl, sym, ap, ap₂, add-one, arith}
+use Rattle.std.proofs.Common.{◌≡◌, ◌∙◌, ℕ, zero, suc, ◌+◌, ◌-◌, ◌≤◌, ◌<◌, ◌&&◌, Bool, true, false, eqb, cond, inl, inr, List, [], ◌∷◌, ◌++◌, length, length-set, map, set, get_or, Option, Some, None, get_or-set_same, get_or-set_other, refl, sym, ap, ap₂, add-one, arith}
 use Rattle.std.specs.Prelude.{nat_lt, if◌then◌else◌}
 use Rattle.std.specs.Option.{option_map}
 use Rattle.std.proofs.lemmas.Bool.{cases_eq, cases_lt, eq-eqb, ne_eqb, eqb-true, lt-ltb, le-ltb}
-use Rattle.std.proofs.lemmas.List.{get_or_default, length-map}
+use Rattle.std.proofs.lemmas.List.{length-map}
 use Rattle.std.proofs.lemmas.List.FromFn.{get_or-map-range_with_len}
 use Rattle.mbj_types.specs.Lanes.{lane_at}
 use Rattle.mbj_lane.specs.Rounds.{after}
 use Rattle.mbj_lane.specs.Laws.{after-after}
 use Rattle.mbj_lane.specs.Slots.{IsLeast}
 use Rattle.mbj_lane.proofs.Halfway.{halfway, get_or-halfway, set-halfway}
-use Rattle.mbj_hmac.specs.declared.form.Form.{Form}
-use Rattle.mbj_hmac.specs.Forms.{outer_rounds_of}
 use Rattle.mbj_hmac.specs.Rounds.{Chaining, HmacState, advanced, block_before, is_turn, outer_rounds, rest_of, round, turned}
-use Rattle.mbj_hmac.specs.Laws.Falls.{turned_rest}
 use Rattle.mbj_hmac.specs.Laws.Tests.{not_both}
-use Rattle.mbj_hmac.specs.Inside.InLanes.{AreTied, IsTied, blank, block_in, entry_in, idle, lowered, most_lanes, moved, reach_at, reach_of, seen_at, slot_at, slot_in, slots_of, turn_of, with_chain}
-use Rattle.mbj_hmac.proofs.Passes.{after_moved, chain_next, rounds_are_blocks, turned_form}
+use Rattle.mbj_hmac.specs.Inside.InLanes.{AreReady, AreTied, IsReady, IsTied, blank, entry_in, idle, lowered, most_lanes, moved, never, reach_at, reach_of, seen_at, slot_at, slot_in, slots_of, turn_of, with_chains}
+use Rattle.mbj_hmac.proofs.Passes.{after_moved, chain_next, rounds_are_blocks}
 
 -- ---- places
 
@@ -86,13 +83,6 @@ tied_rest r t e tied busy = elim tied [ inl p ↦ absurd (omega (arith, p.0)) | 
 pub tied_turn : (r t : ℕ) (e : HmacState) → IsTied r t e → r < idle → t ≡ turn_of e
 tied_turn r t e tied busy = elim tied [ inl p ↦ absurd (omega (arith, p.0)) | inr p ↦ p.2 ]
 
--- the tie is by rest and form alone
-tied_same : (r t : ℕ) (e x : HmacState) → x.rest ≡ e.rest → x.form ≡ e.form → IsTied r t e → IsTied r t x
-tied_same r t e x rest form tied = elim tied [
-  | inl p ↦ inl (p.0, rest ∙ p.1)
-  | inr p ↦ inr (p.0, p.1 ∙ sym rest, p.2 ∙ ap (λ (f : Form). if nat_lt 0 (outer_rounds_of f) then outer_rounds_of f else 2 ^ 32 - 1) (sym form))
-]
-
 tied_moved : (m r t : ℕ) (e : HmacState) → IsTied r t e → IsTied (lowered m r) t (moved m e)
 tied_moved m r t e tied = elim tied [
   | inl p ↦ inl (ap (lowered m) p.0, omega (arith, p.1))
@@ -104,11 +94,11 @@ pub tied_reach : (r t : ℕ) (e : HmacState) → IsTied r t e → r < idle → r
 tied_reach r t e tied busy =
     let rest : r ≡ e.rest = tied_rest r t e tied busy in
     let turn : t ≡ turn_of e = tied_turn r t e tied busy in
-    let reach : (o n : ℕ) → n < idle → reach_at n (if nat_lt 0 o then o else 2 ^ 32 - 1) ≡ (if nat_lt o n then n - o else n) = tied_reach_by in
+    let reach : (o n : ℕ) → n < idle → reach_at n (if nat_lt 0 o then o else never) ≡ (if nat_lt o n then n - o else n) = tied_reach_by in
     ap₂ reach_at rest turn ∙ reach (outer_rounds e) e.rest (omega (arith, rest))
   where
-    tied_reach_by : (o n : ℕ) → n < idle → reach_at n (if nat_lt 0 o then o else 2 ^ 32 - 1) ≡ (if nat_lt o n then n - o else n)
-    tied_reach_by zero n h = rw (le-ltb (2 ^ 32 - 1) n (omega arith)) (elim (cases_lt 0 n) [ inl lt ↦ rw (lt-ltb 0 n lt) (omega arith) | inr le ↦ rw (le-ltb 0 n le) refl ])
+    tied_reach_by : (o n : ℕ) → n < idle → reach_at n (if nat_lt 0 o then o else never) ≡ (if nat_lt o n then n - o else n)
+    tied_reach_by zero n h = rw (le-ltb never n (omega arith)) (elim (cases_lt 0 n) [ inl lt ↦ rw (lt-ltb 0 n lt) (omega arith) | inr le ↦ rw (le-ltb 0 n le) refl ])
     tied_reach_by (suc o) n h = rw (lt-ltb 0 (suc o) (omega arith)) refl
 
 -- what goes no round is in no lane
@@ -126,13 +116,23 @@ module _ (rests turns : List ℕ) (es : List HmacState) (tied : AreTied rests tu
     past = λ i h le. is i h ∙ ap (lowered m) (tied.past i h (omega (arith, length-map es (moved m))));
   }
 
+-- what is ready stays so, as the entries go on
+pub all_ready : (h : Chaining) (m : ℕ) (starts : ℕ → List ℕ) (bits rests rests' turns : List ℕ) (es : List HmacState) → AreTied rests turns es
+    → ((i : ℕ) → i < most_lanes → lane_at 32 rests' i ≡ lowered m (lane_at 32 rests i)) → AreReady h starts bits rests es
+    → AreReady h starts bits rests' (map (moved m) es)
+all_ready h m starts bits rests rests' turns es tied is ready i l busy =
+    let r : ℕ = lane_at 32 rests i in
+    let was : r < idle = was_busy m r (lane_at 32 rests' i) (tied_le r (lane_at 32 turns i) (entry_in es i) (tied.tied i l)) (is i l) busy in
+    let one = ready i l was in
+    rw (entry_in-moved m es i) (one.0, record { bits = one.1.bits; served = one.1.served; back = one.1.back })
+
 -- ---- turns
 
 -- where the outer hash's first block isn't next, nothing is turned
 unturned : (h : Chaining) (e : HmacState) → (e.rest ≡ turn_of e → ⊥) → turned h e ≡ e
 unturned h e apart = go (is_turn e) refl
   where
-    at_turn : (o : ℕ) → (nat_lt 0 o && eqb e.rest o) ≡ true → e.rest ≡ (if nat_lt 0 o then o else 2 ^ 32 - 1)
+    at_turn : (o : ℕ) → (nat_lt 0 o && eqb e.rest o) ≡ true → e.rest ≡ (if nat_lt 0 o then o else never)
     at_turn o q = elim (cases_lt 0 o) [
       | inl lt ↦ let yes : nat_lt 0 o ≡ true = lt-ltb 0 o lt in let q' = rw yes at q in rw yes (eqb-true e.rest o q')
       | inr le ↦ let no : nat_lt 0 o ≡ false = le-ltb 0 o le in let q' = rw no at q in absurd (not_both q')
@@ -142,85 +142,51 @@ unturned h e apart = go (is_turn e) refl
     go true q = absurd (apart (at_turn (outer_rounds e) q))
     go false q = rw q refl
 
--- nothing is turned in a lane that doesn't come to its outer hash
-pub lane_stays : (h : Chaining) (r t : ℕ) (c : List ℕ) (e : HmacState) → IsTied r t e → (r ≡ t → ⊥) → with_chain c e ≡ turned h (with_chain c e)
-lane_stays h r t c e tied apart = sym (unturned h (with_chain c e) (λ q. elim tied [
-  | inl p ↦ absurd (omega (arith, p.1, q, turn_some e))
-  | inr p ↦ apart (p.1 ∙ q ∙ sym p.2)
-]))
-  where
-    turn_some : (x : HmacState) → 0 < turn_of x
-    turn_some x = elim (cases_lt 0 (outer_rounds x)) [
-      | inl lt ↦ rw (lt-ltb 0 (outer_rounds x) lt) lt
-      | inr le ↦ rw (le-ltb 0 (outer_rounds x) le) (omega arith)
+both_true : (x y : Bool) → x ≡ true → y ≡ true → (x && y) ≡ true
+both_true true true p q = refl
+both_true true false p q = absurd (not_both q)
+both_true false y p q = absurd (not_both p)
+
+-- an entry that comes to its turn comes to its outer hash's first block
+turns_now : (e : HmacState) → e.rest < idle → e.rest ≡ turn_of e → is_turn e ≡ true
+turns_now e few same = elim (cases_lt 0 (outer_rounds e)) [
+  | inl lt ↦
+      let yes : nat_lt 0 (outer_rounds e) ≡ true = lt-ltb 0 (outer_rounds e) lt in
+      let same' : e.rest ≡ outer_rounds e = rw yes at same in
+      both_true (nat_lt 0 (outer_rounds e)) (eqb e.rest (outer_rounds e)) yes (eq-eqb e.rest (outer_rounds e) same')
+  | inr le ↦
+      let no : nat_lt 0 (outer_rounds e) ≡ false = le-ltb 0 (outer_rounds e) le in
+      let same' : e.rest ≡ never = rw no at same in
+      absurd (omega arith)
+]
+
+-- a busy lane after the turns: it has the start and the hash value in their places, or both as before
+pub lane_turned : (h : Chaining) (r t : ℕ) (c n s : List ℕ) (e : HmacState) → IsTied r t e → r < idle → s ≡ e.start
+    → with_chains (cond (eqb r t) s c) (cond (eqb r t) c n) e ≡ turned h (with_chains c n e)
+lane_turned h r t c n s e tied busy start =
+    let rest : r ≡ e.rest = tied_rest r t e tied busy in
+    let turn : t ≡ turn_of e = tied_turn r t e tied busy in
+    elim (cases_eq r t) [
+      | inl same ↦
+          let now : is_turn (with_chains c n e) ≡ true = turns_now (with_chains c n e) (omega (arith, rest)) (sym rest ∙ same ∙ turn) in
+          rw (eq-eqb r t same, now, start) refl
+      | inr apart ↦
+          rw (ne_eqb r t apart) (sym (unturned h (with_chains c n e) (λ q. apart (rest ∙ q ∙ sym turn))))
     ]
-
--- a lane that is seen as before is tied as before
-pub tied_seen : (rests turns : List ℕ) (lane first : ℕ → List ℕ) (es0 es : List HmacState) (i : ℕ) (d : HmacState) → i < length es
-    → seen_at lane es i ≡ seen_at first es0 i → IsTied (lane_at 32 rests i) (lane_at 32 turns i) (entry_in es0 i)
-    → IsTied (lane_at 32 rests i) (lane_at 32 turns i) (get_or es i d)
-tied_seen rests turns lane first es0 es i d lt same tied =
-    let rest : (entry_in es i).rest ≡ (entry_in es0 i).rest = ap (λ (e : HmacState). e.rest) same in
-    let form : (entry_in es i).form ≡ (entry_in es0 i).form = ap (λ (e : HmacState). e.form) same in
-    rw (get_or_default es i d blank lt) (tied_same (lane_at 32 rests i) (lane_at 32 turns i) (entry_in es0 i) (entry_in es i) rest form tied)
-
--- entries that are turned are tied as before
-pub tied_turned : (h : Chaining) (rests turns : List ℕ) (lane led : ℕ → List ℕ) (es now : List HmacState) → length now ≡ length es
-    → ((i : ℕ) → i < length es → seen_at led now i ≡ turned h (seen_at lane es i)) → AreTied rests turns es → AreTied rests turns now
-tied_turned h rests turns lane led es now same is tied = record {
-  tied = λ i l. elim (cases_lt i (length es)) [
-    | inl lt ↦
-        let x : HmacState = seen_at lane es i in
-        let rest : (entry_in now i).rest ≡ (entry_in es i).rest = ap (λ (e : HmacState). e.rest) (is i lt) ∙ turned_rest h x in
-        let form : (entry_in now i).form ≡ (entry_in es i).form = ap (λ (e : HmacState). e.form) (is i lt) ∙ turned_form h x in
-        tied_same (lane_at 32 rests i) (lane_at 32 turns i) (entry_in es i) (entry_in now i) rest form (tied.tied i l)
-    | inr le ↦
-        let none : entry_in now i ≡ entry_in es i = entry_in-past now i (omega arith) ∙ sym (entry_in-past es i le) in
-        rw none (tied.tied i l)
-  ];
-  past = λ i l le. tied.past i l (omega arith);
-}
-
--- lane i is turned, after those before it
-module _ (h : Chaining) (first lane led : ℕ → List ℕ) (es0 es : List HmacState) (i n : ℕ) (d e : HmacState) (lt : i < length es) (few : length es ≤ n)
-    (turns : with_chain (led i) e ≡ turned h (with_chain (lane i) (get_or es i d)))
-    (others : (j : ℕ) → j < n → (j ≡ i → ⊥) → led j ≡ lane j)
-    (left : (j : ℕ) → j < length es → i ≤ j → seen_at lane es j ≡ seen_at first es0 j) where
-  here : seen_at led (set es i e) i ≡ turned h (seen_at first es0 i)
-  here =
-      ap (with_chain (led i)) (get_or-set_same es i e blank lt) ∙ turns
-      ∙ ap (λ x. turned h (with_chain (lane i) x)) (get_or_default es i d blank lt)
-      ∙ ap (turned h) (left i lt (omega arith))
-
-  there : (j : ℕ) → j < length es → (j ≡ i → ⊥) → seen_at led (set es i e) j ≡ seen_at lane es j
-  there j l apart =
-      ap (with_chain (led j)) (get_or-set_other es i j e blank apart) ∙ ap (λ c. with_chain c (entry_in es j)) (others j (omega arith) apart)
-
-  pub turned_next : ((j : ℕ) → j < length es → j < i → seen_at lane es j ≡ turned h (seen_at first es0 j))
-      → (j : ℕ) → j < length es → j < i + 1 → seen_at led (set es i e) j ≡ turned h (seen_at first es0 j)
-  turned_next done j l b =
-      elim (cases_eq j i) [
-        | inl same ↦ rw same here
-        | inr apart ↦ there j l apart ∙ done j l (omega arith)
-      ]
-
-  pub left_next : (j : ℕ) → j < length es → i + 1 ≤ j → seen_at led (set es i e) j ≡ seen_at first es0 j
-  left_next j l b = there j l (λ same. absurd (omega arith)) ∙ left j l (omega arith)
 
 -- ---- blocks
 
--- a pass leads the hash value of a lane whose entry has a round left by one block
-pub pass_led : (h : Chaining) (d : ℕ) (c now led : List ℕ) (e : HmacState) → 0 < e.rest
-    → now ≡ (after (advanced h) d (with_chain c e)).chain → led ≡ h.compress now (block_in h e d)
-    → led ≡ (after (advanced h) (d + 1) (with_chain c e)).chain
-pass_led h d c now led e some state next =
-    let block : block_in h e d ≡ block_before h e (e.rest - d) = rw (lt-ltb 0 e.rest some) refl in
-    next ∙ ap₂ (λ s b. h.compress s b) state block ∙ sym (chain_next h d (with_chain c e))
+-- a pass leads the hash value of a lane by one block
+pub pass_led : (h : Chaining) (d : ℕ) (c n now led : List ℕ) (e : HmacState)
+    → now ≡ (after (advanced h) d (with_chains c n e)).chain → led ≡ h.compress now (block_before h (with_chains now n e) (e.rest - d))
+    → led ≡ (after (advanced h) (d + 1) (with_chains c n e)).chain
+pass_led h d c n now led e state next =
+    next ∙ ap (λ s. h.compress s (block_before h (with_chains c n e) (e.rest - d))) state ∙ sym (chain_next h d (with_chains c n e))
 
 -- an entry goes on by m blocks, with its lane
-pub lane_led : (h : Chaining) (m : ℕ) (c led : List ℕ) (e x : HmacState) → led ≡ (after (advanced h) m (with_chain c e)).chain → x ≡ moved m e
-    → with_chain led x ≡ after (advanced h) m (with_chain c e)
-lane_led h m c led e x is move = ap₂ with_chain is move ∙ sym (after_moved h m (with_chain c e))
+pub lane_led : (h : Chaining) (m : ℕ) (c n led : List ℕ) (e x : HmacState) → led ≡ (after (advanced h) m (with_chains c n e)).chain → x ≡ moved m e
+    → with_chains led n x ≡ after (advanced h) m (with_chains c n e)
+lane_led h m c n led e x is move = ap₂ (λ s y. with_chains s n y) is move ∙ sym (after_moved h m (with_chains c n e))
 
 -- ---- a run by m rounds, of which `left` are left, in a lane that had r0 left and has r
 
@@ -270,21 +236,21 @@ led_on h m left (suc k) first now turns led within some le is turn blocks reach 
 pub slot_is : (n : ℕ) (f : ℕ → Option HmacState) (i : ℕ) → i < n → slot_in (slots_of n f) i ≡ f i
 slot_is n f i lt = get_or-map-range_with_len f 0 n i i None lt (omega arith)
 
-module _ (lane : ℕ → List ℕ) (rests : List ℕ) (es : List HmacState) (i : ℕ) where
-  pub slot_idle : lane_at 32 rests i ≡ idle → slot_at lane rests es i ≡ None
+module _ (lane inner : ℕ → List ℕ) (rests : List ℕ) (es : List HmacState) (i : ℕ) where
+  pub slot_idle : lane_at 32 rests i ≡ idle → slot_at lane inner rests es i ≡ None
   slot_idle is = rw (eq-eqb (lane_at 32 rests i) idle is) refl
 
-  pub slot_busy : lane_at 32 rests i < idle → slot_at lane rests es i ≡ Some (seen_at lane es i)
+  pub slot_busy : lane_at 32 rests i < idle → slot_at lane inner rests es i ≡ Some (seen_at lane inner es i)
   slot_busy lt = let apart : lane_at 32 rests i ≡ idle → ⊥ = λ s. absurd (omega arith) in rw (ne_eqb (lane_at 32 rests i) idle apart) refl
 
   -- what stands in a slot is its lane's entry
-  pub slot_some : (t : ℕ) (e : HmacState) → IsTied (lane_at 32 rests i) t (entry_in es i) → slot_at lane rests es i ≡ Some e
-      → (lane_at 32 rests i < idle) × (lane_at 32 rests i ≡ e.rest) × (seen_at lane es i ≡ e)
+  pub slot_some : (t : ℕ) (e : HmacState) → IsTied (lane_at 32 rests i) t (entry_in es i) → slot_at lane inner rests es i ≡ Some e
+      → (lane_at 32 rests i < idle) × (lane_at 32 rests i ≡ e.rest) × (seen_at lane inner es i ≡ e)
   slot_some t e tied is = elim tied [
     | inl p ↦ let none = slot_idle p.0 in absurd (cc)
     | inr p ↦
         let some = slot_busy p.0 in
-        let same : seen_at lane es i ≡ e = cc in
+        let same : seen_at lane inner es i ≡ e = cc in
         (p.0, p.1 ∙ ap (λ (x : HmacState). x.rest) same, same)
   ]
 
@@ -303,10 +269,27 @@ module _ (rests turns rests' turns' : List ℕ) (es : List HmacState) (i : ℕ) 
         others j h (λ same. absurd (omega arith)) ∙ tied.past j h le';
   }
 
+-- so is what is ready
+pub ready_set : (h : Chaining) (starts starts' : ℕ → List ℕ) (bits bits' rests rests' turns : List ℕ) (es : List HmacState) (i n : ℕ) (x : HmacState)
+    → i < length es → length es ≤ n → AreTied rests turns es
+    → ((j : ℕ) → j < most_lanes → (j ≡ i → ⊥) → lane_at 32 rests' j ≡ lane_at 32 rests j)
+    → ((j : ℕ) → j < most_lanes → (j ≡ i → ⊥) → lane_at 32 bits' j ≡ lane_at 32 bits j)
+    → ((j : ℕ) → j < n → (j ≡ i → ⊥) → starts' j ≡ starts j)
+    → AreReady h starts bits rests es → (lane_at 32 rests' i < idle → IsReady h (starts' i) (lane_at 32 bits' i) x)
+    → AreReady h starts' bits' rests' (set es i x)
+ready_set h starts starts' bits bits' rests rests' turns es i n x lt few tied others counts values ready here j l busy = elim (cases_eq j i) [
+  | inl same ↦ let busy' : lane_at 32 rests' i < idle = rw same at busy in rw (same, get_or-set_same es i x blank lt) (here busy')
+  | inr apart ↦
+      let was : lane_at 32 rests j < idle = rw (others j l apart) at busy in
+      let inside : j < length es = has_entry rests turns es tied j l was in
+      rw (counts j l apart, values j (omega arith) apart, get_or-set_other es i j x blank apart) (ready j l was)
+]
+
 -- slot j is as before
-pub slot_same : (lane led : ℕ → List ℕ) (rests rests' : List ℕ) (es : List HmacState) (x : HmacState) (i j : ℕ) → (j ≡ i → ⊥)
-    → lane_at 32 rests' j ≡ lane_at 32 rests j → led j ≡ lane j → slot_at led rests' (set es i x) j ≡ slot_at lane rests es j
-slot_same lane led rests rests' es x i j apart rest chain = rw (rest, chain, get_or-set_other es i j x blank apart) refl
+pub slot_same : (lane led inner done : ℕ → List ℕ) (rests rests' : List ℕ) (es : List HmacState) (x : HmacState) (i j : ℕ) → (j ≡ i → ⊥)
+    → lane_at 32 rests' j ≡ lane_at 32 rests j → led j ≡ lane j → done j ≡ inner j
+    → slot_at led done rests' (set es i x) j ≡ slot_at lane inner rests es j
+slot_same lane led inner done rests rests' es x i j apart rest chain first = rw (rest, chain, first, get_or-set_other es i j x blank apart) refl
 
 -- entries without a round left, and one more
 pub idle_push : (es : List HmacState) (x : HmacState) → x.rest ≡ 0 → ((j : ℕ) → (entry_in es j).rest ≡ 0) → (j : ℕ) → (entry_in (es ++ x ∷ []) j).rest ≡ 0
@@ -316,21 +299,21 @@ idle_push (e ∷ es) x none all zero = all 0
 idle_push (e ∷ es) x none all (suc j) = idle_push es x none (λ k. all (suc k)) j
 
 -- what stands in slot i of n, by the list of them
-module _ (n : ℕ) (lane : ℕ → List ℕ) (rests turns : List ℕ) (es : List HmacState) (s : List (Option HmacState)) (is : slots_of n (slot_at lane rests es) ≡ s)
+module _ (n : ℕ) (lane inner : ℕ → List ℕ) (rests turns : List ℕ) (es : List HmacState) (s : List (Option HmacState)) (is : slots_of n (slot_at lane inner rests es) ≡ s)
     (tied : AreTied rests turns es) (size : length es ≡ n) (narrow : n ≤ most_lanes) where
-  pub slot_here : (i : ℕ) → i < n → slot_in s i ≡ slot_at lane rests es i
-  slot_here i lt = ap (λ x. slot_in x i) (sym is) ∙ slot_is n (slot_at lane rests es) i lt
+  pub slot_here : (i : ℕ) → i < n → slot_in s i ≡ slot_at lane inner rests es i
+  slot_here i lt = ap (λ x. slot_in x i) (sym is) ∙ slot_is n (slot_at lane inner rests es) i lt
 
-  pub slot_entry : (i : ℕ) (e : HmacState) → i < n → slot_in s i ≡ Some e → (lane_at 32 rests i < idle) × (lane_at 32 rests i ≡ e.rest) × (seen_at lane es i ≡ e)
-  slot_entry i e lt some = slot_some lane rests es i (lane_at 32 turns i) e (tied.tied i (omega arith)) (sym (slot_here i lt) ∙ some)
+  pub slot_entry : (i : ℕ) (e : HmacState) → i < n → slot_in s i ≡ Some e → (lane_at 32 rests i < idle) × (lane_at 32 rests i ≡ e.rest) × (seen_at lane inner es i ≡ e)
+  slot_entry i e lt some = slot_some lane inner rests es i (lane_at 32 turns i) e (tied.tied i (omega arith)) (sym (slot_here i lt) ∙ some)
 
   -- a busy lane is that of a slot with an entry
   pub entry_slot : (i : ℕ) → i < most_lanes → lane_at 32 rests i < idle
-      → (i < n) × (slot_in s i ≡ Some (seen_at lane es i)) × (lane_at 32 rests i ≡ (entry_in es i).rest)
+      → (i < n) × (slot_in s i ≡ Some (seen_at lane inner es i)) × (lane_at 32 rests i ≡ (entry_in es i).rest)
   entry_slot i h busy =
       let inside : i < length es = has_entry rests turns es tied i h busy in
       let lt : i < n = omega arith in
-      (lt, slot_here i lt ∙ slot_busy lane rests es i busy, tied_rest (lane_at 32 rests i) (lane_at 32 turns i) (entry_in es i) (tied.tied i h) busy)
+      (lt, slot_here i lt ∙ slot_busy lane inner rests es i busy, tied_rest (lane_at 32 rests i) (lane_at 32 turns i) (entry_in es i) (tied.tied i h) busy)
 
   pub least_slot : (least k j : ℕ) (e : HmacState) → ((i : ℕ) → i < most_lanes → least ≤ lane_at 32 rests i) → k < most_lanes → least ≡ lane_at 32 rests k
       → j < n → slot_in s j ≡ Some e → IsLeast rest_of n (slot_in s) least
@@ -340,22 +323,22 @@ module _ (n : ℕ) (lane : ℕ → List ℕ) (rests turns : List ℕ) (es : List
       let at = entry_slot k h busy in
       record {
         below = λ i x l here. let this = slot_entry i x l here in omega (arith, below i (omega arith), this.1);
-        met = (k, seen_at lane es k, at.0, at.1, met ∙ at.2);
+        met = (k, seen_at lane inner es k, at.0, at.1, met ∙ at.2);
       }
 
   -- the slots after m rounds
-  pub slots_led : (f : HmacState → HmacState) (m : ℕ) (led : ℕ → List ℕ) (rests' : List ℕ) (es' : List HmacState)
-      → ((i : ℕ) → i < most_lanes → lane_at 32 rests i < idle → seen_at led es' i ≡ f (seen_at lane es i))
+  pub slots_led : (f : HmacState → HmacState) (m : ℕ) (led done : ℕ → List ℕ) (rests' : List ℕ) (es' : List HmacState)
+      → ((i : ℕ) → i < most_lanes → lane_at 32 rests i < idle → seen_at led done es' i ≡ f (seen_at lane inner es i))
       → ((i : ℕ) → i < most_lanes → lane_at 32 rests' i ≡ lowered m (lane_at 32 rests i))
-      → (i : ℕ) → i < n → slot_in (slots_of n (slot_at led rests' es')) i ≡ option_map f (slot_in s i)
-  slots_led f m led rests' es' moves falls i lt =
+      → (i : ℕ) → i < n → slot_in (slots_of n (slot_at led done rests' es')) i ≡ option_map f (slot_in s i)
+  slots_led f m led done rests' es' moves falls i lt =
       let h : i < most_lanes = omega arith in
       let r : ℕ = lane_at 32 rests i in
-      slot_is n (slot_at led rests' es') i lt ∙ elim (cases_lt r idle) [
+      slot_is n (slot_at led done rests' es') i lt ∙ elim (cases_lt r idle) [
         | inl busy ↦
             let busy' : lane_at 32 rests' i < idle = let less : lane_at 32 rests' i ≡ r - m = falls i h ∙ lowered_busy m r busy in omega arith in
-            slot_busy led rests' es' i busy' ∙ ap Some (moves i h busy) ∙ sym (ap (option_map f) (slot_here i lt ∙ slot_busy lane rests es i busy))
+            slot_busy led done rests' es' i busy' ∙ ap Some (moves i h busy) ∙ sym (ap (option_map f) (slot_here i lt ∙ slot_busy lane inner rests es i busy))
         | inr ge ↦
             let at : r ≡ idle = omega (arith, tied_le r (lane_at 32 turns i) (entry_in es i) (tied.tied i h)) in
-            slot_idle led rests' es' i (falls i h ∙ ap (lowered m) at) ∙ sym (ap (option_map f) (slot_here i lt ∙ slot_idle lane rests es i at))
+            slot_idle led done rests' es' i (falls i h ∙ ap (lowered m) at) ∙ sym (ap (option_map f) (slot_here i lt ∙ slot_idle lane inner rests es i at))
       ]

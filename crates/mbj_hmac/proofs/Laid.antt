@@ -1,15 +1,15 @@
 -- The blocks of an entry stand where the entry reads them.
-use Rattle.std.proofs.Common.{◌≡◌, ℕ, ◌+◌, ◌-◌, ◌*◌, ◌/◌, ◌^◌, ◌≤◌, ◌<◌, ◌⊎◌, inl, inr, List, [], ◌++◌, length, take, drop, refl, sym, ap, ◌∙◌, arith, length-append, length-drop, true, false}
+use Rattle.std.proofs.Common.{◌≡◌, ℕ, ◌+◌, ◌-◌, ◌*◌, ◌/◌, ◌^◌, ◌≤◌, ◌<◌, ◌⊎◌, inl, inr, List, [], ◌++◌, length, take, drop, refl, sym, ap, ◌∙◌, arith, length-append, length-drop, true}
 use Rattle.std.proofs.lemmas.List.{length-take-le, take_at, append_assoc}
-use Rattle.std.proofs.lemmas.Bool.{lt-ltb, le-ltb, cases_lt}
+use Rattle.std.proofs.lemmas.Bool.{lt-ltb, cases_lt}
 use Rattle.std.specs.Prelude.{nat_lt, if◌then◌else◌}
 use Rattle.mbj_types.specs.declared.class.HashName.{HashName}
 use Rattle.mbj_hmac.specs.declared.form.Form.{Form}
 use Rattle.mbj_hmac.specs.declared.form.Form.TheVariants.{Plain, Keyed, States}
-use Rattle.mbj_hmac.specs.Forms.{counted, has_pads, outer_rounds_of}
-use Rattle.mbj_hmac.specs.Rounds.{Chaining, HmacState, padded, message, inner_text, outer_text, block_before}
-use Rattle.mbj_hmac.specs.Inside.Layout.{IsStandard, whole_blocks, tail_blocks, fill, seen, outer_part, IsKept, IsSound}
-use Rattle.mbj_hmac.proofs.Numbers.{size_range, before_range, split, rounds_is, fill_is, fill_on, piece_fill, length-padding_of, times_le, blocks}
+use Rattle.mbj_hmac.specs.Forms.{counted, has_pads, made_rounds_of, outer_rounds_of}
+use Rattle.mbj_hmac.specs.Rounds.{Chaining, HmacState, padded, message, inner_text, block_before}
+use Rattle.mbj_hmac.specs.Inside.Layout.{IsStandard, whole_blocks, tail_blocks, fill, seen, IsKept, IsSound}
+use Rattle.mbj_hmac.proofs.Numbers.{size_range, before_range, split, rounds_is, fill_is, fill_on, piece_fill, length-padding_of, tail_range, times_le, blocks}
 use Rattle.mbj_hmac.proofs.Texts.{block_left, block_right, block_take, block_drop, block_range}
 
 -- the blocks before the message: under a key there is the inner pad
@@ -33,13 +33,7 @@ counted_is States b n = refl
 pub kept : (h : Chaining) (ends : List ℕ) (e : HmacState) → IsSound h ends e → IsKept h ends e
 kept h ends e s = ((λ left. s), s.2, s.5, s.4)
 
--- a text of the outer hash is an HMAC's
-pub outer_is : (form : Form) (x : List ℕ) → 0 < outer_rounds_of form → (if nat_lt 0 (outer_rounds_of form) then x else []) ≡ x
-outer_is Plain x some = absurd (omega arith)
-outer_is Keyed x some = refl
-outer_is States x some = refl
-
--- its rounds are two at most
+-- the rounds of an outer hash are two at most
 pub outer_few : (form : Form) → outer_rounds_of form ≤ 2
 outer_few Plain = omega arith
 outer_few Keyed = omega arith
@@ -48,9 +42,6 @@ outer_few States = omega arith
 module _ (h : Chaining) (std : IsStandard h) where
   abbrev b : ℕ
   b = h.block_bytes
-
-  join : (x y : ℕ) → b * x + y * b ≡ b * (x + y)
-  join x y = omega arith
 
   -- before the message there is a block, or nothing
   pub front_bytes : (form : Form) → (bytes_behind form b + b * front_blocks form ≡ 0) ⊎ (bytes_behind form b + b * front_blocks form ≡ b)
@@ -75,15 +66,22 @@ module _ (h : Chaining) (std : IsStandard h) where
       ap (λ n. length (h.padding n)) bd ∙ ap length (std.pads (b + length d) room) ∙ length-padding_of b std.size (b + length d) in
       omega (arith, length-append (back ++ d) (h.padding (length (back ++ d))), piece_fill b std.size (length d) small)
 
+  -- where pads are, the outer one is a block
+  pub length-back : (form : Form) (ends : List ℕ) (len : ℕ) → length ends ≡ 4 * b
+      → length (if has_pads form then take b (drop (b * (tail_blocks b len + 1)) ends) else []) ≡ b * (outer_rounds_of form - 1)
+  length-back Plain ends len whole = omega arith
+  length-back Keyed ends len whole =
+      let at : ℕ = b * (tail_blocks b len + 1) in
+      let room : b * (tail_blocks b len + 2) ≤ b * 4 = times_le b std.size (tail_blocks b len + 2) 4 (omega (arith, (tail_range b std.size len).1)) in
+      length-take-le b (drop at ends) (omega (arith, whole, length-drop at ends)) ∙ omega arith
+  length-back States ends len whole = omega arith
+
   module _ (packet chain inner start : List ℕ) (a : HashName) (form : Form) (ends : List ℕ) (rest off len : ℕ) where
     abbrev e : HmacState
     e = seen h packet rest chain inner start a form ends off len
 
     abbrev text : List ℕ
     text = inner_text h e
-
-    abbrev out : List ℕ
-    out = outer_part h e
 
     abbrev w : ℕ
     w = whole_blocks b len
@@ -144,45 +142,51 @@ module _ (h : Chaining) (std : IsStandard h) where
         ∙ ap (λ i. take b (drop i packet)) (sym ek) in
         rw (yes, j) (sym read)
 
-    abbrev tail : List ℕ
-    tail = drop (length e.front + b * w) text
-
-    pub length-tail : IsSound h ends e → length tail ≡ b * t
-    length-tail s = omega (arith, length-drop (length e.front + b * w) text, length-text s, length-front s)
-
-    -- a block of the inner hash
-    inner_laid : (r q : ℕ) → IsSound h ends e → o < r → r + q ≡ t + o → take b (drop (b * q) (tail ++ out)) ≡ block_before h e r
-    inner_laid r q s lt at =
+    -- a block of the message behind its whole ones
+    tail_laid : (r q k : ℕ) → IsSound h ends e → o < r → r + q ≡ t + o → k ≡ b + b * q → take b (drop k ends) ≡ block_before h e r
+    tail_laid r q k s lt at ek =
         let yes : nat_lt o r ≡ true = lt-ltb o r lt in
         let place : length text / b + o - r ≡ f + w + q = omega (arith, text_blocks s) in
         let at_front : (length e.front + b * w) + b * q ≡ (f + w + q) * b = omega (arith, length-front s) in
         let j : (length e.front + b * w) + b * q ≡ (length text / b + o - r) * b = at_front ∙ sym (ap (λ n. n * b) place) in
         let before : q + 1 ≤ t = omega arith in
-        let inside : b * q + b ≤ length tail = omega (arith, times_le b std.size (q + 1) t before, length-tail s) in
-        block_left b (b * q) tail out inside
+        let inside : b * q + b ≤ b * t = omega (arith, times_le b std.size (q + 1) t before) in
+        ap (λ i. take b (drop i ends)) ek ∙ sym (block_drop b (b * q) b ends)
+        ∙ sym (block_take b (b * q) (b * t) (drop b ends) inside) ∙ ap (λ x. take b (drop (b * q) x)) s.3
         ∙ block_drop b (b * q) (length e.front + b * w) text
         ∙ ap (λ i. take b (drop i text)) j
         ∙ sym (rw yes refl)
 
-    -- a block of the outer hash
-    outer_laid : (r q : ℕ) → IsSound h ends e → r ≤ o → 0 < r → r + q ≡ t + o → take b (drop (b * q) (tail ++ out)) ≡ block_before h e r
-    outer_laid r q s le some at =
-        let no : nat_lt o r ≡ false = le-ltb o r le in
-        let place : t + (o - r) ≡ q = omega arith in
-        let i : length tail + (o - r) * b ≡ b * q = ap (λ n. n + (o - r) * b) (length-tail s) ∙ join t (o - r) ∙ ap (λ n. b * n) place in
-        block_right b (b * q) ((o - r) * b) tail out i
-        ∙ ap (λ x. take b (drop ((o - r) * b) x)) (outer_is form (outer_text h e) (omega arith))
-        ∙ sym (rw no refl)
+  -- the outer pad
+  back_laid : (packet chain inner start : List ℕ) (a : HashName) (ends : List ℕ) (rest off len k : ℕ)
+      → IsSound h ends (seen h packet rest chain inner start a Keyed ends off len) → k ≡ b * (tail_blocks b len + 1)
+      → take b (drop k ends) ≡ block_before h (seen h packet rest chain inner start a Keyed ends off len) 2
+  back_laid packet chain inner start a ends rest off len k s ek =
+      let e : HmacState = seen h packet rest chain inner start a Keyed ends off len in
+      let d : List ℕ = h.digest a inner in
+      let pad : List ℕ = h.padding (counted Keyed b (length (e.back ++ d))) in
+      let size : length e.back ≡ b = length-back Keyed ends len s.4 ∙ omega arith in
+      let first : take b (e.back ++ (d ++ pad)) ≡ e.back = take_at e.back (d ++ pad) b size in
+      let none : 0 * b ≡ 0 = omega arith in
+      ap (λ i. take b (drop i ends)) ek ∙ sym first ∙ ap (take b) (sym (append_assoc e.back d pad))
+      ∙ ap (λ n. take b (drop n ((e.back ++ d) ++ pad))) (sym none)
 
-    -- a block behind the packet's whole blocks
-    pub end_laid : (r q k : ℕ) → IsSound h ends e → 0 < r → r + q ≡ t + o → k ≡ b + b * q → take b (drop k ends) ≡ block_before h e r
-    end_laid r q k s some at ek =
-        let before : q + 1 ≤ t + o = omega arith in
-        let inside : b * q + b ≤ b * (t + o) = omega (arith, times_le b std.size (q + 1) (t + o) before) in
-        let read : take b (drop k ends) ≡ take b (drop (b * q) (tail ++ out)) =
-        ap (λ i. take b (drop i ends)) ek ∙ sym (block_drop b (b * q) b ends)
-        ∙ sym (block_take b (b * q) (b * (t + o)) (drop b ends) inside) ∙ ap (λ x. take b (drop (b * q) x)) s.3 in
-        read ∙ elim (cases_lt o r) [ inl lt ↦ inner_laid r q s lt at | inr le ↦ outer_laid r q s le some at ]
+  -- a block behind the packet's whole blocks, but for that which is made
+  pub end_laid : (packet chain inner start : List ℕ) (a : HashName) (form : Form) (ends : List ℕ) (rest off len r q k : ℕ)
+      → IsSound h ends (seen h packet rest chain inner start a form ends off len) → made_rounds_of form < r
+      → r + q ≡ tail_blocks b len + outer_rounds_of form → k ≡ b + b * q
+      → take b (drop k ends) ≡ block_before h (seen h packet rest chain inner start a form ends off len) r
+  end_laid packet chain inner start a Plain ends rest off len r q k s some at ek =
+      tail_laid packet chain inner start a Plain ends rest off len r q k s some at ek
+  end_laid packet chain inner start a States ends rest off len r q k s some at ek =
+      tail_laid packet chain inner start a States ends rest off len r q k s some at ek
+  end_laid packet chain inner start a Keyed ends rest off len r q k s some at ek = elim (cases_lt 2 r) [
+    | inl lt ↦ tail_laid packet chain inner start a Keyed ends rest off len r q k s lt at ek
+    | inr le ↦
+        let two : r ≡ 2 = omega arith in
+        let all : q ≡ tail_blocks b len = omega arith in
+        rw two (back_laid packet chain inner start a ends rest off len k s (ek ∙ ap (λ n. b + b * n) all ∙ omega arith))
+  ]
 
   -- the first block is there under a key alone
   pub first_laid : (packet chain inner start : List ℕ) (a : HashName) (form : Form) (ends : List ℕ) (rest off len r : ℕ)

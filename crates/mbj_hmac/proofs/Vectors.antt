@@ -9,6 +9,7 @@ use Rattle.std.proofs.lemmas.List.{get_or_append_left, get_or-append_right}
 use Rattle.std.proofs.lemmas.List.FromFn.{length-range_with_len, get_or-range_with_len}
 use Rattle.std.proofs.Math.Nat.{mod-eq_of_lt}
 use Rattle.std.proofs.lemmas.Simd.{Each1-get_or, tops_compared, get_or-sel_l, get_or-zip2, length-zip2, length-replicate, get_or-replicate, mask_l-mod}
+use Rattle.mbj_types.specs.Lanes.{lane_at}
 use Rattle.mbj_hmac.specs.Inside.InLanes.{idle, lowered, reach_at}
 use Rattle.mbj_hmac.specs.Laws.Tests.{not_both}
 
@@ -31,6 +32,23 @@ chosen w t xs ys zs bs n i sx sy sa sb h =
 pub cond-mod : (b : Bool) (x y n : ℕ) → cond b x y % n ≡ cond b (x % n) (y % n)
 cond-mod true x y n = refl
 cond-mod false x y n = refl
+
+-- a vector with one word in all lanes
+pub splat_is : (n i word : ℕ) → i < n → word < 2 ^ 32 → lane_at 32 (replicate n word) i ≡ word
+splat_is n i word h fits = ap (λ x. x % 2 ^ 32) (get_or-replicate n i word 0 h) ∙ mod-eq_of_lt fits
+
+pub splat64_is : (n i word : ℕ) → i < n → word < 2 ^ 64 → lane_at 64 (replicate n word) i ≡ word
+splat64_is n i word h fits = ap (λ x. x % 2 ^ 64) (get_or-replicate n i word 0 h) ∙ mod-eq_of_lt fits
+
+-- a vector that is chosen where two others are the same
+pub where_equal_is : (w : Width) (xs ys zs bs : List ℕ) (n i : ℕ) → length xs ≡ n → length ys ≡ n → length zs ≡ n → length bs ≡ n
+    → Each1 (Fits w) xs → Each1 (Fits w) ys → i < n
+    → get_or (sel_l (map (top (hbits w)) (zip2 (λ a b. cond (eqb a b) (2 ^ bits w - 1) 0) xs ys)) zs bs) i 0 % 2 ^ bits w
+    ≡ cond (eqb (get_or xs i 0 % 2 ^ bits w) (get_or ys i 0 % 2 ^ bits w)) (get_or zs i 0 % 2 ^ bits w) (get_or bs i 0 % 2 ^ bits w)
+where_equal_is w xs ys zs bs n i sx sy sz sb fx fy h =
+    ap (λ x. x % 2 ^ bits w) (chosen w eqb xs ys zs bs n i sx sy sz sb h)
+    ∙ cond-mod (eqb (get_or xs i 0) (get_or ys i 0)) (get_or zs i 0) (get_or bs i 0) (2 ^ bits w)
+    ∙ ap₂ (λ x y. cond (eqb x y) (get_or zs i 0 % 2 ^ bits w) (get_or bs i 0 % 2 ^ bits w)) (sym (lane_is w xs n i sx fx h)) (sym (lane_is w ys n i sy fy h))
 
 none_more : (j : ℕ) → 0 + j ≡ j
 none_more j = omega arith

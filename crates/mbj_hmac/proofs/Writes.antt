@@ -43,19 +43,6 @@ module _ (h : Chaining) (std : IsStandard h) where
       let room : b + n < 2 ^ 33 = omega (arith, (size_range b std.size).1) in
       omega (arith, ap length (std.pads (b + n) room), length-padding_of b std.size (b + n), piece_fill b std.size n small)
 
-  -- the writes of a digest and of its padding
-  pub digest_block : (a : HashName) (s xs ys zs x : List ℕ) (at next : ℕ) → x ≡ h.digest a s → next ≡ at + length x
-      → take (at + length x) ys ≡ take at xs ++ x
-      → take (next + length (h.padding (b + length x))) zs ≡ take next ys ++ h.padding (b + length x)
-      → take (at + b) zs ≡ take at xs ++ (h.digest a s ++ h.padding (b + length (h.digest a s)))
-  digest_block a s xs ys zs x at next is e first second =
-      let y : List ℕ = h.padding (b + length x) in
-      let last : List ℕ = h.digest a s ++ h.padding (b + length (h.digest a s)) in
-      let same : x ++ y ≡ last = ap (λ d. d ++ h.padding (b + length d)) is in
-      let full : length last ≡ b = length-append (h.digest a s) (h.padding (b + length (h.digest a s))) ∙ digest_full a s in
-      ap (λ n. take (at + n) zs) (sym (ap length same ∙ full))
-      ∙ behind xs ys zs x y at next e first second ∙ ap (λ l. take at xs ++ l) same
-
 -- what has been written grows
 pub grown : (xs ys done x : List ℕ) (at next : ℕ) → take at xs ≡ done → next ≡ at + length x → take (at + length x) ys ≡ take at xs ++ x → take next ys ≡ done ++ x
 grown xs ys done x at next so_far e written = ap (λ n. take n ys) e ∙ written ∙ ap (λ l. l ++ x) so_far

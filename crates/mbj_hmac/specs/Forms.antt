@@ -17,6 +17,12 @@ outer_rounds_of form.Plain = 0
 outer_rounds_of form.Keyed = 2
 outer_rounds_of form.States = 1
 
+-- the rounds whose block is made in the lanes' vectors, and stands nowhere: that of the inner digest
+abbrev pub made_rounds_of : Form → ℕ
+made_rounds_of form.Plain = 0
+made_rounds_of form.Keyed = 1
+made_rounds_of form.States = 1
+
 -- all rounds, for blocks of b bytes and a message of n
 abbrev pub rounds_in : Form → ℕ → ℕ → ℕ
 rounds_in form.Plain b n = hash_rounds b n

@@ -1,15 +1,14 @@
-// The ends of an entry: the blocks that don't stand whole in its packet. They are the inner pad, the message's end with the
-// padding, the outer pad, and the inner digest with its padding. A digest has the message's end alone, at the same place, and an HMAC
-// from states has the inner digest right behind it.
-ghost use Rattle.std.specs.Prelude.{◌≡◌, ℕ, ◌+◌, ◌-◌, ◌*◌, ◌/◌, ◌^◌, ◌<◌, ◌≤◌, ◌∷◌, ◌++◌, ◌⊎◌, length, replicate, take, drop, IsTrue};
+// The ends of an entry: the blocks that don't stand whole in its packet. They are the inner pad, the message's end with the padding, and the
+// outer pad. A digest and an HMAC from states have the message's end alone, at the same place. The block of the inner digest is made in the
+// vectors of the lanes, and written nowhere.
+ghost use Rattle.std.specs.Prelude.{◌≡◌, ℕ, ◌+◌, ◌-◌, ◌*◌, ◌/◌, ◌^◌, ◌<◌, ◌≤◌, ◌∷◌, ◌++◌, ◌⊎◌, length, replicate, take, drop};
 ghost use Rattle.mbj_types.specs.Hmac.{padded_key, ipad, opad};
 ghost use Rattle.mbj_types.specs.Rounds.{hash_rounds, hmac_rounds, states_rounds};
-ghost use Rattle.mbj_hmac.specs.Inside.Layout.{digest_block, fill, first_ends, message_end, tail_blocks};
+ghost use Rattle.mbj_hmac.specs.Inside.Layout.{fill, first_ends, message_end, tail_blocks};
 
 use crate::form::Form;
 use crate::key::{IPAD, MAX_BLOCK_BYTES, OPAD, padded};
 use crate::lane_hash::LaneHash;
-use mbj_types::HashName;
 
 /// The bytes of a message's length at the end of the padding. The higher bytes of the length of SHA-384 and SHA-512 are zeros.
 const LENGTH_BYTES: usize = 8;
@@ -103,11 +102,11 @@ pub(crate) fn put(ends: &mut [u8], at: usize, bytes: &[u8]) -> usize
 fn put_padding<H: LaneHash>(ends: &mut H::Ends, at: usize, before: usize, len: usize) -> usize
     requires small { len < 2 ^ 32 }
     requires before { (before ≡ 0) ⊎ (before ≡ H.chaining.block_bytes) }
-    requires room { at + length (H.chaining.padding (before + len)) ≤ 5 * H.chaining.block_bytes }
+    requires room { at + length (H.chaining.padding (before + len)) ≤ 4 * H.chaining.block_bytes }
     ensures next { result ≡ at + length (H.chaining.padding (before + len)) }
     ensures written { take (at + length (H.chaining.padding (before + len))) (H.ends_bytes ends.new)
         ≡ take at (H.ends_bytes ends.old) ++ H.chaining.padding (before + len) }
-    ensures len { length (H.ends_bytes ends.new) ≡ 5 * H.chaining.block_bytes }
+    ensures len { length (H.ends_bytes ends.new) ≡ 4 * H.chaining.block_bytes }
 {
     let bits = (8 * (before + len) as u64).to_be_bytes();
     let at = H::put(ends, at, padding_start(fill::<H>(len)));
@@ -129,7 +128,7 @@ fn put_end<H: LaneHash>(
     ensures next { result ≡ H.chaining.block_bytes * (tail_blocks H.chaining.block_bytes len + 1) }
     ensures written { take (H.chaining.block_bytes * (tail_blocks H.chaining.block_bytes len + 1)) (H.ends_bytes ends.new)
         ≡ take H.chaining.block_bytes (H.ends_bytes ends.old) ++ message_end H.chaining before packet.now off len }
-    ensures len { length (H.ends_bytes ends.new) ≡ 5 * H.chaining.block_bytes }
+    ensures len { length (H.ends_bytes ends.new) ≡ 4 * H.chaining.block_bytes }
 {
     let at = H::put(
         ends,
@@ -139,79 +138,54 @@ fn put_end<H: LaneHash>(
     put_padding::<H>(ends, at, before, len)
 }
 
-/// Writes the block that holds the digest of a hash value, with the padding behind a block and the digest.
-pub(crate) fn put_digest<H: LaneHash>(
-    ends: &mut H::Ends,
-    at: usize,
-    hash: HashName,
-    chain: &H::Chain,
-)
-    requires serves { IsTrue (H.chaining.serves hash) }
-    requires room { at + H.chaining.block_bytes ≤ 5 * H.chaining.block_bytes }
-    ensures written { take (at + H.chaining.block_bytes) (H.ends_bytes ends.new) ≡ take at (H.ends_bytes ends.old)
-        ++ digest_block H.chaining hash (H.words chain.now) }
-    ensures len { length (H.ends_bytes ends.new) ≡ 5 * H.chaining.block_bytes }
-{
-    let digest = H::digest(hash, chain);
-    let bytes = digest.bytes();
-    let at = H::put(ends, at, bytes);
-    put_padding::<H>(ends, at, H::block_bytes(), bytes.len());
-}
-
 /// Writes the ends of a new HMAC.
 pub(crate) fn put_first_ends<H: LaneHash>(
     ends: &mut H::Ends,
-    hash: HashName,
     key: &[u8; MAX_BLOCK_BYTES],
     packet: &[u8],
     off: usize,
     len: usize,
 )
-    requires serves { IsTrue (H.chaining.serves hash) }
     requires small { len < 2 ^ 32 }
     requires range { off + len ≤ length packet.now }
-    ensures value { take (H.chaining.block_bytes * (tail_blocks H.chaining.block_bytes len + 3)) (H.ends_bytes ends.new)
-        ≡ first_ends H.chaining hash (take H.chaining.block_bytes (padded_key ipad key.now)) (take H.chaining.block_bytes (padded_key opad key.now))
-        (replicate H.chaining.words 0) packet.now off len }
-    ensures length { length (H.ends_bytes ends.new) ≡ 5 * H.chaining.block_bytes }
+    ensures value { take (H.chaining.block_bytes * (tail_blocks H.chaining.block_bytes len + 2)) (H.ends_bytes ends.new)
+        ≡ first_ends H.chaining (take H.chaining.block_bytes (padded_key ipad key.now)) (take H.chaining.block_bytes (padded_key opad key.now))
+        packet.now off len }
+    ensures length { length (H.ends_bytes ends.new) ≡ 4 * H.chaining.block_bytes }
     ensures pads { length key.now ≡ MAX_BLOCK_BYTES }
 {
     let block = H::block_bytes();
     H::put(ends, 0, &padded(key, IPAD)[..block]);
     let at = put_end::<H>(ends, block, packet, off, len);
-    let at = H::put(ends, at, &padded(key, OPAD)[..block]);
-    put_digest::<H>(ends, at, hash, &H::zeros());
+    H::put(ends, at, &padded(key, OPAD)[..block]);
 }
 
 /// Writes the ends of a new digest: the end of the message and its padding. What stands around them is not looked at.
 pub(crate) fn put_plain_ends<H: LaneHash>(ends: &mut H::Ends, packet: &[u8], off: usize, len: usize)
     requires small { len < 2 ^ 32 }
     requires range { off + len ≤ length packet.now }
-    requires whole { length (H.ends_bytes ends.old) ≡ 5 * H.chaining.block_bytes }
+    requires whole { length (H.ends_bytes ends.old) ≡ 4 * H.chaining.block_bytes }
     ensures value { take (H.chaining.block_bytes * tail_blocks H.chaining.block_bytes len) (drop H.chaining.block_bytes (H.ends_bytes ends.new))
         ≡ message_end H.chaining 0 packet.now off len }
-    ensures length { length (H.ends_bytes ends.new) ≡ 5 * H.chaining.block_bytes }
+    ensures length { length (H.ends_bytes ends.new) ≡ 4 * H.chaining.block_bytes }
 {
     put_end::<H>(ends, 0, packet, off, len);
 }
 
-/// Writes the ends of a new HMAC from states: the end of the message and its padding, behind a block, and a digest and its padding. What
-/// stands before them is not looked at.
+/// Writes the ends of a new HMAC from states: the end of the message and its padding, behind a block. What stands around them is not looked
+/// at.
 pub(crate) fn put_states_ends<H: LaneHash>(
     ends: &mut H::Ends,
-    hash: HashName,
     packet: &[u8],
     off: usize,
     len: usize,
 )
-    requires serves { IsTrue (H.chaining.serves hash) }
     requires small { len < 2 ^ 32 }
     requires range { off + len ≤ length packet.now }
-    requires whole { length (H.ends_bytes ends.old) ≡ 5 * H.chaining.block_bytes }
-    ensures value { take (H.chaining.block_bytes * (tail_blocks H.chaining.block_bytes len + 1)) (drop H.chaining.block_bytes (H.ends_bytes ends.new))
-        ≡ message_end H.chaining H.chaining.block_bytes packet.now off len ++ digest_block H.chaining hash (replicate H.chaining.words 0) }
-    ensures length { length (H.ends_bytes ends.new) ≡ 5 * H.chaining.block_bytes }
+    requires whole { length (H.ends_bytes ends.old) ≡ 4 * H.chaining.block_bytes }
+    ensures value { take (H.chaining.block_bytes * tail_blocks H.chaining.block_bytes len) (drop H.chaining.block_bytes (H.ends_bytes ends.new))
+        ≡ message_end H.chaining H.chaining.block_bytes packet.now off len }
+    ensures length { length (H.ends_bytes ends.new) ≡ 4 * H.chaining.block_bytes }
 {
-    let at = put_end::<H>(ends, H::block_bytes(), packet, off, len);
-    put_digest::<H>(ends, at, hash, &H::zeros());
+    put_end::<H>(ends, H::block_bytes(), packet, off, len);
 }

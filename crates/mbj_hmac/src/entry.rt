@@ -1,4 +1,4 @@
-ghost use Rattle.std.specs.Prelude.{◌≡◌, ◌+◌, ◌-◌, ◌*◌, ◌<◌, ◌≤◌, length, replicate, take, drop, IfSome, IsTrue};
+ghost use Rattle.std.specs.Prelude.{◌≡◌, ◌+◌, ◌-◌, ◌*◌, ◌<◌, ◌≤◌, length, take, drop, IfSome, IsTrue};
 ghost use Rattle.mbj_types.specs.Auths.{class_of, compression_of_name, hash_of, hash_of_name, plain_hash_of, states_hash_of};
 ghost use Rattle.mbj_types.specs.Hmac.{block_key, padded_key, hmac, ipad, opad};
 ghost use Rattle.mbj_types.specs.Rounds.{hash_rounds, hmac_rounds, states_rounds};
@@ -6,17 +6,17 @@ ghost use Rattle.mbj_types.specs.States.{hmac_from_states};
 ghost use Rattle.mbj_lane.specs.Rounds.{end_of};
 ghost use Rattle.mbj_hmac.specs.Names.{name_of, plain_name_of, serves_auth, serves_lanes, serves_plain, serves_states, states_name_of};
 ghost use Rattle.mbj_hmac.specs.Begun.{begun};
-ghost use Rattle.mbj_hmac.specs.Inside.InLanes.{idle, moved, turn_of, with_chain};
-ghost use Rattle.mbj_hmac.specs.Rounds.{HmacState, block_before, outer_rounds, rest_of, round, started, started_plain, started_states, turned};
+ghost use Rattle.mbj_hmac.specs.Inside.InLanes.{HasDigest, block_in, idle, moved, turn_of, with_chains};
+ghost use Rattle.mbj_hmac.specs.Rounds.{HmacState, rest_of, round, started, started_plain, started_states};
 
 use crate::ends::{
-    plain_rounds, put_digest, put_first_ends, put_plain_ends, put_states_ends, rounds,
-    states_rounds, tail_blocks,
+    plain_rounds, put_first_ends, put_plain_ends, put_states_ends, rounds, states_rounds,
 };
 use crate::form::Form;
 use crate::key::{MAX_BLOCK_BYTES, hash_key};
 use crate::lane_hash::LaneHash;
-use crate::places::{Places, source};
+use crate::places::{Places, blank_block, source};
+use crate::rests::NEVER;
 use mbj_types::{Auth, AuthClass, HashName, Tag};
 use std::alloc::Global;
 use std::marker::Model;
@@ -35,15 +35,15 @@ pub struct HmacEntry<H: LaneHash> {
     pub rest: u32,
     /// The hash value.
     pub chain: H::Chain,
-    /// The hash value of an HMAC's inner hash, once that is done; zeros before, and in a digest.
+    /// The hash value of an HMAC's inner hash, once that is done; zeros before, and in a digest. The lanes have their own, as of `chain`.
     pub inner: H::Chain,
     /// The hash value from which an HMAC's outer hash starts; zeros in a digest.
     start: H::Chain,
     hash: HashName,
     form: Form,
     ends: H::Ends,
-    off: usize,
-    len: usize,
+    off: u32,
+    len: u32,
     places: Places,
 }
 
@@ -192,10 +192,10 @@ impl<H: LaneHash> HmacEntry<H> {
             (take H.chaining.block_bytes (padded_key opad key.now)) packet.items off len }
         ensures pads { length key.now ≡ MAX_BLOCK_BYTES }
     {
-        let (off, len) = (off as usize, len as usize);
-        put_first_ends::<H>(&mut self.ends, hash, key, &packet, off, len);
+        let bytes = len as usize;
+        put_first_ends::<H>(&mut self.ends, key, &packet, off as usize, bytes);
         self.packet = packet;
-        self.rest = rounds::<H>(len);
+        self.rest = rounds::<H>(bytes);
         self.chain = H::initial(hash);
         self.inner = H::zeros();
         self.start = H::initial(hash);
@@ -203,7 +203,7 @@ impl<H: LaneHash> HmacEntry<H> {
         self.form = Form::Keyed;
         self.off = off;
         self.len = len;
-        self.places = Places::of::<H>(Form::Keyed, len);
+        self.places = Places::of::<H>(Form::Keyed, bytes);
     }
 
     /// Becomes a digest of which nothing is done, by its hash.
@@ -212,10 +212,10 @@ impl<H: LaneHash> HmacEntry<H> {
         requires range { off + len ≤ length packet.items }
         ensures { self.new ≡ started_plain H.chaining hash packet.items off len }
     {
-        let (off, len) = (off as usize, len as usize);
-        put_plain_ends::<H>(&mut self.ends, &packet, off, len);
+        let bytes = len as usize;
+        put_plain_ends::<H>(&mut self.ends, &packet, off as usize, bytes);
         self.packet = packet;
-        self.rest = plain_rounds::<H>(len);
+        self.rest = plain_rounds::<H>(bytes);
         self.chain = H::initial(hash);
         self.inner = H::zeros();
         self.start = H::zeros();
@@ -223,7 +223,7 @@ impl<H: LaneHash> HmacEntry<H> {
         self.form = Form::Plain;
         self.off = off;
         self.len = len;
-        self.places = Places::of::<H>(Form::Plain, len);
+        self.places = Places::of::<H>(Form::Plain, bytes);
     }
 
     /// Becomes an HMAC from the hash values of its states, of which nothing is done.
@@ -240,10 +240,10 @@ impl<H: LaneHash> HmacEntry<H> {
         requires range { off + len ≤ length packet.items }
         ensures { self.new ≡ started_states H.chaining hash (H.words inner) (H.words outer) packet.items off len }
     {
-        let (off, len) = (off as usize, len as usize);
-        put_states_ends::<H>(&mut self.ends, hash, &packet, off, len);
+        let bytes = len as usize;
+        put_states_ends::<H>(&mut self.ends, &packet, off as usize, bytes);
         self.packet = packet;
-        self.rest = states_rounds::<H>(len);
+        self.rest = states_rounds::<H>(bytes);
         self.chain = inner;
         self.inner = H::zeros();
         self.start = outer;
@@ -251,7 +251,7 @@ impl<H: LaneHash> HmacEntry<H> {
         self.form = Form::States;
         self.off = off;
         self.len = len;
-        self.places = Places::of::<H>(Form::States, len);
+        self.places = Places::of::<H>(Form::States, bytes);
     }
 
     /// The packet, and the digest or HMAC in full. No round is left.
@@ -264,28 +264,21 @@ impl<H: LaneHash> HmacEntry<H> {
         (self.packet, tag)
     }
 
-    /// The rounds of the outer hash: a digest has none.
-    #[inline(always)]
-    pub(crate) fn outer_rounds(&self) -> u32
-        ensures { result ≡ outer_rounds self.now }
-    {
-        self.form.outer_rounds()
-    }
-
-    /// The block of the round after `done` others. The outer hash starts with the first of these rounds, or with none of them.
+    /// The block of the round after `done` others, or one of zeros where it is made in the vectors of the lanes or no round is left.
     #[inline(always)]
     pub(crate) fn block(&self, done: u32) -> &[u8]
-        requires { done < self.now.rest }
-        ensures block { result.now ≡ block_before H.chaining self.now (self.now.rest - done) }
+        ensures block { result.now ≡ block_in H.chaining self.now done }
         ensures length { length result.now ≡ H.chaining.block_bytes }
     {
         let block = H::block_bytes();
-        let rest = self.rest - done;
-        let at = self.places.place(rest, self.off, block);
+        let rest = self.rest.saturating_sub(done);
+        let at = self.places.place(rest, self.off as usize, block);
         let source = source(
             self.places.is_in_packet(rest),
+            self.places.is_read(rest),
             &self.packet,
             H::ends(&self.ends),
+            blank_block::<H>(),
         );
         &source[at..at + block]
     }
@@ -304,16 +297,33 @@ impl<H: LaneHash> HmacEntry<H> {
     pub(crate) fn turn_rest(&self) -> u32
         ensures { result ≡ turn_of self.now }
     {
-        let outer = self.outer_rounds();
-        if outer > 0 { outer } else { u32::MAX }
+        let outer = self.form.outer_rounds();
+        if outer > 0 { outer } else { NEVER }
     }
 
-    /// The entry gets the hash value of its lane.
+    /// The hash value from which the outer hash starts.
     #[inline(always)]
-    pub(crate) fn set_chain(&mut self, chain: H::Chain)
-        ensures { self.new ≡ with_chain (H.words chain) self.old }
+    pub(crate) fn outer_start(&self) -> &H::Chain
+        ensures { H.words result.now ≡ self.now.start }
+    {
+        &self.start
+    }
+
+    /// How many bits the block of the inner digest counts: those of a block and of the digest.
+    #[inline(always)]
+    pub(crate) fn digest_bits(&self) -> u32
+        ensures { HasDigest H.chaining result self.now }
+    {
+        H::digest_bits(self.hash)
+    }
+
+    /// The entry gets the hash values of its lane.
+    #[inline(always)]
+    pub(crate) fn set_chains(&mut self, chain: H::Chain, inner: H::Chain)
+        ensures { self.new ≡ with_chains (H.words chain) (H.words inner) self.old }
     {
         self.chain = chain;
+        self.inner = inner;
     }
 
     /// The rest falls by `m`, or to 0 where fewer rounds are left.
@@ -324,11 +334,11 @@ impl<H: LaneHash> HmacEntry<H> {
         self.rest = self.rest.saturating_sub(m);
     }
 
-    /// The entry moves out with the hash value of its lane, and leaves its place without a packet. No round is left.
+    /// The entry moves out with the hash values of its lane, and leaves its place without a packet. No round is left.
     #[inline(always)]
-    pub(crate) fn end(&mut self, chain: H::Chain) -> HmacEntry<H>
+    pub(crate) fn end(&mut self, chain: H::Chain, inner: H::Chain) -> HmacEntry<H>
         requires { self.old.rest ≡ 0 }
-        ensures taken { result ≡ with_chain (H.words chain) self.old }
+        ensures taken { result ≡ with_chains (H.words chain) (H.words inner) self.old }
         ensures rest { self.new.rest ≡ 0 }
     {
         let alloc = *self.packet.allocator();
@@ -336,7 +346,7 @@ impl<H: LaneHash> HmacEntry<H> {
             packet: mem::replace(&mut self.packet, Vec::new(alloc)),
             rest: self.rest,
             chain,
-            inner: self.inner,
+            inner,
             start: self.start,
             hash: self.hash,
             form: self.form,
@@ -358,18 +368,5 @@ impl<H: LaneHash> HmacEntry<H> {
         let alloc = *self.packet.allocator();
         let packet = mem::replace(&mut self.packet, Vec::new(alloc));
         (packet, H::digest(self.hash, chain))
-    }
-
-    /// Where the first round of an HMAC's outer hash is next, the hash value moves, and the outer hash starts.
-    pub(crate) fn turn(&mut self)
-        ensures { self.new ≡ turned H.chaining self.old }
-    {
-        let outer = self.outer_rounds();
-        if outer > 0 && self.rest == outer {
-            let at = H::block_bytes() * (tail_blocks::<H>(self.len) + outer as usize);
-            put_digest::<H>(&mut self.ends, at, self.hash, &self.chain);
-            self.inner = self.chain;
-            self.chain = self.start;
-        }
     }
 }

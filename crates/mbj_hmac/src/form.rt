@@ -1,6 +1,6 @@
 // What an entry is: a digest, an HMAC under a key, or an HMAC from stored states.
 ghost use Rattle.std.specs.Prelude.{◌≡◌};
-ghost use Rattle.mbj_hmac.specs.Forms.{outer_rounds_of};
+ghost use Rattle.mbj_hmac.specs.Forms.{made_rounds_of, outer_rounds_of};
 
 /// The forms of an entry.
 #[derive(Clone, Copy)]
@@ -24,6 +24,17 @@ impl Form {
             Form::Plain => 0,
             Form::Keyed => 2,
             Form::States => 1,
+        }
+    }
+
+    /// The rounds whose block is made in the vectors of the lanes: that of an HMAC's inner digest.
+    #[inline(always)]
+    pub(crate) fn made_rounds(self) -> u32
+        ensures { result ≡ made_rounds_of self }
+    {
+        match self {
+            Form::Plain => 0,
+            Form::Keyed | Form::States => 1,
         }
     }
 }

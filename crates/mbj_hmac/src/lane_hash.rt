@@ -1,14 +1,16 @@
-ghost use Rattle.std.specs.Prelude.{◌≡◌, ℕ, ◌+◌, ◌*◌, ◌^◌, ◌<◌, ◌≤◌, List, ◌++◌, length, take, replicate, IsTrue};
+ghost use Rattle.std.specs.Prelude.{◌≡◌, ℕ, ◌+◌, ◌*◌, ◌^◌, ◌<◌, ◌≤◌, ◌==◌, List, ◌++◌, length, take, replicate, IsTrue, if◌then◌else◌};
 ghost use Rattle.mbj_types.specs.Auths.{compression_of_name, hash_of_name};
 ghost use Rattle.mbj_types.specs.declared.class.HashName.{HashName};
+ghost use Rattle.mbj_types.specs.Lanes.{lane_at};
 ghost use Rattle.mbj_sha_lanes.specs.Halves.{IsWithin};
 ghost use Rattle.mbj_hmac.specs.Rounds.{Chaining, compression, hashed};
-ghost use Rattle.mbj_hmac.specs.Inside.InLanes.{most_lanes};
-ghost use Rattle.mbj_hmac.specs.Inside.Layout.{IsStandard};
+ghost use Rattle.mbj_hmac.specs.Inside.InLanes.{IsDigestBits, most_lanes};
+ghost use Rattle.mbj_hmac.specs.Inside.Layout.{IsStandard, digest_block};
 
 use crate::view::Chains;
 use mbj_sha_lanes::{Blocks, Half};
 use mbj_types::{HashName, Tag};
+use std::simd::u32x16;
 
 /// Hashes of FIPS 180-4 that share a compression, which is done in lanes.
 pub trait LaneHash {
@@ -21,7 +23,7 @@ pub trait LaneHash {
     /// Room for the schedule of a block in each lane, where it is made whole before the rounds.
     type Schedule: Drop;
 
-    /// Five blocks, which an entry holds beside its packet.
+    /// Four blocks, which an entry holds beside its packet.
     type Ends: Copy + Drop;
 
     /// How many hash values are compressed at once.
@@ -58,9 +60,9 @@ pub trait LaneHash {
     fn zeros() -> Self::Chain
         ensures { words result ≡ replicate chaining.words 0 };
 
-    /// Five blocks, whose bytes are not looked at.
+    /// Four blocks, whose bytes are not looked at.
     fn blank_ends() -> Self::Ends
-        ensures { length (ends_bytes result) ≡ 5 * chaining.block_bytes };
+        ensures { length (ends_bytes result) ≡ 4 * chaining.block_bytes };
 
     /// Lends the bytes of an entry's blocks.
     fn ends(ends: &Self::Ends) -> &[u8]
@@ -68,15 +70,20 @@ pub trait LaneHash {
 
     /// Writes bytes, and returns the place behind them. What stands behind is not looked at.
     fn put(ends: &mut Self::Ends, at: usize, bytes: &[u8]) -> usize
-        requires { at + length bytes.now ≤ 5 * chaining.block_bytes }
+        requires { at + length bytes.now ≤ 4 * chaining.block_bytes }
         ensures next { result ≡ at + length bytes.now }
         ensures written { take (at + length bytes.now) (ends_bytes ends.new) ≡ take at (ends_bytes ends.old) ++ bytes.now }
-        ensures len { length (ends_bytes ends.new) ≡ 5 * chaining.block_bytes };
+        ensures len { length (ends_bytes ends.new) ≡ 4 * chaining.block_bytes };
 
     /// The digest that a hash value gives, of a hash that is served.
     fn digest(hash: HashName, chain: &Self::Chain) -> Tag
         requires { IsTrue (chaining.serves hash) }
         ensures { result ≡ chaining.digest hash (words chain.now) };
+
+    /// The bits of a block and of a digest behind it, of a hash that is served.
+    fn digest_bits(hash: HashName) -> u32
+        requires { IsTrue (chaining.serves hash) }
+        ensures { IsDigestBits chaining hash result };
 
     /// The hash value that a stored state holds.
     fn load(state: &[u8]) -> Self::Chain
@@ -114,6 +121,52 @@ pub trait LaneHash {
         requires lent { (i : ℕ) → i < LANES → B.lends blocks.now i }
         ensures { (i : ℕ) → i < LANES → IsWithin half i
             → lane states.new i ≡ chaining.compress (lane states.old i) (B.block blocks.now i) };
+
+    /// Compresses into the hash value of each lane, or of each in the half that is named, the block that holds the digest of its inner
+    /// hash value, with the padding behind a block and the digest. A lane's word of `bits` says how many bits these two have. What the
+    /// other lanes hold then is not looked at.
+    fn compress_digests(
+        states: &mut Self::States,
+        schedule: &mut Self::Schedule,
+        inner: &Self::States,
+        bits: u32x16,
+        half: Option<Half>,
+    )
+        ensures { (i : ℕ) → i < LANES → IsWithin half i → (a : HashName) → IsTrue (chaining.serves a) → IsDigestBits chaining a (lane_at 32 bits i)
+            → lane states.new i ≡ chaining.compress (lane states.old i) (digest_block chaining a (lane inner.now i)) };
+
+    /// Compresses such a block where a lane's word of `counts` is the number `last`, and else the lane's block of those that are lent.
+    fn compress_mixed<B: Blocks>(
+        states: &mut Self::States,
+        schedule: &mut Self::Schedule,
+        blocks: &B,
+        half: Option<Half>,
+        inner: &Self::States,
+        bits: u32x16,
+        counts: u32x16,
+        last: u32,
+    )
+        requires size { B.block_bytes ≡ chaining.block_bytes }
+        requires lent { (i : ℕ) → i < LANES → B.lends blocks.now i }
+        ensures digests { (i : ℕ) → i < LANES → IsWithin half i → lane_at 32 counts i ≡ last
+            → (a : HashName) → IsTrue (chaining.serves a) → IsDigestBits chaining a (lane_at 32 bits i)
+            → lane states.new i ≡ chaining.compress (lane states.old i) (digest_block chaining a (lane inner.now i)) }
+        ensures blocks { (i : ℕ) → i < LANES → IsWithin half i → (lane_at 32 counts i ≡ last → ⊥)
+            → lane states.new i ≡ chaining.compress (lane states.old i) (B.block blocks.now i) };
+
+    /// In each lane in which `lefts` and `turns` have the same number the hash value becomes the inner one, and that of `starts` takes its
+    /// place.
+    fn turn(
+        states: &mut Self::States,
+        inner: &mut Self::States,
+        starts: &Self::States,
+        lefts: u32x16,
+        turns: u32x16,
+    )
+        ensures states { (i : ℕ) → i < LANES
+            → lane states.new i ≡ if lane_at 32 lefts i == lane_at 32 turns i then lane starts.now i else lane states.old i }
+        ensures inner { (i : ℕ) → i < LANES
+            → lane inner.new i ≡ if lane_at 32 lefts i == lane_at 32 turns i then lane states.old i else lane inner.old i };
 
     /// Hash values of lanes that have none, which are not looked at.
     fn blank_states() -> Self::States;

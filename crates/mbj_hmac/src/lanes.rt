@@ -1,27 +1,28 @@
-// The lanes of a hash. Each holds the hash value of the entry of its number, and the rest; the other fields stay with the entry.
-ghost use Rattle.std.specs.Prelude.{◌≡◌, ℕ, ◌-◌, ◌<◌, ◌≤◌, length, map};
+// The lanes of a hash. Each holds the hash values of the entry of its number, and the rest; the other fields stay with the entry.
+ghost use Rattle.std.specs.Prelude.{◌≡◌, ℕ, ◌-◌, ◌<◌, ◌≤◌, ◌==◌, length, map, if◌then◌else◌};
 ghost use Rattle.mbj_types.specs.Lanes.{lane_at};
 ghost use Rattle.mbj_lane.specs.Rounds.{after};
-ghost use Rattle.mbj_sha_lanes.specs.Halves.{IsWithin};
-ghost use Rattle.mbj_hmac.specs.Rounds.{advanced, round, turned};
-ghost use Rattle.mbj_hmac.specs.Inside.InLanes.{AreTied, IsTied, entry_in, idle, lowered, most_lanes, moved, reach_at, seen_at, turn_of, with_chain};
+ghost use Rattle.mbj_hmac.specs.Rounds.{advanced, round};
+ghost use Rattle.mbj_hmac.specs.Inside.InLanes.{AreReady, AreTied, IsReady, entry_in, idle, lowered, most_lanes, moved, reach_at, seen_at, turn_of};
 
 use crate::entry::HmacEntry;
 use crate::lane_hash::LaneHash;
+use crate::next_blocks::compressed;
 use crate::rests::{
-    IDLE, busy_half, is_turn, least, least_lane, lowered, reaches, with_word32, word_of,
+    IDLE, NEVER, busy_half, has_equal, least, least_lane, lowered, reaches, with_word32,
 };
-use crate::view::{LaneEntries, chain_of};
-use mbj_sha_lanes::Half;
+use crate::view::{chain_of, inner_of};
 use std::simd::u32x16;
 
-/// How many rounds the entries of all lanes have left.
+/// What the lanes have of their entries in numbers.
 #[derive(Drop)]
 pub(crate) struct Rests {
-    /// The rests, which the entries say too. An idle lane has `IDLE`.
+    /// How many rounds are left, which the entries say too. An idle lane has `IDLE`.
     pub(crate) left: u32x16,
-    /// With how many rounds left the outer hash of each starts. A digest, which has none, has 2^32 - 1.
+    /// With how many rounds left the outer hash of each starts. A digest, which has none, has `NEVER`.
     pub(crate) turns: u32x16,
+    /// The bits of a block and of the inner digest behind it.
+    pub(crate) bits: u32x16,
 }
 
 /// What the lanes of a hash hold.
@@ -29,6 +30,10 @@ pub(crate) struct Rests {
 pub(crate) struct HmacLanes<H: LaneHash> {
     /// The hash values. Those that the entries have in their fields are not looked at.
     pub(crate) states: H::States,
+    /// The hash values of inner hashes that are done. Those of the entries are not looked at.
+    pub(crate) inner: H::States,
+    /// The hash values from which the outer hashes start.
+    pub(crate) starts: H::States,
     pub(crate) rests: Rests,
 }
 
@@ -39,7 +44,8 @@ impl Rests {
     {
         Rests {
             left: u32x16::splat(IDLE),
-            turns: u32x16::splat(u32::MAX),
+            turns: u32x16::splat(NEVER),
+            bits: u32x16::splat(0),
         }
     }
 }
@@ -51,6 +57,8 @@ impl<H: LaneHash> HmacLanes<H> {
     {
         HmacLanes {
             states: H::blank_states(),
+            inner: H::blank_states(),
+            starts: H::blank_states(),
             rests: Rests::idle(),
         }
     }
@@ -63,14 +71,22 @@ impl<H: LaneHash> HmacLanes<H> {
         ensures turn { lane_at 32 self.new.rests.turns i ≡ turn_of entry.now }
         ensures few { entry.now.rest < idle }
         ensures chain { H.lane self.new.states i ≡ entry.now.chain }
+        ensures inner { H.lane self.new.inner i ≡ entry.now.inner }
+        ensures ready { IsReady H.chaining (H.lane self.new.starts i) (lane_at 32 self.new.rests.bits i) entry.now }
         ensures rests { (j : ℕ) → j < most_lanes → (j ≡ i → ⊥) → lane_at 32 self.new.rests.left j ≡ lane_at 32 self.old.rests.left j }
         ensures turns { (j : ℕ) → j < most_lanes → (j ≡ i → ⊥) → lane_at 32 self.new.rests.turns j ≡ lane_at 32 self.old.rests.turns j }
+        ensures bits { (j : ℕ) → j < most_lanes → (j ≡ i → ⊥) → lane_at 32 self.new.rests.bits j ≡ lane_at 32 self.old.rests.bits j }
         ensures chains { (j : ℕ) → j < H.LANES → (j ≡ i → ⊥) → H.lane self.new.states j ≡ H.lane self.old.states j }
+        ensures inners { (j : ℕ) → j < H.LANES → (j ≡ i → ⊥) → H.lane self.new.inner j ≡ H.lane self.old.inner j }
+        ensures starts { (j : ℕ) → j < H.LANES → (j ≡ i → ⊥) → H.lane self.new.starts j ≡ H.lane self.old.starts j }
     {
         let chain = chain_of(entry);
         self.rests.left = with_word32(self.rests.left, i, entry.left());
         self.rests.turns = with_word32(self.rests.turns, i, entry.turn_rest());
+        self.rests.bits = with_word32(self.rests.bits, i, entry.digest_bits());
         H::set_lane(&mut self.states, i, chain);
+        H::set_lane(&mut self.inner, i, inner_of(entry));
+        H::set_lane(&mut self.starts, i, entry.outer_start());
     }
 
     /// A lane is idle from now on.
@@ -80,56 +96,32 @@ impl<H: LaneHash> HmacLanes<H> {
         ensures rest { lane_at 32 self.new.rests.left i ≡ idle }
         ensures rests { (j : ℕ) → j < most_lanes → (j ≡ i → ⊥) → lane_at 32 self.new.rests.left j ≡ lane_at 32 self.old.rests.left j }
         ensures turns { self.new.rests.turns ≡ self.old.rests.turns }
+        ensures bits { self.new.rests.bits ≡ self.old.rests.bits }
         ensures states { self.new.states ≡ self.old.states }
+        ensures inner { self.new.inner ≡ self.old.inner }
+        ensures starts { self.new.starts ≡ self.old.starts }
     {
         self.rests.left = with_word32(self.rests.left, i, IDLE);
     }
 
-    /// The outer hash starts in a lane whose entry comes to its first block.
+    /// The outer hash starts in each lane whose entry comes to its first block: the hash value becomes the inner one.
     #[inline(always)]
-    fn turn(&mut self, i: usize, entry: &mut HmacEntry<H>)
-        requires lane { i < H.LANES }
-        requires tied { IsTied (lane_at 32 self.old.rests.left i) (lane_at 32 self.old.rests.turns i) entry.old }
-        ensures turned { with_chain (H.lane self.new.states i) entry.new ≡ turned H.chaining (with_chain (H.lane self.old.states i) entry.old) }
-        ensures others { (j : ℕ) → j < H.LANES → (j ≡ i → ⊥) → H.lane self.new.states j ≡ H.lane self.old.states j }
-        ensures rests { self.new.rests.left ≡ self.old.rests.left }
-        ensures turns { self.new.rests.turns ≡ self.old.rests.turns }
+    fn turn_due(&mut self)
+        ensures states { (i : ℕ) → i < H.LANES → H.lane self.new.states i
+            ≡ if lane_at 32 self.old.rests.left i == lane_at 32 self.old.rests.turns i then H.lane self.old.starts i else H.lane self.old.states i }
+        ensures inner { (i : ℕ) → i < H.LANES → H.lane self.new.inner i
+            ≡ if lane_at 32 self.old.rests.left i == lane_at 32 self.old.rests.turns i then H.lane self.old.states i else H.lane self.old.inner i }
+        ensures rests { self.new.rests ≡ self.old.rests }
+        ensures starts { self.new.starts ≡ self.old.starts }
     {
-        if word_of(&self.rests.left, i) == word_of(&self.rests.turns, i) {
-            entry.set_chain(H::scattered(&self.states, i));
-            entry.turn();
-            H::set_lane(&mut self.states, i, chain_of(entry));
-        }
-    }
-
-    /// The outer hash starts in each lane whose entry comes to its first block.
-    #[inline(never)]
-    fn turn_all(&mut self, entries: &mut [HmacEntry<H>])
-        requires few { length entries.old ≤ H.LANES }
-        requires tied { AreTied self.old.rests.left self.old.rests.turns entries.old }
-        ensures turned { (i : ℕ) → i < length entries.old → seen_at (H.lane self.new.states) entries.new i
-            ≡ turned H.chaining (seen_at (H.lane self.old.states) entries.old i) }
-        ensures rests { self.new.rests.left ≡ self.old.rests.left }
-        ensures turns { self.new.rests.turns ≡ self.old.rests.turns }
-    {
-        'turns: for i in 0..entries.len() {
-            self.turn(i, &mut entries[i]);
-        }
-    }
-
-    /// The same, where there is such a lane.
-    #[inline(always)]
-    fn turn_due(&mut self, entries: &mut [HmacEntry<H>])
-        requires few { length entries.old ≤ H.LANES }
-        requires tied { AreTied self.old.rests.left self.old.rests.turns entries.old }
-        ensures turned { (i : ℕ) → i < most_lanes → lane_at 32 self.old.rests.left i < idle → seen_at (H.lane self.new.states) entries.new i
-            ≡ turned H.chaining (seen_at (H.lane self.old.states) entries.old i) }
-        ensures tied { AreTied self.new.rests.left self.new.rests.turns entries.new }
-        ensures rests { self.new.rests.left ≡ self.old.rests.left }
-        ensures turns { self.new.rests.turns ≡ self.old.rests.turns }
-    {
-        if is_turn(self.rests.left, self.rests.turns) {
-            self.turn_all(entries);
+        if has_equal(self.rests.left, self.rests.turns) {
+            H::turn(
+                &mut self.states,
+                &mut self.inner,
+                &self.starts,
+                self.rests.left,
+                self.rests.turns,
+            );
         }
     }
 
@@ -138,15 +130,26 @@ impl<H: LaneHash> HmacLanes<H> {
     fn stretch(&mut self, entries: &mut [HmacEntry<H>], m: u32, schedule: &mut H::Schedule)
         requires few { length entries.old ≤ H.LANES }
         requires tied { AreTied self.old.rests.left self.old.rests.turns entries.old }
+        requires ready { AreReady H.chaining (H.lane self.old.starts) self.old.rests.bits self.old.rests.left entries.old }
         requires some { 0 < m }
         requires rests { (i : ℕ) → i < most_lanes → lane_at 32 self.old.rests.left i < idle → m ≤ lane_at 32 self.old.rests.left i }
-        ensures led { (i : ℕ) → i < most_lanes → lane_at 32 self.old.rests.left i < idle → seen_at (H.lane self.new.states) entries.new i
-            ≡ after (advanced H.chaining) m (seen_at (H.lane self.old.states) entries.old i) }
+        ensures led { (i : ℕ) → i < most_lanes → lane_at 32 self.old.rests.left i < idle
+            → seen_at (H.lane self.new.states) (H.lane self.new.inner) entries.new i
+            ≡ after (advanced H.chaining) m (seen_at (H.lane self.old.states) (H.lane self.old.inner) entries.old i) }
         ensures tied { AreTied self.new.rests.left self.new.rests.turns entries.new }
+        ensures ready { AreReady H.chaining (H.lane self.new.starts) self.new.rests.bits self.new.rests.left entries.new }
         ensures rests { (i : ℕ) → i < most_lanes → lane_at 32 self.new.rests.left i ≡ lowered m (lane_at 32 self.old.rests.left i) }
     {
         let half = busy_half(self.rests.left);
-        compressed::<H>(entries, m, half, &mut self.states, schedule);
+        compressed::<H>(
+            entries,
+            m,
+            half,
+            &self.rests,
+            &self.inner,
+            &mut self.states,
+            schedule,
+        );
         go_on(entries, m);
         self.rests.left = lowered(self.rests.left, m);
     }
@@ -166,16 +169,19 @@ impl<H: LaneHash> HmacLanes<H> {
     pub(crate) fn run(&mut self, entries: &mut [HmacEntry<H>], m: u32)
         requires few { length entries.old ≤ H.LANES }
         requires tied { AreTied self.old.rests.left self.old.rests.turns entries.old }
+        requires ready { AreReady H.chaining (H.lane self.old.starts) self.old.rests.bits self.old.rests.left entries.old }
         requires rests { (i : ℕ) → i < most_lanes → lane_at 32 self.old.rests.left i < idle → m ≤ lane_at 32 self.old.rests.left i }
-        ensures led { (i : ℕ) → i < most_lanes → lane_at 32 self.old.rests.left i < idle → seen_at (H.lane self.new.states) entries.new i
-            ≡ after (round H.chaining) m (seen_at (H.lane self.old.states) entries.old i) }
+        ensures led { (i : ℕ) → i < most_lanes → lane_at 32 self.old.rests.left i < idle
+            → seen_at (H.lane self.new.states) (H.lane self.new.inner) entries.new i
+            ≡ after (round H.chaining) m (seen_at (H.lane self.old.states) (H.lane self.old.inner) entries.old i) }
         ensures tied { AreTied self.new.rests.left self.new.rests.turns entries.new }
+        ensures ready { AreReady H.chaining (H.lane self.new.starts) self.new.rests.bits self.new.rests.left entries.new }
         ensures rests { (i : ℕ) → i < most_lanes → lane_at 32 self.new.rests.left i ≡ lowered m (lane_at 32 self.old.rests.left i) }
     {
         let mut schedule = H::blank_schedule();
         let mut left = m;
         while left > 0 {
-            self.turn_due(entries);
+            self.turn_due();
             let len = self.reach(left);
             self.stretch(entries, len, &mut schedule);
             left -= len;
@@ -186,8 +192,10 @@ impl<H: LaneHash> HmacLanes<H> {
     pub(crate) fn of(entries: &[HmacEntry<H>]) -> HmacLanes<H>
         requires { length entries.now ≤ H.LANES }
         ensures tied { AreTied result.rests.left result.rests.turns entries.now }
+        ensures ready { AreReady H.chaining (H.lane result.starts) result.rests.bits result.rests.left entries.now }
         ensures rests { (i : ℕ) → i < length entries.now → lane_at 32 result.rests.left i < idle }
         ensures chains { (i : ℕ) → i < length entries.now → H.lane result.states i ≡ (entry_in entries.now i).chain }
+        ensures inners { (i : ℕ) → i < length entries.now → H.lane result.inner i ≡ (entry_in entries.now i).inner }
     {
         let mut lanes = HmacLanes::new();
         'lanes: for i in 0..entries.len() {
@@ -199,31 +207,14 @@ impl<H: LaneHash> HmacLanes<H> {
     /// The hash values go back into entries side by side.
     pub(crate) fn give_back(&self, entries: &mut [HmacEntry<H>])
         requires { length entries.old ≤ H.LANES }
-        ensures { (i : ℕ) → i < length entries.old → entry_in entries.new i ≡ seen_at (H.lane self.now.states) entries.old i }
+        ensures { (i : ℕ) → i < length entries.old → entry_in entries.new i ≡ seen_at (H.lane self.now.states) (H.lane self.now.inner) entries.old i }
     {
         'entries: for i in 0..entries.len() {
             let chain = H::scattered(&self.states, i);
+            let inner = H::scattered(&self.inner, i);
             let entry = &mut entries[i];
-            entry.set_chain(chain);
+            entry.set_chains(chain, inner);
         }
-    }
-}
-
-/// The hash values are led through the next `m` blocks of the entries that have rounds left, all of which are in the half that is named.
-fn compressed<H: LaneHash>(
-    entries: &[HmacEntry<H>],
-    m: u32,
-    half: Option<Half>,
-    states: &mut H::States,
-    schedule: &mut H::Schedule,
-)
-    requires rests { (i : ℕ) → 0 < (entry_in entries.now i).rest → m ≤ (entry_in entries.now i).rest }
-    requires half { (i : ℕ) → i < H.LANES → 0 < (entry_in entries.now i).rest → IsWithin half i }
-    ensures { (i : ℕ) → i < H.LANES → 0 < (entry_in entries.now i).rest
-        → H.lane states.new i ≡ (after (advanced H.chaining) m (seen_at (H.lane states.old) entries.now i)).chain }
-{
-    'passes: for done in 0..m {
-        H::compress(states, schedule, &LaneEntries { entries, done }, half);
     }
 }
 

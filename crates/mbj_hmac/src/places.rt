@@ -1,15 +1,18 @@
 // Where the blocks of an entry stand, by the rounds that are left.
-ghost use Rattle.std.specs.Prelude.{◌≡◌, ◌+◌, ◌*◌, ◌^◌, ◌<◌, ◌≤◌, false, nat_lt, if◌then◌else◌};
+ghost use Rattle.std.specs.Prelude.{◌≡◌, ◌+◌, ◌*◌, ◌^◌, ◌<◌, ◌≤◌, false, length, nat_lt, replicate, if◌then◌else◌};
 ghost use Rattle.mbj_hmac.specs.Inside.Layout.{IsPlaced, is_in_packet, place_at};
 
 use crate::ends::tail_blocks;
 use crate::form::Form;
+use crate::key::MAX_BLOCK_BYTES;
 use crate::lane_hash::LaneHash;
 
 /// Where the blocks of an entry stand. They are counted from the last one, which has the least number of rounds left.
 #[derive(Clone, Copy)]
 pub(crate) struct Places {
-    /// Up to this rest they stand in the entry, behind its first block.
+    /// Up to this rest they are made in the vectors of the lanes.
+    made: u32,
+    /// Above that, and up to this rest, they stand in the entry, behind its first block.
     behind: u32,
     /// Above that, and up to this rest, they stand in the packet. Above this there is the first block of the entry.
     high: u32,
@@ -24,6 +27,7 @@ impl Places {
     {
         let behind = tail_blocks::<H>(len) as u32 + form.outer_rounds();
         Places {
+            made: form.made_rounds(),
             behind,
             high: behind + (len / H::block_bytes()) as u32,
         }
@@ -37,7 +41,15 @@ impl Places {
         self.behind < rest && rest <= self.high
     }
 
-    /// Where the block begins, in the packet or in the entry. The message is in the packet from `off` on.
+    /// The block stands in the packet or in the entry.
+    #[inline(always)]
+    pub(crate) fn is_read(self, rest: u32) -> bool
+        ensures { result ≡ nat_lt self.made rest }
+    {
+        self.made < rest
+    }
+
+    /// Where the block begins, in the packet or in the entry; 0 for one that is made. The message is in the packet from `off` on.
     #[inline(always)]
     pub(crate) fn place(self, rest: u32, off: usize, block: usize) -> usize
         requires off { off < 2 ^ 63 }
@@ -49,16 +61,42 @@ impl Places {
             0
         } else if rest > self.behind {
             off + block * (self.high - rest) as usize
-        } else {
+        } else if rest > self.made {
             block + block * (self.behind - rest) as usize
+        } else {
+            0
         }
     }
 }
 
-/// The bytes in which a block stands.
+/// The bytes in which a block stands: those of the packet, those of the entry, or a blank block.
 #[inline(always)]
-pub(crate) fn source<'a>(is_in_packet: bool, packet: &'a [u8], ends: &'a [u8]) -> &'a [u8]
-    ensures { result.now ≡ if is_in_packet then packet.now else ends.now }
+pub(crate) fn source<'a>(
+    is_in_packet: bool,
+    is_read: bool,
+    packet: &'a [u8],
+    ends: &'a [u8],
+    blank: &'a [u8],
+) -> &'a [u8]
+    ensures { result.now ≡ if is_in_packet then packet.now else if is_read then ends.now else blank.now }
 {
-    if is_in_packet { packet } else { ends }
+    if is_in_packet {
+        packet
+    } else if is_read {
+        ends
+    } else {
+        blank
+    }
+}
+
+/// The block that is lent where none is read.
+const BLANK: [u8; MAX_BLOCK_BYTES] = [0; MAX_BLOCK_BYTES];
+
+/// A block of zeros.
+#[inline(always)]
+pub(crate) fn blank_block<H: LaneHash>() -> &'static [u8]
+    ensures block { result.now ≡ replicate H.chaining.block_bytes 0 }
+    ensures length { length result.now ≡ H.chaining.block_bytes }
+{
+    &BLANK[..H::block_bytes()]
 }

@@ -3,13 +3,17 @@ ghost use Rattle.std.specs.Prelude.{◌≡◌, ℕ, ◌<◌, ◌≤◌, ◌^◌,
 ghost use Rattle.std.specs.Simd.Lanes.{zip2};
 ghost use Rattle.mbj_types.specs.Lanes.{lane_at};
 ghost use Rattle.mbj_sha_lanes.specs.Halves.{IsWithin};
-ghost use Rattle.mbj_hmac.specs.Inside.InLanes.{idle, lowered, most_lanes, reach_at};
+ghost use Rattle.mbj_hmac.specs.Inside.InLanes.{idle, lowered, most_lanes, never, outer_left, reach_at};
 
+use crate::lane_word::LaneWord;
 use mbj_sha_lanes::{Half, part_of};
 use std::simd::{u32x4, u32x8, u32x16, u64x8};
 
 /// The rest of an idle lane. No entry has this many rounds.
 pub(crate) const IDLE: u32 = 0x8000_0000;
+
+/// More rounds than any entry has.
+pub(crate) const NEVER: u32 = u32::MAX;
 
 /// The numbers of the lanes.
 const NUMBERS_32: [u32; 16] = [0, 1, 2, 3, 4, 5, 6, 7, 8, 9, 10, 11, 12, 13, 14, 15];
@@ -99,12 +103,36 @@ pub(crate) fn reaches(rests: u32x16, turns: u32x16) -> u32x16
     rests.simd_gt(turns).select(rests - turns, rests)
 }
 
-/// Whether an outer hash starts.
+/// Whether two vectors have the same number in a lane.
 #[inline(always)]
-pub(crate) fn is_turn(rests: u32x16, turns: u32x16) -> bool
-    ensures { result ≡ false → (i : ℕ) → i < most_lanes → lane_at 32 rests i ≡ lane_at 32 turns i → ⊥ }
+pub(crate) fn has_equal(a: u32x16, b: u32x16) -> bool
+    ensures { result ≡ false → (i : ℕ) → i < most_lanes → lane_at 32 a i ≡ lane_at 32 b i → ⊥ }
 {
-    rests.simd_eq(turns).any()
+    a.simd_eq(b).any()
+}
+
+/// How many rounds the HMACs have left. A digest has 0 here.
+#[inline(always)]
+pub(crate) fn outer_left(rests: u32x16, turns: u32x16) -> u32x16
+    ensures { (i : ℕ) → i < most_lanes → lane_at 32 result i ≡ outer_left (lane_at 32 rests i) (lane_at 32 turns i) }
+{
+    u32x16::where_equal(turns, u32x16::splat(NEVER), u32x16::splat(0), rests)
+}
+
+/// Whether a lane is busy.
+#[inline(always)]
+fn has_busy_lane(rests: u32x16) -> bool
+    ensures { result ≡ false → (i : ℕ) → i < most_lanes → lane_at 32 rests i < idle → ⊥ }
+{
+    rests.simd_lt(u32x16::splat(IDLE)).any()
+}
+
+/// Whether a busy lane has another number than its word of `counts`.
+#[inline(always)]
+pub(crate) fn has_other(rests: u32x16, counts: u32x16, number: u32) -> bool
+    ensures { result ≡ false → (i : ℕ) → i < most_lanes → lane_at 32 rests i < idle → lane_at 32 counts i ≡ number }
+{
+    has_busy_lane(u32x16::where_equal(counts, u32x16::splat(number), u32x16::splat(IDLE), rests))
 }
 
 /// Whether one of eight lanes is busy.

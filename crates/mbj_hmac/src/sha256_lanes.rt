@@ -1,19 +1,25 @@
-ghost use Rattle.std.specs.Prelude.{◌≡◌, ℕ, ◌<◌, ◌≤◌, ◌*◌, ◌+◌, ◌++◌, List, length, take};
+ghost use Rattle.std.specs.Prelude.{◌≡◌, ℕ, ◌<◌, ◌≤◌, ◌*◌, ◌+◌, ◌++◌, List, length, take, IsTrue};
 ghost use Rattle.sha2.specs.Sha256.{compress, digest_bytes};
 ghost use Rattle.mbj_types.specs.Lanes.{lane_at, lane_of};
+ghost use Rattle.mbj_types.specs.declared.class.HashName.{HashName};
 ghost use Rattle.mbj_types.specs.declared.kind.TheConstants.{SHA256_LANES};
-ghost use Rattle.mbj_sha_lanes.specs.Halves.{IsIn};
-ghost use Rattle.mbj_hmac.specs.Chainings.{sha256_chaining};
+ghost use Rattle.mbj_sha_lanes.specs.Halves.{IsWithin, first_of};
+ghost use Rattle.mbj_sha_lanes.specs.Words.{words32};
+ghost use Rattle.mbj_hmac.specs.Chainings.{is_sha256, sha256_chaining};
+ghost use Rattle.mbj_hmac.specs.Inside.InLanes.{IsDigestBits};
+ghost use Rattle.mbj_hmac.specs.Inside.Layout.{digest_block};
 
 use crate::ends::put;
 use crate::lane_hash::LaneHash;
+use crate::lane_word::{LaneWord, choose};
+use crate::loaded::loaded;
 use crate::rests::with_word32;
 use crate::view::Chains;
 use crate::words::word32;
 use mbj_sha_lanes::{Blocks, Half, Load32, half_words, put_half, take_half};
 use mbj_sha256_lanes::{ROUNDS, compress_lanes, compress_scheduled, gathered, scattered};
 use mbj_types::{HashName, SHA256_LANES, Sha256Word, Tag};
-use std::simd::u32x8;
+use std::simd::{u32x8, u32x16};
 
 /// SHA-224 and SHA-256 in lanes.
 pub struct Sha256Lanes;
@@ -21,8 +27,14 @@ pub struct Sha256Lanes;
 /// The length of a block, in bytes.
 const BLOCK_BYTES: usize = 64;
 
-/// The bytes of five blocks.
-const ENDS_BYTES: usize = 5 * BLOCK_BYTES;
+/// The bytes of four blocks.
+const ENDS_BYTES: usize = 4 * BLOCK_BYTES;
+
+/// The bits of a block and of a digest of SHA-224.
+const BITS_224: u32 = 8 * (64 + 28);
+
+/// The bits of a block and of a digest of SHA-256.
+const BITS_256: u32 = 8 * (64 + 32);
 
 /// The initial hash value of SHA-224 (FIPS 180-4, 5.3.2).
 const INITIAL_224: [u32; 8] = [
@@ -67,19 +79,56 @@ fn bytes_of(chain: &[u32; 8]) -> [u8; 32]
     ]
 }
 
-/// Compresses a block into the hash value of each lane of one half.
+/// Compresses a block into the hash value of each lane of one half, by the words of the blocks, which are used up.
 #[inline(never)]
-fn compress_half<B: Blocks>(states: &mut [Sha256Word; 8], half: Half, blocks: &B)
-    requires size { B.block_bytes ≡ BLOCK_BYTES }
-    requires lent { (i : ℕ) → i < SHA256_LANES → B.lends blocks.now i }
-    ensures { (i : ℕ) → IsIn half i
-        → lane_of (lane_at 32) states.new i ≡ compress (lane_of (lane_at 32) states.old i) (B.block blocks.now i) }
+fn compress_half(states: &mut [Sha256Word; 8], half: Half, words: &mut [u32x8; 16])
+    ensures { (j : ℕ) (b : List ℕ) → j < 8 → words32 b ≡ lane_of (lane_at 32) words.old j
+        → lane_of (lane_at 32) states.new (first_of half + j) ≡ compress (lane_of (lane_at 32) states.old (first_of half + j)) b }
 {
-    let mut words = half_words(blocks, half);
     let mut lanes = [u32x8::splat(0); 8];
     take_half(&mut lanes, states, half);
-    compress_lanes(&mut lanes, &mut words);
+    compress_lanes(&mut lanes, words);
     put_half(states, half, &lanes);
+}
+
+/// Compresses a block into the hash value of each lane, or of each in the half that is named, by the words of the blocks.
+#[inline(always)]
+fn compress_words(
+    states: &mut [Sha256Word; 8],
+    schedule: &mut [Sha256Word; ROUNDS],
+    words: &[Sha256Word; 16],
+    half: Option<Half>,
+)
+    ensures { (i : ℕ) (b : List ℕ) → i < SHA256_LANES → IsWithin half i → words32 b ≡ lane_of (lane_at 32) words.now i
+        → lane_of (lane_at 32) states.new i ≡ compress (lane_of (lane_at 32) states.old i) b }
+{
+    match half {
+        Some(half) => {
+            let mut part = [u32x8::splat(0); 16];
+            take_half(&mut part, words, half);
+            compress_half(states, half, &mut part);
+        }
+        None => compress_scheduled(states, words, schedule),
+    }
+}
+
+/// The words of the blocks that hold the digests of hash values, with the padding behind a block and the digest (FIPS 180-4, 5.1.1). A
+/// digest of SHA-224 is a word shorter than one of SHA-256.
+#[inline(always)]
+fn digest_words(inner: &[Sha256Word; 8], bits: u32x16) -> [Sha256Word; 16]
+    ensures lanes { (i : ℕ) → i < SHA256_LANES → (a : HashName) → IsTrue (is_sha256 a) → IsDigestBits sha256_chaining a (lane_at 32 bits i)
+        → words32 (digest_block sha256_chaining a (lane_of (lane_at 32) inner.now i)) ≡ lane_of (lane_at 32) result i }
+    ensures length { length result ≡ 16 }
+{
+    let full = Sha256Word::splat(BITS_256);
+    let one = Sha256Word::splat(0x8000_0000);
+    let zero = Sha256Word::splat(0);
+    let seventh = Sha256Word::where_equal(bits, full, inner[7], one);
+    let eighth = Sha256Word::where_equal(bits, full, one, zero);
+    [
+        inner[0], inner[1], inner[2], inner[3], inner[4], inner[5], inner[6], seventh, eighth,
+        zero, zero, zero, zero, zero, zero, bits,
+    ]
 }
 
 impl LaneHash for Sha256Lanes {
@@ -145,6 +194,14 @@ impl LaneHash for Sha256Lanes {
         }
     }
 
+    fn digest_bits(hash: HashName) -> u32 {
+        match hash {
+            HashName::Sha224 => BITS_224,
+            HashName::Sha256 => BITS_256,
+            HashName::Sha1 | HashName::Sha384 | HashName::Sha512 => unreachable!(),
+        }
+    }
+
     fn load(state: &[u8]) -> [u32; 8] {
         [
             word32(state, 0),
@@ -201,12 +258,60 @@ impl LaneHash for Sha256Lanes {
         half: Option<Half>,
     ) {
         match half {
-            Some(half) => compress_half(states, half, blocks),
+            Some(half) => {
+                let mut words = half_words(blocks, half);
+                compress_half(states, half, &mut words);
+            }
             None => {
                 let words = Sha256Word::block_words(blocks);
                 compress_scheduled(states, &words, schedule);
             }
         }
+    }
+
+    #[inline(always)]
+    fn compress_digests(
+        states: &mut [Sha256Word; 8],
+        schedule: &mut [Sha256Word; ROUNDS],
+        inner: &[Sha256Word; 8],
+        bits: u32x16,
+        half: Option<Half>,
+    ) {
+        let words = digest_words(inner, bits);
+        compress_words(states, schedule, &words, half);
+    }
+
+    #[inline(always)]
+    fn compress_mixed<B: Blocks>(
+        states: &mut [Sha256Word; 8],
+        schedule: &mut [Sha256Word; ROUNDS],
+        blocks: &B,
+        half: Option<Half>,
+        inner: &[Sha256Word; 8],
+        bits: u32x16,
+        counts: u32x16,
+        last: u32,
+    ) {
+        let mut words = loaded(blocks, half);
+        choose(
+            counts,
+            u32x16::splat(last),
+            &digest_words(inner, bits),
+            &mut words,
+        );
+        compress_words(states, schedule, &words, half);
+    }
+
+    #[inline(always)]
+    fn turn(
+        states: &mut [Sha256Word; 8],
+        inner: &mut [Sha256Word; 8],
+        starts: &[Sha256Word; 8],
+        lefts: u32x16,
+        turns: u32x16,
+    ) {
+        choose(lefts, turns, states, inner);
+        choose(lefts, turns, starts, states);
     }
 
     ghost use Rattle.std.proofs.Common.{rules};

@@ -1,18 +1,24 @@
-ghost use Rattle.std.specs.Prelude.{◌≡◌, ℕ, ◌<◌, ◌≤◌, ◌*◌, ◌+◌, ◌++◌, List, length, take};
+ghost use Rattle.std.specs.Prelude.{◌≡◌, ℕ, ◌<◌, ◌≤◌, ◌*◌, ◌+◌, ◌++◌, List, length, take, IsTrue};
 ghost use Rattle.std.specs.Int.{w64, to_be_bytes};
 ghost use Rattle.sha2.specs.Sha512.{digest_bytes};
 ghost use Rattle.mbj_types.specs.Lanes.{lane_at, lane_of};
+ghost use Rattle.mbj_types.specs.declared.class.HashName.{HashName};
 ghost use Rattle.mbj_types.specs.declared.kind.TheConstants.{SHA512_LANES};
-ghost use Rattle.mbj_hmac.specs.Chainings.{sha512_chaining};
+ghost use Rattle.mbj_sha_lanes.specs.Words.{words64};
+ghost use Rattle.mbj_hmac.specs.Chainings.{is_sha512, sha512_chaining};
+ghost use Rattle.mbj_hmac.specs.Inside.InLanes.{IsDigestBits};
+ghost use Rattle.mbj_hmac.specs.Inside.Layout.{digest_block};
 
 use crate::ends::put;
 use crate::lane_hash::LaneHash;
+use crate::lane_word::{LaneWord, choose};
 use crate::rests::with_word64;
 use crate::view::Chains;
 use crate::words::word64;
 use mbj_sha_lanes::{Blocks, Half, Load64};
 use mbj_sha512_lanes::{ROUNDS, compress_scheduled, gathered, scattered};
 use mbj_types::{HashName, SHA512_LANES, Sha512Word, Tag};
+use std::simd::u32x16;
 
 /// SHA-384 and SHA-512 in lanes.
 pub struct Sha512Lanes;
@@ -20,8 +26,14 @@ pub struct Sha512Lanes;
 /// The length of a block, in bytes.
 const BLOCK_BYTES: usize = 128;
 
-/// The bytes of five blocks.
-const ENDS_BYTES: usize = 5 * BLOCK_BYTES;
+/// The bytes of four blocks.
+const ENDS_BYTES: usize = 4 * BLOCK_BYTES;
+
+/// The bits of a block and of a digest of SHA-384.
+const BITS_384: u32 = 8 * (128 + 48);
+
+/// The bits of a block and of a digest of SHA-512.
+const BITS_512: u32 = 8 * (128 + 64);
 
 /// The initial hash value of SHA-384 (FIPS 180-4, 5.3.4).
 const INITIAL_384: [u64; 8] = [
@@ -66,6 +78,27 @@ fn bytes_of(chain: &[u64; 8]) -> [u8; 64]
         put_word(&mut bytes, j, chain[j]);
     }
     bytes
+}
+
+/// The words of the blocks that hold the digests of hash values, with the padding behind a block and the digest (FIPS 180-4, 5.1.2). A
+/// digest of SHA-384 is two words shorter than one of SHA-512.
+#[inline(always)]
+fn digest_words(inner: &[Sha512Word; 8], bits: u32x16) -> [Sha512Word; 16]
+    ensures lanes { (i : ℕ) → i < SHA512_LANES → (a : HashName) → IsTrue (is_sha512 a) → IsDigestBits sha512_chaining a (lane_at 32 bits i)
+        → words64 (digest_block sha512_chaining a (lane_of (lane_at 64) inner.now i)) ≡ lane_of (lane_at 64) result i }
+    ensures length { length result ≡ 16 }
+{
+    let bits = Sha512Word::of_numbers(bits);
+    let full = Sha512Word::splat(BITS_512 as u64);
+    let one = Sha512Word::splat(0x8000_0000_0000_0000);
+    let zero = Sha512Word::splat(0);
+    let sixth = Sha512Word::where_equal(bits, full, inner[6], one);
+    let seventh = Sha512Word::where_equal(bits, full, inner[7], zero);
+    let eighth = Sha512Word::where_equal(bits, full, one, zero);
+    [
+        inner[0], inner[1], inner[2], inner[3], inner[4], inner[5], sixth, seventh, eighth, zero,
+        zero, zero, zero, zero, zero, bits,
+    ]
 }
 
 impl LaneHash for Sha512Lanes {
@@ -131,6 +164,14 @@ impl LaneHash for Sha512Lanes {
         }
     }
 
+    fn digest_bits(hash: HashName) -> u32 {
+        match hash {
+            HashName::Sha384 => BITS_384,
+            HashName::Sha512 => BITS_512,
+            HashName::Sha1 | HashName::Sha224 | HashName::Sha256 => unreachable!(),
+        }
+    }
+
     fn load(state: &[u8]) -> [u64; 8] {
         [
             word64(state, 0),
@@ -188,6 +229,53 @@ impl LaneHash for Sha512Lanes {
     ) {
         let words = Sha512Word::block_words(blocks);
         compress_scheduled(states, &words, schedule);
+    }
+
+    #[inline(always)]
+    fn compress_digests(
+        states: &mut [Sha512Word; 8],
+        schedule: &mut [Sha512Word; ROUNDS],
+        inner: &[Sha512Word; 8],
+        bits: u32x16,
+        _half: Option<Half>,
+    ) {
+        let words = digest_words(inner, bits);
+        compress_scheduled(states, &words, schedule);
+    }
+
+    #[inline(always)]
+    fn compress_mixed<B: Blocks>(
+        states: &mut [Sha512Word; 8],
+        schedule: &mut [Sha512Word; ROUNDS],
+        blocks: &B,
+        _half: Option<Half>,
+        inner: &[Sha512Word; 8],
+        bits: u32x16,
+        counts: u32x16,
+        last: u32,
+    ) {
+        let mut words = Sha512Word::block_words(blocks);
+        choose(
+            Sha512Word::of_numbers(counts),
+            Sha512Word::splat(last as u64),
+            &digest_words(inner, bits),
+            &mut words,
+        );
+        compress_scheduled(states, &words, schedule);
+    }
+
+    #[inline(always)]
+    fn turn(
+        states: &mut [Sha512Word; 8],
+        inner: &mut [Sha512Word; 8],
+        starts: &[Sha512Word; 8],
+        lefts: u32x16,
+        turns: u32x16,
+    ) {
+        let lefts = Sha512Word::of_numbers(lefts);
+        let turns = Sha512Word::of_numbers(turns);
+        choose(lefts, turns, states, inner);
+        choose(lefts, turns, starts, states);
     }
 
     ghost use Rattle.std.proofs.Common.{rules};

@@ -17,7 +17,7 @@ use mbj_types::{Auth, Tag};
 use std::alloc::{AllocError, Global};
 use std::marker::Model;
 
-/// The slots of a hash. Slot i is lane i for good: the hash value of its entry stays in the vectors of all lanes between runs.
+/// The slots of a hash. Slot i is lane i for good: the hash values of its entry stay in the vectors of all lanes between runs.
 #[derive(Drop)]
 pub struct HmacSlots<H: LaneHash> {
     lanes: HmacLanes<H>,
@@ -28,13 +28,14 @@ pub struct HmacSlots<H: LaneHash> {
 impl<H: LaneHash> Model for HmacSlots<H> {
     ghost use Rattle.std.specs.Prelude.{◌≡◌, List, Option, length};
     ghost use Rattle.mbj_hmac.specs.Rounds.{HmacState};
-    ghost use Rattle.mbj_hmac.specs.Inside.InLanes.{AreTied, slot_at, slots_of};
+    ghost use Rattle.mbj_hmac.specs.Inside.InLanes.{AreReady, AreTied, slot_at, slots_of};
 
     ghost Value = { List (Option HmacState) };
 
-    ghost view = { λ s. slots_of H.LANES (slot_at (H.lane s.lanes.states) s.lanes.rests.left s.entries.items) };
+    ghost view = { λ s. slots_of H.LANES (slot_at (H.lane s.lanes.states) (H.lane s.lanes.inner) s.lanes.rests.left s.entries.items) };
 
-    ghost invariant = { λ s. AreTied s.lanes.rests.left s.lanes.rests.turns s.entries.items × (length s.entries.items ≡ H.LANES) };
+    ghost invariant = { λ s. AreTied s.lanes.rests.left s.lanes.rests.turns s.entries.items × (length s.entries.items ≡ H.LANES)
+        × AreReady H.chaining (H.lane s.lanes.starts) s.lanes.rests.bits s.lanes.rests.left s.entries.items };
 }
 
 impl<H: LaneHash> HmacSlots<H> {
@@ -109,7 +110,7 @@ impl<H: LaneHash> HmacSlots<H> {
         self.lanes.run(&mut self.entries, m);
     }
 
-    /// Takes an entry that has no round left out of its slot, with its lane's hash value.
+    /// Takes an entry that has no round left out of its slot, with its lane's hash values.
     #[inline(always)]
     pub(crate) fn take(&mut self, i: usize) -> HmacEntry<H>
         requires lane { i < H.LANES }
@@ -120,8 +121,9 @@ impl<H: LaneHash> HmacSlots<H> {
     {
         self.lanes.leave(i);
         let chain = H::scattered(&self.lanes.states, i);
+        let inner = H::scattered(&self.lanes.inner, i);
         let entry = &mut self.entries[i];
-        entry.end(chain)
+        entry.end(chain, inner)
     }
 
     /// Takes the packet out of the slot of an entry that has no round left, with the digest or HMAC in full. The slot is idle then.

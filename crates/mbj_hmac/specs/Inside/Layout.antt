@@ -1,13 +1,13 @@
--- How an entry lays out the blocks that don't stand whole in the packet: the inner pad, the end of the message with its padding,
--- the outer pad, and the inner digest with its padding. A digest has the end of the message alone, at the same place, and an HMAC from
--- states has the inner digest right behind it.
+-- How an entry lays out the blocks that don't stand whole in the packet: the inner pad, the end of the message with its padding, and
+-- the outer pad. A digest and an HMAC from states have the end of the message alone, at the same place. The block of the inner digest
+-- stands nowhere.
 use Rattle.std.specs.Prelude.{IsTrue, Bool, false, ◌≡◌, ℕ, ◌+◌, ◌-◌, ◌*◌, ◌/◌, ◌%◌, ◌≤◌, ◌<◌, ◌^◌, nat_lt, List, [], ◌∷◌, ◌++◌, ◌⊎◌, length, take, drop, replicate, if◌then◌else◌}
 use Rattle.std.specs.Int.{w64, to_be_bytes}
 use Rattle.mbj_types.specs.declared.class.HashName.{HashName}
 use Rattle.mbj_hmac.specs.declared.form.Form.{Form}
 use Rattle.mbj_hmac.specs.declared.places.Places.{Places}
-use Rattle.mbj_hmac.specs.Forms.{has_pads, outer_rounds_of, rounds_in}
-use Rattle.mbj_hmac.specs.Rounds.{Chaining, HmacState, inner_text, outer_rounds, outer_text}
+use Rattle.mbj_hmac.specs.Forms.{has_pads, made_rounds_of, outer_rounds_of, rounds_in}
+use Rattle.mbj_hmac.specs.Rounds.{Chaining, HmacState, inner_text}
 
 module _ (b : ℕ) where
   -- the whole blocks of b bytes in a message of n bytes
@@ -26,8 +26,10 @@ module _ (b : ℕ) where
   abbrev pub padding_of : ℕ → List ℕ
   padding_of n = 0x80 ∷ replicate (fill n) 0 ++ to_be_bytes w64 (n * 8)
 
--- up to which rest an entry's blocks stand behind its first one, and up to which, above that, they are the message's whole ones
+-- up to which rest an entry's blocks are made, up to which, above that, they stand behind its first one, and up to which, above that,
+-- they are the message's whole ones
 pub record IsPlaced (b : ℕ) (form : Form) (len : ℕ) (p : Places) : Type 0 where
+  pub made : p.made ≡ made_rounds_of form
   pub behind : p.behind ≡ tail_blocks b len + outer_rounds_of form
   pub high : p.high ≡ p.behind + whole_blocks b len
 
@@ -35,12 +37,13 @@ pub record IsPlaced (b : ℕ) (form : Form) (len : ℕ) (p : Places) : Type 0 wh
 abbrev pub is_in_packet : Places → ℕ → Bool
 is_in_packet p rest = if nat_lt p.high rest then false else nat_lt p.behind rest
 
--- where it begins, for blocks of b bytes and a message from `off` on
+-- where it begins, for blocks of b bytes and a message from `off` on; 0 for one that is made
 abbrev pub place_at : ℕ → Places → ℕ → ℕ → ℕ
 place_at b p rest off =
     if nat_lt p.high rest then 0
     else if nat_lt p.behind rest then off + b * (p.high - rest)
-    else b + b * (p.behind - rest)
+    else if nat_lt p.made rest then b + b * (p.behind - rest)
+    else 0
 
 -- what the layout takes for granted of a hash: its blocks have 64 or 128 bytes, its padding is that of FIPS 180-4, behind its digest a
 -- block has room for padding, and a state is stored whole and with nothing lost
@@ -78,25 +81,20 @@ module _ (h : Chaining) where
   abbrev pub digest_block : HashName → List ℕ → List ℕ
   digest_block a s = h.digest a s ++ h.padding (h.block_bytes + length (h.digest a s))
 
-  -- the ends of a new HMAC: the inner pad, the message's end and its padding, the outer pad, and a digest and its padding
-  abbrev pub first_ends : HashName → List ℕ → List ℕ → List ℕ → List ℕ → ℕ → ℕ → List ℕ
-  first_ends a front back zeros packet off len =
-      ((front ++ message_end h.block_bytes packet off len) ++ back) ++ digest_block a zeros
+  -- the ends of a new HMAC: the inner pad, the message's end and its padding, and the outer pad
+  abbrev pub first_ends : List ℕ → List ℕ → List ℕ → ℕ → ℕ → List ℕ
+  first_ends front back packet off len = (front ++ message_end h.block_bytes packet off len) ++ back
 
-  -- what the outer hash reads, of which a digest has none
-  abbrev pub outer_part : HmacState → List ℕ
-  outer_part e = if nat_lt 0 (outer_rounds e) then outer_text h e else []
-
-  -- the blocks behind the message's whole ones stand in the entry
+  -- the blocks of the message behind its whole ones stand in the entry
   abbrev pub IsLaid : List ℕ → HmacState → Type 0
-  IsLaid ends e = take (h.block_bytes * (tail_blocks h.block_bytes e.len + outer_rounds e)) (drop h.block_bytes ends)
-      ≡ drop (length e.front + h.block_bytes * whole_blocks h.block_bytes e.len) (inner_text h e) ++ outer_part e
+  IsLaid ends e = take (h.block_bytes * tail_blocks h.block_bytes e.len) (drop h.block_bytes ends)
+      ≡ drop (length e.front + h.block_bytes * whole_blocks h.block_bytes e.len) (inner_text h e)
 
   -- the range lies in the packet, the rounds are no more than there were, the blocks stand, and the hash is one of these
   abbrev pub IsSound : List ℕ → HmacState → Type 0
   IsSound ends e = (e.off + e.len ≤ length e.packet) × (e.rest ≤ rounds_in e.form h.block_bytes e.len) × (e.len < 2 ^ 32)
-      × IsLaid ends e × (length ends ≡ 5 * h.block_bytes) × IsTrue (h.serves e.hash)
+      × IsLaid ends e × (length ends ≡ 4 * h.block_bytes) × IsTrue (h.serves e.hash)
 
-  -- as long as a round is left; the hash is one of these behind the last too, and there are five blocks
+  -- as long as a round is left; the hash is one of these behind the last too, and there are four blocks
   abbrev pub IsKept : List ℕ → HmacState → Type 0
-  IsKept ends e = (0 < e.rest → IsSound ends e) × (e.len < 2 ^ 32) × IsTrue (h.serves e.hash) × (length ends ≡ 5 * h.block_bytes)
+  IsKept ends e = (0 < e.rest → IsSound ends e) × (e.len < 2 ^ 32) × IsTrue (h.serves e.hash) × (length ends ≡ 4 * h.block_bytes)

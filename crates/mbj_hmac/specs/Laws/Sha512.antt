@@ -13,7 +13,7 @@ use Rattle.mbj_hmac.specs.Chainings.{is_sha512, sha512_initial, sha512_digest, s
 use Rattle.mbj_hmac.specs.Laws.Tests.{not_both}
 use Rattle.mbj_hmac.specs.Inside.Layout.{IsStandard, fill, tail_blocks, padding_of}
 
-length-digest_bytes : (s : List ℕ) (n : ℕ) → length (digest_bytes s n) ≡ 8 * n
+pub length-digest_bytes : (s : List ℕ) (n : ℕ) → length (digest_bytes s n) ≡ 8 * n
 unfolding digest_bytes
 length-digest_bytes s zero = refl
 length-digest_bytes s (suc n) = omega (arith, length-append (digest_bytes s n) (to_be_bytes w64 (slice_index s n)), length-digest_bytes s n)

@@ -1,4 +1,4 @@
-use Rattle.std.proofs.Common.{◌≡◌, List, ℕ, ◌+◌, ◌*◌, ap, ◌∙◌, length, take, drop, subst, sym}
+use Rattle.std.proofs.Common.{◌≡◌, List, ℕ, ◌*◌, ap, ◌∙◌, length, take, drop, subst, sym}
 use Rattle.std.specs.Prelude.{IfSome}
 use Rattle.mbj_types.specs.Auths.{class_of, states_hash_in}
 use Rattle.mbj_types.specs.declared.class.AuthClass.{AuthClass}

@@ -1,4 +1,4 @@
-use Rattle.std.proofs.Common.{◌≡◌, List, ℕ, ◌+◌, ◌*◌, ap, ◌∙◌, take, drop}
+use Rattle.std.proofs.Common.{◌≡◌, List, ℕ, ap, ◌∙◌, take, drop}
 use Rattle.mbj_types.specs.Auths.{class_of}
 use Rattle.mbj_types.specs.declared.class.AuthClass.{AuthClass}
 use Rattle.mbj_types.specs.States.{hmac_from_states}

@@ -1,4 +1,4 @@
-use Rattle.std.proofs.Common.{ℕ, List, take, ap₂, sym, ◌∙◌}
+use Rattle.std.proofs.Common.{ℕ, List, take, ap, ap₂, ◌∙◌}
 use Rattle.mbj_types.specs.Hmac.{padded_key, ipad, opad}
 use Rattle.mbj_hmac.specs.declared.form.Form.TheVariants.{Keyed}
 use Rattle.mbj_hmac.specs.Inside.Layout.{first_ends, seen}
@@ -16,20 +16,19 @@ invariant_of-self g c =
     let off = c.args.off in
     let len = c.args.len in
     let made : List ℕ = g.H.LaneHash.ends_bytes c.put_first_ends.new.ends in
-    let zeros : List ℕ = g.H.LaneHash.words c.zeros-self-inside.result in
     let front : List ℕ = take h.block_bytes (padded_key ipad key) in
     let back : List ℕ = take h.block_bytes (padded_key opad key) in
-    let ends = c.put_first_ends.ensures.value ∙ ap₂ (λ z p. first_ends h a front back z p off len) (sym c.zeros-self-inside.ensures) c.deref.ensures.value in
-    let facts : Facts h std packet off len a made front back zeros = record {
+    let facts : Facts h std packet off len a made front back = record {
       front_is = length-pad h std key ipad c.put_first_ends.ensures.pads;
       back_is = length-pad h std key opad c.put_first_ends.ensures.pads;
       range = c.requires.range;
       small = c.ranges.len.fits;
       whole = c.put_first_ends.ensures.length;
-      ends_are = ends;
+      ends_are = c.put_first_ends.ensures.value ∙ ap (λ p. first_ends h front back p off len) c.deref.ensures.value;
       served = c.requires.serves;
     } in (
-      new_sound h std packet off len a made front back zeros facts (g.H.LaneHash.words c.initial-self-inside.result) (g.H.LaneHash.words c.initial-self-inside-2.result) c.rounds-self-inside.result c.rounds-self-inside.ensures,
+      new_sound h std packet off len a made front back facts (g.H.LaneHash.words c.initial-self-inside.result) (g.H.LaneHash.words c.zeros-self-inside.result)
+          (g.H.LaneHash.words c.initial-self-inside-2.result) c.rounds-self-inside.result c.rounds-self-inside.ensures,
       c.of-self-inside.ensures,
     )
 
@@ -46,15 +45,14 @@ returns-clause-start g c =
     let zeros : List ℕ = g.H.LaneHash.words c.zeros-self-inside.result in
     let front : List ℕ = take h.block_bytes (padded_key ipad key) in
     let back : List ℕ = take h.block_bytes (padded_key opad key) in
-    let ends = c.put_first_ends.ensures.value ∙ ap₂ (λ z p. first_ends h a front back z p off len) (sym c.zeros-self-inside.ensures) c.deref.ensures.value in
-    let facts : Facts h std packet off len a made front back zeros = record {
+    let facts : Facts h std packet off len a made front back = record {
       front_is = length-pad h std key ipad c.put_first_ends.ensures.pads;
       back_is = length-pad h std key opad c.put_first_ends.ensures.pads;
       range = c.requires.range;
       small = c.ranges.len.fits;
       whole = c.put_first_ends.ensures.length;
-      ends_are = ends;
+      ends_are = c.put_first_ends.ensures.value ∙ ap (λ p. first_ends h front back p off len) c.deref.ensures.value;
       served = c.requires.serves;
     } in
     ap₂ (λ s i. seen h packet c.rounds-self-inside.result s zeros i a Keyed made off len) c.initial-self-inside.ensures c.initial-self-inside-2.ensures
-    ∙ new_seen h std packet off len a made front back zeros facts c.rounds-self-inside.result c.rounds-self-inside.ensures c.zeros-self-inside.ensures
+    ∙ new_seen h std packet off len a made front back facts zeros c.rounds-self-inside.result c.rounds-self-inside.ensures c.zeros-self-inside.ensures

@@ -1,5 +1,5 @@
-use Rattle.std.proofs.Common.{ℕ, List, ◌++◌, sym, ap₂, ◌∙◌}
-use Rattle.mbj_hmac.specs.Inside.Layout.{digest_block, message_end}
+use Rattle.std.proofs.Common.{ap, ◌∙◌}
+use Rattle.mbj_hmac.specs.Inside.Layout.{message_end}
 use Rattle.mbj_hmac.proofs.NewEntries.{states_sound, states_seen}
 use Rattle.mbj_hmac.proofs.entry.HmacEntry.start_states.Goals as goal
 
@@ -13,8 +13,7 @@ invariant_of-self g c =
     let off = c.args.off in
     let len = c.args.len in
     let hash = c.args.hash in
-    let ends = c.put_states_ends.ensures.value
-    ∙ ap₂ (λ (p s : List ℕ). message_end h h.block_bytes p off len ++ digest_block h hash s) c.deref.ensures.value (sym c.zeros-self-inside.ensures) in (
+    let ends = c.put_states_ends.ensures.value ∙ ap (λ p. message_end h h.block_bytes p off len) c.deref.ensures.value in (
       states_sound h g.met.H.LaneHash.standard c.args.packet.items off len hash (g.H.LaneHash.ends_bytes c.put_states_ends.new.ends) (words c.args.inner) (words c.zeros-self-inside.result)
           (words c.args.outer) c.states_rounds-self-inside.result c.requires.range c.ranges.len.fits c.put_states_ends.ensures.length c.requires.serves ends c.states_rounds-self-inside.ensures,
       c.of-self-inside.ensures,

@@ -1,8 +1,8 @@
-use Rattle.std.proofs.Common.{◌≡◌, ◌<◌, ◌∙◌, length, ap, arith}
+use Rattle.std.proofs.Common.{◌≡◌, ◌<◌, ◌∙◌, length, ap, ap₂, arith}
 use Rattle.mbj_types.specs.Lanes.{lane_at}
 use Rattle.mbj_lane.specs.Rounds.{after}
 use Rattle.mbj_hmac.specs.Rounds.{round}
-use Rattle.mbj_hmac.specs.Inside.InLanes.{blank, entry_in, most_lanes, with_chain}
+use Rattle.mbj_hmac.specs.Inside.InLanes.{blank, entry_in, most_lanes, with_chains}
 use Rattle.mbj_hmac.proofs.InLanes.{all_changed, has_entry, tied_rest}
 use Rattle.mbj_hmac.proofs.kernel.HmacKernelKernel.run.Goals as goal
 
@@ -23,4 +23,4 @@ returns g c =
     all_changed led es c.give_back.new.entries size (λ i lt.
     let few : i < most_lanes = omega (arith, c.requires.lanes, g.met.H.LaneHash.narrow) in
     c.give_back.ensures i (omega (arith, c.run.auto.entries)) ∙ c.run.ensures.led i few (c.of-lanes.ensures.rests i lt)
-    ∙ ap led (ap (λ s. with_chain s (entry_in es i)) (c.of-lanes.ensures.chains i lt)))
+    ∙ ap led (ap₂ (λ s n. with_chains s n (entry_in es i)) (c.of-lanes.ensures.chains i lt) (c.of-lanes.ensures.inners i lt)))

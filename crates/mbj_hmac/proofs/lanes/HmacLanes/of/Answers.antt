@@ -1,4 +1,4 @@
-use Rattle.std.proofs.Common.{◌≡◌, ◌<◌, ◌∙◌, length, inl, inr, ap, arith}
+use Rattle.std.proofs.Common.{◌≡◌, ◌<◌, ◌∙◌, length, inl, inr, ap, sym, arith}
 use Rattle.std.proofs.lemmas.Bool.{cases_eq, cases_lt}
 use Rattle.std.proofs.lemmas.List.{get_or_default}
 use Rattle.mbj_hmac.specs.Rounds.{HmacState}
@@ -32,6 +32,16 @@ lanes-preserved g c =
         | inl same ↦ rw same (in_.chain ∙ ap (λ (e : HmacState). e.chain) here)
         | inr apart ↦ in_.chains j (omega (arith, c.requires)) apart ∙ inv.chains j (omega arith)
       ];
+      inners = λ j b. elim (cases_eq j i) [
+        | inl same ↦ rw same (in_.inner ∙ ap (λ (e : HmacState). e.inner) here)
+        | inr apart ↦ in_.inners j (omega (arith, c.requires)) apart ∙ inv.inners j (omega arith)
+      ];
+      ready = λ j b. elim (cases_eq j i) [
+        | inl same ↦ rw (same, sym here) in_.ready
+        | inr apart ↦
+            let inside : j < g.H.LaneHash.LANES = omega (arith, c.requires) in
+            rw (in_.starts j inside apart, in_.bits j (omega (arith, g.met.H.LaneHash.narrow)) apart) (inv.ready j (omega arith))
+      ];
       left = λ j h b. in_.rests j h (λ same. absurd (omega arith)) ∙ inv.left j h (omega arith);
     }
 
@@ -49,3 +59,9 @@ returns-clause-tied g c =
       ];
       past = λ i h le. inv.left i h (omega arith);
     }
+
+pub returns-clause-ready : goal.returns-clause-ready
+returns-clause-ready g c i h busy = elim (cases_lt i c.lanes.i) [
+  | inl lt ↦ c.lanes.invariant.ready i lt
+  | inr le ↦ let none = c.lanes.invariant.left i h le in absurd (omega (arith, none))
+]

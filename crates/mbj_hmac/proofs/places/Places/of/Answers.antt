@@ -1,4 +1,4 @@
-use Rattle.std.proofs.Common.{◌≡◌, ℕ, ◌/◌, ◌^◌, ◌<◌, arith}
+use Rattle.std.proofs.Common.{ℕ, ◌/◌, ◌^◌, ◌<◌, arith}
 use Rattle.mbj_hmac.proofs.Numbers.{by_size, tail_range}
 use Rattle.mbj_hmac.proofs.Laid.{outer_few}
 use Rattle.mbj_hmac.proofs.places.Places.of.Goals as goal

@@ -19,11 +19,13 @@ invariant_of-result g c = (
     past = λ i h le. c.new.ensures i h;
   },
   search rules,
+  λ i h busy. absurd (omega (arith, c.new.ensures i h)),
 )
 
 pub returns : goal.returns
 returns g c i lt =
     let lane = g.H.LaneHash.lane c.new.result.states in
+    let inner = g.H.LaneHash.lane c.new.result.inner in
     let few : i < most_lanes = omega (arith, g.met.H.LaneHash.narrow) in
-    slot_is g.H.LaneHash.LANES (slot_at lane c.new.result.rests.left c.slots.entries.items) i lt
-    ∙ slot_idle lane c.new.result.rests.left c.slots.entries.items i (c.new.ensures i few)
+    slot_is g.H.LaneHash.LANES (slot_at lane inner c.new.result.rests.left c.slots.entries.items) i lt
+    ∙ slot_idle lane inner c.new.result.rests.left c.slots.entries.items i (c.new.ensures i few)

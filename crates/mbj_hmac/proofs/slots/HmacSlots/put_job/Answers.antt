@@ -1,8 +1,8 @@
 use Rattle.std.proofs.Common.{◌<◌, ◌∙◌, Some, inr, length, length-set, set, get_or-set_same, sym, ap, ap₂, arith}
 use Rattle.mbj_types.specs.Auths.{class_of}
-use Rattle.mbj_hmac.specs.Inside.InLanes.{blank, slot_at, with_chain}
+use Rattle.mbj_hmac.specs.Inside.InLanes.{blank, entry_in, slot_at, with_chains}
 use Rattle.mbj_hmac.proofs.Beginnings.{begins}
-use Rattle.mbj_hmac.proofs.InLanes.{slot_busy, slot_here, slot_is, slot_same, tied_set}
+use Rattle.mbj_hmac.proofs.InLanes.{ready_set, slot_busy, slot_here, slot_is, slot_same, tied_set}
 use Rattle.mbj_hmac.proofs.slots.HmacSlots.put_job.Goals as goal
 
 pub invariant_of-self : goal.invariant_of-self
@@ -18,6 +18,8 @@ invariant_of-self g c =
     let few = in_.few in (
       tied_set old.left old.turns new.left new.turns es i e lt in_.rests in_.turns c.self.invariant.0 (inr (omega (arith, in_.rest, few), in_.rest, in_.turn)),
       length-set es i e ∙ c.self.invariant.1,
+      ready_set g.H.LaneHash.chaining (g.H.LaneHash.lane s.lanes.starts) (g.H.LaneHash.lane c.enter.new.self.starts) old.bits new.bits old.left new.left old.turns es i g.H.LaneHash.LANES e
+          lt (omega (arith, c.self.invariant.1)) c.self.invariant.0 in_.rests in_.bits in_.starts c.self.invariant.2 (λ busy. in_.ready),
     )
 
 pub returns-clause-put : goal.returns-clause-put
@@ -28,19 +30,21 @@ returns-clause-put g c =
     let new = c.enter.new.self.rests in
     let lane = g.H.LaneHash.lane s.lanes.states in
     let led = g.H.LaneHash.lane c.enter.new.self.states in
+    let inner = g.H.LaneHash.lane s.lanes.inner in
+    let done = g.H.LaneHash.lane c.enter.new.self.inner in
     let in_ = c.enter.ensures in
     let es = s.entries.items in
     let i = c.args.i in
     let e = c.refill.new.self in
     let lt : i < length es = omega (arith, c.requires.lane, c.self.invariant.1) in
     let few = in_.few in
-    let slots = slot_at led new.left (set es i e) in
+    let slots = slot_at led done new.left (set es i e) in
     record {
-      here = slot_is n slots i c.requires.lane ∙ slot_busy led new.left (set es i e) i (omega (arith, in_.rest, few))
-          ∙ ap Some (ap₂ with_chain in_.chain (get_or-set_same es i e blank lt) ∙ c.refill.ensures);
+      here = slot_is n slots i c.requires.lane ∙ slot_busy led done new.left (set es i e) i (omega (arith, in_.rest, few))
+          ∙ ap Some (ap₂ (λ a b. with_chains a b (entry_in (set es i e) i)) in_.chain in_.inner ∙ ap (with_chains e.chain e.inner) (get_or-set_same es i e blank lt) ∙ c.refill.ensures);
       others = λ j l apart.
-          slot_is n slots j l ∙ slot_same lane led old.left new.left es e i j apart (in_.rests j (omega (arith, g.met.H.LaneHash.narrow)) apart) (in_.chains j l apart)
-          ∙ sym (slot_here n lane old.left old.turns es c.args.self.now c.self.view_is c.self.invariant.0 c.self.invariant.1 g.met.H.LaneHash.narrow j l);
+          slot_is n slots j l ∙ slot_same lane led inner done old.left new.left es e i j apart (in_.rests j (omega (arith, g.met.H.LaneHash.narrow)) apart) (in_.chains j l apart) (in_.inners j l apart)
+          ∙ sym (slot_here n lane inner old.left old.turns es c.args.self.now c.self.view_is c.self.invariant.0 c.self.invariant.1 g.met.H.LaneHash.narrow j l);
     }
 
 pub returns-clause-begins : goal.returns-clause-begins

@@ -8,6 +8,7 @@ returns g c e some =
     let s = c.self.inside in
     let rests = s.lanes.rests in
     let lane = g.H.LaneHash.lane s.lanes.states in
+    let inner = g.H.LaneHash.lane s.lanes.inner in
     let es = s.entries.items in
-    let this = slot_entry n lane rests.left rests.turns es c.args.self.now c.self.view_is c.self.invariant.0 c.self.invariant.1 g.met.H.LaneHash.narrow c.args.i e c.requires.lane some in
+    let this = slot_entry n lane inner rests.left rests.turns es c.args.self.now c.self.view_is c.self.invariant.0 c.self.invariant.1 g.met.H.LaneHash.narrow c.args.i e c.requires.lane some in
     c.word_of.ensures ∙ this.1

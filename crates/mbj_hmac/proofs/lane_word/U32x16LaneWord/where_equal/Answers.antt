@@ -1,0 +1,7 @@
+use Rattle.std.proofs.Common.{w32}
+use Rattle.mbj_hmac.proofs.Vectors.{where_equal_is}
+use Rattle.mbj_hmac.proofs.lane_word.U32x16LaneWord.where_equal.Goals as goal
+
+pub returns : goal.returns
+returns c i h =
+    where_equal_is w32 c.args.x c.args.y c.args.same c.args.other 16 i c.fits-x.0 c.fits-y.0 c.fits-same.0 c.fits-other.0 c.fits-x.1 c.fits-y.1 h
