@@ -72,6 +72,10 @@ only-memory refusal.HasKeys is = absurd (omega arith)
 only-memory refusal.NoKeys is = absurd (omega arith)
 only-memory refusal.TooManyKeys is = absurd (omega arith)
 only-memory refusal.WrongTag is = absurd (omega arith)
+only-memory refusal.NoSeat is = absurd (omega arith)
+only-memory refusal.HasSeat is = absurd (omega arith)
+only-memory refusal.SeatCount is = absurd (omega arith)
+only-memory refusal.NotSubmitter is = absurd (omega arith)
 
 -- a job that isn't filled changes nothing
 pub unfilled-kept : (want : Result Unit Refusal) (next before after : Option RangedState) (reason : Refusal)
