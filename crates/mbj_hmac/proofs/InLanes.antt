@@ -12,7 +12,8 @@ use Rattle.mbj_lane.specs.Slots.{IsLeast}
 use Rattle.mbj_lane.proofs.Halfway.{halfway, get_or-halfway, set-halfway}
 use Rattle.mbj_hmac.specs.Rounds.{Chaining, HmacState, advanced, block_before, is_turn, outer_rounds, rest_of, round, turned}
 use Rattle.mbj_hmac.specs.Laws.Tests.{not_both}
-use Rattle.mbj_hmac.specs.Inside.InLanes.{AreReady, AreTied, IsReady, IsTied, blank, entry_in, idle, lowered, most_lanes, moved, never, reach_at, reach_of, seen_at, slot_at, slot_in, slots_of, turn_of, with_chains}
+use Rattle.mbj_hmac.specs.Inside.InLanes.{AreReady, AreTied, IsReady, IsTied, blank, entry_in, idle, lowered, most_lanes, moved, never, reach_at, reach_of, seen_at, slot_at, turn_of, with_chains}
+use Rattle.mbj_hmac.specs.Slots.{slot_in, slots_of}
 use Rattle.mbj_hmac.proofs.Passes.{after_moved, chain_next, rounds_are_blocks}
 
 -- ---- places

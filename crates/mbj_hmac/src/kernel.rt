@@ -1,5 +1,5 @@
 ghost use Rattle.mbj_hmac.specs.Rounds.{rest_of, round};
-ghost use Rattle.mbj_hmac.specs.Inside.InLanes.{slot_in};
+ghost use Rattle.mbj_hmac.specs.Slots.{slot_in};
 
 use crate::entry::HmacEntry;
 use crate::lane_hash::LaneHash;

@@ -7,7 +7,7 @@ ghost use Rattle.mbj_lane.specs.Slots.{IsBusy, IsLeast, IsWritten};
 ghost use Rattle.mbj_hmac.specs.Rounds.{HmacState, rest_of, round};
 ghost use Rattle.mbj_hmac.specs.Names.{serves_lanes};
 ghost use Rattle.mbj_hmac.specs.Begun.{Begins, begun};
-ghost use Rattle.mbj_hmac.specs.Inside.InLanes.{slot_in};
+ghost use Rattle.mbj_hmac.specs.Slots.{slot_in};
 
 use crate::entry::HmacEntry;
 use crate::lane_hash::LaneHash;
@@ -28,7 +28,8 @@ pub struct HmacSlots<H: LaneHash> {
 impl<H: LaneHash> Model for HmacSlots<H> {
     ghost use Rattle.std.specs.Prelude.{◌≡◌, List, Option, length};
     ghost use Rattle.mbj_hmac.specs.Rounds.{HmacState};
-    ghost use Rattle.mbj_hmac.specs.Inside.InLanes.{AreReady, AreTied, slot_at, slots_of};
+    ghost use Rattle.mbj_hmac.specs.Inside.InLanes.{AreReady, AreTied, slot_at};
+    ghost use Rattle.mbj_hmac.specs.Slots.{slots_of};
 
     ghost Value = { List (Option HmacState) };
 

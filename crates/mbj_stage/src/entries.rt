@@ -14,7 +14,7 @@ ghost use Rattle.mbj_lane.specs.Slots.{IsWritten};
 ghost use Rattle.mbj_cbc.specs.Rounds.{round as cbc_round, rest_of as cbc_rest};
 ghost use Rattle.mbj_cmac.specs.Rounds.{round as cmac_round, rest_of as cmac_rest};
 ghost use Rattle.mbj_hmac.specs.Names.{serves_lanes};
-ghost use Rattle.mbj_hmac.specs.Inside.InLanes.{slot_in};
+ghost use Rattle.mbj_hmac.specs.Slots.{slot_in};
 ghost use Rattle.mbj_hmac.specs.Rounds.{round as hmac_round, rest_of as hmac_rest};
 ghost use Rattle.mbj_ccm.specs.Rounds.{round as ccm_round, rest_of as ccm_rest};
 ghost use Rattle.mbj_keys.specs.Schedules.{IsScheduleOf};

@@ -1,8 +1,7 @@
 -- Entries in lanes. The lanes have the hash values of their entries: that of the hash that runs, that of an inner hash that is done, and
 -- that from which an outer hash starts. Three vectors say how many rounds each has left, with how many left its outer hash starts, and how
 -- many bits the block of its inner digest counts.
-use Rattle.std.specs.Prelude.{IsTrue, ◌≡◌, ℕ, ◌+◌, ◌-◌, ◌*◌, ◌<◌, ◌≤◌, ◌^◌, ◌==◌, ◌⊎◌, nat_lt, List, [], length, map, replicate, Option, Some, None, slice_index_or, if◌then◌else◌}
-use Rattle.std.specs.List.{range_with_len}
+use Rattle.std.specs.Prelude.{IsTrue, ◌≡◌, ℕ, ◌+◌, ◌-◌, ◌*◌, ◌<◌, ◌≤◌, ◌^◌, ◌==◌, ◌⊎◌, nat_lt, List, [], length, replicate, Option, Some, None, slice_index_or, if◌then◌else◌}
 use Rattle.mbj_types.specs.Lanes.{lane_at}
 use Rattle.mbj_types.specs.declared.class.HashName.{HashName}
 use Rattle.mbj_types.specs.declared.class.HashName.TheVariants.{Sha1}
@@ -63,13 +62,6 @@ seen_at lane inner es i = with_chains (lane i) (inner i) (entry_in es i)
 -- what stands in a slot, which is a lane
 abbrev pub slot_at : (ℕ → List ℕ) → (ℕ → List ℕ) → List ℕ → List HmacState → ℕ → Option HmacState
 slot_at lane inner rests es i = if lane_at 32 rests i == idle then None else Some (seen_at lane inner es i)
-
--- n slots as a list, and one of them
-abbrev pub slots_of : ℕ → (ℕ → Option HmacState) → List (Option HmacState)
-slots_of n slot = map slot (range_with_len 0 n)
-
-abbrev pub slot_in : List (Option HmacState) → ℕ → Option HmacState
-slot_in slots i = slice_index_or slots i None
 
 -- what the two vectors have of an entry. In an idle lane it has no round left
 abbrev pub IsTied : ℕ → ℕ → HmacState → Type 0

@@ -9,7 +9,7 @@ use Rattle.mbj_lane.specs.Rounds.{end_of}
 use Rattle.mbj_lane.specs.Slots.{IsWritten}
 use Rattle.mbj_hmac.specs.Begun.{Begins, begun}
 use Rattle.mbj_hmac.specs.Rounds.{HmacState, rest_of, round}
-use Rattle.mbj_hmac.specs.Inside.InLanes.{slot_in}
+use Rattle.mbj_hmac.specs.Slots.{slot_in}
 use Rattle.mbj_stage.specs.Ends.{begun_over}
 use Rattle.mbj_stage.proofs.Hashes.{served-length, served-range, value_is_mac}
 use Rattle.mbj_stage.proofs.entries.put_hmac.Goals as goal

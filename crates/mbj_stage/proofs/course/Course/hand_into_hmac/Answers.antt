@@ -6,7 +6,7 @@ use Rattle.mbj_lane.specs.Rounds.{end_of}
 use Rattle.mbj_lane.specs.Slots.{IsWritten}
 use Rattle.mbj_hmac.specs.Names.{serves_lanes}
 use Rattle.mbj_hmac.specs.Rounds.{HmacState, rest_of, round}
-use Rattle.mbj_hmac.specs.Inside.InLanes.{slot_in}
+use Rattle.mbj_hmac.specs.Slots.{slot_in}
 use Rattle.mbj_stage.specs.declared.stage.Stage.TheVariants as stage
 use Rattle.mbj_stage.specs.declared.stage.Step.TheVariants as step
 use Rattle.mbj_stage.specs.Steps.{stage_at, steps_in}
