@@ -280,14 +280,17 @@ static inline void mbj_say_place_(struct mbj_raw_job *raw, MBJ_MGR *m, uint32_t 
     mbj_note_slot_(&m->slots[place], job, reason);
 }
 
-/* Room for the result that is given back behind this many others. Its tag goes beside the job's own first, since that may lie within what
- * was ciphered. */
-static inline void mbj_make_room_(struct mbj_raw_done *done, uint8_t *tag, const MBJ_MGR *m, uint32_t behind) {
-    const struct mbj_slot *slot = &m->slots[(m->first + behind) % MBJ_MAX_JOBS];
+/* Room for a job's result. Its tag goes beside the job's own first, since that may lie within what was ciphered. */
+static inline void mbj_room_of_(struct mbj_raw_done *done, uint8_t *tag, const struct mbj_slot *slot) {
     done->dst.at = slot->dst_len != 0 ? slot->dst : tag;
     done->dst.len = slot->dst_len;
     done->tag.at = tag;
     done->tag.len = MBJ_MAX_TAG_BYTES;
+}
+
+/* Room for the result that is given back behind this many others. */
+static inline void mbj_make_room_(struct mbj_raw_done *done, uint8_t *tag, const MBJ_MGR *m, uint32_t behind) {
+    mbj_room_of_(done, tag, &m->slots[(m->first + behind) % MBJ_MAX_JOBS]);
 }
 
 static inline bool mbj_meets_(const struct mbj_room *room, const struct mbj_bytes *bytes) {

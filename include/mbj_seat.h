@@ -55,6 +55,19 @@ mbj_err mbj_c_post(struct mbj_seat *seat, const struct mbj_raw_job *job);
 MBJ_NONNULL
 bool mbj_c_collect(struct mbj_seat *seat, struct mbj_raw_done *done, uint32_t *refusal);
 
+/* Bursts: what several single calls do, one after another, by one call. No array is at NULL, even where it has no element.
+ *
+ * Posts jobs, each as mbj_c_post does. Returns how many are posted, and writes to each job's place in refusals what mbj_c_post returns. A
+ * job that is refused is left out, and the jobs behind it are posted. Only the first refusals_len jobs are looked at where jobs_len is
+ * more. */
+MBJ_NONNULL
+size_t mbj_c_post_burst(struct mbj_seat *seat, const struct mbj_raw_job *jobs, size_t jobs_len, uint32_t *refusals, size_t refusals_len);
+
+/* Makes mbj_c_collect as many times as there are rooms. The results that are given go to the rooms in order, and the rooms behind them stay
+ * as they were. Each call needs room for the result that comes next, as a single one does. No two rooms of a burst overlap. */
+MBJ_NONNULL
+void mbj_c_collect_burst(struct mbj_seat *seat, struct mbj_raw_done *rooms, size_t rooms_len, struct mbj_raw_burst *told);
+
 /* Claims up to 32 jobs of any submitter, runs lanes that are full, and hands results that are finished to their submitters. Returns how many
  * jobs it claimed: 0 where there is no seat. */
 MBJ_NONNULL
@@ -83,7 +96,7 @@ MBJ_ASSERT_(sizeof(struct mbj_seat) == 8);
 typedef struct mbj_submitter {
     struct mbj_seat seat;
     uint32_t first, next, error;
-    bool is_lent;            /* whether the job at next is handed out */
+    uint32_t lent;           /* how many jobs from next on are handed out */
     void (*pause)(void *);   /* what mbj_drain does where it finds nothing to do; NULL for a pause of the processor */
     void *pause_with;        /* and what it is called with */
     struct mbj_slot slots[MBJ_MAX_JOBS];
@@ -108,7 +121,7 @@ MBJ_API void mbj_take_seat(MBJ_SEAT *s, struct mbj_seat *place) {
     place->at = NULL;
     s->first = s->next = 0;
     s->error = MBJ_ERR_NONE;
-    s->is_lent = false;
+    s->lent = 0;
     s->pause = NULL;
     s->pause_with = NULL;
 }
@@ -124,30 +137,37 @@ MBJ_API mbj_err mbj_seat_errno(const MBJ_SEAT *s) {
     return (mbj_err)s->error;
 }
 
-/* Hands out the next job, a blank one, or the one that was handed out and isn't posted yet. NULL with MBJ_ERR_FULL where MBJ_MAX_JOBS jobs
- * are out: collect one first. */
-MBJ_API MBJ_JOB *mbj_seat_get_next_job(MBJ_SEAT *s) {
-    MBJ_JOB *job = &s->jobs[s->next % MBJ_MAX_JOBS];
-    if (s->next - s->first == MBJ_MAX_JOBS) {
-        s->error = MBJ_ERR_FULL;
-        return NULL;
+/* Hands out up to n jobs: those that were handed out and aren't posted yet, as they are, and then blank ones. Returns how many: fewer where
+ * fewer are left, and 0 with MBJ_ERR_FULL where MBJ_MAX_JOBS jobs are out: collect one first. */
+MBJ_API uint32_t mbj_seat_get_next_burst(MBJ_SEAT *s, uint32_t n, MBJ_JOB **jobs) {
+    uint32_t left = MBJ_MAX_JOBS - (s->next - s->first), count = n < left ? n : left;
+    s->error = left == 0 ? MBJ_ERR_FULL : MBJ_ERR_NONE;
+    for (uint32_t i = 0; i < count; i++) {
+        jobs[i] = &s->jobs[(s->next + i) % MBJ_MAX_JOBS];
+        if (i >= s->lent)
+            mbj_make_blank_(jobs[i]);
     }
-    s->error = MBJ_ERR_NONE;
-    if (!s->is_lent)
-        mbj_make_blank_(job);
-    s->is_lent = true;
-    return job;
+    if (count > s->lent)
+        s->lent = count;
+    return count;
 }
 
-/* Posts the job that was handed out. Its bytes are copied: all that it reads may be used anew then. Returns MBJ_ERR_NONE, MBJ_ERR_NO_JOB
+/* Hands out the next job, a blank one, or the one that was handed out and isn't posted yet. NULL with MBJ_ERR_FULL where MBJ_MAX_JOBS jobs
+ * are out. */
+MBJ_API MBJ_JOB *mbj_seat_get_next_job(MBJ_SEAT *s) {
+    MBJ_JOB *job = NULL;
+    return mbj_seat_get_next_burst(s, 1, &job) == 0 ? NULL : job;
+}
+
+/* Posts the first job that was handed out. Its bytes are copied: all that it reads may be used anew then. Returns MBJ_ERR_NONE, MBJ_ERR_NO_JOB
  * where none was handed out, MBJ_ERR_NO_SEAT, MBJ_ERR_NOT_SUBMITTER or MBJ_ERR_MEMORY, after which the job may be posted again. */
 MBJ_CHECKED MBJ_API mbj_err mbj_post_job(MBJ_SEAT *s) {
     uint32_t place = s->next % MBJ_MAX_JOBS;
     MBJ_JOB *job = &s->jobs[place];
     struct mbj_raw_job raw;
     uint32_t reason;
-    if (!s->is_lent || s->seat.at == NULL) {
-        s->error = s->is_lent ? MBJ_ERR_NO_SEAT : MBJ_ERR_NO_JOB;
+    if (s->lent == 0 || s->seat.at == NULL) {
+        s->error = s->lent != 0 ? MBJ_ERR_NO_SEAT : MBJ_ERR_NO_JOB;
         return (mbj_err)s->error;
     }
     reason = mbj_own_reason_(job);
@@ -163,29 +183,72 @@ MBJ_CHECKED MBJ_API mbj_err mbj_post_job(MBJ_SEAT *s) {
     }
     job->status = MBJ_STATUS_BEING_PROCESSED;
     s->next++;
-    s->is_lent = false;
+    s->lent--;
     return MBJ_ERR_NONE;
+}
+
+/* Whether these are the first jobs that are handed out, in their order. */
+static inline bool mbj_seat_lent_(MBJ_SEAT *s, uint32_t n, MBJ_JOB *const *jobs) {
+    for (uint32_t i = 0; i < n && n <= s->lent; i++)
+        if (jobs[i] != &s->jobs[(s->next + i) % MBJ_MAX_JOBS])
+            return false;
+    return n <= s->lent;
+}
+
+/* Posts n jobs as mbj_post_job does, one after another: the first ones that were handed out, in their order. Returns how many are posted:
+ * fewer than n where one lacks memory, for no job may overtake one that is posted again. It and those behind it have MBJ_STATUS_ERROR then,
+ * and stay handed out. With MBJ_ERR_NO_JOB, where the jobs aren't those that were handed out, none is posted. */
+MBJ_CHECKED MBJ_API uint32_t mbj_post_burst(MBJ_SEAT *s, uint32_t n, MBJ_JOB *const *jobs) {
+    uint32_t posted = 0;
+    if (!mbj_seat_lent_(s, n, jobs)) {
+        s->error = MBJ_ERR_NO_JOB;
+        return 0;
+    }
+    s->error = MBJ_ERR_NONE;
+    while (posted < n && mbj_post_job(s) == MBJ_ERR_NONE)
+        posted++;
+    for (uint32_t i = posted; i < n; i++)
+        jobs[i]->status = MBJ_STATUS_ERROR;
+    return posted;
+}
+
+/* The earliest job, whose result is in its room. */
+static inline MBJ_JOB *mbj_seat_give_(MBJ_SEAT *s, const struct mbj_raw_done *done) {
+    uint32_t place = s->first++ % MBJ_MAX_JOBS;
+    mbj_end_job_(&s->jobs[place], &s->slots[place], done);
+    return &s->jobs[place];
 }
 
 /* Gives the seat's earliest job back where it is finished, as mbj_get_completed_job does for a manager; NULL where it isn't, or none is
  * out. It does no other job meanwhile. */
 MBJ_API MBJ_JOB *mbj_collect_job(MBJ_SEAT *s) {
-    uint32_t place = s->first % MBJ_MAX_JOBS;
-    const struct mbj_slot *slot = &s->slots[place];
     struct mbj_raw_done done;
     uint8_t tag[MBJ_MAX_TAG_BYTES];
     s->error = MBJ_ERR_NONE;
     if (s->next == s->first)
         return NULL;
-    done.dst.at = slot->dst_len != 0 ? slot->dst : tag;
-    done.dst.len = slot->dst_len;
-    done.tag.at = tag;
-    done.tag.len = MBJ_MAX_TAG_BYTES;
-    if (!mbj_c_collect(&s->seat, &done, &s->error))
-        return NULL;
-    s->first++;
-    mbj_end_job_(&s->jobs[place], slot, &done);
-    return &s->jobs[place];
+    mbj_room_of_(&done, tag, &s->slots[s->first % MBJ_MAX_JOBS]);
+    return mbj_c_collect(&s->seat, &done, &s->error) ? mbj_seat_give_(s, &done) : NULL;
+}
+
+/* Gives up to n of the seat's jobs back, the earliest ones, as long as they are finished, and returns how many. Two jobs that come back by
+ * one burst must write to places that don't overlap. */
+MBJ_API uint32_t mbj_collect_burst(MBJ_SEAT *s, uint32_t n, MBJ_JOB **done) {
+    uint32_t given = 0, asked = 0;
+    s->error = MBJ_ERR_NONE;
+    while (given == asked && given < n && s->next != s->first) {
+        uint32_t out = s->next - s->first, part = mbj_part_of_(n - given < out ? n - given : out);
+        struct mbj_rooms_ rooms;
+        struct mbj_raw_burst told = {0, 0, MBJ_ERR_NONE};
+        for (uint32_t i = 0; i < part; i++)
+            mbj_room_of_(&rooms.done[i], rooms.tags[i], &s->slots[(s->first + i) % MBJ_MAX_JOBS]);
+        mbj_c_collect_burst(&s->seat, rooms.done, part, &told);
+        s->error = told.refusal;
+        asked += part;
+        for (size_t i = 0; i < told.given; i++)
+            done[given++] = mbj_seat_give_(s, &rooms.done[i]);
+    }
+    return given;
 }
 
 /* A pause of the processor, where there is no other. */

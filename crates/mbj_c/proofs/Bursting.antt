@@ -1,6 +1,6 @@
 -- The calls of a burst, one after another.
 use Rattle.std.proofs.Common.{◌≡◌, ◌≢◌, ◌∙◌, ◌==◌, ◌++◌, ◌+◌, ◌<◌, ◌≤◌, ℕ, zero, suc, List, [], ◌∷◌, Bool, true, false, Option, None, Some, Result, Ok, Err, add-one, ap, arith, length, refl, set, slice_get, subst, sym, ⊎_elim, length-append}
-use Rattle.std.specs.Prelude.{IfSome, option_to_list, if◌then◌else◌}
+use Rattle.std.specs.Prelude.{option_to_list, if◌then◌else◌}
 use Rattle.std.proofs.lemmas.Bool.{cases_eq}
 use Rattle.std.proofs.lemmas.List.{length-set}
 use Rattle.std.proofs.lemmas.Option.{slice_get_past, slice_get_within}
@@ -12,7 +12,7 @@ use Rattle.mbj_c.specs.declared.job.RawJob.{RawJob}
 use Rattle.mbj_c.specs.declared.refusal.Refusal.{Refusal}
 use Rattle.mbj_c.specs.declared.refusal.Refusal.TheVariants as refusal
 use Rattle.mbj_c.specs.declared.refusal.Refusal.TheVariants.{Memory}
-use Rattle.mbj_c.specs.Bursts.{FillBurst, GiveBurst, IsAnswer, IsBurstTold, IsRoomOf, IsTurnTold, after_filling, after_giving, count_of, fill_burst, filled_more, with_answer, with_call, with_told}
+use Rattle.mbj_c.specs.Bursts.{GiveBurst, IsAnswer, IsBurstTold, IsRoomOf, IsTurnTold, TakeBurst, after_giving, after_taking, count_of, take_burst, taken_more, with_answer, with_call, with_told}
 use Rattle.mbj_c.specs.Calls.{given_in}
 use Rattle.mbj_c.specs.Codes.{code_of, refusal_code}
 use Rattle.mbj_c.specs.Giving.{answered}
@@ -47,11 +47,11 @@ module _ {A : Type 0} where
   joined-beside (y ∷ ys) o zero other = refl
   joined-beside (y ∷ ys) o (suc i) other = joined-beside ys o i (λ same. other (ap suc same))
 
-  at-most-one : (o : Option A) → length (option_to_list o) ≤ 1
+  pub at-most-one : (o : Option A) → length (option_to_list o) ≤ 1
   at-most-one None = omega arith
   at-most-one (Some x) = omega arith
 
--- ---- filling
+-- ---- taking jobs
 
 -- the code of want of memory is that of no other refusal
 pub only-memory : (q : Refusal) → refusal_code q ≡ refusal_code Memory → q ≡ Memory
@@ -77,18 +77,18 @@ only-memory refusal.HasSeat is = absurd (omega arith)
 only-memory refusal.SeatCount is = absurd (omega arith)
 only-memory refusal.NotSubmitter is = absurd (omega arith)
 
--- a job that isn't filled changes nothing
-pub unfilled-kept : (want : Result Unit Refusal) (next before after : Option RangedState) (reason : Refusal)
+-- a job that isn't taken changes nothing
+pub untaken-kept : {S : Type 0} (want : Result Unit Refusal) (next before after : S) (reason : Refusal)
     → IsDoneAs want next before (Err reason) after → ((q : Refusal) → want ≡ Err q → next ≡ before) → after ≡ before
-unfilled-kept (Ok u) next before after reason done kept = done.1
-unfilled-kept (Err q) next before after reason done kept = done.1 ∙ kept q refl
+untaken-kept (Ok u) next before after reason done kept = done.1
+untaken-kept (Err q) next before after reason done kept = done.1 ∙ kept q refl
 
 -- and is told why
-pub unfilled-answer : (want : Result Unit Refusal) (next before after : Option RangedState) (reason : Refusal) (code : ℕ)
+pub untaken-answer : {S : Type 0} (want : Result Unit Refusal) (next before after : S) (reason : Refusal) (code : ℕ)
     → code ≡ refusal_code reason → IsDoneAs want next before (Err reason) after → want ≢ Err Memory
     → (code ≡ refusal_code Memory → want ≡ Ok tt) × (code ≢ refusal_code Memory → code ≡ code_of want)
-unfilled-answer (Ok u) next before after reason code is done another = ((λ memory. refl), (λ other. absurd (other (is ∙ ap refusal_code done.0))))
-unfilled-answer (Err q) next before after reason code is done another =
+untaken-answer (Ok u) next before after reason code is done another = ((λ memory. refl), (λ other. absurd (other (is ∙ ap refusal_code done.0))))
+untaken-answer (Err q) next before after reason code is done another =
     let same : reason ≡ q = cc in
     ((λ memory. absurd (another (ap Err (only-memory q (sym (is ∙ ap refusal_code same) ∙ memory))))), (λ other. is ∙ ap refusal_code same))
 
@@ -96,88 +96,81 @@ either-way : {A : Type 0} (b : Bool) (x : A) → (if b then x else x) ≡ x
 either-way true x = refl
 either-way false x = refl
 
-pub unfilled-state : (i : ℕ) (want : Result Unit Refusal) (next before after : Option RangedState) (reason : Refusal) (code : ℕ)
+pub untaken-state : {S : Type 0} (i : ℕ) (want : Result Unit Refusal) (next before after : S) (reason : Refusal) (code : ℕ)
     → code ≡ refusal_code reason → IsDoneAs want next before (Err reason) after → ((q : Refusal) → want ≡ Err q → next ≡ before)
-    → fill_burst i after ≡ (if code == refusal_code Memory then fill_burst i before else filled_more (want, next) (fill_burst i before))
-unfilled-state i (Ok u) next before after reason code is done kept =
-    ap (fill_burst i) done.1
-    ∙ ap (λ (n : ℕ). if n == refusal_code Memory then fill_burst i before else filled_more (Ok u, next) (fill_burst i before))
+    → take_burst i after ≡ (if code == refusal_code Memory then take_burst i before else taken_more (want, next) (take_burst i before))
+untaken-state i (Ok u) next before after reason code is done kept =
+    ap (take_burst i) done.1
+    ∙ ap (λ (n : ℕ). if n == refusal_code Memory then take_burst i before else taken_more (Ok u, next) (take_burst i before))
     (sym (is ∙ ap refusal_code done.0))
-unfilled-state i (Err q) next before after reason code is done kept =
-    ap (fill_burst i) (done.1 ∙ kept q refl) ∙ sym (either-way (code == refusal_code Memory) (fill_burst i before))
+untaken-state i (Err q) next before after reason code is done kept =
+    ap (take_burst i) (done.1 ∙ kept q refl) ∙ sym (either-way (code == refusal_code Memory) (take_burst i before))
 
--- the first n jobs of a burst are filled or refused
-pub record AreFilled (n : ℕ) (jobs : List RawJob) (before codes : List ℕ) (m : Option RangedState) (filled : ℕ) (now : Option RangedState) : Type 0 where
-  pub each : (i : ℕ) → i < n → IsAnswer (slice_get jobs i) (slice_get codes i) (after_filling i jobs codes m)
-  pub others : (i : ℕ) → n ≤ i → slice_get codes i ≡ slice_get before i
-  pub state : fill_burst filled now ≡ after_filling n jobs codes m
-  pub size : length codes ≡ length before
-  pub cell : IfSome now (λ k. filled ≤ length k.manager.opened)
+module _ {S : Type 0} (call : ℕ → RawJob → S → Result Unit Refusal × S) where
+  -- the first n jobs of a burst are taken or refused
+  pub record AreTaken (n : ℕ) (jobs : List RawJob) (before codes : List ℕ) (s : S) (taken : ℕ) (now : S) : Type 0 where
+    pub each : (i : ℕ) → i < n → IsAnswer call (slice_get jobs i) (slice_get codes i) (after_taking call i jobs codes s)
+    pub others : (i : ℕ) → n ≤ i → slice_get codes i ≡ slice_get before i
+    pub state : take_burst taken now ≡ after_taking call n jobs codes s
+    pub size : length codes ≡ length before
 
--- a code that is written later changes nothing
-filling-before : (n i : ℕ) (jobs : List RawJob) (codes : List ℕ) (code : ℕ) (m : Option RangedState) → n ≤ i
-    → after_filling n jobs (set codes i code) m ≡ after_filling n jobs codes m
-unfolding after_filling
-filling-before zero i jobs codes code m earlier = refl
-filling-before (suc n) i jobs codes code m earlier =
-    let beside : n ≢ i = λ same. absurd (omega (arith, same)) in
-    ap (λ (told : Option ℕ). with_told (slice_get jobs n) told (after_filling n jobs (set codes i code) m)) (set-beside codes i n code beside)
-    ∙ ap (with_told (slice_get jobs n) (slice_get codes n)) (filling-before n i jobs codes code m (omega arith))
+  -- a code that is written later changes nothing
+  taking-before : (n i : ℕ) (jobs : List RawJob) (codes : List ℕ) (code : ℕ) (s : S) → n ≤ i
+      → after_taking call n jobs (set codes i code) s ≡ after_taking call n jobs codes s
+  unfolding after_taking
+  taking-before zero i jobs codes code s earlier = refl
+  taking-before (suc n) i jobs codes code s earlier =
+      let beside : n ≢ i = λ same. absurd (omega (arith, same)) in
+      ap (λ (told : Option ℕ). with_told call (slice_get jobs n) told (after_taking call n jobs (set codes i code) s)) (set-beside codes i n code beside)
+      ∙ ap (with_told call (slice_get jobs n) (slice_get codes n)) (taking-before n i jobs codes code s (omega arith))
 
-filling-next : (n : ℕ) (jobs : List RawJob) (codes : List ℕ) (m : Option RangedState)
-    → after_filling (n + 1) jobs codes m ≡ with_told (slice_get jobs n) (slice_get codes n) (after_filling n jobs codes m)
-unfolding after_filling
-filling-next n jobs codes m = ap (λ (k : ℕ). after_filling k jobs codes m) (add-one n)
+  taking-next : (n : ℕ) (jobs : List RawJob) (codes : List ℕ) (s : S)
+      → after_taking call (n + 1) jobs codes s ≡ with_told call (slice_get jobs n) (slice_get codes n) (after_taking call n jobs codes s)
+  unfolding after_taking
+  taking-next n jobs codes s = ap (λ (k : ℕ). after_taking call k jobs codes s) (add-one n)
 
-pub filled-next : (n : ℕ) (jobs : List RawJob) (before codes : List ℕ) (m : Option RangedState) (filled next : ℕ) (now after : Option RangedState)
-    (raw : RawJob) (code : ℕ) → AreFilled n jobs before codes m filled now → slice_get jobs n ≡ Some raw → n < length codes
-    → IsAnswer (Some raw) (Some code) (fill_burst filled now)
-    → fill_burst next after ≡ with_told (Some raw) (Some code) (fill_burst filled now)
-    → IfSome after (λ k. next ≤ length k.manager.opened)
-    → AreFilled (n + 1) jobs before (set codes n code) m next after
-filled-next n jobs before codes m filled next now after raw code are job few answer state cell =
-    let written : List ℕ = set codes n code in
-    let told : slice_get written n ≡ Some code = set-here codes n code few in
-    let so_far : fill_burst filled now ≡ after_filling n jobs written m = are.state ∙ sym (filling-before n n jobs codes code m (omega arith)) in
-    let last : IsAnswer (slice_get jobs n) (slice_get written n) (after_filling n jobs written m) =
-    subst (λ (r : Option RawJob). IsAnswer r (slice_get written n) (after_filling n jobs written m)) (sym job)
-    (subst (λ (c : Option ℕ). IsAnswer (Some raw) c (after_filling n jobs written m)) (sym told)
-    (subst (λ (b : FillBurst). IsAnswer (Some raw) (Some code) b) so_far answer)) in
-    record {
-      each = λ i below. ⊎_elim (λ same. subst (λ (j : ℕ). IsAnswer (slice_get jobs j) (slice_get written j) (after_filling j jobs written m)) (sym same) last)
-          (λ other. subst (λ (c : Option ℕ). IsAnswer (slice_get jobs i) c (after_filling i jobs written m)) (sym (set-beside codes n i code other))
-          (subst (λ (b : FillBurst). IsAnswer (slice_get jobs i) (slice_get codes i) b) (sym (filling-before i n jobs codes code m (omega arith)))
-          (are.each i (omega (arith, other, below)))))
-          (cases_eq i n);
-      others = λ i past. set-beside codes n i code (λ same. absurd (omega (arith, same, past))) ∙ are.others i (omega arith);
-      state = state
-          ∙ ap (λ (b : FillBurst). with_told (Some raw) (Some code) b) so_far
-          ∙ ap (λ (c : Option ℕ). with_told (Some raw) c (after_filling n jobs written m)) (sym told)
-          ∙ ap (λ (r : Option RawJob). with_told r (slice_get written n) (after_filling n jobs written m)) (sym job)
-          ∙ sym (filling-next n jobs written m);
-      size = length-set codes n code ∙ are.size;
-      cell = cell;
-    }
+  pub taken-next : (n : ℕ) (jobs : List RawJob) (before codes : List ℕ) (s : S) (taken next : ℕ) (now after : S)
+      (raw : RawJob) (code : ℕ) → AreTaken n jobs before codes s taken now → slice_get jobs n ≡ Some raw → n < length codes
+      → IsAnswer call (Some raw) (Some code) (take_burst taken now)
+      → take_burst next after ≡ with_told call (Some raw) (Some code) (take_burst taken now)
+      → AreTaken (n + 1) jobs before (set codes n code) s next after
+  taken-next n jobs before codes s taken next now after raw code are job few answer state =
+      let written : List ℕ = set codes n code in
+      let told : slice_get written n ≡ Some code = set-here codes n code few in
+      let so_far : take_burst taken now ≡ after_taking call n jobs written s = are.state ∙ sym (taking-before n n jobs codes code s (omega arith)) in
+      let last : IsAnswer call (slice_get jobs n) (slice_get written n) (after_taking call n jobs written s) =
+      subst (λ (r : Option RawJob). IsAnswer call r (slice_get written n) (after_taking call n jobs written s)) (sym job)
+      (subst (λ (c : Option ℕ). IsAnswer call (Some raw) c (after_taking call n jobs written s)) (sym told)
+      (subst (λ (b : TakeBurst S). IsAnswer call (Some raw) (Some code) b) so_far answer)) in
+      record {
+        each = λ i below. ⊎_elim (λ same. subst (λ (j : ℕ). IsAnswer call (slice_get jobs j) (slice_get written j) (after_taking call j jobs written s)) (sym same) last)
+            (λ other. subst (λ (c : Option ℕ). IsAnswer call (slice_get jobs i) c (after_taking call i jobs written s)) (sym (set-beside codes n i code other))
+            (subst (λ (b : TakeBurst S). IsAnswer call (slice_get jobs i) (slice_get codes i) b) (sym (taking-before i n jobs codes code s (omega arith)))
+            (are.each i (omega (arith, other, below)))))
+            (cases_eq i n);
+        others = λ i past. set-beside codes n i code (λ same. absurd (omega (arith, same, past))) ∙ are.others i (omega arith);
+        state = state
+            ∙ ap (λ (b : TakeBurst S). with_told call (Some raw) (Some code) b) so_far
+            ∙ ap (λ (c : Option ℕ). with_told call (Some raw) c (after_taking call n jobs written s)) (sym told)
+            ∙ ap (λ (r : Option RawJob). with_told call r (slice_get written n) (after_taking call n jobs written s)) (sym job)
+            ∙ sym (taking-next n jobs written s);
+        size = length-set codes n code ∙ are.size;
+      }
 
-pub none-filled : (jobs : List RawJob) (codes : List ℕ) (m : Option RangedState) → AreFilled 0 jobs codes codes m 0 m
-unfolding after_filling
-none-filled jobs codes m = record {
-  each = λ i below. absurd (omega (arith, below));
-  others = λ i past. refl;
-  state = refl;
-  size = refl;
-  cell = nothing-open m;
-}
-  where
-    nothing-open : (k : Option RangedState) → IfSome k (λ k. 0 ≤ length k.manager.opened)
-    nothing-open None = tt
-    nothing-open (Some k) = omega arith
+  pub none-taken : (jobs : List RawJob) (codes : List ℕ) (s : S) → AreTaken 0 jobs codes codes s 0 s
+  unfolding after_taking
+  none-taken jobs codes s = record {
+    each = λ i below. absurd (omega (arith, below));
+    others = λ i past. refl;
+    state = refl;
+    size = refl;
+  }
 
 -- ---- giving back
 
 -- n calls of a burst are made
 pub record AreGiven (n : ℕ) (c : Call) (before after : List RawDone) (m : Option RangedState) (told : RawBurst) (now : Option RangedState) : Type 0 where
-  pub state : now ≡ (after_giving n c before m).manager
+  pub state : now ≡ (after_giving n c before m).state
   pub is_told : IsBurstTold (after_giving n c before m) told before after
   pub given : told.given ≤ n
   pub made : told.made ≤ n
@@ -188,20 +181,26 @@ giving-next : (n : ℕ) (c : Call) (outs : List RawDone) (m : Option RangedState
 unfolding after_giving
 giving-next n c outs m = ap (λ (k : ℕ). after_giving k c outs m) (add-one n)
 
-one-made : (a : Result (Option Given) Refusal) → count_of a ≤ 1
+pub one-made : (a : Result (Option Given) Refusal) → count_of a ≤ 1
 one-made (Ok g) = omega arith
 one-made (Err r) = omega arith
 
-with-turn : (n : ℕ) (b : GiveBurst) (a : Result (Option Given) Refusal × Option RangedState) (told next : RawBurst) (before outs : List RawDone)
+-- the room of the place that the next result has is as it was
+pub next-room : {S : Type 0} (b : GiveBurst S) (told : RawBurst) (before outs : List RawDone) → IsBurstTold b told before outs
+    → slice_get outs told.given ≡ slice_get before told.given
+next-room b told before outs is =
+    subst (λ (o : Option Given). IsRoomOf o (slice_get before told.given) (slice_get outs told.given))
+    (slice_get_past b.given told.given (omega (arith, is.given))) (is.rooms told.given)
+
+-- what is told of one call more
+pub with-turn : {S : Type 0} (b : GiveBurst S) (a : Result (Option Given) Refusal × S) (told next : RawBurst) (before outs : List RawDone)
     (out after : RawDone) → IsBurstTold b told before outs → slice_get outs told.given ≡ Some out
     → IsTurnTold a.0 told next out after → IsBurstTold (with_answer a b) next before (set outs told.given after)
-with-turn n b a told next before outs out after is room turn =
+with-turn b a told next before outs out after is room turn =
     let g : Option Given = given_in a.0 in
     let place : told.given ≡ length b.given = is.given in
     let few : told.given < length outs = slice_get_within outs told.given out room in
-    let none : slice_get b.given told.given ≡ None = slice_get_past b.given told.given (omega arith) in
-    let blank : slice_get outs told.given ≡ slice_get before told.given =
-    subst (λ (o : Option Given). IsRoomOf o (slice_get before told.given) (slice_get outs told.given)) none (is.rooms told.given) in
+    let blank : slice_get outs told.given ≡ slice_get before told.given = next-room b told before outs is in
     let here : IsRoomOf (slice_get (b.given ++ option_to_list g) told.given) (slice_get before told.given) (slice_get (set outs told.given after) told.given) =
     subst (λ (o : Option RawDone). IsRoomOf (slice_get (b.given ++ option_to_list g) told.given) o (slice_get (set outs told.given after) told.given)) (sym room ∙ blank)
     (subst (λ (o : Option RawDone). IsRoomOf (slice_get (b.given ++ option_to_list g) told.given) (Some out) o) (sym (set-here outs told.given after few))
@@ -221,19 +220,17 @@ pub given-next : (n : ℕ) (c : Call) (before outs : List RawDone) (m now after 
     → AreGiven n c before outs m told now → slice_get outs told.given ≡ Some out → after ≡ (answered c now out).1
     → IsTurnTold (answered c now out).0 told next out room → AreGiven (n + 1) c before (set outs told.given room) m next after
 given-next n c before outs m now after told next out room are there state turn =
-    let b : GiveBurst = after_giving n c before m in
+    let b : GiveBurst (Option RangedState) = after_giving n c before m in
     let place : told.given ≡ length b.given = are.is_told.given in
-    let none : slice_get b.given told.given ≡ None = slice_get_past b.given told.given (omega arith) in
-    let blank : slice_get outs told.given ≡ slice_get before told.given =
-    subst (λ (o : Option Given). IsRoomOf o (slice_get before told.given) (slice_get outs told.given)) none (are.is_told.rooms told.given) in
+    let blank : slice_get outs told.given ≡ slice_get before told.given = next-room b told before outs are.is_told in
     let same : with_answer (answered c now out) b ≡ after_giving (n + 1) c before m =
     ap (λ (k : Option RangedState). with_answer (answered c k out) b) are.state
     ∙ ap (λ (o : Option RawDone). with_call c o b) (sym there ∙ blank ∙ ap (slice_get before) place)
     ∙ sym (giving-next n c before m) in
     record {
-      state = state ∙ ap (λ (d : GiveBurst). d.manager) same;
-      is_told = subst (λ (d : GiveBurst). IsBurstTold d next before (set outs told.given room)) same
-          (with-turn n b (answered c now out) told next before outs out room are.is_told there turn);
+      state = state ∙ ap (λ (d : GiveBurst (Option RangedState)). d.state) same;
+      is_told = subst (λ (d : GiveBurst (Option RangedState)). IsBurstTold d next before (set outs told.given room)) same
+          (with-turn b (answered c now out) told next before outs out room are.is_told there turn);
       given = omega (arith, turn.given, are.given, at-most-one (given_in (answered c now out).0));
       made = omega (arith, turn.made, are.made, one-made (answered c now out).0);
       size = length-set outs told.given room ∙ are.size;

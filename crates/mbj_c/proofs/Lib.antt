@@ -19,3 +19,5 @@ mod Openings
 mod SeatRanges
 mod SeatPlaces
 mod PostRefused
+mod SeatBursting
+mod SeatAnswers

@@ -1,5 +1,5 @@
 -- A post that is refused changes nothing.
-use Rattle.std.proofs.Common.{◌≡◌, ◌+◌, ℕ, nat_eq, Err, None, Option, Result, Some, ap, length, refl}
+use Rattle.std.proofs.Common.{◌≡◌, ◌≢◌, ◌+◌, ℕ, nat_eq, Err, None, Option, Result, Some, ap, length, refl}
 use Rattle.std.specs.Prelude.{if◌then◌else◌}
 use Rattle.std.proofs.lemmas.Bool.{cond_both}
 use Rattle.mbj_types.specs.declared.job.Job.{Job}
@@ -25,3 +25,20 @@ in-kept r s q =
 pub post-kept : (r : RawJob) (m : Option SeatState) (q : Refusal) → (posted r m).0 ≡ Err q → (posted r m).1 ≡ m
 post-kept r None q is = refl
 post-kept r (Some s) q is = ap Some (in-kept r s q is)
+
+-- no post is refused for want of memory where there is memory
+said-for-another : (said : Option Job) (s : SeatState) → (posted_with said s).0 ≢ Err refusal.Memory
+said-for-another None s is = absurd (cc)
+said-for-another (Some j) s is = absurd (cc)
+
+in-for-another : (r : RawJob) (s : SeatState) → (posted_in r s).0 ≢ Err refusal.Memory
+in-for-another r s =
+    let P : Result Unit Refusal × SeatState → Type 0 = λ a. a.0 ≢ Err refusal.Memory in
+    let full = nat_eq (length s.part.due) (s.part.handed + SUBMITTER_CELLS) in
+    cond_both (is_submitter s) (if full then (Err refusal.Full, s) else posted_with (job_said r) s) (Err refusal.NotSubmitter, s) P
+    (λ submits. cond_both full (Err refusal.Full, s) (posted_with (job_said r) s) P (λ is e. absurd (cc)) (λ room. said-for-another (job_said r) s))
+    (λ not e. absurd (cc))
+
+pub post-for-another : (r : RawJob) (m : Option SeatState) → (posted r m).0 ≢ Err refusal.Memory
+post-for-another r None is = absurd (cc)
+post-for-another r (Some s) is = in-for-another r s is

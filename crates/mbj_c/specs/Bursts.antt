@@ -9,83 +9,88 @@ use Rattle.mbj_c.specs.declared.refusal.Refusal.{Refusal}
 use Rattle.mbj_c.specs.declared.refusal.Refusal.TheVariants.{Memory}
 use Rattle.mbj_c.specs.Calls.{given_in}
 use Rattle.mbj_c.specs.Codes.{code_of, refusal_code}
-use Rattle.mbj_c.specs.Filling.{filled_cell}
 use Rattle.mbj_c.specs.Giving.{IsWritten, answered}
 use Rattle.mbj_c.specs.State.{RangedState}
 
--- ---- filling
+-- ---- taking jobs
 
--- how many jobs of a burst are filled, and the manager then
-pub record FillBurst : Type 0 where
-  pub filled : ℕ
-  pub manager : Option RangedState
+-- how many jobs a burst took, and the state then
+pub record TakeBurst (S : Type 0) : Type 0 where
+  pub taken : ℕ
+  pub state : S
 
-abbrev pub fill_burst : ℕ → Option RangedState → FillBurst
-fill_burst n m = record { filled = n; manager = m }
+abbrev pub take_burst : {S : Type 0} → ℕ → S → TakeBurst S
+take_burst n s = record { taken = n; state = s }
 
--- a job that is filled is the next one; a refused one changes nothing
-abbrev pub filled_more : Result Unit Refusal × Option RangedState → FillBurst → FillBurst
-filled_more (Ok u, m) b = record { filled = b.filled + 1; manager = m }
-filled_more (Err r, m) b = b
+-- a job that is taken is the next one; a refused one changes nothing
+abbrev pub taken_more : {S : Type 0} → Result Unit Refusal × S → TakeBurst S → TakeBurst S
+taken_more (Ok u, s) b = record { taken = b.taken + 1; state = s }
+taken_more (Err r, s) b = b
 
--- the job of this place was told this code: it is filled as the single call does it, behind those that the burst filled, or it
--- lacked memory
-abbrev pub with_told : Option RawJob → Option ℕ → FillBurst → FillBurst
-with_told (Some r) (Some code) b =
-    if code == refusal_code Memory then b else filled_more (filled_cell b.filled r b.manager) b
-with_told r code b = b
+-- what the single call comes to, behind so many jobs that the burst took
+module _ {S : Type 0} (call : ℕ → RawJob → S → Result Unit Refusal × S) where
+  -- the job of this place was told this code: it is taken as the single call does it, behind those that the burst took, or it
+  -- lacked memory
+  abbrev pub with_told : Option RawJob → Option ℕ → TakeBurst S → TakeBurst S
+  with_told (Some r) (Some code) b =
+      if code == refusal_code Memory then b else taken_more (call b.taken r b.state) b
+  with_told r code b = b
 
--- what the first n jobs of a burst come to, which were told these codes
-unfoldable pub after_filling : ℕ → List RawJob → List ℕ → Option RangedState → FillBurst
-after_filling zero jobs codes m = fill_burst 0 m
-after_filling (suc n) jobs codes m = with_told (slice_get jobs n) (slice_get codes n) (after_filling n jobs codes m)
+  -- what the first n jobs of a burst come to, which were told these codes
+  unfoldable pub after_taking : ℕ → List RawJob → List ℕ → S → TakeBurst S
+  after_taking zero jobs codes s = take_burst 0 s
+  after_taking (suc n) jobs codes s = with_told (slice_get jobs n) (slice_get codes n) (after_taking n jobs codes s)
 
--- a job's code is that of the single call, which fills it behind those that the burst filled, or that of want of memory, where it
--- would be filled
-abbrev pub IsAnswer : Option RawJob → Option ℕ → FillBurst → Type 0
-IsAnswer (Some r) (Some code) b =
-    (code ≡ refusal_code Memory → (filled_cell b.filled r b.manager).0 ≡ Ok tt)
-    × (code ≢ refusal_code Memory → code ≡ code_of (filled_cell b.filled r b.manager).0)
-IsAnswer r code b = ⊥
+  -- a job's code is that of the single call, which takes it behind those that the burst took, or that of want of memory, where it
+  -- would be taken
+  abbrev pub IsAnswer : Option RawJob → Option ℕ → TakeBurst S → Type 0
+  IsAnswer (Some r) (Some code) b =
+      (code ≡ refusal_code Memory → (call b.taken r b.state).0 ≡ Ok tt)
+      × (code ≢ refusal_code Memory → code ≡ code_of (call b.taken r b.state).0)
+  IsAnswer r code b = ⊥
 
--- Each job has its own code, at its place, and the codes behind the last job's stay. What is filled, and the manager then, is what these
--- codes say
-pub record IsBurstFilled (jobs : List RawJob) (before codes : List ℕ) (m : Option RangedState) (filled : ℕ) (after : Option RangedState) : Type 0 where
-  pub each : (i : ℕ) → i < min (length jobs) (length before) → IsAnswer (slice_get jobs i) (slice_get codes i) (after_filling i jobs codes m)
-  pub others : (i : ℕ) → length jobs ≤ i → slice_get codes i ≡ slice_get before i
-  pub count : filled ≡ (after_filling (min (length jobs) (length before)) jobs codes m).filled
-  pub state : after ≡ (after_filling (min (length jobs) (length before)) jobs codes m).manager
+  -- Each job has its own code, at its place, and the codes behind the last job's stay. What is taken, and the state then, is what
+  -- these codes say
+  pub record IsBurstTaken (jobs : List RawJob) (before codes : List ℕ) (s : S) (taken : ℕ) (after : S) : Type 0 where
+    pub each : (i : ℕ) → i < min (length jobs) (length before) → IsAnswer (slice_get jobs i) (slice_get codes i) (after_taking i jobs codes s)
+    pub others : (i : ℕ) → length jobs ≤ i → slice_get codes i ≡ slice_get before i
+    pub count : taken ≡ (after_taking (min (length jobs) (length before)) jobs codes s).taken
+    pub state : after ≡ (after_taking (min (length jobs) (length before)) jobs codes s).state
 
 -- ---- giving back
 
--- the results that the calls of a burst gave, how many of the calls weren't refused, what the last one answered, and the manager then
-pub record GiveBurst : Type 0 where
+-- the results that the calls of a burst gave, how many of the calls weren't refused, what the last one answered, and the state then
+pub record GiveBurst (S : Type 0) : Type 0 where
   pub given : List Given
   pub made : ℕ
   pub refusal : ℕ
-  pub manager : Option RangedState
+  pub state : S
+
+-- before the first call
+abbrev pub no_calls : {S : Type 0} → S → GiveBurst S
+no_calls s = record { given = []; made = 0; refusal = 0; state = s }
 
 -- one for a call that isn't refused
 abbrev pub count_of : Result (Option Given) Refusal → ℕ
 count_of (Ok g) = 1
 count_of (Err r) = 0
 
-abbrev pub with_answer : Result (Option Given) Refusal × Option RangedState → GiveBurst → GiveBurst
+abbrev pub with_answer : {S : Type 0} → Result (Option Given) Refusal × S → GiveBurst S → GiveBurst S
 with_answer a b = record {
   given = b.given ++ option_to_list (given_in a.0);
   made = b.made + count_of a.0;
   refusal = code_of a.0;
-  manager = a.1;
+  state = a.1;
 }
 
 -- a call has the room of the place that the next result has
-abbrev pub with_call : Call → Option RawDone → GiveBurst → GiveBurst
+abbrev pub with_call : Call → Option RawDone → GiveBurst (Option RangedState) → GiveBurst (Option RangedState)
 with_call c None b = b
-with_call c (Some out) b = with_answer (answered c b.manager out) b
+with_call c (Some out) b = with_answer (answered c b.state out) b
 
 -- what n calls come to, one after another
-unfoldable pub after_giving : ℕ → Call → List RawDone → Option RangedState → GiveBurst
-after_giving zero c outs m = record { given = []; made = 0; refusal = 0; manager = m }
+unfoldable pub after_giving : ℕ → Call → List RawDone → Option RangedState → GiveBurst (Option RangedState)
+after_giving zero c outs m = no_calls m
 after_giving (suc n) c outs m =
     let b = after_giving n c outs m in with_call c (slice_get outs (length b.given)) b
 
@@ -103,7 +108,7 @@ pub record IsTurnTold (answer : Result (Option Given) Refusal) (told next : RawB
   pub room : IsRoomOf (given_in answer) (Some before) (Some after)
 
 -- What C is told: the numbers, and each result in the room of its place
-pub record IsBurstTold (b : GiveBurst) (told : RawBurst) (before after : List RawDone) : Type 0 where
+pub record IsBurstTold {S : Type 0} (b : GiveBurst S) (told : RawBurst) (before after : List RawDone) : Type 0 where
   pub given : told.given ≡ length b.given
   pub made : told.made ≡ b.made
   pub refusal : told.refusal ≡ b.refusal

@@ -12,6 +12,7 @@ pub mod Giving
 pub mod Submitting
 pub mod KeySets
 pub mod Calls
+pub mod SeatBursts
 pub mod SeatCalls
 pub mod Bursts
 pub mod Stored

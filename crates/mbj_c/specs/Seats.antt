@@ -14,10 +14,9 @@ use Rattle.mbj_c.specs.declared.job.RawJob.{RawJob}
 use Rattle.mbj_c.specs.declared.range.CipherRange.{CipherRange}
 use Rattle.mbj_c.specs.declared.refusal.Refusal.{Refusal}
 use Rattle.mbj_c.specs.declared.refusal.Refusal.TheVariants as refusal
-use Rattle.mbj_c.specs.Codes.{refusal_code}
 use Rattle.mbj_c.specs.Filling.{job_said}
 use Rattle.mbj_c.specs.Given.{Given}
-use Rattle.mbj_c.specs.Giving.{IsToldAt, has_room_for}
+use Rattle.mbj_c.specs.Giving.{IsTold, has_room_for}
 use Rattle.mbj_c.specs.Ranges.{given_range}
 
 pub record SeatState : Type 0 where
@@ -69,28 +68,29 @@ abbrev pub collect_refusal : SeatState → RawDone → Option Refusal
 collect_refusal s out =
     if is_submitter s then (if has_room_for (slice_get s.ranges 0) out then None else Some refusal.NoRoom) else Some refusal.NotSubmitter
 
--- what C is told of a collect of this seat, and what that makes of it
-pub record CollectsAs (given : Option Given) (s t : SeatState) (flag : Bool) (code : ℕ) (before after : RawDone) : Type 0 where
-  pub state : Collects given s t
-  pub told : IsToldAt (Ok given) flag before after
-  pub refusal : code ≡ 0
+-- a collect that something speaks against is refused for it, and changes nothing; another one gives the earliest result or nothing
+abbrev pub AnswersBy : Option Refusal → Result (Option Given) Refusal → SeatState → SeatState → Type 0
+AnswersBy None (Ok given) s t = Collects given s t
+AnswersBy None (Err r) s t = ⊥
+AnswersBy (Some r) answer s t = (answer ≡ Err r) × (t ≡ s)
 
-pub record RefusesAs (r : Refusal) (s t : SeatState) (flag : Bool) (code : ℕ) (before after : RawDone) : Type 0 where
-  pub state : t ≡ s
-  pub told : IsToldAt (Err r) flag before after
-  pub refusal : code ≡ refusal_code r
+-- what a collect with this room may answer, and what that makes of the seat
+abbrev pub Answers : SeatState → RawDone → Result (Option Given) Refusal → SeatState → Type 0
+Answers s out answer t = AnswersBy (collect_refusal s out) answer s t
 
-abbrev pub IsCollectedBy : Option Refusal → SeatState → SeatState → Bool → ℕ → RawDone → RawDone → Type 0
-IsCollectedBy None s t flag code before after = (given : Option Given) × CollectsAs given s t flag code before after
-IsCollectedBy (Some r) s t flag code before after = RefusesAs r s t flag code before after
+abbrev pub MayAnswer : Option SeatState → RawDone → Result (Option Given) Refusal → Option SeatState → Type 0
+MayAnswer None out answer None = answer ≡ Err refusal.NoSeat
+MayAnswer (Some s) out answer (Some t) = Answers s out answer t
+MayAnswer s out answer t = ⊥
 
+-- C is told what the collect answers
 abbrev pub IsCollectedIn : SeatState → SeatState → Bool → ℕ → RawDone → RawDone → Type 0
-IsCollectedIn s t flag code before after = IsCollectedBy (collect_refusal s before) s t flag code before after
+IsCollectedIn s t flag code before after =
+    (answer : Result (Option Given) Refusal) × (Answers s before answer t × IsTold answer flag code before after)
 
 abbrev pub IsCollected : Option SeatState → Option SeatState → Bool → ℕ → RawDone → RawDone → Type 0
-IsCollected None None flag code before after = IsToldAt (Err refusal.NoSeat) flag before after × (code ≡ refusal_code refusal.NoSeat)
-IsCollected (Some s) (Some t) flag code before after = IsCollectedIn s t flag code before after
-IsCollected s t flag code before after = ⊥
+IsCollected s t flag code before after =
+    (answer : Result (Option Given) Refusal) × (MayAnswer s before answer t × IsTold answer flag code before after)
 
 -- ---- working
 

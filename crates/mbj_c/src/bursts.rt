@@ -1,8 +1,12 @@
 //! Bursts: what the single calls do, for many jobs by one call.
 
-ghost use Rattle.std.specs.Prelude.{◌≡◌, ◌+◌, ◌^◌, ◌<◌, ◌≤◌, IfSome, Some, length};
-ghost use Rattle.mbj_c.specs.Bursts.{IsAnswer, IsBurstFilled, IsBurstTold, IsTurnTold, after_giving, fill_burst, with_told};
-ghost use Rattle.mbj_c.specs.Giving.{answered};
+ghost use Rattle.std.specs.Prelude.{◌≡◌, ◌+◌, ◌^◌, ◌<◌, ◌≤◌, IfSome, Option, Result, Some, length};
+ghost use Rattle.mbj_c.specs.Bursts.{IsAnswer, IsBurstTaken, IsBurstTold, IsTurnTold, after_giving, take_burst, with_told};
+ghost use Rattle.mbj_c.specs.Filling.{filled_cell};
+ghost use Rattle.mbj_c.specs.Given.{Given};
+ghost use Rattle.mbj_c.specs.Giving.{IsTold, answered};
+ghost use Rattle.mbj_c.specs.declared.giving.RawDone.{RawDone};
+ghost use Rattle.mbj_c.specs.declared.refusal.Refusal.{Refusal};
 
 use crate::calls;
 use crate::giving::{Call, RawDone};
@@ -22,6 +26,33 @@ pub struct RawBurst {
     pub refusal: u32,
 }
 
+impl RawBurst {
+    /// What is told before the first call.
+    pub(crate) fn new() -> RawBurst
+        ensures { result ≡ record { made = 0; given = 0; refusal = 0 } }
+    {
+        RawBurst {
+            made: 0,
+            given: 0,
+            refusal: 0,
+        }
+    }
+
+    /// Counts a call, which gave a result or not and was told this code of its refusal, or 0.
+    pub(crate) fn count(&mut self, is_given: bool, refusal: u32)
+        requires made { self.old.made + 1 < 2 ^ 64 }
+        requires given { self.old.given + 1 < 2 ^ 64 }
+        ensures { (answer : Result (Option Given) Refusal) (before after : RawDone) → IsTold answer is_given refusal before after
+            → IsTurnTold answer self.old self.new before after }
+    {
+        *self = RawBurst {
+            made: self.made + usize::from(refusal == 0),
+            given: self.given + usize::from(is_given),
+            refusal,
+        };
+    }
+}
+
 /// Fills the cell behind those that the burst filled, and writes why the job is refused, or 0.
 fn fill_next(
     alloc: Global,
@@ -31,9 +62,9 @@ fn fill_next(
     refusal: &mut u32,
 )
     requires cell { IfSome handle.old.manager (λ k. filled.old ≤ length k.manager.opened) }
-    ensures answer { IsAnswer (Some raw.now) (Some refusal.new) (fill_burst filled.old handle.old.manager) }
-    ensures state { fill_burst filled.new handle.new.manager
-        ≡ with_told (Some raw.now) (Some refusal.new) (fill_burst filled.old handle.old.manager) }
+    ensures answer { IsAnswer filled_cell (Some raw.now) (Some refusal.new) (take_burst filled.old handle.old.manager) }
+    ensures state { take_burst filled.new handle.new.manager
+        ≡ with_told filled_cell (Some raw.now) (Some refusal.new) (take_burst filled.old handle.old.manager) }
     ensures cell { IfSome handle.new.manager (λ k. filled.new ≤ length k.manager.opened) }
 {
     match calls::fill_cell(alloc, handle, *filled, raw) {
@@ -52,7 +83,7 @@ pub(crate) fn fill(
     jobs: &[RawJob<'_>],
     refusals: &mut [u32],
 ) -> u32
-    ensures { IsBurstFilled jobs.now refusals.old refusals.new handle.old.manager result handle.new.manager }
+    ensures { IsBurstTaken filled_cell jobs.now refusals.old refusals.new handle.old.manager result handle.new.manager }
 {
     let mut filled = 0;
     'filling: for place in 0..jobs.len().min(refusals.len()) {
@@ -82,11 +113,7 @@ fn give_next(
 {
     let mut refusal = 0;
     let is_given = calls::give(alloc, handle, call, out, &mut refusal);
-    *told = RawBurst {
-        made: told.made + usize::from(refusal == 0),
-        given: told.given + usize::from(is_given),
-        refusal,
-    };
+    told.count(is_given, refusal);
 }
 
 /// Makes the call once for each room. Each result goes to the first room that has none.
@@ -97,14 +124,10 @@ pub(crate) fn give(
     outs: &mut [RawDone<'_>],
     told: &mut RawBurst,
 )
-    ensures state { handle.new.manager ≡ (after_giving (length outs.old) call outs.old handle.old.manager).manager }
+    ensures state { handle.new.manager ≡ (after_giving (length outs.old) call outs.old handle.old.manager).state }
     ensures told { IsBurstTold (after_giving (length outs.old) call outs.old handle.old.manager) told.new outs.old outs.new }
 {
-    *told = RawBurst {
-        made: 0,
-        given: 0,
-        refusal: 0,
-    };
+    *told = RawBurst::new();
     'calling: for turn in 0..outs.len() {
         give_next(alloc, handle, call, &mut outs[told.given], told);
     }

@@ -31,6 +31,7 @@ mod range;
 mod ranged;
 mod raw_box;
 mod refusal;
+mod seat_bursts;
 mod seat_calls;
 mod seat_handle;
 mod seated;
@@ -55,8 +56,8 @@ pub use exports::managers::{
     mbj_c_new_keeping_none, mbj_c_queue_size, mbj_c_trim, mbj_c_version,
 };
 pub use exports::seats::{
-    mbj_c_collect, mbj_c_front_new, mbj_c_hand, mbj_c_out, mbj_c_post, mbj_c_seat_free,
-    mbj_c_settle, mbj_c_turn,
+    mbj_c_collect, mbj_c_collect_burst, mbj_c_front_new, mbj_c_hand, mbj_c_out, mbj_c_post,
+    mbj_c_post_burst, mbj_c_seat_free, mbj_c_settle, mbj_c_turn,
 };
 pub use exports::tables::{
     mbj_aes_keys, mbj_cmac_subkeys, mbj_digest, mbj_hmac_states, mbj_one_block,

@@ -1,9 +1,9 @@
 //! Jobs: filling them, submitting them, and taking their results, one by one or in bursts.
 
 ghost use Rattle.std.specs.Prelude.{◌≡◌, ◌≢◌, length, Ok, false};
-ghost use Rattle.mbj_c.specs.Bursts.{IsBurstFilled, IsBurstTold, after_giving};
+ghost use Rattle.mbj_c.specs.Bursts.{IsBurstTaken, IsBurstTold, after_giving};
 ghost use Rattle.mbj_c.specs.Codes.{code_of, refusal_code};
-ghost use Rattle.mbj_c.specs.Filling.{filled};
+ghost use Rattle.mbj_c.specs.Filling.{filled, filled_cell};
 ghost use Rattle.mbj_c.specs.Giving.{IsDrained, IsTold, answered};
 ghost use Rattle.mbj_c.specs.Submitting.{IsSubmitted};
 ghost use Rattle.mbj_c.specs.declared.giving.Call.TheVariants as call;
@@ -110,7 +110,7 @@ pub extern "C" fn mbj_c_fill_burst(
     jobs: &[RawJob<'_>],
     refusals: &mut [u32],
 ) -> u32
-    ensures { IsBurstFilled jobs.now refusals.old refusals.new handle.old.manager result handle.new.manager }
+    ensures { IsBurstTaken filled_cell jobs.now refusals.old refusals.new handle.old.manager result handle.new.manager }
 {
     bursts::fill(alloc, handle, jobs, refusals)
 }
@@ -124,7 +124,7 @@ pub extern "C" fn mbj_c_submit_burst(
     outs: &mut [RawDone<'_>],
     told: &mut RawBurst,
 )
-    ensures state { handle.new.manager ≡ (after_giving (length outs.old) call.Submit outs.old handle.old.manager).manager }
+    ensures state { handle.new.manager ≡ (after_giving (length outs.old) call.Submit outs.old handle.old.manager).state }
     ensures told { IsBurstTold (after_giving (length outs.old) call.Submit outs.old handle.old.manager) told.new outs.old outs.new }
 {
     bursts::give(alloc, handle, Call::Submit, outs, told);
@@ -138,7 +138,7 @@ pub extern "C" fn mbj_c_get_completed_burst(
     outs: &mut [RawDone<'_>],
     told: &mut RawBurst,
 )
-    ensures state { handle.new.manager ≡ (after_giving (length outs.old) call.Completed outs.old handle.old.manager).manager }
+    ensures state { handle.new.manager ≡ (after_giving (length outs.old) call.Completed outs.old handle.old.manager).state }
     ensures told { IsBurstTold (after_giving (length outs.old) call.Completed outs.old handle.old.manager) told.new outs.old outs.new }
 {
     bursts::give(alloc, handle, Call::Completed, outs, told);
@@ -152,7 +152,7 @@ pub extern "C" fn mbj_c_flush_burst(
     outs: &mut [RawDone<'_>],
     told: &mut RawBurst,
 )
-    ensures state { handle.new.manager ≡ (after_giving (length outs.old) call.Flush outs.old handle.old.manager).manager }
+    ensures state { handle.new.manager ≡ (after_giving (length outs.old) call.Flush outs.old handle.old.manager).state }
     ensures told { IsBurstTold (after_giving (length outs.old) call.Flush outs.old handle.old.manager) told.new outs.old outs.new }
 {
     bursts::give(alloc, handle, Call::Flush, outs, told);

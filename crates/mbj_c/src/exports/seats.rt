@@ -1,15 +1,18 @@
 //! Seats of a front that threads share: submitters post jobs and collect their results, and every seat's turns do jobs of all.
 ghost use Rattle.std.specs.Prelude.{◌≡◌, ◌≢◌, None, Ok, is_some, map};
+ghost use Rattle.mbj_c.specs.Bursts.{IsBurstTaken};
 ghost use Rattle.mbj_c.specs.Codes.{code_by, code_of, refusal_code};
+ghost use Rattle.mbj_c.specs.SeatBursts.{IsBurstCollected, post_behind};
 ghost use Rattle.mbj_c.specs.Seats.{ClaimsIn, IsCollected, IsSettled, KeepsJobsIn, front_refusal, hand_in, out_in, posted, seats_made};
 ghost use Rattle.mbj_c.specs.declared.refusal.Refusal.TheVariants.{Memory};
 
+use crate::bursts::RawBurst;
 use crate::giving::RawDone;
 use crate::job::RawJob;
 use crate::key_handle::KeysHandle;
 use crate::refusal::code;
 use crate::seat_handle::SeatHandle;
-use crate::{fronts, seat_calls};
+use crate::{fronts, seat_bursts, seat_calls};
 use std::alloc::Global;
 
 /// Makes a front, and puts a seat of each of its parties into the first places, in the order of their numbers, submitters first. It takes
@@ -115,4 +118,33 @@ pub extern "C" fn mbj_c_seat_free(alloc: Global, handle: &mut SeatHandle) -> boo
     ensures empty { handle.new.seat ≡ None }
 {
     seat_calls::free(alloc, handle)
+}
+
+/// Posts jobs with copies of C's, one after another, as `mbj_c_post` posts one. Returns how many are posted, and writes to each job's place
+/// among the refusals 0, or the code of a refusal, as `mbj_c_post` returns it. A job that is refused is left out, and the jobs behind it are
+/// posted. Where there are fewer places than jobs, the jobs without a place are left out.
+#[unsafe(no_mangle)]
+pub extern "C" fn mbj_c_post_burst(
+    alloc: Global,
+    handle: &mut SeatHandle,
+    jobs: &[RawJob<'_>],
+    refusals: &mut [u32],
+) -> usize
+    ensures { IsBurstTaken post_behind jobs.now refusals.old refusals.new handle.old.seat result handle.new.seat }
+{
+    seat_bursts::post(alloc, handle, jobs, refusals)
+}
+
+/// Makes `mbj_c_collect` as many times as there is room for a result, one after another. The results that are given go to the rooms in
+/// order, the first one to the first room; rooms behind them stay as they were.
+#[unsafe(no_mangle)]
+pub extern "C" fn mbj_c_collect_burst(
+    alloc: Global,
+    handle: &mut SeatHandle,
+    outs: &mut [RawDone<'_>],
+    told: &mut RawBurst,
+)
+    ensures { IsBurstCollected handle.old.seat outs.old told.new outs.new handle.new.seat }
+{
+    seat_bursts::collect(alloc, handle, outs, told);
 }

@@ -1,11 +1,14 @@
 -- Each call has the room of the place that the next result has.
-use Rattle.std.proofs.Common.{arith}
+use Rattle.std.proofs.Common.{arith, subst, sym}
 use Rattle.std.proofs.lemmas.Option.{slice_get-get_or}
-use Rattle.mbj_c.proofs.Bursting.{given-next, none-given}
+use Rattle.mbj_c.specs.declared.bursts.RawBurst.{RawBurst}
+use Rattle.mbj_c.proofs.Bursting.{AreGiven, given-next, none-given}
 use Rattle.mbj_c.proofs.bursts.give.Goals as goal
 
 pub calling-init : goal.calling-init
-calling-init c = none-given c.args.call c.args.outs.now c.args.handle.now.manager
+calling-init c =
+    subst (λ (told : RawBurst). AreGiven 0 c.args.call c.args.outs.now c.args.outs.now c.args.handle.now.manager told c.args.handle.now.manager)
+    (sym c.new.ensures) (none-given c.args.call c.args.outs.now c.args.handle.now.manager)
 
 pub calling-preserved : goal.calling-preserved
 calling-preserved c =
