@@ -1,5 +1,5 @@
-/* burst_cost OTHER DROPIN: what a job costs through the second library, submitted by itself and in a burst of 32, by turns in one process.
- * A burst may not cost a job more than a submission by itself does. */
+/* burst_cost OTHER DROPIN: what a job costs through the second library, submitted by itself and in a burst of 32, by turns in one process,
+ * unchecked and checked. A burst may not cost a job more than a submission by itself does. In 2.0 all jobs of a kind have one session. */
 #include "library.h"
 
 #include <stdio.h>
@@ -45,6 +45,29 @@ static void fill(IMB_JOB *job, int kind, size_t len, size_t number) {
     }
 }
 
+#if IS_VERSION_2
+/* The session of all jobs of a kind. */
+static IMB_JOB session;
+
+static void set_session(int kind) {
+    fill(&session, kind, MOST_LEN, 0);
+    library.set_session(library.m, &session);
+}
+
+static void put_session(IMB_JOB *job) {
+    memcpy(job->suite_id, session.suite_id, sizeof job->suite_id);
+    job->session_id = session.session_id;
+}
+#else
+static void set_session(int kind) {
+    (void)kind;
+}
+
+static void put_session(IMB_JOB *job) {
+    (void)job;
+}
+#endif
+
 static double now(void) {
     struct timespec t;
     clock_gettime(CLOCK_THREAD_CPUTIME_ID, &t);
@@ -56,12 +79,14 @@ static void flush(void) {
         ;
 }
 
-static double time_of_singles(int kind, size_t len) {
+static double time_of_singles(int kind, size_t len, bool is_checked) {
     IMB_MGR *m = library.m;
     double start = now();
     for (size_t i = 0; i < BATCH; i++) {
-        fill(IMB_GET_NEXT_JOB(m), kind, len, i);
-        for (const IMB_JOB *job = IMB_SUBMIT_JOB_NOCHECK(m); job != NULL; job = IMB_GET_COMPLETED_JOB(m))
+        IMB_JOB *job = IMB_GET_NEXT_JOB(m);
+        fill(job, kind, len, i);
+        put_session(job);
+        for (job = is_checked ? IMB_SUBMIT_JOB(m) : IMB_SUBMIT_JOB_NOCHECK(m); job != NULL; job = IMB_GET_COMPLETED_JOB(m))
             ;
     }
     double took = (now() - start) / BATCH;
@@ -69,16 +94,23 @@ static double time_of_singles(int kind, size_t len) {
     return took;
 }
 
-static double time_of_bursts(int kind, size_t len) {
+static double time_of_bursts(int kind, size_t len, bool is_checked) {
     IMB_MGR *m = library.m;
     IMB_JOB *jobs[BURST];
     double start = now();
     for (size_t i = 0; i < BATCH; i += BURST) {
         if (IMB_GET_NEXT_BURST(m, BURST, jobs) != BURST)
             return 1e18;
-        for (size_t k = 0; k < BURST; k++)
+        for (size_t k = 0; k < BURST; k++) {
             fill(jobs[k], kind, len, i + k);
-        IMB_SUBMIT_BURST_NOCHECK(m, BURST, jobs);
+            put_session(jobs[k]);
+        }
+        if (is_checked)
+            IMB_SUBMIT_BURST(m, BURST, jobs);
+        else
+            IMB_SUBMIT_BURST_NOCHECK(m, BURST, jobs);
+        if (m->imb_errno != 0)
+            return 1e18;
     }
     double took = (now() - start) / BATCH;
     flush();
@@ -86,17 +118,18 @@ static double time_of_bursts(int kind, size_t len) {
 }
 
 /* Another program may take the processor at any time: one try of a few is enough. */
-static bool costs_no_more(int kind, size_t len) {
+static bool costs_no_more(int kind, size_t len, bool is_checked) {
     double single = 0, burst = 1e18;
     for (int try = 0; try < TRIES && burst > single; try++) {
         single = burst = 1e18;
         for (int round = 0; round < ROUNDS; round++) {
-            double one = time_of_singles(kind, len), other = time_of_bursts(kind, len);
+            double one = time_of_singles(kind, len, is_checked), other = time_of_bursts(kind, len, is_checked);
             single = one < single ? one : single;
             burst = other < burst ? other : burst;
         }
     }
-    printf("%-30s %5zu bytes: %6.0f ns by itself, %6.0f in a burst\n", names[kind], len, single, burst);
+    printf("%-30s %5zu bytes, %s: %6.0f ns by itself, %6.0f in a burst\n", names[kind], len, is_checked ? "  checked" : "unchecked", single,
+           burst);
     return burst <= single;
 }
 
@@ -108,9 +141,12 @@ int main(int argc, char **argv) {
     load_library(&library, argv[2]);
     IMB_AES_KEYEXP_128(library.m, iv, schedules[0], schedules[1]);
     IMB_AES128_GCM_PRE(library.m, iv, &gcm);
-    for (int kind = 0; kind < KINDS; kind++)
+    for (int kind = 0; kind < KINDS; kind++) {
+        set_session(kind);
         for (size_t k = 0; k < sizeof lens / sizeof *lens; k++)
-            dearer += !costs_no_more(kind, lens[k]);
+            for (int is_checked = 0; is_checked < 2; is_checked++)
+                dearer += !costs_no_more(kind, lens[k], is_checked != 0);
+    }
     library.release(library.m);
     return dearer != 0;
 }
