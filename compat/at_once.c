@@ -77,6 +77,7 @@ static IMB_STATUS do_long_hash(IMB_MGR *m, const struct hash *hash, const IMB_JO
 
 static IMB_STATUS do_hash(IMB_MGR *m, struct dropin *d, const IMB_JOB *job, IMB_JOB *given) {
     const struct hash *hash = hash_of(job);
+    struct mbj_raw_job raw;
     struct said said;
     if (hash->kind == HASH_NONE)
         return IMB_STATUS_COMPLETED;
@@ -86,10 +87,10 @@ static IMB_STATUS do_hash(IMB_MGR *m, struct dropin *d, const IMB_JOB *job, IMB_
         return do_long_hash(m, hash, job);
     if (is_padded_long(job))
         return do_padded_long(m, d, job);
-    say_nothing(&said);
+    say_nothing(&said, &raw);
     say_hash(&said, job);
-    said.raw.packet = bytes_at(hash_start(job), hash_bytes(job));
-    said.raw.hash_len = hash_bytes(job);
+    said.raw->packet = bytes_at(hash_start(job), hash_bytes(job));
+    said.raw->hash_len = hash_bytes(job);
     if (hash_open_bits(job) != 0)
         say_padded(d, &said, job);
     return do_alone(m, d, &said, NULL, job->auth_tag_output);

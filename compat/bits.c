@@ -25,8 +25,8 @@ static void say_padded_from(struct dropin *d, struct said *said, const IMB_JOB *
     copy[len - 1] = (uint8_t)((copy[len - 1] & ~(0xff >> bits)) | 0x80 >> bits);
     add(last, job->u.CMAC._skey1);
     add(last, job->u.CMAC._skey2);
-    said->raw.packet = bytes_at(copy, BLOCK * blocks);
-    said->raw.hash_len = BLOCK * blocks;
+    said->raw->packet = bytes_at(copy, BLOCK * blocks);
+    said->raw->hash_len = BLOCK * blocks;
 }
 
 void say_padded(struct dropin *d, struct said *said, const IMB_JOB *job) {
@@ -42,13 +42,14 @@ bool is_padded_long(const IMB_JOB *job) {
 /* The chain of CMAC behind the first bytes of the text is the last block of their CBC encryption from zeros. */
 static IMB_STATUS put_chain(IMB_MGR *m, struct dropin *d, const IMB_JOB *job, uint8_t *chain) {
     static const uint8_t zeros[BLOCK];
+    struct mbj_raw_job raw;
     struct said said;
-    say_nothing(&said);
-    said.raw.cipher = MBJ_CIPHER_CBC;
-    said.raw.key = bytes_at(job->u.CMAC._key_expanded, hash_of(job)->key);
-    said.raw.iv = bytes_at(zeros, BLOCK);
-    said.raw.packet = bytes_at(hash_start(job), HEAD);
-    said.raw.cipher_len = HEAD;
+    say_nothing(&said, &raw);
+    said.raw->cipher = MBJ_CIPHER_CBC;
+    said.raw->key = bytes_at(job->u.CMAC._key_expanded, hash_of(job)->key);
+    said.raw->iv = bytes_at(zeros, BLOCK);
+    said.raw->packet = bytes_at(hash_start(job), HEAD);
+    said.raw->cipher_len = HEAD;
     IMB_STATUS status = do_alone(m, d, &said, d->gathered, NULL);
     memcpy(chain, d->gathered + HEAD - BLOCK, BLOCK);
     wipe(d->gathered, HEAD);
@@ -57,10 +58,11 @@ static IMB_STATUS put_chain(IMB_MGR *m, struct dropin *d, const IMB_JOB *job, ui
 
 IMB_STATUS do_padded_long(IMB_MGR *m, struct dropin *d, const IMB_JOB *job) {
     uint8_t chain[BLOCK];
+    struct mbj_raw_job raw;
     struct said said;
     IMB_STATUS status = put_chain(m, d, job, chain);
     if (status == IMB_STATUS_COMPLETED) {
-        say_nothing(&said);
+        say_nothing(&said, &raw);
         say_hash(&said, job);
         say_padded_from(d, &said, job, HEAD);
         add(d->gathered, chain);

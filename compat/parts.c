@@ -130,15 +130,12 @@ static uint32_t note_refusals(IMB_MGR *m, struct part *part, const uint32_t *ref
 /* All jobs of the part are counted in the queue: each call has room for the result of one of these, or of an earlier one. */
 void part_hand_over(IMB_MGR *m, struct queue *queue, struct part *part) {
     struct dropin *d = m->aes128_ooo;
-    struct mbj_raw_job raws[MOST_IN_PART];
     uint32_t refusals[MOST_IN_PART];
     struct rooms rooms;
     if (part->count == 0)
         return;
-    for (uint32_t i = 0; i < part->count; i++)
-        raws[i] = part->said[i].raw;
     (void)mbj_pool_name(d->pool);
-    (void)proved.mbj_c_fill_burst(&d->handle, raws, part->count, refusals, part->count);
+    (void)proved.mbj_c_fill_burst(&d->handle, part->raws, part->count, refusals, part->count);
     uint32_t filled = note_refusals(m, part, refusals);
     part_begin(part);
     skip_ended(queue);
@@ -156,21 +153,32 @@ static bool has_room(const struct part *part, const IMB_JOB *job) {
     return fits_alone && most_gathered(job) <= PACKET_BYTES - part->gathered;
 }
 
+/* A packet of more bytes than a manager's cell keeps is copied into a block of its own. The job is done soonest while that is still in the
+ * nearest cache, and so before others are filled, unless it waits in lanes for these. */
+enum { MOST_BYTES_IN_CELL = 256 };
+
+static bool is_long_without_lanes(const struct mbj_raw_job *raw) {
+    bool has_lanes_of_hash = raw->auth != MBJ_AUTH_NULL && raw->auth != MBJ_AUTH_GCM && raw->auth != MBJ_AUTH_AES_GMAC;
+    bool has_lanes_of_cipher = raw->cipher == MBJ_CIPHER_CBC && raw->dir == MBJ_DIR_ENCRYPT;
+    return raw->packet.len > MOST_BYTES_IN_CELL && !has_lanes_of_hash && !has_lanes_of_cipher;
+}
+
 /* Whether the job was said behind the others. */
 static bool say_behind(IMB_MGR *m, struct queue *queue, struct part *part, const IMB_JOB *job, struct slot *slot) {
     struct dropin *d = m->aes128_ooo;
     if (is_done_at_once(job))
         return false;
-    if (part->count == MOST_IN_PART || !has_room(part, job))
+    if (part->count == MOST_IN_PART || part->is_closed || !has_room(part, job))
         part_hand_over(m, queue, part);
     struct said *said = &part->said[part->count];
-    if (!say_job(d, said, job, part->gathered))
+    if (!say_job(d, said, &part->raws[part->count], job, part->gathered))
         return false;
     note_places(slot, job);
     slot->found = said->found;
     part->slots[part->count++] = slot;
-    if (said->raw.packet.at == d->gathered + said->gathered)
-        part->gathered += said->raw.packet.len;
+    part->is_closed = is_long_without_lanes(said->raw);
+    if (said->raw->packet.at == d->gathered + said->gathered)
+        part->gathered += said->raw->packet.len;
     return true;
 }
 
@@ -179,7 +187,7 @@ void part_add(IMB_MGR *m, struct queue *queue, struct part *part, const IMB_JOB 
     struct slot *slot = take_slot(queue, given);
     IMB_JOB copy;
     const IMB_JOB *job = is_checked ? given_job : job_as_taken(given_job, &copy);
-    int error = check_job(job, is_checked);
+    int error = is_checked ? 0 : check_job(job, false);
     if (error != 0) {
         set_error(m, error);
         end_slot(d, slot, IMB_STATUS_INVALID_ARGS);

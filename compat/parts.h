@@ -11,18 +11,21 @@ enum { MOST_IN_PART = 32 };
 /* Jobs of a queue, the last ones, that are said and aren't handed over yet. */
 struct part {
     uint32_t count;
+    bool is_closed;  /* whether it takes no more jobs */
     size_t gathered; /* the bytes of their packets that were gathered */
     struct said said[MOST_IN_PART];
+    struct mbj_raw_job raws[MOST_IN_PART]; /* their descriptions */
     struct slot *slots[MOST_IN_PART];
 };
 
 static inline void part_begin(struct part *part) {
     part->count = 0;
+    part->is_closed = false;
     part->gathered = 0;
 }
 
-/* Adds a job to the queue, which isn't full. The job's arguments are those of `job`, and `given` is what is given back. A part that is
- * full, or before a job that is done at once, is handed over. */
+/* Adds a job to the queue, which isn't full. The job's arguments are those of `job`, which were found right where it is a checked one, and
+ * `given` is what is given back. A part that is full, or before a job that is done at once, is handed over. */
 void part_add(IMB_MGR *m, struct queue *queue, struct part *part, const IMB_JOB *job, IMB_JOB *given, bool is_checked);
 
 /* Hands over what was added. */

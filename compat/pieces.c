@@ -11,10 +11,10 @@ IMB_STATUS do_alone(IMB_MGR *m, struct dropin *d, struct said *said, uint8_t *ds
     COMPAT_ALIGNED_FRAME uint8_t whole_tag[MBJ_MAX_TAG_BYTES];
     struct mbj_raw_done done;
     memset(&done, 0, sizeof done);
-    done.dst = room_at(dst, said->raw.cipher == MBJ_CIPHER_NULL ? 0 : said->raw.cipher_len);
+    done.dst = room_at(dst, said->raw->cipher == MBJ_CIPHER_NULL ? 0 : said->raw->cipher_len);
     done.tag = room_at(whole_tag, sizeof whole_tag);
     (void)mbj_pool_name(d->pool);
-    uint32_t refusal = proved.mbj_c_fill(&d->handle, &said->raw);
+    uint32_t refusal = proved.mbj_c_fill(&d->handle, said->raw);
     forget_said(d, said);
     leave_key(d, said->found);
     if (refusal != MBJ_ERR_NONE) {
@@ -27,7 +27,7 @@ IMB_STATUS do_alone(IMB_MGR *m, struct dropin *d, struct said *said, uint8_t *ds
         set_error(m, error_of_reason(done.reason));
         return IMB_STATUS_INVALID_ARGS;
     }
-    if (done.tag_len != 0 && done.tag_len <= said->raw.tag_len)
+    if (done.tag_len != 0 && done.tag_len <= said->raw->tag_len)
         memcpy(tag, whole_tag, done.tag_len);
     return IMB_STATUS_COMPLETED;
 }
@@ -96,12 +96,13 @@ static void put_next_block(uint8_t *next, const uint8_t *block, const IMB_JOB *j
 }
 
 static IMB_STATUS do_piece(IMB_MGR *m, struct dropin *d, const IMB_JOB *job, const uint8_t *block, uint64_t off, uint64_t len) {
+    struct mbj_raw_job raw;
     struct said said;
-    say_nothing(&said);
+    say_nothing(&said, &raw);
     say_cipher(d, &said, job);
-    said.raw.iv = bytes_at(block, BLOCK);
-    said.raw.packet = bytes_at(cipher_start(job) + off, len);
-    said.raw.cipher_len = len;
+    said.raw->iv = bytes_at(block, BLOCK);
+    said.raw->packet = bytes_at(cipher_start(job) + off, len);
+    said.raw->cipher_len = len;
     return do_alone(m, d, &said, job->dst + off, NULL);
 }
 

@@ -60,7 +60,7 @@ static void hand_over(IMB_MGR *m, struct dropin *d, struct queue *queue, const I
     struct mbj_raw_done done;
     COMPAT_ALIGNED_FRAME uint8_t tag[MBJ_MAX_TAG_BYTES];
     (void)mbj_pool_name(d->pool);
-    uint32_t refusal = proved.mbj_c_fill(&d->handle, &said->raw);
+    uint32_t refusal = proved.mbj_c_fill(&d->handle, said->raw);
     slot->found = said->found;
     forget_said(d, said);
     if (refusal != MBJ_ERR_NONE) {
@@ -76,6 +76,7 @@ static void hand_over(IMB_MGR *m, struct dropin *d, struct queue *queue, const I
 
 static void start(IMB_MGR *m, struct dropin *d, struct queue *queue, const IMB_JOB *given, bool is_checked) {
     struct slot *slot = slot_at(queue, queue->next);
+    struct mbj_raw_job raw;
     struct said said;
     IMB_JOB copy;
     const IMB_JOB *job = is_checked ? given : job_as_taken(given, &copy);
@@ -83,7 +84,7 @@ static void start(IMB_MGR *m, struct dropin *d, struct queue *queue, const IMB_J
     if (error != 0) {
         set_error(m, error);
         end_slot(d, slot, IMB_STATUS_INVALID_ARGS);
-    } else if (!is_done_at_once(job) && say_job(d, &said, job, 0)) {
+    } else if (!is_done_at_once(job) && say_job(d, &said, &raw, job, 0)) {
         hand_over(m, d, queue, job, &said);
     } else {
         finish_all(d);

@@ -5,8 +5,7 @@
 
 #include <string.h>
 
-void say_nothing(struct said *said) {
-    struct mbj_raw_job *raw = &said->raw;
+void say_nothing(struct said *said, struct mbj_raw_job *raw) {
     raw->cipher = MBJ_CIPHER_NULL;
     raw->dir = MBJ_DIR_ENCRYPT;
     raw->order = MBJ_ORDER_CIPHER_HASH;
@@ -15,6 +14,7 @@ void say_nothing(struct said *said) {
     raw->cipher_off = raw->cipher_len = raw->hash_off = raw->hash_len = 0;
     raw->tag_len = 0;
     raw->session = MBJ_NO_SESSION;
+    said->raw = raw;
     said->found = 0;
     said->gathered = 0;
 }
@@ -36,53 +36,53 @@ static struct mbj_bytes key_of(struct dropin *d, struct said *said, const IMB_JO
 }
 
 void say_cipher(struct dropin *d, struct said *said, const IMB_JOB *job) {
-    say_codes(&said->raw, job);
+    say_codes(said->raw, job);
     if (cipher_of(job)->kind == CIPHER_NONE)
         return;
-    said->raw.key = key_of(d, said, job);
-    said->raw.iv = bytes_at(job->iv, job->iv_len_in_bytes);
+    said->raw->key = key_of(d, said, job);
+    said->raw->iv = bytes_at(job->iv, job->iv_len_in_bytes);
 }
 
 static void say_states(struct said *said, const struct hash *hash, const IMB_JOB *job) {
     turn_words(said->states, job->u.HMAC._hashed_auth_key_xor_ipad, hash->key, hash->word);
     turn_words(said->states + hash->key, job->u.HMAC._hashed_auth_key_xor_opad, hash->key, hash->word);
-    said->raw.auth_key = bytes_at(said->states, 2 * hash->key);
+    said->raw->auth_key = bytes_at(said->states, 2 * hash->key);
 }
 
 void say_hash(struct said *said, const IMB_JOB *job) {
     const struct hash *hash = hash_of(job);
-    said->raw.auth = hash->code;
-    said->raw.tag_len = hash->kind == HASH_NONE ? 0 : (uint8_t)job->auth_tag_output_len_in_bytes;
+    said->raw->auth = hash->code;
+    said->raw->tag_len = hash->kind == HASH_NONE ? 0 : (uint8_t)job->auth_tag_output_len_in_bytes;
     if (hash->kind == HASH_HMAC)
         say_states(said, hash, job);
     if (hash->kind == HASH_CMAC)
-        said->raw.auth_key = bytes_at(job->u.CMAC._key_expanded, hash->key);
+        said->raw->auth_key = bytes_at(job->u.CMAC._key_expanded, hash->key);
     if (hash->kind == HASH_GMAC) {
-        said->raw.auth_key = bytes_at(job->u.GMAC._key->expanded_keys, hash->key);
-        said->raw.iv = bytes_at(job->u.GMAC._iv, job->u.GMAC.iv_len_in_bytes);
+        said->raw->auth_key = bytes_at(job->u.GMAC._key->expanded_keys, hash->key);
+        said->raw->iv = bytes_at(job->u.GMAC._iv, job->u.GMAC.iv_len_in_bytes);
     }
 }
 
 void say_aead(struct said *said, const IMB_JOB *job) {
     bool is_ccm = cipher_of(job)->kind == CIPHER_CCM;
     const void *aad = is_ccm ? job->u.CCM.aad : job->u.GCM.aad;
-    say_codes(&said->raw, job);
-    said->raw.key = bytes_at(cipher_keys(cipher_of(job), job), job->key_len_in_bytes);
-    said->raw.iv = bytes_at(job->iv, job->iv_len_in_bytes);
-    said->raw.auth = hash_of(job)->code;
-    said->raw.tag_len = (uint8_t)job->auth_tag_output_len_in_bytes;
-    said->raw.aad = bytes_at(aad, is_ccm ? job->u.CCM.aad_len_in_bytes : job->u.GCM.aad_len_in_bytes);
-    said->raw.packet = bytes_at(cipher_start(job), job->msg_len_to_cipher_in_bytes);
-    said->raw.cipher_len = job->msg_len_to_cipher_in_bytes;
+    say_codes(said->raw, job);
+    said->raw->key = bytes_at(cipher_keys(cipher_of(job), job), job->key_len_in_bytes);
+    said->raw->iv = bytes_at(job->iv, job->iv_len_in_bytes);
+    said->raw->auth = hash_of(job)->code;
+    said->raw->tag_len = (uint8_t)job->auth_tag_output_len_in_bytes;
+    said->raw->aad = bytes_at(aad, is_ccm ? job->u.CCM.aad_len_in_bytes : job->u.GCM.aad_len_in_bytes);
+    said->raw->packet = bytes_at(cipher_start(job), job->msg_len_to_cipher_in_bytes);
+    said->raw->cipher_len = job->msg_len_to_cipher_in_bytes;
 }
 
 void forget_said(struct dropin *d, struct said *said) {
-    if (said->raw.key.at == said->key)
+    if (said->raw->key.at == said->key)
         wipe(said->key, sizeof said->key);
-    if (said->raw.auth_key.at == said->states)
+    if (said->raw->auth_key.at == said->states)
         wipe(said->states, sizeof said->states);
-    if (said->raw.packet.at == d->gathered + said->gathered)
-        wipe(d->gathered + said->gathered, said->raw.packet.len);
+    if (said->raw->packet.at == d->gathered + said->gathered)
+        wipe(d->gathered + said->gathered, said->raw->packet.len);
 }
 
 bool overlap(const void *a, uint64_t a_len, const void *b, uint64_t b_len) {
@@ -121,7 +121,7 @@ static bool say_both(struct mbj_raw_job *raw, const IMB_JOB *job, uint8_t *gathe
 /* What is hashed is what lies in the range when the cipher has written, or before it has: so the bytes that are ciphered stand in the
  * packet where the destination is, or where the source is. */
 bool say_ranges(struct dropin *d, struct said *said, const IMB_JOB *job) {
-    struct mbj_raw_job *raw = &said->raw;
+    struct mbj_raw_job *raw = said->raw;
     raw->cipher_len = cipher_bytes(job);
     raw->hash_len = hash_bytes(job);
     if (raw->cipher_len > PACKET_BYTES || raw->hash_len > PACKET_BYTES)
@@ -135,8 +135,8 @@ bool say_ranges(struct dropin *d, struct said *said, const IMB_JOB *job) {
     return say_both(raw, job, d->gathered + said->gathered);
 }
 
-bool say_job(struct dropin *d, struct said *said, const IMB_JOB *job, size_t gathered) {
-    say_nothing(said);
+bool say_job(struct dropin *d, struct said *said, struct mbj_raw_job *raw, const IMB_JOB *job, size_t gathered) {
+    say_nothing(said, raw);
     said->gathered = gathered;
     if (cipher_of(job)->partner != 0) {
         say_aead(said, job);

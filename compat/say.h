@@ -4,16 +4,16 @@
 
 #include "manager.h"
 
-/* The bytes that a job's description points to, where they aren't the application's own. */
+/* A job's description, and the bytes that it points to, where they aren't the application's own. */
 struct said {
-    struct mbj_raw_job raw;
+    struct mbj_raw_job *raw;
     uint16_t found;  /* the number of a key that was found, which is left once the job is back */
     size_t gathered; /* where its packet begins among those that are gathered, if it is one */
     uint8_t key[LONGEST_KEY], states[LONGEST_STATES];
 };
 
-/* A job that does nothing. */
-void say_nothing(struct said *said);
+/* A job that does nothing, with its description there. */
+void say_nothing(struct said *said, struct mbj_raw_job *raw);
 
 /* Say the cipher, the authentication or an AEAD of a job, and not yet the packet. */
 void say_cipher(struct dropin *d, struct said *said, const IMB_JOB *job);
@@ -23,9 +23,9 @@ void say_aead(struct said *said, const IMB_JOB *job);
 /* Says the packet of a job that isn't one of an AEAD. False where its ranges don't fit into one. */
 bool say_ranges(struct dropin *d, struct said *said, const IMB_JOB *job);
 
-/* Says a whole job that isn't one of those that are done at once. Its packet, where it is gathered, begins behind so many bytes of others.
- * False where its ranges don't fit into one: then nothing is left of it. */
-bool say_job(struct dropin *d, struct said *said, const IMB_JOB *job, size_t gathered);
+/* Says a whole job that isn't one of those that are done at once, with its description there. Its packet, where it is gathered, begins behind
+ * so many bytes of others. False where its ranges don't fit into one: then nothing is left of it. */
+bool say_job(struct dropin *d, struct said *said, struct mbj_raw_job *raw, const IMB_JOB *job, size_t gathered);
 
 /* The most bytes that such a job may gather. */
 size_t most_gathered(const IMB_JOB *job);

@@ -96,21 +96,21 @@ static void say_digest(struct mbj_raw_job *raw, const struct sample *sample) {
 }
 
 static bool put_line_of_call(FILE *file, const struct sample *sample) {
+    struct mbj_raw_job raw;
     struct said said;
-    struct mbj_raw_job *raw = &said.raw;
-    say_nothing(&said);
-    raw->iv = bytes_in(sample, sample->inputs[INPUT_IV]);
-    raw->tag_len = (uint8_t)(sample->kind == KIND_DIGEST ? sample->text.len : sample->tag.len);
+    say_nothing(&said, &raw);
+    raw.iv = bytes_in(sample, sample->inputs[INPUT_IV]);
+    raw.tag_len = (uint8_t)(sample->kind == KIND_DIGEST ? sample->text.len : sample->tag.len);
     switch (sample->kind) {
     case KIND_GCM:
-    case KIND_GCM_IN_PARTS: say_gcm(raw, sample); break;
-    case KIND_GMAC_IN_PARTS: say_gmac(raw, sample); break;
-    case KIND_DIGEST: say_digest(raw, sample); break;
+    case KIND_GCM_IN_PARTS: say_gcm(&raw, sample); break;
+    case KIND_GMAC_IN_PARTS: say_gmac(&raw, sample); break;
+    case KIND_DIGEST: say_digest(&raw, sample); break;
     default: return false;
     }
-    if (raw->packet.len > PACKET_BYTES || raw->aad.len > PACKET_BYTES || raw->iv.len > PACKET_BYTES)
+    if (raw.packet.len > PACKET_BYTES || raw.aad.len > PACKET_BYTES || raw.iv.len > PACKET_BYTES)
         return false;
-    put_line(file, raw);
+    put_line(file, &raw);
     return true;
 }
 
@@ -118,12 +118,13 @@ static bool put_line_of_call(FILE *file, const struct sample *sample) {
 
 /* A line has no lengths in bits, no counter that wraps within 32 bits, no packet that is longer, and no tag that is ciphered itself. */
 static bool put_line_of_job(FILE *file, const struct sample *sample, struct dropin *d, uint8_t *image) {
+    struct mbj_raw_job raw;
     struct said said;
     IMB_JOB job;
     job_of_sample(&job, sample, image);
     if (is_done_at_once(&job) || cipher_open_bits(&job) != 0 || hash_open_bits(&job) != 0)
         return false;
-    say_nothing(&said);
+    say_nothing(&said, &raw);
     bool is_said = true;
     if (cipher_of(&job)->partner != 0) {
         say_aead(&said, &job);
@@ -133,7 +134,7 @@ static bool put_line_of_job(FILE *file, const struct sample *sample, struct drop
         is_said = say_ranges(d, &said, &job);
     }
     if (is_said)
-        put_line(file, &said.raw);
+        put_line(file, said.raw);
     forget_said(d, &said);
     leave_key(d, said.found);
     return is_said;
