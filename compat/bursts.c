@@ -19,15 +19,16 @@ static void restart(IMB_MGR *m) {
 }
 
 static uint32_t next_burst(IMB_MGR *m, const uint32_t n, IMB_JOB **jobs) {
-    uint32_t count = 0;
     if (dropin_of(m) == NULL)
         return 0;
     if (jobs == NULL || n > IMB_MAX_BURST_SIZE) {
         set_error(m, jobs == NULL ? IMB_ERR_NULL_BURST : IMB_ERR_BURST_SIZE);
         return 0;
     }
-    for (int offset = m->next_job; count < n && count < places_left(m); offset = offset_behind(offset))
-        jobs[count++] = job_at(m, offset);
+    uint32_t left = places_left(m), count = n < left ? n : left;
+    int offset = m->next_job;
+    for (uint32_t i = 0; i < count; i++, offset = offset_behind(offset))
+        jobs[i] = job_at(m, offset);
     return count;
 }
 

@@ -153,14 +153,9 @@ static bool has_room(const struct part *part, const IMB_JOB *job) {
     return fits_alone && most_gathered(job) <= PACKET_BYTES - part->gathered;
 }
 
-/* A packet of more bytes than a manager's cell keeps is copied into a block of its own. The job is done soonest while that is still in the
- * nearest cache, and so before others are filled, unless it waits in lanes for these. */
-enum { MOST_BYTES_IN_CELL = 256 };
-
-static bool is_long_without_lanes(const struct mbj_raw_job *raw) {
-    bool has_lanes_of_hash = raw->auth != MBJ_AUTH_NULL && raw->auth != MBJ_AUTH_GCM && raw->auth != MBJ_AUTH_AES_GMAC;
-    bool has_lanes_of_cipher = raw->cipher == MBJ_CIPHER_CBC && raw->dir == MBJ_DIR_ENCRYPT;
-    return raw->packet.len > MOST_BYTES_IN_CELL && !has_lanes_of_hash && !has_lanes_of_cipher;
+static bool has_lanes(const struct mbj_raw_job *raw) {
+    bool has_hash = raw->auth != MBJ_AUTH_NULL && raw->auth != MBJ_AUTH_GCM && raw->auth != MBJ_AUTH_AES_GMAC;
+    return has_hash || (raw->cipher == MBJ_CIPHER_CBC && raw->dir == MBJ_DIR_ENCRYPT);
 }
 
 /* Whether the job was said behind the others. */
@@ -168,7 +163,7 @@ static bool say_behind(IMB_MGR *m, struct queue *queue, struct part *part, const
     struct dropin *d = m->aes128_ooo;
     if (is_done_at_once(job))
         return false;
-    if (part->count == MOST_IN_PART || part->is_closed || !has_room(part, job))
+    if (part->count == MOST_IN_PART || part->alone >= MOST_ALONE || !has_room(part, job))
         part_hand_over(m, queue, part);
     struct said *said = &part->said[part->count];
     if (!say_job(d, said, &part->raws[part->count], job, part->gathered))
@@ -176,7 +171,7 @@ static bool say_behind(IMB_MGR *m, struct queue *queue, struct part *part, const
     note_places(slot, job);
     slot->found = said->found;
     part->slots[part->count++] = slot;
-    part->is_closed = is_long_without_lanes(said->raw);
+    part->alone += has_lanes(said->raw) ? 0 : said->raw->packet.len;
     if (said->raw->packet.at == d->gathered + said->gathered)
         part->gathered += said->raw->packet.len;
     return true;

@@ -5,13 +5,14 @@
 #include "queue.h"
 #include "say.h"
 
-/* How many go at once; a longer burst goes in parts. */
-enum { MOST_IN_PART = 32 };
+/* How many go at once; a longer burst goes in parts. A job that waits for no lanes is done soonest while its packet, which is copied when
+ * it is filled, is still in the nearest cache: so a part ends where such packets have together MOST_ALONE bytes. */
+enum { MOST_IN_PART = 32, MOST_ALONE = 2048 };
 
 /* Jobs of a queue, the last ones, that are said and aren't handed over yet. */
 struct part {
     uint32_t count;
-    bool is_closed;  /* whether it takes no more jobs */
+    size_t alone;    /* the bytes of the packets of jobs that wait for no lanes */
     size_t gathered; /* the bytes of their packets that were gathered */
     struct said said[MOST_IN_PART];
     struct mbj_raw_job raws[MOST_IN_PART]; /* their descriptions */
@@ -20,7 +21,7 @@ struct part {
 
 static inline void part_begin(struct part *part) {
     part->count = 0;
-    part->is_closed = false;
+    part->alone = 0;
     part->gathered = 0;
 }
 

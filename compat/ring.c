@@ -5,15 +5,6 @@
 #include "errors.h"
 #include "parts.h"
 
-int offset_behind(int offset) {
-    int next = offset + (int)sizeof(IMB_JOB);
-    return next == (int)(IMB_MAX_JOBS * sizeof(IMB_JOB)) ? 0 : next;
-}
-
-IMB_JOB *job_at(IMB_MGR *m, int offset) {
-    return (IMB_JOB *)(void *)((char *)m->jobs + offset);
-}
-
 static struct queue *ring_of(IMB_MGR *m) {
     struct dropin *d = m->aes128_ooo;
     return &d->ring;
@@ -47,10 +38,10 @@ static IMB_JOB *ring_submit(IMB_MGR *m, bool is_checked) {
 void ring_submit_burst(IMB_MGR *m, uint32_t n, bool is_checked) {
     struct part part;
     part_begin(&part);
+    if (n != 0 && m->earliest_job < 0)
+        m->earliest_job = m->next_job;
     for (uint32_t i = 0; i < n; i++) {
         IMB_JOB *job = job_at(m, m->next_job);
-        if (m->earliest_job < 0)
-            m->earliest_job = m->next_job;
         m->next_job = offset_behind(m->next_job);
         part_add(m, ring_of(m), &part, job, job, is_checked);
     }

@@ -12,8 +12,14 @@ IMB_JOB *flushed_job(IMB_MGR *m);
 uint32_t jobs_out(IMB_MGR *m);
 
 /* The place behind this one in the array, as an offset in bytes, and the job there. */
-int offset_behind(int offset);
-IMB_JOB *job_at(IMB_MGR *m, int offset);
+static inline int offset_behind(int offset) {
+    int next = offset + (int)sizeof(IMB_JOB);
+    return next == (int)(IMB_MAX_JOBS * sizeof(IMB_JOB)) ? 0 : next;
+}
+
+static inline IMB_JOB *job_at(IMB_MGR *m, int offset) {
+    return (IMB_JOB *)(void *)((char *)m->jobs + offset);
+}
 
 /* Submits the next n jobs of the array, where as many are left. */
 void ring_submit_burst(IMB_MGR *m, uint32_t n, bool is_checked);
