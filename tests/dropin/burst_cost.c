@@ -119,38 +119,44 @@ static double time_of_bursts(int kind, size_t len, bool is_checked) {
     return took;
 }
 
+/* The least time of a job by itself, which is taken twice, and in a burst. */
 struct cost {
-    double single, burst;
+    double single, again, burst;
 };
 
-/* Takes turns, and notes the least that either cost. Where the stack lies to a manager changes a time by a percent or two: so it is
- * shifted. */
+static double lesser(double a, double b) {
+    return a < b ? a : b;
+}
+
+/* Takes turns. Where the stack lies to a manager changes a time by a percent or two: so it is shifted. */
 static void take_turns(int kind, size_t len, bool is_checked, size_t shift, struct cost *least) {
     volatile char gap[shift + 1];
     gap[shift] = 0, (void)gap[shift];
     for (int round = 0; round < ROUNDS; round++) {
-        double single = time_of_singles(kind, len, is_checked), burst = time_of_bursts(kind, len, is_checked);
-        least->single = single < least->single ? single : least->single;
-        least->burst = burst < least->burst ? burst : least->burst;
+        least->single = lesser(least->single, time_of_singles(kind, len, is_checked));
+        least->burst = lesser(least->burst, time_of_bursts(kind, len, is_checked));
+        least->again = lesser(least->again, time_of_singles(kind, len, is_checked));
     }
 }
 
-/* Another program may take the processor at any time: where a burst seems to cost more, there are some tries more. */
+/* Another program may take the processor at any time: where a burst seems to cost more, there are some tries more. What a job by itself
+ * costs more the one time than the other is noise. */
 static bool costs_no_more(int kind, size_t len, bool is_checked, struct cost *sum) {
-    struct cost cost = {1e18, 1e18};
+    struct cost cost = {1e18, 1e18, 1e18};
     take_turns(kind, len, is_checked, 0, &cost);
     for (size_t try = 1; try < TRIES && cost.burst > cost.single; try++)
         take_turns(kind, len, is_checked, try * SHIFT, &cost);
+    double noise = cost.single > cost.again ? cost.single - cost.again : cost.again - cost.single;
     sum->single += cost.single;
     sum->burst += cost.burst;
     printf("%-30s %5zu bytes, %s: %6.0f ns by itself, %6.0f in a burst\n", names[kind], len, is_checked ? "  checked" : "unchecked",
            cost.single, cost.burst);
-    return cost.burst <= cost.single * 1.01;
+    return cost.burst <= cost.single * 1.01 + noise;
 }
 
 int main(int argc, char **argv) {
     static const size_t lens[] = {64, 256, 1500};
-    struct cost sum = {0, 0};
+    struct cost sum = {0, 0, 0};
     unsigned dearer = 0;
     if (argc < 3)
         return 2;
