@@ -61,8 +61,9 @@ fn submit_at_once(
     requires flushed { length flushed.old.items + JOBS ≤ vec_capacity flushed.old }
 {
     assert!(rt; JOBS <= manager.get_next_burst(0));
-    let many = manager.submit_burst(JOBS, given) + manager.flush_burst(JOBS, flushed);
-    expect(rt, "results of bursts", many, JOBS);
+    let given = manager.submit_burst(JOBS, given) as u64;
+    let flushed = manager.flush_burst(JOBS, flushed) as u64;
+    expect(rt, "results of bursts", given + flushed, JOBS as u64);
 }
 
 /// Submits the first open job, whose result or whose predecessor's comes back in the cell, and clears the cell.

@@ -5,4 +5,4 @@ use Rattle.mbj_manager.specs.Cells.{Open}
 use Rattle.mbj_job_tests.proofs.memory.submit_in_cells.Given as goal
 
 abbrev pub invariant-jobs : goal.invariant-jobs
-invariant-jobs l = l.cell ≡ Open blank
+invariant-jobs g l = l.cell ≡ Open blank
