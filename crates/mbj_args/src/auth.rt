@@ -3,7 +3,8 @@
 ghost use Rattle.std.specs.Prelude.{◌≡◌};
 ghost use Rattle.mbj_types.specs.Verdict.{is_gcm_auth, is_ccm_auth, is_gmac, has_hash_range, takes_auth_iv, takes_auth_key, takes_tag};
 
-use mbj_types::{AuthClass, BLOCK_BYTES, MAX_HMAC_KEY_BYTES, MAX_IV_BYTES, is_key_size};
+use mbj_types::limits::{ccm, cmac, gcm, hmac};
+use mbj_types::{AuthClass, is_key_size};
 
 pub(crate) fn is_gcm(class: AuthClass) -> bool
     ensures { result ≡ is_gcm_auth class }
@@ -64,7 +65,7 @@ pub(crate) fn has_hash_range(class: AuthClass) -> bool
     }
 }
 
-/// Whether the authentication takes initialization vectors of this many bytes: 1 to 65,535 for GMAC; the others have none.
+/// Whether the authentication takes initialization vectors of this many bytes. GMAC alone has one.
 pub(crate) fn takes_iv(class: AuthClass, len: usize) -> bool
     ensures { result ≡ takes_auth_iv class len }
 {
@@ -76,37 +77,35 @@ pub(crate) fn takes_iv(class: AuthClass, len: usize) -> bool
         | AuthClass::Ccm
         | AuthClass::Plain(_)
         | AuthClass::States(_) => true,
-        AuthClass::Gmac => len > 0 && len <= MAX_IV_BYTES,
+        AuthClass::Gmac => gcm::takes_iv(len),
     }
 }
 
 /// Whether the authentication takes keys of this many bytes: a digest doesn't look at one, and an HMAC from states takes the inner state
-/// and the outer state, together 40 bytes for SHA-1, 64 for SHA-224 and SHA-256, and 128 for SHA-384 and SHA-512.
+/// and the outer state.
 pub(crate) fn takes_key(class: AuthClass, len: usize) -> bool
     ensures { result ≡ takes_auth_key class len }
 {
     match class {
         AuthClass::Null | AuthClass::Gcm | AuthClass::Ccm | AuthClass::Plain(_) => true,
-        AuthClass::Hmac(_) => len <= MAX_HMAC_KEY_BYTES,
+        AuthClass::Hmac(_) => hmac::takes_key(len),
         AuthClass::Cmac(key) => len == key.bytes(),
         AuthClass::Gmac => is_key_size(len),
-        AuthClass::States(hash) => len == 2 * hash.state_bytes(),
+        AuthClass::States(hash) => hmac::takes_states(hash, len),
     }
 }
 
-/// Whether the authentication takes tags of this many bytes: up to a hash's digest for it and its HMACs, and up to a block for CMAC, GCM
-/// and GMAC. CCM's have an even number of them, 4 at least (SP 800-38C, A.1).
-pub(crate) fn takes_tag(class: AuthClass, len: u8) -> bool
+/// Whether the authentication takes tags of this many bytes.
+pub(crate) fn takes_tag(class: AuthClass, len: usize) -> bool
     ensures { result ≡ takes_tag class len }
 {
     match class {
         AuthClass::Null => len == 0,
         AuthClass::Hmac(hash) | AuthClass::Plain(hash) | AuthClass::States(hash) => {
-            len > 0 && len <= hash.digest_bytes()
+            hmac::takes_tag(hash, len)
         }
-        AuthClass::Cmac(_) | AuthClass::Gcm | AuthClass::Gmac => {
-            len > 0 && len as usize <= BLOCK_BYTES
-        }
-        AuthClass::Ccm => 4 <= len && len as usize <= BLOCK_BYTES && len % 2 == 0,
+        AuthClass::Cmac(_) => cmac::takes_tag(len),
+        AuthClass::Gcm | AuthClass::Gmac => gcm::takes_tag(len),
+        AuthClass::Ccm => ccm::takes_tag(len),
     }
 }

@@ -4,7 +4,8 @@ ghost use Rattle.std.specs.Prelude.{◌≡◌, length, not};
 ghost use Rattle.mbj_types.specs.Verdict.{is_null_cipher, goes_with, takes_key, takes_iv, takes_range, takes_aad};
 
 use crate::auth;
-use mbj_types::{AuthClass, Cipher, MAX_AAD_BYTES, MAX_CCM_AAD_BYTES, MAX_IV_BYTES, is_key_size};
+use mbj_types::limits::{cbc, ccm, ctr, gcm};
+use mbj_types::{AuthClass, Cipher, is_key_size};
 
 pub(crate) fn is_null(cipher: Cipher) -> bool
     ensures { result ≡ is_null_cipher cipher }
@@ -37,28 +38,27 @@ pub(crate) fn takes_key(cipher: Cipher, len: usize) -> bool
     is_null(cipher) || is_key_size(len)
 }
 
-/// Whether the cipher takes initialization vectors of this many bytes: 16 for CBC, 12 or 16 for CTR, 1 to 65,535 for GCM, 7 to 13 for CCM
-/// (SP 800-38C, A.1).
+/// Whether the cipher takes initialization vectors of this many bytes.
 pub(crate) fn takes_iv(cipher: Cipher, len: usize) -> bool
     ensures { result ≡ takes_iv cipher len }
 {
     match cipher {
         Cipher::Null => true,
-        Cipher::Cbc => len == 16,
-        Cipher::Ctr => len == 12 || len == 16,
-        Cipher::Gcm => len > 0 && len <= MAX_IV_BYTES,
-        Cipher::Ccm => 7 <= len && len <= 13,
+        Cipher::Cbc => cbc::takes_iv(len),
+        Cipher::Ctr => ctr::takes_iv(len),
+        Cipher::Gcm => gcm::takes_iv(len),
+        Cipher::Ccm => ccm::takes_nonce(len),
     }
 }
 
 /// Whether the cipher takes ranges of this many bytes.
-pub(crate) fn takes_range(cipher: Cipher, len: u32) -> bool
+pub(crate) fn takes_range(cipher: Cipher, len: usize) -> bool
     ensures { result ≡ takes_range cipher len }
 {
     match cipher {
         Cipher::Null | Cipher::Gcm | Cipher::Ccm => true,
-        Cipher::Cbc => len > 0 && len % 16 == 0,
-        Cipher::Ctr => len > 0,
+        Cipher::Cbc => cbc::takes_text(len),
+        Cipher::Ctr => ctr::takes_text(len),
     }
 }
 
@@ -68,7 +68,7 @@ pub(crate) fn takes_aad(cipher: Cipher, len: usize) -> bool
 {
     match cipher {
         Cipher::Null | Cipher::Cbc | Cipher::Ctr => true,
-        Cipher::Gcm => len <= MAX_AAD_BYTES,
-        Cipher::Ccm => len <= MAX_CCM_AAD_BYTES,
+        Cipher::Gcm => gcm::takes_aad(len),
+        Cipher::Ccm => ccm::takes_aad(len),
     }
 }

@@ -44,7 +44,7 @@ pub fn check(job: &Job) -> Option<Reason>
     if !cipher::is_null(job.cipher) && passes_end(job.cipher_off, job.cipher_len, packet_len) {
         return Some(Reason::CipherRange);
     }
-    if !cipher::takes_range(job.cipher, job.cipher_len) {
+    if !cipher::takes_range(job.cipher, job.cipher_len as usize) {
         return Some(Reason::CipherLength);
     }
     if !auth::takes_key(class, job.auth_key.as_slice().len()) {
@@ -56,7 +56,7 @@ pub fn check(job: &Job) -> Option<Reason>
     if !cipher::takes_aad(job.cipher, job.aad.as_slice().len()) {
         return Some(Reason::AadLong);
     }
-    if !auth::takes_tag(class, job.tag_len) {
+    if !auth::takes_tag(class, job.tag_len as usize) {
         return Some(Reason::TagLength);
     }
     None

@@ -1,12 +1,15 @@
 -- What the calls without a manager give, where C's arguments are accepted.
-use Rattle.std.specs.Prelude.{ℕ, ◌%◌, nat_eq, nat_le, ◌==◌, ◌&&◌, ◌||◌, Bool, true, false, List, ◌++◌, length, take, drop, replicate, bytes_eq, Option, None, Some, Result, Ok, Err, slice_get, if◌then◌else◌}
+use Rattle.std.specs.Prelude.{ℕ, nat_le, ◌&&◌, Bool, true, false, List, ◌++◌, length, take, drop, replicate, bytes_eq, Option, None, Some, Result, Ok, Err, slice_get, if◌then◌else◌}
 use Rattle.mbj_types.specs.declared.class.HashName.{HashName}
 use Rattle.mbj_types.specs.declared.job.Dir.{Dir}
-use Rattle.mbj_types.specs.declared.limits.TheConstants.{MAX_IV_BYTES, MAX_CCM_AAD_BYTES, MAX_PACKET_BYTES}
+use Rattle.mbj_types.specs.declared.limits.TheConstants.{MAX_PACKET_BYTES}
 use Rattle.mbj_types.specs.Aes.{aes, is_key_size, key_schedule}
 use Rattle.mbj_types.specs.Auths.{hash_of_name}
+use Rattle.mbj_types.specs.Ccm as Ccm
 use Rattle.mbj_types.specs.Ccm.{ccm}
+use Rattle.mbj_types.specs.Cmac as Cmac
 use Rattle.mbj_types.specs.Cmac.{first_subkey, second_subkey}
+use Rattle.mbj_types.specs.Gcm as Gcm
 use Rattle.mbj_types.specs.Gcm.{gcm}
 use Rattle.mbj_direct.specs.declared.parts.GcmState.{GcmState}
 use Rattle.mbj_direct.specs.declared.gmac.GmacState.{GmacState}
@@ -48,14 +51,10 @@ put_both (Ok made) rooms =
 abbrev pub schedules_said : List ℕ → Result Pair Refusal
 schedules_said key = and_then (wants (is_key_size (length key)) KeyLength) (Ok (key_schedule key, inverse_schedule (key_schedule key)))
 
--- a key of CMAC has 16 bytes, or 32
-abbrev pub is_cmac_key : ℕ → Bool
-is_cmac_key n = n == 16 || n == 32
-
 -- the subkeys of a key of CMAC
 abbrev pub subkeys_said : List ℕ → Result Pair Refusal
 subkeys_said key =
-    and_then (wants (is_cmac_key (length key)) KeyLength) (Ok (first_subkey (aes key), second_subkey (aes key)))
+    and_then (wants (Cmac.takes_key (length key)) KeyLength) (Ok (first_subkey (aes key), second_subkey (aes key)))
 
 -- ---- the digest of a text
 
@@ -77,38 +76,23 @@ changed (Ok new) old = (Ok tt, new)
 abbrev pub cut_to : ℕ → Pair → Pair
 cut_to n whole = (whole.0, take n whole.1)
 
--- an IV of GCM has 1 to MAX_IV_BYTES bytes
-abbrev pub is_gcm_iv : ℕ → Bool
-is_gcm_iv n = nat_le 1 n && nat_le n MAX_IV_BYTES
-
--- a tag of GCM has 1 to 16
-abbrev pub is_gcm_tag : ℕ → Bool
-is_gcm_tag n = nat_le 1 n && nat_le n 16
-
 -- a key and an IV of GCM
 abbrev pub gcm_accepts : List ℕ → List ℕ → Result Unit Refusal
-gcm_accepts key iv = and_then (wants (is_key_size (length key)) KeyLength) (wants (is_gcm_iv (length iv)) IvLength)
+gcm_accepts key iv = and_then (wants (is_key_size (length key)) KeyLength) (wants (Gcm.takes_iv (length iv)) IvLength)
 
 -- a whole text by GCM, and a tag as long as its room
 abbrev pub gcm_said : List ℕ → List ℕ → List ℕ → Bool → Pair → Result Pair Refusal
 gcm_said key iv aad sealing old =
     and_then (gcm_accepts key iv)
-    (and_then (wants (is_gcm_tag (length old.1)) TagLength) (Ok (cut_to (length old.1) (gcm (aes key) iv aad old.0 sealing))))
-
--- a nonce of CCM has 7 to 13 bytes, and a tag an even number of them from 4 to 16
-abbrev pub is_ccm_nonce : ℕ → Bool
-is_ccm_nonce n = nat_le 7 n && nat_le n 13
-
-abbrev pub is_ccm_tag : ℕ → Bool
-is_ccm_tag n = nat_le 4 n && (nat_le n 16 && nat_eq (n % 2) 0)
+    (and_then (wants (Gcm.takes_tag (length old.1)) TagLength) (Ok (cut_to (length old.1) (gcm (aes key) iv aad old.0 sealing))))
 
 -- the lengths of a key, a nonce, additional data, a text and a tag of CCM
 abbrev pub ccm_accepts : ℕ → ℕ → ℕ → ℕ → ℕ → Result Unit Refusal
 ccm_accepts key nonce aad text tag =
     and_then (wants (is_key_size key) KeyLength)
-    (and_then (wants (is_ccm_nonce nonce) IvLength)
-    (and_then (wants (nat_le aad MAX_CCM_AAD_BYTES) AadLength)
-    (and_then (wants (nat_le text MAX_PACKET_BYTES) TextLength) (wants (is_ccm_tag tag) TagLength))))
+    (and_then (wants (Ccm.takes_nonce nonce) IvLength)
+    (and_then (wants (Ccm.takes_aad aad) AadLength)
+    (and_then (wants (nat_le text MAX_PACKET_BYTES) TextLength) (wants (Ccm.takes_tag tag) TagLength))))
 
 -- a text by CCM, and a tag as long as its room
 abbrev pub ccm_said : List ℕ → List ℕ → List ℕ → Bool → Pair → Result Pair Refusal
@@ -153,7 +137,7 @@ goes_on s = wants (is_gcm_state s) NoState
 
 -- whether it ends there with a tag of n bytes
 abbrev pub ends : GcmState → ℕ → Result Unit Refusal
-ends s n = and_then (goes_on s) (wants (is_gcm_tag n) TagLength)
+ends s n = and_then (goes_on s) (wants (Gcm.takes_tag n) TagLength)
 
 -- ---- GMAC in parts
 
@@ -163,4 +147,4 @@ data_goes_on s = wants (is_gmac_state s) NoState
 
 -- whether it ends there with a tag of n bytes
 abbrev pub data_ends : GmacState → ℕ → Result Unit Refusal
-data_ends s n = and_then (data_goes_on s) (wants (is_gcm_tag n) TagLength)
+data_ends s n = and_then (data_goes_on s) (wants (Gcm.takes_tag n) TagLength)

@@ -6,7 +6,7 @@ ghost use Rattle.mbj_types.specs.Gcm.{gcm, gcm_text};
 ghost use Rattle.mbj_types.specs.Result.{is_enc};
 ghost use Rattle.mbj_direct.specs.Parts.{HasTaken, blank_state};
 ghost use Rattle.mbj_c.specs.Codes.{code_of};
-ghost use Rattle.mbj_c.specs.Direct.{begun_said, ccm_accepts, ccm_said, changed, digest_said, ends, gcm_accepts, gcm_said, goes_on, is_ccm_nonce, is_ccm_tag, is_cmac_key, is_gcm_iv, is_gcm_tag, put_both, schedules_said, subkeys_said};
+ghost use Rattle.mbj_c.specs.Direct.{begun_said, ccm_accepts, ccm_said, changed, digest_said, ends, gcm_accepts, gcm_said, goes_on, put_both, schedules_said, subkeys_said};
 ghost use Rattle.mbj_c.specs.Stored.{put_in};
 ghost use Rattle.mbj_c.specs.declared.refusal.Refusal.TheVariants.{Memory};
 
@@ -19,43 +19,9 @@ use mbj_direct::{
     GcmState, ccm_open, ccm_seal, cmac_subkeys, digest_of, encryption_schedule, inverse_schedule,
 };
 use mbj_gcm::{seal, unseal};
-use mbj_types::{BLOCK_BYTES, Dir, MAX_CCM_AAD_BYTES, MAX_IV_BYTES, MAX_PACKET_BYTES, is_key_size};
+use mbj_types::limits::{ccm, cmac, gcm};
+use mbj_types::{BLOCK_BYTES, Dir, MAX_PACKET_BYTES, is_key_size};
 use std::alloc::Global;
-
-/// Whether a key of CMAC has this many bytes here.
-fn is_cmac_key(len: usize) -> bool
-    ensures { result ≡ is_cmac_key len }
-{
-    len == 16 || len == 32
-}
-
-/// Whether GCM takes an IV of this many bytes here.
-fn is_gcm_iv(len: usize) -> bool
-    ensures { result ≡ is_gcm_iv len }
-{
-    1 <= len && len <= MAX_IV_BYTES
-}
-
-/// Whether GCM gives a tag of this many bytes here.
-pub(crate) fn is_gcm_tag(len: usize) -> bool
-    ensures { result ≡ is_gcm_tag len }
-{
-    1 <= len && len <= BLOCK_BYTES
-}
-
-/// Whether CCM takes a nonce of this many bytes (SP 800-38C, A.1).
-fn is_ccm_nonce(len: usize) -> bool
-    ensures { result ≡ is_ccm_nonce len }
-{
-    7 <= len && len <= 13
-}
-
-/// Whether CCM gives a tag of this many bytes (SP 800-38C, A.1).
-fn is_ccm_tag(len: usize) -> bool
-    ensures { result ≡ is_ccm_tag len }
-{
-    4 <= len && (len <= BLOCK_BYTES && len % 2 == 0)
-}
 
 /// Puts two lists of bytes at the fronts of their rooms. Returns `NoRoom` exactly where one is shorter; nothing is written then.
 fn put_two(
@@ -98,7 +64,7 @@ pub(crate) fn put_subkeys(key: &[u8], first: &mut [u8], second: &mut [u8]) -> Re
     ensures answer { result ≡ (put_both (subkeys_said key.now) (first.old, second.old)).0 }
     ensures written { (first.new, second.new) ≡ (put_both (subkeys_said key.now) (first.old, second.old)).1 }
 {
-    if !is_cmac_key(key.len()) {
+    if !cmac::takes_key(key.len()) {
         return Err(Refusal::KeyLength);
     }
     let subkeys = cmac_subkeys(&Schedule::expand(key));
@@ -123,7 +89,7 @@ pub(crate) fn gcm_takes(key: &[u8], iv: &[u8]) -> Result<(), Refusal>
     if !is_key_size(key.len()) {
         return Err(Refusal::KeyLength);
     }
-    if !is_gcm_iv(iv.len()) {
+    if !gcm::takes_iv(iv.len()) {
         return Err(Refusal::IvLength);
     }
     Ok(())
@@ -141,7 +107,7 @@ pub(crate) fn gcm_seal(
     ensures written { (text.new, tag.new) ≡ (changed (gcm_said key.now iv.now aad.now true (text.old, tag.old)) (text.old, tag.old)).1 }
 {
     gcm_takes(key, iv)?;
-    if !is_gcm_tag(tag.len()) {
+    if !gcm::takes_tag(tag.len()) {
         return Err(Refusal::TagLength);
     }
     let whole = seal(&Schedule::expand(key), iv, aad, text);
@@ -161,7 +127,7 @@ pub(crate) fn gcm_decrypt_unverified(
     ensures written { (text.new, tag.new) ≡ (changed (gcm_said key.now iv.now aad.now false (text.old, tag.old)) (text.old, tag.old)).1 }
 {
     gcm_takes(key, iv)?;
-    if !is_gcm_tag(tag.len()) {
+    if !gcm::takes_tag(tag.len()) {
         return Err(Refusal::TagLength);
     }
     let whole = unseal(&Schedule::expand(key), iv, aad, text);
@@ -218,7 +184,7 @@ pub(crate) fn gcm_finish(state: &mut GcmState, tag: &mut [u8]) -> Result<(), Ref
     if !state.is_state() {
         return Err(Refusal::NoState);
     }
-    if !is_gcm_tag(tag.len()) {
+    if !gcm::takes_tag(tag.len()) {
         return Err(Refusal::TagLength);
     }
     let whole = state.finish();
@@ -239,16 +205,16 @@ pub(crate) fn ccm_takes(
     if !is_key_size(key.len()) {
         return Err(Refusal::KeyLength);
     }
-    if !is_ccm_nonce(nonce.len()) {
+    if !ccm::takes_nonce(nonce.len()) {
         return Err(Refusal::IvLength);
     }
-    if aad.len() > MAX_CCM_AAD_BYTES {
+    if !ccm::takes_aad(aad.len()) {
         return Err(Refusal::AadLength);
     }
     if text_len > MAX_PACKET_BYTES {
         return Err(Refusal::TextLength);
     }
-    if !is_ccm_tag(tag_len) {
+    if !ccm::takes_tag(tag_len) {
         return Err(Refusal::TagLength);
     }
     Ok(())

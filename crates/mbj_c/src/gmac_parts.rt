@@ -6,9 +6,10 @@ ghost use Rattle.mbj_types.specs.Gcm.{gmac};
 ghost use Rattle.mbj_direct.specs.Gmac.{HasTakenData, blank_gmac_state};
 ghost use Rattle.mbj_c.specs.Direct.{data_ends, data_goes_on, gcm_accepts};
 
-use crate::direct::{gcm_takes, is_gcm_tag};
+use crate::direct::gcm_takes;
 use crate::refusal::Refusal;
 use mbj_direct::GmacState;
+use mbj_types::limits::gcm;
 
 /// Begins GMAC of data in parts.
 pub(crate) fn gmac_begin(state: &mut GmacState, key: &[u8], iv: &[u8]) -> Result<(), Refusal>
@@ -47,7 +48,7 @@ pub(crate) fn gmac_finish(state: &mut GmacState, tag: &mut [u8]) -> Result<(), R
     if !state.is_state() {
         return Err(Refusal::NoState);
     }
-    if !is_gcm_tag(tag.len()) {
+    if !gcm::takes_tag(tag.len()) {
         return Err(Refusal::TagLength);
     }
     let whole = state.finish();

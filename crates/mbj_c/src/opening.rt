@@ -4,10 +4,11 @@ ghost use Rattle.std.specs.Prelude.{◌≡◌, ◌≢◌, length, Ok, Err};
 ghost use Rattle.mbj_c.specs.Direct.{ccm_accepts, ccm_opened, gcm_opened, verified};
 ghost use Rattle.mbj_c.specs.declared.refusal.Refusal.TheVariants.{Memory};
 
-use crate::direct::{ccm_takes, gcm_takes, is_gcm_tag};
+use crate::direct::{ccm_takes, gcm_takes};
 use crate::refusal::Refusal;
 use mbj_aes::{Schedule, are_equal};
 use mbj_gcm::unseal;
+use mbj_types::limits::gcm;
 use std::alloc::Global;
 
 /// Returns `WrongTag` exactly where the tag that came with a text differs from the one that was found; the text is all zeros then. No
@@ -35,7 +36,7 @@ pub(crate) fn gcm_open(
     ensures written { text.new ≡ (gcm_opened key.now iv.now aad.now text.old tag.now).1 }
 {
     gcm_takes(key, iv)?;
-    if !is_gcm_tag(tag.len()) {
+    if !gcm::takes_tag(tag.len()) {
         return Err(Refusal::TagLength);
     }
     let found = unseal(&Schedule::expand(key), iv, aad, text);

@@ -15,50 +15,6 @@ pub(crate) struct Words {
     pub(crate) auth: Auth,
 }
 
-const CIPHERS: [Cipher; 5] = [
-    Cipher::Null,
-    Cipher::Cbc,
-    Cipher::Ctr,
-    Cipher::Gcm,
-    Cipher::Ccm,
-];
-
-const DIRS: [Dir; 2] = [Dir::Enc, Dir::Dec];
-
-const ORDERS: [Order; 2] = [Order::CipherHash, Order::HashCipher];
-
-const AUTHS: [Auth; 21] = [
-    Auth::Null,
-    Auth::HmacSha1,
-    Auth::HmacSha224,
-    Auth::HmacSha256,
-    Auth::HmacSha384,
-    Auth::HmacSha512,
-    Auth::Cmac128,
-    Auth::Cmac256,
-    Auth::Gcm,
-    Auth::Gmac,
-    Auth::Ccm,
-    Auth::Sha1,
-    Auth::Sha224,
-    Auth::Sha256,
-    Auth::Sha384,
-    Auth::Sha512,
-    Auth::HmacSha1States,
-    Auth::HmacSha224States,
-    Auth::HmacSha256States,
-    Auth::HmacSha384States,
-    Auth::HmacSha512States,
-];
-
-const HASHES: [HashName; 5] = [
-    HashName::Sha1,
-    HashName::Sha224,
-    HashName::Sha256,
-    HashName::Sha384,
-    HashName::Sha512,
-];
-
 /// The word that stands at a code in its list. Returns `None` exactly where the code is none.
 fn word_at<T: Copy>(words: &[T], code: u32) -> Option<T>
     ensures { result ≡ slice_get words.now code }
@@ -70,35 +26,35 @@ fn word_at<T: Copy>(words: &[T], code: u32) -> Option<T>
 pub(crate) fn cipher_at(code: u32) -> Option<Cipher>
     ensures { result ≡ slice_get ciphers code }
 {
-    word_at(&CIPHERS, code)
+    word_at(&Cipher::ALL, code)
 }
 
 /// The direction with this code. Returns `None` exactly where the code is none.
 pub(crate) fn dir_at(code: u32) -> Option<Dir>
     ensures { result ≡ slice_get dirs code }
 {
-    word_at(&DIRS, code)
+    word_at(&Dir::ALL, code)
 }
 
 /// The order with this code. Returns `None` exactly where the code is none.
 pub(crate) fn order_at(code: u32) -> Option<Order>
     ensures { result ≡ slice_get orders code }
 {
-    word_at(&ORDERS, code)
+    word_at(&Order::ALL, code)
 }
 
 /// The authentication with this code. Returns `None` exactly where the code is none.
 pub(crate) fn auth_at(code: u32) -> Option<Auth>
     ensures { result ≡ slice_get auths code }
 {
-    word_at(&AUTHS, code)
+    word_at(&Auth::ALL, code)
 }
 
 /// The hash with this code. Returns `None` exactly where the code is none.
 pub(crate) fn hash_at(code: u32) -> Option<HashName>
     ensures { result ≡ slice_get hashes code }
 {
-    word_at(&HASHES, code)
+    word_at(&HashName::ALL, code)
 }
 
 /// The kind of lanes with this code. Returns `None` exactly where the code is none.

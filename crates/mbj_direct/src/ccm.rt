@@ -4,7 +4,8 @@ ghost use Rattle.std.specs.Prelude.{◌≡◌, ◌+◌, ◌*◌, ◌%◌, ◌≤
 ghost use Rattle.mbj_types.specs.Aes.{encipher};
 ghost use Rattle.mbj_types.specs.Ccm.{ccm, ccm_mac};
 ghost use Rattle.mbj_lane.specs.Rounds.{end_of};
-ghost use Rattle.mbj_types.specs.declared.limits.TheConstants.{MAX_CCM_AAD_BYTES, MAX_PACKET_BYTES};
+ghost use Rattle.mbj_types.specs.declared.limits.TheConstants.{MAX_PACKET_BYTES};
+ghost use Rattle.mbj_types.specs.declared.limits.ccm.TheConstants.{MAX_CCM_AAD_BYTES};
 
 use mbj_aes::Schedule;
 use mbj_ccm::{CcmEntry, CcmKernel, apply_and_mask};

@@ -12,7 +12,8 @@ use Rattle.mbj_types.specs.Result.{ciphered, ciphered_by, range}
 use Rattle.mbj_types.specs.Auths.{class_of}
 use Rattle.mbj_types.specs.declared.class.AuthClass.{AuthClass}
 use Rattle.mbj_types.specs.declared.class.AuthClass.TheVariants as class
-use Rattle.mbj_types.specs.declared.limits.TheConstants.{MAX_CCM_AAD_BYTES, MAX_PACKET_BYTES}
+use Rattle.mbj_types.specs.declared.limits.TheConstants.{MAX_PACKET_BYTES}
+use Rattle.mbj_types.specs.declared.limits.ccm.TheConstants.{MAX_CCM_AAD_BYTES}
 use Rattle.mbj_types.specs.Verdict.{goes_with, is_null_cipher, takes_aad, takes_iv, takes_key, takes_range, takes_tag, verdict_at}
 use Rattle.mbj_aes.specs.Bytes.{IsKeySize}
 use Rattle.mbj_args.proofs.Accepted.{accepted}

@@ -10,7 +10,7 @@ use Rattle.mbj_types.specs.Verdict.{has_hash_range, takes_auth_iv, takes_auth_ke
 use Rattle.mbj_types.specs.declared.class.AuthClass.{AuthClass}
 use Rattle.mbj_types.specs.declared.class.AuthClass.TheVariants as class
 use Rattle.mbj_types.specs.declared.job.Job.{Job}
-use Rattle.mbj_types.specs.declared.limits.TheConstants.{MAX_IV_BYTES}
+use Rattle.mbj_types.specs.declared.limits.gcm.TheConstants.{MAX_IV_BYTES}
 use Rattle.mbj_aes.specs.Bytes.{IsKeySize}
 use Rattle.mbj_args.proofs.Accepted.{accepted}
 use Rattle.mbj_stage.specs.declared.stage.Step.TheVariants as step

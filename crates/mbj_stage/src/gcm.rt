@@ -1,7 +1,7 @@
 //! GCM on the cipher range of a packet.
 
 ghost use Rattle.std.specs.Prelude.{◌≡◌, ◌<◌, ◌≤◌, [], ◌∷◌, None, length};
-ghost use Rattle.mbj_types.specs.declared.limits.TheConstants.{MAX_IV_BYTES};
+ghost use Rattle.mbj_types.specs.declared.limits.gcm.TheConstants.{MAX_IV_BYTES};
 ghost use Rattle.mbj_types.specs.Verdict.{verdict_at};
 ghost use Rattle.mbj_types.specs.Result.{ciphered, tag_over};
 ghost use Rattle.mbj_keys.specs.Schedules.{IsScheduleOf};

@@ -1,7 +1,7 @@
 //! GMAC of a packet's hash range.
 
 ghost use Rattle.std.specs.Prelude.{◌≡◌, ◌<◌, ◌≤◌, [], ◌∷◌, None, length};
-ghost use Rattle.mbj_types.specs.declared.limits.TheConstants.{MAX_IV_BYTES};
+ghost use Rattle.mbj_types.specs.declared.limits.gcm.TheConstants.{MAX_IV_BYTES};
 ghost use Rattle.mbj_types.specs.Aes.{aes};
 ghost use Rattle.mbj_types.specs.Auths.{class_of};
 ghost use Rattle.mbj_types.specs.Gcm.{gmac};

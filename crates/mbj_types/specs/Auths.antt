@@ -1,5 +1,5 @@
 -- What the authentications are: whatever depends on a job's authentication goes by the cases of its class.
-use Rattle.std.specs.Prelude.{ℕ, Bool, true, false, Option, Some, None, IsSome}
+use Rattle.std.specs.Prelude.{ℕ, ◌*◌, ◌==◌, ◌&&◌, nat_le, nat_lt, Bool, true, false, Option, Some, None, IsSome}
 use Rattle.mbj_types.specs.Hmac.{Hash, sha1_hash, sha224_hash, sha256_hash, sha384_hash, sha512_hash}
 use Rattle.mbj_types.specs.States.{Compression, sha1_compression, sha224_compression, sha256_compression, sha384_compression, sha512_compression}
 use Rattle.mbj_types.specs.declared.class.AuthClass.{AuthClass}
@@ -51,6 +51,14 @@ compression_of_name Sha224 = sha224_compression
 compression_of_name Sha256 = sha256_compression
 compression_of_name Sha384 = sha384_compression
 compression_of_name Sha512 = sha512_compression
+
+-- stored states of n bytes: the inner one and the outer one
+abbrev pub takes_states : HashName → ℕ → Bool
+takes_states h n = n == 2 * (compression_of_name h).state_bytes
+
+-- a tag of n bytes that is cut from a digest
+abbrev pub takes_digest_tag : HashName → ℕ → Bool
+takes_digest_tag h n = nat_lt 0 n && nat_le n (hash_of_name h).digest_bytes
 
 -- the kind of lanes in which a hash is computed
 abbrev pub hash_kind : HashName → Kind

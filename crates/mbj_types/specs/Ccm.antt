@@ -1,9 +1,10 @@
 -- CCM (SP 800-38C) with the formatting and the counter blocks of its appendix A. The block cipher is the argument e.
-use Rattle.std.specs.Prelude.{ℕ, ◌+◌, ◌-◌, ◌*◌, ◌/◌, Bool, List, [], ◌∷◌, ◌++◌, length, if◌then◌else◌}
+use Rattle.std.specs.Prelude.{ℕ, ◌+◌, ◌-◌, ◌*◌, ◌/◌, ◌%◌, ◌==◌, ◌&&◌, Bool, nat_le, List, [], ◌∷◌, ◌++◌, length, if◌then◌else◌}
 use Rattle.std.specs.List.{concat}
 use Rattle.std.specs.Int.{bytes_high_first}
 use Rattle.mbj_types.specs.Blocks.{xor_lists, blocks, zero_block, filled_blocks, last_or}
 use Rattle.mbj_types.specs.Modes.{cbc}
+use Rattle.mbj_types.specs.declared.limits.ccm.TheConstants.{MAX_CCM_AAD_BYTES}
 
 -- A.1: q, in how many bytes the length of the text is written: 15 less those of the nonce, which has 7 to 13
 abbrev pub length_bytes : List ℕ → ℕ
@@ -61,3 +62,14 @@ abbrev pub ccm : (List ℕ → List ℕ) → List ℕ → List ℕ → List ℕ 
 ccm e nonce aad text tag_len sealing =
     let plaintext = if sealing then text else ccm_text e nonce text in
     (ccm_text e nonce text, xor_lists (ccm_mac e nonce aad plaintext tag_len) (ccm_mask e nonce))
+
+-- ---- what CCM takes, in bytes: a nonce (A.1), additional data whose length is written in 2 bytes (A.2.2), and a tag (A.1)
+
+abbrev pub takes_nonce : ℕ → Bool
+takes_nonce n = nat_le 7 n && nat_le n 13
+
+abbrev pub takes_aad : ℕ → Bool
+takes_aad n = nat_le n MAX_CCM_AAD_BYTES
+
+abbrev pub takes_tag : ℕ → Bool
+takes_tag n = nat_le 4 n && nat_le n 16 && n % 2 == 0

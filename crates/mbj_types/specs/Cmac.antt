@@ -1,5 +1,5 @@
 -- CMAC (SP 800-38B). The block cipher is the argument e.
-use Rattle.std.specs.Prelude.{ℕ, ◌-◌, ◌*◌, ◌/◌, ◌%◌, ◌^◌, nat_eq, List, [], ◌∷◌, ◌++◌, length, replicate, bit_xor, if◌then◌else◌}
+use Rattle.std.specs.Prelude.{ℕ, ◌-◌, ◌*◌, ◌/◌, ◌%◌, ◌^◌, ◌==◌, ◌&&◌, ◌||◌, Bool, nat_eq, nat_le, nat_lt, List, [], ◌∷◌, ◌++◌, length, replicate, bit_xor, if◌then◌else◌}
 use Rattle.std.specs.Int.{w128, to_be_bytes, from_be_bytes}
 use Rattle.mbj_types.specs.Blocks.{xor_lists, blocks, zero_block, last_or}
 use Rattle.mbj_types.specs.Modes.{cbc}
@@ -38,3 +38,11 @@ closed e (p ∷ q ∷ ps) = p ∷ closed e (q ∷ ps)
 -- 6.2, steps 5 to 7: the last block of CBC over these blocks, from the zero block on
 abbrev pub cmac : (List ℕ → List ℕ) → List ℕ → List ℕ
 cmac e m = last_or zero_block (cbc e zero_block (closed e (message_blocks m)))
+
+-- ---- what CMAC takes here, in bytes: a key, and a tag, which is cut from 16
+
+abbrev pub takes_key : ℕ → Bool
+takes_key n = n == 16 || n == 32
+
+abbrev pub takes_tag : ℕ → Bool
+takes_tag n = nat_lt 0 n && nat_le n 16

@@ -1,9 +1,10 @@
 -- GCM (SP 800-38D). The block cipher is the argument e.
-use Rattle.std.specs.Prelude.{ℕ, ◌+◌, ◌*◌, ◌%◌, ◌^◌, Bool, nat_eq, List, [], ◌∷◌, ◌++◌, length, take, drop, replicate, if◌then◌else◌}
+use Rattle.std.specs.Prelude.{ℕ, ◌+◌, ◌*◌, ◌%◌, ◌^◌, Bool, ◌&&◌, nat_eq, nat_le, nat_lt, List, [], ◌∷◌, ◌++◌, length, take, drop, replicate, if◌then◌else◌}
 use Rattle.std.specs.List.{concat}
 use Rattle.std.specs.Int.{w32, w64, to_be_bytes, from_be_bytes}
 use Rattle.mbj_types.specs.Blocks.{xor_lists, blocks, zero_block, filled_blocks}
 use Rattle.mbj_types.specs.Ghash.{ghash}
+use Rattle.mbj_types.specs.declared.limits.gcm.TheConstants.{MAX_AAD_BYTES, MAX_IV_BYTES}
 
 -- 6.2: the last 4 bytes, as a number, rise by 1 modulo 2^32
 unfoldable pub inc32 : List ℕ → List ℕ
@@ -43,3 +44,14 @@ gcm e iv aad text sealing = (gcm_text e iv text, gcm_tag e iv aad (if sealing th
 -- 3.1: GMAC is the tag over data alone, with no text
 abbrev pub gmac : (List ℕ → List ℕ) → List ℕ → List ℕ → List ℕ
 gmac e iv aad = gcm_tag e iv aad []
+
+-- ---- what GCM and GMAC take here, in bytes (5.2.1): an IV, additional data, and a tag, which is cut from 16
+
+abbrev pub takes_iv : ℕ → Bool
+takes_iv n = nat_lt 0 n && nat_le n MAX_IV_BYTES
+
+abbrev pub takes_aad : ℕ → Bool
+takes_aad n = nat_le n MAX_AAD_BYTES
+
+abbrev pub takes_tag : ℕ → Bool
+takes_tag n = nat_lt 0 n && nat_le n 16

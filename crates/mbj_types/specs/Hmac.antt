@@ -1,8 +1,10 @@
 -- HMAC (RFC 2104, 2) over the hashes of FIPS 180-4.
-use Rattle.std.specs.Prelude.{ℕ, ◌-◌, List, ◌++◌, length, replicate, map, nat_le, bit_xor, if◌then◌else◌}
+use Rattle.std.specs.Prelude.{ℕ, ◌-◌, Bool, List, ◌++◌, length, replicate, map, nat_le, bit_xor, if◌then◌else◌}
 use Rattle.sha1.specs.Sha1.{sha1}
 use Rattle.sha2.specs.Sha256.{sha224, sha256}
 use Rattle.sha2.specs.Sha512.{sha384, sha512}
+use Rattle.mbj_types.specs.Hashes.{Lengths, sha1_lengths, sha224_lengths, sha256_lengths, sha384_lengths, sha512_lengths}
+use Rattle.mbj_types.specs.declared.limits.hmac.TheConstants.{MAX_HMAC_KEY_BYTES}
 
 -- a hash, with the bytes of its block and of its digest
 pub record Hash : Type 0 where
@@ -10,20 +12,24 @@ pub record Hash : Type 0 where
   pub block_bytes : ℕ
   pub digest_bytes : ℕ
 
+-- what makes the digest, and the lengths
+abbrev pub hash_by : (List ℕ → List ℕ) → Lengths → Hash
+hash_by digest lengths = record { digest = digest; block_bytes = lengths.block; digest_bytes = lengths.digest }
+
 abbrev pub sha1_hash : Hash
-sha1_hash = record { digest = sha1; block_bytes = 64; digest_bytes = 20 }
+sha1_hash = hash_by sha1 sha1_lengths
 
 abbrev pub sha224_hash : Hash
-sha224_hash = record { digest = sha224; block_bytes = 64; digest_bytes = 28 }
+sha224_hash = hash_by sha224 sha224_lengths
 
 abbrev pub sha256_hash : Hash
-sha256_hash = record { digest = sha256; block_bytes = 64; digest_bytes = 32 }
+sha256_hash = hash_by sha256 sha256_lengths
 
 abbrev pub sha384_hash : Hash
-sha384_hash = record { digest = sha384; block_bytes = 128; digest_bytes = 48 }
+sha384_hash = hash_by sha384 sha384_lengths
 
 abbrev pub sha512_hash : Hash
-sha512_hash = record { digest = sha512; block_bytes = 128; digest_bytes = 64 }
+sha512_hash = hash_by sha512 sha512_lengths
 
 -- the key filled with zero bytes to a block
 abbrev pub filled_key : ℕ → List ℕ → List ℕ
@@ -50,3 +56,7 @@ unfoldable pub hmac : Hash → List ℕ → List ℕ → List ℕ
 hmac h key m =
     let inner = h.digest (padded_key ipad (block_key h key) ++ m) in
     h.digest (padded_key opad (block_key h key) ++ inner)
+
+-- a key has at most this many bytes here
+abbrev pub takes_key : ℕ → Bool
+takes_key n = nat_le n MAX_HMAC_KEY_BYTES

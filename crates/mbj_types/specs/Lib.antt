@@ -9,6 +9,7 @@ pub mod Field
 pub mod Ghash
 pub mod Gcm
 pub mod Ccm
+pub mod Hashes
 pub mod Hmac
 pub mod States
 pub mod Auths

@@ -1,5 +1,5 @@
 -- CBC and CTR (SP 800-38A) on lists of blocks. The block cipher is the argument e, or d for its inverse.
-use Rattle.std.specs.Prelude.{ℕ, ◌+◌, ◌%◌, ◌^◌, nat_eq, List, [], ◌∷◌, ◌++◌, length, if◌then◌else◌}
+use Rattle.std.specs.Prelude.{ℕ, ◌+◌, ◌%◌, ◌^◌, ◌==◌, ◌&&◌, ◌||◌, Bool, nat_eq, nat_lt, List, [], ◌∷◌, ◌++◌, length, if◌then◌else◌}
 use Rattle.std.specs.List.{concat}
 use Rattle.std.specs.Int.{w128, to_be_bytes, from_be_bytes}
 use Rattle.mbj_types.specs.Blocks.{xor_lists, blocks}
@@ -32,3 +32,17 @@ uncbc_text d iv text = concat (uncbc d iv (blocks text))
 
 abbrev pub ctr_text : (List ℕ → List ℕ) → List ℕ → List ℕ → List ℕ
 ctr_text e iv text = concat (ctr_blocks e (first_counter iv) (blocks text))
+
+-- ---- what CBC and CTR take, in bytes: an IV, and a text
+
+abbrev pub cbc_takes_iv : ℕ → Bool
+cbc_takes_iv n = n == 16
+
+abbrev pub cbc_takes_text : ℕ → Bool
+cbc_takes_text n = nat_lt 0 n && n % 16 == 0
+
+abbrev pub ctr_takes_iv : ℕ → Bool
+ctr_takes_iv n = n == 12 || n == 16
+
+abbrev pub ctr_takes_text : ℕ → Bool
+ctr_takes_text n = nat_lt 0 n

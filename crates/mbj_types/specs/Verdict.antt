@@ -1,7 +1,12 @@
 -- The argument table: the reason for which a job is refused, or none. Sums are whole numbers and never wrap.
-use Rattle.std.specs.Prelude.{ℕ, ◌+◌, ◌*◌, ◌%◌, ◌==◌, ◌&&◌, ◌||◌, Bool, true, false, not, nat_lt, nat_le, List, [], ◌∷◌, length, Option, Some, None, if◌then◌else◌}
+use Rattle.std.specs.Prelude.{ℕ, ◌+◌, ◌==◌, ◌&&◌, ◌||◌, Bool, true, false, not, nat_lt, nat_le, List, [], ◌∷◌, length, Option, Some, None, if◌then◌else◌}
 use Rattle.mbj_types.specs.Aes.{is_key_size}
-use Rattle.mbj_types.specs.Auths.{class_of, cmac_key_bytes, compression_of_name, hash_of_name}
+use Rattle.mbj_types.specs.Auths.{class_of, cmac_key_bytes, takes_digest_tag, takes_states}
+use Rattle.mbj_types.specs.Ccm as Ccm
+use Rattle.mbj_types.specs.Cmac as Cmac
+use Rattle.mbj_types.specs.Gcm as Gcm
+use Rattle.mbj_types.specs.Hmac as Hmac
+use Rattle.mbj_types.specs.Modes.{cbc_takes_iv, cbc_takes_text, ctr_takes_iv, ctr_takes_text}
 use Rattle.mbj_types.specs.declared.class.AuthClass.{AuthClass}
 use Rattle.mbj_types.specs.declared.class.AuthClass.TheVariants as class
 use Rattle.mbj_types.specs.declared.job.Job.{Job}
@@ -9,7 +14,7 @@ use Rattle.mbj_types.specs.declared.job.Cipher.{Cipher}
 use Rattle.mbj_types.specs.declared.job.Cipher.TheVariants as cipher
 use Rattle.mbj_types.specs.declared.reason.Reason.{Reason}
 use Rattle.mbj_types.specs.declared.reason.Reason.TheVariants.{PacketLong, GcmPair, CipherKey, IvLength, CipherRange, CipherLength, AuthKey, HashRange, AadLong, TagLength}
-use Rattle.mbj_types.specs.declared.limits.TheConstants.{MAX_PACKET_BYTES, MAX_IV_BYTES, MAX_AAD_BYTES, MAX_CCM_AAD_BYTES, MAX_HMAC_KEY_BYTES}
+use Rattle.mbj_types.specs.declared.limits.TheConstants.{MAX_PACKET_BYTES}
 
 -- ---- what a cipher takes
 
@@ -27,16 +32,16 @@ takes_key c n = is_null_cipher c || is_key_size n
 -- initialization vectors of n bytes
 abbrev pub takes_iv : Cipher → ℕ → Bool
 takes_iv cipher.Null n = true
-takes_iv cipher.Cbc n = n == 16
-takes_iv cipher.Ctr n = n == 12 || n == 16
-takes_iv cipher.Gcm n = nat_lt 0 n && nat_le n MAX_IV_BYTES
-takes_iv cipher.Ccm n = nat_le 7 n && nat_le n 13
+takes_iv cipher.Cbc n = cbc_takes_iv n
+takes_iv cipher.Ctr n = ctr_takes_iv n
+takes_iv cipher.Gcm n = Gcm.takes_iv n
+takes_iv cipher.Ccm n = Ccm.takes_nonce n
 
 -- ranges of n bytes
 abbrev pub takes_range : Cipher → ℕ → Bool
 takes_range cipher.Null n = true
-takes_range cipher.Cbc n = nat_lt 0 n && n % 16 == 0
-takes_range cipher.Ctr n = nat_lt 0 n
+takes_range cipher.Cbc n = cbc_takes_text n
+takes_range cipher.Ctr n = ctr_takes_text n
 takes_range cipher.Gcm n = true
 takes_range cipher.Ccm n = true
 
@@ -45,8 +50,8 @@ abbrev pub takes_aad : Cipher → ℕ → Bool
 takes_aad cipher.Null n = true
 takes_aad cipher.Cbc n = true
 takes_aad cipher.Ctr n = true
-takes_aad cipher.Gcm n = nat_le n MAX_AAD_BYTES
-takes_aad cipher.Ccm n = nat_le n MAX_CCM_AAD_BYTES
+takes_aad cipher.Gcm n = Gcm.takes_aad n
+takes_aad cipher.Ccm n = Ccm.takes_aad n
 
 -- ---- what an authentication takes
 
@@ -94,13 +99,13 @@ has_hash_range (class.States h) = true
 -- keys of n bytes: an HMAC from states has the inner state and the outer state
 abbrev pub takes_auth_key : AuthClass → ℕ → Bool
 takes_auth_key class.Null n = true
-takes_auth_key (class.Hmac h) n = nat_le n MAX_HMAC_KEY_BYTES
+takes_auth_key (class.Hmac h) n = Hmac.takes_key n
 takes_auth_key (class.Cmac k) n = n == cmac_key_bytes k
 takes_auth_key class.Gcm n = true
 takes_auth_key class.Ccm n = true
 takes_auth_key (class.Plain h) n = true
 takes_auth_key class.Gmac n = is_key_size n
-takes_auth_key (class.States h) n = n == 2 * (compression_of_name h).state_bytes
+takes_auth_key (class.States h) n = takes_states h n
 
 -- initialization vectors of n bytes: GMAC alone has one
 abbrev pub takes_auth_iv : AuthClass → ℕ → Bool
@@ -110,19 +115,19 @@ takes_auth_iv (class.Cmac k) n = true
 takes_auth_iv class.Gcm n = true
 takes_auth_iv class.Ccm n = true
 takes_auth_iv (class.Plain h) n = true
-takes_auth_iv class.Gmac n = nat_lt 0 n && nat_le n MAX_IV_BYTES
+takes_auth_iv class.Gmac n = Gcm.takes_iv n
 takes_auth_iv (class.States h) n = true
 
 -- tags of n bytes
 abbrev pub takes_tag : AuthClass → ℕ → Bool
 takes_tag class.Null n = n == 0
-takes_tag (class.Hmac h) n = nat_lt 0 n && nat_le n (hash_of_name h).digest_bytes
-takes_tag (class.Cmac k) n = nat_lt 0 n && nat_le n 16
-takes_tag class.Gcm n = nat_lt 0 n && nat_le n 16
-takes_tag class.Ccm n = nat_le 4 n && nat_le n 16 && n % 2 == 0
-takes_tag (class.Plain h) n = nat_lt 0 n && nat_le n (hash_of_name h).digest_bytes
-takes_tag class.Gmac n = nat_lt 0 n && nat_le n 16
-takes_tag (class.States h) n = nat_lt 0 n && nat_le n (hash_of_name h).digest_bytes
+takes_tag (class.Hmac h) n = takes_digest_tag h n
+takes_tag (class.Cmac k) n = Cmac.takes_tag n
+takes_tag class.Gcm n = Gcm.takes_tag n
+takes_tag class.Ccm n = Ccm.takes_tag n
+takes_tag (class.Plain h) n = takes_digest_tag h n
+takes_tag class.Gmac n = Gcm.takes_tag n
+takes_tag (class.States h) n = takes_digest_tag h n
 
 -- ---- the table
 

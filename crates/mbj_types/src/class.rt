@@ -16,39 +16,96 @@ pub enum HashName {
     Sha512,
 }
 
+/// The lengths of a hash, in bytes.
+#[derive(Clone, Copy, Debug, PartialEq, Eq)]
+pub struct HashLengths {
+    /// Of a digest (FIPS 180-4, figure 1).
+    pub digest: u8,
+    /// Of a block (FIPS 180-4, figure 1).
+    pub block: usize,
+    /// Of a stored state: a hash value, whole (FIPS 180-4, 6).
+    pub state: usize,
+}
+
+/// The lengths of SHA-1.
+pub const SHA1_LENGTHS: HashLengths = HashLengths {
+    digest: 20,
+    block: 64,
+    state: 20,
+};
+
+/// The lengths of SHA-224.
+pub const SHA224_LENGTHS: HashLengths = HashLengths {
+    digest: 28,
+    block: 64,
+    state: 32,
+};
+
+/// The lengths of SHA-256.
+pub const SHA256_LENGTHS: HashLengths = HashLengths {
+    digest: 32,
+    block: 64,
+    state: 32,
+};
+
+/// The lengths of SHA-384.
+pub const SHA384_LENGTHS: HashLengths = HashLengths {
+    digest: 48,
+    block: 128,
+    state: 64,
+};
+
+/// The lengths of SHA-512.
+pub const SHA512_LENGTHS: HashLengths = HashLengths {
+    digest: 64,
+    block: 128,
+    state: 64,
+};
+
 impl HashName {
+    /// Every hash once, in the order of the codes that C has for them.
+    pub const ALL: [HashName; 5] = [
+        HashName::Sha1,
+        HashName::Sha224,
+        HashName::Sha256,
+        HashName::Sha384,
+        HashName::Sha512,
+    ];
+
+    /// Its lengths.
+    fn lengths(&self) -> HashLengths
+        ensures digest { result.digest ≡ (hash_of_name self.now).digest_bytes }
+        ensures block { result.block ≡ (hash_of_name self.now).block_bytes }
+        ensures state { result.state ≡ (compression_of_name self.now).state_bytes }
+    {
+        match self {
+            HashName::Sha1 => SHA1_LENGTHS,
+            HashName::Sha224 => SHA224_LENGTHS,
+            HashName::Sha256 => SHA256_LENGTHS,
+            HashName::Sha384 => SHA384_LENGTHS,
+            HashName::Sha512 => SHA512_LENGTHS,
+        }
+    }
+
     /// The length of a digest, in bytes (FIPS 180-4, figure 1).
     pub fn digest_bytes(&self) -> u8
         ensures { result ≡ (hash_of_name self.now).digest_bytes }
     {
-        match self {
-            HashName::Sha1 => 20,
-            HashName::Sha224 => 28,
-            HashName::Sha256 => 32,
-            HashName::Sha384 => 48,
-            HashName::Sha512 => 64,
-        }
+        self.lengths().digest
     }
 
     /// The length of a block, in bytes (FIPS 180-4, figure 1).
     pub fn block_bytes(&self) -> usize
         ensures { result ≡ (hash_of_name self.now).block_bytes }
     {
-        match self {
-            HashName::Sha1 | HashName::Sha224 | HashName::Sha256 => 64,
-            HashName::Sha384 | HashName::Sha512 => 128,
-        }
+        self.lengths().block
     }
 
     /// The length of a stored state, in bytes: a hash value, whole (FIPS 180-4, 6).
     pub fn state_bytes(&self) -> usize
         ensures { result ≡ (compression_of_name self.now).state_bytes }
     {
-        match self {
-            HashName::Sha1 => 20,
-            HashName::Sha224 | HashName::Sha256 => 32,
-            HashName::Sha384 | HashName::Sha512 => 64,
-        }
+        self.lengths().state
     }
 
     /// The kind of lanes in which it is computed.

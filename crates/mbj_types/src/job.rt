@@ -20,6 +20,17 @@ pub enum Cipher {
     Ccm,
 }
 
+impl Cipher {
+    /// Every cipher once, in the order of the codes that C has for them.
+    pub const ALL: [Cipher; 5] = [
+        Cipher::Null,
+        Cipher::Cbc,
+        Cipher::Ctr,
+        Cipher::Gcm,
+        Cipher::Ccm,
+    ];
+}
+
 /// The direction of the cipher.
 #[derive(Clone, Copy, Debug, PartialEq, Eq)]
 pub enum Dir {
@@ -29,6 +40,11 @@ pub enum Dir {
     Dec,
 }
 
+impl Dir {
+    /// Both directions, in the order of the codes that C has for them.
+    pub const ALL: [Dir; 2] = [Dir::Enc, Dir::Dec];
+}
+
 /// Which of cipher and authentication is done first.
 #[derive(Clone, Copy, Debug, PartialEq, Eq)]
 pub enum Order {
@@ -36,6 +52,11 @@ pub enum Order {
     CipherHash,
     /// The tag is over the packet before ciphering.
     HashCipher,
+}
+
+impl Order {
+    /// Both orders, in the order of the codes that C has for them.
+    pub const ALL: [Order; 2] = [Order::CipherHash, Order::HashCipher];
 }
 
 /// How a job's tag is made.
@@ -83,6 +104,33 @@ pub enum Auth {
     HmacSha384States,
     /// HMAC with SHA-512 from stored states.
     HmacSha512States,
+}
+
+impl Auth {
+    /// Every authentication once, in the order of the codes that C has for them.
+    pub const ALL: [Auth; 21] = [
+        Auth::Null,
+        Auth::HmacSha1,
+        Auth::HmacSha224,
+        Auth::HmacSha256,
+        Auth::HmacSha384,
+        Auth::HmacSha512,
+        Auth::Cmac128,
+        Auth::Cmac256,
+        Auth::Gcm,
+        Auth::Gmac,
+        Auth::Ccm,
+        Auth::Sha1,
+        Auth::Sha224,
+        Auth::Sha256,
+        Auth::Sha384,
+        Auth::Sha512,
+        Auth::HmacSha1States,
+        Auth::HmacSha224States,
+        Auth::HmacSha256States,
+        Auth::HmacSha384States,
+        Auth::HmacSha512States,
+    ];
 }
 
 impl fmt::Display for Auth {

@@ -1,20 +1,20 @@
+//! The limits of a job, and those of each algorithm in a module named for it.
+
 ghost use Rattle.std.specs.Prelude.{◌≡◌};
+
+use ccm::MAX_CCM_AAD_BYTES;
+use gcm::{MAX_AAD_BYTES, MAX_IV_BYTES};
+use hmac::MAX_HMAC_KEY_BYTES;
+
+pub mod cbc;
+pub mod ccm;
+pub mod cmac;
+pub mod ctr;
+pub mod gcm;
+pub mod hmac;
 
 /// The longest packet that a job may have, in bytes.
 pub const MAX_PACKET_BYTES: usize = 65_535;
-
-/// The longest initialization vector that a GCM job may have, in bytes.
-pub const MAX_IV_BYTES: usize = 65_535;
-
-/// The longest additional authenticated data that a GCM job may have, in bytes.
-pub const MAX_AAD_BYTES: usize = 65_535;
-
-/// The longest additional authenticated data that a CCM job may have, in bytes: its length is written in 2 bytes, as it is below
-/// 65,280 (SP 800-38C, A.2.2).
-pub const MAX_CCM_AAD_BYTES: usize = 65_279;
-
-/// The longest key that an HMAC job may have, in bytes.
-pub const MAX_HMAC_KEY_BYTES: usize = 1_024;
 
 /// The longest tag, in bytes: the digest of SHA-512.
 pub const MAX_TAG_BYTES: usize = 64;

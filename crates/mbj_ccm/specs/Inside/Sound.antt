@@ -1,6 +1,7 @@
 -- What holds inside an entry, between calls.
 use Rattle.std.specs.Prelude.{◌≡◌, ◌+◌, ◌≤◌, length}
-use Rattle.mbj_types.specs.declared.limits.TheConstants.{MAX_PACKET_BYTES, MAX_CCM_AAD_BYTES}
+use Rattle.mbj_types.specs.declared.limits.TheConstants.{MAX_PACKET_BYTES}
+use Rattle.mbj_types.specs.declared.limits.ccm.TheConstants.{MAX_CCM_AAD_BYTES}
 use Rattle.mbj_types.specs.Rounds.{ccm_rounds}
 use Rattle.mbj_ccm.specs.Rounds.{CcmState}
 

@@ -2,8 +2,8 @@
 use Rattle.std.proofs.Common.{◌≡◌, ℕ, Bool, true, List, length, Ok, sym, ap, ap₂, ◌∙◌}
 use Rattle.std.proofs.Math.Path.{fun_ext}
 use Rattle.mbj_types.specs.Aes.{aes, encipher}
-use Rattle.mbj_types.specs.Cmac.{first_subkey, second_subkey}
-use Rattle.mbj_c.specs.Direct.{Pair, and_then, is_cmac_key, put_both, wants}
+use Rattle.mbj_types.specs.Cmac.{first_subkey, second_subkey, takes_key}
+use Rattle.mbj_c.specs.Direct.{Pair, and_then, put_both, wants}
 use Rattle.mbj_c.specs.declared.refusal.Refusal.TheVariants.{KeyLength}
 use Rattle.mbj_c.proofs.direct.put_subkeys.Goals as goal
 
@@ -15,7 +15,7 @@ returns-clause-written c =
     let put : List ℕ → List ℕ → Pair = λ f s. (put_both (Ok (f, s)) rooms).1 in
     let said : Bool → Pair = λ t.
     (put_both (and_then (wants t KeyLength) (Ok (first_subkey (aes key), second_subkey (aes key)))) rooms).1 in
-    let taken : is_cmac_key (length key) ≡ true = sym c.is_cmac_key.ensures ∙ c.if-not-is_cmac_key.false in
+    let taken : takes_key (length key) ≡ true = sym c.takes_key.ensures ∙ c.if-not-takes_key.false in
     c.put_two.ensures.written
     ∙ ap₂ put (c.cmac_subkeys-subkeys.ensures.first ∙ ap first_subkey same) (c.cmac_subkeys-subkeys.ensures.second ∙ ap second_subkey same)
     ∙ ap said (sym taken)
