@@ -2,7 +2,7 @@ ghost use Rattle.std.specs.Prelude.{◌≡◌, ℕ, ◌+◌, ◌*◌, ◌/◌, �
 ghost use Rattle.std.specs.Int.{w32, bit_not};
 ghost use Rattle.mbj_types.specs.Lanes.{lane_at, lane_at-lt};
 
-use std::simd::{u32x4, u32x8, u32x16};
+use std::simd::Simd;
 
 /// `LANES` words of 32 bits side by side. Each call works on every lane by itself and none
 /// gives a lane out, so code that is generic over a lane word serves all its lanes at once.
@@ -49,10 +49,11 @@ pub trait Lane32: Copy {
     ghost fits: { (x : Self) (i : ℕ) → lane x i < 2 ^ 32 };
 }
 
-impl Lane32 for u32x4 {
-    ghost LANES = { 4 };
+impl<const N: usize> Lane32 for Simd<u32, N> {
+    // a vector has at most 64 lanes, which its type alone doesn't say
+    ghost LANES = { N % 2 ^ 32 };
 
-    const LANES: u32 = 4;
+    const LANES: u32 = (N & u32::MAX as usize) as u32;
 
     ghost lane = { lane_at 32 };
 
@@ -60,7 +61,7 @@ impl Lane32 for u32x4 {
 
     #[inline(always)]
     fn splat(word: u32) -> Self {
-        u32x4::splat(word)
+        Simd::splat(word)
     }
 
     #[inline(always)]
@@ -85,101 +86,11 @@ impl Lane32 for u32x4 {
 
     #[inline(always)]
     fn shl(self, by: u32) -> Self {
-        self << u32x4::splat(by)
+        self << Simd::splat(by)
     }
 
     #[inline(always)]
     fn shr(self, by: u32) -> Self {
-        self >> u32x4::splat(by)
-    }
-}
-
-impl Lane32 for u32x8 {
-    ghost LANES = { 8 };
-
-    const LANES: u32 = 8;
-
-    ghost lane = { lane_at 32 };
-
-    ghost fits = { lane_at-lt 32 };
-
-    #[inline(always)]
-    fn splat(word: u32) -> Self {
-        u32x8::splat(word)
-    }
-
-    #[inline(always)]
-    fn xored(self, other: Self) -> Self {
-        self ^ other
-    }
-
-    #[inline(always)]
-    fn anded(self, other: Self) -> Self {
-        self & other
-    }
-
-    #[inline(always)]
-    fn inverted(self) -> Self {
-        !self
-    }
-
-    #[inline(always)]
-    fn plus(self, other: Self) -> Self {
-        self + other
-    }
-
-    #[inline(always)]
-    fn shl(self, by: u32) -> Self {
-        self << u32x8::splat(by)
-    }
-
-    #[inline(always)]
-    fn shr(self, by: u32) -> Self {
-        self >> u32x8::splat(by)
-    }
-}
-
-impl Lane32 for u32x16 {
-    ghost LANES = { 16 };
-
-    const LANES: u32 = 16;
-
-    ghost lane = { lane_at 32 };
-
-    ghost fits = { lane_at-lt 32 };
-
-    #[inline(always)]
-    fn splat(word: u32) -> Self {
-        u32x16::splat(word)
-    }
-
-    #[inline(always)]
-    fn xored(self, other: Self) -> Self {
-        self ^ other
-    }
-
-    #[inline(always)]
-    fn anded(self, other: Self) -> Self {
-        self & other
-    }
-
-    #[inline(always)]
-    fn inverted(self) -> Self {
-        !self
-    }
-
-    #[inline(always)]
-    fn plus(self, other: Self) -> Self {
-        self + other
-    }
-
-    #[inline(always)]
-    fn shl(self, by: u32) -> Self {
-        self << u32x16::splat(by)
-    }
-
-    #[inline(always)]
-    fn shr(self, by: u32) -> Self {
-        self >> u32x16::splat(by)
+        self >> Simd::splat(by)
     }
 }

@@ -2,7 +2,7 @@ ghost use Rattle.std.specs.Prelude.{◌≡◌, ℕ, ◌+◌, ◌*◌, ◌/◌, �
 ghost use Rattle.std.specs.Int.{w64, bit_not};
 ghost use Rattle.mbj_types.specs.Lanes.{lane_at, lane_at-lt};
 
-use std::simd::{u64x2, u64x4, u64x8};
+use std::simd::Simd;
 
 /// `LANES` words of 64 bits side by side. Each call works on every lane by itself and none
 /// gives a lane out, so code that is generic over a lane word serves all its lanes at once.
@@ -49,10 +49,11 @@ pub trait Lane64: Copy {
     ghost fits: { (x : Self) (i : ℕ) → lane x i < 2 ^ 64 };
 }
 
-impl Lane64 for u64x2 {
-    ghost LANES = { 2 };
+impl<const N: usize> Lane64 for Simd<u64, N> {
+    // a vector has at most 64 lanes, which its type alone doesn't say
+    ghost LANES = { N % 2 ^ 32 };
 
-    const LANES: u32 = 2;
+    const LANES: u32 = (N & u32::MAX as usize) as u32;
 
     ghost lane = { lane_at 64 };
 
@@ -60,7 +61,7 @@ impl Lane64 for u64x2 {
 
     #[inline(always)]
     fn splat(word: u64) -> Self {
-        u64x2::splat(word)
+        Simd::splat(word)
     }
 
     #[inline(always)]
@@ -85,101 +86,11 @@ impl Lane64 for u64x2 {
 
     #[inline(always)]
     fn shl(self, by: u32) -> Self {
-        self << u64x2::splat(by as u64)
+        self << Simd::splat(by as u64)
     }
 
     #[inline(always)]
     fn shr(self, by: u32) -> Self {
-        self >> u64x2::splat(by as u64)
-    }
-}
-
-impl Lane64 for u64x4 {
-    ghost LANES = { 4 };
-
-    const LANES: u32 = 4;
-
-    ghost lane = { lane_at 64 };
-
-    ghost fits = { lane_at-lt 64 };
-
-    #[inline(always)]
-    fn splat(word: u64) -> Self {
-        u64x4::splat(word)
-    }
-
-    #[inline(always)]
-    fn xored(self, other: Self) -> Self {
-        self ^ other
-    }
-
-    #[inline(always)]
-    fn anded(self, other: Self) -> Self {
-        self & other
-    }
-
-    #[inline(always)]
-    fn inverted(self) -> Self {
-        !self
-    }
-
-    #[inline(always)]
-    fn plus(self, other: Self) -> Self {
-        self + other
-    }
-
-    #[inline(always)]
-    fn shl(self, by: u32) -> Self {
-        self << u64x4::splat(by as u64)
-    }
-
-    #[inline(always)]
-    fn shr(self, by: u32) -> Self {
-        self >> u64x4::splat(by as u64)
-    }
-}
-
-impl Lane64 for u64x8 {
-    ghost LANES = { 8 };
-
-    const LANES: u32 = 8;
-
-    ghost lane = { lane_at 64 };
-
-    ghost fits = { lane_at-lt 64 };
-
-    #[inline(always)]
-    fn splat(word: u64) -> Self {
-        u64x8::splat(word)
-    }
-
-    #[inline(always)]
-    fn xored(self, other: Self) -> Self {
-        self ^ other
-    }
-
-    #[inline(always)]
-    fn anded(self, other: Self) -> Self {
-        self & other
-    }
-
-    #[inline(always)]
-    fn inverted(self) -> Self {
-        !self
-    }
-
-    #[inline(always)]
-    fn plus(self, other: Self) -> Self {
-        self + other
-    }
-
-    #[inline(always)]
-    fn shl(self, by: u32) -> Self {
-        self << u64x8::splat(by as u64)
-    }
-
-    #[inline(always)]
-    fn shr(self, by: u32) -> Self {
-        self >> u64x8::splat(by as u64)
+        self >> Simd::splat(by as u64)
     }
 }

@@ -1,0 +1,10 @@
+use Rattle.std.proofs.Common.{arith}
+use Rattle.std.proofs.lemmas.Simd.{shifts_fit_splat}
+use Rattle.mbj_types.proofs.Vectors.{shl_at}
+use Rattle.mbj_types.proofs.lane64.SimdU64Lane64.shl.Goals as goal
+
+pub overflow_shl-result : goal.overflow_shl-result
+overflow_shl-result g c = shifts_fit_splat 64 c.args.self g.row.N c.args.by c.requires
+
+pub returns : goal.returns
+returns g c i h = shl_at 64 c.args.self g.row.N c.args.by i c.fits-self.0 (omega arith)
