@@ -2,7 +2,6 @@
 ghost use Rattle.std.specs.Prelude.{◌≡◌, ℕ, ◌<◌, ◌≤◌, All, length, map};
 ghost use Rattle.std.specs.Option.{option_map};
 ghost use Rattle.mbj_types.specs.declared.kind.TheConstants.{AES_LANES};
-ghost use Rattle.mbj_aes.specs.Bytes.{IsRoundCount};
 ghost use Rattle.mbj_aes.specs.declared.expansion.TheConstants.{MAX_ROUND_KEYS};
 ghost use Rattle.mbj_aes_lanes.specs.declared.wide.words.TheConstants.{MAX_SCHEDULE_WORDS};
 ghost use Rattle.mbj_lane.specs.Rounds.{after};
@@ -14,35 +13,11 @@ use crate::few_keys::FEW_LANES;
 use crate::few_lanes::{busy_lanes, lead_few};
 use crate::slot::{Slot, rounds_in};
 use crate::slot_keys::expand_lanes;
-use crate::slot_rounds::lead_lanes;
+use crate::slot_rounds::{give_zeros, lead_by};
 use crate::wide::state::{State, zero_state};
 use crate::wide::words::MAX_SCHEDULE_WORDS;
 use mbj_aes::MAX_ROUND_KEYS;
 use mbj_types::{AES_LANES, AesWord, Lane8};
-
-// Leads each entry by `m` blocks in all lanes at once.
-#[inline(always)]
-fn lead_many<E: Chaining, S: Slot<E>>(
-    slots: &mut [S],
-    m: u32,
-    rounds: usize,
-    room: &mut [State<AesWord>],
-    words: &mut [AesWord],
-    chains: &mut State<AesWord>,
-)
-    requires lanes { S.least ≤ length slots.old }
-    requires most { length slots.old ≤ AES_LANES }
-    requires rests { HaveRounds E.rest_of m (S.in_lane slots.old) }
-    requires value { rounds ≡ E.key_rounds }
-    requires rounds { IsRoundCount rounds }
-    requires room { length room.old ≡ MAX_ROUND_KEYS }
-    requires words { length words.old ≡ MAX_SCHEDULE_WORDS }
-    ensures { (i : ℕ) → i < AES_LANES → S.in_lane slots.new i
-        ≡ option_map (after (chained_once E.key_of E.block_of E.chain_of E.led E.kept) m) (S.in_lane slots.old i) }
-{
-    expand_lanes::<E, S>(room, words, rounds, slots);
-    lead_lanes::<E, S>(slots, m, &room[..rounds + 1], chains);
-}
 
 /// Leads each entry by `m` blocks, which it has left. A run over many lanes takes `room` for the round keys of all lanes, `words` for the
 /// schedules from which they are made, and `chains` for the chaining values.
@@ -67,7 +42,10 @@ pub fn lead<E: Chaining, S: Slot<E>>(
         if busy.many <= FEW_LANES {
             lead_few::<E, S>(slots, &busy, m, rounds);
         } else {
-            lead_many::<E, S>(slots, m, rounds, room, words, chains);
+            expand_lanes::<E, S>(room, words, rounds, slots);
+            let keys = &room[..rounds + 1];
+            give_zeros::<E, S>(slots, m, keys);
+            lead_by::<E, S>(slots, m, keys, chains);
         }
     }
 }

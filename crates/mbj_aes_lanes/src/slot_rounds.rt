@@ -98,21 +98,6 @@ fn keep_each<E: Chaining, S: Slot<E>>(slots: &mut [S], chains: &[[u8; 16]; AES_L
     }
 }
 
-// The chaining value of each lane becomes the next one: the block of the lane is chained, under its round keys.
-#[inline(always)]
-fn chain_lanes<B: LaneBlocks>(keys: &[State<AesWord>], blocks: &B, chains: &mut State<AesWord>)
-    requires lanes { AES_LANES ≤ B.lanes_of blocks.now }
-    requires least { 3 ≤ length keys.now }
-    requires even { length keys.now % 2 ≡ 1 }
-    ensures { (i : ℕ) → i < AES_LANES → state_lane (lane_at 8) chains.new i
-        ≡ encipher (schedule_in (lane_at 8) (length keys.now - 1) keys.now i)
-        (xor_lists (B.block_in blocks.now i) (state_lane (lane_at 8) chains.old i)) }
-{
-    let blocks = AesWord::load(blocks);
-    *chains = add_round_key(blocks, *chains);
-    encrypt(&RoundStates { keys }, chains);
-}
-
 // The next block of each entry is chained, all at once. `chains` has the chaining value of each lane, and no entry keeps it.
 #[inline(always)]
 fn pass<E: Chaining, S: Slot<E>>(
@@ -131,20 +116,18 @@ fn pass<E: Chaining, S: Slot<E>>(
     ensures led { (i : ℕ) → i < AES_LANES → S.in_lane slots.new i
         ≡ option_map (λ e. E.led e (state_lane (lane_at 8) chains.new i)) (S.in_lane slots.old i) }
 {
-    chain_lanes(
-        keys,
-        &NextBlocks::<E, S> {
-            slots,
-            of: PhantomData,
-        },
-        chains,
-    );
+    let blocks = AesWord::load(&NextBlocks::<E, S> {
+        slots,
+        of: PhantomData,
+    });
+    *chains = add_round_key(blocks, *chains);
+    encrypt(&RoundStates { keys }, chains);
     lead_each::<E, S>(slots, &blocks_of(chains));
 }
 
-// Leads each entry by `m` blocks, under the round keys of its lane. `chains` takes the chaining values of the lanes.
+/// Leads each entry by `m` blocks, under the round keys of its lane. `chains` takes the chaining values of the lanes.
 #[inline(always)]
-fn lead_by<E: Chaining, S: Slot<E>>(
+pub fn lead_by<E: Chaining, S: Slot<E>>(
     slots: &mut [S],
     m: u32,
     keys: &[State<AesWord>],
@@ -184,9 +167,9 @@ fn zeros_of(keys: &[State<AesWord>]) -> [[u8; 16]; AES_LANES]
     blocks
 }
 
-// Gives each entry the enciphered zero block, where one needs it before it goes on by `m` blocks.
+/// Gives each entry the enciphered zero block, where one needs it before it goes on by `m` blocks.
 #[inline(always)]
-fn give_zeros<E: Chaining, S: Slot<E>>(slots: &mut [S], m: u32, keys: &[State<AesWord>])
+pub fn give_zeros<E: Chaining, S: Slot<E>>(slots: &mut [S], m: u32, keys: &[State<AesWord>])
     requires lanes { S.least ≤ length slots.old }
     requires most { length slots.old ≤ AES_LANES }
     requires least { 3 ≤ length keys.now }
@@ -201,26 +184,4 @@ fn give_zeros<E: Chaining, S: Slot<E>>(slots: &mut [S], m: u32, keys: &[State<Ae
     'lanes: for i in 0..AES_LANES {
         S::take_zero(slots, i, &zeros[i]);
     }
-}
-
-/// Leads each entry by `m` blocks, under the round keys of its lane, after giving each the enciphered zero block where one needs it.
-/// `chains` takes the chaining values of the lanes.
-#[inline(always)]
-pub fn lead_lanes<E: Chaining, S: Slot<E>>(
-    slots: &mut [S],
-    m: u32,
-    keys: &[State<AesWord>],
-    chains: &mut State<AesWord>,
-)
-    requires lanes { S.least ≤ length slots.old }
-    requires most { length slots.old ≤ AES_LANES }
-    requires rests { HaveRounds E.rest_of m (S.in_lane slots.old) }
-    requires least { 3 ≤ length keys.now }
-    requires even { length keys.now % 2 ≡ 1 }
-    requires keys { AreKeyed E.key_of (S.in_lane slots.old) keys.now }
-    ensures { (i : ℕ) → i < AES_LANES → S.in_lane slots.new i
-        ≡ option_map (after (chained_once E.key_of E.block_of E.chain_of E.led E.kept) m) (S.in_lane slots.old i) }
-{
-    give_zeros::<E, S>(slots, m, keys);
-    lead_by::<E, S>(slots, m, keys, chains);
 }
