@@ -98,34 +98,8 @@ fn keep_each<E: Chaining, S: Slot<E>>(slots: &mut [S], chains: &[[u8; 16]; AES_L
     }
 }
 
-// The next block of each entry is chained, all at once. `chains` has the chaining value of each lane, and no entry keeps it.
-#[inline(always)]
-fn pass<E: Chaining, S: Slot<E>>(
-    slots: &mut [S],
-    keys: &[State<AesWord>],
-    chains: &mut State<AesWord>,
-)
-    requires lanes { S.least ≤ length slots.old }
-    requires most { length slots.old ≤ AES_LANES }
-    requires rests { HaveRounds E.rest_of 1 (S.in_lane slots.old) }
-    requires least { 3 ≤ length keys.now }
-    requires even { length keys.now % 2 ≡ 1 }
-    ensures chains { (i : ℕ) → i < AES_LANES → state_lane (lane_at 8) chains.new i
-        ≡ encipher (schedule_in (lane_at 8) (length keys.now - 1) keys.now i)
-        (xor_lists (of_slot E.block_of (S.in_lane slots.old i)) (state_lane (lane_at 8) chains.old i)) }
-    ensures led { (i : ℕ) → i < AES_LANES → S.in_lane slots.new i
-        ≡ option_map (λ e. E.led e (state_lane (lane_at 8) chains.new i)) (S.in_lane slots.old i) }
-{
-    let blocks = AesWord::load(&NextBlocks::<E, S> {
-        slots,
-        of: PhantomData,
-    });
-    *chains = add_round_key(blocks, *chains);
-    encrypt(&RoundStates { keys }, chains);
-    lead_each::<E, S>(slots, &blocks_of(chains));
-}
-
-/// Leads each entry by `m` blocks, under the round keys of its lane. `chains` takes the chaining values of the lanes.
+/// Leads each entry by `m` blocks, under the round keys of its lane. In each pass the next block of every entry is chained, all at once;
+/// `chains` takes the chaining values of the lanes, and the entries keep theirs at the end.
 #[inline(always)]
 pub fn lead_by<E: Chaining, S: Slot<E>>(
     slots: &mut [S],
@@ -147,7 +121,14 @@ pub fn lead_by<E: Chaining, S: Slot<E>>(
         of: PhantomData,
     });
     'passes: for done in 0..m {
-        pass::<E, S>(slots, keys, chains);
+        let blocks = AesWord::load(&NextBlocks::<E, S> {
+            slots,
+            of: PhantomData,
+        });
+        *chains = add_round_key(blocks, *chains);
+        encrypt(&RoundStates { keys }, chains);
+        let led = blocks_of(chains);
+        lead_each::<E, S>(slots, &led);
     }
     keep_each::<E, S>(slots, &blocks_of(chains));
 }

@@ -1,9 +1,12 @@
 -- One round of each entry more is done in each pass, and at the end each entry keeps the chaining value of its lane.
 use Rattle.std.proofs.Common.{◌≡◌, ℕ, ◌+◌, ◌-◌, length, sym, ap, subst, ◌∙◌, arith}
 use Rattle.std.specs.Option.{option_map}
+use Rattle.mbj_types.specs.Aes.{encipher}
+use Rattle.mbj_types.specs.Blocks.{xor_lists}
 use Rattle.mbj_types.specs.Lanes.{lane_at}
 use Rattle.mbj_lane.specs.Rounds.{after}
 use Rattle.mbj_aes_lanes.specs.Chaining.{chained_once}
+use Rattle.mbj_aes_lanes.specs.Inside.Slots.{of_slot}
 use Rattle.mbj_aes_lanes.specs.Inside.Wide.{state_lane}
 use Rattle.mbj_aes_lanes.specs.Inside.WideKeys.{schedule_in}
 use Rattle.mbj_aes_lanes.proofs.Chains.{ChainLaws, IsLed, led-none, led-rest, led-more, led-kept}
@@ -32,8 +35,8 @@ passes-init g c i h =
     led-none e.key_of e.block_of e.chain_of e.rest_of e.led e.kept (laws g) (state_lane (lane_at 8) c.load.result i)
     (g.S.Slot.in_lane c.args.slots.now i) (c.load.ensures i h)
 
-pub pass-requires-clause-rests : goal.pass-requires-clause-rests
-pass-requires-clause-rests g c i x h is =
+pub invariant_of-load-in-passes-clause-rests : goal.invariant_of-load-in-passes-clause-rests
+invariant_of-load-in-passes-clause-rests g c i x h is =
     let e = g.E.Chaining in
     let o = g.S.Slot.in_lane c.args.slots.now i in
     let now = g.S.Slot.in_lane c.passes.slots i in
@@ -45,13 +48,18 @@ pass-requires-clause-rests g c i x h is =
 pub passes-preserved : goal.passes-preserved
 passes-preserved g c i h =
     let e = g.E.Chaining in
+    let lane = state_lane (lane_at 8) in
     let o = g.S.Slot.in_lane c.args.slots.now i in
     let now = g.S.Slot.in_lane c.passes.slots i in
-    let next = state_lane (lane_at 8) c.pass.new.chains i in
+    let next = lane c.encrypt.new.s i in
     let w = schedule_in (lane_at 8) (length c.args.keys.now - 1) c.args.keys.now i in
-    subst (IsLed e.key_of e.block_of e.chain_of e.led e.kept (c.passes.done + 1) next o) (sym (c.pass.ensures.led i h))
-    (led-more e.key_of e.block_of e.chain_of e.rest_of e.led e.kept (laws g) c.passes.done (state_lane (lane_at 8) c.passes.chains i) next w o now
-    (c.requires.keys i h) (c.pass.ensures.chains i h) (c.passes.invariant i h))
+    let chained : next ≡ encipher w (xor_lists (of_slot e.block_of now) (lane c.passes.chains i)) =
+    c.encrypt.ensures i h
+    ∙ ap (encipher w) (c.add_round_key.ensures i h ∙ ap (λ b. xor_lists b (lane c.passes.chains i)) (c.load-blocks.ensures i h)) in
+    let led = c.lead_each.ensures.given i h ∙ ap (λ x. option_map (λ y. e.led y x) now) (c.blocks_of-led.ensures i h) in
+    subst (IsLed e.key_of e.block_of e.chain_of e.led e.kept (c.passes.done + 1) next o) (sym led)
+    (led-more e.key_of e.block_of e.chain_of e.rest_of e.led e.kept (laws g) c.passes.done (lane c.passes.chains i) next w o now
+    (c.requires.keys i h) chained (c.passes.invariant i h))
 
 pub returns : goal.returns
 returns g c i h =
