@@ -6,7 +6,6 @@ ghost use Rattle.mbj_c.specs.State.{new_ranged};
 ghost use Rattle.mbj_c.specs.Filling.{filled, filled_cell, made};
 ghost use Rattle.mbj_c.specs.Giving.{IsDrained, IsTold, answered};
 ghost use Rattle.mbj_c.specs.declared.giving.Call.TheVariants as calls;
-ghost use Rattle.mbj_c.specs.Submitting.{IsSubmitted};
 ghost use Rattle.mbj_c.specs.Counts.{IsCounted, queue_size};
 ghost use Rattle.mbj_c.specs.Inside.Answers.{IsDone};
 
@@ -80,29 +79,6 @@ pub(crate) fn give(
     match handle.take(alloc) {
         Some(mut manager) => {
             let is_given = manager.give(call, out, refusal);
-            handle.put(manager);
-            is_given
-        }
-        None => {
-            *refusal = Refusal::NoManager.code();
-            false
-        }
-    }
-}
-
-/// Fills the first open cell and submits its job, and tells C of it.
-pub(crate) fn submit_job(
-    alloc: Global,
-    handle: &mut Handle,
-    raw: &RawJob<'_>,
-    out: &mut RawDone<'_>,
-    refusal: &mut u32,
-) -> bool
-    ensures { IsSubmitted raw.now handle.old.manager result refusal.new out.old out.new handle.new.manager }
-{
-    match handle.take(alloc) {
-        Some(mut manager) => {
-            let is_given = manager.submit_job(alloc, raw, out, refusal);
             handle.put(manager);
             is_given
         }

@@ -14,7 +14,7 @@ use crate::calls;
 use crate::giving::{Call, RawDone};
 use crate::handle::Handle;
 use crate::job::RawJob;
-use crate::refusal::code;
+use crate::refusal::{Refusal, code};
 use std::alloc::Global;
 
 /// Fills the next job with a copy of C's, in place of what was filled and not submitted. Returns 0, or the code of a
@@ -65,7 +65,17 @@ pub extern "C" fn mbj_c_submit_job(
 ) -> bool
     ensures { IsSubmitted raw.now handle.old.manager result refusal.new out.old out.new handle.new.manager }
 {
-    calls::submit_job(alloc, handle, raw, out, refusal)
+    match handle.take(alloc) {
+        Some(mut manager) => {
+            let is_given = manager.submit_job(alloc, raw, out, refusal);
+            handle.put(manager);
+            is_given
+        }
+        None => {
+            *refusal = Refusal::NoManager.code();
+            false
+        }
+    }
 }
 
 /// Gives the earliest job's result where that is finished, and runs nothing. It returns as `mbj_c_submit` does, but never

@@ -4,7 +4,7 @@ use Rattle.mbj_c.specs.Filling.{filled_at}
 use Rattle.mbj_c.specs.State.{RangedState}
 use Rattle.mbj_c.specs.Submitting.{IsSubmitted, IsSubmittedAs, submitted_in}
 use Rattle.mbj_c.proofs.Submitting.{submitted-some}
-use Rattle.mbj_c.proofs.calls.submit_job.Goals as goal
+use Rattle.mbj_c.proofs.exports.jobs.mbj_c_submit_job.Goals as goal
 
 pub returns-in-Some : goal.returns-in-Some
 returns-in-Some c =
