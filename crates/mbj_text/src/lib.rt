@@ -31,4 +31,5 @@ pub use limits::{INPUT_LIMIT, JOB_LIMIT, files_have_these_limits};
 pub use line::{Part, write_line, write_parts};
 pub use replay::{each_replay_is_one, read_replay};
 pub use text_line::{TextLine, write_lines};
+pub use words::{AUTH_WORDS, CIPHER_WORDS, DIR_WORDS, ORDER_WORDS};
 pub use writing::write_all;

@@ -7,8 +7,8 @@ use crate::field::Field;
 use mbj_types::{Auth, Cipher, Dir, Order};
 use std::alloc::{AllocError, Global};
 
-/// The ciphers, each with its word.
-const CIPHERS: [(&[u8], Cipher); 5] = [
+/// The ciphers, each with its word in a job file.
+pub const CIPHER_WORDS: [(&[u8], Cipher); 5] = [
     (b"null", Cipher::Null),
     (b"cbc", Cipher::Cbc),
     (b"ctr", Cipher::Ctr),
@@ -16,12 +16,17 @@ const CIPHERS: [(&[u8], Cipher); 5] = [
     (b"ccm", Cipher::Ccm),
 ];
 
-const DIRS: [(&[u8], Dir); 2] = [(b"enc", Dir::Enc), (b"dec", Dir::Dec)];
+/// The directions, each with its word in a job file.
+pub const DIR_WORDS: [(&[u8], Dir); 2] = [(b"enc", Dir::Enc), (b"dec", Dir::Dec)];
 
-const ORDERS: [(&[u8], Order); 2] = [(b"ch", Order::CipherHash), (b"hc", Order::HashCipher)];
+/// The orders, each with its word in a job file.
+pub const ORDER_WORDS: [(&[u8], Order); 2] = [
+    (b"ch", Order::CipherHash),
+    (b"hc", Order::HashCipher),
+];
 
-/// The authentications, each with its word.
-const AUTHS: [(&[u8], Auth); 21] = [
+/// The authentications, each with its word in a job file.
+pub const AUTH_WORDS: [(&[u8], Auth); 21] = [
     (b"null", Auth::Null),
     (b"hmac-sha1", Auth::HmacSha1),
     (b"hmac-sha224", Auth::HmacSha224),
@@ -56,7 +61,7 @@ impl Field for Cipher {
     ghost value_of = { cipher_of };
 
     fn read(_alloc: Global, text: &[u8]) -> Result<Option<Cipher>, AllocError> {
-        Ok(lookup(&CIPHERS, text))
+        Ok(lookup(&CIPHER_WORDS, text))
     }
 }
 
@@ -64,7 +69,7 @@ impl Field for Dir {
     ghost value_of = { dir_of };
 
     fn read(_alloc: Global, text: &[u8]) -> Result<Option<Dir>, AllocError> {
-        Ok(lookup(&DIRS, text))
+        Ok(lookup(&DIR_WORDS, text))
     }
 }
 
@@ -72,7 +77,7 @@ impl Field for Order {
     ghost value_of = { order_of };
 
     fn read(_alloc: Global, text: &[u8]) -> Result<Option<Order>, AllocError> {
-        Ok(lookup(&ORDERS, text))
+        Ok(lookup(&ORDER_WORDS, text))
     }
 }
 
@@ -80,7 +85,7 @@ impl Field for Auth {
     ghost value_of = { auth_of };
 
     fn read(_alloc: Global, text: &[u8]) -> Result<Option<Auth>, AllocError> {
-        Ok(lookup(&AUTHS, text))
+        Ok(lookup(&AUTH_WORDS, text))
     }
 }
 
