@@ -1,7 +1,20 @@
 ghost use Rattle.std.specs.Prelude.{◌≡◌, ◌≢◌, ◌↔◌, ◌<◌, ◌≤◌, [], ◌∷◌, ◌++◌, length, All, IfOk, IsTrue, vec_capacity};
 ghost use Rattle.mbj_ring.specs.declared.ring.TheConstants.{CELLS};
+ghost use Rattle.mbj_manager.specs.Inside.Held.{agenda_room};
 
+use mbj_types::Kind;
 use std::alloc::{AllocError, Global};
+
+/// How many jobs stand in agenda and lane queues at most: in each lane queue one fewer than it has lanes, and one that goes on.
+pub(crate) fn agenda_room() -> usize
+    ensures { result ≡ agenda_room }
+{
+    let mut room = 1;
+    'kinds: for kind in Kind::ALL {
+        room += kind.lanes() as usize - 1;
+    }
+    room
+}
 
 /// The jobs that stand between two stages, by their places in the ring: those that go on next.
 #[derive(Drop)]

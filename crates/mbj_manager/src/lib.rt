@@ -9,6 +9,7 @@ mod calls;
 mod cell;
 mod cell_ring;
 mod counts;
+mod first;
 mod lane;
 mod lane_queue;
 mod lane_queues;

@@ -17,16 +17,16 @@ ghost use Rattle.mbj_manager.specs.Machine.Course.{course, flushed, stages_left,
 ghost use Rattle.mbj_manager.specs.State.{after_get_completed, entered, lent, new_manager, with_open, with_open_at, after_get_next_burst, with_blanks, with_open_last};
 ghost use Rattle.mbj_manager.specs.Cells as cell;
 ghost use Rattle.mbj_manager.specs.Cells.{IsFinished, IsOpen, course_in, given_by, job_in};
-ghost use Rattle.mbj_manager.specs.Written.{first_range, first_range_in};
+ghost use Rattle.mbj_manager.specs.Written.{first_range};
 ghost use Rattle.mbj_manager.specs.Lending.{LendsOpenJob};
 ghost use Rattle.mbj_manager.specs.Inside.Added.{first_lane, with_step};
-ghost use Rattle.mbj_manager.specs.Inside.Courses.{AreCourses, courses, first_stage};
-ghost use Rattle.mbj_manager.specs.Inside.Held.{IsHeld, agenda_room, held};
+ghost use Rattle.mbj_manager.specs.Inside.Held.{IsHeld, held};
 ghost use Rattle.mbj_manager.specs.Inside.Steps.{steps_ahead};
 
-use crate::agenda::Agenda;
+use crate::agenda::{Agenda, agenda_room};
 use crate::cell::Cell;
 use crate::cell_ring::CellRing;
+use crate::first::{next_of_first, range_of_first};
 use crate::lane::{Cause, run_nows};
 use crate::lane_queues::LaneQueues;
 use crate::queued::Queued;
@@ -37,17 +37,6 @@ use mbj_stage::Stage;
 use mbj_types::{Done, Job, Kind};
 use std::alloc::{AllocError, Global};
 use std::marker::Model;
-
-/// How many jobs stand in agenda and lane queues at most: in each lane queue one fewer than it has lanes, and one that goes on.
-fn agenda_room() -> usize
-    ensures { result ≡ agenda_room }
-{
-    let mut room = 1;
-    'kinds: for kind in Kind::ALL {
-        room += kind.lanes() as usize - 1;
-    }
-    room
-}
 
 /// The courses of the jobs, those that stand between two stages, and those that wait for lanes.
 #[derive(Drop)]
@@ -72,30 +61,6 @@ impl Model for Works {
     ghost view = { λ w. held w.ring w.agenda.places.items w.queues.value };
 
     ghost invariant = { λ w. IsHeld w.ring w.agenda.places.items w.queues.value (vec_capacity w.agenda.places) };
-}
-
-/// What is next in the earliest course.
-fn next_of_first(ring: &mut CellRing) -> Option<Stage>
-    requires { AreCourses ring.old }
-    ensures same { ring.new ≡ ring.old }
-    ensures stage { result ≡ first_stage (courses ring.old) }
-{
-    match ring.front_mut() {
-        Some(cell) => Some(cell.next_stage()),
-        None => None,
-    }
-}
-
-/// The range that the cipher of the earliest job writes.
-fn range_of_first(ring: &mut CellRing) -> Option<(u32, u32)>
-    requires { AreCourses ring.old }
-    ensures same { ring.new ≡ ring.old }
-    ensures range { result ≡ first_range_in (courses ring.old) }
-{
-    match ring.front_mut() {
-        Some(cell) => Some(cell.range()),
-        None => None,
-    }
 }
 
 /// Does what finishes at once in the course at a place, and goes on: the course joins the lane queue of its next stage, which runs where it

@@ -1,7 +1,7 @@
 use Rattle.std.proofs.Common.{◌≡◌, ◌+◌, ◌-◌, drop, sum_by}
 use Rattle.mbj_types.specs.Kinds.{all_kinds, lanes_of}
 use Rattle.mbj_manager.specs.Inside.Held.{agenda_room}
-use Rattle.mbj_manager.proofs.works.agenda_room.Given as goal
+use Rattle.mbj_manager.proofs.agenda.agenda_room.Given as goal
 
 -- the room so far, and that of the kinds that are left
 abbrev pub invariant-kinds : goal.invariant-kinds

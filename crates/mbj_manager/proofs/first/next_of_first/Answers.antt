@@ -3,7 +3,7 @@ use Rattle.std.proofs.Common.{◌∙◌, Some, ap, sym}
 use Rattle.std.specs.Option.{option_copied_mut}
 use Rattle.mbj_ring.specs.Ring.{ring}
 use Rattle.mbj_manager.proofs.RingCourses.{first-is, first-none, first-set}
-use Rattle.mbj_manager.proofs.works.next_of_first.Goals as goal
+use Rattle.mbj_manager.proofs.first.next_of_first.Goals as goal
 
 pub returns-in-Some-clause-same : goal.returns-in-Some-clause-same
 returns-in-Some-clause-same c =

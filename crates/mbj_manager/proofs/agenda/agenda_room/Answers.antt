@@ -6,7 +6,7 @@ use Rattle.mbj_types.specs.declared.kind.Kind.{Kind}
 use Rattle.mbj_types.specs.declared.kind.Kind.TheVariants as kind
 use Rattle.mbj_types.specs.Kinds.{all_kinds, lanes_of}
 use Rattle.mbj_manager.proofs.Lanes.{some-lanes}
-use Rattle.mbj_manager.proofs.works.agenda_room.Goals as goal
+use Rattle.mbj_manager.proofs.agenda.agenda_room.Goals as goal
 
 pub kinds-preserved : goal.kinds-preserved
 kinds-preserved c =

@@ -4,7 +4,7 @@ use Rattle.std.specs.Option.{option_copied_mut}
 use Rattle.mbj_ring.specs.Ring.{ring}
 use Rattle.mbj_manager.proofs.RingCourses.{first-set}
 use Rattle.mbj_manager.proofs.Writing.{first-range-is, first-range-none}
-use Rattle.mbj_manager.proofs.works.range_of_first.Goals as goal
+use Rattle.mbj_manager.proofs.first.range_of_first.Goals as goal
 
 pub returns-in-Some-clause-same : goal.returns-in-Some-clause-same
 returns-in-Some-clause-same c =
