@@ -182,7 +182,7 @@ impl Works {
         let place = self.ring.commit();
         let (ring, agenda) = (&mut self.ring, &mut self.agenda);
         go_on(ring, &mut self.queues, agenda, place, Cause::Submit);
-        self.settle(Cause::Submit);
+        self.follow_course(Cause::Submit);
         is_expanded
     }
 
@@ -205,12 +205,12 @@ impl Works {
     }
 
     /// Goes on until no job stands between two stages.
-    pub(crate) fn settle(&mut self, cause: Cause)
+    pub(crate) fn follow_course(&mut self, cause: Cause)
         ensures course { self.new ≡ record (self.old) { machine = course cause self.old.machine } }
         ensures idle { self.new.machine.agenda ≡ [] }
         ensures stages { stages_left self.new.machine.left ≤ stages_left self.old.machine.left }
     {
-        'settling: while !self.is_idle() {
+        'following: while !self.is_idle() {
             self.advance(cause);
         }
     }
@@ -250,7 +250,7 @@ impl Works {
                 None => return,
                 Some(kind) => {
                     self.run_first(kind);
-                    self.settle(Cause::Flush);
+                    self.follow_course(Cause::Flush);
                 }
             }
         }

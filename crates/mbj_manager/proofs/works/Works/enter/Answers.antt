@@ -63,6 +63,6 @@ returns-clause-entered c =
     let went = rw c.deref_mut.ensures.value at c.go_on.ensures.step in
     let new : ManagerState = held c.go_on.new.ring c.go_on.new.agenda.places.items c.go_on.new.queues in
     let step : new ≡ with_step cause.Submit (added h.opened h) = went ∙ ap (with_step cause.Submit) is.is in
-    c.settle.ensures.course ∙ ap (λ (g : ManagerState). record g { machine = course cause.Submit g.machine }) step
+    c.follow_course.ensures.course ∙ ap (λ (g : ManagerState). record g { machine = course cause.Submit g.machine }) step
     ∙ entered-stepped h.opened h some (subst (λ (g : ManagerState). IsInCourse g.machine) is.is is.kept.within)
     ∙ ap entered c.self.view_is

@@ -15,14 +15,14 @@ pub flushing-preserved : goal.flushing-preserved
 flushing-preserved c =
     let m = c.flushing.self.machine in
     let ran = c.run_first.ensures.ran in
-    let settled = c.settle.ensures.course in
+    let settled = c.follow_course.ensures.course in
     let kind = sym c.first_kind.ensures.kind ∙ c.in-Some.is in
     let same = ap (λ (h : ManagerState). h.machine) c.first_kind.ensures.same in
-    let machine : c.settle.new.self.machine ≡ course cause.Flush (run_within cause.Flush c.in-Some.kind m)
+    let machine : c.follow_course.new.self.machine ≡ course cause.Flush (run_within cause.Flush c.in-Some.kind m)
     = ap (λ (h : ManagerState). h.machine) settled ∙ ap (course cause.Flush) (ap (λ (h : ManagerState). h.machine) ran ∙ ap (run_within cause.Flush c.in-Some.kind) same) in
     record {
-      reaches = flush-next m c.settle.new.self.machine (flushed c.args.self.now.machine) c.in-Some.kind kind machine
-          (omega (arith, c.settle.ensures.stages, c.run_first.ensures.stages, ap (λ (h : ManagerState). stages_left h.machine.left) c.first_kind.ensures.same))
+      reaches = flush-next m c.follow_course.new.self.machine (flushed c.args.self.now.machine) c.in-Some.kind kind machine
+          (omega (arith, c.follow_course.ensures.stages, c.run_first.ensures.stages, ap (λ (h : ManagerState). stages_left h.machine.left) c.first_kind.ensures.same))
           c.flushing.invariant.reaches;
       owed_is = ap (λ (h : ManagerState). h.owed) settled ∙ ap (λ (h : ManagerState). h.owed) ran
           ∙ ap (λ (h : ManagerState). h.owed) c.first_kind.ensures.same ∙ c.flushing.invariant.owed_is;
@@ -32,7 +32,7 @@ flushing-preserved c =
           ∙ ap (λ (h : ManagerState). h.opened) c.first_kind.ensures.same ∙ c.flushing.invariant.opened_is;
       count_is = ap (λ (h : ManagerState). h.expansions) settled ∙ ap (λ (h : ManagerState). h.expansions) ran
           ∙ ap (λ (h : ManagerState). h.expansions) c.first_kind.ensures.same ∙ c.flushing.invariant.count_is;
-      idle = c.settle.ensures.idle;
+      idle = c.follow_course.ensures.idle;
     }
 
 pub returns-in-None-clause-flushed : goal.returns-in-None-clause-flushed

@@ -2,11 +2,11 @@
 use Rattle.std.proofs.Common.{◌≡◌, ◌≤◌}
 use Rattle.mbj_manager.specs.Machine.Course.{course, stages_left}
 use Rattle.mbj_manager.proofs.Reaching.{Reaches}
-use Rattle.mbj_manager.proofs.works.Works.settle.Given as goal
+use Rattle.mbj_manager.proofs.works.Works.follow_course.Given as goal
 use Rattle.mbj_manager.specs.Inside.Steps.{steps_ahead}
 
-abbrev pub invariant-settling : goal.invariant-settling
-invariant-settling l = record {
+abbrev pub invariant-following : goal.invariant-following
+invariant-following l = record {
   reaches : Reaches l.cause l.self.machine (course l.cause l.initial.self.machine);
   owed_is : l.self.owed ≡ l.initial.self.owed;
   jobs_are : l.self.jobs ≡ l.initial.self.jobs;
@@ -15,5 +15,5 @@ invariant-settling l = record {
   stages : stages_left l.self.machine.left ≤ stages_left l.initial.self.machine.left;
 }
 
-abbrev pub decreases-settling : goal.decreases-settling
-decreases-settling l = steps_ahead l.self.machine
+abbrev pub decreases-following : goal.decreases-following
+decreases-following l = steps_ahead l.self.machine
