@@ -4,7 +4,7 @@ use Rattle.std.specs.Prelude.{if◌then◌else◌}
 use Rattle.mbj_types.specs.declared.job.Job.{Job}
 use Rattle.mbj_types.specs.declared.done.Done.{Done}
 use Rattle.mbj_types.specs.declared.kind.Kind.{Kind}
-use Rattle.mbj_stage.specs.Keys.{expands}
+use Rattle.mbj_stage.specs.Keys.{counts_expansion}
 use Rattle.mbj_stage.specs.Handing.{End}
 use Rattle.mbj_manager.specs.Machine.Stages.{Pending}
 use Rattle.mbj_manager.specs.Machine.Queues.{Waiting}
@@ -35,7 +35,7 @@ entered-count [] h m n = refl
 entered-count (j ∷ js) h m n = refl
 
 -- a key counts once where it is expanded
-pub count-one : (found b : Bool) (o : List Job) → 0 < length o → IfSome (slice_get o 0) (λ j. b ≡ expands found j)
+pub count-one : (found b : Bool) (o : List Job) → 0 < length o → IfSome (slice_get o 0) (λ j. b ≡ counts_expansion found j)
     → (if b then 1 else 0) ≡ expanded_for found o
 count-one found b [] some is = absurd (omega arith)
 count-one found b (j ∷ js) some is = ap (λ (x : Bool). if x then 1 else 0) is

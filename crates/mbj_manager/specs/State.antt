@@ -7,7 +7,7 @@ use Rattle.mbj_types.specs.Result.{result_of}
 use Rattle.mbj_ring.specs.declared.ring.TheConstants.{CELLS}
 use Rattle.mbj_keys.specs.Sessions.{Known, knows_key}
 use Rattle.mbj_stage.specs.CourseState.{begun}
-use Rattle.mbj_stage.specs.Keys.{expands}
+use Rattle.mbj_stage.specs.Keys.{counts_expansion}
 use Rattle.mbj_stage.specs.Handing.{without_packet}
 use Rattle.mbj_manager.specs.Machine.Stages.{Pending, pending}
 use Rattle.mbj_manager.specs.Machine.Queues.{Waiting, Queue, Machine, count_end, idle_queue, queue_for}
@@ -109,7 +109,7 @@ entered h = entered_at h.opened h
 -- how many keys are expanded for the first open job, whose schedule is found or isn't
 abbrev pub expanded_for : Bool → List Job → ℕ
 expanded_for found [] = 0
-expanded_for found (j ∷ js) = if expands found j then 1 else 0
+expanded_for found (j ∷ js) = if counts_expansion found j then 1 else 0
 
 -- the state g, with the key of the job that was the first open one in h counted where it is expanded
 abbrev pub counted : Bool → ManagerState → ManagerState → ManagerState

@@ -4,7 +4,7 @@ ghost use Rattle.mbj_types.specs.Blank.{blank};
 ghost use Rattle.mbj_lane.specs.Rounds.{end_of};
 ghost use Rattle.mbj_keys.specs.Schedules.{IsScheduleOf};
 ghost use Rattle.mbj_stage.specs.CourseState.{begun, owed, stage_of};
-ghost use Rattle.mbj_stage.specs.Keys.{expands};
+ghost use Rattle.mbj_stage.specs.Keys.{counts_expansion};
 ghost use Rattle.mbj_stage.specs.Handing.{IsNext, IsOut, handed_out, taken_back};
 ghost use Rattle.mbj_stage.specs.declared.stage.Stage.TheVariants as stage;
 ghost use Rattle.mbj_manager.specs.Cells as cell;
@@ -35,7 +35,7 @@ impl CellContents {
         requires schedule { IfSome found (λ s. IsScheduleOf self.old.course.job.key s.now) }
         ensures course { self.new.course ≡ begun self.old.course.job }
         ensures going { self.new.is_going ≡ true }
-        ensures expands { result ≡ expands (is_some found.entry) self.old.course.job }
+        ensures expands { result ≡ counts_expansion (is_some found.entry) self.old.course.job }
     {
         self.course.begin_in_place(found);
         self.is_going = true;
@@ -128,7 +128,7 @@ impl Cell {
         requires is_open { IsOpen self.old }
         requires schedule { IfSome found (λ s. IsScheduleOf (job_in self.old).key s.now) }
         ensures begun { self.new ≡ cell.Going (begun (job_in self.old)) }
-        ensures expands { result ≡ expands (is_some found.entry) (job_in self.old) }
+        ensures expands { result ≡ counts_expansion (is_some found.entry) (job_in self.old) }
     {
         let contents = &mut *self.contents;
         contents.begin(found)

@@ -7,7 +7,7 @@ ghost use Rattle.mbj_types.specs.Result.{result_of};
 ghost use Rattle.mbj_ring.specs.declared.ring.TheConstants.{CELLS};
 ghost use Rattle.mbj_keys.specs.Schedules.{IsScheduleOf};
 ghost use Rattle.mbj_stage.specs.CourseState.{begun, owed, stage_of};
-ghost use Rattle.mbj_stage.specs.Keys.{expands};
+ghost use Rattle.mbj_stage.specs.Keys.{counts_expansion};
 ghost use Rattle.mbj_stage.specs.declared.stage.Stage.TheVariants as stage;
 ghost use Rattle.mbj_manager.specs.Machine.Stages.{pending};
 ghost use Rattle.mbj_lane.specs.Rounds.{end_of};
@@ -172,7 +172,7 @@ impl Works {
         requires idle { self.old.machine.agenda ≡ [] }
         requires schedule { IfSome found (λ s. IfSome (slice_get self.old.opened 0) (λ j. IsScheduleOf j.key s.now)) }
         ensures entered { self.new ≡ entered self.old }
-        ensures expands { IfSome (slice_get self.old.opened 0) (λ j. result ≡ expands (is_some found.entry) j) }
+        ensures expands { IfSome (slice_get self.old.opened 0) (λ j. result ≡ counts_expansion (is_some found.entry) j) }
     {
         let is_expanded = match self.ring.open_mut() {
             Some(cell) => cell.begin(found),

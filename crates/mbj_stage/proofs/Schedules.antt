@@ -16,7 +16,7 @@ use Rattle.mbj_keys.specs.Schedules.{IsScheduleOf}
 use Rattle.mbj_stage.specs.declared.stage.Step.{Step}
 use Rattle.mbj_stage.specs.declared.stage.Stage.TheVariants as stage
 use Rattle.mbj_stage.specs.Steps.{cipher_stage_by, cipher_steps, steps_by}
-use Rattle.mbj_stage.specs.Keys.{needs_schedule, wants_schedule}
+use Rattle.mbj_stage.specs.Keys.{needs_schedule, keeps_schedule}
 use Rattle.mbj_stage.specs.Inside.Kept.{IsKeyed, IsNextStep}
 
 -- a schedule enciphers as its key does
@@ -37,7 +37,7 @@ keyed-later j left later schedule keyed is some needs = keyed (none-later left (
 
 -- at the start
 pub keyed-begun : (reason : Option Reason) (j : Job) (left : List Step) (schedule : Option (List ℕ)) → left ≡ steps_by reason j
-    → is_some schedule ≡ wants_schedule reason j.cipher j.dir → IfSome schedule (IsScheduleOf j.key) → IsKeyed j left schedule
+    → is_some schedule ≡ keeps_schedule reason j.cipher j.dir → IfSome schedule (IsScheduleOf j.key) → IsKeyed j left schedule
 keyed-begun None j left None steps wanted is some needs = let bad : false ≡ true = wanted ∙ needs in cc
 keyed-begun None j left (Some schedule) steps wanted is some needs = is
 keyed-begun (Some reason) j left schedule steps wanted is some needs = absurd (some steps)

@@ -23,10 +23,10 @@ needs_schedule cipher.Gcm d = true
 needs_schedule cipher.Ccm d = true
 
 -- the course of a job that is refused for this reason or for none has the schedule
-abbrev pub wants_schedule : Option Reason → Cipher → Dir → Bool
-wants_schedule None c d = needs_schedule c d
-wants_schedule (Some reason) c d = false
+abbrev pub keeps_schedule : Option Reason → Cipher → Dir → Bool
+keeps_schedule None c d = needs_schedule c d
+keeps_schedule (Some reason) c d = false
 
 -- the key of a job is expanded for the job alone: it is used, and its schedule isn't found among the entries of shared keys
-abbrev pub expands : Bool → Job → Bool
-expands found j = uses_key (verdict j) j.cipher && not found
+abbrev pub counts_expansion : Bool → Job → Bool
+counts_expansion found j = uses_key (verdict j) j.cipher && not found

@@ -7,7 +7,7 @@ ghost use Rattle.mbj_keys.specs.Sessions.{AreOf};
 ghost use Rattle.mbj_stage.specs.CourseState.{begun, owed};
 
 use crate::course::Course;
-use crate::keyed::{expanded, wants_schedule};
+use crate::keyed::{expanded, keeps_schedule};
 use mbj_aes::Schedule;
 use mbj_args::check;
 use mbj_keys::{Keys, Notes};
@@ -50,7 +50,7 @@ impl Course {
         ensures { result ≡ begun job }
     {
         let reason = check(&job);
-        if !wants_schedule(reason, &job) {
+        if !keeps_schedule(reason, &job) {
             return Course::start(job, reason, None);
         }
         let schedule = match found {

@@ -6,12 +6,12 @@ ghost use Rattle.mbj_keys.specs.Schedules.{IsScheduleOf};
 ghost use Rattle.mbj_stage.specs.declared.stage.Stage.TheVariants as stage;
 ghost use Rattle.mbj_stage.specs.Steps.{stage_at, steps_in};
 ghost use Rattle.mbj_stage.specs.Inside.Kept.{HasSchedule, IsStepOf};
-ghost use Rattle.mbj_stage.specs.Keys.{needs_schedule, uses_key, wants_schedule};
+ghost use Rattle.mbj_stage.specs.Keys.{needs_schedule, uses_key, keeps_schedule};
 ghost use Rattle.mbj_stage.specs.CourseState.{IsIdle, stage_of, begun, packet_after, tag_after, ran, status_of, owed};
 
 mod handing;
 
-use crate::keyed::{at_hand, expanded, uses_key, wants_schedule};
+use crate::keyed::{at_hand, expanded, keeps_schedule, uses_key};
 use crate::lengths::{Lengths, lengths_of};
 use crate::stage::{Stage, Step, Steps, stage_of_step, steps_by};
 use crate::{ccm, cipher, gcm, gmac};
@@ -136,10 +136,10 @@ fn keep_schedule(
 )
     requires reason { reason ≡ verdict job.now }
     requires found { IfSome found (λ s. IsScheduleOf job.now.key s.now) }
-    ensures wanted { is_some kept.new ≡ wants_schedule reason job.now.cipher job.now.dir }
+    ensures wanted { is_some kept.new ≡ keeps_schedule reason job.now.cipher job.now.dir }
     ensures schedule { IfSome kept.new (IsScheduleOf job.now.key) }
 {
-    if !wants_schedule(reason, job) {
+    if !keeps_schedule(reason, job) {
         forget(kept);
         return;
     }
@@ -183,7 +183,7 @@ impl Course {
     /// needs one.
     pub(crate) fn start(job: Job, reason: Option<Reason>, schedule: Option<Schedule>) -> Course
         requires reason { reason ≡ verdict job }
-        requires wanted { is_some schedule ≡ wants_schedule reason job.cipher job.dir }
+        requires wanted { is_some schedule ≡ keeps_schedule reason job.cipher job.dir }
         requires schedule { IfSome schedule (IsScheduleOf job.key) }
         ensures { result ≡ begun job }
     {

@@ -5,7 +5,7 @@ ghost use Rattle.std.specs.Bool.{OnTrue};
 ghost use Rattle.mbj_types.specs.Verdict.{verdict};
 ghost use Rattle.mbj_aes.specs.Bytes.{IsKeySize};
 ghost use Rattle.mbj_keys.specs.Schedules.{IsScheduleOf};
-ghost use Rattle.mbj_stage.specs.Keys.{needs_schedule, uses_key, wants_schedule};
+ghost use Rattle.mbj_stage.specs.Keys.{needs_schedule, uses_key, keeps_schedule};
 ghost use Rattle.mbj_stage.specs.Inside.Kept.{HasSchedule};
 
 use mbj_aes::Schedule;
@@ -32,9 +32,9 @@ fn needs_schedule(job: &Job) -> bool
 }
 
 /// Whether the job needs the schedule, where it is refused for this reason or for none.
-pub(crate) fn wants_schedule(reason: Option<Reason>, job: &Job) -> bool
+pub(crate) fn keeps_schedule(reason: Option<Reason>, job: &Job) -> bool
     requires { reason ≡ verdict job.now }
-    ensures wants { result ≡ wants_schedule reason job.now.cipher job.now.dir }
+    ensures wants { result ≡ keeps_schedule reason job.now.cipher job.now.dir }
     ensures size { OnTrue result (IsKeySize (length job.now.key)) }
 {
     match reason {

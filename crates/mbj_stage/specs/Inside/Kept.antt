@@ -13,7 +13,7 @@ use Rattle.mbj_stage.specs.declared.stage.Step.{Step}
 use Rattle.mbj_stage.specs.declared.stage.Step.TheVariants as step
 use Rattle.mbj_stage.specs.Steps.{auth_steps, cipher_steps, stage_at}
 use Rattle.mbj_stage.specs.CourseState.{lengths_of, sized}
-use Rattle.mbj_stage.specs.Keys.{needs_schedule, wants_schedule}
+use Rattle.mbj_stage.specs.Keys.{needs_schedule, keeps_schedule}
 
 -- the step is one of the job's
 abbrev pub IsStepOf : Job → Step → Type 0
@@ -59,4 +59,4 @@ IsKeyed j left schedule = left ≢ [] → needs_schedule j.cipher j.dir ≡ true
 pub record IsKept (j : Job) (reason : Option Reason) (left : List Step) (out : Option ℕ) (n : Lengths) (schedule : Option (List ℕ)) : Type 0 where
   pub sound : IsSound j left out n
   pub keyed : IsKeyed j left schedule
-  pub wanted : is_some schedule ≡ wants_schedule reason j.cipher j.dir
+  pub wanted : is_some schedule ≡ keeps_schedule reason j.cipher j.dir

@@ -3,7 +3,7 @@ use Rattle.std.proofs.Common.{◌≡◌, ◌∙◌, Bool, true, false, refl, ap,
 use Rattle.std.specs.Prelude.{is_some}
 use Rattle.mbj_types.specs.declared.job.Job.{Job}
 use Rattle.mbj_stage.specs.CourseState.{CourseState, begun}
-use Rattle.mbj_stage.specs.Keys.{expands}
+use Rattle.mbj_stage.specs.Keys.{counts_expansion}
 use Rattle.mbj_manager.specs.Cells as cell
 use Rattle.mbj_manager.specs.Cells.{Cell, IsOpen, cell_by, job_in}
 use Rattle.mbj_manager.proofs.cell.Cell.begin.Goals as goal
@@ -34,4 +34,4 @@ returns-clause-expands c =
     let was = c.self.inside.contents.value in
     let job = ap (λ x. x.course.job) c.deref_mut-contents.ensures.value
     ∙ job-is was.is_going was.course.job was.course c.args.self.now c.self.view_is c.requires.is_open in
-    c.begin.ensures.expands ∙ ap (expands (is_some c.args.found)) job
+    c.begin.ensures.expands ∙ ap (counts_expansion (is_some c.args.found)) job

@@ -8,7 +8,7 @@ use Rattle.mbj_stage.specs.declared.stage.Stage.TheVariants as stage
 use Rattle.mbj_stage.specs.declared.stage.Step.{Step}
 use Rattle.mbj_stage.specs.declared.stage.Steps.{Steps}
 use Rattle.mbj_stage.specs.Steps.{stage_at, steps_in}
-use Rattle.mbj_stage.specs.Keys.{wants_schedule}
+use Rattle.mbj_stage.specs.Keys.{keeps_schedule}
 use Rattle.mbj_stage.specs.Inside.Kept.{IsKept, IsStepOf, IsSound, has_texts, packet_length}
 use Rattle.mbj_stage.specs.CourseState.{CourseState, packet_after, ran, stage_of}
 use Rattle.mbj_stage.proofs.HandingOut.{here-accepted}
@@ -72,7 +72,7 @@ pub invariant_of-self : goal.invariant_of-self
 invariant_of-self c = record {
   sound = sound_finished c.run_step_in.new.job [] c.self.inside.out c.self.inside.lengths refl;
   keyed = λ some _. absurd (some refl);
-  wanted = c.self.invariant.wanted ∙ ap (λ (j : Job). wants_schedule c.self.inside.reason j.cipher j.dir) (sym c.run_step_in.ensures.job);
+  wanted = c.self.invariant.wanted ∙ ap (λ (j : Job). keeps_schedule c.self.inside.reason j.cipher j.dir) (sym c.run_step_in.ensures.job);
 }
 
 pub invariant_of-self-in-Two : goal.invariant_of-self-in-Two
