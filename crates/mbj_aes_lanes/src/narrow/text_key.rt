@@ -1,13 +1,11 @@
-ghost use Rattle.std.specs.Prelude.{◌≡◌, ℕ, ◌<◌, ◌≤◌, [], length, slice_index_or};
+ghost use Rattle.std.specs.Prelude.{◌≡◌, ℕ, ◌<◌, [], length, slice_index_or};
 ghost use Rattle.mbj_types.specs.Aes.{encipher};
-ghost use Rattle.mbj_types.specs.declared.kind.TheConstants.{AES_LANES};
 
 use crate::narrow::by_fours::{ByFours, change_each};
 use crate::narrow::cipher::encrypt_all;
 use crate::narrow::laid_keys::laid_keys;
 use crate::narrow::schedules::Schedules;
 use mbj_aes::{BlockWord, MAX_ROUND_KEYS, Schedule};
-use mbj_types::AES_LANES;
 use std::marker::Model;
 use std::simd::u8x32;
 
@@ -94,16 +92,5 @@ impl TextKey {
     {
         let _ = &self.keys;
         change_each(self, blocks);
-    }
-
-    /// Encrypts the first `many` blocks, which are at most `AES_LANES`: CIPHER (FIPS 197, 5.1). The blocks behind them are unspecified
-    /// afterwards. It takes no memory.
-    pub fn encrypt_first(&self, blocks: &mut [[u8; 16]; AES_LANES], many: usize)
-        requires { many ≤ AES_LANES }
-        ensures each { (i : ℕ) → i < many
-            → slice_index_or blocks.new i [] ≡ encipher self.now (slice_index_or blocks.old i []) }
-        ensures lengths { (i : ℕ) → i < many → length (slice_index_or blocks.new i []) ≡ 16 }
-    {
-        self.encrypt(&mut blocks[..many]);
     }
 }
