@@ -2,7 +2,6 @@
 //! blocks under keys of their own go one in each lane (`wide`), and few of them, or the blocks of one text, whole in registers (`narrow`).
 #![tactic(auto)]
 
-mod block_row;
 mod blocks;
 mod chaining;
 mod few_keys;

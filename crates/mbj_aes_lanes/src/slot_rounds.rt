@@ -12,11 +12,11 @@ ghost use Rattle.mbj_aes_lanes.specs.Inside.Slots.{of_slot, HaveRounds, AreKeyed
 ghost use Rattle.mbj_aes_lanes.specs.Inside.Wide.{state_lane};
 ghost use Rattle.mbj_aes_lanes.specs.Inside.WideKeys.{schedule_in};
 
+use crate::blocks::{load_state, store_state};
 use crate::chaining::Chaining;
 use crate::lane_blocks::{Blocks, LaneBlocks};
 use crate::slot::{Slot, block_in, chain_in, is_zero_wanted};
 use crate::wide::lane_schedules::RoundStates;
-use crate::wide::pass_word::PassWord;
 use crate::wide::rounds::encrypt;
 use crate::wide::state::{State, add_round_key};
 use mbj_types::{AES_LANES, AesWord, BLOCK_BYTES};
@@ -69,7 +69,7 @@ fn blocks_of(s: &State<AesWord>) -> [[u8; 16]; AES_LANES]
     ensures { (i : ℕ) → i < AES_LANES → slice_index_or result i [] ≡ state_lane (lane_at 8) s.now i }
 {
     let mut blocks = [[0; BLOCK_BYTES]; AES_LANES];
-    AesWord::store(&mut blocks, s);
+    store_state(&mut blocks, s);
     blocks
 }
 
@@ -116,12 +116,12 @@ pub fn lead_by<E: Chaining, S: Slot<E>>(
     ensures { (i : ℕ) → i < AES_LANES → S.in_lane slots.new i
         ≡ option_map (after (chained_once E.key_of E.block_of E.chain_of E.led E.kept) m) (S.in_lane slots.old i) }
 {
-    *chains = AesWord::load(&Chains::<E, S> {
+    *chains = load_state(&Chains::<E, S> {
         slots,
         of: PhantomData,
     });
     'passes: for done in 0..m {
-        let blocks = AesWord::load(&NextBlocks::<E, S> {
+        let blocks = load_state(&NextBlocks::<E, S> {
             slots,
             of: PhantomData,
         });
@@ -142,9 +142,9 @@ fn zeros_of(keys: &[State<AesWord>]) -> [[u8; 16]; AES_LANES]
         → slice_index_or result i [] ≡ encipher (schedule_in (lane_at 8) (length keys.now - 1) keys.now i) zero_block }
 {
     let mut blocks = [[0; BLOCK_BYTES]; AES_LANES];
-    let mut state = AesWord::load(&Blocks { blocks: &blocks });
+    let mut state = load_state(&Blocks { blocks: &blocks });
     encrypt(&RoundStates { keys }, &mut state);
-    AesWord::store(&mut blocks, &state);
+    store_state(&mut blocks, &state);
     blocks
 }
 

@@ -9,7 +9,6 @@ pub mod lane_keys;
 pub mod lane_schedules;
 pub mod lanes;
 pub mod masks;
-pub mod pass_word;
 pub mod rounds;
 pub mod schedules;
 pub mod state;

@@ -2,11 +2,11 @@ ghost use Rattle.std.specs.Prelude.{◌≡◌, ℕ, ◌<◌, [], length, slice_i
 ghost use Rattle.mbj_types.specs.Aes.{encipher, decipher};
 ghost use Rattle.mbj_aes_lanes.specs.KeyLanes.{IsFull, schedule_at};
 
+use crate::blocks::{load_state, store_state};
 use crate::lane_blocks::Blocks;
 use crate::wide::decryption::decrypt;
 use crate::wide::lane_keys::LaneKeys;
 use crate::wide::lane_schedules::RoundStates;
-use crate::wide::pass_word::PassWord;
 use crate::wide::rounds::encrypt;
 use mbj_types::{AES_LANES, AesWord};
 
@@ -18,12 +18,12 @@ pub fn encrypt32(keys: &LaneKeys, blocks: &mut [[u8; 16]; AES_LANES])
         ≡ encipher (schedule_at keys.now i) (slice_index_or blocks.old i []) }
     ensures lengths { (i : ℕ) → i < AES_LANES → length (slice_index_or blocks.new i []) ≡ 16 }
 {
-    let mut state = AesWord::load(&Blocks { blocks });
+    let mut state = load_state(&Blocks { blocks });
     let keys = RoundStates {
         keys: keys.round_keys(),
     };
     encrypt(&keys, &mut state);
-    AesWord::store(blocks, &state);
+    store_state(blocks, &state);
 }
 
 /// Decrypts the block in each lane by the schedule that was put there: INVCIPHER (FIPS 197, 5.3). It takes no memory. Only tests and the
@@ -34,10 +34,10 @@ pub fn decrypt32(keys: &LaneKeys, blocks: &mut [[u8; 16]; AES_LANES])
         ≡ decipher (schedule_at keys.now i) (slice_index_or blocks.old i []) }
     ensures lengths { (i : ℕ) → i < AES_LANES → length (slice_index_or blocks.new i []) ≡ 16 }
 {
-    let mut state = AesWord::load(&Blocks { blocks });
+    let mut state = load_state(&Blocks { blocks });
     let keys = RoundStates {
         keys: keys.round_keys(),
     };
     decrypt(&keys, &mut state);
-    AesWord::store(blocks, &state);
+    store_state(blocks, &state);
 }

@@ -1,6 +1,7 @@
 //! Keys in lanes, whose schedules are made in lane words and become round keys as states.
 ghost use Rattle.std.specs.Prelude.{◌≡◌, ℕ, ◌+◌, ◌-◌, ◌*◌, ◌<◌, ◌≤◌, [], length, take, drop, ◌++◌, slice_index_or};
 ghost use Rattle.mbj_types.specs.Aes.{key_schedule};
+ghost use Rattle.mbj_types.specs.Lanes.{lane_at};
 ghost use Rattle.mbj_types.specs.declared.kind.TheConstants.{AES_LANES};
 ghost use Rattle.mbj_aes.specs.Bytes.{IsRoundCount};
 ghost use Rattle.mbj_aes_lanes.specs.KeyBytes.{IsKeyArray, key_of_array};
@@ -11,10 +12,9 @@ use crate::blocks::words_of;
 use crate::lane_blocks::LaneBlocks;
 use crate::wide::expansion::{EXTRA_KEYS, expand_words};
 use crate::wide::key_states::{key_at_tower, to_tower};
-use crate::wide::pass_word::PassWord;
 use crate::wide::state::State;
 use crate::wide::words::{MAX_SCHEDULE_WORDS, put_state, state_at};
-use mbj_types::{AES_LANES, BLOCK_BYTES, Lane8};
+use mbj_types::{AES_LANES, AesWord, BLOCK_BYTES, Lane8};
 
 /// Writes the round keys of the schedules, 16 lane words for each, which are in the tower's basis.
 #[inline(always)]
@@ -51,10 +51,10 @@ impl LaneBlocks for KeyHalves<'_> {
 
 // The block of each lane, in the tower's basis.
 #[inline(always)]
-fn put_in_tower<V: PassWord, B: LaneBlocks>(words: &mut [V], blocks: &B)
+fn put_in_tower<B: LaneBlocks>(words: &mut [AesWord], blocks: &B)
     requires room { length words.old ≡ 16 }
-    requires lanes { V.LANES ≤ B.lanes_of blocks.now }
-    ensures { (i : ℕ) → i < V.LANES → tower_lane V.lane words.new i ≡ B.block_in blocks.now i }
+    requires lanes { AES_LANES ≤ B.lanes_of blocks.now }
+    ensures { (i : ℕ) → i < AES_LANES → tower_lane (lane_at 8) words.new i ≡ B.block_in blocks.now i }
 {
     words_of(words, blocks);
     let state = to_tower(state_at(words, 0));
@@ -63,12 +63,12 @@ fn put_in_tower<V: PassWord, B: LaneBlocks>(words: &mut [V], blocks: &B)
 
 // The half of each key that begins at `start` goes into the words from there on, in the tower's basis.
 #[inline(always)]
-fn load_half<V: PassWord>(words: &mut [V], bytes: &[[u8; 32]; AES_LANES], start: usize)
+fn load_half(words: &mut [AesWord], bytes: &[[u8; 32]; AES_LANES], start: usize)
     requires within { start + 16 ≤ 32 }
     requires room { start + 16 ≤ length words.old }
-    ensures { (i : ℕ) → i < V.LANES → tower_lane V.lane words.new i
-        ≡ take start (tower_lane V.lane words.old i) ++ take 16 (drop start (slice_index_or bytes.now i []))
-        ++ drop (start + 16) (tower_lane V.lane words.old i) }
+    ensures { (i : ℕ) → i < AES_LANES → tower_lane (lane_at 8) words.new i
+        ≡ take start (tower_lane (lane_at 8) words.old i) ++ take 16 (drop start (slice_index_or bytes.now i []))
+        ++ drop (start + 16) (tower_lane (lane_at 8) words.old i) }
 {
     let half = KeyHalves { keys: bytes, start };
     put_in_tower(&mut words[start..start + BLOCK_BYTES], &half);
@@ -76,10 +76,10 @@ fn load_half<V: PassWord>(words: &mut [V], bytes: &[[u8; 32]; AES_LANES], start:
 
 // The keys go into the first words, in the tower's basis.
 #[inline(always)]
-fn load_keys<V: PassWord>(words: &mut [V], bytes: &[[u8; 32]; AES_LANES])
+fn load_keys(words: &mut [AesWord], bytes: &[[u8; 32]; AES_LANES])
     requires { length words.old ≡ MAX_SCHEDULE_WORDS }
-    ensures { (i : ℕ) → i < V.LANES → length (slice_index_or bytes.now i []) ≡ 32
-        → tower_lane V.lane words.new i ≡ slice_index_or bytes.now i [] ++ drop 32 (tower_lane V.lane words.old i) }
+    ensures { (i : ℕ) → i < AES_LANES → length (slice_index_or bytes.now i []) ≡ 32
+        → tower_lane (lane_at 8) words.new i ≡ slice_index_or bytes.now i [] ++ drop 32 (tower_lane (lane_at 8) words.old i) }
 {
     load_half(words, bytes, 0);
     load_half(words, bytes, BLOCK_BYTES);
@@ -87,15 +87,15 @@ fn load_keys<V: PassWord>(words: &mut [V], bytes: &[[u8; 32]; AES_LANES])
 
 /// Writes the round keys of the key in each lane. The words take the schedules, and what stands there isn't looked at.
 #[inline(always)]
-pub fn expand_keys<V: PassWord>(
-    keys: &mut [State<V>],
+pub fn expand_keys(
+    keys: &mut [State<AesWord>],
     bytes: &[[u8; 32]; AES_LANES],
-    words: &mut [V],
+    words: &mut [AesWord],
 )
     requires rounds { IsRoundCount (length keys.old - 1) }
     requires room { length words.old ≡ MAX_SCHEDULE_WORDS }
-    ensures { (i : ℕ) → i < V.LANES → IsKeyArray (length keys.old - 1) (slice_index_or bytes.now i [])
-        → schedule_in V.lane (length keys.old - 1) keys.new i
+    ensures { (i : ℕ) → i < AES_LANES → IsKeyArray (length keys.old - 1) (slice_index_or bytes.now i [])
+        → schedule_in (lane_at 8) (length keys.old - 1) keys.new i
         ≡ key_schedule (key_of_array (length keys.old - 1) (slice_index_or bytes.now i [])) }
 {
     load_keys(words, bytes);

@@ -1,8 +1,8 @@
 -- Each row is half of two rows in turn.
-use Rattle.std.proofs.Common.{◌≡◌, ℕ, ◌+◌, ◌*◌, ◌/◌, ◌%◌, List, [], ◌∷◌, length, slice_index, ap, ◌∙◌, arith, zero, suc, ◌<◌, slice_set, refl}
-use Rattle.mbj_aes_lanes.specs.Inside.Matrix.{byte_at_row}
-use Rattle.mbj_aes_lanes.proofs.ByteMatrices.{lower_byte, upper_byte}
-use Rattle.mbj_types.specs.Lanes.{lane_of}
+use Rattle.std.proofs.Common.{◌≡◌, ℕ, ◌+◌, ◌*◌, ◌/◌, ◌%◌, List, [], ◌∷◌, length, slice_index, ap, ◌∙◌, arith, zero, suc, ◌<◌, slice_set, get_or, refl}
+use Rattle.mbj_aes_lanes.specs.Inside.Matrix.{byte_at_row, in_turn}
+use Rattle.mbj_aes_lanes.proofs.ByteMatrices.{byte_in_turn}
+use Rattle.mbj_types.specs.Lanes.{lane_at, lane_of}
 use Rattle.mbj_aes_lanes.proofs.blocks.shuffle.Goals as goal
 
 at_each_place : (P : ℕ → Type 0) → P 0 → P 1 → P 2 → P 3 → P 4 → P 5 → P 6 → P 7 → P 8 → P 9 → P 10 → P 11 → P 12 → P 13 → P 14 → P 15 → (t : ℕ) → t < 16 → P t
@@ -33,45 +33,28 @@ lane_of-written lane (x0 ∷ x1 ∷ x2 ∷ x3 ∷ x4 ∷ x5 ∷ x6 ∷ x7 ∷ x8
 lane_of-written lane words v0 v1 v2 v3 v4 v5 v6 v7 v8 v9 v10 v11 v12 v13 v14 v15 i h = absurd (omega arith)
 
 pub returns : goal.returns
-returns g c j h k hj hg hk =
-    let lane = g.V.Lane8.lane in
+returns c j h k hj hg hk =
+    let lane : List ℕ → ℕ → ℕ = lane_at 8 in
     let rows = c.args.rows.now in
     let size : length rows ≡ 16 = c.requires in
     let i : ℕ = 16 * h + k in
     let written = lane_of-written lane rows c.lower_in_turn.result c.upper_in_turn.result c.lower_in_turn-2.result c.upper_in_turn-2.result c.lower_in_turn-3.result c.upper_in_turn-3.result c.lower_in_turn-4.result c.upper_in_turn-4.result c.lower_in_turn-5.result c.upper_in_turn-5.result c.lower_in_turn-6.result c.upper_in_turn-6.result c.lower_in_turn-7.result c.upper_in_turn-7.result c.lower_in_turn-8.result c.upper_in_turn-8.result i size in
     let after : List ℕ = lane c.lower_in_turn.result i ∷ lane c.upper_in_turn.result i ∷ lane c.lower_in_turn-2.result i ∷ lane c.upper_in_turn-2.result i ∷ lane c.lower_in_turn-3.result i ∷ lane c.upper_in_turn-3.result i ∷ lane c.lower_in_turn-4.result i ∷ lane c.upper_in_turn-4.result i ∷ lane c.lower_in_turn-5.result i ∷ lane c.upper_in_turn-5.result i ∷ lane c.lower_in_turn-6.result i ∷ lane c.upper_in_turn-6.result i ∷ lane c.lower_in_turn-7.result i ∷ lane c.upper_in_turn-7.result i ∷ lane c.lower_in_turn-8.result i ∷ lane c.upper_in_turn-8.result i ∷ [] in
+    let lower : (m : ℕ) (v : List ℕ) → m < 8 → lane v i ≡ lane (in_turn (get_or rows m []) (get_or rows (m + 8) []) k) (16 * h + k / 2)
+    → lane v i ≡ byte_at_row lane rows (m + 8 * (k % 2)) (16 * h + (0 + k / 2)) = λ m v below e.
+    let place : 16 * h + k / 2 ≡ 16 * h + (0 + k / 2) = omega arith in
+    e ∙ byte_in_turn lane rows m k (16 * h + k / 2) [] below size ∙ ap (byte_at_row lane rows (m + 8 * (k % 2))) place in
+    let upper : (m : ℕ) (v : List ℕ) → m < 8 → lane v i ≡ lane (in_turn (get_or rows m []) (get_or rows (m + 8) []) k) (16 * h + (8 + k / 2))
+    → lane v i ≡ byte_at_row lane rows (m + 8 * (k % 2)) (16 * h + (8 + k / 2)) = λ m v below e.
+    e ∙ byte_in_turn lane rows m k (16 * h + (8 + k / 2)) [] below size in
     ap (λ xs. slice_index xs j) written
     ∙ at_each_place (λ j. slice_index after j ≡ byte_at_row lane rows (j / 2 + 8 * (k % 2)) (16 * h + (8 * (j % 2) + k / 2)))
-    (lower_byte lane rows 0 h k c.index-rows-0.result c.index-rows-8.result c.lower_in_turn.result (omega arith) size
-    c.index-rows-0.is c.index-rows-8.is (c.lower_in_turn.ensures h k hg hk))
-    (upper_byte lane rows 0 h k c.index-rows-0.result c.index-rows-8.result c.upper_in_turn.result (omega arith) size
-    c.index-rows-0.is c.index-rows-8.is (c.upper_in_turn.ensures h k hg hk))
-    (lower_byte lane rows 1 h k c.index-rows-1.result c.index-rows-9.result c.lower_in_turn-2.result (omega arith) size
-    c.index-rows-1.is c.index-rows-9.is (c.lower_in_turn-2.ensures h k hg hk))
-    (upper_byte lane rows 1 h k c.index-rows-1.result c.index-rows-9.result c.upper_in_turn-2.result (omega arith) size
-    c.index-rows-1.is c.index-rows-9.is (c.upper_in_turn-2.ensures h k hg hk))
-    (lower_byte lane rows 2 h k c.index-rows-2.result c.index-rows-10.result c.lower_in_turn-3.result (omega arith) size
-    c.index-rows-2.is c.index-rows-10.is (c.lower_in_turn-3.ensures h k hg hk))
-    (upper_byte lane rows 2 h k c.index-rows-2.result c.index-rows-10.result c.upper_in_turn-3.result (omega arith) size
-    c.index-rows-2.is c.index-rows-10.is (c.upper_in_turn-3.ensures h k hg hk))
-    (lower_byte lane rows 3 h k c.index-rows-3.result c.index-rows-11.result c.lower_in_turn-4.result (omega arith) size
-    c.index-rows-3.is c.index-rows-11.is (c.lower_in_turn-4.ensures h k hg hk))
-    (upper_byte lane rows 3 h k c.index-rows-3.result c.index-rows-11.result c.upper_in_turn-4.result (omega arith) size
-    c.index-rows-3.is c.index-rows-11.is (c.upper_in_turn-4.ensures h k hg hk))
-    (lower_byte lane rows 4 h k c.index-rows-4.result c.index-rows-12.result c.lower_in_turn-5.result (omega arith) size
-    c.index-rows-4.is c.index-rows-12.is (c.lower_in_turn-5.ensures h k hg hk))
-    (upper_byte lane rows 4 h k c.index-rows-4.result c.index-rows-12.result c.upper_in_turn-5.result (omega arith) size
-    c.index-rows-4.is c.index-rows-12.is (c.upper_in_turn-5.ensures h k hg hk))
-    (lower_byte lane rows 5 h k c.index-rows-5.result c.index-rows-13.result c.lower_in_turn-6.result (omega arith) size
-    c.index-rows-5.is c.index-rows-13.is (c.lower_in_turn-6.ensures h k hg hk))
-    (upper_byte lane rows 5 h k c.index-rows-5.result c.index-rows-13.result c.upper_in_turn-6.result (omega arith) size
-    c.index-rows-5.is c.index-rows-13.is (c.upper_in_turn-6.ensures h k hg hk))
-    (lower_byte lane rows 6 h k c.index-rows-6.result c.index-rows-14.result c.lower_in_turn-7.result (omega arith) size
-    c.index-rows-6.is c.index-rows-14.is (c.lower_in_turn-7.ensures h k hg hk))
-    (upper_byte lane rows 6 h k c.index-rows-6.result c.index-rows-14.result c.upper_in_turn-7.result (omega arith) size
-    c.index-rows-6.is c.index-rows-14.is (c.upper_in_turn-7.ensures h k hg hk))
-    (lower_byte lane rows 7 h k c.index-rows-7.result c.index-rows-15.result c.lower_in_turn-8.result (omega arith) size
-    c.index-rows-7.is c.index-rows-15.is (c.lower_in_turn-8.ensures h k hg hk))
-    (upper_byte lane rows 7 h k c.index-rows-7.result c.index-rows-15.result c.upper_in_turn-8.result (omega arith) size
-    c.index-rows-7.is c.index-rows-15.is (c.upper_in_turn-8.ensures h k hg hk))
+    (lower 0 c.lower_in_turn.result (omega arith) (c.lower_in_turn.ensures h k hg hk)) (upper 0 c.upper_in_turn.result (omega arith) (c.upper_in_turn.ensures h k hg hk))
+    (lower 1 c.lower_in_turn-2.result (omega arith) (c.lower_in_turn-2.ensures h k hg hk)) (upper 1 c.upper_in_turn-2.result (omega arith) (c.upper_in_turn-2.ensures h k hg hk))
+    (lower 2 c.lower_in_turn-3.result (omega arith) (c.lower_in_turn-3.ensures h k hg hk)) (upper 2 c.upper_in_turn-3.result (omega arith) (c.upper_in_turn-3.ensures h k hg hk))
+    (lower 3 c.lower_in_turn-4.result (omega arith) (c.lower_in_turn-4.ensures h k hg hk)) (upper 3 c.upper_in_turn-4.result (omega arith) (c.upper_in_turn-4.ensures h k hg hk))
+    (lower 4 c.lower_in_turn-5.result (omega arith) (c.lower_in_turn-5.ensures h k hg hk)) (upper 4 c.upper_in_turn-5.result (omega arith) (c.upper_in_turn-5.ensures h k hg hk))
+    (lower 5 c.lower_in_turn-6.result (omega arith) (c.lower_in_turn-6.ensures h k hg hk)) (upper 5 c.upper_in_turn-6.result (omega arith) (c.upper_in_turn-6.ensures h k hg hk))
+    (lower 6 c.lower_in_turn-7.result (omega arith) (c.lower_in_turn-7.ensures h k hg hk)) (upper 6 c.upper_in_turn-7.result (omega arith) (c.upper_in_turn-7.ensures h k hg hk))
+    (lower 7 c.lower_in_turn-8.result (omega arith) (c.lower_in_turn-8.ensures h k hg hk)) (upper 7 c.upper_in_turn-8.result (omega arith) (c.upper_in_turn-8.ensures h k hg hk))
     j hj

@@ -32,11 +32,11 @@ laws g =
 pub passes-init : goal.passes-init
 passes-init g c i h =
     let e = g.E.Chaining in
-    led-none e.key_of e.block_of e.chain_of e.rest_of e.led e.kept (laws g) (state_lane (lane_at 8) c.load.result i)
-    (g.S.Slot.in_lane c.args.slots.now i) (c.load.ensures i h)
+    led-none e.key_of e.block_of e.chain_of e.rest_of e.led e.kept (laws g) (state_lane (lane_at 8) c.load_state.result i)
+    (g.S.Slot.in_lane c.args.slots.now i) (c.load_state.ensures i h)
 
-pub invariant_of-load-in-passes-clause-rests : goal.invariant_of-load-in-passes-clause-rests
-invariant_of-load-in-passes-clause-rests g c i x h is =
+pub invariant_of-load_state-in-passes-clause-rests : goal.invariant_of-load_state-in-passes-clause-rests
+invariant_of-load_state-in-passes-clause-rests g c i x h is =
     let e = g.E.Chaining in
     let o = g.S.Slot.in_lane c.args.slots.now i in
     let now = g.S.Slot.in_lane c.passes.slots i in
@@ -55,7 +55,7 @@ passes-preserved g c i h =
     let w = schedule_in (lane_at 8) (length c.args.keys.now - 1) c.args.keys.now i in
     let chained : next ≡ encipher w (xor_lists (of_slot e.block_of now) (lane c.passes.chains i)) =
     c.encrypt.ensures i h
-    ∙ ap (encipher w) (c.add_round_key.ensures i h ∙ ap (λ b. xor_lists b (lane c.passes.chains i)) (c.load-blocks.ensures i h)) in
+    ∙ ap (encipher w) (c.add_round_key.ensures i h ∙ ap (λ b. xor_lists b (lane c.passes.chains i)) (c.load_state-blocks.ensures i h)) in
     let led = c.lead_each.ensures.given i h ∙ ap (λ x. option_map (λ y. e.led y x) now) (c.blocks_of-led.ensures i h) in
     subst (IsLed e.key_of e.block_of e.chain_of e.led e.kept (c.passes.done + 1) next o) (sym led)
     (led-more e.key_of e.block_of e.chain_of e.rest_of e.led e.kept (laws g) c.passes.done (lane c.passes.chains i) next w o now

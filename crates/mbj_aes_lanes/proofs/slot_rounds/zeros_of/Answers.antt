@@ -10,7 +10,7 @@ use Rattle.mbj_aes_lanes.proofs.slot_rounds.zeros_of.Goals as goal
 
 pub returns : goal.returns
 returns c i h =
-    c.store.ensures i h
+    c.store_state.ensures i h
     ∙ c.encrypt.ensures i h
     ∙ ap (encipher (schedule_in (lane_at 8) (length c.args.keys.now - 1) c.args.keys.now i))
-    (c.load-state.ensures i h ∙ get_or-replicate AES_LANES i zero_block [] h)
+    (c.load_state-state.ensures i h ∙ get_or-replicate AES_LANES i zero_block [] h)

@@ -1,8 +1,0 @@
--- Each half comes from both words in turn.
-use Rattle.std.proofs.Common.{refl, arith}
-use Rattle.mbj_aes_lanes.proofs.ByteMatrices.{row_in_turn}
-use Rattle.mbj_aes_lanes.proofs.block_row.U8x32BlockRow.lower_in_turn.Goals as goal
-
-pub returns : goal.returns
-returns c g k hg hk =
-    row_in_turn 32 0 c.args.self c.args.other _ c.fits-self.0 refl (omega arith) refl g k _ hg hk (omega arith)
