@@ -152,7 +152,7 @@ impl<E: Chaining> ChainedSlots<E> {
         least
     }
 
-    /// Leads the entry of each slot by `m` rounds, which each has left.
+    /// Advances every entry by `m` rounds; each has at least `m` left.
     pub fn run_all(&mut self, m: u32)
         requires { (i : ℕ) (e : E) → i < AES_LANES → slot_at self.old i ≡ Some e → m ≤ E.rest_of e }
         ensures { (i : ℕ) → i < AES_LANES → slot_at self.new i

@@ -1,5 +1,5 @@
 -- The blocks of a message of CMAC, the last one closed.
-use Rattle.std.proofs.Common.{◌≡◌, ℕ, suc, ◌+◌, ◌-◌, ◌*◌, ◌<◌, ◌≤◌, List, [], ◌∷◌, ◌++◌, length, drop, replicate, slice_set, refl, sym, ap, ap₂, ◌∙◌, arith, length-drop, append-nil}
+use Rattle.std.proofs.Common.{◌≡◌, ℕ, suc, ◌+◌, ◌-◌, ◌*◌, ◌<◌, ◌≤◌, List, [], ◌∷◌, ◌++◌, length, drop, replicate, slice_set, refl, sym, ap, ap₂, ◌∙◌, arith, length-drop}
 use Rattle.std.proofs.lemmas.List.{take_all, drop_all, set_at}
 use Rattle.mbj_types.specs.Blocks.{blocks, filled_block}
 use Rattle.mbj_types.specs.Cmac.{closed, closed_block, message_blocks}
@@ -40,10 +40,3 @@ padded p h =
     let more : 16 - length p ≡ suc (15 - length p) = omega arith in
     ap (λ (n : ℕ). slice_set (p ++ replicate n zero_byte) (length p) 0x80) more
     ∙ set_at p zero_byte (replicate (15 - length p) zero_byte) 0x80 (length p) refl
-
--- a whole block needs no filling
-pub filled_block-whole : (p : List ℕ) → length p ≡ 16 → filled_block p ≡ p
-filled_block-whole p h =
-    let zero_byte : ℕ = 0 in
-    let none : 16 - length p ≡ 0 = omega arith in
-    ap (λ (n : ℕ). p ++ replicate n zero_byte) none ∙ append-nil p

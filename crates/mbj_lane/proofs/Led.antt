@@ -1,6 +1,5 @@
 -- What rounds do to each entry of a list.
 use Rattle.std.proofs.Common.{◌≡◌, ℕ, ◌+◌, ◌-◌, ◌≤◌, ◌<◌, zero, suc, List, [], ◌∷◌, ◌++◌, length, map, take, drop, get_or, refl, ap, ap₂, arith}
-use Rattle.std.proofs.lemmas.List.{length-map}
 use Rattle.mbj_lane.specs.Rounds.{after, end_of}
 use Rattle.mbj_lane.specs.Laws.{after-after, rest-after, end-after}
 
@@ -45,10 +44,3 @@ module _ {E : Type 0} (round : E → E) (rest : E → ℕ) (falls : (e : E) → 
   map-ends m (e ∷ es) h =
       ap₂ (λ x xs. x ∷ xs) (end-after round rest falls m e (h 0 e (omega arith)))
       (map-ends m es (λ k d l. h (suc k) d (omega arith)))
-
-  -- a round is left after fewer rounds than each had
-  pub rests-after : (m r : ℕ) (es : List E) → ((k : ℕ) (d : E) → k < length es → m ≤ rest (get_or es k d)) → r < m
-      → (k : ℕ) (d : E) → k < length (map (after round r) es) → 1 ≤ rest (get_or (map (after round r) es) k d)
-  rests-after m r es h l k d kl =
-      let kl' : k < length es = omega (arith, length-map es (after round r)) in
-      rw (get_or-map (after round r) es k d kl', rest-after round rest falls r (get_or es k d)) (omega (arith, h k d kl'))

@@ -311,14 +311,3 @@ module _ {E : Type 0} (lanes : ℕ) where
         let same = met.4 in
         let high = least-above order before.busy lt is.below in
         omega (arith, low, high, same)
-
-  pub none-listed : (f : ℕ → Option E) (n : ℕ) (free : List ℕ) → n ≡ lanes → n ≡ length free → AreIdle f lanes free → AreApart free
-      → ((i : ℕ) → i < lanes → f i ≡ None) → AreListed lanes f [] free
-  none-listed f n free all len idle apart none = record {
-    busy = tt;
-    idle = idle;
-    apart = tt;
-    apart_free = apart;
-    all = λ i l s. let z = none i l in let s' = s.1 in absurd (cc);
-    count = omega arith;
-  }

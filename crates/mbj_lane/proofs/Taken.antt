@@ -1,5 +1,5 @@
 -- Which entry is taken.
-use Rattle.std.proofs.Common.{◌≡◌, ℕ, ◌≤◌, ◌<◌, zero, suc, List, [], ◌∷◌, ◌++◌, length, take, drop, get_or, Some, None, eqb, false, refl, sym, ap, ◌∙◌, ◌+◌, below_more, arith}
+use Rattle.std.proofs.Common.{◌≡◌, ℕ, ◌≤◌, ◌<◌, zero, suc, List, [], ◌∷◌, ◌++◌, length, take, drop, get_or, Some, None, eqb, false, refl, ap, ◌∙◌, ◌+◌, below_more, arith}
 use Rattle.std.specs.Option.{option_map}
 use Rattle.std.specs.List.{remove}
 use Rattle.std.proofs.lemmas.List.{get_or_default}
@@ -19,13 +19,6 @@ module _ {E : Type 0} (rest : E → ℕ) where
       let lt' : i < length es = omega arith in
       passed x es (before 0 e (omega arith))
       ∙ ap (option_map (λ t. (t.0, x ∷ t.1))) (at_place es i e lt' (λ k d l. before (suc k) d (omega arith)) is z)
-
-  -- the entry at place i, where those before it have a round left; f is that entry too
-  pub taken-first : (es : List E) (i : ℕ) (e f : E) → i < length es → ((k : ℕ) (d : E) → k < i → 1 ≤ rest (get_or es k d))
-      → e ≡ get_or es i e → f ≡ get_or es i f → rest f ≡ 0 → taken rest es ≡ Some (e, remove es i)
-  taken-first es i e f lt before is is' z =
-      let same : e ≡ f = is ∙ get_or_default es i e f lt ∙ sym is' in
-      at_place es i e lt before is (ap rest same ∙ z)
 
   pub taken-at : (es : List E) (i : ℕ) (e : E) → IsFirst rest i es → e ≡ get_or es i e → taken rest es ≡ Some (e, remove es i)
   taken-at es i e first is = at_place es i e first.inside first.before is (ap rest is ∙ first.done e)

@@ -39,7 +39,7 @@ pub trait SlotKernel: Kernel {
         requires { (i : ℕ) × (i < Self.LANES) × IsBusy (slot slots.now) i }
         ensures { IsLeast Self.rest_of Self.LANES (slot slots.now) result };
 
-    /// Leads the entry of each slot by `m` rounds, which each has left.
+    /// Advances every entry by `m` rounds; each has at least `m` left.
     fn run_all(slots: &mut Self::Slots, m: u32)
         requires { (i : ℕ) (e : Self.Entry) → i < Self.LANES → slot slots.old i ≡ Some e → m ≤ Self.rest_of e }
         ensures { (i : ℕ) → i < Self.LANES → slot slots.new i ≡ option_map (after Self.round m) (slot slots.old i) };
