@@ -5,7 +5,18 @@ use Rattle.std.proofs.Math.Seq.{take-append_seam}
 use Rattle.std.specs.Prelude.{nat_le, replicate}
 use Rattle.std.proofs.lemmas.Bool.Decides.{leb_tells}
 use Rattle.std.proofs.lemmas.Bool.{le-leb, lt-leb}
+use Rattle.mbj_types.specs.declared.class.HashName.{HashName}
+use Rattle.mbj_types.specs.declared.class.HashName.TheVariants.{Sha1, Sha224, Sha256, Sha384, Sha512}
+use Rattle.mbj_types.specs.Auths.{hash_of_name}
 use Rattle.mbj_types.specs.Hmac.{Hash, filled_key, block_key, padded_key}
+
+-- no hash has a longer block
+pub block_at_most : (a : HashName) → (hash_of_name a).block_bytes ≤ 128
+block_at_most Sha1 = omega arith
+block_at_most Sha224 = omega arith
+block_at_most Sha256 = omega arith
+block_at_most Sha384 = omega arith
+block_at_most Sha512 = omega arith
 
 -- zeros up to n bytes are zeros up to the block and zeros behind it
 pub filled_on : (key : List ℕ) (block_bytes n : ℕ) → length key ≤ block_bytes → block_bytes ≤ n

@@ -2,10 +2,8 @@ ghost use Rattle.std.specs.Prelude.{◌≡◌, ◌-◌, ◌≤◌, ◌++◌, len
 ghost use Rattle.mbj_types.specs.Auths.{IsHmac, class_of, hash_of, hash_of_name};
 ghost use Rattle.mbj_types.specs.Hmac.{block_key, padded_key};
 
-use crate::hasher::Hasher;
-use mbj_types::{Auth, AuthClass, HashName, Tag};
-use sha1::Sha1;
-use sha2::{Sha224, Sha256, Sha384, Sha512};
+use crate::digests::digest_of;
+use mbj_types::{Auth, AuthClass, HashName};
 
 /// The longest block of a hash, in bytes: that of SHA-384 and SHA-512.
 pub const MAX_BLOCK_BYTES: usize = 128;
@@ -33,16 +31,6 @@ pub(crate) fn hash_name(auth: Auth) -> HashName
     }
 }
 
-/// The digest of a message.
-fn digest_of<H: Hasher>(message: &[u8]) -> Tag
-    ensures value { result ≡ H.hash.digest message.now }
-    ensures fits { length result ≤ H.hash.block_bytes }
-{
-    let mut hasher = H::start();
-    hasher.absorb(message);
-    hasher.finish()
-}
-
 /// A key, and zero bytes behind it.
 fn filled(key: &[u8]) -> [u8; MAX_BLOCK_BYTES]
     requires { length key.now ≤ MAX_BLOCK_BYTES }
@@ -51,18 +39,6 @@ fn filled(key: &[u8]) -> [u8; MAX_BLOCK_BYTES]
     let mut block = [0; MAX_BLOCK_BYTES];
     block[..key.len()].copy_from_slice(key);
     block
-}
-
-/// The key of one block of the hash, and zero bytes behind it.
-pub(crate) fn key_of_block<H: Hasher>(key: &[u8]) -> [u8; MAX_BLOCK_BYTES]
-    ensures value { result ≡ block_key H.hash key.now ++ replicate (MAX_BLOCK_BYTES - H.hash.block_bytes) 0 }
-    ensures len { length (block_key H.hash key.now) ≡ H.hash.block_bytes }
-{
-    if key.len() <= H::block_bytes() {
-        filled(key)
-    } else {
-        filled(digest_of::<H>(key).bytes())
-    }
 }
 
 /// The bytes of a key, each xored with the byte of a pad.
@@ -76,16 +52,14 @@ pub(crate) fn padded(key: &[u8; MAX_BLOCK_BYTES], pad: u8) -> [u8; MAX_BLOCK_BYT
     block
 }
 
-/// The key of one block of a hash, and zero bytes behind it.
+/// The key of one block of a hash, and zero bytes behind it. A key longer than a block is hashed first.
 pub(crate) fn hash_key(hash: HashName, key: &[u8]) -> [u8; MAX_BLOCK_BYTES]
     ensures { result ≡ block_key (hash_of_name hash) key.now ++ replicate (MAX_BLOCK_BYTES - (hash_of_name hash).block_bytes) 0 }
 {
-    match hash {
-        HashName::Sha1 => key_of_block::<Sha1>(key),
-        HashName::Sha224 => key_of_block::<Sha224>(key),
-        HashName::Sha256 => key_of_block::<Sha256>(key),
-        HashName::Sha384 => key_of_block::<Sha384>(key),
-        HashName::Sha512 => key_of_block::<Sha512>(key),
+    if key.len() <= hash.block_bytes() {
+        filled(key)
+    } else {
+        filled(digest_of(hash, key, &[]).bytes())
     }
 }
 

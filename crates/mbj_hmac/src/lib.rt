@@ -2,10 +2,10 @@
 //! the lanes of a kernel, and the states of a key, from which HMACs go on.
 #![tactic(auto)]
 
+mod digests;
 mod ends;
 mod entry;
 mod form;
-mod hasher;
 mod kernel;
 mod key;
 mod lane_hash;
