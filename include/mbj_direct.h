@@ -19,18 +19,18 @@ extern "C" {
 MBJ_CHECKED
 mbj_err mbj_hmac_states(uint32_t hash, struct mbj_bytes key, struct mbj_room out);
 
-/* Writes the state of a hash behind one block, whole and big-endian: 20, 32, 32, 64 or 64 bytes. MBJ_ERR_TEXT_LENGTH where the block hasn't
+/* Writes the state of a hash behind one block, whole and big-endian: 20, 32, 32, 64 or 64 bytes. MBJ_ERR_TEXT_LENGTH if the block hasn't
  * 64 bytes, or 128 for SHA-384 and SHA-512. */
 MBJ_CHECKED
 mbj_err mbj_one_block(uint32_t hash, struct mbj_bytes block, struct mbj_room out);
 
 /* Writes the schedules of an AES key of 16, 24 or 32 bytes: 176, 208 or 240 bytes each. encryption is that of FIPS 197, 5.2, and
  * decryption that of the equivalent inverse cipher (5.3.5), in the order in which it takes the round keys, from the last round down: as
- * intel-ipsec-mb has both. MBJ_ERR_KEY_LENGTH where the key has another length. */
+ * intel-ipsec-mb has both. MBJ_ERR_KEY_LENGTH if the key has another length. */
 MBJ_CHECKED
 mbj_err mbj_aes_keys(struct mbj_bytes key, struct mbj_room encryption, struct mbj_room decryption);
 
-/* Writes the subkeys of a key of CMAC of 16 or 32 bytes, K1 and K2 (SP 800-38B, 6.1): 16 bytes each. MBJ_ERR_KEY_LENGTH where the key has
+/* Writes the subkeys of a key of CMAC of 16 or 32 bytes, K1 and K2 (SP 800-38B, 6.1): 16 bytes each. MBJ_ERR_KEY_LENGTH if the key has
  * another length. */
 MBJ_CHECKED
 mbj_err mbj_cmac_subkeys(struct mbj_bytes key, struct mbj_room first, struct mbj_room second);
@@ -39,13 +39,13 @@ mbj_err mbj_cmac_subkeys(struct mbj_bytes key, struct mbj_room first, struct mbj
 MBJ_CHECKED
 mbj_err mbj_digest(uint32_t hash, struct mbj_bytes text, struct mbj_room out);
 
-/* Seals a text in place by GCM (SP 800-38D, 7.1), and fills tag with the first bytes of its tag: MBJ_ERR_KEY_LENGTH where the key hasn't
- * 16, 24 or 32 bytes, MBJ_ERR_IV_LENGTH where the IV hasn't 1 to 65,535, MBJ_ERR_TAG_LENGTH where tag hasn't 1 to 16. */
+/* Seals a text in place by GCM (SP 800-38D, 7.1), and fills tag with the first bytes of its tag: MBJ_ERR_KEY_LENGTH if the key hasn't
+ * 16, 24 or 32 bytes, MBJ_ERR_IV_LENGTH if the IV hasn't 1 to 65,535, MBJ_ERR_TAG_LENGTH if tag hasn't 1 to 16. */
 MBJ_CHECKED
 mbj_err mbj_gcm_seal(struct mbj_bytes key, struct mbj_bytes iv, struct mbj_bytes aad, struct mbj_room text, struct mbj_room tag);
 
-/* Opens a text in place by GCM (SP 800-38D, 7.2) that came with a tag. Where that is the tag of the text, returns MBJ_ERR_NONE: the text is
- * the plaintext then. Where it isn't, returns MBJ_ERR_TAG: the text is all zeros then. They are compared in constant time. Other refusals
+/* Opens a text in place by GCM (SP 800-38D, 7.2) that came with a tag. If that is the tag of the text, returns MBJ_ERR_NONE: the text is
+ * the plaintext then. If it isn't, returns MBJ_ERR_TAG: the text is all zeros then. They are compared in constant time. Other refusals
  * are those of mbj_gcm_seal. */
 MBJ_CHECKED
 mbj_err mbj_gcm_open(struct mbj_bytes key, struct mbj_bytes iv, struct mbj_bytes aad, struct mbj_room text, struct mbj_bytes tag);
@@ -66,7 +66,7 @@ struct mbj_gcm_state {
 /* mbj_gcm_init begins a text that is sealed (MBJ_DIR_ENCRYPT) or decrypted; mbj_gcm_update does its next part in place, of any length; and
  * mbj_gcm_finish fills tag with the first bytes of its tag, and clears the state. They compare nothing: of a text that was decrypted no
  * part may be used before the caller has compared the tag that came with it, by mbj_is_same_tag. However a text is cut into parts, they
- * become what the whole text becomes, and the tag is the same. Refusals are those of mbj_gcm_seal, and MBJ_ERR_NO_STATE where the state is
+ * become what the whole text becomes, and the tag is the same. Refusals are those of mbj_gcm_seal, and MBJ_ERR_NO_STATE if the state is
  * none, as after mbj_gcm_finish. Each update expands the key anew, so few long parts take less time than many short ones. */
 MBJ_CHECKED MBJ_NONNULL
 mbj_err mbj_gcm_init(struct mbj_gcm_state *state, uint32_t dir, struct mbj_bytes key, struct mbj_bytes iv, struct mbj_bytes aad);
@@ -83,7 +83,7 @@ struct mbj_gmac_state {
 
 /* GMAC (SP 800-38D, 3.1): mbj_gmac_init begins, mbj_gmac_update takes the next part of the data, of any length, and mbj_gmac_finish fills
  * tag with the first bytes of its tag, and clears the state. However data is cut into parts, its tag is the same. Refusals are those of
- * mbj_gcm_seal, and MBJ_ERR_NO_STATE where the state is none, as after mbj_gmac_finish. */
+ * mbj_gcm_seal, and MBJ_ERR_NO_STATE if the state is none, as after mbj_gmac_finish. */
 MBJ_CHECKED MBJ_NONNULL
 mbj_err mbj_gmac_init(struct mbj_gmac_state *state, struct mbj_bytes key, struct mbj_bytes iv);
 MBJ_CHECKED MBJ_NONNULL
@@ -92,9 +92,9 @@ MBJ_CHECKED MBJ_NONNULL
 mbj_err mbj_gmac_finish(struct mbj_gmac_state *state, struct mbj_room tag);
 
 /* Seals a text of at most 65,535 bytes in place by CCM (SP 800-38C, 6.1), and fills tag with its tag, which is as long as tag. It copies
- * the nonce, the additional data and the text, and returns MBJ_ERR_MEMORY where memory runs out. MBJ_ERR_KEY_LENGTH where the key hasn't
- * 16, 24 or 32 bytes, MBJ_ERR_IV_LENGTH where the nonce hasn't 7 to 13, MBJ_ERR_AAD_LENGTH where aad has more than 65,279,
- * MBJ_ERR_TEXT_LENGTH where the text is longer, MBJ_ERR_TAG_LENGTH where tag hasn't 4, 6, 8, 10, 12, 14 or 16. */
+ * the nonce, the additional data and the text, and returns MBJ_ERR_MEMORY if memory runs out. MBJ_ERR_KEY_LENGTH if the key hasn't
+ * 16, 24 or 32 bytes, MBJ_ERR_IV_LENGTH if the nonce hasn't 7 to 13, MBJ_ERR_AAD_LENGTH if aad has more than 65,279,
+ * MBJ_ERR_TEXT_LENGTH if the text is longer, MBJ_ERR_TAG_LENGTH if tag hasn't 4, 6, 8, 10, 12, 14 or 16. */
 MBJ_CHECKED
 mbj_err mbj_ccm_seal(struct mbj_bytes key, struct mbj_bytes nonce, struct mbj_bytes aad, struct mbj_room text, struct mbj_room tag);
 

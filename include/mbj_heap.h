@@ -9,7 +9,7 @@
  * The library asks in the thread that called it, and only within a call: mbj_c_new, mbj_c_new_keeping, mbj_c_new_keeping_none, mbj_c_fill,
  * mbj_c_fill_burst, mbj_c_submit_job, mbj_keys_new, mbj_keys_share, mbj_c_use_keys and the calls on CCM take blocks; these and every other
  * call on a manager or on keys may free some, but for mbj_c_queue_size, mbj_c_count and mbj_c_held_bytes. So two threads, each with a
- * manager of its own, ask at the same time; and a block may be freed in another thread than the one that it was asked for in, where a
+ * manager of its own, ask at the same time; and a block may be freed in another thread than the one that it was asked for in, if a
  * manager was handed over, in the order that docs/C.md says, or where it is part of a set of keys that threads share, which the last of
  * them frees. A heap's functions don't call the library, and they return: no exception and no longjmp leaves them. */
 #ifndef MBJ_HEAP_H
@@ -25,7 +25,7 @@ extern "C" {
 /* ---- heaps that are chosen ---- */
 
 /* A heap. alloc returns len bytes at a multiple of 16, or NULL; len isn't 0. realloc makes the block at old, of old_len bytes, one of len
- * bytes, which may be elsewhere and begins with what was there, or returns NULL and leaves it; where it is NULL itself, blocks are
+ * bytes, which may be elsewhere and begins with what was there, or returns NULL and leaves it; if it is NULL itself, blocks are
  * copied. free frees a block of len bytes, once. opaque is given to all three. The struct and what it needs stay valid until its last block
  * is freed: a set of keys that several managers use may hold blocks of each of their heaps, until it is freed. */
 struct mbj_heap {
@@ -43,7 +43,7 @@ const struct mbj_heap *mbj_heap_wiping(void);
 
 /* ---- what the proved code asks for ---- */
 
-/* A block that was asked for: whether there is one, 1 or 0, and where. at is never NULL, not even where there is none. */
+/* A block that was asked for: whether there is one, 1 or 0, and where. at is never NULL, not even if there is none. */
 struct mbj_block {
     uint64_t is_there;
     void *at;
@@ -54,12 +54,12 @@ struct mbj_block {
 enum { MBJ_HEAP_LONG = 4096, MBJ_HEAP_LINE = 64 };
 
 /* A new block of len bytes or more, at a multiple of align, which is 1, 2, 4, 8 or 16. len is below 2^63, and may be 0: the block has an
- * address of its own then too. Its bytes may be anything. Nothing else uses them until it is freed. Where there is none, the call that
+ * address of its own then too. Its bytes may be anything. Nothing else uses them until it is freed. If there is none, the call that
  * asked returns that memory ran out, and changes nothing. */
 struct mbj_block rattle_alloc(size_t len, size_t align);
 
 /* Makes the block at old one of len bytes or more, which may be elsewhere. Its first kept bytes are as they were; kept is at most len, and
- * at most what the block was asked for. align is that of the old block. Where there is none, the old block is as it was. */
+ * at most what the block was asked for. align is that of the old block. If there is none, the old block is as it was. */
 struct mbj_block rattle_realloc(void *old, size_t kept, size_t len, size_t align);
 
 /* Frees a block that one of the two returned. It is freed once, and at isn't NULL. */

@@ -32,12 +32,12 @@ void mbj_pool_wipe(struct mbj_pool *pool);
 const struct mbj_heap *mbj_pool_heap(struct mbj_pool *pool);
 
 /* Names the pool that this thread's next calls allocate from where their manager has no heap, and returns the one that was named before,
- * NULL where none was. Where a thread names none, or NULL, malloc is asked; but in a program that mbj_heap_pool.c is compiled into, every
+ * NULL if none was. If a thread names none, or NULL, malloc is asked; but in a program that mbj_heap_pool.c is compiled into, every
  * block is refused. A block that grows stays with its own pool. */
 struct mbj_pool *mbj_pool_name(struct mbj_pool *pool);
 
 /* How much of a pool is in use now, and the most that ever was: to see how long it has to be. A block is counted with all that it takes,
- * which is what was asked for and 16 bytes, or 64 where that was MBJ_HEAP_LONG or more, rounded up to a power of two from 64 on. What
+ * which is what was asked for and 16 bytes, or 64 if that was MBJ_HEAP_LONG or more, rounded up to a power of two from 64 on. What
  * malloc gave isn't counted among these bytes. */
 struct mbj_pool_counts {
     size_t bytes, most_bytes, blocks, overflow_blocks, most_overflow_blocks;

@@ -60,7 +60,7 @@ struct mbj_raw_burst {
     uint32_t refusal;
 };
 
-/* The name of a feature that the library was built for and this processor lacks, or NULL where it has them all. Only then may the proved
+/* The name of a feature that the library was built for and this processor lacks, or NULL if it has them all. Only then may the proved
  * exports be called: the job interface asks before it makes a manager, and a program that calls them itself asks too. This function and the
  * next one aren't proved. */
 const char *mbj_c_missing_feature(void);
@@ -85,7 +85,7 @@ mbj_err mbj_c_new_keeping(struct mbj_handle *handle);
 MBJ_CHECKED MBJ_NONNULL
 mbj_err mbj_c_new_keeping_none(struct mbj_handle *handle);
 
-/* How many bytes the cells keep that have no job; 0 where there is no manager. */
+/* How many bytes the cells keep that have no job; 0 if there is no manager. */
 MBJ_NONNULL
 size_t mbj_c_held_bytes(struct mbj_handle *handle);
 
@@ -93,15 +93,15 @@ size_t mbj_c_held_bytes(struct mbj_handle *handle);
 MBJ_NONNULL
 void mbj_c_trim(struct mbj_handle *handle);
 
-/* Frees the manager with its jobs; false where there is none. */
+/* Frees the manager with its jobs; false if there is none. */
 MBJ_NONNULL
 bool mbj_c_free(struct mbj_handle *handle);
 
-/* How many jobs are submitted and not given back; 0 where there is no manager. */
+/* How many jobs are submitted and not given back; 0 if there is no manager. */
 MBJ_NONNULL
 uint32_t mbj_c_queue_size(struct mbj_handle *handle);
 
-/* Tells the counts of a kind; false where there is no manager or no such kind, and nothing is written then. */
+/* Tells the counts of a kind; false if there is no manager or no such kind, and nothing is written then. */
 MBJ_NONNULL
 bool mbj_c_count(struct mbj_handle *handle, uint32_t kind, struct mbj_counts *counts);
 
@@ -111,7 +111,7 @@ bool mbj_c_count(struct mbj_handle *handle, uint32_t kind, struct mbj_counts *co
 MBJ_CHECKED MBJ_NONNULL
 mbj_err mbj_c_fill(struct mbj_handle *handle, const struct mbj_raw_job *job);
 
-/* The three calls that may give the earliest job's result: true where one is given, which is written whole; else false, and only
+/* The three calls that may give the earliest job's result: true if one is given, which is written whole; else false, and only
  * refusal is written: MBJ_ERR_NONE, MBJ_ERR_NO_MANAGER, MBJ_ERR_NO_ROOM or, from mbj_c_submit, MBJ_ERR_NO_JOB. There must be room
  * for the result that comes next, also while it isn't finished. */
 MBJ_NONNULL
@@ -123,16 +123,16 @@ bool mbj_c_flush(struct mbj_handle *handle, struct mbj_raw_done *done, uint32_t 
 
 /* Makes mbj_c_fill with the job, and, where that isn't refused, mbj_c_submit: it returns and writes what that does, and else false and the
  * refusal of mbj_c_fill. After MBJ_ERR_NO_ROOM the job is filled and not submitted. No byte that done has room for may be one that the job
- * points to; where they meet, make the two calls. */
+ * points to; if they meet, make the two calls. */
 MBJ_NONNULL
 bool mbj_c_submit_job(struct mbj_handle *handle, const struct mbj_raw_job *job, struct mbj_raw_done *done, uint32_t *refusal);
 
-/* Bursts: what several single calls do, one after another, by one call. No array is at NULL, even where it has no element.
+/* Bursts: what several single calls do, one after another, by one call. No array is at NULL, even if it has no element.
  *
  * Copies jobs into the next cells, one behind another, the first one in place of a job that was filled and not submitted. Returns how many
- * are filled, and writes to each job's place in refusals what mbj_c_fill returns, MBJ_ERR_FULL where no cell is left behind those that the
+ * are filled, and writes to each job's place in refusals what mbj_c_fill returns, MBJ_ERR_FULL if no cell is left behind those that the
  * burst filled. A job that is refused takes no cell, and the jobs behind it are filled. Only the first refusals_len jobs are looked at
- * where jobs_len is more. This call takes memory as mbj_c_fill does. */
+ * if jobs_len is more. This call takes memory as mbj_c_fill does. */
 MBJ_NONNULL
 uint32_t mbj_c_fill_burst(struct mbj_handle *into, const struct mbj_raw_job *jobs, size_t jobs_len, uint32_t *refusals, size_t refusals_len);
 
@@ -152,7 +152,7 @@ void mbj_c_flush_burst(struct mbj_handle *handle, struct mbj_raw_done *rooms, si
 MBJ_CHECKED MBJ_NONNULL
 mbj_err mbj_c_use_keys(struct mbj_handle *handle, struct mbj_keys *keys);
 
-/* 1 where both have the same bytes, 0 where they differ, as tags of two lengths do. All bytes are looked at where the lengths are equal,
+/* 1 if both have the same bytes, 0 if they differ, as tags of two lengths do. All bytes are looked at if the lengths are equal,
  * and no branch depends on one. */
 MBJ_CHECKED
 uint32_t mbj_c_is_same_tag(struct mbj_bytes one, struct mbj_bytes other);
@@ -161,7 +161,7 @@ uint32_t mbj_c_is_same_tag(struct mbj_bytes one, struct mbj_bytes other);
 void mbj_c_wipe(struct mbj_room room);
 
 /* Names the heap that this thread's next calls take memory from, NULL for malloc, and returns the one that was named before. A block goes
- * back to the heap that it came from, whatever is named. Where the program was linked with a heap of its own, nothing is asked of heaps
+ * back to the heap that it came from, whatever is named. If the program was linked with a heap of its own, nothing is asked of heaps
  * that are named: mbj_c_has_heaps is false then. These two functions aren't proved. */
 const struct mbj_heap *mbj_c_name_heap(const struct mbj_heap *heap);
 bool mbj_c_has_heaps(void);

@@ -38,27 +38,27 @@ struct mbj_seat {
 /* ---- the exports. No pointer is NULL. None of them waits for another thread ---- */
 
 /* Makes a front, and puts the seats of its parties into the first places, submitters first. All memory of the front and of its parties'
- * managers is taken here. Where keys has a set, all parties share it. Returns MBJ_ERR_NONE, MBJ_ERR_SEAT_COUNT where there are not 1 to
- * MBJ_MAX_SUBMITTERS submitters and at most MBJ_MAX_WORKERS workers, MBJ_ERR_NO_ROOM where there are fewer places than parties,
- * MBJ_ERR_HAS_SEAT where one of these places has a seat already, or MBJ_ERR_MEMORY. */
+ * managers is taken here. If keys has a set, all parties share it. Returns MBJ_ERR_NONE, MBJ_ERR_SEAT_COUNT if there are not 1 to
+ * MBJ_MAX_SUBMITTERS submitters and at most MBJ_MAX_WORKERS workers, MBJ_ERR_NO_ROOM if there are fewer places than parties,
+ * MBJ_ERR_HAS_SEAT if one of these places has a seat already, or MBJ_ERR_MEMORY. */
 MBJ_CHECKED MBJ_NONNULL
 mbj_err mbj_c_front_new(uint32_t submitters, uint32_t workers, struct mbj_keys *keys, struct mbj_seat *places, size_t places_len);
 
-/* Copies a job and posts it, for whichever party claims it. Returns MBJ_ERR_NONE, MBJ_ERR_NO_SEAT, MBJ_ERR_NOT_SUBMITTER where the seat is a
- * worker's, MBJ_ERR_FULL where MBJ_MAX_JOBS of its jobs are out, MBJ_ERR_WORD or MBJ_ERR_MEMORY. */
+/* Copies a job and posts it, for whichever party claims it. Returns MBJ_ERR_NONE, MBJ_ERR_NO_SEAT, MBJ_ERR_NOT_SUBMITTER if the seat is a
+ * worker's, MBJ_ERR_FULL if MBJ_MAX_JOBS of its jobs are out, MBJ_ERR_WORD or MBJ_ERR_MEMORY. */
 MBJ_CHECKED MBJ_NONNULL
 mbj_err mbj_c_post(struct mbj_seat *seat, const struct mbj_raw_job *job);
 
-/* Gives the result of the seat's earliest job that is out, where that is finished: true where it is, and the result is written whole; else
+/* Gives the result of the seat's earliest job that is out, if that is finished: true if it is, and the result is written whole; else
  * false, and only refusal is written: MBJ_ERR_NONE, MBJ_ERR_NO_SEAT, MBJ_ERR_NOT_SUBMITTER or MBJ_ERR_NO_ROOM. There must be room for the
  * result that comes next, also while it isn't finished. */
 MBJ_NONNULL
 bool mbj_c_collect(struct mbj_seat *seat, struct mbj_raw_done *done, uint32_t *refusal);
 
-/* Bursts: what several single calls do, one after another, by one call. No array is at NULL, even where it has no element.
+/* Bursts: what several single calls do, one after another, by one call. No array is at NULL, even if it has no element.
  *
  * Posts jobs, each as mbj_c_post does. Returns how many are posted, and writes to each job's place in refusals what mbj_c_post returns. A
- * job that is refused is left out, and the jobs behind it are posted. Only the first refusals_len jobs are looked at where jobs_len is
+ * job that is refused is left out, and the jobs behind it are posted. Only the first refusals_len jobs are looked at if jobs_len is
  * more. */
 MBJ_NONNULL
 size_t mbj_c_post_burst(struct mbj_seat *seat, const struct mbj_raw_job *jobs, size_t jobs_len, uint32_t *refusals, size_t refusals_len);
@@ -69,11 +69,11 @@ MBJ_NONNULL
 void mbj_c_collect_burst(struct mbj_seat *seat, struct mbj_raw_done *rooms, size_t rooms_len, struct mbj_raw_burst *told);
 
 /* Claims up to 32 jobs of any submitter, runs lanes that are full, and hands results that are finished to their submitters. Returns how many
- * jobs it claimed: 0 where there is no seat. */
+ * jobs it claimed: 0 if there is no seat. */
 MBJ_NONNULL
 uint32_t mbj_c_turn(struct mbj_seat *seat);
 
-/* Finishes the first job in the seat's hand, which holds the jobs that it claimed and hasn't finished. False where there is none, or no
+/* Finishes the first job in the seat's hand, which holds the jobs that it claimed and hasn't finished. False if there is none, or no
  * seat. */
 MBJ_NONNULL
 bool mbj_c_settle(struct mbj_seat *seat);
@@ -84,7 +84,7 @@ uint32_t mbj_c_hand(struct mbj_seat *seat);
 MBJ_NONNULL
 uint32_t mbj_c_out(struct mbj_seat *seat);
 
-/* Finishes all jobs in the hand, and frees the seat; false where there is none. Results of its own jobs that are out are lost. */
+/* Finishes all jobs in the hand, and frees the seat; false if there is none. Results of its own jobs that are out are lost. */
 MBJ_NONNULL
 bool mbj_c_seat_free(struct mbj_seat *seat);
 
@@ -97,7 +97,7 @@ typedef struct mbj_submitter {
     struct mbj_seat seat;
     uint32_t first, next, error;
     uint32_t lent;           /* how many jobs from next on are handed out */
-    void (*pause)(void *);   /* what mbj_drain does where it finds nothing to do; NULL for a pause of the processor */
+    void (*pause)(void *);   /* what mbj_drain does if it finds nothing to do; NULL for a pause of the processor */
     void *pause_with;        /* and what it is called with */
     struct mbj_slot slots[MBJ_MAX_JOBS];
     MBJ_JOB jobs[MBJ_MAX_JOBS];
@@ -132,13 +132,13 @@ MBJ_API void mbj_leave_seat(MBJ_SEAT *s) {
         mbj_c_seat_free(&s->seat);
 }
 
-/* Why the last call returned no job: MBJ_ERR_NONE where there was none to give, or the refusal. */
+/* Why the last call returned no job: MBJ_ERR_NONE if there was none to give, or the refusal. */
 MBJ_API mbj_err mbj_seat_errno(const MBJ_SEAT *s) {
     return (mbj_err)s->error;
 }
 
-/* Hands out up to n jobs: those that were handed out and aren't posted yet, as they are, and then blank ones. Returns how many: fewer where
- * fewer are left, and 0 with MBJ_ERR_FULL where MBJ_MAX_JOBS jobs are out: collect one first. */
+/* Hands out up to n jobs: those that were handed out and aren't posted yet, as they are, and then blank ones. Returns how many: fewer if
+ * fewer are left, and 0 with MBJ_ERR_FULL if MBJ_MAX_JOBS jobs are out: collect one first. */
 MBJ_API uint32_t mbj_seat_get_next_burst(MBJ_SEAT *s, uint32_t n, MBJ_JOB **jobs) {
     uint32_t left = MBJ_MAX_JOBS - (s->next - s->first), count = n < left ? n : left;
     s->error = left == 0 ? MBJ_ERR_FULL : MBJ_ERR_NONE;
@@ -152,7 +152,7 @@ MBJ_API uint32_t mbj_seat_get_next_burst(MBJ_SEAT *s, uint32_t n, MBJ_JOB **jobs
     return count;
 }
 
-/* Hands out the next job, a blank one, or the one that was handed out and isn't posted yet. NULL with MBJ_ERR_FULL where MBJ_MAX_JOBS jobs
+/* Hands out the next job, a blank one, or the one that was handed out and isn't posted yet. NULL with MBJ_ERR_FULL if MBJ_MAX_JOBS jobs
  * are out. */
 MBJ_API MBJ_JOB *mbj_seat_get_next_job(MBJ_SEAT *s) {
     MBJ_JOB *job = NULL;
@@ -160,7 +160,7 @@ MBJ_API MBJ_JOB *mbj_seat_get_next_job(MBJ_SEAT *s) {
 }
 
 /* Posts the first job that was handed out. Its bytes are copied: all that it reads may be used anew then. Returns MBJ_ERR_NONE, MBJ_ERR_NO_JOB
- * where none was handed out, MBJ_ERR_NO_SEAT, MBJ_ERR_NOT_SUBMITTER or MBJ_ERR_MEMORY, after which the job may be posted again. */
+ * if none was handed out, MBJ_ERR_NO_SEAT, MBJ_ERR_NOT_SUBMITTER or MBJ_ERR_MEMORY, after which the job may be posted again. */
 MBJ_CHECKED MBJ_API mbj_err mbj_post_job(MBJ_SEAT *s) {
     uint32_t place = s->next % MBJ_MAX_JOBS;
     MBJ_JOB *job = &s->jobs[place];
@@ -196,8 +196,8 @@ static inline bool mbj_seat_lent_(MBJ_SEAT *s, uint32_t n, MBJ_JOB *const *jobs)
 }
 
 /* Posts n jobs as mbj_post_job does, one after another: the first ones that were handed out, in their order. Returns how many are posted:
- * fewer than n where one lacks memory, for no job may overtake one that is posted again. It and those behind it have MBJ_STATUS_ERROR then,
- * and stay handed out. With MBJ_ERR_NO_JOB, where the jobs aren't those that were handed out, none is posted. */
+ * fewer than n if one lacks memory, for no job may overtake one that is posted again. It and those behind it have MBJ_STATUS_ERROR then,
+ * and stay handed out. With MBJ_ERR_NO_JOB, if the jobs aren't those that were handed out, none is posted. */
 MBJ_CHECKED MBJ_API uint32_t mbj_post_burst(MBJ_SEAT *s, uint32_t n, MBJ_JOB *const *jobs) {
     uint32_t posted = 0;
     if (!mbj_seat_lent_(s, n, jobs)) {
@@ -219,7 +219,7 @@ static inline MBJ_JOB *mbj_seat_give_(MBJ_SEAT *s, const struct mbj_raw_done *do
     return &s->jobs[place];
 }
 
-/* Gives the seat's earliest job back where it is finished, as mbj_get_completed_job does for a manager; NULL where it isn't, or none is
+/* Gives the seat's earliest job back if it is finished, as mbj_get_completed_job does for a manager; NULL if it isn't, or none is
  * out. It does no other job meanwhile. */
 MBJ_API MBJ_JOB *mbj_collect_job(MBJ_SEAT *s) {
     struct mbj_raw_done done;
@@ -259,8 +259,8 @@ static inline void mbj_pause_(void (*pause)(void *), void *with) {
         __builtin_ia32_pause();
 }
 
-/* Gives the seat's earliest job back once it is finished, and does jobs of any seat meanwhile. It waits for other threads, and pauses where
- * it finds nothing to do. Where none is out it returns NULL, and has finished all jobs in its hand: no other submitter waits for them. */
+/* Gives the seat's earliest job back once it is finished, and does jobs of any seat meanwhile. It waits for other threads, and pauses if
+ * it finds nothing to do. If none is out it returns NULL, and has finished all jobs in its hand: no other submitter waits for them. */
 MBJ_API MBJ_JOB *mbj_drain(MBJ_SEAT *s) {
     MBJ_JOB *job = mbj_collect_job(s);
     while (job == NULL && s->next != s->first && s->error == MBJ_ERR_NONE) {

@@ -10,8 +10,8 @@ extern "C" {
 #endif
 
 /* Makes a manager in this memory, where none is, does a job for each cipher and each authentication but HMAC from states, with each length
- * of an AES key, and the ciphers in both directions, and ends the manager again. NULL where every result is as known. Else the name of the
- * first that isn't, as "HMAC-SHA-1", or the refusal's text where there is no manager or a job can't be submitted. */
+ * of an AES key, and the ciphers in both directions, and ends the manager again. NULL if every result is as known. Else the name of the
+ * first that isn't, as "HMAC-SHA-1", or the refusal's text if there is no manager or a job can't be submitted. */
 const char *mbj_selftest(MBJ_MGR *m);
 
 #ifdef __cplusplus
