@@ -25,7 +25,7 @@ pub use narrow::decryption_key::DecryptionKey;
 pub use narrow::one_block::chained;
 pub use narrow::same::{decrypt_same, encrypt_same};
 pub use narrow::text_key::TextKey;
-pub use slots::ChainedSlots;
+pub use slots::{Chained, ChainedSlots};
 pub use wide::all_lanes::{decrypt32, encrypt32};
 pub use wide::lane_keys::LaneKeys;
 pub use wide::lanes::{decrypt_lanes, encrypt_lanes};

@@ -1,23 +1,24 @@
-//! Slots of blocks that are chained, one for each lane. A run makes the round keys of its lanes anew, and nothing is kept for the next one.
+//! The kernel of blocks that are chained, and its slots, one for each lane. A run makes the round keys of its lanes anew, and nothing is kept
+//! for the next one.
 ghost use Rattle.std.specs.Prelude.{◌≡◌, ℕ, ◌^◌, ◌<◌, ◌≤◌, Some, None, IfOk, MatchOption, ◌⊎◌, ◌≢◌, [], length, slice_index, slice_index_or};
 ghost use Rattle.std.specs.Option.{option_map};
 ghost use Rattle.mbj_types.specs.declared.kind.TheConstants.{AES_LANES};
 ghost use Rattle.mbj_aes.specs.declared.expansion.TheConstants.{MAX_ROUND_KEYS};
 ghost use Rattle.mbj_aes_lanes.specs.declared.wide.words.TheConstants.{MAX_SCHEDULE_WORDS};
 ghost use Rattle.mbj_lane.specs.Rounds.{after};
-ghost use Rattle.mbj_lane.specs.Slots.{IsBusy, IsLeast, IsWritten};
 ghost use Rattle.mbj_aes_lanes.specs.Chaining.{chained_once};
 ghost use Rattle.mbj_aes_lanes.specs.Inside.Slots.{HaveRounds};
 ghost use Rattle.mbj_aes_lanes.specs.Slots.{slot_at};
 
 use crate::chaining::Chaining;
-use crate::leading::lead;
+use crate::leading::{lead, lead_all};
 use crate::wide::state::{State, zero_state};
 use crate::wide::words::MAX_SCHEDULE_WORDS;
 use mbj_aes::MAX_ROUND_KEYS;
+use mbj_lane::{Kernel, SlotKernel};
 use mbj_types::{AES_LANES, AesWord, Lane8};
 use std::alloc::{AllocError, Global};
-use std::marker::Model;
+use std::marker::{Model, PhantomData};
 use std::mem;
 
 /// Slots of entries, which contracts see as the list of what stands in each.
@@ -97,18 +98,52 @@ fn lead_slots<E: Chaining>(
     );
 }
 
-impl<E: Chaining> ChainedSlots<E> {
-    /// As many idle slots as there are lanes. No other call takes memory.
-    ///
-    /// Returns `AllocError` for want of memory.
-    pub fn new(alloc: Global) -> Result<ChainedSlots<E>, AllocError>
-        ensures { IfOk result (λ s. (i : ℕ) → i < AES_LANES → slot_at s i ≡ None) }
-    {
+/// Chained blocks in `AES_LANES` lanes.
+pub struct Chained<E: Chaining> {
+    of: PhantomData<E>,
+}
+
+impl<E: Chaining> Kernel for Chained<E> {
+    type Entry = E;
+
+    const LANES: u32 = AES_LANES as u32;
+
+    ghost LANES = { AES_LANES };
+
+    ghost rest_of = { E.rest_of };
+
+    ghost round = { chained_once E.key_of E.block_of E.chain_of E.led E.kept };
+
+    fn rest(entry: &E) -> u32 {
+        entry.rest()
+    }
+
+    fn run(entries: &mut [E], m: u32) {
+        lead_all(entries, m);
+    }
+
+    ghost use Rattle.std.proofs.Common.{◌∙◌, rules};
+    ghost use Rattle.mbj_aes_lanes.specs.Chaining.{next_chain};
+
+    ghost some = { Prim.search rules };
+
+    ghost few = { Prim.search rules };
+
+    ghost falls = { λ e. E.keeps_rest (E.led e (next_chain E.key_of E.block_of E.chain_of e)) (next_chain E.key_of E.block_of E.chain_of e)
+        ∙ E.falls e (next_chain E.key_of E.block_of E.chain_of e) };
+}
+
+impl<E: Chaining> SlotKernel for Chained<E> {
+    type Slots = ChainedSlots<E>;
+
+    ghost slot = { slot_at };
+
+    fn new_slots(alloc: Global) -> Result<ChainedSlots<E>, AllocError> {
         let round_keys = copies(alloc, MAX_ROUND_KEYS, zero_state())?;
         let words = copies(alloc, MAX_SCHEDULE_WORDS, <AesWord as Lane8>::splat(0))?;
         let chains = copies(alloc, 1, zero_state())?;
         let mut entries = Vec::with_capacity(alloc, AES_LANES)?;
-        'slots: for _i in 0..AES_LANES {
+        'lanes: for _i in 0..AES_LANES {
             entries.push_reserved(None);
         }
         Ok(ChainedSlots {
@@ -119,62 +154,37 @@ impl<E: Chaining> ChainedSlots<E> {
         })
     }
 
-    /// An entry takes an idle slot.
-    pub fn put(&mut self, i: usize, entry: E)
-        requires lane { i < AES_LANES }
-        requires idle { slot_at self.old i ≡ None }
-        ensures { IsWritten AES_LANES i (Some entry) (slot_at self.old) (slot_at self.new) }
-    {
-        self.entries[i] = Some(entry);
+    fn put(slots: &mut ChainedSlots<E>, i: usize, entry: E) {
+        slots.entries[i] = Some(entry);
     }
 
-    /// How many rounds the entry of a slot has left.
-    pub fn rest_at(&self, i: usize) -> u32
-        requires lane { i < AES_LANES }
-        requires busy { IsBusy (slot_at self.now) i }
-        ensures { (e : E) → slot_at self.now i ≡ Some e → result ≡ E.rest_of e }
-    {
-        match &self.entries[i] {
+    fn rest_at(slots: &ChainedSlots<E>, i: usize) -> u32 {
+        match &slots.entries[i] {
             Some(entry) => entry.rest(),
             None => unreachable!(),
         }
     }
 
-    /// The least rest of all slots, of which one has an entry.
-    pub fn least(&self) -> u32
-        requires { (i : ℕ) × (i < AES_LANES) × IsBusy (slot_at self.now) i }
-        ensures { IsLeast E.rest_of AES_LANES (slot_at self.now) result }
-    {
+    fn least(slots: &ChainedSlots<E>) -> u32 {
         let mut least = u32::MAX;
-        'slots: for i in 0..AES_LANES {
-            least = lesser(&self.entries[i], least);
+        'lanes: for i in 0..AES_LANES {
+            least = lesser(&slots.entries[i], least);
         }
         least
     }
 
-    /// Advances every entry by `m` rounds; each has at least `m` left.
-    pub fn run_all(&mut self, m: u32)
-        requires { (i : ℕ) (e : E) → i < AES_LANES → slot_at self.old i ≡ Some e → m ≤ E.rest_of e }
-        ensures { (i : ℕ) → i < AES_LANES → slot_at self.new i
-            ≡ option_map (after (chained_once E.key_of E.block_of E.chain_of E.led E.kept) m) (slot_at self.old i) }
-    {
+    fn run_all(slots: &mut ChainedSlots<E>, m: u32) {
         lead_slots(
-            &mut self.entries,
+            &mut slots.entries,
             m,
-            &mut self.round_keys,
-            &mut self.words,
-            &mut self.chains[0],
+            &mut slots.round_keys,
+            &mut slots.words,
+            &mut slots.chains[0],
         );
     }
 
-    /// Takes an entry out of its slot, which is idle then.
-    pub fn take(&mut self, i: usize) -> E
-        requires lane { i < AES_LANES }
-        requires busy { IsBusy (slot_at self.old) i }
-        ensures taken { slot_at self.old i ≡ Some result }
-        ensures idle { IsWritten AES_LANES i None (slot_at self.old) (slot_at self.new) }
-    {
-        match mem::replace(&mut self.entries[i], None) {
+    fn take(slots: &mut ChainedSlots<E>, i: usize) -> E {
+        match mem::replace(&mut slots.entries[i], None) {
             Some(entry) => entry,
             None => unreachable!(),
         }

@@ -9,7 +9,7 @@ ghost use Rattle.mbj_lane.specs.Rounds.{end_of};
 ghost use Rattle.mbj_cbc.specs.Rounds.{CbcState, key_of, rest_of, block_of, chain_of, led, kept, next_block_at, round, started};
 
 use mbj_aes::Schedule;
-use mbj_aes_lanes::{Chaining, bytes_of_key, bytes_of_schedule};
+use mbj_aes_lanes::{Chained, Chaining, bytes_of_key, bytes_of_schedule};
 use mbj_blocks::block_from;
 use mbj_types::BLOCK_BYTES;
 use std::marker::Model;
@@ -28,6 +28,9 @@ pub struct CbcEntry<const N: usize> {
     off: usize,
     len: usize,
 }
+
+/// CBC encryption in `AES_LANES` lanes, under keys of `N` rounds: 10, 12 or 14.
+pub type CbcKernel<const N: usize> = Chained<CbcEntry<N>>;
 
 impl<const N: usize> Model for CbcEntry<N> {
     ghost use Rattle.std.specs.Prelude.{◌≡◌, ◌+◌, ◌*◌, ◌^◌, ◌<◌, ◌≤◌, length};

@@ -4,12 +4,10 @@
 
 mod entry;
 mod in_place;
-mod kernel;
 mod laws;
 mod plain;
 
-pub use entry::CbcEntry;
+pub use entry::{CbcEntry, CbcKernel};
 pub use in_place::decrypt_in_place;
-pub use kernel::CbcKernel;
 pub use laws::decryption_undoes_encryption;
 pub use plain::encrypt_in_place;

@@ -8,7 +8,7 @@ ghost use Rattle.mbj_ccm.specs.Rounds.{CcmState, key_of, rest_of, chain_of, bloc
 
 use crate::format::{data_block, data_rounds, filled_from, first_block};
 use mbj_aes::Schedule;
-use mbj_aes_lanes::{Chaining, bytes_of_schedule};
+use mbj_aes_lanes::{Chained, Chaining, bytes_of_schedule};
 use mbj_types::{BLOCK_BYTES, MAX_CCM_AAD_BYTES, MAX_PACKET_BYTES};
 use std::marker::Model;
 
@@ -30,6 +30,9 @@ pub struct CcmEntry<const N: usize> {
     len: usize,
     tag_len: u8,
 }
+
+/// MACs of CCM in `AES_LANES` lanes, under keys of `N` rounds: 10, 12 or 14.
+pub type CcmKernel<const N: usize> = Chained<CcmEntry<N>>;
 
 impl<const N: usize> Model for CcmEntry<N> {
     ghost use Rattle.mbj_types.specs.Aes.{key_schedule};

@@ -6,10 +6,8 @@
 mod counter;
 mod entry;
 mod format;
-mod kernel;
 mod laws;
 
 pub use counter::{apply, apply_and_mask, mask};
-pub use entry::CcmEntry;
-pub use kernel::CcmKernel;
+pub use entry::{CcmEntry, CcmKernel};
 pub use laws::opening_undoes_sealing;

@@ -12,7 +12,7 @@ ghost use Rattle.mbj_cmac.specs.Rounds.{CmacState, key_of, rest_of, block_of, ch
 
 use crate::closing::{closed_block, closed_by, doubled};
 use mbj_aes::Schedule;
-use mbj_aes_lanes::{Chaining, bytes_of_key, bytes_of_schedule, schedule_of_bytes};
+use mbj_aes_lanes::{Chained, Chaining, bytes_of_key, bytes_of_schedule, schedule_of_bytes};
 use mbj_blocks::block_from;
 use mbj_types::BLOCK_BYTES;
 use std::marker::Model;
@@ -35,6 +35,9 @@ pub struct CmacEntry<const N: usize> {
     off: usize,
     len: usize,
 }
+
+/// CMACs in `AES_LANES` lanes, under keys of `N` rounds: 10, 12 or 14.
+pub type CmacKernel<const N: usize> = Chained<CmacEntry<N>>;
 
 impl<const N: usize> Model for CmacEntry<N> {
     ghost use Rattle.mbj_types.specs.Aes.{key_schedule};

@@ -3,10 +3,8 @@
 
 mod closing;
 mod entry;
-mod kernel;
 mod plain;
 
 pub use closing::{doubled, first_subkey};
-pub use entry::CmacEntry;
-pub use kernel::CmacKernel;
+pub use entry::{CmacEntry, CmacKernel};
 pub use plain::cmac_plain;

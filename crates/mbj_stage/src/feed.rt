@@ -6,7 +6,9 @@ ghost use Rattle.mbj_types.specs.declared.class.AuthClass.{AuthClass};
 ghost use Rattle.mbj_types.specs.declared.job.Job.{Job};
 ghost use Rattle.mbj_types.specs.declared.kind.Kind.{Kind};
 ghost use Rattle.mbj_types.specs.declared.kind.Kind.TheVariants as kind;
+ghost use Rattle.mbj_types.specs.declared.kind.TheConstants.{AES_LANES};
 ghost use Rattle.mbj_aes.specs.Bytes.{IsRoundCount};
+ghost use Rattle.mbj_aes_lanes.specs.Chaining.{chained_once};
 ghost use Rattle.mbj_hmac.specs.Names.{serves_lanes_class};
 ghost use Rattle.mbj_lane.specs.Rounds.{end_of};
 ghost use Rattle.mbj_lane.specs.Slots.{IsBusy, IsWritten};
@@ -18,9 +20,10 @@ ghost use Rattle.mbj_stage.specs.Ends.{cbc_end, ccm_end, cmac_end, hmac_end};
 ghost use Rattle.mbj_stage.specs.Families.{cbc_lanes, ccm_lanes, cmac_lanes};
 
 use crate::course::Course;
-use mbj_cbc::{CbcEntry, CbcKernel};
-use mbj_ccm::{CcmEntry, CcmKernel};
-use mbj_cmac::{CmacEntry, CmacKernel};
+use mbj_aes_lanes::{Chained, Chaining};
+use mbj_cbc::CbcEntry;
+use mbj_ccm::CcmEntry;
+use mbj_cmac::CmacEntry;
 use mbj_hmac::{HmacEntry, HmacKernel, HmacSlots, LaneHash, Sha1Lanes, Sha256Lanes, Sha512Lanes};
 use mbj_lane::{Host, SlotKernel};
 
@@ -99,7 +102,53 @@ impl<K: Feed> Host<K> for Course {
     }
 }
 
-impl<const N: usize> Feed for CbcKernel<N> {
+/// Entries whose blocks are chained in the lanes of a kind.
+pub trait ChainedKind: Chaining {
+    /// The kind.
+    ghost kind: { Kind };
+
+    /// The entry does the work of that kind: its keys have the round count of a key.
+    ghost fits: { Type 0 };
+
+    /// What an entry with no round left brings back to its course.
+    ghost brings: { Self → End };
+
+    /// Hands the packet of a course out, whose next stage is in these lanes.
+    fn hand_out(course: &mut Course) -> Self
+        requires fits { fits }
+        requires next { IsNext kind course.old }
+        ensures { IsHandedOut kind (Self.rest_of result)
+            (brings (end_of (chained_once Self.key_of Self.block_of Self.chain_of Self.led Self.kept) Self.rest_of result)) course.new course.old };
+
+    /// Takes an entry back that has no round left.
+    fn take_back(course: &mut Course, entry: Self)
+        requires out { IsOut kind (brings entry) course.old }
+        requires done { Self.rest_of entry ≡ 0 }
+        ensures { course.new ≡ taken_back (brings entry) course.old };
+
+    /// The kind has these lanes.
+    ghost lanes: { AES_LANES ≡ lanes_of kind };
+}
+
+impl<E: ChainedKind> Feed for Chained<E> {
+    ghost kind = { E.kind };
+
+    ghost fits = { E.fits };
+
+    ghost brings = { E.brings };
+
+    fn hand_out(course: &mut Course) -> E {
+        E::hand_out(course)
+    }
+
+    fn take_back(course: &mut Course, entry: E) {
+        E::take_back(course, entry);
+    }
+
+    ghost lanes = { E.lanes };
+}
+
+impl<const N: usize> ChainedKind for CbcEntry<N> {
     ghost use Rattle.mbj_stage.specs.Laws.{cbc-lanes};
 
     ghost kind = { cbc_lanes N };
@@ -119,7 +168,7 @@ impl<const N: usize> Feed for CbcKernel<N> {
     ghost lanes = { cbc-lanes N };
 }
 
-impl<const N: usize> Feed for CmacKernel<N> {
+impl<const N: usize> ChainedKind for CmacEntry<N> {
     ghost use Rattle.mbj_stage.specs.Laws.{cmac-lanes};
 
     ghost kind = { cmac_lanes N };
@@ -140,7 +189,7 @@ impl<const N: usize> Feed for CmacKernel<N> {
     ghost lanes = { cmac-lanes N };
 }
 
-impl<const N: usize> Feed for CcmKernel<N> {
+impl<const N: usize> ChainedKind for CcmEntry<N> {
     ghost use Rattle.mbj_stage.specs.Laws.{ccm-lanes};
 
     ghost kind = { ccm_lanes N };
