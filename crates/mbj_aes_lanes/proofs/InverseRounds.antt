@@ -187,12 +187,6 @@ inverse_first_round_is s key made is =
     (λ j h. is j h ∙ ap (λ p. bit_xor (inv_sub_of (s p)) (key j)) (sym (place-none j h)))
     ∙ summed_bytes (λ j. inv_sub_of (s (place 0 j))) key
 
-pub inverse_key-same : (r : ℕ) (f g : ℕ → ℕ) → ((j : ℕ) → j < 16 → f j ≡ g j) → inverse_key r f ≡ inverse_key r g
-unfolding inverse_key
-inverse_key-same r f g same =
-    block_with-same (λ j. bit_xor (from_decryption (f (place r j))) SBOX_CONSTANT) (λ j. bit_xor (from_decryption (g (place r j))) SBOX_CONSTANT)
-    (λ j h. ap (λ x. bit_xor (from_decryption x) SBOX_CONSTANT) (same (place r j) (place-lt r j)))
-
 -- ---- keys as they are laid out
 
 module _ (key t nine eleven thirteen fourteen constant made : ℕ → ℕ)

@@ -8,9 +8,7 @@ use Rattle.mbj_types.specs.Aes.{round_key, mix_columns}
 use Rattle.mbj_aes.specs.BlockWords.{block_with}
 use Rattle.mbj_aes.proofs.BlockWords.{length-block_with, block_with-same, slice_index-block_with}
 use Rattle.mbj_aes_lanes.specs.Inside.Layouts.{tower_state, tower_key, last_key, inverse_key}
-use Rattle.mbj_aes_lanes.specs.Inside.LaidKeys.{schedule_with, laid_key, inverse_laid_key, laid_schedule, inverse_laid_schedule}
-use Rattle.mbj_aes_lanes.proofs.LayoutRounds.{tower_state-same, tower_key-same, last_key-same}
-use Rattle.mbj_aes_lanes.proofs.InverseRounds.{inverse_key-same}
+use Rattle.mbj_aes_lanes.specs.Inside.LaidKeys.{schedule_with, key_of_round, laid_key, inverse_laid_key, laid_schedule}
 
 -- ---- joined round keys
 
@@ -75,122 +73,33 @@ module _ (key : ℕ → List ℕ) where
         let here : 0 + r ≡ r = omega arith in
         ap key here ∙ each r (omega arith) ∙ ap (round_key w) (sym here))
 
--- ---- the round keys of encryption
+-- ---- the key of a round
 
-pub laid_key-between : (n r : ℕ) (f : ℕ → ℕ) → 1 ≤ r → r < n → laid_key n r f ≡ tower_key r f
-laid_key-between n r f h k = pick r n (tower_state 0 f) (last_key f) (tower_key r f) h k
-  where
-    pick : (r n : ℕ) (x y z : List ℕ) → 1 ≤ r → r < n → (if nat_eq r 0 then x else if nat_eq r n then y else z) ≡ z
-    pick r n x y z h k = grind (arith, nat_tests)
+module _ (n r : ℕ) (x y z : List ℕ) where
+  pub key_of_round-first : r ≡ 0 → key_of_round n r x y z ≡ x
+  key_of_round-first h = grind (arith, nat_tests)
 
-pub laid_key-first : (n r : ℕ) (f : ℕ → ℕ) → r ≡ 0 → laid_key n r f ≡ tower_state 0 f
-laid_key-first n r f h = pick r n (tower_state 0 f) (last_key f) (tower_key r f) h
-  where
-    pick : (r n : ℕ) (x y z : List ℕ) → r ≡ 0 → (if nat_eq r 0 then x else if nat_eq r n then y else z) ≡ x
-    pick r n x y z h = grind (arith, nat_tests)
+  pub key_of_round-last : 1 ≤ r → r ≡ n → key_of_round n r x y z ≡ y
+  key_of_round-last h k = grind (arith, nat_tests)
 
-pub laid_key-last : (n r : ℕ) (f : ℕ → ℕ) → 1 ≤ r → r ≡ n → laid_key n r f ≡ last_key f
-laid_key-last n r f h k = pick r n (tower_state 0 f) (last_key f) (tower_key r f) h k
-  where
-    pick : (r n : ℕ) (x y z : List ℕ) → 1 ≤ r → r ≡ n → (if nat_eq r 0 then x else if nat_eq r n then y else z) ≡ y
-    pick r n x y z h k = grind (arith, nat_tests)
-
-length-tower_state : (r : ℕ) (f : ℕ → ℕ) → length (tower_state r f) ≡ 16
-unfolding tower_state
-length-tower_state r f = length-block_with _
-
-length-tower_key : (r : ℕ) (f : ℕ → ℕ) → length (tower_key r f) ≡ 16
-unfolding tower_key
-length-tower_key r f = length-block_with _
-
-length-last_key : (f : ℕ → ℕ) → length (last_key f) ≡ 16
-unfolding last_key
-length-last_key f = length-block_with _
-
-length-inverse_key : (r : ℕ) (f : ℕ → ℕ) → length (inverse_key r f) ≡ 16
-unfolding inverse_key
-length-inverse_key r f = length-block_with _
-
--- one of three blocks
-one_of : (a b : ℕ) (r : ℕ) (x y z : List ℕ) → length x ≡ 16 → length y ≡ 16 → length z ≡ 16
-    → length (if nat_eq r a then x else if nat_eq r b then y else z) ≡ 16
-one_of a b r x y z hx hy hz = grind (arith, nat_tests)
-
-pub length-laid_key : (n r : ℕ) (f : ℕ → ℕ) → length (laid_key n r f) ≡ 16
-length-laid_key n r f =
-    one_of 0 n r (tower_state 0 f) (last_key f) (tower_key r f) (length-tower_state 0 f) (length-last_key f) (length-tower_key r f)
-
-pub laid_key-same : (n r : ℕ) (f g : ℕ → ℕ) → ((j : ℕ) → j < 16 → f j ≡ g j) → laid_key n r f ≡ laid_key n r g
-laid_key-same n r f g same =
-    let a = tower_state-same 0 f g same in
-    let b = last_key-same r f g same in
-    let c = tower_key-same r f g same in
-    λ i. if nat_eq r 0 then a i else if nat_eq r n then b i else c i
-
--- a key that was stored
-pub laid_key-stored : (n r : ℕ) (f : ℕ → ℕ) (block : List ℕ) → block ≡ block_with f → laid_key n r (slice_index block) ≡ laid_key n r f
-laid_key-stored n r f block e =
-    laid_key-same n r (slice_index block) f (λ j h. ap (λ b. slice_index b j) e ∙ slice_index-block_with f j h)
-
--- ---- the round keys of decryption
-
-module _ (n r : ℕ) (f : ℕ → ℕ) where
-  pub inverse_laid_key-first : r ≡ 0 → inverse_laid_key n r f ≡ block_with f
-  inverse_laid_key-first h = pick r n (block_with f) (inverse_key 0 f) (mix_columns (inverse_key r f)) h
-    where
-      pick : (r n : ℕ) (x y z : List ℕ) → r ≡ 0 → (if nat_eq r 0 then x else if nat_eq r n then y else z) ≡ x
-      pick r n x y z h = grind (arith, nat_tests)
-
-  pub inverse_laid_key-last : 1 ≤ r → r ≡ n → inverse_laid_key n r f ≡ inverse_key 0 f
-  inverse_laid_key-last h k = pick r n (block_with f) (inverse_key 0 f) (mix_columns (inverse_key r f)) h k
-    where
-      pick : (r n : ℕ) (x y z : List ℕ) → 1 ≤ r → r ≡ n → (if nat_eq r 0 then x else if nat_eq r n then y else z) ≡ y
-      pick r n x y z h k = grind (arith, nat_tests)
-
-  pub inverse_laid_key-between : 1 ≤ r → r < n → inverse_laid_key n r f ≡ mix_columns (inverse_key r f)
-  inverse_laid_key-between h k = pick r n (block_with f) (inverse_key 0 f) (mix_columns (inverse_key r f)) h k
-    where
-      pick : (r n : ℕ) (x y z : List ℕ) → 1 ≤ r → r < n → (if nat_eq r 0 then x else if nat_eq r n then y else z) ≡ z
-      pick r n x y z h k = grind (arith, nat_tests)
-
-  pub length-inverse_laid_key : length (inverse_laid_key n r f) ≡ 16
-  length-inverse_laid_key =
-      one_of 0 n r (block_with f) (inverse_key 0 f) (mix_columns (inverse_key r f)) (length-block_with f) (length-inverse_key 0 f) refl
-
-pub inverse_laid_key-same : (n r : ℕ) (f g : ℕ → ℕ) → ((j : ℕ) → j < 16 → f j ≡ g j) → inverse_laid_key n r f ≡ inverse_laid_key n r g
-inverse_laid_key-same n r f g same =
-    let a = block_with-same f g same in
-    let b = inverse_key-same 0 f g same in
-    let c = inverse_key-same r f g same in
-    λ i. if nat_eq r 0 then a i else if nat_eq r n then b i else mix_columns (c i)
-
-pub inverse_laid_key-stored : (n r : ℕ) (f : ℕ → ℕ) (block : List ℕ) → block ≡ block_with f
-    → inverse_laid_key n r (slice_index block) ≡ inverse_laid_key n r f
-inverse_laid_key-stored n r f block e =
-    inverse_laid_key-same n r (slice_index block) f (λ j h. ap (λ b. slice_index b j) e ∙ slice_index-block_with f j h)
+  pub key_of_round-between : 1 ≤ r → r < n → key_of_round n r x y z ≡ z
+  key_of_round-between h k = grind (arith, nat_tests)
 
 -- ---- a schedule that is kept so
 
-module _ (n : ℕ) (keys : List (List ℕ)) (w : List ℕ) where
-  pub length-laid : laid_schedule n keys ≡ w → length w ≡ 16 * (n + 1)
-  length-laid is =
-      sym (ap length is)
-      ∙ length-schedule_with (λ r. laid_key n r (slice_index (get_or keys r []))) n (λ r. length-laid_key n r (slice_index (get_or keys r [])))
+module _ (laid : ℕ → ℕ → (ℕ → ℕ) → List ℕ) (n : ℕ) where
+  -- a key that was stored
+  pub laid-stored : ((n r : ℕ) (f g : ℕ → ℕ) → ((j : ℕ) → j < 16 → f j ≡ g j) → laid n r f ≡ laid n r g)
+      → (r : ℕ) (f : ℕ → ℕ) (block : List ℕ) → block ≡ block_with f → laid n r (slice_index block) ≡ laid n r f
+  laid-stored same r f block e = same n r (slice_index block) f (λ j h. ap (λ b. slice_index b j) e ∙ slice_index-block_with f j h)
 
-  pub round_key-laid : (r : ℕ) → r ≤ n → laid_schedule n keys ≡ w → laid_key n r (slice_index (get_or keys r [])) ≡ round_key w r
-  round_key-laid r h is =
-      sym (round_key-schedule_with (λ r. laid_key n r (slice_index (get_or keys r []))) n r (λ r. length-laid_key n r (slice_index (get_or keys r []))) h)
-      ∙ ap (λ w. round_key w r) is
+  module _ (sized : (n r : ℕ) (f : ℕ → ℕ) → length (laid n r f) ≡ 16) (keys : List (List ℕ)) (w : List ℕ) where
+    pub length-laid : laid_schedule laid n keys ≡ w → length w ≡ 16 * (n + 1)
+    length-laid is =
+        sym (ap length is)
+        ∙ length-schedule_with (λ r. laid n r (slice_index (get_or keys r []))) n (λ r. sized n r (slice_index (get_or keys r [])))
 
-  pub length-inverse_laid : inverse_laid_schedule n keys ≡ w → length w ≡ 16 * (n + 1)
-  length-inverse_laid is =
-      sym (ap length is)
-      ∙ length-schedule_with (λ r. inverse_laid_key n r (slice_index (get_or keys r []))) n
-      (λ r. length-inverse_laid_key n r (slice_index (get_or keys r [])))
-
-  pub round_key-inverse_laid : (r : ℕ) → r ≤ n → inverse_laid_schedule n keys ≡ w
-      → inverse_laid_key n r (slice_index (get_or keys r [])) ≡ round_key w r
-  round_key-inverse_laid r h is =
-      sym (round_key-schedule_with (λ r. inverse_laid_key n r (slice_index (get_or keys r []))) n r
-      (λ r. length-inverse_laid_key n r (slice_index (get_or keys r []))) h)
-      ∙ ap (λ w. round_key w r) is
+    pub round_key-laid : (r : ℕ) → r ≤ n → laid_schedule laid n keys ≡ w → laid n r (slice_index (get_or keys r [])) ≡ round_key w r
+    round_key-laid r h is =
+        sym (round_key-schedule_with (λ r. laid n r (slice_index (get_or keys r []))) n r (λ r. sized n r (slice_index (get_or keys r []))) h)
+        ∙ ap (λ w. round_key w r) is

@@ -121,25 +121,6 @@ first_round_is s t key made t_small key_small t_is is =
     ∙ ap (λ (x : ℕ). bit_xor x (from_tower (key p))) (t_is p inside ∙ ap s (place-none j h)))
     ∙ summed_bytes s (λ j. from_tower (key (place 0 j)))
 
--- ---- the same bytes are the same states and keys
-
-module _ (r : ℕ) (f g : ℕ → ℕ) (same : (j : ℕ) → j < 16 → f j ≡ g j) where
-  pub tower_state-same : tower_state r f ≡ tower_state r g
-  unfolding tower_state
-  tower_state-same =
-      block_with-same (λ j. from_tower (f (place r j))) (λ j. from_tower (g (place r j))) (λ j h. ap from_tower (same (place r j) (place-lt r j)))
-
-  pub tower_key-same : tower_key r f ≡ tower_key r g
-  unfolding tower_key
-  tower_key-same =
-      block_with-same (λ j. bit_xor (from_tower (f (place r j))) SBOX_CONSTANT) (λ j. bit_xor (from_tower (g (place r j))) SBOX_CONSTANT)
-      (λ j h. ap (λ x. bit_xor (from_tower x) SBOX_CONSTANT) (same (place r j) (place-lt r j)))
-
-  pub last_key-same : last_key f ≡ last_key g
-  unfolding last_key
-  last_key-same =
-      block_with-same (λ j. bit_xor (f j) SBOX_CONSTANT) (λ j. bit_xor (g j) SBOX_CONSTANT) (λ j h. ap (λ (x : ℕ). bit_xor x SBOX_CONSTANT) (same j h))
-
 -- ---- round keys as they are laid out
 
 pub first_key_is : (key made : ℕ → ℕ) → ((j : ℕ) → j < 16 → from_tower (made j) ≡ key j) → tower_state 0 made ≡ block_with key

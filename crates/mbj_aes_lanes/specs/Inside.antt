@@ -6,5 +6,6 @@ pub mod BusyKeys
 pub mod Wide
 pub mod WideKeys
 pub mod LaidKeys
+pub mod LaidLaws
 pub mod Layouts
 pub mod KeyStream

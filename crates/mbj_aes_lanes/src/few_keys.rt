@@ -6,14 +6,14 @@ ghost use Rattle.mbj_aes.specs.Bytes.{IsRoundCount};
 ghost use Rattle.mbj_aes.specs.BlockWords.{block_at};
 ghost use Rattle.mbj_aes_lanes.specs.Inside.Busy.{AreRising};
 ghost use Rattle.mbj_aes_lanes.specs.Inside.BusyKeys.{column, few_schedule, AreBusyKeys};
-ghost use Rattle.mbj_aes_lanes.specs.Inside.LaidKeys.{laid_schedule};
+ghost use Rattle.mbj_aes_lanes.specs.Inside.LaidKeys.{laid_key, laid_schedule};
 ghost use Rattle.mbj_aes_lanes.specs.Inside.Slots.{IsKeyOf};
 
 use crate::chaining::Chaining;
 use crate::few_lanes::BusyLanes;
 use crate::key_bytes::schedule_of_bytes;
 use crate::narrow::cipher::encrypt_all;
-use crate::narrow::laid_keys::laid_keys;
+use crate::narrow::laid_keys::{Encryption, laid_keys};
 use crate::narrow::schedules::EachKeys;
 use crate::slot::Slot;
 use mbj_aes::{BlockWord, MAX_ROUND_KEYS};
@@ -33,10 +33,13 @@ fn keys_in<E: Chaining, S: Slot<E>>(slots: &[S], lane: usize) -> [[u8; 16]; MAX_
     requires lanes { S.least ≤ length slots.now }
     requires most { length slots.now ≤ AES_LANES }
     ensures size { length result ≡ MAX_ROUND_KEYS }
-    ensures key { IsKeyOf E.key_of (laid_schedule E.key_rounds result) (S.in_lane slots.now lane) }
+    ensures key { IsKeyOf E.key_of (laid_schedule laid_key E.key_rounds result) (S.in_lane slots.now lane) }
 {
     match S::entry(slots, lane) {
-        Some(entry) => laid_keys(&schedule_of_bytes(entry.key_bytes(), entry.rounds())),
+        Some(entry) => laid_keys::<Encryption>(&schedule_of_bytes(
+            entry.key_bytes(),
+            entry.rounds(),
+        )),
         None => [[0; BLOCK_BYTES]; MAX_ROUND_KEYS],
     }
 }

@@ -2,7 +2,6 @@
 pub mod by_fours;
 pub mod cipher;
 pub mod counters;
-pub mod decryption_key;
 pub mod inverse_cipher;
 pub mod inverse_rounds;
 pub mod laid_keys;

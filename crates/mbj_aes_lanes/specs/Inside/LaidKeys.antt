@@ -9,17 +9,18 @@ use Rattle.mbj_aes_lanes.specs.Inside.Layouts.{tower_state, tower_key, last_key,
 unfoldable pub schedule_with : (ℕ → List ℕ) → ℕ → List ℕ
 schedule_with key n = concat (map key (range_with_len 0 (n + 1)))
 
+-- the key of round r of n: the first one, the last one, or one between them
+abbrev pub key_of_round : ℕ → ℕ → List ℕ → List ℕ → List ℕ → List ℕ
+key_of_round n r first last between = if nat_eq r 0 then first else if nat_eq r n then last else between
+
 -- round key r of n rounds that the bytes f stand for in encryption
 abbrev pub laid_key : ℕ → ℕ → (ℕ → ℕ) → List ℕ
-laid_key n r f = if nat_eq r 0 then tower_state 0 f else if nat_eq r n then last_key f else tower_key r f
+laid_key n r f = key_of_round n r (tower_state 0 f) (last_key f) (tower_key r f)
 
 -- the same in decryption: the keys between the first and the last had INVMIXCOLUMNS
 abbrev pub inverse_laid_key : ℕ → ℕ → (ℕ → ℕ) → List ℕ
-inverse_laid_key n r f = if nat_eq r 0 then block_with f else if nat_eq r n then inverse_key 0 f else mix_columns (inverse_key r f)
+inverse_laid_key n r f = key_of_round n r (block_with f) (inverse_key 0 f) (mix_columns (inverse_key r f))
 
--- the schedules that such round keys are
-abbrev pub laid_schedule : ℕ → List (List ℕ) → List ℕ
-laid_schedule n keys = schedule_with (λ r. laid_key n r (slice_index (slice_index_or keys r []))) n
-
-abbrev pub inverse_laid_schedule : ℕ → List (List ℕ) → List ℕ
-inverse_laid_schedule n keys = schedule_with (λ r. inverse_laid_key n r (slice_index (slice_index_or keys r []))) n
+-- the schedule that such round keys are
+abbrev pub laid_schedule : (ℕ → ℕ → (ℕ → ℕ) → List ℕ) → ℕ → List (List ℕ) → List ℕ
+laid_schedule laid n keys = schedule_with (λ r. laid n r (slice_index (slice_index_or keys r []))) n

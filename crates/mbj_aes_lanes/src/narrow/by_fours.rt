@@ -1,34 +1,17 @@
 //! Texts of any number of blocks, four at a time.
-ghost use Rattle.std.specs.Prelude.{◌≡◌, ℕ, ◌<◌, ◌≤◌, List, [], length, slice_index_or};
+ghost use Rattle.std.specs.Prelude.{◌≡◌, ℕ, ◌<◌, [], length, slice_index_or};
 
+use crate::narrow::text_key::{Direction, LaidKey};
 use mbj_types::BLOCK_BYTES;
 
 /// The blocks of a text that go at once, in two registers side by side. More of them would take no less time each.
 pub const BATCH_BLOCKS: usize = 4;
 
-/// A key of texts, which changes two or four blocks at once.
-pub trait ByFours {
-    /// What it makes of a block.
-    ghost change: { Self → List ℕ → List ℕ };
-
-    /// Changes the first two blocks, in one register.
-    fn change_two(&self, blocks: &mut [[u8; 16]])
-        requires { 2 ≤ length blocks.old }
-        ensures first { (i : ℕ) → i < 2 → slice_index_or blocks.new i [] ≡ change self.now (slice_index_or blocks.old i []) }
-        ensures others { (i : ℕ) → 2 ≤ i → slice_index_or blocks.new i [] ≡ slice_index_or blocks.old i [] };
-
-    /// Changes the first four blocks, in two registers side by side.
-    fn change_four(&self, blocks: &mut [[u8; 16]])
-        requires { 4 ≤ length blocks.old }
-        ensures first { (i : ℕ) → i < 4 → slice_index_or blocks.new i [] ≡ change self.now (slice_index_or blocks.old i []) }
-        ensures others { (i : ℕ) → 4 ≤ i → slice_index_or blocks.new i [] ≡ slice_index_or blocks.old i [] };
-}
-
 // Fewer than four blocks, with others behind them: in one register, or in two where there are three.
 #[inline(always)]
-fn change_first<K: ByFours>(key: &K, four: &mut [[u8; 16]; BATCH_BLOCKS], many: usize)
+fn change_first<D: Direction>(key: &LaidKey<D>, four: &mut [[u8; 16]; BATCH_BLOCKS], many: usize)
     requires { many < BATCH_BLOCKS }
-    ensures { (i : ℕ) → i < many → slice_index_or four.new i [] ≡ K.change key.now (slice_index_or four.old i []) }
+    ensures { (i : ℕ) → i < many → slice_index_or four.new i [] ≡ D.change key.now (slice_index_or four.old i []) }
 {
     if many <= 2 {
         key.change_two(four);
@@ -39,10 +22,10 @@ fn change_first<K: ByFours>(key: &K, four: &mut [[u8; 16]; BATCH_BLOCKS], many: 
 
 // Fewer than four blocks.
 #[inline(always)]
-fn change_rest<K: ByFours>(key: &K, blocks: &mut [[u8; 16]])
+fn change_rest<D: Direction>(key: &LaidKey<D>, blocks: &mut [[u8; 16]])
     requires { length blocks.old < BATCH_BLOCKS }
     ensures { (i : ℕ) → i < length blocks.old
-        → slice_index_or blocks.new i [] ≡ K.change key.now (slice_index_or blocks.old i []) }
+        → slice_index_or blocks.new i [] ≡ D.change key.now (slice_index_or blocks.old i []) }
 {
     let many = blocks.len();
     if many > 0 {
@@ -55,9 +38,9 @@ fn change_rest<K: ByFours>(key: &K, blocks: &mut [[u8; 16]])
 
 /// Changes each block.
 #[inline(always)]
-pub fn change_each<K: ByFours>(key: &K, blocks: &mut [[u8; 16]])
+pub fn change_each<D: Direction>(key: &LaidKey<D>, blocks: &mut [[u8; 16]])
     ensures { (i : ℕ) → i < length blocks.old
-        → slice_index_or blocks.new i [] ≡ K.change key.now (slice_index_or blocks.old i []) }
+        → slice_index_or blocks.new i [] ≡ D.change key.now (slice_index_or blocks.old i []) }
 {
     let fours = blocks.len() / BATCH_BLOCKS;
     'fours: for k in 0..fours {

@@ -5,12 +5,13 @@ ghost use Rattle.mbj_types.specs.Aes.{encipher, round_key, full_round, shift_row
 ghost use Rattle.mbj_aes.specs.BlockWords.{block_byte, block_at};
 ghost use Rattle.mbj_aes_lanes.specs.Inside.Layouts.{tower_state};
 
+use crate::narrow::laid_keys::Encryption;
 use crate::narrow::rounds::{first_round, full_round, last_round};
 use crate::narrow::schedules::Schedules;
 use mbj_aes::BlockWord;
 
 #[inline(always)]
-fn first_rounds<V: BlockWord, K: Schedules<V>, const N: usize>(keys: &K, s: &mut [V; N])
+fn first_rounds<V: BlockWord, K: Schedules<V, Encryption>, const N: usize>(keys: &K, s: &mut [V; N])
     requires { N ≤ K.count_of keys.now }
     ensures { (i b : ℕ) (d : V) → i < N → b < V.BLOCKS → tower_state 0 (block_byte V.lane (slice_index_or s.new i d) b)
         ≡ xor_lists (block_at V.lane (slice_index_or s.old i d) b) (round_key (K.schedule_of keys.now i b) 0) }
@@ -21,7 +22,11 @@ fn first_rounds<V: BlockWord, K: Schedules<V>, const N: usize>(keys: &K, s: &mut
 }
 
 #[inline(always)]
-fn full_rounds<V: BlockWord, K: Schedules<V>, const N: usize>(keys: &K, s: &mut [V; N], r: usize)
+fn full_rounds<V: BlockWord, K: Schedules<V, Encryption>, const N: usize>(
+    keys: &K,
+    s: &mut [V; N],
+    r: usize,
+)
     requires first { 1 ≤ r }
     requires last { r < K.rounds_of keys.now }
     requires registers { N ≤ K.count_of keys.now }
@@ -34,7 +39,11 @@ fn full_rounds<V: BlockWord, K: Schedules<V>, const N: usize>(keys: &K, s: &mut 
 }
 
 #[inline(always)]
-fn last_rounds<V: BlockWord, K: Schedules<V>, const N: usize>(keys: &K, s: &mut [V; N], r: usize)
+fn last_rounds<V: BlockWord, K: Schedules<V, Encryption>, const N: usize>(
+    keys: &K,
+    s: &mut [V; N],
+    r: usize,
+)
     requires first { 1 ≤ r }
     requires last { r ≡ K.rounds_of keys.now }
     requires registers { N ≤ K.count_of keys.now }
@@ -49,7 +58,10 @@ fn last_rounds<V: BlockWord, K: Schedules<V>, const N: usize>(keys: &K, s: &mut 
 
 /// Encrypts each block of the registers, under the schedule in its place.
 #[inline(always)]
-pub fn encrypt_all<V: BlockWord, K: Schedules<V>, const N: usize>(keys: &K, s: &mut [V; N])
+pub fn encrypt_all<V: BlockWord, K: Schedules<V, Encryption>, const N: usize>(
+    keys: &K,
+    s: &mut [V; N],
+)
     requires { N ≤ K.count_of keys.now }
     ensures { (i b : ℕ) (d : V) → i < N → b < V.BLOCKS → block_at V.lane (slice_index_or s.new i d) b
         ≡ encipher (K.schedule_of keys.now i b) (block_at V.lane (slice_index_or s.old i d) b) }

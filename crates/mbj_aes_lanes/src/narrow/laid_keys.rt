@@ -5,11 +5,12 @@ ghost use Rattle.mbj_types.specs.Aes.{round_key, mix_columns};
 ghost use Rattle.mbj_aes.specs.BlockWords.{block_byte, block_at};
 ghost use Rattle.mbj_aes.specs.declared.expansion.TheConstants.{MAX_ROUND_KEYS};
 ghost use Rattle.mbj_aes_lanes.specs.Inside.Layouts.{tower_state, tower_key, last_key, inverse_key};
-ghost use Rattle.mbj_aes_lanes.specs.Inside.LaidKeys.{laid_key, laid_schedule, inverse_laid_key, inverse_laid_schedule};
+ghost use Rattle.mbj_aes_lanes.specs.Inside.LaidKeys.{laid_key, inverse_laid_key, laid_schedule};
 
 use crate::narrow::layouts::{LAYOUTS, PLACES};
 use crate::narrow::mixing::inv_mixed;
 use crate::narrow::rounds::in_tower;
+use crate::narrow::schedules::KeyLayout;
 use mbj_aes::inverse_substitution::{in_decryption, inverse_multiples};
 use mbj_aes::substitution::substituted;
 use mbj_aes::tables::SBOX_CONSTANT;
@@ -79,60 +80,63 @@ fn block_of(register: u8x16) -> [u8; 16]
     blocks[0]
 }
 
-// The key of round `r` of `rounds` in encryption.
-#[inline(always)]
-fn laid_key(key: &[u8; 16], r: usize, rounds: usize) -> [u8; 16]
-    requires { r ≤ rounds }
-    ensures { laid_key rounds r (slice_index result) ≡ key.now }
-{
-    let key = register_of(key);
-    if r == 0 {
-        block_of(first_key(key))
-    } else if r == rounds {
-        block_of(last_key(key))
-    } else {
-        block_of(key_between(key, r))
+/// Encryption.
+pub struct Encryption;
+
+impl KeyLayout for Encryption {
+    ghost use Rattle.mbj_aes_lanes.specs.Inside.LaidLaws.{laid_key-same, length-laid_key};
+
+    ghost laid = { laid_key };
+
+    fn laid_key(key: &[u8; 16], r: usize, rounds: usize) -> [u8; 16] {
+        let key = register_of(key);
+        if r == 0 {
+            block_of(first_key(key))
+        } else if r == rounds {
+            block_of(last_key(key))
+        } else {
+            block_of(key_between(key, r))
+        }
     }
+
+    ghost same = { laid_key-same };
+
+    ghost sized = { length-laid_key };
 }
 
-// The key of round `r` of `rounds` in decryption.
-#[inline(always)]
-fn inverse_laid_key(key: &[u8; 16], r: usize, rounds: usize) -> [u8; 16]
-    requires { r ≤ rounds }
-    ensures { inverse_laid_key rounds r (slice_index result) ≡ key.now }
-{
-    let key = register_of(key);
-    if r == 0 {
-        block_of(key)
-    } else if r == rounds {
-        block_of(inverse_last_key(key))
-    } else {
-        block_of(inverse_key_between(key, r))
+/// Decryption.
+pub struct Decryption;
+
+impl KeyLayout for Decryption {
+    ghost use Rattle.mbj_aes_lanes.specs.Inside.LaidLaws.{inverse_laid_key-same, length-inverse_laid_key};
+
+    ghost laid = { inverse_laid_key };
+
+    fn laid_key(key: &[u8; 16], r: usize, rounds: usize) -> [u8; 16] {
+        let key = register_of(key);
+        if r == 0 {
+            block_of(key)
+        } else if r == rounds {
+            block_of(inverse_last_key(key))
+        } else {
+            block_of(inverse_key_between(key, r))
+        }
     }
+
+    ghost same = { inverse_laid_key-same };
+
+    ghost sized = { length-inverse_laid_key };
 }
 
-/// The round keys of a schedule as the rounds of encryption take them.
-pub fn laid_keys(key: &Schedule) -> [[u8; 16]; MAX_ROUND_KEYS]
+/// The round keys of a schedule as the rounds of a direction take them.
+pub fn laid_keys<L: KeyLayout>(key: &Schedule) -> [[u8; 16]; MAX_ROUND_KEYS]
     ensures length { length result ≡ MAX_ROUND_KEYS }
-    ensures schedule { laid_schedule (length key.now / 16 - 1) result ≡ key.now }
+    ensures schedule { laid_schedule L.laid (length key.now / 16 - 1) result ≡ key.now }
 {
     let rounds = key.rounds();
     let mut keys = [[0; BLOCK_BYTES]; MAX_ROUND_KEYS];
     'keys: for r in 0..rounds + 1 {
-        keys[r as usize] = laid_key(&key.round_key(r), r as usize, rounds as usize);
-    }
-    keys
-}
-
-/// The round keys of a schedule as the rounds of decryption take them.
-pub fn inverse_laid_keys(key: &Schedule) -> [[u8; 16]; MAX_ROUND_KEYS]
-    ensures length { length result ≡ MAX_ROUND_KEYS }
-    ensures schedule { inverse_laid_schedule (length key.now / 16 - 1) result ≡ key.now }
-{
-    let rounds = key.rounds();
-    let mut keys = [[0; BLOCK_BYTES]; MAX_ROUND_KEYS];
-    'keys: for r in 0..rounds + 1 {
-        keys[r as usize] = inverse_laid_key(&key.round_key(r), r as usize, rounds as usize);
+        keys[r as usize] = L::laid_key(&key.round_key(r), r as usize, rounds as usize);
     }
     keys
 }

@@ -3,8 +3,7 @@ ghost use Rattle.std.specs.Prelude.{◌≡◌, ◌≤◌, length, map};
 ghost use Rattle.std.specs.List.{All};
 ghost use Rattle.mbj_types.specs.Aes.{encipher, decipher};
 
-use crate::narrow::decryption_key::DecryptionKey;
-use crate::narrow::text_key::TextKey;
+use crate::narrow::text_key::{DecryptionKey, TextKey};
 use mbj_aes::Schedule;
 use mbj_types::AES_LANES;
 

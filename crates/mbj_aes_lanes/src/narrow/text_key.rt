@@ -1,26 +1,82 @@
-ghost use Rattle.std.specs.Prelude.{◌≡◌, ℕ, ◌<◌, [], length, slice_index_or};
-ghost use Rattle.mbj_types.specs.Aes.{encipher};
+ghost use Rattle.std.specs.Prelude.{◌≡◌, ℕ, ◌<◌, ◌≤◌, List, [], length, slice_index_or};
+ghost use Rattle.mbj_types.specs.Aes.{encipher, decipher};
+ghost use Rattle.mbj_types.specs.Lanes.{lane_at};
+ghost use Rattle.mbj_aes.specs.BlockWords.{block_at};
 
-use crate::narrow::by_fours::{ByFours, change_each};
+use crate::narrow::by_fours::change_each;
 use crate::narrow::cipher::encrypt_all;
-use crate::narrow::laid_keys::laid_keys;
-use crate::narrow::schedules::Schedules;
+use crate::narrow::inverse_cipher::decrypt_all;
+use crate::narrow::laid_keys::{Decryption, Encryption, laid_keys};
+use crate::narrow::schedules::{KeyLayout, Schedules};
 use mbj_aes::{BlockWord, MAX_ROUND_KEYS, Schedule};
-use std::marker::Model;
+use std::marker::{Model, PhantomData};
 use std::simd::u8x32;
 
-/// The schedule of a text's key, whose round keys are laid out as the rounds take them, and which contracts see as the list of its
-/// bytes. It is a plain value of 244 bytes, and owns no memory.
+/// A direction of AES on the blocks of registers side by side.
+pub trait Direction: KeyLayout {
+    /// What it makes of a block, under a schedule.
+    ghost change: { List ℕ → List ℕ → List ℕ };
+
+    /// Changes each block of a register, under the schedule in its place.
+    fn change_one<K: Schedules<u8x32, Self>>(keys: &K, s: &mut [u8x32; 1])
+        requires { 1 ≤ K.count_of keys.now }
+        ensures { (b : ℕ) → b < 2 → block_at (lane_at 8) (slice_index_or s.new 0 []) b
+            ≡ change (K.schedule_of keys.now 0 b) (block_at (lane_at 8) (slice_index_or s.old 0 []) b) };
+
+    /// Changes each block of two registers side by side.
+    fn change_both<K: Schedules<u8x32, Self>>(keys: &K, s: &mut [u8x32; 2])
+        requires { 2 ≤ K.count_of keys.now }
+        ensures { (i b : ℕ) → i < 2 → b < 2 → block_at (lane_at 8) (slice_index_or s.new i []) b
+            ≡ change (K.schedule_of keys.now i b) (block_at (lane_at 8) (slice_index_or s.old i []) b) };
+}
+
+impl Direction for Encryption {
+    ghost change = { encipher };
+
+    #[inline(always)]
+    fn change_one<K: Schedules<u8x32, Encryption>>(keys: &K, s: &mut [u8x32; 1]) {
+        encrypt_all(keys, s);
+    }
+
+    #[inline(always)]
+    fn change_both<K: Schedules<u8x32, Encryption>>(keys: &K, s: &mut [u8x32; 2]) {
+        encrypt_all(keys, s);
+    }
+}
+
+impl Direction for Decryption {
+    ghost change = { decipher };
+
+    #[inline(always)]
+    fn change_one<K: Schedules<u8x32, Decryption>>(keys: &K, s: &mut [u8x32; 1]) {
+        decrypt_all(keys, s);
+    }
+
+    #[inline(always)]
+    fn change_both<K: Schedules<u8x32, Decryption>>(keys: &K, s: &mut [u8x32; 2]) {
+        decrypt_all(keys, s);
+    }
+}
+
+/// The schedule of a text's key, whose round keys are laid out as the rounds of a direction take them, and which contracts see as the list
+/// of its bytes. It is a plain value of 244 bytes, and owns no memory.
 #[derive(Drop)]
-pub struct TextKey {
+pub struct LaidKey<D: Direction> {
     keys: [[u8; 16]; MAX_ROUND_KEYS],
     rounds: u32,
+    direction: PhantomData<D>,
 }
+
+/// The schedule of a text's key for encryption.
+pub type TextKey = LaidKey<Encryption>;
+
+/// The schedule of a text's key for decryption.
+pub type DecryptionKey = LaidKey<Decryption>;
 
 // The size that stands in the documentation.
 const _: () = prove!(size_of::<TextKey>() == 244);
 
-impl Model for TextKey {
+impl<D: Direction> Model for LaidKey<D> {
     ghost use Rattle.std.specs.Prelude.{◌≡◌, ℕ, List, length};
     ghost use Rattle.mbj_aes.specs.Bytes.{IsRoundCount};
     ghost use Rattle.mbj_aes_lanes.specs.Inside.LaidKeys.{laid_schedule};
@@ -28,12 +84,12 @@ impl Model for TextKey {
 
     ghost Value = { List ℕ };
 
-    ghost view = { λ k. laid_schedule k.rounds k.keys };
+    ghost view = { λ k. laid_schedule D.laid k.rounds k.keys };
 
     ghost invariant = { λ k. IsRoundCount k.rounds × (length k.keys ≡ MAX_ROUND_KEYS) };
 }
 
-impl<V: BlockWord> Schedules<V> for TextKey {
+impl<V: BlockWord, D: Direction> Schedules<V, D> for LaidKey<D> {
     ghost use Rattle.std.specs.Prelude.{◌-◌, ◌/◌, ◌^◌, length};
 
     ghost rounds_of = { λ k. length k / 16 - 1 };
@@ -54,40 +110,61 @@ impl<V: BlockWord> Schedules<V> for TextKey {
     }
 }
 
-impl ByFours for TextKey {
-    ghost change = { encipher };
+impl<D: Direction> LaidKey<D> {
+    /// The schedule, whose round keys are laid out once. It takes no memory.
+    pub fn new(key: &Schedule) -> LaidKey<D>
+        ensures { result ≡ key.now }
+    {
+        LaidKey {
+            keys: laid_keys::<D>(key),
+            rounds: key.rounds(),
+            direction: PhantomData,
+        }
+    }
 
+    /// Changes the first two blocks, in one register.
     #[inline(never)]
-    fn change_two(&self, blocks: &mut [[u8; 16]]) {
+    pub(crate) fn change_two(&self, blocks: &mut [[u8; 16]])
+        requires { 2 ≤ length blocks.old }
+        ensures first { (i : ℕ) → i < 2 → slice_index_or blocks.new i [] ≡ D.change self.now (slice_index_or blocks.old i []) }
+        ensures others { (i : ℕ) → 2 ≤ i → slice_index_or blocks.new i [] ≡ slice_index_or blocks.old i [] }
+    {
         let mut s = [u8x32::load(blocks)];
-        encrypt_all(self, &mut s);
+        D::change_one(self, &mut s);
         s[0].store(blocks);
     }
 
+    /// Changes the first four blocks, in two registers side by side.
     #[inline(never)]
-    fn change_four(&self, blocks: &mut [[u8; 16]]) {
+    pub(crate) fn change_four(&self, blocks: &mut [[u8; 16]])
+        requires { 4 ≤ length blocks.old }
+        ensures first { (i : ℕ) → i < 4 → slice_index_or blocks.new i [] ≡ D.change self.now (slice_index_or blocks.old i []) }
+        ensures others { (i : ℕ) → 4 ≤ i → slice_index_or blocks.new i [] ≡ slice_index_or blocks.old i [] }
+    {
         let mut s = [u8x32::load(blocks), u8x32::load(&blocks[2..])];
-        encrypt_all(self, &mut s);
+        D::change_both(self, &mut s);
         s[0].store(blocks);
         s[1].store(&mut blocks[2..]);
     }
 }
 
-impl TextKey {
-    /// The schedule, whose round keys are laid out once. It takes no memory.
-    pub fn new(key: &Schedule) -> TextKey
-        ensures { result ≡ key.now }
-    {
-        TextKey {
-            keys: laid_keys(key),
-            rounds: key.rounds(),
-        }
-    }
-
+impl LaidKey<Encryption> {
     /// Encrypts each block: CIPHER (FIPS 197, 5.1). Blocks go four at a time, and no more of them than there are. It takes no memory.
     pub fn encrypt(&self, blocks: &mut [[u8; 16]])
         ensures each { (i : ℕ) → i < length blocks.old
             → slice_index_or blocks.new i [] ≡ encipher self.now (slice_index_or blocks.old i []) }
+        ensures lengths { (i : ℕ) → i < length blocks.old → length (slice_index_or blocks.new i []) ≡ 16 }
+    {
+        let _ = &self.keys;
+        change_each(self, blocks);
+    }
+}
+
+impl LaidKey<Decryption> {
+    /// Decrypts each block: INVCIPHER (FIPS 197, 5.3). Blocks go four at a time, and no more of them than there are. It takes no memory.
+    pub fn decrypt(&self, blocks: &mut [[u8; 16]])
+        ensures each { (i : ℕ) → i < length blocks.old
+            → slice_index_or blocks.new i [] ≡ decipher self.now (slice_index_or blocks.old i []) }
         ensures lengths { (i : ℕ) → i < length blocks.old → length (slice_index_or blocks.new i []) ≡ 16 }
     {
         let _ = &self.keys;

@@ -13,7 +13,7 @@ fours-preserved g c =
     let n : ℕ = length xs - 4 * k in
     let ys : List (List ℕ) = c.change_four.new.blocks in
     let inside : 4 * k ≤ length xs = omega (arith, c.fours.auto.blocks) in
-    let change = g.K.ByFours.change c.args.key.now in
+    let change = g.D.Direction.change c.args.key.now in
     record {
       changed = λ i h. elim (cases_lt i (4 * k)) [
         | inl below ↦ part_below a xs [] n ys inside i below ∙ c.fours.invariant.changed i below
@@ -40,7 +40,7 @@ returns g c i h =
     let n : ℕ = length xs - 4 * (length c.args.blocks.now / 4) in
     let ys : List (List ℕ) = c.change_rest.new.blocks in
     let inside : 4 * (length c.args.blocks.now / 4) ≤ length xs = omega (arith, all) in
-    let change = g.K.ByFours.change c.args.key.now in
+    let change = g.D.Direction.change c.args.key.now in
     elim (cases_lt i (4 * (length c.args.blocks.now / 4))) [
       | inl below ↦ part_below a xs [] n ys inside i below ∙ c.fours.invariant.changed i (omega arith)
       | inr above ↦

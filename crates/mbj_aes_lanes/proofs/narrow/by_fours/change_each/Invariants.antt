@@ -4,6 +4,6 @@ use Rattle.mbj_aes_lanes.proofs.narrow.by_fours.change_each.Given as goal
 
 abbrev pub invariant-fours : goal.invariant-fours
 invariant-fours g l = record {
-  changed : (i : ℕ) → i < 4 * l.k → get_or l.blocks i [] ≡ g.K.ByFours.change l.key (get_or l.fn.blocks i []);
+  changed : (i : ℕ) → i < 4 * l.k → get_or l.blocks i [] ≡ g.D.Direction.change l.key (get_or l.fn.blocks i []);
   others : (i : ℕ) → 4 * l.k ≤ i → get_or l.blocks i [] ≡ get_or l.fn.blocks i [];
 }

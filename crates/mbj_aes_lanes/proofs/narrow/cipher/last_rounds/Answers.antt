@@ -4,7 +4,7 @@ use Rattle.mbj_types.specs.Aes.{shift_rows, sub_bytes}
 use Rattle.mbj_aes.specs.BlockWords.{block_byte}
 use Rattle.mbj_aes_lanes.specs.Inside.Layouts.{tower_state}
 use Rattle.mbj_aes_lanes.proofs.EachRegister.{none_done, one_more}
-use Rattle.mbj_aes_lanes.proofs.LaidSchedules.{laid_key-last}
+use Rattle.mbj_aes_lanes.proofs.LaidSchedules.{key_of_round-last}
 use Rattle.mbj_aes_lanes.proofs.narrow.cipher.last_rounds.Goals as goal
 
 pub registers-init : goal.registers-init
@@ -17,7 +17,7 @@ registers-preserved g c =
     one_more _ c.args.s.now c.registers.s c.registers.i c.index-s-i.result c.last_round.result (omega arith)
     (λ b h. c.last_round.ensures b h
     ∙ ap (xor_lists (shift_rows (sub_bytes (tower_state (r - 1) (block_byte lane (get_or c.registers.s c.registers.i c.index-s-i.result) b)))))
-    (sym (laid_key-last (g.K.Schedules.rounds_of c.args.keys.now) r (block_byte lane c.round_key.result b) c.requires.first c.requires.last)
+    (sym (key_of_round-last (g.K.Schedules.rounds_of c.args.keys.now) r _ _ _ c.requires.first c.requires.last)
     ∙ c.round_key.ensures b h))
     c.registers.invariant
 

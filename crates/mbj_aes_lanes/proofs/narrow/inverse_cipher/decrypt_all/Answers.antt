@@ -8,15 +8,15 @@ use Rattle.mbj_aes_lanes.proofs.narrow.inverse_cipher.decrypt_all.Goals as goal
 
 pub rounds-init : goal.rounds-init
 rounds-init g c i b d h k =
-    let w : List ℕ = c.args.key.now in
+    let w : List ℕ = g.K.Schedules.schedule_of c.args.keys.now i b in
     let block : List ℕ = block_at g.V.Lane8.lane (get_or c.args.s.now i d) b in
     let n : ℕ = c.rounds-rounds.result in
     ap (λ s. undone_rounds w s (n - 1)) (c.inverse_last_rounds.ensures i b d h k)
-    ∙ undone-all w block n (omega (arith, c.rounds-rounds.ensures.value))
+    ∙ undone-all w block n (omega (arith, c.rounds-rounds.ensures.sizes i b (omega arith) k))
 
 pub rounds-preserved : goal.rounds-preserved
 rounds-preserved g c i b d h k =
-    let w : List ℕ = c.args.key.now in
+    let w : List ℕ = g.K.Schedules.schedule_of c.args.keys.now i b in
     let lane = g.V.Lane8.lane in
     let q : ℕ = c.rounds.k - 1 in
     let now : q + 1 ≡ c.rounds.k = omega arith in
@@ -28,7 +28,7 @@ rounds-preserved g c i b d h k =
 
 pub returns : goal.returns
 returns g c i b d h k =
-    let w : List ℕ = c.args.key.now in
+    let w : List ℕ = g.K.Schedules.schedule_of c.args.keys.now i b in
     let none : c.rounds.k ≡ 0 = omega arith in
     let before = rw none at (c.rounds.invariant i b d h k) in
     c.inverse_first_rounds.ensures i b d h k

@@ -9,4 +9,4 @@ abbrev pub invariant-rounds : goal.invariant-rounds
 invariant-rounds g l =
     let lane = g.V.Lane8.lane in
     (i b : ℕ) (d : g.row.V.Denot) → i < g.row.N → b < g.V.BlockWord.BLOCKS
-    → undone_rounds l.key (inverse_state l.k (block_byte lane (get_or l.s i d) b)) l.k ≡ decipher l.key (block_at lane (get_or l.fn.s i d) b)
+    → undone_rounds (g.K.Schedules.schedule_of l.keys i b) (inverse_state l.k (block_byte lane (get_or l.s i d) b)) l.k ≡ decipher (g.K.Schedules.schedule_of l.keys i b) (block_at lane (get_or l.fn.s i d) b)

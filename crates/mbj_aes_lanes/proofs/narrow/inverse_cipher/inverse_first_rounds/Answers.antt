@@ -13,7 +13,7 @@ registers-preserved g c =
     let lane = g.V.Lane8.lane in
     one_more _ c.args.s.now c.registers.s c.registers.i c.index-s-i.result c.inverse_first_round.result (omega arith)
     (λ b h. c.inverse_first_round.ensures b h
-    ∙ ap (xor_lists (inverse_state 0 (block_byte lane (get_or c.registers.s c.registers.i c.index-s-i.result) b))) (c.round_key-first.ensures b h))
+    ∙ ap (xor_lists (inverse_state 0 (block_byte lane (get_or c.registers.s c.registers.i c.index-s-i.result) b))) (c.round_key.ensures b h))
     c.registers.invariant
 
 pub returns : goal.returns

@@ -11,4 +11,4 @@ abbrev pub invariant-registers : goal.invariant-registers
 invariant-registers g l =
     let lane = g.V.Lane8.lane in
     AreDone (λ k old new. (b : ℕ) → b < g.V.BlockWord.BLOCKS → block_at lane new b
-    ≡ xor_lists (inverse_state 0 (block_byte lane old b)) (round_key l.key 0)) l.fn.s l.s l.i
+    ≡ xor_lists (inverse_state 0 (block_byte lane old b)) (round_key (g.K.Schedules.schedule_of l.keys k b) 0)) l.fn.s l.s l.i

@@ -3,7 +3,7 @@ use Rattle.mbj_types.specs.Blocks.{xor_lists}
 use Rattle.mbj_types.specs.Aes.{inv_shift_rows, inv_sub_bytes}
 use Rattle.mbj_aes.specs.BlockWords.{block_byte, block_at}
 use Rattle.mbj_aes_lanes.proofs.EachRegister.{none_done, one_more}
-use Rattle.mbj_aes_lanes.proofs.LaidSchedules.{inverse_laid_key-last}
+use Rattle.mbj_aes_lanes.proofs.LaidSchedules.{key_of_round-last}
 use Rattle.mbj_aes_lanes.proofs.narrow.inverse_cipher.inverse_last_rounds.Goals as goal
 
 pub registers-init : goal.registers-init
@@ -15,8 +15,8 @@ registers-preserved g c =
     one_more _ c.args.s.now c.registers.s c.registers.i c.index-s-i.result c.inverse_last_round.result (omega arith)
     (λ b h. c.inverse_last_round.ensures b h
     ∙ ap (λ k. inv_sub_bytes (inv_shift_rows (xor_lists (block_at lane (get_or c.registers.s c.registers.i c.index-s-i.result) b) k)))
-    (sym (inverse_laid_key-last (length c.args.key.now / 16 - 1) c.args.n (block_byte lane c.round_key-last.result b) c.requires.first c.requires.last)
-    ∙ c.round_key-last.ensures b h))
+    (sym (key_of_round-last (g.K.Schedules.rounds_of c.args.keys.now) c.args.n _ _ _ c.requires.first c.requires.last)
+    ∙ c.round_key.ensures b h))
     c.registers.invariant
 
 pub returns : goal.returns

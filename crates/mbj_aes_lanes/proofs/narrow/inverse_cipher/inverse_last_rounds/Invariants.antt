@@ -11,4 +11,4 @@ abbrev pub invariant-registers : goal.invariant-registers
 invariant-registers g l =
     let lane = g.V.Lane8.lane in
     AreDone (λ k old new. (b : ℕ) → b < g.V.BlockWord.BLOCKS → inverse_state (l.n - 1) (block_byte lane new b)
-    ≡ inv_sub_bytes (inv_shift_rows (xor_lists (block_at lane old b) (round_key l.key l.n)))) l.fn.s l.s l.i
+    ≡ inv_sub_bytes (inv_shift_rows (xor_lists (block_at lane old b) (round_key (g.K.Schedules.schedule_of l.keys k b) l.n)))) l.fn.s l.s l.i

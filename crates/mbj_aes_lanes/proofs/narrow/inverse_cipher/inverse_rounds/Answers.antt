@@ -3,7 +3,7 @@ use Rattle.mbj_types.specs.Aes.{undone_round}
 use Rattle.mbj_aes.specs.BlockWords.{block_byte}
 use Rattle.mbj_aes_lanes.specs.Inside.Layouts.{inverse_state}
 use Rattle.mbj_aes_lanes.proofs.EachRegister.{none_done, one_more}
-use Rattle.mbj_aes_lanes.proofs.LaidSchedules.{inverse_laid_key-between}
+use Rattle.mbj_aes_lanes.proofs.LaidSchedules.{key_of_round-between}
 use Rattle.mbj_aes_lanes.proofs.narrow.inverse_cipher.inverse_rounds.Goals as goal
 
 pub registers-init : goal.registers-init
@@ -16,8 +16,8 @@ registers-preserved g c =
     one_more _ c.args.s.now c.registers.s c.registers.i c.index-s-i.result c.inverse_round.result (omega arith)
     (λ b h. c.inverse_round.ensures b h
     ∙ ap (undone_round (inverse_state r (block_byte lane (get_or c.registers.s c.registers.i c.index-s-i.result) b)))
-    (sym (inverse_laid_key-between (length c.args.key.now / 16 - 1) r (block_byte lane c.round_key-round_key.result b) c.requires.first c.requires.last)
-    ∙ c.round_key-round_key.ensures b h))
+    (sym (key_of_round-between (g.K.Schedules.rounds_of c.args.keys.now) r _ _ _ c.requires.first c.requires.last)
+    ∙ c.round_key.ensures b h))
     c.registers.invariant
 
 pub returns : goal.returns

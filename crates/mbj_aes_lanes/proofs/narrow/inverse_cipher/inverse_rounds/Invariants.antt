@@ -10,4 +10,4 @@ abbrev pub invariant-registers : goal.invariant-registers
 invariant-registers g l =
     let lane = g.V.Lane8.lane in
     AreDone (λ k old new. (b : ℕ) → b < g.V.BlockWord.BLOCKS → inverse_state (l.r - 1) (block_byte lane new b)
-    ≡ undone_round (inverse_state l.r (block_byte lane old b)) (round_key l.key l.r)) l.fn.s l.s l.i
+    ≡ undone_round (inverse_state l.r (block_byte lane old b)) (round_key (g.K.Schedules.schedule_of l.keys k b) l.r)) l.fn.s l.s l.i

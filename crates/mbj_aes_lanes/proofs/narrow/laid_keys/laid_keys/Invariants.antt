@@ -2,11 +2,10 @@
 use Rattle.std.proofs.Common.{◌≡◌, ℕ, ◌<◌, [], get_or, length, slice_index}
 use Rattle.mbj_types.specs.Aes.{round_key}
 use Rattle.mbj_aes.specs.declared.expansion.TheConstants.{MAX_ROUND_KEYS}
-use Rattle.mbj_aes_lanes.specs.Inside.LaidKeys.{laid_key}
 use Rattle.mbj_aes_lanes.proofs.narrow.laid_keys.laid_keys.Given as goal
 
 abbrev pub invariant-keys : goal.invariant-keys
-invariant-keys l = record {
+invariant-keys g l = record {
   length : length l.keys ≡ MAX_ROUND_KEYS;
-  each : (k : ℕ) → k < l.r → laid_key l.rounds k (slice_index (get_or l.keys k [])) ≡ round_key l.key k;
+  each : (k : ℕ) → k < l.r → g.L.KeyLayout.laid l.rounds k (slice_index (get_or l.keys k [])) ≡ round_key l.key k;
 }
