@@ -70,34 +70,6 @@ fn lesser<E: Chaining>(slot: &Option<E>, least: u32) -> u32
     }
 }
 
-// Leads each entry by `m` blocks.
-#[inline(always)]
-fn lead_slots<E: Chaining>(
-    entries: &mut Vec<Option<E>>,
-    m: u32,
-    room: &mut Vec<State<AesWord>>,
-    words: &mut Vec<AesWord>,
-    chains: &mut State<AesWord>,
-)
-    requires size { length entries.old.items ≡ AES_LANES }
-    requires rests { HaveRounds E.rest_of m (slot_at entries.old.items) }
-    requires room { length room.old.items ≡ MAX_ROUND_KEYS }
-    requires words { length words.old.items ≡ MAX_SCHEDULE_WORDS }
-    ensures size { length entries.new.items ≡ AES_LANES }
-    ensures room { length room.new.items ≡ MAX_ROUND_KEYS }
-    ensures words { length words.new.items ≡ MAX_SCHEDULE_WORDS }
-    ensures led { (i : ℕ) → i < AES_LANES → slot_at entries.new.items i
-        ≡ option_map (after (chained_once E.key_of E.block_of E.chain_of E.led E.kept) m) (slot_at entries.old.items i) }
-{
-    lead::<E, Option<E>>(
-        entries.as_mut_slice(),
-        m,
-        room.as_mut_slice(),
-        words.as_mut_slice(),
-        chains,
-    );
-}
-
 /// Chained blocks in `AES_LANES` lanes.
 pub struct Chained<E: Chaining> {
     of: PhantomData<E>,
@@ -174,11 +146,11 @@ impl<E: Chaining> SlotKernel for Chained<E> {
     }
 
     fn run_all(slots: &mut ChainedSlots<E>, m: u32) {
-        lead_slots(
-            &mut slots.entries,
+        lead::<E, Option<E>>(
+            slots.entries.as_mut_slice(),
             m,
-            &mut slots.round_keys,
-            &mut slots.words,
+            slots.round_keys.as_mut_slice(),
+            slots.words.as_mut_slice(),
             &mut slots.chains[0],
         );
     }
