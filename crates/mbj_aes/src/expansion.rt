@@ -3,44 +3,14 @@ ghost use Rattle.mbj_types.specs.Blocks.{xor_lists};
 ghost use Rattle.mbj_types.specs.Aes.{word, sub_bytes, rot_word, rcon, schedule_term, round_count, key_schedule};
 ghost use Rattle.mbj_aes.specs.Bytes.{IsKeySize, IsKeyWords};
 ghost use Rattle.mbj_aes.specs.Inside.Turns.{IsTurn};
-ghost use Rattle.mbj_aes.specs.declared.expansion.TheConstants.{MAX_SCHEDULE_BYTES};
+ghost use Rattle.mbj_aes.specs.declared.sizes.TheConstants.{MAX_SCHEDULE_BYTES};
 
+use crate::sizes::{MAX_SCHEDULE_BYTES, ROUND_WORDS, WORD_BYTES, round_count};
 use crate::substitution::sub_word;
 use mbj_types::xor_in_place;
 
-/// The bytes of the longest schedule, that of a key of 32 bytes: 16 for each of its 14 rounds, and 16 more.
-pub const MAX_SCHEDULE_BYTES: usize = 240;
-
-/// The round keys of the longest schedule: one for each of its 14 rounds, and one more.
-pub const MAX_ROUND_KEYS: usize = 15;
-
-/// The bytes of a word of a schedule.
-pub const WORD_BYTES: usize = 4;
-
-/// The words of the round key of one round.
-pub const ROUND_WORDS: usize = 4;
-
 // The first byte of each round constant, from Rcon[1] on (FIPS 197, 5.2).
 const ROUND_CONSTANTS: [u8; 10] = [0x01, 0x02, 0x04, 0x08, 0x10, 0x20, 0x40, 0x80, 0x1b, 0x36];
-
-// How many rounds there are more than words of the key.
-const EXTRA_ROUNDS: usize = 6;
-
-/// The number of rounds for a key of `key_bytes` bytes, which are 16, 24 or 32 (FIPS 197, 5).
-pub fn round_count(key_bytes: usize) -> usize
-    ensures { result ≡ key_bytes / 4 + 6 }
-{
-    key_bytes / WORD_BYTES + EXTRA_ROUNDS
-}
-
-/// The bytes of a key for `rounds` rounds, which are 10, 12 or 14.
-pub fn key_size(rounds: usize) -> usize
-    requires least { 6 ≤ rounds }
-    requires most { rounds ≤ 14 }
-    ensures { result ≡ 4 * (rounds - 6) }
-{
-    WORD_BYTES * (rounds - EXTRA_ROUNDS)
-}
 
 // ROTWORD (FIPS 197, 5.2).
 fn rot_word(word: &[u8; 4]) -> [u8; 4]

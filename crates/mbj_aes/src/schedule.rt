@@ -2,12 +2,10 @@ ghost use Rattle.std.specs.Prelude.{◌≡◌, ℕ, ◌+◌, ◌-◌, ◌*◌, �
 ghost use Rattle.mbj_types.specs.Aes.{key_schedule, round_count, round_key, encipher, decipher, aes, aes_inverse};
 ghost use Rattle.mbj_aes.specs.Bytes.{IsBytes, IsKeySize, IsRoundCount};
 
-use crate::expansion::{MAX_SCHEDULE_BYTES, expanded_key, key_size, round_count};
+use crate::expansion::expanded_key;
+use crate::sizes::{MAX_KEY_BYTES, MAX_SCHEDULE_BYTES, key_size, round_count};
 use mbj_types::BLOCK_BYTES;
 use std::marker::Model;
-
-/// The bytes of the longest key.
-pub const MAX_KEY_BYTES: usize = 32;
 
 /// The round keys of an AES key (FIPS 197, 5.2), which contracts see as the list of their bytes, 16 for each of
 /// 10, 12 or 14 rounds and 16 more. It is a plain value of 244 bytes, `Copy`, and owns no memory.
@@ -25,7 +23,7 @@ impl Model for Schedule {
     ghost use Rattle.mbj_aes.specs.Bytes.{IsBytes, IsRoundCount};
     ghost use Rattle.mbj_aes.specs.Inside.Padding.{IsPadded};
     ghost use Rattle.mbj_aes.specs.Inside.FirstKeys.{IsExpanded};
-    ghost use Rattle.mbj_aes.specs.declared.expansion.TheConstants.{MAX_SCHEDULE_BYTES};
+    ghost use Rattle.mbj_aes.specs.declared.sizes.TheConstants.{MAX_SCHEDULE_BYTES};
 
     ghost Value = { List ℕ };
 

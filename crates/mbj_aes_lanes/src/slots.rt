@@ -3,7 +3,7 @@
 ghost use Rattle.std.specs.Prelude.{◌≡◌, ℕ, ◌^◌, ◌<◌, ◌≤◌, Some, None, IfOk, MatchOption, ◌⊎◌, ◌≢◌, [], length, slice_index, slice_index_or};
 ghost use Rattle.std.specs.Option.{option_map};
 ghost use Rattle.mbj_types.specs.declared.kind.TheConstants.{AES_LANES};
-ghost use Rattle.mbj_aes.specs.declared.expansion.TheConstants.{MAX_ROUND_KEYS};
+ghost use Rattle.mbj_aes.specs.declared.sizes.TheConstants.{MAX_ROUND_KEYS};
 ghost use Rattle.mbj_aes_lanes.specs.declared.wide.words.TheConstants.{MAX_SCHEDULE_WORDS};
 ghost use Rattle.mbj_lane.specs.Rounds.{after};
 ghost use Rattle.mbj_aes_lanes.specs.Chaining.{chained_once};
@@ -35,7 +35,7 @@ pub struct ChainedSlots<E: Chaining> {
 impl<E: Chaining> Model for ChainedSlots<E> {
     ghost use Rattle.std.specs.Prelude.{◌≡◌, List, Option, length};
     ghost use Rattle.mbj_types.specs.declared.kind.TheConstants.{AES_LANES};
-    ghost use Rattle.mbj_aes.specs.declared.expansion.TheConstants.{MAX_ROUND_KEYS};
+    ghost use Rattle.mbj_aes.specs.declared.sizes.TheConstants.{MAX_ROUND_KEYS};
     ghost use Rattle.mbj_aes_lanes.specs.declared.wide.words.TheConstants.{MAX_SCHEDULE_WORDS};
 
     ghost Value = { List (Option E) };

@@ -1,6 +1,6 @@
 //! The schedules of a key, for a program that keeps them.
 ghost use Rattle.std.specs.Prelude.{◌≡◌, ◌-◌, ◌/◌, ◌≤◌, ◌++◌, length, replicate};
-ghost use Rattle.mbj_aes.specs.declared.expansion.TheConstants.{MAX_SCHEDULE_BYTES};
+ghost use Rattle.mbj_aes.specs.declared.sizes.TheConstants.{MAX_SCHEDULE_BYTES};
 ghost use Rattle.mbj_direct.specs.Schedules.{inverse_round_key, inverse_schedule};
 
 use crate::columns::inv_mix_columns;

@@ -3,7 +3,7 @@
 ghost use Rattle.std.specs.Prelude.{◌≡◌, ℕ, ◌+◌, ◌-◌, ◌*◌, ◌/◌, ◌<◌, ◌≤◌, length, slice_index};
 ghost use Rattle.mbj_types.specs.Aes.{round_key, mix_columns};
 ghost use Rattle.mbj_aes.specs.BlockWords.{block_byte, block_at};
-ghost use Rattle.mbj_aes.specs.declared.expansion.TheConstants.{MAX_ROUND_KEYS};
+ghost use Rattle.mbj_aes.specs.declared.sizes.TheConstants.{MAX_ROUND_KEYS};
 ghost use Rattle.mbj_aes_lanes.specs.Inside.Layouts.{tower_state, tower_key, last_key, inverse_key};
 ghost use Rattle.mbj_aes_lanes.specs.Inside.LaidKeys.{laid_key, inverse_laid_key, laid_schedule};
 

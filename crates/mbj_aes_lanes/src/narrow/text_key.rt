@@ -80,7 +80,7 @@ impl<D: Direction> Model for LaidKey<D> {
     ghost use Rattle.std.specs.Prelude.{◌≡◌, ℕ, List, length};
     ghost use Rattle.mbj_aes.specs.Bytes.{IsRoundCount};
     ghost use Rattle.mbj_aes_lanes.specs.Inside.LaidKeys.{laid_schedule};
-    ghost use Rattle.mbj_aes.specs.declared.expansion.TheConstants.{MAX_ROUND_KEYS};
+    ghost use Rattle.mbj_aes.specs.declared.sizes.TheConstants.{MAX_ROUND_KEYS};
 
     ghost Value = { List ℕ };
 

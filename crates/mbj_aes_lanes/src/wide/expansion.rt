@@ -11,16 +11,11 @@ use crate::wide::key_states::{SBOX_CONSTANT_IN_TOWER, to_tower_byte};
 use crate::wide::state::{Word, xor_words};
 use crate::wide::words::{MAX_SCHEDULE_WORDS, put_word, word_at};
 use mbj_aes::substitution::substituted_in_tower;
-use mbj_aes::{ROUND_WORDS, round_constant};
+use mbj_aes::{EXTRA_KEYS, MAX_KEY_WORDS, ROUND_WORDS, round_constant};
 use mbj_types::Lane8;
 
-/// How many round keys there are more than words of the key.
-pub const EXTRA_KEYS: usize = 7;
-
-// The words of a key that has one substitution more, between two round constants, and where.
-const LONG_KEY_WORDS: usize = 8;
-
-const MIDDLE_WORD: usize = 4;
+// Where a key of the most words has one substitution more, between two round constants.
+const MIDDLE_WORD: usize = MAX_KEY_WORDS / 2;
 
 // SBOX of each byte.
 #[inline(always)]
@@ -103,7 +98,7 @@ fn schedule_term<V: Lane8>(words: &[V], key_words: usize, i: usize) -> Word<V>
     let last = word_in(words, i - 1);
     if i % key_words == 0 {
         sum(sub_word(rot_word(last)), constant_word(i / key_words))
-    } else if key_words == LONG_KEY_WORDS && i % LONG_KEY_WORDS == MIDDLE_WORD {
+    } else if key_words == MAX_KEY_WORDS && i % MAX_KEY_WORDS == MIDDLE_WORD {
         sub_word(last)
     } else {
         last

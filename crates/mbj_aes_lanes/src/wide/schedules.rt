@@ -10,10 +10,11 @@ ghost use Rattle.mbj_aes_lanes.specs.Inside.WideKeys.{schedule_in};
 
 use crate::blocks::words_of;
 use crate::lane_blocks::LaneBlocks;
-use crate::wide::expansion::{EXTRA_KEYS, expand_words};
+use crate::wide::expansion::expand_words;
 use crate::wide::key_states::{key_at_tower, to_tower};
 use crate::wide::state::State;
 use crate::wide::words::{MAX_SCHEDULE_WORDS, put_state, state_at};
+use mbj_aes::EXTRA_KEYS;
 use mbj_types::{AES_LANES, AesWord, BLOCK_BYTES, Lane8};
 
 /// Writes the round keys of the schedules, 16 lane words for each, which are in the tower's basis.

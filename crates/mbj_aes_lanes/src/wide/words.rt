@@ -5,11 +5,11 @@ ghost use Rattle.mbj_types.specs.Lanes.{lane_of};
 ghost use Rattle.mbj_aes_lanes.specs.Inside.Wide.{word_lane, state_lane};
 
 use crate::wide::state::{State, Word};
-use mbj_aes::{ROUND_WORDS, WORD_BYTES};
+use mbj_aes::{MAX_SCHEDULE_BYTES, ROUND_WORDS, WORD_BYTES};
 use mbj_types::Lane8;
 
-/// The lane words of the longest schedules.
-pub const MAX_SCHEDULE_WORDS: usize = 240;
+/// The lane words of the longest schedules: one for each byte.
+pub const MAX_SCHEDULE_WORDS: usize = MAX_SCHEDULE_BYTES;
 
 /// Word `i` of the lists in the lanes.
 #[inline(always)]

@@ -2,7 +2,7 @@
 use Rattle.std.proofs.Common.{◌≡◌, ◌-◌, ◌*◌, ◌++◌, replicate}
 use Rattle.mbj_types.specs.Aes.{schedule}
 use Rattle.mbj_aes.specs.Inside.Turns.{IsTurn}
-use Rattle.mbj_aes.specs.declared.expansion.TheConstants.{MAX_SCHEDULE_BYTES}
+use Rattle.mbj_aes.specs.declared.sizes.TheConstants.{MAX_SCHEDULE_BYTES}
 use Rattle.mbj_aes.proofs.expansion.expanded_key.Given as goal
 
 abbrev pub invariant-words : goal.invariant-words

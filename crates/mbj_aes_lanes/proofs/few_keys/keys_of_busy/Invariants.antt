@@ -1,6 +1,6 @@
 -- The busy lanes before the next one have their round keys.
 use Rattle.std.proofs.Common.{◌≡◌, ℕ, ◌<◌, length, slice_index}
-use Rattle.mbj_aes.specs.declared.expansion.TheConstants.{MAX_ROUND_KEYS}
+use Rattle.mbj_aes.specs.declared.sizes.TheConstants.{MAX_ROUND_KEYS}
 use Rattle.mbj_aes_lanes.specs.Inside.BusyKeys.{column}
 use Rattle.mbj_aes_lanes.specs.Inside.LaidKeys.{laid_key, laid_schedule}
 use Rattle.mbj_aes_lanes.specs.Inside.Slots.{IsKeyOf}

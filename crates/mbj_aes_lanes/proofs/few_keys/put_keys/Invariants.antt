@@ -1,6 +1,6 @@
 -- The rows before the next one have the lane's round key in its place.
 use Rattle.std.proofs.Common.{◌≡◌, ◌≢◌, ℕ, ◌<◌, [], length, get_or}
-use Rattle.mbj_aes.specs.declared.expansion.TheConstants.{MAX_ROUND_KEYS}
+use Rattle.mbj_aes.specs.declared.sizes.TheConstants.{MAX_ROUND_KEYS}
 use Rattle.mbj_aes_lanes.proofs.few_keys.put_keys.Given as goal
 
 abbrev pub invariant-rounds : goal.invariant-rounds
