@@ -162,7 +162,7 @@ impl LaneHash for Sha1Lanes {
 
     fn digest_bits(hash: HashName) -> u32 {
         match hash {
-            HashName::Sha1 => 8 * (64 + 20),
+            HashName::Sha1 => 8 * (BLOCK_BYTES as u32 + 20),
             HashName::Sha224 | HashName::Sha256 | HashName::Sha384 | HashName::Sha512 =>
                 unreachable!(),
         }

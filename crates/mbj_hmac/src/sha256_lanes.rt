@@ -31,10 +31,10 @@ const BLOCK_BYTES: usize = 64;
 const ENDS_BYTES: usize = 4 * BLOCK_BYTES;
 
 /// The bits of a block and of a digest of SHA-224.
-const BITS_224: u32 = 8 * (64 + 28);
+const BITS_224: u32 = 8 * (BLOCK_BYTES as u32 + 28);
 
 /// The bits of a block and of a digest of SHA-256.
-const BITS_256: u32 = 8 * (64 + 32);
+const BITS_256: u32 = 8 * (BLOCK_BYTES as u32 + 32);
 
 /// The initial hash value of SHA-224 (FIPS 180-4, 5.3.2).
 const INITIAL_224: [u32; 8] = [

@@ -30,10 +30,10 @@ const BLOCK_BYTES: usize = 128;
 const ENDS_BYTES: usize = 4 * BLOCK_BYTES;
 
 /// The bits of a block and of a digest of SHA-384.
-const BITS_384: u32 = 8 * (128 + 48);
+const BITS_384: u32 = 8 * (BLOCK_BYTES as u32 + 48);
 
 /// The bits of a block and of a digest of SHA-512.
-const BITS_512: u32 = 8 * (128 + 64);
+const BITS_512: u32 = 8 * (BLOCK_BYTES as u32 + 64);
 
 /// The initial hash value of SHA-384 (FIPS 180-4, 5.3.4).
 const INITIAL_384: [u64; 8] = [
