@@ -5,6 +5,7 @@ use Rattle.sha2.specs.Sha256 as Sha256
 use Rattle.sha2.specs.Sha512 as Sha512
 use Rattle.mbj_types.specs.declared.class.HashName.{HashName}
 use Rattle.mbj_types.specs.declared.class.HashName.TheVariants as hash
+use Rattle.mbj_types.specs.Hashes.{sha1_lengths, sha224_lengths, sha256_lengths, sha384_lengths, sha512_lengths}
 use Rattle.mbj_hmac.specs.Rounds.{Chaining}
 
 -- what a hash that isn't served has is empty, and not looked at
@@ -36,13 +37,13 @@ sha1_digest hash.Sha512 s = []
 abbrev pub sha1_chaining : Chaining
 sha1_chaining = record {
   serves = is_sha1;
-  block_bytes = 64;
+  block_bytes = sha1_lengths.block;
   padding = Sha1.padding;
   compress = Sha1.compress;
   words = 5;
   initial = sha1_initial;
   digest = sha1_digest;
-  state_bytes = 20;
+  state_bytes = sha1_lengths.state;
   stored = λ s. Sha1.digest_bytes s 5;
   loaded = λ bytes. Sha1.first_words bytes 5;
 }
@@ -66,7 +67,7 @@ sha256_initial hash.Sha512 = []
 
 abbrev pub sha256_digest : HashName → List ℕ → List ℕ
 sha256_digest hash.Sha1 s = []
-sha256_digest hash.Sha224 s = take 28 (Sha256.digest_bytes s 8)
+sha256_digest hash.Sha224 s = take sha224_lengths.digest (Sha256.digest_bytes s 8)
 sha256_digest hash.Sha256 s = Sha256.digest_bytes s 8
 sha256_digest hash.Sha384 s = []
 sha256_digest hash.Sha512 s = []
@@ -74,13 +75,13 @@ sha256_digest hash.Sha512 s = []
 abbrev pub sha256_chaining : Chaining
 sha256_chaining = record {
   serves = is_sha256;
-  block_bytes = 64;
+  block_bytes = sha256_lengths.block;
   padding = Sha256.padding;
   compress = Sha256.compress;
   words = 8;
   initial = sha256_initial;
   digest = sha256_digest;
-  state_bytes = 32;
+  state_bytes = sha256_lengths.state;
   stored = λ s. Sha256.digest_bytes s 8;
   loaded = λ bytes. Sha256.first_words bytes 8;
 }
@@ -106,19 +107,19 @@ abbrev pub sha512_digest : HashName → List ℕ → List ℕ
 sha512_digest hash.Sha1 s = []
 sha512_digest hash.Sha224 s = []
 sha512_digest hash.Sha256 s = []
-sha512_digest hash.Sha384 s = take 48 (Sha512.digest_bytes s 8)
+sha512_digest hash.Sha384 s = take sha384_lengths.digest (Sha512.digest_bytes s 8)
 sha512_digest hash.Sha512 s = Sha512.digest_bytes s 8
 
 abbrev pub sha512_chaining : Chaining
 sha512_chaining = record {
   serves = is_sha512;
-  block_bytes = 128;
+  block_bytes = sha512_lengths.block;
   padding = Sha512.padding;
   compress = Sha512.compress;
   words = 8;
   initial = sha512_initial;
   digest = sha512_digest;
-  state_bytes = 64;
+  state_bytes = sha512_lengths.state;
   stored = λ s. Sha512.digest_bytes s 8;
   loaded = λ bytes. Sha512.first_words bytes 8;
 }

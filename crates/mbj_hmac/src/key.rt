@@ -3,10 +3,10 @@ ghost use Rattle.mbj_types.specs.Auths.{IsHmac, class_of, hash_of, hash_of_name}
 ghost use Rattle.mbj_types.specs.Hmac.{block_key, padded_key};
 
 use crate::digests::digest_of;
-use mbj_types::{Auth, AuthClass, HashName};
+use mbj_types::{Auth, AuthClass, HashName, SHA512_LENGTHS};
 
 /// The longest block of a hash, in bytes: that of SHA-384 and SHA-512.
-pub const MAX_BLOCK_BYTES: usize = 128;
+pub const MAX_BLOCK_BYTES: usize = SHA512_LENGTHS.block;
 
 /// The byte of the inner pad (RFC 2104, 2).
 pub(crate) const IPAD: u8 = 0x36;

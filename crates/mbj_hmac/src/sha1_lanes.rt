@@ -18,14 +18,14 @@ use crate::view::Chains;
 use crate::words::word32;
 use mbj_sha_lanes::{Blocks, Half, Load32, half_words, put_half, take_half};
 use mbj_sha1_lanes::{compress_lanes, gathered, scattered};
-use mbj_types::{HashName, SHA1_LANES, Sha1Word, Tag};
+use mbj_types::{HashName, SHA1_LANES, SHA1_LENGTHS, Sha1Word, Tag};
 use std::simd::{u32x8, u32x16};
 
 /// SHA-1 in lanes.
 pub struct Sha1Lanes;
 
 /// The length of a block, in bytes.
-const BLOCK_BYTES: usize = 64;
+const BLOCK_BYTES: usize = SHA1_LENGTHS.block;
 
 /// The bytes of four blocks.
 const ENDS_BYTES: usize = 4 * BLOCK_BYTES;
@@ -162,7 +162,7 @@ impl LaneHash for Sha1Lanes {
 
     fn digest_bits(hash: HashName) -> u32 {
         match hash {
-            HashName::Sha1 => 8 * (BLOCK_BYTES as u32 + 20),
+            HashName::Sha1 => 8 * (BLOCK_BYTES as u32 + SHA1_LENGTHS.digest as u32),
             HashName::Sha224 | HashName::Sha256 | HashName::Sha384 | HashName::Sha512 =>
                 unreachable!(),
         }

@@ -18,23 +18,23 @@ use crate::view::Chains;
 use crate::words::word32;
 use mbj_sha_lanes::{Blocks, Half, Load32, half_words, put_half, take_half};
 use mbj_sha256_lanes::{ROUNDS, compress_lanes, compress_scheduled, gathered, scattered};
-use mbj_types::{HashName, SHA256_LANES, Sha256Word, Tag};
+use mbj_types::{HashName, SHA224_LENGTHS, SHA256_LANES, SHA256_LENGTHS, Sha256Word, Tag};
 use std::simd::{u32x8, u32x16};
 
 /// SHA-224 and SHA-256 in lanes.
 pub struct Sha256Lanes;
 
 /// The length of a block, in bytes.
-const BLOCK_BYTES: usize = 64;
+const BLOCK_BYTES: usize = SHA256_LENGTHS.block;
 
 /// The bytes of four blocks.
 const ENDS_BYTES: usize = 4 * BLOCK_BYTES;
 
 /// The bits of a block and of a digest of SHA-224.
-const BITS_224: u32 = 8 * (BLOCK_BYTES as u32 + 28);
+const BITS_224: u32 = 8 * (BLOCK_BYTES as u32 + SHA224_LENGTHS.digest as u32);
 
 /// The bits of a block and of a digest of SHA-256.
-const BITS_256: u32 = 8 * (BLOCK_BYTES as u32 + 32);
+const BITS_256: u32 = 8 * (BLOCK_BYTES as u32 + SHA256_LENGTHS.digest as u32);
 
 /// The initial hash value of SHA-224 (FIPS 180-4, 5.3.2).
 const INITIAL_224: [u32; 8] = [

@@ -17,23 +17,23 @@ use crate::view::Chains;
 use crate::words::word64;
 use mbj_sha_lanes::{Blocks, Half, Load64};
 use mbj_sha512_lanes::{ROUNDS, compress_scheduled, gathered, scattered};
-use mbj_types::{HashName, SHA512_LANES, Sha512Word, Tag};
+use mbj_types::{HashName, SHA384_LENGTHS, SHA512_LANES, SHA512_LENGTHS, Sha512Word, Tag};
 use std::simd::u32x16;
 
 /// SHA-384 and SHA-512 in lanes.
 pub struct Sha512Lanes;
 
 /// The length of a block, in bytes.
-const BLOCK_BYTES: usize = 128;
+const BLOCK_BYTES: usize = SHA512_LENGTHS.block;
 
 /// The bytes of four blocks.
 const ENDS_BYTES: usize = 4 * BLOCK_BYTES;
 
 /// The bits of a block and of a digest of SHA-384.
-const BITS_384: u32 = 8 * (BLOCK_BYTES as u32 + 48);
+const BITS_384: u32 = 8 * (BLOCK_BYTES as u32 + SHA384_LENGTHS.digest as u32);
 
 /// The bits of a block and of a digest of SHA-512.
-const BITS_512: u32 = 8 * (BLOCK_BYTES as u32 + 64);
+const BITS_512: u32 = 8 * (BLOCK_BYTES as u32 + SHA512_LENGTHS.digest as u32);
 
 /// The initial hash value of SHA-384 (FIPS 180-4, 5.3.4).
 const INITIAL_384: [u64; 8] = [

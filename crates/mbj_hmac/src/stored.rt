@@ -12,10 +12,10 @@ use crate::sha256_lanes::Sha256Lanes;
 use crate::sha512_lanes::Sha512Lanes;
 use crate::view::Chains;
 use mbj_sha_lanes::{Blocks, Half};
-use mbj_types::{Auth, HashName};
+use mbj_types::{Auth, HashName, SHA512_LENGTHS};
 
 /// The longest state, in bytes: that of SHA-384 and SHA-512.
-pub const MAX_STATE_BYTES: usize = 64;
+pub const MAX_STATE_BYTES: usize = SHA512_LENGTHS.state;
 
 /// One hash value and one block, in every lane.
 #[derive(Clone, Copy)]
