@@ -58,8 +58,8 @@ major := $(call number,MAJOR)
 version := $(major).$(call number,MINOR).$(call number,PATCH)
 
 # The headers, and the functions that they declare and don't define.
-interface := $(addprefix include/,mbj.h mbj_fill.h mbj_inline.h mbj_inline_jobs.h mbj_inline_bursts.h mbj_inline_texts.h mbj_raw.h \
-    mbj_direct.h mbj_seat.h mbj_heap.h mbj_heap_pool.h)
+interface := $(addprefix include/,mbj.h mbj_codes.h mbj_fill.h mbj_inline.h mbj_inline_jobs.h mbj_inline_bursts.h mbj_inline_texts.h \
+    mbj_raw.h mbj_direct.h mbj_seat.h mbj_heap.h mbj_heap_pool.h)
 exports := $(shell sed -n ':again; /^[a-z].*,$$/{N; s/\n */ /; b again}; s/^[a-z].*[ *]\(mbj_[a-z_]*\)(.*);$$/\1/p' $(interface))
 
 static := libmbj_c.a
