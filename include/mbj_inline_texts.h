@@ -25,9 +25,9 @@ MBJ_API const char *mbj_version_text(void) {
     return mbj_c_build_text();
 }
 
-MBJ_API const char *mbj_err_text(uint32_t err) {
-    switch (err) {
-    case MBJ_ERR_NONE: return "not refused";
+/* Why a job was refused, as text; NULL where this is no reason of a job. */
+static inline const char *mbj_reason_text_(uint32_t reason) {
+    switch (reason) {
     case MBJ_REASON_PACKET_LONG: return "the packet is longer than 65,535 bytes";
     case MBJ_REASON_PAIR:
         return "the authentication doesn't go with the cipher: "
@@ -40,6 +40,17 @@ MBJ_API const char *mbj_err_text(uint32_t err) {
     case MBJ_REASON_HASH_RANGE: return "the hash range passes the packet's end";
     case MBJ_REASON_AAD_LONG: return "the additional data is longer than the 65,535 bytes that GCM takes, or the 65,279 that CCM takes";
     case MBJ_REASON_TAG_LENGTH: return "the authentication doesn't give a tag of this length";
+    case MBJ_REASON_CODE: return "a code is no cipher, direction, order or authentication";
+    case MBJ_REASON_NULL: return "bytes that the job uses are at NULL";
+    case MBJ_REASON_NO_TAG: return "a tag is expected of a job without an authentication";
+    default: return NULL;
+    }
+}
+
+MBJ_API const char *mbj_err_text(uint32_t err) {
+    const char *reason = mbj_reason_text_(err);
+    switch (err) {
+    case MBJ_ERR_NONE: return "not refused";
     case MBJ_ERR_TEXT_LENGTH: return "the algorithm doesn't take a text of this length";
     case MBJ_ERR_KEY_LENGTH: return "the algorithm doesn't take a key of this length";
     case MBJ_ERR_IV_LENGTH: return "the algorithm doesn't take an IV or a nonce of this length";
@@ -65,10 +76,7 @@ MBJ_API const char *mbj_err_text(uint32_t err) {
     case MBJ_ERR_HAS_SEAT: return "a place has a seat already";
     case MBJ_ERR_SEAT_COUNT: return "a front has 1 to 16 submitters and at most 16 workers";
     case MBJ_ERR_NOT_SUBMITTER: return "the seat is a worker's, which posts and collects nothing";
-    case MBJ_REASON_CODE: return "a code is no cipher, direction, order or authentication";
-    case MBJ_REASON_NULL: return "bytes that the job uses are at NULL";
-    case MBJ_REASON_NO_TAG: return "a tag is expected of a job without an authentication";
-    default: return "no such error";
+    default: return reason != NULL ? reason : "no such error";
     }
 }
 
