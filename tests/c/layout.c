@@ -123,7 +123,7 @@ static void print_manager(void) {
     FIELD(MBJ_MGR, jobs);
 }
 
-static void print_codes(void) {
+static void print_ciphers(void) {
     NUMBER(MBJ_CIPHER_NULL);
     NUMBER(MBJ_CIPHER_CBC);
     NUMBER(MBJ_CIPHER_CNTR);
@@ -134,6 +134,9 @@ static void print_codes(void) {
     NUMBER(MBJ_DIR_DECRYPT);
     NUMBER(MBJ_ORDER_CIPHER_HASH);
     NUMBER(MBJ_ORDER_HASH_CIPHER);
+}
+
+static void print_auths(void) {
     NUMBER(MBJ_AUTH_NULL);
     NUMBER(MBJ_AUTH_HMAC_SHA_1);
     NUMBER(MBJ_AUTH_HMAC_SHA_224);
@@ -156,11 +159,17 @@ static void print_codes(void) {
     NUMBER(MBJ_AUTH_HMAC_SHA_384_STATES);
     NUMBER(MBJ_AUTH_HMAC_SHA_512_STATES);
     NUMBER(MBJ_AUTH_UNSET);
+}
+
+static void print_hashes(void) {
     NUMBER(MBJ_HASH_SHA_1);
     NUMBER(MBJ_HASH_SHA_224);
     NUMBER(MBJ_HASH_SHA_256);
     NUMBER(MBJ_HASH_SHA_384);
     NUMBER(MBJ_HASH_SHA_512);
+}
+
+static void print_kinds(void) {
     NUMBER(MBJ_KIND_CBC_128);
     NUMBER(MBJ_KIND_CBC_192);
     NUMBER(MBJ_KIND_CBC_256);
@@ -172,6 +181,9 @@ static void print_codes(void) {
     NUMBER(MBJ_KIND_CCM_128);
     NUMBER(MBJ_KIND_CCM_192);
     NUMBER(MBJ_KIND_CCM_256);
+}
+
+static void print_keeping(void) {
     NUMBER(MBJ_KEEPS_SHORT);
     NUMBER(MBJ_KEEPS_LONG);
     NUMBER(MBJ_KEEPS_NONE);
@@ -195,6 +207,9 @@ static void print_answers(void) {
     NUMBER(MBJ_REASON_HASH_RANGE);
     NUMBER(MBJ_REASON_AAD_LONG);
     NUMBER(MBJ_REASON_TAG_LENGTH);
+}
+
+static void print_errors(void) {
     NUMBER(MBJ_ERR_TEXT_LENGTH);
     NUMBER(MBJ_ERR_KEY_LENGTH);
     NUMBER(MBJ_ERR_IV_LENGTH);
@@ -223,6 +238,9 @@ static void print_answers(void) {
     NUMBER(MBJ_REASON_CODE);
     NUMBER(MBJ_REASON_NULL);
     NUMBER(MBJ_REASON_NO_TAG);
+}
+
+static void print_limits(void) {
     NUMBER(MBJ_MAX_JOBS);
     NUMBER(MBJ_MAX_PACKET_BYTES);
     NUMBER(MBJ_MAX_IV_BYTES);
@@ -239,7 +257,13 @@ int main(void) {
     print_exported_structs();
     print_job();
     print_manager();
-    print_codes();
+    print_ciphers();
+    print_auths();
+    print_hashes();
+    print_kinds();
+    print_keeping();
     print_answers();
+    print_errors();
+    print_limits();
     return 0;
 }
