@@ -188,7 +188,7 @@ endif
 
 abi := $(firstword $(subst ., ,$(intel-version)))
 dropin := $(BUILD)/dropin/libIPSec_MB.so.$(abi)
-dropin-sources := $(filter-out compat/version_%,$(wildcard compat/*.c)) compat/version_$(abi).c include/mbj_heap_pool.c
+dropin-sources := $(filter-out compat/version_%,$(wildcard compat/*.c)) $(wildcard compat/version_$(abi)*.c) include/mbj_heap_pool.c
 dropin-objects := $(patsubst %.c,$(BUILD)/dropin/%.o,$(notdir $(dropin-sources)))
 dropin-builds := $(foreach cpu,$(cpus),$(BUILD)/$(cpu)/renamed.o)
 
