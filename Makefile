@@ -295,7 +295,7 @@ HWCAPSDIR := $(LIBDIR)/glibc-hwcaps/$(avx2)
 
 headers := $(interface) include/mbj_selftest.h
 documents := README.md CHANGELOG.md $(wildcard docs/*.md docs/*.svg)
-examples := $(wildcard examples/c/*.c) include/mbj_heap_pool.c include/mbj_heap_wiping.c include/mbj_symbols.c include/mbj_selftest.c
+examples := $(wildcard examples/c/*.[ch]) include/mbj_heap_pool.c include/mbj_heap_wiping.c include/mbj_symbols.c include/mbj_selftest.c
 described := $(LIBDIR)/pkgconfig/mbj.pc $(LIBDIR)/pkgconfig/mbj-static.pc $(CMAKEDIR)/mbjConfig.cmake $(CMAKEDIR)/mbjConfigVersion.cmake
 
 # What goes where, by what is done with it. Files that aren't there are left out.
