@@ -23,4 +23,6 @@ mod script;
 #[cfg(test)]
 mod text;
 #[cfg(test)]
+mod turns;
+#[cfg(test)]
 mod work;

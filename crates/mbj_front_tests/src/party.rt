@@ -102,7 +102,7 @@ fn see_all(alloc: Global, players: &mut [Player], steps: &[(usize, Step)]) -> bo
 /// Whether the parties of a new front do.
 fn go(alloc: Global, steps: &[(usize, Step)]) -> Result<bool, AllocError> {
     let (front, seats) = Front::new(alloc, 1, 1)?;
-    let mut players = players_of(alloc, &front, seats)?;
+    let mut players = players_of(alloc, &front, seats, None)?;
     Ok(see_all(alloc, &mut players, steps))
 }
 

@@ -1,17 +1,19 @@
 // The parties of a front on one thread, each beside its front.
-ghost use Rattle.std.specs.Prelude.{◌≡◌, ◌<◌, []};
+ghost use Rattle.std.specs.Prelude.{◌≡◌, ◌<◌, [], IfOk};
 ghost use Rattle.std.specs.Bool.{OnTrue};
 ghost use Rattle.mbj_core.specs.declared.cells.TheConstants.{MAX_SUBMITTERS, SUBMITTER_CELLS};
 ghost use Rattle.mbj_core.specs.declared.party.Phase.TheVariants.{Rest};
 ghost use Rattle.mbj_front.specs.Seats.{view_of, submitters_of, IsIssued, IsOf};
-ghost use Rattle.mbj_work.specs.Parties.{part_of, IsPartyOf, Submits};
+ghost use Rattle.mbj_work.specs.Parties.{part_of, seat_of, IsPartyOf, Submits};
 
 use mbj_core::{MAX_SUBMITTERS, SUBMITTER_CELLS, cell_at};
 use mbj_front::{Front, Seat};
+use mbj_keys::Keys;
 use mbj_types::Job;
-use mbj_work::{Claimed, HAND_ROOM, Party};
+use mbj_work::{Claimed, Gate, HAND_ROOM, Party};
 use std::alloc::{AllocError, Global};
 use std::collections::VecDeque;
+use std::sync::Arc;
 
 /// A party of a front.
 #[derive(Drop)]
@@ -27,19 +29,36 @@ pub(crate) struct Player<'a> {
     ghost numbered: { (part_of party).number ≡ number },
 }
 
+/// The party of a seat, which owns a share of the keys, where there are any.
+fn party_of<'a>(
+    alloc: Global,
+    seat: Seat,
+    keys: Option<&Arc<Keys>>,
+) -> Result<Party<'a>, AllocError>
+    requires rest { (view_of seat).phase ≡ Rest }
+    requires hand { (view_of seat).hand ≡ [] }
+    ensures { IfOk result (λ party. seat_of party ≡ seat) }
+{
+    match keys {
+        Some(keys) => Party::new_owning(alloc, seat, Arc::try_clone(keys)?),
+        None => Party::new(alloc, seat),
+    }
+}
+
 /// Adds the party of a seat.
 fn join<'a>(
     players: &mut Vec<Player<'a>>,
     alloc: Global,
     front: &'a Front,
     seat: Seat,
+    keys: Option<&Arc<Keys>>,
 ) -> Result<(), AllocError>
     requires front { IsOf front.now seat }
     requires rest { (view_of seat).phase ≡ Rest }
     requires hand { (view_of seat).hand ≡ [] }
 {
     let number = seat.party();
-    let party = Party::new(alloc, seat)?;
+    let party = party_of(alloc, seat, keys)?;
     players.push(Player {
         front,
         number,
@@ -50,18 +69,19 @@ fn join<'a>(
     Ok(())
 }
 
-/// The parties of the seats of a front, in their order.
+/// The parties of the seats of a front, in their order, which own shares of the keys, where there are any.
 pub(crate) fn players_of<'a>(
     alloc: Global,
     front: &'a Front,
     seats: Vec<Seat>,
+    keys: Option<&Arc<Keys>>,
 ) -> Result<Vec<Player<'a>>, AllocError>
     requires { IsIssued front.now seats.items }
 {
     let mut players = Vec::new(alloc);
     let mut seats = VecDeque::from(seats);
     while let Some(seat) = seats.pop_front() {
-        join(&mut players, alloc, front, seat)?;
+        join(&mut players, alloc, front, seat, keys)?;
     }
     Ok(players)
 }
@@ -95,6 +115,15 @@ impl Player<'_> {
             return None;
         }
         Some(self.party.claim(self.front, cell))
+    }
+
+    /// A turn from the first cell on. Returns false exactly where the front has no cell.
+    pub(crate) fn turn<G: Gate>(&mut self, gate: &G) -> bool {
+        if self.front.cells() == 0 {
+            return false;
+        }
+        self.party.turn_at(self.front, 0, gate);
+        true
     }
 
     /// Posts a job of a submitter, where a cell is free for it.

@@ -81,7 +81,7 @@ fn tell(alloc: Global, jobs: &[Job], commands: &[Cmd], submitters: u32) -> Resul
     requires { (1 ≤ submitters) × (submitters ≤ MAX_SUBMITTERS) }
 {
     let (front, seats) = Front::new(alloc, submitters, WORKERS)?;
-    let mut players = players_of(alloc, &front, seats)?;
+    let mut players = players_of(alloc, &front, seats, None)?;
     let workers = players.split_off(players.len().min(submitters as usize))?;
     let squad = Squad {
         submitters: players,
