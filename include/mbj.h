@@ -81,13 +81,13 @@ struct mbj_keys {
 
 #define MBJ_KEYS_INIT {NULL}
 
-/* Bytes that are read. at isn't NULL, even where len is 0. */
+/* Bytes that are read. at isn't NULL, even if len is 0. */
 struct mbj_bytes {
     const uint8_t *at;
     size_t len;
 };
 
-/* Bytes that are written. at isn't NULL, even where len is 0, and no other bytes of the call overlap them. */
+/* Bytes that are written. at isn't NULL, even if len is 0, and no other bytes of the call overlap them. */
 struct mbj_room {
     uint8_t *at;
     size_t len;
@@ -117,7 +117,7 @@ enum mbj_status {
 
 /* A job. Its bytes and its keys are copied when it is submitted, and never written: all that it reads may be used anew then. What was
  * ciphered goes to dst and the tag to auth_tag_output when the job is given back, first the one and then the other. With expected_tag the
- * tag is compared first, in constant time: where it differs the status is MBJ_STATUS_WRONG_TAG and the reason MBJ_ERR_TAG, zeros are at
+ * tag is compared first, in constant time: if it differs the status is MBJ_STATUS_WRONG_TAG and the reason MBJ_ERR_TAG, zeros are at
  * dst, and no tag is written. */
 typedef struct mbj_job {
     uint32_t cipher_mode;      /* enum mbj_cipher; MBJ_CIPHER_UNSET in a blank job */
@@ -139,13 +139,13 @@ typedef struct mbj_job {
     uint64_t msg_len_to_cipher_in_bytes;
     uint64_t hash_start_src_offset_in_bytes;
     uint64_t msg_len_to_hash_in_bytes;
-    uint8_t *auth_tag_output; /* may be NULL where expected_tag isn't */
+    uint8_t *auth_tag_output; /* may be NULL if expected_tag isn't */
     size_t auth_tag_output_len_in_bytes;
     void *user_data, *user_data2;
     enum mbj_status status;
     uint32_t reason;  /* enum mbj_err: why the job was refused */
     uint32_t session; /* of the set that the manager uses; MBJ_NO_SESSION in a blank job. No result depends on it */
-    const uint8_t *expected_tag; /* the tag that came with the packet, auth_tag_output_len_in_bytes long; NULL where none is compared */
+    const uint8_t *expected_tag; /* the tag that came with the packet, auth_tag_output_len_in_bytes long; NULL if none is compared */
 } MBJ_JOB;
 
 /* Where the result of a submitted job goes, and the tag that is expected of it. */
@@ -187,30 +187,30 @@ struct mbj_options {
     uint32_t keeping; /* enum mbj_keeping */
 };
 
-/* Makes a manager as mbj_init_mgr does, with these options; NULL for the defaults, which are all zero. Returns MBJ_ERR_WORD where keeping
- * is none, and MBJ_ERR_HEAP where a heap is given and the program was linked with one of its own. The heap stays valid until its last block
+/* Makes a manager as mbj_init_mgr does, with these options; NULL for the defaults, which are all zero. Returns MBJ_ERR_WORD if keeping
+ * is none, and MBJ_ERR_HEAP if a heap is given and the program was linked with one of its own. The heap stays valid until its last block
  * is freed. */
 MBJ_CHECKED MBJ_API mbj_err mbj_init_mgr_with(MBJ_MGR *m, const struct mbj_options *options);
 
 /* Makes a manager as mbj_init_mgr does, which keeps more memory of jobs that were given back for later ones: blocks of at most 2,048 bytes,
- * where mbj_init_mgr's keeps those of at most 256. Then most jobs take no memory: see mbj_held_bytes and mbj_trim. */
+ * if mbj_init_mgr's keeps those of at most 256. Then most jobs take no memory: see mbj_held_bytes and mbj_trim. */
 MBJ_CHECKED MBJ_API mbj_err mbj_init_mgr_keeping(MBJ_MGR *m);
 
 /* Frees what mbj_init_mgr took, and neither the caller's memory nor the bytes of jobs. NULL is left alone. */
 MBJ_API void mbj_end_mgr(MBJ_MGR *m);
 
-/* Makes a manager; NULL where malloc has no memory for it, or mbj_init_mgr would refuse. */
+/* Makes a manager; NULL if malloc has no memory for it, or mbj_init_mgr would refuse. */
 MBJ_CHECKED MBJ_API MBJ_MGR *mbj_alloc_mgr(void);
 
 /* Frees a manager of mbj_alloc_mgr, and nothing of its jobs' bytes. NULL is left alone. */
 MBJ_API void mbj_free_mgr(MBJ_MGR *m);
 
 /* Has the manager use these key sessions from now on: a job that names one in its field session, and has its key, takes the session's
- * schedule where it needs one. Jobs that were submitted are done with their own key. Returns MBJ_ERR_NONE, MBJ_ERR_NO_MANAGER,
+ * schedule if it needs one. Jobs that were submitted are done with their own key. Returns MBJ_ERR_NONE, MBJ_ERR_NO_MANAGER,
  * MBJ_ERR_NO_KEYS or MBJ_ERR_MEMORY. The manager keeps the set until it uses another one or ends; the handle may be freed before. */
 MBJ_CHECKED MBJ_API mbj_err mbj_use_keys(MBJ_MGR *m, struct mbj_keys *keys);
 
-/* How many bytes a manager keeps for later jobs: 0 where there is no manager. */
+/* How many bytes a manager keeps for later jobs: 0 if there is no manager. */
 MBJ_API size_t mbj_held_bytes(MBJ_MGR *m);
 
 /* Frees what the manager keeps for later jobs. Jobs that are submitted keep theirs. */
@@ -221,36 +221,36 @@ MBJ_API uint32_t mbj_queue_size(MBJ_MGR *m);
 
 /* ---- single jobs ---- */
 
-/* Hands out the next job: a blank one, or the first one that was handed out and isn't submitted yet. NULL with MBJ_ERR_FULL where
+/* Hands out the next job: a blank one, or the first one that was handed out and isn't submitted yet. NULL with MBJ_ERR_FULL if
  * MBJ_MAX_JOBS jobs are submitted and not given back: unlike intel-ipsec-mb it doesn't flush one for you. */
 MBJ_API MBJ_JOB *mbj_get_next_job(MBJ_MGR *m);
 
-/* Submits the job that was handed out, the first one where there are several, and gives the earliest job back where that is finished: with
- * MBJ_STATUS_COMPLETED, or with MBJ_STATUS_INVALID_ARGS where it was refused. NULL with MBJ_ERR_NONE where none is finished. Any other
- * error says that no job was submitted: MBJ_ERR_NO_MANAGER, MBJ_ERR_NO_JOB where none was handed out, or MBJ_ERR_MEMORY, after which the
+/* Submits the job that was handed out, the first one if there are several, and gives the earliest job back if that is finished: with
+ * MBJ_STATUS_COMPLETED, or with MBJ_STATUS_INVALID_ARGS if it was refused. NULL with MBJ_ERR_NONE if none is finished. Any other
+ * error says that no job was submitted: MBJ_ERR_NO_MANAGER, MBJ_ERR_NO_JOB if none was handed out, or MBJ_ERR_MEMORY, after which the
  * job may be submitted again. */
 MBJ_CHECKED MBJ_API MBJ_JOB *mbj_submit_job(MBJ_MGR *m);
 
-/* Gives the earliest job back where it is finished, and runs nothing; NULL where none is. */
+/* Gives the earliest job back if it is finished, and runs nothing; NULL if none is. */
 MBJ_API MBJ_JOB *mbj_get_completed_job(MBJ_MGR *m);
 
-/* Finishes the earliest job and gives it back; NULL where no job is submitted and not given back. */
+/* Finishes the earliest job and gives it back; NULL if no job is submitted and not given back. */
 MBJ_API MBJ_JOB *mbj_flush_job(MBJ_MGR *m);
 
-/* Why the last call returned no job: MBJ_ERR_NONE where there was none to give, or the refusal. */
+/* Why the last call returned no job: MBJ_ERR_NONE if there was none to give, or the refusal. */
 MBJ_API mbj_err mbj_get_errno(const MBJ_MGR *m);
 
 /* ---- bursts ---- */
 
 /* Hands out up to n jobs, to be submitted in their order, and returns how many: first those that were handed out and aren't submitted yet,
- * as they are, and then blank ones. They are fewer than n where fewer are left, and 0 with MBJ_ERR_FULL where MBJ_MAX_JOBS jobs are
+ * as they are, and then blank ones. They are fewer than n if fewer are left, and 0 with MBJ_ERR_FULL if MBJ_MAX_JOBS jobs are
  * submitted and not given back: unlike intel-ipsec-mb it doesn't flush for you. */
 MBJ_API uint32_t mbj_get_next_burst(MBJ_MGR *m, uint32_t n, MBJ_JOB **jobs);
 
 /* Submits n jobs as mbj_submit_job does, one after another: the first ones that mbj_get_next_burst handed out, in its order. Writes the
  * jobs that are given back to done, which has n places and may be jobs itself, and returns how many they are. With MBJ_ERR_NONE all n jobs
- * were submitted; one whose arguments are refused comes back in its place. With MBJ_ERR_NO_MANAGER, or with MBJ_ERR_NO_JOB where the jobs
- * aren't those, none was. With MBJ_ERR_MEMORY those with MBJ_STATUS_ERROR weren't: they stay handed out, and may be submitted again. Where
+ * were submitted; one whose arguments are refused comes back in its place. With MBJ_ERR_NO_MANAGER, or with MBJ_ERR_NO_JOB if the jobs
+ * aren't those, none was. With MBJ_ERR_MEMORY those with MBJ_STATUS_ERROR weren't: they stay handed out, and may be submitted again. If
  * two jobs are given back by one burst, nothing that is written for one overlaps what is written for the other. Up to 32 jobs are copied
  * before a result is written: no job of a burst reads what is written for a job that comes back by the same call. */
 MBJ_CHECKED MBJ_API uint32_t mbj_submit_burst(MBJ_MGR *m, uint32_t n, MBJ_JOB *const *jobs, MBJ_JOB **done);
@@ -259,7 +259,7 @@ MBJ_CHECKED MBJ_API uint32_t mbj_submit_burst(MBJ_MGR *m, uint32_t n, MBJ_JOB *c
  * overlap. */
 MBJ_API uint32_t mbj_get_completed_burst(MBJ_MGR *m, uint32_t n, MBJ_JOB **done);
 
-/* Finishes and gives back up to n jobs, as mbj_flush_job does, and returns how many: fewer than n where no more are submitted and not given
+/* Finishes and gives back up to n jobs, as mbj_flush_job does, and returns how many: fewer than n if no more are submitted and not given
  * back. What is written for them doesn't overlap. */
 MBJ_API uint32_t mbj_flush_burst(MBJ_MGR *m, uint32_t n, MBJ_JOB **done);
 
@@ -270,11 +270,11 @@ MBJ_API uint32_t mbj_flush_burst(MBJ_MGR *m, uint32_t n, MBJ_JOB **done);
 MBJ_CHECKED MBJ_NONNULL
 mbj_err mbj_keys_new(struct mbj_keys *made, const struct mbj_bytes *keys, size_t keys_len);
 
-/* Empties the handle; false where it has no set. The set is freed with its last handle and the last manager that uses it. */
+/* Empties the handle; false if it has no set. The set is freed with its last handle and the last manager that uses it. */
 MBJ_NONNULL
 bool mbj_keys_free(struct mbj_keys *keys);
 
-/* Makes another handle of the same set. Returns MBJ_ERR_NONE, MBJ_ERR_NO_KEYS where from has none, MBJ_ERR_HAS_KEYS where to has one, or
+/* Makes another handle of the same set. Returns MBJ_ERR_NONE, MBJ_ERR_NO_KEYS if from has none, MBJ_ERR_HAS_KEYS if to has one, or
  * MBJ_ERR_MEMORY. */
 MBJ_CHECKED MBJ_NONNULL
 mbj_err mbj_keys_share(struct mbj_keys *from, struct mbj_keys *to);

@@ -55,7 +55,7 @@ enum mbj_auth {
     MBJ_AUTH_UNSET = 255
 };
 
-/* The hashes, where one is asked for by itself. */
+/* The hashes, if one is asked for by itself. */
 enum mbj_hash { MBJ_HASH_SHA_1, MBJ_HASH_SHA_224, MBJ_HASH_SHA_256, MBJ_HASH_SHA_384, MBJ_HASH_SHA_512 };
 
 /* Why a job or a call is refused: each number has one meaning, and a text by mbj_err_text. 1 to 10, and 100 on, are the reasons of jobs

@@ -19,7 +19,7 @@ MBJ_ASSERT_(offsetof(MBJ_JOB, session) == 176 && offsetof(MBJ_JOB, expected_tag)
 MBJ_ASSERT_(sizeof(struct mbj_slot) == 104 && offsetof(struct mbj_slot, reason) == 32 && offsetof(struct mbj_slot, expected) == 37);
 MBJ_ASSERT_(offsetof(MBJ_MGR, slots) == 32 && sizeof(MBJ_MGR) == 32 + MBJ_MAX_JOBS * (104 + sizeof(MBJ_JOB)));
 
-/* Whether there is a manager. Where none was ever made no proved export is called: the processor may be one that they don't run on. */
+/* Whether there is a manager. If none was ever made no proved export is called: the processor may be one that they don't run on. */
 static inline bool mbj_is_made_(const MBJ_MGR *m) {
     return m != NULL && m->handle.at != NULL;
 }

@@ -101,7 +101,7 @@ static inline uint32_t mbj_own_reason_(const MBJ_JOB *job) {
 /* No job takes this many bytes of anything: a longer length is passed as this one, and is refused. */
 #define MBJ_TOO_LONG_ 65536
 
-/* The bytes of a job, or none where it doesn't use them. */
+/* The bytes of a job, or none if it doesn't use them. */
 static inline void mbj_say_bytes_(struct mbj_bytes *bytes, bool is_used, const uint8_t *at, size_t len) {
     static const uint8_t none[1] = {0};
     bool is_some = is_used && len != 0;

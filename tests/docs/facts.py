@@ -1,5 +1,5 @@
 #!/usr/bin/env python3
-"""Compares mbj.h, the help of mbjobs, its manual page, FORMAT.md and C_REFERENCE.md with the codes, words, lengths and numbers of the proved
+"""Compares mbj.h and mbj_codes.h, the help of mbjobs, its manual page, FORMAT.md and C_REFERENCE.md with the codes, words, lengths and numbers of the proved
 code, which the program of crates/mbj_tables prints (its file stdout, with which the gate compares it).
 
     tests/docs/facts.py
@@ -125,6 +125,8 @@ PHRASES = {
         f"cipher CNTR key {FACTS['key of AES']} iv {FACTS['IV of CTR']} ",
         f"cipher CCM key {FACTS['key of AES']} iv {FACTS['nonce of CCM']} ",
         with_commas(f"HMAC auth_key up to {most('key of HMAC')} "),
+    ],
+    "include/mbj_codes.h": [
         with_commas(f"longer than {FACTS['packet']} bytes"),
         with_commas(f"longer than {most('data of GCM')} bytes for GCM, or {most('data of CCM')} for CCM"),
     ],
@@ -138,16 +140,16 @@ def name_in_c(kind, word):
 
 
 def header_faults():
-    header = (TOP / "include/mbj.h").read_text()
+    header = (TOP / "include/mbj_codes.h").read_text()
     for kind, words in WORDS.items():
         body = re.search(rf"enum {ENUMS[kind]} \{{(.*?)\}}", header, re.S)[1]
         have = [name.strip() for name in body.split(",") if name.strip() and "=" not in name]
         want = [name_in_c(kind, word) for word in words]
         if have != want:
-            yield f"include/mbj.h: {ENUMS[kind]} isn't {', '.join(want)}"
+            yield f"include/mbj_codes.h: {ENUMS[kind]} isn't {', '.join(want)}"
     for constant, name in CONSTANTS.items():
         if not re.search(rf"(?m)^#define {constant} {most(name)}\b", header):
-            yield f"include/mbj.h: {constant} isn't {most(name)}"
+            yield f"include/mbj_codes.h: {constant} isn't {most(name)}"
 
 
 def word_faults():
