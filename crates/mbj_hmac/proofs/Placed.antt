@@ -1,17 +1,18 @@
 -- Each block of an entry stands where the entry's places say, but for one that is made.
-use Rattle.std.proofs.Common.{◌≡◌, ℕ, ◌+◌, ◌-◌, ◌*◌, ◌≤◌, ◌<◌, inl, inr, List, length, take, drop, take_all, arith}
+use Rattle.std.proofs.Common.{◌≡◌, ℕ, ◌+◌, ◌-◌, ◌*◌, ◌≤◌, ◌<◌, inl, inr, List, length, take, drop, ap, ◌∙◌, arith}
 use Rattle.std.proofs.lemmas.Bool.{lt-ltb, le-ltb, cases_lt}
-use Rattle.std.proofs.lemmas.List.{length-replicate}
+use Rattle.std.proofs.lemmas.List.{length-replicate, drop-replicate, take-replicate}
 use Rattle.std.specs.Prelude.{nat_lt, replicate, if◌then◌else◌}
 use Rattle.mbj_types.specs.declared.class.HashName.{HashName}
 use Rattle.mbj_hmac.specs.declared.form.Form.{Form}
 use Rattle.mbj_hmac.specs.declared.form.Form.TheVariants.{Plain, Keyed, States}
 use Rattle.mbj_hmac.specs.declared.places.Places.{Places}
+use Rattle.mbj_hmac.specs.declared.places.TheConstants.{BLANK_BYTES}
 use Rattle.mbj_hmac.specs.Forms.{made_rounds_of, outer_rounds_of}
 use Rattle.mbj_hmac.specs.Rounds.{Chaining, HmacState}
 use Rattle.mbj_hmac.specs.Inside.InLanes.{block_in}
 use Rattle.mbj_hmac.specs.Inside.Layout.{IsKept, IsPlaced, IsStandard, IsSound, is_in_packet, place_at, seen, tail_blocks, whole_blocks}
-use Rattle.mbj_hmac.proofs.Numbers.{split, tail_range, times_le}
+use Rattle.mbj_hmac.proofs.Numbers.{size_range, split, tail_range, times_le}
 use Rattle.mbj_hmac.proofs.Laid.{end_laid, first_laid, outer_few, packet_laid}
 
 -- fewer rounds are made than an outer hash has
@@ -33,16 +34,27 @@ module _ (h : Chaining) (std : IsStandard h) (packet chain inner start : List �
 
   -- the bytes in which the block stands, and its place there
   abbrev pub source : List ℕ
-  source = if is_in_packet p r then packet else if nat_lt p.made r then ends else replicate b 0
+  source = if is_in_packet p r then packet else if nat_lt p.made r then ends else replicate BLANK_BYTES 0
 
   abbrev pub place : ℕ
   place = place_at b p r off
 
-  few : p.behind ≤ 4
+  pub few : p.behind ≤ 4
   few = omega (arith, at.behind, (tail_range b std.size len).1, outer_few form)
 
   made_below : p.made < p.behind
   made_below = omega (arith, at.made, at.behind, (tail_range b std.size len).0, made_few form)
+
+  -- there is a block of zeros wherever one that is made would begin
+  blank_room : (r : ℕ) → b + b * (p.behind - r) + b ≤ length {A = ℕ} (replicate BLANK_BYTES 0)
+  blank_room r =
+      omega (
+        arith,
+        few,
+        length-replicate {A = ℕ} BLANK_BYTES 0,
+        times_le b std.size (p.behind - r + 2) 6 (omega (arith, few)),
+        (size_range b std.size).1,
+      )
 
   pub has_room : place + b ≤ length source
   has_room = elim (cases_lt p.high r) [
@@ -61,8 +73,7 @@ module _ (h : Chaining) (std : IsStandard h) (packet chain inner start : List �
                 rw (le-ltb p.high r high, le-ltb p.behind r below, lt-ltb p.made r read)
                 (omega (arith, k.3, times_le b std.size (p.behind - r + 2) 4 (omega (arith, few, below_made read))))
             | inr made ↦
-                rw (le-ltb p.high r high, le-ltb p.behind r below, le-ltb p.made r made)
-                (omega (arith, length-replicate {A = ℕ} b 0))
+                rw (le-ltb p.high r high, le-ltb p.behind r below, le-ltb p.made r made) (omega (arith, blank_room r))
           ]
     ]
   ]
@@ -99,5 +110,6 @@ module _ (h : Chaining) (std : IsStandard h) (packet chain inner start : List �
         let below : r ≤ p.behind = omega (arith, made_below) in
         let high : r ≤ p.high = omega (arith, below, at.high) in
         rw (le-ltb (made_rounds_of form) r none, le-ltb p.high r high, le-ltb p.behind r below, le-ltb p.made r made)
-        (take_all b (replicate b 0) (omega (arith, length-replicate {A = ℕ} b 0)))
+        (ap (take b) (drop-replicate (b + b * (p.behind - r)) BLANK_BYTES 0)
+        ∙ take-replicate b (BLANK_BYTES - (b + b * (p.behind - r))) 0 (omega (arith, blank_room r, length-replicate {A = ℕ} BLANK_BYTES 0)))
   ]

@@ -15,7 +15,7 @@ use crate::ends::{
 use crate::form::Form;
 use crate::key::{MAX_BLOCK_BYTES, hash_key};
 use crate::lane_hash::LaneHash;
-use crate::places::{Places, blank_block, source};
+use crate::places::{Places, blank_blocks, source};
 use crate::rests::NEVER;
 use mbj_types::{Auth, AuthClass, HashName, Tag};
 use std::alloc::Global;
@@ -278,7 +278,7 @@ impl<H: LaneHash> HmacEntry<H> {
             self.places.is_read(rest),
             &self.packet,
             H::ends(&self.ends),
-            blank_block::<H>(),
+            blank_blocks(),
         );
         &source[at..at + block]
     }

@@ -103,7 +103,7 @@ impl<H: LaneHash> HmacSlots<H> {
         least_lane(self.lanes.rests.left)
     }
 
-    /// Leads the entry of each slot by `m` rounds, which each has left.
+    /// Advances the entry of each slot by `m` rounds; each has at least `m` left.
     pub(crate) fn run_all(&mut self, m: u32)
         requires { (i : ℕ) (e : HmacState) → i < H.LANES → slot_in self.old i ≡ Some e → m ≤ e.rest }
         ensures { (i : ℕ) → i < H.LANES → slot_in self.new i ≡ option_map (after (round H.chaining) m) (slot_in self.old i) }

@@ -69,7 +69,7 @@ impl<K: Kernel> GatheredSlots<K> {
         shortest::<K>(&self.entries)
     }
 
-    /// Leads the entry of each slot by `m` rounds, which each has left.
+    /// Advances the entry of each slot by `m` rounds; each has at least `m` left.
     pub fn run_all(&mut self, m: u32)
         requires { (i : ℕ) (e : K.Entry) → i < K.LANES → at_slot self.old.0 self.old.1 i ≡ Some e → m ≤ K.rest_of e }
         ensures { (i : ℕ) → i < K.LANES

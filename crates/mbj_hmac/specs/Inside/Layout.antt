@@ -32,18 +32,18 @@ pub record IsPlaced (b : ℕ) (form : Form) (len : ℕ) (p : Places) : Type 0 wh
   pub made : p.made ≡ made_rounds_of form
   pub behind : p.behind ≡ tail_blocks b len + outer_rounds_of form
   pub high : p.high ≡ p.behind + whole_blocks b len
+  pub whole : p.whole ≡ whole_blocks b len
 
 -- the block with this rest stands in the packet
 abbrev pub is_in_packet : Places → ℕ → Bool
 is_in_packet p rest = if nat_lt p.high rest then false else nat_lt p.behind rest
 
--- where it begins, for blocks of b bytes and a message from `off` on; 0 for one that is made
+-- where it begins, for blocks of b bytes and a message from `off` on. One that is made stands nowhere
 abbrev pub place_at : ℕ → Places → ℕ → ℕ → ℕ
 place_at b p rest off =
     if nat_lt p.high rest then 0
     else if nat_lt p.behind rest then off + b * (p.high - rest)
-    else if nat_lt p.made rest then b + b * (p.behind - rest)
-    else 0
+    else b + b * (p.behind - rest)
 
 -- what the layout takes for granted of a hash: its blocks have 64 or 128 bytes, its padding is that of FIPS 180-4, behind its digest a
 -- block has room for padding, and a state is stored whole and with nothing lost
