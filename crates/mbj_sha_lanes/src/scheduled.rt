@@ -20,26 +20,24 @@ fn fill<V: Copy, H: Sha2<V>>(words: &mut [V])
     }
 }
 
-// Round t, with its word of the schedule.
+// Round t, with its word of the schedule, of which the first n are given.
 #[inline(always)]
 fn step<V: Copy, H: Sha2<V>>(words: &[V], v: Working<V>, t: usize) -> Working<V>
-    requires count { length words.now ≡ H.functions.count }
+    requires given { t < length words.now }
     requires high { t < H.functions.count }
-    ensures { (i : ℕ) (b h : List ℕ) → i < H.LANES
-        → AreScheduled (lane_of H.lane words.now i) (H.functions.schedule b) H.functions.count
+    ensures { (i n : ℕ) (b h : List ℕ) → i < H.LANES → t + 1 ≤ n → AreScheduled (lane_of H.lane words.now i) (H.functions.schedule b) n
         → working_lane H.lane v i ≡ H.functions.rounds h (H.functions.schedule b) t
         → working_lane H.lane result i ≡ H.functions.rounds h (H.functions.schedule b) (t + 1) }
 {
     round::<V, H>(v, H::constant(t), words[t])
 }
 
-// Two rounds from round t on.
+/// Two rounds from round t on, with their words of the schedule, of which the first n are given.
 #[inline(always)]
-fn two_steps<V: Copy, H: Sha2<V>>(words: &[V], v: Working<V>, t: usize) -> Working<V>
-    requires count { length words.now ≡ H.functions.count }
+pub(crate) fn two_steps<V: Copy, H: Sha2<V>>(words: &[V], v: Working<V>, t: usize) -> Working<V>
+    requires given { t + 2 ≤ length words.now }
     requires high { t + 2 ≤ H.functions.count }
-    ensures { (i : ℕ) (b h : List ℕ) → i < H.LANES
-        → AreScheduled (lane_of H.lane words.now i) (H.functions.schedule b) H.functions.count
+    ensures { (i n : ℕ) (b h : List ℕ) → i < H.LANES → t + 2 ≤ n → AreScheduled (lane_of H.lane words.now i) (H.functions.schedule b) n
         → working_lane H.lane v i ≡ H.functions.rounds h (H.functions.schedule b) t
         → working_lane H.lane result i ≡ H.functions.rounds h (H.functions.schedule b) (t + 2) }
 {

@@ -5,6 +5,7 @@ ghost use Rattle.mbj_types.specs.Lanes.{lane_of};
 ghost use Rattle.mbj_sha_lanes.specs.Sha2.{IsWindow, compressed, working_lane};
 ghost use Rattle.mbj_sha_lanes.specs.Inside.Windows.{IsWindowed};
 
+use crate::scheduled;
 use crate::standard::Sha2;
 use crate::working::{Working, add_working, round, schedule_word, working_of};
 
@@ -29,31 +30,6 @@ fn next_word<V: Copy, H: Sha2<V>>(words: &mut [V], t: usize) -> V
     );
     words[t % 16] = word;
     word
-}
-
-// One of the first 16 rounds, whose words are the block's.
-#[inline(always)]
-fn first_step<V: Copy, H: Sha2<V>>(words: &[V], v: Working<V>, t: usize) -> Working<V>
-    requires window { length words.now ≡ 16 }
-    requires high { t < 16 }
-    ensures { (i : ℕ) (b h : List ℕ) → i < H.LANES → IsWindow (lane_of H.lane words.now i) (H.functions.schedule b) 16
-        → working_lane H.lane v i ≡ H.functions.rounds h (H.functions.schedule b) t
-        → working_lane H.lane result i ≡ H.functions.rounds h (H.functions.schedule b) (t + 1) }
-{
-    round::<V, H>(v, H::constant(t), words[t])
-}
-
-// Two of the first 16 rounds, from round t on.
-#[inline(always)]
-fn first_two_steps<V: Copy, H: Sha2<V>>(words: &[V], v: Working<V>, t: usize) -> Working<V>
-    requires window { length words.now ≡ 16 }
-    requires high { t + 2 ≤ 16 }
-    ensures { (i : ℕ) (b h : List ℕ) → i < H.LANES → IsWindow (lane_of H.lane words.now i) (H.functions.schedule b) 16
-        → working_lane H.lane v i ≡ H.functions.rounds h (H.functions.schedule b) t
-        → working_lane H.lane result i ≡ H.functions.rounds h (H.functions.schedule b) (t + 2) }
-{
-    let v = first_step::<V, H>(words, v, t);
-    first_step::<V, H>(words, v, t + 1)
 }
 
 // Round t, for t from 16, with its schedule word.
@@ -92,14 +68,14 @@ fn all_rounds<V: Copy, H: Sha2<V>>(words: &mut [V], start: Working<V>) -> Workin
         → working_lane H.lane result i
         ≡ H.functions.rounds (working_lane H.lane start i) (H.functions.schedule b) H.functions.count }
 {
-    let mut v = first_two_steps::<V, H>(words, start, 0);
-    v = first_two_steps::<V, H>(words, v, 2);
-    v = first_two_steps::<V, H>(words, v, 4);
-    v = first_two_steps::<V, H>(words, v, 6);
-    v = first_two_steps::<V, H>(words, v, 8);
-    v = first_two_steps::<V, H>(words, v, 10);
-    v = first_two_steps::<V, H>(words, v, 12);
-    v = first_two_steps::<V, H>(words, v, 14);
+    let mut v = scheduled::two_steps::<V, H>(words, start, 0);
+    v = scheduled::two_steps::<V, H>(words, v, 2);
+    v = scheduled::two_steps::<V, H>(words, v, 4);
+    v = scheduled::two_steps::<V, H>(words, v, 6);
+    v = scheduled::two_steps::<V, H>(words, v, 8);
+    v = scheduled::two_steps::<V, H>(words, v, 10);
+    v = scheduled::two_steps::<V, H>(words, v, 12);
+    v = scheduled::two_steps::<V, H>(words, v, 14);
     'turns: for turn in 1..H::ROUNDS / 16 {
         let t = 16 * turn;
         v = two_steps::<V, H>(words, v, t);

@@ -1,8 +1,0 @@
-use Rattle.std.proofs.Common.{◌≡◌, ◌+◌}
-use Rattle.mbj_sha_lanes.proofs.RoundNumbers.{one_on}
-use Rattle.mbj_sha_lanes.proofs.windowed.first_two_steps.Goals as goal
-
-pub returns : goal.returns
-returns g c i b h lt win at =
-    let t2 : c.args.t + 1 + 1 ≡ c.args.t + 2 = one_on c.args.t 1 in
-    rw t2 at (c.first_step.ensures i b h lt win (c.first_step-v.ensures i b h lt win at))
