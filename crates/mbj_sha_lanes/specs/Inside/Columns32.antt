@@ -15,10 +15,6 @@ column bs i = map (λ b. word_at b i) bs
 abbrev pub columns : List (List ℕ) → ℕ → List (List ℕ)
 columns bs i = column bs (i + 0) ∷ column bs (i + 4) ∷ column bs (i + 8) ∷ column bs (i + 12) ∷ []
 
--- all sixteen
-abbrev pub all_columns : List (List ℕ) → List (List ℕ)
-all_columns bs = columns bs 0 ++ columns bs 16 ++ columns bs 32 ++ columns bs 48
-
 -- the words of four vectors, each with four words of two blocks, by word
 abbrev pub transposed : List ℕ → List ℕ → List ℕ → List ℕ → List (List ℕ)
 transposed a b c d =

@@ -15,11 +15,6 @@ column bs i = map (λ b. word_at b i) bs
 abbrev pub columns : List (List ℕ) → ℕ → List (List ℕ)
 columns bs i = column bs (i + 0) ∷ column bs (i + 8) ∷ []
 
--- all sixteen
-abbrev pub all_columns : List (List ℕ) → List (List ℕ)
-all_columns bs =
-    columns bs 0 ++ columns bs 16 ++ columns bs 32 ++ columns bs 48 ++ columns bs 64 ++ columns bs 80 ++ columns bs 96 ++ columns bs 112
-
 -- the words of two vectors, each with two words of two blocks, by word
 abbrev pub transposed : List ℕ → List ℕ → List (List ℕ)
 transposed a b = pick_l 0 (a ++ b) (0 ∷ 4 ∷ 2 ∷ 6 ∷ []) ∷ pick_l 0 (a ++ b) (1 ∷ 5 ∷ 3 ∷ 7 ∷ []) ∷ []
