@@ -1,5 +1,6 @@
 -- Vectors whose lanes are those of two groups, the first group's before the second's.
-use Rattle.std.proofs.Common.{◌≡◌, ℕ, ◌+◌, ◌%◌, ◌^◌, ◌<◌, List, [], ◌++◌, length, get_or, slice_index_or, sym, ap, ◌∙◌, arith}
+use Rattle.std.proofs.Common.{◌≡◌, ℕ, ◌+◌, ◌-◌, ◌%◌, ◌^◌, ◌<◌, List, [], ◌++◌, length, get_or, slice_index_or, sym, ap, ◌∙◌, arith, inl, inr}
+use Rattle.std.proofs.lemmas.Bool.{cases_lt}
 use Rattle.std.proofs.lemmas.Grind.{same_number_lists}
 use Rattle.std.specs.Simd.Lanes.{Each1}
 use Rattle.std.proofs.lemmas.Simd.{Each1-get_or}
@@ -45,3 +46,16 @@ module _ (bits n : ℕ) where
         (λ k h.
         let wide = Each1-get_or (λ (v : List ℕ). length v ≡ n) low k [] (omega (arith, size, low_size)) width in
         ap (λ v. lane_at bits v (n + i)) (joined k (omega (arith, size))) ∙ second_lane (slice_index_or low k []) (slice_index_or high k []) i wide)
+
+    -- the words of blocks that were loaded as the two groups
+    pub both_lanes : (words : ℕ → List ℕ) → ((i : ℕ) → i < n → words (0 + i) ≡ lane_of (lane_at bits) low i)
+        → ((i : ℕ) → i < n → words (n + i) ≡ lane_of (lane_at bits) high i) → (i : ℕ) → i < n + n → words i ≡ lane_of (lane_at bits) ws i
+    both_lanes words firsts seconds i lt =
+        elim (cases_lt i n) [
+          | inl first ↦
+              let at : i ≡ 0 + i = omega arith in
+              ap words at ∙ firsts i first ∙ sym (first_lanes i first)
+          | inr second ↦
+              let at : i ≡ n + (i - n) = omega arith in
+              rw at (seconds (i - n) (omega arith) ∙ sym (second_lanes (i - n)))
+        ]

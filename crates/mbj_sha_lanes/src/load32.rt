@@ -140,8 +140,6 @@ pub(crate) fn group_words<B: Blocks>(blocks: &B, first: usize) -> [u32x8; 16]
 /// Two vectors side by side.
 #[inline(always)]
 pub(crate) fn both(low: u32x8, high: u32x8) -> u32x16
-    requires low { length low ≡ 8 }
-    requires high { length high ≡ 8 }
     ensures { result ≡ low ++ high }
 {
     low.shuffle(high, [0, 1, 2, 3, 4, 5, 6, 7, 8, 9, 10, 11, 12, 13, 14, 15])
@@ -150,8 +148,6 @@ pub(crate) fn both(low: u32x8, high: u32x8) -> u32x16
 /// The words of two groups of blocks, side by side.
 #[inline(always)]
 fn joined(low: &[u32x8; 16], high: &[u32x8; 16]) -> [u32x16; 16]
-    requires low { Each1 (λ v. length v ≡ 8) low.now }
-    requires high { Each1 (λ v. length v ≡ 8) high.now }
     ensures vectors { length result ≡ 16 }
     ensures words { (k : ℕ) → k < 16 → slice_index_or result k [] ≡ slice_index_or low.now k [] ++ slice_index_or high.now k [] }
 {

@@ -81,8 +81,6 @@ fn group_words<B: Blocks>(blocks: &B, first: usize) -> [u64x4; 16]
 /// Two vectors side by side.
 #[inline(always)]
 fn both(low: u64x4, high: u64x4) -> u64x8
-    requires low { length low ≡ 4 }
-    requires high { length high ≡ 4 }
     ensures { result ≡ low ++ high }
 {
     low.shuffle(high, [0, 1, 2, 3, 4, 5, 6, 7])
@@ -91,8 +89,6 @@ fn both(low: u64x4, high: u64x4) -> u64x8
 /// The words of two groups of blocks, side by side.
 #[inline(always)]
 fn joined(low: &[u64x4; 16], high: &[u64x4; 16]) -> [u64x8; 16]
-    requires low { Each1 (λ v. length v ≡ 4) low.now }
-    requires high { Each1 (λ v. length v ≡ 4) high.now }
     ensures vectors { length result ≡ 16 }
     ensures words { (k : ℕ) → k < 16 → slice_index_or result k [] ≡ slice_index_or low.now k [] ++ slice_index_or high.now k [] }
 {
