@@ -1,5 +1,5 @@
 //! One half of 16 lanes, with words of 32 bits: where only one has blocks, it is compressed by itself, at half the cost.
-ghost use Rattle.std.specs.Prelude.{◌≡◌, ℕ, ◌+◌, ◌<◌, length, take, drop};
+ghost use Rattle.std.specs.Prelude.{◌≡◌, ℕ, ◌+◌, ◌<◌, length};
 ghost use Rattle.mbj_types.specs.Lanes.{lane_at, lane_of};
 ghost use Rattle.mbj_sha_lanes.specs.Halves.{first_of};
 ghost use Rattle.mbj_sha_lanes.specs.Words.{words32};
@@ -28,32 +28,14 @@ fn first_of(half: Half) -> usize
     }
 }
 
-// Lanes 0 to 7.
-#[inline(always)]
-fn lower(vector: u32x16) -> u32x8
-    ensures value { result ≡ take 8 vector }
-    ensures length { length result ≡ 8 }
-{
-    vector.extract::<0, 8>()
-}
-
-// Lanes 8 to 15.
-#[inline(always)]
-fn upper(vector: u32x16) -> u32x8
-    ensures value { result ≡ drop 8 vector }
-    ensures length { length result ≡ 8 }
-{
-    vector.extract::<8, 8>()
-}
-
 /// One half of a vector.
 #[inline(always)]
 pub fn part_of(vector: u32x16, half: Half) -> u32x8
     ensures { (i : ℕ) → i < 8 → lane_at 32 result i ≡ lane_at 32 vector (first_of half + i) }
 {
     match half {
-        Half::Lower => lower(vector),
-        Half::Upper => upper(vector),
+        Half::Lower => vector.extract::<0, 8>(),
+        Half::Upper => vector.extract::<8, 8>(),
     }
 }
 
@@ -63,8 +45,8 @@ fn with_part(vector: u32x16, half: Half, part: u32x8) -> u32x16
     ensures { (i : ℕ) → i < 8 → lane_at 32 result (first_of half + i) ≡ lane_at 32 part i }
 {
     match half {
-        Half::Lower => both(part, upper(vector)),
-        Half::Upper => both(lower(vector), part),
+        Half::Lower => both(part, part_of(vector, Half::Upper)),
+        Half::Upper => both(part_of(vector, Half::Lower), part),
     }
 }
 

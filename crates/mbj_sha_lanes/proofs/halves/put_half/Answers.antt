@@ -1,9 +1,9 @@
 -- One vector more has its half in each turn.
-use Rattle.std.proofs.Common.{ℕ, ◌+◌, List, [], inl, inr, ap, ◌∙◌, arith, get_or-set_same, get_or-set_other}
-use Rattle.std.proofs.lemmas.Bool.{cases_eq}
+use Rattle.std.proofs.Common.{◌≡◌, ℕ, ◌+◌, [], slice_index_or, arith}
 use Rattle.mbj_types.specs.Lanes.{lane_at}
 use Rattle.mbj_sha_lanes.specs.Halves.{first_of}
 use Rattle.mbj_sha_lanes.proofs.Groups.{same_lanes}
+use Rattle.mbj_sha_lanes.proofs.VectorParts.{set_more}
 use Rattle.mbj_sha_lanes.proofs.halves.put_half.Goals as goal
 
 pub vectors-init : goal.vectors-init
@@ -11,16 +11,8 @@ vectors-init c j i lt h = absurd (omega arith)
 
 pub vectors-preserved : goal.vectors-preserved
 vectors-preserved c j i lt h =
-    let k : ℕ = c.vectors.k in
-    let made : List ℕ = c.with_part.result in
-    let none : List ℕ = [] in
-    elim (cases_eq j k) [
-      | inl same ↦
-          rw same
-          (ap (λ v. lane_at 32 v (first_of c.args.half + i)) (get_or-set_same c.vectors.vectors k made none (omega arith)) ∙ c.with_part.ensures i h)
-      | inr ne ↦
-          ap (λ v. lane_at 32 v (first_of c.args.half + i)) (get_or-set_other c.vectors.vectors k j made none ne) ∙ c.vectors.invariant j i (omega arith) h
-    ]
+    set_more (λ j v. lane_at 32 v (first_of c.args.half + i) ≡ lane_at 32 (slice_index_or c.args.parts.now j []) i) c.vectors.vectors c.vectors.k c.with_part.result []
+    (omega arith) (λ j lt. c.vectors.invariant j i lt h) (c.with_part.ensures i h) j lt
 
 pub returns : goal.returns
 returns c i h = same_lanes 32 c.vectors.vectors c.args.parts.now (first_of c.args.half + i) i (omega arith) (λ k lt. c.vectors.invariant k i (omega arith) h)
