@@ -2,4 +2,5 @@ pub mod Halfway
 pub mod Least
 pub mod Led
 pub mod Listing
+pub mod Standing
 pub mod Taken

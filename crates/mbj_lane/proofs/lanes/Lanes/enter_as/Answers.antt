@@ -1,7 +1,8 @@
-use Rattle.std.proofs.Common.{ℕ, length, ap, arith}
+use Rattle.std.proofs.Common.{ℕ, arith}
 use Rattle.std.proofs.lemmas.List.{length-map}
-use Rattle.mbj_lane.specs.Slots.{Placed, slots_of}
-use Rattle.mbj_lane.proofs.Listing.{length-listed, enters-lane, entered, listed-entered, map-push}
+use Rattle.mbj_lane.specs.Slots.{slots_of}
+use Rattle.mbj_lane.proofs.Listing.{enters-lane, entered, listed-entered, map-push}
+use Rattle.mbj_lane.proofs.Standing.{length_order}
 use Rattle.mbj_lane.proofs.lanes.Lanes.enter_as.Goals as goal
 
 pub put-requires-clause-lane : goal.put-requires-clause-lane
@@ -20,11 +21,8 @@ put-requires-clause-idle g c =
 
 pub push_reserved-requires : goal.push_reserved-requires
 push_reserved-requires g c =
-    let l = c.self.inside in
-    let len = length-listed g.K.Kernel.LANES (g.K.SlotKernel.slot l.slots) (slots_of l.order.items) c.self.invariant.0.busy in
-    let same = ap (λ (v : Placed g.row.K-Entry.Denot). length v.entries) c.self.view_is in
-    let free = c.requires.free in
-    omega (arith, len, same, free, length-map l.order.items (λ (s : ℕ × ℕ). s.0), l.order.ok.0, c.self.invariant.1)
+    let size = length_order g.K.Kernel.LANES (g.K.SlotKernel.slot c.self.inside.slots) c.self.inside.order.items c.args.self.now c.self.invariant.0.busy c.self.view_is in
+    omega (arith, size, c.requires.free, c.self.inside.order.ok.0, c.self.invariant.1)
 
 pub invariant_of-self : goal.invariant_of-self
 invariant_of-self g c =
@@ -37,12 +35,9 @@ invariant_of-self g c =
 
 pub unreachable-requires : goal.unreachable-requires
 unreachable-requires g c =
-    let l = c.self.inside in
-    let len = length-listed g.K.Kernel.LANES (g.K.SlotKernel.slot l.slots) (slots_of l.order.items) c.self.invariant.0.busy in
-    let same = ap (λ (v : Placed g.row.K-Entry.Denot). length v.entries) c.self.view_is in
-    let count = c.self.invariant.0.count in
-    let free = c.requires.free in
-    omega (arith, len, same, count, free, c.in-None.ensures.cases.0, l.idle.ok.0)
+    let size = length_order g.K.Kernel.LANES (g.K.SlotKernel.slot c.self.inside.slots) c.self.inside.order.items c.args.self.now c.self.invariant.0.busy c.self.view_is in
+    let slots = length-map c.self.inside.order.items (λ (s : ℕ × ℕ). s.0) in
+    omega (arith, size, slots, c.self.invariant.0.count, c.requires.free, c.in-None.ensures.cases.0, c.self.inside.idle.ok.0)
 
 pub returns-clause-entries : goal.returns-clause-entries
 returns-clause-entries g c =

@@ -1,95 +1,62 @@
 use Rattle.std.proofs.Common.{ℕ, ◌<◌, ◌∙◌, length, ap, arith}
 use Rattle.std.proofs.lemmas.List.{length-map}
-use Rattle.mbj_lane.specs.Slots.{Placed, slots_of}
-use Rattle.mbj_lane.proofs.Listing.{busy-at, entry-at, length-same, left, listed-left, map-at, map-remove}
+use Rattle.mbj_lane.specs.Slots.{slots_of}
+use Rattle.mbj_lane.proofs.Listing.{left, listed-left, map-at, map-remove}
+use Rattle.mbj_lane.proofs.Standing.{length_order, standing}
 use Rattle.mbj_lane.proofs.lanes.Lanes.remove.Goals as goal
 
 pub remove-i-requires : goal.remove-i-requires
 remove-i-requires g c =
-    let order = c.self.inside.order.items in
-    let same = ap (λ (v : Placed g.row.K-Entry.Denot). v.entries) c.self.view_is in
-    omega (
-      arith,
-      length-same g.K.Kernel.LANES (g.K.SlotKernel.slot c.self.inside.slots) (slots_of order) c.args.self.now.entries c.self.invariant.0.busy same,
-      length-map order (λ (s : ℕ × ℕ). s.0),
-      c.self.inside.order.ok.0,
-      c.requires.position,
-    )
+    let size = length_order g.K.Kernel.LANES (g.K.SlotKernel.slot c.self.inside.slots) c.self.inside.order.items c.args.self.now c.self.invariant.0.busy c.self.view_is in
+    omega (arith, size, c.requires.position, c.self.inside.order.ok.0)
 
 pub push_reserved-requires : goal.push_reserved-requires
 push_reserved-requires g c =
-    let order = c.self.inside.order.items in let f = g.K.SlotKernel.slot c.self.inside.slots in let listed = c.self.invariant.0 in
-    let same = ap (λ (v : Placed g.row.K-Entry.Denot). v.entries) c.self.view_is in
-    let len = length-map order (λ (s : ℕ × ℕ). s.0) in
-    let lt : c.args.k < length (slots_of order) = omega (arith, length-same g.K.Kernel.LANES f (slots_of order) c.args.self.now.entries listed.busy same, c.requires.position) in
-    let lt' : c.args.k < length order = omega (arith, lt, len) in
-    let count = listed.count in
-    omega (arith, lt, count, c.self.inside.idle.ok.0, c.self.invariant.2)
+    let size = length_order g.K.Kernel.LANES (g.K.SlotKernel.slot c.self.inside.slots) c.self.inside.order.items c.args.self.now c.self.invariant.0.busy c.self.view_is in
+    omega (arith, size, c.requires.position, length-map c.self.inside.order.items (λ (s : ℕ × ℕ). s.0), c.self.invariant.0.count, c.self.inside.idle.ok.0, c.self.invariant.2)
 
 pub take-requires-clause-lane : goal.take-requires-clause-lane
 take-requires-clause-lane g c =
-    let order = c.self.inside.order.items in let f = g.K.SlotKernel.slot c.self.inside.slots in let listed = c.self.invariant.0 in
-    let same = ap (λ (v : Placed g.row.K-Entry.Denot). v.entries) c.self.view_is in
-    let len = length-map order (λ (s : ℕ × ℕ). s.0) in
-    let lt : c.args.k < length (slots_of order) = omega (arith, length-same g.K.Kernel.LANES f (slots_of order) c.args.self.now.entries listed.busy same, c.requires.position) in
-    let lt' : c.args.k < length order = omega (arith, lt, len) in
-    let at = map-at (λ (s : ℕ × ℕ). s.0) order c.args.k c.remove-i.result lt' c.remove-i.ensures.value in
-    (busy-at g.K.Kernel.LANES f (slots_of order) c.args.k c.remove-i.result.0 listed.busy lt at).0
+    let size = length_order g.K.Kernel.LANES (g.K.SlotKernel.slot c.self.inside.slots) c.self.inside.order.items c.args.self.now c.self.invariant.0.busy c.self.view_is in
+    let s = standing g.K.Kernel.LANES (g.K.SlotKernel.slot c.self.inside.slots) c.self.inside.order.items c.args.self.now c.self.invariant.0.busy c.self.view_is c.args.k (omega (arith, size, c.requires.position)) c.remove-i.ensures.value in
+    s.lane
 
 pub take-requires-clause-busy : goal.take-requires-clause-busy
 take-requires-clause-busy g c =
-    let order = c.self.inside.order.items in let f = g.K.SlotKernel.slot c.self.inside.slots in let listed = c.self.invariant.0 in
-    let same = ap (λ (v : Placed g.row.K-Entry.Denot). v.entries) c.self.view_is in
-    let len = length-map order (λ (s : ℕ × ℕ). s.0) in
-    let lt : c.args.k < length (slots_of order) = omega (arith, length-same g.K.Kernel.LANES f (slots_of order) c.args.self.now.entries listed.busy same, c.requires.position) in
-    let lt' : c.args.k < length order = omega (arith, lt, len) in
-    let at = map-at (λ (s : ℕ × ℕ). s.0) order c.args.k c.remove-i.result lt' c.remove-i.ensures.value in
-    (busy-at g.K.Kernel.LANES f (slots_of order) c.args.k c.remove-i.result.0 listed.busy lt at).1
+    let size = length_order g.K.Kernel.LANES (g.K.SlotKernel.slot c.self.inside.slots) c.self.inside.order.items c.args.self.now c.self.invariant.0.busy c.self.view_is in
+    let s = standing g.K.Kernel.LANES (g.K.SlotKernel.slot c.self.inside.slots) c.self.inside.order.items c.args.self.now c.self.invariant.0.busy c.self.view_is c.args.k (omega (arith, size, c.requires.position)) c.remove-i.ensures.value in
+    s.there
 
 pub take-requires-clause-done : goal.take-requires-clause-done
 take-requires-clause-done g c =
-    let order = c.self.inside.order.items in let f = g.K.SlotKernel.slot c.self.inside.slots in let listed = c.self.invariant.0 in
-    let same = ap (λ (v : Placed g.row.K-Entry.Denot). v.entries) c.self.view_is in
-    let len = length-map order (λ (s : ℕ × ℕ). s.0) in
-    let lt : c.args.k < length (slots_of order) = omega (arith, length-same g.K.Kernel.LANES f (slots_of order) c.args.self.now.entries listed.busy same, c.requires.position) in
-    let lt' : c.args.k < length order = omega (arith, lt, len) in
-    let at = map-at (λ (s : ℕ × ℕ). s.0) order c.args.k c.remove-i.result lt' c.remove-i.ensures.value in
-    λ e there. ap g.K.Kernel.rest_of (entry-at g.K.Kernel.LANES f (slots_of order) c.args.k c.remove-i.result.0 e c.args.self.now.entries listed.busy same lt at
-    there) ∙ c.requires.done e
+    let size = length_order g.K.Kernel.LANES (g.K.SlotKernel.slot c.self.inside.slots) c.self.inside.order.items c.args.self.now c.self.invariant.0.busy c.self.view_is in
+    let s = standing g.K.Kernel.LANES (g.K.SlotKernel.slot c.self.inside.slots) c.self.inside.order.items c.args.self.now c.self.invariant.0.busy c.self.view_is c.args.k (omega (arith, size, c.requires.position)) c.remove-i.ensures.value in
+    λ e there. ap g.K.Kernel.rest_of (s.entry e there) ∙ c.requires.done e
 
 pub invariant_of-self : goal.invariant_of-self
 invariant_of-self g c =
-    let order = c.self.inside.order.items in let f = g.K.SlotKernel.slot c.self.inside.slots in let listed = c.self.invariant.0 in
-    let same = ap (λ (v : Placed g.row.K-Entry.Denot). v.entries) c.self.view_is in
-    let len = length-map order (λ (s : ℕ × ℕ). s.0) in
-    let lt : c.args.k < length (slots_of order) = omega (arith, length-same g.K.Kernel.LANES f (slots_of order) c.args.self.now.entries listed.busy same, c.requires.position) in
-    let lt' : c.args.k < length order = omega (arith, lt, len) in
-    let at = map-at (λ (s : ℕ × ℕ). s.0) order c.args.k c.remove-i.result lt' c.remove-i.ensures.value in
+    let order = c.self.inside.order.items in let f = g.K.SlotKernel.slot c.self.inside.slots in
+    let size = length_order g.K.Kernel.LANES (g.K.SlotKernel.slot c.self.inside.slots) c.self.inside.order.items c.args.self.now c.self.invariant.0.busy c.self.view_is in
+    let s = standing g.K.Kernel.LANES (g.K.SlotKernel.slot c.self.inside.slots) c.self.inside.order.items c.args.self.now c.self.invariant.0.busy c.self.view_is c.args.k (omega (arith, size, c.requires.position)) c.remove-i.ensures.value in
     rw (c.remove-i.ensures.items, c.push_reserved.ensures.items, map-remove (λ (s : ℕ × ℕ). s.0) order c.args.k) (
       left g.K.Kernel.LANES f (g.K.SlotKernel.slot c.take.new.slots) (slots_of order) c.self.inside.idle.items c.args.k c.remove-i.result.0 c.take.result
-          listed lt at c.take.ensures.taken c.take.ensures.idle,
+          c.self.invariant.0 s.inside s.at c.take.ensures.taken c.take.ensures.idle,
       omega (arith, c.self.invariant.1),
       omega (arith, c.self.invariant.2),
     )
 
 pub returns-clause-place : goal.returns-clause-place
 returns-clause-place g c =
-    let order = c.self.inside.order.items in let f = g.K.SlotKernel.slot c.self.inside.slots in let listed = c.self.invariant.0 in
-    let same = ap (λ (v : Placed g.row.K-Entry.Denot). v.entries) c.self.view_is in
-    let len = length-map order (λ (s : ℕ × ℕ). s.0) in
-    let lt : c.args.k < length (slots_of order) = omega (arith, length-same g.K.Kernel.LANES f (slots_of order) c.args.self.now.entries listed.busy same, c.requires.position) in
-    let lt' : c.args.k < length order = omega (arith, lt, len) in
-    rw (← c.self.view_is) (map-at (λ (s : ℕ × ℕ). s.1) order c.args.k c.remove-i.result lt' c.remove-i.ensures.value)
+    let order = c.self.inside.order.items in
+    let size = length_order g.K.Kernel.LANES (g.K.SlotKernel.slot c.self.inside.slots) c.self.inside.order.items c.args.self.now c.self.invariant.0.busy c.self.view_is in
+    let s = standing g.K.Kernel.LANES (g.K.SlotKernel.slot c.self.inside.slots) c.self.inside.order.items c.args.self.now c.self.invariant.0.busy c.self.view_is c.args.k (omega (arith, size, c.requires.position)) c.remove-i.ensures.value in
+    rw (← c.self.view_is) (map-at (λ (s : ℕ × ℕ). s.1) order c.args.k c.remove-i.result (omega (arith, size, c.requires.position)) c.remove-i.ensures.value)
 
 pub returns-clause-entry : goal.returns-clause-entry
 returns-clause-entry g c =
-    let order = c.self.inside.order.items in let f = g.K.SlotKernel.slot c.self.inside.slots in let listed = c.self.invariant.0 in
-    let same = ap (λ (v : Placed g.row.K-Entry.Denot). v.entries) c.self.view_is in
-    let len = length-map order (λ (s : ℕ × ℕ). s.0) in
-    let lt : c.args.k < length (slots_of order) = omega (arith, length-same g.K.Kernel.LANES f (slots_of order) c.args.self.now.entries listed.busy same, c.requires.position) in
-    let lt' : c.args.k < length order = omega (arith, lt, len) in
-    let at = map-at (λ (s : ℕ × ℕ). s.0) order c.args.k c.remove-i.result lt' c.remove-i.ensures.value in
-    entry-at g.K.Kernel.LANES f (slots_of order) c.args.k c.remove-i.result.0 c.take.result c.args.self.now.entries listed.busy same lt at c.take.ensures.taken
+    let size = length_order g.K.Kernel.LANES (g.K.SlotKernel.slot c.self.inside.slots) c.self.inside.order.items c.args.self.now c.self.invariant.0.busy c.self.view_is in
+    let s = standing g.K.Kernel.LANES (g.K.SlotKernel.slot c.self.inside.slots) c.self.inside.order.items c.args.self.now c.self.invariant.0.busy c.self.view_is c.args.k (omega (arith, size, c.requires.position)) c.remove-i.ensures.value in
+    s.entry c.take.result c.take.ensures.taken
 
 pub returns-clause-places : goal.returns-clause-places
 returns-clause-places g c =
@@ -97,12 +64,9 @@ returns-clause-places g c =
 
 pub returns-clause-others : goal.returns-clause-others
 returns-clause-others g c =
-    let order = c.self.inside.order.items in let f = g.K.SlotKernel.slot c.self.inside.slots in let listed = c.self.invariant.0 in
-    let same = ap (λ (v : Placed g.row.K-Entry.Denot). v.entries) c.self.view_is in
-    let len = length-map order (λ (s : ℕ × ℕ). s.0) in
-    let lt : c.args.k < length (slots_of order) = omega (arith, length-same g.K.Kernel.LANES f (slots_of order) c.args.self.now.entries listed.busy same, c.requires.position) in
-    let lt' : c.args.k < length order = omega (arith, lt, len) in
-    let at = map-at (λ (s : ℕ × ℕ). s.0) order c.args.k c.remove-i.result lt' c.remove-i.ensures.value in
+    let order = c.self.inside.order.items in let f = g.K.SlotKernel.slot c.self.inside.slots in
+    let size = length_order g.K.Kernel.LANES (g.K.SlotKernel.slot c.self.inside.slots) c.self.inside.order.items c.args.self.now c.self.invariant.0.busy c.self.view_is in
+    let s = standing g.K.Kernel.LANES (g.K.SlotKernel.slot c.self.inside.slots) c.self.inside.order.items c.args.self.now c.self.invariant.0.busy c.self.view_is c.args.k (omega (arith, size, c.requires.position)) c.remove-i.ensures.value in
     let now = listed-left g.K.Kernel.LANES f (g.K.SlotKernel.slot c.take.new.slots) (slots_of order) c.self.inside.idle.items c.args.k c.remove-i.result.0
-    c.take.result listed lt at c.take.ensures.taken c.take.ensures.idle in
+    c.take.result c.self.invariant.0 s.inside s.at c.take.ensures.taken c.take.ensures.idle in
     rw (c.remove-i.ensures.items, map-remove (λ (s : ℕ × ℕ). s.0) order c.args.k, ← c.self.view_is) now
