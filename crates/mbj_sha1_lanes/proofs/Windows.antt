@@ -32,13 +32,6 @@ pub five_written : {V : Type 0} (lane : V → ℕ → ℕ) (xs : List V) (a b c 
 five_written lane (x0 ∷ x1 ∷ x2 ∷ x3 ∷ x4 ∷ []) a b c d e i h = refl
 five_written lane xs a b c d e i h = absurd (omega arith)
 
--- five numbers that are a list's elements
-pub five_of : (xs : List ℕ) (a b c d e : ℕ) → length xs ≡ 5
-    → a ≡ slice_index xs 0 → b ≡ slice_index xs 1 → c ≡ slice_index xs 2 → d ≡ slice_index xs 3 → e ≡ slice_index xs 4
-    → (a ∷ b ∷ c ∷ d ∷ e ∷ []) ≡ xs
-five_of (x0 ∷ x1 ∷ x2 ∷ x3 ∷ x4 ∷ []) a b c d e h p0 p1 p2 p3 p4 = rw (p0, p1, p2, p3, p4) refl
-five_of xs a b c d e h p0 p1 p2 p3 p4 = absurd (omega arith)
-
 -- five vectors at one lane, by place
 pub five_at : (lane : List ℕ → ℕ → ℕ) (xs : List (List ℕ)) (i : ℕ) → length xs ≡ 5
     → lane_of lane xs i ≡ lane (slice_index_or xs 0 []) i ∷ lane (slice_index_or xs 1 []) i ∷ lane (slice_index_or xs 2 []) i

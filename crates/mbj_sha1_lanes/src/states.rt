@@ -2,8 +2,7 @@ ghost use Rattle.std.specs.Prelude.{◌≡◌, ℕ, ◌<◌, [], length, slice_i
 ghost use Rattle.mbj_types.specs.Lanes.{lane_at, lane_of};
 ghost use Rattle.mbj_types.specs.declared.kind.TheConstants.{SHA1_LANES};
 
-use mbj_sha_lanes::Load32;
-use mbj_sha_lanes::load32::state_words;
+use mbj_sha_lanes::load32;
 use mbj_types::{SHA1_LANES, Sha1Word};
 
 /// Hash values as vectors: hash value i is in lane i.
@@ -12,13 +11,7 @@ pub fn gathered(states: &[[u32; 5]; SHA1_LANES]) -> [Sha1Word; 5]
     ensures lanes { (i : ℕ) → i < SHA1_LANES → lane_of (lane_at 32) result i ≡ slice_index_or states.now i [] }
     ensures length { length result ≡ 5 }
 {
-    [
-        Sha1Word::from_array(state_words(states, 0)),
-        Sha1Word::from_array(state_words(states, 1)),
-        Sha1Word::from_array(state_words(states, 2)),
-        Sha1Word::from_array(state_words(states, 3)),
-        Sha1Word::from_array(state_words(states, 4)),
-    ]
+    load32::gathered(states)
 }
 
 /// The hash value in lane `i`.
@@ -27,11 +20,5 @@ pub fn scattered(states: &[Sha1Word; 5], i: usize) -> [u32; 5]
     requires { i < SHA1_LANES }
     ensures { result ≡ lane_of (lane_at 32) states.now i }
 {
-    [
-        states[0].word(i),
-        states[1].word(i),
-        states[2].word(i),
-        states[3].word(i),
-        states[4].word(i),
-    ]
+    load32::scattered(states, i)
 }

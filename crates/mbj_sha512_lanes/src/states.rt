@@ -2,8 +2,7 @@ ghost use Rattle.std.specs.Prelude.{◌≡◌, ℕ, ◌<◌, [], length, slice_i
 ghost use Rattle.mbj_types.specs.Lanes.{lane_at, lane_of};
 ghost use Rattle.mbj_types.specs.declared.kind.TheConstants.{SHA512_LANES};
 
-use mbj_sha_lanes::Load64;
-use mbj_sha_lanes::load64::state_words;
+use mbj_sha_lanes::load64;
 use mbj_types::{SHA512_LANES, Sha512Word};
 
 /// Hash values as vectors: hash value i is in lane i.
@@ -12,16 +11,7 @@ pub fn gathered(states: &[[u64; 8]; SHA512_LANES]) -> [Sha512Word; 8]
     ensures lanes { (i : ℕ) → i < SHA512_LANES → lane_of (lane_at 64) result i ≡ slice_index_or states.now i [] }
     ensures length { length result ≡ 8 }
 {
-    [
-        Sha512Word::from_array(state_words(states, 0)),
-        Sha512Word::from_array(state_words(states, 1)),
-        Sha512Word::from_array(state_words(states, 2)),
-        Sha512Word::from_array(state_words(states, 3)),
-        Sha512Word::from_array(state_words(states, 4)),
-        Sha512Word::from_array(state_words(states, 5)),
-        Sha512Word::from_array(state_words(states, 6)),
-        Sha512Word::from_array(state_words(states, 7)),
-    ]
+    load64::gathered(states)
 }
 
 /// The hash value in lane `i`.
@@ -30,14 +20,5 @@ pub fn scattered(states: &[Sha512Word; 8], i: usize) -> [u64; 8]
     requires { i < SHA512_LANES }
     ensures { result ≡ lane_of (lane_at 64) states.now i }
 {
-    [
-        states[0].word(i),
-        states[1].word(i),
-        states[2].word(i),
-        states[3].word(i),
-        states[4].word(i),
-        states[5].word(i),
-        states[6].word(i),
-        states[7].word(i),
-    ]
+    load64::scattered(states, i)
 }

@@ -1,5 +1,5 @@
 -- The eight words of a hash value: as numbers, as lane words, and as vectors.
-use Rattle.std.proofs.Common.{◌≡◌, ℕ, ◌∷◌, [], List, length, slice_index, slice_index_or, slice_set, get_or, refl, arith}
+use Rattle.std.proofs.Common.{◌≡◌, ℕ, ◌∷◌, [], List, length, slice_index_or, slice_set, get_or, refl, arith}
 use Rattle.mbj_types.specs.Lanes.{lane_of}
 
 -- eight lane words that were read from a list of eight
@@ -15,13 +15,6 @@ pub eight_written : {V : Type 0} (lane : V → ℕ → ℕ) (xs : List V) (a b c
     ≡ (lane a i ∷ lane b i ∷ lane c i ∷ lane d i ∷ lane e i ∷ lane f i ∷ lane g i ∷ lane h i ∷ [])
 eight_written lane (x0 ∷ x1 ∷ x2 ∷ x3 ∷ x4 ∷ x5 ∷ x6 ∷ x7 ∷ []) a b c d e f g h i l = refl
 eight_written lane xs a b c d e f g h i l = absurd (omega arith)
-
--- eight numbers that are a list's elements
-pub eight_of : (xs : List ℕ) (a b c d e f g h : ℕ) → length xs ≡ 8
-    → a ≡ slice_index xs 0 → b ≡ slice_index xs 1 → c ≡ slice_index xs 2 → d ≡ slice_index xs 3 → e ≡ slice_index xs 4 → f ≡ slice_index xs 5 → g ≡ slice_index xs 6 → h ≡ slice_index xs 7
-    → (a ∷ b ∷ c ∷ d ∷ e ∷ f ∷ g ∷ h ∷ []) ≡ xs
-eight_of (x0 ∷ x1 ∷ x2 ∷ x3 ∷ x4 ∷ x5 ∷ x6 ∷ x7 ∷ []) a b c d e f g h l p0 p1 p2 p3 p4 p5 p6 p7 = rw (p0, p1, p2, p3, p4, p5, p6, p7) refl
-eight_of xs a b c d e f g h l p0 p1 p2 p3 p4 p5 p6 p7 = absurd (omega arith)
 
 -- eight vectors at one lane, by place
 pub eight_at : (lane : List ℕ → ℕ → ℕ) (xs : List (List ℕ)) (i : ℕ) → length xs ≡ 8

@@ -193,19 +193,43 @@ fn variable_of<const N: usize>(state: &[u32; N], j: usize) -> u32
     state[j]
 }
 
-/// Word j of each hash value of N words.
+// Word j of each hash value of N words.
 #[inline(always)]
-pub fn state_words<const N: usize, const LANES: usize>(
-    states: &[[u32; N]; LANES],
-    j: usize,
-) -> [u32; LANES]
+fn state_words<const N: usize>(states: &[[u32; N]; 16], j: usize) -> u32x16
     requires { j < N }
-    ensures words { (i : ℕ) → i < LANES → lane_at 32 result i ≡ slice_index (slice_index_or states.now i []) j }
-    ensures lengths { (i : ℕ) → i < LANES → length (slice_index_or states.now i []) ≡ N }
+    ensures words { (i : ℕ) → i < 16 → lane_at 32 result i ≡ slice_index (slice_index_or states.now i []) j }
+    ensures lengths { (i : ℕ) → i < 16 → length (slice_index_or states.now i []) ≡ N }
 {
-    let mut words = [0; LANES];
-    'states: for i in 0..LANES {
+    let mut words = [0; 16];
+    'states: for i in 0..16 {
         words[i] = variable_of(&states[i], j);
+    }
+    u32x16::from_array(words)
+}
+
+/// Hash values of N words, of which there is one at least, as vectors: hash value i is in lane i.
+#[inline(always)]
+pub fn gathered<const N: usize>(states: &[[u32; N]; 16]) -> [u32x16; N]
+    requires { 0 < N }
+    ensures lanes { (i : ℕ) → i < 16 → lane_of (lane_at 32) result i ≡ slice_index_or states.now i [] }
+    ensures length { length result ≡ N }
+{
+    let mut lanes = [u32x16::splat(0); N];
+    'words: for j in 0..N {
+        lanes[j] = state_words(states, j);
+    }
+    lanes
+}
+
+/// The hash value of N words in lane `i`.
+#[inline(always)]
+pub fn scattered<const N: usize>(states: &[u32x16; N], i: usize) -> [u32; N]
+    requires { i < 16 }
+    ensures { result ≡ lane_of (lane_at 32) states.now i }
+{
+    let mut words = [0; N];
+    'words: for j in 0..N {
+        words[j] = states[j].to_array()[i];
     }
     words
 }
