@@ -1,5 +1,5 @@
 -- One vector more has its half in each turn.
-use Rattle.std.proofs.Common.{◌≡◌, ℕ, ◌+◌, [], slice_index_or, arith}
+use Rattle.std.proofs.Common.{◌≡◌, ◌+◌, [], slice_index_or, arith}
 use Rattle.mbj_types.specs.Lanes.{lane_at}
 use Rattle.mbj_sha_lanes.specs.Halves.{first_of}
 use Rattle.mbj_sha_lanes.proofs.Groups.{same_lanes}

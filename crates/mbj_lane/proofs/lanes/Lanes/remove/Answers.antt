@@ -1,4 +1,4 @@
-use Rattle.std.proofs.Common.{ℕ, ◌<◌, ◌∙◌, length, ap, arith}
+use Rattle.std.proofs.Common.{ℕ, ◌∙◌, ap, arith}
 use Rattle.std.proofs.lemmas.List.{length-map}
 use Rattle.mbj_lane.specs.Slots.{slots_of}
 use Rattle.mbj_lane.proofs.Listing.{left, listed-left, map-at, map-remove}
