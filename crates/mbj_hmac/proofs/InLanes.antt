@@ -3,12 +3,12 @@ use Rattle.std.proofs.Common.{◌≡◌, ◌∙◌, ℕ, zero, suc, ◌+◌, ◌
 use Rattle.std.specs.Prelude.{nat_lt, if◌then◌else◌}
 use Rattle.std.specs.Option.{option_map}
 use Rattle.std.proofs.lemmas.Bool.{cases_eq, cases_lt, eq-eqb, ne_eqb, eqb-true, lt-ltb, le-ltb}
-use Rattle.std.proofs.lemmas.List.{length-map}
+use Rattle.std.proofs.lemmas.List.{get_or_default, length-map}
 use Rattle.std.proofs.lemmas.List.FromFn.{get_or-map-range_with_len}
 use Rattle.mbj_types.specs.Lanes.{lane_at}
 use Rattle.mbj_lane.specs.Rounds.{after}
 use Rattle.mbj_lane.specs.Laws.{after-after}
-use Rattle.mbj_lane.specs.Slots.{IsLeast}
+use Rattle.mbj_lane.specs.Slots.{IsBusy, IsLeast, IsWritten}
 use Rattle.mbj_lane.proofs.Halfway.{halfway, get_or-halfway, set-halfway}
 use Rattle.mbj_hmac.specs.Rounds.{Chaining, HmacState, advanced, block_before, is_turn, outer_rounds, rest_of, round, turned}
 use Rattle.mbj_hmac.specs.Laws.Tests.{not_both}
@@ -307,6 +307,27 @@ module _ (n : ℕ) (lane inner : ℕ → List ℕ) (rests turns : List ℕ) (es 
 
   pub slot_entry : (i : ℕ) (e : HmacState) → i < n → slot_in s i ≡ Some e → (lane_at 32 rests i < idle) × (lane_at 32 rests i ≡ e.rest) × (seen_at lane inner es i ≡ e)
   slot_entry i e lt some = slot_some lane inner rests es i (lane_at 32 turns i) e (tied.tied i (omega arith)) (sym (slot_here i lt) ∙ some)
+
+  -- the entry that was read at i is the one in the slot
+  pub entry_read : (i : ℕ) (x e : HmacState) → i < n → x ≡ get_or es i x → slot_in s i ≡ Some e → (x ≡ entry_in es i) × (seen_at lane inner es i ≡ e)
+  entry_read i x e lt at some = (at ∙ get_or_default es i x blank (omega arith), (slot_entry i e lt some).2)
+
+  pub done_read : (i : ℕ) (x : HmacState) → i < n → x ≡ get_or es i x → IsBusy (slot_in s) i → ((e : HmacState) → slot_in s i ≡ Some e → e.rest ≡ 0) → x.rest ≡ 0
+  done_read i x lt at busy done =
+      let read = entry_read i x busy.0 lt at busy.1 in
+      ap (λ (e : HmacState). e.rest) read.0 ∙ ap (λ (e : HmacState). e.rest) read.1 ∙ done busy.0 busy.1
+
+  -- slot i is idle now, and the others are as they were
+  pub slot_left : (led done : ℕ → List ℕ) (rests' : List ℕ) (i : ℕ) (x : HmacState) → i < n → lane_at 32 rests' i ≡ idle
+      → ((j : ℕ) → j < most_lanes → (j ≡ i → ⊥) → lane_at 32 rests' j ≡ lane_at 32 rests j) → ((j : ℕ) → led j ≡ lane j) → ((j : ℕ) → done j ≡ inner j)
+      → IsWritten n i None (slot_in s) (slot_in (slots_of n (slot_at led done rests' (set es i x))))
+  slot_left led done rests' i x lt none rest chain first =
+      let slots = slot_at led done rests' (set es i x) in
+      record {
+        here = slot_is n slots i lt ∙ slot_idle led done rests' (set es i x) i none;
+        others = λ j l apart.
+            slot_is n slots j l ∙ slot_same lane led inner done rests rests' es x i j apart (rest j (omega arith) apart) (chain j) (first j) ∙ sym (slot_here j l);
+      }
 
   -- a busy lane is that of a slot with an entry
   pub entry_slot : (i : ℕ) → i < most_lanes → lane_at 32 rests i < idle

@@ -1,25 +1,15 @@
-use Rattle.std.proofs.Common.{◌≡◌, ◌<◌, ◌∙◌, ℕ, List, inl, length, length-set, set, sym, ap, ap₂, arith}
-use Rattle.std.proofs.lemmas.List.{get_or_default}
+use Rattle.std.proofs.Common.{◌<◌, ◌∙◌, ℕ, List, inl, length, length-set, ap, ap₂, arith}
 use Rattle.mbj_types.specs.Lanes.{lane_at}
 use Rattle.mbj_hmac.specs.Rounds.{HmacState}
-use Rattle.mbj_hmac.specs.Inside.InLanes.{blank, entry_in, slot_at}
-use Rattle.mbj_hmac.proofs.InLanes.{ready_set, slot_entry, slot_here, slot_idle, slot_is, slot_same, tied_set}
+use Rattle.mbj_hmac.proofs.InLanes.{done_read, entry_read, ready_set, slot_left, tied_set}
 use Rattle.mbj_hmac.proofs.slots.HmacSlots.take_parts.Goals as goal
 
 pub end_parts-requires : goal.end_parts-requires
 end_parts-requires g c =
-    let n = g.H.LaneHash.LANES in
     let s = c.self.inside in
-    let rests = s.lanes.rests in
-    let lane = g.H.LaneHash.lane s.lanes.states in
-    let inner = g.H.LaneHash.lane s.lanes.inner in
-    let es = s.entries.items in
-    let i = c.args.i in
-    let busy = c.requires.busy in
-    let this = slot_entry n lane inner rests.left rests.turns es c.args.self.now c.self.view_is c.self.invariant.0 c.self.invariant.1 g.met.H.LaneHash.narrow i busy.0 c.requires.lane busy.1 in
-    let lt : i < length es = omega (arith, c.requires.lane, c.self.invariant.1) in
-    let entry : c.index_mut-entry.result.now ≡ entry_in es i = c.index_mut-entry.ensures.value ∙ get_or_default es i c.index_mut-entry.result.now blank lt in
-    ap (λ (e : HmacState). e.rest) entry ∙ ap (λ (e : HmacState). e.rest) this.2 ∙ c.requires.done busy.0 busy.1
+    done_read g.H.LaneHash.LANES (g.H.LaneHash.lane s.lanes.states) (g.H.LaneHash.lane s.lanes.inner) s.lanes.rests.left s.lanes.rests.turns s.entries.items
+    c.args.self.now c.self.view_is c.self.invariant.0 c.self.invariant.1 g.met.H.LaneHash.narrow
+    c.args.i c.index_mut-entry.result.now c.requires.lane c.index_mut-entry.ensures.value c.requires.busy c.requires.done
 
 pub invariant_of-self : goal.invariant_of-self
 invariant_of-self g c =
@@ -40,53 +30,28 @@ invariant_of-self g c =
 
 pub returns-clause-packet : goal.returns-clause-packet
 returns-clause-packet g c e there =
-    let n = g.H.LaneHash.LANES in
     let s = c.self.inside in
-    let rests = s.lanes.rests in
-    let lane = g.H.LaneHash.lane s.lanes.states in
-    let inner = g.H.LaneHash.lane s.lanes.inner in
-    let es = s.entries.items in
-    let i = c.args.i in
-    let this = slot_entry n lane inner rests.left rests.turns es c.args.self.now c.self.view_is c.self.invariant.0 c.self.invariant.1 g.met.H.LaneHash.narrow i e c.requires.lane there in
-    let lt : i < length es = omega (arith, c.requires.lane, c.self.invariant.1) in
-    let entry : c.index_mut-entry.result.now ≡ entry_in es i = c.index_mut-entry.ensures.value ∙ get_or_default es i c.index_mut-entry.result.now blank lt in
-    c.end_parts.ensures.packet ∙ ap (λ (x : HmacState). x.packet) entry ∙ ap (λ (x : HmacState). x.packet) this.2
+    let read = entry_read g.H.LaneHash.LANES (g.H.LaneHash.lane s.lanes.states) (g.H.LaneHash.lane s.lanes.inner) s.lanes.rests.left s.lanes.rests.turns s.entries.items
+    c.args.self.now c.self.view_is c.self.invariant.0 c.self.invariant.1 g.met.H.LaneHash.narrow
+    c.args.i c.index_mut-entry.result.now e c.requires.lane c.index_mut-entry.ensures.value there in
+    c.end_parts.ensures.packet ∙ ap (λ (x : HmacState). x.packet) read.0 ∙ ap (λ (x : HmacState). x.packet) read.1
 
 pub returns-clause-tag : goal.returns-clause-tag
 returns-clause-tag g c e there =
-    let n = g.H.LaneHash.LANES in
     let s = c.self.inside in
-    let rests = s.lanes.rests in
-    let lane = g.H.LaneHash.lane s.lanes.states in
-    let inner = g.H.LaneHash.lane s.lanes.inner in
-    let es = s.entries.items in
-    let i = c.args.i in
-    let this = slot_entry n lane inner rests.left rests.turns es c.args.self.now c.self.view_is c.self.invariant.0 c.self.invariant.1 g.met.H.LaneHash.narrow i e c.requires.lane there in
-    let lt : i < length es = omega (arith, c.requires.lane, c.self.invariant.1) in
-    let entry : c.index_mut-entry.result.now ≡ entry_in es i = c.index_mut-entry.ensures.value ∙ get_or_default es i c.index_mut-entry.result.now blank lt in
-    let chain = c.scattered-chain.ensures ∙ ap (λ states. g.H.LaneHash.lane states i) c.leave.ensures.states in
+    let read = entry_read g.H.LaneHash.LANES (g.H.LaneHash.lane s.lanes.states) (g.H.LaneHash.lane s.lanes.inner) s.lanes.rests.left s.lanes.rests.turns s.entries.items
+    c.args.self.now c.self.view_is c.self.invariant.0 c.self.invariant.1 g.met.H.LaneHash.narrow
+    c.args.i c.index_mut-entry.result.now e c.requires.lane c.index_mut-entry.ensures.value there in
+    let chain = c.scattered-chain.ensures ∙ ap (λ states. g.H.LaneHash.lane states c.args.i) c.leave.ensures.states in
     let digest = g.H.LaneHash.chaining.digest in
-    c.end_parts.ensures.tag ∙ ap₂ (λ (x : HmacState) k. digest x.hash k) entry chain ∙ ap (λ (x : HmacState). digest x.hash x.chain) this.2
+    c.end_parts.ensures.tag ∙ ap₂ (λ (x : HmacState) k. digest x.hash k) read.0 chain ∙ ap (λ (x : HmacState). digest x.hash x.chain) read.1
 
 pub returns-clause-idle : goal.returns-clause-idle
 returns-clause-idle g c =
-    let n = g.H.LaneHash.LANES in
     let s = c.self.inside in
-    let rests = s.lanes.rests in
-    let lane = g.H.LaneHash.lane s.lanes.states in
-    let inner = g.H.LaneHash.lane s.lanes.inner in
-    let es = s.entries.items in
     let new = c.leave.new.self in
-    let led = g.H.LaneHash.lane new.states in
-    let done = g.H.LaneHash.lane new.inner in
     let out = c.leave.ensures in
-    let i = c.args.i in
-    let e = c.end_parts.new.self in
-    let slots = slot_at led done new.rests.left (set es i e) in
-    record {
-      here = slot_is n slots i c.requires.lane ∙ slot_idle led done new.rests.left (set es i e) i out.rest;
-      others = λ j l apart.
-          slot_is n slots j l
-          ∙ slot_same lane led inner done rests.left new.rests.left es e i j apart (out.rests j (omega (arith, g.met.H.LaneHash.narrow)) apart) (ap (λ states. g.H.LaneHash.lane states j) out.states) (ap (λ states. g.H.LaneHash.lane states j) out.inner)
-          ∙ sym (slot_here n lane inner rests.left rests.turns es c.args.self.now c.self.view_is c.self.invariant.0 c.self.invariant.1 g.met.H.LaneHash.narrow j l);
-    }
+    slot_left g.H.LaneHash.LANES (g.H.LaneHash.lane s.lanes.states) (g.H.LaneHash.lane s.lanes.inner) s.lanes.rests.left s.lanes.rests.turns s.entries.items
+    c.args.self.now c.self.view_is c.self.invariant.0 c.self.invariant.1 g.met.H.LaneHash.narrow
+    (g.H.LaneHash.lane new.states) (g.H.LaneHash.lane new.inner) new.rests.left c.args.i c.end_parts.new.self c.requires.lane out.rest out.rests
+    (λ j. ap (λ states. g.H.LaneHash.lane states j) out.states) (λ j. ap (λ states. g.H.LaneHash.lane states j) out.inner)
