@@ -1,9 +1,10 @@
 -- Lane i is lane j of its half.
-use Rattle.std.proofs.Common.{◌≡◌, ℕ, ◌+◌, ◌-◌, ◌<◌, List, ap, sym, ◌∙◌, arith}
+use Rattle.std.proofs.Common.{◌≡◌, ◌+◌, sym, ◌∙◌, arith}
 use Rattle.mbj_types.specs.Lanes.{lane_at, lane_of}
 use Rattle.mbj_sha_lanes.specs.Halves.{first_of}
 use Rattle.mbj_sha_lanes.specs.Words.{words32}
 use Rattle.mbj_sha_lanes.proofs.VectorParts.{first_of-le}
+use Rattle.mbj_hmac.proofs.InHalves.{in_half}
 use Rattle.mbj_hmac.proofs.loaded.loaded.Goals as goal
 
 pub half_words-requires-clause-lent : goal.half_words-requires-clause-lent
@@ -11,11 +12,5 @@ half_words-requires-clause-lent g c i lt = c.requires.lent (first_of c.in-Some.h
 
 pub returns-in-Some-clause-lanes : goal.returns-in-Some-clause-lanes
 returns-in-Some-clause-lanes g c i lt within =
-    let half = rw c.in-Some.is at within in
-    let first : ℕ = first_of c.in-Some.half in
-    let j : ℕ = i - first in
-    let inside : j < 8 = omega (arith, half.0, half.1) in
-    let at : i ≡ first + j = omega (arith, half.0) in
-    let block : ℕ → List ℕ = λ k. g.B.Blocks.block c.args.blocks.now k in
-    ap (λ k. words32 (block k)) at ∙ c.half_words.ensures.lanes j inside ∙ sym (c.put_half.ensures j inside)
-    ∙ ap (lane_of (lane_at 32) c.put_half.new.vectors) (sym at)
+    in_half c.in-Some.half (λ i. words32 (g.B.Blocks.block c.args.blocks.now i) ≡ lane_of (lane_at 32) c.put_half.new.vectors i)
+    (λ j inside. c.half_words.ensures.lanes j inside ∙ sym (c.put_half.ensures j inside)) i (rw c.in-Some.is at within)

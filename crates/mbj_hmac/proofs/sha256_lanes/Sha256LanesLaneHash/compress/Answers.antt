@@ -1,10 +1,11 @@
 -- Lane i is lane j of its half.
-use Rattle.std.proofs.Common.{◌≡◌, ℕ, ◌+◌, ◌-◌, ◌<◌, List, ap, ap₂, sym, ◌∙◌, arith}
+use Rattle.std.proofs.Common.{◌≡◌, ℕ, ◌+◌, List, ◌∙◌, arith}
 use Rattle.sha2.specs.Sha256.{compress}
 use Rattle.mbj_types.specs.Lanes.{lane_at, lane_of}
 use Rattle.mbj_sha_lanes.specs.Halves.{first_of}
 use Rattle.mbj_sha_lanes.proofs.VectorParts.{first_of-le}
 use Rattle.mbj_sha256_lanes.proofs.BlockWords.{first_words_is}
+use Rattle.mbj_hmac.proofs.InHalves.{in_half}
 use Rattle.mbj_hmac.proofs.sha256_lanes.Sha256LanesLaneHash.compress.Goals as goal
 
 pub half_words-words-requires-clause-lent : goal.half_words-words-requires-clause-lent
@@ -12,15 +13,9 @@ half_words-words-requires-clause-lent g c i lt = c.requires.lent (first_of c.in-
 
 pub returns-in-Some : goal.returns-in-Some
 returns-in-Some g c i lt within =
-    let half = rw c.in-Some.is at within in
-    let first : ℕ = first_of c.in-Some.half in
-    let j : ℕ = i - first in
-    let inside : j < 8 = omega (arith, half.0, half.1) in
-    let at : i ≡ first + j = omega (arith, half.0) in
     let block : ℕ → List ℕ = λ k. g.B.Blocks.block c.args.blocks.now k in
-    ap (lane_of (lane_at 32) c.compress_half.new.states) at
-    ∙ c.compress_half.ensures j (block (first + j)) inside (c.half_words-words.ensures.lanes j inside)
-    ∙ ap₂ compress (ap (lane_of (lane_at 32) c.args.states.now) (sym at)) (ap block (sym at))
+    in_half c.in-Some.half (λ i. lane_of (lane_at 32) c.compress_half.new.states i ≡ compress (lane_of (lane_at 32) c.args.states.now i) (block i))
+    (λ j inside. c.compress_half.ensures j (block (first_of c.in-Some.half + j)) inside (c.half_words-words.ensures.lanes j inside)) i (rw c.in-Some.is at within)
 
 pub returns-in-None : goal.returns-in-None
 returns-in-None g c i lt within =
