@@ -9,7 +9,6 @@ pub mod WideKeys
 pub mod WideWords
 pub mod BusySlots
 pub mod XorSums
-pub mod RoundPairs
 pub mod WideHeldKeys
 pub mod WideUnmixing
 pub mod LayoutRounds

@@ -8,4 +8,5 @@ pub mod WideKeys
 pub mod LaidKeys
 pub mod LaidLaws
 pub mod Layouts
+pub mod Steps
 pub mod KeyStream

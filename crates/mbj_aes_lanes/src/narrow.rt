@@ -2,7 +2,7 @@
 pub mod by_fours;
 pub mod cipher;
 pub mod counters;
-pub mod inverse_cipher;
+pub mod directions;
 pub mod inverse_rounds;
 pub mod laid_keys;
 pub mod layouts;

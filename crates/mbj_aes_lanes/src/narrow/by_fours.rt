@@ -1,7 +1,8 @@
 //! Texts of any number of blocks, four at a time.
 ghost use Rattle.std.specs.Prelude.{◌≡◌, ℕ, ◌<◌, [], length, slice_index_or};
 
-use crate::narrow::text_key::{Direction, LaidKey};
+use crate::narrow::directions::Direction;
+use crate::narrow::text_key::LaidKey;
 use mbj_types::BLOCK_BYTES;
 
 /// The blocks of a text that go at once, in two registers side by side. More of them would take no less time each.

@@ -1,59 +1,51 @@
-//! CIPHER (FIPS 197, 5.1) of the blocks of registers side by side, which the processor overlaps.
-ghost use Rattle.std.specs.Prelude.{◌≡◌, ℕ, ◌-◌, ◌<◌, ◌≤◌, slice_index_or};
-ghost use Rattle.mbj_types.specs.Blocks.{xor_lists};
-ghost use Rattle.mbj_types.specs.Aes.{encipher, round_key, full_round, shift_rows, sub_bytes};
+//! CIPHER and INVCIPHER (FIPS 197, 5.1 and 5.3) of the blocks of registers side by side, which the processor overlaps.
+ghost use Rattle.std.specs.Prelude.{◌≡◌, ℕ, ◌+◌, ◌*◌, ◌<◌, ◌≤◌, List, length, slice_index_or};
+ghost use Rattle.mbj_types.specs.Aes.{encipher};
 ghost use Rattle.mbj_aes.specs.BlockWords.{block_byte, block_at};
-ghost use Rattle.mbj_aes_lanes.specs.Inside.Layouts.{tower_state};
+ghost use Rattle.mbj_aes_lanes.specs.Inside.Steps.{IsHeld};
 
-use crate::narrow::laid_keys::Encryption;
-use crate::narrow::rounds::{first_round, full_round, last_round};
+use crate::narrow::directions::{Direction, Encryption};
 use crate::narrow::schedules::Schedules;
 use mbj_aes::BlockWord;
 
+// Step `k` of `n` rounds, in each register.
 #[inline(always)]
-fn first_rounds<V: BlockWord, K: Schedules<V, Encryption>, const N: usize>(keys: &K, s: &mut [V; N])
+fn step_all<V: BlockWord, D: Direction, K: Schedules<V, D>, const N: usize>(
+    keys: &K,
+    s: &mut [V; N],
+    k: usize,
+    n: usize,
+)
+    requires least { 1 ≤ n }
+    requires most { k ≤ n }
+    requires rounds { n ≡ K.rounds_of keys.now }
+    requires registers { N ≤ K.count_of keys.now }
+    ensures { (i b : ℕ) (d : V) (block : List ℕ) → i < N → b < V.BLOCKS → length (K.schedule_of keys.now i b) ≡ 16 * (n + 1)
+        → IsHeld D.change D.is_after (K.schedule_of keys.now i b) block n k (block_byte V.lane (slice_index_or s.old i d) b)
+        → IsHeld D.change D.is_after (K.schedule_of keys.now i b) block n (k + 1) (block_byte V.lane (slice_index_or s.new i d) b) }
+{
+    let r = D::key_index(k, n);
+    'registers: for i in 0..N {
+        s[i] = D::step(s[i], keys.round_key(r, i), k, n);
+    }
+}
+
+/// Changes each block of the registers in a direction, under the schedule in its place.
+#[inline(always)]
+pub fn change_all<V: BlockWord, D: Direction, K: Schedules<V, D>, const N: usize>(
+    keys: &K,
+    s: &mut [V; N],
+)
     requires { N ≤ K.count_of keys.now }
-    ensures { (i b : ℕ) (d : V) → i < N → b < V.BLOCKS → tower_state 0 (block_byte V.lane (slice_index_or s.new i d) b)
-        ≡ xor_lists (block_at V.lane (slice_index_or s.old i d) b) (round_key (K.schedule_of keys.now i b) 0) }
-{
-    'registers: for i in 0..N {
-        s[i] = first_round(s[i], keys.round_key(0, i));
-    }
-}
-
-#[inline(always)]
-fn full_rounds<V: BlockWord, K: Schedules<V, Encryption>, const N: usize>(
-    keys: &K,
-    s: &mut [V; N],
-    r: usize,
-)
-    requires first { 1 ≤ r }
-    requires last { r < K.rounds_of keys.now }
-    requires registers { N ≤ K.count_of keys.now }
-    ensures { (i b : ℕ) (d : V) → i < N → b < V.BLOCKS → tower_state r (block_byte V.lane (slice_index_or s.new i d) b)
-        ≡ full_round (tower_state (r - 1) (block_byte V.lane (slice_index_or s.old i d) b)) (round_key (K.schedule_of keys.now i b) r) }
-{
-    'registers: for i in 0..N {
-        s[i] = full_round(s[i], keys.round_key(r, i), r);
-    }
-}
-
-#[inline(always)]
-fn last_rounds<V: BlockWord, K: Schedules<V, Encryption>, const N: usize>(
-    keys: &K,
-    s: &mut [V; N],
-    r: usize,
-)
-    requires first { 1 ≤ r }
-    requires last { r ≡ K.rounds_of keys.now }
-    requires registers { N ≤ K.count_of keys.now }
     ensures { (i b : ℕ) (d : V) → i < N → b < V.BLOCKS → block_at V.lane (slice_index_or s.new i d) b
-        ≡ xor_lists (shift_rows (sub_bytes (tower_state (r - 1) (block_byte V.lane (slice_index_or s.old i d) b))))
-        (round_key (K.schedule_of keys.now i b) r) }
+        ≡ D.change (K.schedule_of keys.now i b) (block_at V.lane (slice_index_or s.old i d) b) }
 {
-    'registers: for i in 0..N {
-        s[i] = last_round(s[i], keys.round_key(r, i), r);
+    let n = keys.rounds();
+    step_all(keys, s, 0, n);
+    'rounds: for k in 1..n {
+        step_all(keys, s, k, n);
     }
+    step_all(keys, s, n, n);
 }
 
 /// Encrypts each block of the registers, under the schedule in its place.
@@ -66,10 +58,5 @@ pub fn encrypt_all<V: BlockWord, K: Schedules<V, Encryption>, const N: usize>(
     ensures { (i b : ℕ) (d : V) → i < N → b < V.BLOCKS → block_at V.lane (slice_index_or s.new i d) b
         ≡ encipher (K.schedule_of keys.now i b) (block_at V.lane (slice_index_or s.old i d) b) }
 {
-    let rounds = keys.rounds();
-    first_rounds(keys, s);
-    'rounds: for r in 1..rounds {
-        full_rounds(keys, s, r);
-    }
-    last_rounds(keys, s, rounds);
+    change_all(keys, s);
 }

@@ -5,12 +5,12 @@ ghost use Rattle.mbj_types.specs.Aes.{round_key, mix_columns};
 ghost use Rattle.mbj_aes.specs.BlockWords.{block_byte, block_at};
 ghost use Rattle.mbj_aes.specs.declared.sizes.TheConstants.{MAX_ROUND_KEYS};
 ghost use Rattle.mbj_aes_lanes.specs.Inside.Layouts.{tower_state, tower_key, last_key, inverse_key};
-ghost use Rattle.mbj_aes_lanes.specs.Inside.LaidKeys.{laid_key, inverse_laid_key, laid_schedule};
+ghost use Rattle.mbj_aes_lanes.specs.Inside.LaidKeys.{laid_schedule};
 
+use crate::narrow::directions::Direction;
 use crate::narrow::layouts::{LAYOUTS, PLACES};
 use crate::narrow::mixing::inv_mixed;
 use crate::narrow::rounds::in_tower;
-use crate::narrow::schedules::KeyLayout;
 use mbj_aes::inverse_substitution::{in_decryption, inverse_multiples};
 use mbj_aes::substitution::substituted;
 use mbj_aes::tables::SBOX_CONSTANT;
@@ -18,34 +18,34 @@ use mbj_aes::{BlockWord, MAX_ROUND_KEYS, Schedule};
 use mbj_types::BLOCK_BYTES;
 use std::simd::u8x16;
 
-// The first round key, in the tower's basis.
+/// The first round key, in the tower's basis.
 #[inline(always)]
-fn first_key<V: BlockWord>(key: V) -> V
+pub fn first_key<V: BlockWord>(key: V) -> V
     ensures { (b : ℕ) → b < V.BLOCKS → tower_state 0 (block_byte V.lane result b) ≡ block_at V.lane key b }
 {
     in_tower(key)
 }
 
-// The key of a round `r` between the first and the last.
+/// The key of a round `r` between the first and the last.
 #[inline(always)]
-fn key_between<V: BlockWord>(key: V, r: usize) -> V
+pub fn key_between<V: BlockWord>(key: V, r: usize) -> V
     ensures { (b : ℕ) → b < V.BLOCKS → tower_key r (block_byte V.lane result b) ≡ block_at V.lane key b }
 {
     let with_constant = key.xored(V::splat(SBOX_CONSTANT));
     in_tower(with_constant).placed(&PLACES[(LAYOUTS - r % LAYOUTS) % LAYOUTS])
 }
 
-// The last round key, of plain bytes.
+/// The last round key, of plain bytes.
 #[inline(always)]
-fn last_key<V: BlockWord>(key: V) -> V
+pub fn last_key<V: BlockWord>(key: V) -> V
     ensures { (b : ℕ) → b < V.BLOCKS → last_key (block_byte V.lane result b) ≡ block_at V.lane key b }
 {
     key.xored(V::splat(SBOX_CONSTANT))
 }
 
-// The key of a round `r` between the first and the last in decryption: a round makes INVMIXCOLUMNS of what SBOX gives for it.
+/// The key of a round `r` between the first and the last in decryption: a round makes INVMIXCOLUMNS of what SBOX gives for it.
 #[inline(always)]
-fn inverse_key_between<V: BlockWord>(key: V, r: usize) -> V
+pub fn inverse_key_between<V: BlockWord>(key: V, r: usize) -> V
     ensures { (b : ℕ) → b < V.BLOCKS → mix_columns (inverse_key r (block_byte V.lane result b)) ≡ block_at V.lane key b }
 {
     let constant = V::splat(SBOX_CONSTANT);
@@ -55,9 +55,9 @@ fn inverse_key_between<V: BlockWord>(key: V, r: usize) -> V
     )
 }
 
-// The last round key in decryption.
+/// The last round key in decryption.
 #[inline(always)]
-fn inverse_last_key<V: BlockWord>(key: V) -> V
+pub fn inverse_last_key<V: BlockWord>(key: V) -> V
     ensures { (b : ℕ) → b < V.BLOCKS → inverse_key 0 (block_byte V.lane result b) ≡ block_at V.lane key b }
 {
     in_decryption(key.xored(V::splat(SBOX_CONSTANT)))
@@ -80,63 +80,23 @@ fn block_of(register: u8x16) -> [u8; 16]
     blocks[0]
 }
 
-/// Encryption.
-pub struct Encryption;
-
-impl KeyLayout for Encryption {
-    ghost use Rattle.mbj_aes_lanes.specs.Inside.LaidLaws.{laid_key-same, length-laid_key};
-
-    ghost laid = { laid_key };
-
-    fn laid_key(key: &[u8; 16], r: usize, rounds: usize) -> [u8; 16] {
-        let key = register_of(key);
-        if r == 0 {
-            block_of(first_key(key))
-        } else if r == rounds {
-            block_of(last_key(key))
-        } else {
-            block_of(key_between(key, r))
-        }
-    }
-
-    ghost same = { laid_key-same };
-
-    ghost sized = { length-laid_key };
-}
-
-/// Decryption.
-pub struct Decryption;
-
-impl KeyLayout for Decryption {
-    ghost use Rattle.mbj_aes_lanes.specs.Inside.LaidLaws.{inverse_laid_key-same, length-inverse_laid_key};
-
-    ghost laid = { inverse_laid_key };
-
-    fn laid_key(key: &[u8; 16], r: usize, rounds: usize) -> [u8; 16] {
-        let key = register_of(key);
-        if r == 0 {
-            block_of(key)
-        } else if r == rounds {
-            block_of(inverse_last_key(key))
-        } else {
-            block_of(inverse_key_between(key, r))
-        }
-    }
-
-    ghost same = { inverse_laid_key-same };
-
-    ghost sized = { length-inverse_laid_key };
+// A round key, laid out.
+fn laid_key<D: Direction>(key: &[u8; 16], r: usize, rounds: usize) -> [u8; 16]
+    requires { r ≤ rounds }
+    ensures { D.laid rounds r (slice_index result) ≡ key.now }
+{
+    block_of(D::laid_key(register_of(key), r, rounds))
 }
 
 /// The round keys of a schedule as the rounds of a direction take them.
-pub fn laid_keys<L: KeyLayout>(key: &Schedule) -> [[u8; 16]; MAX_ROUND_KEYS]
+pub fn laid_keys<D: Direction>(key: &Schedule) -> [[u8; 16]; MAX_ROUND_KEYS]
     ensures length { length result ≡ MAX_ROUND_KEYS }
-    ensures schedule { laid_schedule L.laid (length key.now / 16 - 1) result ≡ key.now }
+    ensures schedule { laid_schedule D.laid (length key.now / 16 - 1) result ≡ key.now }
 {
     let rounds = key.rounds();
     let mut keys = [[0; BLOCK_BYTES]; MAX_ROUND_KEYS];
     'keys: for r in 0..rounds + 1 {
-        keys[r as usize] = L::laid_key(&key.round_key(r), r as usize, rounds as usize);
+        keys[r as usize] = laid_key::<D>(&key.round_key(r), r as usize, rounds as usize);
     }
     keys
 }

@@ -4,28 +4,11 @@ ghost use Rattle.mbj_types.specs.Aes.{round_key};
 ghost use Rattle.mbj_aes.specs.BlockWords.{block_byte, block_at};
 ghost use Rattle.mbj_aes_lanes.specs.Inside.LaidKeys.{laid_key, laid_schedule};
 
-use crate::narrow::laid_keys::Encryption;
+use crate::narrow::directions::{Direction, Encryption};
 use mbj_aes::BlockWord;
 
-/// How the rounds of a direction take their keys.
-pub trait KeyLayout {
-    /// Round key r of n rounds that bytes stand for.
-    ghost laid: { ℕ → ℕ → (ℕ → ℕ) → List ℕ };
-
-    /// The key of round `r` of `rounds`, laid out.
-    fn laid_key(key: &[u8; 16], r: usize, rounds: usize) -> [u8; 16]
-        requires { r ≤ rounds }
-        ensures { laid rounds r (slice_index result) ≡ key.now };
-
-    /// Sixteen bytes count.
-    ghost same: { (n r : ℕ) (f g : ℕ → ℕ) → ((j : ℕ) → j < 16 → f j ≡ g j) → laid n r f ≡ laid n r g };
-
-    /// A key has as many.
-    ghost sized: { (n r : ℕ) (f : ℕ → ℕ) → length (laid n r f) ≡ 16 };
-}
-
 /// A schedule for each block of each register, all of as many rounds.
-pub trait Schedules<V: BlockWord, L: KeyLayout> {
+pub trait Schedules<V: BlockWord, D: Direction> {
     /// How many rounds each has.
     ghost rounds_of: { Self → ℕ };
 
@@ -46,7 +29,7 @@ pub trait Schedules<V: BlockWord, L: KeyLayout> {
         requires round { r ≤ rounds_of self.now }
         requires register { i < count_of self.now }
         ensures { (b : ℕ) → b < V.BLOCKS
-            → L.laid (rounds_of self.now) r (block_byte V.lane result b) ≡ round_key (schedule_of self.now i b) r };
+            → D.laid (rounds_of self.now) r (block_byte V.lane result b) ≡ round_key (schedule_of self.now i b) r };
 }
 
 /// A schedule for each of `M` blocks, one after another in the registers: their laid out round keys, round by round.

@@ -4,59 +4,13 @@ ghost use Rattle.mbj_types.specs.Lanes.{lane_at};
 ghost use Rattle.mbj_aes.specs.BlockWords.{block_at};
 
 use crate::narrow::by_fours::change_each;
-use crate::narrow::cipher::encrypt_all;
-use crate::narrow::inverse_cipher::decrypt_all;
-use crate::narrow::laid_keys::{Decryption, Encryption, laid_keys};
-use crate::narrow::schedules::{KeyLayout, Schedules};
+use crate::narrow::cipher::change_all;
+use crate::narrow::directions::{Decryption, Direction, Encryption};
+use crate::narrow::laid_keys::laid_keys;
+use crate::narrow::schedules::Schedules;
 use mbj_aes::{BlockWord, MAX_ROUND_KEYS, Schedule};
 use std::marker::{Model, PhantomData};
 use std::simd::u8x32;
-
-/// A direction of AES on the blocks of registers side by side.
-pub trait Direction: KeyLayout {
-    /// What it makes of a block, under a schedule.
-    ghost change: { List ℕ → List ℕ → List ℕ };
-
-    /// Changes each block of a register, under the schedule in its place.
-    fn change_one<K: Schedules<u8x32, Self>>(keys: &K, s: &mut [u8x32; 1])
-        requires { 1 ≤ K.count_of keys.now }
-        ensures { (b : ℕ) → b < 2 → block_at (lane_at 8) (slice_index_or s.new 0 []) b
-            ≡ change (K.schedule_of keys.now 0 b) (block_at (lane_at 8) (slice_index_or s.old 0 []) b) };
-
-    /// Changes each block of two registers side by side.
-    fn change_both<K: Schedules<u8x32, Self>>(keys: &K, s: &mut [u8x32; 2])
-        requires { 2 ≤ K.count_of keys.now }
-        ensures { (i b : ℕ) → i < 2 → b < 2 → block_at (lane_at 8) (slice_index_or s.new i []) b
-            ≡ change (K.schedule_of keys.now i b) (block_at (lane_at 8) (slice_index_or s.old i []) b) };
-}
-
-impl Direction for Encryption {
-    ghost change = { encipher };
-
-    #[inline(always)]
-    fn change_one<K: Schedules<u8x32, Encryption>>(keys: &K, s: &mut [u8x32; 1]) {
-        encrypt_all(keys, s);
-    }
-
-    #[inline(always)]
-    fn change_both<K: Schedules<u8x32, Encryption>>(keys: &K, s: &mut [u8x32; 2]) {
-        encrypt_all(keys, s);
-    }
-}
-
-impl Direction for Decryption {
-    ghost change = { decipher };
-
-    #[inline(always)]
-    fn change_one<K: Schedules<u8x32, Decryption>>(keys: &K, s: &mut [u8x32; 1]) {
-        decrypt_all(keys, s);
-    }
-
-    #[inline(always)]
-    fn change_both<K: Schedules<u8x32, Decryption>>(keys: &K, s: &mut [u8x32; 2]) {
-        decrypt_all(keys, s);
-    }
-}
 
 /// The schedule of a text's key, whose round keys are laid out as the rounds of a direction take them, and which contracts see as the list
 /// of its bytes. It is a plain value of 244 bytes, and owns no memory.
@@ -130,7 +84,7 @@ impl<D: Direction> LaidKey<D> {
         ensures others { (i : ℕ) → 2 ≤ i → slice_index_or blocks.new i [] ≡ slice_index_or blocks.old i [] }
     {
         let mut s = [u8x32::load(blocks)];
-        D::change_one(self, &mut s);
+        change_all(self, &mut s);
         s[0].store(blocks);
     }
 
@@ -142,7 +96,7 @@ impl<D: Direction> LaidKey<D> {
         ensures others { (i : ℕ) → 4 ≤ i → slice_index_or blocks.new i [] ≡ slice_index_or blocks.old i [] }
     {
         let mut s = [u8x32::load(blocks), u8x32::load(&blocks[2..])];
-        D::change_both(self, &mut s);
+        change_all(self, &mut s);
         s[0].store(blocks);
         s[1].store(&mut blocks[2..]);
     }

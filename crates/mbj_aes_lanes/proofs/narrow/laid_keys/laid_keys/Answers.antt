@@ -21,7 +21,7 @@ returns-clause-length g c = c.keys.invariant.length
 
 pub returns-clause-schedule : goal.returns-clause-schedule
 returns-clause-schedule g c =
-    let laid = g.L.KeyLayout.laid in
+    let laid = g.D.Direction.laid in
     let w : List ℕ = c.args.key.now in
     let n : ℕ = length w / 16 - 1 in
     let size : length w ≡ 16 * (n + 1) = omega (arith, c.rounds-rounds.ensures.length) in

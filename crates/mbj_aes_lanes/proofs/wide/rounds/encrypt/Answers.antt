@@ -1,9 +1,9 @@
 -- CIPHER, round by round, in each lane.
 use Rattle.std.proofs.Common.{◌≡◌, ℕ, ◌+◌, ◌-◌, ◌*◌, ◌/◌, List, length, refl, arith, ap, ap₂, sym, ◌∙◌}
 use Rattle.mbj_types.specs.Blocks.{xor_lists}
-use Rattle.mbj_types.specs.Aes.{full_round, after_rounds, cipher, encipher, shift_rows, sub_bytes}
+use Rattle.mbj_types.specs.Aes.{full_round, after_rounds, shift_rows, sub_bytes}
 use Rattle.mbj_aes_lanes.specs.Inside.Wide.{state_lane}
-use Rattle.mbj_aes_lanes.proofs.RoundPairs.{after-none, after-next, after-last}
+use Rattle.mbj_aes_lanes.proofs.CipherRounds.{after-none, after-next, after-last}
 use Rattle.mbj_aes_lanes.proofs.WideKeys.{key_in-first, key_in-between, key_in-last, tower_block-sum}
 use Rattle.mbj_aes_lanes.proofs.wide.rounds.encrypt.Goals as goal
 
@@ -35,19 +35,15 @@ rounds-preserved g c i h =
     ∙ ap (after_rounds w block) (sym now)
 
 pub returns : goal.returns
-unfolding encipher
 returns g c i h =
     let lane = g.V.Lane8.lane in
     let keys = c.args.keys.now in
     let n : ℕ = c.rounds-rounds.result in
     let w : List ℕ = g.K.LaneSchedules.schedule_of keys i in
     let block : List ℕ = state_lane lane c.args.s.now i in
-    let size : length w ≡ 16 * (n + 1) = c.rounds-rounds.ensures.sizes i h in
-    let count : n ≡ length w / 16 - 1 = omega arith in
     let last : n ≡ g.K.LaneSchedules.count_of keys - 1 = omega (arith, c.rounds-rounds.ensures.value) in
     let done : c.rounds.r - 1 ≡ n - 1 = omega (arith, c.rounds-rounds.ensures.least) in
     c.last_round.ensures i h
     ∙ ap₂ (λ s k. xor_lists (shift_rows (sub_bytes s)) k) (c.rounds.invariant i h ∙ ap (after_rounds w block) done)
     (sym (key_in-last lane (g.K.LaneSchedules.count_of keys - 1) n c.round_key-2.result i (omega arith) last) ∙ c.round_key-2.ensures i h)
-    ∙ after-last w block (n - 1) n (omega arith)
-    ∙ ap (λ (k : ℕ). cipher w k block) count
+    ∙ after-last w block n (omega (arith, c.rounds-rounds.ensures.sizes i h))

@@ -14,14 +14,14 @@ returns-clause-first g c i h =
       | inl below ↦
           part_below 2 xs [] (length xs - 2) ys inside i below
           ∙ c.store.ensures.first i below
-          ∙ c.change_both.ensures 0 i (omega arith) below
+          ∙ c.change_all.ensures 0 i [] (omega arith) below
           ∙ ap (g.D.Direction.change w) (c.load.ensures i below)
       | inr above ↦
           let place : i ≡ 2 + (i - 2) = omega arith in
           let second : i - 2 < 2 = omega arith in
           part_written 2 xs [] (length xs - 2) ys inside (i - 2) i refl place
           ∙ c.store-2.ensures.first (i - 2) second
-          ∙ c.change_both.ensures 1 (i - 2) (omega arith) second
+          ∙ c.change_all.ensures 1 (i - 2) [] (omega arith) second
           ∙ ap (g.D.Direction.change w) (c.load-2.ensures (i - 2) second ∙ part_read 2 c.args.blocks.now [] _ (i - 2) i refl place)
     ]
 

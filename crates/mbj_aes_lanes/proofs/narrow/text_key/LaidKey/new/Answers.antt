@@ -4,4 +4,4 @@ use Rattle.mbj_aes_lanes.specs.Inside.LaidKeys.{laid_schedule}
 use Rattle.mbj_aes_lanes.proofs.narrow.text_key.LaidKey.new.Goals as goal
 
 pub returns : goal.returns
-returns g c = ap (λ (n : ℕ). laid_schedule g.D.KeyLayout.laid n c.laid_keys.result) c.rounds.ensures.value ∙ c.laid_keys.ensures.schedule
+returns g c = ap (λ (n : ℕ). laid_schedule g.D.Direction.laid n c.laid_keys.result) c.rounds.ensures.value ∙ c.laid_keys.ensures.schedule
