@@ -1,5 +1,5 @@
 -- What the lanes hold after some were put.
-use Rattle.std.proofs.Common.{◌≡◌, ◌≢◌, ℕ, ◌+◌, ◌<◌, Bool, true, false, List, [], length, take, get_or, set, map, replicate, Option, Some, None, refl, sym, ap, subst, ◌∙◌, arith, inl, inr, get_or-set_same, get_or-set_other}
+use Rattle.std.proofs.Common.{◌≡◌, ◌≢◌, ℕ, ◌+◌, ◌<◌, Bool, true, false, List, [], length, take, get_or, set, map, replicate, if◌then◌else◌, Option, Some, None, refl, sym, ap, subst, ◌∙◌, arith, inl, inr, get_or-set_same, get_or-set_other}
 use Rattle.std.specs.Prelude.{IsSome, unwrap_or}
 use Rattle.std.specs.List.{range_with_len}
 use Rattle.std.proofs.lemmas.Bool.{cases_eq}
@@ -51,14 +51,15 @@ held_lanes-all rounds keys w each =
     ∙ ap Some (sym (each i h))
     ∙ sym (held_lane-put rounds keys (replicate AES_LANES true) i (get_or-replicate AES_LANES i true false h))))
 
--- one lane more was put
-pub held_lanes-put : (rounds : ℕ) (old now : List (State (List ℕ))) (put : List Bool) (lane : ℕ) (w : List ℕ) → length put ≡ AES_LANES
-    → lane < AES_LANES → schedule_in (lane_at 8) rounds (take (rounds + 1) now) lane ≡ w
-    → ((i : ℕ) → i < AES_LANES → i ≢ lane
-    → schedule_in (lane_at 8) rounds (take (rounds + 1) now) i ≡ schedule_in (lane_at 8) rounds (take (rounds + 1) old) i)
+-- one lane more was put, by itself
+pub held_lanes-put : (rounds : ℕ) (old now : List (State (List ℕ))) (put lanes : List Bool) (lane : ℕ) (w : List ℕ) → length put ≡ AES_LANES
+    → lane < AES_LANES → lanes ≡ set (replicate AES_LANES false) lane true
+    → ((i : ℕ) → i < AES_LANES → schedule_in (lane_at 8) rounds (take (rounds + 1) now) i
+    ≡ (if get_or lanes i false then w else schedule_in (lane_at 8) rounds (take (rounds + 1) old) i))
     → held_lanes rounds now (set put lane true) ≡ set (held_lanes rounds old put) lane (Some w)
 unfolding held_lanes
-held_lanes-put rounds old now put lane w size inside here elsewhere =
+held_lanes-put rounds old now put lanes lane w size inside alone each =
+    let none : List Bool = replicate AES_LANES false in
     let before : List (Option (List ℕ)) = map (held_lane rounds old put) (range_with_len 0 AES_LANES) in
     let many : length before ≡ AES_LANES = length-map-range_with_len (held_lane rounds old put) 0 AES_LANES in
     sym (fill_by_all (held_lane rounds now (set put lane true)) (set before lane (Some w)) AES_LANES no_schedule
@@ -67,12 +68,11 @@ held_lanes-put rounds old now put lane w size inside here elsewhere =
       | inl same ↦
           rw same
           (get_or-set_same before lane (Some w) no_schedule (omega arith)
-          ∙ ap Some (sym here)
-          ∙ sym (held_lane-put rounds now (set put lane true) lane (get_or-set_same put lane true false (omega arith))))
+          ∙ rw (get_or-set_same put lane true false (omega arith), each lane inside, alone, get_or-set_same none lane true false inside) refl)
       | inr ne ↦
           get_or-set_other before lane i (Some w) no_schedule ne
           ∙ held_lanes-at rounds old put i h
-          ∙ rw (get_or-set_other put lane i true false ne, elsewhere i h ne) refl
+          ∙ rw (get_or-set_other put lane i true false ne, each i h, alone, get_or-set_other none lane i true false ne, get_or-replicate AES_LANES i false false h) refl
     ]))
 
 by_flag : (rounds : ℕ) (keys : List (State (List ℕ))) (put : List Bool) (i : ℕ) (flag : Bool) → get_or put i false ≡ flag

@@ -1,5 +1,5 @@
 -- Round keys of wide states, as parts of the schedule in a lane.
-use Rattle.std.proofs.Common.{◌≡◌, ◌≢◌, ℕ, zero, suc, ◌+◌, ◌*◌, ◌^◌, ◌<◌, List, [], ◌∷◌, ◌++◌, length, take, drop, replicate, get_or, map, bit_xor, refl, sym, ap, ap₂, ◌∙◌, arith, inl, inr, eq-eqb, length-append}
+use Rattle.std.proofs.Common.{◌≡◌, ◌≢◌, ℕ, zero, suc, ◌+◌, ◌*◌, ◌^◌, ◌<◌, Bool, true, false, if◌then◌else◌, List, [], ◌∷◌, ◌++◌, length, take, drop, replicate, get_or, map, bit_xor, refl, sym, ap, ap₂, ◌∙◌, arith, inl, inr, eq-eqb, length-append}
 use Rattle.std.proofs.Math.Seq.{drop-append-add}
 use Rattle.std.proofs.lemmas.Bool.{cases_eq, ne_eqb}
 use Rattle.std.proofs.lemmas.List.{take_at, drop_all, drop-drop, take-append-drop, get_or_default, length-map}
@@ -33,10 +33,6 @@ module _ {V : Type 0} (lane : V → ℕ → ℕ) where
   pub constant-added : (s : State V) (i : ℕ) → xor_lists (state_lane lane s i) (replicate 16 SBOX_CONSTANT) ≡ with_constant (state_lane lane s i)
   unfolding state_lane
   constant-added s i = refl
-
-  pub key_in-bytes : (n r : ℕ) (key : State V) (i : ℕ) → key_in lane n r key i ≡ key_from n r (state_lane lane key i)
-  unfolding key_in
-  key_in-bytes n r key i = refl
 
 -- a sum of states in the tower's basis
 pub tower_block-sum : {V : Type 0} (lane : V → ℕ → ℕ) → ((x : V) (i : ℕ) → lane x i < 2 ^ 8) → (s key result : State V) (i : ℕ)
@@ -144,16 +140,15 @@ module _ {V : Type 0} (lane : V → ℕ → ℕ) (n : ℕ) where
       let here : 0 + r ≡ r = omega arith in
       ap (λ (t : ℕ). key_in lane n t (get_or keys r key) i) here ∙ each r key h ∙ ap (round_key w) (sym here))
 
-module _ {V : Type 0} (lane : V → ℕ → ℕ) where
-  -- round keys that are the same in lane i
-  pub schedule_in-same : (n i : ℕ) (keys old : List (State V)) → length keys ≡ length old
-      → ((r : ℕ) (d : State V) → r < length keys → state_lane lane (get_or keys r d) i ≡ state_lane lane (get_or old r d) i)
-      → schedule_in lane n keys i ≡ schedule_in lane n old i
-  schedule_in-same n i keys old size same =
-      schedule_in-each lane n keys i (schedule_in lane n old i) (length-schedule_in lane n old i ∙ ap (λ (k : ℕ). 16 * k) (sym size))
+module _ {V : Type 0} (lane : V → ℕ → ℕ) (n i : ℕ) (keys old : List (State V)) (w : List ℕ) (size : length w ≡ 16 * length keys) (same : length keys ≡ length old) where
+  -- round keys that are those of a schedule in lane i, or stay
+  pub schedule_in-chosen : (flag : Bool)
+      → ((r : ℕ) (key : State V) → r < length keys
+      → key_in lane n r (get_or keys r key) i ≡ (if flag then round_key w r else key_in lane n r (get_or old r key) i))
+      → schedule_in lane n keys i ≡ (if flag then w else schedule_in lane n old i)
+  schedule_in-chosen true each = schedule_in-each lane n keys i w size each
+  schedule_in-chosen false each =
+      schedule_in-each lane n keys i (schedule_in lane n old i) (length-schedule_in lane n old i ∙ ap (λ (k : ℕ). 16 * k) (sym same))
       (λ r key h.
       let before : State V = get_or old r key in
-      key_in-bytes lane n r (get_or keys r key) i
-      ∙ ap (key_from n r) (same r key h)
-      ∙ sym (key_in-bytes lane n r before i)
-      ∙ sym (round_key-schedule_in lane n old i r before (omega arith) (get_or_default old r key before (omega arith))))
+      each r key h ∙ sym (round_key-schedule_in lane n old i r before (omega arith) (get_or_default old r key before (omega arith))))

@@ -8,7 +8,6 @@ pub mod key_states;
 pub mod lane_keys;
 pub mod lane_schedules;
 pub mod lanes;
-pub mod masks;
 pub mod rounds;
 pub mod schedules;
 pub mod state;

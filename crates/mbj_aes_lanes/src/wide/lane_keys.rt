@@ -1,29 +1,58 @@
-ghost use Rattle.std.specs.Prelude.{◌≡◌, ℕ, ◌+◌, ◌-◌, ◌*◌, ◌<◌, ◌≤◌, length, slice_index_or, None, IsSome};
+ghost use Rattle.std.specs.Prelude.{◌≡◌, ℕ, ◌+◌, ◌-◌, ◌*◌, ◌<◌, ◌≤◌, false, [], length, slice_index_or, None, IsSome, if◌then◌else◌};
 ghost use Rattle.mbj_types.specs.Lanes.{lane_at};
+ghost use Rattle.mbj_types.specs.declared.kind.TheConstants.{AES_LANES};
 ghost use Rattle.mbj_aes.specs.Bytes.{IsRoundCount};
 ghost use Rattle.mbj_aes_lanes.specs.KeyLanes.{no_keys, same_keys, with_key, schedule_at};
 ghost use Rattle.mbj_aes_lanes.specs.Inside.WideKeys.{schedule_in};
 
-use crate::wide::key_states::key_of;
-use crate::wide::masks::{ALL_BITS, chosen_state, lane_mask};
+use crate::blocks::{load_state, store_state};
+use crate::lane_blocks::LaneBlocks;
+use crate::wide::key_states::{key_of, plain_key};
 use crate::wide::state::{State, zero_state};
-use crate::wide::words::splat_block;
 use mbj_aes::{MAX_ROUND_KEYS, Schedule};
-use mbj_types::{AES_LANES, AesWord, Lane8};
+use mbj_types::{AES_LANES, AesWord, BLOCK_BYTES};
 use std::marker::Model;
 
-// Writes the round keys of a schedule into the lanes under the mask, of which all bits are set. Those of the other lanes stay, of
-// which no bit is set.
-fn write_schedule<V: Lane8>(keys: &mut [State<V>], schedule: &Schedule, mask: V)
+// The blocks of the lanes, with one block in place of some of them.
+#[derive(Drop)]
+struct Replaced<'a> {
+    blocks: &'a [[u8; 16]; AES_LANES],
+    block: [u8; 16],
+    lanes: &'a [bool; AES_LANES],
+}
+
+impl LaneBlocks for Replaced<'_> {
+    ghost lanes_of = { λ r. AES_LANES };
+
+    ghost block_in = { λ r i. if slice_index_or r.lanes.now i false then r.block else slice_index_or r.blocks.now i [] };
+
+    #[inline(always)]
+    fn block(&self, lane: usize) -> [u8; 16] {
+        if self.lanes[lane] {
+            self.block
+        } else {
+            self.blocks[lane]
+        }
+    }
+}
+
+// Writes the round keys of a schedule into these lanes. Those of the other lanes stay.
+fn write_schedule(keys: &mut [State<AesWord>], schedule: &Schedule, lanes: &[bool; AES_LANES])
     requires { length schedule.now ≡ 16 * length keys.old }
-    ensures under { (i : ℕ) → i < V.LANES → V.lane mask i ≡ 0xff → schedule_in V.lane (length keys.old - 1) keys.new i ≡ schedule.now }
-    ensures beside { (i : ℕ) → i < V.LANES → V.lane mask i ≡ 0
-        → schedule_in V.lane (length keys.old - 1) keys.new i ≡ schedule_in V.lane (length keys.old - 1) keys.old i }
+    ensures { (i : ℕ) → i < AES_LANES → schedule_in (lane_at 8) (length keys.old - 1) keys.new i
+        ≡ if slice_index_or lanes.now i false then schedule.now else schedule_in (lane_at 8) (length keys.old - 1) keys.old i }
 {
     let rounds = schedule.rounds() as usize;
     'keys: for r in 0..keys.len() {
-        let key = key_of(splat_block(&schedule.round_key(r as u32)), r, rounds);
-        keys[r] = chosen_state(keys[r], key, mask);
+        let mut blocks = [[0; BLOCK_BYTES]; AES_LANES];
+        store_state(&mut blocks, &plain_key(keys[r], r, rounds));
+        let block = schedule.round_key(r as u32);
+        let state = load_state(&Replaced {
+            blocks: &blocks,
+            block,
+            lanes,
+        });
+        keys[r] = key_of(state, r, rounds);
     }
 }
 
@@ -84,8 +113,7 @@ impl LaneKeys {
         ensures { self.new ≡ same_keys key.now }
     {
         let rounds = self.rounds as usize;
-        let mask = <AesWord as Lane8>::splat(ALL_BITS);
-        write_schedule(&mut self.round_keys[..rounds + 1], key, mask);
+        write_schedule(&mut self.round_keys[..rounds + 1], key, &[true; AES_LANES]);
         self.put = [true; AES_LANES];
     }
 
@@ -97,8 +125,9 @@ impl LaneKeys {
         ensures { self.new ≡ with_key self.old lane key.now }
     {
         let rounds = self.rounds as usize;
-        let mask = lane_mask(lane as usize);
-        write_schedule(&mut self.round_keys[..rounds + 1], key, mask);
+        let mut lanes = [false; AES_LANES];
+        lanes[lane as usize] = true;
+        write_schedule(&mut self.round_keys[..rounds + 1], key, &lanes);
         self.put[lane as usize] = true;
     }
 

@@ -56,34 +56,6 @@ pub fn state_at<V: Lane8>(words: &[V], r: usize) -> State<V>
     }
 }
 
-// The same word in every lane, the word `c` of a block.
-#[inline(always)]
-fn splat_word<V: Lane8>(block: &[u8; 16], c: usize) -> Word<V>
-    requires { c < 4 }
-    ensures { (i : ℕ) → i < V.LANES → word_lane V.lane result i ≡ word block.now c }
-{
-    let at = WORD_BYTES * c;
-    Word {
-        b0: V::splat(block[at]),
-        b1: V::splat(block[at + 1]),
-        b2: V::splat(block[at + 2]),
-        b3: V::splat(block[at + 3]),
-    }
-}
-
-/// The same block in every lane.
-#[inline(always)]
-pub fn splat_block<V: Lane8>(block: &[u8; 16]) -> State<V>
-    ensures { (i : ℕ) → i < V.LANES → state_lane V.lane result i ≡ block.now }
-{
-    State {
-        c0: splat_word(block, 0),
-        c1: splat_word(block, 1),
-        c2: splat_word(block, 2),
-        c3: splat_word(block, 3),
-    }
-}
-
 /// Writes the block of which this is the state into 16 lane words.
 #[inline(always)]
 pub fn put_state<V: Lane8>(words: &mut [V], s: &State<V>)

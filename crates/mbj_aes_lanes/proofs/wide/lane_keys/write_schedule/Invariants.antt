@@ -1,18 +1,14 @@
--- The round keys before the next one are written under the mask, and elsewhere all are as they were.
-use Rattle.std.proofs.Common.{◌≡◌, ℕ, ◌-◌, ◌<◌, length, get_or}
+-- The round keys before the next one are written.
+use Rattle.std.proofs.Common.{◌≡◌, ℕ, ◌-◌, ◌<◌, false, length, get_or, if◌then◌else◌}
 use Rattle.mbj_types.specs.Aes.{round_key}
-use Rattle.mbj_aes_lanes.specs.declared.wide.state.State.{State}
-use Rattle.mbj_aes_lanes.specs.Inside.Wide.{state_lane}
+use Rattle.mbj_types.specs.Lanes.{lane_at}
+use Rattle.mbj_types.specs.declared.kind.TheConstants.{AES_LANES}
 use Rattle.mbj_aes_lanes.specs.Inside.WideKeys.{key_in}
+use Rattle.mbj_aes_lanes.proofs.EachRegister.{AreDone}
 use Rattle.mbj_aes_lanes.proofs.wide.lane_keys.write_schedule.Given as goal
 
 abbrev pub invariant-keys : goal.invariant-keys
-invariant-keys g l =
-    let lane = g.V.Lane8.lane in record {
-      under :
-          (i k : ℕ) (d : State _) → i < g.V.Lane8.LANES → lane l.mask i ≡ 0xff → k < l.r
-          → key_in lane (length l.initial.keys - 1) k (get_or l.keys k d) i ≡ round_key l.schedule k;
-      beside :
-          (i k : ℕ) (d : State _) → i < g.V.Lane8.LANES → lane l.mask i ≡ 0
-          → state_lane lane (get_or l.keys k d) i ≡ state_lane lane (get_or l.initial.keys k d) i;
-    }
+invariant-keys l =
+    let n : ℕ = length l.initial.keys - 1 in
+    AreDone (λ r old new. (i : ℕ) → i < AES_LANES
+    → key_in (lane_at 8) n r new i ≡ (if get_or l.lanes i false then round_key l.schedule r else key_in (lane_at 8) n r old i)) l.initial.keys l.keys l.r

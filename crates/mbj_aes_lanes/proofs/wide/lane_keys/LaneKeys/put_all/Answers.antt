@@ -1,7 +1,9 @@
 -- Each lane has the schedule.
-use Rattle.std.proofs.Common.{◌≡◌, ℕ, ◌+◌, ◌-◌, ◌/◌, List, ◌++◌, length, drop, take, ap, ap₂, sym, ◌∙◌, arith}
+use Rattle.std.proofs.Common.{◌≡◌, ℕ, ◌+◌, ◌-◌, ◌/◌, List, ◌++◌, true, false, refl, length, drop, take, ap, ap₂, sym, ◌∙◌, arith}
 use Rattle.std.proofs.lemmas.List.{length-take-le, take_at}
+use Rattle.std.proofs.lemmas.Simd.{get_or-replicate}
 use Rattle.mbj_types.specs.Lanes.{lane_at}
+use Rattle.mbj_types.specs.declared.kind.TheConstants.{AES_LANES}
 use Rattle.mbj_aes_lanes.specs.Inside.WideKeys.{schedule_in}
 use Rattle.mbj_aes_lanes.proofs.WideHeldKeys.{held_lanes-all}
 use Rattle.mbj_aes_lanes.proofs.wide.lane_keys.LaneKeys.put_all.Goals as goal
@@ -23,4 +25,5 @@ returns c =
     (held_lanes-all rounds (keys ++ rest) w
     (λ i h.
     ap₂ (λ n ks. schedule_in (lane_at 8) n ks i) (sym fewer) (take_at keys rest m size)
-    ∙ c.write_schedule.ensures.under i h (c.splat-mask.ensures i h)))
+    ∙ c.write_schedule.ensures i h
+    ∙ rw (get_or-replicate AES_LANES i true false h) refl))
