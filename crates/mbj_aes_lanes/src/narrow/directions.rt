@@ -5,12 +5,15 @@ ghost use Rattle.mbj_aes.specs.BlockWords.{block_byte, block_at};
 ghost use Rattle.mbj_aes_lanes.specs.Inside.LaidKeys.{laid_key, inverse_laid_key};
 ghost use Rattle.mbj_aes_lanes.specs.Inside.Steps.{IsHeld, is_enciphered, is_deciphered};
 
-use crate::narrow::inverse_rounds::{inverse_first_round, inverse_last_round, inverse_round};
 use crate::narrow::laid_keys::{
     first_key, inverse_key_between, inverse_last_key, key_between, last_key,
 };
-use crate::narrow::rounds::{first_round, full_round, last_round};
+use crate::narrow::layouts::{LAYOUTS, PLACES};
+use crate::narrow::mixing::{inv_mixed, mixed};
+use crate::wide::key_states::to_tower_byte;
 use mbj_aes::BlockWord;
+use mbj_aes::inverse_substitution::{in_decryption, inverse_from_decryption, inverse_multiples};
+use mbj_aes::substitution::{substituted_from_tower, substituted_in_tower};
 
 /// A direction of AES. With `n` rounds it has the steps 0 to `n`, each with a round key: at one end that key alone is added.
 pub trait Direction {
@@ -52,7 +55,7 @@ pub trait Direction {
     ghost sized: { (n r : ℕ) (f : ℕ → ℕ) → length (laid n r f) ≡ 16 };
 }
 
-/// Encryption.
+/// Encryption. After step `k` the state is in layout `k`, in the tower's basis, until the last round makes plain bytes.
 pub struct Encryption;
 
 impl Direction for Encryption {
@@ -85,11 +88,13 @@ impl Direction for Encryption {
     #[inline(always)]
     fn step<V: BlockWord>(s: V, key: V, k: usize, n: usize) -> V {
         if k == 0 {
-            first_round(s, key)
+            to_tower_byte(s).xored(key)
         } else if k == n {
-            last_round(s, key, k)
+            substituted_from_tower(s)
+                .placed(&PLACES[k % LAYOUTS])
+                .xored(key)
         } else {
-            full_round(s, key, k)
+            mixed(substituted_in_tower(s), key, k)
         }
     }
 
@@ -98,7 +103,8 @@ impl Direction for Encryption {
     ghost sized = { length-laid_key };
 }
 
-/// Decryption.
+/// Decryption. The layouts go backwards: after step `k` of `n` rounds the state is in layout `n - k`, in the basis of decryption.
+/// INVMIXCOLUMNS was made of the keys beforehand.
 pub struct Decryption;
 
 impl Direction for Decryption {
@@ -131,11 +137,13 @@ impl Direction for Decryption {
     #[inline(always)]
     fn step<V: BlockWord>(s: V, key: V, k: usize, n: usize) -> V {
         if k == 0 {
-            inverse_last_round(s, key, n)
+            in_decryption(s)
+                .xored(key)
+                .placed(&PLACES[(LAYOUTS - n % LAYOUTS) % LAYOUTS])
         } else if k == n {
-            inverse_first_round(s, key)
+            inverse_from_decryption(s).xored(key)
         } else {
-            inverse_round(s, key, n - k)
+            inv_mixed(inverse_multiples(s), key, n - k)
         }
     }
 

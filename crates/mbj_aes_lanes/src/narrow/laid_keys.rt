@@ -10,7 +10,7 @@ ghost use Rattle.mbj_aes_lanes.specs.Inside.LaidKeys.{laid_schedule};
 use crate::narrow::directions::Direction;
 use crate::narrow::layouts::{LAYOUTS, PLACES};
 use crate::narrow::mixing::inv_mixed;
-use crate::narrow::rounds::in_tower;
+use crate::wide::key_states::to_tower_byte;
 use mbj_aes::inverse_substitution::{in_decryption, inverse_multiples};
 use mbj_aes::substitution::substituted;
 use mbj_aes::tables::SBOX_CONSTANT;
@@ -23,7 +23,7 @@ use std::simd::u8x16;
 pub fn first_key<V: BlockWord>(key: V) -> V
     ensures { (b : ℕ) → b < V.BLOCKS → tower_state 0 (block_byte V.lane result b) ≡ block_at V.lane key b }
 {
-    in_tower(key)
+    to_tower_byte(key)
 }
 
 /// The key of a round `r` between the first and the last.
@@ -32,7 +32,7 @@ pub fn key_between<V: BlockWord>(key: V, r: usize) -> V
     ensures { (b : ℕ) → b < V.BLOCKS → tower_key r (block_byte V.lane result b) ≡ block_at V.lane key b }
 {
     let with_constant = key.xored(V::splat(SBOX_CONSTANT));
-    in_tower(with_constant).placed(&PLACES[(LAYOUTS - r % LAYOUTS) % LAYOUTS])
+    to_tower_byte(with_constant).placed(&PLACES[(LAYOUTS - r % LAYOUTS) % LAYOUTS])
 }
 
 /// The last round key, of plain bytes.

@@ -20,7 +20,7 @@ returns g c b h =
     let p : ℕ = place r j in
     let at = within g.V.Lane8.LANES g.V.BlockWord.BLOCKS b j g.met.V.BlockWord.whole h k in
     ap from_tower (c.placed.ensures b p h (place-lt r j)
-    ∙ ap (B c.in_tower.result b) (listed PLACES (4 - r % 4) p (place-lt r j) refl ∙ place-back r j k))
-    ∙ c.in_tower.ensures b j h k
+    ∙ ap (B c.to_tower_byte.result b) (listed PLACES (4 - r % 4) p (place-lt r j) refl ∙ place-back r j k))
+    ∙ c.to_tower_byte.ensures (16 * b + j) at
     ∙ c.xored-with_constant.ensures (16 * b + j) at
     ∙ ap (bit_xor (B c.args.key b j)) (c.splat.ensures (16 * b + j) at))
