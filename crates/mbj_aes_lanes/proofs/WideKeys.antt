@@ -1,17 +1,17 @@
 -- Round keys of wide states, as parts of the schedule in a lane.
-use Rattle.std.proofs.Common.{◌≡◌, ◌≢◌, ℕ, zero, suc, ◌+◌, ◌*◌, ◌^◌, ◌<◌, Bool, true, false, if◌then◌else◌, List, [], ◌∷◌, ◌++◌, length, take, drop, replicate, get_or, map, bit_xor, refl, sym, ap, ap₂, ◌∙◌, arith, inl, inr, eq-eqb, length-append}
-use Rattle.std.proofs.Math.Seq.{drop-append-add}
+use Rattle.std.proofs.Common.{◌≡◌, ◌≢◌, ℕ, ◌*◌, ◌^◌, ◌<◌, Bool, true, false, if◌then◌else◌, List, [], ◌∷◌, length, replicate, get_or, map, bit_xor, refl, sym, ap, ap₂, ◌∙◌, arith, inl, inr, eq-eqb}
 use Rattle.std.proofs.lemmas.Bool.{cases_eq, ne_eqb}
-use Rattle.std.proofs.lemmas.List.{take_at, drop_all, drop-drop, take-append-drop, get_or_default, length-map}
+use Rattle.std.proofs.lemmas.List.{take_all, get_or_default, length-map}
 use Rattle.mbj_types.specs.Aes.{round_key}
 use Rattle.mbj_types.specs.Blocks.{xor_lists}
 use Rattle.mbj_aes.specs.declared.tables.TheConstants.{SBOX_CONSTANT}
 use Rattle.mbj_aes.specs.Tower.{from_tower}
 use Rattle.mbj_aes.proofs.Sums.{xor_twice}
 use Rattle.mbj_aes.proofs.TowerCases.{from_tower-xor}
+use Rattle.mbj_aes_lanes.proofs.LaidSchedules.{length-schedule_with, round_key-schedule_with, schedule_with-each}
 use Rattle.mbj_aes_lanes.specs.declared.wide.state.State.{State}
 use Rattle.mbj_aes_lanes.specs.Inside.Wide.{state_lane, tower_block}
-use Rattle.mbj_aes_lanes.specs.Inside.WideKeys.{with_constant, key_from, key_in, keys_from, schedule_in}
+use Rattle.mbj_aes_lanes.specs.Inside.WideKeys.{with_constant, key_in, schedule_in}
 
 -- the constant that is added twice is gone
 pub with_constant-twice : (b : List ℕ) → with_constant (with_constant b) ≡ b
@@ -75,70 +75,29 @@ module _ {V : Type 0} (lane : V → ℕ → ℕ) (n r : ℕ) (key : State V) (i 
 -- ---- schedules
 
 module _ {V : Type 0} (lane : V → ℕ → ℕ) (n : ℕ) where
-  round_key-keys_from : (s : ℕ) (keys : List (State V)) (i r : ℕ) (key : State V)
-      → r < length keys → key ≡ get_or keys r key → round_key (keys_from lane n s keys i) r ≡ key_in lane n (s + r) key i
-  round_key-keys_from s [] i r key h e = absurd (omega arith)
-  round_key-keys_from s (k ∷ keys) i zero key h e =
-      let here : s ≡ s + 0 = omega arith in
-      take_at (key_in lane n s k i) (keys_from lane n (s + 1) keys i) 16 (length-key_in lane n s k i)
-      ∙ ap₂ (λ t x. key_in lane n t x i) here (sym e)
-  round_key-keys_from s (k ∷ keys) i (suc r) key h e =
-      let first : List ℕ = key_in lane n s k i in
-      let rest : List ℕ = keys_from lane n (s + 1) keys i in
-      let size : length first ≡ 16 = length-key_in lane n s k i in
-      let behind : 16 * suc r ≡ length first + 16 * r = omega arith in
-      let there : s + 1 + r ≡ s + suc r = omega arith in
-      ap (λ (m : ℕ). take 16 (drop m (first ++ rest))) behind
-      ∙ ap (take 16) (drop-append-add first rest (16 * r))
-      ∙ round_key-keys_from (s + 1) keys i r key (omega arith) e
-      ∙ ap (λ (t : ℕ). key_in lane n t key i) there
-
-  length-keys_from : (s : ℕ) (keys : List (State V)) (i : ℕ) → length (keys_from lane n s keys i) ≡ 16 * length keys
-  length-keys_from s [] i = refl
-  length-keys_from s (k ∷ keys) i =
-      length-append (key_in lane n s k i) (keys_from lane n (s + 1) keys i)
-      ∙ omega (arith, length-key_in lane n s k i, length-keys_from (s + 1) keys i)
-
   -- round key r of a schedule is that of state r
   pub round_key-schedule_in : (keys : List (State V)) (i r : ℕ) (key : State V) → r < length keys → key ≡ get_or keys r key
       → round_key (schedule_in lane n keys i) r ≡ key_in lane n r key i
   unfolding schedule_in
-  round_key-schedule_in keys i r key h e =
-      let here : 0 + r ≡ r = omega arith in
-      round_key-keys_from 0 keys i r key h e ∙ ap (λ (t : ℕ). key_in lane n t key i) here
+  round_key-schedule_in [] i r key h e = absurd (omega arith)
+  round_key-schedule_in (k ∷ keys) i r key h e =
+      round_key-schedule_with (λ r. key_in lane n r (get_or (k ∷ keys) r k) i) (length keys) r (λ r. length-key_in lane n r _ i) (omega arith)
+      ∙ ap (λ s. key_in lane n r s i) (get_or_default (k ∷ keys) r k key h ∙ sym e)
 
   pub length-schedule_in : (keys : List (State V)) (i : ℕ) → length (schedule_in lane n keys i) ≡ 16 * length keys
   unfolding schedule_in
-  length-schedule_in keys i = length-keys_from 0 keys i
-
-  -- the round keys from s on of the schedule w
-  keys_from-each : (s : ℕ) (keys : List (State V)) (i : ℕ) (w : List ℕ) → length w ≡ 16 * (s + length keys)
-      → ((r : ℕ) (key : State V) → r < length keys → key_in lane n (s + r) (get_or keys r key) i ≡ round_key w (s + r))
-      → keys_from lane n s keys i ≡ drop (16 * s) w
-  keys_from-each s [] i w size each = sym (drop_all (16 * s) w (omega arith))
-  keys_from-each s (k ∷ keys) i w size each =
-      let here : s + 0 ≡ s = omega arith in
-      let behind : 16 * (s + 1) ≡ 16 * s + 16 = omega arith in
-      ap₂ (λ xs ys. xs ++ ys)
-      (ap (λ (t : ℕ). key_in lane n t k i) (sym here) ∙ each 0 k (omega arith) ∙ ap (round_key w) here)
-      (keys_from-each (s + 1) keys i w (omega arith)
-      (λ r key h.
-      let there : s + suc r ≡ s + 1 + r = omega arith in
-      ap (λ (t : ℕ). key_in lane n t (get_or keys r key) i) (sym there) ∙ each (suc r) key (omega arith) ∙ ap (round_key w) there)
-      ∙ ap (λ (m : ℕ). drop m w) behind
-      ∙ sym (drop-drop 16 (16 * s) w))
-      ∙ take-append-drop 16 (drop (16 * s) w)
+  length-schedule_in [] i = refl
+  length-schedule_in (k ∷ keys) i =
+      length-schedule_with (λ r. key_in lane n r (get_or (k ∷ keys) r k) i) (length keys) (λ r. length-key_in lane n r _ i) ∙ omega arith
 
   -- the schedule whose round keys they are
   pub schedule_in-each : (keys : List (State V)) (i : ℕ) (w : List ℕ) → length w ≡ 16 * length keys
       → ((r : ℕ) (key : State V) → r < length keys → key_in lane n r (get_or keys r key) i ≡ round_key w r)
       → schedule_in lane n keys i ≡ w
   unfolding schedule_in
-  schedule_in-each keys i w size each =
-      keys_from-each 0 keys i w (omega arith)
-      (λ r key h.
-      let here : 0 + r ≡ r = omega arith in
-      ap (λ (t : ℕ). key_in lane n t (get_or keys r key) i) here ∙ each r key h ∙ ap (round_key w) (sym here))
+  schedule_in-each [] i w size each = take_all 0 w (omega arith)
+  schedule_in-each (k ∷ keys) i w size each =
+      schedule_with-each (λ r. key_in lane n r (get_or (k ∷ keys) r k) i) (length keys) w (omega arith) (λ r h. each r k (omega arith))
 
 module _ {V : Type 0} (lane : V → ℕ → ℕ) (n i : ℕ) (keys old : List (State V)) (w : List ℕ) (size : length w ≡ 16 * length keys) (same : length keys ≡ length old) where
   -- round keys that are those of a schedule in lane i, or stay

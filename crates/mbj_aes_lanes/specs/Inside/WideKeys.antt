@@ -1,5 +1,5 @@
 -- Round keys as the rounds of wide states take them.
-use Rattle.std.specs.Prelude.{◌≡◌, ℕ, ◌+◌, ◌*◌, nat_eq, Bool, false, List, [], ◌∷◌, ◌++◌, length, map, slice_index_or, take, Option, Some, None, bit_xor, if◌then◌else◌}
+use Rattle.std.specs.Prelude.{◌≡◌, ℕ, ◌+◌, ◌*◌, nat_eq, Bool, false, List, [], ◌∷◌, length, map, slice_index_or, take, Option, Some, None, bit_xor, if◌then◌else◌}
 use Rattle.std.specs.List.{range_with_len}
 use Rattle.mbj_types.specs.declared.kind.TheConstants.{AES_LANES}
 use Rattle.mbj_types.specs.Lanes.{lane_at}
@@ -7,6 +7,7 @@ use Rattle.mbj_aes.specs.declared.tables.TheConstants.{SBOX_CONSTANT}
 use Rattle.mbj_aes.specs.Bytes.{IsBytes}
 use Rattle.mbj_aes.specs.Tower.{from_tower}
 use Rattle.mbj_aes_lanes.specs.declared.wide.state.State.{State}
+use Rattle.mbj_aes_lanes.specs.Inside.LaidKeys.{schedule_with}
 use Rattle.mbj_aes_lanes.specs.Inside.Wide.{state_lane}
 
 -- the constant of the S-box added to each byte
@@ -22,14 +23,10 @@ key_from n r b = if nat_eq r 0 then map from_tower b else with_constant (if nat_
 unfoldable pub key_in : {V : Type 0} → (V → ℕ → ℕ) → ℕ → ℕ → State V → ℕ → List ℕ
 key_in lane n r key i = key_from n r (state_lane lane key i)
 
--- the round keys from r on
-abbrev pub keys_from : {V : Type 0} → (V → ℕ → ℕ) → ℕ → ℕ → List (State V) → ℕ → List ℕ
-keys_from lane n r [] i = []
-keys_from lane n r (key ∷ keys) i = key_in lane n r key i ++ keys_from lane n (r + 1) keys i
-
 -- the schedule of n rounds in lane i of a list of round keys
 unfoldable pub schedule_in : {V : Type 0} → (V → ℕ → ℕ) → ℕ → List (State V) → ℕ → List ℕ
-schedule_in lane n keys i = keys_from lane n 0 keys i
+schedule_in lane n [] i = []
+schedule_in lane n (key ∷ keys) i = schedule_with (λ r. key_in lane n r (slice_index_or (key ∷ keys) r key) i) (length keys)
 
 -- the bytes of a lane begin with a key of nk words
 pub record IsLaneKey (nk : ℕ) (key xs : List ℕ) : Type 0 where

@@ -1,6 +1,6 @@
 //! Round keys as the rounds take them: in the basis of the rounds, each in the layout of the state that it is added to, and from the
 //! second one on with the constant of SBOX added, which the rounds leave out.
-ghost use Rattle.std.specs.Prelude.{◌≡◌, ℕ, ◌+◌, ◌-◌, ◌*◌, ◌/◌, ◌<◌, ◌≤◌, length, slice_index};
+ghost use Rattle.std.specs.Prelude.{◌≡◌, ℕ, ◌+◌, ◌-◌, ◌/◌, ◌<◌, ◌≤◌, length, slice_index};
 ghost use Rattle.mbj_types.specs.Aes.{round_key, mix_columns};
 ghost use Rattle.mbj_aes.specs.BlockWords.{block_byte, block_at};
 ghost use Rattle.mbj_aes.specs.declared.sizes.TheConstants.{MAX_ROUND_KEYS};

@@ -1,5 +1,5 @@
 //! The round keys of registers side by side.
-ghost use Rattle.std.specs.Prelude.{◌≡◌, ℕ, ◌+◌, ◌-◌, ◌*◌, ◌/◌, ◌<◌, ◌≤◌, List, [], length, map, slice_index, slice_index_or};
+ghost use Rattle.std.specs.Prelude.{◌≡◌, ℕ, ◌+◌, ◌-◌, ◌*◌, ◌/◌, ◌<◌, ◌≤◌, List, [], length, map, slice_index_or};
 ghost use Rattle.mbj_types.specs.Aes.{round_key};
 ghost use Rattle.mbj_aes.specs.BlockWords.{block_byte, block_at};
 ghost use Rattle.mbj_aes_lanes.specs.Inside.LaidKeys.{laid_key, laid_schedule};

@@ -1,7 +1,5 @@
 ghost use Rattle.std.specs.Prelude.{◌≡◌, ℕ, ◌<◌, ◌≤◌, List, [], length, slice_index_or};
 ghost use Rattle.mbj_types.specs.Aes.{encipher, decipher};
-ghost use Rattle.mbj_types.specs.Lanes.{lane_at};
-ghost use Rattle.mbj_aes.specs.BlockWords.{block_at};
 
 use crate::narrow::by_fours::change_each;
 use crate::narrow::cipher::change_all;

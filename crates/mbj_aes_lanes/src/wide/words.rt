@@ -1,5 +1,5 @@
 //! Words and states in slices of lane words, byte j of each list of bytes in lane word j.
-ghost use Rattle.std.specs.Prelude.{◌≡◌, ℕ, ◌+◌, ◌*◌, ◌<◌, ◌≤◌, ◌++◌, length, take, drop};
+ghost use Rattle.std.specs.Prelude.{◌≡◌, ℕ, ◌+◌, ◌*◌, ◌≤◌, ◌++◌, length, take, drop};
 ghost use Rattle.mbj_types.specs.Aes.{word, round_key};
 ghost use Rattle.mbj_types.specs.Lanes.{lane_of};
 ghost use Rattle.mbj_aes_lanes.specs.Inside.Wide.{word_lane, state_lane};

@@ -1,7 +1,6 @@
 -- Step by step, in each block.
-use Rattle.std.proofs.Common.{◌≡◌, ℕ, ◌+◌, ◌*◌, length, get_or, refl, arith}
-use Rattle.mbj_aes.specs.BlockWords.{block_byte, block_at}
-use Rattle.mbj_aes_lanes.specs.Inside.Steps.{IsHeld}
+use Rattle.std.proofs.Common.{◌≡◌, get_or, refl, arith}
+use Rattle.mbj_aes.specs.BlockWords.{block_at}
 use Rattle.mbj_aes_lanes.proofs.narrow.cipher.change_all.Goals as goal
 
 pub rounds-init : goal.rounds-init

@@ -1,5 +1,5 @@
 -- In each block the steps before k are done.
-use Rattle.std.proofs.Common.{◌≡◌, ℕ, ◌<◌, get_or}
+use Rattle.std.proofs.Common.{ℕ, ◌<◌, get_or}
 use Rattle.mbj_aes.specs.BlockWords.{block_byte, block_at}
 use Rattle.mbj_aes_lanes.specs.Inside.Steps.{IsHeld}
 use Rattle.mbj_aes_lanes.proofs.narrow.cipher.change_all.Given as goal

@@ -1,6 +1,5 @@
-use Rattle.std.proofs.Common.{◌≡◌, ℕ, refl, subst, arith}
+use Rattle.std.proofs.Common.{refl, arith}
 use Rattle.mbj_types.specs.Aes.{round_key}
-use Rattle.mbj_aes.specs.BlockWords.{block_byte}
 use Rattle.mbj_aes_lanes.proofs.EachRegister.{none_done, one_more}
 use Rattle.mbj_aes_lanes.proofs.narrow.cipher.step_all.Goals as goal
 

@@ -1,5 +1,5 @@
 -- CIPHER, round by round, in each lane.
-use Rattle.std.proofs.Common.{◌≡◌, ℕ, ◌+◌, ◌-◌, ◌*◌, ◌/◌, List, length, refl, arith, ap, ap₂, sym, ◌∙◌}
+use Rattle.std.proofs.Common.{◌≡◌, ℕ, ◌+◌, ◌-◌, List, refl, arith, ap, ap₂, sym, ◌∙◌}
 use Rattle.mbj_types.specs.Blocks.{xor_lists}
 use Rattle.mbj_types.specs.Aes.{full_round, after_rounds, shift_rows, sub_bytes}
 use Rattle.mbj_aes_lanes.specs.Inside.Wide.{state_lane}

@@ -1,5 +1,5 @@
 -- INVCIPHER, round by round.
-use Rattle.std.proofs.Common.{◌≡◌, ℕ, ◌+◌, ◌-◌, ◌*◌, ◌/◌, ◌%◌, ◌<◌, List, length, bit_xor, refl, sym, ap, ap₂, ◌∙◌, arith}
+use Rattle.std.proofs.Common.{◌≡◌, ℕ, ◌+◌, ◌-◌, ◌*◌, ◌%◌, ◌<◌, List, bit_xor, refl, sym, ap, ap₂, ◌∙◌, arith}
 use Rattle.mbj_types.specs.Blocks.{xor_lists}
 use Rattle.mbj_types.specs.Aes.{round_key, undone_round, undone_rounds, inv_shift_rows, inv_sub_bytes}
 use Rattle.mbj_aes.specs.BlockWords.{block_byte}

@@ -1,5 +1,5 @@
 -- The lane has the schedule, and the others are as they were.
-use Rattle.std.proofs.Common.{◌≡◌, ℕ, ◌+◌, ◌-◌, ◌++◌, Bool, true, false, if◌then◌else◌, get_or, set, replicate, refl, length, drop, take, ap, ap₂, sym, ◌∙◌, arith}
+use Rattle.std.proofs.Common.{◌≡◌, ℕ, ◌+◌, ◌-◌, ◌++◌, true, false, if◌then◌else◌, get_or, set, replicate, refl, length, drop, take, ap, ap₂, sym, ◌∙◌, arith}
 use Rattle.std.proofs.lemmas.List.{length-take-le, take_at}
 use Rattle.mbj_types.specs.Lanes.{lane_at}
 use Rattle.mbj_types.specs.declared.kind.TheConstants.{AES_LANES}
