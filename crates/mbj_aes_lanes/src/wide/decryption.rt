@@ -14,6 +14,7 @@ use mbj_types::Lane8;
 
 // INVSHIFTROWS: which byte is read.
 #[inline(always)]
+#[tactic(auto, unfolding(crate::specs::Inside::Wide::state_lane))]
 fn unshifted_rows<V: Lane8>(s: &State<V>) -> State<V>
     ensures { (i : ℕ) → state_lane V.lane result i ≡ inv_shift_rows (state_lane V.lane s.now i) }
 {
@@ -59,6 +60,7 @@ fn inverse_word<V: Lane8>(word: Word<V>) -> Word<V>
 
 // INVSUBBYTES.
 #[inline(always)]
+#[tactic(auto, unfolding(crate::specs::Inside::Wide::state_lane))]
 fn inverse_bytes<V: Lane8>(s: State<V>) -> State<V>
     ensures { (i : ℕ) → i < V.LANES → state_lane V.lane result i ≡ inv_sub_bytes (state_lane V.lane s i) }
 {

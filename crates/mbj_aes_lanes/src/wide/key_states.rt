@@ -39,6 +39,7 @@ fn word_to_tower<V: Lane8>(word: Word<V>) -> Word<V>
 
 /// The state in the tower's basis.
 #[inline(always)]
+#[tactic(auto, unfolding(crate::specs::Inside::Wide::state_lane))]
 pub fn to_tower<V: Lane8>(s: State<V>) -> State<V>
     ensures { (i : ℕ) → i < V.LANES → tower_block V.lane result i ≡ state_lane V.lane s i }
 {
@@ -113,6 +114,7 @@ fn word_from_tower<V: Lane8>(word: Word<V>) -> Word<V>
 
 // The state that stands in the tower's basis.
 #[inline(always)]
+#[tactic(auto, unfolding(crate::specs::Inside::Wide::state_lane))]
 fn from_tower<V: Lane8>(s: State<V>) -> State<V>
     ensures { (i : ℕ) → i < V.LANES → state_lane V.lane result i ≡ tower_block V.lane s i }
 {

@@ -44,6 +44,7 @@ fn full_column<V: Lane8>(column: Word<V>, key: Word<V>) -> Word<V>
 
 // SHIFTROWS: which byte is read.
 #[inline(always)]
+#[tactic(auto, unfolding(crate::specs::Inside::Wide::state_lane))]
 fn shifted_rows<V: Lane8>(s: &State<V>) -> State<V>
     ensures { (i : ℕ) → state_lane V.lane result i ≡ shift_rows (state_lane V.lane s.now i) }
 {

@@ -24,6 +24,7 @@ pub struct State<V> {
 
 /// The same byte in each place of every lane.
 #[inline(always)]
+#[tactic(auto, unfolding(crate::specs::Inside::Wide::state_lane))]
 pub fn splat_state<V: Lane8>(byte: u8) -> State<V>
     ensures { (i : ℕ) → i < V.LANES → state_lane V.lane result i ≡ replicate 16 byte }
 {
@@ -65,6 +66,7 @@ pub fn xor_words<V: Lane8>(a: Word<V>, b: Word<V>) -> Word<V>
 
 /// ADDROUNDKEY (5.1.4): the sum of two states, byte by byte.
 #[inline(always)]
+#[tactic(auto, unfolding(crate::specs::Inside::Wide::state_lane))]
 pub fn add_round_key<V: Lane8>(s: State<V>, key: State<V>) -> State<V>
     ensures { (i : ℕ) → i < V.LANES → state_lane V.lane result i ≡ xor_lists (state_lane V.lane s i) (state_lane V.lane key i) }
 {

@@ -68,6 +68,7 @@ fn unmixed_column<V: Lane8>(w: Word<V>) -> Word<V>
 
 /// INVMIXCOLUMNS.
 #[inline(always)]
+#[tactic(auto, unfolding(crate::specs::Inside::Wide::state_lane))]
 pub fn unmixed_columns<V: Lane8>(s: State<V>) -> State<V>
     ensures { (i : ℕ) → i < V.LANES → state_lane V.lane result i ≡ inv_mix_columns (state_lane V.lane s i) }
 {
