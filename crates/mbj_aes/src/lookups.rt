@@ -49,6 +49,8 @@ pub struct Quotients<V> {
 pub fn quotients_of<V: Lane8>(x: V) -> Quotients<V>
     ensures first { (i : ℕ) → i < V.LANES → V.lane result.first i ≡ first_quotient (V.lane x i) }
     ensures second { (i : ℕ) → i < V.LANES → V.lane result.second i ≡ second_quotient (V.lane x i) }
+    ensures first_index { (i : ℕ) → i < V.LANES → IsTableIndex (V.lane result.first i) }
+    ensures second_index { (i : ℕ) → i < V.LANES → IsTableIndex (V.lane result.second i) }
 {
     let low = low_half(x);
     let high = high_half(x);

@@ -1,7 +1,8 @@
 -- Step by step as in the definitions.
-use Rattle.std.proofs.Common.{refl}
+use Rattle.std.proofs.Common.{refl, sym, subst}
+use Rattle.mbj_types.specs.Lanes.{IsTableIndex}
 use Rattle.mbj_aes.specs.Tower.{high_denominator, sum_denominator, first_quotient, second_quotient}
-use Rattle.mbj_aes.proofs.TowerCases.{half_sum-index, high_denominator-index, sum_denominator-index}
+use Rattle.mbj_aes.proofs.TowerCases.{half_sum-index, high_denominator-index, sum_denominator-index, first_quotient-index, second_quotient-index}
 use Rattle.mbj_aes.proofs.lookups.quotients_of.Goals as goal
 
 pub looked_up-requires-2 : goal.looked_up-requires-2
@@ -61,3 +62,11 @@ returns-clause-second g c i h =
       c.low_half-low.ensures i h,
       c.high_half-high.ensures i h,
     ) refl
+
+pub returns-clause-first_index : goal.returns-clause-first_index
+returns-clause-first_index g c i h =
+    subst IsTableIndex (sym (returns-clause-first g c i h)) (first_quotient-index (g.V.Lane8.lane c.args.x i) (g.met.V.Lane8.fits c.args.x i))
+
+pub returns-clause-second_index : goal.returns-clause-second_index
+returns-clause-second_index g c i h =
+    subst IsTableIndex (sym (returns-clause-second g c i h)) (second_quotient-index (g.V.Lane8.lane c.args.x i) (g.met.V.Lane8.fits c.args.x i))
