@@ -69,25 +69,24 @@ module _ {V : Type 0} (lane : V → ℕ → ℕ) where
   four-written (a ∷ b ∷ c ∷ d ∷ []) w h = refl
   four-written xs w h = absurd (omega arith)
 
-  lane_of-put4 : (words : List V) (at : ℕ) (w : Word V) (k : ℕ) → at + 4 ≤ length words
-      → lane_of lane (take at words ++ (slice_set (slice_set (slice_set (slice_set (take 4 (drop at words)) 0 w.b0) 1 w.b1) 2 w.b2) 3 w.b3 ++ drop 4 (drop at words))) k
-      ≡ take at (lane_of lane words k) ++ (word_lane lane w k ++ drop (at + 4) (lane_of lane words k))
-  lane_of-put4 words at w k h =
+  -- words that are written in the midst of others
+  pub lane_of-mid : (words new : List V) (at n end k : ℕ) (b : List ℕ) → at + n ≡ end → lane_of lane new k ≡ b
+      → lane_of lane (put_mid at n words new) k ≡ take at (lane_of lane words k) ++ b ++ drop end (lane_of lane words k)
+  lane_of-mid words new at n end k b e is =
       let f : V → ℕ = λ v. lane v k in
-      let size : length (take 4 (drop at words)) ≡ 4 = length-take-le 4 (drop at words) (omega (arith, length-drop at words)) in
-      ap (λ xs. map f (take at words ++ (xs ++ drop 4 (drop at words)))) (four-written (take 4 (drop at words)) w size)
-      ∙ map-append f (take at words) ((w.b0 ∷ w.b1 ∷ w.b2 ∷ w.b3 ∷ []) ++ drop 4 (drop at words))
-      ∙ ap₂ (λ xs ys. xs ++ (word_lane lane w k ++ ys)) (sym (take-map f at words))
-      (ap (map f) (drop-drop 4 at words) ∙ sym (drop-map f (at + 4) words))
+      map-append f (take at words) (new ++ drop n (drop at words))
+      ∙ ap₂ (λ xs ys. xs ++ ys) (sym (take-map f at words))
+      (map-append f new (drop n (drop at words))
+      ∙ ap₂ (λ xs ys. xs ++ ys) is (ap (map f) (drop-drop n at words ∙ ap (λ (m : ℕ). drop m words) e) ∙ sym (drop-map f end words)))
+      ∙ sym (append_assoc (take at (lane_of lane words k)) b (drop end (lane_of lane words k)))
 
   -- four lane words that are written are a word in each lane
   pub lane_of-put : (words : List V) (at n : ℕ) (w : Word V) (k : ℕ) → n ≡ 4 → at + 4 ≤ length words
       → lane_of lane (put_mid at n words (slice_set (slice_set (slice_set (slice_set (take n (drop at words)) 0 w.b0) 1 w.b1) 2 w.b2) 3 w.b3)) k
       ≡ take at (lane_of lane words k) ++ word_lane lane w k ++ drop (at + 4) (lane_of lane words k)
   lane_of-put words at n w k e h =
-      ap (λ (m : ℕ). lane_of lane (put_mid at m words (slice_set (slice_set (slice_set (slice_set (take m (drop at words)) 0 w.b0) 1 w.b1) 2 w.b2) 3 w.b3)) k) e
-      ∙ lane_of-put4 words at w k h
-      ∙ sym (append_assoc (take at (lane_of lane words k)) (word_lane lane w k) (drop (at + 4) (lane_of lane words k)))
+      let size : length (take n (drop at words)) ≡ n = length-take-le n (drop at words) (omega (arith, length-drop at words)) in
+      lane_of-mid words _ at n (at + 4) k (word_lane lane w k) (omega arith) (ap (map (λ v. lane v k)) (four-written (take n (drop at words)) w (size ∙ e)))
 
 -- the schedule of a key of nk words
 pub key_schedule-words : (nk : ℕ) (key : List ℕ) → length key ≡ 4 * nk → schedule nk key (4 * (nk + 7) - nk) ≡ key_schedule key
@@ -105,19 +104,6 @@ round_key-take m r ys lt =
     ∙ take-take 16 (16 * (m - r)) (drop (16 * r) ys) (omega arith)
 
 -- ---- keys that are put into words
-
-module _ {V : Type 0} (lane : V → ℕ → ℕ) where
-  -- words that are written in the midst of others
-  pub lane_of-mid : (words new : List V) (at n : ℕ) (k : ℕ) (b : List ℕ) → n ≡ 16 → lane_of lane new k ≡ b
-      → lane_of lane (put_mid at n words new) k ≡ take at (lane_of lane words k) ++ b ++ drop (at + 16) (lane_of lane words k)
-  lane_of-mid words new at n k b e is =
-      let f : V → ℕ = λ v. lane v k in
-      ap (λ (m : ℕ). lane_of lane (put_mid at m words new) k) e
-      ∙ map-append f (take at words) (new ++ drop 16 (drop at words))
-      ∙ ap₂ (λ xs ys. xs ++ ys) (sym (take-map f at words))
-      (map-append f new (drop 16 (drop at words))
-      ∙ ap₂ (λ xs ys. xs ++ ys) is (ap (map f) (drop-drop 16 at words) ∙ sym (drop-map f (at + 16) words)))
-      ∙ sym (append_assoc (take at (lane_of lane words k)) b (drop (at + 16) (lane_of lane words k)))
 
 -- both halves of a key over the first 32 bytes
 pub both-halves : (b ys first : List ℕ) → length b ≡ 32 → first ≡ take 0 ys ++ take 16 (drop 0 b) ++ drop 16 ys

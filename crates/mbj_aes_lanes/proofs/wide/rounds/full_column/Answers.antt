@@ -1,6 +1,8 @@
 -- Each byte of the column by the law of one.
 use Rattle.std.proofs.Common.{◌≡◌, ℕ, ◌<◌, [], ◌∷◌, bit_xor, ap, ap₂, ◌∙◌}
-use Rattle.mbj_types.specs.Aes.{sub_byte}
+use Rattle.mbj_types.specs.Aes.{times, sub_byte}
+use Rattle.mbj_aes.specs.declared.substitution.WithDouble.{WithDouble}
+use Rattle.mbj_aes.specs.declared.tables.TheConstants.{SBOX_CONSTANT}
 use Rattle.mbj_aes.specs.Tower.{from_tower}
 use Rattle.mbj_aes.proofs.ByteMaps.{sub_byte_small}
 use Rattle.mbj_aes.proofs.Sums.{sum4, sum4-turned}
@@ -18,34 +20,19 @@ returns g c i h =
     let s1 = c.substituted_in_tower-s1.result in
     let s2 = c.substituted_in_tower-s2.result in
     let s3 = c.substituted_in_tower-s3.result in
-    let is0 : IsSubstituted (box w.b0) (lane s0.once i) (lane s0.twice i) = record {
-      small = sub_byte_small (from_tower (lane w.b0 i));
-      once_small = fits s0.once i;
-      twice_small = fits s0.twice i;
-      once_is = c.substituted_in_tower-s0.ensures.once i h;
-      twice_is = c.substituted_in_tower-s0.ensures.twice i h;
+    let made : (v : g.row.V.Denot) (s : WithDouble g.row.V.Denot) → from_tower (lane s.once i) ≡ bit_xor (box v) SBOX_CONSTANT
+    → from_tower (lane s.twice i) ≡ times 2 (bit_xor (box v) SBOX_CONSTANT) → IsSubstituted (box v) (lane s.once i) (lane s.twice i) =
+    λ v s once twice. record {
+      small = sub_byte_small (from_tower (lane v i));
+      once_small = fits s.once i;
+      twice_small = fits s.twice i;
+      once_is = once;
+      twice_is = twice;
     } in
-    let is1 : IsSubstituted (box w.b1) (lane s1.once i) (lane s1.twice i) = record {
-      small = sub_byte_small (from_tower (lane w.b1 i));
-      once_small = fits s1.once i;
-      twice_small = fits s1.twice i;
-      once_is = c.substituted_in_tower-s1.ensures.once i h;
-      twice_is = c.substituted_in_tower-s1.ensures.twice i h;
-    } in
-    let is2 : IsSubstituted (box w.b2) (lane s2.once i) (lane s2.twice i) = record {
-      small = sub_byte_small (from_tower (lane w.b2 i));
-      once_small = fits s2.once i;
-      twice_small = fits s2.twice i;
-      once_is = c.substituted_in_tower-s2.ensures.once i h;
-      twice_is = c.substituted_in_tower-s2.ensures.twice i h;
-    } in
-    let is3 : IsSubstituted (box w.b3) (lane s3.once i) (lane s3.twice i) = record {
-      small = sub_byte_small (from_tower (lane w.b3 i));
-      once_small = fits s3.once i;
-      twice_small = fits s3.twice i;
-      once_is = c.substituted_in_tower-s3.ensures.once i h;
-      twice_is = c.substituted_in_tower-s3.ensures.twice i h;
-    } in
+    let is0 = made w.b0 s0 (c.substituted_in_tower-s0.ensures.once i h) (c.substituted_in_tower-s0.ensures.twice i h) in
+    let is1 = made w.b1 s1 (c.substituted_in_tower-s1.ensures.once i h) (c.substituted_in_tower-s1.ensures.twice i h) in
+    let is2 = made w.b2 s2 (c.substituted_in_tower-s2.ensures.once i h) (c.substituted_in_tower-s2.ensures.twice i h) in
+    let is3 = made w.b3 s3 (c.substituted_in_tower-s3.ensures.once i h) (c.substituted_in_tower-s3.ensures.twice i h) in
     let all : ℕ = lane c.xored-all.result i in
     let small : all < 256 = fits c.xored-all.result i in
     let sums : all ≡ bit_xor (bit_xor (lane s0.once i) (lane s1.once i)) (bit_xor (lane s2.once i) (lane s3.once i)) =

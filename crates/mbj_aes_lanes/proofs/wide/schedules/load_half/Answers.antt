@@ -12,6 +12,6 @@ returns c i h =
     let start : ℕ = c.args.start in
     let ys : List ℕ = lane_of lane c.args.words.now i in
     let half : List ℕ = lane_of lane c.put_in_tower.new.words i in
-    ap (map from_tower) (lane_of-mid lane c.args.words.now c.put_in_tower.new.words start (start + 16 - start) i half (omega arith) refl)
+    ap (map from_tower) (lane_of-mid lane c.args.words.now c.put_in_tower.new.words start (start + 16 - start) (start + 16) i half (omega arith) refl)
     ∙ map-mid from_tower start (start + 16) ys half
     ∙ ap (λ b. take start (map from_tower ys) ++ b ++ drop (start + 16) (map from_tower ys)) (c.put_in_tower.ensures i h)
