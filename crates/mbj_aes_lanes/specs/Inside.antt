@@ -8,5 +8,5 @@ pub mod WideKeys
 pub mod LaidKeys
 pub mod LaidLaws
 pub mod Layouts
-pub mod Steps
+pub mod Held
 pub mod KeyStream

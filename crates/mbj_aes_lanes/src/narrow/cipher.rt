@@ -2,15 +2,15 @@
 ghost use Rattle.std.specs.Prelude.{◌≡◌, ℕ, ◌+◌, ◌*◌, ◌<◌, ◌≤◌, List, length, slice_index_or};
 ghost use Rattle.mbj_types.specs.Aes.{encipher};
 ghost use Rattle.mbj_aes.specs.BlockWords.{block_byte, block_at};
-ghost use Rattle.mbj_aes_lanes.specs.Inside.Steps.{IsHeld};
+ghost use Rattle.mbj_aes_lanes.specs.Inside.Held.{IsHeld};
 
 use crate::narrow::directions::{Direction, Encryption};
 use crate::narrow::schedules::Schedules;
 use mbj_aes::BlockWord;
 
-// Step `k` of `n` rounds, in each register.
+// Round `k` of `n`, in each register.
 #[inline(always)]
-fn step_all<V: BlockWord, D: Direction, K: Schedules<V, D>, const N: usize>(
+fn round_all<V: BlockWord, D: Direction, K: Schedules<V, D>, const N: usize>(
     keys: &K,
     s: &mut [V; N],
     k: usize,
@@ -26,7 +26,7 @@ fn step_all<V: BlockWord, D: Direction, K: Schedules<V, D>, const N: usize>(
 {
     let r = D::key_index(k, n);
     'registers: for i in 0..N {
-        s[i] = D::step(s[i], keys.round_key(r, i), k, n);
+        s[i] = D::round(s[i], keys.round_key(r, i), k, n);
     }
 }
 
@@ -41,11 +41,11 @@ pub fn change_all<V: BlockWord, D: Direction, K: Schedules<V, D>, const N: usize
         ≡ D.change (K.schedule_of keys.now i b) (block_at V.lane (slice_index_or s.old i d) b) }
 {
     let n = keys.rounds();
-    step_all(keys, s, 0, n);
+    round_all(keys, s, 0, n);
     'rounds: for k in 1..n {
-        step_all(keys, s, k, n);
+        round_all(keys, s, k, n);
     }
-    step_all(keys, s, n, n);
+    round_all(keys, s, n, n);
 }
 
 /// Encrypts each block of the registers, under the schedule in its place.

@@ -1,9 +1,9 @@
-//! The two directions of AES (FIPS 197, 5.1 and 5.3): how they take their round keys, and their steps on the blocks of a register.
+//! The two directions of AES (FIPS 197, 5.1 and 5.3): how they take their round keys, and their rounds on the blocks of a register.
 ghost use Rattle.std.specs.Prelude.{◌≡◌, ℕ, ◌+◌, ◌-◌, ◌*◌, ◌<◌, ◌≤◌, List, length};
 ghost use Rattle.mbj_types.specs.Aes.{round_key, encipher, decipher};
 ghost use Rattle.mbj_aes.specs.BlockWords.{block_byte, block_at};
 ghost use Rattle.mbj_aes_lanes.specs.Inside.LaidKeys.{laid_key, inverse_laid_key};
-ghost use Rattle.mbj_aes_lanes.specs.Inside.Steps.{IsHeld, is_enciphered, is_deciphered};
+ghost use Rattle.mbj_aes_lanes.specs.Inside.Held.{IsHeld, is_enciphered, is_deciphered};
 
 use crate::narrow::laid_keys::{
     first_key, inverse_key_between, inverse_last_key, key_between, last_key,
@@ -15,7 +15,7 @@ use mbj_aes::BlockWord;
 use mbj_aes::inverse_substitution::{in_decryption, inverse_from_decryption, inverse_multiples};
 use mbj_aes::substitution::{substituted_from_tower, substituted_in_tower};
 
-/// A direction of AES. With `n` rounds it has the steps 0 to `n`, each with a round key: at one end that key alone is added.
+/// A direction of AES. Its rounds are counted from 0 to `n`, as the round keys are: at one end the key alone is added.
 pub trait Direction {
     /// What it makes of a block, under a schedule.
     ghost change: { List ℕ → List ℕ → List ℕ };
@@ -23,10 +23,10 @@ pub trait Direction {
     /// Round key r of n rounds that bytes stand for.
     ghost laid: { ℕ → ℕ → (ℕ → ℕ) → List ℕ };
 
-    /// The round key of each step of n rounds.
+    /// The round key of each of n rounds.
     ghost key_of: { ℕ → ℕ → ℕ };
 
-    /// Under a schedule of n rounds, bytes are the state of a block after some steps, but not all of them.
+    /// Under a schedule of n rounds, bytes are the state of a block after some of them, but not all.
     ghost is_after: { List ℕ → List ℕ → ℕ → ℕ → (ℕ → ℕ) → Type 0 };
 
     /// The key of round `r` of `rounds` in each block, laid out.
@@ -34,14 +34,14 @@ pub trait Direction {
         requires { r ≤ rounds }
         ensures { (b : ℕ) → b < V.BLOCKS → laid rounds r (block_byte V.lane result b) ≡ block_at V.lane key b };
 
-    /// The round key of step `k` of `n` rounds.
+    /// The number of the key of round `k` of `n`.
     fn key_index(k: usize, n: usize) -> usize
         requires { k ≤ n }
         ensures value { result ≡ key_of n k }
         ensures most { result ≤ n };
 
-    /// Step `k` of `n` rounds.
-    fn step<V: BlockWord>(s: V, key: V, k: usize, n: usize) -> V
+    /// Round `k` of `n`.
+    fn round<V: BlockWord>(s: V, key: V, k: usize, n: usize) -> V
         requires least { 1 ≤ n }
         requires most { k ≤ n }
         ensures { (b : ℕ) (w block : List ℕ) → b < V.BLOCKS → length w ≡ 16 * (n + 1)
@@ -55,7 +55,7 @@ pub trait Direction {
     ghost sized: { (n r : ℕ) (f : ℕ → ℕ) → length (laid n r f) ≡ 16 };
 }
 
-/// Encryption. After step `k` the state is in layout `k`, in the tower's basis, until the last round makes plain bytes.
+/// Encryption. After round `k` the state is in layout `k`, in the tower's basis, until the last round makes plain bytes.
 pub struct Encryption;
 
 impl Direction for Encryption {
@@ -86,7 +86,7 @@ impl Direction for Encryption {
     }
 
     #[inline(always)]
-    fn step<V: BlockWord>(s: V, key: V, k: usize, n: usize) -> V {
+    fn round<V: BlockWord>(s: V, key: V, k: usize, n: usize) -> V {
         if k == 0 {
             to_tower_byte(s).xored(key)
         } else if k == n {
@@ -103,7 +103,7 @@ impl Direction for Encryption {
     ghost sized = { length-laid_key };
 }
 
-/// Decryption. The layouts go backwards: after step `k` of `n` rounds the state is in layout `n - k`, in the basis of decryption.
+/// Decryption. The layouts go backwards: after round `k` of `n` the state is in layout `n - k`, in the basis of decryption.
 /// INVMIXCOLUMNS was made of the keys beforehand.
 pub struct Decryption;
 
@@ -135,7 +135,7 @@ impl Direction for Decryption {
     }
 
     #[inline(always)]
-    fn step<V: BlockWord>(s: V, key: V, k: usize, n: usize) -> V {
+    fn round<V: BlockWord>(s: V, key: V, k: usize, n: usize) -> V {
         if k == 0 {
             in_decryption(s)
                 .xored(key)

@@ -1,7 +1,7 @@
--- In each block the steps before k are done.
+-- In each block the rounds before k are done.
 use Rattle.std.proofs.Common.{ℕ, ◌<◌, get_or}
 use Rattle.mbj_aes.specs.BlockWords.{block_byte, block_at}
-use Rattle.mbj_aes_lanes.specs.Inside.Steps.{IsHeld}
+use Rattle.mbj_aes_lanes.specs.Inside.Held.{IsHeld}
 use Rattle.mbj_aes_lanes.proofs.narrow.cipher.change_all.Given as goal
 
 abbrev pub invariant-rounds : goal.invariant-rounds

@@ -1,9 +1,9 @@
 -- The registers below i are done.
 use Rattle.std.proofs.Common.{◌≡◌, ℕ, ◌+◌, ◌*◌, ◌<◌, List, length}
 use Rattle.mbj_aes.specs.BlockWords.{block_byte}
-use Rattle.mbj_aes_lanes.specs.Inside.Steps.{IsHeld}
+use Rattle.mbj_aes_lanes.specs.Inside.Held.{IsHeld}
 use Rattle.mbj_aes_lanes.proofs.EachRegister.{AreDone}
-use Rattle.mbj_aes_lanes.proofs.narrow.cipher.step_all.Given as goal
+use Rattle.mbj_aes_lanes.proofs.narrow.cipher.round_all.Given as goal
 
 abbrev pub invariant-registers : goal.invariant-registers
 invariant-registers g l =
