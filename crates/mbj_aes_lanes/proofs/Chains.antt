@@ -7,7 +7,7 @@ use Rattle.std.specs.Option.{option_map}
 use Rattle.mbj_types.specs.Blocks.{xor_lists}
 use Rattle.mbj_types.specs.Aes.{encipher}
 use Rattle.mbj_aes_lanes.specs.Inside.Slots.{of_slot, HasRounds, IsKeyOf}
-use Rattle.mbj_aes_lanes.specs.Chaining.{next_chain, chained_once}
+use Rattle.mbj_aes_lanes.specs.ChainedEntry.{next_chain, chained_once}
 
 -- the laws of entries
 pub record ChainLaws {E : Type 0} (key block chain : E → List ℕ) (rest : E → ℕ) (led kept : E → List ℕ → E) : Type 0 where

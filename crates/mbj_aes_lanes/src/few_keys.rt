@@ -9,7 +9,7 @@ ghost use Rattle.mbj_aes_lanes.specs.Inside.BusyKeys.{column, few_schedule, AreB
 ghost use Rattle.mbj_aes_lanes.specs.Inside.LaidKeys.{laid_key, laid_schedule};
 ghost use Rattle.mbj_aes_lanes.specs.Inside.Slots.{IsKeyOf};
 
-use crate::chaining::Chaining;
+use crate::chained_entry::ChainedEntry;
 use crate::few_lanes::BusyLanes;
 use crate::key_bytes::schedule_of_bytes;
 use crate::narrow::cipher::encrypt_all;
@@ -29,7 +29,7 @@ const BLOCKS: usize = 2;
 
 // The laid out round keys of a lane's entry, and zeros for an idle lane.
 #[inline(always)]
-fn keys_in<E: Chaining, S: Slot<E>>(slots: &[S], lane: usize) -> [[u8; 16]; MAX_ROUND_KEYS]
+fn keys_in<E: ChainedEntry, S: Slot<E>>(slots: &[S], lane: usize) -> [[u8; 16]; MAX_ROUND_KEYS]
     requires lane { lane < AES_LANES }
     requires lanes { S.least ≤ length slots.now }
     requires most { length slots.now ≤ AES_LANES }
@@ -73,7 +73,7 @@ fn put_keys(
 
 /// The round keys of the entries in the busy lanes, whose keys have this many rounds: of each round a row with the key of each lane, laid
 /// out.
-pub fn keys_of_busy<E: Chaining, S: Slot<E>>(
+pub fn keys_of_busy<E: ChainedEntry, S: Slot<E>>(
     slots: &[S],
     busy: &BusyLanes,
     rounds: usize,

@@ -6,16 +6,16 @@ ghost use Rattle.mbj_types.specs.Aes.{encipher};
 ghost use Rattle.mbj_types.specs.Blocks.{xor_lists};
 ghost use Rattle.mbj_types.specs.declared.kind.TheConstants.{AES_LANES};
 ghost use Rattle.mbj_lane.specs.Rounds.{after};
-ghost use Rattle.mbj_aes_lanes.specs.Chaining.{chained_once};
+ghost use Rattle.mbj_aes_lanes.specs.ChainedEntry.{chained_once};
 ghost use Rattle.mbj_aes.specs.Bytes.{IsRoundCount};
 ghost use Rattle.mbj_aes_lanes.specs.Inside.Busy.{AreRising, AreBusy, AreGiven};
 ghost use Rattle.mbj_aes_lanes.specs.Inside.BusyKeys.{few_schedule, AreBusyKeys};
 ghost use Rattle.mbj_aes_lanes.specs.Inside.Slots.{of_slot, HasRounds, HaveRounds};
 ghost use Rattle.mbj_aes_lanes.specs.declared.few_keys.TheConstants.{FEW_LANES};
 
-use crate::chaining::Chaining;
+use crate::chained_entry::ChainedEntry;
 use crate::few_keys::{FEW_LANES, encrypt_few, keys_of_busy};
-use crate::slot::{Slot, block_in, chain_in, is_zero_wanted};
+use crate::slot::{Slot, block_in, chain_in, is_cmac_l_needed};
 use mbj_types::{AES_LANES, BLOCK_BYTES, xor_in_place};
 
 /// The lanes that have an entry, in order, of which the first `many` count.
@@ -27,7 +27,7 @@ pub struct BusyLanes {
 
 /// The lanes that have an entry.
 #[inline(always)]
-pub fn busy_lanes<E: Chaining, S: Slot<E>>(slots: &[S]) -> BusyLanes
+pub fn busy_lanes<E: ChainedEntry, S: Slot<E>>(slots: &[S]) -> BusyLanes
     requires lanes { S.least ≤ length slots.now }
     requires most { length slots.now ≤ AES_LANES }
     ensures { AreBusy (S.in_lane slots.now) (slice_index result.lanes) result.many }
@@ -45,7 +45,7 @@ pub fn busy_lanes<E: Chaining, S: Slot<E>>(slots: &[S]) -> BusyLanes
 
 // The chaining values of the busy lanes.
 #[inline(always)]
-fn chains_of<E: Chaining, S: Slot<E>>(slots: &[S], busy: &BusyLanes) -> [[u8; 16]; FEW_LANES]
+fn chains_of<E: ChainedEntry, S: Slot<E>>(slots: &[S], busy: &BusyLanes) -> [[u8; 16]; FEW_LANES]
     requires lanes { S.least ≤ length slots.now }
     requires most { length slots.now ≤ AES_LANES }
     requires busy { AreRising (slice_index busy.now.lanes) busy.now.many }
@@ -61,7 +61,7 @@ fn chains_of<E: Chaining, S: Slot<E>>(slots: &[S], busy: &BusyLanes) -> [[u8; 16
 
 // The sum of a lane's next block and a chaining value.
 #[inline(always)]
-fn input_of<E: Chaining, S: Slot<E>>(slots: &[S], lane: usize, chain: &[u8; 16]) -> [u8; 16]
+fn input_of<E: ChainedEntry, S: Slot<E>>(slots: &[S], lane: usize, chain: &[u8; 16]) -> [u8; 16]
     requires lane { lane < AES_LANES }
     requires lanes { S.least ≤ length slots.now }
     requires most { length slots.now ≤ AES_LANES }
@@ -75,7 +75,7 @@ fn input_of<E: Chaining, S: Slot<E>>(slots: &[S], lane: usize, chain: &[u8; 16])
 
 // What is enciphered next in each busy lane takes the place of its chaining value.
 #[inline(always)]
-fn put_inputs<E: Chaining, S: Slot<E>>(
+fn put_inputs<E: ChainedEntry, S: Slot<E>>(
     slots: &[S],
     busy: &BusyLanes,
     chains: &mut [[u8; 16]; FEW_LANES],
@@ -95,7 +95,7 @@ fn put_inputs<E: Chaining, S: Slot<E>>(
 
 // The entry in each busy lane is led by its chaining value.
 #[inline(always)]
-fn lead_busy<E: Chaining, S: Slot<E>>(
+fn lead_busy<E: ChainedEntry, S: Slot<E>>(
     slots: &mut [S],
     busy: &BusyLanes,
     chains: &[[u8; 16]; FEW_LANES],
@@ -115,7 +115,7 @@ fn lead_busy<E: Chaining, S: Slot<E>>(
 
 // The entry in each busy lane keeps its chaining value.
 #[inline(always)]
-fn keep_busy<E: Chaining, S: Slot<E>>(
+fn keep_busy<E: ChainedEntry, S: Slot<E>>(
     slots: &mut [S],
     busy: &BusyLanes,
     chains: &[[u8; 16]; FEW_LANES],
@@ -132,9 +132,9 @@ fn keep_busy<E: Chaining, S: Slot<E>>(
     }
 }
 
-// Whether an entry needs the zero block enciphered, before it goes on by `m` blocks, is asked of each; those that do take it.
+// Whether an entry needs L of CMAC, before it goes on by `m` blocks, is asked of each; those that do take it.
 #[inline(always)]
-fn give_busy_zeros<const N: usize, E: Chaining, S: Slot<E>>(
+fn give_busy_cmac_l<const N: usize, E: ChainedEntry, S: Slot<E>>(
     slots: &mut [S],
     busy: &BusyLanes,
     m: u32,
@@ -149,19 +149,19 @@ fn give_busy_zeros<const N: usize, E: Chaining, S: Slot<E>>(
     requires keys { AreBusyKeys E.key_of (S.in_lane slots.old) (slice_index busy.now.lanes) busy.now.many keys.now }
     ensures { slots.new ≡ slots.old }
 {
-    if !is_zero_wanted::<E, S>(slots, m) {
+    if !is_cmac_l_needed::<E, S>(slots, m) {
         return;
     }
     let mut zeros = [[0; BLOCK_BYTES]; FEW_LANES];
     encrypt_few::<N>(keys, &mut zeros);
     'busy: for p in 0..busy.many {
-        S::take_zero(slots, busy.lanes[p], &zeros[p]);
+        S::set_cmac_l(slots, busy.lanes[p], &zeros[p]);
     }
 }
 
 // The next block of each busy lane is chained, all at once. `chains` has the chaining values, and no entry keeps them.
 #[inline(always)]
-fn pass_busy<const N: usize, E: Chaining, S: Slot<E>>(
+fn pass_busy<const N: usize, E: ChainedEntry, S: Slot<E>>(
     slots: &mut [S],
     busy: &BusyLanes,
     keys: &[[[u8; 16]; FEW_LANES]],
@@ -186,7 +186,7 @@ fn pass_busy<const N: usize, E: Chaining, S: Slot<E>>(
 
 // Leads the entry in each busy lane by `m` blocks, in `N` registers of two lanes each.
 #[inline(always)]
-fn lead_passes<const N: usize, E: Chaining, S: Slot<E>>(
+fn lead_passes<const N: usize, E: ChainedEntry, S: Slot<E>>(
     slots: &mut [S],
     busy: &BusyLanes,
     m: u32,
@@ -210,9 +210,9 @@ fn lead_passes<const N: usize, E: Chaining, S: Slot<E>>(
     keep_busy::<E, S>(slots, busy, &chains);
 }
 
-// The same, after giving each entry the enciphered zero block where it needs it.
+// The same, after giving each entry L of CMAC if it needs it.
 #[inline(never)]
-fn lead_in<const N: usize, E: Chaining, S: Slot<E>>(
+fn lead_in<const N: usize, E: ChainedEntry, S: Slot<E>>(
     slots: &mut [S],
     busy: &BusyLanes,
     m: u32,
@@ -229,14 +229,19 @@ fn lead_in<const N: usize, E: Chaining, S: Slot<E>>(
     ensures { (i : ℕ) → i < AES_LANES → S.in_lane slots.new i
         ≡ option_map (after (chained_once E.key_of E.block_of E.chain_of E.led E.kept) m) (S.in_lane slots.old i) }
 {
-    give_busy_zeros::<N, E, S>(slots, busy, m, keys);
+    give_busy_cmac_l::<N, E, S>(slots, busy, m, keys);
     lead_passes::<N, E, S>(slots, busy, m, keys);
 }
 
 /// Leads each entry by `m` blocks, of which there are at most `FEW_LANES` and whose keys have this many rounds: in one register for one or
 /// two, in two for three or four, else in four.
 #[inline(always)]
-pub fn lead_few<E: Chaining, S: Slot<E>>(slots: &mut [S], busy: &BusyLanes, m: u32, rounds: usize)
+pub fn lead_few<E: ChainedEntry, S: Slot<E>>(
+    slots: &mut [S],
+    busy: &BusyLanes,
+    m: u32,
+    rounds: usize,
+)
     requires lanes { S.least ≤ length slots.old }
     requires most { length slots.old ≤ AES_LANES }
     requires rests { HaveRounds E.rest_of m (S.in_lane slots.old) }

@@ -5,15 +5,15 @@ ghost use Rattle.mbj_types.specs.declared.kind.TheConstants.{AES_LANES};
 ghost use Rattle.mbj_aes.specs.declared.sizes.TheConstants.{MAX_ROUND_KEYS};
 ghost use Rattle.mbj_aes_lanes.specs.declared.wide.words.TheConstants.{MAX_SCHEDULE_WORDS};
 ghost use Rattle.mbj_lane.specs.Rounds.{after};
-ghost use Rattle.mbj_aes_lanes.specs.Chaining.{chained_once};
+ghost use Rattle.mbj_aes_lanes.specs.ChainedEntry.{chained_once};
 ghost use Rattle.mbj_aes_lanes.specs.Inside.Slots.{HaveRounds};
 
-use crate::chaining::Chaining;
+use crate::chained_entry::ChainedEntry;
 use crate::few_keys::FEW_LANES;
 use crate::few_lanes::{busy_lanes, lead_few};
 use crate::slot::{Slot, rounds_in};
 use crate::slot_keys::expand_lanes;
-use crate::slot_rounds::{give_zeros, lead_by};
+use crate::slot_rounds::{give_cmac_l, lead_by};
 use crate::wide::state::{State, zero_state};
 use crate::wide::words::MAX_SCHEDULE_WORDS;
 use mbj_aes::MAX_ROUND_KEYS;
@@ -22,7 +22,7 @@ use mbj_types::{AES_LANES, AesWord, Lane8};
 /// Leads each entry by `m` blocks, which it has left. A run over many lanes takes `room` for the round keys of all lanes, `words` for the
 /// schedules from which they are made, and `chains` for the chaining values.
 #[inline(always)]
-pub fn lead<E: Chaining, S: Slot<E>>(
+pub fn lead<E: ChainedEntry, S: Slot<E>>(
     slots: &mut [S],
     m: u32,
     room: &mut [State<AesWord>],
@@ -44,7 +44,7 @@ pub fn lead<E: Chaining, S: Slot<E>>(
         } else {
             expand_lanes::<E, S>(room, words, rounds, slots);
             let keys = &room[..rounds + 1];
-            give_zeros::<E, S>(slots, m, keys);
+            give_cmac_l::<E, S>(slots, m, keys);
             lead_by::<E, S>(slots, m, keys, chains);
         }
     }
@@ -52,7 +52,7 @@ pub fn lead<E: Chaining, S: Slot<E>>(
 
 /// Leads each of at most `AES_LANES` entries by `m` blocks, of which each has that many left. In each of `m` passes one
 /// block of every entry is enciphered, all at once. It takes no memory.
-pub fn lead_all<E: Chaining>(entries: &mut [E], m: u32)
+pub fn lead_all<E: ChainedEntry>(entries: &mut [E], m: u32)
     requires few { length entries.old ≤ AES_LANES }
     requires rests { All (λ e. m ≤ E.rest_of e) entries.old }
     ensures { entries.new ≡ map (after (chained_once E.key_of E.block_of E.chain_of E.led E.kept) m) entries.old }

@@ -3,7 +3,7 @@
 #![tactic(auto)]
 
 mod blocks;
-mod chaining;
+mod chained_entry;
 mod few_keys;
 mod few_lanes;
 mod key_bytes;
@@ -16,7 +16,7 @@ mod slot_rounds;
 mod slots;
 mod wide;
 
-pub use chaining::Chaining;
+pub use chained_entry::ChainedEntry;
 pub use key_bytes::{bytes_of_key, bytes_of_schedule, schedule_of_bytes};
 pub use leading::lead_all;
 pub use narrow::by_fours::BATCH_BLOCKS;

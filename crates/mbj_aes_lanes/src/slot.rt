@@ -5,13 +5,13 @@ ghost use Rattle.mbj_types.specs.declared.kind.TheConstants.{AES_LANES};
 ghost use Rattle.mbj_aes.specs.Bytes.{IsRoundCount};
 ghost use Rattle.mbj_lane.specs.Slots.{IsWritten};
 ghost use Rattle.mbj_aes_lanes.specs.Slots.{slot_at};
-ghost use Rattle.mbj_aes_lanes.specs.Inside.Slots.{of_slot, HasRounds, IsZeroOf};
+ghost use Rattle.mbj_aes_lanes.specs.Inside.Slots.{of_slot, HasRounds, IsCmacL};
 
-use crate::chaining::Chaining;
+use crate::chained_entry::ChainedEntry;
 use mbj_types::{AES_LANES, BLOCK_BYTES};
 
 /// What may stand in a lane.
-pub trait Slot<E: Chaining> {
+pub trait Slot<E: ChainedEntry> {
     /// How many there are at the least, and at the most one for each lane.
     ghost least: { ℕ };
 
@@ -40,16 +40,16 @@ pub trait Slot<E: Chaining> {
         requires most { length slots.old ≤ AES_LANES }
         ensures { IsWritten AES_LANES lane (option_map (λ e. E.kept e chain.now) (in_lane slots.old lane)) (in_lane slots.old) (in_lane slots.new) };
 
-    /// The entry in a lane takes the zero block enciphered under its key.
-    fn take_zero(slots: &mut [Self], lane: usize, zero: &[u8; 16])
+    /// The entry in a lane takes L of CMAC: the zero block enciphered under its key.
+    fn set_cmac_l(slots: &mut [Self], lane: usize, zero: &[u8; 16])
         requires lane { lane < AES_LANES }
         requires lanes { least ≤ length slots.old }
         requires most { length slots.old ≤ AES_LANES }
-        requires zero { IsZeroOf E.key_of zero.now (in_lane slots.old lane) }
+        requires zero { IsCmacL E.key_of zero.now (in_lane slots.old lane) }
         ensures { slots.new ≡ slots.old };
 }
 
-impl<E: Chaining> Slot<E> for Option<E> {
+impl<E: ChainedEntry> Slot<E> for Option<E> {
     ghost least = { AES_LANES };
 
     ghost in_lane = { slot_at };
@@ -74,14 +74,14 @@ impl<E: Chaining> Slot<E> for Option<E> {
     }
 
     #[inline(always)]
-    fn take_zero(slots: &mut [Option<E>], lane: usize, zero: &[u8; 16]) {
+    fn set_cmac_l(slots: &mut [Option<E>], lane: usize, zero: &[u8; 16]) {
         if let Some(entry) = &mut slots[lane] {
-            entry.take_zero(zero);
+            entry.set_cmac_l(zero);
         }
     }
 }
 
-impl<E: Chaining> Slot<E> for E {
+impl<E: ChainedEntry> Slot<E> for E {
     ghost least = { 0 };
 
     ghost in_lane = { slice_get };
@@ -94,28 +94,28 @@ impl<E: Chaining> Slot<E> for E {
     #[inline(always)]
     fn lead(entries: &mut [E], lane: usize, chain: &[u8; 16]) {
         if lane < entries.len() {
-            Chaining::lead(&mut entries[lane], chain);
+            ChainedEntry::lead(&mut entries[lane], chain);
         }
     }
 
     #[inline(always)]
     fn keep(entries: &mut [E], lane: usize, chain: &[u8; 16]) {
         if lane < entries.len() {
-            Chaining::keep(&mut entries[lane], chain);
+            ChainedEntry::keep(&mut entries[lane], chain);
         }
     }
 
     #[inline(always)]
-    fn take_zero(entries: &mut [E], lane: usize, zero: &[u8; 16]) {
+    fn set_cmac_l(entries: &mut [E], lane: usize, zero: &[u8; 16]) {
         if lane < entries.len() {
-            Chaining::take_zero(&mut entries[lane], zero);
+            ChainedEntry::set_cmac_l(&mut entries[lane], zero);
         }
     }
 }
 
 /// The next block of a lane's entry, and zeros in an idle lane.
 #[inline(always)]
-pub fn block_in<E: Chaining, S: Slot<E>>(slots: &[S], lane: usize) -> [u8; 16]
+pub fn block_in<E: ChainedEntry, S: Slot<E>>(slots: &[S], lane: usize) -> [u8; 16]
     requires lane { lane < AES_LANES }
     requires lanes { S.least ≤ length slots.now }
     requires most { length slots.now ≤ AES_LANES }
@@ -130,7 +130,7 @@ pub fn block_in<E: Chaining, S: Slot<E>>(slots: &[S], lane: usize) -> [u8; 16]
 
 /// The chaining value of a lane's entry, and zeros in an idle lane.
 #[inline(always)]
-pub fn chain_in<E: Chaining, S: Slot<E>>(slots: &[S], lane: usize) -> [u8; 16]
+pub fn chain_in<E: ChainedEntry, S: Slot<E>>(slots: &[S], lane: usize) -> [u8; 16]
     requires lane { lane < AES_LANES }
     requires lanes { S.least ≤ length slots.now }
     requires most { length slots.now ≤ AES_LANES }
@@ -142,23 +142,23 @@ pub fn chain_in<E: Chaining, S: Slot<E>>(slots: &[S], lane: usize) -> [u8; 16]
     }
 }
 
-/// Whether an entry needs the zero block enciphered, before it goes on by `m` blocks.
+/// Whether an entry needs L of CMAC, before it goes on by `m` blocks.
 #[inline(always)]
-pub fn is_zero_wanted<E: Chaining, S: Slot<E>>(slots: &[S], m: u32) -> bool
+pub fn is_cmac_l_needed<E: ChainedEntry, S: Slot<E>>(slots: &[S], m: u32) -> bool
     requires lanes { S.least ≤ length slots.now }
     requires most { length slots.now ≤ AES_LANES }
 {
     let mut is_wanted = false;
     'lanes: for i in 0..AES_LANES {
         if let Some(entry) = S::entry(slots, i) {
-            is_wanted |= entry.wants_zero(m);
+            is_wanted |= entry.needs_cmac_l(m);
         }
     }
     is_wanted
 }
 
 /// The rounds of the keys, of which each has as many, if there is an entry.
-pub fn rounds_in<E: Chaining, S: Slot<E>>(slots: &[S]) -> Option<usize>
+pub fn rounds_in<E: ChainedEntry, S: Slot<E>>(slots: &[S]) -> Option<usize>
     requires lanes { S.least ≤ length slots.now }
     requires most { length slots.now ≤ AES_LANES }
     ensures { MatchOption result ((i : ℕ) → i < AES_LANES → S.in_lane slots.now i ≡ None) (λ n. (n ≡ E.key_rounds) × IsRoundCount n) }

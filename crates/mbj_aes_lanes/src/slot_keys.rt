@@ -9,7 +9,7 @@ ghost use Rattle.mbj_aes_lanes.specs.KeyBytes.{IsKeyArray, key_of_array};
 ghost use Rattle.mbj_aes_lanes.specs.Inside.WideKeys.{schedule_in};
 ghost use Rattle.mbj_aes_lanes.specs.Inside.Slots.{IsKeyOf, AreKeyed};
 
-use crate::chaining::Chaining;
+use crate::chained_entry::ChainedEntry;
 use crate::slot::Slot;
 use crate::wide::schedules::expand_keys;
 use crate::wide::state::State;
@@ -18,7 +18,7 @@ use mbj_types::{AES_LANES, AesWord};
 
 // The bytes of the key of a lane's entry. An idle lane has a key of zeros.
 #[inline(always)]
-fn key_in<E: Chaining, S: Slot<E>>(slots: &[S], lane: usize) -> [u8; 32]
+fn key_in<E: ChainedEntry, S: Slot<E>>(slots: &[S], lane: usize) -> [u8; 32]
     requires lane { lane < AES_LANES }
     requires lanes { S.least ≤ length slots.now }
     requires most { length slots.now ≤ AES_LANES }
@@ -34,7 +34,7 @@ fn key_in<E: Chaining, S: Slot<E>>(slots: &[S], lane: usize) -> [u8; 32]
 
 // The bytes of the key in each lane.
 #[inline(always)]
-fn keys_in<E: Chaining, S: Slot<E>>(slots: &[S]) -> [[u8; 32]; AES_LANES]
+fn keys_in<E: ChainedEntry, S: Slot<E>>(slots: &[S]) -> [[u8; 32]; AES_LANES]
     requires lanes { S.least ≤ length slots.now }
     requires most { length slots.now ≤ AES_LANES }
     requires rounds { IsRoundCount E.key_rounds }
@@ -69,7 +69,7 @@ fn expand_first(
 
 /// The round keys of the entries, whose keys have `rounds` rounds, in the first of the states. The words take the schedules.
 #[inline(always)]
-pub fn expand_lanes<E: Chaining, S: Slot<E>>(
+pub fn expand_lanes<E: ChainedEntry, S: Slot<E>>(
     states: &mut [State<AesWord>],
     words: &mut [AesWord],
     rounds: usize,

@@ -6,16 +6,16 @@ ghost use Rattle.mbj_types.specs.Blocks.{xor_lists, zero_block};
 ghost use Rattle.mbj_types.specs.Lanes.{lane_at};
 ghost use Rattle.mbj_types.specs.declared.kind.TheConstants.{AES_LANES};
 ghost use Rattle.mbj_lane.specs.Rounds.{after};
-ghost use Rattle.mbj_aes_lanes.specs.Chaining.{chained_once};
+ghost use Rattle.mbj_aes_lanes.specs.ChainedEntry.{chained_once};
 ghost use Rattle.mbj_aes_lanes.specs.Inside.Busy.{AreGiven, in_own_lane};
 ghost use Rattle.mbj_aes_lanes.specs.Inside.Slots.{of_slot, HaveRounds, AreKeyed};
 ghost use Rattle.mbj_aes_lanes.specs.Inside.Wide.{state_lane};
 ghost use Rattle.mbj_aes_lanes.specs.Inside.WideKeys.{schedule_in};
 
 use crate::blocks::{load_state, store_state};
-use crate::chaining::Chaining;
+use crate::chained_entry::ChainedEntry;
 use crate::lane_blocks::{Blocks, LaneBlocks};
-use crate::slot::{Slot, block_in, chain_in, is_zero_wanted};
+use crate::slot::{Slot, block_in, chain_in, is_cmac_l_needed};
 use crate::wide::lane_schedules::RoundStates;
 use crate::wide::rounds::encrypt;
 use crate::wide::state::{State, add_round_key};
@@ -24,7 +24,7 @@ use std::marker::PhantomData;
 
 // The next block of each entry.
 #[derive(Drop)]
-struct NextBlocks<'a, E: Chaining, S: Slot<E>> {
+struct NextBlocks<'a, E: ChainedEntry, S: Slot<E>> {
     slots: &'a [S],
     of: PhantomData<E>,
     ghost least: { S.least ≤ length slots.now },
@@ -32,7 +32,7 @@ struct NextBlocks<'a, E: Chaining, S: Slot<E>> {
     ghost rests: { HaveRounds E.rest_of 1 (S.in_lane slots.now) },
 }
 
-impl<E: Chaining, S: Slot<E>> LaneBlocks for NextBlocks<'_, E, S> {
+impl<E: ChainedEntry, S: Slot<E>> LaneBlocks for NextBlocks<'_, E, S> {
     ghost lanes_of = { λ b. AES_LANES };
 
     ghost block_in = { λ b i. of_slot E.block_of (S.in_lane b.slots.now i) };
@@ -45,14 +45,14 @@ impl<E: Chaining, S: Slot<E>> LaneBlocks for NextBlocks<'_, E, S> {
 
 // The chaining value of each entry.
 #[derive(Drop)]
-struct Chains<'a, E: Chaining, S: Slot<E>> {
+struct Chains<'a, E: ChainedEntry, S: Slot<E>> {
     slots: &'a [S],
     of: PhantomData<E>,
     ghost least: { S.least ≤ length slots.now },
     ghost most: { length slots.now ≤ AES_LANES },
 }
 
-impl<E: Chaining, S: Slot<E>> LaneBlocks for Chains<'_, E, S> {
+impl<E: ChainedEntry, S: Slot<E>> LaneBlocks for Chains<'_, E, S> {
     ghost lanes_of = { λ b. AES_LANES };
 
     ghost block_in = { λ b i. of_slot E.chain_of (S.in_lane b.slots.now i) };
@@ -75,7 +75,7 @@ fn blocks_of(s: &State<AesWord>) -> [[u8; 16]; AES_LANES]
 
 // Each entry is led by the chaining value of its lane.
 #[inline(always)]
-fn lead_each<E: Chaining, S: Slot<E>>(slots: &mut [S], chains: &[[u8; 16]; AES_LANES])
+fn lead_each<E: ChainedEntry, S: Slot<E>>(slots: &mut [S], chains: &[[u8; 16]; AES_LANES])
     requires lanes { S.least ≤ length slots.old }
     requires most { length slots.old ≤ AES_LANES }
     requires rests { HaveRounds E.rest_of 1 (S.in_lane slots.old) }
@@ -88,7 +88,7 @@ fn lead_each<E: Chaining, S: Slot<E>>(slots: &mut [S], chains: &[[u8; 16]; AES_L
 
 // Each entry keeps the chaining value of its lane.
 #[inline(always)]
-fn keep_each<E: Chaining, S: Slot<E>>(slots: &mut [S], chains: &[[u8; 16]; AES_LANES])
+fn keep_each<E: ChainedEntry, S: Slot<E>>(slots: &mut [S], chains: &[[u8; 16]; AES_LANES])
     requires lanes { S.least ≤ length slots.old }
     requires most { length slots.old ≤ AES_LANES }
     ensures { AreGiven (λ i. option_map (λ e. E.kept e (slice_index_or chains.now i []))) in_own_lane AES_LANES AES_LANES (S.in_lane slots.old) (S.in_lane slots.new) }
@@ -101,7 +101,7 @@ fn keep_each<E: Chaining, S: Slot<E>>(slots: &mut [S], chains: &[[u8; 16]; AES_L
 /// Leads each entry by `m` blocks, under the round keys of its lane. In each pass the next block of every entry is chained, all at once;
 /// `chains` takes the chaining values of the lanes, and the entries keep theirs at the end.
 #[inline(always)]
-pub fn lead_by<E: Chaining, S: Slot<E>>(
+pub fn lead_by<E: ChainedEntry, S: Slot<E>>(
     slots: &mut [S],
     m: u32,
     keys: &[State<AesWord>],
@@ -133,9 +133,9 @@ pub fn lead_by<E: Chaining, S: Slot<E>>(
     keep_each::<E, S>(slots, &blocks_of(chains));
 }
 
-// The zero block enciphered under the key of each lane.
+// L of CMAC under the key of each lane: the zero block enciphered (SP 800-38B, 6.1).
 #[inline(never)]
-fn zeros_of(keys: &[State<AesWord>]) -> [[u8; 16]; AES_LANES]
+fn cmac_l_of(keys: &[State<AesWord>]) -> [[u8; 16]; AES_LANES]
     requires least { 3 ≤ length keys.now }
     requires even { length keys.now % 2 ≡ 1 }
     ensures { (i : ℕ) → i < AES_LANES
@@ -148,9 +148,9 @@ fn zeros_of(keys: &[State<AesWord>]) -> [[u8; 16]; AES_LANES]
     blocks
 }
 
-/// Gives each entry the enciphered zero block, where one needs it before it goes on by `m` blocks.
+/// Gives each entry L of CMAC, if one needs it before it goes on by `m` blocks.
 #[inline(always)]
-pub fn give_zeros<E: Chaining, S: Slot<E>>(slots: &mut [S], m: u32, keys: &[State<AesWord>])
+pub fn give_cmac_l<E: ChainedEntry, S: Slot<E>>(slots: &mut [S], m: u32, keys: &[State<AesWord>])
     requires lanes { S.least ≤ length slots.old }
     requires most { length slots.old ≤ AES_LANES }
     requires least { 3 ≤ length keys.now }
@@ -158,11 +158,11 @@ pub fn give_zeros<E: Chaining, S: Slot<E>>(slots: &mut [S], m: u32, keys: &[Stat
     requires keys { AreKeyed E.key_of (S.in_lane slots.old) keys.now }
     ensures { slots.new ≡ slots.old }
 {
-    if !is_zero_wanted::<E, S>(slots, m) {
+    if !is_cmac_l_needed::<E, S>(slots, m) {
         return;
     }
-    let zeros = zeros_of(keys);
+    let zeros = cmac_l_of(keys);
     'lanes: for i in 0..AES_LANES {
-        S::take_zero(slots, i, &zeros[i]);
+        S::set_cmac_l(slots, i, &zeros[i]);
     }
 }

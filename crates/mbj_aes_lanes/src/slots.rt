@@ -6,11 +6,11 @@ ghost use Rattle.mbj_types.specs.declared.kind.TheConstants.{AES_LANES};
 ghost use Rattle.mbj_aes.specs.declared.sizes.TheConstants.{MAX_ROUND_KEYS};
 ghost use Rattle.mbj_aes_lanes.specs.declared.wide.words.TheConstants.{MAX_SCHEDULE_WORDS};
 ghost use Rattle.mbj_lane.specs.Rounds.{after};
-ghost use Rattle.mbj_aes_lanes.specs.Chaining.{chained_once};
+ghost use Rattle.mbj_aes_lanes.specs.ChainedEntry.{chained_once};
 ghost use Rattle.mbj_aes_lanes.specs.Inside.Slots.{HaveRounds};
 ghost use Rattle.mbj_aes_lanes.specs.Slots.{slot_at};
 
-use crate::chaining::Chaining;
+use crate::chained_entry::ChainedEntry;
 use crate::leading::{lead, lead_all};
 use crate::wide::state::{State, zero_state};
 use crate::wide::words::MAX_SCHEDULE_WORDS;
@@ -23,7 +23,7 @@ use std::mem;
 
 /// Slots of entries, which contracts see as the list of what stands in each.
 #[derive(Drop)]
-pub struct ChainedSlots<E: Chaining> {
+pub struct ChainedSlots<E: ChainedEntry> {
     // What a run over many lanes takes: the round keys of all lanes, the words of the schedules from which they are made, and one state of
     // the chaining values. They have memory of their own, which may be aligned to vectors.
     round_keys: Vec<State<AesWord>>,
@@ -32,7 +32,7 @@ pub struct ChainedSlots<E: Chaining> {
     entries: Vec<Option<E>>,
 }
 
-impl<E: Chaining> Model for ChainedSlots<E> {
+impl<E: ChainedEntry> Model for ChainedSlots<E> {
     ghost use Rattle.std.specs.Prelude.{◌≡◌, List, Option, length};
     ghost use Rattle.mbj_types.specs.declared.kind.TheConstants.{AES_LANES};
     ghost use Rattle.mbj_aes.specs.declared.sizes.TheConstants.{MAX_ROUND_KEYS};
@@ -58,7 +58,7 @@ fn copies<T: Copy>(alloc: Global, many: usize, value: T) -> Result<Vec<T>, Alloc
 }
 
 // The lesser of a number and the rest of an entry, if there is one.
-fn lesser<E: Chaining>(slot: &Option<E>, least: u32) -> u32
+fn lesser<E: ChainedEntry>(slot: &Option<E>, least: u32) -> u32
     ensures most { result ≤ least }
     ensures below { (e : E) → slot.now ≡ Some e → result ≤ E.rest_of e }
     ensures fits { (e : E) → slot.now ≡ Some e → E.rest_of e < 2 ^ 32 }
@@ -71,11 +71,11 @@ fn lesser<E: Chaining>(slot: &Option<E>, least: u32) -> u32
 }
 
 /// Chained blocks in `AES_LANES` lanes.
-pub struct Chained<E: Chaining> {
+pub struct Chained<E: ChainedEntry> {
     of: PhantomData<E>,
 }
 
-impl<E: Chaining> Kernel for Chained<E> {
+impl<E: ChainedEntry> Kernel for Chained<E> {
     type Entry = E;
 
     const LANES: u32 = AES_LANES as u32;
@@ -95,7 +95,7 @@ impl<E: Chaining> Kernel for Chained<E> {
     }
 
     ghost use Rattle.std.proofs.Common.{◌∙◌, rules};
-    ghost use Rattle.mbj_aes_lanes.specs.Chaining.{next_chain};
+    ghost use Rattle.mbj_aes_lanes.specs.ChainedEntry.{next_chain};
 
     ghost some = { Prim.search rules };
 
@@ -105,7 +105,7 @@ impl<E: Chaining> Kernel for Chained<E> {
         ∙ E.falls e (next_chain E.key_of E.block_of E.chain_of e) };
 }
 
-impl<E: Chaining> SlotKernel for Chained<E> {
+impl<E: ChainedEntry> SlotKernel for Chained<E> {
     type Slots = ChainedSlots<E>;
 
     ghost slot = { slot_at };

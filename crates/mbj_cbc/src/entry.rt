@@ -9,7 +9,7 @@ ghost use Rattle.mbj_lane.specs.Rounds.{end_of};
 ghost use Rattle.mbj_cbc.specs.Rounds.{CbcState, key_of, rest_of, block_of, chain_of, led, kept, next_block_at, round, started};
 
 use mbj_aes::Schedule;
-use mbj_aes_lanes::{Chained, Chaining, bytes_of_key, bytes_of_schedule};
+use mbj_aes_lanes::{Chained, ChainedEntry, bytes_of_key, bytes_of_schedule};
 use mbj_blocks::block_from;
 use mbj_types::BLOCK_BYTES;
 use std::marker::Model;
@@ -124,7 +124,7 @@ impl<const N: usize> CbcEntry<N> {
     }
 }
 
-impl<const N: usize> Chaining for CbcEntry<N> {
+impl<const N: usize> ChainedEntry for CbcEntry<N> {
     ghost key_rounds = { N };
 
     ghost key_of = { key_of };
@@ -157,12 +157,12 @@ impl<const N: usize> Chaining for CbcEntry<N> {
     }
 
     #[inline(always)]
-    fn wants_zero(&self, _m: u32) -> bool {
+    fn needs_cmac_l(&self, _m: u32) -> bool {
         false
     }
 
     #[inline(always)]
-    fn take_zero(&mut self, _zero: &[u8; 16]) {}
+    fn set_cmac_l(&mut self, _l: &[u8; 16]) {}
 
     #[inline(always)]
     fn block(&self) -> [u8; 16] {

@@ -8,7 +8,7 @@ ghost use Rattle.mbj_ccm.specs.Rounds.{CcmState, key_of, rest_of, chain_of, bloc
 
 use crate::format::{data_block, data_rounds, filled_from, first_block};
 use mbj_aes::Schedule;
-use mbj_aes_lanes::{Chained, Chaining, bytes_of_schedule};
+use mbj_aes_lanes::{Chained, ChainedEntry, bytes_of_schedule};
 use mbj_types::{BLOCK_BYTES, MAX_CCM_AAD_BYTES, MAX_PACKET_BYTES};
 use std::marker::Model;
 
@@ -167,7 +167,7 @@ impl<const N: usize> CcmEntry<N> {
     }
 }
 
-impl<const N: usize> Chaining for CcmEntry<N> {
+impl<const N: usize> ChainedEntry for CcmEntry<N> {
     ghost key_rounds = { N };
 
     ghost key_of = { key_of };
@@ -200,12 +200,12 @@ impl<const N: usize> Chaining for CcmEntry<N> {
     }
 
     #[inline(always)]
-    fn wants_zero(&self, _m: u32) -> bool {
+    fn needs_cmac_l(&self, _m: u32) -> bool {
         false
     }
 
     #[inline(always)]
-    fn take_zero(&mut self, _zero: &[u8; 16]) {}
+    fn set_cmac_l(&mut self, _l: &[u8; 16]) {}
 
     #[inline(always)]
     fn block(&self) -> [u8; 16] {

@@ -12,7 +12,7 @@ ghost use Rattle.mbj_cmac.specs.Rounds.{CmacState, key_of, rest_of, block_of, ch
 
 use crate::closing::{closed_block, closed_by, doubled};
 use mbj_aes::Schedule;
-use mbj_aes_lanes::{Chained, Chaining, bytes_of_key, bytes_of_schedule, schedule_of_bytes};
+use mbj_aes_lanes::{Chained, ChainedEntry, bytes_of_key, bytes_of_schedule, schedule_of_bytes};
 use mbj_blocks::block_from;
 use mbj_types::BLOCK_BYTES;
 use std::marker::Model;
@@ -162,7 +162,7 @@ impl<const N: usize> CmacEntry<N> {
     }
 }
 
-impl<const N: usize> Chaining for CmacEntry<N> {
+impl<const N: usize> ChainedEntry for CmacEntry<N> {
     ghost key_rounds = { N };
 
     ghost key_of = { key_of };
@@ -195,16 +195,16 @@ impl<const N: usize> Chaining for CmacEntry<N> {
     }
 
     #[inline(always)]
-    fn wants_zero(&self, m: u32) -> bool {
+    fn needs_cmac_l(&self, m: u32) -> bool {
         !self.is_closed && self.rest <= m
     }
 
     #[inline(always)]
-    fn take_zero(&mut self, zero: &[u8; 16]) {
+    fn set_cmac_l(&mut self, l: &[u8; 16]) {
         if self.is_closed {
             return;
         }
-        let last = closed_by(&doubled(zero), self.last_part());
+        let last = closed_by(&doubled(l), self.last_part());
         self.last = last;
         self.is_closed = true;
     }

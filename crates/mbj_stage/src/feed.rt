@@ -8,7 +8,7 @@ ghost use Rattle.mbj_types.specs.declared.kind.Kind.{Kind};
 ghost use Rattle.mbj_types.specs.declared.kind.Kind.TheVariants as kind;
 ghost use Rattle.mbj_types.specs.declared.kind.TheConstants.{AES_LANES};
 ghost use Rattle.mbj_aes.specs.Bytes.{IsRoundCount};
-ghost use Rattle.mbj_aes_lanes.specs.Chaining.{chained_once};
+ghost use Rattle.mbj_aes_lanes.specs.ChainedEntry.{chained_once};
 ghost use Rattle.mbj_hmac.specs.Names.{serves_lanes_class};
 ghost use Rattle.mbj_lane.specs.Rounds.{end_of};
 ghost use Rattle.mbj_lane.specs.Slots.{IsBusy, IsWritten};
@@ -20,7 +20,7 @@ ghost use Rattle.mbj_stage.specs.Ends.{cbc_end, ccm_end, cmac_end, hmac_end};
 ghost use Rattle.mbj_stage.specs.Families.{cbc_lanes, ccm_lanes, cmac_lanes};
 
 use crate::course::Course;
-use mbj_aes_lanes::{Chained, Chaining};
+use mbj_aes_lanes::{Chained, ChainedEntry};
 use mbj_cbc::CbcEntry;
 use mbj_ccm::CcmEntry;
 use mbj_cmac::CmacEntry;
@@ -103,7 +103,7 @@ impl<K: Feed> Host<K> for Course {
 }
 
 /// Entries whose blocks are chained in the lanes of a kind.
-pub trait ChainedKind: Chaining {
+pub trait ChainedKind: ChainedEntry {
     /// The kind.
     ghost kind: { Kind };
 

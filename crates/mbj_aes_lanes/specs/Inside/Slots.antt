@@ -31,7 +31,7 @@ module _ {E : Type 0} where
   abbrev pub AreKeyed : (E → List ℕ) → (ℕ → Option E) → List (State (List ℕ)) → Type 0
   AreKeyed key es keys = (i : ℕ) → i < AES_LANES → IsKeyOf key (schedule_in (lane_at 8) (length keys - 1) keys i) (es i)
 
-  -- the zero block enciphered under an entry's key
-  abbrev pub IsZeroOf : (E → List ℕ) → List ℕ → Option E → Type 0
-  IsZeroOf key zero None = Unit {0}
-  IsZeroOf key zero (Some e) = zero ≡ encipher (key e) zero_block
+  -- L of CMAC under an entry's key: the zero block enciphered (SP 800-38B, 6.1)
+  abbrev pub IsCmacL : (E → List ℕ) → List ℕ → Option E → Type 0
+  IsCmacL key l None = Unit {0}
+  IsCmacL key l (Some e) = l ≡ encipher (key e) zero_block

@@ -39,7 +39,7 @@ busy-preserved g c = record {
 
 pub returns-clause-keys : goal.returns-clause-keys
 returns-clause-keys g c p h =
-    let e = g.E.Chaining in
+    let e = g.E.ChainedEntry in
     let n : ℕ = c.args.rounds in
     let inside : n < length c.busy.rows = grind (arith, c.requires.rounds, c.busy.invariant.size) in
     subst (λ w. IsKeyOf e.key_of w (g.S.Slot.in_lane c.args.slots.now (slice_index c.args.busy.now.lanes p)))

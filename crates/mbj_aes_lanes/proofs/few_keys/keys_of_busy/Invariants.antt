@@ -9,5 +9,5 @@ use Rattle.mbj_aes_lanes.proofs.few_keys.keys_of_busy.Given as goal
 abbrev pub invariant-busy : goal.invariant-busy
 invariant-busy g l = record {
   size : length l.rows ≡ MAX_ROUND_KEYS;
-  keys : (p : ℕ) → p < l.p → IsKeyOf g.E.Chaining.key_of (laid_schedule laid_key g.E.Chaining.key_rounds (column l.rows p)) (g.S.Slot.in_lane l.slots (slice_index l.busy.lanes p));
+  keys : (p : ℕ) → p < l.p → IsKeyOf g.E.ChainedEntry.key_of (laid_schedule laid_key g.E.ChainedEntry.key_rounds (column l.rows p)) (g.S.Slot.in_lane l.slots (slice_index l.busy.lanes p));
 }

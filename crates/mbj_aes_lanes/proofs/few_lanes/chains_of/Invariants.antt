@@ -7,5 +7,5 @@ use Rattle.mbj_aes_lanes.proofs.few_lanes.chains_of.Given as goal
 abbrev pub invariant-busy : goal.invariant-busy
 invariant-busy g l = record {
   size : length l.chains ≡ FEW_LANES;
-  each : (p : ℕ) → p < l.p → get_or l.chains p [] ≡ of_slot g.E.Chaining.chain_of (g.S.Slot.in_lane l.slots (slice_index l.busy.lanes p));
+  each : (p : ℕ) → p < l.p → get_or l.chains p [] ≡ of_slot g.E.ChainedEntry.chain_of (g.S.Slot.in_lane l.slots (slice_index l.busy.lanes p));
 }

@@ -7,4 +7,4 @@ use Rattle.mbj_aes_lanes.proofs.few_lanes.keep_busy.Given as goal
 abbrev pub invariant-busy : goal.invariant-busy
 invariant-busy g l =
     let at = g.S.Slot.in_lane in
-    AreGiven (λ p. option_map (λ e. g.E.Chaining.kept e (get_or l.chains p []))) (slice_index l.busy.lanes) l.busy.many l.p (at l.initial.slots) (at l.slots)
+    AreGiven (λ p. option_map (λ e. g.E.ChainedEntry.kept e (get_or l.chains p []))) (slice_index l.busy.lanes) l.busy.many l.p (at l.initial.slots) (at l.slots)

@@ -2,7 +2,7 @@
 use Rattle.std.proofs.Common.{◌≡◌, ℕ, ◌+◌, [], get_or, slice_index, refl, sym, subst, ap, ◌∙◌, arith}
 use Rattle.std.specs.Option.{option_map}
 use Rattle.mbj_lane.specs.Rounds.{after}
-use Rattle.mbj_aes_lanes.specs.Chaining.{chained_once}
+use Rattle.mbj_aes_lanes.specs.ChainedEntry.{chained_once}
 use Rattle.mbj_aes_lanes.specs.Inside.BusyKeys.{few_schedule}
 use Rattle.mbj_aes_lanes.proofs.Chains.{ChainLaws, IsLed, led-none, led-rest, led-more, led-kept}
 use Rattle.mbj_aes_lanes.proofs.BusySlots.{each_lane}
@@ -11,9 +11,9 @@ use Rattle.mbj_aes_lanes.proofs.few_lanes.lead_passes.Given as given
 use Rattle.mbj_aes_lanes.proofs.few_lanes.lead_passes.Goals as goal
 
 laws : (g : given.Over)
-    → ChainLaws g.E.Chaining.key_of g.E.Chaining.block_of g.E.Chaining.chain_of g.E.Chaining.rest_of g.E.Chaining.led g.E.Chaining.kept
+    → ChainLaws g.E.ChainedEntry.key_of g.E.ChainedEntry.block_of g.E.ChainedEntry.chain_of g.E.ChainedEntry.rest_of g.E.ChainedEntry.led g.E.ChainedEntry.kept
 laws g =
-    let met = g.met.E.Chaining in record {
+    let met = g.met.E.ChainedEntry in record {
       takes = met.takes;
       keeps_own = met.keeps_own;
       keeps_last = met.keeps_last;
@@ -27,7 +27,7 @@ laws g =
 
 pub passes-init : goal.passes-init
 passes-init g c =
-    let e = g.E.Chaining in record {
+    let e = g.E.ChainedEntry in record {
       led = λ p h.
           led-none e.key_of e.block_of e.chain_of e.rest_of e.led e.kept (laws g) (get_or c.chains_of-chains.result p [])
           (g.S.Slot.in_lane c.args.slots.now (slice_index c.args.busy.now.lanes p)) (c.chains_of-chains.ensures p h);
@@ -36,7 +36,7 @@ passes-init g c =
 
 pub pass_busy-requires-clause-rests : goal.pass_busy-requires-clause-rests
 pass_busy-requires-clause-rests g c p h =
-    let e = g.E.Chaining in
+    let e = g.E.ChainedEntry in
     let lane : ℕ = slice_index c.args.busy.now.lanes p in
     let o = g.S.Slot.in_lane c.args.slots.now lane in
     let now = g.S.Slot.in_lane c.passes.slots lane in
@@ -46,7 +46,7 @@ pass_busy-requires-clause-rests g c p h =
 
 pub passes-preserved : goal.passes-preserved
 passes-preserved g c =
-    let e = g.E.Chaining in
+    let e = g.E.ChainedEntry in
     let given = c.pass_busy.ensures.led in record {
       led = λ p h.
           let lane : ℕ = slice_index c.args.busy.now.lanes p in
@@ -61,7 +61,7 @@ passes-preserved g c =
 
 pub returns : goal.returns
 returns g c =
-    let e = g.E.Chaining in
+    let e = g.E.ChainedEntry in
     let at = g.S.Slot.in_lane in
     let once = chained_once e.key_of e.block_of e.chain_of e.led e.kept in
     let lane = slice_index c.args.busy.now.lanes in

@@ -6,7 +6,7 @@ use Rattle.mbj_aes_lanes.proofs.few_lanes.lead_passes.Given as goal
 
 abbrev pub invariant-passes : goal.invariant-passes
 invariant-passes g l =
-    let e = g.E.Chaining in
+    let e = g.E.ChainedEntry in
     let at = g.S.Slot.in_lane in
     let lane = slice_index l.busy.lanes in record {
       led : (p : ℕ) → p < l.busy.many → IsLed e.key_of e.block_of e.chain_of e.led e.kept l.done (get_or l.chains p [])

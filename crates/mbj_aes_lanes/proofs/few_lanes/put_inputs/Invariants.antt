@@ -9,6 +9,6 @@ abbrev pub invariant-busy : goal.invariant-busy
 invariant-busy g l = record {
   size : length l.chains ≡ FEW_LANES;
   put : (p : ℕ) → p < l.p → get_or l.chains p []
-      ≡ xor_lists (of_slot g.E.Chaining.block_of (g.S.Slot.in_lane l.slots (slice_index l.busy.lanes p))) (get_or l.initial.chains p []);
+      ≡ xor_lists (of_slot g.E.ChainedEntry.block_of (g.S.Slot.in_lane l.slots (slice_index l.busy.lanes p))) (get_or l.initial.chains p []);
   left : (p : ℕ) → l.p ≤ p → get_or l.chains p [] ≡ get_or l.initial.chains p [];
 }

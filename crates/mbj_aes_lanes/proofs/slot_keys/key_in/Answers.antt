@@ -17,4 +17,4 @@ zeros n count =
     ]
 
 pub returns-in-None-clause-array : goal.returns-in-None-clause-array
-returns-in-None-clause-array g c = zeros g.E.Chaining.key_rounds c.requires.rounds
+returns-in-None-clause-array g c = zeros g.E.ChainedEntry.key_rounds c.requires.rounds

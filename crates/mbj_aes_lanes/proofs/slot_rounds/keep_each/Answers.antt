@@ -8,17 +8,17 @@ use Rattle.mbj_aes_lanes.proofs.slot_rounds.keep_each.Goals as goal
 
 pub lanes-init : goal.lanes-init
 lanes-init g c =
-    given-none (λ i. option_map (λ x. g.E.Chaining.kept x (get_or c.args.chains.now i []))) in_own_lane AES_LANES own_lanes (g.S.Slot.in_lane c.args.slots.now)
+    given-none (λ i. option_map (λ x. g.E.ChainedEntry.kept x (get_or c.args.chains.now i []))) in_own_lane AES_LANES own_lanes (g.S.Slot.in_lane c.args.slots.now)
 
 pub lanes-preserved : goal.lanes-preserved
 lanes-preserved g c =
     let at = g.S.Slot.in_lane in
-    given-more (λ i. option_map (λ x. g.E.Chaining.kept x (get_or c.args.chains.now i []))) in_own_lane AES_LANES own_lanes c.lanes.i
+    given-more (λ i. option_map (λ x. g.E.ChainedEntry.kept x (get_or c.args.chains.now i []))) in_own_lane AES_LANES own_lanes c.lanes.i
     (at c.args.slots.now) (at c.lanes.slots) (at c.keep.new.slots) (omega arith) refl c.keep.ensures c.lanes.invariant
 
 pub returns : goal.returns
 returns g c =
-    let e = g.E.Chaining in
+    let e = g.E.ChainedEntry in
     let at = g.S.Slot.in_lane in
     let all : c.lanes.i ≡ AES_LANES = omega arith in
     subst (λ k. AreGiven (λ i. option_map (λ x. e.kept x (get_or c.args.chains.now i []))) in_own_lane AES_LANES k (at c.args.slots.now) (at c.lanes.slots))

@@ -5,7 +5,7 @@ use Rattle.mbj_types.specs.Aes.{encipher}
 use Rattle.mbj_types.specs.Blocks.{xor_lists}
 use Rattle.mbj_types.specs.Lanes.{lane_at}
 use Rattle.mbj_lane.specs.Rounds.{after}
-use Rattle.mbj_aes_lanes.specs.Chaining.{chained_once}
+use Rattle.mbj_aes_lanes.specs.ChainedEntry.{chained_once}
 use Rattle.mbj_aes_lanes.specs.Inside.Slots.{of_slot}
 use Rattle.mbj_aes_lanes.specs.Inside.Wide.{state_lane}
 use Rattle.mbj_aes_lanes.specs.Inside.WideKeys.{schedule_in}
@@ -15,9 +15,9 @@ use Rattle.mbj_aes_lanes.proofs.slot_rounds.lead_by.Given as given
 use Rattle.mbj_aes_lanes.proofs.slot_rounds.lead_by.Goals as goal
 
 laws : (g : given.Over)
-    → ChainLaws g.E.Chaining.key_of g.E.Chaining.block_of g.E.Chaining.chain_of g.E.Chaining.rest_of g.E.Chaining.led g.E.Chaining.kept
+    → ChainLaws g.E.ChainedEntry.key_of g.E.ChainedEntry.block_of g.E.ChainedEntry.chain_of g.E.ChainedEntry.rest_of g.E.ChainedEntry.led g.E.ChainedEntry.kept
 laws g =
-    let met = g.met.E.Chaining in record {
+    let met = g.met.E.ChainedEntry in record {
       takes = met.takes;
       keeps_own = met.keeps_own;
       keeps_last = met.keeps_last;
@@ -31,13 +31,13 @@ laws g =
 
 pub passes-init : goal.passes-init
 passes-init g c i h =
-    let e = g.E.Chaining in
+    let e = g.E.ChainedEntry in
     led-none e.key_of e.block_of e.chain_of e.rest_of e.led e.kept (laws g) (state_lane (lane_at 8) c.load_state.result i)
     (g.S.Slot.in_lane c.args.slots.now i) (c.load_state.ensures i h)
 
 pub invariant_of-load_state-in-passes-clause-rests : goal.invariant_of-load_state-in-passes-clause-rests
 invariant_of-load_state-in-passes-clause-rests g c i x h is =
-    let e = g.E.Chaining in
+    let e = g.E.ChainedEntry in
     let o = g.S.Slot.in_lane c.args.slots.now i in
     let now = g.S.Slot.in_lane c.passes.slots i in
     rounds-of e.rest_of 1 now x
@@ -47,7 +47,7 @@ invariant_of-load_state-in-passes-clause-rests g c i x h is =
 
 pub passes-preserved : goal.passes-preserved
 passes-preserved g c i h =
-    let e = g.E.Chaining in
+    let e = g.E.ChainedEntry in
     let lane = state_lane (lane_at 8) in
     let o = g.S.Slot.in_lane c.args.slots.now i in
     let now = g.S.Slot.in_lane c.passes.slots i in
@@ -63,7 +63,7 @@ passes-preserved g c i h =
 
 pub returns : goal.returns
 returns g c i h =
-    let e = g.E.Chaining in
+    let e = g.E.ChainedEntry in
     let once = chained_once e.key_of e.block_of e.chain_of e.led e.kept in
     let o = g.S.Slot.in_lane c.args.slots.now i in
     let now = g.S.Slot.in_lane c.passes.slots i in

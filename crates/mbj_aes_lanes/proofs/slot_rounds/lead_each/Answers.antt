@@ -10,17 +10,17 @@ use Rattle.mbj_aes_lanes.proofs.slot_rounds.lead_each.Goals as goal
 
 pub lanes-init : goal.lanes-init
 lanes-init g c =
-    given-none (λ i. option_map (λ x. g.E.Chaining.led x (get_or c.args.chains.now i []))) in_own_lane AES_LANES own_lanes (g.S.Slot.in_lane c.args.slots.now)
+    given-none (λ i. option_map (λ x. g.E.ChainedEntry.led x (get_or c.args.chains.now i []))) in_own_lane AES_LANES own_lanes (g.S.Slot.in_lane c.args.slots.now)
 
 pub lanes-preserved : goal.lanes-preserved
 lanes-preserved g c =
     let at = g.S.Slot.in_lane in
-    given-more (λ i. option_map (λ x. g.E.Chaining.led x (get_or c.args.chains.now i []))) in_own_lane AES_LANES own_lanes c.lanes.i
+    given-more (λ i. option_map (λ x. g.E.ChainedEntry.led x (get_or c.args.chains.now i []))) in_own_lane AES_LANES own_lanes c.lanes.i
     (at c.args.slots.now) (at c.lanes.slots) (at c.lead.new.slots) (omega arith) refl c.lead.ensures c.lanes.invariant
 
 pub returns : goal.returns
 returns g c =
-    let e = g.E.Chaining in
+    let e = g.E.ChainedEntry in
     let at = g.S.Slot.in_lane in
     let all : c.lanes.i ≡ AES_LANES = omega arith in
     subst (λ k. AreGiven (λ i. option_map (λ x. e.led x (get_or c.args.chains.now i []))) in_own_lane AES_LANES k (at c.args.slots.now) (at c.lanes.slots))
@@ -28,7 +28,7 @@ returns g c =
 
 pub lead-requires-clause-rest : goal.lead-requires-clause-rest
 lead-requires-clause-rest g c =
-    let e = g.E.Chaining in
+    let e = g.E.ChainedEntry in
     let at = g.S.Slot.in_lane in
     let i : ℕ = c.lanes.i in
     subst (HasRounds e.rest_of 1) (sym (c.lanes.invariant.left i (omega arith) (omega arith)))

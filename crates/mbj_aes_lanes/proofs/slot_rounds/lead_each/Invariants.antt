@@ -8,4 +8,4 @@ use Rattle.mbj_aes_lanes.proofs.slot_rounds.lead_each.Given as goal
 abbrev pub invariant-lanes : goal.invariant-lanes
 invariant-lanes g l =
     let at = g.S.Slot.in_lane in
-    AreGiven (λ i. option_map (λ e. g.E.Chaining.led e (get_or l.chains i []))) in_own_lane AES_LANES l.i (at l.initial.slots) (at l.slots)
+    AreGiven (λ i. option_map (λ e. g.E.ChainedEntry.led e (get_or l.chains i []))) in_own_lane AES_LANES l.i (at l.initial.slots) (at l.slots)

@@ -2,7 +2,7 @@
 use Rattle.std.proofs.Common.{◌≡◌, ℕ, ◌+◌, ◌-◌, [], length, get_or, ap, ◌∙◌, arith}
 use Rattle.mbj_types.specs.Rounds.{data_rounds, ccm_rounds}
 use Rattle.mbj_ccm.specs.Rounds.{CcmState, blocks_of}
-use Rattle.mbj_ccm.proofs.entry.CcmEntryChaining.block.Goals as goal
+use Rattle.mbj_ccm.proofs.entry.CcmEntryChainedEntry.block.Goals as goal
 
 pub returns-then-left-of_text : goal.returns-then-left-of_text
 returns-then-left-of_text g c =

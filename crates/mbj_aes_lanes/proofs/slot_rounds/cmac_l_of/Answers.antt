@@ -6,7 +6,7 @@ use Rattle.mbj_types.specs.Blocks.{zero_block}
 use Rattle.mbj_types.specs.Lanes.{lane_at}
 use Rattle.mbj_types.specs.declared.kind.TheConstants.{AES_LANES}
 use Rattle.mbj_aes_lanes.specs.Inside.WideKeys.{schedule_in}
-use Rattle.mbj_aes_lanes.proofs.slot_rounds.zeros_of.Goals as goal
+use Rattle.mbj_aes_lanes.proofs.slot_rounds.cmac_l_of.Goals as goal
 
 pub returns : goal.returns
 returns c i h =

@@ -2,16 +2,16 @@
 use Rattle.std.proofs.Common.{ℕ, [], ◌-◌, length, get_or, sym, subst, arith}
 use Rattle.mbj_types.specs.Lanes.{lane_at}
 use Rattle.mbj_aes_lanes.specs.Inside.WideKeys.{schedule_in}
-use Rattle.mbj_aes_lanes.specs.Inside.Slots.{IsZeroOf}
+use Rattle.mbj_aes_lanes.specs.Inside.Slots.{IsCmacL}
 use Rattle.mbj_aes_lanes.proofs.SlotFacts.{zero-of}
-use Rattle.mbj_aes_lanes.proofs.slot_rounds.give_zeros.Goals as goal
+use Rattle.mbj_aes_lanes.proofs.slot_rounds.give_cmac_l.Goals as goal
 
-pub take_zero-requires-clause-zero : goal.take_zero-requires-clause-zero
-take_zero-requires-clause-zero g c =
-    let e = g.E.Chaining in
+pub set_cmac_l-requires-clause-zero : goal.set_cmac_l-requires-clause-zero
+set_cmac_l-requires-clause-zero g c =
+    let e = g.E.ChainedEntry in
     let at = g.S.Slot.in_lane in
     let i : ℕ = c.lanes.i in
-    let zero = get_or c.zeros_of-zeros.result i [] in
-    subst (λ es. IsZeroOf e.key_of zero (at es i)) (sym c.lanes.invariant)
+    let zero = get_or c.cmac_l_of-zeros.result i [] in
+    subst (λ es. IsCmacL e.key_of zero (at es i)) (sym c.lanes.invariant)
     (zero-of e.key_of (schedule_in (lane_at 8) (length c.args.keys.now - 1) c.args.keys.now i) zero (at c.args.slots.now i)
-    (c.requires.keys i (omega arith)) (c.zeros_of-zeros.ensures i (omega arith)))
+    (c.requires.keys i (omega arith)) (c.cmac_l_of-zeros.ensures i (omega arith)))

@@ -7,8 +7,8 @@ ghost use Rattle.mbj_aes_lanes.specs.KeyBytes.{IsKeyArray, key_of_array};
 /// Blocks that are chained under a key (SP 800-38A, 6.2): the next block is xored with the chaining value and
 /// enciphered, which gives the next chaining value. The keys of all entries of a type have as many rounds.
 ///
-/// In a run the chaining values stay in the lanes. An entry is led by each, and keeps the last one.
-pub trait Chaining: Drop {
+/// In a run the chaining values stand beside the entries. An entry is led by each, and keeps the last one.
+pub trait ChainedEntry: Drop {
     /// The rounds of the key.
     ghost key_rounds: { ℕ };
 
@@ -44,12 +44,12 @@ pub trait Chaining: Drop {
     fn rest(&self) -> u32
         ensures { result ≡ rest_of self.now };
 
-    /// Whether the zero block enciphered under the key is needed before the next `m` blocks.
-    fn wants_zero(&self, m: u32) -> bool;
+    /// Whether the entry needs L of CMAC before its next `m` blocks: the zero block enciphered under the key (SP 800-38B, 6.1).
+    fn needs_cmac_l(&self, m: u32) -> bool;
 
-    /// Takes the zero block enciphered under the key. What contracts see of the entry stays.
-    fn take_zero(&mut self, zero: &[u8; 16])
-        requires { zero.now ≡ encipher (key_of self.old) zero_block }
+    /// The entry takes L of CMAC. What contracts see of it stays.
+    fn set_cmac_l(&mut self, l: &[u8; 16])
+        requires { l.now ≡ encipher (key_of self.old) zero_block }
         ensures { self.new ≡ self.old };
 
     /// The next block.

@@ -7,7 +7,7 @@ use Rattle.mbj_aes_lanes.specs.KeyBytes.{key_of_array}
 use Rattle.mbj_blocks.proofs.Ranges.{length-range}
 use Rattle.mbj_cmac.specs.Rounds.{CmacState}
 use Rattle.mbj_cmac.proofs.Ends.{block-last, block-more, range-block}
-use Rattle.mbj_cmac.proofs.entry.CmacEntryChaining.block.Goals as goal
+use Rattle.mbj_cmac.proofs.entry.CmacEntryChainedEntry.block.Goals as goal
 
 pub returns-then-self-eq1 : goal.returns-then-self-eq1
 returns-then-self-eq1 g c =

@@ -5,7 +5,7 @@ use Rattle.mbj_types.specs.Cmac.{closed_block, doubled}
 use Rattle.mbj_cmac.specs.Inside.Closing.{closed_by}
 use Rattle.mbj_cmac.specs.Inside.Sound.{last_part}
 use Rattle.mbj_cmac.specs.Rounds.{CmacState}
-use Rattle.mbj_cmac.proofs.entry.CmacEntryChaining.take_zero.Goals as goal
+use Rattle.mbj_cmac.proofs.entry.CmacEntryChainedEntry.set_cmac_l.Goals as goal
 
 pub invariant_of-self : goal.invariant_of-self
 invariant_of-self g c = (
