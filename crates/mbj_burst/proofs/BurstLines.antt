@@ -1,7 +1,7 @@
 -- The lines of a burst, put together from those of its parts.
-use Rattle.std.proofs.Common.{◌≡◌, ◌∙◌, ◌+◌, ◌-◌, ◌<◌, ◌≤◌, ◌++◌, ◌==◌, [], ◌∷◌, ℕ, zero, suc, List, Bool, true, false, if◌then◌else◌, length, drop, take, min, set, replicate, inl, inr, refl, ap, ap₂, sym, append_assoc, append-nil, arith}
+use Rattle.std.proofs.Common.{◌≡◌, ◌∙◌, ◌+◌, ◌-◌, ◌<◌, ◌≤◌, ◌++◌, ◌==◌, [], ◌∷◌, ℕ, zero, suc, List, Bool, false, if◌then◌else◌, length, drop, take, min, set, replicate, inl, inr, refl, ap, ap₂, sym, append_assoc, arith}
 use Rattle.std.proofs.lemmas.List.{drop-take, drop_all, drop_min, length-take, take-append-drop, take-take, take_all, take_min}
-use Rattle.std.proofs.lemmas.Bool.{cases_lt, eq-eqb, ne_eqb}
+use Rattle.std.proofs.lemmas.Bool.{cases_lt, ne_eqb}
 use Rattle.mbj_types.specs.declared.job.Job.{Job}
 use Rattle.mbj_ring.specs.declared.ring.TheConstants.{CELLS}
 use Rattle.mbj_manager.specs.Calls as calls
@@ -30,14 +30,6 @@ told-first first next lines new all b end is_new is_b whole last = (
   ap (λ (s : Bursting). (next s).1) is_b ∙ last,
 )
 
--- once no part is left, all is told
-pub none-left : (left : ℕ) (next : ℕ → Bursting → Told BurstLine Bursting) (lines : List BurstLine) (b : Bursting) (all : List BurstLine) (end : Bursting)
-    (i : IsLeft left next lines b all end) → next i.steps b ≡ ([], b) → (lines ≡ all) × (b ≡ end)
-none-left left next lines b all end i none = (
-  sym (append-nil lines) ∙ ap (λ (t : Told BurstLine Bursting). lines ++ t.0) (sym none) ∙ i.told,
-  ap (λ (t : Told BurstLine Bursting). t.1) (sym none) ∙ i.state,
-)
-
 -- ---- a group
 
 pub group-more : (size bursts : ℕ) (js : List Job) (b : Bursting) → 0 < length js
@@ -45,11 +37,6 @@ pub group-more : (size bursts : ℕ) (js : List Job) (b : Bursting) → 0 < leng
     ≡ then_told (room_told size b) (λ b. then_told (submit_told (take (cells_left b) js) b) (group_told size bursts (drop (cells_left b) js)))
 group-more size bursts [] b some = absurd (omega (arith, some))
 group-more size bursts (j ∷ js) b some = refl
-
-pub group-end : (size bursts : ℕ) (js : List Job) (b : Bursting) → length js ≡ 0 → group_told size bursts js b ≡ ([], b)
-group-end size zero js b none = refl
-group-end size (suc bursts) [] b none = refl
-group-end size (suc bursts) (j ∷ js) b none = absurd (omega (arith, none))
 
 -- the jobs for which cells are left are the first of the group
 pub group-first : (js : List Job) (rest cells n : ℕ) → n ≡ min rest cells → take cells (take rest js) ≡ take n js
@@ -107,11 +94,6 @@ pub groups-more : (size groups : ℕ) (js : List Job) (b : Bursting) → 0 < len
 groups-more size groups [] b some = absurd (omega (arith, some))
 groups-more size groups (j ∷ js) b some = refl
 
-pub groups-end : (size groups : ℕ) (js : List Job) (b : Bursting) → length js ≡ 0 → groups_told size groups js b ≡ ([], b)
-groups-end size zero js b none = refl
-groups-end size (suc groups) [] b none = refl
-groups-end size (suc groups) (j ∷ js) b none = absurd (omega (arith, none))
-
 -- a group
 pub groups-step : (size n now steps : ℕ) (js left : List Job) (lines new all : List BurstLine) (b b1 end : Bursting)
     → 0 < length js → length js ≤ steps → 0 < n → n ≡ min (length js) size → now + n ≡ length js → left ≡ drop n js
@@ -146,18 +128,6 @@ flushed-some left (suc steps) lines new all b b1 end below more is_new is_b1 who
     let rests = told-first one (flushes_told steps) lines new all b1 end is_new is_b1
     (ap (λ (t : Told BurstLine Bursting). lines ++ t.0) (sym told) ∙ whole) (ap (λ (t : Told BurstLine Bursting). t.1) (sym told) ∙ last) in
     record { steps = steps; enough = omega (arith, below); told = rests.0; state = rests.1 }
-
--- a flush that gave nothing back is the last
-pub flushed-none : (steps : ℕ) (lines new all : List BurstLine) (b b1 : Bursting) → length b1.results ≡ length b.results
-    → new ≡ lines ++ (calls_told line.Flush (replicate CELLS calls.flush) b).0 → b1 ≡ (calls_told line.Flush (replicate CELLS calls.flush) b).1
-    → lines ++ (flushes_told steps b).0 ≡ all → new ≡ all
-flushed-none zero lines new all b b1 none is_new is_b1 whole = is_new ∙ whole
-flushed-none (suc steps) lines new all b b1 none is_new is_b1 whole =
-    let one : Told BurstLine Bursting = calls_told line.Flush (replicate CELLS calls.flush) b in
-    let same : (length one.1.results == length b.results) ≡ true
-    = eq-eqb (length one.1.results) (length b.results) (sym (ap (λ (s : Bursting). length s.results) is_b1) ∙ none) in
-    let told : flushes_told (suc steps) b ≡ one = ap (λ (t : Bool). if t then one else then_told one (flushes_told steps)) same in
-    is_new ∙ ap (λ (t : Told BurstLine Bursting). lines ++ t.0) (sym told) ∙ whole
 
 -- ---- the whole
 

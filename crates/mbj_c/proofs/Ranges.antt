@@ -3,7 +3,7 @@ use Rattle.std.proofs.Common.{set, slice_get, ◌≡◌, ◌≢◌, ◌≤◌, �
 use Rattle.std.specs.Prelude.{false, nat_le, option_map, option_to_list, true}
 use Rattle.std.specs.Option.{option_map_or}
 use Rattle.std.proofs.lemmas.Bool.{and_from, and_parts, le-leb, leb-true}
-use Rattle.std.proofs.lemmas.List.{append-nil, drop-map, length-map, map-append, take-map}
+use Rattle.std.proofs.lemmas.List.{append-nil, drop-map, map-append, take-map}
 use Rattle.mbj_types.specs.declared.job.Job.{Job}
 use Rattle.mbj_types.specs.declared.job.Cipher.{Cipher}
 use Rattle.mbj_types.specs.declared.job.Cipher.TheVariants as cipher
@@ -11,7 +11,6 @@ use Rattle.mbj_types.specs.declared.done.Done.{Done}
 use Rattle.mbj_types.specs.declared.done.Status.{Status}
 use Rattle.mbj_types.specs.declared.done.Status.TheVariants as status
 use Rattle.mbj_types.specs.declared.reason.Reason.{Reason}
-use Rattle.mbj_types.specs.declared.limits.TheConstants.{MAX_TAG_BYTES}
 use Rattle.mbj_types.specs.Result.{accepted, refused, result_of}
 use Rattle.mbj_types.specs.Verdict.{verdict, is_null_cipher}
 use Rattle.mbj_args.proofs.Accepted as table
@@ -25,12 +24,10 @@ use Rattle.mbj_manager.proofs.CallLaws.{given-opened, given-order, submitted-ope
 use Rattle.mbj_manager.specs.Machine.Course.{flushed}
 use Rattle.mbj_c.specs.declared.giving.Call.{Call}
 use Rattle.mbj_c.specs.declared.giving.Call.TheVariants as call
-use Rattle.mbj_c.specs.declared.giving.RawDone.{RawDone}
 use Rattle.mbj_c.specs.declared.range.CipherRange.{CipherRange}
 use Rattle.mbj_c.specs.Filling.{put_at, with_cell, with_job_at}
-use Rattle.mbj_c.specs.Giving.{filled_after, found_by, given_first, gone, has_room_for, job_entered, made_by, manager_step, owed_in, ranges_entered, step}
+use Rattle.mbj_c.specs.Giving.{filled_after, found_by, given_first, gone, job_entered, made_by, manager_step, owed_in, ranges_entered, step}
 use Rattle.mbj_c.specs.Inside.Ranges.{AreOfJobs}
-use Rattle.mbj_c.specs.Inside.Room.{Fits}
 use Rattle.mbj_c.specs.Ranges.{given_range, range_by, range_owed, ranges_owed, written_range}
 use Rattle.mbj_c.specs.State.{RangedState, ranged}
 
@@ -111,19 +108,6 @@ given-within j = subst (λ n. (given_range j).off + (given_range j).len ≤ n) (
 abbrev pub head_or : Done → List Done → Done
 head_or d [] = d
 head_or d (e ∷ es) = e
-
--- it fits with its range, where there is room for that and any tag
-pub result-fits : (d : Done) (after : List Done) (jobs : List Job) (out : RawDone) → d ∷ after ≡ map result_of jobs
-    → has_room_for (slice_get (map given_range jobs) 0) out ≡ true → Fits d (map given_range jobs) out
-result-fits d after [] out order room = absurd (cc)
-result-fits d after (j ∷ jobs) out order room =
-    let r : CipherRange = given_range j in
-    let parts = and_parts (nat_le r.len (length out.dst.now)) (nat_le MAX_TAG_BYTES (length out.tag.now)) room in
-    record {
-      range = subst (λ (e : Done). r.off + r.len ≤ length e.packet) (sym (ap (head_or d) order)) (given-within j);
-      dst = leb-true r.len (length out.dst.now) parts.0;
-      tag = leb-true MAX_TAG_BYTES (length out.tag.now) parts.1;
-    }
 
 -- ---- the ranges by results and jobs
 
@@ -295,22 +279,6 @@ first-told m d after are order is =
     (ap (λ (rs : List CipherRange). slice_get rs 0) (sym (ranges-are m are)) ∙ first-of m ∙ ap (option_map as_range) is)
 
 module _ {A : Type 0} where
-  pub first-some : (xs ys : List A) (x : A) → slice_get xs 0 ≡ Some x → slice_get (xs ++ ys) 0 ≡ Some x
-  first-some [] ys x is = cc
-  first-some (z ∷ xs) ys x is = is
-
-  pub first-none : (xs ys : List A) → slice_get xs 0 ≡ None → slice_get (xs ++ ys) 0 ≡ slice_get ys 0
-  first-none [] ys is = refl
-  first-none (z ∷ xs) ys is = cc
-
-  pub first-taken : (xs : List A) → slice_get (take 1 xs) 0 ≡ slice_get xs 0
-  first-taken [] = refl
-  first-taken (z ∷ xs) = refl
-
-  pub first-mapped : {B : Type 0} (f : A → B) (xs : List A) (x : A) → slice_get xs 0 ≡ Some x → slice_get (map f xs) 0 ≡ Some (f x)
-  first-mapped f [] x is = cc
-  first-mapped f (z ∷ xs) x is = let same : z ≡ x = cc in ap (λ (y : A). Some (f y)) same
-
   pub first-same : (xs : List A) (x : A) → slice_get xs 0 ≡ Some x → set xs 0 x ≡ xs
   first-same [] x is = refl
   first-same (z ∷ xs) x is = let same : z ≡ x = cc in ap (λ (y : A). y ∷ xs) (sym same)

@@ -1,5 +1,5 @@
 -- Places of seats, one after another.
-use Rattle.std.proofs.Common.{◌≡◌, ◌<◌, ◌+◌, ◌++◌, ℕ, zero, suc, Bool, true, false, List, [], ◌∷◌, Option, None, Some, length, take, drop, map, set, slice_get, slice_index_or, refl, sym, ap, subst, ◌∙◌, arith}
+use Rattle.std.proofs.Common.{◌≡◌, ◌<◌, ◌+◌, ◌++◌, ℕ, zero, suc, true, false, List, [], ◌∷◌, Option, None, Some, length, take, drop, map, set, slice_get, slice_index_or, refl, sym, ap, ◌∙◌, arith}
 use Rattle.std.specs.Prelude.{is_some}
 use Rattle.mbj_c.specs.declared.seat_handle.SeatHandle.{SeatHandle}
 use Rattle.mbj_c.specs.Seats.{SeatState, has_seat, new_seat, new_seats}
@@ -16,10 +16,6 @@ pub seat-at : (ps : List SeatHandle) (i : ℕ) (d : SeatHandle) → i < length p
 seat-at [] i d h = absurd (omega (arith, h))
 seat-at (p ∷ ps) zero d h = refl
 seat-at (p ∷ ps) (suc i) d h = seat-at ps i d (omega (arith, h))
-
-none-is : (o : Option SeatState) → is_some o ≡ false → o ≡ None
-none-is None e = refl
-none-is (Some s) e = absurd (grind (arith, e))
 
 -- none of the places so far, and not this one
 pub has-none : (ss : List (Option SeatState)) (i : ℕ) (o : Option SeatState) → has_seat (take i ss) ≡ false → slice_get ss i ≡ Some o

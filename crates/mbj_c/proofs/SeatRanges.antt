@@ -1,5 +1,5 @@
 -- The ranges that are kept of the jobs that are out.
-use Rattle.std.proofs.Common.{◌≡◌, ◌≤◌, ◌+◌, ◌++◌, ℕ, zero, suc, List, [], ◌∷◌, Option, None, Some, length, drop, map, set, slice_get, unwrap_or, refl, sym, ap, ap₂, subst, ◌∙◌, arith}
+use Rattle.std.proofs.Common.{◌≡◌, ◌≤◌, ◌+◌, ◌++◌, ℕ, zero, suc, List, [], ◌∷◌, None, Some, length, drop, map, set, slice_get, unwrap_or, refl, sym, ap, subst, ◌∙◌, arith}
 use Rattle.std.proofs.lemmas.List.{drop-append-le, drop-drop, drop-map, map-append}
 use Rattle.mbj_types.specs.declared.job.Job.{Job}
 use Rattle.mbj_types.specs.declared.done.Done.{Done}
@@ -58,16 +58,3 @@ pub out-fits : (due : List Done) (handed : ℕ) (ranges : List CipherRange) (d :
     → slice_get due handed ≡ Some d → slice_get ranges 0 ≡ Some r → r.off + r.len ≤ length d.packet
 out-fits due handed ranges d r o done range =
     fits-of o.jobs (drop handed due) ranges d r o.results o.given (first_behind handed due ∙ done) range
-
-none-of : (jobs : List Job) (due : List Done) (ranges : List CipherRange) (d : Done) → due ≡ map result_of jobs
-    → ranges ≡ map given_range jobs → slice_get due 0 ≡ Some d → None ≡ slice_get ranges 0 → ⊥
-none-of [] due ranges d results given done none =
-    let e : Some d ≡ None = sym done ∙ ap (λ ds. slice_get ds 0) results in grind (arith, e)
-none-of (j ∷ jobs) due ranges d results given done none =
-    let e : None ≡ Some (given_range j) = none ∙ ap (λ rs. slice_get rs 0) given in grind (arith, e)
-
--- a result that is due has a range
-pub out-some : (due : List Done) (handed : ℕ) (ranges : List CipherRange) (d : Done) → AreOut (drop handed due) ranges
-    → slice_get due handed ≡ Some d → None ≡ slice_get ranges 0 → ⊥
-out-some due handed ranges d o done none =
-    none-of o.jobs (drop handed due) ranges d o.results o.given (first_behind handed due ∙ done) none

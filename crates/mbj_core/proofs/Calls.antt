@@ -16,7 +16,7 @@ use Rattle.mbj_core.specs.declared.cells.TheConstants.{SUBMITTER_CELLS}
 use Rattle.mbj_core.specs.declared.machine.JobsOut.{JobsOut}
 use Rattle.mbj_core.specs.Cells.{Cell, free, ready, done, hand_of, word_of, result_in, cell_of}
 use Rattle.mbj_core.specs.Parties.{view, front, FrontState, new_party, with_due, with_handed, with_hand}
-use Rattle.mbj_core.specs.Events.{post, claim, finish, collect, carried_out, returned, claimed, collected, nothing, Leaves, Step}
+use Rattle.mbj_core.specs.Events.{post, claim, finish, collect, carried_out, claimed, collected, nothing, Leaves, Step}
 use Rattle.mbj_core.specs.CoreStates.{CoreState, cell_in, hand_in, jobs_out, out_of, first_cell, next_cell, posted, claimed_by, finished, with_result_collected}
 use Rattle.mbj_core.specs.Stands.{StandsFor, Leads, IsBacked}
 use Rattle.mbj_core.proofs.Puts.{put, at_put, put_here, put_else}
@@ -181,9 +181,6 @@ module _ (c : CoreState) (size : Sizes c) (f : FrontState Job Done) (sf : Stands
 module _ (c : CoreState) (size : Sizes c) (backed : IsBacked c) where
   pub posts_lead : (s : ℕ) (j : Job) → s < c.submitters → out_of c s < SUBMITTER_CELLS → Leads c (post s j) carried_out (posted c s j)
   posts_lead s j l below f sf = post_leads c size f sf s j (facts_of c f sf backed) l below
-
-  pub refused_posts_lead : (s : ℕ) (j : Job) → s < c.submitters → out_of c s ≡ SUBMITTER_CELLS → Leads c (post s j) (returned j) c
-  refused_posts_lead s j l full f sf = let out = sf.each_out s l in (f, (l, omega arith, refl, refl), sf)
 
   pub claims_lead : (p i : ℕ) (j : Job) → p < c.submitters + c.workers → i < SUBMITTER_CELLS * c.submitters → cell_in c i ≡ Some (ready j) → Leads c (claim p i) (claimed j) (claimed_by c p i j)
   claims_lead p i j lp li is f sf = claim_leads c size f sf p i j lp li is

@@ -3,14 +3,9 @@ use Rattle.std.proofs.Common.{◌≡◌, ℕ, zero, suc, ◌+◌, Bool, true, fa
 use Rattle.mbj_types.specs.Field.{add, scale, zeros, times_x, times_power, multiple}
 use Rattle.mbj_ghash.proofs.Sums.{add_swap, scale_true}
 use Rattle.mbj_ghash.proofs.Multiples.{length-times_x, times_x-add, times_x-multiple}
-use Rattle.mbj_ghash.proofs.Reductions.{reduced, reduced-false, reduced-whole}
+use Rattle.mbj_ghash.proofs.Reductions.{reduced, reduced-whole}
 
 -- ---- the product by x^n
-
-times_x-power : (n : ℕ) (q : List Bool) → times_x (times_power n q) ≡ times_power n (times_x q)
-unfolding times_power
-times_x-power zero q = refl
-times_x-power (suc n) q = times_x-power n (times_x q)
 
 -- one after another
 pub times_power-plus : (b a : ℕ) (q : List Bool) → times_power a (times_power b q) ≡ times_power (b + a) q
@@ -18,12 +13,6 @@ unfolding times_power
 times_power-plus zero a q = let e : zero + a ≡ a = omega arith in rw e refl
 times_power-plus (suc b) a q =
     let e : suc b + a ≡ suc (b + a) = omega arith in rw e (times_power-plus b a (times_x q))
-
--- zeros below a polynomial
-pub reduced-up : (n : ℕ) (p : List Bool) → reduced (zeros n ++ p) ≡ times_power n (reduced p)
-unfolding times_power
-reduced-up zero p = refl
-reduced-up (suc n) p = reduced-false (zeros n ++ p) ∙ ap times_x (reduced-up n p) ∙ times_x-power n (reduced p)
 
 pub times_power-multiple : (n : ℕ) (p v : List Bool) → length v ≡ 128
     → times_power n (multiple p v) ≡ multiple p (times_power n v)

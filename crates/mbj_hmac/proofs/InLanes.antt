@@ -48,9 +48,6 @@ all_changed f (e ∷ es) (x ∷ now) same is =
 
 -- ---- rests
 
-pub lowered_idle : (m : ℕ) → lowered m idle ≡ idle
-lowered_idle m = refl
-
 pub lowered_busy : (m r : ℕ) → r < idle → lowered m r ≡ r - m
 lowered_busy m r h = let apart : r ≡ idle → ⊥ = λ s. absurd (omega arith) in rw (ne_eqb r idle apart) refl
 
@@ -60,9 +57,6 @@ was_busy m r n le is lt = elim (cases_eq r idle) [
   | inl same ↦ let q : n ≡ idle = is ∙ ap (lowered m) same in absurd (omega arith)
   | inr apart ↦ omega arith
 ]
-
-pub lowered_le : (m r : ℕ) → r ≤ idle → lowered m r ≤ idle
-lowered_le m r le = elim (cases_lt r idle) [ inl lt ↦ rw (lowered_busy m r lt) (omega arith) | inr ge ↦ let same : r ≡ idle = omega arith in rw same (omega arith) ]
 
 -- rounds behind others
 pub lowered_on : (k n r : ℕ) → r ≤ idle → lowered n (lowered k r) ≡ lowered (k + n) r

@@ -19,9 +19,6 @@ module _ (b : ℕ) (size : (b ≡ 64) ⊎ (b ≡ 128)) where
   unfolding tail_blocks
   tail_range n = by_size (λ b. (1 ≤ tail_blocks b n) × (tail_blocks b n ≤ 2)) (omega arith, omega arith) (omega arith, omega arith)
 
-  pub mod_below : (n : ℕ) → n % b < b
-  mod_below n = by_size (λ b. n % b < b) (omega arith) (omega arith)
-
   pub split : (n : ℕ) → b * (n / b) + n % b ≡ n
   split n = by_size (λ b. b * (n / b) + n % b ≡ n) (omega arith) (omega arith)
 

@@ -1,12 +1,7 @@
 -- What rounds do to each entry of a list.
-use Rattle.std.proofs.Common.{◌≡◌, ℕ, ◌+◌, ◌-◌, ◌≤◌, ◌<◌, zero, suc, List, [], ◌∷◌, ◌++◌, length, map, take, drop, get_or, refl, ap, ap₂, arith}
+use Rattle.std.proofs.Common.{◌≡◌, ℕ, ◌+◌, ◌-◌, ◌≤◌, ◌<◌, suc, List, [], ◌∷◌, ◌++◌, length, map, take, drop, get_or, refl, ap, ap₂, arith}
 use Rattle.mbj_lane.specs.Rounds.{after, end_of}
 use Rattle.mbj_lane.specs.Laws.{after-after, rest-after, end-after}
-
-pub get_or-map : {A : Type 0} (f : A → A) (xs : List A) (k : ℕ) (d : A) → k < length xs → get_or (map f xs) k d ≡ f (get_or xs k d)
-get_or-map f [] k d h = absurd (omega arith)
-get_or-map f (x ∷ xs) zero d h = refl
-get_or-map f (x ∷ xs) (suc k) d h = let h' : k < length xs = omega arith in get_or-map f xs k d h'
 
 -- a list that was led on in its place
 pub written-back : {A : Type 0} (f : A → A) (n : ℕ) (xs ys zs : List A) → n ≡ length xs → zs ≡ xs → ys ≡ map f zs
@@ -21,15 +16,6 @@ module _ {E : Type 0} (round : E → E) where
   -- a round behind m rounds
   pub after-one_more : (m : ℕ) (e : E) → round (after round m e) ≡ after round (m + 1) e
   after-one_more m e = after-after round m 1 e
-
-  pub map-after-none : (es : List E) → map (after round 0) es ≡ es
-  map-after-none [] = refl
-  map-after-none (e ∷ es) = ap (λ ys. e ∷ ys) (map-after-none es)
-
-  -- n rounds of all behind m rounds of all
-  pub map-after-after : (m n : ℕ) (es : List E) → map (after round n) (map (after round m) es) ≡ map (after round (m + n)) es
-  map-after-after m n [] = refl
-  map-after-after m n (e ∷ es) = ap₂ (λ x xs. x ∷ xs) (after-after round m n e) (map-after-after m n es)
 
 module _ {E : Type 0} (round : E → E) (rest : E → ℕ) (falls : (e : E) → rest (round e) ≡ rest e - 1) where
   -- all rests fall by m

@@ -74,11 +74,6 @@ follow-step at c n rest cs lines runs f =
     sym (ap₂ (λ (ps : List Pending) (left : List (List Pending)). goes_on at n ps (record (machine_by cs rest lines runs) { left = left }))
     (sym (follow-first c n cs f)) (follow-map c n cs f))
 
-at-const : {A : Type 0} (P : Type 0) (n : ℕ) (xs : List A) → At (λ _. P) n xs → P
-at-const P n [] a = absurd a
-at-const P zero (x ∷ xs) a = a
-at-const P (suc n) (x ∷ xs) a = at-const P n xs a
-
 at-from : {A : Type 0} (P : A → Type 0) (x : A) (n : ℕ) (xs : List A) → At P n (changed (λ _. x) n xs) → P x
 at-from P x n [] a = absurd a
 at-from P x zero (y ∷ xs) a = a

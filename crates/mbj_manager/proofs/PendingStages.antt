@@ -93,22 +93,8 @@ ran-out c = ran-out-at c c.left
 
 -- ---- a stage in lanes, or none
 
-not-now-by : (s : Stage) (j : Job) (ps : List Pending) → s ≢ stage.Now → s ≢ stage.Finished → in_lanes_next (pending_by s j ++ ps) ≡ pending_by s j ++ ps
-not-now-by stage.Now j ps n f = absurd (n refl)
-not-now-by (stage.Lane k) j ps n f = refl
-not-now-by stage.Finished j ps n f = absurd (f refl)
-
 never-finished : (j : Job) (s : Step) (left : List Step) → stage_at j (s ∷ left) ≢ stage.Finished
 never-finished j s left h = let e = finished-left j (s ∷ left) h in cc
-
-not-now-at : (j : Job) (left : List Step) → stage_at j left ≢ stage.Now → in_lanes_next (pending_at j left) ≡ pending_at j left
-not-now-at j [] h = refl
-not-now-at j (s ∷ left) h =
-    not-now-by (stage_at j (s ∷ [])) j (pending_at j left) (λ e. h (stage-first j s left ∙ e)) (never-finished j s [])
-
--- where no stage finishes at once, the stages are those in lanes and later ones
-pub not-now-next : (c : CourseState) → stage_of c ≢ stage.Now → in_lanes_next (pending c) ≡ pending c
-not-now-next c h = not-now-at (whole c) c.left (λ e. h (sym (stage-whole c c.left) ∙ e))
 
 -- the first stage is in lanes
 lane-by : (s : Stage) (j : Job) (ps : List Pending) (k : Kind) → s ≡ stage.Lane k → pending_by s j ++ ps ≡ in_lanes k (rounds_of k j) ∷ ps

@@ -59,11 +59,6 @@ module _ {X : Type 0} where
   abbrev empty : ℕ → List (Option X)
   empty k = replicate k None
 
-  pub length-filled : (xs : List X) (n : ℕ) → length xs ≤ n → length (filled xs n) ≡ n
-  unfolding filled
-  length-filled xs n fits = let none : Option X = None in
-      omega (arith, length-append (map some xs) (empty (n - length xs)), length-map xs some, length-replicate (n - length xs) none)
-
   present_none : (k : ℕ) → present (empty k) ≡ []
   present_none zero = refl
   present_none (suc k) = present_none k

@@ -189,10 +189,6 @@ cbc-next j left out m n count sound here next =
 
 -- ---- a course whose next stage is HMAC
 
-pub hmac-accepted : (j : Job) (left : List Step) (out : Option ℕ) (m : Lengths) → IsSound j left out m → out ≡ None
-    → IsNextStep step.Auth left → verdict j ≡ None
-hmac-accepted j left out m sound here first = here-accepted j left out m sound here (first-some step.Auth left first)
-
 -- ---- a course whose next stage is CMAC with keys of n rounds
 
 pub record IsCmacNext (j : Job) (left : List Step) (n : ℕ) : Type 0 where

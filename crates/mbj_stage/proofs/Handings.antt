@@ -1,5 +1,5 @@
 -- What is owed while a course's packet is out in a lane.
-use Rattle.std.proofs.Common.{◌≡◌, ◌<◌, ◌∙◌, ℕ, List, [], ◌∷◌, length, take, drop, Option, Some, None, ap, ap₂, subst, sym, refl, arith}
+use Rattle.std.proofs.Common.{◌≡◌, ◌<◌, ◌∙◌, ℕ, List, [], ◌∷◌, length, take, Option, Some, None, ap, ap₂, subst, sym, refl, arith}
 use Rattle.mbj_types.specs.Auths.{class_of}
 use Rattle.mbj_types.specs.Result.{ciphered, mac_by, tag_over}
 use Rattle.mbj_types.specs.declared.job.Job.{Job}
@@ -11,7 +11,6 @@ use Rattle.mbj_types.specs.declared.kind.Kind.{Kind}
 use Rattle.mbj_stage.specs.declared.stage.Stage.TheVariants as stage
 use Rattle.mbj_stage.specs.Steps.{stage_at}
 use Rattle.mbj_stage.specs.Inside.Kept.{IsNextStep}
-use Rattle.mbj_stage.proofs.StagesOf.{stage-left_behind}
 use Rattle.mbj_stage.specs.CourseState.{CourseState, ccm_mac_over, led_to, owed, packet_after, stage_of, with_mac}
 use Rattle.mbj_stage.specs.Handing.{End, IsForLanes, OwesTheSame, stage_end, handed_out, left_behind, owed_with, taken_back, taken_back_at, without_packet}
 
@@ -133,60 +132,7 @@ own-back c d e s is h own = ap (λ (x : CourseState). without_packet (taken_back
 abbrev pub going : Lengths → Job → List ℕ → Option Reason → List Step → Option ℕ → CourseState
 going n j tag reason left out = record { job = j; tag = tag; reason = reason; left = left; out = out; lengths = n }
 
-back-text : (n : Lengths) (all : List Step) (j : Job) (tag : List ℕ) (e : End) (reason : Option Reason) (out : Option ℕ) → IsNextStep step.Cipher all
-    → going n (record j { packet = e.packet }) tag reason (drop 1 all) None ≡ taken_back_at all e (going n j tag reason all out)
-back-text n [] j tag e reason out h = absurd h
-back-text n (step.Cipher ∷ left) j tag e reason out h = refl
-back-text n (step.Auth ∷ left) j tag e reason out h = absurd (cc)
-back-text n (step.Gcm ∷ left) j tag e reason out h = absurd (cc)
-back-text n (step.CcmMac ∷ left) j tag e reason out h = absurd (cc)
-back-text n (step.CcmText ∷ left) j tag e reason out h = absurd (cc)
-back-text n (step.Gmac ∷ left) j tag e reason out h = absurd (cc)
-
-pub text-back : (n : Lengths) (j : Job) (tag : List ℕ) (e : End) (reason : Option Reason) (all left : List Step) (out : Option ℕ) → IsNextStep step.Cipher all
-    → left ≡ drop 1 all → going n (record j { packet = e.packet }) tag reason left None ≡ taken_back e (going n j tag reason all out)
-text-back n j tag e reason all left out h is =
-    ap (λ (l : List Step). going n (record j { packet = e.packet }) tag reason l None) is ∙ back-text n all j tag e reason out h
-
-back-mac : (n : Lengths) (all : List Step) (j : Job) (tag : List ℕ) (e : End) (reason : Option Reason) (out : Option ℕ) → IsNextStep step.Auth all
-    → going n (record j { packet = e.packet }) (take j.tag_len e.mac) reason (drop 1 all) None ≡ taken_back_at all e (going n j tag reason all out)
-back-mac n [] j tag e reason out h = absurd h
-back-mac n (step.Cipher ∷ left) j tag e reason out h = absurd (cc)
-back-mac n (step.Auth ∷ left) j tag e reason out h = refl
-back-mac n (step.Gcm ∷ left) j tag e reason out h = absurd (cc)
-back-mac n (step.CcmMac ∷ left) j tag e reason out h = absurd (cc)
-back-mac n (step.CcmText ∷ left) j tag e reason out h = absurd (cc)
-back-mac n (step.Gmac ∷ left) j tag e reason out h = absurd (cc)
-
-pub mac-back : (n : Lengths) (j : Job) (tag t : List ℕ) (e : End) (reason : Option Reason) (all left : List Step) (out : Option ℕ) → IsNextStep step.Auth all
-    → left ≡ drop 1 all → t ≡ take j.tag_len e.mac
-    → going n (record j { packet = e.packet }) t reason left None ≡ taken_back e (going n j tag reason all out)
-mac-back n j tag t e reason all left out h is of =
-    ap₂ (λ (l : List Step) (u : List ℕ). going n (record j { packet = e.packet }) u reason l None) is of ∙ back-mac n all j tag e reason out h
-
-back-ccm : (n : Lengths) (all : List Step) (j : Job) (tag : List ℕ) (e : End) (reason : Option Reason) (out : Option ℕ) → IsNextStep step.CcmMac all
-    → going n (record j { packet = e.packet; iv = e.iv; aad = e.aad }) (with_mac j.tag_len e.mac j.dir tag) reason (drop 1 all) None
-    ≡ taken_back_at all e (going n j tag reason all out)
-back-ccm n [] j tag e reason out h = absurd h
-back-ccm n (step.Cipher ∷ left) j tag e reason out h = absurd (cc)
-back-ccm n (step.Auth ∷ left) j tag e reason out h = absurd (cc)
-back-ccm n (step.Gcm ∷ left) j tag e reason out h = absurd (cc)
-back-ccm n (step.CcmMac ∷ left) j tag e reason out h = refl
-back-ccm n (step.CcmText ∷ left) j tag e reason out h = absurd (cc)
-back-ccm n (step.Gmac ∷ left) j tag e reason out h = absurd (cc)
-
-pub ccm-back : (n : Lengths) (j : Job) (tag t : List ℕ) (e : End) (reason : Option Reason) (all left : List Step) (out : Option ℕ) → IsNextStep step.CcmMac all
-    → left ≡ drop 1 all → t ≡ with_mac j.tag_len e.mac j.dir tag
-    → going n (record j { packet = e.packet; iv = e.iv; aad = e.aad }) t reason left None ≡ taken_back e (going n j tag reason all out)
-ccm-back n j tag t e reason all left out h is of =
-    ap₂ (λ (l : List Step) (u : List ℕ). going n (record j { packet = e.packet; iv = e.iv; aad = e.aad }) u reason l None) is of
-    ∙ back-ccm n all j tag e reason out h
-
 -- ---- the stages of a course whose packet is out
-
--- the next stage is as before
-pub stage-handed : (c d : CourseState) (k j : Kind) → d ≡ handed_out c → stage_of c ≡ stage.Lane k → k ≡ j → stage_of d ≡ stage.Lane j
-stage-handed c d k j e next is = ap stage_of e ∙ stage-left_behind c.job c.left ∙ next ∙ ap (λ (i : Kind). stage.Lane i) is
 
 -- once it is taken back the packet is here, and a stage less is left
 pub record IsBack (new old : CourseState) : Type 0 where

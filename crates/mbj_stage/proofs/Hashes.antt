@@ -43,10 +43,6 @@ module _ (h : Chaining) (a : AuthClass) where
   states-served n e t =
       either-right (serves_plain_class h a) (serves_states_class h a) (either-right (serves_class h a) (others a) t (ap (serves_class h) e)) (ap (serves_plain_class h) e)
 
-  -- nothing else is
-  pub unserved : (b : AuthClass) → a ≡ b → serves_lanes_class h b ≡ false → IsTrue (serves_lanes_class h a) → ⊥
-  unserved b e f t = let both : true ≡ false = sym t ∙ ap (serves_lanes_class h) e ∙ f in cc
-
 -- a digest or an HMAC has a round at least
 pub auth-some : (a : AuthClass) (b n : ℕ) → 1 ≤ auth_rounds a b n
 auth-some a b n =

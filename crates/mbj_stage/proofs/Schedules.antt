@@ -1,22 +1,17 @@
 -- The schedule of a job's key, and where it is at hand.
-use Rattle.std.proofs.Common.{◌≡◌, ◌≢◌, ℕ, List, [], ◌∷◌, drop, true, false, Option, Some, None, is_some, IfSome, length, refl, ap, ◌∙◌}
+use Rattle.std.proofs.Common.{◌≡◌, ◌≢◌, ℕ, List, [], ◌∷◌, drop, true, false, Option, Some, None, is_some, IfSome, refl, ap, ◌∙◌}
 use Rattle.std.proofs.Math.Path.{fun_ext}
 use Rattle.mbj_types.specs.declared.job.Job.{Job}
 use Rattle.mbj_types.specs.declared.job.Cipher.{Cipher}
 use Rattle.mbj_types.specs.declared.job.Cipher.TheVariants as cipher
-use Rattle.mbj_types.specs.declared.job.Dir.{Dir}
-use Rattle.mbj_types.specs.declared.job.Dir.TheVariants.{Enc, Dec}
 use Rattle.mbj_types.specs.declared.reason.Reason.{Reason}
-use Rattle.mbj_types.specs.Verdict.{takes_key, verdict}
 use Rattle.mbj_types.specs.Aes.{aes, aes_inverse, encipher, decipher}
-use Rattle.mbj_aes.specs.Bytes.{IsKeySize}
 use Rattle.mbj_aes.proofs.ExpandedKeys.{encipher-key_schedule, decipher-key_schedule}
-use Rattle.mbj_args.proofs.Accepted.{accepted}
 use Rattle.mbj_keys.specs.Schedules.{IsScheduleOf}
 use Rattle.mbj_stage.specs.declared.stage.Step.{Step}
 use Rattle.mbj_stage.specs.declared.stage.Stage.TheVariants as stage
-use Rattle.mbj_stage.specs.Steps.{cipher_stage_by, cipher_steps, steps_by}
-use Rattle.mbj_stage.specs.Keys.{needs_schedule, keeps_schedule}
+use Rattle.mbj_stage.specs.Steps.{steps_by}
+use Rattle.mbj_stage.specs.Keys.{keeps_schedule}
 use Rattle.mbj_stage.specs.Inside.Kept.{IsKeyed, IsNextStep}
 
 -- a schedule enciphers as its key does
@@ -41,26 +36,6 @@ pub keyed-begun : (reason : Option Reason) (j : Job) (left : List Step) (schedul
 keyed-begun None j left None steps wanted is some needs = let bad : false ≡ true = wanted ∙ needs in cc
 keyed-begun None j left (Some schedule) steps wanted is some needs = is
 keyed-begun (Some reason) j left schedule steps wanted is some needs = absurd (some steps)
-
-takes-size : (c : Cipher) (d : Dir) (n : ℕ) → needs_schedule c d ≡ true → takes_key c n ≡ true → IsKeySize n
-takes-size cipher.Null d n needs takes = cc
-takes-size cipher.Cbc d n needs takes = takes
-takes-size cipher.Ctr d n needs takes = takes
-takes-size cipher.Gcm d n needs takes = takes
-takes-size cipher.Ccm d n needs takes = takes
-
--- the key of an accepted job that needs its schedule can be expanded
-pub key-size : (j : Job) → verdict j ≡ None → needs_schedule j.cipher j.dir ≡ true → IsKeySize (length j.key)
-key-size j none needs = takes-size j.cipher j.dir (length j.key) needs (accepted j (length j.packet) none).key
-
--- a cipher that is done at once needs the schedule
-pub step-needs : (c : Cipher) (d : Dir) (n : ℕ) (s : Step) → cipher_steps c ≡ s ∷ [] → cipher_stage_by c d n ≡ stage.Now → needs_schedule c d ≡ true
-step-needs cipher.Null d n s is now = cc
-step-needs cipher.Cbc Enc n s is now = cc
-step-needs cipher.Cbc Dec n s is now = refl
-step-needs cipher.Ctr d n s is now = refl
-step-needs cipher.Gcm d n s is now = refl
-step-needs cipher.Ccm d n s is now = cc
 
 -- where a step is next, one is left
 pub next-some : (s : Step) (left : List Step) → IsNextStep s left → left ≢ []

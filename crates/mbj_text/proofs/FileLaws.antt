@@ -55,20 +55,6 @@ pub record SoFar (all left : List Numbered) (lists : KeysAndJobs) : Type 0 where
   pub spelled : ReadSoFar SpellsEntry all left entries
   pub lists_are : lists_in entries ≡ lists
 
--- no line is read yet
-pub at_start : (all : List Numbered) → SoFar all all ([], [])
-at_start all = record { entries = []; spelled = none_read SpellsEntry all; lists_are = refl }
-
--- no line is left
-pub all_read : (all left : List Numbered) (lists : KeysAndJobs) → SoFar all left lists → left ≡ [] → ReadsLines all lists.0 lists.1
-all_read all left lists s none =
-    record {
-      entries = s.entries;
-      each = each_read SpellsEntry all left s.entries s.spelled none;
-      keys_are = ap (λ (l : KeysAndJobs). l.0) s.lists_are;
-      jobs_are = ap (λ (l : KeysAndJobs). l.1) s.lists_are;
-    }
-
 module _ (all left rest : List Numbered) (lists : KeysAndJobs) (n : ℕ) (text : List ℕ) (s : SoFar all left lists) (next : left ≡ (n, text) ∷ rest) where
   -- one more line is good
   pub one_more : (e : Entry) → entry_of lists.0 (length lists.1) text ≡ Ok e → SoFar all rest (with_entry lists e)

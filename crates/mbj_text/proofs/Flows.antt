@@ -1,8 +1,8 @@
 -- How text flows on.
 use Rattle.std.proofs.Common.{◌≡◌, ◌∙◌, ◌++◌, ◌≤◌, [], ap, sym, subst, refl, ℕ, List, Option, Result, Ok, Err}
 use Rattle.std.proofs.Common.{append_assoc, append-nil, length, take, drop}
-use Rattle.std.specs.Io.KnownBytes.{Appends, Keeps}
-use Rattle.std.proofs.KnownBytes.{Appends-kept, Appends-nil, Appends-trans}
+use Rattle.std.specs.Io.KnownBytes.{Appends}
+use Rattle.std.proofs.KnownBytes.{Appends-nil, Appends-trans}
 use Rattle.std.proofs.lemmas.List.{take-append-drop, take_all}
 use Rattle.mbj_io.specs.Faults.{Rose}
 use Rattle.mbj_io.specs.Streams.{Stream}
@@ -172,15 +172,6 @@ pub front_line : {a b c : Option (List ℕ)} {i j k : ℕ} {text left line : Lis
 front_line {a} {b} {c} {i} {j} {k} {text} {left} {line} rest f next g =
     let Next : List ℕ → Type 0 = λ l. WritesFront (between b c j k) l in
     front_then f (subst Next (sym next) (front_with rest g))
-
--- a flow, and then a write that failed and took nothing
-pub front_kept : {a b c : Option (List ℕ)} {i j k : ℕ} {text left : List ℕ}
-    → FlowsOn (between a b i j) text left → Keeps b c → Rose j k → j ≤ k → WritesFront (between a c i k) text
-front_kept {a} {b} {c} {i} {j} {k} {text} {left} f keeps rose falls = record {
-  front = record { front = f.flows.front; rest = left; text_is = f.flows.text_is; written = Appends-kept a b c f.flows.front f.flows.written keeps };
-  failed = rose_from i j k f.calm rose;
-  never_falls = subst (λ n. n ≤ k) f.calm falls;
-}
 
 -- ---- answers
 

@@ -33,10 +33,6 @@ read_is_told input told bytes tells r = all_of_told told bytes input.after (subs
 pub too_much_is_told : (input : Stream) (told : List ℕ) → input.before ≡ Some told → ReadsTooMuch input.before input.after → INPUT_LIMIT < length told
 too_much_is_told input told tells r = more_than_told told input.after (subst (λ before. ReadsTooMuch before input.after) tells r)
 
--- what was read to its end isn't too long
-read_is_short : (input : Stream) (told bytes : List ℕ) → input.before ≡ Some told → ReadsAll input.before input.after bytes → INPUT_LIMIT < length told → ⊥
-read_is_short input told bytes tells r long = omega (arith, r.0, ap length (read_is_told input told bytes tells r))
-
 -- what holds of the bytes that were read holds of those that were told
 holds_of_told : (input : Stream) (told : List ℕ) (Holds : List ℕ → Type 0) → input.before ≡ Some told → ReadsBytes input Holds → Holds told
 holds_of_told input told Holds tells r = subst Holds (read_is_told input told r.0 tells r.1) r.2
@@ -118,10 +114,6 @@ does_asked : (c : Command) (input : Stream) (IsWritten : List ℕ → Type 0) (t
 does_asked (Gen n m s w) input IsWritten told reads d tells = absurd reads
 does_asked c input IsWritten told reads d tells = asks_told c input IsWritten told d tells
 
-does_short : (c : Command) (input : Stream) (IsWritten : List ℕ → Type 0) (told : List ℕ) → ReadsInput c → Does c input IsWritten → input.before ≡ Some told → INPUT_LIMIT < length told → ⊥
-does_short (Gen n m s w) input IsWritten told reads d tells long = reads
-does_short c input IsWritten told reads d tells long = read_is_short input told d.0 tells d.1 long
-
 bad_reads : (c : Command) (told : List ℕ) (line field : ℕ) → IsBadFor c told line field → ReadsInput c
 bad_reads (Gen n m s w) told line field b = b
 bad_reads c told line field b = tt
@@ -146,14 +138,6 @@ good_ends c (Jobs line) input out told text s tells short good calm calm_out =
 good_ends c Memory input out told text s tells short good calm calm_out = refl
 
 -- ---- no input
-
-pub gen_ends : (n m s w : ℕ) (cause : Cause) (input out : Stream) → Stands (Gen n m s w) cause input out → ¬ Fails out → status_for cause ≡ 7
-gen_ends n m s w Read input out stands calm = absurd stands.0
-gen_ends n m s w Write input out stands calm = absurd (calm stands.0)
-gen_ends n m s w (Line line field) input out stands calm = absurd stands.2
-gen_ends n m s w Bytes input out stands calm = absurd stands.0
-gen_ends n m s w (Jobs line) input out stands calm = absurd stands.2
-gen_ends n m s w Memory input out stands calm = refl
 
 -- ---- an input with a bad line
 
@@ -193,20 +177,6 @@ over_ends c (Jobs at) input out told line s tells short over calm = inl refl
 over_ends c Memory input out told line s tells short over calm = inr refl
 
 -- ---- an input that is too long
-
-pub long_not_whole : (c : Command) (input out : Stream) (IsWritten : List ℕ → Type 0) (told : List ℕ)
-    → ReadsInput c → Does c input IsWritten → input.before ≡ Some told → INPUT_LIMIT < length told → ⊥
-long_not_whole c input out IsWritten told reads d tells long = does_short c input IsWritten told reads d tells long
-
-pub long_ends : (c : Command) (cause : Cause) (input out : Stream) (told : List ℕ) → ReadsInput c
-    → Stands c cause input out → input.before ≡ Some told → INPUT_LIMIT < length told
-    → ¬ Fails input → (status_for cause ≡ 6) ⊎ (status_for cause ≡ 7)
-long_ends c Read input out told reads s tells long calm = absurd (calm s.1.rose)
-long_ends c Write input out told reads s tells long calm = absurd (does_short c input _ told reads s.1 tells long)
-long_ends c (Line at f) input out told reads s tells long calm = absurd (read_is_short input told s.0 tells s.1 long)
-long_ends c Bytes input out told reads s tells long calm = inl refl
-long_ends c (Jobs at) input out told reads s tells long calm = inl refl
-long_ends c Memory input out told reads s tells long calm = inr refl
 
 -- words are one command at most
 pub same-command : (found : Option Command) (c d : Command) → found ≡ Some c → found ≡ Some d → d ≡ c
