@@ -31,13 +31,7 @@ const BLOCK_BYTES: usize = SHA1_LENGTHS.block;
 const ENDS_BYTES: usize = 4 * BLOCK_BYTES;
 
 /// The initial hash value (FIPS 180-4, 5.3.1).
-const INITIAL: [u32; 5] = [
-    0x6745_2301,
-    0xefcd_ab89,
-    0x98ba_dcfe,
-    0x1032_5476,
-    0xc3d2_e1f0,
-];
+const INITIAL: [u32; 5] = [0x67452301, 0xefcdab89, 0x98badcfe, 0x10325476, 0xc3d2e1f0];
 
 /// The words of a hash value, the highest byte of each first.
 fn bytes_of(chain: &[u32; 5]) -> [u8; 20]
