@@ -1,18 +1,18 @@
-// Slots of digests and HMACs.
-ghost use Rattle.std.specs.Prelude.{◌≡◌, ℕ, ◌+◌, ◌*◌, ◌<◌, ◌≤◌, Some, None, IfOk, IfSome, IsTrue, length};
-ghost use Rattle.std.specs.Option.{option_map};
+// Slots of digests and HMACs, of which each is a lane.
+ghost use Rattle.std.specs.Prelude.{◌≡◌, ◌+◌, ◌*◌, ◌<◌, ◌≤◌, Some, None, IfSome, IsTrue, length};
 ghost use Rattle.mbj_types.specs.Auths.{class_of, states_hash_of};
-ghost use Rattle.mbj_lane.specs.Rounds.{after};
-ghost use Rattle.mbj_lane.specs.Slots.{IsBusy, IsLeast, IsWritten};
-ghost use Rattle.mbj_hmac.specs.Rounds.{HmacState, rest_of, round};
+ghost use Rattle.mbj_lane.specs.Slots.{IsBusy, IsWritten};
+ghost use Rattle.mbj_hmac.specs.Rounds.{HmacState};
 ghost use Rattle.mbj_hmac.specs.Names.{serves_lanes};
 ghost use Rattle.mbj_hmac.specs.Begun.{Begins, begun};
 ghost use Rattle.mbj_hmac.specs.Slots.{slot_in};
 
 use crate::entry::HmacEntry;
+use crate::kernel::HmacKernel;
 use crate::lane_hash::LaneHash;
 use crate::lanes::HmacLanes;
 use crate::rests::{least_lane, word_of};
+use mbj_lane::SlotKernel;
 use mbj_types::{Auth, Tag};
 use std::alloc::{AllocError, Global};
 use std::marker::Model;
@@ -40,31 +40,6 @@ impl<H: LaneHash> Model for HmacSlots<H> {
 }
 
 impl<H: LaneHash> HmacSlots<H> {
-    /// Idle slots.
-    pub(crate) fn new(alloc: Global) -> Result<HmacSlots<H>, AllocError>
-        ensures { IfOk result (λ s. (i : ℕ) → i < H.LANES → slot_in s i ≡ None) }
-    {
-        let mut entries = Vec::with_capacity(alloc, H::LANES as usize)?;
-        'slots: for _i in 0..H::LANES {
-            entries.push_reserved(HmacEntry::blank(alloc));
-        }
-        Ok(HmacSlots {
-            lanes: HmacLanes::new(),
-            entries,
-        })
-    }
-
-    /// An entry with a round left takes an idle slot, and its lane gets its hash value.
-    #[inline(always)]
-    pub(crate) fn put(&mut self, i: usize, entry: HmacEntry<H>)
-        requires lane { i < H.LANES }
-        requires rest { 1 ≤ entry.rest }
-        ensures { IsWritten H.LANES i (Some entry) (slot_in self.old) (slot_in self.new) }
-    {
-        self.lanes.enter(i, &entry);
-        self.entries[i] = entry;
-    }
-
     /// A job of which nothing is done takes an idle slot: a digest, an HMAC or an HMAC from states over `len` bytes of the packet from
     /// `off` on. The authentication is one that the kernel serves. The key is that of an HMAC, or the two states of one from states; a
     /// digest looks at none. The packet moves into the slot.
@@ -84,49 +59,6 @@ impl<H: LaneHash> HmacSlots<H> {
         self.lanes.enter(i, entry);
     }
 
-    /// How many rounds the entry of a slot has left.
-    #[inline(always)]
-    pub(crate) fn rest_at(&self, i: usize) -> u32
-        requires lane { i < H.LANES }
-        requires busy { IsBusy (slot_in self.now) i }
-        ensures { (e : HmacState) → slot_in self.now i ≡ Some e → result ≡ e.rest }
-    {
-        word_of(&self.lanes.rests.left, i)
-    }
-
-    /// The least rest of all slots, of which one has an entry.
-    #[inline(always)]
-    pub(crate) fn least(&self) -> u32
-        requires { (i : ℕ) × (i < H.LANES) × IsBusy (slot_in self.now) i }
-        ensures { IsLeast rest_of H.LANES (slot_in self.now) result }
-    {
-        least_lane(self.lanes.rests.left)
-    }
-
-    /// Advances the entry of each slot by `m` rounds; each has at least `m` left.
-    pub(crate) fn run_all(&mut self, m: u32)
-        requires { (i : ℕ) (e : HmacState) → i < H.LANES → slot_in self.old i ≡ Some e → m ≤ e.rest }
-        ensures { (i : ℕ) → i < H.LANES → slot_in self.new i ≡ option_map (after (round H.chaining) m) (slot_in self.old i) }
-    {
-        self.lanes.run(&mut self.entries, m);
-    }
-
-    /// Takes an entry that has no round left out of its slot, with its lane's hash values.
-    #[inline(always)]
-    pub(crate) fn take(&mut self, i: usize) -> HmacEntry<H>
-        requires lane { i < H.LANES }
-        requires busy { IsBusy (slot_in self.old) i }
-        requires done { (e : HmacState) → slot_in self.old i ≡ Some e → e.rest ≡ 0 }
-        ensures taken { slot_in self.old i ≡ Some result }
-        ensures idle { IsWritten H.LANES i None (slot_in self.old) (slot_in self.new) }
-    {
-        self.lanes.leave(i);
-        let chain = H::scattered(&self.lanes.states, i);
-        let inner = H::scattered(&self.lanes.inner, i);
-        let entry = &mut self.entries[i];
-        entry.end(chain, inner)
-    }
-
     /// Takes the packet out of the slot of an entry that has no round left, with the digest or HMAC in full. The slot is idle then.
     #[inline(always)]
     pub fn take_parts(&mut self, i: usize) -> (Vec<u8>, Tag)
@@ -141,5 +73,51 @@ impl<H: LaneHash> HmacSlots<H> {
         let chain = H::scattered(&self.lanes.states, i);
         let entry = &mut self.entries[i];
         entry.end_parts(&chain)
+    }
+}
+
+impl<H: LaneHash> SlotKernel for HmacKernel<H> {
+    type Slots = HmacSlots<H>;
+
+    ghost slot = { slot_in };
+
+    fn new_slots(alloc: Global) -> Result<HmacSlots<H>, AllocError> {
+        let mut entries = Vec::with_capacity(alloc, H::LANES as usize)?;
+        'slots: for _i in 0..H::LANES {
+            entries.push_reserved(HmacEntry::blank(alloc));
+        }
+        Ok(HmacSlots {
+            lanes: HmacLanes::new(),
+            entries,
+        })
+    }
+
+    #[inline(always)]
+    fn put(slots: &mut HmacSlots<H>, i: usize, entry: HmacEntry<H>) {
+        slots.lanes.enter(i, &entry);
+        slots.entries[i] = entry;
+    }
+
+    #[inline(always)]
+    fn rest_at(slots: &HmacSlots<H>, i: usize) -> u32 {
+        word_of(&slots.lanes.rests.left, i)
+    }
+
+    #[inline(always)]
+    fn least(slots: &HmacSlots<H>) -> u32 {
+        least_lane(slots.lanes.rests.left)
+    }
+
+    fn run_all(slots: &mut HmacSlots<H>, m: u32) {
+        slots.lanes.run(&mut slots.entries, m);
+    }
+
+    #[inline(always)]
+    fn take(slots: &mut HmacSlots<H>, i: usize) -> HmacEntry<H> {
+        slots.lanes.leave(i);
+        let chain = H::scattered(&slots.lanes.states, i);
+        let inner = H::scattered(&slots.lanes.inner, i);
+        let entry = &mut slots.entries[i];
+        entry.end(chain, inner)
     }
 }

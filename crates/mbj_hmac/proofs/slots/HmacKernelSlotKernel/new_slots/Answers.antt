@@ -1,7 +1,7 @@
 use Rattle.std.proofs.Common.{[], ◌∷◌, ◌<◌, ◌∙◌, length-append, inl, rules, arith}
 use Rattle.mbj_hmac.specs.Inside.InLanes.{most_lanes, slot_at}
 use Rattle.mbj_hmac.proofs.InLanes.{idle_push, slot_idle, slot_is}
-use Rattle.mbj_hmac.proofs.slots.HmacSlots.new.Goals as goal
+use Rattle.mbj_hmac.proofs.slots.HmacKernelSlotKernel.new_slots.Goals as goal
 
 pub slots-preserved : goal.slots-preserved
 slots-preserved g c =

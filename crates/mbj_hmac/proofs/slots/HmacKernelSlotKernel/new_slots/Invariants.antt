@@ -1,6 +1,6 @@
 use Rattle.std.proofs.Common.{◌≡◌, ℕ, ◌≤◌, length, vec_capacity}
 use Rattle.mbj_hmac.specs.Inside.InLanes.{entry_in}
-use Rattle.mbj_hmac.proofs.slots.HmacSlots.new.Given as goal
+use Rattle.mbj_hmac.proofs.slots.HmacKernelSlotKernel.new_slots.Given as goal
 
 abbrev pub invariant-slots : goal.invariant-slots
 invariant-slots g l = record {
