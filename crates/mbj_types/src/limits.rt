@@ -2,6 +2,7 @@
 
 ghost use Rattle.std.specs.Prelude.{◌≡◌};
 
+use crate::class::SHA512_LENGTHS;
 use ccm::MAX_CCM_AAD_BYTES;
 use gcm::{MAX_AAD_BYTES, MAX_IV_BYTES};
 use hmac::MAX_HMAC_KEY_BYTES;
@@ -17,7 +18,7 @@ pub mod hmac;
 pub const MAX_PACKET_BYTES: usize = 65_535;
 
 /// The longest tag, in bytes: the digest of SHA-512.
-pub const MAX_TAG_BYTES: usize = 64;
+pub const MAX_TAG_BYTES: usize = SHA512_LENGTHS.digest as usize;
 
 /// The most sessions of shared keys. They are numbered from 0.
 pub const MAX_SESSIONS: usize = 256;
