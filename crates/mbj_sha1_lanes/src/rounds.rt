@@ -1,10 +1,11 @@
 // The 80 rounds, each in all lanes.
 ghost use Rattle.std.specs.Prelude.{◌≡◌, ℕ, ◌+◌, ◌%◌, ◌<◌, ◌≤◌, List, length, slice_set};
+ghost use Rattle.std.specs.Int.{w32, rotate_left};
 ghost use Rattle.sha1.specs.Sha1.{first_words, parity, round, round_constant, round_fn, rounds, schedule, window_word};
 ghost use Rattle.mbj_types.specs.Lanes.{lane_of};
 ghost use Rattle.mbj_sha1_lanes.specs.Inside.Lanes.{IsLaneAt, working_lane};
 
-use mbj_sha_lanes::words32::{choice, majority, rotated_left};
+use mbj_sha_lanes::words::{Words32, choice, majority};
 use mbj_types::Lane32;
 
 /// The working variables of each lane (FIPS 180-4, 6.1.2).
@@ -15,6 +16,16 @@ pub(crate) struct Working<V> {
     pub(crate) c: V,
     pub(crate) d: V,
     pub(crate) e: V,
+}
+
+// Each word rotated left (3.2) by 1 to 31 bits.
+#[inline(always)]
+fn rotated_left<V: Lane32>(x: V, by: u32) -> V
+    requires above { 0 < by }
+    requires below { by < 32 }
+    ensures { (i : ℕ) → i < V.LANES → V.lane result i ≡ rotate_left w32 (V.lane x i) by }
+{
+    x.shl(by).xored(x.shr(32 - by))
 }
 
 // Parity (4.1.1).
@@ -31,11 +42,11 @@ fn function_at<V: Lane32>(t: usize, x: V, y: V, z: V) -> V
     ensures { (i : ℕ) → i < V.LANES → V.lane result i ≡ round_fn t (V.lane x i) (V.lane y i) (V.lane z i) }
 {
     if t < 20 {
-        choice(x, y, z)
+        choice::<V, Words32>(x, y, z)
     } else if t < 40 {
         parity(x, y, z)
     } else if t < 60 {
-        majority(x, y, z)
+        majority::<V, Words32>(x, y, z)
     } else {
         parity(x, y, z)
     }
@@ -104,7 +115,7 @@ fn first_step<V: Lane32>(words: &[V], v: Working<V>, t: usize) -> Working<V>
         → working_lane V.lane v i ≡ rounds h (schedule b 64) t
         → working_lane V.lane result i ≡ rounds h (schedule b 64) (t + 1) }
 {
-    let mixed = choice(v.b, v.c, v.d);
+    let mixed = choice::<V, Words32>(v.b, v.c, v.d);
     round(v, mixed, 0x5a82_7999, words[t])
 }
 

@@ -5,6 +5,7 @@ ghost use Rattle.mbj_types.specs.declared.kind.TheConstants.{SHA256_LANES};
 
 use crate::constants::ROUNDS;
 use crate::functions::Sha256;
+use mbj_sha_lanes::words::Words32;
 use mbj_types::Sha256Word;
 
 /// Compresses one block into one hash value in each lane of the product's vectors, as `compress_lanes` does, with the whole
@@ -22,5 +23,5 @@ pub fn compress_scheduled(
         → lane_of (lane_at 32) states.new i ≡ compress (lane_of (lane_at 32) states.old i) b }
     ensures length { length states.new ≡ 8 }
 {
-    mbj_sha_lanes::compress_scheduled::<Sha256Word, Sha256>(states, words, schedule);
+    mbj_sha_lanes::compress_scheduled::<Sha256Word, Words32, Sha256>(states, words, schedule);
 }

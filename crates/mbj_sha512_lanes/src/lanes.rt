@@ -6,6 +6,7 @@ ghost use Rattle.mbj_types.specs.Lanes.{lane_of};
 
 use crate::functions::Sha512;
 use mbj_sha_lanes::compress_windowed;
+use mbj_sha_lanes::words::Words64;
 use mbj_types::Lane64;
 
 /// Compresses one block into one hash value in each lane. `states` has 8 lane words, the words of the hash values; `words` has 16, the
@@ -16,5 +17,5 @@ pub fn compress_lanes<V: Lane64>(states: &mut [V], words: &mut [V])
     ensures { (i : ℕ) (b : List ℕ) → i < V.LANES → first_words b 16 ≡ lane_of V.lane words.old i
         → lane_of V.lane states.new i ≡ compress (lane_of V.lane states.old i) b }
 {
-    compress_windowed::<V, Sha512>(states, words);
+    compress_windowed::<V, Words64, Sha512>(states, words);
 }

@@ -5,6 +5,7 @@ ghost use Rattle.mbj_types.specs.declared.kind.TheConstants.{SHA512_LANES};
 
 use crate::constants::ROUNDS;
 use crate::functions::Sha512;
+use mbj_sha_lanes::words::Words64;
 use mbj_types::Sha512Word;
 
 /// Compresses one block into one hash value in each lane of the product's vectors, as `compress_lanes` does, with the whole
@@ -22,5 +23,5 @@ pub fn compress_scheduled(
         → lane_of (lane_at 64) states.new i ≡ compress (lane_of (lane_at 64) states.old i) b }
     ensures length { length states.new ≡ 8 }
 {
-    mbj_sha_lanes::compress_scheduled::<Sha512Word, Sha512>(states, words, schedule);
+    mbj_sha_lanes::compress_scheduled::<Sha512Word, Words64, Sha512>(states, words, schedule);
 }

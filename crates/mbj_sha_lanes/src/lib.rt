@@ -19,8 +19,7 @@ mod standard;
 #[cfg(test)]
 mod tests;
 mod windowed;
-pub mod words32;
-pub mod words64;
+pub mod words;
 mod working;
 
 pub use blocks::Blocks;

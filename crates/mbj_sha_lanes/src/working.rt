@@ -1,9 +1,11 @@
 //! A round of SHA-2 on the working variables (FIPS 180-4, 6.2.2 and 6.4.2, step 3), and a word of its schedule (step 1).
 ghost use Rattle.std.specs.Prelude.{◌≡◌, ℕ, ◌<◌, length};
 ghost use Rattle.mbj_types.specs.Lanes.{lane_of};
-ghost use Rattle.mbj_sha_lanes.specs.Sha2.{add_state, round, schedule_word, temp1, temp2, working_lane};
+ghost use Rattle.mbj_sha_lanes.specs.Sha2.{AreAmounts, add_state, big_sigma, round, schedule_word, small_sigma, temp1, temp2, working_lane};
+ghost use mir.Val.{bits};
 
 use crate::standard::Sha2;
+use crate::words::{Words, choice, majority};
 
 /// The working variables of each lane.
 #[derive(Clone, Copy)]
@@ -18,39 +20,67 @@ pub struct Working<V> {
     pub h: V,
 }
 
+// An upper case sigma, by the amounts of its rotations.
+#[inline(always)]
+fn big_sigma<V: Copy, W: Words<V>>(x: V, amounts: [u32; 3]) -> V
+    requires { AreAmounts (bits W.width) amounts }
+    ensures { (i : ℕ) → i < W.LANES → W.lane result i ≡ big_sigma W.width amounts (W.lane x i) }
+{
+    let first = W::rotated_right(x, amounts[0]);
+    let second = W::rotated_right(x, amounts[1]);
+    let third = W::rotated_right(x, amounts[2]);
+    W::xored(W::xored(first, second), third)
+}
+
+// A lower case sigma, whose last amount is that of a shift.
+#[inline(always)]
+fn small_sigma<V: Copy, W: Words<V>>(x: V, amounts: [u32; 3]) -> V
+    requires { AreAmounts (bits W.width) amounts }
+    ensures { (i : ℕ) → i < W.LANES → W.lane result i ≡ small_sigma W.width amounts (W.lane x i) }
+{
+    let first = W::rotated_right(x, amounts[0]);
+    let second = W::rotated_right(x, amounts[1]);
+    W::xored(W::xored(first, second), W::shr(x, amounts[2]))
+}
+
 // T1 of a round.
 #[inline(always)]
-fn first_sum<V: Copy, H: Sha2<V>>(v: Working<V>, constant: V, word: V) -> V
-    ensures { (i : ℕ) → i < H.LANES
-        → H.lane result i ≡ temp1 H.functions (working_lane H.lane v i) (H.lane constant i) (H.lane word i) }
+fn first_sum<V: Copy, W: Words<V>, H: Sha2<V, W>>(v: Working<V>, constant: V, word: V) -> V
+    ensures { (i : ℕ) → i < W.LANES
+        → W.lane result i ≡ temp1 W.width H.standard (working_lane W.lane v i) (W.lane constant i) (W.lane word i) }
 {
-    let sum = H::plus(v.h, H::big_sigma1(v.e));
-    let sum = H::plus(sum, H::choice(v.e, v.f, v.g));
-    H::plus(H::plus(sum, constant), word)
+    let sum = W::plus(v.h, big_sigma::<V, W>(v.e, H::sigmas()[1]));
+    let sum = W::plus(sum, choice::<V, W>(v.e, v.f, v.g));
+    W::plus(W::plus(sum, constant), word)
 }
 
 // T2 of a round.
 #[inline(always)]
-fn second_sum<V: Copy, H: Sha2<V>>(v: Working<V>) -> V
-    ensures { (i : ℕ) → i < H.LANES → H.lane result i ≡ temp2 H.functions (working_lane H.lane v i) }
+fn second_sum<V: Copy, W: Words<V>, H: Sha2<V, W>>(v: Working<V>) -> V
+    ensures { (i : ℕ) → i < W.LANES → W.lane result i ≡ temp2 W.width H.standard (working_lane W.lane v i) }
 {
-    H::plus(H::big_sigma0(v.a), H::majority(v.a, v.b, v.c))
+    let sum = big_sigma::<V, W>(v.a, H::sigmas()[0]);
+    W::plus(sum, majority::<V, W>(v.a, v.b, v.c))
 }
 
 /// A round, with its constant and its word.
 #[inline(always)]
-pub(crate) fn round<V: Copy, H: Sha2<V>>(v: Working<V>, constant: V, word: V) -> Working<V>
-    ensures { (i : ℕ) → i < H.LANES
-        → working_lane H.lane result i ≡ round H.functions (working_lane H.lane v i) (H.lane constant i) (H.lane word i) }
+pub(crate) fn round<V: Copy, W: Words<V>, H: Sha2<V, W>>(
+    v: Working<V>,
+    constant: V,
+    word: V,
+) -> Working<V>
+    ensures { (i : ℕ) → i < W.LANES
+        → working_lane W.lane result i ≡ round W.width H.standard (working_lane W.lane v i) (W.lane constant i) (W.lane word i) }
 {
-    let first = first_sum::<V, H>(v, constant, word);
-    let second = second_sum::<V, H>(v);
+    let first = first_sum::<V, W, H>(v, constant, word);
+    let second = second_sum::<V, W, H>(v);
     Working {
-        a: H::plus(first, second),
+        a: W::plus(first, second),
         b: v.a,
         c: v.b,
         d: v.c,
-        e: H::plus(v.d, first),
+        e: W::plus(v.d, first),
         f: v.e,
         g: v.f,
         h: v.g,
@@ -59,19 +89,20 @@ pub(crate) fn round<V: Copy, H: Sha2<V>>(v: Working<V>, constant: V, word: V) ->
 
 /// The word of a schedule that follows on those 2, 7, 15 and 16 places before it.
 #[inline(always)]
-pub(crate) fn schedule_word<V: Copy, H: Sha2<V>>(w2: V, w7: V, w15: V, w16: V) -> V
-    ensures { (i : ℕ) → i < H.LANES
-        → H.lane result i ≡ schedule_word H.functions (H.lane w2 i) (H.lane w7 i) (H.lane w15 i) (H.lane w16 i) }
+pub(crate) fn schedule_word<V: Copy, W: Words<V>, H: Sha2<V, W>>(w2: V, w7: V, w15: V, w16: V) -> V
+    ensures { (i : ℕ) → i < W.LANES
+        → W.lane result i ≡ schedule_word W.width H.standard (W.lane w2 i) (W.lane w7 i) (W.lane w15 i) (W.lane w16 i) }
 {
-    let sum = H::plus(H::small_sigma1(w2), w7);
-    H::plus(H::plus(sum, H::small_sigma0(w15)), w16)
+    let sum = W::plus(small_sigma::<V, W>(w2, H::sigmas()[3]), w7);
+    let sum = W::plus(sum, small_sigma::<V, W>(w15, H::sigmas()[2]));
+    W::plus(sum, w16)
 }
 
 /// Hash values as working variables.
 #[inline(always)]
-pub(crate) fn working_of<V: Copy, H: Sha2<V>>(states: &[V]) -> Working<V>
+pub(crate) fn working_of<V: Copy, W: Words<V>>(states: &[V]) -> Working<V>
     requires { length states.now ≡ 8 }
-    ensures { (i : ℕ) → working_lane H.lane result i ≡ lane_of H.lane states.now i }
+    ensures { (i : ℕ) → working_lane W.lane result i ≡ lane_of W.lane states.now i }
 {
     Working {
         a: states[0],
@@ -87,18 +118,18 @@ pub(crate) fn working_of<V: Copy, H: Sha2<V>>(states: &[V]) -> Working<V>
 
 /// The working variables are added to hash values (step 4).
 #[inline(always)]
-pub(crate) fn add_working<V: Copy, H: Sha2<V>>(states: &mut [V], v: Working<V>)
+pub(crate) fn add_working<V: Copy, W: Words<V>>(states: &mut [V], v: Working<V>)
     requires { length states.old ≡ 8 }
-    ensures { (i : ℕ) → i < H.LANES
-        → lane_of H.lane states.new i ≡ add_state H.functions (lane_of H.lane states.old i) (working_lane H.lane v i) }
+    ensures { (i : ℕ) → i < W.LANES
+        → lane_of W.lane states.new i ≡ add_state W.width (lane_of W.lane states.old i) (working_lane W.lane v i) }
 {
-    let start = working_of::<V, H>(states);
-    states[0] = H::plus(start.a, v.a);
-    states[1] = H::plus(start.b, v.b);
-    states[2] = H::plus(start.c, v.c);
-    states[3] = H::plus(start.d, v.d);
-    states[4] = H::plus(start.e, v.e);
-    states[5] = H::plus(start.f, v.f);
-    states[6] = H::plus(start.g, v.g);
-    states[7] = H::plus(start.h, v.h);
+    let start = working_of::<V, W>(states);
+    states[0] = W::plus(start.a, v.a);
+    states[1] = W::plus(start.b, v.b);
+    states[2] = W::plus(start.c, v.c);
+    states[3] = W::plus(start.d, v.d);
+    states[4] = W::plus(start.e, v.e);
+    states[5] = W::plus(start.f, v.f);
+    states[6] = W::plus(start.g, v.g);
+    states[7] = W::plus(start.h, v.h);
 }

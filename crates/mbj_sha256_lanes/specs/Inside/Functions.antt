@@ -1,18 +1,12 @@
 -- What SHA-224 and SHA-256 have of their own among the hashes of SHA-2, and that it is as they all have it.
-use Rattle.std.proofs.Common.{inl, refl, sym, ◌∙◌}
+use Rattle.std.proofs.Common.{[], ◌∷◌, inl, refl, rules, w32, sym, ◌∙◌}
 use Rattle.sha2.specs.Sha256 as Sha256
 use Rattle.sha2.proofs.Schedule256.{length-first_words, rounds_next, slice_index-first_words, slice_index-schedule_first, slice_index-schedule_next}
-use Rattle.mbj_sha_lanes.specs.Sha2.{IsSha2, Sha2Functions}
+use Rattle.mbj_sha_lanes.specs.Sha2.{IsSha2, Sha2Standard}
 
-abbrev pub sha256_functions : Sha2Functions
-sha256_functions = record {
-  add = Sha256.add32;
-  ch = Sha256.ch;
-  maj = Sha256.maj;
-  big_sigma0 = Sha256.big_sigma0;
-  big_sigma1 = Sha256.big_sigma1;
-  small_sigma0 = Sha256.small_sigma0;
-  small_sigma1 = Sha256.small_sigma1;
+abbrev pub sha256 : Sha2Standard
+sha256 = record {
+  sigmas = (2 ∷ 13 ∷ 22 ∷ []) ∷ (6 ∷ 11 ∷ 25 ∷ []) ∷ (7 ∷ 18 ∷ 3 ∷ []) ∷ (17 ∷ 19 ∷ 10 ∷ []) ∷ [];
   count = 64;
   constants = Sha256.round_constants;
   first_words = λ b. Sha256.first_words b 16;
@@ -20,9 +14,10 @@ sha256_functions = record {
   rounds = Sha256.rounds;
 }
 
-pub sha256_laws : IsSha2 sha256_functions
+pub sha256_laws : IsSha2 w32 sha256
 unfolding Sha256.rounds
 sha256_laws = record {
+  sigmas = search rules;
   count = inl refl;
   constants = refl;
   words = λ b. length-first_words b 16;

@@ -4,12 +4,12 @@ use Rattle.mbj_sha_lanes.proofs.RoundNumbers.{two_on, next_eight}
 use Rattle.mbj_sha_lanes.proofs.scheduled.all_rounds.Goals as goal
 
 pub turns-init : goal.turns-init
-turns-init g c i b lt words = sym (g.met.H.Sha2.laws.rounds_none (working_lane g.H.Sha2.lane c.args.start i) (g.H.Sha2.functions.schedule b))
+turns-init g c i b lt words = sym (g.met.H.Sha2.laws.rounds_none (working_lane g.W.Words.lane c.args.start i) (g.H.Sha2.standard.schedule b))
 
 pub turns-preserved : goal.turns-preserved
 turns-preserved g c i b lt words =
-    let h = working_lane g.H.Sha2.lane c.args.start i in
-    let n : ℕ = g.H.Sha2.functions.count in
+    let h = working_lane g.W.Words.lane c.args.start i in
+    let n : ℕ = g.H.Sha2.standard.count in
     let count = g.met.H.Sha2.laws.count in
     let rounds = g.met.H.Sha2.rounds in
     let t : ℕ = 8 * c.turns.turn in
@@ -22,5 +22,5 @@ pub returns : goal.returns
 returns g c i b lt words =
     let count = g.met.H.Sha2.laws.count in
     let rounds = g.met.H.Sha2.rounds in
-    let last : 8 * c.turns.turn ≡ g.H.Sha2.functions.count = omega arith in
+    let last : 8 * c.turns.turn ≡ g.H.Sha2.standard.count = omega arith in
     rw last at (c.turns.invariant i b lt words)

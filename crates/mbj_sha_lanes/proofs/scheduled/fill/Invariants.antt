@@ -6,6 +6,6 @@ use Rattle.mbj_sha_lanes.proofs.scheduled.fill.Given as goal
 
 abbrev pub invariant-words : goal.invariant-words
 invariant-words g l =
-    (length l.words ≡ g.H.Sha2.functions.count)
-    × ((i : ℕ) (b : List ℕ) → i < g.H.Sha2.LANES → g.H.Sha2.functions.first_words b ≡ take 16 (lane_of g.H.Sha2.lane l.initial.words i)
-    → AreScheduled (lane_of g.H.Sha2.lane l.words i) (g.H.Sha2.functions.schedule b) l.t)
+    (length l.words ≡ g.H.Sha2.standard.count)
+    × ((i : ℕ) (b : List ℕ) → i < g.W.Words.LANES → g.H.Sha2.standard.first_words b ≡ take 16 (lane_of g.W.Words.lane l.initial.words i)
+    → AreScheduled (lane_of g.W.Words.lane l.words i) (g.H.Sha2.standard.schedule b) l.t)

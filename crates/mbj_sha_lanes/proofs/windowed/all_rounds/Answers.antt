@@ -9,11 +9,11 @@ use Rattle.mbj_sha_lanes.proofs.windowed.all_rounds.Goals as goal
 pub turns-init : goal.turns-init
 turns-init g c i b lt words =
     let laws = g.met.H.Sha2.laws in
-    let f = g.H.Sha2.functions in
-    let h = working_lane g.H.Sha2.lane c.args.start i in
-    let win = window_of f laws b _ words in
+    let f = g.H.Sha2.standard in
+    let h = working_lane g.W.Words.lane c.args.start i in
+    let win = window_of laws b _ words in
     let r0 = sym (laws.rounds_none h (f.schedule b)) in
-    let first : AreScheduled (lane_of g.H.Sha2.lane c.args.words.now i) (f.schedule b) 16 = λ t. window_first _ _ t win in
+    let first : AreScheduled (lane_of g.W.Words.lane c.args.words.now i) (f.schedule b) 16 = λ t. window_first _ _ t win in
     let r2 = c.two_steps-v.ensures i 16 b h lt (omega arith) first r0 in
     let r4 = c.two_steps-v-2.ensures i 16 b h lt (omega arith) first r2 in
     let r6 = c.two_steps-v-3.ensures i 16 b h lt (omega arith) first r4 in
@@ -26,7 +26,7 @@ turns-init g c i b lt words =
 
 pub turns-preserved : goal.turns-preserved
 turns-preserved g c i b lt words =
-    let h = working_lane g.H.Sha2.lane c.args.start i in
+    let h = working_lane g.W.Words.lane c.args.start i in
     let t : ℕ = 16 * c.turns.turn in
     let r2 = c.two_steps-v-in-turns.ensures i b h lt (c.turns.invariant i b lt words) in
     let r4 = rw (two_on t 2) at (c.two_steps-v-in-turns-2.ensures i b h lt r2) in
@@ -41,5 +41,5 @@ pub returns : goal.returns
 returns g c i b lt words =
     let count = g.met.H.Sha2.laws.count in
     let rounds = g.met.H.Sha2.rounds in
-    let last : 16 * c.turns.turn ≡ g.H.Sha2.functions.count = omega arith in
+    let last : 16 * c.turns.turn ≡ g.H.Sha2.standard.count = omega arith in
     (rw last at (c.turns.invariant i b lt words)).1

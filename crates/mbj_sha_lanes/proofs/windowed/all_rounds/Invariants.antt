@@ -6,6 +6,6 @@ use Rattle.mbj_sha_lanes.proofs.windowed.all_rounds.Given as goal
 
 abbrev pub invariant-turns : goal.invariant-turns
 invariant-turns g l =
-    let lane = g.H.Sha2.lane in let f = g.H.Sha2.functions in
-    (i : ℕ) (b : List ℕ) → i < g.H.Sha2.LANES → f.first_words b ≡ lane_of lane l.fn.words i
+    let lane = g.W.Words.lane in let f = g.H.Sha2.standard in
+    (i : ℕ) (b : List ℕ) → i < g.W.Words.LANES → f.first_words b ≡ lane_of lane l.fn.words i
     → IsWindowed lane f i b (working_lane lane l.fn.start i) l.words l.v (16 * l.turn)

@@ -5,7 +5,7 @@ use Rattle.mbj_sha_lanes.proofs.working.add_working.Goals as goal
 
 pub returns : goal.returns
 returns g c i lt =
-    let lane = g.H.Sha2.lane in
+    let lane = g.W.Words.lane in
     eight_written lane c.args.states.now _ _ _ _ _ _ _ _ i c.requires
     ∙ rw (
       c.plus.ensures i lt,
@@ -16,4 +16,4 @@ returns g c i lt =
       c.plus-6.ensures i lt,
       c.plus-7.ensures i lt,
       c.plus-8.ensures i lt,
-    ) (ap (λ h. add_state g.H.Sha2.functions h (working_lane lane c.args.v i)) (c.working_of-start.ensures i))
+    ) (ap (λ h. add_state g.W.Words.width h (working_lane lane c.args.v i)) (c.working_of-start.ensures i))

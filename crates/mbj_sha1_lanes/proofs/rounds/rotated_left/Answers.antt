@@ -1,6 +1,6 @@
 use Rattle.std.proofs.Common.{◌∙◌, bit_xor, ap₂, w32}
 use Rattle.mbj_types.proofs.LaneRotations.{rotated_left}
-use Rattle.mbj_sha_lanes.proofs.words32.rotated_left.Goals as goal
+use Rattle.mbj_sha1_lanes.proofs.rounds.rotated_left.Goals as goal
 
 pub returns : goal.returns
 returns g c i h =

@@ -1,6 +1,6 @@
 use Rattle.std.proofs.Common.{◌∙◌, bit_xor, ap₂, w64}
 use Rattle.mbj_types.proofs.LaneRotations.{rotated_right}
-use Rattle.mbj_sha_lanes.proofs.words64.rotated_right.Goals as goal
+use Rattle.mbj_sha_lanes.proofs.words.Words64Words.rotated_right.Goals as goal
 
 pub returns : goal.returns
 returns g c i h =
