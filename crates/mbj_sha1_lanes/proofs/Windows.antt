@@ -1,5 +1,5 @@
 -- The words of a block as a window, and the five lane words of hash values in one lane.
-use Rattle.std.proofs.Common.{◌≡◌, ℕ, ◌+◌, ◌%◌, ◌<◌, List, [], ◌∷◌, length, slice_index, slice_index_or, slice_set, get_or, refl, sym, ap, ◌∙◌, arith}
+use Rattle.std.proofs.Common.{◌≡◌, ℕ, ◌+◌, List, [], ◌∷◌, length, slice_index, slice_index_or, slice_set, get_or, refl, sym, ap, ◌∙◌, arith}
 use Rattle.sha1.specs.Sha1.{first_words, schedule, IsWindow}
 use Rattle.sha1.proofs.Schedule.{IsWindow_first, length-first_words, slice_index-first_words}
 use Rattle.mbj_types.specs.Lanes.{lane_of}
@@ -7,10 +7,6 @@ use Rattle.mbj_types.specs.Lanes.{lane_of}
 -- one round on
 pub one_on : (t k : ℕ) → t + k + 1 ≡ t + (k + 1)
 one_on t k = omega arith
-
--- each round has its place in the window
-pub in_window : (t n : ℕ) → n ≡ 16 → t % 16 < n
-in_window t n e = rw e (omega arith)
 
 -- the first 16 words of a block are the window before round 16
 pub window_of : (b w : List ℕ) → first_words b 16 ≡ w → IsWindow w (schedule b 64) 16

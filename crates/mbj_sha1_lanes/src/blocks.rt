@@ -17,6 +17,7 @@ use mbj_types::{SHA1_LANES, Sha1Word};
 ///     expect(&rt, "digest", states[i], DIGESTS[i]);
 /// }
 /// ```
+#[tactic(auto, using(crate::proofs::BlockWords::first_words_is))]
 pub fn compress(states: &mut [[u32; 5]; SHA1_LANES], blocks: &[[u8; 64]; SHA1_LANES])
     ensures { (i : ℕ) → i < SHA1_LANES → slice_index_or states.new i []
         ≡ compress (slice_index_or states.old i []) (slice_index_or blocks.now i []) }

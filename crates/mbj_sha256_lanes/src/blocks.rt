@@ -17,6 +17,7 @@ use mbj_types::{SHA256_LANES, Sha256Word};
 ///     expect(&rt, "digest", states[i], DIGESTS[i]);
 /// }
 /// ```
+#[tactic(auto, using(crate::proofs::BlockWords::first_words_is))]
 pub fn compress(states: &mut [[u32; 8]; SHA256_LANES], blocks: &[[u8; 64]; SHA256_LANES])
     ensures { (i : ℕ) → i < SHA256_LANES → slice_index_or states.new i []
         ≡ compress (slice_index_or states.old i []) (slice_index_or blocks.now i []) }

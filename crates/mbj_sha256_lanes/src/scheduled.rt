@@ -14,6 +14,7 @@ use mbj_types::Sha256Word;
 ///
 /// The words of a round fill more registers than a processor without AVX-512 has, and there this is faster.
 #[inline(always)]
+#[tactic(auto, unfolding(sha2::specs::Sha256::compress))]
 pub fn compress_scheduled(
     states: &mut [Sha256Word; 8],
     words: &[Sha256Word; 16],

@@ -17,6 +17,7 @@ use mbj_types::{SHA512_LANES, Sha512Word};
 ///     expect(&rt, "digest", states[i], by_sha2(letters(i)));
 /// }
 /// ```
+#[tactic(auto, using(crate::proofs::BlockWords::first_words_is))]
 pub fn compress(states: &mut [[u64; 8]; SHA512_LANES], blocks: &[[u8; 128]; SHA512_LANES])
     ensures { (i : ℕ) → i < SHA512_LANES → slice_index_or states.new i []
         ≡ compress (slice_index_or states.old i []) (slice_index_or blocks.now i []) }

@@ -11,6 +11,7 @@ use mbj_types::Lane64;
 
 /// Compresses one block into one hash value in each lane. `states` has 8 lane words, the words of the hash values; `words` has 16, the
 /// words of the blocks, and is used up: its contents are unspecified afterwards.
+#[tactic(auto, unfolding(sha2::specs::Sha512::compress))]
 pub fn compress_lanes<V: Lane64>(states: &mut [V], words: &mut [V])
     requires states { length states.old ≡ 8 }
     requires words { length words.old ≡ 16 }

@@ -14,6 +14,7 @@ use mbj_types::Sha512Word;
 ///
 /// The words of a round fill more registers than a processor without AVX-512 has, and there this is faster.
 #[inline(always)]
+#[tactic(auto, unfolding(sha2::specs::Sha512::compress))]
 pub fn compress_scheduled(
     states: &mut [Sha512Word; 8],
     words: &[Sha512Word; 16],

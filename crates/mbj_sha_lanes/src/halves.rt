@@ -41,6 +41,7 @@ pub fn part_of(vector: u32x16, half: Half) -> u32x8
 
 // A vector with another half.
 #[inline(always)]
+#[tactic(auto, using(crate::proofs::Groups::first_lane, crate::proofs::Groups::second_lane))]
 fn with_part(vector: u32x16, half: Half, part: u32x8) -> u32x16
     ensures { (i : ℕ) → i < 8 → lane_at 32 result (first_of half + i) ≡ lane_at 32 part i }
 {

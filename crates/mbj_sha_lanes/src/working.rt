@@ -100,6 +100,7 @@ pub(crate) fn schedule_word<V: Copy, W: Words<V>, H: Sha2<V, W>>(w2: V, w7: V, w
 
 /// Hash values as working variables.
 #[inline(always)]
+#[tactic(auto, using(crate::proofs::EightWords::eight_read))]
 pub(crate) fn working_of<V: Copy, W: Words<V>>(states: &[V]) -> Working<V>
     requires { length states.now ≡ 8 }
     ensures { (i : ℕ) → working_lane W.lane result i ≡ lane_of W.lane states.now i }

@@ -6,9 +6,6 @@ use Rattle.mbj_sha_lanes.proofs.Groups.{same_lanes}
 use Rattle.mbj_sha_lanes.proofs.VectorParts.{set_more}
 use Rattle.mbj_sha_lanes.proofs.halves.put_half.Goals as goal
 
-pub vectors-init : goal.vectors-init
-vectors-init c j i lt h = absurd (omega arith)
-
 pub vectors-preserved : goal.vectors-preserved
 vectors-preserved c j i lt h =
     set_more (λ j v. lane_at 32 v (first_of c.args.half + i) ≡ lane_at 32 (slice_index_or c.args.parts.now j []) i) c.vectors.vectors c.vectors.k c.with_part.result []

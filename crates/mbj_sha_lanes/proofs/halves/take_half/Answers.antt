@@ -6,9 +6,6 @@ use Rattle.mbj_sha_lanes.proofs.Groups.{same_lanes}
 use Rattle.mbj_sha_lanes.proofs.VectorParts.{set_more}
 use Rattle.mbj_sha_lanes.proofs.halves.take_half.Goals as goal
 
-pub vectors-init : goal.vectors-init
-vectors-init c j i lt h = absurd (omega arith)
-
 pub vectors-preserved : goal.vectors-preserved
 vectors-preserved c j i lt h =
     set_more (λ j v. lane_at 32 v i ≡ lane_at 32 (slice_index_or c.args.vectors.now j []) (first_of c.args.half + i)) c.vectors.parts c.vectors.k c.part_of.result []

@@ -4,9 +4,3 @@ use Rattle.mbj_sha_lanes.proofs.load64.pair.Goals as goal
 
 pub returns-clause-words : goal.returns-clause-words
 returns-clause-words c = loaded c.args.low.now c.args.high.now c.args.at (omega arith) (omega arith) c.type_inv.low c.type_inv.high
-
-pub returns-clause-low : goal.returns-clause-low
-returns-clause-low c k = (c.type_inv.low k).fits
-
-pub returns-clause-high : goal.returns-clause-high
-returns-clause-high c k = (c.type_inv.high k).fits

@@ -1,10 +1,7 @@
-use Rattle.std.proofs.Common.{ℕ, ◌≡◌, ◌*◌, sym, arith}
+use Rattle.std.proofs.Common.{ℕ, ◌*◌, arith}
 use Rattle.mbj_sha_lanes.specs.Sha2.{working_lane}
 use Rattle.mbj_sha_lanes.proofs.RoundNumbers.{two_on, next_eight}
 use Rattle.mbj_sha_lanes.proofs.scheduled.all_rounds.Goals as goal
-
-pub turns-init : goal.turns-init
-turns-init g c i b lt words = sym (g.met.H.Sha2.laws.rounds_none (working_lane g.W.Words.lane c.args.start i) (g.H.Sha2.standard.schedule b))
 
 pub turns-preserved : goal.turns-preserved
 turns-preserved g c i b lt words =
@@ -17,10 +14,3 @@ turns-preserved g c i b lt words =
     let r4 = rw (two_on t 2) at (c.two_steps-v-in-turns.ensures i n b h lt (omega arith) words r2) in
     let r6 = rw (two_on t 4) at (c.two_steps-v-in-turns-2.ensures i n b h lt (omega arith) words r4) in
     rw (next_eight c.turns.turn) at (c.two_steps-v-in-turns-3.ensures i n b h lt (omega arith) words r6)
-
-pub returns : goal.returns
-returns g c i b lt words =
-    let count = g.met.H.Sha2.laws.count in
-    let rounds = g.met.H.Sha2.rounds in
-    let last : 8 * c.turns.turn ≡ g.H.Sha2.standard.count = omega arith in
-    rw last at (c.turns.invariant i b lt words)
