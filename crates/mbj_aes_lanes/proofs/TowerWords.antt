@@ -38,7 +38,7 @@ pub tower_word-sum : {V : Type 0} (lane : V → ℕ → ℕ) → ((x : V) (i : �
     → tower_word lane result i ≡ xor_lists (tower_word lane a i) (tower_word lane b i)
 tower_word-sum lane fits a b result i e =
     let at = λ (x y : _). from_tower-xor (lane x i) (lane y i) (fits x i) (fits y i) in
-    ap (map from_tower) e ∙ (λ j. at a.b0 b.b0 j ∷ at a.b1 b.b1 j ∷ at a.b2 b.b2 j ∷ at a.b3 b.b3 j ∷ [])
+    ap (map from_tower) e ∙ (λ j. at a.0 b.0 j ∷ at a.1 b.1 j ∷ at a.2 b.2 j ∷ at a.3 b.3 j ∷ [])
 
 -- the constant of the S-box added to each byte of a state
 pub constant-added-in-tower : {V : Type 0} (lane : V → ℕ → ℕ) (s constant : State V) (i : ℕ)

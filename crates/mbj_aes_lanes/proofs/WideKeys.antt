@@ -43,10 +43,10 @@ tower_block-sum lane fits s key result i e =
     let at = λ (x y : _). from_tower-xor (lane x i) (lane y i) (fits x i) (fits y i) in
     ap (map from_tower) e
     ∙ (λ j.
-    at s.c0.b0 key.c0.b0 j ∷ at s.c0.b1 key.c0.b1 j ∷ at s.c0.b2 key.c0.b2 j ∷ at s.c0.b3 key.c0.b3 j
-    ∷ at s.c1.b0 key.c1.b0 j ∷ at s.c1.b1 key.c1.b1 j ∷ at s.c1.b2 key.c1.b2 j ∷ at s.c1.b3 key.c1.b3 j
-    ∷ at s.c2.b0 key.c2.b0 j ∷ at s.c2.b1 key.c2.b1 j ∷ at s.c2.b2 key.c2.b2 j ∷ at s.c2.b3 key.c2.b3 j
-    ∷ at s.c3.b0 key.c3.b0 j ∷ at s.c3.b1 key.c3.b1 j ∷ at s.c3.b2 key.c3.b2 j ∷ at s.c3.b3 key.c3.b3 j ∷ [])
+    at s.0.0 key.0.0 j ∷ at s.0.1 key.0.1 j ∷ at s.0.2 key.0.2 j ∷ at s.0.3 key.0.3 j
+    ∷ at s.1.0 key.1.0 j ∷ at s.1.1 key.1.1 j ∷ at s.1.2 key.1.2 j ∷ at s.1.3 key.1.3 j
+    ∷ at s.2.0 key.2.0 j ∷ at s.2.1 key.2.1 j ∷ at s.2.2 key.2.2 j ∷ at s.2.3 key.2.3 j
+    ∷ at s.3.0 key.3.0 j ∷ at s.3.1 key.3.1 j ∷ at s.3.2 key.3.2 j ∷ at s.3.3 key.3.3 j ∷ [])
 
 -- ---- the keys of the rounds
 

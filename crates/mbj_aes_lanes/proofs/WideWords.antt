@@ -65,7 +65,7 @@ four-words ys a0 a1 a2 a3 b0 b1 b2 b3 c0 c1 c2 c3 d0 d1 d2 d3 h = absurd (omega 
 
 module _ {V : Type 0} (lane : V → ℕ → ℕ) where
   four-written : (xs : List V) (w : Word V) → length xs ≡ 4
-      → slice_set (slice_set (slice_set (slice_set xs 0 w.b0) 1 w.b1) 2 w.b2) 3 w.b3 ≡ w.b0 ∷ w.b1 ∷ w.b2 ∷ w.b3 ∷ []
+      → slice_set (slice_set (slice_set (slice_set xs 0 w.0) 1 w.1) 2 w.2) 3 w.3 ≡ w.0 ∷ w.1 ∷ w.2 ∷ w.3 ∷ []
   four-written (a ∷ b ∷ c ∷ d ∷ []) w h = refl
   four-written xs w h = absurd (omega arith)
 
@@ -82,7 +82,7 @@ module _ {V : Type 0} (lane : V → ℕ → ℕ) where
 
   -- four lane words that are written are a word in each lane
   pub lane_of-put : (words : List V) (at n : ℕ) (w : Word V) (k : ℕ) → n ≡ 4 → at + 4 ≤ length words
-      → lane_of lane (put_mid at n words (slice_set (slice_set (slice_set (slice_set (take n (drop at words)) 0 w.b0) 1 w.b1) 2 w.b2) 3 w.b3)) k
+      → lane_of lane (put_mid at n words (slice_set (slice_set (slice_set (slice_set (take n (drop at words)) 0 w.0) 1 w.1) 2 w.2) 3 w.3)) k
       ≡ take at (lane_of lane words k) ++ word_lane lane w k ++ drop (at + 4) (lane_of lane words k)
   lane_of-put words at n w k e h =
       let size : length (take n (drop at words)) ≡ n = length-take-le n (drop at words) (omega (arith, length-drop at words)) in

@@ -8,11 +8,11 @@ use Rattle.mbj_aes_lanes.specs.declared.wide.state.State.{State}
 module _ {V : Type 0} (lane : V → ℕ → ℕ) where
   -- the word in lane i
   abbrev pub word_lane : Word V → ℕ → List ℕ
-  word_lane w i = lane w.b0 i ∷ lane w.b1 i ∷ lane w.b2 i ∷ lane w.b3 i ∷ []
+  word_lane w i = lane w.0 i ∷ lane w.1 i ∷ lane w.2 i ∷ lane w.3 i ∷ []
 
   -- the block in lane i, column after column
   unfoldable pub state_lane : State V → ℕ → List ℕ
-  state_lane s i = word_lane s.c0 i ++ word_lane s.c1 i ++ word_lane s.c2 i ++ word_lane s.c3 i
+  state_lane s i = word_lane s.0 i ++ word_lane s.1 i ++ word_lane s.2 i ++ word_lane s.3 i
 
   -- the word and the block that stand there in the tower's basis
   abbrev pub tower_word : Word V → ℕ → List ℕ

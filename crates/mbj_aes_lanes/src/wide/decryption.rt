@@ -18,44 +18,24 @@ use mbj_types::Lane8;
 fn unshifted_rows<V: Lane8>(s: &State<V>) -> State<V>
     ensures { (i : ℕ) → state_lane V.lane result i ≡ inv_shift_rows (state_lane V.lane s.now i) }
 {
-    State {
-        c0: Word {
-            b0: s.c0.b0,
-            b1: s.c3.b1,
-            b2: s.c2.b2,
-            b3: s.c1.b3,
-        },
-        c1: Word {
-            b0: s.c1.b0,
-            b1: s.c0.b1,
-            b2: s.c3.b2,
-            b3: s.c2.b3,
-        },
-        c2: Word {
-            b0: s.c2.b0,
-            b1: s.c1.b1,
-            b2: s.c0.b2,
-            b3: s.c3.b3,
-        },
-        c3: Word {
-            b0: s.c3.b0,
-            b1: s.c2.b1,
-            b2: s.c1.b2,
-            b3: s.c0.b3,
-        },
-    }
+    State(
+        Word(s.0.0, s.3.1, s.2.2, s.1.3),
+        Word(s.1.0, s.0.1, s.3.2, s.2.3),
+        Word(s.2.0, s.1.1, s.0.2, s.3.3),
+        Word(s.3.0, s.2.1, s.1.2, s.0.3),
+    )
 }
 
 #[inline(always)]
 fn inverse_word<V: Lane8>(word: Word<V>) -> Word<V>
     ensures { (i : ℕ) → i < V.LANES → word_lane V.lane result i ≡ inv_sub_bytes (word_lane V.lane word i) }
 {
-    Word {
-        b0: inverse_substituted(word.b0),
-        b1: inverse_substituted(word.b1),
-        b2: inverse_substituted(word.b2),
-        b3: inverse_substituted(word.b3),
-    }
+    Word(
+        inverse_substituted(word.0),
+        inverse_substituted(word.1),
+        inverse_substituted(word.2),
+        inverse_substituted(word.3),
+    )
 }
 
 // INVSUBBYTES.
@@ -64,12 +44,12 @@ fn inverse_word<V: Lane8>(word: Word<V>) -> Word<V>
 fn inverse_bytes<V: Lane8>(s: State<V>) -> State<V>
     ensures { (i : ℕ) → i < V.LANES → state_lane V.lane result i ≡ inv_sub_bytes (state_lane V.lane s i) }
 {
-    State {
-        c0: inverse_word(s.c0),
-        c1: inverse_word(s.c1),
-        c2: inverse_word(s.c2),
-        c3: inverse_word(s.c3),
-    }
+    State(
+        inverse_word(s.0),
+        inverse_word(s.1),
+        inverse_word(s.2),
+        inverse_word(s.3),
+    )
 }
 
 // ADDROUNDKEY, of round `r`.

@@ -32,12 +32,12 @@ fn substituted<V: Lane8>(x: V) -> V
 fn sub_word<V: Lane8>(word: Word<V>) -> Word<V>
     ensures { (i : ℕ) → i < V.LANES → tower_word V.lane result i ≡ sub_bytes (tower_word V.lane word i) }
 {
-    Word {
-        b0: substituted(word.b0),
-        b1: substituted(word.b1),
-        b2: substituted(word.b2),
-        b3: substituted(word.b3),
-    }
+    Word(
+        substituted(word.0),
+        substituted(word.1),
+        substituted(word.2),
+        substituted(word.3),
+    )
 }
 
 // ROTWORD.
@@ -45,12 +45,7 @@ fn sub_word<V: Lane8>(word: Word<V>) -> Word<V>
 fn rot_word<V: Lane8>(word: Word<V>) -> Word<V>
     ensures { (i : ℕ) → tower_word V.lane result i ≡ rot_word (tower_word V.lane word i) }
 {
-    Word {
-        b0: word.b1,
-        b1: word.b2,
-        b2: word.b3,
-        b3: word.b0,
-    }
+    Word(word.1, word.2, word.3, word.0)
 }
 
 // The sum of two words, byte by byte.
@@ -78,12 +73,12 @@ fn constant_word<V: Lane8>(j: usize) -> Word<V>
     ensures { (i : ℕ) → i < V.LANES → tower_word V.lane result i ≡ rcon j }
 {
     let [first, ..] = round_constant(j);
-    Word {
-        b0: to_tower_byte(V::splat(first)),
-        b1: V::splat(0),
-        b2: V::splat(0),
-        b3: V::splat(0),
-    }
+    Word(
+        to_tower_byte(V::splat(first)),
+        V::splat(0),
+        V::splat(0),
+        V::splat(0),
+    )
 }
 
 // What is added to word `i - key_words` to make word `i` of the schedules of keys of `key_words` words.

@@ -29,12 +29,12 @@ pub fn to_tower_byte<V: Lane8>(x: V) -> V
 fn word_to_tower<V: Lane8>(word: Word<V>) -> Word<V>
     ensures { (i : ℕ) → i < V.LANES → tower_word V.lane result i ≡ word_lane V.lane word i }
 {
-    Word {
-        b0: to_tower_byte(word.b0),
-        b1: to_tower_byte(word.b1),
-        b2: to_tower_byte(word.b2),
-        b3: to_tower_byte(word.b3),
-    }
+    Word(
+        to_tower_byte(word.0),
+        to_tower_byte(word.1),
+        to_tower_byte(word.2),
+        to_tower_byte(word.3),
+    )
 }
 
 /// The state in the tower's basis.
@@ -43,12 +43,12 @@ fn word_to_tower<V: Lane8>(word: Word<V>) -> Word<V>
 pub fn to_tower<V: Lane8>(s: State<V>) -> State<V>
     ensures { (i : ℕ) → i < V.LANES → tower_block V.lane result i ≡ state_lane V.lane s i }
 {
-    State {
-        c0: word_to_tower(s.c0),
-        c1: word_to_tower(s.c1),
-        c2: word_to_tower(s.c2),
-        c3: word_to_tower(s.c3),
-    }
+    State(
+        word_to_tower(s.0),
+        word_to_tower(s.1),
+        word_to_tower(s.2),
+        word_to_tower(s.3),
+    )
 }
 
 // The constant of the S-box added to each byte.
@@ -104,12 +104,12 @@ pub fn key_at_tower<V: Lane8>(words: &[V], r: usize, rounds: usize) -> State<V>
 fn word_from_tower<V: Lane8>(word: Word<V>) -> Word<V>
     ensures { (i : ℕ) → i < V.LANES → word_lane V.lane result i ≡ tower_word V.lane word i }
 {
-    Word {
-        b0: by_halves(&FROM_TOWER_LOW, &FROM_TOWER_HIGH, word.b0),
-        b1: by_halves(&FROM_TOWER_LOW, &FROM_TOWER_HIGH, word.b1),
-        b2: by_halves(&FROM_TOWER_LOW, &FROM_TOWER_HIGH, word.b2),
-        b3: by_halves(&FROM_TOWER_LOW, &FROM_TOWER_HIGH, word.b3),
-    }
+    Word(
+        by_halves(&FROM_TOWER_LOW, &FROM_TOWER_HIGH, word.0),
+        by_halves(&FROM_TOWER_LOW, &FROM_TOWER_HIGH, word.1),
+        by_halves(&FROM_TOWER_LOW, &FROM_TOWER_HIGH, word.2),
+        by_halves(&FROM_TOWER_LOW, &FROM_TOWER_HIGH, word.3),
+    )
 }
 
 // The state that stands in the tower's basis.
@@ -118,12 +118,12 @@ fn word_from_tower<V: Lane8>(word: Word<V>) -> Word<V>
 fn from_tower<V: Lane8>(s: State<V>) -> State<V>
     ensures { (i : ℕ) → i < V.LANES → state_lane V.lane result i ≡ tower_block V.lane s i }
 {
-    State {
-        c0: word_from_tower(s.c0),
-        c1: word_from_tower(s.c1),
-        c2: word_from_tower(s.c2),
-        c3: word_from_tower(s.c3),
-    }
+    State(
+        word_from_tower(s.0),
+        word_from_tower(s.1),
+        word_from_tower(s.2),
+        word_from_tower(s.3),
+    )
 }
 
 /// Round key `r` of `rounds` rounds in plain bytes, as it stands in the schedule.

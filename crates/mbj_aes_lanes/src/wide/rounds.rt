@@ -29,17 +29,17 @@ fn full_column<V: Lane8>(column: Word<V>, key: Word<V>) -> Word<V>
     ensures { (i : ℕ) → i < V.LANES → tower_word V.lane result i
         ≡ xor_lists (mixed_column (sub_bytes (tower_word V.lane column i)) 0) (with_constant (tower_word V.lane key i)) }
 {
-    let s0 = substituted_in_tower(column.b0);
-    let s1 = substituted_in_tower(column.b1);
-    let s2 = substituted_in_tower(column.b2);
-    let s3 = substituted_in_tower(column.b3);
+    let s0 = substituted_in_tower(column.0);
+    let s1 = substituted_in_tower(column.1);
+    let s2 = substituted_in_tower(column.2);
+    let s3 = substituted_in_tower(column.3);
     let all = s0.once.xored(s1.once).xored(s2.once.xored(s3.once));
-    Word {
-        b0: mixed_byte(all, s0, s1, key.b0),
-        b1: mixed_byte(all, s1, s2, key.b1),
-        b2: mixed_byte(all, s2, s3, key.b2),
-        b3: mixed_byte(all, s3, s0, key.b3),
-    }
+    Word(
+        mixed_byte(all, s0, s1, key.0),
+        mixed_byte(all, s1, s2, key.1),
+        mixed_byte(all, s2, s3, key.2),
+        mixed_byte(all, s3, s0, key.3),
+    )
 }
 
 // SHIFTROWS: which byte is read.
@@ -48,32 +48,12 @@ fn full_column<V: Lane8>(column: Word<V>, key: Word<V>) -> Word<V>
 fn shifted_rows<V: Lane8>(s: &State<V>) -> State<V>
     ensures { (i : ℕ) → state_lane V.lane result i ≡ shift_rows (state_lane V.lane s.now i) }
 {
-    State {
-        c0: Word {
-            b0: s.c0.b0,
-            b1: s.c1.b1,
-            b2: s.c2.b2,
-            b3: s.c3.b3,
-        },
-        c1: Word {
-            b0: s.c1.b0,
-            b1: s.c2.b1,
-            b2: s.c3.b2,
-            b3: s.c0.b3,
-        },
-        c2: Word {
-            b0: s.c2.b0,
-            b1: s.c3.b1,
-            b2: s.c0.b2,
-            b3: s.c1.b3,
-        },
-        c3: Word {
-            b0: s.c3.b0,
-            b1: s.c0.b1,
-            b2: s.c1.b2,
-            b3: s.c2.b3,
-        },
-    }
+    State(
+        Word(s.0.0, s.1.1, s.2.2, s.3.3),
+        Word(s.1.0, s.2.1, s.3.2, s.0.3),
+        Word(s.2.0, s.3.1, s.0.2, s.1.3),
+        Word(s.3.0, s.0.1, s.1.2, s.2.3),
+    )
 }
 
 // A round but the last one.
@@ -83,12 +63,12 @@ fn full_round<V: Lane8>(s: &State<V>, key: &State<V>) -> State<V>
         ≡ full_round (tower_block V.lane s.now i) (with_constant (tower_block V.lane key.now i)) }
 {
     let shifted = shifted_rows(s);
-    State {
-        c0: full_column(shifted.c0, key.c0),
-        c1: full_column(shifted.c1, key.c1),
-        c2: full_column(shifted.c2, key.c2),
-        c3: full_column(shifted.c3, key.c3),
-    }
+    State(
+        full_column(shifted.0, key.0),
+        full_column(shifted.1, key.1),
+        full_column(shifted.2, key.2),
+        full_column(shifted.3, key.3),
+    )
 }
 
 // SUBBYTES and ADDROUNDKEY of a column in the last round, which makes plain bytes.
@@ -97,12 +77,12 @@ fn last_column<V: Lane8>(column: Word<V>, key: Word<V>) -> Word<V>
     ensures { (i : ℕ) → i < V.LANES → word_lane V.lane result i
         ≡ xor_lists (sub_bytes (tower_word V.lane column i)) (with_constant (word_lane V.lane key i)) }
 {
-    let substituted = Word {
-        b0: substituted_from_tower(column.b0),
-        b1: substituted_from_tower(column.b1),
-        b2: substituted_from_tower(column.b2),
-        b3: substituted_from_tower(column.b3),
-    };
+    let substituted = Word(
+        substituted_from_tower(column.0),
+        substituted_from_tower(column.1),
+        substituted_from_tower(column.2),
+        substituted_from_tower(column.3),
+    );
     xor_words(substituted, key)
 }
 
@@ -113,12 +93,12 @@ fn last_round<V: Lane8>(s: &State<V>, key: &State<V>) -> State<V>
         ≡ xor_lists (shift_rows (sub_bytes (tower_block V.lane s.now i))) (with_constant (state_lane V.lane key.now i)) }
 {
     let shifted = shifted_rows(s);
-    State {
-        c0: last_column(shifted.c0, key.c0),
-        c1: last_column(shifted.c1, key.c1),
-        c2: last_column(shifted.c2, key.c2),
-        c3: last_column(shifted.c3, key.c3),
-    }
+    State(
+        last_column(shifted.0, key.0),
+        last_column(shifted.1, key.1),
+        last_column(shifted.2, key.2),
+        last_column(shifted.3, key.3),
+    )
 }
 
 /// Encrypts the block in each lane under the schedule in that lane.

@@ -6,21 +6,11 @@ use mbj_types::Lane8;
 
 /// A word of FIPS 197 in each lane, a vector for each of its bytes.
 #[derive(Clone, Copy)]
-pub struct Word<V> {
-    pub b0: V,
-    pub b1: V,
-    pub b2: V,
-    pub b3: V,
-}
+pub struct Word<V>(pub V, pub V, pub V, pub V);
 
 /// The state of AES (FIPS 197, 3.4) of the block in each lane, column by column.
 #[derive(Clone, Copy)]
-pub struct State<V> {
-    pub c0: Word<V>,
-    pub c1: Word<V>,
-    pub c2: Word<V>,
-    pub c3: Word<V>,
-}
+pub struct State<V>(pub Word<V>, pub Word<V>, pub Word<V>, pub Word<V>);
 
 /// The same byte in each place of every lane.
 #[inline(always)]
@@ -29,18 +19,8 @@ pub fn splat_state<V: Lane8>(byte: u8) -> State<V>
     ensures { (i : ℕ) → i < V.LANES → state_lane V.lane result i ≡ replicate 16 byte }
 {
     let byte = V::splat(byte);
-    let word = Word {
-        b0: byte,
-        b1: byte,
-        b2: byte,
-        b3: byte,
-    };
-    State {
-        c0: word,
-        c1: word,
-        c2: word,
-        c3: word,
-    }
+    let word = Word(byte, byte, byte, byte);
+    State(word, word, word, word)
 }
 
 /// A state of zeros.
@@ -56,12 +36,12 @@ pub fn zero_state<V: Lane8>() -> State<V>
 pub fn xor_words<V: Lane8>(a: Word<V>, b: Word<V>) -> Word<V>
     ensures { (i : ℕ) → i < V.LANES → word_lane V.lane result i ≡ xor_lists (word_lane V.lane a i) (word_lane V.lane b i) }
 {
-    Word {
-        b0: a.b0.xored(b.b0),
-        b1: a.b1.xored(b.b1),
-        b2: a.b2.xored(b.b2),
-        b3: a.b3.xored(b.b3),
-    }
+    Word(
+        a.0.xored(b.0),
+        a.1.xored(b.1),
+        a.2.xored(b.2),
+        a.3.xored(b.3),
+    )
 }
 
 /// ADDROUNDKEY (5.1.4): the sum of two states, byte by byte.
@@ -70,10 +50,10 @@ pub fn xor_words<V: Lane8>(a: Word<V>, b: Word<V>) -> Word<V>
 pub fn add_round_key<V: Lane8>(s: State<V>, key: State<V>) -> State<V>
     ensures { (i : ℕ) → i < V.LANES → state_lane V.lane result i ≡ xor_lists (state_lane V.lane s i) (state_lane V.lane key i) }
 {
-    State {
-        c0: xor_words(s.c0, key.c0),
-        c1: xor_words(s.c1, key.c1),
-        c2: xor_words(s.c2, key.c2),
-        c3: xor_words(s.c3, key.c3),
-    }
+    State(
+        xor_words(s.0, key.0),
+        xor_words(s.1, key.1),
+        xor_words(s.2, key.2),
+        xor_words(s.3, key.3),
+    )
 }

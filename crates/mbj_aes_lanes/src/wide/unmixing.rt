@@ -45,12 +45,12 @@ fn mixed_byte<V: Lane8>(a: V, b: V, c: V, d: V) -> V
 fn mixed_column<V: Lane8>(w: Word<V>) -> Word<V>
     ensures { (i : ℕ) → i < V.LANES → word_lane V.lane result i ≡ mixed_column (word_lane V.lane w i) 0 }
 {
-    Word {
-        b0: mixed_byte(w.b0, w.b1, w.b2, w.b3),
-        b1: mixed_byte(w.b1, w.b2, w.b3, w.b0),
-        b2: mixed_byte(w.b2, w.b3, w.b0, w.b1),
-        b3: mixed_byte(w.b3, w.b0, w.b1, w.b2),
-    }
+    Word(
+        mixed_byte(w.0, w.1, w.2, w.3),
+        mixed_byte(w.1, w.2, w.3, w.0),
+        mixed_byte(w.2, w.3, w.0, w.1),
+        mixed_byte(w.3, w.0, w.1, w.2),
+    )
 }
 
 // INVMIXCOLUMNS of a column.
@@ -58,12 +58,12 @@ fn mixed_column<V: Lane8>(w: Word<V>) -> Word<V>
 fn unmixed_column<V: Lane8>(w: Word<V>) -> Word<V>
     ensures { (i : ℕ) → i < V.LANES → word_lane V.lane result i ≡ inv_mixed_column (word_lane V.lane w i) 0 }
 {
-    mixed_column(Word {
-        b0: five_and_four(w.b0, w.b2),
-        b1: five_and_four(w.b1, w.b3),
-        b2: five_and_four(w.b2, w.b0),
-        b3: five_and_four(w.b3, w.b1),
-    })
+    mixed_column(Word(
+        five_and_four(w.0, w.2),
+        five_and_four(w.1, w.3),
+        five_and_four(w.2, w.0),
+        five_and_four(w.3, w.1),
+    ))
 }
 
 /// INVMIXCOLUMNS.
@@ -72,10 +72,10 @@ fn unmixed_column<V: Lane8>(w: Word<V>) -> Word<V>
 pub fn unmixed_columns<V: Lane8>(s: State<V>) -> State<V>
     ensures { (i : ℕ) → i < V.LANES → state_lane V.lane result i ≡ inv_mix_columns (state_lane V.lane s i) }
 {
-    State {
-        c0: unmixed_column(s.c0),
-        c1: unmixed_column(s.c1),
-        c2: unmixed_column(s.c2),
-        c3: unmixed_column(s.c3),
-    }
+    State(
+        unmixed_column(s.0),
+        unmixed_column(s.1),
+        unmixed_column(s.2),
+        unmixed_column(s.3),
+    )
 }

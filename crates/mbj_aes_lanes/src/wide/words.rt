@@ -18,12 +18,7 @@ pub fn word_at<V: Lane8>(words: &[V], i: usize) -> Word<V>
     ensures { (k : ℕ) → word_lane V.lane result k ≡ word (lane_of V.lane words.now k) i }
 {
     let at = WORD_BYTES * i;
-    Word {
-        b0: words[at],
-        b1: words[at + 1],
-        b2: words[at + 2],
-        b3: words[at + 3],
-    }
+    Word(words[at], words[at + 1], words[at + 2], words[at + 3])
 }
 
 /// Writes word `i` of the lists in the lanes.
@@ -35,10 +30,10 @@ pub fn put_word<V: Lane8>(words: &mut [V], i: usize, word: Word<V>)
 {
     let at = WORD_BYTES * i;
     let here = &mut words[at..at + WORD_BYTES];
-    here[0] = word.b0;
-    here[1] = word.b1;
-    here[2] = word.b2;
-    here[3] = word.b3;
+    here[0] = word.0;
+    here[1] = word.1;
+    here[2] = word.2;
+    here[3] = word.3;
 }
 
 /// The four words of the lists in the lanes that round key `r` has in a schedule, as a state.
@@ -48,12 +43,12 @@ pub fn state_at<V: Lane8>(words: &[V], r: usize) -> State<V>
     ensures { (i : ℕ) → state_lane V.lane result i ≡ round_key (lane_of V.lane words.now i) r }
 {
     let first = ROUND_WORDS * r;
-    State {
-        c0: word_at(words, first),
-        c1: word_at(words, first + 1),
-        c2: word_at(words, first + 2),
-        c3: word_at(words, first + 3),
-    }
+    State(
+        word_at(words, first),
+        word_at(words, first + 1),
+        word_at(words, first + 2),
+        word_at(words, first + 3),
+    )
 }
 
 /// Writes the block of which this is the state into 16 lane words.
@@ -62,8 +57,8 @@ pub fn put_state<V: Lane8>(words: &mut [V], s: &State<V>)
     requires { length words.old ≡ 16 }
     ensures { (i : ℕ) → lane_of V.lane words.new i ≡ state_lane V.lane s.now i }
 {
-    put_word(words, 0, s.c0);
-    put_word(words, 1, s.c1);
-    put_word(words, 2, s.c2);
-    put_word(words, 3, s.c3);
+    put_word(words, 0, s.0);
+    put_word(words, 1, s.1);
+    put_word(words, 2, s.2);
+    put_word(words, 3, s.3);
 }

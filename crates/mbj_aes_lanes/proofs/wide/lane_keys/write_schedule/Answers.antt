@@ -12,8 +12,8 @@ keys-init c = none_done _ c.args.keys.now c.args.keys.now 0 refl refl
 pub keys-preserved : goal.keys-preserved
 keys-preserved c =
     let rounds : c.rounds-rounds.result ≡ length c.args.keys.now - 1 = omega (arith, c.rounds-rounds.ensures.length) in
-    let none : Word (List ℕ) = record { b0 = []; b1 = []; b2 = []; b3 = [] } in
-    one_more _ c.args.keys.now c.keys.keys c.keys.r (record { c0 = none; c1 = none; c2 = none; c3 = none }) c.key_of.result (omega arith)
+    let none : Word (List ℕ) = record { 0 = []; 1 = []; 2 = []; 3 = [] } in
+    one_more _ c.args.keys.now c.keys.keys c.keys.r (record { 0 = none; 1 = none; 2 = none; 3 = none }) c.key_of.result (omega arith)
     (λ i h.
     let block = c.round_key-block.ensures in
     let before = c.store_state.ensures i h ∙ c.plain_key.ensures i h in

@@ -29,21 +29,21 @@ returns g c i h =
       once_is = once;
       twice_is = twice;
     } in
-    let is0 = made w.b0 s0 (c.substituted_in_tower-s0.ensures.once i h) (c.substituted_in_tower-s0.ensures.twice i h) in
-    let is1 = made w.b1 s1 (c.substituted_in_tower-s1.ensures.once i h) (c.substituted_in_tower-s1.ensures.twice i h) in
-    let is2 = made w.b2 s2 (c.substituted_in_tower-s2.ensures.once i h) (c.substituted_in_tower-s2.ensures.twice i h) in
-    let is3 = made w.b3 s3 (c.substituted_in_tower-s3.ensures.once i h) (c.substituted_in_tower-s3.ensures.twice i h) in
+    let is0 = made w.0 s0 (c.substituted_in_tower-s0.ensures.once i h) (c.substituted_in_tower-s0.ensures.twice i h) in
+    let is1 = made w.1 s1 (c.substituted_in_tower-s1.ensures.once i h) (c.substituted_in_tower-s1.ensures.twice i h) in
+    let is2 = made w.2 s2 (c.substituted_in_tower-s2.ensures.once i h) (c.substituted_in_tower-s2.ensures.twice i h) in
+    let is3 = made w.3 s3 (c.substituted_in_tower-s3.ensures.once i h) (c.substituted_in_tower-s3.ensures.twice i h) in
     let all : ℕ = lane c.xored-all.result i in
     let small : all < 256 = fits c.xored-all.result i in
     let sums : all ≡ bit_xor (bit_xor (lane s0.once i) (lane s1.once i)) (bit_xor (lane s2.once i) (lane s3.once i)) =
     c.xored-all.ensures i h ∙ ap₂ bit_xor (c.xored.ensures i h) (c.xored-2.ensures i h) in
-    let sum : from_tower all ≡ sum4 (box w.b0) (box w.b1) (box w.b2) (box w.b3) =
+    let sum : from_tower all ≡ sum4 (box w.0) (box w.1) (box w.2) (box w.3) =
     ap from_tower sums ∙ sum-tower _ _ _ _ _ _ _ _ _ _ _ _ is0 is1 is2 is3 in
-    let sum3 : from_tower all ≡ sum4 (box w.b3) (box w.b0) (box w.b1) (box w.b2) = sum ∙ sum4-turned (box w.b0) (box w.b1) (box w.b2) (box w.b3) in
-    let sum2 : from_tower all ≡ sum4 (box w.b2) (box w.b3) (box w.b0) (box w.b1) = sum3 ∙ sum4-turned (box w.b3) (box w.b0) (box w.b1) (box w.b2) in
-    let sum1 : from_tower all ≡ sum4 (box w.b1) (box w.b2) (box w.b3) (box w.b0) = sum2 ∙ sum4-turned (box w.b2) (box w.b3) (box w.b0) (box w.b1) in
-    let byte0 = ap from_tower (c.mixed_byte.ensures i h) ∙ mixed_byte-tower all _ _ _ _ _ _ _ _ (lane key.b0 i) small sum is0 is1 (fits key.b0 i) in
-    let byte1 = ap from_tower (c.mixed_byte-2.ensures i h) ∙ mixed_byte-tower all _ _ _ _ _ _ _ _ (lane key.b1 i) small sum1 is1 is2 (fits key.b1 i) in
-    let byte2 = ap from_tower (c.mixed_byte-3.ensures i h) ∙ mixed_byte-tower all _ _ _ _ _ _ _ _ (lane key.b2 i) small sum2 is2 is3 (fits key.b2 i) in
-    let byte3 = ap from_tower (c.mixed_byte-4.ensures i h) ∙ mixed_byte-tower all _ _ _ _ _ _ _ _ (lane key.b3 i) small sum3 is3 is0 (fits key.b3 i) in
+    let sum3 : from_tower all ≡ sum4 (box w.3) (box w.0) (box w.1) (box w.2) = sum ∙ sum4-turned (box w.0) (box w.1) (box w.2) (box w.3) in
+    let sum2 : from_tower all ≡ sum4 (box w.2) (box w.3) (box w.0) (box w.1) = sum3 ∙ sum4-turned (box w.3) (box w.0) (box w.1) (box w.2) in
+    let sum1 : from_tower all ≡ sum4 (box w.1) (box w.2) (box w.3) (box w.0) = sum2 ∙ sum4-turned (box w.2) (box w.3) (box w.0) (box w.1) in
+    let byte0 = ap from_tower (c.mixed_byte.ensures i h) ∙ mixed_byte-tower all _ _ _ _ _ _ _ _ (lane key.0 i) small sum is0 is1 (fits key.0 i) in
+    let byte1 = ap from_tower (c.mixed_byte-2.ensures i h) ∙ mixed_byte-tower all _ _ _ _ _ _ _ _ (lane key.1 i) small sum1 is1 is2 (fits key.1 i) in
+    let byte2 = ap from_tower (c.mixed_byte-3.ensures i h) ∙ mixed_byte-tower all _ _ _ _ _ _ _ _ (lane key.2 i) small sum2 is2 is3 (fits key.2 i) in
+    let byte3 = ap from_tower (c.mixed_byte-4.ensures i h) ∙ mixed_byte-tower all _ _ _ _ _ _ _ _ (lane key.3 i) small sum3 is3 is0 (fits key.3 i) in
     λ j. byte0 j ∷ byte1 j ∷ byte2 j ∷ byte3 j ∷ []

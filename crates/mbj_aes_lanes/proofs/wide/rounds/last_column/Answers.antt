@@ -12,8 +12,8 @@ pub returns : goal.returns
 returns g c i h =
     let lane = g.V.Lane8.lane in
     let key = c.args.key in
-    let b0 = moved _ _ (lane key.b0 i) (c.substituted_from_tower.ensures i h) in
-    let b1 = moved _ _ (lane key.b1 i) (c.substituted_from_tower-2.ensures i h) in
-    let b2 = moved _ _ (lane key.b2 i) (c.substituted_from_tower-3.ensures i h) in
-    let b3 = moved _ _ (lane key.b3 i) (c.substituted_from_tower-4.ensures i h) in
+    let b0 = moved _ _ (lane key.0 i) (c.substituted_from_tower.ensures i h) in
+    let b1 = moved _ _ (lane key.1 i) (c.substituted_from_tower-2.ensures i h) in
+    let b2 = moved _ _ (lane key.2 i) (c.substituted_from_tower-3.ensures i h) in
+    let b3 = moved _ _ (lane key.3 i) (c.substituted_from_tower-4.ensures i h) in
     c.xor_words.ensures i h ∙ (λ j. b0 j ∷ b1 j ∷ b2 j ∷ b3 j ∷ [])

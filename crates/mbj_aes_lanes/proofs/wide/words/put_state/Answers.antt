@@ -12,8 +12,8 @@ returns g c i =
     let lane = g.V.Lane8.lane in
     let s = c.args.s.now in
     c.put_word-4.ensures i
-    ∙ ap (λ ys. take 12 ys ++ word_lane lane s.c3 i ++ drop 16 ys)
+    ∙ ap (λ ys. take 12 ys ++ word_lane lane s.3 i ++ drop 16 ys)
     (c.put_word-3.ensures i
-    ∙ ap (λ ys. take 8 ys ++ word_lane lane s.c2 i ++ drop 12 ys)
-    (c.put_word-2.ensures i ∙ ap (λ ys. take 4 ys ++ word_lane lane s.c1 i ++ drop 8 ys) (c.put_word.ensures i)))
+    ∙ ap (λ ys. take 8 ys ++ word_lane lane s.2 i ++ drop 12 ys)
+    (c.put_word-2.ensures i ∙ ap (λ ys. take 4 ys ++ word_lane lane s.1 i ++ drop 8 ys) (c.put_word.ensures i)))
     ∙ four-words (lane_of lane c.args.words.now i) _ _ _ _ _ _ _ _ _ _ _ _ _ _ _ _ (length-lane_of lane c.args.words.now i ∙ c.requires)
