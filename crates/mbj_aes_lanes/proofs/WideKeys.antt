@@ -1,5 +1,5 @@
 -- Round keys of wide states, as parts of the schedule in a lane.
-use Rattle.std.proofs.Common.{◌≡◌, ◌≢◌, ℕ, ◌*◌, ◌^◌, ◌<◌, Bool, true, false, if◌then◌else◌, List, [], ◌∷◌, length, replicate, get_or, map, bit_xor, refl, sym, ap, ap₂, ◌∙◌, arith, inl, inr, eq-eqb}
+use Rattle.std.proofs.Common.{◌≡◌, ◌≢◌, ℕ, ◌*◌, ◌^◌, ◌<◌, List, [], ◌∷◌, length, replicate, get_or, map, bit_xor, refl, sym, ap, ap₂, ◌∙◌, arith, inl, inr, eq-eqb}
 use Rattle.std.proofs.lemmas.Bool.{cases_eq, ne_eqb}
 use Rattle.std.proofs.lemmas.List.{take_all, get_or_default, length-map}
 use Rattle.mbj_types.specs.Aes.{round_key}
@@ -98,16 +98,3 @@ module _ {V : Type 0} (lane : V → ℕ → ℕ) (n : ℕ) where
   schedule_in-each [] i w size each = take_all 0 w (omega arith)
   schedule_in-each (k ∷ keys) i w size each =
       schedule_with-each (λ r. key_in lane n r (get_or (k ∷ keys) r k) i) (length keys) w (omega arith) (λ r h. each r k (omega arith))
-
-module _ {V : Type 0} (lane : V → ℕ → ℕ) (n i : ℕ) (keys old : List (State V)) (w : List ℕ) (size : length w ≡ 16 * length keys) (same : length keys ≡ length old) where
-  -- round keys that are those of a schedule in lane i, or stay
-  pub schedule_in-chosen : (flag : Bool)
-      → ((r : ℕ) (key : State V) → r < length keys
-      → key_in lane n r (get_or keys r key) i ≡ (if flag then round_key w r else key_in lane n r (get_or old r key) i))
-      → schedule_in lane n keys i ≡ (if flag then w else schedule_in lane n old i)
-  schedule_in-chosen true each = schedule_in-each lane n keys i w size each
-  schedule_in-chosen false each =
-      schedule_in-each lane n keys i (schedule_in lane n old i) (length-schedule_in lane n old i ∙ ap (λ (k : ℕ). 16 * k) (sym same))
-      (λ r key h.
-      let before : State V = get_or old r key in
-      each r key h ∙ sym (round_key-schedule_in lane n old i r before (omega arith) (get_or_default old r key before (omega arith))))

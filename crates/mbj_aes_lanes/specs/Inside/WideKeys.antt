@@ -1,12 +1,13 @@
 -- Round keys as the rounds of wide states take them.
-use Rattle.std.specs.Prelude.{◌≡◌, ℕ, ◌+◌, ◌*◌, nat_eq, Bool, false, List, [], ◌∷◌, length, map, slice_index_or, take, Option, Some, None, bit_xor, if◌then◌else◌}
-use Rattle.std.specs.List.{range_with_len}
+use Rattle.std.specs.Prelude.{◌≡◌, ℕ, ◌+◌, ◌*◌, ◌<◌, nat_eq, Bool, List, [], ◌∷◌, length, map, slice_index_or, take, Option, Some, None, bit_xor, if◌then◌else◌}
+use Rattle.mbj_types.specs.Aes.{key_schedule}
 use Rattle.mbj_types.specs.declared.kind.TheConstants.{AES_LANES}
 use Rattle.mbj_types.specs.Lanes.{lane_at}
 use Rattle.mbj_aes.specs.declared.tables.TheConstants.{SBOX_CONSTANT}
 use Rattle.mbj_aes.specs.Bytes.{IsBytes}
 use Rattle.mbj_aes.specs.Tower.{from_tower}
 use Rattle.mbj_aes_lanes.specs.declared.wide.state.State.{State}
+use Rattle.mbj_aes_lanes.specs.KeyBytes.{IsKeyArray, key_of_array}
 use Rattle.mbj_aes_lanes.specs.Inside.LaidKeys.{schedule_with}
 use Rattle.mbj_aes_lanes.specs.Inside.Wide.{state_lane}
 
@@ -36,10 +37,16 @@ pub record IsLaneKey (nk : ℕ) (key xs : List ℕ) : Type 0 where
 
 -- ---- what the lanes hold of which some were put
 
--- the schedule in lane i, where it was put
-abbrev pub held_lane : ℕ → List (State (List ℕ)) → List Bool → ℕ → Option (List ℕ)
-held_lane rounds keys put i =
-    if slice_index_or put i false then Some (schedule_in (lane_at 8) rounds (take (rounds + 1) keys) i) else None
+-- the lanes have keys of n rounds, and these are their round keys
+pub record AreExpanded (n : ℕ) (keys : List (List ℕ)) (round_keys : List (State (List ℕ))) : Type 0 where
+  pub lanes : length keys ≡ AES_LANES
+  pub room : length round_keys ≡ 15
+  pub arrays : (i : ℕ) → i < AES_LANES → IsKeyArray n (slice_index_or keys i [])
+  pub schedules : (i : ℕ) → i < AES_LANES
+      → schedule_in (lane_at 8) n (take (n + 1) round_keys) i ≡ key_schedule (key_of_array n (slice_index_or keys i []))
 
-unfoldable pub held_lanes : ℕ → List (State (List ℕ)) → List Bool → List (Option (List ℕ))
-held_lanes rounds keys put = map (held_lane rounds keys put) (range_with_len 0 AES_LANES)
+-- the schedule in each lane that was put
+unfoldable pub held_lanes : ℕ → List (List ℕ) → List Bool → List (Option (List ℕ))
+held_lanes n [] put = []
+held_lanes n (key ∷ keys) [] = []
+held_lanes n (key ∷ keys) (here ∷ put) = (if here then Some (key_schedule (key_of_array n key)) else None) ∷ held_lanes n keys put

@@ -8,7 +8,7 @@ use crate::wide::decryption::decrypt;
 use crate::wide::lane_keys::LaneKeys;
 use crate::wide::lane_schedules::RoundStates;
 use crate::wide::rounds::encrypt;
-use mbj_types::{AES_LANES, AesWord};
+use mbj_types::AES_LANES;
 
 /// Encrypts the block in each lane under the schedule that was put there: CIPHER (FIPS 197, 5.1). It takes no memory. Only tests and the
 /// bench use it.

@@ -74,21 +74,13 @@ fn key_of_tower<V: Lane8>(key: State<V>, r: usize, rounds: usize) -> State<V>
     }
 }
 
-/// Round key `r` of `rounds` rounds, whose bytes are those of a state.
-#[inline(always)]
-pub fn key_of<V: Lane8>(key: State<V>, r: usize, rounds: usize) -> State<V>
-    ensures { (i : ℕ) → i < V.LANES → key_in V.lane rounds r result i ≡ state_lane V.lane key i }
-{
-    key_of_tower(to_tower(key), r, rounds)
-}
-
 /// Round key `r` of `rounds` rounds in each lane, whose schedules are the lane words.
 #[inline(always)]
 pub fn key_at<V: Lane8>(words: &[V], r: usize, rounds: usize) -> State<V>
     requires { 16 * r + 16 ≤ length words.now }
     ensures { (i : ℕ) → i < V.LANES → key_in V.lane rounds r result i ≡ round_key (lane_of V.lane words.now i) r }
 {
-    key_of(state_at(words, r), r, rounds)
+    key_of_tower(to_tower(state_at(words, r)), r, rounds)
 }
 
 /// Round key `r` of `rounds` rounds in each lane, whose schedules are the lane words, in the tower's basis.

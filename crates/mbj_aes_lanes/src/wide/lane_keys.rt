@@ -1,86 +1,55 @@
-ghost use Rattle.std.specs.Prelude.{◌≡◌, ℕ, ◌+◌, ◌-◌, ◌*◌, ◌<◌, ◌≤◌, false, [], length, slice_index_or, None, IsSome, if◌then◌else◌};
+ghost use Rattle.std.specs.Prelude.{◌≡◌, ℕ, ◌+◌, ◌-◌, ◌*◌, ◌<◌, ◌≤◌, [], length, slice_index_or, None, IsSome};
 ghost use Rattle.mbj_types.specs.Lanes.{lane_at};
 ghost use Rattle.mbj_types.specs.declared.kind.TheConstants.{AES_LANES};
 ghost use Rattle.mbj_aes.specs.Bytes.{IsRoundCount};
+ghost use Rattle.mbj_aes_lanes.specs.KeyBytes.{IsKeyArray};
 ghost use Rattle.mbj_aes_lanes.specs.KeyLanes.{no_keys, same_keys, with_key, schedule_at};
-ghost use Rattle.mbj_aes_lanes.specs.Inside.WideKeys.{schedule_in};
+ghost use Rattle.mbj_aes_lanes.specs.Inside.WideKeys.{schedule_in, AreExpanded};
 
-use crate::blocks::{load_state, store_state};
-use crate::lane_blocks::LaneBlocks;
-use crate::wide::key_states::{key_of, plain_key};
+use crate::key_bytes::bytes_of_schedule;
+use crate::wide::schedules::expand_keys;
 use crate::wide::state::{State, zero_state};
-use mbj_aes::{MAX_ROUND_KEYS, Schedule};
-use mbj_types::{AES_LANES, AesWord, BLOCK_BYTES};
+use crate::wide::words::MAX_SCHEDULE_WORDS;
+use mbj_aes::{MAX_KEY_BYTES, MAX_ROUND_KEYS, Schedule};
+use mbj_types::{AES_LANES, AesWord, Lane8};
 use std::marker::Model;
 
-// The blocks of the lanes, with one block in place of some of them.
-#[derive(Drop)]
-struct Replaced<'a> {
-    blocks: &'a [[u8; 16]; AES_LANES],
-    block: [u8; 16],
-    lanes: &'a [bool; AES_LANES],
-}
-
-impl LaneBlocks for Replaced<'_> {
-    ghost lanes_of = { λ r. AES_LANES };
-
-    ghost block_in = { λ r i. if slice_index_or r.lanes.now i false then r.block else slice_index_or r.blocks.now i [] };
-
-    #[inline(always)]
-    fn block(&self, lane: usize) -> [u8; 16] {
-        if self.lanes[lane] {
-            self.block
-        } else {
-            self.blocks[lane]
-        }
-    }
-}
-
-// Writes the round keys of a schedule into these lanes. Those of the other lanes stay.
-fn write_schedule(keys: &mut [State<AesWord>], schedule: &Schedule, lanes: &[bool; AES_LANES])
-    requires { length schedule.now ≡ 16 * length keys.old }
-    ensures { (i : ℕ) → i < AES_LANES → schedule_in (lane_at 8) (length keys.old - 1) keys.new i
-        ≡ if slice_index_or lanes.now i false then schedule.now else schedule_in (lane_at 8) (length keys.old - 1) keys.old i }
+// The round keys of the keys of the lanes, of `rounds` rounds each.
+fn round_keys_of(keys: &[[u8; 32]; AES_LANES], rounds: u32) -> [State<AesWord>; MAX_ROUND_KEYS]
+    requires rounds { IsRoundCount rounds }
+    requires arrays { (i : ℕ) → i < AES_LANES → IsKeyArray rounds (slice_index_or keys.now i []) }
+    ensures { AreExpanded rounds keys.now result }
 {
-    let rounds = schedule.rounds() as usize;
-    'keys: for r in 0..keys.len() {
-        let mut blocks = [[0; BLOCK_BYTES]; AES_LANES];
-        store_state(&mut blocks, &plain_key(keys[r], r, rounds));
-        let block = schedule.round_key(r as u32);
-        let state = load_state(&Replaced {
-            blocks: &blocks,
-            block,
-            lanes,
-        });
-        keys[r] = key_of(state, r, rounds);
-    }
+    let mut round_keys = [zero_state(); MAX_ROUND_KEYS];
+    let mut words = [<AesWord as Lane8>::splat(0); MAX_SCHEDULE_WORDS];
+    expand_keys(&mut round_keys[..rounds as usize + 1], keys, &mut words);
+    round_keys
 }
 
 /// The schedules of keys side by side, one for each lane, of 10, 12 or 14 rounds each, which contracts see as the number of rounds and, for
-/// each lane, the schedule that was put there, or none. It keeps the round keys as encryption takes them, a vector for each of their
-/// bytes. It is a plain value of 7,716 bytes, and owns no memory. Only tests and the bench use it.
+/// each lane, the schedule that was put there, or none. It keeps the keys, and the round keys as encryption takes them, a vector for each
+/// of their bytes. It is a plain value of 8,740 bytes, and owns no memory. Only tests and the bench use it.
 #[derive(Drop)]
 pub struct LaneKeys {
+    keys: [[u8; 32]; AES_LANES],
     round_keys: [State<AesWord>; MAX_ROUND_KEYS],
     rounds: u32,
     put: [bool; AES_LANES],
 }
 
 // The size that stands in the documentation.
-const _: () = prove!(size_of::<LaneKeys>() == 7716);
+const _: () = prove!(size_of::<LaneKeys>() == 8740);
 
 impl Model for LaneKeys {
-    ghost use Rattle.std.specs.Prelude.{◌≡◌, length};
     ghost use Rattle.mbj_aes.specs.Bytes.{IsRoundCount};
-    ghost use Rattle.mbj_types.specs.declared.kind.TheConstants.{AES_LANES};
     ghost use Rattle.mbj_aes_lanes.specs.KeyLanes.{KeyLanes};
-    ghost use Rattle.mbj_aes_lanes.specs.Inside.WideKeys.{held_lanes};
+    ghost use Rattle.mbj_aes_lanes.specs.Inside.WideKeys.{held_lanes, AreExpanded};
 
     ghost Value = { KeyLanes };
 
-    ghost view = { λ k. record { rounds = k.rounds; lanes = held_lanes k.rounds k.round_keys k.put } };
+    ghost view = { λ k. record { rounds = k.rounds; lanes = held_lanes k.rounds k.keys k.put } };
 
-    ghost invariant = { λ k. IsRoundCount k.rounds × (length k.round_keys ≡ 15) × (length k.put ≡ AES_LANES) };
+    ghost invariant = { λ k. IsRoundCount k.rounds × AreExpanded k.rounds k.keys k.round_keys };
 }
 
 impl LaneKeys {
@@ -89,32 +58,37 @@ impl LaneKeys {
         requires { IsRoundCount rounds }
         ensures { result ≡ no_keys rounds }
     {
+        let keys = [[0; MAX_KEY_BYTES]; AES_LANES];
         LaneKeys {
-            round_keys: [zero_state(); MAX_ROUND_KEYS],
+            keys,
+            round_keys: round_keys_of(&keys, rounds),
             rounds,
             put: [false; AES_LANES],
         }
     }
 
-    /// The same schedule in every lane, at the cost of little more than one `put`. It takes no memory.
+    /// The same schedule in every lane, at the cost of one `put`. It takes no memory.
     pub fn all(key: &Schedule) -> LaneKeys
         ensures { result ≡ same_keys key.now }
     {
-        let mut keys = LaneKeys::new(key.rounds());
-        keys.put_all(key);
-        keys
+        let rounds = key.rounds();
+        let keys = [bytes_of_schedule(key); AES_LANES];
+        LaneKeys {
+            keys,
+            round_keys: round_keys_of(&keys, rounds),
+            rounds,
+            put: [true; AES_LANES],
+        }
     }
 
-    /// Puts a schedule in every lane, in place of those that were there, at the cost of little more than one `put`. It has
+    /// Puts a schedule in every lane, in place of those that were there, at the cost of one `put`. It has
     /// as many rounds as they have. It takes no memory.
     #[inline(never)]
     pub fn put_all(&mut self, key: &Schedule)
         requires { length key.now ≡ 16 * (self.old.rounds + 1) }
         ensures { self.new ≡ same_keys key.now }
     {
-        let rounds = self.rounds as usize;
-        write_schedule(&mut self.round_keys[..rounds + 1], key, &[true; AES_LANES]);
-        self.put = [true; AES_LANES];
+        *self = LaneKeys::all(key);
     }
 
     /// Puts a schedule in a lane below `AES_LANES`, in place of the one that was there. It has as many rounds as the others. It takes no
@@ -124,11 +98,9 @@ impl LaneKeys {
         requires rounds { length key.now ≡ 16 * (self.old.rounds + 1) }
         ensures { self.new ≡ with_key self.old lane key.now }
     {
-        let rounds = self.rounds as usize;
-        let mut lanes = [false; AES_LANES];
-        lanes[lane as usize] = true;
-        write_schedule(&mut self.round_keys[..rounds + 1], key, &lanes);
+        self.keys[lane as usize] = bytes_of_schedule(key);
         self.put[lane as usize] = true;
+        self.round_keys = round_keys_of(&self.keys, self.rounds);
     }
 
     /// The round keys, of each lane those of its schedule.

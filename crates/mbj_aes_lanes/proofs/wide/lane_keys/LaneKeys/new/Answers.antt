@@ -1,9 +1,12 @@
 -- No lane was put.
-use Rattle.std.proofs.Common.{ap, replicate}
-use Rattle.mbj_aes_lanes.proofs.WideHeldKeys.{held_lanes-none}
+use Rattle.std.proofs.Common.{replicate, refl}
+use Rattle.mbj_aes_lanes.specs.Inside.WideKeys.{held_lanes}
+use Rattle.mbj_aes_lanes.proofs.WideHeldKeys.{IsKeyArray-zeros, IsKeyArray-same}
 use Rattle.mbj_aes_lanes.proofs.wide.lane_keys.LaneKeys.new.Goals as goal
 
+pub round_keys_of-requires-clause-arrays : goal.round_keys_of-requires-clause-arrays
+round_keys_of-requires-clause-arrays c = IsKeyArray-same c.args.rounds (replicate 32 0) (IsKeyArray-zeros c.args.rounds c.requires)
+
 pub returns : goal.returns
-returns c =
-    ap (λ lanes. record { rounds = c.args.rounds; lanes = lanes })
-    (held_lanes-none c.args.rounds (replicate 15 c.zero_state.result))
+unfolding held_lanes
+returns c = refl

@@ -8,9 +8,11 @@ use Rattle.mbj_aes_lanes.proofs.wide.lane_keys.LaneKeys.round_keys.Goals as goal
 
 pub returns-clause-schedules : goal.returns-clause-schedules
 returns-clause-schedules c =
-    let keys = take (c.self.inside.rounds + 1) c.self.inside.round_keys in
-    let count : length keys - 1 ≡ c.self.inside.rounds = omega (arith, length-take-le (c.self.inside.rounds + 1) c.self.inside.round_keys (omega arith)) in
+    let self = c.self.inside in
+    let keys = take (self.rounds + 1) self.round_keys in
+    let count : length keys - 1 ≡ self.rounds = omega (arith, length-take-le (self.rounds + 1) self.round_keys (omega arith)) in
     rw (← c.self.view_is)
     (λ i h some.
     ap (λ (n : ℕ). schedule_in (lane_at 8) n keys i) count
-    ∙ held_schedule c.self.inside.rounds c.self.inside.round_keys c.self.inside.put i h some)
+    ∙ c.self.invariant.1.schedules i h
+    ∙ held_schedule self.rounds self.keys self.put i some)
