@@ -1,14 +1,13 @@
 -- What the lookups of decryption give, computed at each byte.
-use Rattle.std.proofs.Common.{◌≡◌, ℕ, ◌<◌, nat_lt, bit_xor, refl, sym, ap, ◌∙◌}
+use Rattle.std.proofs.Common.{◌≡◌, ℕ, ◌<◌, ◌==◌, List, true, nat_lt, bit_xor, refl, sym, ap, ◌∙◌}
 use Rattle.std.proofs.lemmas.Bool.{ltb-true}
 use Rattle.mbj_types.specs.Aes.{times, affine_bits, inv_affine_bits, sub_byte, inv_sub_byte}
-use Rattle.mbj_types.specs.Lanes.{table_byte}
 use Rattle.mbj_aes.specs.declared.tables.TheConstants.{SBOX_CONSTANT, TO_DECRYPTION_LOW, TO_DECRYPTION_HIGH, FROM_DECRYPTION_LOW, FROM_DECRYPTION_HIGH, INV_SUB_NINE_FIRST, INV_SUB_NINE_SECOND, INV_SUB_ELEVEN_FIRST, INV_SUB_ELEVEN_SECOND, INV_SUB_THIRTEEN_FIRST, INV_SUB_THIRTEEN_SECOND, INV_SUB_FOURTEEN_FIRST, INV_SUB_FOURTEEN_SECOND, INV_SUB_PLAIN_FIRST, INV_SUB_PLAIN_SECOND}
 use Rattle.mbj_aes.specs.Tower.{by_halves, from_decryption, inv_sub_of, first_quotient, second_quotient, high_denominator, sum_denominator, by_quotients}
-use Rattle.mbj_aes.proofs.ByteCases.{at_each, same_at_each}
+use Rattle.mbj_aes.proofs.ByteCases.{each_below, at_each, same_at_each}
 use Rattle.mbj_aes.proofs.ByteMaps.{inverse, sub_byte_is, inv_sub_byte_is}
 use Rattle.mbj_aes.proofs.Sums.{xor_twice}
-use Rattle.mbj_aes.proofs.TowerCases.{same_pairs, by_halves-xor}
+use Rattle.mbj_aes.proofs.TowerCases.{by_halves-xor}
 
 -- inv_sub_of, computed
 abbrev computed : ℕ → ℕ
@@ -29,22 +28,10 @@ pub from_decryption-lt : (x : ℕ) → x < 256 → from_decryption x < 256
 unfolding from_decryption
 from_decryption-lt x h = ltb-true (from_decryption x) 256 (at_each (λ x. nat_lt (from_decryption x) 256) 256 x refl h)
 
-low_sum : (x y : ℕ) → x < 16 → y < 16
-    → table_byte FROM_DECRYPTION_LOW (bit_xor x y) ≡ bit_xor (table_byte FROM_DECRYPTION_LOW x) (table_byte FROM_DECRYPTION_LOW y)
-low_sum x y h k =
-    same_pairs (λ x y. table_byte FROM_DECRYPTION_LOW (bit_xor x y))
-    (λ x y. bit_xor (table_byte FROM_DECRYPTION_LOW x) (table_byte FROM_DECRYPTION_LOW y)) 16 x y refl h k
-
-high_sum : (x y : ℕ) → x < 16 → y < 16
-    → table_byte FROM_DECRYPTION_HIGH (bit_xor x y) ≡ bit_xor (table_byte FROM_DECRYPTION_HIGH x) (table_byte FROM_DECRYPTION_HIGH y)
-high_sum x y h k =
-    same_pairs (λ x y. table_byte FROM_DECRYPTION_HIGH (bit_xor x y))
-    (λ x y. bit_xor (table_byte FROM_DECRYPTION_HIGH x) (table_byte FROM_DECRYPTION_HIGH y)) 16 x y refl h k
-
 -- a sum in the basis of decryption
 pub from_decryption-xor : (x y : ℕ) → x < 256 → y < 256 → from_decryption (bit_xor x y) ≡ bit_xor (from_decryption x) (from_decryption y)
 unfolding from_decryption
-from_decryption-xor x y h k = by_halves-xor FROM_DECRYPTION_LOW FROM_DECRYPTION_HIGH low_sum high_sum x y h k
+from_decryption-xor x y h k = by_halves-xor FROM_DECRYPTION_LOW FROM_DECRYPTION_HIGH refl refl x y h k
 
 -- ---- the inverse S-box
 
@@ -58,29 +45,27 @@ inv_sub_of-boxed x z h e =
     ∙ same_at_each (λ x. inverse (inv_affine_bits (affine_bits (inverse x) 8) 8)) (λ x. x) 256 x refl h
 
 module _ (x : ℕ) (h : x < 256) where
+  -- a multiple of it, computed
+  multiple : (n : ℕ) (first second : List ℕ) → each_below (λ x. from_decryption (by_quotients first second x) == times n (computed x)) 256 ≡ true
+      → from_decryption (by_quotients first second x) ≡ times n (inv_sub_of x)
+  multiple n first second e =
+      same_at_each (λ x. from_decryption (by_quotients first second x)) (λ x. times n (computed x)) 256 x e h ∙ ap (times n) (is_computed x)
+
   pub inv_sub_nine : from_decryption (by_quotients INV_SUB_NINE_FIRST INV_SUB_NINE_SECOND x) ≡ times 9 (inv_sub_of x)
   unfolding from_decryption first_quotient second_quotient high_denominator sum_denominator times
-  inv_sub_nine =
-      same_at_each (λ x. from_decryption (by_quotients INV_SUB_NINE_FIRST INV_SUB_NINE_SECOND x)) (λ x. times 9 (computed x)) 256 x refl h
-      ∙ ap (times 9) (is_computed x)
+  inv_sub_nine = multiple 9 INV_SUB_NINE_FIRST INV_SUB_NINE_SECOND refl
 
   pub inv_sub_eleven : from_decryption (by_quotients INV_SUB_ELEVEN_FIRST INV_SUB_ELEVEN_SECOND x) ≡ times 11 (inv_sub_of x)
   unfolding from_decryption first_quotient second_quotient high_denominator sum_denominator times
-  inv_sub_eleven =
-      same_at_each (λ x. from_decryption (by_quotients INV_SUB_ELEVEN_FIRST INV_SUB_ELEVEN_SECOND x)) (λ x. times 11 (computed x)) 256 x refl h
-      ∙ ap (times 11) (is_computed x)
+  inv_sub_eleven = multiple 11 INV_SUB_ELEVEN_FIRST INV_SUB_ELEVEN_SECOND refl
 
   pub inv_sub_thirteen : from_decryption (by_quotients INV_SUB_THIRTEEN_FIRST INV_SUB_THIRTEEN_SECOND x) ≡ times 13 (inv_sub_of x)
   unfolding from_decryption first_quotient second_quotient high_denominator sum_denominator times
-  inv_sub_thirteen =
-      same_at_each (λ x. from_decryption (by_quotients INV_SUB_THIRTEEN_FIRST INV_SUB_THIRTEEN_SECOND x)) (λ x. times 13 (computed x)) 256 x refl h
-      ∙ ap (times 13) (is_computed x)
+  inv_sub_thirteen = multiple 13 INV_SUB_THIRTEEN_FIRST INV_SUB_THIRTEEN_SECOND refl
 
   pub inv_sub_fourteen : from_decryption (by_quotients INV_SUB_FOURTEEN_FIRST INV_SUB_FOURTEEN_SECOND x) ≡ times 14 (inv_sub_of x)
   unfolding from_decryption first_quotient second_quotient high_denominator sum_denominator times
-  inv_sub_fourteen =
-      same_at_each (λ x. from_decryption (by_quotients INV_SUB_FOURTEEN_FIRST INV_SUB_FOURTEEN_SECOND x)) (λ x. times 14 (computed x)) 256 x refl h
-      ∙ ap (times 14) (is_computed x)
+  inv_sub_fourteen = multiple 14 INV_SUB_FOURTEEN_FIRST INV_SUB_FOURTEEN_SECOND refl
 
   -- and as plain bytes
   pub inv_sub_plain : by_quotients INV_SUB_PLAIN_FIRST INV_SUB_PLAIN_SECOND x ≡ inv_sub_of x

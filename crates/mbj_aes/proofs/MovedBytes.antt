@@ -49,12 +49,6 @@ extracted_at n xs b j size each inside h =
 
 -- ---- places of a move
 
-pub up_index : (j by : ℕ) → by ≤ 16 → j < 16 → (n : ℕ) → (n + by) % 256 ≡ 0 → IsTableIndex ((j + n) % 256)
-up_index j by h k n e = elim (cases_lt j by) [
-  | inl below ↦ inr (omega arith)
-  | inr above ↦ inl (omega arith)
-]
-
 abbrev out_place : ℕ → ℕ → ℕ
 out_place by j = bit_and ((j + (128 - by)) % 256) 0x8f
 

@@ -10,155 +10,77 @@ use Rattle.mbj_aes.proofs.States.{IsBytes-shift_rows, IsBytes-inv_shift_rows, un
 use Rattle.mbj_aes.proofs.Columns.{unmixed_columns, remixed_columns, IsBlock-mix_columns, IsBlock-inv_mix_columns}
 use Rattle.mbj_aes.proofs.KeyLists.{length-round_key, IsBlock-round_key}
 
--- ---- SUBBYTES with SHIFTROWS, and their inverses
+-- ---- changes of blocks that are undone
 
--- the two make a block of a block
-forward_block : (s : List ℕ) → IsBlock s → IsBlock (shift_rows (sub_bytes s))
-forward_block s h = record { size = refl; bytes = IsBytes-shift_rows (sub_bytes s) (IsBlock-sub_bytes s h) }
+-- change makes a block of each block, and undo makes that block again
+pub record IsUndone (change undo : List ℕ → List ℕ) : Type 0 where
+  pub block : (s : List ℕ) → IsBlock s → IsBlock (change s)
+  pub again : (s : List ℕ) → IsBlock s → undo (change s) ≡ s
 
--- and so do the two inverses
-back_block : (s : List ℕ) → IsBlock s → IsBlock (inv_sub_bytes (inv_shift_rows s))
-back_block s h = record { size = refl; bytes = IsBytes-inv_sub_bytes (inv_shift_rows s) }
+-- one change after another, the last of which is undone first
+joined : {f g f' g' : List ℕ → List ℕ} → IsUndone f f' → IsUndone g g' → IsUndone (λ s. g (f s)) (λ s. f' (g' s))
+joined {f} {g} {f'} {g'} first second = record {
+  block = λ s h. second.block (f s) (first.block s h);
+  again = λ s h. ap f' (second.again (f s) (first.block s h)) ∙ first.again s h;
+}
 
--- the inverses undo the two
-back_after_forward : (s : List ℕ) → IsBlock s → inv_sub_bytes (inv_shift_rows (shift_rows (sub_bytes s))) ≡ s
-back_after_forward s h =
-    ap inv_sub_bytes (unshifted_rows (sub_bytes s) (IsBlock-sub_bytes s h)) ∙ unsubstituted_bytes s h.bytes
+-- ---- the steps of a round
 
--- and the two undo the inverses
-forward_after_back : (s : List ℕ) → IsBlock s → shift_rows (sub_bytes (inv_sub_bytes (inv_shift_rows s))) ≡ s
-forward_after_back s h =
-    ap shift_rows (resubstituted_bytes (inv_shift_rows s) (IsBytes-inv_shift_rows s h)) ∙ reshifted_rows s h
+-- ADDROUNDKEY
+added : (k : List ℕ) → IsBlock k → IsUndone (λ s. xor_lists s k) (λ s. xor_lists s k)
+added k g = record { block = λ s h. IsBlock-xor_lists s k h g; again = λ s h. xor_lists_twice s k (omega arith) }
 
--- what is xored with a block twice is as it was
-twice : (s k : List ℕ) → IsBlock s → IsBlock k → xor_lists (xor_lists s k) k ≡ s
-twice s k h g = xor_lists_twice s k (omega arith)
+-- SUBBYTES with SHIFTROWS, and their inverses
+forward : IsUndone (λ s. shift_rows (sub_bytes s)) (λ s. inv_sub_bytes (inv_shift_rows s))
+forward = record {
+  block = λ s h. record { size = refl; bytes = IsBytes-shift_rows (sub_bytes s) (IsBlock-sub_bytes s h) };
+  again = λ s h. ap inv_sub_bytes (unshifted_rows (sub_bytes s) (IsBlock-sub_bytes s h)) ∙ unsubstituted_bytes s h.bytes;
+}
 
--- ---- one round
+back : IsUndone (λ s. inv_sub_bytes (inv_shift_rows s)) (λ s. shift_rows (sub_bytes s))
+back = record {
+  block = λ s h. record { size = refl; bytes = IsBytes-inv_sub_bytes (inv_shift_rows s) };
+  again = λ s h. ap shift_rows (resubstituted_bytes (inv_shift_rows s) (IsBytes-inv_shift_rows s h)) ∙ reshifted_rows s h;
+}
 
--- a round makes a block
-IsBlock-full_round : (s k : List ℕ) → IsBlock s → IsBlock k → IsBlock (full_round s k)
-IsBlock-full_round s k h g =
-    let t : List ℕ = shift_rows (sub_bytes s) in
-    IsBlock-xor_lists (mix_columns t) k (IsBlock-mix_columns t (forward_block s h)) g
+-- MIXCOLUMNS, and its inverse
+mixed : IsUndone mix_columns inv_mix_columns
+mixed = record { block = IsBlock-mix_columns; again = unmixed_columns }
 
--- and so does a round undone
-IsBlock-undone_round : (s k : List ℕ) → IsBlock s → IsBlock k → IsBlock (undone_round s k)
-IsBlock-undone_round s k h g =
-    let t : List ℕ = xor_lists s k in
-    back_block (inv_mix_columns t) (IsBlock-inv_mix_columns t (IsBlock-xor_lists s k h g))
+unmixed : IsUndone inv_mix_columns mix_columns
+unmixed = record { block = IsBlock-inv_mix_columns; again = remixed_columns }
 
--- a round done and then undone
-undone_round-full_round : (s k : List ℕ) → IsBlock s → IsBlock k → undone_round (full_round s k) k ≡ s
-undone_round-full_round s k h g =
-    let t : List ℕ = shift_rows (sub_bytes s) in
-    let t_block : IsBlock t = forward_block s h in
-    ap (λ x. inv_sub_bytes (inv_shift_rows (inv_mix_columns x))) (twice (mix_columns t) k (IsBlock-mix_columns t t_block) g)
-    ∙ ap (λ x. inv_sub_bytes (inv_shift_rows x)) (unmixed_columns t t_block)
-    ∙ back_after_forward s h
+-- ---- rounds
 
--- a round undone and then done
-full_round-undone_round : (s k : List ℕ) → IsBlock s → IsBlock k → full_round (undone_round s k) k ≡ s
-full_round-undone_round s k h g =
-    let t : List ℕ = xor_lists s k in
-    let t_block : IsBlock t = IsBlock-xor_lists s k h g in
-    ap (λ x. xor_lists (mix_columns x) k) (forward_after_back (inv_mix_columns t) (IsBlock-inv_mix_columns t t_block))
-    ∙ ap (λ x. xor_lists x k) (remixed_columns t t_block)
-    ∙ twice s k h g
+done : (k : List ℕ) → IsBlock k → IsUndone (λ s. full_round s k) (λ s. undone_round s k)
+done k g = joined (joined forward mixed) (added k g)
 
--- ---- many rounds
+undone : (k : List ℕ) → IsBlock k → IsUndone (λ s. undone_round s k) (λ s. full_round s k)
+undone k g = joined (joined (added k g) unmixed) back
 
--- rounds make a block
-IsBlock-after_rounds : (w b : List ℕ) (r : ℕ) → IsBytes w → IsBlock b → 16 * (r + 1) ≤ length w
-    → IsBlock (after_rounds w b r)
-unfolding after_rounds
-IsBlock-after_rounds w b zero g h l = IsBlock-xor_lists b (round_key w 0) h (IsBlock-round_key w 0 g l)
-IsBlock-after_rounds w b (suc r) g h l =
-    let before : IsBlock (after_rounds w b r) = IsBlock-after_rounds w b r g h (omega arith) in
-    IsBlock-full_round (after_rounds w b r) (round_key w (suc r)) before (IsBlock-round_key w (suc r) g l)
+module _ (w : List ℕ) (g : IsBytes w) where
+  all_done : (r : ℕ) → 16 * (r + 1) ≤ length w → IsUndone (λ b. after_rounds w b r) (λ s. undone_rounds w s r)
+  unfolding after_rounds undone_rounds
+  all_done zero l = added (round_key w 0) (IsBlock-round_key w 0 g l)
+  all_done (suc r) l = joined (all_done r (omega arith)) (done (round_key w (suc r)) (IsBlock-round_key w (suc r) g l))
 
--- and so do rounds undone
-IsBlock-undone_rounds : (w : List ℕ) (r : ℕ) (s : List ℕ) → IsBytes w → IsBlock s → 16 * (r + 1) ≤ length w
-    → IsBlock (undone_rounds w s r)
-unfolding undone_rounds
-IsBlock-undone_rounds w zero s g h l = IsBlock-xor_lists s (round_key w 0) h (IsBlock-round_key w 0 g l)
-IsBlock-undone_rounds w (suc r) s g h l =
-    let k : List ℕ = round_key w (suc r) in
-    let k_block : IsBlock k = IsBlock-round_key w (suc r) g l in
-    IsBlock-undone_rounds w r (undone_round s k) g (IsBlock-undone_round s k h k_block) (omega arith)
+  all_undone : (r : ℕ) → 16 * (r + 1) ≤ length w → IsUndone (λ s. undone_rounds w s r) (λ b. after_rounds w b r)
+  unfolding after_rounds undone_rounds
+  all_undone zero l = added (round_key w 0) (IsBlock-round_key w 0 g l)
+  all_undone (suc r) l = joined (undone (round_key w (suc r)) (IsBlock-round_key w (suc r) g l)) (all_undone r (omega arith))
 
--- rounds done and then undone
-undone_rounds-after_rounds : (w b : List ℕ) (r : ℕ) → IsBytes w → IsBlock b → 16 * (r + 1) ≤ length w
-    → undone_rounds w (after_rounds w b r) r ≡ b
-unfolding after_rounds undone_rounds
-undone_rounds-after_rounds w b zero g h l = twice b (round_key w 0) h (IsBlock-round_key w 0 g l)
-undone_rounds-after_rounds w b (suc r) g h l =
-    let before : IsBlock (after_rounds w b r) = IsBlock-after_rounds w b r g h (omega arith) in
-    let k_block : IsBlock (round_key w (suc r)) = IsBlock-round_key w (suc r) g l in
-    ap (λ x. undone_rounds w x r) (undone_round-full_round (after_rounds w b r) (round_key w (suc r)) before k_block)
-    ∙ undone_rounds-after_rounds w b r g h (omega arith)
+  -- whole schedules, of two round keys at least
+  pub encipher-undone : 32 ≤ length w → IsUndone (encipher w) (decipher w)
+  unfolding encipher decipher
+  encipher-undone l =
+      let n : ℕ = length w / 16 - 1 in
+      joined (joined (all_done (n - 1) (omega arith)) forward) (added (round_key w n) (IsBlock-round_key w n g (omega arith)))
 
--- rounds undone and then done
-after_rounds-undone_rounds : (w : List ℕ) (r : ℕ) (s : List ℕ) → IsBytes w → IsBlock s → 16 * (r + 1) ≤ length w
-    → after_rounds w (undone_rounds w s r) r ≡ s
-unfolding after_rounds undone_rounds
-after_rounds-undone_rounds w zero s g h l = twice s (round_key w 0) h (IsBlock-round_key w 0 g l)
-after_rounds-undone_rounds w (suc r) s g h l =
-    let k : List ℕ = round_key w (suc r) in
-    let k_block : IsBlock k = IsBlock-round_key w (suc r) g l in
-    let t_block : IsBlock (undone_round s k) = IsBlock-undone_round s k h k_block in
-    ap (λ x. full_round x k) (after_rounds-undone_rounds w r (undone_round s k) g t_block (omega arith))
-    ∙ full_round-undone_round s k h k_block
-
--- ---- whole schedules, of two round keys at least
-
--- encryption makes a block
-pub IsBlock-encipher : (w b : List ℕ) → IsBytes w → IsBlock b → 32 ≤ length w → IsBlock (encipher w b)
-unfolding encipher
-IsBlock-encipher w b g h l =
-    let n : ℕ = length w / 16 - 1 in
-    let s : List ℕ = after_rounds w b (n - 1) in
-    let s_block : IsBlock s = IsBlock-after_rounds w b (n - 1) g h (omega arith) in
-    let k_block : IsBlock (round_key w n) = IsBlock-round_key w n g (omega arith) in
-    IsBlock-xor_lists (shift_rows (sub_bytes s)) (round_key w n) (forward_block s s_block) k_block
-
--- and so does decryption
-pub IsBlock-decipher : (w b : List ℕ) → IsBytes w → IsBlock b → 32 ≤ length w → IsBlock (decipher w b)
-unfolding decipher
-IsBlock-decipher w b g h l =
-    let n : ℕ = length w / 16 - 1 in
-    let t : List ℕ = xor_lists b (round_key w n) in
-    let t_block : IsBlock t = IsBlock-xor_lists b (round_key w n) h (IsBlock-round_key w n g (omega arith)) in
-    IsBlock-undone_rounds w (n - 1) (inv_sub_bytes (inv_shift_rows t)) g (back_block t t_block) (omega arith)
-
--- decryption undoes encryption
-pub decipher-encipher : (w b : List ℕ) → IsBytes w → IsBlock b → 32 ≤ length w → decipher w (encipher w b) ≡ b
-unfolding encipher decipher
-decipher-encipher w b g h l =
-    let n : ℕ = length w / 16 - 1 in
-    let k : List ℕ = round_key w n in
-    let s : List ℕ = after_rounds w b (n - 1) in
-    let s_block : IsBlock s = IsBlock-after_rounds w b (n - 1) g h (omega arith) in
-    let k_block : IsBlock k = IsBlock-round_key w n g (omega arith) in
-    ap (λ x. undone_rounds w (inv_sub_bytes (inv_shift_rows x)) (n - 1))
-    (twice (shift_rows (sub_bytes s)) k (forward_block s s_block) k_block)
-    ∙ ap (λ x. undone_rounds w x (n - 1)) (back_after_forward s s_block)
-    ∙ undone_rounds-after_rounds w b (n - 1) g h (omega arith)
-
--- encryption undoes decryption
-pub encipher-decipher : (w b : List ℕ) → IsBytes w → IsBlock b → 32 ≤ length w → encipher w (decipher w b) ≡ b
-unfolding encipher decipher
-encipher-decipher w b g h l =
-    let n : ℕ = length w / 16 - 1 in
-    let k : List ℕ = round_key w n in
-    let k_block : IsBlock k = IsBlock-round_key w n g (omega arith) in
-    let t : List ℕ = xor_lists b k in
-    let t_block : IsBlock t = IsBlock-xor_lists b k h k_block in
-    let u : List ℕ = inv_sub_bytes (inv_shift_rows t) in
-    ap (λ x. xor_lists (shift_rows (sub_bytes x)) k)
-    (after_rounds-undone_rounds w (n - 1) u g (back_block t t_block) (omega arith))
-    ∙ ap (λ x. xor_lists x k) (forward_after_back t t_block)
-    ∙ twice b k h k_block
+  pub decipher-undone : 32 ≤ length w → IsUndone (decipher w) (encipher w)
+  unfolding encipher decipher
+  decipher-undone l =
+      let n : ℕ = length w / 16 - 1 in
+      joined (joined (added (round_key w n) (IsBlock-round_key w n g (omega arith))) back) (all_undone (n - 1) (omega arith))
 
 -- ---- lengths: 16 bytes come out, whatever numbers go in
 

@@ -52,28 +52,27 @@ pub from_tower-to_tower : (x : ℕ) → x < 256 → from_tower (by_halves TO_TOW
 unfolding from_tower
 from_tower-to_tower x h = same_at_each (λ x. from_tower (by_halves TO_TOWER_LOW TO_TOWER_HIGH x)) (λ x. x) 256 x refl h
 
-pub same_pairs : (f g : ℕ → ℕ → ℕ) (n x y : ℕ) → each_below (λ x. each_below (λ y. f x y == g x y) n) n ≡ true → x < n → y < n → f x y ≡ g x y
-same_pairs f g n x y e h k = same_at_each (f x) (g x) n y (at_each (λ x. each_below (λ y. f x y == g x y) n) n x e h) k
+-- whether what a table gives of a sum of halves is the sum of what it gives of them
+abbrev pub adds_at : List ℕ → ℕ → Bool
+adds_at table x = each_below (λ y. table_byte table (bit_xor x y) == bit_xor (table_byte table x) (table_byte table y)) 16
 
-low_sum : (x y : ℕ) → x < 16 → y < 16 → table_byte FROM_TOWER_LOW (bit_xor x y) ≡ bit_xor (table_byte FROM_TOWER_LOW x) (table_byte FROM_TOWER_LOW y)
-low_sum x y h k = same_pairs (λ x y. table_byte FROM_TOWER_LOW (bit_xor x y)) (λ x y. bit_xor (table_byte FROM_TOWER_LOW x) (table_byte FROM_TOWER_LOW y)) 16 x y refl h k
+added : (table : List ℕ) → each_below (adds_at table) 16 ≡ true → (x y : ℕ) → x < 16 → y < 16
+    → table_byte table (bit_xor x y) ≡ bit_xor (table_byte table x) (table_byte table y)
+added table e x y h k =
+    same_at_each (λ y. table_byte table (bit_xor x y)) (λ y. bit_xor (table_byte table x) (table_byte table y)) 16 y (at_each (adds_at table) 16 x e h) k
 
-high_sum : (x y : ℕ) → x < 16 → y < 16 → table_byte FROM_TOWER_HIGH (bit_xor x y) ≡ bit_xor (table_byte FROM_TOWER_HIGH x) (table_byte FROM_TOWER_HIGH y)
-high_sum x y h k = same_pairs (λ x y. table_byte FROM_TOWER_HIGH (bit_xor x y)) (λ x y. bit_xor (table_byte FROM_TOWER_HIGH x) (table_byte FROM_TOWER_HIGH y)) 16 x y refl h k
-
--- what two tables that add give of a sum
-pub by_halves-xor : (low high : List ℕ) → ((x y : ℕ) → x < 16 → y < 16 → table_byte low (bit_xor x y) ≡ bit_xor (table_byte low x) (table_byte low y))
-    → ((x y : ℕ) → x < 16 → y < 16 → table_byte high (bit_xor x y) ≡ bit_xor (table_byte high x) (table_byte high y))
+-- what two such tables give of a sum
+pub by_halves-xor : (low high : List ℕ) → each_below (adds_at low) 16 ≡ true → each_below (adds_at high) 16 ≡ true
     → (x y : ℕ) → x < 256 → y < 256 → by_halves low high (bit_xor x y) ≡ bit_xor (by_halves low high x) (by_halves low high y)
 by_halves-xor low high adds_low adds_high x y h k =
     ap₂ (λ p q. bit_xor (table_byte low p) (table_byte high q)) (xor_mod x y 4) (xor_shr x y 4)
-    ∙ ap₂ bit_xor (adds_low (x % 16) (y % 16) (omega arith) (omega arith)) (adds_high (x / 16) (y / 16) (omega arith) (omega arith))
+    ∙ ap₂ bit_xor (added low adds_low (x % 16) (y % 16) (omega arith) (omega arith)) (added high adds_high (x / 16) (y / 16) (omega arith) (omega arith))
     ∙ exchanged (table_byte low (x % 16)) (table_byte low (y % 16)) (table_byte high (x / 16)) (table_byte high (y / 16))
 
 -- a sum in the tower's basis
 pub from_tower-xor : (x y : ℕ) → x < 256 → y < 256 → from_tower (bit_xor x y) ≡ bit_xor (from_tower x) (from_tower y)
 unfolding from_tower
-from_tower-xor x y h k = by_halves-xor FROM_TOWER_LOW FROM_TOWER_HIGH low_sum high_sum x y h k
+from_tower-xor x y h k = by_halves-xor FROM_TOWER_LOW FROM_TOWER_HIGH refl refl x y h k
 
 -- ---- the S-box
 

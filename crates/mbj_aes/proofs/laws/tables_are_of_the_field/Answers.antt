@@ -1,17 +1,17 @@
 -- Each is computed at each half or byte.
-use Rattle.std.proofs.Common.{◌≡◌, ℕ, ◌+◌, ◌-◌, ◌<◌, ◌≤◌, slice_index, refl, subst, arith}
+use Rattle.std.proofs.Common.{◌≡◌, ℕ, ◌+◌, ◌-◌, ◌<◌, ◌≤◌, ◌==◌, true, slice_index, refl, subst, arith}
 use Rattle.mbj_types.specs.Aes.{times, power}
 use Rattle.mbj_aes.specs.Tower.{by_halves, from_tower, from_decryption, element, linear_part}
 use Rattle.mbj_aes.specs.declared.tables.TheConstants.{TO_DECRYPTION_LOW, TO_DECRYPTION_HIGH, INVERSES, SCALED_INVERSES, SUB_PLAIN_FIRST, SUB_PLAIN_SECOND, INV_SUB_PLAIN_FIRST, INV_SUB_PLAIN_SECOND}
-use Rattle.mbj_aes.proofs.ByteCases.{same_at_each}
+use Rattle.mbj_aes.proofs.ByteCases.{each_below, same_at_each}
 use Rattle.mbj_aes.proofs.TowerCases.{from_tower-to_tower}
 use Rattle.mbj_aes.proofs.laws.tables_are_of_the_field.Goals as goal
 
 -- a fact of the numbers from 1 to 15
-from_one : (f : ℕ → ℕ) (c : ℕ) → ((m : ℕ) → m < 15 → f (m + 1) ≡ c) → (n : ℕ) → 1 ≤ n → n < 16 → f n ≡ c
-from_one f c each n least most =
+from_one : (f : ℕ → ℕ) (c : ℕ) → each_below (λ m. f (m + 1) == c) 15 ≡ true → (n : ℕ) → 1 ≤ n → n < 16 → f n ≡ c
+from_one f c e n least most =
     let back : n - 1 + 1 ≡ n = omega arith in
-    subst (λ (k : ℕ). f k ≡ c) back (each (n - 1) (omega arith))
+    subst (λ (k : ℕ). f k ≡ c) back (same_at_each (λ m. f (m + 1)) (λ m. c) 15 (n - 1) e (omega arith))
 
 pub returns-clause-subfield : goal.returns-clause-subfield
 unfolding from_tower power times
@@ -26,27 +26,19 @@ returns-clause-to_tower c x h = from_tower-to_tower x h
 
 pub returns-clause-inverses : goal.returns-clause-inverses
 unfolding from_tower times
-returns-clause-inverses c =
-    from_one (λ n. times (element n) (element (slice_index INVERSES n))) 1
-    (λ m h. same_at_each (λ m. times (element (m + 1)) (element (slice_index INVERSES (m + 1)))) (λ m. 1) 15 m refl h)
+returns-clause-inverses c = from_one (λ n. times (element n) (element (slice_index INVERSES n))) 1 refl
 
 pub returns-clause-scaled : goal.returns-clause-scaled
 unfolding from_tower times
-returns-clause-scaled c =
-    from_one (λ n. times (element n) (element (slice_index SCALED_INVERSES n))) 0xe1
-    (λ m h. same_at_each (λ m. times (element (m + 1)) (element (slice_index SCALED_INVERSES (m + 1)))) (λ m. 0xe1) 15 m refl h)
+returns-clause-scaled c = from_one (λ n. times (element n) (element (slice_index SCALED_INVERSES n))) 0xe1 refl
 
 pub returns-clause-first : goal.returns-clause-first
 unfolding from_tower times
-returns-clause-first c =
-    from_one (λ n. times (element n) (slice_index INV_SUB_PLAIN_FIRST n)) 0x1f
-    (λ m h. same_at_each (λ m. times (element (m + 1)) (slice_index INV_SUB_PLAIN_FIRST (m + 1))) (λ m. 0x1f) 15 m refl h)
+returns-clause-first c = from_one (λ n. times (element n) (slice_index INV_SUB_PLAIN_FIRST n)) 0x1f refl
 
 pub returns-clause-second : goal.returns-clause-second
 unfolding from_tower times
-returns-clause-second c =
-    from_one (λ n. times (element n) (slice_index INV_SUB_PLAIN_SECOND n)) 0x1e
-    (λ m h. same_at_each (λ m. times (element (m + 1)) (slice_index INV_SUB_PLAIN_SECOND (m + 1))) (λ m. 0x1e) 15 m refl h)
+returns-clause-second c = from_one (λ n. times (element n) (slice_index INV_SUB_PLAIN_SECOND n)) 0x1e refl
 
 pub returns-clause-sub_first : goal.returns-clause-sub_first
 returns-clause-sub_first c n h = same_at_each (slice_index SUB_PLAIN_FIRST) (λ n. linear_part (slice_index INV_SUB_PLAIN_FIRST n)) 16 n refl h
