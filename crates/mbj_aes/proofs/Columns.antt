@@ -1,5 +1,5 @@
 -- MIXCOLUMNS and its inverse on whole states.
-use Rattle.std.proofs.Common.{◌≡◌, ℕ, ◌+◌, ◌<◌, List, [], ◌∷◌, ◌++◌, slice_index, refl, ap, ap₂, ◌∙◌, arith}
+use Rattle.std.proofs.Common.{◌≡◌, ℕ, ◌+◌, ◌<◌, List, [], ◌∷◌, ◌++◌, slice_index, refl, ◌∙◌, arith}
 use Rattle.std.proofs.lemmas.List.Elements.{All-cons, All-nil, All-append}
 use Rattle.mbj_types.specs.Aes.{mixed_byte, inv_mixed_byte, mix_columns, inv_mix_columns}
 use Rattle.mbj_aes.specs.Bytes.{IsBytes, IsBlock}
@@ -39,9 +39,7 @@ column-same m n same a b c d h =
     let h1 : IsColumn b c d a = turned a b c d h in
     let h2 : IsColumn c d a b = turned b c d a h1 in
     let h3 : IsColumn d a b c = turned c d a b h2 in
-    ap₂ (λ x xs. x ∷ xs) (same a b c d h)
-    (ap₂ (λ x xs. x ∷ xs) (same b c d a h1)
-    (ap₂ (λ x xs. x ∷ xs) (same c d a b h2) (ap (λ x. x ∷ []) (same d a b c h3))))
+    λ j. same a b c d h j ∷ same b c d a h1 j ∷ same c d a b h2 j ∷ same d a b c h3 j ∷ []
 
 -- of all four
 columns-same : (m n : ℕ → ℕ → ℕ → ℕ → ℕ) → ((a b c d : ℕ) → IsColumn a b c d → m a b c d ≡ n a b c d)
@@ -50,9 +48,7 @@ columns-same m n same s h =
     let each : (k : ℕ) → k + 3 < 16 → column_at m s k ≡ column_at n s k = λ k inside.
     column-same m n same (slice_index s k) (slice_index s (k + 1)) (slice_index s (k + 2)) (slice_index s (k + 3))
     (IsColumn-block s k h inside) in
-    let join : List ℕ → List ℕ → List ℕ = λ xs ys. xs ++ ys in
-    ap₂ join (ap₂ join (ap₂ join (each 0 (omega arith)) (each 4 (omega arith))) (each 8 (omega arith)))
-    (each 12 (omega arith))
+    λ j. each 0 (omega arith) j ++ each 4 (omega arith) j ++ each 8 (omega arith) j ++ each 12 (omega arith) j
 
 -- INVMIXCOLUMNS after MIXCOLUMNS
 pub unmixed_columns : (s : List ℕ) → IsBlock s → inv_mix_columns (mix_columns s) ≡ s

@@ -32,32 +32,6 @@ length-key_schedule key h =
     let w : IsSchedule (4 * (round_count key + 1)) (key_schedule key) = IsSchedule-key_schedule key h in
     w.size ∙ omega arith
 
--- the array has bytes
-pub IsBytes-expansion : (key bytes : List ℕ) (rounds : ℕ) → IsExpansion key bytes rounds → IsBytes bytes
-IsBytes-expansion key bytes rounds h =
-    let P : ℕ → Type 0 = λ x. x < 256 in
-    let n : ℕ = 240 - 16 * (round_count key + 1) in
-    let zeros : IsBytes (replicate n 0) = All-replicate P n 0 (omega arith) in
-    let w : IsSchedule (4 * (round_count key + 1)) (key_schedule key) = IsSchedule-key_schedule key h.of_key in
-    All-same P bytes (key_schedule key ++ replicate n 0) h.array
-    (All-append P (key_schedule key) (replicate n 0) w.bytes zeros)
-
--- and zeros at its end
-pub IsPadded-expansion : (key bytes : List ℕ) (rounds : ℕ) → IsExpansion key bytes rounds
-    → IsPadded 240 (16 * (rounds + 1)) bytes
-IsPadded-expansion key bytes rounds h =
-    let sizes = key_sizes (length key) h.of_key.size in
-    let long : length (key_schedule key) ≡ 16 * (round_count key + 1) = length-key_schedule key h.of_key in
-    rw h.count (IsPadded-zeros 240 (16 * (round_count key + 1)) (key_schedule key) bytes long (omega arith) h.array)
-
--- its first part is the schedule
-pub take-expansion : (key bytes : List ℕ) (rounds : ℕ) → IsExpansion key bytes rounds
-    → take (16 * (rounds + 1)) bytes ≡ key_schedule key
-take-expansion key bytes rounds h =
-    let zeros : ℕ = 240 - 16 * (round_count key + 1) in
-    let long : length (key_schedule key) ≡ 16 * (round_count key + 1) = length-key_schedule key h.of_key in
-    rw h.count (take-padded (16 * (round_count key + 1)) zeros (key_schedule key) bytes long h.array)
-
 -- encryption under the schedule of a key
 pub encipher-key_schedule : (key b : List ℕ) → encipher (key_schedule key) b ≡ aes key b
 unfolding aes
@@ -78,16 +52,40 @@ take-schedule nk key (suc n) some size bytes =
     take-append-le (4 * nk) w (xor_lists (word w n) (schedule_term nk w (nk + n))) (omega (arith, before.size))
     ∙ take-schedule nk key n some size bytes
 
--- so the key stands in the array
-pub IsExpanded-expansion : (key bytes : List ℕ) (rounds : ℕ) → IsExpansion key bytes rounds → IsExpanded rounds bytes
-IsExpanded-expansion key bytes rounds h =
-    let sizes = key_sizes (length key) h.of_key.size in
-    let nk : ℕ = length key / 4 in
-    let zeros : ℕ = 240 - 16 * (round_count key + 1) in
-    let long : length (key_schedule key) ≡ 16 * (round_count key + 1) = length-key_schedule key h.of_key in
-    let size : 4 * (rounds - 6) ≡ 4 * nk = omega (arith, h.count) in
-    let first : take (4 * (rounds - 6)) bytes ≡ key =
-    ap₂ (λ n xs. take n xs) size h.array
-    ∙ take-append-le (4 * nk) (key_schedule key) (replicate zeros 0) (omega arith)
-    ∙ take-schedule nk key (4 * (round_count key + 1) - nk) (omega arith) (omega arith) h.of_key.bytes in
-    ap key_schedule first ∙ sym (take-expansion key bytes rounds h)
+-- ---- the array
+
+module _ (key bytes : List ℕ) (rounds : ℕ) (h : IsExpansion key bytes rounds) where
+  long : length (key_schedule key) ≡ 16 * (round_count key + 1)
+  long = length-key_schedule key h.of_key
+
+  -- it has bytes
+  pub IsBytes-expansion : IsBytes bytes
+  IsBytes-expansion =
+      let P : ℕ → Type 0 = λ x. x < 256 in
+      let n : ℕ = 240 - 16 * (round_count key + 1) in
+      let w : IsSchedule (4 * (round_count key + 1)) (key_schedule key) = IsSchedule-key_schedule key h.of_key in
+      All-same P bytes (key_schedule key ++ replicate n 0) h.array
+      (All-append P (key_schedule key) (replicate n 0) w.bytes (All-replicate P n 0 (omega arith)))
+
+  -- and zeros at its end
+  pub IsPadded-expansion : IsPadded 240 (16 * (rounds + 1)) bytes
+  IsPadded-expansion =
+      let sizes = key_sizes (length key) h.of_key.size in
+      rw h.count (IsPadded-zeros 240 (16 * (round_count key + 1)) (key_schedule key) bytes long (omega arith) h.array)
+
+  -- its first part is the schedule
+  pub take-expansion : take (16 * (rounds + 1)) bytes ≡ key_schedule key
+  take-expansion =
+      rw h.count (take-padded (16 * (round_count key + 1)) (240 - 16 * (round_count key + 1)) (key_schedule key) bytes long h.array)
+
+  -- so the key stands in it
+  pub IsExpanded-expansion : IsExpanded rounds bytes
+  IsExpanded-expansion =
+      let sizes = key_sizes (length key) h.of_key.size in
+      let nk : ℕ = length key / 4 in
+      let size : 4 * (rounds - 6) ≡ 4 * nk = omega (arith, h.count) in
+      let first : take (4 * (rounds - 6)) bytes ≡ key =
+      ap₂ (λ n xs. take n xs) size h.array
+      ∙ take-append-le (4 * nk) (key_schedule key) (replicate (240 - 16 * (round_count key + 1)) 0) (omega (arith, long))
+      ∙ take-schedule nk key (4 * (round_count key + 1) - nk) (omega arith) (omega arith) h.of_key.bytes in
+      ap key_schedule first ∙ sym take-expansion
