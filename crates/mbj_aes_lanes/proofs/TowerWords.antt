@@ -1,15 +1,13 @@
 -- Words and blocks that stand in the tower's basis.
-use Rattle.std.proofs.Common.{◌≡◌, ℕ, ◌^◌, ◌<◌, List, [], ◌∷◌, ◌++◌, length, map, take, drop, replicate, refl, sym, ap, ap₂, ◌∙◌}
+use Rattle.std.proofs.Common.{◌≡◌, ℕ, List, ◌++◌, length, map, take, drop, replicate, refl, sym, ap, ap₂, ◌∙◌}
 use Rattle.std.proofs.lemmas.List.{length-map, map-append, take-map, drop-map}
 use Rattle.mbj_types.specs.Blocks.{xor_lists}
 use Rattle.mbj_types.specs.Lanes.{lane_of}
 use Rattle.mbj_aes.specs.declared.tables.TheConstants.{SBOX_CONSTANT}
 use Rattle.mbj_aes.specs.Tower.{from_tower}
-use Rattle.mbj_aes.proofs.TowerCases.{from_tower-xor}
 use Rattle.mbj_aes_lanes.specs.declared.wide.key_states.TheConstants.{SBOX_CONSTANT_IN_TOWER}
-use Rattle.mbj_aes_lanes.specs.declared.wide.state.Word.{Word}
 use Rattle.mbj_aes_lanes.specs.declared.wide.state.State.{State}
-use Rattle.mbj_aes_lanes.specs.Inside.Wide.{word_lane, state_lane, tower_word, tower_block, tower_lane}
+use Rattle.mbj_aes_lanes.specs.Inside.Wide.{state_lane, tower_block, tower_lane}
 use Rattle.mbj_aes_lanes.specs.Inside.WideKeys.{with_constant}
 
 pub from_tower-constant : from_tower SBOX_CONSTANT_IN_TOWER ≡ SBOX_CONSTANT
@@ -31,14 +29,6 @@ map-mid f at end ys b =
     ∙ ap₂ (λ xs zs. xs ++ zs)
     (map-append f (take at ys) b ∙ ap (λ xs. xs ++ map f b) (sym (take-map f at ys)))
     (sym (drop-map f end ys))
-
--- a sum of words
-pub tower_word-sum : {V : Type 0} (lane : V → ℕ → ℕ) → ((x : V) (i : ℕ) → lane x i < 2 ^ 8) → (a b result : Word V) (i : ℕ)
-    → word_lane lane result i ≡ xor_lists (word_lane lane a i) (word_lane lane b i)
-    → tower_word lane result i ≡ xor_lists (tower_word lane a i) (tower_word lane b i)
-tower_word-sum lane fits a b result i e =
-    let at = λ (x y : _). from_tower-xor (lane x i) (lane y i) (fits x i) (fits y i) in
-    ap (map from_tower) e ∙ (λ j. at a.0 b.0 j ∷ at a.1 b.1 j ∷ at a.2 b.2 j ∷ at a.3 b.3 j ∷ [])
 
 -- the constant of the S-box added to each byte of a state
 pub constant-added-in-tower : {V : Type 0} (lane : V → ℕ → ℕ) (s constant : State V) (i : ℕ)

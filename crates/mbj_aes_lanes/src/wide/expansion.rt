@@ -19,7 +19,7 @@ const MIDDLE_WORD: usize = MAX_KEY_WORDS / 2;
 
 // SBOX of each byte.
 #[inline(always)]
-fn substituted<V: Lane8>(x: V) -> V
+fn sub_byte<V: Lane8>(x: V) -> V
     ensures { (i : ℕ) → i < V.LANES → from_tower (V.lane result i) ≡ sub_byte (from_tower (V.lane x i)) }
 {
     substituted_in_tower(x)
@@ -29,15 +29,10 @@ fn substituted<V: Lane8>(x: V) -> V
 
 // SUBWORD.
 #[inline(always)]
-fn sub_word<V: Lane8>(word: Word<V>) -> Word<V>
-    ensures { (i : ℕ) → i < V.LANES → tower_word V.lane result i ≡ sub_bytes (tower_word V.lane word i) }
+fn sub_word<V: Lane8>(w: Word<V>) -> Word<V>
+    ensures { (i : ℕ) → i < V.LANES → tower_word V.lane result i ≡ sub_bytes (tower_word V.lane w i) }
 {
-    Word(
-        substituted(word.0),
-        substituted(word.1),
-        substituted(word.2),
-        substituted(word.3),
-    )
+    Word(sub_byte(w.0), sub_byte(w.1), sub_byte(w.2), sub_byte(w.3))
 }
 
 // ROTWORD.
@@ -48,23 +43,6 @@ fn rot_word<V: Lane8>(word: Word<V>) -> Word<V>
     Word(word.1, word.2, word.3, word.0)
 }
 
-// The sum of two words, byte by byte.
-#[inline(always)]
-fn sum<V: Lane8>(a: Word<V>, b: Word<V>) -> Word<V>
-    ensures { (i : ℕ) → i < V.LANES → tower_word V.lane result i ≡ xor_lists (tower_word V.lane a i) (tower_word V.lane b i) }
-{
-    xor_words(a, b)
-}
-
-// Word `i` of the lists in the lanes.
-#[inline(always)]
-fn word_in<V: Lane8>(words: &[V], i: usize) -> Word<V>
-    requires { 4 * i + 4 ≤ length words.now }
-    ensures { (k : ℕ) → tower_word V.lane result k ≡ word (tower_lane V.lane words.now k) i }
-{
-    word_at(words, i)
-}
-
 // Rcon[j], in every lane.
 #[inline(always)]
 fn constant_word<V: Lane8>(j: usize) -> Word<V>
@@ -73,12 +51,8 @@ fn constant_word<V: Lane8>(j: usize) -> Word<V>
     ensures { (i : ℕ) → i < V.LANES → tower_word V.lane result i ≡ rcon j }
 {
     let [first, ..] = round_constant(j);
-    Word(
-        to_tower_byte(V::splat(first)),
-        V::splat(0),
-        V::splat(0),
-        V::splat(0),
-    )
+    let zero = V::splat(0);
+    Word(to_tower_byte(V::splat(first)), zero, zero, zero)
 }
 
 // What is added to word `i - key_words` to make word `i` of the schedules of keys of `key_words` words.
@@ -90,9 +64,9 @@ fn schedule_term<V: Lane8>(words: &[V], key_words: usize, i: usize) -> Word<V>
     requires written { 4 * i ≤ length words.now }
     ensures { (k : ℕ) → k < V.LANES → tower_word V.lane result k ≡ schedule_term key_words (tower_lane V.lane words.now k) i }
 {
-    let last = word_in(words, i - 1);
+    let last = word_at(words, i - 1);
     if i % key_words == 0 {
-        sum(sub_word(rot_word(last)), constant_word(i / key_words))
+        xor_words(sub_word(rot_word(last)), constant_word(i / key_words))
     } else if key_words == MAX_KEY_WORDS && i % MAX_KEY_WORDS == MIDDLE_WORD {
         sub_word(last)
     } else {
@@ -110,8 +84,8 @@ fn next_word<V: Lane8>(words: &[V], key_words: usize, i: usize) -> Word<V>
     ensures { (k : ℕ) → k < V.LANES → tower_word V.lane result k
         ≡ xor_lists (word (tower_lane V.lane words.now k) (i - key_words)) (schedule_term key_words (tower_lane V.lane words.now k) i) }
 {
-    let before = word_in(words, i - key_words);
-    sum(before, schedule_term(words, key_words, i))
+    let before = word_at(words, i - key_words);
+    xor_words(before, schedule_term(words, key_words, i))
 }
 
 /// Expands keys of `key_words` words, which are the first lane words. The schedules take their place, and that of as many words behind

@@ -1,6 +1,6 @@
 ghost use Rattle.std.specs.Prelude.{◌≡◌, ℕ, ◌<◌, replicate};
 ghost use Rattle.mbj_types.specs.Blocks.{zero_block, xor_lists};
-ghost use Rattle.mbj_aes_lanes.specs.Inside.Wide.{word_lane, state_lane};
+ghost use Rattle.mbj_aes_lanes.specs.Inside.Wide.{word_lane, state_lane, tower_word};
 
 use mbj_types::Lane8;
 
@@ -31,10 +31,11 @@ pub fn zero_state<V: Lane8>() -> State<V>
     splat_state(0)
 }
 
-/// The sum of two words, byte by byte.
+/// The sum of two words, byte by byte, whether they are plain or in the tower's basis.
 #[inline(always)]
 pub fn xor_words<V: Lane8>(a: Word<V>, b: Word<V>) -> Word<V>
-    ensures { (i : ℕ) → i < V.LANES → word_lane V.lane result i ≡ xor_lists (word_lane V.lane a i) (word_lane V.lane b i) }
+    ensures plain { (i : ℕ) → i < V.LANES → word_lane V.lane result i ≡ xor_lists (word_lane V.lane a i) (word_lane V.lane b i) }
+    ensures tower { (i : ℕ) → i < V.LANES → tower_word V.lane result i ≡ xor_lists (tower_word V.lane a i) (tower_word V.lane b i) }
 {
     Word(
         a.0.xored(b.0),

@@ -55,7 +55,7 @@ fn mixed_column<V: Lane8>(w: Word<V>) -> Word<V>
 
 // INVMIXCOLUMNS of a column.
 #[inline(always)]
-fn unmixed_column<V: Lane8>(w: Word<V>) -> Word<V>
+fn unmixed<V: Lane8>(w: Word<V>) -> Word<V>
     ensures { (i : ℕ) → i < V.LANES → word_lane V.lane result i ≡ inv_mixed_column (word_lane V.lane w i) 0 }
 {
     mixed_column(Word(
@@ -72,10 +72,5 @@ fn unmixed_column<V: Lane8>(w: Word<V>) -> Word<V>
 pub fn unmixed_columns<V: Lane8>(s: State<V>) -> State<V>
     ensures { (i : ℕ) → i < V.LANES → state_lane V.lane result i ≡ inv_mix_columns (state_lane V.lane s i) }
 {
-    State(
-        unmixed_column(s.0),
-        unmixed_column(s.1),
-        unmixed_column(s.2),
-        unmixed_column(s.3),
-    )
+    State(unmixed(s.0), unmixed(s.1), unmixed(s.2), unmixed(s.3))
 }

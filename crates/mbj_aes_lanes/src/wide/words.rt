@@ -2,7 +2,7 @@
 ghost use Rattle.std.specs.Prelude.{◌≡◌, ℕ, ◌+◌, ◌*◌, ◌≤◌, ◌++◌, length, take, drop};
 ghost use Rattle.mbj_types.specs.Aes.{word, round_key};
 ghost use Rattle.mbj_types.specs.Lanes.{lane_of};
-ghost use Rattle.mbj_aes_lanes.specs.Inside.Wide.{word_lane, state_lane};
+ghost use Rattle.mbj_aes_lanes.specs.Inside.Wide.{word_lane, state_lane, tower_word, tower_lane};
 
 use crate::wide::state::{State, Word};
 use mbj_aes::{MAX_SCHEDULE_BYTES, ROUND_WORDS, WORD_BYTES};
@@ -11,11 +11,12 @@ use mbj_types::Lane8;
 /// The lane words of the longest schedules: one for each byte.
 pub const MAX_SCHEDULE_WORDS: usize = MAX_SCHEDULE_BYTES;
 
-/// Word `i` of the lists in the lanes.
+/// Word `i` of the lists in the lanes, whether they are plain or in the tower's basis.
 #[inline(always)]
 pub fn word_at<V: Lane8>(words: &[V], i: usize) -> Word<V>
     requires { 4 * i + 4 ≤ length words.now }
-    ensures { (k : ℕ) → word_lane V.lane result k ≡ word (lane_of V.lane words.now k) i }
+    ensures plain { (k : ℕ) → word_lane V.lane result k ≡ word (lane_of V.lane words.now k) i }
+    ensures tower { (k : ℕ) → tower_word V.lane result k ≡ word (tower_lane V.lane words.now k) i }
 {
     let at = WORD_BYTES * i;
     Word(words[at], words[at + 1], words[at + 2], words[at + 3])

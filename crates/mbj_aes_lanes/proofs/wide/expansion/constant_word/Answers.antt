@@ -6,8 +6,6 @@ use Rattle.mbj_aes_lanes.proofs.wide.expansion.constant_word.Goals as goal
 
 pub returns : goal.returns
 returns g c i h =
-    let b0 = c.to_tower_byte.ensures i h ∙ c.splat.ensures i h ∙ ap (λ (xs : List ℕ). slice_index xs 0) c.round_constant.ensures in
-    let b1 = ap from_tower (c.splat-2.ensures i h) ∙ from_tower-zero in
-    let b2 = ap from_tower (c.splat-3.ensures i h) ∙ from_tower-zero in
-    let b3 = ap from_tower (c.splat-4.ensures i h) ∙ from_tower-zero in
-    λ j. b0 j ∷ b1 j ∷ b2 j ∷ b3 j ∷ []
+    let first = c.to_tower_byte.ensures i h ∙ c.splat.ensures i h ∙ ap (λ (xs : List ℕ). slice_index xs 0) c.round_constant.ensures in
+    let zero = ap from_tower (c.splat-zero.ensures i h) ∙ from_tower-zero in
+    λ j. first j ∷ zero j ∷ zero j ∷ zero j ∷ []

@@ -16,4 +16,4 @@ returns g c i h =
     let b1 = moved _ _ (lane key.1 i) (c.substituted_from_tower-2.ensures i h) in
     let b2 = moved _ _ (lane key.2 i) (c.substituted_from_tower-3.ensures i h) in
     let b3 = moved _ _ (lane key.3 i) (c.substituted_from_tower-4.ensures i h) in
-    c.xor_words.ensures i h ∙ (λ j. b0 j ∷ b1 j ∷ b2 j ∷ b3 j ∷ [])
+    c.xor_words.ensures.plain i h ∙ (λ j. b0 j ∷ b1 j ∷ b2 j ∷ b3 j ∷ [])

@@ -10,5 +10,5 @@ unfolding state_lane
 returns g c i =
     let ys : List ℕ = lane_of g.V.Lane8.lane c.args.words.now i in
     let join : List ℕ → List ℕ → List ℕ = λ xs ys. xs ++ ys in
-    ap₂ join (ap₂ join (ap₂ join (c.word_at.ensures i) (c.word_at-2.ensures i)) (c.word_at-3.ensures i)) (c.word_at-4.ensures i)
+    ap₂ join (ap₂ join (ap₂ join (c.word_at.ensures.plain i) (c.word_at-2.ensures.plain i)) (c.word_at-3.ensures.plain i)) (c.word_at-4.ensures.plain i)
     ∙ words-round_key ys c.args.r

@@ -1,7 +1,7 @@
 -- One matrix after the other.
 use Rattle.std.proofs.Common.{◌∙◌}
 use Rattle.mbj_aes_lanes.proofs.WideUnmixing.{column-unmixed}
-use Rattle.mbj_aes_lanes.proofs.wide.unmixing.unmixed_column.Goals as goal
+use Rattle.mbj_aes_lanes.proofs.wide.unmixing.unmixed.Goals as goal
 
 pub returns : goal.returns
 returns g c i h =

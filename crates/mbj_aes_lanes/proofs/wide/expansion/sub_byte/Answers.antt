@@ -7,7 +7,7 @@ use Rattle.mbj_aes.proofs.Sums.{xor_twice}
 use Rattle.mbj_aes.proofs.TowerCases.{from_tower-xor}
 use Rattle.mbj_aes_lanes.specs.declared.wide.key_states.TheConstants.{SBOX_CONSTANT_IN_TOWER}
 use Rattle.mbj_aes_lanes.proofs.TowerWords.{from_tower-constant}
-use Rattle.mbj_aes_lanes.proofs.wide.expansion.substituted.Goals as goal
+use Rattle.mbj_aes_lanes.proofs.wide.expansion.sub_byte.Goals as goal
 
 pub returns : goal.returns
 returns g c i h =
