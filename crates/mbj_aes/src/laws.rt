@@ -7,18 +7,21 @@ ghost use Rattle.mbj_aes.specs.Examples.{plaintext, key_128, key_192, key_256, c
 
 /// A law: under each key, decryption brings back each block that was encrypted, and encryption each block that
 /// was decrypted.
+#[tactic(auto, using(crate::proofs::AesLaws::decryption_undoes, crate::proofs::AesLaws::encryption_undoes))]
 pub fn each_undoes_the_other()
     ensures decryption { Undoes aes_inverse aes }
     ensures encryption { Undoes aes aes_inverse }
 {}
 
 /// A law: under each key, encryption and decryption make a block of 16 bytes of each such block.
+#[tactic(auto, using(crate::proofs::AesLaws::encryption_keeps, crate::proofs::AesLaws::decryption_keeps))]
 pub fn blocks_stay_blocks()
     ensures encryption { KeepsBlocks aes }
     ensures decryption { KeepsBlocks aes_inverse }
 {}
 
 /// A law: the definitions give the examples of FIPS 197, of 5.1.1 and of appendix C.
+#[tactic(auto, unfolding(mbj_types::specs::Aes::times, mbj_types::specs::Aes::power, mbj_types::specs::Aes::sub_byte))]
 pub fn examples_of_the_standard()
     ensures sub_byte_00 { sub_byte 0x00 ≡ 0x63 }
     ensures sub_byte_53 { sub_byte 0x53 ≡ 0xed }

@@ -9,14 +9,6 @@ use Rattle.mbj_aes.specs.Examples.{plaintext, key_128, key_192, key_256, ciphert
 use Rattle.mbj_aes.proofs.AesLaws.{decryption_undoes}
 use Rattle.mbj_aes.proofs.laws.examples_of_the_standard.Goals as goal
 
-pub returns-clause-sub_byte_00 : goal.returns-clause-sub_byte_00
-unfolding times power sub_byte
-returns-clause-sub_byte_00 c = refl
-
-pub returns-clause-sub_byte_53 : goal.returns-clause-sub_byte_53
-unfolding times power sub_byte
-returns-clause-sub_byte_53 c = refl
-
 pub returns-clause-inv_sub_byte_63 : goal.returns-clause-inv_sub_byte_63
 unfolding times power inv_sub_byte
 returns-clause-inv_sub_byte_63 c = refl
