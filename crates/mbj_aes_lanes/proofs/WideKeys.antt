@@ -1,7 +1,7 @@
 -- Round keys of wide states, as parts of the schedule in a lane.
-use Rattle.std.proofs.Common.{◌≡◌, ◌≢◌, ℕ, ◌*◌, ◌^◌, ◌<◌, List, [], ◌∷◌, length, replicate, get_or, map, bit_xor, refl, sym, ap, ap₂, ◌∙◌, arith, inl, inr, eq-eqb}
-use Rattle.std.proofs.lemmas.Bool.{cases_eq, ne_eqb}
-use Rattle.std.proofs.lemmas.List.{take_all, get_or_default, length-map}
+use Rattle.std.proofs.Common.{◌≡◌, ◌≢◌, ℕ, nat_eq, Bool, true, false, if◌then◌else◌, ◌*◌, ◌^◌, ◌<◌, List, [], ◌∷◌, length, replicate, get_or, map, refl, sym, ap, ap₂, ◌∙◌, arith, eq-eqb}
+use Rattle.std.proofs.lemmas.Bool.{ne_eqb}
+use Rattle.std.proofs.lemmas.List.{take_all, get_or_default}
 use Rattle.mbj_types.specs.Aes.{round_key}
 use Rattle.mbj_types.specs.Blocks.{xor_lists}
 use Rattle.mbj_aes.specs.declared.tables.TheConstants.{SBOX_CONSTANT}
@@ -18,17 +18,10 @@ pub with_constant-twice : (b : List ℕ) → with_constant (with_constant b) ≡
 with_constant-twice [] = refl
 with_constant-twice (x ∷ b) = ap₂ (λ y ys. y ∷ ys) (xor_twice x SBOX_CONSTANT) (with_constant-twice b)
 
-length-with_constant : (b : List ℕ) → length (with_constant b) ≡ length b
-length-with_constant b = length-map b (λ x. bit_xor x SBOX_CONSTANT)
-
 module _ {V : Type 0} (lane : V → ℕ → ℕ) where
   pub length-state_lane : (s : State V) (i : ℕ) → length (state_lane lane s i) ≡ 16
   unfolding state_lane
   length-state_lane s i = refl
-
-  length-tower_block : (s : State V) (i : ℕ) → length (tower_block lane s i) ≡ 16
-  unfolding state_lane
-  length-tower_block s i = refl
 
   pub constant-added : (s : State V) (i : ℕ) → xor_lists (state_lane lane s i) (replicate 16 SBOX_CONSTANT) ≡ with_constant (state_lane lane s i)
   unfolding state_lane
@@ -64,13 +57,14 @@ module _ {V : Type 0} (lane : V → ℕ → ℕ) (n r : ℕ) (key : State V) (i 
   key_in-last later e = rw (ne_eqb r 0 later, eq-eqb r n e) refl
 
   pub length-key_in : length (key_in lane n r key i) ≡ 16
-  length-key_in = elim (cases_eq r 0) [
-    | inl first ↦ ap length (key_in-first first) ∙ length-tower_block lane key i
-    | inr later ↦ elim (cases_eq r n) [
-      | inl last ↦ ap length (key_in-last later last) ∙ length-with_constant (state_lane lane key i) ∙ length-state_lane lane key i
-      | inr before ↦ ap length (key_in-between later before) ∙ length-with_constant (tower_block lane key i) ∙ length-tower_block lane key i
-    ]
-  ]
+  unfolding key_in state_lane
+  length-key_in = sized (nat_eq r 0) (nat_eq r n)
+    where
+      sized : (first last : Bool) → length (if first then tower_block lane key i
+          else with_constant (if last then state_lane lane key i else tower_block lane key i)) ≡ 16
+      sized true last = refl
+      sized false true = refl
+      sized false false = refl
 
 -- ---- schedules
 

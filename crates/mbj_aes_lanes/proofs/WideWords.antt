@@ -6,6 +6,7 @@ use Rattle.std.proofs.lemmas.List.Elements.{All-take}
 use Rattle.std.proofs.Math.Seq.{take-add, drop-append-add}
 use Rattle.mbj_types.specs.Aes.{word, schedule, key_schedule, round_key}
 use Rattle.mbj_types.specs.Lanes.{lane_of}
+use Rattle.mbj_types.proofs.LaneLists.{length-lane_of}
 use Rattle.mbj_aes.specs.Bytes.{IsBytes}
 use Rattle.mbj_aes_lanes.specs.declared.wide.state.Word.{Word}
 use Rattle.mbj_aes_lanes.specs.Inside.Wide.{word_lane}
@@ -102,6 +103,11 @@ round_key-take m r ys lt =
     ap (λ n. take 16 (drop (16 * r) (take n ys))) whole
     ∙ ap (take 16) (drop-take (16 * r) (16 * (m - r)) ys)
     ∙ take-take 16 (16 * (m - r)) (drop (16 * r) ys) (omega arith)
+
+-- 16 words are one round key
+pub round_key-whole : {V : Type 0} (lane : V → ℕ → ℕ) (words : List V) (i : ℕ) → length words ≡ 16
+    → round_key (lane_of lane words i) 0 ≡ lane_of lane words i
+round_key-whole lane words i size = take_all 16 (lane_of lane words i) (omega (arith, length-lane_of lane words i))
 
 -- ---- keys that are put into words
 

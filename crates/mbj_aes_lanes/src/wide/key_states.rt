@@ -93,6 +93,7 @@ pub fn key_at_tower<V: Lane8>(words: &[V], r: usize, rounds: usize) -> State<V>
 }
 
 #[inline(always)]
+#[tactic(auto, unfolding(mbj_aes::specs::Tower::from_tower))]
 fn word_from_tower<V: Lane8>(word: Word<V>) -> Word<V>
     ensures { (i : ℕ) → i < V.LANES → word_lane V.lane result i ≡ tower_word V.lane word i }
 {

@@ -2,7 +2,7 @@
 ghost use Rattle.std.specs.Prelude.{◌≡◌, ℕ, ◌+◌, ◌*◌, ◌≤◌, ◌++◌, length, take, drop};
 ghost use Rattle.mbj_types.specs.Aes.{word, round_key};
 ghost use Rattle.mbj_types.specs.Lanes.{lane_of};
-ghost use Rattle.mbj_aes_lanes.specs.Inside.Wide.{word_lane, state_lane, tower_word, tower_lane};
+ghost use Rattle.mbj_aes_lanes.specs.Inside.Wide.{word_lane, state_lane, tower_word, tower_block, tower_lane};
 
 use crate::wide::state::{State, Word};
 use mbj_aes::{MAX_SCHEDULE_BYTES, ROUND_WORDS, WORD_BYTES};
@@ -41,7 +41,8 @@ pub fn put_word<V: Lane8>(words: &mut [V], i: usize, word: Word<V>)
 #[inline(always)]
 pub fn state_at<V: Lane8>(words: &[V], r: usize) -> State<V>
     requires { 16 * r + 16 ≤ length words.now }
-    ensures { (i : ℕ) → state_lane V.lane result i ≡ round_key (lane_of V.lane words.now i) r }
+    ensures plain { (i : ℕ) → state_lane V.lane result i ≡ round_key (lane_of V.lane words.now i) r }
+    ensures tower { (i : ℕ) → tower_block V.lane result i ≡ round_key (tower_lane V.lane words.now i) r }
 {
     let first = ROUND_WORDS * r;
     State(
