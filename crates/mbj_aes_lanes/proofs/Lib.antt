@@ -7,7 +7,8 @@ pub mod TowerWords
 mod WideColumns
 pub mod WideKeys
 pub mod WideWords
-pub mod BusySlots
+pub mod GivenSlots
+pub mod GatheredSlots
 pub mod XorSums
 pub mod WideHeldKeys
 pub mod WideUnmixing

@@ -3,6 +3,7 @@ pub mod Matrix
 pub mod Slots
 pub mod Busy
 pub mod BusyKeys
+pub mod Gathered
 pub mod Wide
 pub mod WideKeys
 pub mod LaidKeys

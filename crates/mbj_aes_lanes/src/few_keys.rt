@@ -1,24 +1,22 @@
 //! The round keys of few lanes, for blocks side by side in registers.
-ghost use Rattle.std.specs.Prelude.{◌≡◌, ◌≢◌, ℕ, ◌+◌, ◌*◌, ◌<◌, ◌≤◌, List, [], length, take, slice_index, slice_index_or};
-ghost use Rattle.mbj_types.specs.Aes.{encipher};
+ghost use Rattle.std.specs.Prelude.{◌≡◌, ◌≢◌, ℕ, ◌+◌, ◌*◌, ◌<◌, ◌≤◌, List, [], length, take, slice_index_or};
+ghost use Rattle.mbj_types.specs.Blocks.{xor_lists};
 ghost use Rattle.mbj_types.specs.declared.kind.TheConstants.{AES_LANES};
 ghost use Rattle.mbj_aes.specs.Bytes.{IsRoundCount};
 ghost use Rattle.mbj_aes.specs.BlockWords.{block_at};
-ghost use Rattle.mbj_aes_lanes.specs.Inside.Busy.{AreRising};
-ghost use Rattle.mbj_aes_lanes.specs.Inside.BusyKeys.{column, few_schedule, AreBusyKeys};
-ghost use Rattle.mbj_aes_lanes.specs.Inside.LaidKeys.{laid_key, laid_schedule};
-ghost use Rattle.mbj_aes_lanes.specs.Inside.Slots.{IsKeyOf};
+ghost use Rattle.mbj_aes_lanes.specs.KeyBytes.{IsKeyArray};
+ghost use Rattle.mbj_aes_lanes.specs.Inside.BusyKeys.{schedule_at, column, few_schedule};
+ghost use Rattle.mbj_aes_lanes.specs.declared.few_keys.TheConstants.{FEW_LANES};
 
-use crate::chained_entry::ChainedEntry;
-use crate::few_lanes::BusyLanes;
+use crate::blocks_cipher::BlocksCipher;
 use crate::key_bytes::schedule_of_bytes;
+use crate::lane_blocks::LaneBlocks;
 use crate::narrow::cipher::encrypt_all;
 use crate::narrow::directions::Encryption;
 use crate::narrow::laid_keys::laid_keys;
 use crate::narrow::schedules::EachKeys;
-use crate::slot::Slot;
 use mbj_aes::{BlockWord, MAX_ROUND_KEYS};
-use mbj_types::{BLOCK_BYTES, Lane8};
+use mbj_types::{AES_LANES, BLOCK_BYTES, Lane8, xor_in_place};
 use std::simd::u8x32;
 
 /// A run of at most this many busy lanes goes by registers of whole blocks: a quarter of all lanes.
@@ -26,24 +24,6 @@ pub const FEW_LANES: usize = 8;
 
 // How many blocks a register has.
 const BLOCKS: usize = 2;
-
-// The laid out round keys of a lane's entry, and zeros for an idle lane.
-#[inline(always)]
-fn keys_in<E: ChainedEntry, S: Slot<E>>(slots: &[S], lane: usize) -> [[u8; 16]; MAX_ROUND_KEYS]
-    requires lane { lane < AES_LANES }
-    requires lanes { S.least ≤ length slots.now }
-    requires most { length slots.now ≤ AES_LANES }
-    ensures size { length result ≡ MAX_ROUND_KEYS }
-    ensures key { IsKeyOf E.key_of (laid_schedule laid_key E.key_rounds result) (S.in_lane slots.now lane) }
-{
-    match S::entry(slots, lane) {
-        Some(entry) => laid_keys::<Encryption>(&schedule_of_bytes(
-            entry.key_bytes(),
-            entry.rounds(),
-        )),
-        None => [[0; BLOCK_BYTES]; MAX_ROUND_KEYS],
-    }
-}
 
 // A round key of a lane takes its place in a row.
 #[inline(always)]
@@ -71,32 +51,43 @@ fn put_keys(
     }
 }
 
-/// The round keys of the entries in the busy lanes, whose keys have this many rounds: of each round a row with the key of each lane, laid
-/// out.
-pub fn keys_of_busy<E: ChainedEntry, S: Slot<E>>(
-    slots: &[S],
-    busy: &BusyLanes,
+/// The round keys of the first `many` of these keys, of `rounds` rounds each: of each round a row with that of each key, laid out.
+pub fn rows_of(
+    bytes: &[[u8; 32]; AES_LANES],
+    many: usize,
     rounds: usize,
 ) -> [[[u8; 16]; FEW_LANES]; MAX_ROUND_KEYS]
-    requires lanes { S.least ≤ length slots.now }
-    requires most { length slots.now ≤ AES_LANES }
-    requires busy { AreRising (slice_index busy.now.lanes) busy.now.many }
-    requires few { busy.now.many ≤ FEW_LANES }
-    requires value { rounds ≡ E.key_rounds }
+    requires few { many ≤ FEW_LANES }
     requires rounds { IsRoundCount rounds }
+    requires arrays { (i : ℕ) → i < AES_LANES → IsKeyArray rounds (slice_index_or bytes.now i []) }
     ensures size { length result ≡ MAX_ROUND_KEYS }
-    ensures keys { AreBusyKeys E.key_of (S.in_lane slots.now) (slice_index busy.now.lanes) busy.now.many (take (rounds + 1) result) }
+    ensures schedules { (p : ℕ) → p < many → few_schedule (take (rounds + 1) result) p ≡ schedule_at rounds bytes.now p }
 {
     let mut rows = [[[0; BLOCK_BYTES]; FEW_LANES]; MAX_ROUND_KEYS];
-    'busy: for p in 0..busy.many {
-        put_keys(&mut rows, p, &keys_in::<E, S>(slots, busy.lanes[p]));
+    'keys: for p in 0..many {
+        let key = schedule_of_bytes(&bytes[p], rounds);
+        put_keys(&mut rows, p, &laid_keys::<Encryption>(&key));
     }
     rows
 }
 
+// The block in each of the first `many` lanes is added to its chaining value.
+#[inline(always)]
+fn add_blocks<B: LaneBlocks>(chains: &mut [[u8; 16]; AES_LANES], blocks: &B, many: usize)
+    requires few { many ≤ AES_LANES }
+    requires lanes { B.lanes_of blocks.now ≡ AES_LANES }
+    ensures { (i : ℕ) → i < many → slice_index_or chains.new i [] ≡ xor_lists (B.block_in blocks.now i) (slice_index_or chains.old i []) }
+{
+    'lanes: for i in 0..many {
+        let mut sum = blocks.block(i);
+        xor_in_place(&mut sum, &chains[i]);
+        chains[i] = sum;
+    }
+}
+
 // Loads registers with blocks side by side.
 #[inline(always)]
-fn load_all<const N: usize>(registers: &mut [u8x32; N], blocks: &[[u8; 16]; FEW_LANES])
+fn load_all<const N: usize>(registers: &mut [u8x32; N], blocks: &[[u8; 16]; AES_LANES])
     requires { 2 * N ≤ FEW_LANES }
     ensures { (i b : ℕ) (d : List ℕ) → i < N → b < 2 → block_at ⟦<u8x32 as Lane8>⟧.lane (slice_index_or registers.new i d) b
         ≡ slice_index_or blocks.now (2 * i + b) [] }
@@ -108,7 +99,7 @@ fn load_all<const N: usize>(registers: &mut [u8x32; N], blocks: &[[u8; 16]; FEW_
 
 // Writes their blocks.
 #[inline(always)]
-fn store_all<const N: usize>(registers: &[u8x32; N], blocks: &mut [[u8; 16]; FEW_LANES])
+fn store_all<const N: usize>(registers: &[u8x32; N], blocks: &mut [[u8; 16]; AES_LANES])
     requires { 2 * N ≤ FEW_LANES }
     ensures { (i b : ℕ) (d : List ℕ) → i < N → b < 2 → slice_index_or blocks.new (2 * i + b) []
         ≡ block_at ⟦<u8x32 as Lane8>⟧.lane (slice_index_or registers.now i d) b }
@@ -118,18 +109,50 @@ fn store_all<const N: usize>(registers: &[u8x32; N], blocks: &mut [[u8; 16]; FEW
     }
 }
 
-/// Encrypts the first `2 * N` blocks, in `N` registers, each block under its own schedule.
-#[inline(always)]
-pub fn encrypt_few<const N: usize>(
-    rows: &[[[u8; 16]; FEW_LANES]],
-    blocks: &mut [[u8; 16]; FEW_LANES],
-)
-    requires rows { 2 ≤ length rows.now }
-    requires registers { 2 * N ≤ FEW_LANES }
-    ensures { (p : ℕ) → p < 2 * N → slice_index_or blocks.new p [] ≡ encipher (few_schedule rows.now p) (slice_index_or blocks.old p []) }
-{
-    let mut registers = [<u8x32 as Lane8>::splat(0); N];
-    load_all(&mut registers, blocks);
-    encrypt_all(&EachKeys { keys: rows }, &mut registers);
-    store_all(&registers, blocks);
+/// The round keys of the first `many` blocks of `N` registers, two in each: of each round a row with that of each block, laid out.
+#[derive(Drop)]
+pub struct FewKeys<'a, const N: usize> {
+    pub rows: &'a [[[u8; 16]; FEW_LANES]],
+    pub many: usize,
+    pub ghost rounds: { 2 ≤ length rows.now },
+    pub ghost few: { many ≤ 2 * N },
+    pub ghost registers: { 2 * N ≤ FEW_LANES },
+}
+
+impl<const N: usize> BlocksCipher for FewKeys<'_, N> {
+    type Chains = [[u8; 16]; AES_LANES];
+
+    ghost lanes_of = { λ k. k.many };
+
+    ghost schedule_of = { λ k p. few_schedule k.rows.now p };
+
+    ghost chain_in = { λ chains i. slice_index_or chains i [] };
+
+    #[inline(always)]
+    fn lane_count(&self) -> usize {
+        self.many
+    }
+
+    #[inline(always)]
+    fn load<B: LaneBlocks>(&self, blocks: &B) -> [[u8; 16]; AES_LANES] {
+        let mut chains = [[0; BLOCK_BYTES]; AES_LANES];
+        'lanes: for i in 0..self.many {
+            chains[i] = blocks.block(i);
+        }
+        chains
+    }
+
+    #[inline(always)]
+    fn chain<B: LaneBlocks>(&self, blocks: &B, chains: &mut [[u8; 16]; AES_LANES]) {
+        add_blocks(chains, blocks, self.many);
+        let mut registers = [<u8x32 as Lane8>::splat(0); N];
+        load_all(&mut registers, chains);
+        encrypt_all(&EachKeys { keys: self.rows }, &mut registers);
+        store_all(&registers, chains);
+    }
+
+    #[inline(always)]
+    fn store(&self, chains: &[[u8; 16]; AES_LANES]) -> [[u8; 16]; AES_LANES] {
+        *chains
+    }
 }

@@ -1,36 +1,74 @@
 //! Blocks of many entries chained side by side: few of them in registers of whole blocks, and many in all lanes, each under its own key.
-ghost use Rattle.std.specs.Prelude.{◌≡◌, ℕ, ◌<◌, ◌≤◌, All, length, map};
+ghost use Rattle.std.specs.Prelude.{◌≡◌, ℕ, ◌<◌, ◌≤◌, All, [], length, map, slice_index_or};
 ghost use Rattle.std.specs.Option.{option_map};
 ghost use Rattle.mbj_types.specs.declared.kind.TheConstants.{AES_LANES};
+ghost use Rattle.mbj_aes.specs.Bytes.{IsRoundCount};
 ghost use Rattle.mbj_aes.specs.declared.sizes.TheConstants.{MAX_ROUND_KEYS};
 ghost use Rattle.mbj_aes_lanes.specs.declared.wide.words.TheConstants.{MAX_SCHEDULE_WORDS};
 ghost use Rattle.mbj_lane.specs.Rounds.{after};
 ghost use Rattle.mbj_aes_lanes.specs.ChainedEntry.{chained_once};
-ghost use Rattle.mbj_aes_lanes.specs.Inside.Slots.{HaveRounds};
+ghost use Rattle.mbj_aes_lanes.specs.KeyBytes.{IsKeyArray};
+ghost use Rattle.mbj_aes_lanes.specs.Slots.{slot_at};
+ghost use Rattle.mbj_aes_lanes.specs.Inside.Busy.{AreIdleFrom};
+ghost use Rattle.mbj_aes_lanes.specs.Inside.BusyKeys.{schedule_at};
+ghost use Rattle.mbj_aes_lanes.specs.Inside.Slots.{HaveRounds, AreKeyed};
+ghost use Rattle.mbj_aes_lanes.specs.declared.few_keys.TheConstants.{FEW_LANES};
 
 use crate::chained_entry::ChainedEntry;
-use crate::few_keys::FEW_LANES;
-use crate::few_lanes::{busy_lanes, lead_few};
+use crate::few_keys::{FEW_LANES, FewKeys, rows_of};
+use crate::gathering::{busy_in, gather, scatter};
 use crate::slot::{Slot, rounds_in};
-use crate::slot_keys::expand_lanes;
-use crate::slot_rounds::{give_cmac_l, lead_by};
+use crate::slot_keys::{expand_first, keys_in};
+use crate::slot_rounds::lead_by;
+use crate::wide::lane_schedules::RoundStates;
 use crate::wide::state::{State, zero_state};
 use crate::wide::words::MAX_SCHEDULE_WORDS;
 use mbj_aes::MAX_ROUND_KEYS;
 use mbj_types::{AES_LANES, AesWord, Lane8};
 
-/// Leads each entry by `m` blocks, which it has left. A run over many lanes takes `room` for the round keys of all lanes, `words` for the
-/// schedules from which they are made, and `chains` for the chaining values.
+// Leads the entries by `m` blocks, which stand in the first `many` lanes and have these keys: in one register for one or two, in two for
+// three or four, else in four.
 #[inline(always)]
-pub fn lead<E: ChainedEntry, S: Slot<E>>(
+fn lead_few<E: ChainedEntry, S: Slot<E>>(
     slots: &mut [S],
+    many: usize,
     m: u32,
-    room: &mut [State<AesWord>],
-    words: &mut [AesWord],
-    chains: &mut State<AesWord>,
+    rounds: usize,
+    bytes: &[[u8; 32]; AES_LANES],
 )
     requires lanes { S.least ≤ length slots.old }
     requires most { length slots.old ≤ AES_LANES }
+    requires rests { HaveRounds E.rest_of m (S.in_lane slots.old) }
+    requires few { many ≤ FEW_LANES }
+    requires idle { AreIdleFrom many (S.in_lane slots.old) }
+    requires rounds { IsRoundCount rounds }
+    requires arrays { (i : ℕ) → i < AES_LANES → IsKeyArray rounds (slice_index_or bytes.now i []) }
+    requires keys { AreKeyed E.key_of (S.in_lane slots.old) AES_LANES (schedule_at rounds bytes.now) }
+    ensures { (i : ℕ) → i < AES_LANES → S.in_lane slots.new i
+        ≡ option_map (after (chained_once E.key_of E.block_of E.chain_of E.led E.kept) m) (S.in_lane slots.old i) }
+{
+    let rows = rows_of(bytes, many, rounds);
+    let rows = &rows[..rounds + 1];
+    match many {
+        0..3 => lead_by::<FewKeys<1>, E, S>(slots, m, &FewKeys { rows, many }),
+        3..5 => lead_by::<FewKeys<2>, E, S>(slots, m, &FewKeys { rows, many }),
+        _ => lead_by::<FewKeys<4>, E, S>(slots, m, &FewKeys { rows, many }),
+    }
+}
+
+// Leads each entry by `m` blocks, which it has left. The entries stand in the first `many` lanes. A run over many lanes takes `room` for
+// the round keys of all lanes, and `words` for the schedules from which they are made.
+#[inline(always)]
+fn lead<E: ChainedEntry, S: Slot<E>>(
+    slots: &mut [S],
+    many: usize,
+    m: u32,
+    room: &mut [State<AesWord>],
+    words: &mut [AesWord],
+)
+    requires lanes { S.least ≤ length slots.old }
+    requires most { length slots.old ≤ AES_LANES }
+    requires idle { AreIdleFrom many (S.in_lane slots.old) }
     requires rests { HaveRounds E.rest_of m (S.in_lane slots.old) }
     requires room { length room.old ≡ MAX_ROUND_KEYS }
     requires words { length words.old ≡ MAX_SCHEDULE_WORDS }
@@ -38,15 +76,38 @@ pub fn lead<E: ChainedEntry, S: Slot<E>>(
         ≡ option_map (after (chained_once E.key_of E.block_of E.chain_of E.led E.kept) m) (S.in_lane slots.old i) }
 {
     if let Some(rounds) = rounds_in::<E, S>(slots) {
-        let busy = busy_lanes::<E, S>(slots);
-        if busy.many <= FEW_LANES {
-            lead_few::<E, S>(slots, &busy, m, rounds);
+        let bytes = keys_in::<E, S>(slots);
+        if many <= FEW_LANES {
+            lead_few::<E, S>(slots, many, m, rounds, &bytes);
         } else {
-            expand_lanes::<E, S>(room, words, rounds, slots);
+            expand_first(room, words, rounds, &bytes);
             let keys = &room[..rounds + 1];
-            give_cmac_l::<E, S>(slots, m, keys);
-            lead_by::<E, S>(slots, m, keys, chains);
+            lead_by::<RoundStates<AesWord>, E, S>(slots, m, &RoundStates { keys });
         }
+    }
+}
+
+/// Leads the entry of each slot by `m` blocks, which it has left. Few entries stand in the first slots meanwhile.
+#[inline(always)]
+pub fn lead_slots<E: ChainedEntry>(
+    slots: &mut [Option<E>],
+    m: u32,
+    room: &mut [State<AesWord>],
+    words: &mut [AesWord],
+)
+    requires size { length slots.old ≡ AES_LANES }
+    requires rests { HaveRounds E.rest_of m (slot_at slots.old) }
+    requires room { length room.old ≡ MAX_ROUND_KEYS }
+    requires words { length words.old ≡ MAX_SCHEDULE_WORDS }
+    ensures { (i : ℕ) → i < AES_LANES → slot_at slots.new i
+        ≡ option_map (after (chained_once E.key_of E.block_of E.chain_of E.led E.kept) m) (slot_at slots.old i) }
+{
+    if busy_in(slots) <= FEW_LANES {
+        let origins = gather(slots);
+        lead::<E, Option<E>>(slots, origins.many, m, room, words);
+        scatter(slots, &origins);
+    } else {
+        lead::<E, Option<E>>(slots, AES_LANES, m, room, words);
     }
 }
 
@@ -59,5 +120,5 @@ pub fn lead_all<E: ChainedEntry>(entries: &mut [E], m: u32)
 {
     let mut room = [zero_state(); MAX_ROUND_KEYS];
     let mut words = [<AesWord as Lane8>::splat(0); MAX_SCHEDULE_WORDS];
-    lead::<E, E>(entries, m, &mut room, &mut words, &mut zero_state());
+    lead::<E, E>(entries, entries.len(), m, &mut room, &mut words);
 }

@@ -3,9 +3,10 @@
 #![tactic(auto)]
 
 mod blocks;
+mod blocks_cipher;
 mod chained_entry;
 mod few_keys;
-mod few_lanes;
+mod gathering;
 mod key_bytes;
 mod lane_blocks;
 mod leading;

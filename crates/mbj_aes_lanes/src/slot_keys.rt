@@ -7,7 +7,7 @@ ghost use Rattle.mbj_aes.specs.Bytes.{IsRoundCount};
 ghost use Rattle.mbj_aes_lanes.specs.declared.wide.words.TheConstants.{MAX_SCHEDULE_WORDS};
 ghost use Rattle.mbj_aes_lanes.specs.KeyBytes.{IsKeyArray, key_of_array};
 ghost use Rattle.mbj_aes_lanes.specs.Inside.WideKeys.{schedule_in};
-ghost use Rattle.mbj_aes_lanes.specs.Inside.Slots.{IsKeyOf, AreKeyed};
+ghost use Rattle.mbj_aes_lanes.specs.Inside.Slots.{IsKeyOf};
 
 use crate::chained_entry::ChainedEntry;
 use crate::slot::Slot;
@@ -32,9 +32,9 @@ fn key_in<E: ChainedEntry, S: Slot<E>>(slots: &[S], lane: usize) -> [u8; 32]
     }
 }
 
-// The bytes of the key in each lane.
+/// The bytes of the key in each lane.
 #[inline(always)]
-fn keys_in<E: ChainedEntry, S: Slot<E>>(slots: &[S]) -> [[u8; 32]; AES_LANES]
+pub fn keys_in<E: ChainedEntry, S: Slot<E>>(slots: &[S]) -> [[u8; 32]; AES_LANES]
     requires lanes { S.least ≤ length slots.now }
     requires most { length slots.now ≤ AES_LANES }
     requires rounds { IsRoundCount E.key_rounds }
@@ -49,9 +49,9 @@ fn keys_in<E: ChainedEntry, S: Slot<E>>(slots: &[S]) -> [[u8; 32]; AES_LANES]
     keys
 }
 
-// The round keys of these keys, of `rounds` rounds each, in the first of the states. The words take the schedules.
+/// The round keys of these keys, of `rounds` rounds each, in the first of the states. The words take the schedules.
 #[inline(never)]
-fn expand_first(
+pub fn expand_first(
     states: &mut [State<AesWord>],
     words: &mut [AesWord],
     rounds: usize,
@@ -65,23 +65,4 @@ fn expand_first(
         ≡ key_schedule (key_of_array rounds (slice_index_or bytes.now i [])) }
 {
     expand_keys(&mut states[..rounds + 1], bytes, words);
-}
-
-/// The round keys of the entries, whose keys have `rounds` rounds, in the first of the states. The words take the schedules.
-#[inline(always)]
-pub fn expand_lanes<E: ChainedEntry, S: Slot<E>>(
-    states: &mut [State<AesWord>],
-    words: &mut [AesWord],
-    rounds: usize,
-    slots: &[S],
-)
-    requires lanes { S.least ≤ length slots.now }
-    requires most { length slots.now ≤ AES_LANES }
-    requires value { rounds ≡ E.key_rounds }
-    requires rounds { IsRoundCount rounds }
-    requires room { rounds < length states.old }
-    requires words { length words.old ≡ MAX_SCHEDULE_WORDS }
-    ensures { AreKeyed E.key_of (S.in_lane slots.now) (take (rounds + 1) states.new) }
-{
-    expand_first(states, words, rounds, &keys_in::<E, S>(slots));
 }

@@ -11,7 +11,7 @@ ghost use Rattle.mbj_aes_lanes.specs.Inside.Slots.{HaveRounds};
 ghost use Rattle.mbj_aes_lanes.specs.Slots.{slot_at};
 
 use crate::chained_entry::ChainedEntry;
-use crate::leading::{lead, lead_all};
+use crate::leading::{lead_all, lead_slots};
 use crate::wide::state::{State, zero_state};
 use crate::wide::words::MAX_SCHEDULE_WORDS;
 use mbj_aes::MAX_ROUND_KEYS;
@@ -24,11 +24,10 @@ use std::mem;
 /// Slots of entries, which contracts see as the list of what stands in each.
 #[derive(Drop)]
 pub struct ChainedSlots<E: ChainedEntry> {
-    // What a run over many lanes takes: the round keys of all lanes, the words of the schedules from which they are made, and one state of
-    // the chaining values. They have memory of their own, which may be aligned to vectors.
+    // What a run over many lanes takes: the round keys of all lanes, and the words of the schedules from which they are made. They have
+    // memory of their own, which may be aligned to vectors.
     round_keys: Vec<State<AesWord>>,
     words: Vec<AesWord>,
-    chains: Vec<State<AesWord>>,
     entries: Vec<Option<E>>,
 }
 
@@ -43,7 +42,7 @@ impl<E: ChainedEntry> Model for ChainedSlots<E> {
     ghost view = { λ s. s.entries.items };
 
     ghost invariant = { λ s. (length s.round_keys.items ≡ MAX_ROUND_KEYS) × (length s.words.items ≡ MAX_SCHEDULE_WORDS)
-        × (length s.chains.items ≡ 1) × (length s.entries.items ≡ AES_LANES) };
+        × (length s.entries.items ≡ AES_LANES) };
 }
 
 // This many copies of a value.
@@ -113,7 +112,6 @@ impl<E: ChainedEntry> SlotKernel for Chained<E> {
     fn new_slots(alloc: Global) -> Result<ChainedSlots<E>, AllocError> {
         let round_keys = copies(alloc, MAX_ROUND_KEYS, zero_state())?;
         let words = copies(alloc, MAX_SCHEDULE_WORDS, <AesWord as Lane8>::splat(0))?;
-        let chains = copies(alloc, 1, zero_state())?;
         let mut entries = Vec::with_capacity(alloc, AES_LANES)?;
         'lanes: for _i in 0..AES_LANES {
             entries.push_reserved(None);
@@ -121,7 +119,6 @@ impl<E: ChainedEntry> SlotKernel for Chained<E> {
         Ok(ChainedSlots {
             round_keys,
             words,
-            chains,
             entries,
         })
     }
@@ -146,12 +143,11 @@ impl<E: ChainedEntry> SlotKernel for Chained<E> {
     }
 
     fn run_all(slots: &mut ChainedSlots<E>, m: u32) {
-        lead::<E, Option<E>>(
+        lead_slots(
             slots.entries.as_mut_slice(),
             m,
             slots.round_keys.as_mut_slice(),
             slots.words.as_mut_slice(),
-            &mut slots.chains[0],
         );
     }
 

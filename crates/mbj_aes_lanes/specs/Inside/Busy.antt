@@ -1,25 +1,13 @@
--- The lanes that have an entry, and changes of entries one after another.
-use Rattle.std.specs.Prelude.{◌≡◌, ℕ, ◌<◌, ◌≤◌, Option, Some, None}
+-- Changes of entries one after another, and lanes that are idle.
+use Rattle.std.specs.Prelude.{◌≡◌, ℕ, ◌<◌, ◌≤◌, Option, None}
 use Rattle.mbj_types.specs.declared.kind.TheConstants.{AES_LANES}
 
--- the first n of the numbers are lanes, in order and none twice
-pub record AreRising (lane : ℕ → ℕ) (n : ℕ) : Type 0 where
-  pub most : n ≤ AES_LANES
-  pub inside : (p : ℕ) → p < n → lane p < AES_LANES
-  pub rising : (p q : ℕ) → p < q → q < n → lane p < lane q
-
--- all lanes in their order
-abbrev pub in_own_lane : ℕ → ℕ
-in_own_lane p = p
-
 module _ {E : Type 0} where
-  -- they are those of all entries
-  pub record AreBusy (es : ℕ → Option E) (lane : ℕ → ℕ) (n : ℕ) : Type 0 where
-    pub in_order : AreRising lane n
-    pub all : (i : ℕ) (e : E) → i < AES_LANES → es i ≡ Some e → (p : ℕ) × (p < n) × (lane p ≡ i)
+  -- no lane from n on has an entry
+  abbrev pub AreIdleFrom : ℕ → (ℕ → Option E) → Type 0
+  AreIdleFrom n es = (i : ℕ) → n ≤ i → i < AES_LANES → es i ≡ None
 
-  -- the entries in the first `done` of n lanes were changed, each in its own way, and no idle lane got one
-  pub record AreGiven (change : ℕ → Option E → Option E) (lane : ℕ → ℕ) (n done : ℕ) (old now : ℕ → Option E) : Type 0 where
-    pub given : (p : ℕ) → p < done → now (lane p) ≡ change p (old (lane p))
-    pub left : (p : ℕ) → done ≤ p → p < n → now (lane p) ≡ old (lane p)
-    pub idle : (i : ℕ) → i < AES_LANES → old i ≡ None → now i ≡ None
+  -- the entries in the first n lanes were changed, each in its own way
+  pub record AreGiven (change : ℕ → Option E → Option E) (n : ℕ) (old now : ℕ → Option E) : Type 0 where
+    pub given : (i : ℕ) → i < n → now i ≡ change i (old i)
+    pub left : (i : ℕ) → n ≤ i → i < AES_LANES → now i ≡ old i

@@ -1,7 +1,12 @@
--- The round keys of few busy lanes: of each round a row with the key of each lane, laid out.
-use Rattle.std.specs.Prelude.{ℕ, ◌-◌, ◌<◌, List, [], length, map, slice_index_or, Option}
+-- The keys of lanes: their bytes, and the round keys of few lanes, of each round a row with the key of each lane, laid out.
+use Rattle.std.specs.Prelude.{ℕ, ◌-◌, List, [], length, map, slice_index_or}
+use Rattle.mbj_types.specs.Aes.{key_schedule}
+use Rattle.mbj_aes_lanes.specs.KeyBytes.{key_of_array}
 use Rattle.mbj_aes_lanes.specs.Inside.LaidKeys.{laid_key, laid_schedule}
-use Rattle.mbj_aes_lanes.specs.Inside.Slots.{IsKeyOf}
+
+-- the schedule of the key of n rounds in lane i
+abbrev pub schedule_at : ℕ → List (List ℕ) → ℕ → List ℕ
+schedule_at n bytes i = key_schedule (key_of_array n (slice_index_or bytes i []))
 
 -- what stands at place p of each row
 abbrev pub column : List (List (List ℕ)) → ℕ → List (List ℕ)
@@ -10,7 +15,3 @@ column rows p = map (λ row. slice_index_or row p []) rows
 -- the schedule at place p
 abbrev pub few_schedule : List (List (List ℕ)) → ℕ → List ℕ
 few_schedule rows p = laid_schedule laid_key (length rows - 1) (column rows p)
-
--- the first n are those of the entries in these lanes
-abbrev pub AreBusyKeys : {E : Type 0} → (E → List ℕ) → (ℕ → Option E) → (ℕ → ℕ) → ℕ → List (List (List ℕ)) → Type 0
-AreBusyKeys key es lane n rows = (p : ℕ) → p < n → IsKeyOf key (few_schedule rows p) (es (lane p))

@@ -1,11 +1,8 @@
 -- Entries in lanes. A function says what stands in each lane; an idle one has no entry.
-use Rattle.std.specs.Prelude.{◌≡◌, ℕ, ◌-◌, ◌<◌, ◌≤◌, List, length, Option, Some, None}
+use Rattle.std.specs.Prelude.{◌≡◌, ℕ, ◌<◌, ◌≤◌, List, Option, Some, None}
 use Rattle.mbj_types.specs.Aes.{encipher}
 use Rattle.mbj_types.specs.Blocks.{zero_block}
-use Rattle.mbj_types.specs.Lanes.{lane_at}
 use Rattle.mbj_types.specs.declared.kind.TheConstants.{AES_LANES}
-use Rattle.mbj_aes_lanes.specs.declared.wide.state.State.{State}
-use Rattle.mbj_aes_lanes.specs.Inside.WideKeys.{schedule_in}
 
 module _ {E : Type 0} where
   -- what a lane takes of its entry: an idle one a block of zeros
@@ -27,9 +24,9 @@ module _ {E : Type 0} where
   IsKeyOf key w None = Unit {0}
   IsKeyOf key w (Some e) = w ≡ key e
 
-  -- each entry's lane has the round keys of its key
-  abbrev pub AreKeyed : (E → List ℕ) → (ℕ → Option E) → List (State (List ℕ)) → Type 0
-  AreKeyed key es keys = (i : ℕ) → i < AES_LANES → IsKeyOf key (schedule_in (lane_at 8) (length keys - 1) keys i) (es i)
+  -- each lane of the first n has the schedule of its entry
+  abbrev pub AreKeyed : (E → List ℕ) → (ℕ → Option E) → ℕ → (ℕ → List ℕ) → Type 0
+  AreKeyed key es n schedule = (i : ℕ) → i < n → IsKeyOf key (schedule i) (es i)
 
   -- L of CMAC under an entry's key: the zero block enciphered (SP 800-38B, 6.1)
   abbrev pub IsCmacL : (E → List ℕ) → List ℕ → Option E → Type 0

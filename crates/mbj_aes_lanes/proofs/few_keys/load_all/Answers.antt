@@ -11,9 +11,9 @@ pub registers-preserved : goal.registers-preserved
 registers-preserved g c =
     let i : ℕ = c.registers.i in
     let xs : List (List ℕ) = c.args.blocks.now in
-    let rest : 8 - 2 * i ≡ length xs - 2 * i = omega (arith, c.told-blocks) in
+    let rest : 32 - 2 * i ≡ length xs - 2 * i = omega (arith, c.told-blocks) in
     one_more _ c.args.registers.now c.registers.registers i c.load.result c.load.result (omega arith)
-    (λ b h. c.load.ensures b h ∙ part_read (2 * i) xs [] (8 - 2 * i) b (2 * i + b) rest refl)
+    (λ b h. c.load.ensures b h ∙ part_read (2 * i) xs [] (32 - 2 * i) b (2 * i + b) rest refl)
     c.registers.invariant
 
 pub returns : goal.returns

@@ -1,7 +1,5 @@
 -- Each entry is given the zero block under its own key.
-use Rattle.std.proofs.Common.{ℕ, [], ◌-◌, length, get_or, sym, subst, arith}
-use Rattle.mbj_types.specs.Lanes.{lane_at}
-use Rattle.mbj_aes_lanes.specs.Inside.WideKeys.{schedule_in}
+use Rattle.std.proofs.Common.{ℕ, ◌<◌, [], get_or, sym, subst, arith}
 use Rattle.mbj_aes_lanes.specs.Inside.Slots.{IsCmacL}
 use Rattle.mbj_aes_lanes.proofs.SlotFacts.{zero-of}
 use Rattle.mbj_aes_lanes.proofs.slot_rounds.give_cmac_l.Goals as goal
@@ -11,7 +9,8 @@ set_cmac_l-requires-clause-zero g c =
     let e = g.E.ChainedEntry in
     let at = g.S.Slot.in_lane in
     let i : ℕ = c.lanes.i in
-    let zero = get_or c.cmac_l_of-zeros.result i [] in
+    let lt : i < g.C.BlocksCipher.lanes_of c.args.cipher.now = omega (arith, c.lane_count-i-end.ensures.value) in
+    let zero = get_or c.cmac_l_of-values.result i [] in
     subst (λ es. IsCmacL e.key_of zero (at es i)) (sym c.lanes.invariant)
-    (zero-of e.key_of (schedule_in (lane_at 8) (length c.args.keys.now - 1) c.args.keys.now i) zero (at c.args.slots.now i)
-    (c.requires.keys i (omega arith)) (c.cmac_l_of-zeros.ensures i (omega arith)))
+    (zero-of e.key_of (g.C.BlocksCipher.schedule_of c.args.cipher.now i) zero (at c.args.slots.now i) (c.requires.keys i lt)
+    (c.cmac_l_of-values.ensures i lt (omega (arith, c.lane_count-i-end.ensures.most))))

@@ -1,25 +1,23 @@
 -- One entry more is given its chaining value in each turn.
-use Rattle.std.proofs.Common.{[], get_or, refl, arith, subst, ◌≡◌}
+use Rattle.std.proofs.Common.{[], get_or, arith, subst, ◌≡◌}
 use Rattle.std.specs.Option.{option_map}
-use Rattle.mbj_types.specs.declared.kind.TheConstants.{AES_LANES}
-use Rattle.mbj_aes_lanes.specs.Inside.Busy.{AreGiven, in_own_lane}
-use Rattle.mbj_aes_lanes.proofs.BusySlots.{given-none, given-more, own_lanes}
+use Rattle.mbj_aes_lanes.specs.Inside.Busy.{AreGiven}
+use Rattle.mbj_aes_lanes.proofs.GivenSlots.{given-none, given-more}
 use Rattle.mbj_aes_lanes.proofs.slot_rounds.keep_each.Goals as goal
 
 pub lanes-init : goal.lanes-init
-lanes-init g c =
-    given-none (λ i. option_map (λ x. g.E.ChainedEntry.kept x (get_or c.args.chains.now i []))) in_own_lane AES_LANES own_lanes (g.S.Slot.in_lane c.args.slots.now)
+lanes-init g c = given-none (λ i. option_map (λ x. g.E.ChainedEntry.kept x (get_or c.args.chains.now i []))) (g.S.Slot.in_lane c.args.slots.now)
 
 pub lanes-preserved : goal.lanes-preserved
 lanes-preserved g c =
     let at = g.S.Slot.in_lane in
-    given-more (λ i. option_map (λ x. g.E.ChainedEntry.kept x (get_or c.args.chains.now i []))) in_own_lane AES_LANES own_lanes c.lanes.i
-    (at c.args.slots.now) (at c.lanes.slots) (at c.keep.new.slots) (omega arith) refl c.keep.ensures c.lanes.invariant
+    given-more (λ i. option_map (λ x. g.E.ChainedEntry.kept x (get_or c.args.chains.now i []))) c.lanes.i (at c.args.slots.now) (at c.lanes.slots)
+    (at c.keep.new.slots) (omega (arith, c.requires.few)) c.keep.ensures c.lanes.invariant
 
 pub returns : goal.returns
 returns g c =
-    let e = g.E.ChainedEntry in
     let at = g.S.Slot.in_lane in
-    let all : c.lanes.i ≡ AES_LANES = omega arith in
-    subst (λ k. AreGiven (λ i. option_map (λ x. e.kept x (get_or c.args.chains.now i []))) in_own_lane AES_LANES k (at c.args.slots.now) (at c.lanes.slots))
+    let all : c.lanes.i ≡ c.args.lanes = omega arith in
+    subst
+    (λ k. AreGiven (λ i. option_map (λ x. g.E.ChainedEntry.kept x (get_or c.args.chains.now i []))) k (at c.args.slots.now) (at c.lanes.slots))
     all c.lanes.invariant

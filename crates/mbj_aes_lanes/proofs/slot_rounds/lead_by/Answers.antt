@@ -1,14 +1,10 @@
--- One round of each entry more is done in each pass, and at the end each entry keeps the chaining value of its lane.
-use Rattle.std.proofs.Common.{◌≡◌, ℕ, ◌+◌, ◌-◌, length, sym, ap, subst, ◌∙◌, arith}
+-- One block more of each entry is chained in each pass, and at the end each entry keeps its chaining value.
+use Rattle.std.proofs.Common.{◌≡◌, ℕ, ◌+◌, None, Some, inl, inr, refl, sym, subst, ap, ◌∙◌, arith}
+use Rattle.std.proofs.lemmas.Bool.{cases_lt}
 use Rattle.std.specs.Option.{option_map}
-use Rattle.mbj_types.specs.Aes.{encipher}
-use Rattle.mbj_types.specs.Blocks.{xor_lists}
-use Rattle.mbj_types.specs.Lanes.{lane_at}
 use Rattle.mbj_lane.specs.Rounds.{after}
 use Rattle.mbj_aes_lanes.specs.ChainedEntry.{chained_once}
-use Rattle.mbj_aes_lanes.specs.Inside.Slots.{of_slot}
-use Rattle.mbj_aes_lanes.specs.Inside.Wide.{state_lane}
-use Rattle.mbj_aes_lanes.specs.Inside.WideKeys.{schedule_in}
+use Rattle.mbj_aes_lanes.specs.Inside.Slots.{IsKeyOf, HasRounds}
 use Rattle.mbj_aes_lanes.proofs.Chains.{ChainLaws, IsLed, led-none, led-rest, led-more, led-kept}
 use Rattle.mbj_aes_lanes.proofs.SlotFacts.{has-rounds, rounds-of}
 use Rattle.mbj_aes_lanes.proofs.slot_rounds.lead_by.Given as given
@@ -29,47 +25,78 @@ laws g =
       falls = met.falls;
     }
 
-pub passes-init : goal.passes-init
-passes-init g c i h =
-    let e = g.E.ChainedEntry in
-    led-none e.key_of e.block_of e.chain_of e.rest_of e.led e.kept (laws g) (state_lane (lane_at 8) c.load_state.result i)
-    (g.S.Slot.in_lane c.args.slots.now i) (c.load_state.ensures i h)
+none-is-some : {A : Type 0} (x : A) → None ≡ Some x → ⊥
+none-is-some x h = cc
 
-pub invariant_of-load_state-in-passes-clause-rests : goal.invariant_of-load_state-in-passes-clause-rests
-invariant_of-load_state-in-passes-clause-rests g c i x h is =
+pub passes-init : goal.passes-init
+passes-init g c =
     let e = g.E.ChainedEntry in
-    let o = g.S.Slot.in_lane c.args.slots.now i in
+    let chain = g.C.BlocksCipher.chain_in in record {
+      led = λ i h.
+          led-none e.key_of e.block_of e.chain_of e.rest_of e.led e.kept (laws g) (chain c.load-chains.result i)
+          (g.S.Slot.in_lane c.give_cmac_l.new.slots i) (c.load-chains.ensures i h);
+      left = λ i h lt. refl;
+    }
+
+pub invariant_of-blocks-clause-rests : goal.invariant_of-blocks-clause-rests
+invariant_of-blocks-clause-rests g c i x h is =
+    let e = g.E.ChainedEntry in
+    let chain = g.C.BlocksCipher.chain_in in
+    let o = g.S.Slot.in_lane c.give_cmac_l.new.slots i in
     let now = g.S.Slot.in_lane c.passes.slots i in
-    rounds-of e.rest_of 1 now x
-    (led-rest e.key_of e.block_of e.chain_of e.rest_of e.led e.kept (laws g) c.passes.done c.args.m (state_lane (lane_at 8) c.passes.chains i)
-    o now (omega arith) (has-rounds e.rest_of c.args.m o (λ y has. c.requires.rests i y h has)) (c.passes.invariant i h))
-    is
+    let same = ap (λ es. g.S.Slot.in_lane es i) (sym c.give_cmac_l.ensures) in
+    let has : HasRounds e.rest_of c.args.m o = has-rounds e.rest_of c.args.m o (λ y has. c.requires.rests i y h (same ∙ has)) in
+    elim (cases_lt i (g.C.BlocksCipher.lanes_of c.args.cipher.now)) [
+      | inl lt ↦
+          rounds-of e.rest_of 1 now x
+          (led-rest e.key_of e.block_of e.chain_of e.rest_of e.led e.kept (laws g) c.passes.done c.args.m (chain c.passes.chains i)
+          o now (omega arith) has (c.passes.invariant.led i lt))
+          is
+      | inr le ↦ absurd (none-is-some x (sym (c.requires.idle i le h) ∙ same ∙ sym (c.passes.invariant.left i le h) ∙ is))
+    ]
 
 pub passes-preserved : goal.passes-preserved
-passes-preserved g c i h =
+passes-preserved g c =
     let e = g.E.ChainedEntry in
-    let lane = state_lane (lane_at 8) in
-    let o = g.S.Slot.in_lane c.args.slots.now i in
-    let now = g.S.Slot.in_lane c.passes.slots i in
-    let next = lane c.encrypt.new.s i in
-    let w = schedule_in (lane_at 8) (length c.args.keys.now - 1) c.args.keys.now i in
-    let chained : next ≡ encipher w (xor_lists (of_slot e.block_of now) (lane c.passes.chains i)) =
-    c.encrypt.ensures i h
-    ∙ ap (encipher w) (c.add_round_key.ensures i h ∙ ap (λ b. xor_lists b (lane c.passes.chains i)) (c.load_state-blocks.ensures i h)) in
-    let led = c.lead_each.ensures.given i h ∙ ap (λ x. option_map (λ y. e.led y x) now) (c.blocks_of-led.ensures i h) in
-    subst (IsLed e.key_of e.block_of e.chain_of e.led e.kept (c.passes.done + 1) next o) (sym led)
-    (led-more e.key_of e.block_of e.chain_of e.rest_of e.led e.kept (laws g) c.passes.done (lane c.passes.chains i) next w o now
-    (c.requires.keys i h) chained (c.passes.invariant i h))
+    let chain = g.C.BlocksCipher.chain_in in
+    let done = c.lead_each.ensures in record {
+      led = λ i h.
+          let o = g.S.Slot.in_lane c.give_cmac_l.new.slots i in
+          let now = g.S.Slot.in_lane c.passes.slots i in
+          let before = chain c.passes.chains i in
+          let next = chain c.chain.new.chains i in
+          let w = g.C.BlocksCipher.schedule_of c.args.cipher.now i in
+          let keyed = subst (λ es. IsKeyOf e.key_of w (g.S.Slot.in_lane es i)) (sym c.give_cmac_l.ensures) (c.requires.keys i h) in
+          let led = done.given i (omega (arith, h, c.lane_count-lanes.ensures.value))
+          ∙ ap (λ x. option_map (λ y. e.led y x) now) (c.store.ensures i h) in
+          subst (IsLed e.key_of e.block_of e.chain_of e.led e.kept (c.passes.done + 1) next o) (sym led)
+          (led-more e.key_of e.block_of e.chain_of e.rest_of e.led e.kept (laws g) c.passes.done before next w o now keyed (c.chain.ensures i h)
+          (c.passes.invariant.led i h));
+      left = λ i le lt. done.left i (omega (arith, le, c.lane_count-lanes.ensures.value)) lt ∙ c.passes.invariant.left i le lt;
+    }
 
 pub returns : goal.returns
 returns g c i h =
     let e = g.E.ChainedEntry in
+    let chain = g.C.BlocksCipher.chain_in in
+    let at = g.S.Slot.in_lane in
     let once = chained_once e.key_of e.block_of e.chain_of e.led e.kept in
-    let o = g.S.Slot.in_lane c.args.slots.now i in
-    let now = g.S.Slot.in_lane c.passes.slots i in
-    let ends = state_lane (lane_at 8) c.passes.chains i in
+    let old = at c.give_cmac_l.new.slots i in
     let all : c.passes.done ≡ c.args.m = omega arith in
-    c.keep_each.ensures.given i h
-    ∙ ap (λ x. option_map (λ y. e.kept y x) now) (c.blocks_of.ensures i h)
-    ∙ led-kept e.key_of e.block_of e.chain_of e.rest_of e.led e.kept (laws g) c.passes.done ends o now (c.passes.invariant i h)
-    ∙ ap (λ (n : ℕ). option_map (after once n) o) all
+    let same = ap (λ es. at es i) c.give_cmac_l.ensures in
+    elim (cases_lt i (g.C.BlocksCipher.lanes_of c.args.cipher.now)) [
+      | inl lt ↦
+          c.keep_each.ensures.given i (omega (arith, lt, c.lane_count-lanes.ensures.value))
+          ∙ ap (λ x. option_map (λ y. e.kept y x) (at c.passes.slots i)) (c.store-2.ensures i lt)
+          ∙ led-kept e.key_of e.block_of e.chain_of e.rest_of e.led e.kept (laws g) c.passes.done (chain c.passes.chains i) old
+          (at c.passes.slots i) (c.passes.invariant.led i lt)
+          ∙ ap (λ (n : ℕ). option_map (after once n) old) all
+          ∙ ap (option_map (after once c.args.m)) same
+      | inr le ↦
+          let idle = c.requires.idle i le h in
+          c.keep_each.ensures.left i (omega (arith, le, c.lane_count-lanes.ensures.value)) h
+          ∙ c.passes.invariant.left i le h
+          ∙ same
+          ∙ idle
+          ∙ sym (ap (option_map (after once c.args.m)) idle)
+    ]

@@ -1,29 +1,27 @@
 -- One entry more is given its chaining value in each turn.
-use Rattle.std.proofs.Common.{[], get_or, refl, arith, subst, ◌≡◌, ℕ, sym}
+use Rattle.std.proofs.Common.{[], get_or, arith, subst, ◌≡◌, ℕ, sym}
 use Rattle.std.specs.Option.{option_map}
-use Rattle.mbj_types.specs.declared.kind.TheConstants.{AES_LANES}
-use Rattle.mbj_aes_lanes.specs.Inside.Busy.{AreGiven, in_own_lane}
+use Rattle.mbj_aes_lanes.specs.Inside.Busy.{AreGiven}
 use Rattle.mbj_aes_lanes.specs.Inside.Slots.{HasRounds}
 use Rattle.mbj_aes_lanes.proofs.SlotFacts.{has-rounds}
-use Rattle.mbj_aes_lanes.proofs.BusySlots.{given-none, given-more, own_lanes}
+use Rattle.mbj_aes_lanes.proofs.GivenSlots.{given-none, given-more}
 use Rattle.mbj_aes_lanes.proofs.slot_rounds.lead_each.Goals as goal
 
 pub lanes-init : goal.lanes-init
-lanes-init g c =
-    given-none (λ i. option_map (λ x. g.E.ChainedEntry.led x (get_or c.args.chains.now i []))) in_own_lane AES_LANES own_lanes (g.S.Slot.in_lane c.args.slots.now)
+lanes-init g c = given-none (λ i. option_map (λ x. g.E.ChainedEntry.led x (get_or c.args.chains.now i []))) (g.S.Slot.in_lane c.args.slots.now)
 
 pub lanes-preserved : goal.lanes-preserved
 lanes-preserved g c =
     let at = g.S.Slot.in_lane in
-    given-more (λ i. option_map (λ x. g.E.ChainedEntry.led x (get_or c.args.chains.now i []))) in_own_lane AES_LANES own_lanes c.lanes.i
-    (at c.args.slots.now) (at c.lanes.slots) (at c.lead.new.slots) (omega arith) refl c.lead.ensures c.lanes.invariant
+    given-more (λ i. option_map (λ x. g.E.ChainedEntry.led x (get_or c.args.chains.now i []))) c.lanes.i (at c.args.slots.now) (at c.lanes.slots)
+    (at c.lead.new.slots) (omega (arith, c.requires.few)) c.lead.ensures c.lanes.invariant
 
 pub returns : goal.returns
 returns g c =
-    let e = g.E.ChainedEntry in
     let at = g.S.Slot.in_lane in
-    let all : c.lanes.i ≡ AES_LANES = omega arith in
-    subst (λ k. AreGiven (λ i. option_map (λ x. e.led x (get_or c.args.chains.now i []))) in_own_lane AES_LANES k (at c.args.slots.now) (at c.lanes.slots))
+    let all : c.lanes.i ≡ c.args.lanes = omega arith in
+    subst
+    (λ k. AreGiven (λ i. option_map (λ x. g.E.ChainedEntry.led x (get_or c.args.chains.now i []))) k (at c.args.slots.now) (at c.lanes.slots))
     all c.lanes.invariant
 
 pub lead-requires-clause-rest : goal.lead-requires-clause-rest
@@ -31,5 +29,5 @@ lead-requires-clause-rest g c =
     let e = g.E.ChainedEntry in
     let at = g.S.Slot.in_lane in
     let i : ℕ = c.lanes.i in
-    subst (HasRounds e.rest_of 1) (sym (c.lanes.invariant.left i (omega arith) (omega arith)))
-    (has-rounds e.rest_of 1 (at c.args.slots.now i) (λ x is. c.requires.rests i x (omega arith) is))
+    subst (HasRounds e.rest_of 1) (sym (c.lanes.invariant.left i (omega arith) (omega (arith, c.requires.few))))
+    (has-rounds e.rest_of 1 (at c.args.slots.now i) (λ x is. c.requires.rests i x (omega (arith, c.requires.few)) is))

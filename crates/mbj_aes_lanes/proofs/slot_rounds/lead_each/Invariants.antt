@@ -1,11 +1,10 @@
 -- The entries before the next lane were given their chaining values.
 use Rattle.std.proofs.Common.{[], get_or}
 use Rattle.std.specs.Option.{option_map}
-use Rattle.mbj_types.specs.declared.kind.TheConstants.{AES_LANES}
-use Rattle.mbj_aes_lanes.specs.Inside.Busy.{AreGiven, in_own_lane}
+use Rattle.mbj_aes_lanes.specs.Inside.Busy.{AreGiven}
 use Rattle.mbj_aes_lanes.proofs.slot_rounds.lead_each.Given as goal
 
 abbrev pub invariant-lanes : goal.invariant-lanes
 invariant-lanes g l =
     let at = g.S.Slot.in_lane in
-    AreGiven (λ i. option_map (λ e. g.E.ChainedEntry.led e (get_or l.chains i []))) in_own_lane AES_LANES l.i (at l.initial.slots) (at l.slots)
+    AreGiven (λ i. option_map (λ e. g.E.ChainedEntry.led e (get_or l.chains i []))) l.i (at l.initial.slots) (at l.slots)
