@@ -1,5 +1,6 @@
 -- The part of a list from a place on, which is read and written.
-use Rattle.std.proofs.Common.{◌≡◌, ℕ, ◌+◌, ◌-◌, ◌<◌, ◌≤◌, List, [], ◌++◌, length, take, drop, map, get_or, sym, ap, ◌∙◌, arith, length-drop}
+use Rattle.std.proofs.Common.{◌≡◌, ℕ, ◌+◌, ◌-◌, ◌<◌, ◌≤◌, List, [], ◌++◌, length, take, drop, map, get_or, inl, inr, refl, sym, ap, ◌∙◌, arith, length-drop}
+use Rattle.std.proofs.lemmas.Bool.{cases_lt}
 use Rattle.std.proofs.lemmas.List.{same_lists, length-map, get_or-map, get_or_default, append-nil, drop_all, get_or_append_left, get_or-append_right, get_or-drop, get_or-take, length-take-le, take_rest}
 use borrow.Rule.Slice.PartMut.{put_mid}
 
@@ -32,3 +33,24 @@ changed_list f xs ys size each =
     (λ i d h.
     let inside : i < length xs = omega (arith, size) in
     get_or_default ys i d [] h ∙ each i inside ∙ sym (get_or-map f xs i [] d inside))
+
+-- a list whose part from a on is written with ys, of which m items count
+module _ (a m : ℕ) (xs ys : List (List ℕ)) (inside : a ≤ length xs) where
+  pub changed_further : (f : List ℕ → List ℕ) (old : List (List ℕ)) → ((i : ℕ) → i < a → get_or xs i [] ≡ f (get_or old i []))
+      → ((j : ℕ) → j < m → get_or ys j [] ≡ f (get_or old (a + j) []))
+      → (i : ℕ) → i < a + m → get_or (put_mid a (length xs - a) xs ys) i [] ≡ f (get_or old i [])
+  changed_further f old before here i h =
+      elim (cases_lt i a) [
+        | inl below ↦ part_below a xs [] (length xs - a) ys inside i below ∙ before i below
+        | inr above ↦
+            let place : i ≡ a + (i - a) = omega arith in
+            part_written a xs [] (length xs - a) ys inside (i - a) i refl place
+            ∙ here (i - a) (omega arith) ∙ ap (λ (i : ℕ). f (get_or old i [])) (sym place)
+      ]
+
+  pub same_further : ((j : ℕ) → m ≤ j → get_or ys j [] ≡ get_or (take (length xs - a) (drop a xs)) j [])
+      → (i : ℕ) → a + m ≤ i → get_or (put_mid a (length xs - a) xs ys) i [] ≡ get_or xs i []
+  same_further same i h =
+      let place : i ≡ a + (i - a) = omega arith in
+      part_written a xs [] (length xs - a) ys inside (i - a) i refl place
+      ∙ same (i - a) (omega arith) ∙ part_read a xs [] (length xs - a) (i - a) i refl place
