@@ -106,14 +106,15 @@ to_before : (r q : ℕ) → r ≡ q + 1 → (j : ℕ) → j < 16 → place q j �
 to_before r q next j h =
     sym (ap (λ r. place r (inv_shifted j)) next ∙ place-shifted q (inv_shifted j) (omega arith) ∙ ap (place q) (shifted_back j h))
 
-module _ (r : ℕ) (s nine eleven thirteen fourteen key : ℕ → ℕ)
+-- multiples of what INVSBOX makes of the bytes s, and a key
+module _ (s nine eleven thirteen fourteen key : ℕ → ℕ)
     (nine_small : (j : ℕ) → nine j < 256) (eleven_small : (j : ℕ) → eleven j < 256)
     (thirteen_small : (j : ℕ) → thirteen j < 256) (fourteen_small : (j : ℕ) → fourteen j < 256) (key_small : (j : ℕ) → key j < 256)
     (nine_is : (j : ℕ) → j < 16 → from_decryption (nine j) ≡ times 9 (inv_sub_of (s j)))
     (eleven_is : (j : ℕ) → j < 16 → from_decryption (eleven j) ≡ times 11 (inv_sub_of (s j)))
     (thirteen_is : (j : ℕ) → j < 16 → from_decryption (thirteen j) ≡ times 13 (inv_sub_of (s j)))
     (fourteen_is : (j : ℕ) → j < 16 → from_decryption (fourteen j) ≡ times 14 (inv_sub_of (s j)))
-    (made : ℕ → ℕ)
+    (r : ℕ) (made : ℕ → ℕ)
     (made_is : (j : ℕ) → j < 16 → made (place r j)
     ≡ inv_mixed_at (λ i. nine (place r i)) (λ i. eleven (place r i)) (λ i. thirteen (place r i)) (λ i. fourteen (place r i)) (λ i. key (place r i)) j)
   where
@@ -160,6 +161,30 @@ module _ (r : ℕ) (s nine eleven thirteen fourteen key : ℕ → ℕ)
         ∙ inv_sub_bytes_of (λ j. bit_xor (inv_mixed_of box j) (added j))
         ∙ ap (λ t. inv_sub_bytes (inv_shift_rows t)) columns_are
 
+    -- a key as it is laid out: the bytes s are those that INVSBOX makes the key of, and the key that is added is the constant
+    module _ (plain : ℕ → ℕ) (plain_small : (j : ℕ) → plain j < 256) (box_is : (j : ℕ) → j < 16 → box j ≡ plain j)
+        (key_is : (j : ℕ) → j < 16 → from_decryption (key j) ≡ SBOX_CONSTANT)
+        (q : ℕ) (result : ℕ → ℕ) (is : (j : ℕ) → j < 16 → result (place q j) ≡ made (place r j))
+      where
+        unmixed : inverse_key q result ≡ inv_mix_columns (block_with plain)
+        unfolding inverse_key
+        unmixed =
+            block_with-same (λ j. bit_xor (from_decryption (result (place q j))) SBOX_CONSTANT) (inv_mixed_of plain) (λ j h.
+            let n : ℕ = next_row j in
+            let n2 : ℕ = next_row n in
+            let e0 = box_is j h in
+            let e1 = box_is n (omega arith) in
+            let e2 = box_is n2 (omega arith) in
+            let e3 = box_is (next_row n2) (omega arith) in
+            ap (λ x. bit_xor (from_decryption x) SBOX_CONSTANT) (is j h) ∙ byte_is j h
+            ∙ ap₂ bit_xor (λ i. inv_mixed_byte (e0 i) (e1 i) (e2 i) (e3 i))
+            (ap (λ (x : ℕ). bit_xor x SBOX_CONSTANT) (key_is (place r j) (place-lt r j)))
+            ∙ xor_zero_r (inv_mixed_of plain j))
+            ∙ inv_mixed_bytes plain
+
+        pub inverse_key_is : mix_columns (inverse_key q result) ≡ block_with plain
+        inverse_key_is = ap mix_columns unmixed ∙ remixed_columns (block_with plain) (IsBlock-block_with plain (λ j h. plain_small j))
+
 -- the bytes t are s in the basis of decryption
 pub inverse_last_round_is : (r q : ℕ) → r ≡ q + 1 → (s t key made : ℕ → ℕ) → ((j : ℕ) → t j < 256) → ((j : ℕ) → key j < 256)
     → ((j : ℕ) → j < 16 → from_decryption (t j) ≡ s j) → ((j : ℕ) → j < 16 → made (place r j) ≡ bit_xor (t j) (key j))
@@ -186,48 +211,6 @@ inverse_first_round_is s key made is =
     block_with-same made (λ j. bit_xor (inv_sub_of (s (place 0 j))) (key j))
     (λ j h. is j h ∙ ap (λ p. bit_xor (inv_sub_of (s p)) (key j)) (sym (place-none j h)))
     ∙ summed_bytes (λ j. inv_sub_of (s (place 0 j))) key
-
--- ---- keys as they are laid out
-
-module _ (key t nine eleven thirteen fourteen constant made : ℕ → ℕ)
-    (key_small : (j : ℕ) → key j < 256)
-    (nine_small : (j : ℕ) → nine j < 256) (eleven_small : (j : ℕ) → eleven j < 256)
-    (thirteen_small : (j : ℕ) → thirteen j < 256) (fourteen_small : (j : ℕ) → fourteen j < 256) (constant_small : (j : ℕ) → constant j < 256)
-    (nine_is : (j : ℕ) → j < 16 → from_decryption (nine j) ≡ times 9 (inv_sub_of (t j)))
-    (eleven_is : (j : ℕ) → j < 16 → from_decryption (eleven j) ≡ times 11 (inv_sub_of (t j)))
-    (thirteen_is : (j : ℕ) → j < 16 → from_decryption (thirteen j) ≡ times 13 (inv_sub_of (t j)))
-    (fourteen_is : (j : ℕ) → j < 16 → from_decryption (fourteen j) ≡ times 14 (inv_sub_of (t j)))
-    (made_is : (j : ℕ) → j < 16 → made (place 0 j)
-    ≡ inv_mixed_at (λ i. nine (place 0 i)) (λ i. eleven (place 0 i)) (λ i. thirteen (place 0 i)) (λ i. fourteen (place 0 i)) (λ i. constant (place 0 i)) j)
-    (t_is : (j : ℕ) → j < 16 → inv_sub_of (t j) ≡ key j)
-    (constant_is : (j : ℕ) → j < 16 → from_decryption (constant j) ≡ SBOX_CONSTANT)
-  where
-    box_is : (j : ℕ) → j < 16 → inv_sub_of (t (place 0 j)) ≡ key j
-    box_is j h = ap (λ p. inv_sub_of (t p)) (place-none j h) ∙ t_is j h
-
-    unmixed : (r : ℕ) (result : ℕ → ℕ) → ((j : ℕ) → j < 16 → result (place r j) ≡ made j) → inverse_key r result ≡ inv_mix_columns (block_with key)
-    unfolding inverse_key
-    unmixed r result is =
-        block_with-same (λ j. bit_xor (from_decryption (result (place r j))) SBOX_CONSTANT) (inv_mixed_of key) (λ j h.
-        let n : ℕ = next_row j in
-        let n2 : ℕ = next_row n in
-        let n3 : ℕ = next_row n2 in
-        let e0 = box_is j h in
-        let e1 = box_is n (omega arith) in
-        let e2 = box_is n2 (omega arith) in
-        let e3 = box_is n3 (omega arith) in
-        ap (λ x. bit_xor (from_decryption x) SBOX_CONSTANT) (is j h ∙ ap made (sym (place-none j h)))
-        ∙ byte_is 0 t nine eleven thirteen fourteen constant nine_small eleven_small thirteen_small fourteen_small constant_small
-        nine_is eleven_is thirteen_is fourteen_is made made_is j h
-        ∙ ap₂ bit_xor (λ i. inv_mixed_byte (e0 i) (e1 i) (e2 i) (e3 i))
-        (ap (λ (x : ℕ). bit_xor x SBOX_CONSTANT) (constant_is (place 0 j) (place-lt 0 j)))
-        ∙ xor_zero_r (inv_mixed_of key j))
-        ∙ inv_mixed_bytes key
-
-    pub inverse_key_is : (r : ℕ) (result : ℕ → ℕ) → ((j : ℕ) → j < 16 → result (place r j) ≡ made j)
-        → mix_columns (inverse_key r result) ≡ block_with key
-    inverse_key_is r result is =
-        ap mix_columns (unmixed r result is) ∙ remixed_columns (block_with key) (IsBlock-block_with key (λ j h. key_small j))
 
 pub inverse_last_key_is : (key made : ℕ → ℕ) → ((j : ℕ) → j < 16 → from_decryption (made j) ≡ bit_xor (key j) SBOX_CONSTANT)
     → inverse_key 0 made ≡ block_with key
