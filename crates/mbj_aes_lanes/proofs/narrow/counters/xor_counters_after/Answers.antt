@@ -1,17 +1,15 @@
 -- The first mask is the answer, the first blocks take the others of its batch, and the rest follows.
-use Rattle.std.proofs.Common.{◌≡◌, ℕ, ◌+◌, ◌-◌, ◌%◌, ◌^◌, ◌<◌, ◌≤◌, List, [], length, take, drop, inl, inr, refl, sym, subst, ap, ◌∙◌, arith, length-drop}
+use Rattle.std.proofs.Common.{◌≡◌, ℕ, ◌+◌, ◌-◌, ◌%◌, ◌^◌, ◌<◌, ◌≤◌, List, [], length, take, drop, refl, sym, subst, ap, ◌∙◌, arith, length-drop}
 use Rattle.std.specs.List.{concat}
 use Rattle.std.specs.Int.{w128, to_be_bytes}
-use Rattle.std.proofs.lemmas.Bool.{cases_lt}
 use Rattle.std.proofs.lemmas.List.{get_or-take, get_or-drop, length-take-le}
 use Rattle.mbj_types.specs.Aes.{encipher}
 use Rattle.mbj_types.specs.Blocks.{blocks}
 use Rattle.mbj_types.specs.Modes.{ctr_blocks}
 use Rattle.mbj_blocks.specs.Walked.{Walked}
-use Rattle.mbj_blocks.proofs.Walk.{walk_over}
 use Rattle.mbj_aes_lanes.specs.declared.narrow.by_fours.TheConstants.{BATCH_BLOCKS}
 use Rattle.mbj_aes_lanes.specs.Inside.KeyStream.{IsKeyStream}
-use Rattle.mbj_aes_lanes.proofs.KeyStreams.{stream_from, stream_from-cons}
+use Rattle.mbj_aes_lanes.proofs.KeyStreams.{stream_from, stream_from-cons, stream_on}
 use Rattle.mbj_aes_lanes.proofs.narrow.counters.xor_counters_after.Goals as goal
 
 -- the masks behind the first of n + 1, which are the key stream of the next counters
@@ -53,19 +51,12 @@ returns-clause-text c =
     let known : IsKeyStream e t masks = behind_first e c.args.counter here n all (omega arith) long stream in
     let whole : List ℕ = concat (ctr_blocks e t (blocks text)) in
     let first : (t + 0) % 2 ^ 128 ≡ t = omega arith in
+    let next : (t + (BATCH_BLOCKS - 1)) % 2 ^ 128 ≡ (c.args.counter + BATCH_BLOCKS) % 2 ^ 128 = omega arith in
     let walked : Walked (stream_from e t (length masks)) now (0 + length masks) whole =
     c.xor_blocks.ensures (stream_from e t) whole (stream_from-cons e t masks known)
     (ap (λ (u : ℕ). concat (ctr_blocks e u (blocks text))) first) in
-    let counter : ℕ = (c.args.counter + BATCH_BLOCKS) % 2 ^ 128 in
-    let P : List ℕ → Type 0 = λ w. Walked (ctr_blocks (encipher w) counter) now here whole in
     c.xor_from.ensures whole
-    (subst P (sym c.new-key.ensures) (elim (cases_lt here (BATCH_BLOCKS - 1)) [
-      | inl fewer ↦
-          walk_over (stream_from e t (length masks)) (ctr_blocks e counter) now whole (0 + length masks) here refl refl
-          (omega (arith, c.xor_blocks.auto.text)) (omega (arith, c.xor_blocks.auto.text)) walked
-      | inr full ↦
-          let place : 0 + length masks ≡ here = omega arith in
-          let next : (t + length masks) % 2 ^ 128 ≡ counter = omega arith in
-          let Q : ℕ → ℕ → Type 0 = λ u i. Walked (ctr_blocks e u) now i whole in
-          subst (λ (i : ℕ). Q counter i) place (subst (λ (u : ℕ). Q u (0 + length masks)) next walked)
-    ]))
+    (subst (λ w. Walked (ctr_blocks (encipher w) ((c.args.counter + BATCH_BLOCKS) % 2 ^ 128)) now here whole) (sym c.new-key.ensures)
+    (rw next at
+    (stream_on e t (length masks) (BATCH_BLOCKS - 1) (0 + length masks) here now whole (omega arith) (λ h. omega arith)
+    (λ h. omega (arith, c.xor_blocks.auto.text)) (λ h. omega (arith, c.xor_blocks.auto.text)) walked)))

@@ -1,13 +1,11 @@
 -- One batch more is xored in each turn, and at the end all are.
-use Rattle.std.proofs.Common.{◌≡◌, ℕ, ◌+◌, ◌*◌, ◌%◌, ◌^◌, List, length, take, inl, inr, refl, subst, arith}
-use Rattle.std.proofs.lemmas.Bool.{cases_lt}
+use Rattle.std.proofs.Common.{◌≡◌, ℕ, ◌+◌, ◌*◌, ◌%◌, ◌^◌, List, length, take, refl, arith}
 use Rattle.std.proofs.lemmas.List.{length-take-le}
 use Rattle.mbj_types.specs.Aes.{encipher}
 use Rattle.mbj_types.specs.Modes.{ctr_blocks}
-use Rattle.mbj_blocks.specs.Walked.{Walked}
-use Rattle.mbj_blocks.proofs.Walk.{walk_end, walk_over}
+use Rattle.mbj_blocks.proofs.Walk.{walk_end}
 use Rattle.mbj_aes_lanes.specs.declared.narrow.by_fours.TheConstants.{BATCH_BLOCKS}
-use Rattle.mbj_aes_lanes.proofs.KeyStreams.{stream_from, stream_from-cons}
+use Rattle.mbj_aes_lanes.proofs.KeyStreams.{stream_from, stream_from-cons, stream_on}
 use Rattle.mbj_aes_lanes.proofs.narrow.counters.xor_from.Goals as goal
 
 pub batches-preserved : goal.batches-preserved
@@ -21,19 +19,8 @@ batches-preserved c whole walked =
     let next : ℕ = c.args.first + BATCH_BLOCKS * (c.batches.b + 1) in
     let text : List ℕ = c.xor_blocks.new.text in
     let first : (t + 0) % 2 ^ 128 ≡ t = omega arith in
-    let now : Walked (stream_from e t (length masks)) text (at + length masks) whole =
-    c.xor_blocks.ensures (stream_from e t) whole (stream_from-cons e t masks c.masks_of-masks.ensures.masks)
-    (rw first (c.batches.invariant whole walked)) in
-    elim (cases_lt here BATCH_BLOCKS) [
-      | inl fewer ↦
-          walk_over (stream_from e t (length masks)) (stream_from e t BATCH_BLOCKS) text whole (at + length masks) next refl refl
-          (omega arith) (omega arith) now
-      | inr all ↦
-          let place : at + length masks ≡ next = omega arith in
-          let counter : length masks ≡ BATCH_BLOCKS = omega arith in
-          let P : ℕ → ℕ → Type 0 = λ n i. Walked (stream_from e t n) text i whole in
-          subst (λ (i : ℕ). P BATCH_BLOCKS i) place (subst (λ (n : ℕ). P n (at + length masks)) counter now)
-    ]
+    stream_on e t (length masks) BATCH_BLOCKS (at + length masks) next text whole (omega arith) (λ h. omega arith) (λ h. omega arith) (λ h. omega arith)
+    (c.xor_blocks.ensures (stream_from e t) whole (stream_from-cons e t masks c.masks_of-masks.ensures.masks) (rw first (c.batches.invariant whole walked)))
 
 pub returns : goal.returns
 returns c whole walked =
