@@ -25,15 +25,7 @@ use Rattle.mbj_aes_lanes.proofs.XorSums.{term, plus, same_sum}
 from_decryption-sum5 : (a b c d e : ℕ) → a < 256 → b < 256 → c < 256 → d < 256 → e < 256
     → from_decryption (bit_xor (bit_xor (bit_xor (bit_xor a b) c) d) e)
     ≡ bit_xor (bit_xor (bit_xor (bit_xor (from_decryption a) (from_decryption b)) (from_decryption c)) (from_decryption d)) (from_decryption e)
-from_decryption-sum5 a b c d e ha hb hc hd he =
-    let ab = xor_of_8 a b ha hb in
-    let abc = xor_of_8 (bit_xor a b) c ab hc in
-    let abcd = xor_of_8 (bit_xor (bit_xor a b) c) d abc hd in
-    from_decryption-xor (bit_xor (bit_xor (bit_xor a b) c) d) e abcd he
-    ∙ ap (λ (x : ℕ). bit_xor x (from_decryption e))
-    (from_decryption-xor (bit_xor (bit_xor a b) c) d abc hd
-    ∙ ap (λ (x : ℕ). bit_xor x (from_decryption d))
-    (from_decryption-xor (bit_xor a b) c ab hc ∙ ap (λ (x : ℕ). bit_xor x (from_decryption c)) (from_decryption-xor a b ha hb)))
+from_decryption-sum5 a b c d e ha hb hc hd he = grind (arith, from_decryption-xor, xor_of_8)
 
 -- the multiples in the order of the standard
 in_order : (a b c d k : ℕ)

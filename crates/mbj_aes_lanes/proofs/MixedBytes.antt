@@ -1,5 +1,5 @@
 -- MIXCOLUMNS and ADDROUNDKEY of bytes in the tower's basis.
-use Rattle.std.proofs.Common.{◌≡◌, ℕ, ◌<◌, [], ◌∷◌, bit_xor, refl, sym, ap, ap₂, ◌∙◌}
+use Rattle.std.proofs.Common.{◌≡◌, ℕ, ◌<◌, [], ◌∷◌, bit_xor, refl, sym, ap, ap₂, ◌∙◌, arith}
 use Rattle.std.proofs.lemmas.Nat.{xor_of_8}
 use Rattle.mbj_types.specs.Aes.{times, mixed_byte}
 use Rattle.mbj_aes.specs.declared.tables.TheConstants.{SBOX_CONSTANT}
@@ -14,13 +14,7 @@ sum6 a b c d e f = bit_xor (bit_xor (bit_xor a b) c) (bit_xor (bit_xor d e) f)
 
 pub from_tower-sum6 : (a b c d e f : ℕ) → a < 256 → b < 256 → c < 256 → d < 256 → e < 256 → f < 256
     → from_tower (sum6 a b c d e f) ≡ sum6 (from_tower a) (from_tower b) (from_tower c) (from_tower d) (from_tower e) (from_tower f)
-from_tower-sum6 a b c d e f ha hb hc hd he hf =
-    let ab = xor_of_8 a b ha hb in
-    let de = xor_of_8 d e hd he in
-    from_tower-xor (bit_xor (bit_xor a b) c) (bit_xor (bit_xor d e) f) (xor_of_8 (bit_xor a b) c ab hc) (xor_of_8 (bit_xor d e) f de hf)
-    ∙ ap₂ bit_xor
-    (from_tower-xor (bit_xor a b) c ab hc ∙ ap (λ (x : ℕ). bit_xor x (from_tower c)) (from_tower-xor a b ha hb))
-    (from_tower-xor (bit_xor d e) f de hf ∙ ap (λ (x : ℕ). bit_xor x (from_tower f)) (from_tower-xor d e hd he))
+from_tower-sum6 a b c d e f ha hb hc hd he hf = grind (arith, from_tower-xor, xor_of_8)
 
 -- the constant of SBOX goes through a column, and the key has it
 pub mixed_is : (a b c d k : ℕ) → b < 256
