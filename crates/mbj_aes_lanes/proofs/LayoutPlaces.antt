@@ -43,10 +43,10 @@ tabled t f r j h right =
     ∙ sym (place-four r m (f j) refl)
 
 -- a table of places
-pub tabled-lt : (t : List (List ℕ)) (m j : ℕ) → m < 4 → j < 16
+pub tabled_lt : (t : List (List ℕ)) (m j : ℕ) → m < 4 → j < 16
     → each_below (λ m. each_below (λ j. nat_lt (slice_index (get_or t m []) j) 16) 16) 4 ≡ true
     → slice_index (get_or t m []) j < 16
-tabled-lt t m j k h right =
+tabled_lt t m j k h right =
     ltb-true (slice_index (get_or t m []) j) 16
     (at_each (λ j. nat_lt (slice_index (get_or t m []) j) 16) 16 j
     (at_each (λ m. each_below (λ j. nat_lt (slice_index (get_or t m []) j) 16) 16) 4 m right k) h)

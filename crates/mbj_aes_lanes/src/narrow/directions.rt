@@ -85,6 +85,7 @@ impl Direction for Encryption {
         k
     }
 
+    #[tactic(auto, using(crate::proofs::LayoutPlaces::tabled_lt))]
     #[inline(always)]
     fn round<V: BlockWord>(s: V, key: V, k: usize, n: usize) -> V {
         if k == 0 {
@@ -134,6 +135,7 @@ impl Direction for Decryption {
         n - k
     }
 
+    #[tactic(auto, using(crate::proofs::LayoutPlaces::tabled_lt))]
     #[inline(always)]
     fn round<V: BlockWord>(s: V, key: V, k: usize, n: usize) -> V {
         if k == 0 {

@@ -27,6 +27,7 @@ pub fn first_key<V: BlockWord>(key: V) -> V
 }
 
 /// The key of a round `r` between the first and the last.
+#[tactic(auto, using(crate::proofs::LayoutPlaces::tabled_lt))]
 #[inline(always)]
 pub fn key_between<V: BlockWord>(key: V, r: usize) -> V
     ensures { (b : ℕ) → b < V.BLOCKS → tower_key r (block_byte V.lane result b) ≡ block_at V.lane key b }
@@ -44,6 +45,7 @@ pub fn last_key<V: BlockWord>(key: V) -> V
 }
 
 /// The key of a round `r` between the first and the last in decryption: a round makes INVMIXCOLUMNS of what SBOX gives for it.
+#[tactic(auto, using(crate::proofs::LayoutPlaces::tabled_lt))]
 #[inline(always)]
 pub fn inverse_key_between<V: BlockWord>(key: V, r: usize) -> V
     ensures { (b : ℕ) → b < V.BLOCKS → mix_columns (inverse_key r (block_byte V.lane result b)) ≡ block_at V.lane key b }

@@ -10,6 +10,7 @@ use mbj_aes::substitution::WithDouble;
 
 /// Mixes the columns of bytes, given twice as much of each, and adds a key, all in layout `r`: `2 a + 3 b + c + d` of a column is
 /// `(2 a + c) + (2 b + d) + b`.
+#[tactic(auto, using(crate::proofs::LayoutPlaces::tabled_lt))]
 #[inline(always)]
 pub fn mixed<V: BlockWord>(of: WithDouble<V>, key: V, r: usize) -> V
     ensures { (b j : ℕ) → b < V.BLOCKS → j < 16 → block_byte V.lane result b (place r j)
@@ -22,6 +23,7 @@ pub fn mixed<V: BlockWord>(of: WithDouble<V>, key: V, r: usize) -> V
 }
 
 /// Undoes MIXCOLUMNS, given multiples of each byte, and adds a key, all in layout `r`.
+#[tactic(auto, using(crate::proofs::LayoutPlaces::tabled_lt))]
 #[inline(always)]
 pub fn inv_mixed<V: BlockWord>(of: InverseMultiples<V>, key: V, r: usize) -> V
     ensures { (b j : ℕ) → b < V.BLOCKS → j < 16 → block_byte V.lane result b (place r j)

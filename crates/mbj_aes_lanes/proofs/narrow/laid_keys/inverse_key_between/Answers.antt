@@ -5,12 +5,9 @@ use Rattle.mbj_aes.proofs.BlockWords.{within}
 use Rattle.mbj_aes.proofs.DecryptionCases.{inv_sub_of-boxed}
 use Rattle.mbj_aes_lanes.specs.declared.narrow.layouts.TheConstants.{PLACES}
 use Rattle.mbj_aes_lanes.specs.Inside.Layouts.{place}
-use Rattle.mbj_aes_lanes.proofs.LayoutPlaces.{place-lt, place-none, place-back, listed, tabled-lt}
+use Rattle.mbj_aes_lanes.proofs.LayoutPlaces.{place-lt, place-none, place-back, listed}
 use Rattle.mbj_aes_lanes.proofs.InverseRounds.{inverse_key_is}
 use Rattle.mbj_aes_lanes.proofs.narrow.laid_keys.inverse_key_between.Goals as goal
-
-pub placed-requires : goal.placed-requires
-placed-requires g c j h = tabled-lt PLACES ((4 - c.args.r % 4) % 4) j (omega arith) h refl
 
 pub returns : goal.returns
 unfolding place

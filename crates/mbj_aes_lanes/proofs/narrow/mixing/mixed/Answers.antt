@@ -3,14 +3,8 @@ use Rattle.mbj_aes.specs.BlockWords.{block_byte}
 use Rattle.mbj_aes.proofs.BlockWords.{within}
 use Rattle.mbj_aes_lanes.specs.declared.narrow.layouts.TheConstants.{NEXT_ROW, ROW_AFTER_NEXT}
 use Rattle.mbj_aes_lanes.specs.Inside.Layouts.{place, next_row}
-use Rattle.mbj_aes_lanes.proofs.LayoutPlaces.{place-lt, tabled, tabled-lt}
+use Rattle.mbj_aes_lanes.proofs.LayoutPlaces.{place-lt, tabled}
 use Rattle.mbj_aes_lanes.proofs.narrow.mixing.mixed.Goals as goal
-
-pub placed-requires : goal.placed-requires
-placed-requires g c j h = tabled-lt ROW_AFTER_NEXT (c.args.r % 4) j (omega arith) h refl
-
-pub placed-requires-2 : goal.placed-requires-2
-placed-requires-2 g c j h = tabled-lt NEXT_ROW (c.args.r % 4) j (omega arith) h refl
 
 pub returns : goal.returns
 unfolding place

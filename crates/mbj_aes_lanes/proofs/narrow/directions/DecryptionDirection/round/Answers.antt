@@ -9,11 +9,8 @@ use Rattle.mbj_aes_lanes.specs.Inside.Layouts.{place, inverse_state}
 use Rattle.mbj_aes_lanes.proofs.CipherRounds.{undone-none, undone-next, undone-all, held_between, held_last}
 use Rattle.mbj_aes_lanes.proofs.InverseRounds.{inverse_first_round_is, inverse_last_round_is, inverse_round_is}
 use Rattle.mbj_aes_lanes.proofs.LaidSchedules.{key_of_round-first, key_of_round-last, key_of_round-between}
-use Rattle.mbj_aes_lanes.proofs.LayoutPlaces.{place-lt, place-back, listed, tabled-lt}
+use Rattle.mbj_aes_lanes.proofs.LayoutPlaces.{place-lt, place-back, listed}
 use Rattle.mbj_aes_lanes.proofs.narrow.directions.DecryptionDirection.round.Goals as goal
-
-pub placed-requires : goal.placed-requires
-placed-requires g c j h = tabled-lt PLACES ((4 - c.args.n % 4) % 4) j (omega arith) h refl
 
 pub returns-then-k-eq0 : goal.returns-then-k-eq0
 unfolding place

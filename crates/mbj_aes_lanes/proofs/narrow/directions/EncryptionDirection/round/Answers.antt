@@ -8,12 +8,9 @@ use Rattle.mbj_aes_lanes.specs.declared.narrow.layouts.TheConstants.{PLACES}
 use Rattle.mbj_aes_lanes.specs.Inside.Layouts.{place}
 use Rattle.mbj_aes_lanes.proofs.CipherRounds.{after-none, after-next, after-last, held_between, held_last}
 use Rattle.mbj_aes_lanes.proofs.LaidSchedules.{key_of_round-first, key_of_round-last, key_of_round-between}
-use Rattle.mbj_aes_lanes.proofs.LayoutPlaces.{place-lt, listed, tabled-lt}
+use Rattle.mbj_aes_lanes.proofs.LayoutPlaces.{place-lt, listed}
 use Rattle.mbj_aes_lanes.proofs.LayoutRounds.{first_round_is, full_round_is, last_round_is}
 use Rattle.mbj_aes_lanes.proofs.narrow.directions.EncryptionDirection.round.Goals as goal
-
-pub placed-requires : goal.placed-requires
-placed-requires g c j h = tabled-lt PLACES (c.args.k % 4) j (omega arith) h refl
 
 pub returns-then-k-eq0 : goal.returns-then-k-eq0
 returns-then-k-eq0 g c b w block h size key is =
