@@ -1,14 +1,13 @@
 -- Schedules whose round keys are kept as the rounds take them.
-use Rattle.std.proofs.Common.{◌≡◌, ℕ, zero, suc, ◌+◌, ◌*◌, ◌<◌, ◌≤◌, nat_eq, if◌then◌else◌, List, [], ◌++◌, length, map, take, drop, slice_index, get_or, refl, sym, ap, ap₂, ◌∙◌, arith, length-append}
+use Rattle.std.proofs.Common.{◌≡◌, ℕ, zero, suc, ◌+◌, ◌*◌, ◌<◌, ◌≤◌, List, [], length, map, drop, slice_index, get_or, refl, sym, ap, ◌∙◌, arith, length-append}
 use Rattle.std.specs.List.{range_with_len, concat}
 use Rattle.std.proofs.Math.Seq.{drop-append-add}
 use Rattle.std.proofs.lemmas.Bool.Decides.{nat_tests}
 use Rattle.std.proofs.lemmas.List.{take_at, drop_all, drop-drop, take-append-drop}
-use Rattle.mbj_types.specs.Aes.{round_key, mix_columns}
+use Rattle.mbj_types.specs.Aes.{round_key}
 use Rattle.mbj_aes.specs.BlockWords.{block_with}
-use Rattle.mbj_aes.proofs.BlockWords.{length-block_with, block_with-same, slice_index-block_with}
-use Rattle.mbj_aes_lanes.specs.Inside.Layouts.{tower_state, tower_key, last_key, inverse_key}
-use Rattle.mbj_aes_lanes.specs.Inside.LaidKeys.{schedule_with, key_of_round, laid_key, inverse_laid_key, laid_schedule}
+use Rattle.mbj_aes.proofs.BlockWords.{slice_index-block_with}
+use Rattle.mbj_aes_lanes.specs.Inside.LaidKeys.{schedule_with, key_of_round, laid_schedule}
 
 -- ---- joined round keys
 
@@ -32,10 +31,7 @@ module _ (key : ℕ → List ℕ) where
       let size : length (key s) ≡ 16 = sizes s (omega arith) in
       let behind : 16 * suc r ≡ length (key s) + 16 * r = omega arith in
       let there : s + 1 + r ≡ s + suc r = omega arith in
-      ap (λ (d : ℕ). take 16 (drop d (key s ++ joined (s + 1) m))) behind
-      ∙ ap (take 16) (drop-append-add (key s) (joined (s + 1) m) (16 * r))
-      ∙ round_key-joined (s + 1) m r (λ r h. sizes r (omega arith)) (omega arith)
-      ∙ ap key there
+      cc (drop-append-add (key s) (joined (s + 1) m) (16 * r), round_key-joined (s + 1) m r (λ r h. sizes r (omega arith)) (omega arith))
 
   joined-each : (s m : ℕ) (w : List ℕ) → length w ≡ 16 * (s + m) → ((r : ℕ) → r < m → key (s + r) ≡ round_key w (s + r))
       → joined s m ≡ drop (16 * s) w
@@ -43,15 +39,8 @@ module _ (key : ℕ → List ℕ) where
   joined-each s (suc m) w size each =
       let here : s + 0 ≡ s = omega arith in
       let behind : 16 * (s + 1) ≡ 16 * s + 16 = omega arith in
-      ap₂ (λ xs ys. xs ++ ys)
-      (ap key (sym here) ∙ each 0 (omega arith) ∙ ap (round_key w) here)
-      (joined-each (s + 1) m w (omega arith)
-      (λ r h.
-      let there : s + suc r ≡ s + 1 + r = omega arith in
-      ap key (sym there) ∙ each (suc r) (omega arith) ∙ ap (round_key w) there)
-      ∙ ap (λ (m : ℕ). drop m w) behind
-      ∙ sym (drop-drop 16 (16 * s) w))
-      ∙ take-append-drop 16 (drop (16 * s) w)
+      let rest = joined-each (s + 1) m w (omega arith) (λ r h. let there : s + suc r ≡ s + 1 + r = omega arith in cc (each (suc r) (omega arith))) in
+      cc (each 0 (omega arith), rest, drop-drop 16 (16 * s) w, take-append-drop 16 (drop (16 * s) w))
 
   module _ (n : ℕ) where
     pub length-schedule_with : ((r : ℕ) → length (key r) ≡ 16) → length (schedule_with key n) ≡ 16 * (n + 1)
@@ -94,12 +83,14 @@ module _ (laid : ℕ → ℕ → (ℕ → ℕ) → List ℕ) (n : ℕ) where
   laid-stored same r f block e = same n r (slice_index block) f (λ j h. ap (λ b. slice_index b j) e ∙ slice_index-block_with f j h)
 
   module _ (sized : (n r : ℕ) (f : ℕ → ℕ) → length (laid n r f) ≡ 16) (keys : List (List ℕ)) (w : List ℕ) where
+    abbrev kept : ℕ → List ℕ
+    kept r = laid n r (slice_index (get_or keys r []))
+
+    kept_sizes : (r : ℕ) → length (kept r) ≡ 16
+    kept_sizes r = sized n r (slice_index (get_or keys r []))
+
     pub length-laid : laid_schedule laid n keys ≡ w → length w ≡ 16 * (n + 1)
-    length-laid is =
-        sym (ap length is)
-        ∙ length-schedule_with (λ r. laid n r (slice_index (get_or keys r []))) n (λ r. sized n r (slice_index (get_or keys r [])))
+    length-laid is = sym (ap length is) ∙ length-schedule_with kept n kept_sizes
 
     pub round_key-laid : (r : ℕ) → r ≤ n → laid_schedule laid n keys ≡ w → laid n r (slice_index (get_or keys r [])) ≡ round_key w r
-    round_key-laid r h is =
-        sym (round_key-schedule_with (λ r. laid n r (slice_index (get_or keys r []))) n r (λ r. sized n r (slice_index (get_or keys r []))) h)
-        ∙ ap (λ w. round_key w r) is
+    round_key-laid r h is = sym (round_key-schedule_with kept n r kept_sizes h) ∙ ap (λ w. round_key w r) is
