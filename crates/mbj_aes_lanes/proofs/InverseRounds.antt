@@ -121,17 +121,17 @@ module _ (s nine eleven thirteen fourteen key : ℕ → ℕ)
         let n : ℕ = next_row j in
         let n2 : ℕ = next_row n in
         let n3 : ℕ = next_row n2 in
-        let d = nine_is (place r n3) (place-lt r n3) in
-        let c = thirteen_is (place r n2) (place-lt r n2) in
-        let b = eleven_is (place r n) (place-lt r n) in
-        let a = fourteen_is (place r j) (place-lt r j) in
         let k : ℕ = from_decryption (key (place r j)) in
-        ap (λ x. bit_xor (from_decryption x) SBOX_CONSTANT) (made_is j h)
-        ∙ ap (λ (x : ℕ). bit_xor x SBOX_CONSTANT)
-        (from_decryption-sum5 (nine (place r n3)) (thirteen (place r n2)) (eleven (place r n)) (fourteen (place r j)) (key (place r j))
-        (nine_small _) (thirteen_small _) (eleven_small _) (fourteen_small _) (key_small _))
-        ∙ (λ i. bit_xor (bit_xor (bit_xor (bit_xor (bit_xor (d i) (c i)) (b i)) (a i)) k) SBOX_CONSTANT)
-        ∙ in_order (box j) (box n) (box n2) (box n3) k
+        cc (
+          made_is j h,
+          from_decryption-sum5 (nine (place r n3)) (thirteen (place r n2)) (eleven (place r n)) (fourteen (place r j)) (key (place r j))
+              (nine_small _) (thirteen_small _) (eleven_small _) (fourteen_small _) (key_small _),
+          nine_is (place r n3) (place-lt r n3),
+          thirteen_is (place r n2) (place-lt r n2),
+          eleven_is (place r n) (place-lt r n),
+          fourteen_is (place r j) (place-lt r j),
+          in_order (box j) (box n) (box n2) (box n3) k,
+        )
 
     -- what INVMIXCOLUMNS makes of the key with INVMIXCOLUMNS undone
     columns_are : block_with (λ j. bit_xor (inv_mixed_of box j) (added j)) ≡ inv_mix_columns (xor_lists (inverse_state r s) (mix_columns (inverse_key r key)))

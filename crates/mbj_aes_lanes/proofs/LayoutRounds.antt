@@ -12,7 +12,7 @@ use Rattle.mbj_aes.proofs.BlockWords.{block_with-same}
 use Rattle.mbj_aes.proofs.TowerCases.{from_tower-xor}
 use Rattle.mbj_aes_lanes.specs.Inside.Layouts.{place, next_row, shifted, tower_state, tower_key, last_key, mixed_at}
 use Rattle.mbj_aes_lanes.proofs.LayoutPlaces.{place-lt, place-shifted, place-none}
-use Rattle.mbj_aes_lanes.proofs.MixedBytes.{sum6, from_tower-sum6, mixed_is}
+use Rattle.mbj_aes_lanes.proofs.MixedBytes.{from_tower-sum6, mixed_is}
 
 -- ---- the steps, byte by byte
 
@@ -73,18 +73,16 @@ module _ (r q : ℕ) (next : r ≡ q + 1) (s : ℕ → ℕ) where
           let n2 : ℕ = next_row n in
           let n3 : ℕ = next_row n2 in
           let k : ℕ = key (place r j) in
-          let hn : n < 16 = omega arith in
-          let hn2 : n2 < 16 = omega arith in
-          let hn3 : n3 < 16 = omega arith in
-          let a = twice_at j h in
-          let c = once_at n2 hn2 in
-          let b2 = twice_at n hn in
-          let d = once_at n3 hn3 in
-          let b = once_at n hn in
-          from_tower-sum6 (twice (place r j)) (once (place r n2)) k (twice (place r n)) (once (place r n3)) (once (place r n))
-          (twice_small _) (once_small _) (key_small _) (twice_small _) (once_small _) (once_small _)
-          ∙ (λ i. sum6 (a i) (c i) (from_tower k) (b2 i) (d i) (b i))
-          ∙ mixed_is (out j) (out n) (out n2) (out n3) (from_tower k) (sub_byte_small (from_tower (s (place q (shifted n)))))
+          cc (
+            from_tower-sum6 (twice (place r j)) (once (place r n2)) k (twice (place r n)) (once (place r n3)) (once (place r n))
+                (twice_small _) (once_small _) (key_small _) (twice_small _) (once_small _) (once_small _),
+            twice_at j h,
+            once_at n2 (omega arith),
+            twice_at n (omega arith),
+            once_at n3 (omega arith),
+            once_at n (omega arith),
+            mixed_is (out j) (out n) (out n2) (out n3) (from_tower k) (sub_byte_small (from_tower (s (place q (shifted n))))),
+          )
 
       pub full_round_is : (made : ℕ → ℕ)
           → ((j : ℕ) → j < 16 → made (place r j) ≡ mixed_at (λ i. once (place r i)) (λ i. twice (place r i)) (λ i. key (place r i)) j)

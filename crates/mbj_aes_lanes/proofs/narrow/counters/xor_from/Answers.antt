@@ -19,8 +19,10 @@ batches-preserved c whole walked =
     let next : ℕ = c.args.first + BATCH_BLOCKS * (c.batches.b + 1) in
     let text : List ℕ = c.xor_blocks.new.text in
     let first : (t + 0) % 2 ^ 128 ≡ t = omega arith in
-    stream_on e t (length masks) BATCH_BLOCKS (at + length masks) next text whole (omega arith) (λ h. omega arith) (λ h. omega arith) (λ h. omega arith)
-    (c.xor_blocks.ensures (stream_from e t) whole (stream_from-cons e t masks c.masks_of-masks.ensures.masks) (rw first (c.batches.invariant whole walked)))
+    stream_on e t (length masks) BATCH_BLOCKS (at + length masks) next text whole (omega arith)
+    (λ h. omega arith) (λ h. omega arith) (λ h. omega arith)
+    (c.xor_blocks.ensures (stream_from e t) whole (stream_from-cons e t masks c.masks_of-masks.ensures.masks)
+    (rw first (c.batches.invariant whole walked)))
 
 pub returns : goal.returns
 returns c whole walked =

@@ -1,4 +1,4 @@
-use Rattle.std.proofs.Common.{ℕ, ◌+◌, ◌*◌, ◌-◌, ◌%◌, ◌<◌, bit_xor, refl, sym, ap, ap₂, ◌∙◌, arith}
+use Rattle.std.proofs.Common.{ℕ, ◌+◌, ◌*◌, ◌-◌, ◌%◌, ◌<◌, bit_xor, refl, sym, ap, ap₂, ◌∙◌}
 use Rattle.mbj_aes.specs.BlockWords.{block_byte}
 use Rattle.mbj_aes.specs.Tower.{inv_sub_of}
 use Rattle.mbj_aes.proofs.BlockWords.{within}

@@ -1,5 +1,5 @@
 -- CIPHER, round by round.
-use Rattle.std.proofs.Common.{◌≡◌, ℕ, ◌+◌, ◌-◌, ◌*◌, ◌%◌, ◌<◌, bit_xor, refl, sym, ap, ap₂, ◌∙◌, arith}
+use Rattle.std.proofs.Common.{◌≡◌, ℕ, ◌+◌, ◌-◌, ◌*◌, ◌<◌, bit_xor, refl, sym, ap, ap₂, ◌∙◌, arith}
 use Rattle.mbj_types.specs.Blocks.{xor_lists}
 use Rattle.mbj_types.specs.Aes.{round_key, full_round, shift_rows, sub_bytes}
 use Rattle.mbj_aes.specs.BlockWords.{block_byte}

@@ -1,5 +1,5 @@
 -- The first two blocks go through the first register, and the next two through the second.
-use Rattle.std.proofs.Common.{ℕ, ◌+◌, ◌≤◌, [], length, refl, ap, ◌∙◌, arith}
+use Rattle.std.proofs.Common.{◌+◌, [], refl, ap, ◌∙◌, arith}
 use Rattle.mbj_aes_lanes.proofs.ListParts.{part_read, changed_further, same_further}
 use Rattle.mbj_aes_lanes.proofs.narrow.text_key.LaidKey.change_four.Goals as goal
 
