@@ -4,8 +4,8 @@ ghost use Rattle.std.specs.Prelude.{◌≡◌, ℕ, ◌<◌, [], slice_index_or}
 ghost use Rattle.sha1.specs.Sha1.{compress};
 ghost use Rattle.mbj_types.specs.declared.kind.TheConstants.{SHA1_LANES};
 
-use crate::{compress_lanes, gathered, scattered};
-use mbj_sha_lanes::Load32;
+use crate::{compress_lanes, gathered};
+use mbj_sha_lanes::{Load32, load32};
 use mbj_types::{SHA1_LANES, Sha1Word};
 
 /// Compresses each of `SHA1_LANES` blocks into the hash value of the same number.
@@ -25,7 +25,5 @@ pub fn compress(states: &mut [[u32; 5]; SHA1_LANES], blocks: &[[u8; 64]; SHA1_LA
     let mut words = Sha1Word::block_words(blocks);
     let mut lanes = gathered(states);
     compress_lanes(&mut lanes, &mut words);
-    'states: for i in 0..SHA1_LANES {
-        states[i] = scattered(&lanes, i);
-    }
+    *states = load32::scattered_all(&lanes);
 }

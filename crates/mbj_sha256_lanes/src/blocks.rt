@@ -4,8 +4,8 @@ ghost use Rattle.std.specs.Prelude.{◌≡◌, ℕ, ◌<◌, [], slice_index_or}
 ghost use Rattle.sha2.specs.Sha256.{compress};
 ghost use Rattle.mbj_types.specs.declared.kind.TheConstants.{SHA256_LANES};
 
-use crate::{ROUNDS, compress_scheduled, gathered, scattered};
-use mbj_sha_lanes::Load32;
+use crate::{ROUNDS, compress_scheduled, gathered};
+use mbj_sha_lanes::{Load32, load32};
 use mbj_types::{SHA256_LANES, Sha256Word};
 
 /// Compresses each of `SHA256_LANES` blocks into the hash value of the same number.
@@ -26,7 +26,5 @@ pub fn compress(states: &mut [[u32; 8]; SHA256_LANES], blocks: &[[u8; 64]; SHA25
     let mut schedule = [Sha256Word::splat(0); ROUNDS];
     let mut lanes = gathered(states);
     compress_scheduled(&mut lanes, &words, &mut schedule);
-    'states: for i in 0..SHA256_LANES {
-        states[i] = scattered(&lanes, i);
-    }
+    *states = load32::scattered_all(&lanes);
 }

@@ -4,8 +4,8 @@ ghost use Rattle.std.specs.Prelude.{◌≡◌, ℕ, ◌<◌, [], slice_index_or}
 ghost use Rattle.sha2.specs.Sha512.{compress};
 ghost use Rattle.mbj_types.specs.declared.kind.TheConstants.{SHA512_LANES};
 
-use crate::{ROUNDS, compress_scheduled, gathered, scattered};
-use mbj_sha_lanes::Load64;
+use crate::{ROUNDS, compress_scheduled, gathered};
+use mbj_sha_lanes::{Load64, load64};
 use mbj_types::{SHA512_LANES, Sha512Word};
 
 /// Compresses each of `SHA512_LANES` blocks into the hash value of the same number.
@@ -26,7 +26,5 @@ pub fn compress(states: &mut [[u64; 8]; SHA512_LANES], blocks: &[[u8; 128]; SHA5
     let mut schedule = [Sha512Word::splat(0); ROUNDS];
     let mut lanes = gathered(states);
     compress_scheduled(&mut lanes, &words, &mut schedule);
-    'states: for i in 0..SHA512_LANES {
-        states[i] = scattered(&lanes, i);
-    }
+    *states = load64::scattered_all(&lanes);
 }

@@ -233,3 +233,15 @@ pub fn scattered<const N: usize>(states: &[u32x16; N], i: usize) -> [u32; N]
     }
     words
 }
+
+/// The hash values of N words in all lanes.
+#[inline(always)]
+pub fn scattered_all<const N: usize>(lanes: &[u32x16; N]) -> [[u32; N]; 16]
+    ensures { (i : ℕ) → i < 16 → slice_index_or result i [] ≡ lane_of (lane_at 32) lanes.now i }
+{
+    let mut states = [[0; N]; 16];
+    'states: for i in 0..16 {
+        states[i] = scattered(lanes, i);
+    }
+    states
+}

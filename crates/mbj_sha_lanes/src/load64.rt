@@ -174,3 +174,15 @@ pub fn scattered<const N: usize>(states: &[u64x8; N], i: usize) -> [u64; N]
     }
     words
 }
+
+/// The hash values of N words in all lanes.
+#[inline(always)]
+pub fn scattered_all<const N: usize>(lanes: &[u64x8; N]) -> [[u64; N]; 8]
+    ensures { (i : ℕ) → i < 8 → slice_index_or result i [] ≡ lane_of (lane_at 64) lanes.now i }
+{
+    let mut states = [[0; N]; 8];
+    'states: for i in 0..8 {
+        states[i] = scattered(lanes, i);
+    }
+    states
+}
