@@ -3,19 +3,11 @@ ghost use Rattle.std.specs.Prelude.{◌≡◌, length};
 ghost use Rattle.mbj_types.specs.Auths.{hash_of_name};
 
 use mbj_types::{HashName, Tag};
-use sha1::Sha1;
-use sha2::{Digest, Sha224, Sha256, Sha384, Sha512};
 
 /// The digest of a text: 20, 28, 32, 48 or 64 bytes by the hash (FIPS 180-4, figure 1). It takes no memory.
 pub fn digest_of(hash: HashName, text: &[u8]) -> Tag
     ensures value { result ≡ (hash_of_name hash).digest text.now }
     ensures len { length result ≡ (hash_of_name hash).digest_bytes }
 {
-    match hash {
-        HashName::Sha1 => Tag::from_slice(&Sha1::digest(text)),
-        HashName::Sha224 => Tag::from_slice(&Sha224::digest(text)),
-        HashName::Sha256 => Tag::from_slice(&Sha256::digest(text)),
-        HashName::Sha384 => Tag::from_slice(&Sha384::digest(text)),
-        HashName::Sha512 => Tag::from_slice(&Sha512::digest(text)),
-    }
+    mbj_hmac::digest_of(hash, text, &[])
 }

@@ -5,8 +5,9 @@ use mbj_types::{HashName, Tag};
 use sha1::Sha1;
 use sha2::{Digest, Sha224, Sha256, Sha384, Sha512};
 
-/// The digest of two pieces, taken as one message (FIPS 180-4, 6). It is no longer than a block.
-pub(crate) fn digest_of(hash: HashName, first: &[u8], second: &[u8]) -> Tag
+/// The digest of two pieces, taken as one message: 20, 28, 32, 48 or 64 bytes by the hash (FIPS 180-4, 6). It is no longer than a block.
+/// It takes no memory.
+pub fn digest_of(hash: HashName, first: &[u8], second: &[u8]) -> Tag
     ensures value { result ≡ (hash_of_name hash).digest (first.now ++ second.now) }
     ensures len { length result ≡ (hash_of_name hash).digest_bytes }
     ensures fits { length result ≤ (hash_of_name hash).block_bytes }

@@ -24,6 +24,7 @@ mod stored;
 mod view;
 mod words;
 
+pub use digests::digest_of;
 pub use entry::HmacEntry;
 pub use kernel::HmacKernel;
 pub use key::{MAX_BLOCK_BYTES, pad_key};
