@@ -181,7 +181,7 @@ enum mbj_keeping {
     MBJ_KEEPS_NONE
 };
 
-/* How a manager takes memory: from a heap of mbj_heap.h, or, where that is NULL, from the one that the thread names at each call. */
+/* How a manager takes memory: from a heap of mbj_heap.h, or, if that is NULL, from the one that the thread names at each call. */
 struct mbj_options {
     const struct mbj_heap *heap;
     uint32_t keeping; /* enum mbj_keeping */

@@ -7,11 +7,12 @@
  * That a heap does what is said here is trusted: every proof about the library stands on it.
  *
  * The library asks in the thread that called it, and only within a call: mbj_c_new, mbj_c_new_keeping, mbj_c_new_keeping_none, mbj_c_fill,
- * mbj_c_fill_burst, mbj_c_submit_job, mbj_keys_new, mbj_keys_share, mbj_c_use_keys and the calls on CCM take blocks; these and every other
- * call on a manager or on keys may free some, but for mbj_c_queue_size, mbj_c_count and mbj_c_held_bytes. So two threads, each with a
- * manager of its own, ask at the same time; and a block may be freed in another thread than the one that it was asked for in, if a
- * manager was handed over, in the order that docs/C.md says, or where it is part of a set of keys that threads share, which the last of
- * them frees. A heap's functions don't call the library, and they return: no exception and no longjmp leaves them. */
+ * mbj_c_fill_burst, mbj_c_submit_job, mbj_keys_new, mbj_keys_share, mbj_c_use_keys, mbj_c_front_new, mbj_c_post, mbj_c_post_burst and the
+ * calls on CCM take blocks; these and every other call on a manager, on keys or on a seat may free some, but for mbj_c_queue_size,
+ * mbj_c_count, mbj_c_held_bytes, mbj_c_hand and mbj_c_out. So two threads, each with a manager of its own, ask at the same time; and a
+ * block may be freed in another thread than the one that it was asked for in, if a manager was handed over, in the order that docs/C.md
+ * says, or if it is part of a front, or of a set of keys that threads share, which the last of them frees. A heap's functions don't call
+ * the library, and they return: no exception and no longjmp leaves them. */
 #ifndef MBJ_HEAP_H
 #define MBJ_HEAP_H
 

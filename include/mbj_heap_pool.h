@@ -21,7 +21,7 @@ struct mbj_heap;
 struct mbj_pool;
 
 /* Makes a pool of these bytes, which are its own until no block is left in it and no thread names it; there is nothing to free then. NULL
- * where they are too few: less than 640 go for the pool itself. With overflow, what doesn't fit is taken from malloc, and returns there. */
+ * if they are too few: less than 640 go for the pool itself. With overflow, what doesn't fit is taken from malloc, and returns there. */
 struct mbj_pool *mbj_pool_make(void *at, size_t len, bool has_overflow);
 
 /* From here on each block of the pool, and of malloc, is filled with zeros as it is given back: copies of keys and packets don't outlive
@@ -31,7 +31,7 @@ void mbj_pool_wipe(struct mbj_pool *pool);
 /* The pool as a heap, for mbj_init_mgr_with. */
 const struct mbj_heap *mbj_pool_heap(struct mbj_pool *pool);
 
-/* Names the pool that this thread's next calls allocate from where their manager has no heap, and returns the one that was named before,
+/* Names the pool that this thread's next calls allocate from if their manager has no heap, and returns the one that was named before,
  * NULL if none was. If a thread names none, or NULL, malloc is asked; but in a program that mbj_heap_pool.c is compiled into, every
  * block is refused. A block that grows stays with its own pool. */
 struct mbj_pool *mbj_pool_name(struct mbj_pool *pool);

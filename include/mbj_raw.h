@@ -121,7 +121,7 @@ bool mbj_c_get_completed(struct mbj_handle *handle, struct mbj_raw_done *done, u
 MBJ_NONNULL
 bool mbj_c_flush(struct mbj_handle *handle, struct mbj_raw_done *done, uint32_t *refusal);
 
-/* Makes mbj_c_fill with the job, and, where that isn't refused, mbj_c_submit: it returns and writes what that does, and else false and the
+/* Makes mbj_c_fill with the job, and, if that isn't refused, mbj_c_submit: it returns and writes what that does, and else false and the
  * refusal of mbj_c_fill. After MBJ_ERR_NO_ROOM the job is filled and not submitted. No byte that done has room for may be one that the job
  * points to; if they meet, make the two calls. */
 MBJ_NONNULL
