@@ -62,7 +62,7 @@ fn collect_all<R: Wait>(
     Ok(results.len())
 }
 
-/// Posts a job into the cell and claims it, and before that collects all results where no cell is left. Returns how many
+/// Posts a job into the cell and claims it, and before that collects all results if no cell is left. Returns how many
 /// these are.
 fn work_one<R: Wait>(
     rt: &R,

@@ -18,7 +18,7 @@ use std::time::{Clock, Instant};
 /// The jobs of a pass.
 const JOBS: u32 = 512;
 
-/// Those of each kind where there are jobs of all.
+/// Those of each kind if there are jobs of all.
 pub const SHARE: usize = JOBS as usize / Kind::ALL.len();
 
 /// The bytes of a plain hash that are the tag: those of the shortest one.

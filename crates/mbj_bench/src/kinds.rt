@@ -27,11 +27,11 @@ pub const IV: [u8; 16] = [0x0f; 16];
 
 /// A kernel whose entries are timed beside its plain function.
 pub trait Timed: SlotKernel {
-    /// An entry over a packet, or, for CBC, over its whole blocks, where it has any, ready to join a list.
+    /// An entry over a packet, or, for CBC, over its whole blocks, if it has any, ready to join a list.
     fn entry(packet: Vec<u8>) -> Option<Self::Entry>
         ensures { IfSome result (λ e. 1 ≤ Self.rest_of e) };
 
-    /// The packet of an entry, and a byte of its result where no round is left.
+    /// The packet of an entry, and a byte of its result if no round is left.
     fn ended(entry: Self::Entry) -> (Vec<u8>, u8);
 
     /// The same by the plain function.

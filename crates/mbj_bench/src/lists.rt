@@ -23,6 +23,7 @@ pub const LENGTHS: [usize; 3] = [64, 256, MOST_BYTES];
 /// The bytes of one pass, and the passes of which the fastest counts.
 pub const PASS_BYTES: usize = 262_144;
 
+/// How many times each side of a comparison is timed; the fastest counts.
 pub const PASSES: u32 = 40;
 
 /// Entries in a list, each of which has a round left.
@@ -32,13 +33,14 @@ pub struct Filled<K: Timed> {
 }
 
 impl<K: Timed> Filled<K> {
+    /// Lanes without an entry. Returns `AllocError` if memory runs out.
     pub fn new(alloc: Global) -> Result<Filled<K>, AllocError> {
         Ok(Filled {
             lanes: Lanes::<K>::new(alloc)?,
         })
     }
 
-    /// An entry joins the list where a lane is free.
+    /// An entry joins the list if a lane is free.
     pub fn enter(&mut self, entry: Option<K::Entry>)
         requires { IfSome entry (λ e. 1 ≤ K.rest_of e) }
     {

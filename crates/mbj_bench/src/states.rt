@@ -16,7 +16,7 @@ use std::io::{self, Print};
 use std::mem;
 use std::time::{Clock, Instant};
 
-/// The entry of a packet from the states of the key, or from the key where none are given.
+/// The entry of a packet from the states of the key, or from the key if none are given.
 fn entry_of<H: TimedHash>(
     states: Option<&[u8; MAX_BLOCK_BYTES]>,
     packet: Vec<u8>,

@@ -1,4 +1,4 @@
-//! What one manager gives back where the jobs of a file are handed over in groups, as lines.
+//! What one manager gives back if the jobs of a file are handed over in groups, as lines.
 #![tactic(auto)]
 
 mod burster;

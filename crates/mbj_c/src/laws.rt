@@ -40,7 +40,7 @@ pub fn seats_collect_their_own_results_in_order()
 {}
 
 /// A law: a text whose lengths are accepted is opened exactly where it came with the tag that the standard gives it, and becomes the
-/// plaintext then; with any other tag it becomes zeros, and the answer is `WrongTag`.
+/// plaintext then; with any other tag it becomes zeros, and the call returns `WrongTag`.
 pub fn texts_are_opened_by_their_tags()
     ensures gcm { GcmOpensByTags }
     ensures ccm { CcmOpensByTags }

@@ -7,7 +7,7 @@
 //! a job, making, sharing and using key sessions, and a text by CCM take memory.
 //!
 //! A call that is refused says so and changes nothing, but for a text whose tag is wrong, which is cleared, and for a job that
-//! `mbj_c_submit_job` filled where it lacks room, which stays filled. What a call can't look at is promised by C: that pointers
+//! `mbj_c_submit_job` filled if it lacks room, which stays filled. What a call can't look at is promised by C: that pointers
 //! point to what their types say, that no two of the things that are written overlap each other or anything that is read, and
 //! that the word in a handle is null or was written by these calls.
 #![tactic(auto)]

@@ -90,7 +90,7 @@ fn most_kept(keeping: Keeping) -> usize {
     }
 }
 
-/// The job in `filled` takes the place of that in open cell `cell`, the first opened being 0, or goes behind the open ones where there are
+/// The job in `filled` takes the place of that in open cell `cell`, the first opened being 0, or goes behind the open ones if there are
 /// `cell` of them. `filled` is blank then, and keeps memory of at most `most` bytes for each field of a job.
 fn fill_cell(manager: &mut Manager, cell: u32, filled: &mut Cell, most: usize)
     requires cell { cell ≤ length manager.old.opened }
@@ -123,7 +123,7 @@ fn fill_spare(
     raw.refill(alloc, words, job)
 }
 
-/// Whether there is room for the range that a job gives back. There is where it is for the one that the job says: else its arguments are
+/// Whether there is room for the range that a job gives back. There is if it is for the one that the job says: else its arguments are
 /// checked.
 fn fits(job: &Job, out: &RawDone<'_>) -> bool
     ensures { result ≡ has_room_for (Some (given_range job.now)) out.now }
@@ -209,7 +209,7 @@ impl RangedManager {
         }
     }
 
-    /// Makes the call, where it isn't refused, and tells C of it: returns whether a result is given back, which is written then, and
+    /// Makes the call if it isn't refused, and tells C of it: returns whether a result is given back, which is written then, and
     /// writes the code.
     pub(crate) fn give(&mut self, call: Call, out: &mut RawDone<'_>, refusal: &mut u32) -> bool
         ensures state { self.new ≡ (called_in call self.old out.old).1 }
@@ -272,7 +272,7 @@ impl RangedManager {
         }
     }
 
-    /// Gives the first result back where it is finished, and writes it, with only its range of the packet. Returns whether it is.
+    /// Gives the first result back if it is finished, and writes it, with only its range of the packet. Returns whether it is.
     fn give_first(&mut self, out: &mut RawDone<'_>) -> bool
         requires room { IsTrue (has_room_for (slice_get self.old.ranges 0) out.old) }
         ensures told { IsToldAt (Ok (given_first self.old).0) result out.old out.new }
@@ -304,7 +304,7 @@ impl RangedManager {
         self.spare.clear(0);
     }
 
-    /// Whether a job is open where the call submits it.
+    /// Whether a job is open if the call submits it.
     fn has_job(&self, call: Call) -> bool
         ensures has { result ≡ has_job call self.now.manager }
         ensures job { OnTrue result (HasJob call self.now.manager) }

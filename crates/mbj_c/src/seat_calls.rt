@@ -22,7 +22,7 @@ pub(crate) fn post(alloc: Global, handle: &mut SeatHandle, raw: &RawJob<'_>) -> 
     answer
 }
 
-/// Collects the earliest result that is due, where it is there.
+/// Collects the earliest result that is due, if it is there.
 pub(crate) fn collect(
     alloc: Global,
     handle: &mut SeatHandle,
@@ -40,7 +40,7 @@ pub(crate) fn collect(
     is_given
 }
 
-/// Makes a turn. Returns how many jobs it claimed: 0, where there is no seat.
+/// Makes a turn. Returns how many jobs it claimed: 0 if there is no seat.
 pub(crate) fn turn(alloc: Global, handle: &mut SeatHandle) -> u32
     ensures claims { ClaimsIn result handle.old.seat handle.new.seat }
     ensures jobs { KeepsJobsIn handle.old.seat handle.new.seat }
@@ -66,7 +66,7 @@ pub(crate) fn settle(alloc: Global, handle: &mut SeatHandle) -> bool
     settled
 }
 
-/// How many jobs are in the hand: none, where there is no seat.
+/// How many jobs are in the hand: none if there is no seat.
 pub(crate) fn hand(alloc: Global, handle: &mut SeatHandle) -> u32
     ensures hand { result ≡ hand_in handle.old.seat }
     ensures same { handle.new.seat ≡ handle.old.seat }
@@ -81,7 +81,7 @@ pub(crate) fn hand(alloc: Global, handle: &mut SeatHandle) -> u32
     }
 }
 
-/// How many of its own jobs are out: none, where there is no seat.
+/// How many of its own jobs are out: none if there is no seat.
 pub(crate) fn out(alloc: Global, handle: &mut SeatHandle) -> u32
     ensures out { result ≡ out_in handle.old.seat }
     ensures same { handle.new.seat ≡ handle.old.seat }

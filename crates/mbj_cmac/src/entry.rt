@@ -149,7 +149,7 @@ impl<const N: usize> CmacEntry<N> {
         &self.packet[at..self.off + self.len]
     }
 
-    /// The last block closed, anew where it wasn't yet.
+    /// The last block closed, anew if it wasn't yet.
     #[inline(always)]
     fn last_block(&self) -> [u8; 16]
         ensures { result ≡ closed_block (encipher self.now.key) (last_part self.now) }

@@ -264,7 +264,7 @@ impl<H: LaneHash> HmacEntry<H> {
         (self.packet, tag)
     }
 
-    /// The block of the round after `done` others, or one of zeros where it is made in the vectors of the lanes or no round is left.
+    /// The block of the round after `done` others, or one of zeros if it is made in the vectors of the lanes or no round is left.
     #[inline(always)]
     pub(crate) fn block(&self, done: u32) -> &[u8]
         ensures block { result.now ≡ block_in H.chaining self.now done }
@@ -326,7 +326,7 @@ impl<H: LaneHash> HmacEntry<H> {
         self.inner = inner;
     }
 
-    /// The rest falls by `m`, or to 0 where fewer rounds are left.
+    /// The rest falls by `m`, or to 0 if fewer rounds are left.
     #[inline(always)]
     pub(crate) fn go_on(&mut self, m: u32)
         ensures { self.new ≡ moved m self.old }

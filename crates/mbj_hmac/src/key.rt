@@ -63,7 +63,7 @@ pub(crate) fn hash_key(hash: HashName, key: &[u8]) -> [u8; MAX_BLOCK_BYTES]
     }
 }
 
-/// The key of one block of an HMAC's hash: the key filled with zero bytes, or its digest where it is longer than
+/// The key of one block of an HMAC's hash: the key filled with zero bytes, or its digest if it is longer than
 /// the block (RFC 2104, 2). The block is the first 64 or 128 bytes, and the bytes behind it are zero.
 pub fn pad_key(auth: Auth, key: &[u8]) -> [u8; MAX_BLOCK_BYTES]
     requires { IsHmac auth }

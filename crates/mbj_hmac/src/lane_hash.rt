@@ -20,7 +20,7 @@ pub trait LaneHash {
     /// The hash values of all lanes, as vectors.
     type States: Drop;
 
-    /// Room for the schedule of a block in each lane, where it is made whole before the rounds.
+    /// Room for the schedule of a block in each lane, if it is made whole before the rounds.
     type Schedule: Drop;
 
     /// Four blocks, which an entry holds beside its packet.
@@ -135,7 +135,7 @@ pub trait LaneHash {
         ensures { (i : ℕ) → i < LANES → IsWithin half i → (a : HashName) → IsTrue (chaining.serves a) → IsDigestBits chaining a (lane_at 32 bits i)
             → lane states.new i ≡ chaining.compress (lane states.old i) (digest_block chaining a (lane inner.now i)) };
 
-    /// Compresses such a block where a lane's word of `counts` is the number `last`, and else the lane's block of those that are lent.
+    /// Compresses such a block if a lane's word of `counts` is the number `last`, and else the lane's block of those that are lent.
     fn compress_mixed<B: Blocks>(
         states: &mut Self::States,
         schedule: &mut Self::Schedule,

@@ -16,7 +16,7 @@ pub(crate) trait LaneWord: Copy {
     fn of_numbers(numbers: u32x16) -> Self
         ensures { (i : ℕ) → i < LANES → lane result i ≡ lane_at 32 numbers i };
 
-    /// The word of `same` in each lane where `x` and `y` have the same word, and else that of `other`.
+    /// The word of `same` in each lane in which `x` and `y` have the same word, and else that of `other`.
     fn where_equal(x: Self, y: Self, same: Self, other: Self) -> Self
         ensures { (i : ℕ) → i < LANES → lane result i ≡ if lane x i == lane y i then lane same i else lane other i };
 }

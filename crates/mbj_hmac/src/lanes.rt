@@ -218,7 +218,7 @@ impl<H: LaneHash> HmacLanes<H> {
     }
 }
 
-/// The rests fall by `m`, or to 0 where fewer rounds are left.
+/// The rests fall by `m`, or to 0 if fewer rounds are left.
 fn go_on<H: LaneHash>(entries: &mut [HmacEntry<H>], m: u32)
     ensures { entries.new ≡ map (moved m) entries.old }
 {

@@ -15,7 +15,7 @@ use mbj_sha_lanes::Half;
 use std::simd::u32x16;
 
 /// The hash values are led through the block that comes after `done` others of each entry. All busy lanes are in the half that is named. The
-/// blocks of inner digests are made here, and nothing is read where each lane has one.
+/// blocks of inner digests are made here, and nothing is read if each lane has one.
 #[inline(always)]
 fn pass<H: LaneHash>(
     entries: &[HmacEntry<H>],

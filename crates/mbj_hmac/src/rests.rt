@@ -143,7 +143,7 @@ fn has_busy(rests: u32x8) -> bool
     rests.simd_lt(u32x8::splat(IDLE)).any()
 }
 
-/// The half that has every busy lane, where one has.
+/// The half that has every busy lane, if one has.
 #[inline(always)]
 pub(crate) fn busy_half(rests: u32x16) -> Option<Half>
     ensures { (i : ℕ) → i < most_lanes → lane_at 32 rests i < idle → IsWithin result i }

@@ -123,7 +123,7 @@ impl Cell {
 
     /// Begins the course of the job that was filled. It takes no memory.
     ///
-    /// Returns whether the job's key is expanded for it alone: it is where the key is used and its schedule wasn't found.
+    /// Returns whether the job's key is expanded for it alone: it is if the key is used and its schedule wasn't found.
     pub(crate) fn begin(&mut self, found: Option<&Schedule>) -> bool
         requires is_open { IsOpen self.old }
         requires schedule { IfSome found (λ s. IsScheduleOf (job_in self.old).key s.now) }

@@ -166,7 +166,7 @@ impl Works {
     /// Submits the first job that was filled: it goes last among those that are submitted, and all is done that can be done without a
     /// flush. It doesn't go through the agenda, in which are only jobs that a run of lanes put there.
     ///
-    /// Returns whether its key is expanded for it alone: it is where the key is used and its schedule wasn't found.
+    /// Returns whether its key is expanded for it alone: it is if the key is used and its schedule wasn't found.
     pub(crate) fn enter(&mut self, found: Option<&Schedule>) -> bool
         requires some { 0 < length self.old.opened }
         requires idle { self.old.machine.agenda ≡ [] }

@@ -1,4 +1,4 @@
-//! One half of 16 lanes, with words of 32 bits: where only one has blocks, it is compressed by itself, at half the cost.
+//! One half of 16 lanes, with words of 32 bits: if only one has blocks, it is compressed by itself, at half the cost.
 ghost use Rattle.std.specs.Prelude.{◌≡◌, ℕ, ◌+◌, ◌<◌, length};
 ghost use Rattle.mbj_types.specs.Lanes.{lane_at, lane_of};
 ghost use Rattle.mbj_sha_lanes.specs.Halves.{first_of};

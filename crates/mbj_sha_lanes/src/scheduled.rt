@@ -1,4 +1,4 @@
-//! The compression of SHA-2 with its whole schedule made first. Where a type of lanes fills more registers than there are,
+//! The compression of SHA-2 with its whole schedule made first. If a type of lanes fills more registers than there are,
 //! that is faster than a schedule that is made as its rounds come.
 ghost use Rattle.std.specs.Prelude.{◌≡◌, ℕ, ◌+◌, ◌<◌, ◌≤◌, List, length, take};
 ghost use Rattle.mbj_types.specs.Lanes.{lane_of};

@@ -3,7 +3,8 @@ ghost use Rattle.mbj_sha_lanes.specs.Sha2.{IsSha2, Sha2Standard};
 
 use crate::words::Words;
 
-/// What the standard gives a hash of SHA-2 of its own, with words in the lanes of a type (FIPS 180-4, 4.1.2 and 4.1.3).
+/// What the standard gives a hash of SHA-2 of its own, with words in the lanes of a type (FIPS 180-4, 4.1.2, 4.2.2 and
+/// 6.2.2; 4.1.3, 4.2.3 and 6.4.2).
 pub trait Sha2<V: Copy, W: Words<V>> {
     ghost standard: { Sha2Standard };
 

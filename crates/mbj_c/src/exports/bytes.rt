@@ -5,8 +5,8 @@ ghost use Rattle.std.specs.Prelude.{◌≡◌, ◌≢◌, ◌↔◌, length, rep
 use mbj_aes::are_equal;
 
 /// Whether two tags have the same bytes: 1 exactly where they do, 0 exactly where they don't. Tags of two lengths differ. Every byte of
-/// both is looked at where their lengths are equal, and neither a branch nor an index depends on one, but for what the caller does with
-/// the answer.
+/// both is looked at if their lengths are equal, and neither a branch nor an index depends on one, but for what the caller does with
+/// the result.
 #[unsafe(no_mangle)]
 pub extern "C" fn mbj_c_is_same_tag(one: &[u8], other: &[u8]) -> u32
     ensures same { (result ≡ 1) ↔ (one.now ≡ other.now) }

@@ -28,7 +28,7 @@ pub extern "C" fn mbj_keys_new(alloc: Global, handle: &mut KeysHandle, keys: &[R
     code(key_calls::make(alloc, handle, keys))
 }
 
-/// Frees the handle's set of key sessions, and the memory of the set itself where no other handle and no manager has it. Returns
+/// Frees the handle's set of key sessions, and the memory of the set itself if no other handle and no manager has it. Returns
 /// false exactly where there is none.
 #[unsafe(no_mangle)]
 pub extern "C" fn mbj_keys_free(alloc: Global, handle: &mut KeysHandle) -> bool
@@ -55,7 +55,7 @@ pub extern "C" fn mbj_keys_share(alloc: Global, from: &mut KeysHandle, to: &mut 
 
 /// Has the manager use the set of key sessions from now on, in place of the one that it used. Each key is expanded that no manager of
 /// the set had expanded before. A job that names a session of the set and has its key as its own is submitted with that session, and
-/// takes its schedule where it needs one; no result depends on that. The manager keeps the set until it uses another one or is freed.
+/// takes its schedule if it needs one; no result depends on that. The manager keeps the set until it uses another one or is freed.
 ///
 /// Returns 0, or the code of a refusal: `NoManager` exactly where the handle has no manager; else `NoKeys` exactly where the other one
 /// has no set; else `Memory` for want of memory. A refused call changes nothing.

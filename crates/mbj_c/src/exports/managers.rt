@@ -63,7 +63,7 @@ pub extern "C" fn mbj_c_new_keeping_none(alloc: Global, handle: &mut Handle) -> 
     code(calls::make(alloc, handle, Keeping::Nothing))
 }
 
-/// How many bytes of memory the manager keeps for jobs to come: 0 where there is no manager.
+/// How many bytes of memory the manager keeps for jobs to come: 0 if there is no manager.
 #[unsafe(no_mangle)]
 pub extern "C" fn mbj_c_held_bytes(alloc: Global, handle: &mut Handle) -> usize
     ensures same { handle.new.manager ≡ handle.old.manager }
@@ -88,7 +88,7 @@ pub extern "C" fn mbj_c_free(alloc: Global, handle: &mut Handle) -> bool
     handle.take(alloc).is_some()
 }
 
-/// How many jobs are submitted and not given back, at most `CELLS` of `mbj_ring`: 0 where there is no manager.
+/// How many jobs are submitted and not given back, at most `CELLS` of `mbj_ring`: 0 if there is no manager.
 #[unsafe(no_mangle)]
 pub extern "C" fn mbj_c_queue_size(alloc: Global, handle: &mut Handle) -> u32
     ensures size { result ≡ queue_size handle.old.manager }
@@ -98,7 +98,7 @@ pub extern "C" fn mbj_c_queue_size(alloc: Global, handle: &mut Handle) -> u32
 }
 
 /// Tells what is counted of the lanes of a kind, whose code is its place in `Kind::ALL`, from 0 on. Returns false exactly
-/// where there is no manager or no such kind; `out` then stays as it was.
+/// if there is no manager or no such kind; `out` then stays as it was.
 #[unsafe(no_mangle)]
 pub extern "C" fn mbj_c_count(
     alloc: Global,

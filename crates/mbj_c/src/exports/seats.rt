@@ -53,7 +53,7 @@ pub extern "C" fn mbj_c_post(alloc: Global, handle: &mut SeatHandle, raw: &RawJo
     code(seat_calls::post(alloc, handle, raw))
 }
 
-/// Gives the result of the seat's earliest job that is out, where that is finished. It waits for nobody.
+/// Gives the result of the seat's earliest job that is out, if that is finished. It waits for nobody.
 ///
 /// Returns true exactly where it gives one, which is then written whole, with the range of its own packet; else `out` stays as it was.
 /// `refusal` is 0, or the code of a refusal: `NoSeat` exactly where there is no seat; else `NotSubmitter` exactly where it is a worker's;
@@ -72,7 +72,7 @@ pub extern "C" fn mbj_c_collect(
 }
 
 /// Hunts for jobs of all submitters and claims up to 32, which go into the seat's hand; lanes that are full run, and results that are
-/// finished are handed to their submitters. It waits for nobody. Returns how many jobs it claimed: 0 where there is no seat.
+/// finished are handed to their submitters. It waits for nobody. Returns how many jobs it claimed: 0 if there is no seat.
 #[unsafe(no_mangle)]
 pub extern "C" fn mbj_c_turn(alloc: Global, handle: &mut SeatHandle) -> u32
     ensures claims { ClaimsIn result handle.old.seat handle.new.seat }
@@ -82,7 +82,7 @@ pub extern "C" fn mbj_c_turn(alloc: Global, handle: &mut SeatHandle) -> u32
 }
 
 /// Finishes the first job in the hand, and hands its result to its submitter; lanes run for it that are not full. Returns false exactly
-/// where there is no seat or its hand is empty; nothing changes then.
+/// if there is no seat or its hand is empty; nothing changes then.
 #[unsafe(no_mangle)]
 pub extern "C" fn mbj_c_settle(alloc: Global, handle: &mut SeatHandle) -> bool
     ensures settled { IsSettled result handle.old.seat handle.new.seat }
@@ -91,7 +91,7 @@ pub extern "C" fn mbj_c_settle(alloc: Global, handle: &mut SeatHandle) -> bool
     seat_calls::settle(alloc, handle)
 }
 
-/// How many jobs are in the seat's hand, claimed and not finished, at most 512: 0 where there is no seat.
+/// How many jobs are in the seat's hand, claimed and not finished, at most 512: 0 if there is no seat.
 #[unsafe(no_mangle)]
 pub extern "C" fn mbj_c_hand(alloc: Global, handle: &mut SeatHandle) -> u32
     ensures hand { result ≡ hand_in handle.old.seat }
