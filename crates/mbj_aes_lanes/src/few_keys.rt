@@ -1,11 +1,12 @@
 //! The round keys of few lanes, for blocks side by side in registers.
-ghost use Rattle.std.specs.Prelude.{◌≡◌, ◌≢◌, ℕ, ◌+◌, ◌*◌, ◌<◌, ◌≤◌, List, [], length, take, slice_index_or};
+ghost use Rattle.std.specs.Prelude.{◌≡◌, ℕ, ◌+◌, ◌*◌, ◌<◌, ◌≤◌, List, [], slice_index_or};
 ghost use Rattle.mbj_types.specs.Blocks.{xor_lists};
 ghost use Rattle.mbj_types.specs.declared.kind.TheConstants.{AES_LANES};
 ghost use Rattle.mbj_aes.specs.Bytes.{IsRoundCount};
 ghost use Rattle.mbj_aes.specs.BlockWords.{block_at};
+ghost use Rattle.mbj_aes.specs.declared.sizes.TheConstants.{MAX_ROUND_KEYS};
 ghost use Rattle.mbj_aes_lanes.specs.KeyBytes.{IsKeyArray};
-ghost use Rattle.mbj_aes_lanes.specs.Inside.BusyKeys.{schedule_at, column, few_schedule};
+ghost use Rattle.mbj_aes_lanes.specs.Inside.BusyKeys.{schedule_at, few_schedule};
 ghost use Rattle.mbj_aes_lanes.specs.declared.few_keys.TheConstants.{FEW_LANES};
 
 use crate::blocks_cipher::BlocksCipher;
@@ -14,7 +15,7 @@ use crate::lane_blocks::LaneBlocks;
 use crate::narrow::cipher::encrypt_all;
 use crate::narrow::directions::Encryption;
 use crate::narrow::laid_keys::laid_keys;
-use crate::narrow::schedules::EachKeys;
+use crate::narrow::schedules::{EachKeys, REGISTER_BLOCKS};
 use mbj_aes::{BlockWord, MAX_ROUND_KEYS};
 use mbj_types::{AES_LANES, BLOCK_BYTES, Lane8, xor_in_place};
 use std::simd::u8x32;
@@ -22,53 +23,22 @@ use std::simd::u8x32;
 /// A run of at most this many busy lanes goes by registers of whole blocks: a quarter of all lanes.
 pub const FEW_LANES: usize = 8;
 
-// How many blocks a register has.
-const BLOCKS: usize = 2;
-
-// A round key of a lane takes its place in a row.
-#[inline(always)]
-fn put_key(row: &mut [[u8; 16]; FEW_LANES], place: usize, key: &[u8; 16])
-    requires { place < FEW_LANES }
-    ensures here { slice_index_or row.new place [] ≡ key.now }
-    ensures elsewhere { (p : ℕ) → p ≢ place → slice_index_or row.new p [] ≡ slice_index_or row.old p [] }
-{
-    row[place] = *key;
-}
-
-// The round keys of a lane take its place in each row.
-#[inline(always)]
-fn put_keys(
-    rows: &mut [[[u8; 16]; FEW_LANES]; MAX_ROUND_KEYS],
-    place: usize,
-    keys: &[[u8; 16]; MAX_ROUND_KEYS],
-)
-    requires { place < FEW_LANES }
-    ensures here { column rows.new place ≡ keys.now }
-    ensures elsewhere { (p : ℕ) → p ≢ place → column rows.new p ≡ column rows.old p }
-{
-    'rounds: for r in 0..MAX_ROUND_KEYS {
-        put_key(&mut rows[r], place, &keys[r]);
-    }
-}
-
-/// The round keys of the first `many` of these keys, of `rounds` rounds each: of each round a row with that of each key, laid out.
-pub fn rows_of(
+/// The round keys of the first `many` of these keys, of `rounds` rounds each, laid out.
+pub fn laid_keys_of(
     bytes: &[[u8; 32]; AES_LANES],
     many: usize,
     rounds: usize,
-) -> [[[u8; 16]; FEW_LANES]; MAX_ROUND_KEYS]
+) -> [[[u8; 16]; MAX_ROUND_KEYS]; FEW_LANES]
     requires few { many ≤ FEW_LANES }
     requires rounds { IsRoundCount rounds }
     requires arrays { (i : ℕ) → i < AES_LANES → IsKeyArray rounds (slice_index_or bytes.now i []) }
-    ensures size { length result ≡ MAX_ROUND_KEYS }
-    ensures schedules { (p : ℕ) → p < many → few_schedule (take (rounds + 1) result) p ≡ schedule_at rounds bytes.now p }
+    ensures { (p : ℕ) → p < many → few_schedule rounds result p ≡ schedule_at rounds bytes.now p }
 {
-    let mut rows = [[[0; BLOCK_BYTES]; FEW_LANES]; MAX_ROUND_KEYS];
+    let mut keys = [[[0; BLOCK_BYTES]; MAX_ROUND_KEYS]; FEW_LANES];
     'keys: for p in 0..many {
-        let key = schedule_of_bytes(&bytes[p], rounds);
-        put_keys(&mut rows, p, &laid_keys::<Encryption>(&key));
+        keys[p] = laid_keys::<Encryption>(&schedule_of_bytes(&bytes[p], rounds));
     }
-    rows
+    keys
 }
 
 // The block in each of the first `many` lanes is added to its chaining value.
@@ -93,7 +63,7 @@ fn load_all<const N: usize>(registers: &mut [u8x32; N], blocks: &[[u8; 16]; AES_
         ≡ slice_index_or blocks.now (2 * i + b) [] }
 {
     'registers: for i in 0..N {
-        registers[i] = u8x32::load(&blocks[BLOCKS * i..]);
+        registers[i] = u8x32::load(&blocks[REGISTER_BLOCKS * i..]);
     }
 }
 
@@ -105,16 +75,18 @@ fn store_all<const N: usize>(registers: &[u8x32; N], blocks: &mut [[u8; 16]; AES
         ≡ block_at ⟦<u8x32 as Lane8>⟧.lane (slice_index_or registers.now i d) b }
 {
     'registers: for i in 0..N {
-        registers[i].store(&mut blocks[BLOCKS * i..]);
+        registers[i].store(&mut blocks[REGISTER_BLOCKS * i..]);
     }
 }
 
-/// The round keys of the first `many` blocks of `N` registers, two in each: of each round a row with that of each block, laid out.
+/// The round keys of the first `many` blocks of `N` registers, two in each, laid out.
 #[derive(Drop)]
 pub struct FewKeys<'a, const N: usize> {
-    pub rows: &'a [[[u8; 16]; FEW_LANES]],
+    pub keys: &'a [[[u8; 16]; MAX_ROUND_KEYS]; FEW_LANES],
+    pub rounds: usize,
     pub many: usize,
-    pub ghost rounds: { 2 ≤ length rows.now },
+    pub ghost least: { 1 ≤ rounds },
+    pub ghost most: { rounds < MAX_ROUND_KEYS },
     pub ghost few: { many ≤ 2 * N },
     pub ghost registers: { 2 * N ≤ FEW_LANES },
 }
@@ -124,7 +96,7 @@ impl<const N: usize> BlocksCipher for FewKeys<'_, N> {
 
     ghost lanes_of = { λ k. k.many };
 
-    ghost schedule_of = { λ k p. few_schedule k.rows.now p };
+    ghost schedule_of = { λ k p. few_schedule k.rounds k.keys.now p };
 
     ghost chain_in = { λ chains i. slice_index_or chains i [] };
 
@@ -147,7 +119,9 @@ impl<const N: usize> BlocksCipher for FewKeys<'_, N> {
         add_blocks(chains, blocks, self.many);
         let mut registers = [<u8x32 as Lane8>::splat(0); N];
         load_all(&mut registers, chains);
-        encrypt_all(&EachKeys { keys: self.rows }, &mut registers);
+        let keys = self.keys;
+        let rounds = self.rounds;
+        encrypt_all(&EachKeys { keys, rounds }, &mut registers);
         store_all(&registers, chains);
     }
 

@@ -15,7 +15,7 @@ ghost use Rattle.mbj_aes_lanes.specs.Inside.Slots.{HaveRounds, AreKeyed};
 ghost use Rattle.mbj_aes_lanes.specs.declared.few_keys.TheConstants.{FEW_LANES};
 
 use crate::chained_entry::ChainedEntry;
-use crate::few_keys::{FEW_LANES, FewKeys, rows_of};
+use crate::few_keys::{FEW_LANES, FewKeys, laid_keys_of};
 use crate::gathering::{busy_in, gather, scatter};
 use crate::slot::{Slot, rounds_in};
 use crate::slot_keys::{expand_first, keys_in};
@@ -47,12 +47,11 @@ fn lead_few<E: ChainedEntry, S: Slot<E>>(
     ensures { (i : ℕ) → i < AES_LANES → S.in_lane slots.new i
         ≡ option_map (after (chained_once E.key_of E.block_of E.chain_of E.led E.kept) m) (S.in_lane slots.old i) }
 {
-    let rows = rows_of(bytes, many, rounds);
-    let rows = &rows[..rounds + 1];
+    let keys = &laid_keys_of(bytes, many, rounds);
     match many {
-        0..3 => lead_by::<FewKeys<1>, E, S>(slots, m, &FewKeys { rows, many }),
-        3..5 => lead_by::<FewKeys<2>, E, S>(slots, m, &FewKeys { rows, many }),
-        _ => lead_by::<FewKeys<4>, E, S>(slots, m, &FewKeys { rows, many }),
+        0..3 => lead_by::<FewKeys<1>, E, S>(slots, m, &FewKeys { keys, rounds, many }),
+        3..5 => lead_by::<FewKeys<2>, E, S>(slots, m, &FewKeys { keys, rounds, many }),
+        _ => lead_by::<FewKeys<4>, E, S>(slots, m, &FewKeys { keys, rounds, many }),
     }
 }
 

@@ -1,5 +1,5 @@
--- The keys of lanes: their bytes, and the round keys of few lanes, of each round a row with the key of each lane, laid out.
-use Rattle.std.specs.Prelude.{ℕ, ◌-◌, List, [], length, map, slice_index_or}
+-- The keys of lanes: their bytes, and the round keys of few lanes, laid out.
+use Rattle.std.specs.Prelude.{ℕ, List, [], slice_index_or}
 use Rattle.mbj_types.specs.Aes.{key_schedule}
 use Rattle.mbj_aes_lanes.specs.KeyBytes.{key_of_array}
 use Rattle.mbj_aes_lanes.specs.Inside.LaidKeys.{laid_key, laid_schedule}
@@ -8,10 +8,6 @@ use Rattle.mbj_aes_lanes.specs.Inside.LaidKeys.{laid_key, laid_schedule}
 abbrev pub schedule_at : ℕ → List (List ℕ) → ℕ → List ℕ
 schedule_at n bytes i = key_schedule (key_of_array n (slice_index_or bytes i []))
 
--- what stands at place p of each row
-abbrev pub column : List (List (List ℕ)) → ℕ → List (List ℕ)
-column rows p = map (λ row. slice_index_or row p []) rows
-
--- the schedule at place p
-abbrev pub few_schedule : List (List (List ℕ)) → ℕ → List ℕ
-few_schedule rows p = laid_schedule laid_key (length rows - 1) (column rows p)
+-- the schedule of n rounds whose laid out round keys stand at place p
+abbrev pub few_schedule : ℕ → List (List (List ℕ)) → ℕ → List ℕ
+few_schedule n keys p = laid_schedule laid_key n (slice_index_or keys p [])

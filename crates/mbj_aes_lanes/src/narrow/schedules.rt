@@ -1,11 +1,16 @@
 //! The round keys of registers side by side.
-ghost use Rattle.std.specs.Prelude.{◌≡◌, ℕ, ◌+◌, ◌-◌, ◌*◌, ◌/◌, ◌<◌, ◌≤◌, List, [], length, map, slice_index_or};
+ghost use Rattle.std.specs.Prelude.{◌≡◌, ℕ, ◌+◌, ◌-◌, ◌*◌, ◌/◌, ◌<◌, ◌≤◌, List, length};
 ghost use Rattle.mbj_types.specs.Aes.{round_key};
-ghost use Rattle.mbj_aes.specs.BlockWords.{block_byte, block_at};
-ghost use Rattle.mbj_aes_lanes.specs.Inside.LaidKeys.{laid_key, laid_schedule};
+ghost use Rattle.mbj_aes.specs.BlockWords.{block_byte};
+ghost use Rattle.mbj_aes.specs.declared.sizes.TheConstants.{MAX_ROUND_KEYS};
+ghost use Rattle.mbj_aes_lanes.specs.Inside.BusyKeys.{few_schedule};
 
 use crate::narrow::directions::{Direction, Encryption};
-use mbj_aes::BlockWord;
+use mbj_aes::{BlockWord, MAX_ROUND_KEYS};
+use std::simd::u8x32;
+
+/// The whole blocks of a register of 32 bytes.
+pub const REGISTER_BLOCKS: usize = 2;
 
 /// A schedule for each block of each register, all of as many rounds.
 pub trait Schedules<V: BlockWord, D: Direction> {
@@ -32,37 +37,30 @@ pub trait Schedules<V: BlockWord, D: Direction> {
             → D.laid (rounds_of self.now) r (block_byte V.lane result b) ≡ round_key (schedule_of self.now i b) r };
 }
 
-/// A schedule for each of `M` blocks, one after another in the registers: their laid out round keys, round by round.
+/// A schedule for each of some blocks, which stand one after another in registers, two in each: their round keys, laid out.
 #[derive(Drop)]
-pub struct EachKeys<'a, const M: usize> {
-    pub keys: &'a [[[u8; 16]; M]],
-    pub ghost least: { 2 ≤ length keys.now },
+pub struct EachKeys<'a> {
+    pub keys: &'a [[[u8; 16]; MAX_ROUND_KEYS]],
+    pub rounds: usize,
+    pub ghost least: { 1 ≤ rounds },
+    pub ghost most: { rounds < MAX_ROUND_KEYS },
 }
 
-// The keys of register `i`, of `M` blocks.
-#[inline(always)]
-fn keys_of<V: BlockWord, const M: usize>(keys: &[[u8; 16]; M], i: usize) -> V
-    requires { i < M / V.BLOCKS }
-    ensures { (b : ℕ) → b < V.BLOCKS → block_at V.lane result b ≡ slice_index_or keys.now (V.BLOCKS * i + b) [] }
-{
-    let all = &keys[..];
-    V::load(&all[V::BLOCKS as usize * i..])
-}
+impl Schedules<u8x32, Encryption> for EachKeys<'_> {
+    ghost rounds_of = { λ s. s.rounds };
 
-impl<V: BlockWord, const M: usize> Schedules<V, Encryption> for EachKeys<'_, M> {
-    ghost rounds_of = { λ s. length s.keys.now - 1 };
+    ghost count_of = { λ s. length s.keys.now / 2 };
 
-    ghost count_of = { λ s. M / V.BLOCKS };
-
-    ghost schedule_of = { λ s i b. laid_schedule laid_key (length s.keys.now - 1) (map (λ row. slice_index_or row (V.BLOCKS * i + b) []) s.keys.now) };
+    ghost schedule_of = { λ s i b. few_schedule s.rounds s.keys.now (2 * i + b) };
 
     #[inline(always)]
     fn rounds(&self) -> usize {
-        self.keys.len() - 1
+        self.rounds
     }
 
     #[inline(always)]
-    fn round_key(&self, r: usize, i: usize) -> V {
-        keys_of(&self.keys[r], i)
+    fn round_key(&self, r: usize, i: usize) -> u8x32 {
+        let first = REGISTER_BLOCKS * i;
+        u8x32::load(&[self.keys[first][r], self.keys[first + 1][r]])
     }
 }
