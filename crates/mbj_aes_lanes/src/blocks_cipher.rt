@@ -14,8 +14,8 @@ use crate::wide::rounds::encrypt;
 use crate::wide::state::{State, add_round_key};
 use mbj_types::{AES_LANES, AesWord, BLOCK_BYTES};
 
-/// CIPHER (FIPS 197, 5.1) in the first lanes, each of which has a schedule.
-pub trait BlocksCipher {
+/// CIPHER (FIPS 197, 5.1) in the first of `L` lanes, each of which has a schedule.
+pub trait BlocksCipher<const L: usize> {
     /// A chaining value in each lane.
     type Chains: Copy;
 
@@ -31,7 +31,7 @@ pub trait BlocksCipher {
     /// How many lanes have a schedule.
     fn lane_count(&self) -> usize
         ensures value { result ≡ lanes_of self.now }
-        ensures most { result ≤ AES_LANES };
+        ensures most { result ≤ L };
 
     /// These blocks as chaining values.
     fn load<B: LaneBlocks>(&self, blocks: &B) -> Self::Chains
@@ -45,11 +45,11 @@ pub trait BlocksCipher {
             ≡ encipher (schedule_of self.now i) (xor_lists (B.block_in blocks.now i) (chain_in chains.old i)) };
 
     /// The chaining values as blocks.
-    fn store(&self, chains: &Self::Chains) -> [[u8; 16]; AES_LANES]
+    fn store(&self, chains: &Self::Chains) -> [[u8; 16]; L]
         ensures { (i : ℕ) → i < lanes_of self.now → slice_index_or result i [] ≡ chain_in chains.now i };
 }
 
-impl BlocksCipher for RoundStates<'_, AesWord> {
+impl BlocksCipher<AES_LANES> for RoundStates<'_, AesWord> {
     type Chains = State<AesWord>;
 
     ghost lanes_of = { λ s. AES_LANES };

@@ -1,5 +1,5 @@
 //! The round keys of few lanes, for blocks side by side in registers.
-ghost use Rattle.std.specs.Prelude.{◌≡◌, ℕ, ◌+◌, ◌*◌, ◌<◌, ◌≤◌, List, [], slice_index_or};
+ghost use Rattle.std.specs.Prelude.{◌≡◌, ℕ, ◌+◌, ◌*◌, ◌/◌, ◌%◌, ◌<◌, ◌≤◌, List, [], slice_index_or};
 ghost use Rattle.mbj_types.specs.Blocks.{xor_lists};
 ghost use Rattle.mbj_types.specs.declared.kind.TheConstants.{AES_LANES};
 ghost use Rattle.mbj_aes.specs.Bytes.{IsRoundCount};
@@ -17,7 +17,7 @@ use crate::narrow::directions::Encryption;
 use crate::narrow::laid_keys::laid_keys;
 use crate::narrow::schedules::{EachKeys, REGISTER_BLOCKS};
 use mbj_aes::{BlockWord, MAX_ROUND_KEYS};
-use mbj_types::{AES_LANES, BLOCK_BYTES, Lane8, xor_in_place};
+use mbj_types::{AES_LANES, BLOCK_BYTES, Lane8};
 use std::simd::u8x32;
 
 /// A run of at most this many busy lanes goes by registers of whole blocks: a quarter of all lanes.
@@ -41,41 +41,27 @@ pub fn laid_keys_of(
     keys
 }
 
-// The block in each of the first `many` lanes is added to its chaining value.
+// The blocks of register `i`.
 #[inline(always)]
-fn add_blocks<B: LaneBlocks>(chains: &mut [[u8; 16]; AES_LANES], blocks: &B, many: usize)
-    requires few { many ≤ AES_LANES }
+fn blocks_of<B: LaneBlocks>(blocks: &B, i: usize) -> u8x32
+    requires register { 2 * i + 1 < AES_LANES }
     requires lanes { B.lanes_of blocks.now ≡ AES_LANES }
-    ensures { (i : ℕ) → i < many → slice_index_or chains.new i [] ≡ xor_lists (B.block_in blocks.now i) (slice_index_or chains.old i []) }
+    ensures { (b : ℕ) → b < 2 → block_at ⟦<u8x32 as Lane8>⟧.lane result b ≡ B.block_in blocks.now (2 * i + b) }
 {
-    'lanes: for i in 0..many {
-        let mut sum = blocks.block(i);
-        xor_in_place(&mut sum, &chains[i]);
-        chains[i] = sum;
-    }
+    let first = REGISTER_BLOCKS * i;
+    u8x32::load(&[blocks.block(first), blocks.block(first + 1)])
 }
 
-// Loads registers with blocks side by side.
+// The blocks of lanes are added to those of registers.
 #[inline(always)]
-fn load_all<const N: usize>(registers: &mut [u8x32; N], blocks: &[[u8; 16]; AES_LANES])
-    requires { 2 * N ≤ FEW_LANES }
+fn add_blocks<B: LaneBlocks, const N: usize>(registers: &mut [u8x32; N], blocks: &B)
+    requires registers { 2 * N ≤ AES_LANES }
+    requires lanes { B.lanes_of blocks.now ≡ AES_LANES }
     ensures { (i b : ℕ) (d : List ℕ) → i < N → b < 2 → block_at ⟦<u8x32 as Lane8>⟧.lane (slice_index_or registers.new i d) b
-        ≡ slice_index_or blocks.now (2 * i + b) [] }
+        ≡ xor_lists (B.block_in blocks.now (2 * i + b)) (block_at ⟦<u8x32 as Lane8>⟧.lane (slice_index_or registers.old i d) b) }
 {
     'registers: for i in 0..N {
-        registers[i] = u8x32::load(&blocks[REGISTER_BLOCKS * i..]);
-    }
-}
-
-// Writes their blocks.
-#[inline(always)]
-fn store_all<const N: usize>(registers: &[u8x32; N], blocks: &mut [[u8; 16]; AES_LANES])
-    requires { 2 * N ≤ FEW_LANES }
-    ensures { (i b : ℕ) (d : List ℕ) → i < N → b < 2 → slice_index_or blocks.new (2 * i + b) []
-        ≡ block_at ⟦<u8x32 as Lane8>⟧.lane (slice_index_or registers.now i d) b }
-{
-    'registers: for i in 0..N {
-        registers[i].store(&mut blocks[REGISTER_BLOCKS * i..]);
+        registers[i] = blocks_of(blocks, i).xored(registers[i]);
     }
 }
 
@@ -91,14 +77,14 @@ pub struct FewKeys<'a, const N: usize> {
     pub ghost registers: { 2 * N ≤ FEW_LANES },
 }
 
-impl<const N: usize> BlocksCipher for FewKeys<'_, N> {
-    type Chains = [[u8; 16]; AES_LANES];
+impl<const N: usize> BlocksCipher<FEW_LANES> for FewKeys<'_, N> {
+    type Chains = [u8x32; N];
 
     ghost lanes_of = { λ k. k.many };
 
     ghost schedule_of = { λ k p. few_schedule k.rounds k.keys.now p };
 
-    ghost chain_in = { λ chains i. slice_index_or chains i [] };
+    ghost chain_in = { λ chains p. block_at ⟦<u8x32 as Lane8>⟧.lane (slice_index_or chains (p / 2) []) (p % 2) };
 
     #[inline(always)]
     fn lane_count(&self) -> usize {
@@ -106,27 +92,28 @@ impl<const N: usize> BlocksCipher for FewKeys<'_, N> {
     }
 
     #[inline(always)]
-    fn load<B: LaneBlocks>(&self, blocks: &B) -> [[u8; 16]; AES_LANES] {
-        let mut chains = [[0; BLOCK_BYTES]; AES_LANES];
-        'lanes: for i in 0..self.many {
-            chains[i] = blocks.block(i);
+    fn load<B: LaneBlocks>(&self, blocks: &B) -> [u8x32; N] {
+        let mut chains = [<u8x32 as Lane8>::splat(0); N];
+        'registers: for i in 0..N {
+            chains[i] = blocks_of(blocks, i);
         }
         chains
     }
 
     #[inline(always)]
-    fn chain<B: LaneBlocks>(&self, blocks: &B, chains: &mut [[u8; 16]; AES_LANES]) {
-        add_blocks(chains, blocks, self.many);
-        let mut registers = [<u8x32 as Lane8>::splat(0); N];
-        load_all(&mut registers, chains);
+    fn chain<B: LaneBlocks>(&self, blocks: &B, chains: &mut [u8x32; N]) {
+        add_blocks(chains, blocks);
         let keys = self.keys;
         let rounds = self.rounds;
-        encrypt_all(&EachKeys { keys, rounds }, &mut registers);
-        store_all(&registers, chains);
+        encrypt_all(&EachKeys { keys, rounds }, chains);
     }
 
     #[inline(always)]
-    fn store(&self, chains: &[[u8; 16]; AES_LANES]) -> [[u8; 16]; AES_LANES] {
-        *chains
+    fn store(&self, chains: &[u8x32; N]) -> [[u8; 16]; FEW_LANES] {
+        let mut blocks = [[0; BLOCK_BYTES]; FEW_LANES];
+        'registers: for i in 0..N {
+            chains[i].store(&mut blocks[REGISTER_BLOCKS * i..]);
+        }
+        blocks
     }
 }

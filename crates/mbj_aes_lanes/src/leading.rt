@@ -49,9 +49,9 @@ fn lead_few<E: ChainedEntry, S: Slot<E>>(
 {
     let keys = &laid_keys_of(bytes, many, rounds);
     match many {
-        0..3 => lead_by::<FewKeys<1>, E, S>(slots, m, &FewKeys { keys, rounds, many }),
-        3..5 => lead_by::<FewKeys<2>, E, S>(slots, m, &FewKeys { keys, rounds, many }),
-        _ => lead_by::<FewKeys<4>, E, S>(slots, m, &FewKeys { keys, rounds, many }),
+        0..3 => lead_by::<FewKeys<1>, E, S, FEW_LANES>(slots, m, &FewKeys { keys, rounds, many }),
+        3..5 => lead_by::<FewKeys<2>, E, S, FEW_LANES>(slots, m, &FewKeys { keys, rounds, many }),
+        _ => lead_by::<FewKeys<4>, E, S, FEW_LANES>(slots, m, &FewKeys { keys, rounds, many }),
     }
 }
 
@@ -81,7 +81,7 @@ fn lead<E: ChainedEntry, S: Slot<E>>(
         } else {
             expand_first(room, words, rounds, &bytes);
             let keys = &room[..rounds + 1];
-            lead_by::<RoundStates<AesWord>, E, S>(slots, m, &RoundStates { keys });
+            lead_by::<RoundStates<AesWord>, E, S, AES_LANES>(slots, m, &RoundStates { keys });
         }
     }
 }

@@ -59,12 +59,13 @@ impl<E: ChainedEntry, S: Slot<E>> LaneBlocks for Chains<'_, E, S> {
 
 // Each entry in the first lanes is led by the chaining value of its lane.
 #[inline(always)]
-fn lead_each<E: ChainedEntry, S: Slot<E>>(
+fn lead_each<E: ChainedEntry, S: Slot<E>, const L: usize>(
     slots: &mut [S],
     lanes: usize,
-    chains: &[[u8; 16]; AES_LANES],
+    chains: &[[u8; 16]; L],
 )
-    requires few { lanes ≤ AES_LANES }
+    requires few { lanes ≤ L }
+    requires lanes { L ≤ AES_LANES }
     requires least { S.least ≤ length slots.old }
     requires most { length slots.old ≤ AES_LANES }
     requires rests { HaveRounds E.rest_of 1 (S.in_lane slots.old) }
@@ -77,12 +78,13 @@ fn lead_each<E: ChainedEntry, S: Slot<E>>(
 
 // Each entry in the first lanes keeps the chaining value of its lane.
 #[inline(always)]
-fn keep_each<E: ChainedEntry, S: Slot<E>>(
+fn keep_each<E: ChainedEntry, S: Slot<E>, const L: usize>(
     slots: &mut [S],
     lanes: usize,
-    chains: &[[u8; 16]; AES_LANES],
+    chains: &[[u8; 16]; L],
 )
-    requires few { lanes ≤ AES_LANES }
+    requires few { lanes ≤ L }
+    requires lanes { L ≤ AES_LANES }
     requires least { S.least ≤ length slots.old }
     requires most { length slots.old ≤ AES_LANES }
     ensures { AreGiven (λ i. option_map (λ e. E.kept e (slice_index_or chains.now i []))) lanes (S.in_lane slots.old) (S.in_lane slots.new) }
@@ -94,8 +96,9 @@ fn keep_each<E: ChainedEntry, S: Slot<E>>(
 
 // L of CMAC under the key of each lane: the zero block enciphered (SP 800-38B, 6.1).
 #[inline(never)]
-fn cmac_l_of<C: BlocksCipher>(cipher: &C) -> [[u8; 16]; AES_LANES]
-    ensures { (i : ℕ) → i < C.lanes_of cipher.now → i < AES_LANES → slice_index_or result i [] ≡ encipher (C.schedule_of cipher.now i) zero_block }
+fn cmac_l_of<C: BlocksCipher<L>, const L: usize>(cipher: &C) -> [[u8; 16]; L]
+    requires { L ≤ AES_LANES }
+    ensures { (i : ℕ) → i < C.lanes_of cipher.now → i < L → slice_index_or result i [] ≡ encipher (C.schedule_of cipher.now i) zero_block }
 {
     let zeros = [[0; BLOCK_BYTES]; AES_LANES];
     let blocks = Blocks { blocks: &zeros };
@@ -106,7 +109,12 @@ fn cmac_l_of<C: BlocksCipher>(cipher: &C) -> [[u8; 16]; AES_LANES]
 
 // Gives each entry L of CMAC, if one needs it before it goes on by `m` blocks.
 #[inline(always)]
-fn give_cmac_l<C: BlocksCipher, E: ChainedEntry, S: Slot<E>>(slots: &mut [S], m: u32, cipher: &C)
+fn give_cmac_l<C: BlocksCipher<L>, E: ChainedEntry, S: Slot<E>, const L: usize>(
+    slots: &mut [S],
+    m: u32,
+    cipher: &C,
+)
+    requires lanes { L ≤ AES_LANES }
     requires least { S.least ≤ length slots.old }
     requires most { length slots.old ≤ AES_LANES }
     requires keys { AreKeyed E.key_of (S.in_lane slots.old) (C.lanes_of cipher.now) (C.schedule_of cipher.now) }
@@ -124,7 +132,12 @@ fn give_cmac_l<C: BlocksCipher, E: ChainedEntry, S: Slot<E>>(slots: &mut [S], m:
 /// Leads each entry by `m` blocks, under the schedule in its lane. In each pass the next block of every entry is chained, all at once; the
 /// chaining values stand beside the entries, which keep theirs at the end.
 #[inline(never)]
-pub fn lead_by<C: BlocksCipher, E: ChainedEntry, S: Slot<E>>(slots: &mut [S], m: u32, cipher: &C)
+pub fn lead_by<C: BlocksCipher<L>, E: ChainedEntry, S: Slot<E>, const L: usize>(
+    slots: &mut [S],
+    m: u32,
+    cipher: &C,
+)
+    requires lanes { L ≤ AES_LANES }
     requires least { S.least ≤ length slots.old }
     requires most { length slots.old ≤ AES_LANES }
     requires rests { HaveRounds E.rest_of m (S.in_lane slots.old) }
@@ -133,7 +146,7 @@ pub fn lead_by<C: BlocksCipher, E: ChainedEntry, S: Slot<E>>(slots: &mut [S], m:
     ensures { (i : ℕ) → i < AES_LANES → S.in_lane slots.new i
         ≡ option_map (after (chained_once E.key_of E.block_of E.chain_of E.led E.kept) m) (S.in_lane slots.old i) }
 {
-    give_cmac_l::<C, E, S>(slots, m, cipher);
+    give_cmac_l::<C, E, S, L>(slots, m, cipher);
     let lanes = cipher.lane_count();
     let mut chains = cipher.load(&Chains::<E, S> {
         slots,
@@ -145,7 +158,7 @@ pub fn lead_by<C: BlocksCipher, E: ChainedEntry, S: Slot<E>>(slots: &mut [S], m:
             of: PhantomData,
         };
         cipher.chain(&blocks, &mut chains);
-        lead_each::<E, S>(slots, lanes, &cipher.store(&chains));
+        lead_each::<E, S, L>(slots, lanes, &cipher.store(&chains));
     }
-    keep_each::<E, S>(slots, lanes, &cipher.store(&chains));
+    keep_each::<E, S, L>(slots, lanes, &cipher.store(&chains));
 }

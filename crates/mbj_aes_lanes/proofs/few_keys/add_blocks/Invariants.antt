@@ -1,12 +1,12 @@
--- The blocks of the lanes before the next one are added.
-use Rattle.std.proofs.Common.{◌≡◌, ℕ, ◌<◌, ◌≤◌, [], length, get_or}
+-- The registers before the next one have their sums.
+use Rattle.std.proofs.Common.{◌≡◌, ℕ, ◌+◌, ◌*◌, ◌<◌}
 use Rattle.mbj_types.specs.Blocks.{xor_lists}
-use Rattle.mbj_types.specs.declared.kind.TheConstants.{AES_LANES}
+use Rattle.mbj_types.specs.Lanes.{lane_at}
+use Rattle.mbj_aes.specs.BlockWords.{block_at}
+use Rattle.mbj_aes_lanes.proofs.EachRegister.{AreDone}
 use Rattle.mbj_aes_lanes.proofs.few_keys.add_blocks.Given as goal
 
-abbrev pub invariant-lanes : goal.invariant-lanes
-invariant-lanes g l = record {
-  size : length l.chains ≡ AES_LANES;
-  added : (k : ℕ) → k < l.i → get_or l.chains k [] ≡ xor_lists (g.B.LaneBlocks.block_in l.blocks k) (get_or l.initial.chains k []);
-  left : (k : ℕ) → l.i ≤ k → get_or l.chains k [] ≡ get_or l.initial.chains k [];
-}
+abbrev pub invariant-registers : goal.invariant-registers
+invariant-registers g l =
+    AreDone (λ k old new. (b : ℕ) → b < 2
+    → block_at (lane_at 8) new b ≡ xor_lists (g.B.LaneBlocks.block_in l.blocks (2 * k + b)) (block_at (lane_at 8) old b)) l.fn.registers l.registers l.i
