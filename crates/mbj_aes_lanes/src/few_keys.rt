@@ -1,20 +1,16 @@
-//! The round keys of few lanes, for blocks side by side in registers.
+//! Few lanes, whose blocks stand side by side in registers.
 ghost use Rattle.std.specs.Prelude.{◌≡◌, ℕ, ◌+◌, ◌*◌, ◌/◌, ◌%◌, ◌<◌, ◌≤◌, List, [], slice_index_or};
 ghost use Rattle.mbj_types.specs.Blocks.{xor_lists};
 ghost use Rattle.mbj_types.specs.declared.kind.TheConstants.{AES_LANES};
-ghost use Rattle.mbj_aes.specs.Bytes.{IsRoundCount};
 ghost use Rattle.mbj_aes.specs.BlockWords.{block_at};
 ghost use Rattle.mbj_aes.specs.declared.sizes.TheConstants.{MAX_ROUND_KEYS};
-ghost use Rattle.mbj_aes_lanes.specs.KeyBytes.{IsKeyArray};
-ghost use Rattle.mbj_aes_lanes.specs.Inside.BusyKeys.{schedule_at, few_schedule};
+ghost use Rattle.mbj_aes_lanes.specs.Inside.BusyKeys.{few_schedule};
 ghost use Rattle.mbj_aes_lanes.specs.declared.few_keys.TheConstants.{FEW_LANES};
 
 use crate::blocks_cipher::BlocksCipher;
-use crate::key_bytes::schedule_of_bytes;
 use crate::lane_blocks::LaneBlocks;
 use crate::narrow::cipher::encrypt_all;
 use crate::narrow::directions::Encryption;
-use crate::narrow::laid_keys::laid_keys;
 use crate::narrow::schedules::{EachKeys, REGISTER_BLOCKS};
 use mbj_aes::{BlockWord, MAX_ROUND_KEYS};
 use mbj_types::{AES_LANES, BLOCK_BYTES, Lane8};
@@ -22,24 +18,6 @@ use std::simd::u8x32;
 
 /// A run of at most this many busy lanes goes by registers of whole blocks: a quarter of all lanes.
 pub const FEW_LANES: usize = 8;
-
-/// The round keys of the first `many` of these keys, of `rounds` rounds each, laid out.
-pub fn laid_keys_of(
-    bytes: &[[u8; 32]; AES_LANES],
-    many: usize,
-    rounds: usize,
-) -> [[[u8; 16]; MAX_ROUND_KEYS]; FEW_LANES]
-    requires few { many ≤ FEW_LANES }
-    requires rounds { IsRoundCount rounds }
-    requires arrays { (i : ℕ) → i < AES_LANES → IsKeyArray rounds (slice_index_or bytes.now i []) }
-    ensures { (p : ℕ) → p < many → few_schedule rounds result p ≡ schedule_at rounds bytes.now p }
-{
-    let mut keys = [[[0; BLOCK_BYTES]; MAX_ROUND_KEYS]; FEW_LANES];
-    'keys: for p in 0..many {
-        keys[p] = laid_keys::<Encryption>(&schedule_of_bytes(&bytes[p], rounds));
-    }
-    keys
-}
 
 // The blocks of register `i`.
 #[inline(always)]

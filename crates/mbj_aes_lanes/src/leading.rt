@@ -1,5 +1,5 @@
 //! Blocks of many entries chained side by side: few of them in registers of whole blocks, and many in all lanes, each under its own key.
-ghost use Rattle.std.specs.Prelude.{◌≡◌, ℕ, ◌<◌, ◌≤◌, All, [], length, map, slice_index_or};
+ghost use Rattle.std.specs.Prelude.{◌≡◌, ℕ, ◌<◌, ◌≤◌, All, length, map};
 ghost use Rattle.std.specs.Option.{option_map};
 ghost use Rattle.mbj_types.specs.declared.kind.TheConstants.{AES_LANES};
 ghost use Rattle.mbj_aes.specs.Bytes.{IsRoundCount};
@@ -7,18 +7,16 @@ ghost use Rattle.mbj_aes.specs.declared.sizes.TheConstants.{MAX_ROUND_KEYS};
 ghost use Rattle.mbj_aes_lanes.specs.declared.wide.words.TheConstants.{MAX_SCHEDULE_WORDS};
 ghost use Rattle.mbj_lane.specs.Rounds.{after};
 ghost use Rattle.mbj_aes_lanes.specs.ChainedEntry.{chained_once};
-ghost use Rattle.mbj_aes_lanes.specs.KeyBytes.{IsKeyArray};
 ghost use Rattle.mbj_aes_lanes.specs.Slots.{slot_at};
 ghost use Rattle.mbj_aes_lanes.specs.Inside.Busy.{AreIdleFrom};
-ghost use Rattle.mbj_aes_lanes.specs.Inside.BusyKeys.{schedule_at};
-ghost use Rattle.mbj_aes_lanes.specs.Inside.Slots.{HaveRounds, AreKeyed};
+ghost use Rattle.mbj_aes_lanes.specs.Inside.Slots.{HaveRounds};
 ghost use Rattle.mbj_aes_lanes.specs.declared.few_keys.TheConstants.{FEW_LANES};
 
 use crate::chained_entry::ChainedEntry;
-use crate::few_keys::{FEW_LANES, FewKeys, laid_keys_of};
+use crate::few_keys::{FEW_LANES, FewKeys};
 use crate::gathering::{busy_in, gather, scatter};
 use crate::slot::{Slot, rounds_in};
-use crate::slot_keys::{expand_first, keys_in};
+use crate::slot_keys::{expand_first, keys_in, laid_keys_in};
 use crate::slot_rounds::lead_by;
 use crate::wide::lane_schedules::RoundStates;
 use crate::wide::state::{State, zero_state};
@@ -26,28 +24,21 @@ use crate::wide::words::MAX_SCHEDULE_WORDS;
 use mbj_aes::MAX_ROUND_KEYS;
 use mbj_types::{AES_LANES, AesWord, Lane8};
 
-// Leads the entries by `m` blocks, which stand in the first `many` lanes and have these keys: in one register for one or two, in two for
-// three or four, else in four.
+// Leads the entries by `m` blocks, which stand in the first `many` lanes and have keys of `rounds` rounds: in one register for one or
+// two, in two for three or four, else in four.
 #[inline(always)]
-fn lead_few<E: ChainedEntry, S: Slot<E>>(
-    slots: &mut [S],
-    many: usize,
-    m: u32,
-    rounds: usize,
-    bytes: &[[u8; 32]; AES_LANES],
-)
+fn lead_few<E: ChainedEntry, S: Slot<E>>(slots: &mut [S], many: usize, m: u32, rounds: usize)
     requires lanes { S.least ≤ length slots.old }
     requires most { length slots.old ≤ AES_LANES }
     requires rests { HaveRounds E.rest_of m (S.in_lane slots.old) }
     requires few { many ≤ FEW_LANES }
     requires idle { AreIdleFrom many (S.in_lane slots.old) }
-    requires rounds { IsRoundCount rounds }
-    requires arrays { (i : ℕ) → i < AES_LANES → IsKeyArray rounds (slice_index_or bytes.now i []) }
-    requires keys { AreKeyed E.key_of (S.in_lane slots.old) AES_LANES (schedule_at rounds bytes.now) }
+    requires rounds { rounds ≡ E.key_rounds }
+    requires count { IsRoundCount rounds }
     ensures { (i : ℕ) → i < AES_LANES → S.in_lane slots.new i
         ≡ option_map (after (chained_once E.key_of E.block_of E.chain_of E.led E.kept) m) (S.in_lane slots.old i) }
 {
-    let keys = &laid_keys_of(bytes, many, rounds);
+    let keys = &laid_keys_in::<E, S>(slots, many, rounds);
     match many {
         0..3 => lead_by::<FewKeys<1>, E, S, FEW_LANES>(slots, m, &FewKeys { keys, rounds, many }),
         3..5 => lead_by::<FewKeys<2>, E, S, FEW_LANES>(slots, m, &FewKeys { keys, rounds, many }),
@@ -75,10 +66,10 @@ fn lead<E: ChainedEntry, S: Slot<E>>(
         ≡ option_map (after (chained_once E.key_of E.block_of E.chain_of E.led E.kept) m) (S.in_lane slots.old i) }
 {
     if let Some(rounds) = rounds_in::<E, S>(slots) {
-        let bytes = keys_in::<E, S>(slots);
         if many <= FEW_LANES {
-            lead_few::<E, S>(slots, many, m, rounds, &bytes);
+            lead_few::<E, S>(slots, many, m, rounds);
         } else {
+            let bytes = keys_in::<E, S>(slots);
             expand_first(room, words, rounds, &bytes);
             let keys = &room[..rounds + 1];
             lead_by::<RoundStates<AesWord>, E, S, AES_LANES>(slots, m, &RoundStates { keys });

@@ -1,20 +1,26 @@
-//! The round keys of entries, made anew in all lanes in each run.
+//! The round keys of entries, made anew in each run.
 ghost use Rattle.std.specs.Prelude.{◌≡◌, ℕ, ◌+◌, ◌<◌, ◌≤◌, [], length, take, slice_index_or};
 ghost use Rattle.mbj_types.specs.Aes.{key_schedule};
 ghost use Rattle.mbj_types.specs.Lanes.{lane_at};
 ghost use Rattle.mbj_types.specs.declared.kind.TheConstants.{AES_LANES};
 ghost use Rattle.mbj_aes.specs.Bytes.{IsRoundCount};
+ghost use Rattle.mbj_aes_lanes.specs.declared.few_keys.TheConstants.{FEW_LANES};
 ghost use Rattle.mbj_aes_lanes.specs.declared.wide.words.TheConstants.{MAX_SCHEDULE_WORDS};
 ghost use Rattle.mbj_aes_lanes.specs.KeyBytes.{IsKeyArray, key_of_array};
+ghost use Rattle.mbj_aes_lanes.specs.Inside.BusyKeys.{few_schedule};
 ghost use Rattle.mbj_aes_lanes.specs.Inside.WideKeys.{schedule_in};
-ghost use Rattle.mbj_aes_lanes.specs.Inside.Slots.{IsKeyOf};
+ghost use Rattle.mbj_aes_lanes.specs.Inside.Slots.{IsKeyOf, AreKeyed};
 
 use crate::chained_entry::ChainedEntry;
+use crate::few_keys::FEW_LANES;
+use crate::key_bytes::schedule_of_bytes;
+use crate::narrow::directions::Encryption;
+use crate::narrow::laid_keys::laid_keys;
 use crate::slot::Slot;
 use crate::wide::schedules::expand_keys;
 use crate::wide::state::State;
-use mbj_aes::MAX_KEY_BYTES;
-use mbj_types::{AES_LANES, AesWord};
+use mbj_aes::{MAX_KEY_BYTES, MAX_ROUND_KEYS};
+use mbj_types::{AES_LANES, AesWord, BLOCK_BYTES};
 
 // The bytes of the key of a lane's entry. An idle lane has a key of zeros.
 #[inline(always)]
@@ -30,6 +36,28 @@ fn key_in<E: ChainedEntry, S: Slot<E>>(slots: &[S], lane: usize) -> [u8; 32]
         Some(entry) => *entry.key_bytes(),
         None => [0; MAX_KEY_BYTES],
     }
+}
+
+/// The round keys of the entries in the first `many` lanes, of `rounds` rounds each, laid out.
+#[inline(always)]
+pub fn laid_keys_in<E: ChainedEntry, S: Slot<E>>(
+    slots: &[S],
+    many: usize,
+    rounds: usize,
+) -> [[[u8; 16]; MAX_ROUND_KEYS]; FEW_LANES]
+    requires few { many ≤ FEW_LANES }
+    requires lanes { S.least ≤ length slots.now }
+    requires most { length slots.now ≤ AES_LANES }
+    requires rounds { rounds ≡ E.key_rounds }
+    requires count { IsRoundCount rounds }
+    ensures { AreKeyed E.key_of (S.in_lane slots.now) many (few_schedule rounds result) }
+{
+    let mut keys = [[[0; BLOCK_BYTES]; MAX_ROUND_KEYS]; FEW_LANES];
+    'lanes: for i in 0..many {
+        let bytes = key_in::<E, S>(slots, i);
+        keys[i] = laid_keys::<Encryption>(&schedule_of_bytes(&bytes, rounds));
+    }
+    keys
 }
 
 /// The bytes of the key in each lane.
