@@ -142,14 +142,15 @@ pub fn chain_in<E: ChainedEntry, S: Slot<E>>(slots: &[S], lane: usize) -> [u8; 1
     }
 }
 
-/// Whether an entry needs L of CMAC, before it goes on by `m` blocks.
+/// Whether an entry in the first `lanes` needs L of CMAC, before it goes on by `m` blocks.
 #[inline(always)]
-pub fn is_cmac_l_needed<E: ChainedEntry, S: Slot<E>>(slots: &[S], m: u32) -> bool
+pub fn is_cmac_l_needed<E: ChainedEntry, S: Slot<E>>(slots: &[S], lanes: usize, m: u32) -> bool
+    requires few { lanes ≤ AES_LANES }
     requires lanes { S.least ≤ length slots.now }
     requires most { length slots.now ≤ AES_LANES }
 {
     let mut is_wanted = false;
-    'lanes: for i in 0..AES_LANES {
+    'lanes: for i in 0..lanes {
         if let Some(entry) = S::entry(slots, i) {
             is_wanted |= entry.needs_cmac_l(m);
         }

@@ -120,11 +120,12 @@ fn give_cmac_l<C: BlocksCipher<L>, E: ChainedEntry, S: Slot<E>, const L: usize>(
     requires keys { AreKeyed E.key_of (S.in_lane slots.old) (C.lanes_of cipher.now) (C.schedule_of cipher.now) }
     ensures { slots.new ≡ slots.old }
 {
-    if !is_cmac_l_needed::<E, S>(slots, m) {
+    let lanes = cipher.lane_count();
+    if !is_cmac_l_needed::<E, S>(slots, lanes, m) {
         return;
     }
     let values = cmac_l_of(cipher);
-    'lanes: for i in 0..cipher.lane_count() {
+    'lanes: for i in 0..lanes {
         S::set_cmac_l(slots, i, &values[i]);
     }
 }
