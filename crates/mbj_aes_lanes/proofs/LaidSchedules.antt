@@ -43,15 +43,15 @@ module _ (key : ℕ → List ℕ) where
       cc (each 0 (omega arith), rest, drop-drop 16 (16 * s) w, take-append-drop 16 (drop (16 * s) w))
 
   module _ (n : ℕ) where
-    pub length-schedule_with : ((r : ℕ) → length (key r) ≡ 16) → length (schedule_with key n) ≡ 16 * (n + 1)
+    pub length-schedule_with : ((r : ℕ) → r ≤ n → length (key r) ≡ 16) → length (schedule_with key n) ≡ 16 * (n + 1)
     unfolding schedule_with
-    length-schedule_with sizes = length-joined 0 (n + 1) (λ r h. sizes r)
+    length-schedule_with sizes = length-joined 0 (n + 1) (λ r h. sizes r (omega arith))
 
-    pub round_key-schedule_with : (r : ℕ) → ((r : ℕ) → length (key r) ≡ 16) → r ≤ n → round_key (schedule_with key n) r ≡ key r
+    pub round_key-schedule_with : (r : ℕ) → ((r : ℕ) → r ≤ n → length (key r) ≡ 16) → r ≤ n → round_key (schedule_with key n) r ≡ key r
     unfolding schedule_with
     round_key-schedule_with r sizes h =
         let here : 0 + r ≡ r = omega arith in
-        round_key-joined 0 (n + 1) r (λ r h. sizes r) (omega arith) ∙ ap key here
+        round_key-joined 0 (n + 1) r (λ r h. sizes r (omega arith)) (omega arith) ∙ ap key here
 
     -- the schedule that has these round keys
     pub schedule_with-each : (w : List ℕ) → length w ≡ 16 * (n + 1) → ((r : ℕ) → r ≤ n → key r ≡ round_key w r) → schedule_with key n ≡ w
@@ -86,8 +86,8 @@ module _ (laid : ℕ → ℕ → (ℕ → ℕ) → List ℕ) (n : ℕ) where
     abbrev kept : ℕ → List ℕ
     kept r = laid n r (slice_index (get_or keys r []))
 
-    kept_sizes : (r : ℕ) → length (kept r) ≡ 16
-    kept_sizes r = sized n r (slice_index (get_or keys r []))
+    kept_sizes : (r : ℕ) → r ≤ n → length (kept r) ≡ 16
+    kept_sizes r h = sized n r (slice_index (get_or keys r []))
 
     pub length-laid : laid_schedule laid n keys ≡ w → length w ≡ 16 * (n + 1)
     length-laid is = sym (ap length is) ∙ length-schedule_with kept n kept_sizes

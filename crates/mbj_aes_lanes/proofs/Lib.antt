@@ -5,6 +5,7 @@ pub mod FullLanes
 pub mod SlotFacts
 pub mod TowerWords
 mod WideColumns
+pub mod LaidOut
 pub mod WideKeys
 pub mod WideWords
 pub mod GivenSlots

@@ -41,3 +41,6 @@ constant-added-in-tower lane s constant i e =
 
 pub length-tower_lane : {V : Type 0} (lane : V → ℕ → ℕ) (words : List V) (i : ℕ) → length (tower_lane lane words i) ≡ length words
 length-tower_lane lane words i = length-map (lane_of lane words i) from_tower ∙ length-map words (λ v. lane v i)
+
+pub tower_lane-take : {V : Type 0} (lane : V → ℕ → ℕ) (n : ℕ) (words : List V) (i : ℕ) → tower_lane lane (take n words) i ≡ take n (tower_lane lane words i)
+tower_lane-take lane n words i = ap (map from_tower) (sym (take-map (λ v. lane v i) n words)) ∙ sym (take-map from_tower n (lane_of lane words i))

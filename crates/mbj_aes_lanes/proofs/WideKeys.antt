@@ -1,9 +1,11 @@
 -- Round keys of wide states, as parts of the schedule in a lane.
-use Rattle.std.proofs.Common.{◌≡◌, ◌≢◌, ℕ, nat_eq, Bool, true, false, if◌then◌else◌, ◌*◌, ◌^◌, ◌<◌, List, [], ◌∷◌, length, replicate, get_or, map, refl, sym, ap, ap₂, ◌∙◌, arith, eq-eqb}
+use Rattle.std.proofs.Common.{◌≡◌, ◌≢◌, ℕ, nat_eq, Bool, true, false, if◌then◌else◌, ◌+◌, ◌-◌, ◌*◌, ◌/◌, ◌^◌, ◌<◌, ◌≤◌, List, [], ◌∷◌, length, replicate, map, drop, refl, sym, ap, ap₂, ◌∙◌, arith, eq-eqb, length-drop}
 use Rattle.std.proofs.lemmas.Bool.{ne_eqb}
-use Rattle.std.proofs.lemmas.List.{take_all, get_or_default}
+use Rattle.std.proofs.lemmas.List.{length-map, length-take-le}
 use Rattle.mbj_types.specs.Aes.{round_key}
 use Rattle.mbj_types.specs.Blocks.{xor_lists}
+use Rattle.mbj_types.specs.Lanes.{lane_of}
+use Rattle.mbj_types.proofs.LaneLists.{length-lane_of}
 use Rattle.mbj_aes.specs.declared.tables.TheConstants.{SBOX_CONSTANT}
 use Rattle.mbj_aes.specs.Tower.{from_tower}
 use Rattle.mbj_aes.proofs.Sums.{xor_twice}
@@ -11,7 +13,7 @@ use Rattle.mbj_aes.proofs.TowerCases.{from_tower-xor}
 use Rattle.mbj_aes_lanes.proofs.LaidSchedules.{length-schedule_with, round_key-schedule_with, schedule_with-each}
 use Rattle.mbj_aes_lanes.specs.declared.wide.state.State.{State}
 use Rattle.mbj_aes_lanes.specs.Inside.Wide.{state_lane, tower_block}
-use Rattle.mbj_aes_lanes.specs.Inside.WideKeys.{with_constant, key_in, schedule_in}
+use Rattle.mbj_aes_lanes.specs.Inside.WideKeys.{with_constant, key_from, key_in, schedule_in}
 
 -- the constant that is added twice is gone
 pub with_constant-twice : (b : List ℕ) → with_constant (with_constant b) ≡ b
@@ -56,39 +58,46 @@ module _ {V : Type 0} (lane : V → ℕ → ℕ) (n r : ℕ) (key : State V) (i 
   unfolding key_in
   key_in-last later e = rw (ne_eqb r 0 later, eq-eqb r n e) refl
 
-  pub length-key_in : length (key_in lane n r key i) ≡ 16
-  unfolding key_in state_lane
-  length-key_in = sized (nat_eq r 0) (nat_eq r n)
-    where
-      sized : (first last : Bool) → length (if first then tower_block lane key i
-          else with_constant (if last then state_lane lane key i else tower_block lane key i)) ≡ 16
-      sized true last = refl
-      sized false true = refl
-      sized false false = refl
+length-key_from : (n r : ℕ) (b : List ℕ) → length b ≡ 16 → length (key_from n r b) ≡ 16
+length-key_from n r b size = sized (nat_eq r 0) (nat_eq r n)
+  where
+    plain : length (map from_tower b) ≡ 16
+    plain = length-map b from_tower ∙ size
+
+    sized : (first last : Bool) → length (if first then map from_tower b else with_constant (if last then b else map from_tower b)) ≡ 16
+    sized true last = plain
+    sized false true = length-map b _ ∙ size
+    sized false false = length-map (map from_tower b) _ ∙ plain
 
 -- ---- schedules
 
-module _ {V : Type 0} (lane : V → ℕ → ℕ) (n : ℕ) where
-  -- round key r of a schedule is that of state r
-  pub round_key-schedule_in : (keys : List (State V)) (i r : ℕ) (key : State V) → r < length keys → key ≡ get_or keys r key
-      → round_key (schedule_in lane n keys i) r ≡ key_in lane n r key i
-  unfolding schedule_in
-  round_key-schedule_in [] i r key h e = absurd (omega arith)
-  round_key-schedule_in (k ∷ keys) i r key h e =
-      round_key-schedule_with (λ r. key_in lane n r (get_or (k ∷ keys) r k) i) (length keys) r (λ r. length-key_in lane n r _ i) (omega arith)
-      ∙ ap (λ s. key_in lane n r s i) (get_or_default (k ∷ keys) r k key h ∙ sym e)
+pub length-round_key : (b : List ℕ) (r : ℕ) → 16 * r + 16 ≤ length b → length (round_key b r) ≡ 16
+length-round_key b r h = length-take-le 16 (drop (16 * r) b) (omega (arith, length-drop (16 * r) b))
 
-  pub length-schedule_in : (keys : List (State V)) (i : ℕ) → length (schedule_in lane n keys i) ≡ 16 * length keys
+module _ {V : Type 0} (lane : V → ℕ → ℕ) (words : List V) (i n : ℕ) (whole : length words ≡ 16 * (n + 1)) where
+  rounds : length words / 16 - 1 ≡ n
+  rounds = omega arith
+
+  sizes : (r : ℕ) → r ≤ n → length (key_from n r (round_key (lane_of lane words i) r)) ≡ 16
+  sizes r h = length-key_from n r _ (length-round_key (lane_of lane words i) r (omega (arith, length-lane_of lane words i)))
+
+  -- round key r of the schedule
+  pub round_key-schedule_in : (r : ℕ) → r ≤ n → round_key (schedule_in lane words i) r ≡ key_from n r (round_key (lane_of lane words i) r)
   unfolding schedule_in
-  length-schedule_in [] i = refl
-  length-schedule_in (k ∷ keys) i =
-      length-schedule_with (λ r. key_in lane n r (get_or (k ∷ keys) r k) i) (length keys) (λ r. length-key_in lane n r _ i) ∙ omega arith
+  round_key-schedule_in r h = rw rounds (round_key-schedule_with (λ r. key_from n r (round_key (lane_of lane words i) r)) n r sizes h)
+
+  pub length-schedule_in : length (schedule_in lane words i) ≡ 16 * (n + 1)
+  unfolding schedule_in
+  length-schedule_in = rw rounds (length-schedule_with (λ r. key_from n r (round_key (lane_of lane words i) r)) n sizes)
 
   -- the schedule whose round keys they are
-  pub schedule_in-each : (keys : List (State V)) (i : ℕ) (w : List ℕ) → length w ≡ 16 * length keys
-      → ((r : ℕ) (key : State V) → r < length keys → key_in lane n r (get_or keys r key) i ≡ round_key w r)
-      → schedule_in lane n keys i ≡ w
+  pub schedule_in-each : (w : List ℕ) → length w ≡ 16 * (n + 1)
+      → ((r : ℕ) → r ≤ n → key_from n r (round_key (lane_of lane words i) r) ≡ round_key w r) → schedule_in lane words i ≡ w
   unfolding schedule_in
-  schedule_in-each [] i w size each = take_all 0 w (omega arith)
-  schedule_in-each (k ∷ keys) i w size each =
-      schedule_with-each (λ r. key_in lane n r (get_or (k ∷ keys) r k) i) (length keys) w (omega arith) (λ r h. each r k (omega arith))
+  schedule_in-each w size each = rw rounds (schedule_with-each (λ r. key_from n r (round_key (lane_of lane words i) r)) n w size each)
+
+  -- the round key that a state of the lane words is
+  pub key_in-laid : (key : State V) (r : ℕ) → r ≤ n → state_lane lane key i ≡ round_key (lane_of lane words i) r
+      → key_in lane n r key i ≡ round_key (schedule_in lane words i) r
+  unfolding key_in
+  key_in-laid key r h e = ap (key_from n r) e ∙ sym (round_key-schedule_in r h)

@@ -1,7 +1,7 @@
 -- The words of schedules in lanes, read and written.
 use Rattle.std.proofs.Common.{◌≡◌, ℕ, ◌+◌, ◌-◌, ◌*◌, ◌/◌, ◌<◌, ◌≤◌, List, [], ◌∷◌, ◌++◌, length, map, take, drop, slice_index, slice_set, refl, sym, ap, ap₂, ◌∙◌, arith, append_assoc, length-drop}
 use borrow.Rule.Slice.PartMut.{put_mid}
-use Rattle.std.proofs.lemmas.List.{get_or-drop, get_or-take, length-take-le, map-append, take-map, drop-map, drop-drop, drop-take, take-take, take_at, take_all, take-append-drop, take-append-le}
+use Rattle.std.proofs.lemmas.List.{get_or-drop, get_or-take, length-take-le, map-append, take-map, drop-map, drop-drop, take_at, take_all, take-append-drop, take-append-le}
 use Rattle.std.proofs.lemmas.List.Elements.{All-take}
 use Rattle.std.proofs.Math.Seq.{take-add, drop-append-add}
 use Rattle.mbj_types.specs.Aes.{word, schedule, key_schedule, round_key}
@@ -95,14 +95,6 @@ key_schedule-words nk key size =
     let words : length key / 4 ≡ nk = omega arith in
     let count : 4 * (nk + 7) ≡ 4 * (nk + 6 + 1) = omega arith in
     rw (words, count) refl
-
--- a round key of the first of some
-pub round_key-take : (m r : ℕ) (ys : List ℕ) → r < m → round_key (take (16 * m) ys) r ≡ take 16 (drop (16 * r) ys)
-round_key-take m r ys lt =
-    let whole : 16 * m ≡ 16 * r + (16 * (m - r)) = omega arith in
-    ap (λ n. take 16 (drop (16 * r) (take n ys))) whole
-    ∙ ap (take 16) (drop-take (16 * r) (16 * (m - r)) ys)
-    ∙ take-take 16 (16 * (m - r)) (drop (16 * r) ys) (omega arith)
 
 -- 16 words are one round key
 pub round_key-whole : {V : Type 0} (lane : V → ℕ → ℕ) (words : List V) (i : ℕ) → length words ≡ 16

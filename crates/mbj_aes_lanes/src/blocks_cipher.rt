@@ -1,5 +1,5 @@
 //! Blocks that are chained side by side, each under a schedule of its own.
-ghost use Rattle.std.specs.Prelude.{◌≡◌, ℕ, ◌-◌, ◌<◌, ◌≤◌, List, [], length, slice_index_or};
+ghost use Rattle.std.specs.Prelude.{◌≡◌, ℕ, ◌<◌, ◌≤◌, List, [], slice_index_or};
 ghost use Rattle.mbj_types.specs.Aes.{encipher};
 ghost use Rattle.mbj_types.specs.Blocks.{xor_lists};
 ghost use Rattle.mbj_types.specs.Lanes.{lane_at};
@@ -9,7 +9,7 @@ ghost use Rattle.mbj_aes_lanes.specs.Inside.WideKeys.{schedule_in};
 
 use crate::blocks::{load_state, store_state};
 use crate::lane_blocks::LaneBlocks;
-use crate::wide::lane_schedules::RoundStates;
+use crate::wide::lane_schedules::RoundKeys;
 use crate::wide::rounds::encrypt;
 use crate::wide::state::{State, add_round_key};
 use mbj_types::{AES_LANES, AesWord, BLOCK_BYTES};
@@ -49,12 +49,12 @@ pub trait BlocksCipher<const L: usize> {
         ensures { (i : ℕ) → i < lanes_of self.now → slice_index_or result i [] ≡ chain_in chains.now i };
 }
 
-impl BlocksCipher<AES_LANES> for RoundStates<'_, AesWord> {
+impl BlocksCipher<AES_LANES> for RoundKeys<'_, AesWord> {
     type Chains = State<AesWord>;
 
     ghost lanes_of = { λ s. AES_LANES };
 
-    ghost schedule_of = { λ s i. schedule_in (lane_at 8) (length s.keys.now - 1) s.keys.now i };
+    ghost schedule_of = { λ s i. schedule_in (lane_at 8) s.words.now i };
 
     ghost chain_in = { state_lane (lane_at 8) };
 

@@ -3,7 +3,6 @@ ghost use Rattle.std.specs.Prelude.{◌≡◌, ℕ, ◌<◌, ◌≤◌, All, len
 ghost use Rattle.std.specs.Option.{option_map};
 ghost use Rattle.mbj_types.specs.declared.kind.TheConstants.{AES_LANES};
 ghost use Rattle.mbj_aes.specs.Bytes.{IsRoundCount};
-ghost use Rattle.mbj_aes.specs.declared.sizes.TheConstants.{MAX_ROUND_KEYS};
 ghost use Rattle.mbj_aes_lanes.specs.declared.wide.words.TheConstants.{MAX_SCHEDULE_WORDS};
 ghost use Rattle.mbj_lane.specs.Rounds.{after};
 ghost use Rattle.mbj_aes_lanes.specs.ChainedEntry.{chained_once};
@@ -18,11 +17,9 @@ use crate::gathering::{busy_in, gather, scatter};
 use crate::slot::{Slot, rounds_in};
 use crate::slot_keys::{expand_first, keys_in, laid_keys_in};
 use crate::slot_rounds::lead_by;
-use crate::wide::lane_schedules::RoundStates;
-use crate::wide::state::{State, zero_state};
+use crate::wide::lane_schedules::RoundKeys;
 use crate::wide::words::MAX_SCHEDULE_WORDS;
-use mbj_aes::MAX_ROUND_KEYS;
-use mbj_types::{AES_LANES, AesWord, Lane8};
+use mbj_types::{AES_LANES, AesWord, BLOCK_BYTES, Lane8};
 
 // Leads the entries by `m` blocks, which stand in the first `many` lanes and have keys of `rounds` rounds: in one register for one or
 // two, in two for three or four, else in four.
@@ -46,21 +43,14 @@ fn lead_few<E: ChainedEntry, S: Slot<E>>(slots: &mut [S], many: usize, m: u32, r
     }
 }
 
-// Leads each entry by `m` blocks, which it has left. The entries stand in the first `many` lanes. A run over many lanes takes `room` for
-// the round keys of all lanes, and `words` for the schedules from which they are made.
+// Leads each entry by `m` blocks, which it has left. The entries stand in the first `many` lanes. A run over many lanes takes `words` for
+// the round keys of all lanes.
 #[inline(always)]
-fn lead<E: ChainedEntry, S: Slot<E>>(
-    slots: &mut [S],
-    many: usize,
-    m: u32,
-    room: &mut [State<AesWord>],
-    words: &mut [AesWord],
-)
+fn lead<E: ChainedEntry, S: Slot<E>>(slots: &mut [S], many: usize, m: u32, words: &mut [AesWord])
     requires lanes { S.least ≤ length slots.old }
     requires most { length slots.old ≤ AES_LANES }
     requires idle { AreIdleFrom many (S.in_lane slots.old) }
     requires rests { HaveRounds E.rest_of m (S.in_lane slots.old) }
-    requires room { length room.old ≡ MAX_ROUND_KEYS }
     requires words { length words.old ≡ MAX_SCHEDULE_WORDS }
     ensures { (i : ℕ) → i < AES_LANES → S.in_lane slots.new i
         ≡ option_map (after (chained_once E.key_of E.block_of E.chain_of E.led E.kept) m) (S.in_lane slots.old i) }
@@ -70,34 +60,28 @@ fn lead<E: ChainedEntry, S: Slot<E>>(
             lead_few::<E, S>(slots, many, m, rounds);
         } else {
             let bytes = keys_in::<E, S>(slots);
-            expand_first(room, words, rounds, &bytes);
-            let keys = &room[..rounds + 1];
-            lead_by::<RoundStates<AesWord>, E, S, AES_LANES>(slots, m, &RoundStates { keys });
+            expand_first(words, rounds, &bytes);
+            let words = &words[..BLOCK_BYTES * (rounds + 1)];
+            lead_by::<RoundKeys<AesWord>, E, S, AES_LANES>(slots, m, &RoundKeys { words });
         }
     }
 }
 
 /// Leads the entry of each slot by `m` blocks, which it has left. Few entries stand in the first slots meanwhile.
 #[inline(always)]
-pub fn lead_slots<E: ChainedEntry>(
-    slots: &mut [Option<E>],
-    m: u32,
-    room: &mut [State<AesWord>],
-    words: &mut [AesWord],
-)
+pub fn lead_slots<E: ChainedEntry>(slots: &mut [Option<E>], m: u32, words: &mut [AesWord])
     requires size { length slots.old ≡ AES_LANES }
     requires rests { HaveRounds E.rest_of m (slot_at slots.old) }
-    requires room { length room.old ≡ MAX_ROUND_KEYS }
     requires words { length words.old ≡ MAX_SCHEDULE_WORDS }
     ensures { (i : ℕ) → i < AES_LANES → slot_at slots.new i
         ≡ option_map (after (chained_once E.key_of E.block_of E.chain_of E.led E.kept) m) (slot_at slots.old i) }
 {
     if busy_in(slots) <= FEW_LANES {
         let origins = gather(slots);
-        lead::<E, Option<E>>(slots, origins.many, m, room, words);
+        lead::<E, Option<E>>(slots, origins.many, m, words);
         scatter(slots, &origins);
     } else {
-        lead::<E, Option<E>>(slots, AES_LANES, m, room, words);
+        lead::<E, Option<E>>(slots, AES_LANES, m, words);
     }
 }
 
@@ -108,7 +92,6 @@ pub fn lead_all<E: ChainedEntry>(entries: &mut [E], m: u32)
     requires rests { All (λ e. m ≤ E.rest_of e) entries.old }
     ensures { entries.new ≡ map (after (chained_once E.key_of E.block_of E.chain_of E.led E.kept) m) entries.old }
 {
-    let mut room = [zero_state(); MAX_ROUND_KEYS];
     let mut words = [<AesWord as Lane8>::splat(0); MAX_SCHEDULE_WORDS];
-    lead::<E, E>(entries, entries.len(), m, &mut room, &mut words);
+    lead::<E, E>(entries, entries.len(), m, &mut words);
 }

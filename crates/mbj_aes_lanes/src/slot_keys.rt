@@ -1,5 +1,5 @@
 //! The round keys of entries, made anew in each run.
-ghost use Rattle.std.specs.Prelude.{◌≡◌, ℕ, ◌+◌, ◌<◌, ◌≤◌, [], length, take, slice_index_or};
+ghost use Rattle.std.specs.Prelude.{◌≡◌, ℕ, ◌+◌, ◌*◌, ◌<◌, ◌≤◌, [], length, take, slice_index_or};
 ghost use Rattle.mbj_types.specs.Aes.{key_schedule};
 ghost use Rattle.mbj_types.specs.Lanes.{lane_at};
 ghost use Rattle.mbj_types.specs.declared.kind.TheConstants.{AES_LANES};
@@ -18,7 +18,6 @@ use crate::narrow::directions::Encryption;
 use crate::narrow::laid_keys::laid_keys;
 use crate::slot::Slot;
 use crate::wide::schedules::expand_keys;
-use crate::wide::state::State;
 use mbj_aes::{MAX_KEY_BYTES, MAX_ROUND_KEYS};
 use mbj_types::{AES_LANES, AesWord, BLOCK_BYTES};
 
@@ -77,20 +76,14 @@ pub fn keys_in<E: ChainedEntry, S: Slot<E>>(slots: &[S]) -> [[u8; 32]; AES_LANES
     keys
 }
 
-/// The round keys of these keys, of `rounds` rounds each, in the first of the states. The words take the schedules.
+/// The round keys of these keys, of `rounds` rounds each, laid out for the rounds in the first of the lane words.
 #[inline(never)]
-pub fn expand_first(
-    states: &mut [State<AesWord>],
-    words: &mut [AesWord],
-    rounds: usize,
-    bytes: &[[u8; 32]; AES_LANES],
-)
+pub fn expand_first(words: &mut [AesWord], rounds: usize, bytes: &[[u8; 32]; AES_LANES])
     requires rounds { IsRoundCount rounds }
-    requires room { rounds < length states.old }
     requires words { length words.old ≡ MAX_SCHEDULE_WORDS }
     requires arrays { (i : ℕ) → i < AES_LANES → IsKeyArray rounds (slice_index_or bytes.now i []) }
-    ensures { (i : ℕ) → i < AES_LANES → schedule_in (lane_at 8) rounds (take (rounds + 1) states.new) i
+    ensures { (i : ℕ) → i < AES_LANES → schedule_in (lane_at 8) (take (16 * (rounds + 1)) words.new) i
         ≡ key_schedule (key_of_array rounds (slice_index_or bytes.now i [])) }
 {
-    expand_keys(&mut states[..rounds + 1], bytes, words);
+    expand_keys(words, bytes, rounds);
 }

@@ -3,7 +3,6 @@
 ghost use Rattle.std.specs.Prelude.{◌≡◌, ℕ, ◌^◌, ◌<◌, ◌≤◌, Some, None, IfOk, MatchOption, ◌⊎◌, ◌≢◌, [], length, slice_index, slice_index_or};
 ghost use Rattle.std.specs.Option.{option_map};
 ghost use Rattle.mbj_types.specs.declared.kind.TheConstants.{AES_LANES};
-ghost use Rattle.mbj_aes.specs.declared.sizes.TheConstants.{MAX_ROUND_KEYS};
 ghost use Rattle.mbj_aes_lanes.specs.declared.wide.words.TheConstants.{MAX_SCHEDULE_WORDS};
 ghost use Rattle.mbj_lane.specs.Rounds.{after};
 ghost use Rattle.mbj_aes_lanes.specs.ChainedEntry.{chained_once};
@@ -12,9 +11,7 @@ ghost use Rattle.mbj_aes_lanes.specs.Slots.{slot_at};
 
 use crate::chained_entry::ChainedEntry;
 use crate::leading::{lead_all, lead_slots};
-use crate::wide::state::{State, zero_state};
 use crate::wide::words::MAX_SCHEDULE_WORDS;
-use mbj_aes::MAX_ROUND_KEYS;
 use mbj_lane::{Kernel, SlotKernel};
 use mbj_types::{AES_LANES, AesWord, Lane8};
 use std::alloc::{AllocError, Global};
@@ -24,25 +21,21 @@ use std::mem;
 /// Slots of entries, which contracts see as the list of what stands in each.
 #[derive(Drop)]
 pub struct ChainedSlots<E: ChainedEntry> {
-    // What a run over many lanes takes: the round keys of all lanes, and the words of the schedules from which they are made. They have
-    // memory of their own, which may be aligned to vectors.
-    round_keys: Vec<State<AesWord>>,
-    words: Vec<AesWord>,
+    // What a run over many lanes takes: the round keys of all lanes. They have memory of their own, which may be aligned to vectors.
+    round_keys: Vec<AesWord>,
     entries: Vec<Option<E>>,
 }
 
 impl<E: ChainedEntry> Model for ChainedSlots<E> {
     ghost use Rattle.std.specs.Prelude.{◌≡◌, List, Option, length};
     ghost use Rattle.mbj_types.specs.declared.kind.TheConstants.{AES_LANES};
-    ghost use Rattle.mbj_aes.specs.declared.sizes.TheConstants.{MAX_ROUND_KEYS};
     ghost use Rattle.mbj_aes_lanes.specs.declared.wide.words.TheConstants.{MAX_SCHEDULE_WORDS};
 
     ghost Value = { List (Option E) };
 
     ghost view = { λ s. s.entries.items };
 
-    ghost invariant = { λ s. (length s.round_keys.items ≡ MAX_ROUND_KEYS) × (length s.words.items ≡ MAX_SCHEDULE_WORDS)
-        × (length s.entries.items ≡ AES_LANES) };
+    ghost invariant = { λ s. (length s.round_keys.items ≡ MAX_SCHEDULE_WORDS) × (length s.entries.items ≡ AES_LANES) };
 }
 
 // This many copies of a value.
@@ -110,15 +103,13 @@ impl<E: ChainedEntry> SlotKernel for Chained<E> {
     ghost slot = { slot_at };
 
     fn new_slots(alloc: Global) -> Result<ChainedSlots<E>, AllocError> {
-        let round_keys = copies(alloc, MAX_ROUND_KEYS, zero_state())?;
-        let words = copies(alloc, MAX_SCHEDULE_WORDS, <AesWord as Lane8>::splat(0))?;
+        let round_keys = copies(alloc, MAX_SCHEDULE_WORDS, <AesWord as Lane8>::splat(0))?;
         let mut entries = Vec::with_capacity(alloc, AES_LANES)?;
         'lanes: for _i in 0..AES_LANES {
             entries.push_reserved(None);
         }
         Ok(ChainedSlots {
             round_keys,
-            words,
             entries,
         })
     }
@@ -147,7 +138,6 @@ impl<E: ChainedEntry> SlotKernel for Chained<E> {
             slots.entries.as_mut_slice(),
             m,
             slots.round_keys.as_mut_slice(),
-            slots.words.as_mut_slice(),
         );
     }
 

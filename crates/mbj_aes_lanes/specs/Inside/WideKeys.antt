@@ -1,8 +1,8 @@
 -- Round keys as the rounds of wide states take them.
-use Rattle.std.specs.Prelude.{◌≡◌, ℕ, ◌+◌, ◌*◌, ◌<◌, nat_eq, Bool, List, [], ◌∷◌, length, map, slice_index_or, take, Option, Some, None, bit_xor, if◌then◌else◌}
-use Rattle.mbj_types.specs.Aes.{key_schedule}
+use Rattle.std.specs.Prelude.{◌≡◌, ℕ, ◌+◌, ◌-◌, ◌*◌, ◌/◌, ◌<◌, nat_eq, Bool, List, [], ◌∷◌, length, map, slice_index_or, take, Option, Some, None, bit_xor, if◌then◌else◌}
+use Rattle.mbj_types.specs.Aes.{round_key, key_schedule}
 use Rattle.mbj_types.specs.declared.kind.TheConstants.{AES_LANES}
-use Rattle.mbj_types.specs.Lanes.{lane_at}
+use Rattle.mbj_types.specs.Lanes.{lane_at, lane_of}
 use Rattle.mbj_aes.specs.declared.tables.TheConstants.{SBOX_CONSTANT}
 use Rattle.mbj_aes.specs.Bytes.{IsBytes}
 use Rattle.mbj_aes.specs.Tower.{from_tower}
@@ -24,10 +24,13 @@ key_from n r b = if nat_eq r 0 then map from_tower b else with_constant (if nat_
 unfoldable pub key_in : {V : Type 0} → (V → ℕ → ℕ) → ℕ → ℕ → State V → ℕ → List ℕ
 key_in lane n r key i = key_from n r (state_lane lane key i)
 
--- the schedule of n rounds in lane i of a list of round keys
-unfoldable pub schedule_in : {V : Type 0} → (V → ℕ → ℕ) → ℕ → List (State V) → ℕ → List ℕ
-schedule_in lane n [] i = []
-schedule_in lane n (key ∷ keys) i = schedule_with (λ r. key_in lane n r (slice_index_or (key ∷ keys) r key) i) (length keys)
+-- the schedule of n rounds whose round keys the bytes b stand for, 16 for each
+abbrev pub schedule_from : ℕ → List ℕ → List ℕ
+schedule_from n b = schedule_with (λ r. key_from n r (round_key b r)) n
+
+-- the one that lane words stand for in lane i
+unfoldable pub schedule_in : {V : Type 0} → (V → ℕ → ℕ) → List V → ℕ → List ℕ
+schedule_in lane words i = schedule_from (length words / 16 - 1) (lane_of lane words i)
 
 -- the bytes of a lane begin with a key of nk words
 pub record IsLaneKey (nk : ℕ) (key xs : List ℕ) : Type 0 where
@@ -38,12 +41,12 @@ pub record IsLaneKey (nk : ℕ) (key xs : List ℕ) : Type 0 where
 -- ---- what the lanes hold of which some were put
 
 -- the lanes have keys of n rounds, and these are their round keys
-pub record AreExpanded (n : ℕ) (keys : List (List ℕ)) (round_keys : List (State (List ℕ))) : Type 0 where
+pub record AreExpanded (n : ℕ) (keys round_keys : List (List ℕ)) : Type 0 where
   pub lanes : length keys ≡ AES_LANES
-  pub room : length round_keys ≡ 15
+  pub room : length round_keys ≡ 240
   pub arrays : (i : ℕ) → i < AES_LANES → IsKeyArray n (slice_index_or keys i [])
   pub schedules : (i : ℕ) → i < AES_LANES
-      → schedule_in (lane_at 8) n (take (n + 1) round_keys) i ≡ key_schedule (key_of_array n (slice_index_or keys i []))
+      → schedule_in (lane_at 8) (take (16 * (n + 1)) round_keys) i ≡ key_schedule (key_of_array n (slice_index_or keys i []))
 
 -- the schedule in each lane that was put
 unfoldable pub held_lanes : ℕ → List (List ℕ) → List Bool → List (Option (List ℕ))

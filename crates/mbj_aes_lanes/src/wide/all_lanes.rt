@@ -6,7 +6,7 @@ use crate::blocks::{load_state, store_state};
 use crate::lane_blocks::Blocks;
 use crate::wide::decryption::decrypt;
 use crate::wide::lane_keys::LaneKeys;
-use crate::wide::lane_schedules::RoundStates;
+use crate::wide::lane_schedules::RoundKeys;
 use crate::wide::rounds::encrypt;
 use mbj_types::AES_LANES;
 
@@ -19,8 +19,8 @@ pub fn encrypt32(keys: &LaneKeys, blocks: &mut [[u8; 16]; AES_LANES])
     ensures lengths { (i : ℕ) → i < AES_LANES → length (slice_index_or blocks.new i []) ≡ 16 }
 {
     let mut state = load_state(&Blocks { blocks });
-    let keys = RoundStates {
-        keys: keys.round_keys(),
+    let keys = RoundKeys {
+        words: keys.round_keys(),
     };
     encrypt(&keys, &mut state);
     store_state(blocks, &state);
@@ -35,8 +35,8 @@ pub fn decrypt32(keys: &LaneKeys, blocks: &mut [[u8; 16]; AES_LANES])
     ensures lengths { (i : ℕ) → i < AES_LANES → length (slice_index_or blocks.new i []) ≡ 16 }
 {
     let mut state = load_state(&Blocks { blocks });
-    let keys = RoundStates {
-        keys: keys.round_keys(),
+    let keys = RoundKeys {
+        words: keys.round_keys(),
     };
     decrypt(&keys, &mut state);
     store_state(blocks, &state);

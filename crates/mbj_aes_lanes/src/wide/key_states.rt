@@ -4,7 +4,7 @@ ghost use Rattle.std.specs.Prelude.{◌≡◌, ℕ, ◌+◌, ◌*◌, ◌<◌, �
 ghost use Rattle.mbj_types.specs.Aes.{round_key};
 ghost use Rattle.mbj_types.specs.Lanes.{lane_of};
 ghost use Rattle.mbj_aes.specs.Tower.{from_tower};
-ghost use Rattle.mbj_aes_lanes.specs.Inside.Wide.{word_lane, state_lane, tower_word, tower_block, tower_lane};
+ghost use Rattle.mbj_aes_lanes.specs.Inside.Wide.{word_lane, state_lane, tower_word, tower_block};
 ghost use Rattle.mbj_aes_lanes.specs.Inside.WideKeys.{with_constant, key_in};
 
 use crate::wide::state::{State, Word, add_round_key, splat_state};
@@ -59,9 +59,9 @@ fn with_constant<V: Lane8>(s: State<V>) -> State<V>
     add_round_key(s, splat_state(SBOX_CONSTANT))
 }
 
-// Round key `r` of `rounds` rounds, whose bytes are those of a state in the tower's basis.
+/// Round key `r` of `rounds` rounds, whose bytes are those of a state in the tower's basis.
 #[inline(always)]
-fn key_of_tower<V: Lane8>(key: State<V>, r: usize, rounds: usize) -> State<V>
+pub fn key_of_tower<V: Lane8>(key: State<V>, r: usize, rounds: usize) -> State<V>
     ensures { (i : ℕ) → i < V.LANES → key_in V.lane rounds r result i ≡ tower_block V.lane key i }
 {
     if r == 0 {
@@ -81,15 +81,6 @@ pub fn key_at<V: Lane8>(words: &[V], r: usize, rounds: usize) -> State<V>
     ensures { (i : ℕ) → i < V.LANES → key_in V.lane rounds r result i ≡ round_key (lane_of V.lane words.now i) r }
 {
     key_of_tower(to_tower(state_at(words, r)), r, rounds)
-}
-
-/// Round key `r` of `rounds` rounds in each lane, whose schedules are the lane words, in the tower's basis.
-#[inline(always)]
-pub fn key_at_tower<V: Lane8>(words: &[V], r: usize, rounds: usize) -> State<V>
-    requires { 16 * r + 16 ≤ length words.now }
-    ensures { (i : ℕ) → i < V.LANES → key_in V.lane rounds r result i ≡ round_key (tower_lane V.lane words.now i) r }
-{
-    key_of_tower(state_at(words, r), r, rounds)
 }
 
 #[inline(always)]

@@ -1,4 +1,4 @@
-ghost use Rattle.std.specs.Prelude.{◌≡◌, ℕ, ◌+◌, ◌-◌, ◌*◌, ◌<◌, ◌≤◌, [], length, slice_index_or, None, IsSome};
+ghost use Rattle.std.specs.Prelude.{◌≡◌, ℕ, ◌+◌, ◌*◌, ◌%◌, ◌<◌, ◌≤◌, [], length, slice_index_or, None, IsSome};
 ghost use Rattle.mbj_types.specs.Lanes.{lane_at};
 ghost use Rattle.mbj_types.specs.declared.kind.TheConstants.{AES_LANES};
 ghost use Rattle.mbj_aes.specs.Bytes.{IsRoundCount};
@@ -8,21 +8,32 @@ ghost use Rattle.mbj_aes_lanes.specs.Inside.WideKeys.{schedule_in, AreExpanded};
 
 use crate::key_bytes::bytes_of_schedule;
 use crate::wide::schedules::expand_keys;
-use crate::wide::state::{State, zero_state};
 use crate::wide::words::MAX_SCHEDULE_WORDS;
-use mbj_aes::{MAX_KEY_BYTES, MAX_ROUND_KEYS, Schedule};
-use mbj_types::{AES_LANES, AesWord, Lane8};
+use mbj_aes::{MAX_KEY_BYTES, Schedule};
+use mbj_types::{AES_LANES, AesWord, BLOCK_BYTES, Lane8};
 use std::marker::Model;
 
+// A value in a struct of its own: the literal of a struct has no field that is an array of vectors.
+#[derive(Drop)]
+struct Held<T: Drop> {
+    value: T,
+}
+
+#[inline(always)]
+fn keep<T: Drop>(value: T) -> Held<T>
+    ensures { result.value ≡ value }
+{
+    Held { value }
+}
+
 // The round keys of the keys of the lanes, of `rounds` rounds each.
-fn round_keys_of(keys: &[[u8; 32]; AES_LANES], rounds: u32) -> [State<AesWord>; MAX_ROUND_KEYS]
+fn round_keys_of(keys: &[[u8; 32]; AES_LANES], rounds: u32) -> [AesWord; MAX_SCHEDULE_WORDS]
     requires rounds { IsRoundCount rounds }
     requires arrays { (i : ℕ) → i < AES_LANES → IsKeyArray rounds (slice_index_or keys.now i []) }
     ensures { AreExpanded rounds keys.now result }
 {
-    let mut round_keys = [zero_state(); MAX_ROUND_KEYS];
-    let mut words = [<AesWord as Lane8>::splat(0); MAX_SCHEDULE_WORDS];
-    expand_keys(&mut round_keys[..rounds as usize + 1], keys, &mut words);
+    let mut round_keys = [<AesWord as Lane8>::splat(0); MAX_SCHEDULE_WORDS];
+    expand_keys(&mut round_keys, keys, rounds as usize);
     round_keys
 }
 
@@ -32,7 +43,7 @@ fn round_keys_of(keys: &[[u8; 32]; AES_LANES], rounds: u32) -> [State<AesWord>; 
 #[derive(Drop)]
 pub struct LaneKeys {
     keys: [[u8; 32]; AES_LANES],
-    round_keys: [State<AesWord>; MAX_ROUND_KEYS],
+    round_keys: Held<[AesWord; MAX_SCHEDULE_WORDS]>,
     rounds: u32,
     put: [bool; AES_LANES],
 }
@@ -49,7 +60,7 @@ impl Model for LaneKeys {
 
     ghost view = { λ k. record { rounds = k.rounds; lanes = held_lanes k.rounds k.keys k.put } };
 
-    ghost invariant = { λ k. IsRoundCount k.rounds × AreExpanded k.rounds k.keys k.round_keys };
+    ghost invariant = { λ k. IsRoundCount k.rounds × AreExpanded k.rounds k.keys k.round_keys.value };
 }
 
 impl LaneKeys {
@@ -61,7 +72,7 @@ impl LaneKeys {
         let keys = [[0; MAX_KEY_BYTES]; AES_LANES];
         LaneKeys {
             keys,
-            round_keys: round_keys_of(&keys, rounds),
+            round_keys: keep(round_keys_of(&keys, rounds)),
             rounds,
             put: [false; AES_LANES],
         }
@@ -75,7 +86,7 @@ impl LaneKeys {
         let keys = [bytes_of_schedule(key); AES_LANES];
         LaneKeys {
             keys,
-            round_keys: round_keys_of(&keys, rounds),
+            round_keys: keep(round_keys_of(&keys, rounds)),
             rounds,
             put: [true; AES_LANES],
         }
@@ -100,17 +111,17 @@ impl LaneKeys {
     {
         self.keys[lane as usize] = bytes_of_schedule(key);
         self.put[lane as usize] = true;
-        self.round_keys = round_keys_of(&self.keys, self.rounds);
+        self.round_keys.value = round_keys_of(&self.keys, self.rounds);
     }
 
     /// The round keys, of each lane those of its schedule.
     #[inline(always)]
-    pub(crate) fn round_keys(&self) -> &[State<AesWord>]
-        ensures least { 11 ≤ length result.now }
-        ensures most { length result.now ≤ 15 }
+    pub(crate) fn round_keys(&self) -> &[AesWord]
+        ensures whole { length result.now % 16 ≡ 0 }
+        ensures least { 48 ≤ length result.now }
         ensures schedules { (i : ℕ) → i < AES_LANES → IsSome (slice_index_or self.now.lanes i None)
-            → schedule_in (lane_at 8) (length result.now - 1) result.now i ≡ schedule_at self.now i }
+            → schedule_in (lane_at 8) result.now i ≡ schedule_at self.now i }
     {
-        &self.round_keys[..self.rounds as usize + 1]
+        &self.round_keys.value[..BLOCK_BYTES * (self.rounds as usize + 1)]
     }
 }

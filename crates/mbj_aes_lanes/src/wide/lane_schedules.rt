@@ -1,10 +1,11 @@
 //! The schedule in each lane, round key by round key.
-ghost use Rattle.std.specs.Prelude.{◌≡◌, ℕ, ◌+◌, ◌-◌, ◌*◌, ◌<◌, ◌≤◌, List, length};
+ghost use Rattle.std.specs.Prelude.{◌≡◌, ℕ, ◌+◌, ◌-◌, ◌*◌, ◌/◌, ◌%◌, ◌<◌, ◌≤◌, List, length};
 ghost use Rattle.mbj_types.specs.Aes.{round_key};
 ghost use Rattle.mbj_aes_lanes.specs.Inside.WideKeys.{key_in, schedule_in};
 
 use crate::wide::state::State;
-use mbj_types::Lane8;
+use crate::wide::words::state_at;
+use mbj_types::{BLOCK_BYTES, Lane8};
 
 /// A schedule in each lane, each of as many rounds.
 pub trait LaneSchedules<V: Lane8> {
@@ -27,25 +28,26 @@ pub trait LaneSchedules<V: Lane8> {
             → key_in V.lane (count_of self.now - 1) r result i ≡ round_key (schedule_of self.now i) r };
 }
 
-/// Round keys as states, from round 0 on.
+/// Round keys that are laid out for the rounds, 16 lane words for each.
 #[derive(Drop)]
-pub struct RoundStates<'a, V> {
-    pub keys: &'a [State<V>],
-    pub ghost least: { 3 ≤ length keys.now },
+pub struct RoundKeys<'a, V> {
+    pub words: &'a [V],
+    pub ghost whole: { length words.now % 16 ≡ 0 },
+    pub ghost least: { 48 ≤ length words.now },
 }
 
-impl<V: Lane8> LaneSchedules<V> for RoundStates<'_, V> {
-    ghost count_of = { λ s. length s.keys.now };
+impl<V: Lane8> LaneSchedules<V> for RoundKeys<'_, V> {
+    ghost count_of = { λ s. length s.words.now / 16 };
 
-    ghost schedule_of = { λ s i. schedule_in V.lane (length s.keys.now - 1) s.keys.now i };
+    ghost schedule_of = { λ s i. schedule_in V.lane s.words.now i };
 
     #[inline(always)]
     fn rounds(&self) -> usize {
-        self.keys.len() - 1
+        self.words.len() / BLOCK_BYTES - 1
     }
 
     #[inline(always)]
     fn round_key(&self, r: usize) -> State<V> {
-        self.keys[r]
+        state_at(self.words, r)
     }
 }

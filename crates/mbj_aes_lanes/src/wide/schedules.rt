@@ -1,5 +1,5 @@
-//! Keys in lanes, whose schedules are made in lane words and become round keys as states.
-ghost use Rattle.std.specs.Prelude.{◌≡◌, ℕ, ◌+◌, ◌-◌, ◌*◌, ◌<◌, ◌≤◌, [], length, take, drop, ◌++◌, slice_index_or};
+//! Keys in lanes, whose schedules are made in lane words and become round keys where they stand.
+ghost use Rattle.std.specs.Prelude.{◌≡◌, ℕ, ◌+◌, ◌*◌, ◌%◌, ◌<◌, ◌≤◌, [], length, take, drop, ◌++◌, slice_index_or};
 ghost use Rattle.mbj_types.specs.Aes.{key_schedule};
 ghost use Rattle.mbj_types.specs.Lanes.{lane_at};
 ghost use Rattle.mbj_types.specs.declared.kind.TheConstants.{AES_LANES};
@@ -11,21 +11,23 @@ ghost use Rattle.mbj_aes_lanes.specs.Inside.WideKeys.{schedule_in};
 use crate::blocks::words_of;
 use crate::lane_blocks::LaneBlocks;
 use crate::wide::expansion::expand_words;
-use crate::wide::key_states::{key_at_tower, to_tower};
-use crate::wide::state::State;
+use crate::wide::key_states::{key_of_tower, to_tower};
 use crate::wide::words::{MAX_SCHEDULE_WORDS, put_state, state_at};
 use mbj_aes::EXTRA_KEYS;
 use mbj_types::{AES_LANES, AesWord, BLOCK_BYTES, Lane8};
 
-/// Writes the round keys of the schedules, 16 lane words for each, which are in the tower's basis.
+/// Lays schedules, which are in the tower's basis, out for the rounds: each round key takes the place of its 16 lane words.
 #[inline(always)]
-pub fn write_schedules<V: Lane8>(keys: &mut [State<V>], words: &[V])
-    requires { 16 * length keys.old ≤ length words.now }
-    ensures { (i : ℕ) → i < V.LANES
-        → schedule_in V.lane (length keys.old - 1) keys.new i ≡ take (16 * length keys.old) (tower_lane V.lane words.now i) }
+pub fn lay_out<V: Lane8>(words: &mut [V])
+    requires whole { length words.old % 16 ≡ 0 }
+    requires least { 48 ≤ length words.old }
+    ensures { (i : ℕ) → i < V.LANES → schedule_in V.lane words.new i ≡ tower_lane V.lane words.old i }
 {
-    'keys: for r in 0..keys.len() {
-        keys[r] = key_at_tower(words, r, keys.len() - 1);
+    let rounds = words.len() / BLOCK_BYTES - 1;
+    'keys: for r in 0..rounds + 1 {
+        let key = key_of_tower(state_at(words, r), r, rounds);
+        let at = BLOCK_BYTES * r;
+        put_state(&mut words[at..at + BLOCK_BYTES], &key);
     }
 }
 
@@ -86,20 +88,17 @@ fn load_keys(words: &mut [AesWord], bytes: &[[u8; 32]; AES_LANES])
     load_half(words, bytes, BLOCK_BYTES);
 }
 
-/// Writes the round keys of the key in each lane. The words take the schedules, and what stands there isn't looked at.
+/// The round keys of the key in each lane, of `rounds` rounds, laid out for the rounds in the first lane words. What stands there isn't
+/// looked at.
 #[inline(always)]
-pub fn expand_keys(
-    keys: &mut [State<AesWord>],
-    bytes: &[[u8; 32]; AES_LANES],
-    words: &mut [AesWord],
-)
-    requires rounds { IsRoundCount (length keys.old - 1) }
+pub fn expand_keys(words: &mut [AesWord], bytes: &[[u8; 32]; AES_LANES], rounds: usize)
+    requires rounds { IsRoundCount rounds }
     requires room { length words.old ≡ MAX_SCHEDULE_WORDS }
-    ensures { (i : ℕ) → i < AES_LANES → IsKeyArray (length keys.old - 1) (slice_index_or bytes.now i [])
-        → schedule_in (lane_at 8) (length keys.old - 1) keys.new i
-        ≡ key_schedule (key_of_array (length keys.old - 1) (slice_index_or bytes.now i [])) }
+    ensures { (i : ℕ) → i < AES_LANES → IsKeyArray rounds (slice_index_or bytes.now i [])
+        → schedule_in (lane_at 8) (take (16 * (rounds + 1)) words.new) i
+        ≡ key_schedule (key_of_array rounds (slice_index_or bytes.now i [])) }
 {
     load_keys(words, bytes);
-    expand_words(words, keys.len() - EXTRA_KEYS);
-    write_schedules(keys, words);
+    expand_words(words, rounds + 1 - EXTRA_KEYS);
+    lay_out(&mut words[..BLOCK_BYTES * (rounds + 1)]);
 }

@@ -1,5 +1,5 @@
 ghost use Rattle.std.specs.Prelude.{◌≡◌, ℕ, ◌<◌, replicate};
-ghost use Rattle.mbj_types.specs.Blocks.{zero_block, xor_lists};
+ghost use Rattle.mbj_types.specs.Blocks.{xor_lists};
 ghost use Rattle.mbj_aes_lanes.specs.Inside.Wide.{word_lane, state_lane, tower_word};
 
 use mbj_types::Lane8;
@@ -21,14 +21,6 @@ pub fn splat_state<V: Lane8>(byte: u8) -> State<V>
     let byte = V::splat(byte);
     let word = Word(byte, byte, byte, byte);
     State(word, word, word, word)
-}
-
-/// A state of zeros.
-#[inline(always)]
-pub fn zero_state<V: Lane8>() -> State<V>
-    ensures { (i : ℕ) → i < V.LANES → state_lane V.lane result i ≡ zero_block }
-{
-    splat_state(0)
 }
 
 /// The sum of two words, byte by byte, whether they are plain or in the tower's basis.

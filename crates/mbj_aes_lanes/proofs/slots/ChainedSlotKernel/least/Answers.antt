@@ -9,7 +9,7 @@ at : (g : _) (c : goal.After-lesser-least g) → c.index.result.now ≡ get_or c
 at g c =
     let es = c.slots.inside.entries.items in
     c.index.ensures
-    ∙ get_or_default es c.lanes.i c.index.result.now None (omega (arith, c.slots.invariant.2))
+    ∙ get_or_default es c.lanes.i c.index.result.now None (omega (arith, c.slots.invariant.1))
     ∙ ap (λ xs. get_or xs c.lanes.i None) c.slots.view_is
 
 pub lanes-preserved : goal.lanes-preserved

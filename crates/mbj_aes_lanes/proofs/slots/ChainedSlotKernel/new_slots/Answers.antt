@@ -7,4 +7,4 @@ use Rattle.mbj_aes_lanes.proofs.slots.ChainedSlotKernel.new_slots.Goals as goal
 pub invariant_of-result : goal.invariant_of-result
 invariant_of-result g c =
     let all : c.lanes._i ≡ AES_LANES = omega arith in
-    (c.in_ok-round_keys.ensures, c.in_ok-words.ensures, ap length c.lanes.invariant.items ∙ length-replicate c.lanes._i None ∙ all)
+    (c.in_ok-round_keys.ensures, ap length c.lanes.invariant.items ∙ length-replicate c.lanes._i None ∙ all)
