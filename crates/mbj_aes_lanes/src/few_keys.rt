@@ -16,7 +16,7 @@ use mbj_aes::{BlockWord, MAX_ROUND_KEYS};
 use mbj_types::{AES_LANES, BLOCK_BYTES, Lane8};
 use std::simd::u8x32;
 
-/// A run of at most this many busy lanes goes by registers of whole blocks: a quarter of all lanes.
+/// A run of at most this many busy lanes is done narrow, in registers of whole blocks: a quarter of all lanes.
 pub const FEW_LANES: usize = 8;
 
 // The blocks of register `i`.

@@ -17,13 +17,14 @@ impl<J, D> Model for Returned<J, D> {
 }
 
 impl<J, D> Returned<J, D> {
+    /// A result, and the job that it is of if that comes back with it.
     pub fn new(made: D, job: Option<J>) -> Returned<J, D>
         ensures { result ≡ made }
     {
         Returned { made, job }
     }
 
-    /// The result, and the job where that came back.
+    /// The result, and the job if that came back.
     pub fn into_parts(self) -> (D, Option<J>)
         ensures { result.0 ≡ self }
     {

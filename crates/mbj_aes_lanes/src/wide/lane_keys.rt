@@ -102,8 +102,8 @@ impl LaneKeys {
         *self = LaneKeys::all(key);
     }
 
-    /// Puts a schedule in a lane below `AES_LANES`, in place of the one that was there. It has as many rounds as the others. It takes no
-    /// memory.
+    /// Puts a schedule in a lane below `AES_LANES`, in place of the one that was there. It has as many rounds as the others. The keys
+    /// of all lanes are expanded anew. It takes no memory.
     pub fn put(&mut self, lane: u32, key: &Schedule)
         requires lane { lane < AES_LANES }
         requires rounds { length key.now ≡ 16 * (self.old.rounds + 1) }
