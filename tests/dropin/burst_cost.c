@@ -1,14 +1,16 @@
 /* burst_cost OTHER DROPIN: what a job costs through the second library, submitted by itself and in a burst of 32, by turns in one process,
  * unchecked and checked. A burst may not cost a job more than a submission by itself does: of each kind and length not by more than a
- * percent, by which the place of things in memory changes a time from run to run, and on the whole not at all. In 2.0 all jobs of a kind
- * have one session. */
+ * percent, by which the place of things in memory changes a time from run to run, and on the whole not at all. What counts is the middle
+ * one of many ratios of times that were taken right behind one another, so that other work on the machine slows both sides. In 2.0 all
+ * jobs of a kind have one session. */
 #include "library.h"
 
 #include <stdio.h>
+#include <stdlib.h>
 #include <string.h>
 #include <time.h>
 
-enum { BURST = 32, BATCH = 512, ROUNDS = 40, SWEEPS = 32, SHIFT = 576, MOST_SHIFT = 8 * SHIFT, MOST_LEN = 1536, KINDS = 6, LENS = 3 };
+enum { BURST = 32, BATCH = 512, ROUNDS = 40, SWEEPS = 16, SHIFT = 576, MOST_SHIFT = 8 * SHIFT, MOST_LEN = 1536, KINDS = 6, LENS = 3 };
 
 static const char *const names[KINDS] = {"nothing", "HMAC-SHA-1", "CBC encryption", "CTR", "GCM", "CBC encryption and HMAC-SHA-1"};
 
@@ -121,9 +123,10 @@ static double time_of_bursts(int kind, size_t len, bool is_checked) {
     return took;
 }
 
-/* The least time of a job by itself, which is taken twice, and in a burst. */
+/* The least time of a job by itself, and in each round its time in a burst over that by itself just before and behind. */
 struct cost {
-    double single, again, burst;
+    double single, ratios[SWEEPS * ROUNDS];
+    size_t count;
 };
 
 static double lesser(double a, double b) {
@@ -131,21 +134,33 @@ static double lesser(double a, double b) {
 }
 
 /* Takes turns. Where the stack lies to a manager changes a time by a percent or two: so it is shifted. */
-static void take_turns(int kind, size_t len, bool is_checked, size_t shift, struct cost *least) {
+static void take_turns(int kind, size_t len, bool is_checked, size_t shift, struct cost *cost) {
     volatile char gap[shift + 1];
     gap[shift] = 0, (void)gap[shift];
     for (int round = 0; round < ROUNDS; round++) {
-        least->single = lesser(least->single, time_of_singles(kind, len, is_checked));
-        least->burst = lesser(least->burst, time_of_bursts(kind, len, is_checked));
-        least->again = lesser(least->again, time_of_singles(kind, len, is_checked));
+        double before = time_of_singles(kind, len, is_checked);
+        double burst = time_of_bursts(kind, len, is_checked);
+        double behind = time_of_singles(kind, len, is_checked);
+        cost->single = lesser(cost->single, lesser(before, behind));
+        cost->ratios[cost->count++] = 2 * burst / (before + behind);
     }
+}
+
+static int compare(const void *a, const void *b) {
+    double x = *(const double *)a, y = *(const double *)b;
+    return (x > y) - (x < y);
+}
+
+/* The middle one of the ratios, which are sorted. */
+static double middle(struct cost *cost) {
+    qsort(cost->ratios, cost->count, sizeof *cost->ratios, compare);
+    return cost->ratios[cost->count / 2];
 }
 
 /* Costs of each kind and length, unchecked and checked. */
 static struct cost costs[KINDS][LENS][2];
 
-/* A sweep over all of them, and after the first one over those that seem to cost more in a burst: another program may have taken the
- * processor. The least times of all sweeps are kept. */
+/* A sweep over all of them, and after the first one over those that seem to cost more in a burst. */
 static void sweep(size_t number) {
     for (int kind = 0; kind < KINDS; kind++) {
         set_session(kind);
@@ -153,30 +168,24 @@ static void sweep(size_t number) {
             for (int is_checked = 0; is_checked < 2; is_checked++) {
                 struct cost *cost = &costs[kind][k][is_checked];
                 if (number == 0)
-                    *cost = (struct cost){1e18, 1e18, 1e18};
-                if (number == 0 || cost->burst > cost->single)
+                    cost->single = 1e18;
+                if (number == 0 || middle(cost) > 1)
                     take_turns(kind, lens[k], is_checked != 0, number * SHIFT % MOST_SHIFT, cost);
             }
     }
 }
 
-/* What a job by itself costs more the one time than the other is noise. */
-static bool costs_no_more(const struct cost *cost) {
-    double noise = cost->single > cost->again ? cost->single - cost->again : cost->again - cost->single;
-    return cost->burst <= cost->single * 1.01 + noise;
-}
-
-/* How many kinds and lengths cost more in a burst, and the sums over all of them. */
-static unsigned count_dearer(struct cost *sum) {
+/* How many kinds and lengths cost over a percent more in a burst, and what all cost by themselves and in bursts. */
+static unsigned count_dearer(double *singles, double *bursts) {
     unsigned dearer = 0;
-    *sum = (struct cost){0, 0, 0};
+    *singles = *bursts = 0;
     for (int kind = 0; kind < KINDS; kind++)
         for (size_t k = 0; k < LENS; k++)
             for (int is_checked = 0; is_checked < 2; is_checked++) {
-                const struct cost *cost = &costs[kind][k][is_checked];
-                sum->single += cost->single;
-                sum->burst += cost->burst;
-                dearer += !costs_no_more(cost);
+                struct cost *cost = &costs[kind][k][is_checked];
+                *singles += cost->single;
+                *bursts += cost->single * middle(cost);
+                dearer += middle(cost) > 1.01;
             }
     return dearer;
 }
@@ -184,25 +193,27 @@ static unsigned count_dearer(struct cost *sum) {
 static void print_costs(void) {
     for (int kind = 0; kind < KINDS; kind++)
         for (size_t k = 0; k < LENS; k++)
-            for (int is_checked = 0; is_checked < 2; is_checked++)
-                printf("%-30s %5zu bytes, %s: %6.0f ns by itself, %6.0f in a burst\n", names[kind], lens[k],
-                       is_checked ? "  checked" : "unchecked", costs[kind][k][is_checked].single, costs[kind][k][is_checked].burst);
+            for (int is_checked = 0; is_checked < 2; is_checked++) {
+                struct cost *cost = &costs[kind][k][is_checked];
+                printf("%-30s %5zu bytes, %s: %6.0f ns by itself, %5.1f %% of that in a burst\n", names[kind], lens[k],
+                       is_checked ? "  checked" : "unchecked", cost->single, 100 * middle(cost));
+            }
 }
 
 int main(int argc, char **argv) {
-    struct cost sum = {0, 0, 0};
+    double singles = 0, bursts = 0;
     unsigned dearer = 1;
     if (argc < 3)
         return 2;
     load_library(&library, argv[2]);
     IMB_AES_KEYEXP_128(library.m, iv, schedules[0], schedules[1]);
     IMB_AES128_GCM_PRE(library.m, iv, &gcm);
-    for (size_t number = 0; number < SWEEPS && (dearer != 0 || sum.burst > sum.single); number++) {
+    for (size_t number = 0; number < SWEEPS && (dearer != 0 || bursts > singles); number++) {
         sweep(number);
-        dearer = count_dearer(&sum);
+        dearer = count_dearer(&singles, &bursts);
     }
     library.release(library.m);
     print_costs();
-    printf("%.1f %% of what they cost by themselves\n", 100 * sum.burst / sum.single);
-    return dearer != 0 || sum.burst > sum.single;
+    printf("%.1f %% of what they cost by themselves\n", 100 * bursts / singles);
+    return dearer != 0 || bursts > singles;
 }
