@@ -1,4 +1,4 @@
-/* Times the job calls of mbj.h, and beside them those of intel-ipsec-mb, where the bench is built with it, on the same jobs in the same
+/* Times the job calls of mbj.h, and beside them those of intel-ipsec-mb, if the bench is built with it, on the same jobs in the same
  * process. Prints a row for each kind of jobs and each length of packets: nanoseconds a job and Gbit/s, both of one core, and for each
  * architecture that ipsec-mb offers here also how many times as long this library takes. Results are compared before they are timed. */
 #include "bench.h"
@@ -14,7 +14,7 @@ static const char usage[] =
     "bench [--sizes N,..] [--drawn LEAST-MOST,..] [--jobs NAME,..] [--flush N] [--threads N] [--passes N] [--keeping]\n"
     "bench --front [--passes N]\n"
     "\n"
-    "--sizes     lengths of packets in bytes: 64,256,1500 where neither these nor drawn ones are given\n"
+    "--sizes     lengths of packets in bytes: 64,256,1500 if neither these nor drawn ones are given\n"
     "--drawn     lengths that are drawn for each packet from LEAST to MOST bytes\n"
     "--jobs      null, cbc, cbc-dec (decryption), ctr, gcm, ccm, cmac, gmac, sha1, sha224, sha256, sha384, sha512, the same\n"
     "            five with hmac- before them, these with -states behind them, or chained jobs as cbc+hmac-sha1, which are\n"
@@ -75,7 +75,7 @@ size_t iv_len(const struct work *work) {
     return work->auth == GMAC ? 12 : lens[work->cipher];
 }
 
-/* The place of a word among these; 0 where it is none. */
+/* The place of a word among these; 0 if it is none. */
 static size_t place(const char *word, size_t len, const char *const *words, size_t count) {
     for (size_t i = 1; i < count; i++)
         if (strlen(words[i]) == len && memcmp(words[i], word, len) == 0)
@@ -83,7 +83,7 @@ static size_t place(const char *word, size_t len, const char *const *words, size
     return 0;
 }
 
-/* The length of a name before this suffix, where it has one. */
+/* The length of a name before this suffix, if it has one. */
 static bool has_suffix(const char *name, size_t *len, const char *suffix) {
     size_t before = *len - strlen(suffix);
     bool has = *len > strlen(suffix) && memcmp(name + before, suffix, strlen(suffix)) == 0;

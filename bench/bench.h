@@ -36,7 +36,7 @@ enum auth {
 };
 
 /* A kind of jobs: a cipher, an authentication, or both, the packet being enciphered before it is authenticated. This library takes them by
- * single calls or by bursts of 32, and expands the cipher's key for each job, or far less often where all jobs name a key session; the
+ * single calls or by bursts of 32, and expands the cipher's key for each job, or far less often if all jobs name a key session; the
  * other one takes them by single calls, and its keys are expanded before any job is timed. */
 struct work {
     enum cipher cipher;
@@ -86,7 +86,7 @@ struct library {
 /* This library. */
 extern const struct library ours;
 
-/* The managers that intel-ipsec-mb offers here, and how many they are: none where the bench is built without it. */
+/* The managers that intel-ipsec-mb offers here, and how many they are: none if the bench is built without it. */
 const struct library *theirs(size_t *count);
 
 #endif

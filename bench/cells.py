@@ -21,7 +21,7 @@ def by(figure, divisor):
 
 
 def cell(figures, form=whole):
-    """Figures in one cell, or `?` where none is known."""
+    """Figures in one cell, or `?` if none is known."""
     cells = [form(figure) for figure in figures]
     return UNKNOWN if all(each == UNKNOWN for each in cells) else " / ".join(cells)
 

@@ -4,8 +4,8 @@
     bench/dropin.py [FOLDER [WORDS FOR bench..]]    by default build/dropin, of `make dropin`
 
 Prints a row for each kind of jobs and each length of packets: nanoseconds a job by mbj.h and through the drop-in, how many more these are,
-nanoseconds by Intel's library, and how many times as long the drop-in takes. Ends with 3 where a job through the drop-in takes over 100 ns
-more. It runs bench-avx2 where the processor has AVX2, which is what the drop-in chooses too, and else bench. It needs python3, and Intel's
+nanoseconds by Intel's library, and how many times as long the drop-in takes. Ends with 3 if a job through the drop-in takes over 100 ns
+more. It runs bench-avx2 if the processor has AVX2, which is what the drop-in chooses too, and else bench. It needs python3, and Intel's
 library (Debian's libipsec-mb-dev), which the bench was built with.
 """
 import os

@@ -76,7 +76,7 @@ static void do_by_manager(struct member *member, size_t count) {
 
 /* ---- one front ---- */
 
-/* The next job of the seat. Where 512 are out, the earliest one is given back first. */
+/* The next job of the seat. If 512 are out, the earliest one is given back first. */
 static MBJ_JOB *next_job(struct member *member) {
     MBJ_JOB *job;
     while ((job = mbj_seat_get_next_job(member->seat)) == NULL)

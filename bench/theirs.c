@@ -1,4 +1,4 @@
-/* intel-ipsec-mb, by its job interface; nothing where the bench is built without it. */
+/* intel-ipsec-mb, by its job interface; nothing if the bench is built without it. */
 #include "bench.h"
 
 #ifndef WITH_IPSEC_MB

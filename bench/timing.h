@@ -18,7 +18,7 @@ struct timed {
  * fastest pass counts, and the mean of these is returned. */
 struct timed time_library(const struct library *library, const struct work *work, struct lengths lengths, size_t threads, int passes);
 
-/* Gives up where the two libraries' results differ. */
+/* Gives up if the two libraries' results differ. */
 void compare(const struct library *library, const struct work *work, struct lengths lengths);
 
 #endif

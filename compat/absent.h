@@ -6,7 +6,7 @@
 
 /* Sets the functions of the manager's table whose algorithms aren't here. Those that would write a text, a tag, a digest or a key stream
  * tell their name on standard error and end the process by abort(). Those that make keys, schedules or sizes alone write nothing, set
- * ENOTSUP and return 0, or -1 where 0 would say that it is done; and so do the others where the library was loaded with
+ * ENOTSUP and return 0, or -1 if 0 would say that it is done; and so do the others if the library was loaded with
  * MBJ_DROPIN_ABSENT=continue. */
 void set_absent_functions(IMB_MGR *m);
 

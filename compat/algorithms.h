@@ -27,7 +27,7 @@ struct hash {
     uint8_t key;       /* the bytes of the key of CMAC or GMAC, or of one state of HMAC */
     uint8_t word;      /* the bytes of a word of that state */
     uint8_t longest;   /* the bytes of the longest tag */
-    uint8_t truncated; /* those of the other tag that a checked job may have, 0 where any length does */
+    uint8_t truncated; /* those of the other tag that a checked job may have, 0 if any length does */
 };
 
 extern const struct cipher ciphers[IMB_CIPHER_NUM];
@@ -61,7 +61,7 @@ static inline uint64_t hash_bytes(const IMB_JOB *job) {
     return hash->is_in_bits ? bytes_of_bits(job->msg_len_to_hash_in_bits) : job->msg_len_to_hash_in_bytes;
 }
 
-/* How many bits of the last byte are in the range, or 0 where all are. */
+/* How many bits of the last byte are in the range, or 0 if all are. */
 static inline unsigned cipher_open_bits(const IMB_JOB *job) {
     return cipher_of(job)->is_in_bits ? job->msg_len_to_cipher_in_bits % 8 : 0;
 }
@@ -82,7 +82,7 @@ static inline const uint8_t *hash_start(const IMB_JOB *job) {
     return (const uint8_t *)((uintptr_t)job->src + job->hash_start_src_offset_in_bytes);
 }
 
-/* Of codes that are none, where nothing has checked them, each version takes a direction in its own way, and both an order for the one with
+/* Of codes that are none, if nothing has checked them, each version takes a direction in its own way, and both an order for the one with
  * the hash first. */
 static inline bool is_encryption(const IMB_JOB *job) {
     return COMPAT_IS_ENCRYPTION(job->cipher_direction);

@@ -9,7 +9,7 @@
 bool is_done_at_once(const IMB_JOB *job);
 
 /* Does a job, of the arguments of `job`, while the proved manager is empty; the application's functions get `given`. Returns its status,
- * and sets the manager's error where it isn't done. */
+ * and sets the manager's error if it isn't done. */
 IMB_STATUS do_at_once(IMB_MGR *m, struct dropin *d, const IMB_JOB *job, IMB_JOB *given);
 
 #endif

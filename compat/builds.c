@@ -25,7 +25,7 @@ static const struct build builds[] = {
 struct build proved;
 static bool has_one;
 
-/* Stands for each export where there is no build. On x86-64 (System V ABI, 3.2.3) a function that takes nothing may be called with any
+/* Stands for each export if there is no build. On x86-64 (System V ABI, 3.2.3) a function that takes nothing may be called with any
  * arguments, and a result of 32 bits is in the register that a pointer or a bool is taken from. */
 static uint32_t refuse(void) {
     return MBJ_ERR_PROCESSOR;

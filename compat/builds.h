@@ -42,7 +42,7 @@ struct build {
     COMPAT_EXPORTS(COMPAT_FIELD)
 };
 
-/* It is set when the library is loaded, and never changed. Where the processor runs no build, each call is refused with
+/* It is set when the library is loaded, and never changed. If the processor runs no build, each call is refused with
  * MBJ_ERR_PROCESSOR and writes nothing. */
 extern struct build proved;
 
@@ -56,7 +56,7 @@ bool has_build(void);
  * they don't cross cache lines the frame is aligned, which is some 10 % of the time of CBC and CTR by AVX2. */
 #define COMPAT_ALIGNED_FRAME _Alignas(64)
 
-/* Bytes that are read or written, as the exports want them: not at NULL, also where there are none. */
+/* Bytes that are read or written, as the exports want them: not at NULL, also if there are none. */
 extern uint8_t nowhere[1];
 
 static inline struct mbj_bytes bytes_at(const void *at, size_t len) {

@@ -1,7 +1,7 @@
 #include "check.h"
 #include "version.h"
 
-/* What intel-ipsec-mb finds wrong, in the order in which it looks, by the source of 1.3: so the same error is told where two things are
+/* What intel-ipsec-mb finds wrong, in the order in which it looks, by the source of 1.3: so the same error is told if two things are
  * wrong. 2.0 looks in the same order but at parts of a text (version_2.c). Their limits are these: texts in lanes have fewer than 2^16 - 1
  * bytes, and the additional data of CCM has at most 46 bytes. */
 #define MOST_LANE_BYTES UINT64_C(65534)

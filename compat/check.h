@@ -4,7 +4,7 @@
 
 #include "algorithms.h"
 
-/* Why the job is refused, or 0. Where the application said that its jobs need no check, is_checked is false: then only what can't be done
+/* Why the job is refused, or 0. If the application said that its jobs need no check, is_checked is false: then only what can't be done
  * is found. */
 int check_job(const IMB_JOB *job, bool is_checked);
 

@@ -5,7 +5,7 @@
 #include <string.h>
 
 /* Any thread may set it: which one's error is read by another thread isn't told. Nearly every call sets it to 0: so it is written only
- * where it differs, and its cache line stays with all threads. */
+ * if it differs, and its cache line stays with all threads. */
 static atomic_int error_of_process;
 
 void set_error(IMB_MGR *m, int error) {

@@ -1,4 +1,4 @@
-/* Errors as intel-ipsec-mb tells them: a number in the manager, where the call has one, and one of the process. Each call sets both. */
+/* Errors as intel-ipsec-mb tells them: a number in the manager, if the call has one, and one of the process. Each call sets both. */
 #ifndef COMPAT_ERRORS_H
 #define COMPAT_ERRORS_H
 
@@ -6,7 +6,7 @@
 
 #include <stdbool.h>
 
-/* Sets the error of the manager, where there is one, and of the process. 0 is none. */
+/* Sets the error of the manager, if there is one, and of the process. 0 is none. */
 void set_error(IMB_MGR *m, int error);
 
 /* Sets the error of a direct call, which has no manager. Returns whether it is none. */

@@ -78,7 +78,7 @@ struct parts {
 _Static_assert(sizeof(struct parts) == sizeof(struct mbj_gcm_state), "mbj.h says where the key stands in a state");
 _Static_assert(sizeof(struct parts) - LONGEST_KEY == sizeof(struct gcm_context_data), "a context has room for a state without its key");
 
-/* False where the context is none of a key of this length: then no key is copied. */
+/* False if the context is none of a key of this length: then no key is copied. */
 static bool load(struct parts *parts, const struct gcm_context_data *context, const struct gcm_key_data *key, size_t key_len) {
     memcpy(&parts->key_len, context, sizeof *context);
     if (parts->key_len != key_len)
@@ -109,7 +109,7 @@ uint32_t gcm_begin(struct gcm_context_data *context, const struct gcm_key_data *
 }
 
 /* What is given a state that is none, or of a key of another length, is refused. The direction is that of the call: a context is begun
- * without one. A text that was moved isn't left where it was to be changed. */
+ * without one. A text that was moved isn't left if it was to be changed. */
 uint32_t gcm_part(struct gcm_context_data *context, const struct gcm_key_data *key, size_t key_len, uint32_t dir, uint8_t *out,
                   const uint8_t *in, uint64_t len) {
     COMPAT_ALIGNED_FRAME struct mbj_gcm_state state;

@@ -18,7 +18,7 @@ void turn_words(uint8_t *to, const uint8_t *from, size_t len, size_t word);
  * the refusal. */
 uint32_t put_hmac_states(uint32_t hash, const void *key, size_t len, void *inner, void *outer);
 
-/* Overwrites what was secret, also where nothing reads it again. */
+/* Overwrites what was secret, also if nothing reads it again. */
 void wipe(void *at, size_t len);
 
 /* Sets the functions of this file in the manager's table. */

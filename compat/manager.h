@@ -19,7 +19,7 @@ struct slot {
     size_t dst_len;
     uint16_t found;    /* the number of the key that was found for it, or 0 */
     bool has_ended;    /* it isn't in the proved manager, or no longer */
-    uint8_t kept;      /* the bits of the last byte of dst that stay as they were, where a length in bits ends within that byte */
+    uint8_t kept;      /* the bits of the last byte of dst that stay as they were, if a length in bits ends within that byte */
     uint8_t last_byte; /* what that byte was */
 };
 
@@ -31,7 +31,7 @@ struct queue {
 };
 
 /* A key of 24 or 32 bytes, and the last two round keys of its schedule of decryption, from which it was found. It is kept while jobs use
- * it, and is all zeros where none does. At most IMB_MAX_JOBS use keys at once, so half of the places are free. */
+ * it, and is all zeros if none does. At most IMB_MAX_JOBS use keys at once, so half of the places are free. */
 struct found_key {
     uint32_t users, len;
     uint8_t round_keys[32], key[32];
@@ -42,7 +42,7 @@ enum { FOUND_KEY_BITS = 9, FOUND_KEYS = 1 << FOUND_KEY_BITS };
 _Static_assert(FOUND_KEYS >= 2 * IMB_MAX_JOBS, "half of the places are free");
 
 struct dropin {
-    uint64_t mark;            /* DROPIN_MARK where a manager was made */
+    uint64_t mark;            /* DROPIN_MARK if a manager was made */
     struct mbj_handle handle; /* its jobs are all of one of the queues */
     struct mbj_pool *pool;
     struct queue ring;  /* jobs of IMB_MGR's own array */
@@ -54,10 +54,10 @@ struct dropin {
 /* The manager that it stands behind. */
 IMB_MGR *manager_of(struct dropin *d);
 
-/* What stands behind a manager, or NULL where none was made in this memory. It sets the errors to none, or to that. */
+/* What stands behind a manager, or NULL if none was made in this memory. It sets the errors to none, or to that. */
 struct dropin *dropin_of(IMB_MGR *m);
 
-/* Sets a manager up for an architecture, where the processor has the features that are wanted; an error says why not. */
+/* Sets a manager up for an architecture, if the processor has the features that are wanted; an error says why not. */
 void set_up_manager(IMB_MGR *m, IMB_ARCH arch, uint64_t wanted);
 
 #endif

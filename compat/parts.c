@@ -80,7 +80,7 @@ static uint32_t give_some(struct queue *queue, uint32_t n, IMB_JOB **jobs) {
     return given;
 }
 
-/* Where the earliest job hasn't ended, none behind it is given. */
+/* If the earliest job hasn't ended, none behind it is given. */
 uint32_t queue_completed_burst(struct dropin *d, struct queue *queue, uint32_t n, IMB_JOB **jobs) {
     uint32_t given = give_some(queue, n, jobs), asked = 1;
     while (given < n && queue->waiting != queue->next) {

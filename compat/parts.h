@@ -25,14 +25,14 @@ static inline void part_begin(struct part *part) {
     part->gathered = 0;
 }
 
-/* Adds a job to the queue, which isn't full. The job's arguments are those of `job`, which were found right where it is a checked one, and
+/* Adds a job to the queue, which isn't full. The job's arguments are those of `job`, which were found right if it is a checked one, and
  * `given` is what is given back. A part that is full, or before a job that is done at once, is handed over. */
 void part_add(IMB_MGR *m, struct queue *queue, struct part *part, const IMB_JOB *job, IMB_JOB *given, bool is_checked);
 
 /* Hands over what was added. */
 void part_hand_over(IMB_MGR *m, struct queue *queue, struct part *part);
 
-/* Give up to n jobs back, the earliest ones, where these have ended, or after finishing them. Return how many. */
+/* Give up to n jobs back, the earliest ones, if these have ended, or after finishing them. Return how many. */
 uint32_t queue_completed_burst(struct dropin *d, struct queue *queue, uint32_t n, IMB_JOB **jobs);
 uint32_t queue_flush_burst(struct dropin *d, struct queue *queue, uint32_t n, IMB_JOB **jobs);
 

@@ -54,7 +54,7 @@ void finish_all(struct dropin *d) {
 
 /* ---- submission ---- */
 
-/* The slot is that behind the queue's jobs: where these have all ended, the job's own result comes next. */
+/* The slot is that behind the queue's jobs: if these have all ended, the job's own result comes next. */
 static void hand_over(IMB_MGR *m, struct dropin *d, struct queue *queue, const IMB_JOB *job, struct said *said) {
     struct slot *slot = slot_at(queue, queue->next);
     struct mbj_raw_done done;

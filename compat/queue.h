@@ -4,13 +4,13 @@
 
 #include "manager.h"
 
-/* Submits a job as the next one of the queue, which isn't full. Returns the queue's earliest job where that has ended. */
+/* Submits a job as the next one of the queue, which isn't full. Returns the queue's earliest job if that has ended. */
 IMB_JOB *queue_submit(IMB_MGR *m, struct queue *queue, IMB_JOB *job, bool is_checked);
 
-/* Gives the earliest job back where it has ended; NULL where it hasn't, or none is there. */
+/* Gives the earliest job back if it has ended; NULL if it hasn't, or none is there. */
 IMB_JOB *queue_completed(struct dropin *d, struct queue *queue);
 
-/* Finishes the earliest job and gives it back; NULL where none is there. */
+/* Finishes the earliest job and gives it back; NULL if none is there. */
 IMB_JOB *queue_flush(struct dropin *d, struct queue *queue);
 
 /* Finishes all jobs of both queues, and gives none back: the proved manager is empty then. */

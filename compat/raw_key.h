@@ -4,7 +4,7 @@
 
 #include "manager.h"
 
-/* Writes the key of 16, 24 or 32 bytes whose schedule of decryption this is, for a job. Returns the number by which it is left, 0 where
+/* Writes the key of 16, 24 or 32 bytes whose schedule of decryption this is, for a job. Returns the number by which it is left, 0 if
  * nothing is kept of it. */
 uint16_t use_key_of_decryption(struct dropin *d, const void *schedule, size_t len, uint8_t *key);
 

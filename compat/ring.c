@@ -1,5 +1,5 @@
 /* The ring of 256 jobs in the manager itself. Facts of intel-ipsec-mb 1.3: the earliest and the next job are told as offsets in bytes, the
- * first of them -1 where no job is out; a job that was handed out isn't cleared, and is handed out again until it is submitted; and the
+ * first of them -1 if no job is out; a job that was handed out isn't cleared, and is handed out again until it is submitted; and the
  * submission that fills the ring finishes the earliest job. */
 #include "ring.h"
 #include "errors.h"

@@ -21,10 +21,10 @@ static inline IMB_JOB *job_at(IMB_MGR *m, int offset) {
     return (IMB_JOB *)(void *)((char *)m->jobs + offset);
 }
 
-/* Submits the next n jobs of the array, where as many are left. */
+/* Submits the next n jobs of the array, if as many are left. */
 void ring_submit_burst(IMB_MGR *m, uint32_t n, bool is_checked);
 
-/* Give up to n jobs back, the earliest ones, where these have ended, or after finishing them. Return how many. */
+/* Give up to n jobs back, the earliest ones, if these have ended, or after finishing them. Return how many. */
 uint32_t ring_completed_burst(IMB_MGR *m, uint32_t n, IMB_JOB **jobs);
 uint32_t ring_flush_burst(IMB_MGR *m, uint32_t n, IMB_JOB **jobs);
 

@@ -90,7 +90,7 @@ bool overlap(const void *a, uint64_t a_len, const void *b, uint64_t b_len) {
     return a_len != 0 && b_len != 0 && (x < y ? y - x < a_len : x - y < b_len);
 }
 
-/* One packet of two ranges that overlap: the bytes as they lie, or a copy, where the cipher's come from elsewhere. */
+/* One packet of two ranges that overlap: the bytes as they lie, or a copy, if the cipher's come from elsewhere. */
 static bool say_span(struct mbj_raw_job *raw, const IMB_JOB *job, const uint8_t *ciphered, uint8_t *gathered) {
     const uint8_t *hashed = hash_start(job), *start = ciphered < hashed ? ciphered : hashed;
     const uint8_t *end = ciphered + raw->cipher_len, *hash_end = hashed + raw->hash_len;

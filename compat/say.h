@@ -4,7 +4,7 @@
 
 #include "manager.h"
 
-/* A job's description, and the bytes that it points to, where they aren't the application's own. */
+/* A job's description, and the bytes that it points to, if they aren't the application's own. */
 struct said {
     struct mbj_raw_job *raw;
     uint16_t found;  /* the number of a key that was found, which is left once the job is back */
@@ -20,11 +20,11 @@ void say_cipher(struct dropin *d, struct said *said, const IMB_JOB *job);
 void say_hash(struct said *said, const IMB_JOB *job);
 void say_aead(struct said *said, const IMB_JOB *job);
 
-/* Says the packet of a job that isn't one of an AEAD. False where its ranges don't fit into one. */
+/* Says the packet of a job that isn't one of an AEAD. False if its ranges don't fit into one. */
 bool say_ranges(struct dropin *d, struct said *said, const IMB_JOB *job);
 
-/* Says a whole job that isn't one of those that are done at once, with its description there. Its packet, where it is gathered, begins behind
- * so many bytes of others. False where its ranges don't fit into one: then nothing is left of it. */
+/* Says a whole job that isn't one of those that are done at once, with its description there. Its packet, if it is gathered, begins behind
+ * so many bytes of others. False if its ranges don't fit into one: then nothing is left of it. */
 bool say_job(struct dropin *d, struct said *said, struct mbj_raw_job *raw, const IMB_JOB *job, size_t gathered);
 
 /* The most bytes that such a job may gather. */

@@ -37,7 +37,7 @@ static inline void make_room(struct mbj_raw_done *done, uint8_t *tag, const stru
 /* Takes the result of the earliest job that waits. */
 void take_result(struct dropin *d, struct queue *queue, const struct mbj_raw_done *done);
 
-/* Gives the earliest job back where it has ended. */
+/* Gives the earliest job back if it has ended. */
 static inline IMB_JOB *give(struct queue *queue) {
     if (queue->first == queue->waiting)
         return NULL;

@@ -1,11 +1,11 @@
 /* intel-ipsec-mb takes some values of a job that nothing has checked for others, of which docs/FROM_IPSEC_MB.md has a table. The same is done
- * here, where that reads no more than the least right value needs that isn't below the given one. */
+ * here, if that reads no more than the least right value needs that isn't below the given one. */
 #include "unchecked.h"
 #include "version.h"
 
 enum { BLOCK = 16, SHORT_IV = 12 };
 
-/* CBC, and CTR with a length in bits, read a block whatever the length is. CTR reads a block where bit 4 of the length is set. */
+/* CBC, and CTR with a length in bits, read a block whatever the length is. CTR reads a block if bit 4 of the length is set. */
 static uint64_t iv_len_as_taken(const struct cipher *cipher, uint64_t len) {
     if (len > BLOCK)
         return len;
@@ -19,7 +19,7 @@ static uint64_t cipher_len_as_taken(const struct cipher *cipher, uint64_t len) {
     return cipher->kind == CIPHER_CBC && len >= BLOCK ? len / BLOCK * BLOCK : len;
 }
 
-/* Where the text has no byte, nothing is ciphered. To decipher by CBC it has one. */
+/* If the text has no byte, nothing is ciphered. To decipher by CBC it has one. */
 static bool has_no_text(const struct cipher *cipher, const IMB_JOB *job) {
     bool may_be_empty = cipher->kind == CIPHER_CTR || (cipher->kind == CIPHER_CBC && is_encryption(job));
     return may_be_empty && job->msg_len_to_cipher_in_bytes == 0;

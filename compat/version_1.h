@@ -23,7 +23,7 @@
 /* How many bits a text of CMAC with a length in bits may have. */
 #define COMPAT_MOST_CMAC_BITS UINT64_C(65534)
 
-/* Whether a direction is taken for the one to encipher, where nothing has checked it. */
+/* Whether a direction is taken for the one to encipher, if nothing has checked it. */
 #define COMPAT_IS_ENCRYPTION(dir) ((dir) == IMB_DIR_ENCRYPT)
 
 /* The hashes of the bursts of an array. */

@@ -55,7 +55,7 @@ int check_segments_behind(const IMB_JOB *job) {
     return 0;
 }
 
-/* A length is taken for the next one that has whole words of 8 bytes. By CCM that isn't CCM where the key isn't the longest. */
+/* A length is taken for the next one that has whole words of 8 bytes. By CCM that isn't CCM if the key isn't the longest. */
 uint64_t key_len_as_taken(const struct cipher *cipher, uint64_t len) {
     uint64_t least = cipher->kind == CIPHER_CCM ? 25 : 9;
     return len >= least && len <= LONGEST_KEY ? (len + 7) / 8 * 8 : len;
@@ -199,7 +199,7 @@ IMB_DLL_EXPORT void imb_hmac_ipad_opad(IMB_MGR *m, const IMB_HASH_ALG alg, const
 /* The jobs that fill the lanes of the proved code, in either build (docs/LANES.md). */
 enum { LANES_OF_WORDS = 16, LANES_OF_LONG_WORDS = 8, LANES_OF_AES = 32 };
 
-/* Writes the size, where there is a place for it, and returns this error where it is 0. */
+/* Writes the size, if there is a place for it, and returns this error if it is 0. */
 static int put_size(const IMB_MGR *m, unsigned *place, unsigned size, int error_of_none) {
     if (m == NULL || place == NULL)
         return m == NULL ? IMB_ERR_NULL_MBMGR : IMB_ERR_NULL_BURST;

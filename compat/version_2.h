@@ -30,7 +30,7 @@
 /* How many bits a text of CMAC with a length in bits may have: those of 65,534 bytes. */
 #define COMPAT_MOST_CMAC_BITS (UINT64_C(65534) * 8)
 
-/* Whether a direction is taken for the one to encipher, where nothing has checked it: by the lowest bit of its number. */
+/* Whether a direction is taken for the one to encipher, if nothing has checked it: by the lowest bit of its number. */
 #define COMPAT_IS_ENCRYPTION(dir) (((unsigned)(dir) & 1) != 0)
 
 /* The hashes of the bursts of an array. */

@@ -63,7 +63,7 @@ static int error_of_packets(const struct packets *packets) {
     return error;
 }
 
-/* Where the proved code refuses a packet its text is filled with zeros: nothing that was to be ciphered is left there. */
+/* If the proved code refuses a packet its text is filled with zeros: nothing that was to be ciphered is left there. */
 static int change_packet(const struct packets *packets, uint64_t i) {
     struct gcm_text text = {
         .dir = packets->dir == IMB_DIR_ENCRYPT ? MBJ_DIR_ENCRYPT : MBJ_DIR_DECRYPT,

@@ -43,7 +43,7 @@ static void free_wiped(void *opaque, void *at, size_t len) {
 
 static const struct mbj_heap of_malloc = {take_malloc, grow_malloc, free_malloc, NULL};
 
-/* Not by realloc, which would leave the old bytes behind where the block moves. */
+/* Not by realloc, which would leave the old bytes behind if the block moves. */
 static const struct mbj_heap wiping = {take_malloc, NULL, free_wiped, NULL};
 
 const struct mbj_heap *mbj_heap_malloc(void) {

@@ -36,7 +36,7 @@ struct mbj_heap {
     void *opaque;
 };
 
-/* malloc, which is asked where nothing is chosen; and malloc, with each block filled with zeros before it is freed: copies of keys and
+/* malloc, which is asked if nothing is chosen; and malloc, with each block filled with zeros before it is freed: copies of keys and
  * packets, and what is computed from them, don't outlive their blocks. Nothing is said of registers and the stack, nor of blocks that are
  * still in use, as those of a manager until it is freed. */
 const struct mbj_heap *mbj_heap_malloc(void);

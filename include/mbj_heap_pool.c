@@ -43,7 +43,7 @@ struct mbj_pool {
     bool has_overflow, wipes;
     struct mbj_heap heap;
     struct mbj_pool_counts counts;
-    uint64_t orders; /* bit i is set where the list of order i isn't empty */
+    uint64_t orders; /* bit i is set if the list of order i isn't empty */
     struct free_block *lists[ORDERS];
     struct free_block *ready[LONGEST_READY_ORDER - LEAST_ORDER + 1]; /* from the least order on */
 };
@@ -83,7 +83,7 @@ static size_t head_room(size_t len) {
     return len >= MBJ_HEAP_LONG ? (size_t)MBJ_HEAP_LINE : sizeof(struct head);
 }
 
-/* The order of the least block that has room for this many bytes and its head; ORDERS where no order has. */
+/* The order of the least block that has room for this many bytes and its head; ORDERS if no order has. */
 static uint32_t order_for(size_t len) {
     uint32_t order = LEAST_ORDER;
     while (order < ORDERS && length_of(order) - head_room(len) < len)
@@ -109,7 +109,7 @@ static size_t offset_of(const struct mbj_pool *pool, const void *block) {
     return (size_t)((const unsigned char *)block - pool->first);
 }
 
-/* The other half of what the block was halved from, where that is free as a whole; else NULL. */
+/* The other half of what the block was halved from, if that is free as a whole; else NULL. */
 static struct free_block *free_buddy(const struct mbj_pool *pool, size_t off, uint32_t order) {
     size_t other = off ^ length_of(order);
     if (length_of(order) > pool->len || other > pool->len - length_of(order))
@@ -153,7 +153,7 @@ static void join_ready(struct mbj_pool *pool) {
 
 /* ---- taking and giving ---- */
 
-/* A block of an order, halved from the least one that is free; NULL where none is. */
+/* A block of an order, halved from the least one that is free; NULL if none is. */
 static struct free_block *take_halved(struct mbj_pool *pool, uint32_t order) {
     uint64_t large_enough = order < ORDERS ? pool->orders >> order << order : 0;
     if (large_enough == 0)
@@ -178,7 +178,7 @@ static struct free_block *take_order(struct mbj_pool *pool, uint32_t order) {
     return take_halved(pool, order);
 }
 
-/* A block for this many bytes; NULL where none is left. */
+/* A block for this many bytes; NULL if none is left. */
 static struct head *take(struct mbj_pool *pool, size_t len) {
     uint32_t order = order_for(len);
     struct free_block *block = take_order(pool, order);

@@ -29,7 +29,7 @@ struct mbj_block rattle_alloc(size_t len, size_t align) {
     return mbj_block_behind(head);
 }
 
-/* Not by realloc, which would leave the old bytes behind where the block moves. */
+/* Not by realloc, which would leave the old bytes behind if the block moves. */
 struct mbj_block rattle_realloc(void *old, size_t kept, size_t len, size_t align) {
     struct mbj_block block = rattle_alloc(len, align);
     if (block.is_there) {

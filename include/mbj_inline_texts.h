@@ -25,7 +25,7 @@ MBJ_API const char *mbj_version_text(void) {
     return mbj_c_build_text();
 }
 
-/* Why a job was refused, as text; NULL where this is no reason of a job. */
+/* Why a job was refused, as text; NULL if this is no reason of a job. */
 static inline const char *mbj_reason_text_(uint32_t reason) {
     switch (reason) {
     case MBJ_REASON_PACKET_LONG: return "the packet is longer than 65,535 bytes";

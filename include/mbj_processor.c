@@ -19,7 +19,7 @@ extern "C" {
 /* The words in which features are told: registers of CPUID's leaves, and what the operating system saves. */
 enum word { LEAF_1_ECX, LEAF_7_EBX, LEAF_80000001_ECX, XCR_0, WORDS };
 
-/* A feature is there where all these bits of its word are set. */
+/* A feature is there if all these bits of its word are set. */
 struct feature {
     const char *name;
     enum word word;
@@ -57,7 +57,7 @@ struct registers {
 /* A leaf of CPUID that the processor has, with the subleaf 0. */
 static struct registers cpuid(uint32_t number);
 
-/* The lower half of XCR0. It traps where the operating system doesn't use XSAVE. */
+/* The lower half of XCR0. It traps if the operating system doesn't use XSAVE. */
 static uint32_t xgetbv(void);
 
 #ifndef MBJ_OWN_PROCESSOR /* a test has a processor of its own */
@@ -74,7 +74,7 @@ static uint32_t xgetbv(void) {
 }
 #endif
 
-/* A leaf of CPUID, or zeros where the processor doesn't have it. Leaf 0 tells the last one, and 0x80000000 that of those from there on. */
+/* A leaf of CPUID, or zeros if the processor doesn't have it. Leaf 0 tells the last one, and 0x80000000 that of those from there on. */
 static struct registers leaf(uint32_t number) {
     static const struct registers none = {0, 0, 0, 0};
     uint32_t last = cpuid(number & UINT32_C(0x80000000)).eax;

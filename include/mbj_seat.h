@@ -251,7 +251,7 @@ MBJ_API uint32_t mbj_collect_burst(MBJ_SEAT *s, uint32_t n, MBJ_JOB **done) {
     return given;
 }
 
-/* A pause of the processor, where there is no other. */
+/* A pause of the processor, if there is no other. */
 static inline void mbj_pause_(void (*pause)(void *), void *with) {
     if (pause != NULL)
         pause(with);

@@ -4,7 +4,7 @@
 enum { ROOM = 64 };
 
 /* What a job comes to: its text, all of which is ciphered or authenticated, and the results, in hexadecimal digits. The key is that of the
- * authentication where there is no cipher. */
+ * authentication if there is no cipher. */
 struct answer {
     const char *name;
     uint32_t cipher, auth;
@@ -147,7 +147,7 @@ static void fill(MBJ_JOB *job, const struct answer *answer, struct trial *trial,
     job->auth_tag_output_len_in_bytes = trial->want_tag.len;
 }
 
-/* NULL where the job comes to what is known, or else its name or the refusal's text. */
+/* NULL if the job comes to what is known, or else its name or the refusal's text. */
 static const char *fault_of(MBJ_MGR *m, const struct answer *answer, uint32_t direction) {
     struct trial trial = trial_of(answer, direction);
     fill(mbj_get_next_job(m), answer, &trial, direction);

@@ -28,7 +28,7 @@ struct mbj_shadow_counters {
     uint64_t over_rate;     /* due, and left out because of the bound of bytes a second */
     uint64_t unspecified;   /* due, and left out since intel-ipsec-mb doesn't say what comes out */
     uint64_t skipped;       /* due, and left out since the proved library hasn't the algorithm */
-    uint64_t skipped_ciphers[MBJ_SHADOW_CIPHERS]; /* of those, by IMB_CIPHER_MODE, where the cipher is the reason; else */
+    uint64_t skipped_ciphers[MBJ_SHADOW_CIPHERS]; /* of those, by IMB_CIPHER_MODE, if the cipher is the reason; else */
     uint64_t skipped_hashes[MBJ_SHADOW_HASHES];   /* by IMB_HASH_ALG */
     uint64_t untold;        /* differing, and without a file or a line: told too fast, or the file couldn't be written */
 };

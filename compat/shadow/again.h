@@ -13,7 +13,7 @@ struct again {
 
 struct again do_again(const struct sample *sample, const struct made *made);
 
-/* A proved manager that has no job, or NULL where there is no memory. */
+/* A proved manager that has no job, or NULL if there is no memory. */
 IMB_MGR *empty_proved_manager(void);
 
 /* In a child of a fork. */

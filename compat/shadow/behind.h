@@ -19,7 +19,7 @@ struct job_calls {
 enum { WAITING_BYTES = 1 << 20 };
 
 struct behind {
-    uint64_t mark; /* BEHIND_MARK where the manager was made in this memory */
+    uint64_t mark; /* BEHIND_MARK if the manager was made in this memory */
     struct job_calls calls;
     const IMB_JOB *expected; /* the job of the earliest sample that waits, or NULL */
     uint32_t table;          /* the number of the direct calls' table, or NO_TABLE */

@@ -15,7 +15,7 @@ static size_t schedule_bytes(unsigned size) {
     return 16 * (key_bytes(size) / 4 + 7);
 }
 
-/* Begins the sample of a call that reads and writes so many bytes. False where it isn't sampled. Calls with wrong arguments aren't: Intel's
+/* Begins the sample of a call that reads and writes so many bytes. False if it isn't sampled. Calls with wrong arguments aren't: Intel's
  * functions return nothing for them. */
 static bool begin_sample(struct builder *builder, bool is_right, const struct table *table, unsigned kind, unsigned which, uint64_t reads,
                          uint64_t writes) {

@@ -30,7 +30,7 @@ static uint32_t drawn_gap(void) {
     return 1 + (uint32_t)((draw() >> 16) % (2 * (uint64_t)settings.every - 1));
 }
 
-/* What is left was counted below 0 where it was the turn. */
+/* What is left was counted below 0 if it was the turn. */
 static void draw_gap(void) {
     if (here.left != UINT32_MAX)
         return;

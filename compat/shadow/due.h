@@ -13,9 +13,9 @@ enum inside { INSIDE_NONE, INSIDE_CALL, INSIDE_PARTS /* of a job of GCM that doe
 
 struct thread_state {
     uint32_t left;     /* jobs and calls before the next sampled one */
-    uint32_t planned;  /* those since the last sampled one, the next one included; 0 where no gap was drawn yet */
+    uint32_t planned;  /* those since the last sampled one, the next one included; 0 if no gap was drawn yet */
     uint8_t inside;    /* enum inside */
-    uint64_t random;   /* 0 where nothing was drawn yet */
+    uint64_t random;   /* 0 if nothing was drawn yet */
     struct feed *feed; /* where this thread's samples go, or NULL */
 };
 
@@ -41,7 +41,7 @@ static inline unsigned class_of_call(unsigned kind, unsigned which) {
 /* How many of a class are still to be sampled before its gaps decide alone. */
 extern _Atomic uint8_t not_yet_of_jobs[CLASSES], not_yet_of_calls[CALL_CLASSES];
 
-/* The rest of is_due: draws a gap where the thread has none yet. */
+/* The rest of is_due: draws a gap if the thread has none yet. */
 bool is_due_now(const _Atomic uint8_t *not_yet);
 
 /* Whether one of this class is sampled; counted for the gap in any case. */
@@ -52,7 +52,7 @@ static inline bool is_due(const _Atomic uint8_t *not_yet) {
     return is_due_now(not_yet);
 }
 
-/* What was due is taken, and counted as sampled, where the bound of bytes a second lets it. One that is too long is dropped. */
+/* What was due is taken, and counted as sampled, if the bound of bytes a second lets it. One that is too long is dropped. */
 bool take_due(_Atomic uint8_t *not_yet, size_t bytes);
 
 /* What was due isn't sampled. In both calls the next gap is drawn where the last one is over. */

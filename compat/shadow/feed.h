@@ -17,7 +17,7 @@ void *feed_room(size_t len);
 /* The sample in the last room is whole: it is given away. */
 void feed_give(const struct sample *sample);
 
-/* The end of this thread will be noted. False where that can't be. */
+/* The end of this thread will be noted. False if that can't be. */
 bool feed_note_thread(void);
 
 /* All feeds, for whoever empties them. Those whose threads have ended, and that are empty, are freed. */

@@ -38,7 +38,7 @@ static bool has_odd_length(const IMB_JOB *job) {
     return is_cut || (is_hash && job->msg_len_to_hash_in_bytes > MOST_HASH_BYTES);
 }
 
-/* A text may be ciphered in place, or elsewhere. Where the two overlap otherwise, what is read later may have been written before. */
+/* A text may be ciphered in place, or elsewhere. If the two overlap otherwise, what is read later may have been written before. */
 static bool overlaps_itself(const IMB_JOB *job) {
     uint64_t len = cipher_bytes(job);
     return len != 0 && job->dst != cipher_start(job) && overlap(job->dst, len, cipher_start(job), len);

@@ -13,7 +13,7 @@ extern struct intel {
     __typeof__(&imb_set_pointers_mb_mgr) set_pointers;
     __typeof__(&imb_get_strerror) text_of_error;
     __typeof__(&imb_get_version_str) version_text;
-    void (*init[IMB_ARCH_NUM])(IMB_MGR *); /* by IMB_ARCH; NULL where there is none */
+    void (*init[IMB_ARCH_NUM])(IMB_MGR *); /* by IMB_ARCH; NULL if there is none */
     void (*init_auto)(IMB_MGR *, IMB_ARCH *);
 } intel;
 

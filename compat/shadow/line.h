@@ -6,7 +6,7 @@
 
 #include <stdio.h>
 
-/* Writes the line. False where the form has none for such a job, or there is no memory; nothing is written then. */
+/* Writes the line. False if the form has none for such a job, or there is no memory; nothing is written then. */
 bool put_job_line(FILE *file, const struct sample *sample);
 
 /* Bytes as a job file has them. */

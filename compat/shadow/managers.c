@@ -31,7 +31,7 @@ static bool is_made(IMB_MGR *m) {
     return m != NULL && behind(m)->mark == BEHIND_MARK;
 }
 
-/* Intel's library finds the table as it left it: where it sets a manager up it may call by it. */
+/* Intel's library finds the table as it left it: if it sets a manager up it may call by it. */
 static void take_checking_calls_off(IMB_MGR *m) {
     struct behind *b = behind(m);
     forget_waiting(b);
@@ -89,7 +89,7 @@ IMB_DLL_EXPORT IMB_MGR *alloc_mb_mgr(uint64_t flags) {
     return m;
 }
 
-/* Intel's free may be another one than that of the memory, where the program brings its own. */
+/* Intel's free may be another one than that of the memory, if the program brings its own. */
 IMB_DLL_EXPORT void free_mb_mgr(IMB_MGR *m) {
     if (is_made(m))
         forget_waiting(behind(m));

@@ -27,11 +27,11 @@ static inline bool is_known(const struct gcm_context_data *context) {
            __builtin_expect(atomic_load_explicit(&known_contexts[place_of_context(context)], memory_order_relaxed) == context, 0);
 }
 
-/* A text was begun in this context: what was known of it is forgotten, and where it is sampled, noted. */
+/* A text was begun in this context: what was known of it is forgotten, and if it is sampled, noted. */
 void parts_begin(bool is_sampled, const struct table *table, unsigned kind, unsigned size, const struct gcm_key_data *key,
                  const struct gcm_context_data *context, const uint8_t *iv, uint64_t iv_len, const uint8_t *aad, uint64_t aad_len);
 
-/* Before a part, whose source is copied, or the last call. False where the text can't be followed: it is forgotten. */
+/* Before a part, whose source is copied, or the last call. False if the text can't be followed: it is forgotten. */
 bool parts_before(const struct gcm_context_data *context, const struct gcm_key_data *key, int dir, const uint8_t *out, const uint8_t *in,
                   uint64_t len);
 

@@ -3,7 +3,7 @@
 
 #include <string.h>
 
-/* In front of each record: its length with this, or 0 where the rest of the ring is left out. */
+/* In front of each record: its length with this, or 0 if the rest of the ring is left out. */
 struct front {
     _Alignas(RECORD_LINE) uint64_t len;
 };

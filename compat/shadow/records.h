@@ -9,7 +9,7 @@
 /* Records begin at multiples of this, as keys of GCM have to. */
 enum { RECORD_LINE = 64 };
 
-/* Counted in bytes from the beginning, modulo 2^64. A record lies in one piece: where it doesn't fit behind the last one, the bytes up to
+/* Counted in bytes from the beginning, modulo 2^64. A record lies in one piece: if it doesn't fit behind the last one, the bytes up to
  * the end of the ring are left out. */
 struct records {
     _Alignas(RECORD_LINE) _Atomic uint64_t head; /* where the next record is appended */
@@ -29,7 +29,7 @@ void records_append(struct records *records, size_t len);
 void *records_first(struct records *records);
 void records_drop(struct records *records);
 
-/* The record that begins at this place, which was the head before, and moves the place behind it; NULL where the place is the head. */
+/* The record that begins at this place, which was the head before, and moves the place behind it; NULL if the place is the head. */
 void *records_next(struct records *records, uint64_t *place);
 
 /* Takes away the records that were appended since the head was at this place, having overwritten them. */

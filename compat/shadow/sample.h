@@ -69,7 +69,7 @@ void note_process(void);
 /* The most bytes of a sample with its results. */
 enum { MOST_SAMPLE = 1 << 18 };
 
-/* How many bytes a sample takes at most whose inputs, image and results have so many; SIZE_MAX where one of them is too long. */
+/* How many bytes a sample takes at most whose inputs, image and results have so many; SIZE_MAX if one of them is too long. */
 size_t most_bytes_of(uint64_t inputs, uint64_t image, uint64_t results);
 
 /* A sample is built in room of a known length: each piece behind the last one. */
@@ -81,20 +81,20 @@ struct builder {
 
 void builder_begin(struct builder *builder, void *room, size_t len, enum kind kind, enum call call);
 
-/* Copies bytes behind what is there. Returns where, or a range of no byte where the room is too short. */
+/* Copies bytes behind what is there. Returns where, or a range of no byte if the room is too short. */
 struct range builder_put(struct builder *builder, const void *from, size_t len);
 
 /* The same, without copying: where they begin. */
 struct range builder_leave(struct builder *builder, size_t len);
 
-/* What Intel's library wrote, behind all the rest. False where the room is too short. */
+/* What Intel's library wrote, behind all the rest. False if the room is too short. */
 bool put_results(struct builder *builder, const void *text, const void *tag);
 
 static inline const void *bytes_of(const struct sample *sample, struct range range) {
     return (const char *)sample + range.off;
 }
 
-/* NULL where the range has no byte. */
+/* NULL if the range has no byte. */
 static inline const void *input_of(const struct sample *sample, enum input input) {
     return sample->inputs[input].len == 0 ? NULL : bytes_of(sample, sample->inputs[input]);
 }

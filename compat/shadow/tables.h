@@ -51,7 +51,7 @@ extern struct table tables[TABLES];
 /* The functions that a manager's table has. */
 void direct_of_manager(struct direct *calls, const IMB_MGR *m);
 
-/* The number of the table that the manager has; NO_TABLE where more of them were seen than there is room for. */
+/* The number of the table that the manager has; NO_TABLE if more of them were seen than there is room for. */
 unsigned table_of_manager(const IMB_MGR *m);
 
 /* Puts the checker's functions for this table in a manager, or Intel's. */

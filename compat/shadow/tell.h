@@ -4,8 +4,8 @@
 
 #include "verdict.h"
 
-/* Does the sample once more by both libraries, writes its file where there is a folder, prints a line on standard error, at most one in a
- * second, and ends the process where MBJ_SHADOW_STOP is set. By whoever works. */
+/* Does the sample once more by both libraries, writes its file if there is a folder, prints a line on standard error, at most one in a
+ * second, and ends the process if MBJ_SHADOW_STOP is set. By whoever works. */
 void tell_mismatch(const struct sample *sample, const struct made *made, const struct verdict *verdict);
 
 /* In a child of a fork. */

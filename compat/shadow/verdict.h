@@ -1,4 +1,4 @@
-/* What came of a sample: counted, and told where the libraries differ. */
+/* What came of a sample: counted, and told if the libraries differ. */
 #ifndef SHADOW_VERDICT_H
 #define SHADOW_VERDICT_H
 
@@ -14,7 +14,7 @@ struct made {
 /* Which of its results differ. */
 struct verdict {
     bool status, error, text, tag;
-    uint32_t first; /* the first byte of the text that differs, or of the tag where the text doesn't */
+    uint32_t first; /* the first byte of the text that differs, or of the tag if the text doesn't */
 };
 
 /* Compares results with those of Intel's library. */
@@ -24,7 +24,7 @@ static inline bool is_differing(const struct verdict *verdict) {
     return verdict->status || verdict->error || verdict->text || verdict->tag;
 }
 
-/* Counts a sample that both libraries have done, and tells it where they differ. */
+/* Counts a sample that both libraries have done, and tells it if they differ. */
 void judge(const struct sample *sample, const struct made *made);
 
 #endif

@@ -20,7 +20,7 @@
 #include <string.h>
 #include <time.h>
 
-/* How long the background thread sleeps where it found nothing, and after how many such rounds it finishes jobs that wait for lanes. The
+/* How long the background thread sleeps if it found nothing, and after how many such rounds it finishes jobs that wait for lanes. The
  * bytes of samples that wait so, after which it does so too; and how many samples of a feed it takes in a round. */
 enum { SLEEP_NANOSECONDS = 10000000, ROUNDS_TO_REST = 10, MOST_WAITING_BYTES = 8 << 20, MOST_OF_ROUND = 1024 };
 
@@ -37,7 +37,7 @@ static struct direct proved_calls;
 static unsigned waiting_tasks;
 static size_t waiting_bytes;
 static bool is_unable;   /* there is no proved manager, which was told */
-static bool has_started; /* the library was loaded: where Intel's can't be, the process ends before that */
+static bool has_started; /* the library was loaded: if Intel's can't be, the process ends before that */
 
 static const struct sample *sample_of(const struct task *task) {
     return (const struct sample *)(const void *)(task + 1);

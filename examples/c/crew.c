@@ -78,7 +78,7 @@ static bool post(struct receiver *r, struct file_job *given) {
     return mbj_post_job(r->seat) == MBJ_ERR_NONE;
 }
 
-/* What a thread does between two bursts of packets: jobs of all, its own results, and, where its earliest job waits too long, lanes that
+/* What a thread does between two bursts of packets: jobs of all, its own results, and, if its earliest job waits too long, lanes that
  * aren't full. */
 static void work(struct receiver *r) {
     MBJ_JOB *done;
@@ -182,7 +182,7 @@ static int run(struct crew *crew) {
     return status;
 }
 
-/* A number from least to most; false where the word is none. */
+/* A number from least to most; false if the word is none. */
 static bool read_count(const char *word, uint64_t least, uint64_t most, uint64_t *count) {
     struct field field = {(char *)(uintptr_t)word, strlen(word)};
     return read_number(field, count) && *count >= least && *count <= most;

@@ -8,7 +8,7 @@
  * with padding, its length and NEXT, and the tag. A suite's name with `-esn` behind it has extended sequence numbers: SEQ has 64 bits then,
  * also in PACKET. On the wire only its low half goes, and a receiver knows the high half by its window.
  *
- * Status 1 for a bad line, 2 where reading, writing or memory fails; the lines before are answered. */
+ * Status 1 for a bad line, 2 if reading, writing or memory fails; the lines before are answered. */
 #define _POSIX_C_SOURCE 200809L /* getline */
 #include "esp_packet.h"
 
@@ -222,7 +222,7 @@ static int do_line(MBJ_JOB *job, uint8_t *line, size_t len, size_t number) {
     return 0;
 }
 
-/* Fills count jobs from lines. Returns how many it filled: fewer where the lines end, or before a bad one. */
+/* Fills count jobs from lines. Returns how many it filled: fewer if the lines end, or before a bad one. */
 static uint32_t read_lines(struct lines *lines, MBJ_JOB *const *jobs, uint32_t count, size_t *number, int *status) {
     for (uint32_t i = 0; i < count; i++) {
         ssize_t len = getline(&lines->at[i], &lines->room[i], stdin);

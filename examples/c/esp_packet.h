@@ -82,7 +82,7 @@ static void put_number(uint8_t *to, uint64_t number, size_t len) {
         to[--len] = (uint8_t)number;
 }
 
-/* Takes a received packet apart; false where it is none. */
+/* Takes a received packet apart; false if it is none. */
 static bool take_apart(struct packet *p, struct bytes wire) {
     size_t tag_len = p->suite->tag_len, high = p->is_esn ? SEQ : 0;
     if (wire.len < text_at(p) + p->suite->align + tag_len + high || wire.len - high > MAX_PACKET)
@@ -94,7 +94,7 @@ static bool take_apart(struct packet *p, struct bytes wire) {
     return (p->len - text_at(p)) % p->suite->align == 0;
 }
 
-/* Returns how many bytes the payload of a text has that ends in padding 1, 2, 3, .., its length and NEXT; SIZE_MAX where it doesn't. */
+/* Returns how many bytes the payload of a text has that ends in padding 1, 2, 3, .., its length and NEXT; SIZE_MAX if it doesn't. */
 static size_t payload_len(const uint8_t *text, size_t len) {
     size_t pad = text[len - 2];
     if (pad > len - TRAILER)

@@ -4,7 +4,7 @@
 #define PROGRAM "gateway"
 #include "jobfile.h"
 
-/* Submits a job, having made room for it where there is none. */
+/* Submits a job, having made room for it if there is none. */
 static int submit(MBJ_MGR *manager, struct file_job *given, const struct file_job *first) {
     MBJ_JOB *job = mbj_get_next_job(manager);
     if (job == NULL) {

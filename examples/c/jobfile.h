@@ -44,7 +44,7 @@ static const char *const auths[] = {"null",    "hmac-sha1", "hmac-sha224", "hmac
                                     "cmac128", "cmac256",   "gcm",         "gmac",        "ccm",         "sha1",
                                     "sha224",  "sha256",    "sha384",      "sha512"};
 
-/* The code of the field, by its place among these words, of which there are count; false where it is none of them. */
+/* The code of the field, by its place among these words, of which there are count; false if it is none of them. */
 static bool read_word(struct field field, const char *const *words, uint32_t count, uint32_t *code) {
     for (*code = 0; *code < count; ++*code)
         if (is_word(field, words[*code]))
@@ -93,7 +93,7 @@ static bool read_bytes(struct field field, const uint8_t **bytes, size_t *len) {
     return true;
 }
 
-/* The fields of a line, which are parted by single spaces; false where they aren't fourteen. */
+/* The fields of a line, which are parted by single spaces; false if they aren't fourteen. */
 static bool split_line(char *line, size_t len, struct field *fields) {
     int count = 0;
     fields[0].at = line;

@@ -118,7 +118,7 @@ static void bursts_without_a_manager(void) {
     CHECK(mbj_get_errno(&own) == MBJ_ERR_NO_MANAGER && jobs[1]->status == MBJ_STATUS_ERROR && mbj_flush_burst(&own, 2, done) == 0);
 }
 
-/* Where memory runs out in the middle of a burst, the jobs before are submitted; the rest stay handed out, and are submitted then. */
+/* If memory runs out in the middle of a burst, the jobs before are submitted; the rest stay handed out, and are submitted then. */
 static bool a_burst_goes_on_where_memory_wanted(MBJ_MGR *m, long at) {
     enum { SIZE = 40 };
     MBJ_JOB *jobs[SIZE], *done[SIZE];
@@ -208,7 +208,7 @@ static void a_burst_fills_the_cells_that_are_left(struct mbj_handle *handle) {
     CHECK(refusals[3] == MBJ_ERR_WORD && refusals[MBJ_MAX_JOBS] == MBJ_ERR_NONE && refusals[MBJ_MAX_JOBS + 1] == MBJ_ERR_FULL);
 }
 
-/* A call is refused where the room of the next result is too short, and nothing is written then. */
+/* A call is refused if the room of the next result is too short, and nothing is written then. */
 static void short_rooms_are_refused(struct mbj_handle *handle) {
     uint8_t dst[CBC_BYTES], tag[MBJ_MAX_TAG_BYTES];
     memset(dst, 0xee, sizeof dst);

@@ -45,7 +45,7 @@ static void a_job_is_submitted_again_where_memory_wanted(MBJ_MGR *m) {
     CHECK(finish(m) == job && is_done(job) && memcmp(tag, mac, sizeof mac) == 0);
 }
 
-/* Submits the job, which takes this many blocks and no more where the manager keeps none, and all of them are free once it is given back
+/* Submits the job, which takes this many blocks and no more if the manager keeps none, and all of them are free once it is given back
  * and the manager trimmed. */
 static void submit_for_blocks(MBJ_MGR *m, long expected) {
     mbj_trim(m);
@@ -112,7 +112,7 @@ static void a_job_without_a_cipher_takes_blocks_too(MBJ_MGR *m) {
     }
 }
 
-/* Many jobs come back in the order of submission; where none is left, one is flushed. */
+/* Many jobs come back in the order of submission; if none is left, one is flushed. */
 static void jobs_come_back_in_order(MBJ_MGR *m) {
     enum { COUNT = 700 };
     static uint8_t tags[COUNT][MAC_BYTES];
@@ -242,7 +242,7 @@ static void exports(void) {
     CHECK(mbj_c_free(&handle) && handle.at == NULL && !mbj_c_free(&handle));
 }
 
-/* Every block that is asked for is freed, also where a manager is asked for twice, where jobs are left, and where making one fails. */
+/* Every block that is asked for is freed, also if a manager is asked for twice, if jobs are left, and if making one fails. */
 static void every_block_is_freed(void) {
     uint8_t dst[CBC_BYTES], tag[MAC_BYTES];
     long before = blocks;

@@ -93,7 +93,7 @@ static inline void make_ccm(MBJ_JOB *job, uint8_t *tag) {
     job->auth_tag_output_len_in_bytes = 16;
 }
 
-/* Submits the job that was handed out where no other one is out, and gives it back. */
+/* Submits the job that was handed out if no other one is out, and gives it back. */
 static inline MBJ_JOB *finish(MBJ_MGR *m) {
     MBJ_JOB *done = mbj_submit_job(m);
     return done == NULL && mbj_get_errno(m) == MBJ_ERR_NONE ? mbj_flush_job(m) : done;

@@ -19,7 +19,7 @@ selftest="$tests/selftest.c $top/include/mbj_selftest.c $tests/refuse.c"
 looks='-Wl,--wrap=mbj_c_submit_job'
 spoils="$wraps,--wrap=mbj_c_submit,--wrap=mbj_c_submit_job,--wrap=mbj_c_flush"
 
-# check NAME COMMAND..: runs the command, and ends the script where it fails.
+# check NAME COMMAND..: runs the command, and ends the script if it fails.
 check() {
     name=$1
     shift

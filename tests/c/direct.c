@@ -181,7 +181,7 @@ static void ccm_refuses_long_ones(void) {
     CHECK(is_all(bytes, sizeof bytes, 0));
 }
 
-/* Where memory runs out, the text and the room of the tag stay as they were, and every block is freed. */
+/* If memory runs out, the text and the room of the tag stay as they were, and every block is freed. */
 static void ccm_is_refused_memory(mbj_err (*ccm)(struct mbj_bytes, struct mbj_bytes, struct mbj_bytes, struct mbj_room, struct mbj_room)) {
     uint8_t text[40], tag[8];
     struct mbj_bytes k = bytes_at(cbc_key, 16), n = bytes_at(cbc_iv, 13), a = bytes_at(cbc_iv, 16);

@@ -190,7 +190,7 @@ static void draw_job(struct source *s, MBJ_JOB *job, struct out *out) {
     job->user_data = out;
 }
 
-/* The bytes that a job reads, which are freed once it is submitted, also where a pointer to some of them is taken away from it. */
+/* The bytes that a job reads, which are freed once it is submitted, also if a pointer to some of them is taken away from it. */
 struct read {
     const uint8_t *bytes[4];
 };

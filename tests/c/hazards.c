@@ -238,7 +238,7 @@ static void forgotten_codes(MBJ_MGR *m) {
 
 /* ---- pointers that are NULL ---- */
 
-/* Takes the pointer of one field away; false where there is no such field. */
+/* Takes the pointer of one field away; false if there is no such field. */
 static bool take_pointer(MBJ_JOB *job, int field) {
     switch (field) {
     case 0: job->packet = NULL; return true;

@@ -290,7 +290,7 @@ static void a_manager_needs_no_malloc(void) {
     CHECK(allocations == 0);
 }
 
-/* Where the pool is used up, jobs aren't submitted, and are again once others were given back and what the manager keeps is freed. */
+/* If the pool is used up, jobs aren't submitted, and are again once others were given back and what the manager keeps is freed. */
 static void a_pool_is_used_up(void) {
     struct gateway *g = &gateways[0];
     struct mbj_block rest[4096];

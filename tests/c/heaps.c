@@ -161,7 +161,7 @@ static void a_set_is_shared(int last) {
     CHECK(is_balanced(&counters[0]) && is_balanced(&counters[1]) && blocks == before);
 }
 
-/* Where a heap refuses a block, so does the call, and nothing is lost. */
+/* If a heap refuses a block, so does the call, and nothing is lost. */
 static void a_heap_refuses(void) {
     static MBJ_MGR m;
     struct mbj_options options = {&own[0], MBJ_KEEPS_SHORT};

@@ -18,7 +18,7 @@ static void print_draws(unsigned count) {
         printf("%02x", draw());
 }
 
-/* A cipher with an authentication, which has a tag of tag_len bytes, and a key of key_len, where its key isn't that of an HMAC. */
+/* A cipher with an authentication, which has a tag of tag_len bytes, and a key of key_len, if its key isn't that of an HMAC. */
 struct pair {
     const char *cipher, *auth;
     unsigned tag_len, key_len;

@@ -93,7 +93,7 @@ static void keys_are_changed_in_flight(void) {
     CHECK(blocks == 0);
 }
 
-/* Whether a set was made, shared and used, where an allocation may be refused; else nothing stays of it. */
+/* Whether a set was made, shared and used, if an allocation may be refused; else nothing stays of it. */
 static bool goes_well(MBJ_MGR *m) {
     struct mbj_keys one = MBJ_KEYS_INIT, other = MBJ_KEYS_INIT;
     mbj_err made = mbj_keys_new(&one, three_keys, KEYS);

@@ -72,7 +72,7 @@ static void lanes_run_once_all_are_in_use(MBJ_MGR *m) {
     }
 }
 
-/* Two jobs wait in the same lanes where their kind is the same: a hash beside the HMAC of that hash, and SHA-224 beside SHA-256. */
+/* Two jobs wait in the same lanes if their kind is the same: a hash beside the HMAC of that hash, and SHA-224 beside SHA-256. */
 static void jobs_of_a_kind_share_lanes(MBJ_MGR *m) {
     uint8_t dst[CBC_BYTES], tag[MAC_BYTES];
     for (size_t i = 0; i < sizeof all / sizeof *all; i++)

@@ -1,4 +1,4 @@
-# Prints job lines (docs/FORMAT.md), as many as `count` says: every cipher with every authentication, also where the two don't go together,
+# Prints job lines (docs/FORMAT.md), as many as `count` says: every cipher with every authentication, also if the two don't go together,
 # and drawn bytes. One line in eight has a length that may not be taken. Run it as: awk -v count=4000 -f tests/c/pairs.awk
 BEGIN {
     split("null cbc ctr gcm ccm", ciphers)

@@ -34,7 +34,7 @@ static bool cipher_range(const MBJ_JOB *job, const uint8_t *from, uint8_t *to) {
     return is_done && (uint64_t)len == job->msg_len_to_cipher_in_bytes;
 }
 
-/* Tells the cipher the length of the IV and, where it is CCM, those of the tag and of the text too, and then the key and the IV. */
+/* Tells the cipher the length of the IV and, if it is CCM, those of the tag and of the text too, and then the key and the IV. */
 static bool start_combined(const MBJ_JOB *job, EVP_CIPHER_CTX *c, const EVP_CIPHER *cipher) {
     int tag_len = (int)job->auth_tag_output_len_in_bytes, text_len = (int)job->msg_len_to_cipher_in_bytes, len = 0;
     size_t iv_len = job->iv_len_in_bytes;

@@ -78,7 +78,7 @@ class Association:
         return self.tagged(esp)
 
     def open(self, packet):
-        """NEXT and payload, or None where scapy refuses the packet."""
+        """NEXT and payload, or None if scapy refuses the packet."""
         try:
             if self.has_own_tag:
                 packet, received = packet[:-self.auth.icv_size], packet[-self.auth.icv_size:]
@@ -178,7 +178,7 @@ def paddings(align):
 
 
 def test_padding(program, associations):
-    """A right tag doesn't help where the padding is wrong. One that is longer than it had to be is right."""
+    """A right tag doesn't help if the padding is wrong. One that is longer than it had to be is right."""
     cases = [(sa, *case) for sa in associations for case in paddings(16 if sa.suite.startswith("cbc") else 4)]
     opened = answers(program, [sa.open_line(sa.seal_padded(*case)) for sa, *case, _ in cases])
     for (sa, payload, padding, pad_len, is_right), answer in zip(cases, opened):

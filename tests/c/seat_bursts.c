@@ -126,7 +126,7 @@ static void other_jobs_are_not_posted(MBJ_SEAT *s) {
     CHECK(mbj_post_burst(s, 0, swapped) == 0 && mbj_seat_errno(s) == MBJ_ERR_NONE);
 }
 
-/* Where memory runs out in the middle of a burst, the jobs before are posted; the rest stay handed out, and are posted then. */
+/* If memory runs out in the middle of a burst, the jobs before are posted; the rest stay handed out, and are posted then. */
 static bool a_burst_goes_on_where_memory_wanted(struct pair *pair, long at) {
     enum { SIZE = 40 };
     MBJ_SEAT *s = &pair->seat;
@@ -203,7 +203,7 @@ static void each_result_goes_to_the_room_of_its_place(struct mbj_seat *seat) {
     CHECK(rooms[2].dst_len == 9 && rooms[2].status == 9 && is_all(dst[2], sizeof dst[2], 0xee) && is_all(tags[2], sizeof tags[2], 0xee));
 }
 
-/* Where the job that comes next has no room, each call is refused, whatever room there is behind; nothing is written, and it stays out. */
+/* If the job that comes next has no room, each call is refused, whatever room there is behind; nothing is written, and it stays out. */
 static void a_short_room_is_used_by_no_other_job(struct mbj_seat *seat) {
     uint8_t dst[2][CBC_BYTES], tags[2][MBJ_MAX_TAG_BYTES];
     struct mbj_raw_done rooms[2] = {{{dst[0], CBC_BYTES - 1}, {tags[0], MBJ_MAX_TAG_BYTES}, 9, 9, 9, 9},

@@ -100,7 +100,7 @@ struct submitter {
     struct text texts[MOST_JOBS], wanted[MOST_JOBS];
 };
 
-/* A worker goes away after so many turns, whatever is in its hand then; or where that is 0, when it is told to. */
+/* A worker goes away after so many turns, whatever is in its hand then; or if that is 0, when it is told to. */
 struct worker {
     struct mbj_seat *seat;
     const bool *stop;

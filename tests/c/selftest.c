@@ -1,4 +1,4 @@
-/* Tests include/mbj_selftest.c: no fault is found where there is none, every result that is spoiled is found and named, and a refusal is
+/* Tests include/mbj_selftest.c: no fault is found if there is none, every result that is spoiled is found and named, and a refusal is
  * told. Link with that file, with refuse.c, and with -Wl,--wrap for mbj_c_submit, mbj_c_submit_job and mbj_c_flush, whose results are spoiled here. */
 #include "check.h"
 #include "mbj_selftest.h"

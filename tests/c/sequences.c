@@ -38,7 +38,7 @@ static void draw_bytes(uint8_t *at, size_t len) {
 
 static const char *const ciphers[] = {"null", "cbc", "ctr", "gcm", "ccm"};
 
-/* An authentication: its word, the bytes of its longest tag and of its key, MOST_KEY where it takes any key, and the hash whose states
+/* An authentication: its word, the bytes of its longest tag and of its key, MOST_KEY if it takes any key, and the hash whose states
  * are its key, or -1. */
 struct auth {
     uint32_t code;
@@ -124,7 +124,7 @@ static void draw_ranges(struct out *o) {
     o->hash_len = o->packet_len - o->hash_off - draw(o->packet_len - o->hash_off + 1) / 4;
 }
 
-/* One job in sixteen has a length or a place that its cipher or its authentication doesn't take, where it has one. */
+/* One job in sixteen has a length or a place that its cipher or its authentication doesn't take, if it has one. */
 static void draw_fault(struct out *o) {
     if (draw(16) != 0)
         return;

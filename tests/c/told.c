@@ -1,5 +1,5 @@
-/* Prints the library's text, and whether a manager is made here: its refusal, and the feature that the processor lacks. Status 0 where one
- * is made, 1 where the processor is refused, 2 else. */
+/* Prints the library's text, and whether a manager is made here: its refusal, and the feature that the processor lacks. Status 0 if one
+ * is made, 1 if the processor is refused, 2 else. */
 #include "mbj.h"
 
 #include <stdio.h>

@@ -121,7 +121,7 @@ static const struct kind kinds[] = {
 
 static const uint8_t keys[KEYS] = {1, 2, 3, 4, 5, 6, 7, 8, 9, 10, 11, 12, 13, 14, 15, 16, 17, 18, 19, 20};
 
-/* The bytes of a job: it is done in place where a packet is given, and behind its text stands its tag. */
+/* The bytes of a job: it is done in place if a packet is given, and behind its text stands its tag. */
 static void fill_kind(MBJ_JOB *job, const struct kind *kind, uint8_t *packet, uint8_t *tag) {
     size_t tag_len = mbj_tag_bytes(kind->auth);
     mbj_job_cipher_auth(job, kind->cipher, kind->auth, kind->dir, keys, 16, cbc_iv, kind->iv_len, keys, kind->auth_key_len, packet, TEXT, 0,
@@ -137,7 +137,7 @@ static void do_kind(MBJ_MGR *m, const struct kind *kind, uint8_t *packet, uint8_
     CHECK(done != NULL && done->status == MBJ_STATUS_COMPLETED && done->expected_tag == NULL);
 }
 
-/* One job that expects the tag; where it has room for its own, that is written only where it is the right one. */
+/* One job that expects the tag; if it has room for its own, that is written only if it is the right one. */
 static void expect(MBJ_MGR *m, const struct kind *kind, const uint8_t *expected, uint8_t *own, const uint8_t *wanted) {
     uint8_t packet[TEXT + MOST_TAG], copy[MOST_TAG];
     size_t tag_len = mbj_tag_bytes(kind->auth);

@@ -3,7 +3,7 @@
 
 An example is a block between two lines ``` in a `///` or `//!` comment of a file crates/NAME/src/*.rt. It has to stand word for word in
 code that the gate runs: in mbj_job_tests or mbj_front_tests, in the program mbjobs, or in the tests of its own crate. Only the indentation of
-the whole block may differ. Prints how many examples it compared, and each that stands nowhere; ends with status 1 where there is one. It
+the whole block may differ. Prints how many examples it compared, and each that stands nowhere; ends with status 1 if there is one. It
 needs python3 alone.
 """
 import pathlib

@@ -4,14 +4,14 @@ code, which the program of crates/mbj_tables prints (its file stdout, with which
 
     tests/docs/facts.py
 
-Prints each name of C, word or phrase that isn't there, and ends with status 1 where one isn't."""
+Prints each name of C, word or phrase that isn't there, and ends with status 1 if one isn't."""
 import re
 import sys
 from pathlib import Path
 
 TOP = Path(__file__).resolve().parents[2]
 
-# C's names where they aren't the words of job files in capitals.
+# C's names if they aren't the words of job files in capitals.
 NAMES = {
     "cipher": {"ctr": "CNTR"},
     "direction": {"enc": "ENCRYPT", "dec": "DECRYPT"},

@@ -88,7 +88,7 @@ static long session_of(int side, int cipher, int dir, size_t key_len, int hash) 
     return is_another && memcmp(one.suite_id, other.suite_id, sizeof one.suite_id) == 0 ? 0 : -1;
 }
 
-/* Of algorithms that the second library hasn't it may give a session where the first one doesn't, and never the other way round. */
+/* Of algorithms that the second library hasn't it may give a session if the first one doesn't, and never the other way round. */
 static void compare_sessions(void) {
     static const size_t key_lens[] = {0, 8, 15, 16, 17, 24, 25, 32, 33, 64};
     for (int cipher = 0; cipher <= IMB_CIPHER_NUM; cipher++)

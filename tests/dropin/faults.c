@@ -180,7 +180,7 @@ static void change_lengths(const struct algorithms *a, int dir) {
 }
 
 /* intel-ipsec-mb 1.3 makes the context of GCM in parts from enc_keys in either direction, and this library from dec_keys to decipher: so
- * both are the same where they are drawn. */
+ * both are the same if they are drawn. */
 static void change_places(const struct algorithms *a, int dir) {
     CHANGE(cipher_direction, 0, 3);
     CHANGE(chain_order, IMB_ORDER_CIPHER_HASH, IMB_ORDER_HASH_CIPHER);

@@ -1,5 +1,5 @@
 /* keys: once a job is back and the program has wiped what it gave, neither its raw key nor its packet lies in memory that the library
- * wrote: the manager's, and that of the process's heap, also where it was freed. Lanes of the proved code that keep the key of their last
+ * wrote: the manager's, and that of the process's heap, also if it was freed. Lanes of the proved code that keep the key of their last
  * job are given jobs with another key first. The stack isn't searched. This program is linked to the library. */
 #define _GNU_SOURCE
 #define NO_COMPAT_IMB_API_053

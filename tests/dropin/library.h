@@ -24,7 +24,7 @@ struct library {
     uint32_t (*set_session)(IMB_MGR *, IMB_JOB *); /* NULL in 1.3 */
 };
 
-/* Loads a library and makes a manager. Ends the program where it can't. */
+/* Loads a library and makes a manager. Ends the program if it can't. */
 void load_library(struct library *library, const char *path);
 
 /* Sets the numbers that are drawn from here on, by their seed. */

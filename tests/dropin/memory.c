@@ -158,7 +158,7 @@ static void check_overflow(void) {
     unmap_zone(zone, 0);
 }
 
-/* Where the heap is empty too, a job comes back in its place as one that failed, and none is lost. */
+/* If the heap is empty too, a job comes back in its place as one that failed, and none is lost. */
 static void check_want_of_memory(void) {
     uint8_t *zone = map_zone(0);
     IMB_MGR *m = make(zone);

@@ -1,7 +1,7 @@
 #include "odd.h"
 
-/* What intel-ipsec-mb makes of each value is in docs/FROM_IPSEC_MB.md. Where it takes the value for a right one, both libraries have to
- * write the same bytes. Where it would read or write what the job hasn't, the drop-in has to refuse. */
+/* What intel-ipsec-mb makes of each value is in docs/FROM_IPSEC_MB.md. If it takes the value for a right one, both libraries have to
+ * write the same bytes. If it would read or write what the job hasn't, the drop-in has to refuse. */
 
 static bool is_cipher(const struct sample *sample, int cipher) {
     return sample->cipher == cipher;
@@ -78,7 +78,7 @@ static void draw_iv_len(struct odd *odd, const struct sample *sample) {
         odd->value = is_cipher(sample, IMB_CIPHER_GCM) ? 0 : is_short || draw_below(2) == 0 ? 17 + draw_below(1000) : draw_below(7);
 }
 
-/* Intel's code deciphers beyond the text by CBC where that has a length of no whole blocks and the key 24 bytes. */
+/* Intel's code deciphers beyond the text by CBC if that has a length of no whole blocks and the key 24 bytes. */
 static void draw_cipher_len(struct odd *odd, const struct sample *sample) {
     bool is_encryption = sample->dir == IMB_DIR_ENCRYPT, is_cbc = is_cipher(sample, IMB_CIPHER_CBC);
     odd->value = 0;

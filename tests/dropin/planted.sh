@@ -12,7 +12,7 @@ plant() {
     $cc -shared -Wl,-soname,"$soname" -Wl,--version-script="$top/packaging/dropin.map" -o "$room/plant/$soname" "$room/plant/bug.o" $objects
 }
 
-# finds: tells in $room/found which suite fails over the planted bug; fails where none does.
+# finds: tells in $room/found which suite fails over the planted bug; fails if none does.
 finds() {
     planted=$room/plant/$soname
     "$room/jobs" "$theirs" "$planted" 4000 || { echo 'drawn jobs differ' > "$room/found"; return; }

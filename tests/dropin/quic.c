@@ -38,7 +38,7 @@ static void do_packets(int side, const struct gcm_key_data *key, size_t key_len,
                        int missing, uint64_t at) {
     struct packets *p = &packets[side];
     void **arrays[] = {p->dst, (void **)p->src, (void **)p->ivs, (void **)p->aads, p->tags};
-    IMB_FLUSH_JOB(libraries[side].m); /* the first library leaves an error as it was where it finds none */
+    IMB_FLUSH_JOB(libraries[side].m); /* the first library leaves an error as it was if it finds none */
     if (missing >= 1 && missing <= 5 && at < n)
         arrays[missing - 1][at] = NULL;
     calls[side](libraries[side].m, missing == 6 ? NULL : key, (IMB_KEY_SIZE_BYTES)key_len, (IMB_CIPHER_DIRECTION)dir,

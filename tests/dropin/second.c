@@ -90,7 +90,7 @@ static int second(int file) {
     struct shared *shared = map_zone(file);
     IMB_MGR *m = imb_set_pointers_mb_mgr(ZONE, 0, 0);
     if (m == NULL || shared->library == (void *)alloc_mb_mgr)
-        return m == NULL ? 3 : 4; /* where addresses aren't drawn, nothing is shown */
+        return m == NULL ? 3 : 4; /* if addresses aren't drawn, nothing is shown */
     submit(m, shared, FIRST_JOBS, SECOND_JOBS);
     flush(m, shared);
     return 0;

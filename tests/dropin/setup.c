@@ -203,7 +203,7 @@ static void fill_ctr(IMB_JOB *job, const uint8_t *schedule, const uint8_t *own_i
     job->iv_len_in_bytes = 16;
 }
 
-/* Results are written in the order of the jobs: where their places overlap the last one stays. */
+/* Results are written in the order of the jobs: if their places overlap the last one stays. */
 static unsigned check_one_place(void) {
     enum { JOBS = 40 };
     DECLARE_ALIGNED(static uint8_t schedules[2][240], 16);

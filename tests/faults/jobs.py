@@ -164,7 +164,7 @@ def command_of(line, content, submitters, workers):
 
 
 def read(text, parties=None):
-    """The jobs of a file, and the commands of its script, where it may have one."""
+    """The jobs of a file, and the commands of its script, if it may have one."""
     pieces = text.split(b"\n")
     pieces = pieces if pieces[-1] else pieces[:-1]
     keys, jobs, commands, in_script = [], [], [], False

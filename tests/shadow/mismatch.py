@@ -1,5 +1,5 @@
 """mismatch.py FOLDER WHAT LINE [MBJOBS]: the folder has one file of a mismatch, which only its owner may read. WHAT (text, tag or status) is
-what differs in it, by one bit where it isn't the status. LINE is yes where the file has to have a job's line, and no where it has none.
+what differs in it, by one bit if it isn't the status. LINE is yes if the file has to have a job's line, and no if it has none.
 The line is run by the program mbjobs, or by tests/faults/reference.py, and has to give the proved text and tag."""
 import os
 import re
