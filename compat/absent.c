@@ -19,11 +19,11 @@ __attribute__((constructor)) static void read_setting(void) {
 
 /* Most of these calls return nothing: were one to come back, the program would take its old bytes for the result. */
 uint64_t absent_result(const char *name) {
-    static atomic_flag is_told = ATOMIC_FLAG_INIT;
+    static atomic_flag is_reported = ATOMIC_FLAG_INIT;
     direct_error(ENOTSUP);
     if (goes_on)
         return 0;
-    if (!atomic_flag_test_and_set(&is_told))
+    if (!atomic_flag_test_and_set(&is_reported))
         fprintf(stderr, COMPAT_SONAME " of mbj: %s isn't here, and gives no result. MBJ_DROPIN_ABSENT=continue goes on without it\n", name);
     abort();
 }

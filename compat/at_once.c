@@ -78,7 +78,7 @@ static IMB_STATUS do_long_hash(IMB_MGR *m, const struct hash *hash, const IMB_JO
 static IMB_STATUS do_hash(IMB_MGR *m, struct dropin *d, const IMB_JOB *job, IMB_JOB *given) {
     const struct hash *hash = hash_of(job);
     struct mbj_raw_job raw;
-    struct said said;
+    struct raw_form form;
     if (hash->kind == HASH_NONE)
         return IMB_STATUS_COMPLETED;
     if (hash->kind == HASH_CUSTOM)
@@ -87,13 +87,13 @@ static IMB_STATUS do_hash(IMB_MGR *m, struct dropin *d, const IMB_JOB *job, IMB_
         return do_long_hash(m, hash, job);
     if (is_padded_long(job))
         return do_padded_long(m, d, job);
-    say_nothing(&said, &raw);
-    say_hash(&said, job);
-    said.raw->packet = bytes_at(hash_start(job), hash_bytes(job));
-    said.raw->hash_len = hash_bytes(job);
+    fill_nothing(&form, &raw);
+    fill_hash(&form, job);
+    form.raw->packet = bytes_at(hash_start(job), hash_bytes(job));
+    form.raw->hash_len = hash_bytes(job);
     if (hash_open_bits(job) != 0)
-        say_padded(d, &said, job);
-    return do_alone(m, d, &said, NULL, job->auth_tag_output);
+        fill_padded(d, &form, job);
+    return do_alone(m, d, &form, NULL, job->auth_tag_output);
 }
 
 static IMB_STATUS do_gcm(IMB_MGR *m, const IMB_JOB *job) {

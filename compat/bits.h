@@ -2,10 +2,10 @@
 #ifndef COMPAT_BITS_H
 #define COMPAT_BITS_H
 
-#include "say.h"
+#include "raw_form.h"
 
-/* Says the packet of such a job without a cipher, whose authentication is said. */
-void say_padded(struct dropin *d, struct said *said, const IMB_JOB *job);
+/* Fills in the packet of such a job without a cipher, whose authentication is filled in. */
+void fill_padded(struct dropin *d, struct raw_form *form, const IMB_JOB *job);
 
 /* Whether a text has more whole blocks than a packet, once it is padded: then its authentication is done by itself. */
 bool is_padded_long(const IMB_JOB *job);

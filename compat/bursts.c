@@ -97,7 +97,7 @@ static uint32_t flush_burst(IMB_MGR *m, const uint32_t n, IMB_JOB **jobs) {
 /* ---- of the application's array ---- */
 
 /* The algorithms of a burst, which the call tells and its jobs needn't. */
-struct told {
+struct call {
     IMB_CIPHER_MODE cipher;
     IMB_CIPHER_DIRECTION dir;
     IMB_KEY_SIZE_BYTES key_len;
@@ -105,22 +105,22 @@ struct told {
     IMB_CHAIN_ORDER order;
 };
 
-static IMB_JOB job_told(const IMB_JOB *job, const struct told *told) {
+static IMB_JOB job_of_call(const IMB_JOB *job, const struct call *call) {
     IMB_JOB copy = *job;
-    copy.cipher_mode = told->cipher;
-    copy.hash_alg = told->hash;
-    copy.chain_order = told->order;
-    if (told->cipher != IMB_CIPHER_NULL) {
-        copy.cipher_direction = told->dir;
-        copy.key_len_in_bytes = told->key_len;
+    copy.cipher_mode = call->cipher;
+    copy.hash_alg = call->hash;
+    copy.chain_order = call->order;
+    if (call->cipher != IMB_CIPHER_NULL) {
+        copy.cipher_direction = call->dir;
+        copy.key_len_in_bytes = call->key_len;
     }
     return copy;
 }
 
 /* A wrong job of a checked burst: none is done then. */
-static bool has_wrong_job(IMB_MGR *m, IMB_JOB *jobs, uint32_t n, const struct told *told) {
+static bool has_wrong_job(IMB_MGR *m, IMB_JOB *jobs, uint32_t n, const struct call *call) {
     for (uint32_t i = 0; i < n; i++) {
-        IMB_JOB job = job_told(&jobs[i], told);
+        IMB_JOB job = job_of_call(&jobs[i], call);
         int error = check_job(&job, true);
         if (error != 0) {
             set_error(m, error);
@@ -138,7 +138,7 @@ static void make_place(IMB_MGR *m, struct queue *queue, struct part *part) {
     (void)queue_flush_burst(m->aes128_ooo, queue, MOST_IN_PART, given);
 }
 
-static uint32_t do_burst(IMB_MGR *m, IMB_JOB *jobs, uint32_t n, const struct told *told, bool is_checked) {
+static uint32_t do_burst(IMB_MGR *m, IMB_JOB *jobs, uint32_t n, const struct call *call, bool is_checked) {
     struct dropin *d = m->aes128_ooo;
     struct part part;
     uint32_t done = 0;
@@ -146,12 +146,12 @@ static uint32_t do_burst(IMB_MGR *m, IMB_JOB *jobs, uint32_t n, const struct tol
         set_error(m, IMB_ERR_NULL_BURST);
         return 0;
     }
-    if (is_checked && has_wrong_job(m, jobs, n, told))
+    if (is_checked && has_wrong_job(m, jobs, n, call))
         return 0;
     finish_all(d);
     part_begin(&part);
     for (uint32_t i = 0; i < n; i++) {
-        IMB_JOB job = job_told(&jobs[i], told);
+        IMB_JOB job = job_of_call(&jobs[i], call);
         if (queue_len(&d->burst) == IMB_MAX_JOBS)
             make_place(m, &d->burst, &part);
         part_add(m, &d->burst, &part, &job, &jobs[i], is_checked);
@@ -164,14 +164,14 @@ static uint32_t do_burst(IMB_MGR *m, IMB_JOB *jobs, uint32_t n, const struct tol
     return done;
 }
 
-static uint32_t cipher_burst(IMB_MGR *m, IMB_JOB *jobs, uint32_t n, const struct told *told, bool is_checked) {
+static uint32_t cipher_burst(IMB_MGR *m, IMB_JOB *jobs, uint32_t n, const struct call *call, bool is_checked) {
     if (dropin_of(m) == NULL)
         return 0;
-    if (jobs != NULL && told->cipher != IMB_CIPHER_CBC && told->cipher != IMB_CIPHER_CNTR) {
+    if (jobs != NULL && call->cipher != IMB_CIPHER_CBC && call->cipher != IMB_CIPHER_CNTR) {
         set_error(m, IMB_ERR_CIPH_MODE);
         return 0;
     }
-    return do_burst(m, jobs, n, told, is_checked);
+    return do_burst(m, jobs, n, call, is_checked);
 }
 
 /* What a burst's direction is taken for, checked or not: CTR has one, and CBC deciphers by each code but the one to encipher. */
@@ -181,19 +181,19 @@ static IMB_CIPHER_DIRECTION dir_as_taken(IMB_CIPHER_MODE cipher, IMB_CIPHER_DIRE
 
 static uint32_t submit_cipher_burst(IMB_MGR *m, IMB_JOB *jobs, const uint32_t n, const IMB_CIPHER_MODE cipher,
                                     const IMB_CIPHER_DIRECTION dir, const IMB_KEY_SIZE_BYTES key_len) {
-    struct told told = {cipher, dir_as_taken(cipher, dir), key_len, IMB_AUTH_NULL, IMB_ORDER_CIPHER_HASH};
-    return cipher_burst(m, jobs, n, &told, true);
+    struct call call = {cipher, dir_as_taken(cipher, dir), key_len, IMB_AUTH_NULL, IMB_ORDER_CIPHER_HASH};
+    return cipher_burst(m, jobs, n, &call, true);
 }
 
 static uint32_t submit_unchecked_cipher_burst(IMB_MGR *m, IMB_JOB *jobs, const uint32_t n, const IMB_CIPHER_MODE cipher,
                                               const IMB_CIPHER_DIRECTION dir, const IMB_KEY_SIZE_BYTES key_len) {
-    struct told told = {cipher, dir_as_taken(cipher, dir), key_len, IMB_AUTH_NULL, IMB_ORDER_CIPHER_HASH};
-    return cipher_burst(m, jobs, n, &told, false);
+    struct call call = {cipher, dir_as_taken(cipher, dir), key_len, IMB_AUTH_NULL, IMB_ORDER_CIPHER_HASH};
+    return cipher_burst(m, jobs, n, &call, false);
 }
 
 /* Without an array intel-ipsec-mb 1.3 sets the error of the process alone. */
 static uint32_t hash_burst(IMB_MGR *m, IMB_JOB *jobs, uint32_t n, IMB_HASH_ALG hash, bool is_checked) {
-    struct told told = {IMB_CIPHER_NULL, IMB_DIR_ENCRYPT, IMB_KEY_128_BYTES, hash, IMB_ORDER_HASH_CIPHER};
+    struct call call = {IMB_CIPHER_NULL, IMB_DIR_ENCRYPT, IMB_KEY_128_BYTES, hash, IMB_ORDER_HASH_CIPHER};
     if (dropin_of(m) == NULL)
         return 0;
     if (jobs == NULL) {
@@ -204,7 +204,7 @@ static uint32_t hash_burst(IMB_MGR *m, IMB_JOB *jobs, uint32_t n, IMB_HASH_ALG h
         set_error(m, IMB_ERR_HASH_ALGO);
         return 0;
     }
-    return do_burst(m, jobs, n, &told, is_checked);
+    return do_burst(m, jobs, n, &call, is_checked);
 }
 
 static uint32_t submit_hash_burst(IMB_MGR *m, IMB_JOB *jobs, const uint32_t n, const IMB_HASH_ALG hash) {
@@ -218,14 +218,14 @@ static uint32_t submit_unchecked_hash_burst(IMB_MGR *m, IMB_JOB *jobs, const uin
 /* CCM alone has such bursts. */
 uint32_t aead_burst(IMB_MGR *m, IMB_JOB *jobs, uint32_t n, IMB_CIPHER_MODE cipher, IMB_CIPHER_DIRECTION dir, IMB_KEY_SIZE_BYTES key_len,
                     bool is_checked) {
-    struct told told = {cipher, dir, key_len, IMB_AUTH_AES_CCM, IMB_ORDER_HASH_CIPHER};
+    struct call call = {cipher, dir, key_len, IMB_AUTH_AES_CCM, IMB_ORDER_HASH_CIPHER};
     if (dropin_of(m) == NULL)
         return 0;
     if (jobs != NULL && cipher != IMB_CIPHER_CCM) {
         set_error(m, IMB_ERR_CIPH_MODE);
         return 0;
     }
-    return do_burst(m, jobs, n, &told, is_checked);
+    return do_burst(m, jobs, n, &call, is_checked);
 }
 
 void set_burst_functions(IMB_MGR *m) {

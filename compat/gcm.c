@@ -1,6 +1,6 @@
 #include "gcm.h"
 #include "algorithms.h"
-#include "say.h"
+#include "raw_form.h"
 
 #include <string.h>
 

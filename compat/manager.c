@@ -175,7 +175,7 @@ void set_up_manager(IMB_MGR *m, IMB_ARCH arch, uint64_t wanted) {
     set_functions(m);
     m->features = (m->features & ~IMB_FEATURE_SELF_TEST_PASS) | selftest_features(has_passed);
     m->used_arch = arch;
-    note_architecture(m);
+    keep_architecture(m);
     m->earliest_job = -1;
     m->next_job = 0;
 }

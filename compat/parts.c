@@ -56,11 +56,11 @@ typedef void (*giving)(struct mbj_handle *, struct mbj_raw_done *, size_t, struc
 
 /* Makes the call of the export as many times as there are rooms, and takes what it gives. Returns how many results that are. */
 static uint32_t take_results(struct dropin *d, struct queue *queue, struct rooms *rooms, giving call) {
-    struct mbj_raw_burst told = {0, 0, MBJ_ERR_NONE};
-    call(&d->handle, rooms->done, rooms->count, &told);
-    for (size_t i = 0; i < told.given; i++)
+    struct mbj_raw_burst burst = {0, 0, MBJ_ERR_NONE};
+    call(&d->handle, rooms->done, rooms->count, &burst);
+    for (size_t i = 0; i < burst.given; i++)
         take_result(d, queue, &rooms->done[i]);
-    return (uint32_t)told.given;
+    return (uint32_t)burst.given;
 }
 
 /* A flush gives a result wherever a job waits. If it didn't, the job would come back as one that failed: none is lost. */
@@ -112,11 +112,11 @@ void queue_finish(struct dropin *d, struct queue *queue) {
 /* ---- jobs ---- */
 
 /* What the proved manager had no memory for comes back, and what stands behind it is submitted. Returns how many are. */
-static uint32_t note_refusals(IMB_MGR *m, struct part *part, const uint32_t *refusals) {
+static uint32_t end_refused(IMB_MGR *m, struct part *part, const uint32_t *refusals) {
     struct dropin *d = m->aes128_ooo;
     uint32_t filled = 0;
     for (uint32_t i = 0; i < part->count; i++) {
-        forget_said(d, &part->said[i]);
+        forget_form(d, &part->forms[i]);
         if (refusals[i] == MBJ_ERR_NONE) {
             filled++;
         } else {
@@ -136,7 +136,7 @@ void part_hand_over(IMB_MGR *m, struct queue *queue, struct part *part) {
         return;
     (void)mbj_pool_name(d->pool);
     (void)proved.mbj_c_fill_burst(&d->handle, part->raws, part->count, refusals, part->count);
-    uint32_t filled = note_refusals(m, part, refusals);
+    uint32_t filled = end_refused(m, part, refusals);
     part_begin(part);
     skip_ended(queue);
     for (; filled != 0; filled -= rooms.count) {
@@ -158,22 +158,22 @@ static bool has_lanes(const struct mbj_raw_job *raw) {
     return has_hash || (raw->cipher == MBJ_CIPHER_CBC && raw->dir == MBJ_DIR_ENCRYPT);
 }
 
-/* Whether the job was said behind the others. */
-static bool say_behind(IMB_MGR *m, struct queue *queue, struct part *part, const IMB_JOB *job, struct slot *slot) {
+/* Whether the job's form was filled behind the others. */
+static bool fill_behind(IMB_MGR *m, struct queue *queue, struct part *part, const IMB_JOB *job, struct slot *slot) {
     struct dropin *d = m->aes128_ooo;
     if (is_done_at_once(job))
         return false;
     if (part->count == MOST_IN_PART || part->alone >= MOST_ALONE || !has_room(part, job))
         part_hand_over(m, queue, part);
-    struct said *said = &part->said[part->count];
-    if (!say_job(d, said, &part->raws[part->count], job, part->gathered))
+    struct raw_form *form = &part->forms[part->count];
+    if (!fill_job(d, form, &part->raws[part->count], job, part->gathered))
         return false;
-    note_places(slot, job);
-    slot->found = said->found;
+    keep_places(slot, job);
+    slot->found = form->found;
     part->slots[part->count++] = slot;
-    part->alone += has_lanes(said->raw) ? 0 : said->raw->packet.len;
-    if (said->raw->packet.at == d->gathered + said->gathered)
-        part->gathered += said->raw->packet.len;
+    part->alone += has_lanes(form->raw) ? 0 : form->raw->packet.len;
+    if (form->raw->packet.at == d->gathered + form->gathered)
+        part->gathered += form->raw->packet.len;
     return true;
 }
 
@@ -186,7 +186,7 @@ void part_add(IMB_MGR *m, struct queue *queue, struct part *part, const IMB_JOB 
     if (error != 0) {
         set_error(m, error);
         end_slot(d, slot, IMB_STATUS_INVALID_ARGS);
-    } else if (!say_behind(m, queue, part, job, slot)) {
+    } else if (!fill_behind(m, queue, part, job, slot)) {
         part_hand_over(m, queue, part);
         finish_all(d);
         end_slot(d, slot, do_at_once(m, d, job, given));

@@ -3,18 +3,18 @@
 #define COMPAT_PARTS_H
 
 #include "queue.h"
-#include "say.h"
+#include "raw_form.h"
 
 /* How many go at once; a longer burst goes in parts. A job that waits for no lanes is done soonest while its packet, which is copied when
  * it is filled, is still in the nearest cache: so a part ends where such packets have together MOST_ALONE bytes. */
 enum { MOST_IN_PART = 32, MOST_ALONE = 2048 };
 
-/* Jobs of a queue, the last ones, that are said and aren't handed over yet. */
+/* Jobs of a queue, the last ones, whose forms are filled and which aren't handed over yet. */
 struct part {
     uint32_t count;
     size_t alone;    /* the bytes of the packets of jobs that wait for no lanes */
     size_t gathered; /* the bytes of their packets that were gathered */
-    struct said said[MOST_IN_PART];
+    struct raw_form forms[MOST_IN_PART];
     struct mbj_raw_job raws[MOST_IN_PART]; /* their descriptions */
     struct slot *slots[MOST_IN_PART];
 };

@@ -7,16 +7,16 @@
 
 enum { BLOCK = 16, MOST_PIECE = PACKET_BYTES / BLOCK * BLOCK };
 
-IMB_STATUS do_alone(IMB_MGR *m, struct dropin *d, struct said *said, uint8_t *dst, uint8_t *tag) {
+IMB_STATUS do_alone(IMB_MGR *m, struct dropin *d, struct raw_form *form, uint8_t *dst, uint8_t *tag) {
     COMPAT_ALIGNED_FRAME uint8_t whole_tag[MBJ_MAX_TAG_BYTES];
     struct mbj_raw_done done;
     memset(&done, 0, sizeof done);
-    done.dst = room_at(dst, said->raw->cipher == MBJ_CIPHER_NULL ? 0 : said->raw->cipher_len);
+    done.dst = room_at(dst, form->raw->cipher == MBJ_CIPHER_NULL ? 0 : form->raw->cipher_len);
     done.tag = room_at(whole_tag, sizeof whole_tag);
     (void)mbj_pool_name(d->pool);
-    uint32_t refusal = proved.mbj_c_fill(&d->handle, said->raw);
-    forget_said(d, said);
-    leave_key(d, said->found);
+    uint32_t refusal = proved.mbj_c_fill(&d->handle, form->raw);
+    forget_form(d, form);
+    leave_key(d, form->found);
     if (refusal != MBJ_ERR_NONE) {
         set_error(m, error_of_refusal(refusal));
         return IMB_STATUS_INTERNAL_ERROR;
@@ -27,7 +27,7 @@ IMB_STATUS do_alone(IMB_MGR *m, struct dropin *d, struct said *said, uint8_t *ds
         set_error(m, error_of_reason(done.reason));
         return IMB_STATUS_INVALID_ARGS;
     }
-    if (done.tag_len != 0 && done.tag_len <= said->raw->tag_len)
+    if (done.tag_len != 0 && done.tag_len <= form->raw->tag_len)
         memcpy(tag, whole_tag, done.tag_len);
     return IMB_STATUS_COMPLETED;
 }
@@ -97,13 +97,13 @@ static void put_next_block(uint8_t *next, const uint8_t *block, const IMB_JOB *j
 
 static IMB_STATUS do_piece(IMB_MGR *m, struct dropin *d, const IMB_JOB *job, const uint8_t *block, uint64_t off, uint64_t len) {
     struct mbj_raw_job raw;
-    struct said said;
-    say_nothing(&said, &raw);
-    say_cipher(d, &said, job);
-    said.raw->iv = bytes_at(block, BLOCK);
-    said.raw->packet = bytes_at(cipher_start(job) + off, len);
-    said.raw->cipher_len = len;
-    return do_alone(m, d, &said, job->dst + off, NULL);
+    struct raw_form form;
+    fill_nothing(&form, &raw);
+    fill_cipher(d, &form, job);
+    form.raw->iv = bytes_at(block, BLOCK);
+    form.raw->packet = bytes_at(cipher_start(job) + off, len);
+    form.raw->cipher_len = len;
+    return do_alone(m, d, &form, job->dst + off, NULL);
 }
 
 static IMB_STATUS do_pieces(IMB_MGR *m, struct dropin *d, const IMB_JOB *job) {

@@ -55,20 +55,20 @@ void finish_all(struct dropin *d) {
 /* ---- submission ---- */
 
 /* The slot is that behind the queue's jobs: if these have all ended, the job's own result comes next. */
-static void hand_over(IMB_MGR *m, struct dropin *d, struct queue *queue, const IMB_JOB *job, struct said *said) {
+static void hand_over(IMB_MGR *m, struct dropin *d, struct queue *queue, const IMB_JOB *job, struct raw_form *form) {
     struct slot *slot = slot_at(queue, queue->next);
     struct mbj_raw_done done;
     COMPAT_ALIGNED_FRAME uint8_t tag[MBJ_MAX_TAG_BYTES];
     (void)mbj_pool_name(d->pool);
-    uint32_t refusal = proved.mbj_c_fill(&d->handle, said->raw);
-    slot->found = said->found;
-    forget_said(d, said);
+    uint32_t refusal = proved.mbj_c_fill(&d->handle, form->raw);
+    slot->found = form->found;
+    forget_form(d, form);
     if (refusal != MBJ_ERR_NONE) {
         set_error(m, error_of_refusal(refusal));
         end_slot(d, slot, IMB_STATUS_INTERNAL_ERROR);
         return;
     }
-    note_places(slot, job);
+    keep_places(slot, job);
     make_room(&done, tag, slot_at(queue, queue->waiting));
     if (proved.mbj_c_submit(&d->handle, &done, &refusal))
         take_result(d, queue, &done);
@@ -77,15 +77,15 @@ static void hand_over(IMB_MGR *m, struct dropin *d, struct queue *queue, const I
 static void start(IMB_MGR *m, struct dropin *d, struct queue *queue, const IMB_JOB *given, bool is_checked) {
     struct slot *slot = slot_at(queue, queue->next);
     struct mbj_raw_job raw;
-    struct said said;
+    struct raw_form form;
     IMB_JOB copy;
     const IMB_JOB *job = is_checked ? given : job_as_taken(given, &copy);
     int error = check_job(job, is_checked);
     if (error != 0) {
         set_error(m, error);
         end_slot(d, slot, IMB_STATUS_INVALID_ARGS);
-    } else if (!is_done_at_once(job) && say_job(d, &said, &raw, job, 0)) {
-        hand_over(m, d, queue, job, &said);
+    } else if (!is_done_at_once(job) && fill_job(d, &form, &raw, job, 0)) {
+        hand_over(m, d, queue, job, &form);
     } else {
         finish_all(d);
         end_slot(d, slot, do_at_once(m, d, job, slot->job));

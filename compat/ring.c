@@ -11,18 +11,18 @@ static struct queue *ring_of(IMB_MGR *m) {
 }
 
 /* The job was given back: the one behind it is the earliest now. */
-static IMB_JOB *note_given(IMB_MGR *m, IMB_JOB *job) {
+static IMB_JOB *return_job(IMB_MGR *m, IMB_JOB *job) {
     if (job != NULL)
         m->earliest_job = queue_len(ring_of(m)) == 0 ? -1 : offset_behind((int)((char *)job - (char *)m->jobs));
     return job;
 }
 
 static IMB_JOB *ring_completed(IMB_MGR *m) {
-    return note_given(m, queue_completed(m->aes128_ooo, ring_of(m)));
+    return return_job(m, queue_completed(m->aes128_ooo, ring_of(m)));
 }
 
 static IMB_JOB *ring_flush(IMB_MGR *m) {
-    return note_given(m, queue_flush(m->aes128_ooo, ring_of(m)));
+    return return_job(m, queue_flush(m->aes128_ooo, ring_of(m)));
 }
 
 static IMB_JOB *ring_submit(IMB_MGR *m, bool is_checked) {
@@ -32,7 +32,7 @@ static IMB_JOB *ring_submit(IMB_MGR *m, bool is_checked) {
     if (m->earliest_job < 0)
         m->earliest_job = m->next_job;
     m->next_job = offset_behind(m->next_job);
-    return note_given(m, queue_submit(m, ring_of(m), job, is_checked));
+    return return_job(m, queue_submit(m, ring_of(m), job, is_checked));
 }
 
 void ring_submit_burst(IMB_MGR *m, uint32_t n, bool is_checked) {
@@ -49,18 +49,18 @@ void ring_submit_burst(IMB_MGR *m, uint32_t n, bool is_checked) {
 }
 
 /* The jobs were given back, which is noted by the last one. */
-static uint32_t note_burst(IMB_MGR *m, IMB_JOB **jobs, uint32_t n) {
+static uint32_t return_burst(IMB_MGR *m, IMB_JOB **jobs, uint32_t n) {
     if (n != 0)
-        (void)note_given(m, jobs[n - 1]);
+        (void)return_job(m, jobs[n - 1]);
     return n;
 }
 
 uint32_t ring_completed_burst(IMB_MGR *m, uint32_t n, IMB_JOB **jobs) {
-    return note_burst(m, jobs, queue_completed_burst(m->aes128_ooo, ring_of(m), n, jobs));
+    return return_burst(m, jobs, queue_completed_burst(m->aes128_ooo, ring_of(m), n, jobs));
 }
 
 uint32_t ring_flush_burst(IMB_MGR *m, uint32_t n, IMB_JOB **jobs) {
-    return note_burst(m, jobs, queue_flush_burst(m->aes128_ooo, ring_of(m), n, jobs));
+    return return_burst(m, jobs, queue_flush_burst(m->aes128_ooo, ring_of(m), n, jobs));
 }
 
 /* ---- the calls ---- */

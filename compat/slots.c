@@ -5,7 +5,7 @@
 
 #include <string.h>
 
-void note_places(struct slot *slot, const IMB_JOB *job) {
+void keep_places(struct slot *slot, const IMB_JOB *job) {
     uint64_t len = cipher_bytes(job);
     unsigned open_bits = cipher_open_bits(job);
     slot->dst = job->dst;

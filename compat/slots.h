@@ -23,8 +23,8 @@ static inline struct slot *take_slot(struct queue *queue, IMB_JOB *given) {
     return slot;
 }
 
-/* Notes where the result of a job goes whose arguments are right. */
-void note_places(struct slot *slot, const IMB_JOB *job);
+/* Keeps where the result of a job goes whose arguments are right. */
+void keep_places(struct slot *slot, const IMB_JOB *job);
 
 void end_slot(struct dropin *d, struct slot *slot, IMB_STATUS status);
 

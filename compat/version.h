@@ -21,8 +21,8 @@ int check_in_burst(const IMB_JOB *job);
 /* Whether the known answers come out for a manager that is set up. */
 bool passes_at_set_up(const IMB_MGR *m);
 
-/* Notes which kind of an architecture a manager runs. */
-void note_architecture(IMB_MGR *m);
+/* Keeps which kind of an architecture a manager runs. */
+void keep_architecture(IMB_MGR *m);
 
 /* Sets the functions of this version alone in the manager's table. */
 void set_version_functions(IMB_MGR *m);

@@ -55,7 +55,7 @@ bool passes_at_set_up(const IMB_MGR *m) {
     return has_passed_selftest();
 }
 
-void note_architecture(IMB_MGR *m) {
+void keep_architecture(IMB_MGR *m) {
     (void)m;
 }
 

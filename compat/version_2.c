@@ -63,7 +63,7 @@ uint64_t key_len_as_taken(const struct cipher *cipher, uint64_t len) {
 
 /* ---- architectures ---- */
 
-void note_architecture(IMB_MGR *m) {
+void keep_architecture(IMB_MGR *m) {
     m->used_arch_type = 1;
 }
 

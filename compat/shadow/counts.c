@@ -24,10 +24,10 @@ void counts_forget(void) {
         atomic_store_explicit(&counts[i], 0, memory_order_relaxed);
 }
 
-IMB_DLL_EXPORT size_t mbj_shadow_counts(struct mbj_shadow_counters *told, size_t len) {
+IMB_DLL_EXPORT size_t mbj_shadow_counts(struct mbj_shadow_counters *room, size_t len) {
     uint64_t now[COUNTS];
     for (unsigned i = 0; i < COUNTS; i++)
         now[i] = count_of(i);
-    memcpy(told, now, len < sizeof now ? len : sizeof now);
+    memcpy(room, now, len < sizeof now ? len : sizeof now);
     return sizeof now;
 }

@@ -1,7 +1,7 @@
 #include "direct.h"
 #include "counts.h"
 #include "feed.h"
-#include "say.h"
+#include "raw_form.h"
 
 #include <string.h>
 

@@ -88,7 +88,7 @@ bool take_due(_Atomic uint8_t *not_yet, size_t bytes) {
     return !is_long;
 }
 
-void tell_seen(void) {
+void count_seen(void) {
     if (here.planned != 0)
         count_more(COUNT_SEEN, here.planned - 1 - here.left);
     here.planned = here.left = 0;

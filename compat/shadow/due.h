@@ -59,7 +59,7 @@ bool take_due(_Atomic uint8_t *not_yet, size_t bytes);
 void pass_due(_Atomic uint8_t *not_yet);
 
 /* Counts what the thread has seen since its last sample. */
-void tell_seen(void);
+void count_seen(void);
 
 /* In a child of a fork, and when the library is loaded: no class was sampled yet, and this thread has no gap. */
 void due_forget(void);

@@ -17,7 +17,7 @@ static bool has_key;
 
 static void end_thread(void *any) {
     (void)any;
-    tell_seen();
+    count_seen();
     if (here.feed != NULL)
         atomic_store_explicit(&here.feed->is_given_up, true, memory_order_release);
     here.feed = NULL;

@@ -3,7 +3,7 @@
 #include "fit.h"
 #include "algorithms.h"
 #include "check.h"
-#include "say.h"
+#include "raw_form.h"
 #include "unchecked.h"
 
 /* A limit of the proved code alone. */

@@ -36,7 +36,7 @@ extern const char forward_names[];
 extern const uint32_t forward_declared, forward_all;
 
 static void stop(const char *what, const char *which) {
-    say_line("%s%s. The checker needs Intel's library of version " IMB_VERSION_STR ": give its path by MBJ_SHADOW_LIBRARY", what, which);
+    log_line("%s%s. The checker needs Intel's library of version " IMB_VERSION_STR ": give its path by MBJ_SHADOW_LIBRARY", what, which);
     exit(EXIT_FAILURE);
 }
 
@@ -101,7 +101,7 @@ void *intel_function(const char *name) {
 }
 
 static void absent_name(void) {
-    say_line("a function was called that %s hasn't, and that the header of its version doesn't declare", intel_path);
+    log_line("a function was called that %s hasn't, and that the header of its version doesn't declare", intel_path);
     abort();
 }
 

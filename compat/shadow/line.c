@@ -1,10 +1,10 @@
-/* What the proved library was given of a sample is what a job file's line says: so the drop-in's own functions say it. */
+/* What the proved library was given of a sample is what a job file's line says: so the drop-in's own functions fill it in. */
 #include "line.h"
 #include "again.h"
 #include "algorithms.h"
 #include "at_once.h"
+#include "raw_form.h"
 #include "raw_key.h"
-#include "say.h"
 #include "tables.h"
 #include "take.h"
 
@@ -71,7 +71,7 @@ static struct mbj_bytes key_in(const struct sample *sample) {
     return bytes_at(input_of(sample, INPUT_KEY), 16 + 8 * (size_t)(sample->which % KEY_SIZES));
 }
 
-static void say_gcm(struct mbj_raw_job *raw, const struct sample *sample) {
+static void fill_gcm(struct mbj_raw_job *raw, const struct sample *sample) {
     raw->cipher = MBJ_CIPHER_GCM;
     raw->auth = MBJ_AUTH_GCM;
     raw->dir = sample->dir == IMB_DIR_ENCRYPT ? MBJ_DIR_ENCRYPT : MBJ_DIR_DECRYPT;
@@ -81,14 +81,14 @@ static void say_gcm(struct mbj_raw_job *raw, const struct sample *sample) {
     raw->cipher_len = sample->text.len;
 }
 
-static void say_gmac(struct mbj_raw_job *raw, const struct sample *sample) {
+static void fill_gmac(struct mbj_raw_job *raw, const struct sample *sample) {
     raw->auth = MBJ_AUTH_AES_GMAC;
     raw->auth_key = key_in(sample);
     raw->packet = bytes_in(sample, sample->inputs[INPUT_AAD]);
     raw->hash_len = raw->packet.len;
 }
 
-static void say_digest(struct mbj_raw_job *raw, const struct sample *sample) {
+static void fill_digest(struct mbj_raw_job *raw, const struct sample *sample) {
     static const uint8_t auths[HASHES] = {MBJ_AUTH_SHA_1, MBJ_AUTH_SHA_224, MBJ_AUTH_SHA_256, MBJ_AUTH_SHA_384, MBJ_AUTH_SHA_512};
     raw->auth = auths[sample->which];
     raw->packet = bytes_in(sample, sample->inputs[INPUT_AAD]);
@@ -97,15 +97,15 @@ static void say_digest(struct mbj_raw_job *raw, const struct sample *sample) {
 
 static bool put_line_of_call(FILE *file, const struct sample *sample) {
     struct mbj_raw_job raw;
-    struct said said;
-    say_nothing(&said, &raw);
+    struct raw_form form;
+    fill_nothing(&form, &raw);
     raw.iv = bytes_in(sample, sample->inputs[INPUT_IV]);
     raw.tag_len = (uint8_t)(sample->kind == KIND_DIGEST ? sample->text.len : sample->tag.len);
     switch (sample->kind) {
     case KIND_GCM:
-    case KIND_GCM_IN_PARTS: say_gcm(&raw, sample); break;
-    case KIND_GMAC_IN_PARTS: say_gmac(&raw, sample); break;
-    case KIND_DIGEST: say_digest(&raw, sample); break;
+    case KIND_GCM_IN_PARTS: fill_gcm(&raw, sample); break;
+    case KIND_GMAC_IN_PARTS: fill_gmac(&raw, sample); break;
+    case KIND_DIGEST: fill_digest(&raw, sample); break;
     default: return false;
     }
     if (raw.packet.len > PACKET_BYTES || raw.aad.len > PACKET_BYTES || raw.iv.len > PACKET_BYTES)
@@ -119,25 +119,25 @@ static bool put_line_of_call(FILE *file, const struct sample *sample) {
 /* A line has no lengths in bits, no counter that wraps within 32 bits, no packet that is longer, and no tag that is ciphered itself. */
 static bool put_line_of_job(FILE *file, const struct sample *sample, struct dropin *d, uint8_t *image) {
     struct mbj_raw_job raw;
-    struct said said;
+    struct raw_form form;
     IMB_JOB job;
     job_of_sample(&job, sample, image);
     if (is_done_at_once(&job) || cipher_open_bits(&job) != 0 || hash_open_bits(&job) != 0)
         return false;
-    say_nothing(&said, &raw);
-    bool is_said = true;
+    fill_nothing(&form, &raw);
+    bool is_filled = true;
     if (cipher_of(&job)->partner != 0) {
-        say_aead(&said, &job);
+        fill_aead(&form, &job);
     } else {
-        say_cipher(d, &said, &job);
-        say_hash(&said, &job);
-        is_said = say_ranges(d, &said, &job);
+        fill_cipher(d, &form, &job);
+        fill_hash(&form, &job);
+        is_filled = fill_ranges(d, &form, &job);
     }
-    if (is_said)
-        put_line(file, said.raw);
-    forget_said(d, &said);
-    leave_key(d, said.found);
-    return is_said;
+    if (is_filled)
+        put_line(file, form.raw);
+    forget_form(d, &form);
+    leave_key(d, form.found);
+    return is_filled;
 }
 
 bool put_job_line(FILE *file, const struct sample *sample) {

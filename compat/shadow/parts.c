@@ -3,7 +3,7 @@
 #include "due.h"
 #include "feed.h"
 #include "keys.h"
-#include "say.h"
+#include "raw_form.h"
 
 #include <pthread.h>
 #include <stdlib.h>

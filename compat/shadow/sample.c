@@ -13,7 +13,7 @@ static size_t lines(size_t len) {
 
 int this_process;
 
-__attribute__((constructor(SHADOW_SETTINGS))) void note_process(void) {
+__attribute__((constructor(SHADOW_SETTINGS))) void keep_process(void) {
     this_process = getpid();
 }
 

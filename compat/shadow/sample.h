@@ -64,7 +64,7 @@ struct sample {
 
 /* The number of this process. It is noted when the library is loaded, and in a child of a fork. */
 extern int this_process;
-void note_process(void);
+void keep_process(void);
 
 /* The most bytes of a sample with its results. */
 enum { MOST_SAMPLE = 1 << 18 };

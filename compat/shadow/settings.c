@@ -12,7 +12,7 @@ enum { DEFAULT_EVERY = 1000, DEFAULT_RATE = 10000000 };
 struct settings settings;
 
 /* One write, so that lines of several threads don't mix. */
-void say_line(const char *format, ...) {
+void log_line(const char *format, ...) {
     char line[512] = "libIPSec_MB.so.1 of mbj: ";
     size_t used = strlen(line);
     va_list arguments;
@@ -42,7 +42,7 @@ static uint64_t number_of(const char *name, uint64_t most, uint64_t otherwise) {
     uint64_t number = strtoull(text, &end, 10);
     if (*text >= '0' && *text <= '9' && *end == '\0' && errno == 0 && number <= most)
         return number;
-    say_line("%s is no number from 0 to %llu, and is taken for %llu", name, (unsigned long long)most, (unsigned long long)otherwise);
+    log_line("%s is no number from 0 to %llu, and is taken for %llu", name, (unsigned long long)most, (unsigned long long)otherwise);
     return otherwise;
 }
 

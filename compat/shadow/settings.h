@@ -18,7 +18,7 @@ struct settings {
 extern struct settings settings;
 
 /* Prints one line on standard error, with the library's name in front and a line's end behind. */
-void say_line(const char *format, ...) __attribute__((format(printf, 1, 2)));
+void log_line(const char *format, ...) __attribute__((format(printf, 1, 2)));
 
 /* The order in which the library's constructors run, behind those of the proved code. */
 enum { SHADOW_SETTINGS = 110, SHADOW_INTEL, SHADOW_START };

@@ -71,15 +71,15 @@ static bool write_file(void) {
 
 bool write_status(bool is_end) {
     static time_t written;
-    static bool is_told;
+    static bool is_reported;
     struct timespec now;
     clock_gettime(CLOCK_MONOTONIC_COARSE, &now);
     if (now.tv_sec == written && !is_end)
         return false;
     written = now.tv_sec;
-    if (settings.status != NULL && !write_file() && !is_told) {
-        is_told = true;
-        say_line("the status can't be written to %s: %s", settings.status, strerror(errno));
+    if (settings.status != NULL && !write_file() && !is_reported) {
+        is_reported = true;
+        log_line("the status can't be written to %s: %s", settings.status, strerror(errno));
     }
     return true;
 }

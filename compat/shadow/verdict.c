@@ -1,6 +1,6 @@
 #include "verdict.h"
 #include "counts.h"
-#include "tell.h"
+#include "report.h"
 
 #include <string.h>
 
@@ -37,7 +37,7 @@ void judge(const struct sample *sample, const struct made *made) {
     count_more(COUNT_COMPARED, 1);
     if (is_differing(&verdict)) {
         count_more(COUNT_DIFFERING, 1);
-        tell_mismatch(sample, made, &verdict);
+        report_mismatch(sample, made, &verdict);
     } else if (made->status != IMB_STATUS_COMPLETED) {
         count_more(COUNT_REFUSED_ALIKE, 1);
     }

@@ -1,4 +1,4 @@
-/* What came of a sample: counted, and told if the libraries differ. */
+/* What came of a sample: counted, and reported if the libraries differ. */
 #ifndef SHADOW_VERDICT_H
 #define SHADOW_VERDICT_H
 
@@ -24,7 +24,7 @@ static inline bool is_differing(const struct verdict *verdict) {
     return verdict->status || verdict->error || verdict->text || verdict->tag;
 }
 
-/* Counts a sample that both libraries have done, and tells it if they differ. */
+/* Counts a sample that both libraries have done, and reports it if they differ. */
 void judge(const struct sample *sample, const struct made *made);
 
 #endif

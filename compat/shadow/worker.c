@@ -4,12 +4,12 @@
 #include "keys.h"
 #include "parts.h"
 #include "proved.h"
+#include "report.h"
 #include "run.h"
 #include "selftest.h"
 #include "settings.h"
 #include "status.h"
 #include "take.h"
-#include "tell.h"
 #include "verdict.h"
 
 #include <errno.h>
@@ -54,7 +54,7 @@ static bool has_manager(void) {
         direct_of_manager(&proved_calls, proved_manager);
     } else {
         is_unable = true;
-        say_line("there is no memory for the proved library's manager: nothing is compared");
+        log_line("there is no memory for the proved library's manager: nothing is compared");
     }
     return proved_manager != NULL;
 }
@@ -193,7 +193,7 @@ static void ensure_thread(void) {
     if (begin_thread())
         return;
     atomic_store(&thread_is, THREAD_FAILED);
-    say_line("a thread can't be begun: samples are dropped. MBJ_SHADOW_THREAD=0 does the work in the program's threads");
+    log_line("a thread can't be begun: samples are dropped. MBJ_SHADOW_THREAD=0 does the work in the program's threads");
 }
 
 void worker_wake(struct feed *feed) {
@@ -229,13 +229,13 @@ static void forget_in_child(void) {
     waiting_bytes = 0;
     is_unable = false;
     atomic_store(&thread_is, THREAD_NONE);
-    note_process();
+    keep_process();
     counts_forget();
     due_forget();
     feeds_forget();
     parts_forget_all();
     tables_forget_lock();
-    tell_forget();
+    report_forget();
 }
 
 __attribute__((constructor(SHADOW_START))) static void start(void) {
@@ -243,10 +243,10 @@ __attribute__((constructor(SHADOW_START))) static void start(void) {
     if (sched_getaffinity(0, sizeof processors, &processors) != 0)
         CPU_ZERO(&processors);
     if (pthread_atfork(NULL, NULL, forget_in_child) != 0)
-        say_line("a handler of forks can't be set: a child that goes on with a manager may tell mismatches that are none");
+        log_line("a handler of forks can't be set: a child that goes on with a manager may tell mismatches that are none");
     if (!has_passed_selftest() && settings.every != 0) {
         settings.every = 0;
-        say_line("the proved library doesn't give its known answers on this processor: nothing is compared");
+        log_line("the proved library doesn't give its known answers on this processor: nothing is compared");
     }
 }
 
@@ -260,7 +260,7 @@ __attribute__((destructor)) static void finish(void) {
         return;
     feeds_each(empty_feed, &done);
     flush_all();
-    tell_seen();
+    count_seen();
     write_status(true);
     pthread_mutex_unlock(&work_lock);
 }

@@ -1,4 +1,4 @@
-#include "tell.h"
+#include "report.h"
 #include "again.h"
 #include "code_names.h"
 #include "counts.h"
@@ -184,13 +184,13 @@ static void print_line(const struct sample *sample, const struct verdict *verdic
     last_line = now.tv_sec;
     lines_left_out = 0;
     const IMB_JOB *job = &sample->job;
-    say_line("%s of %s differs from the proved one (%s, %s, key of %llu bytes, text of %u) on processor %d; once more, Intel's library %s; %s%s",
+    log_line("%s of %s differs from the proved one (%s, %s, key of %llu bytes, text of %u) on processor %d; once more, Intel's library %s; %s%s",
              difference_of(verdict), kind_names[sample->kind], sample->kind == KIND_JOB ? name_of_cipher((unsigned)job->cipher_mode) : "direct",
              sample->kind == KIND_JOB ? name_of_hash((unsigned)job->hash_alg) : "call", (unsigned long long)job->key_len_in_bytes,
              sample->text.len, sample->processors[1], answer_names[again->intel], path, others);
 }
 
-void tell_mismatch(const struct sample *sample, const struct made *made, const struct verdict *verdict) {
+void report_mismatch(const struct sample *sample, const struct made *made, const struct verdict *verdict) {
     struct again again = do_again(sample, made);
     char path[MOST_PATH] = "no folder is set for its file";
     if (settings.folder != NULL && !write_mismatch(path, sample, made, verdict, &again))
@@ -200,7 +200,7 @@ void tell_mismatch(const struct sample *sample, const struct made *made, const s
         abort();
 }
 
-void tell_forget(void) {
+void report_forget(void) {
     files = 0;
     last_line = 0;
     lines_left_out = 0;

@@ -1,11 +1,11 @@
-#include "say.h"
+#include "raw_form.h"
 #include "algorithms.h"
 #include "bits.h"
 #include "raw_key.h"
 
 #include <string.h>
 
-void say_nothing(struct said *said, struct mbj_raw_job *raw) {
+void fill_nothing(struct raw_form *form, struct mbj_raw_job *raw) {
     raw->cipher = MBJ_CIPHER_NULL;
     raw->dir = MBJ_DIR_ENCRYPT;
     raw->order = MBJ_ORDER_CIPHER_HASH;
@@ -14,75 +14,75 @@ void say_nothing(struct said *said, struct mbj_raw_job *raw) {
     raw->cipher_off = raw->cipher_len = raw->hash_off = raw->hash_len = 0;
     raw->tag_len = 0;
     raw->session = MBJ_NO_SESSION;
-    said->raw = raw;
-    said->found = 0;
-    said->gathered = 0;
+    form->raw = raw;
+    form->found = 0;
+    form->gathered = 0;
 }
 
-static void say_codes(struct mbj_raw_job *raw, const IMB_JOB *job) {
+static void fill_codes(struct mbj_raw_job *raw, const IMB_JOB *job) {
     raw->cipher = cipher_of(job)->code;
     raw->dir = is_encryption(job) ? MBJ_DIR_ENCRYPT : MBJ_DIR_DECRYPT;
     raw->order = is_hash_first(job) ? MBJ_ORDER_HASH_CIPHER : MBJ_ORDER_CIPHER_HASH;
 }
 
 /* A schedule of encryption, and the data of a key of GCM with it, begins with the key (FIPS 197, 5.2). */
-static struct mbj_bytes key_of(struct dropin *d, struct said *said, const IMB_JOB *job) {
+static struct mbj_bytes key_of(struct dropin *d, struct raw_form *form, const IMB_JOB *job) {
     const struct cipher *cipher = cipher_of(job);
     size_t len = job->key_len_in_bytes;
     if (cipher->kind != CIPHER_CBC || is_encryption(job))
         return bytes_at(cipher_keys(cipher, job), len);
-    said->found = use_key_of_decryption(d, job->dec_keys, len, said->key);
-    return bytes_at(said->key, len);
+    form->found = use_key_of_decryption(d, job->dec_keys, len, form->key);
+    return bytes_at(form->key, len);
 }
 
-void say_cipher(struct dropin *d, struct said *said, const IMB_JOB *job) {
-    say_codes(said->raw, job);
+void fill_cipher(struct dropin *d, struct raw_form *form, const IMB_JOB *job) {
+    fill_codes(form->raw, job);
     if (cipher_of(job)->kind == CIPHER_NONE)
         return;
-    said->raw->key = key_of(d, said, job);
-    said->raw->iv = bytes_at(job->iv, job->iv_len_in_bytes);
+    form->raw->key = key_of(d, form, job);
+    form->raw->iv = bytes_at(job->iv, job->iv_len_in_bytes);
 }
 
-static void say_states(struct said *said, const struct hash *hash, const IMB_JOB *job) {
-    turn_words(said->states, job->u.HMAC._hashed_auth_key_xor_ipad, hash->key, hash->word);
-    turn_words(said->states + hash->key, job->u.HMAC._hashed_auth_key_xor_opad, hash->key, hash->word);
-    said->raw->auth_key = bytes_at(said->states, 2 * hash->key);
+static void fill_states(struct raw_form *form, const struct hash *hash, const IMB_JOB *job) {
+    turn_words(form->states, job->u.HMAC._hashed_auth_key_xor_ipad, hash->key, hash->word);
+    turn_words(form->states + hash->key, job->u.HMAC._hashed_auth_key_xor_opad, hash->key, hash->word);
+    form->raw->auth_key = bytes_at(form->states, 2 * hash->key);
 }
 
-void say_hash(struct said *said, const IMB_JOB *job) {
+void fill_hash(struct raw_form *form, const IMB_JOB *job) {
     const struct hash *hash = hash_of(job);
-    said->raw->auth = hash->code;
-    said->raw->tag_len = hash->kind == HASH_NONE ? 0 : (uint8_t)job->auth_tag_output_len_in_bytes;
+    form->raw->auth = hash->code;
+    form->raw->tag_len = hash->kind == HASH_NONE ? 0 : (uint8_t)job->auth_tag_output_len_in_bytes;
     if (hash->kind == HASH_HMAC)
-        say_states(said, hash, job);
+        fill_states(form, hash, job);
     if (hash->kind == HASH_CMAC)
-        said->raw->auth_key = bytes_at(job->u.CMAC._key_expanded, hash->key);
+        form->raw->auth_key = bytes_at(job->u.CMAC._key_expanded, hash->key);
     if (hash->kind == HASH_GMAC) {
-        said->raw->auth_key = bytes_at(job->u.GMAC._key->expanded_keys, hash->key);
-        said->raw->iv = bytes_at(job->u.GMAC._iv, job->u.GMAC.iv_len_in_bytes);
+        form->raw->auth_key = bytes_at(job->u.GMAC._key->expanded_keys, hash->key);
+        form->raw->iv = bytes_at(job->u.GMAC._iv, job->u.GMAC.iv_len_in_bytes);
     }
 }
 
-void say_aead(struct said *said, const IMB_JOB *job) {
+void fill_aead(struct raw_form *form, const IMB_JOB *job) {
     bool is_ccm = cipher_of(job)->kind == CIPHER_CCM;
     const void *aad = is_ccm ? job->u.CCM.aad : job->u.GCM.aad;
-    say_codes(said->raw, job);
-    said->raw->key = bytes_at(cipher_keys(cipher_of(job), job), job->key_len_in_bytes);
-    said->raw->iv = bytes_at(job->iv, job->iv_len_in_bytes);
-    said->raw->auth = hash_of(job)->code;
-    said->raw->tag_len = (uint8_t)job->auth_tag_output_len_in_bytes;
-    said->raw->aad = bytes_at(aad, is_ccm ? job->u.CCM.aad_len_in_bytes : job->u.GCM.aad_len_in_bytes);
-    said->raw->packet = bytes_at(cipher_start(job), job->msg_len_to_cipher_in_bytes);
-    said->raw->cipher_len = job->msg_len_to_cipher_in_bytes;
+    fill_codes(form->raw, job);
+    form->raw->key = bytes_at(cipher_keys(cipher_of(job), job), job->key_len_in_bytes);
+    form->raw->iv = bytes_at(job->iv, job->iv_len_in_bytes);
+    form->raw->auth = hash_of(job)->code;
+    form->raw->tag_len = (uint8_t)job->auth_tag_output_len_in_bytes;
+    form->raw->aad = bytes_at(aad, is_ccm ? job->u.CCM.aad_len_in_bytes : job->u.GCM.aad_len_in_bytes);
+    form->raw->packet = bytes_at(cipher_start(job), job->msg_len_to_cipher_in_bytes);
+    form->raw->cipher_len = job->msg_len_to_cipher_in_bytes;
 }
 
-void forget_said(struct dropin *d, struct said *said) {
-    if (said->raw->key.at == said->key)
-        wipe(said->key, sizeof said->key);
-    if (said->raw->auth_key.at == said->states)
-        wipe(said->states, sizeof said->states);
-    if (said->raw->packet.at == d->gathered + said->gathered)
-        wipe(d->gathered + said->gathered, said->raw->packet.len);
+void forget_form(struct dropin *d, struct raw_form *form) {
+    if (form->raw->key.at == form->key)
+        wipe(form->key, sizeof form->key);
+    if (form->raw->auth_key.at == form->states)
+        wipe(form->states, sizeof form->states);
+    if (form->raw->packet.at == d->gathered + form->gathered)
+        wipe(d->gathered + form->gathered, form->raw->packet.len);
 }
 
 bool overlap(const void *a, uint64_t a_len, const void *b, uint64_t b_len) {
@@ -91,7 +91,7 @@ bool overlap(const void *a, uint64_t a_len, const void *b, uint64_t b_len) {
 }
 
 /* One packet of two ranges that overlap: the bytes as they lie, or a copy, if the cipher's come from elsewhere. */
-static bool say_span(struct mbj_raw_job *raw, const IMB_JOB *job, const uint8_t *ciphered, uint8_t *gathered) {
+static bool fill_span(struct mbj_raw_job *raw, const IMB_JOB *job, const uint8_t *ciphered, uint8_t *gathered) {
     const uint8_t *hashed = hash_start(job), *start = ciphered < hashed ? ciphered : hashed;
     const uint8_t *end = ciphered + raw->cipher_len, *hash_end = hashed + raw->hash_len;
     size_t len = (size_t)((end > hash_end ? end : hash_end) - start);
@@ -108,7 +108,7 @@ static bool say_span(struct mbj_raw_job *raw, const IMB_JOB *job, const uint8_t 
     return true;
 }
 
-static bool say_both(struct mbj_raw_job *raw, const IMB_JOB *job, uint8_t *gathered) {
+static bool fill_both(struct mbj_raw_job *raw, const IMB_JOB *job, uint8_t *gathered) {
     if (raw->cipher_len + raw->hash_len > PACKET_BYTES)
         return false;
     memcpy(gathered, cipher_start(job), raw->cipher_len);
@@ -120,8 +120,8 @@ static bool say_both(struct mbj_raw_job *raw, const IMB_JOB *job, uint8_t *gathe
 
 /* What is hashed is what lies in the range when the cipher has written, or before it has: so the bytes that are ciphered stand in the
  * packet where the destination is, or where the source is. */
-bool say_ranges(struct dropin *d, struct said *said, const IMB_JOB *job) {
-    struct mbj_raw_job *raw = said->raw;
+bool fill_ranges(struct dropin *d, struct raw_form *form, const IMB_JOB *job) {
+    struct mbj_raw_job *raw = form->raw;
     raw->cipher_len = cipher_bytes(job);
     raw->hash_len = hash_bytes(job);
     if (raw->cipher_len > PACKET_BYTES || raw->hash_len > PACKET_BYTES)
@@ -131,26 +131,26 @@ bool say_ranges(struct dropin *d, struct said *said, const IMB_JOB *job) {
         return true;
     const uint8_t *ciphered = is_hash_first(job) ? cipher_start(job) : job->dst;
     if (overlap(ciphered, raw->cipher_len, hash_start(job), raw->hash_len))
-        return say_span(raw, job, ciphered, d->gathered + said->gathered);
-    return say_both(raw, job, d->gathered + said->gathered);
+        return fill_span(raw, job, ciphered, d->gathered + form->gathered);
+    return fill_both(raw, job, d->gathered + form->gathered);
 }
 
-bool say_job(struct dropin *d, struct said *said, struct mbj_raw_job *raw, const IMB_JOB *job, size_t gathered) {
-    say_nothing(said, raw);
-    said->gathered = gathered;
+bool fill_job(struct dropin *d, struct raw_form *form, struct mbj_raw_job *raw, const IMB_JOB *job, size_t gathered) {
+    fill_nothing(form, raw);
+    form->gathered = gathered;
     if (cipher_of(job)->partner != 0) {
-        say_aead(said, job);
+        fill_aead(form, job);
         return true;
     }
-    say_cipher(d, said, job);
-    say_hash(said, job);
-    if (!say_ranges(d, said, job)) {
-        forget_said(d, said);
-        leave_key(d, said->found);
+    fill_cipher(d, form, job);
+    fill_hash(form, job);
+    if (!fill_ranges(d, form, job)) {
+        forget_form(d, form);
+        leave_key(d, form->found);
         return false;
     }
     if (hash_open_bits(job) != 0)
-        say_padded(d, said, job);
+        fill_padded(d, form, job);
     return true;
 }
 
