@@ -29,19 +29,19 @@ static inline void mbj_make_rooms_(struct mbj_rooms_ *rooms, const MBJ_MGR *m, u
 }
 
 /* The jobs whose results were given, in order. */
-static inline uint32_t mbj_give_each_back_(MBJ_MGR *m, const struct mbj_rooms_ *rooms, const struct mbj_raw_burst *told, MBJ_JOB **done) {
-    for (size_t i = 0; i < told->given; i++)
+static inline uint32_t mbj_give_each_back_(MBJ_MGR *m, const struct mbj_rooms_ *rooms, const struct mbj_raw_burst *burst, MBJ_JOB **done) {
+    for (size_t i = 0; i < burst->given; i++)
         done[i] = mbj_give_back_(m, &rooms->done[i]);
-    return (uint32_t)told->given;
+    return (uint32_t)burst->given;
 }
 
 /* Fills the first n jobs that are handed out, n not being 0, and returns how many there are before one that lacked memory. */
 static inline uint32_t mbj_fill_part_(MBJ_MGR *m, uint32_t n) {
     struct mbj_raw_job raws[MBJ_PART_];
-    uint32_t refusals[MBJ_PART_], filled = 0, said = 0;
+    uint32_t refusals[MBJ_PART_], filled = 0, count = 0;
     do
-        mbj_say_place_(&raws[said], m, (m->next + said) % MBJ_MAX_JOBS);
-    while (++said < n);
+        mbj_raw_place_(&raws[count], m, (m->next + count) % MBJ_MAX_JOBS);
+    while (++count < n);
     const struct mbj_heap *before = mbj_enter_(m->heap);
     mbj_c_fill_burst(&m->handle, raws, n, refusals, n);
     mbj_leave_(m->heap, before);
@@ -54,13 +54,13 @@ static inline uint32_t mbj_fill_part_(MBJ_MGR *m, uint32_t n) {
 /* Submits the first n jobs that are handed out, which are filled. */
 static inline uint32_t mbj_submit_part_(MBJ_MGR *m, uint32_t n, MBJ_JOB **done) {
     struct mbj_rooms_ rooms;
-    struct mbj_raw_burst told = {0, 0, MBJ_ERR_NONE};
+    struct mbj_raw_burst burst = {0, 0, MBJ_ERR_NONE};
     mbj_make_rooms_(&rooms, m, n);
-    mbj_c_submit_burst(&m->handle, rooms.done, n, &told);
-    if (told.refusal != MBJ_ERR_NONE)
-        m->error = told.refusal;
-    mbj_note_submitted_(m, (uint32_t)told.made);
-    return mbj_give_each_back_(m, &rooms, &told, done);
+    mbj_c_submit_burst(&m->handle, rooms.done, n, &burst);
+    if (burst.refusal != MBJ_ERR_NONE)
+        m->error = burst.refusal;
+    mbj_mark_submitted_(m, (uint32_t)burst.made);
+    return mbj_give_each_back_(m, &rooms, &burst, done);
 }
 
 /* Whether these are the first jobs that are handed out, in their order. */
@@ -101,12 +101,12 @@ static inline uint32_t mbj_give_burst_(MBJ_MGR *m, uint32_t n, mbj_giving_ call,
     while (given == asked && given < n && m->next != m->first) {
         uint32_t owed = m->next - m->first, part = mbj_part_of_(n - given < owed ? n - given : owed);
         struct mbj_rooms_ rooms;
-        struct mbj_raw_burst told = {0, 0, MBJ_ERR_NONE};
+        struct mbj_raw_burst burst = {0, 0, MBJ_ERR_NONE};
         mbj_make_rooms_(&rooms, m, part);
-        call(&m->handle, rooms.done, part, &told);
-        m->error = told.refusal;
+        call(&m->handle, rooms.done, part, &burst);
+        m->error = burst.refusal;
         asked += part;
-        given += mbj_give_each_back_(m, &rooms, &told, done + given);
+        given += mbj_give_each_back_(m, &rooms, &burst, done + given);
     }
     return given;
 }

@@ -102,7 +102,7 @@ static inline uint32_t mbj_own_reason_(const MBJ_JOB *job) {
 #define MBJ_TOO_LONG_ 65536
 
 /* The bytes of a job, or none if it doesn't use them. */
-static inline void mbj_say_bytes_(struct mbj_bytes *bytes, bool is_used, const uint8_t *at, size_t len) {
+static inline void mbj_raw_bytes_(struct mbj_bytes *bytes, bool is_used, const uint8_t *at, size_t len) {
     static const uint8_t none[1] = {0};
     bool is_some = is_used && len != 0;
     bytes->at = is_some ? at : none;
@@ -110,16 +110,16 @@ static inline void mbj_say_bytes_(struct mbj_bytes *bytes, bool is_used, const u
 }
 
 /* The job as the library takes it. A tag of more than 255 bytes is refused as one of 255 is. */
-static inline void mbj_say_(struct mbj_raw_job *raw, const MBJ_JOB *job) {
+static inline void mbj_to_raw_(struct mbj_raw_job *raw, const MBJ_JOB *job) {
     raw->cipher = job->cipher_mode;
     raw->dir = job->cipher_direction;
     raw->order = job->chain_order;
     raw->auth = job->hash_alg;
-    mbj_say_bytes_(&raw->key, mbj_has_cipher_(job), job->key, job->key_len_in_bytes);
-    mbj_say_bytes_(&raw->iv, mbj_has_iv_(job), job->iv, job->iv_len_in_bytes);
-    mbj_say_bytes_(&raw->auth_key, mbj_has_auth_key_(job), job->auth_key, job->auth_key_len_in_bytes);
-    mbj_say_bytes_(&raw->aad, mbj_has_aad_(job), job->aad, job->aad_len_in_bytes);
-    mbj_say_bytes_(&raw->packet, true, job->packet, job->packet_len_in_bytes);
+    mbj_raw_bytes_(&raw->key, mbj_has_cipher_(job), job->key, job->key_len_in_bytes);
+    mbj_raw_bytes_(&raw->iv, mbj_has_iv_(job), job->iv, job->iv_len_in_bytes);
+    mbj_raw_bytes_(&raw->auth_key, mbj_has_auth_key_(job), job->auth_key, job->auth_key_len_in_bytes);
+    mbj_raw_bytes_(&raw->aad, mbj_has_aad_(job), job->aad, job->aad_len_in_bytes);
+    mbj_raw_bytes_(&raw->packet, true, job->packet, job->packet_len_in_bytes);
     raw->cipher_off = job->cipher_start_src_offset_in_bytes;
     raw->cipher_len = job->msg_len_to_cipher_in_bytes;
     raw->hash_off = job->hash_start_src_offset_in_bytes;
@@ -129,23 +129,23 @@ static inline void mbj_say_(struct mbj_raw_job *raw, const MBJ_JOB *job) {
 }
 
 /* A job that the library refuses, so that it comes back in its place: CBC with a key of no byte. */
-static inline void mbj_say_refused_(struct mbj_raw_job *raw) {
+static inline void mbj_raw_refused_(struct mbj_raw_job *raw) {
     raw->cipher = MBJ_CIPHER_CBC;
     raw->dir = MBJ_DIR_ENCRYPT;
     raw->order = MBJ_ORDER_CIPHER_HASH;
     raw->auth = MBJ_AUTH_NULL;
-    mbj_say_bytes_(&raw->key, false, NULL, 0);
-    mbj_say_bytes_(&raw->iv, false, NULL, 0);
-    mbj_say_bytes_(&raw->auth_key, false, NULL, 0);
-    mbj_say_bytes_(&raw->aad, false, NULL, 0);
-    mbj_say_bytes_(&raw->packet, false, NULL, 0);
+    mbj_raw_bytes_(&raw->key, false, NULL, 0);
+    mbj_raw_bytes_(&raw->iv, false, NULL, 0);
+    mbj_raw_bytes_(&raw->auth_key, false, NULL, 0);
+    mbj_raw_bytes_(&raw->aad, false, NULL, 0);
+    mbj_raw_bytes_(&raw->packet, false, NULL, 0);
     raw->cipher_off = raw->cipher_len = raw->hash_off = raw->hash_len = 0;
     raw->tag_len = 0;
     raw->session = MBJ_NO_SESSION;
 }
 
-/* Notes where the job's result goes. A cipher range that passes the packet's end is refused, and needs no room. */
-static inline void mbj_note_slot_(struct mbj_slot *slot, const MBJ_JOB *job, uint32_t reason) {
+/* Keeps where the job's result goes. A cipher range that passes the packet's end is refused, and needs no room. */
+static inline void mbj_keep_slot_(struct mbj_slot *slot, const MBJ_JOB *job, uint32_t reason) {
     uint64_t off = job->cipher_start_src_offset_in_bytes, len = job->msg_len_to_cipher_in_bytes, end = job->packet_len_in_bytes;
     bool is_written = reason == MBJ_REASON_NONE && mbj_has_cipher_(job) && off <= end && len <= end - off;
     slot->dst = job->dst;
@@ -159,14 +159,14 @@ static inline void mbj_note_slot_(struct mbj_slot *slot, const MBJ_JOB *job, uin
 }
 
 /* The job at this place as the library takes it, and where its result goes. */
-static inline void mbj_say_place_(struct mbj_raw_job *raw, MBJ_MGR *m, uint32_t place) {
+static inline void mbj_raw_place_(struct mbj_raw_job *raw, MBJ_MGR *m, uint32_t place) {
     const MBJ_JOB *job = &m->jobs[place];
     uint32_t reason = mbj_own_reason_(job);
     if (reason == MBJ_REASON_NONE)
-        mbj_say_(raw, job);
+        mbj_to_raw_(raw, job);
     else
-        mbj_say_refused_(raw);
-    mbj_note_slot_(&m->slots[place], job, reason);
+        mbj_raw_refused_(raw);
+    mbj_keep_slot_(&m->slots[place], job, reason);
 }
 
 /* Room for a job's result. Its tag goes beside the job's own first, since that may lie within what was ciphered. */
@@ -219,7 +219,7 @@ static inline MBJ_JOB *mbj_give_back_(MBJ_MGR *m, const struct mbj_raw_done *don
 }
 
 /* The first n jobs that are handed out are submitted. */
-static inline void mbj_note_submitted_(MBJ_MGR *m, uint32_t n) {
+static inline void mbj_mark_submitted_(MBJ_MGR *m, uint32_t n) {
     for (uint32_t i = 0; i < n; i++)
         m->jobs[(m->next + i) % MBJ_MAX_JOBS].status = MBJ_STATUS_BEING_PROCESSED;
     m->next += n;
@@ -249,7 +249,7 @@ MBJ_API MBJ_JOB *mbj_submit_job(MBJ_MGR *m) {
     uint8_t tag[MBJ_MAX_TAG_BYTES];
     uint32_t refusal;
     bool is_given;
-    mbj_say_place_(&raw, m, place);
+    mbj_raw_place_(&raw, m, place);
     mbj_make_room_(&done, tag, m, 0);
     const struct mbj_heap *before = mbj_enter_(m->heap);
     if (!mbj_reads_room_(&raw, &done.dst)) {
@@ -262,7 +262,7 @@ MBJ_API MBJ_JOB *mbj_submit_job(MBJ_MGR *m) {
     if (refusal != MBJ_ERR_NONE)
         return mbj_not_submitted_(m, job, refusal);
     m->error = MBJ_ERR_NONE;
-    mbj_note_submitted_(m, 1);
+    mbj_mark_submitted_(m, 1);
     return is_given ? mbj_give_back_(m, &done) : NULL;
 }
 

@@ -53,7 +53,7 @@ struct mbj_counts {
     uint32_t waiting;
 };
 
-/* What is told of a burst of calls that may give results back: how many of the calls weren't refused, how many results were given, and
+/* What is returned of a burst of calls that may give results back: how many of the calls weren't refused, how many results were given, and
  * MBJ_ERR_NONE or the refusal of the last call. */
 struct mbj_raw_burst {
     size_t made, given;
@@ -140,11 +140,11 @@ uint32_t mbj_c_fill_burst(struct mbj_handle *into, const struct mbj_raw_job *job
  * behind them stay as they were. Each call needs room for the result that comes next, as a single one does. No two rooms of a burst
  * overlap. */
 MBJ_NONNULL
-void mbj_c_submit_burst(struct mbj_handle *handle, struct mbj_raw_done *rooms, size_t rooms_len, struct mbj_raw_burst *told);
+void mbj_c_submit_burst(struct mbj_handle *handle, struct mbj_raw_done *rooms, size_t rooms_len, struct mbj_raw_burst *burst);
 MBJ_NONNULL
-void mbj_c_get_completed_burst(struct mbj_handle *handle, struct mbj_raw_done *rooms, size_t rooms_len, struct mbj_raw_burst *told);
+void mbj_c_get_completed_burst(struct mbj_handle *handle, struct mbj_raw_done *rooms, size_t rooms_len, struct mbj_raw_burst *burst);
 MBJ_NONNULL
-void mbj_c_flush_burst(struct mbj_handle *handle, struct mbj_raw_done *rooms, size_t rooms_len, struct mbj_raw_burst *told);
+void mbj_c_flush_burst(struct mbj_handle *handle, struct mbj_raw_done *rooms, size_t rooms_len, struct mbj_raw_burst *burst);
 
 /* Has the manager use the set from now on, in place of the one that it used. A key that no manager of the set has expanded is expanded now,
  * so this call takes memory, and a submission takes none for it. Returns MBJ_ERR_NONE, MBJ_ERR_NO_MANAGER, MBJ_ERR_NO_KEYS or

@@ -66,7 +66,7 @@ size_t mbj_c_post_burst(struct mbj_seat *seat, const struct mbj_raw_job *jobs, s
 /* Makes mbj_c_collect as many times as there are rooms. The results that are given go to the rooms in order, and the rooms behind them stay
  * as they were. Each call needs room for the result that comes next, as a single one does. No two rooms of a burst overlap. */
 MBJ_NONNULL
-void mbj_c_collect_burst(struct mbj_seat *seat, struct mbj_raw_done *rooms, size_t rooms_len, struct mbj_raw_burst *told);
+void mbj_c_collect_burst(struct mbj_seat *seat, struct mbj_raw_done *rooms, size_t rooms_len, struct mbj_raw_burst *burst);
 
 /* Claims up to 32 jobs of any submitter, runs lanes that are full, and hands results that are finished to their submitters. Returns how many
  * jobs it claimed: 0 if there is no seat. */
@@ -172,10 +172,10 @@ MBJ_CHECKED MBJ_API mbj_err mbj_post_job(MBJ_SEAT *s) {
     }
     reason = mbj_own_reason_(job);
     if (reason == MBJ_REASON_NONE)
-        mbj_say_(&raw, job);
+        mbj_to_raw_(&raw, job);
     else
-        mbj_say_refused_(&raw);
-    mbj_note_slot_(&s->slots[place], job, reason);
+        mbj_raw_refused_(&raw);
+    mbj_keep_slot_(&s->slots[place], job, reason);
     s->error = mbj_c_post(&s->seat, &raw);
     if (s->error != MBJ_ERR_NONE) {
         job->status = MBJ_STATUS_ERROR;
@@ -239,13 +239,13 @@ MBJ_API uint32_t mbj_collect_burst(MBJ_SEAT *s, uint32_t n, MBJ_JOB **done) {
     while (given == asked && given < n && s->next != s->first) {
         uint32_t out = s->next - s->first, part = mbj_part_of_(n - given < out ? n - given : out);
         struct mbj_rooms_ rooms;
-        struct mbj_raw_burst told = {0, 0, MBJ_ERR_NONE};
+        struct mbj_raw_burst burst = {0, 0, MBJ_ERR_NONE};
         for (uint32_t i = 0; i < part; i++)
             mbj_room_of_(&rooms.done[i], rooms.tags[i], &s->slots[(s->first + i) % MBJ_MAX_JOBS]);
-        mbj_c_collect_burst(&s->seat, rooms.done, part, &told);
-        s->error = told.refusal;
+        mbj_c_collect_burst(&s->seat, rooms.done, part, &burst);
+        s->error = burst.refusal;
         asked += part;
-        for (size_t i = 0; i < told.given; i++)
+        for (size_t i = 0; i < burst.given; i++)
             done[given++] = mbj_seat_give_(s, &rooms.done[i]);
     }
     return given;

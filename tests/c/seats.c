@@ -213,7 +213,7 @@ static void refusals(void) {
     struct mbj_raw_job raw;
     uint8_t tag[MBJ_MAX_TAG_BYTES];
     uint32_t refusal = 0;
-    mbj_say_refused_(&raw);
+    mbj_raw_refused_(&raw);
     done.dst.at = done.tag.at = tag;
     done.dst.len = 0;
     done.tag.len = sizeof tag;
@@ -251,7 +251,7 @@ static void a_full_hand(void) {
         CHECK(mbj_post_job(&s.seat) == MBJ_ERR_NONE);
     }
     struct mbj_raw_job raw;
-    mbj_say_refused_(&raw);
+    mbj_raw_refused_(&raw);
     CHECK(mbj_seat_get_next_job(&s.seat) == NULL && mbj_seat_errno(&s.seat) == MBJ_ERR_FULL);
     CHECK(mbj_c_post(&s.seat.seat, &raw) == MBJ_ERR_FULL && mbj_c_out(&s.seat.seat) == MBJ_MAX_JOBS);
     uint32_t claimed = 0, turn;

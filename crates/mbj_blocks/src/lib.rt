@@ -1,5 +1,5 @@
 //! The blocks of 16 bytes of a text, numbered from 0 on, of which the last may be shorter: reading one, putting one in
-//! its place, and xoring them with masks. No call takes memory.
+//! its place, and xoring them with a cipher's output blocks. No call takes memory.
 //!
 //! ```
 //! let mut text = [0x0f; 20];
@@ -8,14 +8,14 @@
 //! ```
 #![tactic(auto)]
 
-mod masks;
+mod outputs;
 
 ghost use Rattle.std.specs.Prelude.{◌≡◌, ◌+◌, ◌*◌, ◌<◌, ◌≤◌, length, take, drop};
 ghost use Rattle.mbj_types.specs.Blocks.{xor_lists, filled_block};
 ghost use Rattle.mbj_blocks.specs.Places.{block_of, with_block};
 
-pub use masks::xor_blocks;
 use mbj_types::{BLOCK_BYTES, xor_in_place};
+pub use outputs::xor_blocks;
 
 /// The 16 bytes of a text from `start` on, which it has.
 #[inline(always)]

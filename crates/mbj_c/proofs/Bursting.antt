@@ -12,7 +12,7 @@ use Rattle.mbj_c.specs.declared.job.RawJob.{RawJob}
 use Rattle.mbj_c.specs.declared.refusal.Refusal.{Refusal}
 use Rattle.mbj_c.specs.declared.refusal.Refusal.TheVariants as refusal
 use Rattle.mbj_c.specs.declared.refusal.Refusal.TheVariants.{Memory}
-use Rattle.mbj_c.specs.Bursts.{GiveBurst, IsAnswer, IsBurstTold, IsRoomOf, IsTurnTold, TakeBurst, after_giving, after_taking, count_of, take_burst, taken_more, with_answer, with_call, with_told}
+use Rattle.mbj_c.specs.Bursts.{GiveBurst, IsAnswer, IsBurstReturned, IsRoomOf, IsTurnReturned, TakeBurst, after_giving, after_taking, count_of, take_burst, taken_more, with_answer, with_call, with_returned}
 use Rattle.mbj_c.specs.Calls.{given_in}
 use Rattle.mbj_c.specs.Codes.{code_of, refusal_code}
 use Rattle.mbj_c.specs.Giving.{answered}
@@ -83,7 +83,7 @@ pub untaken-kept : {S : Type 0} (want : Result Unit Refusal) (next before after 
 untaken-kept (Ok u) next before after reason done kept = done.1
 untaken-kept (Err q) next before after reason done kept = done.1 ∙ kept q refl
 
--- and is told why
+-- and is returned why
 pub untaken-answer : {S : Type 0} (want : Result Unit Refusal) (next before after : S) (reason : Refusal) (code : ℕ)
     → code ≡ refusal_code reason → IsDoneAs want next before (Err reason) after → want ≢ Err Memory
     → (code ≡ refusal_code Memory → want ≡ Ok tt) × (code ≢ refusal_code Memory → code ≡ code_of want)
@@ -121,26 +121,26 @@ module _ {S : Type 0} (call : ℕ → RawJob → S → Result Unit Refusal × S)
   taking-before zero i jobs codes code s earlier = refl
   taking-before (suc n) i jobs codes code s earlier =
       let beside : n ≢ i = λ same. absurd (omega (arith, same)) in
-      ap (λ (told : Option ℕ). with_told call (slice_get jobs n) told (after_taking call n jobs (set codes i code) s)) (set-beside codes i n code beside)
-      ∙ ap (with_told call (slice_get jobs n) (slice_get codes n)) (taking-before n i jobs codes code s (omega arith))
+      ap (λ (returned : Option ℕ). with_returned call (slice_get jobs n) returned (after_taking call n jobs (set codes i code) s)) (set-beside codes i n code beside)
+      ∙ ap (with_returned call (slice_get jobs n) (slice_get codes n)) (taking-before n i jobs codes code s (omega arith))
 
   taking-next : (n : ℕ) (jobs : List RawJob) (codes : List ℕ) (s : S)
-      → after_taking call (n + 1) jobs codes s ≡ with_told call (slice_get jobs n) (slice_get codes n) (after_taking call n jobs codes s)
+      → after_taking call (n + 1) jobs codes s ≡ with_returned call (slice_get jobs n) (slice_get codes n) (after_taking call n jobs codes s)
   unfolding after_taking
   taking-next n jobs codes s = ap (λ (k : ℕ). after_taking call k jobs codes s) (add-one n)
 
   pub taken-next : (n : ℕ) (jobs : List RawJob) (before codes : List ℕ) (s : S) (taken next : ℕ) (now after : S)
       (raw : RawJob) (code : ℕ) → AreTaken n jobs before codes s taken now → slice_get jobs n ≡ Some raw → n < length codes
       → IsAnswer call (Some raw) (Some code) (take_burst taken now)
-      → take_burst next after ≡ with_told call (Some raw) (Some code) (take_burst taken now)
+      → take_burst next after ≡ with_returned call (Some raw) (Some code) (take_burst taken now)
       → AreTaken (n + 1) jobs before (set codes n code) s next after
   taken-next n jobs before codes s taken next now after raw code are job few answer state =
       let written : List ℕ = set codes n code in
-      let told : slice_get written n ≡ Some code = set-here codes n code few in
+      let returned : slice_get written n ≡ Some code = set-here codes n code few in
       let so_far : take_burst taken now ≡ after_taking call n jobs written s = are.state ∙ sym (taking-before n n jobs codes code s (omega arith)) in
       let last : IsAnswer call (slice_get jobs n) (slice_get written n) (after_taking call n jobs written s) =
       subst (λ (r : Option RawJob). IsAnswer call r (slice_get written n) (after_taking call n jobs written s)) (sym job)
-      (subst (λ (c : Option ℕ). IsAnswer call (Some raw) c (after_taking call n jobs written s)) (sym told)
+      (subst (λ (c : Option ℕ). IsAnswer call (Some raw) c (after_taking call n jobs written s)) (sym returned)
       (subst (λ (b : TakeBurst S). IsAnswer call (Some raw) (Some code) b) so_far answer)) in
       record {
         each = λ i below. ⊎_elim (λ same. subst (λ (j : ℕ). IsAnswer call (slice_get jobs j) (slice_get written j) (after_taking call j jobs written s)) (sym same) last)
@@ -150,9 +150,9 @@ module _ {S : Type 0} (call : ℕ → RawJob → S → Result Unit Refusal × S)
             (cases_eq i n);
         others = λ i past. set-beside codes n i code (λ same. absurd (omega (arith, same, past))) ∙ are.others i (omega arith);
         state = state
-            ∙ ap (λ (b : TakeBurst S). with_told call (Some raw) (Some code) b) so_far
-            ∙ ap (λ (c : Option ℕ). with_told call (Some raw) c (after_taking call n jobs written s)) (sym told)
-            ∙ ap (λ (r : Option RawJob). with_told call r (slice_get written n) (after_taking call n jobs written s)) (sym job)
+            ∙ ap (λ (b : TakeBurst S). with_returned call (Some raw) (Some code) b) so_far
+            ∙ ap (λ (c : Option ℕ). with_returned call (Some raw) c (after_taking call n jobs written s)) (sym returned)
+            ∙ ap (λ (r : Option RawJob). with_returned call r (slice_get written n) (after_taking call n jobs written s)) (sym job)
             ∙ sym (taking-next n jobs written s);
         size = length-set codes n code ∙ are.size;
       }
@@ -169,11 +169,11 @@ module _ {S : Type 0} (call : ℕ → RawJob → S → Result Unit Refusal × S)
 -- ---- giving back
 
 -- n calls of a burst are made
-pub record AreGiven (n : ℕ) (c : Call) (before after : List RawDone) (m : Option RangedState) (told : RawBurst) (now : Option RangedState) : Type 0 where
+pub record AreGiven (n : ℕ) (c : Call) (before after : List RawDone) (m : Option RangedState) (returned : RawBurst) (now : Option RangedState) : Type 0 where
   pub state : now ≡ (after_giving n c before m).state
-  pub is_told : IsBurstTold (after_giving n c before m) told before after
-  pub given : told.given ≤ n
-  pub made : told.made ≤ n
+  pub is_returned : IsBurstReturned (after_giving n c before m) returned before after
+  pub given : returned.given ≤ n
+  pub made : returned.made ≤ n
   pub size : length after ≡ length before
 
 giving-next : (n : ℕ) (c : Call) (outs : List RawDone) (m : Option RangedState)
@@ -186,61 +186,61 @@ one-made (Ok g) = omega arith
 one-made (Err r) = omega arith
 
 -- the room of the place that the next result has is as it was
-pub next-room : {S : Type 0} (b : GiveBurst S) (told : RawBurst) (before outs : List RawDone) → IsBurstTold b told before outs
-    → slice_get outs told.given ≡ slice_get before told.given
-next-room b told before outs is =
-    subst (λ (o : Option Given). IsRoomOf o (slice_get before told.given) (slice_get outs told.given))
-    (slice_get_past b.given told.given (omega (arith, is.given))) (is.rooms told.given)
+pub next-room : {S : Type 0} (b : GiveBurst S) (returned : RawBurst) (before outs : List RawDone) → IsBurstReturned b returned before outs
+    → slice_get outs returned.given ≡ slice_get before returned.given
+next-room b returned before outs is =
+    subst (λ (o : Option Given). IsRoomOf o (slice_get before returned.given) (slice_get outs returned.given))
+    (slice_get_past b.given returned.given (omega (arith, is.given))) (is.rooms returned.given)
 
--- what is told of one call more
-pub with-turn : {S : Type 0} (b : GiveBurst S) (a : Result (Option Given) Refusal × S) (told next : RawBurst) (before outs : List RawDone)
-    (out after : RawDone) → IsBurstTold b told before outs → slice_get outs told.given ≡ Some out
-    → IsTurnTold a.0 told next out after → IsBurstTold (with_answer a b) next before (set outs told.given after)
-with-turn b a told next before outs out after is room turn =
+-- what is returned of one call more
+pub with-turn : {S : Type 0} (b : GiveBurst S) (a : Result (Option Given) Refusal × S) (returned next : RawBurst) (before outs : List RawDone)
+    (out after : RawDone) → IsBurstReturned b returned before outs → slice_get outs returned.given ≡ Some out
+    → IsTurnReturned a.0 returned next out after → IsBurstReturned (with_answer a b) next before (set outs returned.given after)
+with-turn b a returned next before outs out after is room turn =
     let g : Option Given = given_in a.0 in
-    let place : told.given ≡ length b.given = is.given in
-    let few : told.given < length outs = slice_get_within outs told.given out room in
-    let blank : slice_get outs told.given ≡ slice_get before told.given = next-room b told before outs is in
-    let here : IsRoomOf (slice_get (b.given ++ option_to_list g) told.given) (slice_get before told.given) (slice_get (set outs told.given after) told.given) =
-    subst (λ (o : Option RawDone). IsRoomOf (slice_get (b.given ++ option_to_list g) told.given) o (slice_get (set outs told.given after) told.given)) (sym room ∙ blank)
-    (subst (λ (o : Option RawDone). IsRoomOf (slice_get (b.given ++ option_to_list g) told.given) (Some out) o) (sym (set-here outs told.given after few))
+    let place : returned.given ≡ length b.given = is.given in
+    let few : returned.given < length outs = slice_get_within outs returned.given out room in
+    let blank : slice_get outs returned.given ≡ slice_get before returned.given = next-room b returned before outs is in
+    let here : IsRoomOf (slice_get (b.given ++ option_to_list g) returned.given) (slice_get before returned.given) (slice_get (set outs returned.given after) returned.given) =
+    subst (λ (o : Option RawDone). IsRoomOf (slice_get (b.given ++ option_to_list g) returned.given) o (slice_get (set outs returned.given after) returned.given)) (sym room ∙ blank)
+    (subst (λ (o : Option RawDone). IsRoomOf (slice_get (b.given ++ option_to_list g) returned.given) (Some out) o) (sym (set-here outs returned.given after few))
     (subst (λ (o : Option Given). IsRoomOf o (Some out) (Some after)) (sym (ap (slice_get (b.given ++ option_to_list g)) place ∙ joined-here b.given g)) turn.room)) in
     record {
       given = turn.given ∙ ap (λ i. i + length (option_to_list g)) place ∙ sym (length-append b.given (option_to_list g));
       made = turn.made ∙ ap (λ i. i + count_of a.0) is.made;
       refusal = turn.refusal;
       rooms = λ i. ⊎_elim
-          (λ same. subst (λ (j : ℕ). IsRoomOf (slice_get (b.given ++ option_to_list g) j) (slice_get before j) (slice_get (set outs told.given after) j)) (sym same) here)
-          (λ other. subst (λ (o : Option RawDone). IsRoomOf (slice_get (b.given ++ option_to_list g) i) (slice_get before i) o) (sym (set-beside outs told.given i after other))
+          (λ same. subst (λ (j : ℕ). IsRoomOf (slice_get (b.given ++ option_to_list g) j) (slice_get before j) (slice_get (set outs returned.given after) j)) (sym same) here)
+          (λ other. subst (λ (o : Option RawDone). IsRoomOf (slice_get (b.given ++ option_to_list g) i) (slice_get before i) o) (sym (set-beside outs returned.given i after other))
           (subst (λ (o : Option Given). IsRoomOf o (slice_get before i) (slice_get outs i)) (sym (joined-beside b.given g i (λ same. other (same ∙ sym place)))) (is.rooms i)))
-          (cases_eq i told.given);
+          (cases_eq i returned.given);
     }
 
-pub given-next : (n : ℕ) (c : Call) (before outs : List RawDone) (m now after : Option RangedState) (told next : RawBurst) (out room : RawDone)
-    → AreGiven n c before outs m told now → slice_get outs told.given ≡ Some out → after ≡ (answered c now out).1
-    → IsTurnTold (answered c now out).0 told next out room → AreGiven (n + 1) c before (set outs told.given room) m next after
-given-next n c before outs m now after told next out room are there state turn =
+pub given-next : (n : ℕ) (c : Call) (before outs : List RawDone) (m now after : Option RangedState) (returned next : RawBurst) (out room : RawDone)
+    → AreGiven n c before outs m returned now → slice_get outs returned.given ≡ Some out → after ≡ (answered c now out).1
+    → IsTurnReturned (answered c now out).0 returned next out room → AreGiven (n + 1) c before (set outs returned.given room) m next after
+given-next n c before outs m now after returned next out room are there state turn =
     let b : GiveBurst (Option RangedState) = after_giving n c before m in
-    let place : told.given ≡ length b.given = are.is_told.given in
-    let blank : slice_get outs told.given ≡ slice_get before told.given = next-room b told before outs are.is_told in
+    let place : returned.given ≡ length b.given = are.is_returned.given in
+    let blank : slice_get outs returned.given ≡ slice_get before returned.given = next-room b returned before outs are.is_returned in
     let same : with_answer (answered c now out) b ≡ after_giving (n + 1) c before m =
     ap (λ (k : Option RangedState). with_answer (answered c k out) b) are.state
     ∙ ap (λ (o : Option RawDone). with_call c o b) (sym there ∙ blank ∙ ap (slice_get before) place)
     ∙ sym (giving-next n c before m) in
     record {
       state = state ∙ ap (λ (d : GiveBurst (Option RangedState)). d.state) same;
-      is_told = subst (λ (d : GiveBurst (Option RangedState)). IsBurstTold d next before (set outs told.given room)) same
-          (with-turn b (answered c now out) told next before outs out room are.is_told there turn);
+      is_returned = subst (λ (d : GiveBurst (Option RangedState)). IsBurstReturned d next before (set outs returned.given room)) same
+          (with-turn b (answered c now out) returned next before outs out room are.is_returned there turn);
       given = omega (arith, turn.given, are.given, at-most-one (given_in (answered c now out).0));
       made = omega (arith, turn.made, are.made, one-made (answered c now out).0);
-      size = length-set outs told.given room ∙ are.size;
+      size = length-set outs returned.given room ∙ are.size;
     }
 
 pub none-given : (c : Call) (outs : List RawDone) (m : Option RangedState) → AreGiven 0 c outs outs m (record { made = 0; given = 0; refusal = 0 }) m
 unfolding after_giving
 none-given c outs m = record {
   state = refl;
-  is_told = record { given = refl; made = refl; refusal = refl; rooms = λ i. refl };
+  is_returned = record { given = refl; made = refl; refusal = refl; rooms = λ i. refl };
   given = omega arith;
   made = omega arith;
   size = refl;

@@ -17,7 +17,7 @@ use Rattle.mbj_c.specs.Given.{Given}
 use Rattle.mbj_c.specs.declared.refusal.Refusal.{Refusal}
 use Rattle.mbj_c.specs.declared.refusal.Refusal.TheVariants as refusal
 use Rattle.mbj_c.specs.Calls.{CallOfC, fills, gives, submits, uses, GivesInOrder, after_calls, called_of, given_back, given_in, given_of, jobs_by, jobs_filled, jobs_in, jobs_submitted}
-use Rattle.mbj_c.specs.Filling.{filled_at, filled_with, job_said}
+use Rattle.mbj_c.specs.Filling.{filled_at, filled_with, job_of_raw}
 use Rattle.mbj_c.specs.Giving.{called_by, found_by, given_with, job_entered, manager_step, owed_in, refusal_in, step}
 use Rattle.mbj_c.specs.KeySets.{using}
 use Rattle.mbj_c.specs.Ranges.{given_range}
@@ -80,15 +80,15 @@ called-leaves : (r : Option Refusal) (c : Call) (k : RangedState) (jobs : List J
 called-leaves None c k jobs owes = step-leaves c k jobs owes
 called-leaves (Some r) c k jobs owes = nothing-given k jobs owes
 
-said-owes : (i : ℕ) (said : Option Job) (k : RangedState) (jobs : List Job) → Owes k jobs → Owes (filled_with i said k).1 jobs
-said-owes i None k jobs owes = owes
-said-owes i (Some j) k jobs owes =
+meant-owes : (i : ℕ) (meant : Option Job) (k : RangedState) (jobs : List Job) → Owes k jobs → Owes (filled_with i meant k).1 jobs
+meant-owes i None k jobs owes = owes
+meant-owes i (Some j) k jobs owes =
     record { results = owes.results; ranges = owes.ranges; filled = opened-with i j k.manager.opened k.filled owes.filled }
 
-filled-owes : (is_full : Bool) (i : ℕ) (said : Option Job) (k : RangedState) (jobs : List Job) → Owes k jobs
-    → Owes (if is_full then (Err refusal.Full, k) else filled_with i said k).1 jobs
-filled-owes true i said k jobs owes = owes
-filled-owes false i said k jobs owes = said-owes i said k jobs owes
+filled-owes : (is_full : Bool) (i : ℕ) (meant : Option Job) (k : RangedState) (jobs : List Job) → Owes k jobs
+    → Owes (if is_full then (Err refusal.Full, k) else filled_with i meant k).1 jobs
+filled-owes true i meant k jobs owes = owes
+filled-owes false i meant k jobs owes = meant-owes i meant k jobs owes
 
 submitted-leaves : (filling : Result Unit Refusal) (k : RangedState) (out : RawDone) (jobs : List Job) → Owes k jobs
     → Leaves (given_in (submitted_by filling k out).0) (submitted_by filling k out).1 (jobs ++ jobs_filled filling k out)
@@ -98,10 +98,10 @@ submitted-leaves (Err r) k out jobs owes = nothing-given k jobs owes
 call-leaves : (c : CallOfC) (k : RangedState) (jobs : List Job) → Owes k jobs
     → Leaves (called_of c k).0 (called_of c k).1 (jobs ++ jobs_in c k)
 call-leaves (fills i r) k jobs owes =
-    nothing-given (filled_at i r k).1 jobs (filled-owes (nat_le CELLS (length k.manager.owed + i)) i (job_said r) k jobs owes)
+    nothing-given (filled_at i r k).1 jobs (filled-owes (nat_le CELLS (length k.manager.owed + i)) i (job_of_raw r) k jobs owes)
 call-leaves (gives c out) k jobs owes = called-leaves (refusal_in c k out) c k jobs owes
 call-leaves (submits r out) k jobs owes =
-    submitted-leaves (filled_at 0 r k).0 (filled_at 0 r k).1 out jobs (filled-owes (nat_le CELLS (length k.manager.owed + 0)) 0 (job_said r) k jobs owes)
+    submitted-leaves (filled_at 0 r k).0 (filled_at 0 r k).1 out jobs (filled-owes (nat_le CELLS (length k.manager.owed + 0)) 0 (job_of_raw r) k jobs owes)
 call-leaves (uses notes) k jobs owes =
     nothing-given (using notes k) jobs (record { results = owes.results; ranges = owes.ranges; filled = owes.filled })
 

@@ -7,7 +7,7 @@ use Rattle.mbj_c.specs.declared.giving.RawDone.{RawDone}
 use Rattle.mbj_c.specs.declared.refusal.Refusal.{Refusal}
 use Rattle.mbj_c.specs.declared.refusal.Refusal.TheVariants.{NoJob, NoRoom}
 use Rattle.mbj_c.specs.Codes.{refusal_code}
-use Rattle.mbj_c.specs.Giving.{IsTold, IsToldAt, called_by, called_in, first_range, given_first, gone, has_job, has_room_for, step}
+use Rattle.mbj_c.specs.Giving.{IsReturned, IsReturnedAt, called_by, called_in, first_range, given_first, gone, has_job, has_room_for, step}
 use Rattle.mbj_c.specs.State.{RangedState}
 use Rattle.mbj_c.proofs.Ranges.{step-gone}
 
@@ -21,20 +21,20 @@ by-tests c k out job room has fits =
     ap (λ (b : Bool). called_by (if b then (if has_room_for (first_range c k) out then None else Some NoRoom) else Some NoJob) c k) has
     ∙ ap (λ (b : Bool). called_by (if job then (if b then None else Some NoRoom) else Some NoJob) c k) fits
 
--- what is told of a call, and what it leaves
+-- what is returned of a call, and what it leaves
 pub record IsCalled (called : Called) (flag : Bool) (code : ℕ) (before out : RawDone) (new : RangedState) : Type 0 where
-  pub told : IsTold called.0 flag code before out
+  pub returned : IsReturned called.0 flag code before out
   pub state : new ≡ called.1
 
 pub called-done : (c : Call) (k went new : RangedState) (flag : Bool) (before out : RawDone) → has_job c k.manager ≡ true
-    → has_room_for (first_range c k) before ≡ true → went ≡ gone c k → IsToldAt (Ok (given_first went).0) flag before out → new ≡ (given_first went).1
+    → has_room_for (first_range c k) before ≡ true → went ≡ gone c k → IsReturnedAt (Ok (given_first went).0) flag before out → new ≡ (given_first went).1
     → IsCalled (called_in c k before) flag 0 before out new
-called-done c k went new flag before out job room is told state =
+called-done c k went new flag before out job room is returned state =
     let same : given_first went ≡ step c k = ap given_first is ∙ sym (step-gone c k) in
     subst (λ (a : Called). IsCalled a flag 0 before out new) (sym (by-tests c k before true true job room))
     (record {
-      told = record {
-        result = subst (λ (s : Option Given × RangedState). IsToldAt (Ok s.0) flag before out) same told;
+      returned = record {
+        result = subst (λ (s : Option Given × RangedState). IsReturnedAt (Ok s.0) flag before out) same returned;
         refusal = refl;
       };
       state = state ∙ ap (λ (s : Option Given × RangedState). s.1) same;
@@ -45,10 +45,10 @@ pub called-without-room : (c : Call) (k new : RangedState) (code : ℕ) (before 
     → IsCalled (called_in c k before) false code before before new
 called-without-room c k new code before job room is same =
     subst (λ (a : Called). IsCalled a false code before before new) (sym (by-tests c k before true false job room))
-    (record { told = record { result = (refl, refl); refusal = is }; state = same })
+    (record { returned = record { result = (refl, refl); refusal = is }; state = same })
 
 pub called-without-job : (c : Call) (k new : RangedState) (code : ℕ) (before : RawDone) → has_job c k.manager ≡ false
     → code ≡ refusal_code NoJob → new ≡ k → IsCalled (called_in c k before) false code before before new
 called-without-job c k new code before job is same =
     subst (λ (a : Called). IsCalled a false code before before new) (sym (by-tests c k before false _ job refl))
-    (record { told = record { result = (refl, refl); refusal = is }; state = same })
+    (record { returned = record { result = (refl, refl); refusal = is }; state = same })

@@ -43,13 +43,13 @@ module _ (R : RattleType) where
 
   module _ {M : Type 1} {𝓤 : Ura M} {𝓛 : Logic 𝓤} {K : Type 0} {Γ : List (Item 𝓤)} {G : Goal 𝓤 𝓛.H} where
     -- what the pointer tells: it is null and there is no value, or it is that of the value's box
-    pub told : K → (alloc : Z.Denot) (p : Ptr) (m : Option R.Denot)
+    pub returned : K → (alloc : Z.Denot) (p : Ptr) (m : Option R.Denot)
         → (p ≡ null_ptr → m ≡ None → Seq K 𝓛 Γ G)
         → ((b o : ℕ) (x : R.Denot) → p ≡ block_ptr b o → m ≡ Some x → Testable (block_ptr b o)
         → Seq K 𝓛 (‵ (boxed_at R alloc (block_ptr b o) x) ∷ Γ) G)
         → Seq K 𝓛 (‵ (owned_at R alloc p m) ∷ Γ) G
-    told t alloc p None empty full = fpick t (λ e. drop t $ empty e refl)
-    told t alloc p (Some x) empty full =
+    returned t alloc p None empty full = fpick t (λ e. drop t $ empty e refl)
+    returned t alloc p (Some x) empty full =
         in_a_block t p (λ q. boxed_at R alloc q x) (fst∗ 𝓤 (never 𝓤) (sem 𝓛 (ghosts.dealloc_token alloc (bare (lone R.mir)) null_ptr)))
         (λ b o e.
         use1 𝓛 (given (Testable (block_ptr b o)) (‵ (boxed_at R alloc (block_ptr b o) x))) (tested 𝓛 alloc (block_ptr b o) x) $

@@ -18,15 +18,15 @@ unequal true not = absurd (not (cc))
 unequal false not = cc
 
 -- what a test makes of a text
-abbrev told : Pair → List ℕ → Bool → Result Unit Refusal × List ℕ
-told made text b = if b then (Ok tt, made.0) else (Err WrongTag, replicate (length text) 0)
+abbrev returned : Pair → List ℕ → Bool → Result Unit Refusal × List ℕ
+returned made text b = if b then (Ok tt, made.0) else (Err WrongTag, replicate (length text) 0)
 
 pub verified_by_tag : (made : Pair) (tag text : List ℕ) → IsOpenedByTag made tag text (verified made tag text)
 verified_by_tag made tag text =
     let test = bytes_eq-Decides made.1 tag in
     record {
-      right = λ same. ap (told made text) (test.1 (sym same));
-      wrong = λ other. ap (told made text) (unequal (bytes_eq made.1 tag) (λ is. other (sym (test.0 is))));
+      right = λ same. ap (returned made text) (test.1 (sym same));
+      wrong = λ other. ap (returned made text) (unequal (bytes_eq made.1 tag) (λ is. other (sym (test.0 is))));
     }
 
 pub gcm_opens : GcmOpensByTags

@@ -7,19 +7,19 @@ use Rattle.mbj_core.specs.declared.cells.TheConstants.{SUBMITTER_CELLS}
 use Rattle.mbj_c.specs.declared.job.RawJob.{RawJob}
 use Rattle.mbj_c.specs.declared.refusal.Refusal.{Refusal}
 use Rattle.mbj_c.specs.declared.refusal.Refusal.TheVariants as refusal
-use Rattle.mbj_c.specs.Filling.{job_said}
+use Rattle.mbj_c.specs.Filling.{job_of_raw}
 use Rattle.mbj_c.specs.Seats.{SeatState, is_submitter, posted, posted_in, posted_with}
 
-said-kept : (said : Option Job) (s : SeatState) (q : Refusal) → (posted_with said s).0 ≡ Err q → (posted_with said s).1 ≡ s
-said-kept None s q is = refl
-said-kept (Some j) s q is = absurd (cc)
+meant-kept : (meant : Option Job) (s : SeatState) (q : Refusal) → (posted_with meant s).0 ≡ Err q → (posted_with meant s).1 ≡ s
+meant-kept None s q is = refl
+meant-kept (Some j) s q is = absurd (cc)
 
 in-kept : (r : RawJob) (s : SeatState) (q : Refusal) → (posted_in r s).0 ≡ Err q → (posted_in r s).1 ≡ s
 in-kept r s q =
     let P : Result Unit Refusal × SeatState → Type 0 = λ a. a.0 ≡ Err q → a.1 ≡ s in
     let full = nat_eq (length s.part.due) (s.part.handed + SUBMITTER_CELLS) in
-    cond_both (is_submitter s) (if full then (Err refusal.Full, s) else posted_with (job_said r) s) (Err refusal.NotSubmitter, s) P
-    (λ submits. cond_both full (Err refusal.Full, s) (posted_with (job_said r) s) P (λ is e. refl) (λ room. said-kept (job_said r) s q))
+    cond_both (is_submitter s) (if full then (Err refusal.Full, s) else posted_with (job_of_raw r) s) (Err refusal.NotSubmitter, s) P
+    (λ submits. cond_both full (Err refusal.Full, s) (posted_with (job_of_raw r) s) P (λ is e. refl) (λ room. meant-kept (job_of_raw r) s q))
     (λ not e. refl)
 
 pub post-kept : (r : RawJob) (m : Option SeatState) (q : Refusal) → (posted r m).0 ≡ Err q → (posted r m).1 ≡ m
@@ -27,16 +27,16 @@ post-kept r None q is = refl
 post-kept r (Some s) q is = ap Some (in-kept r s q is)
 
 -- no post is refused for want of memory where there is memory
-said-for-another : (said : Option Job) (s : SeatState) → (posted_with said s).0 ≢ Err refusal.Memory
-said-for-another None s is = absurd (cc)
-said-for-another (Some j) s is = absurd (cc)
+meant-for-another : (meant : Option Job) (s : SeatState) → (posted_with meant s).0 ≢ Err refusal.Memory
+meant-for-another None s is = absurd (cc)
+meant-for-another (Some j) s is = absurd (cc)
 
 in-for-another : (r : RawJob) (s : SeatState) → (posted_in r s).0 ≢ Err refusal.Memory
 in-for-another r s =
     let P : Result Unit Refusal × SeatState → Type 0 = λ a. a.0 ≢ Err refusal.Memory in
     let full = nat_eq (length s.part.due) (s.part.handed + SUBMITTER_CELLS) in
-    cond_both (is_submitter s) (if full then (Err refusal.Full, s) else posted_with (job_said r) s) (Err refusal.NotSubmitter, s) P
-    (λ submits. cond_both full (Err refusal.Full, s) (posted_with (job_said r) s) P (λ is e. absurd (cc)) (λ room. said-for-another (job_said r) s))
+    cond_both (is_submitter s) (if full then (Err refusal.Full, s) else posted_with (job_of_raw r) s) (Err refusal.NotSubmitter, s) P
+    (λ submits. cond_both full (Err refusal.Full, s) (posted_with (job_of_raw r) s) P (λ is e. absurd (cc)) (λ room. meant-for-another (job_of_raw r) s))
     (λ not e. absurd (cc))
 
 pub post-for-another : (r : RawJob) (m : Option SeatState) → (posted r m).0 ≢ Err refusal.Memory

@@ -253,7 +253,7 @@ first-owed (d ∷ ds) (j ∷ js) = ap Some (as-owed d.status j)
 pub first-of : (m : ManagerState) → slice_get (ranges_owed m.owed m.jobs) 0 ≡ option_map as_range (first_range m)
 first-of m = first-owed m.owed m.jobs
 
--- the first of these results is given back: its range is the one that is told, and is within its packet
+-- the first of these results is given back: its range is the one that is returned, and is within its packet
 first-result : (jobs : List Job) (d : Done) (after : List Done) (r : CipherRange) → d ∷ after ≡ map result_of jobs
     → slice_get (map given_range jobs) 0 ≡ Some r → r.off + r.len ≤ length d.packet
 first-result [] d after r order is = cc
@@ -273,8 +273,8 @@ first-within m d after off len are order is =
     first-result are.jobs d after (as_range (off, len)) (order ∙ are.results)
     (ap (λ (rs : List CipherRange). slice_get rs 0) (sym (ranges-are m are)) ∙ first-of m ∙ ap (option_map as_range) is)
 
-pub first-told : (m : ManagerState) (d : Done) (after : List Done) → AreOfJobs m → d ∷ after ≡ m.owed → first_range m ≢ None
-first-told m d after are order is =
+pub first-returned : (m : ManagerState) (d : Done) (after : List Done) → AreOfJobs m → d ∷ after ≡ m.owed → first_range m ≢ None
+first-returned m d after are order is =
     some-result are.jobs d after (order ∙ are.results)
     (ap (λ (rs : List CipherRange). slice_get rs 0) (sym (ranges-are m are)) ∙ first-of m ∙ ap (option_map as_range) is)
 

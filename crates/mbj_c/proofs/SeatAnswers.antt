@@ -6,7 +6,7 @@ use Rattle.mbj_c.specs.declared.refusal.Refusal.{Refusal}
 use Rattle.mbj_c.specs.declared.refusal.Refusal.TheVariants.{NoRoom, NotSubmitter}
 use Rattle.mbj_c.specs.Codes.{refusal_code}
 use Rattle.mbj_c.specs.Given.{Given}
-use Rattle.mbj_c.specs.Giving.{IsToldAt, has_room_for}
+use Rattle.mbj_c.specs.Giving.{IsReturnedAt, has_room_for}
 use Rattle.mbj_c.specs.Seats.{AnswersBy, Collects, IsCollectedIn, SeatState, collect_refusal, is_submitter}
 
 -- where it is a submitter or not, and where there is room or not
@@ -33,12 +33,12 @@ pub refused-room : (s t : SeatState) (code : ℕ) (out : RawDone) → is_submitt
 refused-room s t code out submits lacks = refused-for NoRoom s t code out (by-tests s out true false submits lacks)
 
 -- a call that nothing speaks against
-pub collects-told : (s t : SeatState) (flag : Bool) (before after : RawDone) → is_submitter s ≡ true → has_room_for (slice_get s.ranges 0) before ≡ true
-    → (given : Option Given) × (Collects given s t × IsToldAt (Ok given) flag before after) → IsCollectedIn s t flag 0 before after
-collects-told s t flag before after submits room (given, (collects, told)) = (
+pub collects-returned : (s t : SeatState) (flag : Bool) (before after : RawDone) → is_submitter s ≡ true → has_room_for (slice_get s.ranges 0) before ≡ true
+    → (given : Option Given) × (Collects given s t × IsReturnedAt (Ok given) flag before after) → IsCollectedIn s t flag 0 before after
+collects-returned s t flag before after submits room (given, (collects, returned)) = (
   Ok given,
   (
     subst (λ (o : Option Refusal). AnswersBy o (Ok given) s t) (sym (by-tests s before true true submits room)) collects,
-    record { result = told; refusal = refl },
+    record { result = returned; refusal = refl },
   ),
 )

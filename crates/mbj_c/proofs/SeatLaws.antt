@@ -13,11 +13,11 @@ use Rattle.mbj_c.specs.declared.refusal.Refusal.TheVariants.{Full, Memory, NotSu
 use Rattle.mbj_core.specs.declared.cells.TheConstants.{SUBMITTER_CELLS}
 use Rattle.mbj_work.specs.Parties.{after_collect}
 use Rattle.mbj_work.proofs.Collecting.{due_still}
-use Rattle.mbj_c.specs.Bursts.{GiveBurst, TakeBurst, after_taking, taken_more, with_told}
+use Rattle.mbj_c.specs.Bursts.{GiveBurst, TakeBurst, after_taking, taken_more, with_returned}
 use Rattle.mbj_c.specs.Calls.{given_in, given_of}
 use Rattle.mbj_c.specs.Codes.{refusal_code}
 use Rattle.mbj_c.proofs.SeatRanges.{first_behind, some_is}
-use Rattle.mbj_c.specs.Filling.{job_said}
+use Rattle.mbj_c.specs.Filling.{job_of_raw}
 use Rattle.mbj_c.specs.Given.{Given}
 use Rattle.mbj_c.specs.Ranges.{given_range}
 use Rattle.mbj_c.specs.Seats.{SeatState, AnswersBy, Collects, KeepsJobs, MayAnswer, after_post, collect_refusal, is_submitter, new_seat, posted, posted_in, posted_with}
@@ -137,11 +137,11 @@ none_given given js m o = subst (λ (l : List Given). OwesIn l js m) (append-nil
 
 -- a post of a burst
 post_in : (r : RawJob) (given : List Given) (js : List Job) (m : Option SeatState) → OwesIn given js m
-    → OwesIn given (js ++ jobs_if (posted r m).0 (job_said r)) (posted r m).1
+    → OwesIn given (js ++ jobs_if (posted r m).0 (job_of_raw r)) (posted r m).1
 post_in r given js None o = absurd o
 post_in r given js (Some s) o =
-    none_given given (js ++ jobs_if (posted_in r s).0 (job_said r)) (Some (posted_in r s).1)
-    (post_step (is_submitter s) (nat_eq (length s.part.due) (s.part.handed + SUBMITTER_CELLS)) (job_said r) given js s (posted_in r s) refl o)
+    none_given given (js ++ jobs_if (posted_in r s).0 (job_of_raw r)) (Some (posted_in r s).1)
+    (post_step (is_submitter s) (nat_eq (length s.part.due) (s.part.handed + SUBMITTER_CELLS)) (job_of_raw r) given js s (posted_in r s) refl o)
 
 taken_step : (a : Result Unit Refusal × Option SeatState) (j : Option Job) (b : TakeBurst (Option SeatState)) (given : List Given) (js : List Job)
     → OwesIn given js b.state → OwesIn given (js ++ jobs_if a.0 j) a.1 → OwesIn given (js ++ jobs_if a.0 j) (taken_more a b).state
@@ -149,16 +149,16 @@ taken_step (Ok u, m) j b given js before after = after
 taken_step (Err r, m) j b given js before after = no_job given js b.state before
 
 -- a job of a burst that lacked memory or didn't
-told_by : (lacks : Bool) (r : RawJob) (b : TakeBurst (Option SeatState)) (given : List Given) (js : List Job) → OwesIn given js b.state
-    → OwesIn given (js ++ (if lacks then [] else jobs_if (posted r b.state).0 (job_said r))) (if lacks then b else taken_more (posted r b.state) b).state
-told_by true r b given js o = no_job given js b.state o
-told_by false r b given js o = taken_step (posted r b.state) (job_said r) b given js o (post_in r given js b.state o)
+returned_by : (lacks : Bool) (r : RawJob) (b : TakeBurst (Option SeatState)) (given : List Given) (js : List Job) → OwesIn given js b.state
+    → OwesIn given (js ++ (if lacks then [] else jobs_if (posted r b.state).0 (job_of_raw r))) (if lacks then b else taken_more (posted r b.state) b).state
+returned_by true r b given js o = no_job given js b.state o
+returned_by false r b given js o = taken_step (posted r b.state) (job_of_raw r) b given js o (post_in r given js b.state o)
 
-told_step : (r : Option RawJob) (code : Option ℕ) (b : TakeBurst (Option SeatState)) (given : List Given) (js : List Job) → OwesIn given js b.state
-    → OwesIn given (js ++ job_at r code b.state) (with_told post_behind r code b).state
-told_step None code b given js o = no_job given js b.state o
-told_step (Some r) None b given js o = no_job given js b.state o
-told_step (Some r) (Some code) b given js o = told_by (code == refusal_code Memory) r b given js o
+returned_step : (r : Option RawJob) (code : Option ℕ) (b : TakeBurst (Option SeatState)) (given : List Given) (js : List Job) → OwesIn given js b.state
+    → OwesIn given (js ++ job_at r code b.state) (with_returned post_behind r code b).state
+returned_step None code b given js o = no_job given js b.state o
+returned_step (Some r) None b given js o = no_job given js b.state o
+returned_step (Some r) (Some code) b given js o = returned_by (code == refusal_code Memory) r b given js o
 
 -- the posts of a burst
 burst_posts : (n : ℕ) (jobs : List RawJob) (codes : List ℕ) (given : List Given) (js : List Job) (m : Option SeatState) → OwesIn given js m
@@ -168,9 +168,9 @@ burst_posts zero jobs codes given js m o = no_job given js m o
 burst_posts (suc n) jobs codes given js m o =
     let b : TakeBurst (Option SeatState) = after_taking post_behind n jobs codes m in
     let so_far : List Job = jobs_of_burst n jobs codes m in
-    subst (λ (l : List Job). OwesIn given l (with_told post_behind (slice_get jobs n) (slice_get codes n) b).state)
+    subst (λ (l : List Job). OwesIn given l (with_returned post_behind (slice_get jobs n) (slice_get codes n) b).state)
     (append_assoc js so_far (job_at (slice_get jobs n) (slice_get codes n) b.state))
-    (told_step (slice_get jobs n) (slice_get codes n) b given (js ++ so_far) (burst_posts n jobs codes given js m o))
+    (returned_step (slice_get jobs n) (slice_get codes n) b given (js ++ so_far) (burst_posts n jobs codes given js m o))
 
 -- a collect of a burst
 may_step : (m k : Option SeatState) (out : RawDone) (answer : Result (Option Given) Refusal) (given : List Given) (js : List Job)
@@ -203,8 +203,8 @@ burst_collects (suc n) outs given js m b (a, (before, more)) o =
 step : (c : SeatCall) (given : List Given) (js : List Job) (s t : SeatState) → SeatMakes c s t → Owes given js s
     → Owes (given ++ given_by c) (js ++ jobs_posted c s) t
 step (posts r) given js s t is o =
-    subst (λ (x : SeatState). Owes (given ++ []) (js ++ jobs_if (posted_in r s).0 (job_said r)) x) (sym is)
-    (post_step (is_submitter s) (nat_eq (length s.part.due) (s.part.handed + SUBMITTER_CELLS)) (job_said r) given js s (posted_in r s) refl o)
+    subst (λ (x : SeatState). Owes (given ++ []) (js ++ jobs_if (posted_in r s).0 (job_of_raw r)) x) (sym is)
+    (post_step (is_submitter s) (nat_eq (length s.part.due) (s.part.handed + SUBMITTER_CELLS)) (job_of_raw r) given js s (posted_in r s) refl o)
 step (posts_burst jobs codes) given js s t is o =
     let n : ℕ = min (length jobs) (length codes) in
     subst (λ (l : List Given). Owes l (js ++ jobs_of_burst n jobs codes (Some s)) t) (sym (append-nil given))

@@ -1,4 +1,4 @@
--- What C is told where it fills a job and submits it by one call.
+-- What is returned to C if it fills a job and submits it by one call.
 use Rattle.std.proofs.Common.{◌≡◌, ◌≢◌, ◌∙◌, ℕ, Bool, false, Option, None, Some, Result, Ok, Err, ap, arith, refl, subst, sym}
 use Rattle.std.specs.Prelude.{if◌then◌else◌}
 use Rattle.std.proofs.lemmas.Bool.{cond_both}
@@ -11,7 +11,7 @@ use Rattle.mbj_c.specs.declared.refusal.Refusal.TheVariants.{Memory, NoJob, NoRo
 use Rattle.mbj_c.specs.Codes.{code_of, refusal_code}
 use Rattle.mbj_c.specs.Filling.{filled_at}
 use Rattle.mbj_c.specs.Given.{Given}
-use Rattle.mbj_c.specs.Giving.{IsTold, called_by, called_in, first_range, has_job, has_room_for}
+use Rattle.mbj_c.specs.Giving.{IsReturned, called_by, called_in, first_range, has_job, has_room_for}
 use Rattle.mbj_c.specs.Inside.Answers.{IsDoneAs}
 use Rattle.mbj_c.specs.State.{RangedState}
 use Rattle.mbj_c.specs.Submitting.{IsSubmitted, IsSubmittedAs, answered_by, submitted_by, submitted_in}
@@ -29,20 +29,20 @@ called-for-another c k out =
 -- the job is filled, and submitted
 pub submitted-filled : (filling : Result Unit Refusal) (next old middle new : RangedState) (flag : Bool) (code : ℕ) (before after : RawDone)
     → IsDoneAs filling next old (Ok tt) middle → new ≡ (called_in call.Submit middle before).1
-    → IsTold (called_in call.Submit middle before).0 flag code before after
+    → IsReturned (called_in call.Submit middle before).0 flag code before after
     → IsSubmittedAs filling (submitted_by filling next before) old flag code before after new
-submitted-filled (Ok u) next old middle new flag code before after done state told =
-    let is_told : IsTold (called_in call.Submit next before).0 flag code before after =
-    subst (λ (k : RangedState). IsTold (called_in call.Submit k before).0 flag code before after) done told in
-    let other : code ≢ refusal_code Memory = λ is. called-for-another call.Submit next before (sym is_told.refusal ∙ is) in
+submitted-filled (Ok u) next old middle new flag code before after done state returned =
+    let is_returned : IsReturned (called_in call.Submit next before).0 flag code before after =
+    subst (λ (k : RangedState). IsReturned (called_in call.Submit k before).0 flag code before after) done returned in
+    let other : code ≢ refusal_code Memory = λ is. called-for-another call.Submit next before (sym is_returned.refusal ∙ is) in
     record {
       want_of_memory = λ is. refl;
       unchanged = λ is. absurd (other is);
       nothing = λ is. absurd (other is);
       state = λ no. state ∙ ap (λ (k : RangedState). (called_in call.Submit k before).1) done;
-      told = λ no. is_told;
+      returned = λ no. is_returned;
     }
-submitted-filled (Err q) next old middle new flag code before after done state told = absurd (cc)
+submitted-filled (Err q) next old middle new flag code before after done state returned = absurd (cc)
 
 -- it isn't filled, for want of memory or as it should be
 pub submitted-unfilled : (filling : Result Unit Refusal) (next old new : RangedState) (why : Refusal) (code : ℕ) (before : RawDone)
@@ -55,7 +55,7 @@ submitted-unfilled (Ok u) next old new why code before done another is =
       unchanged = λ m. done.1;
       nothing = λ m. record { result = (refl, refl); refusal = memory };
       state = λ no. absurd (no memory);
-      told = λ no. absurd (no memory);
+      returned = λ no. absurd (no memory);
     }
 submitted-unfilled (Err q) next old new why code before done another is =
     let same : why ≡ q = cc in
@@ -65,7 +65,7 @@ submitted-unfilled (Err q) next old new why code before done another is =
       unchanged = λ m. absurd (other m);
       nothing = λ m. absurd (other m);
       state = λ no. done.1;
-      told = λ no. record { result = (refl, refl); refusal = is ∙ ap refusal_code same };
+      returned = λ no. record { result = (refl, refl); refusal = is ∙ ap refusal_code same };
     }
 
 -- ---- the handle
@@ -75,7 +75,7 @@ by-filling : (filling : Result Unit Refusal) (k : RangedState) (out : RawDone)
 by-filling (Ok u) k out = refl
 by-filling (Err r) k out = refl
 
--- what is told of a manager is told of the handle that has it
+-- what is returned of a manager is returned of the handle that has it
 pub submitted-some : (r : RawJob) (k new : RangedState) (flag : Bool) (code : ℕ) (before after : RawDone)
     → IsSubmittedAs (filled_at 0 r k).0 (submitted_in r k before) k flag code before after new
     → IsSubmitted r (Some k) flag code before after (Some new)
@@ -88,5 +88,5 @@ submitted-some r k new flag code before after is =
       unchanged = λ m. ap Some (is.unchanged m);
       nothing = is.nothing;
       state = λ no. ap Some (is.state no);
-      told = is.told;
+      returned = is.returned;
     })

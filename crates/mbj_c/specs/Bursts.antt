@@ -29,17 +29,17 @@ taken_more (Err r, s) b = b
 
 -- what the single call comes to, behind so many jobs that the burst took
 module _ {S : Type 0} (call : ℕ → RawJob → S → Result Unit Refusal × S) where
-  -- the job of this place was told this code: it is taken as the single call does it, behind those that the burst took, or it
+  -- this code was returned for the job of this place: it is taken as the single call does it, behind those that the burst took, or it
   -- lacked memory
-  abbrev pub with_told : Option RawJob → Option ℕ → TakeBurst S → TakeBurst S
-  with_told (Some r) (Some code) b =
+  abbrev pub with_returned : Option RawJob → Option ℕ → TakeBurst S → TakeBurst S
+  with_returned (Some r) (Some code) b =
       if code == refusal_code Memory then b else taken_more (call b.taken r b.state) b
-  with_told r code b = b
+  with_returned r code b = b
 
-  -- what the first n jobs of a burst come to, which were told these codes
+  -- what the first n jobs of a burst come to, for which these codes were returned
   unfoldable pub after_taking : ℕ → List RawJob → List ℕ → S → TakeBurst S
   after_taking zero jobs codes s = take_burst 0 s
-  after_taking (suc n) jobs codes s = with_told (slice_get jobs n) (slice_get codes n) (after_taking n jobs codes s)
+  after_taking (suc n) jobs codes s = with_returned (slice_get jobs n) (slice_get codes n) (after_taking n jobs codes s)
 
   -- a job's code is that of the single call, which takes it behind those that the burst took, or that of want of memory, where it
   -- would be taken
@@ -100,16 +100,16 @@ IsRoomOf (Some g) (Some before) (Some after) = IsWritten g before after
 IsRoomOf (Some g) before after = ⊥
 IsRoomOf None before after = after ≡ before
 
--- what C is told of one call of a burst
-pub record IsTurnTold (answer : Result (Option Given) Refusal) (told next : RawBurst) (before after : RawDone) : Type 0 where
-  pub given : next.given ≡ told.given + length (option_to_list (given_in answer))
-  pub made : next.made ≡ told.made + count_of answer
+-- what is returned to C of one call of a burst
+pub record IsTurnReturned (answer : Result (Option Given) Refusal) (returned next : RawBurst) (before after : RawDone) : Type 0 where
+  pub given : next.given ≡ returned.given + length (option_to_list (given_in answer))
+  pub made : next.made ≡ returned.made + count_of answer
   pub refusal : next.refusal ≡ code_of answer
   pub room : IsRoomOf (given_in answer) (Some before) (Some after)
 
--- What C is told: the numbers, and each result in the room of its place
-pub record IsBurstTold {S : Type 0} (b : GiveBurst S) (told : RawBurst) (before after : List RawDone) : Type 0 where
-  pub given : told.given ≡ length b.given
-  pub made : told.made ≡ b.made
-  pub refusal : told.refusal ≡ b.refusal
+-- What is returned to C: the numbers, and each result in the room of its place
+pub record IsBurstReturned {S : Type 0} (b : GiveBurst S) (returned : RawBurst) (before after : List RawDone) : Type 0 where
+  pub given : returned.given ≡ length b.given
+  pub made : returned.made ≡ b.made
+  pub refusal : returned.refusal ≡ b.refusal
   pub rooms : (i : ℕ) → IsRoomOf (slice_get b.given i) (slice_get before i) (slice_get after i)

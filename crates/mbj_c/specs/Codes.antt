@@ -1,4 +1,4 @@
--- The numbers that C is told. Those of refusals stand behind the reasons for which a job is refused, which are 1 to 10.
+-- The numbers that are returned to C. Those of refusals stand behind the reasons for which a job is refused, which are 1 to 10.
 use Rattle.std.specs.Prelude.{ℕ, Option, None, Some, Result, Ok, Err}
 use Rattle.mbj_types.specs.Reasons.{number_of}
 use Rattle.mbj_types.specs.declared.done.Status.{Status}

@@ -48,12 +48,12 @@ put_both (Ok made) rooms =
     else (Err NoRoom, rooms)
 
 -- the schedules of a key
-abbrev pub schedules_said : List ℕ → Result Pair Refusal
-schedules_said key = and_then (wants (is_key_size (length key)) KeyLength) (Ok (key_schedule key, inverse_schedule (key_schedule key)))
+abbrev pub checked_schedules : List ℕ → Result Pair Refusal
+checked_schedules key = and_then (wants (is_key_size (length key)) KeyLength) (Ok (key_schedule key, inverse_schedule (key_schedule key)))
 
 -- the subkeys of a key of CMAC
-abbrev pub subkeys_said : List ℕ → Result Pair Refusal
-subkeys_said key =
+abbrev pub checked_subkeys : List ℕ → Result Pair Refusal
+checked_subkeys key =
     and_then (wants (Cmac.takes_key (length key)) KeyLength) (Ok (first_subkey (aes key), second_subkey (aes key)))
 
 -- ---- the digest of a text
@@ -62,8 +62,8 @@ abbrev pub digest_by : Option HashName → List ℕ → Result (List ℕ) Refusa
 digest_by None text = Err Word
 digest_by (Some h) text = Ok ((hash_of_name h).digest text)
 
-abbrev pub digest_said : ℕ → List ℕ → Result (List ℕ) Refusal
-digest_said code text = digest_by (slice_get hashes code) text
+abbrev pub digest_by_code : ℕ → List ℕ → Result (List ℕ) Refusal
+digest_by_code code text = digest_by (slice_get hashes code) text
 
 -- ---- a text that changes in place, and the room of its tag
 
@@ -81,8 +81,8 @@ abbrev pub gcm_accepts : List ℕ → List ℕ → Result Unit Refusal
 gcm_accepts key iv = and_then (wants (is_key_size (length key)) KeyLength) (wants (Gcm.takes_iv (length iv)) IvLength)
 
 -- a whole text by GCM, and a tag as long as its room
-abbrev pub gcm_said : List ℕ → List ℕ → List ℕ → Bool → Pair → Result Pair Refusal
-gcm_said key iv aad sealing old =
+abbrev pub checked_gcm : List ℕ → List ℕ → List ℕ → Bool → Pair → Result Pair Refusal
+checked_gcm key iv aad sealing old =
     and_then (gcm_accepts key iv)
     (and_then (wants (Gcm.takes_tag (length old.1)) TagLength) (Ok (cut_to (length old.1) (gcm (aes key) iv aad old.0 sealing))))
 
@@ -95,8 +95,8 @@ ccm_accepts key nonce aad text tag =
     (and_then (wants (nat_le text MAX_PACKET_BYTES) TextLength) (wants (Ccm.takes_tag tag) TagLength))))
 
 -- a text by CCM, and a tag as long as its room
-abbrev pub ccm_said : List ℕ → List ℕ → List ℕ → Bool → Pair → Result Pair Refusal
-ccm_said key nonce aad sealing old =
+abbrev pub checked_ccm : List ℕ → List ℕ → List ℕ → Bool → Pair → Result Pair Refusal
+checked_ccm key nonce aad sealing old =
     and_then (ccm_accepts (length key) (length nonce) (length aad) (length old.0) (length old.1))
     (Ok (cut_to (length old.1) (ccm (aes key) nonce aad old.0 (length old.1) sealing)))
 
@@ -112,10 +112,10 @@ opened_by (Err r) tag text = (Err r, text)
 opened_by (Ok made) tag text = verified made tag text
 
 abbrev pub gcm_opened : List ℕ → List ℕ → List ℕ → List ℕ → List ℕ → Result Unit Refusal × List ℕ
-gcm_opened key iv aad text tag = opened_by (gcm_said key iv aad false (text, tag)) tag text
+gcm_opened key iv aad text tag = opened_by (checked_gcm key iv aad false (text, tag)) tag text
 
 abbrev pub ccm_opened : List ℕ → List ℕ → List ℕ → List ℕ → List ℕ → Result Unit Refusal × List ℕ
-ccm_opened key nonce aad text tag = opened_by (ccm_said key nonce aad false (text, tag)) tag text
+ccm_opened key nonce aad text tag = opened_by (checked_ccm key nonce aad false (text, tag)) tag text
 
 -- ---- a text by GCM in parts
 
@@ -128,8 +128,8 @@ abbrev pub begun_by : Result Dir Refusal → List ℕ → List ℕ → Result Di
 begun_by (Err r) key iv = Err r
 begun_by (Ok d) key iv = and_then (gcm_accepts key iv) (Ok d)
 
-abbrev pub begun_said : ℕ → List ℕ → List ℕ → Result Dir Refusal
-begun_said code key iv = begun_by (dir_by (slice_get dirs code)) key iv
+abbrev pub begun_by_code : ℕ → List ℕ → List ℕ → Result Dir Refusal
+begun_by_code code key iv = begun_by (dir_by (slice_get dirs code)) key iv
 
 -- whether a text goes on from a state
 abbrev pub goes_on : GcmState → Result Unit Refusal

@@ -20,12 +20,12 @@ abbrev pub words_of : Option Cipher → Option Dir → Option Order → Option A
 words_of (Some c) (Some d) (Some o) (Some a) = Some (record { cipher = c; dir = d; order = o; auth = a })
 words_of c d o a = None
 
-abbrev pub words_said : RawJob → Option Words
-words_said r = words_of (slice_get ciphers r.cipher) (slice_get dirs r.dir) (slice_get orders r.order) (slice_get auths r.auth)
+abbrev pub words_of_raw : RawJob → Option Words
+words_of_raw r = words_of (slice_get ciphers r.cipher) (slice_get dirs r.dir) (slice_get orders r.order) (slice_get auths r.auth)
 
 -- the greatest number of 32 bits names no session
-abbrev pub session_said : ℕ → Option ℕ
-session_said n = if n == 2 ^ 32 - 1 then None else Some n
+abbrev pub session_of_raw : ℕ → Option ℕ
+session_of_raw n = if n == 2 ^ 32 - 1 then None else Some n
 
 abbrev pub job_with : RawJob → Words → Job
 job_with r w = record {
@@ -43,12 +43,12 @@ job_with r w = record {
   hash_len = narrowed r.hash_len;
   tag_len = r.tag_len;
   packet = r.packet.now;
-  session = session_said r.session;
+  session = session_of_raw r.session;
 }
 
 -- the job that C's job says, where each code is a word
-abbrev pub job_said : RawJob → Option Job
-job_said r = option_map (job_with r) (words_said r)
+abbrev pub job_of_raw : RawJob → Option Job
+job_of_raw r = option_map (job_with r) (words_of_raw r)
 
 -- the list with x for element i, and with x last where it has no more than i elements
 abbrev pub put_at : {A : Type 0} → ℕ → A → List A → List A
@@ -61,14 +61,14 @@ with_cell i j m = record m { opened = put_at i j m.opened }
 abbrev pub with_job_at : ℕ → Job → RangedState → RangedState
 with_job_at i j k = record k { manager = with_cell i j k.manager; filled = put_at i (given_range j) k.filled }
 
--- the job that is said is in open cell i
+-- the job that is meant is in open cell i
 abbrev pub filled_with : ℕ → Option Job → RangedState → Result Unit Refusal × RangedState
 filled_with i None k = (Err refusal.Word, k)
 filled_with i (Some j) k = (Ok tt, with_job_at i j k)
 
 -- what filling open cell i comes to where there is memory: it is refused where that cell isn't left, and then where a code is none
 abbrev pub filled_at : ℕ → RawJob → RangedState → Result Unit Refusal × RangedState
-filled_at i r k = if nat_le CELLS (length k.manager.owed + i) then (Err refusal.Full, k) else filled_with i (job_said r) k
+filled_at i r k = if nat_le CELLS (length k.manager.owed + i) then (Err refusal.Full, k) else filled_with i (job_of_raw r) k
 
 abbrev pub filled_cell : ℕ → RawJob → Option RangedState → Result Unit Refusal × Option RangedState
 filled_cell i r None = (Err refusal.NoManager, None)

@@ -141,7 +141,7 @@ abbrev pub answered : Call → Option RangedState → RawDone → Result (Option
 answered c None out = (Err NoManager, None)
 answered c (Some k) out = ((called_in c k out).0, Some (called_in c k out).1)
 
--- ---- what C is told
+-- ---- what is returned to C
 
 -- the bytes that are given back of a packet
 abbrev pub bytes_given : Given → List ℕ
@@ -156,15 +156,15 @@ pub record IsWritten (g : Given) (before after : RawDone) : Type 0 where
   pub status : after.status ≡ status_code g.done.status
   pub reason : after.reason ≡ reason_code g.done.status
 
-abbrev pub IsToldAt : Result (Option Given) Refusal → Bool → RawDone → RawDone → Type 0
-IsToldAt (Ok (Some g)) flag before after = (flag ≡ true) × IsWritten g before after
-IsToldAt (Ok None) flag before after = (flag ≡ false) × (after ≡ before)
-IsToldAt (Err r) flag before after = (flag ≡ false) × (after ≡ before)
+abbrev pub IsReturnedAt : Result (Option Given) Refusal → Bool → RawDone → RawDone → Type 0
+IsReturnedAt (Ok (Some g)) flag before after = (flag ≡ true) × IsWritten g before after
+IsReturnedAt (Ok None) flag before after = (flag ≡ false) × (after ≡ before)
+IsReturnedAt (Err r) flag before after = (flag ≡ false) × (after ≡ before)
 
--- What C is told: the flag is true exactly where a result is given back, which is then written whole; else the room stays as it
+-- What is returned to C: the flag is true exactly where a result is given back, which is then written whole; else the room stays as it
 -- was. The code says whether the call was refused, and why
-pub record IsTold (answer : Result (Option Given) Refusal) (flag : Bool) (code : ℕ) (before after : RawDone) : Type 0 where
-  pub result : IsToldAt answer flag before after
+pub record IsReturned (answer : Result (Option Given) Refusal) (flag : Bool) (code : ℕ) (before after : RawDone) : Type 0 where
+  pub result : IsReturnedAt answer flag before after
   pub refusal : code ≡ code_of answer
 
 -- there is a manager, and nothing is owed

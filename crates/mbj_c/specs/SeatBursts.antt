@@ -4,7 +4,7 @@ use Rattle.mbj_c.specs.declared.bursts.RawBurst.{RawBurst}
 use Rattle.mbj_c.specs.declared.giving.RawDone.{RawDone}
 use Rattle.mbj_c.specs.declared.job.RawJob.{RawJob}
 use Rattle.mbj_c.specs.declared.refusal.Refusal.{Refusal}
-use Rattle.mbj_c.specs.Bursts.{GiveBurst, IsBurstTold, TakeBurst, after_taking, no_calls, with_answer}
+use Rattle.mbj_c.specs.Bursts.{GiveBurst, IsBurstReturned, TakeBurst, after_taking, no_calls, with_answer}
 use Rattle.mbj_c.specs.Given.{Given}
 use Rattle.mbj_c.specs.Seats.{MayAnswer, SeatState, posted}
 
@@ -12,7 +12,7 @@ use Rattle.mbj_c.specs.Seats.{MayAnswer, SeatState, posted}
 abbrev pub post_behind : ℕ → RawJob → Option SeatState → Result Unit Refusal × Option SeatState
 post_behind taken r m = posted r m
 
--- what a burst of posts comes to, which were told these codes
+-- what a burst of posts comes to, for which these codes were returned
 abbrev pub after_posting : List RawJob → List ℕ → Option SeatState → TakeBurst (Option SeatState)
 after_posting jobs codes m = after_taking post_behind (min (length jobs) (length codes)) jobs codes m
 
@@ -28,9 +28,9 @@ CollectAll zero outs m b = b ≡ no_calls m
 CollectAll (suc n) outs m b =
     (a : GiveBurst (Option SeatState)) × (CollectAll n outs m a × CollectsMore (slice_get outs (length a.given)) a b)
 
--- as many collects as there are rooms, and what C is told of them
-pub record IsBurstCollected (before : Option SeatState) (outs : List RawDone) (told : RawBurst) (rooms : List RawDone) (after : Option SeatState) : Type 0 where
+-- as many collects as there are rooms, and what is returned to C of them
+pub record IsBurstCollected (before : Option SeatState) (outs : List RawDone) (returned : RawBurst) (rooms : List RawDone) (after : Option SeatState) : Type 0 where
   pub calls : GiveBurst (Option SeatState)
   pub made : CollectAll (length outs) outs before calls
   pub state : after ≡ calls.state
-  pub is_told : IsBurstTold calls told outs rooms
+  pub is_returned : IsBurstReturned calls returned outs rooms

@@ -9,7 +9,7 @@ use Rattle.mbj_c.specs.declared.refusal.Refusal.TheVariants.{Memory}
 use Rattle.mbj_c.specs.Bursts.{GiveBurst, after_taking}
 use Rattle.mbj_c.specs.Calls.{given_in, given_of}
 use Rattle.mbj_c.specs.Codes.{refusal_code}
-use Rattle.mbj_c.specs.Filling.{job_said}
+use Rattle.mbj_c.specs.Filling.{job_of_raw}
 use Rattle.mbj_c.specs.Given.{Given}
 use Rattle.mbj_c.specs.Ranges.{given_range}
 use Rattle.mbj_c.specs.SeatBursts.{CollectAll, after_posting, post_behind}
@@ -18,7 +18,7 @@ use Rattle.mbj_c.specs.Seats.{Answers, SeatState, KeepsJobs, new_seat, posted, p
 pub data SeatCall : Type 0 where
   -- a post of a job for which there is memory
   posts : RawJob → SeatCall
-  -- posts of these jobs by one call, which told these codes
+  -- posts of these jobs by one call, which returned these codes
   posts_burst : List RawJob → List ℕ → SeatCall
   -- a collect with room for a result, which answered this
   collects : RawDone → Result (Option Given) Refusal → SeatCall
@@ -43,7 +43,7 @@ jobs_if (Err r) j = []
 
 -- the job of this place of a burst, where it was posted
 abbrev pub job_at : Option RawJob → Option ℕ → Option SeatState → List Job
-job_at (Some r) (Some code) m = if code == refusal_code Memory then [] else jobs_if (posted r m).0 (job_said r)
+job_at (Some r) (Some code) m = if code == refusal_code Memory then [] else jobs_if (posted r m).0 (job_of_raw r)
 job_at r code m = []
 
 -- those of the first n places
@@ -53,7 +53,7 @@ jobs_of_burst (suc n) jobs codes m =
     jobs_of_burst n jobs codes m ++ job_at (slice_get jobs n) (slice_get codes n) (after_taking post_behind n jobs codes m).state
 
 abbrev pub jobs_posted : SeatCall → SeatState → List Job
-jobs_posted (posts r) s = jobs_if (posted_in r s).0 (job_said r)
+jobs_posted (posts r) s = jobs_if (posted_in r s).0 (job_of_raw r)
 jobs_posted (posts_burst jobs codes) s = jobs_of_burst (min (length jobs) (length codes)) jobs codes (Some s)
 jobs_posted (collects out answer) s = []
 jobs_posted (collects_burst outs given) s = []

@@ -14,9 +14,9 @@ use Rattle.mbj_c.specs.declared.job.RawJob.{RawJob}
 use Rattle.mbj_c.specs.declared.range.CipherRange.{CipherRange}
 use Rattle.mbj_c.specs.declared.refusal.Refusal.{Refusal}
 use Rattle.mbj_c.specs.declared.refusal.Refusal.TheVariants as refusal
-use Rattle.mbj_c.specs.Filling.{job_said}
+use Rattle.mbj_c.specs.Filling.{job_of_raw}
 use Rattle.mbj_c.specs.Given.{Given}
-use Rattle.mbj_c.specs.Giving.{IsTold, has_room_for}
+use Rattle.mbj_c.specs.Giving.{IsReturned, has_room_for}
 use Rattle.mbj_c.specs.Ranges.{given_range}
 
 pub record SeatState : Type 0 where
@@ -47,7 +47,7 @@ posted_with (Some j) s = (Ok tt, after_post j s)
 abbrev pub posted_in : RawJob → SeatState → Result Unit Refusal × SeatState
 posted_in r s =
     if is_submitter s
-    then (if nat_eq (length s.part.due) (s.part.handed + SUBMITTER_CELLS) then (Err refusal.Full, s) else posted_with (job_said r) s)
+    then (if nat_eq (length s.part.due) (s.part.handed + SUBMITTER_CELLS) then (Err refusal.Full, s) else posted_with (job_of_raw r) s)
     else (Err refusal.NotSubmitter, s)
 
 abbrev pub posted : RawJob → Option SeatState → Result Unit Refusal × Option SeatState
@@ -83,14 +83,14 @@ MayAnswer None out answer None = answer ≡ Err refusal.NoSeat
 MayAnswer (Some s) out answer (Some t) = Answers s out answer t
 MayAnswer s out answer t = ⊥
 
--- C is told what the collect answers
+-- what the collect answers is returned to C
 abbrev pub IsCollectedIn : SeatState → SeatState → Bool → ℕ → RawDone → RawDone → Type 0
 IsCollectedIn s t flag code before after =
-    (answer : Result (Option Given) Refusal) × (Answers s before answer t × IsTold answer flag code before after)
+    (answer : Result (Option Given) Refusal) × (Answers s before answer t × IsReturned answer flag code before after)
 
 abbrev pub IsCollected : Option SeatState → Option SeatState → Bool → ℕ → RawDone → RawDone → Type 0
 IsCollected s t flag code before after =
-    (answer : Result (Option Given) Refusal) × (MayAnswer s before answer t × IsTold answer flag code before after)
+    (answer : Result (Option Given) Refusal) × (MayAnswer s before answer t × IsReturned answer flag code before after)
 
 -- ---- working
 

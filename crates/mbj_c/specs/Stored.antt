@@ -12,8 +12,8 @@ abbrev pub states_by : Option HashName → List ℕ → Result (List ℕ) Refusa
 states_by None key = Err Word
 states_by (Some h) key = Ok (key_states (hash_of_name h) (compression_of_name h) key)
 
-abbrev pub states_said : ℕ → List ℕ → Result (List ℕ) Refusal
-states_said code key = states_by (slice_get hashes code) key
+abbrev pub states_by_code : ℕ → List ℕ → Result (List ℕ) Refusal
+states_by_code code key = states_by (slice_get hashes code) key
 
 -- the state behind one block, where the hash is one and the block has its length
 abbrev pub state_by : Option HashName → List ℕ → Result (List ℕ) Refusal
@@ -21,8 +21,8 @@ state_by None block = Err Word
 state_by (Some h) block =
     if length block == (hash_of_name h).block_bytes then Ok (block_state (compression_of_name h) block) else Err TextLength
 
-abbrev pub state_said : ℕ → List ℕ → Result (List ℕ) Refusal
-state_said code block = state_by (slice_get hashes code) block
+abbrev pub state_by_code : ℕ → List ℕ → Result (List ℕ) Refusal
+state_by_code code block = state_by (slice_get hashes code) block
 
 -- bytes are put at the front of their room, where that holds them; else nothing is written
 abbrev pub put_in : Result (List ℕ) Refusal → List ℕ → Result Unit Refusal × List ℕ

@@ -8,7 +8,7 @@ use Rattle.mbj_c.specs.declared.refusal.Refusal.TheVariants.{Memory}
 use Rattle.mbj_c.specs.Codes.{refusal_code}
 use Rattle.mbj_c.specs.Filling.{filled, filled_at}
 use Rattle.mbj_c.specs.Given.{Given}
-use Rattle.mbj_c.specs.Giving.{IsTold, answered, called_in}
+use Rattle.mbj_c.specs.Giving.{IsReturned, answered, called_in}
 use Rattle.mbj_c.specs.State.{RangedState}
 
 -- a job that isn't filled isn't submitted, and the call is refused for that
@@ -28,15 +28,15 @@ answered_by (Err r) m out = (Err r, m)
 abbrev pub submitted : RawJob → Option RangedState → RawDone → Result (Option Given) Refusal × Option RangedState
 submitted r m out = answered_by (filled r m).0 (filled r m).1 out
 
--- What C is told where the job is filled, or refused, in this way, and where the call comes to `want` then. Where the code is that of want
+-- What is returned to C if the job is filled, or refused, in this way, and the call comes to `want` then. If the code is that of want
 -- of memory, the job would be filled, nothing is given back, and nothing changes
 pub record IsSubmittedAs {A : Type 0} (filling : Result Unit Refusal) (want : Result (Option Given) Refusal × A) (old : A) (flag : Bool) (code : ℕ)
     (before after : RawDone) (new : A) : Type 0 where
   pub want_of_memory : code ≡ refusal_code Memory → filling ≡ Ok tt
   pub unchanged : code ≡ refusal_code Memory → new ≡ old
-  pub nothing : code ≡ refusal_code Memory → IsTold (Err Memory) flag code before after
+  pub nothing : code ≡ refusal_code Memory → IsReturned (Err Memory) flag code before after
   pub state : code ≢ refusal_code Memory → new ≡ want.1
-  pub told : code ≢ refusal_code Memory → IsTold want.0 flag code before after
+  pub returned : code ≢ refusal_code Memory → IsReturned want.0 flag code before after
 
 abbrev pub IsSubmitted : RawJob → Option RangedState → Bool → ℕ → RawDone → RawDone → Option RangedState → Type 0
 IsSubmitted r m flag code before after new = IsSubmittedAs (filled r m).0 (submitted r m before) m flag code before after new

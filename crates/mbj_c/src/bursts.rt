@@ -1,10 +1,10 @@
 //! Bursts: what the single calls do, for many jobs by one call.
 
 ghost use Rattle.std.specs.Prelude.{◌≡◌, ◌+◌, ◌^◌, ◌<◌, ◌≤◌, IfSome, Option, Result, Some, length};
-ghost use Rattle.mbj_c.specs.Bursts.{IsAnswer, IsBurstTaken, IsBurstTold, IsTurnTold, after_giving, take_burst, with_told};
+ghost use Rattle.mbj_c.specs.Bursts.{IsAnswer, IsBurstTaken, IsBurstReturned, IsTurnReturned, after_giving, take_burst, with_returned};
 ghost use Rattle.mbj_c.specs.Filling.{filled_cell};
 ghost use Rattle.mbj_c.specs.Given.{Given};
-ghost use Rattle.mbj_c.specs.Giving.{IsTold, answered};
+ghost use Rattle.mbj_c.specs.Giving.{IsReturned, answered};
 ghost use Rattle.mbj_c.specs.declared.giving.RawDone.{RawDone};
 ghost use Rattle.mbj_c.specs.declared.refusal.Refusal.{Refusal};
 
@@ -14,7 +14,7 @@ use crate::handle::Handle;
 use crate::job::RawJob;
 use std::alloc::Global;
 
-/// What C is told of a burst of calls that may give results back.
+/// What is returned to C of a burst of calls that may give results back.
 #[repr(C)]
 #[derive(Clone, Copy, Debug, PartialEq, Eq)]
 pub struct RawBurst {
@@ -27,7 +27,7 @@ pub struct RawBurst {
 }
 
 impl RawBurst {
-    /// What is told before the first call.
+    /// What is returned before the first call.
     pub(crate) fn new() -> RawBurst
         ensures { result ≡ record { made = 0; given = 0; refusal = 0 } }
     {
@@ -38,12 +38,12 @@ impl RawBurst {
         }
     }
 
-    /// Counts a call, which gave a result or not and was told this code of its refusal, or 0.
+    /// Counts a call, which gave a result or not and returned this code of its refusal, or 0.
     pub(crate) fn count(&mut self, is_given: bool, refusal: u32)
         requires made { self.old.made + 1 < 2 ^ 64 }
         requires given { self.old.given + 1 < 2 ^ 64 }
-        ensures { (answer : Result (Option Given) Refusal) (before after : RawDone) → IsTold answer is_given refusal before after
-            → IsTurnTold answer self.old self.new before after }
+        ensures { (answer : Result (Option Given) Refusal) (before after : RawDone) → IsReturned answer is_given refusal before after
+            → IsTurnReturned answer self.old self.new before after }
     {
         *self = RawBurst {
             made: self.made + usize::from(refusal == 0),
@@ -64,7 +64,7 @@ fn fill_next(
     requires cell { IfSome handle.old.manager (λ k. filled.old ≤ length k.manager.opened) }
     ensures answer { IsAnswer filled_cell (Some raw.now) (Some refusal.new) (take_burst filled.old handle.old.manager) }
     ensures state { take_burst filled.new handle.new.manager
-        ≡ with_told filled_cell (Some raw.now) (Some refusal.new) (take_burst filled.old handle.old.manager) }
+        ≡ with_returned filled_cell (Some raw.now) (Some refusal.new) (take_burst filled.old handle.old.manager) }
     ensures cell { IfSome handle.new.manager (λ k. filled.new ≤ length k.manager.opened) }
 {
     match calls::fill_cell(alloc, handle, *filled, raw) {
@@ -104,16 +104,16 @@ fn give_next(
     handle: &mut Handle,
     call: Call,
     out: &mut RawDone<'_>,
-    told: &mut RawBurst,
+    returned: &mut RawBurst,
 )
-    requires made { told.old.made + 1 < 2 ^ 64 }
-    requires given { told.old.given + 1 < 2 ^ 64 }
+    requires made { returned.old.made + 1 < 2 ^ 64 }
+    requires given { returned.old.given + 1 < 2 ^ 64 }
     ensures state { handle.new.manager ≡ (answered call handle.old.manager out.old).1 }
-    ensures told { IsTurnTold (answered call handle.old.manager out.old).0 told.old told.new out.old out.new }
+    ensures returned { IsTurnReturned (answered call handle.old.manager out.old).0 returned.old returned.new out.old out.new }
 {
     let mut refusal = 0;
     let is_given = calls::give(alloc, handle, call, out, &mut refusal);
-    told.count(is_given, refusal);
+    returned.count(is_given, refusal);
 }
 
 /// Makes the call once for each room. Each result goes to the first room that has none.
@@ -122,13 +122,13 @@ pub(crate) fn give(
     handle: &mut Handle,
     call: Call,
     outs: &mut [RawDone<'_>],
-    told: &mut RawBurst,
+    returned: &mut RawBurst,
 )
     ensures state { handle.new.manager ≡ (after_giving (length outs.old) call outs.old handle.old.manager).state }
-    ensures told { IsBurstTold (after_giving (length outs.old) call outs.old handle.old.manager) told.new outs.old outs.new }
+    ensures returned { IsBurstReturned (after_giving (length outs.old) call outs.old handle.old.manager) returned.new outs.old outs.new }
 {
-    *told = RawBurst::new();
+    *returned = RawBurst::new();
     'calling: for turn in 0..outs.len() {
-        give_next(alloc, handle, call, &mut outs[told.given], told);
+        give_next(alloc, handle, call, &mut outs[returned.given], returned);
     }
 }

@@ -4,7 +4,7 @@ ghost use Rattle.std.specs.Prelude.{◌≡◌, ◌<◌, ◌≤◌, IfOk, IfSome,
 ghost use Rattle.mbj_ring.specs.declared.ring.TheConstants.{CELLS};
 ghost use Rattle.mbj_c.specs.State.{new_ranged};
 ghost use Rattle.mbj_c.specs.Filling.{filled, filled_cell, made};
-ghost use Rattle.mbj_c.specs.Giving.{IsDrained, IsTold, answered};
+ghost use Rattle.mbj_c.specs.Giving.{IsDrained, IsReturned, answered};
 ghost use Rattle.mbj_c.specs.declared.giving.Call.TheVariants as calls;
 ghost use Rattle.mbj_c.specs.Counts.{IsCounted, queue_size};
 ghost use Rattle.mbj_c.specs.Inside.Answers.{IsDone};
@@ -73,7 +73,7 @@ pub(crate) fn give(
     refusal: &mut u32,
 ) -> bool
     ensures state { handle.new.manager ≡ (answered call handle.old.manager out.old).1 }
-    ensures told { IsTold (answered call handle.old.manager out.old).0 result refusal.new out.old out.new }
+    ensures returned { IsReturned (answered call handle.old.manager out.old).0 result refusal.new out.old out.new }
     ensures drained { call ≡ calls.Flush → result ≡ false → refusal.new ≡ 0 → IsDrained handle.old.manager }
 {
     match handle.take(alloc) {

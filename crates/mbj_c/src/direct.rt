@@ -6,7 +6,7 @@ ghost use Rattle.mbj_types.specs.Gcm.{gcm, gcm_text};
 ghost use Rattle.mbj_types.specs.Result.{is_enc};
 ghost use Rattle.mbj_direct.specs.Parts.{HasTaken, blank_state};
 ghost use Rattle.mbj_c.specs.Codes.{code_of};
-ghost use Rattle.mbj_c.specs.Direct.{begun_said, ccm_accepts, ccm_said, changed, digest_said, ends, gcm_accepts, gcm_said, goes_on, put_both, schedules_said, subkeys_said};
+ghost use Rattle.mbj_c.specs.Direct.{begun_by_code, ccm_accepts, checked_ccm, changed, digest_by_code, ends, gcm_accepts, checked_gcm, goes_on, put_both, checked_schedules, checked_subkeys};
 ghost use Rattle.mbj_c.specs.Stored.{put_in};
 ghost use Rattle.mbj_c.specs.declared.refusal.Refusal.TheVariants.{Memory};
 
@@ -47,8 +47,8 @@ pub(crate) fn put_schedules(
     encryption: &mut [u8],
     decryption: &mut [u8],
 ) -> Result<(), Refusal>
-    ensures answer { result ≡ (put_both (schedules_said key.now) (encryption.old, decryption.old)).0 }
-    ensures written { (encryption.new, decryption.new) ≡ (put_both (schedules_said key.now) (encryption.old, decryption.old)).1 }
+    ensures answer { result ≡ (put_both (checked_schedules key.now) (encryption.old, decryption.old)).0 }
+    ensures written { (encryption.new, decryption.new) ≡ (put_both (checked_schedules key.now) (encryption.old, decryption.old)).1 }
 {
     if !is_key_size(key.len()) {
         return Err(Refusal::KeyLength);
@@ -61,8 +61,8 @@ pub(crate) fn put_schedules(
 
 /// Puts the subkeys of a key of CMAC at the fronts of their rooms.
 pub(crate) fn put_subkeys(key: &[u8], first: &mut [u8], second: &mut [u8]) -> Result<(), Refusal>
-    ensures answer { result ≡ (put_both (subkeys_said key.now) (first.old, second.old)).0 }
-    ensures written { (first.new, second.new) ≡ (put_both (subkeys_said key.now) (first.old, second.old)).1 }
+    ensures answer { result ≡ (put_both (checked_subkeys key.now) (first.old, second.old)).0 }
+    ensures written { (first.new, second.new) ≡ (put_both (checked_subkeys key.now) (first.old, second.old)).1 }
 {
     if !cmac::takes_key(key.len()) {
         return Err(Refusal::KeyLength);
@@ -73,8 +73,8 @@ pub(crate) fn put_subkeys(key: &[u8], first: &mut [u8], second: &mut [u8]) -> Re
 
 /// Puts the digest of a text at the front of its room.
 pub(crate) fn put_digest(hash: u32, text: &[u8], room: &mut [u8]) -> Result<(), Refusal>
-    ensures answer { result ≡ (put_in (digest_said hash text.now) room.old).0 }
-    ensures written { room.new ≡ (put_in (digest_said hash text.now) room.old).1 }
+    ensures answer { result ≡ (put_in (digest_by_code hash text.now) room.old).0 }
+    ensures written { room.new ≡ (put_in (digest_by_code hash text.now) room.old).1 }
 {
     let Some(hash) = hash_at(hash) else {
         return Err(Refusal::Word);
@@ -103,8 +103,8 @@ pub(crate) fn gcm_seal(
     text: &mut [u8],
     tag: &mut [u8],
 ) -> Result<(), Refusal>
-    ensures answer { result ≡ (changed (gcm_said key.now iv.now aad.now true (text.old, tag.old)) (text.old, tag.old)).0 }
-    ensures written { (text.new, tag.new) ≡ (changed (gcm_said key.now iv.now aad.now true (text.old, tag.old)) (text.old, tag.old)).1 }
+    ensures answer { result ≡ (changed (checked_gcm key.now iv.now aad.now true (text.old, tag.old)) (text.old, tag.old)).0 }
+    ensures written { (text.new, tag.new) ≡ (changed (checked_gcm key.now iv.now aad.now true (text.old, tag.old)) (text.old, tag.old)).1 }
 {
     gcm_takes(key, iv)?;
     if !gcm::takes_tag(tag.len()) {
@@ -123,8 +123,8 @@ pub(crate) fn gcm_decrypt_unverified(
     text: &mut [u8],
     tag: &mut [u8],
 ) -> Result<(), Refusal>
-    ensures answer { result ≡ (changed (gcm_said key.now iv.now aad.now false (text.old, tag.old)) (text.old, tag.old)).0 }
-    ensures written { (text.new, tag.new) ≡ (changed (gcm_said key.now iv.now aad.now false (text.old, tag.old)) (text.old, tag.old)).1 }
+    ensures answer { result ≡ (changed (checked_gcm key.now iv.now aad.now false (text.old, tag.old)) (text.old, tag.old)).0 }
+    ensures written { (text.new, tag.new) ≡ (changed (checked_gcm key.now iv.now aad.now false (text.old, tag.old)) (text.old, tag.old)).1 }
 {
     gcm_takes(key, iv)?;
     if !gcm::takes_tag(tag.len()) {
@@ -143,9 +143,9 @@ pub(crate) fn gcm_begin(
     aad: &[u8],
     state: &mut GcmState,
 ) -> Result<(), Refusal>
-    ensures answer { code_of result ≡ code_of (begun_said dir key.now iv.now) }
+    ensures answer { code_of result ≡ code_of (begun_by_code dir key.now iv.now) }
     ensures refused { OnErr result (state.new ≡ state.old) }
-    ensures begun { OnOk result (IfOk (begun_said dir key.now iv.now) (λ d. HasTaken key.now iv.now aad.now (is_enc d) [] state.new)) }
+    ensures begun { OnOk result (IfOk (begun_by_code dir key.now iv.now) (λ d. HasTaken key.now iv.now aad.now (is_enc d) [] state.new)) }
 {
     let Some(dir) = dir_at(dir) else {
         return Err(Refusal::Word);
@@ -231,13 +231,13 @@ pub(crate) fn ccm_change(
     tag: &mut [u8],
 ) -> Result<(), Refusal>
     ensures want_of_memory { result ≡ Err Memory
-        → (changed (ccm_said key.now nonce.now aad.now (is_enc dir) (text.old, tag.old)) (text.old, tag.old)).0 ≡ Ok tt }
+        → (changed (checked_ccm key.now nonce.now aad.now (is_enc dir) (text.old, tag.old)) (text.old, tag.old)).0 ≡ Ok tt }
     ensures unchanged { result ≡ Err Memory → text.new ≡ text.old }
     ensures unchanged_tag { result ≡ Err Memory → tag.new ≡ tag.old }
     ensures answer { result ≢ Err Memory
-        → result ≡ (changed (ccm_said key.now nonce.now aad.now (is_enc dir) (text.old, tag.old)) (text.old, tag.old)).0 }
+        → result ≡ (changed (checked_ccm key.now nonce.now aad.now (is_enc dir) (text.old, tag.old)) (text.old, tag.old)).0 }
     ensures written { result ≢ Err Memory
-        → (text.new, tag.new) ≡ (changed (ccm_said key.now nonce.now aad.now (is_enc dir) (text.old, tag.old)) (text.old, tag.old)).1 }
+        → (text.new, tag.new) ≡ (changed (checked_ccm key.now nonce.now aad.now (is_enc dir) (text.old, tag.old)) (text.old, tag.old)).1 }
 {
     ccm_takes(key, nonce, aad, text.len(), tag.len())?;
     let schedule = Schedule::expand(key);

@@ -1,5 +1,5 @@
 ghost use Rattle.std.specs.Prelude.{◌≡◌, IfOk, IfErr, Some, option_map};
-ghost use Rattle.mbj_c.specs.Filling.{job_said, job_with, session_said, words_said};
+ghost use Rattle.mbj_c.specs.Filling.{job_of_raw, job_with, session_of_raw, words_of_raw};
 
 use crate::range::narrowed;
 use crate::words::{Words, auth_at, cipher_at, dir_at, order_at};
@@ -50,7 +50,7 @@ const NO_SESSION: u32 = u32::MAX;
 
 /// The session with this number. Returns `None` exactly where it names none.
 fn session_at(number: u32) -> Option<u32>
-    ensures { result ≡ session_said number }
+    ensures { result ≡ session_of_raw number }
 {
     if number == NO_SESSION {
         None
@@ -62,7 +62,7 @@ fn session_at(number: u32) -> Option<u32>
 impl RawJob<'_> {
     /// The cipher, direction, order and authentication with these codes. Returns `None` exactly where a number is no code.
     pub(crate) fn words(&self) -> Option<Words>
-        ensures { result ≡ words_said self.now }
+        ensures { result ≡ words_of_raw self.now }
     {
         let (Some(cipher), Some(dir), Some(order), Some(auth)) = (
             cipher_at(self.cipher),

@@ -5,7 +5,7 @@ ghost use Rattle.mbj_ring.specs.declared.ring.TheConstants.{CELLS};
 ghost use Rattle.mbj_c.specs.declared.giving.Call.TheVariants as calls;
 ghost use Rattle.mbj_c.specs.Counts.{counts_of};
 ghost use Rattle.mbj_c.specs.Filling.{filled_at, job_with, with_cell};
-ghost use Rattle.mbj_c.specs.Giving.{IsTold, IsToldAt, called_in, first_range, given_first, gone, has_job, has_room_for};
+ghost use Rattle.mbj_c.specs.Giving.{IsReturned, IsReturnedAt, called_in, first_range, given_first, gone, has_job, has_room_for};
 ghost use Rattle.mbj_c.specs.Inside.Answers.{IsDone};
 ghost use Rattle.mbj_c.specs.KeySets.{using};
 ghost use Rattle.mbj_c.specs.Inside.Room.{HasJob};
@@ -213,7 +213,7 @@ impl RangedManager {
     /// writes the code.
     pub(crate) fn give(&mut self, call: Call, out: &mut RawDone<'_>, refusal: &mut u32) -> bool
         ensures state { self.new ≡ (called_in call self.old out.old).1 }
-        ensures told { IsTold (called_in call self.old out.old).0 result refusal.new out.old out.new }
+        ensures returned { IsReturned (called_in call self.old out.old).0 result refusal.new out.old out.new }
         ensures drained { call ≡ calls.Flush → result ≡ false → refusal.new ≡ 0 → self.old.manager.owed ≡ [] }
     {
         if !self.has_job(call) {
@@ -275,7 +275,7 @@ impl RangedManager {
     /// Gives the first result back if it is finished, and writes it, with only its range of the packet. Returns whether it is.
     fn give_first(&mut self, out: &mut RawDone<'_>) -> bool
         requires room { IsTrue (has_room_for (slice_get self.old.ranges 0) out.old) }
-        ensures told { IsToldAt (Ok (given_first self.old).0) result out.old out.new }
+        ensures returned { IsReturnedAt (Ok (given_first self.old).0) result out.old out.new }
         ensures state { self.new ≡ (given_first self.old).1 }
         ensures none { result ≡ false → (after_get_completed self.old.manager).0 ≡ None }
     {

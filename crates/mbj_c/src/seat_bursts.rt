@@ -1,7 +1,7 @@
 //! Bursts of a seat: what its single calls do, for many jobs by one call.
 
 ghost use Rattle.std.specs.Prelude.{◌≡◌, ◌+◌, ◌^◌, ◌<◌, ◌≤◌, Option, Result, Some};
-ghost use Rattle.mbj_c.specs.Bursts.{IsAnswer, IsBurstTaken, IsTurnTold, take_burst, with_told};
+ghost use Rattle.mbj_c.specs.Bursts.{IsAnswer, IsBurstTaken, IsTurnReturned, take_burst, with_returned};
 ghost use Rattle.mbj_c.specs.Given.{Given};
 ghost use Rattle.mbj_c.specs.SeatBursts.{IsBurstCollected, post_behind};
 ghost use Rattle.mbj_c.specs.Seats.{MayAnswer};
@@ -25,7 +25,7 @@ fn post_next(
     requires { posted.old + 1 < 2 ^ 64 }
     ensures answer { IsAnswer post_behind (Some raw.now) (Some refusal.new) (take_burst posted.old handle.old.seat) }
     ensures state { take_burst posted.new handle.new.seat
-        ≡ with_told post_behind (Some raw.now) (Some refusal.new) (take_burst posted.old handle.old.seat) }
+        ≡ with_returned post_behind (Some raw.now) (Some refusal.new) (take_burst posted.old handle.old.seat) }
     ensures few { posted.new ≤ posted.old + 1 }
 {
     match seat_calls::post(alloc, handle, raw) {
@@ -60,15 +60,20 @@ pub(crate) fn post(
 }
 
 /// Collects with room for a result, and counts the call.
-fn collect_next(alloc: Global, handle: &mut SeatHandle, out: &mut RawDone<'_>, told: &mut RawBurst)
-    requires made { told.old.made + 1 < 2 ^ 64 }
-    requires given { told.old.given + 1 < 2 ^ 64 }
+fn collect_next(
+    alloc: Global,
+    handle: &mut SeatHandle,
+    out: &mut RawDone<'_>,
+    returned: &mut RawBurst,
+)
+    requires made { returned.old.made + 1 < 2 ^ 64 }
+    requires given { returned.old.given + 1 < 2 ^ 64 }
     ensures { (answer : Result (Option Given) Refusal)
-        × (MayAnswer handle.old.seat out.old answer handle.new.seat × IsTurnTold answer told.old told.new out.old out.new) }
+        × (MayAnswer handle.old.seat out.old answer handle.new.seat × IsTurnReturned answer returned.old returned.new out.old out.new) }
 {
     let mut refusal = 0;
     let is_given = seat_calls::collect(alloc, handle, out, &mut refusal);
-    told.count(is_given, refusal);
+    returned.count(is_given, refusal);
 }
 
 /// Collects once for each room. Each result goes to the first room that has none.
@@ -76,12 +81,12 @@ pub(crate) fn collect(
     alloc: Global,
     handle: &mut SeatHandle,
     outs: &mut [RawDone<'_>],
-    told: &mut RawBurst,
+    returned: &mut RawBurst,
 )
-    ensures { IsBurstCollected handle.old.seat outs.old told.new outs.new handle.new.seat }
+    ensures { IsBurstCollected handle.old.seat outs.old returned.new outs.new handle.new.seat }
 {
-    *told = RawBurst::new();
+    *returned = RawBurst::new();
     'collecting: for turn in 0..outs.len() {
-        collect_next(alloc, handle, &mut outs[told.given], told);
+        collect_next(alloc, handle, &mut outs[returned.given], returned);
     }
 }

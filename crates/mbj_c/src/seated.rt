@@ -12,7 +12,7 @@ ghost use Rattle.mbj_work.specs.Turns.{ClaimsInTurn};
 ghost use Rattle.mbj_core.specs.declared.party.Phase.TheVariants.{Rest};
 ghost use Rattle.mbj_c.specs.Filling.{job_with};
 ghost use Rattle.mbj_c.specs.Given.{Given};
-ghost use Rattle.mbj_c.specs.Giving.{IsToldAt, has_room_for};
+ghost use Rattle.mbj_c.specs.Giving.{IsReturnedAt, has_room_for};
 ghost use Rattle.mbj_c.specs.Inside.Answers.{IsDone};
 ghost use Rattle.mbj_c.specs.Ranges.{given_range};
 ghost use Rattle.mbj_c.specs.Seats.{Collects, IsCollectedIn, KeepsJobs, is_submitter, after_post, new_seat, posted_in};
@@ -234,7 +234,7 @@ impl Seated {
     /// Collects, where there is room for the earliest result.
     fn take(&mut self, out: &mut RawDone<'_>) -> bool
         requires { IsTrue (has_room_for (slice_get self.old.ranges 0) out.old) }
-        ensures { (given : Option Given) × (Collects given self.old self.new × IsToldAt (Ok given) result out.old out.new) }
+        ensures { (given : Option Given) × (Collects given self.old self.new × IsReturnedAt (Ok given) result out.old out.new) }
     {
         let Some(returned) = self.party.collect_returned(&self.front, &OpenGate) else {
             return false;

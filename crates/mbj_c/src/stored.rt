@@ -3,7 +3,7 @@
 ghost use Rattle.std.specs.Prelude.{◌≡◌, Ok};
 ghost use Rattle.mbj_types.specs.Auths.{class_of};
 ghost use Rattle.mbj_types.specs.declared.class.AuthClass.TheVariants as class;
-ghost use Rattle.mbj_c.specs.Stored.{put_in, state_said, states_said};
+ghost use Rattle.mbj_c.specs.Stored.{put_in, state_by_code, states_by_code};
 
 use crate::giving::put_front;
 use crate::refusal::Refusal;
@@ -38,8 +38,8 @@ pub(crate) fn put(bytes: &[u8], room: &mut [u8]) -> Result<(), Refusal>
 
 /// Puts the states of a key of HMAC at the front of their room.
 pub(crate) fn put_states(hash: u32, key: &[u8], room: &mut [u8]) -> Result<(), Refusal>
-    ensures answer { result ≡ (put_in (states_said hash key.now) room.old).0 }
-    ensures written { room.new ≡ (put_in (states_said hash key.now) room.old).1 }
+    ensures answer { result ≡ (put_in (states_by_code hash key.now) room.old).0 }
+    ensures written { room.new ≡ (put_in (states_by_code hash key.now) room.old).1 }
 {
     let Some(hash) = hash_at(hash) else {
         return Err(Refusal::Word);
@@ -50,8 +50,8 @@ pub(crate) fn put_states(hash: u32, key: &[u8], room: &mut [u8]) -> Result<(), R
 
 /// Puts the state of a hash behind one block at the front of its room.
 pub(crate) fn put_one_block(hash: u32, block: &[u8], room: &mut [u8]) -> Result<(), Refusal>
-    ensures answer { result ≡ (put_in (state_said hash block.now) room.old).0 }
-    ensures written { room.new ≡ (put_in (state_said hash block.now) room.old).1 }
+    ensures answer { result ≡ (put_in (state_by_code hash block.now) room.old).0 }
+    ensures written { room.new ≡ (put_in (state_by_code hash block.now) room.old).1 }
 {
     let Some(hash) = hash_at(hash) else {
         return Err(Refusal::Word);

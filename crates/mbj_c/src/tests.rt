@@ -91,9 +91,9 @@ fn mac_job(packet: &[u8]) -> RawJob<'_> {
     job
 }
 
-/// What a call told: whether it gave a result, the lengths, the reason, and the code of a refusal.
+/// What a call returned: whether it gave a result, the lengths, the reason, and the code of a refusal.
 #[derive(Clone, Copy, Debug, PartialEq)]
-struct Told {
+struct Returned {
     given: bool,
     dst_len: usize,
     tag_len: u32,
@@ -102,8 +102,8 @@ struct Told {
 }
 
 /// A call that gave nothing, and for what refusal.
-fn nothing(refusal: u32) -> Told {
-    Told {
+fn nothing(refusal: u32) -> Returned {
+    Returned {
         given: false,
         dst_len: 99,
         tag_len: 99,
@@ -112,9 +112,9 @@ fn nothing(refusal: u32) -> Told {
     }
 }
 
-/// A call that gave a result, and what it told of it.
-fn given(dst_len: usize, tag_len: u32, reason: u32) -> Told {
-    Told {
+/// A call that gave a result, and what it returned of it.
+fn given(dst_len: usize, tag_len: u32, reason: u32) -> Returned {
+    Returned {
         given: true,
         dst_len,
         tag_len,
@@ -137,7 +137,7 @@ fn make(
     export: Export,
     dst: &mut [u8],
     tag: &mut [u8],
-) -> Told {
+) -> Returned {
     let mut out = RawDone {
         dst,
         tag,
@@ -152,7 +152,7 @@ fn make(
         Export::Completed => mbj_c_get_completed(alloc, handle, &mut out, &mut refusal),
         Export::Flush => mbj_c_flush(alloc, handle, &mut out, &mut refusal),
     };
-    Told {
+    Returned {
         given,
         dst_len: out.dst_len,
         tag_len: out.tag_len,
@@ -162,10 +162,10 @@ fn make(
 }
 
 /// Submits what is filled, and flushes where that gives nothing.
-fn submit_or_flush(alloc: Global, handle: &mut Handle, dst: &mut [u8], tag: &mut [u8]) -> Told {
-    let told = make(alloc, handle, Export::Submit, dst, tag);
-    if told.given {
-        return told;
+fn submit_or_flush(alloc: Global, handle: &mut Handle, dst: &mut [u8], tag: &mut [u8]) -> Returned {
+    let returned = make(alloc, handle, Export::Submit, dst, tag);
+    if returned.given {
+        return returned;
     }
     make(alloc, handle, Export::Flush, dst, tag)
 }
@@ -174,8 +174,8 @@ fn expect_number(rt: &impl Abort, number: u32, expected: u32) {
     assert_eq!(rt; number, expected);
 }
 
-fn expect_told(rt: &impl Abort, told: Told, expected: Told) {
-    assert_eq!(rt; told, expected);
+fn expect_returned(rt: &impl Abort, returned: Returned, expected: Returned) {
+    assert_eq!(rt; returned, expected);
 }
 
 fn expect_bytes(rt: &impl Abort, bytes: &[u8], expected: &[u8]) {

@@ -7,14 +7,14 @@ use Rattle.std.proofs.lemmas.List.{drop_at, drop_more, length-take, length-take-
 use Rattle.mbj_types.specs.Blocks.{xor_lists, blocks, zero_block}
 use Rattle.mbj_types.specs.Gcm.{inc32, gctr, gcm_text, pre_counter_block}
 use Rattle.mbj_blocks.proofs.Blocks.{blocks-nil, blocks-cons}
-use Rattle.mbj_gcm.specs.Risen.{risen}
-use Rattle.mbj_gcm.proofs.RisenCounters.{risen-1, inc32-risen}
+use Rattle.mbj_gcm.specs.Incremented.{incremented}
+use Rattle.mbj_gcm.proofs.IncrementedCounters.{incremented-1, inc32-incremented}
 use Rattle.mbj_direct.specs.Inside.Stream.{stream_byte, streamed}
 
 -- the number of a counter block counts modulo 2^32
-pub risen-mod : (j : List ℕ) (m n : ℕ) → m % 2 ^ 32 ≡ n % 2 ^ 32 → risen j m ≡ risen j n
-unfolding risen
-risen-mod j m n e =
+pub incremented-mod : (j : List ℕ) (m n : ℕ) → m % 2 ^ 32 ≡ n % 2 ^ 32 → incremented j m ≡ incremented j n
+unfolding incremented
+incremented-mod j m n e =
     let start : ℕ = from_be_bytes w32 (drop 12 j) in
     let same : (start + m) % 2 ^ 32 ≡ (start + n) % 2 ^ 32 = omega arith in
     ap (λ (k : ℕ). take 12 j ++ to_be_bytes w32 k) same
@@ -48,7 +48,7 @@ module _ (e : List ℕ → List ℕ) (j : List ℕ) where
   stream_byte-mod m n h =
       let number : (m / 16 + 1) % 2 ^ 32 ≡ (n / 16 + 1) % 2 ^ 32 = omega arith in
       let place : m % 16 ≡ n % 16 = omega arith in
-      ap₂ (λ b (i : ℕ). get_or (e b) i 0) (risen-mod j (m / 16 + 1) (n / 16 + 1) number) place
+      ap₂ (λ b (i : ℕ). get_or (e b) i 0) (incremented-mod j (m / 16 + 1) (n / 16 + 1) number) place
 
   pub streamed-mod : (m n : ℕ) (xs : List ℕ) → m % 2 ^ 64 ≡ n % 2 ^ 64 → streamed e j m xs ≡ streamed e j n xs
   streamed-mod m n [] h = refl
@@ -56,51 +56,51 @@ module _ (e : List ℕ → List ℕ) (j : List ℕ) where
       ap₂ (λ y ys. bit_xor x y ∷ ys) (stream_byte-mod m n h) (streamed-mod (m + 1) (n + 1) xs (omega arith))
 
   -- within block k
-  pub streamed-within : (k r : ℕ) (xs : List ℕ) → r + length xs ≤ 16 → length (e (risen j (k + 1))) ≡ 16
-      → streamed e j (16 * k + r) xs ≡ xor_lists xs (drop r (e (risen j (k + 1))))
+  pub streamed-within : (k r : ℕ) (xs : List ℕ) → r + length xs ≤ 16 → length (e (incremented j (k + 1))) ≡ 16
+      → streamed e j (16 * k + r) xs ≡ xor_lists xs (drop r (e (incremented j (k + 1))))
   streamed-within k r [] h l = refl
   streamed-within k r (x ∷ xs) h l =
-      let m : List ℕ = e (risen j (k + 1)) in
+      let m : List ℕ = e (incremented j (k + 1)) in
       let block : (16 * k + r) / 16 ≡ k = omega arith in
       let place : (16 * k + r) % 16 ≡ r = omega arith in
       let next : 16 * k + r + 1 ≡ 16 * k + (r + 1) = omega arith in
       let here : stream_byte e j (16 * k + r) ≡ get_or m r 0 =
-      ap₂ (λ (b i : ℕ). get_or (e (risen j (b + 1))) i 0) block place in
+      ap₂ (λ (b i : ℕ). get_or (e (incremented j (b + 1))) i 0) block place in
       ap₂ (λ y ys. bit_xor x y ∷ ys) here
       (ap (λ (n : ℕ). streamed e j n xs) next ∙ streamed-within k (r + 1) xs (omega arith) l)
       ∙ ap (xor_lists (x ∷ xs)) (sym (drop_more m r 0 (omega arith)))
 
   -- what fills the open block behind n bytes
   pub streamed-open : ((b : List ℕ) → length (e b) ≡ 16) → (n used : ℕ) (xs : List ℕ) → used ≡ n % 16
-      → length xs ≤ (16 - n % 16) % 16 → xor_lists xs (drop used (e (risen j ((n + 15) / 16)))) ≡ streamed e j n xs
+      → length xs ≤ (16 - n % 16) % 16 → xor_lists xs (drop used (e (incremented j ((n + 15) / 16)))) ≡ streamed e j n xs
   streamed-open sizes n used [] u h = refl
   streamed-open sizes n used (x ∷ xs) u h =
       let number : (n + 15) / 16 ≡ n / 16 + 1 = omega arith in
       let place : 16 * (n / 16) + n % 16 ≡ n = omega arith in
-      ap₂ (λ (i b : ℕ). xor_lists (x ∷ xs) (drop i (e (risen j b)))) u number
-      ∙ sym (streamed-within (n / 16) (n % 16) (x ∷ xs) (omega arith) (sizes (risen j (n / 16 + 1))))
+      ap₂ (λ (i b : ℕ). xor_lists (x ∷ xs) (drop i (e (incremented j b)))) u number
+      ∙ sym (streamed-within (n / 16) (n % 16) (x ∷ xs) (omega arith) (sizes (incremented j (n / 16 + 1))))
       ∙ ap (λ (i : ℕ). streamed e j i (x ∷ xs)) place
 
   -- a text of at most n blocks, from block k on
   gctr-blocks : ((b : List ℕ) → length (e b) ≡ 16) → length j ≡ 16 → (n k : ℕ) (text : List ℕ) → length text ≤ 16 * n
-      → concat (gctr e (risen j (k + 1)) (blocks text)) ≡ streamed e j (16 * k) text
+      → concat (gctr e (incremented j (k + 1)) (blocks text)) ≡ streamed e j (16 * k) text
   gctr-blocks sizes size zero k text h =
       let none : text ≡ [] = nil_from_length text (omega arith) in
-      ap (λ bs. concat (gctr e (risen j (k + 1)) bs)) (blocks-nil text (omega arith))
+      ap (λ bs. concat (gctr e (incremented j (k + 1)) bs)) (blocks-nil text (omega arith))
       ∙ ap (streamed e j (16 * k)) (sym none)
   gctr-blocks sizes size (suc n) k text h = elim (cases_lt 0 (length text)) [
     | inl some ↦
         let first : List ℕ = take 16 text in
         let left : List ℕ = drop 16 text in
-        let m : List ℕ = e (risen j (k + 1)) in
+        let m : List ℕ = e (incremented j (k + 1)) in
         let start : 16 * k + 0 ≡ 16 * k = omega arith in
         let first_size : length first ≡ min 16 (length text) = length-take 16 text in
         let left_size : length left ≡ length text - 16 = length-drop 16 text in
         let head : xor_lists first m ≡ streamed e j (16 * k) first =
-        sym (streamed-within k 0 first (omega arith) (sizes (risen j (k + 1))))
+        sym (streamed-within k 0 first (omega arith) (sizes (incremented j (k + 1))))
         ∙ ap (λ (i : ℕ). streamed e j i first) start in
-        let rest : concat (gctr e (inc32 (risen j (k + 1))) (blocks left)) ≡ streamed e j (16 * (k + 1)) left =
-        ap (λ c. concat (gctr e c (blocks left))) (inc32-risen j (k + 1) size)
+        let rest : concat (gctr e (inc32 (incremented j (k + 1))) (blocks left)) ≡ streamed e j (16 * (k + 1)) left =
+        ap (λ c. concat (gctr e c (blocks left))) (inc32-incremented j (k + 1) size)
         ∙ gctr-blocks sizes size n (k + 1) left (omega arith) in
         let place : streamed e j (16 * (k + 1)) left ≡ streamed e j (16 * k + length first) left =
         elim (cases_lt (length text) 16) [
@@ -111,21 +111,21 @@ module _ (e : List ℕ → List ℕ) (j : List ℕ) where
               let next : 16 * (k + 1) ≡ 16 * k + length first = omega arith in
               ap (λ (i : ℕ). streamed e j i left) next
         ] in
-        ap (λ bs. concat (gctr e (risen j (k + 1)) bs)) (blocks-cons text some)
+        ap (λ bs. concat (gctr e (incremented j (k + 1)) bs)) (blocks-cons text some)
         ∙ ap₂ (λ xs ys. xs ++ ys) head (rest ∙ place)
         ∙ sym (streamed-append (16 * k) first left)
         ∙ ap (streamed e j (16 * k)) (take-append-drop 16 text)
     | inr nothing ↦
         let none : text ≡ [] = nil_from_length text (omega arith) in
-        ap (λ bs. concat (gctr e (risen j (k + 1)) bs)) (blocks-nil text (omega arith))
+        ap (λ bs. concat (gctr e (incremented j (k + 1)) bs)) (blocks-nil text (omega arith))
         ∙ ap (streamed e j (16 * k)) (sym none)
   ]
 
   -- a text from block k on
   pub gctr-streamed : ((b : List ℕ) → length (e b) ≡ 16) → length j ≡ 16 → (k : ℕ) (text : List ℕ)
-      → concat (gctr e (inc32 (risen j k)) (blocks text)) ≡ streamed e j (16 * k) text
+      → concat (gctr e (inc32 (incremented j k)) (blocks text)) ≡ streamed e j (16 * k) text
   gctr-streamed sizes size k text =
-      ap (λ c. concat (gctr e c (blocks text))) (inc32-risen j k size)
+      ap (λ c. concat (gctr e c (blocks text))) (inc32-incremented j k size)
       ∙ gctr-blocks sizes size (length text) k text (omega arith)
 
   -- a part of a text behind n bytes of it: what fills the open block, and the rest
@@ -160,7 +160,7 @@ module _ (e : List ℕ → List ℕ) (iv : List ℕ) (sizes : (b : List ℕ) →
   -- the other text
   pub gcm_text-streamed : (text : List ℕ) → gcm_text e iv text ≡ streamed e first 0 text
   gcm_text-streamed text =
-      ap (λ c. concat (gctr e c (blocks text))) (sym (risen-1 first))
+      ap (λ c. concat (gctr e c (blocks text))) (sym (incremented-1 first))
       ∙ gctr-blocks e first sizes size (length text) 0 text (omega arith)
 
   pub length-gcm_text : (text : List ℕ) → length (gcm_text e iv text) ≡ length text

@@ -9,7 +9,7 @@ ghost use Rattle.mbj_direct.specs.Inside.Stream.{streamed};
 
 use mbj_aes_lanes::{BATCH_BLOCKS, TextKey};
 use mbj_blocks::xor_blocks;
-use mbj_gcm::{masks_after, risen};
+use mbj_gcm::{incremented, outputs_after};
 use mbj_types::{BLOCK_BYTES, xor_in_place};
 
 // Xors the blocks of a text from the counter block after `before` on.
@@ -20,9 +20,9 @@ fn xor_after(key: &TextKey, before: &[u8; 16], text: &mut [u8])
     let mut counter = *before;
     'batches: for b in 0..many.div_ceil(BATCH_BLOCKS) {
         let here = (many - BATCH_BLOCKS * b).min(BATCH_BLOCKS);
-        let masks = masks_after(key, &counter, here);
-        xor_blocks(text, BATCH_BLOCKS * b, &masks[..here]);
-        counter = risen(&counter, BATCH_BLOCKS as u32);
+        let outputs = outputs_after(key, &counter, here);
+        xor_blocks(text, BATCH_BLOCKS * b, &outputs[..here]);
+        counter = incremented(&counter, BATCH_BLOCKS as u32);
     }
 }
 
@@ -67,7 +67,7 @@ pub(crate) fn xor_part(key: &TextKey, pre_counter: &[u8; 16], at: u64, part: &mu
     requires { 16 ≤ length key.now }
     ensures { part.new ≡ streamed (encipher key.now) pre_counter.now at part.old }
 {
-    let begun = risen(pre_counter, begun_blocks(at));
+    let begun = incremented(pre_counter, begun_blocks(at));
     let used = (at % BLOCK_BYTES as u64) as usize;
     let (open, rest) = part.split_at_mut(open_room(at).min(part.len()));
     xor_within(key, &begun, used, open);

@@ -1,3 +1,3 @@
 mod Undoing
-pub mod RisenCounters
+pub mod IncrementedCounters
 pub mod Tags

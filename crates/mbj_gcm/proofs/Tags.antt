@@ -11,9 +11,9 @@ abbrev pub hashed : List ℕ → List ℕ → List (List ℕ)
 hashed aad ciphertext = filled_blocks aad ++ filled_blocks ciphertext ++ (bit_length (length aad) ++ bit_length (length ciphertext)) ∷ []
 
 -- under the schedule w, whose text key is k
-pub tag-first : (k w t iv aad ciphertext : List ℕ) (n : ℕ) (masks : List (List ℕ)) → k ≡ w
-    → t ≡ pre_counter_block (encipher k zero_block) iv → AreFirst (encipher k) t n masks
-    → xor_lists (get_or masks 1 []) (ghash (get_or masks 0 []) (hashed aad ciphertext)) ≡ gcm_tag (encipher w) iv aad ciphertext
-tag-first k w t iv aad ciphertext n masks same counter first =
+pub tag-first : (k w t iv aad ciphertext : List ℕ) (n : ℕ) (outputs : List (List ℕ)) → k ≡ w
+    → t ≡ pre_counter_block (encipher k zero_block) iv → AreFirst (encipher k) t n outputs
+    → xor_lists (get_or outputs 1 []) (ghash (get_or outputs 0 []) (hashed aad ciphertext)) ≡ gcm_tag (encipher w) iv aad ciphertext
+tag-first k w t iv aad ciphertext n outputs same counter first =
     ap₂ (λ m h. xor_lists m (ghash h (hashed aad ciphertext))) (first.tag_mask ∙ ap (encipher k) counter) first.subkey
     ∙ ap (λ v. gcm_tag (encipher v) iv aad ciphertext) same

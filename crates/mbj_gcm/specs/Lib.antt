@@ -1,3 +1,3 @@
 pub mod Laws
 pub mod Inside
-pub mod Risen
+pub mod Incremented

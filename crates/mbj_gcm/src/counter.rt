@@ -6,7 +6,7 @@ ghost use Rattle.mbj_types.specs.Ghash.{ghash};
 ghost use Rattle.mbj_types.specs.Gcm.{bit_length, gctr, inc32, pre_counter_block};
 ghost use Rattle.mbj_blocks.specs.Walked.{Walked};
 ghost use Rattle.mbj_gcm.specs.Inside.First.{AreFirst};
-ghost use Rattle.mbj_gcm.specs.Risen.{risen};
+ghost use Rattle.mbj_gcm.specs.Incremented.{incremented};
 
 use crate::hash::hash_of_parts;
 use mbj_aes_lanes::{BATCH_BLOCKS, TextKey};
@@ -34,24 +34,24 @@ const LEAD: usize = 2;
 const FIRST_BLOCKS: usize = BATCH_BLOCKS - LEAD;
 
 /// A counter block whose number, its last 4 bytes, rises by `by` modulo 2^32; the bytes before it stay (SP 800-38D, 6.2).
-pub fn risen(block: &[u8; 16], by: u32) -> [u8; 16]
-    ensures { result ≡ risen block.now by }
+pub fn incremented(block: &[u8; 16], by: u32) -> [u8; 16]
+    ensures { result ≡ incremented block.now by }
 {
     let mut number = [0; NUMBER_BYTES];
     number.copy_from_slice(&block[COUNTER_IV_BYTES..]);
     let next = u32::from_be_bytes(number).wrapping_add(by);
-    let mut risen = *block;
-    risen[COUNTER_IV_BYTES..].copy_from_slice(&next.to_be_bytes());
-    risen
+    let mut incremented = *block;
+    incremented[COUNTER_IV_BYTES..].copy_from_slice(&next.to_be_bytes());
+    incremented
 }
 
 /// Writes the counter blocks after `counter`, of which there are no more than lanes.
 pub fn put_counters_after(blocks: &mut [[u8; 16]], counter: &[u8; 16])
     requires { length blocks.old ≤ AES_LANES }
-    ensures { (j : ℕ) → j < length blocks.old → slice_index_or blocks.new j [] ≡ risen counter.now (j + 1) }
+    ensures { (j : ℕ) → j < length blocks.old → slice_index_or blocks.new j [] ≡ incremented counter.now (j + 1) }
 {
     'each: for j in 0..blocks.len() {
-        blocks[j] = risen(counter, j as u32 + 1);
+        blocks[j] = incremented(counter, j as u32 + 1);
     }
 }
 
@@ -103,25 +103,25 @@ pub fn first_batch(key: &TextKey, pre_counter: &[u8; 16], len: usize) -> [[u8; 1
     ensures { AreFirst (encipher key.now) pre_counter.now len result }
 {
     let many = len.div_ceil(BLOCK_BYTES).min(FIRST_BLOCKS);
-    let mut masks = [[0; BLOCK_BYTES]; BATCH_BLOCKS];
-    masks[TAG_MASK] = *pre_counter;
-    put_counters_after(&mut masks[LEAD..many + LEAD], pre_counter);
-    key.encrypt(&mut masks[..many + LEAD]);
-    masks
+    let mut outputs = [[0; BLOCK_BYTES]; BATCH_BLOCKS];
+    outputs[TAG_MASK] = *pre_counter;
+    put_counters_after(&mut outputs[LEAD..many + LEAD], pre_counter);
+    key.encrypt(&mut outputs[..many + LEAD]);
+    outputs
 }
 
 /// The key stream of the counter blocks after `counter`, of `many` blocks, which are at most `BATCH_BLOCKS`.
 #[inline(always)]
-pub fn masks_after(key: &TextKey, counter: &[u8; 16], many: usize) -> [[u8; 16]; BATCH_BLOCKS]
+pub fn outputs_after(key: &TextKey, counter: &[u8; 16], many: usize) -> [[u8; 16]; BATCH_BLOCKS]
     requires { many ≤ BATCH_BLOCKS }
     ensures length { length result ≡ BATCH_BLOCKS }
-    ensures masks { (j : ℕ) → j < many → slice_index_or result j [] ≡ encipher key.now (risen counter.now (j + 1)) }
+    ensures outputs { (j : ℕ) → j < many → slice_index_or result j [] ≡ encipher key.now (incremented counter.now (j + 1)) }
 {
-    let mut masks = [[0; BLOCK_BYTES]; BATCH_BLOCKS];
-    let first = &mut masks[..many];
+    let mut outputs = [[0; BLOCK_BYTES]; BATCH_BLOCKS];
+    let first = &mut outputs[..many];
     put_counters_after(first, counter);
     key.encrypt(first);
-    masks
+    outputs
 }
 
 // The blocks of a text from block `first` on. `before` is the counter block before that of block `first`.
@@ -133,25 +133,30 @@ fn xor_from(key: &TextKey, before: &[u8; 16], text: &mut [u8], first: usize)
     let mut counter = *before;
     'batches: for b in 0..left.div_ceil(BATCH_BLOCKS) {
         let here = (left - BATCH_BLOCKS * b).min(BATCH_BLOCKS);
-        let masks = masks_after(key, &counter, here);
-        xor_blocks(text, first + BATCH_BLOCKS * b, &masks[..here]);
-        counter = risen(&counter, BATCH_BLOCKS as u32);
+        let outputs = outputs_after(key, &counter, here);
+        xor_blocks(text, first + BATCH_BLOCKS * b, &outputs[..here]);
+        counter = incremented(&counter, BATCH_BLOCKS as u32);
     }
 }
 
 /// Encrypts or decrypts a text in place, which is the same map (SP 800-38D, 7.1, step 3): each block of 16 bytes is
 /// xored with its enciphered counter block, and the last one, which may be shorter, with as many bytes of it. The first
-/// counter block is the one after `pre_counter`, and `masks` are those of the text's first batch.
+/// counter block is the one after `pre_counter`, and `outputs` are those of the text's first batch.
 pub fn xor_key_stream(
     key: &TextKey,
     pre_counter: &[u8; 16],
-    masks: &[[u8; 16]; BATCH_BLOCKS],
+    outputs: &[[u8; 16]; BATCH_BLOCKS],
     text: &mut [u8],
 )
-    requires { AreFirst (encipher key.now) pre_counter.now (length text.old) masks.now }
+    requires { AreFirst (encipher key.now) pre_counter.now (length text.old) outputs.now }
     ensures { text.new ≡ concat (gctr (encipher key.now) (inc32 pre_counter.now) (blocks text.old)) }
 {
     let many = text.len().div_ceil(BLOCK_BYTES).min(FIRST_BLOCKS);
-    xor_blocks(text, 0, &masks[LEAD..many + LEAD]);
-    xor_from(key, &risen(pre_counter, FIRST_BLOCKS as u32), text, many);
+    xor_blocks(text, 0, &outputs[LEAD..many + LEAD]);
+    xor_from(
+        key,
+        &incremented(pre_counter, FIRST_BLOCKS as u32),
+        text,
+        many,
+    );
 }

@@ -25,9 +25,9 @@ pub fn seal(key: &Schedule, iv: &[u8], aad: &[u8], text: &mut [u8]) -> [u8; 16]
 {
     let key = TextKey::new(key);
     let pre_counter = pre_counter_block(&key, iv);
-    let masks = first_batch(&key, &pre_counter, text.len());
-    xor_key_stream(&key, &pre_counter, &masks, text);
-    tag(&masks[SUBKEY], &masks[TAG_MASK], aad, text)
+    let outputs = first_batch(&key, &pre_counter, text.len());
+    xor_key_stream(&key, &pre_counter, &outputs, text);
+    tag(&outputs[SUBKEY], &outputs[TAG_MASK], aad, text)
 }
 
 /// Decrypts a text in place by GCM (SP 800-38D, 7.2, steps 2 to 7) from an IV of 1 to 65,535 bytes, and returns the 16 bytes of tag over
@@ -41,8 +41,8 @@ pub fn unseal(key: &Schedule, iv: &[u8], aad: &[u8], text: &mut [u8]) -> [u8; 16
 {
     let key = TextKey::new(key);
     let pre_counter = pre_counter_block(&key, iv);
-    let masks = first_batch(&key, &pre_counter, text.len());
-    let computed = tag(&masks[SUBKEY], &masks[TAG_MASK], aad, text);
-    xor_key_stream(&key, &pre_counter, &masks, text);
+    let outputs = first_batch(&key, &pre_counter, text.len());
+    let computed = tag(&outputs[SUBKEY], &outputs[TAG_MASK], aad, text);
+    xor_key_stream(&key, &pre_counter, &outputs, text);
     computed
 }

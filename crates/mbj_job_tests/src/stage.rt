@@ -11,7 +11,7 @@ use mbj_ccm::CcmKernel;
 use mbj_cmac::CmacKernel;
 use mbj_hmac::{Hmac1Kernel, Hmac256Kernel, Hmac512Kernel};
 use mbj_lane::Kernel;
-use mbj_stage::{Course, Feed, Stage};
+use mbj_stage::{Course, JobKernel, Stage};
 use mbj_types::{Auth, Cipher, Dir, Done, Job, Kind, Order, Reason, Status, Tag};
 use std::alloc::{AllocError, Global};
 use std::process::Abort;
@@ -67,7 +67,7 @@ fn led<K: Kernel>(entry: K::Entry) -> K::Entry
 }
 
 /// Does the next stage, in the lanes of a kernel.
-fn do_lane_of<K: Feed>(course: &mut Course)
+fn do_lane_of<K: JobKernel>(course: &mut Course)
     requires memory { FitsInMemory K.Entry.row }
     requires fits { K.fits }
     requires next { IsNext K.kind course.old }

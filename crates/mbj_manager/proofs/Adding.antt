@@ -23,10 +23,10 @@ use Rattle.mbj_manager.specs.Cells as cell
 use Rattle.mbj_manager.specs.Inside.Added.{added}
 use Rattle.mbj_manager.specs.Inside.Courses.{KeepsSteps, asked, courses, number, ring_number}
 use Rattle.mbj_manager.specs.Inside.Leaving.{At}
-use Rattle.mbj_manager.specs.Inside.Desk.{Listed}
+use Rattle.mbj_manager.specs.Inside.QueueView.{Listed}
 use Rattle.mbj_manager.specs.Inside.LaneQueues.{placed_in, total, waiting_in}
 use Rattle.mbj_manager.specs.declared.lane_queues.LaneQueues.{LaneQueues}
-use Rattle.mbj_manager.specs.Inside.PlacedQueue.{PlacedQueue, Waiter}
+use Rattle.mbj_manager.specs.Inside.PlacedQueue.{PlacedQueue, PlacedEntry}
 use Rattle.mbj_manager.specs.Inside.Standing.{IsInCourse}
 use Rattle.mbj_manager.specs.Inside.Held.{IsHeld, IsHere, IsTied, agenda_room, find_in, held, lines_in, machine_in, restored, restored_from, waiting}
 use Rattle.mbj_manager.proofs.BetweenCalls.{submitted-within}
@@ -48,7 +48,7 @@ at-last : {A : Type 0} (P : A → Type 0) (xs : List A) (x : A) → P x → At P
 at-last P [] x p = p
 at-last P (y ∷ xs) x p = at-last P xs x p
 
-listed-front : (k : Kind) (cs : List CourseState) (c : CourseState) (ws : List Waiter) → Listed k cs ws → Listed k (cs ++ c ∷ []) ws
+listed-front : (k : Kind) (cs : List CourseState) (c : CourseState) (ws : List PlacedEntry) → Listed k cs ws → Listed k (cs ++ c ∷ []) ws
 listed-front k cs c [] r = tt
 listed-front k cs c (w ∷ ws) r = (at-front _ w.0 cs c r.0, r.1, listed-front k cs c ws r.2)
 
@@ -56,7 +56,7 @@ tied-add : (cs : List CourseState) (c : CourseState) (lines : Kind → PlacedQue
 tied-add cs c lines here y =
     let more = length_push cs c in
     record {
-      listed = λ k. listed-front k cs c (lines k).waiters (y.listed k);
+      listed = λ k. listed-front k cs c (lines k).queued (y.listed k);
       here = λ n lt a. elim (cases_eq n (length cs)) [
         | inl e ↦ subst (λ (m : ℕ). At IsHere m (cs ++ c ∷ [])) (sym e) (at-last IsHere cs c here)
         | inr ne ↦ at-front IsHere n cs c (y.here n (omega arith) a)
@@ -71,12 +71,12 @@ restored-end n find (x ∷ cs) c here = ap (λ (xs : List CourseState). restored
 
 -- ---- how many wait
 
-few-in : (k : Kind) (r : RingState Cell) (ag : List ℕ) (ls : LaneQueues) (capacity : ℕ) → IsHeld r ag ls capacity → length (placed_in k ls).waiters < lanes_of k
+few-in : (k : Kind) (r : RingState Cell) (ag : List ℕ) (ls : LaneQueues) (capacity : ℕ) → IsHeld r ag ls capacity → length (placed_in k ls).queued < lanes_of k
 few-in k r ag ls capacity y =
-    let few : length (map waiting (lines_in r ls k).waiters) < lanes_of k = (y.within.lanes k).few in
-    let g : Waiter → Waiter = λ x. (ring_number r x.0, x.1) in
-    let l : length (lines_in r ls k).waiters ≡ length (placed_in k ls).waiters = length-map (placed_in k ls).waiters g in
-    omega (arith, length-map (lines_in r ls k).waiters waiting)
+    let few : length (map waiting (lines_in r ls k).queued) < lanes_of k = (y.within.lanes k).few in
+    let g : PlacedEntry → PlacedEntry = λ x. (ring_number r x.0, x.1) in
+    let l : length (lines_in r ls k).queued ≡ length (placed_in k ls).queued = length-map (placed_in k ls).queued g in
+    omega (arith, length-map (lines_in r ls k).queued waiting)
 
 sum-below : (f g : Kind → ℕ) (ks : List Kind) → ((k : Kind) → f k ≤ g k) → sum_by f ks ≤ sum_by g ks
 sum-below f g [] h = omega arith

@@ -12,7 +12,7 @@ use Rattle.mbj_stage.specs.CourseState.{CourseState, owed, stage_of}
 use Rattle.mbj_stage.specs.declared.stage.Stage.{Stage}
 use Rattle.mbj_stage.specs.declared.stage.Stage.TheVariants as stage
 use Rattle.mbj_manager.specs.Machine.Stages.{Pending, pending}
-use Rattle.mbj_manager.specs.Machine.Queues.{Queue, Waiting, changed, put}
+use Rattle.mbj_manager.specs.Machine.Queues.{Queue, WaitingJob, changed, put}
 use Rattle.mbj_manager.specs.declared.lane.Cause.{Cause}
 use Rattle.mbj_manager.specs.declared.lane.Cause.TheVariants as cause
 use Rattle.mbj_manager.specs.Machine.Course.{goes_on, in_lanes_next, joined, stepped, stepped_at}
@@ -21,10 +21,10 @@ use Rattle.mbj_manager.specs.Cells.{Cell, job_in, IsOpen}
 use Rattle.mbj_manager.specs.Inside.Courses.{Follows, IsSameRing, asked, courses, number, ring_number}
 use Rattle.mbj_manager.specs.Inside.Leaving.{At, Gives, IsAbsent, finishers, numbers, others, returned}
 use Rattle.mbj_stage.specs.Handing.{End, IsNext, handed_out, taken_back}
-use Rattle.mbj_manager.specs.Inside.Desk.{Desk, Enters, MayEnter, desk, joined_by, led_all, ran_at, ran_if_full}
-use Rattle.mbj_manager.specs.Inside.LaneQueues.{desk_of, placed_in, with_placed}
+use Rattle.mbj_manager.specs.Inside.QueueView.{QueueView, Enters, MayEnter, queue_view, joined_by, led_all, ran_at, ran_if_full}
+use Rattle.mbj_manager.specs.Inside.LaneQueues.{queue_view_of, placed_in, with_placed}
 use Rattle.mbj_manager.specs.declared.lane_queues.LaneQueues.{LaneQueues}
-use Rattle.mbj_manager.specs.Inside.PlacedQueue.{Ahead, HasRest, PlacedQueue, Waiter, brings_in, placed_queue, numbered_queue, rounds_in}
+use Rattle.mbj_manager.specs.Inside.PlacedQueue.{EntryView, HasRest, PlacedQueue, PlacedEntry, brings_in, placed_queue, numbered_queue, rounds_in}
 use Rattle.mbj_manager.specs.Inside.Standing.{IsInCourse}
 use Rattle.mbj_manager.specs.Inside.Held.{IsHeld, IsHere, IsTied, find_in, found, lane_seen, lines_in, machine_by, machine_in, restored_from, waiting}
 use Rattle.mbj_manager.proofs.KindLines.{put-self}
@@ -33,16 +33,16 @@ use Rattle.mbj_manager.proofs.Joining.{at-here}
 use Rattle.mbj_manager.proofs.Moving.{IsStep, have-rests, in-total, moved-length, moved-machine, moved-restored, moved-tied, ran-length, same-state}
 use Rattle.mbj_manager.proofs.PendingStages.{pending-finished, pending-lane}
 use Rattle.mbj_manager.proofs.Restoring.{restored-follow, restored-same}
-use Rattle.mbj_manager.proofs.Seeing.{by-desk, enters-seen}
+use Rattle.mbj_manager.proofs.Seeing.{by-queue_view, enters-seen}
 use Rattle.mbj_manager.proofs.Stepping.{first-off, steps}
 use Rattle.mbj_manager.proofs.Tying.{at-new, put-twice, ran-list, restored-join, tied-follow, tied-join, tied-same}
 
 -- ---- the agenda's first job has its packet
 
-pub absent-times : (n : ℕ) (ws : List Waiter) → times_in n (map waiting ws) ≡ 0 → IsAbsent n ws
+pub absent-times : (n : ℕ) (ws : List PlacedEntry) → times_in n (map waiting ws) ≡ 0 → IsAbsent n ws
 absent-times n [] e = tt
 absent-times n (w ∷ ws) e =
-    let sum = sum_by-cons (λ (x : Waiting). cond {A = ℕ} (x.number == n) 1 0) (waiting w) (map waiting ws) in (
+    let sum = sum_by-cons (λ (x : WaitingJob). cond {A = ℕ} (x.number == n) 1 0) (waiting w) (map waiting ws) in (
       (λ is. let one : cond {A = ℕ} (w.0 == n) 1 0 ≡ 1 = cond-true (w.0 == n) 1 0 (eq-eqb w.0 n is) in absurd (omega arith)),
       absent-times n ws (omega arith),
     )
@@ -53,7 +53,7 @@ first-here n rest cs agenda lines runs first within tied =
     let m = machine_by cs agenda lines runs in
     let off = first-off n rest m first (within.stands n) in
     tied.here n (All-head (λ i. i < length cs) n rest (subst (All (λ i. i < length cs)) first tied.below))
-    (λ k. absent-times n (lines k).waiters (off.1 k))
+    (λ k. absent-times n (lines k).queued (off.1 k))
 
 -- ---- what finishes at once is done
 
@@ -82,9 +82,9 @@ at-from P x (suc n) (y ∷ xs) a = at-from P x n xs a
 -- ---- a job that enters a lane queue, which runs where it is full then
 
 -- what f tells of the courses stays
-record IsTiedAt {X : Type 0} (f : CourseState → X) (k : Kind) (lines : Kind → PlacedQueue) (cs : List CourseState) (d : Desk) : Type 0 where
-  tied : IsTied d.courses d.agenda (put k (placed_queue d.waiters 0 0) lines)
-  told : map f (restored_from 0 (find_in lines) cs) ≡ map f (restored_from 0 (find_in (put k (placed_queue d.waiters 0 0) lines)) d.courses)
+record IsTiedAt {X : Type 0} (f : CourseState → X) (k : Kind) (lines : Kind → PlacedQueue) (cs : List CourseState) (d : QueueView) : Type 0 where
+  tied : IsTied d.courses d.agenda (put k (placed_queue d.queued 0 0) lines)
+  told : map f (restored_from 0 (find_in lines) cs) ≡ map f (restored_from 0 (find_in (put k (placed_queue d.queued 0 0) lines)) d.courses)
 
 -- f tells the same once this entry went out and came back
 abbrev Tells : {X : Type 0} → (CourseState → X) → End → CourseState → Type 0
@@ -96,59 +96,59 @@ at-each P Q zero (x ∷ xs) h a = h x a
 at-each P Q (suc n) (x ∷ xs) h a = at-each P Q n xs h a
 
 -- the length of agenda and lane queue
-entered-length : (at : Cause) (lanes n : ℕ) (a : Ahead) (d : Desk) → length (ran_if_full at lanes (joined_by n a d)).agenda + length (ran_if_full at lanes (joined_by n a d)).waiters
-    ≡ length d.agenda + length d.waiters + 1
-entered-length at lanes n a d = go (length (joined_by n a d).waiters == lanes)
+entered-length : (at : Cause) (lanes n : ℕ) (a : EntryView) (d : QueueView) → length (ran_if_full at lanes (joined_by n a d)).agenda + length (ran_if_full at lanes (joined_by n a d)).queued
+    ≡ length d.agenda + length d.queued + 1
+entered-length at lanes n a d = go (length (joined_by n a d).queued == lanes)
   where
-    go : (b : Bool) → length (cond b (ran_at at (joined_by n a d)) (joined_by n a d)).agenda + length (cond b (ran_at at (joined_by n a d)) (joined_by n a d)).waiters
-        ≡ length d.agenda + length d.waiters + 1
-    go true = omega (arith, ran-length at (joined_by n a d), length-append d.waiters ((n, a) ∷ []))
-    go false = omega (arith, length-append d.waiters ((n, a) ∷ []))
+    go : (b : Bool) → length (cond b (ran_at at (joined_by n a d)) (joined_by n a d)).agenda + length (cond b (ran_at at (joined_by n a d)) (joined_by n a d)).queued
+        ≡ length d.agenda + length d.queued + 1
+    go true = omega (arith, ran-length at (joined_by n a d), length-append d.queued ((n, a) ∷ []))
+    go false = omega (arith, length-append d.queued ((n, a) ∷ []))
 
-module _ {X : Type 0} (f : CourseState → X) (k : Kind) (n : ℕ) (a : Ahead) (cs : List CourseState) (ag : List ℕ) (lines : Kind → PlacedQueue)
+module _ {X : Type 0} (f : CourseState → X) (k : Kind) (n : ℕ) (a : EntryView) (cs : List CourseState) (ag : List ℕ) (lines : Kind → PlacedQueue)
     (r b runs : ℕ) (y : IsTied cs ag lines) (next : At (IsNext k) n cs) (gives : At (Gives k a.rounds a.brings) n cs)
     (tells : (c : CourseState) → Gives k a.rounds a.brings c → Tells f a.brings c) where
-  abbrev before : Desk
-  before = desk cs ag (lines k).waiters r b runs
+  abbrev before : QueueView
+  before = queue_view cs ag (lines k).queued r b runs
 
-  abbrev join : Desk
+  abbrev join : QueueView
   join = joined_by n a before
 
   abbrev grown : Kind → PlacedQueue
-  grown = put k (placed_queue join.waiters 0 0) lines
+  grown = put k (placed_queue join.queued 0 0) lines
 
   join-tied : IsTied join.courses ag grown
   join-tied = tied-join k (n, a) 0 0 cs ag lines next gives y
 
   join-told : map f (restored_from 0 (find_in lines) cs) ≡ map f (restored_from 0 (find_in grown) join.courses)
   join-told =
-      restored-join f k (n, a) 0 0 cs lines (absent-listed k n cs (lines k).waiters (at-here k n cs next) (y.listed k)) next
+      restored-join f k (n, a) 0 0 cs lines (absent-listed k n cs (lines k).queued (at-here k n cs next) (y.listed k)) next
       (at-each (Gives k a.rounds a.brings) (Tells f a.brings) n cs tells gives)
 
-  abbrev end_courses : List Waiter → List CourseState
+  abbrev end_courses : List PlacedEntry → List CourseState
   end_courses ws = returned brings_in join.courses (finishers rounds_in (led_all ws))
 
-  abbrev end_agenda : List Waiter → List ℕ
+  abbrev end_agenda : List PlacedEntry → List ℕ
   end_agenda ws = ag ++ numbers (finishers rounds_in (led_all ws))
 
-  abbrev end_line : List Waiter → PlacedQueue
+  abbrev end_line : List PlacedEntry → PlacedQueue
   end_line ws = placed_queue (others rounds_in (led_all ws)) 0 0
 
-  own : (grown k).waiters ≡ join.waiters
-  own = ap (λ (x : PlacedQueue). x.waiters) (put-self k (placed_queue join.waiters 0 0) lines)
+  own : (grown k).queued ≡ join.queued
+  own = ap (λ (x : PlacedQueue). x.queued) (put-self k (placed_queue join.queued 0 0) lines)
 
-  run-tied : IsTied (end_courses join.waiters) (end_agenda join.waiters) (put k (end_line join.waiters) lines)
+  run-tied : IsTied (end_courses join.queued) (end_agenda join.queued) (put k (end_line join.queued) lines)
   run-tied =
-      tied-same (end_courses join.waiters) (end_agenda join.waiters) (put k (end_line join.waiters) grown) (put k (end_line join.waiters) lines)
-      (put-twice k (end_line join.waiters) (placed_queue join.waiters 0 0) lines)
-      (subst (λ (ws : List Waiter). IsTied (end_courses ws) (end_agenda ws) (put k (end_line ws) grown)) own (ran-list k join.courses ag grown join-tied).tied)
+      tied-same (end_courses join.queued) (end_agenda join.queued) (put k (end_line join.queued) grown) (put k (end_line join.queued) lines)
+      (put-twice k (end_line join.queued) (placed_queue join.queued 0 0) lines)
+      (subst (λ (ws : List PlacedEntry). IsTied (end_courses ws) (end_agenda ws) (put k (end_line ws) grown)) own (ran-list k join.courses ag grown join-tied).tied)
 
-  run-restored : restored_from 0 (find_in grown) join.courses ≡ restored_from 0 (find_in (put k (end_line join.waiters) lines)) (end_courses join.waiters)
+  run-restored : restored_from 0 (find_in grown) join.courses ≡ restored_from 0 (find_in (put k (end_line join.queued) lines)) (end_courses join.queued)
   run-restored =
-      subst (λ (ws : List Waiter). restored_from 0 (find_in grown) join.courses ≡ restored_from 0 (find_in (put k (end_line ws) grown)) (end_courses ws)) own
+      subst (λ (ws : List PlacedEntry). restored_from 0 (find_in grown) join.courses ≡ restored_from 0 (find_in (put k (end_line ws) grown)) (end_courses ws)) own
       (ran-list k join.courses ag grown join-tied).restored
-      ∙ restored-same 0 (find_in (put k (end_line join.waiters) grown)) (find_in (put k (end_line join.waiters) lines)) (end_courses join.waiters)
-      (λ j m h. ap (found m) (put-twice k (end_line join.waiters) (placed_queue join.waiters 0 0) lines j))
+      ∙ restored-same 0 (find_in (put k (end_line join.queued) grown)) (find_in (put k (end_line join.queued) lines)) (end_courses join.queued)
+      (λ j m h. ap (found m) (put-twice k (end_line join.queued) (placed_queue join.queued 0 0) lines j))
 
   ran-tied : (at : Cause) → IsTiedAt f k lines cs (ran_at at join)
   ran-tied cause.Submit = record { tied = run-tied; told = join-told ∙ ap (map f) run-restored }
@@ -159,7 +159,7 @@ module _ {X : Type 0} (f : CourseState → X) (k : Kind) (n : ℕ) (a : Ahead) (
   entered-by at false = record { tied = join-tied; told = join-told }
 
   entered-tied : (at : Cause) (lanes : ℕ) → IsTiedAt f k lines cs (ran_if_full at lanes join)
-  entered-tied at lanes = entered-by at (length join.waiters == lanes)
+  entered-tied at lanes = entered-by at (length join.queued == lanes)
 
 -- ---- the fields, once what finishes at once is done
 
@@ -234,34 +234,34 @@ module _ (r r1 : RingState Cell) (p : ℕ) (ag ag1 : List ℕ) (ls : LaneQueues)
       (subst (λ (cs : List CourseState). At (IsNext k) (ring_number r p) cs) (sym is)
       (at-new (Follows x) (IsNext k) (λ _. x) (ring_number r p) (courses r) (λ z h. record { stage = st; here = h.here }) follows))
 
-  waiters-length : (q : RingState Cell) (k : Kind) → length (lines_in q ls k).waiters ≡ length (placed_in k ls).waiters
-  waiters-length q k = let g : Waiter → Waiter = λ w. (ring_number q w.0, w.1) in length-map (placed_in k ls).waiters g
+  queued-length : (q : RingState Cell) (k : Kind) → length (lines_in q ls k).queued ≡ length (placed_in k ls).queued
+  queued-length q k = let g : PlacedEntry → PlacedEntry = λ w. (ring_number q w.0, w.1) in length-map (placed_in k ls).queued g
 
   pub may-enter : (k : Kind) → stage_of x ≡ stage.Lane k
-      → MayEnter (lanes_of k) k (ring_number r1 p) (desk_of k (ring_number r1) (courses r1) ag1 ls) capacity
+      → MayEnter (lanes_of k) k (ring_number r1 p) (queue_view_of k (ring_number r1) (courses r1) ag1 ls) capacity
   may-enter k st =
       let lane = y.within.lanes k in
-      let few : length (map waiting (lines_in r ls k).waiters) < lanes_of k = lane.few in
-      let rests = have-rests (lines_in r ls k).waiters lane.rests in
+      let few : length (map waiting (lines_in r ls k).queued) < lanes_of k = lane.few in
+      let rests = have-rests (lines_in r ls k).queued lane.rests in
       let fits = y.fits in
       let room = y.room in
       record {
         next = next-then k st;
-        few = omega (arith, length-map (lines_in r ls k).waiters waiting, waiters-length r k, waiters-length r1 k);
-        rests = subst (λ (m : ℕ). All HasRest (numbered_queue (number m) (placed_in k ls)).waiters) (sym same.first) rests;
+        few = omega (arith, length-map (lines_in r ls k).queued waiting, queued-length r k, queued-length r1 k);
+        rests = subst (λ (m : ℕ). All HasRest (numbered_queue (number m) (placed_in k ls)).queued) (sym same.first) rests;
         listed = tied-then.listed k;
-        room_left = omega (arith, length-map ag1 (ring_number r1), waiters-length r1 k, in-total k ls, ap length first);
+        room_left = omega (arith, length-map ag1 (ring_number r1), queued-length r1 k, in-total k ls, ap length first);
       }
 
   -- and does so
   pub enters : (at : Cause) (k : Kind) (r2 : RingState Cell) (ag2 : List ℕ) (ls2 : LaneQueues) → stage_of x ≡ stage.Lane k → IsSameRing r2 r1
       → ls2 ≡ with_placed k (placed_in k ls2) ls2.flush_runs ls
-      → Enters at (lanes_of k) k (ring_number r1 p) (desk_of k (ring_number r1) (courses r1) ag1 ls) (desk_of k (ring_number r1) (courses r2) ag2 ls2)
+      → Enters at (lanes_of k) k (ring_number r1 p) (queue_view_of k (ring_number r1) (courses r1) ag1 ls) (queue_view_of k (ring_number r1) (courses r2) ag2 ls2)
       → IsStep r r2 ag ag2 ls ls2 (stepped at (machine_in r ag ls)) capacity
   enters at k r2 ag2 ls2 st then others-are e =
       let n = ring_number r1 p in
       let a = e.entry in
-      let d1 = desk_of k (ring_number r1) (courses r1) ag1 ls in
+      let d1 = queue_view_of k (ring_number r1) (courses r1) ag1 ls in
       let d = ran_if_full at (lanes_of k) (joined_by n a d1) in
       let m1 = machine_in r1 ag1 ls in
       let lanes : Kind → Queue = λ j. lane_seen (lines_in r1 ls j) in
@@ -273,7 +273,7 @@ module _ (r r1 : RingState Cell) (p : ℕ) (ag ag1 : List ℕ) (ls : LaneQueues)
       = machine-then at ∙ ap (λ ps. goes_on at n ps m1) (pending-lane x k st) ∙ ap (λ (q : ℕ). joined at k n q m1) (sym gives.rest_is) in
       let machine : machine_in r2 ag2 ls2 ≡ stepped at (machine_in r ag ls)
       = moved-machine k r1 r2 ag1 ag2 ls ls2 d then others-are e.is ∙ enters-seen at k lanes n a d1
-      ∙ ap (joined at k n a.rounds) (sym (by-desk k (lines_in r1 ls) (lines_in r1 ls) d1 refl (λ j ne. refl))) ∙ sym step in
+      ∙ ap (joined at k n a.rounds) (sym (by-queue_view k (lines_in r1 ls) (lines_in r1 ls) d1 refl (λ j ne. refl))) ∙ sym step in
       let owes = entered-tied owed k n a (courses r1) (map (ring_number r1) ag1) (lines_in r1 ls) (placed_in k ls).rounds (placed_in k ls).blocks ls.flush_runs
       tied-then (next-then k st) e.gives (λ c g. g.owed_is) at (lanes_of k) in
       let asks = entered-tied asked k n a (courses r1) (map (ring_number r1) ag1) (lines_in r1 ls) (placed_in k ls).rounds (placed_in k ls).blocks ls.flush_runs
@@ -289,7 +289,7 @@ module _ (r r1 : RingState Cell) (p : ℕ) (ag ag1 : List ℕ) (ls : LaneQueues)
           is_open = subst (All IsOpen) (sym (then.opened ∙ same.opened)) y.is_open;
           within = subst IsInCourse (sym machine) (within-then at);
           tied = moved-tied k r1 r2 ag1 ag2 ls ls2 d then others-are e.is owes.tied;
-          fits = omega (arith, entered-length at (lanes_of k) n a d1, length-map ag1 (ring_number r1), waiters-length r1 k, ap length first);
+          fits = omega (arith, entered-length at (lanes_of k) n a d1, length-map ag1 (ring_number r1), queued-length r1 k, ap length first);
           room = y.room;
         };
       }

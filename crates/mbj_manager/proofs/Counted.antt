@@ -7,7 +7,7 @@ use Rattle.mbj_types.specs.declared.kind.Kind.{Kind}
 use Rattle.mbj_stage.specs.Keys.{counts_expansion}
 use Rattle.mbj_stage.specs.Handing.{End}
 use Rattle.mbj_manager.specs.Machine.Stages.{Pending}
-use Rattle.mbj_manager.specs.Machine.Queues.{Waiting}
+use Rattle.mbj_manager.specs.Machine.Queues.{WaitingJob}
 use Rattle.mbj_manager.specs.Entries.{AreEntriesOf}
 use Rattle.mbj_manager.specs.State.{ManagerState, IsEarliestFinished, after_get_completed, entered_at, expanded_for, given_at}
 
@@ -47,7 +47,7 @@ pub earliest-back : (h : ManagerState) (n : ℕ) → IsEarliestFinished (with_co
 earliest-back h n is = record { some = is.some; done = is.done }
 
 -- the entries in the lanes are those of the same jobs
-pub entries-count : (k : Kind) (h : ManagerState) (n : ℕ) (es : List End) (ws : List Waiting) → AreEntriesOf k h es ws → AreEntriesOf k (with_count n h) es ws
+pub entries-count : (k : Kind) (h : ManagerState) (n : ℕ) (es : List End) (ws : List WaitingJob) → AreEntriesOf k h es ws → AreEntriesOf k (with_count n h) es ws
 entries-count k h n [] [] are = tt
 entries-count k h n (e ∷ es) (w ∷ ws) are =
     let of = are.0 in

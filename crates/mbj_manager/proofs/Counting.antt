@@ -1,7 +1,7 @@
 -- Each run of a course goes into the count of the call that it is within.
 use Rattle.std.proofs.Common.{◌≡◌, ℕ, List, inl, inr, refl, ap, sym, ◌∙◌}
 use Rattle.mbj_types.specs.declared.kind.Kind.{Kind}
-use Rattle.mbj_manager.specs.Machine.Queues.{Queue, Machine, Waiting, queue_for, with_queue}
+use Rattle.mbj_manager.specs.Machine.Queues.{Queue, Machine, WaitingJob, queue_for, with_queue}
 use Rattle.mbj_manager.specs.declared.lane.Cause.TheVariants as cause
 use Rattle.mbj_manager.specs.Machine.Counts.{CountsApart, full_runs}
 use Rattle.mbj_manager.proofs.Unchanged.{IsUnchanged, unchanged-course, unchanged-flush}
@@ -20,7 +20,7 @@ flush-runs-left = record {
 -- ---- within a flush
 
 -- a lane queue that changes keeps its kind's counts, and those of the other kinds
-same-counts : (k j : Kind) (ws : List Waiting) (m : Machine)
+same-counts : (k j : Kind) (ws : List WaitingJob) (m : Machine)
     → full_runs k (record m { lanes = with_queue j (with_waiting (queue_for j m) ws) m.lanes }) ≡ full_runs k m
 same-counts k j ws m =
     let counts : Queue → ℕ × ℕ = λ l. (l.rounds, l.blocks) in

@@ -56,7 +56,7 @@ enough-steps at zero (n ∷ agenda) m is within enough =
     absurd (let one : length m.agenda ≡ suc (length agenda) = ap length is in omega arith)
 enough-steps at (suc count) (n ∷ agenda) m is within enough =
     let step : IsStep (stepped at m) m = subst (λ a. IsStep (stepped_at at a m) m) (sym is) (steps at n agenda m is within) in
-    let ahead = step.ahead in
+    let entry_view = step.entry_view in
     let fewer = step.fewer in
     let end = enough-steps at count (stepped at m).agenda (stepped at m) refl step.within (omega arith) in
     let fewer-then = end.fewer in
@@ -77,7 +77,7 @@ pub course-stepped : (at : Cause) (m : Machine) → m.agenda ≢ [] → IsInCour
 unfolding course
 course-stepped at m some within =
     let step = step-of at m.agenda m refl some within in
-    let r = reaches-step at m (course at m) step.ahead (reaches-start at m) in
+    let r = reaches-step at m (course at m) step.entry_view (reaches-start at m) in
     let ended : (course at m).agenda ≡ [] = (course-ends at m within).between.agenda in
     let next-ended : (course at (stepped at m)).agenda ≡ [] = (course-ends at (stepped at m) step.within).between.agenda in
     (steps-end-alike (stepped at m)).course at (steps_ahead (stepped at m)) r.count next-ended (ap (λ (x : Machine). x.agenda) r.is ∙ ended) ∙ r.is

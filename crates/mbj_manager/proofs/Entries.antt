@@ -13,8 +13,8 @@ use Rattle.mbj_manager.specs.State.{ManagerState}
 use Rattle.mbj_manager.specs.Entries.{AreEntriesOf, HasJobSteps, IsEntryOf}
 use Rattle.mbj_manager.specs.Inside.Courses.{asked}
 use Rattle.mbj_manager.specs.Inside.Leaving.{At}
-use Rattle.mbj_manager.specs.Inside.Desk.{Listed}
-use Rattle.mbj_manager.specs.Inside.PlacedQueue.{PlacedQueue, Waiter, numbered, pair_rest, rounds_in}
+use Rattle.mbj_manager.specs.Inside.QueueView.{Listed}
+use Rattle.mbj_manager.specs.Inside.PlacedQueue.{PlacedQueue, PlacedEntry, numbered, pair_rest, rounds_in}
 use Rattle.mbj_manager.specs.Inside.Held.{find_in, found, machine_by, restored, restored_from, waiting}
 use Rattle.mbj_manager.proofs.Restoring.{out-restored}
 use Rattle.mbj_manager.proofs.RingCourses.{each-at}
@@ -56,19 +56,19 @@ module _ (k : Kind) (cs : List CourseState) (agenda : List ℕ) (lines : Kind �
   }
 
   -- what f tells of the course w.0
-  told-of : {X : Type 0} (f : CourseState → X) (w : Waiter) (c : CourseState) → slice_get cs w.0 ≡ Some c → IsOut k w.1.brings c
-      → found w.0 (lines k).waiters ≡ Some w.1.brings
+  told-of : {X : Type 0} (f : CourseState → X) (w : PlacedEntry) (c : CourseState) → slice_get cs w.0 ≡ Some c → IsOut k w.1.brings c
+      → found w.0 (lines k).queued ≡ Some w.1.brings
       → slice_get (map f (restored_from 0 (find_in lines) cs)) w.0 ≡ Some (f (taken_back w.1.brings c))
   told-of f w c is out here =
       slice_get-map f (restored_from 0 (find_in lines) cs) w.0
       ∙ ap (option_map f) (restored-there 0 w.0 w.0 (find_in lines) cs c (omega arith) is)
       ∙ ap (λ (x : CourseState). Some (f x)) (out-restored w.0 (find_in lines) k w.1.brings c out here)
 
-  entry-of : (front : List Waiter) (w : Waiter) (ws : List Waiter) → (lines k).waiters ≡ front ++ w ∷ ws → Middle k cs front w ws
+  entry-of : (front : List PlacedEntry) (w : PlacedEntry) (ws : List PlacedEntry) → (lines k).queued ≡ front ++ w ∷ ws → Middle k cs front w ws
       → IsEntryOf k state w.1.brings (waiting w)
   entry-of front w ws l o =
       let t = there (IsOut k w.1.brings) w.0 cs o.out in
-      let here : found w.0 (lines k).waiters ≡ Some w.1.brings = ap (found w.0) l ∙ found-here front w ws o.absent in
+      let here : found w.0 (lines k).queued ≡ Some w.1.brings = ap (found w.0) l ∙ found-here front w ws o.absent in
       record {
         course = t.item;
         out = t.has;
@@ -78,7 +78,7 @@ module _ (k : Kind) (cs : List CourseState) (agenda : List ℕ) (lines : Kind �
         owed = told-of owed w t.item t.is t.has here;
       }
 
-  entries-behind : (front ws : List Waiter) → (lines k).waiters ≡ front ++ ws → Listed k cs (lines k).waiters
+  entries-behind : (front ws : List PlacedEntry) → (lines k).queued ≡ front ++ ws → Listed k cs (lines k).queued
       → AreEntriesOf k state (map (λ w. w.1.brings) ws) (map waiting ws)
   entries-behind front [] l listed = tt
   entries-behind front (w ∷ ws) l listed = (
@@ -86,16 +86,16 @@ module _ (k : Kind) (cs : List CourseState) (agenda : List ℕ) (lines : Kind �
     entries-behind (front ++ w ∷ []) ws (l ∙ sym (append_assoc front (w ∷ []) ws)) listed,
   )
 
-  pub all-entries : Listed k cs (lines k).waiters → AreEntriesOf k state (map (λ w. w.1.brings) (lines k).waiters) (map waiting (lines k).waiters)
-  all-entries listed = entries-behind [] (lines k).waiters refl listed
+  pub all-entries : Listed k cs (lines k).queued → AreEntriesOf k state (map (λ w. w.1.brings) (lines k).queued) (map waiting (lines k).queued)
+  all-entries listed = entries-behind [] (lines k).queued refl listed
 
 -- ---- the entries of a list
 
 -- the lane queue's rests and ends, whatever the numbers of its jobs
-pub numbered-rests : (f : ℕ → ℕ) (ws : List Waiter) → map rest_of (map waiting (numbered f ws)) ≡ map (pair_rest rounds_in) ws
+pub numbered-rests : (f : ℕ → ℕ) (ws : List PlacedEntry) → map rest_of (map waiting (numbered f ws)) ≡ map (pair_rest rounds_in) ws
 numbered-rests f [] = refl
 numbered-rests f (w ∷ ws) = ap (λ (ns : List ℕ). w.1.rounds ∷ ns) (numbered-rests f ws)
 
-pub numbered-ends : (f : ℕ → ℕ) (ws : List Waiter) → map (λ (w : Waiter). w.1.brings) (numbered f ws) ≡ map (λ (w : Waiter). w.1.brings) ws
+pub numbered-ends : (f : ℕ → ℕ) (ws : List PlacedEntry) → map (λ (w : PlacedEntry). w.1.brings) (numbered f ws) ≡ map (λ (w : PlacedEntry). w.1.brings) ws
 numbered-ends f [] = refl
 numbered-ends f (w ∷ ws) = ap (λ (ends : List End). w.1.brings ∷ ends) (numbered-ends f ws)

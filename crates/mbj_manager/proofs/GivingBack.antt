@@ -7,7 +7,7 @@ use Rattle.std.proofs.lemmas.List.Elements.{All-map, All-tail}
 use Rattle.std.proofs.lemmas.List.Sums.{sum_by-cons}
 use Rattle.mbj_types.specs.declared.kind.Kind.{Kind}
 use Rattle.mbj_manager.specs.Machine.Stages.{Pending}
-use Rattle.mbj_manager.specs.Machine.Queues.{Waiting, Queue, Machine, queue_for}
+use Rattle.mbj_manager.specs.Machine.Queues.{WaitingJob, Queue, Machine, queue_for}
 use Rattle.mbj_manager.specs.State.{renumbered}
 use Rattle.mbj_manager.specs.Machine.Between.{HasRounds, IsBetweenCalls, IsPlaced, times_in}
 use Rattle.mbj_manager.specs.Inside.Standing.{IsLane, left_at}
@@ -20,7 +20,7 @@ earlier-number zero n later = cc
 earlier-number (suc i) n later = let e : suc i - 1 ≡ i = omega arith in rw (e, eqb-suc-suc) refl
 
 -- a waiting job once the first job left
-abbrev pub earlier : Waiting → Waiting
+abbrev pub earlier : WaitingJob → WaitingJob
 earlier w = record { number = w.number - 1; rest = w.rest }
 
 -- the machine once the first job left
@@ -28,7 +28,7 @@ abbrev pub without_earliest : List (List Pending) → Machine → Machine
 without_earliest left m = record m { left = left; lanes = λ k. renumbered (queue_for k m) }
 
 -- where the job 0 isn't in a lane queue, its jobs have the numbers that they had, less one
-times-earlier : (n : ℕ) (ws : List Waiting) → times_in 0 ws ≡ 0 → times_in n (map earlier ws) ≡ times_in (suc n) ws
+times-earlier : (n : ℕ) (ws : List WaitingJob) → times_in 0 ws ≡ 0 → times_in n (map earlier ws) ≡ times_in (suc n) ws
 times-earlier n [] none = refl
 times-earlier n (w ∷ ws) none =
     let first = sum_by-cons (λ w. cond (w.number == 0) 1 0) w ws in

@@ -4,15 +4,15 @@ use mathlib.Core.Path.{fun_ext}
 use Rattle.mbj_types.specs.declared.kind.Kind.{Kind}
 use Rattle.mbj_types.specs.declared.kind.Kind.TheVariants as kind
 use Rattle.mbj_types.specs.Kinds.{lanes_of}
-use Rattle.mbj_manager.specs.Machine.Queues.{Queue, Waiting, with_queue}
+use Rattle.mbj_manager.specs.Machine.Queues.{Queue, WaitingJob, with_queue}
 use Rattle.mbj_manager.proofs.KindLines.{put-case}
 
 -- the lanes of a kind with another lane queue
-abbrev pub with_waiting : Queue → List Waiting → Queue
+abbrev pub with_waiting : Queue → List WaitingJob → Queue
 with_waiting l ws = record l { waiting = ws }
 
 -- the job n as it waits
-abbrev pub waits : ℕ → ℕ → Waiting
+abbrev pub waits : ℕ → ℕ → WaitingJob
 waits n rest = record { number = n; rest = rest }
 
 -- what holds of the lanes that a kind is given, and of those of every other kind, holds of every kind's

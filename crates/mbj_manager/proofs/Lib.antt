@@ -1,6 +1,6 @@
 mod Resting
 mod JobRounds
-mod WaitersOf
+mod QueuedOf
 pub mod RingCourses
 mod Finishing
 mod Joining

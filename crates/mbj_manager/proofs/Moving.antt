@@ -17,10 +17,10 @@ use Rattle.mbj_manager.specs.Cells.{Cell, job_in, IsOpen}
 use Rattle.mbj_manager.specs.Inside.Added.{first_lane}
 use Rattle.mbj_manager.specs.Inside.Courses.{IsSameRing, asked, courses, number, ring_number}
 use Rattle.mbj_manager.specs.Inside.Leaving.{finishers, numbers, others}
-use Rattle.mbj_manager.specs.Inside.Desk.{Desk, IsReady, desk, led_all, ran_at}
-use Rattle.mbj_manager.specs.Inside.LaneQueues.{desk_of, placed_in, total, with_placed}
+use Rattle.mbj_manager.specs.Inside.QueueView.{QueueView, IsReady, queue_view, led_all, ran_at}
+use Rattle.mbj_manager.specs.Inside.LaneQueues.{queue_view_of, placed_in, total, with_placed}
 use Rattle.mbj_manager.specs.declared.lane_queues.LaneQueues.{LaneQueues}
-use Rattle.mbj_manager.specs.Inside.PlacedQueue.{HasRest, PlacedQueue, Waiter, led_waiter, placed_queue, numbered, numbered_queue, pair_rest, rounds_in}
+use Rattle.mbj_manager.specs.Inside.PlacedQueue.{HasRest, PlacedQueue, PlacedEntry, led_entry, placed_queue, numbered, numbered_queue, pair_rest, rounds_in}
 use Rattle.mbj_manager.specs.Inside.Standing.{IsInCourse, left_at}
 use Rattle.mbj_manager.specs.Inside.Held.{IsHeld, IsTied, find_in, found, held, lane_seen, lines_in, machine_by, machine_in, restored_from, waiting}
 use Rattle.mbj_lane.specs.Rounds.{least}
@@ -30,7 +30,7 @@ use Rattle.mbj_manager.proofs.KindLines.{put-case}
 use Rattle.mbj_manager.proofs.Restoring.{restored-same}
 use Rattle.mbj_manager.proofs.Running as Running
 use Rattle.mbj_manager.proofs.Finishing.{zero-or}
-use Rattle.mbj_manager.proofs.Seeing.{by-desk, machine_at, run-seen}
+use Rattle.mbj_manager.proofs.Seeing.{by-queue_view, machine_at, run-seen}
 use Rattle.mbj_manager.proofs.Tying.{ran-list, tied-same}
 
 -- ---- the lane queues of all kinds
@@ -56,14 +56,14 @@ line-other k j l n ls ne = elim (put-case k j l (λ i. placed_in i ls)) [
 ]
 
 total-line : (k : Kind) (ls ls' : LaneQueues) → ls' ≡ with_placed k (placed_in k ls') ls'.flush_runs ls
-    → total ls' + length (placed_in k ls).waiters ≡ total ls + length (placed_in k ls').waiters
+    → total ls' + length (placed_in k ls).queued ≡ total ls + length (placed_in k ls').queued
 total-line kind.Cbc128 ls ls' e = let t = ap total e in omega arith
 total-line _ ls ls' e = let t = ap total e in omega arith
 
 -- ---- a step of the lane queue of the kind k
 
-module _ (k : Kind) (r r' : RingState Cell) (ag ag' : List ℕ) (ls ls' : LaneQueues) (d : Desk) (same : IsSameRing r' r)
-    (others-same : ls' ≡ with_placed k (placed_in k ls') ls'.flush_runs ls) (is : desk_of k (ring_number r) (courses r') ag' ls' ≡ d) where
+module _ (k : Kind) (r r' : RingState Cell) (ag ag' : List ℕ) (ls ls' : LaneQueues) (d : QueueView) (same : IsSameRing r' r)
+    (others-same : ls' ≡ with_placed k (placed_in k ls') ls'.flush_runs ls) (is : queue_view_of k (ring_number r) (courses r') ag' ls' ≡ d) where
   -- the lane queues then, by the numbers of before
   abbrev after : Kind → PlacedQueue
   after j = numbered_queue (ring_number r) (placed_in j ls')
@@ -74,51 +74,51 @@ module _ (k : Kind) (r r' : RingState Cell) (ag ag' : List ℕ) (ls ls' : LaneQu
   pub moved-machine : machine_in r' ag' ls' ≡ machine_at k (λ j. lane_seen (lines_in r ls j)) d
   moved-machine =
       ap (λ (n : ℕ). machine_by (courses r') (map (number n) ag') (λ j. numbered_queue (number n) (placed_in j ls')) ls'.flush_runs) same.first
-      ∙ by-desk k (lines_in r ls) after (desk_of k (ring_number r) (courses r') ag' ls') refl other-lines
+      ∙ by-queue_view k (lines_in r ls) after (queue_view_of k (ring_number r) (courses r') ag' ls') refl other-lines
       ∙ ap (machine_at k (λ j. lane_seen (lines_in r ls j))) is
 
   abbrev expected : Kind → PlacedQueue
-  expected = put k (placed_queue d.waiters 0 0) (lines_in r ls)
+  expected = put k (placed_queue d.queued 0 0) (lines_in r ls)
 
-  same-waits : (j : Kind) → (expected j).waiters ≡ (after j).waiters
-  same-waits j = elim (put-case k j (placed_queue d.waiters 0 0) (lines_in r ls)) [
-    | inl e ↦ ap (λ (x : PlacedQueue). x.waiters) e.1 ∙ sym (ap (λ (x : Desk). x.waiters) is) ∙ ap (λ i. (after i).waiters) (sym e.0)
-    | inr e ↦ ap (λ (x : PlacedQueue). x.waiters) (e.1 ∙ sym (other-lines j e.0))
+  same-waits : (j : Kind) → (expected j).queued ≡ (after j).queued
+  same-waits j = elim (put-case k j (placed_queue d.queued 0 0) (lines_in r ls)) [
+    | inl e ↦ ap (λ (x : PlacedQueue). x.queued) e.1 ∙ sym (ap (λ (x : QueueView). x.queued) is) ∙ ap (λ i. (after i).queued) (sym e.0)
+    | inr e ↦ ap (λ (x : PlacedQueue). x.queued) (e.1 ∙ sym (other-lines j e.0))
   ]
 
   pub moved-tied : IsTied d.courses d.agenda expected → IsTied (courses r') (map (ring_number r') ag') (lines_in r' ls')
   moved-tied y =
       subst (λ (n : ℕ). IsTied (courses r') (map (number n) ag') (λ j. numbered_queue (number n) (placed_in j ls'))) (sym same.first)
-      (subst (λ (x : Desk). IsTied x.courses x.agenda after) (sym is) (tied-same d.courses d.agenda expected after same-waits y))
+      (subst (λ (x : QueueView). IsTied x.courses x.agenda after) (sym is) (tied-same d.courses d.agenda expected after same-waits y))
 
   pub moved-restored : restored_from 0 (find_in expected) d.courses ≡ restored_from 0 (find_in (lines_in r' ls')) (courses r')
   moved-restored =
       restored-same 0 (find_in expected) (find_in after) d.courses (λ j m h. ap (found m) (same-waits j))
-      ∙ sym (ap (λ (x : Desk). restored_from 0 (find_in after) x.courses) is)
+      ∙ sym (ap (λ (x : QueueView). restored_from 0 (find_in after) x.courses) is)
       ∙ ap (λ (n : ℕ). restored_from 0 (find_in (λ j. numbered_queue (number n) (placed_in j ls'))) (courses r')) (sym same.first)
 
-  pub moved-length : length ag' + total ls' + length (placed_in k ls).waiters ≡ length d.agenda + length d.waiters + total ls
+  pub moved-length : length ag' + total ls' + length (placed_in k ls).queued ≡ length d.agenda + length d.queued + total ls
   moved-length =
-      let a : length (map (ring_number r) ag') ≡ length d.agenda = ap (λ (x : Desk). length x.agenda) is in
-      let w : length (numbered (ring_number r) (placed_in k ls').waiters) ≡ length d.waiters = ap (λ (x : Desk). length x.waiters) is in
-      let g : Waiter → Waiter = λ x. (ring_number r x.0, x.1) in
-      let l : length (numbered (ring_number r) (placed_in k ls').waiters) ≡ length (placed_in k ls').waiters = length-map (placed_in k ls').waiters g in
+      let a : length (map (ring_number r) ag') ≡ length d.agenda = ap (λ (x : QueueView). length x.agenda) is in
+      let w : length (numbered (ring_number r) (placed_in k ls').queued) ≡ length d.queued = ap (λ (x : QueueView). length x.queued) is in
+      let g : PlacedEntry → PlacedEntry = λ x. (ring_number r x.0, x.1) in
+      let l : length (numbered (ring_number r) (placed_in k ls').queued) ≡ length (placed_in k ls').queued = length-map (placed_in k ls').queued g in
       omega (arith, total-line k ls ls' others-same, length-map ag' (ring_number r))
 
 -- ---- how many there are
 
-finish-length : (ws : List Waiter) → length (numbers (finishers rounds_in ws)) + length (others rounds_in ws) ≡ length ws
+finish-length : (ws : List PlacedEntry) → length (numbers (finishers rounds_in ws)) + length (others rounds_in ws) ≡ length ws
 finish-length [] = refl
 finish-length (w ∷ ws) = elim (zero-or w.1.rounds) [
   | inl z ↦ rw z.1 (omega (arith, finish-length ws))
   | inr z ↦ rw z (omega (arith, finish-length ws))
 ]
 
-pub ran-length : (at : Cause) (d : Desk) → length (ran_at at d).agenda + length (ran_at at d).waiters ≡ length d.agenda + length d.waiters
+pub ran-length : (at : Cause) (d : QueueView) → length (ran_at at d).agenda + length (ran_at at d).queued ≡ length d.agenda + length d.queued
 ran-length cause.Submit d =
-    omega (arith, length-append d.agenda (numbers (finishers rounds_in (led_all d.waiters))), finish-length (led_all d.waiters), length-map d.waiters (led_waiter (least (pair_rest rounds_in) d.waiters)))
+    omega (arith, length-append d.agenda (numbers (finishers rounds_in (led_all d.queued))), finish-length (led_all d.queued), length-map d.queued (led_entry (least (pair_rest rounds_in) d.queued)))
 ran-length cause.Flush d =
-    omega (arith, length-append d.agenda (numbers (finishers rounds_in (led_all d.waiters))), finish-length (led_all d.waiters), length-map d.waiters (led_waiter (least (pair_rest rounds_in) d.waiters)))
+    omega (arith, length-append d.agenda (numbers (finishers rounds_in (led_all d.queued))), finish-length (led_all d.queued), length-map d.queued (led_entry (least (pair_rest rounds_in) d.queued)))
 
 -- ---- the lane queue of the earliest job
 
@@ -132,26 +132,26 @@ pub first-machine : (k : Kind) (m : Machine) → m.agenda ≡ [] → first_lane 
 first-machine k m idle first within =
     let s = first-stage m.left k first in earliest-ready k s.0 s.1.0 m s.1.1 (between-calls m within idle)
 
-pub have-rests : (ws : List Waiter) → All (λ w. 1 ≤ w.rest) (map waiting ws) → All HasRest ws
+pub have-rests : (ws : List PlacedEntry) → All (λ w. 1 ≤ w.rest) (map waiting ws) → All HasRest ws
 have-rests [] a n d lt = absurd (omega arith)
 have-rests (w ∷ ws) a zero d lt = a 0 (waiting w) (omega arith)
 have-rests (w ∷ ws) a (suc n) d lt = have-rests ws (λ i x l. a (suc i) x (omega arith)) n d (omega arith)
 
 pub first-ready : (k : Kind) (cs : List CourseState) (agenda : List ℕ) (lines : Kind → PlacedQueue) (runs room : ℕ) → agenda ≡ [] → first_lane (map pending cs) ≡ Some k
-    → IsInCourse (machine_by cs agenda lines runs) → IsTied cs agenda lines → length agenda + length (lines k).waiters ≤ room
-    → IsReady k (desk cs agenda (lines k).waiters (lines k).rounds (lines k).blocks runs) room
+    → IsInCourse (machine_by cs agenda lines runs) → IsTied cs agenda lines → length agenda + length (lines k).queued ≤ room
+    → IsReady k (queue_view cs agenda (lines k).queued (lines k).rounds (lines k).blocks runs) room
 first-ready k cs agenda lines runs room idle first within tied fits =
     let m = machine_by cs agenda lines runs in
     let ready = first-machine k m idle first within in
-    let some : 0 < length (map waiting (lines k).waiters) = ready.lane.some in
+    let some : 0 < length (map waiting (lines k).queued) = ready.lane.some in
     record {
-      some = omega (arith, length-map (lines k).waiters waiting);
-      rests = have-rests (lines k).waiters ready.lane.rests;
+      some = omega (arith, length-map (lines k).queued waiting);
+      rests = have-rests (lines k).queued ready.lane.rests;
       listed = tied.listed k;
       room_left = fits;
     }
 
-pub in-total : (k : Kind) (ls : LaneQueues) → length (placed_in k ls).waiters ≤ total ls
+pub in-total : (k : Kind) (ls : LaneQueues) → length (placed_in k ls).queued ≤ total ls
 in-total kind.Cbc128 ls = omega arith
 in-total _ ls = omega arith
 
@@ -171,10 +171,10 @@ same-state owed jobs opened machine expansions = rw (owed, jobs, opened, machine
 
 -- how many may join or leave a list
 pub room-in : (k : Kind) (r : RingState Cell) (ag : List ℕ) (ls : LaneQueues) (capacity : ℕ) → IsHeld r ag ls capacity
-    → length (map (ring_number r) ag) + length (lines_in r ls k).waiters ≤ capacity
+    → length (map (ring_number r) ag) + length (lines_in r ls k).queued ≤ capacity
 room-in k r ag ls capacity y =
-    let g : Waiter → Waiter = λ x. (ring_number r x.0, x.1) in
-    let l : length (lines_in r ls k).waiters ≡ length (placed_in k ls).waiters = length-map (placed_in k ls).waiters g in
+    let g : PlacedEntry → PlacedEntry = λ x. (ring_number r x.0, x.1) in
+    let l : length (lines_in r ls k).queued ≡ length (placed_in k ls).queued = length-map (placed_in k ls).queued g in
     let fits = y.fits in
     let room = y.room in
     omega (arith, in-total k ls, length-map ag (ring_number r))
@@ -183,20 +183,20 @@ room-in k r ag ls capacity y =
 pub runs-first : (k : Kind) (r r' : RingState Cell) (ag ag' : List ℕ) (ls ls' : LaneQueues) (capacity : ℕ) → IsHeld r ag ls capacity
     → map (ring_number r) ag ≡ [] → first_lane (map pending (courses r)) ≡ Some k → IsSameRing r' r
     → ls' ≡ with_placed k (placed_in k ls') ls'.flush_runs ls
-    → desk_of k (ring_number r) (courses r') ag' ls' ≡ ran_at cause.Flush (desk_of k (ring_number r) (courses r) ag ls)
+    → queue_view_of k (ring_number r) (courses r') ag' ls' ≡ ran_at cause.Flush (queue_view_of k (ring_number r) (courses r) ag ls)
     → IsStep r r' ag ag' ls ls' (run_within cause.Flush k (machine_in r ag ls)) capacity
 runs-first k r r' ag ag' ls ls' capacity y idle first same others-are is =
-    let d0 = desk_of k (ring_number r) (courses r) ag ls in
+    let d0 = queue_view_of k (ring_number r) (courses r) ag ls in
     let d = ran_at cause.Flush d0 in
     let m = machine_in r ag ls in
     let lanes : Kind → Queue = λ j. lane_seen (lines_in r ls j) in
     let ran = ran-list k (courses r) (map (ring_number r) ag) (lines_in r ls) y.tied in
     let machine : machine_in r' ag' ls' ≡ run_within cause.Flush k m
     = moved-machine k r r' ag ag' ls ls' d same others-are is ∙ run-seen cause.Flush k lanes d0
-    ∙ ap (run_within cause.Flush k) (sym (by-desk k (lines_in r ls) (lines_in r ls) d0 refl (λ j ne. refl))) in
+    ∙ ap (run_within cause.Flush k) (sym (by-queue_view k (lines_in r ls) (lines_in r ls) d0 refl (λ j ne. refl))) in
     let size = moved-length k r r' ag ag' ls ls' d same others-are is in
-    let g : Waiter → Waiter = λ x. (ring_number r x.0, x.1) in
-    let l : length d0.waiters ≡ length (placed_in k ls).waiters = length-map (placed_in k ls).waiters g in
+    let g : PlacedEntry → PlacedEntry = λ x. (ring_number r x.0, x.1) in
+    let l : length d0.queued ≡ length (placed_in k ls).queued = length-map (placed_in k ls).queued g in
     let fits = y.fits in
     let restored = sym (ran.restored ∙ moved-restored k r r' ag ag' ls ls' d same others-are is) in
     record {

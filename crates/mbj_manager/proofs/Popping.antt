@@ -12,7 +12,7 @@ use Rattle.mbj_stage.specs.Handing.{End, IsOut}
 use Rattle.mbj_stage.specs.declared.stage.Stage.{Stage}
 use Rattle.mbj_stage.specs.declared.stage.Stage.TheVariants as stage
 use Rattle.mbj_manager.specs.Machine.Stages.{Pending, pending}
-use Rattle.mbj_manager.specs.Machine.Queues.{Queue, Machine, Waiting, queue_for}
+use Rattle.mbj_manager.specs.Machine.Queues.{Queue, Machine, WaitingJob, queue_for}
 use Rattle.mbj_manager.specs.Machine.Between.{IsBetweenCalls}
 use Rattle.mbj_manager.specs.State.{ManagerState, after_get_completed, given_at, renumbered}
 use Rattle.mbj_manager.specs.Cells as cell
@@ -20,10 +20,10 @@ use Rattle.mbj_manager.specs.Cells.{Cell, IsFinished, IsGoing, course_in}
 use Rattle.mbj_manager.proofs.RingCourses.{each-at}
 use Rattle.mbj_manager.specs.Inside.Courses.{KeepsSteps, asked, courses, number, ring_number}
 use Rattle.mbj_manager.specs.Inside.Leaving.{At, IsAbsent}
-use Rattle.mbj_manager.specs.Inside.Desk.{Listed}
+use Rattle.mbj_manager.specs.Inside.QueueView.{Listed}
 use Rattle.mbj_manager.specs.Inside.LaneQueues.{placed_in}
 use Rattle.mbj_manager.specs.declared.lane_queues.LaneQueues.{LaneQueues}
-use Rattle.mbj_manager.specs.Inside.PlacedQueue.{PlacedQueue, Waiter, placed_queue, numbered}
+use Rattle.mbj_manager.specs.Inside.PlacedQueue.{PlacedQueue, PlacedEntry, placed_queue, numbered}
 use Rattle.mbj_manager.specs.Inside.Standing.{IsInCourse, times}
 use Rattle.mbj_manager.specs.Inside.Held.{IsHeld, IsTied, find_in, found, held, lane_seen, lines_in, machine_in, back_by, restored, restored_by, restored_from, restored_here, waiting}
 use Rattle.mbj_manager.proofs.Adding.{map-nil}
@@ -34,11 +34,11 @@ use Rattle.mbj_manager.proofs.PendingStages.{finished-pending}
 
 -- ---- lane queues with numbers one lower
 
-abbrev lower : Waiter → Waiter
+abbrev lower : PlacedEntry → PlacedEntry
 lower w = (w.0 - 1, w.1)
 
 abbrev low : PlacedQueue → PlacedQueue
-low l = placed_queue (map lower l.waiters) l.rounds l.blocks
+low l = placed_queue (map lower l.queued) l.rounds l.blocks
 
 -- the course of the job is behind the first one, which is finished
 behind : (k : Kind) (e : End) (n : ℕ) (c : CourseState) (cs : List CourseState) → stage_of c ≡ stage.Finished → At (IsOut k e) n (c ∷ cs)
@@ -47,23 +47,23 @@ behind k e zero c cs done a = let is = a.stage in cc
 behind k e (suc m) c cs done a = (m, (refl, a))
 
 -- no job of the lane queue is the first one
-abbrev AreLater : List Waiter → Type 0
+abbrev AreLater : List PlacedEntry → Type 0
 AreLater [] = Unit {0}
 AreLater (w ∷ ws) = (1 ≤ w.0) × AreLater ws
 
-later : (k : Kind) (c : CourseState) (cs : List CourseState) (ws : List Waiter) → stage_of c ≡ stage.Finished → Listed k (c ∷ cs) ws → AreLater ws
+later : (k : Kind) (c : CourseState) (cs : List CourseState) (ws : List PlacedEntry) → stage_of c ≡ stage.Finished → Listed k (c ∷ cs) ws → AreLater ws
 later k c cs [] done r = tt
 later k c cs (w ∷ ws) done r = let b = behind k w.1.brings w.0 c cs done r.0 in (omega (arith, b.1.0), later k c cs ws done r.2)
 
-absent-low : (n : ℕ) (ws : List Waiter) → 1 ≤ n → AreLater ws → IsAbsent n ws → IsAbsent (n - 1) (map lower ws)
+absent-low : (n : ℕ) (ws : List PlacedEntry) → 1 ≤ n → AreLater ws → IsAbsent n ws → IsAbsent (n - 1) (map lower ws)
 absent-low n [] some l a = tt
 absent-low n (w ∷ ws) some l a = let first = l.0 in ((λ e. a.0 (omega (arith, e, first))), absent-low n ws some l.1 a.1)
 
-low-absent : (n : ℕ) (ws : List Waiter) → IsAbsent n (map lower ws) → IsAbsent (suc n) ws
+low-absent : (n : ℕ) (ws : List PlacedEntry) → IsAbsent n (map lower ws) → IsAbsent (suc n) ws
 low-absent n [] a = tt
 low-absent n (w ∷ ws) a = ((λ e. a.0 (omega (arith, e))), low-absent n ws a.1)
 
-listed-low : (k : Kind) (c : CourseState) (cs : List CourseState) (ws : List Waiter) → stage_of c ≡ stage.Finished → Listed k (c ∷ cs) ws → Listed k cs (map lower ws)
+listed-low : (k : Kind) (c : CourseState) (cs : List CourseState) (ws : List PlacedEntry) → stage_of c ≡ stage.Finished → Listed k (c ∷ cs) ws → Listed k cs (map lower ws)
 listed-low k c cs [] done r = tt
 listed-low k c cs (w ∷ ws) done r =
     let b = behind k w.1.brings w.0 c cs done r.0 in
@@ -74,7 +74,7 @@ same-test : (n m : ℕ) → 1 ≤ m → eqb (suc n) m ≡ eqb n (m - 1)
 same-test n zero some = absurd (omega arith)
 same-test n (suc m) some = let e : suc m - 1 ≡ m = omega arith in rw (e, eqb-suc-suc) refl
 
-found-low : (n : ℕ) (ws : List Waiter) → AreLater ws → found (suc n) ws ≡ found n (map lower ws)
+found-low : (n : ℕ) (ws : List PlacedEntry) → AreLater ws → found (suc n) ws ≡ found n (map lower ws)
 found-low n [] l = refl
 found-low n (w ∷ ws) l =
     ap₂ (λ b (r : Option End). cond b (Some w.1.brings) r) (same-test n w.0 l.0) (found-low n ws l.1)
@@ -83,8 +83,8 @@ found-low n (w ∷ ws) l =
 
 tied-low : (c : CourseState) (cs : List CourseState) (lines : Kind → PlacedQueue) → stage_of c ≡ stage.Finished → IsTied (c ∷ cs) [] lines → IsTied cs [] (λ k. low (lines k))
 tied-low c cs lines done y = record {
-  listed = λ k. listed-low k c cs (lines k).waiters done (y.listed k);
-  here = λ n lt a. y.here (suc n) (omega arith) (λ k. low-absent n (lines k).waiters (a k));
+  listed = λ k. listed-low k c cs (lines k).queued done (y.listed k);
+  here = λ n lt a. y.here (suc n) (omega arith) (λ k. low-absent n (lines k).queued (a k));
   below = All-nil (λ n. n < length cs);
 }
 
@@ -112,15 +112,15 @@ finished-restored n find (Some m) s c done = ap (λ (s : Stage). restored_by s n
 number-low : (first place : ℕ) → first < CELLS → 1 ≤ number first place → number ((first + 1) % CELLS) place ≡ number first place - 1
 number-low first place f some = omega arith
 
-numbered-low : (first : ℕ) (ws : List Waiter) → first < CELLS → AreLater (numbered (number first) ws)
+numbered-low : (first : ℕ) (ws : List PlacedEntry) → first < CELLS → AreLater (numbered (number first) ws)
     → numbered (number ((first + 1) % CELLS)) ws ≡ map lower (numbered (number first) ws)
 numbered-low first [] f l = refl
 numbered-low first (w ∷ ws) f l =
-    ap₂ (λ (n : ℕ) (r : List Waiter). (n, w.1) ∷ r) (number-low first w.0 f l.0) (numbered-low first ws f l.1)
+    ap₂ (λ (n : ℕ) (r : List PlacedEntry). (n, w.1) ∷ r) (number-low first w.0 f l.0) (numbered-low first ws f l.1)
 
-waiting-low : (ws : List Waiter) → map waiting (map lower ws) ≡ map earlier (map waiting ws)
+waiting-low : (ws : List PlacedEntry) → map waiting (map lower ws) ≡ map earlier (map waiting ws)
 waiting-low [] = refl
-waiting-low (w ∷ ws) = ap (λ (r : List Waiting). earlier (waiting w) ∷ r) (waiting-low ws)
+waiting-low (w ∷ ws) = ap (λ (r : List WaitingJob). earlier (waiting w) ∷ r) (waiting-low ws)
 
 -- what holds between two calls holds after each step
 between-within : (m : Machine) → IsBetweenCalls m → IsInCourse m
@@ -153,17 +153,17 @@ module _ (v : Cell) (vs : List Cell) (o : List Cell) (first : ℕ) (ls : LaneQue
   done : stage_of (course_in v) ≡ stage.Finished
   done = finished-pending (course_in v) none
 
-  are-later : (k : Kind) → AreLater (lines k).waiters
-  are-later k = later k (course_in v) (map course_in vs) (lines k).waiters done (y.tied.listed k)
+  are-later : (k : Kind) → AreLater (lines k).queued
+  are-later k = later k (course_in v) (map course_in vs) (lines k).queued done (y.tied.listed k)
 
   lines-low : (k : Kind) → lines_in r' ls k ≡ low (lines k)
   lines-low k =
-      ap (λ (ws : List Waiter). placed_queue ws (placed_in k ls).rounds (placed_in k ls).blocks) (numbered-low first (placed_in k ls).waiters y.ring.first (are-later k))
+      ap (λ (ws : List PlacedEntry). placed_queue ws (placed_in k ls).rounds (placed_in k ls).blocks) (numbered-low first (placed_in k ls).queued y.ring.first (are-later k))
 
   lane-low : (k : Kind) → lane_seen (lines_in r' ls k) ≡ renumbered (queue_for k (machine_in r [] ls))
   lane-low k =
       ap lane_seen (lines-low k)
-      ∙ ap (λ (ws : List Waiting). record { waiting = ws; rounds = (placed_in k ls).rounds; blocks = (placed_in k ls).blocks }) (waiting-low (lines k).waiters)
+      ∙ ap (λ (ws : List WaitingJob). record { waiting = ws; rounds = (placed_in k ls).rounds; blocks = (placed_in k ls).blocks }) (waiting-low (lines k).queued)
 
   abbrev left_then : List (List Pending)
   left_then = map pending (map course_in vs)
@@ -194,7 +194,7 @@ module _ (v : Cell) (vs : List Cell) (o : List Cell) (first : ℕ) (ls : LaneQue
   restored-then : restored_from 1 (find_in lines) (map course_in vs) ≡ restored_from 0 (find_in (lines_in r' ls)) (map course_in vs)
   restored-then =
       restored-low 0 (find_in lines) (find_in (lines_in r' ls)) (map course_in vs)
-      (λ k n. found-low n (lines k).waiters (are-later k) ∙ sym (ap (λ (l : PlacedQueue). found n l.waiters) (lines-low k)))
+      (λ k n. found-low n (lines k).queued (are-later k) ∙ sym (ap (λ (l : PlacedQueue). found n l.queued) (lines-low k)))
 
   abbrev answer : Option Done × ManagerState
   answer = (

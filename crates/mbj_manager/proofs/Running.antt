@@ -6,7 +6,7 @@ use Rattle.std.proofs.lemmas.Nat.{mul-mod_second}
 use Rattle.std.proofs.lemmas.List.{length-append}
 use Rattle.mbj_types.specs.declared.kind.Kind.{Kind}
 use Rattle.mbj_types.specs.Kinds.{lanes_of}
-use Rattle.mbj_manager.specs.Machine.Queues.{Waiting, Queue, Machine, count_end, queue_for, least, after_run, run_within, shortened, with_run}
+use Rattle.mbj_manager.specs.Machine.Queues.{WaitingJob, Queue, Machine, count_end, queue_for, least, after_run, run_within, shortened, with_run}
 use Rattle.mbj_manager.specs.declared.lane.Cause.{Cause}
 use Rattle.mbj_manager.specs.declared.lane.Cause.TheVariants as cause
 use Rattle.mbj_manager.specs.Machine.Course.{stages_left}
@@ -36,14 +36,14 @@ pub record IsReady (k : Kind) (m : Machine) : Type 0 where
 pub record IsRun (after m : Machine) : Type 0 where
   pub within : IsInCourse after
   pub fewer : stages_left after.left < stages_left m.left
-  pub ahead : steps_ahead after ≤ steps_ahead m
+  pub entry_view : steps_ahead after ≤ steps_ahead m
 
 -- fewer stay in the lane queue than it has lanes
 few-stay : (k : Kind) (m : Machine) → IsReady k m → length (stayed k m) < lanes_of k
 few-stay k m ready = omega (arith, leave-or-stay (queue_for k m).waiting, some-leave (queue_for k m).waiting ready.lane.some, ready.lane.room)
 
 -- a run keeps what holds of the machine, whatever it counts
-ran-keeps : (k : Kind) (after : List Waiting → Queue) (m : Machine) → ((ws : List Waiting) → (after ws).waiting ≡ ws) → IsReady k m
+ran-keeps : (k : Kind) (after : List WaitingJob → Queue) (m : Machine) → ((ws : List WaitingJob) → (after ws).waiting ≡ ws) → IsReady k m
     → IsLane k (after (stayed k m)) → IsRun (after_run k after m) m
 ran-keeps k after m waiting ready lane =
     let some = some-leave (queue_for k m).waiting ready.lane.some in
@@ -55,7 +55,7 @@ ran-keeps k after m waiting ready lane =
         stands = λ n. ran-standing k after m n waiting (ready.stands n);
       };
       fewer = omega arith;
-      ahead = omega (arith, length-append m.agenda (gone k m));
+      entry_view = omega (arith, length-append m.agenda (gone k m));
     }
 
 -- a run within a flush
@@ -66,7 +66,7 @@ idle-keeps k m ready =
     = record { others = ready.others; lane = ready.lane; stages = ready.stages; stands = ready.stands } in
     let run = ran-keeps k (with_waiting (queue_for k m)) counted (λ ws. refl) again
     (record { few = few-stay k m ready; rests = stayers-rest (shortened (queue_for k m).waiting); blocks = ready.lane.blocks }) in
-    record { within = run.within; fewer = run.fewer; ahead = run.ahead }
+    record { within = run.within; fewer = run.fewer; entry_view = run.entry_view }
 
 -- this many rounds more of a full lane queue
 counted-blocks : (lanes rounds more end : ℕ) → ((lanes * rounds) % end + more * lanes) % end ≡ (lanes * ((rounds + more) % end)) % end

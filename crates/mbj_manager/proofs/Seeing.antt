@@ -8,13 +8,13 @@ use Rattle.mbj_types.specs.declared.kind.Kind.{Kind}
 use Rattle.mbj_stage.specs.CourseState.{CourseState}
 use Rattle.mbj_stage.specs.Handing.{handed_out, taken_back}
 use Rattle.mbj_manager.specs.Machine.Stages.{Pending, pending}
-use Rattle.mbj_manager.specs.Machine.Queues.{Queue, Machine, Waiting, changed, count_end, queue_for, least, leavers, after_run, rest_of, run_within, shortened, stage_done, stayers, with_queue, with_run}
+use Rattle.mbj_manager.specs.Machine.Queues.{Queue, Machine, WaitingJob, changed, count_end, queue_for, least, leavers, after_run, rest_of, run_within, shortened, stage_done, stayers, with_queue, with_run}
 use Rattle.mbj_manager.specs.declared.lane.Cause.{Cause}
 use Rattle.mbj_manager.specs.declared.lane.Cause.TheVariants as cause
 use Rattle.mbj_manager.specs.Machine.Course.{joined, run_if_full}
 use Rattle.mbj_manager.specs.Inside.Leaving.{finishers, numbers, others, returned}
-use Rattle.mbj_manager.specs.Inside.Desk.{Desk, joined_by, led_all, ran_at, ran_if_full}
-use Rattle.mbj_manager.specs.Inside.PlacedQueue.{Ahead, PlacedQueue, Waiter, brings_in, led_waiter, placed_queue, pair_rest, rounds_in}
+use Rattle.mbj_manager.specs.Inside.QueueView.{QueueView, joined_by, led_all, ran_at, ran_if_full}
+use Rattle.mbj_manager.specs.Inside.PlacedQueue.{EntryView, PlacedQueue, PlacedEntry, brings_in, led_entry, placed_queue, pair_rest, rounds_in}
 use Rattle.mbj_manager.specs.Inside.Held.{lane_seen, machine_by, waiting}
 use Rattle.mbj_manager.proofs.Changing.{map-unchanged}
 use Rattle.mbj_manager.proofs.Lanes.{given-lane, other-lane, with_waiting, waits, again}
@@ -26,40 +26,40 @@ use Rattle.std.specs.Prelude.{drop}
 
 -- ---- lane queues
 
-least_from-seen : (n : ℕ) (ws : List Waiter) → least_of_from rest_of n (map waiting ws) ≡ least_of_from (pair_rest rounds_in) n ws
+least_from-seen : (n : ℕ) (ws : List PlacedEntry) → least_of_from rest_of n (map waiting ws) ≡ least_of_from (pair_rest rounds_in) n ws
 least_from-seen n [] = refl
 least_from-seen n (w ∷ ws) = least_from-seen (min n w.1.rounds) ws
 
-pub least-seen : (ws : List Waiter) → least (map waiting ws) ≡ least_of (pair_rest rounds_in) ws
+pub least-seen : (ws : List PlacedEntry) → least (map waiting ws) ≡ least_of (pair_rest rounds_in) ws
 least-seen [] = refl
 least-seen (w ∷ ws) = least_from-seen w.1.rounds ws
 
-led-seen : (m : ℕ) (ws : List Waiter) → map (lowered m) (map waiting ws) ≡ map waiting (map (led_waiter m) ws)
+led-seen : (m : ℕ) (ws : List PlacedEntry) → map (lowered m) (map waiting ws) ≡ map waiting (map (led_entry m) ws)
 led-seen m [] = refl
-led-seen m (w ∷ ws) = ap (λ (r : List Waiting). lowered m (waiting w) ∷ r) (led-seen m ws)
+led-seen m (w ∷ ws) = ap (λ (r : List WaitingJob). lowered m (waiting w) ∷ r) (led-seen m ws)
 
-shortened-seen : (ws : List Waiter) → shortened (map waiting ws) ≡ map waiting (led_all ws)
+shortened-seen : (ws : List PlacedEntry) → shortened (map waiting ws) ≡ map waiting (led_all ws)
 shortened-seen ws =
     ap (λ (m : ℕ). map (lowered m) (map waiting ws)) (least-seen ws) ∙ led-seen (least_of (pair_rest rounds_in) ws) ws
 
-others-seen : (ws : List Waiter) → stayers (map waiting ws) ≡ map waiting (others rounds_in ws)
+others-seen : (ws : List PlacedEntry) → stayers (map waiting ws) ≡ map waiting (others rounds_in ws)
 others-seen [] = refl
 others-seen (w ∷ ws) = elim (zero-or w.1.rounds) [
   | inl z ↦ rw z.1 (others-seen ws)
-  | inr z ↦ rw z (ap (λ (r : List Waiting). waiting w ∷ r) (others-seen ws))
+  | inr z ↦ rw z (ap (λ (r : List WaitingJob). waiting w ∷ r) (others-seen ws))
 ]
 
-leavers-seen : (ws : List Waiter) → leavers (map waiting ws) ≡ numbers (finishers rounds_in ws)
+leavers-seen : (ws : List PlacedEntry) → leavers (map waiting ws) ≡ numbers (finishers rounds_in ws)
 leavers-seen [] = refl
 leavers-seen (w ∷ ws) = elim (zero-or w.1.rounds) [
   | inl z ↦ rw z.1 (ap (λ (r : List ℕ). w.0 ∷ r) (leavers-seen ws))
   | inr z ↦ rw z (leavers-seen ws)
 ]
 
-pub gone-seen : (ws : List Waiter) → leavers (shortened (map waiting ws)) ≡ numbers (finishers rounds_in (led_all ws))
+pub gone-seen : (ws : List PlacedEntry) → leavers (shortened (map waiting ws)) ≡ numbers (finishers rounds_in (led_all ws))
 gone-seen ws = ap leavers (shortened-seen ws) ∙ leavers-seen (led_all ws)
 
-pub stay-seen : (ws : List Waiter) → stayers (shortened (map waiting ws)) ≡ map waiting (others rounds_in (led_all ws))
+pub stay-seen : (ws : List PlacedEntry) → stayers (shortened (map waiting ws)) ≡ map waiting (others rounds_in (led_all ws))
 stay-seen ws = ap stayers (shortened-seen ws) ∙ others-seen (led_all ws)
 
 -- ---- the stages that are left
@@ -70,7 +70,7 @@ map-changed f h n [] same = refl
 map-changed f h zero (c ∷ cs) same = ap (λ (x : List Pending). x ∷ map pending cs) (same c)
 map-changed f h (suc n) (c ∷ cs) same = ap (λ (x : List (List Pending)). pending c ∷ x) (map-changed f h n cs same)
 
-pub returned-seen : (cs : List CourseState) (ws : List Waiter) → map pending (returned brings_in cs ws) ≡ stage_done (numbers ws) (map pending cs)
+pub returned-seen : (cs : List CourseState) (ws : List PlacedEntry) → map pending (returned brings_in cs ws) ≡ stage_done (numbers ws) (map pending cs)
 returned-seen cs [] = refl
 returned-seen cs (w ∷ ws) =
     returned-seen (changed (taken_back w.1.brings) w.0 cs) ws
@@ -78,14 +78,14 @@ returned-seen cs (w ∷ ws) =
 
 -- ---- the machine
 
-abbrev pub lane_at : Desk → Queue
-lane_at d = lane_seen (placed_queue d.waiters d.rounds d.blocks)
+abbrev pub lane_at : QueueView → Queue
+lane_at d = lane_seen (placed_queue d.queued d.rounds d.blocks)
 
--- the machine with the desk of the kind k, and these lanes of the other kinds
-abbrev pub machine_at : Kind → (Kind → Queue) → Desk → Machine
+-- the machine with the view of the kind k's queue, and these lanes of the other kinds
+abbrev pub machine_at : Kind → (Kind → Queue) → QueueView → Machine
 machine_at k lanes d = record { left = map pending d.courses; lanes = with_queue k (lane_at d) lanes; agenda = d.agenda; flush_runs = d.flush_runs }
 
-own-lane : (k : Kind) (lanes : Kind → Queue) (d : Desk) → queue_for k (machine_at k lanes d) ≡ lane_at d
+own-lane : (k : Kind) (lanes : Kind → Queue) (d : QueueView) → queue_for k (machine_at k lanes d) ≡ lane_at d
 own-lane k lanes d = given-lane k (lane_at d) lanes
 
 abbrev machine : List (List Pending) → (Kind → Queue) → List ℕ → ℕ → Machine
@@ -95,29 +95,29 @@ same-machine : (a b : List (List Pending)) (c d : Kind → Queue) (e f : List �
 same-machine a b c d e f n x y z = rw (x, y, z) refl
 
 -- a run, whatever it counts
-ran-seen-by : (k : Kind) (lanes : Kind → Queue) (d e : Desk) (after : List Waiting → Queue) (m : Machine) → m.left ≡ map pending d.courses → m.agenda ≡ d.agenda
-    → m.lanes ≡ with_queue k (lane_at d) lanes → e.courses ≡ returned brings_in d.courses (finishers rounds_in (led_all d.waiters))
-    → e.agenda ≡ d.agenda ++ numbers (finishers rounds_in (led_all d.waiters))
-    → lane_at e ≡ after (map waiting (others rounds_in (led_all d.waiters))) → e.flush_runs ≡ m.flush_runs
+ran-seen-by : (k : Kind) (lanes : Kind → Queue) (d e : QueueView) (after : List WaitingJob → Queue) (m : Machine) → m.left ≡ map pending d.courses → m.agenda ≡ d.agenda
+    → m.lanes ≡ with_queue k (lane_at d) lanes → e.courses ≡ returned brings_in d.courses (finishers rounds_in (led_all d.queued))
+    → e.agenda ≡ d.agenda ++ numbers (finishers rounds_in (led_all d.queued))
+    → lane_at e ≡ after (map waiting (others rounds_in (led_all d.queued))) → e.flush_runs ≡ m.flush_runs
     → machine_at k lanes e ≡ after_run k after m
 ran-seen-by k lanes d e after m left agenda lanes-are cs ag lane runs =
-    let ws : (queue_for k m).waiting ≡ map waiting d.waiters = ap (λ (x : Kind → Queue). (x k).waiting) lanes-are ∙ ap (λ (l : Queue). l.waiting) (given-lane k (lane_at d) lanes) in
-    let gone : leavers (shortened (queue_for k m).waiting) ≡ numbers (finishers rounds_in (led_all d.waiters)) = ap (λ x. leavers (shortened x)) ws ∙ gone-seen d.waiters in
-    let stay : stayers (shortened (queue_for k m).waiting) ≡ map waiting (others rounds_in (led_all d.waiters)) = ap (λ x. stayers (shortened x)) ws ∙ stay-seen d.waiters in
+    let ws : (queue_for k m).waiting ≡ map waiting d.queued = ap (λ (x : Kind → Queue). (x k).waiting) lanes-are ∙ ap (λ (l : Queue). l.waiting) (given-lane k (lane_at d) lanes) in
+    let gone : leavers (shortened (queue_for k m).waiting) ≡ numbers (finishers rounds_in (led_all d.queued)) = ap (λ x. leavers (shortened x)) ws ∙ gone-seen d.queued in
+    let stay : stayers (shortened (queue_for k m).waiting) ≡ map waiting (others rounds_in (led_all d.queued)) = ap (λ x. stayers (shortened x)) ws ∙ stay-seen d.queued in
     let l : map pending e.courses ≡ stage_done (leavers (shortened (queue_for k m).waiting)) m.left
-    = ap (map pending) cs ∙ returned-seen d.courses (finishers rounds_in (led_all d.waiters)) ∙ ap₂ (λ x y. stage_done x y) (sym gone) (sym left) in
+    = ap (map pending) cs ∙ returned-seen d.courses (finishers rounds_in (led_all d.queued)) ∙ ap₂ (λ x y. stage_done x y) (sym gone) (sym left) in
     let n : with_queue k (lane_at e) lanes ≡ with_queue k (after (stayers (shortened (queue_for k m).waiting))) m.lanes
     = ap (λ x. with_queue k x lanes) (lane ∙ ap after (sym stay)) ∙ sym (again k (after (stayers (shortened (queue_for k m).waiting))) (lane_at d) lanes)
     ∙ ap (with_queue k (after (stayers (shortened (queue_for k m).waiting)))) (sym lanes-are) in
     let a : e.agenda ≡ m.agenda ++ leavers (shortened (queue_for k m).waiting) = ag ∙ ap₂ (λ x y. x ++ y) (sym agenda) (sym gone) in
     same-machine _ _ _ _ _ _ e.flush_runs l n a ∙ ap (λ r. record (after_run k after m) { flush_runs = r }) runs
 
-pub run-seen : (at : Cause) (k : Kind) (lanes : Kind → Queue) (d : Desk) → machine_at k lanes (ran_at at d) ≡ run_within at k (machine_at k lanes d)
+pub run-seen : (at : Cause) (k : Kind) (lanes : Kind → Queue) (d : QueueView) → machine_at k lanes (ran_at at d) ≡ run_within at k (machine_at k lanes d)
 run-seen cause.Submit k lanes d =
     let m = machine_at k lanes d in
     let own = own-lane k lanes d in
-    let lane : lane_at (ran_at cause.Submit d) ≡ with_run (queue_for k m) (map waiting (others rounds_in (led_all d.waiters)))
-    = rw own (let a = least-seen d.waiters in let b = length-map d.waiters waiting in rw (a, b) refl) in
+    let lane : lane_at (ran_at cause.Submit d) ≡ with_run (queue_for k m) (map waiting (others rounds_in (led_all d.queued)))
+    = rw own (let a = least-seen d.queued in let b = length-map d.queued waiting in rw (a, b) refl) in
     ran-seen-by k lanes d (ran_at cause.Submit d) (with_run (queue_for k m)) m refl refl refl refl refl lane refl
 run-seen cause.Flush k lanes d =
     let m = machine_at k lanes d in
@@ -126,7 +126,7 @@ run-seen cause.Flush k lanes d =
     ran-seen-by k lanes d (ran_at cause.Flush d) (with_waiting (queue_for k m)) counted refl refl refl refl refl (rw own refl) refl
 
 -- a job that joins
-joined-seen : (k : Kind) (lanes : Kind → Queue) (n : ℕ) (a : Ahead) (d : Desk)
+joined-seen : (k : Kind) (lanes : Kind → Queue) (n : ℕ) (a : EntryView) (d : QueueView)
     → machine_at k lanes (joined_by n a d)
     ≡ record (machine_at k lanes d) {
       lanes = with_queue k (with_waiting (queue_for k (machine_at k lanes d)) ((queue_for k (machine_at k lanes d)).waiting ++ waits n a.rounds ∷ [])) (with_queue k (lane_at d) lanes);
@@ -135,30 +135,30 @@ joined-seen k lanes n a d =
     let m = machine_at k lanes d in
     let own = own-lane k lanes d in
     let lane : lane_at (joined_by n a d) ≡ with_waiting (queue_for k m) ((queue_for k m).waiting ++ waits n a.rounds ∷ [])
-    = rw own (ap (λ (r : List Waiting). record { waiting = r; rounds = d.rounds; blocks = d.blocks }) (map-append waiting d.waiters ((n, a) ∷ []))) in
+    = rw own (ap (λ (r : List WaitingJob). record { waiting = r; rounds = d.rounds; blocks = d.blocks }) (map-append waiting d.queued ((n, a) ∷ []))) in
     same-machine _ _ _ _ _ _ d.flush_runs (map-unchanged pending handed_out pending-out n d.courses)
     (ap (λ x. with_queue k x lanes) lane ∙ sym (again k (with_waiting (queue_for k m) ((queue_for k m).waiting ++ waits n a.rounds ∷ [])) (lane_at d) lanes)) refl
 
-either : (at : Cause) (k : Kind) (lanes : Kind → Queue) (b : Bool) (d : Desk)
+either : (at : Cause) (k : Kind) (lanes : Kind → Queue) (b : Bool) (d : QueueView)
     → machine_at k lanes (cond b (ran_at at d) d) ≡ cond b (run_within at k (machine_at k lanes d)) (machine_at k lanes d)
 either at k lanes true d = run-seen at k lanes d
 either at k lanes false d = refl
 
 -- a job that joins, and the run of the lane queue where it is full then
-pub enters-seen : (at : Cause) (k : Kind) (lanes : Kind → Queue) (n : ℕ) (a : Ahead) (d : Desk)
+pub enters-seen : (at : Cause) (k : Kind) (lanes : Kind → Queue) (n : ℕ) (a : EntryView) (d : QueueView)
     → machine_at k lanes (ran_if_full at (lanes_of k) (joined_by n a d)) ≡ joined at k n a.rounds (machine_at k lanes d)
 enters-seen at k lanes n a d =
     let j = joined_by n a d in
-    let size : length j.waiters ≡ length (queue_for k (machine_at k lanes j)).waiting
-    = sym (length-map j.waiters waiting) ∙ ap (λ (l : Queue). length l.waiting) (sym (own-lane k lanes j)) in
-    either at k lanes (length j.waiters == lanes_of k) j
+    let size : length j.queued ≡ length (queue_for k (machine_at k lanes j)).waiting
+    = sym (length-map j.queued waiting) ∙ ap (λ (l : Queue). length l.waiting) (sym (own-lane k lanes j)) in
+    either at k lanes (length j.queued == lanes_of k) j
     ∙ ap (λ (x : ℕ). cond (x == lanes_of k) (run_within at k (machine_at k lanes j)) (machine_at k lanes j)) size
     ∙ ap (run_if_full at k) (joined-seen k lanes n a d)
 
 -- the machine of all kinds, by one of them
-pub by-desk : (k : Kind) (lines after : Kind → PlacedQueue) (d : Desk) → after k ≡ placed_queue d.waiters d.rounds d.blocks → ((j : Kind) → j ≢ k → after j ≡ lines j)
+pub by-queue_view : (k : Kind) (lines after : Kind → PlacedQueue) (d : QueueView) → after k ≡ placed_queue d.queued d.rounds d.blocks → ((j : Kind) → j ≢ k → after j ≡ lines j)
     → machine_by d.courses d.agenda after d.flush_runs ≡ machine_at k (λ j. lane_seen (lines j)) d
-by-desk k lines after d own others =
+by-queue_view k lines after d own others =
     same-machine _ _ _ _ _ _ d.flush_runs refl (fun_ext (λ j. elim (same-kind j k) [
       | inl e ↦ subst (λ i. lane_seen (after i) ≡ with_queue k (lane_at d) (λ j. lane_seen (lines j)) i) (sym e)
           (ap lane_seen own ∙ sym (given-lane k (lane_at d) (λ j. lane_seen (lines j))))

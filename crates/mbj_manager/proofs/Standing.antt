@@ -4,7 +4,7 @@ use Rattle.std.proofs.lemmas.Bool.{cases_lt}
 use Rattle.std.proofs.lemmas.List.Sums.{sum_by-append}
 use Rattle.mbj_types.specs.declared.kind.Kind.{Kind}
 use Rattle.mbj_manager.specs.Machine.Stages.{Pending, at_once, in_lanes}
-use Rattle.mbj_manager.specs.Machine.Queues.{Waiting, Queue, Machine, queue_for, leavers, after_run, shortened, stayers}
+use Rattle.mbj_manager.specs.Machine.Queues.{WaitingJob, Queue, Machine, queue_for, leavers, after_run, shortened, stayers}
 use Rattle.mbj_manager.specs.Machine.Between.{IsPlaced, times_in}
 use Rattle.mbj_manager.specs.Inside.Standing.{Stands, left_at, times}
 use Rattle.mbj_manager.proofs.Lanes.{each-lane}
@@ -38,7 +38,7 @@ abbrev pub gone : Kind → Machine → List ℕ
 gone k m = leavers (shortened (queue_for k m).waiting)
 
 -- and those that stay
-abbrev pub stayed : Kind → Machine → List Waiting
+abbrev pub stayed : Kind → Machine → List WaitingJob
 stayed k m = stayers (shortened (queue_for k m).waiting)
 
 -- who stood in the lane queue leaves it or stays
@@ -74,7 +74,7 @@ placed-once k m n (in_lanes i rest ∷ left) placed there = elim (same-kind k i)
 ]
 
 -- a job that doesn't leave
-stays-standing : (k : Kind) (after : List Waiting → Queue) (m : Machine) (n : ℕ) → ((ws : List Waiting) → (after ws).waiting ≡ ws)
+stays-standing : (k : Kind) (after : List WaitingJob → Queue) (m : Machine) (n : ℕ) → ((ws : List WaitingJob) → (after ws).waiting ≡ ws)
     → times n (gone k m) ≡ 0 → Stands m n → Stands (after_run k after m) n
 stays-standing k after m n waiting none stands =
     let here : times_in n (after (stayed k m)).waiting ≡ times_in n (queue_for k m).waiting
@@ -86,7 +86,7 @@ stays-standing k after m n waiting none stands =
     (stage-stays n (gone k m) m.left none) agenda stands
 
 -- a job that leaves stands in the agenda then
-leaves-standing : (k : Kind) (after : List Waiting → Queue) (m : Machine) (n : ℕ) → ((ws : List Waiting) → (after ws).waiting ≡ ws)
+leaves-standing : (k : Kind) (after : List WaitingJob → Queue) (m : Machine) (n : ℕ) → ((ws : List WaitingJob) → (after ws).waiting ≡ ws)
     → 0 < times n (gone k m) → Stands m n → Stands (after_run k after m) n
 leaves-standing k after m n waiting some stands =
     let all = gone-or-stayed k m n in
@@ -102,7 +102,7 @@ leaves-standing k after m n waiting some stands =
     ]
 
 -- each job stands in one place once the lane queue ran
-pub ran-standing : (k : Kind) (after : List Waiting → Queue) (m : Machine) (n : ℕ) → ((ws : List Waiting) → (after ws).waiting ≡ ws)
+pub ran-standing : (k : Kind) (after : List WaitingJob → Queue) (m : Machine) (n : ℕ) → ((ws : List WaitingJob) → (after ws).waiting ≡ ws)
     → Stands m n → Stands (after_run k after m) n
 ran-standing k after m n waiting stands = elim (cases_lt 0 (times n (gone k m))) [
   | inl some ↦ leaves-standing k after m n waiting some stands

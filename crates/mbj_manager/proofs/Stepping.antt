@@ -24,7 +24,7 @@ use Rattle.mbj_manager.specs.Inside.Steps.{steps_ahead}
 record Follows (after m : Machine) : Type 0 where
   within : IsInCourse after
   fewer : stages_left after.left ≤ stages_left m.left
-  ahead : steps_ahead after ≤ steps_ahead m
+  entry_view : steps_ahead after ≤ steps_ahead m
 
 -- the job n is out of the agenda and goes on; else the machine is as it is after each step
 pub record IsTaken (n : ℕ) (m : Machine) : Type 0 where
@@ -107,7 +107,7 @@ joins at k n rest left m taken next =
     cond_both (length (queue_for k g).waiting == lanes_of k) (run_within at k g) g (λ after. Follows after m)
     (λ full. (let run = run-keeps at k g ready (eqb-true (length (queue_for k g).waiting) (lanes_of k) full) in
     let fewer = run.fewer in
-    record { within = run.within; fewer = omega arith; ahead = run.ahead }))
+    record { within = run.within; fewer = omega arith; entry_view = run.entry_view }))
     (λ room. record {
       within = record {
         lanes = each-lane IsLane k l m.lanes
@@ -117,7 +117,7 @@ joins at k n rest left m taken next =
         stands = ready.stands;
       };
       fewer = omega arith;
-      ahead = omega arith;
+      entry_view = omega arith;
     })
 
 -- ---- a job is taken
@@ -159,7 +159,7 @@ goes at n [] m taken next in_lanes_now = record {
     ];
   };
   fewer = omega arith;
-  ahead = omega arith;
+  entry_view = omega arith;
 }
 goes at n (at_once ∷ left) m taken next in_lanes_now = elim (in_lanes_now left refl) [ ]
 goes at n (in_lanes k rest ∷ left) m taken next in_lanes_now = joins at k n rest left m taken next
@@ -168,7 +168,7 @@ goes at n (in_lanes k rest ∷ left) m taken next in_lanes_now = joins at k n re
 pub record IsStep (after m : Machine) : Type 0 where
   pub within : IsInCourse after
   pub fewer : stages_left after.left ≤ stages_left m.left
-  pub ahead : steps_ahead after < steps_ahead m
+  pub entry_view : steps_ahead after < steps_ahead m
 
 -- a step that takes the agenda's first job
 pub steps : (at : Cause) (n : ℕ) (agenda : List ℕ) (m : Machine) → m.agenda ≡ n ∷ agenda → IsInCourse m
@@ -178,7 +178,7 @@ steps at n agenda m first within =
     let go = goes at n (in_lanes_next (left_at n m.left)) t (takes n agenda m first within)
     (at-changed in_lanes_next [] refl n m.left) (next-in-lanes (left_at n m.left)) in
     let fewer = go.fewer in
-    let ahead = go.ahead in
+    let entry_view = go.entry_view in
     let stages = no-more-stages n m.left in
     let one : length m.agenda ≡ 1 + length agenda = ap length first ∙ omega arith in
-    record { within = go.within; fewer = omega arith; ahead = omega arith }
+    record { within = go.within; fewer = omega arith; entry_view = omega arith }

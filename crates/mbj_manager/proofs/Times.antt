@@ -4,7 +4,7 @@ use Rattle.std.specs.Prelude.{sum_by, filter}
 use Rattle.std.proofs.lemmas.Bool.{eq-eqb, ne_eqb, cond-true, cond-false}
 use Rattle.std.proofs.lemmas.List.Sums.{sum_by-cons, sum_by_push}
 use Rattle.std.proofs.lemmas.List.Filters.{sum_by-filter_both}
-use Rattle.mbj_manager.specs.Machine.Queues.{Waiting, least, shortened, leavers, stayers}
+use Rattle.mbj_manager.specs.Machine.Queues.{WaitingJob, least, shortened, leavers, stayers}
 use Rattle.mbj_manager.specs.Machine.Between.{times_in}
 use Rattle.mbj_manager.specs.Inside.Standing.{times}
 use Rattle.mbj_manager.proofs.Lanes.{waits}
@@ -29,22 +29,22 @@ sum_by-map w f [] = refl
 sum_by-map w f (x ∷ xs) = sum_by-cons w (f x) (map f xs) ∙ ap (λ n. w (f x) + n) (sum_by-map w f xs) ∙ sym (sum_by-cons (λ x. w (f x)) x xs)
 
 -- a run takes nobody off the lane queue but those who leave
-pub times-leave : (n : ℕ) (ws : List Waiting) → times n (leavers ws) + times_in n (stayers ws) ≡ times_in n ws
+pub times-leave : (n : ℕ) (ws : List WaitingJob) → times n (leavers ws) + times_in n (stayers ws) ≡ times_in n ws
 times-leave n ws =
     ap (λ t. t + times_in n (stayers ws)) (sum_by-map (λ k. cond (k == n) 1 0) (λ w. w.number) (filter is_at_end ws))
     ∙ sum_by-filter_both is_at_end (λ w. not (is_at_end w)) (λ w. refl) (λ w. cond (w.number == n) 1 0) ws
 
 -- a run lowers the rests alone
-pub times-shortened : (n : ℕ) (ws : List Waiting) → times_in n (shortened ws) ≡ times_in n ws
+pub times-shortened : (n : ℕ) (ws : List WaitingJob) → times_in n (shortened ws) ≡ times_in n ws
 times-shortened n ws = sum_by-map (λ w. cond (w.number == n) 1 0) (lowered (least ws)) ws
 
 -- a job that joins a lane queue stands there once more
-pub times-joined : (n rest : ℕ) (ws : List Waiting) → times_in n (ws ++ waits n rest ∷ []) ≡ times_in n ws + 1
+pub times-joined : (n rest : ℕ) (ws : List WaitingJob) → times_in n (ws ++ waits n rest ∷ []) ≡ times_in n ws + 1
 times-joined n rest ws = sum_by_push (λ w. cond (w.number == n) 1 0) ws (waits n rest)
     ∙ ap (λ t. times_in n ws + t) (cond-true (n == n) 1 0 (eq-eqb n n refl))
 
 -- another job stands there as often as before
-pub times-joined-other : (m n rest : ℕ) (ws : List Waiting) → n ≢ m → times_in m (ws ++ waits n rest ∷ []) ≡ times_in m ws
+pub times-joined-other : (m n rest : ℕ) (ws : List WaitingJob) → n ≢ m → times_in m (ws ++ waits n rest ∷ []) ≡ times_in m ws
 times-joined-other m n rest ws ne =
     let same : times_in m (ws ++ waits n rest ∷ []) ≡ times_in m ws + 0
     = sum_by_push (λ w. cond (w.number == m) 1 0) ws (waits n rest) ∙ ap (λ t. times_in m ws + t) (cond-false (n == m) 1 0 (ne_eqb n m ne)) in

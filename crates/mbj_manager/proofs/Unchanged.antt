@@ -3,7 +3,7 @@ use Rattle.std.proofs.Common.{◌≡◌, ℕ, ◌==◌, zero, suc, Bool, true, f
 use Rattle.mbj_types.specs.declared.kind.Kind.{Kind}
 use Rattle.mbj_types.specs.Kinds.{lanes_of}
 use Rattle.mbj_manager.specs.Machine.Stages.{Pending, at_once, in_lanes}
-use Rattle.mbj_manager.specs.Machine.Queues.{Machine, Waiting, changed, queue_for, run_within, with_queue}
+use Rattle.mbj_manager.specs.Machine.Queues.{Machine, WaitingJob, changed, queue_for, run_within, with_queue}
 use Rattle.mbj_manager.specs.declared.lane.Cause.{Cause}
 use Rattle.mbj_manager.specs.declared.lane.Cause.TheVariants as cause
 use Rattle.mbj_manager.specs.Machine.Course.{course, flush_step_at, flushed, goes_on, in_lanes_next, joined, stages_left, stepped, stepped_at}
@@ -14,7 +14,7 @@ use Rattle.mbj_manager.proofs.Steps.{after_steps, after_flush_steps}
 -- what f reads of a machine stays as it is when a lane queue runs, a job joins one, or the agenda's first is taken
 pub record IsUnchanged {A : Type 0} (f : Machine → A) (at : Cause) : Type 0 where
   pub runs : (k : Kind) (m : Machine) → f (run_within at k m) ≡ f m
-  pub joins : (k : Kind) (ws : List Waiting) (m : Machine)
+  pub joins : (k : Kind) (ws : List WaitingJob) (m : Machine)
       → f (record m { lanes = with_queue k (with_waiting (queue_for k m) ws) m.lanes }) ≡ f m
   pub takes : (n : ℕ) (agenda : List ℕ) (m : Machine)
       → f (record m { left = changed in_lanes_next n m.left; agenda = agenda }) ≡ f m

@@ -6,7 +6,7 @@ use Rattle.mbj_stage.specs.Steps.{steps_of}
 use Rattle.mbj_stage.specs.CourseState.{CourseState}
 use Rattle.mbj_stage.specs.Handing.{End, IsOut, owed_with, taken_back, without_packet}
 use Rattle.mbj_manager.specs.Machine.Stages.{pending}
-use Rattle.mbj_manager.specs.Machine.Queues.{Waiting}
+use Rattle.mbj_manager.specs.Machine.Queues.{WaitingJob}
 use Rattle.mbj_manager.specs.State.{ManagerState}
 
 -- the steps that are left of a course are its job's last ones
@@ -15,7 +15,7 @@ pub record HasJobSteps (c : CourseState) : Type 0 where
   pub are : before ++ c.left ≡ steps_of c.job
 
 -- an entry that ends as e is that of the job w, which waits in the lanes of the kind k
-pub record IsEntryOf (k : Kind) (h : ManagerState) (e : End) (w : Waiting) : Type 0 where
+pub record IsEntryOf (k : Kind) (h : ManagerState) (e : End) (w : WaitingJob) : Type 0 where
   -- the job's course, which has the entry out
   pub course : CourseState
   pub out : IsOut k e course
@@ -29,7 +29,7 @@ pub record IsEntryOf (k : Kind) (h : ManagerState) (e : End) (w : Waiting) : Typ
   pub owed : slice_get h.owed w.number ≡ Some (owed_with e course)
 
 -- the entries that end so are those of the jobs that wait: as many, and in the same order
-abbrev pub AreEntriesOf : Kind → ManagerState → List End → List Waiting → Type 0
+abbrev pub AreEntriesOf : Kind → ManagerState → List End → List WaitingJob → Type 0
 AreEntriesOf k h [] [] = Unit {0}
 AreEntriesOf k h (e ∷ es) (w ∷ ws) = IsEntryOf k h e w × AreEntriesOf k h es ws
 AreEntriesOf k h _ _ = ⊥

@@ -3,7 +3,7 @@ pub mod Leaving
 pub mod Joining
 pub mod Courses
 pub mod Contents
-pub mod Desk
+pub mod QueueView
 pub mod LaneQueues
 pub mod Steps
 pub mod Standing

@@ -5,12 +5,12 @@ use Rattle.mbj_types.specs.declared.job.Job.{Job}
 use Rattle.mbj_types.specs.declared.refusal.RingFull.{RingFull}
 use Rattle.mbj_types.specs.contracts.job.Job.{the_row as job_row}
 use Rattle.mbj_manager.specs.State.{ManagerState, with_open, with_open_at}
-use Rattle.mbj_manager.specs.contracts.works.Works.{the_row as works_row}
+use Rattle.mbj_manager.specs.contracts.engine.Engine.{the_row as engine_row}
 use Rattle.mbj_manager.specs.contracts.manager.Manager.{the_row}
 
 -- open job i of the works is what was last written through r
 abbrev pub LendsOpenJob : MutBor ManagerState → ℕ → MutBor Job → Fml
-LendsOpenJob w i r = Lends works_row job_row w r (with_open_at w.now i)
+LendsOpenJob w i r = Lends engine_row job_row w r (with_open_at w.now i)
 
 -- open job i is what was last written through r
 abbrev pub LendsOpen : MutBor ManagerState → ℕ → MutBor Job → Fml

@@ -10,7 +10,7 @@ use Rattle.mbj_stage.specs.CourseState.{begun}
 use Rattle.mbj_stage.specs.Keys.{counts_expansion}
 use Rattle.mbj_stage.specs.Handing.{without_packet}
 use Rattle.mbj_manager.specs.Machine.Stages.{Pending, pending}
-use Rattle.mbj_manager.specs.Machine.Queues.{Waiting, Queue, Machine, count_end, idle_queue, queue_for}
+use Rattle.mbj_manager.specs.Machine.Queues.{WaitingJob, Queue, Machine, count_end, idle_queue, queue_for}
 use Rattle.mbj_manager.specs.declared.lane.Cause.TheVariants as cause
 use Rattle.mbj_manager.specs.Machine.Course.{course, flushed}
 
@@ -68,7 +68,7 @@ after_get_next_burst n h = with_blanks (min n (CELLS - length h.owed) - length h
 
 -- the lanes of a kind once the first job left: each number is one lower
 abbrev pub renumbered : Queue → Queue
-renumbered l = record l { waiting = map (λ (w : Waiting). record w { number = w.number - 1 }) l.waiting }
+renumbered l = record l { waiting = map (λ (w : WaitingJob). record w { number = w.number - 1 }) l.waiting }
 
 -- the earliest job's result is given back where that job is finished
 abbrev pub given_at : List Done → List (List Pending) → ManagerState → Option Done × ManagerState

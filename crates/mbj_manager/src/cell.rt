@@ -16,7 +16,7 @@ ghost use Rattle.mbj_manager.specs.Inside.Courses.{Follows};
 ghost use Rattle.mbj_manager.specs.Inside.Leaving.{Gives};
 
 use mbj_aes::Schedule;
-use mbj_stage::{Course, Feed, Stage};
+use mbj_stage::{Course, JobKernel, Stage};
 use mbj_types::{Done, Job, Status, Tag};
 use std::alloc::{AllocError, Global};
 use std::marker::Model;

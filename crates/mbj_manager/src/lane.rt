@@ -8,13 +8,13 @@ ghost use Rattle.mbj_manager.specs.Machine.Queues.{changed};
 ghost use Rattle.mbj_manager.specs.Inside.Courses.{AreCourses, Follows, IsSameRing, courses, ring_number};
 ghost use Rattle.mbj_manager.specs.Inside.Leaving.{At};
 ghost use Rattle.mbj_manager.specs.Inside.PlacedQueue.{numbered};
-ghost use Rattle.mbj_manager.specs.Inside.Desk.{Enters, IsReady, Listed, MayEnter, desk_at, left_now, ran_at};
+ghost use Rattle.mbj_manager.specs.Inside.QueueView.{Enters, IsReady, Listed, MayEnter, queue_view_at, left_now, ran_at};
 ghost use Rattle.mbj_stage.specs.CourseState.{CourseState};
 
 use crate::agenda::Agenda;
 use crate::cell_ring::CellRing;
 use crate::lane_queue::LaneQueue;
-use mbj_stage::{Feed, Stage};
+use mbj_stage::{JobKernel, Stage};
 
 /// The call within which a lane queue runs.
 #[derive(Clone, Copy)]
@@ -37,14 +37,14 @@ pub(crate) fn run_nows(ring: &mut CellRing, place: u32) -> Stage
 }
 
 /// Jobs whose rounds are done leave the lane queue, in its order: their entries go back to the courses, which join the agenda.
-fn leave<K: Feed>(queue: &mut LaneQueue<K>, ring: &mut CellRing, agenda: &mut Agenda)
+fn leave<K: JobKernel>(queue: &mut LaneQueue<K>, ring: &mut CellRing, agenda: &mut Agenda)
     requires ring { AreCourses ring.old }
-    requires listed { Listed K.kind (courses ring.old) (numbered (ring_number ring.old) queue.old.waiters) }
-    requires room { length agenda.old.places.items + length queue.old.waiters ≤ vec_capacity agenda.old.places }
+    requires listed { Listed K.kind (courses ring.old) (numbered (ring_number ring.old) queue.old.queued) }
+    requires room { length agenda.old.places.items + length queue.old.queued ≤ vec_capacity agenda.old.places }
     ensures ring { IsSameRing ring.new ring.old }
     ensures room { vec_capacity agenda.new.places ≡ vec_capacity agenda.old.places }
-    ensures left { desk_at (ring_number ring.old) (courses ring.new) agenda.new.places.items queue.new 0
-        ≡ left_now (desk_at (ring_number ring.old) (courses ring.old) agenda.old.places.items queue.old 0) }
+    ensures left { queue_view_at (ring_number ring.old) (courses ring.new) agenda.new.places.items queue.new 0
+        ≡ left_now (queue_view_at (ring_number ring.old) (courses ring.old) agenda.old.places.items queue.old 0) }
 {
     'leaving: loop {
         match queue.leave(ring) {
@@ -58,7 +58,7 @@ fn leave<K: Feed>(queue: &mut LaneQueue<K>, ring: &mut CellRing, agenda: &mut Ag
 
 /// The lane queue runs for its least rest, within a submit, where all its lanes are occupied, or within a flush; and those whose rounds are
 /// done leave. The run goes into the counts of that call.
-pub(crate) fn run_within<K: Feed>(
+pub(crate) fn run_within<K: JobKernel>(
     cause: Cause,
     queue: &mut LaneQueue<K>,
     flush_runs: &mut u64,
@@ -66,13 +66,13 @@ pub(crate) fn run_within<K: Feed>(
     agenda: &mut Agenda,
 )
     requires ring { AreCourses ring.old }
-    requires ready { IsReady K.kind (desk_at (ring_number ring.old) (courses ring.old) agenda.old.places.items queue.old flush_runs.old)
+    requires ready { IsReady K.kind (queue_view_at (ring_number ring.old) (courses ring.old) agenda.old.places.items queue.old flush_runs.old)
         (vec_capacity agenda.old.places) }
-    requires full { cause ≡ Cause.Submit → length queue.old.waiters ≡ lanes_of K.kind }
+    requires full { cause ≡ Cause.Submit → length queue.old.queued ≡ lanes_of K.kind }
     ensures ring { IsSameRing ring.new ring.old }
     ensures room { vec_capacity agenda.new.places ≡ vec_capacity agenda.old.places }
-    ensures ran { desk_at (ring_number ring.old) (courses ring.new) agenda.new.places.items queue.new flush_runs.new
-        ≡ ran_at cause (desk_at (ring_number ring.old) (courses ring.old) agenda.old.places.items queue.old flush_runs.old) }
+    ensures ran { queue_view_at (ring_number ring.old) (courses ring.new) agenda.new.places.items queue.new flush_runs.new
+        ≡ ran_at cause (queue_view_at (ring_number ring.old) (courses ring.old) agenda.old.places.items queue.old flush_runs.old) }
 {
     let m = queue.run();
     leave(queue, ring, agenda);
@@ -83,7 +83,7 @@ pub(crate) fn run_within<K: Feed>(
 }
 
 /// The course at a place goes into the lane queue, which runs where it is full then.
-pub(crate) fn enter<K: Feed>(
+pub(crate) fn enter<K: JobKernel>(
     cause: Cause,
     queue: &mut LaneQueue<K>,
     flush_runs: &mut u64,
@@ -95,12 +95,12 @@ pub(crate) fn enter<K: Feed>(
     requires ring { AreCourses ring.old }
     requires place { place < CELLS }
     requires may { MayEnter (lanes_of K.kind) K.kind (ring_number ring.old place)
-        (desk_at (ring_number ring.old) (courses ring.old) agenda.old.places.items queue.old flush_runs.old) (vec_capacity agenda.old.places) }
+        (queue_view_at (ring_number ring.old) (courses ring.old) agenda.old.places.items queue.old flush_runs.old) (vec_capacity agenda.old.places) }
     ensures ring { IsSameRing ring.new ring.old }
     ensures room { vec_capacity agenda.new.places ≡ vec_capacity agenda.old.places }
     ensures entered { Enters cause (lanes_of K.kind) K.kind (ring_number ring.old place)
-        (desk_at (ring_number ring.old) (courses ring.old) agenda.old.places.items queue.old flush_runs.old)
-        (desk_at (ring_number ring.old) (courses ring.new) agenda.new.places.items queue.new flush_runs.new) }
+        (queue_view_at (ring_number ring.old) (courses ring.old) agenda.old.places.items queue.old flush_runs.old)
+        (queue_view_at (ring_number ring.old) (courses ring.new) agenda.new.places.items queue.new flush_runs.new) }
 {
     queue.join(ring, place);
     if queue.len() == K::LANES {

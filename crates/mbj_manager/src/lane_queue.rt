@@ -8,38 +8,38 @@ ghost use Rattle.mbj_manager.specs.Machine.Queues.{changed, count_end};
 ghost use Rattle.mbj_manager.specs.Inside.Courses.{AreCourses, IsSameRing, courses, ring_number};
 ghost use Rattle.mbj_manager.specs.Inside.Leaving.{At, Gives};
 ghost use Rattle.mbj_manager.specs.Inside.Joining.{Joins};
-ghost use Rattle.mbj_manager.specs.Inside.PlacedQueue.{HasRest, Takes, Waiter, Waits, ended, led_queue, no_queue, pair_rest, rounds_in};
+ghost use Rattle.mbj_manager.specs.Inside.PlacedQueue.{HasRest, Takes, PlacedEntry, Waits, ended, led_queue, no_queue, pair_rest, rounds_in};
 
 use crate::cell::Cell;
 use crate::cell_ring::CellRing;
 use mbj_lane::Lanes;
-use mbj_stage::Feed;
+use mbj_stage::JobKernel;
 use std::alloc::{AllocError, Global};
 use std::marker::Model;
 
 /// The jobs of a kind that wait for lanes, each by its place in the ring and with its entry, in the order in which they came; and how many
 /// rounds and blocks the kind's full runs took, modulo 2^64.
 #[derive(Drop)]
-pub struct LaneQueue<K: Feed> {
+pub struct LaneQueue<K: JobKernel> {
     /// The entries, each with the place of its job.
     lanes: Lanes<K>,
     rounds: u64,
     blocks: u64,
 }
 
-impl<K: Feed> Model for LaneQueue<K> {
+impl<K: JobKernel> Model for LaneQueue<K> {
     ghost use Rattle.std.specs.Prelude.{◌≡◌, ◌<◌, length, All};
     ghost use Rattle.mbj_ring.specs.declared.ring.TheConstants.{CELLS};
-    ghost use Rattle.mbj_manager.specs.Inside.PlacedQueue.{PlacedQueue, placed_queue, waiters_of};
+    ghost use Rattle.mbj_manager.specs.Inside.PlacedQueue.{PlacedQueue, placed_queue, queued_of};
 
     ghost Value = { PlacedQueue };
 
-    ghost view = { λ q. placed_queue (waiters_of K.round K.rest_of K.brings q.lanes.places q.lanes.entries) q.rounds q.blocks };
+    ghost view = { λ q. placed_queue (queued_of K.round K.rest_of K.brings q.lanes.places q.lanes.entries) q.rounds q.blocks };
 
     ghost invariant = { λ q. (length q.lanes.places ≡ length q.lanes.entries) × All (λ p. p < CELLS) q.lanes.places };
 }
 
-impl<K: Feed> LaneQueue<K> {
+impl<K: JobKernel> LaneQueue<K> {
     /// An empty lane queue. It takes the memory for as many jobs as the kind has lanes; no other call takes any.
     pub(crate) fn new(alloc: Global) -> Result<LaneQueue<K>, AllocError>
         ensures { IfOk result (λ q. q ≡ no_queue) }
@@ -53,7 +53,7 @@ impl<K: Feed> LaneQueue<K> {
 
     /// How many wait.
     pub(crate) fn len(&self) -> u32
-        ensures { result ≡ length self.now.waiters }
+        ensures { result ≡ length self.now.queued }
     {
         self.lanes.len()
     }
@@ -74,8 +74,8 @@ impl<K: Feed> LaneQueue<K> {
 
     /// The entries.
     pub(crate) fn lanes(&self) -> &Lanes<K>
-        ensures rests { map K.rest_of result.now.entries ≡ map (pair_rest rounds_in) self.now.waiters }
-        ensures ends { map (λ e. K.brings (end_of K.round K.rest_of e)) result.now.entries ≡ map (λ w. w.1.brings) self.now.waiters }
+        ensures rests { map K.rest_of result.now.entries ≡ map (pair_rest rounds_in) self.now.queued }
+        ensures ends { map (λ e. K.brings (end_of K.round K.rest_of e)) result.now.entries ≡ map (λ w. w.1.brings) self.now.queued }
     {
         &self.lanes
     }
@@ -86,7 +86,7 @@ impl<K: Feed> LaneQueue<K> {
         requires fits { K.fits }
         requires ring { AreCourses ring.old }
         requires place { place < CELLS }
-        requires free { length self.old.waiters < K.LANES }
+        requires free { length self.old.queued < K.LANES }
         requires next { At (IsNext K.kind) (ring_number ring.old place) (courses ring.old) }
         ensures ring { IsSameRing ring.new ring.old }
         ensures out { courses ring.new ≡ changed handed_out (ring_number ring.old place) (courses ring.old) }
@@ -98,9 +98,9 @@ impl<K: Feed> LaneQueue<K> {
 
     /// All run for the least rest among them, and it returns that number.
     pub(crate) fn run(&mut self) -> u32
-        requires some { 0 < length self.old.waiters }
-        requires rests { All HasRest self.old.waiters }
-        ensures least { result ≡ least (pair_rest rounds_in) self.old.waiters }
+        requires some { 0 < length self.old.queued }
+        requires rests { All HasRest self.old.queued }
+        ensures least { result ≡ least (pair_rest rounds_in) self.old.queued }
         ensures led { self.new ≡ led_queue result self.old }
     {
         self.lanes.run_shortest()
@@ -110,7 +110,7 @@ impl<K: Feed> LaneQueue<K> {
     #[inline(always)]
     pub(crate) fn leave(&mut self, ring: &mut CellRing) -> Option<u32>
         requires ring { AreCourses ring.old }
-        requires out { (place : ℕ) (e : End) (ws : List Waiter) → taken (pair_rest rounds_in) self.old.waiters ≡ Some ((place, ended e), ws)
+        requires out { (place : ℕ) (e : End) (ws : List PlacedEntry) → taken (pair_rest rounds_in) self.old.queued ≡ Some ((place, ended e), ws)
             → At (IsOut K.kind e) (ring_number ring.old place) (courses ring.old) }
         ensures ring { IsSameRing ring.new ring.old }
         ensures place { MatchOption result (Unit {0}) (λ p. p < CELLS) }
@@ -144,7 +144,7 @@ impl<K: Feed> LaneQueue<K> {
 
 /// The packet of the course in a cell goes out into a slot.
 #[inline(always)]
-fn join_from<K: Feed>(lanes: &mut Lanes<K>, place: u32, cell: &mut Cell)
+fn join_from<K: JobKernel>(lanes: &mut Lanes<K>, place: u32, cell: &mut Cell)
     requires fits { K.fits }
     requires going { IsGoing cell.old }
     requires free { length lanes.old.entries < K.LANES }
@@ -160,7 +160,7 @@ fn join_from<K: Feed>(lanes: &mut Lanes<K>, place: u32, cell: &mut Cell)
 
 /// The entry at position `k` of the lanes goes back to the course in a cell.
 #[inline(always)]
-fn leave_to<K: Feed>(lanes: &mut Lanes<K>, k: usize, cell: &mut Cell)
+fn leave_to<K: JobKernel>(lanes: &mut Lanes<K>, k: usize, cell: &mut Cell)
     requires going { IsGoing cell.old }
     requires position { k < length lanes.old.entries }
     requires done { (d : K.Entry) → K.rest_of (slice_index_or lanes.old.entries k d) ≡ 0 }

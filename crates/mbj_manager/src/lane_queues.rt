@@ -4,9 +4,9 @@ ghost use Rattle.std.specs.Prelude.{◌≡◌, ◌<◌, ◌≤◌, IfOk, vec_cap
 ghost use Rattle.mbj_types.specs.Kinds.{lanes_of};
 ghost use Rattle.mbj_ring.specs.declared.ring.TheConstants.{CELLS};
 ghost use Rattle.mbj_manager.specs.Inside.Courses.{AreCourses, IsSameRing, courses, ring_number};
-ghost use Rattle.mbj_manager.specs.Inside.Desk.{Enters, IsReady, MayEnter, ran_at};
+ghost use Rattle.mbj_manager.specs.Inside.QueueView.{Enters, IsReady, MayEnter, ran_at};
 ghost use Rattle.mbj_manager.specs.Inside.PlacedQueue.{no_queue};
-ghost use Rattle.mbj_manager.specs.Inside.LaneQueues.{desk_of, placed_in, no_queues, waiting_in, with_placed};
+ghost use Rattle.mbj_manager.specs.Inside.LaneQueues.{queue_view_of, placed_in, no_queues, waiting_in, with_placed};
 
 use crate::agenda::Agenda;
 use crate::cell_ring::CellRing;
@@ -16,7 +16,7 @@ use mbj_cbc::CbcKernel;
 use mbj_ccm::CcmKernel;
 use mbj_cmac::CmacKernel;
 use mbj_hmac::{Hmac1Kernel, Hmac256Kernel, Hmac512Kernel};
-use mbj_stage::Feed;
+use mbj_stage::JobKernel;
 use mbj_types::Kind;
 use std::alloc::{AllocError, Global};
 
@@ -72,7 +72,9 @@ macro_rules! at_kind {
 type Three<A, B, C> = (LaneQueue<A>, LaneQueue<B>, LaneQueue<C>);
 
 /// Three empty lane queues.
-fn three<A: Feed, B: Feed, C: Feed>(alloc: Global) -> Result<Three<A, B, C>, AllocError>
+fn three<A: JobKernel, B: JobKernel, C: JobKernel>(
+    alloc: Global,
+) -> Result<Three<A, B, C>, AllocError>
     ensures first { IfOk result (λ q. q.0 ≡ no_queue) }
     ensures second { IfOk result (λ q. q.1 ≡ no_queue) }
     ensures third { IfOk result (λ q. q.2 ≡ no_queue) }
@@ -122,12 +124,12 @@ impl LaneQueues {
         requires ring { AreCourses ring.old }
         requires place { place < CELLS }
         requires may { MayEnter (lanes_of kind) kind (ring_number ring.old place)
-            (desk_of kind (ring_number ring.old) (courses ring.old) agenda.old.places.items self.old) (vec_capacity agenda.old.places) }
+            (queue_view_of kind (ring_number ring.old) (courses ring.old) agenda.old.places.items self.old) (vec_capacity agenda.old.places) }
         ensures ring { IsSameRing ring.new ring.old }
         ensures room { vec_capacity agenda.new.places ≡ vec_capacity agenda.old.places }
         ensures entered { Enters cause (lanes_of kind) kind (ring_number ring.old place)
-            (desk_of kind (ring_number ring.old) (courses ring.old) agenda.old.places.items self.old)
-            (desk_of kind (ring_number ring.old) (courses ring.new) agenda.new.places.items self.new) }
+            (queue_view_of kind (ring_number ring.old) (courses ring.old) agenda.old.places.items self.old)
+            (queue_view_of kind (ring_number ring.old) (courses ring.new) agenda.new.places.items self.new) }
         ensures others { self.new ≡ with_placed kind (placed_in kind self.new) self.new.flush_runs self.old }
     {
         macro_rules! enter_at {
@@ -141,12 +143,12 @@ impl LaneQueues {
     /// The lane queue of a kind runs within a flush.
     pub(crate) fn run(&mut self, kind: Kind, ring: &mut CellRing, agenda: &mut Agenda)
         requires ring { AreCourses ring.old }
-        requires ready { IsReady kind (desk_of kind (ring_number ring.old) (courses ring.old) agenda.old.places.items self.old)
+        requires ready { IsReady kind (queue_view_of kind (ring_number ring.old) (courses ring.old) agenda.old.places.items self.old)
             (vec_capacity agenda.old.places) }
         ensures ring { IsSameRing ring.new ring.old }
         ensures room { vec_capacity agenda.new.places ≡ vec_capacity agenda.old.places }
-        ensures ran { desk_of kind (ring_number ring.old) (courses ring.new) agenda.new.places.items self.new
-            ≡ ran_at Cause.Flush (desk_of kind (ring_number ring.old) (courses ring.old) agenda.old.places.items self.old) }
+        ensures ran { queue_view_of kind (ring_number ring.old) (courses ring.new) agenda.new.places.items self.new
+            ≡ ran_at Cause.Flush (queue_view_of kind (ring_number ring.old) (courses ring.old) agenda.old.places.items self.old) }
         ensures others { self.new ≡ with_placed kind (placed_in kind self.new) self.new.flush_runs self.old }
     {
         macro_rules! run_at {

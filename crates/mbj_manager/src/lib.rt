@@ -9,13 +9,13 @@ mod calls;
 mod cell;
 mod cell_ring;
 mod counts;
+mod engine;
 mod first;
+mod has_queue;
 mod lane;
 mod lane_queue;
 mod lane_queues;
 mod manager;
-mod queued;
-mod works;
 
 pub use between::{
     calls_keep_the_machine, enough_steps_give_one_machine, machines_stay_between_calls,
@@ -31,12 +31,12 @@ pub use cell::CellContents;
 pub use cell_ring::CellRing;
 pub use counts::counts_are_kept_apart;
 #[doc(hidden)]
+pub use engine::Engine;
+pub use has_queue::HasQueue;
+#[doc(hidden)]
 pub use lane::Cause;
 #[doc(hidden)]
 pub use lane_queue::LaneQueue;
 #[doc(hidden)]
 pub use lane_queues::LaneQueues;
 pub use manager::{KEPT_BYTES, Manager, SMALL_BYTES};
-pub use queued::Queued;
-#[doc(hidden)]
-pub use works::Works;

@@ -15,8 +15,8 @@ ghost use Rattle.mbj_manager.specs.Lending.{LendsNext, LendsOpen};
 
 mod in_cells;
 
-use crate::queued::Queued;
-use crate::works::Works;
+use crate::engine::Engine;
+use crate::has_queue::HasQueue;
 use mbj_aes::Schedule;
 use mbj_keys::{Keys, Notes};
 use mbj_lane::Lanes;
@@ -52,7 +52,7 @@ pub const KEPT_BYTES: usize = 2048;
 /// ```
 #[derive(Drop)]
 pub struct Manager {
-    works: Works,
+    engine: Engine,
     // For how many submitted jobs the key of the cipher is expanded, modulo 2^64.
     expansions: u64,
 }
@@ -67,10 +67,10 @@ impl Model for Manager {
 
     ghost coded = { state_code (Prim.hlevel codes) };
 
-    ghost view = { λ m. record (m.works) { expansions = m.expansions } };
+    ghost view = { λ m. record (m.engine) { expansions = m.expansions } };
 
     // Between calls no job is between two stages, and none has more than two left.
-    ghost invariant = { λ m. IsSettled m.works };
+    ghost invariant = { λ m. IsSettled m.engine };
 }
 
 impl Manager {
@@ -105,9 +105,9 @@ impl Manager {
     fn with_most(alloc: Global, most: usize) -> Result<Manager, AllocError>
         ensures { IfOk result (λ m. m ≡ new_manager) }
     {
-        let works = Works::new(alloc, most)?;
+        let engine = Engine::new(alloc, most)?;
         Ok(Manager {
-            works,
+            engine,
             expansions: 0,
         })
     }
@@ -125,7 +125,7 @@ impl Manager {
         if self.is_full() {
             return Err(RingFull);
         }
-        self.works.open_first();
+        self.engine.open_first();
         Ok(self.burst_mut(0))
     }
 
@@ -134,7 +134,7 @@ impl Manager {
         ensures full { IsTrue result ↔ (length self.now.owed ≡ CELLS) }
         ensures room { OnFalse result (length self.now.owed < CELLS) }
     {
-        self.works.len() == CELLS
+        self.engine.len() == CELLS
     }
 
     /// Where no cell is left, flushes the earliest job and gives it back.
@@ -167,7 +167,7 @@ impl Manager {
         ensures size { result ≡ length self.new.opened }
         ensures within { length self.new.owed + result ≤ CELLS }
     {
-        self.works.open_burst(n)
+        self.engine.open_burst(n)
     }
 
     /// Lends the job in open cell `i`, the first opened being 0, to be filled. What is written there is that open job.
@@ -176,7 +176,7 @@ impl Manager {
         ensures* lends { sem 𝓛 (LendsOpen self.entry i result) }
         ensures value { slice_get self.old.opened i ≡ Some result.now }
     {
-        self.works.open_job(i)
+        self.engine.open_job(i)
     }
 
     /// Submits the first open job as it is then. Its stages are done as far as lanes run for it; then the earliest job is given back, where
@@ -226,7 +226,7 @@ impl Manager {
         ensures found { is_some result ≡ finds notes.old self.old.opened }
         ensures schedule { IfSome result (λ s. IfSome (slice_get self.old.opened 0) (λ j. IsScheduleOf j.key s.now)) }
     {
-        let job = self.works.open_job(0);
+        let job = self.engine.open_job(0);
         keys.schedule_for(notes, job.session, job.key.as_slice())
     }
 
@@ -269,20 +269,20 @@ impl Manager {
         requires schedule { IfSome found (λ s. IfSome (slice_get self.old.opened 0) (λ j. IsScheduleOf j.key s.now)) }
         ensures { self.new ≡ counted (is_some found.entry) self.old (entered self.old) }
     {
-        let is_expanded = self.works.enter(found);
+        let is_expanded = self.engine.enter(found);
         self.expansions = self.expansions.wrapping_add(u64::from(is_expanded));
     }
 
     /// How many bytes of memory the idle cells keep.
     pub fn held(&self) -> usize {
-        self.works.held()
+        self.engine.held()
     }
 
     /// Frees the memory that the idle cells keep.
     pub fn trim(&mut self)
         ensures { self.new ≡ self.old }
     {
-        self.works.trim();
+        self.engine.trim();
     }
 
     /// For how many submitted jobs the key of the cipher is expanded, modulo 2^64: each job that is accepted and has a cipher, unless the
@@ -305,7 +305,7 @@ impl Manager {
         ensures some { IsEarliestFinished self.old → IsSome result }
         ensures order { option_to_list result ++ self.new.owed ≡ self.old.owed }
     {
-        self.works.give()
+        self.engine.give()
     }
 
     /// Finishes the earliest job, and gives it back. Open cells stay as they are. Lane queues run twice at most for each job that
@@ -321,8 +321,8 @@ impl Manager {
         ensures runs { RisesUpTo (2 * length self.old.owed) self.old.machine.flush_runs self.new.machine.flush_runs }
         ensures order { option_to_list result ++ self.new.owed ≡ self.old.owed }
     {
-        self.works.flush_first();
-        self.works.give()
+        self.engine.flush_first();
+        self.engine.give()
     }
 
     /// How many jobs are submitted and not given back, at most `CELLS`.
@@ -330,32 +330,32 @@ impl Manager {
         ensures size { result ≡ length self.now.owed }
         ensures within { result ≤ CELLS }
     {
-        self.works.len()
+        self.engine.len()
     }
 
     /// How many jobs of a kind wait for lanes.
     pub fn waiting(&self, kind: Kind) -> u32
         ensures { result ≡ length (queue_for kind self.now.machine).waiting }
     {
-        self.works.waiting(kind)
+        self.engine.waiting(kind)
     }
 
     /// The entries of the jobs of K's kind that wait for lanes: as many entries as jobs, and in their order. An entry has as many rounds
     /// left as its job. The job's own course has its packet out, with the job's keys, IV, data and ranges and with the last of its steps
     /// left. Once the entry's rounds are done and it is taken back, the course leads to the job's result.
-    pub fn lanes<K: Queued>(&self) -> &Lanes<K>
+    pub fn lanes<K: HasQueue>(&self) -> &Lanes<K>
         ensures rests { map K.rest_of result.now.entries ≡ map rest_of (queue_for K.kind self.now.machine).waiting }
         ensures entries { AreEntriesOf K.kind self.now (map (λ e. K.brings (end_of K.round K.rest_of e)) result.now.entries)
             (queue_for K.kind self.now.machine).waiting }
     {
-        self.works.lanes::<K>()
+        self.engine.lanes::<K>()
     }
 
     /// How many rounds the full runs of a kind took, modulo 2^64.
     pub fn rounds(&self, kind: Kind) -> u64
         ensures { result ≡ (queue_for kind self.now.machine).rounds }
     {
-        self.works.rounds(kind)
+        self.engine.rounds(kind)
     }
 
     /// How many blocks went through the full runs of a kind, modulo 2^64: as many as its lanes in each round.
@@ -363,13 +363,13 @@ impl Manager {
         ensures blocks { result ≡ (queue_for kind self.now.machine).blocks }
         ensures full { result ≡ (lanes_of kind * (queue_for kind self.now.machine).rounds) % count_end }
     {
-        self.works.blocks(kind)
+        self.engine.blocks(kind)
     }
 
     /// How many runs there were within `flush`, modulo 2^64.
     pub fn flush_runs(&self) -> u64
         ensures { result ≡ self.now.machine.flush_runs }
     {
-        self.works.flush_runs()
+        self.engine.flush_runs()
     }
 }

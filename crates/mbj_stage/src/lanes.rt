@@ -17,7 +17,7 @@ ghost use Rattle.mbj_stage.specs.Handing.{IsHandedOut, IsNext, IsOut, taken_back
 ghost use Rattle.mbj_stage.specs.Ends.{cbc_end, ccm_end, cmac_end, hmac_end};
 
 use crate::course::Course;
-use crate::feed::Feed;
+use crate::job_kernel::JobKernel;
 use mbj_cbc::{CbcEntry, CbcKernel};
 use mbj_ccm::{CcmEntry, CcmKernel};
 use mbj_cmac::{CmacEntry, CmacKernel};

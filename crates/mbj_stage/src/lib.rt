@@ -6,9 +6,9 @@ mod ccm;
 mod cipher;
 mod course;
 mod entries;
-mod feed;
 mod gcm;
 mod gmac;
+mod job_kernel;
 mod keyed;
 mod lanes;
 mod laws;
@@ -17,7 +17,7 @@ mod stage;
 mod tag;
 
 pub use course::Course;
-pub use feed::{Feed, HashKind};
+pub use job_kernel::{HashKind, JobKernel};
 pub use laws::{
     a_course_owes_the_same_while_it_is_out, each_kind_has_its_kernel, results_keep_length,
 };

@@ -75,16 +75,16 @@ fn put_counters(blocks: &mut [[u8; 16]], counter: u128)
 
 // The enciphered counters from `counter` on, `many` of them, which are at most four.
 #[inline(always)]
-fn masks_of(key: &TextKey, counter: u128, many: usize) -> [[u8; 16]; BATCH_BLOCKS]
+fn outputs_of(key: &TextKey, counter: u128, many: usize) -> [[u8; 16]; BATCH_BLOCKS]
     requires { many ≤ BATCH_BLOCKS }
     ensures length { length result ≡ BATCH_BLOCKS }
-    ensures masks { IsKeyStream (encipher key.now) counter (take many result) }
+    ensures outputs { IsKeyStream (encipher key.now) counter (take many result) }
 {
-    let mut masks = [[0; BLOCK_BYTES]; BATCH_BLOCKS];
-    let first = &mut masks[..many];
+    let mut outputs = [[0; BLOCK_BYTES]; BATCH_BLOCKS];
+    let first = &mut outputs[..many];
     put_counters(first, counter);
     key.encrypt(first);
-    masks
+    outputs
 }
 
 // The blocks of a text from block `first` on.
@@ -96,8 +96,8 @@ fn xor_from(key: &TextKey, first_counter: u128, text: &mut [u8], first: usize)
     let mut counter = first_counter;
     'batches: for b in 0..left.div_ceil(BATCH_BLOCKS) {
         let here = (left - BATCH_BLOCKS * b).min(BATCH_BLOCKS);
-        let masks = masks_of(key, counter, here);
-        xor_blocks(text, first + BATCH_BLOCKS * b, &masks[..here]);
+        let outputs = outputs_of(key, counter, here);
+        xor_blocks(text, first + BATCH_BLOCKS * b, &outputs[..here]);
         counter = counter.wrapping_add(BATCH_BLOCKS as u128);
     }
 }
@@ -119,8 +119,8 @@ pub fn xor_counters_after(key: &Schedule, counter: u128, text: &mut [u8]) -> [u8
 {
     let key = TextKey::new(key);
     let here = text.len().div_ceil(BLOCK_BYTES).min(BATCH_BLOCKS - 1);
-    let masks = masks_of(&key, counter, here + 1);
-    xor_blocks(text, 0, &masks[1..here + 1]);
+    let outputs = outputs_of(&key, counter, here + 1);
+    xor_blocks(text, 0, &outputs[1..here + 1]);
     xor_from(&key, counter.wrapping_add(BATCH_BLOCKS as u128), text, here);
-    masks[0]
+    outputs[0]
 }

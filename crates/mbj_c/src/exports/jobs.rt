@@ -1,10 +1,10 @@
 //! Jobs: filling them, submitting them, and taking their results, one by one or in bursts.
 
 ghost use Rattle.std.specs.Prelude.{◌≡◌, ◌≢◌, length, Ok, false};
-ghost use Rattle.mbj_c.specs.Bursts.{IsBurstTaken, IsBurstTold, after_giving};
+ghost use Rattle.mbj_c.specs.Bursts.{IsBurstTaken, IsBurstReturned, after_giving};
 ghost use Rattle.mbj_c.specs.Codes.{code_of, refusal_code};
 ghost use Rattle.mbj_c.specs.Filling.{filled, filled_cell};
-ghost use Rattle.mbj_c.specs.Giving.{IsDrained, IsTold, answered};
+ghost use Rattle.mbj_c.specs.Giving.{IsDrained, IsReturned, answered};
 ghost use Rattle.mbj_c.specs.Submitting.{IsSubmitted};
 ghost use Rattle.mbj_c.specs.declared.giving.Call.TheVariants as call;
 ghost use Rattle.mbj_c.specs.declared.refusal.Refusal.TheVariants.{Memory};
@@ -46,7 +46,7 @@ pub extern "C" fn mbj_c_submit(
     refusal: &mut u32,
 ) -> bool
     ensures state { handle.new.manager ≡ (answered call.Submit handle.old.manager out.old).1 }
-    ensures told { IsTold (answered call.Submit handle.old.manager out.old).0 result refusal.new out.old out.new }
+    ensures returned { IsReturned (answered call.Submit handle.old.manager out.old).0 result refusal.new out.old out.new }
 {
     calls::give(alloc, handle, Call::Submit, out, refusal)
 }
@@ -88,7 +88,7 @@ pub extern "C" fn mbj_c_get_completed(
     refusal: &mut u32,
 ) -> bool
     ensures state { handle.new.manager ≡ (answered call.Completed handle.old.manager out.old).1 }
-    ensures told { IsTold (answered call.Completed handle.old.manager out.old).0 result refusal.new out.old out.new }
+    ensures returned { IsReturned (answered call.Completed handle.old.manager out.old).0 result refusal.new out.old out.new }
 {
     calls::give(alloc, handle, Call::Completed, out, refusal)
 }
@@ -103,7 +103,7 @@ pub extern "C" fn mbj_c_flush(
     refusal: &mut u32,
 ) -> bool
     ensures state { handle.new.manager ≡ (answered call.Flush handle.old.manager out.old).1 }
-    ensures told { IsTold (answered call.Flush handle.old.manager out.old).0 result refusal.new out.old out.new }
+    ensures returned { IsReturned (answered call.Flush handle.old.manager out.old).0 result refusal.new out.old out.new }
     ensures drained { result ≡ false → refusal.new ≡ 0 → IsDrained handle.old.manager }
 {
     calls::give(alloc, handle, Call::Flush, out, refusal)
@@ -132,12 +132,12 @@ pub extern "C" fn mbj_c_submit_burst(
     alloc: Global,
     handle: &mut Handle,
     outs: &mut [RawDone<'_>],
-    told: &mut RawBurst,
+    returned: &mut RawBurst,
 )
     ensures state { handle.new.manager ≡ (after_giving (length outs.old) call.Submit outs.old handle.old.manager).state }
-    ensures told { IsBurstTold (after_giving (length outs.old) call.Submit outs.old handle.old.manager) told.new outs.old outs.new }
+    ensures returned { IsBurstReturned (after_giving (length outs.old) call.Submit outs.old handle.old.manager) returned.new outs.old outs.new }
 {
-    bursts::give(alloc, handle, Call::Submit, outs, told);
+    bursts::give(alloc, handle, Call::Submit, outs, returned);
 }
 
 /// Makes `mbj_c_get_completed` as many times as there is room for a result, and gives the results as `mbj_c_submit_burst` does.
@@ -146,12 +146,12 @@ pub extern "C" fn mbj_c_get_completed_burst(
     alloc: Global,
     handle: &mut Handle,
     outs: &mut [RawDone<'_>],
-    told: &mut RawBurst,
+    returned: &mut RawBurst,
 )
     ensures state { handle.new.manager ≡ (after_giving (length outs.old) call.Completed outs.old handle.old.manager).state }
-    ensures told { IsBurstTold (after_giving (length outs.old) call.Completed outs.old handle.old.manager) told.new outs.old outs.new }
+    ensures returned { IsBurstReturned (after_giving (length outs.old) call.Completed outs.old handle.old.manager) returned.new outs.old outs.new }
 {
-    bursts::give(alloc, handle, Call::Completed, outs, told);
+    bursts::give(alloc, handle, Call::Completed, outs, returned);
 }
 
 /// Makes `mbj_c_flush` as many times as there is room for a result, and gives the results as `mbj_c_submit_burst` does.
@@ -160,10 +160,10 @@ pub extern "C" fn mbj_c_flush_burst(
     alloc: Global,
     handle: &mut Handle,
     outs: &mut [RawDone<'_>],
-    told: &mut RawBurst,
+    returned: &mut RawBurst,
 )
     ensures state { handle.new.manager ≡ (after_giving (length outs.old) call.Flush outs.old handle.old.manager).state }
-    ensures told { IsBurstTold (after_giving (length outs.old) call.Flush outs.old handle.old.manager) told.new outs.old outs.new }
+    ensures returned { IsBurstReturned (after_giving (length outs.old) call.Flush outs.old handle.old.manager) returned.new outs.old outs.new }
 {
-    bursts::give(alloc, handle, Call::Flush, outs, told);
+    bursts::give(alloc, handle, Call::Flush, outs, returned);
 }

@@ -142,9 +142,9 @@ pub extern "C" fn mbj_c_collect_burst(
     alloc: Global,
     handle: &mut SeatHandle,
     outs: &mut [RawDone<'_>],
-    told: &mut RawBurst,
+    returned: &mut RawBurst,
 )
-    ensures { IsBurstCollected handle.old.seat outs.old told.new outs.new handle.new.seat }
+    ensures { IsBurstCollected handle.old.seat outs.old returned.new outs.new handle.new.seat }
 {
-    seat_bursts::collect(alloc, handle, outs, told);
+    seat_bursts::collect(alloc, handle, outs, returned);
 }

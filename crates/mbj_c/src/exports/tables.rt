@@ -2,8 +2,8 @@
 
 ghost use Rattle.std.specs.Prelude.{◌≡◌};
 ghost use Rattle.mbj_c.specs.Codes.{code_of};
-ghost use Rattle.mbj_c.specs.Direct.{digest_said, put_both, schedules_said, subkeys_said};
-ghost use Rattle.mbj_c.specs.Stored.{put_in, state_said, states_said};
+ghost use Rattle.mbj_c.specs.Direct.{digest_by_code, put_both, checked_schedules, checked_subkeys};
+ghost use Rattle.mbj_c.specs.Stored.{put_in, state_by_code, states_by_code};
 
 use crate::refusal::code;
 use crate::{direct, stored};
@@ -17,8 +17,8 @@ use crate::{direct, stored};
 /// than the states. A refused call writes nothing.
 #[unsafe(no_mangle)]
 pub extern "C" fn mbj_hmac_states(hash: u32, key: &[u8], out: &mut [u8]) -> u32
-    ensures answer { result ≡ code_of (put_in (states_said hash key.now) out.old).0 }
-    ensures written { out.new ≡ (put_in (states_said hash key.now) out.old).1 }
+    ensures answer { result ≡ code_of (put_in (states_by_code hash key.now) out.old).0 }
+    ensures written { out.new ≡ (put_in (states_by_code hash key.now) out.old).1 }
 {
     code(stored::put_states(hash, key, out))
 }
@@ -32,8 +32,8 @@ pub extern "C" fn mbj_hmac_states(hash: u32, key: &[u8], out: &mut [u8]) -> u32
 /// writes nothing.
 #[unsafe(no_mangle)]
 pub extern "C" fn mbj_one_block(hash: u32, block: &[u8], out: &mut [u8]) -> u32
-    ensures answer { result ≡ code_of (put_in (state_said hash block.now) out.old).0 }
-    ensures written { out.new ≡ (put_in (state_said hash block.now) out.old).1 }
+    ensures answer { result ≡ code_of (put_in (state_by_code hash block.now) out.old).0 }
+    ensures written { out.new ≡ (put_in (state_by_code hash block.now) out.old).1 }
 {
     code(stored::put_one_block(hash, block, out))
 }
@@ -46,8 +46,8 @@ pub extern "C" fn mbj_one_block(hash: u32, block: &[u8], out: &mut [u8]) -> u32
 /// is shorter than a schedule. A refused call writes nothing.
 #[unsafe(no_mangle)]
 pub extern "C" fn mbj_aes_keys(key: &[u8], encryption: &mut [u8], decryption: &mut [u8]) -> u32
-    ensures answer { result ≡ code_of (put_both (schedules_said key.now) (encryption.old, decryption.old)).0 }
-    ensures written { (encryption.new, decryption.new) ≡ (put_both (schedules_said key.now) (encryption.old, decryption.old)).1 }
+    ensures answer { result ≡ code_of (put_both (checked_schedules key.now) (encryption.old, decryption.old)).0 }
+    ensures written { (encryption.new, decryption.new) ≡ (put_both (checked_schedules key.now) (encryption.old, decryption.old)).1 }
 {
     code(direct::put_schedules(key, encryption, decryption))
 }
@@ -59,8 +59,8 @@ pub extern "C" fn mbj_aes_keys(key: &[u8], encryption: &mut [u8], decryption: &m
 /// room is shorter than 16 bytes. A refused call writes nothing.
 #[unsafe(no_mangle)]
 pub extern "C" fn mbj_cmac_subkeys(key: &[u8], first: &mut [u8], second: &mut [u8]) -> u32
-    ensures answer { result ≡ code_of (put_both (subkeys_said key.now) (first.old, second.old)).0 }
-    ensures written { (first.new, second.new) ≡ (put_both (subkeys_said key.now) (first.old, second.old)).1 }
+    ensures answer { result ≡ code_of (put_both (checked_subkeys key.now) (first.old, second.old)).0 }
+    ensures written { (first.new, second.new) ≡ (put_both (checked_subkeys key.now) (first.old, second.old)).1 }
 {
     code(direct::put_subkeys(key, first, second))
 }
@@ -72,8 +72,8 @@ pub extern "C" fn mbj_cmac_subkeys(key: &[u8], first: &mut [u8], second: &mut [u
 /// digest. A refused call writes nothing.
 #[unsafe(no_mangle)]
 pub extern "C" fn mbj_digest(hash: u32, text: &[u8], out: &mut [u8]) -> u32
-    ensures answer { result ≡ code_of (put_in (digest_said hash text.now) out.old).0 }
-    ensures written { out.new ≡ (put_in (digest_said hash text.now) out.old).1 }
+    ensures answer { result ≡ code_of (put_in (digest_by_code hash text.now) out.old).0 }
+    ensures written { out.new ≡ (put_in (digest_by_code hash text.now) out.old).1 }
 {
     code(direct::put_digest(hash, text, out))
 }

@@ -2,7 +2,7 @@
 
 ghost use Rattle.std.specs.Prelude.{◌≡◌, ◌≢◌, ℕ, Bool, List, [], ◌++◌, length, take, drop, IfOk, Ok, true, false};
 ghost use Rattle.mbj_c.specs.Codes.{code_of, refusal_code};
-ghost use Rattle.mbj_c.specs.Direct.{begun_said, ccm_accepts, ccm_opened, ccm_said, changed, ends, gcm_opened, gcm_said, goes_on};
+ghost use Rattle.mbj_c.specs.Direct.{begun_by_code, ccm_accepts, ccm_opened, checked_ccm, changed, ends, gcm_opened, checked_gcm, goes_on};
 ghost use Rattle.mbj_direct.specs.Parts.{HasTaken, blank_state};
 ghost use Rattle.mbj_types.specs.Aes.{aes};
 ghost use Rattle.mbj_types.specs.Gcm.{gcm, gcm_text};
@@ -28,8 +28,8 @@ pub extern "C" fn mbj_gcm_seal(
     text: &mut [u8],
     tag: &mut [u8],
 ) -> u32
-    ensures answer { result ≡ code_of (changed (gcm_said key.now iv.now aad.now true (text.old, tag.old)) (text.old, tag.old)).0 }
-    ensures written { (text.new, tag.new) ≡ (changed (gcm_said key.now iv.now aad.now true (text.old, tag.old)) (text.old, tag.old)).1 }
+    ensures answer { result ≡ code_of (changed (checked_gcm key.now iv.now aad.now true (text.old, tag.old)) (text.old, tag.old)).0 }
+    ensures written { (text.new, tag.new) ≡ (changed (checked_gcm key.now iv.now aad.now true (text.old, tag.old)) (text.old, tag.old)).1 }
 {
     code(direct::gcm_seal(key, iv, aad, text, tag))
 }
@@ -64,8 +64,8 @@ pub extern "C" fn mbj_gcm_decrypt_unverified(
     text: &mut [u8],
     tag: &mut [u8],
 ) -> u32
-    ensures answer { result ≡ code_of (changed (gcm_said key.now iv.now aad.now false (text.old, tag.old)) (text.old, tag.old)).0 }
-    ensures written { (text.new, tag.new) ≡ (changed (gcm_said key.now iv.now aad.now false (text.old, tag.old)) (text.old, tag.old)).1 }
+    ensures answer { result ≡ code_of (changed (checked_gcm key.now iv.now aad.now false (text.old, tag.old)) (text.old, tag.old)).0 }
+    ensures written { (text.new, tag.new) ≡ (changed (checked_gcm key.now iv.now aad.now false (text.old, tag.old)) (text.old, tag.old)).1 }
 {
     code(direct::gcm_decrypt_unverified(key, iv, aad, text, tag))
 }
@@ -83,9 +83,9 @@ pub extern "C" fn mbj_gcm_init(
     iv: &[u8],
     aad: &[u8],
 ) -> u32
-    ensures answer { result ≡ code_of (begun_said dir key.now iv.now) }
+    ensures answer { result ≡ code_of (begun_by_code dir key.now iv.now) }
     ensures refused { result ≢ 0 → state.new ≡ state.old }
-    ensures begun { result ≡ 0 → IfOk (begun_said dir key.now iv.now) (λ d. HasTaken key.now iv.now aad.now (is_enc d) [] state.new) }
+    ensures begun { result ≡ 0 → IfOk (begun_by_code dir key.now iv.now) (λ d. HasTaken key.now iv.now aad.now (is_enc d) [] state.new) }
 {
     code(direct::gcm_begin(dir, key, iv, aad, state))
 }
@@ -142,13 +142,13 @@ pub extern "C" fn mbj_ccm_seal(
     tag: &mut [u8],
 ) -> u32
     ensures want_of_memory { result ≡ refusal_code Memory
-        → (changed (ccm_said key.now nonce.now aad.now true (text.old, tag.old)) (text.old, tag.old)).0 ≡ Ok tt }
+        → (changed (checked_ccm key.now nonce.now aad.now true (text.old, tag.old)) (text.old, tag.old)).0 ≡ Ok tt }
     ensures unchanged { result ≡ refusal_code Memory → text.new ≡ text.old }
     ensures unchanged_tag { result ≡ refusal_code Memory → tag.new ≡ tag.old }
     ensures answer { result ≢ refusal_code Memory
-        → result ≡ code_of (changed (ccm_said key.now nonce.now aad.now true (text.old, tag.old)) (text.old, tag.old)).0 }
+        → result ≡ code_of (changed (checked_ccm key.now nonce.now aad.now true (text.old, tag.old)) (text.old, tag.old)).0 }
     ensures written { result ≢ refusal_code Memory
-        → (text.new, tag.new) ≡ (changed (ccm_said key.now nonce.now aad.now true (text.old, tag.old)) (text.old, tag.old)).1 }
+        → (text.new, tag.new) ≡ (changed (checked_ccm key.now nonce.now aad.now true (text.old, tag.old)) (text.old, tag.old)).1 }
 {
     code(direct::ccm_change(alloc, Dir::Enc, key, nonce, aad, text, tag))
 }
@@ -189,13 +189,13 @@ pub extern "C" fn mbj_ccm_decrypt_unverified(
     tag: &mut [u8],
 ) -> u32
     ensures want_of_memory { result ≡ refusal_code Memory
-        → (changed (ccm_said key.now nonce.now aad.now false (text.old, tag.old)) (text.old, tag.old)).0 ≡ Ok tt }
+        → (changed (checked_ccm key.now nonce.now aad.now false (text.old, tag.old)) (text.old, tag.old)).0 ≡ Ok tt }
     ensures unchanged { result ≡ refusal_code Memory → text.new ≡ text.old }
     ensures unchanged_tag { result ≡ refusal_code Memory → tag.new ≡ tag.old }
     ensures answer { result ≢ refusal_code Memory
-        → result ≡ code_of (changed (ccm_said key.now nonce.now aad.now false (text.old, tag.old)) (text.old, tag.old)).0 }
+        → result ≡ code_of (changed (checked_ccm key.now nonce.now aad.now false (text.old, tag.old)) (text.old, tag.old)).0 }
     ensures written { result ≢ refusal_code Memory
-        → (text.new, tag.new) ≡ (changed (ccm_said key.now nonce.now aad.now false (text.old, tag.old)) (text.old, tag.old)).1 }
+        → (text.new, tag.new) ≡ (changed (checked_ccm key.now nonce.now aad.now false (text.old, tag.old)) (text.old, tag.old)).1 }
 {
     code(direct::ccm_change(alloc, Dir::Dec, key, nonce, aad, text, tag))
 }

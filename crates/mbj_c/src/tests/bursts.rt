@@ -3,7 +3,7 @@ ghost use Rattle.mbj_types.specs.declared.limits.TheConstants.{MAX_TAG_BYTES};
 
 use super::*;
 
-/// The codes of refusals, as C is told them.
+/// The codes of refusals, as they are returned to C.
 const WORD: u32 = 22;
 
 const NO_MANAGER: u32 = 24;
@@ -12,7 +12,7 @@ const NO_JOB: u32 = 25;
 
 const NO_ROOM: u32 = 26;
 
-/// What is told before a burst.
+/// What is returned before a burst.
 const UNTOLD: RawBurst = RawBurst {
     made: 99,
     given: 99,
@@ -30,13 +30,13 @@ fn room<'a>(dst: &'a mut [u8], tag: &'a mut [u8]) -> RawDone<'a> {
     }
 }
 
-fn expect_burst(rt: &impl Abort, told: RawBurst, made: usize, given: usize, refusal: u32) {
+fn expect_burst(rt: &impl Abort, returned: RawBurst, made: usize, given: usize, refusal: u32) {
     let expected = RawBurst {
         made,
         given,
         refusal,
     };
-    assert_eq!(rt; told, expected);
+    assert_eq!(rt; returned, expected);
 }
 
 /// Fills a job that authenticates, one with a code that is none, and one that enciphers.
@@ -61,11 +61,11 @@ fn flush_to_rooms(
     second_tag: &mut [u8],
 ) {
     let mut outs = [room(first_dst, first_tag), room(second_dst, second_tag)];
-    let mut told = UNTOLD;
-    mbj_c_submit_burst(alloc, handle, &mut outs, &mut told);
-    expect_burst(rt, told, 2, 0, 0);
-    mbj_c_flush_burst(alloc, handle, &mut outs, &mut told);
-    expect_burst(rt, told, 2, 2, 0);
+    let mut returned = UNTOLD;
+    mbj_c_submit_burst(alloc, handle, &mut outs, &mut returned);
+    expect_burst(rt, returned, 2, 0, 0);
+    mbj_c_flush_burst(alloc, handle, &mut outs, &mut returned);
+    expect_burst(rt, returned, 2, 2, 0);
 }
 
 /// A room with these bytes at its front, and behind them what it had before.
@@ -114,9 +114,9 @@ fn expect_refused(
 ) {
     let mut tag = [0xee; MAX_TAG_BYTES];
     let mut outs = [room(dst, &mut tag)];
-    let mut told = UNTOLD;
-    mbj_c_submit_burst(alloc, handle, &mut outs, &mut told);
-    expect_burst(rt, told, 0, 0, refusal);
+    let mut returned = UNTOLD;
+    mbj_c_submit_burst(alloc, handle, &mut outs, &mut returned);
+    expect_burst(rt, returned, 0, 0, refusal);
 }
 
 #[test]
@@ -149,11 +149,11 @@ fn check_completed(rt: &impl Abort, alloc: Global, handle: &mut Handle) {
 fn expect_refused_after(rt: &impl Abort, alloc: Global, handle: &mut Handle) {
     let (mut first, mut second) = ([0xee; MAX_TAG_BYTES], [0xee; MAX_TAG_BYTES]);
     let mut outs = [room(&mut [], &mut first), room(&mut [], &mut second)];
-    let mut told = UNTOLD;
-    mbj_c_submit_burst(alloc, handle, &mut outs, &mut told);
-    expect_burst(rt, told, 1, 1, NO_JOB);
-    mbj_c_get_completed_burst(alloc, handle, &mut outs, &mut told);
-    expect_burst(rt, told, 2, 0, 0);
+    let mut returned = UNTOLD;
+    mbj_c_submit_burst(alloc, handle, &mut outs, &mut returned);
+    expect_burst(rt, returned, 1, 1, NO_JOB);
+    mbj_c_get_completed_burst(alloc, handle, &mut outs, &mut returned);
+    expect_burst(rt, returned, 2, 0, 0);
 }
 
 #[test]

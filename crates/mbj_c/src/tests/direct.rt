@@ -9,7 +9,7 @@ const NO_HASH: u32 = 5;
 
 const NO_DIR: u32 = 2;
 
-/// The codes of refusals, as C is told them.
+/// The codes of refusals, as they are returned to C.
 const WORD: u32 = 22;
 
 const NO_ROOM: u32 = 26;

@@ -110,7 +110,7 @@ fn expect_ciphertext(rt: &impl Abort, alloc: Global, manager: &mut Handle, sessi
     job.session = session;
     expect_number(rt, mbj_c_fill(alloc, manager, &job), 0);
     let (mut dst, mut tag) = ([0; 16], [0; MAX_TAG_BYTES]);
-    expect_told(
+    expect_returned(
         rt,
         submit_or_flush(alloc, manager, &mut dst, &mut tag),
         given(16, 0, 0),

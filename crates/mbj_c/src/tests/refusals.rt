@@ -1,7 +1,7 @@
 use super::*;
 use mbj_ring::CELLS;
 
-/// The codes of refusals, as C is told them.
+/// The codes of refusals, as they are returned to C.
 const FULL: u32 = 21;
 
 const WORD: u32 = 22;
@@ -54,14 +54,14 @@ fn filling_is_refused_where_all_cells_are_in_use(rt: HostRuntime) {
 }
 
 fn check_without_manager(rt: &impl Abort, alloc: Global, handle: &mut Handle) {
-    let told = make(
+    let returned = make(
         alloc,
         handle,
         Export::Flush,
         &mut [],
         &mut [7; MAX_TAG_BYTES],
     );
-    expect_told(rt, told, nothing(NO_MANAGER));
+    expect_returned(rt, returned, nothing(NO_MANAGER));
     let job = null_job(b"packet");
     expect_number(rt, mbj_c_fill(alloc, handle, &job), NO_MANAGER);
     assert!(rt; !mbj_c_free(alloc, handle));
@@ -97,14 +97,14 @@ fn check_codes(rt: &impl Abort, alloc: Global, handle: &mut Handle, codes: [u32;
 
 /// A submission without a job is refused, and so is the filling of a job with a code that is none.
 fn check_without_job(rt: &impl Abort, alloc: Global, handle: &mut Handle) {
-    let told = make(
+    let returned = make(
         alloc,
         handle,
         Export::Submit,
         &mut [],
         &mut [7; MAX_TAG_BYTES],
     );
-    expect_told(rt, told, nothing(NO_JOB));
+    expect_returned(rt, returned, nothing(NO_JOB));
     check_codes(rt, alloc, handle, [5, 2, 2, 21]);
     check_codes(rt, alloc, handle, [255; 4]);
     check_codes(rt, alloc, handle, [u32::MAX; 4]);
@@ -127,10 +127,10 @@ fn check_without_room(
     tag: &mut [u8],
 ) {
     let (mut short_dst, mut short_tag) = ([7; 15], [7; MAX_TAG_BYTES - 1]);
-    let told = make(alloc, handle, Export::Submit, &mut short_dst, tag);
-    expect_told(rt, told, nothing(NO_ROOM));
-    let told = make(alloc, handle, Export::Submit, dst, &mut short_tag);
-    expect_told(rt, told, nothing(NO_ROOM));
+    let returned = make(alloc, handle, Export::Submit, &mut short_dst, tag);
+    expect_returned(rt, returned, nothing(NO_ROOM));
+    let returned = make(alloc, handle, Export::Submit, dst, &mut short_tag);
+    expect_returned(rt, returned, nothing(NO_ROOM));
     expect_bytes(rt, dst, &[7; 16]);
 }
 
@@ -142,13 +142,13 @@ fn check_given_once(
     dst: &mut [u8],
     tag: &mut [u8],
 ) {
-    let told = submit_or_flush(alloc, handle, dst, tag);
-    expect_told(rt, told, given(16, 0, 0));
+    let returned = submit_or_flush(alloc, handle, dst, tag);
+    expect_returned(rt, returned, given(16, 0, 0));
     expect_bytes(rt, dst, &CBC_CIPHERTEXT);
-    let told = make(alloc, handle, Export::Completed, dst, tag);
-    expect_told(rt, told, nothing(0));
-    let told = make(alloc, handle, Export::Flush, dst, tag);
-    expect_told(rt, told, nothing(0));
+    let returned = make(alloc, handle, Export::Completed, dst, tag);
+    expect_returned(rt, returned, nothing(0));
+    let returned = make(alloc, handle, Export::Flush, dst, tag);
+    expect_returned(rt, returned, nothing(0));
 }
 
 fn check_refusals(rt: &impl Abort, alloc: Global, handle: &mut Handle) {

@@ -11,8 +11,8 @@ fn check_mac(rt: &impl Abort, alloc: Global, handle: &mut Handle) {
     let job = mac_job(b"Hi There");
     expect_number(rt, mbj_c_fill(alloc, handle, &job), 0);
     let mut tag = [0xee; MAX_TAG_BYTES];
-    let told = submit_or_flush(alloc, handle, &mut [], &mut tag);
-    expect_told(rt, told, given(0, 20, 0));
+    let returned = submit_or_flush(alloc, handle, &mut [], &mut tag);
+    expect_returned(rt, returned, given(0, 20, 0));
     expect_mac(rt, &tag);
 }
 
@@ -86,8 +86,8 @@ fn check_ciphertext(rt: &impl Abort, alloc: Global, handle: &mut Handle) {
     let job = cbc_job(&packet, 1);
     expect_number(rt, mbj_c_fill(alloc, handle, &job), 0);
     let (mut dst, mut tag) = ([0xee; BLOCK_BYTES + 1], [0; MAX_TAG_BYTES]);
-    let told = submit_or_flush(alloc, handle, &mut dst, &mut tag);
-    expect_told(rt, told, given(16, 0, 0));
+    let returned = submit_or_flush(alloc, handle, &mut dst, &mut tag);
+    expect_returned(rt, returned, given(16, 0, 0));
     expect_bytes(rt, &dst[..16], &CBC_CIPHERTEXT);
     expect_number(rt, u32::from(dst[16]), 0xee);
 }
@@ -110,8 +110,8 @@ fn check_refused_job(
 ) {
     expect_number(rt, mbj_c_fill(alloc, handle, job), 0);
     let mut tag = [0; MAX_TAG_BYTES];
-    let told = make(alloc, handle, Export::Submit, &mut [], &mut tag);
-    expect_told(rt, told, given(0, 0, reason));
+    let returned = make(alloc, handle, Export::Submit, &mut [], &mut tag);
+    expect_returned(rt, returned, given(0, 0, reason));
 }
 
 // CTR takes no range of 0 bytes, for reason 6.

@@ -5,7 +5,7 @@ const SHA1: u32 = 0;
 
 const NO_HASH: u32 = 5;
 
-/// The codes of refusals, as C is told them.
+/// The codes of refusals, as they are returned to C.
 const WORD: u32 = 22;
 
 const NO_ROOM: u32 = 26;

@@ -1,7 +1,7 @@
 use super::*;
 use mbj_ring::CELLS;
 
-/// The codes of refusals, as C is told them.
+/// The codes of refusals, as they are returned to C.
 const FULL: u32 = 21;
 
 const WORD: u32 = 22;
@@ -19,7 +19,7 @@ fn submit_job(
     job: &RawJob<'_>,
     dst: &mut [u8],
     tag: &mut [u8],
-) -> Told {
+) -> Returned {
     let mut out = RawDone {
         dst,
         tag,
@@ -30,7 +30,7 @@ fn submit_job(
     };
     let mut refusal = 99;
     let given = mbj_c_submit_job(alloc, handle, job, &mut out, &mut refusal);
-    Told {
+    Returned {
         given,
         dst_len: out.dst_len,
         tag_len: out.tag_len,
@@ -46,8 +46,8 @@ fn expect_nothing(
     job: &RawJob<'_>,
     refusal: u32,
 ) {
-    let told = submit_job(alloc, handle, job, &mut [7; 16], &mut [7; MAX_TAG_BYTES]);
-    expect_told(rt, told, nothing(refusal));
+    let returned = submit_job(alloc, handle, job, &mut [7; 16], &mut [7; MAX_TAG_BYTES]);
+    expect_returned(rt, returned, nothing(refusal));
 }
 
 /// One job waits for lanes, and the job behind it too: a flush gives the first one's result, and then the second one's.
@@ -55,11 +55,11 @@ fn check_results(rt: &impl Abort, alloc: Global, handle: &mut Handle) {
     expect_nothing(rt, alloc, handle, &mac_job(b"Hi There"), 0);
     expect_nothing(rt, alloc, handle, &cbc_job(&CBC_TEXT, 0), 0);
     let (mut dst, mut tag) = ([7; 16], [7; MAX_TAG_BYTES]);
-    let told = make(alloc, handle, Export::Flush, &mut dst, &mut tag);
-    expect_told(rt, told, given(0, 20, 0));
+    let returned = make(alloc, handle, Export::Flush, &mut dst, &mut tag);
+    expect_returned(rt, returned, given(0, 20, 0));
     expect_bytes(rt, &tag[..20], &MAC);
-    let told = make(alloc, handle, Export::Flush, &mut dst, &mut tag);
-    expect_told(rt, told, given(16, 0, 0));
+    let returned = make(alloc, handle, Export::Flush, &mut dst, &mut tag);
+    expect_returned(rt, returned, given(16, 0, 0));
     expect_bytes(rt, &dst, &CBC_CIPHERTEXT);
 }
 
@@ -68,13 +68,13 @@ fn check_results(rt: &impl Abort, alloc: Global, handle: &mut Handle) {
 fn check_given(rt: &impl Abort, alloc: Global, handle: &mut Handle) {
     let mut tag = [7; MAX_TAG_BYTES];
     let null = null_job(b"packet");
-    let told = submit_job(alloc, handle, &null, &mut [], &mut tag);
-    expect_told(rt, told, given(0, 0, 0));
+    let returned = submit_job(alloc, handle, &null, &mut [], &mut tag);
+    expect_returned(rt, returned, given(0, 0, 0));
     let mut job = cbc_job(b"packet", 0);
     job.cipher = CTR;
     job.cipher_len = 0;
-    let told = submit_job(alloc, handle, &job, &mut [], &mut tag);
-    expect_told(rt, told, given(0, 0, 6));
+    let returned = submit_job(alloc, handle, &job, &mut [], &mut tag);
+    expect_returned(rt, returned, given(0, 0, 6));
 }
 
 #[test]
@@ -98,14 +98,14 @@ fn check_unfilled(rt: &impl Abort, alloc: Global, handle: &mut Handle) {
         expect_nothing(rt, alloc, handle, &null, 0);
     }
     expect_nothing(rt, alloc, handle, &null, FULL);
-    let told = make(
+    let returned = make(
         alloc,
         handle,
         Export::Submit,
         &mut [],
         &mut [7; MAX_TAG_BYTES],
     );
-    expect_told(rt, told, nothing(NO_JOB));
+    expect_returned(rt, returned, nothing(NO_JOB));
     expect_number(rt, mbj_c_queue_size(alloc, handle), CELLS);
 }
 
@@ -124,16 +124,16 @@ fn check_filled(rt: &impl Abort, alloc: Global, handle: &mut Handle) {
     let job = cbc_job(&CBC_TEXT, 0);
     let (mut dst, mut tag) = ([7; 16], [7; MAX_TAG_BYTES]);
     expect_number(rt, mbj_c_fill(alloc, handle, &mac_job(b"Hi There")), 0);
-    let told = submit_job(alloc, handle, &job, &mut [7; 15], &mut tag);
-    expect_told(rt, told, nothing(NO_ROOM));
-    let told = submit_job(alloc, handle, &job, &mut dst, &mut [7; MAX_TAG_BYTES - 1]);
-    expect_told(rt, told, nothing(NO_ROOM));
+    let returned = submit_job(alloc, handle, &job, &mut [7; 15], &mut tag);
+    expect_returned(rt, returned, nothing(NO_ROOM));
+    let returned = submit_job(alloc, handle, &job, &mut dst, &mut [7; MAX_TAG_BYTES - 1]);
+    expect_returned(rt, returned, nothing(NO_ROOM));
     expect_number(rt, mbj_c_queue_size(alloc, handle), 0);
-    let told = submit_or_flush(alloc, handle, &mut dst, &mut tag);
-    expect_told(rt, told, given(16, 0, 0));
+    let returned = submit_or_flush(alloc, handle, &mut dst, &mut tag);
+    expect_returned(rt, returned, given(16, 0, 0));
     expect_bytes(rt, &dst, &CBC_CIPHERTEXT);
-    let told = make(alloc, handle, Export::Flush, &mut dst, &mut tag);
-    expect_told(rt, told, nothing(0));
+    let returned = make(alloc, handle, Export::Flush, &mut dst, &mut tag);
+    expect_returned(rt, returned, nothing(0));
 }
 
 #[test]

@@ -1,7 +1,7 @@
 use super::direct::{AAD, CCM_KEY, CCM_TAG, CIPHERTEXT, NONCE, PLAINTEXT, ZEROS_SEALED, ZEROS_TAG};
 use super::*;
 
-/// The code of a refusal, as C is told it.
+/// The code of a refusal, as it is returned to C.
 const WRONG_TAG: u32 = 20;
 
 /// What becomes of the block of test case 2 of the GCM specification where it comes with this tag.
@@ -67,7 +67,7 @@ const TAG_OF_NOTHING: [u8; 16] = [
     0x58, 0xe2, 0xfc, 0xce, 0xfa, 0x7e, 0x30, 0x61, 0x36, 0x7f, 0x1d, 0x57, 0xa4, 0xe7, 0x45, 0x5a,
 ];
 
-/// The codes of refusals, as C is told them.
+/// The codes of refusals, as they are returned to C.
 const IV_LENGTH: u32 = 13;
 
 const TAG_LENGTH: u32 = 14;

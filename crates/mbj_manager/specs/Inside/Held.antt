@@ -8,24 +8,24 @@ use Rattle.mbj_stage.specs.Handing.{End, taken_back}
 use Rattle.mbj_stage.specs.declared.stage.Stage.{Stage}
 use Rattle.mbj_stage.specs.declared.stage.Stage.TheVariants as stage
 use Rattle.mbj_manager.specs.Machine.Stages.{pending}
-use Rattle.mbj_manager.specs.Machine.Queues.{Waiting, Queue, Machine}
+use Rattle.mbj_manager.specs.Machine.Queues.{WaitingJob, Queue, Machine}
 use Rattle.mbj_manager.specs.State.{ManagerState}
 use Rattle.mbj_manager.specs.Cells.{Cell, IsOpen, job_in}
 use Rattle.mbj_manager.specs.Inside.Courses.{AreCourses, asked, courses, ring_number}
 use Rattle.mbj_manager.specs.Inside.Leaving.{At, IsAbsent}
-use Rattle.mbj_manager.specs.Inside.Desk.{Listed}
+use Rattle.mbj_manager.specs.Inside.QueueView.{Listed}
 use Rattle.mbj_manager.specs.Inside.LaneQueues.{placed_in, total}
-use Rattle.mbj_manager.specs.Inside.PlacedQueue.{PlacedQueue, Waiter, numbered_queue}
+use Rattle.mbj_manager.specs.Inside.PlacedQueue.{PlacedQueue, PlacedEntry, numbered_queue}
 use Rattle.mbj_manager.specs.declared.lane_queues.LaneQueues.{LaneQueues}
 use Rattle.mbj_manager.specs.Inside.Standing.{IsInCourse}
 
 -- ---- the machine
 
-abbrev pub waiting : Waiter → Waiting
+abbrev pub waiting : PlacedEntry → WaitingJob
 waiting w = record { number = w.0; rest = w.1.rounds }
 
 abbrev pub lane_seen : PlacedQueue → Queue
-lane_seen l = record { waiting = map waiting l.waiters; rounds = l.rounds; blocks = l.blocks }
+lane_seen l = record { waiting = map waiting l.queued; rounds = l.rounds; blocks = l.blocks }
 
 abbrev pub machine_by : List CourseState → List ℕ → (Kind → PlacedQueue) → ℕ → Machine
 machine_by cs agenda lines flush_runs =
@@ -34,7 +34,7 @@ machine_by cs agenda lines flush_runs =
 -- ---- what is owed, and for which jobs
 
 -- the end of the entry of the job n in a lane queue
-abbrev pub found : ℕ → List Waiter → Option End
+abbrev pub found : ℕ → List PlacedEntry → Option End
 found n [] = None
 found n (w ∷ ws) = if n == w.0 then Some w.1.brings else found n ws
 
@@ -62,7 +62,7 @@ restored_from n find [] = []
 restored_from n find (c ∷ cs) = restored n find c ∷ restored_from (suc n) find cs
 
 abbrev pub find_in : (Kind → PlacedQueue) → Kind → ℕ → Option End
-find_in lines k n = found n (lines k).waiters
+find_in lines k n = found n (lines k).queued
 
 -- ---- the state, in which no key is counted: the manager does that
 
@@ -90,8 +90,8 @@ IsHere c = c.out ≡ None
 -- lane queues, agenda and courses fit: who waits has its entry out, each other course has its packet, and who stands in the agenda
 -- has a course
 pub record IsTied (cs : List CourseState) (agenda : List ℕ) (lines : Kind → PlacedQueue) : Type 0 where
-  pub listed : (k : Kind) → Listed k cs (lines k).waiters
-  pub here : (n : ℕ) → n < length cs → ((k : Kind) → IsAbsent n (lines k).waiters) → At IsHere n cs
+  pub listed : (k : Kind) → Listed k cs (lines k).queued
+  pub here : (n : ℕ) → n < length cs → ((k : Kind) → IsAbsent n (lines k).queued) → At IsHere n cs
   pub below : All (λ n. n < length cs) agenda
 
 -- how many jobs there are at most in agenda and lane queues: in each lane queue one fewer than it has lanes, and one that goes on

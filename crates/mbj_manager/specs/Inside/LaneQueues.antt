@@ -6,7 +6,7 @@ use Rattle.mbj_types.specs.declared.kind.Kind.TheVariants as kind
 use Rattle.mbj_stage.specs.CourseState.{CourseState}
 use Rattle.mbj_manager.specs.declared.lane_queues.LaneQueues.{LaneQueues}
 use Rattle.mbj_manager.specs.Inside.PlacedQueue.{PlacedQueue, no_queue}
-use Rattle.mbj_manager.specs.Inside.Desk.{Desk, desk_at}
+use Rattle.mbj_manager.specs.Inside.QueueView.{QueueView, queue_view_at}
 
 abbrev pub placed_in : Kind → LaneQueues → PlacedQueue
 placed_in kind.Cbc128 ls = ls.cbc128
@@ -53,12 +53,12 @@ no_queues = record {
 }
 
 abbrev pub waiting_in : LaneQueues → Kind → ℕ
-waiting_in ls k = length (placed_in k ls).waiters
+waiting_in ls k = length (placed_in k ls).queued
 
 -- how many wait in all of them
 abbrev pub total : LaneQueues → ℕ
 total ls = sum_by (waiting_in ls) all_kinds
 
 -- the lane queue of a kind with the courses and the agenda
-abbrev pub desk_of : Kind → (ℕ → ℕ) → List CourseState → List ℕ → LaneQueues → Desk
-desk_of k f cs agenda ls = desk_at f cs agenda (placed_in k ls) ls.flush_runs
+abbrev pub queue_view_of : Kind → (ℕ → ℕ) → List CourseState → List ℕ → LaneQueues → QueueView
+queue_view_of k f cs agenda ls = queue_view_at f cs agenda (placed_in k ls) ls.flush_runs

@@ -4,13 +4,13 @@ use Rattle.std.specs.Fn.{iterate}
 use Rattle.mbj_types.specs.declared.kind.Kind.{Kind}
 use Rattle.mbj_types.specs.Kinds.{lanes_of}
 use Rattle.mbj_manager.specs.Machine.Stages.{Pending, at_once, in_lanes}
-use Rattle.mbj_manager.specs.Machine.Queues.{Machine, Waiting, count_end, queue_for}
+use Rattle.mbj_manager.specs.Machine.Queues.{Machine, WaitingJob, count_end, queue_for}
 use Rattle.mbj_manager.specs.declared.lane.Cause.{Cause}
 use Rattle.mbj_manager.specs.declared.lane.Cause.TheVariants as cause
 use Rattle.mbj_manager.specs.Machine.Course.{course, flush_step, flushed, stepped}
 
 -- how often the job n stands in a lane queue
-abbrev pub times_in : ℕ → List Waiting → ℕ
+abbrev pub times_in : ℕ → List WaitingJob → ℕ
 times_in n ws = count_by (λ w. w.number == n) ws
 
 -- where the job n stands, by the stages that are left of it: a finished one in no lane queue, another one once in that of the kind of

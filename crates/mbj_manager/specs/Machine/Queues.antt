@@ -8,13 +8,13 @@ use Rattle.mbj_manager.specs.declared.lane.Cause.{Cause}
 use Rattle.mbj_manager.specs.declared.lane.Cause.TheVariants as cause
 
 -- a job that waits in a lane queue: its number, and its rest, which is how many rounds are left of its stage
-pub record Waiting : Type 0 where
+pub record WaitingJob : Type 0 where
   pub number : ℕ
   pub rest : ℕ
 
 -- the lane queue of a kind, and what its full runs came to: how many rounds they took, and how many blocks went through them
 pub record Queue : Type 0 where
-  pub waiting : List Waiting
+  pub waiting : List WaitingJob
   pub rounds : ℕ
   pub blocks : ℕ
 
@@ -61,22 +61,22 @@ queue_for k m = m.lanes k
 
 -- ---- a run
 
-abbrev pub rest_of : Waiting → ℕ
+abbrev pub rest_of : WaitingJob → ℕ
 rest_of w = w.rest
 
 -- the least rest in a lane queue
-abbrev pub least : List Waiting → ℕ
+abbrev pub least : List WaitingJob → ℕ
 least ws = least_of rest_of ws
 
 -- a lane queue once it ran by its least rest, those at rest 0 still in it
-abbrev pub shortened : List Waiting → List Waiting
-shortened ws = map (λ (w : Waiting). record w { rest = w.rest - least ws }) ws
+abbrev pub shortened : List WaitingJob → List WaitingJob
+shortened ws = map (λ (w : WaitingJob). record w { rest = w.rest - least ws }) ws
 
 -- the numbers of those whose rounds are done, in their order; and the others, in theirs
-abbrev pub leavers : List Waiting → List ℕ
+abbrev pub leavers : List WaitingJob → List ℕ
 leavers ws = map (λ w. w.number) (filter (λ w. w.rest == 0) ws)
 
-abbrev pub stayers : List Waiting → List Waiting
+abbrev pub stayers : List WaitingJob → List WaitingJob
 stayers ws = filter (λ w. not (w.rest == 0)) ws
 
 -- the stages left once the first of each of these jobs is done
@@ -86,7 +86,7 @@ stage_done (n ∷ ns) left = stage_done ns (changed (drop 1) n left)
 
 -- the lane queue of the kind k runs by its least rest: those whose rounds are done leave it in their order, and join the agenda's
 -- end
-abbrev pub after_run : Kind → (List Waiting → Queue) → Machine → Machine
+abbrev pub after_run : Kind → (List WaitingJob → Queue) → Machine → Machine
 after_run k after m = record {
   left = stage_done (leavers (shortened (queue_for k m).waiting)) m.left;
   lanes = with_queue k (after (stayers (shortened (queue_for k m).waiting))) m.lanes;
@@ -95,7 +95,7 @@ after_run k after m = record {
 }
 
 -- a run in the counts of its kind: all lanes are in use
-abbrev pub with_run : Queue → List Waiting → Queue
+abbrev pub with_run : Queue → List WaitingJob → Queue
 with_run l ws = record {
   waiting = ws;
   rounds = (l.rounds + least l.waiting) % count_end;

@@ -25,14 +25,14 @@ impl Manager {
         requires is_open { IsOpen other.old }
         ensures state { self.new ≡ with_open_at self.old i (job_in other.old) }
     {
-        self.works.exchange(i, other);
+        self.engine.exchange(i, other);
     }
 
     /// How many cells are open.
     pub fn open_len(&self) -> u32
         ensures { result ≡ length self.now.opened }
     {
-        self.works.open_len()
+        self.engine.open_len()
     }
 
     /// Opens a cell behind those that are open, with the job in a cell of the caller's. The cells change places, so that the caller's is
@@ -43,7 +43,7 @@ impl Manager {
         ensures blank { filled.new ≡ cell.Open blank }
         ensures state { self.new ≡ with_open_last self.old (job_in filled.old) }
     {
-        self.works.open_with(filled);
+        self.engine.open_with(filled);
     }
 
     /// The range of its packet that the cipher of the earliest job writes, as its offset and its length: empty where the job is refused or
@@ -54,7 +54,7 @@ impl Manager {
         ensures same { self.new ≡ self.old }
         ensures range { result ≡ first_range self.old }
     {
-        self.works.first_range()
+        self.engine.first_range()
     }
 
     /// Does what `enter` does, with the schedule that `submit_in` finds.
@@ -73,7 +73,7 @@ impl Manager {
         ensures state { self.new ≡ record (self.old) { machine = flushed self.old.machine } }
         ensures done { self.old.owed ≢ [] → slice_get self.new.machine.left 0 ≡ Some [] }
     {
-        self.works.flush_first();
+        self.engine.flush_first();
     }
 
     /// Does what `submit` does, but gives a job back in its cell, which changes places with the blank cell `given`. Returns whether it
@@ -134,8 +134,8 @@ impl Manager {
         ensures none { OnFalse result (self.old.owed ≡ []) }
         ensures order { option_to_list (given_by result given.new) ++ self.new.owed ≡ self.old.owed }
     {
-        self.works.flush_first();
-        self.works.give_into(given)
+        self.engine.flush_first();
+        self.engine.give_into(given)
     }
 
     /// Does what `get_completed` does, and gives the job back as `submit_into` does.
@@ -147,6 +147,6 @@ impl Manager {
         ensures state { self.new ≡ (after_get_completed self.old).1 }
         ensures order { option_to_list (given_by result given.new) ++ self.new.owed ≡ self.old.owed }
     {
-        self.works.give_into(given)
+        self.engine.give_into(given)
     }
 }

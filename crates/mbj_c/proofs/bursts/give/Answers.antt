@@ -7,12 +7,12 @@ use Rattle.mbj_c.proofs.bursts.give.Goals as goal
 
 pub calling-init : goal.calling-init
 calling-init c =
-    subst (λ (told : RawBurst). AreGiven 0 c.args.call c.args.outs.now c.args.outs.now c.args.handle.now.manager told c.args.handle.now.manager)
+    subst (λ (returned : RawBurst). AreGiven 0 c.args.call c.args.outs.now c.args.outs.now c.args.handle.now.manager returned c.args.handle.now.manager)
     (sym c.new.ensures) (none-given c.args.call c.args.outs.now c.args.handle.now.manager)
 
 pub calling-preserved : goal.calling-preserved
 calling-preserved c =
     given-next c.calling.turn c.args.call c.args.outs.now c.calling.outs c.args.handle.now.manager c.calling.handle.manager
-    c.give_next.new.handle.manager c.calling.told c.give_next.new.told _ c.give_next.new.out c.calling.invariant
-    (slice_get-get_or c.calling.outs c.calling.told.given _ (omega (arith, c.calling.invariant.given, c.calling-test.true, c.calling.auto.outs)))
-    c.give_next.ensures.state c.give_next.ensures.told
+    c.give_next.new.handle.manager c.calling.returned c.give_next.new.returned _ c.give_next.new.out c.calling.invariant
+    (slice_get-get_or c.calling.outs c.calling.returned.given _ (omega (arith, c.calling.invariant.given, c.calling-test.true, c.calling.auto.outs)))
+    c.give_next.ensures.state c.give_next.ensures.returned

@@ -13,9 +13,9 @@ returns-clause-written c =
     let rooms : Pair = (c.args.first.now, c.args.second.now) in
     let same : encipher c.expand.result ≡ aes key = fun_ext c.expand.ensures.encipher in
     let put : List ℕ → List ℕ → Pair = λ f s. (put_both (Ok (f, s)) rooms).1 in
-    let said : Bool → Pair = λ t.
+    let meant : Bool → Pair = λ t.
     (put_both (and_then (wants t KeyLength) (Ok (first_subkey (aes key), second_subkey (aes key)))) rooms).1 in
     let taken : takes_key (length key) ≡ true = sym c.takes_key.ensures ∙ c.if-not-takes_key.false in
     c.put_two.ensures.written
     ∙ ap₂ put (c.cmac_subkeys-subkeys.ensures.first ∙ ap first_subkey same) (c.cmac_subkeys-subkeys.ensures.second ∙ ap second_subkey same)
-    ∙ ap said (sym taken)
+    ∙ ap meant (sym taken)

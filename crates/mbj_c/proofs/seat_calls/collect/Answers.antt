@@ -12,10 +12,10 @@ returns c =
     let code = c.collect-is_given.new.refusal in
     let before = c.args.out.now in
     let after = c.collect-is_given.new.out in
-    let told : IsCollectedIn k new flag code before after =
+    let returned : IsCollectedIn k new flag code before after =
     subst (λ (m : SeatState). IsCollectedIn m new flag code before after) c.deref_mut.ensures.value c.collect-is_given.ensures in
     subst (λ (m : Option SeatState). IsCollected m c.put.new.self.seat flag code before after) c.in-Some.ensures.seat
-    (subst (λ (m : Option SeatState). IsCollected (Some k) m flag code before after) (sym c.put.ensures) told)
+    (subst (λ (m : Option SeatState). IsCollected (Some k) m flag code before after) (sym c.put.ensures) returned)
 
 -- without a seat nothing is collected
 pub returns-in_default : goal.returns-in_default

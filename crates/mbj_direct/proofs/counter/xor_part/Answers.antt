@@ -6,9 +6,9 @@ use Rattle.mbj_types.specs.Aes.{encipher}
 use Rattle.mbj_types.specs.Blocks.{blocks, xor_lists}
 use Rattle.mbj_types.specs.Gcm.{gctr, inc32}
 use Rattle.mbj_aes.proofs.Rounds.{length-encipher}
-use Rattle.mbj_gcm.specs.Risen.{risen}
+use Rattle.mbj_gcm.specs.Incremented.{incremented}
 use Rattle.mbj_direct.specs.Inside.Stream.{streamed}
-use Rattle.mbj_direct.proofs.Streams.{risen-mod, gctr-streamed, streamed-open, streamed-part}
+use Rattle.mbj_direct.proofs.Streams.{incremented-mod, gctr-streamed, streamed-open, streamed-part}
 use Rattle.mbj_direct.proofs.counter.xor_part.Goals as goal
 
 pub returns : goal.returns
@@ -20,8 +20,8 @@ returns c =
     let part : List ℕ = c.args.part.now in
     let m : ℕ = c.min.result in
     let sizes : (b : List ℕ) → length (e b) ≡ 16 = λ b. length-encipher w b c.requires in
-    let begun : c.risen-begun.result ≡ risen j ((n + 15) / 16) =
-    c.risen-begun.ensures ∙ ap (risen j) c.begun_blocks.ensures ∙ risen-mod j ((n + 15) / 16 % 2 ^ 32) ((n + 15) / 16) (omega arith) in
+    let begun : c.incremented-begun.result ≡ incremented j ((n + 15) / 16) =
+    c.incremented-begun.ensures ∙ ap (incremented j) c.begun_blocks.ensures ∙ incremented-mod j ((n + 15) / 16 % 2 ^ 32) ((n + 15) / 16) (omega arith) in
     let room : m ≡ min ((16 - n % 16) % 16) (length part) = omega arith in
     let first : c.xor_within.new.bytes ≡ streamed e j n (take m part) =
     c.xor_within.ensures

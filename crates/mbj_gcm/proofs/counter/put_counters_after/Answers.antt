@@ -6,4 +6,4 @@ pub each-preserved : goal.each-preserved
 each-preserved c =
     let inside : c.each.j < length c.each.blocks = omega arith in
     below_more _ c.each.j (λ k h. let ne : k ≢ c.each.j = omega arith in rw get_or-set_other (c.each.invariant k h))
-    (rw get_or-set_same c.risen.ensures)
+    (rw get_or-set_same c.incremented.ensures)

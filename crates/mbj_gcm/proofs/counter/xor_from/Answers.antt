@@ -7,8 +7,8 @@ use Rattle.mbj_types.specs.Aes.{encipher}
 use Rattle.mbj_types.specs.Gcm.{inc32, gctr}
 use Rattle.mbj_blocks.specs.Walked.{Walked}
 use Rattle.mbj_blocks.proofs.Walk.{walk_end, walk_over}
-use Rattle.mbj_gcm.specs.Risen.{risen}
-use Rattle.mbj_gcm.proofs.RisenCounters.{risen-1, inc32-risen, stream_from, stream_from-cons}
+use Rattle.mbj_gcm.specs.Incremented.{incremented}
+use Rattle.mbj_gcm.proofs.IncrementedCounters.{incremented-1, inc32-incremented, stream_from, stream_from-cons}
 use Rattle.mbj_gcm.proofs.counter.xor_from.Goals as goal
 
 pub batches-init : goal.batches-init
@@ -24,31 +24,31 @@ batches-preserved c =
     let e : List ℕ → List ℕ = encipher c.args.key.now in
     let t : List ℕ = c.batches.counter in
     let here : ℕ = c.min-here.result in
-    let all : List (List ℕ) = c.masks_after-masks.result in
-    let masks : List (List ℕ) = take here all in
-    let many : length masks ≡ here = length-take-le here all (omega (arith, c.masks_after-masks.ensures.length)) in
+    let all : List (List ℕ) = c.outputs_after-outputs.result in
+    let outputs : List (List ℕ) = take here all in
+    let many : length outputs ≡ here = length-take-le here all (omega (arith, c.outputs_after-outputs.ensures.length)) in
     let at : ℕ = c.args.first + BATCH_BLOCKS * c.batches.b in
     let next : ℕ = c.args.first + BATCH_BLOCKS * (c.batches.b + 1) in
-    let known : (j : ℕ) → j < length masks → get_or masks j [] ≡ e (risen t (j + 1)) = λ j lt.
-    get_or-take here all j [] (omega arith) ∙ c.masks_after-masks.ensures.masks j (omega arith) in
+    let known : (j : ℕ) → j < length outputs → get_or outputs j [] ≡ e (incremented t (j + 1)) = λ j lt.
+    get_or-take here all j [] (omega arith) ∙ c.outputs_after-outputs.ensures.outputs j (omega arith) in
     let text : List ℕ = c.xor_blocks.new.text in
-    let after : inc32 c.risen-counter.result ≡ risen t (BATCH_BLOCKS + 1) =
-    ap inc32 c.risen-counter.ensures ∙ inc32-risen t BATCH_BLOCKS c.batches.invariant.size in record {
+    let after : inc32 c.incremented-counter.result ≡ incremented t (BATCH_BLOCKS + 1) =
+    ap inc32 c.incremented-counter.ensures ∙ inc32-incremented t BATCH_BLOCKS c.batches.invariant.size in record {
       size = omega arith;
       walked = λ whole walked.
-          let now : Walked (stream_from e t (length masks)) text (at + length masks) whole =
-          c.xor_blocks.ensures (stream_from e t) whole (stream_from-cons e t masks c.batches.invariant.size known)
-          (rw (risen-1 t) (c.batches.invariant.walked whole walked)) in
+          let now : Walked (stream_from e t (length outputs)) text (at + length outputs) whole =
+          c.xor_blocks.ensures (stream_from e t) whole (stream_from-cons e t outputs c.batches.invariant.size known)
+          (rw (incremented-1 t) (c.batches.invariant.walked whole walked)) in
           rw after
           (elim (cases_lt here BATCH_BLOCKS) [
             | inl fewer ↦
-                walk_over (stream_from e t (length masks)) (stream_from e t BATCH_BLOCKS) text whole (at + length masks) next refl refl
+                walk_over (stream_from e t (length outputs)) (stream_from e t BATCH_BLOCKS) text whole (at + length outputs) next refl refl
                 (omega arith) (omega arith) now
             | inr full ↦
-                let place : at + length masks ≡ next = omega arith in
-                let counter : length masks ≡ BATCH_BLOCKS = omega arith in
+                let place : at + length outputs ≡ next = omega arith in
+                let counter : length outputs ≡ BATCH_BLOCKS = omega arith in
                 let P : ℕ → ℕ → Type 0 = λ n i. Walked (stream_from e t n) text i whole in
-                subst (λ (i : ℕ). P BATCH_BLOCKS i) place (subst (λ (n : ℕ). P n (at + length masks)) counter now)
+                subst (λ (i : ℕ). P BATCH_BLOCKS i) place (subst (λ (n : ℕ). P n (at + length outputs)) counter now)
           ]);
     }
 

@@ -16,8 +16,8 @@ returns-clause-tag c =
     let text : List ℕ = c.args.text.now in
     let t : List ℕ = c.pre_counter_block-pre_counter.result in
     c.tag.ensures
-    ∙ tag-first k w t iv aad c.xor_key_stream.new.text (length text) c.first_batch-masks.result c.new-key.ensures
-    c.pre_counter_block-pre_counter.ensures c.first_batch-masks.ensures
+    ∙ tag-first k w t iv aad c.xor_key_stream.new.text (length text) c.first_batch-outputs.result c.new-key.ensures
+    c.pre_counter_block-pre_counter.ensures c.first_batch-outputs.ensures
     ∙ ap (gcm_tag (encipher w) iv aad)
     (c.xor_key_stream.ensures
     ∙ ap (λ (j : List ℕ). concat (gctr (encipher k) (inc32 j) (blocks text))) c.pre_counter_block-pre_counter.ensures

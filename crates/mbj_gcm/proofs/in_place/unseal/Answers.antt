@@ -7,5 +7,5 @@ pub returns-clause-tag : goal.returns-clause-tag
 returns-clause-tag c =
     c.tag-computed.ensures
     ∙ tag-first c.new-key.result c.args.key.now c.pre_counter_block-pre_counter.result c.args.iv.now c.args.aad.now c.args.text.now
-    (length c.args.text.now) c.first_batch-masks.result c.new-key.ensures c.pre_counter_block-pre_counter.ensures
-    c.first_batch-masks.ensures
+    (length c.args.text.now) c.first_batch-outputs.result c.new-key.ensures c.pre_counter_block-pre_counter.ensures
+    c.first_batch-outputs.ensures

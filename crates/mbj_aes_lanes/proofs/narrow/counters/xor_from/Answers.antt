@@ -13,15 +13,15 @@ batches-preserved c whole walked =
     let e : List ℕ → List ℕ = encipher c.args.key.now in
     let t : ℕ = c.batches.counter in
     let here : ℕ = c.min-here.result in
-    let masks : List (List ℕ) = take here c.masks_of-masks.result in
-    let many : length masks ≡ here = length-take-le here c.masks_of-masks.result (omega (arith, c.masks_of-masks.ensures.length)) in
+    let outputs : List (List ℕ) = take here c.outputs_of-outputs.result in
+    let many : length outputs ≡ here = length-take-le here c.outputs_of-outputs.result (omega (arith, c.outputs_of-outputs.ensures.length)) in
     let at : ℕ = c.args.first + BATCH_BLOCKS * c.batches.b in
     let next : ℕ = c.args.first + BATCH_BLOCKS * (c.batches.b + 1) in
     let text : List ℕ = c.xor_blocks.new.text in
     let first : (t + 0) % 2 ^ 128 ≡ t = omega arith in
-    stream_on e t (length masks) BATCH_BLOCKS (at + length masks) next text whole (omega arith)
+    stream_on e t (length outputs) BATCH_BLOCKS (at + length outputs) next text whole (omega arith)
     (λ h. omega arith) (λ h. omega arith) (λ h. omega arith)
-    (c.xor_blocks.ensures (stream_from e t) whole (stream_from-cons e t masks c.masks_of-masks.ensures.masks)
+    (c.xor_blocks.ensures (stream_from e t) whole (stream_from-cons e t outputs c.outputs_of-outputs.ensures.outputs)
     (rw first (c.batches.invariant whole walked)))
 
 pub returns : goal.returns

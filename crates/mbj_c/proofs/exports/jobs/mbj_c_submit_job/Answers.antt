@@ -15,8 +15,8 @@ returns-in-Some c =
     let flag = c.submit_job-is_given.result in
     let code = c.submit_job-is_given.new.refusal in
     let after = c.submit_job-is_given.new.out in
-    let told = subst (λ (m : RangedState). IsSubmittedAs (filled_at 0 raw m).0 (submitted_in raw m before) m flag code before after new)
+    let returned = subst (λ (m : RangedState). IsSubmittedAs (filled_at 0 raw m).0 (submitted_in raw m before) m flag code before after new)
     c.deref_mut.ensures.value c.submit_job-is_given.ensures in
     subst (λ (m : Option RangedState). IsSubmitted raw m flag code before after c.put.new.self.manager) c.in-Some.ensures.manager
     (subst (λ (m : Option RangedState). IsSubmitted raw (Some k) flag code before after m) (sym c.put.ensures)
-    (submitted-some raw k new flag code before after told))
+    (submitted-some raw k new flag code before after returned))

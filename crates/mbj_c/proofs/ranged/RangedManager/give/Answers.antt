@@ -15,17 +15,17 @@ give_first-requires c =
           (sym c.has_room.ensures.room ∙ c.if-not-has_room.false);
     }
 
-pub returns-clause-told : goal.returns-clause-told
-returns-clause-told c =
+pub returns-clause-returned : goal.returns-clause-returned
+returns-clause-returned c =
     (called-done c.args.call c.args.self.now c.make.new.self c.give_first.new.self c.give_first.result c.args.out.now c.give_first.new.out
     (sym c.has_job.ensures.has ∙ c.if-not-has_job.false) (sym c.has_room.ensures.room ∙ c.if-not-has_room.false)
-    (c.make.ensures.state ∙ ap (gone c.args.call) c.has_room.ensures.same) c.give_first.ensures.told c.give_first.ensures.state).told
+    (c.make.ensures.state ∙ ap (gone c.args.call) c.has_room.ensures.same) c.give_first.ensures.returned c.give_first.ensures.state).returned
 
 pub returns-clause-state : goal.returns-clause-state
 returns-clause-state c =
     (called-done c.args.call c.args.self.now c.make.new.self c.give_first.new.self c.give_first.result c.args.out.now c.give_first.new.out
     (sym c.has_job.ensures.has ∙ c.if-not-has_job.false) (sym c.has_room.ensures.room ∙ c.if-not-has_room.false)
-    (c.make.ensures.state ∙ ap (gone c.args.call) c.has_room.ensures.same) c.give_first.ensures.told c.give_first.ensures.state).state
+    (c.make.ensures.state ∙ ap (gone c.args.call) c.has_room.ensures.same) c.give_first.ensures.returned c.give_first.ensures.state).state
 
 pub returns-clause-drained : goal.returns-clause-drained
 returns-clause-drained c is_flush none drained =
@@ -36,12 +36,12 @@ returns-clause-drained c is_flush none drained =
     let was : c.has_room.new.self.manager.owed ≡ m.manager.owed = ap (λ (k : RangedState). k.manager.owed) c.has_room.ensures.same in
     none-owed m.manager.owed c.make.new.self.manager same (λ some. c.make.ensures.done is_flush (λ e. some (sym was ∙ e))) (c.give_first.ensures.none none)
 
-pub returns-then-not-has_job-clause-told : goal.returns-then-not-has_job-clause-told
-returns-then-not-has_job-clause-told c =
+pub returns-then-not-has_job-clause-returned : goal.returns-then-not-has_job-clause-returned
+returns-then-not-has_job-clause-returned c =
     (called-without-job c.args.call c.args.self.now c.args.self.now c.code.result c.args.out.now (sym c.has_job.ensures.has ∙ c.if-not-has_job.true)
-    c.code.ensures refl).told
+    c.code.ensures refl).returned
 
-pub returns-then-not-has_room-clause-told : goal.returns-then-not-has_room-clause-told
-returns-then-not-has_room-clause-told c =
+pub returns-then-not-has_room-clause-returned : goal.returns-then-not-has_room-clause-returned
+returns-then-not-has_room-clause-returned c =
     (called-without-room c.args.call c.args.self.now c.args.self.now c.code-then-not-has_room.result c.args.out.now
-    (sym c.has_job.ensures.has ∙ c.if-not-has_job.false) (sym c.has_room.ensures.room ∙ c.if-not-has_room.true) c.code-then-not-has_room.ensures refl).told
+    (sym c.has_job.ensures.has ∙ c.if-not-has_job.false) (sym c.has_room.ensures.room ∙ c.if-not-has_room.true) c.code-then-not-has_room.ensures refl).returned

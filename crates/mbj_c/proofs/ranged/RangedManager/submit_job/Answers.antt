@@ -1,4 +1,4 @@
--- Where the job is filled, what is told is what the submission tells; else why it isn't filled.
+-- If the job is filled, what is returned is what the submission returns; else why it isn't filled.
 use Rattle.std.proofs.Common.{◌≡◌, ◌<◌, ◌∙◌, ap, false, length, slice_get, subst, sym, true}
 use Rattle.std.proofs.lemmas.Bool.{lt-ltb}
 use Rattle.mbj_c.specs.declared.giving.Call.TheVariants as call
@@ -24,9 +24,9 @@ returns c =
     let k : RangedState = c.fill.new.self in
     let called = called-done call.Submit k c.make.new.self c.give_first.new.self c.give_first.result c.args.out.now c.give_first.new.out
     (lt-ltb 0 (length k.manager.opened) c.in-Ok.ensures.open) (sym c.has_room.ensures.room ∙ c.if-not-has_room.false)
-    (c.make.ensures.state ∙ ap (gone call.Submit) c.has_room.ensures.same) c.give_first.ensures.told c.give_first.ensures.state in
+    (c.make.ensures.state ∙ ap (gone call.Submit) c.has_room.ensures.same) c.give_first.ensures.returned c.give_first.ensures.state in
     submitted-filled want.0 want.1 c.args.self.now k c.give_first.new.self c.give_first.result 0 c.args.out.now c.give_first.new.out
-    c.in-Ok.ensures.done called.state called.told
+    c.in-Ok.ensures.done called.state called.returned
 
 pub returns-in-Err : goal.returns-in-Err
 returns-in-Err c =
@@ -42,4 +42,4 @@ returns-then-not-has_room c =
     let called = called-without-room call.Submit k c.has_room.new.self code c.args.out.now (lt-ltb 0 (length k.manager.opened) c.in-Ok.ensures.open)
     (sym c.has_room.ensures.room ∙ c.if-not-has_room.true) c.code-then-not-has_room.ensures c.has_room.ensures.same in
     submitted-filled want.0 want.1 c.args.self.now k c.has_room.new.self false code c.args.out.now c.args.out.now
-    c.in-Ok.ensures.done called.state called.told
+    c.in-Ok.ensures.done called.state called.returned

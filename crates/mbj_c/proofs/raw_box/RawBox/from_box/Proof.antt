@@ -77,9 +77,9 @@ from_box_spec 𝓤 𝓛 𝓜 𝓡 wired T A laws alloc_laws g d dx dd allocator 
     (fst∗ 𝓤 (never 𝓤) (sem 𝓛 (g.dealloc_token a (bare (layout T)) null_ptr))) (λ b' o' e'.
     -- the answer's parts
     move ! (1 ∷ []) $ split ! $ move ! (1 ∷ []) $ fpick ! (λ parts. fsplit ! $ feq_l ! (λ is. fsplit ! $ feq_l ! (λ pointer. fsplit ! $
-    rewrite ! 0 (λ (s : A.Denot). ‵ (A.own_val s parts.1.0)) same refl $ handle_tells E.al ! a parts.1.0 (λ handle' told good'.
+    rewrite ! 0 (λ (s : A.Denot). ‵ (A.own_val s parts.1.0)) same refl $ handle_tells E.al ! a parts.1.0 (λ handle' returned good'.
     let typed = is_typed R Z Z_laws g b' o' handle' good' in
-    lands_as ! (ap only (is ∙ (λ j. vstruct (of_list ((pointer ∙ ap (λ (p : Ptr). ptr_val p ∷ []) e') j ++ (told j ++ []))) ∷ []))) refl typed $
+    lands_as ! (ap only (is ∙ (λ j. vstruct (of_list ((pointer ∙ ap (λ (p : Ptr). ptr_val p ∷ []) e') j ++ (returned j ++ []))) ∷ []))) refl typed $
     sets ! (of_opd ! (get_in ! (fld ! refl (stop !)) (sub ! 0 refl (whole !)))) refl (tt, tt) $
     sets ! (of_opd ! (get_in ! (fld ! refl (stop !)) (sub ! 1 refl (whole !)))) refl good' $
     sets ! (of_opd ! (get ! refl)) refl good' $

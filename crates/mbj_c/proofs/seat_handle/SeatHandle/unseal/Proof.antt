@@ -26,7 +26,7 @@ use Rattle.std.specs.Prelude.{None, Some}
 use Rattle.std_alloc.proofs.ResultValues.{and_tt}
 use Rattle.std_heap.specs.contracts.GlobalAllocator.TheImpl.{ghosts}
 use Rattle.mbj_c.proofs.RawBoxes as boxes
-use Rattle.mbj_c.proofs.Handles.{Z, Z_laws, told}
+use Rattle.mbj_c.proofs.Handles.{Z, Z_laws, returned}
 use Rattle.mbj_c.proofs.SeatHandles.{Row, R, taken_apart}
 use Rattle.mbj_c.specs.contracts.seat_handle.SeatHandle.unseal.{ended, clauses}
 use Rattle.mbj_c.specs.contracts.seat_handle.SeatHandle.unseal.Key.{name as key}
@@ -45,7 +45,7 @@ unseal_spec 𝓤 𝓛 𝓜 𝓡 wired =
     let Runs : List Val → SProp 𝓤 = λ ws. WpFn 𝓤 H 𝓣.C 𝓣.Λ fn ws Post in
     qed 𝓛 ((‵ ftrue ⊛ ‵ (owns (types_at ended.signature.params z.0.0) z.0.3 z.0.4)) ∷ raw ((c z.0.0 z.0.3).requires z.1) ∷ []) ∵
     split ! $ move ! (1 ∷ []) $ fsplit ! $ taken_apart ! from z.0.4.0 (λ word is good.
-    told R ! a from.at from.seat
+    returned R ! a from.at from.seat
     (λ at_null none.
     -- [the allocator's handle; ..]
     let w : Val = boxes.pair_of (ptr_val null_ptr) word in let answer : Val = live 0 vnil in

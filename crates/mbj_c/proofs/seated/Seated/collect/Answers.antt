@@ -6,9 +6,9 @@ use Rattle.mbj_front.specs.Seats.{submitters_of}
 use Rattle.mbj_work.specs.Parties.{part_of}
 use Rattle.mbj_c.specs.declared.range.CipherRange.{CipherRange}
 use Rattle.mbj_c.specs.Given.{Given}
-use Rattle.mbj_c.specs.Giving.{IsToldAt, has_room_for}
+use Rattle.mbj_c.specs.Giving.{IsReturnedAt, has_room_for}
 use Rattle.mbj_c.specs.Seats.{Collects, SeatState, is_submitter}
-use Rattle.mbj_c.proofs.SeatAnswers.{collects-told, refused-room, refused-worker}
+use Rattle.mbj_c.proofs.SeatAnswers.{collects-returned, refused-room, refused-worker}
 use Rattle.mbj_c.proofs.seated.Seated.collect.Goals as goal
 
 pub returns-then-not-self : goal.returns-then-not-self
@@ -46,6 +46,6 @@ returns c =
       ranges = r.values;
     } in
     let same : at c.first_of.new.ranges ≡ c.args.self.now = ap at c.first_of.ensures.same ∙ c.self.view_is in
-    collects-told c.args.self.now c.take.new.self c.take.result c.args.out.now c.take.new.out submits room
-    (subst (λ (s : SeatState). (given : Option Given) × (Collects given s c.take.new.self × IsToldAt (Ok given) c.take.result c.args.out.now c.take.new.out))
+    collects-returned c.args.self.now c.take.new.self c.take.result c.args.out.now c.take.new.out submits room
+    (subst (λ (s : SeatState). (given : Option Given) × (Collects given s c.take.new.self × IsReturnedAt (Ok given) c.take.result c.args.out.now c.take.new.out))
     same c.take.ensures)

@@ -1,4 +1,4 @@
--- Whoever joins has room, since there are as many waiters as entries. The course at the place changes, and no other.
+-- Whoever joins has room, since there are as many jobs queued as entries. The course at the place changes, and no other.
 use Rattle.std.proofs.Common.{◌≡◌, ◌∷◌, [], ◌<◌, ◌∙◌, ℕ, List, All, length, ap, sym, subst, arith}
 use Rattle.std.proofs.lemmas.List.{length-append}
 use Rattle.std.proofs.lemmas.List.Elements.{All-append, All-cons, All-nil}
@@ -9,14 +9,14 @@ use Rattle.mbj_manager.specs.Cells.{IsGoing, course_in}
 use Rattle.mbj_manager.specs.Entries.{HasJobSteps}
 use Rattle.mbj_manager.specs.Inside.Courses.{KeepsSteps, ring_number}
 use Rattle.mbj_manager.specs.Inside.Leaving.{Gives}
-use Rattle.mbj_manager.specs.Inside.PlacedQueue.{PlacedQueue, ahead, placed_queue}
+use Rattle.mbj_manager.specs.Inside.PlacedQueue.{PlacedQueue, entry_view, placed_queue}
 use Rattle.mbj_manager.proofs.JobSteps.{out-steps}
 use Rattle.mbj_manager.proofs.RingCourses.{at-cell, cell-at, courses-set, each-at, live, same-ring}
-use Rattle.mbj_manager.proofs.WaitersOf.{waiters_of-join, waiters_of-length}
+use Rattle.mbj_manager.proofs.QueuedOf.{queued_of-join, queued_of-length}
 use Rattle.mbj_manager.proofs.lane_queue.LaneQueue.join.Goals as goal
 
 pub at_mut-cell-requires : goal.at_mut-cell-requires
-at_mut-cell-requires g c = live (IsNext g.K.Feed.kind) c.args.ring.now c.args.place c.requires.place c.requires.next
+at_mut-cell-requires g c = live (IsNext g.K.JobKernel.kind) c.args.ring.now c.args.place c.requires.place c.requires.next
 
 pub join_from-requires-clause-going : goal.join_from-requires-clause-going
 join_from-requires-clause-going g c =
@@ -26,7 +26,7 @@ join_from-requires-clause-going g c =
 pub join_from-requires-clause-next : goal.join_from-requires-clause-next
 join_from-requires-clause-next g c =
     let r = c.args.ring.now in
-    at-cell (IsNext g.K.Feed.kind) (ring_number r c.args.place) r.values c.at_mut-cell.result.now c.at_mut-cell.ensures.value c.requires.next
+    at-cell (IsNext g.K.JobKernel.kind) (ring_number r c.args.place) r.values c.at_mut-cell.result.now c.at_mut-cell.ensures.value c.requires.next
 
 pub join_from-requires-clause-free : goal.join_from-requires-clause-free
 join_from-requires-clause-free g c =
@@ -34,8 +34,8 @@ join_from-requires-clause-free g c =
     omega (
       arith,
       c.requires.free,
-      ap (λ (l : PlacedQueue). length l.waiters) c.self.view_is,
-      waiters_of-length g.K.Kernel.round g.K.Kernel.rest_of g.K.Feed.brings q.lanes.places q.lanes.entries c.self.invariant.0,
+      ap (λ (l : PlacedQueue). length l.queued) c.self.view_is,
+      queued_of-length g.K.Kernel.round g.K.Kernel.rest_of g.K.JobKernel.brings q.lanes.places q.lanes.entries c.self.invariant.0,
     )
 
 pub invariant_of-self : goal.invariant_of-self
@@ -66,13 +66,13 @@ returns-clause-joins g c =
     let r = c.args.ring.now in
     let k = g.K.Kernel in
     let e = c.join_from.ensures.entry.0 in
-    let a = ahead g.K.Kernel.round g.K.Kernel.rest_of g.K.Feed.brings e in
+    let a = entry_view g.K.Kernel.round g.K.Kernel.rest_of g.K.JobKernel.brings e in
     record {
       entry = a;
       some = c.join_from.ensures.entry.2;
-      gives = cell-at (Gives g.K.Feed.kind (g.K.Kernel.rest_of e) (g.K.Feed.brings (end_of g.K.Kernel.round g.K.Kernel.rest_of e)))
+      gives = cell-at (Gives g.K.JobKernel.kind (g.K.Kernel.rest_of e) (g.K.JobKernel.brings (end_of g.K.Kernel.round g.K.Kernel.rest_of e)))
           (ring_number r c.args.place) r.values c.at_mut-cell.result.now c.at_mut-cell.ensures.value c.join_from.ensures.entry.3;
       is = rw (c.join_from.ensures.places, c.join_from.ensures.entry.1, ← c.self.view_is)
           (ap (λ ws. placed_queue ws q.rounds q.blocks)
-          (waiters_of-join g.K.Kernel.round g.K.Kernel.rest_of g.K.Feed.brings q.lanes.places q.lanes.entries c.args.place e c.self.invariant.0));
+          (queued_of-join g.K.Kernel.round g.K.Kernel.rest_of g.K.JobKernel.brings q.lanes.places q.lanes.entries c.args.place e c.self.invariant.0));
     }

@@ -7,10 +7,10 @@ use Rattle.mbj_stage.specs.Handing.{IsOut, taken_back}
 use Rattle.mbj_manager.specs.Cells.{IsGoing, course_in}
 use Rattle.mbj_manager.specs.Entries.{HasJobSteps}
 use Rattle.mbj_manager.specs.Inside.Courses.{KeepsSteps, ring_number}
-use Rattle.mbj_manager.specs.Inside.PlacedQueue.{PlacedQueue, ended, pair_rest, rounds_in, waiters_of}
+use Rattle.mbj_manager.specs.Inside.PlacedQueue.{PlacedQueue, ended, pair_rest, rounds_in, queued_of}
 use Rattle.mbj_manager.proofs.JobSteps.{back-steps}
 use Rattle.mbj_manager.proofs.RingCourses.{at-cell, courses-set, each-at, live, same-ring}
-use Rattle.mbj_manager.proofs.WaitersOf.{all-removed, entry-there, length-removed, waiters_of-none, waiters_of-take}
+use Rattle.mbj_manager.proofs.QueuedOf.{all-removed, entry-there, length-removed, queued_of-none, queued_of-take}
 use Rattle.mbj_manager.proofs.lane_queue.LaneQueue.leave.Goals as goal
 
 pub place_at-place-requires : goal.place_at-place-requires
@@ -26,12 +26,12 @@ at_mut-cell-requires g c =
     let there = entry-there q.lanes.entries k inside in
     let e = there.0 in
     let is : e ≡ get_or q.lanes.entries k e = there.1 in
-    let first = ap (λ (l : PlacedQueue). taken (pair_rest rounds_in) l.waiters) (sym c.self.view_is)
-    ∙ waiters_of-take g.K.Kernel.round g.K.Kernel.rest_of g.K.Feed.brings q.lanes.places q.lanes.entries k p e c.self.invariant.0 c.in-Some.ensures c.place_at-place.ensures is in
-    let out = c.requires.out p (g.K.Feed.brings e) _ first in
+    let first = ap (λ (l : PlacedQueue). taken (pair_rest rounds_in) l.queued) (sym c.self.view_is)
+    ∙ queued_of-take g.K.Kernel.round g.K.Kernel.rest_of g.K.JobKernel.brings q.lanes.places q.lanes.entries k p e c.self.invariant.0 c.in-Some.ensures c.place_at-place.ensures is in
+    let out = c.requires.out p (g.K.JobKernel.brings e) _ first in
     let here : k < length q.lanes.places = omega (arith, c.self.invariant.0, inside) in
     let lt : p < CELLS = rw c.place_at-place.ensures (c.self.invariant.1 k p here) in
-    live (IsOut g.K.Feed.kind (g.K.Feed.brings e)) r p lt out
+    live (IsOut g.K.JobKernel.kind (g.K.JobKernel.brings e)) r p lt out
 
 pub leave_to-requires-clause-going : goal.leave_to-requires-clause-going
 leave_to-requires-clause-going g c =
@@ -54,13 +54,13 @@ leave_to-requires-clause-out g c =
     let there = entry-there q.lanes.entries k inside in
     let e = there.0 in
     let is : e ≡ get_or q.lanes.entries k e = there.1 in
-    let first = ap (λ (l : PlacedQueue). taken (pair_rest rounds_in) l.waiters) (sym c.self.view_is)
-    ∙ waiters_of-take g.K.Kernel.round g.K.Kernel.rest_of g.K.Feed.brings q.lanes.places q.lanes.entries k p e c.self.invariant.0 c.in-Some.ensures c.place_at-place.ensures is in
-    let out = c.requires.out p (g.K.Feed.brings e) _ first in
+    let first = ap (λ (l : PlacedQueue). taken (pair_rest rounds_in) l.queued) (sym c.self.view_is)
+    ∙ queued_of-take g.K.Kernel.round g.K.Kernel.rest_of g.K.JobKernel.brings q.lanes.places q.lanes.entries k p e c.self.invariant.0 c.in-Some.ensures c.place_at-place.ensures is in
+    let out = c.requires.out p (g.K.JobKernel.brings e) _ first in
     let cell = c.at_mut-cell.result.now in
-    let IsOutWith : g.row.K-Entry.Denot → Type 0 = λ x. IsOut g.K.Feed.kind (g.K.Feed.brings x) (course_in cell) in
+    let IsOutWith : g.row.K-Entry.Denot → Type 0 = λ x. IsOut g.K.JobKernel.kind (g.K.JobKernel.brings x) (course_in cell) in
     λ d. subst IsOutWith (is ∙ get_or_default q.lanes.entries k e d inside)
-    (at-cell (IsOut g.K.Feed.kind (g.K.Feed.brings e)) (ring_number r p) r.values cell c.at_mut-cell.ensures.value out)
+    (at-cell (IsOut g.K.JobKernel.kind (g.K.JobKernel.brings e)) (ring_number r p) r.values cell c.at_mut-cell.ensures.value out)
 
 pub invariant_of-self : goal.invariant_of-self
 invariant_of-self g c =
@@ -81,8 +81,8 @@ pub returns-in-None-clause-takes : goal.returns-in-None-clause-takes
 returns-in-None-clause-takes g c =
     let q = c.self.inside in (
       record {
-        none = ap (λ (l : PlacedQueue). taken (pair_rest rounds_in) l.waiters) (sym c.self.view_is)
-            ∙ waiters_of-none g.K.Kernel.round g.K.Kernel.rest_of g.K.Feed.brings q.lanes.places q.lanes.entries c.in-None.ensures;
+        none = ap (λ (l : PlacedQueue). taken (pair_rest rounds_in) l.queued) (sym c.self.view_is)
+            ∙ queued_of-none g.K.Kernel.round g.K.Kernel.rest_of g.K.JobKernel.brings q.lanes.places q.lanes.entries c.in-None.ensures;
         same = refl;
       },
       refl,
@@ -98,12 +98,12 @@ returns-in-Some-clause-ring g c =
     let there = entry-there q.lanes.entries k inside in
     let e = there.0 in
     let is : e ≡ get_or q.lanes.entries k e = there.1 in
-    let first = ap (λ (l : PlacedQueue). taken (pair_rest rounds_in) l.waiters) (sym c.self.view_is)
-    ∙ waiters_of-take g.K.Kernel.round g.K.Kernel.rest_of g.K.Feed.brings q.lanes.places q.lanes.entries k p e c.self.invariant.0 c.in-Some.ensures c.place_at-place.ensures is in
-    let out = c.requires.out p (g.K.Feed.brings e) _ first in
+    let first = ap (λ (l : PlacedQueue). taken (pair_rest rounds_in) l.queued) (sym c.self.view_is)
+    ∙ queued_of-take g.K.Kernel.round g.K.Kernel.rest_of g.K.JobKernel.brings q.lanes.places q.lanes.entries k p e c.self.invariant.0 c.in-Some.ensures c.place_at-place.ensures is in
+    let out = c.requires.out p (g.K.JobKernel.brings e) _ first in
     let cell = c.at_mut-cell.result.now in
     same-ring r (ring_number r p) c.leave_to.new.cell c.requires.ring c.leave_to.ensures.going
-    (subst HasJobSteps (sym (c.leave_to.ensures.back e)) (back-steps (course_in cell) (g.K.Feed.brings (get_or q.lanes.entries k e))
+    (subst HasJobSteps (sym (c.leave_to.ensures.back e)) (back-steps (course_in cell) (g.K.JobKernel.brings (get_or q.lanes.entries k e))
     (each-at KeepsSteps (ring_number r p) r.values cell c.at_mut-cell.ensures.value c.requires.ring.steps)))
 
 pub returns-in-Some-clause-place : goal.returns-in-Some-clause-place
@@ -122,16 +122,16 @@ returns-in-Some-clause-takes g c =
     let there = entry-there q.lanes.entries k inside in
     let e = there.0 in
     let is : e ≡ get_or q.lanes.entries k e = there.1 in
-    let first = ap (λ (l : PlacedQueue). taken (pair_rest rounds_in) l.waiters) (sym c.self.view_is)
-    ∙ waiters_of-take g.K.Kernel.round g.K.Kernel.rest_of g.K.Feed.brings q.lanes.places q.lanes.entries k p e c.self.invariant.0 c.in-Some.ensures c.place_at-place.ensures is in
-    let out = c.requires.out p (g.K.Feed.brings e) _ first in
-    let see = waiters_of g.K.Kernel.round g.K.Kernel.rest_of g.K.Feed.brings in
+    let first = ap (λ (l : PlacedQueue). taken (pair_rest rounds_in) l.queued) (sym c.self.view_is)
+    ∙ queued_of-take g.K.Kernel.round g.K.Kernel.rest_of g.K.JobKernel.brings q.lanes.places q.lanes.entries k p e c.self.invariant.0 c.in-Some.ensures c.place_at-place.ensures is in
+    let out = c.requires.out p (g.K.JobKernel.brings e) _ first in
+    let see = queued_of g.K.Kernel.round g.K.Kernel.rest_of g.K.JobKernel.brings in
     let cell = c.at_mut-cell.result.now in
-    let back = c.leave_to.ensures.back e ∙ ap (λ x. taken_back (g.K.Feed.brings x) (course_in cell)) (sym is) in (
-      g.K.Feed.brings e,
+    let back = c.leave_to.ensures.back e ∙ ap (λ x. taken_back (g.K.JobKernel.brings x) (course_in cell)) (sym is) in (
+      g.K.JobKernel.brings e,
       record {
-        first = first ∙ (λ j. Some ((p, ended (g.K.Feed.brings e)), see (sym c.leave_to.ensures.places j) (sym c.leave_to.ensures.others j)));
+        first = first ∙ (λ j. Some ((p, ended (g.K.JobKernel.brings e)), see (sym c.leave_to.ensures.places j) (sym c.leave_to.ensures.others j)));
         same = rw (← c.self.view_is) refl;
       },
-      courses-set (taken_back (g.K.Feed.brings e)) (ring_number r p) r.values cell c.leave_to.new.cell c.at_mut-cell.ensures.value back,
+      courses-set (taken_back (g.K.JobKernel.brings e)) (ring_number r p) r.values cell c.leave_to.new.cell c.at_mut-cell.ensures.value back,
     )

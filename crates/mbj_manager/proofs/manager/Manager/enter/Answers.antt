@@ -15,12 +15,12 @@ byte-is false = refl
 
 pub invariant_of-self : goal.invariant_of-self
 invariant_of-self c =
-    let w = c.self.inside.works in
+    let w = c.self.inside.engine in
     subst IsSettled (sym c.enter-is_expanded.ensures.entered) (entered-settled w.opened w c.self.invariant)
 
 pub returns : goal.returns
 returns c =
-    let w = c.self.inside.works in
+    let w = c.self.inside.engine in
     let n = c.self.inside.expansions in
     let f = is_some c.args.found in
     let some = subst (λ (h : ManagerState). 0 < length h.opened) (sym c.self.view_is) c.requires.is_open in

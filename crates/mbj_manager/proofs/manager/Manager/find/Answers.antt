@@ -9,6 +9,6 @@ set-same (x ∷ xs) j is = let same : x ≡ j = cc in ap (λ (y : Job). y ∷ xs
 
 pub returns-clause-same : goal.returns-clause-same
 returns-clause-same c =
-    let w = c.self.inside.works in
+    let w = c.self.inside.engine in
     ap (λ (o : List Job). record w { opened = o; expansions = c.self.inside.expansions }) (set-same w.opened c.open_job-job.result.now c.open_job-job.ensures.value)
     ∙ c.self.view_is

@@ -42,7 +42,7 @@ pub returns-clause-none : goal.returns-clause-none
 returns-clause-none c =
     let h = c.flush_first.new.self in
     let same : h.owed ≡ c.args.self.now.owed = ap (λ (h : ManagerState). h.owed) c.flush_first.ensures.flushed ∙ ap (λ (h : ManagerState). h.owed) c.self.view_is in
-    let was : c.self.inside.works.owed ≡ c.args.self.now.owed = ap (λ (h : ManagerState). h.owed) c.self.view_is in (
+    let was : c.self.inside.engine.owed ≡ c.args.self.now.owed = ap (λ (h : ManagerState). h.owed) c.self.view_is in (
       (λ none. none-owed c.args.self.now.owed h same (λ some. c.flush_first.ensures.done (λ e. some (sym was ∙ e))) (sym c.give.ensures.result ∙ none)),
       (λ empty. c.give.ensures.result ∙ ap (λ (l : List Done). (given_at l h.machine.left h).0) (same ∙ empty)),
     )
@@ -50,18 +50,18 @@ returns-clause-none c =
 pub invariant_of-self : goal.invariant_of-self
 invariant_of-self c =
     subst IsSettled (sym c.give.ensures.state) (given-settled c.flush_first.new.self
-    (subst IsSettled (sym c.flush_first.ensures.flushed) (flush-settled c.self.inside.works c.self.invariant)))
+    (subst IsSettled (sym c.flush_first.ensures.flushed) (flush-settled c.self.inside.engine c.self.invariant)))
 
 pub returns-clause-runs : goal.returns-clause-runs
 returns-clause-runs c =
-    let w = c.self.inside.works in
+    let w = c.self.inside.engine in
     let is = c.give.ensures.state ∙ ap (λ (h : ManagerState). (after_get_completed h).1) c.flush_first.ensures.flushed in
     subst (λ (h : ManagerState). RisesUpTo (2 * length h.owed) h.machine.flush_runs c.give.new.self.machine.flush_runs) c.self.view_is
     (subst (λ (h : ManagerState). RisesUpTo (2 * length w.owed) w.machine.flush_runs h.machine.flush_runs) (sym is) (few-runs w c.self.invariant))
 
 pub returns-clause-none_stays : goal.returns-clause-none_stays
 returns-clause-none_stays c none =
-    let w = c.self.inside.works in
+    let w = c.self.inside.engine in
     let h = c.flush_first.new.self in
     let owes : c.args.self.now.owed ≡ [] = (returns-clause-none c).0 none in
     let same : h.owed ≡ [] = ap (λ (h : ManagerState). h.owed) (at-flushed c) ∙ owes in

@@ -37,7 +37,7 @@ returns-clause-order c =
 pub invariant_of-self : goal.invariant_of-self
 invariant_of-self c =
     subst IsSettled (sym c.give_into.ensures.state) (given-settled c.flush_first.new.self
-    (subst IsSettled (sym c.flush_first.ensures.flushed) (flush-settled c.self.inside.works c.self.invariant)))
+    (subst IsSettled (sym c.flush_first.ensures.flushed) (flush-settled c.self.inside.engine c.self.invariant)))
 
 none-given : (b : Bool) (v : Cell) (o : Option Done) (P : Type 0) → given_by b v ≡ o → (o ≡ None → P) → OnFalse b P
 none-given true v o P e f = tt
@@ -47,6 +47,6 @@ pub returns-clause-none : goal.returns-clause-none
 returns-clause-none c =
     let h = c.flush_first.new.self in
     let same : h.owed ≡ c.args.self.now.owed = ap (λ (h : ManagerState). h.owed) c.flush_first.ensures.flushed ∙ ap (λ (h : ManagerState). h.owed) c.self.view_is in
-    let was : c.self.inside.works.owed ≡ c.args.self.now.owed = ap (λ (h : ManagerState). h.owed) c.self.view_is in
+    let was : c.self.inside.engine.owed ≡ c.args.self.now.owed = ap (λ (h : ManagerState). h.owed) c.self.view_is in
     none-given c.give_into.result c.give_into.new.given (after_get_completed h).0 (c.args.self.now.owed ≡ []) c.give_into.ensures.result
     (λ none. none-owed c.args.self.now.owed h same (λ some. c.flush_first.ensures.done (λ e. some (sym was ∙ e))) none)

@@ -10,15 +10,15 @@ use Rattle.mbj_manager.proofs.Counted.{with_count, given-first, given-then}
 use Rattle.mbj_manager.proofs.manager.Manager.give_into.Goals as goal
 
 pub invariant_of-self : goal.invariant_of-self
-invariant_of-self c = subst IsSettled (sym c.give_into.ensures.state) (given-settled c.self.inside.works c.self.invariant)
+invariant_of-self c = subst IsSettled (sym c.give_into.ensures.state) (given-settled c.self.inside.engine c.self.invariant)
 
 pub returns-clause-result : goal.returns-clause-result
 returns-clause-result c =
-    c.give_into.ensures.result ∙ given-first c.self.inside.works c.self.inside.expansions ∙ ap (λ (h : ManagerState). (after_get_completed h).0) c.self.view_is
+    c.give_into.ensures.result ∙ given-first c.self.inside.engine c.self.inside.expansions ∙ ap (λ (h : ManagerState). (after_get_completed h).0) c.self.view_is
 
 pub returns-clause-state : goal.returns-clause-state
 returns-clause-state c =
-    ap (with_count c.self.inside.expansions) c.give_into.ensures.state ∙ given-then c.self.inside.works c.self.inside.expansions
+    ap (with_count c.self.inside.expansions) c.give_into.ensures.state ∙ given-then c.self.inside.engine c.self.inside.expansions
     ∙ ap (λ (h : ManagerState). (after_get_completed h).1) c.self.view_is
 
 pub returns-clause-order : goal.returns-clause-order

@@ -8,6 +8,6 @@ use Rattle.mbj_manager.proofs.manager.Manager.lanes.Goals as goal
 
 pub returns-clause-entries : goal.returns-clause-entries
 returns-clause-entries g c =
-    let ends = map (λ e. g.K.Feed.brings (end_of g.K.Kernel.round g.K.Kernel.rest_of e)) c.lanes.result.now.entries in
-    subst (λ (h : ManagerState). AreEntriesOf g.K.Feed.kind h ends (queue_for g.K.Feed.kind h.machine).waiting) c.self.view_is
-    (entries-count g.K.Feed.kind c.self.inside.works c.self.inside.expansions ends (queue_for g.K.Feed.kind c.self.inside.works.machine).waiting c.lanes.ensures.entries)
+    let ends = map (λ e. g.K.JobKernel.brings (end_of g.K.Kernel.round g.K.Kernel.rest_of e)) c.lanes.result.now.entries in
+    subst (λ (h : ManagerState). AreEntriesOf g.K.JobKernel.kind h ends (queue_for g.K.JobKernel.kind h.machine).waiting) c.self.view_is
+    (entries-count g.K.JobKernel.kind c.self.inside.engine c.self.inside.expansions ends (queue_for g.K.JobKernel.kind c.self.inside.engine.machine).waiting c.lanes.ensures.entries)

@@ -1,4 +1,0 @@
-use Rattle.mbj_stage.proofs.feed.Feed.take_from.Goals as goal
-
-pub take_back-requires-clause-out : goal.take_back-requires-clause-out
-take_back-requires-clause-out g c = c.requires.out c.take-entry.result c.take-entry.ensures.taken
